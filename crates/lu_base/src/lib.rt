@@ -1,0 +1,15 @@
+//! The vocabulary below everything: identifiers, locks, lists, the texts of values, and the
+//! sources and sinks through which the program meets the outside.
+#![tactic(auto)]
+
+mod faults;
+mod ids;
+mod locks;
+mod sequence;
+
+pub use faults::{Failed, Memory, ReadError};
+pub use ids::{At, Cookie, Fid, Node, Stamp, TargetId, Txn, Who, Xid};
+pub use locks::{Ask, Cause, Extent, Lock, Mode, Policy, Resource};
+pub use sequence::{
+    Bytes, Cookies, Duplicate, Lives, Locks, Name, Names, Numbers, Path, Resources, Sequence,
+};
