@@ -6,6 +6,8 @@ mod faults;
 mod ids;
 mod locks;
 mod sequence;
+mod sink;
+mod source;
 
 pub use faults::{Failed, Memory, ReadError};
 pub use ids::{At, Cookie, Fid, Node, Stamp, TargetId, Txn, Who, Xid};
@@ -13,3 +15,5 @@ pub use locks::{Ask, Cause, Extent, Lock, Mode, Policy, Resource};
 pub use sequence::{
     Bytes, Cookies, Duplicate, Lives, Locks, Name, Names, Numbers, Path, Resources, Sequence,
 };
+pub use sink::{MemorySink, Sink, StdSink, write_all};
+pub use source::{MemorySource, Source, StdSource, read_all};
