@@ -8,6 +8,7 @@ mod locks;
 mod sequence;
 mod sink;
 mod source;
+mod text;
 
 pub use faults::{Failed, Memory, ReadError};
 pub use ids::{At, Cookie, Fid, Node, Stamp, TargetId, Txn, Who, Xid};
@@ -17,3 +18,4 @@ pub use sequence::{
 };
 pub use sink::{MemorySink, Sink, StdSink, write_all};
 pub use source::{MemorySource, Source, StdSource, read_all};
+pub use text::{put_bytes, put_number, put_pair, read_bytes, read_number};

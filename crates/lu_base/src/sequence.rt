@@ -119,6 +119,14 @@ impl Sequence<u8> {
     }
 }
 
+impl<T> From<Vec<T>> for Sequence<T> {
+    ghost from_gives = { λ items sequence. sequence ≡ items.items };
+
+    fn from(items: Vec<T>) -> Sequence<T> {
+        Sequence { items }
+    }
+}
+
 impl<T: Duplicate + Drop> Duplicate for Sequence<T> {
     fn copy(&self, alloc: Global) -> Result<Self, Memory> {
         let mut items = Vec::new(alloc);
