@@ -1,0 +1,6 @@
+pub mod Below
+pub mod Fields
+pub mod Made
+pub mod Places
+pub mod Rows
+pub mod Units

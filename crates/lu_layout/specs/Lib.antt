@@ -1,0 +1,3 @@
+pub mod Raid0
+pub mod Sound
+pub mod Slots

@@ -1,0 +1,6 @@
+//! The layout of a file: how its bytes are striped over objects on several targets.
+#![tactic(auto)]
+
+mod layout;
+
+pub use layout::{Layout, LayoutError};
