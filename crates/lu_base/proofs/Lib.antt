@@ -1,3 +1,4 @@
 pub mod Digits
 pub mod KnownBytes
 pub mod Outcomes
+pub mod Paths

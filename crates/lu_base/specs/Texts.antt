@@ -48,12 +48,20 @@ pub record IsName (name : List ℕ) : Type 0 where
   pub not_here : name ≢ codes "."
   pub not_above : name ≢ codes ".."
 
+-- names, and not more than a path has
+abbrev pub AreNames : List (List ℕ) → Type 0
+AreNames names = (length names ≤ 32) × All IsName names
+
 -- a path: `/`, and the names joined by `/`
 abbrev pub path_text : List (List ℕ) → List ℕ
 path_text names = 47 ∷ join_with_byte 47 names
 
+-- the names after the first one, each behind a `/`
+abbrev pub further_text : List (List ℕ) → List ℕ
+further_text [] = []
+further_text (name ∷ names) = 47 ∷ name ++ further_text names
+
 -- a path that a scenario can write: at most 32 names and 1,024 bytes
 pub record IsPath (names : List (List ℕ)) : Type 0 where
-  pub count : length names ≤ 32
+  pub are_names : AreNames names
   pub bytes : length (path_text names) ≤ 1024
-  pub names_are : All IsName names

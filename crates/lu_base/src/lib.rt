@@ -18,4 +18,7 @@ pub use sequence::{
 };
 pub use sink::{MemorySink, Sink, StdSink, write_all};
 pub use source::{MemorySource, Source, StdSource, read_all};
-pub use text::{put_bytes, put_number, put_pair, read_bytes, read_number};
+pub use text::{
+    is_name, put_bytes, put_number, put_pair, put_path, read_bytes, read_number, read_path,
+    split_at_byte,
+};

@@ -109,6 +109,15 @@ impl<T> Sequence<T> {
 }
 
 impl Sequence<u8> {
+    /// A list of these bytes.
+    pub fn from_slice(alloc: Global, items: &[u8]) -> Result<Self, Memory>
+        ensures same { IfOk result (λ sequence. sequence ≡ items.now) }
+    {
+        Ok(Sequence {
+            items: Vec::from_slice(alloc, items)?,
+        })
+    }
+
     /// Adds bytes at the end. After want of memory the list is as before.
     pub fn extend(&mut self, from: &[u8]) -> Result<(), Memory>
         ensures added { OnOk result (self.new ≡ self.old ++ from.now) }

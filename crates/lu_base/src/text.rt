@@ -1,12 +1,12 @@
 //! The texts of values, and reading them back.
 
 ghost use Rattle.std.specs.Prelude.{◌≡◌, ◌≢◌, ℕ, ◌+◌, ◌/◌, ◌%◌, ◌^◌, ◌<◌, ◌≤◌, ◌↔◌, ◌==◌, List, [], ◌∷◌, ◌++◌, length, take, map, IfOk, OnOk, OnErr, IfSome, IfNone, IsTrue, All, decimal, slice_index};
-ghost use Rattle.std.specs.List.{slice_split, list_all};
+ghost use Rattle.std.specs.List.{slice_split, list_all, AllPass};
 ghost use Rattle.hex.specs.Hex.{encode_lower, IsBytes};
-ghost use Rattle.lu_base.specs.Texts.{pair_text, repeated_text, bytes_text, is_repeated, HasStar, IsRepeatedText, IsDataText, IsName, path_text, IsPath};
+ghost use Rattle.lu_base.specs.Texts.{pair_text, repeated_text, bytes_text, is_repeated, HasStar, IsRepeatedText, IsDataText, is_name_byte, IsName, AreNames, path_text, further_text, IsPath};
 
 use super::faults::Memory;
-use super::sequence::{Bytes, Name, Path};
+use super::sequence::{Bytes, Name, Names, Path};
 use itoa::Buffer;
 use std::alloc::Global;
 
@@ -224,4 +224,133 @@ fn read_byte(digits: &[u8]) -> Option<u8>
         return Some(byte[0]);
     }
     None
+}
+
+/// Appends a path: `/`, and its names joined by `/`. After want of memory `out` is as before.
+pub fn put_path(out: &mut Bytes, path: &Path) -> Result<(), Memory>
+    ensures put { OnOk result (out.new ≡ out.old ++ path_text path.now) }
+    ensures kept { OnErr result (out.new ≡ out.old) }
+{
+    let length = out.len();
+    let put = put_names(out, path.as_slice());
+    if put.is_err() {
+        out.truncate(length);
+    }
+    put
+}
+
+/// Appends `/` and names joined by `/`, or a part of it.
+fn put_names(out: &mut Bytes, names: &[Name]) -> Result<(), Memory>
+    ensures put { OnOk result (out.new ≡ out.old ++ path_text names.now) }
+    ensures before { take (length out.old) out.new ≡ out.old }
+{
+    if names.is_empty() {
+        return out.push(b'/');
+    }
+    put_further_names(out, names)
+}
+
+/// Appends `/` and a name, for each name, or a part of it.
+fn put_further_names(out: &mut Bytes, names: &[Name]) -> Result<(), Memory>
+    ensures put { OnOk result (out.new ≡ out.old ++ further_text names.now) }
+    ensures before { take (length out.old) out.new ≡ out.old }
+{
+    for name in names {
+        out.push(b'/')?;
+        out.extend(name.as_slice())?;
+    }
+    Ok(())
+}
+
+/// The parts of a text between the bytes that separate them.
+pub fn split_at_byte(alloc: Global, text: &[u8], separator: u8) -> Result<Vec<&[u8]>, Memory>
+    ensures parts { IfOk result (λ parts. map (λ part. part.now) parts.items ≡ slice_split (λ byte. byte == separator) text.now) }
+{
+    let parts = text.split(|byte| *byte == separator).collect(alloc)?;
+    Ok(parts)
+}
+
+/// The path that a text says, in the form of a scenario: `/`, or names that each follow a `/`, at most
+/// 32 of them and 1,024 bytes in all. A name may be longer than a directory takes. None where the text
+/// has no such form.
+pub fn read_path(alloc: Global, text: &[u8]) -> Result<Option<Path>, Memory>
+    ensures some { IfOk result (λ read. IfSome read (λ path. IsPath path × (text.now ≡ path_text path))) }
+    ensures none { IfOk result (λ read. IfNone read ((path : List (List ℕ)) → IsPath path → text.now ≢ path_text path)) }
+{
+    let Some((first, rest)) = text.split_first() else {
+        return Ok(None);
+    };
+    if *first != b'/' || text.len() > MOST_PATH_BYTES {
+        return Ok(None);
+    }
+    if rest.is_empty() {
+        return Ok(Some(Path::new(alloc)));
+    }
+    read_names(alloc, rest)
+}
+
+/// Names joined by `/`.
+fn read_names(alloc: Global, text: &[u8]) -> Result<Option<Path>, Memory>
+    ensures some { IfOk result (λ read. IfSome read (λ names. (names ≡ slice_split (λ byte. byte == 47) text.now) × AreNames names)) }
+    ensures none { IfOk result (λ read. IfNone read (¬ AreNames (slice_split (λ byte. byte == 47) text.now))) }
+{
+    let parts = split_at_byte(alloc, text, b'/')?;
+    if !are_names(parts.as_slice()) {
+        return Ok(None);
+    }
+    let names = copy_all(alloc, parts.as_slice())?;
+    Ok(Some(names))
+}
+
+/// Whether these are names, and not more than a path has.
+fn are_names(parts: &[&[u8]]) -> bool
+    ensures test { IsTrue result ↔ AreNames (map (λ part. part.now) parts.now) }
+{
+    if parts.len() > MOST_NAMES {
+        return false;
+    }
+    all_are_names(parts)
+}
+
+/// Whether each of these is a name.
+fn all_are_names(parts: &[&[u8]]) -> bool
+    ensures test { IsTrue result ↔ All (λ part. IsName part.now) parts.now }
+{
+    parts.iter().all(|part| is_name(part))
+}
+
+/// Copies of these bytes.
+fn copy_all(alloc: Global, parts: &[&[u8]]) -> Result<Names, Memory>
+    ensures same { IfOk result (λ names. names ≡ map (λ part. part.now) parts.now) }
+{
+    let mut names = Names::new(alloc);
+    for part in parts {
+        names.push(Bytes::from_slice(alloc, part)?)?;
+    }
+    Ok(names)
+}
+
+/// Whether this is a name that a scenario can write: letters, digits, `.`, `_` and `-`, at least one,
+/// and neither `.` nor `..`.
+pub fn is_name(text: &[u8]) -> bool
+    ensures test { IsTrue result ↔ IsName text.now }
+{
+    if text.is_empty() || text == b".".as_slice() || text == b"..".as_slice() {
+        return false;
+    }
+    are_name_bytes(text)
+}
+
+/// Whether a name may hold these bytes.
+fn are_name_bytes(text: &[u8]) -> bool
+    ensures test { IsTrue result ↔ AllPass is_name_byte text.now }
+{
+    text.iter().all(|byte| is_name_byte(*byte))
+}
+
+/// Whether a name may hold this byte.
+fn is_name_byte(byte: u8) -> bool
+    ensures test { result ≡ is_name_byte byte }
+{
+    byte.is_ascii_alphanumeric() || byte == b'.' || byte == b'_' || byte == b'-'
 }
