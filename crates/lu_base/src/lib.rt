@@ -9,6 +9,8 @@ mod sequence;
 mod sink;
 mod source;
 mod text;
+#[cfg(test)]
+mod tests;
 
 pub use faults::{Failed, Memory, ReadError};
 pub use ids::{At, Cookie, Fid, Node, Stamp, TargetId, Txn, Who, Xid};
