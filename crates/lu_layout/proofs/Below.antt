@@ -20,7 +20,7 @@ unfolding position_of
 position_of-lt_unit l i q n good h =
     let n_is : n / l.size * l.size + n % l.size ≡ n = div-add-mod' n l.size in
     let less : (q / l.size * length l.targets + i) * l.size + q % l.size < n / l.size * l.size + n % l.size =
-      earlier_unit (q / l.size * length l.targets + i) l.size (q % l.size) (n / l.size) (n % l.size) h (mod-lt q good.size.0) in
+    earlier_unit (q / l.size * length l.targets + i) l.size (q % l.size) (n / l.size) (n % l.size) h (mod-lt q good.size.0) in
     omega arith
 
 lt_unit-position_of : (l : Raid0) (i q n : ℕ) → IsLayout l → n / l.size < q / l.size * length l.targets + i → n < position_of l i q
@@ -28,7 +28,7 @@ unfolding position_of
 lt_unit-position_of l i q n good h =
     let n_is : n / l.size * l.size + n % l.size ≡ n = div-add-mod' n l.size in
     let more : n / l.size * l.size + n % l.size < (q / l.size * length l.targets + i) * l.size + q % l.size =
-      earlier_unit (n / l.size) l.size (n % l.size) (q / l.size * length l.targets + i) (q % l.size) h (mod-lt n good.size.0) in
+    earlier_unit (n / l.size) l.size (n % l.size) (q / l.size * length l.targets + i) (q % l.size) h (mod-lt n good.size.0) in
     omega arith
 
 -- the unit of n is a round's first and the stripe
@@ -42,10 +42,11 @@ IsCount-units l i n b good before after = record {
   counts = λ q. (
     (λ h. position_of-lt_unit l i q n good (before (q / l.size) (div_below q l.size b good.size.0 h))),
     (λ h. elim (cases_lt q (b * l.size)) [
-      inl less ↦ less
-    | inr rest ↦
-        absurd (let past : n < position_of l i q = lt_unit-position_of l i q n good (after (q / l.size) (le-div b q l.size good.size.0 rest)) in omega arith)
-    ]));
+      | inl less ↦ less
+      | inr rest ↦
+          absurd (let past : n < position_of l i q = lt_unit-position_of l i q n good (after (q / l.size) (le-div b q l.size good.size.0 rest)) in omega arith)
+    ]),
+  );
 }
 
 -- a stripe before that of n has its unit of the round below n
@@ -61,8 +62,8 @@ IsCount-before l i n good h =
 IsCount-at : (l : Raid0) (n : ℕ) → IsLayout l → IsCount l (stripe_of l n) n (offset_of l n)
 IsCount-at l n good = record {
   counts = λ q.
-    let P : ℕ → Type 0 = λ (p : ℕ). (q < offset_of l n) ↔ (position_of l (stripe_of l n) q < p) in
-    subst P (position_of-place l n good) (position_of-rising l (stripe_of l n) q (offset_of l n) good);
+      let P : ℕ → Type 0 = λ (p : ℕ). (q < offset_of l n) ↔ (position_of l (stripe_of l n) q < p) in
+      subst P (position_of-place l n good) (position_of-rising l (stripe_of l n) q (offset_of l n) good);
 }
 
 -- a stripe after that of n has nothing of the round below n
@@ -77,10 +78,10 @@ IsCount-after l i n good h here =
 IsCount-one : (l : Raid0) (i n m w : ℕ) → IsCount l i n m → IsCount l i n w → m ≡ w
 IsCount-one l i n m w a b =
     elim (cases_order m w) [
-      inl same ↦ same
-    | inr other ↦ elim other [
-        inl less ↦ absurd (let here : m < m = (a.counts m).1 ((b.counts m).0 less) in omega arith)
-      | inr more ↦ absurd (let here : w < w = (b.counts w).1 ((a.counts w).0 more) in omega arith)
+      | inl same ↦ same
+      | inr other ↦ elim other [
+        | inl less ↦ absurd (let here : m < m = (a.counts m).1 ((b.counts m).0 less) in omega arith)
+        | inr more ↦ absurd (let here : w < w = (b.counts w).1 ((a.counts w).0 more) in omega arith)
       ]
     ]
 
@@ -88,8 +89,8 @@ IsCount-one l i n m w a b =
 pub IsCount-le : (l : Raid0) (i n m : ℕ) → IsLayout l → IsCount l i n m → m ≤ n
 IsCount-le l i n m good a =
     elim (cases_lt n m) [
-      inl more ↦ absurd (let here : position_of l i n < n = (a.counts n).0 more in omega (arith, offset-le-position_of l i n good))
-    | inr rest ↦ rest
+      | inl more ↦ absurd (let here : position_of l i n < n = (a.counts n).0 more in omega (arith, offset-le-position_of l i n good))
+      | inr rest ↦ rest
     ]
 
 -- the count at the next n, where n lies on the stripe and where it does not
@@ -103,23 +104,23 @@ one_more l i n m good on a =
     record {
       counts = λ q. (
         (λ h. elim (cases_lt q m) [
-          inl less ↦ (let low : position_of l i q < n = (a.counts q).0 less in omega arith)
-        | inr rest ↦ (let at : position_of l i q ≡ position_of l i m = ap (λ (x : ℕ). position_of l i x) (omega arith) in omega arith)
+          | inl less ↦ (let low : position_of l i q < n = (a.counts q).0 less in omega arith)
+          | inr rest ↦ (let at : position_of l i q ≡ position_of l i m = ap (λ (x : ℕ). position_of l i x) (omega arith) in omega arith)
         ]),
         (λ h. elim (cases_lt m q) [
-          inl more ↦ absurd (let high : position_of l i m < position_of l i q = position_of-lt l i m q good more in omega arith)
-        | inr rest ↦ omega arith
-        ]));
+          | inl more ↦ absurd (let high : position_of l i m < position_of l i q = position_of-lt l i m q good more in omega arith)
+          | inr rest ↦ omega arith
+        ]),
+      );
     }
 
 none_more : (l : Raid0) (i n m : ℕ) → IsLayout l → i < length l.targets → stripe_of l n ≢ i → IsCount l i n m → IsCount l i (suc n) (m + 0)
 none_more l i n m good here off a = record {
   counts = λ q.
-    let apart : position_of l i q ≢ n = λ e. off (ap (stripe_of l) (sym e) ∙ stripe_of-position_of l i q good here) in
-    (
-      (λ h. let low : position_of l i q < n = (a.counts q).0 (omega arith) in omega arith),
-      (λ h. let low : q < m = (a.counts q).1 (omega arith) in omega arith)
-    );
+      let apart : position_of l i q ≢ n = λ e. off (ap (stripe_of l) (sym e) ∙ stripe_of-position_of l i q good here) in (
+        (λ h. let low : position_of l i q < n = (a.counts q).0 (omega arith) in omega arith),
+        (λ h. let low : q < m = (a.counts q).1 (omega arith) in omega arith),
+      );
 }
 
 -- what `below_of` counts
@@ -128,8 +129,8 @@ unfolding below_of
 IsCount-below_of l i zero good here = record { counts = λ q. (λ h. omega arith, λ h. omega arith) }
 IsCount-below_of l i (suc n) good here =
     elim (eqb_tells (stripe_of l n) i) [
-      inl on ↦ rw on.0 (one_more l i n (below_of l i n) good on.1 (IsCount-below_of l i n good here))
-    | inr off ↦ rw off.0 (none_more l i n (below_of l i n) good here off.1 (IsCount-below_of l i n good here))
+      | inl on ↦ rw on.0 (one_more l i n (below_of l i n) good on.1 (IsCount-below_of l i n good here))
+      | inr off ↦ rw off.0 (none_more l i n (below_of l i n) good here off.1 (IsCount-below_of l i n good here))
     ]
 
 -- and so each such number is `below_of`
@@ -142,7 +143,7 @@ unfolding offset_of
 before_reached l i n s o z good size stripe offset h =
     let less : i < stripe_of l n = omega arith in
     let m_is : (n / l.size / length l.targets + 1) * l.size ≡ o - n % z + z =
-      rw size (omega (arith, add-mul (n / l.size / length l.targets) 1 l.size)) in
+    rw size (omega (arith, add-mul (n / l.size / length l.targets) 1 l.size)) in
     let P : ℕ → Type 0 = λ (m : ℕ). IsCount l i n m in
     subst P m_is (IsCount-before l i n good less)
 

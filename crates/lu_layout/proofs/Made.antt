@@ -1,5 +1,5 @@
 -- The slots that `make` fills: the targets, and zeros after them.
-use Rattle.std.specs.Prelude.{◌≡◌, ℕ, ◌+◌, ◌-◌, ◌<◌, List, length, take, drop, replicate, ◌++◌}
+use Rattle.std.specs.Prelude.{ℕ, List, length, drop, replicate, ◌++◌}
 use Rattle.std.proofs.Common.{arith, length-append, length-drop, ap, ◌∙◌, sym, inl, inr}
 use Rattle.std.proofs.Math.Seq.{take-append_seam, drop-append_seam}
 use Rattle.std.proofs.lemmas.List.{drop-replicate}
@@ -21,6 +21,6 @@ AreSlots-filled size xs good stripes =
 pub AreDistinct-from_no_repeat : (xs : List ℕ) → (HasRepeat xs → ⊥) → AreDistinct xs
 AreDistinct-from_no_repeat xs none i j p q e =
     elim (cases_order i j) [
-      inl same ↦ same
-    | inr other ↦ elim other [ inl before ↦ absurd (none (i, j, before, q, e)) | inr after ↦ absurd (none (j, i, after, p, sym e)) ]
+      | inl same ↦ same
+      | inr other ↦ elim other [ inl before ↦ absurd (none (i, j, before, q, e)) | inr after ↦ absurd (none (j, i, after, p, sym e)) ]
     ]

@@ -1,6 +1,6 @@
 -- How a layout's fields hold its value: the targets stand first in the slots, and zeros after them.
-use Rattle.std.specs.Prelude.{◌≡◌, ◌-◌, List, length, take, drop, replicate, ◌++◌}
-use Rattle.std.proofs.Common.{arith, take-append-drop, length-take-le}
+use Rattle.std.specs.Prelude.{◌≡◌, ◌-◌, length, take, drop, replicate, ◌++◌}
+use Rattle.std.proofs.Common.{take-append-drop}
 use Rattle.lu_layout.specs.declared.layout.Layout.TheInside.{Inside}
 use Rattle.lu_layout.specs.Raid0.{Raid0}
 use Rattle.lu_layout.specs.Sound.{IsLayout}

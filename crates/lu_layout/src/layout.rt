@@ -1,10 +1,10 @@
 //! A layout and where it places the bytes of a file.
 
-ghost use Rattle.std.specs.Prelude.{◌≡◌, ℕ, ◌^◌, ◌<◌, ◌≤◌, ◌==◌, ◌&&◌, ◌↔◌, All, length, nat_eq, slice_get, Some, IfOk, IsTrue};
+ghost use Rattle.std.specs.Prelude.{◌≡◌, ℕ, ◌^◌, ◌<◌, ◌≤◌, ◌==◌, ◌&&◌, ◌↔◌, All, length, nat_eq, slice_get, Some, IfOk, IsOk, IsTrue};
 ghost use Rattle.std.specs.Cmp.{and_equiv, on_equiv, nat_eq_equiv, partial_equiv_from_equiv};
 ghost use Rattle.std.specs.Cmp.Lexicographic.{pointwise, nat_list_eq_equiv};
-ghost use Rattle.lu_layout.specs.Raid0.{stripe_of, offset_of, position_of, below_of, IsFileSize};
-ghost use Rattle.lu_layout.specs.Sound.{IsStripeSize, IsBadSize, IsBadCount, HasRepeat, IsLayout};
+ghost use Rattle.lu_layout.specs.Raid0.{stripe_of, offset_of, position_of, below_of, file_size_of, IsFileSize};
+ghost use Rattle.lu_layout.specs.Sound.{IsStripeSize, IsBadSize, IsBadCount, AreStripes, HasRepeat, IsLayout};
 
 use std::error::Error;
 use std::fmt;
@@ -19,12 +19,12 @@ const SIZE_GRANULE: u64 = 65536;
 /// The greatest stripe size, in bytes: the last multiple of the granule below 2^32.
 const MOST_SIZE: u64 = 4294901760;
 
-/// Why there is no such layout.
+/// Why there is no such layout. Nothing was made.
 #[derive(Clone, Copy, Debug, PartialEq, Eq)]
 pub enum LayoutError {
-    /// The stripe size is 0, no multiple of 65,536, or above 2^32 - 65,536.
+    /// The stripe size is 0, no multiple of 65,536 or above 2^32 - 65,536.
     BadSize,
-    /// There is no stripe, there are more than eight, or a target stands twice.
+    /// The size is good, but there are no stripes or more than eight, or a target stands twice.
     BadCount,
 }
 
@@ -41,12 +41,13 @@ impl Error for LayoutError {}
 
 /// A striped layout: a stripe size in bytes and one to eight stripes, each on a target of its own.
 ///
-/// A contract sees the size and the list of the targets.
+/// A contract sees the size and the list of the targets, and two layouts are equal exactly where these
+/// are. Stripes are counted from 0, and so are positions in a file and offsets in an object, in bytes.
 #[derive(Clone, Copy, Debug)]
 pub struct Layout {
     unit: u64,
     width: u16,
-    slots: [u16; 8],
+    slots: [u16; MOST_STRIPES],
 }
 
 impl Model for Layout {
@@ -67,12 +68,13 @@ impl Model for Layout {
 }
 
 impl Layout {
-    /// The layout of this stripe size, in bytes, over these targets, one stripe on each.
+    /// The layout of this stripe size, in bytes, with a stripe on each of these targets in turn.
     pub fn make(size: u64, stripes: &[u16]) -> Result<Layout, LayoutError>
         ensures bad_size { (result ≡ Err LayoutError.BadSize) ↔ IsBadSize size }
         ensures bad_count { (result ≡ Err LayoutError.BadCount) ↔ (IsStripeSize size × IsBadCount stripes.now) }
         ensures ok { IfOk result (λ l. l ≡ record { size = size; targets = stripes.now }) }
         ensures sound { IfOk result IsLayout }
+        ensures succeeds { IsStripeSize size → AreStripes stripes.now → IsOk result }
     {
         if size == 0 || size % SIZE_GRANULE != 0 || size > MOST_SIZE {
             return Err(LayoutError::BadSize);
@@ -89,7 +91,7 @@ impl Layout {
         })
     }
 
-    /// The stripe size, in bytes.
+    /// The stripe size, in bytes: a multiple of 65,536 from 65,536 to 2^32 - 65,536.
     pub fn size(&self) -> u64
         ensures value { result ≡ self.now.size }
         ensures sound { IsLayout self.now }
@@ -105,7 +107,7 @@ impl Layout {
         self.width
     }
 
-    /// The target of a stripe, which is counted from 0.
+    /// The number of the target on which a stripe lies.
     pub fn target(&self, stripe: u16) -> u16
         requires { stripe < length self.now.targets }
         ensures { slice_get self.now.targets stripe ≡ Some result }
@@ -113,14 +115,14 @@ impl Layout {
         self.slots[stripe as usize]
     }
 
-    /// The targets of the stripes, in order.
+    /// The numbers of the targets, stripe by stripe.
     pub fn targets(&self) -> &[u16]
         ensures { result.now ≡ self.now.targets }
     {
         &self.slots[..self.width as usize]
     }
 
-    /// The stripe of the byte at this position of the file, and its offset in the stripe's object.
+    /// The stripe of the byte at this position of the file, and the byte's offset in the stripe's object.
     pub fn place(&self, position: u64) -> (u16, u64)
         ensures stripe { result.0 ≡ stripe_of self.now position }
         ensures offset { result.1 ≡ offset_of self.now position }
@@ -134,7 +136,7 @@ impl Layout {
         ((unit % width) as u16, offset)
     }
 
-    /// The position of the file for which an offset of a stripe's object stands.
+    /// The position of the file for which an offset, at most 2^40, of a stripe's object stands.
     pub fn position(&self, stripe: u16, offset: u64) -> u64
         requires stripe { stripe < length self.now.targets }
         requires offset { offset ≤ 2 ^ 40 }
@@ -149,7 +151,8 @@ impl Layout {
         unit * self.unit + offset % self.unit
     }
 
-    /// How many of a stripe's offsets stand for positions below `n`.
+    /// How many of a stripe's offsets stand for positions below `n`, which is at most 2^44: they are those
+    /// from 0 on.
     pub fn below(&self, stripe: u16, n: u64) -> u64
         requires stripe { stripe < length self.now.targets }
         requires n { n ≤ 2 ^ 44 }
@@ -168,11 +171,13 @@ impl Layout {
         }
     }
 
-    /// The size of a file whose objects have these sizes, one for each stripe.
+    /// The size of a file whose objects have these sizes, at most 2^40 bytes each, one for each stripe:
+    /// one more than the greatest position that stands for an object's last byte, or 0 where all are empty.
     pub fn file_size(&self, sizes: &[u64]) -> u64
         requires count { length sizes.now ≡ length self.now.targets }
         requires sizes { All (λ n. n ≤ 2 ^ 40) sizes.now }
-        ensures value { IsFileSize self.now sizes.now result }
+        ensures value { result ≡ file_size_of self.now sizes.now }
+        ensures greatest { IsFileSize self.now sizes.now result }
         ensures fits { result ≤ 2 ^ 44 }
     {
         let mut end = 0;
@@ -200,7 +205,7 @@ impl Eq for Layout {
     ghost laws = { and_equiv (on_equiv (λ l. l.size) nat_eq_equiv) (on_equiv (λ l. l.targets) nat_list_eq_equiv) };
 }
 
-/// Whether a target stands twice.
+/// Whether some target stands twice.
 fn has_repeat(stripes: &[u16]) -> bool
     ensures { IsTrue result ↔ HasRepeat stripes.now }
 {

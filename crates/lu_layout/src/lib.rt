@@ -1,6 +1,9 @@
 //! The layout of a file: how its bytes are striped over objects on several targets.
 #![tactic(auto)]
 
+pub mod laws;
 mod layout;
+#[cfg(test)]
+mod tests;
 
 pub use layout::{Layout, LayoutError};

@@ -1,4 +1,4 @@
-use Rattle.std.proofs.Common.{◌≡◌, ℕ, ◌<◌, ◌≤◌, ◌-◌, ◌+◌, ◌^◌, get_or, length}
+use Rattle.std.proofs.Common.{◌≡◌, ℕ, ◌<◌, ◌≤◌, ◌-◌, ◌+◌, ◌^◌, get_or}
 use Rattle.std.specs.Prelude.{◌⊎◌}
 use Rattle.lu_layout.specs.Raid0.{position_of}
 use Rattle.lu_layout.proofs.layout.Layout.file_size.Given as goal
