@@ -8,9 +8,9 @@ mod locks;
 mod sequence;
 mod sink;
 mod source;
-mod text;
 #[cfg(test)]
 mod tests;
+mod text;
 
 pub use faults::{Failed, Memory, ReadError};
 pub use ids::{At, Cookie, Fid, Node, Stamp, TargetId, Txn, Who, Xid};

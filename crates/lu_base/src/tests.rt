@@ -49,15 +49,29 @@ fn puts_the_texts_of_values(rt: HostRuntime) -> Result<(), Fail> {
         let path = read_path(rt.alloc(), path)?.ok_or("no path")?;
         put_path(&mut out, &path)?;
     }
-    assert_eq!(rt; out.as_slice(), b"18446744073709551615 1.1 - 61 61*2 6162 / /a/b".as_slice());
+    assert_eq!(rt;
+        out.as_slice(),
+        b"18446744073709551615 1.1 - 61 61*2 6162 / /a/b".as_slice()
+    );
     Ok(())
 }
 
 #[test]
 fn reads_canonical_numbers_alone(rt: HostRuntime) {
-    assert_eq!(rt; read_number(b"18446744073709551615"), Some(18446744073709551615));
+    assert_eq!(rt;
+        read_number(b"18446744073709551615"),
+        Some(18446744073709551615)
+    );
     assert_eq!(rt; read_number(b"0"), Some(0));
-    for text in [b"18446744073709551616".as_slice(), b"00", b"+1", b"-1", b"", b"1a", b" 1"] {
+    for text in [
+        b"18446744073709551616".as_slice(),
+        b"00",
+        b"+1",
+        b"-1",
+        b"",
+        b"1a",
+        b" 1",
+    ] {
         assert_eq!(rt; read_number(text), None);
     }
 }
@@ -75,7 +89,17 @@ fn reads_bytes_in_both_forms(rt: HostRuntime) -> Result<(), Fail> {
     }
     let most = read_bytes(alloc, b"ff*65536")?.ok_or("no bytes")?;
     assert_eq!(rt; most.len(), 65536);
-    for text in [b"616".as_slice(), b"", b"-", b"6A", b"61*0", b"61*65537", b"61*01", b"6*2", b"*2"] {
+    for text in [
+        b"616".as_slice(),
+        b"",
+        b"-",
+        b"6A",
+        b"61*0",
+        b"61*65537",
+        b"61*01",
+        b"6*2",
+        b"*2",
+    ] {
         assert!(rt; read_bytes(alloc, text)?.is_none());
     }
     Ok(())
@@ -88,7 +112,10 @@ fn reads_paths_of_names_alone(rt: HostRuntime) -> Result<(), Fail> {
         (b"/".as_slice(), 0),
         (b"/a/b", 2),
         (b"/a.b/_-9/Z", 3),
-        (b"/1/2/3/4/5/6/7/8/9/0/1/2/3/4/5/6/7/8/9/0/1/2/3/4/5/6/7/8/9/0/1/2", 32),
+        (
+            b"/1/2/3/4/5/6/7/8/9/0/1/2/3/4/5/6/7/8/9/0/1/2/3/4/5/6/7/8/9/0/1/2",
+            32,
+        ),
     ] {
         let path = read_path(alloc, text)?.ok_or("no path")?;
         assert_eq!(rt; path.len(), names);

@@ -1,5 +1,4 @@
-use Rattle.std.proofs.Common.{◌≡◌, arith, sym, ◌∙◌, lit<}
-use Rattle.std.proofs.lemmas.Grind.{common_steps}
+use Rattle.std.proofs.Common.{◌≡◌, arith, sym, ◌∙◌}
 use Rattle.std.proofs.lemmas.Fmt.{decimal_injective}
 use Rattle.lu_base.proofs.Digits.{parts_of}
 use Rattle.lu_base.proofs.text.read_repeated.Goals as goal
@@ -19,6 +18,6 @@ returns-then-count-eq0-clause-none c = λ bytes (byte, count, small, one, most, 
     decimal_injective count c.in-Some-read_number.count (omega arith) c.in-Some-read_number.ensures.fits
     (sym (parts_of c.args.text.now byte count is).1 ∙ c.in-Some-read_number.ensures.some) in
     elim c.then-count-eq0.branch [
-      then-count-eq0-via-then-count-eq0 w ↦ omega (arith, same)
-    | then-count-eq0-via-else-count-eq0+then-count-gt-MOST_REPEATS w ↦ omega (arith, same)
+      | then-count-eq0-via-then-count-eq0 w ↦ omega (arith, same)
+      | then-count-eq0-via-else-count-eq0+then-count-gt-MOST_REPEATS w ↦ omega (arith, same)
     ]
