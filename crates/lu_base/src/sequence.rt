@@ -2,12 +2,13 @@
 
 ghost use Rattle.std.specs.Prelude.{◌≡◌, ◌≤◌, List, [], ◌∷◌, ◌++◌, length, take, IfOk, OnOk, OnErr, slice_get, IsTrue, ◌↔◌};
 ghost use Rattle.std.specs.Option.{option_copied};
-ghost use Rattle.std.specs.Cmp.Lexicographic.{pointwise, lists_per, lists_equiv};
+ghost use Rattle.std.specs.Cmp.Lexicographic.{pointwise, lists_per, lists_equiv, slice_cmp, slice_partial_cmp, lists_po, lists_total, lists_agrees, lists_ties};
 
 use super::faults::Memory;
 use super::ids::{Cookie, Who};
 use super::locks::{Lock, Resource};
 use std::alloc::Global;
+use std::cmp::Ordering;
 use std::fmt;
 use std::marker::Model;
 
@@ -158,6 +159,30 @@ impl<T: PartialEq> PartialEq for Sequence<T> {
 
 impl<T: Eq> Eq for Sequence<T> {
     ghost laws = { lists_equiv T.Eq.laws };
+}
+
+impl<T: PartialOrd> PartialOrd for Sequence<T> {
+    ghost partial_cmp = { λ a b. slice_partial_cmp T.partial_cmp a b };
+
+    ghost laws = { lists_po T.PartialOrd.laws };
+
+    fn partial_cmp(&self, other: &Sequence<T>) -> Option<Ordering> {
+        self.items.partial_cmp(&other.items)
+    }
+}
+
+impl<T: Ord> Ord for Sequence<T> {
+    ghost cmp = { λ a b. slice_cmp T.cmp a b };
+
+    ghost total = { lists_total T.total };
+
+    ghost matches_partial_cmp = { λ a b. lists_agrees T.matches_partial_cmp a b };
+
+    ghost matches_eq = { λ a b. lists_ties T.cmp T.matches_eq a b };
+
+    fn cmp(&self, other: &Sequence<T>) -> Ordering {
+        self.items.cmp(&other.items)
+    }
 }
 
 impl Duplicate for u8 {
