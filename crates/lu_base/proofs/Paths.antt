@@ -64,3 +64,20 @@ no_path-parts text rest is some not_names path is_path same =
     let filled : path ≢ [] = λ none. some (joined ∙ ap (join_with_byte 47) none) in
     let parts : slice_split (λ byte. byte == 47) rest ≡ path = ap (slice_split (λ byte. byte == 47)) joined ∙ split_of-joined path filled is_path.are_names.1 in
     not_names (subst AreNames (sym parts) is_path.are_names)
+
+-- a name isn't empty, so joined names aren't
+joined_some : (name : List ℕ) (names : List (List ℕ)) → IsName name → join_with_byte 47 (name ∷ names) ≡ [] → ⊥
+joined_some [] names is none = is.filled refl
+joined_some (byte ∷ name) [] is none = cc
+joined_some (byte ∷ name) (next ∷ names) is none = cc
+
+-- two paths with one text are one path
+pub path_text-injective : (p q : List (List ℕ)) → IsPath p → IsPath q → path_text p ≡ path_text q → p ≡ q
+path_text-injective [] [] is_p is_q same = refl
+path_text-injective [] (x ∷ xs) is_p is_q same =
+    absurd (joined_some x xs (All-head IsName x xs is_q.are_names.1) (sym (ap (drop 1) same)))
+path_text-injective (x ∷ xs) [] is_p is_q same = absurd (joined_some x xs (All-head IsName x xs is_p.are_names.1) (ap (drop 1) same))
+path_text-injective (x ∷ xs) (y ∷ ys) is_p is_q same =
+    sym (split_of-joined (x ∷ xs) (λ e. cc e) is_p.are_names.1)
+    ∙ ap (slice_split (λ byte. byte == 47)) (ap (drop 1) same)
+    ∙ split_of-joined (y ∷ ys) (λ e. cc e) is_q.are_names.1

@@ -2,6 +2,8 @@
 
 ghost use Rattle.std.specs.Prelude.{◌≡◌, ◌≤◌, List, [], ◌∷◌, ◌++◌, length, take, IfOk, OnOk, OnErr, slice_get, IsTrue, ◌↔◌};
 ghost use Rattle.std.specs.Option.{option_copied};
+ghost use Rattle.std.specs.Hash as fed;
+ghost use Rattle.std.specs.Hash.{items_Alike};
 ghost use Rattle.std.specs.Cmp.Lexicographic.{pointwise, lists_per, lists_equiv, slice_cmp, slice_partial_cmp, lists_po, lists_total, lists_agrees, lists_ties};
 
 use super::faults::Memory;
@@ -9,7 +11,7 @@ use super::ids::{Cookie, Who};
 use super::locks::{Lock, Resource};
 use std::alloc::Global;
 use std::cmp::Ordering;
-use std::fmt;
+use std::hash::{Hash, Hasher};
 use std::marker::Model;
 
 /// A value that can be copied where memory allows.
@@ -99,6 +101,13 @@ impl<T> Sequence<T> {
         self.items.as_slice()
     }
 
+    /// The items, as a vector.
+    pub fn into_vec(self) -> Vec<T>
+        ensures items { result.items ≡ self }
+    {
+        self.items
+    }
+
     /// Keeps the first `count` items, or all where there are fewer.
     pub fn truncate(&mut self, count: usize)
     where
@@ -182,6 +191,16 @@ impl<T: Ord> Ord for Sequence<T> {
 
     fn cmp(&self, other: &Sequence<T>) -> Ordering {
         self.items.cmp(&other.items)
+    }
+}
+
+impl<T: Hash> Hash for Sequence<T> {
+    ghost hash_input = { λ sequence. fed.slice T.hash_input sequence };
+
+    ghost respects_eq = { (items_Alike (record { fed = T.respects_eq })).fed };
+
+    fn hash<H: Hasher>(&self, state: &mut H) {
+        self.items.hash(state);
     }
 }
 
