@@ -1,0 +1,4 @@
+pub mod ModeLaws
+pub mod OverlapLaws
+pub mod ConflictLaws
+pub mod GrowthLaws
