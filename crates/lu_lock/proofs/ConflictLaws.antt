@@ -9,13 +9,13 @@ use Rattle.lu_lock.proofs.OverlapLaws.{policies_meet_symmetric, policies_meet_ru
 
 pub conflict_symmetric : (a b : Ask) → conflict a b ≡ conflict b a
 conflict_symmetric a b =
-  rw (compatible_symmetric a.mode b.mode, policies_meet_symmetric a.policy b.policy) refl
+    rw (compatible_symmetric a.mode b.mode, policies_meet_symmetric a.policy b.policy) refl
 
 pub conflict_rule : (a b : Ask) → IsTrue (conflict a b) ↔ Conflict a b
 conflict_rule a b = by (compatible a.mode b.mode) refl (policies_meet_rule a.policy b.policy) where
   by : (v : Bool) → compatible a.mode b.mode ≡ v →
-    IsTrue (policies_meet a.policy b.policy) ↔ PoliciesMeet a.policy b.policy →
-    IsTrue (not v && policies_meet a.policy b.policy) ↔ ((¬ IsTrue v) × PoliciesMeet a.policy b.policy)
+      IsTrue (policies_meet a.policy b.policy) ↔ PoliciesMeet a.policy b.policy →
+      IsTrue (not v && policies_meet a.policy b.policy) ↔ ((¬ IsTrue v) × PoliciesMeet a.policy b.policy)
   by true e meets = (λ h. cc, λ h. absurd (h.0 refl))
   by false e meets = (λ h. (λ f. cc, meets.0 h), λ h. meets.1 h.1)
 

@@ -2,3 +2,4 @@ pub mod ModeLaws
 pub mod OverlapLaws
 pub mod ConflictLaws
 pub mod GrowthLaws
+mod Worked

@@ -19,6 +19,7 @@ serves_rule held wanted = (there held wanted, back held wanted) where
   itself : (mode : Mode) → IsTrue (serves mode mode)
   itself EX = refl
   itself _ = refl
+
   there : (held wanted : Mode) → IsTrue (serves held wanted) → Serves held wanted
   there EX EX _ = inl refl
   there PW PW _ = inl refl
@@ -28,12 +29,13 @@ serves_rule held wanted = (there held wanted, back held wanted) where
   there CR CR _ = inl refl
   there NL NL _ = inl refl
   there _ _ h = cc
+
   back : (held wanted : Mode) → Serves held wanted → IsTrue (serves held wanted)
   back held wanted (inl e) = rw e (itself wanted)
   back held wanted (inr e) = rw (e.0, e.1) refl
 
 pub serves_keeps_out : (held wanted other : Mode) →
-  IsTrue (serves held wanted) → IsTrue (compatible held other) → IsTrue (compatible wanted other)
+    IsTrue (serves held wanted) → IsTrue (compatible held other) → IsTrue (compatible wanted other)
 serves_keeps_out EX EX other _ h = h
 serves_keeps_out PW PW other _ h = h
 serves_keeps_out PW PR CR _ h = refl

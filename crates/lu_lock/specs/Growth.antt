@@ -23,7 +23,7 @@ extent_of (Bits _) = None
 -- The extents of the locks whose mode isn't compatible with this one.
 abbrev pub opposing : Mode → List Ask → List Extent
 opposing mode locks =
-  filter_map (λ lock. extent_of lock.policy) (filter (λ lock. not (compatible mode lock.mode)) locks)
+    filter_map (λ lock. extent_of lock.policy) (filter (λ lock. not (compatible mode lock.mode)) locks)
 
 -- The greatest of the numbers, or 0.
 abbrev pub greatest : List ℕ → ℕ
@@ -36,22 +36,22 @@ least numbers = fold min the_end numbers
 -- One past the greatest end below this offset, or 0.
 abbrev pub past_below : ℕ → List Extent → ℕ
 past_below offset others =
-  greatest (map (λ extent. extent.last + 1) (filter (λ extent. nat_lt extent.last offset) others))
+    greatest (map (λ extent. extent.last + 1) (filter (λ extent. nat_lt extent.last offset) others))
 
 -- One before the least start above this offset, or the end.
 abbrev pub before_above : ℕ → List Extent → ℕ
 before_above offset others =
-  least (map (λ extent. extent.first - 1) (filter (λ extent. nat_lt offset extent.first) others))
+    least (map (λ extent. extent.first - 1) (filter (λ extent. nat_lt offset extent.first) others))
 
 -- The asked extent as it is granted, beside the extents of granted and waiting locks of incompatible modes.
 abbrev pub grown_extent : Extent → (granted waiting : List Extent) → Extent
 grown_extent asked granted waiting =
-  if list_any (extents_meet asked) waiting
-  then asked
-  else (record {
-    first = past_below asked.first (granted ++ waiting);
-    last = before_above asked.last (granted ++ waiting)
-  })
+    if list_any (extents_meet asked) waiting
+    then asked
+    else (record {
+      first = past_below asked.first (granted ++ waiting);
+      last = before_above asked.last (granted ++ waiting);
+    })
 
 -- What is granted of a policy beside these extents: a range grows, bits never do.
 abbrev pub grown_policy : Policy → (granted waiting : List Extent) → Policy
@@ -61,7 +61,7 @@ grown_policy (Bits bits) granted waiting = Bits bits
 -- What an asked lock covers when it is granted beside the other granted and waiting locks of its resource.
 abbrev pub granted_policy : Ask → (granted waiting : List Ask) → Policy
 granted_policy ask granted waiting =
-  grown_policy ask.policy (opposing ask.mode granted) (opposing ask.mode waiting)
+    grown_policy ask.policy (opposing ask.mode granted) (opposing ask.mode waiting)
 
 -- The lock as it is granted.
 abbrev pub granted_ask : Ask → (granted waiting : List Ask) → Ask

@@ -1,6 +1,6 @@
 -- Where two locks meet: extents where an offset is in both, inode bits where they share a bit.
 -- A lock on bits meets no extent.
-use Rattle.std.specs.Prelude.{◌≡◌, ℕ, ◌≤◌, Bool, false, not, ◌==◌, nat_le, min, max, bit_and, IsBitSet}
+use Rattle.std.specs.Prelude.{◌≡◌, ℕ, ◌≤◌, Bool, false, not, ◌&&◌, ◌==◌, nat_le, min, max, bit_and, IsBitSet}
 use Rattle.lu_base.specs.declared.locks.Extent.{Extent}
 use Rattle.lu_base.specs.declared.locks.Policy.{Policy}
 use Rattle.lu_base.specs.declared.locks.Policy.TheVariants.{Bits, Range}
@@ -55,3 +55,10 @@ Covers (Bits outer) (Bits inner) = bit_and outer inner ≡ inner
 Covers (Range outer) (Range inner) = (outer.first ≤ inner.first) × (inner.last ≤ outer.last)
 Covers (Bits _) (Range _) = ⊥
 Covers (Range _) (Bits _) = ⊥
+
+-- The test of it.
+abbrev pub covers : Policy → Policy → Bool
+covers (Bits outer) (Bits inner) = bit_and outer inner == inner
+covers (Range outer) (Range inner) = nat_le outer.first inner.first && nat_le inner.last outer.last
+covers (Bits _) (Range _) = false
+covers (Range _) (Bits _) = false

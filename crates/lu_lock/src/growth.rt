@@ -16,23 +16,17 @@ use lu_base::{Ask, Extent, Mode, Policy};
 pub fn grow(ask: &Ask, granted: &[Ask], waiting: &[Ask]) -> Extent
     requires { IsRange ask.now.policy }
     ensures grown { Policy.Range result ≡ granted_policy ask.now granted.now waiting.now }
-    ensures as_asked {
-        IsTrue (conflicts_with_any ask.now waiting.now) → Policy.Range result ≡ ask.now.policy
-    }
+    ensures as_asked { IsTrue (conflicts_with_any ask.now waiting.now) → Policy.Range result ≡ ask.now.policy }
 
     // The grown extent holds the asked one, and its ends are in order.
     ensures holds { Covers (Policy.Range result) ask.now.policy }
     ensures ordered { result.first ≤ result.last }
 
     // Granted so, the lock conflicts with none of the locks of a list with none of which the ask conflicts.
-    ensures beside_granted {
-        conflicts_with_any ask.now granted.now ≡ false →
-        conflicts_with_any (granted_ask ask.now granted.now waiting.now) granted.now ≡ false
-    }
-    ensures beside_waiting {
-        conflicts_with_any ask.now waiting.now ≡ false →
-        conflicts_with_any (granted_ask ask.now granted.now waiting.now) waiting.now ≡ false
-    }
+    ensures beside_granted { conflicts_with_any ask.now granted.now ≡ false →
+        conflicts_with_any (granted_ask ask.now granted.now waiting.now) granted.now ≡ false }
+    ensures beside_waiting { conflicts_with_any ask.now waiting.now ≡ false →
+        conflicts_with_any (granted_ask ask.now granted.now waiting.now) waiting.now ≡ false }
 {
     match ask.policy {
         Policy::Range(asked) => extended(ask, asked, granted, waiting),
@@ -43,9 +37,7 @@ pub fn grow(ask: &Ask, granted: &[Ask], waiting: &[Ask]) -> Extent
 /// The same of a lock that asks for this extent.
 fn extended(ask: &Ask, asked: Extent, granted: &[Ask], waiting: &[Ask]) -> Extent
     requires { ask.now.policy ≡ Policy.Range asked }
-    ensures grown {
-        result ≡ grown_extent asked (opposing ask.now.mode granted.now) (opposing ask.now.mode waiting.now)
-    }
+    ensures grown { result ≡ grown_extent asked (opposing ask.now.mode granted.now) (opposing ask.now.mode waiting.now) }
     ensures holds { Covers (Policy.Range result) (Policy.Range asked) }
 {
     if conflicts_with_any(ask, waiting) {
@@ -75,7 +67,8 @@ fn past_one(mode: Mode, offset: u64, lock: &Ask) -> u64
     ensures { result ≡ past_below offset (opposing mode (lock.now ∷ [])) }
 {
     match lock.policy {
-        Policy::Range(extent) if !compatible(mode, lock.mode) && extent.last < offset => extent.last + 1,
+        Policy::Range(extent) if !compatible(mode, lock.mode) && extent.last < offset => extent.last
+            + 1,
         _ => 0,
     }
 }
@@ -98,7 +91,8 @@ fn before_one(mode: Mode, offset: u64, lock: &Ask) -> u64
     ensures { result ≡ before_above offset (opposing mode (lock.now ∷ [])) }
 {
     match lock.policy {
-        Policy::Range(extent) if !compatible(mode, lock.mode) && offset < extent.first => extent.first - 1,
+        Policy::Range(extent) if !compatible(mode, lock.mode) && offset < extent.first =>
+            extent.first - 1,
         _ => u64::MAX,
     }
 }

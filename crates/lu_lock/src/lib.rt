@@ -9,3 +9,6 @@ mod modes;
 pub use conflicts::{conflict, extents_meet};
 pub use growth::grow;
 pub use modes::{compatible, serves};
+
+#[cfg(test)]
+mod tests;
