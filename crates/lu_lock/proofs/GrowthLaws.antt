@@ -1,10 +1,9 @@
 -- What growth keeps: the granted extent holds the asked one, and conflicts with no lock that the ask doesn't
 -- conflict with.
-use Rattle.std.proofs.Common.{◌≡◌, ℕ, ◌+◌, ◌-◌, ◌<◌, ◌≤◌, Bool, true, false, not, ◌&&◌, ◌||◌, List, [], ◌∷◌, ◌++◌, refl, sym, ◌∙◌, ap, arith, min, max, map, filter, fold, nat_lt, Option, Some, None, IsTrue, length, take, get_or, subst}
-use Rattle.std.specs.List.{filter_map, list_any}
+use Rattle.std.proofs.Common.{◌≡◌, ℕ, ◌+◌, ◌-◌, ◌<◌, ◌≤◌, Bool, true, false, ◌||◌, List, [], ◌∷◌, ◌++◌, refl, sym, ◌∙◌, ap, arith, min, max, map, filter, fold, nat_lt, IsTrue, length, take, get_or, subst}
+use Rattle.std.specs.List.{list_any}
 use Rattle.std.proofs.lemmas.List.{map-append, take_more}
 use Rattle.std.proofs.lemmas.List.Sums.{fold-append}
-use Rattle.std.proofs.lemmas.List.Folds.{list_any-append}
 use Rattle.std.proofs.lemmas.List.Elements.{filter-append, filter_map-append}
 use Rattle.std.proofs.lemmas.Bool.Decides.{nat_tests}
 use Rattle.lu_base.specs.declared.locks.Ask.{Ask}
@@ -13,9 +12,9 @@ use Rattle.lu_base.specs.declared.locks.Mode.{Mode}
 use Rattle.lu_base.specs.declared.locks.Policy.{Policy}
 use Rattle.lu_base.specs.declared.locks.Policy.TheVariants.{Bits, Range}
 use Rattle.lu_lock.specs.Modes.{compatible}
-use Rattle.lu_lock.specs.Overlap.{extents_meet, Covers, IsOrdered, policies_meet}
-use Rattle.lu_lock.specs.Conflict.{conflict, conflicts_with_any}
-use Rattle.lu_lock.specs.Growth.{the_end, extent_of, opposing, greatest, least, past_below, before_above, grown_extent, grown_policy, granted_policy, granted_ask}
+use Rattle.lu_lock.specs.Overlap.{extents_meet, Covers, IsOrdered}
+use Rattle.lu_lock.specs.Conflict.{conflicts_with_any}
+use Rattle.lu_lock.specs.Growth.{the_end, opposing, greatest, least, past_below, before_above, grown_extent, granted_policy, granted_ask}
 
 or_false : (a b : Bool) → (a || b) ≡ false → (a ≡ false) × (b ≡ false)
 or_false true b h = cc

@@ -1,6 +1,6 @@
 -- Compatibility is symmetric; the test of `serves` is its rule; and what serves a mode keeps out all that the
 -- mode keeps out.
-use Rattle.std.proofs.Common.{◌≡◌, true, IsTrue, ◌↔◌, refl, inl, inr}
+use Rattle.std.proofs.Common.{◌≡◌, IsTrue, ◌↔◌, refl, inl, inr}
 use Rattle.lu_base.specs.declared.locks.Mode.{Mode}
 use Rattle.lu_base.specs.declared.locks.Mode.TheVariants.{EX, PW, PR, CW, CR, NL}
 use Rattle.lu_lock.specs.Modes.{compatible, serves, Serves}

@@ -1,5 +1,5 @@
 -- The tests of meeting are what they stand for, and are symmetric.
-use Rattle.std.proofs.Common.{◌≡◌, ◌≢◌, ℕ, zero, suc, ◌+◌, ◌*◌, ◌/◌, ◌%◌, ◌^◌, ◌<◌, ◌≤◌, Bool, true, false, not, ◌&&◌, IsTrue, ◌↔◌, nat_le, refl, arith, min, max, bit_and, ap, sym, ◌∙◌, ◌==◌}
+use Rattle.std.proofs.Common.{◌≡◌, ◌≢◌, ℕ, zero, suc, ◌*◌, ◌/◌, ◌%◌, ◌^◌, ◌<◌, ◌≤◌, Bool, true, false, not, ◌&&◌, IsTrue, ◌↔◌, nat_le, refl, arith, min, max, bit_and, ap, sym, ◌∙◌, ◌==◌}
 use Rattle.std.specs.Int.{bit_at, IsBitSet}
 use Rattle.std.proofs.Math.Nat.{max_comm, min_comm, pow-suc, pow-zero, one-mul, zero-mul}
 use Rattle.std.proofs.lemmas.Nat.{and_comm, and_assoc}
@@ -10,7 +10,7 @@ use Rattle.std.proofs.lemmas.Bool.Decides.{nat_tests}
 use Rattle.lu_base.specs.declared.locks.Extent.{Extent}
 use Rattle.lu_base.specs.declared.locks.Policy.{Policy}
 use Rattle.lu_base.specs.declared.locks.Policy.TheVariants.{Bits, Range}
-use Rattle.lu_lock.specs.Overlap.{IsIn, ExtentsMeet, extents_meet, BitsMeet, bits_meet, PoliciesMeet, policies_meet, Covers, covers}
+use Rattle.lu_lock.specs.Overlap.{ExtentsMeet, extents_meet, BitsMeet, bits_meet, PoliciesMeet, policies_meet, Covers, covers}
 
 pub extents_meet_symmetric : (a b : Extent) → extents_meet a b ≡ extents_meet b a
 extents_meet_symmetric a b = rw (max_comm a.first b.first, min_comm a.last b.last) refl

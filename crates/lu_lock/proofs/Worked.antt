@@ -1,10 +1,8 @@
 -- Worked rows, computed on the definitions.
-use Rattle.std.proofs.Common.{◌≡◌, ℕ, Bool, true, false, refl, List, [], ◌∷◌}
-use Rattle.lu_base.specs.declared.ids.Who.{Who}
+use Rattle.std.proofs.Common.{◌≡◌, ℕ, true, false, refl, [], ◌∷◌}
 use Rattle.lu_base.specs.declared.locks.Ask.{Ask}
 use Rattle.lu_base.specs.declared.locks.Mode.{Mode}
 use Rattle.lu_base.specs.declared.locks.Mode.TheVariants.{PW, PR}
-use Rattle.lu_base.specs.declared.locks.Policy.{Policy}
 use Rattle.lu_base.specs.declared.locks.Policy.TheVariants.{Bits, Range}
 use Rattle.lu_lock.specs.Conflict.{conflict}
 use Rattle.lu_lock.specs.Growth.{granted_policy, the_end}

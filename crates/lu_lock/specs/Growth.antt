@@ -1,7 +1,7 @@
 -- How far an extent grows when its lock is granted (this project's profile): up to the nearest of the other
 -- granted and waiting locks whose mode isn't compatible with the asked one, the waiting ones with the extents
 -- that they asked for; and not at all where such a waiting lock meets the asked extent.
-use Rattle.std.specs.Prelude.{ℕ, ◌+◌, ◌-◌, ◌^◌, ◌≤◌, min, max, nat_lt, if◌then◌else◌, Option, Some, None, List, ◌++◌, fold, map, filter, not}
+use Rattle.std.specs.Prelude.{ℕ, ◌+◌, ◌-◌, ◌^◌, min, max, nat_lt, if◌then◌else◌, Option, Some, None, List, ◌++◌, fold, map, filter, not}
 use Rattle.std.specs.List.{filter_map, list_any}
 use Rattle.lu_base.specs.declared.locks.Ask.{Ask}
 use Rattle.lu_base.specs.declared.locks.Extent.{Extent}

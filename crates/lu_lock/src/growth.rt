@@ -1,6 +1,6 @@
 //! How far an extent grows when its lock is granted (this project's profile).
 
-ghost use Rattle.std.specs.Prelude.{◌≡◌, ◌≤◌, ◌∷◌, [], false, IsTrue};
+ghost use Rattle.std.specs.Prelude.{◌≡◌, ◌≤◌, ◌∷◌, [], false, IsTrue, option_to_list};
 ghost use Rattle.lu_lock.specs.Overlap.{IsRange, Covers};
 ghost use Rattle.lu_lock.specs.Conflict.{conflicts_with_any};
 ghost use Rattle.lu_lock.specs.Growth.{opposing, past_below, before_above, grown_extent, granted_policy, granted_ask};
@@ -66,9 +66,8 @@ fn past_below(mode: Mode, offset: u64, locks: &[Ask]) -> u64
 fn past_one(mode: Mode, offset: u64, lock: &Ask) -> u64
     ensures { result ≡ past_below offset (opposing mode (lock.now ∷ [])) }
 {
-    match lock.policy {
-        Policy::Range(extent) if !compatible(mode, lock.mode) && extent.last < offset => extent.last
-            + 1,
+    match opposing(mode, lock) {
+        Some(extent) if extent.last < offset => extent.last + 1,
         _ => 0,
     }
 }
@@ -90,9 +89,18 @@ fn before_above(mode: Mode, offset: u64, locks: &[Ask]) -> u64
 fn before_one(mode: Mode, offset: u64, lock: &Ask) -> u64
     ensures { result ≡ before_above offset (opposing mode (lock.now ∷ [])) }
 {
-    match lock.policy {
-        Policy::Range(extent) if !compatible(mode, lock.mode) && offset < extent.first =>
-            extent.first - 1,
+    match opposing(mode, lock) {
+        Some(extent) if offset < extent.first => extent.first - 1,
         _ => u64::MAX,
+    }
+}
+
+/// The extent of a lock whose mode isn't compatible with this one.
+fn opposing(mode: Mode, lock: &Ask) -> Option<Extent>
+    ensures { option_to_list result ≡ opposing mode (lock.now ∷ []) }
+{
+    match lock.policy {
+        Policy::Range(extent) if !compatible(mode, lock.mode) => Some(extent),
+        _ => None,
     }
 }

@@ -2,7 +2,7 @@
 use Rattle.std.proofs.Common.{◌≡◌, ◌∙◌, sym, true, false, refl, max, min, ap}
 use Rattle.std.specs.List.{list_any}
 use Rattle.lu_lock.specs.Overlap.{extents_meet}
-use Rattle.lu_lock.specs.Growth.{opposing, past_below, before_above}
+use Rattle.lu_lock.specs.Growth.{opposing}
 use Rattle.lu_lock.proofs.GrowthLaws.{conflicts-range, grown_extent-apart}
 use Rattle.lu_lock.proofs.growth.extended.Goals as goal
 

@@ -1,10 +1,9 @@
 -- What is granted is the lock as it grows, and the laws of growth hold of it.
-use Rattle.std.proofs.Common.{◌≡◌, ◌≤◌, ◌∙◌, sym, refl, subst, arith, ap}
-use Rattle.lu_base.specs.declared.locks.Policy.{Policy}
+use Rattle.std.proofs.Common.{◌≡◌, ◌≤◌, ◌∙◌, refl, subst, arith}
 use Rattle.lu_base.specs.declared.locks.Policy.TheVariants.{Range}
-use Rattle.lu_lock.specs.Overlap.{Covers, IsRange}
-use Rattle.lu_lock.specs.Growth.{opposing, grown_extent, granted_policy}
-use Rattle.lu_lock.proofs.GrowthLaws.{granted_as_asked, granted_apart, grown_extent_covers}
+use Rattle.lu_lock.specs.Overlap.{IsRange}
+use Rattle.lu_lock.specs.Growth.{granted_policy}
+use Rattle.lu_lock.proofs.GrowthLaws.{granted_as_asked, granted_apart}
 use Rattle.lu_lock.proofs.growth.grow.Goals as goal
 
 pub returns-clause-as_asked : goal.returns-clause-as_asked
