@@ -1,5 +1,5 @@
 -- Worked rows, computed on the definitions.
-use Rattle.std.proofs.Common.{◌≡◌, ℕ, true, false, refl, List, [], ◌∷◌}
+use Rattle.std.proofs.Common.{◌≡◌, ℕ, true, false, refl, [], ◌∷◌}
 use Rattle.lu_base.specs.declared.ids.Fid.{Fid}
 use Rattle.lu_base.specs.declared.locks.Extent.{Extent}
 use Rattle.lu_base.specs.declared.locks.Policy.TheVariants.{Bits, Range}

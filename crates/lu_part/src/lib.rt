@@ -6,4 +6,7 @@ mod bits;
 mod parts;
 
 pub use bits::{LAYOUT, LOOKUP, UPDATE};
-pub use parts::{guard, meets, Part, Parts, Want, Wants};
+pub use parts::{Part, Parts, Want, Wants, guard, meets};
+
+#[cfg(test)]
+mod tests;
