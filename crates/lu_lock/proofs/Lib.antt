@@ -1,0 +1,5 @@
+pub mod ModeLaws
+pub mod OverlapLaws
+pub mod ConflictLaws
+pub mod GrowthLaws
+mod Worked

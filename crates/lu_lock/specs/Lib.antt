@@ -1,0 +1,4 @@
+pub mod Modes
+pub mod Overlap
+pub mod Conflict
+pub mod Growth
