@@ -7,3 +7,4 @@ pub mod Answers
 pub mod Messages
 pub mod Entries
 pub mod Traces
+pub mod WellFormed
