@@ -1,0 +1,10 @@
+pub mod Words
+pub mod Values
+pub mod Lists
+pub mod Ops
+pub mod Calls
+pub mod Answers
+pub mod Messages
+pub mod Entries
+pub mod Traces
+pub mod WellFormed

@@ -1,0 +1,13 @@
+//! The trace of a run, and its text.
+//!
+//! A trace says of each turn of each node what happened, one entry a line. What a run promises is
+//! said of its trace alone.
+#![tactic(auto)]
+
+mod entries;
+mod texts;
+mod traces;
+
+pub use entries::{Entries, Entry, Line};
+pub use texts::render;
+pub use traces::{End, NodeJournal, Step, Trace};
