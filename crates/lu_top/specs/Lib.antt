@@ -1,0 +1,4 @@
+pub mod Codes
+pub mod Scenario
+pub mod Outcomes
+pub mod Commands

@@ -1,0 +1,39 @@
+//! How a run of the program ends.
+
+ghost use Rattle.std.specs.Prelude.{◌≡◌};
+ghost use Rattle.lu_top.specs.Codes.{code_of};
+
+/// How a run of the program ends, and what stands in the sink then.
+#[derive(Clone, Copy, Debug, PartialEq, Eq)]
+pub enum Status {
+    /// The scenario was performed, to its end or to the limit of turns, and its whole trace is written.
+    Done,
+    /// The words are no form of a command line. The sink has the line that names the forms.
+    Usage,
+    /// The scenario has lines that aren't performed yet; this is the first, counted from 1. The sink has
+    /// `not yet` and its number.
+    NotYet { line: u64 },
+    /// The source gave more bytes than a scenario has. The sink has `too long`.
+    TooLong,
+    /// The source failed. The sink has `read fault`.
+    ReadFault,
+    /// The sink failed while the trace was written. It has a prefix of the trace.
+    WriteFault,
+    /// Want of memory. Nothing was written.
+    Memory,
+}
+
+/// The exit code of a status.
+pub fn code(status: &Status) -> u8
+    ensures code { result ≡ code_of status.now }
+{
+    match status {
+        Status::Done => 0,
+        Status::Usage => 2,
+        Status::TooLong => 3,
+        Status::ReadFault => 4,
+        Status::WriteFault => 5,
+        Status::Memory => 7,
+        Status::NotYet { .. } => 8,
+    }
+}
