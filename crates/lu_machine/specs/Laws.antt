@@ -1,0 +1,104 @@
+-- The laws of footprints and of removal, over the table.
+use Rattle.std.specs.Prelude.{◌≡◌, ℕ, Bool, true, false, not, List, [], ◌∷◌, Some, slice_get, map}
+use Rattle.std.specs.List.{filter}
+use Rattle.lu_base.specs.declared.ids.Fid.{Fid}
+use Rattle.lu_base.specs.declared.ids.Txn.{Txn}
+use Rattle.lu_base.specs.declared.ids.Who.{Who}
+use Rattle.lu_msg.specs.declared.answers.Answer.TheVariants.{Made, Refused}
+use Rattle.lu_msg.specs.declared.answers.Errno.{Errno}
+use Rattle.lu_msg.specs.declared.operations.Op.{Op}
+use Rattle.lu_part.specs.declared.parts.Part.{Part}
+use Rattle.lu_part.specs.declared.parts.Part.TheVariants.{Parent}
+use Rattle.lu_machine.specs.declared.child.Child.{Child}
+use Rattle.lu_machine.specs.Tree.{Tree, child, fid_of, same_life}
+use Rattle.lu_machine.specs.Footprint.{Act, empty, answer, grants, touches, writes, changes, after, forget, Same, Every, Apart, inode_of}
+use Rattle.lu_machine.specs.Removal.{Item, Acts, Forgets, pick, contents, Untouched, Clear, Free, Older}
+
+abbrev pub Alike : ℕ → Tree → Tree → Act → Type 0
+Alike osts t u a =
+    record {
+      answer : answer osts t a ≡ answer osts u a;
+      touches : touches osts t a ≡ touches osts u a;
+      writes : writes osts t a ≡ writes osts u a;
+      grants : grants osts t a ≡ grants osts u a;
+      changes : changes osts t a ≡ changes osts u a;
+    }
+
+-- trees that agree on what an act touches give it the same
+abbrev pub TouchedDecide : Type 0
+TouchedDecide = (osts : ℕ) (t u : Tree) (a : Act) → Every (Same t u) (touches osts t a) → Alike osts t u a
+
+-- what meets nothing that is written stays, but in the inode that is made
+abbrev pub OthersStay : Type 0
+OthersStay = (osts : ℕ) (t : Tree) (a : Act) (p : Part) → Apart (writes osts t a) p → (answer osts t a ≡ Made (inode_of p) → ⊥) → Same t (after osts t a) p
+
+-- and that inode has the act's number
+abbrev pub MadeHasNumber : Type 0
+MadeHasNumber = (osts : ℕ) (t : Tree) (a : Act) (f : Fid) → answer osts t a ≡ Made f → f.0 ≡ a.number.0
+
+-- each part after it depends on what it touches and on that part before it, the written ones too
+abbrev pub NewFromOld : Type 0
+NewFromOld = (osts : ℕ) (t u : Tree) (a : Act) (p : Part) → Every (Same t u) (touches osts t a) → Same t u p → Same (after osts t a) (after osts u a) p
+
+-- a refusal makes no transaction, and grants and writes nothing
+abbrev pub RefusalsStay : Type 0
+RefusalsStay = (osts : ℕ) (t : Tree) (a : Act) (e : Errno) → answer osts t a ≡ Refused e → (changes osts t a ≡ false) × (grants osts t a ≡ []) × (writes osts t a ≡ []) × (after osts t a ≡ t)
+
+-- what makes no transaction changes and writes nothing
+abbrev pub UnchangedStay : Type 0
+UnchangedStay = (osts : ℕ) (t : Tree) (a : Act) → changes osts t a ≡ false → (after osts t a ≡ t) × (writes osts t a ≡ [])
+
+-- what a transaction is: it grants nothing, since only readings do
+abbrev pub TransactionsGrantNothing : Type 0
+TransactionsGrantNothing = (osts : ℕ) (t : Tree) (a : Act) → changes osts t a ≡ true → grants osts t a ≡ []
+
+-- what an operation touches, writes and grants, and whether it makes a transaction, depend neither on
+-- the number that it gets nor on who asks
+abbrev pub NumberIsFree : Type 0
+NumberIsFree =
+    (osts : ℕ) (t : Tree) (a b : Act) → a.op ≡ b.op
+    → record {
+      touches : touches osts t a ≡ touches osts t b;
+      writes : writes osts t a ≡ writes osts t b;
+      grants : grants osts t a ≡ grants osts t b;
+      changes : changes osts t a ≡ changes osts t b;
+    }
+
+-- `forget` drops the opens of that life and nothing else
+abbrev pub ForgetDropsOpens : Type 0
+ForgetDropsOpens =
+    (t : Tree) (who : Who)
+    → record {
+      dirs : (forget t who).dirs ≡ t.dirs;
+      files : (forget t who).files ≡ t.files;
+      own : filter (λ o. same_life o.life who) (forget t who).opens ≡ [];
+      others : (forget t who).opens ≡ filter (λ o. not (same_life o.life who)) t.opens;
+    }
+
+-- what a name leads to changes only where Parent of that inode is written (in a directory that was there before)
+abbrev pub LeadsStay : Type 0
+LeadsStay =
+    (osts : ℕ) (t : Tree) (a : Act) (d : Fid) (n : List ℕ) (c : Child) → child t d n ≡ Some c → (a.number.0 ≡ d.0 → ⊥) → Apart (writes osts t a) (Parent (fid_of c))
+    → child (after osts t a) d n ≡ Some c
+
+-- taking out the acts whose numbers aren't kept: each act that touches nothing that they wrote, be it the
+-- next one or one of the items, comes out the same
+abbrev pub RemovalLaw : Type 0
+RemovalLaw =
+    (osts : ℕ) (start : Tree) (keep : ℕ → Bool) → keep 1 ≡ true → Older keep start → (past : List Item) → Free osts start keep past → (a : Act) → Untouched osts start keep past a
+    → Alike osts (contents osts start past) (contents osts start (pick keep past)) a
+
+-- and the contents agree on each part that meets nothing that they wrote, of an inode that they didn't make
+abbrev pub RemovalAgrees : Type 0
+RemovalAgrees =
+    (osts : ℕ) (start : Tree) (keep : ℕ → Bool) → keep 1 ≡ true → Older keep start → (past : List Item) → Free osts start keep past → (p : Part) → Clear osts start keep past p → keep (inode_of p).0 ≡ true
+    → Same (contents osts start past) (contents osts start (pick keep past)) p
+
+abbrev pub AllKept : (ℕ → Bool) → List Item → Type 0
+AllKept keep [] = Unit {0}
+AllKept keep (Acts a ∷ past) = (keep a.number.0 ≡ true) × AllKept keep past
+AllKept keep (Forgets who ∷ past) = AllKept keep past
+
+-- contents that earlier acts have left have only names that lead to the root or to inodes with their numbers
+abbrev pub EarlierAreOlder : Type 0
+EarlierAreOlder = (osts : ℕ) (keep : ℕ → Bool) → keep 1 ≡ true → (past : List Item) → AllKept keep past → Older keep (contents osts empty past)

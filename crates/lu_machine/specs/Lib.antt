@@ -1,0 +1,12 @@
+pub mod Name
+pub mod Entries
+pub mod Tree
+pub mod Change
+pub mod Effect
+pub mod Striping
+pub mod Plan
+pub mod Table
+pub mod Footprint
+pub mod Machine
+pub mod Removal
+pub mod Laws
