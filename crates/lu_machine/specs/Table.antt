@@ -12,6 +12,7 @@ use Rattle.lu_msg.specs.declared.answers.Errno.{Errno}
 use Rattle.lu_msg.specs.declared.answers.Errno.TheVariants.{ENOENT, EEXIST, ENOTDIR, EISDIR, ENOTEMPTY, EPERM, EINVAL, EBUSY, EBADF, ENAMETOOLONG}
 use Rattle.lu_msg.specs.declared.operations.Op.{Op}
 use Rattle.lu_msg.specs.declared.operations.Op.TheVariants as op
+use Rattle.lu_part.specs.declared.bits.TheConstants.{LOOKUP, UPDATE, LAYOUT}
 use Rattle.lu_part.specs.declared.parts.Want.{Want}
 use Rattle.lu_machine.specs.declared.child.Child.{Child}
 use Rattle.lu_machine.specs.declared.child.Child.TheVariants.{Dir, File}
@@ -71,21 +72,12 @@ last_of c (d ∷ ds) = last_of d ds
 
 -- ---- grants: PR locks, LOOKUP on each inode after the root, and more bits on the last one
 
-abbrev pub lookup_bit : ℕ
-lookup_bit = 1
-
-abbrev pub update_bit : ℕ
-update_bit = 2
-
-abbrev pub layout_bit : ℕ
-layout_bit = 4
-
 -- the root is locked only where it is the last, and then without LOOKUP; a lock without bits isn't made
 abbrev pub wants : ℕ → List Child → List Want
 wants zero [] = []
 wants more [] = record { fid = fid_of root; bits = more } ∷ []
-wants more (c ∷ []) = record { fid = fid_of c; bits = lookup_bit + more } ∷ []
-wants more (c ∷ d ∷ cs) = record { fid = fid_of c; bits = lookup_bit } ∷ wants more (d ∷ cs)
+wants more (c ∷ []) = record { fid = fid_of c; bits = LOOKUP + more } ∷ []
+wants more (c ∷ d ∷ cs) = record { fid = fid_of c; bits = LOOKUP } ∷ wants more (d ∷ cs)
 
 -- an answer with grants, and one with changes: these make a transaction
 abbrev pub tells : Answer → List Want → Plan
@@ -104,16 +96,16 @@ abbrev pub row_lookup : List Child → Child → Plan
 row_lookup cs c = tells (found c) (wants 0 cs)
 
 abbrev pub row_stat : List Child → Child → Plan
-row_stat cs (Dir d) = LookAttr (Dir d) (λ a. tells (told.DirStat d a.mode) (wants update_bit cs))
-row_stat cs (File f) = LookAttr (File f) (λ a. LookLayout f (λ l. tells (told.FileStat f a.mode a.links l) (wants (update_bit + layout_bit) cs)))
+row_stat cs (Dir d) = LookAttr (Dir d) (λ a. tells (told.DirStat d a.mode) (wants UPDATE cs))
+row_stat cs (File f) = LookAttr (File f) (λ a. LookLayout f (λ l. tells (told.FileStat f a.mode a.links l) (wants (UPDATE + LAYOUT) cs)))
 
 abbrev pub row_list : List Child → Child → Plan
-row_list cs (Dir d) = LookList d (λ names. tells (told.Names names) (wants update_bit cs))
+row_list cs (Dir d) = LookList d (λ names. tells (told.Names names) (wants UPDATE cs))
 row_list cs (File f) = Refuse ENOTDIR
 
 abbrev pub row_layout : List Child → Child → Plan
 row_layout cs (Dir d) = Refuse EISDIR
-row_layout cs (File f) = LookLayout f (λ l. tells (told.Layout l) (wants layout_bit cs))
+row_layout cs (File f) = LookLayout f (λ l. tells (told.Layout l) (wants LAYOUT cs))
 
 abbrev pub row_mkdir : Txn → Fid → List ℕ → Plan
 row_mkdir number d n = does (told.Made (made_by number)) (MakesDir (made_by number) ∷ Leads d n (Dir (made_by number)) ∷ [])
