@@ -1,0 +1,5 @@
+use Rattle.lu_machine.proofs.Stated.{refusals_stay, unchanged_stay, transactions_grant_nothing}
+use Rattle.lu_machine.proofs.theorems.transactions.Goals as goal
+
+pub returns : goal.returns
+returns c = record { refusals = refusals_stay; unchanged = unchanged_stay; grants = transactions_grant_nothing }

@@ -1,0 +1,29 @@
+//! The laws. Each function does nothing: its contract is a theorem over the definitions of `specs/`.
+
+ghost use Rattle.lu_machine.specs.Laws.{TouchedDecide, OthersStay, MadeHasNumber, NewFromOld, RefusalsStay, UnchangedStay, TransactionsGrantNothing, NumberIsFree, ForgetDropsOpens, LeadsStay};
+
+/// The laws of footprints: what an operation on names touches decides all that comes of it.
+pub fn footprints()
+    ensures touched { TouchedDecide }
+    ensures others { OthersStay }
+    ensures made { MadeHasNumber }
+    ensures written { NewFromOld }
+    ensures free { NumberIsFree }
+{}
+
+/// Which acts make no transaction, and what they leave.
+pub fn transactions()
+    ensures refusals { RefusalsStay }
+    ensures unchanged { UnchangedStay }
+    ensures grants { TransactionsGrantNothing }
+{}
+
+/// A life's opens go, and nothing else.
+pub fn forgetting()
+    ensures { ForgetDropsOpens }
+{}
+
+/// What a name leads to changes only where Parent of that inode is written.
+pub fn leading()
+    ensures { LeadsStay }
+{}
