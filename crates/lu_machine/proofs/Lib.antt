@@ -6,3 +6,4 @@ pub mod Footprints
 pub mod Stated
 pub mod Leads
 pub mod Numbers
+pub mod TableRows
