@@ -7,3 +7,6 @@ pub mod Stated
 pub mod Leads
 pub mod Numbers
 pub mod TableRows
+pub mod Knows
+pub mod Removal
+pub mod Count

@@ -10,3 +10,5 @@ pub mod Footprint
 pub mod Machine
 pub mod Removal
 pub mod Laws
+pub mod Trim
+pub mod Seen
