@@ -10,3 +10,4 @@ pub mod TableRows
 pub mod Knows
 pub mod Removal
 pub mod Count
+pub mod Sound
