@@ -11,3 +11,5 @@ pub mod Knows
 pub mod Removal
 pub mod Count
 pub mod Sound
+pub mod Trim
+pub mod Seen

@@ -1,6 +1,8 @@
 //! The laws. Each function does nothing: its contract is a theorem over the definitions of `specs/`.
 
-ghost use Rattle.lu_machine.specs.Laws.{TouchedDecide, OthersStay, MadeHasNumber, NewFromOld, RefusalsStay, UnchangedStay, TransactionsGrantNothing, NumberIsFree, ForgetDropsOpens, LeadsStay};
+ghost use Rattle.lu_machine.specs.Laws.{TouchedDecide, OthersStay, MadeHasNumber, NewFromOld, RefusalsStay, UnchangedStay, TransactionsGrantNothing, NumberIsFree, ForgetDropsOpens, LeadsStay, RemovalLaw, RemovalAgrees, EarlierAreOlder};
+ghost use Rattle.lu_machine.specs.Seen.{RemovalBySeen, TrimmedRemovalBySeen};
+ghost use Rattle.lu_machine.specs.Trim.{Unseen, TrimmedRemoval};
 
 /// The laws of footprints: what an operation on names touches decides all that comes of it.
 pub fn footprints()
@@ -26,4 +28,19 @@ pub fn forgetting()
 /// What a name leads to changes only where Parent of that inode is written.
 pub fn leading()
     ensures { LeadsStay }
+{}
+
+/// Transactions can be taken out of a history: what touched nothing that they wrote comes out the same.
+pub fn removal()
+    ensures answers { RemovalLaw }
+    ensures contents { RemovalAgrees }
+    ensures earlier { EarlierAreOlder }
+    ensures seen { RemovalBySeen }
+{}
+
+/// A file may leave the tree with its last name and its last open: nobody can tell.
+pub fn trimming()
+    ensures unseen { Unseen }
+    ensures removal { TrimmedRemoval }
+    ensures seen { TrimmedRemovalBySeen }
 {}
