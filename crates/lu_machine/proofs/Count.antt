@@ -9,7 +9,7 @@ use Rattle.lu_machine.specs.declared.child.Child.{Child}
 use Rattle.lu_machine.specs.declared.child.Child.TheVariants.{Dir, File}
 use Rattle.lu_machine.specs.Name.{same_name, is_before}
 use Rattle.lu_machine.specs.Entries.{without, place}
-use Rattle.lu_machine.specs.Tree.{Tree, Directory, no_directory, same_fid, directory, child}
+use Rattle.lu_machine.specs.Tree.{Tree, Directory, no_directory, same_fid, is_lower, directory, child}
 use Rattle.lu_machine.specs.Change.{Change, Leads, Drops, Parted, MakesDir, MakesFile, SetMode, SetLinks, Leaves, Opens, Closes, new_directory, put_dir, put_name, leave, change}
 
 abbrev pub is_file : Fid → Child → ℕ
@@ -56,8 +56,14 @@ dirs_without f d (e ∷ es) = by (same_fid d e.0) (dirs_without f d es)
     by true ih = omega (arith, ih)
     by false ih = omega (arith, ih)
 
+dirs_place : (f d : Fid) (x : Directory) (ds : List (Fid × Directory)) → named f (place is_lower d x ds) ≡ named_in f x.entries + named f ds
+dirs_place f d x [] = refl
+dirs_place f d x (e ∷ es) =
+    let ih = dirs_place f d x es in
+    cond_both (is_lower d e.0) ((d, x) ∷ e ∷ es) (e ∷ place is_lower d x es) (λ xs. named f xs ≡ named_in f x.entries + (named_in f e.1.entries + named f es)) (λ t. refl) (λ t. omega (arith, ih))
+
 dirs_put : (f d : Fid) (x : Directory) (ds : List (Fid × Directory)) → named f (put_dir d x ds) + named_in f (unwrap_or (lookup (same_fid d) ds) no_directory).entries ≤ named f ds + named_in f x.entries
-dirs_put f d x ds = omega (arith, dirs_without f d ds)
+dirs_put f d x ds = omega (arith, dirs_place f d x (without (same_fid d) ds), dirs_without f d ds)
 
 -- what the name led to is taken from the count, what it leads to is given
 abbrev pub taken : Tree → Change → Fid → ℕ

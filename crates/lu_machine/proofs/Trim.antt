@@ -1,5 +1,5 @@
 -- Taking out the files that have left changes no answer.
-use Rattle.std.proofs.Common.{◌≡◌, ℕ, ◌<◌, ◌⊎◌, inl, inr, Bool, true, false, not, List, [], ◌∷◌, Option, Some, refl, sym, ap, subst, ◌∙◌, ⊎_elim, arith}
+use Rattle.std.proofs.Common.{◌≡◌, ℕ, ◌<◌, ◌⊎◌, inl, inr, Bool, true, false, not, List, [], ◌∷◌, ◌++◌, Option, Some, refl, sym, ap, subst, ◌∙◌, ⊎_elim, arith}
 use Rattle.std.specs.Prelude.{◌==◌, ◌||◌, nat_lt, if◌then◌else◌}
 use Rattle.std.specs.List.{filter}
 use Rattle.std.specs.Option.{unwrap_or}
@@ -94,7 +94,7 @@ step start t u number (SetLinks f n) b h =
     with_files start t u f (record { mode = (file t f).mode; links = n; layout = (file t f).layout }) (record { mode = (file u f).mode; links = n; layout = (file u f).layout })
     (ap (λ (i : Inode). record { mode = i.mode; links = n; layout = i.layout }) e) h
 step start t u number (Leaves d) b h = with_dirs start t u (λ ds. leave d (unwrap_or (lookup (same_fid d) ds) no_directory).entries ds) h
-step start t u number (Opens k l f) b h = with_opens start t u (λ os. record { number = k; life = l; fid = f } ∷ os) h
+step start t u number (Opens k l f) b h = with_opens start t u (λ os. os ++ record { number = k; life = l; fid = f } ∷ []) h
 step start t u number (Closes k l) b h = with_opens start t u (closed k l) h
 
 steps : (start t u : Tree) (number : Txn) (xs : List Change) → Every (Bound (IsAlive start) number) xs → During start t u → During start (changed t xs) (changed u xs)

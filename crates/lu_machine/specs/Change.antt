@@ -11,7 +11,7 @@ use Rattle.lu_machine.specs.declared.child.Child.{Child}
 use Rattle.lu_machine.specs.declared.child.Child.TheVariants.{Dir, File}
 use Rattle.lu_machine.specs.Name.{same_name, is_before}
 use Rattle.lu_machine.specs.Entries.{without, place}
-use Rattle.lu_machine.specs.Tree.{Tree, Directory, Inode, Opened, same_fid, same_life, fid_of, directory, file}
+use Rattle.lu_machine.specs.Tree.{Tree, Directory, Inode, Opened, same_fid, is_lower, same_life, fid_of, directory, file}
 
 pub data Change : Type 0 where
   -- the name leads there
@@ -38,10 +38,10 @@ abbrev pub new_file : Raid0 → Inode
 new_file layout = record { mode = 420; links = 1; layout = layout }
 
 abbrev pub put_dir : Fid → Directory → List (Fid × Directory) → List (Fid × Directory)
-put_dir d x dirs = (d, x) ∷ without (same_fid d) dirs
+put_dir d x dirs = place is_lower d x (without (same_fid d) dirs)
 
 abbrev pub put_file : Fid → Inode → List (Fid × Inode) → List (Fid × Inode)
-put_file f x files = (f, x) ∷ without (same_fid f) files
+put_file f x files = place is_lower f x (without (same_fid f) files)
 
 abbrev pub put_name : List ℕ → Child → List (List ℕ × Child) → List (List ℕ × Child)
 put_name n c entries = place is_before n c (without (same_name n) entries)
@@ -65,7 +65,7 @@ change t (SetMode (Dir d) m) = record t { dirs = put_dir d (record { mode = m; e
 change t (SetMode (File f) m) = record t { files = put_file f (record { mode = m; links = (file t f).links; layout = (file t f).layout }) t.files }
 change t (SetLinks f k) = record t { files = put_file f (record { mode = (file t f).mode; links = k; layout = (file t f).layout }) t.files }
 change t (Leaves d) = record t { dirs = leave d (directory t d).entries t.dirs }
-change t (Opens number life f) = record t { opens = record { number = number; life = life; fid = f } ∷ t.opens }
+change t (Opens number life f) = record t { opens = t.opens ++ record { number = number; life = life; fid = f } ∷ [] }
 change t (Closes number life) = record t { opens = closed number life t.opens }
 
 -- one after another
