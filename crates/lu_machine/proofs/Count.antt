@@ -3,13 +3,14 @@ use Rattle.std.proofs.Common.{◌≡◌, ℕ, ◌+◌, ◌≤◌, Bool, true, fa
 use Rattle.std.specs.Prelude.{◌==◌, if◌then◌else◌}
 use Rattle.std.specs.Option.{unwrap_or}
 use Rattle.std.specs.Map.{lookup}
+use Rattle.std.specs.Ordering.{is_lt}
 use Rattle.std.proofs.lemmas.Bool.{cond_both}
 use Rattle.lu_base.specs.declared.ids.Fid.{Fid}
 use Rattle.lu_machine.specs.declared.child.Child.{Child}
 use Rattle.lu_machine.specs.declared.child.Child.TheVariants.{Dir, File}
-use Rattle.lu_machine.specs.Name.{same_name, is_before}
+use Rattle.lu_machine.specs.Name.{same_name, name_cmp}
 use Rattle.lu_machine.specs.Entries.{without, place}
-use Rattle.lu_machine.specs.Tree.{Tree, Directory, no_directory, same_fid, is_lower, directory, child}
+use Rattle.lu_machine.specs.Tree.{Tree, Directory, no_directory, same_fid, fid_cmp, directory, child}
 use Rattle.lu_machine.specs.Change.{Change, Leads, Drops, Parted, MakesDir, MakesFile, SetMode, SetLinks, Leaves, Opens, Closes, new_directory, put_dir, put_name, leave, change}
 
 abbrev pub is_file : Fid → Child → ℕ
@@ -29,11 +30,11 @@ abbrev pub named : Fid → List (Fid × Directory) → ℕ
 named f [] = 0
 named f (e ∷ es) = named_in f e.1.entries + named f es
 
-in_place : (f : Fid) (n : List ℕ) (c : Child) (es : List (List ℕ × Child)) → named_in f (place is_before n c es) ≡ is_file f c + named_in f es
+in_place : (f : Fid) (n : List ℕ) (c : Child) (es : List (List ℕ × Child)) → named_in f (place name_cmp n c es) ≡ is_file f c + named_in f es
 in_place f n c [] = refl
 in_place f n c (e ∷ es) =
     let ih = in_place f n c es in
-    cond_both (is_before n e.0) ((n, c) ∷ e ∷ es) (e ∷ place is_before n c es) (λ xs. named_in f xs ≡ is_file f c + (is_file f e.1 + named_in f es)) (λ t. refl) (λ t. omega (arith, ih))
+    cond_both (is_lt (name_cmp n e.0)) ((n, c) ∷ e ∷ es) (e ∷ place name_cmp n c es) (λ xs. named_in f xs ≡ is_file f c + (is_file f e.1 + named_in f es)) (λ t. refl) (λ t. omega (arith, ih))
 
 in_without : (f : Fid) (n : List ℕ) (es : List (List ℕ × Child)) → named_in f (without (same_name n) es) + found_file f (lookup (same_name n) es) ≤ named_in f es
 in_without f n [] = omega arith
@@ -56,11 +57,11 @@ dirs_without f d (e ∷ es) = by (same_fid d e.0) (dirs_without f d es)
     by true ih = omega (arith, ih)
     by false ih = omega (arith, ih)
 
-dirs_place : (f d : Fid) (x : Directory) (ds : List (Fid × Directory)) → named f (place is_lower d x ds) ≡ named_in f x.entries + named f ds
+dirs_place : (f d : Fid) (x : Directory) (ds : List (Fid × Directory)) → named f (place fid_cmp d x ds) ≡ named_in f x.entries + named f ds
 dirs_place f d x [] = refl
 dirs_place f d x (e ∷ es) =
     let ih = dirs_place f d x es in
-    cond_both (is_lower d e.0) ((d, x) ∷ e ∷ es) (e ∷ place is_lower d x es) (λ xs. named f xs ≡ named_in f x.entries + (named_in f e.1.entries + named f es)) (λ t. refl) (λ t. omega (arith, ih))
+    cond_both (is_lt (fid_cmp d e.0)) ((d, x) ∷ e ∷ es) (e ∷ place fid_cmp d x es) (λ xs. named f xs ≡ named_in f x.entries + (named_in f e.1.entries + named f es)) (λ t. refl) (λ t. omega (arith, ih))
 
 dirs_put : (f d : Fid) (x : Directory) (ds : List (Fid × Directory)) → named f (put_dir d x ds) + named_in f (unwrap_or (lookup (same_fid d) ds) no_directory).entries ≤ named f ds + named_in f x.entries
 dirs_put f d x ds = omega (arith, dirs_place f d x (without (same_fid d) ds), dirs_without f d ds)

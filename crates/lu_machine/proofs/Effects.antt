@@ -7,19 +7,19 @@ use Rattle.std.proofs.lemmas.Bool.Decides.{nat_tests}
 use Rattle.lu_base.specs.declared.ids.Fid.{Fid}
 use Rattle.lu_machine.specs.declared.child.Child.{Child}
 use Rattle.lu_machine.specs.declared.child.Child.TheVariants.{Dir, File}
-use Rattle.lu_machine.specs.Name.{same_name, is_before}
+use Rattle.lu_machine.specs.Name.{same_name, name_cmp}
 use Rattle.lu_machine.specs.Entries.{without}
-use Rattle.lu_machine.specs.Tree.{Tree, Directory, Inode, no_directory, no_file, same_fid, is_lower, directory, file, child, listing, attributes, layout}
+use Rattle.lu_machine.specs.Tree.{Tree, Directory, Inode, no_directory, no_file, same_fid, fid_cmp, directory, file, child, listing, attributes, layout}
 use Rattle.lu_machine.specs.Change.{Change, Leads, Drops, Parted, MakesDir, MakesFile, SetMode, SetLinks, Leaves, Opens, Closes, new_directory, new_file, put_dir, put_file, put_name, leave, change}
 use Rattle.lu_machine.specs.Effect.{on_name, on_listing, on_attributes, on_layout}
 use Rattle.lu_machine.proofs.Keys.{find-without, find-put, fid_tells, name_tells, names-put, names-without}
 
 -- what stands under a number
 pub dir_put : (d : Fid) (x : Directory) (e : Fid) (ds : List (Fid × Directory)) → unwrap_or (lookup (same_fid e) (put_dir d x ds)) no_directory ≡ (if same_fid d e then x else unwrap_or (lookup (same_fid e) ds) no_directory)
-dir_put d x e ds = let h = find-put same_fid fid_tells is_lower d x e ds in grind (arith, nat_tests, h)
+dir_put d x e ds = let h = find-put same_fid fid_tells fid_cmp d x e ds in grind (arith, nat_tests, h)
 
 pub file_put : (f : Fid) (x : Inode) (g : Fid) (fs : List (Fid × Inode)) → unwrap_or (lookup (same_fid g) (put_file f x fs)) no_file ≡ (if same_fid f g then x else unwrap_or (lookup (same_fid g) fs) no_file)
-file_put f x g fs = let h = find-put same_fid fid_tells is_lower f x g fs in grind (arith, nat_tests, h)
+file_put f x g fs = let h = find-put same_fid fid_tells fid_cmp f x g fs in grind (arith, nat_tests, h)
 
 dir_without : (d e : Fid) (ds : List (Fid × Directory)) → unwrap_or (lookup (same_fid e) (without (same_fid d) ds)) no_directory ≡ (if same_fid d e then no_directory else unwrap_or (lookup (same_fid e) ds) no_directory)
 dir_without d e ds = let h = find-without same_fid fid_tells d e ds in grind (arith, nat_tests, h)
@@ -37,7 +37,7 @@ left_mode d e ds (n ∷ ns) = let h = dir_put d (record { mode = 0; entries = n 
 pub name_after : (t : Tree) (x : Change) (e : Fid) (m : List ℕ) → child (change t x) e m ≡ on_name x e m (child t e m)
 name_after t (Leads d n c) e m =
     let h = dir_put d (record { mode = (directory t d).mode; entries = put_name n c (directory t d).entries }) e t.dirs in
-    let k = find-put same_name name_tells is_before n c m (directory t d).entries in
+    let k = find-put same_name name_tells name_cmp n c m (directory t d).entries in
     grind (arith, nat_tests, fid_tells, h, k)
 name_after t (Drops d n) e m =
     let h = dir_put d (record { mode = (directory t d).mode; entries = without (same_name n) (directory t d).entries }) e t.dirs in

@@ -2,11 +2,13 @@
 use Rattle.std.proofs.Common.{◌≡◌, ℕ, Bool, true, false, List, [], ◌∷◌, ◌⊎◌, inl, inr, Option, Some, None, refl, ap, ◌∙◌, arith}
 use Rattle.std.specs.Prelude.{◌==◌, ◌≢◌, not, if◌then◌else◌}
 use Rattle.std.specs.List.{filter}
+use Rattle.std.specs.declared.cmp.Ordering.{Ordering}
+use Rattle.std.specs.Ordering.{is_lt}
 use Rattle.std.specs.Map.{keys_of, lookup}
 use Rattle.std.proofs.lemmas.Bool.Decides.{nat_tests}
 use Rattle.std.proofs.lemmas.Slice.Eq.{bytes_eq-Decides}
 use Rattle.lu_base.specs.declared.ids.Fid.{Fid}
-use Rattle.lu_machine.specs.Name.{same_name, is_before}
+use Rattle.lu_machine.specs.Name.{same_name, name_cmp}
 use Rattle.lu_machine.specs.Entries.{without, place}
 use Rattle.lu_machine.specs.Tree.{same_fid}
 use Rattle.lu_machine.specs.Effect.{without_name, place_name}
@@ -40,24 +42,24 @@ module _ {K A : Type 0} (same : K → K → Bool) (tells : (a b : K) → Told sa
   find-without k q [] = grind (arith, tells)
   find-without k q (e ∷ es) = let ih = find-without k q es in grind (arith, tells, ih)
 
-  pub find-place : (before : K → K → Bool) (k : K) (a : A) (q : K) (es : List (K × A)) → lookup (same k) es ≡ None → lookup (same q) (place before k a es) ≡ (if same k q then Some a else lookup (same q) es)
-  find-place before k a q [] h = grind (arith, tells)
-  find-place before k a q (e ∷ es) h = let ih = find-place before k a q es in grind (arith, tells, ih)
+  pub find-place : (cmp : K → K → Ordering) (k : K) (a : A) (q : K) (es : List (K × A)) → lookup (same k) es ≡ None → lookup (same q) (place cmp k a es) ≡ (if same k q then Some a else lookup (same q) es)
+  find-place cmp k a q [] h = grind (arith, tells)
+  find-place cmp k a q (e ∷ es) h = let ih = find-place cmp k a q es in grind (arith, tells, ih)
 
   find-gone : (k : K) (es : List (K × A)) → lookup (same k) (without (same k) es) ≡ None
   find-gone k es = let h = find-without k k es in grind (arith, tells, h)
 
-  pub find-put : (before : K → K → Bool) (k : K) (a : A) (q : K) (es : List (K × A)) → lookup (same q) (place before k a (without (same k) es)) ≡ (if same k q then Some a else lookup (same q) es)
-  find-put before k a q es = let h = find-place before k a q (without (same k) es) (find-gone k es) in let g = find-without k q es in grind (arith, tells, h, g)
+  pub find-put : (cmp : K → K → Ordering) (k : K) (a : A) (q : K) (es : List (K × A)) → lookup (same q) (place cmp k a (without (same k) es)) ≡ (if same k q then Some a else lookup (same q) es)
+  find-put cmp k a q es = let h = find-place cmp k a q (without (same k) es) (find-gone k es) in let g = find-without k q es in grind (arith, tells, h, g)
 
 module _ {A : Type 0} where
   pub names-without : (n : List ℕ) (es : List (List ℕ × A)) → keys_of (without (same_name n) es) ≡ without_name n (keys_of es)
   names-without n [] = refl
   names-without n (e ∷ es) = let ih = names-without n es in grind (arith, name_tells, ih)
 
-  names-place : (n : List ℕ) (a : A) (es : List (List ℕ × A)) → keys_of (place is_before n a es) ≡ place_name n (keys_of es)
+  names-place : (n : List ℕ) (a : A) (es : List (List ℕ × A)) → keys_of (place name_cmp n a es) ≡ place_name n (keys_of es)
   names-place n a [] = refl
   names-place n a (e ∷ es) = let ih = names-place n a es in grind (arith, ih)
 
-  pub names-put : (n : List ℕ) (a : A) (es : List (List ℕ × A)) → keys_of (place is_before n a (without (same_name n) es)) ≡ place_name n (without_name n (keys_of es))
+  pub names-put : (n : List ℕ) (a : A) (es : List (List ℕ × A)) → keys_of (place name_cmp n a (without (same_name n) es)) ≡ place_name n (without_name n (keys_of es))
   names-put n a es = names-place n a (without (same_name n) es) ∙ ap (place_name n) (names-without n es)

@@ -9,9 +9,9 @@ use Rattle.lu_part.specs.declared.parts.Part.{Part}
 use Rattle.lu_part.specs.declared.parts.Part.TheVariants.{Name, Attr, Parent}
 use Rattle.lu_machine.specs.declared.child.Child.{Child}
 use Rattle.lu_machine.specs.declared.child.Child.TheVariants.{Dir, File}
-use Rattle.lu_machine.specs.Name.{same_name, is_before}
+use Rattle.lu_machine.specs.Name.{same_name, name_cmp}
 use Rattle.lu_machine.specs.Entries.{without, place}
-use Rattle.lu_machine.specs.Tree.{Tree, Directory, Inode, Opened, same_fid, is_lower, same_life, fid_of, directory, file}
+use Rattle.lu_machine.specs.Tree.{Tree, Directory, Inode, Opened, same_fid, fid_cmp, same_life, fid_of, directory, file}
 
 pub data Change : Type 0 where
   -- the name leads there
@@ -38,13 +38,13 @@ abbrev pub new_file : Raid0 → Inode
 new_file layout = record { mode = 420; links = 1; layout = layout }
 
 abbrev pub put_dir : Fid → Directory → List (Fid × Directory) → List (Fid × Directory)
-put_dir d x dirs = place is_lower d x (without (same_fid d) dirs)
+put_dir d x dirs = place fid_cmp d x (without (same_fid d) dirs)
 
 abbrev pub put_file : Fid → Inode → List (Fid × Inode) → List (Fid × Inode)
-put_file f x files = place is_lower f x (without (same_fid f) files)
+put_file f x files = place fid_cmp f x (without (same_fid f) files)
 
 abbrev pub put_name : List ℕ → Child → List (List ℕ × Child) → List (List ℕ × Child)
-put_name n c entries = place is_before n c (without (same_name n) entries)
+put_name n c entries = place name_cmp n c (without (same_name n) entries)
 
 -- only an empty directory leaves: one that isn't keeps its names
 abbrev pub leave : Fid → List (List ℕ × Child) → List (Fid × Directory) → List (Fid × Directory)

@@ -1,11 +1,12 @@
 -- What a change makes of what stood at a part: nothing else of the tree decides it.
 use Rattle.std.specs.Prelude.{ℕ, not, List, [], ◌∷◌, Option, Some, None, ◌&&◌, if◌then◌else◌}
 use Rattle.std.specs.List.{filter}
+use Rattle.std.specs.Ordering.{is_lt}
 use Rattle.lu_base.specs.declared.ids.Fid.{Fid}
 use Rattle.lu_layout.specs.Raid0.{Raid0}
 use Rattle.lu_machine.specs.declared.child.Child.{Child}
 use Rattle.lu_machine.specs.declared.child.Child.TheVariants.{Dir, File}
-use Rattle.lu_machine.specs.Name.{same_name, is_before}
+use Rattle.lu_machine.specs.Name.{same_name, name_cmp}
 use Rattle.lu_machine.specs.Tree.{Attributes, same_fid}
 use Rattle.lu_machine.specs.Change.{Change, Leads, Drops, MakesDir, MakesFile, SetMode, SetLinks, Leaves}
 
@@ -14,7 +15,7 @@ without_name n names = filter (λ m. not (same_name n m)) names
 
 abbrev pub place_name : List ℕ → List (List ℕ) → List (List ℕ)
 place_name n [] = n ∷ []
-place_name n (m ∷ ms) = if is_before n m then n ∷ m ∷ ms else m ∷ place_name n ms
+place_name n (m ∷ ms) = if is_lt (name_cmp n m) then n ∷ m ∷ ms else m ∷ place_name n ms
 
 abbrev pub on_name : Change → Fid → List ℕ → Option Child → Option Child
 on_name (Leads d n c) e m o = if same_fid d e && same_name n m then Some c else o

@@ -12,3 +12,4 @@ pub mod Removal
 pub mod Laws
 pub mod Trim
 pub mod Seen
+pub mod Order

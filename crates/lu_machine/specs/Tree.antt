@@ -1,8 +1,10 @@
 -- A tree is three lists: directories and files in the order of their Fids, and opens in the order in which
 -- they came. What stands at its parts is looked up: where nothing stands there is no name, no mode, no link
 -- and an empty layout.
-use Rattle.std.specs.Prelude.{ℕ, Bool, List, [], Option, ◌==◌, ◌&&◌, nat_lt}
+use Rattle.std.specs.Prelude.{ℕ, Bool, List, [], Option, ◌==◌, ◌&&◌}
+use Rattle.std.specs.declared.cmp.Ordering.{Ordering}
 use Rattle.std.specs.Option.{unwrap_or}
+use Rattle.std.specs.Ordering.{nat_cmp}
 use Rattle.std.specs.Map.{keys_of, lookup}
 use Rattle.lu_base.specs.declared.ids.Fid.{Fid}
 use Rattle.lu_base.specs.declared.ids.Txn.{Txn}
@@ -41,8 +43,8 @@ pub record Attributes : Type 0 where
 abbrev pub same_fid : Fid → Fid → Bool
 same_fid f g = f.0 == g.0
 
-abbrev pub is_lower : Fid → Fid → Bool
-is_lower f g = nat_lt f.0 g.0
+abbrev pub fid_cmp : Fid → Fid → Ordering
+fid_cmp f g = nat_cmp f.0 g.0
 
 abbrev pub same_life : Who → Who → Bool
 same_life a b = a.client == b.client && a.life == b.life
