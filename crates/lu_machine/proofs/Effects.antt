@@ -25,7 +25,7 @@ dir_without : (d e : Fid) (ds : List (Fid × Directory)) → unwrap_or (lookup (
 dir_without d e ds = let h = find-without same_fid fid_tells d e ds in grind (arith, nat_tests, h)
 
 -- what a directory that leaves has left
-left_entries : (d e : Fid) (ds : List (Fid × Directory)) (es : List (List ℕ × Child)) → (unwrap_or (lookup (same_fid d) ds) no_directory).entries ≡ es
+pub left_entries : (d e : Fid) (ds : List (Fid × Directory)) (es : List (List ℕ × Child)) → (unwrap_or (lookup (same_fid d) ds) no_directory).entries ≡ es
     → (unwrap_or (lookup (same_fid e) (leave d es ds)) no_directory).entries ≡ (unwrap_or (lookup (same_fid e) ds) no_directory).entries
 left_entries d e ds [] is = let h = dir_without d e ds in grind (arith, nat_tests, fid_tells, h)
 left_entries d e ds (n ∷ ns) is = let h = dir_put d (record { mode = 0; entries = n ∷ ns }) e ds in grind (arith, nat_tests, fid_tells, h)

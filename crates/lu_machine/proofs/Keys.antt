@@ -46,7 +46,7 @@ module _ {K A : Type 0} (same : K → K → Bool) (tells : (a b : K) → Told sa
   find-place cmp k a q [] h = grind (arith, tells)
   find-place cmp k a q (e ∷ es) h = let ih = find-place cmp k a q es in grind (arith, tells, ih)
 
-  find-gone : (k : K) (es : List (K × A)) → lookup (same k) (without (same k) es) ≡ None
+  pub find-gone : (k : K) (es : List (K × A)) → lookup (same k) (without (same k) es) ≡ None
   find-gone k es = let h = find-without k k es in grind (arith, tells, h)
 
   pub find-put : (cmp : K → K → Ordering) (k : K) (a : A) (q : K) (es : List (K × A)) → lookup (same q) (place cmp k a (without (same k) es)) ≡ (if same k q then Some a else lookup (same q) es)

@@ -13,3 +13,5 @@ pub mod Count
 pub mod Sound
 pub mod Trim
 pub mod Seen
+pub mod Sorted
+pub mod Ordered
