@@ -20,7 +20,8 @@ use Rattle.lu_machine.specs.Striping.{new_layout}
 use Rattle.lu_machine.specs.Plan.{Plan, Refuse, Do, LookName, LookList, LookAttr, LookLayout, Outcome}
 use Rattle.lu_machine.specs.Table.{root, made_by, look_in, look, there, absent, walk, onward, walk_up, to_last, last_of, tells, does, row_lookup, row_stat, row_list, row_layout, row_mkdir, row_create, row_link, row_unlink, if_empty, row_rmdir, passes, moves, row_replace, row_rename, rename, row_chmod, row_open, plan}
 use Rattle.lu_machine.specs.Footprint.{Every}
-use Rattle.lu_machine.proofs.Outcomes.{IsNamed, IsReached, Comes, refused, learns, mkdir, create, link, unlink, rmdir, move, replace_dir, replace_file, chmod, opens, closes}
+use Rattle.lu_machine.proofs.Walks.{IsNamed}
+use Rattle.lu_machine.proofs.Outcomes.{IsReached, Comes, refused, learns, mkdir, create, link, unlink, rmdir, move, replace_dir, replace_file, chmod, opens, closes}
 
 module _ (K : Child → Type 0) where
   abbrev pub IsKnown : Option Child → Type 0

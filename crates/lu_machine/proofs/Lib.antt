@@ -1,6 +1,7 @@
 pub mod Keys
 pub mod Effects
 pub mod Rows
+pub mod Walks
 pub mod Outcomes
 pub mod Footprints
 pub mod Stated

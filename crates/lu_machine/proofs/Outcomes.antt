@@ -23,16 +23,13 @@ use Rattle.lu_machine.specs.Striping.{new_layout}
 use Rattle.lu_machine.specs.Plan.{Plan, Refuse, LookAttr, Outcome, outcome}
 use Rattle.lu_machine.specs.Table.{root, made_by, look_in, look, there, absent, walk, onward, walk_up, to_last, last_of, wants, tells, does, found, row_lookup, row_stat, row_list, row_layout, row_mkdir, row_create, row_link, row_unlink, if_empty, row_rmdir, passes, moves, row_replace, row_rename, rename, row_chmod, row_open, plan}
 use Rattle.lu_machine.specs.Footprint.{Every}
+use Rattle.lu_machine.proofs.Walks.{IsNamed, there_ends, absent_ends, if_empty_ends, walk_ends, walk_up_ends, to_last_ends}
 
 -- an answer of a reading, or of a change to what stands: neither a refusal nor a new inode
 abbrev pub IsTold : Answer → Type 0
 IsTold (told.Refused e) = ⊥
 IsTold (told.Made f) = ⊥
 IsTold _ = Unit {0}
-
--- a name leads to it
-abbrev pub IsNamed : Tree → Child → Type 0
-IsNamed t c = (d : Fid) × ((n : List ℕ) × (child t d n ≡ Some c))
 
 -- it is the root, or a name leads to it
 abbrev pub IsReached : Tree → Child → Type 0
@@ -64,46 +61,6 @@ module _ (t : Tree) (number : Txn) (who : Who) where
 
   abbrev Holds : Plan → Type 0
   Holds p = Comes (outcome t p)
-
-  -- ---- the walks
-
-  look_in_comes : (at : Child) (n : List ℕ) (next : Fid → Option Child → Plan) → ((d : Fid) → Holds (next d (child t d n))) → Holds (look_in at n next)
-  look_in_comes (File f) n next h = refused _
-  look_in_comes (Dir d) n next h = h d
-
-  look_comes : (at : Child) (n : List ℕ) (next : Fid → Option Child → Plan) → ((d : Fid) → Holds (next d (child t d n))) → Holds (look at n next)
-  look_comes at n next h = cond_both (is_too_long n) (Refuse ENAMETOOLONG) (look_in at n next) Holds (λ _. refused _) (λ _. look_in_comes at n next h)
-
-  there_comes : (next : Child → Plan) (o : Option Child) → ((c : Child) → o ≡ Some c → Holds (next c)) → Holds (there next o)
-  there_comes next None h = refused _
-  there_comes next (Some c) h = h c refl
-
-  absent_comes : (next : Plan) (o : Option Child) → (o ≡ None → Holds next) → Holds (absent next o)
-  absent_comes next None h = h refl
-  absent_comes next (Some c) h = refused _
-
-  if_empty_comes : (names : List (List ℕ)) (next : Plan) → (names ≡ [] → Holds next) → Holds (if_empty names next)
-  if_empty_comes [] next h = h refl
-  if_empty_comes (n ∷ ns) next h = refused _
-
-  walk_comes : (at : Child) (ns : List (List ℕ)) (next : List Child → Plan) → ((cs : List Child) → Every (IsNamed t) cs → Holds (next cs)) → Holds (walk at ns next)
-  walk_comes at [] next h = h [] tt
-  walk_comes at (n ∷ ns) next h =
-      look_comes at n (λ d. there (λ c. walk c ns (λ cs. next (c ∷ cs))))
-      (λ d. there_comes (λ c. walk c ns (λ cs. next (c ∷ cs))) (child t d n) (λ c is. walk_comes c ns (λ cs. next (c ∷ cs)) (λ cs named. h (c ∷ cs) ((d, (n, is)), named))))
-
-  onward_comes : (ns : List (List ℕ)) (next : List Child → Fid → List ℕ → Option Child → Plan) (d : Fid) (n : List ℕ) → ((cs : List Child) (d : Fid) (m : List ℕ) → Holds (next cs d m (child t d m))) → Holds (onward ns next d n (child t d n))
-  onward_comes [] next d n h = h [] d n
-  onward_comes (m ∷ ns) next d n h =
-      there_comes (λ c. look c m (λ e. onward ns (λ cs. next (c ∷ cs)) e m)) (child t d n)
-      (λ c is. look_comes c m (λ e. onward ns (λ cs. next (c ∷ cs)) e m) (λ e. onward_comes ns (λ cs. next (c ∷ cs)) e m (λ cs. h (c ∷ cs))))
-
-  walk_up_comes : (at : Child) (n : List ℕ) (ns : List (List ℕ)) (next : List Child → Fid → List ℕ → Option Child → Plan) → ((cs : List Child) (d : Fid) (m : List ℕ) → Holds (next cs d m (child t d m))) → Holds (walk_up at n ns next)
-  walk_up_comes at n ns next h = look_comes at n (λ d. onward ns next d n) (λ d. onward_comes ns next d n h)
-
-  to_last_comes : (e : Errno) (ns : List (List ℕ)) (next : List Child → Fid → List ℕ → Option Child → Plan) → ((cs : List Child) (d : Fid) (m : List ℕ) → Holds (next cs d m (child t d m))) → Holds (to_last e ns next)
-  to_last_comes e [] next h = refused _
-  to_last_comes e (n ∷ ns) next h = walk_up_comes root n ns next h
 
   last_reached : (c : Child) (cs : List Child) → IsReached t c → Every (IsNamed t) cs → IsReached t (last_of c cs)
   last_reached c [] r h = r
@@ -139,8 +96,8 @@ module _ (t : Tree) (number : Txn) (who : Who) where
   link_comes : (new : List (List ℕ)) (c : Child) → IsReached t c → Holds (row_link new c)
   link_comes new (Dir d) r = refused _
   link_comes new (File f) r =
-      to_last_comes EEXIST new (λ cs d n. absent (LookAttr (File f) (λ a. does told.Done (Leads d n (File f) ∷ SetLinks f (a.links + 1) ∷ []))))
-      (λ cs d n. absent_comes (LookAttr (File f) (λ a. does told.Done (Leads d n (File f) ∷ SetLinks f (a.links + 1) ∷ []))) (child t d n) (λ free. link d n f free (named_file f r)))
+      to_last_ends t Comes refused EEXIST new (λ cs d n. absent (LookAttr (File f) (λ a. does told.Done (Leads d n (File f) ∷ SetLinks f (a.links + 1) ∷ []))))
+      (λ cs d n. absent_ends t Comes refused (LookAttr (File f) (λ a. does told.Done (Leads d n (File f) ∷ SetLinks f (a.links + 1) ∷ []))) (child t d n) (λ free. link d n f free (named_file f r)))
 
   unlink_comes : (d : Fid) (n : List ℕ) (c : Child) → child t d n ≡ Some c → Holds (row_unlink d n c)
   unlink_comes d n (Dir e) is = refused _
@@ -148,12 +105,12 @@ module _ (t : Tree) (number : Txn) (who : Who) where
 
   rmdir_comes : (d : Fid) (n : List ℕ) (c : Child) → child t d n ≡ Some c → Holds (row_rmdir d n c)
   rmdir_comes d n (File f) is = refused _
-  rmdir_comes d n (Dir e) is = if_empty_comes (listing t e) (does told.Done (Drops d n ∷ Parted e ∷ Leaves e ∷ [])) (λ none. rmdir d n e is none)
+  rmdir_comes d n (Dir e) is = if_empty_ends t Comes refused (listing t e) (does told.Done (Drops d n ∷ Parted e ∷ Leaves e ∷ [])) (λ none. rmdir d n e is none)
 
   replace_comes : (d : Fid) (n : List ℕ) (c : Child) (e : Fid) (m : List ℕ) (g : Child) → child t d n ≡ Some c → child t e m ≡ Some g → same_fid (fid_of g) (fid_of c) ≡ false → Holds (row_replace d n c e m g)
   replace_comes d n (Dir f) e m (File g) is at ne = refused _
   replace_comes d n (File f) e m (Dir g) is at ne = refused _
-  replace_comes d n (Dir f) e m (Dir g) is at ne = if_empty_comes (listing t g) (moves d n (Dir f) e m (Parted g ∷ Leaves g ∷ [])) (λ none. replace_dir d n f e m g is at ne none)
+  replace_comes d n (Dir f) e m (Dir g) is at ne = if_empty_ends t Comes refused (listing t g) (moves d n (Dir f) e m (Parted g ∷ Leaves g ∷ [])) (λ none. replace_dir d n f e m g is at ne none)
   replace_comes d n (File f) e m (File g) is at ne = replace_file d n f e m g is at ne
 
   rename_row_comes : (d : Fid) (n : List ℕ) (c : Child) (cs : List Child) (e : Fid) (m : List ℕ) (o : Option Child) → child t d n ≡ Some c → child t e m ≡ o → Holds (row_rename d n c cs e m o)
@@ -165,9 +122,9 @@ module _ (t : Tree) (number : Txn) (who : Who) where
   rename_comes : (old new : List (List ℕ)) → Holds (rename old new)
   rename_comes old [] = refused _
   rename_comes old (m ∷ ms) =
-      to_last_comes EBUSY old (λ cs d n. there (λ c. walk_up root m ms (λ cs e m. row_rename d n c cs e m)))
-      (λ cs d n. there_comes (λ c. walk_up root m ms (λ cs e m. row_rename d n c cs e m)) (child t d n)
-      (λ c is. walk_up_comes root m ms (λ cs e m. row_rename d n c cs e m) (λ cs e m. rename_row_comes d n c cs e m (child t e m) is refl)))
+      to_last_ends t Comes refused EBUSY old (λ cs d n. there (λ c. walk_up root m ms (λ cs e m. row_rename d n c cs e m)))
+      (λ cs d n. there_ends t Comes refused (λ c. walk_up root m ms (λ cs e m. row_rename d n c cs e m)) (child t d n)
+      (λ c is. walk_up_ends t Comes refused root m ms (λ cs e m. row_rename d n c cs e m) (λ cs e m. rename_row_comes d n c cs e m (child t e m) is refl)))
 
   chmod_comes : (mode : ℕ) (c : Child) → IsReached t c → Holds (row_chmod mode c)
   chmod_comes mode c r = cond_both ((attributes t c).mode == mode) (tells told.Done []) (does told.Done (SetMode c mode ∷ [])) Holds (λ _. learns _ _ tt) (λ _. chmod c mode r)
@@ -177,20 +134,20 @@ module _ (t : Tree) (number : Txn) (who : Who) where
   open_comes (File f) r = opens f (named_file f r)
 
   pub plan_comes : (osts : ℕ) (o : Op) → Holds (plan osts number who o)
-  plan_comes osts (op.Lookup path) = walk_comes root path (λ cs. row_lookup cs (last_of root cs)) (λ cs h. learns _ _ (found_told (last_of root cs)))
-  plan_comes osts (op.Stat path) = walk_comes root path (λ cs. row_stat cs (last_of root cs)) (λ cs h. stat_comes cs (last_of root cs))
-  plan_comes osts (op.List path) = walk_comes root path (λ cs. row_list cs (last_of root cs)) (λ cs h. list_comes cs (last_of root cs))
-  plan_comes osts (op.Layout path) = walk_comes root path (λ cs. row_layout cs (last_of root cs)) (λ cs h. layout_comes cs (last_of root cs))
-  plan_comes osts (op.Mkdir path) = to_last_comes EEXIST path (λ cs d n. absent (row_mkdir number d n)) (λ cs d n. absent_comes (row_mkdir number d n) (child t d n) (mkdir d n))
+  plan_comes osts (op.Lookup path) = walk_ends t Comes refused root path (λ cs. row_lookup cs (last_of root cs)) (λ cs h. learns _ _ (found_told (last_of root cs)))
+  plan_comes osts (op.Stat path) = walk_ends t Comes refused root path (λ cs. row_stat cs (last_of root cs)) (λ cs h. stat_comes cs (last_of root cs))
+  plan_comes osts (op.List path) = walk_ends t Comes refused root path (λ cs. row_list cs (last_of root cs)) (λ cs h. list_comes cs (last_of root cs))
+  plan_comes osts (op.Layout path) = walk_ends t Comes refused root path (λ cs. row_layout cs (last_of root cs)) (λ cs h. layout_comes cs (last_of root cs))
+  plan_comes osts (op.Mkdir path) = to_last_ends t Comes refused EEXIST path (λ cs d n. absent (row_mkdir number d n)) (λ cs d n. absent_ends t Comes refused (row_mkdir number d n) (child t d n) (mkdir d n))
   plan_comes osts (op.Create path size count) =
-      to_last_comes EEXIST path (λ cs d n. absent (row_create number d n (new_layout osts number size count)))
-      (λ cs d n. absent_comes (row_create number d n (new_layout osts number size count)) (child t d n) (create_comes d n (new_layout osts number size count)))
-  plan_comes osts (op.Link old new) = walk_comes root old (λ cs. row_link new (last_of root cs)) (λ cs h. link_comes new (last_of root cs) (last_reached root cs (inl refl) h))
-  plan_comes osts (op.Unlink path) = to_last_comes EISDIR path (λ cs d n. there (row_unlink d n)) (λ cs d n. there_comes (row_unlink d n) (child t d n) (unlink_comes d n))
-  plan_comes osts (op.Rmdir path) = to_last_comes EBUSY path (λ cs d n. there (row_rmdir d n)) (λ cs d n. there_comes (row_rmdir d n) (child t d n) (rmdir_comes d n))
+      to_last_ends t Comes refused EEXIST path (λ cs d n. absent (row_create number d n (new_layout osts number size count)))
+      (λ cs d n. absent_ends t Comes refused (row_create number d n (new_layout osts number size count)) (child t d n) (create_comes d n (new_layout osts number size count)))
+  plan_comes osts (op.Link old new) = walk_ends t Comes refused root old (λ cs. row_link new (last_of root cs)) (λ cs h. link_comes new (last_of root cs) (last_reached root cs (inl refl) h))
+  plan_comes osts (op.Unlink path) = to_last_ends t Comes refused EISDIR path (λ cs d n. there (row_unlink d n)) (λ cs d n. there_ends t Comes refused (row_unlink d n) (child t d n) (unlink_comes d n))
+  plan_comes osts (op.Rmdir path) = to_last_ends t Comes refused EBUSY path (λ cs d n. there (row_rmdir d n)) (λ cs d n. there_ends t Comes refused (row_rmdir d n) (child t d n) (rmdir_comes d n))
   plan_comes osts (op.Rename old new) = rename_comes old new
-  plan_comes osts (op.Chmod path mode) = walk_comes root path (λ cs. row_chmod mode (last_of root cs)) (λ cs h. chmod_comes mode (last_of root cs) (last_reached root cs (inl refl) h))
-  plan_comes osts (op.Open path) = walk_comes root path (λ cs. row_open number who (last_of root cs)) (λ cs h. open_comes (last_of root cs) (last_reached root cs (inl refl) h))
+  plan_comes osts (op.Chmod path mode) = walk_ends t Comes refused root path (λ cs. row_chmod mode (last_of root cs)) (λ cs h. chmod_comes mode (last_of root cs) (last_reached root cs (inl refl) h))
+  plan_comes osts (op.Open path) = walk_ends t Comes refused root path (λ cs. row_open number who (last_of root cs)) (λ cs h. open_comes (last_of root cs) (last_reached root cs (inl refl) h))
   plan_comes osts (op.Close opened fid) = closes opened
   plan_comes osts (op.Enqueue resource mode extent) = refused _
   plan_comes osts (op.Get resource cookie page) = refused _

@@ -19,7 +19,8 @@ use Rattle.lu_machine.proofs.Keys.{fid_tells}
 use Rattle.lu_machine.proofs.Effects.{file_put, name_after}
 use Rattle.lu_machine.proofs.Count.{is_file, found_file, named, named_after, found_named}
 use Rattle.lu_machine.proofs.Leads.{here, at_same}
-use Rattle.lu_machine.proofs.Outcomes.{IsNamed, Comes, refused, learns, mkdir, create, link, unlink, rmdir, move, replace_dir, replace_file, chmod, opens, closes}
+use Rattle.lu_machine.proofs.Walks.{IsNamed}
+use Rattle.lu_machine.proofs.Outcomes.{Comes, refused, learns, mkdir, create, link, unlink, rmdir, move, replace_dir, replace_file, chmod, opens, closes}
 
 abbrev pub links : Tree → Fid → ℕ
 links t f = (file t f).links
