@@ -16,3 +16,5 @@ pub mod Trim
 pub mod Seen
 pub mod Sorted
 pub mod Ordered
+pub mod Transactions
+pub mod Layouts

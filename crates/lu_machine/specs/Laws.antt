@@ -1,17 +1,23 @@
 -- The laws of footprints and of removal, over the table.
-use Rattle.std.specs.Prelude.{◌≡◌, ℕ, Bool, true, false, not, List, [], ◌∷◌, Some, slice_get, map}
+use Rattle.std.specs.Prelude.{◌≡◌, ℕ, ◌+◌, ◌%◌, ◌<◌, ◌≤◌, Bool, true, false, not, List, [], ◌∷◌, Some, ℤ, length, slice_index}
 use Rattle.std.specs.List.{filter}
 use Rattle.lu_base.specs.declared.ids.Fid.{Fid}
 use Rattle.lu_base.specs.declared.ids.Txn.{Txn}
 use Rattle.lu_base.specs.declared.ids.Who.{Who}
+use Rattle.lu_layout.specs.Raid0.{Raid0}
+use Rattle.lu_layout.specs.Sound.{IsLayout}
 use Rattle.lu_msg.specs.declared.answers.Answer.TheVariants.{Made, Refused}
 use Rattle.lu_msg.specs.declared.answers.Errno.{Errno}
 use Rattle.lu_msg.specs.declared.operations.Op.{Op}
+use Rattle.lu_msg.specs.declared.operations.Op.TheVariants as op
 use Rattle.lu_part.specs.declared.parts.Part.{Part}
 use Rattle.lu_part.specs.declared.parts.Part.TheVariants.{Parent}
 use Rattle.lu_machine.specs.declared.child.Child.{Child}
 use Rattle.lu_machine.specs.Tree.{Tree, child, fid_of, same_life}
 use Rattle.lu_machine.specs.Footprint.{Act, empty, answer, grants, touches, writes, changes, after, forget, Same, Every, Apart, inode_of}
+use Rattle.lu_machine.specs.Machine as machine
+use Rattle.lu_machine.specs.Machine.{Machine}
+use Rattle.lu_machine.specs.Striping.{stripe_size, stripe_count, new_layout}
 use Rattle.lu_machine.specs.Removal.{Item, Acts, Forgets, pick, contents, Untouched, Clear, Free, Older}
 
 abbrev pub Alike : ℕ → Tree → Tree → Act → Type 0
@@ -62,6 +68,49 @@ NumberIsFree =
       writes : writes osts t a ≡ writes osts t b;
       grants : grants osts t a ≡ grants osts t b;
       changes : changes osts t a ≡ changes osts t b;
+    }
+
+-- the operations that only look
+abbrev pub IsReading : Op → Type 0
+IsReading (op.Lookup path) = Unit {0}
+IsReading (op.Stat path) = Unit {0}
+IsReading (op.List path) = Unit {0}
+IsReading (op.Layout path) = Unit {0}
+IsReading _ = ⊥
+
+-- the operations that change something wherever they aren't refused: all others on names but `rename`, of
+-- two names of one inode, and `chmod`, to the mode that stands
+abbrev pub IsModifying : Op → Type 0
+IsModifying (op.Mkdir path) = Unit {0}
+IsModifying (op.Create path size count) = Unit {0}
+IsModifying (op.Link old new) = Unit {0}
+IsModifying (op.Unlink path) = Unit {0}
+IsModifying (op.Rmdir path) = Unit {0}
+IsModifying (op.Open path) = Unit {0}
+IsModifying (op.Close opened fid) = Unit {0}
+IsModifying _ = ⊥
+
+abbrev pub ReadingsChangeNothing : Type 0
+ReadingsChangeNothing = (osts : ℕ) (t : Tree) (a : Act) → IsReading a.op → changes osts t a ≡ false
+
+abbrev pub ModifyingMakeTransactions : Type 0
+ModifyingMakeTransactions = (osts : ℕ) (t : Tree) (a : Act) → IsModifying a.op → ((e : Errno) → answer osts t a ≡ Refused e → ⊥) → changes osts t a ≡ true
+
+-- the machine is the table, where the number of what makes a transaction is above all before it
+abbrev pub MachineIsTable : Type 0
+MachineIsTable =
+    (osts : ℕ) (m : Machine) (a : Act) → (changes osts m.tree a ≡ true → m.last < a.number.0)
+    → (machine.answer osts m a ≡ answer osts m.tree a) × ((machine.next osts m a).tree ≡ after osts m.tree a)
+
+-- the layout of a new file: its size and the number of its stripes, where they lie, and that it is one
+abbrev pub NewLayouts : Type 0
+NewLayouts =
+    (osts : ℕ) (number : Txn) (size : ℕ) (count : ℤ) (l : Raid0) → new_layout osts number size count ≡ Some l
+    → record {
+      size : l.size ≡ stripe_size size;
+      stripes : length l.targets ≡ stripe_count osts count;
+      places : (i : ℕ) → i < length l.targets → slice_index l.targets i ≡ 1 + (number.0 % 4294967296 + i) % osts;
+      sound : 0 < osts → osts ≤ 8 → IsLayout l;
     }
 
 -- `forget` drops the opens of that life and nothing else

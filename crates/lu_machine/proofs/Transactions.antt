@@ -1,0 +1,118 @@
+-- Which operations make transactions.
+use Rattle.std.proofs.Common.{◌≡◌, ℕ, ◌+◌, ◌<◌, Bool, true, false, List, [], ◌∷◌, ◌⊎◌, inl, inr, Option, Some, None, refl, sym, ap, ◌∙◌, arith}
+use Rattle.std.specs.Prelude.{◌&&◌, not, nat_lt, if◌then◌else◌}
+use Rattle.std.proofs.lemmas.Bool.{lt-ltb}
+use Rattle.lu_base.specs.declared.ids.Fid.{Fid}
+use Rattle.lu_base.specs.declared.ids.Txn.{Txn}
+use Rattle.lu_base.specs.declared.ids.Who.{Who}
+use Rattle.lu_layout.specs.Raid0.{Raid0}
+use Rattle.lu_msg.specs.declared.answers.Answer.{Answer}
+use Rattle.lu_msg.specs.declared.answers.Answer.TheVariants as told
+use Rattle.lu_msg.specs.declared.answers.Answer.TheVariants.{Refused}
+use Rattle.lu_msg.specs.declared.answers.Errno.{Errno}
+use Rattle.lu_msg.specs.declared.answers.Errno.TheVariants.{EEXIST, EISDIR, EBUSY, EBADF}
+use Rattle.lu_msg.specs.declared.operations.Op.{Op}
+use Rattle.lu_msg.specs.declared.operations.Op.TheVariants as op
+use Rattle.lu_machine.specs.declared.child.Child.{Child}
+use Rattle.lu_machine.specs.declared.child.Child.TheVariants.{Dir, File}
+use Rattle.lu_machine.specs.Tree.{Tree, child, listing}
+use Rattle.lu_machine.specs.Change.{Leads, Drops, Parted, SetLinks, Leaves}
+use Rattle.lu_machine.specs.Striping.{new_layout}
+use Rattle.lu_machine.specs.Plan.{Plan, LookAttr, Outcome, outcome}
+use Rattle.lu_machine.specs.Table.{root, absent, there, last_of, does, row_lookup, row_stat, row_list, row_layout, row_mkdir, row_create, row_link, row_unlink, if_empty, row_rmdir, row_open, plan}
+use Rattle.lu_machine.specs.Footprint as footprint
+use Rattle.lu_machine.specs.Footprint.{Act, is_some_change, changes, after}
+use Rattle.lu_machine.specs.Machine.{Machine, answer, next}
+use Rattle.lu_machine.specs.Laws.{IsReading, IsModifying, ReadingsChangeNothing, ModifyingMakeTransactions, MachineIsTable}
+use Rattle.lu_machine.proofs.Walks.{there_ends, absent_ends, if_empty_ends, walk_ends, to_last_ends}
+use Rattle.lu_machine.proofs.Stated.{unchanged_stay}
+
+abbrev Looks : Outcome → Type 0
+Looks o = is_some_change o.changes ≡ false
+
+looks_refused : (e : Errno) → Looks (record { answer = Refused e; grants = []; changes = [] })
+looks_refused e = refl
+
+module _ (t : Tree) where
+  stat_looks : (cs : List Child) (c : Child) → Looks (outcome t (row_stat cs c))
+  stat_looks cs (Dir d) = refl
+  stat_looks cs (File f) = refl
+
+  list_looks : (cs : List Child) (c : Child) → Looks (outcome t (row_list cs c))
+  list_looks cs (Dir d) = refl
+  list_looks cs (File f) = refl
+
+  layout_looks : (cs : List Child) (c : Child) → Looks (outcome t (row_layout cs c))
+  layout_looks cs (Dir d) = refl
+  layout_looks cs (File f) = refl
+
+  looks : (osts : ℕ) (number : Txn) (who : Who) (o : Op) → IsReading o → Looks (outcome t (plan osts number who o))
+  looks osts number who (op.Lookup path) r = walk_ends t Looks looks_refused root path (λ cs. row_lookup cs (last_of root cs)) (λ cs h. refl)
+  looks osts number who (op.Stat path) r = walk_ends t Looks looks_refused root path (λ cs. row_stat cs (last_of root cs)) (λ cs h. stat_looks cs (last_of root cs))
+  looks osts number who (op.List path) r = walk_ends t Looks looks_refused root path (λ cs. row_list cs (last_of root cs)) (λ cs h. list_looks cs (last_of root cs))
+  looks osts number who (op.Layout path) r = walk_ends t Looks looks_refused root path (λ cs. row_layout cs (last_of root cs)) (λ cs h. layout_looks cs (last_of root cs))
+  looks osts number who _ r = absurd r
+
+-- refused, or a transaction
+abbrev Acts : Outcome → Type 0
+Acts o = ((e : Errno) × (o.answer ≡ Refused e)) ⊎ (is_some_change o.changes ≡ true)
+
+acts_refused : (e : Errno) → Acts (record { answer = Refused e; grants = []; changes = [] })
+acts_refused e = inl (e, refl)
+
+module _ (t : Tree) where
+  create_acts : (number : Txn) (d : Fid) (n : List ℕ) (o : Option Raid0) → Acts (outcome t (row_create number d n o))
+  create_acts number d n None = acts_refused _
+  create_acts number d n (Some l) = inr refl
+
+  link_acts : (new : List (List ℕ)) (c : Child) → Acts (outcome t (row_link new c))
+  link_acts new (Dir d) = acts_refused _
+  link_acts new (File f) =
+      to_last_ends t Acts acts_refused EEXIST new (λ cs d n. absent (LookAttr (File f) (λ a. does told.Done (Leads d n (File f) ∷ SetLinks f (a.links + 1) ∷ []))))
+      (λ cs d n. absent_ends t Acts acts_refused (LookAttr (File f) (λ a. does told.Done (Leads d n (File f) ∷ SetLinks f (a.links + 1) ∷ []))) (child t d n) (λ _. inr refl))
+
+  unlink_acts : (d : Fid) (n : List ℕ) (c : Child) → Acts (outcome t (row_unlink d n c))
+  unlink_acts d n (Dir e) = acts_refused _
+  unlink_acts d n (File f) = inr refl
+
+  rmdir_acts : (d : Fid) (n : List ℕ) (c : Child) → Acts (outcome t (row_rmdir d n c))
+  rmdir_acts d n (File f) = acts_refused _
+  rmdir_acts d n (Dir e) = if_empty_ends t Acts acts_refused (listing t e) (does told.Done (Drops d n ∷ Parted e ∷ Leaves e ∷ [])) (λ _. inr refl)
+
+  open_acts : (number : Txn) (who : Who) (c : Child) → Acts (outcome t (row_open number who c))
+  open_acts number who (Dir d) = acts_refused _
+  open_acts number who (File f) = inr refl
+
+  acts : (osts : ℕ) (number : Txn) (who : Who) (o : Op) → IsModifying o → Acts (outcome t (plan osts number who o))
+  acts osts number who (op.Mkdir path) m = to_last_ends t Acts acts_refused EEXIST path (λ cs d n. absent (row_mkdir number d n)) (λ cs d n. absent_ends t Acts acts_refused (row_mkdir number d n) (child t d n) (λ _. inr refl))
+  acts osts number who (op.Create path size count) m =
+      to_last_ends t Acts acts_refused EEXIST path (λ cs d n. absent (row_create number d n (new_layout osts number size count)))
+      (λ cs d n. absent_ends t Acts acts_refused (row_create number d n (new_layout osts number size count)) (child t d n) (λ _. create_acts number d n (new_layout osts number size count)))
+  acts osts number who (op.Link old new) m = walk_ends t Acts acts_refused root old (λ cs. row_link new (last_of root cs)) (λ cs h. link_acts new (last_of root cs))
+  acts osts number who (op.Unlink path) m = to_last_ends t Acts acts_refused EISDIR path (λ cs d n. there (row_unlink d n)) (λ cs d n. there_ends t Acts acts_refused (row_unlink d n) (child t d n) (λ c is. unlink_acts d n c))
+  acts osts number who (op.Rmdir path) m = to_last_ends t Acts acts_refused EBUSY path (λ cs d n. there (row_rmdir d n)) (λ cs d n. there_ends t Acts acts_refused (row_rmdir d n) (child t d n) (λ c is. rmdir_acts d n c))
+  acts osts number who (op.Open path) m = walk_ends t Acts acts_refused root path (λ cs. row_open number who (last_of root cs)) (λ cs h. open_acts number who (last_of root cs))
+  acts osts number who (op.Close opened fid) m = inr refl
+  acts osts number who _ m = absurd m
+
+pub readings_change_nothing : ReadingsChangeNothing
+readings_change_nothing osts t a r = looks t osts a.number a.who a.op r
+
+pub modifying_make_transactions : ModifyingMakeTransactions
+modifying_make_transactions osts t a m not_refused = by (acts t osts a.number a.who a.op m)
+  where
+    by : Acts (footprint.outcome_of osts t a) → changes osts t a ≡ true
+    by (inl r) = absurd (not_refused r.0 r.1)
+    by (inr h) = h
+
+pub machine_is_table : MachineIsTable
+machine_is_table osts m a above = by (changes osts m.tree a) refl
+  where
+    by : (v : Bool) → changes osts m.tree a ≡ v → (answer osts m a ≡ footprint.answer osts m.tree a) × ((next osts m a).tree ≡ after osts m.tree a)
+    by false e =
+        let s : (changes osts m.tree a && not (nat_lt m.last a.number.0)) ≡ false = ap (λ v. v && not (nat_lt m.last a.number.0)) e in
+        (ap (λ v. if v then Refused EBADF else footprint.answer osts m.tree a) s, ap (λ v. if v then m.tree else after osts m.tree a) s)
+    by true e =
+        let l : nat_lt m.last a.number.0 ≡ true = lt-ltb m.last a.number.0 (above e) in
+        let s : (changes osts m.tree a && not (nat_lt m.last a.number.0)) ≡ false = ap (λ v. v && not (nat_lt m.last a.number.0)) e ∙ ap not l in
+        (ap (λ v. if v then Refused EBADF else footprint.answer osts m.tree a) s, ap (λ v. if v then m.tree else after osts m.tree a) s)
