@@ -19,7 +19,7 @@ use Rattle.lu_machine.specs.Plan.{Outcome}
 use Rattle.lu_machine.specs.Table.{plan}
 use Rattle.lu_machine.specs.Footprint.{Act, empty, after, outcome_of, touches, forget, Every, Apart}
 use Rattle.lu_machine.specs.Removal.{Item, Acts, Forgets, pick, contents, Clear, ClearOf, Untouched, UntouchedOf, Free, FreeOf}
-use Rattle.lu_machine.specs.Trim.{is_open, living, trim, trimmed, Above, Rising, Unseen, TrimmedRemoval}
+use Rattle.lu_machine.specs.Trim.{is_open, living, trim, trimmed, Above, Rising, Unseen, TrimmedRemoval, NamedHaveLinks}
 use Rattle.lu_machine.proofs.Effects.{file_put}
 use Rattle.lu_machine.proofs.Footprints.{every_map, every_one}
 use Rattle.lu_machine.proofs.Knows.{Bound, bound, plan_knows}
@@ -201,3 +201,6 @@ trimmed_removal osts keep root past r f a h =
       grants = sym one.grants ∙ two.grants ∙ three.grants;
       changes = sym one.changes ∙ two.changes ∙ three.changes;
     }
+
+pub named_have_links : NamedHaveLinks
+named_have_links osts past r d n f is = alive (contents osts empty past) (last past) (sound osts past r) d n (File f) is

@@ -1,9 +1,10 @@
 -- A tree whose files live only as long as a name or an open has them. The tree of the table keeps the
 -- record of a file that has left; nobody can tell the two apart.
-use Rattle.std.specs.Prelude.{◌≡◌, ℕ, ◌<◌, Bool, true, false, List, [], ◌∷◌, ◌||◌, nat_lt}
+use Rattle.std.specs.Prelude.{◌≡◌, ℕ, ◌<◌, Bool, true, false, List, [], ◌∷◌, Some, ◌||◌, nat_lt}
 use Rattle.std.specs.List.{filter, list_any}
 use Rattle.lu_base.specs.declared.ids.Fid.{Fid}
-use Rattle.lu_machine.specs.Tree.{Tree, Inode, Opened, same_fid}
+use Rattle.lu_machine.specs.declared.child.Child.TheVariants.{File}
+use Rattle.lu_machine.specs.Tree.{Tree, Inode, Opened, same_fid, file, child}
 use Rattle.lu_machine.specs.Footprint.{Act, empty, after, forget}
 use Rattle.lu_machine.specs.Removal.{Item, Acts, Forgets, pick, contents, UntouchedOf, FreeOf}
 use Rattle.lu_machine.specs.Laws.{Alike}
@@ -44,3 +45,7 @@ abbrev pub TrimmedRemoval : Type 0
 TrimmedRemoval =
     (osts : ℕ) (keep : ℕ → Bool) → keep 1 ≡ true → (past : List Item) → Rising past → FreeOf osts keep (trimmed osts) past → (a : Act) → UntouchedOf osts keep (trimmed osts) past a
     → Alike osts (trimmed osts past) (trimmed osts (pick keep past)) a
+
+-- a file that a name leads to has a link
+abbrev pub NamedHaveLinks : Type 0
+NamedHaveLinks = (osts : ℕ) (past : List Item) → Rising past → (d : Fid) (n : List ℕ) (f : Fid) → child (contents osts empty past) d n ≡ Some (File f) → 0 < (file (contents osts empty past) f).links

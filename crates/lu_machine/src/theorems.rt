@@ -1,8 +1,9 @@
 //! The laws. Each function does nothing: its contract is a theorem over the definitions of `specs/`.
 
-ghost use Rattle.lu_machine.specs.Laws.{TouchedDecide, OthersStay, MadeHasNumber, NewFromOld, RefusalsStay, UnchangedStay, TransactionsGrantNothing, NumberIsFree, ForgetDropsOpens, LeadsStay, RemovalLaw, RemovalAgrees, EarlierAreOlder};
+ghost use Rattle.lu_machine.specs.Laws.{TouchedDecide, OthersStay, MadeHasNumber, NewFromOld, RefusalsStay, UnchangedStay, TransactionsGrantNothing, ReadingsChangeNothing, ModifyingMakeTransactions, MachineIsTable, NewLayouts, NumberIsFree, ForgetDropsOpens, LeadsStay, RemovalLaw, RemovalAgrees, EarlierAreOlder};
+ghost use Rattle.lu_machine.specs.Order.{OrderStays, ListsNames, ByteOrderIsOne};
 ghost use Rattle.lu_machine.specs.Seen.{RemovalBySeen, TrimmedRemovalBySeen};
-ghost use Rattle.lu_machine.specs.Trim.{Unseen, TrimmedRemoval};
+ghost use Rattle.lu_machine.specs.Trim.{Unseen, TrimmedRemoval, NamedHaveLinks};
 
 /// The laws of footprints: what an operation on names touches decides all that comes of it.
 pub fn footprints()
@@ -18,6 +19,8 @@ pub fn transactions()
     ensures refusals { RefusalsStay }
     ensures unchanged { UnchangedStay }
     ensures grants { TransactionsGrantNothing }
+    ensures readings { ReadingsChangeNothing }
+    ensures modifying { ModifyingMakeTransactions }
 {}
 
 /// A life's opens go, and nothing else.
@@ -43,4 +46,23 @@ pub fn trimming()
     ensures unseen { Unseen }
     ensures removal { TrimmedRemoval }
     ensures seen { TrimmedRemovalBySeen }
+    ensures links { NamedHaveLinks }
+{}
+
+/// The lists of a tree stay in order, and a listing has the names that lead somewhere, in the order of
+/// their bytes: there is one such list.
+pub fn ordering()
+    ensures stays { OrderStays }
+    ensures names { ListsNames }
+    ensures one { ByteOrderIsOne }
+{}
+
+/// The stripes of a new file lie on different targets, in turn from the one that its number picks.
+pub fn striping()
+    ensures { NewLayouts }
+{}
+
+/// The plain machine answers by the table, but where a transaction's number was passed before.
+pub fn machine()
+    ensures { MachineIsTable }
 {}

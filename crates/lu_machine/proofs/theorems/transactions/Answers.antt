@@ -1,5 +1,13 @@
 use Rattle.lu_machine.proofs.Stated.{refusals_stay, unchanged_stay, transactions_grant_nothing}
+use Rattle.lu_machine.proofs.Transactions.{readings_change_nothing, modifying_make_transactions}
 use Rattle.lu_machine.proofs.theorems.transactions.Goals as goal
 
 pub returns : goal.returns
-returns c = record { refusals = refusals_stay; unchanged = unchanged_stay; grants = transactions_grant_nothing }
+returns c =
+    record {
+      refusals = refusals_stay;
+      unchanged = unchanged_stay;
+      grants = transactions_grant_nothing;
+      readings = readings_change_nothing;
+      modifying = modifying_make_transactions;
+    }
