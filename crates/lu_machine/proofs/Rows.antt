@@ -9,8 +9,7 @@ use Rattle.lu_msg.specs.declared.answers.Answer.TheVariants as told
 use Rattle.lu_msg.specs.declared.answers.Errno.TheVariants.{ENOENT, EEXIST, ENOTDIR, EISDIR, ENOTEMPTY, EPERM, EINVAL, EBUSY, EBADF, ENAMETOOLONG}
 use Rattle.lu_msg.specs.declared.operations.Op.{Op}
 use Rattle.lu_msg.specs.declared.operations.Op.TheVariants as op
-use Rattle.lu_machine.specs.Footprint.{Act}
-use Rattle.lu_machine.specs.Machine.{start, answers}
+use Rattle.lu_machine.specs.Machine.{Item, Names, start, answers}
 
 -- the number of a transaction of boot 1
 abbrev number : ℕ → Txn
@@ -25,8 +24,8 @@ none = record { 0 = 0 }
 abbrev me : Who
 me = record { client = 0; life = 1 }
 
-abbrev act : Txn → Op → Act
-act n o = record { number = n; who = me; op = o }
+abbrev act : Txn → Op → Item
+act n o = record { who = me; number = n; deed = Names o }
 
 abbrev a : List ℕ
 a = codes "a"
@@ -40,7 +39,7 @@ f = codes "f"
 abbrev g : List ℕ
 g = codes "g"
 
-abbrev acts : List Act
+abbrev acts : List Item
 acts =
     act (number 1) (op.Mkdir (a ∷ []))
     ∷ act (number 2) (op.Create (f ∷ []) 1048576 (pos 1))

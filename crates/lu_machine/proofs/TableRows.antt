@@ -34,6 +34,9 @@ me = record { client = 0; life = 1 }
 abbrev act : ℕ → Op → Act
 act count o = record { number = number count; who = me; op = o }
 
+abbrev item : ℕ → Op → machine.Item
+item count o = record { who = me; number = number count; deed = machine.Names o }
+
 abbrev a : List ℕ
 a = codes "a"
 
@@ -66,11 +69,11 @@ too_long = replicate 256 97
 abbrev built : machine.Machine
 built =
     machine.run 4 machine.start
-    (act 1 (op.Mkdir (b ∷ []))
-    ∷ act 2 (op.Create (f ∷ []) 65536 (pos 2))
-    ∷ act 3 (op.Create (b ∷ x ∷ []) 0 (pos 0))
-    ∷ act 4 (op.Mkdir (e ∷ []))
-    ∷ act 5 (op.Link (f ∷ []) (g ∷ []))
+    (item 1 (op.Mkdir (b ∷ []))
+    ∷ item 2 (op.Create (f ∷ []) 65536 (pos 2))
+    ∷ item 3 (op.Create (b ∷ x ∷ []) 0 (pos 0))
+    ∷ item 4 (op.Mkdir (e ∷ []))
+    ∷ item 5 (op.Link (f ∷ []) (g ∷ []))
     ∷ [])
 
 abbrev now : Tree
@@ -432,7 +435,7 @@ close_writes = refl
 -- ---- a file without names is there for its opens, and no name leads to it
 
 abbrev unlinked : Tree
-unlinked = (machine.run 4 machine.start (act 1 (op.Create (f ∷ []) 0 (pos 0)) ∷ act 2 (op.Open (f ∷ [])) ∷ act 3 (op.Unlink (f ∷ [])) ∷ [])).tree
+unlinked = (machine.run 4 machine.start (item 1 (op.Create (f ∷ []) 0 (pos 0)) ∷ item 2 (op.Open (f ∷ [])) ∷ item 3 (op.Unlink (f ∷ [])) ∷ [])).tree
 
 gone : footprint.answer 4 unlinked (act 0 (op.Lookup (f ∷ []))) ≡ Refused ENOENT
 gone = refl
@@ -457,20 +460,20 @@ not_on_names = refl
 
 -- ---- the machine refuses a transaction under a number that was passed, and answers a reading under any
 
-stale : machine.answer 4 built (act 5 (op.Mkdir (a ∷ []))) ≡ Refused EBADF
+stale : machine.answer 4 built (item 5 (op.Mkdir (a ∷ []))) ≡ Refused EBADF
 stale = refl
 
-stale_stays : (machine.next 4 built (act 5 (op.Mkdir (a ∷ [])))).tree ≡ now
+stale_stays : (machine.next 4 built (item 5 (op.Mkdir (a ∷ [])))).tree ≡ now
 stale_stays = refl
 
-fresh : machine.answer 4 built (act 6 (op.Mkdir (a ∷ []))) ≡ told.Made (at 6)
+fresh : machine.answer 4 built (item 6 (op.Mkdir (a ∷ []))) ≡ told.Made (at 6)
 fresh = refl
 
-refused_first : machine.answer 4 built (act 5 (op.Mkdir (f ∷ []))) ≡ Refused EEXIST
+refused_first : machine.answer 4 built (item 5 (op.Mkdir (f ∷ []))) ≡ Refused EEXIST
 refused_first = refl
 
-reads : machine.answer 4 built (record { number = record { 0 = 0 }; who = me; op = op.Lookup (f ∷ []) }) ≡ told.File (at 2)
+reads : machine.answer 4 built (record { who = me; number = record { 0 = 0 }; deed = machine.Names (op.Lookup (f ∷ [])) }) ≡ told.File (at 2)
 reads = refl
 
-root_number : machine.answer 4 machine.start (record { number = record { 0 = 1 }; who = me; op = op.Mkdir (a ∷ []) }) ≡ Refused EBADF
+root_number : machine.answer 4 machine.start (record { who = me; number = record { 0 = 1 }; deed = machine.Names (op.Mkdir (a ∷ [])) }) ≡ Refused EBADF
 root_number = refl

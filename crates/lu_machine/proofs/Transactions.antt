@@ -22,7 +22,7 @@ use Rattle.lu_machine.specs.Plan.{Plan, LookAttr, Outcome, outcome}
 use Rattle.lu_machine.specs.Table.{root, absent, there, last_of, does, row_lookup, row_stat, row_list, row_layout, row_mkdir, row_create, row_link, row_unlink, if_empty, row_rmdir, row_open, plan}
 use Rattle.lu_machine.specs.Footprint as footprint
 use Rattle.lu_machine.specs.Footprint.{Act, is_some_change, changes, after}
-use Rattle.lu_machine.specs.Machine.{Machine, answer, next}
+use Rattle.lu_machine.specs.Machine.{Machine, is_stale, as_told, names_answer, names_next}
 use Rattle.lu_machine.specs.Laws.{IsReading, IsModifying, ReadingsChangeNothing, ModifyingMakeTransactions, MachineIsTable}
 use Rattle.lu_machine.proofs.Walks.{there_ends, absent_ends, if_empty_ends, walk_ends, to_last_ends}
 use Rattle.lu_machine.proofs.Stated.{unchanged_stay}
@@ -108,11 +108,14 @@ modifying_make_transactions osts t a m not_refused = by (acts t osts a.number a.
 pub machine_is_table : MachineIsTable
 machine_is_table osts m a above = by (changes osts m.tree a) refl
   where
-    by : (v : Bool) → changes osts m.tree a ≡ v → (answer osts m a ≡ footprint.answer osts m.tree a) × ((next osts m a).tree ≡ after osts m.tree a)
-    by false e =
-        let s : (changes osts m.tree a && not (nat_lt m.last a.number.0)) ≡ false = ap (λ v. v && not (nat_lt m.last a.number.0)) e in
-        (ap (λ v. if v then Refused EBADF else footprint.answer osts m.tree a) s, ap (λ v. if v then m.tree else after osts m.tree a) s)
+    now : Answer
+    now = as_told m (footprint.answer osts m.tree a)
+
+    both : is_stale osts m a ≡ false → (names_answer osts m a ≡ now) × ((names_next osts m a).tree ≡ after osts m.tree a)
+    both s = (ap (λ v. if v then Refused EBADF else now) s, ap (λ v. if v then m.tree else after osts m.tree a) s)
+
+    by : (v : Bool) → changes osts m.tree a ≡ v → (names_answer osts m a ≡ now) × ((names_next osts m a).tree ≡ after osts m.tree a)
+    by false e = both (ap (λ v. v && not (nat_lt m.last a.number.0)) e)
     by true e =
         let l : nat_lt m.last a.number.0 ≡ true = lt-ltb m.last a.number.0 (above e) in
-        let s : (changes osts m.tree a && not (nat_lt m.last a.number.0)) ≡ false = ap (λ v. v && not (nat_lt m.last a.number.0)) e ∙ ap not l in
-        (ap (λ v. if v then Refused EBADF else footprint.answer osts m.tree a) s, ap (λ v. if v then m.tree else after osts m.tree a) s)
+        both (ap (λ v. v && not (nat_lt m.last a.number.0)) e ∙ ap not l)

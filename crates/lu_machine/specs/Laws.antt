@@ -100,7 +100,7 @@ ModifyingMakeTransactions = (osts : ℕ) (t : Tree) (a : Act) → IsModifying a.
 abbrev pub MachineIsTable : Type 0
 MachineIsTable =
     (osts : ℕ) (m : Machine) (a : Act) → (changes osts m.tree a ≡ true → m.last < a.number.0)
-    → (machine.answer osts m a ≡ answer osts m.tree a) × ((machine.next osts m a).tree ≡ after osts m.tree a)
+    → (machine.names_answer osts m a ≡ machine.as_told m (answer osts m.tree a)) × ((machine.names_next osts m a).tree ≡ after osts m.tree a)
 
 -- the layout of a new file: its size and the number of its stripes, where they lie, and that it is one
 abbrev pub NewLayouts : Type 0

@@ -7,6 +7,7 @@ pub mod Striping
 pub mod Plan
 pub mod Table
 pub mod Footprint
+pub mod Bytes
 pub mod Machine
 pub mod Removal
 pub mod Laws

@@ -1,38 +1,132 @@
--- The plain machine on names: one tree, and one act after another. It has no targets, caches or locks.
-use Rattle.std.specs.Prelude.{ℕ, max, Bool, not, List, [], ◌∷◌, ◌&&◌, nat_lt, if◌then◌else◌}
+-- The plain machine: one tree, and the bytes of each file. It answers one act after another, and has no
+-- targets, caches or locks.
+use Rattle.std.specs.Prelude.{ℕ, max, Bool, false, not, List, [], ◌∷◌, length, ◌&&◌, nat_lt, is_some, if◌then◌else◌}
+use Rattle.std.specs.Map.{lookup}
+use Rattle.std.specs.Option.{unwrap_or}
+use Rattle.lu_base.specs.declared.ids.Fid.{Fid}
+use Rattle.lu_base.specs.declared.ids.Txn.{Txn}
+use Rattle.lu_base.specs.declared.ids.Who.{Who}
 use Rattle.lu_msg.specs.declared.answers.Answer.{Answer}
-use Rattle.lu_msg.specs.declared.answers.Answer.TheVariants.{Refused}
+use Rattle.lu_msg.specs.declared.answers.Answer.TheVariants as told
 use Rattle.lu_msg.specs.declared.answers.Errno.TheVariants.{EBADF}
-use Rattle.lu_machine.specs.Tree.{Tree}
+use Rattle.lu_msg.specs.declared.calls.Call.{Call}
+use Rattle.lu_msg.specs.declared.calls.Call.TheVariants as call
+use Rattle.lu_msg.specs.declared.operations.Op.{Op}
+use Rattle.lu_msg.specs.declared.operations.Op.TheVariants as op
+use Rattle.lu_machine.specs.Entries.{without, place}
+use Rattle.lu_machine.specs.Tree.{Tree, same_fid, fid_cmp, layout}
+use Rattle.lu_machine.specs.Bytes.{FileBytes, size_of, read, write, cut, put_piece, cut_piece, object_size}
 use Rattle.lu_machine.specs.Footprint as footprint
 use Rattle.lu_machine.specs.Footprint.{Act, empty, changes, after}
 
--- the tree, and the greatest number of an operation on names so far; the root's, 1, is used from the first
+-- `last` is the greatest number of an operation on names so far; that of the root, 1, is used from the first.
+-- A file's bytes stay when no name leads to it any longer.
 pub record Machine : Type 0 where
   pub tree : Tree
   pub last : ℕ
+  pub bytes : List (Fid × FileBytes)
 
 abbrev pub start : Machine
-start = record { tree = empty; last = 1 }
+start = record { tree = empty; last = 1; bytes = [] }
+
+-- an operation on names; a read, write, cut or flush of a file, whatever its handle; a put or cut of an object
+pub data Deed : Type 0 where
+  Names : (op : Op) → Deed
+  Data : (fid : Fid) (call : Call) → Deed
+  Piece : (op : Op) → Deed
+
+pub record Item : Type 0 where
+  pub who : Who
+  pub number : Txn
+  pub deed : Deed
+
+abbrev pub bytes_of : Machine → Fid → FileBytes
+bytes_of m f = unwrap_or (lookup (same_fid f) m.bytes) []
+
+abbrev pub with_bytes : Machine → Fid → FileBytes → Machine
+with_bytes m f b = record m { bytes = place fid_cmp f b (without (same_fid f) m.bytes) }
+
+-- whether it is or was a file
+abbrev pub was_file : Machine → Fid → Bool
+was_file m f = is_some (lookup (same_fid f) m.tree.files)
+
+-- ---- operations on names
 
 module _ (osts : ℕ) (m : Machine) (a : Act) where
-  -- it would make a transaction under a number that isn't above all before it
+  -- it would make a transaction under a number that isn't above all before it: the machine refuses it with
+  -- EBADF, which is no answer that is told to an operation on names
   abbrev pub is_stale : Bool
   is_stale = changes osts m.tree a && not (nat_lt m.last a.number.0)
 
-  -- no answer that is told is EBADF, but that of a call on a handle that isn't bound
+  abbrev pub names_next : Machine
+  names_next = record m { tree = if is_stale then m.tree else after osts m.tree a; last = max m.last a.number.0 }
+
+-- what the user is told: of an open the file, of a file's attributes its size
+abbrev pub as_told : Machine → Answer → Answer
+as_told m (told.OpenFile fid txn layout) = told.Made fid
+as_told m (told.FileStat fid mode links layout) = told.FileSize fid mode links (size_of (bytes_of m fid))
+as_told m answer = answer
+
+abbrev pub names_answer : ℕ → Machine → Act → Answer
+names_answer osts m a = if is_stale osts m a then told.Refused EBADF else as_told m (footprint.answer osts m.tree a)
+
+-- ---- bytes: what never was a file has none, and keeps none
+
+abbrev pub data_answer : Machine → Fid → Call → Answer
+data_answer m f (call.Read handle offset count) = told.Content (read (bytes_of m f) offset count)
+data_answer m f (call.Write handle offset bytes) = told.Done
+data_answer m f (call.Cut handle n) = told.Done
+data_answer m f (call.Flush handle) = told.Done
+data_answer m f _ = told.Refused EBADF
+
+abbrev pub data_change : Machine → Fid → Call → FileBytes → FileBytes
+data_change m f (call.Write handle offset bytes) b = write offset bytes b
+data_change m f (call.Cut handle n) b = cut (layout m.tree f) n b
+data_change m f _ b = b
+
+abbrev pub changed_bytes : Machine → Fid → (FileBytes → FileBytes) → Machine
+changed_bytes m f g = if was_file m f then with_bytes m f (g (bytes_of m f)) else m
+
+-- nor does a piece on a stripe that the file's layout lacks
+abbrev pub piece_bytes : Machine → Fid → ℕ → (FileBytes → FileBytes) → Machine
+piece_bytes m f stripe g = if nat_lt stripe (length (layout m.tree f).targets) then changed_bytes m f g else m
+
+abbrev pub piece_next : Machine → Op → Machine
+piece_next m (op.Put resource cookie offset bytes) = piece_bytes m resource.fid resource.stripe (put_piece (layout m.tree resource.fid) resource.stripe offset bytes)
+piece_next m (op.Cut resource cookie n) = piece_bytes m resource.fid resource.stripe (cut_piece (layout m.tree resource.fid) resource.stripe n)
+piece_next m _ = m
+
+-- ---- one act
+
+abbrev pub on_names : Item → Op → Act
+on_names i o = record { number = i.number; who = i.who; op = o }
+
+abbrev pub answer_to : ℕ → Machine → Item → Deed → Answer
+answer_to osts m i (Names o) = names_answer osts m (on_names i o)
+answer_to osts m i (Data f c) = data_answer m f c
+answer_to osts m i (Piece o) = told.Done
+
+abbrev pub next_after : ℕ → Machine → Item → Deed → Machine
+next_after osts m i (Names o) = names_next osts m (on_names i o)
+next_after osts m i (Data f c) = changed_bytes m f (data_change m f c)
+next_after osts m i (Piece o) = piece_next m o
+
+module _ (osts : ℕ) (m : Machine) (i : Item) where
   abbrev pub answer : Answer
-  answer = if is_stale then Refused EBADF else footprint.answer osts m.tree a
+  answer = answer_to osts m i i.deed
 
   abbrev pub next : Machine
-  next = record { tree = if is_stale then m.tree else after osts m.tree a; last = max m.last a.number.0 }
+  next = next_after osts m i i.deed
 
--- the answers to acts, the first act first
-abbrev pub answers : ℕ → Machine → List Act → List Answer
+-- the size of an object, by the machine's bytes
+abbrev pub object_bytes : Machine → Fid → ℕ → ℕ
+object_bytes m f stripe = object_size (layout m.tree f) stripe (bytes_of m f)
+
+-- the answers to acts, and the machine after them, the first act first
+abbrev pub answers : ℕ → Machine → List Item → List Answer
 answers osts m [] = []
-answers osts m (a ∷ acts) = answer osts m a ∷ answers osts (next osts m a) acts
+answers osts m (i ∷ is) = answer osts m i ∷ answers osts (next osts m i) is
 
--- the machine after acts, the first act first
-abbrev pub run : ℕ → Machine → List Act → Machine
+abbrev pub run : ℕ → Machine → List Item → Machine
 run osts m [] = m
-run osts m (a ∷ acts) = run osts (next osts m a) acts
+run osts m (i ∷ is) = run osts (next osts m i) is
