@@ -18,3 +18,5 @@ pub mod Sorted
 pub mod Ordered
 pub mod Transactions
 pub mod Layouts
+pub mod Covered
+pub mod ByteRows

@@ -14,3 +14,4 @@ pub mod Laws
 pub mod Trim
 pub mod Seen
 pub mod Order
+pub mod Covered

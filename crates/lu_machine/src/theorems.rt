@@ -1,5 +1,6 @@
 //! The laws. Each function does nothing: its contract is a theorem over the definitions of `specs/`.
 
+ghost use Rattle.lu_machine.specs.Covered.{LocksCover, AboveIsNew};
 ghost use Rattle.lu_machine.specs.Laws.{TouchedDecide, OthersStay, MadeHasNumber, NewFromOld, RefusalsStay, UnchangedStay, TransactionsGrantNothing, ReadingsChangeNothing, ModifyingMakeTransactions, MachineIsTable, NewLayouts, NumberIsFree, ForgetDropsOpens, LeadsStay, RemovalLaw, RemovalAgrees, EarlierAreOlder};
 ghost use Rattle.lu_machine.specs.Order.{OrderStays, ListsNames, ByteOrderIsOne};
 ghost use Rattle.lu_machine.specs.Seen.{RemovalBySeen, TrimmedRemovalBySeen};
@@ -65,4 +66,10 @@ pub fn striping()
 /// The plain machine answers by the table, but where a transaction's number was passed before.
 pub fn machine()
     ensures { MachineIsTable }
+{}
+
+/// An answer to a reading stays true until a transaction writes what the locks that came with it guard.
+pub fn coverage()
+    ensures locks { LocksCover }
+    ensures new { AboveIsNew }
 {}
