@@ -20,3 +20,4 @@ pub mod Transactions
 pub mod Layouts
 pub mod Covered
 pub mod ByteRows
+pub mod Bytes

@@ -15,3 +15,4 @@ pub mod Trim
 pub mod Seen
 pub mod Order
 pub mod Covered
+pub mod ByteLaws

@@ -1,5 +1,6 @@
 //! The laws. Each function does nothing: its contract is a theorem over the definitions of `specs/`.
 
+ghost use Rattle.lu_machine.specs.ByteLaws.{SizeIsEnd, WritePuts, CutEnds, PiecePuts, PieceCuts};
 ghost use Rattle.lu_machine.specs.Covered.{LocksCover, AboveIsNew};
 ghost use Rattle.lu_machine.specs.Laws.{TouchedDecide, OthersStay, MadeHasNumber, NewFromOld, RefusalsStay, UnchangedStay, TransactionsGrantNothing, ReadingsChangeNothing, ModifyingMakeTransactions, MachineIsTable, NewLayouts, NumberIsFree, ForgetDropsOpens, LeadsStay, RemovalLaw, RemovalAgrees, EarlierAreOlder};
 ghost use Rattle.lu_machine.specs.Order.{OrderStays, ListsNames, ByteOrderIsOne};
@@ -72,4 +73,13 @@ pub fn machine()
 pub fn coverage()
     ensures locks { LocksCover }
     ensures new { AboveIsNew }
+{}
+
+/// The bytes of a file, position by position: writes, cuts, and what reaches one object.
+pub fn bytes()
+    ensures size { SizeIsEnd }
+    ensures write { WritePuts }
+    ensures cut { CutEnds }
+    ensures put_piece { PiecePuts }
+    ensures cut_piece { PieceCuts }
 {}
