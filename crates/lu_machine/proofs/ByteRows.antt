@@ -1,17 +1,16 @@
 -- The machine's bytes, computed: an unlinked file that is still read, cuts and their zero bytes, and pieces.
-use Rattle.std.proofs.Common.{◌≡◌, ℕ, ◌+◌, List, [], ◌∷◌, Some, None, refl, pos}
+use Rattle.std.proofs.Common.{◌≡◌, ℕ, ◌+◌, List, [], ◌∷◌, refl, pos}
 use Rattle.std.specs.Prelude.{codes}
 use Rattle.lu_base.specs.declared.ids.Fid.{Fid}
 use Rattle.lu_base.specs.declared.ids.Txn.{Txn}
 use Rattle.lu_base.specs.declared.ids.Who.{Who}
 use Rattle.lu_layout.specs.Raid0.{Raid0, stripe_of, offset_of, position_of, below_of}
-use Rattle.lu_msg.specs.declared.answers.Answer.{Answer}
 use Rattle.lu_msg.specs.declared.answers.Answer.TheVariants as told
 use Rattle.lu_msg.specs.declared.answers.Errno.TheVariants.{ENOENT}
 use Rattle.lu_msg.specs.declared.calls.Call.TheVariants as call
 use Rattle.lu_msg.specs.declared.operations.Op.TheVariants as op
-use Rattle.lu_machine.specs.Bytes.{byte_at, size_of, read, write, cut, put_piece, cut_piece, object_size}
-use Rattle.lu_machine.specs.Machine.{Machine, Deed, Names, Data, Piece, Item, start, answers, run, object_bytes}
+use Rattle.lu_machine.specs.Bytes.{write, cut, put_piece, cut_piece, object_size}
+use Rattle.lu_machine.specs.Machine.{Deed, Names, Data, Piece, Item, start, answers, run}
 
 abbrev me : Who
 me = record { client = 0; life = 1 }

@@ -1,8 +1,7 @@
 -- The machine's bytes, position by position.
-use Rattle.std.proofs.Common.{◌≡◌, ◌≢◌, ℕ, zero, suc, ◌+◌, ◌-◌, ◌<◌, ◌≤◌, max, ◌⊎◌, inl, inr, Bool, true, false, not, List, [], ◌∷◌, Option, Some, None, refl, sym, ap, subst, ◌∙◌, ⊎_elim, arith, length, is_some, nat_eq, nat_lt, nat_le, add-zero, add-one}
-use Rattle.std.specs.Prelude.{◌==◌, ◌&&◌, slice_index, if◌then◌else◌}
+use Rattle.std.proofs.Common.{◌≡◌, ◌≢◌, ℕ, zero, suc, ◌+◌, ◌-◌, ◌<◌, ◌≤◌, max, ◌⊎◌, inl, inr, Bool, true, false, not, List, [], ◌∷◌, Option, Some, None, refl, sym, ap, subst, ◌∙◌, ⊎_elim, arith, length, is_some, nat_eq, nat_lt, nat_le, add-zero}
+use Rattle.std.specs.Prelude.{◌&&◌, slice_index, if◌then◌else◌}
 use Rattle.std.specs.List.{filter, fold, range_with_len}
-use Rattle.std.specs.Map.{lookup}
 use Rattle.std.specs.Ordering.{nat_cmp}
 use Rattle.std.proofs.lemmas.Bool.{eq-eqb}
 use Rattle.std.proofs.lemmas.Bool.Decides.{nat_tests}
@@ -10,7 +9,6 @@ use Rattle.lu_layout.specs.Raid0.{Raid0, stripe_of, offset_of, position_of, belo
 use Rattle.lu_layout.specs.Sound.{IsLayout}
 use Rattle.lu_layout.proofs.Below.{IsCount, IsCount-below_of}
 use Rattle.lu_layout.proofs.Places.{stripe_of-position_of, offset_of-position_of, position_of-place, stripe_of-lt, position_of-lt}
-use Rattle.lu_machine.specs.Entries.{without, place}
 use Rattle.lu_machine.specs.Bytes.{FileBytes, byte_at, size_of, put_byte, put_bytes, write, end_stripe, cut, put_piece, is_past, cut_piece}
 use Rattle.lu_machine.specs.ByteLaws.{SizeIsEnd, WritePuts, CutEnds, PiecePuts, PieceCuts}
 use Rattle.lu_machine.proofs.Keys.{Told, find-put}

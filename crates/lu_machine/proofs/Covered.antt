@@ -26,9 +26,9 @@ use Rattle.lu_machine.specs.Name.{is_too_long}
 use Rattle.lu_machine.specs.Tree.{Tree, Attributes, same_fid, fid_of, child, listing, attributes, layout}
 use Rattle.lu_machine.specs.Plan.{Plan, Refuse, Outcome, outcome}
 use Rattle.lu_machine.specs.Table.{root, look_in, there, walk, last_of, wants, row_lookup, row_stat, row_list, row_layout, plan}
-use Rattle.lu_machine.specs.Footprint.{Act, empty, writes, after, Same, Every, Apart, inode_of}
+use Rattle.lu_machine.specs.Footprint.{Act, writes, after, Same, Every, Apart, inode_of}
 use Rattle.lu_machine.specs.Laws.{IsReading}
-use Rattle.lu_machine.specs.Removal.{Item, Acts, Forgets, contents}
+use Rattle.lu_machine.specs.Removal.{Item, Acts, Forgets}
 use Rattle.lu_machine.specs.Trim.{Above}
 use Rattle.lu_machine.specs.Laws.{AllKept}
 use Rattle.lu_machine.specs.Covered.{cuts, Uncut, IsNew, LocksCover, AboveIsNew}
@@ -174,8 +174,7 @@ module _ (osts : ℕ) (t : Tree) (a : Act) (new : IsNew t a.number) where
       (parents (writes osts t a) UPDATE refl cs u, ap (λ (x : Attributes). told.DirStat f x.mode) (sym s.0))
   stat_row cs (File f) is n h u =
       let s = at_last 5 UPDATE cs (File f) (part.Attr f) is n refl (refl, refl, tt) refl refl u in
-      let l : layout t f ≡ layout (after osts t a) f = at_last 5 LAYOUT cs (File f) (part.Layout f) is n refl (refl, refl, tt) refl refl u in
-      (
+      let l : layout t f ≡ layout (after osts t a) f = at_last 5 LAYOUT cs (File f) (part.Layout f) is n refl (refl, refl, tt) refl refl u in (
         parents (writes osts t a) (UPDATE + LAYOUT) refl cs u,
         sym (ap (λ (x : Attributes). told.FileStat f x.mode x.links (layout t f)) s.1 ∙ ap (λ y. told.FileStat f (attributes (after osts t a) (File f)).mode (attributes (after osts t a) (File f)).links y) l),
       )

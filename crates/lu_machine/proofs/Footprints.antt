@@ -1,6 +1,5 @@
 -- The footprint laws of plans and of elementary changes.
-use Rattle.std.proofs.Common.{◌≡◌, ℕ, true, false, List, [], ◌∷◌, ◌++◌, Option, refl, sym, ap, ◌∙◌, arith}
-use Rattle.std.specs.Prelude.{◌==◌, ◌&&◌}
+use Rattle.std.proofs.Common.{◌≡◌, ℕ, List, [], ◌∷◌, ◌++◌, Option, refl, sym, ap, ◌∙◌, arith}
 use Rattle.std.proofs.lemmas.Bool.Decides.{nat_tests}
 use Rattle.lu_base.specs.declared.ids.Fid.{Fid}
 use Rattle.lu_layout.specs.Raid0.{Raid0}
@@ -9,11 +8,11 @@ use Rattle.lu_part.specs.declared.parts.Part.TheVariants as part
 use Rattle.lu_machine.specs.declared.child.Child.{Child}
 use Rattle.lu_machine.specs.declared.child.Child.TheVariants.{Dir, File}
 use Rattle.lu_machine.specs.Tree.{Tree, Attributes, fid_of, child, listing, attributes, layout}
-use Rattle.lu_machine.specs.Change.{Change, Leads, Drops, Parted, MakesDir, MakesFile, SetMode, SetLinks, Leaves, Opens, Closes, change, changed, writes_of, written, makes_of, made}
+use Rattle.lu_machine.specs.Change.{Change, Leads, Drops, MakesDir, MakesFile, SetMode, SetLinks, Leaves, change, changed, writes_of, written, makes_of, made}
 use Rattle.lu_machine.specs.Effect.{on_name, on_listing, on_attributes, on_layout}
 use Rattle.lu_machine.specs.Plan.{Plan, Refuse, Do, LookName, LookList, LookAttr, LookLayout, outcome, looked}
 use Rattle.lu_machine.specs.Footprint.{Same, Every, Apart, inode_of}
-use Rattle.lu_machine.proofs.Keys.{fid_tells, name_tells}
+use Rattle.lu_machine.proofs.Keys.{fid_tells}
 use Rattle.lu_machine.proofs.Effects.{name_after, listing_after, dir_mode_after, file_mode_after, layout_after}
 
 -- lists

@@ -1,14 +1,13 @@
 -- The layout of a new file.
-use Rattle.std.proofs.Common.{◌≡◌, ℕ, zero, suc, ◌+◌, ◌-◌, ◌%◌, ◌<◌, ◌≤◌, ◌⊎◌, inl, inr, Bool, true, false, not, List, Option, Some, None, refl, sym, ap, subst, ◌∙◌, arith, ℤ, pos, negsuc, length, map, get_or}
-use Rattle.std.specs.Prelude.{◌==◌, ◌||◌, nat_lt, slice_index, if◌then◌else◌}
-use Rattle.std.specs.List.{range_with_len}
+use Rattle.std.proofs.Common.{◌≡◌, ℕ, zero, suc, ◌+◌, ◌-◌, ◌%◌, ◌<◌, ◌≤◌, ◌⊎◌, inl, inr, Bool, true, false, Some, None, refl, sym, ap, subst, ◌∙◌, arith, ℤ, pos, negsuc, length}
+use Rattle.std.specs.Prelude.{slice_index, if◌then◌else◌}
 use Rattle.std.proofs.Math.Nat.{add-mod, mod-eq_of_lt, mod-eq-sub-mod}
 use Rattle.std.proofs.lemmas.Bool.Decides.{nat_tests}
 use Rattle.std.proofs.lemmas.List.FromFn.{length-map-range_with_len, get_or-map-range_with_len}
 use Rattle.lu_base.specs.declared.ids.Txn.{Txn}
 use Rattle.lu_layout.specs.Raid0.{Raid0}
 use Rattle.lu_layout.specs.Sound.{IsLayout, AreDistinct}
-use Rattle.lu_machine.specs.Striping.{stripe_size, stripe_count, is_bad, stripe_targets, layout_for, new_layout}
+use Rattle.lu_machine.specs.Striping.{stripe_size, stripe_count, is_bad, stripe_targets}
 use Rattle.lu_machine.specs.Laws.{NewLayouts}
 
 -- i steps on from r, round a circle of n

@@ -1,6 +1,6 @@
 -- What a name leads to changes only where the inode's Parent is written: what LOOKUP locks rest on.
-use Rattle.std.proofs.Common.{◌≡◌, ◌≢◌, ℕ, Bool, true, false, List, [], ◌∷◌, Option, Some, None, refl, ap, sym, ◌∙◌, arith}
-use Rattle.std.specs.Prelude.{◌==◌, ◌&&◌, if◌then◌else◌}
+use Rattle.std.proofs.Common.{◌≡◌, ℕ, Bool, true, false, List, Some, None, refl, ap, ◌∙◌, arith}
+use Rattle.std.specs.Prelude.{◌&&◌, if◌then◌else◌}
 use Rattle.std.proofs.lemmas.Bool.Decides.{nat_tests}
 use Rattle.lu_base.specs.declared.ids.Fid.{Fid}
 use Rattle.lu_base.specs.declared.ids.Txn.{Txn}
@@ -10,7 +10,7 @@ use Rattle.lu_machine.specs.declared.child.Child.{Child}
 use Rattle.lu_machine.specs.declared.child.Child.TheVariants.{Dir, File}
 use Rattle.lu_machine.specs.Name.{same_name}
 use Rattle.lu_machine.specs.Tree.{Tree, same_fid, child, fid_of}
-use Rattle.lu_machine.specs.Change.{Change, Leads, Drops, MakesDir, MakesFile, SetMode, SetLinks, Leaves, change, changed, written}
+use Rattle.lu_machine.specs.Change.{Change, Leads, Drops, MakesDir, MakesFile, SetMode, Leaves, change, changed, written}
 use Rattle.lu_machine.specs.Table.{made_by}
 use Rattle.lu_machine.specs.Plan.{Outcome}
 use Rattle.lu_machine.specs.Footprint.{Apart, outcome_of}

@@ -1,27 +1,24 @@
 -- Two plans that look at the same, and end alike but for the number and the life.
-use Rattle.std.proofs.Common.{◌≡◌, ℕ, ◌+◌, Bool, true, false, List, [], ◌∷◌, Option, Some, None, refl, ap, subst}
-use Rattle.std.specs.Prelude.{◌==◌, ℤ, if◌then◌else◌}
-use Rattle.std.proofs.lemmas.Bool.{cond_both}
+use Rattle.std.proofs.Common.{◌≡◌, ℕ, Bool, true, false, List, [], ◌∷◌, Option, Some, None, refl, ap, subst}
+use Rattle.std.specs.Prelude.{if◌then◌else◌}
 use Rattle.lu_base.specs.declared.ids.Fid.{Fid}
 use Rattle.lu_base.specs.declared.ids.Txn.{Txn}
 use Rattle.lu_base.specs.declared.ids.Who.{Who}
 use Rattle.lu_layout.specs.Raid0.{Raid0}
-use Rattle.lu_msg.specs.declared.answers.Answer.TheVariants as told
 use Rattle.lu_msg.specs.declared.answers.Errno.{Errno}
-use Rattle.lu_msg.specs.declared.answers.Errno.TheVariants.{EEXIST, EISDIR, EINVAL, EBUSY, ENAMETOOLONG}
+use Rattle.lu_msg.specs.declared.answers.Errno.TheVariants.{EEXIST, ENAMETOOLONG}
 use Rattle.lu_msg.specs.declared.operations.Op.{Op}
 use Rattle.lu_msg.specs.declared.operations.Op.TheVariants as op
 use Rattle.lu_part.specs.declared.parts.Part.TheVariants as part
-use Rattle.lu_part.specs.declared.parts.Want.{Want}
 use Rattle.lu_machine.specs.declared.child.Child.{Child}
 use Rattle.lu_machine.specs.declared.child.Child.TheVariants.{Dir, File}
 use Rattle.lu_machine.specs.Name.{is_too_long}
 use Rattle.lu_machine.specs.Tree.{Tree, Attributes, fid_of, child, listing, attributes, layout}
-use Rattle.lu_machine.specs.Change.{Change, written}
-use Rattle.lu_machine.specs.Striping.{stripe_size, stripe_count, is_bad, layout_for, new_layout}
+use Rattle.lu_machine.specs.Change.{written}
+use Rattle.lu_machine.specs.Striping.{stripe_size, stripe_count, is_bad, new_layout}
 use Rattle.lu_machine.specs.Plan.{Plan, Refuse, Do, LookName, LookList, LookAttr, LookLayout, outcome, looked}
-use Rattle.lu_machine.specs.Table.{root, look_in, look, there, absent, walk, onward, walk_up, to_last, last_of, row_lookup, row_stat, row_list, row_layout, row_mkdir, row_create, row_link, row_unlink, row_rmdir, row_rename, rename, row_chmod, row_open, plan}
-use Rattle.lu_machine.specs.Footprint.{Act, is_some_change, outcome_of}
+use Rattle.lu_machine.specs.Table.{root, look_in, look, there, absent, walk, onward, to_last, last_of, row_mkdir, row_create, row_open, plan}
+use Rattle.lu_machine.specs.Footprint.{is_some_change}
 use Rattle.lu_machine.specs.Laws.{NumberIsFree}
 
 abbrev Twins : Plan → Plan → Type 0

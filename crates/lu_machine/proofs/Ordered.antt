@@ -1,6 +1,6 @@
 -- The lists of a tree are in order, and a list of names in byte order is one.
-use Rattle.std.proofs.Common.{◌≡◌, ◌≢◌, ℕ, Bool, true, false, not, List, [], ◌∷◌, ◌⊎◌, inl, inr, Option, Some, None, refl, sym, ap, subst, ◌∙◌, arith, is_some}
-use Rattle.std.specs.Prelude.{◌==◌, ◌||◌, if◌then◌else◌}
+use Rattle.std.proofs.Common.{◌≡◌, ◌≢◌, ℕ, Bool, true, false, List, [], ◌∷◌, ◌⊎◌, inl, inr, Some, None, refl, sym, ap, subst, ◌∙◌, arith, is_some}
+use Rattle.std.specs.Prelude.{◌||◌, if◌then◌else◌}
 use Rattle.std.specs.declared.cmp.Ordering.{Ordering}
 use Rattle.std.specs.declared.cmp.Ordering.TheVariants.{Less, Equal, Greater}
 use Rattle.std.specs.List.{list_any, AllByRecursion}
@@ -8,21 +8,19 @@ use Rattle.std.specs.List.Sorted.{IsStrictlySortedBy}
 use Rattle.std.specs.Map.{keys_of, lookup}
 use Rattle.std.specs.Option.{unwrap_or}
 use Rattle.std.specs.Ordering.{is_eq, ordering_reverse}
-use Rattle.std.specs.Str.{bytes_eq}
 use Rattle.std.proofs.lemmas.Bool.Decides.{nat_tests}
 use Rattle.std.proofs.lemmas.Cmp.{nat_list_cmp_total}
 use Rattle.std.proofs.lemmas.Map.Text.{is_eq-slice_cmp}
 use Rattle.std.specs.Cmp.{IsTotalOrder, on_total, nat_cmp_total}
 use Rattle.lu_base.specs.declared.ids.Fid.{Fid}
-use Rattle.lu_base.specs.declared.ids.Who.{Who}
 use Rattle.lu_machine.specs.declared.child.Child.{Child}
 use Rattle.lu_machine.specs.declared.child.Child.TheVariants.{Dir, File}
 use Rattle.lu_machine.specs.Name.{same_name, name_cmp}
 use Rattle.lu_machine.specs.Entries.{without, place}
-use Rattle.lu_machine.specs.Tree.{Tree, Directory, Inode, no_directory, same_fid, fid_cmp, directory, file, child, listing}
+use Rattle.lu_machine.specs.Tree.{Tree, Directory, Inode, no_directory, same_fid, fid_cmp, directory, file}
 use Rattle.lu_machine.specs.Change.{Change, Leads, Drops, Parted, MakesDir, MakesFile, SetMode, SetLinks, Leaves, Opens, Closes, new_directory, new_file, put_dir, put_file, put_name, leave, change, changed}
-use Rattle.lu_machine.specs.Footprint.{Act, outcome_of}
-use Rattle.lu_machine.specs.Order.{InByteOrder, IsOrdered, OrderStays, ListsNames, ByteOrderIsOne}
+use Rattle.lu_machine.specs.Footprint.{outcome_of}
+use Rattle.lu_machine.specs.Order.{IsOrdered, OrderStays, ListsNames, ByteOrderIsOne}
 use Rattle.lu_machine.proofs.Keys.{fid_tells, name_tells, find-gone}
 use Rattle.lu_machine.proofs.Effects.{dir_put, left_entries}
 use Rattle.lu_machine.proofs.Sorted.{IsKeyOrder, sorted_without, sorted_place, not_same}

@@ -1,8 +1,7 @@
 -- What an act on names comes to, in the tree that it is asked of: one case for each row's end.
-use Rattle.std.proofs.Common.{◌≡◌, ◌≢◌, ℕ, ◌+◌, ◌-◌, true, false, List, [], ◌∷◌, ◌⊎◌, inl, inr, Option, Some, None, refl, arith}
+use Rattle.std.proofs.Common.{◌≡◌, ℕ, ◌+◌, ◌-◌, false, List, [], ◌∷◌, ◌⊎◌, inl, inr, Option, Some, None, refl}
 use Rattle.std.specs.Prelude.{◌==◌, if◌then◌else◌}
 use Rattle.std.proofs.lemmas.Bool.{cond_both}
-use Rattle.std.proofs.lemmas.Bool.Decides.{nat_tests}
 use Rattle.lu_base.specs.declared.ids.Fid.{Fid}
 use Rattle.lu_base.specs.declared.ids.Txn.{Txn}
 use Rattle.lu_base.specs.declared.ids.Who.{Who}
@@ -10,18 +9,17 @@ use Rattle.lu_layout.specs.Raid0.{Raid0}
 use Rattle.lu_msg.specs.declared.answers.Answer.{Answer}
 use Rattle.lu_msg.specs.declared.answers.Answer.TheVariants as told
 use Rattle.lu_msg.specs.declared.answers.Errno.{Errno}
-use Rattle.lu_msg.specs.declared.answers.Errno.TheVariants.{EEXIST, EISDIR, EINVAL, EBUSY, EBADF, ENAMETOOLONG}
+use Rattle.lu_msg.specs.declared.answers.Errno.TheVariants.{EEXIST, EISDIR, EINVAL, EBUSY}
 use Rattle.lu_msg.specs.declared.operations.Op.{Op}
 use Rattle.lu_msg.specs.declared.operations.Op.TheVariants as op
 use Rattle.lu_part.specs.declared.parts.Want.{Want}
 use Rattle.lu_machine.specs.declared.child.Child.{Child}
 use Rattle.lu_machine.specs.declared.child.Child.TheVariants.{Dir, File}
-use Rattle.lu_machine.specs.Name.{is_too_long}
 use Rattle.lu_machine.specs.Tree.{Tree, same_fid, fid_of, child, listing, attributes, layout}
 use Rattle.lu_machine.specs.Change.{Change, Leads, Drops, Parted, MakesDir, MakesFile, SetMode, SetLinks, Leaves, Opens, Closes}
 use Rattle.lu_machine.specs.Striping.{new_layout}
 use Rattle.lu_machine.specs.Plan.{Plan, Refuse, LookAttr, Outcome, outcome}
-use Rattle.lu_machine.specs.Table.{root, made_by, look_in, look, there, absent, walk, onward, walk_up, to_last, last_of, wants, tells, does, found, row_lookup, row_stat, row_list, row_layout, row_mkdir, row_create, row_link, row_unlink, if_empty, row_rmdir, passes, moves, row_replace, row_rename, rename, row_chmod, row_open, plan}
+use Rattle.lu_machine.specs.Table.{root, made_by, there, absent, walk_up, last_of, tells, does, found, row_lookup, row_stat, row_list, row_layout, row_mkdir, row_create, row_link, row_unlink, row_rmdir, passes, moves, row_replace, row_rename, rename, row_chmod, row_open, plan}
 use Rattle.lu_machine.specs.Footprint.{Every}
 use Rattle.lu_machine.proofs.Walks.{IsNamed, there_ends, absent_ends, if_empty_ends, walk_ends, walk_up_ends, to_last_ends}
 

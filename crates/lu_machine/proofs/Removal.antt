@@ -20,9 +20,9 @@ use Rattle.lu_machine.specs.Plan.{Plan, Refuse, Do, LookName, LookList, LookAttr
 use Rattle.lu_machine.specs.Table.{root, made_by, plan}
 use Rattle.lu_machine.specs.Footprint.{Same, Every, inode_of, Act, empty, after, outcome_of, touches, forget, answer}
 use Rattle.lu_machine.specs.Removal.{Item, Acts, Forgets, pick, contents, Clear, Untouched, Free, Older}
-use Rattle.lu_machine.specs.Laws.{RemovalLaw, RemovalAgrees, AllKept, EarlierAreOlder}
+use Rattle.lu_machine.specs.Laws.{RemovalLaw, RemovalAgrees, EarlierAreOlder}
 use Rattle.lu_machine.proofs.Effects.{name_after}
-use Rattle.lu_machine.proofs.Footprints.{same_refl, same_sym, same_trans, same_changes, every_one}
+use Rattle.lu_machine.proofs.Footprints.{same_refl, same_sym, same_trans, same_changes}
 use Rattle.lu_machine.proofs.Knows.{IsKnown, Knows, plan_knows, Bound, bound}
 use Rattle.lu_machine.proofs.Stated.{comes, alike, others_stay, made_has_number}
 

@@ -1,12 +1,11 @@
 -- The worked scenario: each act with its answer, its touched parts where a reply shows them, and its locks.
-use Rattle.std.proofs.Common.{◌≡◌, ℕ, ◌+◌, Bool, true, false, List, [], ◌∷◌, refl, pos, negsuc}
-use Rattle.std.specs.Prelude.{codes, replicate}
-use Rattle.lu_base.specs.declared.ids.Fid.{Fid}
+use Rattle.std.proofs.Common.{◌≡◌, ℕ, ◌+◌, List, [], ◌∷◌, refl, pos}
+use Rattle.std.specs.Prelude.{codes}
 use Rattle.lu_base.specs.declared.ids.Txn.{Txn}
 use Rattle.lu_base.specs.declared.ids.Who.{Who}
 use Rattle.lu_msg.specs.declared.answers.Answer.{Answer}
 use Rattle.lu_msg.specs.declared.answers.Answer.TheVariants as told
-use Rattle.lu_msg.specs.declared.answers.Errno.TheVariants.{ENOENT, EEXIST, ENOTDIR, EISDIR, ENOTEMPTY, EPERM, EINVAL, EBUSY, EBADF, ENAMETOOLONG}
+use Rattle.lu_msg.specs.declared.answers.Errno.TheVariants.{ENOTEMPTY, EINVAL}
 use Rattle.lu_msg.specs.declared.operations.Op.{Op}
 use Rattle.lu_msg.specs.declared.operations.Op.TheVariants as op
 use Rattle.lu_machine.specs.Machine.{Item, Names, start, answers}

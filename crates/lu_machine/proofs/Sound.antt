@@ -1,8 +1,6 @@
 -- Each act keeps that a file has as many links as names lead to it, and that no number above the last is in use.
-use Rattle.std.proofs.Common.{◌≡◌, ◌≢◌, ℕ, ◌+◌, ◌-◌, ◌<◌, ◌≤◌, ◌⊎◌, Bool, true, false, List, [], ◌∷◌, Option, Some, None, refl, ap, sym, ◌∙◌, ⊎_elim, arith}
-use Rattle.std.specs.Prelude.{◌==◌, ◌&&◌, if◌then◌else◌}
-use Rattle.std.specs.Option.{unwrap_or}
-use Rattle.std.specs.Map.{lookup}
+use Rattle.std.proofs.Common.{◌≡◌, ℕ, ◌+◌, ◌-◌, ◌<◌, ◌≤◌, ◌⊎◌, true, false, List, [], ◌∷◌, Some, None, refl, ap, ◌∙◌, ⊎_elim, arith}
+use Rattle.std.specs.Prelude.{if◌then◌else◌}
 use Rattle.std.proofs.lemmas.Bool.{cond_both}
 use Rattle.std.proofs.lemmas.Bool.Decides.{nat_tests}
 use Rattle.lu_base.specs.declared.ids.Fid.{Fid}
@@ -11,15 +9,14 @@ use Rattle.lu_base.specs.declared.ids.Who.{Who}
 use Rattle.lu_layout.specs.Raid0.{Raid0}
 use Rattle.lu_machine.specs.declared.child.Child.{Child}
 use Rattle.lu_machine.specs.declared.child.Child.TheVariants.{Dir, File}
-use Rattle.lu_machine.specs.Tree.{Tree, same_fid, fid_of, child, file, no_file}
-use Rattle.lu_machine.specs.Change.{Change, Leads, Drops, Parted, MakesDir, MakesFile, SetMode, SetLinks, Leaves, Opens, Closes, new_file, change, changed}
+use Rattle.lu_machine.specs.Tree.{Tree, same_fid, fid_of, child, file}
+use Rattle.lu_machine.specs.Change.{Change, Leads, Drops, Parted, MakesDir, MakesFile, SetMode, SetLinks, Leaves, new_file, change, changed}
 use Rattle.lu_machine.specs.Plan.{Outcome}
 use Rattle.lu_machine.specs.Table.{made_by}
 use Rattle.lu_machine.proofs.Keys.{fid_tells}
 use Rattle.lu_machine.proofs.Effects.{file_put, name_after}
 use Rattle.lu_machine.proofs.Count.{is_file, found_file, named, named_after, found_named}
 use Rattle.lu_machine.proofs.Leads.{here, at_same}
-use Rattle.lu_machine.proofs.Walks.{IsNamed}
 use Rattle.lu_machine.proofs.Outcomes.{Comes, refused, learns, mkdir, create, link, unlink, rmdir, move, replace_dir, replace_file, chmod, opens, closes}
 
 abbrev pub links : Tree → Fid → ℕ

@@ -1,5 +1,5 @@
 -- The footprint laws as they are stated.
-use Rattle.std.proofs.Common.{◌≡◌, ℕ, Bool, true, false, not, List, [], ◌∷◌, Option, Some, None, refl, sym, ap, subst, ◌∙◌}
+use Rattle.std.proofs.Common.{◌≡◌, ℕ, Bool, true, false, not, List, [], ◌∷◌, refl, sym, ap, subst, ◌∙◌}
 use Rattle.std.specs.Prelude.{if◌then◌else◌}
 use Rattle.std.specs.List.{filter}
 use Rattle.lu_base.specs.declared.ids.Fid.{Fid}
@@ -9,12 +9,11 @@ use Rattle.lu_msg.specs.declared.answers.Answer.{Answer}
 use Rattle.lu_msg.specs.declared.answers.Answer.TheVariants as told
 use Rattle.lu_msg.specs.declared.answers.Errno.{Errno}
 use Rattle.lu_part.specs.declared.parts.Part.{Part}
-use Rattle.lu_part.specs.declared.parts.Want.{Want}
 use Rattle.lu_machine.specs.Tree.{Tree, Opened, same_life}
 use Rattle.lu_machine.specs.Change.{Change, changed, written, made}
 use Rattle.lu_machine.specs.Plan.{Outcome}
 use Rattle.lu_machine.specs.Table.{plan}
-use Rattle.lu_machine.specs.Footprint.{Act, touches, is_some_change, after, outcome_of, Same, Every, inode_of}
+use Rattle.lu_machine.specs.Footprint.{Act, touches, is_some_change, after, outcome_of, Same, inode_of}
 use Rattle.lu_machine.specs.Laws.{Alike, TouchedDecide, OthersStay, MadeHasNumber, NewFromOld, RefusalsStay, UnchangedStay, TransactionsGrantNothing, ForgetDropsOpens}
 use Rattle.lu_machine.proofs.Outcomes.{IsTold, Comes, refused, learns, mkdir, create, plan_comes}
 use Rattle.lu_machine.proofs.Footprints.{same_looks, same_changes, left_changes, NotOf}

@@ -1,5 +1,5 @@
 -- Which operations make transactions.
-use Rattle.std.proofs.Common.{◌≡◌, ℕ, ◌+◌, ◌<◌, Bool, true, false, List, [], ◌∷◌, ◌⊎◌, inl, inr, Option, Some, None, refl, sym, ap, ◌∙◌, arith}
+use Rattle.std.proofs.Common.{◌≡◌, ℕ, ◌+◌, Bool, true, false, List, [], ◌∷◌, ◌⊎◌, inl, inr, Option, Some, None, refl, ap, ◌∙◌}
 use Rattle.std.specs.Prelude.{◌&&◌, not, nat_lt, if◌then◌else◌}
 use Rattle.std.proofs.lemmas.Bool.{lt-ltb}
 use Rattle.lu_base.specs.declared.ids.Fid.{Fid}
@@ -18,14 +18,13 @@ use Rattle.lu_machine.specs.declared.child.Child.TheVariants.{Dir, File}
 use Rattle.lu_machine.specs.Tree.{Tree, child, listing}
 use Rattle.lu_machine.specs.Change.{Leads, Drops, Parted, SetLinks, Leaves}
 use Rattle.lu_machine.specs.Striping.{new_layout}
-use Rattle.lu_machine.specs.Plan.{Plan, LookAttr, Outcome, outcome}
-use Rattle.lu_machine.specs.Table.{root, absent, there, last_of, does, row_lookup, row_stat, row_list, row_layout, row_mkdir, row_create, row_link, row_unlink, if_empty, row_rmdir, row_open, plan}
+use Rattle.lu_machine.specs.Plan.{LookAttr, Outcome, outcome}
+use Rattle.lu_machine.specs.Table.{root, absent, there, last_of, does, row_lookup, row_stat, row_list, row_layout, row_mkdir, row_create, row_link, row_unlink, row_rmdir, row_open, plan}
 use Rattle.lu_machine.specs.Footprint as footprint
 use Rattle.lu_machine.specs.Footprint.{Act, is_some_change, changes, after}
-use Rattle.lu_machine.specs.Machine.{Machine, is_stale, as_told, names_answer, names_next}
+use Rattle.lu_machine.specs.Machine.{is_stale, as_told, names_answer, names_next}
 use Rattle.lu_machine.specs.Laws.{IsReading, IsModifying, ReadingsChangeNothing, ModifyingMakeTransactions, MachineIsTable}
 use Rattle.lu_machine.proofs.Walks.{there_ends, absent_ends, if_empty_ends, walk_ends, to_last_ends}
-use Rattle.lu_machine.proofs.Stated.{unchanged_stay}
 
 abbrev Looks : Outcome → Type 0
 Looks o = is_some_change o.changes ≡ false

@@ -11,7 +11,7 @@ use Rattle.lu_part.specs.declared.parts.Part.TheVariants as part
 use Rattle.lu_part.specs.declared.parts.Want.{Want}
 use Rattle.lu_part.specs.Meets.{meets}
 use Rattle.lu_machine.specs.declared.child.Child.TheVariants.{Dir, File}
-use Rattle.lu_machine.specs.Tree.{Tree, Opened, same_life, child, listing, attributes, layout}
+use Rattle.lu_machine.specs.Tree.{Tree, same_life, child, listing, attributes, layout}
 use Rattle.lu_machine.specs.Change.{Change, new_directory, changed, written}
 use Rattle.lu_machine.specs.Plan.{Outcome, outcome, looked}
 use Rattle.lu_machine.specs.Table.{plan}

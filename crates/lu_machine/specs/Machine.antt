@@ -1,6 +1,6 @@
 -- The plain machine: one tree, and the bytes of each file. It answers one act after another, and has no
 -- targets, caches or locks.
-use Rattle.std.specs.Prelude.{ℕ, max, Bool, false, not, List, [], ◌∷◌, length, ◌&&◌, nat_lt, is_some, if◌then◌else◌}
+use Rattle.std.specs.Prelude.{ℕ, max, Bool, not, List, [], ◌∷◌, length, ◌&&◌, nat_lt, is_some, if◌then◌else◌}
 use Rattle.std.specs.Map.{lookup}
 use Rattle.std.specs.Option.{unwrap_or}
 use Rattle.lu_base.specs.declared.ids.Fid.{Fid}

@@ -4,7 +4,7 @@ use Rattle.std.specs.List.{list_any}
 use Rattle.lu_part.specs.declared.parts.Part.{Part}
 use Rattle.lu_part.specs.Meets.{meets}
 use Rattle.lu_machine.specs.Tree.{Tree}
-use Rattle.lu_machine.specs.Footprint.{Act, empty, touches, writes, Every}
+use Rattle.lu_machine.specs.Footprint.{Act, touches, writes, Every}
 use Rattle.lu_machine.specs.Removal.{Item, Acts, Forgets, pick, contents, Older}
 use Rattle.lu_machine.specs.Laws.{Alike}
 use Rattle.lu_machine.specs.Trim.{Rising, trimmed}

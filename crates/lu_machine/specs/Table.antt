@@ -1,7 +1,7 @@
 -- The table of operations on names (POSIX.1, and this project's profile where it chooses): which errors
 -- come, in their order, what is answered, which locks are granted and what changes. A walk goes from the
 -- root name by name; at each name ENAMETOOLONG comes before ENOTDIR, and that before ENOENT.
-use Rattle.std.specs.Prelude.{ℕ, zero, ◌+◌, ◌-◌, Bool, false, List, [], ◌∷◌, Option, Some, None, ◌==◌, ◌||◌, ℤ, if◌then◌else◌}
+use Rattle.std.specs.Prelude.{ℕ, zero, ◌+◌, ◌-◌, Bool, false, List, [], ◌∷◌, Option, Some, None, ◌==◌, ◌||◌, if◌then◌else◌}
 use Rattle.lu_base.specs.declared.ids.Fid.{Fid}
 use Rattle.lu_base.specs.declared.ids.Txn.{Txn}
 use Rattle.lu_base.specs.declared.ids.Who.{Who}

@@ -1,6 +1,6 @@
 -- A tree whose files live only as long as a name or an open has them. The tree of the table keeps the
 -- record of a file that has left; nobody can tell the two apart.
-use Rattle.std.specs.Prelude.{◌≡◌, ℕ, ◌<◌, Bool, true, false, List, [], ◌∷◌, Some, ◌||◌, nat_lt}
+use Rattle.std.specs.Prelude.{◌≡◌, ℕ, ◌<◌, Bool, true, List, [], ◌∷◌, Some, ◌||◌, nat_lt}
 use Rattle.std.specs.List.{filter, list_any}
 use Rattle.lu_base.specs.declared.ids.Fid.{Fid}
 use Rattle.lu_machine.specs.declared.child.Child.TheVariants.{File}
