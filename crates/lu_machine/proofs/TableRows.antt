@@ -168,6 +168,9 @@ stat_file_grants = refl
 list_file : answer (op.List (f ∷ [])) ≡ Refused ENOTDIR
 list_file = refl
 
+list_file_touches : touches (op.List (f ∷ [])) ≡ part.Name root f ∷ []
+list_file_touches = refl
+
 list_root : answer (op.List []) ≡ told.Names (b ∷ e ∷ f ∷ g ∷ [])
 list_root = refl
 
@@ -180,6 +183,9 @@ list_grants = refl
 layout_dir : answer (op.Layout []) ≡ Refused EISDIR
 layout_dir = refl
 
+layout_dir_touches : touches (op.Layout (b ∷ [])) ≡ part.Name root b ∷ []
+layout_dir_touches = refl
+
 layout_file : answer (op.Layout (b ∷ x ∷ [])) ≡ told.Layout (record { size = 1048576; targets = 4 ∷ [] })
 layout_file = refl
 
@@ -188,6 +194,9 @@ layout_grants = refl
 
 open_dir : answer (op.Open (b ∷ [])) ≡ Refused EISDIR
 open_dir = refl
+
+open_dir_touches : touches (op.Open (b ∷ [])) ≡ part.Name root b ∷ []
+open_dir_touches = refl
 
 open_file : answer (op.Open (b ∷ x ∷ [])) ≡ told.OpenFile (at 3) (number 20) (record { size = 1048576; targets = 4 ∷ [] })
 open_file = refl
@@ -266,6 +275,9 @@ link_absent = refl
 link_dir : answer (op.Link (b ∷ []) []) ≡ Refused EPERM
 link_dir = refl
 
+link_of_root : answer (op.Link [] (a ∷ [])) ≡ Refused EPERM
+link_of_root = refl
+
 link_dir_touches : touches (op.Link (b ∷ []) (f ∷ [])) ≡ part.Name root b ∷ []
 link_dir_touches = refl
 
@@ -298,6 +310,9 @@ unlink_root = refl
 unlink_dir : answer (op.Unlink (b ∷ [])) ≡ Refused EISDIR
 unlink_dir = refl
 
+unlink_dir_touches : touches (op.Unlink (b ∷ [])) ≡ part.Name root b ∷ []
+unlink_dir_touches = refl
+
 unlink_absent : answer (op.Unlink (a ∷ [])) ≡ Refused ENOENT
 unlink_absent = refl
 
@@ -315,6 +330,9 @@ rmdir_root = refl
 
 rmdir_file : answer (op.Rmdir (f ∷ [])) ≡ Refused ENOTDIR
 rmdir_file = refl
+
+rmdir_file_touches : touches (op.Rmdir (f ∷ [])) ≡ part.Name root f ∷ []
+rmdir_file_touches = refl
 
 rmdir_full : answer (op.Rmdir (b ∷ [])) ≡ Refused ENOTEMPTY
 rmdir_full = refl
@@ -374,6 +392,9 @@ rename_into_itself_touches = refl
 
 rename_dir_onto_file : answer (op.Rename (b ∷ []) (f ∷ [])) ≡ Refused ENOTDIR
 rename_dir_onto_file = refl
+
+rename_dir_onto_file_touches : touches (op.Rename (b ∷ []) (f ∷ [])) ≡ part.Name root b ∷ part.Name root f ∷ []
+rename_dir_onto_file_touches = refl
 
 rename_file_onto_dir : answer (op.Rename (f ∷ []) (b ∷ [])) ≡ Refused EISDIR
 rename_file_onto_dir = refl
@@ -451,6 +472,10 @@ not_closed = refl
 
 forgotten : (forget unlinked me).opens ≡ []
 forgotten = refl
+
+-- the next life of the client has what it opened
+not_forgotten : (forget unlinked (record { client = 0; life = 2 })).opens ≡ unlinked.opens
+not_forgotten = refl
 
 -- ---- an operation of an object storage target is none on names
 
