@@ -46,20 +46,20 @@ module _ (t : Tree) where
       by false p = refl
       by true p = let h = at_same e m d n p in absurd (cc)
 
-led : (u : Tree) (e : Fid) (m : List ℕ) (b : Child) (d : Fid) (n : List ℕ) (c : Child) → child u d n ≡ Some c → here e m d n ≡ false → child (change u (Leads e m b)) d n ≡ Some c
+pub led : (u : Tree) (e : Fid) (m : List ℕ) (b : Child) (d : Fid) (n : List ℕ) (c : Child) → child u d n ≡ Some c → here e m d n ≡ false → child (change u (Leads e m b)) d n ≡ Some c
 led u e m b d n c is apart = name_after u (Leads e m b) d n ∙ ap (λ v. if v then Some b else child u d n) apart ∙ is
 
 left : (u : Tree) (e : Fid) (m : List ℕ) (d : Fid) (n : List ℕ) (c : Child) → child u d n ≡ Some c → here e m d n ≡ false → child (change u (Drops e m)) d n ≡ Some c
 left u e m d n c is apart = name_after u (Drops e m) d n ∙ ap (λ v. if v then None else child u d n) apart ∙ is
 
 module _ (t : Tree) (number : Txn) (who : Who) where
-  abbrev Stay : List Change → Type 0
+  abbrev pub Stay : List Change → Type 0
   Stay xs = (d : Fid) (n : List ℕ) (c : Child) → child t d n ≡ Some c → (number.0 ≡ d.0 → ⊥) → Apart (written xs) (Parent (fid_of c)) → child (changed t xs) d n ≡ Some c
 
   elsewhere : (d : Fid) → (number.0 ≡ d.0 → ⊥) → same_fid (made_by number) d ≡ false
   elsewhere d ne = grind (arith, nat_tests, ne)
 
-  stays : (o : Outcome) → Comes t number who o → Stay o.changes
+  pub stays : (o : Outcome) → Comes t number who o → Stay o.changes
   stays _ (refused e) d n c is ne a = is
   stays _ (learns answer grants h) d n c is ne a = is
   stays _ (mkdir e m free) d n c is ne a =

@@ -21,3 +21,4 @@ pub mod Layouts
 pub mod Covered
 pub mod ByteRows
 pub mod Bytes
+pub mod Paths

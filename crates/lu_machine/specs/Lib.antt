@@ -16,3 +16,4 @@ pub mod Seen
 pub mod Order
 pub mod Covered
 pub mod ByteLaws
+pub mod Paths
