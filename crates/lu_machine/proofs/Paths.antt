@@ -223,6 +223,19 @@ itself d m = ap (λ v. v && same_name m m) (eq-eqb d.0 d.0 refl) ∙ own (name_t
 some_same : (a b : Child) → Some a ≡ Some b → a ≡ b
 some_same a b h = cc
 
+-- a path has one last name
+one_front : (a b : List (List ℕ)) (n m : List ℕ) → a ++ n ∷ [] ≡ b ++ m ∷ [] → (a ≡ b) × (n ≡ m)
+one_front [] [] n m h = (refl, cc)
+one_front [] (y ∷ []) n m h = absurd (cc)
+one_front [] (y ∷ z ∷ b) n m h = absurd (cc)
+one_front (x ∷ []) [] n m h = absurd (cc)
+one_front (x ∷ z ∷ a) [] n m h = absurd (cc)
+one_front (x ∷ a) (y ∷ b) n m h =
+    let tails : a ++ n ∷ [] ≡ b ++ m ∷ [] = cc in
+    let heads : x ≡ y = cc in
+    let r = one_front a b n m tails in
+    (ap (λ z. z ∷ a) heads ∙ ap (λ zs. y ∷ zs) r.0, r.1)
+
 empty_none : (t : Tree) (e : Fid) (j : List ℕ) (g : Child) → listing t e ≡ [] → child t e j ≡ Some g → ⊥
 empty_none t e j g none is = let h = lists_names t e j in absurd (cc (ap (list_any (same_name j)) none, h, ap is_some is))
 
@@ -462,6 +475,65 @@ module _ (t : Tree) (number : Txn) (who : Who) (new : IsNew t number) where
       (λ c at. up_steps t (MovedAt old (m ∷ ms)) (moved_none old (m ∷ ms)) ms m (λ cs e m. row_rename d n c cs e m)
       (λ front' cs' e k p' s' is' h. rename_end (m ∷ ms) front' cs' d n c e k (child t e k) p' s' is' at refl h ∙ sym (path_before t old front cs d n p s is ∙ at))))
 
+  -- the old name leads nowhere then
+  LeftAt : Fid → List ℕ → Outcome → Type 0
+  LeftAt d n o = is_some_change o.changes ≡ true → child (changed t o.changes) d n ≡ None
+
+  left_refused : (d : Fid) (n : List ℕ) (e : Errno) → LeftAt d n (record { answer = Refused e; grants = []; changes = [] })
+  unfolding LeftAt
+  left_refused d n e h = absurd (cc)
+
+  left_names : (u : Tree) (d : Fid) (n : List ℕ) (c : Child) (e : Fid) (k : List ℕ) → child u d n ≡ child (led_tree d n c e k) d n → here e k d n ≡ false → child u d n ≡ None
+  unfolding led_tree
+  left_names u d n c e k same apart = same ∙ name_after (change t (Drops d n)) (Leads e k c) d n ∙ ap (λ v. if v then Some c else child (change t (Drops d n)) d n) apart ∙ nothing d n
+
+  left_replace : (d : Fid) (n : List ℕ) (c : Child) (e : Fid) (k : List ℕ) (g : Child) → here e k d n ≡ false → LeftAt d n (outcome t (row_replace d n c e k g))
+  unfolding LeftAt led_tree
+  left_replace d n (Dir f) e k (File g) apart = left_refused d n ENOTDIR
+  left_replace d n (File f) e k (Dir g) apart = left_refused d n EISDIR
+  left_replace d n (Dir f) e k (Dir g) apart =
+      if_empty_ends t (LeftAt d n) (left_refused d n) (listing t g) (moves d n (Dir f) e k (Parted g ∷ Leaves g ∷ []))
+      (λ none h. left_names (changed t (Drops d n ∷ Leads e k (Dir f) ∷ Parted f ∷ Parted g ∷ Leaves g ∷ [])) d n (Dir f) e k (name_after (change (change t (Drops d n)) (Leads e k (Dir f))) (Leaves g) d n) apart)
+  left_replace d n (File f) e k (File g) apart = λ h. left_names (changed t (Drops d n ∷ Leads e k (File f) ∷ Parted f ∷ Parted g ∷ SetLinks g ((attributes t (File g)).links - 1) ∷ [])) d n (File f) e k refl apart
+
+  left_end : (d : Fid) (n : List ℕ) (c : Child) (cs : List Child) (e : Fid) (k : List ℕ) (o : Option Child) → child t d n ≡ Some c → child t e k ≡ o → LeftAt d n (outcome t (row_rename d n c cs e k o))
+  unfolding LeftAt led_tree
+  left_end d n c cs e k None at there =
+      cond_both (passes c cs) (Refuse EINVAL) (moves d n c e k []) (λ x. LeftAt d n (outcome t x)) (λ _. left_refused d n EINVAL)
+      (λ _ h. left_names (changed t (Drops d n ∷ Leads e k c ∷ Parted (fid_of c) ∷ [])) d n c e k refl (differs t e k d n None (Some c) there at (λ q. absurd (cc))))
+  left_end d n c cs e k (Some g) at there =
+      cond_both (same_fid (fid_of g) (fid_of c)) (tells told.Done []) (if passes c cs then Refuse EINVAL else row_replace d n c e k g) (λ x. LeftAt d n (outcome t x)) (λ _ h. absurd (cc))
+      (λ ne. cond_both (passes c cs) (Refuse EINVAL) (row_replace d n c e k g) (λ x. LeftAt d n (outcome t x)) (λ _. left_refused d n EINVAL)
+      (λ _. left_replace d n c e k g (differs t e k d n (Some g) (Some c) there at (λ q. unequal ne (some_same g c q)))))
+    where
+      unequal : same_fid (fid_of g) (fid_of c) ≡ false → g ≡ c → ⊥
+      unequal ne q = let h : same_fid (fid_of g) (fid_of c) ≡ true = ap (λ x. same_fid (fid_of g) (fid_of x)) (sym q) ∙ eq-eqb (fid_of g).0 (fid_of g).0 refl in absurd (cc (h, ne))
+
+  -- for the directory and the name that the walk of the old path came to
+  LeftOf : List (List ℕ) → Outcome → Type 0
+  LeftOf old o = is_some_change o.changes ≡ true → (front : List (List ℕ)) (n : List ℕ) (d : Fid) → old ≡ front ++ n ∷ [] → at_path t front ≡ Some (Dir d) → child (changed t o.changes) d n ≡ None
+
+  rename_left : (old to : List (List ℕ)) → LeftOf old (outcome t (rename old to))
+  unfolding LeftOf LeftAt
+  rename_left old [] = λ h. absurd (cc)
+  rename_left old (m ∷ ms) =
+      last_steps t (LeftOf old) none EBUSY old (λ cs d n. there (λ c. walk_up root m ms (λ cs e m. row_rename d n c cs e m)))
+      (λ front cs d n p s is. there_ends t (LeftOf old) none (λ c. walk_up root m ms (λ cs e m. row_rename d n c cs e m)) (child t d n)
+      (λ c at. up_steps t (LeftOf old) none ms m (λ cs e m. row_rename d n c cs e m)
+      (λ front' cs' e k p' s' is' h front2 n2 d2 p2 leads2. at_one front cs d n c cs' e k front2 n2 d2 s is (one_front front front2 n n2 (sym p ∙ p2)) leads2 (left_end d n c cs' e k (child t e k) at refl h))))
+    where
+      none : (e : Errno) → LeftOf old (record { answer = Refused e; grants = []; changes = [] })
+      none e h = absurd (cc)
+
+      one_dir : (d d2 : Fid) → Dir d ≡ Dir d2 → d ≡ d2
+      one_dir d d2 q = cc
+
+      at_one : (front : List (List ℕ)) (cs : List Child) (d : Fid) (n : List ℕ) (c : Child) (cs' : List Child) (e : Fid) (k : List ℕ) (front2 : List (List ℕ)) (n2 : List ℕ) (d2 : Fid) → Steps t root front cs → last_of root cs ≡ Dir d → (front ≡ front2) × (n ≡ n2) → at_path t front2 ≡ Some (Dir d2)
+          → child (changed t (outcome t (row_rename d n c cs' e k (child t e k))).changes) d n ≡ None → child (changed t (outcome t (row_rename d n c cs' e k (child t e k))).changes) d2 n2 ≡ None
+      at_one front cs d n c cs' e k front2 n2 d2 s is same leads h =
+          let q = one_dir d d2 (some_same (Dir d) (Dir d2) (sym (steps_lead t root front cs s ∙ ap Some is) ∙ ap (at_path t) same.0 ∙ leads)) in
+          subst (λ x. child (changed t (outcome t (row_rename d n c cs' e k (child t e k))).changes) x n2 ≡ None) q (subst (λ x. child (changed t (outcome t (row_rename d n c cs' e k (child t e k))).changes) d x ≡ None) same.1 h)
+
   -- ---- chmod and open
 
   abbrev ModeAt : List (List ℕ) → ℕ → Outcome → Type 0
@@ -506,6 +578,7 @@ module _ (t : Tree) (number : Txn) (who : Who) (new : IsNew t number) where
   open_at path = walk_steps t (OpenAt path) (λ e f n l h. absurd (cc)) root path (λ cs. row_open number who (last_of root cs)) (λ cs s. open_end path (last_of root cs) (steps_lead t root path cs s))
 
 pub paths_follow : PathsFollow
+unfolding LeftOf
 paths_follow osts t number who new =
     record {
       mkdir = λ path f h. mkdir_at t number who new path f h;
@@ -514,6 +587,7 @@ paths_follow osts t number who new =
       unlink = λ path h. unlink_at t number who new path h;
       rmdir = λ path h. rmdir_at t number who new path h;
       rename = λ old to h. rename_at t number who new old to h;
+      left = λ old to front n d p leads h. rename_left t number who new old to h front n d p leads;
       chmod = λ path mode c h leads. chmod_at t number who new path mode c h leads;
       opened = λ path f n l h. open_at t number who new path f n l h;
     }

@@ -50,6 +50,7 @@ module _ (osts : ℕ) (t : Tree) (number : Txn) (who : Who) where
         unlink : (path : List (List ℕ)) → answer osts t (act (op.Unlink path)) ≡ told.Done → at_path (done (op.Unlink path)) path ≡ None;
         rmdir : (path : List (List ℕ)) → answer osts t (act (op.Rmdir path)) ≡ told.Done → at_path (done (op.Rmdir path)) path ≡ None;
         rename : (old new : List (List ℕ)) → changes osts t (act (op.Rename old new)) ≡ true → at_path (done (op.Rename old new)) new ≡ at_path t old;
+        left : (old new front : List (List ℕ)) (n : List ℕ) (d : Fid) → old ≡ front ++ n ∷ [] → at_path t front ≡ Some (Dir d) → changes osts t (act (op.Rename old new)) ≡ true → child (done (op.Rename old new)) d n ≡ None;
         chmod : (path : List (List ℕ)) (mode : ℕ) (c : Child) → answer osts t (act (op.Chmod path mode)) ≡ told.Done → at_path t path ≡ Some c → (attributes (done (op.Chmod path mode)) c).mode ≡ mode;
         opened : (path : List (List ℕ)) (f : Fid) (n : Txn) (l : Raid0) → answer osts t (act (op.Open path)) ≡ told.OpenFile f n l
             → (at_path t path ≡ Some (File f)) × (l ≡ layout t f) × ((done (op.Open path)).opens ≡ t.opens ++ record { number = number; life = who; fid = f } ∷ []);

@@ -4,6 +4,7 @@ ghost use Rattle.lu_machine.specs.ByteLaws.{SizeIsEnd, WritePuts, CutEnds, Piece
 ghost use Rattle.lu_machine.specs.Covered.{LocksCover, AboveIsNew};
 ghost use Rattle.lu_machine.specs.Laws.{TouchedDecide, OthersStay, MadeHasNumber, NewFromOld, RefusalsStay, UnchangedStay, TransactionsGrantNothing, ReadingsChangeNothing, ModifyingMakeTransactions, MachineIsTable, NewLayouts, NumberIsFree, ForgetDropsOpens, LeadsStay, RemovalLaw, RemovalAgrees, EarlierAreOlder};
 ghost use Rattle.lu_machine.specs.Order.{OrderStays, ListsNames, ByteOrderIsOne};
+ghost use Rattle.lu_machine.specs.Paths.{LookupsTell, PathsFollow};
 ghost use Rattle.lu_machine.specs.Seen.{RemovalBySeen, TrimmedRemovalBySeen};
 ghost use Rattle.lu_machine.specs.Trim.{Unseen, TrimmedRemoval, NamedHaveLinks};
 
@@ -82,4 +83,10 @@ pub fn bytes()
     ensures cut { CutEnds }
     ensures put_piece { PiecePuts }
     ensures cut_piece { PieceCuts }
+{}
+
+/// What a look-up tells is where the path leads, and where paths lead once an operation is done.
+pub fn paths()
+    ensures lookup { LookupsTell }
+    ensures done { PathsFollow }
 {}
