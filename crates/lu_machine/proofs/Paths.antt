@@ -1,5 +1,5 @@
 -- Where paths lead once an operation is done.
-use Rattle.std.proofs.Common.{◌≡◌, ◌≢◌, ℕ, ◌+◌, ◌-◌, Bool, true, false, List, [], ◌∷◌, ◌++◌, ◌⊎◌, inl, inr, Option, Some, None, refl, sym, ap, subst, ◌∙◌, arith, is_some, ℤ}
+use Rattle.std.proofs.Common.{◌≡◌, ◌≢◌, ℕ, ◌+◌, ◌-◌, Bool, true, false, List, [], ◌∷◌, ◌++◌, ◌⊎◌, inl, inr, Option, Some, None, refl, sym, ap, subst, ◌∙◌, arith, is_some}
 use Rattle.std.specs.Prelude.{◌==◌, ◌&&◌, ◌||◌, if◌then◌else◌}
 use Rattle.std.specs.List.{list_any}
 use Rattle.std.specs.Option.{option_and_then}
@@ -13,20 +13,18 @@ use Rattle.lu_msg.specs.declared.answers.Answer.TheVariants as told
 use Rattle.lu_msg.specs.declared.answers.Answer.TheVariants.{Refused}
 use Rattle.lu_msg.specs.declared.answers.Errno.{Errno}
 use Rattle.lu_msg.specs.declared.answers.Errno.TheVariants.{EEXIST, EISDIR, EINVAL, EBUSY, ENAMETOOLONG, ENOTDIR, EPERM}
-use Rattle.lu_msg.specs.declared.operations.Op.TheVariants as op
 use Rattle.lu_machine.specs.declared.child.Child.{Child}
 use Rattle.lu_machine.specs.declared.child.Child.TheVariants.{Dir, File}
 use Rattle.lu_machine.specs.Name.{same_name, is_too_long}
 use Rattle.lu_machine.specs.Tree.{Tree, Attributes, same_fid, fid_of, child, listing, attributes, layout}
-use Rattle.lu_machine.specs.Change.{Change, Leads, Drops, Parted, MakesDir, MakesFile, SetMode, SetLinks, Leaves, change, changed}
-use Rattle.lu_machine.specs.Effect.{on_attributes}
+use Rattle.lu_machine.specs.Change.{Leads, Drops, Parted, MakesDir, MakesFile, SetMode, SetLinks, Leaves, change, changed}
 use Rattle.lu_machine.specs.Striping.{new_layout}
 use Rattle.lu_machine.specs.Plan.{Plan, Refuse, LookAttr, Outcome, outcome}
-use Rattle.lu_machine.specs.Table.{root, made_by, look_in, look, there, absent, walk, onward, walk_up, to_last, last_of, tells, does, found, row_lookup, row_mkdir, row_create, row_link, row_unlink, if_empty, row_rmdir, passes, moves, row_replace, row_rename, rename, row_chmod, row_open, plan}
+use Rattle.lu_machine.specs.Table.{root, made_by, look_in, look, there, absent, walk, onward, walk_up, to_last, last_of, tells, does, found, row_lookup, row_mkdir, row_create, row_link, row_unlink, row_rmdir, passes, moves, row_replace, row_rename, rename, row_chmod, row_open}
 use Rattle.lu_machine.specs.Footprint.{Every, is_some_change}
 use Rattle.lu_machine.specs.Covered.{IsNew}
 use Rattle.lu_machine.specs.Paths.{leads_to, at_path, LookupsTell, PathsFollow}
-use Rattle.lu_machine.proofs.Keys.{fid_tells, name_tells}
+use Rattle.lu_machine.proofs.Keys.{name_tells}
 use Rattle.lu_machine.proofs.Effects.{name_after, dir_mode_after, file_mode_after}
 use Rattle.lu_machine.proofs.Leads.{here, at_same, empty_other, led, stays}
 use Rattle.lu_machine.proofs.Outcomes.{mkdir, create}
@@ -126,8 +124,7 @@ walk_short t (Dir d) (n ∷ ns) c next e h = by (child t d n) refl h (λ b. walk
         → (cs : List Child) × ((last_of (Dir d) cs ≡ c) × (outcome t (walk (Dir d) (n ∷ ns) next) ≡ outcome t (next cs)))
     by None q g ih = absurd (cc)
     by (Some b) q g ih =
-        let r = ih b g in
-        (
+        let r = ih b g in (
           b ∷ r.0,
           (
             r.1.0,
