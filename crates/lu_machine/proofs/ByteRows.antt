@@ -9,16 +9,19 @@ use Rattle.lu_msg.specs.declared.answers.Answer.TheVariants as told
 use Rattle.lu_msg.specs.declared.answers.Errno.TheVariants.{ENOENT}
 use Rattle.lu_msg.specs.declared.calls.Call.TheVariants as call
 use Rattle.lu_msg.specs.declared.operations.Op.TheVariants as op
+use Rattle.lu_machine.specs.declared.acts.Act.{Act}
+use Rattle.lu_machine.specs.declared.acts.Deed.{Deed}
+use Rattle.lu_machine.specs.declared.acts.Deed.TheVariants.{Names, Data, Piece}
 use Rattle.lu_machine.specs.Bytes.{write, cut, put_piece, cut_piece, object_size}
-use Rattle.lu_machine.specs.Machine.{Deed, Names, Data, Piece, Item, start, answers, run}
+use Rattle.lu_machine.specs.Machine.{start, answers, run}
 
 abbrev me : Who
 me = record { client = 0; life = 1 }
 
-abbrev item : ℕ → Deed → Item
+abbrev item : ℕ → Deed → Act
 item count deed = record { who = me; number = record { 0 = 4294967296 + count }; deed = deed }
 
-abbrev acts : Deed → Item
+abbrev acts : Deed → Act
 acts deed = record { who = me; number = record { 0 = 0 }; deed = deed }
 
 abbrev f : List ℕ

@@ -26,7 +26,7 @@ use Rattle.lu_machine.specs.Name.{is_too_long}
 use Rattle.lu_machine.specs.Tree.{Tree, Attributes, same_fid, fid_of, child, listing, attributes, layout}
 use Rattle.lu_machine.specs.Plan.{Plan, Refuse, Outcome, outcome}
 use Rattle.lu_machine.specs.Table.{root, look_in, there, walk, last_of, wants, row_lookup, row_stat, row_list, row_layout, plan}
-use Rattle.lu_machine.specs.Footprint.{Act, writes, after, Same, Every, Apart, inode_of}
+use Rattle.lu_machine.specs.Footprint.{Operation, writes, after, Same, Every, Apart, inode_of}
 use Rattle.lu_machine.specs.Laws.{IsReading}
 use Rattle.lu_machine.specs.Removal.{Item, Acts, Forgets}
 use Rattle.lu_machine.specs.Trim.{Above}
@@ -102,7 +102,7 @@ last_kept ws m bit (c ∷ cs) p g h k u = go c cs g u
 abbrev NotRefused : Outcome → Type 0
 NotRefused o = (e : Errno) → o.answer ≡ Refused e → ⊥
 
-module _ (osts : ℕ) (t : Tree) (a : Act) (new : IsNew t a.number) where
+module _ (osts : ℕ) (t : Tree) (a : Operation) (new : IsNew t a.number) where
   abbrev Other : Child → Type 0
   Other c = a.number.0 ≡ (fid_of c).0 → ⊥
 

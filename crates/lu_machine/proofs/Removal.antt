@@ -18,7 +18,7 @@ use Rattle.lu_machine.specs.Change.{Change, Leads, Drops, MakesDir, new_director
 use Rattle.lu_machine.specs.Effect.{on_name}
 use Rattle.lu_machine.specs.Plan.{Plan, Refuse, Do, LookName, LookList, LookAttr, LookLayout, Outcome, outcome, looked}
 use Rattle.lu_machine.specs.Table.{root, made_by, plan}
-use Rattle.lu_machine.specs.Footprint.{Same, Every, inode_of, Act, empty, after, outcome_of, touches, forget, answer}
+use Rattle.lu_machine.specs.Footprint.{Same, Every, inode_of, Operation, empty, after, outcome_of, touches, forget, answer}
 use Rattle.lu_machine.specs.Removal.{Item, Acts, Forgets, pick, contents, Clear, Untouched, Free, Older}
 use Rattle.lu_machine.specs.Laws.{RemovalLaw, RemovalAgrees, EarlierAreOlder}
 use Rattle.lu_machine.proofs.Effects.{name_after}
@@ -89,7 +89,7 @@ older_changes : (keep : ℕ → Bool) (number : Txn) (t : Tree) (xs : List Chang
 older_changes keep number t [] k b h = h
 older_changes keep number t (x ∷ xs) k b h = older_changes keep number (change t x) xs k b.1 (older_change keep number t x k b.0 h)
 
-older_after : (osts : ℕ) (keep : ℕ → Bool) (t : Tree) (a : Act) → keep 1 ≡ true → keep a.number.0 ≡ true → Older keep t → Older keep (after osts t a)
+older_after : (osts : ℕ) (keep : ℕ → Bool) (t : Tree) (a : Operation) → keep 1 ≡ true → keep a.number.0 ≡ true → Older keep t → Older keep (after osts t a)
 older_after osts keep t a root k o =
     older_changes keep a.number t (outcome_of osts t a).changes k (bound (Kept keep) a.number t a.who root o (outcome_of osts t a) (comes osts t a)) o
 
@@ -123,14 +123,14 @@ module _ (osts : ℕ) (start : Tree) (keep : ℕ → Bool) (root : keep 1 ≡ tr
       same_attr (File f) a k = (g.same (part.Attr f) a k).1
 
   -- an act that touches what is clear does the same in both
-  same_act : (past : List Item) (a : Act) → Agree osts start keep past → Untouched osts start keep past a
+  same_act : (past : List Item) (a : Operation) → Agree osts start keep past → Untouched osts start keep past a
       → (outcome_of osts (contents osts start past) a ≡ outcome_of osts (contents osts start (pick keep past)) a) × (touches osts (contents osts start past) a ≡ touches osts (contents osts start (pick keep past)) a)
   same_act past a g w =
       same_known (Kept keep) (Clear osts start keep past) (contents osts start past) (contents osts start (pick keep past)) (agree_views past g) (plan osts a.number a.who a.op)
       (plan_knows (Kept keep) root osts a.number a.who a.op) w
 
   -- the inode that one taken out makes isn't kept
-  not_its : (a : Act) (t : Tree) (p : Part) → keep a.number.0 ≡ false → keep (inode_of p).0 ≡ true → answer osts t a ≡ told.Made (inode_of p) → ⊥
+  not_its : (a : Operation) (t : Tree) (p : Part) → keep a.number.0 ≡ false → keep (inode_of p).0 ≡ true → answer osts t a ≡ told.Made (inode_of p) → ⊥
   not_its a t p gone k e = let h = made_has_number osts t a (inode_of p) e in absurd (cc (ap keep h, gone, k))
 
   agree : (past : List Item) → Older keep start → Free osts start keep past → Agree osts start keep past

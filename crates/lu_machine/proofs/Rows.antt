@@ -8,7 +8,9 @@ use Rattle.lu_msg.specs.declared.answers.Answer.TheVariants as told
 use Rattle.lu_msg.specs.declared.answers.Errno.TheVariants.{ENOTEMPTY, EINVAL}
 use Rattle.lu_msg.specs.declared.operations.Op.{Op}
 use Rattle.lu_msg.specs.declared.operations.Op.TheVariants as op
-use Rattle.lu_machine.specs.Machine.{Item, Names, start, answers}
+use Rattle.lu_machine.specs.declared.acts.Act.{Act}
+use Rattle.lu_machine.specs.declared.acts.Deed.TheVariants.{Names}
+use Rattle.lu_machine.specs.Machine.{start, answers}
 
 -- the number of a transaction of boot 1
 abbrev number : ℕ → Txn
@@ -23,7 +25,7 @@ none = record { 0 = 0 }
 abbrev me : Who
 me = record { client = 0; life = 1 }
 
-abbrev act : Txn → Op → Item
+abbrev act : Txn → Op → Act
 act n o = record { who = me; number = n; deed = Names o }
 
 abbrev a : List ℕ
@@ -38,7 +40,7 @@ f = codes "f"
 abbrev g : List ℕ
 g = codes "g"
 
-abbrev acts : List Item
+abbrev acts : List Act
 acts =
     act (number 1) (op.Mkdir (a ∷ []))
     ∷ act (number 2) (op.Create (f ∷ []) 1048576 (pos 1))

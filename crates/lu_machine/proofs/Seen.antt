@@ -5,7 +5,7 @@ use Rattle.std.specs.List.{list_any}
 use Rattle.lu_part.specs.declared.parts.Part.{Part}
 use Rattle.lu_part.specs.Meets.{meets}
 use Rattle.lu_machine.specs.Tree.{Tree}
-use Rattle.lu_machine.specs.Footprint.{Act, touches, writes, Every, Apart}
+use Rattle.lu_machine.specs.Footprint.{Operation, touches, writes, Every, Apart}
 use Rattle.lu_machine.specs.Removal.{Item, Acts, Forgets, contents, ClearOf, UntouchedOf, FreeOf}
 use Rattle.lu_machine.specs.Trim.{trimmed}
 use Rattle.lu_machine.specs.Seen.{meet, seen, SawKept, AllSawKept, RemovalBySeen, TrimmedRemovalBySeen}
@@ -34,7 +34,7 @@ both P Q [] h k = tt
 both P Q (p ∷ ps) h k = ((h.0, k.0), both P Q ps h.1 k.1)
 
 module _ (osts : ℕ) (keep : ℕ → Bool) (of : List Item → Tree) where
-  abbrev Gone : Act → List Item → Part → Type 0
+  abbrev Gone : Operation → List Item → Part → Type 0
   Gone a past p = keep a.number.0 ≡ false → Apart (writes osts (of past) a) p
 
   clear : (past : List Item) (ps : List Part) → Every (λ n. keep n ≡ true) (seen osts of past ps) → Every (ClearOf osts keep of past) ps
@@ -47,7 +47,7 @@ module _ (osts : ℕ) (keep : ℕ → Bool) (of : List Item → Tree) where
       by true e k ih = both (Gone a past) (ClearOf osts keep of past) ps (every_one (Gone a past) ps (λ p gone. absurd (cc (k.0, gone)))) (ih k.1)
       by false e k ih = both (Gone a past) (ClearOf osts keep of past) ps (every_map (Apart (writes osts (of past) a)) (Gone a past) ps (λ p w gone. w) (meet_apart (writes osts (of past) a) ps e)) (ih k)
 
-  untouched : (past : List Item) (a : Act) → SawKept osts of keep past a → UntouchedOf osts keep of past a
+  untouched : (past : List Item) (a : Operation) → SawKept osts of keep past a → UntouchedOf osts keep of past a
   untouched past a h = clear past (touches osts (of past) a) h
 
   free : (past : List Item) → AllSawKept osts of keep past → FreeOf osts keep of past

@@ -13,15 +13,15 @@ use Rattle.lu_machine.specs.Tree.{Tree, Opened, same_life}
 use Rattle.lu_machine.specs.Change.{Change, changed, written, made}
 use Rattle.lu_machine.specs.Plan.{Outcome}
 use Rattle.lu_machine.specs.Table.{plan}
-use Rattle.lu_machine.specs.Footprint.{Act, touches, is_some_change, after, outcome_of, Same, inode_of}
+use Rattle.lu_machine.specs.Footprint.{Operation, touches, is_some_change, after, outcome_of, Same, inode_of}
 use Rattle.lu_machine.specs.Laws.{Alike, TouchedDecide, OthersStay, MadeHasNumber, NewFromOld, RefusalsStay, UnchangedStay, TransactionsGrantNothing, ForgetDropsOpens}
 use Rattle.lu_machine.proofs.Outcomes.{IsTold, Comes, refused, learns, mkdir, create, plan_comes}
 use Rattle.lu_machine.proofs.Footprints.{same_looks, same_changes, left_changes, NotOf}
 
-pub comes : (osts : ℕ) (t : Tree) (a : Act) → Comes t a.number a.who (outcome_of osts t a)
+pub comes : (osts : ℕ) (t : Tree) (a : Operation) → Comes t a.number a.who (outcome_of osts t a)
 comes osts t a = plan_comes t a.number a.who osts a.op
 
-pub alike : (osts : ℕ) (t u : Tree) (a : Act) → outcome_of osts t a ≡ outcome_of osts u a → touches osts t a ≡ touches osts u a → Alike osts t u a
+pub alike : (osts : ℕ) (t u : Tree) (a : Operation) → outcome_of osts t a ≡ outcome_of osts u a → touches osts t a ≡ touches osts u a → Alike osts t u a
 alike osts t u a d l =
     record {
       answer = ap (λ (x : Outcome). x.answer) d;

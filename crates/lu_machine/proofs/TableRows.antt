@@ -13,9 +13,11 @@ use Rattle.lu_msg.specs.declared.operations.Op.TheVariants as op
 use Rattle.lu_part.specs.declared.parts.Part.{Part}
 use Rattle.lu_part.specs.declared.parts.Part.TheVariants as part
 use Rattle.lu_part.specs.declared.parts.Want.{Want}
+use Rattle.lu_machine.specs.declared.acts.Act.{Act}
+use Rattle.lu_machine.specs.declared.acts.Deed.TheVariants.{Names}
 use Rattle.lu_machine.specs.Tree.{Tree}
 use Rattle.lu_machine.specs.Footprint as footprint
-use Rattle.lu_machine.specs.Footprint.{Act, empty, forget}
+use Rattle.lu_machine.specs.Footprint.{Operation, empty, forget}
 use Rattle.lu_machine.specs.Machine as machine
 
 abbrev at : ℕ → Fid
@@ -30,11 +32,11 @@ root = record { 0 = 1 }
 abbrev me : Who
 me = record { client = 0; life = 1 }
 
-abbrev act : ℕ → Op → Act
+abbrev act : ℕ → Op → Operation
 act count o = record { number = number count; who = me; op = o }
 
-abbrev item : ℕ → Op → machine.Item
-item count o = record { who = me; number = number count; deed = machine.Names o }
+abbrev item : ℕ → Op → Act
+item count o = record { who = me; number = number count; deed = Names o }
 
 abbrev a : List ℕ
 a = codes "a"
@@ -496,8 +498,8 @@ fresh = refl
 refused_first : machine.answer 4 built (item 5 (op.Mkdir (f ∷ []))) ≡ Refused EEXIST
 refused_first = refl
 
-reads : machine.answer 4 built (record { who = me; number = record { 0 = 0 }; deed = machine.Names (op.Lookup (f ∷ [])) }) ≡ told.File (at 2)
+reads : machine.answer 4 built (record { who = me; number = record { 0 = 0 }; deed = Names (op.Lookup (f ∷ [])) }) ≡ told.File (at 2)
 reads = refl
 
-root_number : machine.answer 4 machine.start (record { who = me; number = record { 0 = 1 }; deed = machine.Names (op.Mkdir (a ∷ [])) }) ≡ Refused EBADF
+root_number : machine.answer 4 machine.start (record { who = me; number = record { 0 = 1 }; deed = Names (op.Mkdir (a ∷ [])) }) ≡ Refused EBADF
 root_number = refl

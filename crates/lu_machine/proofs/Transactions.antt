@@ -21,7 +21,7 @@ use Rattle.lu_machine.specs.Striping.{new_layout}
 use Rattle.lu_machine.specs.Plan.{LookAttr, Outcome, outcome}
 use Rattle.lu_machine.specs.Table.{root, absent, there, last_of, does, row_lookup, row_stat, row_list, row_layout, row_mkdir, row_create, row_link, row_unlink, row_rmdir, row_open, plan}
 use Rattle.lu_machine.specs.Footprint as footprint
-use Rattle.lu_machine.specs.Footprint.{Act, is_some_change, changes, after}
+use Rattle.lu_machine.specs.Footprint.{Operation, is_some_change, changes, after}
 use Rattle.lu_machine.specs.Machine.{is_stale, as_told, names_answer, names_next}
 use Rattle.lu_machine.specs.Laws.{IsReading, IsModifying, ReadingsChangeNothing, ModifyingMakeTransactions, MachineIsTable}
 use Rattle.lu_machine.proofs.Walks.{there_ends, absent_ends, if_empty_ends, walk_ends, to_last_ends}

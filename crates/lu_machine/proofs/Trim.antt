@@ -16,7 +16,7 @@ use Rattle.lu_machine.specs.Tree.{Tree, Directory, Inode, Opened, no_directory, 
 use Rattle.lu_machine.specs.Change.{Change, Leads, Drops, Parted, MakesDir, MakesFile, SetMode, SetLinks, Leaves, Opens, Closes, new_directory, new_file, put_dir, put_file, put_name, leave, closed, change, changed}
 use Rattle.lu_machine.specs.Plan.{Outcome}
 use Rattle.lu_machine.specs.Table.{plan}
-use Rattle.lu_machine.specs.Footprint.{Act, empty, after, outcome_of, touches, forget, Every, Apart}
+use Rattle.lu_machine.specs.Footprint.{Operation, empty, after, outcome_of, touches, forget, Every, Apart}
 use Rattle.lu_machine.specs.Removal.{Item, Acts, Forgets, pick, contents, Clear, ClearOf, Untouched, UntouchedOf, Free, FreeOf}
 use Rattle.lu_machine.specs.Trim.{is_open, living, trim, trimmed, Above, Rising, Unseen, TrimmedRemoval, NamedHaveLinks}
 use Rattle.lu_machine.proofs.Effects.{file_put}
@@ -134,7 +134,7 @@ views t u k s h =
     attr (Dir d) a = ap (λ ds. record { mode = (unwrap_or (lookup (same_fid d) ds) no_directory).mode; links = 0 }) (sym h.dirs)
     attr (File f) a = ap (λ (i : Inode). record { mode = i.mode; links = i.links }) (sym (h.files f a))
 
-same_outcome : (osts : ℕ) (t u : Tree) (k : ℕ) (a : Act) → Sound t k → Trims t u → (outcome_of osts t a ≡ outcome_of osts u a) × (touches osts t a ≡ touches osts u a)
+same_outcome : (osts : ℕ) (t u : Tree) (k : ℕ) (a : Operation) → Sound t k → Trims t u → (outcome_of osts t a ≡ outcome_of osts u a) × (touches osts t a ≡ touches osts u a)
 same_outcome osts t u k a s h = same_known (IsAlive t) (λ p. Unit {0}) t u (views t u k s h) (plan osts a.number a.who a.op) (plan_knows (IsAlive t) tt osts a.number a.who a.op) (every_one (λ p. Unit {0}) (touches osts t a) (λ p. tt))
 
 begins : (t u : Tree) → Trims t u → During t t u
@@ -178,7 +178,7 @@ clear_kept osts keep [] p r c = c
 clear_kept osts keep (Acts a ∷ past) p r c = (λ gone. subst (λ ws. Apart ws p) (sym (unseen osts past r.1 a).writes) (c.0 gone), clear_kept osts keep past p r.1 c.1)
 clear_kept osts keep (Forgets who ∷ past) p r c = clear_kept osts keep past p r c
 
-untouched_kept : (osts : ℕ) (keep : ℕ → Bool) (past : List Item) (a : Act) → Rising past → UntouchedOf osts keep (trimmed osts) past a → Untouched osts empty keep past a
+untouched_kept : (osts : ℕ) (keep : ℕ → Bool) (past : List Item) (a : Operation) → Rising past → UntouchedOf osts keep (trimmed osts) past a → Untouched osts empty keep past a
 untouched_kept osts keep past a r h =
     every_map (ClearOf osts keep (trimmed osts) past) (Clear osts empty keep past) (touches osts (contents osts empty past) a) (λ p. clear_kept osts keep past p r)
     (subst (λ ps. Every (ClearOf osts keep (trimmed osts) past) ps) (sym (unseen osts past r a).touches) h)

@@ -11,7 +11,7 @@ use Rattle.lu_part.specs.declared.parts.Part.{Part}
 use Rattle.lu_part.specs.declared.parts.Want.{Want}
 use Rattle.lu_machine.specs.declared.child.Child.{Child}
 use Rattle.lu_machine.specs.Tree.{Tree, child, fid_of, same_fid}
-use Rattle.lu_machine.specs.Footprint.{Act, empty, answer, grants, writes, after, Every}
+use Rattle.lu_machine.specs.Footprint.{Operation, empty, answer, grants, writes, after, Every}
 use Rattle.lu_machine.specs.Laws.{IsReading}
 use Rattle.lu_machine.specs.Removal.{Item, contents}
 use Rattle.lu_machine.specs.Trim.{Above}
@@ -30,7 +30,7 @@ IsNew t number = (number.0 ≡ 1 → ⊥) × ((d : Fid) (n : List ℕ) (c : Chil
 
 abbrev pub LocksCover : Type 0
 LocksCover =
-    (osts : ℕ) (t : Tree) (a b : Act) → IsNew t a.number → IsReading b.op → ((e : Errno) → answer osts t b ≡ Refused e → ⊥) → Uncut (writes osts t a) (grants osts t b)
+    (osts : ℕ) (t : Tree) (a b : Operation) → IsNew t a.number → IsReading b.op → ((e : Errno) → answer osts t b ≡ Refused e → ⊥) → Uncut (writes osts t a) (grants osts t b)
     → answer osts (after osts t a) b ≡ answer osts t b
 
 -- a number above all of a past is new there

@@ -17,7 +17,7 @@ use Rattle.lu_machine.specs.Plan.{Outcome, outcome, looked}
 use Rattle.lu_machine.specs.Table.{plan}
 
 -- an operation on names, under the number of its transaction (0 where it makes none), by a life
-pub record Act : Type 0 where
+pub record Operation : Type 0 where
   pub number : Txn
   pub who : Who
   pub op : Op
@@ -30,7 +30,7 @@ abbrev pub is_some_change : List Change → Bool
 is_some_change [] = false
 is_some_change (x ∷ xs) = true
 
-module _ (osts : ℕ) (t : Tree) (a : Act) where
+module _ (osts : ℕ) (t : Tree) (a : Operation) where
   abbrev pub outcome_of : Outcome
   outcome_of = outcome t (plan osts a.number a.who a.op)
 

@@ -14,13 +14,13 @@ use Rattle.lu_part.specs.declared.parts.Part.{Part}
 use Rattle.lu_part.specs.declared.parts.Part.TheVariants.{Parent}
 use Rattle.lu_machine.specs.declared.child.Child.{Child}
 use Rattle.lu_machine.specs.Tree.{Tree, child, fid_of, same_life}
-use Rattle.lu_machine.specs.Footprint.{Act, empty, answer, grants, touches, writes, changes, after, forget, Same, Every, Apart, inode_of}
+use Rattle.lu_machine.specs.Footprint.{Operation, empty, answer, grants, touches, writes, changes, after, forget, Same, Every, Apart, inode_of}
 use Rattle.lu_machine.specs.Machine as machine
 use Rattle.lu_machine.specs.Machine.{Machine}
 use Rattle.lu_machine.specs.Striping.{stripe_size, stripe_count, new_layout}
 use Rattle.lu_machine.specs.Removal.{Item, Acts, Forgets, pick, contents, Untouched, Clear, Free, Older}
 
-abbrev pub Alike : ℕ → Tree → Tree → Act → Type 0
+abbrev pub Alike : ℕ → Tree → Tree → Operation → Type 0
 Alike osts t u a =
     record {
       answer : answer osts t a ≡ answer osts u a;
@@ -32,37 +32,37 @@ Alike osts t u a =
 
 -- trees that agree on what an act touches give it the same
 abbrev pub TouchedDecide : Type 0
-TouchedDecide = (osts : ℕ) (t u : Tree) (a : Act) → Every (Same t u) (touches osts t a) → Alike osts t u a
+TouchedDecide = (osts : ℕ) (t u : Tree) (a : Operation) → Every (Same t u) (touches osts t a) → Alike osts t u a
 
 -- what meets nothing that is written stays, but in the inode that is made
 abbrev pub OthersStay : Type 0
-OthersStay = (osts : ℕ) (t : Tree) (a : Act) (p : Part) → Apart (writes osts t a) p → (answer osts t a ≡ Made (inode_of p) → ⊥) → Same t (after osts t a) p
+OthersStay = (osts : ℕ) (t : Tree) (a : Operation) (p : Part) → Apart (writes osts t a) p → (answer osts t a ≡ Made (inode_of p) → ⊥) → Same t (after osts t a) p
 
 -- and that inode has the act's number
 abbrev pub MadeHasNumber : Type 0
-MadeHasNumber = (osts : ℕ) (t : Tree) (a : Act) (f : Fid) → answer osts t a ≡ Made f → f.0 ≡ a.number.0
+MadeHasNumber = (osts : ℕ) (t : Tree) (a : Operation) (f : Fid) → answer osts t a ≡ Made f → f.0 ≡ a.number.0
 
 -- each part after it depends on what it touches and on that part before it, the written ones too
 abbrev pub NewFromOld : Type 0
-NewFromOld = (osts : ℕ) (t u : Tree) (a : Act) (p : Part) → Every (Same t u) (touches osts t a) → Same t u p → Same (after osts t a) (after osts u a) p
+NewFromOld = (osts : ℕ) (t u : Tree) (a : Operation) (p : Part) → Every (Same t u) (touches osts t a) → Same t u p → Same (after osts t a) (after osts u a) p
 
 -- a refusal makes no transaction, and grants and writes nothing
 abbrev pub RefusalsStay : Type 0
-RefusalsStay = (osts : ℕ) (t : Tree) (a : Act) (e : Errno) → answer osts t a ≡ Refused e → (changes osts t a ≡ false) × (grants osts t a ≡ []) × (writes osts t a ≡ []) × (after osts t a ≡ t)
+RefusalsStay = (osts : ℕ) (t : Tree) (a : Operation) (e : Errno) → answer osts t a ≡ Refused e → (changes osts t a ≡ false) × (grants osts t a ≡ []) × (writes osts t a ≡ []) × (after osts t a ≡ t)
 
 -- what makes no transaction changes and writes nothing
 abbrev pub UnchangedStay : Type 0
-UnchangedStay = (osts : ℕ) (t : Tree) (a : Act) → changes osts t a ≡ false → (after osts t a ≡ t) × (writes osts t a ≡ [])
+UnchangedStay = (osts : ℕ) (t : Tree) (a : Operation) → changes osts t a ≡ false → (after osts t a ≡ t) × (writes osts t a ≡ [])
 
 -- what a transaction is: it grants nothing, since only readings do
 abbrev pub TransactionsGrantNothing : Type 0
-TransactionsGrantNothing = (osts : ℕ) (t : Tree) (a : Act) → changes osts t a ≡ true → grants osts t a ≡ []
+TransactionsGrantNothing = (osts : ℕ) (t : Tree) (a : Operation) → changes osts t a ≡ true → grants osts t a ≡ []
 
 -- what an operation touches, writes and grants, and whether it makes a transaction, depend neither on
 -- the number that it gets nor on who asks
 abbrev pub NumberIsFree : Type 0
 NumberIsFree =
-    (osts : ℕ) (t : Tree) (a b : Act) → a.op ≡ b.op
+    (osts : ℕ) (t : Tree) (a b : Operation) → a.op ≡ b.op
     → record {
       touches : touches osts t a ≡ touches osts t b;
       writes : writes osts t a ≡ writes osts t b;
@@ -91,15 +91,15 @@ IsModifying (op.Close opened fid) = Unit {0}
 IsModifying _ = ⊥
 
 abbrev pub ReadingsChangeNothing : Type 0
-ReadingsChangeNothing = (osts : ℕ) (t : Tree) (a : Act) → IsReading a.op → changes osts t a ≡ false
+ReadingsChangeNothing = (osts : ℕ) (t : Tree) (a : Operation) → IsReading a.op → changes osts t a ≡ false
 
 abbrev pub ModifyingMakeTransactions : Type 0
-ModifyingMakeTransactions = (osts : ℕ) (t : Tree) (a : Act) → IsModifying a.op → ((e : Errno) → answer osts t a ≡ Refused e → ⊥) → changes osts t a ≡ true
+ModifyingMakeTransactions = (osts : ℕ) (t : Tree) (a : Operation) → IsModifying a.op → ((e : Errno) → answer osts t a ≡ Refused e → ⊥) → changes osts t a ≡ true
 
 -- the machine is the table, where the number of what makes a transaction is above all before it
 abbrev pub MachineIsTable : Type 0
 MachineIsTable =
-    (osts : ℕ) (m : Machine) (a : Act) → (changes osts m.tree a ≡ true → m.last < a.number.0)
+    (osts : ℕ) (m : Machine) (a : Operation) → (changes osts m.tree a ≡ true → m.last < a.number.0)
     → (machine.names_answer osts m a ≡ machine.as_told m (answer osts m.tree a)) × ((machine.names_next osts m a).tree ≡ after osts m.tree a)
 
 -- the layout of a new file: its size and the number of its stripes, where they lie, and that it is one
@@ -127,14 +127,14 @@ ForgetDropsOpens =
 -- what a name leads to changes only where Parent of that inode is written (in a directory that was there before)
 abbrev pub LeadsStay : Type 0
 LeadsStay =
-    (osts : ℕ) (t : Tree) (a : Act) (d : Fid) (n : List ℕ) (c : Child) → child t d n ≡ Some c → (a.number.0 ≡ d.0 → ⊥) → Apart (writes osts t a) (Parent (fid_of c))
+    (osts : ℕ) (t : Tree) (a : Operation) (d : Fid) (n : List ℕ) (c : Child) → child t d n ≡ Some c → (a.number.0 ≡ d.0 → ⊥) → Apart (writes osts t a) (Parent (fid_of c))
     → child (after osts t a) d n ≡ Some c
 
 -- taking out the acts whose numbers aren't kept: each act that touches nothing that they wrote, be it the
 -- next one or one of the items, comes out the same
 abbrev pub RemovalLaw : Type 0
 RemovalLaw =
-    (osts : ℕ) (start : Tree) (keep : ℕ → Bool) → keep 1 ≡ true → Older keep start → (past : List Item) → Free osts start keep past → (a : Act) → Untouched osts start keep past a
+    (osts : ℕ) (start : Tree) (keep : ℕ → Bool) → keep 1 ≡ true → Older keep start → (past : List Item) → Free osts start keep past → (a : Operation) → Untouched osts start keep past a
     → Alike osts (contents osts start past) (contents osts start (pick keep past)) a
 
 -- and the contents agree on each part that meets nothing that they wrote, of an inode that they didn't make

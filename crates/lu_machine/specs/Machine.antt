@@ -4,8 +4,6 @@ use Rattle.std.specs.Prelude.{ℕ, max, Bool, not, List, [], ◌∷◌, length, 
 use Rattle.std.specs.Map.{lookup}
 use Rattle.std.specs.Option.{unwrap_or}
 use Rattle.lu_base.specs.declared.ids.Fid.{Fid}
-use Rattle.lu_base.specs.declared.ids.Txn.{Txn}
-use Rattle.lu_base.specs.declared.ids.Who.{Who}
 use Rattle.lu_msg.specs.declared.answers.Answer.{Answer}
 use Rattle.lu_msg.specs.declared.answers.Answer.TheVariants as told
 use Rattle.lu_msg.specs.declared.answers.Errno.TheVariants.{EBADF}
@@ -13,11 +11,14 @@ use Rattle.lu_msg.specs.declared.calls.Call.{Call}
 use Rattle.lu_msg.specs.declared.calls.Call.TheVariants as call
 use Rattle.lu_msg.specs.declared.operations.Op.{Op}
 use Rattle.lu_msg.specs.declared.operations.Op.TheVariants as op
+use Rattle.lu_machine.specs.declared.acts.Act.{Act}
+use Rattle.lu_machine.specs.declared.acts.Deed.{Deed}
+use Rattle.lu_machine.specs.declared.acts.Deed.TheVariants.{Names, Data, Piece}
 use Rattle.lu_machine.specs.Entries.{without, place}
 use Rattle.lu_machine.specs.Tree.{Tree, same_fid, fid_cmp, layout}
 use Rattle.lu_machine.specs.Bytes.{FileBytes, size_of, read, write, cut, put_piece, cut_piece, object_size}
 use Rattle.lu_machine.specs.Footprint as footprint
-use Rattle.lu_machine.specs.Footprint.{Act, empty, changes, after}
+use Rattle.lu_machine.specs.Footprint.{Operation, empty, changes, after}
 
 -- `last` is the greatest number of an operation on names so far; that of the root, 1, is used from the first.
 -- A file's bytes stay when no name leads to it any longer.
@@ -28,17 +29,6 @@ pub record Machine : Type 0 where
 
 abbrev pub start : Machine
 start = record { tree = empty; last = 1; bytes = [] }
-
--- an operation on names; a read, write, cut or flush of a file, whatever its handle; a put or cut of an object
-pub data Deed : Type 0 where
-  Names : (op : Op) → Deed
-  Data : (fid : Fid) (call : Call) → Deed
-  Piece : (op : Op) → Deed
-
-pub record Item : Type 0 where
-  pub who : Who
-  pub number : Txn
-  pub deed : Deed
 
 abbrev pub bytes_of : Machine → Fid → FileBytes
 bytes_of m f = unwrap_or (lookup (same_fid f) m.bytes) []
@@ -52,7 +42,7 @@ was_file m f = is_some (lookup (same_fid f) m.tree.files)
 
 -- ---- operations on names
 
-module _ (osts : ℕ) (m : Machine) (a : Act) where
+module _ (osts : ℕ) (m : Machine) (a : Operation) where
   -- it would make a transaction under a number that isn't above all before it: the machine refuses it with
   -- EBADF, which is no answer that is told to an operation on names
   abbrev pub is_stale : Bool
@@ -67,7 +57,7 @@ as_told m (told.OpenFile fid txn layout) = told.Made fid
 as_told m (told.FileStat fid mode links layout) = told.FileSize fid mode links (size_of (bytes_of m fid))
 as_told m answer = answer
 
-abbrev pub names_answer : ℕ → Machine → Act → Answer
+abbrev pub names_answer : ℕ → Machine → Operation → Answer
 names_answer osts m a = if is_stale osts m a then told.Refused EBADF else as_told m (footprint.answer osts m.tree a)
 
 -- ---- bytes: what never was a file has none, and keeps none
@@ -98,20 +88,20 @@ piece_next m _ = m
 
 -- ---- one act
 
-abbrev pub on_names : Item → Op → Act
+abbrev pub on_names : Act → Op → Operation
 on_names i o = record { number = i.number; who = i.who; op = o }
 
-abbrev pub answer_to : ℕ → Machine → Item → Deed → Answer
+abbrev pub answer_to : ℕ → Machine → Act → Deed → Answer
 answer_to osts m i (Names o) = names_answer osts m (on_names i o)
 answer_to osts m i (Data f c) = data_answer m f c
 answer_to osts m i (Piece o) = told.Done
 
-abbrev pub next_after : ℕ → Machine → Item → Deed → Machine
+abbrev pub next_after : ℕ → Machine → Act → Deed → Machine
 next_after osts m i (Names o) = names_next osts m (on_names i o)
 next_after osts m i (Data f c) = changed_bytes m f (data_change m f c)
 next_after osts m i (Piece o) = piece_next m o
 
-module _ (osts : ℕ) (m : Machine) (i : Item) where
+module _ (osts : ℕ) (m : Machine) (i : Act) where
   abbrev pub answer : Answer
   answer = answer_to osts m i i.deed
 
@@ -123,10 +113,10 @@ abbrev pub object_bytes : Machine → Fid → ℕ → ℕ
 object_bytes m f stripe = object_size (layout m.tree f) stripe (bytes_of m f)
 
 -- the answers to acts, and the machine after them, the first act first
-abbrev pub answers : ℕ → Machine → List Item → List Answer
+abbrev pub answers : ℕ → Machine → List Act → List Answer
 answers osts m [] = []
 answers osts m (i ∷ is) = answer osts m i ∷ answers osts (next osts m i) is
 
-abbrev pub run : ℕ → Machine → List Item → Machine
+abbrev pub run : ℕ → Machine → List Act → Machine
 run osts m [] = m
 run osts m (i ∷ is) = run osts (next osts m i) is

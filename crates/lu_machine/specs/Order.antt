@@ -8,7 +8,7 @@ use Rattle.lu_base.specs.declared.ids.Fid.{Fid}
 use Rattle.lu_base.specs.declared.ids.Who.{Who}
 use Rattle.lu_machine.specs.Name.{same_name, name_cmp}
 use Rattle.lu_machine.specs.Tree.{Tree, fid_cmp, child, listing}
-use Rattle.lu_machine.specs.Footprint.{Act, empty, after, forget}
+use Rattle.lu_machine.specs.Footprint.{Operation, empty, after, forget}
 
 abbrev pub InByteOrder : List (List ℕ) → Type 0
 InByteOrder names = IsStrictlySortedBy name_cmp names
@@ -23,7 +23,7 @@ abbrev pub OrderStays : Type 0
 OrderStays =
     record {
       begins : IsOrdered empty;
-      acts : (osts : ℕ) (t : Tree) (a : Act) → IsOrdered t → IsOrdered (after osts t a);
+      acts : (osts : ℕ) (t : Tree) (a : Operation) → IsOrdered t → IsOrdered (after osts t a);
       forgets : (t : Tree) (who : Who) → IsOrdered t → IsOrdered (forget t who);
     }
 

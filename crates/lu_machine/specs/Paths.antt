@@ -13,7 +13,7 @@ use Rattle.lu_machine.specs.declared.child.Child.TheVariants.{Dir, File}
 use Rattle.lu_machine.specs.Name.{is_too_long}
 use Rattle.lu_machine.specs.Tree.{Tree, child, attributes, layout}
 use Rattle.lu_machine.specs.Table.{root, found}
-use Rattle.lu_machine.specs.Footprint.{Act, answer, changes, after, Every}
+use Rattle.lu_machine.specs.Footprint.{Operation, answer, changes, after, Every}
 use Rattle.lu_machine.specs.Covered.{IsNew}
 
 -- from an inode name by name; through a file, or by a name that leads nowhere, nowhere
@@ -26,7 +26,7 @@ abbrev pub at_path : Tree → List (List ℕ) → Option Child
 at_path t path = leads_to t root path
 
 module _ (osts : ℕ) (t : Tree) (number : Txn) (who : Who) where
-  abbrev pub act : Op → Act
+  abbrev pub act : Op → Operation
   act o = record { number = number; who = who; op = o }
 
   abbrev pub done : Op → Tree

@@ -5,11 +5,11 @@ use Rattle.lu_base.specs.declared.ids.Who.{Who}
 use Rattle.lu_part.specs.declared.parts.Part.{Part}
 use Rattle.lu_machine.specs.declared.child.Child.{Child}
 use Rattle.lu_machine.specs.Tree.{Tree, child, fid_of}
-use Rattle.lu_machine.specs.Footprint.{Act, after, writes, touches, forget, Apart, Every}
+use Rattle.lu_machine.specs.Footprint.{Operation, after, writes, touches, forget, Apart, Every}
 
 -- an act, or the opens of a removed life forgotten
 pub data Item : Type 0 where
-  Acts : (a : Act) → Item
+  Acts : (a : Operation) → Item
   Forgets : (who : Who) → Item
 
 -- the items that stay: acts go whose numbers aren't kept
@@ -33,7 +33,7 @@ module _ (osts : ℕ) (keep : ℕ → Bool) (of : List Item → Tree) where
   ClearOf (Forgets who ∷ past) p = ClearOf past p
 
   -- what an act touches is clear
-  abbrev pub UntouchedOf : List Item → Act → Type 0
+  abbrev pub UntouchedOf : List Item → Operation → Type 0
   UntouchedOf past a = Every (ClearOf past) (touches osts (of past) a)
 
   -- no remaining one touched what an earlier one taken out wrote
@@ -45,7 +45,7 @@ module _ (osts : ℕ) (keep : ℕ → Bool) (of : List Item → Tree) where
 abbrev pub Clear : ℕ → Tree → (ℕ → Bool) → List Item → Part → Type 0
 Clear osts start keep past p = ClearOf osts keep (contents osts start) past p
 
-abbrev pub Untouched : ℕ → Tree → (ℕ → Bool) → List Item → Act → Type 0
+abbrev pub Untouched : ℕ → Tree → (ℕ → Bool) → List Item → Operation → Type 0
 Untouched osts start keep past a = UntouchedOf osts keep (contents osts start) past a
 
 abbrev pub Free : ℕ → Tree → (ℕ → Bool) → List Item → Type 0

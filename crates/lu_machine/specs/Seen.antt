@@ -4,7 +4,7 @@ use Rattle.std.specs.List.{list_any}
 use Rattle.lu_part.specs.declared.parts.Part.{Part}
 use Rattle.lu_part.specs.Meets.{meets}
 use Rattle.lu_machine.specs.Tree.{Tree}
-use Rattle.lu_machine.specs.Footprint.{Act, touches, writes, Every}
+use Rattle.lu_machine.specs.Footprint.{Operation, touches, writes, Every}
 use Rattle.lu_machine.specs.Removal.{Item, Acts, Forgets, pick, contents, Older}
 use Rattle.lu_machine.specs.Laws.{Alike}
 use Rattle.lu_machine.specs.Trim.{Rising, trimmed}
@@ -20,7 +20,7 @@ module _ (osts : ℕ) (of : List Item → Tree) where
   seen (Acts a ∷ past) ps = if meet (writes osts (of past) a) ps then a.number.0 ∷ seen past ps else seen past ps
   seen (Forgets who ∷ past) ps = seen past ps
 
-  abbrev pub SawKept : (ℕ → Bool) → List Item → Act → Type 0
+  abbrev pub SawKept : (ℕ → Bool) → List Item → Operation → Type 0
   SawKept keep past a = Every (λ n. keep n ≡ true) (seen past (touches osts (of past) a))
 
   -- each act that stays saw only acts that stay
@@ -31,10 +31,10 @@ module _ (osts : ℕ) (of : List Item → Tree) where
 
 abbrev pub RemovalBySeen : Type 0
 RemovalBySeen =
-    (osts : ℕ) (start : Tree) (keep : ℕ → Bool) → keep 1 ≡ true → Older keep start → (past : List Item) → AllSawKept osts (contents osts start) keep past → (a : Act) → SawKept osts (contents osts start) keep past a
+    (osts : ℕ) (start : Tree) (keep : ℕ → Bool) → keep 1 ≡ true → Older keep start → (past : List Item) → AllSawKept osts (contents osts start) keep past → (a : Operation) → SawKept osts (contents osts start) keep past a
     → Alike osts (contents osts start past) (contents osts start (pick keep past)) a
 
 abbrev pub TrimmedRemovalBySeen : Type 0
 TrimmedRemovalBySeen =
-    (osts : ℕ) (keep : ℕ → Bool) → keep 1 ≡ true → (past : List Item) → Rising past → AllSawKept osts (trimmed osts) keep past → (a : Act) → SawKept osts (trimmed osts) keep past a
+    (osts : ℕ) (keep : ℕ → Bool) → keep 1 ≡ true → (past : List Item) → Rising past → AllSawKept osts (trimmed osts) keep past → (a : Operation) → SawKept osts (trimmed osts) keep past a
     → Alike osts (trimmed osts past) (trimmed osts (pick keep past)) a

@@ -1,5 +1,6 @@
 -- The layout of a new file (Lustre Operations Manual, striping): 0 stands for the default size of
--- 1,048,576 bytes and for one stripe, and -1 for as many stripes as there are object storage targets.
+-- 1,048,576 bytes and for one stripe, and -1 (here each negative number) for a stripe on each object
+-- storage target.
 -- That a count above their number is refused, and which target a stripe lies on, is this project's profile.
 use Rattle.std.specs.Prelude.{ℕ, zero, ◌+◌, ◌%◌, Bool, not, ◌==◌, ◌||◌, nat_lt, ℤ, pos, negsuc, Option, Some, None, if◌then◌else◌, List, map}
 use Rattle.std.specs.List.{range_with_len}

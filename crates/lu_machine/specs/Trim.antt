@@ -5,7 +5,7 @@ use Rattle.std.specs.List.{filter, list_any}
 use Rattle.lu_base.specs.declared.ids.Fid.{Fid}
 use Rattle.lu_machine.specs.declared.child.Child.TheVariants.{File}
 use Rattle.lu_machine.specs.Tree.{Tree, Inode, Opened, same_fid, file, child}
-use Rattle.lu_machine.specs.Footprint.{Act, empty, after, forget}
+use Rattle.lu_machine.specs.Footprint.{Operation, empty, after, forget}
 use Rattle.lu_machine.specs.Removal.{Item, Acts, Forgets, pick, contents, UntouchedOf, FreeOf}
 use Rattle.lu_machine.specs.Laws.{Alike}
 
@@ -38,12 +38,12 @@ Rising (Forgets who ∷ past) = Rising past
 
 -- nobody can tell the two trees apart
 abbrev pub Unseen : Type 0
-Unseen = (osts : ℕ) (past : List Item) → Rising past → (a : Act) → Alike osts (contents osts empty past) (trimmed osts past) a
+Unseen = (osts : ℕ) (past : List Item) → Rising past → (a : Operation) → Alike osts (contents osts empty past) (trimmed osts past) a
 
 -- the removal law of that tree
 abbrev pub TrimmedRemoval : Type 0
 TrimmedRemoval =
-    (osts : ℕ) (keep : ℕ → Bool) → keep 1 ≡ true → (past : List Item) → Rising past → FreeOf osts keep (trimmed osts) past → (a : Act) → UntouchedOf osts keep (trimmed osts) past a
+    (osts : ℕ) (keep : ℕ → Bool) → keep 1 ≡ true → (past : List Item) → Rising past → FreeOf osts keep (trimmed osts) past → (a : Operation) → UntouchedOf osts keep (trimmed osts) past a
     → Alike osts (trimmed osts past) (trimmed osts (pick keep past)) a
 
 -- a file that a name leads to has a link

@@ -5,7 +5,9 @@
 //! functions of `theorems` have empty bodies; their contracts are the laws.
 #![tactic(auto)]
 
+mod acts;
 mod child;
 pub mod theorems;
 
+pub use acts::{Act, Deed};
 pub use child::Child;
