@@ -1,0 +1,12 @@
+//! The language of scenarios: what a run does, as lines of text, read and printed.
+//!
+//! A scenario has a head, which says how many clients and object storage targets there are and
+//! which limits hold, and lines, which are performed in order. The language is this project's own.
+#![tactic(auto)]
+
+mod faults;
+mod words;
+mod scene;
+
+pub use faults::{Fault, SceneFault};
+pub use scene::{Head, Lines, Scene, SceneLine};
