@@ -4,9 +4,15 @@
 //! which limits hold, and lines, which are performed in order. The language is this project's own.
 #![tactic(auto)]
 
+mod calls;
 mod faults;
+mod fields;
+mod printer;
+mod reader;
 mod words;
 mod scene;
 
 pub use faults::{Fault, SceneFault};
+pub use printer::print_scene;
+pub use reader::read_scene;
 pub use scene::{Head, Lines, Scene, SceneLine};
