@@ -30,15 +30,19 @@ abbrev pub one_handle : List (List ℕ) → Result ℕ Fault
 one_handle (word ∷ []) = handle_at word
 one_handle _ = Err faults.Fields
 
-abbrev pub create_of : List (List ℕ) → Result Call Fault
-create_of (word ∷ []) = do
-  path ← path_at word
-  Ok (calls.Create path None)
-create_of (word ∷ second ∷ third ∷ []) = do
+-- a path, a stripe size and a number of stripes
+abbrev pub striped_of : List ℕ → List ℕ → List ℕ → Result Call Fault
+striped_of word second third = do
   path ← path_at word
   size ← number_in 0 (2 ^ 32) second
   count ← count_at third
   Ok (calls.Create path (Some (size, count)))
+
+abbrev pub create_of : List (List ℕ) → Result Call Fault
+create_of (word ∷ []) = do
+  path ← path_at word
+  Ok (calls.Create path None)
+create_of (word ∷ second ∷ third ∷ []) = striped_of word second third
 create_of _ = Err faults.Fields
 
 abbrev pub chmod_of : List (List ℕ) → Result Call Fault

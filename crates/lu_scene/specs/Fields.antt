@@ -39,11 +39,13 @@ number_in least most word = do
 abbrev pub number_at : List ℕ → Result ℕ Fault
 number_at word = or_fault faults.Number (number_of word)
 
--- a mode: one to four octal digits
+-- one to four octal digits
+abbrev pub is_octal : List ℕ → Bool
+is_octal text = nat_lt 0 (length text) && nat_le (length text) 4 && list_all (λ b. nat_le 48 b && nat_le b 55) text
+
+-- the mode that octal digits write
 unfoldable pub mode_of : List ℕ → Option ℕ
-mode_of text =
-    if nat_lt 0 (length text) && nat_le (length text) 4 && list_all (λ b. nat_le 48 b && nat_le b 55) text
-    then Some (digits_value 8 text) else None
+mode_of text = if is_octal text then Some (digits_value 8 text) else None
 
 abbrev pub mode_at : List ℕ → Result ℕ Fault
 mode_at word = or_fault faults.Number (mode_of word)
@@ -131,5 +133,8 @@ repeated_of text =
 unfoldable pub data_of : List ℕ → Option (List ℕ)
 data_of text = if nat_lt 2 (length text) && slice_index text 2 == 42 then repeated_of text else digits_of text
 
+-- data of at most 65,536 bytes
 abbrev pub data_at : List ℕ → Result (List ℕ) Fault
-data_at word = or_fault faults.Data (data_of word)
+data_at word = do
+  bytes ← or_fault faults.Data (data_of word)
+  if nat_le (length bytes) 65536 then Ok bytes else Err faults.Data

@@ -2,7 +2,7 @@
 
 ghost use Rattle.std.specs.Prelude.{◌≡◌, ℕ, map};
 ghost use Rattle.lu_scene.specs.Gives.{Gives};
-ghost use Rattle.lu_scene.specs.Calls.{one_path, two_paths, handle_at, one_handle, create_of, chmod_of, open_of, read_of, write_of, cut_of, call_of};
+ghost use Rattle.lu_scene.specs.Calls.{one_path, two_paths, handle_at, one_handle, striped_of, create_of, chmod_of, open_of, read_of, write_of, cut_of, call_of};
 
 use super::faults::{Fault, LineError};
 use super::fields::{count_at, data_at, mode_at, number_at, number_in, path_at};
@@ -65,6 +65,19 @@ fn one_handle(words: &[&[u8]]) -> Result<u8, LineError>
     }
 }
 
+/// A `create` of a path, a stripe size and a number of stripes.
+fn striped_of(alloc: Global, word: &[u8], second: &[u8], third: &[u8]) -> Result<Call, LineError>
+    ensures call { Gives result (striped_of word.now second.now third.now) }
+{
+    let path = path_at(alloc, word)?;
+    let size = number_in(second, 0, MOST_STRIPE_SIZE)?;
+    let count = count_at(third)?;
+    Ok(Call::Create {
+        path,
+        stripes: Some((size, count)),
+    })
+}
+
 /// A `create`: a path, and perhaps a stripe size and a number of stripes.
 fn create_of(alloc: Global, words: &[&[u8]]) -> Result<Call, LineError>
     ensures call { Gives result (create_of (map (λ w. w.now) words.now)) }
@@ -77,15 +90,7 @@ fn create_of(alloc: Global, words: &[&[u8]]) -> Result<Call, LineError>
                 stripes: None,
             })
         }
-        [word, second, third] => {
-            let path = path_at(alloc, word)?;
-            let size = number_in(second, 0, MOST_STRIPE_SIZE)?;
-            let count = count_at(third)?;
-            Ok(Call::Create {
-                path,
-                stripes: Some((size, count)),
-            })
-        }
+        [word, second, third] => striped_of(alloc, word, second, third),
         _ => Err(LineError::Bad(Fault::Fields)),
     }
 }

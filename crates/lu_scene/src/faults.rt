@@ -3,6 +3,7 @@
 ghost use Rattle.std.specs.Prelude.{◌≡◌};
 
 use lu_base::Memory;
+use std::alloc::AllocError;
 use std::error::Error;
 use std::fmt;
 
@@ -86,6 +87,16 @@ impl From<Memory> for LineError {
     ghost from_gives = { λ _ e. e ≡ NoMemory };
 
     fn from(_error: Memory) -> LineError {
+        LineError::Memory
+    }
+}
+
+impl From<AllocError> for LineError {
+    ghost use Rattle.lu_scene.specs.declared.faults.LineError.TheVariants.{Memory as NoMemory};
+
+    ghost from_gives = { λ _ e. e ≡ NoMemory };
+
+    fn from(_error: AllocError) -> LineError {
         LineError::Memory
     }
 }

@@ -1,10 +1,10 @@
 //! Words where a number, a node, a path or data stands.
 
-ghost use Rattle.std.specs.Prelude.{◌≡◌, ℕ, ◌==◌, ◌≤◌, codes, IfSome, IfNone, IsTrue, ◌↔◌, map, MatchOption};
+ghost use Rattle.std.specs.Prelude.{◌≡◌, ℕ, ◌==◌, ◌≤◌, ◌&&◌, nat_le, codes, IfSome, IfNone, IsTrue, ◌↔◌, map, MatchOption};
 ghost use Rattle.std.specs.Option.{option_map};
-ghost use Rattle.std.specs.List.{before_first, after_first};
+ghost use Rattle.std.specs.List.{list_all, position, before_first, after_first};
 ghost use Rattle.lu_scene.specs.Gives.{Gives};
-ghost use Rattle.lu_scene.specs.Fields.{number_of, number_in, number_at, mode_of, mode_at, count_at, number_behind, client_at, target_at, node_at, slot_at, path_at, data_at};
+ghost use Rattle.lu_scene.specs.Fields.{number_of, number_in, number_at, is_octal, mode_of, mode_at, count_at, number_behind, client_at, target_at, node_at, slot_at, path_at, or_fault, data_of, data_at};
 
 use super::faults::{Fault, LineError};
 use lu_base::{Bytes, Node, Path, TargetId, read_bytes, read_number, read_path};
@@ -12,6 +12,9 @@ use std::alloc::Global;
 
 /// The greatest number of a slot.
 const MOST_SLOT: u64 = 3;
+
+/// The most bytes of data.
+const MOST_BYTES: usize = 65536;
 
 /// The greatest number of stripes that a call asks for.
 const MOST_STRIPES: u64 = 1000;
@@ -59,11 +62,30 @@ pub fn mode_at(word: &[u8]) -> Result<u16, LineError>
 fn mode_of(text: &[u8]) -> Option<u16>
     ensures mode { result ≡ mode_of text.now }
 {
-    if text.is_empty() || text.len() > 4 || !text.iter().all(|b| b'0' <= *b && *b <= b'7') {
+    if !is_octal(text) {
         return None;
     }
-    let digits = std::str::from_utf8(text).ok()?;
-    u16::from_str_radix(digits, 8).ok()
+    let Ok(digits) = std::str::from_utf8(text) else {
+        return None;
+    };
+    match u16::from_str_radix(digits, 8) {
+        Ok(mode) => Some(mode),
+        Err(_) => None,
+    }
+}
+
+/// Whether these are one to four octal digits.
+fn is_octal(text: &[u8]) -> bool
+    ensures octal { result ≡ is_octal text.now }
+{
+    !text.is_empty() && text.len() <= 4 && are_octal(text)
+}
+
+/// Whether each byte is an octal digit.
+fn are_octal(text: &[u8]) -> bool
+    ensures octal { result ≡ list_all (λ b. nat_le 48 b && nat_le b 55) text.now }
+{
+    text.iter().all(|b| b'0' <= *b && *b <= b'7')
 }
 
 /// How many stripes a new file has: a number up to 1,000, or -1 for one on each target.
@@ -126,14 +148,21 @@ pub fn node_at(word: &[u8], clients: u16, osts: u16) -> Result<Node, LineError>
     }
 }
 
+/// The place of the first dot.
+fn dot_of(word: &[u8]) -> Option<usize>
+    ensures dot { result ≡ position (λ b. b == 46) word.now }
+{
+    word.iter().position(|b| *b == b'.')
+}
+
 /// The parts before and after the first dot; where there is none, the whole and nothing.
 fn parts(word: &[u8]) -> (&[u8], &[u8])
     ensures before { result.0.now ≡ before_first (λ b. b == 46) word.now }
     ensures after { result.1.now ≡ after_first (λ b. b == 46) word.now }
 {
-    match word.iter().position(|b| *b == b'.') {
+    match dot_of(word) {
         Some(dot) => (&word[..dot], &word[dot + 1..]),
-        None => (word, &word[word.len()..]),
+        None => (word, &[]),
     }
 }
 
@@ -165,12 +194,24 @@ pub fn path_at(alloc: Global, word: &[u8]) -> Result<Path, LineError>
     }
 }
 
-/// Data.
-pub fn data_at(alloc: Global, word: &[u8]) -> Result<Bytes, LineError>
-    ensures data { Gives result (data_at word.now) }
+/// Data of any length.
+fn any_data_at(alloc: Global, word: &[u8]) -> Result<Bytes, LineError>
+    ensures data { Gives result (or_fault Fault.Data (data_of word.now)) }
 {
     match read_bytes(alloc, word)? {
         Some(bytes) => Ok(bytes),
         None => Err(LineError::Bad(Fault::Data)),
+    }
+}
+
+/// Data of at most 65,536 bytes.
+pub fn data_at(alloc: Global, word: &[u8]) -> Result<Bytes, LineError>
+    ensures data { Gives result (data_at word.now) }
+{
+    let bytes = any_data_at(alloc, word)?;
+    if bytes.len() <= MOST_BYTES {
+        Ok(bytes)
+    } else {
+        Err(LineError::Bad(Fault::Data))
     }
 }

@@ -1,6 +1,7 @@
 //! Reading a scenario, line by line.
 
-ghost use Rattle.std.specs.Prelude.{◌≡◌, ℕ, ◌+◌, ◌==◌, ◌≤◌, map, IfOk, Ok, Err};
+ghost use Rattle.std.specs.Prelude.{◌≡◌, ℕ, ◌+◌, ◌==◌, ◌≤◌, ◌&&◌, nat_le, map, IfOk, Ok, Err};
+ghost use Rattle.std.specs.List.{list_all};
 ghost use Rattle.lu_scene.specs.Gives.{Gives};
 ghost use Rattle.lu_scene.specs.Lines.{lines_of, words_of, is_plain, is_comment, one_number, one_target, call_line, run_line, tick_line, commit_line, die_line, line_of};
 
@@ -9,8 +10,8 @@ use super::faults::{Fault, LineError, SceneFault};
 use super::fields::{client_at, node_at, number_in, slot_at, target_at};
 use super::scene::{Head, Lines, Scene, SceneLine};
 use super::words::{Header, Verb, call_name_of, header_of, verb_of};
-use lu_base::{Memory, Sequence, TargetId};
-use std::alloc::Global;
+use lu_base::{Sequence, TargetId};
+use std::alloc::{AllocError, Global};
 
 /// The most bytes of a line.
 const MOST_LINE_BYTES: usize = 2000;
@@ -33,29 +34,33 @@ pub struct Progress {
 }
 
 /// The lines of a text.
-fn lines_of(alloc: Global, text: &[u8]) -> Result<Vec<&[u8]>, Memory>
+fn lines_of(alloc: Global, text: &[u8]) -> Result<Vec<&[u8]>, AllocError>
     ensures lines { IfOk result (λ lines. map (λ line. line.now) lines.items ≡ lines_of text.now) }
 {
-    let lines = text.split(|b| *b == b'\n').collect(alloc)?;
-    Ok(lines)
+    text.split(|b| *b == b'\n').collect(alloc)
 }
 
 /// The words of a line.
-fn words_of(alloc: Global, line: &[u8]) -> Result<Vec<&[u8]>, Memory>
+fn words_of(alloc: Global, line: &[u8]) -> Result<Vec<&[u8]>, AllocError>
     ensures words { IfOk result (λ words. map (λ word. word.now) words.items ≡ words_of line.now) }
 {
-    let words = line
-        .split(|b| *b == b' ')
+    line.split(|b| *b == b' ')
         .filter(|word| !word.is_empty())
-        .collect(alloc)?;
-    Ok(words)
+        .collect(alloc)
 }
 
 /// Whether a line has at most 2,000 bytes, each from 32 to 126.
 fn is_plain(line: &[u8]) -> bool
     ensures plain { result ≡ is_plain line.now }
 {
-    line.len() <= MOST_LINE_BYTES && line.iter().all(|b| 32 <= *b && *b <= 126)
+    line.len() <= MOST_LINE_BYTES && are_plain(line)
+}
+
+/// Whether each byte is from 32 to 126.
+fn are_plain(line: &[u8]) -> bool
+    ensures plain { result ≡ list_all (λ b. nat_le 32 b && nat_le b 126) line.now }
+{
+    line.iter().all(|b| 32 <= *b && *b <= 126)
 }
 
 /// Whether a line begins with `#`.
@@ -101,7 +106,8 @@ fn call_line(alloc: Global, head: &Head, words: &[&[u8]]) -> Result<SceneLine, L
             let call = call_of(alloc, name, rest)?;
             Ok(SceneLine::Call { client, slot, call })
         }
-        _ => Err(LineError::Bad(Fault::Fields)),
+        [] => Err(LineError::Bad(Fault::Fields)),
+        [_] => Err(LineError::Bad(Fault::Fields)),
     }
 }
 
@@ -306,6 +312,7 @@ impl Progress {
     }
 
     /// Takes a line.
+    #[tactic(auto, unfolding(crate::specs::Lines::line_after))]
     fn take_line(&mut self, alloc: Global, line: &[u8]) -> Result<(), LineError>
         ensures after { Follows result self.new (line_after self.old line.now) }
     {
