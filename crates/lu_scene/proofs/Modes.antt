@@ -36,7 +36,7 @@ no_plus (b ∷ more) test =
     let least = leb-true 48 b (and_parts (nat_le 48 b) (nat_le b 55) (and_parts (octal b) (list_all octal more) digits).0).0 in
     ap (λ (t : Bool). drop (cond t 1 0) (b ∷ more)) (ne_eqb b 43 (λ e. omega (arith, least, e)))
 
-small_value : (text : List ℕ) → AllDigits 8 text → length text ≤ 4 → digits_value 8 text < 2 ^ 16
+small_value : (text : List ℕ) → AllDigits 8 text → length text ≤ 4 → digits_value 8 text < 4096
 small_value text digits short =
     let most : 8 ^ length text ≤ 8 ^ 4 = pow-le-pow_right (lit< tt) short in
     let below : digits_value 8 text < 8 ^ length text = digits_value-lt 8 text digits in
@@ -62,7 +62,8 @@ octal_parses {E} text r test parses =
     let a = and_parts (nat_lt 0 (length text) && nat_le (length text) 4) (list_all octal text) test in
     let b = and_parts (nat_lt 0 (length text)) (nat_le (length text) 4) a.0 in
     let digits : AllDigits 8 text = octal_all text a.1 in
-    let small : digits_value 8 text < 2 ^ 16 = small_value text digits (leb-true (length text) 4 b.1) in
+    let least : digits_value 8 text < 4096 = small_value text digits (leb-true (length text) 4 b.1) in
+    let small : digits_value 8 text < 2 ^ 16 = omega (arith, least) in
     let plain : OkIff r (IsNumeral 8 text × (digits_value 8 text < 2 ^ 16)) (digits_value 8 text) =
     subst (λ (t : List ℕ). OkIff r (IsNumeral 8 t × (digits_value 8 t < 2 ^ 16)) (digits_value 8 t)) (no_plus text test) parses in
     parsed r plain ((ltb-true 0 (length text) b.0, digits), small)
@@ -80,3 +81,10 @@ mode_of-octal text test = cond-true (is_octal text) (Some (digits_value 8 text))
 pub mode_of-read : (text : List ℕ) (mode : ℕ) → mode_of text ≡ Some mode → (is_octal text ≡ true) × (mode ≡ digits_value 8 text)
 unfolding mode_of
 mode_of-read text mode e = let found = cond_some (is_octal text) (digits_value 8 text) mode e in (found.0, sym found.1)
+
+-- a mode of octal digits is small
+pub small_mode : (text : List ℕ) → is_octal text ≡ true → digits_value 8 text < 4096
+small_mode text test =
+    let a = and_parts (nat_lt 0 (length text) && nat_le (length text) 4) (list_all octal text) test in
+    let b = and_parts (nat_lt 0 (length text)) (nat_le (length text) 4) a.0 in
+    small_value text (octal_all text a.1) (leb-true (length text) 4 b.1)

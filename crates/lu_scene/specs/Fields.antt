@@ -1,6 +1,6 @@
 -- What a word says where a number, a node, a path or data stands, or its fault.
 use Rattle.std.specs.Prelude.{◌≡◌, ℕ, ◌+◌, ◌-◌, ◌/◌, ◌^◌, ◌==◌, ◌&&◌, ◌||◌, not, nat_lt, nat_le, Bool, if◌then◌else◌, List, [], ◌∷◌, length, slice_index, take, drop, codes, decimal, replicate, Option, Some, None, Result, Ok, Err, ℤ, pos, negsuc}
-use Rattle.std.specs.List.{list_all, slice_split, before_first, after_first}
+use Rattle.std.specs.List.{list_all, slice_split}
 use Rattle.std.specs.Result.{result_unwrap_or}
 use Rattle.std.specs.Str.{bytes_eq}
 use Rattle.std.specs.Str.Parse.{digits_value}
@@ -84,12 +84,17 @@ node_at clients osts word =
       target ← target_at osts word
       Ok (Target target.0))
 
--- a client and one of its slots, with a dot between them
-abbrev pub slot_at : ℕ → List ℕ → Result (ℕ × ℕ) Fault
-slot_at clients word = do
-  client ← or_fault faults.Node (number_of (before_first (λ b. b == 46) word))
-  slot ← or_fault faults.Node (number_of (after_first (λ b. b == 46) word))
+-- a client and one of its slots
+abbrev pub slot_of : ℕ → List (List ℕ) → Result (ℕ × ℕ) Fault
+slot_of clients (first ∷ second ∷ []) = do
+  client ← or_fault faults.Node (number_of first)
+  slot ← or_fault faults.Node (number_of second)
   if nat_lt client clients && nat_le slot 3 then Ok (client, slot) else Err faults.Node
+slot_of clients _ = Err faults.Node
+
+-- the same, with a dot between them
+abbrev pub slot_at : ℕ → List ℕ → Result (ℕ × ℕ) Fault
+slot_at clients word = slot_of clients (slice_split (λ b. b == 46) word)
 
 -- a name that a path may have
 abbrev pub is_name : List ℕ → Bool

@@ -151,12 +151,12 @@ IsScene text scene = (settings : List Setting) × Spells (lines_of text) setting
 abbrev pub progress_of : List Setting → List SceneLine → Progress
 progress_of settings said = record { head = head_of settings; given = map (λ setting. setting.header) settings; lines = said }
 
--- the lines of a text before the one of this number, from 1, are good, and that one has the fault
-pub record IsFirstFault (text : List ℕ) (number : ℕ) (fault : Fault) : Type 0 where
+-- of the lines of a text, those before the one of this number, from 1, are good, and that one has the fault
+pub record IsFirstFault (text : List (List ℕ)) (number : ℕ) (fault : Fault) : Type 0 where
   pub before : List (List ℕ)
   pub bad : List ℕ
   pub after : List (List ℕ)
-  pub parts : lines_of text ≡ before ++ bad ∷ after
+  pub parts : text ≡ before ++ bad ∷ after
   pub place : number ≡ length before + 1
   pub settings : List Setting
   pub said : List SceneLine

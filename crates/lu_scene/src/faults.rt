@@ -81,6 +81,30 @@ pub enum LineError {
     Bad(Fault),
 }
 
+impl LineError {
+    ghost use Rattle.lu_scene.specs.Ends.{on_line};
+
+    /// The same, at the line of this number.
+    pub fn on_line(self, line: u64) -> SceneFault
+        ensures fault { result ≡ on_line line self }
+    {
+        match self {
+            LineError::Memory => SceneFault::Memory,
+            LineError::Bad(fault) => SceneFault::Bad { line, fault },
+        }
+    }
+}
+
+impl From<AllocError> for SceneFault {
+    ghost use Rattle.lu_scene.specs.declared.faults.SceneFault.TheVariants.{Memory as NoMemory};
+
+    ghost from_gives = { λ _ e. e ≡ NoMemory };
+
+    fn from(_error: AllocError) -> SceneFault {
+        SceneFault::Memory
+    }
+}
+
 impl From<Memory> for LineError {
     ghost use Rattle.lu_scene.specs.declared.faults.LineError.TheVariants.{Memory as NoMemory};
 

@@ -1,14 +1,14 @@
 //! Words where a number, a node, a path or data stands.
 
-ghost use Rattle.std.specs.Prelude.{◌≡◌, ℕ, ◌==◌, ◌≤◌, ◌&&◌, nat_le, codes, IfSome, IfNone, IsTrue, ◌↔◌, map, MatchOption};
+ghost use Rattle.std.specs.Prelude.{◌≡◌, ℕ, ◌==◌, ◌≤◌, ◌&&◌, nat_le, codes, IfOk, IfSome, IfNone, IsTrue, ◌↔◌, map, MatchOption};
 ghost use Rattle.std.specs.Option.{option_map};
-ghost use Rattle.std.specs.List.{list_all, position, before_first, after_first};
+ghost use Rattle.std.specs.List.{list_all, slice_split};
 ghost use Rattle.lu_scene.specs.Gives.{Gives};
-ghost use Rattle.lu_scene.specs.Fields.{number_of, number_in, number_at, is_octal, mode_of, mode_at, count_at, number_behind, client_at, target_at, node_at, slot_at, path_at, or_fault, data_of, data_at};
+ghost use Rattle.lu_scene.specs.Fields.{number_of, number_in, number_at, is_octal, mode_of, mode_at, count_at, number_behind, client_at, target_at, node_at, slot_of, slot_at, path_at, or_fault, data_of, data_at};
 
 use super::faults::{Fault, LineError};
 use lu_base::{Bytes, Node, Path, TargetId, read_bytes, read_number, read_path};
-use std::alloc::Global;
+use std::alloc::{AllocError, Global};
 
 /// The greatest number of a slot.
 const MOST_SLOT: u64 = 3;
@@ -148,33 +148,24 @@ pub fn node_at(word: &[u8], clients: u16, osts: u16) -> Result<Node, LineError>
     }
 }
 
-/// The place of the first dot.
-fn dot_of(word: &[u8]) -> Option<usize>
-    ensures dot { result ≡ position (λ b. b == 46) word.now }
+/// What stands between dots.
+fn between_dots(alloc: Global, word: &[u8]) -> Result<Vec<&[u8]>, AllocError>
+    ensures parts { IfOk result (λ parts. map (λ part. part.now) parts.items ≡ slice_split (λ b. b == 46) word.now) }
 {
-    word.iter().position(|b| *b == b'.')
+    word.split(|b| *b == b'.').collect(alloc)
 }
 
-/// The parts before and after the first dot; where there is none, the whole and nothing.
-fn parts(word: &[u8]) -> (&[u8], &[u8])
-    ensures before { result.0.now ≡ before_first (λ b. b == 46) word.now }
-    ensures after { result.1.now ≡ after_first (λ b. b == 46) word.now }
+/// A client and one of its slots.
+fn slot_of(parts: &[&[u8]], clients: u16) -> Result<(u16, u8), LineError>
+    ensures slot { Gives result (slot_of clients (map (λ part. part.now) parts.now)) }
 {
-    match dot_of(word) {
-        Some(dot) => (&word[..dot], &word[dot + 1..]),
-        None => (word, &[]),
-    }
-}
-
-/// A client and one of its slots, with a dot between them.
-pub fn slot_at(word: &[u8], clients: u16) -> Result<(u16, u8), LineError>
-    ensures slot { Gives result (slot_at clients word.now) }
-{
-    let (before, after) = parts(word);
-    let Some(client) = number_of(before) else {
+    let [first, second] = parts else {
         return Err(LineError::Bad(Fault::Node));
     };
-    let Some(slot) = number_of(after) else {
+    let Some(client) = number_of(first) else {
+        return Err(LineError::Bad(Fault::Node));
+    };
+    let Some(slot) = number_of(second) else {
         return Err(LineError::Bad(Fault::Node));
     };
     if client < clients as u64 && slot <= MOST_SLOT {
@@ -182,6 +173,14 @@ pub fn slot_at(word: &[u8], clients: u16) -> Result<(u16, u8), LineError>
     } else {
         Err(LineError::Bad(Fault::Node))
     }
+}
+
+/// A client and one of its slots, with a dot between them.
+pub fn slot_at(alloc: Global, word: &[u8], clients: u16) -> Result<(u16, u8), LineError>
+    ensures slot { Gives result (slot_at clients word.now) }
+{
+    let parts = between_dots(alloc, word)?;
+    slot_of(parts.as_slice(), clients)
 }
 
 /// A path.

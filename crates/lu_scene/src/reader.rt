@@ -1,9 +1,13 @@
 //! Reading a scenario, line by line.
 
-ghost use Rattle.std.specs.Prelude.{◌≡◌, ℕ, ◌+◌, ◌==◌, ◌≤◌, ◌&&◌, nat_le, map, IfOk, Ok, Err};
+ghost use Rattle.std.specs.Prelude.{◌≡◌, ℕ, ◌+◌, ◌==◌, ◌≤◌, ◌&&◌, nat_le, map, IfOk, Ok, Err, ◌⊎◌};
 ghost use Rattle.std.specs.List.{list_all};
 ghost use Rattle.lu_scene.specs.Gives.{Gives};
-ghost use Rattle.lu_scene.specs.Lines.{lines_of, words_of, is_plain, is_comment, one_number, one_target, call_line, run_line, tick_line, commit_line, die_line, line_of};
+ghost use Rattle.lu_scene.specs.Ends.{Ends};
+ghost use Rattle.lu_scene.specs.Grammar.{IsScene, IsFirstFault};
+ghost use Rattle.lu_scene.specs.declared.faults.Fault.{Fault};
+ghost use Rattle.lu_scene.specs.declared.scene.Scene.{Scene};
+ghost use Rattle.lu_scene.specs.Lines.{nothing, lines_after, lines_of, words_of, is_plain, is_comment, one_number, one_target, call_line, run_line, tick_line, commit_line, die_line, line_of};
 
 use super::calls::call_of;
 use super::faults::{Fault, LineError, SceneFault};
@@ -99,7 +103,7 @@ fn call_line(alloc: Global, head: &Head, words: &[&[u8]]) -> Result<SceneLine, L
 {
     match words {
         [place, word, rest @ ..] => {
-            let (client, slot) = slot_at(place, head.clients)?;
+            let (client, slot) = slot_at(alloc, place, head.clients)?;
             let Some(name) = call_name_of(word) else {
                 return Err(LineError::Bad(Fault::UnknownCall));
             };
@@ -327,24 +331,32 @@ impl Progress {
     }
 }
 
-/// The scenario that a text is.
-pub fn read_scene(alloc: Global, text: &[u8]) -> Result<Scene, SceneFault> {
-    let Ok(lines) = lines_of(alloc, text) else {
-        return Err(SceneFault::Memory);
-    };
+/// What a text says, line by line.
+fn read(alloc: Global, text: &[u8]) -> Result<Progress, SceneFault>
+    ensures read { Ends result (lines_after 1 nothing (lines_of text.now)) }
+{
+    let lines = lines_of(alloc, text)?;
     let mut progress = Progress::nothing(alloc);
     for (place, line) in lines.iter().enumerate() {
-        match progress.take_line(alloc, line) {
-            Ok(()) => {}
-            Err(LineError::Memory) => return Err(SceneFault::Memory),
-            Err(LineError::Bad(fault)) => {
-                return Err(SceneFault::Bad {
-                    line: place as u64 + 1,
-                    fault,
-                });
-            }
+        if let Err(error) = progress.take_line(alloc, line) {
+            return Err(error.on_line(place as u64 + 1));
         }
     }
+    Ok(progress)
+}
+
+/// The scenario that a text is. `Bad` names the first line that is wrong, from 1, and what is wrong
+/// with it: lines are counted with those that say nothing, and each is looked at in the order of
+/// [`Fault`], its words from left to right.
+pub fn read_scene(alloc: Global, text: &[u8]) -> Result<Scene, SceneFault>
+    // What is read is a scenario: that one.
+    ensures scene { IfOk result (λ scene. IsScene text.now scene) }
+    // A scenario is read, unless memory runs out.
+    ensures only { (scene : Scene) → IsScene text.now scene → (result ≡ Ok scene) ⊎ (result ≡ Err SceneFault.Memory) }
+    // What is wrong is the first bad line, with its first fault.
+    ensures fault { (number : ℕ) (fault : Fault) → result ≡ Err (SceneFault.Bad number fault) → IsFirstFault (lines_of text.now) number fault }
+{
+    let progress = read(alloc, text)?;
     Ok(Scene {
         head: progress.head,
         lines: progress.lines,
