@@ -10,3 +10,4 @@ pub mod CallForms
 pub mod LineForms
 pub mod Reached
 pub mod Complete
+pub mod Scenes

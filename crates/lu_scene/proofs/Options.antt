@@ -44,3 +44,10 @@ ok_is x y e = cc
 -- one value has one `Ok`
 pub ok_value : {A E : Type 0} (x y : A) → good A E x ≡ good A E y → x ≡ y
 ok_value x y e = cc
+
+abbrev bad : (A E : Type 0) → E → Result A E
+bad A E e = Err e
+
+-- one error has one `Err`
+pub err_value : {A E : Type 0} (x y : E) → bad A E x ≡ bad A E y → x ≡ y
+err_value x y e = cc
