@@ -11,3 +11,4 @@ pub mod LineForms
 pub mod Reached
 pub mod Complete
 pub mod Scenes
+pub mod Printed

@@ -7,10 +7,12 @@
 mod calls;
 mod faults;
 mod fields;
+mod printer;
 mod reader;
 mod words;
 mod scene;
 
 pub use faults::{Fault, SceneFault};
+pub use printer::print_scene;
 pub use reader::read_scene;
 pub use scene::{Head, Lines, Scene, SceneLine};
