@@ -152,6 +152,7 @@ pub fn read_number(text: &[u8]) -> Option<u64>
 pub fn read_bytes(alloc: Global, text: &[u8]) -> Result<Option<Bytes>, Memory>
     ensures some { IfOk result (λ read. IfSome read (λ bytes. IsDataText text.now bytes)) }
     ensures none { IfOk result (λ read. IfNone read ((bytes : List ℕ) → IsBytes bytes → ¬ IsDataText text.now bytes)) }
+    ensures bytes { IfOk result (λ read. IfSome read IsBytes) }
 {
     if has_star(text) {
         read_repeated(alloc, text)
@@ -171,6 +172,7 @@ fn has_star(text: &[u8]) -> bool
 fn read_digits(alloc: Global, text: &[u8]) -> Result<Option<Bytes>, Memory>
     ensures some { IfOk result (λ read. IfSome read (λ bytes. (text.now ≡ encode_lower bytes) × (bytes ≢ []))) }
     ensures none { IfOk result (λ read. IfNone read ((bytes : List ℕ) → IsBytes bytes → text.now ≡ encode_lower bytes → bytes ≡ [])) }
+    ensures bytes { IfOk result (λ read. IfSome read IsBytes) }
 {
     let mut bytes = vec![in alloc; 0u8; text.len() / 2]?;
     if bytes.is_empty() {
@@ -198,6 +200,7 @@ fn read_repeated(alloc: Global, text: &[u8]) -> Result<Option<Bytes>, Memory>
     requires star { HasStar text.now }
     ensures some { IfOk result (λ read. IfSome read (IsRepeatedText text.now)) }
     ensures none { IfOk result (λ read. IfNone read ((bytes : List ℕ) → ¬ IsRepeatedText text.now bytes)) }
+    ensures bytes { IfOk result (λ read. IfSome read IsBytes) }
 {
     let Some(byte) = read_byte(&text[..2]) else {
         return Ok(None);

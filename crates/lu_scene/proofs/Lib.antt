@@ -1,0 +1,14 @@
+pub mod Options
+pub mod Numerals
+pub mod PathWords
+pub mod DataWords
+pub mod Modes
+pub mod Shapes
+pub mod Going
+pub mod Readings
+pub mod CallForms
+pub mod LineForms
+pub mod Reached
+pub mod Complete
+pub mod Scenes
+pub mod Printed

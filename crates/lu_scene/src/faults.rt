@@ -1,0 +1,136 @@
+//! What is wrong with a scenario.
+
+ghost use Rattle.std.specs.Prelude.{◌≡◌};
+
+use lu_base::Memory;
+use std::alloc::AllocError;
+use std::error::Error;
+use std::fmt;
+
+/// What is wrong with a line, in the order in which a line is looked at.
+#[derive(Clone, Copy, Debug, PartialEq, Eq)]
+pub enum Fault {
+    /// The line has a byte outside 32 to 126, or more than 2,000 bytes.
+    Line,
+    /// No line begins with this word.
+    UnknownLine,
+    /// There is no call of this name.
+    UnknownCall,
+    /// A line of the head stands twice, or after a line of another kind.
+    Header,
+    /// The line has too few or too many words.
+    Fields,
+    /// A word is no number, or none in its range, or a file position is past 2^40.
+    Number,
+    /// A word names no node, no slot, or none that this scenario has.
+    Node,
+    /// A word is no path.
+    Path,
+    /// A word is no data.
+    Data,
+}
+
+impl fmt::Display for Fault {
+    fn fmt<W: fmt::Write>(&self, f: &mut fmt::Formatter<W>) -> fmt::Result {
+        let name = match self {
+            Fault::Line => "Line",
+            Fault::UnknownLine => "UnknownLine",
+            Fault::UnknownCall => "UnknownCall",
+            Fault::Header => "Header",
+            Fault::Fields => "Fields",
+            Fault::Number => "Number",
+            Fault::Node => "Node",
+            Fault::Path => "Path",
+            Fault::Data => "Data",
+        };
+        write!(f, "{name}")
+    }
+}
+
+impl Error for Fault {}
+
+/// Why a text was not read as a scenario.
+#[derive(Clone, Copy, Debug, PartialEq, Eq)]
+pub enum SceneFault {
+    /// The first line that is wrong, counted from 1, and what is wrong with it.
+    Bad {
+        line: u64,
+        fault: Fault,
+    },
+    /// Want of memory.
+    Memory,
+}
+
+impl fmt::Display for SceneFault {
+    fn fmt<W: fmt::Write>(&self, f: &mut fmt::Formatter<W>) -> fmt::Result {
+        match self {
+            SceneFault::Bad { line, fault } => write!(f, "scene {line} {fault}"),
+            SceneFault::Memory => write!(f, "out of memory"),
+        }
+    }
+}
+
+impl Error for SceneFault {}
+
+/// Why a line was not read.
+#[derive(Clone, Copy, Debug, PartialEq, Eq)]
+pub enum LineError {
+    /// Want of memory.
+    Memory,
+    /// What is wrong with the line.
+    Bad(Fault),
+}
+
+impl LineError {
+    ghost use Rattle.lu_scene.specs.Ends.{on_line};
+
+    /// The same, at the line of this number.
+    pub fn on_line(self, line: u64) -> SceneFault
+        ensures fault { result ≡ on_line line self }
+    {
+        match self {
+            LineError::Memory => SceneFault::Memory,
+            LineError::Bad(fault) => SceneFault::Bad { line, fault },
+        }
+    }
+}
+
+impl From<AllocError> for SceneFault {
+    ghost use Rattle.lu_scene.specs.declared.faults.SceneFault.TheVariants.{Memory as NoMemory};
+
+    ghost from_gives = { λ _ e. e ≡ NoMemory };
+
+    fn from(_error: AllocError) -> SceneFault {
+        SceneFault::Memory
+    }
+}
+
+impl From<Memory> for LineError {
+    ghost use Rattle.lu_scene.specs.declared.faults.LineError.TheVariants.{Memory as NoMemory};
+
+    ghost from_gives = { λ _ e. e ≡ NoMemory };
+
+    fn from(_error: Memory) -> LineError {
+        LineError::Memory
+    }
+}
+
+impl From<AllocError> for LineError {
+    ghost use Rattle.lu_scene.specs.declared.faults.LineError.TheVariants.{Memory as NoMemory};
+
+    ghost from_gives = { λ _ e. e ≡ NoMemory };
+
+    fn from(_error: AllocError) -> LineError {
+        LineError::Memory
+    }
+}
+
+impl From<Fault> for LineError {
+    ghost use Rattle.lu_scene.specs.declared.faults.LineError.TheVariants.{Bad};
+
+    ghost from_gives = { λ fault e. e ≡ Bad fault };
+
+    fn from(fault: Fault) -> LineError {
+        LineError::Bad(fault)
+    }
+}
