@@ -54,7 +54,7 @@ pub struct Lock {
 /// Why a life was evicted.
 #[derive(Clone, Copy, Debug, PartialEq, Eq, PartialOrd, Ord, Hash)]
 pub enum Cause {
-    /// It did not come back in the recovery window.
+    /// It did not come back in the recovery window, or a newer life of its client joined there.
     Absent,
     /// It rested on a transaction that the recovery lost.
     Gap,

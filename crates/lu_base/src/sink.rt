@@ -1,6 +1,6 @@
 //! Where bytes go, and writing all of them.
 
-ghost use Rattle.std.specs.Prelude.{◌≡◌, ℕ, ◌+◌, ◌-◌, ◌^◌, ◌<◌, ◌≤◌, List, [], length, take, IfOk, OnOk, IsErr, OnErr, Some, Contains};
+ghost use Rattle.std.specs.Prelude.{◌≡◌, ℕ, ◌+◌, ◌-◌, ◌^◌, ◌<◌, ◌≤◌, List, [], length, take, min, IfOk, OnOk, IsErr, OnErr, Some, Contains};
 ghost use Rattle.std.specs.declared.option.Option.{Option};
 ghost use Rattle.std.specs.Io.KnownBytes.{WriteAppends, Appends};
 ghost use Rattle.lu_base.specs.Faults.{Rose, HasCause, WrotePrefix};
@@ -124,7 +124,8 @@ impl Sink for MemorySink {
         ensures bytes { WriteAppends (Some self.old.written) (Some self.new.written) result from.now }
         ensures cause { HasCause self.old.faults self.new.faults result }
         ensures fails { Contains self.old.failing self.old.calls → IsErr result }
-        ensures piece { IfOk result (λ n. n ≤ self.old.piece) }
+        ensures taken { IfOk result (λ n. n ≡ min self.old.piece (length from.now)) }
+        ensures steady { OnOk result (self.new.faults ≡ self.old.faults) }
         ensures calls { self.new.calls ≡ counted self.old.calls }
         ensures listed { (self.new.failing ≡ self.old.failing) × (self.new.piece ≡ self.old.piece) }
     {

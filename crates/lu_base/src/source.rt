@@ -1,6 +1,6 @@
 //! Where bytes come from, and reading all of them.
 
-ghost use Rattle.std.specs.Prelude.{◌≡◌, ℕ, ◌+◌, ◌^◌, ◌<◌, ◌≤◌, ◌↔◌, List, length, drop, IfOk, IsOk, IsErr, OnErr, Some, Contains};
+ghost use Rattle.std.specs.Prelude.{◌≡◌, ℕ, ◌+◌, ◌^◌, ◌<◌, ◌≤◌, ◌↔◌, List, length, drop, IfOk, OnOk, IsErr, OnErr, Some, Contains};
 ghost use Rattle.std.specs.Result.{IsErrOf};
 ghost use Rattle.std.specs.declared.option.Option.{Option};
 ghost use Rattle.std.specs.Io.{ReadsAtMost};
@@ -105,6 +105,7 @@ impl Source for MemorySource {
         ensures cause { HasCause self.old.faults self.new.faults result }
         ensures fails { IsErr result ↔ Contains self.old.failing self.old.calls }
         ensures calls { self.new.calls ≡ counted self.old.calls }
+        ensures steady { OnOk result (self.new.faults ≡ self.old.faults) }
         ensures listed { self.new.failing ≡ self.old.failing }
     {
         let call = self.calls;

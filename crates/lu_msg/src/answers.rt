@@ -85,7 +85,8 @@ pub enum Answer {
     Content(Bytes),
     /// The size of an object in bytes.
     Size(u64),
-    /// The size is known to the holder of a lock on the object's end, who can't be asked: take a lock.
+    /// A glimpse gives no size, since a PW lock is or was granted whose holder may know it better: take a
+    /// lock.
     Lock,
     /// The sizes of a file's objects in bytes, stripe by stripe.
     Sizes(Numbers),

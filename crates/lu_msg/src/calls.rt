@@ -68,7 +68,7 @@ pub enum Call {
     },
     /// Writes back what the client has changed.
     Flush(u8),
-    /// The sizes of the file's objects, without a lock.
+    /// The sizes of the file's objects, with a lock only on an object whose target asks for it.
     Glimpse(u8),
 }
 

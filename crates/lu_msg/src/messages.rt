@@ -63,7 +63,8 @@ pub struct SizeReport {
     pub for_who: Who,
     /// The number of that request.
     pub xid: Xid,
-    /// The object's size in bytes as the holder has it; none where it doesn't hold the lock.
+    /// The object's size in bytes as the holder has it; none where it doesn't hold a PW lock to the end
+    /// under this cookie, or has a size that isn't above the lock's start.
     pub size: Option<u64>,
     /// The turn that sent this message.
     pub stamp: Stamp,
