@@ -2,3 +2,10 @@ pub mod Codes
 pub mod Scenario
 pub mod Outcomes
 pub mod Commands
+pub mod Steps
+pub mod ClientTurns
+pub mod Writers
+pub mod Directory
+pub mod TargetTurns
+pub mod Numbering
+pub mod Counts

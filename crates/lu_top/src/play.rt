@@ -1,6 +1,7 @@
 //! The player: performs the commands in order, one turn after another.
 
-ghost use Rattle.std.specs.Prelude.{◌≡◌, ◌+◌, ◌<◌, false};
+ghost use Rattle.std.specs.Prelude.{◌≡◌, ◌+◌, ◌<◌, ◌≤◌, ◌^◌, false, length, IfOk, OnOk};
+ghost use Rattle.lu_top.specs.Counts.{IsCounted};
 
 use super::client::Client;
 use super::reader::Command;
@@ -54,7 +55,9 @@ pub fn play(alloc: Global, commands: &[Command]) -> Result<Played, Memory> {
 
 impl Player {
     /// A player before the first turn.
-    fn new(alloc: Global) -> Player {
+    fn new(alloc: Global) -> Player
+        ensures counted { IsCounted result }
+    {
         Player {
             client: Client::new(alloc),
             target: Target::new(alloc),
@@ -64,7 +67,10 @@ impl Player {
     }
 
     /// Performs a command. False where a turn was due that the limit forbids.
-    fn perform(&mut self, command: &Command) -> Result<bool, Memory> {
+    fn perform(&mut self, command: &Command) -> Result<bool, Memory>
+        requires counted { IsCounted self.old }
+        ensures counted { OnOk result (IsCounted self.new) }
+    {
         match command {
             Command::Nothing => Ok(true),
             Command::Run => self.run(),
@@ -73,7 +79,10 @@ impl Player {
     }
 
     /// The client begins a call. False where the limit forbids its turn.
-    fn begin(&mut self, call: &Call) -> Result<bool, Memory> {
+    fn begin(&mut self, call: &Call) -> Result<bool, Memory>
+        requires counted { IsCounted self.old }
+        ensures counted { OnOk result (IsCounted self.new) }
+    {
         if self.is_at_limit() {
             return Ok(false);
         }
@@ -85,7 +94,10 @@ impl Player {
 
     /// Delivers messages, the least number first, until there is none. False where the limit forbids
     /// the next one.
-    fn run(&mut self) -> Result<bool, Memory> {
+    fn run(&mut self) -> Result<bool, Memory>
+        requires counted { IsCounted self.old }
+        ensures counted { OnOk result (IsCounted self.new) }
+    {
         for _ in 0..MOST_TURNS {
             if self.wire.is_empty() {
                 return Ok(true);
@@ -100,7 +112,10 @@ impl Player {
 
     /// Delivers the message of the least number, if there is one.
     fn deliver_next(&mut self) -> Result<(), Memory>
-        requires room { self.old.turns < 65536 }
+        requires turns { self.old.turns < 65536 }
+        requires messages { self.old.wire.messages < 131072 }
+        requires counted { IsCounted self.old }
+        ensures counted { OnOk result (IsCounted self.new) }
     {
         let Some(sent) = self.wire.take() else {
             return Ok(());
@@ -116,7 +131,15 @@ impl Player {
     }
 
     /// The turn of the node that a message goes to.
-    fn deliver(&mut self, stamp: Stamp, to: Node, message: &Message) -> Result<Step, Memory> {
+    fn deliver(&mut self, stamp: Stamp, to: Node, message: &Message) -> Result<Step, Memory>
+        requires room { self.old.target.slots.last + 1 < 2 ^ 64 }
+        ensures requests { OnOk result (self.new.client.last ≡ self.old.client.last) }
+        ensures transactions { OnOk result (self.new.target.slots.last ≤ self.old.target.slots.last + 1) }
+        ensures lines { IfOk result (λ step. length step.entries ≤ 3) }
+        ensures messages { IfOk result (λ step. length step.sends ≤ 1) }
+        ensures turns { self.new.turns ≡ self.old.turns }
+        ensures wire { self.new.wire ≡ self.old.wire }
+    {
         match to {
             Node::Client(_) => self.client.deliver(stamp, message),
             Node::Target(_) => self.target.deliver(stamp, message),
@@ -126,7 +149,7 @@ impl Player {
     /// The stamp of one more turn.
     fn next_stamp(&mut self) -> Stamp
         requires room { self.old.turns < 65536 }
-        ensures counted { self.new.turns ≡ self.old.turns + 1 }
+        ensures player { self.new ≡ record self.old { turns = self.old.turns + 1 } }
         ensures stamp { result.0 ≡ self.old.turns + 1 }
     {
         self.turns += 1;
@@ -135,7 +158,8 @@ impl Player {
 
     /// Whether no turn may begin.
     fn is_at_limit(&self) -> bool
-        ensures room { result ≡ false → self.now.turns < 65536 }
+        ensures turns { result ≡ false → self.now.turns < 65536 }
+        ensures messages { result ≡ false → self.now.wire.messages < 131072 }
     {
         self.turns >= MOST_TURNS || self.wire.messages() >= MOST_MESSAGES
     }

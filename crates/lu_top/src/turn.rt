@@ -1,5 +1,8 @@
 //! The lines of one turn of a node, as they come.
 
+ghost use Rattle.std.specs.Prelude.{◌≡◌, [], ◌∷◌, OnOk, OnErr};
+ghost use Rattle.lu_top.specs.Steps.{step_at, noted, sent};
+
 use lu_base::{At, Duplicate, Memory, Node, Stamp};
 use lu_msg::{Message, Post, Sends};
 use lu_trace::{Entries, Entry, Line, Step};
@@ -15,7 +18,10 @@ pub struct Turn {
 
 impl Turn {
     /// A turn without lines.
-    pub fn new(alloc: Global, stamp: Stamp, node: Node) -> Turn {
+    pub fn new(alloc: Global, stamp: Stamp, node: Node) -> Turn
+        ensures turn { result.at ≡ record { stamp = stamp; node = node } }
+        ensures empty { result.step ≡ step_at result.at [] }
+    {
         Turn {
             alloc,
             at: At { stamp, node },
@@ -26,13 +32,20 @@ impl Turn {
         }
     }
 
-    /// Adds a line.
-    pub fn note(&mut self, entry: Entry) -> Result<(), Memory> {
+    /// Adds a line. After want of memory the turn is as before.
+    pub fn note(&mut self, entry: Entry) -> Result<(), Memory>
+        ensures added { OnOk result (self.new.step ≡ noted self.old.at self.old.step (entry ∷ [])) }
+        ensures kept { OnErr result (self.new.step ≡ self.old.step) }
+        ensures turn { self.new.at ≡ self.old.at }
+    {
         self.step.entries.push(Line { at: self.at, entry })
     }
 
-    /// Adds the line of a message, and the message.
-    pub fn send(&mut self, to: Node, message: Message) -> Result<(), Memory> {
+    /// Adds the line of a message, and the message. After want of memory the line may stand there alone.
+    pub fn send(&mut self, to: Node, message: Message) -> Result<(), Memory>
+        ensures added { OnOk result (self.new.step ≡ sent self.old.at self.old.step to message) }
+        ensures turn { self.new.at ≡ self.old.at }
+    {
         let copied = message.copy(self.alloc)?;
         self.note(Entry::Send {
             number: 0,
@@ -43,12 +56,16 @@ impl Turn {
     }
 
     /// When and where the turn is.
-    pub fn at(&self) -> At {
+    pub fn at(&self) -> At
+        ensures turn { result ≡ self.now.at }
+    {
         self.at
     }
 
     /// The lines and messages of the whole turn.
-    pub fn done(self) -> Step {
+    pub fn done(self) -> Step
+        ensures same { result ≡ self.step }
+    {
         self.step
     }
 }
