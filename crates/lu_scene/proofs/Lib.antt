@@ -12,3 +12,4 @@ pub mod Reached
 pub mod Complete
 pub mod Scenes
 pub mod Printed
+pub mod Graphic
