@@ -13,3 +13,5 @@ pub mod Complete
 pub mod Scenes
 pub mod Printed
 pub mod Graphic
+pub mod Splitting
+pub mod RoundTrip
