@@ -61,12 +61,12 @@ word_shown word is = (and_parts (nat_lt 0 (length word)) (shown word) is).1
 digit_shown : (b : ℕ) → digit_value b < 10 → is_graphic b ≡ true
 digit_shown b small =
     elim (cases_lt b 48) [
-      inl low ↦ let v : digit_value b ≡ 36 = cond-true (nat_lt b 48) 36 _ (lt-ltb b 48 low) in absurd (omega (arith, v, small))
-    | inr high ↦
-      elim (cases_lt b 58) [
-        inl digit ↦ and_from _ _ (le-leb 33 b (omega (arith, high))) (le-leb b 126 (omega (arith, digit)))
-      | inr past ↦ absurd (large b past small)
-      ]
+      | inl low ↦ let v : digit_value b ≡ 36 = cond-true (nat_lt b 48) 36 _ (lt-ltb b 48 low) in absurd (omega (arith, v, small))
+      | inr high ↦
+          elim (cases_lt b 58) [
+            | inl digit ↦ and_from _ _ (le-leb 33 b (omega (arith, high))) (le-leb b 126 (omega (arith, digit)))
+            | inr past ↦ absurd (large b past small)
+          ]
     ]
   where
     large : (b : ℕ) → 58 ≤ b → digit_value b < 10 → ⊥
@@ -168,6 +168,7 @@ bytes_word (b ∷ more) fit few = by (is_repeated (b ∷ more))
     one : IsBytes (b ∷ [])
     one zero = fit 0
     one (suc i) = lit< tt
+
     by : (v : Bool) → is_word (cond v (repeated_text b (length (b ∷ more))) (encode_lower (b ∷ more))) ≡ true
     by true =
         long_word (encode_lower (b ∷ [])) (42 ∷ decimal (length (b ∷ more))) (encoded_word b [] one)

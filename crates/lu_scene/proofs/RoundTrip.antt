@@ -166,10 +166,25 @@ header_neat header n most =
 
 head_neat : (head : Head) → HeadFits head → All Neat (head_words head)
 head_neat head fits =
-    All-from_recursion Neat (head_words head)
-    (header_neat headers.Clients head.clients fits.0.1, (header_neat headers.Osts head.osts fits.1.1, (header_neat headers.Expire head.expire fits.2.1,
-    (header_neat headers.Dirty head.dirty fits.3.1, (header_neat headers.Unused head.unused fits.4.1, (header_neat headers.Rounds head.rounds fits.5.1,
-    (header_neat headers.Flight head.flight fits.6.1, tt)))))))
+    All-from_recursion Neat (head_words head) (
+      header_neat headers.Clients head.clients fits.0.1,
+      (
+        header_neat headers.Osts head.osts fits.1.1,
+        (
+          header_neat headers.Expire head.expire fits.2.1,
+          (
+            header_neat headers.Dirty head.dirty fits.3.1,
+            (
+              header_neat headers.Unused head.unused fits.4.1,
+              (
+                header_neat headers.Rounds head.rounds fits.5.1,
+                (header_neat headers.Flight head.flight fits.6.1, tt),
+              ),
+            ),
+          ),
+        ),
+      ),
+    )
 
 line_start : (line : SceneLine) → is_comment (words_text (line_words line)) ≡ false
 line_start (lines.Call client slot call) = refl
