@@ -85,11 +85,12 @@ create_of-read (word ∷ second ∷ third ∷ []) call e =
     let one = path_at-read word a.0 a.1 in
     let two = number_in-read 0 (2 ^ 32) second b.0 b.1 in
     let three = count_at-read third d.0 d.1 in
-    subst (λ (k : Call). WasCall names.Create (word ∷ second ∷ third ∷ []) k) (ok_is (calls.Create a.0 (Some (b.0, d.0))) call d.2)
-    ((one.0, (two.high, three.1)),
-    ap (λ (w : List ℕ). call_text names.Create ∷ w ∷ second ∷ third ∷ []) one.1
-    ∙ ap (λ (w : List ℕ). call_text names.Create ∷ path_text a.0 ∷ w ∷ third ∷ []) two.text
-    ∙ ap (λ (w : List ℕ). call_text names.Create ∷ path_text a.0 ∷ decimal b.0 ∷ w ∷ []) three.0)
+    subst (λ (k : Call). WasCall names.Create (word ∷ second ∷ third ∷ []) k) (ok_is (calls.Create a.0 (Some (b.0, d.0))) call d.2) (
+      (one.0, (two.high, three.1)),
+      ap (λ (w : List ℕ). call_text names.Create ∷ w ∷ second ∷ third ∷ []) one.1
+          ∙ ap (λ (w : List ℕ). call_text names.Create ∷ path_text a.0 ∷ w ∷ third ∷ []) two.text
+          ∙ ap (λ (w : List ℕ). call_text names.Create ∷ path_text a.0 ∷ decimal b.0 ∷ w ∷ []) three.0,
+    )
 
 chmod_of-read : (words : List (List ℕ)) (call : Call) → chmod_of words ≡ Ok call → WasCall names.Chmod words call
 chmod_of-read [] call e = absurd cc
@@ -112,10 +113,11 @@ open_of-read (word ∷ second ∷ []) call e =
     let b = bind_ok (path_at second) (λ path. Ok (calls.Open a.0 path)) call a.2 in
     let one = number_in-read 0 15 word a.0 a.1 in
     let two = path_at-read second b.0 b.1 in
-    subst (λ (k : Call). WasCall names.Open (word ∷ second ∷ []) k) (ok_is (calls.Open a.0 b.0) call b.2)
-    ((one.high, two.0),
-    ap (λ (w : List ℕ). call_text names.Open ∷ w ∷ second ∷ []) one.text
-    ∙ ap (λ (w : List ℕ). call_text names.Open ∷ decimal a.0 ∷ w ∷ []) two.1)
+    subst (λ (k : Call). WasCall names.Open (word ∷ second ∷ []) k) (ok_is (calls.Open a.0 b.0) call b.2) (
+      (one.high, two.0),
+      ap (λ (w : List ℕ). call_text names.Open ∷ w ∷ second ∷ []) one.text
+          ∙ ap (λ (w : List ℕ). call_text names.Open ∷ decimal a.0 ∷ w ∷ []) two.1,
+    )
 
 read_of-read : (words : List (List ℕ)) (call : Call) → read_of words ≡ Ok call → WasCall names.Read words call
 read_of-read [] call e = absurd cc
@@ -130,11 +132,12 @@ read_of-read (word ∷ second ∷ third ∷ []) call e =
     let one = number_in-read 0 15 word a.0 a.1 in
     let two = number_at-read second b.0 b.1 in
     let three = number_in-read 1 65536 third d.0 d.1 in
-    subst (λ (k : Call). WasCall names.Read (word ∷ second ∷ third ∷ []) k) g.1
-    ((one.high, three.low, three.high, leb-true (b.0 + d.0) (2 ^ 40) g.0),
-    ap (λ (w : List ℕ). call_text names.Read ∷ w ∷ second ∷ third ∷ []) one.text
-    ∙ ap (λ (w : List ℕ). call_text names.Read ∷ decimal a.0 ∷ w ∷ third ∷ []) two.0
-    ∙ ap (λ (w : List ℕ). call_text names.Read ∷ decimal a.0 ∷ decimal b.0 ∷ w ∷ []) three.text)
+    subst (λ (k : Call). WasCall names.Read (word ∷ second ∷ third ∷ []) k) g.1 (
+      (one.high, three.low, three.high, leb-true (b.0 + d.0) (2 ^ 40) g.0),
+      ap (λ (w : List ℕ). call_text names.Read ∷ w ∷ second ∷ third ∷ []) one.text
+          ∙ ap (λ (w : List ℕ). call_text names.Read ∷ decimal a.0 ∷ w ∷ third ∷ []) two.0
+          ∙ ap (λ (w : List ℕ). call_text names.Read ∷ decimal a.0 ∷ decimal b.0 ∷ w ∷ []) three.text,
+    )
 
 write_of-read : (words : List (List ℕ)) (call : Call) → write_of words ≡ Ok call → WasCall names.Write words call
 write_of-read [] call e = absurd cc
@@ -149,11 +152,15 @@ write_of-read (word ∷ second ∷ third ∷ []) call e =
     let one = number_in-read 0 15 word a.0 a.1 in
     let two = number_at-read second b.0 b.1 in
     let three = data_at-read third d.0 d.1 in
-    subst (λ (k : Call). WasCall names.Write (word ∷ second ∷ third ∷ []) k) g.1
-    ((one.high, three.fit, three.some, three.few, leb-true (b.0 + length d.0) (2 ^ 40) g.0),
-    (third, three.text,
-    ap (λ (w : List ℕ). call_text names.Write ∷ w ∷ second ∷ third ∷ []) one.text
-    ∙ ap (λ (w : List ℕ). call_text names.Write ∷ decimal a.0 ∷ w ∷ third ∷ []) two.0))
+    subst (λ (k : Call). WasCall names.Write (word ∷ second ∷ third ∷ []) k) g.1 (
+      (one.high, three.fit, three.some, three.few, leb-true (b.0 + length d.0) (2 ^ 40) g.0),
+      (
+        third,
+        three.text,
+        ap (λ (w : List ℕ). call_text names.Write ∷ w ∷ second ∷ third ∷ []) one.text
+            ∙ ap (λ (w : List ℕ). call_text names.Write ∷ decimal a.0 ∷ w ∷ third ∷ []) two.0,
+      ),
+    )
 
 cut_of-read : (words : List (List ℕ)) (call : Call) → cut_of words ≡ Ok call → WasCall names.Cut words call
 cut_of-read [] call e = absurd cc
@@ -164,10 +171,11 @@ cut_of-read (word ∷ second ∷ []) call e =
     let b = bind_ok (number_in 0 (2 ^ 40) second) (λ size. Ok (calls.Cut a.0 size)) call a.2 in
     let one = number_in-read 0 15 word a.0 a.1 in
     let two = number_in-read 0 (2 ^ 40) second b.0 b.1 in
-    subst (λ (k : Call). WasCall names.Cut (word ∷ second ∷ []) k) (ok_is (calls.Cut a.0 b.0) call b.2)
-    ((one.high, two.high),
-    ap (λ (w : List ℕ). call_text names.Cut ∷ w ∷ second ∷ []) one.text
-    ∙ ap (λ (w : List ℕ). call_text names.Cut ∷ decimal a.0 ∷ w ∷ []) two.text)
+    subst (λ (k : Call). WasCall names.Cut (word ∷ second ∷ []) k) (ok_is (calls.Cut a.0 b.0) call b.2) (
+      (one.high, two.high),
+      ap (λ (w : List ℕ). call_text names.Cut ∷ w ∷ second ∷ []) one.text
+          ∙ ap (λ (w : List ℕ). call_text names.Cut ∷ decimal a.0 ∷ w ∷ []) two.text,
+    )
 
 -- a call that is read has its form and keeps the limits
 pub call_of-read : (name : CallName) (words : List (List ℕ)) (call : Call) → call_of name words ≡ Ok call → WasCall name words call
@@ -258,30 +266,45 @@ call_of-again words (calls.Link old new) fits is = (names.Link, path_text old �
 call_of-again words (calls.Unlink path) fits is = (names.Unlink, path_text path ∷ [], is, again_path (λ p. calls.Unlink p) path fits)
 call_of-again words (calls.Rmdir path) fits is = (names.Rmdir, path_text path ∷ [], is, again_path (λ p. calls.Rmdir p) path fits)
 call_of-again words (calls.Rename old new) fits is = (names.Rename, path_text old ∷ path_text new ∷ [], is, again_paths (λ p q. calls.Rename p q) old new fits.0 fits.1)
-call_of-again words (calls.Chmod path mode) fits (text, is, form) =
-    (names.Chmod, path_text path ∷ text ∷ [], form,
-    ap (λ (r : Result (List (List ℕ)) Fault). r >>= λ p. mode_at text >>= λ m. Ok (calls.Chmod p m)) (path_at-again path fits.0)
-    ∙ ap (λ (r : Result ℕ Fault). r >>= λ m. Ok (calls.Chmod path m)) (mode_at-again text mode is))
-call_of-again words (calls.Open handle path) fits is =
-    (names.Open, decimal handle ∷ path_text path ∷ [], is,
-    ap (λ (r : Result ℕ Fault). r >>= λ h. path_at (path_text path) >>= λ p. Ok (calls.Open h p)) (handle_again handle fits.0)
-    ∙ ap (λ (r : Result (List (List ℕ)) Fault). r >>= λ p. Ok (calls.Open handle p)) (path_at-again path fits.1))
+call_of-again words (calls.Chmod path mode) fits (text, is, form) = (
+  names.Chmod,
+  path_text path ∷ text ∷ [],
+  form,
+  ap (λ (r : Result (List (List ℕ)) Fault). r >>= λ p. mode_at text >>= λ m. Ok (calls.Chmod p m)) (path_at-again path fits.0)
+      ∙ ap (λ (r : Result ℕ Fault). r >>= λ m. Ok (calls.Chmod path m)) (mode_at-again text mode is),
+)
+call_of-again words (calls.Open handle path) fits is = (
+  names.Open,
+  decimal handle ∷ path_text path ∷ [],
+  is,
+  ap (λ (r : Result ℕ Fault). r >>= λ h. path_at (path_text path) >>= λ p. Ok (calls.Open h p)) (handle_again handle fits.0)
+      ∙ ap (λ (r : Result (List (List ℕ)) Fault). r >>= λ p. Ok (calls.Open handle p)) (path_at-again path fits.1),
+)
 call_of-again words (calls.Close handle) fits is = (names.Close, decimal handle ∷ [], is, again_handle (λ h. calls.Close h) handle fits)
-call_of-again words (calls.Read handle offset size) fits is =
-    (names.Read, decimal handle ∷ decimal offset ∷ decimal size ∷ [], is,
-    ap (λ (r : Result ℕ Fault). r >>= λ h. number_at (decimal offset) >>= λ o. number_in 1 65536 (decimal size) >>= λ n. cond (nat_le (o + n) (2 ^ 40)) (Ok (calls.Read h o n)) (Err faults.Number)) (handle_again handle fits.0)
-    ∙ ap (λ (r : Result ℕ Fault). r >>= λ o. number_in 1 65536 (decimal size) >>= λ n. cond (nat_le (o + n) (2 ^ 40)) (Ok (calls.Read handle o n)) (Err faults.Number)) (number_at-again offset (offset_small offset size fits.3))
-    ∙ ap (λ (r : Result ℕ Fault). r >>= λ n. cond (nat_le (offset + n) (2 ^ 40)) (Ok (calls.Read handle offset n)) (Err faults.Number)) (number_in-again 1 65536 size fits.1 fits.2 (lit< tt))
-    ∙ cond-true (nat_le (offset + size) (2 ^ 40)) (Ok (calls.Read handle offset size)) (Err faults.Number) (le-leb (offset + size) (2 ^ 40) fits.3))
-call_of-again words (calls.Write handle offset bytes) fits (text, is, form) =
-    (names.Write, decimal handle ∷ decimal offset ∷ text ∷ [], form,
-    ap (λ (r : Result ℕ Fault). r >>= λ h. number_at (decimal offset) >>= λ o. data_at text >>= λ b. cond (nat_le (o + length b) (2 ^ 40)) (Ok (calls.Write h o b)) (Err faults.Number)) (handle_again handle fits.0)
-    ∙ ap (λ (r : Result ℕ Fault). r >>= λ o. data_at text >>= λ b. cond (nat_le (o + length b) (2 ^ 40)) (Ok (calls.Write handle o b)) (Err faults.Number)) (number_at-again offset (offset_small offset (length bytes) fits.4))
-    ∙ ap (λ (r : Result (List ℕ) Fault). r >>= λ b. cond (nat_le (offset + length b) (2 ^ 40)) (Ok (calls.Write handle offset b)) (Err faults.Number)) (data_at-again text bytes is fits.1 fits.3)
-    ∙ cond-true (nat_le (offset + length bytes) (2 ^ 40)) (Ok (calls.Write handle offset bytes)) (Err faults.Number) (le-leb (offset + length bytes) (2 ^ 40) fits.4))
-call_of-again words (calls.Cut handle size) fits is =
-    (names.Cut, decimal handle ∷ decimal size ∷ [], is,
-    ap (λ (r : Result ℕ Fault). r >>= λ h. number_in 0 (2 ^ 40) (decimal size) >>= λ n. Ok (calls.Cut h n)) (handle_again handle fits.0)
-    ∙ ap (λ (r : Result ℕ Fault). r >>= λ n. Ok (calls.Cut handle n)) (number_in-again 0 (2 ^ 40) size (omega arith) fits.1 (lit< tt)))
+call_of-again words (calls.Read handle offset size) fits is = (
+  names.Read,
+  decimal handle ∷ decimal offset ∷ decimal size ∷ [],
+  is,
+  ap (λ (r : Result ℕ Fault). r >>= λ h. number_at (decimal offset) >>= λ o. number_in 1 65536 (decimal size) >>= λ n. cond (nat_le (o + n) (2 ^ 40)) (Ok (calls.Read h o n)) (Err faults.Number)) (handle_again handle fits.0)
+      ∙ ap (λ (r : Result ℕ Fault). r >>= λ o. number_in 1 65536 (decimal size) >>= λ n. cond (nat_le (o + n) (2 ^ 40)) (Ok (calls.Read handle o n)) (Err faults.Number)) (number_at-again offset (offset_small offset size fits.3))
+      ∙ ap (λ (r : Result ℕ Fault). r >>= λ n. cond (nat_le (offset + n) (2 ^ 40)) (Ok (calls.Read handle offset n)) (Err faults.Number)) (number_in-again 1 65536 size fits.1 fits.2 (lit< tt))
+      ∙ cond-true (nat_le (offset + size) (2 ^ 40)) (Ok (calls.Read handle offset size)) (Err faults.Number) (le-leb (offset + size) (2 ^ 40) fits.3),
+)
+call_of-again words (calls.Write handle offset bytes) fits (text, is, form) = (
+  names.Write,
+  decimal handle ∷ decimal offset ∷ text ∷ [],
+  form,
+  ap (λ (r : Result ℕ Fault). r >>= λ h. number_at (decimal offset) >>= λ o. data_at text >>= λ b. cond (nat_le (o + length b) (2 ^ 40)) (Ok (calls.Write h o b)) (Err faults.Number)) (handle_again handle fits.0)
+      ∙ ap (λ (r : Result ℕ Fault). r >>= λ o. data_at text >>= λ b. cond (nat_le (o + length b) (2 ^ 40)) (Ok (calls.Write handle o b)) (Err faults.Number)) (number_at-again offset (offset_small offset (length bytes) fits.4))
+      ∙ ap (λ (r : Result (List ℕ) Fault). r >>= λ b. cond (nat_le (offset + length b) (2 ^ 40)) (Ok (calls.Write handle offset b)) (Err faults.Number)) (data_at-again text bytes is fits.1 fits.3)
+      ∙ cond-true (nat_le (offset + length bytes) (2 ^ 40)) (Ok (calls.Write handle offset bytes)) (Err faults.Number) (le-leb (offset + length bytes) (2 ^ 40) fits.4),
+)
+call_of-again words (calls.Cut handle size) fits is = (
+  names.Cut,
+  decimal handle ∷ decimal size ∷ [],
+  is,
+  ap (λ (r : Result ℕ Fault). r >>= λ h. number_in 0 (2 ^ 40) (decimal size) >>= λ n. Ok (calls.Cut h n)) (handle_again handle fits.0)
+      ∙ ap (λ (r : Result ℕ Fault). r >>= λ n. Ok (calls.Cut handle n)) (number_in-again 0 (2 ^ 40) size (omega arith) fits.1 (lit< tt)),
+)
 call_of-again words (calls.Flush handle) fits is = (names.Flush, decimal handle ∷ [], is, again_handle (λ h. calls.Flush h) handle fits)
 call_of-again words (calls.Glimpse handle) fits is = (names.Glimpse, decimal handle ∷ [], is, again_handle (λ h. calls.Glimpse h) handle fits)

@@ -98,7 +98,7 @@ header_again settings header n new low high =
 
 -- sayings, from the front
 
-says_first : (line : List ℕ) (text : List (List ℕ)) → says line ≡ true → sayings (line ∷ text) ≡ words_of line ∷ sayings text
+pub says_first : (line : List ℕ) (text : List (List ℕ)) → says line ≡ true → sayings (line ∷ text) ≡ words_of line ∷ sayings text
 says_first line text e = ap (λ (b : Bool). map words_of (cond b (line ∷ filter says text) (filter says text))) e
 
 says_later : (line : List ℕ) (text : List (List ℕ)) → says line ≡ false → sayings (line ∷ text) ≡ sayings text
@@ -136,8 +136,8 @@ body number (line ∷ text) settings said rest more plain parts small are =
     let first = All-head (λ l. is_plain l ≡ true) line text plain in
     let others = All-tail (λ l. is_plain l ≡ true) line text plain in
     elim (cases_Bool (says line)) [
-      inl some ↦ spoken_body number text settings said line rest more (λ next ws ls tail are_tail. body (number + 1) text settings (said ++ next ∷ []) ws ls others tail small are_tail) first some (sym (says_first line text some) ∙ parts) small are
-    | inr none ↦ passes number p p line text (silent p line first none) ∙ body (number + 1) text settings said rest more others (sym (says_later line text none) ∙ parts) small are
+      | inl some ↦ spoken_body number text settings said line rest more (λ next ws ls tail are_tail. body (number + 1) text settings (said ++ next ∷ []) ws ls others tail small are_tail) first some (sym (says_first line text some) ∙ parts) small are
+      | inr none ↦ passes number p p line text (silent p line first none) ∙ body (number + 1) text settings said rest more others (sym (says_later line text none) ∙ parts) small are
     ]
 
 -- where a header has no line yet, it isn't given
@@ -173,16 +173,16 @@ heads number (line ∷ text) before (s ∷ ss) rest said plain parts once fit sm
     let others = All-tail (λ l. is_plain l ≡ true) line text plain in
     let same = append_assoc before (s ∷ []) ss in
     elim (cases_Bool (says line)) [
-      inl some ↦
-      let both = heads_are (words_of line) (setting_words s) (sayings text) (map setting_words ss ++ rest) (sym (says_first line text some) ∙ parts) in
-      let fits = All-head SettingFits s ss fit in
-      let step : line_after p line ≡ Ok (progress_of (before ++ s ∷ []) []) =
-      spoken p line first some ∙ ap (words_after p) both.0 ∙ header_again before s.header s.number (new_header before ss s once) fits.0 fits.1 in
-      passes number p (progress_of (before ++ s ∷ []) []) line text step
-      ∙ heads (number + 1) text (before ++ s ∷ []) ss rest said others both.1 (subst StandOnce (sym same) once) (All-tail SettingFits s ss fit)
-      (subst (λ (ts : List Setting). IsSmall (head_of ts)) (sym same) small) (subst (λ (ts : List Setting). AreLines (head_of ts) rest said) (sym same) are)
-      ∙ ap (λ (ts : List Setting). Ok (progress_of ts said)) same
-    | inr none ↦ passes number p p line text (silent p line first none) ∙ heads (number + 1) text before (s ∷ ss) rest said others (sym (says_later line text none) ∙ parts) once fit small are
+      | inl some ↦
+          let both = heads_are (words_of line) (setting_words s) (sayings text) (map setting_words ss ++ rest) (sym (says_first line text some) ∙ parts) in
+          let fits = All-head SettingFits s ss fit in
+          let step : line_after p line ≡ Ok (progress_of (before ++ s ∷ []) []) =
+          spoken p line first some ∙ ap (words_after p) both.0 ∙ header_again before s.header s.number (new_header before ss s once) fits.0 fits.1 in
+          passes number p (progress_of (before ++ s ∷ []) []) line text step
+          ∙ heads (number + 1) text (before ++ s ∷ []) ss rest said others both.1 (subst StandOnce (sym same) once) (All-tail SettingFits s ss fit)
+          (subst (λ (ts : List Setting). IsSmall (head_of ts)) (sym same) small) (subst (λ (ts : List Setting). AreLines (head_of ts) rest said) (sym same) are)
+          ∙ ap (λ (ts : List Setting). Ok (progress_of ts said)) same
+      | inr none ↦ passes number p p line text (silent p line first none) ∙ heads (number + 1) text before (s ∷ ss) rest said others (sym (says_later line text none) ∙ parts) once fit small are
     ]
 
 -- the lines of a scenario are read as the scenario

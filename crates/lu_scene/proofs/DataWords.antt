@@ -69,9 +69,10 @@ data_of-text text bytes fits (inr repeated) =
 digits_of-read : (text bytes : List ℕ) → digits_of text ≡ Some bytes → (text ≡ encode_lower bytes) × (bytes ≢ [])
 digits_of-read text bytes e =
     let found = cond_some (nat_lt 0 (length (undigits text)) && bytes_eq (encode_lower (undigits text)) text) (undigits text) bytes e in
-    let tests = and_parts (nat_lt 0 (length (undigits text))) (bytes_eq (encode_lower (undigits text)) text) found.0 in
-    (sym (bytes_same (encode_lower (undigits text)) text tests.1) ∙ ap encode_lower found.1,
-    λ none. true≢false (sym tests.0 ∙ ap (λ (xs : List ℕ). nat_lt 0 (length xs)) (found.1 ∙ none)))
+    let tests = and_parts (nat_lt 0 (length (undigits text))) (bytes_eq (encode_lower (undigits text)) text) found.0 in (
+      sym (bytes_same (encode_lower (undigits text)) text tests.1) ∙ ap encode_lower found.1,
+      λ none. true≢false (sym tests.0 ∙ ap (λ (xs : List ℕ). nat_lt 0 (length xs)) (found.1 ∙ none)),
+    )
 
 repeated_of-read : (text bytes : List ℕ) → repeated_of text ≡ Some bytes → IsRepeatedText text bytes
 repeated_of-read text bytes e =

@@ -12,3 +12,6 @@ pub mod Reached
 pub mod Complete
 pub mod Scenes
 pub mod Printed
+pub mod Graphic
+pub mod Splitting
+pub mod RoundTrip

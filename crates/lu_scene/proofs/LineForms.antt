@@ -144,10 +144,14 @@ call_line-read head (place ∷ word ∷ words) line e =
     let slot = slot_at-read head.clients place a.0 a.1 in
     let name = call_name_of-read word b.0 (or_fault_ok faults.UnknownCall (call_name_of word) b.0 b.1) in
     let call = call_of-read b.0 words d.0 d.1 in
-    subst (λ (l : SceneLine). WasLine head verbs.Call (place ∷ word ∷ words) l) (ok_is (lines.Call a.0.0 a.0.1 d.0) line d.2)
-    ((slot.1, slot.2, call.0),
-    (call_text b.0 ∷ words, call.1,
-    ap (λ (w : List ℕ). verb_text verbs.Call ∷ w ∷ word ∷ words) slot.0 ∙ ap (λ (w : List ℕ). verb_text verbs.Call ∷ slot_text a.0.0 a.0.1 ∷ w ∷ words) name))
+    subst (λ (l : SceneLine). WasLine head verbs.Call (place ∷ word ∷ words) l) (ok_is (lines.Call a.0.0 a.0.1 d.0) line d.2) (
+      (slot.1, slot.2, call.0),
+      (
+        call_text b.0 ∷ words,
+        call.1,
+        ap (λ (w : List ℕ). verb_text verbs.Call ∷ w ∷ word ∷ words) slot.0 ∙ ap (λ (w : List ℕ). verb_text verbs.Call ∷ slot_text a.0.0 a.0.1 ∷ w ∷ words) name,
+      ),
+    )
 
 run_line-read : (head : Head) (words : List (List ℕ)) (line : SceneLine) → run_line words ≡ Ok line → WasLine head verbs.Run words line
 run_line-read head [] line e = subst (λ (l : SceneLine). WasLine head verbs.Run [] l) (ok_is lines.Run line e) (tt, refl)
@@ -234,9 +238,12 @@ again_call head client slot call name words within low few read =
 -- a line that has its form and keeps the limits is read
 pub line_of-again : (head : Head) (words : List (List ℕ)) (line : SceneLine) → IsSmall head → IsLine head words line → Again head words line
 line_of-again head words (lines.Call client slot call) small (fits, (more, is, form)) =
-    let r = call_of-again more call fits.2 is in
-    (verbs.Call, slot_text client slot ∷ more, form,
-    ap (λ (ws : List (List ℕ)). call_line head (slot_text client slot ∷ ws)) r.2 ∙ again_call head client slot call r.0 r.1 fits.0 fits.1 small.clients r.3)
+    let r = call_of-again more call fits.2 is in (
+      verbs.Call,
+      slot_text client slot ∷ more,
+      form,
+      ap (λ (ws : List (List ℕ)). call_line head (slot_text client slot ∷ ws)) r.2 ∙ again_call head client slot call r.0 r.1 fits.0 fits.1 small.clients r.3,
+    )
 line_of-again head words lines.Run small (fits, form) = (verbs.Run, [], form, refl)
 line_of-again head words (lines.RunSome turns) small (fits, form) = (verbs.Run, decimal turns ∷ [], form, again_number (λ n. lines.RunSome n) 1 65536 turns fits.0 fits.1 (lit< tt))
 line_of-again head words (lines.Deliver number) small (fits, form) = (verbs.Deliver, decimal number ∷ [], form, again_number (λ n. lines.Deliver n) 1 1000000 number fits.0 fits.1 (lit< tt))
@@ -245,10 +252,13 @@ line_of-again head words (lines.Tick node) small (fits, form) =
     (verbs.Tick, node_text node ∷ [], form, ap (λ (r : Result Node Fault). r >>= λ n. Ok (lines.Tick n)) (node_at-again head node fits small.clients small.osts))
 line_of-again head words (lines.Commit target) small (fits, form) =
     (verbs.Commit, target_text target.0 ∷ [], form, ap (λ (r : Result TargetId Fault). r >>= λ t. Ok (lines.Commit t)) (target_at-again head.osts target fits small.osts))
-line_of-again head words (lines.CommitSome target count) small (fits, form) =
-    (verbs.Commit, target_text target.0 ∷ decimal count ∷ [], form,
-    ap (λ (r : Result TargetId Fault). r >>= λ t. number_in 1 65536 (decimal count) >>= λ n. Ok (lines.CommitSome t n)) (target_at-again head.osts target fits.0 small.osts)
-    ∙ ap (λ (r : Result ℕ Fault). r >>= λ n. Ok (lines.CommitSome target n)) (number_in-again 1 65536 count fits.1 fits.2 (lit< tt)))
+line_of-again head words (lines.CommitSome target count) small (fits, form) = (
+  verbs.Commit,
+  target_text target.0 ∷ decimal count ∷ [],
+  form,
+  ap (λ (r : Result TargetId Fault). r >>= λ t. number_in 1 65536 (decimal count) >>= λ n. Ok (lines.CommitSome t n)) (target_at-again head.osts target fits.0 small.osts)
+      ∙ ap (λ (r : Result ℕ Fault). r >>= λ n. Ok (lines.CommitSome target n)) (number_in-again 1 65536 count fits.1 fits.2 (lit< tt)),
+)
 line_of-again head words (lines.Crash target) small (fits, form) = (verbs.Crash, target_text target.0 ∷ [], form, again_target (λ t. lines.Crash t) head.osts target fits small.osts)
 line_of-again head words (lines.Boot target) small (fits, form) = (verbs.Boot, target_text target.0 ∷ [], form, again_target (λ t. lines.Boot t) head.osts target fits small.osts)
 line_of-again head words (lines.Close target) small (fits, form) = (verbs.Close, target_text target.0 ∷ [], form, again_target (λ t. lines.Close t) head.osts target fits small.osts)

@@ -94,9 +94,10 @@ unfolding path_of
 path_of-read [] names e = absurd cc
 path_of-read (b ∷ rest) names e =
     let found = cond_some (b == 47 && is_path (between_slashes rest)) (between_slashes rest) names e in
-    let parts = and_parts (b == 47) (is_path (between_slashes rest)) found.0 in
-    (subst IsPath found.1 (is_path-true (between_slashes rest) parts.1),
-    ap (λ (c : ℕ). c ∷ rest) (eqb-true b 47 parts.0) ∙ ap (λ (xs : List ℕ). 47 ∷ xs) (sym (joined rest)) ∙ ap (λ (xs : List (List ℕ)). 47 ∷ join_with_byte 47 xs) found.1)
+    let parts = and_parts (b == 47) (is_path (between_slashes rest)) found.0 in (
+      subst IsPath found.1 (is_path-true (between_slashes rest) parts.1),
+      ap (λ (c : ℕ). c ∷ rest) (eqb-true b 47 parts.0) ∙ ap (λ (xs : List ℕ). 47 ∷ xs) (sym (joined rest)) ∙ ap (λ (xs : List (List ℕ)). 47 ∷ join_with_byte 47 xs) found.1,
+    )
 
 -- what a reader of paths answers
 pub path_of-answered : (r : Option (List (List ℕ))) (text : List ℕ) → IfSome r (λ names. IsPath names × (text ≡ path_text names))

@@ -1,7 +1,7 @@
 -- Printing lines one after the other.
-use Rattle.std.proofs.Common.{◌≡◌, ℕ, suc, ◌+◌, ◌<◌, List, [], ◌∷◌, ◌++◌, length, get_or, take, map, refl, sym, ap, ◌∙◌, append_assoc, append-nil, add-one}
+use Rattle.std.proofs.Common.{◌≡◌, ℕ, suc, ◌+◌, ◌<◌, ◌≤◌, List, [], ◌∷◌, ◌++◌, length, get_or, take, map, refl, sym, ap, ◌∙◌, append_assoc, append-nil, add-one}
 use Rattle.std.proofs.Math.Seq.{take-suc}
-use Rattle.std.proofs.lemmas.List.{map-append}
+use Rattle.std.proofs.lemmas.List.{map-append, take_all}
 use Rattle.lu_scene.specs.declared.scene.SceneLine.{SceneLine}
 use Rattle.lu_scene.specs.Print.{words_text, lines_text, line_words}
 
@@ -40,3 +40,8 @@ said_more now put after head lines i d within so_far added ended =
     ∙ ap lines_text (append_assoc head (map line_words (take i lines)) (line_words (get_or lines i d) ∷ [])
     ∙ ap (λ (ws : List (List (List ℕ))). head ++ ws) (sym (map-append line_words (take i lines) (get_or lines i d ∷ []))
     ∙ ap (λ (ls : List SceneLine). map line_words ls) (sym (take-suc lines i d within) ∙ ap (λ (k : ℕ). take k lines) (sym (add-one i)))))
+
+-- the text of all lines
+pub all_said : (now : List ℕ) (head : List (List (List ℕ))) (items said : List SceneLine) (i : ℕ) → length items ≤ i → items ≡ said
+    → now ≡ lines_text (head ++ map line_words (take i items)) → now ≡ lines_text (head ++ map line_words said)
+all_said now head items said i past same so_far = so_far ∙ ap (λ (ls : List SceneLine). lines_text (head ++ map line_words ls)) (take_all i items past ∙ same)

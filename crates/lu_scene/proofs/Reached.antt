@@ -118,9 +118,9 @@ headed text settings said line header n plain some words none new low high good 
       fit = All-push SettingFits settings s good.fit (low, high);
       rest = [];
       parts =
-        sayings-append text (line ∷ []) ∙ ap (λ (ws : List (List (List ℕ))). sayings text ++ ws) (says_one line some ∙ ap (λ (w : List (List ℕ)). w ∷ []) words)
-        ∙ ap (λ (ws : List (List (List ℕ))). ws ++ header_words header n ∷ []) (good.parts ∙ ap (λ (r : List (List (List ℕ))). map setting_words settings ++ r) no ∙ append-nil (map setting_words settings))
-        ∙ sym (map-append setting_words settings (s ∷ [])) ∙ sym (append-nil (map setting_words (settings ++ s ∷ [])));
+          sayings-append text (line ∷ []) ∙ ap (λ (ws : List (List (List ℕ))). sayings text ++ ws) (says_one line some ∙ ap (λ (w : List (List ℕ)). w ∷ []) words)
+          ∙ ap (λ (ws : List (List (List ℕ))). ws ++ header_words header n ∷ []) (good.parts ∙ ap (λ (r : List (List (List ℕ))). map setting_words settings ++ r) no ∙ append-nil (map setting_words settings))
+          ∙ sym (map-append setting_words settings (s ∷ [])) ∙ sym (append-nil (map setting_words (settings ++ s ∷ [])));
       lines_are = tt;
     }
 
@@ -133,8 +133,8 @@ more_said text settings said line next plain some is good = record {
   fit = good.fit;
   rest = good.rest ++ words_of line ∷ [];
   parts =
-    sayings-append text (line ∷ []) ∙ ap (λ (ws : List (List (List ℕ))). sayings text ++ ws) (says_one line some)
-    ∙ ap (λ (ws : List (List (List ℕ))). ws ++ words_of line ∷ []) good.parts ∙ append_assoc (map setting_words settings) good.rest (words_of line ∷ []);
+      sayings-append text (line ∷ []) ∙ ap (λ (ws : List (List (List ℕ))). sayings text ++ ws) (says_one line some)
+      ∙ ap (λ (ws : List (List (List ℕ))). ws ++ words_of line ∷ []) good.parts ∙ append_assoc (map setting_words settings) good.rest (words_of line ∷ []);
   lines_are = AreLines-push (head_of settings) good.rest said (words_of line) next good.lines_are is;
 }
 
@@ -171,10 +171,12 @@ header_step text settings said line first words header q plain some parted is go
     let b = bind_ok (one_number (least_of header) (most_of header) words) (λ n. Ok (record p { head = with_number header n p.head; given = p.given ++ header ∷ [] })) q passed.1 in
     let number = one_number-read (least_of header) (most_of header) words b.0 b.1 in
     let spelled : words_of line ≡ header_words header b.0 =
-    parted ∙ ap (λ (w : List ℕ). w ∷ words) (header_of-read first header is) ∙ ap (λ (ws : List (List ℕ)). header_text header ∷ ws) number.0 in
-    (settings ++ record { header = header; number = b.0 } ∷ [], [],
-    headed text settings said line header b.0 plain some spelled none tests.0 number.1 number.2 good,
-    sym (ok_is (record p { head = with_number header b.0 p.head; given = p.given ++ header ∷ [] }) q b.2) ∙ progress_more settings header b.0 said none)
+    parted ∙ ap (λ (w : List ℕ). w ∷ words) (header_of-read first header is) ∙ ap (λ (ws : List (List ℕ)). header_text header ∷ ws) number.0 in (
+      settings ++ record { header = header; number = b.0 } ∷ [],
+      [],
+      headed text settings said line header b.0 plain some spelled none tests.0 number.1 number.2 good,
+      sym (ok_is (record p { head = with_number header b.0 p.head; given = p.given ++ header ∷ [] }) q b.2) ∙ progress_more settings header b.0 said none,
+    )
 
 -- words that begin as another line
 verb_step : (text : List (List ℕ)) (settings : List Setting) (said : List SceneLine) (line : List ℕ) (first : List ℕ) (words : List (List ℕ)) (verb : Verb) (q : Progress)
@@ -184,10 +186,12 @@ verb_step text settings said line first words verb q plain some parted is good e
     let p = progress_of settings said in
     let b = bind_ok (line_of (head_of settings) verb words) (λ next. Ok (record p { lines = said ++ next ∷ [] })) q e in
     let was = line_of-read (head_of settings) verb words b.0 b.1 in
-    let spelled : verb_text verb ∷ words ≡ words_of line = ap (λ (w : List ℕ). w ∷ words) (sym (verb_of-read first verb is)) ∙ sym parted in
-    (settings, said ++ b.0 ∷ [],
-    more_said text settings said line b.0 plain some (subst (λ (ws : List (List ℕ)). IsLine (head_of settings) ws b.0) spelled was) good,
-    sym (ok_is (record p { lines = said ++ b.0 ∷ [] }) q b.2))
+    let spelled : verb_text verb ∷ words ≡ words_of line = ap (λ (w : List ℕ). w ∷ words) (sym (verb_of-read first verb is)) ∙ sym parted in (
+      settings,
+      said ++ b.0 ∷ [],
+      more_said text settings said line b.0 plain some (subst (λ (ws : List (List ℕ)). IsLine (head_of settings) ws b.0) spelled was) good,
+      sym (ok_is (record p { lines = said ++ b.0 ∷ [] }) q b.2),
+    )
 
 -- words
 words_step : (text : List (List ℕ)) (settings : List Setting) (said : List SceneLine) (line : List ℕ) (words : List (List ℕ)) (q : Progress)
@@ -201,6 +205,7 @@ words_step text settings said line (first ∷ words) q plain shown parted good e
     some : says line ≡ true
     some =
         and_from _ _ (ap not shown) (ap (λ (ws : List (List ℕ)). not (length ws == 0)) parted ∙ ap not (ne_eqb (length (first ∷ words)) 0 (λ none. omega arith)))
+
     by : (h : Option Header) → header_of first ≡ h → (v : Option Verb) → verb_of first ≡ v → said_after (progress_of settings said) h v words ≡ Ok q → Good (text ++ line ∷ []) q
     by (Some header) is v is_verb read = header_step text settings said line first words header q plain some parted is good read
     by None is (Some verb) is_verb read = verb_step text settings said line first words verb q plain some parted is_verb good read
@@ -253,12 +258,12 @@ all_good number before settings said [] q good e =
 all_good number before settings said (line ∷ lines) q good e =
     let p = progress_of settings said in
     elim (cases_result (line_after p line)) [
-      inl (next, is) ↦
-      let step = line_step before settings said line next good is in
-      let rest = sym (passes number p next line lines is) ∙ e in
-      let all = all_good (number + 1) (before ++ line ∷ []) step.0 step.1 lines q step.2 (subst (λ (r : Progress). lines_after (number + 1) r lines ≡ Ok q) step.3 rest) in
-      subst (λ (ls : List (List ℕ)). Good ls q) (append_assoc before (line ∷ []) lines) all
-    | inr (fault, is) ↦ never q (Bad number fault) (sym e ∙ breaks number p line lines fault is)
+      | inl (next, is) ↦
+          let step = line_step before settings said line next good is in
+          let rest = sym (passes number p next line lines is) ∙ e in
+          let all = all_good (number + 1) (before ++ line ∷ []) step.0 step.1 lines q step.2 (subst (λ (r : Progress). lines_after (number + 1) r lines ≡ Ok q) step.3 rest) in
+          subst (λ (ls : List (List ℕ)). Good ls q) (append_assoc before (line ∷ []) lines) all
+      | inr (fault, is) ↦ never q (Bad number fault) (sym e ∙ breaks number p line lines fault is)
     ]
 
 abbrev err_at : ℕ → Fault → Result Progress SceneFault
@@ -274,23 +279,23 @@ first_fault number before settings said [] place fault good count e = never (pro
 first_fault number before settings said (line ∷ lines) place fault good count e =
     let p = progress_of settings said in
     elim (cases_result (line_after p line)) [
-      inl (next, is) ↦
-      let step = line_step before settings said line next good is in
-      let rest = sym (passes number p next line lines is) ∙ e in
-      let longer : number + 1 ≡ length (before ++ line ∷ []) + 1 = omega (arith, count, length-append before (line ∷ [])) in
-      let all = first_fault (number + 1) (before ++ line ∷ []) step.0 step.1 lines place fault step.2 longer (subst (λ (r : Progress). lines_after (number + 1) r lines ≡ Err (Bad place fault)) step.3 rest) in
-      subst (λ (ls : List (List ℕ)). IsFirstFault ls place fault) (append_assoc before (line ∷ []) lines) all
-    | inr (found, is) ↦
-      let same = place_is number place found fault (sym (breaks number p line lines found is) ∙ e) in
-      record {
-        before = before;
-        bad = line;
-        after = lines;
-        parts = refl;
-        place = sym same.0 ∙ count;
-        settings = settings;
-        said = said;
-        good = good;
-        wrong = is ∙ ap (λ (f : Fault). Err f) same.1;
-      }
+      | inl (next, is) ↦
+          let step = line_step before settings said line next good is in
+          let rest = sym (passes number p next line lines is) ∙ e in
+          let longer : number + 1 ≡ length (before ++ line ∷ []) + 1 = omega (arith, count, length-append before (line ∷ [])) in
+          let all = first_fault (number + 1) (before ++ line ∷ []) step.0 step.1 lines place fault step.2 longer (subst (λ (r : Progress). lines_after (number + 1) r lines ≡ Err (Bad place fault)) step.3 rest) in
+          subst (λ (ls : List (List ℕ)). IsFirstFault ls place fault) (append_assoc before (line ∷ []) lines) all
+      | inr (found, is) ↦
+          let same = place_is number place found fault (sym (breaks number p line lines found is) ∙ e) in
+          record {
+            before = before;
+            bad = line;
+            after = lines;
+            parts = refl;
+            place = sym same.0 ∙ count;
+            settings = settings;
+            said = said;
+            good = good;
+            wrong = is ∙ ap (λ (f : Fault). Err f) same.1;
+          }
     ]

@@ -22,7 +22,7 @@ use Rattle.lu_scene.specs.declared.words.CallName.TheVariants as names
 use Rattle.lu_scene.specs.Words.{header_text, verb_text, call_text}
 use Rattle.lu_scene.specs.Fields.{is_octal}
 use Rattle.lu_scene.specs.Lines.{lines_of, words_of, is_plain, is_comment, least_of, most_of, default_head, with_number, place_of, line_after}
-use Rattle.lu_scene.specs.Print.{header_words, slot_text, call_words, line_words}
+use Rattle.lu_scene.specs.Print.{words_text, header_words, slot_text, call_words, line_words}
 
 -- The limits of numbers, nodes and paths.
 
@@ -174,3 +174,7 @@ HeadFits head =
 pub record SceneFits (scene : Scene) : Type 0 where
   pub head : HeadFits scene.head
   pub lines_fit : All (LineFits scene.head) scene.lines
+
+-- each line, as it is printed, has at most 2,000 bytes
+abbrev pub HasShortLines : Scene → Type 0
+HasShortLines scene = All (λ line. length (words_text (line_words line)) ≤ 2000) scene.lines

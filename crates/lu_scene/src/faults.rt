@@ -53,10 +53,7 @@ impl Error for Fault {}
 #[derive(Clone, Copy, Debug, PartialEq, Eq)]
 pub enum SceneFault {
     /// The first line that is wrong, counted from 1, and what is wrong with it.
-    Bad {
-        line: u64,
-        fault: Fault,
-    },
+    Bad { line: u64, fault: Fault },
     /// Want of memory.
     Memory,
 }

@@ -104,7 +104,11 @@ fn number_behind(letter: u8, word: &[u8]) -> Option<u64>
     ensures number { result ≡ number_behind letter word.now }
 {
     let (first, digits) = word.split_first()?;
-    if *first == letter { number_of(digits) } else { None }
+    if *first == letter {
+        number_of(digits)
+    } else {
+        None
+    }
 }
 
 /// A client of a scenario that has so many.

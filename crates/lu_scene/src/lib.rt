@@ -9,10 +9,13 @@ mod faults;
 mod fields;
 mod printer;
 mod reader;
-mod words;
 mod scene;
+mod words;
 
 pub use faults::{Fault, SceneFault};
 pub use printer::print_scene;
 pub use reader::read_scene;
 pub use scene::{Head, Lines, Scene, SceneLine};
+
+#[cfg(test)]
+mod tests;

@@ -4,6 +4,7 @@
 ghost use Rattle.std.specs.Prelude.{◌≡◌, ℕ, ◌++◌, ◌∷◌, [], length, take, IfOk, OnOk, OnErr, ◌<◌, codes, decimal, nat_lt, if◌then◌else◌, ◌/◌, ◌%◌, ◌+◌};
 ghost use Rattle.lu_base.specs.Texts.{path_text, bytes_text};
 ghost use Rattle.lu_scene.specs.Words.{header_text, verb_text, call_text};
+ghost use Rattle.lu_scene.specs.Grammar.{SceneFits, HasShortLines, IsScene};
 ghost use Rattle.lu_scene.specs.Print.{further, words_text, lines_text, header_words, head_words, target_text, node_text, slot_text, count_text, octal_digit, octal_from, octal_text, stripes_words, call_words, line_words, scene_text};
 
 use super::scene::{Head, Scene, SceneLine};
@@ -17,6 +18,8 @@ use std::alloc::Global;
 pub fn print_scene(alloc: Global, scene: &Scene) -> Result<Bytes, Memory>
     // The text is the scenario's.
     ensures text { IfOk result (λ text. text ≡ scene_text scene.now) }
+    // It is read as the scenario, where that keeps the limits and no line is too long.
+    ensures scenario { IfOk result (λ text. SceneFits scene.now → HasShortLines scene.now → IsScene text scene.now) }
 {
     let mut out = Bytes::new(alloc);
     put_head(&mut out, &scene.head)?;

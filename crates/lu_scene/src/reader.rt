@@ -173,12 +173,7 @@ fn die_line(head: &Head, words: &[&[u8]]) -> Result<SceneLine, LineError>
 }
 
 /// The line that begins so, with these words after its first.
-fn line_of(
-    alloc: Global,
-    head: &Head,
-    verb: Verb,
-    words: &[&[u8]],
-) -> Result<SceneLine, LineError>
+fn line_of(alloc: Global, head: &Head, verb: Verb, words: &[&[u8]]) -> Result<SceneLine, LineError>
     ensures line { Gives result (line_of head.now verb (map (λ w. w.now) words.now)) }
 {
     match verb {

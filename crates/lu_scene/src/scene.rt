@@ -27,11 +27,7 @@ pub struct Head {
 #[derive(Debug, PartialEq, Eq, Drop)]
 pub enum SceneLine {
     /// A client begins a call on a slot, 0 to 3.
-    Call {
-        client: u16,
-        slot: u8,
-        call: Call,
-    },
+    Call { client: u16, slot: u8, call: Call },
     /// Turns are made until nothing is left to do.
     Run,
     /// This many turns are made, 1 to 65,536.
@@ -45,10 +41,7 @@ pub enum SceneLine {
     /// A target commits all its transactions.
     Commit(TargetId),
     /// A target commits this many of its transactions, 1 to 65,536.
-    CommitSome {
-        target: TargetId,
-        count: u64,
-    },
+    CommitSome { target: TargetId, count: u64 },
     /// A target goes down.
     Crash(TargetId),
     /// A target comes up.
