@@ -9,6 +9,8 @@ mod reader;
 mod slots;
 mod status;
 mod target;
+#[cfg(test)]
+mod tests;
 mod top;
 mod turn;
 mod wire;
