@@ -1,6 +1,6 @@
 //! The client's turns: a call begins, and its reply is heard and told.
 
-ghost use Rattle.std.specs.Prelude.{◌≡◌, ◌+◌, ◌<◌, ◌^◌, ◌==◌, ◌&&◌, false, if◌then◌else◌, [], IfOk, OnOk};
+ghost use Rattle.std.specs.Prelude.{◌≡◌, ◌+◌, ◌<◌, ◌^◌, ◌==◌, ◌&&◌, false, if◌then◌else◌, [], IfOk, OnOk, OnErr};
 ghost use Rattle.lu_top.specs.Steps.{step_at, noted};
 ghost use Rattle.lu_top.specs.ClientTurns.{client_at, operation_of, request_of, call_entries, after_call, is_awaited, told_entries, message_entries, after_message};
 
@@ -38,10 +38,12 @@ impl Client {
     }
 
     /// A call begins: its request is sent. Where the slot has a call already, the turn is `busy`.
+    /// After want of memory the client is as before.
     pub fn begin(&mut self, stamp: Stamp, call: &Call) -> Result<Step, Memory>
         requires room { self.old.last + 1 < 2 ^ 64 }
         ensures step { IfOk result (λ step. step ≡ step_at (client_at stamp) (call_entries self.old call.now)) }
         ensures client { OnOk result (self.new ≡ after_call self.old) }
+        ensures kept { OnErr result (self.new ≡ self.old) }
     {
         let mut turn = Turn::new(self.alloc, stamp, Node::Client(WHO.client));
         if self.waits {
@@ -61,10 +63,11 @@ impl Client {
     }
 
     /// A message comes. A reply to the call's request is heard, and its answer told; anything else only
-    /// makes its `take`.
+    /// makes its `take`. After want of memory the client is as before.
     pub fn deliver(&mut self, stamp: Stamp, message: &Message) -> Result<Step, Memory>
         ensures step { IfOk result (λ step. step ≡ step_at (client_at stamp) (message_entries self.old message.now)) }
         ensures client { OnOk result (self.new ≡ after_message self.old message.now) }
+        ensures kept { OnErr result (self.new ≡ self.old) }
     {
         let mut turn = Turn::new(self.alloc, stamp, Node::Client(WHO.client));
         turn.note(Entry::Take(0))?;
@@ -85,6 +88,7 @@ impl Client {
     fn hear(&mut self, turn: &mut Turn, reply: &Reply) -> Result<(), Memory>
         ensures told { OnOk result (turn.new.step ≡ noted turn.old.at turn.old.step (if is_awaited self.old (Message.Reply reply.now) then told_entries (Message.Reply reply.now) else [])) }
         ensures client { OnOk result (self.new ≡ after_message self.old (Message.Reply reply.now)) }
+        ensures kept { OnErr result (self.new ≡ self.old) }
     {
         if !self.awaits(reply) {
             return Ok(());

@@ -37,7 +37,7 @@ impl Target {
     }
 
     /// A message comes. A request above the slot's last one is executed; anything else only makes its
-    /// `take`.
+    /// `take`. After want of memory a part of the execution may be done.
     pub fn deliver(&mut self, stamp: Stamp, message: &Message) -> Result<Step, Memory>
         requires room { self.old.slots.last + 1 < 2 ^ 64 }
         ensures step { IfOk result (λ step. step ≡ message_step (target_at stamp) self.old message.now) }

@@ -66,6 +66,7 @@ impl Wire {
     }
 
     /// Adds a turn: its messages get their numbers, and its `take` the number of the message that it took.
+    /// After want of memory a part of the turn may be there.
     pub fn record(&mut self, step: Step, taken: u64) -> Result<(), Memory>
         requires lines_room { self.old.messages + length step.entries < 2 ^ 64 }
         requires posts_room { self.old.messages + length step.sends < 2 ^ 64 }
