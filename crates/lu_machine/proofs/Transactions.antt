@@ -23,7 +23,7 @@ use Rattle.lu_machine.specs.Table.{root, absent, there, last_of, does, row_looku
 use Rattle.lu_machine.specs.Footprint as footprint
 use Rattle.lu_machine.specs.Footprint.{Operation, is_some_change, changes, after}
 use Rattle.lu_machine.specs.Machine.{is_stale, as_told, names_answer, names_next}
-use Rattle.lu_machine.specs.Laws.{IsReading, IsModifying, ReadingsChangeNothing, ModifyingMakeTransactions, MachineIsTable}
+use Rattle.lu_machine.specs.Laws.{IsReading, AlwaysChanges, ReadingsChangeNothing, AlwaysMakeTransactions, MachineIsTable}
 use Rattle.lu_machine.proofs.Walks.{there_ends, absent_ends, if_empty_ends, walk_ends, to_last_ends}
 
 abbrev Looks : Outcome → Type 0
@@ -82,7 +82,7 @@ module _ (t : Tree) where
   open_acts number who (Dir d) = acts_refused _
   open_acts number who (File f) = inr refl
 
-  acts : (osts : ℕ) (number : Txn) (who : Who) (o : Op) → IsModifying o → Acts (outcome t (plan osts number who o))
+  acts : (osts : ℕ) (number : Txn) (who : Who) (o : Op) → AlwaysChanges o → Acts (outcome t (plan osts number who o))
   acts osts number who (op.Mkdir path) m = to_last_ends t Acts acts_refused EEXIST path (λ cs d n. absent (row_mkdir number d n)) (λ cs d n. absent_ends t Acts acts_refused (row_mkdir number d n) (child t d n) (λ _. inr refl))
   acts osts number who (op.Create path size count) m =
       to_last_ends t Acts acts_refused EEXIST path (λ cs d n. absent (row_create number d n (new_layout osts number size count)))
@@ -97,8 +97,8 @@ module _ (t : Tree) where
 pub readings_change_nothing : ReadingsChangeNothing
 readings_change_nothing osts t a r = looks t osts a.number a.who a.op r
 
-pub modifying_make_transactions : ModifyingMakeTransactions
-modifying_make_transactions osts t a m not_refused = by (acts t osts a.number a.who a.op m)
+pub always_make_transactions : AlwaysMakeTransactions
+always_make_transactions osts t a m not_refused = by (acts t osts a.number a.who a.op m)
   where
     by : Acts (footprint.outcome_of osts t a) → changes osts t a ≡ true
     by (inl r) = absurd (not_refused r.0 r.1)

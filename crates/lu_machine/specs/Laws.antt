@@ -78,23 +78,23 @@ IsReading (op.List path) = Unit {0}
 IsReading (op.Layout path) = Unit {0}
 IsReading _ = ⊥
 
--- the operations that change something wherever they aren't refused: all others on names but `rename`, of
--- two names of one inode, and `chmod`, to the mode that stands
-abbrev pub IsModifying : Op → Type 0
-IsModifying (op.Mkdir path) = Unit {0}
-IsModifying (op.Create path size count) = Unit {0}
-IsModifying (op.Link old new) = Unit {0}
-IsModifying (op.Unlink path) = Unit {0}
-IsModifying (op.Rmdir path) = Unit {0}
-IsModifying (op.Open path) = Unit {0}
-IsModifying (op.Close opened fid) = Unit {0}
-IsModifying _ = ⊥
+-- the seven operations that change something wherever they aren't refused. `rename` and `chmod` aren't among
+-- them: of two names of one inode, and to the mode that stands, they change nothing
+abbrev pub AlwaysChanges : Op → Type 0
+AlwaysChanges (op.Mkdir path) = Unit {0}
+AlwaysChanges (op.Create path size count) = Unit {0}
+AlwaysChanges (op.Link old new) = Unit {0}
+AlwaysChanges (op.Unlink path) = Unit {0}
+AlwaysChanges (op.Rmdir path) = Unit {0}
+AlwaysChanges (op.Open path) = Unit {0}
+AlwaysChanges (op.Close opened fid) = Unit {0}
+AlwaysChanges _ = ⊥
 
 abbrev pub ReadingsChangeNothing : Type 0
 ReadingsChangeNothing = (osts : ℕ) (t : Tree) (a : Operation) → IsReading a.op → changes osts t a ≡ false
 
-abbrev pub ModifyingMakeTransactions : Type 0
-ModifyingMakeTransactions = (osts : ℕ) (t : Tree) (a : Operation) → IsModifying a.op → ((e : Errno) → answer osts t a ≡ Refused e → ⊥) → changes osts t a ≡ true
+abbrev pub AlwaysMakeTransactions : Type 0
+AlwaysMakeTransactions = (osts : ℕ) (t : Tree) (a : Operation) → AlwaysChanges a.op → ((e : Errno) → answer osts t a ≡ Refused e → ⊥) → changes osts t a ≡ true
 
 -- the machine is the table, where the number of what makes a transaction is above all before it
 abbrev pub MachineIsTable : Type 0
@@ -130,8 +130,8 @@ LeadsStay =
     (osts : ℕ) (t : Tree) (a : Operation) (d : Fid) (n : List ℕ) (c : Child) → child t d n ≡ Some c → (a.number.0 ≡ d.0 → ⊥) → Apart (writes osts t a) (Parent (fid_of c))
     → child (after osts t a) d n ≡ Some c
 
--- taking out the acts whose numbers aren't kept: each act that touches nothing that they wrote, be it the
--- next one or one of the items, comes out the same
+-- taking out the acts whose numbers aren't kept, where none that stays touched what an earlier one of them
+-- wrote: the next act comes out the same, if it touches nothing that they wrote
 abbrev pub RemovalLaw : Type 0
 RemovalLaw =
     (osts : ℕ) (start : Tree) (keep : ℕ → Bool) → keep 1 ≡ true → Older keep start → (past : List Item) → Free osts start keep past → (a : Operation) → Untouched osts start keep past a
