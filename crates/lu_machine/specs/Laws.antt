@@ -6,12 +6,16 @@ use Rattle.lu_base.specs.declared.ids.Txn.{Txn}
 use Rattle.lu_base.specs.declared.ids.Who.{Who}
 use Rattle.lu_layout.specs.Raid0.{Raid0}
 use Rattle.lu_layout.specs.Sound.{IsLayout}
-use Rattle.lu_msg.specs.declared.answers.Answer.TheVariants.{Made, Refused}
+use Rattle.lu_msg.specs.declared.answers.Answer.TheVariants.{Done, Made, Refused}
 use Rattle.lu_msg.specs.declared.answers.Errno.{Errno}
+use Rattle.lu_msg.specs.declared.answers.Errno.TheVariants.{EBADF}
+use Rattle.lu_msg.specs.declared.calls.Call.TheVariants as call
 use Rattle.lu_msg.specs.declared.operations.Op.{Op}
 use Rattle.lu_msg.specs.declared.operations.Op.TheVariants as op
 use Rattle.lu_part.specs.declared.parts.Part.{Part}
 use Rattle.lu_part.specs.declared.parts.Part.TheVariants.{Parent}
+use Rattle.lu_machine.specs.declared.acts.Act.{Act}
+use Rattle.lu_machine.specs.declared.acts.Deed.TheVariants.{Data}
 use Rattle.lu_machine.specs.declared.child.Child.{Child}
 use Rattle.lu_machine.specs.Tree.{Tree, child, fid_of, same_life}
 use Rattle.lu_machine.specs.Footprint.{Operation, empty, answer, grants, touches, writes, changes, after, forget, Same, Every, Apart, inode_of}
@@ -101,6 +105,23 @@ abbrev pub MachineIsTable : Type 0
 MachineIsTable =
     (osts : ℕ) (m : Machine) (a : Operation) → (changes osts m.tree a ≡ true → m.last < a.number.0)
     → (machine.names_answer osts m a ≡ machine.as_told m (answer osts m.tree a)) × ((machine.names_next osts m a).tree ≡ after osts m.tree a)
+
+-- under a number that was passed, what would make a transaction is refused, and the tree and the bytes stay
+abbrev pub PassedIsRefused : Type 0
+PassedIsRefused =
+    (osts : ℕ) (m : Machine) (a : Operation) → changes osts m.tree a ≡ true → a.number.0 ≤ m.last
+    → (machine.names_answer osts m a ≡ Refused EBADF) × ((machine.names_next osts m a).tree ≡ m.tree) × ((machine.names_next osts m a).bytes ≡ m.bytes)
+
+-- a flush is done and changes nothing
+abbrev pub FlushesStay : Type 0
+FlushesStay =
+    (osts : ℕ) (m : Machine) (i : Act) (f : Fid) (handle : ℕ)
+    → record {
+      answer : machine.answer_to osts m i (Data f (call.Flush handle)) ≡ Done;
+      tree : (machine.next_after osts m i (Data f (call.Flush handle))).tree ≡ m.tree;
+      last : (machine.next_after osts m i (Data f (call.Flush handle))).last ≡ m.last;
+      bytes : (g : Fid) → machine.bytes_of (machine.next_after osts m i (Data f (call.Flush handle))) g ≡ machine.bytes_of m g;
+    }
 
 -- the layout of a new file: its size and the number of its stripes, where they lie, and that it is one
 abbrev pub NewLayouts : Type 0

@@ -2,9 +2,9 @@
 
 ghost use Rattle.lu_machine.specs.ByteLaws.{SizeIsEnd, WritePuts, CutEnds, PiecePuts, PieceCuts};
 ghost use Rattle.lu_machine.specs.Covered.{LocksCover, AboveIsNew};
-ghost use Rattle.lu_machine.specs.Laws.{TouchedDecide, OthersStay, MadeHasNumber, NewFromOld, RefusalsStay, UnchangedStay, TransactionsGrantNothing, ReadingsChangeNothing, AlwaysMakeTransactions, MachineIsTable, NewLayouts, NumberIsFree, ForgetDropsOpens, LeadsStay, RemovalLaw, RemovalAgrees, EarlierAreOlder};
+ghost use Rattle.lu_machine.specs.Laws.{TouchedDecide, OthersStay, MadeHasNumber, NewFromOld, RefusalsStay, UnchangedStay, TransactionsGrantNothing, ReadingsChangeNothing, AlwaysMakeTransactions, MachineIsTable, PassedIsRefused, FlushesStay, NewLayouts, NumberIsFree, ForgetDropsOpens, LeadsStay, RemovalLaw, RemovalAgrees, EarlierAreOlder};
 ghost use Rattle.lu_machine.specs.Order.{OrderStays, ListsNames, ByteOrderIsOne};
-ghost use Rattle.lu_machine.specs.Paths.{LookupsTell, PathsFollow};
+ghost use Rattle.lu_machine.specs.Paths.{LookupsTell, PathsFollow, ChmodsChange, RenamesChange};
 ghost use Rattle.lu_machine.specs.Seen.{RemovalBySeen, TrimmedRemovalBySeen};
 ghost use Rattle.lu_machine.specs.Trim.{Unseen, TrimmedRemoval, NamedHaveLinks};
 
@@ -24,6 +24,8 @@ pub fn transactions()
     ensures grants { TransactionsGrantNothing }
     ensures readings { ReadingsChangeNothing }
     ensures always { AlwaysMakeTransactions }
+    ensures chmods { ChmodsChange }
+    ensures renames { RenamesChange }
 {}
 
 /// A life's opens go, and nothing else.
@@ -67,13 +69,16 @@ pub fn striping()
     ensures { NewLayouts }
 {}
 
-/// The plain machine answers by the table, but where a transaction's number was passed before.
+/// The plain machine answers by the table, but refuses a transaction whose number was passed before. A flush
+/// changes nothing.
 pub fn machine()
-    ensures { MachineIsTable }
+    ensures table { MachineIsTable }
+    ensures passed { PassedIsRefused }
+    ensures flush { FlushesStay }
 {}
 
-/// The answer to a reading stands after one operation whose number is new in the tree and that writes nothing
-/// that the locks guard which came with the answer. A number above all of a past is new.
+/// The answer to a reading, and the locks that come with it, stay the same after one operation whose number
+/// is new in the tree and that writes nothing that those locks guard. A number above all of a past is new.
 pub fn coverage()
     ensures locks { LocksCover }
     ensures new { AboveIsNew }
