@@ -25,7 +25,7 @@ use Rattle.lu_machine.specs.declared.child.Child.TheVariants.{Dir, File}
 use Rattle.lu_machine.specs.Name.{is_too_long}
 use Rattle.lu_machine.specs.Tree.{Tree, Attributes, same_fid, fid_of, child, listing, attributes, layout}
 use Rattle.lu_machine.specs.Plan.{Plan, Refuse, Outcome, outcome}
-use Rattle.lu_machine.specs.Table.{root, look_in, there, walk, last_of, wants, row_lookup, row_stat, row_list, row_layout, plan}
+use Rattle.lu_machine.specs.Table.{root, look_in, there, walk, last_of, wants, tells, row_lookup, row_stat, row_list, row_layout, plan}
 use Rattle.lu_machine.specs.Footprint.{Operation, writes, after, Same, Every, Apart, inode_of}
 use Rattle.lu_machine.specs.Laws.{IsReading}
 use Rattle.lu_machine.specs.Removal.{Item, Acts, Forgets}
@@ -156,7 +156,7 @@ module _ (osts : ℕ) (t : Tree) (a : Operation) (new : IsNew t a.number) where
   abbrev Row : (List Child → Child → Plan) → Type 0
   Row row =
       (cs : List Child) (c : Child) → last_of root cs ≡ c → Every Other cs → NotRefused (outcome t (row cs c)) → Uncut (writes osts t a) (outcome t (row cs c)).grants
-      → Every Stands cs × ((outcome (after osts t a) (row cs c)).answer ≡ (outcome t (row cs c)).answer)
+      → Every Stands cs × (outcome (after osts t a) (row cs c) ≡ outcome t (row cs c))
 
   -- what stands at a part of the last inode
   at_last : (m bit : ℕ) (cs : List Child) (c : Child) (p : Part) → last_of root cs ≡ c → Every Other cs → inode_of p ≡ fid_of c → IsGuarded p (fid_of c) bit → bits_meet bit (suc m) ≡ true → bits_meet bit (LOOKUP + suc m) ≡ true
@@ -171,38 +171,40 @@ module _ (osts : ℕ) (t : Tree) (a : Operation) (new : IsNew t a.number) where
   stat_row : Row row_stat
   stat_row cs (Dir f) is n h u =
       let s = at_last 1 UPDATE cs (Dir f) (part.Attr f) is n refl (refl, refl, tt) refl refl u in
-      (parents (writes osts t a) UPDATE refl cs u, ap (λ (x : Attributes). told.DirStat f x.mode) (sym s.0))
+      (parents (writes osts t a) UPDATE refl cs u, ap (λ (x : Attributes). outcome t (tells (told.DirStat f x.mode) (wants UPDATE cs))) (sym s.0))
   stat_row cs (File f) is n h u =
       let s = at_last 5 UPDATE cs (File f) (part.Attr f) is n refl (refl, refl, tt) refl refl u in
       let l : layout t f ≡ layout (after osts t a) f = at_last 5 LAYOUT cs (File f) (part.Layout f) is n refl (refl, refl, tt) refl refl u in (
         parents (writes osts t a) (UPDATE + LAYOUT) refl cs u,
-        sym (ap (λ (x : Attributes). told.FileStat f x.mode x.links (layout t f)) s.1 ∙ ap (λ y. told.FileStat f (attributes (after osts t a) (File f)).mode (attributes (after osts t a) (File f)).links y) l),
+        sym
+            (ap (λ (x : Attributes). outcome t (tells (told.FileStat f x.mode x.links (layout t f)) (wants (UPDATE + LAYOUT) cs))) s.1
+            ∙ ap (λ y. outcome t (tells (told.FileStat f (attributes (after osts t a) (File f)).mode (attributes (after osts t a) (File f)).links y) (wants (UPDATE + LAYOUT) cs))) l),
       )
 
   list_row : Row row_list
   list_row cs (File f) is n h u = absurd (h ENOTDIR refl)
   list_row cs (Dir f) is n h u =
       let s : listing t f ≡ listing (after osts t a) f = at_last 1 UPDATE cs (Dir f) (part.List f) is n refl (refl, refl, tt) refl refl u in
-      (parents (writes osts t a) UPDATE refl cs u, ap told.Names (sym s))
+      (parents (writes osts t a) UPDATE refl cs u, ap (λ names. outcome t (tells (told.Names names) (wants UPDATE cs))) (sym s))
 
   layout_row : Row row_layout
   layout_row cs (Dir f) is n h u = absurd (h EISDIR refl)
   layout_row cs (File f) is n h u =
       let s : layout t f ≡ layout (after osts t a) f = at_last 3 LAYOUT cs (File f) (part.Layout f) is n refl (refl, refl, tt) refl refl u in
-      (parents (writes osts t a) LAYOUT refl cs u, ap told.Layout (sym s))
+      (parents (writes osts t a) LAYOUT refl cs u, ap (λ l. outcome t (tells (told.Layout l) (wants LAYOUT cs))) (sym s))
 
   read : (row : List Child → Child → Plan) (path : List (List ℕ)) → Row row → NotRefused (outcome t (walk root path (λ cs. row cs (last_of root cs))))
       → Uncut (writes osts t a) (outcome t (walk root path (λ cs. row cs (last_of root cs)))).grants
-      → (outcome (after osts t a) (walk root path (λ cs. row cs (last_of root cs)))).answer ≡ (outcome t (walk root path (λ cs. row cs (last_of root cs)))).answer
+      → outcome (after osts t a) (walk root path (λ cs. row cs (last_of root cs))) ≡ outcome t (walk root path (λ cs. row cs (last_of root cs)))
   read row path r h u =
       let w = walked root path (λ cs. row cs (last_of root cs)) new.0 h in
       let k : NotRefused (outcome t (row w.0 (last_of root w.0))) = subst NotRefused w.1 h in
       let v : Uncut (writes osts t a) (outcome t (row w.0 (last_of root w.0))).grants = subst (λ (x : Outcome). Uncut (writes osts t a) x.grants) w.1 u in
       let d = r w.0 (last_of root w.0) refl w.2 k v in
-      ap (λ (x : Outcome). x.answer) (w.3 d.0) ∙ d.1 ∙ sym (ap (λ (x : Outcome). x.answer) w.1)
+      w.3 d.0 ∙ d.1 ∙ sym w.1
 
   covers : (number : Txn) (who : Who) (o : Op) → IsReading o → NotRefused (outcome t (plan osts number who o)) → Uncut (writes osts t a) (outcome t (plan osts number who o)).grants
-      → (outcome (after osts t a) (plan osts number who o)).answer ≡ (outcome t (plan osts number who o)).answer
+      → outcome (after osts t a) (plan osts number who o) ≡ outcome t (plan osts number who o)
   covers number who (op.Lookup path) r h u = read row_lookup path lookup_row h u
   covers number who (op.Stat path) r h u = read row_stat path stat_row h u
   covers number who (op.List path) r h u = read row_list path list_row h u
@@ -210,7 +212,7 @@ module _ (osts : ℕ) (t : Tree) (a : Operation) (new : IsNew t a.number) where
   covers number who _ r h u = absurd r
 
 pub locks_cover : LocksCover
-locks_cover osts t a b new r h u = covers osts t a new b.number b.who b.op r h u
+locks_cover osts t a b new r h u = let e = covers osts t a new b.number b.who b.op r h u in (ap (λ (x : Outcome). x.answer) e, ap (λ (x : Outcome). x.grants) e)
 
 -- ---- a number above all of a past is new there
 

@@ -1,6 +1,6 @@
--- Where paths lead once an operation is done.
+-- Where paths lead once an operation is done, and which chmod and rename change something.
 use Rattle.std.proofs.Common.{◌≡◌, ◌≢◌, ℕ, ◌+◌, ◌-◌, Bool, true, false, List, [], ◌∷◌, ◌++◌, ◌⊎◌, inl, inr, Option, Some, None, refl, sym, ap, subst, ◌∙◌, arith, is_some}
-use Rattle.std.specs.Prelude.{◌==◌, ◌&&◌, ◌||◌, if◌then◌else◌}
+use Rattle.std.specs.Prelude.{not, ◌==◌, ◌&&◌, ◌||◌, if◌then◌else◌}
 use Rattle.std.specs.List.{list_any}
 use Rattle.std.specs.Option.{option_and_then}
 use Rattle.std.proofs.lemmas.Bool.{cond_both, eq-eqb}
@@ -23,7 +23,7 @@ use Rattle.lu_machine.specs.Plan.{Plan, Refuse, LookAttr, Outcome, outcome}
 use Rattle.lu_machine.specs.Table.{root, made_by, look_in, look, there, absent, walk, onward, walk_up, to_last, last_of, tells, does, found, row_lookup, row_mkdir, row_create, row_link, row_unlink, row_rmdir, passes, moves, row_replace, row_rename, rename, row_chmod, row_open}
 use Rattle.lu_machine.specs.Footprint.{Every, is_some_change}
 use Rattle.lu_machine.specs.Covered.{IsNew}
-use Rattle.lu_machine.specs.Paths.{leads_to, at_path, LookupsTell, PathsFollow}
+use Rattle.lu_machine.specs.Paths.{leads_to, at_path, is_one, has_mode, LookupsTell, PathsFollow, ChmodsChange, RenamesChange}
 use Rattle.lu_machine.proofs.Keys.{name_tells}
 use Rattle.lu_machine.proofs.Effects.{name_after, dir_mode_after, file_mode_after}
 use Rattle.lu_machine.proofs.Leads.{here, at_same, empty_other, led, stays}
@@ -162,6 +162,53 @@ module _ (t u : Tree) (number : Txn) (new : IsNew t number) where
 
 path_before : (t : Tree) (path front : List (List ℕ)) (cs : List Child) (d : Fid) (m : List ℕ) → path ≡ front ++ m ∷ [] → Steps t root front cs → last_of root cs ≡ Dir d → at_path t path ≡ child t d m
 path_before t path front cs d m p s is = ap (at_path t) p ∙ steps_more t root front cs d m s is
+
+-- ---- whether a chmod or a rename changes something, if it isn't refused
+
+abbrev Says : Bool → Outcome → Type 0
+Says v o = ((e : Errno) → o.answer ≡ Refused e → ⊥) → is_some_change o.changes ≡ v
+
+says_refused : (v : Bool) (e : Errno) → Says v (record { answer = Refused e; grants = []; changes = [] })
+says_refused v e h = absurd (h e refl)
+
+pub chmods_change : ChmodsChange
+chmods_change osts t number who path mode =
+    walk_steps t (Says (not (has_mode t mode (at_path t path)))) (says_refused _) root path (λ cs. row_chmod mode (last_of root cs))
+    (λ cs s. subst (λ o. Says (not (has_mode t mode o)) (outcome t (row_chmod mode (last_of root cs)))) (sym (steps_lead t root path cs s)) (set (last_of root cs) ((attributes t (last_of root cs)).mode == mode)))
+  where
+    set : (c : Child) (v : Bool) → Says (not v) (outcome t (if v then tells told.Done [] else does told.Done (SetMode c mode ∷ [])))
+    set c true h = refl
+    set c false h = refl
+
+module _ (t : Tree) (d : Fid) (n : List ℕ) where
+  replaced : (c : Child) (e : Fid) (k : List ℕ) (g : Child) → Says true (outcome t (row_replace d n c e k g))
+  replaced (Dir f) e k (File g) = says_refused true ENOTDIR
+  replaced (File f) e k (Dir g) = says_refused true EISDIR
+  replaced (Dir f) e k (Dir g) = if_empty_ends t (Says true) (says_refused true) (listing t g) (moves d n (Dir f) e k (Parted g ∷ Leaves g ∷ [])) (λ _ h. refl)
+  replaced (File f) e k (File g) = λ h. refl
+
+  renamed : (c : Child) (cs : List Child) (e : Fid) (k : List ℕ) (o : Option Child) → Says (not (is_one (Some c) o)) (outcome t (row_rename d n c cs e k o))
+  renamed c cs e k None = cond_both (passes c cs) (Refuse EINVAL) (moves d n c e k []) (λ x. Says true (outcome t x)) (λ _. says_refused true EINVAL) (λ _ h. refl)
+  renamed c cs e k (Some g) = one (same_fid (fid_of g) (fid_of c))
+    where
+      one : (v : Bool) → Says (not v) (outcome t (if v then tells told.Done [] else (if passes c cs then Refuse EINVAL else row_replace d n c e k g)))
+      one true = λ h. refl
+      one false = cond_both (passes c cs) (Refuse EINVAL) (row_replace d n c e k g) (λ x. Says true (outcome t x)) (λ _. says_refused true EINVAL) (λ _. replaced c e k g)
+
+pub renames_change : RenamesChange
+renames_change osts t number who old [] = says_refused _ EBUSY
+renames_change osts t number who old (m ∷ ms) =
+    last_steps t (Says v) (says_refused v) EBUSY old (λ cs d n. there (λ c. walk_up root m ms (λ cs e m. row_rename d n c cs e m)))
+    (λ front cs d n p s is. there_ends t (Says v) (says_refused v) (λ c. walk_up root m ms (λ cs e m. row_rename d n c cs e m)) (child t d n)
+    (λ c at. up_steps t (Says v) (says_refused v) ms m (λ cs e m. row_rename d n c cs e m)
+    (λ front' cs' e k p' s' is'. both d n c cs' e k (path_before t old front cs d n p s is ∙ at) (path_before t (m ∷ ms) front' cs' e k p' s' is'))))
+  where
+    v : Bool
+    v = not (is_one (at_path t old) (at_path t (m ∷ ms)))
+
+    both : (d : Fid) (n : List ℕ) (c : Child) (cs : List Child) (e : Fid) (k : List ℕ) → at_path t old ≡ Some c → at_path t (m ∷ ms) ≡ child t e k → Says v (outcome t (row_rename d n c cs e k (child t e k)))
+    both d n c cs e k one two =
+        subst (λ w. Says w (outcome t (row_rename d n c cs e k (child t e k)))) (sym (ap (λ o. not (is_one o (at_path t (m ∷ ms)))) one ∙ ap (λ o. not (is_one (Some c) o)) two)) (renamed t d n c cs e k (child t e k))
 
 every_good : (P Q : Child → Type 0) (cs : List Child) → ((c : Child) → P c → Q c) → Every P cs → Every Q cs
 every_good P Q [] f h = tt

@@ -1,4 +1,5 @@
--- Each act keeps that a file has as many links as names lead to it, and that no number above the last is in use.
+-- Each act keeps that a file has at least as many links as names lead to it, and that no file with a number
+-- above the last has links.
 use Rattle.std.proofs.Common.{◌≡◌, ℕ, ◌+◌, ◌-◌, ◌<◌, ◌≤◌, ◌⊎◌, true, false, List, [], ◌∷◌, Some, None, refl, ap, ◌∙◌, ⊎_elim, arith}
 use Rattle.std.specs.Prelude.{if◌then◌else◌}
 use Rattle.std.proofs.lemmas.Bool.{cond_both}

@@ -327,6 +327,10 @@ unlink_touches = refl
 unlink_writes : writes (op.Unlink (f ∷ [])) ≡ part.Name root f ∷ part.Parent (at 2) ∷ part.Attr (at 2) ∷ []
 unlink_writes = refl
 
+-- of two names one is left
+unlink_leaves : footprint.answer 4 (footprint.after 4 now (act 20 (op.Unlink (f ∷ [])))) (act 21 (op.Stat (g ∷ []))) ≡ told.FileStat (at 2) 420 1 (record { size = 65536; targets = 3 ∷ 4 ∷ [] })
+unlink_leaves = refl
+
 rmdir_root : answer (op.Rmdir []) ≡ Refused EBUSY
 rmdir_root = refl
 
@@ -424,6 +428,13 @@ rename_onto_file_touches = refl
 
 rename_onto_file_writes : writes (op.Rename (b ∷ x ∷ []) (g ∷ [])) ≡ part.Name (at 1) x ∷ part.Name root g ∷ part.Parent (at 3) ∷ part.Parent (at 2) ∷ part.Attr (at 2) ∷ []
 rename_onto_file_writes = refl
+
+-- the file that is replaced had two names, and the one that is moved keeps its links
+rename_onto_file_leaves : footprint.answer 4 (footprint.after 4 now (act 20 (op.Rename (b ∷ x ∷ []) (g ∷ [])))) (act 21 (op.Stat (f ∷ []))) ≡ told.FileStat (at 2) 420 1 (record { size = 65536; targets = 3 ∷ 4 ∷ [] })
+rename_onto_file_leaves = refl
+
+rename_onto_file_moved : footprint.answer 4 (footprint.after 4 now (act 20 (op.Rename (b ∷ x ∷ []) (g ∷ [])))) (act 21 (op.Stat (g ∷ []))) ≡ told.FileStat (at 3) 420 1 (record { size = 1048576; targets = 4 ∷ [] })
+rename_onto_file_moved = refl
 
 rename_free_writes : writes (op.Rename (f ∷ []) (b ∷ y ∷ [])) ≡ part.Name root f ∷ part.Name (at 1) y ∷ part.Parent (at 2) ∷ []
 rename_free_writes = refl

@@ -1,7 +1,10 @@
 -- Which operations make transactions.
-use Rattle.std.proofs.Common.{◌≡◌, ℕ, ◌+◌, Bool, true, false, List, [], ◌∷◌, ◌⊎◌, inl, inr, Option, Some, None, refl, ap, ◌∙◌}
+use Rattle.std.proofs.Common.{◌≡◌, ℕ, ◌+◌, Bool, true, false, List, [], ◌∷◌, ◌⊎◌, inl, inr, Option, Some, None, refl, ap, ◌∙◌, arith}
 use Rattle.std.specs.Prelude.{◌&&◌, not, nat_lt, if◌then◌else◌}
-use Rattle.std.proofs.lemmas.Bool.{lt-ltb}
+use Rattle.std.specs.Map.{lookup}
+use Rattle.std.specs.Option.{unwrap_or}
+use Rattle.std.proofs.lemmas.Bool.{lt-ltb, cond_both}
+use Rattle.std.proofs.lemmas.Bool.Decides.{nat_tests}
 use Rattle.lu_base.specs.declared.ids.Fid.{Fid}
 use Rattle.lu_base.specs.declared.ids.Txn.{Txn}
 use Rattle.lu_base.specs.declared.ids.Who.{Who}
@@ -15,15 +18,17 @@ use Rattle.lu_msg.specs.declared.operations.Op.{Op}
 use Rattle.lu_msg.specs.declared.operations.Op.TheVariants as op
 use Rattle.lu_machine.specs.declared.child.Child.{Child}
 use Rattle.lu_machine.specs.declared.child.Child.TheVariants.{Dir, File}
-use Rattle.lu_machine.specs.Tree.{Tree, child, listing}
+use Rattle.lu_machine.specs.Tree.{Tree, same_fid, fid_cmp, child, listing}
 use Rattle.lu_machine.specs.Change.{Leads, Drops, Parted, SetLinks, Leaves}
 use Rattle.lu_machine.specs.Striping.{new_layout}
 use Rattle.lu_machine.specs.Plan.{LookAttr, Outcome, outcome}
 use Rattle.lu_machine.specs.Table.{root, absent, there, last_of, does, row_lookup, row_stat, row_list, row_layout, row_mkdir, row_create, row_link, row_unlink, row_rmdir, row_open, plan}
 use Rattle.lu_machine.specs.Footprint as footprint
 use Rattle.lu_machine.specs.Footprint.{Operation, is_some_change, changes, after}
-use Rattle.lu_machine.specs.Machine.{is_stale, as_told, names_answer, names_next}
-use Rattle.lu_machine.specs.Laws.{IsReading, IsModifying, ReadingsChangeNothing, ModifyingMakeTransactions, MachineIsTable}
+use Rattle.lu_machine.specs.Bytes.{FileBytes}
+use Rattle.lu_machine.specs.Machine.{Machine, is_stale, as_told, names_answer, names_next, bytes_of, with_bytes, was_file}
+use Rattle.lu_machine.specs.Laws.{IsReading, AlwaysChanges, ReadingsChangeNothing, AlwaysMakeTransactions, MachineIsTable, PassedIsRefused, FlushesStay}
+use Rattle.lu_machine.proofs.Keys.{Told, fid_tells, find-put}
 use Rattle.lu_machine.proofs.Walks.{there_ends, absent_ends, if_empty_ends, walk_ends, to_last_ends}
 
 abbrev Looks : Outcome → Type 0
@@ -82,7 +87,7 @@ module _ (t : Tree) where
   open_acts number who (Dir d) = acts_refused _
   open_acts number who (File f) = inr refl
 
-  acts : (osts : ℕ) (number : Txn) (who : Who) (o : Op) → IsModifying o → Acts (outcome t (plan osts number who o))
+  acts : (osts : ℕ) (number : Txn) (who : Who) (o : Op) → AlwaysChanges o → Acts (outcome t (plan osts number who o))
   acts osts number who (op.Mkdir path) m = to_last_ends t Acts acts_refused EEXIST path (λ cs d n. absent (row_mkdir number d n)) (λ cs d n. absent_ends t Acts acts_refused (row_mkdir number d n) (child t d n) (λ _. inr refl))
   acts osts number who (op.Create path size count) m =
       to_last_ends t Acts acts_refused EEXIST path (λ cs d n. absent (row_create number d n (new_layout osts number size count)))
@@ -97,8 +102,8 @@ module _ (t : Tree) where
 pub readings_change_nothing : ReadingsChangeNothing
 readings_change_nothing osts t a r = looks t osts a.number a.who a.op r
 
-pub modifying_make_transactions : ModifyingMakeTransactions
-modifying_make_transactions osts t a m not_refused = by (acts t osts a.number a.who a.op m)
+pub always_make_transactions : AlwaysMakeTransactions
+always_make_transactions osts t a m not_refused = by (acts t osts a.number a.who a.op m)
   where
     by : Acts (footprint.outcome_of osts t a) → changes osts t a ≡ true
     by (inl r) = absurd (not_refused r.0 r.1)
@@ -118,3 +123,29 @@ machine_is_table osts m a above = by (changes osts m.tree a) refl
     by true e =
         let l : nat_lt m.last a.number.0 ≡ true = lt-ltb m.last a.number.0 (above e) in
         both (ap (λ v. v && not (nat_lt m.last a.number.0)) e ∙ ap not l)
+
+pub passed_is_refused : PassedIsRefused
+passed_is_refused osts m a e passed =
+    let l : nat_lt m.last a.number.0 ≡ false = grind (arith, nat_tests, passed) in
+    let s : is_stale osts m a ≡ true = ap (λ v. v && not (nat_lt m.last a.number.0)) e ∙ ap not l in
+    (ap (λ v. if v then Refused EBADF else as_told m (footprint.answer osts m.tree a)) s, ap (λ v. if v then m.tree else after osts m.tree a) s, refl)
+
+-- what is put where it stands
+put_back : (m : Machine) (f g : Fid) → bytes_of (with_bytes m f (bytes_of m f)) g ≡ bytes_of m g
+put_back m f g = ap (λ (o : Option FileBytes). unwrap_or o []) (find-put same_fid fid_tells fid_cmp f (bytes_of m f) g m.bytes) ∙ by (fid_tells f g)
+  where
+    on : Bool → FileBytes
+    on v = unwrap_or (if v then Some (bytes_of m f) else lookup (same_fid g) m.bytes) []
+
+    by : Told same_fid f g → on (same_fid f g) ≡ bytes_of m g
+    by (inl h) = ap on h.0 ∙ ap (bytes_of m) h.1
+    by (inr h) = ap on h.0
+
+pub flushes_stay : FlushesStay
+flushes_stay osts m i f handle =
+    record {
+      answer = refl;
+      tree = cond_both (was_file m f) (with_bytes m f (bytes_of m f)) m (λ (x : Machine). x.tree ≡ m.tree) (λ _. refl) (λ _. refl);
+      last = cond_both (was_file m f) (with_bytes m f (bytes_of m f)) m (λ (x : Machine). x.last ≡ m.last) (λ _. refl) (λ _. refl);
+      bytes = λ g. cond_both (was_file m f) (with_bytes m f (bytes_of m f)) m (λ x. bytes_of x g ≡ bytes_of m g) (λ _. put_back m f g) (λ _. refl);
+    }

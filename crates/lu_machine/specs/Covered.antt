@@ -1,4 +1,5 @@
--- What the locks that came with an answer keep true: no transaction whose guards meet none of them changes it.
+-- What the locks that came with an answer keep true: no transaction whose guards meet none of them changes it,
+-- nor which locks they are.
 use Rattle.std.specs.Prelude.{◌≡◌, ℕ, Bool, false, List, Some, ◌==◌, ◌&&◌}
 use Rattle.lu_base.specs.declared.ids.Fid.{Fid}
 use Rattle.lu_base.specs.declared.ids.Txn.{Txn}
@@ -31,7 +32,7 @@ IsNew t number = (number.0 ≡ 1 → ⊥) × ((d : Fid) (n : List ℕ) (c : Chil
 abbrev pub LocksCover : Type 0
 LocksCover =
     (osts : ℕ) (t : Tree) (a b : Operation) → IsNew t a.number → IsReading b.op → ((e : Errno) → answer osts t b ≡ Refused e → ⊥) → Uncut (writes osts t a) (grants osts t b)
-    → answer osts (after osts t a) b ≡ answer osts t b
+    → (answer osts (after osts t a) b ≡ answer osts t b) × (grants osts (after osts t a) b ≡ grants osts t b)
 
 -- a number above all of a past is new there
 abbrev pub AboveIsNew : Type 0

@@ -6,12 +6,16 @@ use Rattle.lu_base.specs.declared.ids.Txn.{Txn}
 use Rattle.lu_base.specs.declared.ids.Who.{Who}
 use Rattle.lu_layout.specs.Raid0.{Raid0}
 use Rattle.lu_layout.specs.Sound.{IsLayout}
-use Rattle.lu_msg.specs.declared.answers.Answer.TheVariants.{Made, Refused}
+use Rattle.lu_msg.specs.declared.answers.Answer.TheVariants.{Done, Made, Refused}
 use Rattle.lu_msg.specs.declared.answers.Errno.{Errno}
+use Rattle.lu_msg.specs.declared.answers.Errno.TheVariants.{EBADF}
+use Rattle.lu_msg.specs.declared.calls.Call.TheVariants as call
 use Rattle.lu_msg.specs.declared.operations.Op.{Op}
 use Rattle.lu_msg.specs.declared.operations.Op.TheVariants as op
 use Rattle.lu_part.specs.declared.parts.Part.{Part}
 use Rattle.lu_part.specs.declared.parts.Part.TheVariants.{Parent}
+use Rattle.lu_machine.specs.declared.acts.Act.{Act}
+use Rattle.lu_machine.specs.declared.acts.Deed.TheVariants.{Data}
 use Rattle.lu_machine.specs.declared.child.Child.{Child}
 use Rattle.lu_machine.specs.Tree.{Tree, child, fid_of, same_life}
 use Rattle.lu_machine.specs.Footprint.{Operation, empty, answer, grants, touches, writes, changes, after, forget, Same, Every, Apart, inode_of}
@@ -78,29 +82,46 @@ IsReading (op.List path) = Unit {0}
 IsReading (op.Layout path) = Unit {0}
 IsReading _ = ⊥
 
--- the operations that change something wherever they aren't refused: all others on names but `rename`, of
--- two names of one inode, and `chmod`, to the mode that stands
-abbrev pub IsModifying : Op → Type 0
-IsModifying (op.Mkdir path) = Unit {0}
-IsModifying (op.Create path size count) = Unit {0}
-IsModifying (op.Link old new) = Unit {0}
-IsModifying (op.Unlink path) = Unit {0}
-IsModifying (op.Rmdir path) = Unit {0}
-IsModifying (op.Open path) = Unit {0}
-IsModifying (op.Close opened fid) = Unit {0}
-IsModifying _ = ⊥
+-- the seven operations that change something wherever they aren't refused. `rename` and `chmod` aren't among
+-- them: of two names of one inode, and to the mode that stands, they change nothing
+abbrev pub AlwaysChanges : Op → Type 0
+AlwaysChanges (op.Mkdir path) = Unit {0}
+AlwaysChanges (op.Create path size count) = Unit {0}
+AlwaysChanges (op.Link old new) = Unit {0}
+AlwaysChanges (op.Unlink path) = Unit {0}
+AlwaysChanges (op.Rmdir path) = Unit {0}
+AlwaysChanges (op.Open path) = Unit {0}
+AlwaysChanges (op.Close opened fid) = Unit {0}
+AlwaysChanges _ = ⊥
 
 abbrev pub ReadingsChangeNothing : Type 0
 ReadingsChangeNothing = (osts : ℕ) (t : Tree) (a : Operation) → IsReading a.op → changes osts t a ≡ false
 
-abbrev pub ModifyingMakeTransactions : Type 0
-ModifyingMakeTransactions = (osts : ℕ) (t : Tree) (a : Operation) → IsModifying a.op → ((e : Errno) → answer osts t a ≡ Refused e → ⊥) → changes osts t a ≡ true
+abbrev pub AlwaysMakeTransactions : Type 0
+AlwaysMakeTransactions = (osts : ℕ) (t : Tree) (a : Operation) → AlwaysChanges a.op → ((e : Errno) → answer osts t a ≡ Refused e → ⊥) → changes osts t a ≡ true
 
 -- the machine is the table, where the number of what makes a transaction is above all before it
 abbrev pub MachineIsTable : Type 0
 MachineIsTable =
     (osts : ℕ) (m : Machine) (a : Operation) → (changes osts m.tree a ≡ true → m.last < a.number.0)
     → (machine.names_answer osts m a ≡ machine.as_told m (answer osts m.tree a)) × ((machine.names_next osts m a).tree ≡ after osts m.tree a)
+
+-- under a number that was passed, what would make a transaction is refused, and the tree and the bytes stay
+abbrev pub PassedIsRefused : Type 0
+PassedIsRefused =
+    (osts : ℕ) (m : Machine) (a : Operation) → changes osts m.tree a ≡ true → a.number.0 ≤ m.last
+    → (machine.names_answer osts m a ≡ Refused EBADF) × ((machine.names_next osts m a).tree ≡ m.tree) × ((machine.names_next osts m a).bytes ≡ m.bytes)
+
+-- a flush is done and changes nothing
+abbrev pub FlushesStay : Type 0
+FlushesStay =
+    (osts : ℕ) (m : Machine) (i : Act) (f : Fid) (handle : ℕ)
+    → record {
+      answer : machine.answer_to osts m i (Data f (call.Flush handle)) ≡ Done;
+      tree : (machine.next_after osts m i (Data f (call.Flush handle))).tree ≡ m.tree;
+      last : (machine.next_after osts m i (Data f (call.Flush handle))).last ≡ m.last;
+      bytes : (g : Fid) → machine.bytes_of (machine.next_after osts m i (Data f (call.Flush handle))) g ≡ machine.bytes_of m g;
+    }
 
 -- the layout of a new file: its size and the number of its stripes, where they lie, and that it is one
 abbrev pub NewLayouts : Type 0
@@ -130,8 +151,8 @@ LeadsStay =
     (osts : ℕ) (t : Tree) (a : Operation) (d : Fid) (n : List ℕ) (c : Child) → child t d n ≡ Some c → (a.number.0 ≡ d.0 → ⊥) → Apart (writes osts t a) (Parent (fid_of c))
     → child (after osts t a) d n ≡ Some c
 
--- taking out the acts whose numbers aren't kept: each act that touches nothing that they wrote, be it the
--- next one or one of the items, comes out the same
+-- taking out the acts whose numbers aren't kept, where none that stays touched what an earlier one of them
+-- wrote: the next act comes out the same, if it touches nothing that they wrote
 abbrev pub RemovalLaw : Type 0
 RemovalLaw =
     (osts : ℕ) (start : Tree) (keep : ℕ → Bool) → keep 1 ≡ true → Older keep start → (past : List Item) → Free osts start keep past → (a : Operation) → Untouched osts start keep past a

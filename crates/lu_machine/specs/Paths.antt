@@ -1,17 +1,18 @@
--- Where a path leads, and what an operation that is done has done to it.
-use Rattle.std.specs.Prelude.{◌≡◌, ℕ, ℤ, true, false, List, [], ◌∷◌, ◌++◌, Option, Some, None}
+-- Where a path leads, what an operation that is done has done to it, and which chmod and rename change something.
+use Rattle.std.specs.Prelude.{◌≡◌, ℕ, ℤ, Bool, true, false, not, List, [], ◌∷◌, ◌++◌, Option, Some, None, ◌==◌}
 use Rattle.std.specs.Option.{option_and_then}
 use Rattle.lu_base.specs.declared.ids.Fid.{Fid}
 use Rattle.lu_base.specs.declared.ids.Txn.{Txn}
 use Rattle.lu_base.specs.declared.ids.Who.{Who}
 use Rattle.lu_layout.specs.Raid0.{Raid0}
 use Rattle.lu_msg.specs.declared.answers.Answer.TheVariants as told
+use Rattle.lu_msg.specs.declared.answers.Errno.{Errno}
 use Rattle.lu_msg.specs.declared.operations.Op.{Op}
 use Rattle.lu_msg.specs.declared.operations.Op.TheVariants as op
 use Rattle.lu_machine.specs.declared.child.Child.{Child}
 use Rattle.lu_machine.specs.declared.child.Child.TheVariants.{Dir, File}
 use Rattle.lu_machine.specs.Name.{is_too_long}
-use Rattle.lu_machine.specs.Tree.{Tree, child, attributes, layout}
+use Rattle.lu_machine.specs.Tree.{Tree, same_fid, fid_of, child, attributes, layout}
 use Rattle.lu_machine.specs.Table.{root, found}
 use Rattle.lu_machine.specs.Footprint.{Operation, answer, changes, after, Every}
 use Rattle.lu_machine.specs.Covered.{IsNew}
@@ -61,3 +62,25 @@ LookupsTell = (osts : ℕ) (t : Tree) (number : Txn) (who : Who) (path : List (L
 
 abbrev pub PathsFollow : Type 0
 PathsFollow = (osts : ℕ) (t : Tree) (number : Txn) (who : Who) → IsNew t number → DoneAtPaths osts t number who
+
+-- both lead somewhere, and to one inode
+abbrev pub is_one : Option Child → Option Child → Bool
+is_one (Some c) (Some g) = same_fid (fid_of g) (fid_of c)
+is_one _ _ = false
+
+-- it leads somewhere, and that mode stands there
+abbrev pub has_mode : Tree → ℕ → Option Child → Bool
+has_mode t mode None = false
+has_mode t mode (Some c) = (attributes t c).mode == mode
+
+-- a chmod that isn't refused changes something exactly where another mode stands
+abbrev pub ChmodsChange : Type 0
+ChmodsChange =
+    (osts : ℕ) (t : Tree) (number : Txn) (who : Who) (path : List (List ℕ)) (mode : ℕ) → ((e : Errno) → answer osts t (act osts t number who (op.Chmod path mode)) ≡ told.Refused e → ⊥)
+    → changes osts t (act osts t number who (op.Chmod path mode)) ≡ not (has_mode t mode (at_path t path))
+
+-- a rename that isn't refused changes something but where both paths lead to one inode
+abbrev pub RenamesChange : Type 0
+RenamesChange =
+    (osts : ℕ) (t : Tree) (number : Txn) (who : Who) (old new : List (List ℕ)) → ((e : Errno) → answer osts t (act osts t number who (op.Rename old new)) ≡ told.Refused e → ⊥)
+    → changes osts t (act osts t number who (op.Rename old new)) ≡ not (is_one (at_path t old) (at_path t new))

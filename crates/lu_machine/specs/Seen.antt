@@ -14,7 +14,8 @@ abbrev pub meet : List Part → List Part → Bool
 meet ws ps = list_any (λ p. list_any (λ w. meets w p) ws) ps
 
 module _ (osts : ℕ) (of : List Item → Tree) where
-  -- the numbers of the acts of a past whose writes meet what is touched, the newest first
+  -- the numbers of the acts of a past whose writes meet what is touched: the newest first, and all of them,
+  -- for the list isn't cut at the number that is committed
   abbrev pub seen : List Item → List Part → List ℕ
   seen [] ps = []
   seen (Acts a ∷ past) ps = if meet (writes osts (of past) a) ps then a.number.0 ∷ seen past ps else seen past ps

@@ -79,7 +79,7 @@ wants more [] = record { fid = fid_of root; bits = more } ∷ []
 wants more (c ∷ []) = record { fid = fid_of c; bits = LOOKUP + more } ∷ []
 wants more (c ∷ d ∷ cs) = record { fid = fid_of c; bits = LOOKUP } ∷ wants more (d ∷ cs)
 
--- an answer with grants, and one with changes: these make a transaction
+-- an answer with grants makes no transaction, and one with changes makes one
 abbrev pub tells : Answer → List Want → Plan
 tells answer grants = Do answer grants []
 

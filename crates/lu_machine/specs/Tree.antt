@@ -19,7 +19,7 @@ pub record Directory : Type 0 where
   pub mode : ℕ
   pub entries : List (List ℕ × Child)
 
--- the links are the names that lead to the file
+-- the links count the names that lead to the file: where numbers rise, they are at least as many
 pub record Inode : Type 0 where
   pub mode : ℕ
   pub links : ℕ

@@ -2,9 +2,9 @@
 
 ghost use Rattle.lu_machine.specs.ByteLaws.{SizeIsEnd, WritePuts, CutEnds, PiecePuts, PieceCuts};
 ghost use Rattle.lu_machine.specs.Covered.{LocksCover, AboveIsNew};
-ghost use Rattle.lu_machine.specs.Laws.{TouchedDecide, OthersStay, MadeHasNumber, NewFromOld, RefusalsStay, UnchangedStay, TransactionsGrantNothing, ReadingsChangeNothing, ModifyingMakeTransactions, MachineIsTable, NewLayouts, NumberIsFree, ForgetDropsOpens, LeadsStay, RemovalLaw, RemovalAgrees, EarlierAreOlder};
+ghost use Rattle.lu_machine.specs.Laws.{TouchedDecide, OthersStay, MadeHasNumber, NewFromOld, RefusalsStay, UnchangedStay, TransactionsGrantNothing, ReadingsChangeNothing, AlwaysMakeTransactions, MachineIsTable, PassedIsRefused, FlushesStay, NewLayouts, NumberIsFree, ForgetDropsOpens, LeadsStay, RemovalLaw, RemovalAgrees, EarlierAreOlder};
 ghost use Rattle.lu_machine.specs.Order.{OrderStays, ListsNames, ByteOrderIsOne};
-ghost use Rattle.lu_machine.specs.Paths.{LookupsTell, PathsFollow};
+ghost use Rattle.lu_machine.specs.Paths.{LookupsTell, PathsFollow, ChmodsChange, RenamesChange};
 ghost use Rattle.lu_machine.specs.Seen.{RemovalBySeen, TrimmedRemovalBySeen};
 ghost use Rattle.lu_machine.specs.Trim.{Unseen, TrimmedRemoval, NamedHaveLinks};
 
@@ -17,13 +17,15 @@ pub fn footprints()
     ensures free { NumberIsFree }
 {}
 
-/// Which acts make no transaction, and what they leave.
+/// Which acts make a transaction, which make none, and what those leave.
 pub fn transactions()
     ensures refusals { RefusalsStay }
     ensures unchanged { UnchangedStay }
     ensures grants { TransactionsGrantNothing }
     ensures readings { ReadingsChangeNothing }
-    ensures modifying { ModifyingMakeTransactions }
+    ensures always { AlwaysMakeTransactions }
+    ensures chmods { ChmodsChange }
+    ensures renames { RenamesChange }
 {}
 
 /// A life's opens go, and nothing else.
@@ -31,12 +33,14 @@ pub fn forgetting()
     ensures { ForgetDropsOpens }
 {}
 
-/// What a name leads to changes only where Parent of that inode is written.
+/// A name leads where it led if Parent of that inode isn't written, in each directory but one of the
+/// operation's own number.
 pub fn leading()
     ensures { LeadsStay }
 {}
 
-/// Transactions can be taken out of a history: what touched nothing that they wrote comes out the same.
+/// Transactions can be taken out of a history, where none that stays touched what an earlier one of them
+/// wrote: the next operation comes out the same, if it touches nothing that they wrote.
 pub fn removal()
     ensures answers { RemovalLaw }
     ensures contents { RemovalAgrees }
@@ -44,7 +48,7 @@ pub fn removal()
     ensures seen { RemovalBySeen }
 {}
 
-/// A file may leave the tree with its last name and its last open: nobody can tell.
+/// A file may leave the tree with its last name and its last open: where numbers rise, nobody can tell.
 pub fn trimming()
     ensures unseen { Unseen }
     ensures removal { TrimmedRemoval }
@@ -65,12 +69,16 @@ pub fn striping()
     ensures { NewLayouts }
 {}
 
-/// The plain machine answers by the table, but where a transaction's number was passed before.
+/// The plain machine answers by the table, but refuses a transaction whose number was passed before. A flush
+/// changes nothing.
 pub fn machine()
-    ensures { MachineIsTable }
+    ensures table { MachineIsTable }
+    ensures passed { PassedIsRefused }
+    ensures flush { FlushesStay }
 {}
 
-/// An answer to a reading stays true until a transaction writes what the locks that came with it guard.
+/// The answer to a reading, and the locks that come with it, stay the same after one operation whose number
+/// is new in the tree and that writes nothing that those locks guard. A number above all of a past is new.
 pub fn coverage()
     ensures locks { LocksCover }
     ensures new { AboveIsNew }

@@ -1,5 +1,5 @@
-use Rattle.lu_machine.proofs.Transactions.{machine_is_table}
+use Rattle.lu_machine.proofs.Transactions.{machine_is_table, passed_is_refused, flushes_stay}
 use Rattle.lu_machine.proofs.theorems.machine.Goals as goal
 
 pub returns : goal.returns
-returns c = machine_is_table
+returns c = record { table = machine_is_table; passed = passed_is_refused; flush = flushes_stay }
