@@ -77,8 +77,9 @@ pub fn machine()
     ensures flush { FlushesStay }
 {}
 
-/// The answer to a reading, and the locks that come with it, stay the same after one operation whose number
-/// is new in the tree and that writes nothing that those locks guard. A number above all of a past is new.
+/// The answer to a reading that isn't refused, and the locks that come with it, stay the same after one
+/// operation whose number is new in the tree and that writes nothing that those locks guard. A number above
+/// all of a past is new there.
 pub fn coverage()
     ensures locks { LocksCover }
     ensures new { AboveIsNew }
@@ -93,7 +94,8 @@ pub fn bytes()
     ensures cut_piece { PieceCuts }
 {}
 
-/// What a look-up tells is where the path leads, and where paths lead once an operation is done.
+/// What a look-up tells is where the path leads, and where paths lead once an operation is done, under a
+/// number that is new in the tree.
 pub fn paths()
     ensures lookup { LookupsTell }
     ensures done { PathsFollow }
