@@ -1,0 +1,86 @@
+-- A client's side of one target (Lustre Operations Manual, recovery: the import; tags and the limit on
+-- requests in flight as in Lustre's multiple modifying requests; the numbers are this project's profile).
+use Rattle.std.specs.Prelude.{◌≡◌, ◌≢◌, ℕ, ◌+◌, ◌<◌, ◌≤◌, ◌==◌, ◌&&◌, Bool, true, false, not, List, [], ◌∷◌, ◌++◌, length, All, AllPairs, ◌⊎◌}
+use Rattle.lu_base.specs.declared.ids.TargetId.{TargetId}
+use Rattle.lu_base.specs.declared.ids.Who.{Who}
+use Rattle.lu_base.specs.declared.ids.Node.TheVariants.{Target}
+use Rattle.lu_msg.specs.declared.operations.Op.{Op}
+use Rattle.lu_msg.specs.declared.messages.Request.{Request}
+use Rattle.lu_msg.specs.declared.messages.Reply.{Reply}
+use Rattle.lu_msg.specs.declared.messages.Post.{Post}
+use Rattle.lu_msg.specs.declared.messages.Message.{Message}
+use Rattle.lu_msg.specs.declared.messages.Message.TheVariants as message
+use Rattle.lu_import.specs.declared.requests.InFlight.{InFlight}
+use Rattle.lu_import.specs.Objects.{same_object}
+use Rattle.lu_import.specs.InFlights.{has_number, without, IsLeastFree, front_waits}
+
+-- the target, the life that asks, the boot that it knows, how many may be in flight, whether the target serves
+-- the life, the number of the newest request (0 where there was none), the operations that wait in order of
+-- arrival, and the requests in flight in rising number
+pub record ImportState : Type 0 where
+  pub target : TargetId
+  pub who : Who
+  pub boot : ℕ
+  pub flight : ℕ
+  pub serving : Bool
+  pub last : ℕ
+  pub queue : List Op
+  pub in_flight : List InFlight
+
+-- The first life of a client has its slots from the start; a later one must join.
+abbrev pub fresh : TargetId → Who → ℕ → ℕ → ImportState
+fresh target who boot flight =
+    record { target = target; who = who; boot = boot; flight = flight; serving = who.life == 1; last = 0; queue = []; in_flight = [] }
+
+-- Whether there is a front of the queue, and it has to wait.
+abbrev pub FrontWaits : ImportState → List Op → Type 0
+FrontWaits import [] = ⊥
+FrontWaits import (op ∷ _) = front_waits import.target import.in_flight op ≡ true
+
+-- Why no request may be sent now.
+abbrev pub MustWait : ImportState → Type 0
+MustWait import =
+    (import.serving ≡ false) ⊎ ((import.flight ≤ length import.in_flight) ⊎ ((import.queue ≡ []) ⊎ FrontWaits import import.queue))
+
+-- Which request is sent, and what has changed then.
+pub record IsSent (old new : ImportState) (request : Request) : Type 0 where
+  pub serving : old.serving ≡ true
+  pub room : length old.in_flight < old.flight
+  pub front : old.queue ≡ request.op ∷ new.queue
+  pub unblocked : front_waits old.target old.in_flight request.op ≡ false
+  pub who : request.who ≡ old.who
+  pub boot : request.boot ≡ old.boot
+  pub number : request.xid.0 ≡ old.last + 1
+  pub tag : IsLeastFree old.in_flight request.tag
+  pub range : request.tag < old.flight
+  pub after : new ≡ record old { last = old.last + 1; queue = new.queue; in_flight = old.in_flight ++ record { xid = request.xid; tag = request.tag; op = request.op } ∷ [] }
+
+-- The message is such a request.
+abbrev pub Sends : ImportState → ImportState → Message → Type 0
+Sends old new (message.Request request) = IsSent old new request
+Sends old new _ = ⊥
+
+-- Whether the reply is to a request in flight, of this life and boot.
+abbrev pub hears : ImportState → Reply → Bool
+hears import reply =
+    reply.who.client == import.who.client && reply.who.life == import.who.life && reply.boot == import.boot && has_number reply.xid.0 import.in_flight
+
+-- The import once a reply to this request was heard.
+abbrev pub heard : ImportState → ℕ → ImportState
+heard import number = record import { in_flight = without number import.in_flight }
+
+-- A request in flight as it is sent again: with its number and tag, and the boot known now.
+abbrev pub sent_again : ImportState → InFlight → Post
+sent_again import request =
+    record { to = Target import.target.0; message = message.Request (record { who = import.who; boot = import.boot; xid = request.xid; tag = request.tag; op = request.op }) }
+
+-- What holds of every import: the numbers rise, up to the newest; at most `flight`, from 1 to 8, are in flight,
+-- and no two have one tag; each tag is below `flight`; at an object storage target no two are on one object.
+pub record IsSound (import : ImportState) : Type 0 where
+  pub flight : import.flight ≤ 8
+  pub most : length import.in_flight ≤ import.flight
+  pub rising : AllPairs (λ earlier later. earlier.xid.0 < later.xid.0) import.in_flight
+  pub given : All (λ request. request.xid.0 ≤ import.last) import.in_flight
+  pub tags : AllPairs (λ one other. one.tag ≢ other.tag) import.in_flight
+  pub range : All (λ request. request.tag < import.flight) import.in_flight
+  pub objects : 0 < import.target.0 → AllPairs (λ one other. same_object one.op other.op ≡ false) import.in_flight
