@@ -101,7 +101,7 @@ header_again settings header n new low high =
 pub says_first : (line : List ℕ) (text : List (List ℕ)) → says line ≡ true → sayings (line ∷ text) ≡ words_of line ∷ sayings text
 says_first line text e = ap (λ (b : Bool). map words_of (cond b (line ∷ filter says text) (filter says text))) e
 
-says_later : (line : List ℕ) (text : List (List ℕ)) → says line ≡ false → sayings (line ∷ text) ≡ sayings text
+pub says_later : (line : List ℕ) (text : List (List ℕ)) → says line ≡ false → sayings (line ∷ text) ≡ sayings text
 says_later line text e = ap (λ (b : Bool). map words_of (cond b (line ∷ filter says text) (filter says text))) e
 
 heads_are : (v w : List (List ℕ)) (vs ws : List (List (List ℕ))) → v ∷ vs ≡ w ∷ ws → (v ≡ w) × (vs ≡ ws)

@@ -28,7 +28,7 @@ unfolding lines_after
 no_lines number p = refl
 
 -- the next line stands first in what is left
-next_line : {X : Type 0} (f : X → List ℕ) (items : List X) (i : ℕ) (d : X) → i < length items → drop i (map f items) ≡ f (get_or items i d) ∷ drop (i + 1) (map f items)
+pub next_line : {X : Type 0} (f : X → List ℕ) (items : List X) (i : ℕ) (d : X) → i < length items → drop i (map f items) ≡ f (get_or items i d) ∷ drop (i + 1) (map f items)
 next_line f items i d within =
     drop-cons (map f items) i (f d) (subst (λ (n : ℕ). i < n) (sym (length-map items f)) within)
     ∙ ap (λ (line : List ℕ). line ∷ drop (suc i) (map f items)) (get_or-map f items i d (f d) within)
