@@ -1,16 +1,15 @@
 -- The numbers of the lines that are performed.
-use Rattle.std.proofs.Common.{◌≡◌, ◌≢◌, ℕ, zero, suc, ◌+◌, ◌<◌, ◌≤◌, ◌==◌, Bool, true, false, not, cond, ◌&&◌, List, [], ◌∷◌, ◌++◌, length, get_or, drop, map, Option, Some, None, refl, sym, ap, subst, ◌∙◌, append_assoc, append-nil, arith, inl, inr}
-use Rattle.std.specs.Prelude.{is_some, filter, All}
-use Rattle.std.proofs.lemmas.Bool.{cases_Bool, and_parts, and_from, ne_eqb, not-true, true≢false}
+use Rattle.std.proofs.Common.{◌≡◌, ℕ, ◌+◌, ◌<◌, ◌≤◌, ◌==◌, Bool, true, false, not, cond, ◌&&◌, List, [], ◌∷◌, ◌++◌, length, get_or, drop, map, Option, refl, sym, ap, ◌∙◌, append_assoc, append-nil, arith, inl, inr}
+use Rattle.std.specs.Prelude.{is_some}
+use Rattle.std.proofs.lemmas.Bool.{cases_Bool, and_parts, and_from, ne_eqb, true≢false}
 use Rattle.std.proofs.lemmas.List.{length-map, length-append, length-drop, nil_from_length}
 use Rattle.lu_scene.specs.declared.scene.Head.{Head}
 use Rattle.lu_scene.specs.declared.scene.Scene.{Scene}
 use Rattle.lu_scene.specs.declared.scene.SceneLine.{SceneLine}
 use Rattle.lu_scene.specs.declared.words.Header.{Header}
-use Rattle.lu_scene.specs.Words.{header_text, header_of, verb_text}
 use Rattle.lu_scene.specs.Lines.{lines_of, is_comment, words_of}
 use Rattle.lu_scene.specs.Places.{are_step, is_step, number_if, step_numbers}
-use Rattle.lu_scene.specs.Grammar.{Setting, setting_words, head_of, AreLines, says, sayings, Spells, IsScene}
+use Rattle.lu_scene.specs.Grammar.{Setting, setting_words, head_of, AreLines, says, sayings, IsScene}
 use Rattle.lu_scene.proofs.LineForms.{IsSmall, header_of-again, no_header, line_of-again}
 use Rattle.lu_scene.proofs.Complete.{says_first, says_later, small_head}
 use Rattle.lu_scene.proofs.Going.{next_line}

@@ -1,5 +1,5 @@
 -- Which lines of a text the lines of its scenario are.
-use Rattle.std.specs.Prelude.{ℕ, ◌+◌, ◌==◌, ◌&&◌, not, Bool, false, is_some, if◌then◌else◌, List, [], ◌∷◌, ◌++◌, length}
+use Rattle.std.specs.Prelude.{ℕ, ◌+◌, ◌&&◌, not, Bool, false, is_some, if◌then◌else◌, List, [], ◌∷◌, ◌++◌}
 use Rattle.lu_scene.specs.Words.{header_of}
 use Rattle.lu_scene.specs.Lines.{is_comment, words_of}
 

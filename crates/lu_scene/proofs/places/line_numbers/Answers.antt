@@ -1,4 +1,3 @@
-use Rattle.std.proofs.Common.{map}
 use Rattle.lu_scene.specs.Lines.{lines_of}
 use Rattle.lu_scene.specs.Places.{step_numbers}
 use Rattle.lu_scene.proofs.Numbering.{one_number_more, all_numbers, numbers_each}
