@@ -1,22 +1,21 @@
 -- Calls: what is read has the form and keeps the limits, and what has the form and keeps them is read.
-use Rattle.std.proofs.Common.{◌≡◌, ◌≢◌, ℕ, zero, suc, ◌+◌, ◌^◌, ◌<◌, ◌≤◌, Bool, true, false, cond, List, [], ◌∷◌, length, Option, Some, None, Result, Ok, Err, refl, sym, ap, subst, ◌∙◌, decimal, arith, lit<}
-use Rattle.std.specs.Prelude.{nat_le, codes, ℤ}
+use Rattle.std.proofs.Common.{◌≡◌, ℕ, ◌+◌, ◌^◌, ◌<◌, ◌≤◌, cond, List, [], ◌∷◌, length, Option, Some, None, Result, Ok, Err, ap, subst, ◌∙◌, decimal, arith, lit<}
+use Rattle.std.specs.Prelude.{nat_le, ℤ}
 use Rattle.std.proofs.lemmas.Bool.{leb-true, le-leb, cond-true}
-use Rattle.hex.specs.Hex.{IsBytes}
-use Rattle.lu_base.specs.Texts.{path_text, IsPath, IsDataText}
+use Rattle.lu_base.specs.Texts.{path_text, IsPath}
 use Rattle.lu_msg.specs.declared.calls.Call.{Call}
 use Rattle.lu_msg.specs.declared.calls.Call.TheVariants as calls
 use Rattle.lu_scene.specs.declared.faults.Fault.{Fault}
 use Rattle.lu_scene.specs.declared.faults.Fault.TheVariants as faults
 use Rattle.lu_scene.specs.declared.words.CallName.{CallName}
 use Rattle.lu_scene.specs.declared.words.CallName.TheVariants as names
-use Rattle.lu_scene.specs.Words.{call_text, call_name_of}
+use Rattle.lu_scene.specs.Words.{call_text}
 use Rattle.lu_scene.specs.Fields.{◌>>=◌, number_in, number_at, mode_at, count_at, path_at, data_at}
-use Rattle.lu_scene.specs.Calls.{one_path, two_paths, handle_at, one_handle, striped_of, create_of, chmod_of, open_of, read_of, write_of, cut_of, call_of}
-use Rattle.lu_scene.specs.Print.{count_text, stripes_words, call_words}
-use Rattle.lu_scene.specs.Grammar.{CountFits, StripesFit, CallFits, IsModeText, IsCall}
+use Rattle.lu_scene.specs.Calls.{one_path, two_paths, handle_at, one_handle, create_of, chmod_of, open_of, read_of, write_of, cut_of, call_of}
+use Rattle.lu_scene.specs.Print.{count_text, stripes_words}
+use Rattle.lu_scene.specs.Grammar.{StripesFit, CallFits, IsCall}
 use Rattle.lu_scene.proofs.Options.{bind_ok, guard_ok, ok_is}
-use Rattle.lu_scene.proofs.Readings.{Ranged, number_at-read, number_at-again, number_in-read, number_in-again, mode_at-read, mode_at-again, count_at-read, count_at-again, path_at-read, path_at-again, IsData, data_at-read, data_at-again}
+use Rattle.lu_scene.proofs.Readings.{number_at-read, number_at-again, number_in-read, number_in-again, mode_at-read, mode_at-again, count_at-read, count_at-again, path_at-read, path_at-again, data_at-read, data_at-again}
 
 -- a call that was read
 abbrev pub WasCall : CallName → List (List ℕ) → Call → Type 0

@@ -1,29 +1,27 @@
 -- Each scenario is read, as it is.
-use Rattle.std.proofs.Common.{◌≡◌, ◌≢◌, ℕ, zero, suc, ◌+◌, ◌^◌, ◌<◌, ◌≤◌, ◌==◌, Bool, true, false, not, cond, ◌&&◌, ◌||◌, List, [], ◌∷◌, ◌++◌, length, map, Option, Some, None, Result, Ok, Err, refl, sym, ap, subst, ◌∙◌, append_assoc, append-nil, decimal, arith, inl, inr, ◌⊎◌, lit<, lit≤}
+use Rattle.std.proofs.Common.{◌≡◌, ℕ, ◌+◌, ◌^◌, ◌<◌, ◌≤◌, ◌==◌, Bool, true, false, not, cond, ◌||◌, List, [], ◌∷◌, ◌++◌, length, map, Option, None, Result, Ok, Err, refl, sym, ap, subst, ◌∙◌, append_assoc, append-nil, decimal, arith, inl, inr, lit<, lit≤}
 use Rattle.std.specs.Prelude.{filter, fold, count_by, All}
-use Rattle.std.specs.List.{AllPass, list_any}
-use Rattle.std.proofs.lemmas.Bool.{true≢false, eqb-true, eqb-false, eq-eqb, ne_eqb, and_parts, and_from, not-true, not-false, or_parts, or_from, false_from_ne_true, cases_Bool, cond-false}
-use Rattle.std.proofs.lemmas.List.{map-append, nil_from_length}
+use Rattle.std.specs.List.{AllPass}
+use Rattle.std.proofs.lemmas.Bool.{true≢false, eq-eqb, ne_eqb, and_parts, and_from, not-true, or_from, false_from_ne_true, cases_Bool}
 use Rattle.std.proofs.lemmas.List.Elements.{All-head, All-tail}
 use Rattle.std.proofs.lemmas.List.Sums.{sum_by-append}
 use Rattle.lu_scene.specs.declared.faults.Fault.{Fault}
 use Rattle.lu_scene.specs.declared.faults.Fault.TheVariants as faults
-use Rattle.lu_scene.specs.declared.faults.SceneFault.{SceneFault}
 use Rattle.lu_scene.specs.declared.reader.Progress.{Progress}
 use Rattle.lu_scene.specs.declared.scene.Head.{Head}
 use Rattle.lu_scene.specs.declared.scene.SceneLine.{SceneLine}
 use Rattle.lu_scene.specs.declared.words.Header.{Header}
 use Rattle.lu_scene.specs.declared.words.Header.TheVariants as headers
 use Rattle.lu_scene.specs.declared.words.Verb.{Verb}
-use Rattle.lu_scene.specs.Words.{header_text, header_of, verb_text, verb_of}
+use Rattle.lu_scene.specs.Words.{header_text, verb_text, verb_of}
 use Rattle.lu_scene.specs.Fields.{◌>>=◌}
-use Rattle.lu_scene.specs.Lines.{words_of, is_plain, is_comment, least_of, most_of, default_head, with_number, place_of, is_given, one_number, line_of, header_after, said_after, words_after, line_after, lines_after, nothing}
+use Rattle.lu_scene.specs.Lines.{words_of, is_plain, is_comment, least_of, most_of, default_head, with_number, place_of, is_given, one_number, line_of, said_after, words_after, line_after, lines_after, nothing}
 use Rattle.lu_scene.specs.Print.{header_words}
-use Rattle.lu_scene.specs.Grammar.{Setting, SettingFits, setting_words, head_of, StandOnce, IsLine, AreLines, says, sayings, Spells, progress_of}
+use Rattle.lu_scene.specs.Grammar.{Setting, SettingFits, setting_words, head_of, StandOnce, AreLines, says, sayings, Spells, progress_of}
 use Rattle.lu_scene.proofs.Going.{passes, no_lines}
 use Rattle.lu_scene.proofs.Readings.{number_in-again}
 use Rattle.lu_scene.proofs.LineForms.{IsSmall, header_of-again, verb_of-again, no_header, line_of-again}
-use Rattle.lu_scene.proofs.Reached.{one_if, count-cons, head_more, progress_more}
+use Rattle.lu_scene.proofs.Reached.{one_if, count-cons, progress_more}
 
 -- heads are small
 
@@ -101,7 +99,7 @@ header_again settings header n new low high =
 pub says_first : (line : List ℕ) (text : List (List ℕ)) → says line ≡ true → sayings (line ∷ text) ≡ words_of line ∷ sayings text
 says_first line text e = ap (λ (b : Bool). map words_of (cond b (line ∷ filter says text) (filter says text))) e
 
-says_later : (line : List ℕ) (text : List (List ℕ)) → says line ≡ false → sayings (line ∷ text) ≡ sayings text
+pub says_later : (line : List ℕ) (text : List (List ℕ)) → says line ≡ false → sayings (line ∷ text) ≡ sayings text
 says_later line text e = ap (λ (b : Bool). map words_of (cond b (line ∷ filter says text) (filter says text))) e
 
 heads_are : (v w : List (List ℕ)) (vs ws : List (List (List ℕ))) → v ∷ vs ≡ w ∷ ws → (v ≡ w) × (vs ≡ ws)

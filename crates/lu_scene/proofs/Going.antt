@@ -1,5 +1,5 @@
 -- Reading lines one after the other, as a loop does.
-use Rattle.std.proofs.Common.{◌≡◌, ℕ, suc, ◌+◌, ◌<◌, ◌≤◌, List, [], ◌∷◌, length, get_or, take, drop, map, Result, Ok, Err, refl, sym, ap, subst, ◌∙◌, add-one, arith}
+use Rattle.std.proofs.Common.{◌≡◌, ℕ, suc, ◌+◌, ◌<◌, ◌≤◌, List, [], ◌∷◌, length, get_or, drop, map, Result, Ok, Err, refl, sym, ap, subst, ◌∙◌, add-one, arith}
 use Rattle.std.proofs.Math.Seq.{drop-cons}
 use Rattle.std.proofs.lemmas.List.{length-map, get_or-map, length-drop, nil_from_length}
 use Rattle.lu_scene.specs.declared.faults.Fault.{Fault}
@@ -28,7 +28,7 @@ unfolding lines_after
 no_lines number p = refl
 
 -- the next line stands first in what is left
-next_line : {X : Type 0} (f : X → List ℕ) (items : List X) (i : ℕ) (d : X) → i < length items → drop i (map f items) ≡ f (get_or items i d) ∷ drop (i + 1) (map f items)
+pub next_line : {X : Type 0} (f : X → List ℕ) (items : List X) (i : ℕ) (d : X) → i < length items → drop i (map f items) ≡ f (get_or items i d) ∷ drop (i + 1) (map f items)
 next_line f items i d within =
     drop-cons (map f items) i (f d) (subst (λ (n : ℕ). i < n) (sym (length-map items f)) within)
     ∙ ap (λ (line : List ℕ). line ∷ drop (suc i) (map f items)) (get_or-map f items i d (f d) within)

@@ -1,10 +1,10 @@
 -- Printed words have bytes, and no space among them.
-use Rattle.std.proofs.Common.{◌≡◌, ◌≢◌, ℕ, zero, suc, ◌+◌, ◌-◌, ◌/◌, ◌%◌, ◌^◌, ◌<◌, ◌≤◌, ◌==◌, Bool, true, false, not, cond, ◌&&◌, ◌||◌, List, [], ◌∷◌, ◌++◌, length, Option, Some, None, refl, sym, ap, subst, ◌∙◌, decimal, arith, inl, inr, ◌⊎◌, lit<}
-use Rattle.std.specs.Prelude.{nat_le, nat_lt, codes, slice_index, ℤ, pos, negsuc, All}
+use Rattle.std.proofs.Common.{◌≡◌, ℕ, zero, suc, ◌+◌, ◌/◌, ◌%◌, ◌^◌, ◌<◌, ◌≤◌, Bool, true, false, cond, ◌&&◌, List, [], ◌∷◌, ◌++◌, length, Option, Some, None, refl, sym, ◌∙◌, decimal, arith, inl, inr, lit<}
+use Rattle.std.specs.Prelude.{nat_le, nat_lt, slice_index, ℤ, pos, negsuc, All}
 use Rattle.std.specs.List.{list_all, join_with_byte}
 use Rattle.std.specs.Char.{digit_value}
 use Rattle.std.specs.Str.Parse.{AllDigits}
-use Rattle.std.proofs.lemmas.Bool.{true≢false, ltb-true, lt-ltb, ltb-false, le-ltb, leb-true, le-leb, and_parts, and_from, cond-true, cond-false, agree_below_at, cases_lt}
+use Rattle.std.proofs.lemmas.Bool.{true≢false, lt-ltb, le-leb, and_parts, and_from, cond-true, agree_below_at, cases_lt}
 use Rattle.std.proofs.lemmas.Bool.Decides.{nat_tests}
 use Rattle.std.proofs.lemmas.Fmt.{decimal_is_IsNumeral}
 use Rattle.std.proofs.lemmas.List.Folds.{list_all-append}
@@ -14,7 +14,6 @@ use Rattle.hex.specs.Hex.{IsBytes, lower_digits, encode_with, encode_lower}
 use Rattle.lu_base.specs.Texts.{is_name_byte, IsName, IsPath, path_text, is_repeated, repeated_text, bytes_text}
 use Rattle.lu_base.specs.declared.ids.Node.{Node}
 use Rattle.lu_base.specs.declared.ids.Node.TheVariants.{Client, Target}
-use Rattle.lu_base.specs.declared.ids.TargetId.{TargetId}
 use Rattle.lu_msg.specs.declared.calls.Call.{Call}
 use Rattle.lu_msg.specs.declared.calls.Call.TheVariants as calls
 use Rattle.lu_scene.specs.declared.scene.Head.{Head}

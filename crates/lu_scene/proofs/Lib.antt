@@ -15,3 +15,4 @@ pub mod Printed
 pub mod Graphic
 pub mod Splitting
 pub mod RoundTrip
+pub mod Numbering

@@ -1,6 +1,6 @@
 -- Lines: what is read has the form and keeps the limits, and what has the form and keeps them is read.
-use Rattle.std.proofs.Common.{◌≡◌, ◌≢◌, ℕ, zero, suc, ◌+◌, ◌^◌, ◌<◌, ◌≤◌, Bool, true, false, cond, List, [], ◌∷◌, length, Option, Some, None, Result, Ok, Err, refl, sym, ap, subst, ◌∙◌, decimal, arith, lit<}
-use Rattle.std.specs.Prelude.{codes, find}
+use Rattle.std.proofs.Common.{◌≡◌, ℕ, ◌^◌, ◌<◌, ◌≤◌, Bool, true, false, cond, List, [], ◌∷◌, Option, Some, None, Result, Ok, refl, sym, ap, subst, ◌∙◌, decimal, lit<}
+use Rattle.std.specs.Prelude.{find}
 use Rattle.std.specs.Str.{bytes_eq}
 use Rattle.lu_base.specs.declared.ids.Node.{Node}
 use Rattle.lu_base.specs.declared.ids.TargetId.{TargetId}
@@ -20,10 +20,10 @@ use Rattle.lu_scene.specs.Words.{header_text, all_headers, header_of, verb_text,
 use Rattle.lu_scene.specs.Fields.{◌>>=◌, or_fault, number_in, client_at, target_at, node_at, slot_at}
 use Rattle.lu_scene.specs.Calls.{call_of}
 use Rattle.lu_scene.specs.Lines.{one_number, one_target, call_line, run_line, tick_line, commit_line, die_line, line_of}
-use Rattle.lu_scene.specs.Print.{client_text, target_text, node_text, slot_text, line_words}
-use Rattle.lu_scene.specs.Grammar.{LineFits, IsCall, IsForm, IsLine}
+use Rattle.lu_scene.specs.Print.{client_text, target_text, node_text, slot_text}
+use Rattle.lu_scene.specs.Grammar.{LineFits, IsForm, IsLine}
 use Rattle.lu_scene.proofs.Options.{bind_ok, or_fault_ok, ok_is, bytes_same}
-use Rattle.lu_scene.proofs.Readings.{Ranged, number_in-read, number_in-again, client_at-read, client_at-again, target_at-read, target_at-again, node_at-read, node_at-again, slot_at-read, slot_at-again}
+use Rattle.lu_scene.proofs.Readings.{number_in-read, number_in-again, client_at-read, client_at-again, target_at-read, target_at-again, node_at-read, node_at-again, slot_at-read, slot_at-again}
 use Rattle.lu_scene.proofs.CallForms.{call_of-read, call_of-again}
 
 abbrev there : {X : Type 0} → X → Option X

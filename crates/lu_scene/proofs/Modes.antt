@@ -1,11 +1,11 @@
 -- Modes as words.
-use Rattle.std.proofs.Common.{◌≡◌, ◌≢◌, ℕ, ◌+◌, ◌^◌, ◌<◌, ◌≤◌, ◌==◌, Bool, true, false, cond, ◌&&◌, not, List, [], ◌∷◌, length, drop, Option, Some, None, Result, Ok, Err, refl, sym, ap, ◌∙◌, subst, arith, lit<, lit≤}
-use Rattle.std.specs.Prelude.{nat_le, nat_lt, slice_index}
+use Rattle.std.proofs.Common.{◌≡◌, ℕ, ◌^◌, ◌<◌, ◌≤◌, Bool, true, false, cond, ◌&&◌, not, List, [], ◌∷◌, length, drop, Some, None, Result, Ok, Err, refl, sym, ap, ◌∙◌, subst, arith, lit<}
+use Rattle.std.specs.Prelude.{nat_le, nat_lt}
 use Rattle.std.specs.List.{list_all}
 use Rattle.std.specs.Result.{OkIff}
 use Rattle.std.specs.Char.{digit_value}
 use Rattle.std.specs.Str.Parse.{digits_value, ParsesUnsigned, without_leading_plus, AllDigits, IsNumeral}
-use Rattle.std.proofs.lemmas.Bool.{and_parts, and_from, true≢false, ltb-true, leb-true, lt-ltb, le-leb, ne_eqb, not-true, not-false, cond-true, cond-false, agree_below_at, true_from_ne_false}
+use Rattle.std.proofs.lemmas.Bool.{and_parts, and_from, true≢false, ltb-true, leb-true, ne_eqb, cond-true, cond-false, agree_below_at, true_from_ne_false}
 use Rattle.std.proofs.lemmas.Option.{cond_some}
 use Rattle.std.proofs.lemmas.Fmt.{IsAscii-from_digits}
 use Rattle.std.proofs.lemmas.Str.{IsUtf8-from_ascii}

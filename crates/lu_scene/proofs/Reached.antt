@@ -1,8 +1,7 @@
 -- One more line: what is read after good lines is good.
-use Rattle.std.proofs.Common.{◌≡◌, ◌≢◌, ℕ, zero, suc, ◌+◌, ◌<◌, ◌≤◌, ◌==◌, Bool, true, false, not, cond, ◌&&◌, ◌||◌, List, [], ◌∷◌, ◌++◌, length, map, Option, Some, None, Result, Ok, Err, refl, sym, ap, subst, ◌∙◌, append_assoc, append-nil, zero-add, decimal, arith, inl, inr, ◌⊎◌, lit≤}
-use Rattle.std.specs.Prelude.{filter, fold, count_by, All}
-use Rattle.std.specs.List.{AllPass, list_any}
-use Rattle.std.proofs.lemmas.Bool.{true≢false, eqb-true, eqb-false, eq-eqb, and_parts, and_from, not-true, not-false, ne_eqb, or_parts, cases_Bool}
+use Rattle.std.proofs.Common.{◌≡◌, ℕ, ◌+◌, ◌≤◌, ◌==◌, Bool, true, false, not, cond, ◌&&◌, ◌||◌, List, [], ◌∷◌, ◌++◌, length, map, Option, Some, None, Result, Ok, Err, refl, sym, ap, subst, ◌∙◌, append_assoc, append-nil, zero-add, arith, inl, inr, ◌⊎◌, lit≤}
+use Rattle.std.specs.Prelude.{filter, count_by}
+use Rattle.std.proofs.lemmas.Bool.{eqb-true, and_from, not-false, ne_eqb, or_parts}
 use Rattle.std.proofs.lemmas.List.{map-append, length-append, nil_from_length}
 use Rattle.std.proofs.lemmas.List.Elements.{All-nil, All-push, filter-append}
 use Rattle.std.proofs.lemmas.List.Sums.{fold-append, sum_by-append}
@@ -17,7 +16,7 @@ use Rattle.lu_scene.specs.declared.words.Header.{Header}
 use Rattle.lu_scene.specs.declared.words.Verb.{Verb}
 use Rattle.lu_scene.specs.Words.{header_text, header_of, verb_text, verb_of}
 use Rattle.lu_scene.specs.Fields.{◌>>=◌}
-use Rattle.lu_scene.specs.Lines.{words_of, is_plain, is_comment, least_of, most_of, default_head, with_number, place_of, is_given, one_number, line_of, header_after, said_after, words_after, line_after, lines_after, numbered, nothing}
+use Rattle.lu_scene.specs.Lines.{words_of, is_plain, is_comment, least_of, most_of, default_head, with_number, place_of, is_given, one_number, line_of, header_after, said_after, words_after, line_after, lines_after}
 use Rattle.lu_scene.specs.Print.{header_words}
 use Rattle.lu_scene.specs.Grammar.{Setting, SettingFits, setting_words, head_of, StandOnce, IsLine, AreLines, says, sayings, Spells, progress_of, IsFirstFault}
 use Rattle.lu_scene.proofs.Options.{bind_ok, ok_is}

@@ -1,11 +1,11 @@
 -- Each kind of word: what is read is so written, and what is so written is read.
-use Rattle.std.proofs.Common.{◌≡◌, ◌≢◌, ℕ, zero, suc, ◌+◌, ◌-◌, ◌^◌, ◌<◌, ◌≤◌, ◌==◌, Bool, true, false, cond, ◌&&◌, List, [], ◌∷◌, ◌++◌, length, replicate, Option, Some, None, Result, Ok, Err, refl, sym, ap, subst, ◌∙◌, decimal, arith, inl, inr, ◌⊎◌, lit<, lit≤}
+use Rattle.std.proofs.Common.{◌≡◌, ℕ, zero, suc, ◌^◌, ◌<◌, ◌≤◌, ◌==◌, Bool, true, false, cond, ◌&&◌, List, [], ◌∷◌, length, replicate, Option, Some, None, Result, Ok, Err, refl, sym, ap, subst, ◌∙◌, decimal, arith, inl, inr, lit<}
 use Rattle.std.specs.Prelude.{nat_le, nat_lt, codes, slice_index, ℤ, pos, negsuc}
 use Rattle.std.specs.List.{All, slice_split, join_with_byte}
 use Rattle.std.specs.Str.{bytes_eq}
-use Rattle.std.specs.Str.Parse.{digits_value, AllDigits}
+use Rattle.std.specs.Str.Parse.{AllDigits}
 use Rattle.std.specs.Char.{digit_value}
-use Rattle.std.proofs.lemmas.Bool.{true≢false, ltb-true, lt-ltb, leb-true, le-leb, eqb-true, eq-eqb, ne_eqb, and_parts, and_from, false_from_ne_true, cond-true, cond-false}
+use Rattle.std.proofs.lemmas.Bool.{ltb-true, lt-ltb, leb-true, le-leb, eqb-true, eq-eqb, ne_eqb, and_parts, and_from, false_from_ne_true, cond-true, cond-false}
 use Rattle.std.proofs.lemmas.Fmt.{decimal_is_IsNumeral}
 use Rattle.std.proofs.lemmas.List.Elements.{All-nil, All-cons}
 use Rattle.std.proofs.lemmas.List.Splits.{slice_split_none, slice_split_at, join_with_byte-slice_split}
@@ -17,10 +17,10 @@ use Rattle.lu_base.specs.declared.ids.TargetId.{TargetId}
 use Rattle.lu_scene.specs.declared.faults.Fault.{Fault}
 use Rattle.lu_scene.specs.declared.faults.Fault.TheVariants as faults
 use Rattle.lu_scene.specs.declared.scene.Head.{Head}
-use Rattle.lu_scene.specs.Fields.{◌>>=◌, or_fault, number_of, number_in, number_at, is_octal, mode_of, mode_at, count_at, number_behind, client_at, target_at, node_at, slot_of, slot_at, path_of, path_at, data_of, data_at}
+use Rattle.lu_scene.specs.Fields.{◌>>=◌, or_fault, number_of, number_in, number_at, mode_of, mode_at, count_at, number_behind, client_at, target_at, node_at, slot_of, slot_at, path_of, path_at, data_of, data_at}
 use Rattle.lu_scene.specs.Print.{client_text, target_text, node_text, slot_text, count_text}
 use Rattle.lu_scene.specs.Grammar.{CountFits, NodeFits, IsModeText}
-use Rattle.lu_scene.proofs.Options.{bind_ok, or_fault_ok, guard_ok, ok_is, same_bytes, bytes_same}
+use Rattle.lu_scene.proofs.Options.{bind_ok, or_fault_ok, guard_ok, ok_is, bytes_same}
 use Rattle.lu_scene.proofs.Numerals.{number_of-decimal, number_of-read}
 use Rattle.lu_scene.proofs.PathWords.{path_of-text, path_of-read}
 use Rattle.lu_scene.proofs.DataWords.{data_of-text, data_of-read, data_of-bytes}

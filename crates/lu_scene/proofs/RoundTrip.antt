@@ -1,14 +1,14 @@
 -- What is printed is the scenario that was printed.
-use Rattle.std.proofs.Common.{◌≡◌, ◌≢◌, ℕ, zero, suc, ◌+◌, ◌%◌, ◌/◌, ◌^◌, ◌<◌, ◌≤◌, ◌==◌, Bool, true, false, not, cond, ◌&&◌, List, [], ◌∷◌, ◌++◌, length, map, replicate, Option, Some, None, refl, sym, ap, subst, ◌∙◌, append_assoc, decimal, arith, inl, inr, ◌⊎◌, lit<, lit≤}
-use Rattle.std.specs.Prelude.{nat_le, nat_lt, slice_index, IsTrue, All, count_by}
+use Rattle.std.proofs.Common.{◌≡◌, ◌≢◌, ℕ, ◌^◌, ◌<◌, ◌≤◌, ◌==◌, Bool, true, false, cond, ◌&&◌, List, [], ◌∷◌, ◌++◌, length, map, replicate, refl, sym, ap, subst, ◌∙◌, decimal, arith, inl, inr, lit<, lit≤}
+use Rattle.std.specs.Prelude.{nat_lt, All}
 use Rattle.std.specs.List.{list_all}
 use Rattle.std.specs.Str.Parse.{digits_value}
-use Rattle.std.proofs.lemmas.Bool.{ltb-true, lt-ltb, eqb-true, and_parts, and_from, cases_Bool, agree_below_at}
+use Rattle.std.proofs.lemmas.Bool.{eqb-true, and_parts, agree_below_at}
 use Rattle.std.proofs.lemmas.Fmt.{length-decimal-le}
 use Rattle.std.proofs.lemmas.List.{length-append}
-use Rattle.std.proofs.lemmas.List.Elements.{All-nil, All-cons, All-head, All-tail, All-append, All-map, All-from_recursion}
+use Rattle.std.proofs.lemmas.List.Elements.{All-nil, All-cons, All-head, All-tail, All-append, All-from_recursion}
 use Rattle.hex.specs.Hex.{IsBytes, encode_lower}
-use Rattle.lu_base.specs.Texts.{is_repeated, repeated_text, bytes_text, IsRepeatedText, IsDataText}
+use Rattle.lu_base.specs.Texts.{is_repeated, repeated_text, bytes_text, IsDataText}
 use Rattle.lu_msg.specs.declared.calls.Call.{Call}
 use Rattle.lu_msg.specs.declared.calls.Call.TheVariants as calls
 use Rattle.lu_scene.specs.declared.scene.Head.{Head}
@@ -19,11 +19,11 @@ use Rattle.lu_scene.specs.declared.words.Header.{Header}
 use Rattle.lu_scene.specs.declared.words.Header.TheVariants as headers
 use Rattle.lu_scene.specs.Words.{header_text}
 use Rattle.lu_scene.specs.Fields.{is_octal}
-use Rattle.lu_scene.specs.Lines.{least_of, most_of, is_comment, lines_of}
-use Rattle.lu_scene.specs.Print.{words_text, lines_text, header_words, head_words, octal_text, call_words, line_words, scene_words, scene_text}
-use Rattle.lu_scene.specs.Grammar.{CallFits, LineFits, Setting, SettingFits, setting_words, head_of, StandOnce, IsModeText, IsCall, IsForm, AreLines, Spells, IsScene, HeadFits, SceneFits, HasShortLines}
+use Rattle.lu_scene.specs.Lines.{most_of, is_comment}
+use Rattle.lu_scene.specs.Print.{words_text, header_words, head_words, octal_text, call_words, line_words, scene_words, scene_text}
+use Rattle.lu_scene.specs.Grammar.{CallFits, LineFits, Setting, SettingFits, head_of, StandOnce, IsModeText, IsCall, IsForm, AreLines, Spells, IsScene, HeadFits, SceneFits, HasShortLines}
 use Rattle.lu_scene.proofs.LineForms.{IsSmall}
-use Rattle.lu_scene.proofs.Graphic.{are_words, header_line, said_words}
+use Rattle.lu_scene.proofs.Graphic.{header_line, said_words}
 use Rattle.lu_scene.proofs.Splitting.{Neat, lines_back, all_plain, sayings_back}
 
 -- forms

@@ -1,13 +1,13 @@
 -- What is read is the scenario that the text is, each scenario is read, and a fault is the first one.
-use Rattle.std.proofs.Common.{◌≡◌, ℕ, List, [], ◌++◌, length, Result, Ok, Err, refl, sym, ap, subst, ◌∙◌, arith, inl, inr, ◌⊎◌}
+use Rattle.std.proofs.Common.{◌≡◌, ℕ, List, [], Result, Ok, Err, refl, sym, ap, subst, ◌∙◌}
 use Rattle.lu_scene.specs.declared.faults.Fault.{Fault}
 use Rattle.lu_scene.specs.declared.faults.SceneFault.{SceneFault}
 use Rattle.lu_scene.specs.declared.faults.SceneFault.TheVariants as outcomes
 use Rattle.lu_scene.specs.declared.reader.Progress.{Progress}
 use Rattle.lu_scene.specs.declared.scene.Scene.{Scene}
-use Rattle.lu_scene.specs.Ends.{Ends, Stops}
+use Rattle.lu_scene.specs.Ends.{Stops}
 use Rattle.lu_scene.specs.Lines.{lines_of, lines_after, nothing}
-use Rattle.lu_scene.specs.Grammar.{Setting, head_of, Spells, IsScene, progress_of, IsFirstFault}
+use Rattle.lu_scene.specs.Grammar.{IsScene, progress_of, IsFirstFault}
 use Rattle.lu_scene.proofs.Reached.{begun, all_good, first_fault}
 use Rattle.lu_scene.proofs.Complete.{all_again}
 

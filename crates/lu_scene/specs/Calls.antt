@@ -1,5 +1,5 @@
 -- What the words after the name of a call say, or the first fault in them.
-use Rattle.std.specs.Prelude.{ℕ, ◌+◌, ◌^◌, nat_le, if◌then◌else◌, List, [], ◌∷◌, length, Option, Some, None, Result, Ok, Err}
+use Rattle.std.specs.Prelude.{ℕ, ◌+◌, ◌^◌, nat_le, if◌then◌else◌, List, [], ◌∷◌, length, Some, None, Result, Ok, Err}
 use Rattle.lu_msg.specs.declared.calls.Call.{Call}
 use Rattle.lu_msg.specs.declared.calls.Call.TheVariants as calls
 use Rattle.lu_scene.specs.declared.faults.Fault.{Fault}

@@ -1,6 +1,5 @@
 -- What a reader of a text answers, beside what is read by the definitions: the same, unless memory ran out.
 use Rattle.std.specs.Prelude.{◌≡◌, ℕ, Result, Ok, Err}
-use Rattle.lu_scene.specs.declared.faults.Fault.{Fault}
 use Rattle.lu_scene.specs.declared.faults.LineError.{LineError}
 use Rattle.lu_scene.specs.declared.faults.LineError.TheVariants as errors
 use Rattle.lu_scene.specs.declared.faults.SceneFault.{SceneFault}

@@ -6,7 +6,6 @@ use Rattle.hex.specs.Hex.{IsBytes}
 use Rattle.lu_base.specs.Texts.{path_text, IsPath, IsDataText}
 use Rattle.lu_base.specs.declared.ids.Node.{Node}
 use Rattle.lu_base.specs.declared.ids.Node.TheVariants.{Client, Target}
-use Rattle.lu_base.specs.declared.ids.TargetId.{TargetId}
 use Rattle.lu_msg.specs.declared.calls.Call.{Call}
 use Rattle.lu_msg.specs.declared.calls.Call.TheVariants as calls
 use Rattle.lu_scene.specs.declared.faults.Fault.{Fault}
@@ -19,7 +18,7 @@ use Rattle.lu_scene.specs.declared.words.Header.{Header}
 use Rattle.lu_scene.specs.declared.words.Header.TheVariants as headers
 use Rattle.lu_scene.specs.declared.words.Verb.TheVariants as verbs
 use Rattle.lu_scene.specs.declared.words.CallName.TheVariants as names
-use Rattle.lu_scene.specs.Words.{header_text, verb_text, call_text}
+use Rattle.lu_scene.specs.Words.{verb_text, call_text}
 use Rattle.lu_scene.specs.Fields.{is_octal}
 use Rattle.lu_scene.specs.Lines.{lines_of, words_of, is_plain, is_comment, least_of, most_of, default_head, with_number, place_of, line_after}
 use Rattle.lu_scene.specs.Print.{words_text, header_words, slot_text, call_words, line_words}

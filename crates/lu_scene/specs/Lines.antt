@@ -14,7 +14,7 @@ use Rattle.lu_scene.specs.declared.words.Header.{Header}
 use Rattle.lu_scene.specs.declared.words.Header.TheVariants as headers
 use Rattle.lu_scene.specs.declared.words.Verb.{Verb}
 use Rattle.lu_scene.specs.declared.words.Verb.TheVariants as verbs
-use Rattle.lu_scene.specs.Words.{header_text, header_of, verb_of, call_name_of}
+use Rattle.lu_scene.specs.Words.{header_of, verb_of, call_name_of}
 use Rattle.lu_scene.specs.Fields.{◌>>=◌, or_fault, number_in, client_at, target_at, node_at, slot_at}
 use Rattle.lu_scene.specs.Calls.{call_of}
 

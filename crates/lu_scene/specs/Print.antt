@@ -3,7 +3,6 @@ use Rattle.std.specs.Prelude.{ℕ, ◌+◌, ◌/◌, ◌%◌, nat_lt, if◌then�
 use Rattle.lu_base.specs.Texts.{path_text, bytes_text}
 use Rattle.lu_base.specs.declared.ids.Node.{Node}
 use Rattle.lu_base.specs.declared.ids.Node.TheVariants.{Client, Target}
-use Rattle.lu_base.specs.declared.ids.TargetId.{TargetId}
 use Rattle.lu_msg.specs.declared.calls.Call.{Call}
 use Rattle.lu_msg.specs.declared.calls.Call.TheVariants as calls
 use Rattle.lu_scene.specs.declared.scene.Head.{Head}

@@ -121,13 +121,3 @@ impl From<AllocError> for LineError {
         LineError::Memory
     }
 }
-
-impl From<Fault> for LineError {
-    ghost use Rattle.lu_scene.specs.declared.faults.LineError.TheVariants.{Bad};
-
-    ghost from_gives = { λ fault e. e ≡ Bad fault };
-
-    fn from(fault: Fault) -> LineError {
-        LineError::Bad(fault)
-    }
-}

@@ -7,12 +7,14 @@
 mod calls;
 mod faults;
 mod fields;
+mod places;
 mod printer;
 mod reader;
 mod scene;
 mod words;
 
 pub use faults::{Fault, SceneFault};
+pub use places::line_numbers;
 pub use printer::print_scene;
 pub use reader::read_scene;
 pub use scene::{Head, Lines, Scene, SceneLine};

@@ -1,8 +1,9 @@
 //! Each fault, each form of a line, each number at its ends, heads in any order, and scenarios whole.
 
-use super::{Fault, SceneFault, print_scene, read_scene};
+use super::{Fault, SceneFault, line_numbers, print_scene, read_scene};
 use lu_base::{Bytes, Memory};
 use std::alloc::Global;
+use std::process::Abort;
 use std::test::Fail;
 
 /// Texts that are no scenarios: the first bad line and its fault.
@@ -119,7 +120,7 @@ const PLAIN_HEAD: &str =
     "clients 1\nosts 1\nexpire 8\ndirty 1048576\nunused 64\nrounds 1000000\nflight 1\n";
 
 /// Scenarios with a plain head, and how their lines are printed.
-const LINES: [(&str, &str); 54] = [
+const LINES: [(&str, &str); 27] = [
     ("call 0.0 create /a", "call 0.0 create /a\n"),
     (
         "call 0.0 create /a 4294967296 -1",
@@ -162,6 +163,10 @@ const LINES: [(&str, &str); 54] = [
     ("call 0.0 lookup /", "call 0.0 lookup /\n"),
     ("call 0.0 stat /a", "call 0.0 stat /a\n"),
     ("call 0.0 list /a", "call 0.0 list /a\n"),
+];
+
+/// More of them.
+const MORE_LINES: [(&str, &str); 26] = [
     ("call 0.0 layout /a", "call 0.0 layout /a\n"),
     ("call 0.0 unlink /a", "call 0.0 unlink /a\n"),
     ("call 0.0 rmdir /a", "call 0.0 rmdir /a\n"),
@@ -188,11 +193,13 @@ const LINES: [(&str, &str); 54] = [
     ("run", "run\n"),
     ("run\n", "run\n"),
     ("\n#x\n  \n run   5  \n\n", "run 5\n"),
-    (
-        "call 0.0 mkdir /a\nrun\ncall 0.0 create /f\nrun\ncall 0.0 link /f /g\nrun\ncall 0.0 rename /f /f\nrun\ncall 0.0 rename /f /g\nrun\ncall 0.0 mkdir /b\nrun\ncall 0.0 create /b/x\nrun\ncall 0.0 rename /a /b\nrun\ncall 0.0 rename /b /b/c\nrun\ncall 0.0 list /\nrun\n",
-        "call 0.0 mkdir /a\nrun\ncall 0.0 create /f\nrun\ncall 0.0 link /f /g\nrun\ncall 0.0 rename /f /f\nrun\ncall 0.0 rename /f /g\nrun\ncall 0.0 mkdir /b\nrun\ncall 0.0 create /b/x\nrun\ncall 0.0 rename /a /b\nrun\ncall 0.0 rename /b /b/c\nrun\ncall 0.0 list /\nrun\n",
-    ),
 ];
+
+/// Longer ones.
+const ROWS: [(&str, &str); 1] = [(
+    "call 0.0 mkdir /a\nrun\ncall 0.0 create /f\nrun\ncall 0.0 link /f /g\nrun\ncall 0.0 rename /f /f\nrun\ncall 0.0 rename /f /g\nrun\ncall 0.0 mkdir /b\nrun\ncall 0.0 create /b/x\nrun\ncall 0.0 rename /a /b\nrun\ncall 0.0 rename /b /b/c\nrun\ncall 0.0 list /\nrun\n",
+    "call 0.0 mkdir /a\nrun\ncall 0.0 create /f\nrun\ncall 0.0 link /f /g\nrun\ncall 0.0 rename /f /f\nrun\ncall 0.0 rename /f /g\nrun\ncall 0.0 mkdir /b\nrun\ncall 0.0 create /b/x\nrun\ncall 0.0 rename /a /b\nrun\ncall 0.0 rename /b /b/c\nrun\ncall 0.0 list /\nrun\n",
+)];
 
 /// Other scenarios, and how they are printed.
 const HEADS: [(&str, &str); 16] = [
@@ -281,60 +288,96 @@ fn printed(alloc: Global, text: &[u8]) -> Result<Bytes, SceneFault> {
     }
 }
 
-#[test]
-fn scenarios(rt: HostRuntime) -> Result<(), Fail> {
-    let alloc = rt.alloc();
+/// Each text has its first bad line and its fault.
+fn check_faults(rt: &impl Abort, alloc: Global) {
     for (text, line, fault) in FAULTS {
         let wrong = read_scene(alloc, text.as_bytes()).err();
         assert_eq!(rt; wrong, Some(SceneFault::Bad { line, fault }), "{text}");
     }
+}
+
+/// A text is printed with a plain head, and what is printed is printed again.
+fn check_line(rt: &impl Abort, alloc: Global, text: &str, lines: &str) -> Result<(), Fail> {
+    let out = printed(alloc, text.as_bytes())?;
+    let mut want = Bytes::new(alloc);
+    want.extend(PLAIN_HEAD.as_bytes())?;
+    want.extend(lines.as_bytes())?;
+    assert!(rt; out.as_slice() == want.as_slice(), "{text}");
+    let again = printed(alloc, out.as_slice())?;
+    assert!(rt; again.as_slice() == out.as_slice(), "{text}");
+    Ok(())
+}
+
+/// Lines of each form.
+fn check_lines(rt: &impl Abort, alloc: Global) -> Result<(), Fail> {
     for (text, lines) in LINES {
-        let out = printed(alloc, text.as_bytes())?;
-        let mut want = Bytes::new(alloc);
-        want.extend(PLAIN_HEAD.as_bytes())?;
-        want.extend(lines.as_bytes())?;
-        assert!(rt; out.as_slice() == want.as_slice(), "{text}");
-        let again = printed(alloc, out.as_slice())?;
-        assert!(rt; again.as_slice() == out.as_slice(), "{text}");
+        check_line(rt, alloc, text, lines)?;
     }
+    Ok(())
+}
+
+/// More of them.
+fn check_more_lines(rt: &impl Abort, alloc: Global) -> Result<(), Fail> {
+    for (text, lines) in MORE_LINES {
+        check_line(rt, alloc, text, lines)?;
+    }
+    Ok(())
+}
+
+/// Scenarios whole.
+fn check_rows(rt: &impl Abort, alloc: Global) -> Result<(), Fail> {
+    for (text, lines) in ROWS {
+        check_line(rt, alloc, text, lines)?;
+    }
+    Ok(())
+}
+
+/// Each text is printed so.
+fn check_heads(rt: &impl Abort, alloc: Global) -> Result<(), Fail> {
     for (text, want) in HEADS {
         let out = printed(alloc, text.as_bytes())?;
         assert!(rt; out.as_slice() == want.as_bytes(), "{text}");
     }
-    for (front, byte, count, long) in [
-        ("#", b'a', 1999, false),
-        ("#", b'a', 2000, true),
-        ("run", b' ', 1997, false),
-        ("run", b' ', 1998, true),
-        ("", b' ', 2000, false),
-        ("", b' ', 2001, true),
+    Ok(())
+}
+
+/// Lines and paths of the greatest length, and one past it.
+fn check_lengths(rt: &impl Abort, alloc: Global) -> Result<(), Fail> {
+    for (front, byte, count, fault) in [
+        ("#", b'a', 1999, None),
+        ("#", b'a', 2000, Some(Fault::Line)),
+        ("run", b' ', 1997, None),
+        ("run", b' ', 1998, Some(Fault::Line)),
+        ("", b' ', 2000, None),
+        ("", b' ', 2001, Some(Fault::Line)),
+        ("call 0.0 mkdir /", b'a', 1023, None),
+        ("call 0.0 mkdir /", b'a', 1024, Some(Fault::Path)),
     ] {
         let text = filled(alloc, front, byte, count)?;
         let wrong = read_scene(alloc, text.as_slice()).err();
-        let fault = SceneFault::Bad {
-            line: 1,
-            fault: Fault::Line,
-        };
-        assert_eq!(rt; wrong, if long { Some(fault) } else { None }, "{front}");
+        let want = fault.map(|fault| SceneFault::Bad { line: 1, fault });
+        assert_eq!(rt; wrong, want, "{front} {count}");
     }
-    for (count, long) in [(1023, false), (1024, true)] {
-        let text = filled(alloc, "call 0.0 mkdir /", b'a', count)?;
-        let wrong = read_scene(alloc, text.as_slice()).err();
-        let fault = SceneFault::Bad {
-            line: 1,
-            fault: Fault::Path,
-        };
-        assert_eq!(rt; wrong, if long { Some(fault) } else { None }, "{count}");
-    }
+    Ok(())
+}
+
+#[test]
+fn scenarios(rt: HostRuntime) -> Result<(), Fail> {
+    let alloc = rt.alloc();
+    check_faults(&rt, alloc);
+    check_lines(&rt, alloc)?;
+    check_more_lines(&rt, alloc)?;
+    check_rows(&rt, alloc)?;
+    check_heads(&rt, alloc)?;
+    check_lengths(&rt, alloc)?;
+    let numbers = line_numbers(alloc, b"\n#x\nclients 2\nrun\n \ntick c1\n")?;
+    assert!(rt; numbers.as_slice() == [4, 6].as_slice());
+    let fault = SceneFault::Bad {
+        line: 3,
+        fault: Fault::UnknownLine,
+    };
     assert_eq!(rt;
-        format!(in alloc;
-            "{}",
-            SceneFault::Bad {
-                line: 3,
-                fault: Fault::UnknownLine
-            }
-        )?
-        .as_str(),
+        format!(in alloc; "{fault}")?.as_str(),
         "scene 3 UnknownLine"
     );
     Ok(())

@@ -1,4 +1,4 @@
-use Rattle.std.proofs.Common.{◌≡◌, ◌++◌, ap, sym, subst, ◌∙◌}
+use Rattle.std.proofs.Common.{◌++◌, ap, sym, subst, ◌∙◌}
 use Rattle.lu_scene.specs.Print.{head_words, words_text, line_words}
 use Rattle.lu_scene.specs.Grammar.{IsScene}
 use Rattle.lu_scene.proofs.Printed.{said_more, all_said}

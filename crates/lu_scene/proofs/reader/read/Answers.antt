@@ -1,4 +1,4 @@
-use Rattle.std.proofs.Common.{◌≡◌, List, ℕ, refl, sym, ap, ◌∙◌, map, subst}
+use Rattle.std.proofs.Common.{sym, ap, ◌∙◌, map, subst}
 use Rattle.lu_scene.specs.Lines.{lines_of, lines_after, nothing}
 use Rattle.lu_scene.specs.Ends.{Stops}
 use Rattle.lu_scene.proofs.Going.{went_on, stopped, ended}

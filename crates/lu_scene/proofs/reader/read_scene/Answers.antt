@@ -1,4 +1,4 @@
-use Rattle.std.proofs.Common.{◌≡◌, ◌⊎◌, inl, inr, Ok, Err, ap, sym, ◌∙◌, subst}
+use Rattle.std.proofs.Common.{inl, inr, Ok, Err, ap, sym, ◌∙◌}
 use Rattle.lu_scene.specs.declared.faults.SceneFault.TheVariants as outcomes
 use Rattle.std.proofs.lemmas.Result.{err_from_is_err_and}
 use Rattle.lu_scene.proofs.Options.{err_value}
