@@ -7,7 +7,8 @@ use std::alloc::AllocError;
 use std::error::Error;
 use std::fmt;
 
-/// What is wrong with a line, in the order in which a line is looked at.
+/// What is wrong with a line. A line is looked at in this order: its bytes, its first word (`UnknownLine`),
+/// whether a line of the head may stand there, the number of words, then word by word.
 #[derive(Clone, Copy, Debug, PartialEq, Eq)]
 pub enum Fault {
     /// The line has a byte outside 32 to 126, or more than 2,000 bytes.

@@ -341,8 +341,8 @@ fn read(alloc: Global, text: &[u8]) -> Result<Progress, SceneFault>
 }
 
 /// The scenario that a text is. `Bad` names the first line that is wrong, from 1, and what is wrong
-/// with it: lines are counted with those that say nothing, and each is looked at in the order of
-/// [`Fault`], its words from left to right.
+/// with it: lines are counted with those that say nothing, and each is looked at as [`Fault`] says,
+/// its words from left to right.
 pub fn read_scene(alloc: Global, text: &[u8]) -> Result<Scene, SceneFault>
     // What is read is a scenario: that one.
     ensures scene { IfOk result (λ scene. IsScene text.now scene) }

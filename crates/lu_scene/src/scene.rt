@@ -30,7 +30,7 @@ pub enum SceneLine {
     Call { client: u16, slot: u8, call: Call },
     /// Turns are made until nothing is left to do.
     Run,
-    /// This many turns are made, 1 to 65,536.
+    /// At most this many turns are made, 1 to 65,536.
     RunSome(u64),
     /// The message of this number, 1 to 1,000,000, comes, also again.
     Deliver(u64),
