@@ -104,9 +104,12 @@ fn one_request_goes_and_its_reply_comes_twice(rt: HostRuntime) -> Result<(), Fai
 fn tags_are_the_least_that_are_free(rt: HostRuntime) -> Result<(), Fail> {
     let alloc = rt.alloc();
     let mut import = metadata(alloc, 3);
-    for _ in 0..6 {
-        import.queue(mkdir(alloc, b"a")?)?;
-    }
+    import.queue(mkdir(alloc, b"a")?)?;
+    import.queue(mkdir(alloc, b"a")?)?;
+    import.queue(mkdir(alloc, b"a")?)?;
+    import.queue(mkdir(alloc, b"a")?)?;
+    import.queue(mkdir(alloc, b"a")?)?;
+    import.queue(mkdir(alloc, b"a")?)?;
     sends(&rt, alloc, &mut import, Some((1, 0)))?;
     sends(&rt, alloc, &mut import, Some((2, 1)))?;
     sends(&rt, alloc, &mut import, Some((3, 2)))?;
@@ -136,9 +139,10 @@ fn tags_are_the_least_that_are_free(rt: HostRuntime) -> Result<(), Fail> {
 fn at_an_object_target_the_front_waits_for_its_object(rt: HostRuntime) -> Result<(), Fail> {
     let alloc = rt.alloc();
     let mut import = Import::new(alloc, TargetId(1), FIRST, 1, 8);
-    for op in [size(2, 0), size(2, 0), size(2, 1), size(3, 0)] {
-        import.queue(op)?;
-    }
+    import.queue(size(2, 0))?;
+    import.queue(size(2, 0))?;
+    import.queue(size(2, 1))?;
+    import.queue(size(3, 0))?;
     sends(&rt, alloc, &mut import, Some((1, 0)))?;
     sends(&rt, alloc, &mut import, None)?;
     hears(&rt, alloc, &mut import, 1, true)?;
