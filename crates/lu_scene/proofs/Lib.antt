@@ -16,3 +16,4 @@ pub mod Graphic
 pub mod Splitting
 pub mod RoundTrip
 pub mod Numbering
+pub mod Rows
