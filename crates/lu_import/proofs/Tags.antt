@@ -1,11 +1,10 @@
 -- Requests that have all tags below a number are at least that many.
 use Rattle.std.proofs.Common.{◌≡◌, ◌≢◌, ℕ, zero, suc, ◌+◌, ◌<◌, ◌≤◌, ◌==◌, ◌||◌, Bool, true, false, not, cond, List, [], ◌∷◌, length, filter, ◌⊎◌, inl, inr, refl, sym, subst, arith}
-use Rattle.std.specs.List.{list_any}
 use Rattle.std.proofs.lemmas.Grind.{common_steps}
 use Rattle.std.proofs.lemmas.Bool.Decides.{nat_tests}
 use Rattle.std.proofs.lemmas.Bool.{cases_lt}
 use Rattle.lu_import.specs.declared.requests.InFlight.{InFlight}
-use Rattle.lu_import.specs.InFlights.{has_tag, IsLeastFree}
+use Rattle.lu_import.specs.InFlights.{has_tag}
 
 -- the requests of other tags
 other_tags : ℕ → List InFlight → List InFlight

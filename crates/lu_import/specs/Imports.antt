@@ -1,6 +1,6 @@
--- A client's side of one target (Lustre Operations Manual, recovery: the import; tags and the limit on
--- requests in flight as in Lustre's multiple modifying requests; the numbers are this project's profile).
-use Rattle.std.specs.Prelude.{◌≡◌, ◌≢◌, ℕ, ◌+◌, ◌<◌, ◌≤◌, ◌==◌, ◌&&◌, Bool, true, false, not, List, [], ◌∷◌, ◌++◌, length, All, AllPairs, ◌⊎◌}
+-- A client's side of one target (Lustre Operations Manual, recovery, and multiple modifying requests in flight with
+-- their tags; the order of the queue is this project's profile).
+use Rattle.std.specs.Prelude.{◌≡◌, ◌≢◌, ℕ, ◌+◌, ◌<◌, ◌≤◌, ◌==◌, ◌&&◌, Bool, true, false, List, [], ◌∷◌, ◌++◌, length, All, AllPairs, ◌⊎◌}
 use Rattle.lu_base.specs.declared.ids.TargetId.{TargetId}
 use Rattle.lu_base.specs.declared.ids.Who.{Who}
 use Rattle.lu_base.specs.declared.ids.Node.TheVariants.{Target}

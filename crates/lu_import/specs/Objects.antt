@@ -1,6 +1,6 @@
 -- The object that an operation of an object storage target is on. At such a target a request waits while
 -- another on its object is in flight (this project's profile).
-use Rattle.std.specs.Prelude.{Bool, true, false, ◌==◌, ◌&&◌, Option, Some, None}
+use Rattle.std.specs.Prelude.{Bool, false, ◌==◌, ◌&&◌, Option, Some, None}
 use Rattle.lu_base.specs.declared.locks.Resource.{Resource}
 use Rattle.lu_msg.specs.declared.operations.Op.{Op}
 use Rattle.lu_msg.specs.declared.operations.Op.TheVariants.{Enqueue, Get, Put, Cut, Size}

@@ -49,6 +49,16 @@ fn reply(alloc: Global, who: Who, boot: u32, number: u64) -> Reply {
     }
 }
 
+/// Three operations on one name wait to be sent.
+fn waits(alloc: Global, import: &mut Import) -> Result<(), Memory>
+    ensures { import.new.last ≡ import.old.last }
+{
+    import.queue(mkdir(alloc, b"a")?)?;
+    import.queue(mkdir(alloc, b"a")?)?;
+    import.queue(mkdir(alloc, b"a")?)?;
+    Ok(())
+}
+
 /// The next message is a request with this number and tag, or none.
 fn sends(
     rt: &impl Abort,
@@ -104,12 +114,8 @@ fn one_request_goes_and_its_reply_comes_twice(rt: HostRuntime) -> Result<(), Fai
 fn tags_are_the_least_that_are_free(rt: HostRuntime) -> Result<(), Fail> {
     let alloc = rt.alloc();
     let mut import = metadata(alloc, 3);
-    import.queue(mkdir(alloc, b"a")?)?;
-    import.queue(mkdir(alloc, b"a")?)?;
-    import.queue(mkdir(alloc, b"a")?)?;
-    import.queue(mkdir(alloc, b"a")?)?;
-    import.queue(mkdir(alloc, b"a")?)?;
-    import.queue(mkdir(alloc, b"a")?)?;
+    waits(alloc, &mut import)?;
+    waits(alloc, &mut import)?;
     sends(&rt, alloc, &mut import, Some((1, 0)))?;
     sends(&rt, alloc, &mut import, Some((2, 1)))?;
     sends(&rt, alloc, &mut import, Some((3, 2)))?;

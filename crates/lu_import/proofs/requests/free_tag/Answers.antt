@@ -1,5 +1,5 @@
 -- The requests are at least as many as the tags that are taken from 0 on.
-use Rattle.std.proofs.Common.{◌≡◌, ◌+◌, ◌≤◌, ◌∙◌, length, sym, arith}
+use Rattle.std.proofs.Common.{◌+◌, ◌≤◌, ◌∙◌, length, sym, arith}
 use Rattle.lu_import.proofs.Tags.{taken_below, taken_with}
 use Rattle.lu_import.proofs.requests.free_tag.Goals as goal
 

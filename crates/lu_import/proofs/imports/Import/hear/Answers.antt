@@ -2,7 +2,6 @@
 use Rattle.std.proofs.Common.{◌≡◌, Bool, true, false, ◌&&◌, refl, rules}
 use Rattle.std.proofs.lemmas.Fn.{filter_same}
 use Rattle.lu_import.specs.InFlights.{without}
-use Rattle.lu_import.specs.Imports.{ImportState}
 use Rattle.lu_import.proofs.Soundness.{none_left, sound_heard}
 use Rattle.lu_import.proofs.imports.Import.hear.Goals as goal
 

@@ -1,5 +1,5 @@
 -- The requests in flight and the one that is sent are sound together.
-use Rattle.std.proofs.Common.{◌≡◌, ◌+◌, ◌<◌, ◌≤◌, ◌∙◌, ◌∷◌, [], ◌++◌, length, false, refl, sym, ap, arith}
+use Rattle.std.proofs.Common.{◌≡◌, ◌+◌, ◌<◌, ◌≤◌, ◌∙◌, ◌∷◌, [], ◌++◌, length, false, refl, sym, arith}
 use Rattle.lu_import.specs.InFlights.{has_tag, front_waits}
 use Rattle.lu_import.proofs.Soundness.{sound_sent}
 use Rattle.lu_import.proofs.imports.Import.next.Goals as goal
