@@ -1,6 +1,6 @@
 //! The messages between the nodes, and the trace so far.
 
-ghost use Rattle.std.specs.Prelude.{◌≡◌, ◌+◌, ◌^◌, ◌<◌, ◌↔◌, [], ◌∷◌, ◌++◌, length, IsTrue, IfSome, OnOk, OnErr};
+ghost use Rattle.std.specs.Prelude.{◌≡◌, ◌+◌, ◌^◌, ◌<◌, ◌↔◌, [], ◌∷◌, ◌++◌, length, IsTrue, IfSome, IfNone, OnOk, OnErr};
 ghost use Rattle.std.specs.Option.{option_to_list};
 ghost use Rattle.lu_top.specs.Numbering.{last_after, numbered_line, last_after_all, numbered_lines, numbered_posts};
 
@@ -59,6 +59,7 @@ impl Wire {
     /// Takes the message of the least number.
     pub fn take(&mut self) -> Option<Sent>
         ensures first { self.old.under_way.items ≡ option_to_list result ++ self.new.under_way.items }
+        ensures none { IfNone result (self.old.under_way.items ≡ []) }
         ensures messages { self.new.messages ≡ self.old.messages }
         ensures entries { self.new.entries ≡ self.old.entries }
     {
