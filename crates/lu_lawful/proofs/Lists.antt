@@ -1,0 +1,68 @@
+-- Facts of tests, turns and lists.
+use Rattle.std.proofs.Common.{◌≡◌, ◌≢◌, ℕ, ◌+◌, ◌<◌, ◌≤◌, Bool, true, false, cond, List, [], ◌∷◌, ◌++◌, Option, Some, None, ◌⊎◌, inl, inr, ⊎_elim, eqb, refl, sym, subst, ap, ◌∙◌, arith}
+use Rattle.std.specs.Prelude.{nat_eq, nat_lt, not, ◌&&◌, ◌||◌, ◌==◌, length}
+use Rattle.std.specs.List.{filter}
+use Rattle.std.proofs.lemmas.Bool.{and_from, cond_both, cond-true, cond-false, eqb-true, eq-eqb, ltb-true, ltb-false, and_parts, not-true}
+use Rattle.std.proofs.lemmas.Bool.Decides.{nat_tests}
+use Rattle.lu_base.specs.declared.ids.At.{At}
+use Rattle.lu_base.specs.declared.ids.Node.{Node}
+use Rattle.lu_base.specs.declared.ids.Node.TheVariants.{Client, Target}
+use Rattle.lu_base.specs.declared.ids.Who.{Who}
+use Rattle.lu_table.specs.Words.{node_before, turn_before, same_life}
+use Rattle.lu_lawful.proofs.Guards.{In}
+
+pub self : (n : ℕ) → nat_eq n n ≡ true
+self n = eq-eqb n n refl
+
+-- ---- lists
+
+pub in_append : {A : Type 0} (x : A) (xs ys : List A) → In x (xs ++ ys) → In x xs ⊎ In x ys
+in_append x [] ys i = inr i
+in_append x (y ∷ xs) ys (inl e) = inl (inl e)
+in_append x (y ∷ xs) ys (inr i) = ⊎_elim (λ (j : In x xs). inl (inr j)) (λ (j : In x ys). inr j) (in_append x xs ys i)
+
+pub in_left : {A : Type 0} (x : A) (xs ys : List A) → In x xs → In x (xs ++ ys)
+in_left x [] ys i = absurd i
+in_left x (y ∷ xs) ys (inl e) = inl e
+in_left x (y ∷ xs) ys (inr i) = inr (in_left x xs ys i)
+
+pub in_right : {A : Type 0} (x : A) (xs ys : List A) → In x ys → In x (xs ++ ys)
+in_right x [] ys i = i
+in_right x (y ∷ xs) ys i = inr (in_right x xs ys i)
+
+pub in_filter : {A : Type 0} (f : A → Bool) (x : A) (xs : List A) → In x (filter f xs) → In x xs × (f x ≡ true)
+in_filter f x [] i = absurd i
+in_filter {A} f x (y ∷ ys) i =
+    cond_both (f y) (y ∷ filter f ys) (filter f ys) (λ (zs : List A). In x zs → In x (y ∷ ys) × (f x ≡ true))
+    (λ t j. ⊎_elim (λ (e : y ≡ x). (inl e, ap f (sym e) ∙ t)) (λ (k : In x (filter f ys)). let r = in_filter f x ys k in (inr r.0, r.1)) j)
+    (λ t j. let r = in_filter f x ys j in (inr r.0, r.1))
+    i
+
+-- ---- turns
+
+node_trans : (a b c : Node) → node_before a b ≡ true → node_before b c ≡ true → node_before a c ≡ true
+node_trans (Client a) (Client b) (Client c) p q = grind (arith, nat_tests)
+node_trans (Client a) (Client b) (Target c) p q = refl
+node_trans (Client a) (Target b) (Client c) p q = absurd (cc)
+node_trans (Client a) (Target b) (Target c) p q = refl
+node_trans (Target a) (Client b) c p q = absurd (cc)
+node_trans (Target a) (Target b) (Client c) p q = absurd (cc)
+node_trans (Target a) (Target b) (Target c) p q = grind (arith, nat_tests)
+
+node_irreflexive : (a : Node) → node_before a a ≡ true → ⊥
+node_irreflexive (Client a) p = grind (arith, nat_tests)
+node_irreflexive (Target a) p = grind (arith, nat_tests)
+
+pub turn_trans : (a b c : At) → turn_before a b ≡ true → turn_before b c ≡ true → turn_before a c ≡ true
+turn_trans a b c p q = grind (arith, nat_tests, node_trans a.node b.node c.node)
+
+pub turn_irreflexive : (a : At) → turn_before a a ≡ true → ⊥
+turn_irreflexive a p = grind (arith, nat_tests, node_irreflexive a.node)
+
+abbrev pub who : ℕ → ℕ → Who
+who client life = record { client = client; life = life }
+
+pub life_is : (a b : Who) → same_life a b ≡ true → a ≡ b
+life_is a b t =
+    let p = and_parts (nat_eq a.client b.client) (nat_eq a.life b.life) t in
+    ap (λ (c : ℕ). who c a.life) (eqb-true a.client b.client p.0) ∙ ap (λ (l : ℕ). who b.client l) (eqb-true a.life b.life p.1)

@@ -1,0 +1,2 @@
+//! The theorem: the printed trace of every run of the table is lawful.
+#![tactic(auto)]

@@ -1,0 +1,9 @@
+pub mod Words
+pub mod Sent
+pub mod Calls
+pub mod Imports
+pub mod Targets
+pub mod ClientRows
+pub mod TargetRows
+pub mod Printed
+pub mod Runs
