@@ -1,3 +1,6 @@
 pub mod Guards
 pub mod Lists
 pub mod Obey
+pub mod Base
+pub mod Asks
+pub mod Served

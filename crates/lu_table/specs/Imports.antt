@@ -1,6 +1,6 @@
 -- What a client asks of one target (Lustre Operations Manual, recovery: the import): operations that wait in
 -- a queue, and requests in flight, each with a number of its own and a tag that no other has.
-use Rattle.std.specs.Prelude.{ℕ, ◌+◌, Bool, false, not, ◌==◌, ◌&&◌, ◌||◌, if◌then◌else◌, List, [], ◌∷◌, ◌++◌}
+use Rattle.std.specs.Prelude.{ℕ, zero, suc, max, ◌+◌, Bool, false, not, ◌==◌, ◌&&◌, ◌||◌, if◌then◌else◌, List, [], ◌∷◌, ◌++◌}
 use Rattle.std.specs.List.{filter}
 use Rattle.lu_base.specs.declared.ids.Node.{Node}
 use Rattle.lu_table.specs.Words.{Queued, Flight, Entry, Queues, Flies, Heard, Line, is_client}
@@ -44,10 +44,15 @@ abbrev pub has_tag : ℕ → List Flight → Bool
 has_tag tag [] = false
 has_tag tag (f ∷ flights) = f.tag == tag || has_tag tag flights
 
--- the least tag from this one on that no request in flight has; as many tags are looked at as requests fly
-abbrev pub free_from : List Flight → List Flight → ℕ → ℕ
-free_from [] flights tag = tag
-free_from (f ∷ more) flights tag = if has_tag tag flights then free_from more flights (tag + 1) else tag
+-- above all tags in flight
+abbrev pub above_tags : List Flight → ℕ
+above_tags [] = 0
+above_tags (f ∷ flights) = max (f.tag + 1) (above_tags flights)
+
+-- the least tag from this one on that no request in flight has, among so many and the one after them
+abbrev pub free_from : ℕ → List Flight → ℕ → ℕ
+free_from zero flights tag = tag
+free_from (suc more) flights tag = if has_tag tag flights then free_from more flights (tag + 1) else tag
 
 abbrev pub free_tag : List Flight → ℕ
-free_tag flights = free_from flights flights 0
+free_tag flights = free_from (above_tags flights) flights 0
