@@ -20,7 +20,8 @@ use Rattle.lu_trace.specs.declared.entries.Line.{Line}
 use Rattle.lu_machine.specs.Tree.{same_life}
 use Rattle.lu_laws.specs.Pasts.{Past, is_target, UpTo, TookIn, HeardIn}
 use Rattle.lu_laws.specs.Sends.{Sent}
-use Rattle.lu_laws.specs.Lives.{life, who_is, is_evicted}
+use Rattle.lu_laws.specs.Lives.{life, who_is, is_evicted, is_gone}
+use Rattle.lu_laws.specs.Lost.{is_lost}
 use Rattle.lu_laws.specs.Requests.{first_request, asked, in_flight, same_object}
 use Rattle.lu_laws.specs.Calls.{Begun, open_call, is_bad, operation}
 
@@ -155,3 +156,6 @@ ActsAt out lost whole past l _ = Unit {0}
 abbrev pub ActsOf : (Who → Bool) → (ℕ → ℕ → Bool) → Past → Past → Type 0
 ActsOf out lost whole [] = Unit {0}
 ActsOf out lost whole (l ∷ past) = ActsAt out lost whole past l l.entry × ActsOf out lost whole past
+
+abbrev pub Acts : Past → Type 0
+Acts whole = ActsOf (is_gone whole) (is_lost whole) whole whole

@@ -34,10 +34,10 @@ open_call c slot (l ∷ past) =
 
 -- ---- handles
 
--- what a handle stands for: the file, and the transaction that opened it
+-- what a handle stands for: the file, and the transaction that opened it, where the turn that was named has one
 pub record Binding : Type 0 where
   pub fid : Fid
-  pub number : TxnOf
+  pub number : Option TxnOf
 
 -- the request number that was heard in the turn at the metadata target
 abbrev pub heard_in : Past → At → Option ℕ
@@ -59,8 +59,8 @@ number_heard past turn who None = None
 number_heard past turn who (Some x) = number_in past turn who x
 
 abbrev pub bound : Answer → Option TxnOf → Option Binding → Option Binding
-bound (told.Made fid) (Some number) old = Some (record { fid = fid; number = number })
-bound _ _ old = old
+bound (told.Made fid) number old = Some (record { fid = fid; number = number })
+bound _ number old = old
 
 -- a told `open` of this handle binds it, where the answer is `ok`
 abbrev pub told_binding : ℕ → Option Call → Answer → Option TxnOf → Option Binding → Option Binding
@@ -107,7 +107,16 @@ is_bad c past _ = false
 
 -- ---- operations
 
--- what a call is for the metadata target; of a `close` it is the binding of its handle
+abbrev pub close_of : Fid → Option TxnOf → Option Op
+close_of fid None = None
+close_of fid (Some number) = Some (op.Close number fid)
+
+abbrev pub closes : Option Binding → Option Op
+closes None = None
+closes (Some b) = close_of b.fid b.number
+
+-- what a call is for the metadata target: a `create` without numbers has the defaults (Lustre Operations Manual, striping),
+-- and a `close` is of what its handle is bound to
 abbrev pub operation_on : Call → (ℕ → Option Binding) → Option Op
 operation_on (call.Lookup path) handles = Some (op.Lookup path)
 operation_on (call.Stat path) handles = Some (op.Stat path)
@@ -122,7 +131,7 @@ operation_on (call.Rmdir path) handles = Some (op.Rmdir path)
 operation_on (call.Rename old new) handles = Some (op.Rename old new)
 operation_on (call.Chmod path mode) handles = Some (op.Chmod path mode)
 operation_on (call.Open h path) handles = Some (op.Open path)
-operation_on (call.Close h) handles = option_map (λ b. op.Close b.number b.fid) (handles h)
+operation_on (call.Close h) handles = closes (handles h)
 operation_on _ handles = None
 
 -- the operation of a call of a client: handles are those at its `begin`
