@@ -1,0 +1,16 @@
+pub mod Pasts
+pub mod Sends
+pub mod Lives
+pub mod Requests
+pub mod Calls
+pub mod Messages
+pub mod Boots
+pub mod Lost
+pub mod Standing
+pub mod Seen
+pub mod Acts
+pub mod Recovery
+pub mod Pieces
+pub mod Histories
+pub mod History
+pub mod Laws

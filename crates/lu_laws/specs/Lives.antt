@@ -1,0 +1,33 @@
+-- The lives of clients: a client's life is 1 until a `life` line of its own names another. A life is gone where some
+-- target evicted it.
+use Rattle.std.specs.Prelude.{ℕ, Bool, true, false, ◌&&◌, if◌then◌else◌, [], ◌∷◌}
+use Rattle.lu_base.specs.declared.ids.Who.{Who}
+use Rattle.lu_trace.specs.declared.entries.Entry.TheVariants.{Life, Evict}
+use Rattle.lu_machine.specs.Tree.{same_life}
+use Rattle.lu_laws.specs.Pasts.{Past, is_client, is_target, is_some_target}
+
+abbrev pub life : ℕ → Past → ℕ
+life c [] = 1
+life c (l ∷ past) = elim l.entry [ Life who ↦ if is_client c l.at.node then who.life else life c past | _ ↦ life c past ]
+
+-- the client with its present life
+abbrev pub who_is : ℕ → Past → Who
+who_is c past = record { client = c; life = life c past }
+
+-- the target evicted that life
+abbrev pub is_evicted : ℕ → Past → Who → Bool
+is_evicted t [] who = false
+is_evicted t (l ∷ past) who =
+    elim l.entry [
+      | Evict other cause ↦ if is_target t l.at.node && same_life other who then true else is_evicted t past who
+      | _ ↦ is_evicted t past who
+    ]
+
+-- some target evicted it
+abbrev pub is_gone : Past → Who → Bool
+is_gone [] who = false
+is_gone (l ∷ past) who =
+    elim l.entry [
+      | Evict other cause ↦ if is_some_target l.at.node && same_life other who then true else is_gone past who
+      | _ ↦ is_gone past who
+    ]

@@ -1,0 +1,128 @@
+-- Where the bytes that reach an object come from: what a life wrote or cut, and was told, before the request was first
+-- sent. Where they lie is told by the layout in the first `open` reply of that file that the life heard.
+use Rattle.std.specs.Prelude.{◌≡◌, ℕ, ◌+◌, ◌-◌, ◌<◌, ◌≤◌, Bool, true, false, ◌==◌, ◌&&◌, ◌⊎◌, if◌then◌else◌, Option, Some, None, List, [], ◌∷◌, length, slice_get}
+use Rattle.lu_base.specs.declared.ids.Fid.{Fid}
+use Rattle.lu_base.specs.declared.ids.Node.{Node}
+use Rattle.lu_base.specs.declared.ids.Node.TheVariants.{Client}
+use Rattle.lu_base.specs.declared.ids.Who.{Who}
+use Rattle.lu_base.specs.declared.locks.Resource.{Resource}
+use Rattle.lu_layout.specs.Raid0.{Raid0, position_of, below_of}
+use Rattle.lu_msg.specs.declared.answers.Answer.{Answer}
+use Rattle.lu_msg.specs.declared.answers.Answer.TheVariants as told
+use Rattle.lu_msg.specs.declared.calls.Call.{Call}
+use Rattle.lu_msg.specs.declared.calls.Call.TheVariants as call
+use Rattle.lu_msg.specs.declared.operations.Op.{Op}
+use Rattle.lu_msg.specs.declared.operations.Op.TheVariants as op
+use Rattle.lu_msg.specs.declared.messages.Message.{Message}
+use Rattle.lu_msg.specs.declared.messages.Message.TheVariants.{Request, Reply}
+use Rattle.lu_trace.specs.declared.entries.Entry.TheVariants.{Send, Heard, Told}
+use Rattle.lu_machine.specs.Tree.{same_fid}
+use Rattle.lu_laws.specs.Pasts.{Past, is_client}
+use Rattle.lu_laws.specs.Sends.{took}
+use Rattle.lu_laws.specs.Lives.{life}
+use Rattle.lu_laws.specs.Requests.{or_else, is_of, object}
+use Rattle.lu_laws.specs.Calls.{Begun, open_call, file_of}
+
+-- ---- the layout that a life knows of a file
+
+abbrev pub answered_layout : Fid → Answer → Option Raid0
+answered_layout fid (told.OpenFile other number layout) = if same_fid other fid then Some layout else None
+answered_layout fid _ = None
+
+abbrev pub carried_layout : Fid → Option Message → Option Raid0
+carried_layout fid (Some (Reply r)) = answered_layout fid r.answer
+carried_layout fid _ = None
+
+abbrev pub layout_heard : Who → Fid → Past → Option Raid0
+layout_heard who fid [] = None
+layout_heard who fid (l ∷ past) =
+    elim l.entry [
+      | Heard target xid ↦ if is_client who.client l.at.node && life who.client past == who.life then or_else (layout_heard who fid past) (carried_layout fid (took past l.at)) else layout_heard who fid past
+      | _ ↦ layout_heard who fid past
+    ]
+
+-- ---- the past before the first request of that target, life and request number
+
+abbrev pub starts_with : Option Past → ℕ → Who → ℕ → Past → Node → Message → Option Past
+starts_with before t who x past to (Request r) = or_else before (if is_of t who to r && r.xid.0 == x then Some past else None)
+starts_with before t who x past to _ = before
+
+abbrev pub before_request : ℕ → Who → ℕ → Past → Option Past
+before_request t who x [] = None
+before_request t who x (l ∷ past) =
+    elim l.entry [
+      | Send number to message ↦ starts_with (before_request t who x past) t who x past to message
+      | _ ↦ before_request t who x past
+    ]
+
+-- ---- told writes and cuts
+
+-- the call wrote this byte at this position of the file
+abbrev pub IsWrite : Fid → ℕ → ℕ → ℕ → Begun → Call → Type 0
+IsWrite fid position byte c begun (call.Write h offset bytes) =
+    (file_of c begun h ≡ Some fid) × (offset ≤ position) × (slice_get bytes (position - offset) ≡ Some byte)
+IsWrite fid position byte c begun _ = ⊥
+
+-- the call cut the file to a size of which this many positions lie on the stripe
+abbrev pub IsCut : Fid → Raid0 → ℕ → ℕ → ℕ → Begun → Call → Type 0
+IsCut fid layout stripe below c begun (call.Cut h size) = (file_of c begun h ≡ Some fid) × (below_of layout stripe size ≡ below)
+IsCut fid layout stripe below c begun _ = ⊥
+
+-- the `told` line is of that life, and answers `ok` to a call of this kind
+pub record IsTold (past : Past) (who : Who) (node : Node) (slot : ℕ) (answer : Answer) (Kind : Begun → Type 0) : Type 0 where
+  pub client : node ≡ Client who.client
+  pub alive : life who.client past ≡ who.life
+  pub begun : Begun
+  pub stands : open_call who.client slot past ≡ Some begun
+  pub done : answer ≡ told.Done
+  pub kind : Kind begun
+
+abbrev pub ToldOf : Who → (Begun → Type 0) → Past → Type 0
+ToldOf who Kind [] = ⊥
+ToldOf who Kind (l ∷ past) =
+    elim l.entry [
+      | Told slot turn answer ↦ IsTold past who l.at.node slot answer Kind ⊎ ToldOf who Kind past
+      | _ ↦ ToldOf who Kind past
+    ]
+
+abbrev pub Wrote : Who → Fid → ℕ → ℕ → Past → Type 0
+Wrote who fid position byte past = ToldOf who (λ begun. IsWrite fid position byte who.client begun begun.call) past
+
+abbrev pub CutTo : Who → Fid → Raid0 → ℕ → ℕ → Past → Type 0
+CutTo who fid layout stripe below past = ToldOf who (λ begun. IsCut fid layout stripe below who.client begun begun.call) past
+
+-- ---- what a request may carry
+
+-- a byte at an offset of the object: written there, or the 0 at the end of a stripe that was cut
+abbrev pub ByteFrom : Who → Resource → Raid0 → ℕ → ℕ → Past → Type 0
+ByteFrom who resource layout offset byte past =
+    Wrote who resource.fid (position_of layout resource.stripe offset) byte past
+    ⊎ ((byte ≡ 0) × CutTo who resource.fid layout resource.stripe (offset + 1) past)
+
+abbrev pub BytesFrom : Who → Resource → Raid0 → ℕ → List ℕ → Past → Type 0
+BytesFrom who resource layout offset [] past = Unit {0}
+BytesFrom who resource layout offset (b ∷ bs) past =
+    ByteFrom who resource layout offset b past × BytesFrom who resource layout (offset + 1) bs past
+
+abbrev pub PieceOf : Who → Raid0 → Op → Past → Type 0
+PieceOf who layout (op.Put resource cookie offset bytes) past = BytesFrom who resource layout offset bytes past
+PieceOf who layout (op.Cut resource cookie size) past = CutTo who resource.fid layout resource.stripe size past
+PieceOf who layout _ past = Unit {0}
+
+-- it is a cut, or puts bytes
+abbrev pub is_piece : Op → Bool
+is_piece (op.Put resource cookie offset (b ∷ bs)) = true
+is_piece (op.Cut resource cookie size) = true
+is_piece _ = false
+
+-- at a transaction of an object storage target, with the past before its line: what it carries came from the life's own
+-- calls, told before its request was first sent, and lies on a stripe of the layout that the life heard
+pub record PieceAt (past : Past) (t : ℕ) (who : Who) (x : ℕ) (o : Op) : Type 0 where
+  pub resource : Resource
+  pub object : object o ≡ Some resource
+  pub layout : Raid0
+  pub opened : layout_heard who resource.fid past ≡ Some layout
+  pub stripe : resource.stripe < length layout.targets
+  pub before : Past
+  pub sent : before_request t who x past ≡ Some before
+  pub carried : PieceOf who layout o before
