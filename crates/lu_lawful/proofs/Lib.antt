@@ -4,3 +4,4 @@ pub mod Obey
 pub mod Base
 pub mod Asks
 pub mod Served
+pub mod Facts

@@ -1,0 +1,38 @@
+-- What the laws rest on, line by line: the operation of each deed is that of the first request sent with its
+-- number, and what is told is the answer of a deed that is heard in that turn.
+use Rattle.std.proofs.Common.{◌≡◌, ℕ, false, List, [], ◌∷◌, Some}
+use Rattle.lu_base.specs.declared.ids.At.{At}
+use Rattle.lu_base.specs.declared.ids.Node.{Node}
+use Rattle.lu_base.specs.declared.ids.Node.TheVariants.{Client, Target}
+use Rattle.lu_base.specs.declared.ids.Who.{Who}
+use Rattle.lu_msg.specs.declared.answers.Answer.{Answer}
+use Rattle.lu_table.specs.Words.{Deed, Entry, Told, Act, Txn as Made, Line}
+use Rattle.lu_table.specs.Printed.{printed}
+use Rattle.lu_laws.specs.Pasts.{HeardIn, same_turn}
+use Rattle.lu_laws.specs.Requests.{asked}
+use Rattle.lu_lawful.proofs.Base.{Acted}
+use Rattle.lu_lawful.proofs.Served.{first_life}
+
+abbrev pub AskedAt : List Line → Deed → Type 0
+AskedAt past d = asked (printed past) 0 d.reply.who d.reply.xid.0 ≡ Some d.op
+
+abbrev pub AllAsked : List Line → Type 0
+AllAsked [] = Unit {0}
+AllAsked (l ∷ past) = elim l.entry [ Act d ↦ AskedAt past d × AllAsked past | Made d ↦ AskedAt past d × AllAsked past | _ ↦ AllAsked past ]
+
+abbrev pub TellsAt : List Line → At → Node → At → Answer → Type 0
+TellsAt past at (Client c) named given =
+    record {
+      deed : Deed;
+      acted : Acted past deed;
+      who : deed.reply.who ≡ first_life c;
+      turn : deed.reply.at ≡ named;
+      answer : deed.reply.answer ≡ given;
+      heard : HeardIn (printed past) at 0 deed.reply.xid.0;
+      other : same_turn named at ≡ false;
+    }
+TellsAt past at (Target t) named given = Unit {0}
+
+abbrev pub AllTold : List Line → Type 0
+AllTold [] = Unit {0}
+AllTold (l ∷ past) = elim l.entry [ Told slot turn answer ↦ TellsAt past l.at l.at.node turn answer × AllTold past | _ ↦ AllTold past ]
