@@ -6,3 +6,5 @@ pub mod Asks
 pub mod Served
 pub mod Facts
 pub mod Timed
+pub mod All
+pub mod Printed
