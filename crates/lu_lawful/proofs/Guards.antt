@@ -21,7 +21,7 @@ use Rattle.lu_table.specs.Imports.{queue_of, flights_of, last_of}
 use Rattle.lu_table.specs.Targets.{tree_of, slot_of, server_of, next_number}
 use Rattle.lu_table.specs.ClientRows.{knows_of, next_flight}
 use Rattle.lu_table.specs.TargetRows.{asked, none, deed, again}
-use Rattle.lu_table.specs.Runs.{Head, IsAlive, IsAsked}
+use Rattle.lu_table.specs.Runs.{Head, IsAlive, IsAsked, HasNumbers}
 
 abbrev pub In : {A : Type 0} → A → List A → Type 0
 In x [] = ⊥
@@ -126,6 +126,7 @@ pub record ActOk (osts : ℕ) (past : List Line) (at : At) (d : Deed) : Type 0 w
   pub is : d ≡ deed osts (server_of osts past) at request none
 
 pub record TxnOk (osts : ℕ) (past : List Line) (at : At) (d : Deed) : Type 0 where
+  pub numbers : HasNumbers past
   pub request : RequestOf
   pub executes : ExecutesOk past at request
   pub moves : changes osts (tree_of osts past) (asked request none) ≡ true

@@ -23,7 +23,7 @@ use Rattle.lu_table.specs.ClientRows as client
 use Rattle.lu_table.specs.ClientRows.{Asker, asker_of, knows_of, next_flight, row_sent, row_sends, row_asks, row_begins, row_call_at, find_flight, row_hears, row_reply, row_resends}
 use Rattle.lu_table.specs.TargetRows as target
 use Rattle.lu_table.specs.TargetRows.{asked, none, deed, again, reply_to, row_executes, row_known, row_request}
-use Rattle.lu_table.specs.Runs.{Head, IsAlive, IsAsked, MayBegin, MayCome, Meets, Event, Begins, Comes, Ticks, Dies, row, IsRow, Turn, with_turn, lines_of, Follows, IsRun}
+use Rattle.lu_table.specs.Runs.{Head, IsAlive, IsAsked, MayBegin, MayCome, HasNumbers, Meets, Event, Begins, Comes, Ticks, Dies, row, IsRow, Turn, with_turn, lines_of, Follows, IsRun}
 use Rattle.lu_lawful.proofs.Guards.{In, line, request, Later, Steps, BeginOk, QueuesOk, FliesOk, AskOk, ReplyOk, TakeOk, HeardOk, ToldOk, IsNewer, ExecutesOk, ActOk, TxnOk, Allowed, Grown}
 use Rattle.lu_lawful.proofs.Lists.{self, in_right, life_is, turn_trans}
 
@@ -209,13 +209,13 @@ module _ (head : Head) (stamp : Stamp) where
   abbrev there : At
   there = record { stamp = stamp; node = Target 0 }
 
-  executes_ok : (past : List Line) (n : ℕ) (r : RequestOf) (t : Bool) → IsNewer (slot_of r.who r.tag past) r → changes head.osts (tree_of head.osts past) (asked r none) ≡ t
+  executes_ok : (past : List Line) → HasNumbers past → (n : ℕ) (r : RequestOf) (t : Bool) → IsNewer (slot_of r.who r.tag past) r → changes head.osts (tree_of head.osts past) (asked r none) ≡ t
       → AllAllowed head (line there (Take n (message.Request r)) ∷ past) there (row_executes head.osts (server_of head.osts past) there r t)
-  executes_ok past n r true newer e =
+  executes_ok past has n r true newer e =
       let v = server_of head.osts past in
       let d = deed head.osts v there r (next_number v) in
       (
-        record { steps = inl refl; lives = tt; ok = (refl, record { request = r; executes = record { number = n; before = past; newest = refl; newer = newer }; moves = e; is = refl }) },
+        record { steps = inl refl; lives = tt; ok = (refl, record { request = r; executes = record { number = n; before = past; newest = refl; newer = newer }; numbers = has; moves = e; is = refl }) },
         (
           record { steps = inl refl; lives = tt; ok = (refl, record { who = r.who; tag = r.tag; kept = d.reply; slot = cond-true (same_life r.who r.who && nat_eq r.tag r.tag) _ _ (own r); is = refl; to = refl }) },
           tt,
@@ -224,7 +224,7 @@ module _ (head : Head) (stamp : Stamp) where
     where
       own : (r : RequestOf) → same_life r.who r.who && nat_eq r.tag r.tag ≡ true
       own r = rw (same_self r.who, self r.tag) refl
-  executes_ok past n r false newer e =
+  executes_ok past has n r false newer e =
       let v = server_of head.osts past in
       let d = deed head.osts v there r none in
       (
@@ -238,21 +238,21 @@ module _ (head : Head) (stamp : Stamp) where
       own : (r : RequestOf) → same_life r.who r.who && nat_eq r.tag r.tag ≡ true
       own r = rw (same_self r.who, self r.tag) refl
 
-  known_ok : (past : List Line) (n : ℕ) (r : RequestOf) (k : ReplyTo) (more same : Bool) → slot_of r.who r.tag past ≡ Some k → nat_lt k.xid.0 r.xid.0 ≡ more
+  known_ok : (past : List Line) → HasNumbers past → (n : ℕ) (r : RequestOf) (k : ReplyTo) (more same : Bool) → slot_of r.who r.tag past ≡ Some k → nat_lt k.xid.0 r.xid.0 ≡ more
       → AllAllowed head (line there (Take n (message.Request r)) ∷ past) there (row_known head.osts (server_of head.osts past) there r k more same)
-  known_ok past n r k true same e l = executes_ok past n r (changes head.osts (tree_of head.osts past) (asked r none)) (subst (λ o. IsNewer o r) (sym e) (ltb-true k.xid.0 r.xid.0 l)) refl
-  known_ok past n r k false true e l =
+  known_ok past has n r k true same e l = executes_ok past has n r (changes head.osts (tree_of head.osts past) (asked r none)) (subst (λ o. IsNewer o r) (sym e) (ltb-true k.xid.0 r.xid.0 l)) refl
+  known_ok past has n r k false true e l =
       (record { steps = inl refl; lives = tt; ok = (refl, record { who = r.who; tag = r.tag; kept = k; slot = e; is = refl; to = refl }) }, tt)
-  known_ok past n r k false false e l = tt
+  known_ok past has n r k false false e l = tt
 
-  request_ok : (past : List Line) (n : ℕ) (r : RequestOf) (o : Option ReplyTo) → slot_of r.who r.tag past ≡ o
+  request_ok : (past : List Line) → HasNumbers past → (n : ℕ) (r : RequestOf) (o : Option ReplyTo) → slot_of r.who r.tag past ≡ o
       → AllAllowed head (line there (Take n (message.Request r)) ∷ past) there (row_request head.osts (server_of head.osts past) there r o)
-  request_ok past n r None e = executes_ok past n r (changes head.osts (tree_of head.osts past) (asked r none)) (subst (λ o. IsNewer o r) (sym e) tt) refl
-  request_ok past n r (Some k) e = known_ok past n r k (nat_lt k.xid.0 r.xid.0) (nat_eq k.xid.0 r.xid.0) e refl
+  request_ok past has n r None e = executes_ok past has n r (changes head.osts (tree_of head.osts past) (asked r none)) (subst (λ o. IsNewer o r) (sym e) tt) refl
+  request_ok past has n r (Some k) e = known_ok past has n r k (nat_lt k.xid.0 r.xid.0) (nat_eq k.xid.0 r.xid.0) e refl
 
-  served_ok : (past : List Line) (n : ℕ) (m : Message) → AllAllowed head (line there (Take n m) ∷ past) there (target.row_heeds head.osts (server_of head.osts past) there m)
-  served_ok past n (message.Request r) = request_ok past n r (slot_of r.who r.tag past) refl
-  served_ok past n m = tt
+  served_ok : (past : List Line) → HasNumbers past → (n : ℕ) (m : Message) → AllAllowed head (line there (Take n m) ∷ past) there (target.row_heeds head.osts (server_of head.osts past) there m)
+  served_ok past has n (message.Request r) = request_ok past has n r (slot_of r.who r.tag past) refl
+  served_ok past has n m = tt
 
 steps_after : (past : List Line) (at : At) → Later past at → Steps past at
 steps_after [] at l = tt
@@ -266,7 +266,7 @@ target_ok : (head : Head) (past : List Line) (stamp : Stamp) (t : ℕ) (event : 
 target_ok head past stamp t (Begins slot call) later may = absurd may
 target_ok head past stamp t (Comes n m) later may =
     subst (λ (v : ℕ). Later past (turn_at stamp (Target v)) → AllAllowed head past (turn_at stamp (Target v)) (row head past (turn_at stamp (Target v)) (Target v) (Comes n m))) (sym may.0)
-    (λ l. (record { steps = steps_after past (turn_at stamp (Target 0)) l; lives = tt; ok = record { sent = may.1; later = l } }, served_ok head stamp past n m))
+    (λ l. (record { steps = steps_after past (turn_at stamp (Target 0)) l; lives = tt; ok = record { sent = may.2; later = l } }, served_ok head stamp past may.1 n m))
     later
 target_ok head past stamp t Ticks later may = (record { steps = steps_after past (turn_at stamp (Target t)) later; lives = tt; ok = later }, tt)
 target_ok head past stamp t Dies later may = absurd may

@@ -10,7 +10,7 @@ use Rattle.lu_msg.specs.declared.operations.Op.TheVariants as op
 use Rattle.lu_table.specs.Words.{Entry, Line, turn_before}
 use Rattle.lu_table.specs.Sent.{Sent}
 use Rattle.lu_table.specs.Calls.{is_dead, operation_of}
-use Rattle.lu_table.specs.Targets.{server_of}
+use Rattle.lu_table.specs.Targets.{count_of, server_of}
 use Rattle.lu_table.specs.ClientRows as client
 use Rattle.lu_table.specs.ClientRows.{asker_of}
 use Rattle.lu_table.specs.TargetRows as target
@@ -57,13 +57,17 @@ pub record MayCome (head : Head) (past : List Line) (c n : ℕ) (m : Message) : 
   pub client : IsAlive head past c
   pub sent : Sent past n (Client c) m
 
+-- the count in a transaction's number has 32 bits: a target that has given all numbers of its boot takes no more
+abbrev pub HasNumbers : List Line → Type 0
+HasNumbers past = count_of past < 4294967295
+
 -- which events a node may meet: a message was sent to it before, and may come again, late or never
 abbrev pub Meets : Head → List Line → Node → Event → Type 0
 Meets head past (Client c) (Begins slot call) = MayBegin head past c slot call
 Meets head past (Client c) (Comes n m) = MayCome head past c n m
 Meets head past (Client c) Ticks = IsAlive head past c
 Meets head past (Client c) Dies = IsAlive head past c
-Meets head past (Target t) (Comes n m) = (t ≡ 0) × Sent past n (Target 0) m
+Meets head past (Target t) (Comes n m) = (t ≡ 0) × HasNumbers past × Sent past n (Target 0) m
 Meets head past (Target t) Ticks = t ≤ head.osts
 Meets head past (Target t) _ = ⊥
 
