@@ -8,3 +8,5 @@ pub mod Facts
 pub mod Timed
 pub mod All
 pub mod Printed
+pub mod MessagesLaw
+pub mod Once
