@@ -10,3 +10,5 @@ pub mod All
 pub mod Printed
 pub mod MessagesLaw
 pub mod Once
+pub mod Fine
+pub mod Flying

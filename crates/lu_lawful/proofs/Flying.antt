@@ -1,0 +1,187 @@
+-- What the laws call in flight is what the table calls so: at most eight requests, each with its own tag.
+use Rattle.std.proofs.Common.{◌≡◌, ◌≢◌, ℕ, zero, suc, ◌+◌, ◌<◌, ◌≤◌, Bool, true, false, List, [], ◌∷◌, ◌++◌, Option, Some, None, ◌⊎◌, inl, inr, ⊎_elim, refl, sym, subst, ap, ◌∙◌, arith}
+use Rattle.std.specs.Prelude.{nat_eq, not, ◌&&◌, ◌==◌, if◌then◌else◌, length, filter}
+use Rattle.std.proofs.lemmas.Bool.{and_parts, and_from, cond_both, cond-true, eqb-true, not-true}
+use Rattle.std.proofs.lemmas.Bool.Decides.{nat_tests}
+use Rattle.lu_base.specs.declared.ids.At.{At}
+use Rattle.lu_base.specs.declared.ids.Stamp.{Stamp}
+use Rattle.lu_base.specs.declared.ids.Node.{Node}
+use Rattle.lu_base.specs.declared.ids.Node.TheVariants.{Client, Target}
+use Rattle.lu_base.specs.declared.ids.Who.{Who}
+use Rattle.lu_msg.specs.declared.messages.Message.{Message}
+use Rattle.lu_msg.specs.declared.messages.Message.TheVariants as message
+use Rattle.lu_msg.specs.declared.messages.Reply.{Reply as ReplyTo}
+use Rattle.lu_msg.specs.declared.messages.Request.{Request as RequestOf}
+use Rattle.lu_machine.specs.Footprint.{Every}
+use Rattle.lu_table.specs.Words.{Deed, Flight, Entry, Begin, Busy, Queues, Flies, Send, Take, Tick, Heard, Told, Die, Act, Txn as Made, Line}
+use Rattle.lu_table.specs.Imports.{flights_of, without_flight}
+use Rattle.lu_table.specs.Printed.{printed}
+use Rattle.lu_table.specs.Runs.{Head, IsHead}
+use Rattle.lu_laws.specs.Pasts as pasts
+use Rattle.lu_laws.specs.Lives.{life}
+use Rattle.lu_laws.specs.Requests.{is_of, has_number, without_number, has_heard, flight_with, in_flight}
+use Rattle.lu_lawful.proofs.Guards.{In, line, request, FliesOk, HeardOk, SendOk, EntryOk, Grown}
+use Rattle.lu_lawful.proofs.Lists.{self, in_append, in_left, in_filter, life_is}
+use Rattle.lu_lawful.proofs.Base.{turn}
+use Rattle.lu_lawful.proofs.Served.{first_life}
+use Rattle.lu_lawful.proofs.Printed.{flip, life_one}
+
+-- the requests in flight by the laws, of a client's first life
+abbrev pub flying : ℕ → List Line → List RequestOf
+flying c past = in_flight 0 (first_life c) (printed past)
+
+-- a request in flight by the laws is one by the table
+abbrev pub Flown : List Line → ℕ → RequestOf → Type 0
+Flown past c r = (f : Flight) × In f (flights_of c 0 past) × (r ≡ request c [] f)
+
+abbrev pub Distinct : List RequestOf → Type 0
+Distinct [] = Unit {0}
+Distinct (r ∷ rs) = ((q : RequestOf) → In q rs → q.xid.0 ≡ r.xid.0 → ⊥) × Distinct rs
+
+abbrev pub Flyers : List Line → Type 0
+Flyers past = (c : ℕ) → ((r : RequestOf) → In r (flying c past) → Flown past c r) × Distinct (flying c past)
+
+has_in : (x : ℕ) (rs : List RequestOf) (q : RequestOf) → In q rs → q.xid.0 ≡ x → has_number x rs ≡ false → ⊥
+has_in x [] q i e n = absurd i
+has_in x (r ∷ rs) q (inl p) e n = let y : r.xid.0 ≡ q.xid.0 = ap (λ (v : RequestOf). v.xid.0) p in grind (arith, nat_tests)
+has_in x (r ∷ rs) q (inr i) e n = has_in x rs q i e (grind (arith, nat_tests))
+
+distinct_filter : (g : RequestOf → Bool) (rs : List RequestOf) → Distinct rs → Distinct (filter g rs)
+distinct_filter g [] d = tt
+distinct_filter g (r ∷ rs) d =
+    cond_both (g r) (r ∷ filter g rs) (filter g rs) Distinct
+    (λ t. (λ q i. d.0 q (in_filter g q rs i).0, distinct_filter g rs d.1))
+    (λ t. distinct_filter g rs d.1)
+
+-- one more
+flyers_send : (head : Head) (past : List Line) (stamp : Stamp) (node to : Node) (m : Message) → SendOk head past node to m → Flyers past → Flyers (line (turn stamp node) (Send to m) ∷ past)
+flyers_send head past stamp (Client d) (Target t) (message.Request r) ok h c =
+    (
+      λ q. cond_both (is_of 0 (first_life c) (Target t) r && not (has_number r.xid.0 (flying c past)) && not (has_heard 0 (first_life c) r.xid.0 (printed past))) (r ∷ flying c past) (flying c past) (λ (rs : List RequestOf). In q rs → Flown past c q)
+          (λ v i. ⊎_elim
+          (λ (e : r ≡ q). subst (Flown past c) e (mine v))
+          (λ (j : In q (flying c past)). (h c).0 q j)
+          i)
+          (λ v i. (h c).0 q i),
+      cond_both (is_of 0 (first_life c) (Target t) r && not (has_number r.xid.0 (flying c past)) && not (has_heard 0 (first_life c) r.xid.0 (printed past))) (r ∷ flying c past) (flying c past) Distinct
+      (λ v. (λ q i e. has_in r.xid.0 (flying c past) q i e (fresh v), (h c).1))
+      (λ v. (h c).1),
+    )
+  where
+    own : is_of 0 (first_life c) (Target t) r && not (has_number r.xid.0 (flying c past)) && not (has_heard 0 (first_life c) r.xid.0 (printed past)) ≡ true → c ≡ d
+    own v =
+        let a = and_parts (is_of 0 (first_life c) (Target t) r && not (has_number r.xid.0 (flying c past))) _ v in
+        let b = and_parts (is_of 0 (first_life c) (Target t) r) _ a.0 in
+        let e = and_parts (pasts.is_target 0 (Target t)) _ b.0 in
+        let w = life_is r.who (first_life c) e.1 in
+        ap (λ (x : Who). x.client) (sym w) ∙ ap (λ (x : RequestOf). x.who.client) ok.1.is
+
+    fresh : is_of 0 (first_life c) (Target t) r && not (has_number r.xid.0 (flying c past)) && not (has_heard 0 (first_life c) r.xid.0 (printed past)) ≡ true → has_number r.xid.0 (flying c past) ≡ false
+    fresh v =
+        let a = and_parts (is_of 0 (first_life c) (Target t) r && not (has_number r.xid.0 (flying c past))) _ v in
+        let b = and_parts (is_of 0 (first_life c) (Target t) r) _ a.0 in
+        not-true (has_number r.xid.0 (flying c past)) b.1
+
+    mine : is_of 0 (first_life c) (Target t) r && not (has_number r.xid.0 (flying c past)) && not (has_heard 0 (first_life c) r.xid.0 (printed past)) ≡ true → Flown past c r
+    mine v = let e = own v in subst (λ k. Flown past k r) (sym e) (ok.1.flight, ok.1.flying, ok.1.is)
+flyers_send head past stamp (Target t) (Client e) (message.Reply k) ok h c = h c
+flyers_send head past stamp node to m ok h c = absurd ok
+
+-- one more in the table
+flyers_flies : (past : List Line) (stamp : Stamp) (d : ℕ) (f : Flight) → Flyers past → Flyers (line (turn stamp (Client d)) (Flies 0 f) ∷ past)
+flyers_flies past stamp d f h c =
+    (
+      λ r i. let k = (h c).0 r i in (k.0, cond_both (nat_eq c d && nat_eq 0 0) (flights_of c 0 past ++ f ∷ []) (flights_of c 0 past) (λ (fs : List Flight). In k.0 fs) (λ t. in_left k.0 (flights_of c 0 past) (f ∷ []) k.1) (λ t. k.1), k.2),
+      (h c).1,
+    )
+
+in_filter_on : (g : Flight → Bool) (f : Flight) (fs : List Flight) → In f fs → g f ≡ true → In f (filter g fs)
+in_filter_on g f [] i t = absurd i
+in_filter_on g f (k ∷ fs) (inl e) t = subst (λ (v : List Flight). In f v) (sym (cond-true (g k) (k ∷ filter g fs) (filter g fs) (ap g e ∙ t))) (inl e)
+in_filter_on g f (k ∷ fs) (inr i) t = cond_both (g k) (k ∷ filter g fs) (filter g fs) (λ (v : List Flight). In f v) (λ s. inr (in_filter_on g f fs i t)) (λ s. in_filter_on g f fs i t)
+
+-- one less in both
+flyers_heard : (past : List Line) (stamp : Stamp) (d : ℕ) (f : Flight) (r : ReplyTo) → f.xid ≡ r.xid.0 → Flyers past → Flyers (line (turn stamp (Client d)) (Heard 0 f r) ∷ past)
+flyers_heard past stamp d f r x h c =
+    (
+      λ q. rw test (by q (nat_eq c d) refl),
+      rw test (cond_both (nat_eq c d) (without_number r.xid.0 (flying c past)) (flying c past) Distinct (λ t. distinct_filter (λ (v : RequestOf). not (nat_eq v.xid.0 r.xid.0)) (flying c past) (h c).1) (λ t. (h c).1)),
+    )
+  where
+    test : (nat_eq d c && nat_eq (life c (printed past)) 1 && nat_eq 0 0) ≡ nat_eq c d
+    test = rw (flip d c, life_one c past) (and_true (nat_eq c d))
+      where
+        and_true : (v : Bool) → (v && nat_eq 1 1 && nat_eq 0 0) ≡ v
+        and_true true = refl
+        and_true false = refl
+
+    Less : Bool → List Flight
+    Less v = if v && nat_eq 0 0 then without_flight f.xid (flights_of c 0 past) else flights_of c 0 past
+
+    by : (q : RequestOf) (t : Bool) → nat_eq c d ≡ t → In q (if t then without_number r.xid.0 (flying c past) else flying c past) → (g : Flight) × In g (if t && nat_eq 0 0 then without_flight f.xid (flights_of c 0 past) else flights_of c 0 past) × (q ≡ request c [] g)
+    by q true t i =
+        let j = in_filter (λ (v : RequestOf). not (nat_eq v.xid.0 r.xid.0)) q (flying c past) i in
+        let k = (h c).0 q j.0 in
+        let u : q.xid.0 ≡ k.0.xid = ap (λ (v : RequestOf). v.xid.0) k.2 in
+        let n = not-true (nat_eq q.xid.0 r.xid.0) j.1 in
+        (k.0, in_filter_on (λ (v : Flight). not (nat_eq v.xid f.xid)) k.0 (flights_of c 0 past) k.1 (rw (sym u, x, n) refl), k.2)
+    by q false t i = (h c).0 q i
+
+pub keeps_flyers : (head : Head) (past : List Line) (stamp : Stamp) (node : Node) (e : Entry) → EntryOk head past (turn stamp node) node e → Flyers past → Flyers (line (turn stamp node) e ∷ past)
+keeps_flyers head past stamp node (Send to m) ok h = flyers_send head past stamp node to m ok h
+keeps_flyers head past stamp node (Take n m) ok h = h
+keeps_flyers head past stamp node Tick ok h = h
+keeps_flyers head past stamp (Client c) (Begin slot call) ok h = h
+keeps_flyers head past stamp (Client c) (Busy slot) ok h = h
+keeps_flyers head past stamp (Client c) (Queues u q) ok h = h
+keeps_flyers head past stamp (Client c) (Flies u f) ok h = subst (λ (v : ℕ). Flyers (line (turn stamp (Client c)) (Flies v f) ∷ past)) (sym ok.0) (flyers_flies past stamp c f h)
+keeps_flyers head past stamp (Client c) (Heard u f r) ok h = subst (λ (v : ℕ). Flyers (line (turn stamp (Client c)) (Heard v f r) ∷ past)) (sym ok.0) (flyers_heard past stamp c f r ok.1.xid h)
+keeps_flyers head past stamp (Client c) (Told slot at answer) ok h = h
+keeps_flyers head past stamp (Client c) Die ok h = h
+keeps_flyers head past stamp (Client c) (Act d) ok h = absurd ok
+keeps_flyers head past stamp (Client c) (Made d) ok h = absurd ok
+keeps_flyers head past stamp (Target u) (Act d) ok h = h
+keeps_flyers head past stamp (Target u) (Made d) ok h = h
+keeps_flyers head past stamp (Target u) (Begin slot call) ok h = absurd ok
+keeps_flyers head past stamp (Target u) (Busy slot) ok h = absurd ok
+keeps_flyers head past stamp (Target u) (Queues v q) ok h = absurd ok
+keeps_flyers head past stamp (Target u) (Flies v f) ok h = absurd ok
+keeps_flyers head past stamp (Target u) (Heard v f r) ok h = absurd ok
+keeps_flyers head past stamp (Target u) (Told slot at answer) ok h = absurd ok
+keeps_flyers head past stamp (Target u) Die ok h = absurd ok
+
+pub flyers : (head : Head) (past : List Line) → Grown head past → Flyers past
+flyers head [] g = λ c. (λ r i. absurd i, tt)
+flyers head (l ∷ past) g = keeps_flyers head past l.at.stamp l.at.node l.entry g.0.ok (flyers head past g.1)
+
+-- ---- no more than the table has
+
+shorter : (x : ℕ) (fs : List Flight) → length (without_flight x fs) ≤ length fs
+shorter x [] = omega arith
+shorter x (g ∷ fs) = let h = shorter x fs in cond_both (not (nat_eq g.xid x)) (g ∷ without_flight x fs) (without_flight x fs) (λ (v : List Flight). length v ≤ length (g ∷ fs)) (λ t. omega arith) (λ t. omega arith)
+
+length_out : (x : ℕ) (fs : List Flight) (f : Flight) → In f fs → f.xid ≡ x → length (without_flight x fs) + 1 ≤ length fs
+length_out x [] f i e = absurd i
+length_out x (g ∷ fs) f i e =
+    cond_both (not (nat_eq g.xid x)) (g ∷ without_flight x fs) (without_flight x fs) (λ (v : List Flight). length v + 1 ≤ length (g ∷ fs))
+    (λ t. ⊎_elim
+    (λ (q : g ≡ f). let n = not-true (nat_eq g.xid x) t in let y : g.xid ≡ f.xid = ap (λ (v : Flight). v.xid) q in absurd (grind (arith, nat_tests)))
+    (λ (j : In f fs). let h = length_out x fs f j e in omega arith)
+    i)
+    (λ t. let l = shorter x fs in omega arith)
+
+-- requests of different numbers, each among those, are no more
+pub no_more : (rs : List RequestOf) (fs : List Flight) → Distinct rs → ((r : RequestOf) → In r rs → (f : Flight) × In f fs × (f.xid ≡ r.xid.0)) → length rs ≤ length fs
+no_more [] fs d h = omega arith
+no_more (r ∷ rs) fs d h =
+    let k = h r (inl refl) in
+    let l = length_out r.xid.0 fs k.0 k.1 k.2 in
+    let m = no_more rs (without_flight r.xid.0 fs) d.1 (λ q i. let j = h q (inr i) in let n : nat_eq j.0.xid r.xid.0 ≡ false = off j.0 q i j.2 in (j.0, in_filter_on (λ (v : Flight). not (nat_eq v.xid r.xid.0)) j.0 fs j.1 (rw n refl), j.2)) in
+    omega arith
+  where
+    off : (f : Flight) (q : RequestOf) → In q rs → f.xid ≡ q.xid.0 → nat_eq f.xid r.xid.0 ≡ false
+    off f q i e = let n = d.0 q i in cond_false (nat_eq f.xid r.xid.0) (λ t. n (sym e ∙ eqb-true f.xid r.xid.0 t))
+      where
+        cond_false : (v : Bool) → (v ≡ true → ⊥) → v ≡ false
+        cond_false true n = absurd (n refl)
+        cond_false false n = refl
