@@ -1,0 +1,5 @@
+pub mod Words
+pub mod Lemmas
+pub mod RowsOneClient
+pub mod RowsResent
+pub mod RowsReordered
