@@ -1,4 +1,4 @@
--- The first worked scenario: one client makes a directory twice, looks up another name and removes the directory. Its trace is lawful.
+-- The first worked scenario: one client makes a directory twice, looks up another name and removes the directory. Lawful.
 use Rattle.std.proofs.Common.{[], ◌∷◌, inl, inr, refl}
 use Rattle.std.specs.Prelude.{codes}
 use Rattle.lu_base.specs.declared.ids.Node.TheVariants.{Client, Target}
@@ -13,15 +13,15 @@ use Rattle.lu_laws.specs.Acts.{Acts}
 use Rattle.lu_laws.specs.Recovery.{Recovery}
 use Rattle.lu_laws.specs.History.{History}
 use Rattle.lu_laws.specs.Laws.{Lawful}
-use Rattle.lu_laws.proofs.Words.{turn, client, target, who, first, made, request, reply, sends, heard, act, txn, up, never, nowhere}
+use Rattle.lu_laws.proofs.Words.{turn, client, target, who, first, request, reply, sends, heard, txn, up, never, nowhere}
 use Rattle.lu_laws.proofs.Lemmas.{untold_by, unacted_by}
 
 abbrev pub before_1 : Past
 before_1 =
     client 3 0 (heard 0 1)
     ∷ client 3 0 (entry.Take 2)
-    ∷ target 2 0 (sends 2 (Client 0) (reply 0 1 (first 1) [] (turn 2 (Target 0)) (made 1)))
-    ∷ target 2 0 (txn (first 1) 0 1 [] (made 1))
+    ∷ target 2 0 (sends 2 (Client 0) (reply 0 1 (first 1) [] (turn 2 (Target 0)) (told.Made (record { 0 = (first 1) }))))
+    ∷ target 2 0 (txn (first 1) 0 1 [] (told.Made (record { 0 = (first 1) })))
     ∷ target 2 0 (entry.Take 1)
     ∷ client 1 0 (sends 1 (Target 0) (request 0 1 0 (op.Mkdir (codes "a" ∷ []))))
     ∷ client 1 0 (entry.Begin 0 (call.Mkdir (codes "a" ∷ [])))
@@ -32,11 +32,11 @@ before_2 =
     client 6 0 (heard 0 2)
     ∷ client 6 0 (entry.Take 4)
     ∷ target 5 0 (sends 4 (Client 0) (reply 0 2 0 ((first 1) ∷ []) (turn 5 (Target 0)) (told.Refused EEXIST)))
-    ∷ target 5 0 (act 0 2 (told.Refused EEXIST))
+    ∷ target 5 0 (entry.Act (who 0) (record { 0 = 2 }) (told.Refused EEXIST))
     ∷ target 5 0 (entry.Take 3)
     ∷ client 4 0 (sends 3 (Target 0) (request 0 2 0 (op.Mkdir (codes "a" ∷ []))))
     ∷ client 4 0 (entry.Begin 0 (call.Mkdir (codes "a" ∷ [])))
-    ∷ client 3 0 (entry.Told 0 (turn 2 (Target 0)) (made 1))
+    ∷ client 3 0 (entry.Told 0 (turn 2 (Target 0)) (told.Made (record { 0 = (first 1) })))
     ∷ before_1
 
 abbrev pub before_3 : Past
@@ -44,7 +44,7 @@ before_3 =
     client 9 0 (heard 0 3)
     ∷ client 9 0 (entry.Take 6)
     ∷ target 8 0 (sends 6 (Client 0) (reply 0 3 0 [] (turn 8 (Target 0)) (told.Refused ENOENT)))
-    ∷ target 8 0 (act 0 3 (told.Refused ENOENT))
+    ∷ target 8 0 (entry.Act (who 0) (record { 0 = 3 }) (told.Refused ENOENT))
     ∷ target 8 0 (entry.Take 5)
     ∷ client 7 0 (sends 5 (Target 0) (request 0 3 0 (op.Lookup (codes "b" ∷ []))))
     ∷ client 7 0 (entry.Begin 0 (call.Lookup (codes "b" ∷ [])))
@@ -106,10 +106,8 @@ messages =
 
 acts : Acts past
 acts =
-    (record {
-        begun = _; stands = refl; handle = refl; at_once = never; evicted = never; own = never;
-        acts = λ stays. record { after = inl (up _ _ refl); before = inl (up _ _ refl); acts = inr (record { xid = 4; op = _; heard = inl (refl, refl, refl); call = refl; request = refl; acted = inr (inl (refl, refl, refl, refl, refl)); untold = untold_by before_4 (who 0) 4 refl; alone = unacted_by before_4 (turn 11 (Target 0)) (who 0) 4 refl }) };
-      },
+    (record { begun = _; stands = refl; handle = refl; at_once = never; evicted = never; own = never;
+      acts = λ stays. record { after = inl (up _ _ refl); before = inl (up _ _ refl); acts = inr (record { xid = 4; op = _; heard = inl (refl, refl, refl); call = refl; request = refl; acted = inr (inl (refl, refl, refl, refl, refl)); untold = untold_by before_4 (who 0) 4 refl; alone = unacted_by before_4 (turn 11 (Target 0)) (who 0) 4 refl }) } },
     (tt,
     (tt,
     (tt,
@@ -117,10 +115,8 @@ acts =
     (tt,
     (record { most = up _ _ refl; tags = (tt, tt); objects = nowhere; one_tag = tt },
     (tt,
-    (record {
-        begun = _; stands = refl; handle = refl; at_once = never; evicted = never; own = never;
-        acts = λ stays. record { after = inl (up _ _ refl); before = inl (up _ _ refl); acts = inr (record { xid = 3; op = _; heard = inl (refl, refl, refl); call = refl; request = refl; acted = inl (inl (refl, refl, refl, refl)); untold = untold_by before_3 (who 0) 3 refl; alone = λ acted. refl }) };
-      },
+    (record { begun = _; stands = refl; handle = refl; at_once = never; evicted = never; own = never;
+      acts = λ stays. record { after = inl (up _ _ refl); before = inl (up _ _ refl); acts = inr (record { xid = 3; op = _; heard = inl (refl, refl, refl); call = refl; request = refl; acted = inl (inl (refl, refl, refl, refl)); untold = untold_by before_3 (who 0) 3 refl; alone = λ acted. refl }) } },
     (tt,
     (tt,
     (tt,
@@ -128,10 +124,8 @@ acts =
     (tt,
     (record { most = up _ _ refl; tags = (tt, tt); objects = nowhere; one_tag = tt },
     (tt,
-    (record {
-        begun = _; stands = refl; handle = refl; at_once = never; evicted = never; own = never;
-        acts = λ stays. record { after = inl (up _ _ refl); before = inl (up _ _ refl); acts = inr (record { xid = 2; op = _; heard = inl (refl, refl, refl); call = refl; request = refl; acted = inl (inl (refl, refl, refl, refl)); untold = untold_by before_2 (who 0) 2 refl; alone = λ acted. refl }) };
-      },
+    (record { begun = _; stands = refl; handle = refl; at_once = never; evicted = never; own = never;
+      acts = λ stays. record { after = inl (up _ _ refl); before = inl (up _ _ refl); acts = inr (record { xid = 2; op = _; heard = inl (refl, refl, refl); call = refl; request = refl; acted = inl (inl (refl, refl, refl, refl)); untold = untold_by before_2 (who 0) 2 refl; alone = λ acted. refl }) } },
     (tt,
     (tt,
     (tt,
@@ -139,10 +133,8 @@ acts =
     (tt,
     (record { most = up _ _ refl; tags = (tt, tt); objects = nowhere; one_tag = tt },
     (tt,
-    (record {
-        begun = _; stands = refl; handle = refl; at_once = never; evicted = never; own = never;
-        acts = λ stays. record { after = inl (up _ _ refl); before = inl (up _ _ refl); acts = inr (record { xid = 1; op = _; heard = inl (refl, refl, refl); call = refl; request = refl; acted = inr (inl (refl, refl, refl, refl, refl)); untold = untold_by before_1 (who 0) 1 refl; alone = unacted_by before_1 (turn 2 (Target 0)) (who 0) 1 refl }) };
-      },
+    (record { begun = _; stands = refl; handle = refl; at_once = never; evicted = never; own = never;
+      acts = λ stays. record { after = inl (up _ _ refl); before = inl (up _ _ refl); acts = inr (record { xid = 1; op = _; heard = inl (refl, refl, refl); call = refl; request = refl; acted = inr (inl (refl, refl, refl, refl, refl)); untold = untold_by before_1 (who 0) 1 refl; alone = unacted_by before_1 (turn 2 (Target 0)) (who 0) 1 refl }) } },
     (tt,
     (tt,
     (tt,

@@ -1,6 +1,6 @@
 -- Short words in which the worked rows are written: lines, turns, lives, requests and replies of boot 1; and what
 -- closes the evidence of a row.
-use Rattle.std.proofs.Common.{◌≡◌, ◌≢◌, ℕ, ◌+◌, ◌<◌, ◌≤◌, true, false, List, [], arith}
+use Rattle.std.proofs.Common.{◌≡◌, ◌≢◌, ℕ, ◌+◌, ◌*◌, ◌<◌, ◌≤◌, true, false, List, [], arith}
 use Rattle.std.proofs.lemmas.Bool.{leb-true, eq-eqb}
 use Rattle.std.proofs.Math.Dec.{leb, eqb}
 use Rattle.lu_base.specs.declared.ids.At.{At}
@@ -30,9 +30,15 @@ target stamp t said = record { at = turn stamp (Target t); entry = said }
 abbrev pub who : ℕ → Who
 who c = record { client = c; life = 1 }
 
--- the number with this count in boot 1
+abbrev pub life : ℕ → ℕ → Who
+life c number = record { client = c; life = number }
+
+-- the number with this count in that boot
+abbrev pub number : ℕ → ℕ → ℕ
+number boot count = 4294967296 * boot + count
+
 abbrev pub first : ℕ → ℕ
-first count = 4294967296 + count
+first count = number 1 count
 
 abbrev pub made : ℕ → Answer
 made count = told.Made (record { 0 = first count })
@@ -64,6 +70,9 @@ up a b fits = leb-true a b fits
 
 pub never : {A : Type 0} → false ≡ true → A
 never e = absurd (cc)
+
+pub gone : {A : Type 0} → true ≡ false → A
+gone e = absurd (cc)
 
 pub nowhere : {A : Type 0} → 0 < 0 → A
 nowhere h = absurd (omega arith)
