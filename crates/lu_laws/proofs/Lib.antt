@@ -1,0 +1,16 @@
+pub mod Words
+pub mod Lemmas
+pub mod RowsExpired
+pub mod RowsGap
+pub mod RowsGlimpse
+pub mod RowsLost
+pub mod RowsOldGrant
+pub mod RowsOneClient
+pub mod RowsReordered
+pub mod RowsResent
+pub mod RowsSawLost
+pub mod RowsStriped
+pub mod RowsTwice
+pub mod RowsUnlinked
+pub mod RowsWriteThenRead
+pub mod Wrong

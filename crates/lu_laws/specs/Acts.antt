@@ -1,6 +1,6 @@
 -- Law of acts: each call acts once, between its begin and its answer. `out` are the lives that are gone in the whole
 -- trace, `lost` (of a target and a number) the transactions that don't stand at its end.
-use Rattle.std.specs.Prelude.{◌≡◌, ◌≢◌, ℕ, suc, ◌<◌, ◌≤◌, Bool, true, false, not, ◌==◌, ◌&&◌, ◌||◌, ◌⊎◌, if◌then◌else◌, Option, Some, None, List, [], ◌∷◌, length, AllPairs}
+use Rattle.std.specs.Prelude.{◌≡◌, ◌≢◌, ℕ, suc, ◌<◌, ◌≤◌, Bool, true, false, not, ◌==◌, ◌&&◌, ◌||◌, ◌⊎◌, if◌then◌else◌, Option, Some, None, List, [], ◌∷◌, length}
 use Rattle.lu_base.specs.declared.ids.At.{At}
 use Rattle.lu_base.specs.declared.ids.Node.{Node}
 use Rattle.lu_base.specs.declared.ids.Node.TheVariants.{Client, Target}
@@ -18,6 +18,7 @@ use Rattle.lu_trace.specs.declared.entries.Entry.{Entry}
 use Rattle.lu_trace.specs.declared.entries.Entry.TheVariants.{Send, Told, Act, Txn}
 use Rattle.lu_trace.specs.declared.entries.Line.{Line}
 use Rattle.lu_machine.specs.Tree.{same_life}
+use Rattle.lu_machine.specs.Footprint.{Every}
 use Rattle.lu_laws.specs.Pasts.{Past, is_target, UpTo, TookIn, HeardIn}
 use Rattle.lu_laws.specs.Sends.{Sent}
 use Rattle.lu_laws.specs.Lives.{life, who_is, is_evicted, is_gone}
@@ -119,6 +120,11 @@ pub record ToldAt (out : Who → Bool) (lost : ℕ → ℕ → Bool) (whole past
 
 -- ---- what is sent
 
+-- of each two of the list
+abbrev pub Pairwise : {A : Type 0} → (A → A → Type 0) → List A → Type 0
+Pairwise R [] = Unit {0}
+Pairwise R (x ∷ xs) = Every (R x) xs × Pairwise R xs
+
 abbrev pub SameTag : Option RequestOf → ℕ → Type 0
 SameTag None tag = Unit {0}
 SameTag (Some first) tag = first.tag ≡ tag
@@ -128,8 +134,8 @@ SameTag (Some first) tag = first.tag ≡ tag
 -- modifying requests in flight; that an object has one is this project's profile)
 pub record FliesAt (past : Past) (t : ℕ) (r : RequestOf) (flight : List RequestOf) : Type 0 where
   pub most : length flight ≤ 8
-  pub tags : AllPairs (λ one other. one.tag ≢ other.tag) flight
-  pub objects : 0 < t → AllPairs (λ one other. same_object one other ≡ false) flight
+  pub tags : Pairwise (λ one other. one.tag ≢ other.tag) flight
+  pub objects : 0 < t → Pairwise (λ one other. same_object one other ≡ false) flight
   pub one_tag : SameTag (first_request past t r.who r.xid.0) r.tag
 
 abbrev pub SendsAt : Past → Line → Node → Message → Type 0

@@ -1,0 +1,292 @@
+-- The size of a file that another client writes, without a lock. Lawful.
+use Rattle.std.proofs.Common.{[], ◌∷◌, inl, inr, refl, Some, pos}
+use Rattle.std.specs.Prelude.{codes}
+use Rattle.lu_base.specs.declared.ids.Node.TheVariants.{Client, Target}
+use Rattle.lu_msg.specs.declared.answers.Answer.TheVariants as told
+use Rattle.lu_msg.specs.declared.calls.Call.TheVariants as call
+use Rattle.lu_msg.specs.declared.operations.Op.TheVariants as op
+use Rattle.lu_msg.specs.declared.messages.Message.TheVariants as message
+use Rattle.lu_trace.specs.declared.entries.Entry.TheVariants as entry
+use Rattle.lu_laws.specs.Pasts.{Past}
+use Rattle.lu_laws.specs.Messages.{Messages}
+use Rattle.lu_laws.specs.Acts.{Acts}
+use Rattle.lu_laws.specs.Recovery.{Recovery}
+use Rattle.lu_laws.specs.History.{History}
+use Rattle.lu_laws.specs.Laws.{Lawful}
+use Rattle.lu_base.specs.declared.locks.Mode.TheVariants.{PW}
+use Rattle.lu_base.specs.declared.locks.Policy.TheVariants.{Range}
+use Rattle.lu_laws.proofs.Words.{turn, client, target, who, first, request, reply, sends, heard, txn, up, never, nowhere}
+use Rattle.lu_laws.proofs.Lemmas.{untold_by, unacted_by}
+
+abbrev pub before_1 : Past
+before_1 =
+    client 3 0 (heard 0 1)
+    ∷ client 3 0 (entry.Take 2)
+    ∷ target 2 0 (sends 2 (Client 0) (reply 0 1 (first 1) [] (turn 2 (Target 0)) (told.Made (record { 0 = (first 1) }))))
+    ∷ target 2 0 (txn (first 1) 0 1 [] (told.Made (record { 0 = (first 1) })))
+    ∷ target 2 0 (entry.Take 1)
+    ∷ client 1 0 (sends 1 (Target 0) (request 0 1 0 (op.Create (codes "f" ∷ []) 1048576 (pos 1))))
+    ∷ client 1 0 (entry.Begin 0 (call.Create (codes "f" ∷ []) (Some (1048576, (pos 1)))))
+    ∷ []
+
+abbrev pub before_2 : Past
+before_2 =
+    client 6 0 (heard 0 2)
+    ∷ client 6 0 (entry.Take 4)
+    ∷ target 5 0 (sends 4 (Client 0) (reply 0 2 (first 2) ((first 1) ∷ []) (turn 5 (Target 0)) (told.OpenFile (record { 0 = (first 1) }) (record { 0 = (first 2) }) (record { size = 1048576; targets = 1 ∷ [] }))))
+    ∷ target 5 0 (txn (first 2) 0 2 ((first 1) ∷ []) (told.OpenFile (record { 0 = (first 1) }) (record { 0 = (first 2) }) (record { size = 1048576; targets = 1 ∷ [] })))
+    ∷ target 5 0 (entry.Take 3)
+    ∷ client 4 0 (sends 3 (Target 0) (request 0 2 0 (op.Open (codes "f" ∷ []))))
+    ∷ client 4 0 (entry.Begin 0 (call.Open 0 (codes "f" ∷ [])))
+    ∷ client 3 0 (entry.Told 0 (turn 2 (Target 0)) (told.Made (record { 0 = (first 1) })))
+    ∷ before_1
+
+abbrev pub before_3 : Past
+before_3 =
+    client 9 1 (heard 0 1)
+    ∷ client 9 1 (entry.Take 6)
+    ∷ target 8 0 (sends 6 (Client 1) (reply 1 1 (first 3) ((first 1) ∷ []) (turn 8 (Target 0)) (told.OpenFile (record { 0 = (first 1) }) (record { 0 = (first 3) }) (record { size = 1048576; targets = 1 ∷ [] }))))
+    ∷ target 8 0 (txn (first 3) 1 1 ((first 1) ∷ []) (told.OpenFile (record { 0 = (first 1) }) (record { 0 = (first 3) }) (record { size = 1048576; targets = 1 ∷ [] })))
+    ∷ target 8 0 (entry.Take 5)
+    ∷ client 7 1 (sends 5 (Target 0) (request 1 1 0 (op.Open (codes "f" ∷ []))))
+    ∷ client 7 1 (entry.Begin 0 (call.Open 0 (codes "f" ∷ [])))
+    ∷ client 6 0 (entry.Told 0 (turn 5 (Target 0)) (told.Made (record { 0 = (first 1) })))
+    ∷ before_2
+
+abbrev pub before_4 : Past
+before_4 =
+    client 12 0 (entry.Hold (record { 0 = 1 }) (record { 0 = (first 1) }))
+    ∷ client 12 0 (heard 1 1)
+    ∷ client 12 0 (entry.Take 8)
+    ∷ target 11 1 (sends 8 (Client 0) (reply 0 1 0 [] (turn 11 (Target 1)) (told.Granted (record { 0 = (first 1) }) (record { first = 0; last = 18446744073709551615 }) 0)))
+    ∷ target 11 1 (entry.Grant (record { cookie = (record { 0 = (first 1) }); resource = (record { fid = (record { 0 = (first 1) }); stripe = 0 }); ask = record { who = (who 0); mode = PW; policy = (Range (record { first = 0; last = 18446744073709551615 })) } }))
+    ∷ target 11 1 (entry.Take 7)
+    ∷ client 10 0 (sends 7 (Target 1) (request 0 1 0 (op.Enqueue (record { fid = (record { 0 = (first 1) }); stripe = 0 }) PW (record { first = 0; last = 1 }))))
+    ∷ client 10 0 (entry.Begin 0 (call.Write 0 0 (104 ∷ 105 ∷ [])))
+    ∷ client 9 1 (entry.Told 0 (turn 8 (Target 0)) (told.Made (record { 0 = (first 1) })))
+    ∷ before_3
+
+abbrev pub before_5 : Past
+before_5 =
+    client 17 1 (heard 1 1)
+    ∷ client 17 1 (entry.Take 12)
+    ∷ target 16 1 (sends 12 (Client 1) (reply 1 1 0 [] (turn 15 (Client 0)) (told.Size 2)))
+    ∷ target 16 1 (entry.Take 11)
+    ∷ client 15 0 (sends 11 (Target 1) (message.Size (record { who = (who 0); boot = 1; cookie = (record { 0 = (first 1) }); for_who = (who 1); xid = (record { 0 = 1 }); size = (Some 2); stamp = (record { 0 = 15 }) })))
+    ∷ client 15 0 (entry.Peek (record { 0 = 1 }) (record { 0 = (first 1) }) 2)
+    ∷ client 15 0 (entry.Take 10)
+    ∷ target 14 1 (sends 10 (Client 0) (message.Ask (who 0) 1 (record { 0 = (first 1) }) (who 1) (record { 0 = 1 })))
+    ∷ target 14 1 (entry.Take 9)
+    ∷ client 13 1 (sends 9 (Target 1) (request 1 1 0 (op.Size (record { fid = (record { 0 = (first 1) }); stripe = 0 }))))
+    ∷ client 13 1 (entry.Begin 0 (call.Glimpse 0))
+    ∷ client 12 0 (entry.Told 0 (turn 12 (Client 0)) told.Done)
+    ∷ before_4
+
+abbrev pub past : Past
+past =
+    client 17 1 (entry.Told 0 (turn 17 (Client 1)) (told.Sizes (2 ∷ [])))
+    ∷ before_5
+
+messages : Messages past
+messages =
+    (record { order = inr (refl, up _ _ refl); living = refl; entry = (_, refl) },
+    (record { order = inr (refl, up _ _ refl); living = refl; entry = tt },
+    (record { order = inl (up _ _ refl); living = refl; entry = (_, _, inl (refl, refl, refl, refl)) },
+    (record { order = inr (refl, up _ _ refl); living = tt; entry = refl },
+    (record { order = inl (up _ _ refl); living = tt; entry = (_, _, inl (refl, refl, refl, refl)) },
+    (record { order = inr (refl, up _ _ refl); living = refl; entry = refl },
+    (record { order = inr (refl, up _ _ refl); living = refl; entry = tt },
+    (record { order = inl (up _ _ refl); living = refl; entry = (_, _, inl (refl, refl, refl, refl)) },
+    (record { order = inr (refl, up _ _ refl); living = tt; entry = refl },
+    (record { order = inl (up _ _ refl); living = tt; entry = (_, _, inl (refl, refl, refl, refl)) },
+    (record { order = inr (refl, up _ _ refl); living = refl; entry = refl },
+    (record { order = inl (up _ _ refl); living = refl; entry = refl },
+    (record { order = inr (refl, up _ _ refl); living = refl; entry = (_, refl) },
+    (record { order = inr (refl, up _ _ refl); living = refl; entry = tt },
+    (record { order = inr (refl, up _ _ refl); living = refl; entry = tt },
+    (record { order = inl (up _ _ refl); living = refl; entry = (_, _, inl (refl, refl, refl, refl)) },
+    (record { order = inr (refl, up _ _ refl); living = tt; entry = refl },
+    (record { order = inr (refl, up _ _ refl); living = tt; entry = tt },
+    (record { order = inl (up _ _ refl); living = tt; entry = (_, _, inl (refl, refl, refl, refl)) },
+    (record { order = inr (refl, up _ _ refl); living = refl; entry = refl },
+    (record { order = inl (up _ _ refl); living = refl; entry = refl },
+    (record { order = inr (refl, up _ _ refl); living = refl; entry = (_, refl) },
+    (record { order = inr (refl, up _ _ refl); living = refl; entry = tt },
+    (record { order = inl (up _ _ refl); living = refl; entry = (_, _, inl (refl, refl, refl, refl)) },
+    (record { order = inr (refl, up _ _ refl); living = tt; entry = refl },
+    (record { order = inr (refl, up _ _ refl); living = tt; entry = tt },
+    (record { order = inl (up _ _ refl); living = tt; entry = (_, _, inl (refl, refl, refl, refl)) },
+    (record { order = inr (refl, up _ _ refl); living = refl; entry = refl },
+    (record { order = inl (up _ _ refl); living = refl; entry = refl },
+    (record { order = inr (refl, up _ _ refl); living = refl; entry = (_, refl) },
+    (record { order = inr (refl, up _ _ refl); living = refl; entry = tt },
+    (record { order = inl (up _ _ refl); living = refl; entry = (_, _, inl (refl, refl, refl, refl)) },
+    (record { order = inr (refl, up _ _ refl); living = tt; entry = refl },
+    (record { order = inr (refl, up _ _ refl); living = tt; entry = tt },
+    (record { order = inl (up _ _ refl); living = tt; entry = (_, _, inl (refl, refl, refl, refl)) },
+    (record { order = inr (refl, up _ _ refl); living = refl; entry = refl },
+    (record { order = inl (up _ _ refl); living = refl; entry = refl },
+    (record { order = inr (refl, up _ _ refl); living = refl; entry = (_, refl) },
+    (record { order = inr (refl, up _ _ refl); living = refl; entry = tt },
+    (record { order = inl (up _ _ refl); living = refl; entry = (_, _, inl (refl, refl, refl, refl)) },
+    (record { order = inr (refl, up _ _ refl); living = tt; entry = refl },
+    (record { order = inr (refl, up _ _ refl); living = tt; entry = tt },
+    (record { order = inl (up _ _ refl); living = tt; entry = (_, _, inl (refl, refl, refl, refl)) },
+    (record { order = inr (refl, up _ _ refl); living = refl; entry = refl },
+    (record { order = tt; living = refl; entry = refl },
+    tt)))))))))))))))))))))))))))))))))))))))))))))
+
+acts : Acts past
+acts =
+    (record { begun = _; stands = refl; handle = refl; at_once = never; evicted = never; own = λ local. refl;
+      acts = λ stays. record { after = inl (up _ _ refl); before = inr (refl, up _ _ refl); acts = inl refl } },
+    (tt,
+    (tt,
+    (tt,
+    (tt,
+    (tt,
+    (tt,
+    (tt,
+    (tt,
+    (tt,
+    (record { most = up _ _ refl; tags = (tt, tt); objects = λ some. (tt, tt); one_tag = tt },
+    (tt,
+    (record { begun = _; stands = refl; handle = refl; at_once = never; evicted = never; own = never;
+      acts = λ stays. record { after = inl (up _ _ refl); before = inr (refl, up _ _ refl); acts = inl refl } },
+    (tt,
+    (tt,
+    (tt,
+    (tt,
+    (tt,
+    (tt,
+    (record { most = up _ _ refl; tags = (tt, tt); objects = λ some. (tt, tt); one_tag = tt },
+    (tt,
+    (record { begun = _; stands = refl; handle = refl; at_once = never; evicted = never; own = never;
+      acts = λ stays. record { after = inl (up _ _ refl); before = inl (up _ _ refl); acts = inr (record { xid = 1; op = _; heard = inl (refl, refl, refl); call = refl; request = refl; acted = inr (inl (refl, refl, refl, refl, refl)); untold = untold_by before_3 (who 1) 1 refl; alone = unacted_by before_3 (turn 8 (Target 0)) (who 1) 1 refl }) } },
+    (tt,
+    (tt,
+    (tt,
+    (λ stands. up _ _ refl,
+    (tt,
+    (record { most = up _ _ refl; tags = (tt, tt); objects = nowhere; one_tag = tt },
+    (tt,
+    (record { begun = _; stands = refl; handle = refl; at_once = never; evicted = never; own = never;
+      acts = λ stays. record { after = inl (up _ _ refl); before = inl (up _ _ refl); acts = inr (record { xid = 2; op = _; heard = inl (refl, refl, refl); call = refl; request = refl; acted = inr (inl (refl, refl, refl, refl, refl)); untold = untold_by before_2 (who 0) 2 refl; alone = unacted_by before_2 (turn 5 (Target 0)) (who 0) 2 refl }) } },
+    (tt,
+    (tt,
+    (tt,
+    (λ stands. up _ _ refl,
+    (tt,
+    (record { most = up _ _ refl; tags = (tt, tt); objects = nowhere; one_tag = tt },
+    (tt,
+    (record { begun = _; stands = refl; handle = refl; at_once = never; evicted = never; own = never;
+      acts = λ stays. record { after = inl (up _ _ refl); before = inl (up _ _ refl); acts = inr (record { xid = 1; op = _; heard = inl (refl, refl, refl); call = refl; request = refl; acted = inr (inl (refl, refl, refl, refl, refl)); untold = untold_by before_1 (who 0) 1 refl; alone = unacted_by before_1 (turn 2 (Target 0)) (who 0) 1 refl }) } },
+    (tt,
+    (tt,
+    (tt,
+    (λ stands. up _ _ refl,
+    (tt,
+    (record { most = up _ _ refl; tags = (tt, tt); objects = nowhere; one_tag = tt },
+    (tt,
+    tt)))))))))))))))))))))))))))))))))))))))))))))
+
+recovery : Recovery 1 past
+recovery =
+    (tt,
+    (tt,
+    (tt,
+    (λ executed. refl,
+    (tt,
+    (tt,
+    (tt,
+    (tt,
+    (tt,
+    (tt,
+    (tt,
+    (tt,
+    (tt,
+    (tt,
+    (tt,
+    (tt,
+    (λ executed. refl,
+    (tt,
+    (tt,
+    (tt,
+    (tt,
+    (tt,
+    (tt,
+    (tt,
+    (λ executed. refl,
+    (record { above = up _ _ refl; in_boot = refl; sees = refl },
+    (tt,
+    (tt,
+    (tt,
+    (tt,
+    (tt,
+    (tt,
+    (λ executed. refl,
+    (record { above = up _ _ refl; in_boot = refl; sees = refl },
+    (tt,
+    (tt,
+    (tt,
+    (tt,
+    (tt,
+    (tt,
+    (λ executed. refl,
+    (record { above = up _ _ refl; in_boot = refl; sees = refl },
+    (tt,
+    (tt,
+    (tt,
+    tt)))))))))))))))))))))))))))))))))))))))))))))
+
+history : History 1 past
+history =
+    (λ stays answer counted. never counted,
+    (tt,
+    (tt,
+    (tt,
+    (tt,
+    (tt,
+    (tt,
+    (tt,
+    (tt,
+    (tt,
+    (tt,
+    (tt,
+    (λ stays answer counted. refl,
+    (tt,
+    (tt,
+    (tt,
+    (tt,
+    (tt,
+    (tt,
+    (tt,
+    (tt,
+    (λ stays answer counted. record { xid = 1; heard = inl (refl, refl, refl); answered = inl (refl, refl, refl, refl, refl, refl) },
+    (tt,
+    (tt,
+    (tt,
+    (λ stands. refl,
+    (tt,
+    (tt,
+    (tt,
+    (λ stays answer counted. record { xid = 2; heard = inl (refl, refl, refl); answered = inl (refl, refl, refl, refl, refl, refl) },
+    (tt,
+    (tt,
+    (tt,
+    (λ stands. refl,
+    (tt,
+    (tt,
+    (tt,
+    (λ stays answer counted. record { xid = 1; heard = inl (refl, refl, refl); answered = inl (refl, refl, refl, refl, refl, refl) },
+    (tt,
+    (tt,
+    (tt,
+    (λ stands. refl,
+    (tt,
+    (tt,
+    (tt,
+    tt)))))))))))))))))))))))))))))))))))))))))))))
+
+pub lawful : Lawful 1 past
+lawful = record { messages = messages; acts = acts; recovery = recovery; history = history }

@@ -1,0 +1,114 @@
+-- A request comes twice, its replies are lost, and a tick sends it again: one transaction, and the kept reply. Lawful.
+use Rattle.std.proofs.Common.{[], ◌∷◌, inl, inr, refl}
+use Rattle.std.specs.Prelude.{codes}
+use Rattle.lu_base.specs.declared.ids.Node.TheVariants.{Client, Target}
+use Rattle.lu_msg.specs.declared.answers.Answer.TheVariants as told
+use Rattle.lu_msg.specs.declared.calls.Call.TheVariants as call
+use Rattle.lu_msg.specs.declared.operations.Op.TheVariants as op
+use Rattle.lu_trace.specs.declared.entries.Entry.TheVariants as entry
+use Rattle.lu_laws.specs.Pasts.{Past}
+use Rattle.lu_laws.specs.Messages.{Messages}
+use Rattle.lu_laws.specs.Acts.{Acts}
+use Rattle.lu_laws.specs.Recovery.{Recovery}
+use Rattle.lu_laws.specs.History.{History}
+use Rattle.lu_laws.specs.Laws.{Lawful}
+use Rattle.lu_laws.proofs.Words.{turn, client, target, who, first, request, reply, sends, heard, txn, up, never, nowhere}
+use Rattle.lu_laws.proofs.Lemmas.{untold_by, unacted_by}
+
+abbrev pub before_1 : Past
+before_1 =
+    client 6 0 (heard 0 1)
+    ∷ client 6 0 (entry.Take 5)
+    ∷ target 5 0 (sends 5 (Client 0) (reply 0 1 (first 1) [] (turn 2 (Target 0)) (told.Made (record { 0 = (first 1) }))))
+    ∷ target 5 0 (entry.Take 4)
+    ∷ client 4 0 (sends 4 (Target 0) (request 0 1 0 (op.Mkdir (codes "a" ∷ []))))
+    ∷ client 4 0 entry.Tick
+    ∷ target 3 0 (sends 3 (Client 0) (reply 0 1 (first 1) [] (turn 2 (Target 0)) (told.Made (record { 0 = (first 1) }))))
+    ∷ target 3 0 (entry.Take 1)
+    ∷ target 2 0 (sends 2 (Client 0) (reply 0 1 (first 1) [] (turn 2 (Target 0)) (told.Made (record { 0 = (first 1) }))))
+    ∷ target 2 0 (txn (first 1) 0 1 [] (told.Made (record { 0 = (first 1) })))
+    ∷ target 2 0 (entry.Take 1)
+    ∷ client 1 0 (sends 1 (Target 0) (request 0 1 0 (op.Mkdir (codes "a" ∷ []))))
+    ∷ client 1 0 (entry.Begin 0 (call.Mkdir (codes "a" ∷ [])))
+    ∷ []
+
+abbrev pub past : Past
+past =
+    client 6 0 (entry.Told 0 (turn 2 (Target 0)) (told.Made (record { 0 = (first 1) })))
+    ∷ before_1
+
+messages : Messages past
+messages =
+    (record { order = inr (refl, up _ _ refl); living = refl; entry = (_, refl) },
+    (record { order = inr (refl, up _ _ refl); living = refl; entry = tt },
+    (record { order = inl (up _ _ refl); living = refl; entry = (_, _, inl (refl, refl, refl, refl)) },
+    (record { order = inr (refl, up _ _ refl); living = tt; entry = refl },
+    (record { order = inl (up _ _ refl); living = tt; entry = (_, _, inl (refl, refl, refl, refl)) },
+    (record { order = inr (refl, up _ _ refl); living = refl; entry = refl },
+    (record { order = inl (up _ _ refl); living = refl; entry = tt },
+    (record { order = inr (refl, up _ _ refl); living = tt; entry = refl },
+    (record { order = inl (up _ _ refl); living = tt; entry = (_, _, inr (inl (refl, refl, refl, refl))) },
+    (record { order = inr (refl, up _ _ refl); living = tt; entry = refl },
+    (record { order = inr (refl, up _ _ refl); living = tt; entry = tt },
+    (record { order = inl (up _ _ refl); living = tt; entry = (_, _, inl (refl, refl, refl, refl)) },
+    (record { order = inr (refl, up _ _ refl); living = refl; entry = refl },
+    (record { order = tt; living = refl; entry = refl },
+    tt))))))))))))))
+
+acts : Acts past
+acts =
+    (record { begun = _; stands = refl; handle = refl; at_once = never; evicted = never; own = never;
+      acts = λ stays. record { after = inl (up _ _ refl); before = inl (up _ _ refl); acts = inr (record { xid = 1; op = _; heard = inl (refl, refl, refl); call = refl; request = refl; acted = inr (inl (refl, refl, refl, refl, refl)); untold = untold_by before_1 (who 0) 1 refl; alone = unacted_by before_1 (turn 2 (Target 0)) (who 0) 1 refl }) } },
+    (tt,
+    (tt,
+    (tt,
+    (tt,
+    (record { most = up _ _ refl; tags = (tt, tt); objects = nowhere; one_tag = refl },
+    (tt,
+    (tt,
+    (tt,
+    (tt,
+    (λ stands. up _ _ refl,
+    (tt,
+    (record { most = up _ _ refl; tags = (tt, tt); objects = nowhere; one_tag = tt },
+    (tt,
+    tt))))))))))))))
+
+recovery : Recovery 1 past
+recovery =
+    (tt,
+    (tt,
+    (tt,
+    (never,
+    (tt,
+    (tt,
+    (tt,
+    (never,
+    (tt,
+    (λ executed. refl,
+    (record { above = up _ _ refl; in_boot = refl; sees = refl },
+    (tt,
+    (tt,
+    (tt,
+    tt))))))))))))))
+
+history : History 1 past
+history =
+    (λ stays answer counted. record { xid = 1; heard = inl (refl, refl, refl); answered = inl (refl, refl, refl, refl, refl, refl) },
+    (tt,
+    (tt,
+    (tt,
+    (tt,
+    (tt,
+    (tt,
+    (tt,
+    (tt,
+    (tt,
+    (λ stands. refl,
+    (tt,
+    (tt,
+    (tt,
+    tt))))))))))))))
+
+pub lawful : Lawful 1 past
+lawful = record { messages = messages; acts = acts; recovery = recovery; history = history }

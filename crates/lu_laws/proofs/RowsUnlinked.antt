@@ -1,0 +1,347 @@
+-- A file is read after its last name went, until its handle is closed; then the handle is bad. Lawful.
+use Rattle.std.proofs.Common.{[], ◌∷◌, inl, inr, refl, Some, pos}
+use Rattle.std.specs.Prelude.{codes}
+use Rattle.lu_base.specs.declared.ids.Node.TheVariants.{Client, Target}
+use Rattle.lu_msg.specs.declared.answers.Answer.TheVariants as told
+use Rattle.lu_msg.specs.declared.answers.Errno.TheVariants.{ENOENT, EBADF}
+use Rattle.lu_msg.specs.declared.calls.Call.TheVariants as call
+use Rattle.lu_msg.specs.declared.operations.Op.TheVariants as op
+use Rattle.lu_trace.specs.declared.entries.Entry.TheVariants as entry
+use Rattle.lu_laws.specs.Pasts.{Past}
+use Rattle.lu_laws.specs.Messages.{Messages}
+use Rattle.lu_laws.specs.Acts.{Acts}
+use Rattle.lu_laws.specs.Recovery.{Recovery}
+use Rattle.lu_laws.specs.History.{History}
+use Rattle.lu_laws.specs.Laws.{Lawful}
+use Rattle.lu_base.specs.declared.locks.Mode.TheVariants.{PW}
+use Rattle.lu_base.specs.declared.locks.Policy.TheVariants.{Range}
+use Rattle.lu_laws.proofs.Words.{turn, client, target, who, first, request, reply, sends, heard, txn, up, never, nowhere}
+use Rattle.lu_laws.proofs.Lemmas.{untold_by, unacted_by}
+
+abbrev pub before_1 : Past
+before_1 =
+    client 3 0 (heard 0 1)
+    ∷ client 3 0 (entry.Take 2)
+    ∷ target 2 0 (sends 2 (Client 0) (reply 0 1 (first 1) [] (turn 2 (Target 0)) (told.Made (record { 0 = (first 1) }))))
+    ∷ target 2 0 (txn (first 1) 0 1 [] (told.Made (record { 0 = (first 1) })))
+    ∷ target 2 0 (entry.Take 1)
+    ∷ client 1 0 (sends 1 (Target 0) (request 0 1 0 (op.Create (codes "f" ∷ []) 1048576 (pos 1))))
+    ∷ client 1 0 (entry.Begin 0 (call.Create (codes "f" ∷ []) (Some (1048576, (pos 1)))))
+    ∷ []
+
+abbrev pub before_2 : Past
+before_2 =
+    client 6 0 (heard 0 2)
+    ∷ client 6 0 (entry.Take 4)
+    ∷ target 5 0 (sends 4 (Client 0) (reply 0 2 (first 2) ((first 1) ∷ []) (turn 5 (Target 0)) (told.OpenFile (record { 0 = (first 1) }) (record { 0 = (first 2) }) (record { size = 1048576; targets = 1 ∷ [] }))))
+    ∷ target 5 0 (txn (first 2) 0 2 ((first 1) ∷ []) (told.OpenFile (record { 0 = (first 1) }) (record { 0 = (first 2) }) (record { size = 1048576; targets = 1 ∷ [] })))
+    ∷ target 5 0 (entry.Take 3)
+    ∷ client 4 0 (sends 3 (Target 0) (request 0 2 0 (op.Open (codes "f" ∷ []))))
+    ∷ client 4 0 (entry.Begin 0 (call.Open 0 (codes "f" ∷ [])))
+    ∷ client 3 0 (entry.Told 0 (turn 2 (Target 0)) (told.Made (record { 0 = (first 1) })))
+    ∷ before_1
+
+abbrev pub before_3 : Past
+before_3 =
+    client 9 0 (entry.Hold (record { 0 = 1 }) (record { 0 = (first 1) }))
+    ∷ client 9 0 (heard 1 1)
+    ∷ client 9 0 (entry.Take 6)
+    ∷ target 8 1 (sends 6 (Client 0) (reply 0 1 0 [] (turn 8 (Target 1)) (told.Granted (record { 0 = (first 1) }) (record { first = 0; last = 18446744073709551615 }) 0)))
+    ∷ target 8 1 (entry.Grant (record { cookie = (record { 0 = (first 1) }); resource = (record { fid = (record { 0 = (first 1) }); stripe = 0 }); ask = record { who = (who 0); mode = PW; policy = (Range (record { first = 0; last = 18446744073709551615 })) } }))
+    ∷ target 8 1 (entry.Take 5)
+    ∷ client 7 0 (sends 5 (Target 1) (request 0 1 0 (op.Enqueue (record { fid = (record { 0 = (first 1) }); stripe = 0 }) PW (record { first = 0; last = 0 }))))
+    ∷ client 7 0 (entry.Begin 0 (call.Write 0 0 (97 ∷ [])))
+    ∷ client 6 0 (entry.Told 0 (turn 5 (Target 0)) (told.Made (record { 0 = (first 1) })))
+    ∷ before_2
+
+abbrev pub before_4 : Past
+before_4 =
+    client 12 0 (heard 0 3)
+    ∷ client 12 0 (entry.Take 8)
+    ∷ target 11 0 (sends 8 (Client 0) (reply 0 3 (first 3) ((first 1) ∷ []) (turn 11 (Target 0)) told.Done))
+    ∷ target 11 0 (txn (first 3) 0 3 ((first 1) ∷ []) told.Done)
+    ∷ target 11 0 (entry.Take 7)
+    ∷ client 10 0 (sends 7 (Target 0) (request 0 3 0 (op.Unlink (codes "f" ∷ []))))
+    ∷ client 10 0 (entry.Begin 0 (call.Unlink (codes "f" ∷ [])))
+    ∷ client 9 0 (entry.Told 0 (turn 9 (Client 0)) told.Done)
+    ∷ before_3
+
+abbrev pub before_5 : Past
+before_5 =
+    client 13 0 (entry.Begin 0 (call.Read 0 0 4))
+    ∷ client 12 0 (entry.Told 0 (turn 11 (Target 0)) told.Done)
+    ∷ before_4
+
+abbrev pub before_6 : Past
+before_6 =
+    client 16 0 (heard 0 4)
+    ∷ client 16 0 (entry.Take 10)
+    ∷ target 15 0 (sends 10 (Client 0) (reply 0 4 (first 4) [] (turn 15 (Target 0)) told.Done))
+    ∷ target 15 0 (txn (first 4) 0 4 [] told.Done)
+    ∷ target 15 0 (entry.Take 9)
+    ∷ client 14 0 (sends 9 (Target 0) (request 0 4 0 (op.Close (record { 0 = (first 2) }) (record { 0 = (first 1) }))))
+    ∷ client 14 0 (entry.Begin 0 (call.Close 0))
+    ∷ client 13 0 (entry.Told 0 (turn 13 (Client 0)) (told.Content (97 ∷ [])))
+    ∷ before_5
+
+abbrev pub before_7 : Past
+before_7 =
+    client 17 0 (entry.Begin 0 (call.Read 0 0 4))
+    ∷ client 16 0 (entry.Told 0 (turn 15 (Target 0)) told.Done)
+    ∷ before_6
+
+abbrev pub before_8 : Past
+before_8 =
+    client 20 0 (heard 0 5)
+    ∷ client 20 0 (entry.Take 12)
+    ∷ target 19 0 (sends 12 (Client 0) (reply 0 5 0 ((first 1) ∷ (first 3) ∷ []) (turn 19 (Target 0)) (told.Refused ENOENT)))
+    ∷ target 19 0 (entry.Act (who 0) (record { 0 = 5 }) (told.Refused ENOENT))
+    ∷ target 19 0 (entry.Take 11)
+    ∷ client 18 0 (sends 11 (Target 0) (request 0 5 0 (op.Lookup (codes "f" ∷ []))))
+    ∷ client 18 0 (entry.Begin 0 (call.Lookup (codes "f" ∷ [])))
+    ∷ client 17 0 (entry.Told 0 (turn 17 (Client 0)) (told.Refused EBADF))
+    ∷ before_7
+
+abbrev pub past : Past
+past =
+    client 20 0 (entry.Told 0 (turn 19 (Target 0)) (told.Refused ENOENT))
+    ∷ before_8
+
+messages : Messages past
+messages =
+    (record { order = inr (refl, up _ _ refl); living = refl; entry = (_, refl) },
+    (record { order = inr (refl, up _ _ refl); living = refl; entry = tt },
+    (record { order = inl (up _ _ refl); living = refl; entry = (_, _, inl (refl, refl, refl, refl)) },
+    (record { order = inr (refl, up _ _ refl); living = tt; entry = refl },
+    (record { order = inr (refl, up _ _ refl); living = tt; entry = tt },
+    (record { order = inl (up _ _ refl); living = tt; entry = (_, _, inl (refl, refl, refl, refl)) },
+    (record { order = inr (refl, up _ _ refl); living = refl; entry = refl },
+    (record { order = inl (up _ _ refl); living = refl; entry = refl },
+    (record { order = inr (refl, up _ _ refl); living = refl; entry = (_, refl) },
+    (record { order = inl (up _ _ refl); living = refl; entry = refl },
+    (record { order = inr (refl, up _ _ refl); living = refl; entry = (_, refl) },
+    (record { order = inr (refl, up _ _ refl); living = refl; entry = tt },
+    (record { order = inl (up _ _ refl); living = refl; entry = (_, _, inl (refl, refl, refl, refl)) },
+    (record { order = inr (refl, up _ _ refl); living = tt; entry = refl },
+    (record { order = inr (refl, up _ _ refl); living = tt; entry = tt },
+    (record { order = inl (up _ _ refl); living = tt; entry = (_, _, inl (refl, refl, refl, refl)) },
+    (record { order = inr (refl, up _ _ refl); living = refl; entry = refl },
+    (record { order = inl (up _ _ refl); living = refl; entry = refl },
+    (record { order = inr (refl, up _ _ refl); living = refl; entry = (_, refl) },
+    (record { order = inl (up _ _ refl); living = refl; entry = refl },
+    (record { order = inr (refl, up _ _ refl); living = refl; entry = (_, refl) },
+    (record { order = inr (refl, up _ _ refl); living = refl; entry = tt },
+    (record { order = inl (up _ _ refl); living = refl; entry = (_, _, inl (refl, refl, refl, refl)) },
+    (record { order = inr (refl, up _ _ refl); living = tt; entry = refl },
+    (record { order = inr (refl, up _ _ refl); living = tt; entry = tt },
+    (record { order = inl (up _ _ refl); living = tt; entry = (_, _, inl (refl, refl, refl, refl)) },
+    (record { order = inr (refl, up _ _ refl); living = refl; entry = refl },
+    (record { order = inl (up _ _ refl); living = refl; entry = refl },
+    (record { order = inr (refl, up _ _ refl); living = refl; entry = (_, refl) },
+    (record { order = inr (refl, up _ _ refl); living = refl; entry = tt },
+    (record { order = inr (refl, up _ _ refl); living = refl; entry = tt },
+    (record { order = inl (up _ _ refl); living = refl; entry = (_, _, inl (refl, refl, refl, refl)) },
+    (record { order = inr (refl, up _ _ refl); living = tt; entry = refl },
+    (record { order = inr (refl, up _ _ refl); living = tt; entry = tt },
+    (record { order = inl (up _ _ refl); living = tt; entry = (_, _, inl (refl, refl, refl, refl)) },
+    (record { order = inr (refl, up _ _ refl); living = refl; entry = refl },
+    (record { order = inl (up _ _ refl); living = refl; entry = refl },
+    (record { order = inr (refl, up _ _ refl); living = refl; entry = (_, refl) },
+    (record { order = inr (refl, up _ _ refl); living = refl; entry = tt },
+    (record { order = inl (up _ _ refl); living = refl; entry = (_, _, inl (refl, refl, refl, refl)) },
+    (record { order = inr (refl, up _ _ refl); living = tt; entry = refl },
+    (record { order = inr (refl, up _ _ refl); living = tt; entry = tt },
+    (record { order = inl (up _ _ refl); living = tt; entry = (_, _, inl (refl, refl, refl, refl)) },
+    (record { order = inr (refl, up _ _ refl); living = refl; entry = refl },
+    (record { order = inl (up _ _ refl); living = refl; entry = refl },
+    (record { order = inr (refl, up _ _ refl); living = refl; entry = (_, refl) },
+    (record { order = inr (refl, up _ _ refl); living = refl; entry = tt },
+    (record { order = inl (up _ _ refl); living = refl; entry = (_, _, inl (refl, refl, refl, refl)) },
+    (record { order = inr (refl, up _ _ refl); living = tt; entry = refl },
+    (record { order = inr (refl, up _ _ refl); living = tt; entry = tt },
+    (record { order = inl (up _ _ refl); living = tt; entry = (_, _, inl (refl, refl, refl, refl)) },
+    (record { order = inr (refl, up _ _ refl); living = refl; entry = refl },
+    (record { order = tt; living = refl; entry = refl },
+    tt)))))))))))))))))))))))))))))))))))))))))))))))))))))
+
+acts : Acts past
+acts =
+    (record { begun = _; stands = refl; handle = refl; at_once = never; evicted = never; own = never;
+      acts = λ stays. record { after = inl (up _ _ refl); before = inl (up _ _ refl); acts = inr (record { xid = 5; op = _; heard = inl (refl, refl, refl); call = refl; request = refl; acted = inl (inl (refl, refl, refl, refl)); untold = untold_by before_8 (who 0) 5 refl; alone = λ acted. refl }) } },
+    (tt,
+    (tt,
+    (tt,
+    (tt,
+    (tt,
+    (record { most = up _ _ refl; tags = (tt, tt); objects = nowhere; one_tag = tt },
+    (tt,
+    (record { begun = _; stands = refl; handle = refl; at_once = λ bad. refl; evicted = never; own = λ local. refl;
+      acts = λ stays. record { after = inr (refl, up _ _ refl); before = inr (refl, up _ _ refl); acts = inl refl } },
+    (tt,
+    (record { begun = _; stands = refl; handle = refl; at_once = never; evicted = never; own = never;
+      acts = λ stays. record { after = inl (up _ _ refl); before = inl (up _ _ refl); acts = inr (record { xid = 4; op = _; heard = inl (refl, refl, refl); call = refl; request = refl; acted = inr (inl (refl, refl, refl, refl, refl)); untold = untold_by before_6 (who 0) 4 refl; alone = unacted_by before_6 (turn 15 (Target 0)) (who 0) 4 refl }) } },
+    (tt,
+    (tt,
+    (tt,
+    (λ stands. up _ _ refl,
+    (tt,
+    (record { most = up _ _ refl; tags = (tt, tt); objects = nowhere; one_tag = tt },
+    (tt,
+    (record { begun = _; stands = refl; handle = refl; at_once = never; evicted = never; own = never;
+      acts = λ stays. record { after = inr (refl, up _ _ refl); before = inr (refl, up _ _ refl); acts = inl refl } },
+    (tt,
+    (record { begun = _; stands = refl; handle = refl; at_once = never; evicted = never; own = never;
+      acts = λ stays. record { after = inl (up _ _ refl); before = inl (up _ _ refl); acts = inr (record { xid = 3; op = _; heard = inl (refl, refl, refl); call = refl; request = refl; acted = inr (inl (refl, refl, refl, refl, refl)); untold = untold_by before_4 (who 0) 3 refl; alone = unacted_by before_4 (turn 11 (Target 0)) (who 0) 3 refl }) } },
+    (tt,
+    (tt,
+    (tt,
+    (λ stands. up _ _ refl,
+    (tt,
+    (record { most = up _ _ refl; tags = (tt, tt); objects = nowhere; one_tag = tt },
+    (tt,
+    (record { begun = _; stands = refl; handle = refl; at_once = never; evicted = never; own = never;
+      acts = λ stays. record { after = inl (up _ _ refl); before = inr (refl, up _ _ refl); acts = inl refl } },
+    (tt,
+    (tt,
+    (tt,
+    (tt,
+    (tt,
+    (tt,
+    (record { most = up _ _ refl; tags = (tt, tt); objects = λ some. (tt, tt); one_tag = tt },
+    (tt,
+    (record { begun = _; stands = refl; handle = refl; at_once = never; evicted = never; own = never;
+      acts = λ stays. record { after = inl (up _ _ refl); before = inl (up _ _ refl); acts = inr (record { xid = 2; op = _; heard = inl (refl, refl, refl); call = refl; request = refl; acted = inr (inl (refl, refl, refl, refl, refl)); untold = untold_by before_2 (who 0) 2 refl; alone = unacted_by before_2 (turn 5 (Target 0)) (who 0) 2 refl }) } },
+    (tt,
+    (tt,
+    (tt,
+    (λ stands. up _ _ refl,
+    (tt,
+    (record { most = up _ _ refl; tags = (tt, tt); objects = nowhere; one_tag = tt },
+    (tt,
+    (record { begun = _; stands = refl; handle = refl; at_once = never; evicted = never; own = never;
+      acts = λ stays. record { after = inl (up _ _ refl); before = inl (up _ _ refl); acts = inr (record { xid = 1; op = _; heard = inl (refl, refl, refl); call = refl; request = refl; acted = inr (inl (refl, refl, refl, refl, refl)); untold = untold_by before_1 (who 0) 1 refl; alone = unacted_by before_1 (turn 2 (Target 0)) (who 0) 1 refl }) } },
+    (tt,
+    (tt,
+    (tt,
+    (λ stands. up _ _ refl,
+    (tt,
+    (record { most = up _ _ refl; tags = (tt, tt); objects = nowhere; one_tag = tt },
+    (tt,
+    tt)))))))))))))))))))))))))))))))))))))))))))))))))))))
+
+recovery : Recovery 1 past
+recovery =
+    (tt,
+    (tt,
+    (tt,
+    (λ executed. refl,
+    (tt,
+    (tt,
+    (tt,
+    (tt,
+    (tt,
+    (tt,
+    (tt,
+    (tt,
+    (tt,
+    (λ executed. refl,
+    (record { above = up _ _ refl; in_boot = refl; sees = refl },
+    (tt,
+    (tt,
+    (tt,
+    (tt,
+    (tt,
+    (tt,
+    (tt,
+    (tt,
+    (λ executed. refl,
+    (record { above = up _ _ refl; in_boot = refl; sees = refl },
+    (tt,
+    (tt,
+    (tt,
+    (tt,
+    (tt,
+    (tt,
+    (tt,
+    (λ executed. refl,
+    (tt,
+    (tt,
+    (tt,
+    (tt,
+    (tt,
+    (tt,
+    (tt,
+    (λ executed. refl,
+    (record { above = up _ _ refl; in_boot = refl; sees = refl },
+    (tt,
+    (tt,
+    (tt,
+    (tt,
+    (tt,
+    (tt,
+    (λ executed. refl,
+    (record { above = up _ _ refl; in_boot = refl; sees = refl },
+    (tt,
+    (tt,
+    (tt,
+    tt)))))))))))))))))))))))))))))))))))))))))))))))))))))
+
+history : History 1 past
+history =
+    (λ stays answer counted. record { xid = 5; heard = inl (refl, refl, refl); answered = inl (refl, refl, refl, refl, refl) },
+    (tt,
+    (tt,
+    (tt,
+    (tt,
+    (tt,
+    (tt,
+    (tt,
+    (λ stays answer. never answer,
+    (tt,
+    (λ stays answer counted. record { xid = 4; heard = inl (refl, refl, refl); answered = inl (refl, refl, refl, refl, refl, refl) },
+    (tt,
+    (tt,
+    (tt,
+    (λ stands. refl,
+    (tt,
+    (tt,
+    (tt,
+    (λ stays answer counted. refl,
+    (tt,
+    (λ stays answer counted. record { xid = 3; heard = inl (refl, refl, refl); answered = inl (refl, refl, refl, refl, refl, refl) },
+    (tt,
+    (tt,
+    (tt,
+    (λ stands. refl,
+    (tt,
+    (tt,
+    (tt,
+    (λ stays answer counted. refl,
+    (tt,
+    (tt,
+    (tt,
+    (tt,
+    (tt,
+    (tt,
+    (tt,
+    (tt,
+    (λ stays answer counted. record { xid = 2; heard = inl (refl, refl, refl); answered = inl (refl, refl, refl, refl, refl, refl) },
+    (tt,
+    (tt,
+    (tt,
+    (λ stands. refl,
+    (tt,
+    (tt,
+    (tt,
+    (λ stays answer counted. record { xid = 1; heard = inl (refl, refl, refl); answered = inl (refl, refl, refl, refl, refl, refl) },
+    (tt,
+    (tt,
+    (tt,
+    (λ stands. refl,
+    (tt,
+    (tt,
+    (tt,
+    tt)))))))))))))))))))))))))))))))))))))))))))))))))))))
+
+pub lawful : Lawful 1 past
+lawful = record { messages = messages; acts = acts; recovery = recovery; history = history }
