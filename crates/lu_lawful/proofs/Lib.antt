@@ -12,3 +12,4 @@ pub mod MessagesLaw
 pub mod Once
 pub mod Fine
 pub mod Flying
+pub mod ActsLaw

@@ -1,0 +1,253 @@
+-- The law of acts holds of the printed past of every grown one, for all lives that will be out and all numbers
+-- that will be lost, as far as none of a deed that is told is.
+use Rattle.std.proofs.Common.{◌≡◌, ◌≢◌, ℕ, zero, suc, ◌+◌, ◌<◌, ◌≤◌, Bool, true, false, List, [], ◌∷◌, Option, Some, None, ◌⊎◌, inl, inr, ⊎_elim, refl, sym, subst, ap, ◌∙◌, arith}
+use Rattle.std.specs.Prelude.{nat_eq, not, ◌&&◌, ◌||◌, ◌==◌, if◌then◌else◌, length}
+use Rattle.std.proofs.lemmas.Bool.{and_parts, cond_both, cond-true, eqb-true}
+use Rattle.std.proofs.lemmas.Bool.Decides.{nat_tests}
+use Rattle.lu_base.specs.declared.ids.At.{At}
+use Rattle.lu_base.specs.declared.ids.Stamp.{Stamp}
+use Rattle.lu_base.specs.declared.ids.Node.{Node}
+use Rattle.lu_base.specs.declared.ids.Node.TheVariants.{Client, Target}
+use Rattle.lu_base.specs.declared.ids.Who.{Who}
+use Rattle.lu_msg.specs.declared.answers.Answer.{Answer}
+use Rattle.lu_msg.specs.declared.calls.Call.{Call}
+use Rattle.lu_msg.specs.declared.calls.Call.TheVariants as call
+use Rattle.lu_msg.specs.declared.messages.Message.{Message}
+use Rattle.lu_msg.specs.declared.messages.Message.TheVariants as message
+use Rattle.lu_msg.specs.declared.messages.Reply.{Reply as ReplyTo}
+use Rattle.lu_msg.specs.declared.messages.Request.{Request as RequestOf}
+use Rattle.lu_msg.specs.declared.operations.Op.{Op}
+use Rattle.lu_machine.specs.Tree.{same_life}
+use Rattle.lu_machine.specs.Footprint.{Every}
+use Rattle.lu_table.specs.Words.{Deed, Flight, Entry, Begin, Busy, Queues, Flies, Send, Take, Tick, Heard, Told, Die, Act, Txn as Made, Line}
+use Rattle.lu_table.specs.Calls.{Begun, call_of, operation_of}
+use Rattle.lu_table.specs.Imports.{flights_of}
+use Rattle.lu_table.specs.Printed.{printed}
+use Rattle.lu_table.specs.Runs.{Head, IsHead}
+use Rattle.lu_laws.specs.Pasts as pasts
+use Rattle.lu_laws.specs.Pasts.{Past, UpTo, HeardIn, same_turn}
+use Rattle.lu_laws.specs.Lives.{life, who_is}
+use Rattle.lu_laws.specs.Requests.{first_request, in_flight, same_object}
+use Rattle.lu_laws.specs.Calls as calls
+use Rattle.lu_laws.specs.Calls.{open_call, is_bad, operation, operation_on}
+use Rattle.lu_laws.specs.Acts.{ActIn, TxnIn, standing_count, ToldWith, is_bad_handle, is_end_of_life, is_local, names_own, ActsThere, ActsInTime, ToldAt, Pairwise, SameTag, FliesAt, SendsAt, OnceAt, ActsAt, ActsOf}
+use Rattle.lu_lawful.proofs.Guards.{In, line, request, ToldOk, AskOk, SendOk, EntryOk, Allowed, Grown}
+use Rattle.lu_lawful.proofs.Lists.{life_is}
+use Rattle.lu_lawful.proofs.Base.{turn, Acted, Flew}
+use Rattle.lu_lawful.proofs.Asks.{CallOf}
+use Rattle.lu_lawful.proofs.Served.{FlewFor, first_life}
+use Rattle.lu_lawful.proofs.Timed.{Upto, upto_trans, Reached, reached_on, Hears}
+use Rattle.lu_lawful.proofs.All.{All, Before, heard_sent, told_after, all}
+use Rattle.lu_lawful.proofs.Printed.{life_one, first_sent}
+use Rattle.lu_lawful.proofs.MessagesLaw.{upto_is, open_is, told_call}
+use Rattle.lu_lawful.proofs.Once.{SentFor, DoesNow, act_now, txn_now, first_time, asked_is, acted_sent}
+use Rattle.lu_lawful.proofs.Fine.{IsThree, IsFine, three, deed_fine}
+use Rattle.lu_lawful.proofs.Flying.{Flown, flying, Distinct, flyers, no_more}
+use Rattle.lu_lawful.proofs.Facts.{TellsAt, AllTold}
+
+-- ---- each request acts once in the whole trace
+
+-- an act without a transaction, of that life and number: reads Act
+abbrev pub ActFor : List Line → Who → ℕ → Type 0
+ActFor [] who x = ⊥
+ActFor (l ∷ past) who x = elim l.entry [ Act d ↦ ((d.reply.who ≡ who) × (d.reply.xid.0 ≡ x)) ⊎ ActFor past who x | _ ↦ ActFor past who x ]
+
+abbrev pub NoneFor : List Line → Who → ℕ → Type 0
+NoneFor past who x = (d : Deed) → Acted past d → d.reply.who ≡ who → d.reply.xid.0 ≡ x → ⊥
+
+act_acted : (past : List Line) (who : Who) (x : ℕ) → ActFor past who x → (d : Deed) × Acted past d × (d.reply.who ≡ who) × (d.reply.xid.0 ≡ x)
+act_acted [] who x a = absurd a
+act_acted (l ∷ past) who x a = by l.entry (act_acted past who x) a
+  where
+    by : (e : Entry) → (ActFor past who x → (d : Deed) × Acted past d × (d.reply.who ≡ who) × (d.reply.xid.0 ≡ x)) → ActFor (line l.at e ∷ past) who x → (d : Deed) × Acted (line l.at e ∷ past) d × (d.reply.who ≡ who) × (d.reply.xid.0 ≡ x)
+    by (Act e) h a = ⊎_elim (λ (p : (e.reply.who ≡ who) × (e.reply.xid.0 ≡ x)). (e, inl refl, p.0, p.1)) (λ (p : ActFor past who x). let k = h p in (k.0, inr k.1, k.2, k.3)) a
+    by (Made e) h a = let k = h a in (k.0, inr k.1, k.2, k.3)
+    by (Begin slot call) h a = h a
+    by (Busy slot) h a = h a
+    by (Queues t q) h a = h a
+    by (Flies t f) h a = h a
+    by (Send to m) h a = h a
+    by (Take n m) h a = h a
+    by Tick h a = h a
+    by (Heard t f r) h a = h a
+    by (Told slot named given) h a = h a
+    by Die h a = h a
+
+module _ (lost : ℕ → ℕ → Bool) (who : Who) (x : ℕ) where
+  counts : List Line → ℕ
+  counts past = standing_count lost 0 who x (printed past)
+
+  -- one more line counts at most once, and not at all where it isn't of that request
+  none_counts : (past : List Line) → NoneFor past who x → standing_count lost 0 who x (printed past) ≡ 0
+  none_counts [] n = refl
+  none_counts (l ∷ past) n = by l.entry (none_counts past) n
+    where
+      by : (e : Entry) → (NoneFor past who x → standing_count lost 0 who x (printed past) ≡ 0) → NoneFor (line l.at e ∷ past) who x → standing_count lost 0 who x (printed (line l.at e ∷ past)) ≡ 0
+      by (Made d) h n = cond_both (pasts.is_target 0 l.at.node && same_life d.reply.who who && nat_eq d.reply.xid.0 x && not (lost 0 d.reply.txn.0)) (suc (standing_count lost 0 who x (printed past))) (standing_count lost 0 who x (printed past)) (λ (v : ℕ). v ≡ 0)
+          (λ t. let a = and_parts (pasts.is_target 0 l.at.node && same_life d.reply.who who && nat_eq d.reply.xid.0 x) _ t in let b = and_parts (pasts.is_target 0 l.at.node && same_life d.reply.who who) _ a.0 in let c = and_parts (pasts.is_target 0 l.at.node) _ b.0 in absurd (n d (inl refl) (life_is d.reply.who who c.1) (eqb-true d.reply.xid.0 x b.1)))
+          (λ t. h (λ e a. n e (inr a)))
+      by (Act d) h n = h (λ e a. n e (inr a))
+      by (Begin slot call) h n = h n
+      by (Busy slot) h n = h n
+      by (Queues t q) h n = h n
+      by (Flies t f) h n = h n
+      by (Send to m) h n = h n
+      by (Take k m) h n = h n
+      by Tick h n = h n
+      by (Heard t f r) h n = h n
+      by (Told slot named given) h n = h n
+      by Die h n = h n
+
+  -- at most one transaction, and none beside an act
+  pub at_most : (head : Head) (past : List Line) → Grown head past → (standing_count lost 0 who x (printed past) ≤ 1) × (ActFor past who x → standing_count lost 0 who x (printed past) ≡ 0)
+  at_most head [] g = (omega arith, λ a. absurd a)
+  at_most head (l ∷ past) g = by l.entry g.0.ok (at_most head past g.1)
+    where
+      by : (e : Entry) → EntryOk head past l.at l.at.node e → (standing_count lost 0 who x (printed past) ≤ 1) × (ActFor past who x → standing_count lost 0 who x (printed past) ≡ 0)
+          → (standing_count lost 0 who x (printed (line l.at e ∷ past)) ≤ 1) × (ActFor (line l.at e ∷ past) who x → standing_count lost 0 who x (printed (line l.at e ∷ past)) ≡ 0)
+      by (Made d) ok h =
+          let now = (txn_now head past l.at.stamp l.at.node d ok g.1).0 in
+          let inv = (all head past g.1).0 in
+          cond_both (pasts.is_target 0 l.at.node && same_life d.reply.who who && nat_eq d.reply.xid.0 x && not (lost 0 d.reply.txn.0)) (suc (standing_count lost 0 who x (printed past))) (standing_count lost 0 who x (printed past)) (λ (v : ℕ). (v ≤ 1) × (ActFor past who x → v ≡ 0))
+          (λ t.
+          let a = and_parts (pasts.is_target 0 l.at.node && same_life d.reply.who who && nat_eq d.reply.xid.0 x) _ t in
+          let b = and_parts (pasts.is_target 0 l.at.node && same_life d.reply.who who) _ a.0 in
+          let c = and_parts (pasts.is_target 0 l.at.node) _ b.0 in
+          let w = life_is d.reply.who who c.1 in
+          let y = eqb-true d.reply.xid.0 x b.1 in
+          let n : NoneFor past who x = λ e i p q. first_time head past inv d now e i (p ∙ sym w) (q ∙ sym y) in
+          let z = none_counts past n in
+          (omega arith, λ i. let k = act_acted past who x i in absurd (n k.0 k.1 k.2 k.3)))
+          (λ t. h)
+      by (Act d) ok h =
+          (
+            h.0,
+            λ i. ⊎_elim
+                (λ (p : (d.reply.who ≡ who) × (d.reply.xid.0 ≡ x)). none_counts past (λ e j w y. first_time head past (all head past g.1).0 d (act_now head past l.at.stamp l.at.node d ok g.1).0 e j (w ∙ sym p.0) (y ∙ sym p.1)))
+                (λ (p : ActFor past who x). h.1 p)
+                i,
+          )
+      by (Begin slot call) ok h = h
+      by (Busy slot) ok h = h
+      by (Queues t q) ok h = h
+      by (Flies t f) ok h = h
+      by (Send to m) ok h = h
+      by (Take k m) ok h = h
+      by Tick ok h = h
+      by (Heard t f r) ok h = h
+      by (Told slot named given) ok h = h
+      by Die ok h = h
+
+-- ---- an act of the printed past is one of the full one
+
+act_for : (past : List Line) (named : At) (who : Who) (x : ℕ) → ActIn (printed past) named who x → ActFor past who x
+act_for [] named who x a = absurd a
+act_for (l ∷ past) named who x a = by l.entry (act_for past named who x) a
+  where
+    by : (e : Entry) → (ActIn (printed past) named who x → ActFor past who x) → ActIn (printed (line l.at e ∷ past)) named who x → ActFor (line l.at e ∷ past) who x
+    by (Act d) h a = ⊎_elim (λ (p : (l.at ≡ named) × (l.at.node ≡ Target 0) × (d.reply.who ≡ who) × (d.reply.xid.0 ≡ x)). inl (p.2, p.3)) (λ (p : ActIn (printed past) named who x). inr (h p)) a
+    by (Made d) h a = h a
+    by (Begin slot call) h a = h a
+    by (Busy slot) h a = h a
+    by (Queues t q) h a = h a
+    by (Flies t f) h a = h a
+    by (Send to m) h a = h a
+    by (Take k m) h a = h a
+    by Tick h a = h a
+    by (Heard t f r) h a = h a
+    by (Told slot given answer) h a = h a
+    by Die h a = h a
+
+-- what was done stands in the printed past
+acted_in : (head : Head) (lost : ℕ → ℕ → Bool) (past : List Line) → Grown head past → (d : Deed) → Acted past d → lost 0 d.reply.txn.0 ≡ false → ActIn (printed past) d.reply.at d.reply.who d.reply.xid.0 ⊎ TxnIn lost (printed past) d.reply.at d.reply.who d.reply.xid.0
+acted_in head lost [] g d a s = absurd a
+acted_in head lost (l ∷ past) g d a s = by l.entry g.0.ok (acted_in head lost past g.1 d) a
+  where
+    Stands : List Line → Deed → Type 0
+    Stands p e = ActIn (printed p) e.reply.at e.reply.who e.reply.xid.0 ⊎ TxnIn lost (printed p) e.reply.at e.reply.who e.reply.xid.0
+
+    by : (e : Entry) → EntryOk head past l.at l.at.node e → (Acted past d → lost 0 d.reply.txn.0 ≡ false → Stands past d) → Acted (line l.at e ∷ past) d → Stands (line l.at e ∷ past) d
+    by (Act e) ok h a = ⊎_elim
+        (λ (p : e ≡ d). subst (λ (v : Deed). Stands (line l.at (Act e) ∷ past) v) p (let k = act_now head past l.at.stamp l.at.node e ok g.1 in inl (inl (sym k.2, k.1, refl, refl))))
+        (λ (p : Acted past d). ⊎_elim (λ (i : ActIn (printed past) d.reply.at d.reply.who d.reply.xid.0). inl (inr i)) (λ (i : TxnIn lost (printed past) d.reply.at d.reply.who d.reply.xid.0). inr i) (h p s))
+        a
+    by (Made e) ok h a = ⊎_elim
+        (λ (p : e ≡ d). let k = txn_now head past l.at.stamp l.at.node e ok g.1 in inr (inl (sym k.2 ∙ ap (λ (v : Deed). v.reply.at) p, k.1, ap (λ (v : Deed). v.reply.who) p, ap (λ (v : Deed). v.reply.xid.0) p, ap (λ (v : Deed). lost 0 v.reply.txn.0) p ∙ s)))
+        (λ (p : Acted past d). ⊎_elim (λ (i : ActIn (printed past) d.reply.at d.reply.who d.reply.xid.0). inl i) (λ (i : TxnIn lost (printed past) d.reply.at d.reply.who d.reply.xid.0). inr (inr i)) (h p s))
+        a
+    by (Begin slot call) ok h a = h a s
+    by (Busy slot) ok h a = h a s
+    by (Queues t q) ok h a = h a s
+    by (Flies t f) ok h a = h a s
+    by (Send to m) ok h a = h a s
+    by (Take k m) ok h a = h a s
+    by Tick ok h a = h a s
+    by (Heard t f r) ok h a = h a s
+    by (Told slot given answer) ok h a = h a s
+    by Die ok h a = h a s
+
+-- ---- what was heard
+
+heard_hears : (head : Head) (past : List Line) → Grown head past → (at : At) (c x : ℕ) → at.node ≡ Client c → HeardIn (printed past) at 0 x → Hears past c x
+heard_hears head [] g at c x n i = absurd i
+heard_hears head (l ∷ past) g at c x n i = by l.entry g.0.ok (heard_hears head past g.1 at c x n) i
+  where
+    own : (node : Node) (t : ℕ) (f : Flight) (r : ReplyTo) → node ≡ Client c → EntryOk head past l.at node (Heard t f r) → r.xid.0 ≡ x → f.xid ≡ x
+    own (Client d) t f r e ok y = ok.1.xid ∙ y
+    own (Target u) t f r e ok y = absurd ok
+
+    by : (e : Entry) → EntryOk head past l.at l.at.node e → (HeardIn (printed past) at 0 x → Hears past c x) → HeardIn (printed (line l.at e ∷ past)) at 0 x → Hears (line l.at e ∷ past) c x
+    by (Heard t f r) ok h i = ⊎_elim
+        (λ (p : (l.at ≡ at) × (t ≡ 0) × (r.xid.0 ≡ x)). let m : l.at.node ≡ Client c = ap (λ (v : At). v.node) p.0 ∙ n in inl (m, own l.at.node t f r m ok p.2))
+        (λ (p : HeardIn (printed past) at 0 x). inr (h p))
+        i
+    by (Act d) ok h i = h i
+    by (Made d) ok h i = h i
+    by (Begin slot call) ok h i = h i
+    by (Busy slot) ok h i = h i
+    by (Queues t q) ok h i = h i
+    by (Flies t f) ok h i = h i
+    by (Send to m) ok h i = h i
+    by (Take k m) ok h i = h i
+    by Tick ok h i = h i
+    by (Told slot given answer) ok h i = h i
+    by Die ok h i = h i
+
+hears_more : (past : List Line) (l : Line) (c x : ℕ) → Hears past c x → Hears (l ∷ past) c x
+hears_more past l c x h = by l.entry
+  where
+    by : (e : Entry) → Hears (line l.at e ∷ past) c x
+    by (Heard t f r) = inr h
+    by (Act d) = h
+    by (Made d) = h
+    by (Begin slot call) = h
+    by (Busy slot) = h
+    by (Queues t q) = h
+    by (Flies t f) = h
+    by (Send to m) = h
+    by (Take k m) = h
+    by Tick = h
+    by (Told slot given answer) = h
+    by Die = h
+
+-- what was told of a number was heard
+told_hears : (head : Head) (past : List Line) → Grown head past → (c x : ℕ) → ToldWith (printed past) (first_life c) x → Hears past c x
+told_hears head [] g c x i = absurd i
+told_hears head (l ∷ past) g c x i = by l.entry (told_hears head past g.1 c x) i
+  where
+    by : (e : Entry) → (ToldWith (printed past) (first_life c) x → Hears past c x) → ToldWith (printed (line l.at e ∷ past)) (first_life c) x → Hears (line l.at e ∷ past) c x
+    by (Told slot named given) h i = ⊎_elim
+        (λ (p : (l.at.node ≡ Client c) × (life c (printed past) ≡ 1) × (named ≢ l.at) × HeardIn (printed past) l.at 0 x). heard_hears head past g.1 l.at c x p.0 p.3)
+        (λ (p : ToldWith (printed past) (first_life c) x). h p)
+        i
+    by (Heard t f r) h i = inr (h i)
+    by (Act d) h i = h i
+    by (Made d) h i = h i
+    by (Begin slot call) h i = h i
+    by (Busy slot) h i = h i
+    by (Queues t q) h i = h i
+    by (Flies t f) h i = h i
+    by (Send to m) h i = h i
+    by (Take k m) h i = h i
+    by Tick h i = h i
+    by Die h i = h i
