@@ -5,3 +5,4 @@ pub mod Base
 pub mod Asks
 pub mod Served
 pub mod Facts
+pub mod Contents
