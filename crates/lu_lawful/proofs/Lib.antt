@@ -6,3 +6,4 @@ pub mod Asks
 pub mod Served
 pub mod Facts
 pub mod Contents
+pub mod SeenNumbers
