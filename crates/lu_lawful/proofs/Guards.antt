@@ -87,7 +87,7 @@ pub record Fresh (past : List Line) (kept : ReplyTo) : Type 0 where
   pub is : deed.reply ≡ kept
 
 -- the newest line took a request, whose kept reply is sent again
-pub record Again (past : List Line) : Type 0 where
+pub record Taken (past : List Line) : Type 0 where
   pub at : At
   pub number : ℕ
   pub request : RequestOf
@@ -101,7 +101,7 @@ pub record ReplyOk (osts : ℕ) (past : List Line) (c : ℕ) (k : ReplyTo) : Typ
   pub slot : slot_of who tag past ≡ Some kept
   pub is : k ≡ again (server_of osts past) kept
   pub to : c ≡ k.who.client
-  pub newest : Fresh past kept ⊎ Again past
+  pub newest : Fresh past kept ⊎ Taken past
 
 pub record TakeOk (past : List Line) (at : At) (n : ℕ) (m : Message) : Type 0 where
   pub sent : Sent past n at.node m

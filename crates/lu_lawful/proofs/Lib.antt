@@ -7,3 +7,4 @@ pub mod Served
 pub mod Facts
 pub mod Contents
 pub mod SeenNumbers
+pub mod RecoveryLaw
