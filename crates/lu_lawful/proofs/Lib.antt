@@ -8,3 +8,4 @@ pub mod Facts
 pub mod Contents
 pub mod SeenNumbers
 pub mod RecoveryLaw
+pub mod Three
