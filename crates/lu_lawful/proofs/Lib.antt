@@ -9,3 +9,4 @@ pub mod Contents
 pub mod SeenNumbers
 pub mod RecoveryLaw
 pub mod Three
+pub mod HistoryLaw

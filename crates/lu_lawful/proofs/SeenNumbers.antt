@@ -26,10 +26,10 @@ use Rattle.lu_lawful.proofs.Base.{turn}
 use Rattle.lu_lawful.proofs.Facts.{AskedAt, AllAsked}
 use Rattle.lu_lawful.proofs.Contents.{committed_is, none_lost, number_is, asked_before, contents_are}
 
-abbrev one : Bool → ℕ → List ℕ
+abbrev pub one : Bool → ℕ → List ℕ
 one t n = if t then n ∷ [] else []
 
-seen_snoc : (touched : List Part) (log : List Logged) (g : Logged) → seen_in touched (log ++ g ∷ []) ≡ seen_in touched log ++ one (meet g.writes touched) g.deed.reply.txn.0
+pub seen_snoc : (touched : List Part) (log : List Logged) (g : Logged) → seen_in touched (log ++ g ∷ []) ≡ seen_in touched log ++ one (meet g.writes touched) g.deed.reply.txn.0
 seen_snoc touched [] g = refl
 seen_snoc touched (k ∷ log) g = by (meet k.writes touched) (seen_snoc touched log g)
   where
