@@ -70,7 +70,7 @@ later_before l [] at s b = tt
 later_before l (m ∷ past) at s b = ⊎_elim (λ (e : m.at ≡ l.at). subst (λ (v : At). turn_before v at ≡ true) (sym e) b) (λ (e : turn_before m.at l.at ≡ true). turn_trans m.at l.at at e b) s
 
 -- a deed is of the turn in which it was done
-deed_at : (head : Head) (past : List Line) (stamp : Stamp) (node : Node) (d : Deed) → EntryOk head past (turn stamp node) node (Act d) ⊎ EntryOk head past (turn stamp node) node (Made d) → d.reply.at ≡ turn stamp node
+pub deed_at : (head : Head) (past : List Line) (stamp : Stamp) (node : Node) (d : Deed) → EntryOk head past (turn stamp node) node (Act d) ⊎ EntryOk head past (turn stamp node) node (Made d) → d.reply.at ≡ turn stamp node
 deed_at head past stamp (Client c) d (inl ok) = absurd ok
 deed_at head past stamp (Client c) d (inr ok) = absurd ok
 deed_at head past stamp (Target t) d (inl ok) = ap (λ (e : Deed). e.reply.at) ok.1.is
