@@ -47,7 +47,7 @@ use Rattle.lu_lawful.proofs.Served.{first_life}
 use Rattle.lu_lawful.proofs.Facts.{AskedAt, AllAsked, TellsAt, AllTold}
 use Rattle.lu_lawful.proofs.Contents.{none_lost, none_gone, life_stays, number_is, asked_before}
 use Rattle.lu_lawful.proofs.SeenNumbers.{one, seen_snoc}
-use Rattle.lu_lawful.proofs.RecoveryLaw.{deed_at}
+use Rattle.lu_lawful.proofs.Deeds.{act_ok, txn_ok, act_is, txn_is, deed_at, deed_node}
 use Rattle.lu_lawful.proofs.Three.{IsThree, threes, told_plain}
 
 -- ---- which lives may be out, and which numbers lost
@@ -104,35 +104,6 @@ told_earlier l past = by l.entry
     by : (e : Entry) → AllTold (line l.at e ∷ past) → AllTold past
     by (Told slot turn given) t = t.1
     by _ t = t
-
--- ---- deeds
-
-act_is : (osts : ℕ) (past : List Line) (at : At) (d : Deed) → ActOk osts past at d
-    → (d.reply.txn ≡ none) × (d.reply.answer ≡ answer osts (tree_of osts past) (operation d)) × (d.reply.seen ≡ seen_in (touches osts (tree_of osts past) (operation d)) (log_of osts past)) × (changes osts (tree_of osts past) (operation d) ≡ false)
-act_is osts past at d ok =
-    subst (λ (e : Deed). (e.reply.txn ≡ none) × (e.reply.answer ≡ answer osts (tree_of osts past) (operation e)) × (e.reply.seen ≡ seen_in (touches osts (tree_of osts past) (operation e)) (log_of osts past)) × (changes osts (tree_of osts past) (operation e) ≡ false)) (sym ok.is)
-    (refl, refl, refl, ok.still)
-
-txn_is : (osts : ℕ) (past : List Line) (at : At) (d : Deed) → TxnOk osts past at d
-    → (d.reply.answer ≡ answer osts (tree_of osts past) (operation d)) × (d.reply.seen ≡ seen_in (touches osts (tree_of osts past) (operation d)) (log_of osts past)) × (changes osts (tree_of osts past) (operation d) ≡ true)
-txn_is osts past at d ok =
-    let r = ok.request in
-    subst (λ (e : Deed). (e.reply.answer ≡ answer osts (tree_of osts past) (operation e)) × (e.reply.seen ≡ seen_in (touches osts (tree_of osts past) (operation e)) (log_of osts past)) × (changes osts (tree_of osts past) (operation e) ≡ true)) (sym ok.is)
-    (refl, refl, (number_is_free osts (tree_of osts past) (target.asked r (next_number (server_of osts past))) (target.asked r target.none) refl).changes ∙ ok.moves)
-
-deed_node : (head : Head) (past : List Line) (stamp : Stamp) (node : Node) (d : Deed) → EntryOk head past (turn stamp node) node (Act d) ⊎ EntryOk head past (turn stamp node) node (Made d) → node ≡ Target 0
-deed_node head past stamp (Client c) d (inl ok) = absurd ok
-deed_node head past stamp (Client c) d (inr ok) = absurd ok
-deed_node head past stamp (Target t) d (inl ok) = ap Target ok.0
-deed_node head past stamp (Target t) d (inr ok) = ap Target ok.0
-
-act_ok : (head : Head) (past : List Line) (stamp : Stamp) (node : Node) (d : Deed) → EntryOk head past (turn stamp node) node (Act d) → ActOk head.osts past (turn stamp node) d
-act_ok head past stamp (Client c) d ok = absurd ok
-act_ok head past stamp (Target t) d ok = ok.1
-
-txn_ok : (head : Head) (past : List Line) (stamp : Stamp) (node : Node) (d : Deed) → EntryOk head past (turn stamp node) node (Made d) → TxnOk head.osts past (turn stamp node) d
-txn_ok head past stamp (Client c) d ok = absurd ok
-txn_ok head past stamp (Target t) d ok = ok.1
 
 -- ---- the past as items of the removal law
 

@@ -7,6 +7,7 @@ pub mod Served
 pub mod Facts
 pub mod Contents
 pub mod SeenNumbers
-pub mod RecoveryLaw
+pub mod Deeds
 pub mod Three
+pub mod RecoveryLaw
 pub mod HistoryLaw

@@ -36,6 +36,7 @@ use Rattle.lu_lawful.proofs.Base.{turn, Acted}
 use Rattle.lu_lawful.proofs.Facts.{AskedAt, AllAsked}
 use Rattle.lu_lawful.proofs.Contents.{boot_is, Counted, counted_before, number_is, number_in_boot, below_next, asked_before, contents_are}
 use Rattle.lu_lawful.proofs.SeenNumbers.{seen_is}
+use Rattle.lu_lawful.proofs.Deeds.{act_is, txn_is, deed_at}
 
 -- ---- turns
 
@@ -68,13 +69,6 @@ before_differs a b e = by (same_turn a b) refl
 pub later_before : (l : Line) (past : List Line) (at : At) → Steps past l.at → turn_before l.at at ≡ true → Later past at
 later_before l [] at s b = tt
 later_before l (m ∷ past) at s b = ⊎_elim (λ (e : m.at ≡ l.at). subst (λ (v : At). turn_before v at ≡ true) (sym e) b) (λ (e : turn_before m.at l.at ≡ true). turn_trans m.at l.at at e b) s
-
--- a deed is of the turn in which it was done
-pub deed_at : (head : Head) (past : List Line) (stamp : Stamp) (node : Node) (d : Deed) → EntryOk head past (turn stamp node) node (Act d) ⊎ EntryOk head past (turn stamp node) node (Made d) → d.reply.at ≡ turn stamp node
-deed_at head past stamp (Client c) d (inl ok) = absurd ok
-deed_at head past stamp (Client c) d (inr ok) = absurd ok
-deed_at head past stamp (Target t) d (inl ok) = ap (λ (e : Deed). e.reply.at) ok.1.is
-deed_at head past stamp (Target t) d (inr ok) = ap (λ (e : Deed). e.reply.at) ok.1.is
 
 pub acted_before : (head : Head) (past : List Line) (at : At) (d : Deed) → Grown head past → Later past at → Acted past d → turn_before d.reply.at at ≡ true
 acted_before head [] at d g later a = absurd a
@@ -138,15 +132,8 @@ executed_now head past at k g e = let s = took_no_size head past k.who k.xid.0 a
     by true b s e = refl
     by false b s e = absurd (cc)
 
--- ---- a deed's seen numbers
+-- ---- a deed's seen numbers, by the law, after a past
 
-act_seen : (osts : ℕ) (past : List Line) (at : At) (d : Deed) → ActOk osts past at d → d.reply.seen ≡ seen_in (touches osts (tree_of osts past) (operation d)) (log_of osts past)
-act_seen osts past at d ok = subst (λ (e : Deed). e.reply.seen ≡ seen_in (touches osts (tree_of osts past) (operation e)) (log_of osts past)) (sym ok.is) refl
-
-txn_seen : (osts : ℕ) (past : List Line) (at : At) (d : Deed) → TxnOk osts past at d → d.reply.seen ≡ seen_in (touches osts (tree_of osts past) (operation d)) (log_of osts past)
-txn_seen osts past at d ok = subst (λ (e : Deed). e.reply.seen ≡ seen_in (touches osts (tree_of osts past) (operation e)) (log_of osts past)) (sym ok.is) refl
-
--- the law's seen numbers of a deed after a past
 abbrev law_seen : ℕ → List Line → Deed → List ℕ
 law_seen osts past d = seen_by osts 0 (printed past) (touches_of osts 0 (printed past) d.reply.txn d.reply.who (asked (printed past) 0 d.reply.who d.reply.xid.0) d.reply.answer)
 
@@ -182,7 +169,7 @@ act_reply head before stamp (Target t) d g a =
     let never : law.seen_in (printed before) d.reply.at d.reply.who d.reply.xid.0 ≡ None =
         subst (λ v. law.seen_in (printed v) d.reply.at d.reply.who d.reply.xid.0 ≡ None) (sym took.newest)
         (none_seen head took.before d.reply.at d.reply.who d.reply.xid.0 grown.1 (subst (λ (v : At). Later took.before v) (sym w) grown.0.ok.later)) in
-    act_seen head.osts before at d ok
+    (act_is head.osts before at d ok).2
     ∙ sym (law_seen_is head past d g a a.0)
     ∙ sym (ap (λ o. reply_seen head.osts 0 (printed past) d.reply o) never)
 
@@ -239,7 +226,7 @@ txn_law head past at d g a asks few ok =
     record {
       above = omega arith;
       in_boot = ap (λ (v : ℕ). v / 4294967296) n ∙ number_in_boot (count_of past + 1) few ∙ sym (boot_is past);
-      sees = txn_seen head.osts past at d ok ∙ sym (law_seen_is head past d g a asks);
+      sees = (txn_is head.osts past at d ok).1 ∙ sym (law_seen_is head past d g a asks);
     }
 
 -- ---- the law
