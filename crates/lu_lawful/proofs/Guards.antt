@@ -78,6 +78,22 @@ pub record AskOk (past : List Line) (c : ℕ) (r : RequestOf) : Type 0 where
   pub flying : In flight (flights_of c 0 past)
   pub is : r ≡ request c past flight
 
+-- the newest line did what is answered, in this turn
+pub record Fresh (past : List Line) (kept : ReplyTo) : Type 0 where
+  pub at : At
+  pub deed : Deed
+  pub before : List Line
+  pub newest : (past ≡ line at (Act deed) ∷ before) ⊎ (past ≡ line at (Txn deed) ∷ before)
+  pub is : deed.reply ≡ kept
+
+-- the newest line took a request, whose kept reply is sent again
+pub record Taken (past : List Line) : Type 0 where
+  pub at : At
+  pub number : ℕ
+  pub request : RequestOf
+  pub before : List Line
+  pub newest : past ≡ line at (Take number (message.Request request)) ∷ before
+
 pub record ReplyOk (osts : ℕ) (past : List Line) (c : ℕ) (k : ReplyTo) : Type 0 where
   pub who : Who
   pub tag : ℕ
@@ -85,6 +101,7 @@ pub record ReplyOk (osts : ℕ) (past : List Line) (c : ℕ) (k : ReplyTo) : Typ
   pub slot : slot_of who tag past ≡ Some kept
   pub is : k ≡ again (server_of osts past) kept
   pub to : c ≡ k.who.client
+  pub newest : Fresh past kept ⊎ Taken past
 
 pub record TakeOk (past : List Line) (at : At) (n : ℕ) (m : Message) : Type 0 where
   pub sent : Sent past n at.node m

@@ -13,3 +13,9 @@ pub mod Once
 pub mod Fine
 pub mod Flying
 pub mod ActsLaw
+pub mod Contents
+pub mod SeenNumbers
+pub mod Deeds
+pub mod Three
+pub mod RecoveryLaw
+pub mod HistoryLaw

@@ -217,7 +217,7 @@ module _ (head : Head) (stamp : Stamp) where
       (
         record { steps = inl refl; lives = tt; ok = (refl, record { request = r; executes = record { number = n; before = past; newest = refl; newer = newer }; numbers = has; moves = e; is = refl }) },
         (
-          record { steps = inl refl; lives = tt; ok = (refl, record { who = r.who; tag = r.tag; kept = d.reply; slot = cond-true (same_life r.who r.who && nat_eq r.tag r.tag) _ _ (own r); is = refl; to = refl }) },
+          record { steps = inl refl; lives = tt; ok = (refl, record { who = r.who; tag = r.tag; kept = d.reply; slot = cond-true (same_life r.who r.who && nat_eq r.tag r.tag) _ _ (own r); is = refl; to = refl; newest = inl (record { at = there; deed = d; before = line there (Take n (message.Request r)) ∷ past; newest = inr refl; is = refl }) }) },
           tt,
         ),
       )
@@ -230,7 +230,7 @@ module _ (head : Head) (stamp : Stamp) where
       (
         record { steps = inl refl; lives = tt; ok = (refl, record { request = r; executes = record { number = n; before = past; newest = refl; newer = newer }; still = e; is = refl }) },
         (
-          record { steps = inl refl; lives = tt; ok = (refl, record { who = r.who; tag = r.tag; kept = d.reply; slot = cond-true (same_life r.who r.who && nat_eq r.tag r.tag) _ _ (own r); is = refl; to = refl }) },
+          record { steps = inl refl; lives = tt; ok = (refl, record { who = r.who; tag = r.tag; kept = d.reply; slot = cond-true (same_life r.who r.who && nat_eq r.tag r.tag) _ _ (own r); is = refl; to = refl; newest = inl (record { at = there; deed = d; before = line there (Take n (message.Request r)) ∷ past; newest = inl refl; is = refl }) }) },
           tt,
         ),
       )
@@ -242,7 +242,7 @@ module _ (head : Head) (stamp : Stamp) where
       → AllAllowed head (line there (Take n (message.Request r)) ∷ past) there (row_known head.osts (server_of head.osts past) there r k more same)
   known_ok past has n r k true same e l = executes_ok past has n r (changes head.osts (tree_of head.osts past) (asked r none)) (subst (λ o. IsNewer o r) (sym e) (ltb-true k.xid.0 r.xid.0 l)) refl
   known_ok past has n r k false true e l =
-      (record { steps = inl refl; lives = tt; ok = (refl, record { who = r.who; tag = r.tag; kept = k; slot = e; is = refl; to = refl }) }, tt)
+      (record { steps = inl refl; lives = tt; ok = (refl, record { who = r.who; tag = r.tag; kept = k; slot = e; is = refl; to = refl; newest = inr (record { at = there; number = n; request = r; before = past; newest = refl }) }) }, tt)
   known_ok past has n r k false false e l = tt
 
   request_ok : (past : List Line) → HasNumbers past → (n : ℕ) (r : RequestOf) (o : Option ReplyTo) → slot_of r.who r.tag past ≡ o

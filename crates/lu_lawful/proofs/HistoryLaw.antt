@@ -1,0 +1,398 @@
+-- The law of history: with the lost transactions taken out, the plain machine answers what clients were told, and
+-- refuses no transaction that stands.
+use Rattle.std.proofs.Common.{◌≡◌, ℕ, ◌+◌, ◌<◌, ◌≤◌, max, Bool, true, false, cond, List, [], ◌∷◌, ◌++◌, Option, Some, None, ◌⊎◌, inl, inr, ⊎_elim, refl, sym, subst, ap, ◌∙◌, arith}
+use Rattle.std.specs.Prelude.{nat_eq, nat_lt, not, ◌&&◌, ◌||◌, ◌==◌, if◌then◌else◌}
+use Rattle.std.proofs.lemmas.Bool.{cond_both, cond-true, cond-false}
+use Rattle.lu_base.specs.declared.ids.At.{At}
+use Rattle.lu_base.specs.declared.ids.Node.{Node}
+use Rattle.lu_base.specs.declared.ids.Node.TheVariants.{Client, Target}
+use Rattle.lu_base.specs.declared.ids.Stamp.{Stamp}
+use Rattle.lu_base.specs.declared.ids.Txn.{Txn as TxnOf}
+use Rattle.lu_base.specs.declared.ids.Who.{Who}
+use Rattle.lu_msg.specs.declared.answers.Answer.{Answer}
+use Rattle.lu_msg.specs.declared.answers.Answer.TheVariants as told
+use Rattle.lu_msg.specs.declared.answers.Errno.{Errno}
+use Rattle.lu_msg.specs.declared.messages.Message.{Message}
+use Rattle.lu_msg.specs.declared.operations.Op.{Op}
+use Rattle.lu_part.specs.declared.parts.Part.{Part}
+use Rattle.lu_machine.specs.declared.acts.Act.{Act as ActOf}
+use Rattle.lu_machine.specs.Tree.{Tree}
+use Rattle.lu_machine.specs.Footprint.{Operation, empty, answer, touches, writes, changes, after, Every}
+use Rattle.lu_machine.specs.Removal as removal
+use Rattle.lu_machine.specs.Removal.{Item, Acts, pick, Older}
+use Rattle.lu_machine.specs.Seen.{meet, seen, SawKept, AllSawKept}
+use Rattle.lu_machine.specs.Laws.{Alike}
+use Rattle.lu_machine.specs.Machine.{Machine, names_answer, names_next}
+use Rattle.lu_machine.proofs.Numbers.{number_is_free}
+use Rattle.lu_machine.proofs.Stated.{refusals_stay}
+use Rattle.lu_machine.proofs.Removal.{earlier_are_older}
+use Rattle.lu_machine.proofs.Seen.{removal_by_seen}
+use Rattle.lu_machine.proofs.Transactions.{machine_is_table}
+use Rattle.lu_table.specs.Words.{Deed, Entry, Begin, Busy, Queues, Flies, Send, Take, Tick, Heard, Told, Die, Act, Txn as Made, Line}
+use Rattle.lu_table.specs.Targets.{operation, tree_of, log_of, count_of, server_of, next_number, seen_in}
+use Rattle.lu_table.specs.TargetRows as target
+use Rattle.lu_table.specs.Printed.{printed}
+use Rattle.lu_table.specs.Runs.{Head}
+use Rattle.lu_laws.specs.Pasts.{same_turn}
+use Rattle.lu_laws.specs.Lives.{who_is, is_gone}
+use Rattle.lu_laws.specs.Lost.{is_lost}
+use Rattle.lu_laws.specs.Requests.{asked}
+use Rattle.lu_laws.specs.Calls.{open_call}
+use Rattle.lu_laws.specs.Histories.{none, request_act, is_answer, told_item, txn_item, standing_item, after_item, machine_of, act_of, deed_of}
+use Rattle.lu_laws.specs.History.{Answers, AnsweredThere, ToldFrom, ToldBy, ToldAt, is_refused, is_counted, IsDone, HistoryOf, History}
+use Rattle.lu_laws.specs.History as law
+use Rattle.lu_lawful.proofs.Guards.{line, ActOk, TxnOk, EntryOk, Allowed, Grown}
+use Rattle.lu_lawful.proofs.Base.{turn, Acted}
+use Rattle.lu_lawful.proofs.Served.{first_life}
+use Rattle.lu_lawful.proofs.Facts.{AskedAt, AllAsked, TellsAt, AllTold}
+use Rattle.lu_lawful.proofs.Contents.{none_lost, none_gone, life_stays, number_is, asked_before}
+use Rattle.lu_lawful.proofs.SeenNumbers.{one, seen_snoc}
+use Rattle.lu_lawful.proofs.Deeds.{act_ok, txn_ok, act_is, txn_is, deed_at, deed_node}
+use Rattle.lu_lawful.proofs.Three.{IsThree, threes, told_plain}
+
+-- ---- which lives may be out, and which numbers lost
+
+-- these numbers aren't lost
+abbrev pub AllStand : (ℕ → ℕ → Bool) → List ℕ → Type 0
+AllStand lost [] = Unit {0}
+AllStand lost (n ∷ ns) = (lost 0 n ≡ false) × AllStand lost ns
+
+-- a transaction that stands saw only what stands
+abbrev pub SeenStand : (ℕ → ℕ → Bool) → List Line → Type 0
+SeenStand lost [] = Unit {0}
+SeenStand lost (l ∷ past) = elim l.entry [ Made d ↦ (lost 0 d.reply.txn.0 ≡ false → AllStand lost d.reply.seen) × SeenStand lost past | _ ↦ SeenStand lost past ]
+
+-- what was done for that life in that turn stands, and saw only what stands
+abbrev pub DoneStands : (ℕ → ℕ → Bool) → List Line → Who → At → Type 0
+DoneStands lost [] who turn = Unit {0}
+DoneStands lost (l ∷ past) who turn =
+    elim l.entry [
+      | Act d ↦ (d.reply.who ≡ who → d.reply.at ≡ turn → AllStand lost d.reply.seen) × DoneStands lost past who turn
+      | Made d ↦ (d.reply.who ≡ who → d.reply.at ≡ turn → (lost 0 d.reply.txn.0 ≡ false) × AllStand lost d.reply.seen) × DoneStands lost past who turn
+      | _ ↦ DoneStands lost past who turn
+    ]
+
+abbrev pub ToldStandsAt : (Who → Bool) → (ℕ → ℕ → Bool) → List Line → Node → At → Type 0
+ToldStandsAt out lost past (Client c) turn = out (first_life c) ≡ false → DoneStands lost past (first_life c) turn
+ToldStandsAt out lost past (Target t) turn = Unit {0}
+
+-- what a life that isn't out was told is of a deed that stands
+abbrev pub ToldStand : (Who → Bool) → (ℕ → ℕ → Bool) → List Line → Type 0
+ToldStand out lost [] = Unit {0}
+ToldStand out lost (l ∷ past) = elim l.entry [ Told slot turn given ↦ ToldStandsAt out lost past l.at.node turn × ToldStand out lost past | _ ↦ ToldStand out lost past ]
+
+-- lives and numbers that may be out and lost after a past; the root's number, 1, is no transaction's
+pub record Fits (out : Who → Bool) (lost : ℕ → ℕ → Bool) (past : List Line) : Type 0 where
+  pub root : lost 0 1 ≡ false
+  pub seen : SeenStand lost past
+  pub told : ToldStand out lost past
+
+pub fits_before : (out : Who → Bool) (lost : ℕ → ℕ → Bool) (l : Line) (past : List Line) → Fits out lost (l ∷ past) → Fits out lost past
+fits_before out lost l past f = record { root = f.root; seen = seen_before l.entry f.seen; told = told_before l.entry f.told }
+  where
+    seen_before : (e : Entry) → SeenStand lost (line l.at e ∷ past) → SeenStand lost past
+    seen_before (Made d) s = s.1
+    seen_before _ s = s
+
+    told_before : (e : Entry) → ToldStand out lost (line l.at e ∷ past) → ToldStand out lost past
+    told_before (Told slot turn given) t = t.1
+    told_before _ t = t
+
+told_earlier : (l : Line) (past : List Line) → AllTold (l ∷ past) → AllTold past
+told_earlier l past = by l.entry
+  where
+    by : (e : Entry) → AllTold (line l.at e ∷ past) → AllTold past
+    by (Told slot turn given) t = t.1
+    by _ t = t
+
+-- ---- the past as items of the removal law
+
+abbrev items : List Line → List Item
+items [] = []
+items (l ∷ past) = elim l.entry [ Made d ↦ Acts (operation d) ∷ items past | _ ↦ items past ]
+
+abbrev whole : ℕ → List Item → Tree
+whole osts is = removal.contents osts empty is
+
+whole_is : (osts : ℕ) (past : List Line) → whole osts (items past) ≡ tree_of osts past
+whole_is osts [] = refl
+whole_is osts (l ∷ past) = by l.entry (whole_is osts past)
+  where
+    by : (e : Entry) → whole osts (items past) ≡ tree_of osts past → whole osts (items (line l.at e ∷ past)) ≡ tree_of osts (line l.at e ∷ past)
+    by (Made d) h = ap (λ t. after osts t (operation d)) h
+    by _ h = h
+
+stand_parts : (lost : ℕ → ℕ → Bool) (ms ns : List ℕ) → AllStand lost (ms ++ ns) → AllStand lost ms × AllStand lost ns
+stand_parts lost [] ns s = (tt, s)
+stand_parts lost (m ∷ ms) ns s = let r = stand_parts lost ms ns s.1 in ((s.0, r.0), r.1)
+
+abbrev keep : (ℕ → ℕ → Bool) → ℕ → Bool
+keep lost n = not (lost 0 n)
+
+module _ (osts : ℕ) (lost : ℕ → ℕ → Bool) where
+  seen_kept : (touched : List Part) (past : List Line) → AllStand lost (seen_in touched (log_of osts past)) → Every (λ n. keep lost n ≡ true) (seen osts (whole osts) (items past) touched)
+  seen_kept touched [] s = tt
+  seen_kept touched (l ∷ past) s = by l.entry s (seen_kept touched past)
+    where
+      by : (e : Entry) → AllStand lost (seen_in touched (log_of osts (line l.at e ∷ past))) → (AllStand lost (seen_in touched (log_of osts past)) → Every (λ n. keep lost n ≡ true) (seen osts (whole osts) (items past) touched))
+          → Every (λ n. keep lost n ≡ true) (seen osts (whole osts) (items (line l.at e ∷ past)) touched)
+      by (Made d) s h =
+          let ws = writes osts (tree_of osts past) (operation d) in
+          let n = d.reply.txn.0 in
+          let ns = seen osts (whole osts) (items past) touched in
+          let parts = stand_parts lost (seen_in touched (log_of osts past)) (one (meet ws touched) n) (subst (AllStand lost) (seen_snoc touched (log_of osts past) (record { deed = d; writes = ws })) s) in
+          subst (λ t. Every (λ n. keep lost n ≡ true) (if meet (writes osts t (operation d)) touched then n ∷ ns else ns)) (sym (whole_is osts past))
+          (at (meet ws touched) n ns parts.1 (h parts.0))
+        where
+          at : (t : Bool) (n : ℕ) (ns : List ℕ) → AllStand lost (one t n) → Every (λ n. keep lost n ≡ true) ns → Every (λ n. keep lost n ≡ true) (if t then n ∷ ns else ns)
+          at true n ns s h = (ap not s.0, h)
+          at false n ns s h = h
+      by _ s h = h s
+
+  -- what saw only what stands
+  saw_kept : (past : List Line) (d : Deed) → d.reply.seen ≡ seen_in (touches osts (tree_of osts past) (operation d)) (log_of osts past) → AllStand lost d.reply.seen → SawKept osts (whole osts) (keep lost) (items past) (operation d)
+  saw_kept past d is s =
+      subst (λ t. Every (λ n. keep lost n ≡ true) (seen osts (whole osts) (items past) (touches osts t (operation d)))) (sym (whole_is osts past))
+      (seen_kept (touches osts (tree_of osts past) (operation d)) past (subst (AllStand lost) is s))
+
+stands_again : (b : Bool) → not b ≡ true → b ≡ false
+stands_again true e = absurd (cc)
+stands_again false e = refl
+
+all_saw : (head : Head) (lost : ℕ → ℕ → Bool) (past : List Line) → Grown head past → SeenStand lost past → AllSawKept head.osts (whole head.osts) (keep lost) (items past)
+all_saw head lost [] g s = tt
+all_saw head lost (l ∷ past) g s = by l.entry g.0.ok s (all_saw head lost past g.1)
+  where
+    by : (e : Entry) → EntryOk head past l.at l.at.node e → SeenStand lost (line l.at e ∷ past) → (SeenStand lost past → AllSawKept head.osts (whole head.osts) (keep lost) (items past))
+        → AllSawKept head.osts (whole head.osts) (keep lost) (items (line l.at e ∷ past))
+    by (Made d) ok s h = (λ k. saw_kept head.osts lost past d (txn_is head.osts past l.at d (txn_ok head past l.at.stamp l.at.node d ok)).1 (s.0 (stands_again (lost 0 d.reply.txn.0) k)), h s.1)
+    by _ ok s h = h s
+
+-- ---- the law's machine
+
+module _ (head : Head) (out : Who → Bool) (lost : ℕ → ℕ → Bool) where
+  abbrev machine : List Line → Machine
+  machine past = machine_of out lost head.osts (printed past)
+
+  -- the transactions that stand
+  abbrev standing : List Line → List Item
+  standing past = pick (keep lost) (items past)
+
+  -- its last number is passed by the next, and its tree is what the transactions that stand leave
+  abbrev Follows : List Line → Type 0
+  Follows past = ((machine past).last ≤ 4294967296 + count_of past) × ((machine past).tree ≡ whole head.osts (standing past))
+
+  -- the same after a transaction whose request asked for o, and which is lost or not
+  abbrev FollowsMade : List Line → Deed → Option Op → Bool → Type 0
+  FollowsMade past d o t =
+      ((after_item head.osts (machine past) (if t then None else request_act d.reply.who d.reply.txn o)).last ≤ 4294967296 + (count_of past + 1))
+      × ((after_item head.osts (machine past) (if t then None else request_act d.reply.who d.reply.txn o)).tree ≡ whole head.osts (if not t then Acts (operation d) ∷ standing past else standing past))
+
+  follows_made : (past : List Line) (at : At) (d : Deed) → TxnOk head.osts past at d → AskedAt past d → Follows past → Follows (line (turn at.stamp (Target 0)) (Made d) ∷ past)
+  follows_made past at d ok asks h = by (lost 0 d.reply.txn.0)
+    where
+      number : d.reply.txn.0 ≡ 4294967296 + (count_of past + 1)
+      number = number_is head.osts past at d ok
+
+      last : (machine past).last ≤ 4294967296 + count_of past
+      last = h.0
+
+      by : (t : Bool) → FollowsMade past d (asked (printed past) 0 d.reply.who d.reply.xid.0) t
+      by true = (omega (arith, last), h.1)
+      by false =
+          subst (λ o. FollowsMade past d o false) (sym asks)
+          (
+            omega (arith, last, number),
+            (machine_is_table head.osts (machine past) (operation d) (λ c. omega (arith, last, number))).1 ∙ ap (λ t. after head.osts t (operation d)) h.1,
+          )
+
+  -- nothing is told in the turn in which it acted
+  follows_told : (past : List Line) (stamp : Stamp) (c slot : ℕ) (named : At) (given : Answer) → TellsAt past (turn stamp (Client c)) (Client c) named given → Follows past → Follows (line (turn stamp (Client c)) (Told slot named given) ∷ past)
+  follows_told past stamp c slot named given tells h =
+      subst (λ (i : Option ActOf). ((after_item head.osts (machine past) i).last ≤ 4294967296 + count_of past) × ((after_item head.osts (machine past) i).tree ≡ whole head.osts (standing past))) (sym nothing) h
+    where
+      nothing : told_item out (printed past) (turn stamp (Client c)) (Client c) slot named given ≡ None
+      nothing = ap (λ t. if t && is_answer given && not (out (who_is c (printed past))) then act_of (who_is c (printed past)) none (deed_of c (open_call c slot (printed past))) else None) tells.other
+
+  follows : (past : List Line) → Grown head past → AllAsked past → AllTold past → Follows past
+  follows [] g a t = (omega arith, refl)
+  follows (l ∷ past) g a t = by l.at.node l.entry g.0.ok a t (follows past g.1 (asked_before l past a) (told_earlier l past t))
+    where
+      by : (node : Node) (e : Entry) → EntryOk head past (turn l.at.stamp node) node e → AllAsked (line (turn l.at.stamp node) e ∷ past) → AllTold (line (turn l.at.stamp node) e ∷ past) → Follows past → Follows (line (turn l.at.stamp node) e ∷ past)
+      by (Client c) (Made d) ok a t h = absurd ok
+      by (Target u) (Made d) ok a t h =
+          subst (λ (v : ℕ). Follows (line (turn l.at.stamp (Target v)) (Made d) ∷ past)) (sym ok.0) (follows_made past (turn l.at.stamp (Target u)) d ok.1 a.0 h)
+      by (Client c) (Told slot named given) ok a t h = follows_told past l.at.stamp c slot named given t.0 h
+      by (Target u) (Told slot named given) ok a t h = absurd ok
+      by _ _ ok a t h = h
+
+  -- what saw only what stands comes out of the machine as it came out of the target
+  alike : (past : List Line) (d : Deed) → Grown head past → AllAsked past → AllTold past → Fits out lost past
+      → d.reply.seen ≡ seen_in (touches head.osts (tree_of head.osts past) (operation d)) (log_of head.osts past) → AllStand lost d.reply.seen → Alike head.osts (tree_of head.osts past) (machine past).tree (operation d)
+  alike past d g a t f is s =
+      let root = ap not f.root in
+      let older = earlier_are_older head.osts (keep lost) root [] tt in
+      subst (λ (u : Tree). Alike head.osts u (machine past).tree (operation d)) (whole_is head.osts past)
+      (subst (λ (u : Tree). Alike head.osts (whole head.osts (items past)) u (operation d)) (sym (follows past g a t).1)
+      (removal_by_seen head.osts empty (keep lost) root older (items past) (all_saw head lost past g f.seen) (operation d) (saw_kept head.osts lost past d is s)))
+
+  answered : (past : List Line) (d : Deed) → Alike head.osts (tree_of head.osts past) (machine past).tree (operation d) → IsThree d.op → (changes head.osts (tree_of head.osts past) (operation d) ≡ true → (machine past).last < d.reply.txn.0)
+      → names_answer head.osts (machine past) (operation d) ≡ answer head.osts (tree_of head.osts past) (operation d)
+  answered past d same three above =
+      (machine_is_table head.osts (machine past) (operation d) (λ c. above (same.changes ∙ c))).0
+      ∙ told_plain head.osts (machine past) (machine past).tree (operation d) three
+      ∙ sym same.answer
+
+  -- the machine's answer to an act, and to a transaction
+  act_answers : (past : List Line) (at : At) (d : Deed) → Grown head past → AllAsked past → AllTold past → Fits out lost past → ActOk head.osts past at d → AskedAt past d → IsThree d.op → AllStand lost d.reply.seen
+      → Answers head.osts (machine past) (request_act d.reply.who none (asked (printed past) 0 d.reply.who d.reply.xid.0)) d.reply.answer
+  act_answers past at d g a t f ok asks three s =
+      let is = act_is head.osts past at d ok in
+      subst (λ o. Answers head.osts (machine past) (request_act d.reply.who none o) d.reply.answer) (sym asks)
+      (subst (λ (n : TxnOf). Answers head.osts (machine past) (request_act d.reply.who n (Some d.op)) d.reply.answer) is.0
+      (answered past d (alike past d g a t f is.2 s) three (λ c. absurd (let still = is.3 in cc)) ∙ sym is.1))
+
+  txn_answers : (past : List Line) (at : At) (d : Deed) → Grown head past → AllAsked past → AllTold past → Fits out lost past → TxnOk head.osts past at d → IsThree d.op → AllStand lost d.reply.seen
+      → names_answer head.osts (machine past) (operation d) ≡ d.reply.answer
+  txn_answers past at d g a t f ok three s =
+      let is = txn_is head.osts past at d ok in
+      let n = number_is head.osts past at d ok in
+      let last = (follows past g a t).0 in
+      answered past d (alike past d g a t f is.1 s) three (λ c. omega (arith, n, last)) ∙ sym is.0
+
+  -- what was done was answered where it stands
+  answered_there : (past : List Line) (d : Deed) → Grown head past → AllAsked past → AllTold past → Fits out lost past → Acted past d → DoneStands lost past d.reply.who d.reply.at
+      → AnsweredThere out lost head.osts (printed past) d.reply.at d.reply.who d.reply.xid.0 d.reply.answer
+  answered_there [] d g a t f acted s = absurd acted
+  answered_there (l ∷ past) d g a t f acted s =
+      let earlier = asked_before l past a in
+      let before = told_earlier l past t in
+      let fits = fits_before out lost l past f in
+      let three = (threes head (l ∷ past) g).acted in
+      by l.entry g.0.ok a three acted s (λ b k. answered_there past d g.1 earlier before fits b k)
+    where
+      by : (e : Entry) → EntryOk head past l.at l.at.node e → AllAsked (line l.at e ∷ past) → ((b : Deed) → Acted (line l.at e ∷ past) b → IsThree b.op) → Acted (line l.at e ∷ past) d → DoneStands lost (line l.at e ∷ past) d.reply.who d.reply.at
+          → (Acted past d → DoneStands lost past d.reply.who d.reply.at → AnsweredThere out lost head.osts (printed past) d.reply.at d.reply.who d.reply.xid.0 d.reply.answer)
+          → AnsweredThere out lost head.osts (printed (line l.at e ∷ past)) d.reply.at d.reply.who d.reply.xid.0 d.reply.answer
+      by (Act e) ok a three (inl same) s h =
+          let w = deed_at head past l.at.stamp l.at.node e (inl ok) in
+          let node = deed_node head past l.at.stamp l.at.node e (inl ok) in
+          let stands = s.0 (ap (λ (v : Deed). v.reply.who) same) (ap (λ (v : Deed). v.reply.at) same) in
+          inl
+          (subst
+          (λ (v : Deed). (l.at ≡ v.reply.at) × (l.at.node ≡ Target 0) × (e.reply.who ≡ v.reply.who) × (e.reply.xid.0 ≡ v.reply.xid.0) × Answers head.osts (machine past) (request_act v.reply.who none (asked (printed past) 0 v.reply.who v.reply.xid.0)) v.reply.answer)
+          same
+          (sym w, node, refl, refl, act_answers past l.at e g.1 a.1 (told_earlier l past t) (fits_before out lost l past f) (act_ok head past l.at.stamp l.at.node e ok) a.0 (three e (inl refl)) stands))
+      by (Act e) ok a three (inr b) s h = inr (h b s.1)
+      by (Made e) ok a three (inl same) s h =
+          let w = deed_at head past l.at.stamp l.at.node e (inr ok) in
+          let node = deed_node head past l.at.stamp l.at.node e (inr ok) in
+          let stands = s.0 (ap (λ (v : Deed). v.reply.who) same) (ap (λ (v : Deed). v.reply.at) same) in
+          inl
+          (subst
+          (λ (v : Deed). (l.at ≡ v.reply.at) × (l.at.node ≡ Target 0) × (e.reply.who ≡ v.reply.who) × (e.reply.xid.0 ≡ v.reply.xid.0) × (lost 0 e.reply.txn.0 ≡ false) × Answers head.osts (machine past) (request_act v.reply.who e.reply.txn (asked (printed past) 0 v.reply.who v.reply.xid.0)) v.reply.answer)
+          same
+          (
+            sym w,
+            node,
+            refl,
+            refl,
+            stands.0,
+            subst (λ o. Answers head.osts (machine past) (request_act e.reply.who e.reply.txn o) e.reply.answer) (sym a.0)
+            (txn_answers past l.at e g.1 a.1 (told_earlier l past t) (fits_before out lost l past f) (txn_ok head past l.at.stamp l.at.node e ok) (three e (inl refl)) stands.1),
+          ))
+      by (Made e) ok a three (inr b) s h = inr (h b s.1)
+      by _ ok a three b s h = h b s
+
+  -- ---- the law, line by line
+
+  told_law : (past : List Line) (stamp : Stamp) (c slot : ℕ) (named : At) (given : Answer) → Grown head past → AllAsked past → AllTold past → Fits out lost past
+      → TellsAt past (turn stamp (Client c)) (Client c) named given → ToldStandsAt out lost past (Client c) named → ToldAt out lost head.osts (printed past) (turn stamp (Client c)) (Client c) slot named given
+  told_law past stamp c slot named given g a t f tells stands out_not counted there =
+      let at = turn stamp (Client c) in
+      let d = tells.deed in
+      let life : who_is c (printed past) ≡ first_life c = ap (λ (v : ℕ). record { client = c; life = v }) (life_stays c past) in
+      let done : DoneStands lost past d.reply.who d.reply.at =
+          subst (λ (v : Who). DoneStands lost past v d.reply.at) (sym tells.who) (subst (λ (v : At). DoneStands lost past (first_life c) v) (sym tells.turn) (stands (subst (λ (v : Who). out v ≡ false) life out_not))) in
+      let found = answered_there past d g a t f tells.acted done in
+      subst (λ b. ToldBy out lost head.osts (printed past) at c slot named given b) (sym tells.other)
+      (record {
+        xid = d.reply.xid.0;
+        heard = tells.heard;
+        answered = subst (λ (v : Answer). AnsweredThere out lost head.osts (printed past) named (who_is c (printed past)) d.reply.xid.0 v) tells.answer
+            (subst (λ (v : At). AnsweredThere out lost head.osts (printed past) v (who_is c (printed past)) d.reply.xid.0 d.reply.answer) tells.turn
+            (subst (λ (v : Who). AnsweredThere out lost head.osts (printed past) d.reply.at v d.reply.xid.0 d.reply.answer) (tells.who ∙ sym life) found));
+      })
+
+  -- what stands isn't refused
+  txn_law : (past : List Line) (at : At) (d : Deed) → Grown head past → AllAsked past → AllTold past → Fits out lost past → TxnOk head.osts past at d → AskedAt past d → IsThree d.op
+      → (lost 0 d.reply.txn.0 ≡ false → AllStand lost d.reply.seen) → law.TxnAt out lost head.osts (printed past) 0 d.reply.txn d.reply.who d.reply.xid.0
+  txn_law past at d g a t f ok asks three s stands =
+      let is = txn_is head.osts past at d ok in
+      let same = txn_answers past at d g a t f ok three (s stands) in
+      subst (λ o. IsDone head.osts (machine past) (request_act d.reply.who d.reply.txn o)) (sym asks)
+      (ap is_refused (same ∙ is.0) ∙ not_refused (answer head.osts (tree_of head.osts past) (operation d)) (λ e r. let still = (refusals_stay head.osts (tree_of head.osts past) (operation d) e r).0 in let moves = is.2 in absurd (cc)))
+    where
+      not_refused : (x : Answer) → ((e : Errno) → x ≡ told.Refused e → ⊥) → is_refused x ≡ false
+      not_refused (told.Refused e) never = absurd (never e refl)
+      not_refused _ never = refl
+
+  pub history_law : (past : List Line) → Fits out lost past → Grown head past → AllAsked past → AllTold past → HistoryOf out lost head.osts (printed past)
+  history_law [] f g a t = tt
+  history_law (l ∷ past) f g a t =
+      by l.at.node l.entry g.0.ok (threes head (l ∷ past) g).acted f.seen f.told a t (history_law past (fits_before out lost l past f) g.1 (asked_before l past a) (told_earlier l past t))
+    where
+      fits : Fits out lost past
+      fits = fits_before out lost l past f
+
+      by : (node : Node) (e : Entry) → EntryOk head past (turn l.at.stamp node) node e → ((b : Deed) → Acted (line l.at e ∷ past) b → IsThree b.op) → SeenStand lost (line l.at e ∷ past) → ToldStand out lost (line (turn l.at.stamp node) e ∷ past)
+          → AllAsked (line l.at e ∷ past) → AllTold (line (turn l.at.stamp node) e ∷ past) → HistoryOf out lost head.osts (printed past) → HistoryOf out lost head.osts (printed (line (turn l.at.stamp node) e ∷ past))
+      by (Client c) (Told slot named given) ok three s k a t h = (told_law past l.at.stamp c slot named given g.1 a t.1 fits t.0 k.0, h)
+      by (Target u) (Told slot named given) ok three s k a t h = absurd ok
+      by (Client c) (Made d) ok three s k a t h = absurd ok
+      by (Target u) (Made d) ok three s k a t h =
+          (subst (λ (v : ℕ). law.TxnAt out lost head.osts (printed past) v d.reply.txn d.reply.who d.reply.xid.0) (sym ok.0) (txn_law past (turn l.at.stamp (Target u)) d g.1 a.1 t fits ok.1 a.0 (three d (inl refl)) s.0), h)
+      by node (Queues u q) ok three s k a t h = h
+      by node (Flies u q) ok three s k a t h = h
+      by _ _ ok three s k a t h = (tt, h)
+
+-- ---- of a whole trace: no life is gone, and nothing is lost
+
+none_fit : (out : Who → Bool) (lost : ℕ → ℕ → Bool) → ((n : ℕ) → lost 0 n ≡ false) → (past : List Line) → Fits out lost past
+none_fit out lost none past = record { root = none 1; seen = seen past; told = tells past }
+  where
+    all : (ns : List ℕ) → AllStand lost ns
+    all [] = tt
+    all (n ∷ ns) = (none n, all ns)
+
+    done : (past : List Line) (who : Who) (at : At) → DoneStands lost past who at
+    done [] who at = tt
+    done (l ∷ past) who at = by l.entry (done past who at)
+      where
+        by : (e : Entry) → DoneStands lost past who at → DoneStands lost (line l.at e ∷ past) who at
+        by (Act d) h = ((λ w s. all d.reply.seen), h)
+        by (Made d) h = ((λ w s. (none d.reply.txn.0, all d.reply.seen)), h)
+        by _ h = h
+
+    seen : (past : List Line) → SeenStand lost past
+    seen [] = tt
+    seen (l ∷ past) = by l.entry (seen past)
+      where
+        by : (e : Entry) → SeenStand lost past → SeenStand lost (line l.at e ∷ past)
+        by (Made d) h = ((λ s. all d.reply.seen), h)
+        by _ h = h
+
+    at : (past : List Line) (node : Node) (turn : At) → ToldStandsAt out lost past node turn
+    at past (Client c) turn = λ o. done past (first_life c) turn
+    at past (Target t) turn = tt
+
+    tells : (past : List Line) → ToldStand out lost past
+    tells [] = tt
+    tells (l ∷ past) = by l.entry (tells past)
+      where
+        by : (e : Entry) → ToldStand out lost past → ToldStand out lost (line l.at e ∷ past)
+        by (Told slot turn given) h = (at past l.at.node turn, h)
+        by _ h = h
+
+pub history_whole : (head : Head) (past : List Line) → Grown head past → AllAsked past → AllTold past → History head.osts (printed past)
+history_whole head past g a t = history_law head (is_gone (printed past)) (is_lost (printed past)) past (none_fit (is_gone (printed past)) (is_lost (printed past)) (none_lost past 0) past) g a t

@@ -1,0 +1,78 @@
+-- The numbers that the law sees in the printed past of a run are those that the metadata target sees in its log.
+use Rattle.std.proofs.Common.{◌≡◌, ℕ, ◌+◌, ◌<◌, Bool, true, false, cond, List, [], ◌∷◌, ◌++◌, reverse, Option, Some, refl, sym, subst, ap, ◌∙◌, append_assoc, append-nil, arith}
+use Rattle.std.specs.Prelude.{nat_eq, nat_lt, not, ◌&&◌, ◌==◌, if◌then◌else◌}
+use Rattle.std.proofs.lemmas.Bool.{cond-true, lt-ltb}
+use Rattle.std.proofs.lemmas.Grind.{reverse_onto}
+use Rattle.lu_base.specs.declared.ids.At.{At}
+use Rattle.lu_base.specs.declared.ids.Node.{Node}
+use Rattle.lu_base.specs.declared.ids.Node.TheVariants.{Client, Target}
+use Rattle.lu_msg.specs.declared.operations.Op.{Op}
+use Rattle.lu_part.specs.declared.parts.Part.{Part}
+use Rattle.lu_machine.specs.Tree.{Tree}
+use Rattle.lu_machine.specs.Footprint.{writes}
+use Rattle.lu_machine.specs.Seen.{meet}
+use Rattle.lu_table.specs.Words.{Deed, Entry, Queues, Act, Txn as Made, Line}
+use Rattle.lu_table.specs.Targets.{Logged, operation, tree_of, log_of, count_of, seen_in}
+use Rattle.lu_table.specs.Printed.{printed}
+use Rattle.lu_table.specs.Runs.{Head}
+use Rattle.lu_laws.specs.Pasts.{is_target}
+use Rattle.lu_laws.specs.Requests.{asked}
+use Rattle.lu_laws.specs.Boots.{committed}
+use Rattle.lu_laws.specs.Lost.{is_lost}
+use Rattle.lu_laws.specs.Standing.{contents}
+use Rattle.lu_laws.specs.Seen.{writes_of, meeting, seen_by}
+use Rattle.lu_lawful.proofs.Guards.{line, TxnOk, EntryOk, Grown}
+use Rattle.lu_lawful.proofs.Base.{turn}
+use Rattle.lu_lawful.proofs.Facts.{AskedAt, AllAsked}
+use Rattle.lu_lawful.proofs.Contents.{committed_is, none_lost, number_is, asked_before, contents_are}
+
+abbrev pub one : Bool → ℕ → List ℕ
+one t n = if t then n ∷ [] else []
+
+pub seen_snoc : (touched : List Part) (log : List Logged) (g : Logged) → seen_in touched (log ++ g ∷ []) ≡ seen_in touched log ++ one (meet g.writes touched) g.deed.reply.txn.0
+seen_snoc touched [] g = refl
+seen_snoc touched (k ∷ log) g = by (meet k.writes touched) (seen_snoc touched log g)
+  where
+    by : (t : Bool) → seen_in touched (log ++ g ∷ []) ≡ seen_in touched log ++ one (meet g.writes touched) g.deed.reply.txn.0
+        → (if t then k.deed.reply.txn.0 ∷ seen_in touched (log ++ g ∷ []) else seen_in touched (log ++ g ∷ []))
+        ≡ (if t then k.deed.reply.txn.0 ∷ seen_in touched log else seen_in touched log) ++ one (meet g.writes touched) g.deed.reply.txn.0
+    by true h = ap (λ ns. k.deed.reply.txn.0 ∷ ns) h
+    by false h = h
+
+reverse_one : (t : Bool) (n : ℕ) (ns : List ℕ) → reverse (if t then n ∷ ns else ns) ≡ reverse ns ++ one t n
+reverse_one true n ns = reverse_onto ns n []
+reverse_one false n ns = sym (append-nil (reverse ns))
+
+module _ (head : Head) (above : ℕ) (low : above ≡ 0) (lost : ℕ → Bool) (none : (n : ℕ) → lost n ≡ false) (touched : List Part) where
+  meeting_made : (past : List Line) (at : At) (d : Deed) → Grown head past → AllAsked past → TxnOk head.osts past at d → AskedAt past d
+      → reverse (meeting head.osts 0 above lost touched (printed past)) ≡ seen_in touched (log_of head.osts past)
+      → reverse (meeting head.osts 0 above lost touched (printed (line (turn at.stamp (Target 0)) (Made d) ∷ past))) ≡ seen_in touched (log_of head.osts (line at (Made d) ∷ past))
+  meeting_made past at d g a ok asks h =
+      let n = d.reply.txn in
+      let ns = meeting head.osts 0 above lost touched (printed past) in
+      let ws = writes head.osts (tree_of head.osts past) (operation d) in
+      let x = number_is head.osts past at d ok in
+      let over : nat_lt above n.0 ≡ true = lt-ltb above n.0 (omega arith) in
+      let wrote : writes_of head.osts 0 (printed past) n d.reply.who (asked (printed past) 0 d.reply.who d.reply.xid.0) ≡ ws =
+          ap (λ o. writes_of head.osts 0 (printed past) n d.reply.who o) asks ∙ ap (λ (t : Tree). writes head.osts t (operation d)) (contents_are head past g a) in
+      let test : (is_target 0 (Target 0) && nat_lt above n.0 && not (lost n.0) && meet (writes_of head.osts 0 (printed past) n d.reply.who (asked (printed past) 0 d.reply.who d.reply.xid.0)) touched) ≡ meet ws touched = rw (over, none n.0, wrote) refl in
+      ap (λ t. reverse (if t then n.0 ∷ ns else ns)) test
+      ∙ reverse_one (meet ws touched) n.0 ns
+      ∙ ap (λ ms. ms ++ one (meet ws touched) n.0) h
+      ∙ sym (seen_snoc touched (log_of head.osts past) (record { deed = d; writes = ws }))
+
+  meeting_is : (past : List Line) → Grown head past → AllAsked past → reverse (meeting head.osts 0 above lost touched (printed past)) ≡ seen_in touched (log_of head.osts past)
+  meeting_is [] g a = refl
+  meeting_is (l ∷ past) g a = at l.at.node l.entry g.0.ok a (meeting_is past g.1 (asked_before l past a))
+    where
+      at : (node : Node) (e : Entry) → EntryOk head past l.at node e → AllAsked (line l.at e ∷ past) → reverse (meeting head.osts 0 above lost touched (printed past)) ≡ seen_in touched (log_of head.osts past)
+          → reverse (meeting head.osts 0 above lost touched (printed (line (turn l.at.stamp node) e ∷ past))) ≡ seen_in touched (log_of head.osts (line l.at e ∷ past))
+      at (Client c) (Made d) ok a h = absurd ok
+      at (Target t) (Made d) ok a h =
+          subst (λ (v : ℕ). reverse (meeting head.osts 0 above lost touched (printed (line (turn l.at.stamp (Target v)) (Made d) ∷ past))) ≡ seen_in touched (log_of head.osts (line l.at (Made d) ∷ past))) (sym ok.0)
+          (meeting_made past l.at d g.1 a.1 ok.1 a.0 h)
+      at _ _ ok a h = h
+
+-- what is seen
+pub seen_is : (head : Head) (past : List Line) (touched : List Part) → Grown head past → AllAsked past → seen_by head.osts 0 (printed past) touched ≡ seen_in touched (log_of head.osts past)
+seen_is head past touched g a = meeting_is head (committed 0 (printed past)) (committed_is past) (is_lost (printed past) 0) (none_lost past 0) touched past g a
