@@ -43,7 +43,7 @@ use Rattle.lu_lawful.proofs.MessagesLaw.{upto_is, open_is, told_call}
 use Rattle.lu_lawful.proofs.Once.{SentFor, DoesNow, act_now, txn_now, first_time, asked_is, acted_sent}
 use Rattle.lu_lawful.proofs.Fine.{IsThree, IsFine, three, deed_fine}
 use Rattle.lu_lawful.proofs.Flying.{Flown, flying, Distinct, flyers, no_more}
-use Rattle.lu_lawful.proofs.Facts.{TellsAt, AllTold}
+use Rattle.lu_lawful.proofs.HistoryLaw.{DoneStands}
 
 -- ---- each request acts once in the whole trace
 
@@ -159,32 +159,32 @@ act_for (l ∷ past) named who x a = by l.entry (act_for past named who x) a
     by Die h a = h a
 
 -- what was done stands in the printed past
-acted_in : (head : Head) (lost : ℕ → ℕ → Bool) (past : List Line) → Grown head past → (d : Deed) → Acted past d → lost 0 d.reply.txn.0 ≡ false → ActIn (printed past) d.reply.at d.reply.who d.reply.xid.0 ⊎ TxnIn lost (printed past) d.reply.at d.reply.who d.reply.xid.0
+acted_in : (head : Head) (lost : ℕ → ℕ → Bool) (past : List Line) → Grown head past → (d : Deed) → Acted past d → DoneStands lost past d.reply.who d.reply.at → ActIn (printed past) d.reply.at d.reply.who d.reply.xid.0 ⊎ TxnIn lost (printed past) d.reply.at d.reply.who d.reply.xid.0
 acted_in head lost [] g d a s = absurd a
-acted_in head lost (l ∷ past) g d a s = by l.entry g.0.ok (acted_in head lost past g.1 d) a
+acted_in head lost (l ∷ past) g d a s = by l.entry g.0.ok (acted_in head lost past g.1 d) a s
   where
     Stands : List Line → Deed → Type 0
     Stands p e = ActIn (printed p) e.reply.at e.reply.who e.reply.xid.0 ⊎ TxnIn lost (printed p) e.reply.at e.reply.who e.reply.xid.0
 
-    by : (e : Entry) → EntryOk head past l.at l.at.node e → (Acted past d → lost 0 d.reply.txn.0 ≡ false → Stands past d) → Acted (line l.at e ∷ past) d → Stands (line l.at e ∷ past) d
-    by (Act e) ok h a = ⊎_elim
+    by : (e : Entry) → EntryOk head past l.at l.at.node e → (Acted past d → DoneStands lost past d.reply.who d.reply.at → Stands past d) → Acted (line l.at e ∷ past) d → DoneStands lost (line l.at e ∷ past) d.reply.who d.reply.at → Stands (line l.at e ∷ past) d
+    by (Act e) ok h a s = ⊎_elim
         (λ (p : e ≡ d). subst (λ (v : Deed). Stands (line l.at (Act e) ∷ past) v) p (let k = act_now head past l.at.stamp l.at.node e ok g.1 in inl (inl (sym k.2, k.1, refl, refl))))
-        (λ (p : Acted past d). ⊎_elim (λ (i : ActIn (printed past) d.reply.at d.reply.who d.reply.xid.0). inl (inr i)) (λ (i : TxnIn lost (printed past) d.reply.at d.reply.who d.reply.xid.0). inr i) (h p s))
+        (λ (p : Acted past d). ⊎_elim (λ (i : ActIn (printed past) d.reply.at d.reply.who d.reply.xid.0). inl (inr i)) (λ (i : TxnIn lost (printed past) d.reply.at d.reply.who d.reply.xid.0). inr i) (h p s.1))
         a
-    by (Made e) ok h a = ⊎_elim
-        (λ (p : e ≡ d). let k = txn_now head past l.at.stamp l.at.node e ok g.1 in inr (inl (sym k.2 ∙ ap (λ (v : Deed). v.reply.at) p, k.1, ap (λ (v : Deed). v.reply.who) p, ap (λ (v : Deed). v.reply.xid.0) p, ap (λ (v : Deed). lost 0 v.reply.txn.0) p ∙ s)))
-        (λ (p : Acted past d). ⊎_elim (λ (i : ActIn (printed past) d.reply.at d.reply.who d.reply.xid.0). inl i) (λ (i : TxnIn lost (printed past) d.reply.at d.reply.who d.reply.xid.0). inr (inr i)) (h p s))
+    by (Made e) ok h a s = ⊎_elim
+        (λ (p : e ≡ d). let k = txn_now head past l.at.stamp l.at.node e ok g.1 in inr (inl (sym k.2 ∙ ap (λ (v : Deed). v.reply.at) p, k.1, ap (λ (v : Deed). v.reply.who) p, ap (λ (v : Deed). v.reply.xid.0) p, (s.0 (ap (λ (v : Deed). v.reply.who) p) (ap (λ (v : Deed). v.reply.at) p)).0)))
+        (λ (p : Acted past d). ⊎_elim (λ (i : ActIn (printed past) d.reply.at d.reply.who d.reply.xid.0). inl i) (λ (i : TxnIn lost (printed past) d.reply.at d.reply.who d.reply.xid.0). inr (inr i)) (h p s.1))
         a
-    by (Begin slot call) ok h a = h a s
-    by (Busy slot) ok h a = h a s
-    by (Queues t q) ok h a = h a s
-    by (Flies t f) ok h a = h a s
-    by (Send to m) ok h a = h a s
-    by (Take k m) ok h a = h a s
-    by Tick ok h a = h a s
-    by (Heard t f r) ok h a = h a s
-    by (Told slot given answer) ok h a = h a s
-    by Die ok h a = h a s
+    by (Begin slot call) ok h a s = h a s
+    by (Busy slot) ok h a s = h a s
+    by (Queues t q) ok h a s = h a s
+    by (Flies t f) ok h a s = h a s
+    by (Send to m) ok h a s = h a s
+    by (Take k m) ok h a s = h a s
+    by Tick ok h a s = h a s
+    by (Heard t f r) ok h a s = h a s
+    by (Told slot given answer) ok h a s = h a s
+    by Die ok h a s = h a s
 
 -- ---- what was heard
 
