@@ -140,7 +140,7 @@ module _ (lost : ℕ → ℕ → Bool) (who : Who) (x : ℕ) where
 
 -- ---- an act of the printed past is one of the full one
 
-act_for : (past : List Line) (named : At) (who : Who) (x : ℕ) → ActIn (printed past) named who x → ActFor past who x
+pub act_for : (past : List Line) (named : At) (who : Who) (x : ℕ) → ActIn (printed past) named who x → ActFor past who x
 act_for [] named who x a = absurd a
 act_for (l ∷ past) named who x a = by l.entry (act_for past named who x) a
   where
@@ -159,7 +159,7 @@ act_for (l ∷ past) named who x a = by l.entry (act_for past named who x) a
     by Die h a = h a
 
 -- what was done stands in the printed past
-acted_in : (head : Head) (lost : ℕ → ℕ → Bool) (past : List Line) → Grown head past → (d : Deed) → Acted past d → DoneStands lost past d.reply.who d.reply.at → ActIn (printed past) d.reply.at d.reply.who d.reply.xid.0 ⊎ TxnIn lost (printed past) d.reply.at d.reply.who d.reply.xid.0
+pub acted_in : (head : Head) (lost : ℕ → ℕ → Bool) (past : List Line) → Grown head past → (d : Deed) → Acted past d → DoneStands lost past d.reply.who d.reply.at → ActIn (printed past) d.reply.at d.reply.who d.reply.xid.0 ⊎ TxnIn lost (printed past) d.reply.at d.reply.who d.reply.xid.0
 acted_in head lost [] g d a s = absurd a
 acted_in head lost (l ∷ past) g d a s = by l.entry g.0.ok (acted_in head lost past g.1 d) a s
   where
@@ -231,7 +231,7 @@ hears_more past l c x h = by l.entry
     by Die = h
 
 -- what was told of a number was heard
-told_hears : (head : Head) (past : List Line) → Grown head past → (c x : ℕ) → ToldWith (printed past) (first_life c) x → Hears past c x
+pub told_hears : (head : Head) (past : List Line) → Grown head past → (c x : ℕ) → ToldWith (printed past) (first_life c) x → Hears past c x
 told_hears head [] g c x i = absurd i
 told_hears head (l ∷ past) g c x i = by l.entry (told_hears head past g.1 c x) i
   where

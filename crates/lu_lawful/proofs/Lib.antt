@@ -13,6 +13,7 @@ pub mod Once
 pub mod Fine
 pub mod Flying
 pub mod ActsLaw
+pub mod ToldLaw
 pub mod Contents
 pub mod SeenNumbers
 pub mod Deeds
