@@ -351,7 +351,7 @@ module _ (head : Head) (out : Who → Bool) (lost : ℕ → ℕ → Bool) where
 
 -- ---- of a whole trace: no life is gone, and nothing is lost
 
-none_fit : (out : Who → Bool) (lost : ℕ → ℕ → Bool) → ((n : ℕ) → lost 0 n ≡ false) → (past : List Line) → Fits out lost past
+pub none_fit : (out : Who → Bool) (lost : ℕ → ℕ → Bool) → ((n : ℕ) → lost 0 n ≡ false) → (past : List Line) → Fits out lost past
 none_fit out lost none past = record { root = none 1; seen = seen past; told = tells past }
   where
     all : (ns : List ℕ) → AllStand lost ns

@@ -80,7 +80,7 @@ acted_before head (l ∷ past) at d g later a = by l.entry g.0.ok a (λ b. acted
     by _ ok b h = h b
 
 -- a kept reply is of a deed
-kept_acted : (who : Who) (tag : ℕ) (k : ReplyTo) (past : List Line) → slot_of who tag past ≡ Some k → (d : Deed) × Acted past d × (d.reply ≡ k)
+pub kept_acted : (who : Who) (tag : ℕ) (k : ReplyTo) (past : List Line) → slot_of who tag past ≡ Some k → (d : Deed) × Acted past d × (d.reply ≡ k)
 kept_acted who tag k [] s = absurd (cc)
 kept_acted who tag k (l ∷ past) s = by l.entry s (kept_acted who tag k past)
   where
