@@ -67,6 +67,7 @@ DoneStands lost (l ∷ past) who turn =
       | _ ↦ DoneStands lost past who turn
     ]
 
+-- a life that isn't out was told of that turn
 abbrev pub ToldStandsAt : (Who → Bool) → (ℕ → ℕ → Bool) → List Line → Node → At → Type 0
 ToldStandsAt out lost past (Client c) turn = out (first_life c) ≡ false → DoneStands lost past (first_life c) turn
 ToldStandsAt out lost past (Target t) turn = Unit {0}
@@ -299,6 +300,7 @@ module _ (head : Head) (out : Who → Bool) (lost : ℕ → ℕ → Bool) where
 
   -- ---- the law, line by line
 
+  -- what is told is what the machine answers where it acted
   told_law : (past : List Line) (stamp : Stamp) (c slot : ℕ) (named : At) (given : Answer) → Grown head past → AllAsked past → AllTold past → Fits out lost past
       → TellsAt past (turn stamp (Client c)) (Client c) named given → ToldStandsAt out lost past (Client c) named → ToldAt out lost head.osts (printed past) (turn stamp (Client c)) (Client c) slot named given
   told_law past stamp c slot named given g a t f tells stands out_not counted there =

@@ -65,6 +65,7 @@ pub later_before : (l : Line) (past : List Line) (at : At) → Steps past l.at �
 later_before l [] at s b = tt
 later_before l (m ∷ past) at s b = ⊎_elim (λ (e : m.at ≡ l.at). subst (λ (v : At). turn_before v at ≡ true) (sym e) b) (λ (e : turn_before m.at l.at ≡ true). turn_trans m.at l.at at e b) s
 
+-- what was done was done in an earlier turn than any later one
 pub acted_before : (head : Head) (past : List Line) (at : At) (d : Deed) → Grown head past → Later past at → Acted past d → turn_before d.reply.at at ≡ true
 acted_before head [] at d g later a = absurd a
 acted_before head (l ∷ past) at d g later a = by l.entry g.0.ok a (λ b. acted_before head past at d g.1 (later_before l past at g.0.steps later) b)

@@ -24,6 +24,7 @@ use Rattle.lu_lawful.proofs.Base.{turn}
 use Rattle.lu_lawful.proofs.Facts.{AskedAt, AllAsked}
 use Rattle.lu_lawful.proofs.Contents.{committed_is, none_lost, number_is, asked_before, contents_are}
 
+-- the number, where the test holds
 abbrev pub one : Bool → ℕ → List ℕ
 one t n = if t then n ∷ [] else []
 

@@ -39,6 +39,7 @@ use Rattle.lu_lawful.proofs.Guards.{In, line, ExecutesOk, SendOk, EntryOk, Grown
 use Rattle.lu_lawful.proofs.Lists.{in_append, in_filter}
 use Rattle.lu_lawful.proofs.Base.{turn, Acted}
 
+-- an operation that a client asks so far
 abbrev pub IsThree : Op → Type 0
 IsThree (op.Lookup path) = Unit {0}
 IsThree (op.Mkdir path) = Unit {0}
@@ -53,6 +54,7 @@ becomes_three _ o e = absurd (cc)
 
 -- ---- what acts
 
+-- what waits, what is in flight, what was sent and what acted are such
 abbrev pub Threes : List Line → Type 0
 Threes past =
     record {
