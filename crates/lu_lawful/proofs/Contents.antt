@@ -1,17 +1,15 @@
 -- What the laws read in the printed past of a run: no target has booted again, committed or lost anything, no
 -- life has ended, and the metadata target's contents are its tree.
-use Rattle.std.proofs.Common.{◌≡◌, ℕ, zero, suc, ◌+◌, ◌*◌, ◌/◌, ◌<◌, ◌≤◌, max, Bool, true, false, cond, List, [], ◌∷◌, ◌++◌, Option, Some, None, ◌⊎◌, inl, inr, ⊎_elim, refl, sym, subst, ap, ◌∙◌, arith}
-use Rattle.std.specs.Prelude.{nat_eq, nat_lt, not, ◌&&◌, ◌||◌, ◌==◌, if◌then◌else◌}
-use Rattle.std.proofs.lemmas.Bool.{and_parts, cond_both, cond-true, cond-false, eqb-true, eqb-false, lt-ltb, not-true}
-use Rattle.std.proofs.lemmas.Bool.Decides.{nat_tests}
+use Rattle.std.proofs.Common.{◌≡◌, ℕ, ◌+◌, ◌/◌, ◌<◌, ◌≤◌, max, Bool, true, false, List, [], ◌∷◌, refl, sym, subst, ap, ◌∙◌, arith}
+use Rattle.std.specs.Prelude.{nat_eq, not, ◌&&◌}
+use Rattle.std.proofs.lemmas.Bool.{cond_both, cond-true, lt-ltb}
 use Rattle.lu_base.specs.declared.ids.At.{At}
-use Rattle.lu_base.specs.declared.ids.Stamp.{Stamp}
 use Rattle.lu_base.specs.declared.ids.Node.{Node}
 use Rattle.lu_base.specs.declared.ids.Node.TheVariants.{Client, Target}
 use Rattle.lu_base.specs.declared.ids.Who.{Who}
 use Rattle.lu_machine.specs.Footprint.{after}
-use Rattle.lu_table.specs.Words.{Deed, Entry, Begin, Busy, Queues, Flies, Send, Take, Tick, Heard, Told, Die, Act, Txn as Made, Line}
-use Rattle.lu_table.specs.Targets.{operation, tree_of, log_of, count_of, server_of, next_number}
+use Rattle.lu_table.specs.Words.{Deed, Entry, Tick, Act, Txn as Made, Line}
+use Rattle.lu_table.specs.Targets.{operation, tree_of, count_of}
 use Rattle.lu_table.specs.Printed.{printed}
 use Rattle.lu_table.specs.Runs.{Head}
 use Rattle.lu_laws.specs.Pasts.{is_target}
@@ -21,7 +19,7 @@ use Rattle.lu_laws.specs.Lost.{lost_with, is_lost}
 use Rattle.lu_laws.specs.Standing as standing
 use Rattle.lu_laws.specs.Requests.{asked}
 use Rattle.lu_laws.specs.Standing.{executed, contents}
-use Rattle.lu_lawful.proofs.Guards.{line, TxnOk, EntryOk, Allowed, Grown}
+use Rattle.lu_lawful.proofs.Guards.{line, TxnOk, EntryOk, Grown}
 use Rattle.lu_lawful.proofs.Base.{turn}
 use Rattle.lu_lawful.proofs.Facts.{AskedAt, AllAsked}
 

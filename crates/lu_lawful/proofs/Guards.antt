@@ -78,7 +78,7 @@ pub record AskOk (past : List Line) (c : ℕ) (r : RequestOf) : Type 0 where
   pub flying : In flight (flights_of c 0 past)
   pub is : r ≡ request c past flight
 
--- the newest line did what is answered, in this turn
+-- the newest line did what is answered
 pub record Fresh (past : List Line) (kept : ReplyTo) : Type 0 where
   pub at : At
   pub deed : Deed

@@ -1,8 +1,7 @@
 -- The law of history: with the lost transactions taken out, the plain machine answers what clients were told, and
 -- refuses no transaction that stands.
-use Rattle.std.proofs.Common.{◌≡◌, ℕ, ◌+◌, ◌<◌, ◌≤◌, max, Bool, true, false, cond, List, [], ◌∷◌, ◌++◌, Option, Some, None, ◌⊎◌, inl, inr, ⊎_elim, refl, sym, subst, ap, ◌∙◌, arith}
-use Rattle.std.specs.Prelude.{nat_eq, nat_lt, not, ◌&&◌, ◌||◌, ◌==◌, if◌then◌else◌}
-use Rattle.std.proofs.lemmas.Bool.{cond_both, cond-true, cond-false}
+use Rattle.std.proofs.Common.{◌≡◌, ℕ, ◌+◌, ◌<◌, ◌≤◌, Bool, true, false, List, [], ◌∷◌, ◌++◌, Option, Some, None, inl, inr, refl, sym, subst, ap, ◌∙◌, arith}
+use Rattle.std.specs.Prelude.{not, ◌&&◌, if◌then◌else◌}
 use Rattle.lu_base.specs.declared.ids.At.{At}
 use Rattle.lu_base.specs.declared.ids.Node.{Node}
 use Rattle.lu_base.specs.declared.ids.Node.TheVariants.{Client, Target}
@@ -12,40 +11,36 @@ use Rattle.lu_base.specs.declared.ids.Who.{Who}
 use Rattle.lu_msg.specs.declared.answers.Answer.{Answer}
 use Rattle.lu_msg.specs.declared.answers.Answer.TheVariants as told
 use Rattle.lu_msg.specs.declared.answers.Errno.{Errno}
-use Rattle.lu_msg.specs.declared.messages.Message.{Message}
 use Rattle.lu_msg.specs.declared.operations.Op.{Op}
 use Rattle.lu_part.specs.declared.parts.Part.{Part}
 use Rattle.lu_machine.specs.declared.acts.Act.{Act as ActOf}
 use Rattle.lu_machine.specs.Tree.{Tree}
-use Rattle.lu_machine.specs.Footprint.{Operation, empty, answer, touches, writes, changes, after, Every}
+use Rattle.lu_machine.specs.Footprint.{empty, answer, touches, writes, changes, after, Every}
 use Rattle.lu_machine.specs.Removal as removal
 use Rattle.lu_machine.specs.Removal.{Item, Acts, pick, Older}
 use Rattle.lu_machine.specs.Seen.{meet, seen, SawKept, AllSawKept}
 use Rattle.lu_machine.specs.Laws.{Alike}
-use Rattle.lu_machine.specs.Machine.{Machine, names_answer, names_next}
-use Rattle.lu_machine.proofs.Numbers.{number_is_free}
+use Rattle.lu_machine.specs.Machine.{Machine, names_answer}
 use Rattle.lu_machine.proofs.Stated.{refusals_stay}
 use Rattle.lu_machine.proofs.Removal.{earlier_are_older}
 use Rattle.lu_machine.proofs.Seen.{removal_by_seen}
 use Rattle.lu_machine.proofs.Transactions.{machine_is_table}
-use Rattle.lu_table.specs.Words.{Deed, Entry, Begin, Busy, Queues, Flies, Send, Take, Tick, Heard, Told, Die, Act, Txn as Made, Line}
-use Rattle.lu_table.specs.Targets.{operation, tree_of, log_of, count_of, server_of, next_number, seen_in}
-use Rattle.lu_table.specs.TargetRows as target
+use Rattle.lu_table.specs.Words.{Deed, Entry, Queues, Flies, Told, Act, Txn as Made, Line}
+use Rattle.lu_table.specs.Targets.{operation, tree_of, log_of, count_of, seen_in}
 use Rattle.lu_table.specs.Printed.{printed}
 use Rattle.lu_table.specs.Runs.{Head}
-use Rattle.lu_laws.specs.Pasts.{same_turn}
 use Rattle.lu_laws.specs.Lives.{who_is, is_gone}
 use Rattle.lu_laws.specs.Lost.{is_lost}
 use Rattle.lu_laws.specs.Requests.{asked}
 use Rattle.lu_laws.specs.Calls.{open_call}
-use Rattle.lu_laws.specs.Histories.{none, request_act, is_answer, told_item, txn_item, standing_item, after_item, machine_of, act_of, deed_of}
+use Rattle.lu_laws.specs.Histories.{none, request_act, is_answer, told_item, after_item, machine_of, act_of, deed_of}
 use Rattle.lu_laws.specs.History.{Answers, AnsweredThere, ToldFrom, ToldBy, ToldAt, is_refused, is_counted, IsDone, HistoryOf, History}
 use Rattle.lu_laws.specs.History as law
-use Rattle.lu_lawful.proofs.Guards.{line, ActOk, TxnOk, EntryOk, Allowed, Grown}
+use Rattle.lu_lawful.proofs.Guards.{line, ActOk, TxnOk, EntryOk, Grown}
 use Rattle.lu_lawful.proofs.Base.{turn, Acted}
 use Rattle.lu_lawful.proofs.Served.{first_life}
 use Rattle.lu_lawful.proofs.Facts.{AskedAt, AllAsked, TellsAt, AllTold}
-use Rattle.lu_lawful.proofs.Contents.{none_lost, none_gone, life_stays, number_is, asked_before}
+use Rattle.lu_lawful.proofs.Contents.{none_lost, life_stays, number_is, asked_before}
 use Rattle.lu_lawful.proofs.SeenNumbers.{one, seen_snoc}
 use Rattle.lu_lawful.proofs.Deeds.{act_ok, txn_ok, act_is, txn_is, deed_at, deed_node}
 use Rattle.lu_lawful.proofs.Three.{IsThree, threes, told_plain}
@@ -72,6 +67,7 @@ DoneStands lost (l ∷ past) who turn =
       | _ ↦ DoneStands lost past who turn
     ]
 
+-- a life that isn't out was told of that turn
 abbrev pub ToldStandsAt : (Who → Bool) → (ℕ → ℕ → Bool) → List Line → Node → At → Type 0
 ToldStandsAt out lost past (Client c) turn = out (first_life c) ≡ false → DoneStands lost past (first_life c) turn
 ToldStandsAt out lost past (Target t) turn = Unit {0}
@@ -200,8 +196,7 @@ module _ (head : Head) (out : Who → Bool) (lost : ℕ → ℕ → Bool) where
       by : (t : Bool) → FollowsMade past d (asked (printed past) 0 d.reply.who d.reply.xid.0) t
       by true = (omega (arith, last), h.1)
       by false =
-          subst (λ o. FollowsMade past d o false) (sym asks)
-          (
+          subst (λ o. FollowsMade past d o false) (sym asks) (
             omega (arith, last, number),
             (machine_is_table head.osts (machine past) (operation d) (λ c. omega (arith, last, number))).1 ∙ ap (λ t. after head.osts t (operation d)) h.1,
           )
@@ -291,21 +286,21 @@ module _ (head : Head) (out : Who → Bool) (lost : ℕ → ℕ → Bool) where
           inl
           (subst
           (λ (v : Deed). (l.at ≡ v.reply.at) × (l.at.node ≡ Target 0) × (e.reply.who ≡ v.reply.who) × (e.reply.xid.0 ≡ v.reply.xid.0) × (lost 0 e.reply.txn.0 ≡ false) × Answers head.osts (machine past) (request_act v.reply.who e.reply.txn (asked (printed past) 0 v.reply.who v.reply.xid.0)) v.reply.answer)
-          same
-          (
+          same (
             sym w,
             node,
             refl,
             refl,
             stands.0,
             subst (λ o. Answers head.osts (machine past) (request_act e.reply.who e.reply.txn o) e.reply.answer) (sym a.0)
-            (txn_answers past l.at e g.1 a.1 (told_earlier l past t) (fits_before out lost l past f) (txn_ok head past l.at.stamp l.at.node e ok) (three e (inl refl)) stands.1),
+                (txn_answers past l.at e g.1 a.1 (told_earlier l past t) (fits_before out lost l past f) (txn_ok head past l.at.stamp l.at.node e ok) (three e (inl refl)) stands.1),
           ))
       by (Made e) ok a three (inr b) s h = inr (h b s.1)
       by _ ok a three b s h = h b s
 
   -- ---- the law, line by line
 
+  -- what is told is what the machine answers where it acted
   told_law : (past : List Line) (stamp : Stamp) (c slot : ℕ) (named : At) (given : Answer) → Grown head past → AllAsked past → AllTold past → Fits out lost past
       → TellsAt past (turn stamp (Client c)) (Client c) named given → ToldStandsAt out lost past (Client c) named → ToldAt out lost head.osts (printed past) (turn stamp (Client c)) (Client c) slot named given
   told_law past stamp c slot named given g a t f tells stands out_not counted there =
@@ -313,7 +308,7 @@ module _ (head : Head) (out : Who → Bool) (lost : ℕ → ℕ → Bool) where
       let d = tells.deed in
       let life : who_is c (printed past) ≡ first_life c = ap (λ (v : ℕ). record { client = c; life = v }) (life_stays c past) in
       let done : DoneStands lost past d.reply.who d.reply.at =
-          subst (λ (v : Who). DoneStands lost past v d.reply.at) (sym tells.who) (subst (λ (v : At). DoneStands lost past (first_life c) v) (sym tells.turn) (stands (subst (λ (v : Who). out v ≡ false) life out_not))) in
+      subst (λ (v : Who). DoneStands lost past v d.reply.at) (sym tells.who) (subst (λ (v : At). DoneStands lost past (first_life c) v) (sym tells.turn) (stands (subst (λ (v : Who). out v ≡ false) life out_not))) in
       let found = answered_there past d g a t f tells.acted done in
       subst (λ b. ToldBy out lost head.osts (printed past) at c slot named given b) (sym tells.other)
       (record {
@@ -358,7 +353,7 @@ module _ (head : Head) (out : Who → Bool) (lost : ℕ → ℕ → Bool) where
 
 -- ---- of a whole trace: no life is gone, and nothing is lost
 
-none_fit : (out : Who → Bool) (lost : ℕ → ℕ → Bool) → ((n : ℕ) → lost 0 n ≡ false) → (past : List Line) → Fits out lost past
+pub none_fit : (out : Who → Bool) (lost : ℕ → ℕ → Bool) → ((n : ℕ) → lost 0 n ≡ false) → (past : List Line) → Fits out lost past
 none_fit out lost none past = record { root = none 1; seen = seen past; told = tells past }
   where
     all : (ns : List ℕ) → AllStand lost ns

@@ -1,36 +1,31 @@
 -- The law of recovery: transactions have rising numbers of their boot and the seen numbers, and a reply that is
 -- sent in the turn that it names carries those of its deed.
-use Rattle.std.proofs.Common.{◌≡◌, ℕ, ◌+◌, ◌/◌, ◌<◌, ◌≤◌, Bool, true, false, cond, List, [], ◌∷◌, Option, Some, None, ◌⊎◌, inl, inr, ⊎_elim, refl, sym, subst, ap, ◌∙◌, arith}
-use Rattle.std.specs.Prelude.{nat_eq, nat_lt, not, ◌&&◌, ◌||◌, ◌==◌, if◌then◌else◌}
-use Rattle.std.proofs.lemmas.Bool.{and_parts, cond_both, cond-true, cond-false, eqb-true, eq-eqb}
-use Rattle.std.proofs.lemmas.Bool.Decides.{nat_tests}
+use Rattle.std.proofs.Common.{◌≡◌, ℕ, ◌+◌, ◌/◌, ◌<◌, Bool, true, false, List, [], ◌∷◌, Some, None, ◌⊎◌, inl, inr, ⊎_elim, refl, sym, subst, ap, ◌∙◌, arith}
+use Rattle.std.specs.Prelude.{nat_eq, ◌&&◌, ◌||◌, if◌then◌else◌}
+use Rattle.std.proofs.lemmas.Bool.{and_parts, cond_both, cond-true, eqb-true}
 use Rattle.lu_base.specs.declared.ids.At.{At}
 use Rattle.lu_base.specs.declared.ids.Stamp.{Stamp}
 use Rattle.lu_base.specs.declared.ids.Node.{Node}
 use Rattle.lu_base.specs.declared.ids.Node.TheVariants.{Client, Target}
-use Rattle.lu_base.specs.declared.ids.Txn.{Txn as TxnOf}
 use Rattle.lu_base.specs.declared.ids.Who.{Who}
 use Rattle.lu_msg.specs.declared.messages.Message.{Message}
 use Rattle.lu_msg.specs.declared.messages.Message.TheVariants as message
 use Rattle.lu_msg.specs.declared.messages.Reply.{Reply as ReplyTo}
-use Rattle.lu_msg.specs.declared.operations.Op.{Op}
 use Rattle.lu_machine.specs.Tree.{Tree, same_life}
 use Rattle.lu_machine.specs.Footprint.{touches}
-use Rattle.lu_table.specs.Words.{Deed, Entry, Begin, Busy, Queues, Flies, Send, Take, Tick, Heard, Told, Die, Act, Txn as Made, Line, turn_before, node_before}
+use Rattle.lu_table.specs.Words.{Deed, Entry, Queues, Flies, Send, Take, Act, Txn as Made, Line, turn_before}
 use Rattle.lu_table.specs.Sent.{count_sent}
-use Rattle.lu_table.specs.Targets.{operation, tree_of, log_of, slot_of, is_slot_of, count_of, server_of, next_number, seen_in}
-use Rattle.lu_table.specs.TargetRows.{none, deed, again}
+use Rattle.lu_table.specs.Targets.{operation, tree_of, log_of, slot_of, is_slot_of, count_of, server_of, seen_in}
+use Rattle.lu_table.specs.TargetRows.{again}
 use Rattle.lu_table.specs.Printed.{printed}
 use Rattle.lu_table.specs.Runs.{Head}
 use Rattle.lu_laws.specs.Pasts.{same_turn, same_node}
 use Rattle.lu_laws.specs.Sends.{message_of, took}
 use Rattle.lu_laws.specs.Requests.{asked}
-use Rattle.lu_laws.specs.Boots.{boot, greatest}
-use Rattle.lu_laws.specs.Standing.{contents}
 use Rattle.lu_laws.specs.Seen.{touches_of, seen_by}
 use Rattle.lu_laws.specs.Recovery as law
 use Rattle.lu_laws.specs.Recovery.{TxnAt, is_size_for, is_executed, reply_seen, ReplyAt, Recovery}
-use Rattle.lu_lawful.proofs.Guards.{line, Later, Steps, Fresh, Taken, ReplyOk, TakeOk, ExecutesOk, ActOk, TxnOk, SendOk, EntryOk, Allowed, Grown}
+use Rattle.lu_lawful.proofs.Guards.{line, Later, Steps, Fresh, Taken, ReplyOk, TxnOk, SendOk, EntryOk, Grown}
 use Rattle.lu_lawful.proofs.Lists.{self, turn_trans, turn_irreflexive}
 use Rattle.lu_lawful.proofs.Base.{turn, Acted}
 use Rattle.lu_lawful.proofs.Facts.{AskedAt, AllAsked}
@@ -70,6 +65,7 @@ pub later_before : (l : Line) (past : List Line) (at : At) → Steps past l.at �
 later_before l [] at s b = tt
 later_before l (m ∷ past) at s b = ⊎_elim (λ (e : m.at ≡ l.at). subst (λ (v : At). turn_before v at ≡ true) (sym e) b) (λ (e : turn_before m.at l.at ≡ true). turn_trans m.at l.at at e b) s
 
+-- what was done was done in an earlier turn than any later one
 pub acted_before : (head : Head) (past : List Line) (at : At) (d : Deed) → Grown head past → Later past at → Acted past d → turn_before d.reply.at at ≡ true
 acted_before head [] at d g later a = absurd a
 acted_before head (l ∷ past) at d g later a = by l.entry g.0.ok a (λ b. acted_before head past at d g.1 (later_before l past at g.0.steps later) b)
@@ -85,7 +81,7 @@ acted_before head (l ∷ past) at d g later a = by l.entry g.0.ok a (λ b. acted
     by _ ok b h = h b
 
 -- a kept reply is of a deed
-kept_acted : (who : Who) (tag : ℕ) (k : ReplyTo) (past : List Line) → slot_of who tag past ≡ Some k → (d : Deed) × Acted past d × (d.reply ≡ k)
+pub kept_acted : (who : Who) (tag : ℕ) (k : ReplyTo) (past : List Line) → slot_of who tag past ≡ Some k → (d : Deed) × Acted past d × (d.reply ≡ k)
 kept_acted who tag k [] s = absurd (cc)
 kept_acted who tag k (l ∷ past) s = by l.entry s (kept_acted who tag k past)
   where
@@ -167,8 +163,8 @@ act_reply head before stamp (Target t) d g a =
     let grown : Grown head (line at (Take took.number (message.Request ok.request)) ∷ took.before) = subst (Grown head) took.newest g.1 in
     let w : d.reply.at ≡ at = ap (λ (e : Deed). e.reply.at) ok.is in
     let never : law.seen_in (printed before) d.reply.at d.reply.who d.reply.xid.0 ≡ None =
-        subst (λ v. law.seen_in (printed v) d.reply.at d.reply.who d.reply.xid.0 ≡ None) (sym took.newest)
-        (none_seen head took.before d.reply.at d.reply.who d.reply.xid.0 grown.1 (subst (λ (v : At). Later took.before v) (sym w) grown.0.ok.later)) in
+    subst (λ v. law.seen_in (printed v) d.reply.at d.reply.who d.reply.xid.0 ≡ None) (sym took.newest)
+    (none_seen head took.before d.reply.at d.reply.who d.reply.xid.0 grown.1 (subst (λ (v : At). Later took.before v) (sym w) grown.0.ok.later)) in
     (act_is head.osts before at d ok).2
     ∙ sym (law_seen_is head past d g a a.0)
     ∙ sym (ap (λ o. reply_seen head.osts 0 (printed past) d.reply o) never)
@@ -211,10 +207,10 @@ reply_law : (head : Head) (past : List Line) (at : At) (c : ℕ) (k : ReplyTo) �
 reply_law head past at c k g a steps ok =
     subst (λ (v : ReplyTo). ReplyAt head.osts 0 (printed past) at v) (sym ok.is)
     (λ e. let now = executed_now head past at (again (server_of head.osts past) ok.kept) g e in
-      ⊎_elim
-      (λ (f : Fresh past ok.kept). subst (λ (v : At). ok.kept.seen ≡ reply_seen head.osts 0 (printed past) ok.kept (law.seen_in (printed past) v ok.kept.who ok.kept.xid.0)) now (fresh_reply head past ok.kept g a f))
-      (λ (t : Taken past). absurd (taken_reply head past at ok.who ok.tag ok.kept g steps t ok.slot now))
-      ok.newest)
+    ⊎_elim
+    (λ (f : Fresh past ok.kept). subst (λ (v : At). ok.kept.seen ≡ reply_seen head.osts 0 (printed past) ok.kept (law.seen_in (printed past) v ok.kept.who ok.kept.xid.0)) now (fresh_reply head past ok.kept g a f))
+    (λ (t : Taken past). absurd (taken_reply head past at ok.who ok.tag ok.kept g steps t ok.slot now))
+    ok.newest)
 
 -- ---- transactions
 

@@ -1,31 +1,30 @@
 -- The numbers that the law sees in the printed past of a run are those that the metadata target sees in its log.
-use Rattle.std.proofs.Common.{◌≡◌, ℕ, ◌+◌, ◌<◌, Bool, true, false, cond, List, [], ◌∷◌, ◌++◌, reverse, Option, Some, refl, sym, subst, ap, ◌∙◌, append_assoc, append-nil, arith}
-use Rattle.std.specs.Prelude.{nat_eq, nat_lt, not, ◌&&◌, ◌==◌, if◌then◌else◌}
-use Rattle.std.proofs.lemmas.Bool.{cond-true, lt-ltb}
+use Rattle.std.proofs.Common.{◌≡◌, ℕ, Bool, true, false, List, [], ◌∷◌, ◌++◌, reverse, refl, sym, subst, ap, ◌∙◌, append-nil, arith}
+use Rattle.std.specs.Prelude.{nat_lt, not, ◌&&◌, if◌then◌else◌}
+use Rattle.std.proofs.lemmas.Bool.{lt-ltb}
 use Rattle.std.proofs.lemmas.Grind.{reverse_onto}
 use Rattle.lu_base.specs.declared.ids.At.{At}
 use Rattle.lu_base.specs.declared.ids.Node.{Node}
 use Rattle.lu_base.specs.declared.ids.Node.TheVariants.{Client, Target}
-use Rattle.lu_msg.specs.declared.operations.Op.{Op}
 use Rattle.lu_part.specs.declared.parts.Part.{Part}
 use Rattle.lu_machine.specs.Tree.{Tree}
 use Rattle.lu_machine.specs.Footprint.{writes}
 use Rattle.lu_machine.specs.Seen.{meet}
-use Rattle.lu_table.specs.Words.{Deed, Entry, Queues, Act, Txn as Made, Line}
-use Rattle.lu_table.specs.Targets.{Logged, operation, tree_of, log_of, count_of, seen_in}
+use Rattle.lu_table.specs.Words.{Deed, Entry, Txn as Made, Line}
+use Rattle.lu_table.specs.Targets.{Logged, operation, tree_of, log_of, seen_in}
 use Rattle.lu_table.specs.Printed.{printed}
 use Rattle.lu_table.specs.Runs.{Head}
 use Rattle.lu_laws.specs.Pasts.{is_target}
 use Rattle.lu_laws.specs.Requests.{asked}
 use Rattle.lu_laws.specs.Boots.{committed}
 use Rattle.lu_laws.specs.Lost.{is_lost}
-use Rattle.lu_laws.specs.Standing.{contents}
 use Rattle.lu_laws.specs.Seen.{writes_of, meeting, seen_by}
 use Rattle.lu_lawful.proofs.Guards.{line, TxnOk, EntryOk, Grown}
 use Rattle.lu_lawful.proofs.Base.{turn}
 use Rattle.lu_lawful.proofs.Facts.{AskedAt, AllAsked}
 use Rattle.lu_lawful.proofs.Contents.{committed_is, none_lost, number_is, asked_before, contents_are}
 
+-- the number, where the test holds
 abbrev pub one : Bool → ℕ → List ℕ
 one t n = if t then n ∷ [] else []
 
@@ -54,7 +53,7 @@ module _ (head : Head) (above : ℕ) (low : above ≡ 0) (lost : ℕ → Bool) (
       let x = number_is head.osts past at d ok in
       let over : nat_lt above n.0 ≡ true = lt-ltb above n.0 (omega arith) in
       let wrote : writes_of head.osts 0 (printed past) n d.reply.who (asked (printed past) 0 d.reply.who d.reply.xid.0) ≡ ws =
-          ap (λ o. writes_of head.osts 0 (printed past) n d.reply.who o) asks ∙ ap (λ (t : Tree). writes head.osts t (operation d)) (contents_are head past g a) in
+      ap (λ o. writes_of head.osts 0 (printed past) n d.reply.who o) asks ∙ ap (λ (t : Tree). writes head.osts t (operation d)) (contents_are head past g a) in
       let test : (is_target 0 (Target 0) && nat_lt above n.0 && not (lost n.0) && meet (writes_of head.osts 0 (printed past) n d.reply.who (asked (printed past) 0 d.reply.who d.reply.xid.0)) touched) ≡ meet ws touched = rw (over, none n.0, wrote) refl in
       ap (λ t. reverse (if t then n.0 ∷ ns else ns)) test
       ∙ reverse_one (meet ws touched) n.0 ns

@@ -1,8 +1,7 @@
 -- The operations that are asked are lookups and those that make and remove directories: what acts is one of
 -- these, and a user is told their answers as they are.
-use Rattle.std.proofs.Common.{◌≡◌, ℕ, ◌+◌, Bool, true, false, cond, List, [], ◌∷◌, ◌++◌, Option, Some, None, ◌⊎◌, inl, inr, ⊎_elim, refl, sym, subst, ap, ◌∙◌}
-use Rattle.std.specs.Prelude.{nat_eq, not, ◌&&◌, ◌==◌, if◌then◌else◌}
-use Rattle.std.specs.List.{filter}
+use Rattle.std.proofs.Common.{◌≡◌, ℕ, ◌+◌, List, [], ◌∷◌, ◌++◌, Some, inl, inr, ⊎_elim, refl, sym, subst}
+use Rattle.std.specs.Prelude.{nat_eq, not}
 use Rattle.std.proofs.lemmas.Bool.{cond_both}
 use Rattle.lu_base.specs.declared.ids.Node.{Node}
 use Rattle.lu_base.specs.declared.ids.Node.TheVariants.{Client, Target}
@@ -31,15 +30,16 @@ use Rattle.lu_msg.specs.declared.answers.Answer.TheVariants as told
 use Rattle.lu_msg.specs.declared.answers.Answer.TheVariants.{Refused}
 use Rattle.lu_msg.specs.declared.answers.Errno.{Errno}
 use Rattle.lu_msg.specs.declared.answers.Errno.TheVariants.{EEXIST, EBUSY}
-use Rattle.lu_table.specs.Words.{Deed, Queued, Flight, Entry, Begin, Busy, Queues, Flies, Send, Take, Tick, Heard, Told, Die, Act, Txn as Made, Line}
+use Rattle.lu_table.specs.Words.{Deed, Queued, Flight, Entry, Queues, Flies, Send, Take, Heard, Act, Txn as Made, Line}
 use Rattle.lu_table.specs.Sent.{count_sent, Sent}
 use Rattle.lu_table.specs.Calls.{operation_of}
 use Rattle.lu_table.specs.Imports.{rest, queue_of, flights_of, without_flight, is_import}
 use Rattle.lu_table.specs.Runs.{Head}
-use Rattle.lu_lawful.proofs.Guards.{In, line, QueuesOk, FliesOk, ExecutesOk, SendOk, EntryOk, Allowed, Grown}
+use Rattle.lu_lawful.proofs.Guards.{In, line, ExecutesOk, SendOk, EntryOk, Grown}
 use Rattle.lu_lawful.proofs.Lists.{in_append, in_filter}
 use Rattle.lu_lawful.proofs.Base.{turn, Acted}
 
+-- an operation that a client asks so far
 abbrev pub IsThree : Op → Type 0
 IsThree (op.Lookup path) = Unit {0}
 IsThree (op.Mkdir path) = Unit {0}
@@ -54,6 +54,7 @@ becomes_three _ o e = absurd (cc)
 
 -- ---- what acts
 
+-- what waits, what is in flight, what was sent and what acted are such
 abbrev pub Threes : List Line → Type 0
 Threes past =
     record {
