@@ -31,11 +31,12 @@ use Rattle.lu_laws.specs.Requests.{first_request, in_flight, same_object}
 use Rattle.lu_laws.specs.Calls as calls
 use Rattle.lu_laws.specs.Calls.{open_call, is_bad, operation, operation_on}
 use Rattle.lu_laws.specs.Acts.{ActIn, TxnIn, standing_count, ToldWith, is_bad_handle, is_end_of_life, is_local, names_own, ActsThere, ActsInTime, ToldAt, Pairwise, SameTag, FliesAt, SendsAt, OnceAt, ActsAt, ActsOf}
+use Rattle.lu_lawful.specs.Fits.{first_life, DoneStands}
 use Rattle.lu_lawful.proofs.Guards.{In, line, request, ToldOk, AskOk, SendOk, EntryOk, Allowed, Grown}
 use Rattle.lu_lawful.proofs.Lists.{life_is}
 use Rattle.lu_lawful.proofs.Base.{turn, Acted, Flew}
 use Rattle.lu_lawful.proofs.Asks.{CallOf}
-use Rattle.lu_lawful.proofs.Served.{FlewFor, first_life}
+use Rattle.lu_lawful.proofs.Served.{FlewFor}
 use Rattle.lu_lawful.proofs.Timed.{Upto, upto_trans, Reached, reached_on, Hears}
 use Rattle.lu_lawful.proofs.All.{All, Before, heard_sent, told_after, all}
 use Rattle.lu_lawful.proofs.Printed.{life_one, first_sent}
@@ -43,7 +44,6 @@ use Rattle.lu_lawful.proofs.MessagesLaw.{upto_is, open_is, told_call}
 use Rattle.lu_lawful.proofs.Once.{SentFor, DoesNow, act_now, txn_now, first_time, asked_is, acted_sent}
 use Rattle.lu_lawful.proofs.Fine.{IsThree, IsFine, three, deed_fine}
 use Rattle.lu_lawful.proofs.Flying.{Flown, flying, Distinct, flyers, no_more}
-use Rattle.lu_lawful.proofs.HistoryLaw.{DoneStands}
 
 -- ---- each request acts once in the whole trace
 

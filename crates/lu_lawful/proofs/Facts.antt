@@ -10,8 +10,8 @@ use Rattle.lu_table.specs.Words.{Deed, Entry, Told, Act, Txn as Made, Line}
 use Rattle.lu_table.specs.Printed.{printed}
 use Rattle.lu_laws.specs.Pasts.{HeardIn, same_turn}
 use Rattle.lu_laws.specs.Requests.{asked}
+use Rattle.lu_lawful.specs.Fits.{first_life}
 use Rattle.lu_lawful.proofs.Base.{Acted}
-use Rattle.lu_lawful.proofs.Served.{first_life}
 
 abbrev pub AskedAt : List Line → Deed → Type 0
 AskedAt past d = asked (printed past) 0 d.reply.who d.reply.xid.0 ≡ Some d.op

@@ -20,10 +20,10 @@ use Rattle.lu_table.specs.Runs.{Head, IsHead}
 use Rattle.lu_laws.specs.Pasts as pasts
 use Rattle.lu_laws.specs.Lives.{life}
 use Rattle.lu_laws.specs.Requests.{is_of, has_number, without_number, has_heard, flight_with, in_flight}
+use Rattle.lu_lawful.specs.Fits.{first_life}
 use Rattle.lu_lawful.proofs.Guards.{In, line, request, FliesOk, HeardOk, SendOk, EntryOk, Grown}
 use Rattle.lu_lawful.proofs.Lists.{self, in_append, in_left, in_filter, life_is}
 use Rattle.lu_lawful.proofs.Base.{turn}
-use Rattle.lu_lawful.proofs.Served.{first_life}
 use Rattle.lu_lawful.proofs.Printed.{flip, life_one}
 
 -- the requests in flight by the laws, of a client's first life

@@ -36,52 +36,14 @@ use Rattle.lu_laws.specs.Calls.{open_call}
 use Rattle.lu_laws.specs.Histories.{none, request_act, is_answer, told_item, after_item, machine_of, act_of, deed_of}
 use Rattle.lu_laws.specs.History.{Answers, AnsweredThere, ToldFrom, ToldBy, ToldAt, is_refused, is_counted, IsDone, HistoryOf, History}
 use Rattle.lu_laws.specs.History as law
+use Rattle.lu_lawful.specs.Fits.{first_life, AllStand, SeenStand, DoneStands, ToldStandsAt, ToldStand, Fits}
 use Rattle.lu_lawful.proofs.Guards.{line, ActOk, TxnOk, EntryOk, Grown}
 use Rattle.lu_lawful.proofs.Base.{turn, Acted}
-use Rattle.lu_lawful.proofs.Served.{first_life}
 use Rattle.lu_lawful.proofs.Facts.{AskedAt, AllAsked, TellsAt, AllTold}
 use Rattle.lu_lawful.proofs.Contents.{none_lost, life_stays, number_is, asked_before}
 use Rattle.lu_lawful.proofs.SeenNumbers.{one, seen_snoc}
 use Rattle.lu_lawful.proofs.Deeds.{act_ok, txn_ok, act_is, txn_is, deed_at, deed_node}
 use Rattle.lu_lawful.proofs.Three.{IsThree, threes, told_plain}
-
--- ---- which lives may be out, and which numbers lost
-
--- these numbers aren't lost
-abbrev pub AllStand : (ℕ → ℕ → Bool) → List ℕ → Type 0
-AllStand lost [] = Unit {0}
-AllStand lost (n ∷ ns) = (lost 0 n ≡ false) × AllStand lost ns
-
--- a transaction that stands saw only what stands
-abbrev pub SeenStand : (ℕ → ℕ → Bool) → List Line → Type 0
-SeenStand lost [] = Unit {0}
-SeenStand lost (l ∷ past) = elim l.entry [ Made d ↦ (lost 0 d.reply.txn.0 ≡ false → AllStand lost d.reply.seen) × SeenStand lost past | _ ↦ SeenStand lost past ]
-
--- what was done for that life in that turn stands, and saw only what stands
-abbrev pub DoneStands : (ℕ → ℕ → Bool) → List Line → Who → At → Type 0
-DoneStands lost [] who turn = Unit {0}
-DoneStands lost (l ∷ past) who turn =
-    elim l.entry [
-      | Act d ↦ (d.reply.who ≡ who → d.reply.at ≡ turn → AllStand lost d.reply.seen) × DoneStands lost past who turn
-      | Made d ↦ (d.reply.who ≡ who → d.reply.at ≡ turn → (lost 0 d.reply.txn.0 ≡ false) × AllStand lost d.reply.seen) × DoneStands lost past who turn
-      | _ ↦ DoneStands lost past who turn
-    ]
-
--- a life that isn't out was told of that turn
-abbrev pub ToldStandsAt : (Who → Bool) → (ℕ → ℕ → Bool) → List Line → Node → At → Type 0
-ToldStandsAt out lost past (Client c) turn = out (first_life c) ≡ false → DoneStands lost past (first_life c) turn
-ToldStandsAt out lost past (Target t) turn = Unit {0}
-
--- what a life that isn't out was told is of a deed that stands
-abbrev pub ToldStand : (Who → Bool) → (ℕ → ℕ → Bool) → List Line → Type 0
-ToldStand out lost [] = Unit {0}
-ToldStand out lost (l ∷ past) = elim l.entry [ Told slot turn given ↦ ToldStandsAt out lost past l.at.node turn × ToldStand out lost past | _ ↦ ToldStand out lost past ]
-
--- lives and numbers that may be out and lost after a past; the root's number, 1, is no transaction's
-pub record Fits (out : Who → Bool) (lost : ℕ → ℕ → Bool) (past : List Line) : Type 0 where
-  pub root : lost 0 1 ≡ false
-  pub seen : SeenStand lost past
-  pub told : ToldStand out lost past
 
 pub fits_before : (out : Who → Bool) (lost : ℕ → ℕ → Bool) (l : Line) (past : List Line) → Fits out lost (l ∷ past) → Fits out lost past
 fits_before out lost l past f = record { root = f.root; seen = seen_before l.entry f.seen; told = told_before l.entry f.told }

@@ -14,6 +14,7 @@ pub mod Fine
 pub mod Flying
 pub mod ActsLaw
 pub mod ToldLaw
+pub mod Whole
 pub mod Contents
 pub mod SeenNumbers
 pub mod Deeds

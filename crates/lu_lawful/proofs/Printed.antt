@@ -24,9 +24,9 @@ use Rattle.lu_laws.specs.Lost.{is_lost, lost_with}
 use Rattle.lu_laws.specs.Calls.{open_call}
 use Rattle.lu_laws.specs.Calls as calls
 use Rattle.lu_laws.specs.Requests.{is_of, or_else, first_request}
+use Rattle.lu_lawful.specs.Fits.{first_life}
 use Rattle.lu_lawful.proofs.Guards.{line}
 use Rattle.lu_lawful.proofs.Lists.{self, life_is}
-use Rattle.lu_lawful.proofs.Served.{first_life}
 
 pub flip : (a b : ℕ) → nat_eq a b ≡ nat_eq b a
 flip a b = grind (arith, nat_tests)

@@ -25,6 +25,7 @@ use Rattle.lu_table.specs.Targets.{slot_of, server_of, next_number}
 use Rattle.lu_table.specs.ClientRows.{next_flight}
 use Rattle.lu_table.specs.TargetRows.{none, deed, again}
 use Rattle.lu_table.specs.Runs.{Head}
+use Rattle.lu_lawful.specs.Fits.{first_life}
 use Rattle.lu_lawful.proofs.Guards.{In, line, request, Later, Steps, BeginOk, FliesOk, AskOk, ReplyOk, IsNewer, ExecutesOk, SendOk, EntryOk, Allowed}
 use Rattle.lu_lawful.proofs.Lists.{self, in_append, in_filter, turn_trans, life_is}
 use Rattle.lu_lawful.proofs.Base.{turn, Flew, Acted, Numbers, own_import, client_is}
@@ -34,9 +35,6 @@ use Rattle.lu_lawful.proofs.Asks.{CallOf, Asks}
 
 abbrev pub FlewFor : List Line → Deed → Type 0
 FlewFor past d = (f : Flight) × Flew past d.reply.who.client f × (f.xid ≡ d.reply.xid.0) × (f.op ≡ d.op) × (f.tag ≡ d.tag)
-
-abbrev pub first_life : ℕ → Who
-first_life c = record { client = c; life = 1 }
 
 abbrev pub Meant : List Line → Node → Message → Type 0
 Meant past (Target t) (message.Request r) = (f : Flight) × Flew past r.who.client f × (r ≡ request r.who.client [] f)

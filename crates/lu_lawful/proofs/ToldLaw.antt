@@ -29,11 +29,12 @@ use Rattle.lu_laws.specs.Requests.{first_request, asked, in_flight, same_object}
 use Rattle.lu_laws.specs.Calls as calls
 use Rattle.lu_laws.specs.Calls.{open_call, is_bad, operation}
 use Rattle.lu_laws.specs.Acts.{ActIn, TxnIn, standing_count, ToldWith, is_bad_handle, is_end_of_life, is_local, names_own, ActsThere, ActsInTime, ToldAt, Pairwise, SameTag, FliesAt, SendsAt, OnceAt, ActsAt, ActsOf, Acts}
+use Rattle.lu_lawful.specs.Fits.{first_life, DoneStands, ToldStand}
 use Rattle.lu_lawful.proofs.Guards.{In, line, request, ToldOk, AskOk, SendOk, EntryOk, Allowed, Grown}
 use Rattle.lu_lawful.proofs.Lists.{who as who_of}
 use Rattle.lu_lawful.proofs.Base.{turn, Acted, Flew}
 use Rattle.lu_lawful.proofs.Asks.{CallOf}
-use Rattle.lu_lawful.proofs.Served.{FlewFor, first_life}
+use Rattle.lu_lawful.proofs.Served.{FlewFor}
 use Rattle.lu_lawful.proofs.Timed.{Upto, Reached, reached_on}
 use Rattle.lu_lawful.proofs.All.{All, Before, heard_sent, told_after, all}
 use Rattle.lu_lawful.proofs.Printed.{life_one, first_sent}
@@ -42,7 +43,6 @@ use Rattle.lu_lawful.proofs.Once.{act_now, txn_now, asked_is, acted_sent}
 use Rattle.lu_lawful.proofs.Fine.{IsThree, IsFine, three, deed_fine}
 use Rattle.lu_lawful.proofs.Flying.{Flown, flying, Distinct, flyers, keeps_flyers, no_more}
 use Rattle.lu_lawful.proofs.Facts.{TellsAt, AllTold}
-use Rattle.lu_lawful.proofs.HistoryLaw.{DoneStands, ToldStand, ToldStandsAt}
 use Rattle.lu_lawful.proofs.ActsLaw.{ActFor, at_most, act_for, acted_in, told_hears}
 
 -- ---- what a told line tells
