@@ -1,49 +1,28 @@
 -- The law of acts holds of the printed past of every grown one, for all lives that will be out and all numbers
 -- that will be lost, as far as none of a deed that is told is.
-use Rattle.std.proofs.Common.{◌≡◌, ◌≢◌, ℕ, zero, suc, ◌+◌, ◌<◌, ◌≤◌, Bool, true, false, List, [], ◌∷◌, Option, Some, None, ◌⊎◌, inl, inr, ⊎_elim, refl, sym, subst, ap, ◌∙◌, arith}
-use Rattle.std.specs.Prelude.{nat_eq, not, ◌&&◌, ◌||◌, ◌==◌, if◌then◌else◌, length}
-use Rattle.std.proofs.lemmas.Bool.{and_parts, cond_both, cond-true, eqb-true}
-use Rattle.std.proofs.lemmas.Bool.Decides.{nat_tests}
+use Rattle.std.proofs.Common.{◌≡◌, ◌≢◌, ℕ, suc, ◌≤◌, Bool, List, [], ◌∷◌, ◌⊎◌, inl, inr, ⊎_elim, refl, sym, subst, ap, ◌∙◌, arith}
+use Rattle.std.specs.Prelude.{nat_eq, not, ◌&&◌}
+use Rattle.std.proofs.lemmas.Bool.{and_parts, cond_both, eqb-true}
 use Rattle.lu_base.specs.declared.ids.At.{At}
-use Rattle.lu_base.specs.declared.ids.Stamp.{Stamp}
 use Rattle.lu_base.specs.declared.ids.Node.{Node}
 use Rattle.lu_base.specs.declared.ids.Node.TheVariants.{Client, Target}
 use Rattle.lu_base.specs.declared.ids.Who.{Who}
-use Rattle.lu_msg.specs.declared.answers.Answer.{Answer}
-use Rattle.lu_msg.specs.declared.calls.Call.{Call}
-use Rattle.lu_msg.specs.declared.calls.Call.TheVariants as call
-use Rattle.lu_msg.specs.declared.messages.Message.{Message}
-use Rattle.lu_msg.specs.declared.messages.Message.TheVariants as message
 use Rattle.lu_msg.specs.declared.messages.Reply.{Reply as ReplyTo}
-use Rattle.lu_msg.specs.declared.messages.Request.{Request as RequestOf}
-use Rattle.lu_msg.specs.declared.operations.Op.{Op}
 use Rattle.lu_machine.specs.Tree.{same_life}
-use Rattle.lu_machine.specs.Footprint.{Every}
 use Rattle.lu_table.specs.Words.{Deed, Flight, Entry, Begin, Busy, Queues, Flies, Send, Take, Tick, Heard, Told, Die, Act, Txn as Made, Line}
-use Rattle.lu_table.specs.Calls.{Begun, call_of, operation_of}
-use Rattle.lu_table.specs.Imports.{flights_of}
 use Rattle.lu_table.specs.Printed.{printed}
-use Rattle.lu_table.specs.Runs.{Head, IsHead}
+use Rattle.lu_table.specs.Runs.{Head}
 use Rattle.lu_laws.specs.Pasts as pasts
 use Rattle.lu_laws.specs.Pasts.{Past, UpTo, HeardIn, same_turn}
-use Rattle.lu_laws.specs.Lives.{life, who_is}
-use Rattle.lu_laws.specs.Requests.{first_request, in_flight, same_object}
-use Rattle.lu_laws.specs.Calls as calls
-use Rattle.lu_laws.specs.Calls.{open_call, is_bad, operation, operation_on}
-use Rattle.lu_laws.specs.Acts.{ActIn, TxnIn, standing_count, ToldWith, is_bad_handle, is_end_of_life, is_local, names_own, ActsThere, ActsInTime, ToldAt, Pairwise, SameTag, FliesAt, SendsAt, OnceAt, ActsAt, ActsOf}
+use Rattle.lu_laws.specs.Lives.{life}
+use Rattle.lu_laws.specs.Acts.{ActIn, TxnIn, standing_count, ToldWith}
 use Rattle.lu_lawful.specs.Fits.{first_life, DoneStands}
-use Rattle.lu_lawful.proofs.Guards.{In, line, request, ToldOk, AskOk, SendOk, EntryOk, Allowed, Grown}
+use Rattle.lu_lawful.proofs.Guards.{line, EntryOk, Grown}
 use Rattle.lu_lawful.proofs.Lists.{life_is}
-use Rattle.lu_lawful.proofs.Base.{turn, Acted, Flew}
-use Rattle.lu_lawful.proofs.Asks.{CallOf}
-use Rattle.lu_lawful.proofs.Served.{FlewFor}
-use Rattle.lu_lawful.proofs.Timed.{Upto, upto_trans, Reached, reached_on, Hears}
-use Rattle.lu_lawful.proofs.All.{All, Before, heard_sent, told_after, all}
-use Rattle.lu_lawful.proofs.Printed.{life_one, first_sent}
-use Rattle.lu_lawful.proofs.MessagesLaw.{upto_is, open_is, told_call}
-use Rattle.lu_lawful.proofs.Once.{SentFor, DoesNow, act_now, txn_now, first_time, asked_is, acted_sent}
-use Rattle.lu_lawful.proofs.Fine.{IsThree, IsFine, three, deed_fine}
-use Rattle.lu_lawful.proofs.Flying.{Flown, flying, Distinct, flyers, no_more}
+use Rattle.lu_lawful.proofs.Base.{Acted}
+use Rattle.lu_lawful.proofs.Timed.{Hears}
+use Rattle.lu_lawful.proofs.All.{all}
+use Rattle.lu_lawful.proofs.Once.{act_now, txn_now, first_time}
 
 -- ---- each request acts once in the whole trace
 
@@ -119,14 +98,13 @@ module _ (lost : ℕ → ℕ → Bool) (who : Who) (x : ℕ) where
           let z = none_counts past n in
           (omega arith, λ i. let k = act_acted past who x i in absurd (n k.0 k.1 k.2 k.3)))
           (λ t. h)
-      by (Act d) ok h =
-          (
-            h.0,
-            λ i. ⊎_elim
-                (λ (p : (d.reply.who ≡ who) × (d.reply.xid.0 ≡ x)). none_counts past (λ e j w y. first_time head past (all head past g.1).0 d (act_now head past l.at.stamp l.at.node d ok g.1).0 e j (w ∙ sym p.0) (y ∙ sym p.1)))
-                (λ (p : ActFor past who x). h.1 p)
-                i,
-          )
+      by (Act d) ok h = (
+        h.0,
+        λ i. ⊎_elim
+            (λ (p : (d.reply.who ≡ who) × (d.reply.xid.0 ≡ x)). none_counts past (λ e j w y. first_time head past (all head past g.1).0 d (act_now head past l.at.stamp l.at.node d ok g.1).0 e j (w ∙ sym p.0) (y ∙ sym p.1)))
+            (λ (p : ActFor past who x). h.1 p)
+            i,
+      )
       by (Begin slot call) ok h = h
       by (Busy slot) ok h = h
       by (Queues t q) ok h = h

@@ -1,5 +1,5 @@
 -- All invariants, over every grown past.
-use Rattle.std.proofs.Common.{◌≡◌, ℕ, ◌≤◌, Bool, true, false, List, [], ◌∷◌, Option, Some, None, ◌⊎◌, inl, inr, ⊎_elim, refl, sym, subst, ap, ◌∙◌, arith}
+use Rattle.std.proofs.Common.{◌≡◌, ℕ, List, [], ◌∷◌, sym, subst, arith}
 use Rattle.lu_base.specs.declared.ids.At.{At}
 use Rattle.lu_base.specs.declared.ids.Stamp.{Stamp}
 use Rattle.lu_base.specs.declared.ids.Node.{Node}
@@ -8,10 +8,10 @@ use Rattle.lu_msg.specs.declared.answers.Answer.{Answer}
 use Rattle.lu_msg.specs.declared.messages.Message.TheVariants as message
 use Rattle.lu_msg.specs.declared.messages.Reply.{Reply as ReplyTo}
 use Rattle.lu_msg.specs.declared.messages.Request.{Request as RequestOf}
-use Rattle.lu_table.specs.Words.{Flight, Entry, Take, Heard, Told, Line}
+use Rattle.lu_table.specs.Words.{Flight, Entry, Heard, Told, Line}
 use Rattle.lu_table.specs.Sent.{Sent}
 use Rattle.lu_table.specs.Runs.{Head}
-use Rattle.lu_lawful.proofs.Guards.{In, line, HeardOk, ToldOk, ExecutesOk, EntryOk, Allowed, Grown}
+use Rattle.lu_lawful.proofs.Guards.{line, HeardOk, ToldOk, ExecutesOk, EntryOk, Allowed, Grown}
 use Rattle.lu_lawful.proofs.Base.{turn, Numbers, keeps_numbers}
 use Rattle.lu_lawful.proofs.Asks.{Asks, Tells, heard_tells, keeps_asks}
 use Rattle.lu_lawful.proofs.Served.{Done, Meant, TookIt, keeps_done}

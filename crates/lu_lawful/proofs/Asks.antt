@@ -1,9 +1,8 @@
 -- What a client's calls have asked: the requests in flight and in the queue are those of calls that are open,
 -- one for each slot, each with a tag of its own.
-use Rattle.std.proofs.Common.{◌≡◌, ◌≢◌, ℕ, zero, suc, ◌+◌, ◌<◌, ◌≤◌, Bool, true, false, cond, List, [], ◌∷◌, ◌++◌, Option, Some, None, ◌⊎◌, inl, inr, ⊎_elim, refl, sym, subst, ap, ◌∙◌, arith}
-use Rattle.std.specs.Prelude.{nat_eq, nat_lt, not, max, ◌&&◌, ◌||◌, ◌==◌, if◌then◌else◌}
-use Rattle.std.specs.List.{filter}
-use Rattle.std.proofs.lemmas.Bool.{and_parts, cond_both, cond-true, cond-false, eqb-true, eqb-false, not-true}
+use Rattle.std.proofs.Common.{◌≡◌, ℕ, zero, suc, ◌+◌, ◌≤◌, Bool, true, false, List, [], ◌∷◌, ◌++◌, Some, None, ◌⊎◌, inl, inr, ⊎_elim, refl, sym, subst, ap, ◌∙◌, arith}
+use Rattle.std.specs.Prelude.{nat_eq, not, ◌&&◌, if◌then◌else◌}
+use Rattle.std.proofs.lemmas.Bool.{and_parts, cond_both, cond-true, eqb-true, not-true}
 use Rattle.std.proofs.lemmas.Bool.Decides.{nat_tests}
 use Rattle.lu_base.specs.declared.ids.At.{At}
 use Rattle.lu_base.specs.declared.ids.Stamp.{Stamp}
@@ -13,13 +12,12 @@ use Rattle.lu_msg.specs.declared.answers.Answer.{Answer}
 use Rattle.lu_msg.specs.declared.calls.Call.{Call}
 use Rattle.lu_msg.specs.declared.messages.Reply.{Reply as ReplyTo}
 use Rattle.lu_msg.specs.declared.operations.Op.{Op}
-use Rattle.lu_table.specs.Words.{Deed, Queued, Flight, Entry, Begin, Busy, Queues, Flies, Send, Take, Tick, Heard, Told, Die, Act, Txn as Made, Line}
+use Rattle.lu_table.specs.Words.{Queued, Flight, Entry, Begin, Busy, Queues, Flies, Send, Take, Tick, Heard, Told, Die, Act, Txn as Made, Line}
 use Rattle.lu_table.specs.Calls.{Begun, call_of, operation_of}
-use Rattle.lu_table.specs.Imports.{rest, queue_of, flights_of, last_of, without_flight, has_tag, above_tags, free_from, free_tag}
-use Rattle.lu_table.specs.ClientRows.{next_flight}
+use Rattle.lu_table.specs.Imports.{rest, queue_of, flights_of, without_flight, has_tag, above_tags, free_from, free_tag}
 use Rattle.lu_table.specs.Runs.{Head}
-use Rattle.lu_lawful.proofs.Guards.{In, line, asked_of, BeginOk, QueuesOk, FliesOk, EntryOk}
-use Rattle.lu_lawful.proofs.Lists.{self, in_append, in_left, in_right, in_filter}
+use Rattle.lu_lawful.proofs.Guards.{In, line, asked_of, QueuesOk, FliesOk, EntryOk}
+use Rattle.lu_lawful.proofs.Lists.{self, in_append, in_filter}
 use Rattle.lu_lawful.proofs.Base.{turn, own_import}
 
 -- the call on a slot is open, and becomes that operation
@@ -71,14 +69,13 @@ own_slot : (c d slot s : ℕ) → nat_eq c d && nat_eq slot s ≡ true → (c �
 own_slot c d slot s t = let p = and_parts (nat_eq c d) (nat_eq slot s) t in (eqb-true c d p.0, eqb-true slot s p.1)
 
 begin_call : (past : List Line) (stamp : Stamp) (d s c slot : ℕ) (call : Call) (o : Op) → call_of d s past ≡ None → CallOf past c slot o → CallOf (line (turn stamp (Client d)) (Begin s call) ∷ past) c slot o
-begin_call past stamp d s c slot call o free k =
-    (
-      k.0,
-      cond_both (nat_eq c d && nat_eq slot s) (Some (record { at = turn stamp (Client d); call = call })) (call_of c slot past) (λ v. v ≡ Some k.0)
+begin_call past stamp d s c slot call o free k = (
+  k.0,
+  cond_both (nat_eq c d && nat_eq slot s) (Some (record { at = turn stamp (Client d); call = call })) (call_of c slot past) (λ v. v ≡ Some k.0)
       (λ t. let p = own_slot c d slot s t in let q : call_of c slot past ≡ call_of d s past = ap (λ v. call_of v slot past) p.0 ∙ ap (λ v. call_of d v past) p.1 in let r = k.1 in absurd (cc))
       (λ t. k.1),
-      k.2,
-    )
+  k.2,
+)
 
 begin_asked : (past : List Line) (stamp : Stamp) (d s c slot : ℕ) (call : Call) (o : Op) → call_of d s past ≡ None → CallOf past c slot o → asked_of c slot past ≡ true → asked_of c slot (line (turn stamp (Client d)) (Begin s call) ∷ past) ≡ true
 begin_asked past stamp d s c slot call o free k a =
@@ -101,11 +98,10 @@ asks_begin past stamp d s call free h =
 
 apart_snoc : (queue : List Queued) (q : Queued) → Apart queue → ((g : Queued) → In g queue → g.slot ≡ q.slot → ⊥) → Apart (queue ++ q ∷ [])
 apart_snoc [] q a n = ((λ g i e. absurd i), tt)
-apart_snoc (p ∷ queue) q a n =
-    (
-      λ g i e. ⊎_elim (λ (j : In g queue). a.0 g j e) (λ (j : In g (q ∷ [])). ⊎_elim (λ (w : q ≡ g). n p (inl refl) (sym e ∙ ap (λ (k : Queued). k.slot) (sym w))) (λ (v : ⊥). v) j) (in_append g queue (q ∷ []) i),
-      apart_snoc queue q a.1 (λ g i. n g (inr i)),
-    )
+apart_snoc (p ∷ queue) q a n = (
+  λ g i e. ⊎_elim (λ (j : In g queue). a.0 g j e) (λ (j : In g (q ∷ [])). ⊎_elim (λ (w : q ≡ g). n p (inl refl) (sym e ∙ ap (λ (k : Queued). k.slot) (sym w))) (λ (v : ⊥). v) j) (in_append g queue (q ∷ []) i),
+  apart_snoc queue q a.1 (λ g i. n g (inr i)),
+)
 
 -- the queue with one more
 module _ (past : List Line) (stamp : Stamp) (d : ℕ) (q : Queued) where
@@ -279,13 +275,12 @@ asks_told past stamp d s at answer n h =
 
 -- after a reply was heard no other request is for its slot
 pub heard_tells : (before : List Line) (stamp : Stamp) (d : ℕ) (f : Flight) (r : ReplyTo) → In f (flights_of d 0 before) → Asks before → Tells (line (turn stamp (Client d)) (Heard 0 f r) ∷ before) d f.slot
-heard_tells before stamp d f r i h =
-    (
-      λ g. cond_both (nat_eq d d && nat_eq 0 0) (without_flight f.xid (flights_of d 0 before)) (flights_of d 0 before) (λ (fs : List Flight). In g fs → g.slot ≡ f.slot → ⊥)
-          (λ t j e. let k = in_filter (λ (v : Flight). not (nat_eq v.xid f.xid)) g (flights_of d 0 before) j in let x = h.fly_apart d g f k.0 i e in let y = not-true (nat_eq g.xid f.xid) k.1 in grind (arith, nat_tests))
-          (λ t j e. let w = self d in absurd (grind (arith, nat_tests))),
-      λ q j e. h.apart d q f j i e,
-    )
+heard_tells before stamp d f r i h = (
+  λ g. cond_both (nat_eq d d && nat_eq 0 0) (without_flight f.xid (flights_of d 0 before)) (flights_of d 0 before) (λ (fs : List Flight). In g fs → g.slot ≡ f.slot → ⊥)
+      (λ t j e. let k = in_filter (λ (v : Flight). not (nat_eq v.xid f.xid)) g (flights_of d 0 before) j in let x = h.fly_apart d g f k.0 i e in let y = not-true (nat_eq g.xid f.xid) k.1 in grind (arith, nat_tests))
+      (λ t j e. let w = self d in absurd (grind (arith, nat_tests))),
+  λ q j e. h.apart d q f j i e,
+)
 
 pub keeps_asks : (head : Head) (past : List Line) (stamp : Stamp) (node : Node) (e : Entry) → EntryOk head past (turn stamp node) node e → ((d slot : ℕ) (at : At) (answer : Answer) → node ≡ Client d → e ≡ Told slot at answer → Tells past d slot)
     → Asks past → Asks (line (turn stamp node) e ∷ past)

@@ -1,31 +1,18 @@
 -- What holds of every run: request numbers, slots, messages and turns.
-use Rattle.std.proofs.Common.{◌≡◌, ◌≢◌, ℕ, ◌+◌, ◌<◌, ◌≤◌, Bool, true, false, cond, List, [], ◌∷◌, ◌++◌, Option, Some, None, ◌⊎◌, inl, inr, ⊎_elim, refl, sym, subst, ap, ◌∙◌, arith}
-use Rattle.std.specs.Prelude.{nat_eq, nat_lt, not, ◌&&◌, ◌||◌, ◌==◌, if◌then◌else◌, length}
-use Rattle.std.specs.List.{filter}
-use Rattle.std.proofs.lemmas.Bool.{and_parts, cond_both, cond-true, cond-false, eqb-true, eqb-false, eq-eqb, ltb-true, not-true, cases_eq}
+use Rattle.std.proofs.Common.{◌≡◌, ℕ, ◌+◌, ◌<◌, ◌≤◌, true, false, List, [], ◌∷◌, ◌++◌, ◌⊎◌, inl, inr, ⊎_elim, sym, subst, ap, ◌∙◌, arith}
+use Rattle.std.specs.Prelude.{nat_eq, not, ◌&&◌}
+use Rattle.std.proofs.lemmas.Bool.{and_parts, cond_both, eqb-true}
 use Rattle.std.proofs.lemmas.Bool.Decides.{nat_tests}
 use Rattle.lu_base.specs.declared.ids.At.{At}
 use Rattle.lu_base.specs.declared.ids.Stamp.{Stamp}
 use Rattle.lu_base.specs.declared.ids.Node.{Node}
 use Rattle.lu_base.specs.declared.ids.Node.TheVariants.{Client, Target}
-use Rattle.lu_base.specs.declared.ids.Who.{Who}
-use Rattle.lu_msg.specs.declared.answers.Answer.{Answer}
-use Rattle.lu_msg.specs.declared.calls.Call.{Call}
-use Rattle.lu_msg.specs.declared.messages.Message.{Message}
-use Rattle.lu_msg.specs.declared.messages.Message.TheVariants as message
 use Rattle.lu_msg.specs.declared.messages.Reply.{Reply as ReplyTo}
-use Rattle.lu_msg.specs.declared.messages.Request.{Request as RequestOf}
-use Rattle.lu_msg.specs.declared.operations.Op.{Op}
-use Rattle.lu_table.specs.Words.{Deed, Queued, Flight, Entry, Begin, Busy, Queues, Flies, Send, Take, Tick, Heard, Told, Die, Act, Txn as Made, Line, same_life, turn_before}
-use Rattle.lu_table.specs.Sent.{count_sent, Sent}
-use Rattle.lu_table.specs.Calls.{Begun, call_of, is_dead, life_of, operation_of}
-use Rattle.lu_table.specs.Imports.{rest, queue_of, flights_of, last_of, without_flight, has_tag, free_from, free_tag}
-use Rattle.lu_table.specs.Targets.{tree_of, slot_of, server_of, next_number}
-use Rattle.lu_table.specs.ClientRows.{next_flight}
-use Rattle.lu_table.specs.TargetRows.{asked, none, deed, again}
-use Rattle.lu_table.specs.Runs.{Head, IsHead}
-use Rattle.lu_lawful.proofs.Guards.{In, line, asked_of, request, Later, Steps, BeginOk, QueuesOk, FliesOk, AskOk, ReplyOk, HeardOk, ToldOk, IsNewer, ExecutesOk, ActOk, TxnOk, SendOk, EntryOk, Allowed, Grown}
-use Rattle.lu_lawful.proofs.Lists.{self, in_append, in_left, in_right, in_filter, turn_trans, life_is}
+use Rattle.lu_table.specs.Words.{Deed, Flight, Entry, Begin, Busy, Queues, Flies, Send, Take, Tick, Heard, Told, Die, Act, Txn as Made, Line}
+use Rattle.lu_table.specs.Imports.{flights_of, last_of, without_flight}
+use Rattle.lu_table.specs.Runs.{Head}
+use Rattle.lu_lawful.proofs.Guards.{In, line, FliesOk, EntryOk}
+use Rattle.lu_lawful.proofs.Lists.{in_append, in_filter}
 
 abbrev pub turn : Stamp → Node → At
 turn stamp node = record { stamp = stamp; node = node }

@@ -1,12 +1,11 @@
 -- What the laws rest on, line by line: the operation of each deed is that of the first request sent with its
 -- number, and what is told is the answer of a deed that is heard in that turn.
-use Rattle.std.proofs.Common.{◌≡◌, ℕ, false, List, [], ◌∷◌, Some}
+use Rattle.std.proofs.Common.{◌≡◌, false, List, [], ◌∷◌, Some}
 use Rattle.lu_base.specs.declared.ids.At.{At}
 use Rattle.lu_base.specs.declared.ids.Node.{Node}
 use Rattle.lu_base.specs.declared.ids.Node.TheVariants.{Client, Target}
-use Rattle.lu_base.specs.declared.ids.Who.{Who}
 use Rattle.lu_msg.specs.declared.answers.Answer.{Answer}
-use Rattle.lu_table.specs.Words.{Deed, Entry, Told, Act, Txn as Made, Line}
+use Rattle.lu_table.specs.Words.{Deed, Told, Act, Txn as Made, Line}
 use Rattle.lu_table.specs.Printed.{printed}
 use Rattle.lu_laws.specs.Pasts.{HeardIn, same_turn}
 use Rattle.lu_laws.specs.Requests.{asked}

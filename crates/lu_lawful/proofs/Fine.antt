@@ -1,5 +1,5 @@
 -- The operations of a client's first calls are answered neither EBADF nor EIO, whatever the tree.
-use Rattle.std.proofs.Common.{◌≡◌, ℕ, Bool, true, false, List, [], ◌∷◌, Option, Some, None, ◌⊎◌, inl, inr, ⊎_elim, refl, sym, subst, ap, ◌∙◌}
+use Rattle.std.proofs.Common.{◌≡◌, ℕ, false, List, [], ◌∷◌, Option, Some, None, ⊎_elim, refl, sym, subst}
 use Rattle.std.proofs.lemmas.Bool.{cond_both}
 use Rattle.lu_base.specs.declared.ids.Fid.{Fid}
 use Rattle.lu_base.specs.declared.ids.Stamp.{Stamp}
@@ -8,42 +8,27 @@ use Rattle.lu_base.specs.declared.ids.Node.TheVariants.{Client, Target}
 use Rattle.lu_base.specs.declared.ids.Txn.{Txn}
 use Rattle.lu_base.specs.declared.ids.Who.{Who}
 use Rattle.lu_msg.specs.declared.answers.Answer.{Answer}
-use Rattle.lu_msg.specs.declared.calls.Call.{Call}
-use Rattle.lu_msg.specs.declared.calls.Call.TheVariants as call
 use Rattle.lu_msg.specs.declared.operations.Op.{Op}
 use Rattle.lu_msg.specs.declared.operations.Op.TheVariants as op
-use Rattle.lu_msg.specs.declared.answers.Errno.TheVariants.{ENOENT, EEXIST, ENOTDIR, ENAMETOOLONG, EBUSY}
+use Rattle.lu_msg.specs.declared.answers.Errno.TheVariants.{ENAMETOOLONG}
 use Rattle.lu_machine.specs.declared.child.Child.{Child}
 use Rattle.lu_machine.specs.declared.child.Child.TheVariants.{Dir, File}
 use Rattle.lu_machine.specs.Name.{is_too_long}
 use Rattle.lu_machine.specs.Tree.{Tree, child, listing}
 use Rattle.lu_machine.specs.Plan.{Plan, Refuse, outcome}
-use Rattle.lu_machine.specs.Table.{root, look_in, look, there, absent, walk, onward, last_of, if_empty, does, found, row_lookup, row_mkdir, row_rmdir, plan}
+use Rattle.lu_machine.specs.Table.{root, look_in, look, there, absent, walk, onward, last_of, if_empty, row_lookup, row_mkdir, row_rmdir, plan}
 use Rattle.lu_machine.specs.Footprint.{answer}
 use Rattle.lu_table.specs.Words.{Deed, Entry, Begin, Busy, Queues, Flies, Send, Take, Tick, Heard, Told, Die, Act, Txn as Made, Line}
-use Rattle.lu_table.specs.Calls.{operation_of}
 use Rattle.lu_table.specs.Targets.{tree_of, server_of, next_number}
 use Rattle.lu_table.specs.TargetRows.{none}
 use Rattle.lu_table.specs.Runs.{Head}
 use Rattle.lu_laws.specs.Acts.{is_bad_handle, is_end_of_life}
+use Rattle.lu_lawful.proofs.Three.{IsThree}
 use Rattle.lu_lawful.proofs.Guards.{line, EntryOk, Grown}
 use Rattle.lu_lawful.proofs.Base.{turn, Acted}
 
 abbrev pub IsFine : Answer → Type 0
 IsFine a = (is_bad_handle a ≡ false) × (is_end_of_life a ≡ false)
-
--- a call becomes one of three operations
-abbrev pub IsThree : Op → Type 0
-IsThree (op.Lookup path) = Unit {0}
-IsThree (op.Mkdir path) = Unit {0}
-IsThree (op.Rmdir path) = Unit {0}
-IsThree _ = ⊥
-
-pub three : (c : Call) (o : Op) → operation_of c ≡ Some o → IsThree o
-three (call.Lookup path) o e = let q : op.Lookup path ≡ o = cc in subst IsThree q tt
-three (call.Mkdir path) o e = let q : op.Mkdir path ≡ o = cc in subst IsThree q tt
-three (call.Rmdir path) o e = let q : op.Rmdir path ≡ o = cc in subst IsThree q tt
-three _ o e = absurd (cc)
 
 module _ (t : Tree) where
   abbrev Ends : Plan → Type 0

@@ -1,9 +1,8 @@
 -- What the laws call in flight is what the table calls so: at most eight requests, each with its own tag.
-use Rattle.std.proofs.Common.{◌≡◌, ◌≢◌, ℕ, zero, suc, ◌+◌, ◌<◌, ◌≤◌, Bool, true, false, List, [], ◌∷◌, ◌++◌, Option, Some, None, ◌⊎◌, inl, inr, ⊎_elim, refl, sym, subst, ap, ◌∙◌, arith}
-use Rattle.std.specs.Prelude.{nat_eq, not, ◌&&◌, ◌==◌, if◌then◌else◌, length, filter}
-use Rattle.std.proofs.lemmas.Bool.{and_parts, and_from, cond_both, cond-true, eqb-true, not-true}
+use Rattle.std.proofs.Common.{◌≡◌, ℕ, ◌+◌, ◌≤◌, Bool, true, false, List, [], ◌∷◌, ◌++◌, inl, inr, ⊎_elim, refl, sym, subst, ap, ◌∙◌, arith}
+use Rattle.std.specs.Prelude.{nat_eq, not, ◌&&◌, if◌then◌else◌, length, filter}
+use Rattle.std.proofs.lemmas.Bool.{and_parts, cond_both, cond-true, eqb-true, not-true}
 use Rattle.std.proofs.lemmas.Bool.Decides.{nat_tests}
-use Rattle.lu_base.specs.declared.ids.At.{At}
 use Rattle.lu_base.specs.declared.ids.Stamp.{Stamp}
 use Rattle.lu_base.specs.declared.ids.Node.{Node}
 use Rattle.lu_base.specs.declared.ids.Node.TheVariants.{Client, Target}
@@ -12,19 +11,19 @@ use Rattle.lu_msg.specs.declared.messages.Message.{Message}
 use Rattle.lu_msg.specs.declared.messages.Message.TheVariants as message
 use Rattle.lu_msg.specs.declared.messages.Reply.{Reply as ReplyTo}
 use Rattle.lu_msg.specs.declared.messages.Request.{Request as RequestOf}
-use Rattle.lu_machine.specs.Footprint.{Every}
-use Rattle.lu_table.specs.Words.{Deed, Flight, Entry, Begin, Busy, Queues, Flies, Send, Take, Tick, Heard, Told, Die, Act, Txn as Made, Line}
+use Rattle.lu_table.specs.Words.{Flight, Entry, Begin, Busy, Queues, Flies, Send, Take, Tick, Heard, Told, Die, Act, Txn as Made, Line}
 use Rattle.lu_table.specs.Imports.{flights_of, without_flight}
 use Rattle.lu_table.specs.Printed.{printed}
-use Rattle.lu_table.specs.Runs.{Head, IsHead}
+use Rattle.lu_table.specs.Runs.{Head}
 use Rattle.lu_laws.specs.Pasts as pasts
 use Rattle.lu_laws.specs.Lives.{life}
-use Rattle.lu_laws.specs.Requests.{is_of, has_number, without_number, has_heard, flight_with, in_flight}
+use Rattle.lu_laws.specs.Requests.{is_of, has_number, without_number, has_heard, in_flight}
 use Rattle.lu_lawful.specs.Fits.{first_life}
-use Rattle.lu_lawful.proofs.Guards.{In, line, request, FliesOk, HeardOk, SendOk, EntryOk, Grown}
-use Rattle.lu_lawful.proofs.Lists.{self, in_append, in_left, in_filter, life_is}
+use Rattle.lu_lawful.proofs.Guards.{In, line, request, SendOk, EntryOk, Grown}
+use Rattle.lu_lawful.proofs.Lists.{in_left, in_filter, life_is}
 use Rattle.lu_lawful.proofs.Base.{turn}
-use Rattle.lu_lawful.proofs.Printed.{flip, life_one}
+use Rattle.lu_lawful.proofs.Contents.{life_stays}
+use Rattle.lu_lawful.proofs.Printed.{flip}
 
 -- the requests in flight by the laws, of a client's first life
 abbrev pub flying : ℕ → List Line → List RequestOf
@@ -55,18 +54,17 @@ distinct_filter g (r ∷ rs) d =
 
 -- one more
 flyers_send : (head : Head) (past : List Line) (stamp : Stamp) (node to : Node) (m : Message) → SendOk head past node to m → Flyers past → Flyers (line (turn stamp node) (Send to m) ∷ past)
-flyers_send head past stamp (Client d) (Target t) (message.Request r) ok h c =
-    (
-      λ q. cond_both (is_of 0 (first_life c) (Target t) r && not (has_number r.xid.0 (flying c past)) && not (has_heard 0 (first_life c) r.xid.0 (printed past))) (r ∷ flying c past) (flying c past) (λ (rs : List RequestOf). In q rs → Flown past c q)
-          (λ v i. ⊎_elim
-          (λ (e : r ≡ q). subst (Flown past c) e (mine v))
-          (λ (j : In q (flying c past)). (h c).0 q j)
-          i)
-          (λ v i. (h c).0 q i),
-      cond_both (is_of 0 (first_life c) (Target t) r && not (has_number r.xid.0 (flying c past)) && not (has_heard 0 (first_life c) r.xid.0 (printed past))) (r ∷ flying c past) (flying c past) Distinct
+flyers_send head past stamp (Client d) (Target t) (message.Request r) ok h c = (
+  λ q. cond_both (is_of 0 (first_life c) (Target t) r && not (has_number r.xid.0 (flying c past)) && not (has_heard 0 (first_life c) r.xid.0 (printed past))) (r ∷ flying c past) (flying c past) (λ (rs : List RequestOf). In q rs → Flown past c q)
+      (λ v i. ⊎_elim
+      (λ (e : r ≡ q). subst (Flown past c) e (mine v))
+      (λ (j : In q (flying c past)). (h c).0 q j)
+      i)
+      (λ v i. (h c).0 q i),
+  cond_both (is_of 0 (first_life c) (Target t) r && not (has_number r.xid.0 (flying c past)) && not (has_heard 0 (first_life c) r.xid.0 (printed past))) (r ∷ flying c past) (flying c past) Distinct
       (λ v. (λ q i e. has_in r.xid.0 (flying c past) q i e (fresh v), (h c).1))
       (λ v. (h c).1),
-    )
+)
   where
     own : is_of 0 (first_life c) (Target t) r && not (has_number r.xid.0 (flying c past)) && not (has_heard 0 (first_life c) r.xid.0 (printed past)) ≡ true → c ≡ d
     own v =
@@ -89,11 +87,10 @@ flyers_send head past stamp node to m ok h c = absurd ok
 
 -- one more in the table
 flyers_flies : (past : List Line) (stamp : Stamp) (d : ℕ) (f : Flight) → Flyers past → Flyers (line (turn stamp (Client d)) (Flies 0 f) ∷ past)
-flyers_flies past stamp d f h c =
-    (
-      λ r i. let k = (h c).0 r i in (k.0, cond_both (nat_eq c d && nat_eq 0 0) (flights_of c 0 past ++ f ∷ []) (flights_of c 0 past) (λ (fs : List Flight). In k.0 fs) (λ t. in_left k.0 (flights_of c 0 past) (f ∷ []) k.1) (λ t. k.1), k.2),
-      (h c).1,
-    )
+flyers_flies past stamp d f h c = (
+  λ r i. let k = (h c).0 r i in (k.0, cond_both (nat_eq c d && nat_eq 0 0) (flights_of c 0 past ++ f ∷ []) (flights_of c 0 past) (λ (fs : List Flight). In k.0 fs) (λ t. in_left k.0 (flights_of c 0 past) (f ∷ []) k.1) (λ t. k.1), k.2),
+  (h c).1,
+)
 
 in_filter_on : (g : Flight → Bool) (f : Flight) (fs : List Flight) → In f fs → g f ≡ true → In f (filter g fs)
 in_filter_on g f [] i t = absurd i
@@ -102,14 +99,13 @@ in_filter_on g f (k ∷ fs) (inr i) t = cond_both (g k) (k ∷ filter g fs) (fil
 
 -- one less in both
 flyers_heard : (past : List Line) (stamp : Stamp) (d : ℕ) (f : Flight) (r : ReplyTo) → f.xid ≡ r.xid.0 → Flyers past → Flyers (line (turn stamp (Client d)) (Heard 0 f r) ∷ past)
-flyers_heard past stamp d f r x h c =
-    (
-      λ q. rw test (by q (nat_eq c d) refl),
-      rw test (cond_both (nat_eq c d) (without_number r.xid.0 (flying c past)) (flying c past) Distinct (λ t. distinct_filter (λ (v : RequestOf). not (nat_eq v.xid.0 r.xid.0)) (flying c past) (h c).1) (λ t. (h c).1)),
-    )
+flyers_heard past stamp d f r x h c = (
+  λ q. rw test (by q (nat_eq c d) refl),
+  rw test (cond_both (nat_eq c d) (without_number r.xid.0 (flying c past)) (flying c past) Distinct (λ t. distinct_filter (λ (v : RequestOf). not (nat_eq v.xid.0 r.xid.0)) (flying c past) (h c).1) (λ t. (h c).1)),
+)
   where
     test : (nat_eq d c && nat_eq (life c (printed past)) 1 && nat_eq 0 0) ≡ nat_eq c d
-    test = rw (flip d c, life_one c past) (and_true (nat_eq c d))
+    test = rw (flip d c, life_stays c past) (and_true (nat_eq c d))
       where
         and_true : (v : Bool) → (v && nat_eq 1 1 && nat_eq 0 0) ≡ v
         and_true true = refl

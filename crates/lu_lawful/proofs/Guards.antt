@@ -1,6 +1,6 @@
 -- When a line may be added to a past, whatever row makes it: what a single line rests on, over the past just
 -- before it. What isn't listed never happens.
-use Rattle.std.proofs.Common.{◌≡◌, ◌≢◌, ℕ, ◌+◌, ◌<◌, Bool, true, false, List, [], ◌∷◌, Option, Some, None, ◌⊎◌}
+use Rattle.std.proofs.Common.{◌≡◌, ℕ, ◌<◌, Bool, true, false, List, [], ◌∷◌, Option, Some, None, ◌⊎◌}
 use Rattle.std.specs.Prelude.{length, if◌then◌else◌}
 use Rattle.lu_base.specs.declared.ids.At.{At}
 use Rattle.lu_base.specs.declared.ids.Node.{Node}
@@ -16,7 +16,7 @@ use Rattle.lu_msg.specs.declared.operations.Op.{Op}
 use Rattle.lu_machine.specs.Footprint.{changes}
 use Rattle.lu_table.specs.Words.{Deed, Queued, Flight, Entry, Begin, Busy, Queues, Flies, Send, Take, Tick, Heard, Told, Die, Act, Txn, Line, turn_before}
 use Rattle.lu_table.specs.Sent.{Sent}
-use Rattle.lu_table.specs.Calls.{Begun, is_slot, call_of, is_dead, life_of, operation_of}
+use Rattle.lu_table.specs.Calls.{Begun, is_slot, call_of, life_of, operation_of}
 use Rattle.lu_table.specs.Imports.{queue_of, flights_of, last_of}
 use Rattle.lu_table.specs.Targets.{tree_of, slot_of, server_of, next_number}
 use Rattle.lu_table.specs.ClientRows.{knows_of, next_flight}

@@ -1,8 +1,8 @@
 -- Facts of tests, turns and lists.
-use Rattle.std.proofs.Common.{◌≡◌, ◌≢◌, ℕ, ◌+◌, ◌<◌, ◌≤◌, Bool, true, false, cond, List, [], ◌∷◌, ◌++◌, Option, Some, None, ◌⊎◌, inl, inr, ⊎_elim, eqb, refl, sym, subst, ap, ◌∙◌, arith}
-use Rattle.std.specs.Prelude.{nat_eq, nat_lt, not, ◌&&◌, ◌||◌, ◌==◌, length}
+use Rattle.std.proofs.Common.{◌≡◌, ℕ, Bool, true, List, [], ◌∷◌, ◌++◌, ◌⊎◌, inl, inr, ⊎_elim, refl, sym, ap, ◌∙◌, arith}
+use Rattle.std.specs.Prelude.{nat_eq}
 use Rattle.std.specs.List.{filter}
-use Rattle.std.proofs.lemmas.Bool.{and_from, cond_both, cond-true, cond-false, eqb-true, eq-eqb, ltb-true, ltb-false, and_parts, not-true}
+use Rattle.std.proofs.lemmas.Bool.{cond_both, eqb-true, eq-eqb, and_parts}
 use Rattle.std.proofs.lemmas.Bool.Decides.{nat_tests}
 use Rattle.lu_base.specs.declared.ids.At.{At}
 use Rattle.lu_base.specs.declared.ids.Node.{Node}

@@ -1,25 +1,25 @@
 -- The law of messages holds of the printed past of every grown one.
-use Rattle.std.proofs.Common.{◌≡◌, ℕ, suc, ◌+◌, ◌<◌, ◌≤◌, Bool, true, false, List, [], ◌∷◌, Option, Some, None, ◌⊎◌, inl, inr, ⊎_elim, refl, sym, subst, ap, ◌∙◌, arith}
-use Rattle.std.specs.Prelude.{nat_eq, nat_lt, ◌==◌, if◌then◌else◌}
+use Rattle.std.proofs.Common.{◌≡◌, ℕ, Bool, true, List, [], ◌∷◌, Option, Some, None, inl, inr, refl, sym, subst, ap, ◌∙◌, arith}
+use Rattle.std.specs.Prelude.{nat_eq, nat_lt}
 use Rattle.std.proofs.lemmas.Bool.{cond_both, eqb-true, ltb-true}
 use Rattle.lu_base.specs.declared.ids.At.{At}
 use Rattle.lu_base.specs.declared.ids.Stamp.{Stamp}
 use Rattle.lu_base.specs.declared.ids.Node.{Node}
 use Rattle.lu_base.specs.declared.ids.Node.TheVariants.{Client, Target}
 use Rattle.lu_msg.specs.declared.answers.Answer.{Answer}
-use Rattle.lu_table.specs.Words.{Flight, Entry, Begin, Busy, Queues, Flies, Send, Take, Tick, Heard, Told, Die, Act, Txn as Made, Line, node_before, turn_before}
+use Rattle.lu_table.specs.Words.{Entry, Begin, Busy, Queues, Flies, Send, Take, Tick, Heard, Told, Die, Act, Txn as Made, Line, node_before}
 use Rattle.lu_table.specs.Calls.{Begun, call_of}
 use Rattle.lu_table.specs.Printed.{printed}
 use Rattle.lu_table.specs.Runs.{Head}
 use Rattle.lu_laws.specs.Pasts.{NodeUpTo, UpTo}
 use Rattle.lu_laws.specs.Calls as calls
 use Rattle.lu_laws.specs.Calls.{open_call}
-use Rattle.lu_laws.specs.Messages.{Follows, Lives, IsFree, IsOpen, Passes, MessagesAt, Messages}
+use Rattle.lu_laws.specs.Messages.{Follows, Lives, Messages}
 use Rattle.lu_lawful.proofs.Guards.{line, Steps, ToldOk, LivesAt, EntryOk, Allowed, Grown}
 use Rattle.lu_lawful.proofs.Base.{turn}
 use Rattle.lu_lawful.proofs.Asks.{CallOf}
 use Rattle.lu_lawful.proofs.Timed.{Upto, upto_trans}
-use Rattle.lu_lawful.proofs.All.{All, Before, told_after, all}
+use Rattle.lu_lawful.proofs.All.{Before, told_after, all}
 use Rattle.lu_lawful.proofs.Printed.{sends_is, sent_is, died_is, SameCall, same_call}
 
 -- ---- turns

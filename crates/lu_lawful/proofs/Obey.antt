@@ -1,6 +1,6 @@
 -- Each row makes allowed lines.
-use Rattle.std.proofs.Common.{◌≡◌, ℕ, ◌+◌, ◌<◌, ◌≤◌, Bool, true, false, cond, List, [], ◌∷◌, ◌++◌, Option, Some, None, ◌⊎◌, inl, inr, ⊎_elim, refl, sym, subst, ap, ◌∙◌, arith}
-use Rattle.std.specs.Prelude.{nat_eq, nat_lt, ◌&&◌, ◌==◌, length}
+use Rattle.std.proofs.Common.{◌≡◌, ℕ, ◌+◌, ◌<◌, Bool, true, false, List, [], ◌∷◌, ◌++◌, Option, Some, None, inl, inr, refl, sym, subst, ap, ◌∙◌}
+use Rattle.std.specs.Prelude.{nat_eq, nat_lt, ◌&&◌, length}
 use Rattle.std.proofs.lemmas.Bool.{and_parts, cond_both, cond-true, eqb-true, ltb-true}
 use Rattle.lu_base.specs.declared.ids.At.{At}
 use Rattle.lu_base.specs.declared.ids.Stamp.{Stamp}
@@ -14,17 +14,16 @@ use Rattle.lu_msg.specs.declared.messages.Reply.{Reply as ReplyTo}
 use Rattle.lu_msg.specs.declared.messages.Request.{Request as RequestOf}
 use Rattle.lu_msg.specs.declared.operations.Op.{Op}
 use Rattle.lu_machine.specs.Footprint.{changes}
-use Rattle.lu_table.specs.Words.{Deed, Queued, Flight, Entry, Begin, Busy, Queues, Flies, Send, Take, Tick, Heard, Told, Die, Act, Txn as Made, Line, same_life, turn_before}
-use Rattle.lu_table.specs.Sent.{Sent}
+use Rattle.lu_table.specs.Words.{Queued, Flight, Entry, Begin, Queues, Flies, Take, Tick, Heard, Told, Line, same_life, turn_before}
 use Rattle.lu_table.specs.Calls.{Begun, call_of, is_dead, life_of, operation_of}
 use Rattle.lu_table.specs.Imports.{rest, queue_of, flights_of, last_of, without_flight}
-use Rattle.lu_table.specs.Targets.{Server, tree_of, slot_of, server_of, next_number}
+use Rattle.lu_table.specs.Targets.{tree_of, slot_of, server_of, next_number}
 use Rattle.lu_table.specs.ClientRows as client
 use Rattle.lu_table.specs.ClientRows.{Asker, asker_of, knows_of, next_flight, row_sent, row_sends, row_asks, row_begins, row_call_at, find_flight, row_hears, row_reply, row_resends}
 use Rattle.lu_table.specs.TargetRows as target
 use Rattle.lu_table.specs.TargetRows.{asked, none, deed, again, reply_to, row_executes, row_known, row_request}
-use Rattle.lu_table.specs.Runs.{Head, IsAlive, IsAsked, MayBegin, MayCome, HasNumbers, Meets, Event, Begins, Comes, Ticks, Dies, row, IsRow, Turn, with_turn, lines_of, Follows, IsRun}
-use Rattle.lu_lawful.proofs.Guards.{In, line, request, Later, Steps, BeginOk, QueuesOk, FliesOk, AskOk, ReplyOk, TakeOk, HeardOk, ToldOk, IsNewer, ExecutesOk, ActOk, TxnOk, Allowed, Grown}
+use Rattle.lu_table.specs.Runs.{Head, IsAlive, MayBegin, MayCome, HasNumbers, Meets, Event, Begins, Comes, Ticks, Dies, row, Turn, with_turn, lines_of, Follows, IsRun}
+use Rattle.lu_lawful.proofs.Guards.{In, line, Later, Steps, IsNewer, Allowed, Grown}
 use Rattle.lu_lawful.proofs.Lists.{self, in_right, life_is, turn_trans}
 
 abbrev pub AllAllowed : Head → List Line → At → List Entry → Type 0
@@ -38,6 +37,11 @@ turn_grows head past at (e ∷ es) g a = turn_grows head (line at e ∷ past) at
 all_more : (head : Head) (past : List Line) (at : At) (es fs : List Entry) → AllAllowed head past at es → AllAllowed head (with_turn at es past) at fs → AllAllowed head past at (es ++ fs)
 all_more head past at [] fs a b = b
 all_more head past at (e ∷ es) fs a b = (a.0, all_more head (line at e ∷ past) at es fs a.1 b)
+
+-- the first line of a turn
+steps_after : (past : List Line) (at : At) → Later past at → Steps past at
+steps_after [] at l = tt
+steps_after (x ∷ past) at l = inr l
 
 -- ---- clients
 
@@ -94,9 +98,8 @@ module _ (head : Head) (c : ℕ) (stamp : Stamp) where
       let past1 = line here (Begin slot call) ∷ past in
       let past2 = line here (Queues 0 q) ∷ past1 in
       let a1 = lives_on head c past past1 refl may.client in
-      let a2 = lives_on head c past1 past2 refl a1 in
-      (
-        record { steps = steps past later; lives = may.client; ok = (later, record { small = may.small; free = free; op = may.op; becomes = may.becomes; asked = may.asked }) },
+      let a2 = lives_on head c past1 past2 refl a1 in (
+        record { steps = steps_after past here later; lives = may.client; ok = (later, record { small = may.small; free = free; op = may.op; becomes = may.becomes; asked = may.asked }) },
         (
           record {
             steps = inl refl;
@@ -106,14 +109,6 @@ module _ (head : Head) (c : ℕ) (stamp : Stamp) where
           sends_ok k refl refl refl past2 k.last k.flights (k.queue ++ q ∷ []) (inl refl) a2 refl refl (cond-true (nat_eq c c && nat_eq 0 0) _ _ (own_slot c 0)),
         ),
       )
-    where
-      steps : (past : List Line) → Later past here → Steps past here
-      steps [] l = tt
-      steps (x ∷ past) l = inr l
-
-  steps_of : (past : List Line) → Later past here → Steps past here
-  steps_of [] l = tt
-  steps_of (x ∷ past) l = inr l
 
   begins_ok : (past : List Line) (slot : ℕ) (call : Call) (o : Option Op) → Later past here → MayBegin head past c slot call → operation_of call ≡ o → call_of c slot past ≡ None
       → AllAllowed head past here (elim o [ None ↦ [] | Some p ↦ row_asks (asker_of head.flight c past) slot call (record { slot = slot; op = p }) ])
@@ -123,7 +118,7 @@ module _ (head : Head) (c : ℕ) (stamp : Stamp) where
   call_ok : (past : List Line) (slot : ℕ) (call : Call) (o : Option Begun) → Later past here → MayBegin head past c slot call → call_of c slot past ≡ o
       → AllAllowed head past here (row_call_at (asker_of head.flight c past) slot call o)
   call_ok past slot call None later may free = begins_ok past slot call (operation_of call) later may refl free
-  call_ok past slot call (Some b) later may busy = (record { steps = steps_of past later; lives = may.client; ok = later }, tt)
+  call_ok past slot call (Some b) later may busy = (record { steps = steps_after past here later; lives = may.client; ok = later }, tt)
 
   quiet_ok : (past new : List Line) → IsAlive head new c → Steps new here → queue_of c 0 new ≡ queue_of c 0 past → flights_of c 0 new ≡ flights_of c 0 past → last_of c 0 new ≡ last_of c 0 past
       → let k = asker_of head.flight c past in AllAllowed head new here (row_sends k k.last k.flights k.queue)
@@ -140,8 +135,7 @@ module _ (head : Head) (c : ℕ) (stamp : Stamp) where
       let past3 = line here (Told f.slot r.at r.answer) ∷ past2 in
       let a1 = lives_on head c past past1 refl a in
       let a2 = lives_on head c past1 past2 refl a1 in
-      let a3 = lives_on head c past2 past3 refl a2 in
-      (
+      let a3 = lives_on head c past2 past3 refl a2 in (
         record { steps = inl refl; lives = a1; ok = (refl, record { number = n; before = past; newest = refl; flying = found.0; xid = found.1; who = w; boot = b }) },
         (
           record { steps = inl refl; lives = a2; ok = record { flight = f; reply = r; before = past1; newest = refl; of_slot = refl; of_turn = refl; of_answer = refl } },
@@ -161,14 +155,13 @@ module _ (head : Head) (c : ℕ) (stamp : Stamp) where
   heeds_ok past n m a = let past1 = line here (Take n m) ∷ past in quiet_ok past past1 (lives_on head c past past1 refl a) (inl refl) refl refl refl
 
   takes_ok : (past : List Line) (n : ℕ) (m : Message) → Later past here → MayCome head past c n m → AllAllowed head past here (client.row_takes (asker_of head.flight c past) n m)
-  takes_ok past n m later may = (record { steps = steps_of past later; lives = may.client; ok = record { sent = may.sent; later = later } }, heeds_ok past n m may.client)
+  takes_ok past n m later may = (record { steps = steps_after past here later; lives = may.client; ok = record { sent = may.sent; later = later } }, heeds_ok past n m may.client)
 
   resends_ok : (k : Asker) → k.who ≡ record { client = c; life = 1 } → k.boot ≡ 1 → (past : List Line) (flights : List Flight) → IsAlive head past c → Steps past here → ((f : Flight) → In f flights → In f (flights_of c 0 past))
       → AllAllowed head past here (row_resends k flights)
   resends_ok k w b past [] a s i = tt
   resends_ok k w b past (f ∷ flights) a s i =
-      let past1 = line here (row_sent k f) ∷ past in
-      (
+      let past1 = line here (row_sent k f) ∷ past in (
         record { steps = s; lives = a; ok = (refl, record { flight = f; flying = i f (inl refl); is = rw (w, b) refl }) },
         resends_ok k w b past1 flights (lives_on head c past past1 refl a) (inl refl) (λ g j. i g (inr j)),
       )
@@ -176,7 +169,7 @@ module _ (head : Head) (c : ℕ) (stamp : Stamp) where
   -- what sending again leaves as it was
   resent : (k : Asker) (past : List Line) (flights : List Flight)
       → let new = with_turn here (row_resends k flights) past in
-        (queue_of c 0 new ≡ queue_of c 0 past) × (flights_of c 0 new ≡ flights_of c 0 past) × (last_of c 0 new ≡ last_of c 0 past) × (is_dead c new ≡ is_dead c past) × (Steps past here → Steps new here)
+      (queue_of c 0 new ≡ queue_of c 0 past) × (flights_of c 0 new ≡ flights_of c 0 past) × (last_of c 0 new ≡ last_of c 0 past) × (is_dead c new ≡ is_dead c past) × (Steps past here → Steps new here)
   resent k past [] = (refl, refl, refl, refl, λ s. s)
   resent k past (f ∷ flights) = let r = resent k (line here (row_sent k f) ∷ past) flights in (r.0, r.1, r.2, r.3, λ s. r.4 (inl refl))
 
@@ -186,19 +179,18 @@ module _ (head : Head) (c : ℕ) (stamp : Stamp) where
       let past1 = line here Tick ∷ past in
       let a1 = lives_on head c past past1 refl a in
       let r = resent k past1 k.flights in
-      let past2 = with_turn here (row_resends k k.flights) past1 in
-      (
-        record { steps = steps_of past later; lives = a; ok = later },
+      let past2 = with_turn here (row_resends k k.flights) past1 in (
+        record { steps = steps_after past here later; lives = a; ok = later },
         all_more head past1 here (row_resends k k.flights) (row_sends k k.last k.flights k.queue)
-        (resends_ok k refl refl past1 k.flights a1 (inl refl) (λ f i. i))
-        (quiet_ok past past2 (lives_on head c past1 past2 r.3 a1) (r.4 (inl refl)) r.0 r.1 r.2),
+            (resends_ok k refl refl past1 k.flights a1 (inl refl) (λ f i. i))
+            (quiet_ok past past2 (lives_on head c past1 past2 r.3 a1) (r.4 (inl refl)) r.0 r.1 r.2),
       )
 
   client_ok : (past : List Line) (event : Event) → Later past here → Meets head past (Client c) event → AllAllowed head past here (row head past here (Client c) event)
   client_ok past (Begins slot call) later may = call_ok past slot call (call_of c slot past) later may refl
   client_ok past (Comes n m) later may = takes_ok past n m later may
   client_ok past Ticks later may = tick_ok past later may
-  client_ok past Dies later may = (record { steps = steps_of past later; lives = may; ok = later }, tt)
+  client_ok past Dies later may = (record { steps = steps_after past here later; lives = may; ok = later }, tt)
 
 -- ---- the metadata target
 
@@ -213,8 +205,7 @@ module _ (head : Head) (stamp : Stamp) where
       → AllAllowed head (line there (Take n (message.Request r)) ∷ past) there (row_executes head.osts (server_of head.osts past) there r t)
   executes_ok past has n r true newer e =
       let v = server_of head.osts past in
-      let d = deed head.osts v there r (next_number v) in
-      (
+      let d = deed head.osts v there r (next_number v) in (
         record { steps = inl refl; lives = tt; ok = (refl, record { request = r; executes = record { number = n; before = past; newest = refl; newer = newer }; numbers = has; moves = e; is = refl }) },
         (
           record { steps = inl refl; lives = tt; ok = (refl, record { who = r.who; tag = r.tag; kept = d.reply; slot = cond-true (same_life r.who r.who && nat_eq r.tag r.tag) _ _ (own r); is = refl; to = refl; newest = inl (record { at = there; deed = d; before = line there (Take n (message.Request r)) ∷ past; newest = inr refl; is = refl }) }) },
@@ -226,8 +217,7 @@ module _ (head : Head) (stamp : Stamp) where
       own r = rw (same_self r.who, self r.tag) refl
   executes_ok past has n r false newer e =
       let v = server_of head.osts past in
-      let d = deed head.osts v there r none in
-      (
+      let d = deed head.osts v there r none in (
         record { steps = inl refl; lives = tt; ok = (refl, record { request = r; executes = record { number = n; before = past; newest = refl; newer = newer }; still = e; is = refl }) },
         (
           record { steps = inl refl; lives = tt; ok = (refl, record { who = r.who; tag = r.tag; kept = d.reply; slot = cond-true (same_life r.who r.who && nat_eq r.tag r.tag) _ _ (own r); is = refl; to = refl; newest = inl (record { at = there; deed = d; before = line there (Take n (message.Request r)) ∷ past; newest = inl refl; is = refl }) }) },
@@ -253,10 +243,6 @@ module _ (head : Head) (stamp : Stamp) where
   served_ok : (past : List Line) → HasNumbers past → (n : ℕ) (m : Message) → AllAllowed head (line there (Take n m) ∷ past) there (target.row_heeds head.osts (server_of head.osts past) there m)
   served_ok past has n (message.Request r) = request_ok past has n r (slot_of r.who r.tag past) refl
   served_ok past has n m = tt
-
-steps_after : (past : List Line) (at : At) → Later past at → Steps past at
-steps_after [] at l = tt
-steps_after (x ∷ past) at l = inr l
 
 abbrev turn_at : Stamp → Node → At
 turn_at stamp node = record { stamp = stamp; node = node }

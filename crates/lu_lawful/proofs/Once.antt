@@ -1,8 +1,6 @@
 -- Each request acts once: what was done before for another number, and the operation of a number.
-use Rattle.std.proofs.Common.{◌≡◌, ℕ, zero, suc, ◌+◌, ◌<◌, ◌≤◌, Bool, true, false, List, [], ◌∷◌, Option, Some, None, ◌⊎◌, inl, inr, ⊎_elim, refl, sym, subst, ap, ◌∙◌, arith}
-use Rattle.std.specs.Prelude.{nat_eq, not, ◌&&◌, ◌==◌, if◌then◌else◌}
+use Rattle.std.proofs.Common.{◌≡◌, ℕ, ◌<◌, List, [], ◌∷◌, Option, Some, inr, ⊎_elim, sym, subst, ap, ◌∙◌, arith}
 use Rattle.std.specs.Option.{option_map}
-use Rattle.std.proofs.lemmas.Bool.{and_parts, cond_both, eqb-true}
 use Rattle.lu_base.specs.declared.ids.At.{At}
 use Rattle.lu_base.specs.declared.ids.Stamp.{Stamp}
 use Rattle.lu_base.specs.declared.ids.Node.{Node}
@@ -18,15 +16,12 @@ use Rattle.lu_table.specs.Sent.{Sent}
 use Rattle.lu_table.specs.Targets.{slot_of}
 use Rattle.lu_table.specs.Printed.{printed}
 use Rattle.lu_table.specs.Runs.{Head}
-use Rattle.lu_laws.specs.Pasts as pasts
-use Rattle.lu_laws.specs.Requests.{first_request, asked}
-use Rattle.lu_laws.specs.Acts.{ActIn, TxnIn, standing_count}
-use Rattle.lu_lawful.proofs.Guards.{line, IsNewer, ExecutesOk, EntryOk, Allowed, Grown}
-use Rattle.lu_lawful.proofs.Lists.{life_is}
+use Rattle.lu_laws.specs.Requests.{first_request}
+use Rattle.lu_lawful.proofs.Guards.{line, IsNewer, ExecutesOk, EntryOk, Grown}
 use Rattle.lu_lawful.proofs.Base.{turn, Flew, Acted}
 use Rattle.lu_lawful.proofs.Served.{FlewFor}
 use Rattle.lu_lawful.proofs.All.{All, all}
-use Rattle.lu_lawful.proofs.Printed.{IsFirst, first_sent, sent_first}
+use Rattle.lu_lawful.proofs.Printed.{first_sent, sent_first}
 use Rattle.lu_lawful.proofs.Facts.{AskedAt, AllAsked}
 
 -- a request of that life and number was sent to the metadata target
@@ -51,10 +46,9 @@ executes head past stamp r d ok g w x o t =
 pub act_now : (head : Head) (past : List Line) (stamp : Stamp) (node : Node) (d : Deed) → EntryOk head past (turn stamp node) node (Act d) → Grown head past → DoesNow past d × (node ≡ Target 0) × (d.reply.at ≡ turn stamp node)
 act_now head past stamp (Client c) d ok g = absurd ok
 act_now head past stamp (Target t) d ok g =
-    let k = ok.1 in
-    (
+    let k = ok.1 in (
       executes head past stamp k.request d (subst (λ v. ExecutesOk past (turn stamp (Target v)) k.request) ok.0 k.executes) g
-      (ap (λ (v : Deed). v.reply.who) (sym k.is)) (ap (λ (v : Deed). v.reply.xid) (sym k.is)) (ap (λ (v : Deed). v.op) (sym k.is)) (ap (λ (v : Deed). v.tag) (sym k.is)),
+          (ap (λ (v : Deed). v.reply.who) (sym k.is)) (ap (λ (v : Deed). v.reply.xid) (sym k.is)) (ap (λ (v : Deed). v.op) (sym k.is)) (ap (λ (v : Deed). v.tag) (sym k.is)),
       ap Target ok.0,
       ap (λ (v : Deed). v.reply.at) k.is,
     )
@@ -62,10 +56,9 @@ act_now head past stamp (Target t) d ok g =
 pub txn_now : (head : Head) (past : List Line) (stamp : Stamp) (node : Node) (d : Deed) → EntryOk head past (turn stamp node) node (Made d) → Grown head past → DoesNow past d × (node ≡ Target 0) × (d.reply.at ≡ turn stamp node)
 txn_now head past stamp (Client c) d ok g = absurd ok
 txn_now head past stamp (Target t) d ok g =
-    let k = ok.1 in
-    (
+    let k = ok.1 in (
       executes head past stamp k.request d (subst (λ v. ExecutesOk past (turn stamp (Target v)) k.request) ok.0 k.executes) g
-      (ap (λ (v : Deed). v.reply.who) (sym k.is)) (ap (λ (v : Deed). v.reply.xid) (sym k.is)) (ap (λ (v : Deed). v.op) (sym k.is)) (ap (λ (v : Deed). v.tag) (sym k.is)),
+          (ap (λ (v : Deed). v.reply.who) (sym k.is)) (ap (λ (v : Deed). v.reply.xid) (sym k.is)) (ap (λ (v : Deed). v.op) (sym k.is)) (ap (λ (v : Deed). v.tag) (sym k.is)),
       ap Target ok.0,
       ap (λ (v : Deed). v.reply.at) k.is,
     )
@@ -83,8 +76,7 @@ flight_one head past h d e f g w x =
 sent_flew : (head : Head) (past : List Line) → All head past → (d : Deed) → SentFor past d → FlewFor past d
 sent_flew head past h d s =
     let r = s.1 in
-    let m = h.done.sent s.0 (Target 0) (message.Request r.0) r.1 in
-    (
+    let m = h.done.sent s.0 (Target 0) (message.Request r.0) r.1 in (
       m.0,
       subst (λ (v : Who). Flew past v.client m.0) r.2 m.1,
       ap (λ (v : RequestOf). v.xid.0) (sym m.2) ∙ ap (λ (v : Xid). v.0) r.3,
@@ -114,8 +106,7 @@ first_is head past h d s =
     let u = f.2 in
     let v = k.3 in
     let w : m.0.xid ≡ first.0.xid.0 = ap (λ (j : RequestOf). j.xid.0) (sym m.2) in
-    let same : m.0 ≡ f.0 = h.numbers.one d.reply.who.client m.0 f.0 (subst (λ (j : Who). Flew past j.client m.0) k.2 m.1) f.1 (omega arith) in
-    (
+    let same : m.0 ≡ f.0 = h.numbers.one d.reply.who.client m.0 f.0 (subst (λ (j : Who). Flew past j.client m.0) k.2 m.1) f.1 (omega arith) in (
       first.0,
       is,
       ap (λ (j : RequestOf). j.op) m.2 ∙ ap (λ (j : Flight). j.op) same ∙ f.3,

@@ -1,9 +1,8 @@
 -- What the notions of the laws are over the printed past of a grown one.
-use Rattle.std.proofs.Common.{◌≡◌, ℕ, zero, suc, ◌+◌, ◌≤◌, Bool, true, false, List, [], ◌∷◌, Option, Some, None, ◌⊎◌, inl, inr, ⊎_elim, refl, sym, subst, ap, ◌∙◌, arith}
-use Rattle.std.specs.Prelude.{nat_eq, ◌&&◌, ◌==◌, if◌then◌else◌}
-use Rattle.std.proofs.lemmas.Bool.{and_parts, cond_both, cond-true, eqb-true, and_from}
+use Rattle.std.proofs.Common.{◌≡◌, ℕ, ◌+◌, Bool, true, false, List, [], ◌∷◌, Option, Some, None, inl, inr, ⊎_elim, refl, sym, subst, ap, ◌∙◌, arith}
+use Rattle.std.specs.Prelude.{nat_eq, ◌&&◌, if◌then◌else◌}
+use Rattle.std.proofs.lemmas.Bool.{and_parts, eqb-true}
 use Rattle.std.proofs.lemmas.Bool.Decides.{nat_tests}
-use Rattle.lu_base.specs.declared.ids.At.{At}
 use Rattle.lu_base.specs.declared.ids.Node.{Node}
 use Rattle.lu_base.specs.declared.ids.Node.TheVariants.{Client, Target}
 use Rattle.lu_base.specs.declared.ids.Who.{Who}
@@ -11,7 +10,7 @@ use Rattle.lu_msg.specs.declared.calls.Call.{Call}
 use Rattle.lu_msg.specs.declared.messages.Message.{Message}
 use Rattle.lu_msg.specs.declared.messages.Message.TheVariants as message
 use Rattle.lu_msg.specs.declared.messages.Request.{Request as RequestOf}
-use Rattle.lu_table.specs.Words.{Deed, Flight, Entry, Begin, Busy, Queues, Flies, Send, Take, Tick, Heard, Told, Die, Act, Txn as Made, Line, is_client}
+use Rattle.lu_table.specs.Words.{Entry, Begin, Busy, Queues, Flies, Send, Take, Tick, Heard, Told, Die, Act, Txn as Made, Line, is_client}
 use Rattle.lu_table.specs.Sent.{count_sent, Sent}
 use Rattle.lu_table.specs.Calls.{Begun, call_of, is_dead}
 use Rattle.lu_table.specs.Printed.{printed}
@@ -19,12 +18,9 @@ use Rattle.lu_laws.specs.Pasts.{has_died}
 use Rattle.lu_laws.specs.Pasts as pasts
 use Rattle.lu_laws.specs.Sends.{sends}
 use Rattle.lu_laws.specs.Sends as sends_of
-use Rattle.lu_laws.specs.Lives.{life, is_gone}
-use Rattle.lu_laws.specs.Lost.{is_lost, lost_with}
 use Rattle.lu_laws.specs.Calls.{open_call}
 use Rattle.lu_laws.specs.Calls as calls
 use Rattle.lu_laws.specs.Requests.{is_of, or_else, first_request}
-use Rattle.lu_lawful.specs.Fits.{first_life}
 use Rattle.lu_lawful.proofs.Guards.{line}
 use Rattle.lu_lawful.proofs.Lists.{self, life_is}
 
@@ -81,42 +77,6 @@ died_is c (l ∷ past) = by l.entry (died_is c past)
   where
     by : (e : Entry) → has_died c (printed past) ≡ is_dead c past → has_died c (printed (line l.at e ∷ past)) ≡ is_dead c (line l.at e ∷ past)
     by Die h = rw (flip_client c l.at.node, h) refl
-    by (Begin slot call) h = h
-    by (Busy slot) h = h
-    by (Queues t q) h = h
-    by (Flies t f) h = h
-    by (Send to m) h = h
-    by (Take n m) h = h
-    by Tick h = h
-    by (Heard t f r) h = h
-    by (Told slot at answer) h = h
-    by (Act d) h = h
-    by (Made d) h = h
-
-pub life_one : (c : ℕ) (past : List Line) → life c (printed past) ≡ 1
-life_one c [] = refl
-life_one c (l ∷ past) = by l.entry (life_one c past)
-  where
-    by : (e : Entry) → life c (printed past) ≡ 1 → life c (printed (line l.at e ∷ past)) ≡ 1
-    by Die h = h
-    by (Begin slot call) h = h
-    by (Busy slot) h = h
-    by (Queues t q) h = h
-    by (Flies t f) h = h
-    by (Send to m) h = h
-    by (Take n m) h = h
-    by Tick h = h
-    by (Heard t f r) h = h
-    by (Told slot at answer) h = h
-    by (Act d) h = h
-    by (Made d) h = h
-
-pub none_gone : (past : List Line) (who : Who) → is_gone (printed past) who ≡ false
-none_gone [] who = refl
-none_gone (l ∷ past) who = by l.entry (none_gone past who)
-  where
-    by : (e : Entry) → is_gone (printed past) who ≡ false → is_gone (printed (line l.at e ∷ past)) who ≡ false
-    by Die h = h
     by (Begin slot call) h = h
     by (Busy slot) h = h
     by (Queues t q) h = h

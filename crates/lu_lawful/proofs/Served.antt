@@ -1,35 +1,27 @@
 -- What the metadata target did, what is on its way, and when: each act is of a request that flew, slots keep
 -- the newest, messages are those of acts and flights, and what acts for a call acts after its begin.
-use Rattle.std.proofs.Common.{◌≡◌, ◌≢◌, ℕ, zero, suc, ◌+◌, ◌<◌, ◌≤◌, Bool, true, false, cond, List, [], ◌∷◌, ◌++◌, Option, Some, None, ◌⊎◌, inl, inr, ⊎_elim, refl, sym, subst, ap, ◌∙◌, arith}
-use Rattle.std.specs.Prelude.{nat_eq, nat_lt, not, ◌&&◌, ◌||◌, ◌==◌, if◌then◌else◌}
-use Rattle.std.proofs.lemmas.Bool.{and_parts, cond_both, cond-true, cond-false, eqb-true, eqb-false, not-true}
-use Rattle.std.proofs.lemmas.Bool.Decides.{nat_tests}
+use Rattle.std.proofs.Common.{◌≡◌, ℕ, ◌+◌, ◌<◌, ◌≤◌, Bool, true, false, List, [], ◌∷◌, Some, ◌⊎◌, inl, inr, ⊎_elim, refl, sym, subst, ap, ◌∙◌, arith}
+use Rattle.std.specs.Prelude.{nat_eq, ◌&&◌, if◌then◌else◌}
+use Rattle.std.proofs.lemmas.Bool.{and_parts, cond_both, cond-true, cond-false, eqb-true}
 use Rattle.lu_base.specs.declared.ids.At.{At}
 use Rattle.lu_base.specs.declared.ids.Stamp.{Stamp}
 use Rattle.lu_base.specs.declared.ids.Node.{Node}
 use Rattle.lu_base.specs.declared.ids.Node.TheVariants.{Client, Target}
-use Rattle.lu_base.specs.declared.ids.Txn.{Txn}
 use Rattle.lu_base.specs.declared.ids.Who.{Who}
 use Rattle.lu_base.specs.declared.ids.Xid.{Xid}
-use Rattle.lu_msg.specs.declared.calls.Call.{Call}
 use Rattle.lu_msg.specs.declared.messages.Message.{Message}
 use Rattle.lu_msg.specs.declared.messages.Message.TheVariants as message
 use Rattle.lu_msg.specs.declared.messages.Reply.{Reply as ReplyTo}
 use Rattle.lu_msg.specs.declared.messages.Request.{Request as RequestOf}
-use Rattle.lu_msg.specs.declared.operations.Op.{Op}
-use Rattle.lu_table.specs.Words.{Deed, Queued, Flight, Entry, Begin, Busy, Queues, Flies, Send, Take, Tick, Heard, Told, Die, Act, Txn as Made, Line, same_life, turn_before}
+use Rattle.lu_table.specs.Words.{Deed, Flight, Entry, Begin, Busy, Queues, Flies, Send, Take, Tick, Heard, Told, Die, Act, Txn as Made, Line, same_life}
 use Rattle.lu_table.specs.Sent.{count_sent, Sent}
-use Rattle.lu_table.specs.Calls.{Begun, call_of, life_of}
-use Rattle.lu_table.specs.Imports.{flights_of, last_of, without_flight}
 use Rattle.lu_table.specs.Targets.{slot_of, server_of, next_number}
-use Rattle.lu_table.specs.ClientRows.{next_flight}
 use Rattle.lu_table.specs.TargetRows.{none, deed, again}
 use Rattle.lu_table.specs.Runs.{Head}
 use Rattle.lu_lawful.specs.Fits.{first_life}
-use Rattle.lu_lawful.proofs.Guards.{In, line, request, Later, Steps, BeginOk, FliesOk, AskOk, ReplyOk, IsNewer, ExecutesOk, SendOk, EntryOk, Allowed}
-use Rattle.lu_lawful.proofs.Lists.{self, in_append, in_filter, turn_trans, life_is}
-use Rattle.lu_lawful.proofs.Base.{turn, Flew, Acted, Numbers, own_import, client_is}
-use Rattle.lu_lawful.proofs.Asks.{CallOf, Asks}
+use Rattle.lu_lawful.proofs.Guards.{line, request, IsNewer, ExecutesOk, SendOk, EntryOk}
+use Rattle.lu_lawful.proofs.Lists.{self, life_is}
+use Rattle.lu_lawful.proofs.Base.{turn, Flew, Acted, Numbers}
 
 -- ---- what was done is of a request that flew
 
@@ -156,14 +148,13 @@ module _ (past new : List Line) (d : Deed) (does : Does past new d) (r : Request
       lives = ap (λ (v : RequestOf). v.who) meant.2
 
       mine : FlewFor new d
-      mine =
-          (
-            meant.0,
-            subst (λ (v : Who). Flew new v.client meant.0) (sym w) (does.flew r.who.client meant.0 meant.1),
-            ap (λ (v : RequestOf). v.xid.0) (sym meant.2) ∙ ap (λ (v : Xid). v.0) (sym x),
-            ap (λ (v : RequestOf). v.op) (sym meant.2) ∙ sym o,
-            ap (λ (v : RequestOf). v.tag) (sym meant.2) ∙ sym t,
-          )
+      mine = (
+        meant.0,
+        subst (λ (v : Who). Flew new v.client meant.0) (sym w) (does.flew r.who.client meant.0 meant.1),
+        ap (λ (v : RequestOf). v.xid.0) (sym meant.2) ∙ ap (λ (v : Xid). v.0) (sym x),
+        ap (λ (v : RequestOf). v.op) (sym meant.2) ∙ sym o,
+        ap (λ (v : RequestOf). v.tag) (sym meant.2) ∙ sym t,
+      )
 
 act_does : (past : List Line) (at : At) (d : Deed) → d.reply.boot ≡ 1 → d.reply.committed ≡ none → Does past (line at (Act d) ∷ past) d
 act_does past at d b c = record { flew = λ k f i. i; acted = λ e a. a; more = λ e a. inr a; here = inl refl; slot = λ who tag. refl; sent = λ n to m s. s; resent = λ osts e q. q; fresh = λ osts. rw (b, c) refl }
@@ -203,13 +194,13 @@ keeps_done head past stamp (Target u) (Act d) ok n t h =
     let r = k.request in
     subst (λ (v : Deed). Done (line (turn stamp (Target u)) (Act v) ∷ past)) (sym k.is)
     (let e = deed head.osts (server_of head.osts past) (turn stamp (Target u)) r none in
-     done_does past (line (turn stamp (Target u)) (Act e) ∷ past) e (act_does past (turn stamp (Target u)) e refl refl) r (t r k.executes) refl refl refl refl k.executes.newer h)
+    done_does past (line (turn stamp (Target u)) (Act e) ∷ past) e (act_does past (turn stamp (Target u)) e refl refl) r (t r k.executes) refl refl refl refl k.executes.newer h)
 keeps_done head past stamp (Target u) (Made d) ok n t h =
     let k = ok.1 in
     let r = k.request in
     subst (λ (v : Deed). Done (line (turn stamp (Target u)) (Made v) ∷ past)) (sym k.is)
     (let e = deed head.osts (server_of head.osts past) (turn stamp (Target u)) r (next_number (server_of head.osts past)) in
-     done_does past (line (turn stamp (Target u)) (Made e) ∷ past) e (txn_does past (turn stamp (Target u)) e refl refl) r (t r k.executes) refl refl refl refl k.executes.newer h)
+    done_does past (line (turn stamp (Target u)) (Made e) ∷ past) e (txn_does past (turn stamp (Target u)) e refl refl) r (t r k.executes) refl refl refl refl k.executes.newer h)
 keeps_done head past stamp (Client c) (Act d) ok n t h = absurd ok
 keeps_done head past stamp (Client c) (Made d) ok n t h = absurd ok
 keeps_done head past stamp (Target u) (Begin slot call) ok n t h = absurd ok

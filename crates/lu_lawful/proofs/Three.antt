@@ -46,7 +46,7 @@ IsThree (op.Mkdir path) = Unit {0}
 IsThree (op.Rmdir path) = Unit {0}
 IsThree _ = ⊥
 
-becomes_three : (c : Call) (o : Op) → operation_of c ≡ Some o → IsThree o
+pub becomes_three : (c : Call) (o : Op) → operation_of c ≡ Some o → IsThree o
 becomes_three (call.Lookup path) o e = let same : op.Lookup path ≡ o = cc in subst IsThree same tt
 becomes_three (call.Mkdir path) o e = let same : op.Mkdir path ≡ o = cc in subst IsThree same tt
 becomes_three (call.Rmdir path) o e = let same : op.Rmdir path ≡ o = cc in subst IsThree same tt

@@ -1,9 +1,9 @@
 -- When things happen: turns rise, what acts for a call acts after its begin, no more requests fly than may, and
 -- a number whose reply was heard flies no more.
-use Rattle.std.proofs.Common.{◌≡◌, ◌≢◌, ℕ, zero, suc, ◌+◌, ◌<◌, ◌≤◌, Bool, true, false, cond, List, [], ◌∷◌, ◌++◌, Option, Some, None, ◌⊎◌, inl, inr, ⊎_elim, refl, sym, subst, ap, ◌∙◌, arith}
-use Rattle.std.specs.Prelude.{nat_eq, nat_lt, not, ◌&&◌, ◌==◌, if◌then◌else◌, length}
+use Rattle.std.proofs.Common.{◌≡◌, ℕ, ◌+◌, ◌≤◌, Bool, true, false, List, [], ◌∷◌, ◌++◌, Some, None, ◌⊎◌, inl, inr, ⊎_elim, refl, sym, subst, ap, ◌∙◌, arith}
+use Rattle.std.specs.Prelude.{nat_eq, not, ◌&&◌, if◌then◌else◌, length}
 use Rattle.std.specs.List.{filter}
-use Rattle.std.proofs.lemmas.Bool.{and_parts, cond_both, cond-true, eqb-true, not-true}
+use Rattle.std.proofs.lemmas.Bool.{and_parts, cond_both, eqb-true, not-true}
 use Rattle.std.proofs.lemmas.Bool.Decides.{nat_tests}
 use Rattle.lu_base.specs.declared.ids.At.{At}
 use Rattle.lu_base.specs.declared.ids.Stamp.{Stamp}
@@ -12,15 +12,14 @@ use Rattle.lu_base.specs.declared.ids.Node.TheVariants.{Client, Target}
 use Rattle.lu_msg.specs.declared.answers.Answer.{Answer}
 use Rattle.lu_msg.specs.declared.calls.Call.{Call}
 use Rattle.lu_msg.specs.declared.messages.Reply.{Reply as ReplyTo}
-use Rattle.lu_msg.specs.declared.operations.Op.{Op}
-use Rattle.lu_table.specs.Words.{Deed, Queued, Flight, Entry, Begin, Busy, Queues, Flies, Send, Take, Tick, Heard, Told, Die, Act, Txn as Made, Line, turn_before}
+use Rattle.lu_table.specs.Words.{Deed, Flight, Entry, Begin, Busy, Queues, Flies, Send, Take, Tick, Heard, Told, Die, Act, Txn as Made, Line, turn_before}
 use Rattle.lu_table.specs.Calls.{Begun, call_of}
-use Rattle.lu_table.specs.Imports.{queue_of, flights_of, last_of, without_flight}
+use Rattle.lu_table.specs.Imports.{flights_of, last_of, without_flight}
 use Rattle.lu_table.specs.Runs.{Head}
-use Rattle.lu_lawful.proofs.Guards.{In, line, Steps, BeginOk, FliesOk, ActOk, TxnOk, EntryOk}
-use Rattle.lu_lawful.proofs.Lists.{self, in_append, in_left, in_filter, turn_trans}
-use Rattle.lu_lawful.proofs.Base.{turn, Flew, Acted, Numbers, own_import}
-use Rattle.lu_lawful.proofs.Asks.{CallOf, Asks}
+use Rattle.lu_lawful.proofs.Guards.{In, line, Steps, FliesOk, EntryOk}
+use Rattle.lu_lawful.proofs.Lists.{in_append, in_filter, turn_trans}
+use Rattle.lu_lawful.proofs.Base.{turn, Acted, Numbers, own_import}
+use Rattle.lu_lawful.proofs.Asks.{Asks}
 use Rattle.lu_lawful.proofs.Served.{Done}
 
 -- the turn is the other one or before it
@@ -215,8 +214,7 @@ room_heard head past stamp d f r h c =
 over_flies : (head : Head) (past : List Line) (stamp : Stamp) (d : ℕ) (f : Flight) → FliesOk head past d f → Over past → Over (line (turn stamp (Client d)) (Flies 0 f) ∷ past)
 over_flies head past stamp d f ok h c x p =
     let old = h c x p in
-    let y : f.xid ≡ last_of d 0 past + 1 = ap (λ (v : Flight). v.xid) ok.is in
-    (
+    let y : f.xid ≡ last_of d 0 past + 1 = ap (λ (v : Flight). v.xid) ok.is in (
       cond_both (nat_eq c d && nat_eq 0 0) f.xid (last_of c 0 past) (λ (v : ℕ). x ≤ v) (λ t. let q : last_of c 0 past ≡ last_of d 0 past = ap (λ v. last_of v 0 past) (own_import c d t) in let o = old.0 in omega arith) (λ t. old.0),
       λ g. cond_both (nat_eq c d && nat_eq 0 0) (flights_of c 0 past ++ f ∷ []) (flights_of c 0 past) (λ (fs : List Flight). In g fs → g.xid ≡ x → ⊥)
           (λ t i e. ⊎_elim

@@ -1,7 +1,6 @@
 -- The law of acts at a told line and at a request's message, and the whole of it.
-use Rattle.std.proofs.Common.{◌≡◌, ◌≢◌, ℕ, zero, suc, ◌+◌, ◌<◌, ◌≤◌, Bool, true, false, List, [], ◌∷◌, Option, Some, None, ◌⊎◌, inl, inr, ⊎_elim, refl, sym, subst, ap, ◌∙◌, arith}
-use Rattle.std.specs.Prelude.{nat_eq, ◌&&◌, ◌||◌, ◌==◌, if◌then◌else◌, length}
-use Rattle.std.proofs.lemmas.Bool.{and_parts, cond_both}
+use Rattle.std.proofs.Common.{◌≡◌, ◌≢◌, ℕ, ◌≤◌, Bool, true, false, List, [], ◌∷◌, Option, Some, None, ◌⊎◌, inl, inr, refl, sym, subst, ap, ◌∙◌, arith}
+use Rattle.std.specs.Prelude.{nat_eq, ◌&&◌, ◌||◌}
 use Rattle.lu_base.specs.declared.ids.At.{At}
 use Rattle.lu_base.specs.declared.ids.Stamp.{Stamp}
 use Rattle.lu_base.specs.declared.ids.Node.{Node}
@@ -10,7 +9,6 @@ use Rattle.lu_base.specs.declared.ids.Who.{Who}
 use Rattle.lu_msg.specs.declared.answers.Answer.{Answer}
 use Rattle.lu_msg.specs.declared.calls.Call.{Call}
 use Rattle.lu_msg.specs.declared.calls.Call.TheVariants as call
-use Rattle.lu_msg.specs.declared.messages.Message.{Message}
 use Rattle.lu_msg.specs.declared.messages.Message.TheVariants as message
 use Rattle.lu_msg.specs.declared.messages.Reply.{Reply as ReplyTo}
 use Rattle.lu_msg.specs.declared.messages.Request.{Request as RequestOf}
@@ -19,30 +17,28 @@ use Rattle.lu_machine.specs.Footprint.{Every}
 use Rattle.lu_table.specs.Words.{Deed, Flight, Entry, Begin, Busy, Queues, Flies, Send, Take, Tick, Heard, Told, Die, Act, Txn as Made, Line}
 use Rattle.lu_table.specs.Calls.{Begun, call_of, operation_of}
 use Rattle.lu_table.specs.Imports.{flights_of}
-use Rattle.lu_table.specs.Targets.{count_of}
 use Rattle.lu_table.specs.Printed.{printed}
 use Rattle.lu_table.specs.Runs.{Head, IsHead}
 use Rattle.lu_laws.specs.Pasts.{Past, UpTo, HeardIn, same_turn}
-use Rattle.lu_laws.specs.Lives.{life, who_is, is_gone}
-use Rattle.lu_laws.specs.Lost.{is_lost}
-use Rattle.lu_laws.specs.Requests.{first_request, asked, in_flight, same_object}
+use Rattle.lu_laws.specs.Lives.{who_is}
+use Rattle.lu_laws.specs.Requests.{first_request, asked, in_flight}
 use Rattle.lu_laws.specs.Calls as calls
 use Rattle.lu_laws.specs.Calls.{open_call, is_bad, operation}
-use Rattle.lu_laws.specs.Acts.{ActIn, TxnIn, standing_count, ToldWith, is_bad_handle, is_end_of_life, is_local, names_own, ActsThere, ActsInTime, ToldAt, Pairwise, SameTag, FliesAt, SendsAt, OnceAt, ActsAt, ActsOf, Acts}
+use Rattle.lu_laws.specs.Acts.{ActIn, TxnIn, standing_count, ToldWith, is_bad_handle, is_end_of_life, is_local, ActsInTime, ToldAt, Pairwise, SameTag, FliesAt, ActsOf}
 use Rattle.lu_lawful.specs.Fits.{first_life, DoneStands, ToldStand}
-use Rattle.lu_lawful.proofs.Guards.{In, line, request, ToldOk, AskOk, SendOk, EntryOk, Allowed, Grown}
+use Rattle.lu_lawful.proofs.Guards.{In, line, ToldOk, AskOk, EntryOk, Allowed, Grown}
 use Rattle.lu_lawful.proofs.Lists.{who as who_of}
 use Rattle.lu_lawful.proofs.Base.{turn, Acted, Flew}
-use Rattle.lu_lawful.proofs.Asks.{CallOf}
-use Rattle.lu_lawful.proofs.Served.{FlewFor}
-use Rattle.lu_lawful.proofs.Timed.{Upto, Reached, reached_on}
+use Rattle.lu_lawful.proofs.Timed.{Upto, reached_on}
 use Rattle.lu_lawful.proofs.All.{All, Before, heard_sent, told_after, all}
-use Rattle.lu_lawful.proofs.Printed.{life_one, first_sent}
+use Rattle.lu_lawful.proofs.Contents.{life_stays}
+use Rattle.lu_lawful.proofs.Printed.{first_sent}
 use Rattle.lu_lawful.proofs.MessagesLaw.{upto_is, open_is}
-use Rattle.lu_lawful.proofs.Once.{act_now, txn_now, asked_is, acted_sent}
-use Rattle.lu_lawful.proofs.Fine.{IsThree, IsFine, three, deed_fine}
+use Rattle.lu_lawful.proofs.Once.{asked_is, acted_sent}
+use Rattle.lu_lawful.proofs.Three.{IsThree, becomes_three}
+use Rattle.lu_lawful.proofs.Fine.{IsFine, deed_fine}
 use Rattle.lu_lawful.proofs.Flying.{Flown, flying, Distinct, flyers, keeps_flyers, no_more}
-use Rattle.lu_lawful.proofs.Facts.{TellsAt, AllTold}
+use Rattle.lu_lawful.proofs.Facts.{AllTold}
 use Rattle.lu_lawful.proofs.ActsLaw.{ActFor, at_most, act_for, acted_in, told_hears}
 
 -- ---- what a told line tells
@@ -122,8 +118,7 @@ all_told head (l ∷ past) g = by l.at.node l.entry g.0.ok (all_told head past g
     by : (node : Node) (e : Entry) → EntryOk head past (turn l.at.stamp node) node e → AllTold past → AllTold (line (turn l.at.stamp node) e ∷ past)
     by (Client c) (Told slot named given) ok h =
         let t = told_tells head past l.at.stamp c slot named given ok g.1 (all head past g.1).1 in
-        let n = (acted_sent head past g.1 t.deed t.acted).1 in
-        (
+        let n = (acted_sent head past g.1 t.deed t.acted).1 in (
           record {
             deed = t.deed;
             acted = t.acted;
@@ -166,7 +161,7 @@ same_operation c b o = by b.call
     by _ e = absurd (cc)
 
 abbrev who_one : (c : ℕ) (past : List Line) → who_is c (printed past) ≡ first_life c
-who_one c past = ap (λ (l : ℕ). who_of c l) (life_one c past)
+who_one c past = ap (λ (l : ℕ). who_of c l) (life_stays c past)
 
 own_no : (a b c : Bool) → a ≡ false → b ≡ false → c ≡ false → (a || b || c) ≡ true → ⊥
 own_no true b c p q r e = absurd (cc)
@@ -213,6 +208,7 @@ module _ (head : Head) (out : Who → Bool) (lost : ℕ → ℕ → Bool) (whole
           alone = λ a. (at_most lost (first_life c) ok.flight.xid head whole w).1 (i (first_life c) ok.flight.xid (act_for past named (first_life c) ok.flight.xid a));
         });
       }
+
   told_law : (past : List Line) (stamp : Stamp) (c slot : ℕ) (named : At) (given : Answer) → ToldOk past (turn stamp (Client c)) c slot named given → Grown head past → Grown head whole → Inside past
       → (out (first_life c) ≡ false → DoneStands lost past (first_life c) named) → ToldAt out lost (printed whole) (printed past) (turn stamp (Client c)) c slot named given
   told_law past stamp c slot named given ok g w i s =
@@ -220,7 +216,7 @@ module _ (head : Head) (out : Who → Bool) (lost : ℕ → ℕ → Bool) (whole
       let o = open_is c slot past t.begun t.call in
       let b = o.0 in
       let becomes = ap operation_of o.3 ∙ t.becomes in
-      let fine = subst IsFine t.answer (deed_fine head past g t.deed t.acted (subst IsThree (sym t.op) (three t.begun.call ok.flight.op t.becomes))) in
+      let fine = subst IsFine t.answer (deed_fine head past g t.deed t.acted (subst IsThree (sym t.op) (becomes_three t.begun.call ok.flight.op t.becomes))) in
       let good = good_call c b.before b.call ok.flight.op becomes in
       record {
         begun = b;
@@ -241,16 +237,15 @@ every_in P (x ∷ xs) h = (h x (inl refl), every_in P xs (λ y i. h y (inr i)))
 
 tags_differ : (head : Head) (past : List Line) (c : ℕ) → All head past → (rs : List RequestOf) → Distinct rs → ((r : RequestOf) → In r rs → Flown past c r) → Pairwise (λ one other. one.tag ≢ other.tag) rs
 tags_differ head past c h [] d f = tt
-tags_differ head past c h (r ∷ rs) d f =
-    (
-      every_in (λ (q : RequestOf). r.tag ≢ q.tag) rs (λ q i e.
-          let a = f r (inl refl) in
-          let b = f q (inr i) in
-          let t : a.0.tag ≡ b.0.tag = ap (λ (v : RequestOf). v.tag) (sym a.2) ∙ e ∙ ap (λ (v : RequestOf). v.tag) b.2 in
-          let x = h.asks.tags c a.0 b.0 a.1 b.1 t in
-          d.0 q i (ap (λ (v : RequestOf). v.xid.0) b.2 ∙ sym x ∙ ap (λ (v : RequestOf). v.xid.0) (sym a.2))),
-      tags_differ head past c h rs d.1 (λ q i. f q (inr i)),
-    )
+tags_differ head past c h (r ∷ rs) d f = (
+  every_in (λ (q : RequestOf). r.tag ≢ q.tag) rs (λ q i e.
+      let a = f r (inl refl) in
+      let b = f q (inr i) in
+      let t : a.0.tag ≡ b.0.tag = ap (λ (v : RequestOf). v.tag) (sym a.2) ∙ e ∙ ap (λ (v : RequestOf). v.tag) b.2 in
+      let x = h.asks.tags c a.0 b.0 a.1 b.1 t in
+      d.0 q i (ap (λ (v : RequestOf). v.xid.0) b.2 ∙ sym x ∙ ap (λ (v : RequestOf). v.xid.0) (sym a.2))),
+  tags_differ head past c h rs d.1 (λ q i. f q (inr i)),
+)
 
 one_tag : (head : Head) (past : List Line) (c : ℕ) (r : RequestOf) → All head past → AskOk past c r → SameTag (first_request (printed past) 0 r.who r.xid.0) r.tag
 one_tag head past c r h ok = by (first_request (printed past) 0 r.who r.xid.0) refl

@@ -1,19 +1,15 @@
 -- The theorem: every run is lawful.
-use Rattle.std.proofs.Common.{◌≡◌, ℕ, ◌+◌, ◌<◌, Bool, true, false, List, [], ◌∷◌, refl, sym, subst, arith}
-use Rattle.lu_base.specs.declared.ids.At.{At}
+use Rattle.std.proofs.Common.{ℕ, Bool, List, [], ◌∷◌, arith}
 use Rattle.lu_base.specs.declared.ids.Node.{Node}
 use Rattle.lu_base.specs.declared.ids.Node.TheVariants.{Client, Target}
 use Rattle.lu_base.specs.declared.ids.Who.{Who}
 use Rattle.lu_table.specs.Words.{Entry, Begin, Busy, Queues, Flies, Send, Take, Tick, Heard, Told, Die, Act, Txn as Made, Line}
-use Rattle.lu_table.specs.Targets.{count_of}
 use Rattle.lu_table.specs.Printed.{printed}
 use Rattle.lu_table.specs.Runs.{Head, IsHead, Turn, lines_of, IsRun}
 use Rattle.lu_laws.specs.Lives.{is_gone}
 use Rattle.lu_laws.specs.Lost.{is_lost}
-use Rattle.lu_laws.specs.Messages.{Messages}
-use Rattle.lu_laws.specs.Acts.{ActsOf, Acts}
-use Rattle.lu_laws.specs.Recovery.{Recovery}
-use Rattle.lu_laws.specs.History.{HistoryOf, History}
+use Rattle.lu_laws.specs.Acts.{ActsOf}
+use Rattle.lu_laws.specs.History.{HistoryOf}
 use Rattle.lu_laws.specs.Laws.{Lawful}
 use Rattle.lu_lawful.specs.Fits.{Fits}
 use Rattle.lu_lawful.proofs.Guards.{line, EntryOk, Grown}

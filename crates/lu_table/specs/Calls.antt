@@ -7,7 +7,7 @@ use Rattle.lu_msg.specs.declared.calls.Call.{Call}
 use Rattle.lu_msg.specs.declared.calls.Call.TheVariants as call
 use Rattle.lu_msg.specs.declared.operations.Op.{Op}
 use Rattle.lu_msg.specs.declared.operations.Op.TheVariants as op
-use Rattle.lu_table.specs.Words.{Entry, Begin, Told, Die, Line, is_client}
+use Rattle.lu_table.specs.Words.{Begin, Told, Die, Line, is_client}
 
 -- a call that has begun, and in which turn
 pub record Begun : Type 0 where

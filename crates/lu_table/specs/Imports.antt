@@ -3,7 +3,7 @@
 use Rattle.std.specs.Prelude.{ℕ, zero, suc, max, ◌+◌, Bool, false, not, ◌==◌, ◌&&◌, ◌||◌, if◌then◌else◌, List, [], ◌∷◌, ◌++◌}
 use Rattle.std.specs.List.{filter}
 use Rattle.lu_base.specs.declared.ids.Node.{Node}
-use Rattle.lu_table.specs.Words.{Queued, Flight, Entry, Queues, Flies, Heard, Line, is_client}
+use Rattle.lu_table.specs.Words.{Queued, Flight, Queues, Flies, Heard, Line, is_client}
 
 abbrev pub is_import : ℕ → ℕ → Node → ℕ → Bool
 is_import c t node target = is_client c node && t == target

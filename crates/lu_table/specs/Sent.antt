@@ -2,7 +2,7 @@
 use Rattle.std.specs.Prelude.{◌≡◌, ℕ, ◌+◌, List, [], ◌∷◌, ◌⊎◌}
 use Rattle.lu_base.specs.declared.ids.Node.{Node}
 use Rattle.lu_msg.specs.declared.messages.Message.{Message}
-use Rattle.lu_table.specs.Words.{Entry, Send, Line}
+use Rattle.lu_table.specs.Words.{Send, Line}
 
 -- how many messages were sent: reads Send
 abbrev pub count_sent : List Line → ℕ

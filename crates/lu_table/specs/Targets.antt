@@ -1,6 +1,6 @@
 -- What the metadata target knows: its tree, the transactions that aren't on its disk, their numbers, and for
 -- each life and tag the last request that it answered.
-use Rattle.std.specs.Prelude.{ℕ, ◌+◌, ◌*◌, ◌^◌, Bool, ◌==◌, ◌&&◌, if◌then◌else◌, List, [], ◌∷◌, ◌++◌, Option, Some, None}
+use Rattle.std.specs.Prelude.{ℕ, ◌+◌, ◌*◌, Bool, ◌==◌, ◌&&◌, if◌then◌else◌, List, [], ◌∷◌, ◌++◌, Option, Some, None}
 use Rattle.lu_base.specs.declared.ids.Txn.{Txn}
 use Rattle.lu_base.specs.declared.ids.Who.{Who}
 use Rattle.lu_msg.specs.declared.messages.Reply.{Reply as ReplyTo}
@@ -8,7 +8,7 @@ use Rattle.lu_part.specs.declared.parts.Part.{Part}
 use Rattle.lu_machine.specs.Tree.{Tree}
 use Rattle.lu_machine.specs.Footprint.{Operation, empty, after, writes}
 use Rattle.lu_machine.specs.Seen.{meet}
-use Rattle.lu_table.specs.Words.{Deed, Entry, Act, Txn as Made, Line, same_life}
+use Rattle.lu_table.specs.Words.{Deed, Act, Txn as Made, Line, same_life}
 
 -- the operation of a deed, under its number
 abbrev pub operation : Deed → Operation
