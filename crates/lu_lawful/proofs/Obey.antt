@@ -19,7 +19,7 @@ use Rattle.lu_table.specs.Calls.{Begun, call_of, is_dead, life_of, operation_of}
 use Rattle.lu_table.specs.Imports.{rest, queue_of, flights_of, last_of, without_flight}
 use Rattle.lu_table.specs.Targets.{tree_of, slot_of, server_of, next_number}
 use Rattle.lu_table.specs.ClientRows as client
-use Rattle.lu_table.specs.ClientRows.{Asker, asker_of, knows_of, next_flight, row_sent, row_sends, row_asks, row_begins, row_call_at, find_flight, row_hears, row_reply, row_resends}
+use Rattle.lu_table.specs.ClientRows.{Asker, asker_of, knows_of, next_flight, row_sent, row_sends, row_asks, row_begins, row_call, find_flight, row_hears, row_reply, row_resends}
 use Rattle.lu_table.specs.TargetRows as target
 use Rattle.lu_table.specs.TargetRows.{asked, none, deed, again, reply_to, row_executes, row_known, row_request}
 use Rattle.lu_table.specs.Runs.{Head, IsAlive, MayBegin, MayCome, HasNumbers, Meets, Event, Begins, Comes, Ticks, Dies, row, Turn, with_turn, lines_of, Follows, IsRun}
@@ -116,7 +116,7 @@ module _ (head : Head) (c : ℕ) (stamp : Stamp) where
   begins_ok past slot call (Some o) later may becomes free = asks_ok past slot call o later may becomes free
 
   call_ok : (past : List Line) (slot : ℕ) (call : Call) (o : Option Begun) → Later past here → MayBegin head past c slot call → call_of c slot past ≡ o
-      → AllAllowed head past here (row_call_at (asker_of head.flight c past) slot call o)
+      → AllAllowed head past here (row_call (asker_of head.flight c past) slot call o)
   call_ok past slot call None later may free = begins_ok past slot call (operation_of call) later may refl free
   call_ok past slot call (Some b) later may busy = (record { steps = steps_after past here later; lives = may.client; ok = later }, tt)
 
@@ -240,7 +240,7 @@ module _ (head : Head) (stamp : Stamp) where
   request_ok past has n r None e = executes_ok past has n r (changes head.osts (tree_of head.osts past) (asked r none)) (subst (λ o. IsNewer o r) (sym e) tt) refl
   request_ok past has n r (Some k) e = known_ok past has n r k (nat_lt k.xid.0 r.xid.0) (nat_eq k.xid.0 r.xid.0) e refl
 
-  served_ok : (past : List Line) → HasNumbers past → (n : ℕ) (m : Message) → AllAllowed head (line there (Take n m) ∷ past) there (target.row_heeds head.osts (server_of head.osts past) there m)
+  served_ok : (past : List Line) → HasNumbers past → (n : ℕ) (m : Message) → AllAllowed head (line there (Take n m) ∷ past) there (target.row_heeds head.osts (server_of head.osts past) (λ who tag. slot_of who tag past) there m)
   served_ok past has n (message.Request r) = request_ok past has n r (slot_of r.who r.tag past) refl
   served_ok past has n m = tt
 

@@ -9,10 +9,10 @@ use Rattle.lu_msg.specs.declared.messages.Message.TheVariants as message
 use Rattle.lu_msg.specs.declared.messages.Reply.{Reply as ReplyTo}
 use Rattle.lu_msg.specs.declared.messages.Request.{Request as RequestOf}
 use Rattle.lu_table.specs.Words.{Queued, Flight, Entry, Begin, Busy, Queues, Flies, Send, Take, Tick, Heard, Told, Die, Line, same_life}
-use Rattle.lu_table.specs.Calls.{Begun, call_of, life_of, operation_of}
+use Rattle.lu_table.specs.Calls.{Begun, life_of, operation_of}
 use Rattle.lu_table.specs.Imports.{queue_of, flights_of, last_of, without_flight, free_tag}
 
--- a client as its rows read it: its life, the boot of the metadata target that it knows, and its calls
+-- a client as its rows read it: its life, the boot of the metadata target that it knows, and its requests there
 pub record Asker : Type 0 where
   pub who : Who
   pub boot : ℕ
@@ -20,7 +20,6 @@ pub record Asker : Type 0 where
   pub last : ℕ
   pub queue : List Queued
   pub flights : List Flight
-  pub call : ℕ → Option Begun
 
 -- no target has crashed yet, so each client knows boot 1
 abbrev pub knows_of : ℕ → List Line → ℕ
@@ -35,7 +34,6 @@ asker_of limit c past =
       last = last_of c 0 past;
       queue = queue_of c 0 past;
       flights = flights_of c 0 past;
-      call = λ slot. call_of c slot past;
     }
 
 -- a request in flight, as it is sent and sent again
@@ -65,12 +63,10 @@ row_asks k slot call q = Begin slot call ∷ Queues 0 q ∷ row_sends k k.last k
 abbrev pub row_begins : Asker → ℕ → Call → List Entry
 row_begins k slot call = elim (operation_of call) [ None ↦ [] | Some o ↦ row_asks k slot call (record { slot = slot; op = o }) ]
 
-abbrev pub row_call_at : Asker → ℕ → Call → Option Begun → List Entry
-row_call_at k slot call None = row_begins k slot call
-row_call_at k slot call (Some begun) = Busy slot ∷ []
-
-abbrev pub row_call : Asker → ℕ → Call → List Entry
-row_call k slot call = row_call_at k slot call (k.call slot)
+-- where the slot has a call that isn't told it is busy
+abbrev pub row_call : Asker → ℕ → Call → Option Begun → List Entry
+row_call k slot call None = row_begins k slot call
+row_call k slot call (Some begun) = Busy slot ∷ []
 
 abbrev pub find_flight : ℕ → List Flight → Option Flight
 find_flight xid [] = None

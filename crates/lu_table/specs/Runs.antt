@@ -9,8 +9,8 @@ use Rattle.lu_msg.specs.declared.operations.Op.{Op}
 use Rattle.lu_msg.specs.declared.operations.Op.TheVariants as op
 use Rattle.lu_table.specs.Words.{Entry, Line, turn_before}
 use Rattle.lu_table.specs.Sent.{Sent}
-use Rattle.lu_table.specs.Calls.{is_dead, operation_of}
-use Rattle.lu_table.specs.Targets.{count_of, server_of}
+use Rattle.lu_table.specs.Calls.{call_of, is_dead, operation_of}
+use Rattle.lu_table.specs.Targets.{count_of, slot_of, server_of}
 use Rattle.lu_table.specs.ClientRows as client
 use Rattle.lu_table.specs.ClientRows.{asker_of}
 use Rattle.lu_table.specs.TargetRows as target
@@ -73,11 +73,11 @@ Meets head past (Target t) _ = ⊥
 
 -- the entries of the turn
 abbrev pub row : Head → List Line → At → Node → Event → List Entry
-row head past at (Client c) (Begins slot call) = client.row_call (asker_of head.flight c past) slot call
+row head past at (Client c) (Begins slot call) = client.row_call (asker_of head.flight c past) slot call (call_of c slot past)
 row head past at (Client c) (Comes n m) = client.row_takes (asker_of head.flight c past) n m
 row head past at (Client c) Ticks = client.row_tick (asker_of head.flight c past)
 row head past at (Client c) Dies = client.row_dies
-row head past at (Target t) (Comes n m) = target.row_takes head.osts (server_of head.osts past) at n m
+row head past at (Target t) (Comes n m) = target.row_takes head.osts (server_of head.osts past) (λ who tag. slot_of who tag past) at n m
 row head past at (Target t) Ticks = target.row_tick
 row head past at (Target t) _ = []
 

@@ -4,6 +4,7 @@ use Rattle.std.specs.Prelude.{ℕ, Bool, true, false, ◌==◌, nat_lt, List, []
 use Rattle.lu_base.specs.declared.ids.At.{At}
 use Rattle.lu_base.specs.declared.ids.Node.TheVariants.{Client}
 use Rattle.lu_base.specs.declared.ids.Txn.{Txn}
+use Rattle.lu_base.specs.declared.ids.Who.{Who}
 use Rattle.lu_msg.specs.declared.messages.Message.{Message}
 use Rattle.lu_msg.specs.declared.messages.Message.TheVariants as message
 use Rattle.lu_msg.specs.declared.messages.Reply.{Reply as ReplyTo}
@@ -60,13 +61,13 @@ abbrev pub row_request : ℕ → Server → At → RequestOf → Option ReplyTo 
 row_request osts v at r None = row_executes osts v at r (changes osts v.tree (asked r none))
 row_request osts v at r (Some k) = row_known osts v at r k (nat_lt k.xid.0 r.xid.0) (k.xid.0 == r.xid.0)
 
--- a message is taken; a request goes on
-abbrev pub row_heeds : ℕ → Server → At → Message → List Entry
-row_heeds osts v at (message.Request r) = row_request osts v at r (v.slot r.who r.tag)
-row_heeds osts v at _ = []
+-- a message is taken; a request goes on, by the reply that is kept for its life and tag
+abbrev pub row_heeds : ℕ → Server → (Who → ℕ → Option ReplyTo) → At → Message → List Entry
+row_heeds osts v slot at (message.Request r) = row_request osts v at r (slot r.who r.tag)
+row_heeds osts v slot at _ = []
 
-abbrev pub row_takes : ℕ → Server → At → ℕ → Message → List Entry
-row_takes osts v at n m = Take n m ∷ row_heeds osts v at m
+abbrev pub row_takes : ℕ → Server → (Who → ℕ → Option ReplyTo) → At → ℕ → Message → List Entry
+row_takes osts v slot at n m = Take n m ∷ row_heeds osts v slot at m
 
 abbrev pub row_tick : List Entry
 row_tick = Tick ∷ []

@@ -62,7 +62,6 @@ pub record Server : Type 0 where
   pub committed : Txn
   pub tree : Tree
   pub log : List Logged
-  pub slot : Who → ℕ → Option ReplyTo
 
 abbrev pub server_of : ℕ → List Line → Server
 server_of osts past =
@@ -72,7 +71,6 @@ server_of osts past =
       committed = committed_of past;
       tree = tree_of osts past;
       log = log_of osts past;
-      slot = λ who tag. slot_of who tag past;
     }
 
 -- the next transaction's number: the boot in the high 32 bits, and a count from 1 in it
