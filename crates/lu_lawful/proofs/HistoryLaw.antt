@@ -26,7 +26,7 @@ use Rattle.lu_machine.proofs.Removal.{earlier_are_older}
 use Rattle.lu_machine.proofs.Seen.{removal_by_seen}
 use Rattle.lu_machine.proofs.Transactions.{machine_is_table}
 use Rattle.lu_table.specs.Words.{Deed, Entry, Queues, Flies, Told, Act, Txn as Made, Line}
-use Rattle.lu_table.specs.Targets.{operation, tree_of, log_of, count_of, seen_in}
+use Rattle.lu_table.specs.Targets.{transaction_of, operation, tree_of, log_of, count_of, seen_in}
 use Rattle.lu_table.specs.Printed.{printed}
 use Rattle.lu_table.specs.Runs.{Head}
 use Rattle.lu_laws.specs.Lives.{who_is, is_gone}
@@ -98,7 +98,7 @@ module _ (osts : ℕ) (lost : ℕ → ℕ → Bool) where
           let ws = writes osts (tree_of osts past) (operation d) in
           let n = d.reply.txn.0 in
           let ns = seen osts (whole osts) (items past) touched in
-          let parts = stand_parts lost (seen_in touched (log_of osts past)) (one (meet ws touched) n) (subst (AllStand lost) (seen_snoc touched (log_of osts past) (record { deed = d; writes = ws })) s) in
+          let parts = stand_parts lost (seen_in touched (log_of osts past)) (one (meet ws touched) n) (subst (AllStand lost) (seen_snoc touched (log_of osts past) (record { transaction = transaction_of d; writes = ws })) s) in
           subst (λ t. Every (λ n. keep lost n ≡ true) (if meet (writes osts t (operation d)) touched then n ∷ ns else ns)) (sym (whole_is osts past))
           (at (meet ws touched) n ns parts.1 (h parts.0))
         where

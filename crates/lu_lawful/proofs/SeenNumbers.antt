@@ -11,7 +11,7 @@ use Rattle.lu_machine.specs.Tree.{Tree}
 use Rattle.lu_machine.specs.Footprint.{writes}
 use Rattle.lu_machine.specs.Seen.{meet}
 use Rattle.lu_table.specs.Words.{Deed, Entry, Txn as Made, Line}
-use Rattle.lu_table.specs.Targets.{Logged, operation, tree_of, log_of, seen_in}
+use Rattle.lu_table.specs.Targets.{transaction_of, Logged, operation, tree_of, log_of, seen_in}
 use Rattle.lu_table.specs.Printed.{printed}
 use Rattle.lu_table.specs.Runs.{Head}
 use Rattle.lu_laws.specs.Pasts.{is_target}
@@ -28,14 +28,14 @@ use Rattle.lu_lawful.proofs.Contents.{committed_is, none_lost, number_is, asked_
 abbrev pub one : Bool → ℕ → List ℕ
 one t n = if t then n ∷ [] else []
 
-pub seen_snoc : (touched : List Part) (log : List Logged) (g : Logged) → seen_in touched (log ++ g ∷ []) ≡ seen_in touched log ++ one (meet g.writes touched) g.deed.reply.txn.0
+pub seen_snoc : (touched : List Part) (log : List Logged) (g : Logged) → seen_in touched (log ++ g ∷ []) ≡ seen_in touched log ++ one (meet g.writes touched) g.transaction.txn.0
 seen_snoc touched [] g = refl
 seen_snoc touched (k ∷ log) g = by (meet k.writes touched) (seen_snoc touched log g)
   where
-    by : (t : Bool) → seen_in touched (log ++ g ∷ []) ≡ seen_in touched log ++ one (meet g.writes touched) g.deed.reply.txn.0
-        → (if t then k.deed.reply.txn.0 ∷ seen_in touched (log ++ g ∷ []) else seen_in touched (log ++ g ∷ []))
-        ≡ (if t then k.deed.reply.txn.0 ∷ seen_in touched log else seen_in touched log) ++ one (meet g.writes touched) g.deed.reply.txn.0
-    by true h = ap (λ ns. k.deed.reply.txn.0 ∷ ns) h
+    by : (t : Bool) → seen_in touched (log ++ g ∷ []) ≡ seen_in touched log ++ one (meet g.writes touched) g.transaction.txn.0
+        → (if t then k.transaction.txn.0 ∷ seen_in touched (log ++ g ∷ []) else seen_in touched (log ++ g ∷ []))
+        ≡ (if t then k.transaction.txn.0 ∷ seen_in touched log else seen_in touched log) ++ one (meet g.writes touched) g.transaction.txn.0
+    by true h = ap (λ ns. k.transaction.txn.0 ∷ ns) h
     by false h = h
 
 reverse_one : (t : Bool) (n : ℕ) (ns : List ℕ) → reverse (if t then n ∷ ns else ns) ≡ reverse ns ++ one t n
@@ -58,7 +58,7 @@ module _ (head : Head) (above : ℕ) (low : above ≡ 0) (lost : ℕ → Bool) (
       ap (λ t. reverse (if t then n.0 ∷ ns else ns)) test
       ∙ reverse_one (meet ws touched) n.0 ns
       ∙ ap (λ ms. ms ++ one (meet ws touched) n.0) h
-      ∙ sym (seen_snoc touched (log_of head.osts past) (record { deed = d; writes = ws }))
+      ∙ sym (seen_snoc touched (log_of head.osts past) (record { transaction = transaction_of d; writes = ws }))
 
   meeting_is : (past : List Line) → Grown head past → AllAsked past → reverse (meeting head.osts 0 above lost touched (printed past)) ≡ seen_in touched (log_of head.osts past)
   meeting_is [] g a = refl

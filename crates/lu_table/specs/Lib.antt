@@ -7,3 +7,4 @@ pub mod ClientRows
 pub mod TargetRows
 pub mod Printed
 pub mod Runs
+pub mod Steps

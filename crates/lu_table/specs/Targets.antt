@@ -3,6 +3,7 @@
 use Rattle.std.specs.Prelude.{ℕ, ◌+◌, ◌*◌, Bool, ◌==◌, ◌&&◌, if◌then◌else◌, List, [], ◌∷◌, ◌++◌, Option, Some, None}
 use Rattle.lu_base.specs.declared.ids.Txn.{Txn}
 use Rattle.lu_base.specs.declared.ids.Who.{Who}
+use Rattle.lu_msg.specs.declared.commits.Transaction.{Transaction}
 use Rattle.lu_msg.specs.declared.messages.Reply.{Reply as ReplyTo}
 use Rattle.lu_part.specs.declared.parts.Part.{Part}
 use Rattle.lu_machine.specs.Tree.{Tree}
@@ -19,16 +20,19 @@ abbrev pub tree_of : ℕ → List Line → Tree
 tree_of osts [] = empty
 tree_of osts (l ∷ past) = elim l.entry [ Made d ↦ after osts (tree_of osts past) (operation d) | _ ↦ tree_of osts past ]
 
--- a transaction, and what it wrote
+-- a transaction as it goes to the disk, and what it wrote
 pub record Logged : Type 0 where
-  pub deed : Deed
+  pub transaction : Transaction
   pub writes : List Part
+
+abbrev pub transaction_of : Deed → Transaction
+transaction_of d = record { txn = d.reply.txn; who = d.reply.who; xid = d.reply.xid; tag = d.tag; op = d.op }
 
 -- the transactions that aren't on the disk, in rising number: reads Txn
 abbrev pub log_of : ℕ → List Line → List Logged
 log_of osts [] = []
 log_of osts (l ∷ past) =
-    elim l.entry [ Made d ↦ log_of osts past ++ record { deed = d; writes = writes osts (tree_of osts past) (operation d) } ∷ [] | _ ↦ log_of osts past ]
+    elim l.entry [ Made d ↦ log_of osts past ++ record { transaction = transaction_of d; writes = writes osts (tree_of osts past) (operation d) } ∷ [] | _ ↦ log_of osts past ]
 
 -- how many transactions this boot has made: reads Txn
 abbrev pub count_of : List Line → ℕ
@@ -80,4 +84,4 @@ next_number v = record { 0 = v.boot * 4294967296 + (v.count + 1) }
 -- the transactions of the log whose writes meet what is touched, in rising number
 abbrev pub seen_in : List Part → List Logged → List ℕ
 seen_in touched [] = []
-seen_in touched (g ∷ log) = if meet g.writes touched then g.deed.reply.txn.0 ∷ seen_in touched log else seen_in touched log
+seen_in touched (g ∷ log) = if meet g.writes touched then g.transaction.txn.0 ∷ seen_in touched log else seen_in touched log
