@@ -46,8 +46,8 @@ heard_line : (past : Past) (here : At) (e : Entry) (at : At) (t x : ℕ) → (He
     → HeardIn (record { at = here; entry = e } ∷ past) at t x → heard_test (record { at = here; entry = e } ∷ past) at t x ≡ true
 heard_line past here (Heard target xid) at t x ih =
     ⊎_elim
-      (λ (h : (here ≡ at) × (target.0 ≡ t) × (xid.0 ≡ x)). either_left _ (both (same_turn_is here at h.0) (both (eq-eqb _ _ h.1) (eq-eqb _ _ h.2))))
-      (λ (h : HeardIn past at t x). either_right _ (ih h))
+    (λ (h : (here ≡ at) × (target.0 ≡ t) × (xid.0 ≡ x)). either_left _ (both (same_turn_is here at h.0) (both (eq-eqb _ _ h.1) (eq-eqb _ _ h.2))))
+    (λ (h : HeardIn past at t x). either_right _ (ih h))
 heard_line past here _ at t x ih = ih
 
 pub heard_passes : (past : Past) (at : At) (t x : ℕ) → HeardIn past at t x → heard_test past at t x ≡ true
@@ -70,8 +70,8 @@ told_line : (past : Past) (here : At) (e : Entry) (who : Who) (x : ℕ) → (Tol
     → ToldWith (record { at = here; entry = e } ∷ past) who x → told_test (record { at = here; entry = e } ∷ past) who x ≡ true
 told_line past here (Told slot turn answer) who x ih =
     ⊎_elim
-      (λ (h : (here.node ≡ Client who.client) × (life who.client past ≡ who.life) × (turn ≢ here) × HeardIn past here 0 x). either_left _ (both (is_client_of who.client here.node h.0) (both (eq-eqb _ _ h.1) (heard_passes past here 0 x h.3))))
-      (λ (h : ToldWith past who x). either_right _ (ih h))
+    (λ (h : (here.node ≡ Client who.client) × (life who.client past ≡ who.life) × (turn ≢ here) × HeardIn past here 0 x). either_left _ (both (is_client_of who.client here.node h.0) (both (eq-eqb _ _ h.1) (heard_passes past here 0 x h.3))))
+    (λ (h : ToldWith past who x). either_right _ (ih h))
 told_line past here _ who x ih = ih
 
 pub told_passes : (past : Past) (who : Who) (x : ℕ) → ToldWith past who x → told_test past who x ≡ true
@@ -91,8 +91,8 @@ act_line : (past : Past) (here : At) (e : Entry) (turn : At) (who : Who) (x : �
     → ActIn (record { at = here; entry = e } ∷ past) turn who x → act_test (record { at = here; entry = e } ∷ past) turn x ≡ true
 act_line past here (Act other xid answer) turn who x ih =
     ⊎_elim
-      (λ (h : (here ≡ turn) × (here.node ≡ Target 0) × (other ≡ who) × (xid.0 ≡ x)). either_left _ (both (same_turn_is here turn h.0) (eq-eqb _ _ h.3)))
-      (λ (h : ActIn past turn who x). either_right _ (ih h))
+    (λ (h : (here ≡ turn) × (here.node ≡ Target 0) × (other ≡ who) × (xid.0 ≡ x)). either_left _ (both (same_turn_is here turn h.0) (eq-eqb _ _ h.3)))
+    (λ (h : ActIn past turn who x). either_right _ (ih h))
 act_line past here _ turn who x ih = ih
 
 pub act_passes : (past : Past) (turn : At) (who : Who) (x : ℕ) → ActIn past turn who x → act_test past turn x ≡ true

@@ -389,14 +389,14 @@ written begun = IsWrite object.fid 0 105 0 begun begun.call
 not_opened : ToldOf (who 0) written opened → ⊥
 not_opened h =
     elsewhere {A = IsTold heard_open (who 0) (Client 0) 0 (told.Made (record { 0 = first 1 })) written} {B = ⊥} h
-      (λ told. of_call {Kind = written} (record { at = turn 1 (Client 0); call = call.Open 0 (codes "f" ∷ []); before = [] }) refl told)
-      (λ none. none)
+    (λ told. of_call {Kind = written} (record { at = turn 1 (Client 0); call = call.Open 0 (codes "f" ∷ []); before = [] }) refl told)
+    (λ none. none)
 
 not_written : ToldOf (who 0) written before_put → ⊥
 not_written h =
     elsewhere {A = IsTold wrote (who 0) (Client 0) 0 told.Done written} {B = ToldOf (who 0) written opened} h
-      (λ told. differ 104 105 refl (same_some (of_call {Kind = written} (record { at = turn 4 (Client 0); call = call.Write 0 0 (104 ∷ []); before = opened }) refl told).2))
-      not_opened
+    (λ told. differ 104 105 refl (same_some (of_call {Kind = written} (record { at = turn 4 (Client 0); call = call.Write 0 0 (104 ∷ []); before = opened }) refl told).2))
+    not_opened
 
 abbrev put : Op
 put = op.Put object (record { 0 = first 1 }) 0 (105 ∷ [])
