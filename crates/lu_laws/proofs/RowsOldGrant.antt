@@ -1,4 +1,4 @@
--- A grant of an old boot comes late. Lawful.
+-- A grant of an old boot comes after the reconnect, and only makes its take. Lawful.
 use Rattle.std.proofs.Common.{[], ◌∷◌, inl, inr, refl, Some, pos}
 use Rattle.std.specs.Prelude.{codes}
 use Rattle.lu_base.specs.declared.ids.Node.TheVariants.{Client, Target}

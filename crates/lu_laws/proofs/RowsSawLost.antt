@@ -1,4 +1,4 @@
--- A crash loses a directory, and with it go those who were told that it is there. Lawful.
+-- What changes nothing can rest on what a crash loses: the life that was told so is evicted for a gap. Lawful.
 use Rattle.std.proofs.Common.{[], ◌∷◌, inl, inr, refl, Some, pos}
 use Rattle.std.specs.Prelude.{codes}
 use Rattle.lu_base.specs.declared.ids.Node.TheVariants.{Client, Target}

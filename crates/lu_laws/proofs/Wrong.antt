@@ -6,6 +6,7 @@ use Rattle.lu_msg.specs.declared.answers.Answer.TheVariants as told
 use Rattle.lu_msg.specs.declared.answers.Errno.TheVariants.{ENOENT, EEXIST, EIO}
 use Rattle.lu_msg.specs.declared.calls.Call.TheVariants as call
 use Rattle.lu_msg.specs.declared.operations.Op.TheVariants as op
+use Rattle.lu_msg.specs.declared.messages.Message.TheVariants as message
 use Rattle.lu_trace.specs.declared.entries.Entry.TheVariants as entry
 use Rattle.lu_laws.specs.Pasts.{Past}
 use Rattle.lu_laws.specs.Messages.{Messages}
@@ -349,6 +350,82 @@ refused_and_done_past =
 
 pub refused_and_done : History 1 refused_and_done_past → ⊥
 refused_and_done h = gone (h.0 refl)
+
+-- the turn of a transaction is named that a close has lost
+abbrev pub told_names_a_lost_transaction_past : Past
+told_names_a_lost_transaction_past =
+    client 7 0 (entry.Told 0 (turn 2 (Target 0)) (told.Made (record { 0 = (first 1) })))
+    ∷ client 7 0 (heard 0 1)
+    ∷ client 7 0 (entry.Take 2)
+    ∷ target 6 0 entry.Close
+    ∷ target 6 0 (entry.Back (who 0))
+    ∷ target 6 0 (entry.Take 4)
+    ∷ client 5 0 (sends 4 (Target 0) (message.Word (who 0) 2 0 0 []))
+    ∷ client 5 0 (entry.Take 3)
+    ∷ target 4 0 (sends 3 (Client 0) (message.Up 2))
+    ∷ target 4 0 (entry.Boot 2)
+    ∷ target 3 0 entry.Crash
+    ∷ target 2 0 (sends 2 (Client 0) (reply 0 1 (first 1) [] (turn 2 (Target 0)) (told.Made (record { 0 = (first 1) }))))
+    ∷ target 2 0 (txn (first 1) 0 1 [] (told.Made (record { 0 = (first 1) })))
+    ∷ target 2 0 (entry.Take 1)
+    ∷ client 1 0 (sends 1 (Target 0) (request 0 1 0 (op.Mkdir (codes "a" ∷ []))))
+    ∷ client 1 0 (entry.Begin 0 (call.Mkdir (codes "a" ∷ [])))
+    ∷ []
+
+pub told_names_a_lost_transaction : Acts told_names_a_lost_transaction_past → ⊥
+told_names_a_lost_transaction h = elsewhere ((h.0).acts refl).acts (apart _ _ refl) (λ a. ⊎_elim (λ act. absurd act) (λ txn. one_of txn (λ e. gone e.4)) a.acted)
+
+-- a transaction names one that a close has lost
+abbrev pub lost_transaction_seen_past : Past
+lost_transaction_seen_past =
+    target 8 0 (txn (number 2 1) 0 1 ((first 1) ∷ []) (told.Made (record { 0 = (number 2 1) })))
+    ∷ target 8 0 (entry.Take 5)
+    ∷ client 7 0 (sends 5 (Target 0) (message.Request (record { who = (who 0); boot = 2; xid = (record { 0 = 1 }); tag = 0; op = (op.Mkdir (codes "a" ∷ [])) })))
+    ∷ target 6 0 entry.Close
+    ∷ target 6 0 (entry.Back (who 0))
+    ∷ target 6 0 (entry.Take 4)
+    ∷ client 5 0 (sends 4 (Target 0) (message.Word (who 0) 2 0 0 []))
+    ∷ client 5 0 (entry.Take 3)
+    ∷ target 4 0 (sends 3 (Client 0) (message.Up 2))
+    ∷ target 4 0 (entry.Boot 2)
+    ∷ target 3 0 entry.Crash
+    ∷ target 2 0 (sends 2 (Client 0) (reply 0 1 (first 1) [] (turn 2 (Target 0)) (told.Made (record { 0 = (first 1) }))))
+    ∷ target 2 0 (txn (first 1) 0 1 [] (told.Made (record { 0 = (first 1) })))
+    ∷ target 2 0 (entry.Take 1)
+    ∷ client 1 0 (sends 1 (Target 0) (request 0 1 0 (op.Mkdir (codes "a" ∷ []))))
+    ∷ client 1 0 (entry.Begin 0 (call.Mkdir (codes "a" ∷ [])))
+    ∷ []
+
+pub lost_transaction_seen : Recovery 1 lost_transaction_seen_past → ⊥
+lost_transaction_seen h = let is = (h.0).sees in absurd (cc)
+
+-- after a close that keeps a transaction its request makes another one
+abbrev pub executed_while_another_stands_past : Past
+executed_while_another_stands_past =
+    target 9 0 (txn (number 2 1) 0 1 ((first 1) ∷ []) (told.Made (record { 0 = (number 2 1) })))
+    ∷ target 9 0 (entry.Take 1)
+    ∷ target 8 0 entry.Close
+    ∷ target 8 0 (entry.Back (who 0))
+    ∷ target 8 0 (entry.Take 5)
+    ∷ target 7 0 (entry.Take 4)
+    ∷ client 6 0 (sends 5 (Target 0) (message.Word (who 0) 2 1 0 []))
+    ∷ client 6 0 (sends 4 (Target 0) (message.Replay (record { who = (who 0); boot = 2; txn = (record { 0 = (first 1) }); xid = (record { 0 = 1 }); tag = 0; seen = []; op = (op.Mkdir (codes "a" ∷ [])) })))
+    ∷ client 6 0 (entry.Take 3)
+    ∷ target 5 0 (sends 3 (Client 0) (message.Up 2))
+    ∷ target 5 0 (entry.Boot 2)
+    ∷ target 4 0 entry.Crash
+    ∷ client 3 0 (entry.Told 0 (turn 2 (Target 0)) (told.Made (record { 0 = (first 1) })))
+    ∷ client 3 0 (heard 0 1)
+    ∷ client 3 0 (entry.Take 2)
+    ∷ target 2 0 (sends 2 (Client 0) (reply 0 1 (first 1) [] (turn 2 (Target 0)) (told.Made (record { 0 = (first 1) }))))
+    ∷ target 2 0 (txn (first 1) 0 1 [] (told.Made (record { 0 = (first 1) })))
+    ∷ target 2 0 (entry.Take 1)
+    ∷ client 1 0 (sends 1 (Target 0) (request 0 1 0 (op.Mkdir (codes "a" ∷ []))))
+    ∷ client 1 0 (entry.Begin 0 (call.Mkdir (codes "a" ∷ [])))
+    ∷ []
+
+pub executed_while_another_stands : Acts executed_while_another_stands_past → ⊥
+executed_while_another_stands h = let two = h.0 refl in absurd (omega arith)
 
 abbrev heard_open : Past
 heard_open =
