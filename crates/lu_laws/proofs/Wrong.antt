@@ -1,5 +1,5 @@
 -- Wrong traces, each named after what is wrong with it: the law notices it.
-use Rattle.std.proofs.Common.{ℕ, [], ◌∷◌, inl, inr, ⊎_elim, refl, sym, ap, subst, ◌∙◌, ◌≡◌, ◌≢◌, ◌⊎◌, Bool, false, Option, eqb, arith, Some, None}
+use Rattle.std.proofs.Common.{ℕ, [], ◌∷◌, inl, inr, ⊎_elim, refl, sym, ap, subst, ◌∙◌, ◌≡◌, ◌≢◌, ◌⊎◌, Bool, false, Option, eqb, arith, Some, None, pos}
 use Rattle.std.specs.Prelude.{codes}
 use Rattle.lu_base.specs.declared.ids.Node.TheVariants.{Client, Target}
 use Rattle.lu_msg.specs.declared.answers.Answer.TheVariants as told
@@ -13,7 +13,10 @@ use Rattle.lu_laws.specs.Messages.{Messages}
 use Rattle.lu_laws.specs.Acts.{Acts}
 use Rattle.lu_laws.specs.Recovery.{Recovery}
 use Rattle.lu_laws.specs.History.{History}
-use Rattle.lu_laws.proofs.Words.{number, gone, turn, client, target, who, first, request, reply, sends, heard, txn, never, differ}
+use Rattle.lu_base.specs.declared.locks.Mode.TheVariants.{PR}
+use Rattle.lu_base.specs.declared.locks.Policy.TheVariants.{Range}
+use Rattle.lu_laws.proofs.Words.{number, gone, turn, client, target, who, first, request, reply, sends, heard, txn, up, never, differ}
+use Rattle.std.specs.Prelude.{slice_index_or}
 use Rattle.std.proofs.Math.Nat.{lt_irrefl}
 use Rattle.lu_base.specs.declared.ids.At.{At}
 use Rattle.lu_msg.specs.declared.answers.Answer.{Answer}
@@ -55,6 +58,11 @@ bad_at c (Some begun) = is_bad c begun.before begun.call
 abbrev inode : Answer → ℕ
 inode (told.Made fid) = fid.0
 inode _ = 0
+
+-- the first byte of a content
+abbrev byte : Answer → ℕ
+byte (told.Content bytes) = slice_index_or bytes 0 0
+byte _ = 0
 
 -- ---- the traces, the newest line first
 
@@ -426,6 +434,63 @@ executed_while_another_stands_past =
 
 pub executed_while_another_stands : Acts executed_while_another_stands_past → ⊥
 executed_while_another_stands h = let two = h.0 refl in absurd (omega arith)
+
+-- two requests on one object are in flight
+abbrev pub two_on_one_object_past : Past
+two_on_one_object_past =
+    client 2 0 (sends 2 (Target 1) (request 0 2 1 (op.Size (record { fid = (record { 0 = (first 1) }); stripe = 0 }))))
+    ∷ client 2 0 entry.Tick
+    ∷ client 1 0 (sends 1 (Target 1) (request 0 1 0 (op.Enqueue (record { fid = (record { 0 = (first 1) }); stripe = 0 }) PR (record { first = 0; last = 9 }))))
+    ∷ client 1 0 (entry.Begin 0 (call.Mkdir (codes "a" ∷ [])))
+    ∷ []
+
+pub two_on_one_object : Acts two_on_one_object_past → ⊥
+two_on_one_object h = gone ((h.0).objects (up _ _ refl)).0.0
+
+-- a granted lock does not name a transaction that wrote there
+abbrev pub write_not_seen_past : Past
+write_not_seen_past =
+    target 4 1 (sends 3 (Client 1) (reply 1 1 0 [] (turn 4 (Target 1)) (told.Granted (record { 0 = (first 2) }) (record { first = 0; last = 18446744073709551615 }) 1)))
+    ∷ target 4 1 (entry.Grant (record { cookie = (record { 0 = (first 2) }); resource = (record { fid = (record { 0 = (first 1) }); stripe = 0 }); ask = record { who = (who 1); mode = PR; policy = (Range (record { first = 0; last = 18446744073709551615 })) } }))
+    ∷ target 4 1 (entry.Take 2)
+    ∷ client 3 1 (sends 2 (Target 1) (request 1 1 0 (op.Enqueue (record { fid = (record { 0 = (first 1) }); stripe = 0 }) PR (record { first = 0; last = 9 }))))
+    ∷ client 3 1 (entry.Begin 0 (call.Mkdir (codes "a" ∷ [])))
+    ∷ target 2 1 (txn (first 1) 0 1 [] told.Done)
+    ∷ target 2 1 (entry.Take 1)
+    ∷ client 1 0 (sends 1 (Target 1) (request 0 1 0 (op.Put (record { fid = (record { 0 = (first 1) }); stripe = 0 }) (record { 0 = (first 1) }) 0 (104 ∷ []))))
+    ∷ client 1 0 (entry.Begin 0 (call.Mkdir (codes "a" ∷ [])))
+    ∷ []
+
+pub write_not_seen : Recovery 1 write_not_seen_past → ⊥
+write_not_seen h = let is = h.0 refl in absurd (cc)
+
+-- a read is told another byte than was written
+abbrev pub another_byte_read_past : Past
+another_byte_read_past =
+    client 8 0 (entry.Told 0 (turn 8 (Client 0)) (told.Content (105 ∷ [])))
+    ∷ client 8 0 (entry.Begin 0 (call.Read 0 0 9))
+    ∷ client 7 0 (entry.Told 0 (turn 7 (Client 0)) told.Done)
+    ∷ client 7 0 (entry.Begin 0 (call.Write 0 0 (104 ∷ [])))
+    ∷ client 6 0 (entry.Told 0 (turn 5 (Target 0)) (told.Made (record { 0 = (first 1) })))
+    ∷ client 6 0 (heard 0 2)
+    ∷ client 6 0 (entry.Take 4)
+    ∷ target 5 0 (sends 4 (Client 0) (reply 0 2 (first 2) ((first 1) ∷ []) (turn 5 (Target 0)) (told.OpenFile (record { 0 = (first 1) }) (record { 0 = (first 2) }) (record { size = 65536; targets = 1 ∷ [] }))))
+    ∷ target 5 0 (txn (first 2) 0 2 ((first 1) ∷ []) (told.OpenFile (record { 0 = (first 1) }) (record { 0 = (first 2) }) (record { size = 65536; targets = 1 ∷ [] })))
+    ∷ target 5 0 (entry.Take 3)
+    ∷ client 4 0 (sends 3 (Target 0) (request 0 2 0 (op.Open (codes "f" ∷ []))))
+    ∷ client 4 0 (entry.Begin 0 (call.Open 0 (codes "f" ∷ [])))
+    ∷ client 3 0 (entry.Told 0 (turn 2 (Target 0)) (told.Made (record { 0 = (first 1) })))
+    ∷ client 3 0 (heard 0 1)
+    ∷ client 3 0 (entry.Take 2)
+    ∷ target 2 0 (sends 2 (Client 0) (reply 0 1 (first 1) [] (turn 2 (Target 0)) (told.Made (record { 0 = (first 1) }))))
+    ∷ target 2 0 (txn (first 1) 0 1 [] (told.Made (record { 0 = (first 1) })))
+    ∷ target 2 0 (entry.Take 1)
+    ∷ client 1 0 (sends 1 (Target 0) (request 0 1 0 (op.Create (codes "f" ∷ []) 65536 (pos 1))))
+    ∷ client 1 0 (entry.Begin 0 (call.Create (codes "f" ∷ []) (Some (65536, (pos 1)))))
+    ∷ []
+
+pub another_byte_read : History 1 another_byte_read_past → ⊥
+another_byte_read h = differ 104 105 refl (ap byte (h.0 refl refl refl))
 
 abbrev heard_open : Past
 heard_open =
