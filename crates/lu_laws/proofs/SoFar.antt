@@ -1,5 +1,5 @@
 -- Line by line the law of acts holds of the whole trace.
-use Rattle.std.proofs.Common.{◌≡◌, ℕ, suc, ◌≤◌, Bool, true, false, inl, inr, ⊎_elim, [], ◌∷◌, refl, ap, subst, arith}
+use Rattle.std.proofs.Common.{◌≡◌, ℕ, suc, ◌≤◌, Bool, true, false, inl, inr, ⊎_elim, [], ◌∷◌, refl, subst, arith}
 use Rattle.std.specs.Prelude.{not, ◌==◌, ◌&&◌}
 use Rattle.std.proofs.lemmas.Bool.{eqb-true, cond_both}
 use Rattle.lu_base.specs.declared.ids.At.{At}
@@ -14,6 +14,7 @@ use Rattle.lu_machine.specs.Tree.{same_life}
 use Rattle.lu_laws.specs.Pasts.{Past, is_target}
 use Rattle.lu_laws.specs.Lives.{who_is}
 use Rattle.lu_laws.specs.Acts.{standing_count, ActsThere, ToldAt, ToldBy, OnceAt, ActsAt, ActsOf}
+use Rattle.lu_laws.proofs.Lemmas.{first_of, rest_of, target_is, life_is}
 use Rattle.lu_laws.specs.SoFar.{ToldAct, NewAt, NewBy, SoFarAt, ActsSoFar, SoFarIsWhole}
 
 -- the second is the first, or what was before some of its lines
@@ -27,26 +28,9 @@ shorter (later k tail) = later k (shorter tail)
 
 -- ---- tests
 
-first_of : (a b : Bool) → (a && b) ≡ true → a ≡ true
-first_of true b e = refl
-first_of false b e = absurd (cc)
-
-rest_of : (a b : Bool) → (a && b) ≡ true → b ≡ true
-rest_of true b e = e
-rest_of false b e = absurd (cc)
-
 refuted : (a : Bool) → not a ≡ true → a ≡ false
 refuted true e = absurd (cc)
 refuted false e = refl
-
-target_is : (t : ℕ) (n : Node) → is_target t n ≡ true → n ≡ Target t
-target_is t (Client c) e = absurd (cc)
-target_is t (Target u) e = ap (λ (v : ℕ). Target v) (eqb-true u t e)
-
-life_is : (a b : Who) → same_life a b ≡ true → a ≡ b
-life_is a b e =
-    subst (λ (v : ℕ). a ≡ record { client = b.client; life = v }) (eqb-true a.life b.life (rest_of _ _ e))
-    (subst (λ (d : ℕ). a ≡ record { client = d; life = a.life }) (eqb-true a.client b.client (first_of _ _ e)) refl)
 
 -- ---- at a line
 
