@@ -1,5 +1,6 @@
 pub mod Words
 pub mod Lemmas
+pub mod Quiet
 pub mod SoFar
 pub mod RowsExpired
 pub mod RowsGap
