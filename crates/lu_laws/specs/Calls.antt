@@ -1,4 +1,5 @@
--- The calls of a client: the call that stands in a slot, the handles, and the operation that a call becomes.
+-- The calls of a client: the call that stands in a slot, the handles, and the operation that a call becomes (this project's
+-- profile; POSIX.1, open file descriptions).
 use Rattle.std.specs.Prelude.{ℕ, Bool, false, not, ◌==◌, ◌&&◌, ◌||◌, is_some, if◌then◌else◌, Option, Some, None, [], ◌∷◌, pos}
 use Rattle.std.specs.Option.{option_map}
 use Rattle.lu_base.specs.declared.ids.At.{At}

@@ -1,5 +1,5 @@
 -- Law of recovery, as far as it stands: the numbers of transactions, and the seen numbers that transactions, replies and
--- grants carry. What a target commits, who is back, and what a close keeps, evicts and restores isn't said yet.
+-- grants carry (Lustre Operations Manual, recovery, for the numbers; seen numbers are this project's profile). What a target commits, who is back, and what a close keeps, evicts and restores isn't said yet.
 use Rattle.std.specs.Prelude.{◌≡◌, ℕ, ◌/◌, ◌^◌, ◌<◌, Bool, true, false, ◌==◌, ◌&&◌, ◌||◌, if◌then◌else◌, Option, Some, None, List, [], ◌∷◌}
 use Rattle.lu_base.specs.declared.ids.At.{At}
 use Rattle.lu_base.specs.declared.ids.Node.{Node}
