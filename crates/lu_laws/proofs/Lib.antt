@@ -1,5 +1,6 @@
 pub mod Words
 pub mod Lemmas
+pub mod Leaves
 pub mod Quiet
 pub mod SoFar
 pub mod RowsExpired
