@@ -1,5 +1,8 @@
 pub mod Words
 pub mod Lemmas
+pub mod Leaves
+pub mod Quiet
+pub mod SoFar
 pub mod RowsExpired
 pub mod RowsGap
 pub mod RowsGlimpse

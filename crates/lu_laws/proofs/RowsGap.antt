@@ -16,7 +16,7 @@ use Rattle.lu_laws.specs.Laws.{Lawful}
 use Rattle.lu_base.specs.declared.locks.Mode.TheVariants.{PR}
 use Rattle.lu_base.specs.declared.locks.Policy.TheVariants.{Bits}
 use Rattle.lu_base.specs.declared.locks.Cause.TheVariants.{Absent, Gap, Replaced}
-use Rattle.lu_laws.proofs.Words.{life, gone, turn, client, target, who, first, request, reply, sends, heard, txn, up, never, nowhere}
+use Rattle.lu_laws.proofs.Words.{life, gone, ◌then◌, turn, client, target, who, first, request, reply, sends, heard, txn, up, never, nowhere}
 use Rattle.lu_laws.proofs.Lemmas.{untold_by, unacted_by}
 
 abbrev pub before_1 : Past
@@ -108,306 +108,327 @@ past =
 
 messages : Messages past
 messages =
-    (record { order = inl (up _ _ refl); living = refl; entry = (_, _, inl (refl, refl, refl, refl)) },
-    (record { order = inl (up _ _ refl); living = refl; entry = (_, _, inr (inl (refl, refl, refl, refl))) },
-    (record { order = inl (up _ _ refl); living = refl; entry = (_, _, inr (inr (inl (refl, refl, refl, refl)))) },
-    (record { order = inr (refl, up _ _ refl); living = tt; entry = refl },
-    (record { order = inr (refl, up _ _ refl); living = tt; entry = tt },
-    (record { order = inr (refl, up _ _ refl); living = tt; entry = refl },
-    (record { order = inr (refl, up _ _ refl); living = tt; entry = tt },
-    (record { order = inr (refl, up _ _ refl); living = tt; entry = tt },
-    (record { order = inl (up _ _ refl); living = tt; entry = (_, _, inr (inl (refl, refl, refl, refl))) },
-    (record { order = inr (refl, up _ _ refl); living = tt; entry = refl },
-    (record { order = inr (refl, up _ _ refl); living = tt; entry = tt },
-    (record { order = inr (refl, up _ _ refl); living = tt; entry = tt },
-    (record { order = inl (up _ _ refl); living = tt; entry = (_, _, inr (inl (refl, refl, refl, refl))) },
-    (record { order = inl (up _ _ refl); living = refl; entry = (_, _, inr (inr (inl (refl, refl, refl, refl)))) },
-    (record { order = inr (refl, up _ _ refl); living = refl; entry = refl },
-    (record { order = inr (refl, up _ _ refl); living = refl; entry = refl },
-    (record { order = inr (refl, up _ _ refl); living = refl; entry = tt },
-    (record { order = inr (refl, up _ _ refl); living = refl; entry = tt },
-    (record { order = inl (up _ _ refl); living = refl; entry = (_, _, inr (inl (refl, refl, refl, refl))) },
-    (record { order = inr (refl, up _ _ refl); living = tt; entry = refl },
-    (record { order = inr (refl, up _ _ refl); living = tt; entry = refl },
-    (record { order = inr (refl, up _ _ refl); living = tt; entry = tt },
-    (record { order = inr (refl, up _ _ refl); living = tt; entry = refl },
-    (record { order = inr (refl, up _ _ refl); living = tt; entry = tt },
-    (record { order = inr (refl, up _ _ refl); living = tt; entry = tt },
-    (record { order = inr (refl, up _ _ refl); living = tt; entry = tt },
-    (record { order = inl (up _ _ refl); living = tt; entry = tt },
-    (record { order = inr (refl, up _ _ refl); living = tt; entry = tt },
-    (record { order = inl (up _ _ refl); living = tt; entry = (_, _, inl (refl, refl, refl, refl)) },
-    (record { order = inl (up _ _ refl); living = tt; entry = (_, _, inr (inl (refl, refl, refl, refl))) },
-    (record { order = inr (refl, up _ _ refl); living = tt; entry = tt },
-    (record { order = inl (up _ _ refl); living = tt; entry = (_, _, inr (inr (inl (refl, refl, refl, refl)))) },
-    (record { order = inl (up _ _ refl); living = tt; entry = (_, _, inr (inr (inr (inl (refl, refl, refl, refl))))) },
-    (record { order = inr (refl, up _ _ refl); living = refl; entry = refl },
-    (record { order = inr (refl, up _ _ refl); living = refl; entry = refl },
-    (record { order = inl (up _ _ refl); living = refl; entry = (_, _, inr (inr (inl (refl, refl, refl, refl)))) },
-    (record { order = inr (refl, up _ _ refl); living = refl; entry = refl },
-    (record { order = inr (refl, up _ _ refl); living = refl; entry = refl },
-    (record { order = inl (up _ _ refl); living = refl; entry = (_, _, inr (inl (refl, refl, refl, refl))) },
-    (record { order = inr (refl, up _ _ refl); living = tt; entry = refl },
-    (record { order = inr (refl, up _ _ refl); living = tt; entry = refl },
-    (record { order = inr (refl, up _ _ refl); living = tt; entry = refl },
-    (record { order = inl (up _ _ refl); living = tt; entry = tt },
-    (record { order = inl (up _ _ refl); living = tt; entry = tt },
-    (record { order = inl (up _ _ refl); living = refl; entry = tt },
-    (record { order = inr (refl, up _ _ refl); living = refl; entry = (_, refl) },
-    (record { order = inr (refl, up _ _ refl); living = refl; entry = tt },
-    (record { order = inl (up _ _ refl); living = refl; entry = (_, _, inl (refl, refl, refl, refl)) },
-    (record { order = inr (refl, up _ _ refl); living = refl; entry = (_, refl) },
-    (record { order = inr (refl, up _ _ refl); living = refl; entry = tt },
-    (record { order = inr (refl, up _ _ refl); living = refl; entry = tt },
-    (record { order = inl (up _ _ refl); living = refl; entry = (_, _, inr (inl (refl, refl, refl, refl))) },
-    (record { order = inr (refl, up _ _ refl); living = tt; entry = refl },
-    (record { order = inr (refl, up _ _ refl); living = tt; entry = tt },
-    (record { order = inl (up _ _ refl); living = tt; entry = (_, _, inr (inl (refl, refl, refl, refl))) },
-    (record { order = inr (refl, up _ _ refl); living = tt; entry = refl },
-    (record { order = inr (refl, up _ _ refl); living = tt; entry = tt },
-    (record { order = inr (refl, up _ _ refl); living = tt; entry = tt },
-    (record { order = inl (up _ _ refl); living = tt; entry = (_, _, inr (inl (refl, refl, refl, refl))) },
-    (record { order = inr (refl, up _ _ refl); living = refl; entry = refl },
-    (record { order = inl (up _ _ refl); living = refl; entry = refl },
-    (record { order = inr (refl, up _ _ refl); living = refl; entry = refl },
-    (record { order = inl (up _ _ refl); living = refl; entry = refl },
-    (record { order = inr (refl, up _ _ refl); living = refl; entry = (_, refl) },
-    (record { order = inr (refl, up _ _ refl); living = refl; entry = tt },
-    (record { order = inl (up _ _ refl); living = refl; entry = (_, _, inl (refl, refl, refl, refl)) },
-    (record { order = inr (refl, up _ _ refl); living = tt; entry = refl },
-    (record { order = inr (refl, up _ _ refl); living = tt; entry = tt },
-    (record { order = inl (up _ _ refl); living = tt; entry = (_, _, inl (refl, refl, refl, refl)) },
-    (record { order = inr (refl, up _ _ refl); living = refl; entry = refl },
-    (record { order = tt; living = refl; entry = refl },
-    tt)))))))))))))))))))))))))))))))))))))))))))))))))))))))))))))))))))))))
+    record { order = inl (up _ _ refl); living = refl; entry = (_, _, inl (refl, refl, refl, refl)) }
+    then record { order = inl (up _ _ refl); living = refl; entry = (_, _, inr (inl (refl, refl, refl, refl))) }
+    then record { order = inl (up _ _ refl); living = refl; entry = (_, _, inr (inr (inl (refl, refl, refl, refl)))) }
+    then record { order = inr (refl, up _ _ refl); living = tt; entry = refl }
+    then record { order = inr (refl, up _ _ refl); living = tt; entry = tt }
+    then record { order = inr (refl, up _ _ refl); living = tt; entry = refl }
+    then record { order = inr (refl, up _ _ refl); living = tt; entry = tt }
+    then record { order = inr (refl, up _ _ refl); living = tt; entry = tt }
+    then record { order = inl (up _ _ refl); living = tt; entry = (_, _, inr (inl (refl, refl, refl, refl))) }
+    then record { order = inr (refl, up _ _ refl); living = tt; entry = refl }
+    then record { order = inr (refl, up _ _ refl); living = tt; entry = tt }
+    then record { order = inr (refl, up _ _ refl); living = tt; entry = tt }
+    then record { order = inl (up _ _ refl); living = tt; entry = (_, _, inr (inl (refl, refl, refl, refl))) }
+    then record { order = inl (up _ _ refl); living = refl; entry = (_, _, inr (inr (inl (refl, refl, refl, refl)))) }
+    then record { order = inr (refl, up _ _ refl); living = refl; entry = refl }
+    then record { order = inr (refl, up _ _ refl); living = refl; entry = refl }
+    then record { order = inr (refl, up _ _ refl); living = refl; entry = tt }
+    then record { order = inr (refl, up _ _ refl); living = refl; entry = tt }
+    then record { order = inl (up _ _ refl); living = refl; entry = (_, _, inr (inl (refl, refl, refl, refl))) }
+    then record { order = inr (refl, up _ _ refl); living = tt; entry = refl }
+    then record { order = inr (refl, up _ _ refl); living = tt; entry = refl }
+    then record { order = inr (refl, up _ _ refl); living = tt; entry = tt }
+    then record { order = inr (refl, up _ _ refl); living = tt; entry = refl }
+    then record { order = inr (refl, up _ _ refl); living = tt; entry = tt }
+    then record { order = inr (refl, up _ _ refl); living = tt; entry = tt }
+    then record { order = inr (refl, up _ _ refl); living = tt; entry = tt }
+    then record { order = inl (up _ _ refl); living = tt; entry = tt }
+    then record { order = inr (refl, up _ _ refl); living = tt; entry = tt }
+    then record { order = inl (up _ _ refl); living = tt; entry = (_, _, inl (refl, refl, refl, refl)) }
+    then record { order = inl (up _ _ refl); living = tt; entry = (_, _, inr (inl (refl, refl, refl, refl))) }
+    then record { order = inr (refl, up _ _ refl); living = tt; entry = tt }
+    then record { order = inl (up _ _ refl); living = tt; entry = (_, _, inr (inr (inl (refl, refl, refl, refl)))) }
+    then record { order = inl (up _ _ refl); living = tt; entry = (_, _, inr (inr (inr (inl (refl, refl, refl, refl))))) }
+    then record { order = inr (refl, up _ _ refl); living = refl; entry = refl }
+    then record { order = inr (refl, up _ _ refl); living = refl; entry = refl }
+    then record { order = inl (up _ _ refl); living = refl; entry = (_, _, inr (inr (inl (refl, refl, refl, refl)))) }
+    then record { order = inr (refl, up _ _ refl); living = refl; entry = refl }
+    then record { order = inr (refl, up _ _ refl); living = refl; entry = refl }
+    then record { order = inl (up _ _ refl); living = refl; entry = (_, _, inr (inl (refl, refl, refl, refl))) }
+    then record { order = inr (refl, up _ _ refl); living = tt; entry = refl }
+    then record { order = inr (refl, up _ _ refl); living = tt; entry = refl }
+    then record { order = inr (refl, up _ _ refl); living = tt; entry = refl }
+    then record { order = inl (up _ _ refl); living = tt; entry = tt }
+    then record { order = inl (up _ _ refl); living = tt; entry = tt }
+    then record { order = inl (up _ _ refl); living = refl; entry = tt }
+    then record { order = inr (refl, up _ _ refl); living = refl; entry = (_, refl) }
+    then record { order = inr (refl, up _ _ refl); living = refl; entry = tt }
+    then record { order = inl (up _ _ refl); living = refl; entry = (_, _, inl (refl, refl, refl, refl)) }
+    then record { order = inr (refl, up _ _ refl); living = refl; entry = (_, refl) }
+    then record { order = inr (refl, up _ _ refl); living = refl; entry = tt }
+    then record { order = inr (refl, up _ _ refl); living = refl; entry = tt }
+    then record { order = inl (up _ _ refl); living = refl; entry = (_, _, inr (inl (refl, refl, refl, refl))) }
+    then record { order = inr (refl, up _ _ refl); living = tt; entry = refl }
+    then record { order = inr (refl, up _ _ refl); living = tt; entry = tt }
+    then record { order = inl (up _ _ refl); living = tt; entry = (_, _, inr (inl (refl, refl, refl, refl))) }
+    then record { order = inr (refl, up _ _ refl); living = tt; entry = refl }
+    then record { order = inr (refl, up _ _ refl); living = tt; entry = tt }
+    then record { order = inr (refl, up _ _ refl); living = tt; entry = tt }
+    then record { order = inl (up _ _ refl); living = tt; entry = (_, _, inr (inl (refl, refl, refl, refl))) }
+    then record { order = inr (refl, up _ _ refl); living = refl; entry = refl }
+    then record { order = inl (up _ _ refl); living = refl; entry = refl }
+    then record { order = inr (refl, up _ _ refl); living = refl; entry = refl }
+    then record { order = inl (up _ _ refl); living = refl; entry = refl }
+    then record { order = inr (refl, up _ _ refl); living = refl; entry = (_, refl) }
+    then record { order = inr (refl, up _ _ refl); living = refl; entry = tt }
+    then record { order = inl (up _ _ refl); living = refl; entry = (_, _, inl (refl, refl, refl, refl)) }
+    then record { order = inr (refl, up _ _ refl); living = tt; entry = refl }
+    then record { order = inr (refl, up _ _ refl); living = tt; entry = tt }
+    then record { order = inl (up _ _ refl); living = tt; entry = (_, _, inl (refl, refl, refl, refl)) }
+    then record { order = inr (refl, up _ _ refl); living = refl; entry = refl }
+    then record { order = tt; living = refl; entry = refl }
+    then tt
 
 acts : Acts past
 acts =
-    (tt,
-    (tt,
-    (tt,
-    (tt,
-    (tt,
-    (tt,
-    (tt,
-    (tt,
-    (tt,
-    (tt,
-    (tt,
-    (tt,
-    (tt,
-    (tt,
-    (tt,
-    (tt,
-    (tt,
-    (tt,
-    (tt,
-    (tt,
-    (tt,
-    (tt,
-    (tt,
-    (tt,
-    (tt,
-    (tt,
-    (tt,
-    (tt,
-    (tt,
-    (tt,
-    (tt,
-    (tt,
-    (tt,
-    (tt,
-    (tt,
-    (tt,
-    (tt,
-    (tt,
-    (tt,
-    (tt,
-    (tt,
-    (tt,
-    (tt,
-    (tt,
-    (tt,
-    (record { begun = _; stands = refl; handle = refl; at_once = never; evicted = never; own = never;
-      acts = λ stays. record { after = inl (up _ _ refl); before = inl (up _ _ refl); acts = inr (record { xid = 1; op = _; heard = inl (refl, refl, refl); call = refl; request = refl; acted = inr (inl (refl, refl, refl, refl, refl)); untold = untold_by before_3 (who 2) 1 refl; alone = unacted_by before_3 (turn 7 (Target 0)) (who 2) 1 refl }) } },
-    (tt,
-    (tt,
-    (record { begun = _; stands = refl; handle = refl; at_once = never; evicted = never; own = never;
-      acts = gone },
-    (tt,
-    (tt,
-    (tt,
-    (tt,
-    (λ stands. up _ _ refl,
-    (tt,
-    (tt,
-    (tt,
-    (tt,
-    (tt,
-    (record { most = up _ _ refl; tags = (tt, tt); objects = nowhere; one_tag = tt },
-    (tt,
-    (record { most = up _ _ refl; tags = (tt, tt); objects = nowhere; one_tag = tt },
-    (tt,
-    (record { begun = _; stands = refl; handle = refl; at_once = never; evicted = never; own = never;
-      acts = gone },
-    (tt,
-    (tt,
-    (tt,
-    (gone,
-    (tt,
-    (record { most = up _ _ refl; tags = (tt, tt); objects = nowhere; one_tag = tt },
-    (tt,
-    tt)))))))))))))))))))))))))))))))))))))))))))))))))))))))))))))))))))))))
+    tt
+    then tt
+    then tt
+    then tt
+    then tt
+    then tt
+    then tt
+    then tt
+    then tt
+    then tt
+    then tt
+    then tt
+    then tt
+    then tt
+    then tt
+    then tt
+    then tt
+    then tt
+    then tt
+    then tt
+    then tt
+    then tt
+    then tt
+    then tt
+    then tt
+    then tt
+    then tt
+    then tt
+    then tt
+    then tt
+    then tt
+    then tt
+    then tt
+    then tt
+    then tt
+    then tt
+    then tt
+    then tt
+    then tt
+    then tt
+    then tt
+    then tt
+    then tt
+    then tt
+    then tt
+    then record {
+      begun = _;
+      stands = refl;
+      handle = refl;
+      at_once = never;
+      evicted = never;
+      own = never;
+      acts = λ stays. record { after = inl (up _ _ refl); before = inl (up _ _ refl); acts = inr (record { xid = 1; op = _; heard = inl (refl, refl, refl); call = refl; request = refl; acted = inr (inl (refl, refl, refl, refl, refl)); untold = untold_by before_3 (who 2) 1 refl; alone = unacted_by before_3 (turn 7 (Target 0)) (who 2) 1 refl }) };
+    }
+    then tt
+    then tt
+    then record {
+      begun = _;
+      stands = refl;
+      handle = refl;
+      at_once = never;
+      evicted = never;
+      own = never;
+      acts = gone;
+    }
+    then tt
+    then tt
+    then tt
+    then tt
+    then (λ stands. up _ _ refl)
+    then tt
+    then tt
+    then tt
+    then tt
+    then tt
+    then record { most = up _ _ refl; tags = (tt, tt); objects = nowhere; one_tag = tt }
+    then tt
+    then record { most = up _ _ refl; tags = (tt, tt); objects = nowhere; one_tag = tt }
+    then tt
+    then record {
+      begun = _;
+      stands = refl;
+      handle = refl;
+      at_once = never;
+      evicted = never;
+      own = never;
+      acts = gone;
+    }
+    then tt
+    then tt
+    then tt
+    then gone
+    then tt
+    then record { most = up _ _ refl; tags = (tt, tt); objects = nowhere; one_tag = tt }
+    then tt
+    then tt
 
 recovery : Recovery 1 past
 recovery =
-    (tt,
-    (tt,
-    (tt,
-    (tt,
-    (tt,
-    (tt,
-    (tt,
-    (tt,
-    (tt,
-    (tt,
-    (tt,
-    (tt,
-    (tt,
-    (tt,
-    (tt,
-    (tt,
-    (tt,
-    (tt,
-    (tt,
-    (tt,
-    (tt,
-    (tt,
-    (tt,
-    (tt,
-    (tt,
-    (tt,
-    (tt,
-    (tt,
-    (tt,
-    (tt,
-    (tt,
-    (tt,
-    (tt,
-    (tt,
-    (tt,
-    (tt,
-    (tt,
-    (tt,
-    (tt,
-    (tt,
-    (tt,
-    (tt,
-    (tt,
-    (tt,
-    (tt,
-    (tt,
-    (tt,
-    (tt,
-    (tt,
-    (tt,
-    (tt,
-    (tt,
-    (λ executed. refl,
-    (record { above = up _ _ refl; in_boot = refl; sees = refl },
-    (tt,
-    (λ executed. refl,
-    (tt,
-    (tt,
-    (tt,
-    (tt,
-    (tt,
-    (tt,
-    (tt,
-    (tt,
-    (tt,
-    (tt,
-    (λ executed. refl,
-    (record { above = up _ _ refl; in_boot = refl; sees = refl },
-    (tt,
-    (tt,
-    (tt,
-    tt)))))))))))))))))))))))))))))))))))))))))))))))))))))))))))))))))))))))
+    tt
+    then tt
+    then tt
+    then tt
+    then tt
+    then tt
+    then tt
+    then tt
+    then tt
+    then tt
+    then tt
+    then tt
+    then tt
+    then tt
+    then tt
+    then tt
+    then tt
+    then tt
+    then tt
+    then tt
+    then tt
+    then tt
+    then tt
+    then tt
+    then tt
+    then tt
+    then tt
+    then tt
+    then tt
+    then tt
+    then tt
+    then tt
+    then tt
+    then tt
+    then tt
+    then tt
+    then tt
+    then tt
+    then tt
+    then tt
+    then tt
+    then tt
+    then tt
+    then tt
+    then tt
+    then tt
+    then tt
+    then tt
+    then tt
+    then tt
+    then tt
+    then tt
+    then (λ executed. refl)
+    then record { above = up _ _ refl; in_boot = refl; sees = refl }
+    then tt
+    then (λ executed. refl)
+    then tt
+    then tt
+    then tt
+    then tt
+    then tt
+    then tt
+    then tt
+    then tt
+    then tt
+    then tt
+    then (λ executed. refl)
+    then record { above = up _ _ refl; in_boot = refl; sees = refl }
+    then tt
+    then tt
+    then tt
+    then tt
 
 history : History 1 past
 history =
-    (tt,
-    (tt,
-    (tt,
-    (tt,
-    (tt,
-    (tt,
-    (tt,
-    (tt,
-    (tt,
-    (tt,
-    (tt,
-    (tt,
-    (tt,
-    (tt,
-    (tt,
-    (tt,
-    (tt,
-    (tt,
-    (tt,
-    (tt,
-    (tt,
-    (tt,
-    (tt,
-    (tt,
-    (tt,
-    (tt,
-    (tt,
-    (tt,
-    (tt,
-    (tt,
-    (tt,
-    (tt,
-    (tt,
-    (tt,
-    (tt,
-    (tt,
-    (tt,
-    (tt,
-    (tt,
-    (tt,
-    (tt,
-    (tt,
-    (tt,
-    (tt,
-    (tt,
-    (λ stays answer counted. record { xid = 1; heard = inl (refl, refl, refl); answered = inl (refl, refl, refl, refl, refl, refl) },
-    (tt,
-    (tt,
-    (λ stays. gone stays,
-    (tt,
-    (tt,
-    (tt,
-    (tt,
-    (λ stands. refl,
-    (tt,
-    (tt,
-    (tt,
-    (tt,
-    (tt,
-    (tt,
-    (tt,
-    (tt,
-    (tt,
-    (λ stays. gone stays,
-    (tt,
-    (tt,
-    (tt,
-    (gone,
-    (tt,
-    (tt,
-    (tt,
-    tt)))))))))))))))))))))))))))))))))))))))))))))))))))))))))))))))))))))))
+    tt
+    then tt
+    then tt
+    then tt
+    then tt
+    then tt
+    then tt
+    then tt
+    then tt
+    then tt
+    then tt
+    then tt
+    then tt
+    then tt
+    then tt
+    then tt
+    then tt
+    then tt
+    then tt
+    then tt
+    then tt
+    then tt
+    then tt
+    then tt
+    then tt
+    then tt
+    then tt
+    then tt
+    then tt
+    then tt
+    then tt
+    then tt
+    then tt
+    then tt
+    then tt
+    then tt
+    then tt
+    then tt
+    then tt
+    then tt
+    then tt
+    then tt
+    then tt
+    then tt
+    then tt
+    then (λ stays answer counted. record { xid = 1; heard = inl (refl, refl, refl); answered = inl (refl, refl, refl, refl, refl, refl) })
+    then tt
+    then tt
+    then (λ stays. gone stays)
+    then tt
+    then tt
+    then tt
+    then tt
+    then (λ stands. refl)
+    then tt
+    then tt
+    then tt
+    then tt
+    then tt
+    then tt
+    then tt
+    then tt
+    then tt
+    then (λ stays. gone stays)
+    then tt
+    then tt
+    then tt
+    then gone
+    then tt
+    then tt
+    then tt
+    then tt
 
 pub lawful : Lawful 1 past
 lawful = record { messages = messages; acts = acts; recovery = recovery; history = history }

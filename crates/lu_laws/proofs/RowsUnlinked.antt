@@ -15,7 +15,7 @@ use Rattle.lu_laws.specs.History.{History}
 use Rattle.lu_laws.specs.Laws.{Lawful}
 use Rattle.lu_base.specs.declared.locks.Mode.TheVariants.{PW}
 use Rattle.lu_base.specs.declared.locks.Policy.TheVariants.{Range}
-use Rattle.lu_laws.proofs.Words.{turn, client, target, who, first, request, reply, sends, heard, txn, up, never, nowhere}
+use Rattle.lu_laws.proofs.Words.{◌then◌, turn, client, target, who, first, request, reply, sends, heard, txn, up, never, nowhere}
 use Rattle.lu_laws.proofs.Lemmas.{untold_by, unacted_by}
 
 abbrev pub before_1 : Past
@@ -109,239 +109,295 @@ past =
 
 messages : Messages past
 messages =
-    (record { order = inr (refl, up _ _ refl); living = refl; entry = (_, refl) },
-    (record { order = inr (refl, up _ _ refl); living = refl; entry = tt },
-    (record { order = inl (up _ _ refl); living = refl; entry = (_, _, inl (refl, refl, refl, refl)) },
-    (record { order = inr (refl, up _ _ refl); living = tt; entry = refl },
-    (record { order = inr (refl, up _ _ refl); living = tt; entry = tt },
-    (record { order = inl (up _ _ refl); living = tt; entry = (_, _, inl (refl, refl, refl, refl)) },
-    (record { order = inr (refl, up _ _ refl); living = refl; entry = refl },
-    (record { order = inl (up _ _ refl); living = refl; entry = refl },
-    (record { order = inr (refl, up _ _ refl); living = refl; entry = (_, refl) },
-    (record { order = inl (up _ _ refl); living = refl; entry = refl },
-    (record { order = inr (refl, up _ _ refl); living = refl; entry = (_, refl) },
-    (record { order = inr (refl, up _ _ refl); living = refl; entry = tt },
-    (record { order = inl (up _ _ refl); living = refl; entry = (_, _, inl (refl, refl, refl, refl)) },
-    (record { order = inr (refl, up _ _ refl); living = tt; entry = refl },
-    (record { order = inr (refl, up _ _ refl); living = tt; entry = tt },
-    (record { order = inl (up _ _ refl); living = tt; entry = (_, _, inl (refl, refl, refl, refl)) },
-    (record { order = inr (refl, up _ _ refl); living = refl; entry = refl },
-    (record { order = inl (up _ _ refl); living = refl; entry = refl },
-    (record { order = inr (refl, up _ _ refl); living = refl; entry = (_, refl) },
-    (record { order = inl (up _ _ refl); living = refl; entry = refl },
-    (record { order = inr (refl, up _ _ refl); living = refl; entry = (_, refl) },
-    (record { order = inr (refl, up _ _ refl); living = refl; entry = tt },
-    (record { order = inl (up _ _ refl); living = refl; entry = (_, _, inl (refl, refl, refl, refl)) },
-    (record { order = inr (refl, up _ _ refl); living = tt; entry = refl },
-    (record { order = inr (refl, up _ _ refl); living = tt; entry = tt },
-    (record { order = inl (up _ _ refl); living = tt; entry = (_, _, inl (refl, refl, refl, refl)) },
-    (record { order = inr (refl, up _ _ refl); living = refl; entry = refl },
-    (record { order = inl (up _ _ refl); living = refl; entry = refl },
-    (record { order = inr (refl, up _ _ refl); living = refl; entry = (_, refl) },
-    (record { order = inr (refl, up _ _ refl); living = refl; entry = tt },
-    (record { order = inr (refl, up _ _ refl); living = refl; entry = tt },
-    (record { order = inl (up _ _ refl); living = refl; entry = (_, _, inl (refl, refl, refl, refl)) },
-    (record { order = inr (refl, up _ _ refl); living = tt; entry = refl },
-    (record { order = inr (refl, up _ _ refl); living = tt; entry = tt },
-    (record { order = inl (up _ _ refl); living = tt; entry = (_, _, inl (refl, refl, refl, refl)) },
-    (record { order = inr (refl, up _ _ refl); living = refl; entry = refl },
-    (record { order = inl (up _ _ refl); living = refl; entry = refl },
-    (record { order = inr (refl, up _ _ refl); living = refl; entry = (_, refl) },
-    (record { order = inr (refl, up _ _ refl); living = refl; entry = tt },
-    (record { order = inl (up _ _ refl); living = refl; entry = (_, _, inl (refl, refl, refl, refl)) },
-    (record { order = inr (refl, up _ _ refl); living = tt; entry = refl },
-    (record { order = inr (refl, up _ _ refl); living = tt; entry = tt },
-    (record { order = inl (up _ _ refl); living = tt; entry = (_, _, inl (refl, refl, refl, refl)) },
-    (record { order = inr (refl, up _ _ refl); living = refl; entry = refl },
-    (record { order = inl (up _ _ refl); living = refl; entry = refl },
-    (record { order = inr (refl, up _ _ refl); living = refl; entry = (_, refl) },
-    (record { order = inr (refl, up _ _ refl); living = refl; entry = tt },
-    (record { order = inl (up _ _ refl); living = refl; entry = (_, _, inl (refl, refl, refl, refl)) },
-    (record { order = inr (refl, up _ _ refl); living = tt; entry = refl },
-    (record { order = inr (refl, up _ _ refl); living = tt; entry = tt },
-    (record { order = inl (up _ _ refl); living = tt; entry = (_, _, inl (refl, refl, refl, refl)) },
-    (record { order = inr (refl, up _ _ refl); living = refl; entry = refl },
-    (record { order = tt; living = refl; entry = refl },
-    tt)))))))))))))))))))))))))))))))))))))))))))))))))))))
+    record { order = inr (refl, up _ _ refl); living = refl; entry = (_, refl) }
+    then record { order = inr (refl, up _ _ refl); living = refl; entry = tt }
+    then record { order = inl (up _ _ refl); living = refl; entry = (_, _, inl (refl, refl, refl, refl)) }
+    then record { order = inr (refl, up _ _ refl); living = tt; entry = refl }
+    then record { order = inr (refl, up _ _ refl); living = tt; entry = tt }
+    then record { order = inl (up _ _ refl); living = tt; entry = (_, _, inl (refl, refl, refl, refl)) }
+    then record { order = inr (refl, up _ _ refl); living = refl; entry = refl }
+    then record { order = inl (up _ _ refl); living = refl; entry = refl }
+    then record { order = inr (refl, up _ _ refl); living = refl; entry = (_, refl) }
+    then record { order = inl (up _ _ refl); living = refl; entry = refl }
+    then record { order = inr (refl, up _ _ refl); living = refl; entry = (_, refl) }
+    then record { order = inr (refl, up _ _ refl); living = refl; entry = tt }
+    then record { order = inl (up _ _ refl); living = refl; entry = (_, _, inl (refl, refl, refl, refl)) }
+    then record { order = inr (refl, up _ _ refl); living = tt; entry = refl }
+    then record { order = inr (refl, up _ _ refl); living = tt; entry = tt }
+    then record { order = inl (up _ _ refl); living = tt; entry = (_, _, inl (refl, refl, refl, refl)) }
+    then record { order = inr (refl, up _ _ refl); living = refl; entry = refl }
+    then record { order = inl (up _ _ refl); living = refl; entry = refl }
+    then record { order = inr (refl, up _ _ refl); living = refl; entry = (_, refl) }
+    then record { order = inl (up _ _ refl); living = refl; entry = refl }
+    then record { order = inr (refl, up _ _ refl); living = refl; entry = (_, refl) }
+    then record { order = inr (refl, up _ _ refl); living = refl; entry = tt }
+    then record { order = inl (up _ _ refl); living = refl; entry = (_, _, inl (refl, refl, refl, refl)) }
+    then record { order = inr (refl, up _ _ refl); living = tt; entry = refl }
+    then record { order = inr (refl, up _ _ refl); living = tt; entry = tt }
+    then record { order = inl (up _ _ refl); living = tt; entry = (_, _, inl (refl, refl, refl, refl)) }
+    then record { order = inr (refl, up _ _ refl); living = refl; entry = refl }
+    then record { order = inl (up _ _ refl); living = refl; entry = refl }
+    then record { order = inr (refl, up _ _ refl); living = refl; entry = (_, refl) }
+    then record { order = inr (refl, up _ _ refl); living = refl; entry = tt }
+    then record { order = inr (refl, up _ _ refl); living = refl; entry = tt }
+    then record { order = inl (up _ _ refl); living = refl; entry = (_, _, inl (refl, refl, refl, refl)) }
+    then record { order = inr (refl, up _ _ refl); living = tt; entry = refl }
+    then record { order = inr (refl, up _ _ refl); living = tt; entry = tt }
+    then record { order = inl (up _ _ refl); living = tt; entry = (_, _, inl (refl, refl, refl, refl)) }
+    then record { order = inr (refl, up _ _ refl); living = refl; entry = refl }
+    then record { order = inl (up _ _ refl); living = refl; entry = refl }
+    then record { order = inr (refl, up _ _ refl); living = refl; entry = (_, refl) }
+    then record { order = inr (refl, up _ _ refl); living = refl; entry = tt }
+    then record { order = inl (up _ _ refl); living = refl; entry = (_, _, inl (refl, refl, refl, refl)) }
+    then record { order = inr (refl, up _ _ refl); living = tt; entry = refl }
+    then record { order = inr (refl, up _ _ refl); living = tt; entry = tt }
+    then record { order = inl (up _ _ refl); living = tt; entry = (_, _, inl (refl, refl, refl, refl)) }
+    then record { order = inr (refl, up _ _ refl); living = refl; entry = refl }
+    then record { order = inl (up _ _ refl); living = refl; entry = refl }
+    then record { order = inr (refl, up _ _ refl); living = refl; entry = (_, refl) }
+    then record { order = inr (refl, up _ _ refl); living = refl; entry = tt }
+    then record { order = inl (up _ _ refl); living = refl; entry = (_, _, inl (refl, refl, refl, refl)) }
+    then record { order = inr (refl, up _ _ refl); living = tt; entry = refl }
+    then record { order = inr (refl, up _ _ refl); living = tt; entry = tt }
+    then record { order = inl (up _ _ refl); living = tt; entry = (_, _, inl (refl, refl, refl, refl)) }
+    then record { order = inr (refl, up _ _ refl); living = refl; entry = refl }
+    then record { order = tt; living = refl; entry = refl }
+    then tt
 
 acts : Acts past
 acts =
-    (record { begun = _; stands = refl; handle = refl; at_once = never; evicted = never; own = never;
-      acts = λ stays. record { after = inl (up _ _ refl); before = inl (up _ _ refl); acts = inr (record { xid = 5; op = _; heard = inl (refl, refl, refl); call = refl; request = refl; acted = inl (inl (refl, refl, refl, refl)); untold = untold_by before_8 (who 0) 5 refl; alone = λ acted. refl }) } },
-    (tt,
-    (tt,
-    (tt,
-    (tt,
-    (tt,
-    (record { most = up _ _ refl; tags = (tt, tt); objects = nowhere; one_tag = tt },
-    (tt,
-    (record { begun = _; stands = refl; handle = refl; at_once = λ bad. refl; evicted = never; own = λ local. refl;
-      acts = λ stays. record { after = inr (refl, up _ _ refl); before = inr (refl, up _ _ refl); acts = inl refl } },
-    (tt,
-    (record { begun = _; stands = refl; handle = refl; at_once = never; evicted = never; own = never;
-      acts = λ stays. record { after = inl (up _ _ refl); before = inl (up _ _ refl); acts = inr (record { xid = 4; op = _; heard = inl (refl, refl, refl); call = refl; request = refl; acted = inr (inl (refl, refl, refl, refl, refl)); untold = untold_by before_6 (who 0) 4 refl; alone = unacted_by before_6 (turn 15 (Target 0)) (who 0) 4 refl }) } },
-    (tt,
-    (tt,
-    (tt,
-    (λ stands. up _ _ refl,
-    (tt,
-    (record { most = up _ _ refl; tags = (tt, tt); objects = nowhere; one_tag = tt },
-    (tt,
-    (record { begun = _; stands = refl; handle = refl; at_once = never; evicted = never; own = never;
-      acts = λ stays. record { after = inr (refl, up _ _ refl); before = inr (refl, up _ _ refl); acts = inl refl } },
-    (tt,
-    (record { begun = _; stands = refl; handle = refl; at_once = never; evicted = never; own = never;
-      acts = λ stays. record { after = inl (up _ _ refl); before = inl (up _ _ refl); acts = inr (record { xid = 3; op = _; heard = inl (refl, refl, refl); call = refl; request = refl; acted = inr (inl (refl, refl, refl, refl, refl)); untold = untold_by before_4 (who 0) 3 refl; alone = unacted_by before_4 (turn 11 (Target 0)) (who 0) 3 refl }) } },
-    (tt,
-    (tt,
-    (tt,
-    (λ stands. up _ _ refl,
-    (tt,
-    (record { most = up _ _ refl; tags = (tt, tt); objects = nowhere; one_tag = tt },
-    (tt,
-    (record { begun = _; stands = refl; handle = refl; at_once = never; evicted = never; own = never;
-      acts = λ stays. record { after = inl (up _ _ refl); before = inr (refl, up _ _ refl); acts = inl refl } },
-    (tt,
-    (tt,
-    (tt,
-    (tt,
-    (tt,
-    (tt,
-    (record { most = up _ _ refl; tags = (tt, tt); objects = λ some. (tt, tt); one_tag = tt },
-    (tt,
-    (record { begun = _; stands = refl; handle = refl; at_once = never; evicted = never; own = never;
-      acts = λ stays. record { after = inl (up _ _ refl); before = inl (up _ _ refl); acts = inr (record { xid = 2; op = _; heard = inl (refl, refl, refl); call = refl; request = refl; acted = inr (inl (refl, refl, refl, refl, refl)); untold = untold_by before_2 (who 0) 2 refl; alone = unacted_by before_2 (turn 5 (Target 0)) (who 0) 2 refl }) } },
-    (tt,
-    (tt,
-    (tt,
-    (λ stands. up _ _ refl,
-    (tt,
-    (record { most = up _ _ refl; tags = (tt, tt); objects = nowhere; one_tag = tt },
-    (tt,
-    (record { begun = _; stands = refl; handle = refl; at_once = never; evicted = never; own = never;
-      acts = λ stays. record { after = inl (up _ _ refl); before = inl (up _ _ refl); acts = inr (record { xid = 1; op = _; heard = inl (refl, refl, refl); call = refl; request = refl; acted = inr (inl (refl, refl, refl, refl, refl)); untold = untold_by before_1 (who 0) 1 refl; alone = unacted_by before_1 (turn 2 (Target 0)) (who 0) 1 refl }) } },
-    (tt,
-    (tt,
-    (tt,
-    (λ stands. up _ _ refl,
-    (tt,
-    (record { most = up _ _ refl; tags = (tt, tt); objects = nowhere; one_tag = tt },
-    (tt,
-    tt)))))))))))))))))))))))))))))))))))))))))))))))))))))
+    record {
+      begun = _;
+      stands = refl;
+      handle = refl;
+      at_once = never;
+      evicted = never;
+      own = never;
+      acts = λ stays. record { after = inl (up _ _ refl); before = inl (up _ _ refl); acts = inr (record { xid = 5; op = _; heard = inl (refl, refl, refl); call = refl; request = refl; acted = inl (inl (refl, refl, refl, refl)); untold = untold_by before_8 (who 0) 5 refl; alone = λ acted. refl }) };
+    }
+    then tt
+    then tt
+    then tt
+    then tt
+    then tt
+    then record { most = up _ _ refl; tags = (tt, tt); objects = nowhere; one_tag = tt }
+    then tt
+    then record {
+      begun = _;
+      stands = refl;
+      handle = refl;
+      at_once = λ bad. refl;
+      evicted = never;
+      own = λ local. refl;
+      acts = λ stays. record { after = inr (refl, up _ _ refl); before = inr (refl, up _ _ refl); acts = inl refl };
+    }
+    then tt
+    then record {
+      begun = _;
+      stands = refl;
+      handle = refl;
+      at_once = never;
+      evicted = never;
+      own = never;
+      acts = λ stays. record { after = inl (up _ _ refl); before = inl (up _ _ refl); acts = inr (record { xid = 4; op = _; heard = inl (refl, refl, refl); call = refl; request = refl; acted = inr (inl (refl, refl, refl, refl, refl)); untold = untold_by before_6 (who 0) 4 refl; alone = unacted_by before_6 (turn 15 (Target 0)) (who 0) 4 refl }) };
+    }
+    then tt
+    then tt
+    then tt
+    then (λ stands. up _ _ refl)
+    then tt
+    then record { most = up _ _ refl; tags = (tt, tt); objects = nowhere; one_tag = tt }
+    then tt
+    then record {
+      begun = _;
+      stands = refl;
+      handle = refl;
+      at_once = never;
+      evicted = never;
+      own = never;
+      acts = λ stays. record { after = inr (refl, up _ _ refl); before = inr (refl, up _ _ refl); acts = inl refl };
+    }
+    then tt
+    then record {
+      begun = _;
+      stands = refl;
+      handle = refl;
+      at_once = never;
+      evicted = never;
+      own = never;
+      acts = λ stays. record { after = inl (up _ _ refl); before = inl (up _ _ refl); acts = inr (record { xid = 3; op = _; heard = inl (refl, refl, refl); call = refl; request = refl; acted = inr (inl (refl, refl, refl, refl, refl)); untold = untold_by before_4 (who 0) 3 refl; alone = unacted_by before_4 (turn 11 (Target 0)) (who 0) 3 refl }) };
+    }
+    then tt
+    then tt
+    then tt
+    then (λ stands. up _ _ refl)
+    then tt
+    then record { most = up _ _ refl; tags = (tt, tt); objects = nowhere; one_tag = tt }
+    then tt
+    then record {
+      begun = _;
+      stands = refl;
+      handle = refl;
+      at_once = never;
+      evicted = never;
+      own = never;
+      acts = λ stays. record { after = inl (up _ _ refl); before = inr (refl, up _ _ refl); acts = inl refl };
+    }
+    then tt
+    then tt
+    then tt
+    then tt
+    then tt
+    then tt
+    then record { most = up _ _ refl; tags = (tt, tt); objects = λ some. (tt, tt); one_tag = tt }
+    then tt
+    then record {
+      begun = _;
+      stands = refl;
+      handle = refl;
+      at_once = never;
+      evicted = never;
+      own = never;
+      acts = λ stays. record { after = inl (up _ _ refl); before = inl (up _ _ refl); acts = inr (record { xid = 2; op = _; heard = inl (refl, refl, refl); call = refl; request = refl; acted = inr (inl (refl, refl, refl, refl, refl)); untold = untold_by before_2 (who 0) 2 refl; alone = unacted_by before_2 (turn 5 (Target 0)) (who 0) 2 refl }) };
+    }
+    then tt
+    then tt
+    then tt
+    then (λ stands. up _ _ refl)
+    then tt
+    then record { most = up _ _ refl; tags = (tt, tt); objects = nowhere; one_tag = tt }
+    then tt
+    then record {
+      begun = _;
+      stands = refl;
+      handle = refl;
+      at_once = never;
+      evicted = never;
+      own = never;
+      acts = λ stays. record { after = inl (up _ _ refl); before = inl (up _ _ refl); acts = inr (record { xid = 1; op = _; heard = inl (refl, refl, refl); call = refl; request = refl; acted = inr (inl (refl, refl, refl, refl, refl)); untold = untold_by before_1 (who 0) 1 refl; alone = unacted_by before_1 (turn 2 (Target 0)) (who 0) 1 refl }) };
+    }
+    then tt
+    then tt
+    then tt
+    then (λ stands. up _ _ refl)
+    then tt
+    then record { most = up _ _ refl; tags = (tt, tt); objects = nowhere; one_tag = tt }
+    then tt
+    then tt
 
 recovery : Recovery 1 past
 recovery =
-    (tt,
-    (tt,
-    (tt,
-    (λ executed. refl,
-    (tt,
-    (tt,
-    (tt,
-    (tt,
-    (tt,
-    (tt,
-    (tt,
-    (tt,
-    (tt,
-    (λ executed. refl,
-    (record { above = up _ _ refl; in_boot = refl; sees = refl },
-    (tt,
-    (tt,
-    (tt,
-    (tt,
-    (tt,
-    (tt,
-    (tt,
-    (tt,
-    (λ executed. refl,
-    (record { above = up _ _ refl; in_boot = refl; sees = refl },
-    (tt,
-    (tt,
-    (tt,
-    (tt,
-    (tt,
-    (tt,
-    (tt,
-    (λ executed. refl,
-    (tt,
-    (tt,
-    (tt,
-    (tt,
-    (tt,
-    (tt,
-    (tt,
-    (λ executed. refl,
-    (record { above = up _ _ refl; in_boot = refl; sees = refl },
-    (tt,
-    (tt,
-    (tt,
-    (tt,
-    (tt,
-    (tt,
-    (λ executed. refl,
-    (record { above = up _ _ refl; in_boot = refl; sees = refl },
-    (tt,
-    (tt,
-    (tt,
-    tt)))))))))))))))))))))))))))))))))))))))))))))))))))))
+    tt
+    then tt
+    then tt
+    then (λ executed. refl)
+    then tt
+    then tt
+    then tt
+    then tt
+    then tt
+    then tt
+    then tt
+    then tt
+    then tt
+    then (λ executed. refl)
+    then record { above = up _ _ refl; in_boot = refl; sees = refl }
+    then tt
+    then tt
+    then tt
+    then tt
+    then tt
+    then tt
+    then tt
+    then tt
+    then (λ executed. refl)
+    then record { above = up _ _ refl; in_boot = refl; sees = refl }
+    then tt
+    then tt
+    then tt
+    then tt
+    then tt
+    then tt
+    then tt
+    then (λ executed. refl)
+    then tt
+    then tt
+    then tt
+    then tt
+    then tt
+    then tt
+    then tt
+    then (λ executed. refl)
+    then record { above = up _ _ refl; in_boot = refl; sees = refl }
+    then tt
+    then tt
+    then tt
+    then tt
+    then tt
+    then tt
+    then (λ executed. refl)
+    then record { above = up _ _ refl; in_boot = refl; sees = refl }
+    then tt
+    then tt
+    then tt
+    then tt
 
 history : History 1 past
 history =
-    (λ stays answer counted. record { xid = 5; heard = inl (refl, refl, refl); answered = inl (refl, refl, refl, refl, refl) },
-    (tt,
-    (tt,
-    (tt,
-    (tt,
-    (tt,
-    (tt,
-    (tt,
-    (λ stays answer. never answer,
-    (tt,
-    (λ stays answer counted. record { xid = 4; heard = inl (refl, refl, refl); answered = inl (refl, refl, refl, refl, refl, refl) },
-    (tt,
-    (tt,
-    (tt,
-    (λ stands. refl,
-    (tt,
-    (tt,
-    (tt,
-    (λ stays answer counted. refl,
-    (tt,
-    (λ stays answer counted. record { xid = 3; heard = inl (refl, refl, refl); answered = inl (refl, refl, refl, refl, refl, refl) },
-    (tt,
-    (tt,
-    (tt,
-    (λ stands. refl,
-    (tt,
-    (tt,
-    (tt,
-    (λ stays answer counted. refl,
-    (tt,
-    (tt,
-    (tt,
-    (tt,
-    (tt,
-    (tt,
-    (tt,
-    (tt,
-    (λ stays answer counted. record { xid = 2; heard = inl (refl, refl, refl); answered = inl (refl, refl, refl, refl, refl, refl) },
-    (tt,
-    (tt,
-    (tt,
-    (λ stands. refl,
-    (tt,
-    (tt,
-    (tt,
-    (λ stays answer counted. record { xid = 1; heard = inl (refl, refl, refl); answered = inl (refl, refl, refl, refl, refl, refl) },
-    (tt,
-    (tt,
-    (tt,
-    (λ stands. refl,
-    (tt,
-    (tt,
-    (tt,
-    tt)))))))))))))))))))))))))))))))))))))))))))))))))))))
+    (λ stays answer counted. record { xid = 5; heard = inl (refl, refl, refl); answered = inl (refl, refl, refl, refl, refl) })
+    then tt
+    then tt
+    then tt
+    then tt
+    then tt
+    then tt
+    then tt
+    then (λ stays answer. never answer)
+    then tt
+    then (λ stays answer counted. record { xid = 4; heard = inl (refl, refl, refl); answered = inl (refl, refl, refl, refl, refl, refl) })
+    then tt
+    then tt
+    then tt
+    then (λ stands. refl)
+    then tt
+    then tt
+    then tt
+    then (λ stays answer counted. refl)
+    then tt
+    then (λ stays answer counted. record { xid = 3; heard = inl (refl, refl, refl); answered = inl (refl, refl, refl, refl, refl, refl) })
+    then tt
+    then tt
+    then tt
+    then (λ stands. refl)
+    then tt
+    then tt
+    then tt
+    then (λ stays answer counted. refl)
+    then tt
+    then tt
+    then tt
+    then tt
+    then tt
+    then tt
+    then tt
+    then tt
+    then (λ stays answer counted. record { xid = 2; heard = inl (refl, refl, refl); answered = inl (refl, refl, refl, refl, refl, refl) })
+    then tt
+    then tt
+    then tt
+    then (λ stands. refl)
+    then tt
+    then tt
+    then tt
+    then (λ stays answer counted. record { xid = 1; heard = inl (refl, refl, refl); answered = inl (refl, refl, refl, refl, refl, refl) })
+    then tt
+    then tt
+    then tt
+    then (λ stands. refl)
+    then tt
+    then tt
+    then tt
+    then tt
 
 pub lawful : Lawful 1 past
 lawful = record { messages = messages; acts = acts; recovery = recovery; history = history }

@@ -65,6 +65,11 @@ txn number c xid seen answer = entry.Txn (record { 0 = number }) (who c) (record
 
 -- ---- evidence
 
+-- of a line, and then of those before it
+infixr 3 ◌then◌
+pub ◌then◌ : {A B : Type 0} → A → B → A × B
+a then b = (a, b)
+
 pub up : (a b : ℕ) → leb a b ≡ true → a ≤ b
 up a b fits = leb-true a b fits
 

@@ -1,18 +1,22 @@
 -- Wrong traces, each named after what is wrong with it: the law notices it.
-use Rattle.std.proofs.Common.{ℕ, [], ◌∷◌, inl, inr, ⊎_elim, refl, sym, ap, subst, ◌∙◌, ◌≡◌, ◌≢◌, ◌⊎◌, Bool, false, Option, eqb, arith, Some, None}
+use Rattle.std.proofs.Common.{ℕ, [], ◌∷◌, inl, inr, ⊎_elim, refl, sym, ap, subst, ◌∙◌, ◌≡◌, ◌≢◌, ◌⊎◌, Bool, false, Option, eqb, arith, Some, None, pos}
 use Rattle.std.specs.Prelude.{codes}
 use Rattle.lu_base.specs.declared.ids.Node.TheVariants.{Client, Target}
 use Rattle.lu_msg.specs.declared.answers.Answer.TheVariants as told
 use Rattle.lu_msg.specs.declared.answers.Errno.TheVariants.{ENOENT, EEXIST, EIO}
 use Rattle.lu_msg.specs.declared.calls.Call.TheVariants as call
 use Rattle.lu_msg.specs.declared.operations.Op.TheVariants as op
+use Rattle.lu_msg.specs.declared.messages.Message.TheVariants as message
 use Rattle.lu_trace.specs.declared.entries.Entry.TheVariants as entry
 use Rattle.lu_laws.specs.Pasts.{Past}
 use Rattle.lu_laws.specs.Messages.{Messages}
 use Rattle.lu_laws.specs.Acts.{Acts}
 use Rattle.lu_laws.specs.Recovery.{Recovery}
 use Rattle.lu_laws.specs.History.{History}
-use Rattle.lu_laws.proofs.Words.{number, gone, turn, client, target, who, first, request, reply, sends, heard, txn, never, differ}
+use Rattle.lu_base.specs.declared.locks.Mode.TheVariants.{PR}
+use Rattle.lu_base.specs.declared.locks.Policy.TheVariants.{Range}
+use Rattle.lu_laws.proofs.Words.{number, gone, turn, client, target, who, first, request, reply, sends, heard, txn, up, never, differ}
+use Rattle.std.specs.Prelude.{slice_index_or}
 use Rattle.std.proofs.Math.Nat.{lt_irrefl}
 use Rattle.lu_base.specs.declared.ids.At.{At}
 use Rattle.lu_msg.specs.declared.answers.Answer.{Answer}
@@ -54,6 +58,11 @@ bad_at c (Some begun) = is_bad c begun.before begun.call
 abbrev inode : Answer → ℕ
 inode (told.Made fid) = fid.0
 inode _ = 0
+
+-- the first byte of a content
+abbrev byte : Answer → ℕ
+byte (told.Content bytes) = slice_index_or bytes 0 0
+byte _ = 0
 
 -- ---- the traces, the newest line first
 
@@ -350,6 +359,139 @@ refused_and_done_past =
 pub refused_and_done : History 1 refused_and_done_past → ⊥
 refused_and_done h = gone (h.0 refl)
 
+-- the turn of a transaction is named that a close has lost
+abbrev pub told_names_a_lost_transaction_past : Past
+told_names_a_lost_transaction_past =
+    client 7 0 (entry.Told 0 (turn 2 (Target 0)) (told.Made (record { 0 = (first 1) })))
+    ∷ client 7 0 (heard 0 1)
+    ∷ client 7 0 (entry.Take 2)
+    ∷ target 6 0 entry.Close
+    ∷ target 6 0 (entry.Back (who 0))
+    ∷ target 6 0 (entry.Take 4)
+    ∷ client 5 0 (sends 4 (Target 0) (message.Word (who 0) 2 0 0 []))
+    ∷ client 5 0 (entry.Take 3)
+    ∷ target 4 0 (sends 3 (Client 0) (message.Up 2))
+    ∷ target 4 0 (entry.Boot 2)
+    ∷ target 3 0 entry.Crash
+    ∷ target 2 0 (sends 2 (Client 0) (reply 0 1 (first 1) [] (turn 2 (Target 0)) (told.Made (record { 0 = (first 1) }))))
+    ∷ target 2 0 (txn (first 1) 0 1 [] (told.Made (record { 0 = (first 1) })))
+    ∷ target 2 0 (entry.Take 1)
+    ∷ client 1 0 (sends 1 (Target 0) (request 0 1 0 (op.Mkdir (codes "a" ∷ []))))
+    ∷ client 1 0 (entry.Begin 0 (call.Mkdir (codes "a" ∷ [])))
+    ∷ []
+
+pub told_names_a_lost_transaction : Acts told_names_a_lost_transaction_past → ⊥
+told_names_a_lost_transaction h = elsewhere ((h.0).acts refl).acts (apart _ _ refl) (λ a. ⊎_elim (λ act. absurd act) (λ txn. one_of txn (λ e. gone e.4)) a.acted)
+
+-- a transaction names one that a close has lost
+abbrev pub lost_transaction_seen_past : Past
+lost_transaction_seen_past =
+    target 8 0 (txn (number 2 1) 0 1 ((first 1) ∷ []) (told.Made (record { 0 = (number 2 1) })))
+    ∷ target 8 0 (entry.Take 5)
+    ∷ client 7 0 (sends 5 (Target 0) (message.Request (record { who = (who 0); boot = 2; xid = (record { 0 = 1 }); tag = 0; op = (op.Mkdir (codes "a" ∷ [])) })))
+    ∷ target 6 0 entry.Close
+    ∷ target 6 0 (entry.Back (who 0))
+    ∷ target 6 0 (entry.Take 4)
+    ∷ client 5 0 (sends 4 (Target 0) (message.Word (who 0) 2 0 0 []))
+    ∷ client 5 0 (entry.Take 3)
+    ∷ target 4 0 (sends 3 (Client 0) (message.Up 2))
+    ∷ target 4 0 (entry.Boot 2)
+    ∷ target 3 0 entry.Crash
+    ∷ target 2 0 (sends 2 (Client 0) (reply 0 1 (first 1) [] (turn 2 (Target 0)) (told.Made (record { 0 = (first 1) }))))
+    ∷ target 2 0 (txn (first 1) 0 1 [] (told.Made (record { 0 = (first 1) })))
+    ∷ target 2 0 (entry.Take 1)
+    ∷ client 1 0 (sends 1 (Target 0) (request 0 1 0 (op.Mkdir (codes "a" ∷ []))))
+    ∷ client 1 0 (entry.Begin 0 (call.Mkdir (codes "a" ∷ [])))
+    ∷ []
+
+pub lost_transaction_seen : Recovery 1 lost_transaction_seen_past → ⊥
+lost_transaction_seen h = let is = (h.0).sees in absurd (cc)
+
+-- after a close that keeps a transaction its request makes another one
+abbrev pub executed_while_another_stands_past : Past
+executed_while_another_stands_past =
+    target 9 0 (txn (number 2 1) 0 1 ((first 1) ∷ []) (told.Made (record { 0 = (number 2 1) })))
+    ∷ target 9 0 (entry.Take 1)
+    ∷ target 8 0 entry.Close
+    ∷ target 8 0 (entry.Back (who 0))
+    ∷ target 8 0 (entry.Take 5)
+    ∷ target 7 0 (entry.Take 4)
+    ∷ client 6 0 (sends 5 (Target 0) (message.Word (who 0) 2 1 0 []))
+    ∷ client 6 0 (sends 4 (Target 0) (message.Replay (record { who = (who 0); boot = 2; txn = (record { 0 = (first 1) }); xid = (record { 0 = 1 }); tag = 0; seen = []; op = (op.Mkdir (codes "a" ∷ [])) })))
+    ∷ client 6 0 (entry.Take 3)
+    ∷ target 5 0 (sends 3 (Client 0) (message.Up 2))
+    ∷ target 5 0 (entry.Boot 2)
+    ∷ target 4 0 entry.Crash
+    ∷ client 3 0 (entry.Told 0 (turn 2 (Target 0)) (told.Made (record { 0 = (first 1) })))
+    ∷ client 3 0 (heard 0 1)
+    ∷ client 3 0 (entry.Take 2)
+    ∷ target 2 0 (sends 2 (Client 0) (reply 0 1 (first 1) [] (turn 2 (Target 0)) (told.Made (record { 0 = (first 1) }))))
+    ∷ target 2 0 (txn (first 1) 0 1 [] (told.Made (record { 0 = (first 1) })))
+    ∷ target 2 0 (entry.Take 1)
+    ∷ client 1 0 (sends 1 (Target 0) (request 0 1 0 (op.Mkdir (codes "a" ∷ []))))
+    ∷ client 1 0 (entry.Begin 0 (call.Mkdir (codes "a" ∷ [])))
+    ∷ []
+
+pub executed_while_another_stands : Acts executed_while_another_stands_past → ⊥
+executed_while_another_stands h = let two = h.0 refl in absurd (omega arith)
+
+-- two requests on one object are in flight
+abbrev pub two_on_one_object_past : Past
+two_on_one_object_past =
+    client 2 0 (sends 2 (Target 1) (request 0 2 1 (op.Size (record { fid = (record { 0 = (first 1) }); stripe = 0 }))))
+    ∷ client 2 0 entry.Tick
+    ∷ client 1 0 (sends 1 (Target 1) (request 0 1 0 (op.Enqueue (record { fid = (record { 0 = (first 1) }); stripe = 0 }) PR (record { first = 0; last = 9 }))))
+    ∷ client 1 0 (entry.Begin 0 (call.Mkdir (codes "a" ∷ [])))
+    ∷ []
+
+pub two_on_one_object : Acts two_on_one_object_past → ⊥
+two_on_one_object h = gone ((h.0).objects (up _ _ refl)).0.0
+
+-- a granted lock does not name a transaction that wrote there
+abbrev pub write_not_seen_past : Past
+write_not_seen_past =
+    target 4 1 (sends 3 (Client 1) (reply 1 1 0 [] (turn 4 (Target 1)) (told.Granted (record { 0 = (first 2) }) (record { first = 0; last = 18446744073709551615 }) 1)))
+    ∷ target 4 1 (entry.Grant (record { cookie = (record { 0 = (first 2) }); resource = (record { fid = (record { 0 = (first 1) }); stripe = 0 }); ask = record { who = (who 1); mode = PR; policy = (Range (record { first = 0; last = 18446744073709551615 })) } }))
+    ∷ target 4 1 (entry.Take 2)
+    ∷ client 3 1 (sends 2 (Target 1) (request 1 1 0 (op.Enqueue (record { fid = (record { 0 = (first 1) }); stripe = 0 }) PR (record { first = 0; last = 9 }))))
+    ∷ client 3 1 (entry.Begin 0 (call.Mkdir (codes "a" ∷ [])))
+    ∷ target 2 1 (txn (first 1) 0 1 [] told.Done)
+    ∷ target 2 1 (entry.Take 1)
+    ∷ client 1 0 (sends 1 (Target 1) (request 0 1 0 (op.Put (record { fid = (record { 0 = (first 1) }); stripe = 0 }) (record { 0 = (first 1) }) 0 (104 ∷ []))))
+    ∷ client 1 0 (entry.Begin 0 (call.Mkdir (codes "a" ∷ [])))
+    ∷ []
+
+pub write_not_seen : Recovery 1 write_not_seen_past → ⊥
+write_not_seen h = let is = h.0 refl in absurd (cc)
+
+-- a read is told another byte than was written
+abbrev pub another_byte_read_past : Past
+another_byte_read_past =
+    client 8 0 (entry.Told 0 (turn 8 (Client 0)) (told.Content (105 ∷ [])))
+    ∷ client 8 0 (entry.Begin 0 (call.Read 0 0 9))
+    ∷ client 7 0 (entry.Told 0 (turn 7 (Client 0)) told.Done)
+    ∷ client 7 0 (entry.Begin 0 (call.Write 0 0 (104 ∷ [])))
+    ∷ client 6 0 (entry.Told 0 (turn 5 (Target 0)) (told.Made (record { 0 = (first 1) })))
+    ∷ client 6 0 (heard 0 2)
+    ∷ client 6 0 (entry.Take 4)
+    ∷ target 5 0 (sends 4 (Client 0) (reply 0 2 (first 2) ((first 1) ∷ []) (turn 5 (Target 0)) (told.OpenFile (record { 0 = (first 1) }) (record { 0 = (first 2) }) (record { size = 65536; targets = 1 ∷ [] }))))
+    ∷ target 5 0 (txn (first 2) 0 2 ((first 1) ∷ []) (told.OpenFile (record { 0 = (first 1) }) (record { 0 = (first 2) }) (record { size = 65536; targets = 1 ∷ [] })))
+    ∷ target 5 0 (entry.Take 3)
+    ∷ client 4 0 (sends 3 (Target 0) (request 0 2 0 (op.Open (codes "f" ∷ []))))
+    ∷ client 4 0 (entry.Begin 0 (call.Open 0 (codes "f" ∷ [])))
+    ∷ client 3 0 (entry.Told 0 (turn 2 (Target 0)) (told.Made (record { 0 = (first 1) })))
+    ∷ client 3 0 (heard 0 1)
+    ∷ client 3 0 (entry.Take 2)
+    ∷ target 2 0 (sends 2 (Client 0) (reply 0 1 (first 1) [] (turn 2 (Target 0)) (told.Made (record { 0 = (first 1) }))))
+    ∷ target 2 0 (txn (first 1) 0 1 [] (told.Made (record { 0 = (first 1) })))
+    ∷ target 2 0 (entry.Take 1)
+    ∷ client 1 0 (sends 1 (Target 0) (request 0 1 0 (op.Create (codes "f" ∷ []) 65536 (pos 1))))
+    ∷ client 1 0 (entry.Begin 0 (call.Create (codes "f" ∷ []) (Some (65536, (pos 1)))))
+    ∷ []
+
+pub another_byte_read : History 1 another_byte_read_past → ⊥
+another_byte_read h = differ 104 105 refl (ap byte (h.0 refl refl refl))
+
 abbrev heard_open : Past
 heard_open =
     client 3 0 (heard 0 1)
@@ -389,14 +531,14 @@ written begun = IsWrite object.fid 0 105 0 begun begun.call
 not_opened : ToldOf (who 0) written opened → ⊥
 not_opened h =
     elsewhere {A = IsTold heard_open (who 0) (Client 0) 0 (told.Made (record { 0 = first 1 })) written} {B = ⊥} h
-      (λ told. of_call {Kind = written} (record { at = turn 1 (Client 0); call = call.Open 0 (codes "f" ∷ []); before = [] }) refl told)
-      (λ none. none)
+    (λ told. of_call {Kind = written} (record { at = turn 1 (Client 0); call = call.Open 0 (codes "f" ∷ []); before = [] }) refl told)
+    (λ none. none)
 
 not_written : ToldOf (who 0) written before_put → ⊥
 not_written h =
     elsewhere {A = IsTold wrote (who 0) (Client 0) 0 told.Done written} {B = ToldOf (who 0) written opened} h
-      (λ told. differ 104 105 refl (same_some (of_call {Kind = written} (record { at = turn 4 (Client 0); call = call.Write 0 0 (104 ∷ []); before = opened }) refl told).2))
-      not_opened
+    (λ told. differ 104 105 refl (same_some (of_call {Kind = written} (record { at = turn 4 (Client 0); call = call.Write 0 0 (104 ∷ []); before = opened }) refl told).2))
+    not_opened
 
 abbrev put : Op
 put = op.Put object (record { 0 = first 1 }) 0 (105 ∷ [])

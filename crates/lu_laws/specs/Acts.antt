@@ -1,4 +1,5 @@
--- Law of acts: each call acts once, between its begin and its answer. `out` are the lives that are gone in the whole
+-- Law of acts: each call acts once, between its begin and its answer (Lustre Operations Manual, recovery: a request that is
+-- sent again isn't executed again; what a refusal names is this project's profile). `out` are the lives that are gone in the whole
 -- trace, `lost` (of a target and a number) the transactions that don't stand at its end.
 use Rattle.std.specs.Prelude.{◌≡◌, ◌≢◌, ℕ, suc, ◌<◌, ◌≤◌, Bool, true, false, not, ◌==◌, ◌&&◌, ◌||◌, ◌⊎◌, if◌then◌else◌, Option, Some, None, List, [], ◌∷◌, length}
 use Rattle.lu_base.specs.declared.ids.At.{At}

@@ -1,15 +1,16 @@
 -- A target's boots, what it has committed, and which lives have slots there and are back (Lustre Operations Manual,
 -- recovery; the count of what a life hands in is this project's profile).
-use Rattle.std.specs.Prelude.{ℕ, max, Bool, true, false, not, ◌==◌, ◌&&◌, ◌||◌, nat_eq, nat_le, if◌then◌else◌, Option, Some, List, [], ◌∷◌, length}
+use Rattle.std.specs.Prelude.{ℕ, max, Bool, true, false, not, ◌==◌, ◌&&◌, ◌||◌, nat_eq, nat_le, if◌then◌else◌, Option, Some, List, [], ◌∷◌, length, None}
 use Rattle.std.specs.List.{list_any}
 use Rattle.lu_base.specs.declared.ids.Who.{Who}
 use Rattle.lu_msg.specs.declared.messages.Message.{Message}
-use Rattle.lu_msg.specs.declared.messages.Message.TheVariants.{Replay, Lock, Word, Join, Reply}
+use Rattle.lu_msg.specs.declared.messages.Message.TheVariants.{Replay, Lock, Word, Join}
+use Rattle.lu_msg.specs.declared.messages.Reply.{Reply as ReplyOf}
 use Rattle.lu_trace.specs.declared.entries.Entry.TheVariants.{Take, Heard, Txn, Commit, Boot, Joined}
 use Rattle.lu_machine.specs.Tree.{same_life}
-use Rattle.lu_laws.specs.Pasts.{Past, is_client, is_target}
-use Rattle.lu_laws.specs.Sends.{message_of, took}
-use Rattle.lu_laws.specs.Lives.{life, is_evicted}
+use Rattle.lu_laws.specs.Pasts.{Past, is_target}
+use Rattle.lu_laws.specs.Sends.{message_of, reply_in}
+use Rattle.lu_laws.specs.Lives.{is_by, is_evicted}
 
 -- the present boot of a target: 1 before its first `boot` line
 abbrev pub boot : ℕ → Past → ℕ
@@ -96,15 +97,15 @@ is_back t past who =
 
 -- ---- what a life heard
 
-abbrev pub carries : ℕ → Option Message → Bool
-carries n (Some (Reply r)) = r.txn.0 == n
-carries n _ = false
+abbrev pub carries : ℕ → Option ReplyOf → Bool
+carries n None = false
+carries n (Some r) = r.txn.0 == n
 
 -- the life heard a reply of the target that carries this transaction's number
 abbrev pub heard_number : ℕ → Who → ℕ → Past → Bool
 heard_number t who n [] = false
 heard_number t who n (l ∷ past) =
     elim l.entry [
-      | Heard target xid ↦ if is_client who.client l.at.node && life who.client past == who.life && target.0 == t && carries n (took past l.at) then true else heard_number t who n past
+      | Heard target xid ↦ if is_by who past l.at.node && (target.0 == t && carries n (reply_in past l.at t who xid.0)) then true else heard_number t who n past
       | _ ↦ heard_number t who n past
     ]

@@ -1,4 +1,5 @@
--- The calls of a client: the call that stands in a slot, the handles, and the operation that a call becomes.
+-- The calls of a client: the call that stands in a slot, the handles, and the operation that a call becomes (this project's
+-- profile; POSIX.1, open file descriptions).
 use Rattle.std.specs.Prelude.{ℕ, Bool, false, not, ◌==◌, ◌&&◌, ◌||◌, is_some, if◌then◌else◌, Option, Some, None, [], ◌∷◌, pos}
 use Rattle.std.specs.Option.{option_map}
 use Rattle.lu_base.specs.declared.ids.At.{At}
@@ -11,10 +12,10 @@ use Rattle.lu_msg.specs.declared.calls.Call.{Call}
 use Rattle.lu_msg.specs.declared.calls.Call.TheVariants as call
 use Rattle.lu_msg.specs.declared.operations.Op.{Op}
 use Rattle.lu_msg.specs.declared.operations.Op.TheVariants as op
-use Rattle.lu_trace.specs.declared.entries.Entry.TheVariants.{Begin, Told, Life, Heard, Txn}
+use Rattle.lu_trace.specs.declared.entries.Entry.TheVariants.{Begin, Told, Heard, Txn}
 use Rattle.lu_machine.specs.Tree.{same_life}
 use Rattle.lu_laws.specs.Pasts.{Past, is_client, is_target, same_turn}
-use Rattle.lu_laws.specs.Lives.{who_is}
+use Rattle.lu_laws.specs.Lives.{who_is, is_by}
 
 -- a call that was begun: in which turn, and the past before its `begin`
 pub record Begun : Type 0 where
@@ -71,16 +72,19 @@ abbrev pub begun_binding : ℕ → Call → Option Binding → Option Binding
 begun_binding h (call.Close other) old = if other == h then None else old
 begun_binding h _ old = old
 
--- what a handle is bound to: by the last `open` of it that was told `ok`, until a `close` of it begins or the life ends
-abbrev pub binding : ℕ → ℕ → Past → Option Binding
-binding c h [] = None
-binding c h (l ∷ past) =
+-- what a handle of a life is bound to: by its last `open` that was told `ok`, until a `close` of it begins
+abbrev pub binding : Who → ℕ → Past → Option Binding
+binding who h [] = None
+binding who h (l ∷ past) =
     elim l.entry [
-      | Begin slot call ↦ if is_client c l.at.node then begun_binding h call (binding c h past) else binding c h past
-      | Told slot turn answer ↦ if is_client c l.at.node then told_binding h (option_map (λ b. b.call) (open_call c slot past)) answer (number_heard past turn (who_is c past) (heard_in past l.at)) (binding c h past) else binding c h past
-      | Life who ↦ if is_client c l.at.node then None else binding c h past
-      | _ ↦ binding c h past
+      | Begin slot call ↦ if is_by who past l.at.node then begun_binding h call (binding who h past) else binding who h past
+      | Told slot turn answer ↦ if is_by who past l.at.node then told_binding h (option_map (λ b. b.call) (open_call who.client slot past)) answer (number_heard past turn who (heard_in past l.at)) (binding who h past) else binding who h past
+      | _ ↦ binding who h past
     ]
+
+-- of the life that a client has after the past
+abbrev pub bound_to : ℕ → Past → ℕ → Option Binding
+bound_to c past h = binding (who_is c past) h past
 
 abbrev pub opens_it : ℕ → Call → Bool
 opens_it h (call.Open other path) = other == h
@@ -96,13 +100,13 @@ is_opening c h past = opens h (open_call c 0 past) || opens h (open_call c 1 pas
 
 -- a call on a handle that isn't bound, or an `open` of one that is bound or being opened
 abbrev pub is_bad : ℕ → Past → Call → Bool
-is_bad c past (call.Open h path) = is_some (binding c h past) || is_opening c h past
-is_bad c past (call.Close h) = not (is_some (binding c h past))
-is_bad c past (call.Read h offset count) = not (is_some (binding c h past))
-is_bad c past (call.Write h offset bytes) = not (is_some (binding c h past))
-is_bad c past (call.Cut h size) = not (is_some (binding c h past))
-is_bad c past (call.Flush h) = not (is_some (binding c h past))
-is_bad c past (call.Glimpse h) = not (is_some (binding c h past))
+is_bad c past (call.Open h path) = is_some (bound_to c past h) || is_opening c h past
+is_bad c past (call.Close h) = not (is_some (bound_to c past h))
+is_bad c past (call.Read h offset count) = not (is_some (bound_to c past h))
+is_bad c past (call.Write h offset bytes) = not (is_some (bound_to c past h))
+is_bad c past (call.Cut h size) = not (is_some (bound_to c past h))
+is_bad c past (call.Flush h) = not (is_some (bound_to c past h))
+is_bad c past (call.Glimpse h) = not (is_some (bound_to c past h))
 is_bad c past _ = false
 
 -- ---- operations
@@ -136,8 +140,8 @@ operation_on _ handles = None
 
 -- the operation of a call of a client: handles are those at its `begin`
 abbrev pub operation : ℕ → Begun → Option Op
-operation c begun = operation_on begun.call (λ h. binding c h begun.before)
+operation c begun = operation_on begun.call (bound_to c begun.before)
 
 -- the file of a call on bytes, by its handle at its `begin`
 abbrev pub file_of : ℕ → Begun → ℕ → Option Fid
-file_of c begun h = option_map (λ b. b.fid) (binding c h begun.before)
+file_of c begun h = option_map (λ b. b.fid) (bound_to c begun.before h)

@@ -1,7 +1,7 @@
 -- The history of a trace: the metadata target's standing transactions; the calls that lives which aren't gone were told
 -- in the turn in which they acted; and of lives that are gone what reached the objects. The plain machine over it is a
 -- fold over the lines. What acted at the metadata target without a transaction changes nothing of it and is left out.
-use Rattle.std.specs.Prelude.{ℕ, zero, suc, Bool, true, false, not, ◌&&◌, if◌then◌else◌, Option, Some, None, [], ◌∷◌}
+use Rattle.std.specs.Prelude.{◌≡◌, ℕ, zero, suc, Bool, true, false, not, ◌&&◌, if◌then◌else◌, Option, Some, None, [], ◌∷◌}
 use Rattle.std.specs.Option.{option_map}
 use Rattle.lu_base.specs.declared.ids.At.{At}
 use Rattle.lu_base.specs.declared.ids.Fid.{Fid}
@@ -99,3 +99,7 @@ after_item osts m (Some item) = next osts m item
 abbrev pub machine_of : (Who → Bool) → (ℕ → ℕ → Bool) → ℕ → Past → Machine
 machine_of out lost osts [] = start
 machine_of out lost osts (l ∷ past) = after_item osts (machine_of out lost osts past) (item_at out lost past l.at l.entry)
+
+-- leaving it out is right: under no number an operation on names changes nothing of the machine
+abbrev pub ActsLeave : Type 0
+ActsLeave = (osts : ℕ) (m : Machine) (who : Who) (o : Op) → next osts m (record { who = who; number = none; deed = Names o }) ≡ m

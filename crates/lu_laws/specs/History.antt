@@ -1,5 +1,6 @@
 -- Law of history: what clients are told is what the plain machine answers, one act after another in the order of the
--- lines; each transaction that stands is one for the machine too; and what reaches an object was written or cut by its life.
+-- lines; each transaction that stands is one for the machine too; and what reaches an object was written or cut by its life
+-- (POSIX.1, for what names and bytes mean; that one order of acts explains all is this project's profile).
 use Rattle.std.specs.Prelude.{◌≡◌, ℕ, zero, suc, Bool, true, false, ◌⊎◌, Option, Some, None, [], ◌∷◌}
 use Rattle.lu_base.specs.declared.ids.At.{At}
 use Rattle.lu_base.specs.declared.ids.Node.{Node}

@@ -14,3 +14,4 @@ pub mod Pieces
 pub mod Histories
 pub mod History
 pub mod Laws
+pub mod SoFar

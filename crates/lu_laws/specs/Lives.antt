@@ -1,6 +1,7 @@
 -- The lives of clients: a client's life is 1 until a `life` line of its own names another. A life is gone where some
 -- target evicted it.
-use Rattle.std.specs.Prelude.{ℕ, Bool, true, false, ◌&&◌, if◌then◌else◌, [], ◌∷◌}
+use Rattle.std.specs.Prelude.{ℕ, Bool, true, false, ◌==◌, ◌&&◌, if◌then◌else◌, [], ◌∷◌}
+use Rattle.lu_base.specs.declared.ids.Node.{Node}
 use Rattle.lu_base.specs.declared.ids.Who.{Who}
 use Rattle.lu_trace.specs.declared.entries.Entry.TheVariants.{Life, Evict}
 use Rattle.lu_machine.specs.Tree.{same_life}
@@ -13,6 +14,10 @@ life c (l ∷ past) = elim l.entry [ Life who ↦ if is_client c l.at.node then 
 -- the client with its present life
 abbrev pub who_is : ℕ → Past → Who
 who_is c past = record { client = c; life = life c past }
+
+-- a line after the past, at this node, is that life's
+abbrev pub is_by : Who → Past → Node → Bool
+is_by who past node = is_client who.client node && life who.client past == who.life
 
 -- the target evicted that life
 abbrev pub is_evicted : ℕ → Past → Who → Bool

@@ -1,5 +1,6 @@
 -- Law of messages. Messages are numbered in the order in which they are sent, and what a node takes was sent to it before.
--- Turns stand in order. A call begins on a free slot, and what is told belongs to a call that isn't told yet. The dead do nothing.
+-- Turns stand in order. A call begins on a free slot, and what is told belongs to a call that isn't told yet. The dead do nothing
+-- (this project's profile).
 use Rattle.std.specs.Prelude.{◌≡◌, ℕ, suc, false, Some, None, [], ◌∷◌}
 use Rattle.lu_base.specs.declared.ids.At.{At}
 use Rattle.lu_base.specs.declared.ids.Node.{Node}

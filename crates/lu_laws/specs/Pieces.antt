@@ -14,12 +14,13 @@ use Rattle.lu_msg.specs.declared.calls.Call.TheVariants as call
 use Rattle.lu_msg.specs.declared.operations.Op.{Op}
 use Rattle.lu_msg.specs.declared.operations.Op.TheVariants as op
 use Rattle.lu_msg.specs.declared.messages.Message.{Message}
-use Rattle.lu_msg.specs.declared.messages.Message.TheVariants.{Request, Reply}
+use Rattle.lu_msg.specs.declared.messages.Message.TheVariants.{Request}
+use Rattle.lu_msg.specs.declared.messages.Reply.{Reply as ReplyOf}
 use Rattle.lu_trace.specs.declared.entries.Entry.TheVariants.{Send, Heard, Told}
 use Rattle.lu_machine.specs.Tree.{same_fid}
-use Rattle.lu_laws.specs.Pasts.{Past, is_client}
-use Rattle.lu_laws.specs.Sends.{took}
-use Rattle.lu_laws.specs.Lives.{life}
+use Rattle.lu_laws.specs.Pasts.{Past}
+use Rattle.lu_laws.specs.Sends.{reply_in}
+use Rattle.lu_laws.specs.Lives.{life, is_by}
 use Rattle.lu_laws.specs.Requests.{or_else, is_of, object}
 use Rattle.lu_laws.specs.Calls.{Begun, open_call, file_of}
 
@@ -29,15 +30,15 @@ abbrev pub answered_layout : Fid → Answer → Option Raid0
 answered_layout fid (told.OpenFile other number layout) = if same_fid other fid then Some layout else None
 answered_layout fid _ = None
 
-abbrev pub carried_layout : Fid → Option Message → Option Raid0
-carried_layout fid (Some (Reply r)) = answered_layout fid r.answer
-carried_layout fid _ = None
+abbrev pub carried_layout : Fid → Option ReplyOf → Option Raid0
+carried_layout fid None = None
+carried_layout fid (Some r) = answered_layout fid r.answer
 
 abbrev pub layout_heard : Who → Fid → Past → Option Raid0
 layout_heard who fid [] = None
 layout_heard who fid (l ∷ past) =
     elim l.entry [
-      | Heard target xid ↦ if is_client who.client l.at.node && life who.client past == who.life then or_else (layout_heard who fid past) (carried_layout fid (took past l.at)) else layout_heard who fid past
+      | Heard target xid ↦ if is_by who past l.at.node then or_else (layout_heard who fid past) (carried_layout fid (reply_in past l.at target.0 who xid.0)) else layout_heard who fid past
       | _ ↦ layout_heard who fid past
     ]
 

@@ -1,5 +1,5 @@
 -- Law of recovery, as far as it stands: the numbers of transactions, and the seen numbers that transactions, replies and
--- grants carry. What a target commits, who is back, and what a close keeps, evicts and restores isn't said yet.
+-- grants carry (Lustre Operations Manual, recovery, for the numbers; seen numbers are this project's profile). What a target commits, who is back, and what a close keeps, evicts and restores isn't said yet.
 use Rattle.std.specs.Prelude.{◌≡◌, ℕ, ◌/◌, ◌^◌, ◌<◌, Bool, true, false, ◌==◌, ◌&&◌, ◌||◌, if◌then◌else◌, Option, Some, None, List, [], ◌∷◌}
 use Rattle.lu_base.specs.declared.ids.At.{At}
 use Rattle.lu_base.specs.declared.ids.Node.{Node}
@@ -15,7 +15,7 @@ use Rattle.lu_trace.specs.declared.entries.Entry.{Entry}
 use Rattle.lu_trace.specs.declared.entries.Entry.TheVariants.{Send, Txn}
 use Rattle.lu_machine.specs.Tree.{same_life}
 use Rattle.lu_laws.specs.Pasts.{Past, same_turn}
-use Rattle.lu_laws.specs.Sends.{took}
+use Rattle.lu_laws.specs.Sends.{Sending, took}
 use Rattle.lu_laws.specs.Requests.{asked}
 use Rattle.lu_laws.specs.Boots.{boot, greatest}
 use Rattle.lu_laws.specs.Seen.{touches_of, seen_by, lock_with, lock_touches}
@@ -29,9 +29,13 @@ pub record TxnAt (osts : ℕ) (past : Past) (t : ℕ) (number : TxnOf) (who : Wh
 -- ---- replies, where they are executed
 
 -- the answer of a lock's holder to a glimpse of that life and request
-abbrev pub is_size_for : Who → ℕ → Option Message → Bool
-is_size_for who x (Some (message.Size s)) = same_life s.for_who who && s.xid.0 == x
-is_size_for who x _ = false
+abbrev pub answers_size : Who → ℕ → Message → Bool
+answers_size who x (message.Size s) = same_life s.for_who who && s.xid.0 == x
+answers_size who x _ = false
+
+abbrev pub is_size_for : Who → ℕ → Option Sending → Bool
+is_size_for who x None = false
+is_size_for who x (Some s) = answers_size who x s.message
 
 -- the turn is the one that the reply names, or took the holder's answer that it passes on; a kept reply that is sent again names
 -- an earlier turn

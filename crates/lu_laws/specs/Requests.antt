@@ -13,8 +13,8 @@ use Rattle.lu_msg.specs.declared.messages.Message.{Message}
 use Rattle.lu_msg.specs.declared.messages.Message.TheVariants.{Request}
 use Rattle.lu_trace.specs.declared.entries.Entry.TheVariants.{Send, Heard}
 use Rattle.lu_machine.specs.Tree.{same_life}
-use Rattle.lu_laws.specs.Pasts.{Past, is_client, is_target}
-use Rattle.lu_laws.specs.Lives.{life}
+use Rattle.lu_laws.specs.Pasts.{Past, is_target}
+use Rattle.lu_laws.specs.Lives.{is_by}
 
 -- ---- the first request
 
@@ -50,7 +50,7 @@ abbrev pub has_heard : ℕ → Who → ℕ → Past → Bool
 has_heard t who x [] = false
 has_heard t who x (l ∷ past) =
     elim l.entry [
-      | Heard target xid ↦ if is_client who.client l.at.node && life who.client past == who.life && target.0 == t && xid.0 == x then true else has_heard t who x past
+      | Heard target xid ↦ if is_by who past l.at.node && target.0 == t && xid.0 == x then true else has_heard t who x past
       | _ ↦ has_heard t who x past
     ]
 
@@ -71,7 +71,7 @@ in_flight t who [] = []
 in_flight t who (l ∷ past) =
     elim l.entry [
       | Send number to message ↦ flight_with (in_flight t who past) t who past to message
-      | Heard target xid ↦ if is_client who.client l.at.node && life who.client past == who.life && target.0 == t then without_number xid.0 (in_flight t who past) else in_flight t who past
+      | Heard target xid ↦ if is_by who past l.at.node && target.0 == t then without_number xid.0 (in_flight t who past) else in_flight t who past
       | _ ↦ in_flight t who past
     ]
 

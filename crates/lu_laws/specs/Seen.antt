@@ -14,16 +14,16 @@ use Rattle.lu_msg.specs.declared.answers.Answer.{Answer}
 use Rattle.lu_msg.specs.declared.answers.Answer.TheVariants as told
 use Rattle.lu_msg.specs.declared.operations.Op.{Op}
 use Rattle.lu_msg.specs.declared.operations.Op.TheVariants as op
-use Rattle.lu_msg.specs.declared.messages.Message.{Message}
-use Rattle.lu_msg.specs.declared.messages.Message.TheVariants as message
+use Rattle.lu_msg.specs.declared.messages.Reply.{Reply as ReplyOf}
+use Rattle.lu_msg.specs.declared.messages.GrantNotice.{GrantNotice}
 use Rattle.lu_part.specs.declared.parts.Part.{Part}
 use Rattle.lu_part.specs.declared.parts.Part.TheVariants.{Bytes}
 use Rattle.lu_trace.specs.declared.entries.Entry.TheVariants.{Txn, Grant, Restore, Heard, Hold}
 use Rattle.lu_machine.specs.Footprint.{touches, writes}
 use Rattle.lu_machine.specs.Seen.{meet}
-use Rattle.lu_laws.specs.Pasts.{Past, is_client, is_target}
-use Rattle.lu_laws.specs.Sends.{took}
-use Rattle.lu_laws.specs.Lives.{life}
+use Rattle.lu_laws.specs.Pasts.{Past, is_target}
+use Rattle.lu_laws.specs.Sends.{reply_in, grant_in}
+use Rattle.lu_laws.specs.Lives.{is_by}
 use Rattle.lu_laws.specs.Requests.{asked}
 use Rattle.lu_laws.specs.Boots.{committed}
 use Rattle.lu_laws.specs.Lost.{is_lost}
@@ -98,19 +98,19 @@ lock_touches (Some lock) = policy_touches lock.resource lock.ask.policy
 
 -- ---- what a life saw: what a reply of the target that it heard names, and a grant that it took when it came to hold the lock
 
-abbrev pub names_seen : ℕ → Option Message → Bool
-names_seen n (Some (message.Reply r)) = list_any (nat_eq n) r.seen
-names_seen n _ = false
+abbrev pub reply_names : ℕ → Option ReplyOf → Bool
+reply_names n None = false
+reply_names n (Some r) = list_any (nat_eq n) r.seen
 
-abbrev pub grants_seen : ℕ → Option Message → Bool
-grants_seen n (Some (message.Grant g)) = list_any (nat_eq n) g.seen
-grants_seen n _ = false
+abbrev pub grant_names : ℕ → Option GrantNotice → Bool
+grant_names n None = false
+grant_names n (Some g) = list_any (nat_eq n) g.seen
 
 abbrev pub saw : ℕ → Who → ℕ → Past → Bool
 saw t who n [] = false
 saw t who n (l ∷ past) =
     elim l.entry [
-      | Heard target xid ↦ if is_client who.client l.at.node && life who.client past == who.life && target.0 == t && names_seen n (took past l.at) then true else saw t who n past
-      | Hold target cookie ↦ if is_client who.client l.at.node && life who.client past == who.life && target.0 == t && grants_seen n (took past l.at) then true else saw t who n past
+      | Heard target xid ↦ if is_by who past l.at.node && (target.0 == t && reply_names n (reply_in past l.at t who xid.0)) then true else saw t who n past
+      | Hold target cookie ↦ if is_by who past l.at.node && (target.0 == t && grant_names n (grant_in past l.at t who cookie.0)) then true else saw t who n past
       | _ ↦ saw t who n past
     ]

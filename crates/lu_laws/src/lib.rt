@@ -3,3 +3,5 @@
 //!
 //! The definitions stand in `specs/`, one notion a file; `Laws` has the laws together.
 #![tactic(auto)]
+
+pub mod theorems;
