@@ -20,7 +20,7 @@ use Rattle.lu_table.specs.TargetRows.{again}
 use Rattle.lu_table.specs.Printed.{printed}
 use Rattle.lu_table.specs.Runs.{Head}
 use Rattle.lu_laws.specs.Pasts.{same_turn, same_node}
-use Rattle.lu_laws.specs.Sends.{message_of, took}
+use Rattle.lu_laws.specs.Sends.{sending, took}
 use Rattle.lu_laws.specs.Requests.{asked}
 use Rattle.lu_laws.specs.Seen.{touches_of, seen_by}
 use Rattle.lu_laws.specs.Recovery as law
@@ -100,17 +100,17 @@ kept_acted who tag k (l ∷ past) s = by l.entry s (kept_acted who tag k past)
 
 -- ---- no target asks another how long a file is
 
-not_size : (head : Head) (past : List Line) (node to : Node) (m : Message) (who : Who) (x : ℕ) → SendOk head past node to m → is_size_for who x (Some m) ≡ false
+not_size : (head : Head) (past : List Line) (node to : Node) (m : Message) (who : Who) (x : ℕ) → SendOk head past node to m → is_size_for who x (Some (record { from = node; to = to; message = m })) ≡ false
 not_size head past (Client c) (Target t) (message.Request r) who x ok = refl
 not_size head past (Target t) (Client c) (message.Reply k) who x ok = refl
 not_size head past node to m who x ok = absurd ok
 
-no_size : (head : Head) (past : List Line) (who : Who) (x n : ℕ) → Grown head past → is_size_for who x (message_of (printed past) n) ≡ false
+no_size : (head : Head) (past : List Line) (who : Who) (x n : ℕ) → Grown head past → is_size_for who x (sending (printed past) n) ≡ false
 no_size head [] who x n g = refl
 no_size head (l ∷ past) who x n g = by l.entry g.0.ok (no_size head past who x n g.1)
   where
-    by : (e : Entry) → EntryOk head past l.at l.at.node e → is_size_for who x (message_of (printed past) n) ≡ false → is_size_for who x (message_of (printed (line l.at e ∷ past)) n) ≡ false
-    by (Send to m) ok h = cond_both (nat_eq (count_sent past + 1) n) (Some m) (message_of (printed past) n) (λ o. is_size_for who x o ≡ false) (λ t. not_size head past l.at.node to m who x ok) (λ t. h)
+    by : (e : Entry) → EntryOk head past l.at l.at.node e → is_size_for who x (sending (printed past) n) ≡ false → is_size_for who x (sending (printed (line l.at e ∷ past)) n) ≡ false
+    by (Send to m) ok h = cond_both (nat_eq (count_sent past + 1) n) (Some (record { from = l.at.node; to = to; message = m })) (sending (printed past) n) (λ o. is_size_for who x o ≡ false) (λ t. not_size head past l.at.node to m who x ok) (λ t. h)
     by _ ok h = h
 
 took_no_size : (head : Head) (past : List Line) (who : Who) (x : ℕ) (at : At) → Grown head past → is_size_for who x (took (printed past) at) ≡ false
@@ -118,7 +118,7 @@ took_no_size head [] who x at g = refl
 took_no_size head (l ∷ past) who x at g = by l.entry (took_no_size head past who x at g.1)
   where
     by : (e : Entry) → is_size_for who x (took (printed past) at) ≡ false → is_size_for who x (took (printed (line l.at e ∷ past)) at) ≡ false
-    by (Take n m) h = cond_both (same_turn l.at at) (message_of (printed past) n) (took (printed past) at) (λ o. is_size_for who x o ≡ false) (λ t. no_size head past who x n g.1) (λ t. h)
+    by (Take n m) h = cond_both (same_turn l.at at) (sending (printed past) n) (took (printed past) at) (λ o. is_size_for who x o ≡ false) (λ t. no_size head past who x n g.1) (λ t. h)
     by _ h = h
 
 executed_now : (head : Head) (past : List Line) (at : At) (k : ReplyTo) → Grown head past → is_executed (printed past) at k ≡ true → k.at ≡ at

@@ -154,7 +154,7 @@ good_call c past _ o e = absurd (cc)
 same_operation : (c : ℕ) (b : calls.Begun) (o : Op) → operation_of b.call ≡ Some o → operation c b ≡ Some o
 same_operation c b o = by b.call
   where
-    by : (x : Call) → operation_of x ≡ Some o → calls.operation_on x (λ h. calls.binding c h b.before) ≡ Some o
+    by : (x : Call) → operation_of x ≡ Some o → calls.operation_on x (calls.bound_to c b.before) ≡ Some o
     by (call.Lookup path) e = e
     by (call.Mkdir path) e = e
     by (call.Rmdir path) e = e
