@@ -1,7 +1,7 @@
 -- The transactions of a journal, each with the parts that it writes, and which of them an operation has seen: those
 -- that write something that it touches (this project's profile; Lustre Operations Manual, recovery: dependencies
 -- between the requests of several clients).
-use Rattle.std.specs.Prelude.{ℕ, Bool, List, map, filter}
+use Rattle.std.specs.Prelude.{Option, Some, None, if◌then◌else◌, slice_get, ℕ, Bool, List, map, filter}
 use Rattle.std.specs.List.{list_any}
 use Rattle.lu_part.specs.declared.parts.Part.{Part}
 use Rattle.lu_part.specs.Meets.{meets}
@@ -22,3 +22,10 @@ is_seen touched logged = list_any (λ part. meets_written logged.writes part) to
 -- The numbers of the transactions that an operation has seen which touches these parts.
 abbrev pub seen_by : List Part → List Logged → List ℕ
 seen_by touched transactions = map number (filter (is_seen touched) transactions)
+
+-- The number of the transaction at this place, where the operation has seen it.
+abbrev pub seen_at : List Part → List Logged → ℕ → Option ℕ
+seen_at touched transactions place = at (slice_get transactions place) where
+  at : Option Logged → Option ℕ
+  at None = None
+  at (Some logged) = if is_seen touched logged then Some (number logged) else None

@@ -7,7 +7,8 @@ ghost use Rattle.lu_txn.specs.Logs.{number, seen_by};
 ghost use Rattle.lu_txn.specs.Journals.{JournalState, fresh, count, appended, IsSeen, IsSound};
 ghost use Rattle.lu_txn.specs.declared.journals.TxnError.TheVariants as error;
 
-use super::logs::{Logged, is_seen};
+use super::index::Index;
+use super::logs::{Logged, seen_among};
 use super::slots::{Slot, add_life, keep_reply, slot_of};
 use lu_base::{Memory, Numbers, Txn, Who, Xid};
 use lu_msg::{Op, Reply, Transaction};
@@ -51,6 +52,17 @@ impl fmt::Display for TxnError {
 
 impl Error for TxnError {}
 
+impl From<Memory> for TxnError {
+    ghost use Rattle.std.specs.Prelude.{◌≡◌};
+    ghost use Rattle.lu_txn.specs.declared.journals.TxnError.TheVariants as error;
+
+    ghost from_gives = { λ _ e. e ≡ error.Memory };
+
+    fn from(_error: Memory) -> TxnError {
+        TxnError::Memory
+    }
+}
+
 impl<T: Drop> From<AllocFailed<T>> for TxnError {
     ghost use Rattle.std.specs.Prelude.{◌≡◌};
     ghost use Rattle.lu_txn.specs.declared.journals.TxnError.TheVariants as error;
@@ -74,18 +86,21 @@ pub struct Journal {
     committed: Txn,
     /// Those that aren't committed, in rising number.
     transactions: Vec<Logged>,
+    /// Where the transactions stand by what they write.
+    index: Index,
     /// By client, then by life.
     slots: Vec<Slot>,
 }
 
 impl Model for Journal {
     ghost use Rattle.lu_txn.specs.Journals.{JournalState, IsSound};
+    ghost use Rattle.lu_txn.specs.Indexes.{IsIndexed};
 
     ghost Value = { JournalState };
 
     ghost view = { λ j. record { boot = j.boot; newest = j.newest.0; committed = j.committed.0; transactions = j.transactions.items; slots = j.slots.items } };
 
-    ghost invariant = { λ j. IsSound (record { boot = j.boot; newest = j.newest.0; committed = j.committed.0; transactions = j.transactions.items; slots = j.slots.items }) };
+    ghost invariant = { λ j. IsSound (record { boot = j.boot; newest = j.newest.0; committed = j.committed.0; transactions = j.transactions.items; slots = j.slots.items }) × IsIndexed j.index j.transactions.items };
 }
 
 impl Journal {
@@ -105,6 +120,7 @@ impl Journal {
             newest: Txn(0),
             committed: Txn(0),
             transactions: Vec::new(alloc),
+            index: Index::new(alloc),
             slots,
         })
     }
@@ -151,6 +167,7 @@ impl Journal {
         if slot_of(&self.slots, who).is_none() {
             return Err(TxnError::NoSlot);
         }
+        self.index.add(&writes, self.transactions.len())?;
         let transaction = Transaction {
             txn: number,
             who,
@@ -216,13 +233,9 @@ impl Journal {
         ensures rising { IfOk result IsStrictlyIncreasing }
         ensures sound { IsSound self.now }
     {
-        let mut numbers = Numbers::new(self.alloc);
-        for logged in &self.transactions {
-            if is_seen(logged, touched) {
-                numbers.push(logged.transaction.txn.0)?;
-            }
-        }
-        Ok(numbers)
+        let places = self.index.candidates(touched)?;
+        let numbers = seen_among(self.alloc, &self.transactions, touched, &places)?;
+        Ok(Numbers::from(numbers))
     }
 
     /// The lives that have a slot, by client and then by life, from place 0 on; none past the last.

@@ -1,6 +1,7 @@
 //! A target's journal: its uncommitted transactions, and the replies that it keeps for the lives of clients.
 #![tactic(auto)]
 
+mod index;
 mod journals;
 mod logs;
 mod slots;

@@ -1,10 +1,12 @@
 //! Transactions as a journal keeps them, each with what it writes.
 
-ghost use Rattle.std.specs.Prelude.{◌≡◌, List};
-ghost use Rattle.lu_txn.specs.Logs.{meets_written, is_seen};
+ghost use Rattle.std.specs.Prelude.{◌≡◌, List, IfOk};
+ghost use Rattle.std.specs.List.{filter_map};
+ghost use Rattle.lu_txn.specs.Logs.{meets_written, is_seen, seen_at};
 
 use lu_msg::Transaction;
 use lu_part::{Part, Parts, meets};
+use std::alloc::{AllocError, Global};
 
 /// A transaction, and the parts of the target's contents that it writes.
 #[derive(Debug, Drop)]
@@ -21,11 +23,39 @@ fn meets_written(writes: &[Part], part: &Part) -> bool
 }
 
 /// Whether what was touched meets what this transaction writes.
-pub(crate) fn is_seen(logged: &Logged, touched: &Parts) -> bool
+fn is_seen(logged: &Logged, touched: &Parts) -> bool
     ensures { result ≡ is_seen touched.now logged.now }
 {
     touched
         .as_slice()
         .iter()
         .any(|part| meets_written(logged.writes.as_slice(), part))
+}
+
+/// The numbers of the transactions at these places that are seen by what touches these parts.
+pub(crate) fn seen_among(
+    alloc: Global,
+    transactions: &[Logged],
+    touched: &Parts,
+    places: &[usize],
+) -> Result<Vec<u64>, AllocError>
+    ensures { IfOk result (λ numbers. numbers.items ≡ filter_map (seen_at touched.now transactions.now) places.now) }
+{
+    places
+        .iter()
+        .filter_map(|place| seen_at(transactions, touched, *place))
+        .collect(alloc)
+}
+
+/// The number of the transaction at this place, where what was touched meets what it writes; none where
+/// it doesn't, or no transaction stands there.
+fn seen_at(transactions: &[Logged], touched: &Parts, place: usize) -> Option<u64>
+    ensures { result ≡ seen_at touched.now transactions.now place }
+{
+    let logged = transactions.get(place)?;
+    if is_seen(logged, touched) {
+        Some(logged.transaction.txn.0)
+    } else {
+        None
+    }
 }

@@ -223,6 +223,35 @@ fn bytes_are_seen_where_ranges_share_an_offset(rt: HostRuntime) -> Result<(), Fa
     Ok(())
 }
 
+#[test]
+fn each_kind_of_part_is_found(rt: HostRuntime) -> Result<(), Fail> {
+    let alloc = rt.alloc();
+    let mut journal = Journal::new(alloc, &[A])?;
+    let mut writes = Parts::new(alloc);
+    writes.push(Part::List(Fid(2)))?;
+    writes.push(Part::Attr(Fid(3)))?;
+    writes.push(Part::Layout(Fid(4)))?;
+    writes.push(Part::Parent(Fid(5)))?;
+    let op = mkdir(alloc, b"a")?;
+    let answer = reply(alloc, A, 1, FIRST + 1);
+    journal.append(Txn(FIRST + 1), A, 0, op, writes, answer)?;
+    for (part, count) in [
+        (name(alloc, 2, b"x")?, 1),
+        (Part::List(Fid(2)), 1),
+        (Part::Attr(Fid(3)), 1),
+        (Part::Layout(Fid(4)), 1),
+        (Part::Parent(Fid(5)), 1),
+        (name(alloc, 3, b"x")?, 0),
+        (Part::Attr(Fid(4)), 0),
+        (Part::Layout(Fid(3)), 0),
+        (Part::Parent(Fid(2)), 0),
+        (Part::Bytes(Fid(3), 0, range(0, 9)), 0),
+    ] {
+        assert_eq!(rt; seen(alloc, &journal, part)?.len(), count);
+    }
+    Ok(())
+}
+
 fn range(first: u64, last: u64) -> Extent {
     Extent { first, last }
 }
