@@ -1,4 +1,5 @@
--- The places of transactions, by the buckets in which something that they wrote is filed.
+-- The places of transactions, from 0, by the buckets in which something that they wrote is filed. This is the code's own
+-- way to what was seen, and no part of what a caller sees.
 use Rattle.std.specs.Prelude.{◌≡◌, ℕ, ◌==◌, ◌<◌, Bool, true, List, [], length, unwrap_or, nat_eq, slice_index_or}
 use Rattle.std.specs.List.{list_any, flat_map}
 use Rattle.std.specs.HashMap.{get}

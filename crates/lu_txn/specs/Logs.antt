@@ -1,6 +1,5 @@
 -- The transactions of a journal, each with the parts that it writes, and which of them an operation has seen: those
--- that write something that it touches (this project's profile; Lustre Operations Manual, recovery: dependencies
--- between the requests of several clients).
+-- that write something that meets what it touches (this project's profile).
 use Rattle.std.specs.Prelude.{Option, Some, None, if◌then◌else◌, slice_get, ℕ, Bool, List, map, filter}
 use Rattle.std.specs.List.{list_any}
 use Rattle.lu_part.specs.declared.parts.Part.{Part}
