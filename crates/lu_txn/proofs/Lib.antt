@@ -1,0 +1,4 @@
+pub mod SlotLaws
+pub mod Lookups
+pub mod IndexLaws
+pub mod Soundness

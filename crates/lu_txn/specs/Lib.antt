@@ -1,0 +1,5 @@
+pub mod Slots
+pub mod Logs
+pub mod Buckets
+pub mod Indexes
+pub mod Journals

@@ -1,0 +1,73 @@
+-- Reply slots: for each life that a target serves, and each tag from 0 to 7, the reply to the newest request
+-- (Lustre Operations Manual, recovery, and multiple modifying requests in flight with their tags).
+use Rattle.std.specs.Prelude.{ℕ, ◌==◌, ◌&&◌, ◌||◌, nat_lt, Bool, if◌then◌else◌, List, [], ◌∷◌, replicate, slice_set, slice_get, Option, Some, None, find, map, not}
+use Rattle.std.specs.List.{position_or_len, list_any}
+use Rattle.lu_base.specs.declared.ids.Who.{Who}
+use Rattle.lu_msg.specs.declared.messages.Reply.{Reply}
+use Rattle.lu_txn.specs.declared.slots.Slot.{Slot}
+
+-- The same life.
+abbrev pub same_life : Who → Who → Bool
+same_life a b = a.client == b.client && a.life == b.life
+
+-- The life is one of these.
+abbrev pub is_among : Who → List Who → Bool
+is_among who lives = list_any (λ life. same_life life who) lives
+
+-- Lives are in order by client, then by life.
+abbrev pub is_before : Who → Who → Bool
+is_before earlier later = nat_lt earlier.client later.client || (earlier.client == later.client && nat_lt earlier.life later.life)
+
+-- The slot is that of this life.
+abbrev pub is_of : Who → Slot → Bool
+is_of who slot = same_life slot.who who
+
+-- The slot of this life.
+abbrev pub slot_of : Who → List Slot → Option Slot
+slot_of who slots = find (is_of who) slots
+
+-- The reply that is kept for this life and tag; none where there is no slot, or none was kept.
+abbrev pub in_slot : ℕ → Option Slot → Option Reply
+in_slot tag None = None
+in_slot tag (Some slot) = at (slice_get slot.replies tag) where
+  at : Option (Option Reply) → Option Reply
+  at None = None
+  at (Some reply) = reply
+
+abbrev pub reply_at : Who → ℕ → List Slot → Option Reply
+reply_at who tag slots = in_slot tag (slot_of who slots)
+
+-- The lives that have a slot.
+abbrev pub lives_of : List Slot → List Who
+lives_of slots = map (λ slot. slot.who) slots
+
+-- A slot that has no reply yet.
+abbrev pub empty : Who → Slot
+empty who = record { who = who; replies = replicate 8 None }
+
+-- The slots once this life has one too: a new one stands in its place, without replies.
+abbrev pub with_life : Who → List Slot → List Slot
+with_life who [] = empty who ∷ []
+with_life who (slot ∷ slots) =
+    if is_before slot.who who then slot ∷ with_life who slots
+    else if is_of who slot then slot ∷ slots
+    else empty who ∷ slot ∷ slots
+
+-- A slot once this reply is kept for the tag.
+abbrev pub with_tag : ℕ → Reply → Slot → Slot
+with_tag tag reply slot = record slot { replies = slice_set slot.replies tag (Some reply) }
+
+-- The slots once this reply is kept for this life and tag; the same where the life has no slot.
+abbrev pub with_reply : Who → ℕ → Reply → List Slot → List Slot
+with_reply who tag reply [] = []
+with_reply who tag reply (slot ∷ slots) =
+    if is_of who slot then with_tag tag reply slot ∷ slots
+    else slot ∷ with_reply who tag reply slots
+
+-- The slot's life doesn't come before this one.
+abbrev pub is_past : Who → Slot → Bool
+is_past who slot = not (is_before slot.who who)
+
+-- The place before which all lives come before this one.
+abbrev pub place_for : Who → List Slot → ℕ
+place_for who slots = position_or_len (is_past who) slots

@@ -1,0 +1,13 @@
+//! A target's journal: its uncommitted transactions, and the replies that it keeps for the lives of clients.
+#![tactic(auto)]
+
+mod index;
+mod journals;
+mod logs;
+mod slots;
+#[cfg(test)]
+mod tests;
+
+pub use journals::{Journal, Seen, TxnError};
+pub use logs::Logged;
+pub use slots::Slot;
