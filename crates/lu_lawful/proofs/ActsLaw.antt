@@ -9,7 +9,7 @@ use Rattle.lu_base.specs.declared.ids.Node.TheVariants.{Client, Target}
 use Rattle.lu_base.specs.declared.ids.Who.{Who}
 use Rattle.lu_msg.specs.declared.messages.Reply.{Reply as ReplyTo}
 use Rattle.lu_machine.specs.Tree.{same_life}
-use Rattle.lu_table.specs.Words.{Deed, Flight, Entry, Begin, Busy, Queues, Flies, Send, Take, Tick, Heard, Told, Die, Act, Txn as Made, Line}
+use Rattle.lu_table.specs.Words.{Deed, Flight, Entry, Tick, Heard, Told, Act, Txn as Made, Line}
 use Rattle.lu_table.specs.Printed.{printed}
 use Rattle.lu_table.specs.Runs.{Head}
 use Rattle.lu_laws.specs.Pasts as pasts
@@ -41,16 +41,8 @@ act_acted (l ∷ past) who x a = by l.entry (act_acted past who x) a
     by : (e : Entry) → (ActFor past who x → (d : Deed) × Acted past d × (d.reply.who ≡ who) × (d.reply.xid.0 ≡ x)) → ActFor (line l.at e ∷ past) who x → (d : Deed) × Acted (line l.at e ∷ past) d × (d.reply.who ≡ who) × (d.reply.xid.0 ≡ x)
     by (Act e) h a = ⊎_elim (λ (p : (e.reply.who ≡ who) × (e.reply.xid.0 ≡ x)). (e, inl refl, p.0, p.1)) (λ (p : ActFor past who x). let k = h p in (k.0, inr k.1, k.2, k.3)) a
     by (Made e) h a = let k = h a in (k.0, inr k.1, k.2, k.3)
-    by (Begin slot call) h a = h a
-    by (Busy slot) h a = h a
-    by (Queues t q) h a = h a
-    by (Flies t f) h a = h a
-    by (Send to m) h a = h a
-    by (Take n m) h a = h a
     by Tick h a = h a
-    by (Heard t f r) h a = h a
-    by (Told slot named given) h a = h a
-    by Die h a = h a
+    by _ h a = h a
 
 module _ (lost : ℕ → ℕ → Bool) (who : Who) (x : ℕ) where
   counts : List Line → ℕ
@@ -66,16 +58,8 @@ module _ (lost : ℕ → ℕ → Bool) (who : Who) (x : ℕ) where
           (λ t. let a = and_parts (pasts.is_target 0 l.at.node && same_life d.reply.who who && nat_eq d.reply.xid.0 x) _ t in let b = and_parts (pasts.is_target 0 l.at.node && same_life d.reply.who who) _ a.0 in let c = and_parts (pasts.is_target 0 l.at.node) _ b.0 in absurd (n d (inl refl) (life_is d.reply.who who c.1) (eqb-true d.reply.xid.0 x b.1)))
           (λ t. h (λ e a. n e (inr a)))
       by (Act d) h n = h (λ e a. n e (inr a))
-      by (Begin slot call) h n = h n
-      by (Busy slot) h n = h n
-      by (Queues t q) h n = h n
-      by (Flies t f) h n = h n
-      by (Send to m) h n = h n
-      by (Take k m) h n = h n
       by Tick h n = h n
-      by (Heard t f r) h n = h n
-      by (Told slot named given) h n = h n
-      by Die h n = h n
+      by _ h n = h n
 
   -- at most one transaction, and none beside an act
   pub at_most : (head : Head) (past : List Line) → Grown head past → (standing_count lost 0 who x (printed past) ≤ 1) × (ActFor past who x → standing_count lost 0 who x (printed past) ≡ 0)
@@ -105,16 +89,8 @@ module _ (lost : ℕ → ℕ → Bool) (who : Who) (x : ℕ) where
             (λ (p : ActFor past who x). h.1 p)
             i,
       )
-      by (Begin slot call) ok h = h
-      by (Busy slot) ok h = h
-      by (Queues t q) ok h = h
-      by (Flies t f) ok h = h
-      by (Send to m) ok h = h
-      by (Take k m) ok h = h
       by Tick ok h = h
-      by (Heard t f r) ok h = h
-      by (Told slot named given) ok h = h
-      by Die ok h = h
+      by _ ok h = h
 
 -- ---- an act of the printed past is one of the full one
 
@@ -124,17 +100,8 @@ act_for (l ∷ past) named who x a = by l.entry (act_for past named who x) a
   where
     by : (e : Entry) → (ActIn (printed past) named who x → ActFor past who x) → ActIn (printed (line l.at e ∷ past)) named who x → ActFor (line l.at e ∷ past) who x
     by (Act d) h a = ⊎_elim (λ (p : (l.at ≡ named) × (l.at.node ≡ Target 0) × (d.reply.who ≡ who) × (d.reply.xid.0 ≡ x)). inl (p.2, p.3)) (λ (p : ActIn (printed past) named who x). inr (h p)) a
-    by (Made d) h a = h a
-    by (Begin slot call) h a = h a
-    by (Busy slot) h a = h a
-    by (Queues t q) h a = h a
-    by (Flies t f) h a = h a
-    by (Send to m) h a = h a
-    by (Take k m) h a = h a
     by Tick h a = h a
-    by (Heard t f r) h a = h a
-    by (Told slot given answer) h a = h a
-    by Die h a = h a
+    by _ h a = h a
 
 -- what was done stands in the printed past
 pub acted_in : (head : Head) (lost : ℕ → ℕ → Bool) (past : List Line) → Grown head past → (d : Deed) → Acted past d → DoneStands lost past d.reply.who d.reply.at → ActIn (printed past) d.reply.at d.reply.who d.reply.xid.0 ⊎ TxnIn lost (printed past) d.reply.at d.reply.who d.reply.xid.0
@@ -153,16 +120,8 @@ acted_in head lost (l ∷ past) g d a s = by l.entry g.0.ok (acted_in head lost 
         (λ (p : e ≡ d). let k = txn_now head past l.at.stamp l.at.node e ok g.1 in inr (inl (sym k.2 ∙ ap (λ (v : Deed). v.reply.at) p, k.1, ap (λ (v : Deed). v.reply.who) p, ap (λ (v : Deed). v.reply.xid.0) p, (s.0 (ap (λ (v : Deed). v.reply.who) p) (ap (λ (v : Deed). v.reply.at) p)).0)))
         (λ (p : Acted past d). ⊎_elim (λ (i : ActIn (printed past) d.reply.at d.reply.who d.reply.xid.0). inl i) (λ (i : TxnIn lost (printed past) d.reply.at d.reply.who d.reply.xid.0). inr (inr i)) (h p s.1))
         a
-    by (Begin slot call) ok h a s = h a s
-    by (Busy slot) ok h a s = h a s
-    by (Queues t q) ok h a s = h a s
-    by (Flies t f) ok h a s = h a s
-    by (Send to m) ok h a s = h a s
-    by (Take k m) ok h a s = h a s
     by Tick ok h a s = h a s
-    by (Heard t f r) ok h a s = h a s
-    by (Told slot given answer) ok h a s = h a s
-    by Die ok h a s = h a s
+    by _ ok h a s = h a s
 
 -- ---- what was heard
 
@@ -179,34 +138,16 @@ heard_hears head (l ∷ past) g at c x n i = by l.entry g.0.ok (heard_hears head
         (λ (p : (l.at ≡ at) × (t ≡ 0) × (r.xid.0 ≡ x)). let m : l.at.node ≡ Client c = ap (λ (v : At). v.node) p.0 ∙ n in inl (m, own l.at.node t f r m ok p.2))
         (λ (p : HeardIn (printed past) at 0 x). inr (h p))
         i
-    by (Act d) ok h i = h i
-    by (Made d) ok h i = h i
-    by (Begin slot call) ok h i = h i
-    by (Busy slot) ok h i = h i
-    by (Queues t q) ok h i = h i
-    by (Flies t f) ok h i = h i
-    by (Send to m) ok h i = h i
-    by (Take k m) ok h i = h i
     by Tick ok h i = h i
-    by (Told slot given answer) ok h i = h i
-    by Die ok h i = h i
+    by _ ok h i = h i
 
 hears_more : (past : List Line) (l : Line) (c x : ℕ) → Hears past c x → Hears (l ∷ past) c x
 hears_more past l c x h = by l.entry
   where
     by : (e : Entry) → Hears (line l.at e ∷ past) c x
     by (Heard t f r) = inr h
-    by (Act d) = h
-    by (Made d) = h
-    by (Begin slot call) = h
-    by (Busy slot) = h
-    by (Queues t q) = h
-    by (Flies t f) = h
-    by (Send to m) = h
-    by (Take k m) = h
     by Tick = h
-    by (Told slot given answer) = h
-    by Die = h
+    by _ = h
 
 -- what was told of a number was heard
 pub told_hears : (head : Head) (past : List Line) → Grown head past → (c x : ℕ) → ToldWith (printed past) (first_life c) x → Hears past c x
@@ -219,13 +160,5 @@ told_hears head (l ∷ past) g c x i = by l.entry (told_hears head past g.1 c x)
         (λ (p : ToldWith (printed past) (first_life c) x). h p)
         i
     by (Heard t f r) h i = inr (h i)
-    by (Act d) h i = h i
-    by (Made d) h i = h i
-    by (Begin slot call) h i = h i
-    by (Busy slot) h i = h i
-    by (Queues t q) h i = h i
-    by (Flies t f) h i = h i
-    by (Send to m) h i = h i
-    by (Take k m) h i = h i
     by Tick h i = h i
-    by Die h i = h i
+    by _ h i = h i

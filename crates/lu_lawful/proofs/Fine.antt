@@ -18,7 +18,7 @@ use Rattle.lu_machine.specs.Tree.{Tree, child, listing}
 use Rattle.lu_machine.specs.Plan.{Plan, Refuse, outcome}
 use Rattle.lu_machine.specs.Table.{root, look_in, look, there, absent, walk, onward, last_of, if_empty, row_lookup, row_mkdir, row_rmdir, plan}
 use Rattle.lu_machine.specs.Footprint.{answer}
-use Rattle.lu_table.specs.Words.{Deed, Entry, Begin, Busy, Queues, Flies, Send, Take, Tick, Heard, Told, Die, Act, Txn as Made, Line}
+use Rattle.lu_table.specs.Words.{Deed, Entry, Tick, Act, Txn as Made, Line}
 use Rattle.lu_table.specs.Targets.{tree_of, server_of, next_number}
 use Rattle.lu_table.specs.TargetRows.{none}
 use Rattle.lu_table.specs.Runs.{Head}
@@ -93,16 +93,8 @@ each_deed head P act txn (l ∷ past) g d a = by l.entry g.0.ok (each_deed head 
     by : (e : Entry) → EntryOk head past l.at l.at.node e → (Acted past d → P d) → Acted (line l.at e ∷ past) d → P d
     by (Act e) ok h a = ⊎_elim (λ (p : e ≡ d). subst P p (act past l.at.stamp l.at.node e ok)) (λ (p : Acted past d). h p) a
     by (Made e) ok h a = ⊎_elim (λ (p : e ≡ d). subst P p (txn past l.at.stamp l.at.node e ok)) (λ (p : Acted past d). h p) a
-    by (Begin slot call) ok h a = h a
-    by (Busy slot) ok h a = h a
-    by (Queues t q) ok h a = h a
-    by (Flies t f) ok h a = h a
-    by (Send to m) ok h a = h a
-    by (Take n m) ok h a = h a
     by Tick ok h a = h a
-    by (Heard t f r) ok h a = h a
-    by (Told slot named given) ok h a = h a
-    by Die ok h a = h a
+    by _ ok h a = h a
 
 act_answered : (head : Head) (past : List Line) (stamp : Stamp) (node : Node) (d : Deed) → EntryOk head past (turn stamp node) node (Act d) → Answered head.osts d
 act_answered head past stamp (Client c) d ok = absurd ok

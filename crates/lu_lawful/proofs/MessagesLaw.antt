@@ -54,16 +54,8 @@ follows head (l ∷ past) at g s = by l.entry (follows head past at g.1 (steps_t
     by : (e : Entry) → Follows (printed past) at → Follows (printed (line l.at e ∷ past)) at
     by (Queues t q) h = h
     by (Flies t f) h = h
-    by (Begin slot call) h = upto_is l.at at s
-    by (Busy slot) h = upto_is l.at at s
-    by (Send to m) h = upto_is l.at at s
-    by (Take n m) h = upto_is l.at at s
     by Tick h = upto_is l.at at s
-    by (Heard t f r) h = upto_is l.at at s
-    by (Told slot turn answer) h = upto_is l.at at s
-    by Die h = upto_is l.at at s
-    by (Act d) h = upto_is l.at at s
-    by (Made d) h = upto_is l.at at s
+    by _ h = upto_is l.at at s
 
 -- ---- calls
 

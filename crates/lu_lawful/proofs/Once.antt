@@ -123,16 +123,8 @@ all_asked head (l ∷ past) g = by l.entry g.0.ok (all_asked head past g.1)
     by : (e : Entry) → EntryOk head past l.at l.at.node e → AllAsked past → AllAsked (line l.at e ∷ past)
     by (Act d) ok h = (asked_is head past (all head past g.1).0 d (act_now head past l.at.stamp l.at.node d ok g.1).0.sent, h)
     by (Made d) ok h = (asked_is head past (all head past g.1).0 d (txn_now head past l.at.stamp l.at.node d ok g.1).0.sent, h)
-    by (Begin slot call) ok h = h
-    by (Busy slot) ok h = h
-    by (Queues t q) ok h = h
-    by (Flies t f) ok h = h
-    by (Send to m) ok h = h
-    by (Take n m) ok h = h
     by Tick ok h = h
-    by (Heard t f r) ok h = h
-    by (Told slot named answer) ok h = h
-    by Die ok h = h
+    by _ ok h = h
 
 -- ---- what was done was asked for, at the metadata target
 
@@ -141,17 +133,8 @@ sent_more past l d s = by l.entry
   where
     by : (e : Entry) → SentFor (line l.at e ∷ past) d
     by (Send to m) = (s.0, (s.1.0, inr s.1.1, s.1.2, s.1.3, s.1.4, s.1.5))
-    by (Begin slot call) = s
-    by (Busy slot) = s
-    by (Queues t q) = s
-    by (Flies t f) = s
-    by (Take n m) = s
     by Tick = s
-    by (Heard t f r) = s
-    by (Told slot named answer) = s
-    by Die = s
-    by (Act e) = s
-    by (Made e) = s
+    by _ = s
 
 pub acted_sent : (head : Head) (past : List Line) → Grown head past → (d : Deed) → Acted past d → SentFor past d × (d.reply.at.node ≡ Target 0)
 acted_sent head [] g d a = absurd a

@@ -10,7 +10,7 @@ use Rattle.lu_msg.specs.declared.calls.Call.{Call}
 use Rattle.lu_msg.specs.declared.messages.Message.{Message}
 use Rattle.lu_msg.specs.declared.messages.Message.TheVariants as message
 use Rattle.lu_msg.specs.declared.messages.Request.{Request as RequestOf}
-use Rattle.lu_table.specs.Words.{Entry, Begin, Busy, Queues, Flies, Send, Take, Tick, Heard, Told, Die, Act, Txn as Made, Line, is_client}
+use Rattle.lu_table.specs.Words.{Entry, Begin, Send, Tick, Told, Die, Line, is_client}
 use Rattle.lu_table.specs.Sent.{count_sent, Sent}
 use Rattle.lu_table.specs.Calls.{Begun, call_of, is_dead}
 use Rattle.lu_table.specs.Printed.{printed}
@@ -38,17 +38,8 @@ sends_is (l ∷ past) = by l.entry (sends_is past)
   where
     by : (e : Entry) → sends (printed past) ≡ count_sent past → sends (printed (line l.at e ∷ past)) ≡ count_sent (line l.at e ∷ past)
     by (Send to m) h = omega arith
-    by (Begin slot call) h = h
-    by (Busy slot) h = h
-    by (Queues t q) h = h
-    by (Flies t f) h = h
-    by (Take n m) h = h
     by Tick h = h
-    by (Heard t f r) h = h
-    by (Told slot at answer) h = h
-    by Die h = h
-    by (Act d) h = h
-    by (Made d) h = h
+    by _ h = h
 
 pub sent_is : (past : List Line) (n : ℕ) (to : Node) (m : Message) → Sent past n to m → (from : Node) × sends_of.Sent (printed past) n from to m
 sent_is [] n to m s = absurd s
@@ -59,17 +50,8 @@ sent_is (l ∷ past) n to m s = by l.entry (sent_is past n to m) s
         (λ (p : (n ≡ count_sent past + 1) × (node ≡ to) × (k ≡ m)). (l.at.node, inl (sym p.0, refl, p.1, p.2)))
         (λ (p : Sent past n to m). let r = h p in (r.0, inr r.1))
         s
-    by (Begin slot call) h s = h s
-    by (Busy slot) h s = h s
-    by (Queues t q) h s = h s
-    by (Flies t f) h s = h s
-    by (Take k x) h s = h s
     by Tick h s = h s
-    by (Heard t f r) h s = h s
-    by (Told slot at answer) h s = h s
-    by Die h s = h s
-    by (Act d) h s = h s
-    by (Made d) h s = h s
+    by _ h s = h s
 
 pub died_is : (c : ℕ) (past : List Line) → has_died c (printed past) ≡ is_dead c past
 died_is c [] = refl
@@ -77,17 +59,8 @@ died_is c (l ∷ past) = by l.entry (died_is c past)
   where
     by : (e : Entry) → has_died c (printed past) ≡ is_dead c past → has_died c (printed (line l.at e ∷ past)) ≡ is_dead c (line l.at e ∷ past)
     by Die h = rw (flip_client c l.at.node, h) refl
-    by (Begin slot call) h = h
-    by (Busy slot) h = h
-    by (Queues t q) h = h
-    by (Flies t f) h = h
-    by (Send to m) h = h
-    by (Take n m) h = h
     by Tick h = h
-    by (Heard t f r) h = h
-    by (Told slot at answer) h = h
-    by (Act d) h = h
-    by (Made d) h = h
+    by _ h = h
 
 -- the call in a slot is the same
 abbrev pub SameCall : Option Begun → Option calls.Begun → Type 0
@@ -114,16 +87,8 @@ same_call c slot (l ∷ past) = by l.entry (same_call c slot past)
     by : (e : Entry) → SameCall (call_of c slot past) (open_call c slot (printed past)) → SameCall (call_of c slot (line l.at e ∷ past)) (open_call c slot (printed (line l.at e ∷ past)))
     by (Begin s call) h = rw (flip_slot c slot l.at.node s) (began s call (is_client c l.at.node && nat_eq slot s) h)
     by (Told s at answer) h = rw (flip_slot c slot l.at.node s) (told (is_client c l.at.node && nat_eq slot s) h)
-    by Die h = h
-    by (Busy s) h = h
-    by (Queues t q) h = h
-    by (Flies t f) h = h
-    by (Send to m) h = h
-    by (Take n m) h = h
     by Tick h = h
-    by (Heard t f r) h = h
-    by (Act d) h = h
-    by (Made d) h = h
+    by _ h = h
 
 -- ---- requests
 
@@ -152,17 +117,8 @@ first_sent (l ∷ past) who x r e = by l.entry (first_sent past who x r) e
     by : (e : Entry) → (first_request (printed past) 0 who x ≡ Some r → IsFirst past who x r) → first_request (printed (line l.at e ∷ past)) 0 who x ≡ Some r → IsFirst (line l.at e ∷ past) who x r
     by (Send to (message.Request k)) h q = new to k (first_request (printed past) 0 who x) (is_of 0 who to k && nat_eq k.xid.0 x) refl h q
     by (Send to m) h q = let p = h q in (p.0, inr p.1, p.2, p.3)
-    by (Begin s call) h q = h q
-    by (Told s at answer) h q = h q
-    by Die h q = h q
-    by (Busy s) h q = h q
-    by (Queues t k) h q = h q
-    by (Flies t f) h q = h q
-    by (Take n m) h q = h q
     by Tick h q = h q
-    by (Heard t f k) h q = h q
-    by (Act d) h q = h q
-    by (Made d) h q = h q
+    by _ h q = h q
 
 -- what was sent has a first request
 pub sent_first : (past : List Line) (n : ℕ) (r : RequestOf) → Sent past n (Target 0) (message.Request r) → (k : RequestOf) × (first_request (printed past) 0 r.who r.xid.0 ≡ Some k)
@@ -196,14 +152,5 @@ sent_first (l ∷ past) n r s = by l.entry (sent_first past n r) s
         old : (to : Node) (m : Message) (k : RequestOf) → first_request (printed past) 0 r.who r.xid.0 ≡ Some k → (j : RequestOf) × (first_request (printed (line l.at (Send to m) ∷ past)) 0 r.who r.xid.0 ≡ Some j)
         old to (message.Request q) k e = or_old (first_request (printed past) 0 r.who r.xid.0) _ k e
         old to m k e = (k, e)
-    by (Begin x call) h s = h s
-    by (Told x at answer) h s = h s
-    by Die h s = h s
-    by (Busy x) h s = h s
-    by (Queues t k) h s = h s
-    by (Flies t f) h s = h s
-    by (Take k m) h s = h s
     by Tick h s = h s
-    by (Heard t f k) h s = h s
-    by (Act d) h s = h s
-    by (Made d) h s = h s
+    by _ h s = h s

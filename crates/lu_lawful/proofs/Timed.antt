@@ -103,16 +103,8 @@ keeps_reaches head past stamp node e s ok h = record { acted = acts node e ok; b
     calls : (n : Node) (e : Entry) → (c slot : ℕ) (b : Begun) → call_of c slot (line (turn stamp node) e ∷ past) ≡ Some b → Upto b.at (turn stamp node)
     calls n (Begin x call) c slot b = began c slot n x call b _
     calls n (Told x at answer) c slot b = told c slot b _
-    calls n (Busy x) c slot b = old c slot b
-    calls n (Queues t q) c slot b = old c slot b
-    calls n (Flies t f) c slot b = old c slot b
-    calls n (Send to m) c slot b = old c slot b
-    calls n (Take k m) c slot b = old c slot b
     calls n Tick c slot b = old c slot b
-    calls n (Heard t f r) c slot b = old c slot b
-    calls n Die c slot b = old c slot b
-    calls n (Act d) c slot b = old c slot b
-    calls n (Made d) c slot b = old c slot b
+    calls n _ c slot b = old c slot b
 
 -- ---- what acts for a call
 

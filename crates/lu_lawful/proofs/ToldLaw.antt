@@ -14,7 +14,7 @@ use Rattle.lu_msg.specs.declared.messages.Reply.{Reply as ReplyTo}
 use Rattle.lu_msg.specs.declared.messages.Request.{Request as RequestOf}
 use Rattle.lu_msg.specs.declared.operations.Op.{Op}
 use Rattle.lu_machine.specs.Footprint.{Every}
-use Rattle.lu_table.specs.Words.{Deed, Flight, Entry, Begin, Busy, Queues, Flies, Send, Take, Tick, Heard, Told, Die, Act, Txn as Made, Line}
+use Rattle.lu_table.specs.Words.{Deed, Flight, Entry, Queues, Flies, Send, Tick, Heard, Told, Act, Txn as Made, Line}
 use Rattle.lu_table.specs.Calls.{Begun, call_of, operation_of}
 use Rattle.lu_table.specs.Imports.{flights_of}
 use Rattle.lu_table.specs.Printed.{printed}
@@ -131,17 +131,8 @@ all_told head (l ∷ past) g = by l.at.node l.entry g.0.ok (all_told head past g
           h,
         )
     by (Target t) (Told slot named given) ok h = absurd ok
-    by node (Begin slot call) ok h = h
-    by node (Busy slot) ok h = h
-    by node (Queues t q) ok h = h
-    by node (Flies t f) ok h = h
-    by node (Send to m) ok h = h
-    by node (Take k m) ok h = h
     by node Tick ok h = h
-    by node (Heard t f r) ok h = h
-    by node Die ok h = h
-    by node (Act d) ok h = h
-    by node (Made d) ok h = h
+    by node _ ok h = h
 
 -- ---- calls
 
@@ -284,17 +275,8 @@ module _ (head : Head) (is : IsHead head) (out : Who → Bool) (lost : ℕ → �
     where
       by : (e : Entry) → ActFor (line l.at e ∷ past) who x
       by (Act d) = inr a
-      by (Begin slot call) = a
-      by (Busy slot) = a
-      by (Queues t q) = a
-      by (Flies t f) = a
-      by (Send to m) = a
-      by (Take k m) = a
       by Tick = a
-      by (Heard t f r) = a
-      by (Told slot named given) = a
-      by Die = a
-      by (Made d) = a
+      by _ = a
 
   pub acts_law : (past : List Line) → Grown head past → Inside head out lost whole past → ToldStand out lost past → ActsOf out lost (printed whole) (printed past)
   acts_law [] g i s = tt
@@ -314,10 +296,5 @@ module _ (head : Head) (is : IsHead head) (out : Who → Bool) (lost : ℕ → �
       by (Client c) (Made d) ok s h = absurd ok
       by node (Queues t q) ok s h = h s
       by node (Flies t f) ok s h = h s
-      by node (Begin slot call) ok s h = (tt, h s)
-      by node (Busy slot) ok s h = (tt, h s)
-      by node (Take k m) ok s h = (tt, h s)
       by node Tick ok s h = (tt, h s)
-      by node (Heard t f r) ok s h = (tt, h s)
-      by node Die ok s h = (tt, h s)
-      by node (Act d) ok s h = (tt, h s)
+      by node _ ok s h = (tt, h s)

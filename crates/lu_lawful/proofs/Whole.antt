@@ -3,7 +3,7 @@ use Rattle.std.proofs.Common.{ℕ, Bool, List, [], ◌∷◌, arith}
 use Rattle.lu_base.specs.declared.ids.Node.{Node}
 use Rattle.lu_base.specs.declared.ids.Node.TheVariants.{Client, Target}
 use Rattle.lu_base.specs.declared.ids.Who.{Who}
-use Rattle.lu_table.specs.Words.{Entry, Begin, Busy, Queues, Flies, Send, Take, Tick, Heard, Told, Die, Act, Txn as Made, Line}
+use Rattle.lu_table.specs.Words.{Entry, Tick, Txn as Made, Line}
 use Rattle.lu_table.specs.Printed.{printed}
 use Rattle.lu_table.specs.Runs.{Head, IsHead, Turn, lines_of, IsRun}
 use Rattle.lu_laws.specs.Lives.{is_gone}
@@ -29,17 +29,8 @@ counted head (l ∷ past) g = by l.at.node l.entry g.0.ok (counted head past g.1
     by : (node : Node) (e : Entry) → EntryOk head past l.at node e → Counted past → Counted (line l.at e ∷ past)
     by (Target t) (Made d) ok h = let n = ok.1.numbers in omega arith
     by (Client c) (Made d) ok h = absurd ok
-    by node (Act d) ok h = h
-    by node (Begin slot call) ok h = h
-    by node (Busy slot) ok h = h
-    by node (Queues t q) ok h = h
-    by node (Flies t f) ok h = h
-    by node (Send to m) ok h = h
-    by node (Take k m) ok h = h
     by node Tick ok h = h
-    by node (Heard t f r) ok h = h
-    by node (Told slot named given) ok h = h
-    by node Die ok h = h
+    by node _ ok h = h
 
 -- of all lives that may be out and numbers that may be lost
 pub acts_of : (head : Head) (turns : List Turn) → IsHead head → IsRun head turns → (out : Who → Bool) (lost : ℕ → ℕ → Bool) → Fits out lost (lines_of turns) → ActsOf out lost (printed (lines_of turns)) (printed (lines_of turns))
