@@ -27,3 +27,5 @@ pub mod SamplesResent
 pub mod SamplesReordered
 pub mod SamplesFlight
 pub mod SamplesFits
+pub mod SamplesQueue
+pub mod SamplesTags
