@@ -29,3 +29,4 @@ pub mod SamplesFlight
 pub mod SamplesFits
 pub mod SamplesQueue
 pub mod SamplesTags
+pub mod After
