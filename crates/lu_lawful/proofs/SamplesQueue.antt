@@ -1,5 +1,5 @@
--- One request in flight at most, by the rules of a client's turn and of a target's, turn by turn: a second call waits in the
--- queue and is sent in the turn of the first one's answer, a third one finds its slot busy, a reply that comes again and a
+-- One request in flight at most, by the rules of a client's turn and of a target's, turn by turn: a second and a third call
+-- wait in the queue and are sent in their order, each in the turn of the answer before, another one finds its slot busy, a reply that comes again and a
 -- request below the kept one are taken and nothing else, another target ticks at the same stamp, and the client dies.
 use Rattle.std.proofs.Common.{◌≡◌, [], ◌∷◌, inl, inr, refl}
 use Rattle.std.specs.Prelude.{List, codes}
@@ -25,9 +25,13 @@ mkdir_a = op.Mkdir (codes "a" ∷ [])
 abbrev mkdir_b : Op
 mkdir_b = op.Mkdir (codes "b" ∷ [])
 
+abbrev rmdir_c : Op
+rmdir_c = op.Rmdir (codes "c" ∷ [])
+
 abbrev pub turns : List Turn
 turns =
-    client 10 0 (Die ∷ [])
+    client 11 0 (Die ∷ [])
+    ∷ client 10 0 (Take 4 (reply 0 2 (first 2) [] (turn 7 (Target 0)) (trace.made 2)) ∷ Heard 0 (flight 2 0 mkdir_b 1) (answered 0 2 (first 2) [] (turn 7 (Target 0)) (trace.made 2)) ∷ Told 1 (turn 7 (Target 0)) (trace.made 2) ∷ Flies 0 (flight 3 0 rmdir_c 2) ∷ Send (Target 0) (request 0 3 0 rmdir_c) ∷ [])
     ∷ target 9 1 (Tick ∷ [])
     ∷ client 9 0 (Tick ∷ Send (Target 0) (request 0 2 0 mkdir_b) ∷ [])
     ∷ target 8 0 (Take 1 (request 0 1 0 mkdir_a) ∷ [])
@@ -35,6 +39,7 @@ turns =
     ∷ client 6 0 (Take 2 (reply 0 1 (first 1) [] (turn 4 (Target 0)) (trace.made 1)) ∷ [])
     ∷ client 5 0 (Take 2 (reply 0 1 (first 1) [] (turn 4 (Target 0)) (trace.made 1)) ∷ Heard 0 (flight 1 0 mkdir_a 0) (answered 0 1 (first 1) [] (turn 4 (Target 0)) (trace.made 1)) ∷ Told 0 (turn 4 (Target 0)) (trace.made 1) ∷ Flies 0 (flight 2 0 mkdir_b 1) ∷ Send (Target 0) (request 0 2 0 mkdir_b) ∷ [])
     ∷ target 4 0 (Take 1 (request 0 1 0 mkdir_a) ∷ Txn (deed 0 mkdir_a (answered 0 1 (first 1) [] (turn 4 (Target 0)) (trace.made 1))) ∷ Send (Client 0) (reply 0 1 (first 1) [] (turn 4 (Target 0)) (trace.made 1)) ∷ [])
+    ∷ client 4 0 (Begin 2 (call.Rmdir (codes "c" ∷ [])) ∷ Queues 0 (queued 2 rmdir_c) ∷ [])
     ∷ client 3 0 (Busy 1 ∷ [])
     ∷ client 2 0 (Begin 1 (call.Mkdir (codes "b" ∷ [])) ∷ Queues 0 (queued 1 mkdir_b) ∷ [])
     ∷ client 1 0 (Begin 0 (call.Mkdir (codes "a" ∷ [])) ∷ Queues 0 (queued 0 mkdir_a) ∷ Flies 0 (flight 1 0 mkdir_a 0) ∷ Send (Target 0) (request 0 1 0 mkdir_a) ∷ [])
@@ -46,35 +51,43 @@ is_run = (
   record { event = Dies; meets = record { one = up _ _ refl; alive = refl }; is = refl },
   (
     refl,
-    record { event = Ticks; meets = up _ _ refl; is = refl },
+    record { event = Comes 4 _; meets = record { client = record { one = up _ _ refl; alive = refl }; sent = inr (inl (refl, refl, refl)) }; is = refl },
     (
       refl,
-      record { event = Ticks; meets = record { one = up _ _ refl; alive = refl }; is = refl },
+      record { event = Ticks; meets = up _ _ refl; is = refl },
       (
         refl,
-        record { event = Comes 1 _; meets = (refl, up _ _ refl, inr (inr (inr (inl (refl, refl, refl))))); is = refl },
+        record { event = Ticks; meets = record { one = up _ _ refl; alive = refl }; is = refl },
         (
           refl,
-          record { event = Comes 3 _; meets = (refl, up _ _ refl, inl (refl, refl, refl)); is = refl },
+          record { event = Comes 1 _; meets = (refl, up _ _ refl, inr (inr (inr (inl (refl, refl, refl))))); is = refl },
           (
             refl,
-            record { event = Comes 2 _; meets = record { client = record { one = up _ _ refl; alive = refl }; sent = inr (inl (refl, refl, refl)) }; is = refl },
+            record { event = Comes 3 _; meets = (refl, up _ _ refl, inl (refl, refl, refl)); is = refl },
             (
               refl,
-              record { event = Comes 2 _; meets = record { client = record { one = up _ _ refl; alive = refl }; sent = inl (refl, refl, refl) }; is = refl },
+              record { event = Comes 2 _; meets = record { client = record { one = up _ _ refl; alive = refl }; sent = inr (inl (refl, refl, refl)) }; is = refl },
               (
                 refl,
-                record { event = Comes 1 _; meets = (refl, up _ _ refl, inl (refl, refl, refl)); is = refl },
+                record { event = Comes 2 _; meets = record { client = record { one = up _ _ refl; alive = refl }; sent = inl (refl, refl, refl) }; is = refl },
                 (
                   refl,
-                  record { event = Begins 1 (call.Rmdir (codes "a" ∷ [])); meets = record { client = record { one = up _ _ refl; alive = refl }; small = up _ _ refl; op = op.Rmdir (codes "a" ∷ []); becomes = refl; asked = tt }; is = refl },
+                  record { event = Comes 1 _; meets = (refl, up _ _ refl, inl (refl, refl, refl)); is = refl },
                   (
                     refl,
-                    record { event = Begins 1 (call.Mkdir (codes "b" ∷ [])); meets = record { client = record { one = up _ _ refl; alive = refl }; small = up _ _ refl; op = mkdir_b; becomes = refl; asked = tt }; is = refl },
+                    record { event = Begins 2 (call.Rmdir (codes "c" ∷ [])); meets = record { client = record { one = up _ _ refl; alive = refl }; small = up _ _ refl; op = rmdir_c; becomes = refl; asked = tt }; is = refl },
                     (
-                      tt,
-                      record { event = Begins 0 (call.Mkdir (codes "a" ∷ [])); meets = record { client = record { one = up _ _ refl; alive = refl }; small = up _ _ refl; op = mkdir_a; becomes = refl; asked = tt }; is = refl },
-                      tt,
+                      refl,
+                      record { event = Begins 1 (call.Rmdir (codes "a" ∷ [])); meets = record { client = record { one = up _ _ refl; alive = refl }; small = up _ _ refl; op = op.Rmdir (codes "a" ∷ []); becomes = refl; asked = tt }; is = refl },
+                      (
+                        refl,
+                        record { event = Begins 1 (call.Mkdir (codes "b" ∷ [])); meets = record { client = record { one = up _ _ refl; alive = refl }; small = up _ _ refl; op = mkdir_b; becomes = refl; asked = tt }; is = refl },
+                        (
+                          tt,
+                          record { event = Begins 0 (call.Mkdir (codes "a" ∷ [])); meets = record { client = record { one = up _ _ refl; alive = refl }; small = up _ _ refl; op = mkdir_a; becomes = refl; asked = tt }; is = refl },
+                          tt,
+                        ),
+                      ),
                     ),
                   ),
                 ),
@@ -89,7 +102,11 @@ is_run = (
 
 abbrev pub past : Past
 past =
-    trace.client 10 0 entry.Die
+    trace.client 11 0 entry.Die
+    ∷ trace.client 10 0 (sends 6 (Target 0) (request 0 3 0 rmdir_c))
+    ∷ trace.client 10 0 (entry.Told 1 (turn 7 (Target 0)) (trace.made 2))
+    ∷ trace.client 10 0 (heard 0 2)
+    ∷ trace.client 10 0 (entry.Take 4)
     ∷ trace.target 9 1 entry.Tick
     ∷ trace.client 9 0 (sends 5 (Target 0) (request 0 2 0 mkdir_b))
     ∷ trace.client 9 0 entry.Tick
@@ -105,6 +122,7 @@ past =
     ∷ trace.target 4 0 (sends 2 (Client 0) (reply 0 1 (first 1) [] (turn 4 (Target 0)) (trace.made 1)))
     ∷ trace.target 4 0 (txn (first 1) 0 1 [] (trace.made 1))
     ∷ trace.target 4 0 (entry.Take 1)
+    ∷ trace.client 4 0 (entry.Begin 2 (call.Rmdir (codes "c" ∷ [])))
     ∷ trace.client 3 0 (entry.Busy 1)
     ∷ trace.client 2 0 (entry.Begin 1 (call.Mkdir (codes "b" ∷ [])))
     ∷ trace.client 1 0 (sends 1 (Target 0) (request 0 1 0 mkdir_a))

@@ -1,5 +1,5 @@
 -- Two requests in flight at most, by the rules of a client's turn and of a target's, turn by turn: a tick sends both again in
--- rising number, each with its tag; the tag of the one that is answered is given again; of one life each tag has a kept reply
+-- rising number, each with its tag; the least tag that is free is given, also one that was answered before; of one life each tag has a kept reply
 -- of its own.
 use Rattle.std.proofs.Common.{◌≡◌, [], ◌∷◌, inl, inr, refl}
 use Rattle.std.specs.Prelude.{List, codes}
@@ -31,7 +31,9 @@ rmdir_b = op.Rmdir (codes "b" ∷ [])
 
 abbrev pub turns : List Turn
 turns =
-    target 9 0 (Take 1 (request 0 1 0 mkdir_a) ∷ Txn (deed 0 mkdir_a (answered 0 1 (first 3) [] (turn 9 (Target 0)) (trace.made 3))) ∷ Send (Client 0) (reply 0 1 (first 3) [] (turn 9 (Target 0)) (trace.made 3)) ∷ [])
+    client 11 0 (Begin 0 (call.Mkdir (codes "a" ∷ [])) ∷ Queues 0 (queued 0 mkdir_a) ∷ Flies 0 (flight 4 0 mkdir_a 0) ∷ Send (Target 0) (request 0 4 0 mkdir_a) ∷ [])
+    ∷ client 10 0 (Take 9 (reply 0 1 (first 3) [] (turn 9 (Target 0)) (trace.made 3)) ∷ Heard 0 (flight 1 0 mkdir_a 0) (answered 0 1 (first 3) [] (turn 9 (Target 0)) (trace.made 3)) ∷ Told 0 (turn 9 (Target 0)) (trace.made 3) ∷ [])
+    ∷ target 9 0 (Take 1 (request 0 1 0 mkdir_a) ∷ Txn (deed 0 mkdir_a (answered 0 1 (first 3) [] (turn 9 (Target 0)) (trace.made 3))) ∷ Send (Client 0) (reply 0 1 (first 3) [] (turn 9 (Target 0)) (trace.made 3)) ∷ [])
     ∷ target 8 0 (Take 6 (request 0 3 1 rmdir_b) ∷ Txn (deed 1 rmdir_b (answered 0 3 (first 2) (first 1 ∷ []) (turn 8 (Target 0)) told.Done)) ∷ Send (Client 0) (reply 0 3 (first 2) (first 1 ∷ []) (turn 8 (Target 0)) told.Done) ∷ [])
     ∷ target 7 0 (Take 2 (request 0 2 1 mkdir_b) ∷ Send (Client 0) (reply 0 2 (first 1) [] (turn 4 (Target 0)) (trace.made 1)) ∷ [])
     ∷ client 6 0 (Begin 1 (call.Rmdir (codes "b" ∷ [])) ∷ Queues 0 (queued 1 rmdir_b) ∷ Flies 0 (flight 3 1 rmdir_b 1) ∷ Send (Target 0) (request 0 3 1 rmdir_b) ∷ [])
@@ -45,32 +47,40 @@ turns =
 pub is_run : IsRun head turns
 is_run = (
   refl,
-  record { event = Comes 1 _; meets = (refl, up _ _ refl, inr (inr (inr (inr (inr (inr (inr (inl (refl, refl, refl))))))))); is = refl },
+  record { event = Begins 0 (call.Mkdir (codes "a" ∷ [])); meets = record { client = record { one = up _ _ refl; alive = refl }; small = up _ _ refl; op = mkdir_a; becomes = refl; asked = tt }; is = refl },
   (
     refl,
-    record { event = Comes 6 _; meets = (refl, up _ _ refl, inr (inl (refl, refl, refl))); is = refl },
+    record { event = Comes 9 _; meets = record { client = record { one = up _ _ refl; alive = refl }; sent = inl (refl, refl, refl) }; is = refl },
     (
       refl,
-      record { event = Comes 2 _; meets = (refl, up _ _ refl, inr (inr (inr (inr (inl (refl, refl, refl)))))); is = refl },
+      record { event = Comes 1 _; meets = (refl, up _ _ refl, inr (inr (inr (inr (inr (inr (inr (inl (refl, refl, refl))))))))); is = refl },
       (
         refl,
-        record { event = Begins 1 (call.Rmdir (codes "b" ∷ [])); meets = record { client = record { one = up _ _ refl; alive = refl }; small = up _ _ refl; op = rmdir_b; becomes = refl; asked = tt }; is = refl },
+        record { event = Comes 6 _; meets = (refl, up _ _ refl, inr (inl (refl, refl, refl))); is = refl },
         (
           refl,
-          record { event = Comes 5 _; meets = record { client = record { one = up _ _ refl; alive = refl }; sent = inl (refl, refl, refl) }; is = refl },
+          record { event = Comes 2 _; meets = (refl, up _ _ refl, inr (inr (inr (inr (inl (refl, refl, refl)))))); is = refl },
           (
             refl,
-            record { event = Comes 4 _; meets = (refl, up _ _ refl, inl (refl, refl, refl)); is = refl },
+            record { event = Begins 1 (call.Rmdir (codes "b" ∷ [])); meets = record { client = record { one = up _ _ refl; alive = refl }; small = up _ _ refl; op = rmdir_b; becomes = refl; asked = tt }; is = refl },
             (
               refl,
-              record { event = Ticks; meets = record { one = up _ _ refl; alive = refl }; is = refl },
+              record { event = Comes 5 _; meets = record { client = record { one = up _ _ refl; alive = refl }; sent = inl (refl, refl, refl) }; is = refl },
               (
                 refl,
-                record { event = Begins 1 (call.Mkdir (codes "b" ∷ [])); meets = record { client = record { one = up _ _ refl; alive = refl }; small = up _ _ refl; op = mkdir_b; becomes = refl; asked = tt }; is = refl },
+                record { event = Comes 4 _; meets = (refl, up _ _ refl, inl (refl, refl, refl)); is = refl },
                 (
-                  tt,
-                  record { event = Begins 0 (call.Mkdir (codes "a" ∷ [])); meets = record { client = record { one = up _ _ refl; alive = refl }; small = up _ _ refl; op = mkdir_a; becomes = refl; asked = tt }; is = refl },
-                  tt,
+                  refl,
+                  record { event = Ticks; meets = record { one = up _ _ refl; alive = refl }; is = refl },
+                  (
+                    refl,
+                    record { event = Begins 1 (call.Mkdir (codes "b" ∷ [])); meets = record { client = record { one = up _ _ refl; alive = refl }; small = up _ _ refl; op = mkdir_b; becomes = refl; asked = tt }; is = refl },
+                    (
+                      tt,
+                      record { event = Begins 0 (call.Mkdir (codes "a" ∷ [])); meets = record { client = record { one = up _ _ refl; alive = refl }; small = up _ _ refl; op = mkdir_a; becomes = refl; asked = tt }; is = refl },
+                      tt,
+                    ),
+                  ),
                 ),
               ),
             ),
@@ -83,7 +93,12 @@ is_run = (
 
 abbrev pub past : Past
 past =
-    trace.target 9 0 (sends 9 (Client 0) (reply 0 1 (first 3) [] (turn 9 (Target 0)) (trace.made 3)))
+    trace.client 11 0 (sends 10 (Target 0) (request 0 4 0 mkdir_a))
+    ∷ trace.client 11 0 (entry.Begin 0 (call.Mkdir (codes "a" ∷ [])))
+    ∷ trace.client 10 0 (entry.Told 0 (turn 9 (Target 0)) (trace.made 3))
+    ∷ trace.client 10 0 (heard 0 1)
+    ∷ trace.client 10 0 (entry.Take 9)
+    ∷ trace.target 9 0 (sends 9 (Client 0) (reply 0 1 (first 3) [] (turn 9 (Target 0)) (trace.made 3)))
     ∷ trace.target 9 0 (txn (first 3) 0 1 [] (trace.made 3))
     ∷ trace.target 9 0 (entry.Take 1)
     ∷ trace.target 8 0 (sends 8 (Client 0) (reply 0 3 (first 2) (first 1 ∷ []) (turn 8 (Target 0)) told.Done))
