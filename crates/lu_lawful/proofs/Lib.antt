@@ -21,3 +21,12 @@ pub mod Deeds
 pub mod Three
 pub mod RecoveryLaw
 pub mod HistoryLaw
+pub mod SampleWords
+pub mod SamplesOneClient
+pub mod SamplesResent
+pub mod SamplesReordered
+pub mod SamplesFlight
+pub mod SamplesFits
+pub mod SamplesQueue
+pub mod SamplesTags
+pub mod After

@@ -1,0 +1,135 @@
+-- Lives that are out and numbers that are lost, and not none: two clients make two directories; the first client is out and
+-- what it made is lost. The pair fits the run, and the history over it, in which the second directory stands alone, is
+-- kept by the law. The same pair doesn't fit where the second client makes its directory in the first one's.
+use Rattle.std.proofs.Common.{◌≡◌, ℕ, Bool, true, false, [], ◌∷◌, inl, inr, refl, ap}
+use Rattle.std.specs.Prelude.{List, codes, ◌==◌, ◌&&◌}
+use Rattle.lu_base.specs.declared.ids.Node.TheVariants.{Client, Target}
+use Rattle.lu_base.specs.declared.ids.Who.{Who}
+use Rattle.lu_msg.specs.declared.answers.Answer.{Answer}
+use Rattle.lu_msg.specs.declared.answers.Answer.TheVariants as told
+use Rattle.lu_msg.specs.declared.answers.Errno.TheVariants.{ENOENT}
+use Rattle.lu_msg.specs.declared.calls.Call.TheVariants as call
+use Rattle.lu_msg.specs.declared.operations.Op.{Op}
+use Rattle.lu_msg.specs.declared.operations.Op.TheVariants as op
+use Rattle.lu_machine.specs.declared.acts.Act.{Act as ActOf}
+use Rattle.lu_machine.specs.declared.acts.Deed.TheVariants.{Names}
+use Rattle.lu_machine.specs.Machine.{answer}
+use Rattle.lu_table.specs.Words.{Deed, Begin, Queues, Flies, Send, Take, Heard, Told, Txn, Line}
+use Rattle.lu_table.specs.Runs.{Head, IsHead, Turn, Begins, Comes, lines_of, IsRun}
+use Rattle.lu_table.specs.Printed.{printed}
+use Rattle.lu_laws.proofs.Words.{turn, who, first, request, reply, up, gone, differ}
+use Rattle.lu_laws.specs.Acts.{ActsOf}
+use Rattle.lu_laws.specs.History.{HistoryOf}
+use Rattle.lu_laws.specs.Histories.{machine_of}
+use Rattle.lu_lawful.specs.Fits.{Fits}
+use Rattle.lu_lawful.proofs.SampleWords.{client, target, queued, flight, answered, deed}
+use Rattle.lu_lawful.proofs.Whole as whole
+
+abbrev pub head : Head
+head = record { clients = 2; osts = 1; flight = 1 }
+
+abbrev mkdir_a : Op
+mkdir_a = op.Mkdir (codes "a" ∷ [])
+
+abbrev mkdir_b : Op
+mkdir_b = op.Mkdir (codes "b" ∷ [])
+
+abbrev made : ℕ → Answer
+made count = told.Made (record { 0 = first count })
+
+abbrev deed_a : Deed
+deed_a = deed 0 mkdir_a (answered 0 1 (first 1) [] (turn 3 (Target 0)) (made 1))
+
+abbrev deed_b : Deed
+deed_b = deed 0 mkdir_b (answered 1 1 (first 2) [] (turn 4 (Target 0)) (made 2))
+
+abbrev pub turns : List Turn
+turns =
+    client 6 1 (Take 4 (reply 1 1 (first 2) [] (turn 4 (Target 0)) (made 2)) ∷ Heard 0 (flight 1 0 mkdir_b 0) deed_b.reply ∷ Told 0 (turn 4 (Target 0)) (made 2) ∷ [])
+    ∷ client 5 0 (Take 3 (reply 0 1 (first 1) [] (turn 3 (Target 0)) (made 1)) ∷ Heard 0 (flight 1 0 mkdir_a 0) deed_a.reply ∷ Told 0 (turn 3 (Target 0)) (made 1) ∷ [])
+    ∷ target 4 0 (Take 2 (request 1 1 0 mkdir_b) ∷ Txn deed_b ∷ Send (Client 1) (reply 1 1 (first 2) [] (turn 4 (Target 0)) (made 2)) ∷ [])
+    ∷ target 3 0 (Take 1 (request 0 1 0 mkdir_a) ∷ Txn deed_a ∷ Send (Client 0) (reply 0 1 (first 1) [] (turn 3 (Target 0)) (made 1)) ∷ [])
+    ∷ client 2 1 (Begin 0 (call.Mkdir (codes "b" ∷ [])) ∷ Queues 0 (queued 0 mkdir_b) ∷ Flies 0 (flight 1 0 mkdir_b 0) ∷ Send (Target 0) (request 1 1 0 mkdir_b) ∷ [])
+    ∷ client 1 0 (Begin 0 (call.Mkdir (codes "a" ∷ [])) ∷ Queues 0 (queued 0 mkdir_a) ∷ Flies 0 (flight 1 0 mkdir_a 0) ∷ Send (Target 0) (request 0 1 0 mkdir_a) ∷ [])
+    ∷ []
+
+pub is_head : IsHead head
+is_head = record { clients = up _ _ refl; most_clients = up _ _ refl; osts = up _ _ refl; most_osts = up _ _ refl; flight = up _ _ refl; most_flight = up _ _ refl }
+
+pub is_run : IsRun head turns
+is_run = (
+  refl,
+  record { event = Comes 4 _; meets = record { client = record { one = up _ _ refl; alive = refl }; sent = inl (refl, refl, refl) }; is = refl },
+  (
+    refl,
+    record { event = Comes 3 _; meets = record { client = record { one = up _ _ refl; alive = refl }; sent = inr (inl (refl, refl, refl)) }; is = refl },
+    (
+      refl,
+      record { event = Comes 2 _; meets = (refl, up _ _ refl, inr (inl (refl, refl, refl))); is = refl },
+      (
+        refl,
+        record { event = Comes 1 _; meets = (refl, up _ _ refl, inr (inl (refl, refl, refl))); is = refl },
+        (
+          refl,
+          record { event = Begins 0 (call.Mkdir (codes "b" ∷ [])); meets = record { client = record { one = up _ _ refl; alive = refl }; small = up _ _ refl; op = mkdir_b; becomes = refl; asked = tt }; is = refl },
+          (
+            tt,
+            record { event = Begins 0 (call.Mkdir (codes "a" ∷ [])); meets = record { client = record { one = up _ _ refl; alive = refl }; small = up _ _ refl; op = mkdir_a; becomes = refl; asked = tt }; is = refl },
+            tt,
+          ),
+        ),
+      ),
+    ),
+  ),
+)
+
+-- ---- the pair
+
+abbrev pub out : Who → Bool
+out w = w.client == 0
+
+abbrev pub lost : ℕ → ℕ → Bool
+lost t n = t == 0 && n == first 1
+
+others : {A : Type 0} → who 0 ≡ who 1 → A
+others same = absurd (differ 0 1 refl (ap (λ (w : Who). w.client) same))
+
+pub fits : Fits out lost (lines_of turns)
+fits =
+    record {
+      root = refl;
+      seen = (λ stands. tt, (λ stands. tt, tt));
+      told = (λ stays. (λ own named. (refl, tt), (λ own. others own, tt)), (λ stays. gone stays, tt));
+    }
+
+pub acts_of : ActsOf out lost (printed (lines_of turns)) (printed (lines_of turns))
+acts_of = whole.acts_of head turns is_head is_run out lost fits
+
+pub history_of : HistoryOf out lost 1 (printed (lines_of turns))
+history_of = whole.history_of head turns is_run out lost fits
+
+-- ---- the machine of that history: the second directory is there, the first one isn't
+
+abbrev looks : Op → ActOf
+looks o = record { who = who 1; number = record { 0 = 0 }; deed = Names o }
+
+pub first_is_gone : answer 1 (machine_of out lost 1 (printed (lines_of turns))) (looks (op.Lookup (codes "a" ∷ []))) ≡ told.Refused ENOENT
+first_is_gone = refl
+
+pub second_stands : answer 1 (machine_of out lost 1 (printed (lines_of turns))) (looks (op.Lookup (codes "b" ∷ []))) ≡ told.Dir (record { 0 = first 2 })
+second_stands = refl
+
+-- where nothing is lost the first directory is there too
+pub first_stands : answer 1 (machine_of (λ w. false) (λ t n. false) 1 (printed (lines_of turns))) (looks (op.Lookup (codes "a" ∷ []))) ≡ told.Dir (record { 0 = first 1 })
+first_stands = refl
+
+-- ---- a transaction that saw the lost one and isn't lost itself doesn't fit
+
+abbrev inside : List Line
+inside =
+    record { at = turn 4 (Target 0); entry = Txn (deed 0 (op.Mkdir (codes "a" ∷ codes "b" ∷ [])) (answered 1 1 (first 2) (first 1 ∷ []) (turn 4 (Target 0)) (made 2))) }
+    ∷ record { at = turn 3 (Target 0); entry = Txn deed_a }
+    ∷ []
+
+pub unfit : Fits out lost inside → ⊥
+unfit f = let stands : true ≡ false = (f.seen.0 refl).0 in absurd (cc)
