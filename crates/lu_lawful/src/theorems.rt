@@ -13,7 +13,9 @@ ghost use Rattle.lu_laws.specs.Laws.{Lawful};
 ghost use Rattle.lu_lawful.specs.Fits.{Fits};
 
 /// The printed trace of every run is lawful, whatever the network loses, repeats or reorders: for every
-/// number of clients, of object storage targets and of requests in flight, and every schedule.
+/// number of clients, of object storage targets and of requests in flight, and every schedule. Lawful means
+/// the four laws that are written so far; of the law of recovery that is what it says of the numbers of
+/// transactions and of seen numbers.
 ///
 /// Of the law of acts and that of history more is shown: they hold for all lives that will be out and all
 /// numbers that will be lost at the end of the trace, so far as these fit the run.

@@ -57,11 +57,6 @@ abbrev pub is_client : ℕ → Node → Bool
 is_client c (Client d) = c == d
 is_client c (Target t) = false
 
--- the metadata target is target 0
-abbrev pub is_mdt : Node → Bool
-is_mdt (Client c) = false
-is_mdt (Target t) = t == 0
-
 abbrev pub same_life : Who → Who → Bool
 same_life a b = a.client == b.client && a.life == b.life
 

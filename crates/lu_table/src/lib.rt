@@ -2,5 +2,5 @@
 //! as definitions. The world is a list of lines, the newest first; whatever a node knows is a fold over it.
 //!
 //! The definitions stand in `specs/`: `Words`, `Printed`, `Sent`, `Calls`, `Imports`, `Targets`,
-//! `ClientRows`, `TargetRows` and `Runs`.
+//! `ClientRows`, `TargetRows`, `Runs` and `Steps`.
 #![tactic(auto)]
