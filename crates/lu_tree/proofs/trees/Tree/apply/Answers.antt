@@ -1,0 +1,31 @@
+-- The tree is sound after the operation, and what is done is what the table says.
+use Rattle.std.proofs.Common.{◌≡◌, ℕ, ◌<◌, true, if◌then◌else◌, sym, ap, subst, ◌∙◌}
+use Rattle.lu_machine.specs.Change.{changed}
+use Rattle.lu_machine.specs.Footprint as footprint
+use Rattle.lu_machine.specs.Footprint.{is_some_change}
+use Rattle.lu_machine.specs.Plan.{Outcome}
+use Rattle.lu_machine.specs.Tree.{Tree}
+use Rattle.lu_machine.specs.Trim.{trim}
+use Rattle.lu_tree.specs.Ends.{changes_of}
+use Rattle.lu_tree.specs.State.{TreeState, IsSound, asked, performed}
+use Rattle.lu_tree.proofs.Lean.{sound_after}
+use Rattle.lu_tree.proofs.trees.Tree.apply.Goals as goal
+
+pub invariant_of-self-2 : goal.invariant_of-self-2
+invariant_of-self-2 c =
+    let s : TreeState = record { osts = c.self.inside.osts; last = c.self.inside.last; tree = c.self.inside.inodes } in
+    let made = λ (o : Outcome). is_some_change o.changes in
+    let above : is_some_change (changes_of c.args.number c.args.who c.end-end.result) ≡ true → s.last < c.args.number.0 =
+    (λ h. subst (λ (u : TreeState). u.last < c.args.number.0) (sym c.self.view_is)
+    (c.requires.above (sym (ap (λ (u : TreeState). footprint.changes u.osts u.tree (asked c.args.number c.args.who c.args.op.now)) c.self.view_is) ∙ ap made (c.end-end.ensures.ends s.osts c.args.number c.args.who) ∙ h))) in
+    subst (λ (n : ℕ). IsSound (record { osts = s.osts; last = n; tree = c.perform.new.self })) (sym (c.last_used-self-inside.ensures c.args.who))
+    (subst (λ (t : Tree). IsSound (record { osts = s.osts; last = if is_some_change (changes_of c.args.number c.args.who c.end-end.result) then c.args.number.0 else s.last; tree = t })) (sym c.in_ok-perform.ensures.done)
+    (sound_after s c.args.number c.args.who c.end-end.result c.self.invariant above c.end-end.ensures.seen))
+
+pub returns-clause-after : goal.returns-clause-after
+returns-clause-after c =
+    let s : TreeState = record { osts = c.self.inside.osts; last = c.self.inside.last; tree = c.self.inside.inodes } in
+    ap (λ (n : ℕ). record { osts = s.osts; last = n; tree = c.perform.new.self }) (c.last_used-self-inside.ensures c.args.who)
+    ∙ ap (λ (t : Tree). record { osts = s.osts; last = if is_some_change (changes_of c.args.number c.args.who c.end-end.result) then c.args.number.0 else s.last; tree = t }) c.in_ok-perform.ensures.done
+    ∙ sym (ap (λ (o : Outcome). record { osts = s.osts; last = if is_some_change o.changes then c.args.number.0 else s.last; tree = trim (changed s.tree o.changes) }) (c.end-end.ensures.ends s.osts c.args.number c.args.who))
+    ∙ ap (λ (u : TreeState). performed u (asked c.args.number c.args.who c.args.op.now)) c.self.view_is

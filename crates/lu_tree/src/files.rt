@@ -1,0 +1,73 @@
+//! Files and opens as the program has them.
+
+ghost use Rattle.std.specs.Prelude.{◌≡◌, not, nat_lt};
+ghost use Rattle.lu_machine.specs.Tree.{same_fid, same_life};
+ghost use Rattle.lu_machine.specs.Trim.{is_open};
+
+use lu_base::{Fid, Txn, Who};
+use lu_layout::Layout;
+use std::marker::Model;
+
+/// A file: its mode, how many names lead to it, and its layout.
+#[derive(Drop)]
+pub(crate) struct FileNode {
+    mode: u16,
+    links: u64,
+    layout: Layout,
+}
+
+impl Model for FileNode {
+    ghost use Rattle.lu_machine.specs.Tree.{Inode};
+
+    ghost Value = { Inode };
+
+    ghost view = { λ a. record { mode = a.mode; links = a.links; layout = a.layout } };
+}
+
+impl FileNode {
+    /// Whether a name leads to it.
+    pub(crate) fn is_named(&self) -> bool
+        ensures { result ≡ nat_lt 0 self.now.links }
+    {
+        self.links > 0
+    }
+}
+
+/// An open of a file: the transaction that opened it, and the life that asked for it.
+#[derive(Drop)]
+pub(crate) struct OpenFile {
+    number: Txn,
+    life: Who,
+    fid: Fid,
+}
+
+impl Model for OpenFile {
+    ghost use Rattle.lu_machine.specs.Tree.{Opened};
+
+    ghost Value = { Opened };
+
+    ghost view = { λ a. record { number = a.number; life = a.life; fid = a.fid } };
+}
+
+impl OpenFile {
+    /// Whether it is an open of this file.
+    fn is_of(&self, file: Fid) -> bool
+        ensures { result ≡ same_fid self.now.fid file }
+    {
+        self.fid == file
+    }
+
+    /// Whether this life asked for it.
+    pub(crate) fn is_by(&self, who: Who) -> bool
+        ensures { result ≡ same_life self.now.life who }
+    {
+        self.life == who
+    }
+}
+
+/// Whether the file is open.
+pub(crate) fn is_open(opens: &[OpenFile], file: Fid) -> bool
+    ensures { result ≡ is_open file opens.now }
+{
+    opens.iter().any(|open| open.is_of(file))
+}

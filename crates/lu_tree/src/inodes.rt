@@ -1,0 +1,143 @@
+//! The inodes, found by map.
+
+ghost use Rattle.std.specs.Prelude.{◌≡◌, [], List, IsTrue, ◌↔◌, IsSome, IfOk, OnOk, OnErr};
+ghost use Rattle.lu_machine.specs.Entries.{without};
+ghost use Rattle.lu_machine.specs.Tree.{same_fid, child, listing};
+ghost use Rattle.lu_machine.specs.Change.{Leads, Drops, MakesDir, Leaves, change};
+ghost use Rattle.lu_machine.specs.Footprint.{empty, forget};
+ghost use Rattle.lu_machine.specs.Trim.{trim};
+
+use super::files::{FileNode, OpenFile, is_open};
+use super::folders::Folder;
+use super::walks::ROOT;
+use lu_base::{Fid, Memory, Name, Who};
+use lu_machine::Child;
+use std::alloc::Global;
+use std::collections::BTreeMap;
+use std::marker::Model;
+
+/// The inodes of a tree, and the opens of files in the order in which they came.
+#[derive(Drop)]
+pub(crate) struct Inodes {
+    dirs: BTreeMap<Fid, Folder>,
+    files: BTreeMap<Fid, FileNode>,
+    opens: Vec<OpenFile>,
+}
+
+impl Model for Inodes {
+    ghost use Rattle.lu_machine.specs.Tree.{Tree};
+    ghost use Rattle.lu_machine.specs.Order.{IsOrdered};
+
+    ghost Value = { Tree };
+
+    ghost view = { λ a. record { dirs = a.dirs.entries; files = a.files.entries; opens = a.opens.items } };
+
+    ghost invariant = { λ a. IsOrdered (record { dirs = a.dirs.entries; files = a.files.entries; opens = a.opens.items }) };
+}
+
+impl Inodes {
+    /// The root without names.
+    pub(crate) fn new(alloc: Global) -> Result<Inodes, Memory>
+        ensures empty { IfOk result (λ inodes. inodes ≡ empty) }
+    {
+        let mut dirs = BTreeMap::new(alloc);
+        dirs.insert(Fid(ROOT), Folder::new(alloc))?;
+        Ok(Inodes {
+            dirs,
+            files: BTreeMap::new(alloc),
+            opens: Vec::new(alloc),
+        })
+    }
+
+    /// What the name leads to.
+    pub(crate) fn child(&self, dir: Fid, name: &Name) -> Option<Child>
+        ensures found { result ≡ child self.now dir name.now }
+    {
+        self.dirs.get(&dir)?.find(name)
+    }
+
+    /// Whether the directory has no names, as has one that isn't there.
+    pub(crate) fn is_empty(&self, dir: Fid) -> bool
+        ensures empty { IsTrue result ↔ (listing self.now dir ≡ []) }
+    {
+        match self.dirs.get(&dir) {
+            Some(folder) => folder.is_empty(),
+            None => true,
+        }
+    }
+
+    /// Makes the name lead there. A directory that isn't there comes to be with mode 0, as the tree has it.
+    /// After want of memory nothing has changed.
+    pub(crate) fn lead(
+        &mut self,
+        alloc: Global,
+        dir: Fid,
+        name: Name,
+        child: Child,
+    ) -> Result<(), Memory>
+        ensures led { OnOk result (self.new ≡ change self.old (Leads dir name child)) }
+        ensures kept { OnErr result (self.new ≡ self.old) }
+    {
+        match self.dirs.get_mut(&dir) {
+            Some(folder) => folder.put(name, child),
+            None => {
+                let mut folder = Folder::bare(alloc);
+                folder.put(name, child)?;
+                self.dirs.insert(dir, folder)?;
+                Ok(())
+            }
+        }
+    }
+
+    /// Takes the name out.
+    pub(crate) fn unlead(&mut self, dir: Fid, name: &Name)
+        requires { IsSome (child self.old dir name.now) }
+        ensures gone { self.new ≡ change self.old (Drops dir name.now) }
+    {
+        let Some(folder) = self.dirs.get_mut(&dir) else {
+            unreachable!();
+        };
+        folder.remove(name);
+    }
+
+    /// Makes a directory without names. After want of memory nothing has changed.
+    pub(crate) fn make_dir(&mut self, alloc: Global, dir: Fid) -> Result<(), Memory>
+        ensures made { OnOk result (self.new ≡ change self.old (MakesDir dir)) }
+        ensures kept { OnErr result (self.new ≡ self.old) }
+    {
+        self.dirs.insert(dir, Folder::new(alloc))?;
+        Ok(())
+    }
+
+    /// Takes a directory without names out.
+    pub(crate) fn leave(&mut self, dir: Fid)
+        requires { listing self.old dir ≡ [] }
+        ensures gone { self.new ≡ change self.old (Leaves dir) }
+    {
+        self.dirs.remove(&dir);
+    }
+
+    /// Takes the opens of a life out.
+    fn drop_opens(&mut self, who: Who)
+        ensures gone { self.new ≡ forget self.old who }
+    {
+        self.opens.retain(|open| !open.is_by(who));
+    }
+
+    /// Takes each file out that has neither a name nor an open.
+    fn sweep(&mut self)
+        ensures swept { self.new ≡ trim self.old }
+    {
+        let opens = self.opens.as_slice();
+        self.files
+            .retain(|fid, file| file.is_named() || is_open(opens, *fid));
+    }
+
+    /// Takes the opens of a life out, and each file that has neither a name nor an open then.
+    pub(crate) fn forget(&mut self, who: Who)
+        ensures forgotten { self.new ≡ trim (forget self.old who) }
+    {
+        self.drop_opens(who);
+        self.sweep();
+    }
+}

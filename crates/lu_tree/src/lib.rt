@@ -1,0 +1,15 @@
+//! The metadata target's tree of names in maps, equal to the plain tree of `lu_machine`.
+#![tactic(auto)]
+
+mod deeds;
+mod ends;
+mod files;
+mod folders;
+mod inodes;
+#[cfg(test)]
+mod tests;
+mod touches;
+mod trees;
+mod walks;
+
+pub use trees::Tree;
