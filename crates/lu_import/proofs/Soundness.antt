@@ -8,7 +8,7 @@ use Rattle.std.proofs.lemmas.List.Elements.{All-filter, All-push}
 use Rattle.std.proofs.lemmas.List.Quantifiers.{all_pairs_push}
 use Rattle.std.proofs.lemmas.List.{length_push}
 use Rattle.std.proofs.lemmas.List.Folds.{list_any_at}
-use Rattle.lu_msg.specs.declared.operations.Op.{Op}
+use Rattle.lu_import.specs.declared.requests.Waiting.{Waiting}
 use Rattle.lu_import.specs.declared.requests.InFlight.{InFlight}
 use Rattle.lu_import.specs.Objects.{same_object}
 use Rattle.lu_import.specs.InFlights.{has_number, without, has_tag, front_waits}
@@ -64,7 +64,7 @@ none_at test requests none place d within = by (test (get_or requests place d)) 
   by false e = refl
   by true e = let some : list_any test requests ≡ true = list_any_at test requests place d within e in absurd (cc)
 
-pub sound_sent : (import : ImportState) (request : InFlight) (rest : List Op) → IsSound import → length import.in_flight < import.flight → request.xid.0 ≡ import.last + 1 → has_tag request.tag import.in_flight ≡ false → request.tag ≤ length import.in_flight → front_waits import.target import.in_flight request.op ≡ false → IsSound (record import { last = import.last + 1; queue = rest; in_flight = import.in_flight ++ request ∷ [] })
+pub sound_sent : (import : ImportState) (request : InFlight) (rest : List Waiting) → IsSound import → length import.in_flight < import.flight → request.xid.0 ≡ import.last + 1 → has_tag request.tag import.in_flight ≡ false → request.tag ≤ length import.in_flight → front_waits import.target import.in_flight request.op ≡ false → IsSound (record import { last = import.last + 1; queue = rest; in_flight = import.in_flight ++ request ∷ [] })
 sound_sent import request rest sound room number free within unblocked =
     let requests = import.in_flight in
     let count : length (requests ++ request ∷ []) ≡ length requests + 1 = length_push requests request in

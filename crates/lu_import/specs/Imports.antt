@@ -4,12 +4,12 @@ use Rattle.std.specs.Prelude.{◌≡◌, ◌≢◌, ℕ, ◌+◌, ◌<◌, ◌�
 use Rattle.lu_base.specs.declared.ids.TargetId.{TargetId}
 use Rattle.lu_base.specs.declared.ids.Who.{Who}
 use Rattle.lu_base.specs.declared.ids.Node.TheVariants.{Target}
-use Rattle.lu_msg.specs.declared.operations.Op.{Op}
 use Rattle.lu_msg.specs.declared.messages.Request.{Request}
 use Rattle.lu_msg.specs.declared.messages.Reply.{Reply}
 use Rattle.lu_msg.specs.declared.messages.Post.{Post}
 use Rattle.lu_msg.specs.declared.messages.Message.{Message}
 use Rattle.lu_msg.specs.declared.messages.Message.TheVariants as message
+use Rattle.lu_import.specs.declared.requests.Waiting.{Waiting}
 use Rattle.lu_import.specs.declared.requests.InFlight.{InFlight}
 use Rattle.lu_import.specs.Objects.{same_object}
 use Rattle.lu_import.specs.InFlights.{has_number, without, IsLeastFree, front_waits}
@@ -24,7 +24,7 @@ pub record ImportState : Type 0 where
   pub flight : ℕ
   pub serving : Bool
   pub last : ℕ
-  pub queue : List Op
+  pub queue : List Waiting
   pub in_flight : List InFlight
 
 -- The first life of a client has its slots from the start; a later one must join.
@@ -33,27 +33,28 @@ fresh target who boot flight =
     record { target = target; who = who; boot = boot; flight = flight; serving = who.life == 1; last = 0; queue = []; in_flight = [] }
 
 -- Whether there is a front of the queue, and it has to wait.
-abbrev pub FrontWaits : ImportState → List Op → Type 0
+abbrev pub FrontWaits : ImportState → List Waiting → Type 0
 FrontWaits import [] = ⊥
-FrontWaits import (op ∷ _) = front_waits import.target import.in_flight op ≡ true
+FrontWaits import (waiting ∷ _) = front_waits import.target import.in_flight waiting.op ≡ true
 
 -- Why no request may be sent now.
 abbrev pub MustWait : ImportState → Type 0
 MustWait import =
     (import.serving ≡ false) ⊎ ((import.flight ≤ length import.in_flight) ⊎ ((import.queue ≡ []) ⊎ FrontWaits import import.queue))
 
--- Which request is sent, and what has changed then.
+-- Which request is sent, for the call on which slot, and what has changed then.
 pub record IsSent (old new : ImportState) (request : Request) : Type 0 where
   pub serving : old.serving ≡ true
   pub room : length old.in_flight < old.flight
-  pub front : old.queue ≡ request.op ∷ new.queue
+  pub slot : ℕ
+  pub front : old.queue ≡ record { slot = slot; op = request.op } ∷ new.queue
   pub unblocked : front_waits old.target old.in_flight request.op ≡ false
   pub who : request.who ≡ old.who
   pub boot : request.boot ≡ old.boot
   pub number : request.xid.0 ≡ old.last + 1
   pub tag : IsLeastFree old.in_flight request.tag
   pub range : request.tag < old.flight
-  pub after : new ≡ record old { last = old.last + 1; queue = new.queue; in_flight = old.in_flight ++ record { xid = request.xid; tag = request.tag; op = request.op } ∷ [] }
+  pub after : new ≡ record old { last = old.last + 1; queue = new.queue; in_flight = old.in_flight ++ record { xid = request.xid; tag = request.tag; op = request.op; slot = slot } ∷ [] }
 
 -- The message is such a request.
 abbrev pub Sends : ImportState → ImportState → Message → Type 0

@@ -1,5 +1,5 @@
 -- The requests of a client that are in flight at one target: those that were sent and whose replies weren't heard.
-use Rattle.std.specs.Prelude.{◌≡◌, ℕ, ◌<◌, ◌==◌, ◌&&◌, nat_lt, Bool, true, false, not, List, filter}
+use Rattle.std.specs.Prelude.{◌≡◌, ℕ, ◌<◌, ◌==◌, ◌&&◌, nat_lt, if◌then◌else◌, Bool, true, false, not, List, [], ◌∷◌, filter, Option, Some, None}
 use Rattle.lu_base.specs.declared.ids.TargetId.{TargetId}
 use Rattle.std.specs.List.{list_any}
 use Rattle.lu_msg.specs.declared.operations.Op.{Op}
@@ -13,6 +13,11 @@ has_number number requests = list_any (λ request. request.xid.0 == number) requ
 -- The requests other than that of this number.
 abbrev pub without : ℕ → List InFlight → List InFlight
 without number requests = filter (λ request. not (request.xid.0 == number)) requests
+
+-- The slot of the request of this number.
+abbrev pub slot_of : ℕ → List InFlight → Option ℕ
+slot_of number [] = None
+slot_of number (request ∷ requests) = if request.xid.0 == number then Some request.slot else slot_of number requests
 
 -- Whether a request has this tag.
 abbrev pub has_tag : ℕ → List InFlight → Bool

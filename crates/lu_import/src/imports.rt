@@ -1,9 +1,10 @@
 //! A client's side of one target (Lustre Operations Manual, recovery: the import).
 
 ghost use Rattle.std.specs.Prelude.{◌≡◌, ℕ, ◌+◌, ◌^◌, ◌<◌, ◌≤◌, Bool, false, if◌then◌else◌, List, [], ◌∷◌, ◌++◌, length, map, slice_get, IfOk, OnOk, OnErr, IfSome, IfNone, IsSomeAnd, is_some};
+ghost use Rattle.lu_import.specs.InFlights.{slot_of};
 ghost use Rattle.lu_import.specs.Imports.{fresh, MustWait, Sends, hears, heard, sent_again, IsSound};
 
-use super::requests::{InFlight, free_tag, front_waits, has_number};
+use super::requests::{InFlight, Waiting, free_tag, front_waits, has_number, slot_of};
 use lu_base::{Duplicate, Memory, Node, TargetId, Who, Xid};
 use lu_msg::{Message, Op, Post, Reply, Request, Sends};
 use std::alloc::Global;
@@ -21,7 +22,7 @@ pub struct Import {
     serving: bool,
     /// The number of the newest request; 0 where there was none.
     last: u64,
-    queue: VecDeque<Op>,
+    queue: VecDeque<Waiting>,
     /// In rising number.
     in_flight: Vec<InFlight>,
 }
@@ -58,13 +59,14 @@ impl Import {
         }
     }
 
-    /// Adds an operation at the end of the queue. After want of memory nothing has changed.
-    pub fn queue(&mut self, op: Op) -> Result<(), Memory>
-        ensures added { OnOk result (self.new ≡ record self.old { queue = self.old.queue ++ op ∷ [] }) }
+    /// Adds an operation at the end of the queue, for the call on this slot. After want of memory nothing
+    /// has changed.
+    pub fn queue(&mut self, slot: u8, op: Op) -> Result<(), Memory>
+        ensures added { OnOk result (self.new ≡ record self.old { queue = self.old.queue ++ record { slot = slot; op = op } ∷ [] }) }
         ensures kept { OnErr result (self.new ≡ self.old) }
         ensures sound { IsSound self.new }
     {
-        self.queue.push_back(op)?;
+        self.queue.push_back(Waiting { slot, op })?;
         Ok(())
     }
 
@@ -87,15 +89,16 @@ impl Import {
         let Some(front) = self.queue.front() else {
             return Ok(None);
         };
-        if front_waits(self.target, &self.in_flight, front) {
+        if front_waits(self.target, &self.in_flight, &front.op) {
             return Ok(None);
         }
         let xid = Xid(self.last + 1);
         let tag = free_tag(&self.in_flight);
-        let op = front.copy(alloc)?;
-        self.in_flight.push(InFlight { xid, tag, op })?;
+        let slot = front.slot;
+        let op = front.op.copy(alloc)?;
+        self.in_flight.push(InFlight { xid, tag, op, slot })?;
         self.last = xid.0;
-        let Some(op) = self.queue.pop_front() else {
+        let Some(Waiting { op, .. }) = self.queue.pop_front() else {
             unreachable!();
         };
         Ok(Some(Message::Request(Request {
@@ -155,6 +158,13 @@ impl Import {
     {
         let request = self.in_flight.get(at)?;
         Some((request.xid, &request.op))
+    }
+
+    /// The slot of the call that the request in flight of this number is for; none where there is none.
+    pub fn slot(&self, xid: Xid) -> Option<u8>
+        ensures slot { result ≡ slot_of xid.0 self.now.in_flight }
+    {
+        slot_of(&self.in_flight, xid)
     }
 
     /// Whether the target serves this life.

@@ -7,4 +7,4 @@ mod requests;
 mod tests;
 
 pub use imports::Import;
-pub use requests::InFlight;
+pub use requests::{InFlight, Waiting};

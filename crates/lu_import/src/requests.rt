@@ -3,10 +3,18 @@
 ghost use Rattle.std.specs.Prelude.{◌≡◌, ℕ, ◌<◌, ◌≤◌, length};
 ghost use Rattle.std.specs.Option.{option_copied};
 ghost use Rattle.lu_import.specs.Objects.{object, same_object};
-ghost use Rattle.lu_import.specs.InFlights.{has_number, has_tag, IsLeastFree, is_busy, front_waits};
+ghost use Rattle.lu_import.specs.InFlights.{has_number, slot_of, has_tag, IsLeastFree, is_busy, front_waits};
 
 use lu_base::{Resource, TargetId, Xid};
 use lu_msg::Op;
+
+/// An operation that waits to be sent.
+#[derive(Debug, Drop)]
+pub struct Waiting {
+    /// The slot, 0 to 3, of the call that it is for.
+    pub slot: u8,
+    pub op: Op,
+}
 
 /// A request that was sent and whose reply wasn't heard.
 #[derive(Debug, Drop)]
@@ -15,6 +23,8 @@ pub struct InFlight {
     /// The tag, 0 to 7.
     pub tag: u8,
     pub op: Op,
+    /// The slot, 0 to 3, of the call that it is for.
+    pub slot: u8,
 }
 
 /// The object that an operation of an object storage target is on; none of one of the metadata target.
@@ -46,6 +56,18 @@ pub(crate) fn has_number(requests: &[InFlight], xid: Xid) -> bool
     ensures { result ≡ has_number xid.0 requests.now }
 {
     requests.iter().any(|request| request.xid == xid)
+}
+
+/// The slot of the request of this number.
+pub(crate) fn slot_of(requests: &[InFlight], xid: Xid) -> Option<u8>
+    ensures { result ≡ slot_of xid.0 requests.now }
+{
+    for request in requests {
+        if request.xid == xid {
+            return Some(request.slot);
+        }
+    }
+    None
 }
 
 /// Whether a request is on the object of this operation.

@@ -53,9 +53,9 @@ fn reply(alloc: Global, who: Who, boot: u32, number: u64) -> Reply {
 fn waits(alloc: Global, import: &mut Import) -> Result<(), Memory>
     ensures { import.new.last ≡ import.old.last }
 {
-    import.queue(mkdir(alloc, b"a")?)?;
-    import.queue(mkdir(alloc, b"a")?)?;
-    import.queue(mkdir(alloc, b"a")?)?;
+    import.queue(0, mkdir(alloc, b"a")?)?;
+    import.queue(0, mkdir(alloc, b"a")?)?;
+    import.queue(0, mkdir(alloc, b"a")?)?;
     Ok(())
 }
 
@@ -99,8 +99,8 @@ fn one_request_goes_and_its_reply_comes_twice(rt: HostRuntime) -> Result<(), Fai
     let mut import = metadata(alloc, 1);
     assert!(rt; import.serving());
     assert_eq!(rt; import.boot(), 1);
-    import.queue(mkdir(alloc, b"a")?)?;
-    import.queue(mkdir(alloc, b"b")?)?;
+    import.queue(0, mkdir(alloc, b"a")?)?;
+    import.queue(0, mkdir(alloc, b"b")?)?;
     sends(&rt, alloc, &mut import, Some((1, 0)))?;
     sends(&rt, alloc, &mut import, None)?;
     hears(&rt, alloc, &mut import, 1, true)?;
@@ -142,13 +142,30 @@ fn tags_are_the_least_that_are_free(rt: HostRuntime) -> Result<(), Fail> {
 }
 
 #[test]
+fn requests_keep_their_slots(rt: HostRuntime) -> Result<(), Fail> {
+    let alloc = rt.alloc();
+    let mut import = metadata(alloc, 2);
+    import.queue(3, mkdir(alloc, b"a")?)?;
+    import.queue(1, mkdir(alloc, b"b")?)?;
+    assert_eq!(rt; import.slot(Xid(1)), None);
+    sends(&rt, alloc, &mut import, Some((1, 0)))?;
+    sends(&rt, alloc, &mut import, Some((2, 1)))?;
+    assert_eq!(rt; import.slot(Xid(1)), Some(3));
+    assert_eq!(rt; import.slot(Xid(2)), Some(1));
+    hears(&rt, alloc, &mut import, 1, true)?;
+    assert_eq!(rt; import.slot(Xid(1)), None);
+    assert_eq!(rt; import.slot(Xid(2)), Some(1));
+    Ok(())
+}
+
+#[test]
 fn at_an_object_target_the_front_waits_for_its_object(rt: HostRuntime) -> Result<(), Fail> {
     let alloc = rt.alloc();
     let mut import = Import::new(alloc, TargetId(1), FIRST, 1, 8);
-    import.queue(size(2, 0))?;
-    import.queue(size(2, 0))?;
-    import.queue(size(2, 1))?;
-    import.queue(size(3, 0))?;
+    import.queue(0, size(2, 0))?;
+    import.queue(0, size(2, 0))?;
+    import.queue(0, size(2, 1))?;
+    import.queue(0, size(3, 0))?;
     sends(&rt, alloc, &mut import, Some((1, 0)))?;
     sends(&rt, alloc, &mut import, None)?;
     hears(&rt, alloc, &mut import, 1, true)?;
@@ -163,7 +180,7 @@ fn at_an_object_target_the_front_waits_for_its_object(rt: HostRuntime) -> Result
 fn replies_of_another_life_or_boot_are_not_heard(rt: HostRuntime) -> Result<(), Fail> {
     let alloc = rt.alloc();
     let mut import = metadata(alloc, 1);
-    import.queue(mkdir(alloc, b"a")?)?;
+    import.queue(0, mkdir(alloc, b"a")?)?;
     sends(&rt, alloc, &mut import, Some((1, 0)))?;
     let second = Who { client: 0, life: 2 };
     let other = Who { client: 1, life: 1 };
@@ -190,7 +207,7 @@ fn a_later_life_must_join_first(rt: HostRuntime) -> Result<(), Fail> {
     let second = Who { client: 0, life: 2 };
     let mut import = Import::new(alloc, TargetId(0), second, 1, 1);
     assert!(rt; !import.serving());
-    import.queue(mkdir(alloc, b"a")?)?;
+    import.queue(0, mkdir(alloc, b"a")?)?;
     sends(&rt, alloc, &mut import, None)?;
     Ok(())
 }

@@ -1,4 +1,4 @@
-pub mod Lines
 pub mod Sets
-pub mod Keys
-pub mod Rows
+pub mod Firsts
+pub mod Today
+pub mod Runs

@@ -1,11 +1,5 @@
 pub mod Codes
-pub mod Scenario
+pub mod Performed
+pub mod Made
+pub mod Refusals
 pub mod Outcomes
-pub mod Commands
-pub mod Steps
-pub mod ClientTurns
-pub mod Writers
-pub mod Directory
-pub mod TargetTurns
-pub mod Numbering
-pub mod Counts

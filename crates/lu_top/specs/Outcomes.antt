@@ -1,14 +1,22 @@
 -- What the top call reads and writes.
-use Rattle.std.specs.Prelude.{ℕ, ◌≤◌, List, [], ◌∷◌, ◌++◌, length, codes, decimal, ◌⊎◌}
+use Rattle.std.specs.Prelude.{◌≡◌, ℕ, ◌≤◌, List, [], ◌∷◌, length, codes, Some, ◌⊎◌}
 use Rattle.std.specs.declared.option.Option.{Option}
 use Rattle.std.specs.Io.KnownBytes.{Appends}
 use Rattle.lu_base.specs.Faults.{Rose, ReadWhole, WrotePrefix}
+use Rattle.lu_scene.specs.Lines.{lines_of}
+use Rattle.lu_scene.specs.Grammar.{IsFirstFault}
+use Rattle.lu_scene.specs.declared.scene.Scene.{Scene}
+use Rattle.lu_table.specs.Runs.{IsRun}
 use Rattle.lu_trace.specs.declared.traces.Trace.{Trace}
 use Rattle.lu_trace.specs.declared.traces.End.{End}
 use Rattle.lu_trace.specs.Traces.{trace_text}
+use Rattle.lu_laws.specs.Laws.{IsLawful}
+use Rattle.lu_core.specs.Scenario.{head_of}
+use Rattle.lu_core.specs.Played.{IsPlayed}
+use Rattle.lu_top.specs.Performed.{IsPerformedText, IsFirstUnperformed}
+use Rattle.lu_top.specs.Refusals.{bad_text, not_yet_text}
 use Rattle.lu_top.specs.declared.status.Status.{Status}
-use Rattle.lu_top.specs.declared.status.Status.TheVariants.{Done, NotYet, WriteFault, Memory}
-use Rattle.lu_top.specs.Scenario.{IsScenario, IsFirstUnperformed}
+use Rattle.lu_top.specs.declared.status.Status.TheVariants as status
 
 -- the source was read to its end, it gave at most a scenario's bytes, and this holds of them
 abbrev pub WasRead : Option (List ℕ) → Option (List ℕ) → (List ℕ → Type 0) → Type 0
@@ -18,33 +26,60 @@ WasRead old new P = (text : List ℕ) × ReadWhole old new text × (length text 
 abbrev pub WasTold : Option (List ℕ) → Option (List ℕ) → ℕ → ℕ → List ℕ → Type 0
 WasTold old new before now line = Appends old new line ⊎ (WrotePrefix old new line × Rose before now)
 
--- the whole text of a trace was written
-abbrev pub WroteTrace : Option (List ℕ) → Option (List ℕ) → Type 0
-WroteTrace old new = (trace : Trace) × (end : End) × Appends old new (trace_text trace end)
+-- the run of the scenario that a text is: with this trace, and it ends so. It is a run of the table, and its trace is lawful
+pub record IsRunOf (text : List ℕ) (trace : Trace) (end : End) : Type 0 where
+  pub scene : Scene
+  pub performed : IsPerformedText text scene
+  pub played : IsPlayed scene trace end
+  pub run : IsRun (head_of scene.head) played.config.turns
+  pub lawful : IsLawful trace
 
--- a prefix of the text of a trace was written
-abbrev pub WroteTraceInPart : Option (List ℕ) → Option (List ℕ) → Type 0
-WroteTraceInPart old new = (trace : Trace) × (end : End) × WrotePrefix old new (trace_text trace end)
+-- the whole text of the trace of a text's run was written
+abbrev pub WroteRun : Option (List ℕ) → Option (List ℕ) → List ℕ → Type 0
+WroteRun old new text = (trace : Trace) × (end : End) × IsRunOf text trace end × Appends old new (trace_text trace end)
 
--- the line that names the forms of a command line
-abbrev pub usage_text : List ℕ
-usage_text = codes "usage: play, threads, storm N or judge\n"
+-- a prefix of it was written
+abbrev pub WroteRunInPart : Option (List ℕ) → Option (List ℕ) → List ℕ → Type 0
+WroteRunInPart old new text = (trace : Trace) × (end : End) × IsRunOf text trace end × WrotePrefix old new (trace_text trace end)
 
--- the line that says that a line of the scenario isn't performed yet
-abbrev pub not_yet_text : ℕ → List ℕ
-not_yet_text line = codes "not yet " ++ decimal line ++ 10 ∷ []
-
--- what writing a trace comes to
-abbrev pub IsTraceOutcome : Option (List ℕ) → Option (List ℕ) → ℕ → ℕ → Status → Type 0
-IsTraceOutcome old new before now Done = WroteTrace old new
-IsTraceOutcome old new before now WriteFault = WroteTraceInPart old new × Rose before now
-IsTraceOutcome old new before now Memory = Unit {0}
-IsTraceOutcome old new before now _ = ⊥
+-- what writing the trace of a scenario's run comes to
+abbrev pub IsTraceOutcome : Option (List ℕ) → Option (List ℕ) → ℕ → ℕ → Scene → Status → Type 0
+IsTraceOutcome old new before now scene status.Done = (trace : Trace) × (end : End) × IsPlayed scene trace end × Appends old new (trace_text trace end)
+IsTraceOutcome old new before now scene status.WriteFault =
+    ((trace : Trace) × (end : End) × IsPlayed scene trace end × WrotePrefix old new (trace_text trace end)) × Rose before now
+IsTraceOutcome old new before now scene status.Memory = Unit {0}
+IsTraceOutcome old new before now scene _ = ⊥
 
 -- what performing a text comes to
 abbrev pub IsOutcome : Option (List ℕ) → Option (List ℕ) → ℕ → ℕ → List ℕ → Status → Type 0
-IsOutcome old new before now text (NotYet line) = IsFirstUnperformed text line × WasTold old new before now (not_yet_text line)
-IsOutcome old new before now text Done = IsScenario text × WroteTrace old new
-IsOutcome old new before now text WriteFault = IsScenario text × WroteTraceInPart old new × Rose before now
-IsOutcome old new before now text Memory = Unit {0}
+IsOutcome old new before now text (status.Scene line fault) = IsFirstFault (lines_of text) line fault × WasTold old new before now (bad_text line fault)
+IsOutcome old new before now text (status.NotYet line) = IsFirstUnperformed text line × WasTold old new before now (not_yet_text line)
+IsOutcome old new before now text status.Done = WroteRun old new text
+IsOutcome old new before now text status.WriteFault = WroteRunInPart old new text × Rose before now
+IsOutcome old new before now text status.Memory = Unit {0}
 IsOutcome old new before now text _ = ⊥
+
+-- the words are `play`, these are the bytes that the source has, not more than a scenario's, and it met no fault
+pub record IsGiven (words : List (List ℕ)) (left : Option (List ℕ)) (before now : ℕ) (text : List ℕ) : Type 0 where
+  pub play : words ≡ codes "play" ∷ []
+  pub bytes : left ≡ Some text
+  pub fits : length text ≤ 1048576
+  pub calm : ¬ Rose before now
+
+-- done, or memory ran out
+abbrev pub IsDone : Status → Type 0
+IsDone status.Done = Unit {0}
+IsDone status.Memory = Unit {0}
+IsDone _ = ⊥
+
+-- refused as no scenario, or memory ran out
+abbrev pub IsRefused : Status → Type 0
+IsRefused (status.Scene line fault) = Unit {0}
+IsRefused status.Memory = Unit {0}
+IsRefused _ = ⊥
+
+-- not performed yet, or memory ran out
+abbrev pub IsPutOff : Status → Type 0
+IsPutOff (status.NotYet line) = Unit {0}
+IsPutOff status.Memory = Unit {0}
+IsPutOff _ = ⊥

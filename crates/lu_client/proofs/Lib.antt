@@ -1,0 +1,4 @@
+pub mod Growth
+pub mod Sending
+pub mod Hearing
+pub mod Whole

@@ -1,0 +1,79 @@
+-- A client as its steps see it: its calls, slot by slot, and what it asks of the metadata target (Lustre
+-- Operations Manual, recovery: the import; the slots of calls are this project's profile).
+use Rattle.std.specs.Prelude.{◌≡◌, ℕ, ◌≤◌, Bool, true, false, List, [], ◌∷◌, length, map, Option, None, IsSome, IsSomeAnd, slice_get}
+use Rattle.lu_base.specs.declared.ids.At.{At}
+use Rattle.lu_base.specs.declared.ids.Node.TheVariants.{Client as AtClient}
+use Rattle.lu_base.specs.declared.ids.Stamp.{Stamp}
+use Rattle.lu_import.specs.declared.requests.InFlight.{InFlight}
+use Rattle.lu_import.specs.declared.requests.Waiting.{Waiting}
+use Rattle.lu_import.specs.Imports.{ImportState, IsSound as IsSoundImport}
+use Rattle.lu_table.specs.Words.{Queued, Flight}
+use Rattle.lu_table.specs.Calls.{Begun}
+use Rattle.lu_table.specs.ClientRows.{Asker}
+
+-- The client's number, whether memory ran out in a step, what it asks of the metadata target, and its calls that
+-- aren't told, by slot.
+pub record ClientState : Type 0 where
+  pub client : ℕ
+  pub spent : Bool
+  pub asker : Asker
+  pub calls : List (Option Begun)
+
+-- a turn of the client
+abbrev pub turn_of : Stamp → ClientState → At
+turn_of stamp c = record { stamp = stamp; node = AtClient c.client }
+
+-- the slot has a call that isn't told
+abbrev pub HasCall : ClientState → ℕ → Type 0
+HasCall c slot = IsSomeAnd (slice_get c.calls slot) (λ call. IsSome call)
+
+-- before its first turn: the first life of the client, which the metadata target serves from the start
+abbrev pub fresh : ℕ → ℕ → ClientState
+fresh client flight =
+    record {
+      client = client;
+      spent = false;
+      asker = record { who = record { client = client; life = 1 }; boot = 1; limit = flight; last = 0; queue = []; flights = [] };
+      calls = None ∷ None ∷ None ∷ None ∷ [];
+    }
+
+-- What holds of every client: four slots, its first life and the first boot of the metadata target, and at most
+-- `limit` requests in flight, which is 1 to 8.
+pub record IsSound (c : ClientState) : Type 0 where
+  pub slots : length c.calls ≡ 4
+  pub who : c.asker.who ≡ record { client = c.client; life = 1 }
+  pub boot : c.asker.boot ≡ 1
+  pub least : 1 ≤ c.asker.limit
+  pub most : c.asker.limit ≤ 8
+  pub room : length c.asker.flights ≤ c.asker.limit
+
+-- ---- how a client is kept
+
+-- what waits to be sent, and what is in flight, as the rows have them
+abbrev pub queued_of : Waiting → Queued
+queued_of waiting = record { slot = waiting.slot; op = waiting.op }
+
+abbrev pub flight_of : InFlight → Flight
+flight_of request = record { xid = request.xid.0; tag = request.tag; op = request.op; slot = request.slot }
+
+-- the client's side of the metadata target, as the rows read it
+abbrev pub asker_of : ImportState → Asker
+asker_of import =
+    record {
+      who = import.who;
+      boot = import.boot;
+      limit = import.flight;
+      last = import.last;
+      queue = map queued_of import.queue;
+      flights = map flight_of import.in_flight;
+    }
+
+abbrev pub state_of : ℕ → Bool → ImportState → List (Option Begun) → ClientState
+state_of client spent import calls = record { client = client; spent = spent; asker = asker_of import; calls = calls }
+
+-- the import is that of the metadata target, which serves the life
+pub record IsKept (c : ClientState) (import : ImportState) : Type 0 where
+  pub target : import.target.0 ≡ 0
+  pub serving : import.serving ≡ true
+  pub asks : IsSoundImport import
+  pub client : IsSound c

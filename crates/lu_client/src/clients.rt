@@ -1,0 +1,306 @@
+//! A client's turns.
+
+ghost use Rattle.std.specs.Prelude.{◌≡◌, ◌+◌, ◌^◌, ◌<◌, ◌≤◌, ◌++◌, ◌∷◌, [], length, true, false, if◌then◌else◌, Err, None, ◌↔◌, IfOk, OnOk, OnErr, IsErr, IsSomeAnd, slice_set};
+ghost use Rattle.lu_table.specs.Calls.{operation_of};
+ghost use Rattle.lu_table.specs.ClientRows.{row_call, row_takes, row_tick, row_dies, row_resends};
+ghost use Rattle.lu_table.specs.Steps.{step_of};
+ghost use Rattle.lu_table.specs.Runs.{IsAsked};
+ghost use Rattle.lu_client.specs.Clients.{turn_of, HasCall, fresh, IsSound};
+ghost use Rattle.lu_client.specs.Turns.{with_entries, after_entries, sends_of, front_sent, heeding};
+
+use super::calls::{Untold, operation_of};
+use super::faults::ClientFault;
+use super::turns::Turn;
+use lu_base::{At, Duplicate, Memory, Node, Stamp, TargetId, Who};
+use lu_import::Import;
+use lu_msg::{Call, Message, Post, Reply};
+use lu_trace::{Entry, Step};
+use std::alloc::Global;
+use std::marker::Model;
+
+/// A client: its calls on four slots, and what its life asks of the metadata target. Each step is one
+/// turn of it. Once memory ran out in a step the client is spent: each later step answers so too.
+#[derive(Drop)]
+pub struct Client {
+    alloc: Global,
+    client: u16,
+    spent: bool,
+    import: Import,
+    /// The calls that aren't told, by slot.
+    calls: Vec<Option<Untold>>,
+}
+
+impl Model for Client {
+    ghost use Rattle.lu_client.specs.Clients.{ClientState, state_of, IsKept};
+
+    ghost Value = { ClientState };
+
+    ghost view = { λ c. state_of c.client c.spent c.import c.calls.items };
+
+    ghost invariant = { λ c. IsKept (state_of c.client c.spent c.import c.calls.items) c.import };
+}
+
+impl Client {
+    /// A client of this number, 0 to 15, before its first turn. At most `flight` of its requests, 1 to 8,
+    /// are in flight at a time. Its first life is served from the start. `osts`, `dirty` and `unused`, the
+    /// number of object storage targets and the limits of changed bytes and of unused locks, have no
+    /// effect yet.
+    pub fn new(
+        alloc: Global,
+        client: u16,
+        _osts: u16,
+        _dirty: u64,
+        _unused: u32,
+        flight: u8,
+    ) -> Result<Client, Memory>
+        requires least { 0 < flight }
+        requires most { flight ≤ 8 }
+        ensures fresh { IfOk result (λ made. made ≡ fresh client flight) }
+        ensures sound { IfOk result (λ made. IsSound made) }
+    {
+        let calls = Vec::from_array(alloc, [None, None, None, None])?;
+        let who = Who { client, life: 1 };
+        Ok(Client {
+            alloc,
+            client,
+            spent: false,
+            import: Import::new(alloc, TargetId(0), who, 1, flight),
+            calls,
+        })
+    }
+
+    /// A call begins on this slot, 0 to 3: a `mkdir`, a `rmdir`, or a `lookup` of another path than `/`.
+    /// Its operation is queued, and what has room is sent. `Busy` where the slot has a call that isn't
+    /// told; the client is then as before. Fewer than 2^63 requests were sent before.
+    pub fn begin(&mut self, stamp: Stamp, slot: u8, call: Call) -> Result<Step, ClientFault>
+        requires slot { slot < 4 }
+        requires asked { IsSomeAnd (operation_of call) IsAsked }
+        requires numbers { self.old.asker.last < 2 ^ 63 }
+        ensures step { IfOk result (λ step. step ≡ step_of (turn_of stamp self.old) (row_call self.old.asker slot call None)) }
+        ensures after { OnOk result (self.new ≡ after_entries (turn_of stamp self.old) self.old (row_call self.old.asker slot call None)) }
+        ensures busy { result ≡ Err ClientFault.Busy ↔ ((self.old.spent ≡ false) × HasCall self.old slot) }
+        ensures kept { result ≡ Err ClientFault.Busy → self.new ≡ self.old }
+        ensures spent { result ≡ Err ClientFault.Memory → self.new.spent ≡ true }
+        ensures again { self.old.spent ≡ true → result ≡ Err ClientFault.Memory }
+        ensures counted { self.new.asker.last ≤ self.old.asker.last + 8 }
+        ensures sound { IsSound self.new }
+    {
+        if self.spent {
+            return Err(ClientFault::Memory);
+        }
+        if self.calls[slot as usize].is_some() {
+            return Err(ClientFault::Busy);
+        }
+        self.spent = true;
+        let step = self.ask(stamp, slot, call)?;
+        self.spent = false;
+        Ok(step)
+    }
+
+    /// A message of this target comes, which has no effect on what the client does: a message names the
+    /// life that it is for. A reply to a request in flight, of this life and boot, is heard, and its call
+    /// told; anything else only makes its `take`. Then what has room is sent. Fewer than 2^63 requests
+    /// were sent before.
+    pub fn deliver(
+        &mut self,
+        stamp: Stamp,
+        _from: TargetId,
+        message: &Message,
+    ) -> Result<Step, Memory>
+        requires numbers { self.old.asker.last < 2 ^ 63 }
+        ensures step { IfOk result (λ step. step ≡ step_of (turn_of stamp self.old) (row_takes self.old.asker 0 message.now)) }
+        ensures after { OnOk result (self.new ≡ after_entries (turn_of stamp self.old) self.old (row_takes self.old.asker 0 message.now)) }
+        ensures spent { OnErr result (self.new.spent ≡ true) }
+        ensures again { self.old.spent ≡ true → IsErr result }
+        ensures counted { self.new.asker.last ≤ self.old.asker.last + 8 }
+        ensures sound { IsSound self.new }
+    {
+        if self.spent {
+            return Err(Memory);
+        }
+        self.spent = true;
+        let mut turn = self.turn(stamp);
+        turn.note(Entry::Take(0))?;
+        self.heed(&mut turn, message)?;
+        self.send_all(&mut turn)?;
+        self.spent = false;
+        Ok(turn.done())
+    }
+
+    /// The client's time goes on: the requests in flight are sent again, in rising number. Then what has
+    /// room is sent. Fewer than 2^63 requests were sent before.
+    pub fn tick(&mut self, stamp: Stamp) -> Result<Step, Memory>
+        requires numbers { self.old.asker.last < 2 ^ 63 }
+        ensures step { IfOk result (λ step. step ≡ step_of (turn_of stamp self.old) (row_tick self.old.asker)) }
+        ensures after { OnOk result (self.new ≡ after_entries (turn_of stamp self.old) self.old (row_tick self.old.asker)) }
+        ensures spent { OnErr result (self.new.spent ≡ true) }
+        ensures again { self.old.spent ≡ true → IsErr result }
+        ensures counted { self.new.asker.last ≤ self.old.asker.last + 8 }
+        ensures sound { IsSound self.new }
+    {
+        if self.spent {
+            return Err(Memory);
+        }
+        self.spent = true;
+        let mut turn = self.turn(stamp);
+        turn.note(Entry::Tick)?;
+        self.send_again(&mut turn)?;
+        self.send_all(&mut turn)?;
+        self.spent = false;
+        Ok(turn.done())
+    }
+
+    /// The client dies. It is to make no further turn.
+    pub fn die(&mut self, stamp: Stamp) -> Result<Step, Memory>
+        ensures step { IfOk result (λ step. step ≡ step_of (turn_of stamp self.old) row_dies) }
+        ensures after { OnOk result (self.new ≡ self.old) }
+        ensures spent { OnErr result (self.new.spent ≡ true) }
+        ensures again { self.old.spent ≡ true → IsErr result }
+        ensures counted { self.new.asker.last ≤ self.old.asker.last + 8 }
+        ensures sound { IsSound self.new }
+    {
+        if self.spent {
+            return Err(Memory);
+        }
+        self.spent = true;
+        let mut turn = self.turn(stamp);
+        turn.note(Entry::Die)?;
+        self.spent = false;
+        Ok(turn.done())
+    }
+
+    /// A turn of the client, without lines yet.
+    fn turn(&self, stamp: Stamp) -> Turn
+        ensures turn { result.at ≡ turn_of stamp self.now }
+        ensures empty { result.step ≡ record { sends = []; entries = [] } }
+    {
+        Turn::new(
+            self.alloc,
+            At {
+                stamp,
+                node: Node::Client(self.client),
+            },
+        )
+    }
+
+    /// The turn in which a call begins on a free slot.
+    fn ask(&mut self, stamp: Stamp, slot: u8, call: Call) -> Result<Step, Memory>
+        requires slot { slot < 4 }
+        requires asked { IsSomeAnd (operation_of call) IsAsked }
+        requires numbers { self.old.asker.last < 2 ^ 63 }
+        ensures step { IfOk result (λ step. step ≡ step_of (turn_of stamp self.old) (row_call self.old.asker slot call None)) }
+        ensures after { OnOk result (self.new ≡ after_entries (turn_of stamp self.old) self.old (row_call self.old.asker slot call None)) }
+        ensures spent { self.new.spent ≡ self.old.spent }
+        ensures counted { self.new.asker.last ≤ self.old.asker.last + 8 }
+        ensures sound { IsSound self.new }
+    {
+        let Some(op) = operation_of(self.alloc, &call)? else {
+            unreachable!();
+        };
+        let mut turn = self.turn(stamp);
+        self.import.queue(slot, op)?;
+        let copied = call.copy(self.alloc)?;
+        turn.note(Entry::Begin { slot, call: copied })?;
+        self.put(slot, Some(Untold { at: turn.at, call }));
+        self.send_all(&mut turn)?;
+        Ok(turn.done())
+    }
+
+    /// Heeds a message: the reply to a request in flight is heard.
+    fn heed(&mut self, turn: &mut Turn, message: &Message) -> Result<(), Memory>
+        ensures step { OnOk result (turn.new.step ≡ with_entries turn.old.at turn.old.step (heeding self.old.asker message.now)) }
+        ensures after { OnOk result (self.new ≡ after_entries turn.old.at self.old (heeding self.old.asker message.now)) }
+        ensures turn { turn.new.at ≡ turn.old.at }
+        ensures spent { self.new.spent ≡ self.old.spent }
+        ensures counted { self.new.asker.last ≡ self.old.asker.last }
+        ensures sound { OnErr result (IsSound self.new) }
+    {
+        match message {
+            Message::Reply(reply) => self.hear(turn, reply),
+            _ => Ok(()),
+        }
+    }
+
+    /// Hears a reply, if it is to a request in flight, of this life and boot: its call is told.
+    fn hear(&mut self, turn: &mut Turn, reply: &Reply) -> Result<(), Memory>
+        ensures step { OnOk result (turn.new.step ≡ with_entries turn.old.at turn.old.step (heeding self.old.asker (Message.Reply reply.now))) }
+        ensures after { OnOk result (self.new ≡ after_entries turn.old.at self.old (heeding self.old.asker (Message.Reply reply.now))) }
+        ensures turn { turn.new.at ≡ turn.old.at }
+        ensures spent { self.new.spent ≡ self.old.spent }
+        ensures counted { self.new.asker.last ≡ self.old.asker.last }
+        ensures sound { IsSound self.new }
+    {
+        let Some(slot) = self.import.slot(reply.xid) else {
+            return Ok(());
+        };
+        if !self.import.hear(self.alloc, reply)? {
+            return Ok(());
+        }
+        let target = TargetId(0);
+        let xid = reply.xid;
+        turn.note(Entry::Heard { target, xid })?;
+        let answer = reply.answer.copy(self.alloc)?;
+        let at = reply.at;
+        turn.note(Entry::Told { slot, at, answer })?;
+        self.put(slot, None);
+        Ok(())
+    }
+
+    /// The slot has this call from now on, or none.
+    fn put(&mut self, slot: u8, call: Option<Untold>)
+        ensures put { self.new ≡ record self.old { calls = slice_set self.old.calls slot call } }
+    {
+        if (slot as usize) < self.calls.len() {
+            self.calls[slot as usize] = call;
+        }
+    }
+
+    /// Sends the requests in flight again, in rising number.
+    fn send_again(&self, turn: &mut Turn) -> Result<(), Memory>
+        ensures step { OnOk result (turn.new.step ≡ with_entries turn.old.at turn.old.step (row_resends self.now.asker self.now.asker.flights)) }
+        ensures turn { turn.new.at ≡ turn.old.at }
+    {
+        let again = self.import.again(self.alloc)?;
+        for post in again.as_slice() {
+            turn.send(post.copy(self.alloc)?)?;
+        }
+        Ok(())
+    }
+
+    /// Sends what has room from the queue.
+    fn send_all(&mut self, turn: &mut Turn) -> Result<(), Memory>
+        requires numbers { self.old.asker.last < 2 ^ 63 }
+        ensures step { OnOk result (turn.new.step ≡ with_entries turn.old.at turn.old.step (sends_of self.old.asker)) }
+        ensures after { OnOk result (self.new ≡ after_entries turn.old.at self.old (sends_of self.old.asker)) }
+        ensures spent { self.new.spent ≡ self.old.spent }
+        ensures counted { self.new.asker.last ≤ self.old.asker.last + 8 }
+        ensures sound { IsSound self.new }
+    {
+        while self.send_front(turn)? {}
+        Ok(())
+    }
+
+    /// Sends the front of the queue. False where nothing waits, or as many requests are in flight as may
+    /// be.
+    fn send_front(&mut self, turn: &mut Turn) -> Result<bool, Memory>
+        requires numbers { self.old.asker.last + 1 < 2 ^ 64 }
+        ensures row { IfOk result (λ sent. sends_of self.old.asker ≡ (if sent then front_sent self.old.asker true ++ sends_of self.new.asker else [])) }
+        ensures step { IfOk result (λ sent. turn.new.step ≡ with_entries turn.old.at turn.old.step (front_sent self.old.asker sent)) }
+        ensures after { IfOk result (λ sent. self.new ≡ after_entries turn.old.at self.old (front_sent self.old.asker sent)) }
+        ensures turn { turn.new.at ≡ turn.old.at }
+        ensures spent { self.new.spent ≡ self.old.spent }
+        ensures shorter { IfOk result (λ sent. length self.new.asker.queue + (if sent then 1 else 0) ≡ length self.old.asker.queue) }
+        ensures counted { self.new.asker.last + length self.old.asker.flights ≡ self.old.asker.last + length self.new.asker.flights }
+        ensures room { length self.new.asker.flights ≤ 8 }
+        ensures sound { IsSound self.new }
+    {
+        let Some(message) = self.import.next(self.alloc)? else {
+            return Ok(false);
+        };
+        turn.send(Post {
+            to: Node::Target(0),
+            message,
+        })?;
+        Ok(true)
+    }
+}

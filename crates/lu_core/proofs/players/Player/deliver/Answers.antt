@@ -1,0 +1,29 @@
+use Rattle.std.proofs.Common.{◌∙◌, Some, sym, ap, subst}
+use Rattle.std.specs.Prelude.{List, true}
+use Rattle.lu_net.specs.declared.links.Posted.{Posted}
+use Rattle.lu_scene.specs.declared.scene.SceneLine.TheVariants.{Deliver}
+use Rattle.lu_core.specs.Progress.{Performs}
+use Rattle.lu_core.proofs.Running.{with_links, deliver_none, deliver_thrown, deliver_stops, deliver_takes}
+use Rattle.lu_core.proofs.players.Player.deliver.Goals as goal
+
+pub returns-in_default : goal.returns-in_default
+returns-in_default c = record { performs = deliver_none c.args.self.now c.args.number (sym c.in_default.ensures.thrown) }
+
+pub returns-then-thrown : goal.returns-then-thrown
+returns-then-thrown c =
+    let p = c.args.self.now in
+    let n = c.args.number in
+    record {
+      performs = subst (λ (links : List Posted). Performs p (Deliver n) (with_links p links) true) (sym c.spend.ensures.spent)
+          (deliver_thrown p n (sym c.in-Some.ensures.thrown ∙ ap Some c.if-thrown.true));
+    }
+
+pub returns-then-is_full : goal.returns-then-is_full
+returns-then-is_full c =
+    record { performs = deliver_stops c.args.self.now c.args.number (sym c.in-Some.ensures.thrown ∙ ap Some c.if-thrown.false) (sym c.is_full.ensures.full ∙ c.if-is_full.true) }
+
+pub returns : goal.returns
+returns c =
+    record {
+      performs = deliver_takes c.args.self.now c.args.number c.take.new.self (sym c.in-Some.ensures.thrown ∙ ap Some c.if-thrown.false) (sym c.is_full.ensures.full ∙ c.if-is_full.false) c.in_ok-take.ensures.takes;
+    }

@@ -1,0 +1,16 @@
+use Rattle.std.proofs.Common.{◌≡◌}
+use Rattle.lu_core.specs.Shown.{is_down_in}
+use Rattle.lu_core.specs.Progress.{Thrown}
+use Rattle.lu_core.proofs.Throwing.{unspent}
+use Rattle.lu_core.proofs.players.Player.next_message.Given as goal
+
+-- messages were thrown away, and nothing else changed
+abbrev pub invariant-loop-number : goal.invariant-loop-number
+invariant-loop-number l = record {
+  thrown : Thrown (is_down_in l.initial.self.clients.dead.items) l.initial.self.wire.links l.self.wire.links;
+  same : l.self ≡ record l.initial.self { wire = record l.initial.self.wire { links = l.self.wire.links } };
+}
+
+-- each message that is thrown away is spent
+abbrev pub decreases-loop-number : goal.decreases-loop-number
+decreases-loop-number l = unspent l.self.wire.links

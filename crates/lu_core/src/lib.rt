@@ -1,0 +1,18 @@
+//! The player: performs a scenario in one thread, one node's turn after another.
+//!
+//! What a scenario comes to is defined in `specs/Scenario`; `play` gives the trace of that, and every trace
+//! that it gives is lawful.
+#![tactic(auto)]
+
+mod clients;
+mod performed;
+mod players;
+mod playing;
+#[cfg(test)]
+mod tests;
+pub mod theorems;
+mod turns;
+mod wire;
+
+pub use performed::is_performed;
+pub use playing::{Played, play};

@@ -1,0 +1,55 @@
+//! The run of a scenario.
+
+ghost use Rattle.std.specs.Prelude.{◌≡◌, List, IfOk, None};
+ghost use Rattle.lu_scene.specs.declared.scene.Scene.{Scene as SpecScene};
+ghost use Rattle.lu_laws.specs.Laws.{IsLawful};
+ghost use Rattle.lu_core.specs.Scenario.{Config, Leads, head_of, start};
+ghost use Rattle.lu_core.specs.Performed.{IsPerformed};
+ghost use Rattle.lu_core.specs.Progress.{IsAt, HasLeft, HasEnded};
+ghost use Rattle.lu_core.specs.Outcome.{TracesTo};
+
+use super::players::Player;
+use lu_base::{Memory, TargetId};
+use lu_scene::{Scene, SceneLine};
+use lu_trace::{End, Trace};
+use std::alloc::Global;
+
+/// What a run left: its trace, how it ended, and the target whose disk failed, if one did.
+#[derive(Debug, PartialEq, Eq, Drop)]
+pub struct Played {
+    pub trace: Trace,
+    pub end: End,
+    pub failed: Option<TargetId>,
+}
+
+/// Performs a scenario, to its end or to the limit of turns and messages.
+pub fn play(alloc: Global, scene: &Scene) -> Result<Played, Memory>
+    requires performed { IsPerformed scene.now }
+    ensures run { IfOk result (λ played. (c : Config) × Leads (head_of scene.now.head) (start scene.now) c × HasEnded (head_of scene.now.head) c played.end × TracesTo scene.now c played.trace) }
+    ensures lawful { IfOk result (λ played. IsLawful played.trace) }
+    ensures failed { IfOk result (λ played. played.failed ≡ None) }
+{
+    let mut player = Player::new(alloc, &scene.head)?;
+    let end = perform_all(&mut player, scene.lines.as_slice())?;
+    Ok(Played {
+        trace: Trace {
+            osts: scene.head.osts,
+            entries: player.wire.into_entries(),
+        },
+        end,
+        failed: None,
+    })
+}
+
+/// Performs lines in order, as far as the limit lets.
+fn perform_all(player: &mut Player, lines: &[SceneLine]) -> Result<End, Memory>
+    requires left { HasLeft player.old lines.now }
+    ensures ended { IfOk result (λ end. (scene : SpecScene) (c : Config) → IsAt scene player.old c → c.lines ≡ lines.now → (d : Config) × IsAt scene player.new d × HasEnded (head_of scene.head) d end) }
+{
+    for line in lines {
+        if !player.perform(line)? {
+            return Ok(End::Limit);
+        }
+    }
+    Ok(End::Done)
+}

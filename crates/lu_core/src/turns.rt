@@ -1,0 +1,63 @@
+//! The turns in which a message comes, and those of the metadata target.
+
+ghost use Rattle.std.specs.Prelude.{◌≡◌, ℕ, ◌<◌, None, IfOk, OnOk};
+ghost use Rattle.lu_base.specs.declared.ids.Node.TheVariants.{Target as AtTarget};
+ghost use Rattle.lu_tree.specs.State.{IsPerformed};
+ghost use Rattle.lu_target.specs.Targets.{Fits, server};
+ghost use Rattle.lu_table.specs.Runs.{Comes, Ticks};
+ghost use Rattle.lu_core.specs.Shown.{turn_at, TargetGives, TargetTakes, MayTake, NodesGive, NodesTake};
+
+use super::clients::Clients;
+use lu_base::{Memory, Node, Stamp};
+use lu_mdt::Mdt;
+use lu_msg::Message;
+use lu_net::Sent;
+use lu_target::{StepFault, Target};
+use lu_trace::Step;
+
+/// The turn of the node to which a message goes.
+pub(crate) fn hand_over(
+    clients: &mut Clients,
+    target: &mut Target<Mdt>,
+    stamp: Stamp,
+    sent: &Sent,
+) -> Result<Step, Memory>
+    requires may { MayTake clients.old.clients.items target.old sent.now }
+    ensures step { IfOk result (NodesGive clients.old.clients.items clients.old.dead.items target.old (turn_at stamp sent.now.to) (Comes 0 sent.now.message)) }
+    ensures after { OnOk result ((number : ℕ) → NodesTake clients.old.clients.items clients.old.dead.items target.old (turn_at stamp sent.now.to) (Comes number sent.now.message) clients.new.clients.items clients.new.dead.items target.new) }
+{
+    match sent.to {
+        Node::Client(client) => clients.deliver(stamp, client, &sent.message),
+        Node::Target(_) => serve(target, stamp, &sent.message),
+    }
+}
+
+/// The turn of the metadata target to which a message comes.
+fn serve(target: &mut Target<Mdt>, stamp: Stamp, message: &Message) -> Result<Step, Memory>
+    requires fits { Fits IsPerformed target.old.journal message.now }
+    requires id { target.old.id ≡ 0 }
+    requires unspent { target.old.spent ≡ None }
+    requires numbers { (server target.old).count < 4294967295 }
+    ensures step { IfOk result (TargetGives target.old (turn_at stamp (AtTarget 0)) (Comes 0 message.now)) }
+    ensures after { OnOk result ((number : ℕ) → TargetTakes target.old (turn_at stamp (AtTarget 0)) (Comes number message.now) target.new) }
+{
+    match target.deliver(stamp, message) {
+        Ok(step) => Ok(step),
+        Err(StepFault::Memory) => Err(Memory),
+        Err(StepFault::NumbersSpent) => unreachable!(),
+    }
+}
+
+/// The turn of the metadata target whose time goes on.
+pub(crate) fn pass_time(target: &mut Target<Mdt>, stamp: Stamp) -> Result<Step, Memory>
+    requires id { target.old.id ≡ 0 }
+    requires unspent { target.old.spent ≡ None }
+    ensures step { IfOk result (TargetGives target.old (turn_at stamp (AtTarget 0)) Ticks) }
+    ensures after { OnOk result (TargetTakes target.old (turn_at stamp (AtTarget 0)) Ticks target.new) }
+{
+    match target.tick(stamp) {
+        Ok(step) => Ok(step),
+        Err(StepFault::Memory) => Err(Memory),
+        Err(StepFault::NumbersSpent) => unreachable!(),
+    }
+}

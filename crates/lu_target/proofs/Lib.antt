@@ -1,0 +1,3 @@
+mod Files
+mod Seen
+mod Leaving

@@ -1,0 +1,149 @@
+//! The target, and its steps.
+
+ghost use Rattle.std.specs.Prelude.{◌≡◌, ℕ, [], Bool, true, false, Option, Some, None, Err, ◌⊎◌, IfOk, IfErr, OnOk};
+ghost use Rattle.lu_base.specs.declared.ids.Who.{Who as SpecWho};
+ghost use Rattle.lu_machine.specs.Footprint.{empty};
+ghost use Rattle.lu_service.specs.declared.services.Kind.TheVariants.{Mdt};
+ghost use Rattle.lu_service.specs.Names.{fresh};
+ghost use Rattle.lu_table.specs.TargetRows.{row_tick};
+ghost use Rattle.lu_table.specs.Steps.{step_of, server_turn};
+ghost use Rattle.lu_txn.specs.Slots.{is_among};
+ghost use Rattle.lu_target.specs.Targets.{server, slot, serves, Fits};
+ghost use Rattle.lu_target.specs.Turns.{turn_of, row, slot_turn, LacksNumber};
+
+use super::faults::StepFault;
+use super::handlers::Handler;
+use super::turns::Turn;
+use lu_base::{At, Memory, Node, Stamp, TargetId, Who};
+use lu_msg::Message;
+use lu_service::Service;
+use lu_trace::{Entry, Step};
+use std::alloc::Global;
+use std::marker::Model;
+
+/// The metadata target over a service. Each step is one turn of it. Once a step gave a fault the target is
+/// spent: each later step gives the same fault.
+#[derive(Drop)]
+pub struct Target<S: Service> {
+    alloc: Global,
+    id: TargetId,
+    /// The fault of the step that was the last.
+    spent: Option<StepFault>,
+    handler: Handler<S>,
+}
+
+impl<S: Service> Model for Target<S> {
+    ghost use Rattle.std.specs.Prelude.{◌≡◌, None};
+    ghost use Rattle.lu_target.specs.Targets.{TargetState, IsReady};
+
+    ghost Value = { TargetState };
+
+    ghost view = { λ t. record { id = t.id.0; spent = t.spent; contents = S.contents t.handler.service; journal = t.handler.journal } };
+
+    ghost invariant = { λ t. t.spent ≡ None → IsReady (S.contents t.handler.service) t.handler.journal };
+}
+
+impl<S: Service> Target<S> {
+    /// The metadata target, number 0, in its first boot: a new service, no transaction, and a slot without
+    /// replies for each of these lives. `expire`, the ticks after which a lock's holder that doesn't answer is
+    /// evicted, has no effect yet.
+    pub fn start(
+        alloc: Global,
+        service: S,
+        id: TargetId,
+        first: &[Who],
+        _expire: u64,
+    ) -> Result<Target<S>, Memory>
+    where
+        S: Drop,
+        requires mdt { S.kind ≡ Mdt }
+        requires id { id.0 ≡ 0 }
+        requires new { S.contents service ≡ fresh (S.contents service).osts }
+        ensures id { IfOk result (λ target. target.id ≡ 0) }
+        ensures unspent { IfOk result (λ target. target.spent ≡ None) }
+        ensures osts { IfOk result (λ target. target.contents.osts ≡ (S.contents service).osts) }
+        ensures server { IfOk result (λ target. server target ≡ record { boot = 1; count = 0; committed = record { 0 = 0 }; tree = empty; log = [] }) }
+        ensures slots { IfOk result (λ target. (who : SpecWho) (tag : ℕ) → slot target who tag ≡ None) }
+        ensures served { IfOk result (λ target. (who : SpecWho) → serves target who ≡ is_among who first.now) }
+    {
+        Ok(Target {
+            alloc,
+            id,
+            spent: None,
+            handler: Handler::new(alloc, service, first)?,
+        })
+    }
+
+    /// A message comes. A request whose life has a slot, whose tag is 0 to 7 and whose operation the service
+    /// performs goes on by the reply that is kept for its life and tag: with a number above that one it is
+    /// executed, with the same the kept reply is sent again, and with one below it does nothing. Any other
+    /// message only makes its `take`. `NumbersSpent` where the turn needs a transaction and the boot's count
+    /// stands at 2^32 - 1.
+    pub fn deliver(&mut self, stamp: Stamp, message: &Message) -> Result<Step, StepFault>
+        requires mdt { S.kind ≡ Mdt }
+        requires fits { self.old.spent ≡ None → Fits S.takes self.old.journal message.now }
+        ensures step { IfOk result (λ step. step ≡ step_of (turn_of self.old.id stamp) (row self.old stamp message.now)) }
+        ensures server { OnOk result (server self.new ≡ server_turn self.old.contents.osts (server self.old) (row self.old stamp message.now)) }
+        ensures slots { OnOk result ((who : SpecWho) (tag : ℕ) → slot self.new who tag ≡ slot_turn (slot self.old) (row self.old stamp message.now) who tag) }
+        ensures served { OnOk result ((who : SpecWho) → serves self.new who ≡ serves self.old who) }
+        ensures osts { OnOk result (self.new.contents.osts ≡ self.old.contents.osts) }
+        ensures id { self.new.id ≡ self.old.id }
+        ensures numbers { result ≡ Err StepFault.NumbersSpent → (self.old.spent ≡ Some StepFault.NumbersSpent) ⊎ LacksNumber self.old stamp message.now }
+        ensures room { OnOk result (LacksNumber self.old stamp message.now → ⊥) }
+        ensures unspent { OnOk result ((self.old.spent ≡ None) × (self.new.spent ≡ None)) }
+        ensures again { (fault : StepFault) → self.old.spent ≡ Some fault → result ≡ Err fault }
+        ensures spent { IfErr result (λ fault. self.new.spent ≡ Some fault) }
+    {
+        if let Some(fault) = self.spent {
+            return Err(fault);
+        }
+        let at = self.turn(stamp);
+        match self.handler.take(at, message) {
+            Ok(step) => Ok(step),
+            Err(fault) => {
+                self.spent = Some(fault);
+                Err(fault)
+            }
+        }
+    }
+
+    /// The target's time goes on. Nothing else happens yet.
+    pub fn tick(&mut self, stamp: Stamp) -> Result<Step, StepFault>
+        ensures step { IfOk result (λ step. step ≡ step_of (turn_of self.old.id stamp) row_tick) }
+        ensures same { OnOk result (self.new ≡ self.old) }
+        ensures kept { IfErr result (λ fault. self.new ≡ record self.old { spent = Some fault }) }
+        ensures numbers { result ≡ Err StepFault.NumbersSpent → self.old.spent ≡ Some StepFault.NumbersSpent }
+        ensures unspent { OnOk result (self.old.spent ≡ None) }
+        ensures again { (fault : StepFault) → self.old.spent ≡ Some fault → result ≡ Err fault }
+    {
+        if let Some(fault) = self.spent {
+            return Err(fault);
+        }
+        match ticked(self.alloc, self.turn(stamp)) {
+            Ok(step) => Ok(step),
+            Err(Memory) => {
+                self.spent = Some(StepFault::Memory);
+                Err(StepFault::Memory)
+            }
+        }
+    }
+
+    /// The turn of this stamp.
+    fn turn(&self, stamp: Stamp) -> At
+        ensures turn { result ≡ turn_of self.now.id stamp }
+    {
+        At {
+            stamp,
+            node: Node::Target(self.id.0),
+        }
+    }
+}
+
+/// The turn in which the time goes on.
+fn ticked(alloc: Global, at: At) -> Result<Step, Memory>
+    ensures step { IfOk result (λ step. step ≡ step_of at row_tick) }
+{
+    let mut turn = Turn::new(alloc, at);
+    turn.note(Entry::Tick)?;
+    Ok(turn.done())
+}
