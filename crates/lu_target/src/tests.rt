@@ -1,4 +1,4 @@
-ghost use Rattle.std.specs.Prelude.{◌≡◌, ◌<◌, true, IfOk, OnOk};
+ghost use Rattle.std.specs.Prelude.{◌≡◌, true, IfOk, OnOk};
 ghost use Rattle.lu_base.specs.declared.ids.Who.{Who as SpecWho};
 ghost use Rattle.lu_tree.specs.State.{IsPerformed};
 ghost use Rattle.lu_target.specs.Targets.{serves};
@@ -16,12 +16,28 @@ const A: Who = Who { client: 0, life: 1 };
 
 const B: Who = Who { client: 1, life: 1 };
 
-fn started(alloc: Global) -> Result<Target<Mdt>, Memory>
-    ensures first { IfOk result (λ target. serves target (record { client = 0; life = 1 }) ≡ true) }
-    ensures second { IfOk result (λ target. serves target (record { client = 1; life = 1 }) ≡ true) }
-{
-    Target::start(alloc, Mdt::new(alloc, 1)?, TargetId(0), &[A, B], 3)
+/// An operation on one path.
+#[derive(Clone, Copy)]
+enum Verb {
+    Lookup,
+    Mkdir,
+    Rmdir,
 }
+
+/// What a turn of the target begins with.
+#[derive(Clone, Copy)]
+enum Event {
+    /// A request of client 0 under this number and tag.
+    First(u64, u8, Verb, &'static [u8]),
+    /// A request of client 1 under this number, with tag 0.
+    Second(u64, Verb, &'static [u8]),
+    /// A client asks to be served.
+    Join,
+    Tick,
+}
+
+/// A turn: its stamp, what it begins with, and the text of its lines.
+type Row = (u64, Event, &'static [u8]);
 
 fn path(alloc: Global, text: &[u8]) -> Result<Path, Memory> {
     match read_path(alloc, text)? {
@@ -30,45 +46,58 @@ fn path(alloc: Global, text: &[u8]) -> Result<Path, Memory> {
     }
 }
 
-/// A request to make this directory.
-fn mkdir(alloc: Global, who: Who, xid: u64, tag: u8, text: &[u8]) -> Result<Request, Memory>
-    ensures who { IfOk result (λ request. request.who ≡ who) }
-    ensures tag { IfOk result (λ request. request.tag ≡ tag) }
-    ensures performed { IfOk result (λ request. IsPerformed request.op) }
+fn op(alloc: Global, verb: Verb, text: &[u8]) -> Result<Op, Memory>
+    ensures { IfOk result IsPerformed }
 {
-    let op = Op::Mkdir(path(alloc, text)?);
-    Ok(request(who, xid, tag, op))
+    let path = path(alloc, text)?;
+    match verb {
+        Verb::Lookup => Ok(Op::Lookup(path)),
+        Verb::Mkdir => Ok(Op::Mkdir(path)),
+        Verb::Rmdir => Ok(Op::Rmdir(path)),
+    }
 }
 
-/// A request to remove this directory.
-fn rmdir(alloc: Global, who: Who, xid: u64, tag: u8, text: &[u8]) -> Result<Request, Memory>
-    ensures who { IfOk result (λ request. request.who ≡ who) }
-    ensures tag { IfOk result (λ request. request.tag ≡ tag) }
-    ensures performed { IfOk result (λ request. IsPerformed request.op) }
+/// A request comes.
+fn asked(
+    target: &mut Target<Mdt>,
+    stamp: Stamp,
+    who: Who,
+    xid: u64,
+    tag: u8,
+    op: Op,
+) -> Result<Step, StepFault>
+    requires slot { serves target.old who ≡ true }
+    requires performed { IsPerformed op }
+    ensures served { OnOk result ((other : SpecWho) → serves target.new other ≡ serves target.old other) }
 {
-    let op = Op::Rmdir(path(alloc, text)?);
-    Ok(request(who, xid, tag, op))
-}
-
-/// A request to look up this path.
-fn lookup(alloc: Global, who: Who, xid: u64, tag: u8, text: &[u8]) -> Result<Request, Memory>
-    ensures who { IfOk result (λ request. request.who ≡ who) }
-    ensures tag { IfOk result (λ request. request.tag ≡ tag) }
-    ensures performed { IfOk result (λ request. IsPerformed request.op) }
-{
-    let op = Op::Lookup(path(alloc, text)?);
-    Ok(request(who, xid, tag, op))
-}
-
-fn request(who: Who, xid: u64, tag: u8, op: Op) -> Request
-    ensures { result ≡ record { who = who; boot = 1; xid = record { 0 = xid }; tag = tag; op = op } }
-{
-    Request {
+    let request = Request {
         who,
         boot: 1,
         xid: Xid(xid),
-        tag,
+        tag: tag % 8,
         op,
+    };
+    target.deliver(stamp, &Message::Request(request))
+}
+
+/// The turn that begins so.
+fn turn(
+    alloc: Global,
+    target: &mut Target<Mdt>,
+    stamp: Stamp,
+    event: Event,
+) -> Result<Step, StepFault>
+    requires first { serves target.old (record { client = 0; life = 1 }) ≡ true }
+    requires second { serves target.old (record { client = 1; life = 1 }) ≡ true }
+    ensures served { OnOk result ((other : SpecWho) → serves target.new other ≡ serves target.old other) }
+{
+    match event {
+        Event::First(xid, tag, verb, text) => {
+            asked(target, stamp, A, xid, tag, op(alloc, verb, text)?)
+        }
+        Event::Second(xid, verb, text) => asked(target, stamp, B, xid, 0, op(alloc, verb, text)?),
+        Event::Join => target.deliver(stamp, &Message::Join { who: A, boot: 1 }),
+        Event::Tick => target.tick(stamp),
     }
 }
 
@@ -86,216 +115,144 @@ fn shows(rt: &impl Abort, alloc: Global, step: Step, wanted: &[u8]) -> Result<()
         entries: step.entries,
     };
     let text = render(alloc, &trace, End::Done)?;
-    assert!(rt; text.as_slice() == wanted);
+    assert_eq!(rt; text.as_slice(), wanted);
     Ok(())
 }
 
-/// A request comes, and the turn's text is this.
-fn comes(
-    rt: &impl Abort,
-    alloc: Global,
-    target: &mut Target<Mdt>,
-    stamp: u64,
-    request: Result<Request, Memory>,
-    wanted: &[u8],
-) -> Result<(), Fail>
-    requires slot { IfOk request (λ request. serves target.old request.who ≡ true) }
-    requires tag { IfOk request (λ request. request.tag < 8) }
-    requires performed { IfOk request (λ request. IsPerformed request.op) }
-    ensures served { OnOk result ((other : SpecWho) → serves target.new other ≡ serves target.old other) }
-{
-    let step = target.deliver(Stamp(stamp), &Message::Request(request?))?;
-    shows(rt, alloc, step, wanted)?;
+/// The turns of a target with a slot for the first life of each of two clients.
+fn runs(rt: &impl Abort, alloc: Global, rows: &[Row]) -> Result<(), Fail> {
+    let service = Mdt::new(alloc, 1)?;
+    let mut target = Target::start(alloc, service, TargetId(0), &[A, B], 3)?;
+    for row in rows {
+        let step = turn(alloc, &mut target, Stamp(row.0), row.1)?;
+        shows(rt, alloc, step, row.2)?;
+    }
     Ok(())
 }
 
 #[test]
 fn one_client(rt: HostRuntime) -> Result<(), Fail> {
-    let alloc = rt.alloc();
-    let mut target = started(alloc)?;
-    comes(
-        &rt,
-        alloc,
-        &mut target,
-        2,
-        mkdir(alloc, A, 1, 0, b"/a"),
-        b"2 t0 take 0\n2 t0 txn 1.1 c0.1 1 - ok 1.1\n2 t0 send 0 c0 reply c0.1 1 1 1.1 0.0 - 2:t0 - ok 1.1\nend\n",
-    )?;
-    comes(
-        &rt,
-        alloc,
-        &mut target,
-        5,
-        mkdir(alloc, A, 2, 0, b"/a"),
-        b"5 t0 take 0\n5 t0 act c0.1 2 EEXIST\n5 t0 send 0 c0 reply c0.1 1 2 0.0 0.0 1.1 5:t0 - EEXIST\nend\n",
-    )?;
-    comes(
-        &rt,
-        alloc,
-        &mut target,
-        8,
-        lookup(alloc, A, 3, 0, b"/b"),
-        b"8 t0 take 0\n8 t0 act c0.1 3 ENOENT\n8 t0 send 0 c0 reply c0.1 1 3 0.0 0.0 - 8:t0 - ENOENT\nend\n",
-    )?;
-    comes(
-        &rt,
-        alloc,
-        &mut target,
-        11,
-        rmdir(alloc, A, 4, 0, b"/a"),
-        b"11 t0 take 0\n11 t0 txn 1.2 c0.1 4 1.1 ok\n11 t0 send 0 c0 reply c0.1 1 4 1.2 0.0 1.1 11:t0 - ok\nend\n",
-    )?;
-    Ok(())
+    let rows: [Row; 4] = [
+        (
+            2,
+            Event::First(1, 0, Verb::Mkdir, b"/a"),
+            b"2 t0 take 0\n2 t0 txn 1.1 c0.1 1 - ok 1.1\n2 t0 send 0 c0 reply c0.1 1 1 1.1 0.0 - 2:t0 - ok 1.1\nend\n",
+        ),
+        (
+            5,
+            Event::First(2, 0, Verb::Mkdir, b"/a"),
+            b"5 t0 take 0\n5 t0 act c0.1 2 EEXIST\n5 t0 send 0 c0 reply c0.1 1 2 0.0 0.0 1.1 5:t0 - EEXIST\nend\n",
+        ),
+        (
+            8,
+            Event::First(3, 0, Verb::Lookup, b"/b"),
+            b"8 t0 take 0\n8 t0 act c0.1 3 ENOENT\n8 t0 send 0 c0 reply c0.1 1 3 0.0 0.0 - 8:t0 - ENOENT\nend\n",
+        ),
+        (
+            11,
+            Event::First(4, 0, Verb::Rmdir, b"/a"),
+            b"11 t0 take 0\n11 t0 txn 1.2 c0.1 4 1.1 ok\n11 t0 send 0 c0 reply c0.1 1 4 1.2 0.0 1.1 11:t0 - ok\nend\n",
+        ),
+    ];
+    runs(&rt, rt.alloc(), rows.as_slice())
 }
 
 #[test]
 fn two_clients_in_the_other_order(rt: HostRuntime) -> Result<(), Fail> {
-    let alloc = rt.alloc();
-    let mut target = started(alloc)?;
-    comes(
-        &rt,
-        alloc,
-        &mut target,
-        3,
-        mkdir(alloc, B, 1, 0, b"/a"),
-        b"3 t0 take 0\n3 t0 txn 1.1 c1.1 1 - ok 1.1\n3 t0 send 0 c1 reply c1.1 1 1 1.1 0.0 - 3:t0 - ok 1.1\nend\n",
-    )?;
-    comes(
-        &rt,
-        alloc,
-        &mut target,
-        4,
-        mkdir(alloc, A, 1, 0, b"/a"),
-        b"4 t0 take 0\n4 t0 act c0.1 1 EEXIST\n4 t0 send 0 c0 reply c0.1 1 1 0.0 0.0 1.1 4:t0 - EEXIST\nend\n",
-    )?;
-    Ok(())
+    let rows: [Row; 2] = [
+        (
+            3,
+            Event::Second(1, Verb::Mkdir, b"/a"),
+            b"3 t0 take 0\n3 t0 txn 1.1 c1.1 1 - ok 1.1\n3 t0 send 0 c1 reply c1.1 1 1 1.1 0.0 - 3:t0 - ok 1.1\nend\n",
+        ),
+        (
+            4,
+            Event::First(1, 0, Verb::Mkdir, b"/a"),
+            b"4 t0 take 0\n4 t0 act c0.1 1 EEXIST\n4 t0 send 0 c0 reply c0.1 1 1 0.0 0.0 1.1 4:t0 - EEXIST\nend\n",
+        ),
+    ];
+    runs(&rt, rt.alloc(), rows.as_slice())
 }
 
 /// The repeated request isn't executed again, although the directory that it made is gone.
 #[test]
 fn a_repeated_request_gets_the_kept_reply(rt: HostRuntime) -> Result<(), Fail> {
-    let alloc = rt.alloc();
-    let mut target = started(alloc)?;
-    comes(
-        &rt,
-        alloc,
-        &mut target,
-        2,
-        mkdir(alloc, A, 1, 0, b"/a"),
-        b"2 t0 take 0\n2 t0 txn 1.1 c0.1 1 - ok 1.1\n2 t0 send 0 c0 reply c0.1 1 1 1.1 0.0 - 2:t0 - ok 1.1\nend\n",
-    )?;
-    comes(
-        &rt,
-        alloc,
-        &mut target,
-        4,
-        rmdir(alloc, B, 1, 0, b"/a"),
-        b"4 t0 take 0\n4 t0 txn 1.2 c1.1 1 1.1 ok\n4 t0 send 0 c1 reply c1.1 1 1 1.2 0.0 1.1 4:t0 - ok\nend\n",
-    )?;
-    comes(
-        &rt,
-        alloc,
-        &mut target,
-        6,
-        mkdir(alloc, A, 1, 0, b"/a"),
-        b"6 t0 take 0\n6 t0 send 0 c0 reply c0.1 1 1 1.1 0.0 - 2:t0 - ok 1.1\nend\n",
-    )?;
-    Ok(())
+    let rows: [Row; 3] = [
+        (
+            2,
+            Event::First(1, 0, Verb::Mkdir, b"/a"),
+            b"2 t0 take 0\n2 t0 txn 1.1 c0.1 1 - ok 1.1\n2 t0 send 0 c0 reply c0.1 1 1 1.1 0.0 - 2:t0 - ok 1.1\nend\n",
+        ),
+        (
+            4,
+            Event::Second(1, Verb::Rmdir, b"/a"),
+            b"4 t0 take 0\n4 t0 txn 1.2 c1.1 1 1.1 ok\n4 t0 send 0 c1 reply c1.1 1 1 1.2 0.0 1.1 4:t0 - ok\nend\n",
+        ),
+        (
+            6,
+            Event::First(1, 0, Verb::Mkdir, b"/a"),
+            b"6 t0 take 0\n6 t0 send 0 c0 reply c0.1 1 1 1.1 0.0 - 2:t0 - ok 1.1\nend\n",
+        ),
+    ];
+    runs(&rt, rt.alloc(), rows.as_slice())
 }
 
+/// A number below the kept one does nothing; another tag is another slot.
 #[test]
-fn a_request_below_does_nothing(rt: HostRuntime) -> Result<(), Fail> {
-    let alloc = rt.alloc();
-    let mut target = started(alloc)?;
-    comes(
-        &rt,
-        alloc,
-        &mut target,
-        2,
-        lookup(alloc, A, 2, 0, b"/a"),
-        b"2 t0 take 0\n2 t0 act c0.1 2 ENOENT\n2 t0 send 0 c0 reply c0.1 1 2 0.0 0.0 - 2:t0 - ENOENT\nend\n",
-    )?;
-    comes(
-        &rt,
-        alloc,
-        &mut target,
-        3,
-        mkdir(alloc, A, 1, 0, b"/a"),
-        b"3 t0 take 0\nend\n",
-    )?;
-    Ok(())
-}
-
-#[test]
-fn two_tags_are_apart(rt: HostRuntime) -> Result<(), Fail> {
-    let alloc = rt.alloc();
-    let mut target = started(alloc)?;
-    comes(
-        &rt,
-        alloc,
-        &mut target,
-        2,
-        lookup(alloc, A, 2, 0, b"/a"),
-        b"2 t0 take 0\n2 t0 act c0.1 2 ENOENT\n2 t0 send 0 c0 reply c0.1 1 2 0.0 0.0 - 2:t0 - ENOENT\nend\n",
-    )?;
-    comes(
-        &rt,
-        alloc,
-        &mut target,
-        3,
-        mkdir(alloc, A, 1, 1, b"/a"),
-        b"3 t0 take 0\n3 t0 txn 1.1 c0.1 1 - ok 1.1\n3 t0 send 0 c0 reply c0.1 1 1 1.1 0.0 - 3:t0 - ok 1.1\nend\n",
-    )?;
-    comes(
-        &rt,
-        alloc,
-        &mut target,
-        4,
-        lookup(alloc, A, 2, 0, b"/a"),
-        b"4 t0 take 0\n4 t0 send 0 c0 reply c0.1 1 2 0.0 0.0 - 2:t0 - ENOENT\nend\n",
-    )?;
-    Ok(())
+fn numbers_below_and_other_tags(rt: HostRuntime) -> Result<(), Fail> {
+    let rows: [Row; 4] = [
+        (
+            2,
+            Event::First(2, 0, Verb::Lookup, b"/a"),
+            b"2 t0 take 0\n2 t0 act c0.1 2 ENOENT\n2 t0 send 0 c0 reply c0.1 1 2 0.0 0.0 - 2:t0 - ENOENT\nend\n",
+        ),
+        (
+            3,
+            Event::First(1, 0, Verb::Mkdir, b"/a"),
+            b"3 t0 take 0\nend\n",
+        ),
+        (
+            4,
+            Event::First(1, 1, Verb::Mkdir, b"/a"),
+            b"4 t0 take 0\n4 t0 txn 1.1 c0.1 1 - ok 1.1\n4 t0 send 0 c0 reply c0.1 1 1 1.1 0.0 - 4:t0 - ok 1.1\nend\n",
+        ),
+        (
+            5,
+            Event::First(2, 0, Verb::Lookup, b"/a"),
+            b"5 t0 take 0\n5 t0 send 0 c0 reply c0.1 1 2 0.0 0.0 - 2:t0 - ENOENT\nend\n",
+        ),
+    ];
+    runs(&rt, rt.alloc(), rows.as_slice())
 }
 
 /// All that wrote what is touched are seen, in rising number; what the request itself writes isn't.
 #[test]
 fn seen_numbers_are_those_before(rt: HostRuntime) -> Result<(), Fail> {
-    let alloc = rt.alloc();
-    let mut target = started(alloc)?;
-    comes(
-        &rt,
-        alloc,
-        &mut target,
-        2,
-        mkdir(alloc, A, 1, 0, b"/a"),
-        b"2 t0 take 0\n2 t0 txn 1.1 c0.1 1 - ok 1.1\n2 t0 send 0 c0 reply c0.1 1 1 1.1 0.0 - 2:t0 - ok 1.1\nend\n",
-    )?;
-    comes(
-        &rt,
-        alloc,
-        &mut target,
-        4,
-        rmdir(alloc, A, 3, 0, b"/a"),
-        b"4 t0 take 0\n4 t0 txn 1.2 c0.1 3 1.1 ok\n4 t0 send 0 c0 reply c0.1 1 3 1.2 0.0 1.1 4:t0 - ok\nend\n",
-    )?;
-    comes(
-        &rt,
-        alloc,
-        &mut target,
-        5,
-        lookup(alloc, A, 4, 0, b"/a"),
-        b"5 t0 take 0\n5 t0 act c0.1 4 ENOENT\n5 t0 send 0 c0 reply c0.1 1 4 0.0 0.0 1.1,1.2 5:t0 - ENOENT\nend\n",
-    )?;
-    Ok(())
+    let rows: [Row; 3] = [
+        (
+            2,
+            Event::First(1, 0, Verb::Mkdir, b"/a"),
+            b"2 t0 take 0\n2 t0 txn 1.1 c0.1 1 - ok 1.1\n2 t0 send 0 c0 reply c0.1 1 1 1.1 0.0 - 2:t0 - ok 1.1\nend\n",
+        ),
+        (
+            4,
+            Event::First(3, 0, Verb::Rmdir, b"/a"),
+            b"4 t0 take 0\n4 t0 txn 1.2 c0.1 3 1.1 ok\n4 t0 send 0 c0 reply c0.1 1 3 1.2 0.0 1.1 4:t0 - ok\nend\n",
+        ),
+        (
+            5,
+            Event::First(4, 0, Verb::Lookup, b"/a"),
+            b"5 t0 take 0\n5 t0 act c0.1 4 ENOENT\n5 t0 send 0 c0 reply c0.1 1 4 0.0 0.0 1.1,1.2 5:t0 - ENOENT\nend\n",
+        ),
+    ];
+    runs(&rt, rt.alloc(), rows.as_slice())
 }
 
 #[test]
 fn other_turns_have_one_line(rt: HostRuntime) -> Result<(), Fail> {
-    let alloc = rt.alloc();
-    let mut target = started(alloc)?;
-    let step = target.tick(Stamp(2))?;
-    shows(&rt, alloc, step, b"2 t0 tick\nend\n")?;
-    let step = target.deliver(Stamp(3), &Message::Join { who: A, boot: 1 })?;
-    shows(&rt, alloc, step, b"3 t0 take 0\nend\n")?;
-    Ok(())
+    let rows: [Row; 2] = [
+        (2, Event::Tick, b"2 t0 tick\nend\n"),
+        (3, Event::Join, b"3 t0 take 0\nend\n"),
+    ];
+    runs(&rt, rt.alloc(), rows.as_slice())
 }
