@@ -91,7 +91,15 @@ end
     ];
     for (scene, trace) in rows {
         let came = performed(rt.alloc(), scene, trace)?;
-        assert!(rt; matches!(came, Came::Ran { end: End::Done, same: true }));
+        assert!(rt;
+            matches!(
+                came,
+                Came::Ran {
+                    end: End::Done,
+                    same: true
+                }
+            )
+        );
     }
     Ok(())
 }
