@@ -3,4 +3,4 @@ use Rattle.lu_client.proofs.tests.runs.Given as goal
 
 -- each turn so far used at most eight request numbers
 abbrev pub invariant-loop-row : goal.invariant-loop-row
-invariant-loop-row l = l.client.asker.last ≤ 8 * l.row-index
+invariant-loop-row g l = l.client.asker.last ≤ 8 * l.row-index

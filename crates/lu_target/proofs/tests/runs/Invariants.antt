@@ -4,4 +4,4 @@ use Rattle.lu_target.proofs.tests.runs.Given as goal
 
 -- both lives have slots
 abbrev pub invariant-loop-row : goal.invariant-loop-row
-invariant-loop-row l = (serves l.target (record { client = 0; life = 1 }) ≡ true) × (serves l.target (record { client = 1; life = 1 }) ≡ true)
+invariant-loop-row g l = (serves l.target (record { client = 0; life = 1 }) ≡ true) × (serves l.target (record { client = 1; life = 1 }) ≡ true)
