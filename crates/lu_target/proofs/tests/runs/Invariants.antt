@@ -1,4 +1,4 @@
-use Rattle.std.proofs.Common.{◌≡◌, ◌×◌, true}
+use Rattle.std.proofs.Common.{◌≡◌, true}
 use Rattle.lu_target.specs.Targets.{serves}
 use Rattle.lu_target.proofs.tests.runs.Given as goal
 
