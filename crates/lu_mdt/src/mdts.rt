@@ -39,16 +39,14 @@ impl Mdt {
 
 impl Service for Mdt {
     ghost use Rattle.lu_service.specs.declared.services.Kind.TheVariants.{Mdt as MdtKind};
-    ghost use Rattle.lu_tree.specs.State.{IsPerformed};
-    ghost use Rattle.lu_service.specs.Names.{names};
-    ghost use Rattle.lu_mdt.specs.Names.{performed_named};
+    ghost use Rattle.lu_service.specs.Names.{names, IsNamed};
     ghost use Rattle.lu_mdt.specs.Lawful.{names_lawful};
 
     ghost kind = { MdtKind };
 
     ghost contents = { λ mdt. mdt };
 
-    ghost takes = { IsPerformed };
+    ghost takes = { IsNamed };
 
     ghost acts = { names };
 
@@ -56,7 +54,7 @@ impl Service for Mdt {
 
     ghost serves_names = { λ _. refl };
 
-    ghost performs_names = { λ _ op is. performed_named op is };
+    ghost performs_names = { λ _ _ is. is };
 
     fn apply(&mut self, alloc: Global, number: Txn, who: Who, op: &Op) -> Result<Answer, Memory> {
         self.tree.apply(alloc, number, who, op)

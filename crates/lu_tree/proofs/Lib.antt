@@ -4,3 +4,5 @@ pub mod Views
 pub mod Reached
 pub mod RowEnds
 pub mod Lean
+pub mod Used
+pub mod Sound

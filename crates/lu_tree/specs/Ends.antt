@@ -1,45 +1,75 @@
 -- Where an operation comes to in the table: one case for each row's end.
-use Rattle.std.specs.Prelude.{◌≡◌, ℕ, Option, Some, None, List, [], ◌∷◌, ◌⊎◌}
+use Rattle.std.specs.Prelude.{◌≡◌, ℕ, ◌+◌, ◌<◌, Option, Some, None, List, [], ◌∷◌, ◌++◌, ◌⊎◌}
+use Rattle.std.specs.Map.{lookup}
 use Rattle.lu_base.specs.declared.ids.Fid.{Fid}
 use Rattle.lu_base.specs.declared.ids.Txn.{Txn}
 use Rattle.lu_base.specs.declared.ids.Who.{Who}
 use Rattle.lu_msg.specs.declared.answers.Answer.{Answer}
 use Rattle.lu_msg.specs.declared.answers.Answer.TheVariants as told
+use Rattle.lu_msg.specs.declared.answers.Errno.TheVariants.{ENOTEMPTY}
 use Rattle.lu_msg.specs.declared.operations.Op.{Op}
 use Rattle.lu_msg.specs.declared.operations.Op.TheVariants as op
+use Rattle.lu_part.specs.declared.bits.TheConstants.{UPDATE, LAYOUT}
 use Rattle.lu_part.specs.declared.parts.Part.{Part}
 use Rattle.lu_part.specs.declared.parts.Part.TheVariants as part
 use Rattle.lu_part.specs.declared.parts.Want.{Want}
-use Rattle.lu_tree.specs.Walks.{trail}
+use Rattle.lu_tree.specs.Walks.{looks}
 use Rattle.lu_machine.specs.declared.child.Child.{Child}
-use Rattle.lu_machine.specs.declared.child.Child.TheVariants.{Dir}
-use Rattle.lu_machine.specs.Tree.{Tree, child, listing}
+use Rattle.lu_machine.specs.declared.child.Child.TheVariants.{Dir, File}
+use Rattle.lu_machine.specs.Tree.{Tree, same_fid, child, listing, directory, file, layout}
 use Rattle.lu_machine.specs.Change.{Change, Leads, Drops, Parted, MakesDir, Leaves}
 use Rattle.lu_machine.specs.Plan.{Outcome}
 use Rattle.lu_machine.specs.Table.{root, made_by, found, wants}
 use Rattle.lu_tree.specs.declared.ends.End.{End}
-use Rattle.lu_tree.specs.declared.ends.End.TheVariants.{Refused, Finds, Makes, Removes}
+use Rattle.lu_tree.specs.declared.ends.End.TheVariants.{Refused, NotEmpty, Finds, Stats, Lists, Shows, Makes, Removes}
 
-abbrev pub told_of : Txn → End → Answer
-told_of number (Refused e) = told.Refused e
-told_of number (Finds c) = found c
-told_of number (Makes d n) = told.Made (made_by number)
-told_of number (Removes d n e) = told.Done
+abbrev pub stat_of : Tree → Child → Answer
+stat_of t (Dir d) = told.DirStat d (directory t d).mode
+stat_of t (File f) = told.FileStat f (file t f).mode (file t f).links (layout t f)
 
-abbrev pub changes_of : Txn → Who → End → List Change
-changes_of number who (Refused e) = []
-changes_of number who (Finds c) = []
-changes_of number who (Makes d n) = MakesDir (made_by number) ∷ Leads d n.now (Dir (made_by number)) ∷ []
-changes_of number who (Removes d n e) = Drops d n.now ∷ Parted e ∷ Leaves e ∷ []
+abbrev pub told_of : Tree → Txn → End → Answer
+told_of t number (Refused e) = told.Refused e
+told_of t number (NotEmpty d) = told.Refused ENOTEMPTY
+told_of t number (Finds c) = found c
+told_of t number (Stats c) = stat_of t c
+told_of t number (Lists d) = told.Names (listing t d)
+told_of t number (Shows f) = told.Layout (layout t f)
+told_of t number (Makes d n) = told.Made (made_by number)
+told_of t number (Removes d n e) = told.Done
 
--- only readings grant locks
-abbrev pub grants_of : List Want → End → List Want
-grants_of wants (Finds c) = wants
-grants_of wants _ = []
+-- over this many object storage targets
+abbrev pub changes_of : ℕ → Tree → Txn → Who → End → List Change
+changes_of osts t number who (Makes d n) = MakesDir (made_by number) ∷ Leads d n.now (Dir (made_by number)) ∷ []
+changes_of osts t number who (Removes d n e) = Drops d n.now ∷ Parted e ∷ Leaves e ∷ []
+changes_of osts t number who _ = []
 
--- what comes of it, where these locks would be granted
-abbrev pub ended : Txn → Who → List Want → End → Outcome
-ended number who wants end = record { answer = told_of number end; grants = grants_of wants end; changes = changes_of number who end }
+-- the bits, besides LOOKUP, that a reading is granted on the last inode of its walk; only readings are granted locks
+abbrev pub bits_of : End → Option ℕ
+bits_of (Finds c) = Some 0
+bits_of (Stats (Dir d)) = Some UPDATE
+bits_of (Stats (File f)) = Some (UPDATE + LAYOUT)
+bits_of (Lists d) = Some UPDATE
+bits_of (Shows f) = Some LAYOUT
+bits_of _ = None
+
+-- the locks with these bits on what a walk has passed
+abbrev pub wanted : List Child → Option ℕ → List Want
+wanted passed None = []
+wanted passed (Some bits) = wants bits passed
+
+-- what comes of it, where a walk has passed these inodes
+abbrev pub ended : ℕ → Tree → Txn → Who → List Child → End → Outcome
+ended osts t number who passed end = record { answer = told_of t number end; grants = wanted passed (bits_of end); changes = changes_of osts t number who end }
+
+-- what it looked at after the names
+abbrev pub looked_of : End → List Part
+looked_of (NotEmpty d) = part.List d ∷ []
+looked_of (Stats (Dir d)) = part.Attr d ∷ []
+looked_of (Stats (File f)) = part.Attr f ∷ part.Layout f ∷ []
+looked_of (Lists d) = part.List d ∷ []
+looked_of (Shows f) = part.Layout f ∷ []
+looked_of (Removes d n e) = part.List e ∷ []
+looked_of _ = []
 
 -- it is the root, or a name leads to it
 abbrev pub IsReached : Tree → Child → Type 0
@@ -47,16 +77,32 @@ IsReached t c = (c ≡ root) ⊎ ((d : Fid) × (n : List ℕ) × (child t d n �
 
 -- what the walks have seen
 abbrev pub Seen : Tree → End → Type 0
+Seen t (Stats c) = IsReached t c
+Seen t (Shows f) = IsReached t (File f)
 Seen t (Makes d n) = IsReached t (Dir d) × (child t d n.now ≡ None)
 Seen t (Removes d n e) = (child t d n.now ≡ Some (Dir e)) × (listing t e ≡ [])
 Seen t _ = Unit {0}
 
--- the locks that a reading grants where it isn't refused
-abbrev pub wants_of : Tree → Op → List Want
-wants_of t (op.Lookup path) = wants 0 (trail t root path)
-wants_of t _ = []
+-- nothing has the number, and no file has so many links
+pub record IsFresh (t : Tree) (number : Txn) : Type 0 where
+  pub dirs : lookup (same_fid (made_by number)) t.dirs ≡ None
+  pub files : lookup (same_fid (made_by number)) t.files ≡ None
+  pub links : (f : Fid) → (file t f).links < number.0
 
--- the list of a directory, if one
-abbrev pub list_of : Option Fid → List Part
-list_of None = []
-list_of (Some d) = part.List d ∷ []
+-- the names that a reading walks by
+abbrev pub path_of : Op → List (List ℕ)
+path_of (op.Lookup path) = path
+path_of (op.Stat path) = path
+path_of (op.List path) = path
+path_of (op.Layout path) = path
+path_of _ = []
+
+-- the names that an operation looks up
+abbrev pub names_of : Tree → Op → List Part
+names_of t (op.Lookup path) = looks t root path
+names_of t (op.Stat path) = looks t root path
+names_of t (op.List path) = looks t root path
+names_of t (op.Layout path) = looks t root path
+names_of t (op.Mkdir path) = looks t root path
+names_of t (op.Rmdir path) = looks t root path
+names_of t _ = []

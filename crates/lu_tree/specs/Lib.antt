@@ -1,3 +1,4 @@
 pub mod Walks
 pub mod State
 pub mod Ends
+pub mod Rows

@@ -31,6 +31,27 @@ impl FileNode {
     {
         self.links > 0
     }
+
+    /// Its mode.
+    pub(crate) fn mode(&self) -> u16
+        ensures { result ≡ self.now.mode }
+    {
+        self.mode
+    }
+
+    /// How many names lead to it.
+    pub(crate) fn links(&self) -> u64
+        ensures { result ≡ self.now.links }
+    {
+        self.links
+    }
+
+    /// Its layout.
+    pub(crate) fn layout(&self) -> Layout
+        ensures { result ≡ self.now.layout }
+    {
+        self.layout
+    }
 }
 
 /// An open of a file: the transaction that opened it, and the life that asked for it.

@@ -2,15 +2,19 @@
 
 ghost use Rattle.std.specs.Prelude.{◌≡◌, [], List, IsTrue, ◌↔◌, IsSome, IfOk, OnOk, OnErr};
 ghost use Rattle.lu_machine.specs.Entries.{without};
-ghost use Rattle.lu_machine.specs.Tree.{same_fid, child, listing};
+ghost use Rattle.lu_machine.specs.declared.child.Child.TheVariants.{File as SpecFile};
+ghost use Rattle.lu_machine.specs.Tree.{same_fid, child, directory, file, layout, listing};
 ghost use Rattle.lu_machine.specs.Change.{Leads, Drops, MakesDir, Leaves, change};
 ghost use Rattle.lu_machine.specs.Footprint.{empty, forget};
 ghost use Rattle.lu_machine.specs.Trim.{trim};
+ghost use Rattle.lu_tree.specs.Ends.{IsReached};
+ghost use Rattle.lu_tree.specs.State.{IsCounted};
 
 use super::files::{FileNode, OpenFile, is_open};
 use super::folders::Folder;
 use super::walks::ROOT;
-use lu_base::{Fid, Memory, Name, Who};
+use lu_base::{Fid, Memory, Name, Names, Who};
+use lu_layout::Layout;
 use lu_machine::Child;
 use std::alloc::Global;
 use std::collections::BTreeMap;
@@ -64,6 +68,58 @@ impl Inodes {
             Some(folder) => folder.is_empty(),
             None => true,
         }
+    }
+
+    /// The names in the directory, none where it isn't there.
+    pub(crate) fn names(&self, alloc: Global, dir: Fid) -> Result<Names, Memory>
+        ensures names { IfOk result (λ names. names ≡ listing self.now dir) }
+    {
+        match self.dirs.get(&dir) {
+            Some(folder) => folder.names(alloc),
+            None => Ok(Names::new(alloc)),
+        }
+    }
+
+    /// The mode of the directory, 0 where it isn't there.
+    pub(crate) fn dir_mode(&self, dir: Fid) -> u16
+        ensures mode { result ≡ (directory self.now dir).mode }
+    {
+        match self.dirs.get(&dir) {
+            Some(folder) => folder.mode(),
+            None => 0,
+        }
+    }
+
+    /// The mode of the file, 0 where it isn't there.
+    pub(crate) fn file_mode(&self, fid: Fid) -> u16
+        ensures mode { result ≡ (file self.now fid).mode }
+    {
+        match self.files.get(&fid) {
+            Some(file) => file.mode(),
+            None => 0,
+        }
+    }
+
+    /// How many names lead to the file, 0 where it isn't there.
+    pub(crate) fn links(&self, fid: Fid) -> u64
+        ensures links { result ≡ (file self.now fid).links }
+    {
+        match self.files.get(&fid) {
+            Some(file) => file.links(),
+            None => 0,
+        }
+    }
+
+    /// The layout of a file that has a name.
+    pub(crate) fn layout(&self, fid: Fid) -> Layout
+        requires counted { IsCounted self.now }
+        requires reached { IsReached self.now (SpecFile fid) }
+        ensures layout { result ≡ layout self.now fid }
+    {
+        let Some(file) = self.files.get(&fid) else {
+            unreachable!();
+        };
+        file.layout()
     }
 
     /// Makes the name lead there. A directory that isn't there comes to be with mode 0, as the tree has it.

@@ -14,10 +14,13 @@ const ASKER: Who = Who { client: 0, life: 1 };
 /// The number 1.0: transactions of boot 1 follow it.
 const BOOT: u64 = 4294967296;
 
-/// An operation on one path.
+/// An operation on a path.
 #[derive(Clone, Copy)]
 enum Verb {
     Lookup,
+    Stat,
+    List,
+    Layout,
     Mkdir,
     Rmdir,
 }
@@ -28,9 +31,25 @@ enum Told {
     Done,
     Made(u32),
     Dir(u32),
-    Root,
+    DirStat(u32, u16),
+    Root(u16),
+    Names(&'static [u8]),
     No(Errno),
 }
+
+/// An operation, its path and what is answered. The first one of a table is transaction 1.1 if it makes one, the
+/// second one 1.2, and so on.
+type Row<'a> = (Verb, &'a [u8], Told);
+
+/// An operation and its path, then the parts that it touches, those that it writes, and the locks that it grants,
+/// each an inode and its bits.
+type Print = (
+    Verb,
+    &'static [u8],
+    &'static [u8],
+    &'static [u8],
+    &'static [u8],
+);
 
 /// The names between the slashes.
 fn path(alloc: Global, text: &[u8]) -> Result<Path, Memory> {
@@ -58,65 +77,78 @@ fn op(alloc: Global, verb: Verb, text: &[u8]) -> Result<Op, Memory>
     let path = path(alloc, text)?;
     match verb {
         Verb::Lookup => Ok(Op::Lookup(path)),
+        Verb::Stat => Ok(Op::Stat(path)),
+        Verb::List => Ok(Op::List(path)),
+        Verb::Layout => Ok(Op::Layout(path)),
         Verb::Mkdir => Ok(Op::Mkdir(path)),
         Verb::Rmdir => Ok(Op::Rmdir(path)),
     }
 }
 
-fn answer(told: Told) -> Answer {
+fn fid(count: u32) -> Fid {
+    Fid(BOOT + count as u64)
+}
+
+fn answer(alloc: Global, told: Told) -> Result<Answer, Memory> {
     match told {
-        Told::Done => Answer::Done,
-        Told::Made(count) => Answer::Made(Fid(BOOT + count as u64)),
-        Told::Dir(count) => Answer::Dir(Fid(BOOT + count as u64)),
-        Told::Root => Answer::Dir(Fid(1)),
-        Told::No(errno) => Answer::Refused(errno),
+        Told::Done => Ok(Answer::Done),
+        Told::Made(count) => Ok(Answer::Made(fid(count))),
+        Told::Dir(count) => Ok(Answer::Dir(fid(count))),
+        Told::DirStat(count, mode) => Ok(Answer::DirStat {
+            fid: fid(count),
+            mode,
+        }),
+        Told::Root(mode) => Ok(Answer::DirStat { fid: Fid(1), mode }),
+        Told::Names(text) => Ok(Answer::Names(path(alloc, text)?)),
+        Told::No(errno) => Ok(Answer::Refused(errno)),
     }
 }
 
-/// The operation is answered so, as transaction 1.`count` if it makes one.
+/// The operation is answered so.
 fn acts(
     rt: &impl Abort,
     alloc: Global,
     tree: &mut Tree,
-    count: u32,
-    verb: Verb,
-    text: &[u8],
-    wanted: Told,
+    number: u64,
+    row: Row<'_>,
 ) -> Result<(), Memory>
-    requires { tree.old.last < 4294967296 + count }
-    ensures { tree.new.last ≤ 4294967296 + count }
+    requires { tree.old.last < number }
+    ensures { tree.new.last ≤ number }
 {
-    let op = op(alloc, verb, text)?;
-    let answer = tree.apply(alloc, Txn(BOOT + count as u64), ASKER, &op)?;
-    let same = answer == self::answer(wanted);
+    let op = op(alloc, row.0, row.1)?;
+    let told = tree.apply(alloc, Txn(number), ASKER, &op)?;
+    let same = told == answer(alloc, row.2)?;
     assert!(rt; same);
     Ok(())
+}
+
+/// The operations on a new tree are answered so.
+fn acts_all(rt: &impl Abort, alloc: Global, rows: &[Row<'_>]) -> Result<Tree, Memory> {
+    let mut tree = Tree::new(alloc, 1)?;
+    let mut number = BOOT;
+    for row in rows {
+        number += 1;
+        acts(rt, alloc, &mut tree, number, *row)?;
+    }
+    Ok(tree)
+}
+
+fn put_inode(out: &mut Bytes, kind: &[u8], fid: Fid) -> Result<(), Memory> {
+    out.extend(kind)?;
+    put_pair(out, fid.0)
 }
 
 fn put_part(out: &mut Bytes, part: &Part) -> Result<(), Memory> {
     match part {
         Part::Name(dir, name) => {
-            out.extend(b" Name ")?;
-            put_pair(out, dir.0)?;
+            put_inode(out, b" Name ", *dir)?;
             out.extend(b"/")?;
             out.extend(name.as_slice())
         }
-        Part::List(fid) => {
-            out.extend(b" List ")?;
-            put_pair(out, fid.0)
-        }
-        Part::Attr(fid) => {
-            out.extend(b" Attr ")?;
-            put_pair(out, fid.0)
-        }
-        Part::Parent(fid) => {
-            out.extend(b" Parent ")?;
-            put_pair(out, fid.0)
-        }
-        Part::Layout(fid) => {
-            out.extend(b" Layout ")?;
-            put_pair(out, fid.0)
-        }
+        Part::List(fid) => put_inode(out, b" List ", *fid),
+        Part::Attr(fid) => put_inode(out, b" Attr ", *fid),
+        Part::Parent(fid) => put_inode(out, b" Parent ", *fid),
+        Part::Layout(fid) => put_inode(out, b" Layout ", *fid),
         Part::Bytes(_, _, _) => out.extend(b" Bytes"),
     }
 }
@@ -134,397 +166,165 @@ fn touches(
     rt: &impl Abort,
     alloc: Global,
     tree: &Tree,
-    verb: Verb,
-    text: &[u8],
+    op: &Op,
     wanted: &[u8],
-) -> Result<(), Memory> {
-    let op = op(alloc, verb, text)?;
-    let parts = tree.touches(alloc, ASKER, &op)?;
-    let found = parts_text(alloc, parts.as_slice())?;
-    assert_eq!(rt; found.as_slice(), wanted);
+) -> Result<(), Memory>
+    requires { IsPerformed op.now }
+{
+    let parts = tree.touches(alloc, ASKER, op)?;
+    let text = parts_text(alloc, parts.as_slice())?;
+    assert_eq!(rt; text.as_slice(), wanted);
     Ok(())
 }
 
 /// The operation writes these parts, and makes a transaction exactly where it writes some.
-fn writes(
-    rt: &impl Abort,
-    alloc: Global,
-    tree: &Tree,
-    verb: Verb,
-    text: &[u8],
-    wanted: &[u8],
-) -> Result<(), Memory> {
-    let op = op(alloc, verb, text)?;
-    let parts = tree.writes(alloc, ASKER, &op)?;
-    let found = parts_text(alloc, parts.as_slice())?;
-    assert_eq!(rt; found.as_slice(), wanted);
-    assert_eq!(rt; tree.changes(ASKER, &op), !wanted.is_empty());
+fn writes(rt: &impl Abort, alloc: Global, tree: &Tree, op: &Op, wanted: &[u8]) -> Result<(), Memory>
+    requires { IsPerformed op.now }
+{
+    let parts = tree.writes(alloc, ASKER, op)?;
+    let text = parts_text(alloc, parts.as_slice())?;
+    assert_eq!(rt; text.as_slice(), wanted);
+    assert_eq!(rt; tree.changes(ASKER, op), !wanted.is_empty());
     Ok(())
 }
 
-/// The operation grants these locks: each an inode and its bits.
-fn grants(
-    rt: &impl Abort,
-    alloc: Global,
-    tree: &Tree,
-    verb: Verb,
-    text: &[u8],
-    wanted: &[u8],
-) -> Result<(), Memory> {
-    let op = op(alloc, verb, text)?;
-    let wants = tree.grants(alloc, ASKER, &op)?;
-    let mut found = Bytes::new(alloc);
+/// The operation grants these locks.
+fn grants(rt: &impl Abort, alloc: Global, tree: &Tree, op: &Op, wanted: &[u8]) -> Result<(), Memory>
+    requires { IsPerformed op.now }
+{
+    let mut text = Bytes::new(alloc);
+    let wants = tree.grants(alloc, ASKER, op)?;
     for want in wants.as_slice() {
-        found.extend(b" ")?;
-        put_pair(&mut found, want.fid.0)?;
-        found.extend(b":")?;
-        put_number(&mut found, want.bits as u64)?;
+        put_inode(&mut text, b" ", want.fid)?;
+        text.extend(b":")?;
+        put_number(&mut text, want.bits as u64)?;
     }
-    assert_eq!(rt; found.as_slice(), wanted);
+    assert_eq!(rt; text.as_slice(), wanted);
+    Ok(())
+}
+
+/// The operation touches, writes and grants this.
+fn prints(rt: &impl Abort, alloc: Global, tree: &Tree, print: Print) -> Result<(), Memory> {
+    let op = op(alloc, print.0, print.1)?;
+    touches(rt, alloc, tree, &op, print.2)?;
+    writes(rt, alloc, tree, &op, print.3)?;
+    grants(rt, alloc, tree, &op, print.4)
+}
+
+fn prints_all(rt: &impl Abort, alloc: Global, tree: &Tree, rows: &[Print]) -> Result<(), Memory> {
+    for row in rows {
+        prints(rt, alloc, tree, *row)?;
+    }
     Ok(())
 }
 
 #[test]
-fn a_directory_is_made_and_goes(rt: HostRuntime) -> Result<(), Fail> {
-    let alloc = rt.alloc();
-    let mut tree = Tree::new(alloc, 1)?;
-    acts(&rt, alloc, &mut tree, 1, Verb::Mkdir, b"/a", Told::Made(1))?;
-    acts(
-        &rt,
-        alloc,
-        &mut tree,
-        2,
-        Verb::Mkdir,
-        b"/a",
-        Told::No(Errno::EEXIST),
-    )?;
-    acts(
-        &rt,
-        alloc,
-        &mut tree,
-        3,
-        Verb::Lookup,
-        b"/b",
-        Told::No(Errno::ENOENT),
-    )?;
-    acts(&rt, alloc, &mut tree, 4, Verb::Lookup, b"/a", Told::Dir(1))?;
-    acts(&rt, alloc, &mut tree, 5, Verb::Rmdir, b"/a", Told::Done)?;
-    acts(
-        &rt,
-        alloc,
-        &mut tree,
-        6,
-        Verb::Lookup,
-        b"/a",
-        Told::No(Errno::ENOENT),
-    )?;
-    acts(
-        &rt,
-        alloc,
-        &mut tree,
-        7,
-        Verb::Rmdir,
-        b"/a",
-        Told::No(Errno::ENOENT),
-    )?;
+fn directories_are_made_and_go(rt: HostRuntime) -> Result<(), Fail> {
+    let rows: [Row<'_>; 14] = [
+        (Verb::Mkdir, b"/a", Told::Made(1)),
+        (Verb::Mkdir, b"/a", Told::No(Errno::EEXIST)),
+        (Verb::Mkdir, b"/a/b", Told::Made(3)),
+        (Verb::Lookup, b"/a/b", Told::Dir(3)),
+        (Verb::Stat, b"/a", Told::DirStat(1, 0o755)),
+        (Verb::Rmdir, b"/a", Told::No(Errno::ENOTEMPTY)),
+        (Verb::Lookup, b"/b", Told::No(Errno::ENOENT)),
+        (Verb::Mkdir, b"/a/a", Told::Made(8)),
+        (Verb::List, b"/a", Told::Names(b"/a/b")),
+        (Verb::Rmdir, b"/a/b", Told::Done),
+        (Verb::Rmdir, b"/a/a", Told::Done),
+        (Verb::List, b"/a", Told::Names(b"/")),
+        (Verb::Rmdir, b"/a", Told::Done),
+        (Verb::Rmdir, b"/a", Told::No(Errno::ENOENT)),
+    ];
+    acts_all(&rt, rt.alloc(), rows.as_slice())?;
     Ok(())
 }
 
 #[test]
 fn the_root_stays(rt: HostRuntime) -> Result<(), Fail> {
-    let alloc = rt.alloc();
-    let mut tree = Tree::new(alloc, 1)?;
-    acts(&rt, alloc, &mut tree, 1, Verb::Lookup, b"/", Told::Root)?;
-    acts(
-        &rt,
-        alloc,
-        &mut tree,
-        2,
-        Verb::Rmdir,
-        b"/",
-        Told::No(Errno::EBUSY),
-    )?;
-    acts(
-        &rt,
-        alloc,
-        &mut tree,
-        3,
-        Verb::Mkdir,
-        b"/",
-        Told::No(Errno::EEXIST),
-    )?;
-    acts(&rt, alloc, &mut tree, 4, Verb::Lookup, b"/", Told::Root)?;
+    let rows: [Row<'_>; 5] = [
+        (Verb::Rmdir, b"/", Told::No(Errno::EBUSY)),
+        (Verb::Mkdir, b"/", Told::No(Errno::EEXIST)),
+        (Verb::Layout, b"/", Told::No(Errno::EISDIR)),
+        (Verb::Stat, b"/", Told::Root(0o755)),
+        (Verb::List, b"/", Told::Names(b"/")),
+    ];
+    acts_all(&rt, rt.alloc(), rows.as_slice())?;
     Ok(())
 }
 
+/// A name has at most 255 bytes, and errors come in the order of the names.
 #[test]
-fn a_directory_with_names_stays(rt: HostRuntime) -> Result<(), Fail> {
+fn names_are_short(rt: HostRuntime) -> Result<(), Fail> {
     let alloc = rt.alloc();
-    let mut tree = Tree::new(alloc, 1)?;
-    acts(&rt, alloc, &mut tree, 1, Verb::Mkdir, b"/a", Told::Made(1))?;
-    acts(
-        &rt,
-        alloc,
-        &mut tree,
-        2,
-        Verb::Mkdir,
-        b"/a/b",
-        Told::Made(2),
-    )?;
-    acts(
-        &rt,
-        alloc,
-        &mut tree,
-        3,
-        Verb::Rmdir,
-        b"/a",
-        Told::No(Errno::ENOTEMPTY),
-    )?;
-    acts(
-        &rt,
-        alloc,
-        &mut tree,
-        4,
-        Verb::Lookup,
-        b"/a/b",
-        Told::Dir(2),
-    )?;
-    acts(&rt, alloc, &mut tree, 5, Verb::Rmdir, b"/a/b", Told::Done)?;
-    acts(&rt, alloc, &mut tree, 6, Verb::Rmdir, b"/a", Told::Done)?;
-    Ok(())
-}
-
-#[test]
-fn a_name_has_at_most_255_bytes(rt: HostRuntime) -> Result<(), Fail> {
-    let alloc = rt.alloc();
-    let mut tree = Tree::new(alloc, 1)?;
     let long = [110; 256];
-    acts(
-        &rt,
-        alloc,
-        &mut tree,
-        1,
-        Verb::Mkdir,
-        long.as_slice(),
-        Told::No(Errno::ENAMETOOLONG),
-    )?;
-    acts(
-        &rt,
-        alloc,
-        &mut tree,
-        2,
-        Verb::Rmdir,
-        long.as_slice(),
-        Told::No(Errno::ENAMETOOLONG),
-    )?;
-    acts(
-        &rt,
-        alloc,
-        &mut tree,
-        3,
-        Verb::Lookup,
-        long.as_slice(),
-        Told::No(Errno::ENAMETOOLONG),
-    )?;
-    touches(&rt, alloc, &tree, Verb::Mkdir, long.as_slice(), b"")?;
-    acts(
-        &rt,
-        alloc,
-        &mut tree,
-        4,
-        Verb::Mkdir,
-        [110; 255].as_slice(),
-        Told::Made(4),
-    )?;
-    Ok(())
-}
-
-#[test]
-fn errors_come_in_the_order_of_the_names(rt: HostRuntime) -> Result<(), Fail> {
-    let alloc = rt.alloc();
-    let mut tree = Tree::new(alloc, 1)?;
     let mut behind = Bytes::from_slice(alloc, b"/none/")?;
-    behind.extend([110; 256].as_slice())?;
-    let mut before = Bytes::from_slice(alloc, [110; 256].as_slice())?;
+    behind.extend(long.as_slice())?;
+    let mut before = Bytes::from_slice(alloc, long.as_slice())?;
     before.extend(b"/none")?;
-    let text = behind.as_slice();
-    acts(
-        &rt,
-        alloc,
-        &mut tree,
-        1,
-        Verb::Lookup,
-        text,
-        Told::No(Errno::ENOENT),
-    )?;
-    let text = before.as_slice();
-    acts(
-        &rt,
-        alloc,
-        &mut tree,
-        2,
-        Verb::Mkdir,
-        text,
-        Told::No(Errno::ENAMETOOLONG),
-    )?;
-    acts(
-        &rt,
-        alloc,
-        &mut tree,
-        3,
-        Verb::Mkdir,
-        b"/none/b",
-        Told::No(Errno::ENOENT),
-    )?;
-    acts(
-        &rt,
-        alloc,
-        &mut tree,
-        4,
-        Verb::Rmdir,
-        b"/none/b",
-        Told::No(Errno::ENOENT),
-    )?;
+    let rows: [Row<'_>; 7] = [
+        (Verb::Mkdir, long.as_slice(), Told::No(Errno::ENAMETOOLONG)),
+        (Verb::Lookup, long.as_slice(), Told::No(Errno::ENAMETOOLONG)),
+        (Verb::Lookup, behind.as_slice(), Told::No(Errno::ENOENT)),
+        (
+            Verb::Mkdir,
+            before.as_slice(),
+            Told::No(Errno::ENAMETOOLONG),
+        ),
+        (Verb::Rmdir, b"/none/b", Told::No(Errno::ENOENT)),
+        (Verb::Mkdir, [110; 255].as_slice(), Told::Made(6)),
+        (Verb::Rmdir, [110; 255].as_slice(), Told::Done),
+    ];
+    acts_all(&rt, alloc, rows.as_slice())?;
     Ok(())
 }
 
 #[test]
-fn a_path_of_many_names(rt: HostRuntime) -> Result<(), Fail> {
-    let alloc = rt.alloc();
-    let mut tree = Tree::new(alloc, 1)?;
-    acts(&rt, alloc, &mut tree, 1, Verb::Mkdir, b"/d", Told::Made(1))?;
-    acts(
-        &rt,
-        alloc,
-        &mut tree,
-        2,
-        Verb::Mkdir,
-        b"/d/d",
-        Told::Made(2),
-    )?;
-    acts(
-        &rt,
-        alloc,
-        &mut tree,
-        3,
-        Verb::Mkdir,
-        b"/d/d/d",
-        Told::Made(3),
-    )?;
-    acts(
-        &rt,
-        alloc,
-        &mut tree,
-        4,
-        Verb::Mkdir,
-        b"/d/d/d/d/d",
-        Told::No(Errno::ENOENT),
-    )?;
-    acts(
-        &rt,
-        alloc,
-        &mut tree,
-        5,
-        Verb::Lookup,
-        b"/d/d/d",
-        Told::Dir(3),
-    )?;
-    grants(
-        &rt,
-        alloc,
-        &tree,
-        Verb::Lookup,
-        b"/d/d/d",
-        b" 1.1:1 1.2:1 1.3:1",
-    )?;
-    Ok(())
-}
-
-#[test]
-fn what_operations_touch(rt: HostRuntime) -> Result<(), Fail> {
-    let alloc = rt.alloc();
-    let mut tree = Tree::new(alloc, 1)?;
-    acts(&rt, alloc, &mut tree, 1, Verb::Mkdir, b"/a", Told::Made(1))?;
-    touches(&rt, alloc, &tree, Verb::Mkdir, b"/a", b" Name 0.1/a")?;
-    touches(&rt, alloc, &tree, Verb::Lookup, b"/a", b" Name 0.1/a")?;
-    touches(&rt, alloc, &tree, Verb::Lookup, b"/b/c", b" Name 0.1/b")?;
-    touches(&rt, alloc, &tree, Verb::Rmdir, b"/b", b" Name 0.1/b")?;
-    touches(
-        &rt,
-        alloc,
-        &tree,
-        Verb::Mkdir,
-        b"/a/b",
-        b" Name 0.1/a Name 1.1/b",
-    )?;
-    touches(
-        &rt,
-        alloc,
-        &tree,
-        Verb::Rmdir,
-        b"/a",
-        b" Name 0.1/a List 1.1",
-    )?;
-    touches(&rt, alloc, &tree, Verb::Rmdir, b"/", b"")?;
-    acts(
-        &rt,
-        alloc,
-        &mut tree,
-        2,
-        Verb::Mkdir,
-        b"/a/b",
-        Told::Made(2),
-    )?;
-    touches(
-        &rt,
-        alloc,
-        &tree,
-        Verb::Rmdir,
-        b"/a",
-        b" Name 0.1/a List 1.1",
-    )?;
-    Ok(())
-}
-
-#[test]
-fn what_operations_write(rt: HostRuntime) -> Result<(), Fail> {
-    let alloc = rt.alloc();
-    let mut tree = Tree::new(alloc, 1)?;
-    writes(&rt, alloc, &tree, Verb::Mkdir, b"/a", b" Name 0.1/a")?;
-    writes(&rt, alloc, &tree, Verb::Rmdir, b"/a", b"")?;
-    acts(&rt, alloc, &mut tree, 1, Verb::Mkdir, b"/a", Told::Made(1))?;
-    writes(&rt, alloc, &tree, Verb::Mkdir, b"/a", b"")?;
-    writes(&rt, alloc, &tree, Verb::Lookup, b"/a", b"")?;
-    writes(
-        &rt,
-        alloc,
-        &tree,
-        Verb::Rmdir,
-        b"/a",
-        b" Name 0.1/a Parent 1.1 Attr 1.1",
-    )?;
-    Ok(())
-}
-
-#[test]
-fn what_operations_grant(rt: HostRuntime) -> Result<(), Fail> {
-    let alloc = rt.alloc();
-    let mut tree = Tree::new(alloc, 1)?;
-    acts(&rt, alloc, &mut tree, 1, Verb::Mkdir, b"/a", Told::Made(1))?;
-    grants(&rt, alloc, &tree, Verb::Lookup, b"/a", b" 1.1:1")?;
-    grants(&rt, alloc, &tree, Verb::Lookup, b"/", b"")?;
-    grants(&rt, alloc, &tree, Verb::Lookup, b"/a/b", b"")?;
-    grants(&rt, alloc, &tree, Verb::Mkdir, b"/b", b"")?;
-    grants(&rt, alloc, &tree, Verb::Rmdir, b"/a", b"")?;
-    Ok(())
-}
-
-#[test]
-fn a_life_is_forgotten(rt: HostRuntime) -> Result<(), Fail> {
-    let alloc = rt.alloc();
-    let mut tree = Tree::new(alloc, 1)?;
-    acts(&rt, alloc, &mut tree, 1, Verb::Mkdir, b"/a", Told::Made(1))?;
+fn footprints_of_directories(rt: HostRuntime) -> Result<(), Fail> {
+    let rows: [Row<'_>; 2] = [
+        (Verb::Mkdir, b"/a", Told::Made(1)),
+        (Verb::Mkdir, b"/a/b", Told::Made(2)),
+    ];
+    let mut tree = acts_all(&rt, rt.alloc(), rows.as_slice())?;
     tree.forget(ASKER);
-    acts(&rt, alloc, &mut tree, 2, Verb::Lookup, b"/a", Told::Dir(1))?;
+    let prints: [Print; 12] = [
+        (Verb::Lookup, b"/", b"", b"", b""),
+        (
+            Verb::Lookup,
+            b"/a/b",
+            b" Name 0.1/a Name 1.1/b",
+            b"",
+            b" 1.1:1 1.2:1",
+        ),
+        (Verb::Lookup, b"/b/c", b" Name 0.1/b", b"", b""),
+        (Verb::Stat, b"/", b" Attr 0.1", b"", b" 0.1:2"),
+        (Verb::Stat, b"/a", b" Name 0.1/a Attr 1.1", b"", b" 1.1:3"),
+        (Verb::List, b"/", b" List 0.1", b"", b" 0.1:2"),
+        (
+            Verb::List,
+            b"/a/b",
+            b" Name 0.1/a Name 1.1/b List 1.2",
+            b"",
+            b" 1.1:1 1.2:3",
+        ),
+        (Verb::Layout, b"/a", b" Name 0.1/a", b"", b""),
+        (Verb::Mkdir, b"/a", b" Name 0.1/a", b"", b""),
+        (
+            Verb::Mkdir,
+            b"/a/c",
+            b" Name 0.1/a Name 1.1/c",
+            b" Name 1.1/c",
+            b"",
+        ),
+        (Verb::Rmdir, b"/a", b" Name 0.1/a List 1.1", b"", b""),
+        (
+            Verb::Rmdir,
+            b"/a/b",
+            b" Name 0.1/a Name 1.1/b List 1.2",
+            b" Name 1.1/b Parent 1.2 Attr 1.2",
+            b"",
+        ),
+    ];
+    prints_all(&rt, rt.alloc(), &tree, prints.as_slice())?;
     Ok(())
 }

@@ -1,66 +1,68 @@
-//! The parts that the operations look at.
+//! The parts that the operations look at, and those that they write.
 
-ghost use Rattle.std.specs.Prelude.{◌≡◌, ◌++◌, ℕ, IfOk, OnOk};
+ghost use Rattle.std.specs.Prelude.{◌≡◌, ◌++◌, ℕ, OnOk};
 ghost use Rattle.lu_base.specs.declared.ids.Txn.{Txn as SpecTxn};
 ghost use Rattle.lu_base.specs.declared.ids.Who.{Who as SpecWho};
-ghost use Rattle.lu_msg.specs.declared.operations.Op.TheVariants as op;
-ghost use Rattle.lu_machine.specs.Footprint as footprint;
-ghost use Rattle.lu_machine.specs.Plan.{looked};
-ghost use Rattle.lu_machine.specs.Table.{root, plan};
-ghost use Rattle.lu_tree.specs.Ends.{list_of};
-ghost use Rattle.lu_tree.specs.State.{asked, IsPerformed};
-ghost use Rattle.lu_tree.specs.Walks.{looks};
+ghost use Rattle.lu_machine.specs.Change.{written};
+ghost use Rattle.lu_machine.specs.Tree.{Tree};
+ghost use Rattle.lu_tree.specs.Ends.{changes_of, looked_of, names_of};
 
+use super::ends::End;
 use super::inodes::Inodes;
-use super::walks::Found;
-use lu_base::{Fid, Memory, Name};
+use lu_base::{Duplicate, Memory};
 use lu_machine::Child;
 use lu_msg::Op;
 use lu_part::{Part, Parts};
 use std::alloc::Global;
 
-/// Adds the list of a directory, if there is one.
-fn push_list(parts: &mut Parts, dir: Option<Fid>) -> Result<(), Memory>
-    ensures pushed { OnOk result (parts.new ≡ parts.old ++ list_of dir) }
-{
-    if let Some(dir) = dir {
-        parts.push(Part::List(dir))?;
-    }
-    Ok(())
-}
-
 impl Inodes {
-    /// The directory whose emptiness a `rmdir` looks at, if it comes so far.
-    fn looks_into(&self, path: &[Name]) -> Option<Fid>
-        ensures looks { (osts : ℕ) (number : SpecTxn) (who : SpecWho) → looked self.now (plan osts number who (op.Rmdir path.now)) ≡ looks self.now root path.now ++ list_of result }
-    {
-        let (name, front) = path.split_last()?;
-        match self.find_last(front, name) {
-            Err(_) => None,
-            Ok(Found { dir: _, child }) => match child {
-                None => None,
-                Some(found) => match found {
-                    Child::File(_) => None,
-                    Child::Dir(dir) => Some(dir),
-                },
-            },
-        }
-    }
-
-    /// The parts that an operation looks at.
-    pub(crate) fn touches(&self, alloc: Global, op: &Op) -> Result<Parts, Memory>
-        requires performed { IsPerformed op.now }
-        ensures touches { IfOk result (λ parts. (osts : ℕ) (number : SpecTxn) (who : SpecWho) → parts ≡ footprint.touches osts self.now (asked number who op.now)) }
+    /// Adds the names that an operation looks up.
+    pub(crate) fn push_names(&self, alloc: Global, parts: &mut Parts, op: &Op) -> Result<(), Memory>
+        ensures pushed { OnOk result (parts.new ≡ parts.old ++ names_of self.now op.now) }
     {
         match op {
-            Op::Lookup(path) => self.looks(alloc, path.as_slice()),
-            Op::Mkdir(path) => self.looks(alloc, path.as_slice()),
-            Op::Rmdir(path) => {
-                let mut parts = self.looks(alloc, path.as_slice())?;
-                push_list(&mut parts, self.looks_into(path.as_slice()))?;
-                Ok(parts)
-            }
-            _ => unreachable!(),
+            Op::Lookup(path) => self.push_looks(alloc, parts, path.as_slice()),
+            Op::Stat(path) => self.push_looks(alloc, parts, path.as_slice()),
+            Op::List(path) => self.push_looks(alloc, parts, path.as_slice()),
+            Op::Layout(path) => self.push_looks(alloc, parts, path.as_slice()),
+            Op::Mkdir(path) => self.push_looks(alloc, parts, path.as_slice()),
+            Op::Rmdir(path) => self.push_looks(alloc, parts, path.as_slice()),
+            _ => Ok(()),
         }
+    }
+}
+
+/// Adds what an operation that comes to this has looked at after the names.
+pub(crate) fn push_looked(parts: &mut Parts, end: End<'_>) -> Result<(), Memory>
+    ensures pushed { OnOk result (parts.new ≡ parts.old ++ looked_of end.entry) }
+{
+    match end {
+        End::NotEmpty(dir) => parts.push(Part::List(dir)),
+        End::Stats(child) => match child {
+            Child::Dir(dir) => parts.push(Part::Attr(dir)),
+            Child::File(file) => {
+                parts.push(Part::Attr(file))?;
+                parts.push(Part::Layout(file))
+            }
+        },
+        End::Lists(dir) => parts.push(Part::List(dir)),
+        End::Shows(file) => parts.push(Part::Layout(file)),
+        End::Removes(_, _, gone) => parts.push(Part::List(gone)),
+        _ => Ok(()),
+    }
+}
+
+/// Adds what an operation that comes to this writes.
+pub(crate) fn push_written(alloc: Global, parts: &mut Parts, end: End<'_>) -> Result<(), Memory>
+    ensures pushed { OnOk result ((osts : ℕ) (t : Tree) (number : SpecTxn) (who : SpecWho) → parts.new ≡ parts.old ++ written (changes_of osts t number who end.entry)) }
+{
+    match end {
+        End::Makes(dir, name) => parts.push(Part::Name(dir, name.copy(alloc)?)),
+        End::Removes(dir, name, gone) => {
+            parts.push(Part::Name(dir, name.copy(alloc)?))?;
+            parts.push(Part::Parent(gone))?;
+            parts.push(Part::Attr(gone))
+        }
+        _ => Ok(()),
     }
 }

@@ -5,11 +5,13 @@ ghost use Rattle.lu_base.specs.declared.ids.Txn.{Txn as SpecTxn};
 ghost use Rattle.lu_machine.specs.Footprint as footprint;
 ghost use Rattle.lu_tree.specs.State.{fresh, asked, performed, forgotten, IsPerformed};
 
-use super::ends::{End, answer, changes, last_used};
+use super::ends::{bits, changes, last_used};
 use super::inodes::Inodes;
-use lu_base::{Duplicate, Memory, Txn, Who};
+use super::operations::reading_path;
+use super::touches::{push_looked, push_written};
+use lu_base::{Memory, Txn, Who};
 use lu_msg::{Answer, Op};
-use lu_part::{Part, Parts, Wants};
+use lu_part::{Parts, Wants};
 use std::alloc::Global;
 use std::marker::Model;
 
@@ -54,9 +56,10 @@ impl Tree {
         ensures kept { OnErr result (self.new ≡ self.old) }
     {
         let end = self.inodes.end(op);
-        self.inodes.perform(alloc, number, who, end)?;
+        let answer = self.inodes.answer(alloc, number, end)?;
+        self.inodes.perform(alloc, self.osts, number, who, end)?;
         self.last = last_used(self.last, number, end);
-        Ok(answer(number, end))
+        Ok(answer)
     }
 
     /// Whether the operation would make a transaction.
@@ -72,7 +75,10 @@ impl Tree {
         requires performed { IsPerformed op.now }
         ensures touches { IfOk result (λ parts. (number : SpecTxn) → parts ≡ footprint.touches self.now.osts self.now.tree (asked number _who op.now)) }
     {
-        self.inodes.touches(alloc, op)
+        let mut parts = Parts::new(alloc);
+        self.inodes.push_names(alloc, &mut parts, op)?;
+        push_looked(&mut parts, self.inodes.end(op))?;
+        Ok(parts)
     }
 
     /// The parts that the operation would write, none where it is refused.
@@ -81,15 +87,7 @@ impl Tree {
         ensures writes { IfOk result (λ parts. (number : SpecTxn) → parts ≡ footprint.writes self.now.osts self.now.tree (asked number _who op.now)) }
     {
         let mut parts = Parts::new(alloc);
-        match self.inodes.end(op) {
-            End::Refused(_) | End::Finds(_) => {}
-            End::Makes(dir, name) => parts.push(Part::Name(dir, name.copy(alloc)?))?,
-            End::Removes(dir, name, gone) => {
-                parts.push(Part::Name(dir, name.copy(alloc)?))?;
-                parts.push(Part::Parent(gone))?;
-                parts.push(Part::Attr(gone))?;
-            }
-        }
+        push_written(alloc, &mut parts, self.inodes.end(op))?;
         Ok(parts)
     }
 
@@ -98,10 +96,10 @@ impl Tree {
         requires performed { IsPerformed op.now }
         ensures grants { IfOk result (λ wants. (number : SpecTxn) → wants ≡ footprint.grants self.now.osts self.now.tree (asked number _who op.now)) }
     {
-        if let (Op::Lookup(path), End::Finds(_)) = (op, self.inodes.end(op)) {
-            return self.inodes.wants(alloc, path.as_slice(), 0);
+        match bits(self.inodes.end(op)) {
+            Some(more) => self.inodes.wants(alloc, reading_path(op), more),
+            None => Ok(Wants::new(alloc)),
         }
-        Ok(Wants::new(alloc))
     }
 
     /// Forgets the opens of a life.

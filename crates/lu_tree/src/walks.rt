@@ -65,23 +65,27 @@ impl Inodes {
         self.find(at, name)
     }
 
-    /// The names that a walk from the root looks up.
-    pub(crate) fn looks(&self, alloc: Global, path: &[Name]) -> Result<Parts, Memory>
-        ensures looks { IfOk result (λ parts. parts ≡ looks self.now root path.now) }
+    /// Adds the names that a walk from the root looks up.
+    pub(crate) fn push_looks(
+        &self,
+        alloc: Global,
+        parts: &mut Parts,
+        path: &[Name],
+    ) -> Result<(), Memory>
+        ensures looks { OnOk result (parts.new ≡ parts.old ++ looks self.now root path.now) }
     {
-        let mut parts = Parts::new(alloc);
         let mut at = Child::Dir(Fid(ROOT));
         for name in path {
             let Ok(found) = self.find(at, name) else {
-                return Ok(parts);
+                return Ok(());
             };
             parts.push(Part::Name(found.dir, name.copy(alloc)?))?;
             let Some(child) = found.child else {
-                return Ok(parts);
+                return Ok(());
             };
             at = child;
         }
-        Ok(parts)
+        Ok(())
     }
 
     /// What a name in an inode leads to, if it leads anywhere.

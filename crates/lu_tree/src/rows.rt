@@ -1,0 +1,127 @@
+//! The rows of the table, from the ends of the walks on.
+
+ghost use Rattle.std.specs.Prelude.{◌≡◌, ◌++◌, ℕ, [], Some, List as SpecList};
+ghost use Rattle.lu_base.specs.declared.ids.Txn.{Txn as SpecTxn};
+ghost use Rattle.lu_base.specs.declared.ids.Who.{Who as SpecWho};
+ghost use Rattle.lu_machine.specs.declared.child.Child.{Child as SpecChild};
+ghost use Rattle.lu_machine.specs.declared.child.Child.TheVariants.{Dir as SpecDir};
+ghost use Rattle.lu_machine.specs.Plan.{outcome, looked};
+ghost use Rattle.lu_machine.specs.Table.{root, walk, to_last, last_of, row_rmdir};
+ghost use Rattle.lu_machine.specs.Tree.{child};
+ghost use Rattle.lu_tree.specs.Ends.{ended, looked_of, IsReached, Seen};
+ghost use Rattle.lu_tree.specs.Rows.{row_of, last_row_of, no_last};
+ghost use Rattle.lu_tree.specs.Walks.{looks, trail};
+
+use super::ends::End;
+use super::inodes::Inodes;
+use super::walks::Found;
+use lu_base::{Fid, Name};
+use lu_machine::Child;
+use lu_msg::Errno;
+
+/// What is asked of that to which a whole path leads.
+#[derive(Clone, Copy)]
+pub(crate) enum Ask {
+    Lookup,
+    Stat,
+    List,
+    Layout,
+}
+
+/// What is asked of a path's last name.
+#[derive(Clone, Copy)]
+pub(crate) enum LastAsk {
+    Mkdir,
+    Rmdir,
+}
+
+impl Inodes {
+    /// The end of what is asked of this.
+    fn row<'a>(&self, ask: Ask, at: Child) -> End<'a>
+        ensures ends { (osts : ℕ) (number : SpecTxn) (who : SpecWho) (passed : SpecList SpecChild) → outcome self.now (row_of ask passed at) ≡ ended osts self.now number who passed result }
+        ensures looks { (passed : SpecList SpecChild) → looked self.now (row_of ask passed at) ≡ looked_of result }
+        ensures seen { IsReached self.now at → Seen self.now result }
+    {
+        match ask {
+            Ask::Lookup => End::Finds(at),
+            Ask::Stat => End::Stats(at),
+            Ask::List => match at {
+                Child::Dir(dir) => End::Lists(dir),
+                Child::File(_) => End::Refused(Errno::ENOTDIR),
+            },
+            Ask::Layout => match at {
+                Child::Dir(_) => End::Refused(Errno::EISDIR),
+                Child::File(file) => End::Shows(file),
+            },
+        }
+    }
+
+    /// The end of what is asked of that to which the path leads.
+    pub(crate) fn whole_end<'a>(&self, ask: Ask, path: &'a [Name]) -> End<'a>
+        ensures ends { (osts : ℕ) (number : SpecTxn) (who : SpecWho) → outcome self.now (walk root path.now (λ passed. row_of ask passed (last_of root passed))) ≡ ended osts self.now number who (trail self.now root path.now) result }
+        ensures looks { looked self.now (walk root path.now (λ passed. row_of ask passed (last_of root passed))) ≡ looks self.now root path.now ++ looked_of result }
+        ensures seen { Seen self.now result }
+    {
+        match self.reach(path) {
+            Err(errno) => End::Refused(errno),
+            Ok(at) => self.row(ask, at),
+        }
+    }
+
+    /// The end of a `rmdir` of that to which this name leads.
+    fn rmdir_row<'a>(&self, dir: Fid, name: &'a Name, found: Child) -> End<'a>
+        ensures ends { (osts : ℕ) (number : SpecTxn) (who : SpecWho) → outcome self.now (row_rmdir dir name.now found) ≡ ended osts self.now number who [] result }
+        ensures looks { looked self.now (row_rmdir dir name.now found) ≡ looked_of result }
+        ensures seen { child self.now dir name.now ≡ Some found → Seen self.now result }
+    {
+        match found {
+            Child::File(_) => End::Refused(Errno::ENOTDIR),
+            Child::Dir(gone) => {
+                if self.is_empty(gone) {
+                    End::Removes(dir, name, gone)
+                } else {
+                    End::NotEmpty(gone)
+                }
+            }
+        }
+    }
+
+    /// The end of what is asked of this name of this directory.
+    fn last_row<'a>(&self, ask: LastAsk, dir: Fid, name: &'a Name, found: Option<Child>) -> End<'a>
+        ensures ends { (osts : ℕ) (number : SpecTxn) (who : SpecWho) → outcome self.now (last_row_of number ask dir name.now found) ≡ ended osts self.now number who [] result }
+        ensures looks { (number : SpecTxn) → looked self.now (last_row_of number ask dir name.now found) ≡ looked_of result }
+        ensures seen { IsReached self.now (SpecDir dir) → child self.now dir name.now ≡ found → Seen self.now result }
+    {
+        match (ask, found) {
+            (LastAsk::Mkdir, None) => End::Makes(dir, name),
+            (LastAsk::Mkdir, Some(_)) => End::Refused(Errno::EEXIST),
+            (LastAsk::Rmdir, None) => End::Refused(Errno::ENOENT),
+            (LastAsk::Rmdir, Some(found)) => self.rmdir_row(dir, name, found),
+        }
+    }
+
+    /// The end of what is asked of the path's last name.
+    pub(crate) fn last_end<'a>(&self, ask: LastAsk, path: &'a [Name]) -> End<'a>
+        ensures ends { (osts : ℕ) (number : SpecTxn) (who : SpecWho) → outcome self.now (to_last (no_last ask) path.now (λ passed. last_row_of number ask)) ≡ ended osts self.now number who [] result }
+        ensures looks { (number : SpecTxn) → looked self.now (to_last (no_last ask) path.now (λ passed. last_row_of number ask)) ≡ looks self.now root path.now ++ looked_of result }
+        ensures seen { Seen self.now result }
+    {
+        let Some((name, front)) = path.split_last() else {
+            return End::Refused(no_last(ask));
+        };
+        match self.find_last(front, name) {
+            Err(errno) => End::Refused(errno),
+            Ok(Found { dir, child }) => self.last_row(ask, dir, name, child),
+        }
+    }
+}
+
+/// What is answered where the path is that of the root.
+fn no_last(ask: LastAsk) -> Errno
+    ensures { result ≡ no_last ask }
+{
+    match ask {
+        LastAsk::Mkdir => Errno::EEXIST,
+        LastAsk::Rmdir => Errno::EBUSY,
+    }
+}
