@@ -1,6 +1,6 @@
 //! The names of a file system as a service.
 
-ghost use Rattle.std.specs.Prelude.{◌≡◌, IfOk, refl};
+ghost use Rattle.std.specs.Prelude.{◌≡◌, ◌≤◌, IfOk, refl};
 ghost use Rattle.lu_service.specs.Names.{fresh};
 
 use lu_base::{Memory, Txn, Who};
@@ -29,6 +29,8 @@ impl Model for Mdt {
 impl Mdt {
     /// A new file system over this many object storage targets, 1 to 8: the root without names.
     pub fn new(alloc: Global, osts: u16) -> Result<Mdt, Memory>
+        requires some { 1 ≤ osts }
+        requires most { osts ≤ 8 }
         ensures fresh { IfOk result (λ mdt. mdt ≡ fresh osts) }
     {
         Ok(Mdt {

@@ -9,8 +9,8 @@ use Rattle.lu_machine.specs.declared.child.Child.{Child}
 use Rattle.lu_machine.specs.Entries.{without, place}
 use Rattle.lu_machine.specs.Name.{same_name}
 use Rattle.lu_machine.specs.Order.{IsOrdered}
-use Rattle.lu_machine.specs.Tree.{Tree, Directory, no_directory, same_fid, fid_cmp, directory, listing}
-use Rattle.lu_machine.specs.Change.{Change, Leads, Drops, MakesDir, Leaves, put_dir, put_name, new_directory, leave, change}
+use Rattle.lu_machine.specs.Tree.{Tree, Directory, Inode, no_directory, same_fid, fid_cmp, directory, listing}
+use Rattle.lu_machine.specs.Change.{Change, Leads, Drops, MakesDir, Leaves, put_dir, put_file, put_name, new_directory, leave, change}
 use Rattle.lu_machine.specs.Effect.{without_name}
 use Rattle.lu_machine.proofs.Effects.{dir_put, listing_after}
 use Rattle.lu_machine.proofs.Keys.{Told, fid_tells}
@@ -63,7 +63,7 @@ still_ordered t x ds o is same = subst IsOrdered (same ∙ ap (with_dirs t) (sym
 -- ---- what is made and leaves at once
 
 module _ {K A : Type 0} (same : K → K → Bool) (tells : (a b : K) → Told same a b) where
-  without_absent : (k : K) (es : List (K × A)) → lookup (same k) es ≡ None → without (same k) es ≡ es
+  pub without_absent : (k : K) (es : List (K × A)) → lookup (same k) es ≡ None → without (same k) es ≡ es
   without_absent k [] h = refl
   without_absent k (e ∷ es) h = by (same k e.0) h (without_absent k es)
     where
@@ -89,6 +89,12 @@ unmade t f h =
     own : Told same_fid f f → (if same_fid f f then new_directory else unwrap_or (lookup (same_fid f) t.dirs) no_directory).entries ≡ []
     own (inl q) = ap (λ v. (if v then new_directory else unwrap_or (lookup (same_fid f) t.dirs) no_directory).entries) q.0
     own (inr q) = absurd (q.1 refl)
+
+-- a file that is made and leaves at once
+pub unmade_file : (t : Tree) (f : Fid) (x : Inode) → lookup (same_fid f) t.files ≡ None → record t { files = without (same_fid f) (put_file f x t.files) } ≡ t
+unmade_file t f x h =
+    ap (λ fs. record t { files = without (same_fid f) (place fid_cmp f x fs) }) (without_absent same_fid fid_tells f t.files h)
+    ∙ ap (λ fs. record t { files = fs }) (without_place same_fid fid_tells fid_cmp f x t.files h)
 
 -- an inode that was made has no names
 pub made_empty : (t : Tree) (f : Fid) → listing (change t (MakesDir f)) f ≡ []

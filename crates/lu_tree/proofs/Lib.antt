@@ -4,5 +4,8 @@ pub mod Views
 pub mod Reached
 pub mod RowEnds
 pub mod Lean
+pub mod Entries
+pub mod Living
+pub mod Layouts
 pub mod Used
 pub mod Sound

@@ -55,12 +55,14 @@ still_counted s number who op passed end h lt is =
     let before : Sound s.tree s.last = record { counted = h.counted; fresh = λ f above. ap (λ o. (unwrap_or o no_file).links) (none_above s.last f s.tree.files h.used.files above) } in
     (machine_sound_after s.tree s.last number who before lt (ended s.osts s.tree number who passed end) (subst (Comes s.tree number who) is (comes s.osts s.tree (asked number who op)))).counted
 
-sound_end : (s : TreeState) (number : Txn) (who : Who) (op : Op) (passed : List Child) (end : End) → IsSound s → s.last < number.0 → Seen s.tree end
+sound_end : (s : TreeState) (number : Txn) (who : Who) (op : Op) (passed : List Child) (end : End) → IsSound s → s.last < number.0 → Seen s.osts s.tree end
     → outcome_of s.osts s.tree (asked number who op) ≡ ended s.osts s.tree number who passed end
     → IsSound (record { osts = s.osts; last = number.0; tree = trim (changed s.tree (changes_of s.osts s.tree number who end)) })
 sound_end s number who op passed end h lt seen is =
     let xs = changes_of s.osts s.tree number who end in
     record {
+      some = h.some;
+      most = h.most;
       ordered = trim_ordered (changed s.tree xs) (changes_ordered s.tree xs h.ordered);
       used = used_trim number.0 (changed s.tree xs) (used_changes number.0 s.tree xs (end_fits s.last s.osts number who s.tree end lt h.used seen) (used_more s.last number.0 s.tree (omega arith) h.used));
       counted = trim_counted (changed s.tree xs) (still_counted s number who op passed end h lt is);
@@ -71,6 +73,8 @@ pub sound_forget : (s : TreeState) (who : Who) → IsSound s → IsSound (record
 sound_forget s who h =
     let t = forget s.tree who in
     record {
+      some = h.some;
+      most = h.most;
       ordered = trim_ordered t (record { dirs = h.ordered.dirs; files = h.ordered.files; names = h.ordered.names });
       used = used_trim s.last t (record { root = h.used.root; dirs = h.used.dirs; files = h.used.files; names = h.used.names });
       counted = trim_counted t h.counted;
@@ -82,7 +86,7 @@ no_change [] h = refl
 no_change (x ∷ xs) h = absurd (cc)
 
 pub sound_after : (s : TreeState) (number : Txn) (who : Who) (op : Op) (passed : List Child) (end : End) → IsSound s → (is_some_change (changes_of s.osts s.tree number who end) ≡ true → s.last < number.0)
-    → Seen s.tree end → outcome_of s.osts s.tree (asked number who op) ≡ ended s.osts s.tree number who passed end
+    → Seen s.osts s.tree end → outcome_of s.osts s.tree (asked number who op) ≡ ended s.osts s.tree number who passed end
     → IsSound (record { osts = s.osts; last = if is_some_change (changes_of s.osts s.tree number who end) then number.0 else s.last; tree = trim (changed s.tree (changes_of s.osts s.tree number who end)) })
 sound_after s number who op passed end h above seen is = by (is_some_change xs) refl
   where

@@ -1,11 +1,9 @@
 -- What a change does to numbers that are used.
 use Rattle.std.proofs.Common.{◌≡◌, ℕ, ◌<◌, ◌≤◌, ◌⊎◌, inl, inr, Bool, true, false, List, [], ◌∷◌, Option, Some, None, sym, ap, subst, ◌∙◌, arith}
 use Rattle.std.specs.Prelude.{◌&&◌, if◌then◌else◌}
-use Rattle.std.specs.declared.cmp.Ordering.{Ordering}
-use Rattle.std.specs.List.{AllByRecursion, filter}
+use Rattle.std.specs.List.{AllByRecursion}
 use Rattle.std.specs.Map.{lookup}
 use Rattle.std.specs.Option.{unwrap_or}
-use Rattle.std.specs.Ordering.{is_lt}
 use Rattle.std.proofs.lemmas.Bool.Decides.{nat_tests}
 use Rattle.lu_base.specs.declared.ids.Fid.{Fid}
 use Rattle.lu_base.specs.declared.ids.Txn.{Txn}
@@ -22,9 +20,10 @@ use Rattle.lu_machine.specs.Trim.{living, trim}
 use Rattle.lu_machine.proofs.Effects.{name_after}
 use Rattle.lu_machine.proofs.Keys.{fid_tells, find-put, find-without}
 use Rattle.lu_tree.specs.declared.ends.End.{End}
-use Rattle.lu_tree.specs.declared.ends.End.TheVariants.{Makes, Removes}
+use Rattle.lu_tree.specs.declared.ends.End.TheVariants.{Makes, Creates, Removes, OpensFile, ClosesFile}
 use Rattle.lu_tree.specs.Ends.{changes_of, IsReached, Seen}
 use Rattle.lu_tree.specs.State.{IsUsed, HasUsed}
+use Rattle.lu_tree.proofs.Entries.{all_filter, all_place}
 
 -- what a change names is used
 abbrev pub Fits : ℕ → Change → Type 0
@@ -38,23 +37,6 @@ Fits b (Leaves d) = d.0 ≤ b
 Fits b _ = Unit {0}
 
 -- ---- files
-
-module _ {K A : Type 0} (P : K × A → Type 0) where
-  all_place : (cmp : K → K → Ordering) (k : K) (a : A) (es : List (K × A)) → P (k, a) → AllByRecursion P es → AllByRecursion P (place cmp k a es)
-  all_place cmp k a [] p h = (p, tt)
-  all_place cmp k a (e ∷ es) p h = by (is_lt (cmp k e.0)) (all_place cmp k a es p h.1)
-    where
-      by : (v : Bool) → AllByRecursion P (place cmp k a es) → AllByRecursion P (if v then (k, a) ∷ e ∷ es else e ∷ place cmp k a es)
-      by true r = (p, h)
-      by false r = (h.0, r)
-
-  all_filter : (test : K × A → Bool) (es : List (K × A)) → AllByRecursion P es → AllByRecursion P (filter test es)
-  all_filter test [] h = h
-  all_filter test (e ∷ es) h = by (test e) (all_filter test es h.1)
-    where
-      by : (v : Bool) → AllByRecursion P (filter test es) → AllByRecursion P (if v then e ∷ filter test es else filter test es)
-      by true r = (h.0, r)
-      by false r = r
 
 -- no file above the last number
 pub none_above : (b : ℕ) (f : Fid) (es : List (Fid × Inode)) → AllByRecursion (HasUsed b) es → b < f.0 → lookup (same_fid f) es ≡ None
@@ -171,10 +153,15 @@ used_trim b t u = record { root = u.root; dirs = u.dirs; files = all_filter (Has
 
 -- ---- ends
 
-pub end_fits : (last osts : ℕ) (number : Txn) (who : Who) (t : Tree) (end : End) → last < number.0 → IsUsed last t → Seen t end → Every (Fits number.0) (changes_of osts t number who end)
+pub end_fits : (last osts : ℕ) (number : Txn) (who : Who) (t : Tree) (end : End) → last < number.0 → IsUsed last t → Seen osts t end → Every (Fits number.0) (changes_of osts t number who end)
 end_fits last osts number who t (Makes d n) lt u s =
     let r : d.0 ≤ last = reached_used last t (Dir d) u s.0 in
     (omega arith, ((omega arith, omega arith), tt))
+end_fits last osts number who t (Creates d n size count) lt u s =
+    let r : d.0 ≤ last = reached_used last t (Dir d) u s.0 in
+    (omega arith, ((omega arith, omega arith), tt))
+end_fits last osts number who t (OpensFile f) lt u s = (tt, tt)
+end_fits last osts number who t (ClosesFile opened f) lt u s = (tt, tt)
 end_fits last osts number who t (Removes d n e) lt u s =
     let r : d.0 ≤ last = named_used last t d n.now (Dir e) u s.0 in
     let q : e.0 ≤ last = u.names d n.now (Dir e) s.0 in

@@ -1,9 +1,10 @@
 -- Where an operation comes to in the table: one case for each row's end.
-use Rattle.std.specs.Prelude.{◌≡◌, ℕ, ◌+◌, ◌<◌, Option, Some, None, List, [], ◌∷◌, ◌++◌, ◌⊎◌}
+use Rattle.std.specs.Prelude.{◌≡◌, ℕ, ◌+◌, ◌<◌, false, Option, Some, None, List, [], ◌∷◌, ◌++◌, ◌⊎◌}
 use Rattle.std.specs.Map.{lookup}
 use Rattle.lu_base.specs.declared.ids.Fid.{Fid}
 use Rattle.lu_base.specs.declared.ids.Txn.{Txn}
 use Rattle.lu_base.specs.declared.ids.Who.{Who}
+use Rattle.lu_layout.specs.Raid0.{Raid0}
 use Rattle.lu_msg.specs.declared.answers.Answer.{Answer}
 use Rattle.lu_msg.specs.declared.answers.Answer.TheVariants as told
 use Rattle.lu_msg.specs.declared.answers.Errno.TheVariants.{ENOTEMPTY}
@@ -17,11 +18,12 @@ use Rattle.lu_tree.specs.Walks.{looks}
 use Rattle.lu_machine.specs.declared.child.Child.{Child}
 use Rattle.lu_machine.specs.declared.child.Child.TheVariants.{Dir, File}
 use Rattle.lu_machine.specs.Tree.{Tree, same_fid, child, listing, directory, file, layout}
-use Rattle.lu_machine.specs.Change.{Change, Leads, Drops, Parted, MakesDir, Leaves}
+use Rattle.lu_machine.specs.Change.{Change, Leads, Drops, Parted, MakesDir, MakesFile, Leaves, Opens, Closes}
 use Rattle.lu_machine.specs.Plan.{Outcome}
+use Rattle.lu_machine.specs.Striping.{is_bad, stripe_targets}
 use Rattle.lu_machine.specs.Table.{root, made_by, found, wants}
 use Rattle.lu_tree.specs.declared.ends.End.{End}
-use Rattle.lu_tree.specs.declared.ends.End.TheVariants.{Refused, NotEmpty, Finds, Stats, Lists, Shows, Makes, Removes}
+use Rattle.lu_tree.specs.declared.ends.End.TheVariants.{Refused, NotEmpty, Finds, Stats, Lists, Shows, Makes, Creates, Removes, OpensFile, ClosesFile}
 
 abbrev pub stat_of : Tree → Child → Answer
 stat_of t (Dir d) = told.DirStat d (directory t d).mode
@@ -35,11 +37,21 @@ told_of t number (Stats c) = stat_of t c
 told_of t number (Lists d) = told.Names (listing t d)
 told_of t number (Shows f) = told.Layout (layout t f)
 told_of t number (Makes d n) = told.Made (made_by number)
+told_of t number (Creates d n size count) = told.Made (made_by number)
 told_of t number (Removes d n e) = told.Done
+told_of t number (OpensFile f) = told.OpenFile f number (layout t f)
+told_of t number (ClosesFile opened f) = told.Done
+
+-- the layout of a new file
+abbrev pub striped : ℕ → Txn → ℕ → ℕ → Raid0
+striped osts number size count = record { size = size; targets = stripe_targets osts number count }
 
 -- over this many object storage targets
 abbrev pub changes_of : ℕ → Tree → Txn → Who → End → List Change
 changes_of osts t number who (Makes d n) = MakesDir (made_by number) ∷ Leads d n.now (Dir (made_by number)) ∷ []
+changes_of osts t number who (Creates d n size count) = MakesFile (made_by number) (striped osts number size count) ∷ Leads d n.now (File (made_by number)) ∷ []
+changes_of osts t number who (OpensFile f) = Opens number who f ∷ []
+changes_of osts t number who (ClosesFile opened f) = Closes opened who ∷ []
 changes_of osts t number who (Removes d n e) = Drops d n.now ∷ Parted e ∷ Leaves e ∷ []
 changes_of osts t number who _ = []
 
@@ -69,19 +81,28 @@ looked_of (Stats (File f)) = part.Attr f ∷ part.Layout f ∷ []
 looked_of (Lists d) = part.List d ∷ []
 looked_of (Shows f) = part.Layout f ∷ []
 looked_of (Removes d n e) = part.List e ∷ []
+looked_of (OpensFile f) = part.Layout f ∷ []
 looked_of _ = []
 
 -- it is the root, or a name leads to it
 abbrev pub IsReached : Tree → Child → Type 0
 IsReached t c = (c ≡ root) ⊎ ((d : Fid) × (n : List ℕ) × (child t d n ≡ Some c))
 
+-- a stripe size and a number of stripes of which a layout can be made
+pub record IsStriping (osts size count : ℕ) : Type 0 where
+  pub some_size : 0 < size
+  pub some_count : 0 < count
+  pub good : is_bad osts size count ≡ false
+
 -- what the walks have seen
-abbrev pub Seen : Tree → End → Type 0
-Seen t (Stats c) = IsReached t c
-Seen t (Shows f) = IsReached t (File f)
-Seen t (Makes d n) = IsReached t (Dir d) × (child t d n.now ≡ None)
-Seen t (Removes d n e) = (child t d n.now ≡ Some (Dir e)) × (listing t e ≡ [])
-Seen t _ = Unit {0}
+abbrev pub Seen : ℕ → Tree → End → Type 0
+Seen osts t (Stats c) = IsReached t c
+Seen osts t (Shows f) = IsReached t (File f)
+Seen osts t (Makes d n) = IsReached t (Dir d) × (child t d n.now ≡ None)
+Seen osts t (Creates d n size count) = IsReached t (Dir d) × (child t d n.now ≡ None) × IsStriping osts size count
+Seen osts t (Removes d n e) = (child t d n.now ≡ Some (Dir e)) × (listing t e ≡ [])
+Seen osts t (OpensFile f) = IsReached t (File f)
+Seen osts t _ = Unit {0}
 
 -- nothing has the number, and no file has so many links
 pub record IsFresh (t : Tree) (number : Txn) : Type 0 where
@@ -89,12 +110,13 @@ pub record IsFresh (t : Tree) (number : Txn) : Type 0 where
   pub files : lookup (same_fid (made_by number)) t.files ≡ None
   pub links : (f : Fid) → (file t f).links < number.0
 
--- the names that a reading walks by
+-- the names by which an operation on what a whole path leads to walks
 abbrev pub path_of : Op → List (List ℕ)
 path_of (op.Lookup path) = path
 path_of (op.Stat path) = path
 path_of (op.List path) = path
 path_of (op.Layout path) = path
+path_of (op.Open path) = path
 path_of _ = []
 
 -- the names that an operation looks up
@@ -104,5 +126,7 @@ names_of t (op.Stat path) = looks t root path
 names_of t (op.List path) = looks t root path
 names_of t (op.Layout path) = looks t root path
 names_of t (op.Mkdir path) = looks t root path
+names_of t (op.Create path size count) = looks t root path
+names_of t (op.Open path) = looks t root path
 names_of t (op.Rmdir path) = looks t root path
 names_of t _ = []

@@ -49,6 +49,9 @@ IsPerformed (op.Stat path) = Unit {0}
 IsPerformed (op.List path) = Unit {0}
 IsPerformed (op.Layout path) = Unit {0}
 IsPerformed (op.Mkdir path) = Unit {0}
+IsPerformed (op.Create path size count) = Unit {0}
+IsPerformed (op.Open path) = Unit {0}
+IsPerformed (op.Close opened fid) = Unit {0}
 IsPerformed (op.Rmdir path) = Unit {0}
 IsPerformed _ = ⊥
 
@@ -69,6 +72,8 @@ pub record IsUsed (last : ℕ) (t : Tree) : Type 0 where
 
 -- what holds of every tree of the program
 pub record IsSound (s : TreeState) : Type 0 where
+  pub some : 1 ≤ s.osts
+  pub most : s.osts ≤ 8
   pub ordered : IsOrdered s.tree
   pub used : IsUsed s.last s.tree
   pub counted : IsCounted s.tree

@@ -1,6 +1,6 @@
 //! What is answered.
 
-ghost use Rattle.std.specs.Prelude.{◌≡◌, IfOk};
+ghost use Rattle.std.specs.Prelude.{◌≡◌, ℕ, IfOk};
 ghost use Rattle.lu_machine.specs.Table.{found};
 ghost use Rattle.lu_machine.specs.declared.child.Child.TheVariants.{File};
 ghost use Rattle.lu_tree.specs.Ends.{told_of, stat_of, IsReached, Seen};
@@ -47,7 +47,7 @@ impl Inodes {
     /// What is answered where an operation comes to this.
     pub(crate) fn answer(&self, alloc: Global, number: Txn, end: End<'_>) -> Result<Answer, Memory>
         requires counted { IsCounted self.now }
-        requires seen { Seen self.now end }
+        requires seen { (osts : ℕ) × Seen osts self.now end }
         ensures answer { IfOk result (λ answer. answer ≡ told_of self.now number end.entry) }
     {
         match end {
@@ -58,7 +58,14 @@ impl Inodes {
             End::Lists(dir) => Ok(Answer::Names(self.names(alloc, dir)?)),
             End::Shows(file) => Ok(Answer::Layout(self.layout(file))),
             End::Makes(_, _) => Ok(Answer::Made(Fid(number.0))),
+            End::Creates { .. } => Ok(Answer::Made(Fid(number.0))),
             End::Removes(_, _, _) => Ok(Answer::Done),
+            End::OpensFile(fid) => Ok(Answer::OpenFile {
+                fid,
+                txn: number,
+                layout: self.layout(fid),
+            }),
+            End::ClosesFile(_, _) => Ok(Answer::Done),
         }
     }
 }

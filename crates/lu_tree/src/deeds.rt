@@ -1,20 +1,20 @@
 //! What the operations do to the inodes.
 
-ghost use Rattle.std.specs.Prelude.{◌≡◌, ℕ, true, None, OnOk, OnErr};
+ghost use Rattle.std.specs.Prelude.{◌≡◌, ◌≤◌, true, None, Some, [], ◌∷◌, OnOk, OnErr};
 ghost use Rattle.std.specs.Map.{lookup};
-ghost use Rattle.lu_base.specs.declared.ids.Txn.{Txn as SpecTxn};
-ghost use Rattle.lu_base.specs.declared.ids.Who.{Who as SpecWho};
 ghost use Rattle.lu_machine.specs.Footprint.{is_some_change};
-ghost use Rattle.lu_machine.specs.Tree.{same_fid};
-ghost use Rattle.lu_machine.specs.Change.{changed};
+ghost use Rattle.lu_machine.specs.Tree.{child, listing, same_fid};
+ghost use Rattle.lu_machine.specs.Change.{Drops, Leads, Leaves, MakesDir, MakesFile, Parted, changed};
+ghost use Rattle.lu_machine.specs.declared.child.Child.TheVariants.{Dir as SpecDir, File as SpecFile};
 ghost use Rattle.lu_machine.specs.Table.{made_by};
 ghost use Rattle.lu_machine.specs.Trim.{trim};
 ghost use Rattle.lu_tree.specs.Ends.{changes_of, Seen, IsFresh};
-ghost use Rattle.lu_tree.specs.declared.ends.End.TheVariants.{Makes, Removes};
 
 use super::ends::End;
 use super::inodes::Inodes;
+use super::striping::striped;
 use lu_base::{Duplicate, Fid, Memory, Name, Txn, Who};
+use lu_layout::Layout;
 use lu_machine::Child;
 use std::alloc::Global;
 
@@ -22,7 +22,7 @@ impl Inodes {
     /// Makes a directory of this number, to which the name leads. After want of memory nothing has changed.
     fn make(&mut self, alloc: Global, number: Txn, dir: Fid, name: &Name) -> Result<(), Memory>
         requires unused { lookup (same_fid (made_by number)) self.old.dirs ≡ None }
-        ensures made { (osts : ℕ) (who : SpecWho) → OnOk result (self.new ≡ changed self.old (changes_of osts self.old number who (Makes dir name.entry))) }
+        ensures made { OnOk result (self.new ≡ changed self.old (MakesDir (made_by number) ∷ Leads dir name.now (SpecDir (made_by number)) ∷ [])) }
         ensures kept { OnErr result (self.new ≡ self.old) }
     {
         let made = Fid(number.0);
@@ -35,10 +35,34 @@ impl Inodes {
         Ok(())
     }
 
+    /// Makes a file of this number, to which the name leads. After want of memory nothing has changed.
+    fn create(
+        &mut self,
+        alloc: Global,
+        number: Txn,
+        dir: Fid,
+        name: &Name,
+        layout: Layout,
+    ) -> Result<(), Memory>
+        requires unused { lookup (same_fid (made_by number)) self.old.files ≡ None }
+        ensures made { OnOk result (self.new ≡ changed self.old (MakesFile (made_by number) layout ∷ Leads dir name.now (SpecFile (made_by number)) ∷ [])) }
+        ensures kept { OnErr result (self.new ≡ self.old) }
+    {
+        let made = Fid(number.0);
+        let name = name.copy(alloc)?;
+        self.make_file(made, layout)?;
+        if let Err(error) = self.lead(alloc, dir, name, Child::File(made)) {
+            self.drop_file(made);
+            return Err(error);
+        }
+        Ok(())
+    }
+
     /// Takes the name out, and the empty directory to which it leads.
     fn remove(&mut self, dir: Fid, name: &Name, gone: Fid)
-        requires seen { Seen self.old (Removes dir name gone) }
-        ensures gone { (osts : ℕ) (number : SpecTxn) (who : SpecWho) → self.new ≡ changed self.old (changes_of osts self.old number who (Removes dir name.entry gone)) }
+        requires named { child self.old dir name.now ≡ Some (SpecDir gone) }
+        requires empty { listing self.old gone ≡ [] }
+        ensures gone { self.new ≡ changed self.old (Drops dir name.now ∷ Parted gone ∷ Leaves gone ∷ []) }
     {
         self.unlead(dir, name);
         self.leave(gone);
@@ -49,19 +73,35 @@ impl Inodes {
     pub(crate) fn perform(
         &mut self,
         alloc: Global,
-        _osts: u16,
+        osts: u16,
         number: Txn,
-        _who: Who,
+        who: Who,
         end: End<'_>,
     ) -> Result<(), Memory>
+        requires some { 1 ≤ osts }
+        requires most { osts ≤ 8 }
         requires lean { trim self.old ≡ self.old }
-        requires fresh { is_some_change (changes_of _osts self.old number _who end) ≡ true → IsFresh self.old number }
-        requires seen { Seen self.old end }
-        ensures done { OnOk result (self.new ≡ trim (changed self.old (changes_of _osts self.old number _who end.entry))) }
+        requires fresh { is_some_change (changes_of osts self.old number who end) ≡ true → IsFresh self.old number }
+        requires seen { Seen osts self.old end }
+        ensures done { OnOk result (self.new ≡ trim (changed self.old (changes_of osts self.old number who end.entry))) }
         ensures kept { OnErr result (self.new ≡ self.old) }
     {
         match end {
             End::Makes(dir, name) => self.make(alloc, number, dir, name),
+            End::Creates {
+                dir,
+                name,
+                size,
+                count,
+            } => {
+                let layout = striped(osts, number, size, count);
+                self.create(alloc, number, dir, name, layout)
+            }
+            End::OpensFile(fid) => self.open(number, who, fid),
+            End::ClosesFile(opened, fid) => {
+                self.close(opened, who, fid);
+                Ok(())
+            }
             End::Removes(dir, name, gone) => {
                 self.remove(dir, name, gone);
                 Ok(())

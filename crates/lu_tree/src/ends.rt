@@ -29,8 +29,20 @@ pub(crate) enum End<'a> {
     Shows(Fid),
     /// A directory is made, to which this name of this directory leads.
     Makes(Fid, &'a Name),
+    /// A file with this stripe size, in bytes, and so many stripes is made, to which this name of this directory
+    /// leads.
+    Creates {
+        dir: Fid,
+        name: &'a Name,
+        size: u64,
+        count: u64,
+    },
     /// This name of this directory goes, and the empty directory to which it leads.
     Removes(Fid, &'a Name, Fid),
+    /// This file is opened.
+    OpensFile(Fid),
+    /// The open that this transaction made is closed. It is said to be of this file.
+    ClosesFile(Txn, Fid),
 }
 
 /// Whether it makes a transaction.
@@ -38,7 +50,11 @@ pub(crate) fn changes(end: End<'_>) -> bool
     ensures { (osts : ℕ) (t : Tree) (number : SpecTxn) (who : SpecWho) → result ≡ is_some_change (changes_of osts t number who end.entry) }
 {
     match end {
-        End::Makes(_, _) | End::Removes(_, _, _) => true,
+        End::Makes(_, _) => true,
+        End::Creates { .. } => true,
+        End::Removes(_, _, _) => true,
+        End::OpensFile(_) => true,
+        End::ClosesFile(_, _) => true,
         _ => false,
     }
 }

@@ -1,12 +1,16 @@
 //! Files and opens as the program has them.
 
-ghost use Rattle.std.specs.Prelude.{◌≡◌, not, nat_lt};
+ghost use Rattle.std.specs.Prelude.{◌≡◌, not, nat_lt, ◌==◌, ◌&&◌};
 ghost use Rattle.lu_machine.specs.Tree.{same_fid, same_life};
+ghost use Rattle.lu_machine.specs.Change.{new_file};
 ghost use Rattle.lu_machine.specs.Trim.{is_open};
 
 use lu_base::{Fid, Txn, Who};
 use lu_layout::Layout;
 use std::marker::Model;
+
+/// The mode of a new file.
+const NEW_MODE: u16 = 0o644;
 
 /// A file: its mode, how many names lead to it, and its layout.
 #[derive(Drop)]
@@ -25,6 +29,17 @@ impl Model for FileNode {
 }
 
 impl FileNode {
+    /// A new file, to which one name leads.
+    pub(crate) fn new(layout: Layout) -> FileNode
+        ensures new { result ≡ new_file layout }
+    {
+        FileNode {
+            mode: NEW_MODE,
+            links: 1,
+            layout,
+        }
+    }
+
     /// Whether a name leads to it.
     pub(crate) fn is_named(&self) -> bool
         ensures { result ≡ nat_lt 0 self.now.links }
@@ -71,8 +86,22 @@ impl Model for OpenFile {
 }
 
 impl OpenFile {
+    /// The open that this transaction made of a file, as this life asked for it.
+    pub(crate) fn new(number: Txn, life: Who, fid: Fid) -> OpenFile
+        ensures new { result ≡ record { number = number; life = life; fid = fid } }
+    {
+        OpenFile { number, life, fid }
+    }
+
+    /// Whether this transaction made it, and this life asked for it.
+    pub(crate) fn is_made(&self, number: Txn, who: Who) -> bool
+        ensures { result ≡ (self.now.number.0 == number.0 && same_life self.now.life who) }
+    {
+        self.number == number && self.life == who
+    }
+
     /// Whether it is an open of this file.
-    fn is_of(&self, file: Fid) -> bool
+    pub(crate) fn is_of(&self, file: Fid) -> bool
         ensures { result ≡ same_fid self.now.fid file }
     {
         self.fid == file

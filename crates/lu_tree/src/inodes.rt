@@ -4,16 +4,17 @@ ghost use Rattle.std.specs.Prelude.{◌≡◌, [], List, IsTrue, ◌↔◌, IsSo
 ghost use Rattle.lu_machine.specs.Entries.{without};
 ghost use Rattle.lu_machine.specs.declared.child.Child.TheVariants.{File as SpecFile};
 ghost use Rattle.lu_machine.specs.Tree.{same_fid, child, directory, file, layout, listing};
-ghost use Rattle.lu_machine.specs.Change.{Leads, Drops, MakesDir, Leaves, change};
+ghost use Rattle.lu_machine.specs.Change.{Leads, Drops, MakesDir, MakesFile, Leaves, Opens, Closes, change};
 ghost use Rattle.lu_machine.specs.Footprint.{empty, forget};
 ghost use Rattle.lu_machine.specs.Trim.{trim};
 ghost use Rattle.lu_tree.specs.Ends.{IsReached};
+ghost use Rattle.lu_tree.specs.Lives.{AreOthersLiving, is_dead, opens_only, without_file};
 ghost use Rattle.lu_tree.specs.State.{IsCounted};
 
 use super::files::{FileNode, OpenFile, is_open};
 use super::folders::Folder;
 use super::walks::ROOT;
-use lu_base::{Fid, Memory, Name, Names, Who};
+use lu_base::{Fid, Memory, Name, Names, Txn, Who};
 use lu_layout::Layout;
 use lu_machine::Child;
 use std::alloc::Global;
@@ -171,6 +172,81 @@ impl Inodes {
         ensures gone { self.new ≡ change self.old (Leaves dir) }
     {
         self.dirs.remove(&dir);
+    }
+
+    /// Makes a file with one link. After want of memory nothing has changed.
+    pub(crate) fn make_file(&mut self, fid: Fid, layout: Layout) -> Result<(), Memory>
+        ensures made { OnOk result (self.new ≡ change self.old (MakesFile fid layout)) }
+        ensures kept { OnErr result (self.new ≡ self.old) }
+    {
+        self.files.insert(fid, FileNode::new(layout))?;
+        Ok(())
+    }
+
+    /// Takes a file out.
+    pub(crate) fn drop_file(&mut self, fid: Fid)
+        ensures gone { self.new ≡ without_file self.old fid }
+    {
+        self.files.remove(&fid);
+    }
+
+    /// Adds an open. After want of memory nothing has changed.
+    pub(crate) fn open(&mut self, number: Txn, who: Who, fid: Fid) -> Result<(), Memory>
+        ensures opened { OnOk result (self.new ≡ change self.old (Opens number who fid)) }
+        ensures kept { OnErr result (self.new ≡ self.old) }
+    {
+        self.opens.push(OpenFile::new(number, who, fid))?;
+        Ok(())
+    }
+
+    /// Whether each open that this transaction made, as this life asked for it, is of the file.
+    fn opens_only(&self, number: Txn, who: Who, fid: Fid) -> bool
+        ensures only { result ≡ opens_only number who fid self.now.opens }
+    {
+        self.opens
+            .iter()
+            .all(|open| !open.is_made(number, who) || open.is_of(fid))
+    }
+
+    /// Takes out the open that this transaction made, as this life asked for it.
+    fn drop_open(&mut self, number: Txn, who: Who)
+        ensures gone { self.new ≡ change self.old (Closes number who) }
+    {
+        self.opens.retain(|open| !open.is_made(number, who));
+    }
+
+    /// Whether the file is there with neither a name nor an open.
+    fn is_dead(&self, fid: Fid) -> bool
+        ensures dead { result ≡ is_dead self.now fid }
+    {
+        match self.files.get(&fid) {
+            Some(file) => !(file.is_named() || is_open(self.opens.as_slice(), fid)),
+            None => false,
+        }
+    }
+
+    /// Takes the file out if it has neither a name nor an open, as each other file has.
+    pub(crate) fn bury(&mut self, fid: Fid)
+        requires others { AreOthersLiving self.old fid }
+        ensures buried { self.new ≡ trim self.old }
+    {
+        if self.is_dead(fid) {
+            self.files.remove(&fid);
+        }
+    }
+
+    /// Closes the open that this transaction made, as this life asked for it. It is mostly of this file.
+    pub(crate) fn close(&mut self, number: Txn, who: Who, fid: Fid)
+        requires lean { trim self.old ≡ self.old }
+        ensures closed { self.new ≡ trim (change self.old (Closes number who)) }
+    {
+        let only = self.opens_only(number, who, fid);
+        self.drop_open(number, who);
+        if only {
+            self.bury(fid);
+        } else {
+            self.sweep();
+        }
     }
 
     /// Takes the opens of a life out.

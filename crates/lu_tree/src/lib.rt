@@ -9,6 +9,7 @@ mod folders;
 mod inodes;
 mod operations;
 mod rows;
+mod striping;
 #[cfg(test)]
 mod tests;
 mod touches;

@@ -1,6 +1,6 @@
 //! Where the operations come to.
 
-ghost use Rattle.std.specs.Prelude.{◌≡◌, ◌++◌, ℕ};
+ghost use Rattle.std.specs.Prelude.{◌≡◌, ◌++◌, ◌≤◌};
 ghost use Rattle.lu_base.specs.declared.ids.Txn.{Txn as SpecTxn};
 ghost use Rattle.lu_base.specs.declared.ids.Who.{Who as SpecWho};
 ghost use Rattle.lu_machine.specs.Footprint.{outcome_of};
@@ -16,8 +16,8 @@ use super::rows::{Ask, LastAsk};
 use lu_base::Name;
 use lu_msg::Op;
 
-/// The names that a reading walks by.
-pub(crate) fn reading_path(op: &Op) -> &[Name]
+/// The names by which an operation on what a whole path leads to walks.
+pub(crate) fn whole_path(op: &Op) -> &[Name]
     ensures { result.now ≡ path_of op.now }
 {
     match op {
@@ -25,25 +25,37 @@ pub(crate) fn reading_path(op: &Op) -> &[Name]
         Op::Stat(path) => path.as_slice(),
         Op::List(path) => path.as_slice(),
         Op::Layout(path) => path.as_slice(),
+        Op::Open(path) => path.as_slice(),
         _ => &[],
     }
 }
 
 impl Inodes {
     /// Where an operation comes to.
-    pub(crate) fn end<'a>(&self, op: &'a Op) -> End<'a>
-        requires { IsPerformed op.now }
-        ensures ends { (osts : ℕ) (number : SpecTxn) (who : SpecWho) → outcome_of osts self.now (asked number who op.now) ≡ ended osts self.now number who (trail self.now root (path_of op.now)) result }
-        ensures looks { (osts : ℕ) (number : SpecTxn) (who : SpecWho) → footprint.touches osts self.now (asked number who op.now) ≡ names_of self.now op.now ++ looked_of result }
-        ensures seen { Seen self.now result }
+    pub(crate) fn end<'a>(&self, osts: u16, op: &'a Op) -> End<'a>
+        requires performed { IsPerformed op.now }
+        requires osts { 1 ≤ osts }
+        ensures ends { (number : SpecTxn) (who : SpecWho) → outcome_of osts self.now (asked number who op.now) ≡ ended osts self.now number who (trail self.now root (path_of op.now)) result }
+        ensures looks { (number : SpecTxn) (who : SpecWho) → footprint.touches osts self.now (asked number who op.now) ≡ names_of self.now op.now ++ looked_of result }
+        ensures seen { Seen osts self.now result }
     {
         match op {
             Op::Lookup(path) => self.whole_end(Ask::Lookup, path.as_slice()),
             Op::Stat(path) => self.whole_end(Ask::Stat, path.as_slice()),
             Op::List(path) => self.whole_end(Ask::List, path.as_slice()),
             Op::Layout(path) => self.whole_end(Ask::Layout, path.as_slice()),
-            Op::Mkdir(path) => self.last_end(LastAsk::Mkdir, path.as_slice()),
-            Op::Rmdir(path) => self.last_end(LastAsk::Rmdir, path.as_slice()),
+            Op::Mkdir(path) => self.last_end(osts, LastAsk::Mkdir, path.as_slice()),
+            Op::Create { path, size, count } => self.last_end(
+                osts,
+                LastAsk::Create {
+                    size: *size,
+                    count: *count,
+                },
+                path.as_slice(),
+            ),
+            Op::Rmdir(path) => self.last_end(osts, LastAsk::Rmdir, path.as_slice()),
+            Op::Open(path) => self.whole_end(Ask::Open, path.as_slice()),
+            Op::Close { txn, fid } => End::ClosesFile(*txn, *fid),
             _ => unreachable!(),
         }
     }

@@ -1,12 +1,13 @@
 //! The rows of the table, from the ends of the walks on.
 
-ghost use Rattle.std.specs.Prelude.{◌≡◌, ◌++◌, ℕ, [], Some, List as SpecList};
+ghost use Rattle.std.specs.Prelude.{◌≡◌, ◌++◌, ℕ, ◌≤◌, [], Some, None, List as SpecList};
 ghost use Rattle.lu_base.specs.declared.ids.Txn.{Txn as SpecTxn};
 ghost use Rattle.lu_base.specs.declared.ids.Who.{Who as SpecWho};
 ghost use Rattle.lu_machine.specs.declared.child.Child.{Child as SpecChild};
 ghost use Rattle.lu_machine.specs.declared.child.Child.TheVariants.{Dir as SpecDir};
 ghost use Rattle.lu_machine.specs.Plan.{outcome, looked};
-ghost use Rattle.lu_machine.specs.Table.{root, walk, to_last, last_of, row_rmdir};
+ghost use Rattle.lu_machine.specs.Striping.{new_layout};
+ghost use Rattle.lu_machine.specs.Table.{root, walk, to_last, last_of, row_create, row_rmdir};
 ghost use Rattle.lu_machine.specs.Tree.{child};
 ghost use Rattle.lu_tree.specs.Ends.{ended, looked_of, IsReached, Seen};
 ghost use Rattle.lu_tree.specs.Rows.{row_of, last_row_of, no_last};
@@ -14,6 +15,7 @@ ghost use Rattle.lu_tree.specs.Walks.{looks, trail};
 
 use super::ends::End;
 use super::inodes::Inodes;
+use super::striping::{is_bad, stripe_count, stripe_size};
 use super::walks::Found;
 use lu_base::{Fid, Name};
 use lu_machine::Child;
@@ -26,21 +28,23 @@ pub(crate) enum Ask {
     Stat,
     List,
     Layout,
+    Open,
 }
 
 /// What is asked of a path's last name.
 #[derive(Clone, Copy)]
 pub(crate) enum LastAsk {
     Mkdir,
+    Create { size: u64, count: i32 },
     Rmdir,
 }
 
 impl Inodes {
     /// The end of what is asked of this.
     fn row<'a>(&self, ask: Ask, at: Child) -> End<'a>
-        ensures ends { (osts : ℕ) (number : SpecTxn) (who : SpecWho) (passed : SpecList SpecChild) → outcome self.now (row_of ask passed at) ≡ ended osts self.now number who passed result }
-        ensures looks { (passed : SpecList SpecChild) → looked self.now (row_of ask passed at) ≡ looked_of result }
-        ensures seen { IsReached self.now at → Seen self.now result }
+        ensures ends { (osts : ℕ) (number : SpecTxn) (who : SpecWho) (passed : SpecList SpecChild) → outcome self.now (row_of number who ask passed at) ≡ ended osts self.now number who passed result }
+        ensures looks { (number : SpecTxn) (who : SpecWho) (passed : SpecList SpecChild) → looked self.now (row_of number who ask passed at) ≡ looked_of result }
+        ensures seen { (osts : ℕ) → IsReached self.now at → Seen osts self.now result }
     {
         match ask {
             Ask::Lookup => End::Finds(at),
@@ -53,14 +57,18 @@ impl Inodes {
                 Child::Dir(_) => End::Refused(Errno::EISDIR),
                 Child::File(file) => End::Shows(file),
             },
+            Ask::Open => match at {
+                Child::Dir(_) => End::Refused(Errno::EISDIR),
+                Child::File(file) => End::OpensFile(file),
+            },
         }
     }
 
     /// The end of what is asked of that to which the path leads.
     pub(crate) fn whole_end<'a>(&self, ask: Ask, path: &'a [Name]) -> End<'a>
-        ensures ends { (osts : ℕ) (number : SpecTxn) (who : SpecWho) → outcome self.now (walk root path.now (λ passed. row_of ask passed (last_of root passed))) ≡ ended osts self.now number who (trail self.now root path.now) result }
-        ensures looks { looked self.now (walk root path.now (λ passed. row_of ask passed (last_of root passed))) ≡ looks self.now root path.now ++ looked_of result }
-        ensures seen { Seen self.now result }
+        ensures ends { (osts : ℕ) (number : SpecTxn) (who : SpecWho) → outcome self.now (walk root path.now (λ passed. row_of number who ask passed (last_of root passed))) ≡ ended osts self.now number who (trail self.now root path.now) result }
+        ensures looks { (number : SpecTxn) (who : SpecWho) → looked self.now (walk root path.now (λ passed. row_of number who ask passed (last_of root passed))) ≡ looks self.now root path.now ++ looked_of result }
+        ensures seen { (osts : ℕ) → Seen osts self.now result }
     {
         match self.reach(path) {
             Err(errno) => End::Refused(errno),
@@ -72,7 +80,7 @@ impl Inodes {
     fn rmdir_row<'a>(&self, dir: Fid, name: &'a Name, found: Child) -> End<'a>
         ensures ends { (osts : ℕ) (number : SpecTxn) (who : SpecWho) → outcome self.now (row_rmdir dir name.now found) ≡ ended osts self.now number who [] result }
         ensures looks { looked self.now (row_rmdir dir name.now found) ≡ looked_of result }
-        ensures seen { child self.now dir name.now ≡ Some found → Seen self.now result }
+        ensures seen { (osts : ℕ) → child self.now dir name.now ≡ Some found → Seen osts self.now result }
     {
         match found {
             Child::File(_) => End::Refused(Errno::ENOTDIR),
@@ -86,32 +94,66 @@ impl Inodes {
         }
     }
 
+    /// The end of a `create` of a name that is free.
+    fn create_row<'a>(&self, osts: u16, dir: Fid, name: &'a Name, size: u64, count: i32) -> End<'a>
+        requires { 1 ≤ osts }
+        ensures ends { (number : SpecTxn) (who : SpecWho) → outcome self.now (row_create number dir name.now (new_layout osts number size count)) ≡ ended osts self.now number who [] result }
+        ensures looks { (number : SpecTxn) → looked self.now (row_create number dir name.now (new_layout osts number size count)) ≡ looked_of result }
+        ensures seen { IsReached self.now (SpecDir dir) → child self.now dir name.now ≡ None → Seen osts self.now result }
+    {
+        let size = stripe_size(size);
+        let count = stripe_count(osts, count);
+        if is_bad(osts, size, count) {
+            End::Refused(Errno::EINVAL)
+        } else {
+            End::Creates {
+                dir,
+                name,
+                size,
+                count,
+            }
+        }
+    }
+
     /// The end of what is asked of this name of this directory.
-    fn last_row<'a>(&self, ask: LastAsk, dir: Fid, name: &'a Name, found: Option<Child>) -> End<'a>
-        ensures ends { (osts : ℕ) (number : SpecTxn) (who : SpecWho) → outcome self.now (last_row_of number ask dir name.now found) ≡ ended osts self.now number who [] result }
-        ensures looks { (number : SpecTxn) → looked self.now (last_row_of number ask dir name.now found) ≡ looked_of result }
-        ensures seen { IsReached self.now (SpecDir dir) → child self.now dir name.now ≡ found → Seen self.now result }
+    fn last_row<'a>(
+        &self,
+        osts: u16,
+        ask: LastAsk,
+        dir: Fid,
+        name: &'a Name,
+        found: Option<Child>,
+    ) -> End<'a>
+        requires { 1 ≤ osts }
+        ensures ends { (number : SpecTxn) (who : SpecWho) → outcome self.now (last_row_of osts number ask dir name.now found) ≡ ended osts self.now number who [] result }
+        ensures looks { (number : SpecTxn) → looked self.now (last_row_of osts number ask dir name.now found) ≡ looked_of result }
+        ensures seen { IsReached self.now (SpecDir dir) → child self.now dir name.now ≡ found → Seen osts self.now result }
     {
         match (ask, found) {
             (LastAsk::Mkdir, None) => End::Makes(dir, name),
             (LastAsk::Mkdir, Some(_)) => End::Refused(Errno::EEXIST),
+            (LastAsk::Create { size, count }, None) => {
+                self.create_row(osts, dir, name, size, count)
+            }
+            (LastAsk::Create { .. }, Some(_)) => End::Refused(Errno::EEXIST),
             (LastAsk::Rmdir, None) => End::Refused(Errno::ENOENT),
             (LastAsk::Rmdir, Some(found)) => self.rmdir_row(dir, name, found),
         }
     }
 
     /// The end of what is asked of the path's last name.
-    pub(crate) fn last_end<'a>(&self, ask: LastAsk, path: &'a [Name]) -> End<'a>
-        ensures ends { (osts : ℕ) (number : SpecTxn) (who : SpecWho) → outcome self.now (to_last (no_last ask) path.now (λ passed. last_row_of number ask)) ≡ ended osts self.now number who [] result }
-        ensures looks { (number : SpecTxn) → looked self.now (to_last (no_last ask) path.now (λ passed. last_row_of number ask)) ≡ looks self.now root path.now ++ looked_of result }
-        ensures seen { Seen self.now result }
+    pub(crate) fn last_end<'a>(&self, osts: u16, ask: LastAsk, path: &'a [Name]) -> End<'a>
+        requires { 1 ≤ osts }
+        ensures ends { (number : SpecTxn) (who : SpecWho) → outcome self.now (to_last (no_last ask) path.now (λ passed. last_row_of osts number ask)) ≡ ended osts self.now number who [] result }
+        ensures looks { (number : SpecTxn) → looked self.now (to_last (no_last ask) path.now (λ passed. last_row_of osts number ask)) ≡ looks self.now root path.now ++ looked_of result }
+        ensures seen { Seen osts self.now result }
     {
         let Some((name, front)) = path.split_last() else {
             return End::Refused(no_last(ask));
         };
         match self.find_last(front, name) {
             Err(errno) => End::Refused(errno),
-            Ok(Found { dir, child }) => self.last_row(ask, dir, name, child),
+            Ok(Found { dir, child }) => self.last_row(osts, ask, dir, name, child),
         }
     }
 }
@@ -122,6 +164,7 @@ fn no_last(ask: LastAsk) -> Errno
 {
     match ask {
         LastAsk::Mkdir => Errno::EEXIST,
+        LastAsk::Create { .. } => Errno::EEXIST,
         LastAsk::Rmdir => Errno::EBUSY,
     }
 }

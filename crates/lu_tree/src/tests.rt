@@ -3,6 +3,7 @@ ghost use Rattle.lu_tree.specs.State.{IsPerformed};
 
 use super::*;
 use lu_base::{Bytes, Fid, Memory, Name, Path, Txn, Who, put_number, put_pair};
+use lu_layout::Layout;
 use lu_msg::{Answer, Errno, Op};
 use lu_part::Part;
 use std::alloc::Global;
@@ -22,7 +23,12 @@ enum Verb {
     List,
     Layout,
     Mkdir,
+    /// With this stripe size and number of stripes.
+    Create(u64, i32),
     Rmdir,
+    Open,
+    /// Of the open that this transaction made, of this file. It has no path.
+    Close(u32, u32),
 }
 
 /// What is answered; an inode is told by the count of the transaction of boot 1 that made it.
@@ -33,7 +39,13 @@ enum Told {
     Dir(u32),
     DirStat(u32, u16),
     Root(u16),
+    File(u32),
+    /// A file with its mode, links, stripe size and targets.
+    FileStat(u32, u16, u64, u64, &'static [u16]),
     Names(&'static [u8]),
+    Layout(u64, &'static [u16]),
+    /// A file, the transaction that opened it, its stripe size and targets.
+    Opened(u32, u32, u64, &'static [u16]),
     No(Errno),
 }
 
@@ -41,14 +53,15 @@ enum Told {
 /// second one 1.2, and so on.
 type Row<'a> = (Verb, &'a [u8], Told);
 
-/// An operation and its path, then the parts that it touches, those that it writes, and the locks that it grants,
-/// each an inode and its bits.
+/// An operation and its path, then the parts that it touches, those that it writes, the locks that it grants, each
+/// an inode and its bits, and whether it makes a transaction.
 type Print = (
     Verb,
     &'static [u8],
     &'static [u8],
     &'static [u8],
     &'static [u8],
+    bool,
 );
 
 /// The names between the slashes.
@@ -81,6 +94,12 @@ fn op(alloc: Global, verb: Verb, text: &[u8]) -> Result<Op, Memory>
         Verb::List => Ok(Op::List(path)),
         Verb::Layout => Ok(Op::Layout(path)),
         Verb::Mkdir => Ok(Op::Mkdir(path)),
+        Verb::Create(size, count) => Ok(Op::Create { path, size, count }),
+        Verb::Open => Ok(Op::Open(path)),
+        Verb::Close(opened, file) => Ok(Op::Close {
+            txn: Txn(BOOT + opened as u64),
+            fid: fid(file),
+        }),
         Verb::Rmdir => Ok(Op::Rmdir(path)),
     }
 }
@@ -89,7 +108,7 @@ fn fid(count: u32) -> Fid {
     Fid(BOOT + count as u64)
 }
 
-fn answer(alloc: Global, told: Told) -> Result<Answer, Memory> {
+fn answer(alloc: Global, told: Told) -> Result<Answer, Fail> {
     match told {
         Told::Done => Ok(Answer::Done),
         Told::Made(count) => Ok(Answer::Made(fid(count))),
@@ -99,6 +118,19 @@ fn answer(alloc: Global, told: Told) -> Result<Answer, Memory> {
             mode,
         }),
         Told::Root(mode) => Ok(Answer::DirStat { fid: Fid(1), mode }),
+        Told::File(count) => Ok(Answer::File(fid(count))),
+        Told::FileStat(count, mode, links, size, targets) => Ok(Answer::FileStat {
+            fid: fid(count),
+            mode,
+            links,
+            layout: Layout::make(size, targets)?,
+        }),
+        Told::Layout(size, targets) => Ok(Answer::Layout(Layout::make(size, targets)?)),
+        Told::Opened(file, opened, size, targets) => Ok(Answer::OpenFile {
+            fid: fid(file),
+            txn: Txn(BOOT + opened as u64),
+            layout: Layout::make(size, targets)?,
+        }),
         Told::Names(text) => Ok(Answer::Names(path(alloc, text)?)),
         Told::No(errno) => Ok(Answer::Refused(errno)),
     }
@@ -111,7 +143,7 @@ fn acts(
     tree: &mut Tree,
     number: u64,
     row: Row<'_>,
-) -> Result<(), Memory>
+) -> Result<(), Fail>
     requires { tree.old.last < number }
     ensures { tree.new.last ≤ number }
 {
@@ -122,9 +154,9 @@ fn acts(
     Ok(())
 }
 
-/// The operations on a new tree are answered so.
-fn acts_all(rt: &impl Abort, alloc: Global, rows: &[Row<'_>]) -> Result<Tree, Memory> {
-    let mut tree = Tree::new(alloc, 1)?;
+/// The operations on a new tree, over two object storage targets, are answered so.
+fn acts_all(rt: &impl Abort, alloc: Global, rows: &[Row<'_>]) -> Result<Tree, Fail> {
+    let mut tree = Tree::new(alloc, 2)?;
     let mut number = BOOT;
     for row in rows {
         number += 1;
@@ -177,14 +209,21 @@ fn touches(
     Ok(())
 }
 
-/// The operation writes these parts, and makes a transaction exactly where it writes some.
-fn writes(rt: &impl Abort, alloc: Global, tree: &Tree, op: &Op, wanted: &[u8]) -> Result<(), Memory>
+/// The operation writes these parts, and makes a transaction, or doesn't.
+fn writes(
+    rt: &impl Abort,
+    alloc: Global,
+    tree: &Tree,
+    op: &Op,
+    wanted: &[u8],
+    makes: bool,
+) -> Result<(), Memory>
     requires { IsPerformed op.now }
 {
     let parts = tree.writes(alloc, ASKER, op)?;
     let text = parts_text(alloc, parts.as_slice())?;
     assert_eq!(rt; text.as_slice(), wanted);
-    assert_eq!(rt; tree.changes(ASKER, op), !wanted.is_empty());
+    assert_eq!(rt; tree.changes(ASKER, op), makes);
     Ok(())
 }
 
@@ -207,7 +246,7 @@ fn grants(rt: &impl Abort, alloc: Global, tree: &Tree, op: &Op, wanted: &[u8]) -
 fn prints(rt: &impl Abort, alloc: Global, tree: &Tree, print: Print) -> Result<(), Memory> {
     let op = op(alloc, print.0, print.1)?;
     touches(rt, alloc, tree, &op, print.2)?;
-    writes(rt, alloc, tree, &op, print.3)?;
+    writes(rt, alloc, tree, &op, print.3, print.5)?;
     grants(rt, alloc, tree, &op, print.4)
 }
 
@@ -288,42 +327,132 @@ fn footprints_of_directories(rt: HostRuntime) -> Result<(), Fail> {
     let mut tree = acts_all(&rt, rt.alloc(), rows.as_slice())?;
     tree.forget(ASKER);
     let prints: [Print; 12] = [
-        (Verb::Lookup, b"/", b"", b"", b""),
+        (Verb::Lookup, b"/", b"", b"", b"", false),
         (
             Verb::Lookup,
             b"/a/b",
             b" Name 0.1/a Name 1.1/b",
             b"",
             b" 1.1:1 1.2:1",
+            false,
         ),
-        (Verb::Lookup, b"/b/c", b" Name 0.1/b", b"", b""),
-        (Verb::Stat, b"/", b" Attr 0.1", b"", b" 0.1:2"),
-        (Verb::Stat, b"/a", b" Name 0.1/a Attr 1.1", b"", b" 1.1:3"),
-        (Verb::List, b"/", b" List 0.1", b"", b" 0.1:2"),
+        (Verb::Lookup, b"/b/c", b" Name 0.1/b", b"", b"", false),
+        (Verb::Stat, b"/", b" Attr 0.1", b"", b" 0.1:2", false),
+        (
+            Verb::Stat,
+            b"/a",
+            b" Name 0.1/a Attr 1.1",
+            b"",
+            b" 1.1:3",
+            false,
+        ),
+        (Verb::List, b"/", b" List 0.1", b"", b" 0.1:2", false),
         (
             Verb::List,
             b"/a/b",
             b" Name 0.1/a Name 1.1/b List 1.2",
             b"",
             b" 1.1:1 1.2:3",
+            false,
         ),
-        (Verb::Layout, b"/a", b" Name 0.1/a", b"", b""),
-        (Verb::Mkdir, b"/a", b" Name 0.1/a", b"", b""),
+        (Verb::Layout, b"/a", b" Name 0.1/a", b"", b"", false),
+        (Verb::Mkdir, b"/a", b" Name 0.1/a", b"", b"", false),
         (
             Verb::Mkdir,
             b"/a/c",
             b" Name 0.1/a Name 1.1/c",
             b" Name 1.1/c",
             b"",
+            true,
         ),
-        (Verb::Rmdir, b"/a", b" Name 0.1/a List 1.1", b"", b""),
+        (Verb::Rmdir, b"/a", b" Name 0.1/a List 1.1", b"", b"", false),
         (
             Verb::Rmdir,
             b"/a/b",
             b" Name 0.1/a Name 1.1/b List 1.2",
             b" Name 1.1/b Parent 1.2 Attr 1.2",
             b"",
+            true,
         ),
+    ];
+    prints_all(&rt, rt.alloc(), &tree, prints.as_slice())?;
+    Ok(())
+}
+
+#[test]
+fn files_are_made_and_opened(rt: HostRuntime) -> Result<(), Fail> {
+    let rows: [Row<'_>; 21] = [
+        (Verb::Create(65536, 2), b"/f", Told::Made(1)),
+        (Verb::Layout, b"/f", Told::Layout(65536, &[2, 1])),
+        (
+            Verb::Stat,
+            b"/f",
+            Told::FileStat(1, 0o644, 1, 65536, &[2, 1]),
+        ),
+        (Verb::Create(0, 0), b"/f", Told::No(Errno::EEXIST)),
+        (Verb::Create(65535, 1), b"/g", Told::No(Errno::EINVAL)),
+        (Verb::Create(0, 3), b"/g", Told::No(Errno::EINVAL)),
+        (Verb::Create(0, 0), b"/g", Told::Made(7)),
+        (Verb::Layout, b"/g", Told::Layout(1048576, &[2])),
+        (Verb::Create(4294901760, -1), b"/h", Told::Made(9)),
+        (
+            Verb::Stat,
+            b"/h",
+            Told::FileStat(9, 0o644, 1, 4294901760, &[2, 1]),
+        ),
+        (Verb::Create(4294967296, 1), b"/i", Told::No(Errno::EINVAL)),
+        (Verb::Lookup, b"/f/x", Told::No(Errno::ENOTDIR)),
+        (Verb::List, b"/f", Told::No(Errno::ENOTDIR)),
+        (Verb::Rmdir, b"/f", Told::No(Errno::ENOTDIR)),
+        (Verb::Open, b"/f", Told::Opened(1, 15, 65536, &[2, 1])),
+        (Verb::Open, b"/", Told::No(Errno::EISDIR)),
+        (Verb::Close(15, 1), b"/", Told::Done),
+        (Verb::Close(15, 1), b"/", Told::Done),
+        (Verb::Lookup, b"/f", Told::File(1)),
+        (Verb::List, b"/", Told::Names(b"/f/g/h")),
+        (Verb::Create(0, 0), b"/", Told::No(Errno::EEXIST)),
+    ];
+    acts_all(&rt, rt.alloc(), rows.as_slice())?;
+    Ok(())
+}
+
+#[test]
+fn footprints_of_files(rt: HostRuntime) -> Result<(), Fail> {
+    let rows: [Row<'_>; 2] = [
+        (Verb::Create(65536, 1), b"/f", Told::Made(1)),
+        (Verb::Open, b"/f", Told::Opened(1, 2, 65536, &[2])),
+    ];
+    let tree = acts_all(&rt, rt.alloc(), rows.as_slice())?;
+    let prints: [Print; 8] = [
+        (Verb::Lookup, b"/f", b" Name 0.1/f", b"", b" 1.1:1", false),
+        (
+            Verb::Stat,
+            b"/f",
+            b" Name 0.1/f Attr 1.1 Layout 1.1",
+            b"",
+            b" 1.1:7",
+            false,
+        ),
+        (
+            Verb::Layout,
+            b"/f",
+            b" Name 0.1/f Layout 1.1",
+            b"",
+            b" 1.1:5",
+            false,
+        ),
+        (Verb::List, b"/f", b" Name 0.1/f", b"", b"", false),
+        (
+            Verb::Create(0, 0),
+            b"/g",
+            b" Name 0.1/g",
+            b" Name 0.1/g",
+            b"",
+            true,
+        ),
+        (Verb::Create(1, 1), b"/g", b" Name 0.1/g", b"", b"", false),
+        (Verb::Open, b"/f", b" Name 0.1/f Layout 1.1", b"", b"", true),
+        (Verb::Close(2, 1), b"/", b"", b"", b"", true),
     ];
     prints_all(&rt, rt.alloc(), &tree, prints.as_slice())?;
     Ok(())

@@ -26,6 +26,8 @@ impl Inodes {
             Op::List(path) => self.push_looks(alloc, parts, path.as_slice()),
             Op::Layout(path) => self.push_looks(alloc, parts, path.as_slice()),
             Op::Mkdir(path) => self.push_looks(alloc, parts, path.as_slice()),
+            Op::Create { path, .. } => self.push_looks(alloc, parts, path.as_slice()),
+            Op::Open(path) => self.push_looks(alloc, parts, path.as_slice()),
             Op::Rmdir(path) => self.push_looks(alloc, parts, path.as_slice()),
             _ => Ok(()),
         }
@@ -48,6 +50,7 @@ pub(crate) fn push_looked(parts: &mut Parts, end: End<'_>) -> Result<(), Memory>
         End::Lists(dir) => parts.push(Part::List(dir)),
         End::Shows(file) => parts.push(Part::Layout(file)),
         End::Removes(_, _, gone) => parts.push(Part::List(gone)),
+        End::OpensFile(file) => parts.push(Part::Layout(file)),
         _ => Ok(()),
     }
 }
@@ -58,6 +61,7 @@ pub(crate) fn push_written(alloc: Global, parts: &mut Parts, end: End<'_>) -> Re
 {
     match end {
         End::Makes(dir, name) => parts.push(Part::Name(dir, name.copy(alloc)?)),
+        End::Creates { dir, name, .. } => parts.push(Part::Name(dir, name.copy(alloc)?)),
         End::Removes(dir, name, gone) => {
             parts.push(Part::Name(dir, name.copy(alloc)?))?;
             parts.push(Part::Parent(gone))?;

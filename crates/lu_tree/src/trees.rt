@@ -1,13 +1,13 @@
 //! The tree of the metadata target, and what it answers.
 
-ghost use Rattle.std.specs.Prelude.{◌≡◌, ◌<◌, true, IfOk, OnOk, OnErr};
+ghost use Rattle.std.specs.Prelude.{◌≡◌, ◌<◌, ◌≤◌, true, IfOk, OnOk, OnErr};
 ghost use Rattle.lu_base.specs.declared.ids.Txn.{Txn as SpecTxn};
 ghost use Rattle.lu_machine.specs.Footprint as footprint;
 ghost use Rattle.lu_tree.specs.State.{fresh, asked, performed, forgotten, IsPerformed};
 
 use super::ends::{bits, changes, last_used};
 use super::inodes::Inodes;
-use super::operations::reading_path;
+use super::operations::whole_path;
 use super::touches::{push_looked, push_written};
 use lu_base::{Memory, Txn, Who};
 use lu_msg::{Answer, Op};
@@ -37,6 +37,8 @@ impl Model for Tree {
 impl Tree {
     /// The tree of a new file system over this many object storage targets, 1 to 8: the root without names.
     pub fn new(alloc: Global, osts: u16) -> Result<Tree, Memory>
+        requires some { 1 ≤ osts }
+        requires most { osts ≤ 8 }
         ensures fresh { IfOk result (λ tree. tree ≡ fresh osts) }
     {
         Ok(Tree {
@@ -55,7 +57,7 @@ impl Tree {
         ensures after { OnOk result (self.new ≡ performed self.old (asked number who op.now)) }
         ensures kept { OnErr result (self.new ≡ self.old) }
     {
-        let end = self.inodes.end(op);
+        let end = self.inodes.end(self.osts, op);
         let answer = self.inodes.answer(alloc, number, end)?;
         self.inodes.perform(alloc, self.osts, number, who, end)?;
         self.last = last_used(self.last, number, end);
@@ -67,7 +69,7 @@ impl Tree {
         requires performed { IsPerformed op.now }
         ensures changes { (number : SpecTxn) → result ≡ footprint.changes self.now.osts self.now.tree (asked number _who op.now) }
     {
-        changes(self.inodes.end(op))
+        changes(self.inodes.end(self.osts, op))
     }
 
     /// The parts that the operation would touch, in the order in which it looks at them.
@@ -77,7 +79,7 @@ impl Tree {
     {
         let mut parts = Parts::new(alloc);
         self.inodes.push_names(alloc, &mut parts, op)?;
-        push_looked(&mut parts, self.inodes.end(op))?;
+        push_looked(&mut parts, self.inodes.end(self.osts, op))?;
         Ok(parts)
     }
 
@@ -87,7 +89,7 @@ impl Tree {
         ensures writes { IfOk result (λ parts. (number : SpecTxn) → parts ≡ footprint.writes self.now.osts self.now.tree (asked number _who op.now)) }
     {
         let mut parts = Parts::new(alloc);
-        push_written(alloc, &mut parts, self.inodes.end(op))?;
+        push_written(alloc, &mut parts, self.inodes.end(self.osts, op))?;
         Ok(parts)
     }
 
@@ -96,8 +98,8 @@ impl Tree {
         requires performed { IsPerformed op.now }
         ensures grants { IfOk result (λ wants. (number : SpecTxn) → wants ≡ footprint.grants self.now.osts self.now.tree (asked number _who op.now)) }
     {
-        match bits(self.inodes.end(op)) {
-            Some(more) => self.inodes.wants(alloc, reading_path(op), more),
+        match bits(self.inodes.end(self.osts, op)) {
+            Some(more) => self.inodes.wants(alloc, whole_path(op), more),
             None => Ok(Wants::new(alloc)),
         }
     }

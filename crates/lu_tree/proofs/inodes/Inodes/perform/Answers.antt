@@ -1,14 +1,32 @@
--- The files are as they were.
-use Rattle.std.proofs.Common.{refl, sym, ◌∙◌}
+-- No other file leaves.
+use Rattle.std.proofs.Common.{[], ◌∷◌, refl, sym, ap, ◌∙◌}
 use Rattle.std.proofs.lemmas.Result.{on_ok_weaker}
+use Rattle.lu_machine.specs.declared.child.Child.TheVariants.{File}
+use Rattle.lu_machine.specs.Change.{Leads, MakesFile, changed}
+use Rattle.lu_machine.specs.Table.{made_by}
+use Rattle.lu_machine.specs.Trim.{trim}
 use Rattle.lu_tree.proofs.Lean.{lean_with}
+use Rattle.lu_tree.proofs.Living.{lean_create, lean_open}
 use Rattle.lu_tree.proofs.inodes.Inodes.perform.Goals as goal
 
 pub make-requires : goal.make-requires
 make-requires c = let h = rw c.in-Makes.is at c.requires.fresh in record { unused = (h refl).dirs }
 
 pub returns-in-Makes-clause-done : goal.returns-in-Makes-clause-done
-returns-in-Makes-clause-done c = rw c.in-Makes.is (on_ok_weaker c.make.result (λ made. made ∙ sym (lean_with c.args.self.now _ c.requires.lean)) (c.make.ensures.made c.args._osts c.args._who))
+returns-in-Makes-clause-done c = rw c.in-Makes.is (on_ok_weaker c.make.result (λ made. made ∙ sym (lean_with c.args.self.now _ c.requires.lean)) c.make.ensures.made)
+
+pub returns-in-Creates-clause-done : goal.returns-in-Creates-clause-done
+returns-in-Creates-clause-done c =
+    let t = c.args.self.now in
+    let f = made_by c.args.number in
+    rw c.in-Creates.is
+    (on_ok_weaker c.create.result
+    (λ made. made ∙ sym (lean_create t f c.striped-layout.result c.in-Creates.dir c.in-Creates.name.now (File f) c.requires.lean)
+    ∙ ap (λ l. trim (changed t (MakesFile f l ∷ Leads c.in-Creates.dir c.in-Creates.name.now (File f) ∷ []))) c.striped-layout.ensures)
+    c.create.ensures.made)
 
 pub returns-in-Removes-clause-done : goal.returns-in-Removes-clause-done
-returns-in-Removes-clause-done c = rw c.in-Removes.is (c.remove.ensures.gone c.args._osts c.args.number c.args._who ∙ sym (lean_with c.args.self.now _ c.requires.lean))
+returns-in-Removes-clause-done c = rw c.in-Removes.is (c.remove.ensures.gone ∙ sym (lean_with c.args.self.now _ c.requires.lean))
+
+pub returns-in-OpensFile-clause-done : goal.returns-in-OpensFile-clause-done
+returns-in-OpensFile-clause-done c = rw c.in-OpensFile.is (on_ok_weaker c.open.result (λ opened. opened ∙ sym (lean_open c.args.self.now c.args.number c.args.who c.in-OpensFile.fid c.requires.lean)) c.open.ensures.opened)

@@ -14,6 +14,6 @@ returns c =
       writes = λ number.
           c.in_ok-push_written.ensures.pushed s.osts s.tree number c.args._who
           ∙ ap (λ ps. ps ++ written (changes_of s.osts s.tree number c.args._who c.end.result)) c.new-parts.ensures.empty
-          ∙ sym (ap (λ (o : Outcome). written o.changes) (c.end.ensures.ends s.osts number c.args._who))
+          ∙ sym (ap (λ (o : Outcome). written o.changes) (c.end.ensures.ends number c.args._who))
           ∙ ap (λ (s : TreeState). footprint.writes s.osts s.tree (asked number c.args._who c.args.op.now)) c.self.view_is;
     }
