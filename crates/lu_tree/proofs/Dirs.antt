@@ -6,11 +6,12 @@ use Rattle.std.specs.Option.{unwrap_or}
 use Rattle.std.specs.declared.cmp.Ordering.{Ordering}
 use Rattle.lu_base.specs.declared.ids.Fid.{Fid}
 use Rattle.lu_machine.specs.declared.child.Child.{Child}
+use Rattle.lu_machine.specs.declared.child.Child.TheVariants.{Dir}
 use Rattle.lu_machine.specs.Entries.{without, place}
 use Rattle.lu_machine.specs.Name.{same_name}
 use Rattle.lu_machine.specs.Order.{IsOrdered}
 use Rattle.lu_machine.specs.Tree.{Tree, Directory, Inode, no_directory, same_fid, fid_cmp, directory, listing}
-use Rattle.lu_machine.specs.Change.{Change, Leads, Drops, MakesDir, Leaves, put_dir, put_file, put_name, new_directory, leave, change}
+use Rattle.lu_machine.specs.Change.{Change, Leads, Drops, MakesDir, SetMode, Leaves, put_dir, put_file, put_name, new_directory, leave, change}
 use Rattle.lu_machine.specs.Effect.{without_name}
 use Rattle.lu_machine.proofs.Effects.{dir_put, listing_after}
 use Rattle.lu_machine.proofs.Keys.{Told, fid_tells}
@@ -45,6 +46,12 @@ module _ (t : Tree) (o : IsOrdered t) (d : Fid) where
   dropped n w h =
       fid_set d (record { mode = w.mode; entries = without (same_name n) w.entries }) w t.dirs o.dirs h
       ∙ ap (λ (x : Directory). put_dir d (record { mode = x.mode; entries = without (same_name n) x.entries }) t.dirs) (sym (found w h))
+
+  pub moded : (m : ℕ) (w : Directory) → lookup (is_at (fid_cmp d)) t.dirs ≡ Some w → set_value (is_at (fid_cmp d)) t.dirs (record { mode = m; entries = w.entries }) ≡ (change t (SetMode (Dir d) m)).dirs
+  moded m w h = fid_set d (record { mode = m; entries = w.entries }) w t.dirs o.dirs h ∙ ap (λ (x : Directory). put_dir d (record { mode = m; entries = x.entries }) t.dirs) (sym (found w h))
+
+  pub moded_new : (m : ℕ) → lookup (is_at (fid_cmp d)) t.dirs ≡ None → insert_entry fid_cmp t.dirs d (record { mode = m; entries = [] }) ≡ (change t (SetMode (Dir d) m)).dirs
+  moded_new m h = fid_put d (record { mode = m; entries = [] }) t.dirs o.dirs ∙ ap (λ (x : Directory). put_dir d (record { mode = m; entries = x.entries }) t.dirs) (sym (not_found h))
 
   pub made : insert_entry fid_cmp t.dirs d new_directory ≡ (change t (MakesDir d)).dirs
   made = fid_put d new_directory t.dirs o.dirs

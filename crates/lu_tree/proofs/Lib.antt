@@ -5,6 +5,8 @@ pub mod Reached
 pub mod RowEnds
 pub mod Lean
 pub mod Entries
+pub mod Named
+pub mod FileMaps
 pub mod Living
 pub mod Layouts
 pub mod Used

@@ -1,27 +1,33 @@
 -- Which files are there still once those without a name and an open have left.
-use Rattle.std.proofs.Common.{◌≡◌, ℕ, ◌≤◌, Bool, true, false, not, List, [], ◌∷◌, ◌++◌, Option, Some, None, refl, sym, ap, ◌∙◌, arith, length}
+use Rattle.std.proofs.Common.{◌≡◌, ℕ, ◌+◌, ◌≤◌, Bool, true, false, not, List, [], ◌∷◌, ◌++◌, Option, Some, None, refl, sym, ap, ◌∙◌, arith, length}
 use Rattle.std.specs.Prelude.{◌||◌, ◌&&◌, ◌==◌, nat_lt, if◌then◌else◌}
 use Rattle.std.specs.List.{AllByRecursion, list_all}
 use Rattle.std.specs.List.Sorted.{IsStrictlySortedBy}
 use Rattle.std.specs.Map.{keys_of, lookup}
 use Rattle.std.specs.declared.cmp.Ordering.TheVariants.{Less}
+use Rattle.std.proofs.lemmas.Bool.{lt-ltb}
 use Rattle.std.proofs.lemmas.Bool.Decides.{nat_tests}
 use Rattle.lu_base.specs.declared.ids.Fid.{Fid}
 use Rattle.lu_base.specs.declared.ids.Txn.{Txn}
 use Rattle.lu_base.specs.declared.ids.Who.{Who}
 use Rattle.lu_layout.specs.Raid0.{Raid0}
 use Rattle.lu_machine.specs.declared.child.Child.{Child}
+use Rattle.lu_machine.specs.declared.child.Child.TheVariants.{Dir, File}
 use Rattle.lu_machine.specs.Entries.{without}
-use Rattle.lu_machine.specs.Tree.{Tree, Inode, Opened, same_fid, same_life, fid_cmp}
-use Rattle.lu_machine.specs.Change.{Leads, MakesFile, Opens, Closes, new_file, put_file, closed, change, changed}
+use Rattle.lu_machine.specs.Tree.{Tree, Inode, Opened, same_fid, same_life, fid_cmp, file}
+use Rattle.lu_machine.specs.Change.{Leads, MakesFile, SetLinks, SetMode, Opens, Closes, new_file, put_file, closed, change, changed}
 use Rattle.lu_machine.specs.Order.{IsOrdered}
 use Rattle.lu_machine.specs.Trim.{is_open, living, trim}
 use Rattle.lu_machine.proofs.Keys.{fid_tells}
 use Rattle.lu_machine.proofs.Ordered.{fid_order}
 use Rattle.lu_machine.proofs.Sorted.{not_same}
+use Rattle.lu_tree.specs.Ends.{IsReached}
 use Rattle.lu_tree.specs.Lives.{is_living, AreOthersLiving, opens_only, is_dead, is_dead_of, without_file}
+use Rattle.lu_tree.specs.State.{IsCounted}
 use Rattle.lu_tree.proofs.Dirs.{without_absent}
 use Rattle.lu_tree.proofs.Entries.{all_filter, all_more, all_place}
+use Rattle.lu_tree.proofs.Lean.{lean_with}
+use Rattle.lu_tree.proofs.Named.{reached_linked}
 
 abbrev pub AllLiving : List Opened → List (Fid × Inode) → Type 0
 AllLiving os es = AllByRecursion (λ e. is_living os e ≡ true) es
@@ -190,3 +196,14 @@ others_put os f x es lean =
 
 pub lean_create : (t : Tree) (f : Fid) (l : Raid0) (d : Fid) (n : List ℕ) (c : Child) → trim t ≡ t → trim (changed t (MakesFile f l ∷ Leads d n c ∷ [])) ≡ changed t (MakesFile f l ∷ Leads d n c ∷ [])
 lean_create t f l d n c lean = ap (λ fs. record (changed t (MakesFile f l ∷ Leads d n c ∷ [])) { files = fs }) (lean_put t.opens f (new_file l) t.files refl (files_of t lean))
+
+pub lean_link : (t : Tree) (d : Fid) (n : List ℕ) (c : Child) (f : Fid) (k : ℕ) → trim t ≡ t → trim (changed t (Leads d n c ∷ SetLinks f (k + 1) ∷ [])) ≡ changed t (Leads d n c ∷ SetLinks f (k + 1) ∷ [])
+lean_link t d n c f k lean =
+    let linked : nat_lt 0 (k + 1) ≡ true = grind (arith, nat_tests) in
+    ap (λ fs. record (changed t (Leads d n c ∷ SetLinks f (k + 1) ∷ [])) { files = fs }) (lean_put t.opens f (record { mode = (file t f).mode; links = k + 1; layout = (file t f).layout }) t.files linked (files_of t lean))
+
+pub lean_mode : (t : Tree) (c : Child) (m : ℕ) → IsCounted t → IsReached t c → trim t ≡ t → trim (change t (SetMode c m)) ≡ change t (SetMode c m)
+lean_mode t (Dir d) m counted reached lean = lean_with t (change t (SetMode (Dir d) m)).dirs lean
+lean_mode t (File f) m counted reached lean =
+    let linked : nat_lt 0 (file t f).links ≡ true = lt-ltb 0 (file t f).links (reached_linked t f counted reached) in
+    ap (λ fs. record t { files = fs }) (lean_put t.opens f (record { mode = m; links = (file t f).links; layout = (file t f).layout }) t.files linked (files_of t lean))

@@ -1,40 +1,26 @@
 -- What holds of every tree holds after an operation.
-use Rattle.std.proofs.Common.{◌≡◌, ℕ, ◌<◌, ◌≤◌, Bool, true, false, List, [], ◌∷◌, Some, None, refl, sym, ap, subst, ◌∙◌, inl, inr, arith}
+use Rattle.std.proofs.Common.{◌≡◌, ℕ, ◌<◌, ◌≤◌, Bool, true, false, List, [], ◌∷◌, refl, sym, ap, subst, ◌∙◌, arith}
 use Rattle.std.specs.Prelude.{if◌then◌else◌}
-use Rattle.std.specs.Map.{lookup}
 use Rattle.std.specs.Option.{unwrap_or}
-use Rattle.std.proofs.lemmas.Bool.Decides.{nat_tests}
 use Rattle.lu_base.specs.declared.ids.Fid.{Fid}
 use Rattle.lu_base.specs.declared.ids.Txn.{Txn}
 use Rattle.lu_base.specs.declared.ids.Who.{Who}
 use Rattle.lu_msg.specs.declared.operations.Op.{Op}
 use Rattle.lu_machine.specs.declared.child.Child.{Child}
-use Rattle.lu_machine.specs.declared.child.Child.TheVariants.{File}
 use Rattle.lu_machine.specs.Change.{Change, changed}
 use Rattle.lu_machine.specs.Footprint.{forget, is_some_change, outcome_of}
 use Rattle.lu_machine.specs.Table.{made_by}
-use Rattle.lu_machine.specs.Tree.{Tree, no_file, same_fid, file, child}
+use Rattle.lu_machine.specs.Tree.{Tree, no_file}
 use Rattle.lu_machine.specs.Trim.{trim}
-use Rattle.lu_machine.proofs.Count.{is_file, found_file, named, found_named}
 use Rattle.lu_machine.proofs.Ordered.{changes_ordered}
 use Rattle.lu_machine.proofs.Outcomes.{Comes}
 use Rattle.lu_machine.proofs.Sound.{Sound, sound_after as machine_sound_after}
 use Rattle.lu_machine.proofs.Stated.{comes}
 use Rattle.lu_tree.specs.declared.ends.End.{End}
-use Rattle.lu_tree.specs.Ends.{changes_of, ended, IsReached, IsFresh, Seen}
+use Rattle.lu_tree.specs.Ends.{changes_of, ended, IsFresh, Seen}
 use Rattle.lu_tree.specs.State.{TreeState, IsCounted, IsUsed, IsSound, asked}
 use Rattle.lu_tree.proofs.Lean.{lean_twice, trim_links, trim_ordered}
 use Rattle.lu_tree.proofs.Used.{end_fits, links_below, none_above, used_changes, used_more, used_trim}
-
--- a file to which a name leads is there
-pub reached_there : (t : Tree) (f : Fid) → IsCounted t → IsReached t (File f) → lookup (same_fid f) t.files ≡ None → ⊥
-reached_there t f counted (inl e) none = absurd (cc)
-reached_there t f counted (inr h) none =
-    let a = found_named t f h.0 h.1 in
-    let own : is_file f (File f) ≡ 1 = grind (arith, nat_tests) in
-    let b : found_file f (child t h.0 h.1) ≡ 1 = ap (found_file f) h.2 ∙ own in
-    let c : (file t f).links ≡ 0 = ap (λ o. (unwrap_or o no_file).links) none in
-    absurd (omega (arith, a, b, c, counted f))
 
 -- a number above all is fresh
 pub above_fresh : (last : ℕ) (t : Tree) (number : Txn) → IsUsed last t → last < number.0 → IsFresh t number

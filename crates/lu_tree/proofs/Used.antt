@@ -20,7 +20,7 @@ use Rattle.lu_machine.specs.Trim.{living, trim}
 use Rattle.lu_machine.proofs.Effects.{name_after}
 use Rattle.lu_machine.proofs.Keys.{fid_tells, find-put, find-without}
 use Rattle.lu_tree.specs.declared.ends.End.{End}
-use Rattle.lu_tree.specs.declared.ends.End.TheVariants.{Makes, Creates, Removes, OpensFile, ClosesFile}
+use Rattle.lu_tree.specs.declared.ends.End.TheVariants.{Makes, Creates, Links, Unlinks, Removes, SetsMode, OpensFile, ClosesFile}
 use Rattle.lu_tree.specs.Ends.{changes_of, IsReached, Seen}
 use Rattle.lu_tree.specs.State.{IsUsed, HasUsed}
 use Rattle.lu_tree.proofs.Entries.{all_filter, all_place}
@@ -160,6 +160,19 @@ end_fits last osts number who t (Makes d n) lt u s =
 end_fits last osts number who t (Creates d n size count) lt u s =
     let r : d.0 ≤ last = reached_used last t (Dir d) u s.0 in
     (omega arith, ((omega arith, omega arith), tt))
+end_fits last osts number who t (Links d n f) lt u s =
+    let r : d.0 ≤ last = reached_used last t (Dir d) u s.0 in
+    let q : f.0 ≤ last = reached_used last t (File f) u s.2 in
+    let k = links_below last f t.files u.files in
+    ((omega arith, omega arith), ((omega arith, omega arith), tt))
+end_fits last osts number who t (Unlinks d n f) lt u s =
+    let r : d.0 ≤ last = named_used last t d n.now (File f) u s in
+    let q : f.0 ≤ last = u.names d n.now (File f) s in
+    let k = links_below last f t.files u.files in
+    (omega arith, (tt, ((omega arith, omega arith), tt)))
+end_fits last osts number who t (SetsMode c mode) lt u s =
+    let r : (fid_of c).0 ≤ last = reached_used last t c u s in
+    (omega arith, tt)
 end_fits last osts number who t (OpensFile f) lt u s = (tt, tt)
 end_fits last osts number who t (ClosesFile opened f) lt u s = (tt, tt)
 end_fits last osts number who t (Removes d n e) lt u s =

@@ -1,12 +1,14 @@
 -- Where an operation comes to in the table: one case for each row's end.
-use Rattle.std.specs.Prelude.{◌≡◌, ℕ, ◌+◌, ◌<◌, false, Option, Some, None, List, [], ◌∷◌, ◌++◌, ◌⊎◌}
+use Rattle.std.specs.Prelude.{◌≡◌, ℕ, ◌+◌, ◌-◌, ◌<◌, false, Option, Some, None, List, [], ◌∷◌, ◌++◌, ◌⊎◌, Result}
 use Rattle.std.specs.Map.{lookup}
+use Rattle.std.specs.declared.result.Result.TheVariants.{Ok, Err}
 use Rattle.lu_base.specs.declared.ids.Fid.{Fid}
 use Rattle.lu_base.specs.declared.ids.Txn.{Txn}
 use Rattle.lu_base.specs.declared.ids.Who.{Who}
 use Rattle.lu_layout.specs.Raid0.{Raid0}
 use Rattle.lu_msg.specs.declared.answers.Answer.{Answer}
 use Rattle.lu_msg.specs.declared.answers.Answer.TheVariants as told
+use Rattle.lu_msg.specs.declared.answers.Errno.{Errno}
 use Rattle.lu_msg.specs.declared.answers.Errno.TheVariants.{ENOTEMPTY}
 use Rattle.lu_msg.specs.declared.operations.Op.{Op}
 use Rattle.lu_msg.specs.declared.operations.Op.TheVariants as op
@@ -14,16 +16,16 @@ use Rattle.lu_part.specs.declared.bits.TheConstants.{UPDATE, LAYOUT}
 use Rattle.lu_part.specs.declared.parts.Part.{Part}
 use Rattle.lu_part.specs.declared.parts.Part.TheVariants as part
 use Rattle.lu_part.specs.declared.parts.Want.{Want}
-use Rattle.lu_tree.specs.Walks.{looks}
+use Rattle.lu_tree.specs.Walks.{looks, reach}
 use Rattle.lu_machine.specs.declared.child.Child.{Child}
 use Rattle.lu_machine.specs.declared.child.Child.TheVariants.{Dir, File}
-use Rattle.lu_machine.specs.Tree.{Tree, same_fid, child, listing, directory, file, layout}
-use Rattle.lu_machine.specs.Change.{Change, Leads, Drops, Parted, MakesDir, MakesFile, Leaves, Opens, Closes}
+use Rattle.lu_machine.specs.Tree.{Tree, same_fid, fid_of, child, listing, directory, file, layout}
+use Rattle.lu_machine.specs.Change.{Change, Leads, Drops, Parted, MakesDir, MakesFile, SetMode, SetLinks, Leaves, Opens, Closes}
 use Rattle.lu_machine.specs.Plan.{Outcome}
 use Rattle.lu_machine.specs.Striping.{is_bad, stripe_targets}
 use Rattle.lu_machine.specs.Table.{root, made_by, found, wants}
 use Rattle.lu_tree.specs.declared.ends.End.{End}
-use Rattle.lu_tree.specs.declared.ends.End.TheVariants.{Refused, NotEmpty, Finds, Stats, Lists, Shows, Makes, Creates, Removes, OpensFile, ClosesFile}
+use Rattle.lu_tree.specs.declared.ends.End.TheVariants.{Refused, NotEmpty, Finds, Stats, Lists, Shows, Makes, Creates, Links, Unlinks, Removes, SetsMode, KeepsMode, OpensFile, ClosesFile}
 
 abbrev pub stat_of : Tree → Child → Answer
 stat_of t (Dir d) = told.DirStat d (directory t d).mode
@@ -39,6 +41,10 @@ told_of t number (Shows f) = told.Layout (layout t f)
 told_of t number (Makes d n) = told.Made (made_by number)
 told_of t number (Creates d n size count) = told.Made (made_by number)
 told_of t number (Removes d n e) = told.Done
+told_of t number (Links d n f) = told.Done
+told_of t number (Unlinks d n f) = told.Done
+told_of t number (SetsMode c mode) = told.Done
+told_of t number (KeepsMode c) = told.Done
 told_of t number (OpensFile f) = told.OpenFile f number (layout t f)
 told_of t number (ClosesFile opened f) = told.Done
 
@@ -50,6 +56,9 @@ striped osts number size count = record { size = size; targets = stripe_targets 
 abbrev pub changes_of : ℕ → Tree → Txn → Who → End → List Change
 changes_of osts t number who (Makes d n) = MakesDir (made_by number) ∷ Leads d n.now (Dir (made_by number)) ∷ []
 changes_of osts t number who (Creates d n size count) = MakesFile (made_by number) (striped osts number size count) ∷ Leads d n.now (File (made_by number)) ∷ []
+changes_of osts t number who (Links d n f) = Leads d n.now (File f) ∷ SetLinks f ((file t f).links + 1) ∷ []
+changes_of osts t number who (Unlinks d n f) = Drops d n.now ∷ Parted f ∷ SetLinks f ((file t f).links - 1) ∷ []
+changes_of osts t number who (SetsMode c mode) = SetMode c mode ∷ []
 changes_of osts t number who (OpensFile f) = Opens number who f ∷ []
 changes_of osts t number who (ClosesFile opened f) = Closes opened who ∷ []
 changes_of osts t number who (Removes d n e) = Drops d n.now ∷ Parted e ∷ Leaves e ∷ []
@@ -81,6 +90,10 @@ looked_of (Stats (File f)) = part.Attr f ∷ part.Layout f ∷ []
 looked_of (Lists d) = part.List d ∷ []
 looked_of (Shows f) = part.Layout f ∷ []
 looked_of (Removes d n e) = part.List e ∷ []
+looked_of (Links d n f) = part.Attr f ∷ []
+looked_of (Unlinks d n f) = part.Attr f ∷ []
+looked_of (SetsMode c mode) = part.Attr (fid_of c) ∷ []
+looked_of (KeepsMode c) = part.Attr (fid_of c) ∷ []
 looked_of (OpensFile f) = part.Layout f ∷ []
 looked_of _ = []
 
@@ -101,6 +114,9 @@ Seen osts t (Shows f) = IsReached t (File f)
 Seen osts t (Makes d n) = IsReached t (Dir d) × (child t d n.now ≡ None)
 Seen osts t (Creates d n size count) = IsReached t (Dir d) × (child t d n.now ≡ None) × IsStriping osts size count
 Seen osts t (Removes d n e) = (child t d n.now ≡ Some (Dir e)) × (listing t e ≡ [])
+Seen osts t (Links d n f) = IsReached t (Dir d) × (child t d n.now ≡ None) × IsReached t (File f)
+Seen osts t (Unlinks d n f) = child t d n.now ≡ Some (File f)
+Seen osts t (SetsMode c mode) = IsReached t c
 Seen osts t (OpensFile f) = IsReached t (File f)
 Seen osts t _ = Unit {0}
 
@@ -116,8 +132,14 @@ path_of (op.Lookup path) = path
 path_of (op.Stat path) = path
 path_of (op.List path) = path
 path_of (op.Layout path) = path
+path_of (op.Chmod path mode) = path
 path_of (op.Open path) = path
 path_of _ = []
+
+-- a link looks its new name up where the old one leads to a file
+abbrev pub names_after : Tree → List (List ℕ) → Result Child Errno → List Part
+names_after t new (Ok (File f)) = looks t root new
+names_after t new _ = []
 
 -- the names that an operation looks up
 abbrev pub names_of : Tree → Op → List Part
@@ -128,5 +150,8 @@ names_of t (op.Layout path) = looks t root path
 names_of t (op.Mkdir path) = looks t root path
 names_of t (op.Create path size count) = looks t root path
 names_of t (op.Open path) = looks t root path
+names_of t (op.Link old new) = looks t root old ++ names_after t new (reach t root old)
+names_of t (op.Unlink path) = looks t root path
 names_of t (op.Rmdir path) = looks t root path
+names_of t (op.Chmod path mode) = looks t root path
 names_of t _ = []

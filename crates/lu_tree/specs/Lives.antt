@@ -1,10 +1,12 @@
 -- Which files live on.
-use Rattle.std.specs.Prelude.{◌≡◌, Bool, true, false, not, List, Option, Some, None, ◌||◌, ◌&&◌, ◌==◌, nat_lt}
+use Rattle.std.specs.Prelude.{◌≡◌, Bool, true, false, not, List, Option, Some, None, IsSome, ◌||◌, ◌&&◌, ◌==◌, nat_lt}
 use Rattle.std.specs.List.{AllByRecursion, list_all}
 use Rattle.std.specs.Map.{lookup}
 use Rattle.lu_base.specs.declared.ids.Fid.{Fid}
 use Rattle.lu_base.specs.declared.ids.Txn.{Txn}
 use Rattle.lu_base.specs.declared.ids.Who.{Who}
+use Rattle.lu_machine.specs.declared.child.Child.{Child}
+use Rattle.lu_machine.specs.declared.child.Child.TheVariants.{Dir, File}
 use Rattle.lu_machine.specs.Entries.{without}
 use Rattle.lu_machine.specs.Tree.{Tree, Inode, Opened, same_fid, same_life}
 use Rattle.lu_machine.specs.Trim.{is_open}
@@ -19,6 +21,11 @@ is_dead_of opens f (Some x) = not (is_living opens (f, x))
 -- each file but this one has a name or an open
 abbrev pub AreOthersLiving : Tree → Fid → Type 0
 AreOthersLiving t f = AllByRecursion (λ e. same_fid f e.0 ≡ false → is_living t.opens e ≡ true) t.files
+
+-- a file has an inode
+abbrev pub IsThere : Tree → Child → Type 0
+IsThere t (Dir d) = Unit {0}
+IsThere t (File f) = IsSome (lookup (same_fid f) t.files)
 
 -- it is there with neither
 abbrev pub is_dead : Tree → Fid → Bool

@@ -52,7 +52,10 @@ IsPerformed (op.Mkdir path) = Unit {0}
 IsPerformed (op.Create path size count) = Unit {0}
 IsPerformed (op.Open path) = Unit {0}
 IsPerformed (op.Close opened fid) = Unit {0}
+IsPerformed (op.Link old new) = Unit {0}
+IsPerformed (op.Unlink path) = Unit {0}
 IsPerformed (op.Rmdir path) = Unit {0}
+IsPerformed (op.Chmod path mode) = Unit {0}
 IsPerformed _ = ⊥
 
 -- a file has at least as many links as names lead to it

@@ -59,7 +59,11 @@ impl Inodes {
             End::Shows(file) => Ok(Answer::Layout(self.layout(file))),
             End::Makes(_, _) => Ok(Answer::Made(Fid(number.0))),
             End::Creates { .. } => Ok(Answer::Made(Fid(number.0))),
+            End::Links { .. } => Ok(Answer::Done),
+            End::Unlinks { .. } => Ok(Answer::Done),
             End::Removes(_, _, _) => Ok(Answer::Done),
+            End::SetsMode(_, _) => Ok(Answer::Done),
+            End::KeepsMode(_) => Ok(Answer::Done),
             End::OpensFile(fid) => Ok(Answer::OpenFile {
                 fid,
                 txn: number,

@@ -1,14 +1,16 @@
 //! What the operations do to the inodes.
 
-ghost use Rattle.std.specs.Prelude.{◌≡◌, ◌≤◌, true, None, Some, [], ◌∷◌, OnOk, OnErr};
+ghost use Rattle.std.specs.Prelude.{◌≡◌, ◌+◌, ◌-◌, ◌<◌, ◌≤◌, true, None, Some, [], ◌∷◌, OnOk, OnErr};
 ghost use Rattle.std.specs.Map.{lookup};
 ghost use Rattle.lu_machine.specs.Footprint.{is_some_change};
-ghost use Rattle.lu_machine.specs.Tree.{child, listing, same_fid};
-ghost use Rattle.lu_machine.specs.Change.{Drops, Leads, Leaves, MakesDir, MakesFile, Parted, changed};
+ghost use Rattle.lu_machine.specs.Tree.{child, file as file_of, listing, same_fid};
+ghost use Rattle.lu_machine.specs.Change.{Drops, Leads, Leaves, MakesDir, MakesFile, Parted, SetLinks, changed};
 ghost use Rattle.lu_machine.specs.declared.child.Child.TheVariants.{Dir as SpecDir, File as SpecFile};
 ghost use Rattle.lu_machine.specs.Table.{made_by};
 ghost use Rattle.lu_machine.specs.Trim.{trim};
 ghost use Rattle.lu_tree.specs.Ends.{changes_of, Seen, IsFresh};
+ghost use Rattle.lu_tree.specs.Lives.{IsThere};
+ghost use Rattle.lu_tree.specs.State.{IsCounted};
 
 use super::ends::End;
 use super::inodes::Inodes;
@@ -58,6 +60,33 @@ impl Inodes {
         Ok(())
     }
 
+    /// Makes the name lead to a file that is there. After want of memory nothing has changed.
+    fn link(&mut self, alloc: Global, dir: Fid, name: &Name, file: Fid) -> Result<(), Memory>
+        requires there { IsThere self.old (SpecFile file) }
+        requires room { (file_of self.old file).links < 18446744073709551615 }
+        ensures linked { OnOk result (self.new ≡ changed self.old (Leads dir name.now (SpecFile file) ∷ SetLinks file ((file_of self.old file).links + 1) ∷ [])) }
+        ensures kept { OnErr result (self.new ≡ self.old) }
+    {
+        let links = self.links(file) + 1;
+        let name = name.copy(alloc)?;
+        self.lead(alloc, dir, name, Child::File(file))?;
+        self.set_links(file, links);
+        Ok(())
+    }
+
+    /// Takes the name out, and the file to which it leads if it has neither another name nor an open.
+    fn unlink(&mut self, dir: Fid, name: &Name, file: Fid)
+        requires named { child self.old dir name.now ≡ Some (SpecFile file) }
+        requires there { IsThere self.old (SpecFile file) }
+        requires lean { trim self.old ≡ self.old }
+        ensures gone { self.new ≡ trim (changed self.old (Drops dir name.now ∷ Parted file ∷ SetLinks file ((file_of self.old file).links - 1) ∷ [])) }
+    {
+        let links = self.links(file).saturating_sub(1);
+        self.unlead(dir, name);
+        self.set_links(file, links);
+        self.bury(file);
+    }
+
     /// Takes the name out, and the empty directory to which it leads.
     fn remove(&mut self, dir: Fid, name: &Name, gone: Fid)
         requires named { child self.old dir name.now ≡ Some (SpecDir gone) }
@@ -81,6 +110,7 @@ impl Inodes {
         requires some { 1 ≤ osts }
         requires most { osts ≤ 8 }
         requires lean { trim self.old ≡ self.old }
+        requires counted { IsCounted self.old }
         requires fresh { is_some_change (changes_of osts self.old number who end) ≡ true → IsFresh self.old number }
         requires seen { Seen osts self.old end }
         ensures done { OnOk result (self.new ≡ trim (changed self.old (changes_of osts self.old number who end.entry))) }
@@ -97,6 +127,12 @@ impl Inodes {
                 let layout = striped(osts, number, size, count);
                 self.create(alloc, number, dir, name, layout)
             }
+            End::Links { dir, name, file } => self.link(alloc, dir, name, file),
+            End::Unlinks { dir, name, file } => {
+                self.unlink(dir, name, file);
+                Ok(())
+            }
+            End::SetsMode(child, mode) => self.set_mode(alloc, child, mode),
             End::OpensFile(fid) => self.open(number, who, fid),
             End::ClosesFile(opened, fid) => {
                 self.close(opened, who, fid);

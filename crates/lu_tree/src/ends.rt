@@ -37,8 +37,24 @@ pub(crate) enum End<'a> {
         size: u64,
         count: u64,
     },
+    /// This name of this directory is made lead to this file, which has a name.
+    Links {
+        dir: Fid,
+        name: &'a Name,
+        file: Fid,
+    },
+    /// This name of this directory goes, which leads to this file.
+    Unlinks {
+        dir: Fid,
+        name: &'a Name,
+        file: Fid,
+    },
     /// This name of this directory goes, and the empty directory to which it leads.
     Removes(Fid, &'a Name, Fid),
+    /// This gets this mode.
+    SetsMode(Child, u16),
+    /// This has the mode already.
+    KeepsMode(Child),
     /// This file is opened.
     OpensFile(Fid),
     /// The open that this transaction made is closed. It is said to be of this file.
@@ -52,7 +68,10 @@ pub(crate) fn changes(end: End<'_>) -> bool
     match end {
         End::Makes(_, _) => true,
         End::Creates { .. } => true,
+        End::Links { .. } => true,
+        End::Unlinks { .. } => true,
         End::Removes(_, _, _) => true,
+        End::SetsMode(_, _) => true,
         End::OpensFile(_) => true,
         End::ClosesFile(_, _) => true,
         _ => false,

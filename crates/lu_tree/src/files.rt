@@ -61,6 +61,20 @@ impl FileNode {
         self.links
     }
 
+    /// Sets its mode.
+    pub(crate) fn set_mode(&mut self, mode: u16)
+        ensures set { self.new ≡ record self.old { mode = mode } }
+    {
+        self.mode = mode;
+    }
+
+    /// Sets how many names lead to it.
+    pub(crate) fn set_links(&mut self, links: u64)
+        ensures set { self.new ≡ record self.old { links = links } }
+    {
+        self.links = links;
+    }
+
     /// Its layout.
     pub(crate) fn layout(&self) -> Layout
         ensures { result ≡ self.now.layout }

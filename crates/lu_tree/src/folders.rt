@@ -88,6 +88,13 @@ impl Folder {
         self.mode
     }
 
+    /// Sets its mode.
+    pub(crate) fn set_mode(&mut self, mode: u16)
+        ensures set { self.new ≡ record self.old { mode = mode } }
+    {
+        self.mode = mode;
+    }
+
     /// Makes the name lead there. After want of memory nothing has changed.
     pub(crate) fn put(&mut self, name: Name, child: Child) -> Result<(), Memory>
         ensures put { OnOk result (self.new ≡ record self.old { entries = put_name name child self.old.entries }) }

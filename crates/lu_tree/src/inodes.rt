@@ -1,14 +1,14 @@
 //! The inodes, found by map.
 
 ghost use Rattle.std.specs.Prelude.{◌≡◌, [], List, IsTrue, ◌↔◌, IsSome, IfOk, OnOk, OnErr};
-ghost use Rattle.lu_machine.specs.Entries.{without};
-ghost use Rattle.lu_machine.specs.declared.child.Child.TheVariants.{File as SpecFile};
-ghost use Rattle.lu_machine.specs.Tree.{same_fid, child, directory, file, layout, listing};
-ghost use Rattle.lu_machine.specs.Change.{Leads, Drops, MakesDir, MakesFile, Leaves, Opens, Closes, change};
+ghost use Rattle.std.specs.Map.{lookup};
+ghost use Rattle.lu_machine.specs.declared.child.Child.TheVariants.{Dir as SpecDir, File as SpecFile};
+ghost use Rattle.lu_machine.specs.Tree.{same_fid, attributes, child, directory, file, layout, listing};
+ghost use Rattle.lu_machine.specs.Change.{Leads, Drops, MakesDir, MakesFile, SetLinks, SetMode, Leaves, Opens, Closes, change};
 ghost use Rattle.lu_machine.specs.Footprint.{empty, forget};
 ghost use Rattle.lu_machine.specs.Trim.{trim};
 ghost use Rattle.lu_tree.specs.Ends.{IsReached};
-ghost use Rattle.lu_tree.specs.Lives.{AreOthersLiving, is_dead, opens_only, without_file};
+ghost use Rattle.lu_tree.specs.Lives.{AreOthersLiving, IsThere, is_dead, opens_only, without_file};
 ghost use Rattle.lu_tree.specs.State.{IsCounted};
 
 use super::files::{FileNode, OpenFile, is_open};
@@ -101,6 +101,16 @@ impl Inodes {
         }
     }
 
+    /// The mode of an inode, 0 where it isn't there.
+    pub(crate) fn mode(&self, child: Child) -> u16
+        ensures mode { result ≡ (attributes self.now child).mode }
+    {
+        match child {
+            Child::Dir(fid) => self.dir_mode(fid),
+            Child::File(fid) => self.file_mode(fid),
+        }
+    }
+
     /// How many names lead to the file, 0 where it isn't there.
     pub(crate) fn links(&self, fid: Fid) -> u64
         ensures links { result ≡ (file self.now fid).links }
@@ -181,6 +191,63 @@ impl Inodes {
     {
         self.files.insert(fid, FileNode::new(layout))?;
         Ok(())
+    }
+
+    /// Sets how many names lead to a file that is there.
+    pub(crate) fn set_links(&mut self, fid: Fid, links: u64)
+        requires there { IsSome (lookup (same_fid fid) self.old.files) }
+        ensures set { self.new ≡ change self.old (SetLinks fid links) }
+    {
+        let Some(file) = self.files.get_mut(&fid) else {
+            unreachable!();
+        };
+        file.set_links(links);
+    }
+
+    /// Sets the mode of a file that is there.
+    fn set_file_mode(&mut self, fid: Fid, mode: u16)
+        requires there { IsSome (lookup (same_fid fid) self.old.files) }
+        ensures set { self.new ≡ change self.old (SetMode (SpecFile fid) mode) }
+    {
+        let Some(file) = self.files.get_mut(&fid) else {
+            unreachable!();
+        };
+        file.set_mode(mode);
+    }
+
+    /// Sets the mode of a directory. One that isn't there comes to be without names, as the tree has it. After
+    /// want of memory nothing has changed.
+    fn set_dir_mode(&mut self, alloc: Global, dir: Fid, mode: u16) -> Result<(), Memory>
+        ensures set { OnOk result (self.new ≡ change self.old (SetMode (SpecDir dir) mode)) }
+        ensures kept { OnErr result (self.new ≡ self.old) }
+    {
+        match self.dirs.get_mut(&dir) {
+            Some(folder) => {
+                folder.set_mode(mode);
+                Ok(())
+            }
+            None => {
+                let mut folder = Folder::bare(alloc);
+                folder.set_mode(mode);
+                self.dirs.insert(dir, folder)?;
+                Ok(())
+            }
+        }
+    }
+
+    /// Sets the mode of an inode that is there. After want of memory nothing has changed.
+    pub(crate) fn set_mode(&mut self, alloc: Global, child: Child, mode: u16) -> Result<(), Memory>
+        requires there { IsThere self.old child }
+        ensures set { OnOk result (self.new ≡ change self.old (SetMode child mode)) }
+        ensures kept { OnErr result (self.new ≡ self.old) }
+    {
+        match child {
+            Child::Dir(dir) => self.set_dir_mode(alloc, dir, mode),
+            Child::File(file) => {
+                self.set_file_mode(file, mode);
+                Ok(())
+            }
+        }
     }
 
     /// Takes a file out.

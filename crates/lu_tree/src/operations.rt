@@ -25,6 +25,7 @@ pub(crate) fn whole_path(op: &Op) -> &[Name]
         Op::Stat(path) => path.as_slice(),
         Op::List(path) => path.as_slice(),
         Op::Layout(path) => path.as_slice(),
+        Op::Chmod { path, .. } => path.as_slice(),
         Op::Open(path) => path.as_slice(),
         _ => &[],
     }
@@ -53,7 +54,10 @@ impl Inodes {
                 },
                 path.as_slice(),
             ),
+            Op::Link { old, new } => self.link_end(osts, old.as_slice(), new.as_slice()),
+            Op::Unlink(path) => self.last_end(osts, LastAsk::Unlink, path.as_slice()),
             Op::Rmdir(path) => self.last_end(osts, LastAsk::Rmdir, path.as_slice()),
+            Op::Chmod { path, mode } => self.whole_end(Ask::Chmod(*mode), path.as_slice()),
             Op::Open(path) => self.whole_end(Ask::Open, path.as_slice()),
             Op::Close { txn, fid } => End::ClosesFile(*txn, *fid),
             _ => unreachable!(),

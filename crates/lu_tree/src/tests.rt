@@ -25,7 +25,11 @@ enum Verb {
     Mkdir,
     /// With this stripe size and number of stripes.
     Create(u64, i32),
+    /// To this new path.
+    Link(&'static [u8]),
+    Unlink,
     Rmdir,
+    Chmod(u16),
     Open,
     /// Of the open that this transaction made, of this file. It has no path.
     Close(u32, u32),
@@ -100,7 +104,13 @@ fn op(alloc: Global, verb: Verb, text: &[u8]) -> Result<Op, Memory>
             txn: Txn(BOOT + opened as u64),
             fid: fid(file),
         }),
+        Verb::Link(new) => Ok(Op::Link {
+            old: path,
+            new: self::path(alloc, new)?,
+        }),
+        Verb::Unlink => Ok(Op::Unlink(path)),
         Verb::Rmdir => Ok(Op::Rmdir(path)),
+        Verb::Chmod(mode) => Ok(Op::Chmod { path, mode }),
     }
 }
 
@@ -416,6 +426,46 @@ fn files_are_made_and_opened(rt: HostRuntime) -> Result<(), Fail> {
     Ok(())
 }
 
+/// A file stays while it has a name or an open.
+#[test]
+fn files_get_and_lose_names(rt: HostRuntime) -> Result<(), Fail> {
+    let rows: [Row<'_>; 23] = [
+        (Verb::Create(65536, 1), b"/f", Told::Made(1)),
+        (Verb::Mkdir, b"/d", Told::Made(2)),
+        (Verb::Link(b"/d/g"), b"/f", Told::Done),
+        (
+            Verb::Stat,
+            b"/d/g",
+            Told::FileStat(1, 0o644, 2, 65536, &[2]),
+        ),
+        (Verb::Link(b"/d/g"), b"/f", Told::No(Errno::EEXIST)),
+        (Verb::Link(b"/e"), b"/d", Told::No(Errno::EPERM)),
+        (Verb::Link(b"/"), b"/f", Told::No(Errno::EEXIST)),
+        (Verb::Link(b"/y"), b"/x", Told::No(Errno::ENOENT)),
+        (Verb::Link(b"/x/y"), b"/f", Told::No(Errno::ENOENT)),
+        (Verb::Chmod(0o600), b"/d/g", Told::Done),
+        (Verb::Stat, b"/f", Told::FileStat(1, 0o600, 2, 65536, &[2])),
+        (Verb::Unlink, b"/f", Told::Done),
+        (Verb::Lookup, b"/f", Told::No(Errno::ENOENT)),
+        (
+            Verb::Stat,
+            b"/d/g",
+            Told::FileStat(1, 0o600, 1, 65536, &[2]),
+        ),
+        (Verb::Open, b"/d/g", Told::Opened(1, 15, 65536, &[2])),
+        (Verb::Unlink, b"/d/g", Told::Done),
+        (Verb::Unlink, b"/d/g", Told::No(Errno::ENOENT)),
+        (Verb::Unlink, b"/d", Told::No(Errno::EISDIR)),
+        (Verb::Unlink, b"/", Told::No(Errno::EISDIR)),
+        (Verb::Chmod(0o700), b"/", Told::Done),
+        (Verb::Stat, b"/", Told::Root(0o700)),
+        (Verb::Close(15, 1), b"/", Told::Done),
+        (Verb::Rmdir, b"/d", Told::Done),
+    ];
+    acts_all(&rt, rt.alloc(), rows.as_slice())?;
+    Ok(())
+}
+
 #[test]
 fn footprints_of_files(rt: HostRuntime) -> Result<(), Fail> {
     let rows: [Row<'_>; 2] = [
@@ -423,7 +473,7 @@ fn footprints_of_files(rt: HostRuntime) -> Result<(), Fail> {
         (Verb::Open, b"/f", Told::Opened(1, 2, 65536, &[2])),
     ];
     let tree = acts_all(&rt, rt.alloc(), rows.as_slice())?;
-    let prints: [Print; 8] = [
+    let prints: [Print; 14] = [
         (Verb::Lookup, b"/f", b" Name 0.1/f", b"", b" 1.1:1", false),
         (
             Verb::Stat,
@@ -453,6 +503,47 @@ fn footprints_of_files(rt: HostRuntime) -> Result<(), Fail> {
         (Verb::Create(1, 1), b"/g", b" Name 0.1/g", b"", b"", false),
         (Verb::Open, b"/f", b" Name 0.1/f Layout 1.1", b"", b"", true),
         (Verb::Close(2, 1), b"/", b"", b"", b"", true),
+        (
+            Verb::Link(b"/g"),
+            b"/f",
+            b" Name 0.1/f Name 0.1/g Attr 1.1",
+            b" Name 0.1/g Attr 1.1",
+            b"",
+            true,
+        ),
+        (
+            Verb::Link(b"/f"),
+            b"/f",
+            b" Name 0.1/f Name 0.1/f",
+            b"",
+            b"",
+            false,
+        ),
+        (Verb::Link(b"/g"), b"/", b"", b"", b"", false),
+        (
+            Verb::Unlink,
+            b"/f",
+            b" Name 0.1/f Attr 1.1",
+            b" Name 0.1/f Parent 1.1 Attr 1.1",
+            b"",
+            true,
+        ),
+        (
+            Verb::Chmod(0o644),
+            b"/f",
+            b" Name 0.1/f Attr 1.1",
+            b"",
+            b"",
+            false,
+        ),
+        (
+            Verb::Chmod(0o600),
+            b"/f",
+            b" Name 0.1/f Attr 1.1",
+            b" Attr 1.1",
+            b"",
+            true,
+        ),
     ];
     prints_all(&rt, rt.alloc(), &tree, prints.as_slice())?;
     Ok(())

@@ -76,3 +76,12 @@ returns-in-Create-clause-looks c =
     (λ z. looked c.args.self.now (to_last EEXIST c.as_slice-in-Create.result.now (λ passed. last_row_of c.args.osts number (Create c.in-Create.size z)))
     ≡ looks c.args.self.now root c.as_slice-in-Create.result.now ++ looked_of c.last_end-in-Create.result)
     (to_z-of_z w32 c.in-Create.count fits) (c.last_end-in-Create.ensures.looks number))
+
+pub returns-in-Unlink-clause-looks : goal.returns-in-Unlink-clause-looks
+returns-in-Unlink-clause-looks c = λ number who. rw (c.in-Unlink.is, ← c.as_slice-in-Unlink.ensures.same) (c.last_end-in-Unlink.ensures.looks number)
+
+pub returns-in-Chmod-clause-looks : goal.returns-in-Chmod-clause-looks
+returns-in-Chmod-clause-looks c = λ number who. rw (c.in-Chmod.is, ← c.as_slice-in-Chmod.ensures.same) (c.whole_end-in-Chmod.ensures.looks number who)
+
+pub returns-in-Chmod-clause-seen : goal.returns-in-Chmod-clause-seen
+returns-in-Chmod-clause-seen c = c.whole_end-in-Chmod.ensures.seen c.args.osts

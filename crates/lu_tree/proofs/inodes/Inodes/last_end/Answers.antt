@@ -28,4 +28,4 @@ returns-in-Ok-clause-looks c = λ number.
 pub returns-in-Ok-clause-seen : goal.returns-in-Ok-clause-seen
 returns-in-Ok-clause-seen c =
     let h = last_is c.args.self.now c.in-Some.front.now c.in-Some.name.now c.in-Ok.field-0 (sym c.in-Ok.ensures.found) in
-    c.last_row.ensures.seen h.0 (sym h.1)
+    λ askable. c.last_row.ensures.seen askable h.0 (sym h.1)

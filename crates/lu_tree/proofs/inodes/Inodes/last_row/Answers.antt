@@ -1,4 +1,4 @@
--- The rows of a free name and of a removed directory.
+-- The rows of a free name, and of a removed file or directory.
 use Rattle.std.proofs.Common.{◌≡◌, ◌∙◌, rules, subst, w32}
 use Rattle.std.proofs.lemmas.Int.{to_z-of_z}
 use mir.Val.{SFits}
@@ -19,4 +19,7 @@ pub returns-in-Rmdir-Some-clause-ends : goal.returns-in-Rmdir-Some-clause-ends
 returns-in-Rmdir-Some-clause-ends c = λ number who. rw (c.in-Rmdir-Some.is-0, c.in-Rmdir-Some.is-1) (c.rmdir_row.ensures.ends c.args.osts number who)
 
 pub returns-in-Rmdir-Some-clause-seen : goal.returns-in-Rmdir-Some-clause-seen
-returns-in-Rmdir-Some-clause-seen c = λ reached is. c.rmdir_row.ensures.seen c.args.osts (is ∙ c.in-Rmdir-Some.is-1)
+returns-in-Rmdir-Some-clause-seen c = λ askable reached is. c.rmdir_row.ensures.seen c.args.osts (is ∙ c.in-Rmdir-Some.is-1)
+
+pub returns-in-Unlink-Some-clause-seen : goal.returns-in-Unlink-Some-clause-seen
+returns-in-Unlink-Some-clause-seen c = λ askable reached is. c.unlink_row.ensures.seen c.args.osts (is ∙ c.in-Unlink-Some.is-1)

@@ -5,7 +5,7 @@ use Rattle.lu_machine.specs.Tree.{Tree}
 use Rattle.lu_tree.specs.Ends.{IsReached}
 use Rattle.lu_tree.specs.State.{IsCounted}
 use Rattle.lu_tree.proofs.Maps.{fid_found}
-use Rattle.lu_tree.proofs.Sound.{reached_there}
+use Rattle.lu_tree.proofs.Named.{reached_there}
 use Rattle.lu_tree.proofs.Views.{tree_of}
 use Rattle.lu_tree.proofs.inodes.Inodes.layout.Goals as goal
 

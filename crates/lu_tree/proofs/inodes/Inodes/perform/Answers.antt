@@ -1,12 +1,14 @@
 -- No other file leaves.
-use Rattle.std.proofs.Common.{[], ◌∷◌, refl, sym, ap, ◌∙◌}
+use Rattle.std.proofs.Common.{[], ◌∷◌, inr, refl, sym, ap, ◌∙◌}
 use Rattle.std.proofs.lemmas.Result.{on_ok_weaker}
 use Rattle.lu_machine.specs.declared.child.Child.TheVariants.{File}
 use Rattle.lu_machine.specs.Change.{Leads, MakesFile, changed}
 use Rattle.lu_machine.specs.Table.{made_by}
+use Rattle.lu_machine.specs.Tree.{file}
 use Rattle.lu_machine.specs.Trim.{trim}
 use Rattle.lu_tree.proofs.Lean.{lean_with}
-use Rattle.lu_tree.proofs.Living.{lean_create, lean_open}
+use Rattle.lu_tree.proofs.Living.{lean_create, lean_link, lean_mode, lean_open}
+use Rattle.lu_tree.proofs.Named.{child_there}
 use Rattle.lu_tree.proofs.inodes.Inodes.perform.Goals as goal
 
 pub make-requires : goal.make-requires
@@ -24,6 +26,26 @@ returns-in-Creates-clause-done c =
     (λ made. made ∙ sym (lean_create t f c.striped-layout.result c.in-Creates.dir c.in-Creates.name.now (File f) c.requires.lean)
     ∙ ap (λ l. trim (changed t (MakesFile f l ∷ Leads c.in-Creates.dir c.in-Creates.name.now (File f) ∷ []))) c.striped-layout.ensures)
     c.create.ensures.made)
+
+pub link-requires-clause-there : goal.link-requires-clause-there
+link-requires-clause-there c = let h = rw c.in-Links.is at c.requires.seen in child_there c.args.self.now (File c.in-Links.file) c.requires.counted h.2
+
+pub returns-in-Links-clause-done : goal.returns-in-Links-clause-done
+returns-in-Links-clause-done c =
+    let t = c.args.self.now in
+    let f = c.in-Links.file in
+    rw c.in-Links.is (on_ok_weaker c.link.result (λ linked. linked ∙ sym (lean_link t c.in-Links.dir c.in-Links.name.now (File f) f (file t f).links c.requires.lean)) c.link.ensures.linked)
+
+pub unlink-requires-clause-there : goal.unlink-requires-clause-there
+unlink-requires-clause-there c = let h = rw c.in-Unlinks.is at c.requires.seen in child_there c.args.self.now (File c.in-Unlinks.file) c.requires.counted (inr (c.in-Unlinks.dir, c.in-Unlinks.name.now, h))
+
+pub set_mode-requires : goal.set_mode-requires
+set_mode-requires c = let h = rw c.in-SetsMode.is at c.requires.seen in record { there = child_there c.args.self.now c.in-SetsMode.child c.requires.counted h }
+
+pub returns-in-SetsMode-clause-done : goal.returns-in-SetsMode-clause-done
+returns-in-SetsMode-clause-done c =
+    let h = rw c.in-SetsMode.is at c.requires.seen in
+    rw c.in-SetsMode.is (on_ok_weaker c.set_mode.result (λ set. set ∙ sym (lean_mode c.args.self.now c.in-SetsMode.child c.in-SetsMode.mode c.requires.counted h c.requires.lean)) c.set_mode.ensures.set)
 
 pub returns-in-Removes-clause-done : goal.returns-in-Removes-clause-done
 returns-in-Removes-clause-done c = rw c.in-Removes.is (c.remove.ensures.gone ∙ sym (lean_with c.args.self.now _ c.requires.lean))
