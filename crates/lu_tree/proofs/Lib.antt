@@ -9,5 +9,8 @@ pub mod Named
 pub mod FileMaps
 pub mod Living
 pub mod Layouts
+pub mod Swap
+pub mod TwoWalks
+pub mod Replaced
 pub mod Used
 pub mod Sound

@@ -20,8 +20,8 @@ use Rattle.lu_machine.specs.Trim.{living, trim}
 use Rattle.lu_machine.proofs.Effects.{name_after}
 use Rattle.lu_machine.proofs.Keys.{fid_tells, find-put, find-without}
 use Rattle.lu_tree.specs.declared.ends.End.{End}
-use Rattle.lu_tree.specs.declared.ends.End.TheVariants.{Makes, Creates, Links, Unlinks, Removes, SetsMode, OpensFile, ClosesFile}
-use Rattle.lu_tree.specs.Ends.{changes_of, IsReached, Seen}
+use Rattle.lu_tree.specs.declared.ends.End.TheVariants.{Makes, Creates, Links, Unlinks, Removes, Moves, Replaces, SetsMode, OpensFile, ClosesFile}
+use Rattle.lu_tree.specs.Ends.{changes_of, leaving, IsReached, Seen}
 use Rattle.lu_tree.specs.State.{IsUsed, HasUsed}
 use Rattle.lu_tree.proofs.Entries.{all_filter, all_place}
 
@@ -173,6 +173,20 @@ end_fits last osts number who t (Unlinks d n f) lt u s =
 end_fits last osts number who t (SetsMode c mode) lt u s =
     let r : (fid_of c).0 ≤ last = reached_used last t c u s in
     (omega arith, tt)
+end_fits last osts number who t (Moves old c new) lt u s =
+    let p : old.dir.0 ≤ last = named_used last t old.dir old.name.now c u s.0 in
+    let q : (fid_of c).0 ≤ last = u.names old.dir old.name.now c s.0 in
+    let r : new.dir.0 ≤ last = reached_used last t (Dir new.dir) u s.2 in
+    (omega arith, ((omega arith, omega arith), (tt, tt)))
+end_fits last osts number who t (Replaces old c new g) lt u s =
+    let p : old.dir.0 ≤ last = named_used last t old.dir old.name.now c u s.0 in
+    let q : (fid_of c).0 ≤ last = u.names old.dir old.name.now c s.0 in
+    let r : new.dir.0 ≤ last = named_used last t new.dir new.name.now g u s.1 in
+    (omega arith, ((omega arith, omega arith), (tt, (tt, (leaving_fits g (u.names new.dir new.name.now g s.1), tt)))))
+  where
+    leaving_fits : (g : Child) → (fid_of g).0 ≤ last → Fits number.0 (leaving t g)
+    leaving_fits (Dir f) le = omega arith
+    leaving_fits (File f) le = let k = links_below last f t.files u.files in (omega arith, omega arith)
 end_fits last osts number who t (OpensFile f) lt u s = (tt, tt)
 end_fits last osts number who t (ClosesFile opened f) lt u s = (tt, tt)
 end_fits last osts number who t (Removes d n e) lt u s =

@@ -25,7 +25,7 @@ use Rattle.lu_machine.specs.Plan.{Outcome}
 use Rattle.lu_machine.specs.Striping.{is_bad, stripe_targets}
 use Rattle.lu_machine.specs.Table.{root, made_by, found, wants}
 use Rattle.lu_tree.specs.declared.ends.End.{End}
-use Rattle.lu_tree.specs.declared.ends.End.TheVariants.{Refused, NotEmpty, Finds, Stats, Lists, Shows, Makes, Creates, Links, Unlinks, Removes, SetsMode, KeepsMode, OpensFile, ClosesFile}
+use Rattle.lu_tree.specs.declared.ends.End.TheVariants.{Refused, NotEmpty, Finds, Stats, Lists, Shows, Makes, Creates, Links, Unlinks, Removes, Same, Moves, Replaces, SetsMode, KeepsMode, OpensFile, ClosesFile}
 
 abbrev pub stat_of : Tree → Child → Answer
 stat_of t (Dir d) = told.DirStat d (directory t d).mode
@@ -45,12 +45,20 @@ told_of t number (Links d n f) = told.Done
 told_of t number (Unlinks d n f) = told.Done
 told_of t number (SetsMode c mode) = told.Done
 told_of t number (KeepsMode c) = told.Done
+told_of t number Same = told.Done
+told_of t number (Moves old c new) = told.Done
+told_of t number (Replaces old c new g) = told.Done
 told_of t number (OpensFile f) = told.OpenFile f number (layout t f)
 told_of t number (ClosesFile opened f) = told.Done
 
 -- the layout of a new file
 abbrev pub striped : ℕ → Txn → ℕ → ℕ → Raid0
 striped osts number size count = record { size = size; targets = stripe_targets osts number count }
+
+-- what was replaced loses its only name, a directory, or one of its names, a file
+abbrev pub leaving : Tree → Child → Change
+leaving t (Dir g) = Leaves g
+leaving t (File g) = SetLinks g ((file t g).links - 1)
 
 -- over this many object storage targets
 abbrev pub changes_of : ℕ → Tree → Txn → Who → End → List Change
@@ -59,6 +67,8 @@ changes_of osts t number who (Creates d n size count) = MakesFile (made_by numbe
 changes_of osts t number who (Links d n f) = Leads d n.now (File f) ∷ SetLinks f ((file t f).links + 1) ∷ []
 changes_of osts t number who (Unlinks d n f) = Drops d n.now ∷ Parted f ∷ SetLinks f ((file t f).links - 1) ∷ []
 changes_of osts t number who (SetsMode c mode) = SetMode c mode ∷ []
+changes_of osts t number who (Moves old c new) = Drops old.dir old.name.now ∷ Leads new.dir new.name.now c ∷ Parted (fid_of c) ∷ []
+changes_of osts t number who (Replaces old c new g) = Drops old.dir old.name.now ∷ Leads new.dir new.name.now c ∷ Parted (fid_of c) ∷ Parted (fid_of g) ∷ leaving t g ∷ []
 changes_of osts t number who (OpensFile f) = Opens number who f ∷ []
 changes_of osts t number who (ClosesFile opened f) = Closes opened who ∷ []
 changes_of osts t number who (Removes d n e) = Drops d n.now ∷ Parted e ∷ Leaves e ∷ []
@@ -94,6 +104,8 @@ looked_of (Links d n f) = part.Attr f ∷ []
 looked_of (Unlinks d n f) = part.Attr f ∷ []
 looked_of (SetsMode c mode) = part.Attr (fid_of c) ∷ []
 looked_of (KeepsMode c) = part.Attr (fid_of c) ∷ []
+looked_of (Replaces old c new (Dir g)) = part.List g ∷ []
+looked_of (Replaces old c new (File g)) = part.Attr g ∷ []
 looked_of (OpensFile f) = part.Layout f ∷ []
 looked_of _ = []
 
@@ -107,6 +119,11 @@ pub record IsStriping (osts size count : ℕ) : Type 0 where
   pub some_count : 0 < count
   pub good : is_bad osts size count ≡ false
 
+-- a directory that leaves is empty
+abbrev pub MayLeave : Tree → Child → Type 0
+MayLeave t (Dir g) = listing t g ≡ []
+MayLeave t (File g) = Unit {0}
+
 -- what the walks have seen
 abbrev pub Seen : ℕ → Tree → End → Type 0
 Seen osts t (Stats c) = IsReached t c
@@ -117,6 +134,8 @@ Seen osts t (Removes d n e) = (child t d n.now ≡ Some (Dir e)) × (listing t e
 Seen osts t (Links d n f) = IsReached t (Dir d) × (child t d n.now ≡ None) × IsReached t (File f)
 Seen osts t (Unlinks d n f) = child t d n.now ≡ Some (File f)
 Seen osts t (SetsMode c mode) = IsReached t c
+Seen osts t (Moves old c new) = (child t old.dir old.name.now ≡ Some c) × (child t new.dir new.name.now ≡ None) × IsReached t (Dir new.dir)
+Seen osts t (Replaces old c new g) = (child t old.dir old.name.now ≡ Some c) × (child t new.dir new.name.now ≡ Some g) × (same_fid (fid_of g) (fid_of c) ≡ false) × MayLeave t g
 Seen osts t (OpensFile f) = IsReached t (File f)
 Seen osts t _ = Unit {0}
 
@@ -141,6 +160,17 @@ abbrev pub names_after : Tree → List (List ℕ) → Result Child Errno → Lis
 names_after t new (Ok (File f)) = looks t root new
 names_after t new _ = []
 
+-- a rename looks its new name up where the old one leads to something
+abbrev pub names_if_there : Tree → List (List ℕ) → Result Child Errno → List Part
+names_if_there t new (Ok c) = looks t root new
+names_if_there t new (Err e) = []
+
+-- but with `/` on either side it looks at nothing
+abbrev pub rename_names : Tree → List (List ℕ) → List (List ℕ) → List Part
+rename_names t [] new = []
+rename_names t (n ∷ ns) [] = []
+rename_names t (n ∷ ns) (m ∷ ms) = looks t root (n ∷ ns) ++ names_if_there t (m ∷ ms) (reach t root (n ∷ ns))
+
 -- the names that an operation looks up
 abbrev pub names_of : Tree → Op → List Part
 names_of t (op.Lookup path) = looks t root path
@@ -153,5 +183,6 @@ names_of t (op.Open path) = looks t root path
 names_of t (op.Link old new) = looks t root old ++ names_after t new (reach t root old)
 names_of t (op.Unlink path) = looks t root path
 names_of t (op.Rmdir path) = looks t root path
+names_of t (op.Rename old new) = rename_names t old new
 names_of t (op.Chmod path mode) = looks t root path
 names_of t _ = []

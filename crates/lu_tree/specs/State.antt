@@ -55,6 +55,7 @@ IsPerformed (op.Close opened fid) = Unit {0}
 IsPerformed (op.Link old new) = Unit {0}
 IsPerformed (op.Unlink path) = Unit {0}
 IsPerformed (op.Rmdir path) = Unit {0}
+IsPerformed (op.Rename old new) = Unit {0}
 IsPerformed (op.Chmod path mode) = Unit {0}
 IsPerformed _ = ⊥
 

@@ -62,6 +62,9 @@ impl Inodes {
             End::Links { .. } => Ok(Answer::Done),
             End::Unlinks { .. } => Ok(Answer::Done),
             End::Removes(_, _, _) => Ok(Answer::Done),
+            End::Same => Ok(Answer::Done),
+            End::Moves(_, _, _) => Ok(Answer::Done),
+            End::Replaces(_, _, _, _) => Ok(Answer::Done),
             End::SetsMode(_, _) => Ok(Answer::Done),
             End::KeepsMode(_) => Ok(Answer::Done),
             End::OpensFile(fid) => Ok(Answer::OpenFile {

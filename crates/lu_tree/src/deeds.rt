@@ -1,18 +1,20 @@
 //! What the operations do to the inodes.
 
-ghost use Rattle.std.specs.Prelude.{◌≡◌, ◌+◌, ◌-◌, ◌<◌, ◌≤◌, true, None, Some, [], ◌∷◌, OnOk, OnErr};
+ghost use Rattle.std.specs.Prelude.{◌≡◌, ◌+◌, ◌-◌, ◌<◌, ◌≤◌, true, false, None, Some, [], ◌∷◌, OnOk, OnErr};
 ghost use Rattle.std.specs.Map.{lookup};
 ghost use Rattle.lu_machine.specs.Footprint.{is_some_change};
 ghost use Rattle.lu_machine.specs.Tree.{child, file as file_of, listing, same_fid};
-ghost use Rattle.lu_machine.specs.Change.{Drops, Leads, Leaves, MakesDir, MakesFile, Parted, SetLinks, changed};
+ghost use Rattle.lu_machine.specs.Change.{Drops, Leads, Leaves, MakesDir, MakesFile, Parted, SetLinks, change, changed};
+ghost use Rattle.lu_machine.proofs.Leads.{here};
+ghost use Rattle.lu_machine.specs.Order.{IsOrdered};
 ghost use Rattle.lu_machine.specs.declared.child.Child.TheVariants.{Dir as SpecDir, File as SpecFile};
 ghost use Rattle.lu_machine.specs.Table.{made_by};
 ghost use Rattle.lu_machine.specs.Trim.{trim};
-ghost use Rattle.lu_tree.specs.Ends.{changes_of, Seen, IsFresh};
+ghost use Rattle.lu_tree.specs.Ends.{changes_of, leaving, MayLeave, Seen, IsFresh};
 ghost use Rattle.lu_tree.specs.Lives.{IsThere};
 ghost use Rattle.lu_tree.specs.State.{IsCounted};
 
-use super::ends::End;
+use super::ends::{End, Place};
 use super::inodes::Inodes;
 use super::striping::striped;
 use lu_base::{Duplicate, Fid, Memory, Name, Txn, Who};
@@ -97,6 +99,44 @@ impl Inodes {
         self.leave(gone);
     }
 
+    /// Makes the new name lead to this in place of the old one. After want of memory nothing has changed.
+    fn move_name(
+        &mut self,
+        alloc: Global,
+        old: Place<'_>,
+        moved: Child,
+        new: Place<'_>,
+    ) -> Result<(), Memory>
+        requires ordered { IsOrdered self.old }
+        requires named { child self.old old.dir old.name.now ≡ Some moved }
+        requires other { here new.dir new.name.now old.dir old.name.now ≡ false }
+        ensures moved { OnOk result (self.new ≡ changed self.old (Drops old.entry.dir old.entry.name.now ∷ Leads new.entry.dir new.entry.name.now moved ∷ [])) }
+        ensures kept { OnErr result (self.new ≡ self.old) }
+    {
+        let name = new.name.copy(alloc)?;
+        self.lead(alloc, new.dir, name, moved)?;
+        self.unlead(old.dir, old.name);
+        Ok(())
+    }
+
+    /// Takes an empty directory out that has lost its name, or a link of a file, and the file if it has neither
+    /// another name nor an open.
+    fn lose(&mut self, gone: Child)
+        requires there { IsThere self.old gone }
+        requires empty { MayLeave self.old gone }
+        requires lean { trim self.old ≡ self.old }
+        ensures gone { self.new ≡ trim (change self.old (leaving self.old gone)) }
+    {
+        match gone {
+            Child::Dir(dir) => self.leave(dir),
+            Child::File(file) => {
+                let links = self.links(file).saturating_sub(1);
+                self.set_links(file, links);
+                self.bury(file);
+            }
+        }
+    }
+
     /// Does what an operation of a life comes to, as transaction `number`, over this many object storage
     /// targets. After want of memory nothing has changed.
     pub(crate) fn perform(
@@ -109,6 +149,7 @@ impl Inodes {
     ) -> Result<(), Memory>
         requires some { 1 ≤ osts }
         requires most { osts ≤ 8 }
+        requires ordered { IsOrdered self.old }
         requires lean { trim self.old ≡ self.old }
         requires counted { IsCounted self.old }
         requires fresh { is_some_change (changes_of osts self.old number who end) ≡ true → IsFresh self.old number }
@@ -130,6 +171,12 @@ impl Inodes {
             End::Links { dir, name, file } => self.link(alloc, dir, name, file),
             End::Unlinks { dir, name, file } => {
                 self.unlink(dir, name, file);
+                Ok(())
+            }
+            End::Moves(old, moved, new) => self.move_name(alloc, old, moved, new),
+            End::Replaces(old, moved, new, gone) => {
+                self.move_name(alloc, old, moved, new)?;
+                self.lose(gone);
                 Ok(())
             }
             End::SetsMode(child, mode) => self.set_mode(alloc, child, mode),

@@ -12,6 +12,13 @@ use lu_machine::Child;
 use lu_msg::Errno;
 use lu_part::{LAYOUT, UPDATE};
 
+/// A name of a directory.
+#[derive(Clone, Copy)]
+pub(crate) struct Place<'a> {
+    pub(crate) dir: Fid,
+    pub(crate) name: &'a Name,
+}
+
 /// One case for each row's end.
 #[derive(Clone, Copy)]
 pub(crate) enum End<'a> {
@@ -51,6 +58,12 @@ pub(crate) enum End<'a> {
     },
     /// This name of this directory goes, and the empty directory to which it leads.
     Removes(Fid, &'a Name, Fid),
+    /// Both names lead to one inode, which is as before.
+    Same,
+    /// The name goes, and this, to which it leads, gets the free name.
+    Moves(Place<'a>, Child, Place<'a>),
+    /// The name goes, and this, to which it leads, gets the name that leads to that.
+    Replaces(Place<'a>, Child, Place<'a>, Child),
     /// This gets this mode.
     SetsMode(Child, u16),
     /// This has the mode already.
@@ -71,6 +84,8 @@ pub(crate) fn changes(end: End<'_>) -> bool
         End::Links { .. } => true,
         End::Unlinks { .. } => true,
         End::Removes(_, _, _) => true,
+        End::Moves(_, _, _) => true,
+        End::Replaces(_, _, _, _) => true,
         End::SetsMode(_, _) => true,
         End::OpensFile(_) => true,
         End::ClosesFile(_, _) => true,

@@ -8,6 +8,7 @@ mod files;
 mod folders;
 mod inodes;
 mod operations;
+mod renames;
 mod rows;
 mod striping;
 #[cfg(test)]

@@ -57,6 +57,7 @@ impl Inodes {
             Op::Link { old, new } => self.link_end(osts, old.as_slice(), new.as_slice()),
             Op::Unlink(path) => self.last_end(osts, LastAsk::Unlink, path.as_slice()),
             Op::Rmdir(path) => self.last_end(osts, LastAsk::Rmdir, path.as_slice()),
+            Op::Rename { old, new } => self.rename_end(old.as_slice(), new.as_slice()),
             Op::Chmod { path, mode } => self.whole_end(Ask::Chmod(*mode), path.as_slice()),
             Op::Open(path) => self.whole_end(Ask::Open, path.as_slice()),
             Op::Close { txn, fid } => End::ClosesFile(*txn, *fid),

@@ -1,15 +1,16 @@
 //! The parts that the operations look at, and those that they write.
 
-ghost use Rattle.std.specs.Prelude.{◌≡◌, ◌++◌, ℕ, OnOk};
+ghost use Rattle.std.specs.Prelude.{◌≡◌, ◌++◌, ◌∷◌, [], ℕ, OnOk};
 ghost use Rattle.lu_base.specs.declared.ids.Txn.{Txn as SpecTxn};
 ghost use Rattle.lu_base.specs.declared.ids.Who.{Who as SpecWho};
 ghost use Rattle.lu_machine.specs.Change.{written};
-ghost use Rattle.lu_machine.specs.Tree.{Tree};
+ghost use Rattle.lu_machine.specs.Tree.{Tree, fid_of};
+ghost use Rattle.lu_part.specs.declared.parts.Part.TheVariants.{Attr, Name as NamePart, Parent};
 ghost use Rattle.lu_machine.specs.Table.{root};
-ghost use Rattle.lu_tree.specs.Ends.{changes_of, looked_of, names_after, names_of};
+ghost use Rattle.lu_tree.specs.Ends.{changes_of, looked_of, names_after, names_of, rename_names};
 ghost use Rattle.lu_tree.specs.Walks.{looks, reach};
 
-use super::ends::End;
+use super::ends::{End, Place};
 use super::inodes::Inodes;
 use super::walks::fid;
 use lu_base::{Duplicate, Memory, Name};
@@ -39,6 +40,26 @@ impl Inodes {
         }
     }
 
+    /// Adds the names that a `rename` looks up.
+    fn push_rename_names(
+        &self,
+        alloc: Global,
+        parts: &mut Parts,
+        old: &[Name],
+        new: &[Name],
+    ) -> Result<(), Memory>
+        ensures pushed { OnOk result (parts.new ≡ parts.old ++ rename_names self.now old.now new.now) }
+    {
+        if old.is_empty() || new.is_empty() {
+            return Ok(());
+        }
+        self.push_looks(alloc, parts, old)?;
+        match self.reach(old) {
+            Err(_) => Ok(()),
+            Ok(_) => self.push_looks(alloc, parts, new),
+        }
+    }
+
     /// Adds the names that an operation looks up.
     pub(crate) fn push_names(&self, alloc: Global, parts: &mut Parts, op: &Op) -> Result<(), Memory>
         ensures pushed { OnOk result (parts.new ≡ parts.old ++ names_of self.now op.now) }
@@ -50,6 +71,9 @@ impl Inodes {
             Op::Layout(path) => self.push_looks(alloc, parts, path.as_slice()),
             Op::Mkdir(path) => self.push_looks(alloc, parts, path.as_slice()),
             Op::Create { path, .. } => self.push_looks(alloc, parts, path.as_slice()),
+            Op::Rename { old, new } => {
+                self.push_rename_names(alloc, parts, old.as_slice(), new.as_slice())
+            }
             Op::Chmod { path, .. } => self.push_looks(alloc, parts, path.as_slice()),
             Op::Open(path) => self.push_looks(alloc, parts, path.as_slice()),
             Op::Link { old, new } => {
@@ -80,11 +104,38 @@ pub(crate) fn push_looked(parts: &mut Parts, end: End<'_>) -> Result<(), Memory>
         End::Removes(_, _, gone) => parts.push(Part::List(gone)),
         End::Links { file, .. } => parts.push(Part::Attr(file)),
         End::Unlinks { file, .. } => parts.push(Part::Attr(file)),
+        End::Replaces(_, _, _, gone) => match gone {
+            Child::Dir(dir) => parts.push(Part::List(dir)),
+            Child::File(file) => parts.push(Part::Attr(file)),
+        },
         End::SetsMode(child, _) => parts.push(Part::Attr(fid(child))),
         End::KeepsMode(child) => parts.push(Part::Attr(fid(child))),
         End::OpensFile(file) => parts.push(Part::Layout(file)),
         _ => Ok(()),
     }
+}
+
+/// Adds what is written where this leaves the old name for the new one.
+fn push_moved(
+    alloc: Global,
+    parts: &mut Parts,
+    old: Place<'_>,
+    child: Child,
+    new: Place<'_>,
+) -> Result<(), Memory>
+    ensures pushed { OnOk result (parts.new ≡ parts.old ++ NamePart old.entry.dir old.entry.name.now ∷ NamePart new.entry.dir new.entry.name.now ∷ Parent (fid_of child) ∷ []) }
+{
+    parts.push(Part::Name(old.dir, old.name.copy(alloc)?))?;
+    parts.push(Part::Name(new.dir, new.name.copy(alloc)?))?;
+    parts.push(Part::Parent(fid(child)))
+}
+
+/// Adds what is written of what was replaced.
+fn push_gone(parts: &mut Parts, gone: Child) -> Result<(), Memory>
+    ensures pushed { OnOk result (parts.new ≡ parts.old ++ Parent (fid_of gone) ∷ Attr (fid_of gone) ∷ []) }
+{
+    parts.push(Part::Parent(fid(gone)))?;
+    parts.push(Part::Attr(fid(gone)))
 }
 
 /// Adds what an operation that comes to this writes.
@@ -102,6 +153,11 @@ pub(crate) fn push_written(alloc: Global, parts: &mut Parts, end: End<'_>) -> Re
             parts.push(Part::Name(dir, name.copy(alloc)?))?;
             parts.push(Part::Parent(file))?;
             parts.push(Part::Attr(file))
+        }
+        End::Moves(old, child, new) => push_moved(alloc, parts, old, child, new),
+        End::Replaces(old, child, new, gone) => {
+            push_moved(alloc, parts, old, child, new)?;
+            push_gone(parts, gone)
         }
         End::SetsMode(child, _) => parts.push(Part::Attr(fid(child))),
         End::Removes(dir, name, gone) => {

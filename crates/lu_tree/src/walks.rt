@@ -1,7 +1,7 @@
 //! Walks by names.
 
 ghost use Rattle.std.specs.Prelude.{◌≡◌, ◌++◌, ◌<◌, Some, None, IfOk, OnOk};
-ghost use Rattle.lu_machine.specs.Table.{root, wants};
+ghost use Rattle.lu_machine.specs.Table.{root, passes, wants};
 ghost use Rattle.lu_machine.specs.Tree.{fid_of};
 ghost use Rattle.lu_tree.specs.Walks.{find, if_found, reach, find_last, looks, trail, only, passed_wants};
 
@@ -96,6 +96,26 @@ impl Inodes {
             Ok(found) => found.child,
             Err(_) => None,
         }
+    }
+
+    /// Whether this is a directory that a walk from the root by these names passes.
+    pub(crate) fn passes(&self, child: Child, path: &[Name]) -> bool
+        ensures passes { result ≡ passes child (trail self.now root path.now) }
+    {
+        let Child::Dir(dir) = child else {
+            return false;
+        };
+        let mut at = Child::Dir(Fid(ROOT));
+        for name in path {
+            let Some(next) = self.next(at, name) else {
+                return false;
+            };
+            if fid(next) == dir {
+                return true;
+            }
+            at = next;
+        }
+        false
     }
 
     /// The PR locks on what a walk from the root comes to: LOOKUP on each inode after the root, and `more`

@@ -1,12 +1,12 @@
 -- The path as a slice is the path.
-use Rattle.std.proofs.Common.{◌≡◌, ◌++◌, rules, subst, w32}
+use Rattle.std.proofs.Common.{◌≡◌, [], ◌++◌, rules, subst, w32}
 use Rattle.std.proofs.lemmas.Int.{to_z-of_z}
 use mir.Val.{SFits}
 use Rattle.lu_msg.specs.declared.answers.Errno.TheVariants.{EEXIST}
-use Rattle.lu_machine.specs.Plan.{looked}
+use Rattle.lu_machine.specs.Plan.{outcome, looked}
 use Rattle.lu_machine.specs.Table.{root, to_last}
 use Rattle.lu_tree.specs.declared.rows.LastAsk.TheVariants.{Create}
-use Rattle.lu_tree.specs.Ends.{looked_of}
+use Rattle.lu_tree.specs.Ends.{ended, looked_of}
 use Rattle.lu_tree.specs.Rows.{last_row_of}
 use Rattle.lu_tree.specs.Walks.{looks}
 use Rattle.lu_tree.proofs.inodes.Inodes.end.Goals as goal
@@ -68,6 +68,15 @@ returns-in-Layout-clause-seen c = c.whole_end-in-Layout.ensures.seen c.args.osts
 pub returns-in-Open-clause-seen : goal.returns-in-Open-clause-seen
 returns-in-Open-clause-seen c = c.whole_end-in-Open.ensures.seen c.args.osts
 
+pub returns-in-Create-clause-ends : goal.returns-in-Create-clause-ends
+returns-in-Create-clause-ends c =
+    let fits : SFits w32 c.in-Create.count = search rules in
+    λ number who. rw (c.in-Create.is, ← c.as_slice-in-Create.ensures.same)
+    (subst
+    (λ z. outcome c.args.self.now (to_last EEXIST c.as_slice-in-Create.result.now (λ passed. last_row_of c.args.osts number (Create c.in-Create.size z)))
+    ≡ ended c.args.osts c.args.self.now number who [] c.last_end-in-Create.result)
+    (to_z-of_z w32 c.in-Create.count fits) (c.last_end-in-Create.ensures.ends number who))
+
 pub returns-in-Create-clause-looks : goal.returns-in-Create-clause-looks
 returns-in-Create-clause-looks c =
     let fits : SFits w32 c.in-Create.count = search rules in
@@ -85,3 +94,6 @@ returns-in-Chmod-clause-looks c = λ number who. rw (c.in-Chmod.is, ← c.as_sli
 
 pub returns-in-Chmod-clause-seen : goal.returns-in-Chmod-clause-seen
 returns-in-Chmod-clause-seen c = c.whole_end-in-Chmod.ensures.seen c.args.osts
+
+pub returns-in-Rename-clause-seen : goal.returns-in-Rename-clause-seen
+returns-in-Rename-clause-seen c = c.rename_end.ensures.seen c.args.osts

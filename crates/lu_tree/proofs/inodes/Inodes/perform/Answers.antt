@@ -1,14 +1,18 @@
 -- No other file leaves.
-use Rattle.std.proofs.Common.{[], ◌∷◌, inr, refl, sym, ap, ◌∙◌}
+use Rattle.std.proofs.Common.{[], ◌∷◌, inr, refl, sym, ap, subst, ◌∙◌}
 use Rattle.std.proofs.lemmas.Result.{on_ok_weaker}
 use Rattle.lu_machine.specs.declared.child.Child.TheVariants.{File}
-use Rattle.lu_machine.specs.Change.{Leads, MakesFile, changed}
+use Rattle.lu_machine.specs.Change.{Drops, Leads, MakesFile, change, changed}
+use Rattle.lu_machine.proofs.Leads.{empty_other, other}
 use Rattle.lu_machine.specs.Table.{made_by}
-use Rattle.lu_machine.specs.Tree.{file}
+use Rattle.lu_machine.specs.Tree.{Tree, file}
 use Rattle.lu_machine.specs.Trim.{trim}
 use Rattle.lu_tree.proofs.Lean.{lean_with}
 use Rattle.lu_tree.proofs.Living.{lean_create, lean_link, lean_mode, lean_open}
 use Rattle.lu_tree.proofs.Named.{child_there}
+use Rattle.lu_tree.proofs.Replaced.{leaving_with, may_leave_still, there_with}
+use Rattle.lu_tree.specs.Ends.{MayLeave, leaving}
+use Rattle.lu_tree.specs.Lives.{IsThere}
 use Rattle.lu_tree.proofs.inodes.Inodes.perform.Goals as goal
 
 pub make-requires : goal.make-requires
@@ -46,6 +50,41 @@ pub returns-in-SetsMode-clause-done : goal.returns-in-SetsMode-clause-done
 returns-in-SetsMode-clause-done c =
     let h = rw c.in-SetsMode.is at c.requires.seen in
     rw c.in-SetsMode.is (on_ok_weaker c.set_mode.result (λ set. set ∙ sym (lean_mode c.args.self.now c.in-SetsMode.child c.in-SetsMode.mode c.requires.counted h c.requires.lean)) c.set_mode.ensures.set)
+
+pub move_name-requires-clause-other : goal.move_name-requires-clause-other
+move_name-requires-clause-other c =
+    let h = rw c.in-Moves.is at c.requires.seen in
+    empty_other c.args.self.now c.in-Moves.new.dir c.in-Moves.new.name.now c.in-Moves.old.dir c.in-Moves.old.name.now c.in-Moves.moved h.1 h.0
+
+pub move_name-requires-in-Replaces-clause-other : goal.move_name-requires-in-Replaces-clause-other
+move_name-requires-in-Replaces-clause-other c =
+    let h = rw c.in-Replaces.is at c.requires.seen in
+    other c.args.self.now c.in-Replaces.new.dir c.in-Replaces.new.name.now c.in-Replaces.old.dir c.in-Replaces.old.name.now c.in-Replaces.gone c.in-Replaces.moved h.1 h.0 h.2
+
+pub lose-requires-clause-there : goal.lose-requires-clause-there
+lose-requires-clause-there c =
+    let t = c.args.self.now in
+    let h = rw c.in-Replaces.is at c.requires.seen in
+    let u = changed t (Drops c.in-Replaces.old.dir c.in-Replaces.old.name.now ∷ Leads c.in-Replaces.new.dir c.in-Replaces.new.name.now c.in-Replaces.moved ∷ []) in
+    subst (λ (u : Tree). IsThere u c.in-Replaces.gone) (sym c.in_ok-move_name-in-Replaces.ensures.moved)
+    (there_with t u.dirs c.in-Replaces.gone (child_there t c.in-Replaces.gone c.requires.counted (inr (c.in-Replaces.new.dir, c.in-Replaces.new.name.now, h.1))))
+
+pub lose-requires-clause-empty : goal.lose-requires-clause-empty
+lose-requires-clause-empty c =
+    let t = c.args.self.now in
+    let o = c.in-Replaces.old in
+    let p = c.in-Replaces.new in
+    let h = rw c.in-Replaces.is at c.requires.seen in
+    subst (λ (u : Tree). MayLeave u c.in-Replaces.gone) (sym c.in_ok-move_name-in-Replaces.ensures.moved)
+    (may_leave_still t o.dir o.name.now p.dir p.name.now c.in-Replaces.moved c.in-Replaces.gone h.1 h.3)
+
+pub returns-in_ok-move_name-in-Replaces-clause-done : goal.returns-in_ok-move_name-in-Replaces-clause-done
+returns-in_ok-move_name-in-Replaces-clause-done c =
+    let t = c.args.self.now in
+    let g = c.in-Replaces.gone in
+    let u = changed t (Drops c.in-Replaces.old.dir c.in-Replaces.old.name.now ∷ Leads c.in-Replaces.new.dir c.in-Replaces.new.name.now c.in-Replaces.moved ∷ []) in
+    rw c.in-Replaces.is
+    (c.lose.ensures.gone ∙ ap (λ (u : Tree). trim (change u (leaving u g))) c.in_ok-move_name-in-Replaces.ensures.moved ∙ ap (λ x. trim (change u x)) (leaving_with t u.dirs g))
 
 pub returns-in-Removes-clause-done : goal.returns-in-Removes-clause-done
 returns-in-Removes-clause-done c = rw c.in-Removes.is (c.remove.ensures.gone ∙ sym (lean_with c.args.self.now _ c.requires.lean))
