@@ -6,7 +6,6 @@ use Rattle.lu_base.specs.declared.ids.Fid.{Fid}
 use Rattle.lu_base.specs.declared.ids.Txn.{Txn}
 use Rattle.lu_base.specs.declared.ids.Who.{Who}
 use Rattle.lu_msg.specs.declared.operations.Op.{Op}
-use Rattle.lu_msg.specs.declared.operations.Op.TheVariants as op
 use Rattle.lu_machine.specs.declared.child.Child.{Child}
 use Rattle.lu_machine.specs.Tree.{Tree, Inode, same_fid, fid_of, file, child}
 use Rattle.lu_machine.specs.Footprint.{Operation, empty, changes, after, forget}
@@ -41,23 +40,6 @@ performed s a =
 -- once the opens of a life are forgotten
 abbrev pub forgotten : TreeState → Who → TreeState
 forgotten s who = record s { tree = trim (forget s.tree who) }
-
--- the operations that the program performs
-abbrev pub IsPerformed : Op → Type 0
-IsPerformed (op.Lookup path) = Unit {0}
-IsPerformed (op.Stat path) = Unit {0}
-IsPerformed (op.List path) = Unit {0}
-IsPerformed (op.Layout path) = Unit {0}
-IsPerformed (op.Mkdir path) = Unit {0}
-IsPerformed (op.Create path size count) = Unit {0}
-IsPerformed (op.Open path) = Unit {0}
-IsPerformed (op.Close opened fid) = Unit {0}
-IsPerformed (op.Link old new) = Unit {0}
-IsPerformed (op.Unlink path) = Unit {0}
-IsPerformed (op.Rmdir path) = Unit {0}
-IsPerformed (op.Rename old new) = Unit {0}
-IsPerformed (op.Chmod path mode) = Unit {0}
-IsPerformed _ = ⊥
 
 -- a file has at least as many links as names lead to it
 abbrev pub IsCounted : Tree → Type 0

@@ -7,14 +7,14 @@ ghost use Rattle.lu_machine.specs.Footprint.{outcome_of};
 ghost use Rattle.lu_machine.specs.Footprint as footprint;
 ghost use Rattle.lu_machine.specs.Table.{root};
 ghost use Rattle.lu_tree.specs.Ends.{ended, looked_of, names_of, path_of, Seen};
-ghost use Rattle.lu_tree.specs.State.{asked, IsPerformed};
+ghost use Rattle.lu_tree.specs.State.{asked};
 ghost use Rattle.lu_tree.specs.Walks.{trail};
 
 use super::ends::End;
 use super::inodes::Inodes;
 use super::rows::{Ask, LastAsk};
 use lu_base::Name;
-use lu_msg::Op;
+use lu_msg::{Errno, Op};
 
 /// The names by which an operation on what a whole path leads to walks.
 pub(crate) fn whole_path(op: &Op) -> &[Name]
@@ -32,10 +32,9 @@ pub(crate) fn whole_path(op: &Op) -> &[Name]
 }
 
 impl Inodes {
-    /// Where an operation comes to.
+    /// Where an operation comes to. One of an object storage target is none on names.
     pub(crate) fn end<'a>(&self, osts: u16, op: &'a Op) -> End<'a>
-        requires performed { IsPerformed op.now }
-        requires osts { 1 ≤ osts }
+        requires { 1 ≤ osts }
         ensures ends { (number : SpecTxn) (who : SpecWho) → outcome_of osts self.now (asked number who op.now) ≡ ended osts self.now number who (trail self.now root (path_of op.now)) result }
         ensures looks { (number : SpecTxn) (who : SpecWho) → footprint.touches osts self.now (asked number who op.now) ≡ names_of self.now op.now ++ looked_of result }
         ensures seen { Seen osts self.now result }
@@ -61,7 +60,11 @@ impl Inodes {
             Op::Chmod { path, mode } => self.whole_end(Ask::Chmod(*mode), path.as_slice()),
             Op::Open(path) => self.whole_end(Ask::Open, path.as_slice()),
             Op::Close { txn, fid } => End::ClosesFile(*txn, *fid),
-            _ => unreachable!(),
+            Op::Enqueue { .. } => End::Refused(Errno::EBADF),
+            Op::Get { .. } => End::Refused(Errno::EBADF),
+            Op::Put { .. } => End::Refused(Errno::EBADF),
+            Op::Cut { .. } => End::Refused(Errno::EBADF),
+            Op::Size(_) => End::Refused(Errno::EBADF),
         }
     }
 }

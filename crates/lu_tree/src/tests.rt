@@ -1,8 +1,7 @@
-ghost use Rattle.std.specs.Prelude.{◌+◌, ◌<◌, ◌≤◌, IfOk};
-ghost use Rattle.lu_tree.specs.State.{IsPerformed};
+ghost use Rattle.std.specs.Prelude.{◌<◌, ◌≤◌};
 
 use super::*;
-use lu_base::{Bytes, Fid, Memory, Name, Path, Txn, Who, put_number, put_pair};
+use lu_base::{Bytes, Fid, Memory, Name, Path, Resource, Txn, Who, put_number, put_pair};
 use lu_layout::Layout;
 use lu_msg::{Answer, Errno, Op};
 use lu_part::Part;
@@ -29,10 +28,14 @@ enum Verb {
     Link(&'static [u8]),
     Unlink,
     Rmdir,
+    /// To this new path.
+    Rename(&'static [u8]),
     Chmod(u16),
     Open,
     /// Of the open that this transaction made, of this file. It has no path.
     Close(u32, u32),
+    /// Of the object of the first stripe of the root. It has no path.
+    Size,
 }
 
 /// What is answered; an inode is told by the count of the transaction of boot 1 that made it.
@@ -88,9 +91,7 @@ fn path(alloc: Global, text: &[u8]) -> Result<Path, Memory> {
     Ok(path)
 }
 
-fn op(alloc: Global, verb: Verb, text: &[u8]) -> Result<Op, Memory>
-    ensures { IfOk result IsPerformed }
-{
+fn op(alloc: Global, verb: Verb, text: &[u8]) -> Result<Op, Memory> {
     let path = path(alloc, text)?;
     match verb {
         Verb::Lookup => Ok(Op::Lookup(path)),
@@ -110,6 +111,14 @@ fn op(alloc: Global, verb: Verb, text: &[u8]) -> Result<Op, Memory>
         }),
         Verb::Unlink => Ok(Op::Unlink(path)),
         Verb::Rmdir => Ok(Op::Rmdir(path)),
+        Verb::Rename(new) => Ok(Op::Rename {
+            old: path,
+            new: self::path(alloc, new)?,
+        }),
+        Verb::Size => Ok(Op::Size(Resource {
+            fid: Fid(1),
+            stripe: 0,
+        })),
         Verb::Chmod(mode) => Ok(Op::Chmod { path, mode }),
     }
 }
@@ -210,9 +219,7 @@ fn touches(
     tree: &Tree,
     op: &Op,
     wanted: &[u8],
-) -> Result<(), Memory>
-    requires { IsPerformed op.now }
-{
+) -> Result<(), Memory> {
     let parts = tree.touches(alloc, ASKER, op)?;
     let text = parts_text(alloc, parts.as_slice())?;
     assert_eq!(rt; text.as_slice(), wanted);
@@ -227,9 +234,7 @@ fn writes(
     op: &Op,
     wanted: &[u8],
     makes: bool,
-) -> Result<(), Memory>
-    requires { IsPerformed op.now }
-{
+) -> Result<(), Memory> {
     let parts = tree.writes(alloc, ASKER, op)?;
     let text = parts_text(alloc, parts.as_slice())?;
     assert_eq!(rt; text.as_slice(), wanted);
@@ -238,9 +243,13 @@ fn writes(
 }
 
 /// The operation grants these locks.
-fn grants(rt: &impl Abort, alloc: Global, tree: &Tree, op: &Op, wanted: &[u8]) -> Result<(), Memory>
-    requires { IsPerformed op.now }
-{
+fn grants(
+    rt: &impl Abort,
+    alloc: Global,
+    tree: &Tree,
+    op: &Op,
+    wanted: &[u8],
+) -> Result<(), Memory> {
     let mut text = Bytes::new(alloc);
     let wants = tree.grants(alloc, ASKER, op)?;
     for want in wants.as_slice() {
@@ -544,6 +553,109 @@ fn footprints_of_files(rt: HostRuntime) -> Result<(), Fail> {
             b"",
             true,
         ),
+    ];
+    prints_all(&rt, rt.alloc(), &tree, prints.as_slice())?;
+    Ok(())
+}
+
+#[test]
+fn names_move(rt: HostRuntime) -> Result<(), Fail> {
+    let rows: [Row<'_>; 28] = [
+        (Verb::Mkdir, b"/a", Told::Made(1)),
+        (Verb::Create(0, 0), b"/f", Told::Made(2)),
+        (Verb::Link(b"/g"), b"/f", Told::Done),
+        (Verb::Rename(b"/f"), b"/f", Told::Done),
+        (Verb::Rename(b"/g"), b"/f", Told::Done),
+        (Verb::Mkdir, b"/b", Told::Made(6)),
+        (Verb::Create(0, 0), b"/b/x", Told::Made(7)),
+        (Verb::Rename(b"/b"), b"/a", Told::No(Errno::ENOTEMPTY)),
+        (Verb::Rename(b"/b/c"), b"/b", Told::No(Errno::EINVAL)),
+        (Verb::List, b"/", Told::Names(b"/a/b/f/g")),
+        (Verb::Rename(b"/c"), b"/", Told::No(Errno::EBUSY)),
+        (Verb::Rename(b"/"), b"/a", Told::No(Errno::EBUSY)),
+        (Verb::Rename(b"/y"), b"/x", Told::No(Errno::ENOENT)),
+        (Verb::Rename(b"/f"), b"/a", Told::No(Errno::ENOTDIR)),
+        (Verb::Rename(b"/a"), b"/f", Told::No(Errno::EISDIR)),
+        (Verb::Rename(b"/c"), b"/a", Told::Done),
+        (Verb::Lookup, b"/c", Told::Dir(1)),
+        (Verb::Unlink, b"/b/x", Told::Done),
+        (Verb::Rename(b"/b"), b"/c", Told::Done),
+        (Verb::Lookup, b"/b", Told::Dir(1)),
+        (Verb::Rename(b"/b/h"), b"/f", Told::Done),
+        (
+            Verb::Stat,
+            b"/g",
+            Told::FileStat(2, 0o644, 2, 1048576, &[1]),
+        ),
+        (Verb::Create(0, 0), b"/i", Told::Made(23)),
+        (Verb::Rename(b"/g"), b"/i", Told::Done),
+        (
+            Verb::Stat,
+            b"/b/h",
+            Told::FileStat(2, 0o644, 1, 1048576, &[1]),
+        ),
+        (Verb::List, b"/", Told::Names(b"/b/g")),
+        (Verb::Rename(b"/g/x"), b"/b", Told::No(Errno::ENOTDIR)),
+        (Verb::Size, b"/", Told::No(Errno::EBADF)),
+    ];
+    acts_all(&rt, rt.alloc(), rows.as_slice())?;
+    Ok(())
+}
+
+#[test]
+fn footprints_of_renames(rt: HostRuntime) -> Result<(), Fail> {
+    let rows: [Row<'_>; 4] = [
+        (Verb::Mkdir, b"/a", Told::Made(1)),
+        (Verb::Create(0, 0), b"/f", Told::Made(2)),
+        (Verb::Mkdir, b"/b", Told::Made(3)),
+        (Verb::Create(0, 0), b"/g", Told::Made(4)),
+    ];
+    let tree = acts_all(&rt, rt.alloc(), rows.as_slice())?;
+    let prints: [Print; 9] = [
+        (
+            Verb::Rename(b"/c"),
+            b"/f",
+            b" Name 0.1/f Name 0.1/c",
+            b" Name 0.1/f Name 0.1/c Parent 1.2",
+            b"",
+            true,
+        ),
+        (
+            Verb::Rename(b"/f"),
+            b"/f",
+            b" Name 0.1/f Name 0.1/f",
+            b"",
+            b"",
+            false,
+        ),
+        (
+            Verb::Rename(b"/g"),
+            b"/f",
+            b" Name 0.1/f Name 0.1/g Attr 1.4",
+            b" Name 0.1/f Name 0.1/g Parent 1.2 Parent 1.4 Attr 1.4",
+            b"",
+            true,
+        ),
+        (
+            Verb::Rename(b"/b"),
+            b"/a",
+            b" Name 0.1/a Name 0.1/b List 1.3",
+            b" Name 0.1/a Name 0.1/b Parent 1.1 Parent 1.3 Attr 1.3",
+            b"",
+            true,
+        ),
+        (
+            Verb::Rename(b"/a/c"),
+            b"/a",
+            b" Name 0.1/a Name 0.1/a Name 1.1/c",
+            b"",
+            b"",
+            false,
+        ),
+        (Verb::Rename(b"/c"), b"/x", b" Name 0.1/x", b"", b"", false),
+        (Verb::Rename(b"/c"), b"/", b"", b"", b"", false),
+        (Verb::Rename(b"/"), b"/a", b"", b"", b"", false),
+        (Verb::Size, b"/", b"", b"", b"", false),
     ];
     prints_all(&rt, rt.alloc(), &tree, prints.as_slice())?;
     Ok(())
