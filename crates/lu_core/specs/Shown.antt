@@ -7,7 +7,7 @@ use Rattle.lu_base.specs.declared.ids.Node.TheVariants.{Client, Target}
 use Rattle.lu_base.specs.declared.ids.Who.{Who}
 use Rattle.lu_client.specs.Clients.{ClientState}
 use Rattle.lu_net.specs.declared.links.Sent.{Sent}
-use Rattle.lu_tree.specs.State.{IsPerformed}
+use Rattle.lu_service.specs.Names.{IsNamed}
 use Rattle.lu_target.specs.Targets.{TargetState, server, slot, serves, Fits}
 use Rattle.lu_table.specs.Words.{Line}
 use Rattle.lu_table.specs.Calls.{Begun, call_of, is_dead, life_of}
@@ -71,7 +71,7 @@ MayTake clients t sent = by sent.to
   where
     by : Node → Type 0
     by (Client c) = (c < length clients) × ((d : ClientState) → (slice_index_or clients c d).asker.last < 2 ^ 63)
-    by (Target n) = (n ≡ 0) × Fits IsPerformed t.journal sent.message × (t.id ≡ 0) × (t.spent ≡ None) × ((server t).count < 4294967295)
+    by (Target n) = (n ≡ 0) × Fits IsNamed t.journal sent.message × (t.id ≡ 0) × (t.spent ≡ None) × ((server t).count < 4294967295)
 
 -- what the turn of any node gives, and that the nodes show the past with it
 abbrev pub NodesGive : List ClientState → List Bool → TargetState → At → Event → Step → Type 0

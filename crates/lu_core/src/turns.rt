@@ -2,7 +2,7 @@
 
 ghost use Rattle.std.specs.Prelude.{◌≡◌, ℕ, ◌<◌, None, IfOk, OnOk};
 ghost use Rattle.lu_base.specs.declared.ids.Node.TheVariants.{Target as AtTarget};
-ghost use Rattle.lu_tree.specs.State.{IsPerformed};
+ghost use Rattle.lu_service.specs.Names.{IsNamed};
 ghost use Rattle.lu_target.specs.Targets.{Fits, server};
 ghost use Rattle.lu_table.specs.Runs.{Comes, Ticks};
 ghost use Rattle.lu_core.specs.Shown.{turn_at, TargetGives, TargetTakes, MayTake, NodesGive, NodesTake};
@@ -34,7 +34,7 @@ pub(crate) fn hand_over(
 
 /// The turn of the metadata target to which a message comes.
 fn serve(target: &mut Target<Mdt>, stamp: Stamp, message: &Message) -> Result<Step, Memory>
-    requires fits { Fits IsPerformed target.old.journal message.now }
+    requires fits { Fits IsNamed target.old.journal message.now }
     requires id { target.old.id ≡ 0 }
     requires unspent { target.old.spent ≡ None }
     requires numbers { (server target.old).count < 4294967295 }

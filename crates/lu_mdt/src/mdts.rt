@@ -1,6 +1,6 @@
 //! The names of a file system as a service.
 
-ghost use Rattle.std.specs.Prelude.{◌≡◌, IfOk, refl};
+ghost use Rattle.std.specs.Prelude.{◌≡◌, ◌≤◌, IfOk, refl};
 ghost use Rattle.lu_service.specs.Names.{fresh};
 
 use lu_base::{Memory, Txn, Who};
@@ -29,6 +29,8 @@ impl Model for Mdt {
 impl Mdt {
     /// A new file system over this many object storage targets, 1 to 8: the root without names.
     pub fn new(alloc: Global, osts: u16) -> Result<Mdt, Memory>
+        requires some { 1 ≤ osts }
+        requires most { osts ≤ 8 }
         ensures fresh { IfOk result (λ mdt. mdt ≡ fresh osts) }
     {
         Ok(Mdt {
@@ -39,16 +41,14 @@ impl Mdt {
 
 impl Service for Mdt {
     ghost use Rattle.lu_service.specs.declared.services.Kind.TheVariants.{Mdt as MdtKind};
-    ghost use Rattle.lu_tree.specs.State.{IsPerformed};
-    ghost use Rattle.lu_service.specs.Names.{names};
-    ghost use Rattle.lu_mdt.specs.Names.{performed_named};
+    ghost use Rattle.lu_service.specs.Names.{names, IsNamed};
     ghost use Rattle.lu_mdt.specs.Lawful.{names_lawful};
 
     ghost kind = { MdtKind };
 
     ghost contents = { λ mdt. mdt };
 
-    ghost takes = { IsPerformed };
+    ghost takes = { IsNamed };
 
     ghost acts = { names };
 
@@ -56,7 +56,7 @@ impl Service for Mdt {
 
     ghost serves_names = { λ _. refl };
 
-    ghost performs_names = { λ _ op is. performed_named op is };
+    ghost performs_names = { λ _ _ is. is };
 
     fn apply(&mut self, alloc: Global, number: Txn, who: Who, op: &Op) -> Result<Answer, Memory> {
         self.tree.apply(alloc, number, who, op)

@@ -1,5 +1,5 @@
 ghost use Rattle.std.specs.Prelude.{◌+◌, ◌<◌, ◌≤◌};
-ghost use Rattle.lu_tree.specs.State.{IsPerformed};
+ghost use Rattle.lu_service.specs.Names.{IsNamed};
 
 use super::*;
 use lu_base::{Fid, Memory, Path, Txn, Who, read_path};
@@ -31,7 +31,7 @@ fn acts(
     op: &Op,
     wanted: &Answer,
 ) -> Result<(), Memory>
-    requires performed { IsPerformed op.now }
+    requires named { IsNamed op.now }
     requires above { mdt.old.last < 4294967296 + count }
     ensures { mdt.new.last ≤ 4294967296 + count }
 {

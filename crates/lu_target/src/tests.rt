@@ -1,6 +1,6 @@
 ghost use Rattle.std.specs.Prelude.{◌≡◌, true, IfOk, OnOk};
 ghost use Rattle.lu_base.specs.declared.ids.Who.{Who as SpecWho};
-ghost use Rattle.lu_tree.specs.State.{IsPerformed};
+ghost use Rattle.lu_service.specs.Names.{IsNamed};
 ghost use Rattle.lu_target.specs.Targets.{serves};
 
 use super::*;
@@ -47,7 +47,7 @@ fn path(alloc: Global, text: &[u8]) -> Result<Path, Memory> {
 }
 
 fn op(alloc: Global, verb: Verb, text: &[u8]) -> Result<Op, Memory>
-    ensures { IfOk result IsPerformed }
+    ensures { IfOk result IsNamed }
 {
     let path = path(alloc, text)?;
     match verb {
@@ -67,7 +67,7 @@ fn asked(
     op: Op,
 ) -> Result<Step, StepFault>
     requires slot { serves target.old who ≡ true }
-    requires performed { IsPerformed op }
+    requires performed { IsNamed op }
     ensures served { OnOk result ((other : SpecWho) → serves target.new other ≡ serves target.old other) }
 {
     let request = Request {

@@ -6,11 +6,12 @@ use Rattle.std.specs.Option.{unwrap_or}
 use Rattle.std.specs.declared.cmp.Ordering.{Ordering}
 use Rattle.lu_base.specs.declared.ids.Fid.{Fid}
 use Rattle.lu_machine.specs.declared.child.Child.{Child}
+use Rattle.lu_machine.specs.declared.child.Child.TheVariants.{Dir}
 use Rattle.lu_machine.specs.Entries.{without, place}
 use Rattle.lu_machine.specs.Name.{same_name}
 use Rattle.lu_machine.specs.Order.{IsOrdered}
-use Rattle.lu_machine.specs.Tree.{Tree, Directory, no_directory, same_fid, fid_cmp, directory, listing}
-use Rattle.lu_machine.specs.Change.{Change, Leads, Drops, MakesDir, Leaves, put_dir, put_name, new_directory, leave, change}
+use Rattle.lu_machine.specs.Tree.{Tree, Directory, Inode, no_directory, same_fid, fid_cmp, directory, listing}
+use Rattle.lu_machine.specs.Change.{Change, Leads, Drops, MakesDir, SetMode, Leaves, put_dir, put_file, put_name, new_directory, leave, change}
 use Rattle.lu_machine.specs.Effect.{without_name}
 use Rattle.lu_machine.proofs.Effects.{dir_put, listing_after}
 use Rattle.lu_machine.proofs.Keys.{Told, fid_tells}
@@ -46,6 +47,12 @@ module _ (t : Tree) (o : IsOrdered t) (d : Fid) where
       fid_set d (record { mode = w.mode; entries = without (same_name n) w.entries }) w t.dirs o.dirs h
       ∙ ap (λ (x : Directory). put_dir d (record { mode = x.mode; entries = without (same_name n) x.entries }) t.dirs) (sym (found w h))
 
+  pub moded : (m : ℕ) (w : Directory) → lookup (is_at (fid_cmp d)) t.dirs ≡ Some w → set_value (is_at (fid_cmp d)) t.dirs (record { mode = m; entries = w.entries }) ≡ (change t (SetMode (Dir d) m)).dirs
+  moded m w h = fid_set d (record { mode = m; entries = w.entries }) w t.dirs o.dirs h ∙ ap (λ (x : Directory). put_dir d (record { mode = m; entries = x.entries }) t.dirs) (sym (found w h))
+
+  pub moded_new : (m : ℕ) → lookup (is_at (fid_cmp d)) t.dirs ≡ None → insert_entry fid_cmp t.dirs d (record { mode = m; entries = [] }) ≡ (change t (SetMode (Dir d) m)).dirs
+  moded_new m h = fid_put d (record { mode = m; entries = [] }) t.dirs o.dirs ∙ ap (λ (x : Directory). put_dir d (record { mode = m; entries = x.entries }) t.dirs) (sym (not_found h))
+
   pub made : insert_entry fid_cmp t.dirs d new_directory ≡ (change t (MakesDir d)).dirs
   made = fid_put d new_directory t.dirs o.dirs
 
@@ -63,7 +70,7 @@ still_ordered t x ds o is same = subst IsOrdered (same ∙ ap (with_dirs t) (sym
 -- ---- what is made and leaves at once
 
 module _ {K A : Type 0} (same : K → K → Bool) (tells : (a b : K) → Told same a b) where
-  without_absent : (k : K) (es : List (K × A)) → lookup (same k) es ≡ None → without (same k) es ≡ es
+  pub without_absent : (k : K) (es : List (K × A)) → lookup (same k) es ≡ None → without (same k) es ≡ es
   without_absent k [] h = refl
   without_absent k (e ∷ es) h = by (same k e.0) h (without_absent k es)
     where
@@ -89,6 +96,12 @@ unmade t f h =
     own : Told same_fid f f → (if same_fid f f then new_directory else unwrap_or (lookup (same_fid f) t.dirs) no_directory).entries ≡ []
     own (inl q) = ap (λ v. (if v then new_directory else unwrap_or (lookup (same_fid f) t.dirs) no_directory).entries) q.0
     own (inr q) = absurd (q.1 refl)
+
+-- a file that is made and leaves at once
+pub unmade_file : (t : Tree) (f : Fid) (x : Inode) → lookup (same_fid f) t.files ≡ None → record t { files = without (same_fid f) (put_file f x t.files) } ≡ t
+unmade_file t f x h =
+    ap (λ fs. record t { files = without (same_fid f) (place fid_cmp f x fs) }) (without_absent same_fid fid_tells f t.files h)
+    ∙ ap (λ fs. record t { files = fs }) (without_place same_fid fid_tells fid_cmp f x t.files h)
 
 -- an inode that was made has no names
 pub made_empty : (t : Tree) (f : Fid) → listing (change t (MakesDir f)) f ≡ []

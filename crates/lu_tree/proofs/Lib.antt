@@ -4,3 +4,13 @@ pub mod Views
 pub mod Reached
 pub mod RowEnds
 pub mod Lean
+pub mod Entries
+pub mod Named
+pub mod FileMaps
+pub mod Living
+pub mod Layouts
+pub mod Swap
+pub mod TwoWalks
+pub mod Replaced
+pub mod Used
+pub mod Sound

@@ -1,6 +1,5 @@
 -- What the rows come to, by where the walks come to.
-use Rattle.std.proofs.Common.{◌≡◌, ℕ, List, [], ◌∷◌, ◌++◌, ◌⊎◌, inl, inr, Option, Result, refl, sym, ap, ◌∙◌, append-nil}
-use Rattle.std.specs.declared.result.Result.TheVariants.{Ok, Err}
+use Rattle.std.proofs.Common.{◌≡◌, ℕ, List, [], ◌∷◌, ◌++◌, Option, Result, sym, ap, ◌∙◌}
 use Rattle.lu_base.specs.declared.ids.Fid.{Fid}
 use Rattle.lu_msg.specs.declared.answers.Errno.{Errno}
 use Rattle.lu_machine.specs.declared.child.Child.{Child}
@@ -34,32 +33,3 @@ last_row_looks t e path front m r next is at =
 pub whole_row_looks : (t : Tree) (path : List (List ℕ)) (r : Result Child Errno) (next : List Child → Plan) → r ≡ reach t root path
     → looked t (walk root path next) ≡ looks t root path ++ seen_from r (λ c. looked t (next (trail t root path)))
 whole_row_looks t path r next at = walk_looks t root path next ∙ ap (λ q. looks t root path ++ seen_from q (λ c. looked t (next (trail t root path)))) (sym at)
-
--- ---- paths
-
-snoc : (path : List (List ℕ)) → (path ≡ []) ⊎ ((front : List (List ℕ)) × (m : List ℕ) × (path ≡ front ++ m ∷ []))
-snoc [] = inl refl
-snoc (n ∷ ns) = inr (by (snoc ns))
-  where
-    by : (ns ≡ []) ⊎ ((front : List (List ℕ)) × (m : List ℕ) × (ns ≡ front ++ m ∷ [])) → (front : List (List ℕ)) × (m : List ℕ) × (n ∷ ns ≡ front ++ m ∷ [])
-    by (inl e) = ([], n, ap (λ xs. n ∷ xs) e)
-    by (inr h) = (n ∷ h.0, h.1, ap (λ xs. n ∷ xs) h.2)
-
--- a row that looks at nothing after the last name looks at the names alone
-pub last_row_only : (t : Tree) (e : Errno) (path : List (List ℕ)) (next : Last) → ((cs : List Child) (d : Fid) (m : List ℕ) (o : Option Child) → looked t (next cs d m o) ≡ []) → looked t (to_last e path next) ≡ looks t root path
-last_row_only t e path next h = by (snoc path)
-  where
-    none : (front : List (List ℕ)) (m : List ℕ) (r : Result Found Errno) → seen_from r (λ x. looked t (next (trail t root front) x.dir m x.child)) ≡ []
-    none front m (Err e) = refl
-    none front m (Ok x) = h (trail t root front) x.dir m x.child
-
-    by : (path ≡ []) ⊎ ((front : List (List ℕ)) × (m : List ℕ) × (path ≡ front ++ m ∷ [])) → looked t (to_last e path next) ≡ looks t root path
-    by (inl is) = ap (λ p. looked t (to_last e p next)) is ∙ sym (ap (looks t root) is)
-    by (inr s) = last_row_looks t e path s.0 s.1 (find_last t root s.0 s.1) next s.2 refl ∙ ap (λ ps. looks t root path ++ ps) (none s.0 s.1 (find_last t root s.0 s.1)) ∙ append-nil (looks t root path)
-
-pub whole_row_only : (t : Tree) (path : List (List ℕ)) (next : List Child → Plan) → ((cs : List Child) → looked t (next cs) ≡ []) → looked t (walk root path next) ≡ looks t root path
-whole_row_only t path next h = whole_row_looks t path (reach t root path) next refl ∙ ap (λ ps. looks t root path ++ ps) (none (reach t root path)) ∙ append-nil (looks t root path)
-  where
-    none : (r : Result Child Errno) → seen_from r (λ c. looked t (next (trail t root path))) ≡ []
-    none (Err e) = refl
-    none (Ok c) = h (trail t root path)

@@ -1,3 +1,5 @@
 pub mod Walks
 pub mod State
 pub mod Ends
+pub mod Rows
+pub mod Lives

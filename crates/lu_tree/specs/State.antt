@@ -1,16 +1,17 @@
 -- What a tree of the program shows.
 use Rattle.std.specs.Prelude.{◌≡◌, ℕ, ◌<◌, ◌≤◌, List, Some, None, if◌then◌else◌}
+use Rattle.std.specs.List.{AllByRecursion}
 use Rattle.std.specs.Map.{lookup}
 use Rattle.lu_base.specs.declared.ids.Fid.{Fid}
 use Rattle.lu_base.specs.declared.ids.Txn.{Txn}
 use Rattle.lu_base.specs.declared.ids.Who.{Who}
 use Rattle.lu_msg.specs.declared.operations.Op.{Op}
-use Rattle.lu_msg.specs.declared.operations.Op.TheVariants as op
 use Rattle.lu_machine.specs.declared.child.Child.{Child}
-use Rattle.lu_machine.specs.Tree.{Tree, same_fid, fid_of, child}
+use Rattle.lu_machine.specs.Tree.{Tree, Inode, same_fid, fid_of, file, child}
 use Rattle.lu_machine.specs.Footprint.{Operation, empty, changes, after, forget}
 use Rattle.lu_machine.specs.Order.{IsOrdered}
 use Rattle.lu_machine.specs.Trim.{trim}
+use Rattle.lu_machine.proofs.Count.{named}
 
 -- the number of object storage targets, the greatest number that was used (that of the root at first), and
 -- the directories, files and opens
@@ -40,21 +41,26 @@ performed s a =
 abbrev pub forgotten : TreeState → Who → TreeState
 forgotten s who = record s { tree = trim (forget s.tree who) }
 
--- the operations that the program performs
-abbrev pub IsPerformed : Op → Type 0
-IsPerformed (op.Lookup path) = Unit {0}
-IsPerformed (op.Mkdir path) = Unit {0}
-IsPerformed (op.Rmdir path) = Unit {0}
-IsPerformed _ = ⊥
+-- a file has at least as many links as names lead to it
+abbrev pub IsCounted : Tree → Type 0
+IsCounted t = (f : Fid) → named f t.dirs ≤ (file t f).links
+
+-- its number is used, and it has no more links than numbers were
+abbrev pub HasUsed : ℕ → Fid × Inode → Type 0
+HasUsed last e = (e.0.0 ≤ last) × (e.1.links ≤ last)
 
 -- no number above the last one is used
 pub record IsUsed (last : ℕ) (t : Tree) : Type 0 where
   pub root : 1 ≤ last
   pub dirs : (f : Fid) → last < f.0 → lookup (same_fid f) t.dirs ≡ None
+  pub files : AllByRecursion (HasUsed last) t.files
   pub names : (d : Fid) (n : List ℕ) (c : Child) → child t d n ≡ Some c → (fid_of c).0 ≤ last
 
 -- what holds of every tree of the program
 pub record IsSound (s : TreeState) : Type 0 where
+  pub some : 1 ≤ s.osts
+  pub most : s.osts ≤ 8
   pub ordered : IsOrdered s.tree
   pub used : IsUsed s.last s.tree
+  pub counted : IsCounted s.tree
   pub lean : trim s.tree ≡ s.tree

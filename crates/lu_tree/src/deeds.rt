@@ -1,20 +1,24 @@
 //! What the operations do to the inodes.
 
-ghost use Rattle.std.specs.Prelude.{◌≡◌, true, None, OnOk, OnErr};
+ghost use Rattle.std.specs.Prelude.{◌≡◌, ◌+◌, ◌-◌, ◌<◌, ◌≤◌, true, false, None, Some, [], ◌∷◌, OnOk, OnErr};
 ghost use Rattle.std.specs.Map.{lookup};
-ghost use Rattle.lu_base.specs.declared.ids.Txn.{Txn as SpecTxn};
-ghost use Rattle.lu_base.specs.declared.ids.Who.{Who as SpecWho};
 ghost use Rattle.lu_machine.specs.Footprint.{is_some_change};
-ghost use Rattle.lu_machine.specs.Tree.{same_fid};
-ghost use Rattle.lu_machine.specs.Change.{changed};
+ghost use Rattle.lu_machine.specs.Tree.{child, file as file_of, listing, same_fid};
+ghost use Rattle.lu_machine.specs.Change.{Drops, Leads, Leaves, MakesDir, MakesFile, Parted, SetLinks, change, changed};
+ghost use Rattle.lu_machine.proofs.Leads.{here};
+ghost use Rattle.lu_machine.specs.Order.{IsOrdered};
+ghost use Rattle.lu_machine.specs.declared.child.Child.TheVariants.{Dir as SpecDir, File as SpecFile};
 ghost use Rattle.lu_machine.specs.Table.{made_by};
 ghost use Rattle.lu_machine.specs.Trim.{trim};
-ghost use Rattle.lu_tree.specs.Ends.{changes_of, Seen};
-ghost use Rattle.lu_tree.specs.declared.ends.End.TheVariants.{Makes, Removes};
+ghost use Rattle.lu_tree.specs.Ends.{changes_of, leaving, MayLeave, Seen, IsFresh};
+ghost use Rattle.lu_tree.specs.Lives.{IsThere};
+ghost use Rattle.lu_tree.specs.State.{IsCounted};
 
-use super::ends::End;
+use super::ends::{End, Place};
 use super::inodes::Inodes;
+use super::striping::striped;
 use lu_base::{Duplicate, Fid, Memory, Name, Txn, Who};
+use lu_layout::Layout;
 use lu_machine::Child;
 use std::alloc::Global;
 
@@ -22,7 +26,7 @@ impl Inodes {
     /// Makes a directory of this number, to which the name leads. After want of memory nothing has changed.
     fn make(&mut self, alloc: Global, number: Txn, dir: Fid, name: &Name) -> Result<(), Memory>
         requires unused { lookup (same_fid (made_by number)) self.old.dirs ≡ None }
-        ensures made { (who : SpecWho) → OnOk result (self.new ≡ changed self.old (changes_of number who (Makes dir name.entry))) }
+        ensures made { OnOk result (self.new ≡ changed self.old (MakesDir (made_by number) ∷ Leads dir name.now (SpecDir (made_by number)) ∷ [])) }
         ensures kept { OnErr result (self.new ≡ self.old) }
     {
         let made = Fid(number.0);
@@ -35,37 +39,157 @@ impl Inodes {
         Ok(())
     }
 
+    /// Makes a file of this number, to which the name leads. After want of memory nothing has changed.
+    fn create(
+        &mut self,
+        alloc: Global,
+        number: Txn,
+        dir: Fid,
+        name: &Name,
+        layout: Layout,
+    ) -> Result<(), Memory>
+        requires unused { lookup (same_fid (made_by number)) self.old.files ≡ None }
+        ensures made { OnOk result (self.new ≡ changed self.old (MakesFile (made_by number) layout ∷ Leads dir name.now (SpecFile (made_by number)) ∷ [])) }
+        ensures kept { OnErr result (self.new ≡ self.old) }
+    {
+        let made = Fid(number.0);
+        let name = name.copy(alloc)?;
+        self.make_file(made, layout)?;
+        if let Err(error) = self.lead(alloc, dir, name, Child::File(made)) {
+            self.drop_file(made);
+            return Err(error);
+        }
+        Ok(())
+    }
+
+    /// Makes the name lead to a file that is there. After want of memory nothing has changed.
+    fn link(&mut self, alloc: Global, dir: Fid, name: &Name, file: Fid) -> Result<(), Memory>
+        requires there { IsThere self.old (SpecFile file) }
+        requires room { (file_of self.old file).links < 18446744073709551615 }
+        ensures linked { OnOk result (self.new ≡ changed self.old (Leads dir name.now (SpecFile file) ∷ SetLinks file ((file_of self.old file).links + 1) ∷ [])) }
+        ensures kept { OnErr result (self.new ≡ self.old) }
+    {
+        let links = self.links(file) + 1;
+        let name = name.copy(alloc)?;
+        self.lead(alloc, dir, name, Child::File(file))?;
+        self.set_links(file, links);
+        Ok(())
+    }
+
+    /// Takes the name out, and the file to which it leads if it has neither another name nor an open.
+    fn unlink(&mut self, dir: Fid, name: &Name, file: Fid)
+        requires named { child self.old dir name.now ≡ Some (SpecFile file) }
+        requires there { IsThere self.old (SpecFile file) }
+        requires lean { trim self.old ≡ self.old }
+        ensures gone { self.new ≡ trim (changed self.old (Drops dir name.now ∷ Parted file ∷ SetLinks file ((file_of self.old file).links - 1) ∷ [])) }
+    {
+        let links = self.links(file).saturating_sub(1);
+        self.unlead(dir, name);
+        self.set_links(file, links);
+        self.bury(file);
+    }
+
     /// Takes the name out, and the empty directory to which it leads.
     fn remove(&mut self, dir: Fid, name: &Name, gone: Fid)
-        requires seen { Seen self.old (Removes dir name gone) }
-        ensures gone { (number : SpecTxn) (who : SpecWho) → self.new ≡ changed self.old (changes_of number who (Removes dir name.entry gone)) }
+        requires named { child self.old dir name.now ≡ Some (SpecDir gone) }
+        requires empty { listing self.old gone ≡ [] }
+        ensures gone { self.new ≡ changed self.old (Drops dir name.now ∷ Parted gone ∷ Leaves gone ∷ []) }
     {
         self.unlead(dir, name);
         self.leave(gone);
     }
 
-    /// Does what an operation of a life comes to, as transaction `number`. After want of memory nothing has
-    /// changed.
+    /// Makes the new name lead to this in place of the old one. After want of memory nothing has changed.
+    fn move_name(
+        &mut self,
+        alloc: Global,
+        old: Place<'_>,
+        moved: Child,
+        new: Place<'_>,
+    ) -> Result<(), Memory>
+        requires ordered { IsOrdered self.old }
+        requires named { child self.old old.dir old.name.now ≡ Some moved }
+        requires other { here new.dir new.name.now old.dir old.name.now ≡ false }
+        ensures moved { OnOk result (self.new ≡ changed self.old (Drops old.entry.dir old.entry.name.now ∷ Leads new.entry.dir new.entry.name.now moved ∷ [])) }
+        ensures kept { OnErr result (self.new ≡ self.old) }
+    {
+        let name = new.name.copy(alloc)?;
+        self.lead(alloc, new.dir, name, moved)?;
+        self.unlead(old.dir, old.name);
+        Ok(())
+    }
+
+    /// Takes an empty directory out that has lost its name, or a link of a file, and the file if it has neither
+    /// another name nor an open.
+    fn lose(&mut self, gone: Child)
+        requires there { IsThere self.old gone }
+        requires empty { MayLeave self.old gone }
+        requires lean { trim self.old ≡ self.old }
+        ensures gone { self.new ≡ trim (change self.old (leaving self.old gone)) }
+    {
+        match gone {
+            Child::Dir(dir) => self.leave(dir),
+            Child::File(file) => {
+                let links = self.links(file).saturating_sub(1);
+                self.set_links(file, links);
+                self.bury(file);
+            }
+        }
+    }
+
+    /// Does what an operation of a life comes to, as transaction `number`, over this many object storage
+    /// targets. After want of memory nothing has changed.
     pub(crate) fn perform(
         &mut self,
         alloc: Global,
+        osts: u16,
         number: Txn,
-        _who: Who,
+        who: Who,
         end: End<'_>,
     ) -> Result<(), Memory>
+        requires some { 1 ≤ osts }
+        requires most { osts ≤ 8 }
+        requires ordered { IsOrdered self.old }
         requires lean { trim self.old ≡ self.old }
-        requires unused { is_some_change (changes_of number _who end) ≡ true → lookup (same_fid (made_by number)) self.old.dirs ≡ None }
-        requires seen { Seen self.old end }
-        ensures done { OnOk result (self.new ≡ trim (changed self.old (changes_of number _who end.entry))) }
+        requires counted { IsCounted self.old }
+        requires fresh { is_some_change (changes_of osts self.old number who end) ≡ true → IsFresh self.old number }
+        requires seen { Seen osts self.old end }
+        ensures done { OnOk result (self.new ≡ trim (changed self.old (changes_of osts self.old number who end.entry))) }
         ensures kept { OnErr result (self.new ≡ self.old) }
     {
         match end {
-            End::Refused(_) | End::Finds(_) => Ok(()),
             End::Makes(dir, name) => self.make(alloc, number, dir, name),
+            End::Creates {
+                dir,
+                name,
+                size,
+                count,
+            } => {
+                let layout = striped(osts, number, size, count);
+                self.create(alloc, number, dir, name, layout)
+            }
+            End::Links { dir, name, file } => self.link(alloc, dir, name, file),
+            End::Unlinks { dir, name, file } => {
+                self.unlink(dir, name, file);
+                Ok(())
+            }
+            End::Moves(old, moved, new) => self.move_name(alloc, old, moved, new),
+            End::Replaces(old, moved, new, gone) => {
+                self.move_name(alloc, old, moved, new)?;
+                self.lose(gone);
+                Ok(())
+            }
+            End::SetsMode(child, mode) => self.set_mode(alloc, child, mode),
+            End::OpensFile(fid) => self.open(number, who, fid),
+            End::ClosesFile(opened, fid) => {
+                self.close(opened, who, fid);
+                Ok(())
+            }
             End::Removes(dir, name, gone) => {
                 self.remove(dir, name, gone);
                 Ok(())
             }
+            _ => Ok(()),
         }
     }
 }

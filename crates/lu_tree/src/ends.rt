@@ -1,142 +1,117 @@
 //! Where an operation comes to in the table.
 
-ghost use Rattle.std.specs.Prelude.{◌≡◌, ℕ, [], Some, if◌then◌else◌};
+ghost use Rattle.std.specs.Prelude.{◌≡◌, ℕ, if◌then◌else◌};
 ghost use Rattle.lu_base.specs.declared.ids.Txn.{Txn as SpecTxn};
 ghost use Rattle.lu_base.specs.declared.ids.Who.{Who as SpecWho};
-ghost use Rattle.lu_msg.specs.declared.operations.Op.TheVariants as op;
-ghost use Rattle.lu_machine.specs.Plan.{outcome};
-ghost use Rattle.lu_machine.specs.Table.{root, wants, row_rmdir};
-ghost use Rattle.lu_machine.specs.Tree.{child};
-ghost use Rattle.lu_machine.specs.Footprint.{outcome_of, is_some_change};
-ghost use Rattle.lu_tree.specs.Ends.{ended, told_of, changes_of, wants_of, Seen};
-ghost use Rattle.lu_tree.specs.State.{asked, IsPerformed};
-ghost use Rattle.lu_tree.specs.Walks.{trail};
+ghost use Rattle.lu_machine.specs.Tree.{Tree};
+ghost use Rattle.lu_machine.specs.Footprint.{is_some_change};
+ghost use Rattle.lu_tree.specs.Ends.{changes_of, bits_of};
 
-use super::inodes::Inodes;
-use super::walks::Found;
 use lu_base::{Fid, Name, Txn};
 use lu_machine::Child;
-use lu_msg::{Answer, Errno, Op};
+use lu_msg::Errno;
+use lu_part::{LAYOUT, UPDATE};
+
+/// A name of a directory.
+#[derive(Clone, Copy)]
+pub(crate) struct Place<'a> {
+    pub(crate) dir: Fid,
+    pub(crate) name: &'a Name,
+}
 
 /// One case for each row's end.
 #[derive(Clone, Copy)]
 pub(crate) enum End<'a> {
     /// It is refused.
     Refused(Errno),
+    /// It is refused, since this directory has names.
+    NotEmpty(Fid),
     /// A look-up tells this.
     Finds(Child),
+    /// The attributes of this are told, and of a file the layout.
+    Stats(Child),
+    /// The names in this directory are told.
+    Lists(Fid),
+    /// The layout of this file is told.
+    Shows(Fid),
     /// A directory is made, to which this name of this directory leads.
     Makes(Fid, &'a Name),
+    /// A file with this stripe size, in bytes, and so many stripes is made, to which this name of this directory
+    /// leads.
+    Creates {
+        dir: Fid,
+        name: &'a Name,
+        size: u64,
+        count: u64,
+    },
+    /// This name of this directory is made lead to this file, which has a name.
+    Links {
+        dir: Fid,
+        name: &'a Name,
+        file: Fid,
+    },
+    /// This name of this directory goes, which leads to this file.
+    Unlinks {
+        dir: Fid,
+        name: &'a Name,
+        file: Fid,
+    },
     /// This name of this directory goes, and the empty directory to which it leads.
     Removes(Fid, &'a Name, Fid),
+    /// Both names lead to one inode, which is as before.
+    Same,
+    /// The name goes, and this, to which it leads, gets the free name.
+    Moves(Place<'a>, Child, Place<'a>),
+    /// The name goes, and this, to which it leads, gets the name that leads to that.
+    Replaces(Place<'a>, Child, Place<'a>, Child),
+    /// This gets this mode.
+    SetsMode(Child, u16),
+    /// This has the mode already.
+    KeepsMode(Child),
+    /// This file is opened.
+    OpensFile(Fid),
+    /// The open that this transaction made is closed. It is said to be of this file.
+    ClosesFile(Txn, Fid),
 }
 
 /// Whether it makes a transaction.
 pub(crate) fn changes(end: End<'_>) -> bool
-    ensures { (number : SpecTxn) (who : SpecWho) → result ≡ is_some_change (changes_of number who end.entry) }
+    ensures { (osts : ℕ) (t : Tree) (number : SpecTxn) (who : SpecWho) → result ≡ is_some_change (changes_of osts t number who end.entry) }
 {
     match end {
-        End::Refused(_) | End::Finds(_) => false,
-        End::Makes(_, _) | End::Removes(_, _, _) => true,
+        End::Makes(_, _) => true,
+        End::Creates { .. } => true,
+        End::Links { .. } => true,
+        End::Unlinks { .. } => true,
+        End::Removes(_, _, _) => true,
+        End::Moves(_, _, _) => true,
+        End::Replaces(_, _, _, _) => true,
+        End::SetsMode(_, _) => true,
+        End::OpensFile(_) => true,
+        End::ClosesFile(_, _) => true,
+        _ => false,
     }
 }
 
 /// The greatest number that was used once it is done, where `last` was it before.
 pub(crate) fn last_used(last: u64, number: Txn, end: End<'_>) -> u64
-    ensures { (who : SpecWho) → result ≡ (if is_some_change (changes_of number who end.entry) then number.0 else last) }
+    ensures { (osts : ℕ) (t : Tree) (who : SpecWho) → result ≡ (if is_some_change (changes_of osts t number who end.entry) then number.0 else last) }
 {
     if changes(end) { number.0 } else { last }
 }
 
-/// What is answered.
-pub(crate) fn answer(number: Txn, end: End<'_>) -> Answer
-    ensures { result ≡ told_of number end.entry }
+/// The bits, besides LOOKUP, that a reading is granted on the last inode of its walk, none where it gets no locks.
+pub(crate) fn bits(end: End<'_>) -> Option<u8>
+    ensures { result ≡ bits_of end.entry }
 {
     match end {
-        End::Refused(errno) => Answer::Refused(errno),
-        End::Finds(child) => match child {
-            Child::Dir(fid) => Answer::Dir(fid),
-            Child::File(fid) => Answer::File(fid),
+        End::Finds(_) => Some(0),
+        End::Stats(child) => match child {
+            Child::Dir(_) => Some(UPDATE),
+            Child::File(_) => Some(UPDATE + LAYOUT),
         },
-        End::Makes(_, _) => Answer::Made(Fid(number.0)),
-        End::Removes(_, _, _) => Answer::Done,
-    }
-}
-
-impl Inodes {
-    /// The end of a `lookup`.
-    pub(crate) fn lookup_end<'a>(&self, path: &'a [Name]) -> End<'a>
-        ensures ends { (osts : ℕ) (number : SpecTxn) (who : SpecWho) → outcome_of osts self.now (asked number who (op.Lookup path.now)) ≡ ended number who (wants 0 (trail self.now root path.now)) result }
-        ensures seen { Seen self.now result }
-    {
-        match self.reach(path) {
-            Err(errno) => End::Refused(errno),
-            Ok(child) => End::Finds(child),
-        }
-    }
-
-    /// The end of a `mkdir`.
-    pub(crate) fn mkdir_end<'a>(&self, path: &'a [Name]) -> End<'a>
-        ensures ends { (osts : ℕ) (number : SpecTxn) (who : SpecWho) → outcome_of osts self.now (asked number who (op.Mkdir path.now)) ≡ ended number who [] result }
-        ensures seen { Seen self.now result }
-    {
-        let Some((name, front)) = path.split_last() else {
-            return End::Refused(Errno::EEXIST);
-        };
-        match self.find_last(front, name) {
-            Err(errno) => End::Refused(errno),
-            Ok(Found { dir, child }) => match child {
-                None => End::Makes(dir, name),
-                Some(_) => End::Refused(Errno::EEXIST),
-            },
-        }
-    }
-
-    /// The end of a `rmdir` of what this name leads to.
-    fn rmdir_row<'a>(&self, dir: Fid, name: &'a Name, found: Child) -> End<'a>
-        ensures ends { (number : SpecTxn) (who : SpecWho) → outcome self.now (row_rmdir dir name.now found) ≡ ended number who [] result }
-        ensures seen { child self.now dir name.now ≡ Some found → Seen self.now result }
-    {
-        match found {
-            Child::File(_) => End::Refused(Errno::ENOTDIR),
-            Child::Dir(gone) => {
-                if self.is_empty(gone) {
-                    End::Removes(dir, name, gone)
-                } else {
-                    End::Refused(Errno::ENOTEMPTY)
-                }
-            }
-        }
-    }
-
-    /// The end of a `rmdir`.
-    pub(crate) fn rmdir_end<'a>(&self, path: &'a [Name]) -> End<'a>
-        ensures ends { (osts : ℕ) (number : SpecTxn) (who : SpecWho) → outcome_of osts self.now (asked number who (op.Rmdir path.now)) ≡ ended number who [] result }
-        ensures seen { Seen self.now result }
-    {
-        let Some((name, front)) = path.split_last() else {
-            return End::Refused(Errno::EBUSY);
-        };
-        match self.find_last(front, name) {
-            Err(errno) => End::Refused(errno),
-            Ok(Found { dir, child }) => match child {
-                None => End::Refused(Errno::ENOENT),
-                Some(found) => self.rmdir_row(dir, name, found),
-            },
-        }
-    }
-
-    /// Where an operation comes to.
-    pub(crate) fn end<'a>(&self, op: &'a Op) -> End<'a>
-        requires { IsPerformed op.now }
-        ensures ends { (osts : ℕ) (number : SpecTxn) (who : SpecWho) → outcome_of osts self.now (asked number who op.now) ≡ ended number who (wants_of self.now op.now) result }
-        ensures seen { Seen self.now result }
-    {
-        match op {
-            Op::Lookup(path) => self.lookup_end(path.as_slice()),
-            Op::Mkdir(path) => self.mkdir_end(path.as_slice()),
-            Op::Rmdir(path) => self.rmdir_end(path.as_slice()),
-            _ => unreachable!(),
-        }
+        End::Lists(_) => Some(UPDATE),
+        End::Shows(_) => Some(LAYOUT),
+        _ => None,
     }
 }

@@ -1,13 +1,13 @@
 //! A directory as the program has it.
 
-ghost use Rattle.std.specs.Prelude.{◌≡◌, [], IsTrue, ◌↔◌, OnOk, OnErr};
-ghost use Rattle.std.specs.Map.{lookup};
+ghost use Rattle.std.specs.Prelude.{◌≡◌, [], IsTrue, ◌↔◌, IfOk, OnOk, OnErr};
+ghost use Rattle.std.specs.Map.{keys_of, lookup};
 ghost use Rattle.lu_machine.specs.Name.{same_name};
 ghost use Rattle.lu_machine.specs.Entries.{without};
 ghost use Rattle.lu_machine.specs.Tree.{no_directory};
 ghost use Rattle.lu_machine.specs.Change.{new_directory, put_name};
 
-use lu_base::{Memory, Name};
+use lu_base::{Duplicate, Memory, Name, Names};
 use lu_machine::Child;
 use std::alloc::Global;
 use std::collections::BTreeMap;
@@ -68,6 +68,31 @@ impl Folder {
         ensures empty { IsTrue result ↔ (self.now.entries ≡ []) }
     {
         self.entries.is_empty()
+    }
+
+    /// The names, in the order of their bytes.
+    pub(crate) fn names(&self, alloc: Global) -> Result<Names, Memory>
+        ensures names { IfOk result (λ names. names ≡ keys_of self.now.entries) }
+    {
+        let mut names = Names::new(alloc);
+        for name in self.entries.keys() {
+            names.push(name.copy(alloc)?)?;
+        }
+        Ok(names)
+    }
+
+    /// Its mode.
+    pub(crate) fn mode(&self) -> u16
+        ensures { result ≡ self.now.mode }
+    {
+        self.mode
+    }
+
+    /// Sets its mode.
+    pub(crate) fn set_mode(&mut self, mode: u16)
+        ensures set { self.new ≡ record self.old { mode = mode } }
+    {
+        self.mode = mode;
     }
 
     /// Makes the name lead there. After want of memory nothing has changed.

@@ -1,16 +1,21 @@
 //! The inodes, found by map.
 
 ghost use Rattle.std.specs.Prelude.{◌≡◌, [], List, IsTrue, ◌↔◌, IsSome, IfOk, OnOk, OnErr};
-ghost use Rattle.lu_machine.specs.Entries.{without};
-ghost use Rattle.lu_machine.specs.Tree.{same_fid, child, listing};
-ghost use Rattle.lu_machine.specs.Change.{Leads, Drops, MakesDir, Leaves, change};
+ghost use Rattle.std.specs.Map.{lookup};
+ghost use Rattle.lu_machine.specs.declared.child.Child.TheVariants.{Dir as SpecDir, File as SpecFile};
+ghost use Rattle.lu_machine.specs.Tree.{same_fid, attributes, child, directory, file, layout, listing};
+ghost use Rattle.lu_machine.specs.Change.{Leads, Drops, MakesDir, MakesFile, SetLinks, SetMode, Leaves, Opens, Closes, change};
 ghost use Rattle.lu_machine.specs.Footprint.{empty, forget};
 ghost use Rattle.lu_machine.specs.Trim.{trim};
+ghost use Rattle.lu_tree.specs.Ends.{IsReached};
+ghost use Rattle.lu_tree.specs.Lives.{AreOthersLiving, IsThere, is_dead, opens_only, without_file};
+ghost use Rattle.lu_tree.specs.State.{IsCounted};
 
 use super::files::{FileNode, OpenFile, is_open};
 use super::folders::Folder;
 use super::walks::ROOT;
-use lu_base::{Fid, Memory, Name, Who};
+use lu_base::{Fid, Memory, Name, Names, Txn, Who};
+use lu_layout::Layout;
 use lu_machine::Child;
 use std::alloc::Global;
 use std::collections::BTreeMap;
@@ -66,6 +71,68 @@ impl Inodes {
         }
     }
 
+    /// The names in the directory, none where it isn't there.
+    pub(crate) fn names(&self, alloc: Global, dir: Fid) -> Result<Names, Memory>
+        ensures names { IfOk result (λ names. names ≡ listing self.now dir) }
+    {
+        match self.dirs.get(&dir) {
+            Some(folder) => folder.names(alloc),
+            None => Ok(Names::new(alloc)),
+        }
+    }
+
+    /// The mode of the directory, 0 where it isn't there.
+    pub(crate) fn dir_mode(&self, dir: Fid) -> u16
+        ensures mode { result ≡ (directory self.now dir).mode }
+    {
+        match self.dirs.get(&dir) {
+            Some(folder) => folder.mode(),
+            None => 0,
+        }
+    }
+
+    /// The mode of the file, 0 where it isn't there.
+    pub(crate) fn file_mode(&self, fid: Fid) -> u16
+        ensures mode { result ≡ (file self.now fid).mode }
+    {
+        match self.files.get(&fid) {
+            Some(file) => file.mode(),
+            None => 0,
+        }
+    }
+
+    /// The mode of an inode, 0 where it isn't there.
+    pub(crate) fn mode(&self, child: Child) -> u16
+        ensures mode { result ≡ (attributes self.now child).mode }
+    {
+        match child {
+            Child::Dir(fid) => self.dir_mode(fid),
+            Child::File(fid) => self.file_mode(fid),
+        }
+    }
+
+    /// How many names lead to the file, 0 where it isn't there.
+    pub(crate) fn links(&self, fid: Fid) -> u64
+        ensures links { result ≡ (file self.now fid).links }
+    {
+        match self.files.get(&fid) {
+            Some(file) => file.links(),
+            None => 0,
+        }
+    }
+
+    /// The layout of a file that has a name.
+    pub(crate) fn layout(&self, fid: Fid) -> Layout
+        requires counted { IsCounted self.now }
+        requires reached { IsReached self.now (SpecFile fid) }
+        ensures layout { result ≡ layout self.now fid }
+    {
+        let Some(file) = self.files.get(&fid) else {
+            unreachable!();
+        };
+        file.layout()
+    }
+
     /// Makes the name lead there. A directory that isn't there comes to be with mode 0, as the tree has it.
     /// After want of memory nothing has changed.
     pub(crate) fn lead(
@@ -115,6 +182,138 @@ impl Inodes {
         ensures gone { self.new ≡ change self.old (Leaves dir) }
     {
         self.dirs.remove(&dir);
+    }
+
+    /// Makes a file with one link. After want of memory nothing has changed.
+    pub(crate) fn make_file(&mut self, fid: Fid, layout: Layout) -> Result<(), Memory>
+        ensures made { OnOk result (self.new ≡ change self.old (MakesFile fid layout)) }
+        ensures kept { OnErr result (self.new ≡ self.old) }
+    {
+        self.files.insert(fid, FileNode::new(layout))?;
+        Ok(())
+    }
+
+    /// Sets how many names lead to a file that is there.
+    pub(crate) fn set_links(&mut self, fid: Fid, links: u64)
+        requires there { IsSome (lookup (same_fid fid) self.old.files) }
+        ensures set { self.new ≡ change self.old (SetLinks fid links) }
+    {
+        let Some(file) = self.files.get_mut(&fid) else {
+            unreachable!();
+        };
+        file.set_links(links);
+    }
+
+    /// Sets the mode of a file that is there.
+    fn set_file_mode(&mut self, fid: Fid, mode: u16)
+        requires there { IsSome (lookup (same_fid fid) self.old.files) }
+        ensures set { self.new ≡ change self.old (SetMode (SpecFile fid) mode) }
+    {
+        let Some(file) = self.files.get_mut(&fid) else {
+            unreachable!();
+        };
+        file.set_mode(mode);
+    }
+
+    /// Sets the mode of a directory. One that isn't there comes to be without names, as the tree has it. After
+    /// want of memory nothing has changed.
+    fn set_dir_mode(&mut self, alloc: Global, dir: Fid, mode: u16) -> Result<(), Memory>
+        ensures set { OnOk result (self.new ≡ change self.old (SetMode (SpecDir dir) mode)) }
+        ensures kept { OnErr result (self.new ≡ self.old) }
+    {
+        match self.dirs.get_mut(&dir) {
+            Some(folder) => {
+                folder.set_mode(mode);
+                Ok(())
+            }
+            None => {
+                let mut folder = Folder::bare(alloc);
+                folder.set_mode(mode);
+                self.dirs.insert(dir, folder)?;
+                Ok(())
+            }
+        }
+    }
+
+    /// Sets the mode of an inode that is there. After want of memory nothing has changed.
+    pub(crate) fn set_mode(&mut self, alloc: Global, child: Child, mode: u16) -> Result<(), Memory>
+        requires there { IsThere self.old child }
+        ensures set { OnOk result (self.new ≡ change self.old (SetMode child mode)) }
+        ensures kept { OnErr result (self.new ≡ self.old) }
+    {
+        match child {
+            Child::Dir(dir) => self.set_dir_mode(alloc, dir, mode),
+            Child::File(file) => {
+                self.set_file_mode(file, mode);
+                Ok(())
+            }
+        }
+    }
+
+    /// Takes a file out.
+    pub(crate) fn drop_file(&mut self, fid: Fid)
+        ensures gone { self.new ≡ without_file self.old fid }
+    {
+        self.files.remove(&fid);
+    }
+
+    /// Adds an open. After want of memory nothing has changed.
+    pub(crate) fn open(&mut self, number: Txn, who: Who, fid: Fid) -> Result<(), Memory>
+        ensures opened { OnOk result (self.new ≡ change self.old (Opens number who fid)) }
+        ensures kept { OnErr result (self.new ≡ self.old) }
+    {
+        self.opens.push(OpenFile::new(number, who, fid))?;
+        Ok(())
+    }
+
+    /// Whether each open that this transaction made, as this life asked for it, is of the file.
+    fn opens_only(&self, number: Txn, who: Who, fid: Fid) -> bool
+        ensures only { result ≡ opens_only number who fid self.now.opens }
+    {
+        self.opens
+            .iter()
+            .all(|open| !open.is_made(number, who) || open.is_of(fid))
+    }
+
+    /// Takes out the open that this transaction made, as this life asked for it.
+    fn drop_open(&mut self, number: Txn, who: Who)
+        ensures gone { self.new ≡ change self.old (Closes number who) }
+    {
+        self.opens.retain(|open| !open.is_made(number, who));
+    }
+
+    /// Whether the file is there with neither a name nor an open.
+    fn is_dead(&self, fid: Fid) -> bool
+        ensures dead { result ≡ is_dead self.now fid }
+    {
+        match self.files.get(&fid) {
+            Some(file) => !(file.is_named() || is_open(self.opens.as_slice(), fid)),
+            None => false,
+        }
+    }
+
+    /// Takes the file out if it has neither a name nor an open, as each other file has.
+    pub(crate) fn bury(&mut self, fid: Fid)
+        requires others { AreOthersLiving self.old fid }
+        ensures buried { self.new ≡ trim self.old }
+    {
+        if self.is_dead(fid) {
+            self.files.remove(&fid);
+        }
+    }
+
+    /// Closes the open that this transaction made, as this life asked for it. It is mostly of this file.
+    pub(crate) fn close(&mut self, number: Txn, who: Who, fid: Fid)
+        requires lean { trim self.old ≡ self.old }
+        ensures closed { self.new ≡ trim (change self.old (Closes number who)) }
+    {
+        let only = self.opens_only(number, who, fid);
+        self.drop_open(number, who);
+        if only {
+            self.bury(fid);
+        } else {
+            self.sweep();
+        }
     }
 
     /// Takes the opens of a life out.

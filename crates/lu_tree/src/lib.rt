@@ -1,11 +1,16 @@
 //! The metadata target's tree of names in maps, equal to the plain tree of `lu_machine`.
 #![tactic(auto)]
 
+mod answers;
 mod deeds;
 mod ends;
 mod files;
 mod folders;
 mod inodes;
+mod operations;
+mod renames;
+mod rows;
+mod striping;
 #[cfg(test)]
 mod tests;
 mod touches;

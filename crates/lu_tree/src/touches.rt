@@ -1,66 +1,170 @@
-//! The parts that the operations look at.
+//! The parts that the operations look at, and those that they write.
 
-ghost use Rattle.std.specs.Prelude.{◌≡◌, ◌++◌, ℕ, IfOk, OnOk};
+ghost use Rattle.std.specs.Prelude.{◌≡◌, ◌++◌, ◌∷◌, [], ℕ, OnOk};
 ghost use Rattle.lu_base.specs.declared.ids.Txn.{Txn as SpecTxn};
 ghost use Rattle.lu_base.specs.declared.ids.Who.{Who as SpecWho};
-ghost use Rattle.lu_msg.specs.declared.operations.Op.TheVariants as op;
-ghost use Rattle.lu_machine.specs.Footprint as footprint;
-ghost use Rattle.lu_machine.specs.Plan.{looked};
-ghost use Rattle.lu_machine.specs.Table.{root, plan};
-ghost use Rattle.lu_tree.specs.Ends.{list_of};
-ghost use Rattle.lu_tree.specs.State.{asked, IsPerformed};
-ghost use Rattle.lu_tree.specs.Walks.{looks};
+ghost use Rattle.lu_machine.specs.Change.{written};
+ghost use Rattle.lu_machine.specs.Tree.{Tree, fid_of};
+ghost use Rattle.lu_part.specs.declared.parts.Part.TheVariants.{Attr, Name as NamePart, Parent};
+ghost use Rattle.lu_machine.specs.Table.{root};
+ghost use Rattle.lu_tree.specs.Ends.{changes_of, looked_of, names_after, names_of, rename_names};
+ghost use Rattle.lu_tree.specs.Walks.{looks, reach};
 
+use super::ends::{End, Place};
 use super::inodes::Inodes;
-use super::walks::Found;
-use lu_base::{Fid, Memory, Name};
+use super::walks::fid;
+use lu_base::{Duplicate, Memory, Name};
 use lu_machine::Child;
 use lu_msg::Op;
 use lu_part::{Part, Parts};
 use std::alloc::Global;
 
-/// Adds the list of a directory, if there is one.
-fn push_list(parts: &mut Parts, dir: Option<Fid>) -> Result<(), Memory>
-    ensures pushed { OnOk result (parts.new ≡ parts.old ++ list_of dir) }
-{
-    if let Some(dir) = dir {
-        parts.push(Part::List(dir))?;
-    }
-    Ok(())
-}
-
 impl Inodes {
-    /// The directory whose emptiness a `rmdir` looks at, if it comes so far.
-    fn looks_into(&self, path: &[Name]) -> Option<Fid>
-        ensures looks { (osts : ℕ) (number : SpecTxn) (who : SpecWho) → looked self.now (plan osts number who (op.Rmdir path.now)) ≡ looks self.now root path.now ++ list_of result }
+    /// Adds the names that a `link` looks up.
+    fn push_link_names(
+        &self,
+        alloc: Global,
+        parts: &mut Parts,
+        old: &[Name],
+        new: &[Name],
+    ) -> Result<(), Memory>
+        ensures pushed { OnOk result (parts.new ≡ parts.old ++ (looks self.now root old.now ++ names_after self.now new.now (reach self.now root old.now))) }
     {
-        let (name, front) = path.split_last()?;
-        match self.find_last(front, name) {
-            Err(_) => None,
-            Ok(Found { dir: _, child }) => match child {
-                None => None,
-                Some(found) => match found {
-                    Child::File(_) => None,
-                    Child::Dir(dir) => Some(dir),
-                },
+        self.push_looks(alloc, parts, old)?;
+        match self.reach(old) {
+            Err(_) => Ok(()),
+            Ok(at) => match at {
+                Child::Dir(_) => Ok(()),
+                Child::File(_) => self.push_looks(alloc, parts, new),
             },
         }
     }
 
-    /// The parts that an operation looks at.
-    pub(crate) fn touches(&self, alloc: Global, op: &Op) -> Result<Parts, Memory>
-        requires performed { IsPerformed op.now }
-        ensures touches { IfOk result (λ parts. (osts : ℕ) (number : SpecTxn) (who : SpecWho) → parts ≡ footprint.touches osts self.now (asked number who op.now)) }
+    /// Adds the names that a `rename` looks up.
+    fn push_rename_names(
+        &self,
+        alloc: Global,
+        parts: &mut Parts,
+        old: &[Name],
+        new: &[Name],
+    ) -> Result<(), Memory>
+        ensures pushed { OnOk result (parts.new ≡ parts.old ++ rename_names self.now old.now new.now) }
+    {
+        if old.is_empty() || new.is_empty() {
+            return Ok(());
+        }
+        self.push_looks(alloc, parts, old)?;
+        match self.reach(old) {
+            Err(_) => Ok(()),
+            Ok(_) => self.push_looks(alloc, parts, new),
+        }
+    }
+
+    /// Adds the names that an operation looks up.
+    pub(crate) fn push_names(&self, alloc: Global, parts: &mut Parts, op: &Op) -> Result<(), Memory>
+        ensures pushed { OnOk result (parts.new ≡ parts.old ++ names_of self.now op.now) }
     {
         match op {
-            Op::Lookup(path) => self.looks(alloc, path.as_slice()),
-            Op::Mkdir(path) => self.looks(alloc, path.as_slice()),
-            Op::Rmdir(path) => {
-                let mut parts = self.looks(alloc, path.as_slice())?;
-                push_list(&mut parts, self.looks_into(path.as_slice()))?;
-                Ok(parts)
+            Op::Lookup(path) => self.push_looks(alloc, parts, path.as_slice()),
+            Op::Stat(path) => self.push_looks(alloc, parts, path.as_slice()),
+            Op::List(path) => self.push_looks(alloc, parts, path.as_slice()),
+            Op::Layout(path) => self.push_looks(alloc, parts, path.as_slice()),
+            Op::Mkdir(path) => self.push_looks(alloc, parts, path.as_slice()),
+            Op::Create { path, .. } => self.push_looks(alloc, parts, path.as_slice()),
+            Op::Rename { old, new } => {
+                self.push_rename_names(alloc, parts, old.as_slice(), new.as_slice())
             }
-            _ => unreachable!(),
+            Op::Chmod { path, .. } => self.push_looks(alloc, parts, path.as_slice()),
+            Op::Open(path) => self.push_looks(alloc, parts, path.as_slice()),
+            Op::Link { old, new } => {
+                self.push_link_names(alloc, parts, old.as_slice(), new.as_slice())
+            }
+            Op::Unlink(path) => self.push_looks(alloc, parts, path.as_slice()),
+            Op::Rmdir(path) => self.push_looks(alloc, parts, path.as_slice()),
+            _ => Ok(()),
         }
+    }
+}
+
+/// Adds what an operation that comes to this has looked at after the names.
+pub(crate) fn push_looked(parts: &mut Parts, end: End<'_>) -> Result<(), Memory>
+    ensures pushed { OnOk result (parts.new ≡ parts.old ++ looked_of end.entry) }
+{
+    match end {
+        End::NotEmpty(dir) => parts.push(Part::List(dir)),
+        End::Stats(child) => match child {
+            Child::Dir(dir) => parts.push(Part::Attr(dir)),
+            Child::File(file) => {
+                parts.push(Part::Attr(file))?;
+                parts.push(Part::Layout(file))
+            }
+        },
+        End::Lists(dir) => parts.push(Part::List(dir)),
+        End::Shows(file) => parts.push(Part::Layout(file)),
+        End::Removes(_, _, gone) => parts.push(Part::List(gone)),
+        End::Links { file, .. } => parts.push(Part::Attr(file)),
+        End::Unlinks { file, .. } => parts.push(Part::Attr(file)),
+        End::Replaces(_, _, _, gone) => match gone {
+            Child::Dir(dir) => parts.push(Part::List(dir)),
+            Child::File(file) => parts.push(Part::Attr(file)),
+        },
+        End::SetsMode(child, _) => parts.push(Part::Attr(fid(child))),
+        End::KeepsMode(child) => parts.push(Part::Attr(fid(child))),
+        End::OpensFile(file) => parts.push(Part::Layout(file)),
+        _ => Ok(()),
+    }
+}
+
+/// Adds what is written where this leaves the old name for the new one.
+fn push_moved(
+    alloc: Global,
+    parts: &mut Parts,
+    old: Place<'_>,
+    child: Child,
+    new: Place<'_>,
+) -> Result<(), Memory>
+    ensures pushed { OnOk result (parts.new ≡ parts.old ++ NamePart old.entry.dir old.entry.name.now ∷ NamePart new.entry.dir new.entry.name.now ∷ Parent (fid_of child) ∷ []) }
+{
+    parts.push(Part::Name(old.dir, old.name.copy(alloc)?))?;
+    parts.push(Part::Name(new.dir, new.name.copy(alloc)?))?;
+    parts.push(Part::Parent(fid(child)))
+}
+
+/// Adds what is written of what was replaced.
+fn push_gone(parts: &mut Parts, gone: Child) -> Result<(), Memory>
+    ensures pushed { OnOk result (parts.new ≡ parts.old ++ Parent (fid_of gone) ∷ Attr (fid_of gone) ∷ []) }
+{
+    parts.push(Part::Parent(fid(gone)))?;
+    parts.push(Part::Attr(fid(gone)))
+}
+
+/// Adds what an operation that comes to this writes.
+pub(crate) fn push_written(alloc: Global, parts: &mut Parts, end: End<'_>) -> Result<(), Memory>
+    ensures pushed { OnOk result ((osts : ℕ) (t : Tree) (number : SpecTxn) (who : SpecWho) → parts.new ≡ parts.old ++ written (changes_of osts t number who end.entry)) }
+{
+    match end {
+        End::Makes(dir, name) => parts.push(Part::Name(dir, name.copy(alloc)?)),
+        End::Creates { dir, name, .. } => parts.push(Part::Name(dir, name.copy(alloc)?)),
+        End::Links { dir, name, file } => {
+            parts.push(Part::Name(dir, name.copy(alloc)?))?;
+            parts.push(Part::Attr(file))
+        }
+        End::Unlinks { dir, name, file } => {
+            parts.push(Part::Name(dir, name.copy(alloc)?))?;
+            parts.push(Part::Parent(file))?;
+            parts.push(Part::Attr(file))
+        }
+        End::Moves(old, child, new) => push_moved(alloc, parts, old, child, new),
+        End::Replaces(old, child, new, gone) => {
+            push_moved(alloc, parts, old, child, new)?;
+            push_gone(parts, gone)
+        }
+        End::SetsMode(child, _) => parts.push(Part::Attr(fid(child))),
+        End::Removes(dir, name, gone) => {
+            parts.push(Part::Name(dir, name.copy(alloc)?))?;
+            parts.push(Part::Parent(gone))?;
+            parts.push(Part::Attr(gone))
+        }
+        _ => Ok(()),
     }
 }

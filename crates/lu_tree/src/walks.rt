@@ -1,7 +1,7 @@
 //! Walks by names.
 
 ghost use Rattle.std.specs.Prelude.{◌≡◌, ◌++◌, ◌<◌, Some, None, IfOk, OnOk};
-ghost use Rattle.lu_machine.specs.Table.{root, wants};
+ghost use Rattle.lu_machine.specs.Table.{root, passes, wants};
 ghost use Rattle.lu_machine.specs.Tree.{fid_of};
 ghost use Rattle.lu_tree.specs.Walks.{find, if_found, reach, find_last, looks, trail, only, passed_wants};
 
@@ -65,23 +65,27 @@ impl Inodes {
         self.find(at, name)
     }
 
-    /// The names that a walk from the root looks up.
-    pub(crate) fn looks(&self, alloc: Global, path: &[Name]) -> Result<Parts, Memory>
-        ensures looks { IfOk result (λ parts. parts ≡ looks self.now root path.now) }
+    /// Adds the names that a walk from the root looks up.
+    pub(crate) fn push_looks(
+        &self,
+        alloc: Global,
+        parts: &mut Parts,
+        path: &[Name],
+    ) -> Result<(), Memory>
+        ensures looks { OnOk result (parts.new ≡ parts.old ++ looks self.now root path.now) }
     {
-        let mut parts = Parts::new(alloc);
         let mut at = Child::Dir(Fid(ROOT));
         for name in path {
             let Ok(found) = self.find(at, name) else {
-                return Ok(parts);
+                return Ok(());
             };
             parts.push(Part::Name(found.dir, name.copy(alloc)?))?;
             let Some(child) = found.child else {
-                return Ok(parts);
+                return Ok(());
             };
             at = child;
         }
-        Ok(parts)
+        Ok(())
     }
 
     /// What a name in an inode leads to, if it leads anywhere.
@@ -92,6 +96,26 @@ impl Inodes {
             Ok(found) => found.child,
             Err(_) => None,
         }
+    }
+
+    /// Whether this is a directory that a walk from the root by these names passes.
+    pub(crate) fn passes(&self, child: Child, path: &[Name]) -> bool
+        ensures passes { result ≡ passes child (trail self.now root path.now) }
+    {
+        let Child::Dir(dir) = child else {
+            return false;
+        };
+        let mut at = Child::Dir(Fid(ROOT));
+        for name in path {
+            let Some(next) = self.next(at, name) else {
+                return false;
+            };
+            if fid(next) == dir {
+                return true;
+            }
+            at = next;
+        }
+        false
     }
 
     /// The PR locks on what a walk from the root comes to: LOOKUP on each inode after the root, and `more`

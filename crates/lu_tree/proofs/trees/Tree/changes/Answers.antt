@@ -10,6 +10,6 @@ pub returns : goal.returns
 returns c =
     record {
       changes = λ number.
-          c.changes.ensures number c.args._who ∙ sym (ap (λ (o : Outcome). is_some_change o.changes) (c.end.ensures.ends c.self.inside.osts number c.args._who))
+          c.changes.ensures c.self.inside.osts c.self.inside.inodes number c.args._who ∙ sym (ap (λ (o : Outcome). is_some_change o.changes) (c.end.ensures.ends number c.args._who))
           ∙ ap (λ (s : TreeState). footprint.changes s.osts s.tree (asked number c.args._who c.args.op.now)) c.self.view_is;
     }

@@ -2,7 +2,7 @@
 use Rattle.std.proofs.Common.{sym, subst}
 use Rattle.lu_machine.specs.Tree.{Tree}
 use Rattle.lu_tree.specs.State.{IsSound}
-use Rattle.lu_tree.proofs.Lean.{sound_forget}
+use Rattle.lu_tree.proofs.Sound.{sound_forget}
 use Rattle.lu_tree.proofs.trees.Tree.forget.Goals as goal
 
 pub invariant_of-self : goal.invariant_of-self
