@@ -97,16 +97,16 @@ impl Client {
         Ok(step)
     }
 
-    /// A message of this target comes, which has no effect on what the client does: a message names the
-    /// life that it is for. A reply to a request in flight, of this life and boot, is heard, and its call
-    /// told; anything else only makes its `take`. Then what has room is sent. Fewer than 2^63 requests
-    /// were sent before.
+    /// A message of the metadata target comes, the only one that clients ask so far. A reply to a request in
+    /// flight, of this life and boot, is heard, and its call told; anything else only makes its `take`. Then
+    /// what has room is sent. Fewer than 2^63 requests were sent before.
     pub fn deliver(
         &mut self,
         stamp: Stamp,
         _from: TargetId,
         message: &Message,
     ) -> Result<Step, Memory>
+        requires from { _from.0 ≡ 0 }
         requires numbers { self.old.asker.last < 2 ^ 63 }
         ensures step { IfOk result (λ step. step ≡ step_of (turn_of stamp self.old) (row_takes self.old.asker 0 message.now)) }
         ensures after { OnOk result (self.new ≡ after_entries (turn_of stamp self.old) self.old (row_takes self.old.asker 0 message.now)) }

@@ -1,4 +1,6 @@
--- The scenarios that are performed so far: clients make, remove and look up directories.
+-- The scenarios that are performed so far: clients make, remove and look up directories, messages come or are lost, time
+-- goes on, clients die. A lookup that finds its name is granted no lock yet, so the top call lets through those alone of
+-- which no line makes the path.
 use Rattle.std.specs.Prelude.{◌≡◌, ◌<◌, Some, All}
 use Rattle.lu_base.specs.declared.ids.Node.TheVariants.{Client, Target}
 use Rattle.lu_msg.specs.declared.calls.Call.{Call as CallOf}

@@ -17,6 +17,9 @@ use lu_scene::Head;
 use lu_trace::{Entries, Entry, Line, Step};
 use std::alloc::Global;
 
+/// The most unused locks that a client keeps, whatever the head says: the limit isn't observed yet.
+const MOST_UNUSED: u32 = 100000;
+
 /// The clients by number, and which of them are dead.
 #[derive(Drop)]
 pub(crate) struct Clients {
@@ -40,7 +43,7 @@ impl Clients {
                 client,
                 head.osts,
                 head.dirty,
-                head.unused,
+                MOST_UNUSED,
                 head.flight as u8,
             )?)?;
             dead.push(false)?;

@@ -1,4 +1,4 @@
-//! Scenarios whose lines are passed over, and how far a run goes. Worked scenarios are tested by the top call.
+//! Scenarios whose lines or messages are passed over, and how far a run goes. Worked scenarios are tested by the top call.
 
 use super::*;
 use lu_base::{Bytes, Memory};
@@ -42,9 +42,10 @@ fn end_of(alloc: Global, scene: &[u8]) -> Result<Option<End>, Memory> {
     }
 }
 
-/// A scenario of so many ticks, and then another line.
-fn ticks(alloc: Global, count: u64, last: &[u8]) -> Result<Bytes, Memory> {
+/// A scenario of some lines, so many ticks, and then another line.
+fn ticks(alloc: Global, first: &[u8], count: u64, last: &[u8]) -> Result<Bytes, Memory> {
     let mut text = Bytes::new(alloc);
+    text.extend(first)?;
     for _ in 0..count {
         text.extend(b"tick c0\n")?;
     }
@@ -52,13 +53,9 @@ fn ticks(alloc: Global, count: u64, last: &[u8]) -> Result<Bytes, Memory> {
     Ok(text)
 }
 
-/// A client that died: its lines are passed over, and the reply to it is thrown away, which is no turn. A slot
-/// that has a call is busy; a number that wasn't sent is passed over.
-#[test]
-fn lines_are_passed_over(rt: HostRuntime) -> Result<(), Fail> {
-    let rows: [(&[u8], &[u8]); 2] = [
-        (
-            b"call 0.0 mkdir /a
+/// A client that died: its lines are passed over, and the reply to it is thrown away, which is no turn.
+const DEAD: (&[u8], &[u8]) = (
+    b"call 0.0 mkdir /a
 die c0
 call 0.1 mkdir /b
 tick c0
@@ -66,7 +63,7 @@ run 1
 run
 tick t0
 ",
-            b"1 c0 begin 0 mkdir /a
+    b"1 c0 begin 0 mkdir /a
 1 c0 send 1 t0 req c0.1 1 1 mkdir /a
 2 c0 die
 3 t0 take 1
@@ -75,21 +72,77 @@ tick t0
 4 t0 tick
 end
 ",
-        ),
-        (
-            b"call 0.0 mkdir /a
+);
+
+/// A message that is thrown away isn't one of those that `run 1` counts, and stays thrown away when it is
+/// delivered.
+const THROWN: (&[u8], &[u8]) = (
+    b"clients 2
+call 0.0 mkdir /a
+call 1.0 mkdir /b
+run 2
+die c0
+run 1
+deliver 3
+tick t0
+",
+    b"1 c0 begin 0 mkdir /a
+1 c0 send 1 t0 req c0.1 1 1 mkdir /a
+2 c1 begin 0 mkdir /b
+2 c1 send 2 t0 req c1.1 1 1 mkdir /b
+3 t0 take 1
+3 t0 txn 1.1 c0.1 1 - ok 1.1
+3 t0 send 3 c0 reply c0.1 1 1 1.1 0.0 - 3:t0 - ok 1.1
+4 t0 take 2
+4 t0 txn 1.2 c1.1 1 - ok 1.2
+4 t0 send 4 c1 reply c1.1 1 1 1.2 0.0 - 4:t0 - ok 1.2
+5 c0 die
+6 c1 take 4
+6 c1 heard t0 1
+6 c1 told 0 4:t0 ok 1.2
+7 t0 tick
+end
+",
+);
+
+/// A lost message comes where it is delivered.
+const LOST: (&[u8], &[u8]) = (
+    b"call 0.0 mkdir /a
+lose 1
+run
+deliver 1
+lose 2
+deliver 2
+",
+    b"1 c0 begin 0 mkdir /a
+1 c0 send 1 t0 req c0.1 1 1 mkdir /a
+2 t0 take 1
+2 t0 txn 1.1 c0.1 1 - ok 1.1
+2 t0 send 2 c0 reply c0.1 1 1 1.1 0.0 - 2:t0 - ok 1.1
+3 c0 take 2
+3 c0 heard t0 1
+3 c0 told 0 2:t0 ok 1.1
+end
+",
+);
+
+/// A slot that has a call is busy; a number that wasn't sent is passed over.
+const BUSY: (&[u8], &[u8]) = (
+    b"call 0.0 mkdir /a
 call 0.0 mkdir /b
 deliver 7
 lose 7
 ",
-            b"1 c0 begin 0 mkdir /a
+    b"1 c0 begin 0 mkdir /a
 1 c0 send 1 t0 req c0.1 1 1 mkdir /a
 2 c0 busy 0
 end
 ",
-        ),
-    ];
-    for (scene, trace) in rows {
+);
+
+#[test]
+fn scenarios_come_to_their_traces(rt: HostRuntime) -> Result<(), Fail> {
+    for (scene, trace) in [DEAD, THROWN, LOST, BUSY] {
         let came = performed(rt.alloc(), scene, trace)?;
         assert!(rt;
             matches!(
@@ -122,7 +175,23 @@ fn other_scenarios_are_not_performed(rt: HostRuntime) -> Result<(), Fail> {
 #[test]
 fn a_run_has_at_most_65536_turns(rt: HostRuntime) -> Result<(), Fail> {
     for (last, end) in [(b"run\n".as_slice(), End::Done), (b"tick t0\n", End::Limit)] {
-        let scene = ticks(rt.alloc(), 65536, last)?;
+        let scene = ticks(rt.alloc(), b"", 65536, last)?;
+        assert_eq!(rt; end_of(rt.alloc(), scene.as_slice())?, Some(end));
+    }
+    Ok(())
+}
+
+/// Four calls send four messages, and each tick sends them again.
+#[test]
+fn a_run_has_at_most_131072_messages(rt: HostRuntime) -> Result<(), Fail> {
+    let calls = b"flight 4
+call 0.0 mkdir /a
+call 0.1 mkdir /b
+call 0.2 mkdir /c
+call 0.3 mkdir /d
+";
+    for (last, end) in [(b"".as_slice(), End::Done), (b"tick t0\n", End::Limit)] {
+        let scene = ticks(rt.alloc(), calls, 32767, last)?;
         assert_eq!(rt; end_of(rt.alloc(), scene.as_slice())?, Some(end));
     }
     Ok(())

@@ -16,13 +16,13 @@ pub fn every_scenario_is_lawful()
     ensures lawful { (scene : Scene) → IsPerformed scene → (c : Config) → Leads (head_of scene.head) (start scene) c → Lawful scene.head.osts (printed (lines_of c.turns)) }
 {}
 
-/// A scenario, whether it is performed so far or not, comes to one outcome and no other.
-pub fn every_scenario_has_one_outcome()
+/// A scenario has at most one outcome.
+pub fn outcomes_are_the_same()
     ensures same { (scene : Scene) → let head = head_of scene.head in (b c : Config) → Leads head (start scene) b → Leads head (start scene) c → IsFinal head b → IsFinal head c → b ≡ c }
 {}
 
-/// Two worked scenarios come to the traces that were worked out for them by hand.
+/// Two worked scenarios come to their end, with the traces that were worked out for them by hand.
 pub fn worked_scenarios_come_out()
-    ensures one_client { (c : Config) → Leads (head_of one_client.head) (start one_client) c → next (head_of one_client.head) c ≡ Ends → text_of c ≡ one_client_text }
-    ensures lost_reply { (c : Config) → Leads (head_of lost_reply.head) (start lost_reply) c → next (head_of lost_reply.head) c ≡ Ends → text_of c ≡ lost_reply_text }
+    ensures one_client { (c : Config) × Leads (head_of one_client.head) (start one_client) c × (next (head_of one_client.head) c ≡ Ends) × (text_of c ≡ one_client_text) }
+    ensures lost_reply { (c : Config) × Leads (head_of lost_reply.head) (start lost_reply) c × (next (head_of lost_reply.head) c ≡ Ends) × (text_of c ≡ lost_reply_text) }
 {}

@@ -76,9 +76,9 @@ impl<S: Service> Target<S> {
 
     /// A message comes. A request whose life has a slot, whose tag is 0 to 7 and whose operation the service
     /// performs goes on by the reply that is kept for its life and tag: with a number above that one it is
-    /// executed, with the same the kept reply is sent again, and with one below it does nothing. Any other
-    /// message only makes its `take`. `NumbersSpent` where the turn needs a transaction and the boot's count
-    /// stands at 2^32 - 1.
+    /// executed, with the same the kept reply is sent again, and with one below it does nothing. A message that
+    /// is no request only makes its `take`. Boots aren't looked at, since no target boots again yet.
+    /// `NumbersSpent` where the turn needs a transaction and the boot's count stands at 2^32 - 1.
     pub fn deliver(&mut self, stamp: Stamp, message: &Message) -> Result<Step, StepFault>
         requires mdt { S.kind ≡ Mdt }
         requires fits { self.old.spent ≡ None → Fits S.takes self.old.journal message.now }
