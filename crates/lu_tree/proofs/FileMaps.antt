@@ -6,7 +6,7 @@ use Rattle.std.specs.Option.{unwrap_or}
 use Rattle.lu_base.specs.declared.ids.Fid.{Fid}
 use Rattle.lu_machine.specs.declared.child.Child.TheVariants.{File}
 use Rattle.lu_machine.specs.Order.{IsOrdered}
-use Rattle.lu_machine.specs.Tree.{Tree, Inode, no_file, same_fid, fid_cmp, file}
+use Rattle.lu_machine.specs.Tree.{Tree, Inode, no_file, fid_cmp, file}
 use Rattle.lu_machine.specs.Change.{SetLinks, SetMode, put_file, change}
 use Rattle.lu_tree.proofs.Maps.{fid_found, fid_set}
 

@@ -1,9 +1,9 @@
 -- The layout of a new file is one.
-use Rattle.std.proofs.Common.{◌≡◌, ℕ, zero, suc, ◌<◌, ◌≤◌, false, Some, None, refl, ap, ◌∙◌, arith, pos}
+use Rattle.std.proofs.Common.{◌≡◌, ℕ, zero, suc, ◌<◌, ◌≤◌, Some, None, refl, ap, ◌∙◌, arith, pos}
 use Rattle.std.specs.Prelude.{if◌then◌else◌}
 use Rattle.lu_base.specs.declared.ids.Txn.{Txn}
 use Rattle.lu_layout.specs.Sound.{IsLayout}
-use Rattle.lu_machine.specs.Striping.{stripe_size, stripe_count, is_bad, layout_for, new_layout}
+use Rattle.lu_machine.specs.Striping.{stripe_size, stripe_count, layout_for, new_layout}
 use Rattle.lu_machine.proofs.Layouts.{new_layouts}
 use Rattle.lu_tree.specs.Ends.{IsStriping, striped}
 

@@ -1,5 +1,5 @@
--- What the inode that was replaced is like once its name leads elsewhere.
-use Rattle.std.proofs.Common.{◌≡◌, ℕ, Bool, true, false, List, [], ◌∷◌, ◌⊎◌, inl, inr, Option, Some, None, refl, sym, ap, subst, ◌∙◌}
+-- What an inode that loses a name is like once the name is gone, or leads elsewhere.
+use Rattle.std.proofs.Common.{◌≡◌, ℕ, false, List, [], ◌∷◌, inl, inr, Some, None, refl, ap, ◌∙◌}
 use Rattle.std.specs.Prelude.{if◌then◌else◌}
 use Rattle.std.specs.Map.{lookup}
 use Rattle.lu_base.specs.declared.ids.Fid.{Fid}
@@ -32,6 +32,11 @@ not_own t e m g named empty = by (fid_tells e g)
         let none : child t e m ≡ None = ap (λ f. child t f m) h.1 ∙ ap (lookup (same_name m)) (no_keys (directory t g).entries empty) in
         absurd (cc (none, named))
     by (inr h) = h.0
+
+-- what may leave may so once its name is gone
+pub may_leave_dropped : (t : Tree) (d : Fid) (n : List ℕ) (g : Child) → MayLeave t g → MayLeave (change t (Drops d n)) g
+may_leave_dropped t d n (Dir g) h = still_empty t d n g h
+may_leave_dropped t d n (File g) h = tt
 
 pub may_leave_still : (t : Tree) (d : Fid) (n : List ℕ) (e : Fid) (m : List ℕ) (c g : Child) → child t e m ≡ Some g → MayLeave t g → MayLeave (changed t (Drops d n ∷ Leads e m c ∷ [])) g
 may_leave_still t d n e m c (File g) named h = tt

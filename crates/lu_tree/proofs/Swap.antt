@@ -1,5 +1,5 @@
 -- A name that is led elsewhere before another one goes, and after it.
-use Rattle.std.proofs.Common.{◌≡◌, ℕ, Bool, true, false, List, [], ◌∷◌, ◌⊎◌, inl, inr, Option, Some, None, refl, sym, ap, subst, ◌∙◌, arith}
+use Rattle.std.proofs.Common.{◌≡◌, ℕ, Bool, true, false, List, [], ◌∷◌, inl, inr, Option, Some, None, refl, sym, ap, subst, ◌∙◌, arith}
 use Rattle.std.specs.Prelude.{◌&&◌, if◌then◌else◌}
 use Rattle.std.specs.declared.cmp.Ordering.{Ordering}
 use Rattle.std.specs.declared.cmp.Ordering.TheVariants.{Less, Equal, Greater}
@@ -10,11 +10,11 @@ use Rattle.std.specs.Ordering.{ordering_reverse}
 use Rattle.std.proofs.lemmas.Bool.Decides.{nat_tests}
 use Rattle.lu_base.specs.declared.ids.Fid.{Fid}
 use Rattle.lu_machine.specs.declared.child.Child.{Child}
-use Rattle.lu_machine.specs.Entries.{without, place}
+use Rattle.lu_machine.specs.Entries.{without}
 use Rattle.lu_machine.specs.Name.{same_name, name_cmp}
 use Rattle.lu_machine.specs.Order.{IsOrdered}
 use Rattle.lu_machine.specs.Tree.{Tree, Directory, same_fid, fid_cmp, directory}
-use Rattle.lu_machine.specs.Change.{Leads, Drops, put_dir, put_name, change}
+use Rattle.lu_machine.specs.Change.{Leads, Drops, put_name, change}
 use Rattle.lu_machine.proofs.Effects.{dir_put}
 use Rattle.lu_machine.proofs.Keys.{Told, fid_tells, name_tells, find-put, find-without, find-gone}
 use Rattle.lu_machine.proofs.Leads.{here}

@@ -6,7 +6,6 @@ use Rattle.lu_msg.specs.declared.answers.Errno.{Errno}
 use Rattle.lu_msg.specs.declared.answers.Errno.TheVariants.{EBUSY}
 use Rattle.lu_machine.specs.declared.child.Child.{Child}
 use Rattle.lu_machine.specs.declared.child.Child.TheVariants.{Dir}
-use Rattle.lu_machine.specs.Plan.{Plan}
 use Rattle.lu_machine.specs.Table.{root, there, to_last, passes, row_rename, rename}
 use Rattle.lu_machine.specs.Tree.{Tree, fid_of, same_fid}
 use Rattle.lu_base.specs.declared.ids.Fid.{Fid}

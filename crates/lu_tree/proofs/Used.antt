@@ -12,15 +12,15 @@ use Rattle.lu_machine.specs.declared.child.Child.{Child}
 use Rattle.lu_machine.specs.declared.child.Child.TheVariants.{Dir, File}
 use Rattle.lu_machine.specs.Entries.{place, without}
 use Rattle.lu_machine.specs.Name.{same_name}
-use Rattle.lu_machine.specs.Tree.{Tree, Directory, Inode, Opened, no_directory, no_file, same_fid, fid_cmp, fid_of, directory, file, child}
+use Rattle.lu_machine.specs.Tree.{Tree, Directory, Inode, no_directory, no_file, same_fid, fid_cmp, fid_of, directory, file, child}
 use Rattle.lu_machine.specs.Change.{Change, Leads, Drops, Parted, MakesDir, MakesFile, SetMode, SetLinks, Leaves, Opens, Closes, put_dir, new_directory, new_file, leave, change, changed}
 use Rattle.lu_machine.specs.Effect.{on_name}
 use Rattle.lu_machine.specs.Footprint.{Every}
-use Rattle.lu_machine.specs.Trim.{living, trim}
+use Rattle.lu_machine.specs.Trim.{trim}
 use Rattle.lu_machine.proofs.Effects.{name_after}
 use Rattle.lu_machine.proofs.Keys.{fid_tells, find-put, find-without}
 use Rattle.lu_tree.specs.declared.ends.End.{End}
-use Rattle.lu_tree.specs.declared.ends.End.TheVariants.{Makes, Creates, Links, Unlinks, Removes, Moves, Replaces, SetsMode, OpensFile, ClosesFile}
+use Rattle.lu_tree.specs.declared.ends.End.TheVariants.{Makes, Creates, Links, Loses, Moves, Replaces, SetsMode, OpensFile, ClosesFile}
 use Rattle.lu_tree.specs.Ends.{changes_of, leaving, IsReached, Seen}
 use Rattle.lu_tree.specs.State.{IsUsed, HasUsed}
 use Rattle.lu_tree.proofs.Entries.{all_filter, all_place}
@@ -153,23 +153,25 @@ used_trim b t u = record { root = u.root; dirs = u.dirs; files = all_filter (Has
 
 -- ---- ends
 
+leaving_fits : (last b : ℕ) (t : Tree) (g : Child) → IsUsed last t → last < b → (fid_of g).0 ≤ last → Fits b (leaving t g)
+leaving_fits last b t (Dir f) u lt le = omega arith
+leaving_fits last b t (File f) u lt le = let k = links_below last f t.files u.files in (omega arith, omega arith)
+
 pub end_fits : (last osts : ℕ) (number : Txn) (who : Who) (t : Tree) (end : End) → last < number.0 → IsUsed last t → Seen osts t end → Every (Fits number.0) (changes_of osts t number who end)
-end_fits last osts number who t (Makes d n) lt u s =
-    let r : d.0 ≤ last = reached_used last t (Dir d) u s.0 in
+end_fits last osts number who t (Makes new) lt u s =
+    let r : new.dir.0 ≤ last = reached_used last t (Dir new.dir) u s.0 in
     (omega arith, ((omega arith, omega arith), tt))
-end_fits last osts number who t (Creates d n size count) lt u s =
-    let r : d.0 ≤ last = reached_used last t (Dir d) u s.0 in
+end_fits last osts number who t (Creates new size count) lt u s =
+    let r : new.dir.0 ≤ last = reached_used last t (Dir new.dir) u s.0 in
     (omega arith, ((omega arith, omega arith), tt))
-end_fits last osts number who t (Links d n f) lt u s =
-    let r : d.0 ≤ last = reached_used last t (Dir d) u s.0 in
+end_fits last osts number who t (Links new f) lt u s =
+    let r : new.dir.0 ≤ last = reached_used last t (Dir new.dir) u s.0 in
     let q : f.0 ≤ last = reached_used last t (File f) u s.2 in
     let k = links_below last f t.files u.files in
     ((omega arith, omega arith), ((omega arith, omega arith), tt))
-end_fits last osts number who t (Unlinks d n f) lt u s =
-    let r : d.0 ≤ last = named_used last t d n.now (File f) u s in
-    let q : f.0 ≤ last = u.names d n.now (File f) s in
-    let k = links_below last f t.files u.files in
-    (omega arith, (tt, ((omega arith, omega arith), tt)))
+end_fits last osts number who t (Loses old g) lt u s =
+    let r : old.dir.0 ≤ last = named_used last t old.dir old.name.now g u s.0 in
+    (omega arith, (tt, (leaving_fits last number.0 t g u lt (u.names old.dir old.name.now g s.0), tt)))
 end_fits last osts number who t (SetsMode c mode) lt u s =
     let r : (fid_of c).0 ≤ last = reached_used last t c u s in
     (omega arith, tt)
@@ -182,15 +184,7 @@ end_fits last osts number who t (Replaces old c new g) lt u s =
     let p : old.dir.0 ≤ last = named_used last t old.dir old.name.now c u s.0 in
     let q : (fid_of c).0 ≤ last = u.names old.dir old.name.now c s.0 in
     let r : new.dir.0 ≤ last = named_used last t new.dir new.name.now g u s.1 in
-    (omega arith, ((omega arith, omega arith), (tt, (tt, (leaving_fits g (u.names new.dir new.name.now g s.1), tt)))))
-  where
-    leaving_fits : (g : Child) → (fid_of g).0 ≤ last → Fits number.0 (leaving t g)
-    leaving_fits (Dir f) le = omega arith
-    leaving_fits (File f) le = let k = links_below last f t.files u.files in (omega arith, omega arith)
+    (omega arith, ((omega arith, omega arith), (tt, (tt, (leaving_fits last number.0 t g u lt (u.names new.dir new.name.now g s.1), tt)))))
 end_fits last osts number who t (OpensFile f) lt u s = (tt, tt)
 end_fits last osts number who t (ClosesFile opened f) lt u s = (tt, tt)
-end_fits last osts number who t (Removes d n e) lt u s =
-    let r : d.0 ≤ last = named_used last t d n.now (Dir e) u s.0 in
-    let q : e.0 ≤ last = u.names d n.now (Dir e) s.0 in
-    (omega arith, (tt, (omega arith, tt)))
 end_fits last osts number who t _ lt u s = tt

@@ -25,7 +25,7 @@ use Rattle.lu_machine.specs.Plan.{Outcome}
 use Rattle.lu_machine.specs.Striping.{is_bad, stripe_targets}
 use Rattle.lu_machine.specs.Table.{root, made_by, found, wants}
 use Rattle.lu_tree.specs.declared.ends.End.{End}
-use Rattle.lu_tree.specs.declared.ends.End.TheVariants.{Refused, NotEmpty, Finds, Stats, Lists, Shows, Makes, Creates, Links, Unlinks, Removes, Same, Moves, Replaces, SetsMode, KeepsMode, OpensFile, ClosesFile}
+use Rattle.lu_tree.specs.declared.ends.End.TheVariants.{Refused, NotEmpty, Finds, Stats, Lists, Shows, Makes, Creates, Links, Loses, Same, Moves, Replaces, SetsMode, KeepsMode, OpensFile, ClosesFile}
 
 abbrev pub stat_of : Tree → Child → Answer
 stat_of t (Dir d) = told.DirStat d (directory t d).mode
@@ -38,11 +38,10 @@ told_of t number (Finds c) = found c
 told_of t number (Stats c) = stat_of t c
 told_of t number (Lists d) = told.Names (listing t d)
 told_of t number (Shows f) = told.Layout (layout t f)
-told_of t number (Makes d n) = told.Made (made_by number)
-told_of t number (Creates d n size count) = told.Made (made_by number)
-told_of t number (Removes d n e) = told.Done
-told_of t number (Links d n f) = told.Done
-told_of t number (Unlinks d n f) = told.Done
+told_of t number (Makes new) = told.Made (made_by number)
+told_of t number (Creates new size count) = told.Made (made_by number)
+told_of t number (Links new f) = told.Done
+told_of t number (Loses old g) = told.Done
 told_of t number (SetsMode c mode) = told.Done
 told_of t number (KeepsMode c) = told.Done
 told_of t number Same = told.Done
@@ -55,23 +54,22 @@ told_of t number (ClosesFile opened f) = told.Done
 abbrev pub striped : ℕ → Txn → ℕ → ℕ → Raid0
 striped osts number size count = record { size = size; targets = stripe_targets osts number count }
 
--- what was replaced loses its only name, a directory, or one of its names, a file
+-- what loses a name goes, if it is a directory, and has a link less, if it is a file
 abbrev pub leaving : Tree → Child → Change
 leaving t (Dir g) = Leaves g
 leaving t (File g) = SetLinks g ((file t g).links - 1)
 
 -- over this many object storage targets
 abbrev pub changes_of : ℕ → Tree → Txn → Who → End → List Change
-changes_of osts t number who (Makes d n) = MakesDir (made_by number) ∷ Leads d n.now (Dir (made_by number)) ∷ []
-changes_of osts t number who (Creates d n size count) = MakesFile (made_by number) (striped osts number size count) ∷ Leads d n.now (File (made_by number)) ∷ []
-changes_of osts t number who (Links d n f) = Leads d n.now (File f) ∷ SetLinks f ((file t f).links + 1) ∷ []
-changes_of osts t number who (Unlinks d n f) = Drops d n.now ∷ Parted f ∷ SetLinks f ((file t f).links - 1) ∷ []
+changes_of osts t number who (Makes new) = MakesDir (made_by number) ∷ Leads new.dir new.name.now (Dir (made_by number)) ∷ []
+changes_of osts t number who (Creates new size count) = MakesFile (made_by number) (striped osts number size count) ∷ Leads new.dir new.name.now (File (made_by number)) ∷ []
+changes_of osts t number who (Links new f) = Leads new.dir new.name.now (File f) ∷ SetLinks f ((file t f).links + 1) ∷ []
+changes_of osts t number who (Loses old g) = Drops old.dir old.name.now ∷ Parted (fid_of g) ∷ leaving t g ∷ []
 changes_of osts t number who (SetsMode c mode) = SetMode c mode ∷ []
 changes_of osts t number who (Moves old c new) = Drops old.dir old.name.now ∷ Leads new.dir new.name.now c ∷ Parted (fid_of c) ∷ []
 changes_of osts t number who (Replaces old c new g) = Drops old.dir old.name.now ∷ Leads new.dir new.name.now c ∷ Parted (fid_of c) ∷ Parted (fid_of g) ∷ leaving t g ∷ []
 changes_of osts t number who (OpensFile f) = Opens number who f ∷ []
 changes_of osts t number who (ClosesFile opened f) = Closes opened who ∷ []
-changes_of osts t number who (Removes d n e) = Drops d n.now ∷ Parted e ∷ Leaves e ∷ []
 changes_of osts t number who _ = []
 
 -- the bits, besides LOOKUP, that a reading is granted on the last inode of its walk; only readings are granted locks
@@ -92,6 +90,11 @@ wanted passed (Some bits) = wants bits passed
 abbrev pub ended : ℕ → Tree → Txn → Who → List Child → End → Outcome
 ended osts t number who passed end = record { answer = told_of t number end; grants = wanted passed (bits_of end); changes = changes_of osts t number who end }
 
+-- of what loses a name, the list of a directory or the attributes of a file
+abbrev pub looked_at : Child → List Part
+looked_at (Dir g) = part.List g ∷ []
+looked_at (File g) = part.Attr g ∷ []
+
 -- what it looked at after the names
 abbrev pub looked_of : End → List Part
 looked_of (NotEmpty d) = part.List d ∷ []
@@ -99,13 +102,11 @@ looked_of (Stats (Dir d)) = part.Attr d ∷ []
 looked_of (Stats (File f)) = part.Attr f ∷ part.Layout f ∷ []
 looked_of (Lists d) = part.List d ∷ []
 looked_of (Shows f) = part.Layout f ∷ []
-looked_of (Removes d n e) = part.List e ∷ []
-looked_of (Links d n f) = part.Attr f ∷ []
-looked_of (Unlinks d n f) = part.Attr f ∷ []
+looked_of (Links new f) = part.Attr f ∷ []
+looked_of (Loses old g) = looked_at g
 looked_of (SetsMode c mode) = part.Attr (fid_of c) ∷ []
 looked_of (KeepsMode c) = part.Attr (fid_of c) ∷ []
-looked_of (Replaces old c new (Dir g)) = part.List g ∷ []
-looked_of (Replaces old c new (File g)) = part.Attr g ∷ []
+looked_of (Replaces old c new g) = looked_at g
 looked_of (OpensFile f) = part.Layout f ∷ []
 looked_of _ = []
 
@@ -128,11 +129,10 @@ MayLeave t (File g) = Unit {0}
 abbrev pub Seen : ℕ → Tree → End → Type 0
 Seen osts t (Stats c) = IsReached t c
 Seen osts t (Shows f) = IsReached t (File f)
-Seen osts t (Makes d n) = IsReached t (Dir d) × (child t d n.now ≡ None)
-Seen osts t (Creates d n size count) = IsReached t (Dir d) × (child t d n.now ≡ None) × IsStriping osts size count
-Seen osts t (Removes d n e) = (child t d n.now ≡ Some (Dir e)) × (listing t e ≡ [])
-Seen osts t (Links d n f) = IsReached t (Dir d) × (child t d n.now ≡ None) × IsReached t (File f)
-Seen osts t (Unlinks d n f) = child t d n.now ≡ Some (File f)
+Seen osts t (Makes new) = IsReached t (Dir new.dir) × (child t new.dir new.name.now ≡ None)
+Seen osts t (Creates new size count) = IsReached t (Dir new.dir) × (child t new.dir new.name.now ≡ None) × IsStriping osts size count
+Seen osts t (Links new f) = IsReached t (Dir new.dir) × (child t new.dir new.name.now ≡ None) × IsReached t (File f)
+Seen osts t (Loses old g) = (child t old.dir old.name.now ≡ Some g) × MayLeave t g
 Seen osts t (SetsMode c mode) = IsReached t c
 Seen osts t (Moves old c new) = (child t old.dir old.name.now ≡ Some c) × (child t new.dir new.name.now ≡ None) × IsReached t (Dir new.dir)
 Seen osts t (Replaces old c new g) = (child t old.dir old.name.now ≡ Some c) × (child t new.dir new.name.now ≡ Some g) × (same_fid (fid_of g) (fid_of c) ≡ false) × MayLeave t g

@@ -3,8 +3,8 @@
 ghost use Rattle.std.specs.Prelude.{◌≡◌, ◌+◌, ◌-◌, ◌<◌, ◌≤◌, true, false, None, Some, [], ◌∷◌, OnOk, OnErr};
 ghost use Rattle.std.specs.Map.{lookup};
 ghost use Rattle.lu_machine.specs.Footprint.{is_some_change};
-ghost use Rattle.lu_machine.specs.Tree.{child, file as file_of, listing, same_fid};
-ghost use Rattle.lu_machine.specs.Change.{Drops, Leads, Leaves, MakesDir, MakesFile, Parted, SetLinks, change, changed};
+ghost use Rattle.lu_machine.specs.Tree.{child, fid_of, file as file_of, same_fid};
+ghost use Rattle.lu_machine.specs.Change.{Drops, Leads, MakesDir, MakesFile, Parted, SetLinks, change, changed};
 ghost use Rattle.lu_machine.proofs.Leads.{here};
 ghost use Rattle.lu_machine.specs.Order.{IsOrdered};
 ghost use Rattle.lu_machine.specs.declared.child.Child.TheVariants.{Dir as SpecDir, File as SpecFile};
@@ -17,22 +17,22 @@ ghost use Rattle.lu_tree.specs.State.{IsCounted};
 use super::ends::{End, Place};
 use super::inodes::Inodes;
 use super::striping::striped;
-use lu_base::{Duplicate, Fid, Memory, Name, Txn, Who};
+use lu_base::{Duplicate, Fid, Memory, Txn, Who};
 use lu_layout::Layout;
 use lu_machine::Child;
 use std::alloc::Global;
 
 impl Inodes {
     /// Makes a directory of this number, to which the name leads. After want of memory nothing has changed.
-    fn make(&mut self, alloc: Global, number: Txn, dir: Fid, name: &Name) -> Result<(), Memory>
+    fn make(&mut self, alloc: Global, number: Txn, new: Place<'_>) -> Result<(), Memory>
         requires unused { lookup (same_fid (made_by number)) self.old.dirs ≡ None }
-        ensures made { OnOk result (self.new ≡ changed self.old (MakesDir (made_by number) ∷ Leads dir name.now (SpecDir (made_by number)) ∷ [])) }
+        ensures made { OnOk result (self.new ≡ changed self.old (MakesDir (made_by number) ∷ Leads new.entry.dir new.entry.name.now (SpecDir (made_by number)) ∷ [])) }
         ensures kept { OnErr result (self.new ≡ self.old) }
     {
         let made = Fid(number.0);
-        let name = name.copy(alloc)?;
+        let name = new.name.copy(alloc)?;
         self.make_dir(alloc, made)?;
-        if let Err(error) = self.lead(alloc, dir, name, Child::Dir(made)) {
+        if let Err(error) = self.lead(alloc, new.dir, name, Child::Dir(made)) {
             self.leave(made);
             return Err(error);
         }
@@ -44,18 +44,17 @@ impl Inodes {
         &mut self,
         alloc: Global,
         number: Txn,
-        dir: Fid,
-        name: &Name,
+        new: Place<'_>,
         layout: Layout,
     ) -> Result<(), Memory>
         requires unused { lookup (same_fid (made_by number)) self.old.files ≡ None }
-        ensures made { OnOk result (self.new ≡ changed self.old (MakesFile (made_by number) layout ∷ Leads dir name.now (SpecFile (made_by number)) ∷ [])) }
+        ensures made { OnOk result (self.new ≡ changed self.old (MakesFile (made_by number) layout ∷ Leads new.entry.dir new.entry.name.now (SpecFile (made_by number)) ∷ [])) }
         ensures kept { OnErr result (self.new ≡ self.old) }
     {
         let made = Fid(number.0);
-        let name = name.copy(alloc)?;
+        let name = new.name.copy(alloc)?;
         self.make_file(made, layout)?;
-        if let Err(error) = self.lead(alloc, dir, name, Child::File(made)) {
+        if let Err(error) = self.lead(alloc, new.dir, name, Child::File(made)) {
             self.drop_file(made);
             return Err(error);
         }
@@ -63,40 +62,17 @@ impl Inodes {
     }
 
     /// Makes the name lead to a file that is there. After want of memory nothing has changed.
-    fn link(&mut self, alloc: Global, dir: Fid, name: &Name, file: Fid) -> Result<(), Memory>
+    fn link(&mut self, alloc: Global, new: Place<'_>, file: Fid) -> Result<(), Memory>
         requires there { IsThere self.old (SpecFile file) }
-        requires room { (file_of self.old file).links < 18446744073709551615 }
-        ensures linked { OnOk result (self.new ≡ changed self.old (Leads dir name.now (SpecFile file) ∷ SetLinks file ((file_of self.old file).links + 1) ∷ [])) }
+        requires room { (file_of self.old file).links < u64.MAX }
+        ensures linked { OnOk result (self.new ≡ changed self.old (Leads new.entry.dir new.entry.name.now (SpecFile file) ∷ SetLinks file ((file_of self.old file).links + 1) ∷ [])) }
         ensures kept { OnErr result (self.new ≡ self.old) }
     {
         let links = self.links(file) + 1;
-        let name = name.copy(alloc)?;
-        self.lead(alloc, dir, name, Child::File(file))?;
+        let name = new.name.copy(alloc)?;
+        self.lead(alloc, new.dir, name, Child::File(file))?;
         self.set_links(file, links);
         Ok(())
-    }
-
-    /// Takes the name out, and the file to which it leads if it has neither another name nor an open.
-    fn unlink(&mut self, dir: Fid, name: &Name, file: Fid)
-        requires named { child self.old dir name.now ≡ Some (SpecFile file) }
-        requires there { IsThere self.old (SpecFile file) }
-        requires lean { trim self.old ≡ self.old }
-        ensures gone { self.new ≡ trim (changed self.old (Drops dir name.now ∷ Parted file ∷ SetLinks file ((file_of self.old file).links - 1) ∷ [])) }
-    {
-        let links = self.links(file).saturating_sub(1);
-        self.unlead(dir, name);
-        self.set_links(file, links);
-        self.bury(file);
-    }
-
-    /// Takes the name out, and the empty directory to which it leads.
-    fn remove(&mut self, dir: Fid, name: &Name, gone: Fid)
-        requires named { child self.old dir name.now ≡ Some (SpecDir gone) }
-        requires empty { listing self.old gone ≡ [] }
-        ensures gone { self.new ≡ changed self.old (Drops dir name.now ∷ Parted gone ∷ Leaves gone ∷ []) }
-    {
-        self.unlead(dir, name);
-        self.leave(gone);
     }
 
     /// Makes the new name lead to this in place of the old one. After want of memory nothing has changed.
@@ -137,6 +113,19 @@ impl Inodes {
         }
     }
 
+    /// Takes the name out, and what it leads to if that is a directory or a file with neither another name nor an
+    /// open.
+    fn lose_name(&mut self, old: Place<'_>, gone: Child)
+        requires named { child self.old old.dir old.name.now ≡ Some gone }
+        requires there { IsThere self.old gone }
+        requires empty { MayLeave self.old gone }
+        requires lean { trim self.old ≡ self.old }
+        ensures gone { self.new ≡ trim (changed self.old (Drops old.entry.dir old.entry.name.now ∷ Parted (fid_of gone) ∷ leaving self.old gone ∷ [])) }
+    {
+        self.unlead(old.dir, old.name);
+        self.lose(gone);
+    }
+
     /// Does what an operation of a life comes to, as transaction `number`, over this many object storage
     /// targets. After want of memory nothing has changed.
     pub(crate) fn perform(
@@ -158,19 +147,14 @@ impl Inodes {
         ensures kept { OnErr result (self.new ≡ self.old) }
     {
         match end {
-            End::Makes(dir, name) => self.make(alloc, number, dir, name),
-            End::Creates {
-                dir,
-                name,
-                size,
-                count,
-            } => {
+            End::Makes(new) => self.make(alloc, number, new),
+            End::Creates { new, size, count } => {
                 let layout = striped(osts, number, size, count);
-                self.create(alloc, number, dir, name, layout)
+                self.create(alloc, number, new, layout)
             }
-            End::Links { dir, name, file } => self.link(alloc, dir, name, file),
-            End::Unlinks { dir, name, file } => {
-                self.unlink(dir, name, file);
+            End::Links(new, file) => self.link(alloc, new, file),
+            End::Loses(old, gone) => {
+                self.lose_name(old, gone);
                 Ok(())
             }
             End::Moves(old, moved, new) => self.move_name(alloc, old, moved, new),
@@ -183,10 +167,6 @@ impl Inodes {
             End::OpensFile(fid) => self.open(number, who, fid),
             End::ClosesFile(opened, fid) => {
                 self.close(opened, who, fid);
-                Ok(())
-            }
-            End::Removes(dir, name, gone) => {
-                self.remove(dir, name, gone);
                 Ok(())
             }
             _ => Ok(()),

@@ -34,30 +34,18 @@ pub(crate) enum End<'a> {
     Lists(Fid),
     /// The layout of this file is told.
     Shows(Fid),
-    /// A directory is made, to which this name of this directory leads.
-    Makes(Fid, &'a Name),
-    /// A file with this stripe size, in bytes, and so many stripes is made, to which this name of this directory
-    /// leads.
+    /// A directory is made, to which the name leads.
+    Makes(Place<'a>),
+    /// A file with this stripe size, in bytes, and so many stripes is made, to which the name leads.
     Creates {
-        dir: Fid,
-        name: &'a Name,
+        new: Place<'a>,
         size: u64,
         count: u64,
     },
-    /// This name of this directory is made lead to this file, which has a name.
-    Links {
-        dir: Fid,
-        name: &'a Name,
-        file: Fid,
-    },
-    /// This name of this directory goes, which leads to this file.
-    Unlinks {
-        dir: Fid,
-        name: &'a Name,
-        file: Fid,
-    },
-    /// This name of this directory goes, and the empty directory to which it leads.
-    Removes(Fid, &'a Name, Fid),
+    /// The name is made lead to this file, which has a name.
+    Links(Place<'a>, Fid),
+    /// The name goes, which leads to this: an empty directory, which goes too, or a file.
+    Loses(Place<'a>, Child),
     /// Both names lead to one inode, which is as before.
     Same,
     /// The name goes, and this, to which it leads, gets the free name.
@@ -79,11 +67,10 @@ pub(crate) fn changes(end: End<'_>) -> bool
     ensures { (osts : ℕ) (t : Tree) (number : SpecTxn) (who : SpecWho) → result ≡ is_some_change (changes_of osts t number who end.entry) }
 {
     match end {
-        End::Makes(_, _) => true,
+        End::Makes(_) => true,
         End::Creates { .. } => true,
-        End::Links { .. } => true,
-        End::Unlinks { .. } => true,
-        End::Removes(_, _, _) => true,
+        End::Links(_, _) => true,
+        End::Loses(_, _) => true,
         End::Moves(_, _, _) => true,
         End::Replaces(_, _, _, _) => true,
         End::SetsMode(_, _) => true,

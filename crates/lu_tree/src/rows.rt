@@ -13,7 +13,7 @@ ghost use Rattle.lu_tree.specs.Ends.{ended, looked_of, names_after, IsReached, S
 ghost use Rattle.lu_tree.specs.Rows.{row_of, last_row_of, no_last, IsAskable};
 ghost use Rattle.lu_tree.specs.Walks.{looks, reach, trail};
 
-use super::ends::End;
+use super::ends::{End, Place};
 use super::inodes::Inodes;
 use super::striping::{is_bad, stripe_count, stripe_size};
 use super::walks::Found;
@@ -95,28 +95,28 @@ impl Inodes {
     }
 
     /// The end of an `unlink` of that to which this name leads.
-    fn unlink_row<'a>(&self, dir: Fid, name: &'a Name, found: Child) -> End<'a>
-        ensures ends { (osts : ℕ) (number : SpecTxn) (who : SpecWho) → outcome self.now (row_unlink dir name.now found) ≡ ended osts self.now number who [] result }
-        ensures looks { looked self.now (row_unlink dir name.now found) ≡ looked_of result }
-        ensures seen { (osts : ℕ) → child self.now dir name.now ≡ Some found → Seen osts self.now result }
+    fn unlink_row<'a>(&self, old: Place<'a>, found: Child) -> End<'a>
+        ensures ends { (osts : ℕ) (number : SpecTxn) (who : SpecWho) → outcome self.now (row_unlink old.entry.dir old.entry.name.now found) ≡ ended osts self.now number who [] result }
+        ensures looks { looked self.now (row_unlink old.entry.dir old.entry.name.now found) ≡ looked_of result }
+        ensures seen { (osts : ℕ) → child self.now old.entry.dir old.entry.name.now ≡ Some found → Seen osts self.now result }
     {
         match found {
             Child::Dir(_) => End::Refused(Errno::EISDIR),
-            Child::File(file) => End::Unlinks { dir, name, file },
+            Child::File(file) => End::Loses(old, Child::File(file)),
         }
     }
 
     /// The end of a `rmdir` of that to which this name leads.
-    fn rmdir_row<'a>(&self, dir: Fid, name: &'a Name, found: Child) -> End<'a>
-        ensures ends { (osts : ℕ) (number : SpecTxn) (who : SpecWho) → outcome self.now (row_rmdir dir name.now found) ≡ ended osts self.now number who [] result }
-        ensures looks { looked self.now (row_rmdir dir name.now found) ≡ looked_of result }
-        ensures seen { (osts : ℕ) → child self.now dir name.now ≡ Some found → Seen osts self.now result }
+    fn rmdir_row<'a>(&self, old: Place<'a>, found: Child) -> End<'a>
+        ensures ends { (osts : ℕ) (number : SpecTxn) (who : SpecWho) → outcome self.now (row_rmdir old.entry.dir old.entry.name.now found) ≡ ended osts self.now number who [] result }
+        ensures looks { looked self.now (row_rmdir old.entry.dir old.entry.name.now found) ≡ looked_of result }
+        ensures seen { (osts : ℕ) → child self.now old.entry.dir old.entry.name.now ≡ Some found → Seen osts self.now result }
     {
         match found {
             Child::File(_) => End::Refused(Errno::ENOTDIR),
             Child::Dir(gone) => {
                 if self.is_empty(gone) {
-                    End::Removes(dir, name, gone)
+                    End::Loses(old, Child::Dir(gone))
                 } else {
                     End::NotEmpty(gone)
                 }
@@ -125,23 +125,18 @@ impl Inodes {
     }
 
     /// The end of a `create` of a name that is free.
-    fn create_row<'a>(&self, osts: u16, dir: Fid, name: &'a Name, size: u64, count: i32) -> End<'a>
+    fn create_row<'a>(&self, osts: u16, new: Place<'a>, size: u64, count: i32) -> End<'a>
         requires { 1 ≤ osts }
-        ensures ends { (number : SpecTxn) (who : SpecWho) → outcome self.now (row_create number dir name.now (new_layout osts number size count)) ≡ ended osts self.now number who [] result }
-        ensures looks { (number : SpecTxn) → looked self.now (row_create number dir name.now (new_layout osts number size count)) ≡ looked_of result }
-        ensures seen { IsReached self.now (SpecDir dir) → child self.now dir name.now ≡ None → Seen osts self.now result }
+        ensures ends { (number : SpecTxn) (who : SpecWho) → outcome self.now (row_create number new.entry.dir new.entry.name.now (new_layout osts number size count)) ≡ ended osts self.now number who [] result }
+        ensures looks { (number : SpecTxn) → looked self.now (row_create number new.entry.dir new.entry.name.now (new_layout osts number size count)) ≡ looked_of result }
+        ensures seen { IsReached self.now (SpecDir new.entry.dir) → child self.now new.entry.dir new.entry.name.now ≡ None → Seen osts self.now result }
     {
         let size = stripe_size(size);
         let count = stripe_count(osts, count);
         if is_bad(osts, size, count) {
             End::Refused(Errno::EINVAL)
         } else {
-            End::Creates {
-                dir,
-                name,
-                size,
-                count,
-            }
+            End::Creates { new, size, count }
         }
     }
 
@@ -150,28 +145,25 @@ impl Inodes {
         &self,
         osts: u16,
         ask: LastAsk,
-        dir: Fid,
-        name: &'a Name,
+        place: Place<'a>,
         found: Option<Child>,
     ) -> End<'a>
         requires { 1 ≤ osts }
-        ensures ends { (number : SpecTxn) (who : SpecWho) → outcome self.now (last_row_of osts number ask dir name.now found) ≡ ended osts self.now number who [] result }
-        ensures looks { (number : SpecTxn) → looked self.now (last_row_of osts number ask dir name.now found) ≡ looked_of result }
-        ensures seen { IsAskable self.now ask → IsReached self.now (SpecDir dir) → child self.now dir name.now ≡ found → Seen osts self.now result }
+        ensures ends { (number : SpecTxn) (who : SpecWho) → outcome self.now (last_row_of osts number ask place.entry.dir place.entry.name.now found) ≡ ended osts self.now number who [] result }
+        ensures looks { (number : SpecTxn) → looked self.now (last_row_of osts number ask place.entry.dir place.entry.name.now found) ≡ looked_of result }
+        ensures seen { IsAskable self.now ask → IsReached self.now (SpecDir place.entry.dir) → child self.now place.entry.dir place.entry.name.now ≡ found → Seen osts self.now result }
     {
         match (ask, found) {
-            (LastAsk::Mkdir, None) => End::Makes(dir, name),
+            (LastAsk::Mkdir, None) => End::Makes(place),
             (LastAsk::Mkdir, Some(_)) => End::Refused(Errno::EEXIST),
-            (LastAsk::Create { size, count }, None) => {
-                self.create_row(osts, dir, name, size, count)
-            }
+            (LastAsk::Create { size, count }, None) => { self.create_row(osts, place, size, count) }
             (LastAsk::Create { .. }, Some(_)) => End::Refused(Errno::EEXIST),
-            (LastAsk::Link(file), None) => End::Links { dir, name, file },
+            (LastAsk::Link(file), None) => End::Links(place, file),
             (LastAsk::Link(_), Some(_)) => End::Refused(Errno::EEXIST),
             (LastAsk::Unlink, None) => End::Refused(Errno::ENOENT),
-            (LastAsk::Unlink, Some(found)) => self.unlink_row(dir, name, found),
+            (LastAsk::Unlink, Some(found)) => self.unlink_row(place, found),
             (LastAsk::Rmdir, None) => End::Refused(Errno::ENOENT),
-            (LastAsk::Rmdir, Some(found)) => self.rmdir_row(dir, name, found),
+            (LastAsk::Rmdir, Some(found)) => self.rmdir_row(place, found),
         }
     }
 
@@ -187,7 +179,7 @@ impl Inodes {
         };
         match self.find_last(front, name) {
             Err(errno) => End::Refused(errno),
-            Ok(Found { dir, child }) => self.last_row(osts, ask, dir, name, child),
+            Ok(Found { dir, child }) => { self.last_row(osts, ask, Place { dir, name }, child) },
         }
     }
 

@@ -7,7 +7,7 @@ ghost use Rattle.lu_machine.specs.Change.{written};
 ghost use Rattle.lu_machine.specs.Tree.{Tree, fid_of};
 ghost use Rattle.lu_part.specs.declared.parts.Part.TheVariants.{Attr, Name as NamePart, Parent};
 ghost use Rattle.lu_machine.specs.Table.{root};
-ghost use Rattle.lu_tree.specs.Ends.{changes_of, looked_of, names_after, names_of, rename_names};
+ghost use Rattle.lu_tree.specs.Ends.{changes_of, looked_at, looked_of, names_after, names_of, rename_names};
 ghost use Rattle.lu_tree.specs.Walks.{looks, reach};
 
 use super::ends::{End, Place};
@@ -86,6 +86,16 @@ impl Inodes {
     }
 }
 
+/// Adds what is looked at of what loses a name.
+fn push_looked_at(parts: &mut Parts, gone: Child) -> Result<(), Memory>
+    ensures pushed { OnOk result (parts.new ≡ parts.old ++ looked_at gone) }
+{
+    match gone {
+        Child::Dir(dir) => parts.push(Part::List(dir)),
+        Child::File(file) => parts.push(Part::Attr(file)),
+    }
+}
+
 /// Adds what an operation that comes to this has looked at after the names.
 pub(crate) fn push_looked(parts: &mut Parts, end: End<'_>) -> Result<(), Memory>
     ensures pushed { OnOk result (parts.new ≡ parts.old ++ looked_of end.entry) }
@@ -101,18 +111,21 @@ pub(crate) fn push_looked(parts: &mut Parts, end: End<'_>) -> Result<(), Memory>
         },
         End::Lists(dir) => parts.push(Part::List(dir)),
         End::Shows(file) => parts.push(Part::Layout(file)),
-        End::Removes(_, _, gone) => parts.push(Part::List(gone)),
-        End::Links { file, .. } => parts.push(Part::Attr(file)),
-        End::Unlinks { file, .. } => parts.push(Part::Attr(file)),
-        End::Replaces(_, _, _, gone) => match gone {
-            Child::Dir(dir) => parts.push(Part::List(dir)),
-            Child::File(file) => parts.push(Part::Attr(file)),
-        },
+        End::Links(_, file) => parts.push(Part::Attr(file)),
+        End::Loses(_, gone) => push_looked_at(parts, gone),
+        End::Replaces(_, _, _, gone) => push_looked_at(parts, gone),
         End::SetsMode(child, _) => parts.push(Part::Attr(fid(child))),
         End::KeepsMode(child) => parts.push(Part::Attr(fid(child))),
         End::OpensFile(file) => parts.push(Part::Layout(file)),
         _ => Ok(()),
     }
+}
+
+/// Adds a name.
+fn push_name(alloc: Global, parts: &mut Parts, place: Place<'_>) -> Result<(), Memory>
+    ensures pushed { OnOk result (parts.new ≡ parts.old ++ NamePart place.entry.dir place.entry.name.now ∷ []) }
+{
+    parts.push(Part::Name(place.dir, place.name.copy(alloc)?))
 }
 
 /// Adds what is written where this leaves the old name for the new one.
@@ -125,12 +138,12 @@ fn push_moved(
 ) -> Result<(), Memory>
     ensures pushed { OnOk result (parts.new ≡ parts.old ++ NamePart old.entry.dir old.entry.name.now ∷ NamePart new.entry.dir new.entry.name.now ∷ Parent (fid_of child) ∷ []) }
 {
-    parts.push(Part::Name(old.dir, old.name.copy(alloc)?))?;
-    parts.push(Part::Name(new.dir, new.name.copy(alloc)?))?;
+    push_name(alloc, parts, old)?;
+    push_name(alloc, parts, new)?;
     parts.push(Part::Parent(fid(child)))
 }
 
-/// Adds what is written of what was replaced.
+/// Adds what is written of what loses a name.
 fn push_gone(parts: &mut Parts, gone: Child) -> Result<(), Memory>
     ensures pushed { OnOk result (parts.new ≡ parts.old ++ Parent (fid_of gone) ∷ Attr (fid_of gone) ∷ []) }
 {
@@ -143,16 +156,15 @@ pub(crate) fn push_written(alloc: Global, parts: &mut Parts, end: End<'_>) -> Re
     ensures pushed { OnOk result ((osts : ℕ) (t : Tree) (number : SpecTxn) (who : SpecWho) → parts.new ≡ parts.old ++ written (changes_of osts t number who end.entry)) }
 {
     match end {
-        End::Makes(dir, name) => parts.push(Part::Name(dir, name.copy(alloc)?)),
-        End::Creates { dir, name, .. } => parts.push(Part::Name(dir, name.copy(alloc)?)),
-        End::Links { dir, name, file } => {
-            parts.push(Part::Name(dir, name.copy(alloc)?))?;
+        End::Makes(new) => push_name(alloc, parts, new),
+        End::Creates { new, .. } => push_name(alloc, parts, new),
+        End::Links(new, file) => {
+            push_name(alloc, parts, new)?;
             parts.push(Part::Attr(file))
         }
-        End::Unlinks { dir, name, file } => {
-            parts.push(Part::Name(dir, name.copy(alloc)?))?;
-            parts.push(Part::Parent(file))?;
-            parts.push(Part::Attr(file))
+        End::Loses(old, gone) => {
+            push_name(alloc, parts, old)?;
+            push_gone(parts, gone)
         }
         End::Moves(old, child, new) => push_moved(alloc, parts, old, child, new),
         End::Replaces(old, child, new, gone) => {
@@ -160,11 +172,6 @@ pub(crate) fn push_written(alloc: Global, parts: &mut Parts, end: End<'_>) -> Re
             push_gone(parts, gone)
         }
         End::SetsMode(child, _) => parts.push(Part::Attr(fid(child))),
-        End::Removes(dir, name, gone) => {
-            parts.push(Part::Name(dir, name.copy(alloc)?))?;
-            parts.push(Part::Parent(gone))?;
-            parts.push(Part::Attr(gone))
-        }
         _ => Ok(()),
     }
 }

@@ -51,7 +51,7 @@ impl Tree {
     /// Performs an operation of a life, as transaction `number` if it makes one, which is then above all numbers
     /// used before. A refusal, and after want of memory everything, leaves the tree as it was.
     pub fn apply(&mut self, alloc: Global, number: Txn, who: Who, op: &Op) -> Result<Answer, Memory>
-        requires { footprint.changes self.old.osts self.old.tree (asked number who op.now) ≡ true → self.old.last < number.0 }
+        requires above { footprint.changes self.old.osts self.old.tree (asked number who op.now) ≡ true → self.old.last < number.0 }
         ensures answer { IfOk result (λ answer. answer ≡ footprint.answer self.old.osts self.old.tree (asked number who op.now)) }
         ensures after { OnOk result (self.new ≡ performed self.old (asked number who op.now)) }
         ensures kept { OnErr result (self.new ≡ self.old) }

@@ -1,5 +1,5 @@
 -- One more target stands after those so far.
-use Rattle.std.proofs.Common.{◌≡◌, ◌+◌, ◌%◌, ◌<◌, ℕ, [], ◌∷◌, ◌++◌, refl, sym, ap, ◌∙◌, arith, length, take}
+use Rattle.std.proofs.Common.{◌+◌, ◌%◌, ◌<◌, ℕ, [], ◌∷◌, ◌++◌, refl, sym, ap, ◌∙◌, arith, length}
 use Rattle.std.proofs.lemmas.Grind.{common_steps, take-set_at}
 use Rattle.std.proofs.lemmas.List.FromFn.{map-range_with_len_more}
 use Rattle.lu_tree.proofs.striping.targets.Goals as goal

@@ -1,7 +1,6 @@
 -- Only the file whose open was closed may leave.
-use Rattle.std.proofs.Common.{ap, sym, subst, ◌∙◌}
+use Rattle.std.proofs.Common.{sym, subst, ◌∙◌}
 use Rattle.lu_machine.specs.Tree.{Tree}
-use Rattle.lu_machine.specs.Trim.{trim}
 use Rattle.lu_tree.specs.Lives.{AreOthersLiving}
 use Rattle.lu_tree.proofs.Living.{others_closed}
 use Rattle.lu_tree.proofs.inodes.Inodes.close.Goals as goal

@@ -12,7 +12,7 @@ pub returns-in-Create-None-clause-looks : goal.returns-in-Create-None-clause-loo
 returns-in-Create-None-clause-looks c =
     let fits : SFits w32 c.in-Create-None.count = search rules in
     λ number. rw (c.in-Create-None.is-0, c.in-Create-None.is-1)
-    (subst (λ z. looked c.args.self.now (row_create number c.args.dir c.args.name.now (new_layout c.args.osts number c.in-Create-None.size z)) ≡ looked_of c.create_row.result) (to_z-of_z w32 c.in-Create-None.count fits)
+    (subst (λ z. looked c.args.self.now (row_create number c.args.place.dir c.args.place.name.now (new_layout c.args.osts number c.in-Create-None.size z)) ≡ looked_of c.create_row.result) (to_z-of_z w32 c.in-Create-None.count fits)
     (c.create_row.ensures.looks number))
 
 pub returns-in-Rmdir-Some-clause-ends : goal.returns-in-Rmdir-Some-clause-ends

@@ -1,6 +1,6 @@
 -- The order of the two changes doesn't matter.
-use Rattle.std.proofs.Common.{Some, refl, sym, ap, subst, ◌∙◌}
-use Rattle.std.specs.Prelude.{IsSome, if◌then◌else◌}
+use Rattle.std.proofs.Common.{refl, sym, ap, subst, ◌∙◌}
+use Rattle.std.specs.Prelude.{IsSome}
 use Rattle.lu_machine.specs.Change.{Drops, Leads, change}
 use Rattle.lu_machine.specs.Tree.{Tree, child}
 use Rattle.lu_machine.proofs.Leads.{led}

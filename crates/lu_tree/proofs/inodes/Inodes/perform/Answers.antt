@@ -27,8 +27,8 @@ returns-in-Creates-clause-done c =
     let f = made_by c.args.number in
     rw c.in-Creates.is
     (on_ok_weaker c.create.result
-    (λ made. made ∙ sym (lean_create t f c.striped-layout.result c.in-Creates.dir c.in-Creates.name.now (File f) c.requires.lean)
-    ∙ ap (λ l. trim (changed t (MakesFile f l ∷ Leads c.in-Creates.dir c.in-Creates.name.now (File f) ∷ []))) c.striped-layout.ensures)
+    (λ made. made ∙ sym (lean_create t f c.striped-layout.result c.in-Creates.new.dir c.in-Creates.new.name.now (File f) c.requires.lean)
+    ∙ ap (λ l. trim (changed t (MakesFile f l ∷ Leads c.in-Creates.new.dir c.in-Creates.new.name.now (File f) ∷ []))) c.striped-layout.ensures)
     c.create.ensures.made)
 
 pub link-requires-clause-there : goal.link-requires-clause-there
@@ -38,10 +38,12 @@ pub returns-in-Links-clause-done : goal.returns-in-Links-clause-done
 returns-in-Links-clause-done c =
     let t = c.args.self.now in
     let f = c.in-Links.file in
-    rw c.in-Links.is (on_ok_weaker c.link.result (λ linked. linked ∙ sym (lean_link t c.in-Links.dir c.in-Links.name.now (File f) f (file t f).links c.requires.lean)) c.link.ensures.linked)
+    rw c.in-Links.is (on_ok_weaker c.link.result (λ linked. linked ∙ sym (lean_link t c.in-Links.new.dir c.in-Links.new.name.now (File f) f (file t f).links c.requires.lean)) c.link.ensures.linked)
 
-pub unlink-requires-clause-there : goal.unlink-requires-clause-there
-unlink-requires-clause-there c = let h = rw c.in-Unlinks.is at c.requires.seen in child_there c.args.self.now (File c.in-Unlinks.file) c.requires.counted (inr (c.in-Unlinks.dir, c.in-Unlinks.name.now, h))
+pub lose_name-requires-clause-there : goal.lose_name-requires-clause-there
+lose_name-requires-clause-there c =
+    let h = rw c.in-Loses.is at c.requires.seen in
+    child_there c.args.self.now c.in-Loses.gone c.requires.counted (inr (c.in-Loses.old.dir, c.in-Loses.old.name.now, h.0))
 
 pub set_mode-requires : goal.set_mode-requires
 set_mode-requires c = let h = rw c.in-SetsMode.is at c.requires.seen in record { there = child_there c.args.self.now c.in-SetsMode.child c.requires.counted h }
@@ -85,9 +87,6 @@ returns-in_ok-move_name-in-Replaces-clause-done c =
     let u = changed t (Drops c.in-Replaces.old.dir c.in-Replaces.old.name.now ∷ Leads c.in-Replaces.new.dir c.in-Replaces.new.name.now c.in-Replaces.moved ∷ []) in
     rw c.in-Replaces.is
     (c.lose.ensures.gone ∙ ap (λ (u : Tree). trim (change u (leaving u g))) c.in_ok-move_name-in-Replaces.ensures.moved ∙ ap (λ x. trim (change u x)) (leaving_with t u.dirs g))
-
-pub returns-in-Removes-clause-done : goal.returns-in-Removes-clause-done
-returns-in-Removes-clause-done c = rw c.in-Removes.is (c.remove.ensures.gone ∙ sym (lean_with c.args.self.now _ c.requires.lean))
 
 pub returns-in-OpensFile-clause-done : goal.returns-in-OpensFile-clause-done
 returns-in-OpensFile-clause-done c = rw c.in-OpensFile.is (on_ok_weaker c.open.result (λ opened. opened ∙ sym (lean_open c.args.self.now c.args.number c.args.who c.in-OpensFile.fid c.requires.lean)) c.open.ensures.opened)

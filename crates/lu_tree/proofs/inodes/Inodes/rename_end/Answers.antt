@@ -1,5 +1,5 @@
 -- The new name comes after the old one, if that leads to something.
-use Rattle.std.proofs.Common.{◌≡◌, [], ◌∷◌, ◌++◌, refl, sym, ap, ◌∙◌, append-nil, append_assoc}
+use Rattle.std.proofs.Common.{◌≡◌, [], ◌++◌, sym, ap, ◌∙◌, append-nil, append_assoc}
 use Rattle.lu_msg.specs.declared.answers.Errno.TheVariants.{EBUSY, ENOENT}
 use Rattle.std.specs.declared.result.Result.TheVariants.{Ok, Err}
 use Rattle.lu_machine.specs.Plan.{outcome, looked}

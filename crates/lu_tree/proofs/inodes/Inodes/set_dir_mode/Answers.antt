@@ -1,5 +1,5 @@
 -- The directory has the new mode, and each other one is as it was.
-use Rattle.std.proofs.Common.{◌≡◌, [], refl, sym, ap, ◌∙◌}
+use Rattle.std.proofs.Common.{refl, sym, ap, ◌∙◌}
 use Rattle.std.specs.BTreeMap.{BTreeMap, insert_entry}
 use Rattle.std.specs.Map.{set_value}
 use Rattle.lu_base.specs.declared.ids.Fid.{Fid}
