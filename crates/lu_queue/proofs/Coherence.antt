@@ -1,19 +1,17 @@
 -- What holds of a queue still holds after each call.
-use Rattle.std.proofs.Common.{◌≡◌, ℕ, zero, suc, ◌+◌, ◌<◌, ◌≤◌, ◌||◌, ◌==◌, Bool, true, false, not, if◌then◌else◌, List, [], ◌∷◌, ◌++◌, length, map, filter, All, AllPairs, take, drop, get_or, refl, sym, ◌∙◌, ap, subst, arith}
-use Rattle.std.proofs.lemmas.List.{append-nil, append_assoc, length-append}
+use Rattle.std.proofs.Common.{◌≡◌, ℕ, zero, suc, ◌<◌, ◌==◌, Bool, true, false, not, List, [], ◌∷◌, ◌++◌, length, filter, All, AllPairs, get_or, refl, sym, ◌∙◌, ap, subst, arith}
+use Rattle.std.proofs.lemmas.List.{append_assoc, length-append}
 use Rattle.std.proofs.lemmas.List.Folds.{list_any-append}
 use Rattle.std.proofs.Math.Seq.{get_or-append_seam}
 use Rattle.std.proofs.lemmas.List.Quantifiers.{all_pairs_push}
 use Rattle.std.proofs.lemmas.List.Kept.{AllPairs-filter}
-use Rattle.std.proofs.lemmas.List.Elements.{All-filter, All-push, All-append}
-use Rattle.lu_base.specs.declared.locks.Ask.{Ask}
+use Rattle.std.proofs.lemmas.List.Elements.{All-filter, All-push}
 use Rattle.lu_lock.specs.Overlap.{IsOrdered}
-use Rattle.lu_lock.specs.Conflict.{conflict, conflicts_with_any}
-use Rattle.lu_lock.specs.Growth.{granted_ask}
+use Rattle.lu_lock.specs.Conflict.{conflict}
 use Rattle.lu_lock.proofs.ConflictLaws.{conflict_symmetric}
 use Rattle.lu_lock.proofs.GrowthLaws.{granted_apart}
 use Rattle.lu_queue.specs.declared.locks.Grant.{Grant}
-use Rattle.lu_queue.specs.Queues.{QueueState, asks, has, times, IsOnce, is_in, other_than, conflicts, has_to_wait, AllWait, as_granted, IsGranted, AreGranted, with_lock, may_restore, restored, without, IsCoherent, IsQueue}
+use Rattle.lu_queue.specs.Queues.{QueueState, asks, has, times, IsOnce, is_in, conflicts, has_to_wait, as_granted, IsGranted, AreGranted, without, IsCoherent, IsQueue}
 use Rattle.lu_queue.proofs.Lists.{or_false, times-append, times_of_filter, once_with, conflicts-asks, no_conflict_at}
 use Rattle.lu_queue.proofs.Waits.{all_wait_more, all_wait_push}
 
@@ -56,9 +54,9 @@ All-without : (P : Grant → Type 0) (ahead : List Grant) (x : Grant) (behind : 
 All-without P [] x behind all = λ place d within. all (suc place) d (omega arith)
 All-without P (a ∷ ahead) x behind all = λ place d within.
     by place d within (All-without P ahead x behind (λ k e below. all (suc k) e (omega arith))) where
-  by : (place : ℕ) (d : Grant) → place < length (a ∷ (ahead ++ behind)) → All P (ahead ++ behind) → P (get_or (a ∷ (ahead ++ behind)) place d)
-  by zero d within rest = all zero d (omega arith)
-  by (suc place) d within rest = rest place d (omega arith)
+      by : (place : ℕ) (d : Grant) → place < length (a ∷ (ahead ++ behind)) → All P (ahead ++ behind) → P (get_or (a ∷ (ahead ++ behind)) place d)
+      by zero d within rest = all zero d (omega arith)
+      by (suc place) d within rest = rest place d (omega arith)
 
 abbrev Ordered : Grant → Type 0
 Ordered lock = IsOrdered lock.ask.policy
@@ -69,9 +67,9 @@ coherent_granted before grant after coherent step =
     let asked : IsOrdered step.lock.ask.policy = All-middle Ordered step.ahead step.lock step.behind all in
     let none : conflicts step.lock.ask before.granted ≡ false = (or_false _ _ step.free).0 in
     let free : conflicts grant.ask before.granted ≡ false =
-        rw step.grown (grown_apart step.lock before.granted (step.ahead ++ step.behind) asked none) in
+    rw step.grown (grown_apart step.lock before.granted (step.ahead ++ step.behind) asked none) in
     let once : IsOnce (before.granted ++ (step.ahead ++ step.lock ∷ step.behind)) =
-        subst (λ waiting. IsOnce (before.granted ++ waiting)) step.waiting coherent.once in
+    subst (λ waiting. IsOnce (before.granted ++ waiting)) step.waiting coherent.once in
     subst IsCoherent (sym step.left) (record {
       apart = apart_with before.granted grant coherent.apart free;
       once = once_moved before.granted step.ahead step.behind step.lock grant (ap (λ (g : Grant). g.cookie) step.grown) once;
@@ -145,11 +143,11 @@ coherent_without cookie queue lawful =
     record {
       apart = AllPairs-filter Apart other queue.granted coherent.apart;
       once = λ c.
-        let a = times-append c (filter other queue.granted) (filter other queue.waiting) in
-        let b = times-append c queue.granted queue.waiting in
-        let d = times_of_filter c other queue.granted in
-        let e = times_of_filter c other queue.waiting in
-        let most = coherent.once c in
-        omega arith;
+          let a = times-append c (filter other queue.granted) (filter other queue.waiting) in
+          let b = times-append c queue.granted queue.waiting in
+          let d = times_of_filter c other queue.granted in
+          let e = times_of_filter c other queue.waiting in
+          let most = coherent.once c in
+          omega arith;
       ordered = All-filter other Ordered queue.waiting coherent.ordered;
     }

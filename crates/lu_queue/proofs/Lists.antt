@@ -1,6 +1,6 @@
 -- Lists of locks: how often a cookie is there, and what conflicts.
-use Rattle.std.proofs.Common.{◌≡◌, ◌≢◌, ℕ, zero, suc, ◌+◌, ◌<◌, ◌≤◌, ◌==◌, ◌||◌, Bool, true, false, not, cond, List, [], ◌∷◌, ◌++◌, length, map, filter, All, take, drop, get_or, refl, sym, ◌∙◌, ap, subst, arith}
-use Rattle.std.specs.List.{list_any, count_by}
+use Rattle.std.proofs.Common.{◌≡◌, ℕ, zero, suc, ◌+◌, ◌<◌, ◌≤◌, ◌==◌, ◌||◌, Bool, true, false, cond, List, [], ◌∷◌, ◌++◌, length, map, filter, take, drop, get_or, refl, ap, subst, arith}
+use Rattle.std.specs.List.{count_by}
 use Rattle.std.specs.List.Sorted.{IsPermutation, IsSorted}
 use Rattle.std.specs.Ordering.{is_lt}
 use Rattle.std.specs.declared.cmp.Ordering.{Ordering}
@@ -12,7 +12,7 @@ use Rattle.lu_base.specs.declared.ids.Cookie.{Cookie}
 use Rattle.lu_base.specs.declared.locks.Ask.{Ask}
 use Rattle.lu_lock.specs.Conflict.{conflict, conflicts_with_any}
 use Rattle.lu_queue.specs.declared.locks.Grant.{Grant}
-use Rattle.lu_queue.specs.Queues.{asks, has, times, IsOnce, other_than, conflicts, IsRising}
+use Rattle.lu_queue.specs.Queues.{asks, has, times, IsOnce, conflicts, IsRising}
 
 pub or_false : (a b : Bool) → (a || b) ≡ false → (a ≡ false) × (b ≡ false)
 or_false true b h = cc
@@ -54,16 +54,16 @@ new_after before lock after once =
 pub once_with : (xs : List Grant) (lock : Grant) → IsOnce xs → has lock.cookie.0 xs ≡ false → IsOnce (xs ++ lock ∷ [])
 once_with xs lock once new = λ cookie.
     by cookie (lock.cookie.0 == cookie) refl (once cookie) (times-append cookie xs (lock ∷ [])) where
-  by : (cookie : ℕ) (here : Bool) → (lock.cookie.0 == cookie) ≡ here → times cookie xs ≤ 1 →
-      times cookie (xs ++ lock ∷ []) ≡ times cookie xs + times cookie (lock ∷ []) → times cookie (xs ++ lock ∷ []) ≤ 1
-  by cookie true e most all =
-      let same : lock.cookie.0 ≡ cookie = grind (arith, nat_tests) in
-      let none : times cookie xs ≡ 0 = times_of_none cookie xs (subst (λ c. has c xs ≡ false) same new) in
-      let one : times cookie (lock ∷ []) ≡ 1 = rw e refl in
-      omega arith
-  by cookie false e most all =
-      let none : times cookie (lock ∷ []) ≡ 0 = rw e refl in
-      omega arith
+      by : (cookie : ℕ) (here : Bool) → (lock.cookie.0 == cookie) ≡ here → times cookie xs ≤ 1 →
+          times cookie (xs ++ lock ∷ []) ≡ times cookie xs + times cookie (lock ∷ []) → times cookie (xs ++ lock ∷ []) ≤ 1
+      by cookie true e most all =
+          let same : lock.cookie.0 ≡ cookie = grind (arith, nat_tests) in
+          let none : times cookie xs ≡ 0 = times_of_none cookie xs (subst (λ c. has c xs ≡ false) same new) in
+          let one : times cookie (lock ∷ []) ≡ 1 = rw e refl in
+          omega arith
+      by cookie false e most all =
+          let none : times cookie (lock ∷ []) ≡ 0 = rw e refl in
+          omega arith
 
 pub once_left : (xs ys : List Grant) → IsOnce (xs ++ ys) → IsOnce xs
 once_left xs ys once = λ cookie. let all = times-append cookie xs ys in let most = once cookie in omega arith
@@ -124,13 +124,13 @@ rising_once test locks cookies once moved sorted = λ place d within.
         let here : ((get_or cookies place d).0 == n) ≡ true = grind (arith, nat_tests, e) in
         let next : ((get_or cookies (place + 1) d).0 == n) ≡ true = grind (arith, nat_tests, equal) in
         let one : number_of n (take (place + 1) cookies) ≡ number_of n (take place cookies) + 1 =
-            count_by_more_yes (λ (cookie : Cookie). cookie.0 == n) cookies place d (omega arith) here in
+        count_by_more_yes (λ (cookie : Cookie). cookie.0 == n) cookies place d (omega arith) here in
         let two : number_of n (take (place + 1 + 1) cookies) ≡ number_of n (take (place + 1) cookies) + 1 =
-            count_by_more_yes (λ (cookie : Cookie). cookie.0 == n) cookies (place + 1) d within next in
+        count_by_more_yes (λ (cookie : Cookie). cookie.0 == n) cookies (place + 1) d within next in
         let all : number_of n (take (place + 1 + 1) cookies) + number_of n (drop (place + 1 + 1) cookies) ≡ number_of n cookies =
-            sum_by-take-drop (λ (cookie : Cookie). cond (cookie.0 == n) 1 0) cookies (place + 1 + 1) in
+        sum_by-take-drop (λ (cookie : Cookie). cond (cookie.0 == n) 1 0) cookies (place + 1 + 1) in
         let before : number_of n cookies ≡ number_of n (map (λ lock. lock.cookie) (filter test locks)) =
-            sum_by-IsPermutation (λ (cookie : Cookie). cond (cookie.0 == n) 1 0) (map (λ lock. lock.cookie) (filter test locks)) cookies moved in
+        sum_by-IsPermutation (λ (cookie : Cookie). cond (cookie.0 == n) 1 0) (map (λ lock. lock.cookie) (filter test locks)) cookies moved in
         let few = numbers_of_filter n test locks in
         let most : times n locks ≤ 1 = once n in
         absurd (omega arith)

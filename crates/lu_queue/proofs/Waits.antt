@@ -1,21 +1,21 @@
 -- Which locks have to wait, as locks are added.
-use Rattle.std.proofs.Common.{◌≡◌, ℕ, suc, ◌+◌, ◌<◌, ◌≤◌, ◌||◌, Bool, true, false, List, [], ◌∷◌, ◌++◌, length, take, drop, get_or, refl, sym, ◌∙◌, ap, subst, arith, ◌⊎◌, inl, inr}
+use Rattle.std.proofs.Common.{◌≡◌, ℕ, suc, ◌+◌, ◌<◌, ◌≤◌, ◌||◌, Bool, true, false, List, [], ◌∷◌, ◌++◌, length, take, drop, get_or, refl, sym, subst, arith, ◌⊎◌, inl, inr}
 use Rattle.std.proofs.lemmas.Bool.{cases_lt}
-use Rattle.std.proofs.lemmas.List.{take-append-le, length-append, get_or_append_left, length-take-le, append_assoc}
+use Rattle.std.proofs.lemmas.List.{take-append-le, length-append, get_or_append_left, length-take-le}
 use Rattle.std.proofs.Math.Seq.{get_or-append_seam, take-append_seam, split_at}
 use Rattle.lu_base.specs.declared.locks.Ask.{Ask}
 use Rattle.lu_queue.specs.declared.locks.Grant.{Grant}
-use Rattle.lu_queue.specs.Queues.{QueueState, conflicts, has_to_wait, AllWait, as_granted, IsGranted, AreGranted}
-use Rattle.lu_queue.proofs.Lists.{or_false, conflicts-append}
+use Rattle.lu_queue.specs.Queues.{conflicts, has_to_wait, AllWait, as_granted, IsGranted}
+use Rattle.lu_queue.proofs.Lists.{conflicts-append}
 
 -- what has to wait still has to, where more is granted
 pub waits_more : (ask : Ask) (granted more ahead : List Grant) → has_to_wait ask granted ahead ≡ true → has_to_wait ask (granted ++ more) ahead ≡ true
 waits_more ask granted more ahead h =
     rw (conflicts-append ask granted more) (by (conflicts ask granted) (conflicts ask more) (conflicts ask ahead) h) where
-  by : (a b c : Bool) → (a || c) ≡ true → ((a || b) || c) ≡ true
-  by true b c h = refl
-  by false true c h = refl
-  by false false c h = h
+      by : (a b c : Bool) → (a || c) ≡ true → ((a || b) || c) ≡ true
+      by true b c h = refl
+      by false true c h = refl
+      by false false c h = h
 
 pub all_wait_more : (granted more waiting : List Grant) → AllWait granted waiting → AllWait (granted ++ more) waiting
 all_wait_more granted more waiting all = λ place d within.
@@ -26,14 +26,14 @@ pub all_wait_push : (granted waiting : List Grant) (lock : Grant) → AllWait gr
     AllWait granted (waiting ++ lock ∷ [])
 all_wait_push granted waiting lock all last = λ place d within.
     by place d within (cases_lt place (length waiting)) (length-append waiting (lock ∷ [])) where
-  by : (place : ℕ) (d : Grant) → place < length (waiting ++ lock ∷ []) → (place < length waiting) ⊎ (length waiting ≤ place) →
-      length (waiting ++ lock ∷ []) ≡ length waiting + 1 →
-      has_to_wait (get_or (waiting ++ lock ∷ []) place d).ask granted (take place (waiting ++ lock ∷ [])) ≡ true
-  by place d within (inl below) count =
-      rw (get_or_append_left waiting (lock ∷ []) d place below, take-append-le place waiting (lock ∷ []) (omega arith)) (all place d below)
-  by place d within (inr past) count =
-      let e : place ≡ length waiting = omega arith in
-      rw (e, get_or-append_seam waiting lock [] d, take-append_seam waiting (lock ∷ [])) last
+      by : (place : ℕ) (d : Grant) → place < length (waiting ++ lock ∷ []) → (place < length waiting) ⊎ (length waiting ≤ place) →
+          length (waiting ++ lock ∷ []) ≡ length waiting + 1 →
+          has_to_wait (get_or (waiting ++ lock ∷ []) place d).ask granted (take place (waiting ++ lock ∷ [])) ≡ true
+      by place d within (inl below) count =
+          rw (get_or_append_left waiting (lock ∷ []) d place below, take-append-le place waiting (lock ∷ []) (omega arith)) (all place d below)
+      by place d within (inr past) count =
+          let e : place ≡ length waiting = omega arith in
+          rw (e, get_or-append_seam waiting lock [] d, take-append_seam waiting (lock ∷ [])) last
 
 -- ---- one step of going through the waiting locks
 
@@ -61,5 +61,5 @@ pub front_waits : (granted more waiting : List Grant) (place : ℕ) → place �
 front_waits granted more waiting place within first =
     let count = length-take-le place waiting within in
     let front : take place (take place waiting ++ drop (place + 1) waiting) ≡ take place waiting =
-        subst (λ n. take n (take place waiting ++ drop (place + 1) waiting) ≡ take place waiting) count (take-append_seam (take place waiting) (drop (place + 1) waiting)) in
+    subst (λ n. take n (take place waiting ++ drop (place + 1) waiting) ≡ take place waiting) count (take-append_seam (take place waiting) (drop (place + 1) waiting)) in
     subst (AllWait (granted ++ more)) (sym front) (all_wait_more granted more (take place waiting) first)

@@ -6,7 +6,7 @@ use Rattle.std.specs.List.{list_any}
 use Rattle.lu_base.specs.declared.locks.Ask.{Ask}
 use Rattle.lu_base.specs.declared.ids.Cookie.{Cookie}
 use Rattle.lu_lock.specs.Overlap.{IsOrdered}
-use Rattle.lu_lock.specs.Conflict.{conflict, conflicts_with_any}
+use Rattle.lu_lock.specs.Conflict.{conflict}
 use Rattle.lu_lock.specs.Growth.{granted_ask}
 use Rattle.lu_queue.specs.declared.locks.Grant.{Grant}
 use Rattle.lu_queue.specs.declared.locks.Placed.{Placed}

@@ -2,11 +2,12 @@
 #![tactic(auto)]
 
 mod arrivals;
+mod granting;
 mod locks;
 mod queue;
-mod settle;
 #[cfg(test)]
 mod tests;
 
-pub use locks::{Grant, Grants, Placed, QueueError};
+pub use granting::{has_to_wait, settle};
+pub use locks::{Grant, Grants, Placed, QueueError, as_granted, other_than};
 pub use queue::Queue;

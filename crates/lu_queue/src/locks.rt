@@ -71,7 +71,7 @@ pub(crate) fn conflicts(ask: &Ask, locks: &[Grant]) -> bool
 }
 
 /// The locks of other cookies.
-pub(crate) fn other_than(alloc: Global, locks: &[Grant], cookie: Cookie) -> Result<Vec<Grant>, Memory>
+pub fn other_than(alloc: Global, locks: &[Grant], cookie: Cookie) -> Result<Vec<Grant>, Memory>
     ensures { IfOk result (λ others. others.items ≡ other_than cookie.0 locks.now) }
 {
     let others = locks
@@ -134,7 +134,7 @@ fn granted_policy(
 }
 
 /// A lock as it is granted beside these other granted and waiting locks.
-pub(crate) fn as_granted(
+pub fn as_granted(
     alloc: Global,
     lock: Grant,
     granted: &[Grant],

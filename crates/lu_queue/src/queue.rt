@@ -6,8 +6,10 @@ ghost use Rattle.lu_lock.specs.Overlap.{IsOrdered};
 ghost use Rattle.lu_queue.specs.Queues.{empty, is_in, placed, with_lock, may_restore, restored, without, AreGranted, blocking, IsRising, IsQueue};
 
 use super::arrivals::Arrivals;
-use super::locks::{Grant, Grants, Placed, QueueError, as_granted, conflicts, has, in_conflict, other_than};
-use super::settle::{has_to_wait, settle};
+use super::granting::{has_to_wait, settle};
+use super::locks::{
+    Grant, Grants, Placed, QueueError, as_granted, conflicts, has, in_conflict, other_than,
+};
 use lu_base::{Ask, Cookie, Cookies, Memory};
 use std::alloc::Global;
 use std::marker::Model;

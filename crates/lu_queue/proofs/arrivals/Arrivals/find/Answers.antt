@@ -1,5 +1,5 @@
 -- The map's keys are the cookies.
-use Rattle.std.proofs.Common.{◌≡◌, ◌==◌, ◌∙◌, refl, ap, find, arith}
+use Rattle.std.proofs.Common.{◌==◌, ◌∙◌, ap, find, arith}
 use Rattle.std.proofs.lemmas.Bool.Decides.{nat_tests}
 use Rattle.lu_queue.proofs.Keyed.{find_keyed}
 use Rattle.lu_queue.proofs.arrivals.Arrivals.find.Goals as goal

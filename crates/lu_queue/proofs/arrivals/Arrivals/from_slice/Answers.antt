@@ -1,7 +1,7 @@
 -- No lock before it has the cookie.
-use Rattle.std.proofs.Common.{◌≡◌, suc, ◌+◌, false, ◌∷◌, ◌++◌, ◌∙◌, refl, sym, ap, subst, take, drop, get_or, arith}
+use Rattle.std.proofs.Common.{suc, subst, take, drop}
 use Rattle.std.proofs.Math.Seq.{split_at}
-use Rattle.lu_queue.specs.Queues.{has, IsOnce}
+use Rattle.lu_queue.specs.Queues.{IsOnce}
 use Rattle.lu_queue.proofs.Lists.{new_after}
 use Rattle.lu_queue.proofs.arrivals.Arrivals.from_slice.Goals as goal
 

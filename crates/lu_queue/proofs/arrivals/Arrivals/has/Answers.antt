@@ -1,5 +1,5 @@
 -- The map's keys are the cookies.
-use Rattle.std.proofs.Common.{◌≡◌, ◌==◌, ◌∙◌, refl, ap, find, map, is_some, arith}
+use Rattle.std.proofs.Common.{◌∙◌, ap, map, is_some, arith}
 use Rattle.std.proofs.lemmas.Bool.Decides.{nat_tests}
 use Rattle.lu_queue.specs.Queues.{has}
 use Rattle.lu_queue.proofs.Keyed.{find_keyed, found_has}

@@ -1,7 +1,7 @@
 -- The queue without the lock is coherent, and after the grants each waiting lock has to wait again.
 use Rattle.std.proofs.Common.{◌≡◌, ◌∙◌, sym, ap, subst, All}
 use Rattle.lu_lock.specs.Overlap.{IsOrdered}
-use Rattle.lu_queue.specs.Queues.{QueueState, other_than, without, IsOnce, IsCoherent, IsQueue, AreGranted}
+use Rattle.lu_queue.specs.Queues.{QueueState, other_than, without, IsOnce, IsCoherent, IsQueue}
 use Rattle.lu_queue.proofs.Lists.{once_right}
 use Rattle.lu_queue.proofs.Coherence.{coherent_without, queue_granted}
 use Rattle.lu_queue.proofs.queue.Queue.take_away.Goals as goal
@@ -11,7 +11,7 @@ settle-requires c =
     let cookie = c.args.cookie.0 in
     let queue : QueueState = record { granted = c.self.inside.granted.items; waiting = c.self.inside.waiting } in
     let left : c.in_ok-waiting.waiting.items ≡ other_than cookie c.self.inside.waiting =
-        c.in_ok-waiting.ensures ∙ ap (other_than cookie) (c.deref-2.ensures.value ∙ c.in_ok-to_vec.ensures) in
+    c.in_ok-waiting.ensures ∙ ap (other_than cookie) (c.deref-2.ensures.value ∙ c.in_ok-to_vec.ensures) in
     subst (All (λ lock. IsOrdered lock.ask.policy)) (sym left) (coherent_without cookie queue c.self.invariant).ordered
 
 pub from_slice-requires : goal.from_slice-requires
@@ -19,9 +19,9 @@ from_slice-requires c =
     let cookie = c.args.cookie.0 in
     let queue : QueueState = record { granted = c.self.inside.granted.items; waiting = c.self.inside.waiting } in
     let left : c.in_ok-waiting.waiting.items ≡ other_than cookie c.self.inside.waiting =
-        c.in_ok-waiting.ensures ∙ ap (other_than cookie) (c.deref-2.ensures.value ∙ c.in_ok-to_vec.ensures) in
+    c.in_ok-waiting.ensures ∙ ap (other_than cookie) (c.deref-2.ensures.value ∙ c.in_ok-to_vec.ensures) in
     let kept : c.in_ok-granted.granted.items ≡ other_than cookie c.self.inside.granted.items =
-        c.in_ok-granted.ensures ∙ ap (other_than cookie) c.deref.ensures.value in
+    c.in_ok-granted.ensures ∙ ap (other_than cookie) c.deref.ensures.value in
     let before : QueueState = record { granted = c.in_ok-granted.granted.items; waiting = c.in_ok-waiting.waiting.items } in
     let after : QueueState = record { granted = c.settle.new.granted.items; waiting = c.settle.new.waiting.items } in
     let same : before ≡ without cookie queue = λ i. record { granted = kept i; waiting = left i } in
@@ -34,9 +34,9 @@ invariant_of-self c =
     let cookie = c.args.cookie.0 in
     let queue : QueueState = record { granted = c.self.inside.granted.items; waiting = c.self.inside.waiting } in
     let left : c.in_ok-waiting.waiting.items ≡ other_than cookie c.self.inside.waiting =
-        c.in_ok-waiting.ensures ∙ ap (other_than cookie) (c.deref-2.ensures.value ∙ c.in_ok-to_vec.ensures) in
+    c.in_ok-waiting.ensures ∙ ap (other_than cookie) (c.deref-2.ensures.value ∙ c.in_ok-to_vec.ensures) in
     let kept : c.in_ok-granted.granted.items ≡ other_than cookie c.self.inside.granted.items =
-        c.in_ok-granted.ensures ∙ ap (other_than cookie) c.deref.ensures.value in
+    c.in_ok-granted.ensures ∙ ap (other_than cookie) c.deref.ensures.value in
     let before : QueueState = record { granted = c.in_ok-granted.granted.items; waiting = c.in_ok-waiting.waiting.items } in
     let after : QueueState = record { granted = c.settle.new.granted.items; waiting = c.settle.new.waiting.items } in
     let same : before ≡ without cookie queue = λ i. record { granted = kept i; waiting = left i } in

@@ -1,8 +1,8 @@
 -- Nothing is left to look at: what was granted so far is all.
-use Rattle.std.proofs.Common.{◌≡◌, ◌≤◌, [], ◌++◌, ◌∙◌, refl, subst, take, length, arith}
+use Rattle.std.proofs.Common.{◌≡◌, [], refl, subst, take, arith}
 use Rattle.std.proofs.lemmas.List.{append-nil, take_all}
 use Rattle.lu_queue.specs.Queues.{AllWait, AreGranted}
-use Rattle.lu_queue.proofs.settle.settle.Goals as goal
+use Rattle.lu_queue.proofs.granting.settle.Goals as goal
 
 pub returns : goal.returns
 returns c =
