@@ -1,0 +1,4 @@
+pub mod Lists
+pub mod Keyed
+pub mod Waits
+pub mod Coherence
