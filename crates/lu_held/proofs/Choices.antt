@@ -15,8 +15,7 @@ use Rattle.lu_lock.specs.Modes.{serves}
 use Rattle.lu_lock.specs.Overlap.{covers}
 use Rattle.lu_held.specs.Locks.{name_of, is_named, same_resource, reaches_end, is_for, serves_use, matches}
 use Rattle.lu_held.specs.Held.{put_in, in_order, those, serving, IsOnce, IsBefore, IsBest}
-use Rattle.lu_held.proofs.Lists.{rest_all, rest_pairs, first_pairs}
-use Rattle.lu_held.proofs.Entries.{some_is}
+use Rattle.lu_held.proofs.Lists.{some_is, first_passes, none_passes, rest_all, rest_pairs, first_pairs}
 use Rattle.lu_held.proofs.Looks.{all_put, all_in_order, from_order}
 
 abbrev Others : HeldLock → HeldLock → Type 0
@@ -59,13 +58,6 @@ only_there locks = all_in_order (Contains locks) locks (All-contains_itself lock
 first_is : (P : HeldLock → Type 0) (locks : List HeldLock) (held : HeldLock) → All P locks → slice_get locks 0 ≡ Some held → P held
 first_is P locks held all found = subst P (get_or_from_slice_get locks 0 held held found) (all 0 held (slice_get_within locks 0 held found))
 
-first_passes : (test : HeldLock → Bool) (locks : List HeldLock) (held : HeldLock) → slice_get (filter test locks) 0 ≡ Some held → test held ≡ true
-first_passes test [] held found = absurd (cc)
-first_passes test (first ∷ locks) held found = by (test first) refl found (first_passes test locks held) where
-  by : (here : Bool) → test first ≡ here → slice_get (cond here (first ∷ filter test locks) (filter test locks)) 0 ≡ Some held → (slice_get (filter test locks) 0 ≡ Some held → test held ≡ true) → test held ≡ true
-  by true e h rest = subst (λ l. test l ≡ true) (some_is first held h) e
-  by false e h rest = rest h
-
 abbrev NotAhead : (test : HeldLock → Bool) → HeldLock → HeldLock → Type 0
 NotAhead test held other = test other ≡ true → is_before (name_of other) (name_of held) ≡ false
 
@@ -81,13 +73,6 @@ none_ahead test (first ∷ locks) held rising found = by (test first) refl found
       subst (λ l. All (NotAhead test l) (first ∷ locks)) (some_is first held h)
       (All-cons (NotAhead test first) first locks (λ _. not_self (name_of first)) (first_before test first locks (first_pairs IsBefore first locks rising)))
   by false e h rest = All-cons (NotAhead test held) first locks (λ t. absurd (cc)) (rest h)
-
-none_passes : (test : HeldLock → Bool) (locks : List HeldLock) → slice_get (filter test locks) 0 ≡ None → All (λ held. test held ≡ false) locks
-none_passes test [] none = λ k d within. absurd (omega arith)
-none_passes test (first ∷ locks) none = by (test first) refl none (none_passes test locks) where
-  by : (here : Bool) → test first ≡ here → slice_get (cond here (first ∷ filter test locks) (filter test locks)) 0 ≡ None → (slice_get (filter test locks) 0 ≡ None → All (λ held. test held ≡ false) locks) → All (λ held. test held ≡ false) (first ∷ locks)
-  by true e h rest = absurd (cc)
-  by false e h rest = All-cons (λ held. test held ≡ false) first locks e (rest h)
 
 -- the lock that does for a use
 both : (a b : Bool) → (a && b) ≡ true → (a ≡ true) × (b ≡ true)

@@ -11,7 +11,7 @@ use Rattle.lu_held.specs.declared.locks.Change.TheVariants.{Mark, Unmark, Pin, U
 use Rattle.lu_held.specs.Names.{same_name}
 use Rattle.lu_held.specs.Locks.{name_of, is_named, after}
 use Rattle.lu_held.specs.Held.{is_held, changed, without}
-use Rattle.lu_held.proofs.Lists.{rest_all, rest_pairs, first_pairs, filter_all, filter_none, turned}
+use Rattle.lu_held.proofs.Lists.{some_is, rest_all, rest_pairs, first_pairs, filter_all, filter_none, turned}
 use Rattle.lu_held.proofs.NameLaws.{Apart, others, same_self, same_is, all_others}
 use Rattle.std.proofs.lemmas.Grind.{common_steps}
 use Rattle.lru.specs.LruCache.{lru_cache, put_entries}
@@ -65,9 +65,6 @@ name_after Mark held = refl
 name_after Unmark held = refl
 name_after Pin held = refl
 name_after Unpin held = refl
-
-pub some_is : (one other : HeldLock) → Some one ≡ Some other → one ≡ other
-some_is one other e = cc
 
 -- writing one lock
 pub values_set : (name : LockName) (change : Change) (entries : List (LockName × HeldLock)) (held : HeldLock) → All Keyed entries → AllPairs Apart (keys_of entries) → lookup (same_name name) entries ≡ Some held → values_of (set_value (same_name name) entries (after change held)) ≡ changed name change (values_of entries)
@@ -140,9 +137,6 @@ pub record IsEntryOf (name : LockName) (entries : List (LockName × HeldLock)) (
   pub there : list_any (same_name name) (keys_of entries) ≡ true
   pub only : filter (is_named name) (values_of entries) ≡ entry.1 ∷ []
 
-pair_is : (one other : LockName × HeldLock) → Some one ≡ Some other → one ≡ other
-pair_is one other e = cc
-
 pub entry_of : (name : LockName) (entries : List (LockName × HeldLock)) (entry : LockName × HeldLock) → All Keyed entries → AllPairs Apart (keys_of entries) → lookup_entry (same_name name) entries ≡ Some entry → IsEntryOf name entries entry
 entry_of name [] entry keyed once found = absurd (cc)
 entry_of name ((key, first) ∷ entries) entry keyed once found = by (same_name name key) refl found (entry_of name entries entry (rest_all Keyed (key, first) entries keyed) (rest_pairs Apart key (keys_of entries) once)) where
@@ -153,7 +147,7 @@ entry_of name ((key, first) ∷ entries) entry keyed once found = by (same_name 
       let same : name ≡ key = same_is name key e in
       let apart : All (Apart name) (keys_of entries) = subst (λ k. All (Apart k) (keys_of entries)) (sym same) (first_pairs Apart key (keys_of entries) once) in
       let none = none_named name entries (rest_all Keyed (key, first) entries keyed) apart in
-      let is : (key, first) ≡ entry = pair_is (key, first) entry h in
+      let is : (key, first) ≡ entry = some_is (key, first) entry h in
       subst (IsEntryOf name ((key, first) ∷ entries)) is (record {
         key = sym same;
         keyed = here;

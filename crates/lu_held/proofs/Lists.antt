@@ -1,5 +1,5 @@
 -- Lists of anything: heads and rests, and filters that pass all or nothing.
-use Rattle.std.proofs.Common.{◌≡◌, ℕ, zero, suc, ◌<◌, ◌≤◌, drop, Some, ◌||◌, Bool, true, false, not, cond, List, [], ◌∷◌, length, filter, get_or, refl, ap, arith}
+use Rattle.std.proofs.Common.{◌≡◌, ℕ, zero, suc, ◌<◌, ◌≤◌, drop, Some, None, ◌||◌, Bool, true, false, not, cond, List, [], ◌∷◌, length, filter, get_or, refl, ap, subst, arith}
 use Rattle.std.specs.Prelude.{All, AllPairs, slice_get}
 use Rattle.std.specs.List.{list_any}
 use Rattle.std.proofs.lemmas.List.Elements.{All-cons}
@@ -66,3 +66,21 @@ none_after test (x ∷ xs) = by (test x) refl (none_after test xs) where
   by : (here : Bool) → test x ≡ here → list_any test (filter (λ y. not (test y)) xs) ≡ false → list_any test (cond (not here) (x ∷ filter (λ y. not (test y)) xs) (filter (λ y. not (test y)) xs)) ≡ false
   by true e rest = rest
   by false e rest = rw e rest
+
+pub some_is : {A : Type 0} (one other : A) → Some one ≡ Some other → one ≡ other
+some_is one other e = cc
+
+-- the first of those that pass a test passes it; and where there is no first, none passes
+pub first_passes : {A : Type 0} (test : A → Bool) (xs : List A) (found : A) → slice_get (filter test xs) 0 ≡ Some found → test found ≡ true
+first_passes test [] found there = absurd (cc)
+first_passes test (x ∷ xs) found there = by (test x) refl there (first_passes test xs found) where
+  by : (here : Bool) → test x ≡ here → slice_get (cond here (x ∷ filter test xs) (filter test xs)) 0 ≡ Some found → (slice_get (filter test xs) 0 ≡ Some found → test found ≡ true) → test found ≡ true
+  by true e h rest = subst (λ y. test y ≡ true) (some_is x found h) e
+  by false e h rest = rest h
+
+pub none_passes : {A : Type 0} (test : A → Bool) (xs : List A) → slice_get (filter test xs) 0 ≡ None → All (λ x. test x ≡ false) xs
+none_passes test [] none = λ k d within. absurd (omega arith)
+none_passes test (x ∷ xs) none = by (test x) refl none (none_passes test xs) where
+  by : (here : Bool) → test x ≡ here → slice_get (cond here (x ∷ filter test xs) (filter test xs)) 0 ≡ None → (slice_get (filter test xs) 0 ≡ None → All (λ y. test y ≡ false) xs) → All (λ y. test y ≡ false) (x ∷ xs)
+  by true e h rest = absurd (cc)
+  by false e h rest = All-cons (λ y. test y ≡ false) x xs e (rest h)

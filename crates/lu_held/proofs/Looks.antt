@@ -12,7 +12,7 @@ use Rattle.lu_held.specs.Names.{is_before, with_name, sorted}
 use Rattle.lu_held.specs.Locks.{name_of, is_named, matches}
 use Rattle.lu_held.specs.Held.{put_in, in_order, those}
 use Rattle.lu_held.specs.Kept.{IsKept}
-use Rattle.lu_held.proofs.Lists.{rest_all, rest_pairs, first_pairs}
+use Rattle.lu_held.proofs.Lists.{some_is, rest_all, rest_pairs, first_pairs}
 use Rattle.lu_held.proofs.NameLaws.{same_self, same_turned}
 use Rattle.lu_held.proofs.Entries.{keys_values}
 
@@ -81,9 +81,6 @@ looked wanted names entries kept =
     ap (filter (asks wanted locks)) in_names ∙ filter_names wanted locks (in_order locks) (all_in_order (IsFound locks) locks (all_found locks kept.sound))
 
 -- the lock that is found under the name of one of those
-some_name : (one other : LockName) → Some one ≡ Some other → one ≡ other
-some_name one other e = cc
-
 pub found_at : (wanted : Wanted) (locks : List HeldLock) (at : ℕ) (name : LockName) → Once locks → option_map name_of (slice_get (those wanted locks) at) ≡ Some name → find (is_named name) locks ≡ slice_get (those wanted locks) at
 found_at wanted locks at name once = by (slice_get (those wanted locks) at) refl where
   all : All (IsFound locks) (those wanted locks)
@@ -93,7 +90,7 @@ found_at wanted locks at name once = by (slice_get (those wanted locks) at) refl
   by None e h = absurd (cc)
   by (Some held) e h =
       let here : find (is_named (name_of held)) locks ≡ Some held = subst (IsFound locks) (get_or_from_slice_get (those wanted locks) at held held e) (all at held (slice_get_within (those wanted locks) at held e)) in
-      subst (λ n. find (is_named n) locks ≡ Some held) (some_name (name_of held) name h) here
+      subst (λ n. find (is_named n) locks ≡ Some held) (some_is (name_of held) name h) here
 
 pub looked_at : (wanted : Wanted) (names : List LockName) (entries : List (LockName × HeldLock)) (at : ℕ) → IsKept names entries → slice_get (filter (asks wanted (values_of entries)) names) at ≡ option_map name_of (slice_get (those wanted (values_of entries)) at)
 looked_at wanted names entries at kept = ap (λ some. slice_get some at) (looked wanted names entries kept) ∙ slice_get-map name_of (those wanted (values_of entries)) at

@@ -1,7 +1,6 @@
 -- Marks of one target that are taken away one by one.
 use Rattle.std.proofs.Common.{◌≡◌, ◌<◌, ◌==◌, ◌&&◌, Bool, true, false, cond, List, [], ◌∷◌, length, filter, find, Option, Some, None, refl, ap, subst, sym, ◌∙◌, arith}
 use Rattle.std.specs.Prelude.{All, slice_get, option_map}
-use Rattle.std.proofs.lemmas.List.Elements.{All-cons}
 use Rattle.std.proofs.lemmas.Bool.Decides.{nat_tests}
 use Rattle.lu_base.specs.declared.ids.TargetId.{TargetId}
 use Rattle.lu_held.specs.declared.names.LockName.{LockName}
@@ -10,9 +9,9 @@ use Rattle.lu_held.specs.declared.locks.Change.TheVariants.{Unmark}
 use Rattle.lu_held.specs.declared.locks.Wanted.TheVariants.{Marked}
 use Rattle.lu_held.specs.Locks.{name_of, is_named, after, matches}
 use Rattle.lu_held.specs.Held.{changed, unmarked, in_order, those}
-use Rattle.lu_held.proofs.Lists.{rest_all, rest_pairs, first_pairs}
+use Rattle.lu_held.proofs.Lists.{some_is, first_passes, none_passes, rest_all, rest_pairs, first_pairs}
 use Rattle.lu_held.proofs.NameLaws.{same_is}
-use Rattle.lu_held.proofs.Entries.{changed_none, some_is}
+use Rattle.lu_held.proofs.Entries.{changed_none}
 use Rattle.lu_held.proofs.Looks.{Once, from_order, found_at}
 
 -- the marks that are left to take away
@@ -54,16 +53,9 @@ fewer target name (first ∷ locks) held once there marked = by (is_named name f
   by false false e f h rest = rw f (rest h)
 
 -- no mark is left
-empty_of : (locks : List HeldLock) → option_map name_of (slice_get locks 0) ≡ None → locks ≡ []
-empty_of [] none = refl
-empty_of (held ∷ locks) none = absurd (cc)
-
-none_left : (target : TargetId) (locks : List HeldLock) → left target locks ≡ [] → All (λ held. matches (Marked target) held ≡ false) locks
-none_left target [] none = λ k d within. absurd (omega arith)
-none_left target (held ∷ locks) none = by (matches (Marked target) held) refl none (λ on. none_left target locks on) where
-  by : (here : Bool) → matches (Marked target) held ≡ here → cond here (held ∷ left target locks) (left target locks) ≡ [] → (left target locks ≡ [] → All (λ other. matches (Marked target) other ≡ false) locks) → All (λ other. matches (Marked target) other ≡ false) (held ∷ locks)
-  by true e h rest = absurd (cc)
-  by false e h rest = All-cons (λ other. matches (Marked target) other ≡ false) held locks e (rest h)
+none_there : (found : Option HeldLock) → option_map name_of found ≡ None → found ≡ None
+none_there None e = refl
+none_there (Some held) e = absurd (cc)
 
 stays : (held : HeldLock) (there marked : Bool) → held.marked ≡ marked → (there && marked) ≡ false → cond there (after Unmark held) held ≡ held
 stays held true true e none = absurd (cc)
@@ -78,22 +70,12 @@ unmarked_none target (held ∷ locks) none =
 
 pub done : (target : TargetId) (locks : List HeldLock) → option_map name_of (slice_get (those (Marked target) locks) 0) ≡ None → unmarked target locks ≡ locks
 done target locks none =
-    unmarked_none target locks (from_order (λ held. matches (Marked target) held ≡ false) locks (none_left target (in_order locks) (empty_of (those (Marked target) locks) none)))
+    unmarked_none target locks (from_order (λ held. matches (Marked target) held ≡ false) locks (none_passes (matches (Marked target)) (in_order locks) (none_there (slice_get (those (Marked target) locks) 0) none)))
 
 -- what is found is marked, and of the target
-some_name : (one other : LockName) → Some one ≡ Some other → one ≡ other
-some_name one other e = cc
-
 here_of : (there marked : Bool) → (there && marked) ≡ true → there ≡ true
 here_of true marked e = refl
 here_of false marked e = cc
-
-first_passes : (test : HeldLock → Bool) (locks : List HeldLock) (held : HeldLock) → slice_get (filter test locks) 0 ≡ Some held → test held ≡ true
-first_passes test [] held found = absurd (cc)
-first_passes test (first ∷ locks) held found = by (test first) refl found (first_passes test locks held) where
-  by : (here : Bool) → test first ≡ here → slice_get (cond here (first ∷ filter test locks) (filter test locks)) 0 ≡ Some held → (slice_get (filter test locks) 0 ≡ Some held → test held ≡ true) → test held ≡ true
-  by true e h rest = subst (λ l. test l ≡ true) (some_is first held h) e
-  by false e h rest = rest h
 
 pub record IsNextMark (at : TargetId) (locks : List HeldLock) (name : LockName) : Type 0 where
   pub target : (name.target.0 == at.0) ≡ true
@@ -106,6 +88,6 @@ next_mark target locks name once found = by (slice_get (those (Marked target) lo
   by (Some held) e h there =
       let marked : matches (Marked target) held ≡ true = first_passes (matches (Marked target)) (in_order locks) held e in
       record {
-        target = subst (λ n. (n.target.0 == target.0) ≡ true) (some_name (name_of held) name h) (here_of (held.target.0 == target.0) held.marked marked);
+        target = subst (λ n. (n.target.0 == target.0) ≡ true) (some_is (name_of held) name h) (here_of (held.target.0 == target.0) held.marked marked);
         less = fewer target name locks held once (there ∙ e) marked;
       }

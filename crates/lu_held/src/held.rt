@@ -4,9 +4,10 @@
 ghost use Rattle.std.specs.Prelude.{◌≡◌, ℕ, ◌-◌, ◌≤◌, ◌<◌, Bool, false, true, if◌then◌else◌, List, [], ◌∷◌, length, map, filter, find, fold, count_by, slice_get, option_map, Option, Some, None, IfOk, OnOk, OnErr, IfSome, IfNone};
 ghost use Rattle.std.specs.Option.{option_copied, option_map_or};
 ghost use Rattle.std.specs.List.{list_any};
+ghost use Rattle.std.specs.Map.{lookup};
 ghost use Rattle.lu_held.specs.declared.locks.Change.TheVariants as change;
 ghost use Rattle.lu_held.specs.declared.locks.Wanted.TheVariants as wanted;
-ghost use Rattle.lu_held.specs.Names.{sorted};
+ghost use Rattle.lu_held.specs.Names.{same_name, sorted};
 ghost use Rattle.lu_held.specs.Locks.{named, name_of, is_named, matches, is_free, after};
 ghost use Rattle.lu_held.specs.Held.{HeldState, granted, is_held, changed, without, used, unmarked, those, serving, to_trim, trimmed, IsSound};
 
@@ -71,9 +72,7 @@ impl Held {
         };
         let name = held.name();
         let place = place_for(&self.names, &name);
-        let room = NonZeroUsize::MIN.saturating_add(self.uses.len());
-        self.uses.resize(room);
-        self.uses.put(name, held)?;
+        put_first(&mut self.uses, name, held)?;
         if self.names.insert(place, name).is_err() {
             self.uses.pop(&name);
             return Err(Memory);
@@ -300,6 +299,22 @@ impl Held {
     {
         last_free(&self.uses)
     }
+}
+
+/// Puts a lock that isn't there in front; none falls out, since there is made room for one more.
+fn put_first(
+    uses: &mut LruCache<LockName, HeldLock>,
+    name: LockName,
+    held: HeldLock,
+) -> Result<(), Memory>
+    requires absent { lookup (same_name name) uses.old.entries ≡ None }
+    ensures first { OnOk result (uses.new.entries ≡ (name, held) ∷ uses.old.entries) }
+    ensures kept { OnErr result (uses.new.entries ≡ uses.old.entries) }
+{
+    let room = NonZeroUsize::MIN.saturating_add(uses.len());
+    uses.resize(room);
+    uses.put(name, held)?;
+    Ok(())
 }
 
 /// How many locks are neither pinned nor marked.
