@@ -1,6 +1,6 @@
 //! Callbacks (Wang et al., Understanding Lustre Filesystem Internals, the lock manager: blocking and glimpse callbacks).
 
-ghost use Rattle.std.specs.Prelude.{◌≡◌, ◌<◌, Bool, not, if◌then◌else◌, List, [], length, AllPairs, position, slice_get, option_map, IfOk, OnOk, OnErr};
+ghost use Rattle.std.specs.Prelude.{◌≡◌, ◌<◌, not, if◌then◌else◌, List, [], AllPairs, position, slice_get, option_map, IfOk, OnErr};
 ghost use Rattle.lu_callback.specs.declared.callbacks.Kind.TheVariants as kind;
 ghost use Rattle.lu_callback.specs.Callbacks.{is_block, same_kind, is_asked, is_outstanding, stands_before, is_past, place_for, with_asked, without, without_glimpse, is_due, due, IsSound};
 

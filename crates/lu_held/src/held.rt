@@ -1,21 +1,20 @@
 //! The locks that a client holds, in order of their last use (this project's profile; the bound on unused locks is that of
 //! Lustre Operations Manual, the size of the lock lists).
 
-ghost use Rattle.std.specs.Prelude.{◌≡◌, ℕ, ◌-◌, ◌≤◌, ◌<◌, Bool, false, true, if◌then◌else◌, List, [], ◌∷◌, length, map, filter, find, fold, count_by, slice_get, option_map, Option, Some, None, IfOk, OnOk, OnErr, IfSome, IfNone};
+ghost use Rattle.std.specs.Prelude.{◌≡◌, ◌-◌, ◌≤◌, ◌<◌, false, if◌then◌else◌, [], ◌∷◌, length, map, filter, find, fold, count_by, slice_get, option_map, Option, Some, None, IfOk, OnOk, OnErr, IfSome, IfNone};
 ghost use Rattle.std.specs.Option.{option_copied, option_map_or};
-ghost use Rattle.std.specs.List.{list_any};
 ghost use Rattle.std.specs.Map.{lookup};
 ghost use Rattle.lu_held.specs.declared.locks.Change.TheVariants as change;
 ghost use Rattle.lu_held.specs.declared.locks.Wanted.TheVariants as wanted;
-ghost use Rattle.lu_held.specs.Names.{same_name, sorted};
-ghost use Rattle.lu_held.specs.Locks.{named, name_of, is_named, matches, is_free, after};
+ghost use Rattle.lu_held.specs.Names.{same_name};
+ghost use Rattle.lu_held.specs.Locks.{named, name_of, is_named, matches, is_free};
 ghost use Rattle.lu_held.specs.Held.{HeldState, granted, is_held, changed, without, used, unmarked, those, serving, to_trim, trimmed, IsSound};
 
 use super::locks::{Change, HeldLock, Use, Wanted};
 use super::names::{LockName, place_for};
 use lru::LruCache;
 use lu_base::{Cookie, Cookies, Lock, Memory, Mode, Policy, Resource, TargetId};
-use std::alloc::{AllocError, Global};
+use std::alloc::Global;
 use std::marker::Model;
 use std::num::NonZeroUsize;
 

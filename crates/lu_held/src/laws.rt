@@ -5,8 +5,7 @@
 ghost use Rattle.std.specs.Prelude.{◌≡◌, true, false, List, All, AllPairs, Contains, IfSome, IfNone};
 ghost use Rattle.lu_held.specs.declared.locks.HeldLock.{HeldLock};
 ghost use Rattle.lu_held.specs.declared.locks.Use.{Use};
-ghost use Rattle.lu_held.specs.Names.{is_before};
-ghost use Rattle.lu_held.specs.Locks.{name_of, serves_use};
+ghost use Rattle.lu_held.specs.Locks.{serves_use};
 ghost use Rattle.lu_held.specs.Held.{in_order, serving, IsOnce, IsBefore, IsBest};
 
 /// The locks by target and cookie are the same locks, and they rise where no two are held under one name.
