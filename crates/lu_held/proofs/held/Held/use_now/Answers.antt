@@ -1,0 +1,15 @@
+-- The lock goes first, and its name stays where it stands.
+use Rattle.std.proofs.Common.{◌∙◌, ap}
+use Rattle.lu_held.specs.Held.{used}
+use Rattle.lu_held.proofs.Keeping.{the_state, kept_promoted, values_promoted}
+use Rattle.lu_held.proofs.held.Held.use_now.Goals as goal
+
+pub invariant_of-self : goal.invariant_of-self
+invariant_of-self c = rw c.promote.ensures.entries (kept_promoted c.self.inside.names.items c.args.name c.self.inside.uses.entries c.self.invariant)
+
+pub returns-clause-used : goal.returns-clause-used
+returns-clause-used c =
+    rw c.promote.ensures.entries (ap (λ locks. the_state c.self.inside.unused locks) (values_promoted c.self.inside.names.items c.args.name c.self.inside.uses.entries c.self.invariant) ∙ ap (λ state. the_state state.unused (used c.args.name state.locks)) c.self.view_is)
+
+pub returns-clause-sound : goal.returns-clause-sound
+returns-clause-sound c = (invariant_of-self c).sound

@@ -1,0 +1,4 @@
+pub mod Names
+pub mod Locks
+pub mod Held
+pub mod Kept

@@ -1,0 +1,337 @@
+//! The locks that a client holds, in order of their last use (this project's profile; the bound on unused locks is that of
+//! Lustre Operations Manual, the size of the lock lists).
+
+ghost use Rattle.std.specs.Prelude.{◌≡◌, ◌-◌, ◌≤◌, ◌<◌, false, if◌then◌else◌, [], ◌∷◌, length, map, filter, find, fold, count_by, slice_get, option_map, Option, Some, None, IfOk, OnOk, OnErr, IfSome, IfNone};
+ghost use Rattle.std.specs.Option.{option_copied, option_map_or};
+ghost use Rattle.std.specs.Map.{lookup};
+ghost use Rattle.lu_held.specs.declared.locks.Change.TheVariants as change;
+ghost use Rattle.lu_held.specs.declared.locks.Wanted.TheVariants as wanted;
+ghost use Rattle.lu_held.specs.Names.{same_name};
+ghost use Rattle.lu_held.specs.Locks.{named, name_of, is_named, matches, is_free};
+ghost use Rattle.lu_held.specs.Held.{HeldState, granted, is_held, changed, without, used, unmarked, those, serving, to_trim, trimmed, IsSound};
+
+use super::locks::{Change, HeldLock, Use, Wanted};
+use super::names::{LockName, place_for};
+use lru::LruCache;
+use lu_base::{Cookie, Cookies, Lock, Memory, Mode, Policy, Resource, TargetId};
+use std::alloc::Global;
+use std::marker::Model;
+use std::num::NonZeroUsize;
+
+/// All locks that a client holds, of all targets, each with a count of pins and a mark. A lock is last used
+/// where it was granted or last unpinned.
+#[derive(Debug, Drop)]
+pub struct Held {
+    /// How many locks that are neither pinned nor marked may be kept.
+    unused: u32,
+    /// The locks, the most recently used first. It is made to have room for all.
+    uses: LruCache<LockName, HeldLock>,
+    /// Their names, by target and then by cookie.
+    names: Vec<LockName>,
+}
+
+impl Model for Held {
+    ghost use Rattle.std.specs.Map.{values_of};
+    ghost use Rattle.lu_held.specs.Held.{HeldState};
+    ghost use Rattle.lu_held.specs.Kept.{IsKept};
+
+    ghost Value = { HeldState };
+
+    ghost view = { λ h. record { unused = h.unused; locks = values_of h.uses.entries } };
+
+    ghost invariant = { λ h. IsKept h.names.items h.uses.entries };
+}
+
+impl Held {
+    /// No lock is held. At most `unused` locks that are neither pinned nor marked are kept by `trim`.
+    pub fn new(alloc: Global, unused: u32) -> Result<Held, Memory>
+        ensures empty { IfOk result (λ held. held ≡ record { unused = unused; locks = [] }) }
+        ensures sound { IfOk result IsSound }
+    {
+        Ok(Held {
+            unused,
+            uses: LruCache::new(alloc, NonZeroUsize::MIN)?,
+            names: Vec::new(alloc),
+        })
+    }
+
+    /// Holds a lock that this target granted, as the last used; none falls out. After want of memory nothing
+    /// has changed.
+    pub fn granted(&mut self, target: TargetId, lock: Lock) -> Result<(), Memory>
+        requires absent { is_held (named target lock.cookie) self.old.locks ≡ false }
+        ensures added { OnOk result (self.new ≡ record self.old { locks = granted target lock ∷ self.old.locks }) }
+        ensures kept { OnErr result (self.new ≡ self.old) }
+        ensures sound { IsSound self.new }
+    {
+        let held = HeldLock {
+            target,
+            lock,
+            pins: 0,
+            marked: false,
+        };
+        let name = held.name();
+        let place = place_for(&self.names, &name);
+        put_first(&mut self.uses, name, held)?;
+        if self.names.insert(place, name).is_err() {
+            self.uses.pop(&name);
+            return Err(Memory);
+        }
+        Ok(())
+    }
+
+    /// The cookie of a held lock that does for a use: it isn't marked, its mode serves the wanted one, and
+    /// it covers what is wanted. A lock that reaches the end comes before one that doesn't, and then the one
+    /// of least cookie; none where no lock does.
+    pub fn match_lock(
+        &self,
+        target: TargetId,
+        resource: Resource,
+        mode: Mode,
+        policy: Policy,
+    ) -> Option<Cookie>
+        ensures serving { result ≡ option_map (λ held. held.lock.cookie) (serving (record { target = target; resource = resource; mode = mode; policy = policy }) self.now.locks) }
+        ensures sound { IsSound self.now }
+    {
+        let wanted = Use {
+            target,
+            resource,
+            mode,
+            policy,
+        };
+        match self.name_at(Wanted::ServingToTheEnd(wanted), 0) {
+            Some(name) => Some(name.cookie),
+            None => Some(self.name_at(Wanted::Serving(wanted), 0)?.cookie),
+        }
+    }
+
+    /// The held locks of this target and resource that aren't marked and hold this offset, in rising cookie, from
+    /// place 0 on; none past the last.
+    pub fn covering(
+        &self,
+        target: TargetId,
+        resource: Resource,
+        offset: u64,
+        at: usize,
+    ) -> Option<&Lock>
+        ensures lock { option_copied result ≡ option_map (λ held. held.lock) (slice_get (those (wanted.Holding target resource offset) self.now.locks) at) }
+        ensures sound { IsSound self.now }
+    {
+        let held = self.held_at(Wanted::Holding(target, resource, offset), at)?;
+        Some(&held.lock)
+    }
+
+    /// Marks a lock: it is called back. False where it isn't held; then nothing has changed.
+    pub fn block(&mut self, target: TargetId, cookie: Cookie) -> bool
+        ensures held { result ≡ is_held (named target cookie) self.old.locks }
+        ensures marked { self.new ≡ record self.old { locks = changed (named target cookie) change.Mark self.old.locks } }
+        ensures sound { IsSound self.new }
+    {
+        self.change(LockName { target, cookie }, Change::Mark)
+    }
+
+    /// Pins a lock: it is in use. False where it isn't held; then nothing has changed.
+    pub fn pin(&mut self, target: TargetId, cookie: Cookie) -> bool
+        ensures held { result ≡ is_held (named target cookie) self.old.locks }
+        ensures pinned { self.new ≡ record self.old { locks = changed (named target cookie) change.Pin self.old.locks } }
+        ensures sound { IsSound self.new }
+    {
+        self.change(LockName { target, cookie }, Change::Pin)
+    }
+
+    /// Takes one pin from a lock, which is the last used then. False where it isn't held; then nothing has
+    /// changed. It takes no memory.
+    pub fn unpin(&mut self, target: TargetId, cookie: Cookie) -> Result<bool, Memory>
+        ensures held { IfOk result (λ held. held ≡ is_held (named target cookie) self.old.locks) }
+        ensures unpinned { self.new ≡ record self.old { locks = used (named target cookie) (changed (named target cookie) change.Unpin self.old.locks) } }
+        ensures sound { IsSound self.new }
+    {
+        let name = LockName { target, cookie };
+        let held = self.change(name, Change::Unpin);
+        self.use_now(name);
+        Ok(held)
+    }
+
+    /// The marked locks that aren't pinned, by target and then by cookie, from place 0 on; none past the last.
+    pub fn ready_to_cancel(&self, at: usize) -> Option<(TargetId, Cookie)>
+        ensures ready { result ≡ option_map (λ held. (held.target, held.lock.cookie)) (slice_get (those wanted.Ready self.now.locks) at) }
+        ensures sound { IsSound self.now }
+    {
+        let name = self.name_at(Wanted::Ready, at)?;
+        Some((name.target, name.cookie))
+    }
+
+    /// Gives a lock up. False where it isn't held; then nothing has changed.
+    pub fn remove(&mut self, target: TargetId, cookie: Cookie) -> bool
+        ensures held { result ≡ is_held (named target cookie) self.old.locks }
+        ensures without { self.new ≡ record self.old { locks = without (named target cookie) self.old.locks } }
+        ensures sound { IsSound self.new }
+    {
+        let name = LockName { target, cookie };
+        self.names.retain(|other| name != *other);
+        self.uses.pop(&name).is_some()
+    }
+
+    /// The held locks of this target in rising cookie, from place 0 on; none past the last.
+    pub fn lock(&self, target: TargetId, at: usize) -> Option<&Lock>
+        ensures lock { option_copied result ≡ option_map (λ held. held.lock) (slice_get (those (wanted.Of target) self.now.locks) at) }
+        ensures sound { IsSound self.now }
+    {
+        let held = self.held_at(Wanted::Of(target), at)?;
+        Some(&held.lock)
+    }
+
+    /// The cookies of the marked locks of this target, rising.
+    pub fn marked(&self, alloc: Global, target: TargetId) -> Result<Cookies, Memory>
+        ensures marked { IfOk result (λ cookies. cookies ≡ map (λ held. held.lock.cookie) (those (wanted.Marked target) self.now.locks)) }
+        ensures sound { IsSound self.now }
+    {
+        let mut cookies = Cookies::new(alloc);
+        for name in &self.names {
+            if self.is_wanted(*name, Wanted::Marked(target)) {
+                cookies.push(name.cookie)?;
+            }
+        }
+        Ok(cookies)
+    }
+
+    /// Takes the marks of this target's locks away.
+    pub fn unmark(&mut self, target: TargetId)
+        ensures unmarked { self.new ≡ record self.old { locks = unmarked target self.old.locks } }
+        ensures sound { IsSound self.new }
+    {
+        while let Some(name) = self.name_at(Wanted::Marked(target), 0) {
+            self.change(name, Change::Unmark);
+        }
+    }
+
+    /// Where more locks than may be kept are neither pinned nor marked, marks the least recently used of them,
+    /// and answers it; none where at most as many are.
+    pub fn trim(&mut self) -> Option<(TargetId, Cookie)>
+        ensures trimmed { result ≡ option_map (λ held. (held.target, held.lock.cookie)) (to_trim self.old) }
+        ensures marked { self.new ≡ trimmed self.old }
+        ensures none { IfNone result (length (filter is_free self.old.locks) ≤ self.old.unused) }
+        ensures some { IfSome result (λ _. self.old.unused < length (filter is_free self.old.locks)) }
+        ensures sound { IsSound self.new }
+    {
+        if self.free() <= self.unused as usize {
+            return None;
+        }
+        let name = self.oldest_free()?;
+        self.change(name, Change::Mark);
+        Some((name.target, name.cookie))
+    }
+
+    /// The lock of this name.
+    fn held(&self, name: LockName) -> Option<&HeldLock>
+        ensures { option_copied result ≡ find (is_named name) self.now.locks }
+    {
+        self.uses.peek(&name)
+    }
+
+    /// Whether the lock of this name is one of those that are looked for.
+    fn is_wanted(&self, name: LockName, wanted: Wanted) -> bool
+        ensures { result ≡ option_map_or (matches wanted) (find (is_named name) self.now.locks) false }
+    {
+        match self.held(name) {
+            Some(held) => held.matches(wanted),
+            None => false,
+        }
+    }
+
+    /// The names of those that are looked for, by target and then by cookie, from place 0 on; none past the last.
+    fn name_at(&self, wanted: Wanted, at: usize) -> Option<LockName>
+        ensures name { result ≡ option_map name_of (slice_get (those wanted self.now.locks) at) }
+        ensures sound { IsSound self.now }
+    {
+        let mut left = at;
+        for name in &self.names {
+            if self.is_wanted(*name, wanted) {
+                if left == 0 {
+                    return Some(*name);
+                }
+                left -= 1;
+            }
+        }
+        None
+    }
+
+    /// The same as locks.
+    fn held_at(&self, wanted: Wanted, at: usize) -> Option<&HeldLock>
+        ensures held { option_copied result ≡ slice_get (those wanted self.now.locks) at }
+        ensures sound { IsSound self.now }
+    {
+        let name = self.name_at(wanted, at)?;
+        self.held(name)
+    }
+
+    /// Does this to the lock of this name. False where it isn't held; then nothing has changed.
+    fn change(&mut self, name: LockName, change: Change) -> bool
+        ensures held { result ≡ is_held name self.old.locks }
+        ensures changed { self.new ≡ record self.old { locks = changed name change self.old.locks } }
+        ensures sound { IsSound self.new }
+    {
+        let Some(held) = self.uses.peek_mut(&name) else {
+            return false;
+        };
+        *held = held.after(change);
+        true
+    }
+
+    /// Makes the lock of this name the last used.
+    fn use_now(&mut self, name: LockName)
+        ensures used { self.new ≡ record self.old { locks = used name self.old.locks } }
+        ensures sound { IsSound self.new }
+    {
+        self.uses.promote(&name);
+    }
+
+    /// How many locks are neither pinned nor marked.
+    fn free(&self) -> usize
+        ensures { result ≡ length (filter is_free self.now.locks) }
+    {
+        free_among(&self.uses)
+    }
+
+    /// The name of the least recently used lock that is neither pinned nor marked.
+    fn oldest_free(&self) -> Option<LockName>
+        ensures { result ≡ option_map name_of (slice_get (filter is_free self.now.locks) (length (filter is_free self.now.locks) - 1)) }
+    {
+        last_free(&self.uses)
+    }
+}
+
+/// Puts a lock that isn't there in front; none falls out, since there is made room for one more.
+fn put_first(
+    uses: &mut LruCache<LockName, HeldLock>,
+    name: LockName,
+    held: HeldLock,
+) -> Result<(), Memory>
+    requires absent { lookup (same_name name) uses.old.entries ≡ None }
+    ensures first { OnOk result (uses.new.entries ≡ (name, held) ∷ uses.old.entries) }
+    ensures kept { OnErr result (uses.new.entries ≡ uses.old.entries) }
+{
+    let room = NonZeroUsize::MIN.saturating_add(uses.len());
+    uses.resize(room);
+    uses.put(name, held)?;
+    Ok(())
+}
+
+/// How many locks are neither pinned nor marked.
+fn free_among(uses: &LruCache<LockName, HeldLock>) -> usize
+    ensures { result ≡ count_by (λ entry. is_free entry.1) uses.now.entries }
+{
+    uses.iter().filter(|entry| entry.1.is_free()).count()
+}
+
+/// The name of the last lock that is neither pinned nor marked.
+fn last_free(uses: &LruCache<LockName, HeldLock>) -> Option<LockName>
+    ensures { result ≡ fold (λ found entry. if is_free entry.1 then Some entry.0 else found) None uses.now.entries }
+{
+    uses.iter().fold(None, |found, entry| {
+        if entry.1.is_free() {
+            Some(*entry.0)
+        } else {
+            found
+        }
+    })
+}

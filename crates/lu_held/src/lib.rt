@@ -1,0 +1,12 @@
+//! The locks that a client holds: which of them serve a use, which are in use, called back or unused.
+#![tactic(auto)]
+
+mod held;
+pub mod laws;
+mod locks;
+mod names;
+#[cfg(test)]
+mod tests;
+
+pub use held::Held;
+pub use locks::HeldLock;
