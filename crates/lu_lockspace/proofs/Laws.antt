@@ -1,5 +1,5 @@
 -- What holds of all locks still holds where the queue of one resource becomes another.
-use Rattle.std.proofs.Common.{◌≡◌, ℕ, ◌+◌, ◌≤◌, ◌==◌, ◌||◌, Bool, true, false, not, cond, List, [], ◌∷◌, ◌++◌, map, filter, refl, sym, ◌∙◌, ap, subst, arith}
+use Rattle.std.proofs.Common.{◌≡◌, ℕ, ◌+◌, ◌≤◌, ◌==◌, Bool, true, false, not, List, [], ◌∷◌, ◌++◌, filter, refl, sym, ◌∙◌, ap, subst, arith}
 use Rattle.std.proofs.lemmas.Bool.Decides.{nat_tests}
 use Rattle.std.proofs.lemmas.List.{append-nil}
 use Rattle.lu_base.specs.declared.locks.Lock.{Lock}
@@ -12,10 +12,10 @@ use Rattle.lu_lock.specs.Overlap.{IsOrdered}
 use Rattle.lu_queue.specs.Queues as queue
 use Rattle.lu_queue.specs.Queues.{QueueState, without, AreGranted, IsCoherent, IsQueue}
 use Rattle.lu_queue.proofs.Lists as lists
-use Rattle.lu_queue.proofs.Coherence.{coherent_without, queue_granted}
-use Rattle.lu_lockspace.specs.Spaces.{SpaceState, same_resource, grant_of, grants_on, lock_on, replaced, queue_of, KeepsOthers, Fewer, is_in, has, times, IsSpace}
-use Rattle.lu_lockspace.proofs.Resources.{same_itself, same_is, not_on, grants_on-append, replaced_here, replaced_other}
-use Rattle.lu_lockspace.proofs.Counts.{times-append, times_of_none, none_on_any, times_split, times_replaced, granted_times}
+use Rattle.lu_queue.proofs.Coherence.{queue_granted}
+use Rattle.lu_lockspace.specs.Spaces.{SpaceState, same_resource, grant_of, grants_on, replaced, queue_of, KeepsOthers, Fewer, is_in, has, times, IsSpace}
+use Rattle.lu_lockspace.proofs.Resources.{same_itself, same_is, grants_on-append, replaced_here, replaced_other}
+use Rattle.lu_lockspace.proofs.Counts.{times_of_none, none_on_any, times_split, times_replaced, granted_times}
 
 pub space_changed : (r : Resource) (before after : SpaceState) → IsSpace before → IsQueue (queue_of r after) → KeepsOthers r before after →
     ((cookie : ℕ) → times cookie after.granted + times cookie after.waiting ≤ 1) → IsSpace after

@@ -1,12 +1,11 @@
 -- Cookies in order, and relations over the rest of a list.
-use Rattle.std.proofs.Common.{◌≡◌, ℕ, suc, ◌+◌, ◌<◌, ◌≤◌, ◌==◌, ◌&&◌, ◌||◌, Bool, true, false, not, cond, List, [], ◌∷◌, ◌++◌, length, map, filter, take, drop, get_or, refl, sym, ◌∙◌, ap, subst, arith, IsPermutation}
+use Rattle.std.proofs.Common.{◌≡◌, ℕ, suc, ◌+◌, ◌<◌, ◌≤◌, ◌==◌, Bool, true, false, cond, List, [], ◌∷◌, ◌++◌, length, map, filter, take, drop, get_or, refl, sym, ◌∙◌, ap, subst, arith, IsPermutation}
 use Rattle.std.specs.List.{list_any, count_by}
 use Rattle.std.proofs.lemmas.Grind.{common_steps}
 use Rattle.std.proofs.lemmas.Bool.Decides.{nat_tests}
-use Rattle.std.proofs.lemmas.List.{append_assoc, append-nil, take_more}
+use Rattle.std.proofs.lemmas.List.{append_assoc, take_more}
 use Rattle.std.proofs.Math.Seq.{drop-cons}
 use Rattle.std.proofs.lemmas.List.Elements.{filter-append}
-use Rattle.std.proofs.lemmas.List.Folds.{list_any-append}
 use Rattle.std.proofs.lemmas.List.Sums.{count_by_more_yes, sum_by-take-drop}
 use Rattle.std.proofs.lemmas.List.Sorted.{sum_by-IsPermutation}
 use Rattle.lu_base.specs.declared.ids.Cookie.{Cookie}
@@ -17,7 +16,7 @@ use Rattle.lu_queue.specs.declared.locks.Grant.{Grant}
 use Rattle.lu_queue.specs.Queues as queue
 use Rattle.lu_queue.specs.Queues.{AreGranted, IsRising}
 use Rattle.lu_lockspace.specs.Spaces.{SpaceState, same_resource, queue_of, KeepsOthers, without_lives, blocking_more, AreBlocking, AllSettled, times}
-use Rattle.lu_lockspace.proofs.Resources.{same_itself, same_is}
+use Rattle.lu_lockspace.proofs.Resources.{same_is}
 
 abbrev number_of : ℕ → List Cookie → ℕ
 number_of n cookies = count_by (λ cookie. cookie.0 == n) cookies

@@ -1,17 +1,14 @@
 -- All locks of a target: the queue of each resource is what is granted and what waits on it (Wang et al., Understanding
 -- Lustre Filesystem Internals, the lock manager; the order of grants is this project's profile).
-use Rattle.std.specs.Prelude.{◌≡◌, ◌≢◌, ℕ, ◌+◌, ◌≤◌, ◌<◌, Bool, true, false, not, ◌&&◌, ◌||◌, ◌==◌, List, [], ◌∷◌, ◌++◌, Option, Some, map, filter, find, count_by, length, drop, slice_index_or, slice_get, IsPermutation}
+use Rattle.std.specs.Prelude.{◌≡◌, ℕ, ◌+◌, ◌≤◌, ◌<◌, Bool, false, not, ◌&&◌, ◌||◌, ◌==◌, List, [], ◌∷◌, ◌++◌, Option, Some, map, filter, find, count_by, length, slice_index_or, slice_get, IsPermutation}
 use Rattle.std.specs.List.{list_any}
 use Rattle.lu_base.specs.declared.ids.Cookie.{Cookie}
 use Rattle.lu_base.specs.declared.ids.Who.{Who}
 use Rattle.lu_base.specs.declared.locks.Ask.{Ask}
 use Rattle.lu_base.specs.declared.locks.Lock.{Lock}
-use Rattle.lu_base.specs.declared.locks.Policy.{Policy}
 use Rattle.lu_base.specs.declared.locks.Resource.{Resource}
 use Rattle.lu_base.specs.declared.locks.Mode.TheVariants.{EX}
 use Rattle.lu_lock.specs.Conflict.{conflict}
-use Rattle.lu_lock.specs.Modes.{compatible}
-use Rattle.lu_lock.specs.Overlap.{policies_meet}
 use Rattle.lu_part.specs.declared.parts.Part.{Part}
 use Rattle.lu_part.specs.Guards.{guard}
 use Rattle.lu_queue.specs.declared.locks.Grant.{Grant}

@@ -5,8 +5,7 @@ mod ending;
 mod listing;
 mod locks;
 mod space;
-
-pub use space::{Lockspace, SpaceError};
-
 #[cfg(test)]
 mod tests;
+
+pub use space::{Lockspace, SpaceError};

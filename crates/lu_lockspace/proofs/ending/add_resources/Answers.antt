@@ -1,5 +1,4 @@
 -- No lock so far, nor this one, is on a resource that isn't in the list.
-use Rattle.std.proofs.Common.{◌≡◌}
 use Rattle.lu_lockspace.proofs.Lists.{none_more}
 use Rattle.lu_lockspace.proofs.ending.add_resources.Goals as goal
 

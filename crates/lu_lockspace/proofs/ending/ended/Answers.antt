@@ -1,5 +1,5 @@
 -- One resource more; and nothing is left at the end.
-use Rattle.std.proofs.Common.{rules, ◌≡◌, ◌∙◌, [], ◌++◌, drop, refl, sym, ap, subst}
+use Rattle.std.proofs.Common.{rules, ◌≡◌, ◌∙◌, [], ◌++◌, drop, refl, sym, subst}
 use Rattle.std.proofs.lemmas.List.{append-nil}
 use Rattle.std.proofs.Math.ListN.{drop_of_length-le}
 use Rattle.lu_lockspace.specs.Spaces.{AllSettled}

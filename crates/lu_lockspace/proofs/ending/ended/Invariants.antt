@@ -1,5 +1,5 @@
 -- What was granted so far begins what is granted.
-use Rattle.std.proofs.Common.{◌≡◌, List, ◌++◌, drop}
+use Rattle.std.proofs.Common.{List, ◌++◌, drop}
 use Rattle.lu_queue.specs.declared.locks.Grant.{Grant}
 use Rattle.lu_lockspace.specs.Spaces.{SpaceState, AllSettled, IsSpace}
 use Rattle.lu_lockspace.proofs.ending.ended.Given as goal

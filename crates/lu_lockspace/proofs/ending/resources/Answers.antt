@@ -1,9 +1,9 @@
 -- What isn't in the sorted list wasn't in it before.
-use Rattle.std.proofs.Common.{◌≡◌, ◌∙◌, false, [], map, filter, sym, ap, subst}
+use Rattle.std.proofs.Common.{◌≡◌, ◌∙◌, false, [], map, filter, subst}
 use Rattle.std.specs.List.{list_any}
 use Rattle.std.proofs.lemmas.List.Sorted.{list_any-IsPermutation}
 use Rattle.lu_base.specs.declared.locks.Lock.{Lock}
-use Rattle.lu_lockspace.specs.Spaces.{same_resource, grant_of, queue_of}
+use Rattle.lu_lockspace.specs.Spaces.{same_resource, grant_of}
 use Rattle.lu_lockspace.proofs.ending.resources.Goals as goal
 
 pub returns-clause-every : goal.returns-clause-every

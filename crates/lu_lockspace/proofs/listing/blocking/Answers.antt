@@ -1,5 +1,5 @@
 -- One waiting lock more; and none is left at the end.
-use Rattle.std.proofs.Common.{rules, ◌≡◌, ◌+◌, ◌∙◌, [], ◌++◌, drop, get_or, refl, sym, ap, subst, IsPermutation}
+use Rattle.std.proofs.Common.{rules, ◌≡◌, ◌+◌, ◌∙◌, [], ◌++◌, drop, get_or, refl, sym, subst, IsPermutation}
 use Rattle.std.proofs.lemmas.List.{append-nil}
 use Rattle.std.proofs.Math.ListN.{drop_of_length-le}
 use Rattle.lu_base.specs.declared.locks.Mode.TheVariants.{EX}

@@ -1,5 +1,5 @@
 -- What was told so far begins what blocks all.
-use Rattle.std.proofs.Common.{◌≡◌, List, [], ◌++◌, drop}
+use Rattle.std.proofs.Common.{List, [], ◌++◌, drop}
 use Rattle.lu_base.specs.declared.ids.Cookie.{Cookie}
 use Rattle.lu_lockspace.specs.Spaces.{AreBlocking}
 use Rattle.lu_lockspace.proofs.listing.blocking.Given as goal

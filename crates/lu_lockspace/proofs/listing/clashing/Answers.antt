@@ -1,5 +1,5 @@
 -- Sorted cookies, none of which is there twice, rise.
-use Rattle.std.proofs.Common.{rules, ◌≡◌, map, filter, subst, IsPermutation}
+use Rattle.std.proofs.Common.{rules, map, filter, IsPermutation}
 use Rattle.lu_lockspace.proofs.Lists.{rising_locks}
 use Rattle.lu_lockspace.proofs.listing.clashing.Goals as goal
 

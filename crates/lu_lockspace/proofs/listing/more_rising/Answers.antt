@@ -1,5 +1,5 @@
 -- Sorted cookies, none of which is there twice, rise.
-use Rattle.std.proofs.Common.{rules, ◌≡◌, subst, IsPermutation}
+use Rattle.std.proofs.Common.{rules, IsPermutation}
 use Rattle.lu_lockspace.specs.Spaces.{blocking_more}
 use Rattle.lu_lockspace.proofs.Lists.{rising_grants}
 use Rattle.lu_lockspace.proofs.listing.more_rising.Goals as goal

@@ -1,7 +1,7 @@
 -- The queue of the resource is what was settled, and the other queues stay.
-use Rattle.std.proofs.Common.{rules, ◌≡◌, ◌∙◌, sym, ap, subst}
+use Rattle.std.proofs.Common.{rules, ◌≡◌, sym, subst}
 use Rattle.lu_queue.specs.Queues.{QueueState, AreGranted}
-use Rattle.lu_lockspace.specs.Spaces.{SpaceState, queue_of, replaced, KeepsOthers, IsSpace}
+use Rattle.lu_lockspace.specs.Spaces.{SpaceState, replaced}
 use Rattle.lu_lockspace.proofs.Laws.{space_requeued}
 use Rattle.lu_lockspace.proofs.locks.requeued.Goals as goal
 

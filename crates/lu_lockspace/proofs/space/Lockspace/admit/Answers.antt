@@ -1,7 +1,7 @@
 -- One lock more, waiting or granted, on one resource.
-use Rattle.std.proofs.Common.{rules, ◌≡◌, ◌+◌, ◌≤◌, ◌∙◌, true, false, [], ◌∷◌, ◌++◌, refl, sym, ap, subst, arith}
+use Rattle.std.proofs.Common.{rules, ◌≡◌, true, false, [], ◌∷◌, ◌++◌, refl, sym, ap, subst, arith}
 use Rattle.lu_base.specs.declared.locks.Lock.{Lock}
-use Rattle.lu_queue.specs.Queues.{QueueState, has_to_wait, as_granted, IsQueue}
+use Rattle.lu_queue.specs.Queues.{has_to_wait, as_granted, IsQueue}
 use Rattle.lu_queue.proofs.Coherence.{queue_waits, queue_grants}
 use Rattle.lu_lockspace.specs.Spaces.{SpaceState, is_in, grant_of, lock_on, grants_on, queue_of, times, IsSpace}
 use Rattle.lu_lockspace.proofs.Counts.{times-append}

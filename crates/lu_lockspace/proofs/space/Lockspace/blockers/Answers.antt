@@ -1,5 +1,5 @@
 -- No cookie is twice among the granted locks of the queue.
-use Rattle.std.proofs.Common.{rules, ◌≡◌, ◌∙◌, sym, subst}
+use Rattle.std.proofs.Common.{rules, ◌≡◌, sym, subst}
 use Rattle.lu_queue.specs.Queues.{IsOnce}
 use Rattle.lu_queue.proofs.Lists.{once_left}
 use Rattle.lu_lockspace.specs.Spaces.{grants_on}

@@ -1,9 +1,9 @@
 -- A lock that is granted, or else one that waits.
-use Rattle.std.proofs.Common.{rules, ◌≡◌, ℕ, ◌++◌, Bor, ◌==◌, ◌||◌, ◌∙◌, Bool, true, false, Option, Some, None, is_some, find, refl, sym, ap, subst}
+use Rattle.std.proofs.Common.{rules, ◌≡◌, ℕ, ◌++◌, Bor, ◌==◌, ◌∙◌, Option, Some, None, is_some, find, refl, sym, ap, subst}
 use Rattle.std.specs.Option.{option_copied, option_or}
 use Rattle.std.proofs.lemmas.List.Folds.{find-append, list_any-append}
 use Rattle.lu_base.specs.declared.locks.Lock.{Lock}
-use Rattle.lu_lockspace.specs.Spaces.{SpaceState, lock_of, is_in, has}
+use Rattle.lu_lockspace.specs.Spaces.{SpaceState, lock_of, is_in}
 use Rattle.lu_lockspace.proofs.Counts.{found_has}
 use Rattle.lu_lockspace.proofs.space.Lockspace.find.Goals as goal
 

@@ -1,5 +1,5 @@
 -- No cookie is twice among the granted locks.
-use Rattle.std.proofs.Common.{◌≡◌, ◌+◌, ◌≤◌, sym, subst, arith}
+use Rattle.std.proofs.Common.{◌≤◌, sym, subst, arith}
 use Rattle.lu_lockspace.specs.Spaces.{times}
 use Rattle.lu_lockspace.proofs.space.Lockspace.of.Goals as goal
 

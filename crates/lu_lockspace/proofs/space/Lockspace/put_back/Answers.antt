@@ -1,10 +1,9 @@
 -- One granted lock more on one resource.
-use Rattle.std.proofs.Common.{rules, ◌≡◌, ◌+◌, ◌≤◌, ◌∙◌, true, false, [], ◌∷◌, ◌++◌, refl, sym, ap, subst, arith}
-use Rattle.lu_base.specs.declared.locks.Lock.{Lock}
-use Rattle.lu_queue.specs.Queues.{QueueState, conflicts, has_to_wait, IsQueue}
+use Rattle.std.proofs.Common.{rules, ◌≡◌, false, [], ◌∷◌, ◌++◌, refl, sym, ap, subst, arith}
+use Rattle.lu_queue.specs.Queues.{has_to_wait, IsQueue}
 use Rattle.lu_queue.proofs.Lists.{or_false}
 use Rattle.lu_queue.proofs.Coherence.{queue_with}
-use Rattle.lu_lockspace.specs.Spaces.{SpaceState, is_in, grant_of, grants_on, queue_of, times, IsSpace}
+use Rattle.lu_lockspace.specs.Spaces.{SpaceState, is_in, grant_of, grants_on, queue_of, IsSpace}
 use Rattle.lu_lockspace.proofs.Counts.{times-append}
 use Rattle.lu_lockspace.proofs.Laws.{space_changed, on_here, on_other, new_to_queue, once_with}
 use Rattle.lu_lockspace.proofs.space.Lockspace.put_back.Goals as goal

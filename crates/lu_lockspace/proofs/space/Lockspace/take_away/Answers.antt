@@ -1,5 +1,5 @@
 -- The queue of the resource without the lock.
-use Rattle.std.proofs.Common.{rules, ◌≡◌, ◌∙◌, sym, ap, subst}
+use Rattle.std.proofs.Common.{rules, ◌≡◌, sym, subst}
 use Rattle.lu_queue.specs.Queues.{QueueState, without, IsCoherent}
 use Rattle.lu_queue.proofs.Coherence.{coherent_without}
 use Rattle.lu_lockspace.specs.Spaces.{queue_of, Fewer}
