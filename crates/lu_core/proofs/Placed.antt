@@ -15,7 +15,7 @@ use Rattle.lu_net.specs.Posts.{sent_at}
 use Rattle.lu_scene.specs.declared.scene.Scene.{Scene}
 use Rattle.lu_scene.specs.declared.scene.SceneLine.{SceneLine}
 use Rattle.lu_client.specs.Clients.{ClientState}
-use Rattle.lu_tree.specs.State.{IsPerformed as IsPerformedOp}
+use Rattle.lu_service.specs.Names.{IsNamed}
 use Rattle.lu_target.specs.Targets.{server, serves, Fits}
 use Rattle.lu_table.specs.Sent.{count_sent, Sent}
 use Rattle.lu_table.specs.Imports.{last_of}
@@ -70,13 +70,13 @@ module _ (scene : Scene) (p : Player) (c : Config) (at : IsAt scene p c) where
       let shown = at.shows.wire.messages in
       omega arith
 
-  performed_op : (o : Op) → IsThree o → IsPerformedOp o
+  performed_op : (o : Op) → IsThree o → IsNamed o
   performed_op (op.Lookup path) is = tt
   performed_op (op.Mkdir path) is = tt
   performed_op (op.Rmdir path) is = tt
   performed_op _ is = absurd is
 
-  fits : (n t : ℕ) (m : Message) → Sent (past_of c) n (Target t) m → Fits IsPerformedOp p.target.journal m
+  fits : (n t : ℕ) (m : Message) → Sent (past_of c) n (Target t) m → Fits IsNamed p.target.journal m
   fits n t (message.Request r) s =
       let f : Fitting head r = request_fits head (past_of c) (grown head c.turns sound.run) n t r s in
       let most = at.performed.head.most_flight in

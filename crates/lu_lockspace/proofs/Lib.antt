@@ -1,0 +1,4 @@
+pub mod Resources
+pub mod Counts
+pub mod Laws
+pub mod Lists

@@ -1,0 +1,110 @@
+-- Cookies in order, and relations over the rest of a list.
+use Rattle.std.proofs.Common.{◌≡◌, ℕ, suc, ◌+◌, ◌<◌, ◌≤◌, ◌==◌, Bool, true, false, cond, List, [], ◌∷◌, ◌++◌, length, map, filter, take, drop, get_or, refl, sym, ◌∙◌, ap, subst, arith, IsPermutation}
+use Rattle.std.specs.List.{list_any, count_by}
+use Rattle.std.proofs.lemmas.Grind.{common_steps}
+use Rattle.std.proofs.lemmas.Bool.Decides.{nat_tests}
+use Rattle.std.proofs.lemmas.List.{append_assoc, take_more}
+use Rattle.std.proofs.Math.Seq.{drop-cons}
+use Rattle.std.proofs.lemmas.List.Elements.{filter-append}
+use Rattle.std.proofs.lemmas.List.Sums.{count_by_more_yes, sum_by-take-drop}
+use Rattle.std.proofs.lemmas.List.Sorted.{sum_by-IsPermutation}
+use Rattle.lu_base.specs.declared.ids.Cookie.{Cookie}
+use Rattle.lu_base.specs.declared.ids.Who.{Who}
+use Rattle.lu_base.specs.declared.locks.Lock.{Lock}
+use Rattle.lu_base.specs.declared.locks.Resource.{Resource}
+use Rattle.lu_queue.specs.declared.locks.Grant.{Grant}
+use Rattle.lu_queue.specs.Queues as queue
+use Rattle.lu_queue.specs.Queues.{AreGranted, IsRising}
+use Rattle.lu_lockspace.specs.Spaces.{SpaceState, same_resource, queue_of, KeepsOthers, without_lives, blocking_more, AreBlocking, AllSettled, times}
+use Rattle.lu_lockspace.proofs.Resources.{same_is}
+
+abbrev number_of : ℕ → List Cookie → ℕ
+number_of n cookies = count_by (λ cookie. cookie.0 == n) cookies
+
+numbers_of_locks : (n : ℕ) (test : Lock → Bool) (xs : List Lock) → number_of n (map (λ lock. lock.cookie) (filter test xs)) ≤ times n xs
+numbers_of_locks n test [] = omega arith
+numbers_of_locks n test (x ∷ xs) = let rest = numbers_of_locks n test xs in grind (arith, common_steps, rest)
+
+numbers_of_grants : (n : ℕ) (test : Grant → Bool) (xs : List Grant) → number_of n (map (λ lock. lock.cookie) (filter test xs)) ≤ queue.times n xs
+numbers_of_grants n test [] = omega arith
+numbers_of_grants n test (x ∷ xs) = let rest = numbers_of_grants n test xs in grind (arith, common_steps, rest)
+
+abbrev NotFalling : List Cookie → Type 0
+NotFalling cookies = (place : ℕ) (d : Cookie) → place + 1 < length cookies → (get_or cookies place d).0 ≤ (get_or cookies (place + 1) d).0
+
+-- cookies that don't fall rise, where none is there twice
+rising_all : (all cookies : List Cookie) → ((n : ℕ) → number_of n all ≤ 1) → IsPermutation all cookies → NotFalling cookies → IsRising cookies
+rising_all all cookies once moved sorted = λ place d within.
+    let n = (get_or cookies place d).0 in
+    let low : n ≤ (get_or cookies (place + 1) d).0 = sorted place d within in
+    by place d within n refl low (get_or cookies (place + 1) d).0 refl (n == (get_or cookies (place + 1) d).0) refl
+  where
+    by : (place : ℕ) (d : Cookie) → place + 1 < length cookies → (n : ℕ) → (get_or cookies place d).0 ≡ n → n ≤ (get_or cookies (place + 1) d).0 →
+        (m : ℕ) → (get_or cookies (place + 1) d).0 ≡ m → (same : Bool) → (n == (get_or cookies (place + 1) d).0) ≡ same → n < (get_or cookies (place + 1) d).0
+    by place d within n e low m f false differ = grind (arith, nat_tests, differ)
+    by place d within n e low m f true equal =
+        let here : ((get_or cookies place d).0 == n) ≡ true = grind (arith, nat_tests, e) in
+        let next : ((get_or cookies (place + 1) d).0 == n) ≡ true = grind (arith, nat_tests, equal) in
+        let one : number_of n (take (place + 1) cookies) ≡ number_of n (take place cookies) + 1 =
+        count_by_more_yes (λ (cookie : Cookie). cookie.0 == n) cookies place d (omega arith) here in
+        let two : number_of n (take (place + 1 + 1) cookies) ≡ number_of n (take (place + 1) cookies) + 1 =
+        count_by_more_yes (λ (cookie : Cookie). cookie.0 == n) cookies (place + 1) d within next in
+        let whole : number_of n (take (place + 1 + 1) cookies) + number_of n (drop (place + 1 + 1) cookies) ≡ number_of n cookies =
+        sum_by-take-drop (λ (cookie : Cookie). cond (cookie.0 == n) 1 0) cookies (place + 1 + 1) in
+        let before : number_of n cookies ≡ number_of n all =
+        sum_by-IsPermutation (λ (cookie : Cookie). cond (cookie.0 == n) 1 0) all cookies moved in
+        let most : number_of n all ≤ 1 = once n in
+        absurd (omega arith)
+
+pub rising_locks : (test : Lock → Bool) (locks : List Lock) (cookies : List Cookie) → ((n : ℕ) → times n locks ≤ 1) →
+    IsPermutation (map (λ lock. lock.cookie) (filter test locks)) cookies → NotFalling cookies → IsRising cookies
+rising_locks test locks cookies once moved sorted =
+    rising_all (map (λ lock. lock.cookie) (filter test locks)) cookies
+    (λ n. let a = numbers_of_locks n test locks in let b = once n in omega arith) moved sorted
+
+pub rising_grants : (test : Grant → Bool) (locks : List Grant) (cookies : List Cookie) → ((n : ℕ) → queue.times n locks ≤ 1) →
+    IsPermutation (map (λ lock. lock.cookie) (filter test locks)) cookies → NotFalling cookies → IsRising cookies
+rising_grants test locks cookies once moved sorted =
+    rising_all (map (λ lock. lock.cookie) (filter test locks)) cookies
+    (λ n. let a = numbers_of_grants n test locks in let b = once n in omega arith) moved sorted
+
+-- ---- the rest of a list, an item at a time
+
+pub rest_at : {X : Type 0} (xs : List X) (i : ℕ) (d : X) → i < length xs → drop i xs ≡ get_or xs i d ∷ drop (i + 1) xs
+rest_at xs i d within =
+    let next : suc i ≡ i + 1 = omega arith in
+    subst (λ n. drop i xs ≡ get_or xs i d ∷ drop n xs) next (drop-cons xs i d within)
+
+pub blocking_step : (granted waiting : List Grant) (i : ℕ) (d : Grant) (told first : List Cookie) → i < length waiting →
+    IsPermutation (blocking_more (get_or waiting i d).ask granted told) first → IsRising first →
+    ((rest : List Cookie) → AreBlocking granted (drop i waiting) told rest → AreBlocking granted waiting [] (told ++ rest)) →
+    (rest : List Cookie) → AreBlocking granted (drop (i + 1) waiting) (told ++ first) rest → AreBlocking granted waiting [] ((told ++ first) ++ rest)
+blocking_step granted waiting i d told first within moved rising goes_on rest h =
+    subst (AreBlocking granted waiting []) (sym (append_assoc told first rest))
+    (goes_on (first ++ rest) (subst (λ ws. AreBlocking granted ws told (first ++ rest)) (sym (rest_at waiting i d within)) (first, rest, refl, rising, moved, h)))
+
+pub settled_step : (lives : List Who) (resources : List Resource) (start now next : SpaceState) (i : ℕ) (d : Resource) (grants first : List Grant) → i < length resources →
+    AreGranted (without_lives lives (queue_of (get_or resources i d) now)) first (queue_of (get_or resources i d) next) → KeepsOthers (get_or resources i d) now next →
+    ((rest : List Grant) (after : SpaceState) → AllSettled lives (drop i resources) now rest after → AllSettled lives resources start (grants ++ rest) after) →
+    (rest : List Grant) (after : SpaceState) → AllSettled lives (drop (i + 1) resources) next rest after → AllSettled lives resources start ((grants ++ first) ++ rest) after
+settled_step lives resources start now next i d grants first within steps others goes_on rest after h =
+    subst (λ gs. AllSettled lives resources start gs after) (sym (append_assoc grants first rest))
+    (goes_on (first ++ rest) after (subst (λ rs. AllSettled lives rs now (first ++ rest) after) (sym (rest_at resources i d within)) (first, rest, next, refl, steps, others, h)))
+
+-- ---- the resources that have locks
+
+pub same_turned : (a b : Resource) → same_resource a b ≡ same_resource b a
+same_turned a b = grind (arith, nat_tests)
+
+pub listed_apart : (other resource : Resource) (all : List Resource) → list_any (same_resource other) all ≡ false → list_any (same_resource resource) all ≡ true → same_resource other resource ≡ false
+listed_apart other resource all none some = by (same_resource other resource) refl where
+  by : (v : Bool) → same_resource other resource ≡ v → v ≡ false
+  by false e = refl
+  by true e = let clash : list_any (same_resource resource) all ≡ false = subst (λ r. list_any (same_resource r) all ≡ false) (same_is other resource e) none in absurd (cc)
+
+pub none_more : (r : Resource) (locks : List Lock) (i : ℕ) (d : Lock) → i < length locks → filter (λ lock. same_resource lock.resource r) (take i locks) ≡ [] →
+    same_resource r (get_or locks i d).resource ≡ false → filter (λ lock. same_resource lock.resource r) (take (i + 1) locks) ≡ []
+none_more r locks i d within none apart =
+    ap (filter (λ lock. same_resource lock.resource r)) (take_more locks i d within)
+    ∙ filter-append (λ lock. same_resource lock.resource r) (take i locks) (get_or locks i d ∷ [])
+    ∙ rw (none, same_turned (get_or locks i d).resource r, apart) refl

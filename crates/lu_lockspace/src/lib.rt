@@ -1,0 +1,11 @@
+//! All locks of a target, resource by resource.
+#![tactic(auto)]
+
+mod ending;
+mod listing;
+mod locks;
+mod space;
+#[cfg(test)]
+mod tests;
+
+pub use space::{Lockspace, SpaceError};
