@@ -1,3 +1,5 @@
+pub mod Errors
 pub mod Faults
 pub mod Memories
 pub mod Texts
+pub mod Values

@@ -1,4 +1,6 @@
-//! The errors of the calls below.
+//! Why calls fail.
+
+ghost use Rattle.std.specs.Prelude.{◌≡◌};
 
 use std::alloc::{AllocError, AllocFailed};
 use std::error::Error;
@@ -51,13 +53,29 @@ pub enum ReadError {
     Memory,
 }
 
-impl fmt::Display for ReadError {
-    fn fmt<W: fmt::Write>(&self, f: &mut fmt::Formatter<W>) -> fmt::Result {
+impl ReadError {
+    ghost use Rattle.lu_base.specs.Errors.{read_error_text};
+
+    /// The same in words.
+    pub fn text(self) -> &'static str
+        ensures text { result.now ≡ read_error_text self }
+    {
         match self {
-            ReadError::ReadFault => write!(f, "read fault"),
-            ReadError::TooLong => write!(f, "too long"),
-            ReadError::Memory => write!(f, "out of memory"),
+            ReadError::ReadFault => "read fault",
+            ReadError::TooLong => "too long",
+            ReadError::Memory => "out of memory",
         }
+    }
+}
+
+impl fmt::Display for ReadError {
+    ghost use Rattle.std.specs.Prelude.{Some};
+    ghost use Rattle.lu_base.specs.Errors.{read_error_text};
+
+    ghost output = { λ e. Some (read_error_text e) };
+
+    fn fmt<W: fmt::Write>(&self, f: &mut fmt::Formatter<W>) -> fmt::Result {
+        f.write_str(self.text())
     }
 }
 

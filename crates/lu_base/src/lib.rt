@@ -11,6 +11,7 @@ mod source;
 #[cfg(test)]
 mod tests;
 mod text;
+mod values;
 
 pub use faults::{Failed, Memory, ReadError};
 pub use ids::{At, Cookie, Fid, Node, Stamp, TargetId, Txn, Who, Xid};
@@ -24,3 +25,4 @@ pub use text::{
     is_name, put_bytes, put_number, put_pair, put_path, read_bytes, read_number, read_path,
     split_at_byte,
 };
+pub use values::{put_client, put_mode, put_node, put_octal, put_target};

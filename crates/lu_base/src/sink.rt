@@ -12,7 +12,8 @@ use std::alloc::Global;
 use std::io::Write;
 use std::marker::Model;
 
-/// Where bytes go. It counts its faults, and the count never falls.
+/// Where bytes go. It counts its faults: a call that answers leaves the count as it was, and no call
+/// lowers it.
 pub trait Sink {
     ghost holds: { Self → Option (List ℕ) };
 
@@ -23,7 +24,8 @@ pub trait Sink {
     fn write(&mut self, from: &[u8]) -> Result<usize, Failed>
         ensures bound { IfOk result (λ n. (n ≤ length from.now) × (0 < length from.now → 0 < n)) }
         ensures bytes { WriteAppends (holds self.old) (holds self.new) result from.now }
-        ensures cause { HasCause (faults self.old) (faults self.new) result };
+        ensures cause { HasCause (faults self.old) (faults self.new) result }
+        ensures steady { OnOk result (faults self.new ≡ faults self.old) };
 }
 
 /// A sink over a writer of std. It is trusted to pass on what the writer tells; a write that takes
@@ -35,8 +37,11 @@ pub struct StdSink<W> {
 }
 
 impl<W: Write> StdSink<W> {
-    /// A sink that has met no fault.
-    pub fn new(inner: W) -> StdSink<W> {
+    /// A sink over what the writer holds, that has met no fault.
+    pub fn new(inner: W) -> StdSink<W>
+        ensures bytes { ⟦<StdSink<W> as Sink>⟧.holds result ≡ W.contents inner }
+        ensures calm { ⟦<StdSink<W> as Sink>⟧.faults result ≡ 0 }
+    {
         StdSink { inner, faults: 0 }
     }
 }
@@ -147,6 +152,7 @@ pub fn write_all<K: Sink>(sink: &mut K, from: &[u8]) -> Result<(), Failed>
     ensures whole { OnOk result (Appends (K.holds sink.old) (K.holds sink.new) from.now) }
     ensures prefix { OnErr result (WrotePrefix (K.holds sink.old) (K.holds sink.new) from.now) }
     ensures cause { HasCause (K.faults sink.old) (K.faults sink.new) result }
+    ensures steady { OnOk result (K.faults sink.new ≡ K.faults sink.old) }
 {
     let mut written = 0;
     while written < from.len() {

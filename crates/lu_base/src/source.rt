@@ -14,7 +14,8 @@ use std::alloc::Global;
 use std::io::Read;
 use std::marker::Model;
 
-/// Where bytes come from. It counts its faults, and the count never falls.
+/// Where bytes come from. It counts its faults: a call that answers leaves the count as it was, and no
+/// call lowers it.
 pub trait Source {
     ghost left: { Self → Option (List ℕ) };
 
@@ -25,7 +26,8 @@ pub trait Source {
     fn read(&mut self, into: &mut [u8]) -> Result<usize, Failed>
         ensures bound { ReadsAtMost result into.new }
         ensures bytes { ReadConsumes (left self.old) (left self.new) result into.new }
-        ensures cause { HasCause (faults self.old) (faults self.new) result };
+        ensures cause { HasCause (faults self.old) (faults self.new) result }
+        ensures steady { OnOk result (faults self.new ≡ faults self.old) };
 }
 
 /// A source over a reader of std. It is trusted to pass on what the reader tells.
@@ -36,8 +38,11 @@ pub struct StdSource<R> {
 }
 
 impl<R: Read> StdSource<R> {
-    /// A source that has met no fault.
-    pub fn new(inner: R) -> StdSource<R> {
+    /// A source of what is left of the reader, that has met no fault.
+    pub fn new(inner: R) -> StdSource<R>
+        ensures bytes { ⟦<StdSource<R> as Source>⟧.left result ≡ R.remaining inner }
+        ensures calm { ⟦<StdSource<R> as Source>⟧.faults result ≡ 0 }
+    {
         StdSource { inner, faults: 0 }
     }
 }
@@ -132,6 +137,9 @@ pub fn read_all<S: Source>(alloc: Global, source: &mut S, limit: usize) -> Resul
     ensures too_long { IsErrOf result ReadError.TooLong → CameMore (S.left source.old) (S.left source.new) limit }
     ensures read_fault { IsErrOf result ReadError.ReadFault → Rose (S.faults source.old) (S.faults source.new) }
     ensures later { S.faults source.old ≤ S.faults source.new }
+    ensures steady { OnOk result (S.faults source.new ≡ S.faults source.old) }
+    // Nothing but a read fault changes the count.
+    ensures unmoved { ¬ IsErrOf result ReadError.ReadFault → S.faults source.new ≡ S.faults source.old }
 {
     let mut all = Bytes::new(alloc);
     let mut piece = [0u8; PIECE];

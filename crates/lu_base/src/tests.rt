@@ -57,6 +57,17 @@ fn puts_the_texts_of_values(rt: HostRuntime) -> Result<(), Fail> {
 }
 
 #[test]
+fn puts_nodes_modes_and_octal_numbers(rt: HostRuntime) -> Result<(), Fail> {
+    let mut out = Bytes::new(rt.alloc());
+    put_node(&mut out, Node::Client(15))?;
+    put_node(&mut out, Node::Target(0))?;
+    put_mode(&mut out, Mode::PR)?;
+    put_octal(&mut out, 493)?;
+    assert_eq!(rt; out.as_slice(), b"c15t0PR755".as_slice());
+    Ok(())
+}
+
+#[test]
 fn reads_canonical_numbers_alone(rt: HostRuntime) {
     assert_eq!(rt;
         read_number(b"18446744073709551615"),

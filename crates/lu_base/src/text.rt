@@ -171,7 +171,8 @@ fn has_star(text: &[u8]) -> bool
 /// The bytes of two digits each, at least one byte.
 fn read_digits(alloc: Global, text: &[u8]) -> Result<Option<Bytes>, Memory>
     ensures some { IfOk result (λ read. IfSome read (λ bytes. (text.now ≡ encode_lower bytes) × (bytes ≢ []))) }
-    ensures none { IfOk result (λ read. IfNone read ((bytes : List ℕ) → IsBytes bytes → text.now ≡ encode_lower bytes → bytes ≡ [])) }
+    ensures none { IfOk result (λ read. IfNone read (
+        (bytes : List ℕ) → IsBytes bytes → text.now ≡ encode_lower bytes → bytes ≡ [])) }
     ensures bytes { IfOk result (λ read. IfSome read IsBytes) }
 {
     let mut bytes = vec![in alloc; 0u8; text.len() / 2]?;
@@ -294,7 +295,8 @@ pub fn read_path(alloc: Global, text: &[u8]) -> Result<Option<Path>, Memory>
 
 /// Names joined by `/`.
 fn read_names(alloc: Global, text: &[u8]) -> Result<Option<Path>, Memory>
-    ensures some { IfOk result (λ read. IfSome read (λ names. (names ≡ slice_split (λ byte. byte == 47) text.now) × AreNames names)) }
+    ensures some { IfOk result (λ read. IfSome read (λ names.
+        (names ≡ slice_split (λ byte. byte == 47) text.now) × AreNames names)) }
     ensures none { IfOk result (λ read. IfNone read (¬ AreNames (slice_split (λ byte. byte == 47) text.now))) }
 {
     let parts = split_at_byte(alloc, text, b'/')?;

@@ -26,7 +26,9 @@ use Rattle.lu_scene.specs.declared.words.Verb.TheVariants as verbs
 use Rattle.lu_scene.specs.declared.words.CallName.{CallName}
 use Rattle.lu_scene.specs.declared.words.CallName.TheVariants as names
 use Rattle.lu_scene.specs.Words.{header_text, verb_text, call_text}
-use Rattle.lu_scene.specs.Print.{header_words, client_text, target_text, node_text, slot_text, count_text, octal_digit, octal_from, octal_text, stripes_words, call_words, line_words}
+use Rattle.std.specs.Fmt.{digits}
+use Rattle.lu_base.specs.Values.{client_text, target_text, node_text, octal_text}
+use Rattle.lu_scene.specs.Print.{header_words, slot_text, count_text, stripes_words, call_words, line_words}
 use Rattle.lu_scene.specs.Grammar.{CountFits, StripesFit, CallFits, NodeFits, LineFits}
 use Rattle.lu_scene.proofs.LineForms.{IsSmall}
 
@@ -176,26 +178,10 @@ bytes_word (b ∷ more) fit few = by (is_repeated (b ∷ more))
 
 -- modes
 
-octal_shown : (n : ℕ) → is_graphic (octal_digit n) ≡ true
-octal_shown n = let d : n % 8 < 8 = omega arith in and_from _ _ (le-leb 33 (48 + n % 8) (omega arith)) (le-leb (48 + n % 8) 126 (omega (arith, d)))
-
-octal_from_shown : (mode worth : ℕ) → shown (octal_from mode worth) ≡ true
-octal_from_shown mode worth = by (nat_lt mode worth)
-  where
-    by : (v : Bool) → shown (cond v [] (octal_digit (mode / worth) ∷ [])) ≡ true
-    by true = refl
-    by false = and_from _ _ (octal_shown (mode / worth)) refl
-
--- what ends with a byte that is shown is a word
-ends_word : (xs : List ℕ) (b : ℕ) → shown xs ≡ true → is_graphic b ≡ true → is_word (xs ++ b ∷ []) ≡ true
-ends_word [] b one two = word_from b [] (and_from _ _ two refl)
-ends_word (x ∷ xs) b one two = word_from x (xs ++ b ∷ []) (both_shown (x ∷ xs) (b ∷ []) one (and_from _ _ two refl))
-
-pub mode_word : (mode : ℕ) → is_word (octal_text mode) ≡ true
-mode_word mode =
-    ends_word (octal_from mode 512 ++ octal_from mode 64 ++ octal_from mode 8) (octal_digit mode)
-    (both_shown (octal_from mode 512 ++ octal_from mode 64) (octal_from mode 8) (both_shown (octal_from mode 512) (octal_from mode 64) (octal_from_shown mode 512) (octal_from_shown mode 64)) (octal_from_shown mode 8))
-    (octal_shown mode)
+-- a mode in octal is a word
+pub mode_word : (mode : ℕ) → mode < 4096 → is_word (octal_text mode) ≡ true
+unfolding digits
+mode_word mode small = agree_below_at (λ (m : ℕ). is_word (octal_text m)) (λ (m : ℕ). true) 4096 mode refl small
 
 -- other words
 
@@ -247,7 +233,7 @@ call_line_words (calls.Link old new) fits = three_words (call_text names.Link) (
 call_line_words (calls.Unlink path) fits = two_words (call_text names.Unlink) (path_text path) refl (path_word path fits)
 call_line_words (calls.Rmdir path) fits = two_words (call_text names.Rmdir) (path_text path) refl (path_word path fits)
 call_line_words (calls.Rename old new) fits = three_words (call_text names.Rename) (path_text old) (path_text new) refl (path_word old fits.0) (path_word new fits.1)
-call_line_words (calls.Chmod path mode) fits = three_words (call_text names.Chmod) (path_text path) (octal_text mode) refl (path_word path fits.0) (mode_word mode)
+call_line_words (calls.Chmod path mode) fits = three_words (call_text names.Chmod) (path_text path) (octal_text mode) refl (path_word path fits.0) (mode_word mode fits.1)
 call_line_words (calls.Open handle path) fits = three_words (call_text names.Open) (decimal handle) (path_text path) refl (handle_word handle fits.0) (path_word path fits.1)
 call_line_words (calls.Close handle) fits = two_words (call_text names.Close) (decimal handle) refl (handle_word handle fits)
 call_line_words (calls.Read handle offset size) fits =

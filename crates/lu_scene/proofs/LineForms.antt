@@ -20,7 +20,8 @@ use Rattle.lu_scene.specs.Words.{header_text, all_headers, header_of, verb_text,
 use Rattle.lu_scene.specs.Fields.{◌>>=◌, or_fault, number_in, client_at, target_at, node_at, slot_at}
 use Rattle.lu_scene.specs.Calls.{call_of}
 use Rattle.lu_scene.specs.Lines.{one_number, one_target, call_line, run_line, tick_line, commit_line, die_line, line_of}
-use Rattle.lu_scene.specs.Print.{client_text, target_text, node_text, slot_text}
+use Rattle.lu_base.specs.Values.{client_text, target_text, node_text}
+use Rattle.lu_scene.specs.Print.{slot_text}
 use Rattle.lu_scene.specs.Grammar.{LineFits, IsForm, IsLine}
 use Rattle.lu_scene.proofs.Options.{bind_ok, or_fault_ok, ok_is, bytes_same}
 use Rattle.lu_scene.proofs.Readings.{number_in-read, number_in-again, client_at-read, client_at-again, target_at-read, target_at-again, node_at-read, node_at-again, slot_at-read, slot_at-again}

@@ -18,7 +18,8 @@ use Rattle.lu_scene.specs.declared.faults.Fault.{Fault}
 use Rattle.lu_scene.specs.declared.faults.Fault.TheVariants as faults
 use Rattle.lu_scene.specs.declared.scene.Head.{Head}
 use Rattle.lu_scene.specs.Fields.{◌>>=◌, or_fault, number_of, number_in, number_at, mode_of, mode_at, count_at, number_behind, client_at, target_at, node_at, slot_of, slot_at, path_of, path_at, data_of, data_at}
-use Rattle.lu_scene.specs.Print.{client_text, target_text, node_text, slot_text, count_text}
+use Rattle.lu_base.specs.Values.{client_text, target_text, node_text}
+use Rattle.lu_scene.specs.Print.{slot_text, count_text}
 use Rattle.lu_scene.specs.Grammar.{CountFits, NodeFits, IsModeText}
 use Rattle.lu_scene.proofs.Options.{bind_ok, or_fault_ok, guard_ok, ok_is, bytes_same}
 use Rattle.lu_scene.proofs.Numerals.{number_of-decimal, number_of-read}

@@ -8,6 +8,8 @@ use Rattle.std.proofs.lemmas.Fmt.{length-decimal-le}
 use Rattle.std.proofs.lemmas.List.{length-append}
 use Rattle.std.proofs.lemmas.List.Elements.{All-nil, All-cons, All-head, All-tail, All-append, All-from_recursion}
 use Rattle.hex.specs.Hex.{IsBytes, encode_lower}
+use Rattle.std.specs.Fmt.{digits}
+use Rattle.lu_base.specs.Values.{octal_text}
 use Rattle.lu_base.specs.Texts.{is_repeated, repeated_text, bytes_text, IsDataText}
 use Rattle.lu_msg.specs.declared.calls.Call.{Call}
 use Rattle.lu_msg.specs.declared.calls.Call.TheVariants as calls
@@ -20,7 +22,7 @@ use Rattle.lu_scene.specs.declared.words.Header.TheVariants as headers
 use Rattle.lu_scene.specs.Words.{header_text}
 use Rattle.lu_scene.specs.Fields.{is_octal}
 use Rattle.lu_scene.specs.Lines.{most_of, is_comment}
-use Rattle.lu_scene.specs.Print.{words_text, header_words, head_words, octal_text, call_words, line_words, scene_words, scene_text}
+use Rattle.lu_scene.specs.Print.{words_text, header_words, head_words, call_words, line_words, scene_words, scene_text}
 use Rattle.lu_scene.specs.Grammar.{CallFits, LineFits, Setting, SettingFits, head_of, StandOnce, IsModeText, IsCall, IsForm, AreLines, Spells, IsScene, HeadFits, SceneFits, HasShortLines}
 use Rattle.lu_scene.proofs.LineForms.{IsSmall}
 use Rattle.lu_scene.proofs.Graphic.{header_line, said_words}
@@ -30,6 +32,7 @@ use Rattle.lu_scene.proofs.Splitting.{Neat, lines_back, all_plain, sayings_back}
 
 -- a printed mode writes the mode
 mode_text : (mode : ℕ) → mode < 4096 → IsModeText (octal_text mode) mode
+unfolding digits
 mode_text mode small =
     let all : (is_octal (octal_text mode) && mode == digits_value 8 (octal_text mode)) ≡ true =
     agree_below_at (λ (m : ℕ). is_octal (octal_text m) && m == digits_value 8 (octal_text m)) (λ (m : ℕ). true) 4096 mode refl small in

@@ -1,8 +1,7 @@
 -- How a scenario is printed: each line as words with one space between them.
-use Rattle.std.specs.Prelude.{ℕ, ◌+◌, ◌/◌, ◌%◌, nat_lt, if◌then◌else◌, List, [], ◌∷◌, ◌++◌, map, codes, decimal, Option, Some, None, ℤ, pos, negsuc}
+use Rattle.std.specs.Prelude.{ℕ, List, [], ◌∷◌, ◌++◌, map, codes, decimal, Option, Some, None, ℤ, pos, negsuc}
 use Rattle.lu_base.specs.Texts.{path_text, bytes_text}
-use Rattle.lu_base.specs.declared.ids.Node.{Node}
-use Rattle.lu_base.specs.declared.ids.Node.TheVariants.{Client, Target}
+use Rattle.lu_base.specs.Values.{client_text, target_text, node_text, octal_text}
 use Rattle.lu_msg.specs.declared.calls.Call.{Call}
 use Rattle.lu_msg.specs.declared.calls.Call.TheVariants as calls
 use Rattle.lu_scene.specs.declared.scene.Head.{Head}
@@ -41,16 +40,6 @@ head_words head =
     ∷ header_words headers.Dirty head.dirty ∷ header_words headers.Unused head.unused ∷ header_words headers.Rounds head.rounds
     ∷ header_words headers.Flight head.flight ∷ []
 
-abbrev pub client_text : ℕ → List ℕ
-client_text client = 99 ∷ decimal client
-
-abbrev pub target_text : ℕ → List ℕ
-target_text target = 116 ∷ decimal target
-
-abbrev pub node_text : Node → List ℕ
-node_text (Client client) = client_text client
-node_text (Target target) = target_text target
-
 -- a client and its slot
 abbrev pub slot_text : ℕ → ℕ → List ℕ
 slot_text client slot = decimal client ++ 46 ∷ decimal slot
@@ -60,18 +49,7 @@ abbrev pub count_text : ℤ → List ℕ
 count_text (pos n) = decimal n
 count_text (negsuc n) = codes "-1"
 
--- the last octal digit of a number
-abbrev pub octal_digit : ℕ → ℕ
-octal_digit n = 48 + n % 8
-
--- the octal digit of this worth, where the number reaches it
-abbrev pub octal_from : ℕ → ℕ → List ℕ
-octal_from mode worth = if nat_lt mode worth then [] else octal_digit (mode / worth) ∷ []
-
--- a mode of at most four octal digits, without needless zeros
-abbrev pub octal_text : ℕ → List ℕ
-octal_text mode = octal_from mode 512 ++ octal_from mode 64 ++ octal_from mode 8 ++ octal_digit mode ∷ []
-
+-- a stripe size and a number of stripes, where they are given
 abbrev pub stripes_words : Option (ℕ × ℤ) → List (List ℕ)
 stripes_words None = []
 stripes_words (Some stripes) = decimal stripes.0 ∷ count_text stripes.1 ∷ []

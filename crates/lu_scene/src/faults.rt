@@ -31,9 +31,14 @@ pub enum Fault {
     Data,
 }
 
-impl fmt::Display for Fault {
-    fn fmt<W: fmt::Write>(&self, f: &mut fmt::Formatter<W>) -> fmt::Result {
-        let name = match self {
+impl Fault {
+    ghost use Rattle.lu_scene.specs.Faults.{fault_text};
+
+    /// The name of the fault.
+    pub fn text(self) -> &'static str
+        ensures name { result.now ≡ fault_text self }
+    {
+        match self {
             Fault::Line => "Line",
             Fault::UnknownLine => "UnknownLine",
             Fault::UnknownCall => "UnknownCall",
@@ -43,8 +48,18 @@ impl fmt::Display for Fault {
             Fault::Node => "Node",
             Fault::Path => "Path",
             Fault::Data => "Data",
-        };
-        write!(f, "{name}")
+        }
+    }
+}
+
+impl fmt::Display for Fault {
+    ghost use Rattle.std.specs.Prelude.{Some};
+    ghost use Rattle.lu_scene.specs.Faults.{fault_text};
+
+    ghost output = { λ fault. Some (fault_text fault) };
+
+    fn fmt<W: fmt::Write>(&self, f: &mut fmt::Formatter<W>) -> fmt::Result {
+        f.write_str(self.text())
     }
 }
 
@@ -60,6 +75,11 @@ pub enum SceneFault {
 }
 
 impl fmt::Display for SceneFault {
+    ghost use Rattle.std.specs.Prelude.{Some};
+    ghost use Rattle.lu_scene.specs.Faults.{scene_fault_text};
+
+    ghost output = { λ fault. Some (scene_fault_text fault) };
+
     fn fmt<W: fmt::Write>(&self, f: &mut fmt::Formatter<W>) -> fmt::Result {
         match self {
             SceneFault::Bad { line, fault } => write!(f, "scene {line} {fault}"),

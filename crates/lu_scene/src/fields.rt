@@ -13,8 +13,8 @@ use std::alloc::{AllocError, Global};
 /// The greatest number of a slot.
 const MOST_SLOT: u64 = 3;
 
-/// The most bytes of data.
-const MOST_BYTES: usize = 65536;
+/// The most bytes of data that a call writes or asks for.
+pub const MOST_BYTES: usize = 65536;
 
 /// The greatest number of stripes that a call asks for.
 const MOST_STRIPES: u64 = 1000;

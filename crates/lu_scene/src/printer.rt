@@ -1,15 +1,19 @@
-//! Printing a scenario.
+//! Printing a scenario. What appends a text may leave a part of it after want of memory.
 #![tactic(auto, using(std::proofs::Common::append_assoc))]
 
-ghost use Rattle.std.specs.Prelude.{◌≡◌, ℕ, ◌++◌, ◌∷◌, [], length, take, IfOk, OnOk, OnErr, ◌<◌, codes, decimal, nat_lt, if◌then◌else◌, ◌/◌, ◌%◌, ◌+◌};
+ghost use Rattle.std.specs.Prelude.{◌≡◌, ℕ, ◌++◌, ◌∷◌, [], length, take, IfOk, OnOk, OnErr, decimal};
 ghost use Rattle.lu_base.specs.Texts.{path_text, bytes_text};
+ghost use Rattle.lu_base.specs.Values.{client_text, target_text, node_text, octal_text};
 ghost use Rattle.lu_scene.specs.Words.{header_text, verb_text, call_text};
 ghost use Rattle.lu_scene.specs.Grammar.{SceneFits, HasShortLines, IsScene};
-ghost use Rattle.lu_scene.specs.Print.{further, words_text, lines_text, header_words, head_words, target_text, node_text, slot_text, count_text, octal_digit, octal_from, octal_text, stripes_words, call_words, line_words, scene_text};
+ghost use Rattle.lu_scene.specs.Print.{further, words_text, lines_text, header_words, head_words, slot_text, count_text, stripes_words, call_words, line_words, scene_text};
 
 use super::scene::{Head, Scene, SceneLine};
 use super::words::{CallName, Header, Verb};
-use lu_base::{Bytes, Memory, Node, Path, TargetId, put_bytes, put_number, put_path};
+use lu_base::{
+    Bytes, Memory, Node, Path, TargetId, put_bytes, put_client, put_node, put_number, put_octal,
+    put_path, put_target,
+};
 use lu_msg::Call;
 use std::alloc::Global;
 
@@ -69,14 +73,6 @@ fn put_spaced_path(out: &mut Bytes, path: &Path) -> Result<(), Memory>
     put_path(out, path)
 }
 
-/// Appends a letter and a number, the name of a node.
-fn put_lettered(out: &mut Bytes, letter: u8, n: u16) -> Result<(), Memory>
-    ensures put { OnOk result (out.new ≡ out.old ++ letter ∷ decimal n) }
-{
-    out.push(letter)?;
-    put_number(out, n as u64)
-}
-
 /// Appends a line that isn't of the head, without its line feed.
 fn put_line(out: &mut Bytes, line: &SceneLine) -> Result<(), Memory>
     ensures put { OnOk result (out.new ≡ out.old ++ words_text (line_words line.now)) }
@@ -103,7 +99,7 @@ fn put_line(out: &mut Bytes, line: &SceneLine) -> Result<(), Memory>
         SceneLine::Die(client) => {
             out.extend(Verb::Die.text())?;
             out.push(b' ')?;
-            put_lettered(out, b'c', *client)
+            put_client(out, *client)
         }
     }
 }
@@ -122,7 +118,7 @@ fn put_targeted(out: &mut Bytes, verb: Verb, target: TargetId) -> Result<(), Mem
 {
     out.extend(verb.text())?;
     out.push(b' ')?;
-    put_lettered(out, b't', target.0)
+    put_target(out, target)
 }
 
 /// Appends a `tick`.
@@ -131,10 +127,7 @@ fn put_tick(out: &mut Bytes, node: Node) -> Result<(), Memory>
 {
     out.extend(Verb::Tick.text())?;
     out.push(b' ')?;
-    match node {
-        Node::Client(client) => put_lettered(out, b'c', client),
-        Node::Target(target) => put_lettered(out, b't', target),
-    }
+    put_node(out, node)
 }
 
 /// Appends a space and a client and its slot.
@@ -146,7 +139,7 @@ fn put_slot(out: &mut Bytes, client: u16, slot: u8) -> Result<(), Memory>
     put_number(out, slot as u64)
 }
 
-/// Appends a space and the number of a handle.
+/// Appends a call of a handle.
 fn put_handle_call(out: &mut Bytes, name: CallName, handle: u8) -> Result<(), Memory>
     ensures put { OnOk result (out.new ≡ out.old ++ 32 ∷ call_text name ++ 32 ∷ decimal handle) }
 {
@@ -180,7 +173,8 @@ fn put_paths_call(out: &mut Bytes, name: CallName, old: &Path, new: &Path) -> Re
 
 /// Appends a `create`.
 fn put_create(out: &mut Bytes, path: &Path, stripes: Option<(u64, i32)>) -> Result<(), Memory>
-    ensures put { OnOk result (out.new ≡ out.old ++ (32 ∷ call_text CallName.Create ++ 32 ∷ path_text path.now ++ further (stripes_words stripes))) }
+    ensures put { OnOk result (out.new ≡ out.old
+        ++ (32 ∷ call_text CallName.Create ++ 32 ∷ path_text path.now ++ further (stripes_words stripes))) }
 {
     put_path_call(out, CallName::Create, path)?;
     put_stripes(out, stripes)
@@ -188,7 +182,8 @@ fn put_create(out: &mut Bytes, path: &Path, stripes: Option<(u64, i32)>) -> Resu
 
 /// Appends a `chmod`.
 fn put_chmod(out: &mut Bytes, path: &Path, mode: u16) -> Result<(), Memory>
-    ensures put { OnOk result (out.new ≡ out.old ++ (32 ∷ call_text CallName.Chmod ++ 32 ∷ path_text path.now ++ 32 ∷ octal_text mode)) }
+    ensures put { OnOk result (out.new ≡ out.old
+        ++ (32 ∷ call_text CallName.Chmod ++ 32 ∷ path_text path.now ++ 32 ∷ octal_text mode)) }
 {
     put_path_call(out, CallName::Chmod, path)?;
     put_mode(out, mode)
@@ -196,7 +191,8 @@ fn put_chmod(out: &mut Bytes, path: &Path, mode: u16) -> Result<(), Memory>
 
 /// Appends an `open`.
 fn put_open(out: &mut Bytes, handle: u8, path: &Path) -> Result<(), Memory>
-    ensures put { OnOk result (out.new ≡ out.old ++ (32 ∷ call_text CallName.Open ++ 32 ∷ decimal handle ++ 32 ∷ path_text path.now)) }
+    ensures put { OnOk result (out.new ≡ out.old
+        ++ (32 ∷ call_text CallName.Open ++ 32 ∷ decimal handle ++ 32 ∷ path_text path.now)) }
 {
     put_handle_call(out, CallName::Open, handle)?;
     put_spaced_path(out, path)
@@ -204,7 +200,8 @@ fn put_open(out: &mut Bytes, handle: u8, path: &Path) -> Result<(), Memory>
 
 /// Appends a `read`.
 fn put_read(out: &mut Bytes, handle: u8, offset: u64, length: u64) -> Result<(), Memory>
-    ensures put { OnOk result (out.new ≡ out.old ++ (32 ∷ call_text CallName.Read ++ 32 ∷ decimal handle ++ 32 ∷ decimal offset ++ 32 ∷ decimal length)) }
+    ensures put { OnOk result (out.new ≡ out.old
+        ++ (32 ∷ call_text CallName.Read ++ 32 ∷ decimal handle ++ 32 ∷ decimal offset ++ 32 ∷ decimal length)) }
 {
     put_handle_call(out, CallName::Read, handle)?;
     put_spaced_number(out, offset)?;
@@ -213,7 +210,9 @@ fn put_read(out: &mut Bytes, handle: u8, offset: u64, length: u64) -> Result<(),
 
 /// Appends a `write`.
 fn put_write(out: &mut Bytes, handle: u8, offset: u64, bytes: &[u8]) -> Result<(), Memory>
-    ensures put { OnOk result (out.new ≡ out.old ++ (32 ∷ call_text CallName.Write ++ 32 ∷ decimal handle ++ 32 ∷ decimal offset ++ 32 ∷ bytes_text bytes.now)) }
+    ensures put { OnOk result (out.new ≡ out.old
+        ++ (32 ∷ call_text CallName.Write ++ 32 ∷ decimal handle ++ 32 ∷ decimal offset
+        ++ 32 ∷ bytes_text bytes.now)) }
 {
     put_handle_call(out, CallName::Write, handle)?;
     put_spaced_number(out, offset)?;
@@ -229,7 +228,7 @@ fn put_cut(out: &mut Bytes, handle: u8, size: u64) -> Result<(), Memory>
     put_spaced_number(out, size)
 }
 
-/// Appends a space and a call.
+/// Appends a space and a call, in words.
 fn put_call(out: &mut Bytes, call: &Call) -> Result<(), Memory>
     ensures put { OnOk result (out.new ≡ out.old ++ further (call_words call.now)) }
 {
@@ -293,27 +292,5 @@ fn put_mode(out: &mut Bytes, mode: u16) -> Result<(), Memory>
     ensures put { OnOk result (out.new ≡ out.old ++ 32 ∷ octal_text mode) }
 {
     out.push(b' ')?;
-    put_octal_from(out, mode, 512)?;
-    put_octal_from(out, mode, 64)?;
-    put_octal_from(out, mode, 8)?;
-    out.push(octal_digit(mode))
-}
-
-/// Appends the octal digit of this worth, where the number reaches it.
-fn put_octal_from(out: &mut Bytes, mode: u16, worth: u16) -> Result<(), Memory>
-    requires { 0 < worth }
-    ensures put { OnOk result (out.new ≡ out.old ++ octal_from mode worth) }
-{
-    if mode < worth {
-        Ok(())
-    } else {
-        out.push(octal_digit(mode / worth))
-    }
-}
-
-/// The last octal digit.
-fn octal_digit(n: u16) -> u8
-    ensures digit { result ≡ octal_digit n }
-{
-    b'0' + (n % 8) as u8
+    put_octal(out, mode)
 }

@@ -6,7 +6,8 @@ use Rattle.lu_msg.specs.declared.answers.Errno.TheVariants.{ENOENT, EEXIST, ENOT
 use Rattle.lu_msg.specs.declared.answers.Answer.{Answer}
 use Rattle.lu_msg.specs.declared.answers.Answer.TheVariants.{Done, Made, Dir, File, DirStat, FileStat, FileSize, Names, Layout, OpenFile, Granted, Waiting, Content, Size, Lock, Sizes, Uncovered, Refused}
 use Rattle.lu_trace.specs.Words.{words}
-use Rattle.lu_trace.specs.Values.{octal_text, extent_text}
+use Rattle.lu_trace.specs.Values.{extent_text}
+use Rattle.lu_base.specs.Values.{octal_text}
 use Rattle.lu_trace.specs.Lists.{layout_text, numbers_text}
 
 abbrev pub errno_text : Errno → List ℕ

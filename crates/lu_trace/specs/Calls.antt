@@ -5,7 +5,7 @@ use Rattle.lu_base.specs.Texts.{bytes_text, path_text}
 use Rattle.lu_msg.specs.declared.calls.Call.{Call}
 use Rattle.lu_msg.specs.declared.calls.Call.TheVariants.{Lookup, Stat, List as ListNames, Layout, Mkdir, Create, Link, Unlink, Rmdir, Rename, Chmod, Open, Close, Read, Write, Cut, Flush, Glimpse}
 use Rattle.lu_trace.specs.Words.{words}
-use Rattle.lu_trace.specs.Values.{octal_text}
+use Rattle.lu_base.specs.Values.{octal_text}
 
 -- the stripe size and the number of stripes of a `create`, where they are given
 abbrev pub stripes_words : Option (ℕ × ℤ) → List (List ℕ)

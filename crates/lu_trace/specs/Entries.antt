@@ -8,7 +8,8 @@ use Rattle.lu_trace.specs.declared.entries.Entry.{Entry}
 use Rattle.lu_trace.specs.declared.entries.Entry.TheVariants.{Begin, Busy, Skip, Send, Take, Tick, Heard, Hold, Drop, Told, Peek, Life, Die, Act, Txn, Grant, Wait, Block, Release, Commit, Crash, Boot, Back, Close, Kept, Restore, Evict, Joined, Fail}
 use Rattle.lu_trace.specs.declared.entries.Line.{Line}
 use Rattle.lu_trace.specs.Words.{words}
-use Rattle.lu_trace.specs.Values.{node_text, target_text, who_text, at_text, mode_text, policy_text, resource_text}
+use Rattle.lu_base.specs.Values.{node_text, target_text, mode_text}
+use Rattle.lu_trace.specs.Values.{who_text, at_text, policy_text, resource_text}
 use Rattle.lu_trace.specs.Lists.{seen_text}
 use Rattle.lu_trace.specs.Calls.{call_text}
 use Rattle.lu_trace.specs.Answers.{answer_text}
@@ -33,11 +34,11 @@ entry_text Skip = codes "skip"
 entry_text (Send number to message) = words (codes "send" ∷ decimal number ∷ node_text to ∷ message_text message ∷ [])
 entry_text (Take number) = words (codes "take" ∷ decimal number ∷ [])
 entry_text Tick = codes "tick"
-entry_text (Heard target xid) = words (codes "heard" ∷ target_text target ∷ decimal xid.0 ∷ [])
-entry_text (Hold target cookie) = words (codes "hold" ∷ target_text target ∷ pair_text cookie.0 ∷ [])
-entry_text (Drop target cookie) = words (codes "drop" ∷ target_text target ∷ pair_text cookie.0 ∷ [])
+entry_text (Heard target xid) = words (codes "heard" ∷ target_text target.0 ∷ decimal xid.0 ∷ [])
+entry_text (Hold target cookie) = words (codes "hold" ∷ target_text target.0 ∷ pair_text cookie.0 ∷ [])
+entry_text (Drop target cookie) = words (codes "drop" ∷ target_text target.0 ∷ pair_text cookie.0 ∷ [])
 entry_text (Told slot at answer) = words (codes "told" ∷ decimal slot ∷ at_text at ∷ answer_text answer ∷ [])
-entry_text (Peek target cookie size) = words (codes "peek" ∷ target_text target ∷ pair_text cookie.0 ∷ decimal size ∷ [])
+entry_text (Peek target cookie size) = words (codes "peek" ∷ target_text target.0 ∷ pair_text cookie.0 ∷ decimal size ∷ [])
 entry_text (Life who) = words (codes "life" ∷ who_text who ∷ [])
 entry_text Die = codes "die"
 entry_text (Act who xid answer) = words (codes "act" ∷ who_text who ∷ decimal xid.0 ∷ answer_text answer ∷ [])

@@ -7,4 +7,5 @@ pub mod Answers
 pub mod Messages
 pub mod Entries
 pub mod Traces
+pub mod Turns
 pub mod WellFormed

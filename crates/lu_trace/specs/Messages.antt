@@ -5,7 +5,8 @@ use Rattle.lu_base.specs.declared.ids.Xid.{Xid}
 use Rattle.lu_msg.specs.declared.messages.Message.{Message}
 use Rattle.lu_msg.specs.declared.messages.Message.TheVariants.{Request, Cancel, Where, Replay, Lock, Word, Join, Size, Up, Reply, Grant, Block, Ask, Ready, Evicted}
 use Rattle.lu_trace.specs.Words.{words}
-use Rattle.lu_trace.specs.Values.{who_text, at_text, mode_text, extent_text, policy_text, resource_text}
+use Rattle.lu_base.specs.Values.{mode_text}
+use Rattle.lu_trace.specs.Values.{who_text, at_text, extent_text, policy_text, resource_text}
 use Rattle.lu_trace.specs.Lists.{seen_text, locks_text}
 use Rattle.lu_trace.specs.Ops.{op_text}
 use Rattle.lu_trace.specs.Answers.{answer_text}

@@ -7,7 +7,8 @@ use lu_msg::{Answer, Call, Message};
 use std::alloc::Global;
 
 /// What happened in a turn. `Send`, `Take` and `Tick` are at any node; the others up to `Die` at a
-/// client, but for `Skip`, which is at a target, as are those from `Act` on. Slots are 0 to 3; messages are numbered from 1, in the order in which they were sent.
+/// client, but for `Skip`, which is at a target, as are those from `Act` on. Slots are 0 to 3; messages
+/// are numbered from 1, in the order in which they were sent.
 #[derive(Debug, PartialEq, Eq, Drop)]
 pub enum Entry {
     /// A call begins on a slot. A `create` has its stripe size and count.

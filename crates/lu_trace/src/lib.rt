@@ -7,7 +7,9 @@
 mod entries;
 mod texts;
 mod traces;
+mod turns;
 
 pub use entries::{Entries, Entry, Line};
 pub use texts::render;
 pub use traces::{End, NodeJournal, Step, Trace};
+pub use turns::Turn;

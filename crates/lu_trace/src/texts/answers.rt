@@ -2,14 +2,13 @@
 
 ghost use Rattle.std.specs.Prelude.{◌≡◌, ◌++◌, ◌∷◌, [], OnOk, length, codes, decimal};
 ghost use Rattle.lu_base.specs.Texts.{pair_text};
+ghost use Rattle.lu_base.specs.Values.{octal_text};
 ghost use Rattle.lu_trace.specs.Words.{words};
-ghost use Rattle.lu_trace.specs.Values.{octal_text};
 ghost use Rattle.lu_trace.specs.Answers.{errno_text, answer_text};
 
 use super::lists::{put_joined, put_layout, put_numbers};
-use super::values::put_octal;
 use super::words::{put_with_number, put_with_pair, then_extent, then_number, then_pair};
-use lu_base::{Bytes, Fid, Memory, Names, put_bytes};
+use lu_base::{Bytes, Fid, Memory, Names, put_bytes, put_octal};
 use lu_msg::{Answer, Errno};
 
 /// An answer.

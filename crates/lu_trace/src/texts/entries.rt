@@ -2,8 +2,9 @@
 
 ghost use Rattle.std.specs.Prelude.{◌≡◌, ◌++◌, ◌∷◌, [], OnOk, codes, decimal};
 ghost use Rattle.lu_base.specs.Texts.{pair_text};
+ghost use Rattle.lu_base.specs.Values.{node_text, target_text};
 ghost use Rattle.lu_trace.specs.Words.{words};
-ghost use Rattle.lu_trace.specs.Values.{node_text, target_text, who_text, at_text};
+ghost use Rattle.lu_trace.specs.Values.{who_text, at_text};
 ghost use Rattle.lu_trace.specs.Lists.{seen_text};
 ghost use Rattle.lu_trace.specs.Calls.{call_text};
 ghost use Rattle.lu_trace.specs.Answers.{answer_text};
@@ -13,13 +14,14 @@ ghost use Rattle.lu_trace.specs.Entries.{cause_text, lock_words, entry_text, lin
 use super::answers::put_answer;
 use super::calls::put_call;
 use super::messages::{put_message, then_terms};
-use super::values::{put_at, put_node, put_target};
+use super::values::put_at;
 use super::words::{
     put_with_number, put_with_pair, put_with_who, then_number, then_pair, then_seen, then_who,
 };
 use crate::entries::{Entry, Line};
 use lu_base::{
-    At, Bytes, Cause, Cookie, Lock, Memory, Node, Numbers, TargetId, Txn, Who, Xid, put_number,
+    At, Bytes, Cause, Cookie, Lock, Memory, Node, Numbers, TargetId, Txn, Who, Xid, put_node,
+    put_number, put_target,
 };
 use lu_msg::{Answer, Call, Message};
 
@@ -99,7 +101,8 @@ fn put_begin(out: &mut Bytes, slot: u8, call: &Call) -> Result<(), Memory>
 
 /// A message that is sent.
 fn put_send(out: &mut Bytes, number: u64, to: Node, message: &Message) -> Result<(), Memory>
-    ensures put { OnOk result (out.new ≡ out.old ++ words (codes "send" ∷ decimal number ∷ node_text to ∷ message_text message.now ∷ [])) }
+    ensures put { OnOk result (out.new ≡ out.old
+        ++ words (codes "send" ∷ decimal number ∷ node_text to ∷ message_text message.now ∷ [])) }
 {
     put_with_number(out, b"send", number)?;
     out.push(b' ')?;
@@ -110,7 +113,7 @@ fn put_send(out: &mut Bytes, number: u64, to: Node, message: &Message) -> Result
 
 /// A reply that is heard.
 fn put_heard(out: &mut Bytes, target: TargetId, xid: Xid) -> Result<(), Memory>
-    ensures put { OnOk result (out.new ≡ out.old ++ words (codes "heard" ∷ target_text target ∷ decimal xid.0 ∷ [])) }
+    ensures put { OnOk result (out.new ≡ out.old ++ words (codes "heard" ∷ target_text target.0 ∷ decimal xid.0 ∷ [])) }
 {
     out.extend(b"heard ")?;
     put_target(out, target)?;
@@ -119,7 +122,7 @@ fn put_heard(out: &mut Bytes, target: TargetId, xid: Xid) -> Result<(), Memory>
 
 /// A word and a lock at a target.
 fn put_of_lock(out: &mut Bytes, word: &[u8], target: TargetId, cookie: Cookie) -> Result<(), Memory>
-    ensures put { OnOk result (out.new ≡ out.old ++ words (word.now ∷ target_text target ∷ pair_text cookie.0 ∷ [])) }
+    ensures put { OnOk result (out.new ≡ out.old ++ words (word.now ∷ target_text target.0 ∷ pair_text cookie.0 ∷ [])) }
 {
     out.extend(word)?;
     out.push(b' ')?;
@@ -129,7 +132,8 @@ fn put_of_lock(out: &mut Bytes, word: &[u8], target: TargetId, cookie: Cookie) -
 
 /// A call that is told.
 fn put_told(out: &mut Bytes, slot: u8, at: At, answer: &Answer) -> Result<(), Memory>
-    ensures put { OnOk result (out.new ≡ out.old ++ words (codes "told" ∷ decimal slot ∷ at_text at ∷ answer_text answer.now ∷ [])) }
+    ensures put { OnOk result (out.new ≡ out.old
+        ++ words (codes "told" ∷ decimal slot ∷ at_text at ∷ answer_text answer.now ∷ [])) }
 {
     put_with_number(out, b"told", u64::from(slot))?;
     out.push(b' ')?;
@@ -140,7 +144,8 @@ fn put_told(out: &mut Bytes, slot: u8, at: At, answer: &Answer) -> Result<(), Me
 
 /// A request that acted.
 fn put_act(out: &mut Bytes, who: Who, xid: Xid, answer: &Answer) -> Result<(), Memory>
-    ensures put { OnOk result (out.new ≡ out.old ++ words (codes "act" ∷ who_text who ∷ decimal xid.0 ∷ answer_text answer.now ∷ [])) }
+    ensures put { OnOk result (out.new ≡ out.old
+        ++ words (codes "act" ∷ who_text who ∷ decimal xid.0 ∷ answer_text answer.now ∷ [])) }
 {
     put_with_who(out, b"act", who)?;
     then_number(out, xid.0)?;
@@ -157,7 +162,9 @@ fn put_txn(
     seen: &Numbers,
     answer: &Answer,
 ) -> Result<(), Memory>
-    ensures put { OnOk result (out.new ≡ out.old ++ words (codes "txn" ∷ pair_text txn.0 ∷ who_text who ∷ decimal xid.0 ∷ seen_text seen.now ∷ answer_text answer.now ∷ [])) }
+    ensures put { OnOk result (out.new ≡ out.old
+        ++ words (codes "txn" ∷ pair_text txn.0 ∷ who_text who ∷ decimal xid.0 ∷ seen_text seen.now
+        ∷ answer_text answer.now ∷ [])) }
 {
     put_with_pair(out, b"txn", txn.0)?;
     then_who(out, who)?;

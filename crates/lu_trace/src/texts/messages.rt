@@ -2,8 +2,9 @@
 
 ghost use Rattle.std.specs.Prelude.{◌≡◌, ◌++◌, ◌∷◌, [], OnOk, codes, decimal};
 ghost use Rattle.lu_base.specs.Texts.{pair_text};
+ghost use Rattle.lu_base.specs.Values.{mode_text};
 ghost use Rattle.lu_trace.specs.Words.{words};
-ghost use Rattle.lu_trace.specs.Values.{who_text, at_text, mode_text, policy_text, resource_text};
+ghost use Rattle.lu_trace.specs.Values.{who_text, at_text, policy_text, resource_text};
 ghost use Rattle.lu_trace.specs.Lists.{seen_text, locks_text};
 ghost use Rattle.lu_trace.specs.Ops.{op_text};
 ghost use Rattle.lu_trace.specs.Answers.{answer_text};
@@ -12,11 +13,13 @@ ghost use Rattle.lu_trace.specs.Messages.{tagged_text, size_text, message_text};
 use super::answers::put_answer;
 use super::lists::put_locks;
 use super::operations::put_op;
-use super::values::{put_at, put_mode, put_policy, put_resource};
+use super::values::{put_at, put_policy, put_resource};
 use super::words::{
     put_with_number, put_with_who, then_extent, then_number, then_pair, then_seen, then_who,
 };
-use lu_base::{Bytes, Cookie, Memory, Mode, Numbers, Policy, Resource, Txn, Who, Xid, put_number};
+use lu_base::{
+    Bytes, Cookie, Memory, Mode, Numbers, Policy, Resource, Txn, Who, Xid, put_mode, put_number,
+};
 use lu_msg::{GrantNotice, LockReplay, Message, Op, Reply, Request, RequestReplay, SizeReport};
 
 /// A message.
@@ -162,7 +165,8 @@ pub fn then_terms(
     mode: Mode,
     policy: Policy,
 ) -> Result<(), Memory>
-    ensures put { OnOk result (out.new ≡ out.old ++ 32 ∷ words (resource_text resource policy ∷ mode_text mode ∷ policy_text policy ∷ [])) }
+    ensures put { OnOk result (out.new ≡ out.old ++ 32
+        ∷ words (resource_text resource policy ∷ mode_text mode ∷ policy_text policy ∷ [])) }
 {
     out.push(b' ')?;
     put_resource(out, resource, policy)?;
@@ -205,7 +209,8 @@ fn put_reply(out: &mut Bytes, reply: &Reply) -> Result<(), Memory>
 
 /// Further words: when a request was executed, what it was granted and its answer.
 fn then_outcome(out: &mut Bytes, reply: &Reply) -> Result<(), Memory>
-    ensures put { OnOk result (out.new ≡ out.old ++ 32 ∷ words (at_text reply.now.at ∷ locks_text reply.now.locks ∷ answer_text reply.now.answer ∷ [])) }
+    ensures put { OnOk result (out.new ≡ out.old ++ 32
+        ∷ words (at_text reply.now.at ∷ locks_text reply.now.locks ∷ answer_text reply.now.answer ∷ [])) }
 {
     out.push(b' ')?;
     put_at(out, reply.at)?;

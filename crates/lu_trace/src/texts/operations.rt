@@ -3,15 +3,18 @@
 ghost use Rattle.std.specs.Prelude.{◌≡◌, ◌++◌, ◌∷◌, [], OnOk, codes, decimal};
 ghost use Rattle.std.specs.Fmt.{signed_decimal};
 ghost use Rattle.lu_base.specs.Texts.{pair_text, path_text, bytes_text};
+ghost use Rattle.lu_base.specs.Values.{mode_text, octal_text};
 ghost use Rattle.lu_trace.specs.Words.{words};
-ghost use Rattle.lu_trace.specs.Values.{object_text, mode_text, extent_text, octal_text};
+ghost use Rattle.lu_trace.specs.Values.{object_text, extent_text};
 ghost use Rattle.lu_trace.specs.Ops.{op_text};
 
-use super::values::{put_count, put_mode, put_object, put_octal};
+use super::values::{put_count, put_object};
 use super::words::{
     put_with_pair, put_with_path, put_with_paths, then_extent, then_number, then_pair,
 };
-use lu_base::{Bytes, Cookie, Extent, Memory, Mode, Path, Resource, put_bytes};
+use lu_base::{
+    Bytes, Cookie, Extent, Memory, Mode, Path, Resource, put_bytes, put_mode, put_octal,
+};
 use lu_msg::Op;
 
 /// An operation.
@@ -66,7 +69,8 @@ pub fn put_op(out: &mut Bytes, op: &Op) -> Result<(), Memory>
 
 /// The making of a file.
 pub fn put_create(out: &mut Bytes, path: &Path, size: u64, count: i32) -> Result<(), Memory>
-    ensures put { OnOk result (out.new ≡ out.old ++ words (codes "create" ∷ path_text path.now ∷ decimal size ∷ signed_decimal count ∷ [])) }
+    ensures put { OnOk result (out.new ≡ out.old
+        ++ words (codes "create" ∷ path_text path.now ∷ decimal size ∷ signed_decimal count ∷ [])) }
 {
     put_with_path(out, b"create", path)?;
     then_number(out, size)?;
@@ -90,7 +94,8 @@ fn put_enqueue(
     mode: Mode,
     extent: Extent,
 ) -> Result<(), Memory>
-    ensures put { OnOk result (out.new ≡ out.old ++ words (codes "enqueue" ∷ object_text resource ∷ mode_text mode ∷ extent_text extent ∷ [])) }
+    ensures put { OnOk result (out.new ≡ out.old
+        ++ words (codes "enqueue" ∷ object_text resource ∷ mode_text mode ∷ extent_text extent ∷ [])) }
 {
     put_with_object(out, b"enqueue", resource)?;
     out.push(b' ')?;
@@ -115,7 +120,8 @@ fn put_under_lock(
     cookie: Cookie,
     number: u64,
 ) -> Result<(), Memory>
-    ensures put { OnOk result (out.new ≡ out.old ++ words (word.now ∷ object_text resource ∷ pair_text cookie.0 ∷ decimal number ∷ [])) }
+    ensures put { OnOk result (out.new ≡ out.old
+        ++ words (word.now ∷ object_text resource ∷ pair_text cookie.0 ∷ decimal number ∷ [])) }
 {
     put_with_object(out, word, resource)?;
     then_pair(out, cookie.0)?;

@@ -3,43 +3,18 @@
 ghost use Rattle.std.specs.Prelude.{◌≡◌, ◌++◌, ◌∷◌, OnOk, decimal};
 ghost use Rattle.std.specs.Fmt.{signed_decimal};
 ghost use Rattle.lu_base.specs.Texts.{pair_text};
-ghost use Rattle.lu_trace.specs.Values.{node_text, target_text, who_text, at_text, mode_text, last_text, extent_text, policy_text, object_text, resource_text, octal_text};
+ghost use Rattle.lu_trace.specs.Values.{who_text, at_text, last_text, extent_text, policy_text, object_text, resource_text};
 
 use itoa::Buffer;
 use lu_base::{
-    At, Bytes, Extent, Memory, Mode, Node, Policy, Resource, TargetId, Who, put_number, put_pair,
+    At, Bytes, Extent, Memory, Policy, Resource, Who, put_client, put_node, put_number, put_pair,
 };
-
-/// A client or a target.
-pub fn put_node(out: &mut Bytes, node: Node) -> Result<(), Memory>
-    ensures put { OnOk result (out.new ≡ out.old ++ node_text node) }
-{
-    match node {
-        Node::Client(number) => {
-            out.push(b'c')?;
-            put_number(out, u64::from(number))
-        }
-        Node::Target(number) => {
-            out.push(b't')?;
-            put_number(out, u64::from(number))
-        }
-    }
-}
-
-/// A target.
-pub fn put_target(out: &mut Bytes, target: TargetId) -> Result<(), Memory>
-    ensures put { OnOk result (out.new ≡ out.old ++ target_text target) }
-{
-    out.push(b't')?;
-    put_number(out, u64::from(target.0))
-}
 
 /// A life.
 pub fn put_who(out: &mut Bytes, who: Who) -> Result<(), Memory>
     ensures put { OnOk result (out.new ≡ out.old ++ who_text who) }
 {
-    out.push(b'c')?;
-    put_number(out, u64::from(who.client))?;
+    put_client(out, who.client)?;
     out.push(b'.')?;
     put_number(out, u64::from(who.life))
 }
@@ -51,20 +26,6 @@ pub fn put_at(out: &mut Bytes, at: At) -> Result<(), Memory>
     put_number(out, at.stamp.0)?;
     out.push(b':')?;
     put_node(out, at.node)
-}
-
-/// A lock's mode.
-pub fn put_mode(out: &mut Bytes, mode: Mode) -> Result<(), Memory>
-    ensures put { OnOk result (out.new ≡ out.old ++ mode_text mode) }
-{
-    match mode {
-        Mode::EX => out.extend(b"EX"),
-        Mode::PW => out.extend(b"PW"),
-        Mode::PR => out.extend(b"PR"),
-        Mode::CW => out.extend(b"CW"),
-        Mode::CR => out.extend(b"CR"),
-        Mode::NL => out.extend(b"NL"),
-    }
 }
 
 /// The last offset of a range.
@@ -102,18 +63,6 @@ pub fn put_count(out: &mut Bytes, count: i32) -> Result<(), Memory>
 {
     let mut buffer = Buffer::new();
     out.extend(buffer.format(count).as_bytes())
-}
-
-/// A mode of a directory or a file, in octal.
-#[tactic(auto, using(crate::proofs::Octal::octal_digit))]
-pub fn put_octal(out: &mut Bytes, mode: u16) -> Result<(), Memory>
-    ensures put { OnOk result (out.new ≡ out.old ++ octal_text mode) }
-{
-    if mode < 8 {
-        return out.push(b'0' + mode as u8);
-    }
-    put_octal(out, mode / 8)?;
-    out.push(b'0' + (mode % 8) as u8)
 }
 
 /// The bits of an inode, or a range.

@@ -1,4 +1,4 @@
-use Rattle.std.proofs.Common.{arith, length, ◌+◌, ◌≤◌, List, ℕ, subst}
+use Rattle.std.proofs.Common.{arith, length, ◌∙◌, ◌+◌, ◌≤◌, List, ℕ, subst}
 use Rattle.std.specs.Io.KnownBytes.{Appends}
 use Rattle.std.proofs.lemmas.Grind.{common_steps}
 use Rattle.lu_base.proofs.KnownBytes.{appends_on, put_together}
@@ -12,5 +12,5 @@ loop-written-preserved g c =
     record {
       wrote = subst P (put_together c.args.from.now c.loop-written.written c.in_ok-written.field-0 within) on;
       within = within;
-      later = grind arith;
+      steady = c.in_ok-written.ensures.steady ∙ c.loop-written.invariant.steady;
     }

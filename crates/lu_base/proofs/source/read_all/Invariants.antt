@@ -1,4 +1,4 @@
-use Rattle.std.proofs.Common.{length, ◌≤◌, ◌-◌}
+use Rattle.std.proofs.Common.{length, ◌≡◌, ◌≤◌, ◌-◌}
 use Rattle.std.specs.Io.KnownBytes.{Consumes}
 use Rattle.lu_base.proofs.source.read_all.Given as goal
 
@@ -6,7 +6,7 @@ abbrev pub invariant-loop-count : goal.invariant-loop-count
 invariant-loop-count g l = record {
   came : Consumes (g.S.Source.left l.initial.source) (g.S.Source.left l.source) l.all;
   fits : length l.all ≤ l.limit;
-  later : g.S.Source.faults l.initial.source ≤ g.S.Source.faults l.source;
+  steady : g.S.Source.faults l.source ≡ g.S.Source.faults l.initial.source;
 }
 
 abbrev pub decreases-loop-count : goal.decreases-loop-count
