@@ -4,7 +4,7 @@ use Rattle.std.specs.Prelude.{codes}
 use Rattle.lu_base.specs.declared.ids.Fid.{Fid}
 use Rattle.lu_base.specs.declared.ids.Txn.{Txn}
 use Rattle.lu_base.specs.declared.ids.Who.{Who}
-use Rattle.lu_layout.specs.Raid0.{Raid0, stripe_of, offset_of, position_of, below_of}
+use Rattle.lu_layout.specs.Raid0.{Raid0, stripe_of, offset_of, position_of, below_of, greatest_end}
 use Rattle.lu_msg.specs.declared.answers.Answer.TheVariants as told
 use Rattle.lu_msg.specs.declared.answers.Errno.TheVariants.{ENOENT}
 use Rattle.lu_msg.specs.declared.calls.Call.TheVariants as call
@@ -12,7 +12,8 @@ use Rattle.lu_msg.specs.declared.operations.Op.TheVariants as op
 use Rattle.lu_machine.specs.declared.acts.Act.{Act}
 use Rattle.lu_machine.specs.declared.acts.Deed.{Deed}
 use Rattle.lu_machine.specs.declared.acts.Deed.TheVariants.{Names, Data, Piece}
-use Rattle.lu_machine.specs.Bytes.{write, cut, put_piece, cut_piece, object_size}
+use Rattle.lu_machine.specs.Objects.{object_size, content}
+use Rattle.lu_machine.specs.Bytes.{object_at, size_of, write, cut, put_piece, cut_piece}
 use Rattle.lu_machine.specs.Machine.{start, answers, run}
 
 abbrev me : Who
@@ -44,6 +45,7 @@ unlinked : answers 1 start
     ∷ acts (Names (op.Lookup (f ∷ [])))
     ∷ [])
     ≡ told.Made file ∷ told.Made file ∷ told.Done ∷ told.Done ∷ told.Content (97 ∷ []) ∷ told.Done ∷ told.Refused ENOENT ∷ []
+unfolding stripe_of offset_of position_of greatest_end
 unlinked = refl
 
 -- a file's attributes are told with its size, and what never was a file has no bytes
@@ -57,42 +59,59 @@ sized : answers 1 start
     ∷ acts (Data file (call.Flush 0))
     ∷ [])
     ≡ told.Made file ∷ told.Done ∷ told.FileSize file 420 1 5 ∷ told.Content (0 ∷ 0 ∷ 97 ∷ 98 ∷ []) ∷ told.Done ∷ told.Content [] ∷ told.Done ∷ []
+unfolding stripe_of offset_of position_of greatest_end
 sized = refl
 
 -- two stripes in units of 2 bytes: positions 0 and 1 lie on stripe 0, 2 and 3 on stripe 1, 4 and 5 on stripe 0
 abbrev two : Raid0
 two = record { size = 2; targets = 1 ∷ 2 ∷ [] }
 
--- at 5 the stripes have 3 and 2 offsets below: their last positions are 4 and 3
-cut_grows : cut two 5 [] ≡ (3, 0) ∷ (4, 0) ∷ []
-unfolding position_of below_of stripe_of
+-- at 5 the stripes have 3 and 2 offsets below: their last bytes are at 2 and 1
+cut_grows : cut two 5 [] ≡ ((2, 0) ∷ []) ∷ ((1, 0) ∷ []) ∷ []
+unfolding below_of stripe_of
 cut_grows = refl
 
-cut_keeps : cut two 5 (write 2 (9 ∷ 9 ∷ 9 ∷ 9 ∷ []) []) ≡ (2, 9) ∷ (3, 9) ∷ (4, 9) ∷ []
-unfolding position_of below_of stripe_of
+-- positions 2 and 3, 4 and 5
+put_two : write two 2 (9 ∷ 9 ∷ 9 ∷ 9 ∷ []) [] ≡ ((2, 9) ∷ (3, 9) ∷ []) ∷ ((0, 9) ∷ (1, 9) ∷ []) ∷ []
+unfolding stripe_of offset_of
+put_two = refl
+
+cut_keeps : cut two 5 (write two 2 (9 ∷ 9 ∷ 9 ∷ 9 ∷ []) []) ≡ ((2, 9) ∷ []) ∷ ((0, 9) ∷ (1, 9) ∷ []) ∷ []
+unfolding below_of stripe_of offset_of
 cut_keeps = refl
 
-cut_to_nothing : cut two 0 (write 2 (9 ∷ 9 ∷ []) []) ≡ []
-unfolding position_of below_of stripe_of
+cut_to_nothing : cut two 0 (write two 2 (9 ∷ 9 ∷ []) []) ≡ [] ∷ [] ∷ []
+unfolding below_of stripe_of offset_of
 cut_to_nothing = refl
 
--- offsets 1 and 2 of stripe 0 are positions 1 and 4
-piece_put : put_piece two 0 1 (7 ∷ 8 ∷ []) [] ≡ (1, 7) ∷ (4, 8) ∷ []
-unfolding position_of
+piece_put : put_piece 0 1 (7 ∷ 8 ∷ []) [] ≡ ((1, 7) ∷ (2, 8) ∷ []) ∷ []
 piece_put = refl
 
 -- of stripe 0 the offsets from 2 on go, and offset 1 is its last
-piece_cut : cut_piece two 0 2 (write 0 (9 ∷ []) (write 2 (9 ∷ 9 ∷ 9 ∷ []) [])) ≡ (0, 9) ∷ (1, 0) ∷ (2, 9) ∷ (3, 9) ∷ []
-unfolding position_of stripe_of offset_of
+piece_cut : cut_piece 0 2 (write two 0 (9 ∷ []) (write two 2 (9 ∷ 9 ∷ 9 ∷ []) [])) ≡ ((0, 9) ∷ (1, 0) ∷ []) ∷ ((0, 9) ∷ (1, 9) ∷ []) ∷ []
+unfolding stripe_of offset_of
 piece_cut = refl
 
-objects : object_size two 1 (write 0 (9 ∷ 9 ∷ 9 ∷ []) []) ≡ 1
+objects : object_size (object_at (write two 0 (9 ∷ 9 ∷ 9 ∷ []) []) 1) ≡ 1
 unfolding stripe_of offset_of
 objects = refl
 
--- a piece on a stripe that the file's layout lacks changes nothing
+-- the size goes by the stripes that the layout has
+sizes : size_of two (write two 0 (9 ∷ 9 ∷ 9 ∷ []) []) ≡ 3
+unfolding stripe_of offset_of position_of greatest_end
+sizes = refl
+
+fewer : size_of (record { size = 2; targets = 1 ∷ [] }) (write two 0 (9 ∷ 9 ∷ 9 ∷ []) []) ≡ 2
+unfolding stripe_of offset_of position_of greatest_end
+fewer = refl
+
+-- from the page's start to the last byte of it that is there under the lock
+got : content 0 (record { first = 3; last = 9 }) ((1, 7) ∷ (4, 8) ∷ (12, 9) ∷ []) ≡ 0 ∷ 0 ∷ 0 ∷ 0 ∷ 8 ∷ []
+got = refl
+
+-- a piece on a stripe that the file's layout lacks is kept
 lacking : (run 1 start
     (item 1 (Names (op.Create (f ∷ []) 1048576 (pos 1)))
     ∷ acts (Piece (op.Put (record { fid = file; stripe = 1 }) (record { 0 = 1 }) 0 (97 ∷ [])))
-    ∷ [])).bytes ≡ []
+    ∷ [])).bytes ≡ (file, [] ∷ ((0, 97) ∷ []) ∷ []) ∷ []
 lacking = refl

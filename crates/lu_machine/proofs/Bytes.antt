@@ -1,438 +1,333 @@
 -- The machine's bytes, position by position.
-use Rattle.std.proofs.Common.{◌≡◌, ◌≢◌, ℕ, zero, suc, ◌+◌, ◌-◌, ◌<◌, ◌≤◌, max, ◌⊎◌, inl, inr, Bool, true, false, not, List, [], ◌∷◌, Option, Some, None, refl, sym, ap, subst, ◌∙◌, ⊎_elim, arith, length, is_some, nat_eq, nat_lt, nat_le, add-zero}
-use Rattle.std.specs.Prelude.{◌&&◌, slice_index, if◌then◌else◌}
-use Rattle.std.specs.List.{filter, fold, range_with_len}
-use Rattle.std.specs.Ordering.{nat_cmp}
-use Rattle.std.proofs.lemmas.Bool.{eq-eqb}
-use Rattle.std.proofs.lemmas.Bool.Decides.{nat_tests}
-use Rattle.lu_layout.specs.Raid0.{Raid0, stripe_of, offset_of, position_of, below_of}
+use Rattle.std.proofs.Common.{◌≡◌, ◌≢◌, ℕ, zero, suc, ◌+◌, ◌-◌, ◌<◌, ◌≤◌, ◌⊎◌, inl, inr, List, [], ◌∷◌, Some, None, refl, sym, ap, subst, ◌∙◌, ⊎_elim, arith, length}
+use Rattle.std.specs.Prelude.{slice_index}
+use Rattle.std.specs.List.{fold, range_with_len}
+use Rattle.std.proofs.lemmas.List.FromFn.{get_or-map-range_with_len, length-map-range_with_len}
+use Rattle.lu_layout.specs.Raid0.{Raid0, stripe_of, offset_of, position_of, below_of, IsFileSize}
 use Rattle.lu_layout.specs.Sound.{IsLayout}
 use Rattle.lu_layout.proofs.Below.{IsCount, IsCount-below_of}
 use Rattle.lu_layout.proofs.Places.{stripe_of-position_of, offset_of-position_of, position_of-place, stripe_of-lt, position_of-lt}
-use Rattle.lu_machine.specs.Bytes.{FileBytes, byte_at, size_of, put_byte, put_bytes, write, end_stripe, cut, put_piece, is_past, cut_piece}
-use Rattle.lu_machine.specs.ByteLaws.{SizeIsEnd, WritePuts, CutEnds, PiecePuts, PieceCuts}
-use Rattle.lu_machine.proofs.Keys.{Told, find-put}
+use Rattle.lu_layout.proofs.Sizes.{IsFileSize-file_size_of}
+use Rattle.lu_machine.specs.Places.{found_at, end_of}
+use Rattle.lu_machine.specs.Objects.{Object, put_bytes, cut_bytes, object_size}
+use Rattle.lu_machine.specs.Bytes.{FileBytes, object_at, on_object, byte_at, sizes_of, size_of, write, cut, put_piece, cut_piece}
+use Rattle.lu_machine.specs.ByteLaws.{SizeIsEnd, WritePuts, CutEnds, PiecePuts, PieceCuts, PiecesArePlain}
+use Rattle.lu_machine.proofs.Places.{end_past, end_last}
+use Rattle.lu_machine.proofs.Objects.{object_puts, object_cuts, cut_some}
 
-position_tells : (a b : ℕ) → Told nat_eq a b
-position_tells a b = by (nat_eq a b) refl
-  where
-    yes : nat_eq a b ≡ true → a ≡ b
-    yes h = grind (arith, nat_tests, h)
+-- ---- the objects of a file
 
-    no : nat_eq a b ≡ false → a ≡ b → ⊥
-    no h e = grind (arith, nat_tests, h, e)
+module _ (change : Object → Object) where
+  pub on_here : (stripe : ℕ) (m : FileBytes) → object_at (on_object change stripe m) stripe ≡ change (object_at m stripe)
+  on_here zero [] = refl
+  on_here zero (o ∷ os) = refl
+  on_here (suc s) [] = on_here s []
+  on_here (suc s) (o ∷ os) = on_here s os
 
-    by : (v : Bool) → nat_eq a b ≡ v → ((nat_eq a b ≡ true) × (a ≡ b)) ⊎ ((nat_eq a b ≡ false) × (a ≢ b))
-    by true h = inl (h, yes h)
-    by false h = inr (h, no h)
+  pub on_other : (stripe other : ℕ) (m : FileBytes) → other ≢ stripe → object_at (on_object change stripe m) other ≡ object_at m other
+  on_other zero zero m ne = absurd (ne refl)
+  on_other zero (suc i) [] ne = refl
+  on_other zero (suc i) (o ∷ os) ne = refl
+  on_other (suc s) zero [] ne = refl
+  on_other (suc s) zero (o ∷ os) ne = refl
+  on_other (suc s) (suc i) [] ne = on_other s i [] (λ e. ne (ap suc e))
+  on_other (suc s) (suc i) (o ∷ os) ne = on_other s i os (λ e. ne (ap suc e))
 
-put_tells : (q b p : ℕ) (m : FileBytes) → byte_at (put_byte q b m) p ≡ (if nat_eq q p then Some b else byte_at m p)
-put_tells q b p m = find-put nat_eq position_tells nat_cmp q b p m
+pub pieces_are_plain : PiecesArePlain
+pieces_are_plain stripe m =
+    record {
+      put = λ offset bs. on_here (put_bytes offset bs) stripe m;
+      cut = λ size. on_here (cut_bytes size) stripe m;
+      other_put = λ other ne offset bs. on_other (put_bytes offset bs) stripe other m ne;
+      other_cut = λ other ne size. on_other (cut_bytes size) stripe other m ne;
+    }
+
+same_or_other : (a b : ℕ) → (a ≡ b) ⊎ (a ≢ b)
+same_or_other zero zero = inl refl
+same_or_other zero (suc b) = inr (λ e. absurd (omega (arith, e)))
+same_or_other (suc a) zero = inr (λ e. absurd (omega (arith, e)))
+same_or_other (suc a) (suc b) = ⊎_elim (λ (e : a ≡ b). inl (ap suc e)) (λ (ne : a ≢ b). inr (λ e. ne (omega (arith, e)))) (same_or_other a b)
 
 -- ---- the size
 
-abbrev ends : ℕ → FileBytes → ℕ
-ends n m = fold (λ n e. max n (e.0 + 1)) n m
+module _ (l : Raid0) (m : FileBytes) (layout : IsLayout l) where
+  size_at : ℕ → ℕ
+  size_at stripe = object_size (object_at m stripe)
 
-ends-ge : (n : ℕ) (m : FileBytes) → n ≤ ends n m
-ends-ge n [] = omega arith
-ends-ge n (e ∷ es) = let ih = ends-ge (max n (e.0 + 1)) es in omega (arith, ih)
+  is_size : IsFileSize l (sizes_of l m) (size_of l m)
+  is_size = IsFileSize-file_size_of l (sizes_of l m)
 
-none_past : (n p : ℕ) (m : FileBytes) → ends n m ≤ p → byte_at m p ≡ None
-none_past n p [] h = refl
-none_past n p (e ∷ es) h =
-    let g = ends-ge (max n (e.0 + 1)) es in
-    let below : e.0 < p = omega (arith, g, h) in
-    let ih = none_past (max n (e.0 + 1)) p es h in
-    grind (arith, nat_tests, below, ih)
+  size_is : (i : ℕ) → i < length l.targets → slice_index (sizes_of l m) i ≡ size_at i
+  unfolding size_at
+  size_is i h = get_or-map-range_with_len (λ stripe. object_size (object_at m stripe)) 0 (length l.targets) i i 0 h (omega arith)
 
-some_last : (n : ℕ) (m : FileBytes) → (ends n m ≡ n) ⊎ ((0 < ends n m) × (byte_at m (ends n m - 1) ≢ None))
-some_last n [] = inl refl
-some_last n (e ∷ es) = by (some_last (max n (e.0 + 1)) es)
-  where
-    end : ℕ
-    end = ends (max n (e.0 + 1)) es
+  count_is : length (sizes_of l m) ≡ length l.targets
+  count_is = length-map-range_with_len (λ stripe. object_size (object_at m stripe)) 0 (length l.targets)
 
-    here : (v : Bool) → (byte_at es (end - 1) ≢ None) ⊎ (v ≡ true) → (if v then Some e.1 else byte_at es (end - 1)) ≢ None
-    here true h = λ q. absurd (cc)
-    here false (inl h) = h
-    here false (inr h) = absurd (cc)
+  -- an object's last byte lies before the end
+  covers : (i last : ℕ) → i < length l.targets → object_size (object_at m i) ≡ last + 1 → position_of l i last < size_of l m
+  unfolding size_at
+  covers i last h e =
+      let s : slice_index (sizes_of l m) i ≡ last + 1 = size_is i h ∙ e in
+      let g : position_of l i (slice_index (sizes_of l m) i - 1) < size_of l m = is_size.covers i (omega (arith, h, count_is)) (omega (arith, s)) in
+      let q : slice_index (sizes_of l m) i - 1 ≡ last = omega (arith, s) in
+      subst (λ k. position_of l i k < size_of l m) q g
 
-    split : (a b : ℕ) → (max a (b + 1) ≡ a) ⊎ (max a (b + 1) ≡ b + 1)
-    split a b = grind arith
+  none_past : (p : ℕ) → size_of l m ≤ p → byte_at l m p ≡ None
+  none_past p h = ⊎_elim (λ (g : end_of object ≤ offset_of l p). end_past object (offset_of l p) g) (λ (g : offset_of l p < end_of object). absurd (out g)) split
+    where
+      object : Object
+      object = object_at m (stripe_of l p)
 
-    by : (end ≡ max n (e.0 + 1)) ⊎ ((0 < end) × (byte_at es (end - 1) ≢ None)) → (end ≡ n) ⊎ ((0 < end) × (byte_at (e ∷ es) (end - 1) ≢ None))
-    by (inr h) = inr (h.0, here (nat_eq (end - 1) e.0) (inl h.1))
-    by (inl h) =
-        ⊎_elim (λ (q : max n (e.0 + 1) ≡ n). inl (h ∙ q))
-        (λ (q : max n (e.0 + 1) ≡ e.0 + 1). let s : end - 1 ≡ e.0 = omega (arith, h, q) in inr (omega (arith, h, q), here (nat_eq (end - 1) e.0) (inr (eq-eqb (end - 1) e.0 s))))
-        (split n e.0)
+      split : (end_of object ≤ offset_of l p) ⊎ (offset_of l p < end_of object)
+      split = grind arith
+
+      out : offset_of l p < end_of object → ⊥
+      out g =
+          let c = covers (stripe_of l p) (end_of object - 1) (stripe_of-lt l p layout) (omega (arith, g)) in
+          let at = position_of-place l p layout in
+          ⊎_elim (λ (e : offset_of l p ≡ end_of object - 1). let k : position_of l (stripe_of l p) (end_of object - 1) ≡ p = ap (position_of l (stripe_of l p)) (sym e) ∙ at in absurd (omega (arith, c, k, h)))
+          (λ (less : offset_of l p < end_of object - 1). let k = position_of-lt l (stripe_of l p) (offset_of l p) (end_of object - 1) layout less in absurd (omega (arith, c, k, at, h)))
+          (near g)
+        where
+          near : offset_of l p < end_of object → (offset_of l p ≡ end_of object - 1) ⊎ (offset_of l p < end_of object - 1)
+          near g = grind (arith, g)
+
+  -- the byte of a stripe's offset
+  pub byte_on : (stripe offset : ℕ) → stripe < length l.targets → byte_at l m (position_of l stripe offset) ≡ found_at (object_at m stripe) offset
+  byte_on stripe offset h =
+      ap (λ s. found_at (object_at m s) (offset_of l (position_of l stripe offset))) (stripe_of-position_of l stripe offset layout h) ∙ ap (found_at (object_at m stripe)) (offset_of-position_of l stripe offset layout h)
+
+  some_last : 0 < size_of l m → byte_at l m (size_of l m - 1) ≢ None
+  unfolding size_at
+  some_last some = by is_size.reached
+    where
+      by : (size_of l m ≡ 0) ⊎ ((i : ℕ) × (i < length (sizes_of l m)) × (0 < slice_index (sizes_of l m) i) × (size_of l m ≡ position_of l i (slice_index (sizes_of l m) i - 1) + 1)) → byte_at l m (size_of l m - 1) ≢ None
+      by (inl none) = absurd (omega (arith, some, none))
+      by (inr r) =
+          let h : r.0 < length l.targets = omega (arith, r.1, count_is) in
+          let s : slice_index (sizes_of l m) r.0 ≡ object_size (object_at m r.0) = size_is r.0 h in
+          let at : size_of l m - 1 ≡ position_of l r.0 (object_size (object_at m r.0) - 1) = (let q : size_of l m - 1 ≡ position_of l r.0 (slice_index (sizes_of l m) r.0 - 1) = omega (arith, r.3) in q ∙ ap (λ k. position_of l r.0 (k - 1)) s) in
+          let some : 0 < end_of (object_at m r.0) = omega (arith, r.2, s) in
+          λ e. end_last (object_at m r.0) some (sym (byte_on r.0 (object_size (object_at m r.0) - 1) h) ∙ ap (byte_at l m) (sym at) ∙ e)
 
 pub size_is_end : SizeIsEnd
-size_is_end m = record { past = λ p h. none_past 0 p m h; last = λ some. by some (some_last 0 m) }
-  where
-    by : 0 < size_of m → (size_of m ≡ 0) ⊎ ((0 < size_of m) × (byte_at m (size_of m - 1) ≢ None)) → byte_at m (size_of m - 1) ≢ None
-    by some (inl h) = absurd (omega (arith, some, h))
-    by some (inr h) = h.1
+size_is_end l m layout = record { past = none_past l m layout; last = some_last l m layout }
 
--- ---- many bytes
+-- ---- a write
 
-put_other : (at : ℕ → ℕ) (i : ℕ) (bs : List ℕ) (m : FileBytes) (p : ℕ) → ((k : ℕ) → k < length bs → at (i + k) ≢ p) → byte_at (put_bytes at i bs m) p ≡ byte_at m p
-put_other at i [] m p h = refl
-put_other at i (b ∷ bs) m p h =
-    put_other at (i + 1) bs (put_byte (at i) b m) p (λ k l e. h (suc k) (omega (arith, l)) (ap at (omega arith) ∙ e))
-    ∙ put_tells (at i) b p m ∙ ap (λ v. if v then Some b else byte_at m p) (differ (at i) (λ e. h 0 (omega arith) (ap at (omega arith) ∙ e)))
-  where
-    differ : (q : ℕ) → (q ≡ p → ⊥) → nat_eq q p ≡ false
-    differ q ne = grind (arith, nat_tests, ne)
+module _ (l : Raid0) (layout : IsLayout l) where
+  put_one : ℕ → ℕ → FileBytes → FileBytes
+  put_one p b m = put_piece (stripe_of l p) (offset_of l p) (b ∷ []) m
 
-put_here : (at : ℕ → ℕ) → ((i j : ℕ) → at i ≡ at j → i ≡ j) → (i : ℕ) (bs : List ℕ) (m : FileBytes) (k : ℕ) → k < length bs → byte_at (put_bytes at i bs m) (at (i + k)) ≡ Some (slice_index bs k)
-put_here at one i [] m k h = absurd (omega (arith, h))
-put_here at one i (b ∷ bs) m zero h =
-    ap (λ j. byte_at (put_bytes at (i + 1) bs (put_byte (at i) b m)) (at j)) (add-zero i)
-    ∙ put_other at (i + 1) bs (put_byte (at i) b m) (at i) (λ k l e. absurd (let q = one (i + 1 + k) i e in omega (arith, q)))
-    ∙ put_tells (at i) b (at i) m ∙ ap (λ v. if v then Some b else byte_at m (at i)) (eq-eqb (at i) (at i) refl)
-put_here at one i (b ∷ bs) m (suc k) h =
-    let e : i + suc k ≡ i + 1 + k = omega arith in
-    ap (λ j. byte_at (put_bytes at (i + 1) bs (put_byte (at i) b m)) (at j)) e ∙ put_here at one (i + 1) bs (put_byte (at i) b m) k (omega (arith, h))
+  put_here : (p b : ℕ) (m : FileBytes) → byte_at l (put_piece (stripe_of l p) (offset_of l p) (b ∷ []) m) p ≡ Some b
+  put_here p b m =
+      ap (λ o. found_at o (offset_of l p)) (on_here (put_bytes (offset_of l p) (b ∷ [])) (stripe_of l p) m)
+      ∙ ap (found_at (put_bytes (offset_of l p) (b ∷ []) (object_at m (stripe_of l p)))) (omega arith) ∙ (object_puts (offset_of l p) (b ∷ []) (object_at m (stripe_of l p))).puts 0 (omega arith)
+
+  put_other : (p q b : ℕ) (m : FileBytes) → p ≢ q → byte_at l (put_piece (stripe_of l p) (offset_of l p) (b ∷ []) m) q ≡ byte_at l m q
+  put_other p q b m ne = ⊎_elim same other (same_or_other (stripe_of l q) (stripe_of l p))
+    where
+      other : stripe_of l q ≢ stripe_of l p → byte_at l (put_piece (stripe_of l p) (offset_of l p) (b ∷ []) m) q ≡ byte_at l m q
+      other d = ap (λ o. found_at o (offset_of l q)) (on_other (put_bytes (offset_of l p) (b ∷ [])) (stripe_of l p) (stripe_of l q) m d)
+
+      same : stripe_of l q ≡ stripe_of l p → byte_at l (put_piece (stripe_of l p) (offset_of l p) (b ∷ []) m) q ≡ byte_at l m q
+      same s =
+          ap (λ i. found_at (object_at (put_piece (stripe_of l p) (offset_of l p) (b ∷ []) m) i) (offset_of l q)) s ∙ ap (λ o. found_at o (offset_of l q)) (on_here (put_bytes (offset_of l p) (b ∷ [])) (stripe_of l p) m)
+          ∙ (object_puts (offset_of l p) (b ∷ []) (object_at m (stripe_of l p))).leaves (offset_of l q) apart ∙ ap (λ i. found_at (object_at m i) (offset_of l q)) (sym s)
+        where
+          offsets : offset_of l q ≢ offset_of l p
+          offsets e = ne (sym (position_of-place l p layout) ∙ ap (λ i. position_of l i (offset_of l p)) (sym s) ∙ ap (position_of l (stripe_of l q)) (sym e) ∙ position_of-place l q layout)
+
+          sides : (a c : ℕ) → a ≢ c → (a < c) ⊎ (c + 1 ≤ a)
+          sides a c h = grind (arith, h)
+
+          apart : (offset_of l q < offset_of l p) ⊎ (offset_of l p + length (b ∷ []) ≤ offset_of l q)
+          apart = ⊎_elim (λ (h : offset_of l q < offset_of l p). inl h) (λ (h : offset_of l p + 1 ≤ offset_of l q). inr (omega (arith, h))) (sides (offset_of l q) (offset_of l p) offsets)
+
+  write_leaves : (offset : ℕ) (bs : List ℕ) (m : FileBytes) (p : ℕ) → (p < offset) ⊎ (offset + length bs ≤ p) → byte_at l (write l offset bs m) p ≡ byte_at l m p
+  write_leaves offset [] m p h = refl
+  write_leaves offset (b ∷ bs) m p h = write_leaves (offset + 1) bs (put_piece (stripe_of l offset) (offset_of l offset) (b ∷ []) m) p (further h) ∙ put_other offset p b m (apart h)
+    where
+      further : (p < offset) ⊎ (offset + length (b ∷ bs) ≤ p) → (p < offset + 1) ⊎ (offset + 1 + length bs ≤ p)
+      further (inl g) = inl (omega (arith, g))
+      further (inr g) = inr (omega (arith, g))
+
+      apart : (p < offset) ⊎ (offset + length (b ∷ bs) ≤ p) → offset ≢ p
+      apart (inl g) e = absurd (omega (arith, g, e))
+      apart (inr g) e = absurd (omega (arith, g, e))
+
+  write_puts_at : (offset : ℕ) (bs : List ℕ) (m : FileBytes) (k : ℕ) → k < length bs → byte_at l (write l offset bs m) (offset + k) ≡ Some (slice_index bs k)
+  write_puts_at offset [] m k h = absurd (omega (arith, h))
+  write_puts_at offset (b ∷ bs) m zero h =
+      let at : offset + 0 ≡ offset = omega arith in
+      ap (byte_at l (write l offset (b ∷ bs) m)) at ∙ write_leaves (offset + 1) bs (put_piece (stripe_of l offset) (offset_of l offset) (b ∷ []) m) offset (inl (omega arith)) ∙ put_here offset b m
+  write_puts_at offset (b ∷ bs) m (suc k) h =
+      let at : offset + suc k ≡ offset + 1 + k = omega arith in
+      ap (byte_at l (write l offset (b ∷ bs) m)) at ∙ write_puts_at (offset + 1) bs (put_piece (stripe_of l offset) (offset_of l offset) (b ∷ []) m) k (omega (arith, h))
+
+  write_lacks : (offset : ℕ) (bs : List ℕ) (m : FileBytes) (stripe : ℕ) → length l.targets ≤ stripe → object_at (write l offset bs m) stripe ≡ object_at m stripe
+  write_lacks offset [] m stripe h = refl
+  write_lacks offset (b ∷ bs) m stripe h =
+      write_lacks (offset + 1) bs (put_piece (stripe_of l offset) (offset_of l offset) (b ∷ []) m) stripe h
+      ∙ on_other (put_bytes (offset_of l offset) (b ∷ [])) (stripe_of l offset) stripe m (λ e. let g = stripe_of-lt l offset layout in absurd (omega (arith, h, g, e)))
 
 pub write_puts : WritePuts
-write_puts offset bs m =
-    record {
-      puts = λ k h. ap (λ j. byte_at (write offset bs m) (offset + j)) (omega arith) ∙ put_here (λ i. offset + i) (λ i j e. omega (arith, e)) 0 bs m k h;
-      leaves = λ p h. put_other (λ i. offset + i) 0 bs m p (λ k l e. absurd (outside p k h l e));
-    }
-  where
-    outside : (p k : ℕ) → (p < offset) ⊎ (offset + length bs ≤ p) → k < length bs → offset + (0 + k) ≡ p → ⊥
-    outside p k (inl h) l e = absurd (omega (arith, h, l, e))
-    outside p k (inr h) l e = absurd (omega (arith, h, l, e))
+write_puts l offset bs m layout = record { puts = write_puts_at l layout offset bs m; leaves = write_leaves l layout offset bs m; lacks = write_lacks l layout offset bs m }
 
 -- ---- cuts
 
-find_filter : (test : ℕ → Bool) (m : FileBytes) (p : ℕ) → byte_at (filter (λ e. test e.0) m) p ≡ (if test p then byte_at m p else None)
-find_filter test [] p = by (test p)
-  where
-    none : Option ℕ
-    none = None
+module _ (l : Raid0) (n : ℕ) where
+  abbrev cuts : FileBytes → List ℕ → FileBytes
+  cuts m stripes = fold (λ k stripe. cut_piece stripe (below_of l stripe n) k) m stripes
 
-    by : (v : Bool) → none ≡ (if v then none else none)
-    by true = refl
-    by false = refl
-find_filter test (e ∷ es) p = by (test e.0) refl (nat_eq p e.0) refl (position_tells p e.0) (find_filter test es p)
-  where
-    by : (v : Bool) → test e.0 ≡ v → (w : Bool) → nat_eq p e.0 ≡ w → Told nat_eq p e.0 → byte_at (filter (λ e. test e.0) es) p ≡ (if test p then byte_at es p else None)
-        → byte_at (if v then e ∷ filter (λ e. test e.0) es else filter (λ e. test e.0) es) p ≡ (if test p then (if w then Some e.1 else byte_at es p) else None)
-    by true t true w (inl q) ih = ap (λ v. if v then Some e.1 else byte_at (filter (λ e. test e.0) es) p) w ∙ sym (ap (λ v. if v then Some e.1 else None) (ap test q.1 ∙ t))
-    by true t false w (inr q) ih = ap (λ v. if v then Some e.1 else byte_at (filter (λ e. test e.0) es) p) w ∙ ih
-    by false t true w (inl q) ih = ih ∙ ap (λ v. if v then byte_at es p else None) (ap test q.1 ∙ t) ∙ sym (ap (λ v. if v then Some e.1 else None) (ap test q.1 ∙ t))
-    by false t false w (inr q) ih = ih
-    by v t true w (inr q) ih = absurd (cc (w, q.0))
-    by v t false w (inl q) ih = absurd (cc (w, q.0))
-
--- an absent byte becomes 0
-abbrev or_zero : Option ℕ → Option ℕ
-or_zero None = Some 0
-or_zero (Some b) = Some b
-
--- whether a stripe that ends at q ends at p
-abbrev is_end : Raid0 → ℕ → ℕ → ℕ → Bool
-is_end l stripe zero p = false
-is_end l stripe (suc q) p = nat_eq (position_of l stripe q) p
-
-end_tells : (l : Raid0) (stripe q : ℕ) (m : FileBytes) (p : ℕ) → byte_at (end_stripe l stripe q m) p ≡ (if is_end l stripe q p then or_zero (byte_at m p) else byte_at m p)
-end_tells l stripe zero m p = refl
-end_tells l stripe (suc q) m p = by (byte_at m (position_of l stripe q)) refl (nat_eq (position_of l stripe q) p) refl (position_tells (position_of l stripe q) p)
-  where
-    spot : ℕ
-    spot = position_of l stripe q
-
-    by : (o : Option ℕ) → byte_at m spot ≡ o → (v : Bool) → nat_eq spot p ≡ v → Told nat_eq spot p → byte_at (if is_some o then m else put_byte spot 0 m) p ≡ (if v then or_zero (byte_at m p) else byte_at m p)
-    by (Some b) e true w (inl t) = let f : byte_at m p ≡ Some b = ap (byte_at m) (sym t.1) ∙ e in f ∙ sym (ap or_zero f)
-    by (Some b) e false w t = refl
-    by None e true w (inl t) = let f : byte_at m p ≡ None = ap (byte_at m) (sym t.1) ∙ e in put_tells spot 0 p m ∙ ap (λ v. if v then Some 0 else byte_at m p) w ∙ sym (ap or_zero f)
-    by None e false w t = put_tells spot 0 p m ∙ ap (λ v. if v then Some 0 else byte_at m p) w
-    by (Some b) e true w (inr t) = absurd (cc (w, t.0))
-    by None e true w (inr t) = absurd (cc (w, t.0))
-
--- whether one of these stripes ends at p
-abbrev any_end : Raid0 → ℕ → ℕ → List ℕ → Bool
-any_end l n p [] = false
-any_end l n p (s ∷ ss) = if is_end l s (below_of l s n) p then true else any_end l n p ss
-
-all_tell : (l : Raid0) (n p : ℕ) (ss : List ℕ) (m : FileBytes) → byte_at (fold (λ k s. end_stripe l s (below_of l s n) k) m ss) p ≡ (if any_end l n p ss then or_zero (byte_at m p) else byte_at m p)
-all_tell l n p [] m = refl
-all_tell l n p (s ∷ ss) m =
-    all_tell l n p ss (end_stripe l s (below_of l s n) m) ∙ ap (λ o. if any_end l n p ss then or_zero o else o) (end_tells l s (below_of l s n) m p)
-    ∙ by (is_end l s (below_of l s n) p) (any_end l n p ss) (byte_at m p)
-  where
-    by : (v w : Bool) (o : Option ℕ) → (if w then or_zero (if v then or_zero o else o) else (if v then or_zero o else o)) ≡ (if (if v then true else w) then or_zero o else o)
-    by true true None = refl
-    by true true (Some b) = refl
-    by true false o = refl
-    by false true o = refl
-    by false false o = refl
-
--- what it means that a stripe ends there
-end_means : (l : Raid0) (stripe q p : ℕ) → is_end l stripe q p ≡ true → (k : ℕ) × ((q ≡ suc k) × (position_of l stripe k ≡ p))
-end_means l stripe zero p h = absurd (cc)
-end_means l stripe (suc k) p h = (k, (refl, yes (position_of l stripe k) h))
-  where
-    yes : (x : ℕ) → nat_eq x p ≡ true → x ≡ p
-    yes x e = grind (arith, nat_tests, e)
-
-AllUnder : ℕ → List ℕ → Type 0
-AllUnder count [] = Unit {0}
-AllUnder count (s ∷ ss) = (s < count) × AllUnder count ss
-
-range_under : (a k count : ℕ) → a + k ≤ count → AllUnder count (range_with_len a k)
-unfolding AllUnder
-range_under a zero count h = tt
-range_under a (suc k) count h = (omega (arith, h), range_under (a + 1) k count (omega (arith, h)))
-
-any_in_range : (l : Raid0) (n p a k s : ℕ) → a ≤ s → s < a + k → is_end l s (below_of l s n) p ≡ true → any_end l n p (range_with_len a k) ≡ true
-any_in_range l n p a zero s h g e = absurd (omega (arith, h, g))
-any_in_range l n p a (suc k) s h g e = by (is_end l a (below_of l a n) p) refl (λ d. any_in_range l n p (a + 1) k s d (omega (arith, g)) e)
-  where
-    split : (a ≡ s) ⊎ (a + 1 ≤ s)
-    split = grind (arith, h)
-
-    by : (v : Bool) → is_end l a (below_of l a n) p ≡ v → (a + 1 ≤ s → any_end l n p (range_with_len (a + 1) k) ≡ true) → (if v then true else any_end l n p (range_with_len (a + 1) k)) ≡ true
-    by true w ih = refl
-    by false w ih = ⊎_elim (λ (q : a ≡ s). absurd (cc (w, ap (λ x. is_end l x (below_of l x n) p) q, e))) (λ (q : a + 1 ≤ s). ih q) split
-
-module _ (l : Raid0) (layout : IsLayout l) where
-  below_means : (stripe n k : ℕ) → stripe < length l.targets → below_of l stripe n ≡ suc k → position_of l stripe k < n
-  below_means stripe n k h e = ((IsCount-below_of l stripe n layout h).counts k).0 (omega (arith, e))
-
-  any_below : (n p : ℕ) (ss : List ℕ) → AllUnder (length l.targets) ss → any_end l n p ss ≡ true → p < n
-  unfolding AllUnder
-  any_below n p [] u h = absurd (cc)
-  any_below n p (s ∷ ss) u h = by (is_end l s (below_of l s n) p) refl h (any_below n p ss u.1)
+  cut_without : (a k : ℕ) (m : FileBytes) (stripe : ℕ) → (stripe < a) ⊎ (a + k ≤ stripe) → object_at (cuts m (range_with_len a k)) stripe ≡ object_at m stripe
+  cut_without a zero m stripe h = refl
+  cut_without a (suc k) m stripe h = cut_without (a + 1) k (cut_piece a (below_of l a n) m) stripe (further h) ∙ on_other (cut_bytes (below_of l a n)) a stripe m (apart h)
     where
-      by : (v : Bool) → is_end l s (below_of l s n) p ≡ v → (if v then true else any_end l n p ss) ≡ true → (any_end l n p ss ≡ true → p < n) → p < n
-      by true w h ih = let m = end_means l s (below_of l s n) p w in let b = below_means s n m.0 u.0 m.1.0 in omega (arith, b, m.1.1)
-      by false w h ih = ih h
+      further : (stripe < a) ⊎ (a + suc k ≤ stripe) → (stripe < a + 1) ⊎ (a + 1 + k ≤ stripe)
+      further (inl g) = inl (omega (arith, g))
+      further (inr g) = inr (omega (arith, g))
 
-  -- the last position below n is its stripe's last
-  end_at_last : (k : ℕ) → is_end l (stripe_of l k) (below_of l (stripe_of l k) (k + 1)) k ≡ true
-  end_at_last k = by (below_of l s (k + 1)) refl
+      apart : (stripe < a) ⊎ (a + suc k ≤ stripe) → stripe ≢ a
+      apart (inl g) e = absurd (omega (arith, g, e))
+      apart (inr g) e = absurd (omega (arith, g, e))
+
+  cut_within : (a k : ℕ) (m : FileBytes) (stripe : ℕ) → a ≤ stripe → stripe < a + k → object_at (cuts m (range_with_len a k)) stripe ≡ cut_bytes (below_of l stripe n) (object_at m stripe)
+  cut_within a zero m stripe h g = absurd (omega (arith, h, g))
+  cut_within a (suc k) m stripe h g = ⊎_elim here (λ ne. later ne (cut_within (a + 1) k (cut_piece a (below_of l a n) m) stripe (above stripe a h ne) (omega (arith, g)))) (same_or_other stripe a)
     where
-      s : ℕ
-      s = stripe_of l k
+      here : stripe ≡ a → object_at (cuts m (range_with_len a (suc k))) stripe ≡ cut_bytes (below_of l stripe n) (object_at m stripe)
+      here e =
+          cut_without (a + 1) k (cut_piece a (below_of l a n) m) stripe (inl (omega (arith, e))) ∙ ap (object_at (cut_piece a (below_of l a n) m)) e ∙ on_here (cut_bytes (below_of l a n)) a m
+          ∙ ap (λ i. cut_bytes (below_of l i n) (object_at m i)) (sym e)
 
-      o : ℕ
-      o = offset_of l k
+      above : (b a : ℕ) → a ≤ b → b ≢ a → a + 1 ≤ b
+      above b a h ne = grind (arith, h, ne)
 
-      here : position_of l s o ≡ k
-      here = position_of-place l k layout
+      later : stripe ≢ a → object_at (cuts (cut_piece a (below_of l a n) m) (range_with_len (a + 1) k)) stripe ≡ cut_bytes (below_of l stripe n) (object_at (cut_piece a (below_of l a n) m) stripe)
+          → object_at (cuts m (range_with_len a (suc k))) stripe ≡ cut_bytes (below_of l stripe n) (object_at m stripe)
+      later ne ih = ih ∙ ap (cut_bytes (below_of l stripe n)) (on_other (cut_bytes (below_of l a n)) a stripe m ne)
 
-      count : IsCount l s (k + 1) (below_of l s (k + 1))
-      count = IsCount-below_of l s (k + 1) layout (stripe_of-lt l k layout)
+  cut_objects : (m : FileBytes) (stripe : ℕ) → stripe < length l.targets → object_at (cut l n m) stripe ≡ cut_bytes (below_of l stripe n) (object_at m stripe)
+  cut_objects m stripe h = cut_within 0 (length l.targets) m stripe (omega arith) (omega (arith, h))
 
-      reached : o < below_of l s (k + 1)
-      reached = (count.counts o).1 (omega (arith, here))
+  cut_lacks : (m : FileBytes) (stripe : ℕ) → length l.targets ≤ stripe → object_at (cut l n m) stripe ≡ object_at m stripe
+  cut_lacks m stripe h = cut_without 0 (length l.targets) m stripe (inr (omega (arith, h)))
 
-      not_next : o + 1 < below_of l s (k + 1) → ⊥
-      not_next h =
-          let a : position_of l s (o + 1) < k + 1 = (count.counts (o + 1)).0 h in
-          let b : position_of l s o < position_of l s (o + 1) = position_of-lt l s o (o + 1) layout (omega arith) in
-          absurd (omega (arith, a, b, here))
+  module _ (layout : IsLayout l) (m : FileBytes) (p : ℕ) where
+    s : ℕ
+    s = stripe_of l p
 
-      exact : below_of l s (k + 1) ≡ o + 1
-      exact = pinned o (below_of l s (k + 1)) reached not_next
-        where
-          pinned : (o b : ℕ) → o < b → (o + 1 < b → ⊥) → b ≡ o + 1
-          pinned o b h g = ⊎_elim (λ (q : b ≡ o + 1). q) (λ (q : o + 1 < b). absurd (g q)) (split o b h)
-            where
-              split : (o b : ℕ) → o < b → (b ≡ o + 1) ⊎ (o + 1 < b)
-              split o b h = grind (arith, h)
+    o : ℕ
+    o = offset_of l p
 
-      by : (b : ℕ) → below_of l s (k + 1) ≡ b → is_end l s b k ≡ true
-      by zero e = absurd (omega (arith, e, exact))
-      by (suc q) e = let i : q ≡ o = omega (arith, e, exact) in eq-eqb (position_of l s q) k (ap (position_of l s) i ∙ here)
+    c : ℕ
+    c = below_of l s n
 
-  module _ (n : ℕ) (m : FileBytes) where
-    stripes : List ℕ
-    stripes = range_with_len 0 (length l.targets)
+    count : IsCount l s n c
+    unfolding s c
+    count = IsCount-below_of l s n layout (stripe_of-lt l p layout)
 
-    kept : ℕ → Option ℕ
-    kept p = if nat_lt p n then byte_at m p else None
+    here : position_of l s o ≡ p
+    unfolding s o
+    here = position_of-place l p layout
 
-    cut_tells : (p : ℕ) → byte_at (cut l n m) p ≡ (if any_end l n p stripes then or_zero (kept p) else kept p)
-    unfolding stripes kept
-    cut_tells p =
-        all_tell l n p (range_with_len 0 (length l.targets)) (filter (λ e. nat_lt e.0 n) m)
-        ∙ ap (λ o. if any_end l n p (range_with_len 0 (length l.targets)) then or_zero o else o) (find_filter (λ q. nat_lt q n) m p)
+    cut_at : byte_at l (cut l n m) p ≡ found_at (cut_bytes c (object_at m s)) o
+    unfolding s o c
+    cut_at = ap (λ x. found_at x (offset_of l p)) (cut_objects m (stripe_of l p) (stripe_of-lt l p layout))
 
-    cut_drops : (p : ℕ) → n ≤ p → byte_at (cut l n m) p ≡ None
-    unfolding stripes kept
-    cut_drops p h = cut_tells p ∙ by (any_end l n p (range_with_len 0 (length l.targets))) refl
+    past_count : n ≤ p → c ≤ o
+    past_count h = ⊎_elim (λ (g : c ≤ o). g) (λ (g : o < c). absurd (let k = (count.counts o).0 g in omega (arith, k, here, h))) split
       where
-        out : (p n : ℕ) → n ≤ p → nat_lt p n ≡ false
-        out p n h = grind (arith, nat_tests, h)
+        split : (c ≤ o) ⊎ (o < c)
+        split = grind arith
 
-        by : (v : Bool) → any_end l n p (range_with_len 0 (length l.targets)) ≡ v → (if v then or_zero (kept p) else kept p) ≡ None
-        by true e = absurd (omega (arith, h, any_below n p (range_with_len 0 (length l.targets)) (range_under 0 (length l.targets) (length l.targets) (omega arith)) e))
-        by false e = ap (λ v. if v then byte_at m p else None) (out p n h)
+    before_count : p < n → o < c
+    before_count h = (count.counts o).1 (omega (arith, here, h))
 
-    cut_keeps : (p b : ℕ) → p < n → byte_at m p ≡ Some b → byte_at (cut l n m) p ≡ Some b
-    unfolding stripes kept
-    cut_keeps p b h e = cut_tells p ∙ ap (λ o. if any_end l n p (range_with_len 0 (length l.targets)) then or_zero o else o) is ∙ by (any_end l n p (range_with_len 0 (length l.targets)))
+    cut_drops : n ≤ p → byte_at l (cut l n m) p ≡ None
+    cut_drops h = cut_at ∙ (object_cuts c (object_at m s)).drops o (past_count h)
+
+    cut_keeps : (b : ℕ) → p < n → byte_at l m p ≡ Some b → byte_at l (cut l n m) p ≡ Some b
+    unfolding s o
+    cut_keeps b h e = cut_at ∙ (object_cuts c (object_at m s)).keeps o b (before_count h) e
+
+    cut_zeros : byte_at l m p ≡ None → (byte_at l (cut l n m) p ≡ None) ⊎ (byte_at l (cut l n m) p ≡ Some 0)
+    unfolding s o
+    cut_zeros e = by (places o c)
       where
-        under : (p n : ℕ) → p < n → nat_lt p n ≡ true
-        under p n h = grind (arith, nat_tests, h)
+        places : (o c : ℕ) → (c ≤ o) ⊎ ((o + 1 ≡ c) ⊎ (o + 1 < c))
+        places o c = grind arith
 
-        is : kept p ≡ Some b
-        is = ap (λ v. if v then byte_at m p else None) (under p n h) ∙ e
+        by : (c ≤ o) ⊎ ((o + 1 ≡ c) ⊎ (o + 1 < c)) → (byte_at l (cut l n m) p ≡ None) ⊎ (byte_at l (cut l n m) p ≡ Some 0)
+        by (inl h) = inl (cut_at ∙ (object_cuts c (object_at m s)).drops o h)
+        by (inr (inl h)) = inr (cut_at ∙ (object_cuts c (object_at m s)).zero o h e)
+        by (inr (inr h)) = inl (cut_at ∙ (object_cuts c (object_at m s)).leaves o h ∙ e)
 
-        by : (v : Bool) → (if v then or_zero (Some b) else Some b) ≡ Some b
-        by true = refl
-        by false = refl
-
-    cut_zeros : (p : ℕ) → byte_at m p ≡ None → (byte_at (cut l n m) p ≡ None) ⊎ (byte_at (cut l n m) p ≡ Some 0)
-    unfolding stripes kept
-    cut_zeros p e = by (any_end l n p (range_with_len 0 (length l.targets))) (cut_tells p ∙ ap (λ o. if any_end l n p (range_with_len 0 (length l.targets)) then or_zero o else o) (is (nat_lt p n)))
+    -- the last position below n is its stripe's last
+    cut_last : n ≡ p + 1 → byte_at l (cut l n m) p ≢ None
+    cut_last e q = cut_some (object_at m s) c o exact (sym cut_at ∙ q)
       where
-        none : Option ℕ
-        none = None
+        not_next : o + 1 < c → ⊥
+        not_next h =
+            let a : position_of l s (o + 1) < n = (count.counts (o + 1)).0 h in
+            let b : position_of l s o < position_of l s (o + 1) = position_of-lt l s o (o + 1) layout (omega arith) in
+            absurd (omega (arith, a, b, here, e))
 
-        is : (v : Bool) → (if v then byte_at m p else None) ≡ none
-        is true = e
-        is false = refl
+        pinned : (o c : ℕ) → o < c → (o + 1 < c → ⊥) → o + 1 ≡ c
+        pinned o c h g = ⊎_elim (λ (q : o + 1 ≡ c). q) (λ (q : o + 1 < c). absurd (g q)) (split o c h)
+          where
+            split : (o c : ℕ) → o < c → (o + 1 ≡ c) ⊎ (o + 1 < c)
+            split o c h = grind (arith, h)
 
-        by : (v : Bool) → byte_at (cut l n m) p ≡ (if v then or_zero none else none) → (byte_at (cut l n m) p ≡ None) ⊎ (byte_at (cut l n m) p ≡ Some 0)
-        by true h = inr h
-        by false h = inl h
+        exact : o + 1 ≡ c
+        exact = pinned o c (before_count (omega (arith, e))) not_next
 
-  cut_last : (k : ℕ) (m : FileBytes) → byte_at (cut l (k + 1) m) k ≢ None
-  unfolding stripes
-  cut_last k m h =
-      let e = any_in_range l (k + 1) k 0 (length l.targets) (stripe_of l k) (omega arith) (omega (arith, stripe_of-lt l k layout)) (end_at_last k) in
-      some (kept (k + 1) m k) (sym (cut_tells (k + 1) m k ∙ ap (λ v. if v then or_zero (kept (k + 1) m k) else kept (k + 1) m k) e) ∙ h)
-    where
-      some : (o : Option ℕ) → or_zero o ≡ None → ⊥
-      some None e = absurd (cc)
-      some (Some b) e = absurd (cc)
-
-size_unique : (m : FileBytes) (n : ℕ) → ((p : ℕ) → n ≤ p → byte_at m p ≡ None) → ((k : ℕ) → n ≡ k + 1 → byte_at m k ≢ None) → size_of m ≡ n
-size_unique m n past last = by (split (size_of m) n)
+size_unique : (l : Raid0) (m : FileBytes) (layout : IsLayout l) (n : ℕ) → ((p : ℕ) → n ≤ p → byte_at l m p ≡ None) → ((k : ℕ) → n ≡ k + 1 → byte_at l m k ≢ None) → size_of l m ≡ n
+size_unique l m layout n past last = by (split (size_of l m) n)
   where
     split : (s n : ℕ) → (s ≡ n) ⊎ ((s < n) ⊎ (n < s))
     split s n = grind arith
 
-    by : (size_of m ≡ n) ⊎ ((size_of m < n) ⊎ (n < size_of m)) → size_of m ≡ n
+    by : (size_of l m ≡ n) ⊎ ((size_of l m < n) ⊎ (n < size_of l m)) → size_of l m ≡ n
     by (inl e) = e
-    by (inr (inl h)) = absurd (last (n - 1) (omega (arith, h)) ((size_is_end m).past (n - 1) (omega (arith, h))))
-    by (inr (inr h)) = absurd ((size_is_end m).last (omega (arith, h)) (past (size_of m - 1) (omega (arith, h))))
+    by (inr (inl h)) = absurd (last (n - 1) (omega (arith, h)) ((size_is_end l m layout).past (n - 1) (omega (arith, h))))
+    by (inr (inr h)) = absurd ((size_is_end l m layout).last (omega (arith, h)) (past (size_of l m - 1) (omega (arith, h))))
 
 pub cut_ends : CutEnds
 cut_ends l n m layout =
     record {
-      size = size_unique (cut l n m) n (cut_drops l layout n m) (λ k e. subst (λ x. byte_at (cut l x m) k ≢ None) (sym e) (cut_last l layout k m));
-      drops = cut_drops l layout n m;
-      keeps = cut_keeps l layout n m;
-      zeros = cut_zeros l layout n m;
+      size = size_unique l (cut l n m) layout n (cut_drops l n layout m) (cut_last l n layout m);
+      drops = cut_drops l n layout m;
+      keeps = cut_keeps l n layout m;
+      zeros = cut_zeros l n layout m;
+      objects = cut_objects l n m;
+      lacks = cut_lacks l n m;
     }
 
 -- ---- pieces
 
-module _ (l : Raid0) (stripe : ℕ) (layout : IsLayout l) (there : stripe < length l.targets) where
-  one_offset : (a b : ℕ) → position_of l stripe a ≡ position_of l stripe b → a ≡ b
-  one_offset a b e = sym (offset_of-position_of l stripe a layout there) ∙ ap (offset_of l) e ∙ offset_of-position_of l stripe b layout there
+module _ (l : Raid0) (stripe : ℕ) (change : Object → Object) (m : FileBytes) (layout : IsLayout l) (there : stripe < length l.targets) where
+  piece_at : (o : ℕ) → byte_at l (on_object change stripe m) (position_of l stripe o) ≡ found_at (change (object_at m stripe)) o
+  piece_at o = byte_on l (on_object change stripe m) layout stripe o there ∙ ap (λ x. found_at x o) (on_here change stripe m)
 
-  on_stripe : (o p : ℕ) → position_of l stripe o ≡ p → stripe_of l p ≡ stripe
-  on_stripe o p e = ap (stripe_of l) (sym e) ∙ stripe_of-position_of l stripe o layout there
-
-  piece_spot : ℕ → ℕ → ℕ
-  piece_spot offset i = position_of l stripe (offset + i)
+  piece_others : (p : ℕ) → stripe_of l p ≢ stripe → byte_at l (on_object change stripe m) p ≡ byte_at l m p
+  piece_others p ne = ap (λ x. found_at x (offset_of l p)) (on_other change stripe (stripe_of l p) m ne)
 
 pub piece_puts : PiecePuts
 piece_puts l stripe offset bs m layout there =
     record {
-      puts = λ k h.
-          ap (λ j. byte_at (put_piece l stripe offset bs m) (position_of l stripe (offset + j))) (sym (zero_add k))
-          ∙ put_here (λ i. position_of l stripe (offset + i)) (λ i j e. let q = one_offset l stripe layout there (offset + i) (offset + j) e in omega (arith, q)) 0 bs m k h;
-      leaves = λ o h. put_other (λ i. position_of l stripe (offset + i)) 0 bs m (position_of l stripe o) (λ k lt e. absurd (outside o k h lt (one_offset l stripe layout there (offset + (0 + k)) o e)));
-      others = λ p ne. put_other (λ i. position_of l stripe (offset + i)) 0 bs m p (λ k lt e. ne (on_stripe l stripe layout there (offset + (0 + k)) p e));
+      puts = λ k h. piece_at l stripe (put_bytes offset bs) m layout there (offset + k) ∙ (object_puts offset bs (object_at m stripe)).puts k h;
+      leaves = λ o h. piece_at l stripe (put_bytes offset bs) m layout there o ∙ (object_puts offset bs (object_at m stripe)).leaves o h ∙ sym (byte_on l m layout stripe o there);
+      others = piece_others l stripe (put_bytes offset bs) m layout there;
     }
-  where
-    zero_add : (k : ℕ) → 0 + k ≡ k
-    zero_add k = omega arith
-
-    outside : (o k : ℕ) → (o < offset) ⊎ (offset + length bs ≤ o) → k < length bs → offset + (0 + k) ≡ o → ⊥
-    outside o k (inl h) lt e = absurd (omega (arith, h, lt, e))
-    outside o k (inr h) lt e = absurd (omega (arith, h, lt, e))
-
-module _ (l : Raid0) (stripe q : ℕ) (m : FileBytes) (layout : IsLayout l) (there : stripe < length l.targets) where
-  left : ℕ → Option ℕ
-  left p = if not (is_past l stripe q p) then byte_at m p else None
-
-  piece_tells : (p : ℕ) → byte_at (cut_piece l stripe q m) p ≡ (if is_end l stripe q p then or_zero (left p) else left p)
-  unfolding left
-  piece_tells p =
-      end_tells l stripe q (filter (λ e. not (is_past l stripe q e.0)) m) p
-      ∙ ap (λ o. if is_end l stripe q p then or_zero o else o) (find_filter (λ x. not (is_past l stripe q x)) m p)
-
-  past_here : (o : ℕ) → is_past l stripe q (position_of l stripe o) ≡ nat_le q o
-  past_here o =
-      ap (λ s. nat_eq s stripe && nat_le q (offset_of l (position_of l stripe o))) (stripe_of-position_of l stripe o layout there)
-      ∙ ap (λ v. v && nat_le q (offset_of l (position_of l stripe o))) (eq-eqb stripe stripe refl) ∙ ap (nat_le q) (offset_of-position_of l stripe o layout there)
-
-  le_true : (a b : ℕ) → a ≤ b → nat_le a b ≡ true
-  le_true a b h = grind (arith, nat_tests, h)
-
-  le_false : (a b : ℕ) → b < a → nat_le a b ≡ false
-  le_false a b h = grind (arith, nat_tests, h)
-
-  no_end : (p : ℕ) → ((k : ℕ) → q ≡ suc k → position_of l stripe k ≡ p → ⊥) → is_end l stripe q p ≡ false
-  no_end p h = by (is_end l stripe q p) refl
-    where
-      by : (v : Bool) → is_end l stripe q p ≡ v → v ≡ false
-      by false e = refl
-      by true e = let w = end_means l stripe q p e in absurd (h w.0 w.1.0 w.1.1)
-
-  piece_drops : (o : ℕ) → q ≤ o → byte_at (cut_piece l stripe q m) (position_of l stripe o) ≡ None
-  unfolding left
-  piece_drops o h =
-      piece_tells (position_of l stripe o)
-      ∙ ap (λ v. if v then or_zero (left (position_of l stripe o)) else left (position_of l stripe o)) (no_end (position_of l stripe o) (λ k e f. let i = one_offset l stripe layout there k o f in absurd (omega (arith, e, i, h))))
-      ∙ ap (λ v. if not v then byte_at m (position_of l stripe o) else None) (past_here o ∙ le_true q o h)
-
-  piece_keeps : (o b : ℕ) → o < q → byte_at m (position_of l stripe o) ≡ Some b → byte_at (cut_piece l stripe q m) (position_of l stripe o) ≡ Some b
-  unfolding left
-  piece_keeps o b h e =
-      piece_tells (position_of l stripe o) ∙ ap (λ x. if is_end l stripe q (position_of l stripe o) then or_zero x else x) (ap (λ v. if not v then byte_at m (position_of l stripe o) else None) (past_here o ∙ le_false q o h) ∙ e)
-      ∙ by (is_end l stripe q (position_of l stripe o))
-    where
-      by : (v : Bool) → (if v then or_zero (Some b) else Some b) ≡ Some b
-      by true = refl
-      by false = refl
-
-  piece_others : (p : ℕ) → stripe_of l p ≢ stripe → byte_at (cut_piece l stripe q m) p ≡ byte_at m p
-  unfolding left
-  piece_others p ne =
-      piece_tells p ∙ ap (λ v. if v then or_zero (left p) else left p) (no_end p (λ k e f. ne (on_stripe l stripe layout there k p f)))
-      ∙ ap (λ v. if not (v && nat_le q (offset_of l p)) then byte_at m p else None) (other (stripe_of l p) ne)
-    where
-      other : (s : ℕ) → (s ≡ stripe → ⊥) → nat_eq s stripe ≡ false
-      other s h = grind (arith, nat_tests, h)
-
-  piece_ends : 0 < q → byte_at (cut_piece l stripe q m) (position_of l stripe (q - 1)) ≢ None
-  piece_ends h e = some (left (position_of l stripe (q - 1))) (sym (piece_tells (position_of l stripe (q - 1)) ∙ ap (λ v. if v then or_zero (left (position_of l stripe (q - 1))) else left (position_of l stripe (q - 1))) (at_end q h)) ∙ e)
-    where
-      at_end : (q : ℕ) → 0 < q → is_end l stripe q (position_of l stripe (q - 1)) ≡ true
-      at_end zero h = absurd (omega (arith, h))
-      at_end (suc k) h = eq-eqb (position_of l stripe k) (position_of l stripe (suc k - 1)) (ap (position_of l stripe) (omega arith))
-
-      some : (o : Option ℕ) → or_zero o ≡ None → ⊥
-      some None e = absurd (cc)
-      some (Some b) e = absurd (cc)
 
 pub piece_cuts : PieceCuts
 piece_cuts l stripe q m layout there =
     record {
-      drops = piece_drops l stripe q m layout there;
-      keeps = piece_keeps l stripe q m layout there;
-      ends = piece_ends l stripe q m layout there;
-      others = piece_others l stripe q m layout there;
+      drops = λ o h. piece_at l stripe (cut_bytes q) m layout there o ∙ (object_cuts q (object_at m stripe)).drops o h;
+      keeps = λ o b h e. piece_at l stripe (cut_bytes q) m layout there o ∙ (object_cuts q (object_at m stripe)).keeps o b h (sym (byte_on l m layout stripe o there) ∙ e);
+      ends = λ h e. cut_some (object_at m stripe) q (q - 1) (omega (arith, h)) (sym (piece_at l stripe (cut_bytes q) m layout there (q - 1)) ∙ e);
+      others = piece_others l stripe (cut_bytes q) m layout there;
     }

@@ -19,6 +19,10 @@ pub mod Ordered
 pub mod Transactions
 pub mod Layouts
 pub mod Covered
+pub mod Places
+pub mod Objects
 pub mod ByteRows
 pub mod Bytes
 pub mod Paths
+pub mod Fits
+pub mod Made

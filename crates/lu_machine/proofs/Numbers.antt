@@ -148,6 +148,6 @@ module _ (n m : Txn) where
   plan_twins osts a b (op.Size resource) = tt
 
 pub number_is_free : NumberIsFree
-number_is_free osts t a b e =
+number_is_free osts t a b e free =
     twins_like t (plan osts a.number a.who a.op) (plan osts b.number b.who b.op)
     (subst (λ (o : Op). Twins (plan osts a.number a.who a.op) (plan osts b.number b.who o)) e (plan_twins a.number b.number osts a.who b.who a.op))

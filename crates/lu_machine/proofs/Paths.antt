@@ -33,12 +33,12 @@ use Rattle.lu_machine.proofs.Walks.{there_ends, absent_ends, if_empty_ends}
 
 -- ---- steps: the inodes that a path comes to, one after another
 
-abbrev Steps : Tree → Child → List (List ℕ) → List Child → Type 0
+abbrev pub Steps : Tree → Child → List (List ℕ) → List Child → Type 0
 Steps t at [] [] = Unit {0}
 Steps t (Dir d) (n ∷ ns) (c ∷ cs) = (child t d n ≡ Some c) × Steps t c ns cs
 Steps t _ _ _ = ⊥
 
-steps_lead : (t : Tree) (at : Child) (ns : List (List ℕ)) (cs : List Child) → Steps t at ns cs → leads_to t at ns ≡ Some (last_of at cs)
+pub steps_lead : (t : Tree) (at : Child) (ns : List (List ℕ)) (cs : List Child) → Steps t at ns cs → leads_to t at ns ≡ Some (last_of at cs)
 steps_lead t at [] [] s = refl
 steps_lead t at [] (c ∷ cs) s = absurd s
 steps_lead t (Dir d) (n ∷ ns) [] s = absurd s
@@ -61,10 +61,10 @@ steps_more t (File f) (n ∷ ns) cs d m s is = absurd s
 -- ---- what holds at the end of a walk, with the steps that it took
 
 module _ (t : Tree) (Q : Outcome → Type 0) (refused : (e : Errno) → Q (record { answer = Refused e; grants = []; changes = [] })) where
-  abbrev Holds : Plan → Type 0
+  abbrev pub Holds : Plan → Type 0
   Holds p = Q (outcome t p)
 
-  abbrev Goes : Type 0
+  abbrev pub Goes : Type 0
   Goes = List Child → Fid → List ℕ → Option Child → Plan
 
   look_steps : (d : Fid) (n : List ℕ) (next : Fid → Option Child → Plan) → Holds (next d (child t d n)) → Holds (look (Dir d) n next)
@@ -73,7 +73,7 @@ module _ (t : Tree) (Q : Outcome → Type 0) (refused : (e : Errno) → Q (recor
   file_refuses : (f : Fid) (n : List ℕ) (next : Fid → Option Child → Plan) → Holds (look (File f) n next)
   file_refuses f n next = cond_both (is_too_long n) (Refuse ENAMETOOLONG) (Refuse ENOTDIR) Holds (λ _. refused _) (λ _. refused _)
 
-  walk_steps : (at : Child) (ns : List (List ℕ)) (next : List Child → Plan) → ((cs : List Child) → Steps t at ns cs → Holds (next cs)) → Holds (walk at ns next)
+  pub walk_steps : (at : Child) (ns : List (List ℕ)) (next : List Child → Plan) → ((cs : List Child) → Steps t at ns cs → Holds (next cs)) → Holds (walk at ns next)
   walk_steps at [] next h = h [] tt
   walk_steps (File f) (n ∷ ns) next h = file_refuses f n (λ d. there (λ c. walk c ns (λ cs. next (c ∷ cs))))
   walk_steps (Dir d) (n ∷ ns) next h =
@@ -81,7 +81,7 @@ module _ (t : Tree) (Q : Outcome → Type 0) (refused : (e : Errno) → Q (recor
       (there_ends t Q refused (λ c. walk c ns (λ cs. next (c ∷ cs))) (child t d n) (λ c is. walk_steps c ns (λ cs. next (c ∷ cs)) (λ cs s. h (c ∷ cs) (is, s))))
 
   -- the path up to its last name, the inodes on it, the directory and the last name
-  abbrev Ends : Child → List (List ℕ) → Goes → Type 0
+  abbrev pub Ends : Child → List (List ℕ) → Goes → Type 0
   Ends at path next = (front : List (List ℕ)) (cs : List Child) (d : Fid) (m : List ℕ) → path ≡ front ++ m ∷ [] → Steps t at front cs → last_of at cs ≡ Dir d → Holds (next cs d m (child t d m))
 
   onward_steps : (ns : List (List ℕ)) (next : Goes) (d : Fid) (n : List ℕ) → Ends (Dir d) (n ∷ ns) next → Holds (onward ns next d n (child t d n))
@@ -95,7 +95,7 @@ module _ (t : Tree) (Q : Outcome → Type 0) (refused : (e : Errno) → Q (recor
   up_steps : (ns : List (List ℕ)) (n : List ℕ) (next : Goes) → Ends root (n ∷ ns) next → Holds (walk_up root n ns next)
   up_steps ns n next h = look_steps (fid_of root) n (λ d. onward ns next d n) (onward_steps ns next (fid_of root) n h)
 
-  last_steps : (e : Errno) (path : List (List ℕ)) (next : Goes) → Ends root path next → Holds (to_last e path next)
+  pub last_steps : (e : Errno) (path : List (List ℕ)) (next : Goes) → Ends root path next → Holds (to_last e path next)
   last_steps e [] next h = refused e
   last_steps e (n ∷ ns) next h = up_steps ns n next h
 

@@ -1,5 +1,5 @@
 -- Which operations make transactions.
-use Rattle.std.proofs.Common.{◌≡◌, ℕ, ◌+◌, Bool, true, false, List, [], ◌∷◌, ◌⊎◌, inl, inr, Option, Some, None, refl, ap, ◌∙◌, arith}
+use Rattle.std.proofs.Common.{◌≡◌, ◌≢◌, ℕ, ◌+◌, Bool, true, false, List, [], ◌∷◌, ◌⊎◌, inl, inr, Option, Some, None, refl, sym, ap, ◌∙◌, arith}
 use Rattle.std.specs.Prelude.{◌&&◌, not, nat_lt, if◌then◌else◌}
 use Rattle.std.specs.Map.{lookup}
 use Rattle.std.specs.Option.{unwrap_or}
@@ -8,6 +8,7 @@ use Rattle.std.proofs.lemmas.Bool.Decides.{nat_tests}
 use Rattle.lu_base.specs.declared.ids.Fid.{Fid}
 use Rattle.lu_base.specs.declared.ids.Txn.{Txn}
 use Rattle.lu_base.specs.declared.ids.Who.{Who}
+use Rattle.lu_base.specs.declared.locks.Resource.{Resource}
 use Rattle.lu_layout.specs.Raid0.{Raid0}
 use Rattle.lu_msg.specs.declared.answers.Answer.{Answer}
 use Rattle.lu_msg.specs.declared.answers.Answer.TheVariants as told
@@ -25,9 +26,11 @@ use Rattle.lu_machine.specs.Plan.{LookAttr, Outcome, outcome}
 use Rattle.lu_machine.specs.Table.{root, absent, there, last_of, does, row_lookup, row_stat, row_list, row_layout, row_mkdir, row_create, row_link, row_unlink, row_rmdir, row_open, plan}
 use Rattle.lu_machine.specs.Footprint as footprint
 use Rattle.lu_machine.specs.Footprint.{Operation, is_some_change, changes, after}
-use Rattle.lu_machine.specs.Bytes.{FileBytes}
-use Rattle.lu_machine.specs.Machine.{Machine, is_stale, as_told, names_answer, names_next, bytes_of, with_bytes, was_file}
-use Rattle.lu_machine.specs.Laws.{IsReading, AlwaysChanges, ReadingsChangeNothing, AlwaysMakeTransactions, MachineIsTable, PassedIsRefused, FlushesStay}
+use Rattle.lu_machine.specs.Objects.{Object, put_bytes, cut_bytes}
+use Rattle.lu_machine.specs.Bytes.{FileBytes, object_at, on_object}
+use Rattle.lu_machine.specs.Machine.{Machine, is_stale, as_told, names_answer, names_next, bytes_of, with_bytes, object_of, was_file}
+use Rattle.lu_machine.specs.Laws.{IsReading, AlwaysChanges, ReadingsChangeNothing, AlwaysMakeTransactions, MachineIsTable, PassedIsRefused, FlushesStay, PiecesReach}
+use Rattle.lu_machine.proofs.Bytes.{on_here, on_other}
 use Rattle.lu_machine.proofs.Keys.{Told, fid_tells, find-put}
 use Rattle.lu_machine.proofs.Walks.{there_ends, absent_ends, if_empty_ends, walk_ends, to_last_ends}
 
@@ -148,4 +151,49 @@ flushes_stay osts m i f handle =
       tree = cond_both (was_file m f) (with_bytes m f (bytes_of m f)) m (λ (x : Machine). x.tree ≡ m.tree) (λ _. refl) (λ _. refl);
       last = cond_both (was_file m f) (with_bytes m f (bytes_of m f)) m (λ (x : Machine). x.last ≡ m.last) (λ _. refl) (λ _. refl);
       bytes = λ g. cond_both (was_file m f) (with_bytes m f (bytes_of m f)) m (λ x. bytes_of x g ≡ bytes_of m g) (λ _. put_back m f g) (λ _. refl);
+    }
+
+-- ---- pieces
+
+module _ (m : Machine) (f : Fid) (b : FileBytes) where
+  put_at : (g : Fid) → bytes_of (with_bytes m f b) g ≡ unwrap_or (if same_fid f g then Some b else lookup (same_fid g) m.bytes) []
+  put_at g = ap (λ (o : Option FileBytes). unwrap_or o []) (find-put same_fid fid_tells fid_cmp f b g m.bytes)
+
+  put_there : bytes_of (with_bytes m f b) f ≡ b
+  put_there = put_at f ∙ by (fid_tells f f)
+    where
+      by : Told same_fid f f → unwrap_or (if same_fid f f then Some b else lookup (same_fid f) m.bytes) [] ≡ b
+      by (inl h) = ap (λ v. unwrap_or (if v then Some b else lookup (same_fid f) m.bytes) []) h.0
+      by (inr h) = absurd (h.1 refl)
+
+  put_elsewhere : (g : Fid) → g ≢ f → bytes_of (with_bytes m f b) g ≡ bytes_of m g
+  put_elsewhere g ne = put_at g ∙ by (fid_tells f g)
+    where
+      by : Told same_fid f g → unwrap_or (if same_fid f g then Some b else lookup (same_fid g) m.bytes) [] ≡ bytes_of m g
+      by (inl h) = absurd (ne (sym h.1))
+      by (inr h) = ap (λ v. unwrap_or (if v then Some b else lookup (same_fid g) m.bytes) []) h.0
+
+module _ (m : Machine) (resource : Resource) (change : Object → Object) where
+  abbrev reached : Machine
+  reached = with_bytes m resource.fid (on_object change resource.stripe (bytes_of m resource.fid))
+
+  own_object : object_of reached resource.fid resource.stripe ≡ change (object_of m resource.fid resource.stripe)
+  own_object =
+      ap (λ b. object_at b resource.stripe) (put_there m resource.fid (on_object change resource.stripe (bytes_of m resource.fid))) ∙ on_here change resource.stripe (bytes_of m resource.fid)
+
+  other_objects : (f : Fid) (stripe : ℕ) → (f ≢ resource.fid) ⊎ (stripe ≢ resource.stripe) → object_of reached f stripe ≡ object_of m f stripe
+  other_objects f stripe (inl ne) = ap (λ b. object_at b stripe) (put_elsewhere m resource.fid (on_object change resource.stripe (bytes_of m resource.fid)) f ne)
+  other_objects f stripe (inr ne) = by (fid_tells resource.fid f)
+    where
+      by : Told same_fid resource.fid f → object_of reached f stripe ≡ object_of m f stripe
+      by (inr h) = ap (λ b. object_at b stripe) (put_elsewhere m resource.fid (on_object change resource.stripe (bytes_of m resource.fid)) f (λ e. h.1 (sym e)))
+      by (inl h) =
+          ap (λ g. object_of reached g stripe) (sym h.1) ∙ ap (λ b. object_at b stripe) (put_there m resource.fid (on_object change resource.stripe (bytes_of m resource.fid)))
+          ∙ on_other change resource.stripe stripe (bytes_of m resource.fid) ne ∙ ap (λ g. object_of m g stripe) h.1
+
+pub pieces_reach : PiecesReach
+pieces_reach m resource cookie =
+    record {
+      put = λ offset bytes. record { own = own_object m resource (put_bytes offset bytes); others = other_objects m resource (put_bytes offset bytes) };
+      cut = λ size. record { own = own_object m resource (cut_bytes size); others = other_objects m resource (cut_bytes size) };
     }

@@ -1,58 +1,57 @@
--- The bytes of a file: a finite map from position to byte, its entries in the order of their positions.
--- An absent byte is read as 0. A stripe's object has the bytes at the positions that lie on the stripe.
-use Rattle.std.specs.Prelude.{ℕ, zero, suc, ◌+◌, ◌-◌, max, min, Bool, not, List, [], ◌∷◌, Option, map, length, is_some, nat_eq, nat_lt, nat_le, ◌==◌, ◌&&◌, if◌then◌else◌}
-use Rattle.std.specs.List.{filter, fold, range_with_len}
-use Rattle.std.specs.Map.{lookup}
+-- The bytes of a file, by stripe and offset: its objects, that of stripe 0 first, each kept whether a layout has the stripe
+-- or not. A call looks at them through the layout that it uses: the byte at a position is that of the position's stripe at
+-- its offset. An absent byte is read as 0.
+use Rattle.std.specs.Prelude.{ℕ, zero, suc, ◌+◌, ◌-◌, min, List, [], ◌∷◌, Option, map, length}
+use Rattle.std.specs.List.{fold, range_with_len}
 use Rattle.std.specs.Option.{unwrap_or}
-use Rattle.std.specs.Ordering.{nat_cmp}
-use Rattle.lu_layout.specs.Raid0.{Raid0, stripe_of, offset_of, position_of, below_of}
-use Rattle.lu_machine.specs.Entries.{without, place}
+use Rattle.lu_layout.specs.Raid0.{Raid0, stripe_of, offset_of, below_of, file_size_of}
+use Rattle.lu_machine.specs.Places.{found_at}
+use Rattle.lu_machine.specs.Objects.{Object, put_bytes, cut_bytes, object_size}
 
 abbrev pub FileBytes : Type 0
-FileBytes = List (ℕ × ℕ)
+FileBytes = List Object
 
-abbrev pub byte_at : FileBytes → ℕ → Option ℕ
-byte_at m p = lookup (nat_eq p) m
+abbrev pub object_at : FileBytes → ℕ → Object
+object_at [] stripe = []
+object_at (object ∷ objects) zero = object
+object_at (object ∷ objects) (suc stripe) = object_at objects stripe
 
--- the greatest position plus one, or 0
-abbrev pub size_of : FileBytes → ℕ
-size_of m = fold (λ n e. max n (e.0 + 1)) 0 m
-
--- as many bytes as asked, but none past the size
-abbrev pub read : FileBytes → ℕ → ℕ → List ℕ
-read m offset count = map (λ i. unwrap_or (byte_at m (offset + i)) 0) (range_with_len 0 (min count (size_of m - offset)))
-
-abbrev pub put_byte : ℕ → ℕ → FileBytes → FileBytes
-put_byte p b m = place nat_cmp p b (without (nat_eq p) m)
-
--- the i-th byte goes to the place of i
-abbrev pub put_bytes : (ℕ → ℕ) → ℕ → List ℕ → FileBytes → FileBytes
-put_bytes at i [] m = m
-put_bytes at i (b ∷ bs) m = put_bytes at (i + 1) bs (put_byte (at i) b m)
-
-abbrev pub write : ℕ → List ℕ → FileBytes → FileBytes
-write offset bytes m = put_bytes (λ i. offset + i) 0 bytes m
-
--- a stripe that ends at this offset has a byte there
-abbrev pub end_stripe : Raid0 → ℕ → ℕ → FileBytes → FileBytes
-end_stripe l stripe zero m = m
-end_stripe l stripe (suc q) m = if is_some (byte_at m (position_of l stripe q)) then m else put_byte (position_of l stripe q) 0 m
-
--- the positions from n on go, and each stripe ends at its last position below n
-abbrev pub cut : Raid0 → ℕ → FileBytes → FileBytes
-cut l n m = fold (λ k stripe. end_stripe l stripe (below_of l stripe n) k) (filter (λ e. nat_lt e.0 n) m) (range_with_len 0 (length l.targets))
+-- a change of the object of one stripe
+abbrev pub on_object : (Object → Object) → ℕ → FileBytes → FileBytes
+on_object change zero [] = change [] ∷ []
+on_object change zero (object ∷ objects) = change object ∷ objects
+on_object change (suc stripe) [] = [] ∷ on_object change stripe []
+on_object change (suc stripe) (object ∷ objects) = object ∷ on_object change stripe objects
 
 -- ---- pieces: what reaches the object of one stripe
 
-abbrev pub put_piece : Raid0 → ℕ → ℕ → List ℕ → FileBytes → FileBytes
-put_piece l stripe offset bytes m = put_bytes (λ i. position_of l stripe (offset + i)) 0 bytes m
+abbrev pub put_piece : ℕ → ℕ → List ℕ → FileBytes → FileBytes
+put_piece stripe offset bytes m = on_object (put_bytes offset bytes) stripe m
 
-abbrev pub is_past : Raid0 → ℕ → ℕ → ℕ → Bool
-is_past l stripe q p = stripe_of l p == stripe && nat_le q (offset_of l p)
+abbrev pub cut_piece : ℕ → ℕ → FileBytes → FileBytes
+cut_piece stripe size m = on_object (cut_bytes size) stripe m
 
-abbrev pub cut_piece : Raid0 → ℕ → ℕ → FileBytes → FileBytes
-cut_piece l stripe q m = end_stripe l stripe q (filter (λ e. not (is_past l stripe q e.0)) m)
+-- ---- through a layout
 
--- an object's size: one more than the greatest offset of the stripe with a byte, or 0
-abbrev pub object_size : Raid0 → ℕ → FileBytes → ℕ
-object_size l stripe m = fold (λ n e. if stripe_of l e.0 == stripe then max n (offset_of l e.0 + 1) else n) 0 m
+abbrev pub byte_at : Raid0 → FileBytes → ℕ → Option ℕ
+byte_at l m position = found_at (object_at m (stripe_of l position)) (offset_of l position)
+
+-- the sizes of the objects of its stripes
+abbrev pub sizes_of : Raid0 → FileBytes → List ℕ
+sizes_of l m = map (λ stripe. object_size (object_at m stripe)) (range_with_len 0 (length l.targets))
+
+abbrev pub size_of : Raid0 → FileBytes → ℕ
+size_of l m = file_size_of l (sizes_of l m)
+
+-- as many bytes as asked, but none past the size
+abbrev pub read : Raid0 → FileBytes → ℕ → ℕ → List ℕ
+read l m offset count = map (λ i. unwrap_or (byte_at l m (offset + i)) 0) (range_with_len 0 (min count (size_of l m - offset)))
+
+-- each byte is put where its position lies
+abbrev pub write : Raid0 → ℕ → List ℕ → FileBytes → FileBytes
+write l offset [] m = m
+write l offset (b ∷ bs) m = write l (offset + 1) bs (put_piece (stripe_of l offset) (offset_of l offset) (b ∷ []) m)
+
+-- each stripe is cut to the number of its positions below n
+abbrev pub cut : Raid0 → ℕ → FileBytes → FileBytes
+cut l n m = fold (λ k stripe. cut_piece stripe (below_of l stripe n) k) m (range_with_len 0 (length l.targets))

@@ -77,19 +77,29 @@ abbrev pub writes_of : Change → List Part
 writes_of (Leads d n c) = Name d n ∷ []
 writes_of (Drops d n) = Name d n ∷ []
 writes_of (Parted f) = Parent f ∷ []
+writes_of (MakesDir f) = []
+writes_of (MakesFile f layout) = []
 writes_of (SetMode c m) = Attr (fid_of c) ∷ []
 writes_of (SetLinks f k) = Attr f ∷ []
 writes_of (Leaves d) = Attr d ∷ []
-writes_of _ = []
+writes_of (Opens number life f) = []
+writes_of (Closes number life) = []
 
 abbrev pub written : List Change → List Part
 written [] = []
 written (x ∷ xs) = writes_of x ++ written xs
 
 abbrev pub makes_of : Change → List Fid
+makes_of (Leads d n c) = []
+makes_of (Drops d n) = []
+makes_of (Parted f) = []
 makes_of (MakesDir f) = f ∷ []
 makes_of (MakesFile f l) = f ∷ []
-makes_of _ = []
+makes_of (SetMode c m) = []
+makes_of (SetLinks f k) = []
+makes_of (Leaves d) = []
+makes_of (Opens number life f) = []
+makes_of (Closes number life) = []
 
 abbrev pub made : List Change → List Fid
 made [] = []

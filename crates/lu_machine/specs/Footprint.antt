@@ -6,6 +6,7 @@ use Rattle.lu_base.specs.declared.ids.Txn.{Txn}
 use Rattle.lu_base.specs.declared.ids.Who.{Who}
 use Rattle.lu_msg.specs.declared.answers.Answer.{Answer}
 use Rattle.lu_msg.specs.declared.operations.Op.{Op}
+use Rattle.lu_msg.specs.declared.operations.Op.TheVariants as op
 use Rattle.lu_part.specs.declared.parts.Part.{Part}
 use Rattle.lu_part.specs.declared.parts.Part.TheVariants as part
 use Rattle.lu_part.specs.declared.parts.Want.{Want}
@@ -52,6 +53,27 @@ module _ (osts : ℕ) (t : Tree) (a : Operation) where
 
   abbrev pub after : Tree
   after = changed t outcome_of.changes
+
+-- whether the asking life has a part in what an operation answers, touches, writes and grants
+abbrev pub asks_life : Op → Bool
+asks_life (op.Lookup path) = false
+asks_life (op.Stat path) = false
+asks_life (op.List path) = false
+asks_life (op.Layout path) = false
+asks_life (op.Mkdir path) = false
+asks_life (op.Create path size count) = false
+asks_life (op.Link old new) = false
+asks_life (op.Unlink path) = false
+asks_life (op.Rmdir path) = false
+asks_life (op.Rename old new) = false
+asks_life (op.Chmod path mode) = false
+asks_life (op.Open path) = false
+asks_life (op.Close opened fid) = false
+asks_life (op.Enqueue resource mode extent) = false
+asks_life (op.Get resource cookie page) = false
+asks_life (op.Put resource cookie offset bytes) = false
+asks_life (op.Cut resource cookie size) = false
+asks_life (op.Size resource) = false
 
 -- the opens of a life go
 abbrev pub forget : Tree → Who → Tree

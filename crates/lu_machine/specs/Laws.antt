@@ -1,9 +1,11 @@
 -- The laws of footprints and of removal, over the table.
-use Rattle.std.specs.Prelude.{◌≡◌, ℕ, ◌+◌, ◌%◌, ◌<◌, ◌≤◌, Bool, true, false, not, List, [], ◌∷◌, Some, ℤ, length, slice_index}
+use Rattle.std.specs.Prelude.{◌≡◌, ◌≢◌, ℕ, ◌+◌, ◌%◌, ◌<◌, ◌≤◌, ◌⊎◌, Bool, true, false, not, List, [], ◌∷◌, Some, ℤ, length, slice_index}
 use Rattle.std.specs.List.{filter}
+use Rattle.lu_base.specs.declared.ids.Cookie.{Cookie}
 use Rattle.lu_base.specs.declared.ids.Fid.{Fid}
 use Rattle.lu_base.specs.declared.ids.Txn.{Txn}
 use Rattle.lu_base.specs.declared.ids.Who.{Who}
+use Rattle.lu_base.specs.declared.locks.Resource.{Resource}
 use Rattle.lu_layout.specs.Raid0.{Raid0}
 use Rattle.lu_layout.specs.Sound.{IsLayout}
 use Rattle.lu_msg.specs.declared.answers.Answer.TheVariants.{Done, Made, Refused}
@@ -18,7 +20,8 @@ use Rattle.lu_machine.specs.declared.acts.Act.{Act}
 use Rattle.lu_machine.specs.declared.acts.Deed.TheVariants.{Data}
 use Rattle.lu_machine.specs.declared.child.Child.{Child}
 use Rattle.lu_machine.specs.Tree.{Tree, child, fid_of, same_life}
-use Rattle.lu_machine.specs.Footprint.{Operation, empty, answer, grants, touches, writes, changes, after, forget, Same, Every, Apart, inode_of}
+use Rattle.lu_machine.specs.Footprint.{Operation, empty, answer, grants, touches, writes, changes, asks_life, after, forget, Same, Every, Apart, inode_of}
+use Rattle.lu_machine.specs.Objects.{object_after}
 use Rattle.lu_machine.specs.Machine as machine
 use Rattle.lu_machine.specs.Machine.{Machine}
 use Rattle.lu_machine.specs.Striping.{stripe_size, stripe_count, new_layout}
@@ -62,11 +65,11 @@ UnchangedStay = (osts : ℕ) (t : Tree) (a : Operation) → changes osts t a ≡
 abbrev pub TransactionsGrantNothing : Type 0
 TransactionsGrantNothing = (osts : ℕ) (t : Tree) (a : Operation) → changes osts t a ≡ true → grants osts t a ≡ []
 
--- what an operation touches, writes and grants, and whether it makes a transaction, depend neither on
--- the number that it gets nor on who asks
+-- what an operation touches, writes and grants, and whether it makes a transaction, depend neither on the number that it
+-- gets nor, where it doesn't ask that, on the life that asks
 abbrev pub NumberIsFree : Type 0
 NumberIsFree =
-    (osts : ℕ) (t : Tree) (a b : Operation) → a.op ≡ b.op
+    (osts : ℕ) (t : Tree) (a b : Operation) → a.op ≡ b.op → (a.who ≡ b.who) ⊎ (asks_life a.op ≡ false)
     → record {
       touches : touches osts t a ≡ touches osts t b;
       writes : writes osts t a ≡ writes osts t b;
@@ -80,7 +83,20 @@ IsReading (op.Lookup path) = Unit {0}
 IsReading (op.Stat path) = Unit {0}
 IsReading (op.List path) = Unit {0}
 IsReading (op.Layout path) = Unit {0}
-IsReading _ = ⊥
+IsReading (op.Mkdir path) = ⊥
+IsReading (op.Create path size count) = ⊥
+IsReading (op.Link old new) = ⊥
+IsReading (op.Unlink path) = ⊥
+IsReading (op.Rmdir path) = ⊥
+IsReading (op.Rename old new) = ⊥
+IsReading (op.Chmod path mode) = ⊥
+IsReading (op.Open path) = ⊥
+IsReading (op.Close opened fid) = ⊥
+IsReading (op.Enqueue resource mode extent) = ⊥
+IsReading (op.Get resource cookie page) = ⊥
+IsReading (op.Put resource cookie offset bytes) = ⊥
+IsReading (op.Cut resource cookie size) = ⊥
+IsReading (op.Size resource) = ⊥
 
 -- the seven operations that change something wherever they aren't refused. `rename` and `chmod` aren't among
 -- them: of two names of one inode, and to the mode that stands, they change nothing
@@ -92,7 +108,17 @@ AlwaysChanges (op.Unlink path) = Unit {0}
 AlwaysChanges (op.Rmdir path) = Unit {0}
 AlwaysChanges (op.Open path) = Unit {0}
 AlwaysChanges (op.Close opened fid) = Unit {0}
-AlwaysChanges _ = ⊥
+AlwaysChanges (op.Lookup path) = ⊥
+AlwaysChanges (op.Stat path) = ⊥
+AlwaysChanges (op.List path) = ⊥
+AlwaysChanges (op.Layout path) = ⊥
+AlwaysChanges (op.Rename old new) = ⊥
+AlwaysChanges (op.Chmod path mode) = ⊥
+AlwaysChanges (op.Enqueue resource mode extent) = ⊥
+AlwaysChanges (op.Get resource cookie page) = ⊥
+AlwaysChanges (op.Put resource cookie offset bytes) = ⊥
+AlwaysChanges (op.Cut resource cookie size) = ⊥
+AlwaysChanges (op.Size resource) = ⊥
 
 abbrev pub ReadingsChangeNothing : Type 0
 ReadingsChangeNothing = (osts : ℕ) (t : Tree) (a : Operation) → IsReading a.op → changes osts t a ≡ false
@@ -121,6 +147,22 @@ FlushesStay =
       tree : (machine.next_after osts m i (Data f (call.Flush handle))).tree ≡ m.tree;
       last : (machine.next_after osts m i (Data f (call.Flush handle))).last ≡ m.last;
       bytes : (g : Fid) → machine.bytes_of (machine.next_after osts m i (Data f (call.Flush handle))) g ≡ machine.bytes_of m g;
+    }
+
+-- what reaches an object changes it as the operation does, and no other object
+abbrev pub Reaches : Machine → Op → Resource → Type 0
+Reaches m o resource =
+    record {
+      own : machine.object_of (machine.piece_next m o) resource.fid resource.stripe ≡ object_after o (machine.object_of m resource.fid resource.stripe);
+      others : (f : Fid) (stripe : ℕ) → (f ≢ resource.fid) ⊎ (stripe ≢ resource.stripe) → machine.object_of (machine.piece_next m o) f stripe ≡ machine.object_of m f stripe;
+    }
+
+abbrev pub PiecesReach : Type 0
+PiecesReach =
+    (m : Machine) (resource : Resource) (cookie : Cookie)
+    → record {
+      put : (offset : ℕ) (bytes : List ℕ) → Reaches m (op.Put resource cookie offset bytes) resource;
+      cut : (size : ℕ) → Reaches m (op.Cut resource cookie size) resource;
     }
 
 -- the layout of a new file: its size and the number of its stripes, where they lie, and that it is one

@@ -7,6 +7,8 @@ pub mod Striping
 pub mod Plan
 pub mod Table
 pub mod Footprint
+pub mod Places
+pub mod Objects
 pub mod Bytes
 pub mod Machine
 pub mod Removal
@@ -17,3 +19,4 @@ pub mod Order
 pub mod Covered
 pub mod ByteLaws
 pub mod Paths
+pub mod Fits

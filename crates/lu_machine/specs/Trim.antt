@@ -12,8 +12,12 @@ use Rattle.lu_machine.specs.Laws.{Alike}
 abbrev pub is_open : Fid → List Opened → Bool
 is_open f opens = list_any (λ o. same_fid o.fid f) opens
 
+-- whether a file is alive: a name leads to it, as its links count them, or it is open
+abbrev pub is_alive : List Opened → Fid × Inode → Bool
+is_alive opens e = nat_lt 0 e.1.links || is_open e.0 opens
+
 abbrev pub living : List Opened → List (Fid × Inode) → List (Fid × Inode)
-living opens files = filter (λ e. nat_lt 0 e.1.links || is_open e.0 opens) files
+living opens files = filter (is_alive opens) files
 
 abbrev pub trim : Tree → Tree
 trim t = record t { files = living t.opens t.files }

@@ -1,8 +1,9 @@
 //! The laws. Each function does nothing: its contract is a theorem over the definitions of `specs/`.
 
-ghost use Rattle.lu_machine.specs.ByteLaws.{SizeIsEnd, WritePuts, CutEnds, PiecePuts, PieceCuts};
+ghost use Rattle.lu_machine.specs.ByteLaws.{ObjectPuts, ObjectCuts, GetReads, SizeIsEnd, WritePuts, CutEnds, PiecePuts, PieceCuts, PiecesArePlain};
 ghost use Rattle.lu_machine.specs.Covered.{LocksCover, AboveIsNew};
-ghost use Rattle.lu_machine.specs.Laws.{TouchedDecide, OthersStay, MadeHasNumber, NewFromOld, RefusalsStay, UnchangedStay, TransactionsGrantNothing, ReadingsChangeNothing, AlwaysMakeTransactions, MachineIsTable, PassedIsRefused, FlushesStay, NewLayouts, NumberIsFree, ForgetDropsOpens, LeadsStay, RemovalLaw, RemovalAgrees, EarlierAreOlder};
+ghost use Rattle.lu_machine.specs.Fits.{AnswersFit};
+ghost use Rattle.lu_machine.specs.Laws.{TouchedDecide, OthersStay, MadeHasNumber, NewFromOld, RefusalsStay, UnchangedStay, TransactionsGrantNothing, ReadingsChangeNothing, AlwaysMakeTransactions, MachineIsTable, PassedIsRefused, FlushesStay, PiecesReach, NewLayouts, NumberIsFree, ForgetDropsOpens, LeadsStay, RemovalLaw, RemovalAgrees, EarlierAreOlder};
 ghost use Rattle.lu_machine.specs.Order.{OrderStays, ListsNames, ByteOrderIsOne};
 ghost use Rattle.lu_machine.specs.Paths.{LookupsTell, PathsFollow, ChmodsChange, RenamesChange};
 ghost use Rattle.lu_machine.specs.Seen.{RemovalBySeen, TrimmedRemovalBySeen};
@@ -15,6 +16,11 @@ pub fn footprints()
     ensures made { MadeHasNumber }
     ensures written { NewFromOld }
     ensures free { NumberIsFree }
+{}
+
+/// Each answer of the table has one of the forms that its operation's row can give.
+pub fn answering()
+    ensures fits { AnswersFit }
 {}
 
 /// Which acts make a transaction, which make none, and what those leave.
@@ -70,11 +76,12 @@ pub fn striping()
 {}
 
 /// The plain machine answers by the table, but refuses a transaction whose number was passed before. A flush
-/// changes nothing.
+/// changes nothing, and a piece changes one object as its operation does.
 pub fn machine()
     ensures table { MachineIsTable }
     ensures passed { PassedIsRefused }
     ensures flush { FlushesStay }
+    ensures pieces { PiecesReach }
 {}
 
 /// The answer to a reading that isn't refused, and the locks that come with it, stay the same after one
@@ -85,13 +92,18 @@ pub fn coverage()
     ensures new { AboveIsNew }
 {}
 
-/// The bytes of a file, position by position: writes, cuts, and what reaches one object.
+/// The bytes of an object, offset by offset, and those of a file, position by position through a layout: writes,
+/// cuts, and what reaches one object.
 pub fn bytes()
+    ensures object_put { ObjectPuts }
+    ensures object_cut { ObjectCuts }
+    ensures object_get { GetReads }
     ensures size { SizeIsEnd }
     ensures write { WritePuts }
     ensures cut { CutEnds }
     ensures put_piece { PiecePuts }
     ensures cut_piece { PieceCuts }
+    ensures pieces { PiecesArePlain }
 {}
 
 /// What a look-up tells is where the path leads, and where paths lead once an operation is done, under a
