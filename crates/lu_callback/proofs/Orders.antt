@@ -1,41 +1,22 @@
--- Where a new callback stands, and that all stand in their order then, nothing twice.
-use Rattle.std.proofs.Common.{◌≡◌, ℕ, suc, map, filter, ◌+◌, ◌<◌, ◌≤◌, ◌==◌, ◌&&◌, ◌||◌, Bool, true, false, not, cond, nat_lt, List, [], ◌∷◌, length, get_or, refl, ap, arith}
-use Rattle.std.specs.Prelude.{insert, position, All, AllPairs, unwrap_or}
-use Rattle.std.specs.List.{position_or_len, list_any}
+-- That all stand in their order, nothing twice, once a callback is asked anew.
+use Rattle.std.proofs.Common.{◌≡◌, ℕ, suc, map, filter, ◌<◌, ◌==◌, ◌&&◌, ◌||◌, Bool, true, false, not, cond, nat_lt, List, [], ◌∷◌, length, get_or, arith, refl}
+use Rattle.std.specs.Prelude.{All, AllPairs}
+use Rattle.std.specs.List.{list_any}
 use Rattle.std.proofs.lemmas.List.Kept.{AllPairs-cons, AllPairs-filter}
 use Rattle.std.proofs.lemmas.List.Elements.{All-cons}
 use Rattle.std.proofs.lemmas.List.Folds.{list_any_at}
-use Rattle.std.proofs.lemmas.List.Sums.{prefix_len-le-length}
-use Rattle.std.proofs.lemmas.Grind.{common_steps}
 use Rattle.std.proofs.lemmas.Bool.Decides.{nat_tests}
 use Rattle.lu_base.specs.declared.ids.Cookie.{Cookie}
 use Rattle.lu_callback.specs.declared.callbacks.Asked.{Asked}
 use Rattle.lu_callback.specs.declared.callbacks.Kind.{Kind}
 use Rattle.lu_callback.specs.declared.callbacks.Kind.TheVariants.{Block, Glimpse}
-use Rattle.lu_callback.specs.Callbacks.{is_block, same_kind, is_asked, is_outstanding, stands_before, is_past, place_for, with_asked, is_due, due, IsSound}
+use Rattle.lu_callback.specs.Callbacks.{is_block, same_kind, is_asked, is_outstanding, stands_before, with_asked, is_due, due, IsSound}
 
 abbrev pub Before : Asked → Asked → Type 0
 Before earlier later = stands_before earlier later ≡ true
 
 abbrev pub Others : Asked → Asked → Type 0
 Others one other = is_asked one.cookie one.kind other ≡ false
-
-one_more : (n : ℕ) → 1 + n ≡ suc n
-one_more n = omega arith
-
--- the place of a new callback
-pub with_asked_at : (asked : Asked) (callbacks : List Asked) → insert callbacks (place_for asked callbacks) asked ≡ with_asked asked callbacks
-with_asked_at asked [] = refl
-with_asked_at asked (there ∷ callbacks) = by (stands_before there asked) refl (with_asked_at asked callbacks) where
-  by : (before : Bool) → stands_before there asked ≡ before → insert callbacks (place_for asked callbacks) asked ≡ with_asked asked callbacks → insert (there ∷ callbacks) (place_for asked (there ∷ callbacks)) asked ≡ with_asked asked (there ∷ callbacks)
-  by true e rest = rw (e, one_more) (ap (λ more. there ∷ more) rest)
-  by false e rest = rw e refl
-
-pub place_for_within : (asked : Asked) (callbacks : List Asked) → place_for asked callbacks ≤ length callbacks
-place_for_within asked callbacks = prefix_len-le-length (λ there. not (is_past asked there)) callbacks
-
-pub first_or_length : (test : Asked → Bool) (callbacks : List Asked) → unwrap_or (position test callbacks) (length callbacks) ≡ position_or_len test callbacks
-first_or_length test callbacks = grind (arith, nat_tests, common_steps, prefix_len-le-length (λ there. not (test there)) callbacks)
 
 -- the order
 transitive : (a b c : Asked) → Before a b → Before b c → Before a c
@@ -63,7 +44,7 @@ rest_pairs R there callbacks pairs = λ i j d less within. pairs (suc i) (suc j)
 first_pairs : (R : Asked → Asked → Type 0) (there : Asked) (callbacks : List Asked) → AllPairs R (there ∷ callbacks) → All (R there) callbacks
 first_pairs R there callbacks pairs = λ k d within. pairs 0 (suc k) d (omega arith) (omega arith)
 
-rest_all : (P : Asked → Type 0) (there : Asked) (callbacks : List Asked) → All P (there ∷ callbacks) → All P callbacks
+pub rest_all : (P : Asked → Type 0) (there : Asked) (callbacks : List Asked) → All P (there ∷ callbacks) → All P callbacks
 rest_all P there callbacks all = λ k d within. all (suc k) d (omega arith)
 
 all_with : (P : Asked → Type 0) (asked : Asked) (callbacks : List Asked) → P asked → All P callbacks → All P (with_asked asked callbacks)
@@ -90,7 +71,7 @@ behind_ordered asked there callbacks e pairs others =
     All-cons (Before asked) there callbacks front (λ k d within. transitive asked there (get_or callbacks k d) front (first_pairs Before there callbacks pairs k d within))
 
 -- what a test of the whole list refuses it refuses at each place
-none_at : (test : Asked → Bool) (callbacks : List Asked) → list_any test callbacks ≡ false → (place : ℕ) (d : Asked) → place < length callbacks → test (get_or callbacks place d) ≡ false
+pub none_at : (test : Asked → Bool) (callbacks : List Asked) → list_any test callbacks ≡ false → (place : ℕ) (d : Asked) → place < length callbacks → test (get_or callbacks place d) ≡ false
 none_at test callbacks none place d within = by (test (get_or callbacks place d)) refl where
   by : (there : Bool) → test (get_or callbacks place d) ≡ there → there ≡ false
   by false e = refl

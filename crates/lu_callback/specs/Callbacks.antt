@@ -1,7 +1,7 @@
 -- What a target has asked of the holders of its locks and isn't answered yet (Wang et al., Understanding Lustre
 -- Filesystem Internals, the lock manager: blocking and glimpse callbacks; the order is this project's profile).
 use Rattle.std.specs.Prelude.{◌≡◌, ℕ, ◌+◌, ◌==◌, ◌&&◌, ◌||◌, nat_lt, nat_le, if◌then◌else◌, Bool, true, false, not, List, [], ◌∷◌, map, filter, AllPairs}
-use Rattle.std.specs.List.{position_or_len, list_any}
+use Rattle.std.specs.List.{list_any}
 use Rattle.lu_base.specs.declared.ids.Cookie.{Cookie}
 use Rattle.lu_base.specs.declared.ids.Who.{Who}
 use Rattle.lu_base.specs.declared.ids.Xid.{Xid}
@@ -17,7 +17,8 @@ is_block (Glimpse _ _) = false
 -- Both are blocks, or both are glimpses for one request.
 abbrev pub same_kind : Kind → Kind → Bool
 same_kind Block Block = true
-same_kind (Glimpse who xid) (Glimpse life number) = (who.client == life.client && who.life == life.life) && xid.0 == number.0
+same_kind (Glimpse who xid) (Glimpse life number) =
+    (who.client == life.client && who.life == life.life) && xid.0 == number.0
 same_kind Block (Glimpse _ _) = false
 same_kind (Glimpse _ _) Block = false
 
@@ -32,20 +33,14 @@ is_outstanding cookie kind callbacks = list_any (is_asked cookie kind) callbacks
 -- The order: what stands there comes before what is asked later where its cookie is lower, and, of one cookie, where
 -- what is asked later isn't a block. So the block comes first, and the glimpses follow in the order asked.
 abbrev pub stands_before : Asked → Asked → Bool
-stands_before there asked = nat_lt there.cookie.0 asked.cookie.0 || (there.cookie.0 == asked.cookie.0 && not (is_block asked.kind))
+stands_before there asked =
+    nat_lt there.cookie.0 asked.cookie.0 || (there.cookie.0 == asked.cookie.0 && not (is_block asked.kind))
 
 -- All that is outstanding once this is asked too, in its place.
 abbrev pub with_asked : Asked → List Asked → List Asked
 with_asked asked [] = asked ∷ []
 with_asked asked (there ∷ callbacks) =
     if stands_before there asked then there ∷ with_asked asked callbacks else asked ∷ there ∷ callbacks
-
--- It doesn't come before what is asked anew, and how many come before that.
-abbrev pub is_past : Asked → Asked → Bool
-is_past asked there = not (stands_before there asked)
-
-abbrev pub place_for : Asked → List Asked → ℕ
-place_for asked callbacks = position_or_len (is_past asked) callbacks
 
 -- What is outstanding of other locks.
 abbrev pub without : Cookie → List Asked → List Asked

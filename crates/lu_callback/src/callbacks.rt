@@ -1,11 +1,16 @@
-//! Callbacks (Wang et al., Understanding Lustre Filesystem Internals, the lock manager: blocking and glimpse callbacks).
+//! Callbacks (Wang et al., Understanding Lustre Filesystem Internals, the lock manager: blocking and glimpse
+//! callbacks).
 
-ghost use Rattle.std.specs.Prelude.{◌≡◌, ◌<◌, not, if◌then◌else◌, List, [], AllPairs, position, slice_get, option_map, IfOk, OnErr};
+ghost use Rattle.std.specs.Prelude.{◌≡◌, ◌<◌, not, false, if◌then◌else◌, [], AllPairs, slice_get, option_map, IfOk, OnOk, OnErr};
+ghost use Rattle.std.specs.Option.{option_copied};
 ghost use Rattle.lu_callback.specs.declared.callbacks.Kind.TheVariants as kind;
-ghost use Rattle.lu_callback.specs.Callbacks.{is_block, same_kind, is_asked, is_outstanding, stands_before, is_past, place_for, with_asked, without, without_glimpse, is_due, due, IsSound};
+ghost use Rattle.lu_callback.specs.Callbacks.{is_block, same_kind, is_outstanding, with_asked, without, without_glimpse, is_due, due, IsSound};
+ghost use Rattle.lu_callback.specs.Filed.{all_asked, is_idle};
 
+use super::holders::Holder;
 use lu_base::{Cookie, Cookies, Memory, Who, Xid};
 use std::alloc::{AllocError, Global};
+use std::collections::BTreeMap;
 use std::marker::Model;
 
 /// What the holder of a lock was asked for.
@@ -27,7 +32,7 @@ pub struct Asked {
 }
 
 /// Whether both are blocks, or both are glimpses for one request.
-fn same_kind(one: Kind, other: Kind) -> bool
+pub(crate) fn same_kind(one: Kind, other: Kind) -> bool
     ensures { result ≡ same_kind one other }
 {
     match (one, other) {
@@ -38,27 +43,13 @@ fn same_kind(one: Kind, other: Kind) -> bool
 }
 
 /// Whether it is a block.
-fn is_block(kind: Kind) -> bool
+pub(crate) fn is_block(kind: Kind) -> bool
     ensures { result ≡ is_block kind }
 {
     match kind {
         Kind::Block => true,
         Kind::Glimpse(..) => false,
     }
-}
-
-/// Whether this is what was asked of the holder of that lock.
-fn is_asked(asked: &Asked, cookie: Cookie, kind: Kind) -> bool
-    ensures { result ≡ is_asked cookie kind asked.now }
-{
-    asked.cookie == cookie && same_kind(asked.kind, kind)
-}
-
-/// Whether what stands there comes before what is asked anew.
-fn stands_before(there: &Asked, asked: &Asked) -> bool
-    ensures { result ≡ stands_before there.now asked.now }
-{
-    there.cookie < asked.cookie || (there.cookie == asked.cookie && !is_block(asked.kind))
 }
 
 /// Whether it is a block that was asked at least `age` ticks before `tick`.
@@ -68,57 +59,62 @@ fn is_due(asked: &Asked, tick: u64, age: u64) -> bool
     is_block(asked.kind) && asked.tick <= tick && tick - asked.tick >= age
 }
 
-/// Whether this is outstanding of that lock.
-fn is_outstanding(callbacks: &[Asked], cookie: Cookie, kind: Kind) -> bool
-    ensures { result ≡ is_outstanding cookie kind callbacks.now }
-{
-    callbacks.iter().any(|asked| is_asked(asked, cookie, kind))
-}
-
-/// The place of the first that doesn't come before what is asked anew; none where all do.
-fn first_past(callbacks: &[Asked], asked: &Asked) -> Option<usize>
-    ensures { result ≡ position (is_past asked.now) callbacks.now }
-{
-    callbacks
-        .iter()
-        .position(|there| !stands_before(there, asked))
-}
-
-/// The place of what is asked anew.
-fn place_for(callbacks: &[Asked], asked: &Asked) -> usize
-    ensures { result ≡ place_for asked.now callbacks.now }
-{
-    first_past(callbacks, asked).unwrap_or(callbacks.len())
-}
-
 /// The locks whose blocks were asked at least `age` ticks before `tick`.
-fn due(alloc: Global, callbacks: &[Asked], tick: u64, age: u64) -> Result<Vec<Cookie>, AllocError>
-    ensures { IfOk result (λ cookies. cookies.items ≡ due tick age callbacks.now) }
+fn due(
+    alloc: Global,
+    holders: &BTreeMap<Cookie, Holder>,
+    tick: u64,
+    age: u64,
+) -> Result<Vec<Cookie>, AllocError>
+    ensures { IfOk result (λ cookies. cookies.items ≡ due tick age (all_asked holders.now.entries)) }
 {
-    callbacks
-        .iter()
+    holders
+        .values()
+        .flat_map(|holder| holder.as_slice())
         .filter(|asked| is_due(asked, tick, age))
         .map(|asked| asked.cookie)
         .collect(alloc)
+}
+
+/// What is outstanding at this place; none past the last.
+fn asked_at(holders: &BTreeMap<Cookie, Holder>, at: usize) -> Option<&Asked>
+    ensures { option_copied result ≡ slice_get (all_asked holders.now.entries) at }
+{
+    holders
+        .values()
+        .flat_map(|holder| holder.as_slice())
+        .nth(at)
+}
+
+/// Whether this lock is there, and nothing is outstanding of it.
+fn is_idle(holders: &BTreeMap<Cookie, Holder>, cookie: Cookie) -> bool
+    ensures { result ≡ is_idle cookie holders.now.entries }
+{
+    match holders.get(&cookie) {
+        Some(holder) => holder.is_empty(),
+        None => false,
+    }
 }
 
 /// All that is outstanding: in rising cookie, for one cookie the block first and then the glimpses in
 /// the order in which they were asked.
 #[derive(Debug, Drop)]
 pub struct Callbacks {
-    asked: Vec<Asked>,
+    alloc: Global,
+    /// What was asked of the holder of each lock, by the lock's cookie.
+    holders: BTreeMap<Cookie, Holder>,
 }
 
 impl Model for Callbacks {
     ghost use Rattle.std.specs.Prelude.{List};
     ghost use Rattle.lu_callback.specs.declared.callbacks.Asked.{Asked};
-    ghost use Rattle.lu_callback.specs.Callbacks.{IsSound};
+    ghost use Rattle.lu_callback.specs.Filed.{all_asked, IsHeld};
 
     ghost Value = { List Asked };
 
-    ghost view = { λ callbacks. callbacks.asked.items };
+    ghost view = { λ callbacks. all_asked callbacks.holders.entries };
 
-    ghost invariant = { λ callbacks. IsSound callbacks.asked.items };
+    ghost invariant = { λ callbacks. IsHeld callbacks.holders.entries };
 }
 
 impl Callbacks {
@@ -128,7 +124,8 @@ impl Callbacks {
         ensures sound { IsSound result }
     {
         Callbacks {
-            asked: Vec::new(alloc),
+            alloc,
+            holders: BTreeMap::new(alloc),
         }
     }
 
@@ -136,17 +133,46 @@ impl Callbacks {
     /// and after want of memory, nothing has changed.
     pub fn ask(&mut self, cookie: Cookie, kind: Kind, tick: u64) -> Result<bool, Memory>
         ensures new { IfOk result (λ new. new ≡ not (is_outstanding cookie kind self.old)) }
-        ensures added { IfOk result (λ new. self.new ≡ (if new then with_asked (record { cookie = cookie; kind = kind; tick = tick }) self.old else self.old)) }
+        ensures added { IfOk result (λ new. self.new ≡ (if new
+            then with_asked (record { cookie = cookie; kind = kind; tick = tick }) self.old
+            else self.old)) }
         ensures kept { OnErr result (self.new ≡ self.old) }
         ensures sound { IsSound self.new }
     {
-        if is_outstanding(&self.asked, cookie, kind) {
+        if self.is_outstanding(cookie, kind) {
             return Ok(false);
         }
-        let asked = Asked { cookie, kind, tick };
-        let place = place_for(&self.asked, &asked);
-        self.asked.insert(place, asked)?;
+        self.put(Asked { cookie, kind, tick })?;
         Ok(true)
+    }
+
+    /// Whether this is outstanding of that lock.
+    fn is_outstanding(&self, cookie: Cookie, kind: Kind) -> bool
+        ensures outstanding { result ≡ is_outstanding cookie kind self.now }
+        ensures sound { IsSound self.now }
+    {
+        match self.holders.get(&cookie) {
+            Some(holder) => holder.has(kind),
+            None => false,
+        }
+    }
+
+    /// Asks what isn't outstanding. After want of memory nothing has changed.
+    fn put(&mut self, asked: Asked) -> Result<(), Memory>
+        requires absent { is_outstanding asked.cookie asked.kind self.old ≡ false }
+        ensures added { OnOk result (self.new ≡ with_asked asked self.old) }
+        ensures kept { OnErr result (self.new ≡ self.old) }
+        ensures sound { IsSound self.new }
+    {
+        match self.holders.get_mut(&asked.cookie) {
+            Some(holder) => holder.put(asked),
+            None => {
+                let mut holder = Holder::new(self.alloc);
+                holder.put(asked)?;
+                self.holders.insert(asked.cookie, holder)?;
+                Ok(())
+            }
+        }
     }
 
     /// Takes away all that is outstanding of this lock.
@@ -154,7 +180,7 @@ impl Callbacks {
         ensures without { self.new ≡ without cookie self.old }
         ensures sound { IsSound self.new }
     {
-        self.asked.retain(|asked| asked.cookie != cookie);
+        self.holders.remove(&cookie);
     }
 
     /// Takes away the glimpse of this lock for the request of this life and number. False where it
@@ -165,9 +191,24 @@ impl Callbacks {
         ensures sound { IsSound self.new }
     {
         let kind = Kind::Glimpse(who, xid);
-        let was = is_outstanding(&self.asked, cookie, kind);
-        self.asked.retain(|asked| !is_asked(asked, cookie, kind));
+        let was = self.is_outstanding(cookie, kind);
+        let Some(holder) = self.holders.get_mut(&cookie) else {
+            return was;
+        };
+        holder.forget(kind);
+        self.let_go(cookie);
         was
+    }
+
+    /// Lets go of a lock of which nothing is outstanding any more.
+    fn let_go(&mut self, cookie: Cookie)
+        ensures same { self.new ≡ self.old }
+        ensures sound { IsSound self.new }
+    {
+        if !is_idle(&self.holders, cookie) {
+            return;
+        }
+        self.holders.remove(&cookie);
     }
 
     /// The locks whose blocks were asked at least `age` ticks before `tick`, each once, rising.
@@ -176,7 +217,7 @@ impl Callbacks {
         ensures rising { IfOk result (λ cookies. AllPairs (λ earlier later. earlier.0 < later.0) cookies) }
         ensures sound { IsSound self.now }
     {
-        let cookies = due(alloc, &self.asked, tick, age)?;
+        let cookies = due(alloc, &self.holders, tick, age)?;
         Ok(Cookies::from(cookies))
     }
 
@@ -186,7 +227,7 @@ impl Callbacks {
         ensures asked { result ≡ option_map (λ asked. (asked.cookie, asked.kind)) (slice_get self.now at) }
         ensures sound { IsSound self.now }
     {
-        let asked = self.asked.get(at)?;
+        let asked = asked_at(&self.holders, at)?;
         Some((asked.cookie, asked.kind))
     }
 }

@@ -2,6 +2,7 @@
 #![tactic(auto)]
 
 mod callbacks;
+mod holders;
 #[cfg(test)]
 mod tests;
 

@@ -1,5 +1,5 @@
 -- What the cache's calls do to the held locks.
-use Rattle.std.proofs.Common.{◌≡◌, ℕ, ◌+◌, ◌-◌, take, ◌||◌, Bool, true, false, not, cond, List, [], ◌∷◌, length, filter, map, find, Option, Some, None, refl, ap, subst, sym, ◌∙◌, arith}
+use Rattle.std.proofs.Common.{◌≡◌, ◌<◌, ◌-◌, take, ◌||◌, Bool, true, false, not, cond, List, [], ◌∷◌, length, filter, map, find, Option, Some, None, refl, ap, subst, sym, ◌∙◌, arith}
 use Rattle.std.specs.Prelude.{All, AllPairs, is_some}
 use Rattle.std.specs.List.{list_any}
 use Rattle.std.specs.Map.{keys_of, values_of, lookup, lookup_entry, remove_entry, set_value}
@@ -14,7 +14,7 @@ use Rattle.lu_held.specs.Held.{is_held, changed, without}
 use Rattle.lu_held.proofs.Lists.{some_is, rest_all, rest_pairs, first_pairs, filter_all, filter_none, turned}
 use Rattle.lu_held.proofs.NameLaws.{Apart, others, same_self, same_is, all_others}
 use Rattle.std.proofs.lemmas.Grind.{common_steps}
-use Rattle.lru.specs.LruCache.{lru_cache, put_entries}
+use Rattle.lru.specs.LruCache.{LruCache, put_entries}
 
 abbrev pub Keyed : (LockName × HeldLock) → Type 0
 Keyed entry = entry.0 ≡ name_of entry.1
@@ -172,16 +172,15 @@ no_entry name ((key, held) ∷ entries) none = by (same_name name key) refl none
   by true e h rest = absurd (cc)
   by false e h rest = All-cons (Apart name) key (keys_of entries) e (rest h)
 
--- a new lock, put into a cache with room for one more
+-- a new lock, put into a cache that isn't full
 lookup_entry-none : (name : LockName) (entries : List (LockName × HeldLock)) → lookup (same_name name) entries ≡ None → lookup_entry (same_name name) entries ≡ None
 lookup_entry-none name [] none = refl
 lookup_entry-none name (entry ∷ entries) none = grind (arith, common_steps, lookup_entry-none name entries)
 
-pub put_new : (name : LockName) (held : HeldLock) (entries : List (LockName × HeldLock)) (room : ℕ) → room ≡ length entries + 1 → lookup (same_name name) entries ≡ None → put_entries same_name (lru_cache (take room entries) room) name held ≡ (name, held) ∷ entries
-put_new name held entries room n none =
-    let all : take room entries ≡ entries = grind (arith, common_steps) in
-    let less : take (room - 1) entries ≡ entries = grind (arith, common_steps) in
-    rw (all, lookup_entry-none name entries none, less) refl
+pub put_new : (name : LockName) (held : HeldLock) (uses : LruCache LockName HeldLock) → length uses.entries < uses.cap → lookup (same_name name) uses.entries ≡ None → put_entries same_name uses name held ≡ (name, held) ∷ uses.entries
+put_new name held uses room none =
+    let all : take (uses.cap - 1) uses.entries ≡ uses.entries = grind (arith, common_steps) in
+    rw (lookup_entry-none name uses.entries none, all) refl
 
 pub none_of : (found : Option HeldLock) → is_some found ≡ false → found ≡ None
 none_of None e = refl

@@ -1,6 +1,6 @@
 -- The order of names, and the names under which locks stand, last through each call.
 use Rattle.std.proofs.Common.{◌≡◌, ℕ, Bool, true, false, not, List, [], ◌∷◌, filter, map, Option, Some, None, refl, ap, subst, sym, ◌∙◌, arith}
-use Rattle.std.specs.Prelude.{All, AllPairs, insert}
+use Rattle.std.specs.Prelude.{All, AllPairs}
 use Rattle.std.specs.Option.{option_map_or}
 use Rattle.std.specs.Map.{keys_of, values_of, lookup, lookup_entry, remove_entry, set_value}
 use Rattle.std.proofs.lemmas.Map.{keys-set_value}
@@ -10,12 +10,15 @@ use Rattle.lru.specs.LruCache.{promoted}
 use Rattle.lu_held.specs.declared.names.LockName.{LockName}
 use Rattle.lu_held.specs.declared.locks.HeldLock.{HeldLock}
 use Rattle.lu_held.specs.declared.locks.Change.{Change}
-use Rattle.lu_held.specs.Names.{same_name, sorted, with_name, place_for}
+use Rattle.lu_held.specs.Names.{same_name, sorted, with_name}
 use Rattle.lu_held.specs.Locks.{name_of, is_named, after}
 use Rattle.lu_held.specs.Held.{HeldState, used}
 use Rattle.lu_held.specs.Kept.{IsKept}
 use Rattle.lu_held.proofs.Lists.{rest_all, rest_pairs, first_pairs, filter_all, filter_none, filter_passes, turned}
-use Rattle.lu_held.proofs.NameLaws.{Apart, others, with_name_at, sorted_used, sorted_without}
+use Rattle.lu_held.proofs.NameLaws.{Apart, others, by_name, key_put, key_removed, apart_sorted, all_sorted, sorted_used, sorted_without}
+use Rattle.std.specs.Ordering.{is_eq}
+use Rattle.std.specs.Set.{remove_key}
+use Rattle.std.specs.BTreeSet.{insert_key}
 use Rattle.lu_held.proofs.Entries.{Keyed, keys_values, keyed_set, keys_removed, keyed_removed, values_removed, lookup_none, none_named, IsEntryOf, entry_of, no_entry}
 
 named_apart : (one : HeldLock) (locks : List HeldLock) → All (Apart (name_of one)) (map name_of locks) → All (λ other. is_named (name_of one) other ≡ false) locks
@@ -40,12 +43,13 @@ kept_set names name change entries held kept there =
     let keys : keys_of (set_value (same_name name) entries (after change held)) ≡ keys_of entries = keys-set_value (same_name name) entries (after change held) in
     kept_of names (set_value (same_name name) entries (after change held)) (keyed_set name change entries held kept.keyed there) (subst (AllPairs Apart) (sym keys) kept.once) (kept.index ∙ ap sorted (sym keys))
 
-pub kept_removed : (names : List LockName) (name : LockName) (entries : List (LockName × HeldLock)) → IsKept names entries → IsKept (filter (others name) names) (remove_entry (same_name name) entries)
+pub kept_removed : (names : List LockName) (name : LockName) (entries : List (LockName × HeldLock)) → IsKept names entries → IsKept (remove_key (λ other. is_eq (by_name name other)) names) (remove_entry (same_name name) entries)
 kept_removed names name entries kept =
     let keys : keys_of (remove_entry (same_name name) entries) ≡ filter (others name) (keys_of entries) = keys_removed name entries kept.once in
-    kept_of (filter (others name) names) (remove_entry (same_name name) entries) (keyed_removed name entries kept.keyed)
+    let apart : AllPairs Apart names = subst (AllPairs Apart) (sym kept.index) (apart_sorted (keys_of entries) kept.once) in
+    kept_of (remove_key (λ other. is_eq (by_name name other)) names) (remove_entry (same_name name) entries) (keyed_removed name entries kept.keyed)
     (subst (AllPairs Apart) (sym keys) (AllPairs-filter Apart (others name) (keys_of entries) kept.once))
-    (ap (filter (others name)) kept.index ∙ sorted_without name (keys_of entries) kept.once ∙ ap sorted (sym keys))
+    (key_removed name names apart ∙ ap (filter (others name)) kept.index ∙ sorted_without name (keys_of entries) kept.once ∙ ap sorted (sym keys))
 
 apart_passes : (name : LockName) (names : List LockName) → All (λ other. others name other ≡ true) names → All (Apart name) names
 apart_passes name [] passes = λ k d within. absurd (omega arith)
@@ -80,12 +84,14 @@ values_promoted names name entries kept = by (lookup_entry (same_name name) entr
       let is : IsEntryOf name entries entry = entry_of name entries entry kept.keyed kept.once e in
       rw is.only (ap (λ more. entry.1 ∷ more) (values_removed name entries kept.keyed kept.once))
 
-pub kept_granted : (names : List LockName) (held : HeldLock) (entries : List (LockName × HeldLock)) → IsKept names entries → lookup (same_name (name_of held)) entries ≡ None → IsKept (insert names (place_for (name_of held) names) (name_of held)) ((name_of held, held) ∷ entries)
+pub kept_granted : (names : List LockName) (held : HeldLock) (entries : List (LockName × HeldLock)) → IsKept names entries → lookup (same_name (name_of held)) entries ≡ None → IsKept (insert_key by_name names (name_of held)) ((name_of held, held) ∷ entries)
 kept_granted names held entries kept absent =
-    kept_of (insert names (place_for (name_of held) names) (name_of held)) ((name_of held, held) ∷ entries)
+    let others_apart : All (Apart (name_of held)) (keys_of entries) = lookup_none (name_of held) entries absent in
+    let apart : All (Apart (name_of held)) names = subst (All (Apart (name_of held))) (sym kept.index) (all_sorted (Apart (name_of held)) (keys_of entries) others_apart) in
+    kept_of (insert_key by_name names (name_of held)) ((name_of held, held) ∷ entries)
     (All-cons Keyed (name_of held, held) entries refl kept.keyed)
-    (AllPairs-cons Apart (name_of held) (keys_of entries) (lookup_none (name_of held) entries absent) kept.once)
-    (with_name_at (name_of held) names ∙ ap (with_name (name_of held)) kept.index)
+    (AllPairs-cons Apart (name_of held) (keys_of entries) others_apart kept.once)
+    (key_put (name_of held) names apart ∙ ap (with_name (name_of held)) kept.index)
 
 abbrev pub the_state : ℕ → List HeldLock → HeldState
 the_state unused locks = record { unused = unused; locks = locks }

@@ -1,5 +1,5 @@
 -- Lists of anything: heads and rests, and filters that pass all or nothing.
-use Rattle.std.proofs.Common.{◌≡◌, ℕ, zero, suc, ◌<◌, ◌≤◌, drop, Some, None, ◌||◌, Bool, true, false, not, cond, List, [], ◌∷◌, length, filter, get_or, refl, ap, subst, arith}
+use Rattle.std.proofs.Common.{◌≡◌, suc, Some, None, ◌||◌, Bool, true, false, not, cond, List, [], ◌∷◌, filter, refl, ap, subst, arith}
 use Rattle.std.specs.Prelude.{All, AllPairs, slice_get}
 use Rattle.std.specs.List.{list_any}
 use Rattle.std.proofs.lemmas.List.Elements.{All-cons}
@@ -46,18 +46,6 @@ turned test [] all = λ k d within. absurd (omega arith)
 turned test (x ∷ xs) all =
     let here : test x ≡ false = all 0 x (omega arith) in
     All-cons (λ y. not (test y) ≡ true) x xs (rw here refl) (turned test xs (rest_all (λ y. test y ≡ false) x xs all))
-
--- the first that passes, where it stands next; none where nothing stands any more
-pub pick : {A : Type 0} (test : A → Bool) (xs : List A) (place : ℕ) (d : A) → place < length xs → test (get_or xs place d) ≡ true → slice_get (filter test (drop place xs)) 0 ≡ Some (get_or xs place d)
-pick test [] place d within passes = absurd (omega arith)
-pick test (x ∷ xs) zero d within passes = rw passes refl
-pick test (x ∷ xs) (suc place) d within passes = pick test xs place d (omega arith) passes
-
-pub rest_none : {A : Type 0} (test : A → Bool) (xs : List A) (place : ℕ) → length xs ≤ place → filter test (drop place xs) ≡ []
-rest_none test [] zero past = refl
-rest_none test [] (suc place) past = refl
-rest_none test (x ∷ xs) zero past = absurd (omega arith)
-rest_none test (x ∷ xs) (suc place) past = rest_none test xs place (omega arith)
 
 -- what was filtered out isn't there
 pub none_after : {A : Type 0} (test : A → Bool) (xs : List A) → list_any test (filter (λ x. not (test x)) xs) ≡ false

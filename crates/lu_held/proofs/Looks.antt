@@ -11,16 +11,16 @@ use Rattle.lu_held.specs.declared.locks.Wanted.{Wanted}
 use Rattle.lu_held.specs.Names.{is_before, with_name, sorted}
 use Rattle.lu_held.specs.Locks.{name_of, is_named, matches}
 use Rattle.lu_held.specs.Held.{put_in, in_order, those}
-use Rattle.lu_held.specs.Kept.{IsKept}
+use Rattle.lu_held.specs.Kept.{IsKept, is_asked}
 use Rattle.lu_held.proofs.Lists.{some_is, rest_all, rest_pairs, first_pairs}
 use Rattle.lu_held.proofs.NameLaws.{same_self, same_turned}
-use Rattle.lu_held.proofs.Entries.{keys_values}
+use Rattle.lu_held.proofs.Entries.{keys_values, lookup_find}
 
 abbrev pub Once : List HeldLock → Type 0
 Once locks = AllPairs (λ one other. is_named (name_of one) other ≡ false) locks
 
 -- the lock of this name is one of those that are looked for
-abbrev pub asks : Wanted → List HeldLock → LockName → Bool
+abbrev asks : Wanted → List HeldLock → LockName → Bool
 asks wanted locks name = option_map_or (matches wanted) (find (is_named name) locks) false
 
 -- each lock is found under its name
@@ -73,12 +73,18 @@ filter_names wanted locks (held ∷ some) found = by (matches wanted held) refl 
       let there : asks wanted locks (name_of held) ≡ false = rw (found 0 held (omega arith)) e in
       rw there rest
 
+filter_alike : (one other : LockName → Bool) → ((name : LockName) → one name ≡ other name) → (names : List LockName) → filter one names ≡ filter other names
+filter_alike one other alike [] = refl
+filter_alike one other alike (name ∷ names) = rw (alike name, filter_alike one other alike names) refl
+
 -- the names in order lead to those that are looked for
-pub looked : (wanted : Wanted) (names : List LockName) (entries : List (LockName × HeldLock)) → IsKept names entries → filter (asks wanted (values_of entries)) names ≡ map name_of (those wanted (values_of entries))
+pub looked : (wanted : Wanted) (names : List LockName) (entries : List (LockName × HeldLock)) → IsKept names entries → filter (is_asked wanted entries) names ≡ map name_of (those wanted (values_of entries))
 looked wanted names entries kept =
     let locks = values_of entries in
     let in_names : names ≡ map name_of (in_order locks) = kept.index ∙ ap sorted (keys_values entries kept.keyed) ∙ sym (names_in_order locks) in
-    ap (filter (asks wanted locks)) in_names ∙ filter_names wanted locks (in_order locks) (all_in_order (IsFound locks) locks (all_found locks kept.sound))
+    filter_alike (is_asked wanted entries) (asks wanted locks) (λ name. ap (λ found. option_map_or (matches wanted) found false) (lookup_find name entries kept.keyed)) names
+    ∙ ap (filter (asks wanted locks)) in_names
+    ∙ filter_names wanted locks (in_order locks) (all_in_order (IsFound locks) locks (all_found locks kept.sound))
 
 -- the lock that is found under the name of one of those
 pub found_at : (wanted : Wanted) (locks : List HeldLock) (at : ℕ) (name : LockName) → Once locks → option_map name_of (slice_get (those wanted locks) at) ≡ Some name → find (is_named name) locks ≡ slice_get (those wanted locks) at
@@ -92,7 +98,7 @@ found_at wanted locks at name once = by (slice_get (those wanted locks) at) refl
       let here : find (is_named (name_of held)) locks ≡ Some held = subst (IsFound locks) (get_or_from_slice_get (those wanted locks) at held held e) (all at held (slice_get_within (those wanted locks) at held e)) in
       subst (λ n. find (is_named n) locks ≡ Some held) (some_is (name_of held) name h) here
 
-pub looked_at : (wanted : Wanted) (names : List LockName) (entries : List (LockName × HeldLock)) (at : ℕ) → IsKept names entries → slice_get (filter (asks wanted (values_of entries)) names) at ≡ option_map name_of (slice_get (those wanted (values_of entries)) at)
+pub looked_at : (wanted : Wanted) (names : List LockName) (entries : List (LockName × HeldLock)) (at : ℕ) → IsKept names entries → slice_get (filter (is_asked wanted entries) names) at ≡ option_map name_of (slice_get (those wanted (values_of entries)) at)
 looked_at wanted names entries at kept = ap (λ some. slice_get some at) (looked wanted names entries kept) ∙ slice_get-map name_of (those wanted (values_of entries)) at
 
 pub cookies_of : (some : List HeldLock) → map (λ name. name.cookie) (map name_of some) ≡ map (λ held. held.lock.cookie) some

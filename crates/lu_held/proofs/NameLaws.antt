@@ -1,14 +1,16 @@
--- Names in order: where a new one stands, and that it doesn't matter in which order they came.
-use Rattle.std.proofs.Common.{◌≡◌, ℕ, suc, ◌+◌, ◌≤◌, ◌||◌, Bool, true, false, not, cond, List, [], ◌∷◌, length, filter, refl, ap, subst, sym, ◌∙◌, arith}
-use Rattle.std.specs.Prelude.{insert, position, All, AllPairs, unwrap_or}
-use Rattle.std.specs.List.{position_or_len, list_any}
+-- Names in order: a set of them is in this order, and it doesn't matter in which order they came.
+use Rattle.std.proofs.Common.{Ordering, ◌≡◌, ◌||◌, Bool, true, false, not, cond, List, [], ◌∷◌, filter, refl, ap, subst, sym, ◌∙◌, arith}
+use Rattle.std.specs.Prelude.{All, AllPairs}
+use Rattle.std.specs.List.{list_any}
+use Rattle.std.specs.Ordering.{nat_cmp, ordering_then, match_ordering, is_eq}
+use Rattle.std.specs.Set.{remove_key}
+use Rattle.std.specs.BTreeSet.{insert_key}
 use Rattle.std.proofs.lemmas.List.Elements.{All-cons}
-use Rattle.std.proofs.lemmas.List.Sums.{prefix_len-le-length}
-use Rattle.std.proofs.lemmas.Grind.{common_steps}
+use Rattle.std.proofs.lemmas.List.Kept.{AllPairs-cons}
 use Rattle.std.proofs.lemmas.Bool.Decides.{nat_tests}
 use Rattle.lu_held.specs.declared.names.LockName.{LockName}
 use Rattle.lu_held.specs.Locks.{named}
-use Rattle.lu_held.specs.Names.{same_name, is_before, with_name, sorted, is_past, place_for}
+use Rattle.lu_held.specs.Names.{same_name, is_before, with_name, sorted}
 use Rattle.lu_held.proofs.Lists.{rest_all, rest_pairs, first_pairs, filter_all, filter_passes, none_pass, turned}
 
 abbrev pub Apart : LockName → LockName → Type 0
@@ -16,22 +18,6 @@ Apart one other = same_name one other ≡ false
 
 abbrev pub others : LockName → LockName → Bool
 others name other = not (same_name name other)
-
-one_more : (n : ℕ) → 1 + n ≡ suc n
-one_more n = omega arith
-
-pub with_name_at : (name : LockName) (names : List LockName) → insert names (place_for name names) name ≡ with_name name names
-with_name_at name [] = refl
-with_name_at name (first ∷ names) = by (is_before first name) refl (with_name_at name names) where
-  by : (before : Bool) → is_before first name ≡ before → insert names (place_for name names) name ≡ with_name name names → insert (first ∷ names) (place_for name (first ∷ names)) name ≡ with_name name (first ∷ names)
-  by true e rest = rw (e, one_more) (ap (λ more. first ∷ more) rest)
-  by false e rest = rw e refl
-
-pub place_for_within : (name : LockName) (names : List LockName) → place_for name names ≤ length names
-place_for_within name names = prefix_len-le-length (λ other. not (is_past name other)) names
-
-pub first_or_length : (test : LockName → Bool) (names : List LockName) → unwrap_or (position test names) (length names) ≡ position_or_len test names
-first_or_length test names = grind (arith, nat_tests, common_steps, prefix_len-le-length (λ other. not (test other)) names)
 
 pub same_self : (name : LockName) → same_name name name ≡ true
 same_self name = grind (arith, nat_tests)
@@ -76,7 +62,7 @@ all_with P name (first ∷ names) here all = by (is_before first name) (all_with
   by true rest = All-cons P first (with_name name names) (all 0 first (omega arith)) rest
   by false rest = All-cons P name (first ∷ names) here all
 
-all_sorted : (P : LockName → Type 0) (names : List LockName) → All P names → All P (sorted names)
+pub all_sorted : (P : LockName → Type 0) (names : List LockName) → All P names → All P (sorted names)
 all_sorted P [] all = all
 all_sorted P (name ∷ names) all = all_with P name (sorted names) (all 0 name (omega arith)) (all_sorted P names (rest_all P name names all))
 
@@ -113,3 +99,42 @@ sorted_without name names apart = by (list_any (same_name name) names) refl wher
   by false e =
       let none : All (Apart name) names = none_pass (same_name name) names e in
       all_others name (sorted names) (all_sorted (Apart name) names none) ∙ ap sorted (sym (all_others name names none))
+
+-- a set keeps its names in this order
+abbrev pub by_name : LockName → LockName → Ordering
+by_name one other = ordering_then (nat_cmp one.target.0 other.target.0) (nat_cmp one.cookie.0 other.cookie.0)
+
+is_equal : (one other : LockName) → is_eq (by_name one other) ≡ same_name one other
+is_equal one other = grind (arith, nat_tests)
+
+step : (name first : LockName) (here there more : List LockName) → Apart name first → match_ordering (by_name name first) here there more ≡ cond (is_before first name) more here
+step name first here there more apart = grind (arith, nat_tests)
+
+pub key_put : (name : LockName) (names : List LockName) → All (Apart name) names → insert_key by_name names name ≡ with_name name names
+key_put name [] apart = refl
+key_put name (first ∷ names) apart =
+    let rest : insert_key by_name names name ≡ with_name name names = key_put name names (rest_all (Apart name) first names apart) in
+    step name first (name ∷ first ∷ names) (first ∷ names) (first ∷ insert_key by_name names name) (apart 0 first (omega arith))
+    ∙ ap (λ more. cond (is_before first name) (first ∷ more) (name ∷ first ∷ names)) rest
+
+pub key_removed : (name : LockName) (names : List LockName) → AllPairs Apart names → remove_key (λ other. is_eq (by_name name other)) names ≡ filter (others name) names
+key_removed name [] apart = refl
+key_removed name (first ∷ names) apart = by (same_name name first) refl (key_removed name names (rest_pairs Apart first names apart)) where
+  by : (same : Bool) → same_name name first ≡ same → remove_key (λ other. is_eq (by_name name other)) names ≡ filter (others name) names → cond (is_eq (by_name name first)) names (first ∷ remove_key (λ other. is_eq (by_name name other)) names) ≡ cond (not same) (first ∷ filter (others name) names) (filter (others name) names)
+  by true e rest =
+      let same : name ≡ first = same_is name first e in
+      let apart_here : All (Apart name) names = subst (λ n. All (Apart n) names) (sym same) (first_pairs Apart first names apart) in
+      rw (is_equal name first, e) (sym (all_others name names apart_here))
+  by false e rest = rw (is_equal name first, e) (ap (λ more. first ∷ more) rest)
+
+apart_with : (name : LockName) (names : List LockName) → AllPairs Apart names → All (Apart name) names → AllPairs Apart (with_name name names)
+apart_with name [] pairs apart = λ i j d less within. absurd (omega arith)
+apart_with name (first ∷ names) pairs apart = by (is_before first name) (apart_with name names (rest_pairs Apart first names pairs) (rest_all (Apart name) first names apart)) where
+  by : (before : Bool) → AllPairs Apart (with_name name names) → AllPairs Apart (cond before (first ∷ with_name name names) (name ∷ first ∷ names))
+  by true rest = AllPairs-cons Apart first (with_name name names) (all_with (Apart first) name names (same_turned name first (apart 0 first (omega arith))) (first_pairs Apart first names pairs)) rest
+  by false rest = AllPairs-cons Apart name (first ∷ names) apart pairs
+
+pub apart_sorted : (names : List LockName) → AllPairs Apart names → AllPairs Apart (sorted names)
+apart_sorted [] apart = apart
+apart_sorted (name ∷ names) apart =
+    apart_with name (sorted names) (apart_sorted names (rest_pairs Apart name names apart)) (all_sorted (Apart name) names (first_pairs Apart name names apart))

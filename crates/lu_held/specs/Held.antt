@@ -30,6 +30,10 @@ is_held name locks = list_any (is_named name) locks
 abbrev pub changed : LockName → Change → List HeldLock → List HeldLock
 changed name change locks = map (λ held. if is_named name held then after change held else held) locks
 
+-- What the state is once this was done to the lock of this name.
+abbrev pub with_change : LockName → Change → HeldState → HeldState
+with_change name change held = record held { locks = changed name change held.locks }
+
 -- The locks of other names.
 abbrev pub without : LockName → List HeldLock → List HeldLock
 without name locks = filter (λ held. not (is_named name held)) locks
@@ -37,6 +41,9 @@ without name locks = filter (λ held. not (is_named name held)) locks
 -- The locks with the one of this name as the last used.
 abbrev pub used : LockName → List HeldLock → List HeldLock
 used name locks = filter (is_named name) locks ++ without name locks
+
+abbrev pub with_last : LockName → HeldState → HeldState
+with_last name held = record held { locks = used name held.locks }
 
 -- The locks with no mark at this target.
 abbrev pub unmarked : TargetId → List HeldLock → List HeldLock
@@ -63,18 +70,22 @@ serving wanted locks = first (slice_get (those (ServingToTheEnd wanted) locks) 0
   first (Some held) = Some held
   first None = slice_get (those (Serving wanted) locks) 0
 
+-- The last of some locks.
+abbrev pub last_of : List HeldLock → Option HeldLock
+last_of locks = slice_get locks (length locks - 1)
+
 -- The least recently used of those that are neither pinned nor marked, where these are more than may be kept.
 abbrev pub to_trim : HeldState → Option HeldLock
 to_trim held =
     if nat_le (length (filter is_free held.locks)) held.unused then None
-    else slice_get (filter is_free held.locks) (length (filter is_free held.locks) - 1)
+    else last_of (filter is_free held.locks)
 
 -- What `trim` makes of the locks: that one is marked.
 abbrev pub trimmed : HeldState → HeldState
 trimmed held = mark (to_trim held) where
   mark : Option HeldLock → HeldState
   mark None = held
-  mark (Some lock) = record held { locks = changed (name_of lock) Mark held.locks }
+  mark (Some lock) = with_change (name_of lock) Mark held
 
 -- One name comes before the other's, by target and then by cookie.
 abbrev pub IsBefore : HeldLock → HeldLock → Type 0
@@ -84,7 +95,8 @@ IsBefore earlier later = is_before (name_of earlier) (name_of later) ≡ true
 -- do, its cookie isn't greater.
 abbrev pub IsBest : HeldLock → HeldLock → Type 0
 IsBest held other =
-    (reaches_end held.lock.ask.policy ≡ reaches_end other.lock.ask.policy → held.lock.cookie.0 ≤ other.lock.cookie.0)
+    (reaches_end held.lock.ask.policy ≡ reaches_end other.lock.ask.policy
+    → held.lock.cookie.0 ≤ other.lock.cookie.0)
     × (reaches_end other.lock.ask.policy ≡ true → reaches_end held.lock.ask.policy ≡ true)
 
 -- No two of them are held under one target and cookie.

@@ -1,6 +1,5 @@
 -- The names of locks, by target and then by cookie (this project's profile).
-use Rattle.std.specs.Prelude.{ℕ, ◌==◌, ◌&&◌, ◌||◌, nat_lt, if◌then◌else◌, Bool, not, List, [], ◌∷◌}
-use Rattle.std.specs.List.{position_or_len}
+use Rattle.std.specs.Prelude.{◌==◌, ◌&&◌, ◌||◌, nat_lt, if◌then◌else◌, Bool, List, [], ◌∷◌}
 use Rattle.lu_held.specs.declared.names.LockName.{LockName}
 
 -- Both are one name.
@@ -9,21 +8,17 @@ same_name one other = one.target.0 == other.target.0 && one.cookie.0 == other.co
 
 -- One name comes before another.
 abbrev pub is_before : LockName → LockName → Bool
-is_before earlier later = nat_lt earlier.target.0 later.target.0 || (earlier.target.0 == later.target.0 && nat_lt earlier.cookie.0 later.cookie.0)
+is_before earlier later =
+    nat_lt earlier.target.0 later.target.0
+    || (earlier.target.0 == later.target.0 && nat_lt earlier.cookie.0 later.cookie.0)
 
 -- The names, which are in order, with this one in its place.
 abbrev pub with_name : LockName → List LockName → List LockName
 with_name name [] = name ∷ []
-with_name name (first ∷ names) = if is_before first name then first ∷ with_name name names else name ∷ first ∷ names
+with_name name (first ∷ names) =
+    if is_before first name then first ∷ with_name name names else name ∷ first ∷ names
 
 -- The names in order.
 abbrev pub sorted : List LockName → List LockName
 sorted [] = []
 sorted (name ∷ names) = with_name name (sorted names)
-
--- It doesn't come before this name, and how many come before that.
-abbrev pub is_past : LockName → LockName → Bool
-is_past name other = not (is_before other name)
-
-abbrev pub place_for : LockName → List LockName → ℕ
-place_for name names = position_or_len (is_past name) names

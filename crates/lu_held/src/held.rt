@@ -1,22 +1,23 @@
-//! The locks that a client holds, in order of their last use (this project's profile; the bound on unused locks is that of
-//! Lustre Operations Manual, the size of the lock lists).
+//! The locks that a client holds, in order of their last use (this project's profile; the bound on unused locks is
+//! that of Lustre Operations Manual, the size of the lock lists).
 
-ghost use Rattle.std.specs.Prelude.{◌≡◌, ◌-◌, ◌≤◌, ◌<◌, false, if◌then◌else◌, [], ◌∷◌, length, map, filter, find, fold, count_by, slice_get, option_map, Option, Some, None, IfOk, OnOk, OnErr, IfSome, IfNone};
-ghost use Rattle.std.specs.Option.{option_copied, option_map_or};
+ghost use Rattle.std.specs.Prelude.{◌≡◌, ◌≤◌, ◌<◌, false, if◌then◌else◌, [], ◌∷◌, length, map, filter, find, fold, count_by, slice_get, option_map, Option, Some, None, IfOk, OnOk, OnErr, IfSome, IfNone};
+ghost use Rattle.std.specs.Option.{option_copied};
 ghost use Rattle.std.specs.Map.{lookup};
 ghost use Rattle.lu_held.specs.declared.locks.Change.TheVariants as change;
 ghost use Rattle.lu_held.specs.declared.locks.Wanted.TheVariants as wanted;
 ghost use Rattle.lu_held.specs.Names.{same_name};
-ghost use Rattle.lu_held.specs.Locks.{named, name_of, is_named, matches, is_free};
-ghost use Rattle.lu_held.specs.Held.{HeldState, granted, is_held, changed, without, used, unmarked, those, serving, to_trim, trimmed, IsSound};
+ghost use Rattle.lu_held.specs.Locks.{named, name_of, use_of, lock_of, cookie_of, pair_of, is_named, is_free};
+ghost use Rattle.lu_held.specs.Held.{HeldState, granted, is_held, with_change, with_last, without, unmarked, those, serving, last_of, to_trim, trimmed, IsSound};
+ghost use Rattle.lu_held.specs.Kept.{unbounded, is_asked};
 
 use super::locks::{Change, HeldLock, Use, Wanted};
-use super::names::{LockName, place_for};
+use super::names::LockName;
 use lru::LruCache;
 use lu_base::{Cookie, Cookies, Lock, Memory, Mode, Policy, Resource, TargetId};
-use std::alloc::Global;
+use std::alloc::{AllocError, Global};
+use std::collections::BTreeSet;
 use std::marker::Model;
-use std::num::NonZeroUsize;
 
 /// All locks that a client holds, of all targets, each with a count of pins and a mark. A lock is last used
 /// where it was granted or last unpinned.
@@ -24,22 +25,22 @@ use std::num::NonZeroUsize;
 pub struct Held {
     /// How many locks that are neither pinned nor marked may be kept.
     unused: u32,
-    /// The locks, the most recently used first. It is made to have room for all.
+    /// The locks, the most recently used first; none falls out.
     uses: LruCache<LockName, HeldLock>,
     /// Their names, by target and then by cookie.
-    names: Vec<LockName>,
+    names: BTreeSet<LockName>,
 }
 
 impl Model for Held {
     ghost use Rattle.std.specs.Map.{values_of};
     ghost use Rattle.lu_held.specs.Held.{HeldState};
-    ghost use Rattle.lu_held.specs.Kept.{IsKept};
+    ghost use Rattle.lu_held.specs.Kept.{IsStored};
 
     ghost Value = { HeldState };
 
     ghost view = { λ h. record { unused = h.unused; locks = values_of h.uses.entries } };
 
-    ghost invariant = { λ h. IsKept h.names.items h.uses.entries };
+    ghost invariant = { λ h. IsStored h.names.keys h.uses };
 }
 
 impl Held {
@@ -50,8 +51,8 @@ impl Held {
     {
         Ok(Held {
             unused,
-            uses: LruCache::new(alloc, NonZeroUsize::MIN)?,
-            names: Vec::new(alloc),
+            uses: LruCache::unbounded(alloc)?,
+            names: BTreeSet::new(alloc),
         })
     }
 
@@ -70,9 +71,8 @@ impl Held {
             marked: false,
         };
         let name = held.name();
-        let place = place_for(&self.names, &name);
         put_first(&mut self.uses, name, held)?;
-        if self.names.insert(place, name).is_err() {
+        if self.names.insert(name).is_err() {
             self.uses.pop(&name);
             return Err(Memory);
         }
@@ -89,7 +89,8 @@ impl Held {
         mode: Mode,
         policy: Policy,
     ) -> Option<Cookie>
-        ensures serving { result ≡ option_map (λ held. held.lock.cookie) (serving (record { target = target; resource = resource; mode = mode; policy = policy }) self.now.locks) }
+        ensures serving { result
+            ≡ option_map cookie_of (serving (use_of target resource mode policy) self.now.locks) }
         ensures sound { IsSound self.now }
     {
         let wanted = Use {
@@ -98,10 +99,19 @@ impl Held {
             mode,
             policy,
         };
-        match self.name_at(Wanted::ServingToTheEnd(wanted), 0) {
-            Some(name) => Some(name.cookie),
-            None => Some(self.name_at(Wanted::Serving(wanted), 0)?.cookie),
-        }
+        Some(self.serving(wanted)?.cookie)
+    }
+
+    /// The held lock that `match_lock` names.
+    pub fn serving(&self, wanted: Use) -> Option<&Lock>
+        ensures serving { option_copied result ≡ option_map lock_of (serving wanted self.now.locks) }
+        ensures sound { IsSound self.now }
+    {
+        let held = match self.held_at(Wanted::ServingToTheEnd(wanted), 0) {
+            Some(held) => held,
+            None => self.held_at(Wanted::Serving(wanted), 0)?,
+        };
+        Some(&held.lock)
     }
 
     /// The held locks of this target and resource that aren't marked and hold this offset, in rising cookie, from
@@ -113,7 +123,8 @@ impl Held {
         offset: u64,
         at: usize,
     ) -> Option<&Lock>
-        ensures lock { option_copied result ≡ option_map (λ held. held.lock) (slice_get (those (wanted.Holding target resource offset) self.now.locks) at) }
+        ensures lock { option_copied result
+            ≡ option_map lock_of (slice_get (those (wanted.Holding target resource offset) self.now.locks) at) }
         ensures sound { IsSound self.now }
     {
         let held = self.held_at(Wanted::Holding(target, resource, offset), at)?;
@@ -123,7 +134,7 @@ impl Held {
     /// Marks a lock: it is called back. False where it isn't held; then nothing has changed.
     pub fn block(&mut self, target: TargetId, cookie: Cookie) -> bool
         ensures held { result ≡ is_held (named target cookie) self.old.locks }
-        ensures marked { self.new ≡ record self.old { locks = changed (named target cookie) change.Mark self.old.locks } }
+        ensures marked { self.new ≡ with_change (named target cookie) change.Mark self.old }
         ensures sound { IsSound self.new }
     {
         self.change(LockName { target, cookie }, Change::Mark)
@@ -132,28 +143,29 @@ impl Held {
     /// Pins a lock: it is in use. False where it isn't held; then nothing has changed.
     pub fn pin(&mut self, target: TargetId, cookie: Cookie) -> bool
         ensures held { result ≡ is_held (named target cookie) self.old.locks }
-        ensures pinned { self.new ≡ record self.old { locks = changed (named target cookie) change.Pin self.old.locks } }
+        ensures pinned { self.new ≡ with_change (named target cookie) change.Pin self.old }
         ensures sound { IsSound self.new }
     {
         self.change(LockName { target, cookie }, Change::Pin)
     }
 
     /// Takes one pin from a lock, which is the last used then. False where it isn't held; then nothing has
-    /// changed. It takes no memory.
-    pub fn unpin(&mut self, target: TargetId, cookie: Cookie) -> Result<bool, Memory>
-        ensures held { IfOk result (λ held. held ≡ is_held (named target cookie) self.old.locks) }
-        ensures unpinned { self.new ≡ record self.old { locks = used (named target cookie) (changed (named target cookie) change.Unpin self.old.locks) } }
+    /// changed.
+    pub fn unpin(&mut self, target: TargetId, cookie: Cookie) -> bool
+        ensures held { result ≡ is_held (named target cookie) self.old.locks }
+        ensures unpinned { self.new
+            ≡ with_last (named target cookie) (with_change (named target cookie) change.Unpin self.old) }
         ensures sound { IsSound self.new }
     {
         let name = LockName { target, cookie };
         let held = self.change(name, Change::Unpin);
         self.use_now(name);
-        Ok(held)
+        held
     }
 
     /// The marked locks that aren't pinned, by target and then by cookie, from place 0 on; none past the last.
     pub fn ready_to_cancel(&self, at: usize) -> Option<(TargetId, Cookie)>
-        ensures ready { result ≡ option_map (λ held. (held.target, held.lock.cookie)) (slice_get (those wanted.Ready self.now.locks) at) }
+        ensures ready { result ≡ option_map pair_of (slice_get (those wanted.Ready self.now.locks) at) }
         ensures sound { IsSound self.now }
     {
         let name = self.name_at(Wanted::Ready, at)?;
@@ -167,13 +179,14 @@ impl Held {
         ensures sound { IsSound self.new }
     {
         let name = LockName { target, cookie };
-        self.names.retain(|other| name != *other);
+        self.names.remove(&name);
         self.uses.pop(&name).is_some()
     }
 
     /// The held locks of this target in rising cookie, from place 0 on; none past the last.
     pub fn lock(&self, target: TargetId, at: usize) -> Option<&Lock>
-        ensures lock { option_copied result ≡ option_map (λ held. held.lock) (slice_get (those (wanted.Of target) self.now.locks) at) }
+        ensures lock { option_copied result
+            ≡ option_map lock_of (slice_get (those (wanted.Of target) self.now.locks) at) }
         ensures sound { IsSound self.now }
     {
         let held = self.held_at(Wanted::Of(target), at)?;
@@ -182,16 +195,13 @@ impl Held {
 
     /// The cookies of the marked locks of this target, rising.
     pub fn marked(&self, alloc: Global, target: TargetId) -> Result<Cookies, Memory>
-        ensures marked { IfOk result (λ cookies. cookies ≡ map (λ held. held.lock.cookie) (those (wanted.Marked target) self.now.locks)) }
+        ensures marked { IfOk result (λ cookies.
+            cookies ≡ map cookie_of (those (wanted.Marked target) self.now.locks)) }
         ensures sound { IsSound self.now }
     {
-        let mut cookies = Cookies::new(alloc);
-        for name in &self.names {
-            if self.is_wanted(*name, Wanted::Marked(target)) {
-                cookies.push(name.cookie)?;
-            }
-        }
-        Ok(cookies)
+        let wanted = Wanted::Marked(target);
+        let cookies = cookies_among(alloc, &self.names, &self.uses, wanted)?;
+        Ok(Cookies::from(cookies))
     }
 
     /// Takes the marks of this target's locks away.
@@ -207,7 +217,7 @@ impl Held {
     /// Where more locks than may be kept are neither pinned nor marked, marks the least recently used of them,
     /// and answers it; none where at most as many are.
     pub fn trim(&mut self) -> Option<(TargetId, Cookie)>
-        ensures trimmed { result ≡ option_map (λ held. (held.target, held.lock.cookie)) (to_trim self.old) }
+        ensures trimmed { result ≡ option_map pair_of (to_trim self.old) }
         ensures marked { self.new ≡ trimmed self.old }
         ensures none { IfNone result (length (filter is_free self.old.locks) ≤ self.old.unused) }
         ensures some { IfSome result (λ _. self.old.unused < length (filter is_free self.old.locks)) }
@@ -221,21 +231,12 @@ impl Held {
         Some((name.target, name.cookie))
     }
 
-    /// The lock of this name.
-    fn held(&self, name: LockName) -> Option<&HeldLock>
-        ensures { option_copied result ≡ find (is_named name) self.now.locks }
+    /// The held lock of this name.
+    pub fn held(&self, name: LockName) -> Option<&HeldLock>
+        ensures held { option_copied result ≡ find (is_named name) self.now.locks }
+        ensures sound { IsSound self.now }
     {
         self.uses.peek(&name)
-    }
-
-    /// Whether the lock of this name is one of those that are looked for.
-    fn is_wanted(&self, name: LockName, wanted: Wanted) -> bool
-        ensures { result ≡ option_map_or (matches wanted) (find (is_named name) self.now.locks) false }
-    {
-        match self.held(name) {
-            Some(held) => held.matches(wanted),
-            None => false,
-        }
     }
 
     /// The names of those that are looked for, by target and then by cookie, from place 0 on; none past the last.
@@ -243,16 +244,7 @@ impl Held {
         ensures name { result ≡ option_map name_of (slice_get (those wanted self.now.locks) at) }
         ensures sound { IsSound self.now }
     {
-        let mut left = at;
-        for name in &self.names {
-            if self.is_wanted(*name, wanted) {
-                if left == 0 {
-                    return Some(*name);
-                }
-                left -= 1;
-            }
-        }
-        None
+        name_among(&self.names, &self.uses, wanted, at)
     }
 
     /// The same as locks.
@@ -267,7 +259,7 @@ impl Held {
     /// Does this to the lock of this name. False where it isn't held; then nothing has changed.
     fn change(&mut self, name: LockName, change: Change) -> bool
         ensures held { result ≡ is_held name self.old.locks }
-        ensures changed { self.new ≡ record self.old { locks = changed name change self.old.locks } }
+        ensures changed { self.new ≡ with_change name change self.old }
         ensures sound { IsSound self.new }
     {
         let Some(held) = self.uses.peek_mut(&name) else {
@@ -279,7 +271,7 @@ impl Held {
 
     /// Makes the lock of this name the last used.
     fn use_now(&mut self, name: LockName)
-        ensures used { self.new ≡ record self.old { locks = used name self.old.locks } }
+        ensures used { self.new ≡ with_last name self.old }
         ensures sound { IsSound self.new }
     {
         self.uses.promote(&name);
@@ -294,26 +286,70 @@ impl Held {
 
     /// The name of the least recently used lock that is neither pinned nor marked.
     fn oldest_free(&self) -> Option<LockName>
-        ensures { result ≡ option_map name_of (slice_get (filter is_free self.now.locks) (length (filter is_free self.now.locks) - 1)) }
+        ensures { result ≡ option_map name_of (last_of (filter is_free self.now.locks)) }
     {
         last_free(&self.uses)
     }
 }
 
-/// Puts a lock that isn't there in front; none falls out, since there is made room for one more.
+/// Puts a lock that isn't there in front; none falls out, since there is always room for one more.
 fn put_first(
     uses: &mut LruCache<LockName, HeldLock>,
     name: LockName,
     held: HeldLock,
 ) -> Result<(), Memory>
     requires absent { lookup (same_name name) uses.old.entries ≡ None }
+    requires room { uses.old.cap ≡ unbounded }
     ensures first { OnOk result (uses.new.entries ≡ (name, held) ∷ uses.old.entries) }
+    ensures room { uses.new.cap ≡ unbounded }
     ensures kept { OnErr result (uses.new.entries ≡ uses.old.entries) }
 {
-    let room = NonZeroUsize::MIN.saturating_add(uses.len());
-    uses.resize(room);
+    prove!(uses.len() < usize::MAX);
     uses.put(name, held)?;
     Ok(())
+}
+
+/// Whether the lock of this name is one of those that are looked for.
+fn is_wanted(uses: &LruCache<LockName, HeldLock>, name: &LockName, wanted: Wanted) -> bool
+    ensures { result ≡ is_asked wanted uses.now.entries name.now }
+{
+    match uses.peek(name) {
+        Some(held) => held.matches(wanted),
+        None => false,
+    }
+}
+
+/// The name at this place of those whose locks are looked for; none past the last.
+fn name_among(
+    names: &BTreeSet<LockName>,
+    uses: &LruCache<LockName, HeldLock>,
+    wanted: Wanted,
+    at: usize,
+) -> Option<LockName>
+    ensures { result ≡ slice_get (filter (is_asked wanted uses.now.entries) names.now.keys) at }
+{
+    names
+        .iter()
+        .filter(|name| is_wanted(uses, *name, wanted))
+        .nth(at)
+        .copied()
+}
+
+/// The cookies of the locks that are looked for, in the order of their names.
+fn cookies_among(
+    alloc: Global,
+    names: &BTreeSet<LockName>,
+    uses: &LruCache<LockName, HeldLock>,
+    wanted: Wanted,
+) -> Result<Vec<Cookie>, AllocError>
+    ensures { IfOk result (λ cookies. cookies.items
+        ≡ map (λ name. name.cookie) (filter (is_asked wanted uses.now.entries) names.now.keys)) }
+{
+    names
+        .iter()
+        .filter(|name| is_wanted(uses, *name, wanted))
+        .map(|name| name.cookie)
+        .collect(alloc)
 }
 
 /// How many locks are neither pinned nor marked.

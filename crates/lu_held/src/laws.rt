@@ -1,6 +1,7 @@
 //! The laws of order and choice among held locks, for every list of locks.
 //!
-//! These functions do nothing: each carries laws to a caller's proof. The same laws are lemmas of `proofs/Choices.antt`.
+//! These functions do nothing: each carries laws to a caller's proof. The same laws are lemmas of
+//! `proofs/Choices.antt`.
 
 ghost use Rattle.std.specs.Prelude.{◌≡◌, true, false, List, All, AllPairs, Contains, IfSome, IfNone};
 ghost use Rattle.lu_held.specs.declared.locks.HeldLock.{HeldLock};
@@ -18,7 +19,11 @@ pub fn order()
 /// The lock that does for a use is one that does, and the best of them; there is none only where none does.
 pub fn choice()
     ensures held { (wanted : Use) (locks : List HeldLock) → IfSome (serving wanted locks) (Contains locks) }
-    ensures serves { (wanted : Use) (locks : List HeldLock) → IfSome (serving wanted locks) (λ held. serves_use wanted held ≡ true) }
-    ensures none { (wanted : Use) (locks : List HeldLock) → IfNone (serving wanted locks) (All (λ held. serves_use wanted held ≡ false) locks) }
-    ensures best { (wanted : Use) (locks : List HeldLock) → IsOnce locks → IfSome (serving wanted locks) (λ held. All (λ other. serves_use wanted other ≡ true → IsBest held other) locks) }
+    ensures serves { (wanted : Use) (locks : List HeldLock) →
+        IfSome (serving wanted locks) (λ held. serves_use wanted held ≡ true) }
+    ensures none { (wanted : Use) (locks : List HeldLock) →
+        IfNone (serving wanted locks) (All (λ held. serves_use wanted held ≡ false) locks) }
+    ensures best { (wanted : Use) (locks : List HeldLock) → IsOnce locks →
+        IfSome (serving wanted locks) (λ held.
+        All (λ other. serves_use wanted other ≡ true → IsBest held other) locks) }
 {}

@@ -9,4 +9,5 @@ mod names;
 mod tests;
 
 pub use held::Held;
-pub use locks::HeldLock;
+pub use locks::{HeldLock, Use};
+pub use names::LockName;

@@ -26,6 +26,23 @@ fn lock(cookie: u64, mode: Mode, first: u64, last: u64) -> Lock {
     }
 }
 
+fn wanted(mode: Mode, first: u64, last: u64) -> Use {
+    Use {
+        target: T1,
+        resource: OBJECT,
+        mode,
+        policy: range(first, last),
+    }
+}
+
+/// The name of a lock of `t1`.
+fn name(cookie: u64) -> LockName {
+    LockName {
+        target: T1,
+        cookie: Cookie(cookie),
+    }
+}
+
 /// Holds a lock of `t1`, without pins and mark.
 fn hold_anew(held: &mut Held, lock: Lock) -> Result<(), Memory> {
     held.remove(T1, lock.cookie);
@@ -53,7 +70,7 @@ fn a_lock_is_held_called_back_and_given_up(rt: HostRuntime) -> Result<(), Fail> 
     assert!(rt; held.pin(T1, Cookie(1)));
     assert_eq!(rt; held.ready_to_cancel(0), None);
     assert!(rt; held.remove(T1, Cookie(1)));
-    assert_eq!(rt; held.unpin(T1, Cookie(1))?, false);
+    assert_eq!(rt; held.unpin(T1, Cookie(1)), false);
     Ok(())
 }
 
@@ -77,10 +94,15 @@ fn the_lock_for_a_use_is_found(rt: HostRuntime) -> Result<(), Fail> {
     for (mode, first, last, found) in uses {
         let cookie = held.match_lock(T1, OBJECT, mode, range(first, last));
         assert_eq!(rt; cookie, found);
+        let serving = held.serving(wanted(mode, first, last));
+        assert!(rt; serving.map(|lock| lock.cookie) == found);
     }
     let order: [Option<Lock>; 4] = [Some(locks[2]), Some(locks[0]), Some(locks[3]), None];
     for (place, lock) in order.into_iter().enumerate() {
         assert!(rt; held.covering(T1, OBJECT, 150, place).copied() == lock);
+    }
+    for (cookie, lock) in [(2, Some(locks[1])), (3, Some(locks[2])), (6, None)] {
+        assert!(rt; held.held(name(cookie)).map(|held| held.lock) == lock);
     }
     assert!(rt; held.lock(T1, 0).copied() == Some(locks[1]));
     assert!(rt; held.lock(T1, 4).is_none());
@@ -98,7 +120,7 @@ fn the_least_recently_used_is_trimmed(rt: HostRuntime) -> Result<(), Fail> {
     assert_eq!(rt; held.ready_to_cancel(0), None);
     assert!(rt; held.pin(T1, Cookie(2)));
     assert_eq!(rt; held.trim(), None);
-    assert_eq!(rt; held.unpin(T1, Cookie(2))?, true);
+    assert_eq!(rt; held.unpin(T1, Cookie(2)), true);
     assert_eq!(rt; held.trim(), Some((T1, Cookie(1))));
     Ok(())
 }

@@ -1,4 +1,6 @@
 pub mod Resources
-pub mod Counts
+pub mod Places
 pub mod Laws
+pub mod Ended
 pub mod Lists
+pub mod Guarded

@@ -1,22 +1,18 @@
 -- Cookies in order, and relations over the rest of a list.
-use Rattle.std.proofs.Common.{◌≡◌, ℕ, suc, ◌+◌, ◌<◌, ◌≤◌, ◌==◌, Bool, true, false, cond, List, [], ◌∷◌, ◌++◌, length, map, filter, take, drop, get_or, refl, sym, ◌∙◌, ap, subst, arith, IsPermutation}
-use Rattle.std.specs.List.{list_any, count_by}
+use Rattle.std.proofs.Common.{◌≡◌, ℕ, suc, ◌+◌, ◌<◌, ◌≤◌, ◌==◌, Bool, true, false, cond, List, [], ◌∷◌, ◌++◌, length, map, filter, take, drop, get_or, refl, sym, subst, arith, IsPermutation}
+use Rattle.std.specs.List.{count_by}
 use Rattle.std.proofs.lemmas.Grind.{common_steps}
 use Rattle.std.proofs.lemmas.Bool.Decides.{nat_tests}
-use Rattle.std.proofs.lemmas.List.{append_assoc, take_more}
+use Rattle.std.proofs.lemmas.List.{append_assoc}
 use Rattle.std.proofs.Math.Seq.{drop-cons}
-use Rattle.std.proofs.lemmas.List.Elements.{filter-append}
 use Rattle.std.proofs.lemmas.List.Sums.{count_by_more_yes, sum_by-take-drop}
 use Rattle.std.proofs.lemmas.List.Sorted.{sum_by-IsPermutation}
 use Rattle.lu_base.specs.declared.ids.Cookie.{Cookie}
-use Rattle.lu_base.specs.declared.ids.Who.{Who}
 use Rattle.lu_base.specs.declared.locks.Lock.{Lock}
-use Rattle.lu_base.specs.declared.locks.Resource.{Resource}
 use Rattle.lu_queue.specs.declared.locks.Grant.{Grant}
 use Rattle.lu_queue.specs.Queues as queue
-use Rattle.lu_queue.specs.Queues.{AreGranted, IsRising}
-use Rattle.lu_lockspace.specs.Spaces.{SpaceState, same_resource, queue_of, KeepsOthers, without_lives, blocking_more, AreBlocking, AllSettled, times}
-use Rattle.lu_lockspace.proofs.Resources.{same_is}
+use Rattle.lu_queue.specs.Queues.{IsRising}
+use Rattle.lu_lockspace.specs.Spaces.{blocking_more, AreBlocking, times}
 
 abbrev number_of : ℕ → List Cookie → ℕ
 number_of n cookies = count_by (λ cookie. cookie.0 == n) cookies
@@ -82,29 +78,3 @@ pub blocking_step : (granted waiting : List Grant) (i : ℕ) (d : Grant) (told f
 blocking_step granted waiting i d told first within moved rising goes_on rest h =
     subst (AreBlocking granted waiting []) (sym (append_assoc told first rest))
     (goes_on (first ++ rest) (subst (λ ws. AreBlocking granted ws told (first ++ rest)) (sym (rest_at waiting i d within)) (first, rest, refl, rising, moved, h)))
-
-pub settled_step : (lives : List Who) (resources : List Resource) (start now next : SpaceState) (i : ℕ) (d : Resource) (grants first : List Grant) → i < length resources →
-    AreGranted (without_lives lives (queue_of (get_or resources i d) now)) first (queue_of (get_or resources i d) next) → KeepsOthers (get_or resources i d) now next →
-    ((rest : List Grant) (after : SpaceState) → AllSettled lives (drop i resources) now rest after → AllSettled lives resources start (grants ++ rest) after) →
-    (rest : List Grant) (after : SpaceState) → AllSettled lives (drop (i + 1) resources) next rest after → AllSettled lives resources start ((grants ++ first) ++ rest) after
-settled_step lives resources start now next i d grants first within steps others goes_on rest after h =
-    subst (λ gs. AllSettled lives resources start gs after) (sym (append_assoc grants first rest))
-    (goes_on (first ++ rest) after (subst (λ rs. AllSettled lives rs now (first ++ rest) after) (sym (rest_at resources i d within)) (first, rest, next, refl, steps, others, h)))
-
--- ---- the resources that have locks
-
-pub same_turned : (a b : Resource) → same_resource a b ≡ same_resource b a
-same_turned a b = grind (arith, nat_tests)
-
-pub listed_apart : (other resource : Resource) (all : List Resource) → list_any (same_resource other) all ≡ false → list_any (same_resource resource) all ≡ true → same_resource other resource ≡ false
-listed_apart other resource all none some = by (same_resource other resource) refl where
-  by : (v : Bool) → same_resource other resource ≡ v → v ≡ false
-  by false e = refl
-  by true e = let clash : list_any (same_resource resource) all ≡ false = subst (λ r. list_any (same_resource r) all ≡ false) (same_is other resource e) none in absurd (cc)
-
-pub none_more : (r : Resource) (locks : List Lock) (i : ℕ) (d : Lock) → i < length locks → filter (λ lock. same_resource lock.resource r) (take i locks) ≡ [] →
-    same_resource r (get_or locks i d).resource ≡ false → filter (λ lock. same_resource lock.resource r) (take (i + 1) locks) ≡ []
-none_more r locks i d within none apart =
-    ap (filter (λ lock. same_resource lock.resource r)) (take_more locks i d within)
-    ∙ filter-append (λ lock. same_resource lock.resource r) (take i locks) (get_or locks i d ∷ [])
-    ∙ rw (none, same_turned (get_or locks i d).resource r, apart) refl

@@ -1,1 +1,4 @@
 pub mod Spaces
+pub mod Entries
+pub mod Ending
+pub mod Guarded

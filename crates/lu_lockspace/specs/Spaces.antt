@@ -12,8 +12,7 @@ use Rattle.lu_lock.specs.Conflict.{conflict}
 use Rattle.lu_part.specs.declared.parts.Part.{Part}
 use Rattle.lu_part.specs.Guards.{guard}
 use Rattle.lu_queue.specs.declared.locks.Grant.{Grant}
-use Rattle.lu_queue.specs.Queues as queue
-use Rattle.lu_queue.specs.Queues.{QueueState, without, AreGranted, IsRising, IsQueue}
+use Rattle.lu_queue.specs.Queues.{QueueState, without, without_lives, AreGranted, IsRising, IsQueue}
 
 -- The granted locks, those of one resource in the order in which they were granted; and the waiting ones, those of one
 -- resource in order of arrival.
@@ -44,11 +43,6 @@ queue_of resource space = record { granted = grants_on resource space.granted; w
 abbrev pub lock_on : Resource → Grant → Lock
 lock_on resource grant = record { cookie = grant.cookie; resource = resource; ask = grant.ask }
 
--- A list of locks with these in the place of those on this resource.
-abbrev pub replaced : Resource → List Grant → List Lock → List Lock
-replaced resource grants locks =
-    filter (λ lock. not (same_resource lock.resource resource)) locks ++ map (lock_on resource) grants
-
 -- The same locks, none of whose cookies is below that of the one before it.
 pub record IsInOrder (locks order : List Lock) : Type 0 where
   pub same : IsPermutation locks order
@@ -57,8 +51,8 @@ pub record IsInOrder (locks order : List Lock) : Type 0 where
 -- The lock at this place among those on a resource, in rising cookie; none past the last.
 pub record IsAt (resource : Resource) (at : ℕ) (locks : List Lock) (found : Option Lock) : Type 0 where
   pub order : List Lock
-  pub rising : IsInOrder locks order
-  pub is : found ≡ slice_get (filter (λ lock. same_resource lock.resource resource) order) at
+  pub rising : IsInOrder (filter (λ lock. same_resource lock.resource resource) locks) order
+  pub is : found ≡ slice_get order at
 
 -- Other queues than that of this resource are as they were.
 abbrev pub KeepsOthers : Resource → SpaceState → SpaceState → Type 0
@@ -88,11 +82,6 @@ pub record IsCancelled (cookie : ℕ) (before : SpaceState) (grants : List Grant
   pub granted : AreGranted (without cookie (queue_of lock.resource before)) grants (queue_of lock.resource after)
   pub others : KeepsOthers lock.resource before after
 
--- No cookie is more often in the first queue.
-abbrev pub Fewer : QueueState → QueueState → Type 0
-Fewer less more =
-    (cookie : ℕ) → queue.times cookie less.granted + queue.times cookie less.waiting ≤ queue.times cookie more.granted + queue.times cookie more.waiting
-
 -- ---- what always holds
 
 -- The queue of each resource is one, and no cookie is there twice.
@@ -101,9 +90,6 @@ pub record IsSpace (space : SpaceState) : Type 0 where
   pub once : (cookie : ℕ) → times cookie space.granted + times cookie space.waiting ≤ 1
 
 -- ---- the granted locks of a life, and those in the way of a change
-
-abbrev pub same_who : Who → Who → Bool
-same_who a b = a.client == b.client && a.life == b.life
 
 -- Whether a lock meets the guard of a part, taken in mode EX.
 abbrev pub is_guarded : Part → Lock → Bool
@@ -135,17 +121,6 @@ AreBlocking granted (lock ∷ waiting) told cookies =
 
 -- ---- all locks of some lives
 
--- Whether a lock is of one of these lives.
-abbrev pub is_of : List Who → Grant → Bool
-is_of lives lock = list_any (λ who. same_who who lock.ask.who) lives
-
--- A queue without the locks of these lives.
-abbrev pub without_lives : List Who → QueueState → QueueState
-without_lives lives all = record {
-  granted = filter (λ lock. not (is_of lives lock)) all.granted;
-  waiting = filter (λ lock. not (is_of lives lock)) all.waiting;
-}
-
 -- On these resources, one after another, the locks of these lives are taken away and what may be granted then is granted.
 abbrev pub AllSettled : List Who → List Resource → SpaceState → List Grant → SpaceState → Type 0
 AllSettled lives [] before grants after = (grants ≡ []) × (after ≡ before)
@@ -158,9 +133,9 @@ AllSettled lives (resource ∷ resources) before grants after =
 abbrev pub IsBefore : Resource → Resource → Type 0
 IsBefore a b = (a.fid.0 ≤ b.fid.0) × ((a.fid.0 ≡ b.fid.0) → a.stripe ≤ b.stripe)
 
--- So it is done on all resources that have locks, in rising order.
+-- So it is done on all resources on which these lives have locks, in rising order.
 pub record AreCancelled (lives : List Who) (before : SpaceState) (grants : List Grant) (after : SpaceState) : Type 0 where
   pub resources : List Resource
   pub rising : (place : ℕ) (d : Resource) → place + 1 < length resources → IsBefore (slice_index_or resources place d) (slice_index_or resources (place + 1) d)
-  pub every : (resource : Resource) → list_any (same_resource resource) resources ≡ false → queue_of resource before ≡ record { granted = []; waiting = [] }
+  pub every : (resource : Resource) → list_any (same_resource resource) resources ≡ false → without_lives lives (queue_of resource before) ≡ queue_of resource before
   pub settled : AllSettled lives resources before grants after

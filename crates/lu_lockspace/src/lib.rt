@@ -3,7 +3,7 @@
 
 mod ending;
 mod listing;
-mod locks;
+mod queues;
 mod space;
 #[cfg(test)]
 mod tests;

@@ -1,36 +1,41 @@
-//! What is told of the locks of a target.
+//! What is told of the locks of a queue.
 
-ghost use Rattle.std.specs.Prelude.{◌≡◌, ℕ, ◌+◌, ◌<◌, ◌≤◌, ◌&&◌, not, List, [], IfOk, map, filter, length, slice_get, slice_index_or, IsPermutation};
+ghost use Rattle.std.specs.Prelude.{◌≡◌, ℕ, ◌+◌, ◌<◌, ◌≤◌, ◌&&◌, not, false, List, [], IfOk, map, filter, length, slice_index_or, IsPermutation};
 ghost use Rattle.std.specs.List.{list_any};
-ghost use Rattle.std.specs.Option.{option_copied};
 ghost use Rattle.lu_lock.specs.Conflict.{conflict};
-ghost use Rattle.lu_queue.specs.Queues.{IsRising, IsOnce};
-ghost use Rattle.lu_lockspace.specs.Spaces.{same_resource, same_who, is_guarded, is_told, blocking_more, AreBlocking, times, AreCookiesOf};
+ghost use Rattle.lu_queue.specs.Queues.{lock_of, same_who, IsRising, IsOnce};
+ghost use Rattle.std.specs.Option.{option_map};
+ghost use Rattle.lu_lockspace.specs.Spaces.{same_resource, lock_on, is_guarded, is_told, blocking_more, AreBlocking};
+ghost use Rattle.lu_base.specs.declared.locks.Resource.{Resource};
+ghost use Rattle.lu_lockspace.specs.Guarded.{is_listed, AreApart, AreGuards};
 
 use lu_base::{Ask, Cookie, Cookies, Lock, Memory, Mode, Resource, Who};
 use lu_lock::conflict;
 use lu_part::{Part, guard};
-use lu_queue::Grant;
+use lu_queue::{Grant, Queue};
 use std::alloc::Global;
 
-/// The lock on this resource at this place among those of the list, from 0; none past the last.
-pub(crate) fn nth_on(locks: &[Lock], resource: Resource, at: usize) -> Option<&Lock>
-    ensures { option_copied result ≡ slice_get (filter (λ lock. same_resource lock.resource resource) locks.now) at }
+/// A lock of a queue as one of the target's, on this resource.
+pub(crate) fn lock_on(resource: Resource, grant: Grant) -> Lock
+    ensures { result ≡ lock_on resource grant }
 {
-    let mut left = at;
-    for lock in locks {
-        if lock.resource == resource {
-            if left == 0 {
-                return Some(lock);
-            }
-            left -= 1;
-        }
+    Lock {
+        cookie: grant.cookie,
+        resource,
+        ask: grant.ask,
     }
-    None
+}
+
+/// The lock of this cookie in the queue of a resource.
+pub(crate) fn lock_in(resource: Resource, queue: &Queue, cookie: Cookie) -> Option<Lock>
+    ensures { result ≡ option_map (lock_on resource) (lock_of cookie.0 queue.now) }
+{
+    let grant = queue.find(cookie)?;
+    Some(lock_on(resource, *grant))
 }
 
 /// The cookies, sorted.
-fn sorted(mut cookies: Vec<Cookie>) -> Cookies
+pub(crate) fn sorted(mut cookies: Vec<Cookie>) -> Cookies
     ensures same { IsPermutation cookies.items result }
     ensures rising { (place : ℕ) (d : Cookie) → place + 1 < length result → (slice_index_or result place d).0 ≤ (slice_index_or result (place + 1) d).0 }
 {
@@ -39,7 +44,7 @@ fn sorted(mut cookies: Vec<Cookie>) -> Cookies
 }
 
 /// The cookies of the locks of a life.
-fn of_life(alloc: Global, locks: &[Lock], who: Who) -> Result<Vec<Cookie>, Memory>
+pub(crate) fn of_life(alloc: Global, locks: &[Grant], who: Who) -> Result<Vec<Cookie>, Memory>
     ensures { IfOk result (λ cookies. cookies.items ≡ map (λ lock. lock.cookie) (filter (λ lock. same_who lock.ask.who who) locks.now)) }
 {
     let cookies = locks
@@ -48,14 +53,6 @@ fn of_life(alloc: Global, locks: &[Lock], who: Who) -> Result<Vec<Cookie>, Memor
         .map(|lock| lock.cookie)
         .collect(alloc)?;
     Ok(cookies)
-}
-
-/// The cookies of the locks of a life, rising.
-pub(crate) fn cookies_of(alloc: Global, locks: &[Lock], who: Who) -> Result<Cookies, Memory>
-    requires { (cookie : ℕ) → times cookie locks.now ≤ 1 }
-    ensures { IfOk result (AreCookiesOf (λ lock. same_who lock.ask.who who) locks.now) }
-{
-    Ok(sorted(of_life(alloc, locks, who)?))
 }
 
 /// Whether a lock meets the guard of a part, taken in mode EX.
@@ -78,24 +75,51 @@ fn meets_guard(parts: &[Part], lock: &Lock) -> bool
     parts.iter().any(|part| is_guarded(part, lock))
 }
 
-/// The cookies of the locks that meet a guard of the parts.
-fn guarded(alloc: Global, locks: &[Lock], parts: &[Part]) -> Result<Vec<Cookie>, Memory>
-    ensures { IfOk result (λ cookies. cookies.items ≡ map (λ lock. lock.cookie) (filter (λ lock. list_any (λ part. is_guarded part lock) parts.now) locks.now)) }
+/// The cookies of the locks on this resource that meet a guard of the parts.
+pub(crate) fn guarded(
+    alloc: Global,
+    resource: Resource,
+    locks: &[Grant],
+    parts: &[Part],
+) -> Result<Vec<Cookie>, Memory>
+    ensures { IfOk result (λ cookies. cookies.items ≡ map (λ lock. lock.cookie) (filter (λ lock. list_any (λ part. is_guarded part (lock_on resource lock)) parts.now) locks.now)) }
 {
     let cookies = locks
         .iter()
-        .filter(|lock| meets_guard(parts, lock))
+        .filter(|lock| meets_guard(parts, &lock_on(resource, **lock)))
         .map(|lock| lock.cookie)
         .collect(alloc)?;
     Ok(cookies)
 }
 
-/// The cookies of the locks that meet a guard of the parts, rising.
-pub(crate) fn clashing(alloc: Global, locks: &[Lock], parts: &[Part]) -> Result<Cookies, Memory>
-    requires { (cookie : ℕ) → times cookie locks.now ≤ 1 }
-    ensures { IfOk result (AreCookiesOf (λ lock. list_any (λ part. is_guarded part lock) parts.now) locks.now) }
+/// Whether the resource is in the list.
+fn is_listed(resources: &[Resource], resource: Resource) -> bool
+    ensures { result ≡ is_listed resource resources.now }
 {
-    Ok(sorted(guarded(alloc, locks, parts)?))
+    resources.iter().any(|other| resource == *other)
+}
+
+/// Adds a resource where it isn't in the list.
+fn add_resource(resources: &mut Vec<Resource>, resource: Resource) -> Result<(), Memory>
+    ensures once { AreApart resources.old.items → AreApart resources.new.items }
+    ensures added { IfOk result (λ _. (other : Resource) → is_listed other resources.new.items ≡ false → (is_listed other resources.old.items ≡ false) × (same_resource other resource ≡ false)) }
+{
+    if is_listed(resources, resource) {
+        return Ok(());
+    }
+    resources.push(resource)?;
+    Ok(())
+}
+
+/// The resources of the guards of the parts, each once.
+pub(crate) fn guards(alloc: Global, parts: &[Part]) -> Result<Vec<Resource>, Memory>
+    ensures { IfOk result (λ resources. AreGuards parts.now resources.items) }
+{
+    let mut resources = Vec::new(alloc);
+    for part in parts {
+        add_resource(&mut resources, guard(part).0)?;
+    }
+    Ok(resources)
 }
 
 /// Whether the cookie is in the list.
@@ -132,11 +156,7 @@ fn more_rising(
 }
 
 /// For each waiting lock in order, the granted locks that block it in rising order, each once.
-pub(crate) fn blocking(
-    alloc: Global,
-    granted: &[Grant],
-    waiting: &[Grant],
-) -> Result<Cookies, Memory>
+fn blocking(alloc: Global, granted: &[Grant], waiting: &[Grant]) -> Result<Cookies, Memory>
     requires { IsOnce granted.now }
     ensures { IfOk result (AreBlocking granted.now waiting.now []) }
 {
@@ -146,4 +166,12 @@ pub(crate) fn blocking(
         cookies.extend_from_slice(first.as_slice())?;
     }
     Ok(Cookies::from(cookies))
+}
+
+/// The same of a queue.
+pub(crate) fn blocking_in(alloc: Global, queue: &Queue) -> Result<Cookies, Memory>
+    ensures { IfOk result (AreBlocking queue.now.granted queue.now.waiting []) }
+{
+    let waiting = queue.waiting_locks(alloc)?;
+    blocking(alloc, queue.granted_locks(), &waiting)
 }

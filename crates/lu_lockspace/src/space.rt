@@ -1,19 +1,21 @@
 //! The lockspace of a target (Wang et al., Understanding Lustre Filesystem Internals, the lock manager).
 
-ghost use Rattle.std.specs.Prelude.{◌≡◌, ℕ, Bool, true, false, List, [], ◌∷◌, ◌++◌, IfOk, OnOk, OnErr, IsErrOf, IsTrue, ◌↔◌, Some, slice_get, filter, map, IsPermutation, is_some};
+ghost use Rattle.std.specs.Prelude.{◌≡◌, ℕ, Bool, true, false, List, [], ◌∷◌, ◌++◌, IfOk, IfSome, OnOk, OnErr, IsErrOf, IsTrue, ◌↔◌, Some, slice_get, filter, map, IsPermutation, is_some};
 ghost use Rattle.std.specs.List.{list_any};
-ghost use Rattle.std.specs.Option.{option_copied};
+ghost use Rattle.std.specs.Option.{option_map};
 ghost use Rattle.lu_lock.specs.Overlap.{IsOrdered};
-ghost use Rattle.lu_queue.specs.Queues.{placed, with_lock, may_restore, restored, without, AreGranted, IsRising};
-ghost use Rattle.lu_lockspace.specs.Spaces.{empty, is_in, has, lock_of, grant_of, queue_of, KeepsOthers, IsSpace, IsCancelled, AreCancelled, IsAt, AreCookiesOf, same_who, is_guarded, AreBlocking};
+ghost use Rattle.lu_queue.specs.Queues.{placed, with_lock, may_restore, restored, same_who, without, AreGranted};
+ghost use Rattle.lu_lockspace.specs.Entries.{IsPlaced};
+ghost use Rattle.lu_lockspace.specs.Spaces.{empty, is_in, has, lock_of, grant_of, queue_of, KeepsOthers, IsSpace, IsCancelled, AreCancelled, IsAt, AreCookiesOf, is_guarded, AreBlocking};
 
-use super::ending::{ended, resources};
-use super::listing::{blocking, clashing, cookies_of, nth_on};
-use super::locks::{Lists, find, grant_of, grants_on, has, lock_on, requeued};
+use super::ending::{ended, replace_all};
+use super::listing::{lock_in, lock_on, sorted};
+use super::queues::Queues;
 use lu_base::{Ask, Cookie, Cookies, Lock, Memory, Resource, Who};
 use lu_part::Parts;
-use lu_queue::{Grants, Placed, as_granted, has_to_wait, other_than};
+use lu_queue::{Grants, Placed, Queue};
 use std::alloc::Global;
+use std::collections::BTreeMap;
 use std::marker::Model;
 
 /// Why a call did nothing.
@@ -40,17 +42,20 @@ impl From<Memory> for SpaceError {
 /// All locks of a target, granted and waiting.
 #[derive(Debug, Drop)]
 pub struct Lockspace {
-    lists: Lists,
+    /// On which resource the lock of a cookie is.
+    places: BTreeMap<Cookie, Resource>,
+    queues: Queues,
 }
 
 impl Model for Lockspace {
-    ghost use Rattle.lu_lockspace.specs.Spaces.{SpaceState, IsSpace};
+    ghost use Rattle.lu_lockspace.specs.Spaces.{SpaceState};
+    ghost use Rattle.lu_lockspace.specs.Entries.{all_of, IsIndexed};
 
     ghost Value = { SpaceState };
 
-    ghost view = { λ space. space.lists };
+    ghost view = { λ space. all_of space.queues };
 
-    ghost invariant = { λ space. IsSpace space.lists };
+    ghost invariant = { λ space. IsIndexed space.queues space.places.entries };
 }
 
 impl Lockspace {
@@ -60,7 +65,8 @@ impl Lockspace {
         ensures lawful { IsSpace result }
     {
         Lockspace {
-            lists: Lists::new(alloc),
+            places: BTreeMap::new(alloc),
+            queues: Queues::new(alloc),
         }
     }
 
@@ -104,23 +110,22 @@ impl Lockspace {
         ensures kept { OnErr result (self.new ≡ self.old) }
         ensures lawful { IsSpace self.new }
     {
-        let Some(lock) = self.find(cookie) else {
+        let Some((resource, _)) = self.queue_with(cookie) else {
             return Err(SpaceError::NoLock);
         };
-        let resource = lock.resource;
         let grants = self.take_away(alloc, cookie, resource)?;
         Ok(grants)
     }
 
     /// The lock of this cookie, granted or waiting; none where no lock has it.
-    pub fn find(&self, cookie: Cookie) -> Option<&Lock>
-        ensures lock { option_copied result ≡ lock_of cookie.0 self.now }
+    pub fn find(&self, cookie: Cookie) -> Option<Lock>
+        ensures lock { result ≡ lock_of cookie.0 self.now }
         ensures found { is_some result ≡ is_in cookie.0 self.now }
         ensures lawful { IsSpace self.now }
     {
-        match find(self.lists.granted(), cookie) {
-            Some(lock) => Some(lock),
-            None => find(self.lists.waiting(), cookie),
+        match self.queue_with(cookie) {
+            Some((resource, queue)) => lock_in(resource, queue, cookie),
+            None => None,
         }
     }
 
@@ -129,7 +134,10 @@ impl Lockspace {
         ensures granted { result ≡ has cookie.0 self.now.granted }
         ensures lawful { IsSpace self.now }
     {
-        has(self.lists.granted(), cookie)
+        match self.queue_with(cookie) {
+            Some((_, queue)) => queue.is_granted(cookie),
+            None => false,
+        }
     }
 
     /// Adds a lock that was granted before, as it was, on a resource on which nothing waits. False, and
@@ -159,18 +167,27 @@ impl Lockspace {
         ensures kept { OnErr result (self.new ≡ self.old) }
         ensures lawful { IsSpace self.new }
     {
-        let resources = resources(alloc, &self.lists)?;
-        let (lists, grants) = ended(alloc, &self.lists, lives, &resources)?;
-        self.lists = lists;
+        let resources = self.queues.of_lives(alloc, lives)?;
+        let (queues, grants) = ended(alloc, &self.queues, lives, &resources)?;
+        replace_all(&mut self.queues, queues);
+        let queues = &self.queues;
+        self.places
+            .retain(|cookie, resource| queues.has(*resource, *cookie));
         Ok(grants)
     }
 
     /// The granted lock on a resource at this place, from 0, in rising cookie; none past the last.
-    pub fn granted(&self, resource: Resource, at: usize) -> Option<&Lock>
-        ensures lock { IsAt resource at self.now.granted (option_copied result) }
+    pub fn granted(&self, resource: Resource, at: usize) -> Option<Lock>
+        ensures lock { IsAt resource at self.now.granted result }
         ensures lawful { IsSpace self.now }
     {
-        nth_on(self.lists.rising(), resource, at)
+        let Some(queue) = self.queues.of(resource) else {
+            return None;
+        };
+        let Some(grant) = queue.rising(at) else {
+            return None;
+        };
+        Some(lock_on(resource, *grant))
     }
 
     /// The cookies of the granted locks of a life, rising.
@@ -178,7 +195,7 @@ impl Lockspace {
         ensures cookies { IfOk result (AreCookiesOf (λ lock. same_who lock.ask.who who) self.now.granted) }
         ensures lawful { IsSpace self.now }
     {
-        cookies_of(alloc, self.lists.granted(), who)
+        Ok(sorted(self.queues.of_life(alloc, who)?))
     }
 
     /// The cookies of the granted locks that meet a guard of these parts, taken in mode EX, rising.
@@ -186,7 +203,7 @@ impl Lockspace {
         ensures cookies { IfOk result (AreCookiesOf (λ lock. list_any (λ part. is_guarded part lock) parts.now) self.now.granted) }
         ensures lawful { IsSpace self.now }
     {
-        clashing(alloc, self.lists.granted(), parts.as_slice())
+        Ok(sorted(self.queues.clashing(alloc, parts.as_slice())?))
     }
 
     /// For each waiting lock of a resource in order, the cookies of the granted locks that block it in rising
@@ -195,9 +212,23 @@ impl Lockspace {
         ensures cookies { IfOk result (AreBlocking (queue_of resource self.now).granted (queue_of resource self.now).waiting []) }
         ensures lawful { IsSpace self.now }
     {
-        let granted = grants_on(alloc, self.lists.granted(), resource)?;
-        let waiting = grants_on(alloc, self.lists.waiting(), resource)?;
-        blocking(alloc, &granted, &waiting)
+        let cookies = self.queues.blockers(alloc, resource)?;
+        Ok(cookies)
+    }
+
+    /// The resource of the lock of this cookie, and its queue; none where no lock has it.
+    fn queue_with(&self, cookie: Cookie) -> Option<(Resource, &Queue)>
+        ensures placed { IsPlaced cookie.0 self.now (option_map (λ found. found.0) result) }
+        ensures queue { IfSome result (λ found. found.1.now ≡ queue_of found.0 self.now) }
+        ensures lawful { IsSpace self.now }
+    {
+        let Some(resource) = self.places.get(&cookie) else {
+            return None;
+        };
+        let Some(queue) = self.queues.of(*resource) else {
+            return None;
+        };
+        Some((*resource, queue))
     }
 
     /// Whether a lock has this cookie.
@@ -205,7 +236,7 @@ impl Lockspace {
         ensures found { result ≡ is_in cookie.0 self.now }
         ensures lawful { IsSpace self.now }
     {
-        has(self.lists.granted(), cookie) || has(self.lists.waiting(), cookie)
+        self.places.contains_key(&cookie)
     }
 
     /// Adds a lock under a cookie that is new here.
@@ -218,20 +249,23 @@ impl Lockspace {
         ensures kept { OnErr result (self.new ≡ self.old) }
         ensures lawful { IsSpace self.new }
     {
-        let granted = grants_on(alloc, self.lists.granted(), lock.resource)?;
-        let waiting = grants_on(alloc, self.lists.waiting(), lock.resource)?;
-        if has_to_wait(&lock.ask, &granted, &waiting) {
-            self.lists.wait(lock)?;
-            return Ok(Placed::Waiting);
+        self.places.insert(lock.cookie, lock.resource)?;
+        match self
+            .queues
+            .enqueue(alloc, lock.resource, lock.cookie, lock.ask)
+        {
+            Ok(placed) => Ok(placed),
+            Err(_) => {
+                self.places.remove(&lock.cookie);
+                Err(Memory)
+            }
         }
-        let grant = as_granted(alloc, grant_of(lock), &granted, &waiting)?;
-        let policy = grant.ask.policy;
-        self.lists.grant(alloc, lock_on(lock.resource, grant))?;
-        Ok(Placed::Granted(policy))
     }
 
     /// Adds a lock under a cookie that is new here, as it was granted.
     fn put_back(&mut self, alloc: Global, lock: Lock) -> Result<bool, Memory>
+        requires ask { IsOrdered lock.ask.policy }
+        requires quiet { (queue_of lock.resource self.old).waiting ≡ [] }
         requires new { is_in lock.cookie.0 self.old ≡ false }
         ensures restored { IfOk result (λ answer. answer ≡ may_restore (grant_of lock) (queue_of lock.resource self.old)) }
         ensures added { OnOk result (queue_of lock.resource self.new ≡ restored (grant_of lock) (queue_of lock.resource self.old)) }
@@ -239,12 +273,21 @@ impl Lockspace {
         ensures kept { OnErr result (self.new ≡ self.old) }
         ensures lawful { IsSpace self.new }
     {
-        let granted = grants_on(alloc, self.lists.granted(), lock.resource)?;
-        if has_to_wait(&lock.ask, &granted, &[]) {
-            return Ok(false);
+        self.places.insert(lock.cookie, lock.resource)?;
+        match self
+            .queues
+            .restore(alloc, lock.resource, lock.cookie, lock.ask)
+        {
+            Ok(true) => Ok(true),
+            Ok(false) => {
+                self.places.remove(&lock.cookie);
+                Ok(false)
+            }
+            Err(_) => {
+                self.places.remove(&lock.cookie);
+                Err(Memory)
+            }
         }
-        self.lists.grant(alloc, lock)?;
-        Ok(true)
     }
 
     /// Takes away the lock of a cookie on this resource, and grants what may be granted then.
@@ -254,17 +297,18 @@ impl Lockspace {
         cookie: Cookie,
         resource: Resource,
     ) -> Result<Grants, Memory>
+        requires { IsPlaced cookie.0 self.old (Some resource) }
         ensures granted { IfOk result (λ grants. AreGranted (without cookie.0 (queue_of resource self.old)) grants (queue_of resource self.new)) }
         ensures others { KeepsOthers resource self.old self.new }
         ensures kept { OnErr result (self.new ≡ self.old) }
         ensures lawful { IsSpace self.new }
     {
-        let granted = grants_on(alloc, self.lists.granted(), resource)?;
-        let waiting = grants_on(alloc, self.lists.waiting(), resource)?;
-        let granted = other_than(alloc, &granted, cookie)?;
-        let waiting = other_than(alloc, &waiting, cookie)?;
-        let (lists, grants) = requeued(alloc, &self.lists, resource, granted, waiting)?;
-        self.lists = lists;
-        Ok(grants)
+        match self.queues.cancel(alloc, resource, cookie) {
+            Ok(grants) => {
+                self.places.remove(&cookie);
+                Ok(grants)
+            }
+            Err(_) => Err(Memory),
+        }
     }
 }

@@ -151,3 +151,19 @@ coherent_without cookie queue lawful =
           omega arith;
       ordered = All-filter other Ordered queue.waiting coherent.ordered;
     }
+
+-- the locks that pass a test
+pub coherent_filtered : (test : Grant → Bool) (queue : QueueState) → IsQueue queue → IsCoherent (record { granted = filter test queue.granted; waiting = filter test queue.waiting })
+coherent_filtered test queue lawful =
+    let coherent = lawful.coherent in
+    record {
+      apart = AllPairs-filter Apart test queue.granted coherent.apart;
+      once = λ cookie.
+          let a = times-append cookie (filter test queue.granted) (filter test queue.waiting) in
+          let b = times-append cookie queue.granted queue.waiting in
+          let d = times_of_filter cookie test queue.granted in
+          let e = times_of_filter cookie test queue.waiting in
+          let most = coherent.once cookie in
+          omega arith;
+      ordered = All-filter test Ordered queue.waiting coherent.ordered;
+    }

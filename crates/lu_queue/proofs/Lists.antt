@@ -1,18 +1,20 @@
 -- Lists of locks: how often a cookie is there, and what conflicts.
-use Rattle.std.proofs.Common.{◌≡◌, ℕ, zero, suc, ◌+◌, ◌<◌, ◌≤◌, ◌==◌, ◌||◌, Bool, true, false, cond, List, [], ◌∷◌, ◌++◌, length, map, filter, take, drop, get_or, refl, ap, subst, arith}
+use Rattle.std.proofs.Common.{◌≡◌, ℕ, zero, suc, ◌+◌, ◌<◌, ◌≤◌, ◌==◌, ◌||◌, ◌∙◌, Bool, true, false, cond, Option, Some, None, find, List, [], ◌∷◌, ◌++◌, length, map, filter, take, drop, get_or, refl, sym, ap, subst, arith}
 use Rattle.std.specs.List.{count_by}
 use Rattle.std.specs.List.Sorted.{IsPermutation, IsSorted}
+use Rattle.std.specs.Option.{option_or}
 use Rattle.std.specs.Ordering.{is_lt}
 use Rattle.std.specs.declared.cmp.Ordering.{Ordering}
 use Rattle.std.proofs.lemmas.Grind.{common_steps}
 use Rattle.std.proofs.lemmas.Bool.Decides.{nat_tests}
 use Rattle.std.proofs.lemmas.List.Sums.{count_by_more_yes, sum_by-take-drop, sum_by-append}
-use Rattle.std.proofs.lemmas.List.Sorted.{sum_by-IsPermutation}
+use Rattle.std.proofs.lemmas.List.Folds.{find-append}
+use Rattle.std.proofs.lemmas.List.Sorted.{sum_by-IsPermutation, IsPermutation-trans, IsPermutation-append_left}
 use Rattle.lu_base.specs.declared.ids.Cookie.{Cookie}
 use Rattle.lu_base.specs.declared.locks.Ask.{Ask}
 use Rattle.lu_lock.specs.Conflict.{conflict, conflicts_with_any}
 use Rattle.lu_queue.specs.declared.locks.Grant.{Grant}
-use Rattle.lu_queue.specs.Queues.{asks, has, times, IsOnce, conflicts, IsRising}
+use Rattle.lu_queue.specs.Queues.{QueueState, asks, has, times, lock_of, IsOnce, IsInOrder, conflicts, IsRising}
 
 pub or_false : (a b : Bool) → (a || b) ≡ false → (a ≡ false) × (b ≡ false)
 or_false true b h = cc
@@ -134,3 +136,21 @@ rising_once test locks cookies once moved sorted = λ place d within.
         let few = numbers_of_filter n test locks in
         let most : times n locks ≤ 1 = once n in
         absurd (omega arith)
+
+-- one more, among locks in rising cookie
+pub in_order_with : (locks rising order : List Grant) (lock : Grant) → IsInOrder locks rising → IsInOrder (rising ++ lock ∷ []) order → IsInOrder (locks ++ lock ∷ []) order
+in_order_with locks rising order lock before after = record {
+  same = IsPermutation-trans (locks ++ lock ∷ []) (rising ++ lock ∷ []) order (IsPermutation-append_left (lock ∷ []) locks rising before.same) after.same;
+  rising = after.rising;
+}
+
+-- ---- what is found by its cookie: granted, or else waiting
+
+pub found_first : (cookie : ℕ) (queue : QueueState) (lock : Grant) → Some lock ≡ find (λ l. l.cookie.0 == cookie) queue.granted → Some lock ≡ lock_of cookie queue
+found_first cookie queue lock h =
+    sym (find-append (λ (l : Grant). l.cookie.0 == cookie) queue.granted queue.waiting ∙ ap (λ found. option_or found (find (λ l. l.cookie.0 == cookie) queue.waiting)) (sym h))
+
+pub found_next : (cookie : ℕ) (queue : QueueState) (found : Option Grant) → None ≡ find (λ l. l.cookie.0 == cookie) queue.granted →
+    found ≡ find (λ l. l.cookie.0 == cookie) queue.waiting → found ≡ lock_of cookie queue
+found_next cookie queue found none h =
+    h ∙ sym (find-append (λ (l : Grant). l.cookie.0 == cookie) queue.granted queue.waiting ∙ ap (λ first. option_or first (find (λ l. l.cookie.0 == cookie) queue.waiting)) (sym none))

@@ -1,10 +1,11 @@
 -- The locks of one resource: which of them wait, and which are granted when (Wang et al., Understanding Lustre Filesystem
 -- Internals, the lock manager; that locks are granted first come first served is this project's profile).
-use Rattle.std.specs.Prelude.{◌≡◌, ℕ, ◌+◌, ◌≤◌, ◌<◌, Bool, true, false, not, ◌||◌, ◌==◌, if◌then◌else◌, List, [], ◌∷◌, ◌++◌, length, map, filter, find, take, count_by, All, AllPairs, slice_index_or}
+use Rattle.std.specs.Prelude.{◌≡◌, ℕ, ◌+◌, ◌≤◌, ◌<◌, Bool, true, false, not, ◌||◌, ◌&&◌, ◌==◌, if◌then◌else◌, Option, List, [], ◌∷◌, ◌++◌, length, map, filter, find, take, count_by, All, AllPairs, slice_index_or, slice_get, IsPermutation}
 use Rattle.std.specs.Option.{option_map_or}
 use Rattle.std.specs.List.{list_any}
 use Rattle.lu_base.specs.declared.locks.Ask.{Ask}
 use Rattle.lu_base.specs.declared.ids.Cookie.{Cookie}
+use Rattle.lu_base.specs.declared.ids.Who.{Who}
 use Rattle.lu_lock.specs.Overlap.{IsOrdered}
 use Rattle.lu_lock.specs.Conflict.{conflict}
 use Rattle.lu_lock.specs.Growth.{granted_ask}
@@ -46,6 +47,17 @@ other_than cookie locks = filter (λ lock. not (lock.cookie.0 == cookie)) locks
 -- Whether one conflicts with this ask.
 abbrev pub conflicts : Ask → List Grant → Bool
 conflicts ask locks = list_any (λ lock. conflict ask lock.ask) locks
+
+-- The same locks, none of whose cookies is below that of the one before it.
+pub record IsInOrder (locks order : List Grant) : Type 0 where
+  pub same : IsPermutation locks order
+  pub rising : (place : ℕ) (d : Grant) → place + 1 < length order → (slice_index_or order place d).cookie.0 ≤ (slice_index_or order (place + 1) d).cookie.0
+
+-- The lock at this place among them, in rising cookie; none past the last.
+pub record IsAt (at : ℕ) (locks : List Grant) (found : Option Grant) : Type 0 where
+  pub order : List Grant
+  pub rising : IsInOrder locks order
+  pub is : found ≡ slice_get order at
 
 -- ---- what is granted when
 
@@ -109,6 +121,32 @@ restored lock queue = if may_restore lock queue then (record queue { granted = q
 -- The queue without the lock of this cookie.
 abbrev pub without : ℕ → QueueState → QueueState
 without cookie queue = record { granted = other_than cookie queue.granted; waiting = other_than cookie queue.waiting }
+
+-- The lock of this cookie, granted or waiting.
+abbrev pub lock_of : ℕ → QueueState → Option Grant
+lock_of cookie queue = find (λ lock. lock.cookie.0 == cookie) (queue.granted ++ queue.waiting)
+
+-- ---- the locks of some lives
+
+abbrev pub same_who : Who → Who → Bool
+same_who a b = a.client == b.client && a.life == b.life
+
+-- Whether a lock is of one of these lives.
+abbrev pub is_of : List Who → Grant → Bool
+is_of lives lock = list_any (λ who. same_who who lock.ask.who) lives
+
+-- Whether a lock of the queue is.
+abbrev pub has_of : List Who → QueueState → Bool
+has_of lives queue = list_any (is_of lives) queue.granted || list_any (is_of lives) queue.waiting
+
+-- The queue without the locks of these lives.
+abbrev pub without_lives : List Who → QueueState → QueueState
+without_lives lives queue = record {
+  granted = filter (λ lock. not (is_of lives lock)) queue.granted;
+  waiting = filter (λ lock. not (is_of lives lock)) queue.waiting;
+}
+
+-- ---- what blocks a waiting lock
 
 -- The cookies of the granted locks in conflict with the waiting lock of this cookie; none where no lock of this cookie waits.
 abbrev pub blocking : ℕ → QueueState → List Cookie

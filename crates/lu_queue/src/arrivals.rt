@@ -1,12 +1,13 @@
 //! Waiting locks in order of arrival, each found by its cookie.
 
-ghost use Rattle.std.specs.Prelude.{◌≡◌, false, [], ◌∷◌, ◌++◌, IfOk, OnOk, OnErr, slice_get, find, ◌==◌};
+ghost use Rattle.std.specs.Prelude.{◌≡◌, false, [], ◌∷◌, ◌++◌, IfOk, OnOk, OnErr, IsTrue, ◌↔◌, slice_get, find, ◌==◌};
+ghost use Rattle.std.specs.List.{list_any};
 ghost use Rattle.std.specs.Option.{option_copied};
-ghost use Rattle.lu_queue.specs.Queues.{has, IsOnce};
+ghost use Rattle.lu_queue.specs.Queues.{has, is_of, IsOnce};
 
-use super::locks::Grant;
+use super::locks::{Grant, is_of};
 use indexmap::IndexMap;
-use lu_base::{Cookie, Memory};
+use lu_base::{Cookie, Memory, Who};
 use std::alloc::Global;
 use std::marker::Model;
 
@@ -69,6 +70,20 @@ impl Arrivals {
             Some((_, lock)) => Some(lock),
             None => None,
         }
+    }
+
+    /// Whether no lock waits.
+    pub(crate) fn is_empty(&self) -> bool
+        ensures { IsTrue result ↔ (self.now ≡ []) }
+    {
+        self.locks.is_empty()
+    }
+
+    /// Whether one is of one of these lives.
+    pub(crate) fn has_of(&self, lives: &[Who]) -> bool
+        ensures { result ≡ list_any (is_of lives.now) self.now }
+    {
+        self.locks.values().any(|lock| is_of(lives, lock))
     }
 
     /// The locks as a vector.

@@ -9,7 +9,7 @@ use lu_base::{Ask, Memory};
 use std::alloc::Global;
 
 /// Whether a lock has to wait beside these granted locks, with these waiting ahead of it.
-pub fn has_to_wait(ask: &Ask, granted: &[Grant], ahead: &[Grant]) -> bool
+pub(crate) fn has_to_wait(ask: &Ask, granted: &[Grant], ahead: &[Grant]) -> bool
     ensures { result ≡ has_to_wait ask.now granted.now ahead.now }
 {
     conflicts(ask, granted) || conflicts(ask, ahead)
@@ -17,7 +17,7 @@ pub fn has_to_wait(ask: &Ask, granted: &[Grant], ahead: &[Grant]) -> bool
 
 /// Grants all waiting locks that may be granted, in order of arrival, and tells which. After want of memory
 /// the lists are good for nothing.
-pub fn settle(
+pub(crate) fn settle(
     alloc: Global,
     granted: &mut Vec<Grant>,
     waiting: &mut Vec<Grant>,

@@ -2,12 +2,12 @@
 #![tactic(auto)]
 
 mod arrivals;
+mod granted;
 mod granting;
 mod locks;
 mod queue;
 #[cfg(test)]
 mod tests;
 
-pub use granting::{has_to_wait, settle};
-pub use locks::{Grant, Grants, Placed, QueueError, as_granted, other_than};
+pub use locks::{Grant, Grants, Placed, QueueError};
 pub use queue::Queue;

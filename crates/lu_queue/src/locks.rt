@@ -1,12 +1,14 @@
 //! The locks of a resource, and what is looked up in lists of them.
 
-ghost use Rattle.std.specs.Prelude.{◌≡◌, IfOk, map, filter, IsPermutation};
+ghost use Rattle.std.specs.Prelude.{◌≡◌, IfOk, map, filter, find, not, ◌==◌, IsPermutation};
+ghost use Rattle.std.specs.List.{list_any};
+ghost use Rattle.std.specs.Option.{option_copied};
 ghost use Rattle.lu_lock.specs.Overlap.{IsOrdered};
 ghost use Rattle.lu_lock.specs.Conflict.{conflict};
 ghost use Rattle.lu_lock.specs.Growth.{granted_policy};
-ghost use Rattle.lu_queue.specs.Queues.{asks, has, conflicts, as_granted, other_than, IsOnce, IsRising};
+ghost use Rattle.lu_queue.specs.Queues.{asks, has, conflicts, as_granted, other_than, is_of, IsOnce, IsRising};
 
-use lu_base::{Ask, Cookie, Cookies, Duplicate, Memory, Policy, Sequence};
+use lu_base::{Ask, Cookie, Cookies, Duplicate, Memory, Policy, Sequence, Who};
 use lu_lock::{conflict, grow};
 use std::alloc::Global;
 
@@ -63,6 +65,13 @@ pub(crate) fn has(locks: &[Grant], cookie: Cookie) -> bool
     locks.iter().any(|lock| lock.cookie == cookie)
 }
 
+/// The lock of the list that has this cookie.
+pub(crate) fn find(locks: &[Grant], cookie: Cookie) -> Option<&Grant>
+    ensures { option_copied result ≡ find (λ lock. lock.cookie.0 == cookie.0) locks.now }
+{
+    locks.iter().find(|lock| lock.cookie == cookie)
+}
+
 /// Whether a lock of the list conflicts with this ask.
 pub(crate) fn conflicts(ask: &Ask, locks: &[Grant]) -> bool
     ensures { result ≡ conflicts ask.now locks.now }
@@ -71,7 +80,11 @@ pub(crate) fn conflicts(ask: &Ask, locks: &[Grant]) -> bool
 }
 
 /// The locks of other cookies.
-pub fn other_than(alloc: Global, locks: &[Grant], cookie: Cookie) -> Result<Vec<Grant>, Memory>
+pub(crate) fn other_than(
+    alloc: Global,
+    locks: &[Grant],
+    cookie: Cookie,
+) -> Result<Vec<Grant>, Memory>
     ensures { IfOk result (λ others. others.items ≡ other_than cookie.0 locks.now) }
 {
     let others = locks
@@ -80,6 +93,32 @@ pub fn other_than(alloc: Global, locks: &[Grant], cookie: Cookie) -> Result<Vec<
         .map(|lock| *lock)
         .collect(alloc)?;
     Ok(others)
+}
+
+/// Whether a lock is of one of these lives.
+pub(crate) fn is_of(lives: &[Who], lock: &Grant) -> bool
+    ensures { result ≡ is_of lives.now lock.now }
+{
+    lives.iter().any(|who| *who == lock.ask.who)
+}
+
+/// The locks of other lives.
+pub(crate) fn of_others(alloc: Global, locks: &[Grant], lives: &[Who]) -> Result<Vec<Grant>, Memory>
+    ensures { IfOk result (λ others. others.items ≡ filter (λ lock. not (is_of lives.now lock)) locks.now) }
+{
+    let others = locks
+        .iter()
+        .filter(|lock| !is_of(lives, lock))
+        .map(|lock| *lock)
+        .collect(alloc)?;
+    Ok(others)
+}
+
+/// Whether a lock of the list is of one of these lives.
+pub(crate) fn has_of(lives: &[Who], locks: &[Grant]) -> bool
+    ensures { result ≡ list_any (is_of lives.now) locks.now }
+{
+    locks.iter().any(|lock| is_of(lives, lock))
 }
 
 /// The cookies of the locks in conflict with an ask, sorted.
@@ -134,7 +173,7 @@ fn granted_policy(
 }
 
 /// A lock as it is granted beside these other granted and waiting locks.
-pub fn as_granted(
+pub(crate) fn as_granted(
     alloc: Global,
     lock: Grant,
     granted: &[Grant],

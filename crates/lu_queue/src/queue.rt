@@ -3,23 +3,23 @@
 ghost use Rattle.std.specs.Prelude.{◌≡◌, ℕ, Bool, true, false, List, [], ◌∷◌, ◌++◌, IfOk, OnOk, OnErr, IsErrOf, IsTrue, ◌↔◌, slice_get, IsPermutation};
 ghost use Rattle.std.specs.Option.{option_copied};
 ghost use Rattle.lu_lock.specs.Overlap.{IsOrdered};
-ghost use Rattle.lu_queue.specs.Queues.{empty, is_in, placed, with_lock, may_restore, restored, without, AreGranted, blocking, IsRising, IsQueue};
+ghost use Rattle.lu_queue.specs.Queues.{empty, is_in, has, lock_of, has_of, placed, with_lock, may_restore, restored, without, without_lives, AreGranted, blocking, IsAt, IsRising, IsCoherent, IsQueue};
 
 use super::arrivals::Arrivals;
+use super::granted::Granted;
 use super::granting::{has_to_wait, settle};
 use super::locks::{
-    Grant, Grants, Placed, QueueError, as_granted, conflicts, has, in_conflict, other_than,
+    Grant, Grants, Placed, QueueError, as_granted, conflicts, find, has, has_of, in_conflict,
+    of_others, other_than,
 };
-use lu_base::{Ask, Cookie, Cookies, Memory};
+use lu_base::{Ask, Cookie, Cookies, Memory, Who};
 use std::alloc::Global;
 use std::marker::Model;
 
 /// The locks of one resource, granted and waiting.
 #[derive(Debug, Drop)]
 pub struct Queue {
-    /// In the order in which they were granted.
-    granted: Vec<Grant>,
-    /// In order of arrival.
+    granted: Granted,
     waiting: Arrivals,
 }
 
@@ -28,9 +28,9 @@ impl Model for Queue {
 
     ghost Value = { QueueState };
 
-    ghost view = { λ queue. record { granted = queue.granted.items; waiting = queue.waiting } };
+    ghost view = { λ queue. record { granted = queue.granted; waiting = queue.waiting } };
 
-    ghost invariant = { λ queue. IsQueue (record { granted = queue.granted.items; waiting = queue.waiting }) };
+    ghost invariant = { λ queue. IsQueue (record { granted = queue.granted; waiting = queue.waiting }) };
 }
 
 impl Queue {
@@ -40,7 +40,7 @@ impl Queue {
         ensures lawful { IsQueue result }
     {
         Queue {
-            granted: Vec::new(alloc),
+            granted: Granted::new(alloc),
             waiting: Arrivals::new(alloc),
         }
     }
@@ -65,7 +65,7 @@ impl Queue {
 
     /// Adds a lock that was granted before, as it was. False, and nothing has changed, where it conflicts
     /// with a granted lock. After an error nothing has changed.
-    pub fn restore(&mut self, cookie: Cookie, ask: Ask) -> Result<bool, QueueError>
+    pub fn restore(&mut self, alloc: Global, cookie: Cookie, ask: Ask) -> Result<bool, QueueError>
         requires ask { IsOrdered ask.policy }
         requires quiet { self.old.waiting ≡ [] }
         ensures twice { IsErrOf result QueueError.Twice ↔ IsTrue (is_in cookie.0 self.old) }
@@ -78,12 +78,10 @@ impl Queue {
         if self.has(cookie) {
             return Err(QueueError::Twice);
         }
-        if conflicts(&ask, &self.granted) {
+        if conflicts(&ask, self.granted.as_slice()) {
             return Ok(false);
         }
-        if self.granted.push(Grant { cookie, ask }).is_err() {
-            return Err(QueueError::Memory);
-        }
+        self.granted.push(alloc, Grant { cookie, ask })?;
         Ok(true)
     }
 
@@ -99,8 +97,20 @@ impl Queue {
         if !self.has(cookie) {
             return Err(QueueError::NoLock);
         }
-        let grants = self.take_away(alloc, cookie)?;
+        let (queue, grants) = self.without(alloc, cookie)?;
+        *self = queue;
         Ok(grants)
+    }
+
+    /// The queue without the locks of these lives, granted and waiting, once all is granted that may be then,
+    /// and what was granted, in that order.
+    pub fn ended(&self, alloc: Global, lives: &[Who]) -> Result<(Queue, Grants), Memory>
+        ensures granted { IfOk result (λ new. AreGranted (without_lives lives.now self.now) new.1 new.0) }
+        ensures lawful { IfOk result (λ new. IsQueue new.0) }
+    {
+        let granted = of_others(alloc, self.granted.as_slice(), lives)?;
+        let waiting = of_others(alloc, &self.waiting.to_vec(alloc)?, lives)?;
+        settled(alloc, granted, waiting)
     }
 
     /// The cookies of the granted locks in conflict with a waiting one, rising; none for a granted one.
@@ -122,7 +132,7 @@ impl Queue {
         ensures lock { option_copied result ≡ slice_get self.now.granted at }
         ensures lawful { IsQueue self.now }
     {
-        self.granted.get(at)
+        self.granted.as_slice().get(at)
     }
 
     /// The waiting lock at this place, from 0, in order of arrival; none past the last.
@@ -133,12 +143,70 @@ impl Queue {
         self.waiting.at(at)
     }
 
+    /// The granted lock at this place, from 0, in rising cookie; none past the last.
+    pub fn rising(&self, at: usize) -> Option<&Grant>
+        ensures lock { IsAt at self.now.granted (option_copied result) }
+        ensures lawful { IsQueue self.now }
+    {
+        self.granted.rising(at)
+    }
+
+    /// The granted locks, in the order in which they were granted.
+    pub fn granted_locks(&self) -> &[Grant]
+        ensures locks { result.now ≡ self.now.granted }
+        ensures lawful { IsQueue self.now }
+    {
+        self.granted.as_slice()
+    }
+
+    /// The waiting locks, in order of arrival.
+    pub fn waiting_locks(&self, alloc: Global) -> Result<Vec<Grant>, Memory>
+        ensures locks { IfOk result (λ locks. locks.items ≡ self.now.waiting) }
+        ensures lawful { IsQueue self.now }
+    {
+        self.waiting.to_vec(alloc)
+    }
+
+    /// The lock of this cookie, granted or waiting; none where no lock has it.
+    pub fn find(&self, cookie: Cookie) -> Option<&Grant>
+        ensures lock { option_copied result ≡ lock_of cookie.0 self.now }
+        ensures lawful { IsQueue self.now }
+    {
+        match find(self.granted.as_slice(), cookie) {
+            Some(lock) => Some(lock),
+            None => self.waiting.find(cookie),
+        }
+    }
+
+    /// Whether a granted lock has this cookie.
+    pub fn is_granted(&self, cookie: Cookie) -> bool
+        ensures granted { result ≡ has cookie.0 self.now.granted }
+        ensures lawful { IsQueue self.now }
+    {
+        has(self.granted.as_slice(), cookie)
+    }
+
+    /// Whether a lock, granted or waiting, is of one of these lives.
+    pub fn has_of(&self, lives: &[Who]) -> bool
+        ensures some { result ≡ has_of lives.now self.now }
+        ensures lawful { IsQueue self.now }
+    {
+        has_of(lives, self.granted.as_slice()) || self.waiting.has_of(lives)
+    }
+
+    /// Whether there is no lock.
+    pub fn is_empty(&self) -> bool
+        ensures none { IsTrue result ↔ (self.now ≡ empty) }
+    {
+        self.granted.as_slice().is_empty() && self.waiting.is_empty()
+    }
+
     /// Whether a lock of the queue has this cookie.
-    fn has(&self, cookie: Cookie) -> bool
+    pub fn has(&self, cookie: Cookie) -> bool
         ensures found { result ≡ is_in cookie.0 self.now }
         ensures lawful { IsQueue self.now }
     {
-        has(&self.granted, cookie) || self.waiting.has(cookie)
+        has(self.granted.as_slice(), cookie) || self.waiting.has(cookie)
     }
 
     /// Adds a lock under a cookie that is new here.
@@ -151,28 +219,23 @@ impl Queue {
         ensures lawful { IsQueue self.new }
     {
         let waiting = self.waiting.to_vec(alloc)?;
-        if has_to_wait(&lock.ask, &self.granted, &waiting) {
+        if has_to_wait(&lock.ask, self.granted.as_slice(), &waiting) {
             self.waiting.push(lock)?;
             return Ok(Placed::Waiting);
         }
-        let grant = as_granted(alloc, lock, &self.granted, &waiting)?;
-        self.granted.push(grant)?;
+        let grant = as_granted(alloc, lock, self.granted.as_slice(), &waiting)?;
+        self.granted.push(alloc, grant)?;
         Ok(Placed::Granted(grant.ask.policy))
     }
 
-    /// Takes away the lock of a cookie, and grants what may be granted then.
-    fn take_away(&mut self, alloc: Global, cookie: Cookie) -> Result<Grants, Memory>
-        ensures granted { IfOk result (λ grants. AreGranted (without cookie.0 self.old) grants self.new) }
-        ensures kept { OnErr result (self.new ≡ self.old) }
-        ensures lawful { IsQueue self.new }
+    /// The queue without the lock of a cookie, once all is granted that may be then, and what was granted.
+    fn without(&self, alloc: Global, cookie: Cookie) -> Result<(Queue, Grants), Memory>
+        ensures granted { IfOk result (λ new. AreGranted (without cookie.0 self.now) new.1 new.0) }
+        ensures lawful { IfOk result (λ new. IsQueue new.0) }
     {
-        let mut granted = other_than(alloc, &self.granted, cookie)?;
-        let mut waiting = other_than(alloc, &self.waiting.to_vec(alloc)?, cookie)?;
-        let grants = settle(alloc, &mut granted, &mut waiting)?;
-        let waiting = Arrivals::from_slice(alloc, &waiting)?;
-        self.granted = granted;
-        self.waiting = waiting;
-        Ok(grants)
+        let granted = other_than(alloc, self.granted.as_slice(), cookie)?;
+        let waiting = other_than(alloc, &self.waiting.to_vec(alloc)?, cookie)?;
+        settled(alloc, granted, waiting)
     }
 
     /// The cookies of the granted locks in conflict with the waiting one of this cookie, rising.
@@ -181,8 +244,24 @@ impl Queue {
         ensures all { IfOk result (λ cookies. IsPermutation (blocking cookie.0 self.now) cookies) }
     {
         match self.waiting.find(cookie) {
-            Some(lock) => in_conflict(alloc, &lock.ask, &self.granted),
+            Some(lock) => in_conflict(alloc, &lock.ask, self.granted.as_slice()),
             None => Ok(Cookies::new(alloc)),
         }
     }
+}
+
+/// The queue of these locks, once all that may be granted is granted, and what was granted.
+fn settled(
+    alloc: Global,
+    mut granted: Vec<Grant>,
+    mut waiting: Vec<Grant>,
+) -> Result<(Queue, Grants), Memory>
+    requires { IsCoherent (record { granted = granted.items; waiting = waiting.items }) }
+    ensures granted { IfOk result (λ new. AreGranted (record { granted = granted.items; waiting = waiting.items }) new.1 new.0) }
+    ensures lawful { IfOk result (λ new. IsQueue new.0) }
+{
+    let grants = settle(alloc, &mut granted, &mut waiting)?;
+    let granted = Granted::of(alloc, granted)?;
+    let waiting = Arrivals::from_slice(alloc, &waiting)?;
+    Ok((Queue { granted, waiting }, grants))
 }

@@ -42,13 +42,18 @@ fn lock(cookie: u64, ask: Ask) -> Grant {
 }
 
 /// Restores a lock where nothing waits; none where a lock waits.
-fn restored(queue: &mut Queue, cookie: u64, ask: Ask) -> Option<Result<bool, QueueError>>
+fn restored(
+    alloc: Global,
+    queue: &mut Queue,
+    cookie: u64,
+    ask: Ask,
+) -> Option<Result<bool, QueueError>>
     requires { IsOrdered ask.policy }
 {
     if queue.waiting(0).is_some() {
         return None;
     }
-    Some(queue.restore(Cookie(cookie), ask))
+    Some(queue.restore(alloc, Cookie(cookie), ask))
 }
 
 #[test]
@@ -76,9 +81,9 @@ fn a_writer_waits_for_a_reader(rt: HostRuntime) -> Result<(), Fail> {
         Some(QueueError::NoLock)
     );
     let again = over(0, Mode::PR, 0, 0);
-    assert_eq!(rt; restored(&mut queue, 3, again), Some(Ok(false)));
+    assert_eq!(rt; restored(alloc, &mut queue, 3, again), Some(Ok(false)));
     let mut other = Queue::new(alloc);
-    assert_eq!(rt; restored(&mut other, 3, again), Some(Ok(true)));
+    assert_eq!(rt; restored(alloc, &mut other, 3, again), Some(Ok(true)));
     Ok(())
 }
 
@@ -117,7 +122,7 @@ fn an_extent_grows_between_a_granted_and_a_waiting_lock(rt: HostRuntime) -> Resu
     let mut queue = Queue::new(alloc);
     for (cookie, first, last) in [(1, 0, 99), (2, 500, 599)] {
         let held = over(0, Mode::PW, first, last);
-        assert_eq!(rt; restored(&mut queue, cookie, held), Some(Ok(true)));
+        assert_eq!(rt; restored(alloc, &mut queue, cookie, held), Some(Ok(true)));
     }
     for (cookie, first, last, placed) in [
         (3, 450, 500, Placed::Waiting),

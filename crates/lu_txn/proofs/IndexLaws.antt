@@ -18,9 +18,15 @@ use Rattle.lu_part.specs.declared.parts.Part.TheVariants.{Name, List as Names, A
 use Rattle.lu_part.specs.Meets.{meets, Meets}
 use Rattle.lu_part.proofs.PartLaws.{meets_rule}
 use Rattle.lu_txn.specs.declared.index.Index.{Index}
-use Rattle.lu_txn.specs.declared.index.Kind.TheVariants as kind
+use Rattle.lu_txn.specs.declared.index.Bucket.{Bucket}
+use Rattle.lu_txn.specs.declared.index.Bucket.TheVariants as bucket
+use Rattle.lu_txn.specs.contracts.index.BucketEq.TheImpl.Laws.{laws-law}
 use Rattle.lu_txn.specs.declared.logs.Logged.{Logged}
-use Rattle.lu_txn.specs.Buckets.{bucket, filing, lookups}
+use Rattle.std.specs.Cmp.{IsEquivalence}
+use Rattle.std.specs.Map.{lookup, set_value}
+use Rattle.std.specs.Option.{unwrap_or}
+use Rattle.std.proofs.lemmas.Map.{lookup-set_value}
+use Rattle.lu_txn.specs.Buckets.{same_bucket, holds, filing, lookups}
 use Rattle.lu_txn.specs.Logs.{number, meets_written, is_seen, seen_at, seen_by}
 use Rattle.lu_txn.specs.Indexes.{places_of, has, files, Grows, gathered, IsIndexed}
 
@@ -36,7 +42,7 @@ has_from_contains numbers n (k, within, at) = list_any_at (λ m. m == n) numbers
 pub has_dedup : (numbers : List ℕ) (n : ℕ) → has numbers n ≡ true → has (dedup (λ a b. a == b) numbers) n ≡ true
 has_dedup numbers n h = has_from_contains (dedup (λ a b. a == b) numbers) n (Contains-dedup_nat numbers n (contains_from_has numbers n h))
 
--- a list has its first number, its second, and what its parts have
+-- a list has its first number and what its parts have
 has_first : (n : ℕ) (numbers : List ℕ) → has (n ∷ numbers) n ≡ true
 has_first n numbers = rw (eq-eqb n n refl) refl
 
@@ -44,62 +50,103 @@ or_true : (a : Bool) → (a || true) ≡ true
 or_true true = refl
 or_true false = refl
 
-has_second : (m n : ℕ) (numbers : List ℕ) → has (m ∷ n ∷ numbers) n ≡ true
-has_second m n numbers = rw (has_first n numbers) (or_true (m == n))
-
 has_left : (xs ys : List ℕ) (n : ℕ) → has xs n ≡ true → has (xs ++ ys) n ≡ true
 has_left xs ys n h = rw (list_any-append (λ m. m == n) xs ys, h) refl
 
 has_right : (xs ys : List ℕ) (n : ℕ) → has ys n ≡ true → has (xs ++ ys) n ≡ true
 has_right xs ys n h = rw (list_any-append (λ m. m == n) xs ys, h) (or_true (has xs n))
 
-has_of : (f : ℕ → List ℕ) (numbers : List ℕ) (b n : ℕ) → has numbers b ≡ true → has (f b) n ≡ true → has (flat_map f numbers) n ≡ true
-has_of f [] b n h found = absurd (cc)
-has_of f (m ∷ numbers) b n h found = by (m == b) refl h (λ rest. has_of f numbers b n rest found) where
-  by : (here : Bool) → (m == b) ≡ here → (here || has numbers b) ≡ true → (has numbers b ≡ true → has (flat_map f numbers) n ≡ true) → has (f m ++ flat_map f numbers) n ≡ true
-  by true e h rest = has_left (f m) (flat_map f numbers) n (rw (eqb-true m b e) found)
-  by false e h rest = has_right (f m) (flat_map f numbers) n (rest h)
+-- the buckets as keys
+laws : IsEquivalence same_bucket
+laws = laws-law
+
+same_self : (b : Bucket) → same_bucket b b ≡ true
+same_self b = laws.refl b
+
+abbrev pub Filed : Type 0
+Filed = List (Bucket × List ℕ)
+
+abbrev pub there : Bucket → Filed → List ℕ
+there b filed = unwrap_or (lookup (same_bucket b) filed) []
+
+found_same : (a b : Bucket) → same_bucket a b ≡ true → (filed : Filed) → lookup (same_bucket a) filed ≡ lookup (same_bucket b) filed
+found_same a b e [] = refl
+found_same a b e (entry ∷ filed) = rw (laws.congr a b entry.0 e, found_same a b e filed) refl
+
+abbrev pub with_place : Bucket → List ℕ → ℕ → Filed → Filed
+with_place a old place filed = set_value (same_bucket a) filed (old ++ place ∷ [])
+
+written : (a b : Bucket) (old : List ℕ) (place : ℕ) (filed : Filed) → lookup (same_bucket a) filed ≡ Some old → lookup (same_bucket b) (with_place a old place filed) ≡ cond (same_bucket a b) (Some (old ++ place ∷ [])) (lookup (same_bucket b) filed)
+written a b old place filed e = lookup-set_value laws (same_bucket a) (λ x y h. laws.congr a x y h) b (old ++ place ∷ []) filed (rw e refl)
+
+pub grown_there : (a b : Bucket) (old : List ℕ) (place n : ℕ) (filed : Filed) → lookup (same_bucket a) filed ≡ Some old → has (there b filed) n ≡ true → has (there b (with_place a old place filed)) n ≡ true
+grown_there a b old place n filed e h = by (same_bucket a b) refl where
+  by : (same : Bool) → same_bucket a b ≡ same → has (there b (with_place a old place filed)) n ≡ true
+  by true same =
+      let here : lookup (same_bucket b) filed ≡ Some old = sym (found_same a b same filed) ∙ e in
+      rw (written a b old place filed e, same) (has_left old (place ∷ []) n (rw here at h))
+  by false same = rw (written a b old place filed e, same) h
+
+pub grown_new : (a b : Bucket) (place n : ℕ) (filed : Filed) → lookup (same_bucket a) filed ≡ None → has (there b filed) n ≡ true → has (unwrap_or (cond (same_bucket a b) (Some (place ∷ [])) (lookup (same_bucket b) filed)) []) n ≡ true
+grown_new a b place n filed none h = by (same_bucket a b) refl where
+  by : (same : Bool) → same_bucket a b ≡ same → has (unwrap_or (cond same (Some (place ∷ [])) (lookup (same_bucket b) filed)) []) n ≡ true
+  by true same =
+      let here : lookup (same_bucket b) filed ≡ None = sym (found_same a b same filed) ∙ none in
+      let off : has (there b filed) n ≡ false = rw here refl in
+      absurd (cc)
+  by false same = h
+
+-- a part is filed in a bucket under which it stands by itself, or one before it does
+pub or_cases : (P : Type 0) (a b : Bool) → (a || b) ≡ true → (a ≡ true → P) → (b ≡ true → P) → P
+or_cases P true b e one two = one refl
+or_cases P false b e one two = two e
+
+-- it is one of these
+abbrev IsIn : Bucket → List Bucket → Type 0
+IsIn b [] = ⊥
+IsIn b (first ∷ buckets) = (first ≡ b) ⊎ IsIn b buckets
+
+has_of : (f : Bucket → List ℕ) (buckets : List Bucket) (b : Bucket) (n : ℕ) → IsIn b buckets → has (f b) n ≡ true → has (flat_map f buckets) n ≡ true
+has_of f [] b n within found = absurd within
+has_of f (first ∷ buckets) b n (inl same) found = has_left (f first) (flat_map f buckets) n (subst (λ k. has (f k) n ≡ true) (sym same) found)
+has_of f (first ∷ buckets) b n (inr rest) found = has_right (f first) (flat_map f buckets) n (has_of f buckets b n rest found)
 
 -- two parts that meet have a bucket in common
 abbrev Common : Part → Part → Type 0
-Common touched written = (b : ℕ) × (has (lookups touched) b ≡ true) × (has (filing written) b ≡ true)
+Common touched written = (b : Bucket) × IsIn b (lookups touched) × (holds (filing written) b ≡ true)
 
-alone : (b : ℕ) → has (b ∷ []) b ≡ true
-alone b = has_first b []
+holds_first : (b : Bucket) (buckets : List Bucket) → holds (b ∷ buckets) b ≡ true
+holds_first b buckets = rw (same_self b) refl
+
+holds_second : (a b : Bucket) (buckets : List Bucket) → holds (a ∷ b ∷ buckets) b ≡ true
+holds_second a b buckets = rw (same_self b) (or_true (same_bucket a b))
 
 common : (touched written : Part) → Meets touched written → Common touched written
 common (Name d n) (Name e m) h =
-    let b = bucket kind.Name d n in
-    subst (λ f. Common (Name d n) (Name f m)) h.0 (subst (λ k. Common (Name d n) (Name d k)) h.1 (b, has_first b (bucket kind.List d [] ∷ []), has_first b (bucket kind.Inside d [] ∷ [])))
-common (Name d n) (Names e) h =
-    let b = bucket kind.List d [] in
-    subst (λ f. Common (Name d n) (Names f)) h (b, has_second (bucket kind.Name d n) b [], has_first b (bucket kind.Inside d [] ∷ []))
-common (Names d) (Name e m) h =
-    let b = bucket kind.Inside d [] in
-    subst (λ f. Common (Names d) (Name f m)) h (b, alone b, has_second (bucket kind.Name d m) b [])
-common (Names d) (Names e) h =
-    let b = bucket kind.Inside d [] in
-    subst (λ f. Common (Names d) (Names f)) h (b, alone b, has_second (bucket kind.List d []) b [])
-common (Attr f) (Attr g) h =
-    let b = bucket kind.Attr f [] in subst (λ k. Common (Attr f) (Attr k)) h (b, alone b, alone b)
-common (Layout f) (Layout g) h =
-    let b = bucket kind.Layout f [] in subst (λ k. Common (Layout f) (Layout k)) h (b, alone b, alone b)
-common (Parent f) (Parent g) h =
-    let b = bucket kind.Parent f [] in subst (λ k. Common (Parent f) (Parent k)) h (b, alone b, alone b)
+    subst (λ f. Common (Name d n) (Name f m)) h.0 (subst (λ k. Common (Name d n) (Name d k)) h.1 (bucket.Name d n, inl refl, holds_first (bucket.Name d n) (bucket.Inside d ∷ [])))
+common (Name d n) (Names e) h = subst (λ f. Common (Name d n) (Names f)) h (bucket.List d, inr (inl refl), holds_first (bucket.List d) (bucket.Inside d ∷ []))
+common (Names d) (Name e m) h = subst (λ f. Common (Names d) (Name f m)) h (bucket.Inside d, inl refl, holds_second (bucket.Name d m) (bucket.Inside d) [])
+common (Names d) (Names e) h = subst (λ f. Common (Names d) (Names f)) h (bucket.Inside d, inl refl, holds_second (bucket.List d) (bucket.Inside d) [])
+common (Attr f) (Attr g) h = subst (λ k. Common (Attr f) (Attr k)) h (bucket.Attr f, inl refl, holds_first (bucket.Attr f) [])
+common (Layout f) (Layout g) h = subst (λ k. Common (Layout f) (Layout k)) h (bucket.Layout f, inl refl, holds_first (bucket.Layout f) [])
+common (Parent f) (Parent g) h = subst (λ k. Common (Parent f) (Parent k)) h (bucket.Parent f, inl refl, holds_first (bucket.Parent f) [])
 common (Bytes f s range) (Bytes g t other) h =
-    let b = bucket kind.Bytes f [] in subst (λ k. Common (Bytes f s range) (Bytes k t other)) h.0 (b, alone b, alone b)
+    subst (λ k. Common (Bytes f s range) (Bytes k t other)) h.0 (subst (λ u. Common (Bytes f s range) (Bytes f u other)) h.1 (bucket.Bytes f s, inl refl, holds_first (bucket.Bytes f s) []))
 common _ _ h = absurd h
 
 -- a part that meets something written is looked up in a bucket in which that is filed
-filed_common : (touched : Part) (writes : List Part) → meets_written writes touched ≡ true → (b : ℕ) × (has (lookups touched) b ≡ true) × (files writes b ≡ true)
+abbrev FiledIn : Part → List Part → Type 0
+FiledIn touched writes = (b : Bucket) × IsIn b (lookups touched) × (files writes b ≡ true)
+
+filed_common : (touched : Part) (writes : List Part) → meets_written writes touched ≡ true → FiledIn touched writes
 filed_common touched [] h = absurd (cc)
 filed_common touched (written ∷ writes) h = by (meets touched written) refl h (filed_common touched writes) where
-  by : (here : Bool) → meets touched written ≡ here → (here || meets_written writes touched) ≡ true → (meets_written writes touched ≡ true → (b : ℕ) × (has (lookups touched) b ≡ true) × (files writes b ≡ true)) → (b : ℕ) × (has (lookups touched) b ≡ true) × (files (written ∷ writes) b ≡ true)
+  by : (here : Bool) → meets touched written ≡ here → (here || meets_written writes touched) ≡ true → (meets_written writes touched ≡ true → FiledIn touched writes) → FiledIn touched (written ∷ writes)
   by true e h rest = let both = common touched written ((meets_rule touched written).0 e) in (both.0, both.1, rw both.2 refl)
-  by false e h rest = let both = rest h in (both.0, both.1, rw both.2 (or_true (has (filing written) both.0)))
+  by false e h rest = let both = rest h in (both.0, both.1, rw both.2 (or_true (holds (filing written) both.0)))
 
 -- what was seen is found
-pub found : (index : Index) (touched : List Part) (writes : List Part) (place : ℕ) → ((b : ℕ) → files writes b ≡ true → has (places_of index b) place ≡ true) → list_any (λ part. meets_written writes part) touched ≡ true → has (gathered index touched) place ≡ true
+pub found : (index : Index) (touched : List Part) (writes : List Part) (place : ℕ) → ((b : Bucket) → files writes b ≡ true → has (places_of index b) place ≡ true) → list_any (λ part. meets_written writes part) touched ≡ true → has (gathered index touched) place ≡ true
 found index [] writes place filed h = absurd (cc)
 found index (part ∷ touched) writes place filed h = by (meets_written writes part) refl h (found index touched writes place filed) where
   by : (here : Bool) → meets_written writes part ≡ here → (here || list_any (λ part. meets_written writes part) touched) ≡ true → (list_any (λ part. meets_written writes part) touched ≡ true → has (gathered index touched) place ≡ true) → has (flat_map (places_of index) (lookups part) ++ gathered index touched) place ≡ true
@@ -143,8 +190,8 @@ abbrev Complete : List Part → List Logged → ℕ → List ℕ → Type 0
 Complete touched all from places =
     (place : ℕ) (d : Logged) → from ≤ place → place < length all → is_seen touched (get_or all place d) ≡ true → has places place ≡ true
 
-there : (all : List Logged) (from : ℕ) (first : Logged) → from < length all → get_or all from first ≡ first → slice_get all from ≡ Some first
-there all from first within at = grind (arith, common_steps, gets)
+stands : (all : List Logged) (from : ℕ) (first : Logged) → from < length all → get_or all from first ≡ first → slice_get all from ≡ Some first
+stands all from first within at = grind (arith, common_steps, gets)
 
 -- From rising places that have all that is seen, exactly what is seen is taken.
 pick : (touched : List Part) (all rest : List Logged) (from : ℕ) (places : List ℕ) → drop from all ≡ rest → Rise from places → Complete touched all from places → filter_map (seen_at touched all) places ≡ seen_by touched rest
@@ -169,7 +216,7 @@ pick touched all (first ∷ rest) from places dropped rise complete =
       at = let o : first ∷ rest ≡ get_or all from first ∷ drop (suc from) all = opened in cc
 
       here : slice_get all from ≡ Some first
-      here = there all from first within at
+      here = stands all from first within at
 
       unseen : (seen : Bool) → is_seen touched first ≡ seen → (places : List ℕ) → Complete touched all from places → has places from ≡ false → seen ≡ false
       unseen true e places complete none =
@@ -209,9 +256,9 @@ seen_found index touched transactions places indexed increasing all =
     pick touched transactions transactions 0 places refl (rises 0 places (λ some. omega arith) increasing) (λ place d above below seen. all place (found index touched (get_or transactions place d).writes place (λ b. indexed place b d below) seen))
 
 -- one more transaction is filed
-pub indexed_appended : (old new : Index) (transactions : List Logged) (logged : Logged) → IsIndexed old transactions → Grows old new → ((b : ℕ) → files logged.writes b ≡ true → has (places_of new b) (length transactions) ≡ true) → IsIndexed new (transactions ++ logged ∷ [])
+pub indexed_appended : (old new : Index) (transactions : List Logged) (logged : Logged) → IsIndexed old transactions → Grows old new → ((b : Bucket) → files logged.writes b ≡ true → has (places_of new b) (length transactions) ≡ true) → IsIndexed new (transactions ++ logged ∷ [])
 indexed_appended old new transactions logged indexed grows filed = λ place b d within. by place b d within (cases_lt place (length transactions)) where
-  by : (place b : ℕ) (d : Logged) → place < length (transactions ++ logged ∷ []) → (place < length transactions) ⊎ (length transactions ≤ place) → files (get_or (transactions ++ logged ∷ []) place d).writes b ≡ true → has (places_of new b) place ≡ true
+  by : (place : ℕ) (b : Bucket) (d : Logged) → place < length (transactions ++ logged ∷ []) → (place < length transactions) ⊎ (length transactions ≤ place) → files (get_or (transactions ++ logged ∷ []) place d).writes b ≡ true → has (places_of new b) place ≡ true
   by place b d within (inl below) h = grows b place (indexed place b d below (rw (get_or-append transactions (logged ∷ []) d place below) at h))
   by place b d within (inr past) h =
       let count : length (transactions ++ logged ∷ []) ≡ length transactions + 1 = length_push transactions logged in

@@ -1,4 +1,5 @@
 pub mod SlotLaws
+pub mod SlotMaps
 pub mod Lookups
 pub mod IndexLaws
 pub mod Soundness

@@ -1,41 +1,35 @@
--- The buckets that keep parts apart. A written part is filed in all buckets in which one that meets it may be looked
--- up: its own, and, where it is a name or the list of a directory, the one of all that is written there.
-use Rattle.std.specs.Prelude.{ℕ, List, [], ◌∷◌, fold}
-use Rattle.std.specs.Hash as fed
-use Rattle.std.specs.Hash.FoldHasher as folding
-use Rattle.lu_base.specs.declared.ids.Fid.{Fid}
+-- What a written part is filed under, and a touched part is looked up under: two parts that meet have a bucket in
+-- common. A name or the list of a directory is filed under all that is written there too.
+use Rattle.std.specs.Prelude.{Bool, List, [], ◌∷◌}
+use Rattle.std.specs.List.{list_any}
 use Rattle.lu_part.specs.declared.parts.Part.{Part}
 use Rattle.lu_part.specs.declared.parts.Part.TheVariants as part
-use Rattle.lu_txn.specs.declared.index.Kind.{Kind}
-use Rattle.lu_txn.specs.declared.index.Kind.TheVariants.{Name, Inside, List as Names, Attr, Layout, Parent, Bytes}
+use Rattle.lu_txn.specs.declared.index.Bucket.{Bucket}
+use Rattle.lu_txn.specs.declared.index.Bucket.TheVariants.{Name, Inside, List as Names, Attr, Layout, Parent, Bytes}
+use Rattle.lu_txn.specs.contracts.index.BucketPartialEq.TheImpl as equality
 
-abbrev pub kind_number : Kind → ℕ
-kind_number Name = 0
-kind_number Inside = 1
-kind_number Names = 2
-kind_number Attr = 3
-kind_number Layout = 4
-kind_number Parent = 5
-kind_number Bytes = 6
+-- Both are one bucket.
+abbrev pub same_bucket : Bucket → Bucket → Bool
+same_bucket = (equality.ghosts).eq
 
--- A hash of the kind, the inode and the name.
-unfoldable pub bucket : Kind → Fid → List ℕ → ℕ
-bucket kind fid name = folding.finish (folding.write (fold folding.write (fold folding.write folding.initial (fed.u8 (kind_number kind))) (fed.u64 fid.0)) name)
+-- It is one of these buckets.
+abbrev pub holds : List Bucket → Bucket → Bool
+holds buckets b = list_any (λ one. same_bucket one b) buckets
 
 -- where a written part is filed
-abbrev pub filing : Part → List ℕ
-filing (part.Name directory name) = bucket Name directory name ∷ bucket Inside directory [] ∷ []
-filing (part.List directory) = bucket Names directory [] ∷ bucket Inside directory [] ∷ []
-filing (part.Attr fid) = bucket Attr fid [] ∷ []
-filing (part.Layout fid) = bucket Layout fid [] ∷ []
-filing (part.Parent fid) = bucket Parent fid [] ∷ []
-filing (part.Bytes fid _ _) = bucket Bytes fid [] ∷ []
+abbrev pub filing : Part → List Bucket
+filing (part.Name directory name) = Name directory name ∷ Inside directory ∷ []
+filing (part.List directory) = Names directory ∷ Inside directory ∷ []
+filing (part.Attr fid) = Attr fid ∷ []
+filing (part.Layout fid) = Layout fid ∷ []
+filing (part.Parent fid) = Parent fid ∷ []
+filing (part.Bytes fid stripe _) = Bytes fid stripe ∷ []
 
 -- where a touched part is looked up
-abbrev pub lookups : Part → List ℕ
-lookups (part.Name directory name) = bucket Name directory name ∷ bucket Names directory [] ∷ []
-lookups (part.List directory) = bucket Inside directory [] ∷ []
-lookups (part.Attr fid) = bucket Attr fid [] ∷ []
-lookups (part.Layout fid) = bucket Layout fid [] ∷ []
-lookups (part.Parent fid) = bucket Parent fid [] ∷ []
-lookups (part.Bytes fid _ _) = bucket Bytes fid [] ∷ []
+abbrev pub lookups : Part → List Bucket
+lookups (part.Name directory name) = Name directory name ∷ Names directory ∷ []
+lookups (part.List directory) = Inside directory ∷ []
+lookups (part.Attr fid) = Attr fid ∷ []
+lookups (part.Layout fid) = Layout fid ∷ []
+lookups (part.Parent fid) = Parent fid ∷ []
+lookups (part.Bytes fid stripe _) = Bytes fid stripe ∷ []

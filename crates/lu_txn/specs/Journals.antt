@@ -11,7 +11,7 @@ use Rattle.lu_txn.specs.declared.logs.Logged.{Logged}
 use Rattle.lu_txn.specs.declared.slots.Slot.{Slot}
 use Rattle.lu_txn.specs.declared.journals.Seen.{Seen}
 use Rattle.lu_txn.specs.declared.journals.Seen.TheVariants.{New, Again, Old}
-use Rattle.lu_txn.specs.Slots.{is_before, lives_of, with_life, with_reply}
+use Rattle.lu_txn.specs.Slots.{tag_count, is_before, lives_of, with_life, with_reply}
 use Rattle.lu_txn.specs.Logs.{number}
 
 -- the target's boot, the greatest number so far and the greatest that is on the disk (0 where there is none), the
@@ -26,19 +26,34 @@ pub record JournalState : Type 0 where
 -- The empty journal of the first boot: these lives have slots without replies.
 abbrev pub fresh : List Who → JournalState
 fresh lives =
-    record { boot = 1; newest = 0; committed = 0; transactions = []; slots = fold (λ slots who. with_life who slots) [] lives }
+    record {
+      boot = 1;
+      newest = 0;
+      committed = 0;
+      transactions = [];
+      slots = fold (λ slots who. with_life who slots) [] lives;
+    }
 
 -- How many numbers of this boot are given: a number is the boot times 2^32 and a count from 1. It is 0 while the
 -- newest number is of a lower boot.
 abbrev pub count : JournalState → ℕ
 count journal = journal.newest - journal.boot * 2 ^ 32
 
+-- How many numbers a boot has.
+abbrev pub most_numbers : ℕ
+most_numbers = 2 ^ 32 - 1
+
+-- A transaction as it is kept.
+abbrev pub logged : Txn → Who → ℕ → Op → List Part → Reply → Logged
+logged txn who tag op writes reply =
+    record { transaction = record { txn = txn; who = who; xid = reply.xid; tag = tag; op = op }; writes = writes }
+
 -- The journal with one transaction more, whose reply is kept in the slot of its life and tag.
 abbrev pub appended : Txn → Who → ℕ → Op → List Part → Reply → JournalState → JournalState
 appended txn who tag op writes reply journal =
     record journal {
       newest = txn.0;
-      transactions = journal.transactions ++ record { transaction = record { txn = txn; who = who; xid = reply.xid; tag = tag; op = op }; writes = writes } ∷ [];
+      transactions = journal.transactions ++ logged txn who tag op writes reply ∷ [];
       slots = with_reply who tag reply journal.slots;
     }
 
@@ -60,4 +75,4 @@ pub record IsSound (journal : JournalState) : Type 0 where
   pub given : All (λ logged. number logged ≤ journal.newest) journal.transactions
   pub uncommitted : All (λ logged. journal.committed < number logged) journal.transactions
   pub lives : AllPairs (λ earlier later. is_before earlier later ≡ true) (lives_of journal.slots)
-  pub tags : All (λ slot. length slot.replies ≡ 8) journal.slots
+  pub tags : All (λ slot. length slot.replies ≡ tag_count) journal.slots

@@ -1,7 +1,8 @@
 -- Reply slots: for each life that a target serves, and each tag from 0 to 7, the reply to the newest request
 -- (Lustre Operations Manual, recovery, and multiple modifying requests in flight with their tags).
-use Rattle.std.specs.Prelude.{ℕ, ◌==◌, ◌&&◌, ◌||◌, nat_lt, Bool, if◌then◌else◌, List, [], ◌∷◌, replicate, slice_set, slice_get, Option, Some, None, find, map, not}
-use Rattle.std.specs.List.{position_or_len, list_any}
+use Rattle.std.specs.Prelude.{◌≡◌, ℕ, ◌==◌, ◌&&◌, ◌||◌, nat_lt, Bool, if◌then◌else◌, List, [], ◌∷◌, replicate, slice_set, slice_get, Option, Some, None, find, map, true, All, AllPairs}
+use Rattle.std.specs.List.{list_any}
+use Rattle.std.specs.Map.{values_of}
 use Rattle.lu_base.specs.declared.ids.Who.{Who}
 use Rattle.lu_msg.specs.declared.messages.Reply.{Reply}
 use Rattle.lu_txn.specs.declared.slots.Slot.{Slot}
@@ -16,7 +17,8 @@ is_among who lives = list_any (λ life. same_life life who) lives
 
 -- Lives are in order by client, then by life.
 abbrev pub is_before : Who → Who → Bool
-is_before earlier later = nat_lt earlier.client later.client || (earlier.client == later.client && nat_lt earlier.life later.life)
+is_before earlier later =
+    nat_lt earlier.client later.client || (earlier.client == later.client && nat_lt earlier.life later.life)
 
 -- The slot is that of this life.
 abbrev pub is_of : Who → Slot → Bool
@@ -37,13 +39,27 @@ in_slot tag (Some slot) = at (slice_get slot.replies tag) where
 abbrev pub reply_at : Who → ℕ → List Slot → Option Reply
 reply_at who tag slots = in_slot tag (slot_of who slots)
 
+-- The reply of this life and tag is this one, and all others are as before.
+abbrev pub IsReplyKept : Who → ℕ → Reply → (old new : List Slot) → Type 0
+IsReplyKept who tag reply old new =
+    (other : Who) (t : ℕ)
+    → reply_at other t new ≡ (if same_life other who && t == tag then Some reply else reply_at other t old)
+
 -- The lives that have a slot.
 abbrev pub lives_of : List Slot → List Who
 lives_of slots = map (λ slot. slot.who) slots
 
+-- How many tags a slot has.
+abbrev pub tag_count : ℕ
+tag_count = 8
+
 -- A slot that has no reply yet.
 abbrev pub empty : Who → Slot
-empty who = record { who = who; replies = replicate 8 None }
+empty who = record { who = who; replies = replicate tag_count None }
+
+-- The slot of a life, where these lives have slots without replies.
+abbrev pub empty_of : Who → List Who → Option Slot
+empty_of who lives = if is_among who lives then Some (empty who) else None
 
 -- The slots once this life has one too: a new one stands in its place, without replies.
 abbrev pub with_life : Who → List Slot → List Slot
@@ -64,10 +80,7 @@ with_reply who tag reply (slot ∷ slots) =
     if is_of who slot then with_tag tag reply slot ∷ slots
     else slot ∷ with_reply who tag reply slots
 
--- The slot's life doesn't come before this one.
-abbrev pub is_past : Who → Slot → Bool
-is_past who slot = not (is_before slot.who who)
-
--- The place before which all lives come before this one.
-abbrev pub place_for : Who → List Slot → ℕ
-place_for who slots = position_or_len (is_past who) slots
+-- How the code keeps the slots: each under its life, and these in order.
+pub record IsByLife (entries : List (Who × Slot)) : Type 0 where
+  pub keyed : All (λ entry. entry.0 ≡ entry.1.who) entries
+  pub rising : AllPairs (λ earlier later. is_before earlier later ≡ true) (lives_of (values_of entries))

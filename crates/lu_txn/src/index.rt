@@ -1,76 +1,92 @@
-//! An index of transactions by what they write. It leads from a part to the few transactions that
-//! may have written something that meets it; each of these is then looked at.
-//!
-//! Parts are kept apart by buckets, which are hashes: two parts that meet have a bucket in common,
-//! and two that don't may have one by chance.
+//! An index of transactions by what they write. It leads from a part to the transactions that may have written
+//! something that meets it; each of these is then looked at.
 
-ghost use Rattle.std.specs.Prelude.{◌≡◌, ℕ, ◌==◌, true, if◌then◌else◌, List, [], ◌∷◌, ◌++◌, IfOk, OnOk, OnErr};
+ghost use Rattle.std.specs.Prelude.{◌≡◌, ℕ, true, List, [], ◌∷◌, ◌++◌, IfOk, OnOk};
 ghost use Rattle.std.specs.List.{flat_map};
 ghost use Rattle.std.specs.List.Sorted.{IsStrictlyIncreasing};
-ghost use Rattle.lu_txn.specs.Buckets.{kind_number, bucket, filing, lookups};
+ghost use Rattle.std.specs.Option.{option_to_list};
+ghost use Rattle.lu_txn.specs.declared.index.Bucket.{Bucket};
+ghost use Rattle.lu_txn.specs.declared.index.Bucket.TheVariants as bucket;
+ghost use Rattle.lu_txn.specs.Buckets.{same_bucket, holds, filing, lookups};
 ghost use Rattle.lu_txn.specs.Indexes.{places_of, has, Grows, files, gathered};
 
-use lu_base::{Fid, Memory, Sequence};
+use lu_base::{Fid, Memory, Name, Sequence};
 use lu_part::{Part, Parts};
 use std::alloc::Global;
 use std::collections::HashMap;
-use std::hash::{FoldHasher, Hasher};
 
-/// Which parts a bucket is for.
-#[derive(Clone, Copy, Debug)]
-enum Kind {
+/// What parts are filed under. Where a touched part and a written one meet, the first is looked up under something
+/// that the second is filed under.
+#[derive(Debug, PartialEq, Eq, Hash, Drop)]
+enum Bucket {
     /// A name in a directory.
-    Name,
+    Name(Fid, Name),
     /// All that is written in a directory: its names and its list.
-    Inside,
+    Inside(Fid),
     /// The list of a directory.
-    List,
-    Attr,
-    Layout,
-    Parent,
-    /// The bytes of a file.
-    Bytes,
+    List(Fid),
+    Attr(Fid),
+    Layout(Fid),
+    Parent(Fid),
+    /// The bytes of a file's stripe.
+    Bytes(Fid, u16),
 }
 
-impl Kind {
-    /// A number of its own for each kind.
-    fn number(self) -> u8
-        ensures { result ≡ kind_number self }
-    {
-        match self {
-            Kind::Name => 0,
-            Kind::Inside => 1,
-            Kind::List => 2,
-            Kind::Attr => 3,
-            Kind::Layout => 4,
-            Kind::Parent => 5,
-            Kind::Bytes => 6,
+/// The bucket of a name in a directory.
+fn of_name(alloc: Global, directory: Fid, name: &Name) -> Result<Bucket, Memory>
+    ensures { IfOk result (λ b. b ≡ bucket.Name directory name.now) }
+{
+    Ok(Bucket::Name(directory, Name::from_slice(alloc, name.as_slice())?))
+}
+
+/// Where a written part is filed: under its own bucket, and in a directory under all that is written there.
+fn filing(alloc: Global, part: &Part) -> Result<(Bucket, Option<Bucket>), Memory>
+    ensures { IfOk result (λ pair. pair.0 ∷ option_to_list pair.1 ≡ filing part.now) }
+{
+    match part {
+        Part::Name(directory, name) => Ok((
+            of_name(alloc, *directory, name)?,
+            Some(Bucket::Inside(*directory)),
+        )),
+        Part::List(directory) => {
+            Ok((Bucket::List(*directory), Some(Bucket::Inside(*directory))))
         }
+        Part::Attr(fid) => Ok((Bucket::Attr(*fid), None)),
+        Part::Layout(fid) => Ok((Bucket::Layout(*fid), None)),
+        Part::Parent(fid) => Ok((Bucket::Parent(*fid), None)),
+        Part::Bytes(fid, stripe, _) => Ok((Bucket::Bytes(*fid, *stripe), None)),
     }
 }
 
-/// The bucket of the parts of this kind, inode and name; where a part has no name, it is empty.
-fn bucket(kind: Kind, fid: Fid, name: &[u8]) -> u64
-    ensures { result ≡ bucket kind fid name.now }
+/// Where a touched part is looked up: under its own bucket, and for a name under the list of its directory; for a list
+/// under all that is written in its directory.
+fn lookups(alloc: Global, part: &Part) -> Result<(Bucket, Option<Bucket>), Memory>
+    ensures { IfOk result (λ pair. pair.0 ∷ option_to_list pair.1 ≡ lookups part.now) }
 {
-    let mut hasher = FoldHasher::default();
-    hasher.write_u8(kind.number());
-    hasher.write_u64(fid.0);
-    hasher.write(name);
-    hasher.finish()
+    match part {
+        Part::Name(directory, name) => Ok((
+            of_name(alloc, *directory, name)?,
+            Some(Bucket::List(*directory)),
+        )),
+        Part::List(directory) => Ok((Bucket::Inside(*directory), None)),
+        Part::Attr(fid) => Ok((Bucket::Attr(*fid), None)),
+        Part::Layout(fid) => Ok((Bucket::Layout(*fid), None)),
+        Part::Parent(fid) => Ok((Bucket::Parent(*fid), None)),
+        Part::Bytes(fid, stripe, _) => Ok((Bucket::Bytes(*fid, *stripe), None)),
+    }
 }
 
 /// Where the transactions stand that wrote something in a bucket.
 #[derive(Debug, Drop)]
 pub(crate) struct Index {
     alloc: Global,
-    buckets: HashMap<u64, Sequence<usize>>,
+    buckets: HashMap<Bucket, Sequence<usize>>,
 }
 
 impl Index {
     /// No transaction. It takes no memory yet.
     pub(crate) fn new(alloc: Global) -> Index
-        ensures { (b : ℕ) → places_of result b ≡ [] }
+        ensures { (b : Bucket) → places_of result b ≡ [] }
     {
         Index {
             alloc,
@@ -79,43 +95,41 @@ impl Index {
     }
 
     /// Files a place in a bucket, after those that are there.
-    fn file(&mut self, bucket: u64, place: usize) -> Result<(), Memory>
-        ensures filed { OnOk result ((b : ℕ) → places_of self.new b ≡ (if bucket == b then places_of self.old b ++ place ∷ [] else places_of self.old b)) }
-        ensures kept { OnErr result ((b : ℕ) → places_of self.new b ≡ places_of self.old b) }
+    fn file(&mut self, bucket: Bucket, place: usize) -> Result<(), Memory>
+        ensures filed { OnOk result ((b : Bucket) →
+            same_bucket bucket b ≡ true → has (places_of self.new b) place ≡ true) }
+        ensures grows { Grows self.old self.new }
     {
-        let places = self
-            .buckets
-            .entry(bucket)?
-            .or_insert(Sequence::new(self.alloc));
-        places.push(place)?;
-        Ok(())
+        match self.buckets.get_mut(&bucket) {
+            Some(places) => places.push(place),
+            None => {
+                let mut places = Sequence::new(self.alloc);
+                places.push(place)?;
+                self.buckets.insert(bucket, places)?;
+                Ok(())
+            }
+        }
     }
 
     /// Files a place in the buckets of a written part.
     fn file_part(&mut self, part: &Part, place: usize) -> Result<(), Memory>
-        ensures filed { OnOk result ((b : ℕ) → has (filing part.now) b ≡ true → has (places_of self.new b) place ≡ true) }
+        ensures filed { OnOk result ((b : Bucket) →
+            holds (filing part.now) b ≡ true → has (places_of self.new b) place ≡ true) }
         ensures grows { Grows self.old self.new }
     {
-        match part {
-            Part::Name(directory, name) => {
-                self.file(bucket(Kind::Name, *directory, name.as_slice()), place)?;
-                self.file(bucket(Kind::Inside, *directory, &[]), place)
-            }
-            Part::List(directory) => {
-                self.file(bucket(Kind::List, *directory, &[]), place)?;
-                self.file(bucket(Kind::Inside, *directory, &[]), place)
-            }
-            Part::Attr(fid) => self.file(bucket(Kind::Attr, *fid, &[]), place),
-            Part::Layout(fid) => self.file(bucket(Kind::Layout, *fid, &[]), place),
-            Part::Parent(fid) => self.file(bucket(Kind::Parent, *fid, &[]), place),
-            Part::Bytes(fid, _, _) => self.file(bucket(Kind::Bytes, *fid, &[]), place),
+        let (own, other) = filing(self.alloc, part)?;
+        self.file(own, place)?;
+        match other {
+            Some(other) => self.file(other, place),
+            None => Ok(()),
         }
     }
 
     /// Files a transaction's place under all that it writes. After want of memory it may be filed under
     /// some of it.
     pub(crate) fn add(&mut self, writes: &Parts, place: usize) -> Result<(), Memory>
-        ensures filed { OnOk result ((b : ℕ) → files writes.now b ≡ true → has (places_of self.new b) place ≡ true) }
+        ensures filed { OnOk result ((b : Bucket) →
+            files writes.now b ≡ true → has (places_of self.new b) place ≡ true) }
         ensures grows { Grows self.old self.new }
     {
         for part in writes.as_slice() {
@@ -125,10 +139,10 @@ impl Index {
     }
 
     /// Adds the places that are filed in a bucket.
-    fn gather(&self, bucket: u64, places: &mut Vec<usize>) -> Result<(), Memory>
-        ensures gathered { OnOk result (places.new.items ≡ places.old.items ++ places_of self.now bucket) }
+    fn gather(&self, bucket: &Bucket, places: &mut Vec<usize>) -> Result<(), Memory>
+        ensures gathered { OnOk result (places.new.items ≡ places.old.items ++ places_of self.now bucket.now) }
     {
-        if let Some(found) = self.buckets.get(&bucket) {
+        if let Some(found) = self.buckets.get(bucket) {
             places.extend_from_slice(found.as_slice())?;
         }
         Ok(())
@@ -136,18 +150,14 @@ impl Index {
 
     /// Adds the places that are filed in the buckets in which a touched part is looked up.
     fn gather_part(&self, part: &Part, places: &mut Vec<usize>) -> Result<(), Memory>
-        ensures gathered { OnOk result (places.new.items ≡ places.old.items ++ flat_map (places_of self.now) (lookups part.now)) }
+        ensures gathered { OnOk result (places.new.items
+            ≡ places.old.items ++ flat_map (places_of self.now) (lookups part.now)) }
     {
-        match part {
-            Part::Name(directory, name) => {
-                self.gather(bucket(Kind::Name, *directory, name.as_slice()), places)?;
-                self.gather(bucket(Kind::List, *directory, &[]), places)
-            }
-            Part::List(directory) => self.gather(bucket(Kind::Inside, *directory, &[]), places),
-            Part::Attr(fid) => self.gather(bucket(Kind::Attr, *fid, &[]), places),
-            Part::Layout(fid) => self.gather(bucket(Kind::Layout, *fid, &[]), places),
-            Part::Parent(fid) => self.gather(bucket(Kind::Parent, *fid, &[]), places),
-            Part::Bytes(fid, _, _) => self.gather(bucket(Kind::Bytes, *fid, &[]), places),
+        let (own, other) = lookups(self.alloc, part)?;
+        self.gather(&own, places)?;
+        match other {
+            Some(other) => self.gather(&other, places),
+            None => Ok(()),
         }
     }
 
@@ -155,7 +165,8 @@ impl Index {
     /// once, rising.
     pub(crate) fn candidates(&self, touched: &Parts) -> Result<Vec<usize>, Memory>
         ensures rising { IfOk result (λ places. IsStrictlyIncreasing places.items) }
-        ensures all { IfOk result (λ places. (place : ℕ) → has (gathered self.now touched.now) place ≡ true → has places.items place ≡ true) }
+        ensures all { IfOk result (λ places. (place : ℕ) →
+            has (gathered self.now touched.now) place ≡ true → has places.items place ≡ true) }
     {
         let mut places = Vec::new(self.alloc);
         for part in touched.as_slice() {

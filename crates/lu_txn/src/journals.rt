@@ -2,14 +2,14 @@
 
 ghost use Rattle.std.specs.Prelude.{◌≡◌, ◌≢◌, ℕ, ◌==◌, ◌&&◌, if◌then◌else◌, ◌+◌, ◌-◌, ◌*◌, ◌^◌, ◌<◌, ◌≤◌, ◌↔◌, List, [], ◌∷◌, ◌++◌, length, slice_get, option_map, Option, Some, None, IsSome, IfOk, IfErr, OnOk, OnErr, Err};
 ghost use Rattle.std.specs.List.Sorted.{IsStrictlyIncreasing};
-ghost use Rattle.lu_txn.specs.Slots.{same_life, is_among, slot_of, empty, with_reply, reply_at, lives_of};
+ghost use Rattle.lu_txn.specs.Slots.{tag_count, slot_of, empty_of, with_reply, reply_at, lives_of, IsReplyKept};
 ghost use Rattle.lu_txn.specs.Logs.{number, seen_by};
-ghost use Rattle.lu_txn.specs.Journals.{JournalState, fresh, count, appended, IsSeen, IsSound};
+ghost use Rattle.lu_txn.specs.Journals.{JournalState, fresh, count, most_numbers, appended, IsSeen, IsSound};
 ghost use Rattle.lu_txn.specs.declared.journals.TxnError.TheVariants as error;
 
 use super::index::Index;
 use super::logs::{Logged, seen_among};
-use super::slots::{Slot, add_life, keep_reply, slot_of};
+use super::slots::Slots;
 use lu_base::{Memory, Numbers, Txn, Who, Xid};
 use lu_msg::{Op, Reply, Transaction};
 use lu_part::Parts;
@@ -17,6 +17,9 @@ use std::alloc::{AllocFailed, Global};
 use std::error::Error;
 use std::fmt;
 use std::marker::Model;
+
+/// How many numbers a boot has: 2^32 - 1.
+const MOST_NUMBERS: u64 = 4_294_967_295;
 
 /// What a request's number says at the slot of its life and tag.
 #[derive(Clone, Copy, Debug)]
@@ -88,8 +91,8 @@ pub struct Journal {
     transactions: Vec<Logged>,
     /// Where the transactions stand by what they write.
     index: Index,
-    /// By client, then by life.
-    slots: Vec<Slot>,
+    /// What is kept for each life.
+    slots: Slots,
 }
 
 impl Model for Journal {
@@ -98,21 +101,34 @@ impl Model for Journal {
 
     ghost Value = { JournalState };
 
-    ghost view = { λ j. record { boot = j.boot; newest = j.newest.0; committed = j.committed.0; transactions = j.transactions.items; slots = j.slots.items } };
+    ghost view = { λ j. record {
+      boot = j.boot;
+      newest = j.newest.0;
+      committed = j.committed.0;
+      transactions = j.transactions.items;
+      slots = j.slots;
+    } };
 
-    ghost invariant = { λ j. IsSound (record { boot = j.boot; newest = j.newest.0; committed = j.committed.0; transactions = j.transactions.items; slots = j.slots.items }) × IsIndexed j.index j.transactions.items };
+    ghost invariant = { λ j.
+        IsSound (record {
+          boot = j.boot;
+          newest = j.newest.0;
+          committed = j.committed.0;
+          transactions = j.transactions.items;
+          slots = j.slots;
+        }) × IsIndexed j.index j.transactions.items };
 }
 
 impl Journal {
     /// The empty journal of boot 1, with a slot without replies for each of these lives.
     pub fn new(alloc: Global, first: &[Who]) -> Result<Journal, Memory>
         ensures fresh { IfOk result (λ journal. journal ≡ fresh first.now) }
-        ensures lives { IfOk result (λ journal. (who : Who) → slot_of who journal.slots ≡ (if is_among who first.now then Some (empty who) else None)) }
+        ensures lives { IfOk result (λ journal. (who : Who) → slot_of who journal.slots ≡ empty_of who first.now) }
         ensures sound { IfOk result IsSound }
     {
-        let mut slots = Vec::new(alloc);
+        let mut slots = Slots::new(alloc);
         for who in first {
-            add_life(&mut slots, *who)?;
+            slots.add(*who)?;
         }
         Ok(Journal {
             alloc,
@@ -130,13 +146,13 @@ impl Journal {
     pub fn next(&self) -> Result<Txn, TxnError>
         ensures number { IfOk result (λ next. next.0 ≡ self.now.boot * 2 ^ 32 + count self.now + 1) }
         ensures above { IfOk result (λ next. self.now.newest < next.0) }
-        ensures room { IfOk result (λ _. count self.now < 2 ^ 32 - 1) }
-        ensures spent { IfErr result (λ e. (e ≡ error.NumbersSpent) × (count self.now ≡ 2 ^ 32 - 1)) }
+        ensures room { IfOk result (λ _. count self.now < most_numbers) }
+        ensures spent { IfErr result (λ e. (e ≡ error.NumbersSpent) × (count self.now ≡ most_numbers)) }
         ensures sound { IsSound self.now }
     {
         let first = u64::from(self.boot) << 32;
         let count = self.newest.0.saturating_sub(first);
-        if count == u64::from(u32::MAX) {
+        if count == MOST_NUMBERS {
             return Err(TxnError::NumbersSpent);
         }
         Ok(Txn(first + count + 1))
@@ -155,16 +171,16 @@ impl Journal {
     ) -> Result<(), TxnError>
         requires above { self.old.newest < number.0 }
         requires boot { number.0 < (self.old.boot + 1) * 2 ^ 32 }
-        requires tag { tag < 8 }
+        requires tag { tag < tag_count }
         ensures added { OnOk result (self.new ≡ appended number who tag op writes reply self.old) }
-        ensures replies { OnOk result ((other : Who) (t : ℕ) → reply_at other t self.new.slots ≡ (if same_life other who && t == tag then Some reply else reply_at other t self.old.slots)) }
+        ensures replies { OnOk result (IsReplyKept who tag reply self.old.slots self.new.slots) }
         ensures slot { OnOk result (IsSome (slot_of who self.old.slots)) }
         ensures no_slot { result ≡ Err error.NoSlot ↔ slot_of who self.old.slots ≡ None }
         ensures err { IfErr result (λ e. e ≢ error.NumbersSpent) }
         ensures kept { OnErr result (self.new ≡ self.old) }
         ensures sound { IsSound self.new }
     {
-        if slot_of(&self.slots, who).is_none() {
+        if self.slots.of(who).is_none() {
             return Err(TxnError::NoSlot);
         }
         self.index.add(&writes, self.transactions.len())?;
@@ -180,38 +196,39 @@ impl Journal {
             writes,
         })?;
         self.newest = number;
-        keep_reply(&mut self.slots, who, tag, reply);
+        self.slots.keep(who, tag, reply);
         Ok(())
     }
 
     /// Keeps the reply to a request of this life and tag that made no transaction in their slot. `NoSlot`
     /// exactly where the life has no slot; no other error comes. It takes no memory.
     pub fn keep(&mut self, who: Who, tag: u8, reply: Reply) -> Result<(), TxnError>
-        requires tag { tag < 8 }
-        ensures stored { OnOk result (self.new ≡ record self.old { slots = with_reply who tag reply self.old.slots }) }
-        ensures replies { OnOk result ((other : Who) (t : ℕ) → reply_at other t self.new.slots ≡ (if same_life other who && t == tag then Some reply else reply_at other t self.old.slots)) }
+        requires tag { tag < tag_count }
+        ensures stored { OnOk result (self.new
+            ≡ record self.old { slots = with_reply who tag reply self.old.slots }) }
+        ensures replies { OnOk result (IsReplyKept who tag reply self.old.slots self.new.slots) }
         ensures slot { OnOk result (IsSome (slot_of who self.old.slots)) }
         ensures no_slot { IfErr result (λ e. (e ≡ error.NoSlot) × (slot_of who self.old.slots ≡ None)) }
         ensures kept { OnErr result (self.new ≡ self.old) }
         ensures sound { IsSound self.new }
     {
-        if slot_of(&self.slots, who).is_none() {
+        if self.slots.of(who).is_none() {
             return Err(TxnError::NoSlot);
         }
-        keep_reply(&mut self.slots, who, tag, reply);
+        self.slots.keep(who, tag, reply);
         Ok(())
     }
 
     /// What this number says at the slot of this life and tag. `NoSlot` exactly where the life has no slot.
     /// It takes no memory.
     pub fn look(&self, who: Who, tag: u8, xid: Xid) -> Result<Seen<'_>, TxnError>
-        requires tag { tag < 8 }
+        requires tag { tag < tag_count }
         ensures seen { IfOk result (λ seen. IsSeen (reply_at who tag self.now.slots) xid seen) }
         ensures slot { IfOk result (λ _. IsSome (slot_of who self.now.slots)) }
         ensures no_slot { IfErr result (λ e. (e ≡ error.NoSlot) × (slot_of who self.now.slots ≡ None)) }
         ensures sound { IsSound self.now }
     {
-        let Some(slot) = slot_of(&self.slots, who) else {
+        let Some(slot) = self.slots.of(who) else {
             return Err(TxnError::NoSlot);
         };
         let Some(reply) = &slot.replies[tag as usize] else {
@@ -243,12 +260,13 @@ impl Journal {
         ensures life { result ≡ slice_get (lives_of self.now.slots) at }
         ensures sound { IsSound self.now }
     {
-        Some(self.slots.get(at)?.who)
+        self.slots.life(at)
     }
 
     /// The uncommitted transactions in rising number, from place 0 on; none past the last.
     pub fn uncommitted(&self, at: usize) -> Option<Txn>
-        ensures number { result ≡ option_map (λ logged. logged.transaction.txn) (slice_get self.now.transactions at) }
+        ensures number { result
+            ≡ option_map (λ logged. logged.transaction.txn) (slice_get self.now.transactions at) }
         ensures sound { IsSound self.now }
     {
         Some(self.transactions.get(at)?.transaction.txn)

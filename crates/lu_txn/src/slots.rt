@@ -1,24 +1,30 @@
 //! Reply slots: what a target keeps for a life of a client, by tag.
 
-ghost use Rattle.std.specs.Prelude.{◌≡◌, ◌<◌, Bool, false, length, position, slice_get, IfSome, OnOk, OnErr};
-ghost use Rattle.std.specs.Option.{option_copied, option_map_or};
-ghost use Rattle.lu_txn.specs.Slots.{empty, is_of, is_before, slot_of, with_tag, with_reply, with_life, is_past, place_for};
+ghost use Rattle.std.specs.Prelude.{◌≡◌, ◌<◌, [], slice_get, option_map, OnOk, OnErr};
+ghost use Rattle.std.specs.Option.{option_copied};
+ghost use Rattle.lu_txn.specs.Slots.{tag_count, empty, slot_of, with_tag, with_reply, with_life};
 
 use lu_base::{Memory, Who};
 use lu_msg::Reply;
+use std::alloc::Global;
+use std::collections::BTreeMap;
+use std::marker::Model;
+
+/// How many tags a slot has.
+pub const TAGS: usize = 8;
 
 /// What is kept for one life.
 #[derive(Debug, Drop)]
 pub struct Slot {
     pub who: Who,
     /// By tag, 0 to 7, the reply to the newest request; none where no reply was kept.
-    pub replies: [Option<Reply>; 8],
+    pub replies: [Option<Reply>; TAGS],
 }
 
 impl Slot {
     /// Keeps a reply for this tag.
     fn keep(&mut self, tag: u8, reply: Reply)
-        requires tag { tag < 8 }
+        requires tag { tag < tag_count }
         ensures kept { self.new ≡ with_tag tag reply self.old }
     {
         self.replies[tag as usize] = Some(reply);
@@ -35,73 +41,70 @@ fn empty(who: Who) -> Slot
     }
 }
 
-/// Whether a life comes before another: by client, then by life.
-fn is_before(earlier: Who, later: Who) -> bool
-    ensures { result ≡ is_before earlier later }
-{
-    earlier < later
+/// The slots of all lives. A contract sees them by client and then by life.
+#[derive(Debug, Drop)]
+pub(crate) struct Slots {
+    by_life: BTreeMap<Who, Slot>,
 }
 
-/// The slot of this life; none where it has none.
-pub(crate) fn slot_of(slots: &[Slot], who: Who) -> Option<&Slot>
-    ensures { option_copied result ≡ slot_of who slots.now }
-{
-    slots.iter().find(|slot| slot.who == who)
+impl Model for Slots {
+    ghost use Rattle.std.specs.Prelude.{List};
+    ghost use Rattle.std.specs.Map.{values_of};
+    ghost use Rattle.lu_txn.specs.declared.slots.Slot.{Slot};
+    ghost use Rattle.lu_txn.specs.Slots.{IsByLife};
+
+    ghost Value = { List Slot };
+
+    ghost view = { λ slots. values_of slots.by_life.entries };
+
+    ghost invariant = { λ slots. IsByLife slots.by_life.entries };
 }
 
-/// The place of this life's slot; none where it has none.
-fn place_of(slots: &[Slot], who: Who) -> Option<usize>
-    ensures place { result ≡ position (is_of who) slots.now }
-    ensures within { IfSome result (λ place. place < length slots.now) }
-{
-    slots.iter().position(|slot| slot.who == who)
-}
-
-/// Keeps a reply for this life and tag; nothing where the life has no slot. It takes no memory.
-pub(crate) fn keep_reply(slots: &mut Vec<Slot>, who: Who, tag: u8, reply: Reply)
-    requires tag { tag < 8 }
-    ensures kept { slots.new.items ≡ with_reply who tag reply slots.old.items }
-{
-    let Some(place) = place_of(slots, who) else {
-        return;
-    };
-    slots[place].keep(tag, reply);
-}
-
-/// The place of the first slot whose life doesn't come before this one; none where all do.
-fn first_past(slots: &[Slot], who: Who) -> Option<usize>
-    ensures { result ≡ position (is_past who) slots.now }
-{
-    slots.iter().position(|slot| !is_before(slot.who, who))
-}
-
-/// The place before which all lives come before this one.
-fn place_for(slots: &[Slot], who: Who) -> usize
-    ensures { result ≡ place_for who slots.now }
-{
-    first_past(slots, who).unwrap_or(slots.len())
-}
-
-/// Adds a slot without replies for this life in its place; nothing where it has one. After want of
-/// memory nothing has changed.
-pub(crate) fn add_life(slots: &mut Vec<Slot>, who: Who) -> Result<(), Memory>
-    ensures added { OnOk result (slots.new.items ≡ with_life who slots.old.items) }
-    ensures kept { OnErr result (slots.new.items ≡ slots.old.items) }
-{
-    let place = place_for(slots, who);
-    if is_there(slots, place, who) {
-        return Ok(());
+impl Slots {
+    /// No life has a slot. It takes no memory yet.
+    pub(crate) fn new(alloc: Global) -> Slots
+        ensures empty { result ≡ [] }
+    {
+        Slots {
+            by_life: BTreeMap::new(alloc),
+        }
     }
-    slots.insert(place, empty(who))?;
-    Ok(())
-}
 
-/// Whether the slot at this place is that of this life.
-fn is_there(slots: &[Slot], place: usize, who: Who) -> bool
-    ensures { result ≡ option_map_or (is_of who) (slice_get slots.now place) false }
-{
-    match slots.get(place) {
-        Some(slot) => slot.who == who,
-        None => false,
+    /// The slot of this life; none where it has none.
+    pub(crate) fn of(&self, who: Who) -> Option<&Slot>
+        ensures slot { option_copied result ≡ slot_of who self.now }
+    {
+        self.by_life.get(&who)
+    }
+
+    /// Keeps a reply for this life and tag; nothing where the life has no slot. It takes no memory.
+    pub(crate) fn keep(&mut self, who: Who, tag: u8, reply: Reply)
+        requires tag { tag < tag_count }
+        ensures kept { self.new ≡ with_reply who tag reply self.old }
+    {
+        let Some(slot) = self.by_life.get_mut(&who) else {
+            return;
+        };
+        slot.keep(tag, reply);
+    }
+
+    /// Adds a slot without replies for this life; nothing where it has one. After want of memory nothing has
+    /// changed.
+    pub(crate) fn add(&mut self, who: Who) -> Result<(), Memory>
+        ensures added { OnOk result (self.new ≡ with_life who self.old) }
+        ensures kept { OnErr result (self.new ≡ self.old) }
+    {
+        if self.by_life.contains_key(&who) {
+            return Ok(());
+        }
+        self.by_life.insert(who, empty(who))?;
+        Ok(())
+    }
+
+    /// The lives that have slots, by client and then by life, from place 0 on; none past the last.
+    pub(crate) fn life(&self, at: usize) -> Option<Who>
+        ensures life { result ≡ option_map (λ slot. slot.who) (slice_get self.now at) }
+    {
+        self.by_life.keys().nth(at).copied()
     }
 }

@@ -1,21 +1,25 @@
--- One resource more; and nothing is left at the end.
-use Rattle.std.proofs.Common.{rules, ◌≡◌, ◌∙◌, [], ◌++◌, drop, refl, sym, subst}
-use Rattle.std.proofs.lemmas.List.{append-nil}
-use Rattle.std.proofs.Math.ListN.{drop_of_length-le}
-use Rattle.lu_lockspace.specs.Spaces.{AllSettled}
-use Rattle.lu_lockspace.proofs.Lists.{settled_step}
+-- One resource more; and none is left at the end.
+use Rattle.std.proofs.Common.{rules, ◌≡◌, ◌+◌, ◌∙◌, ◌++◌, take, sym, subst, arith}
+use Rattle.std.specs.Map.{keys_of}
+use Rattle.std.proofs.lemmas.List.{take_all}
+use Rattle.lu_lockspace.specs.Ending.{AllEnded}
+use Rattle.lu_lockspace.proofs.Ended.{ended_more, keys_more}
 use Rattle.lu_lockspace.proofs.ending.ended.Goals as goal
 
 pub loop-resource-preserved : goal.loop-resource-preserved
 loop-resource-preserved c =
-    let e : c.extend_from_slice.new.self.items ≡ c.loop-resource.grants.items ++ c.in_ok-next.first = search rules in (
-      λ rest after h. subst (λ gs. AllSettled c.args.lives.now c.args.resources.now c.args.lists.now (gs ++ rest) after) (sym e)
-          (settled_step c.args.lives.now c.args.resources.now c.args.lists.now c.loop-resource.now c.in_ok-next.next c.loop-resource.resource-index _ c.loop-resource.grants.items c.in_ok-next.first c.loop-resource-test.true c.in_ok-next.ensures.granted c.in_ok-next.ensures.others c.loop-resource.invariant.0 rest after h),
-      c.in_ok-next.ensures.lawful,
+    let i = c.loop-resource.resource-index in
+    let ended = c.loop-resource.ended.items in
+    let grants = c.loop-resource.grants.items in
+    let e : c.extend_from_slice.new.self.items ≡ grants ++ c.in_ok-queue.first = search rules in (
+      subst (λ es. keys_of es ≡ take (i + 1) c.args.resources.now) (sym c.in_ok-push_back.ensures.items) (keys_more ended c.args.resources.now i _ c.in_ok-queue.queue c.loop-resource-test.true c.loop-resource.invariant.0),
+      subst (λ gs. AllEnded c.args.lives.now c.args.queues.now c.push_back.new.self.items gs) (sym e)
+          (subst (λ es. AllEnded c.args.lives.now c.args.queues.now es (grants ++ c.in_ok-queue.first)) (sym c.in_ok-push_back.ensures.items)
+          (ended_more c.args.lives.now c.args.queues.now ended grants c.in_ok-queue.first _ c.in_ok-queue.queue c.loop-resource.invariant.1 c.in_ok-queue.ensures.granted c.in_ok-queue.ensures.lawful)),
     )
 
-pub returns-clause-settled : goal.returns-clause-settled
-returns-clause-settled c =
-    let none : drop c.loop-resource.resource-index c.args.resources.now ≡ [] = drop_of_length-le c.args.resources.now c.loop-resource-test.false in
-    let all = c.loop-resource.invariant.0 [] c.loop-resource.now (subst (λ rs. AllSettled c.args.lives.now rs c.loop-resource.now [] c.loop-resource.now) (sym none) (refl, refl)) in
-    subst (λ gs. AllSettled c.args.lives.now c.args.resources.now c.args.lists.now gs c.loop-resource.now) (append-nil c.loop-resource.grants.items ∙ sym c.from.ensures) all
+pub returns-clause-resources : goal.returns-clause-resources
+returns-clause-resources c = c.loop-resource.invariant.0 ∙ take_all _ _ (omega (arith, c.loop-resource-test.false))
+
+pub returns-clause-ended : goal.returns-clause-ended
+returns-clause-ended c = subst (AllEnded c.args.lives.now c.args.queues.now c.loop-resource.ended.items) (sym c.from.ensures) c.loop-resource.invariant.1

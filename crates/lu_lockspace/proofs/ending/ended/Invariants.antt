@@ -1,10 +1,9 @@
--- What was granted so far begins what is granted.
-use Rattle.std.proofs.Common.{List, ◌++◌, drop}
-use Rattle.lu_queue.specs.declared.locks.Grant.{Grant}
-use Rattle.lu_lockspace.specs.Spaces.{SpaceState, AllSettled, IsSpace}
+-- The queues of the resources so far, and what was granted on them.
+use Rattle.std.proofs.Common.{◌≡◌, take}
+use Rattle.std.specs.Map.{keys_of}
+use Rattle.lu_lockspace.specs.Ending.{AllEnded}
 use Rattle.lu_lockspace.proofs.ending.ended.Given as goal
 
 abbrev pub invariant-loop-resource : goal.invariant-loop-resource
 invariant-loop-resource l =
-    ((rest : List Grant) (after : SpaceState) → AllSettled l.lives (drop l.resource-index l.resources) l.now rest after → AllSettled l.lives l.resources l.lists (l.grants.items ++ rest) after)
-    × IsSpace l.now
+    (keys_of l.ended.items ≡ take l.resource-index l.resources) × AllEnded l.lives l.queues l.ended.items l.grants.items

@@ -1,5 +1,5 @@
 -- No first waiting lock: none waits.
-use Rattle.std.proofs.Common.{◌≡◌, ◌∙◌, Option, Some, None, List, [], ◌∷◌, slice_get, refl, sym, ap}
+use Rattle.std.proofs.Common.{◌≡◌, ◌∙◌, None, List, [], ◌∷◌, slice_get, refl, sym, ap}
 use Rattle.std.specs.Option.{option_copied}
 use Rattle.lu_queue.proofs.Keyed.{none_from_false}
 use Rattle.lu_queue.proofs.tests.restored.Goals as goal

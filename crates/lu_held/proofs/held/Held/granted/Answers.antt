@@ -1,12 +1,12 @@
 -- The lock stands in front under its name; where the name finds no room, the lock leaves again.
 use Rattle.std.proofs.Common.{◌≡◌, ◌∙◌, ◌∷◌, None, ap, rules}
-use Rattle.std.specs.Prelude.{insert}
+use Rattle.std.specs.BTreeSet.{insert_key}
 use Rattle.std.specs.Map.{lookup, values_of, remove_entry}
 use Rattle.lu_held.specs.declared.locks.HeldLock.{HeldLock}
-use Rattle.lu_held.specs.Names.{same_name, place_for}
+use Rattle.lu_held.specs.Names.{same_name}
 use Rattle.lu_held.specs.Locks.{name_of}
 use Rattle.lu_held.specs.Held.{granted, is_held}
-use Rattle.lu_held.proofs.NameLaws.{place_for_within}
+use Rattle.lu_held.proofs.NameLaws.{by_name}
 use Rattle.lu_held.proofs.Entries.{lookup_held, none_of, removed_first}
 use Rattle.lu_held.proofs.Keeping.{the_state, kept_granted}
 use Rattle.lu_held.proofs.held.Held.granted.Goals as goal
@@ -15,19 +15,19 @@ pub put_first-requires : goal.put_first-requires
 put_first-requires c =
     let name = name_of (granted c.args.target c.args.lock) in
     let entries = c.self.inside.uses.entries in
-    let absent : lookup (same_name name) entries ≡ None = none_of _ (lookup_held name entries c.self.invariant.keyed ∙ ap (λ state. is_held name state.locks) c.self.view_is ∙ c.requires.absent) in
-    record { absent = rw c.name-name.ensures absent }
-
-pub insert-requires : goal.insert-requires
-insert-requires c = rw (c.place_for-place.ensures, ← c.deref.ensures.len) (place_for_within c.name-name.result c.deref.result.now)
+    let absent : lookup (same_name name) entries ≡ None = none_of _ (lookup_held name entries c.self.invariant.kept.keyed ∙ ap (λ state. is_held name state.locks) c.self.view_is ∙ c.requires.absent) in
+    record { absent = rw c.name-name.ensures absent; room = c.self.invariant.room }
 
 pub invariant_of-self-then-is_err : goal.invariant_of-self-then-is_err
 invariant_of-self-then-is_err c =
     let held : HeldLock = granted c.args.target c.args.lock in
     let entries = c.self.inside.uses.entries in
     let popped : c.pop.new.self.entries ≡ entries = ap (λ h. h.entries) c.pop.ensures.entries ∙ ap (remove_entry (same_name c.name-name.result)) c.in_ok-put_first.ensures.first ∙ removed_first c.name-name.result held entries in
-    let names : c.insert.new.self.items ≡ c.self.inside.names.items = search rules in
-    rw (popped, names) c.self.invariant
+    let names : c.insert.new.self.keys ≡ c.self.inside.names.keys = search rules in
+    record {
+      kept = rw (popped, names) c.self.invariant.kept;
+      room = rw c.pop.ensures.entries c.in_ok-put_first.ensures.room;
+    }
 
 pub returns-then-is_err-clause-kept : goal.returns-then-is_err-clause-kept
 returns-then-is_err-clause-kept c =
@@ -37,17 +37,19 @@ returns-then-is_err-clause-kept c =
     ap (λ es. the_state c.self.inside.unused (values_of es)) popped ∙ c.self.view_is
 
 pub returns-then-is_err-clause-sound : goal.returns-then-is_err-clause-sound
-returns-then-is_err-clause-sound c = (invariant_of-self-then-is_err c).sound
+returns-then-is_err-clause-sound c = (invariant_of-self-then-is_err c).kept.sound
 
 pub invariant_of-self-else-is_err : goal.invariant_of-self-else-is_err
 invariant_of-self-else-is_err c =
     let held : HeldLock = granted c.args.target c.args.lock in
     let entries = c.self.inside.uses.entries in
-    let absent : lookup (same_name (name_of held)) entries ≡ None = none_of _ (lookup_held (name_of held) entries c.self.invariant.keyed ∙ ap (λ state. is_held (name_of held) state.locks) c.self.view_is ∙ c.requires.absent) in
+    let absent : lookup (same_name (name_of held)) entries ≡ None = none_of _ (lookup_held (name_of held) entries c.self.invariant.kept.keyed ∙ ap (λ state. is_held (name_of held) state.locks) c.self.view_is ∙ c.requires.absent) in
     let put : c.put_first.new.uses.entries ≡ (name_of held, held) ∷ entries = rw (← c.name-name.ensures) c.in_ok-put_first.ensures.first in
-    let place : c.place_for-place.result ≡ place_for (name_of held) c.self.inside.names.items = c.place_for-place.ensures ∙ ap (λ n. place_for n c.deref.result.now) c.name-name.ensures ∙ ap (place_for (name_of held)) c.deref.ensures.value in
-    let names : c.insert.new.self.items ≡ insert c.self.inside.names.items c.place_for-place.result c.name-name.result = search rules in
-    rw (put, names, place, c.name-name.ensures) (kept_granted c.self.inside.names.items held entries c.self.invariant absent)
+    let names : c.insert.new.self.keys ≡ insert_key by_name c.self.inside.names.keys c.name-name.result = search rules in
+    record {
+      kept = rw (put, names, c.name-name.ensures) (kept_granted c.self.inside.names.keys held entries c.self.invariant.kept absent);
+      room = c.in_ok-put_first.ensures.room;
+    }
 
 pub returns-clause-added : goal.returns-clause-added
 returns-clause-added c =
@@ -55,4 +57,4 @@ returns-clause-added c =
     ap (λ es. the_state c.self.inside.unused (values_of es)) c.in_ok-put_first.ensures.first ∙ ap (λ state. the_state state.unused (held ∷ state.locks)) c.self.view_is
 
 pub returns-clause-sound : goal.returns-clause-sound
-returns-clause-sound c = (invariant_of-self-else-is_err c).sound
+returns-clause-sound c = (invariant_of-self-else-is_err c).kept.sound

@@ -5,11 +5,14 @@ use Rattle.lu_held.proofs.Keeping.{the_state, kept_promoted, values_promoted}
 use Rattle.lu_held.proofs.held.Held.use_now.Goals as goal
 
 pub invariant_of-self : goal.invariant_of-self
-invariant_of-self c = rw c.promote.ensures.entries (kept_promoted c.self.inside.names.items c.args.name c.self.inside.uses.entries c.self.invariant)
+invariant_of-self c = record {
+  kept = rw c.promote.ensures.entries (kept_promoted c.self.inside.names.keys c.args.name c.self.inside.uses.entries c.self.invariant.kept);
+  room = rw c.promote.ensures.entries c.self.invariant.room;
+}
 
 pub returns-clause-used : goal.returns-clause-used
 returns-clause-used c =
-    rw c.promote.ensures.entries (ap (λ locks. the_state c.self.inside.unused locks) (values_promoted c.self.inside.names.items c.args.name c.self.inside.uses.entries c.self.invariant) ∙ ap (λ state. the_state state.unused (used c.args.name state.locks)) c.self.view_is)
+    rw c.promote.ensures.entries (ap (λ locks. the_state c.self.inside.unused locks) (values_promoted c.self.inside.names.keys c.args.name c.self.inside.uses.entries c.self.invariant.kept) ∙ ap (λ state. the_state state.unused (used c.args.name state.locks)) c.self.view_is)
 
 pub returns-clause-sound : goal.returns-clause-sound
-returns-clause-sound c = (invariant_of-self c).sound
+returns-clause-sound c = (invariant_of-self c).kept.sound

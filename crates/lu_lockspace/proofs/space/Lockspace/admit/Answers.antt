@@ -1,52 +1,56 @@
--- One lock more, waiting or granted, on one resource.
-use Rattle.std.proofs.Common.{rules, ◌≡◌, true, false, [], ◌∷◌, ◌++◌, refl, sym, ap, subst, arith}
-use Rattle.lu_base.specs.declared.locks.Lock.{Lock}
-use Rattle.lu_queue.specs.Queues.{has_to_wait, as_granted, IsQueue}
-use Rattle.lu_queue.proofs.Coherence.{queue_waits, queue_grants}
-use Rattle.lu_lockspace.specs.Spaces.{SpaceState, is_in, grant_of, lock_on, grants_on, queue_of, times, IsSpace}
-use Rattle.lu_lockspace.proofs.Counts.{times-append}
-use Rattle.lu_lockspace.proofs.Laws.{space_changed, on_here, on_other, new_to_queue, once_with}
+-- One lock more, in its queue and among the places.
+use Rattle.std.proofs.Common.{◌≡◌, ◌∙◌, false, None, sym, ap, subst}
+use Rattle.lu_queue.specs.Queues as queue
+use Rattle.lu_queue.specs.Queues.{placed, with_lock}
+use Rattle.lu_lockspace.specs.Spaces.{is_in, grant_of, queue_of, KeepsOthers}
+use Rattle.lu_lockspace.specs.Entries.{at, all_of, place_of, IsIndexed}
+use Rattle.lu_lockspace.proofs.Resources.{queue_at}
+use Rattle.lu_lockspace.proofs.Laws.{keeps_others, no_place, lawful, indexed_with, indexed_same, in_with, put_back}
 use Rattle.lu_lockspace.proofs.space.Lockspace.admit.Goals as goal
 
-pub invariant_of-self-then-has_to_wait : goal.invariant_of-self-then-has_to_wait
-invariant_of-self-then-has_to_wait c =
+pub returns-in_err-insert-clause-lawful : goal.returns-in_err-insert-clause-lawful
+returns-in_err-insert-clause-lawful c = lawful c.self.inside.queues c.self.inside.places.entries c.self.invariant
+
+pub invariant_of-self-in-Ok : goal.invariant_of-self-in-Ok
+invariant_of-self-in-Ok c =
     let lock = c.args.lock in
-    let granted = c.self.inside.lists.granted in
-    let waiting = c.self.inside.lists.waiting in
-    let before : SpaceState = record { granted = granted; waiting = waiting } in
-    let after : SpaceState = record { granted = granted; waiting = waiting ++ lock ∷ [] } in
-    let new : is_in lock.cookie.0 before ≡ false = subst (λ s. is_in lock.cookie.0 s ≡ false) (sym c.self.view_is) c.requires.new in
-    let waits : has_to_wait lock.ask (grants_on lock.resource granted) (grants_on lock.resource waiting) ≡ true = search rules in
-    let here : IsQueue (queue_of lock.resource after) =
-    subst (λ xs. IsQueue (record { granted = grants_on lock.resource granted; waiting = xs })) (sym (on_here lock waiting))
-    (queue_waits (queue_of lock.resource before) (grant_of lock) (c.self.invariant.queues lock.resource) (new_to_queue lock.cookie.0 lock.resource before new) c.requires.ask waits) in
-    let lawful : IsSpace after = space_changed lock.resource before after c.self.invariant here
-    (λ other differ. ap (λ xs. record { granted = grants_on other granted; waiting = xs }) (on_other lock other waiting differ))
-    (λ cookie. let a = times-append cookie waiting (lock ∷ []) in let b = once_with before lock c.self.invariant new cookie in omega arith) in
-    subst IsSpace (sym c.in_ok-wait.ensures.added) lawful
+    let none : place_of lock.cookie.0 c.self.inside.places.entries ≡ None =
+    no_place c.self.inside.queues c.self.inside.places.entries c.self.invariant lock.cookie.0 (subst (λ s. is_in lock.cookie.0 s ≡ false) (sym c.self.view_is) c.requires.new) in
+    indexed_with lock.cookie.0 lock.resource c.self.inside.queues c.enqueue.new.self c.self.inside.places.entries c.insert.new.self.entries c.self.invariant
+    c.enqueue.ensures.rising c.enqueue.ensures.others c.in-Ok.ensures.lawful c.insert.ensures.ordered none
+    (λ n. ap (queue.is_in n) c.in-Ok.ensures.added ∙ in_with n (grant_of lock) (at lock.resource c.self.inside.queues))
+    (λ q. c.in_ok-insert.ensures.updates.0 q)
 
-pub returns-then-has_to_wait-clause-lawful : goal.returns-then-has_to_wait-clause-lawful
-returns-then-has_to_wait-clause-lawful c = invariant_of-self-then-has_to_wait c
-
-pub invariant_of-self-2 : goal.invariant_of-self-2
-invariant_of-self-2 c =
+pub invariant_of-self-in-Err : goal.invariant_of-self-in-Err
+invariant_of-self-in-Err c =
     let lock = c.args.lock in
-    let granted = c.self.inside.lists.granted in
-    let waiting = c.self.inside.lists.waiting in
-    let grant = as_granted (grant_of lock) (grants_on lock.resource granted) (grants_on lock.resource waiting) in
-    let kept : Lock = lock_on lock.resource grant in
-    let before : SpaceState = record { granted = granted; waiting = waiting } in
-    let after : SpaceState = record { granted = granted ++ kept ∷ []; waiting = waiting } in
-    let new : is_in lock.cookie.0 before ≡ false = subst (λ s. is_in lock.cookie.0 s ≡ false) (sym c.self.view_is) c.requires.new in
-    let free : has_to_wait lock.ask (grants_on lock.resource granted) (grants_on lock.resource waiting) ≡ false = search rules in
-    let here : IsQueue (queue_of lock.resource after) =
-    subst (λ xs. IsQueue (record { granted = xs; waiting = grants_on lock.resource waiting })) (sym (on_here kept granted))
-    (queue_grants (queue_of lock.resource before) (grant_of lock) (c.self.invariant.queues lock.resource) (new_to_queue lock.cookie.0 lock.resource before new) c.requires.ask free) in
-    let lawful : IsSpace after = space_changed lock.resource before after c.self.invariant here
-    (λ other differ. ap (λ xs. record { granted = xs; waiting = grants_on other waiting }) (on_other kept other granted differ))
-    (λ cookie. let a = times-append cookie granted (kept ∷ []) in let b = once_with before lock c.self.invariant new cookie in let e : times cookie (kept ∷ []) ≡ times cookie (lock ∷ []) = refl in omega arith) in
-    let more : c.grant.new.self ≡ after = search rules in
-    subst IsSpace (sym more) lawful
+    let none : place_of lock.cookie.0 c.self.inside.places.entries ≡ None =
+    no_place c.self.inside.queues c.self.inside.places.entries c.self.invariant lock.cookie.0 (subst (λ s. is_in lock.cookie.0 s ≡ false) (sym c.self.view_is) c.requires.new) in
+    subst (λ es. IsIndexed es c.remove.new.self.entries) (sym c.in-Err.ensures.kept)
+    (indexed_same c.self.inside.queues c.self.inside.places.entries c.remove.new.self.entries c.self.invariant c.remove.ensures.ordered
+    (put_back lock.cookie.0 lock.resource c.self.inside.places.entries c.insert.new.self.entries c.remove.new.self.entries none (λ q. c.in_ok-insert.ensures.updates.0 q) (λ q. c.remove.ensures.updates.0 q)))
 
-pub returns-clause-lawful : goal.returns-clause-lawful
-returns-clause-lawful c = invariant_of-self-2 c
+pub returns-in-Ok-clause-placed : goal.returns-in-Ok-clause-placed
+returns-in-Ok-clause-placed c =
+    let lock = c.args.lock in
+    let here : queue_of lock.resource c.args.self.now ≡ at lock.resource c.self.inside.queues =
+    subst (λ s. queue_of lock.resource s ≡ at lock.resource c.self.inside.queues) c.self.view_is (queue_at lock.resource c.self.inside.queues c.self.invariant.rising) in
+    c.in-Ok.ensures.placed ∙ ap (placed (grant_of lock)) (sym here)
+
+pub returns-in-Ok-clause-added : goal.returns-in-Ok-clause-added
+returns-in-Ok-clause-added c =
+    let lock = c.args.lock in
+    let here : queue_of lock.resource c.args.self.now ≡ at lock.resource c.self.inside.queues =
+    subst (λ s. queue_of lock.resource s ≡ at lock.resource c.self.inside.queues) c.self.view_is (queue_at lock.resource c.self.inside.queues c.self.invariant.rising) in
+    queue_at lock.resource c.enqueue.new.self c.enqueue.ensures.rising ∙ c.in-Ok.ensures.added ∙ ap (with_lock (grant_of lock)) (sym here)
+
+pub returns-in-Ok-clause-others : goal.returns-in-Ok-clause-others
+returns-in-Ok-clause-others c =
+    subst (λ s. KeepsOthers c.args.lock.resource s (all_of c.enqueue.new.self)) c.self.view_is
+    (keeps_others c.args.lock.resource c.self.inside.queues c.enqueue.new.self c.self.invariant.rising c.enqueue.ensures.rising c.enqueue.ensures.others)
+
+pub returns-in-Ok-clause-lawful : goal.returns-in-Ok-clause-lawful
+returns-in-Ok-clause-lawful c = lawful c.enqueue.new.self c.insert.new.self.entries (invariant_of-self-in-Ok c)
+
+pub returns-in-Err-clause-lawful : goal.returns-in-Err-clause-lawful
+returns-in-Err-clause-lawful c = lawful c.enqueue.new.self c.remove.new.self.entries (invariant_of-self-in-Err c)

@@ -6,4 +6,4 @@ use Rattle.lu_queue.proofs.queue.Queue.blocking.Goals as goal
 
 pub in_conflict-requires : goal.in_conflict-requires
 in_conflict-requires c =
-    subst IsOnce (sym c.deref.ensures.value) (once_left c.self.inside.granted.items c.self.inside.waiting c.self.invariant.coherent.once)
+    subst IsOnce (sym c.as_slice.ensures) (once_left c.self.inside.granted c.self.inside.waiting c.self.invariant.coherent.once)

@@ -7,12 +7,12 @@ use Rattle.lu_txn.proofs.Soundness.{sound_kept}
 use Rattle.lu_txn.proofs.journals.Journal.keep.Goals as goal
 
 pub invariant_of-self : goal.invariant_of-self
-invariant_of-self c = (rw c.keep_reply.ensures.kept (sound_kept _ c.args.who c.args.tag c.args.reply c.self.invariant.0), c.self.invariant.1)
+invariant_of-self c = (rw c.keep.ensures.kept (sound_kept _ c.args.who c.args.tag c.args.reply c.self.invariant.0), c.self.invariant.1)
 
 pub returns-clause-sound : goal.returns-clause-sound
 returns-clause-sound c = (invariant_of-self c).0
 
 pub returns-clause-replies : goal.returns-clause-replies
 returns-clause-replies c = λ other t.
-    let some : IsSome (slot_of c.args.who c.self.inside.slots.items) = search rules in
-    rw (c.keep_reply.ensures.kept, ← c.self.view_is) (reply_after c.args.who c.args.tag c.args.reply c.self.inside.slots.items other t c.requires.tag c.self.invariant.0.tags some)
+    let some : IsSome (slot_of c.args.who c.self.inside.slots) = search rules in
+    rw (c.keep.ensures.kept, ← c.self.view_is) (reply_after c.args.who c.args.tag c.args.reply c.self.inside.slots other t c.requires.tag c.self.invariant.0.tags some)

@@ -1,0 +1,32 @@
+-- The granted locks in the way of a change, found by the resources of its guards.
+use Rattle.std.specs.Prelude.{◌≡◌, ⊤, Bool, false, List, [], ◌∷◌, ◌++◌, map, filter}
+use Rattle.std.specs.List.{list_any, AllByRecursion}
+use Rattle.lu_base.specs.declared.ids.Cookie.{Cookie}
+use Rattle.lu_base.specs.declared.locks.Resource.{Resource}
+use Rattle.lu_part.specs.declared.parts.Part.{Part}
+use Rattle.lu_part.specs.Guards.{guard}
+use Rattle.lu_lockspace.specs.Spaces.{same_resource, lock_on, is_guarded}
+use Rattle.lu_lockspace.specs.Entries.{Entries, at}
+
+abbrev pub is_listed : Resource → List Resource → Bool
+is_listed resource resources = list_any (same_resource resource) resources
+
+-- No two of them are one.
+abbrev pub AreApart : List Resource → Type 0
+AreApart [] = ⊤
+AreApart (resource ∷ resources) = AllByRecursion (λ other. same_resource resource other ≡ false) resources × AreApart resources
+
+-- The resources of the guards of these parts, each once.
+pub record AreGuards (parts : List Part) (resources : List Resource) : Type 0 where
+  pub once : AreApart resources
+  pub all : (resource : Resource) → is_listed resource resources ≡ false → list_any (λ part. same_resource resource (guard part).0) parts ≡ false
+
+-- The cookies of the granted locks of a resource that meet a guard of these parts.
+abbrev pub guarded_on : Resource → List Part → Entries → List Cookie
+guarded_on resource parts entries =
+    map (λ lock. lock.cookie) (filter (λ lock. list_any (λ part. is_guarded part (lock_on resource lock)) parts) (at resource entries).granted)
+
+-- Those of some resources.
+abbrev pub guarded_on_all : List Resource → List Part → Entries → List Cookie
+guarded_on_all [] parts entries = []
+guarded_on_all (resource ∷ resources) parts entries = guarded_on resource parts entries ++ guarded_on_all resources parts entries

@@ -1,0 +1,286 @@
+//! The queues of a target's resources, each under its resource, in rising Fid and stripe.
+
+ghost use Rattle.std.specs.Prelude.{◌≡◌, [], IfOk, OnOk, OnErr, IsSome, IsTrue, IsPermutation, map, filter};
+ghost use Rattle.std.specs.List.{list_any};
+ghost use Rattle.std.specs.Option.{option_copied};
+ghost use Rattle.lu_lock.specs.Overlap.{IsOrdered};
+ghost use Rattle.lu_queue.specs.Queues.{empty, is_in, placed, with_lock, may_restore, restored, same_who, without, AreGranted, IsQueue};
+ghost use Rattle.lu_lockspace.specs.Guarded.{guarded_on, guarded_on_all};
+ghost use Rattle.lu_lockspace.specs.Spaces.{is_guarded, AreBlocking};
+ghost use Rattle.lu_lockspace.specs.Entries.{entry_of, at, changed, locks_of, AreRising, Keeps};
+
+use super::listing::{blocking_in, guarded, guards, of_life};
+use lu_base::{Ask, Cookie, Cookies, Memory, Resource, Who};
+use lu_part::Part;
+use lu_queue::{Grants, Placed, Queue, QueueError};
+use std::alloc::Global;
+use std::collections::BTreeMap;
+use std::marker::Model;
+
+/// The queues of the resources that have locks.
+#[derive(Debug, Drop)]
+pub(crate) struct Queues {
+    entries: BTreeMap<Resource, Queue>,
+}
+
+impl Model for Queues {
+    ghost use Rattle.lu_lockspace.specs.Entries.{Entries, AreRising};
+
+    ghost Value = { Entries };
+
+    ghost view = { λ queues. queues.entries.entries };
+
+    ghost invariant = { λ queues. AreRising queues.entries.entries };
+}
+
+impl Queues {
+    /// No queue. It takes no memory yet.
+    pub(crate) fn new(alloc: Global) -> Queues
+        ensures empty { result ≡ [] }
+    {
+        Queues {
+            entries: BTreeMap::new(alloc),
+        }
+    }
+
+    /// The queue of a resource, if it has locks.
+    pub(crate) fn of(&self, resource: Resource) -> Option<&Queue>
+        ensures found { option_copied result ≡ entry_of resource self.now }
+    {
+        self.entries.get(&resource)
+    }
+
+    /// Adds a lock that is asked for to the queue of a resource. After an error nothing has changed.
+    pub(crate) fn enqueue(
+        &mut self,
+        alloc: Global,
+        resource: Resource,
+        cookie: Cookie,
+        ask: Ask,
+    ) -> Result<Placed, QueueError>
+        requires { IsOrdered ask.policy }
+        ensures placed { IfOk result (λ answer. answer ≡ placed (record { cookie = cookie; ask = ask }) (at resource self.old)) }
+        ensures added { OnOk result (at resource self.new ≡ with_lock (record { cookie = cookie; ask = ask }) (at resource self.old)) }
+        ensures others { Keeps resource self.old self.new }
+        ensures kept { OnErr result (self.new ≡ self.old) }
+        ensures lawful { OnOk result (IsQueue (at resource self.new)) }
+        ensures rising { AreRising self.new }
+    {
+        if let Some(queue) = self.entries.get_mut(&resource) {
+            return queue.enqueue(alloc, cookie, ask);
+        }
+        let mut queue = Queue::new(alloc);
+        let placed = queue.enqueue(alloc, cookie, ask)?;
+        self.begin(resource, queue)?;
+        Ok(placed)
+    }
+
+    /// Adds a lock that was granted before, as it was, to the queue of a resource. False, and nothing has
+    /// changed, where it conflicts with a granted lock there. After an error nothing has changed.
+    pub(crate) fn restore(
+        &mut self,
+        alloc: Global,
+        resource: Resource,
+        cookie: Cookie,
+        ask: Ask,
+    ) -> Result<bool, QueueError>
+        requires ask { IsOrdered ask.policy }
+        requires quiet { (at resource self.old).waiting ≡ [] }
+        ensures restored { IfOk result (λ answer. answer ≡ may_restore (record { cookie = cookie; ask = ask }) (at resource self.old)) }
+        ensures added { OnOk result (at resource self.new ≡ restored (record { cookie = cookie; ask = ask }) (at resource self.old)) }
+        ensures others { Keeps resource self.old self.new }
+        ensures kept { OnErr result (self.new ≡ self.old) }
+        ensures lawful { OnOk result (IsQueue (at resource self.new)) }
+        ensures rising { AreRising self.new }
+    {
+        if let Some(queue) = self.entries.get_mut(&resource) {
+            return queue.restore(alloc, cookie, ask);
+        }
+        let mut queue = Queue::new(alloc);
+        let restored = queue.restore(alloc, cookie, ask)?;
+        self.begin(resource, queue)?;
+        Ok(restored)
+    }
+
+    /// Takes away a lock of the queue of a resource, and grants what may be granted then: it answers these
+    /// locks. After an error nothing has changed.
+    pub(crate) fn cancel(
+        &mut self,
+        alloc: Global,
+        resource: Resource,
+        cookie: Cookie,
+    ) -> Result<Grants, QueueError>
+        ensures granted { IfOk result (λ grants. AreGranted (without cookie.0 (at resource self.old)) grants (at resource self.new)) }
+        ensures others { Keeps resource self.old self.new }
+        ensures kept { OnErr result (self.new ≡ self.old) }
+        ensures lawful { OnOk result (IsQueue (at resource self.new)) }
+        ensures rising { AreRising self.new }
+    {
+        let grants = self.take_away(alloc, resource, cookie)?;
+        self.forget_empty(resource);
+        Ok(grants)
+    }
+
+    /// The same, where a queue without locks stays.
+    fn take_away(
+        &mut self,
+        alloc: Global,
+        resource: Resource,
+        cookie: Cookie,
+    ) -> Result<Grants, QueueError>
+        ensures granted { IfOk result (λ grants. AreGranted (without cookie.0 (at resource self.old)) grants (at resource self.new)) }
+        ensures others { Keeps resource self.old self.new }
+        ensures kept { OnErr result (self.new ≡ self.old) }
+        ensures lawful { OnOk result (IsQueue (at resource self.new)) }
+        ensures rising { AreRising self.new }
+    {
+        if let Some(queue) = self.entries.get_mut(&resource) {
+            return queue.cancel(alloc, cookie);
+        }
+        Err(QueueError::NoLock)
+    }
+
+    /// The resources on which one of these lives has a lock, in rising Fid and stripe.
+    pub(crate) fn of_lives(&self, alloc: Global, lives: &[Who]) -> Result<Vec<Resource>, Memory>
+        ensures resources { IfOk result (λ resources. resources.items ≡ changed lives.now self.now) }
+        ensures rising { AreRising self.now }
+    {
+        let resources = self
+            .entries
+            .iter()
+            .filter(|entry| entry.1.has_of(lives))
+            .map(|entry| *entry.0)
+            .collect(alloc)?;
+        Ok(resources)
+    }
+
+    /// The cookies of the granted locks of a life.
+    pub(crate) fn of_life(&self, alloc: Global, who: Who) -> Result<Vec<Cookie>, Memory>
+        ensures { IfOk result (λ cookies. cookies.items ≡ map (λ lock. lock.cookie) (filter (λ lock. same_who lock.ask.who who) (locks_of (λ all. all.granted) self.now))) }
+    {
+        let mut cookies: Vec<Cookie> = Vec::new(alloc);
+        for (_, queue) in &self.entries {
+            cookies.extend_from_slice(&of_life(alloc, queue.granted_locks(), who)?)?;
+        }
+        Ok(cookies)
+    }
+
+    /// The cookies of the granted locks of a resource that meet a guard of these parts.
+    fn guarded_on(
+        &self,
+        alloc: Global,
+        resource: Resource,
+        parts: &[Part],
+    ) -> Result<Vec<Cookie>, Memory>
+        ensures { IfOk result (λ cookies. cookies.items ≡ guarded_on resource parts.now self.now) }
+    {
+        match self.of(resource) {
+            Some(queue) => guarded(alloc, resource, queue.granted_locks(), parts),
+            None => Ok(Vec::new(alloc)),
+        }
+    }
+
+    /// The cookies of the granted locks of these resources that meet a guard of these parts.
+    fn guarded_on_all(
+        &self,
+        alloc: Global,
+        resources: &[Resource],
+        parts: &[Part],
+    ) -> Result<Vec<Cookie>, Memory>
+        ensures { IfOk result (λ cookies. cookies.items ≡ guarded_on_all resources.now parts.now self.now) }
+    {
+        let mut cookies: Vec<Cookie> = Vec::new(alloc);
+        for resource in resources {
+            cookies.extend_from_slice(&self.guarded_on(alloc, *resource, parts)?)?;
+        }
+        Ok(cookies)
+    }
+
+    /// The cookies of the granted locks that meet a guard of these parts.
+    pub(crate) fn clashing(&self, alloc: Global, parts: &[Part]) -> Result<Vec<Cookie>, Memory>
+        requires { AreRising self.now }
+        ensures { IfOk result (λ cookies. IsPermutation (map (λ lock. lock.cookie) (filter (λ lock. list_any (λ part. is_guarded part lock) parts.now) (locks_of (λ all. all.granted) self.now))) cookies.items) }
+    {
+        let resources = guards(alloc, parts)?;
+        let cookies = self.guarded_on_all(alloc, &resources, parts)?;
+        Ok(cookies)
+    }
+
+    /// For each waiting lock of a resource in order, the cookies of the granted locks that block it in rising
+    /// order, each once.
+    pub(crate) fn blockers(&self, alloc: Global, resource: Resource) -> Result<Cookies, Memory>
+        ensures { IfOk result (AreBlocking (at resource self.now).granted (at resource self.now).waiting []) }
+    {
+        match self.of(resource) {
+            Some(queue) => blocking_in(alloc, queue),
+            None => blocking_in(alloc, &Queue::new(alloc)),
+        }
+    }
+
+    /// Whether a lock of the queue of a resource has this cookie.
+    pub(crate) fn has(&self, resource: Resource, cookie: Cookie) -> bool
+        ensures { result ≡ is_in cookie.0 (at resource self.now) }
+    {
+        match self.of(resource) {
+            Some(queue) => queue.has(cookie),
+            None => false,
+        }
+    }
+
+    /// Puts another queue in the place of the one of a resource.
+    pub(crate) fn replace(&mut self, resource: Resource, queue: Queue)
+        requires { IsSome (entry_of resource self.old) }
+        ensures here { at resource self.new ≡ queue }
+        ensures others { Keeps resource self.old self.new }
+        ensures rising { AreRising self.new }
+    {
+        self.put(resource, queue);
+        self.forget_empty(resource);
+    }
+
+    /// The same, also where the new one has no locks.
+    fn put(&mut self, resource: Resource, queue: Queue)
+        requires { IsSome (entry_of resource self.old) }
+        ensures here { at resource self.new ≡ queue }
+        ensures others { Keeps resource self.old self.new }
+    {
+        let Some(old) = self.entries.get_mut(&resource) else {
+            return;
+        };
+        *old = queue;
+    }
+
+    /// Whether the queue of a resource is there and has no locks.
+    fn is_empty(&self, resource: Resource) -> bool
+        ensures { IsTrue result → at resource self.now ≡ empty }
+    {
+        match self.of(resource) {
+            Some(queue) => queue.is_empty(),
+            None => false,
+        }
+    }
+
+    /// Takes the queue of a resource out where it has no locks.
+    fn forget_empty(&mut self, resource: Resource)
+        ensures here { at resource self.new ≡ at resource self.old }
+        ensures others { Keeps resource self.old self.new }
+        ensures rising { AreRising self.new }
+    {
+        if !self.is_empty(resource) {
+            let _ = self.entries.len();
+            return;
+        }
+        self.entries.remove(&resource);
+    }
+
+    /// Adds the queue of a resource that has none. After want of memory nothing has changed.
+    fn begin(&mut self, resource: Resource, queue: Queue) -> Result<(), Memory>
+        ensures here { OnOk result (at resource self.new ≡ queue) }
+        ensures others { Keeps resource self.old self.new }
+        ensures kept { OnErr result (self.new ≡ self.old) }
+        ensures rising { AreRising self.new }
+    {
+        self.entries.insert(resource, queue)?;
+        Ok(())
+    }
+}

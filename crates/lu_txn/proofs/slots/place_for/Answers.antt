@@ -1,8 +1,0 @@
--- The first place, or past the last.
-use Rattle.std.proofs.Common.{◌∙◌}
-use Rattle.lu_txn.specs.Slots.{is_past}
-use Rattle.lu_txn.proofs.SlotLaws.{first_or_length}
-use Rattle.lu_txn.proofs.slots.place_for.Goals as goal
-
-pub returns : goal.returns
-returns c = c.unwrap_or.ensures ∙ rw c.first_past.ensures (first_or_length (is_past c.args.who) c.args.slots.now)
