@@ -2,6 +2,7 @@
 use Rattle.std.proofs.Common.{[], ◌∷◌, inl, inr, refl, Some, pos}
 use Rattle.std.specs.Prelude.{codes}
 use Rattle.lu_base.specs.declared.ids.Node.TheVariants.{Client, Target}
+use Rattle.lu_layout.specs.Raid0.{position_of, stripe_of, offset_of, greatest_end}
 use Rattle.lu_msg.specs.declared.answers.Answer.TheVariants as told
 use Rattle.lu_msg.specs.declared.answers.Errno.TheVariants.{ENOENT, EBADF}
 use Rattle.lu_msg.specs.declared.calls.Call.TheVariants as call
@@ -343,6 +344,7 @@ recovery =
     then tt
 
 history : History 1 past
+unfolding position_of stripe_of offset_of greatest_end
 history =
     (λ stays answer counted. record { xid = 5; heard = inl (refl, refl, refl); answered = inl (refl, refl, refl, refl, refl) })
     then tt

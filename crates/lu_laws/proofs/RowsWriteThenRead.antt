@@ -7,7 +7,7 @@ use Rattle.lu_msg.specs.declared.calls.Call.TheVariants as call
 use Rattle.lu_msg.specs.declared.operations.Op.TheVariants as op
 use Rattle.lu_msg.specs.declared.messages.Message.TheVariants as message
 use Rattle.lu_trace.specs.declared.entries.Entry.TheVariants as entry
-use Rattle.lu_layout.specs.Raid0.{position_of, below_of, stripe_of, offset_of}
+use Rattle.lu_layout.specs.Raid0.{position_of, below_of, stripe_of, offset_of, greatest_end}
 use Rattle.lu_laws.specs.Pasts.{Past}
 use Rattle.lu_laws.specs.Messages.{Messages}
 use Rattle.lu_laws.specs.Acts.{Acts}
@@ -348,7 +348,7 @@ recovery =
     then tt
 
 history : History 1 past
-unfolding position_of below_of stripe_of offset_of
+unfolding position_of below_of stripe_of offset_of greatest_end
 history =
     (λ stays answer counted. refl)
     then tt

@@ -30,7 +30,7 @@ use Rattle.lu_laws.specs.History.{Answers}
 use Rattle.lu_base.specs.declared.ids.Node.{Node}
 use Rattle.lu_base.specs.declared.ids.Who.{Who}
 use Rattle.lu_base.specs.declared.locks.Resource.{Resource}
-use Rattle.lu_layout.specs.Raid0.{Raid0, position_of}
+use Rattle.lu_layout.specs.Raid0.{Raid0, position_of, stripe_of, offset_of, greatest_end}
 use Rattle.lu_laws.specs.Pieces.{IsTold, ToldOf, IsWrite, PieceOf, PieceAt, layout_heard}
 use Rattle.lu_msg.specs.declared.operations.Op.{Op}
 
@@ -490,6 +490,7 @@ another_byte_read_past =
     ∷ []
 
 pub another_byte_read : History 1 another_byte_read_past → ⊥
+unfolding position_of stripe_of offset_of greatest_end
 another_byte_read h = differ 104 105 refl (ap byte (h.0 refl refl refl))
 
 abbrev heard_open : Past

@@ -8,7 +8,7 @@ use Rattle.lu_base.specs.declared.ids.Node.TheVariants.{Client, Target}
 use Rattle.lu_base.specs.declared.ids.Who.{Who}
 use Rattle.lu_msg.specs.declared.answers.Answer.{Answer}
 use Rattle.lu_msg.specs.declared.answers.Answer.TheVariants as told
-use Rattle.lu_msg.specs.declared.answers.Errno.TheVariants.{EBADF, EIO}
+use Rattle.lu_msg.specs.declared.answers.Errno.TheVariants.{ENOENT, EEXIST, ENOTDIR, EISDIR, ENOTEMPTY, EPERM, EINVAL, EBUSY, EBADF, ENAMETOOLONG, EIO}
 use Rattle.lu_msg.specs.declared.calls.Call.{Call}
 use Rattle.lu_msg.specs.declared.calls.Call.TheVariants as call
 use Rattle.lu_msg.specs.declared.operations.Op.{Op}
@@ -69,16 +69,83 @@ ToldWith (l ∷ past) who x =
 
 abbrev pub is_bad_handle : Answer → Bool
 is_bad_handle (told.Refused EBADF) = true
-is_bad_handle _ = false
+is_bad_handle told.Done = false
+is_bad_handle (told.Made fid) = false
+is_bad_handle (told.Dir fid) = false
+is_bad_handle (told.File fid) = false
+is_bad_handle (told.DirStat fid mode) = false
+is_bad_handle (told.FileStat fid mode links layout) = false
+is_bad_handle (told.FileSize fid mode links size) = false
+is_bad_handle (told.Names names) = false
+is_bad_handle (told.Layout layout) = false
+is_bad_handle (told.OpenFile fid number layout) = false
+is_bad_handle (told.Granted cookie extent size) = false
+is_bad_handle (told.Waiting cookie) = false
+is_bad_handle (told.Content bytes) = false
+is_bad_handle (told.Size size) = false
+is_bad_handle told.Lock = false
+is_bad_handle (told.Sizes sizes) = false
+is_bad_handle told.Uncovered = false
+is_bad_handle (told.Refused ENOENT) = false
+is_bad_handle (told.Refused EEXIST) = false
+is_bad_handle (told.Refused ENOTDIR) = false
+is_bad_handle (told.Refused EISDIR) = false
+is_bad_handle (told.Refused ENOTEMPTY) = false
+is_bad_handle (told.Refused EPERM) = false
+is_bad_handle (told.Refused EINVAL) = false
+is_bad_handle (told.Refused EBUSY) = false
+is_bad_handle (told.Refused ENAMETOOLONG) = false
+is_bad_handle (told.Refused EIO) = false
 
 abbrev pub is_end_of_life : Answer → Bool
 is_end_of_life (told.Refused EIO) = true
-is_end_of_life _ = false
+is_end_of_life told.Done = false
+is_end_of_life (told.Made fid) = false
+is_end_of_life (told.Dir fid) = false
+is_end_of_life (told.File fid) = false
+is_end_of_life (told.DirStat fid mode) = false
+is_end_of_life (told.FileStat fid mode links layout) = false
+is_end_of_life (told.FileSize fid mode links size) = false
+is_end_of_life (told.Names names) = false
+is_end_of_life (told.Layout layout) = false
+is_end_of_life (told.OpenFile fid number layout) = false
+is_end_of_life (told.Granted cookie extent size) = false
+is_end_of_life (told.Waiting cookie) = false
+is_end_of_life (told.Content bytes) = false
+is_end_of_life (told.Size size) = false
+is_end_of_life told.Lock = false
+is_end_of_life (told.Sizes sizes) = false
+is_end_of_life told.Uncovered = false
+is_end_of_life (told.Refused ENOENT) = false
+is_end_of_life (told.Refused EEXIST) = false
+is_end_of_life (told.Refused ENOTDIR) = false
+is_end_of_life (told.Refused EISDIR) = false
+is_end_of_life (told.Refused ENOTEMPTY) = false
+is_end_of_life (told.Refused EPERM) = false
+is_end_of_life (told.Refused EINVAL) = false
+is_end_of_life (told.Refused EBUSY) = false
+is_end_of_life (told.Refused EBADF) = false
+is_end_of_life (told.Refused ENAMETOOLONG) = false
 
 abbrev pub is_local : Call → Bool
 is_local (call.Flush h) = true
 is_local (call.Glimpse h) = true
-is_local _ = false
+is_local (call.Lookup path) = false
+is_local (call.Stat path) = false
+is_local (call.List path) = false
+is_local (call.Layout path) = false
+is_local (call.Mkdir path) = false
+is_local (call.Create path stripes) = false
+is_local (call.Link old new) = false
+is_local (call.Unlink path) = false
+is_local (call.Rmdir path) = false
+is_local (call.Rename old new) = false
+is_local (call.Chmod path mode) = false
+is_local (call.Open h path) = false
+is_local (call.Close h) = false
+is_local (call.Read h offset count) = false
+is_local (call.Write h offset bytes) = false
+is_local (call.Cut h size) = false
 
 -- a `flush`, a `glimpse`, and these two refusals name the turn in which they are told
 abbrev pub names_own : Call → Answer → Bool

@@ -61,16 +61,69 @@ number_heard past turn who (Some x) = number_in past turn who x
 
 abbrev pub bound : Answer → Option TxnOf → Option Binding → Option Binding
 bound (told.Made fid) number old = Some (record { fid = fid; number = number })
-bound _ number old = old
+bound told.Done number old = old
+bound (told.Dir fid) number old = old
+bound (told.File fid) number old = old
+bound (told.DirStat fid mode) number old = old
+bound (told.FileStat fid mode links layout) number old = old
+bound (told.FileSize fid mode links size) number old = old
+bound (told.Names names) number old = old
+bound (told.Layout layout) number old = old
+bound (told.OpenFile fid txn layout) number old = old
+bound (told.Granted cookie extent size) number old = old
+bound (told.Waiting cookie) number old = old
+bound (told.Content bytes) number old = old
+bound (told.Size size) number old = old
+bound told.Lock number old = old
+bound (told.Sizes sizes) number old = old
+bound told.Uncovered number old = old
+bound (told.Refused errno) number old = old
+
+-- whether a call opens this handle
+abbrev pub opens_it : ℕ → Call → Bool
+opens_it h (call.Open other path) = other == h
+opens_it h (call.Lookup path) = false
+opens_it h (call.Stat path) = false
+opens_it h (call.List path) = false
+opens_it h (call.Layout path) = false
+opens_it h (call.Mkdir path) = false
+opens_it h (call.Create path stripes) = false
+opens_it h (call.Link old new) = false
+opens_it h (call.Unlink path) = false
+opens_it h (call.Rmdir path) = false
+opens_it h (call.Rename old new) = false
+opens_it h (call.Chmod path mode) = false
+opens_it h (call.Close other) = false
+opens_it h (call.Read other offset count) = false
+opens_it h (call.Write other offset bytes) = false
+opens_it h (call.Cut other size) = false
+opens_it h (call.Flush other) = false
+opens_it h (call.Glimpse other) = false
 
 -- a told `open` of this handle binds it, where the answer is `ok`
 abbrev pub told_binding : ℕ → Option Call → Answer → Option TxnOf → Option Binding → Option Binding
-told_binding h (Some (call.Open other path)) answer number old = if other == h then bound answer number old else old
-told_binding h _ answer number old = old
+told_binding h None answer number old = old
+told_binding h (Some call) answer number old = if opens_it h call then bound answer number old else old
 
 abbrev pub begun_binding : ℕ → Call → Option Binding → Option Binding
 begun_binding h (call.Close other) old = if other == h then None else old
-begun_binding h _ old = old
+begun_binding h (call.Lookup path) old = old
+begun_binding h (call.Stat path) old = old
+begun_binding h (call.List path) old = old
+begun_binding h (call.Layout path) old = old
+begun_binding h (call.Mkdir path) old = old
+begun_binding h (call.Create path stripes) old = old
+begun_binding h (call.Link from to) old = old
+begun_binding h (call.Unlink path) old = old
+begun_binding h (call.Rmdir path) old = old
+begun_binding h (call.Rename from to) old = old
+begun_binding h (call.Chmod path mode) old = old
+begun_binding h (call.Open other path) old = old
+begun_binding h (call.Read other offset count) old = old
+begun_binding h (call.Write other offset bytes) old = old
+begun_binding h (call.Cut other size) old = old
+begun_binding h (call.Flush other) old = old
+begun_binding h (call.Glimpse other) old = old
 
 -- what a handle of a life is bound to: by its last `open` that was told `ok`, until a `close` of it begins
 abbrev pub binding : Who → ℕ → Past → Option Binding
@@ -85,10 +138,6 @@ binding who h (l ∷ past) =
 -- of the life that a client has after the past
 abbrev pub bound_to : ℕ → Past → ℕ → Option Binding
 bound_to c past h = binding (who_is c past) h past
-
-abbrev pub opens_it : ℕ → Call → Bool
-opens_it h (call.Open other path) = other == h
-opens_it h _ = false
 
 abbrev pub opens : ℕ → Option Begun → Bool
 opens h None = false
@@ -107,7 +156,17 @@ is_bad c past (call.Write h offset bytes) = not (is_some (bound_to c past h))
 is_bad c past (call.Cut h size) = not (is_some (bound_to c past h))
 is_bad c past (call.Flush h) = not (is_some (bound_to c past h))
 is_bad c past (call.Glimpse h) = not (is_some (bound_to c past h))
-is_bad c past _ = false
+is_bad c past (call.Lookup path) = false
+is_bad c past (call.Stat path) = false
+is_bad c past (call.List path) = false
+is_bad c past (call.Layout path) = false
+is_bad c past (call.Mkdir path) = false
+is_bad c past (call.Create path stripes) = false
+is_bad c past (call.Link old new) = false
+is_bad c past (call.Unlink path) = false
+is_bad c past (call.Rmdir path) = false
+is_bad c past (call.Rename old new) = false
+is_bad c past (call.Chmod path mode) = false
 
 -- ---- operations
 
@@ -136,7 +195,11 @@ operation_on (call.Rename old new) handles = Some (op.Rename old new)
 operation_on (call.Chmod path mode) handles = Some (op.Chmod path mode)
 operation_on (call.Open h path) handles = Some (op.Open path)
 operation_on (call.Close h) handles = closes (handles h)
-operation_on _ handles = None
+operation_on (call.Read h offset count) handles = None
+operation_on (call.Write h offset bytes) handles = None
+operation_on (call.Cut h size) handles = None
+operation_on (call.Flush h) handles = None
+operation_on (call.Glimpse h) handles = None
 
 -- the operation of a call of a client: handles are those at its `begin`
 abbrev pub operation : ℕ → Begun → Option Op

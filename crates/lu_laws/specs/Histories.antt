@@ -11,7 +11,7 @@ use Rattle.lu_base.specs.declared.ids.Txn.{Txn as TxnOf}
 use Rattle.lu_base.specs.declared.ids.Who.{Who}
 use Rattle.lu_msg.specs.declared.answers.Answer.{Answer}
 use Rattle.lu_msg.specs.declared.answers.Answer.TheVariants as told
-use Rattle.lu_msg.specs.declared.answers.Errno.TheVariants.{EBADF, EIO}
+use Rattle.lu_msg.specs.declared.answers.Errno.TheVariants.{ENOENT, EEXIST, ENOTDIR, EISDIR, ENOTEMPTY, EPERM, EINVAL, EBUSY, EBADF, ENAMETOOLONG, EIO}
 use Rattle.lu_msg.specs.declared.calls.Call.{Call}
 use Rattle.lu_msg.specs.declared.calls.Call.TheVariants as call
 use Rattle.lu_msg.specs.declared.operations.Op.{Op}
@@ -39,7 +39,19 @@ deed_on c begun (call.Write h offset bytes) = data_deed (call.Write h offset byt
 deed_on c begun (call.Cut h size) = data_deed (call.Cut h size) (file_of c begun h)
 deed_on c begun (call.Flush h) = data_deed (call.Flush h) (file_of c begun h)
 deed_on c begun (call.Glimpse h) = None
-deed_on c begun _ = option_map Names (operation c begun)
+deed_on c begun (call.Lookup path) = option_map Names (operation c begun)
+deed_on c begun (call.Stat path) = option_map Names (operation c begun)
+deed_on c begun (call.List path) = option_map Names (operation c begun)
+deed_on c begun (call.Layout path) = option_map Names (operation c begun)
+deed_on c begun (call.Mkdir path) = option_map Names (operation c begun)
+deed_on c begun (call.Create path stripes) = option_map Names (operation c begun)
+deed_on c begun (call.Link old new) = option_map Names (operation c begun)
+deed_on c begun (call.Unlink path) = option_map Names (operation c begun)
+deed_on c begun (call.Rmdir path) = option_map Names (operation c begun)
+deed_on c begun (call.Rename old new) = option_map Names (operation c begun)
+deed_on c begun (call.Chmod path mode) = option_map Names (operation c begun)
+deed_on c begun (call.Open h path) = option_map Names (operation c begun)
+deed_on c begun (call.Close h) = option_map Names (operation c begun)
 
 abbrev pub deed_of : ℕ → Option Begun → Option Deed
 deed_of c None = None
@@ -50,11 +62,52 @@ deed_of c (Some begun) = deed_on c begun begun.call
 abbrev pub is_answer : Answer → Bool
 is_answer (told.Refused EBADF) = false
 is_answer (told.Refused EIO) = false
-is_answer _ = true
+is_answer told.Done = true
+is_answer (told.Made fid) = true
+is_answer (told.Dir fid) = true
+is_answer (told.File fid) = true
+is_answer (told.DirStat fid mode) = true
+is_answer (told.FileStat fid mode links layout) = true
+is_answer (told.FileSize fid mode links size) = true
+is_answer (told.Names names) = true
+is_answer (told.Layout layout) = true
+is_answer (told.OpenFile fid number layout) = true
+is_answer (told.Granted cookie extent size) = true
+is_answer (told.Waiting cookie) = true
+is_answer (told.Content bytes) = true
+is_answer (told.Size size) = true
+is_answer told.Lock = true
+is_answer (told.Sizes sizes) = true
+is_answer told.Uncovered = true
+is_answer (told.Refused ENOENT) = true
+is_answer (told.Refused EEXIST) = true
+is_answer (told.Refused ENOTDIR) = true
+is_answer (told.Refused EISDIR) = true
+is_answer (told.Refused ENOTEMPTY) = true
+is_answer (told.Refused EPERM) = true
+is_answer (told.Refused EINVAL) = true
+is_answer (told.Refused EBUSY) = true
+is_answer (told.Refused ENAMETOOLONG) = true
 
 abbrev pub is_counted_call : Call → Bool
 is_counted_call (call.Glimpse h) = false
-is_counted_call _ = true
+is_counted_call (call.Lookup path) = true
+is_counted_call (call.Stat path) = true
+is_counted_call (call.List path) = true
+is_counted_call (call.Layout path) = true
+is_counted_call (call.Mkdir path) = true
+is_counted_call (call.Create path stripes) = true
+is_counted_call (call.Link old new) = true
+is_counted_call (call.Unlink path) = true
+is_counted_call (call.Rmdir path) = true
+is_counted_call (call.Rename old new) = true
+is_counted_call (call.Chmod path mode) = true
+is_counted_call (call.Open h path) = true
+is_counted_call (call.Close h) = true
+is_counted_call (call.Read h offset count) = true
+is_counted_call (call.Write h offset bytes) = true
+is_counted_call (call.Cut h size) = true
+is_counted_call (call.Flush h) = true
 
 abbrev pub act_of : Who → TxnOf → Option Deed → Option ActOf
 act_of who number None = None

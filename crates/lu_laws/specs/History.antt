@@ -64,7 +64,23 @@ ToldAt out lost osts past at (Target t) slot turn answer = ⊥
 
 abbrev pub is_refused : Answer → Bool
 is_refused (told.Refused errno) = true
-is_refused _ = false
+is_refused told.Done = false
+is_refused (told.Made fid) = false
+is_refused (told.Dir fid) = false
+is_refused (told.File fid) = false
+is_refused (told.DirStat fid mode) = false
+is_refused (told.FileStat fid mode links layout) = false
+is_refused (told.FileSize fid mode links size) = false
+is_refused (told.Names names) = false
+is_refused (told.Layout layout) = false
+is_refused (told.OpenFile fid number layout) = false
+is_refused (told.Granted cookie extent size) = false
+is_refused (told.Waiting cookie) = false
+is_refused (told.Content bytes) = false
+is_refused (told.Size size) = false
+is_refused told.Lock = false
+is_refused (told.Sizes sizes) = false
+is_refused told.Uncovered = false
 
 abbrev pub IsDone : ℕ → Machine → Option ActOf → Type 0
 IsDone osts m None = ⊥

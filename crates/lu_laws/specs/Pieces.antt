@@ -28,7 +28,23 @@ use Rattle.lu_laws.specs.Calls.{Begun, open_call, file_of}
 
 abbrev pub answered_layout : Fid → Answer → Option Raid0
 answered_layout fid (told.OpenFile other number layout) = if same_fid other fid then Some layout else None
-answered_layout fid _ = None
+answered_layout fid told.Done = None
+answered_layout fid (told.Made other) = None
+answered_layout fid (told.Dir other) = None
+answered_layout fid (told.File other) = None
+answered_layout fid (told.DirStat other mode) = None
+answered_layout fid (told.FileStat other mode links layout) = None
+answered_layout fid (told.FileSize other mode links size) = None
+answered_layout fid (told.Names names) = None
+answered_layout fid (told.Layout layout) = None
+answered_layout fid (told.Granted cookie extent size) = None
+answered_layout fid (told.Waiting cookie) = None
+answered_layout fid (told.Content bytes) = None
+answered_layout fid (told.Size size) = None
+answered_layout fid told.Lock = None
+answered_layout fid (told.Sizes sizes) = None
+answered_layout fid told.Uncovered = None
+answered_layout fid (told.Refused errno) = None
 
 abbrev pub carried_layout : Fid → Option ReplyOf → Option Raid0
 carried_layout fid None = None
@@ -62,12 +78,44 @@ before_request t who x (l ∷ past) =
 abbrev pub IsWrite : Fid → ℕ → ℕ → ℕ → Begun → Call → Type 0
 IsWrite fid position byte c begun (call.Write h offset bytes) =
     (file_of c begun h ≡ Some fid) × (offset ≤ position) × (slice_get bytes (position - offset) ≡ Some byte)
-IsWrite fid position byte c begun _ = ⊥
+IsWrite fid position byte c begun (call.Lookup path) = ⊥
+IsWrite fid position byte c begun (call.Stat path) = ⊥
+IsWrite fid position byte c begun (call.List path) = ⊥
+IsWrite fid position byte c begun (call.Layout path) = ⊥
+IsWrite fid position byte c begun (call.Mkdir path) = ⊥
+IsWrite fid position byte c begun (call.Create path stripes) = ⊥
+IsWrite fid position byte c begun (call.Link old new) = ⊥
+IsWrite fid position byte c begun (call.Unlink path) = ⊥
+IsWrite fid position byte c begun (call.Rmdir path) = ⊥
+IsWrite fid position byte c begun (call.Rename old new) = ⊥
+IsWrite fid position byte c begun (call.Chmod path mode) = ⊥
+IsWrite fid position byte c begun (call.Open h path) = ⊥
+IsWrite fid position byte c begun (call.Close h) = ⊥
+IsWrite fid position byte c begun (call.Read h offset count) = ⊥
+IsWrite fid position byte c begun (call.Cut h size) = ⊥
+IsWrite fid position byte c begun (call.Flush h) = ⊥
+IsWrite fid position byte c begun (call.Glimpse h) = ⊥
 
 -- the call cut the file to a size of which this many positions lie on the stripe
 abbrev pub IsCut : Fid → Raid0 → ℕ → ℕ → ℕ → Begun → Call → Type 0
 IsCut fid layout stripe below c begun (call.Cut h size) = (file_of c begun h ≡ Some fid) × (below_of layout stripe size ≡ below)
-IsCut fid layout stripe below c begun _ = ⊥
+IsCut fid layout stripe below c begun (call.Lookup path) = ⊥
+IsCut fid layout stripe below c begun (call.Stat path) = ⊥
+IsCut fid layout stripe below c begun (call.List path) = ⊥
+IsCut fid layout stripe below c begun (call.Layout path) = ⊥
+IsCut fid layout stripe below c begun (call.Mkdir path) = ⊥
+IsCut fid layout stripe below c begun (call.Create path stripes) = ⊥
+IsCut fid layout stripe below c begun (call.Link old new) = ⊥
+IsCut fid layout stripe below c begun (call.Unlink path) = ⊥
+IsCut fid layout stripe below c begun (call.Rmdir path) = ⊥
+IsCut fid layout stripe below c begun (call.Rename old new) = ⊥
+IsCut fid layout stripe below c begun (call.Chmod path mode) = ⊥
+IsCut fid layout stripe below c begun (call.Open h path) = ⊥
+IsCut fid layout stripe below c begun (call.Close h) = ⊥
+IsCut fid layout stripe below c begun (call.Read h offset count) = ⊥
+IsCut fid layout stripe below c begun (call.Write h offset bytes) = ⊥
+IsCut fid layout stripe below c begun (call.Flush h) = ⊥
+IsCut fid layout stripe below c begun (call.Glimpse h) = ⊥
 
 -- the `told` line is of that life, and answers `ok` to a call of this kind
 pub record IsTold (past : Past) (who : Who) (node : Node) (slot : ℕ) (answer : Answer) (Kind : Begun → Type 0) : Type 0 where
@@ -106,15 +154,46 @@ BytesFrom who resource layout offset (b ∷ bs) past =
     ByteFrom who resource layout offset b past × BytesFrom who resource layout (offset + 1) bs past
 
 abbrev pub PieceOf : Who → Raid0 → Op → Past → Type 0
+PieceOf who layout (op.Lookup path) past = Unit {0}
+PieceOf who layout (op.Stat path) past = Unit {0}
+PieceOf who layout (op.List path) past = Unit {0}
+PieceOf who layout (op.Layout path) past = Unit {0}
+PieceOf who layout (op.Mkdir path) past = Unit {0}
+PieceOf who layout (op.Create path stripe_size count) past = Unit {0}
+PieceOf who layout (op.Link old new) past = Unit {0}
+PieceOf who layout (op.Unlink path) past = Unit {0}
+PieceOf who layout (op.Rmdir path) past = Unit {0}
+PieceOf who layout (op.Rename old new) past = Unit {0}
+PieceOf who layout (op.Chmod path mode) past = Unit {0}
+PieceOf who layout (op.Open path) past = Unit {0}
+PieceOf who layout (op.Close opened file) past = Unit {0}
+PieceOf who layout (op.Enqueue resource mode extent) past = Unit {0}
+PieceOf who layout (op.Get resource cookie page) past = Unit {0}
 PieceOf who layout (op.Put resource cookie offset bytes) past = BytesFrom who resource layout offset bytes past
 PieceOf who layout (op.Cut resource cookie size) past = CutTo who resource.fid layout resource.stripe size past
-PieceOf who layout _ past = Unit {0}
+PieceOf who layout (op.Size resource) past = Unit {0}
 
 -- it is a cut, or puts bytes
 abbrev pub is_piece : Op → Bool
+is_piece (op.Lookup path) = false
+is_piece (op.Stat path) = false
+is_piece (op.List path) = false
+is_piece (op.Layout path) = false
+is_piece (op.Mkdir path) = false
+is_piece (op.Create path stripe_size count) = false
+is_piece (op.Link old new) = false
+is_piece (op.Unlink path) = false
+is_piece (op.Rmdir path) = false
+is_piece (op.Rename old new) = false
+is_piece (op.Chmod path mode) = false
+is_piece (op.Open path) = false
+is_piece (op.Close opened file) = false
+is_piece (op.Enqueue resource mode extent) = false
+is_piece (op.Get resource cookie page) = false
+is_piece (op.Put resource cookie offset []) = false
 is_piece (op.Put resource cookie offset (b ∷ bs)) = true
 is_piece (op.Cut resource cookie size) = true
-is_piece _ = false
+is_piece (op.Size resource) = false
 
 -- at a transaction of an object storage target, with the past before its line: what it carries came from the life's own
 -- calls, told before its request was first sent, and lies on a stripe of the layout that the life heard

@@ -83,7 +83,19 @@ object (op.Get resource cookie page) = Some resource
 object (op.Put resource cookie offset bytes) = Some resource
 object (op.Cut resource cookie size) = Some resource
 object (op.Size resource) = Some resource
-object _ = None
+object (op.Lookup path) = None
+object (op.Stat path) = None
+object (op.List path) = None
+object (op.Layout path) = None
+object (op.Mkdir path) = None
+object (op.Create path stripe_size count) = None
+object (op.Link old new) = None
+object (op.Unlink path) = None
+object (op.Rmdir path) = None
+object (op.Rename old new) = None
+object (op.Chmod path mode) = None
+object (op.Open path) = None
+object (op.Close opened fid) = None
 
 abbrev pub same_resource : Option Resource → Option Resource → Bool
 same_resource (Some a) (Some b) = a.fid.0 == b.fid.0 && a.stripe == b.stripe

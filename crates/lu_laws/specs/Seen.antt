@@ -1,7 +1,7 @@
 -- Seen numbers (this project's profile): the standing transactions of the target above its committed number, in rising
 -- order, whose writes meet what an operation touches. Of names both are the table's, over the contents at that line;
--- of bytes they are ranges of one object.
-use Rattle.std.specs.Prelude.{ℕ, zero, suc, ◌+◌, ◌-◌, ◌*◌, max, Bool, true, false, not, ◌==◌, ◌&&◌, nat_eq, nat_lt, if◌then◌else◌, Option, Some, None, List, [], ◌∷◌, length, reverse}
+-- of bytes they are ranges of one object, as the plain machine has them.
+use Rattle.std.specs.Prelude.{ℕ, zero, suc, Bool, true, false, not, ◌==◌, ◌&&◌, nat_eq, nat_lt, if◌then◌else◌, Option, Some, None, List, [], ◌∷◌, reverse}
 use Rattle.std.specs.List.{list_any}
 use Rattle.lu_base.specs.declared.ids.Txn.{Txn as TxnOf}
 use Rattle.lu_base.specs.declared.ids.Who.{Who}
@@ -9,17 +9,14 @@ use Rattle.lu_base.specs.declared.locks.Resource.{Resource}
 use Rattle.lu_base.specs.declared.locks.Lock.{Lock as LockOf}
 use Rattle.lu_base.specs.declared.locks.Policy.{Policy}
 use Rattle.lu_base.specs.declared.locks.Policy.TheVariants.{Bits, Range}
-use Rattle.lu_lock.specs.Growth.{the_end}
 use Rattle.lu_msg.specs.declared.answers.Answer.{Answer}
-use Rattle.lu_msg.specs.declared.answers.Answer.TheVariants as told
 use Rattle.lu_msg.specs.declared.operations.Op.{Op}
-use Rattle.lu_msg.specs.declared.operations.Op.TheVariants as op
 use Rattle.lu_msg.specs.declared.messages.Reply.{Reply as ReplyOf}
 use Rattle.lu_msg.specs.declared.messages.GrantNotice.{GrantNotice}
 use Rattle.lu_part.specs.declared.parts.Part.{Part}
-use Rattle.lu_part.specs.declared.parts.Part.TheVariants.{Bytes}
 use Rattle.lu_trace.specs.declared.entries.Entry.TheVariants.{Txn, Grant, Restore, Heard, Hold}
 use Rattle.lu_machine.specs.Footprint.{touches, writes}
+use Rattle.lu_machine.specs.Objects.{range, object_writes, object_touches}
 use Rattle.lu_machine.specs.Seen.{meet}
 use Rattle.lu_laws.specs.Pasts.{Past, is_target}
 use Rattle.lu_laws.specs.Sends.{reply_in, grant_in}
@@ -28,28 +25,6 @@ use Rattle.lu_laws.specs.Requests.{asked}
 use Rattle.lu_laws.specs.Boots.{committed}
 use Rattle.lu_laws.specs.Lost.{is_lost}
 use Rattle.lu_laws.specs.Standing.{contents}
-
--- ---- bytes: a page has 4,096
-
-abbrev pub range : Resource → ℕ → ℕ → List Part
-range resource first last = Bytes resource.fid resource.stripe (record { first = first; last = last }) ∷ []
-
-abbrev pub put_range : Resource → ℕ → List ℕ → List Part
-put_range resource offset [] = []
-put_range resource offset (b ∷ bs) = range resource offset (offset + length bs)
-
--- a cut also gives its last offset a byte
-abbrev pub object_writes : Op → List Part
-object_writes (op.Put resource cookie offset bytes) = put_range resource offset bytes
-object_writes (op.Cut resource cookie size) = range resource (max size 1 - 1) the_end
-object_writes _ = []
-
--- by the answer: what waits, isn't covered, or sends the asker to a lock touches nothing
-abbrev pub object_touches : Op → Answer → List Part
-object_touches (op.Enqueue resource mode extent) (told.Granted cookie granted size) = range resource granted.first granted.last
-object_touches (op.Get resource cookie page) (told.Content bytes) = range resource (page * 4096) (page * 4096 + 4095)
-object_touches (op.Size resource) (told.Size size) = range resource 0 the_end
-object_touches _ answer = []
 
 -- ---- an operation of a target, 0 the metadata target, over the contents after the past
 

@@ -1,6 +1,5 @@
-//! What each node does: the rows of a client's turn and of a metadata target's turn, and what a run is,
-//! as definitions. The world is a list of lines, the newest first; whatever a node knows is a fold over it.
+//! What a run is: turns of clients and targets, each the row of its node over the turns before. The rows stand in
+//! `lu_client_rows` and `lu_target_rows`, the words of lines in `lu_words`.
 //!
-//! The definitions stand in `specs/`: `Words`, `Printed`, `Sent`, `Calls`, `Imports`, `Targets`,
-//! `ClientRows`, `TargetRows`, `Runs` and `Steps`.
+//! The definitions stand in `specs/Runs`.
 #![tactic(auto)]

@@ -1,0 +1,4 @@
+pub mod Calls
+pub mod Imports
+pub mod States
+pub mod Rows
