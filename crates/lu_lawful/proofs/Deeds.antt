@@ -1,49 +1,63 @@
--- What a line on which the metadata target acted says of its deed: its turn, its answer, what it saw, and whether it
--- changes the tree.
-use Rattle.std.proofs.Common.{◌≡◌, ℕ, true, false, List, ◌⊎◌, inl, inr, refl, sym, subst, ap, ◌∙◌}
+-- What a line on which the metadata target acted says of its deed: its turn, its answer, what it saw and wrote, and
+-- whether it changes the tree.
+use Rattle.std.proofs.Common.{◌≡◌, ℕ, ◌+◌, ◌*◌, ◌<◌, true, false, List, inl, refl, sym, subst, ◌∙◌}
 use Rattle.lu_base.specs.declared.ids.At.{At}
-use Rattle.lu_base.specs.declared.ids.Node.{Node}
-use Rattle.lu_base.specs.declared.ids.Node.TheVariants.{Client, Target}
+use Rattle.lu_base.specs.declared.ids.Node.TheVariants.{Target}
 use Rattle.lu_base.specs.declared.ids.Stamp.{Stamp}
-use Rattle.lu_machine.specs.Footprint.{answer, touches, changes}
+use Rattle.lu_machine.specs.Footprint.{answer, touches, writes, changes}
 use Rattle.lu_machine.proofs.Numbers.{number_is_free}
-use Rattle.lu_table.specs.Words.{Deed, Act, Txn as Made, Line}
-use Rattle.lu_table.specs.Targets.{operation, tree_of, log_of, server_of, next_number, seen_in}
-use Rattle.lu_table.specs.TargetRows.{asked, none}
+use Rattle.lu_words.specs.Carried.{Deed}
+use Rattle.lu_words.specs.Words.{Act, Txn as Made, Line}
+use Rattle.lu_words.specs.Concerns.{only}
+use Rattle.lu_target_rows.specs.Parts.{operation}
+use Rattle.lu_target_rows.specs.States.{Server, none, server_at, server_of, next_number, seen_in}
+use Rattle.lu_target_rows.specs.Rows.{asked}
 use Rattle.lu_table.specs.Runs.{Head}
-use Rattle.lu_lawful.proofs.Guards.{ActOk, TxnOk, EntryOk}
-use Rattle.lu_lawful.proofs.Base.{turn}
+use Rattle.lu_guards.proofs.Guards.{Allowed, ActOk, TxnOk}
+use Rattle.lu_guards.proofs.Parts.{server_is}
+use Rattle.lu_facts.proofs.Groups.{turn}
+use Rattle.lu_lawful.proofs.Story.{about_it}
 
--- a deed is of the turn in which it was done
-pub deed_at : (head : Head) (past : List Line) (stamp : Stamp) (node : Node) (d : Deed) → EntryOk head past (turn stamp node) node (Act d) ⊎ EntryOk head past (turn stamp node) node (Made d) → d.reply.at ≡ turn stamp node
-deed_at head past stamp (Client c) d (inl ok) = absurd ok
-deed_at head past stamp (Client c) d (inr ok) = absurd ok
-deed_at head past stamp (Target t) d (inl ok) = ap (λ (e : Deed). e.reply.at) ok.1.is
-deed_at head past stamp (Target t) d (inr ok) = ap (λ (e : Deed). e.reply.at) ok.1.is
+-- an act of a target in that state
+pub record ActIs (osts : ℕ) (v : Server) (at : At) (d : Deed) : Type 0 where
+  pub turn : d.reply.at ≡ at
+  pub txn : d.reply.txn ≡ none
+  pub answered : d.reply.answer ≡ answer osts v.tree (operation d)
+  pub saw : d.reply.seen ≡ seen_in (touches osts v.tree (operation d)) v.log
+  pub still : changes osts v.tree (operation d) ≡ false
 
-pub act_is : (osts : ℕ) (past : List Line) (at : At) (d : Deed) → ActOk osts past at d
-    → (d.reply.txn ≡ none) × (d.reply.answer ≡ answer osts (tree_of osts past) (operation d)) × (d.reply.seen ≡ seen_in (touches osts (tree_of osts past) (operation d)) (log_of osts past)) × (changes osts (tree_of osts past) (operation d) ≡ false)
-act_is osts past at d ok =
-    subst (λ (e : Deed). (e.reply.txn ≡ none) × (e.reply.answer ≡ answer osts (tree_of osts past) (operation e)) × (e.reply.seen ≡ seen_in (touches osts (tree_of osts past) (operation e)) (log_of osts past)) × (changes osts (tree_of osts past) (operation e) ≡ false)) (sym ok.is)
-    (refl, refl, refl, ok.still)
+-- a transaction of it
+pub record TxnIs (osts : ℕ) (v : Server) (at : At) (d : Deed) : Type 0 where
+  pub few : v.count < 4294967295
+  pub turn : d.reply.at ≡ at
+  pub number : d.reply.txn.0 ≡ v.boot * 4294967296 + (v.count + 1)
+  pub answered : d.reply.answer ≡ answer osts v.tree (operation d)
+  pub saw : d.reply.seen ≡ seen_in (touches osts v.tree (operation d)) v.log
+  pub wrote : d.writes ≡ writes osts v.tree (operation d)
+  pub moves : changes osts v.tree (operation d) ≡ true
 
-pub txn_is : (osts : ℕ) (past : List Line) (at : At) (d : Deed) → TxnOk osts past at d
-    → (d.reply.answer ≡ answer osts (tree_of osts past) (operation d)) × (d.reply.seen ≡ seen_in (touches osts (tree_of osts past) (operation d)) (log_of osts past)) × (changes osts (tree_of osts past) (operation d) ≡ true)
-txn_is osts past at d ok =
+act_of : (osts : ℕ) (past : List Line) (at : At) (d : Deed) → ActOk osts past at d → ActIs osts (server_of osts past) at d
+act_of osts past at d ok = subst (λ (e : Deed). ActIs osts (server_of osts past) at e) (sym ok.is) (record { turn = refl; txn = refl; answered = refl; saw = refl; still = ok.still })
+
+txn_of : (osts : ℕ) (past : List Line) (at : At) (d : Deed) → TxnOk osts past at d → TxnIs osts (server_of osts past) at d
+txn_of osts past at d ok =
+    let v = server_of osts past in
     let r = ok.request in
-    subst (λ (e : Deed). (e.reply.answer ≡ answer osts (tree_of osts past) (operation e)) × (e.reply.seen ≡ seen_in (touches osts (tree_of osts past) (operation e)) (log_of osts past)) × (changes osts (tree_of osts past) (operation e) ≡ true)) (sym ok.is)
-    (refl, refl, (number_is_free osts (tree_of osts past) (asked r (next_number (server_of osts past))) (asked r none) refl).changes ∙ ok.moves)
+    subst (λ (e : Deed). TxnIs osts v at e) (sym ok.is)
+    (record {
+      few = ok.numbers;
+      turn = refl;
+      number = refl;
+      answered = refl;
+      saw = refl;
+      wrote = refl;
+      moves = (number_is_free osts v.tree (asked r (next_number v)) (asked r none) refl (inl refl)).changes ∙ ok.moves;
+    })
 
-pub deed_node : (head : Head) (past : List Line) (stamp : Stamp) (node : Node) (d : Deed) → EntryOk head past (turn stamp node) node (Act d) ⊎ EntryOk head past (turn stamp node) node (Made d) → node ≡ Target 0
-deed_node head past stamp (Client c) d (inl ok) = absurd ok
-deed_node head past stamp (Client c) d (inr ok) = absurd ok
-deed_node head past stamp (Target t) d (inl ok) = ap Target ok.0
-deed_node head past stamp (Target t) d (inr ok) = ap Target ok.0
+pub act_is : (head : Head) (past : List Line) (stamp : Stamp) (t : ℕ) (d : Deed) → Allowed head past (turn stamp (Target t)) (Act d) → ActIs head.osts (server_at head.osts 0 past) (turn stamp (Target t)) d
+act_is head past stamp t d k =
+    subst (λ (v : Server). ActIs head.osts v (turn stamp (Target t)) d) (sym (server_is head.osts 0 past)) (act_of head.osts (only 0 past) (turn stamp (Target t)) d (k.of 0 (about_it t k.ok)))
 
-pub act_ok : (head : Head) (past : List Line) (stamp : Stamp) (node : Node) (d : Deed) → EntryOk head past (turn stamp node) node (Act d) → ActOk head.osts past (turn stamp node) d
-act_ok head past stamp (Client c) d ok = absurd ok
-act_ok head past stamp (Target t) d ok = ok.1
-
-pub txn_ok : (head : Head) (past : List Line) (stamp : Stamp) (node : Node) (d : Deed) → EntryOk head past (turn stamp node) node (Made d) → TxnOk head.osts past (turn stamp node) d
-txn_ok head past stamp (Client c) d ok = absurd ok
-txn_ok head past stamp (Target t) d ok = ok.1
+pub txn_is : (head : Head) (past : List Line) (stamp : Stamp) (t : ℕ) (d : Deed) → Allowed head past (turn stamp (Target t)) (Made d) → TxnIs head.osts (server_at head.osts 0 past) (turn stamp (Target t)) d
+txn_is head past stamp t d k =
+    subst (λ (v : Server). TxnIs head.osts v (turn stamp (Target t)) d) (sym (server_is head.osts 0 past)) (txn_of head.osts (only 0 past) (turn stamp (Target t)) d (k.of 0 (about_it t k.ok)))

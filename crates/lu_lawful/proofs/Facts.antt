@@ -5,12 +5,13 @@ use Rattle.lu_base.specs.declared.ids.At.{At}
 use Rattle.lu_base.specs.declared.ids.Node.{Node}
 use Rattle.lu_base.specs.declared.ids.Node.TheVariants.{Client, Target}
 use Rattle.lu_msg.specs.declared.answers.Answer.{Answer}
-use Rattle.lu_table.specs.Words.{Deed, Told, Act, Txn as Made, Line}
-use Rattle.lu_table.specs.Printed.{printed}
+use Rattle.lu_words.specs.Carried.{Deed}
+use Rattle.lu_words.specs.Words.{Told, Act, Txn as Made, Line}
+use Rattle.lu_words.specs.Printed.{printed}
+use Rattle.lu_client_rows.specs.Calls.{first_life}
 use Rattle.lu_laws.specs.Pasts.{HeardIn, same_turn}
 use Rattle.lu_laws.specs.Requests.{asked}
-use Rattle.lu_lawful.specs.Fits.{first_life}
-use Rattle.lu_lawful.proofs.Base.{Acted}
+use Rattle.lu_facts.proofs.Groups.{Acted}
 
 abbrev pub AskedAt : List Line → Deed → Type 0
 AskedAt past d = asked (printed past) 0 d.reply.who d.reply.xid.0 ≡ Some d.op
@@ -34,4 +35,4 @@ TellsAt past at (Target t) named given = Unit {0}
 
 abbrev pub AllTold : List Line → Type 0
 AllTold [] = Unit {0}
-AllTold (l ∷ past) = elim l.entry [ Told slot turn answer ↦ TellsAt past l.at l.at.node turn answer × AllTold past | _ ↦ AllTold past ]
+AllTold (l ∷ past) = elim l.entry [ Told slot turn answer work ↦ TellsAt past l.at l.at.node turn answer × AllTold past | _ ↦ AllTold past ]

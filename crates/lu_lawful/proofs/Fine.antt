@@ -2,7 +2,6 @@
 use Rattle.std.proofs.Common.{◌≡◌, ℕ, false, List, [], ◌∷◌, Option, Some, None, ⊎_elim, refl, sym, subst}
 use Rattle.std.proofs.lemmas.Bool.{cond_both}
 use Rattle.lu_base.specs.declared.ids.Fid.{Fid}
-use Rattle.lu_base.specs.declared.ids.Stamp.{Stamp}
 use Rattle.lu_base.specs.declared.ids.Node.{Node}
 use Rattle.lu_base.specs.declared.ids.Node.TheVariants.{Client, Target}
 use Rattle.lu_base.specs.declared.ids.Txn.{Txn}
@@ -18,14 +17,16 @@ use Rattle.lu_machine.specs.Tree.{Tree, child, listing}
 use Rattle.lu_machine.specs.Plan.{Plan, Refuse, outcome}
 use Rattle.lu_machine.specs.Table.{root, look_in, look, there, absent, walk, onward, last_of, if_empty, row_lookup, row_mkdir, row_rmdir, plan}
 use Rattle.lu_machine.specs.Footprint.{answer}
-use Rattle.lu_table.specs.Words.{Deed, Entry, Tick, Act, Txn as Made, Line}
-use Rattle.lu_table.specs.Targets.{tree_of, server_of, next_number}
-use Rattle.lu_table.specs.TargetRows.{none}
+use Rattle.lu_words.specs.Carried.{Deed}
+use Rattle.lu_words.specs.Words.{Entry, Act, Txn as Made, Line, line}
+use Rattle.lu_target_rows.specs.Parts.{operation}
+use Rattle.lu_target_rows.specs.States.{tree_at}
 use Rattle.lu_table.specs.Runs.{Head}
 use Rattle.lu_laws.specs.Acts.{is_bad_handle, is_end_of_life}
-use Rattle.lu_lawful.proofs.Three.{IsThree}
-use Rattle.lu_lawful.proofs.Guards.{line, EntryOk, Grown}
-use Rattle.lu_lawful.proofs.Base.{turn, Acted}
+use Rattle.lu_guards.proofs.Guards.{Allowed, Grown}
+use Rattle.lu_facts.proofs.Groups.{turn, Acted}
+use Rattle.lu_lawful.proofs.Deeds.{act_is, txn_is}
+use Rattle.lu_lawful.proofs.Three.{IsThree, acted_three}
 
 abbrev pub IsFine : Answer → Type 0
 IsFine a = (is_bad_handle a ≡ false) × (is_end_of_life a ≡ false)
@@ -81,30 +82,21 @@ module _ (t : Tree) where
 
 -- ---- what was done is answered by the table
 
-abbrev pub Answered : ℕ → Deed → Type 0
-Answered osts d = (t : Tree) × ((number : Txn) × ((who : Who) × (d.reply.answer ≡ answer osts t (record { number = number; who = who; op = d.op }))))
+abbrev Answered : ℕ → Deed → Type 0
+Answered osts d = (t : Tree) × (d.reply.answer ≡ answer osts t (operation d))
 
--- what holds of each deed where it is done holds of all that were done
-pub each_deed : (head : Head) (P : Deed → Type 0) → ((past : List Line) (stamp : Stamp) (node : Node) (d : Deed) → EntryOk head past (turn stamp node) node (Act d) → P d) → ((past : List Line) (stamp : Stamp) (node : Node) (d : Deed) → EntryOk head past (turn stamp node) node (Made d) → P d)
-    → (past : List Line) → Grown head past → (d : Deed) → Acted past d → P d
-each_deed head P act txn [] g d a = absurd a
-each_deed head P act txn (l ∷ past) g d a = by l.entry g.0.ok (each_deed head P act txn past g.1 d) a
+answered : (head : Head) (past : List Line) (d : Deed) → Grown head past → Acted past d → Answered head.osts d
+answered head [] d g a = absurd a
+answered head (l ∷ past) d g a = by l.at.node l.entry g.0 a (answered head past d g.1)
   where
-    by : (e : Entry) → EntryOk head past l.at l.at.node e → (Acted past d → P d) → Acted (line l.at e ∷ past) d → P d
-    by (Act e) ok h a = ⊎_elim (λ (p : e ≡ d). subst P p (act past l.at.stamp l.at.node e ok)) (λ (p : Acted past d). h p) a
-    by (Made e) ok h a = ⊎_elim (λ (p : e ≡ d). subst P p (txn past l.at.stamp l.at.node e ok)) (λ (p : Acted past d). h p) a
-    by Tick ok h a = h a
-    by _ ok h a = h a
+    by : (node : Node) (e : Entry) → Allowed head past (turn l.at.stamp node) e → Acted (line (turn l.at.stamp node) e ∷ past) d → (Acted past d → Answered head.osts d) → Answered head.osts d
+    by (Client c) (Act x) k a h = absurd k.ok
+    by (Client c) (Made x) k a h = absurd k.ok
+    by (Target t) (Act x) k a h =
+        ⊎_elim (λ (p : x ≡ d). subst (λ (v : Deed). Answered head.osts v) p (tree_at head.osts 0 past, (act_is head past l.at.stamp t x k).answered)) (λ (p : Acted past d). h p) a
+    by (Target t) (Made x) k a h =
+        ⊎_elim (λ (p : x ≡ d). subst (λ (v : Deed). Answered head.osts v) p (tree_at head.osts 0 past, (txn_is head past l.at.stamp t x k).answered)) (λ (p : Acted past d). h p) a
+    by _ _ k a h = h a
 
-act_answered : (head : Head) (past : List Line) (stamp : Stamp) (node : Node) (d : Deed) → EntryOk head past (turn stamp node) node (Act d) → Answered head.osts d
-act_answered head past stamp (Client c) d ok = absurd ok
-act_answered head past stamp (Target t) d ok = subst (λ (v : Deed). Answered head.osts v) (sym ok.1.is) (tree_of head.osts past, (none, (ok.1.request.who, refl)))
-
-txn_answered : (head : Head) (past : List Line) (stamp : Stamp) (node : Node) (d : Deed) → EntryOk head past (turn stamp node) node (Made d) → Answered head.osts d
-txn_answered head past stamp (Client c) d ok = absurd ok
-txn_answered head past stamp (Target t) d ok = subst (λ (v : Deed). Answered head.osts v) (sym ok.1.is) (tree_of head.osts past, (next_number (server_of head.osts past), (ok.1.request.who, refl)))
-
-pub deed_fine : (head : Head) (past : List Line) → Grown head past → (d : Deed) → Acted past d → IsThree d.op → IsFine d.reply.answer
-deed_fine head past g d a i =
-    let k = each_deed head (Answered head.osts) (act_answered head) (txn_answered head) past g d a in
-    subst IsFine (sym k.1.1.1) (plan_fine k.0 head.osts k.1.0 k.1.1.0 d.op i)
+pub deed_fine : (head : Head) (past : List Line) (d : Deed) → Grown head past → Acted past d → IsFine d.reply.answer
+deed_fine head past d g a = let k = answered head past d g a in subst IsFine (sym k.1) (plan_fine k.0 head.osts d.reply.txn d.reply.who d.op (acted_three head past d g a))

@@ -7,21 +7,26 @@ use Rattle.lu_base.specs.declared.ids.Stamp.{Stamp}
 use Rattle.lu_base.specs.declared.ids.Node.{Node}
 use Rattle.lu_base.specs.declared.ids.Node.TheVariants.{Client, Target}
 use Rattle.lu_base.specs.declared.ids.Who.{Who}
-use Rattle.lu_msg.specs.declared.messages.Message.{Message}
 use Rattle.lu_msg.specs.declared.messages.Message.TheVariants as message
 use Rattle.lu_msg.specs.declared.messages.Reply.{Reply as ReplyTo}
 use Rattle.lu_msg.specs.declared.messages.Request.{Request as RequestOf}
-use Rattle.lu_table.specs.Words.{Flight, Entry, Begin, Busy, Queues, Flies, Send, Take, Tick, Heard, Told, Die, Act, Txn as Made, Line}
-use Rattle.lu_table.specs.Imports.{flights_of, without_flight}
-use Rattle.lu_table.specs.Printed.{printed}
+use Rattle.lu_words.specs.Carried.{Flight}
+use Rattle.lu_words.specs.Words.{Entry, Flies, Send, Heard, Line, line}
+use Rattle.lu_words.specs.Concerns.{only}
+use Rattle.lu_words.specs.Printed.{printed}
+use Rattle.lu_client_rows.specs.Calls.{first_life}
+use Rattle.lu_client_rows.specs.Imports.{without_flight, flights_at}
+use Rattle.lu_client_rows.specs.States.{known_of}
 use Rattle.lu_table.specs.Runs.{Head}
 use Rattle.lu_laws.specs.Pasts as pasts
 use Rattle.lu_laws.specs.Lives.{life}
 use Rattle.lu_laws.specs.Requests.{is_of, has_number, without_number, has_heard, in_flight}
-use Rattle.lu_lawful.specs.Fits.{first_life}
-use Rattle.lu_lawful.proofs.Guards.{In, line, request, SendOk, EntryOk, Grown}
-use Rattle.lu_lawful.proofs.Lists.{in_left, in_filter, life_is}
-use Rattle.lu_lawful.proofs.Base.{turn}
+use Rattle.lu_guards.proofs.Guards.{In, AskOk, Allowed, Grown}
+use Rattle.lu_guards.proofs.Lists.{in_left, in_filter, life_is}
+use Rattle.lu_guards.proofs.Parts.{flights_is}
+use Rattle.lu_facts.proofs.Groups.{turn, first_request}
+use Rattle.lu_facts.proofs.All.{holds}
+use Rattle.lu_lawful.proofs.Story.{about_it}
 use Rattle.lu_lawful.proofs.Contents.{life_stays}
 use Rattle.lu_lawful.proofs.Printed.{flip}
 
@@ -31,7 +36,7 @@ flying c past = in_flight 0 (first_life c) (printed past)
 
 -- a request in flight by the laws is one by the table
 abbrev pub Flown : List Line → ℕ → RequestOf → Type 0
-Flown past c r = (f : Flight) × In f (flights_of c 0 past) × (r ≡ request c [] f)
+Flown past c r = (f : Flight) × In f (flights_at c 0 past) × (r ≡ first_request c f)
 
 abbrev pub Distinct : List RequestOf → Type 0
 Distinct [] = Unit {0}
@@ -52,9 +57,21 @@ distinct_filter g (r ∷ rs) d =
     (λ t. (λ q i. d.0 q (in_filter g q rs i).0, distinct_filter g rs d.1))
     (λ t. distinct_filter g rs d.1)
 
+-- what a client sends is in flight by the table
+pub ask_flown : (head : Head) (past : List Line) (c : ℕ) (r : RequestOf) → Grown head past → AskOk (only 0 past) c r → Flown past c r
+ask_flown head past c r g ok =
+    let phase = ((holds head past g).at 0).phase in (
+      ok.flight,
+      subst (λ (fs : List Flight). In ok.flight fs) (sym (flights_is c 0 past)) ok.flying,
+      ok.is ∙ ap (λ (w : Who). message w (known_of c (only 0 past))) (phase.life c) ∙ ap (λ (b : ℕ). message (first_life c) b) (phase.known c),
+    )
+  where
+    message : Who → ℕ → RequestOf
+    message w b = record { who = w; boot = b; xid = record { 0 = ok.flight.xid }; tag = ok.flight.tag; op = ok.flight.op }
+
 -- one more
-flyers_send : (head : Head) (past : List Line) (stamp : Stamp) (node to : Node) (m : Message) → SendOk head past node to m → Flyers past → Flyers (line (turn stamp node) (Send to m) ∷ past)
-flyers_send head past stamp (Client d) (Target t) (message.Request r) ok h c = (
+flyers_asks : (past : List Line) (stamp : Stamp) (d t : ℕ) (r : RequestOf) → Flown past d r → Flyers past → Flyers (line (turn stamp (Client d)) (Send (Target t) (message.Request r)) ∷ past)
+flyers_asks past stamp d t r ok h c = (
   λ q. cond_both (is_of 0 (first_life c) (Target t) r && not (has_number r.xid.0 (flying c past)) && not (has_heard 0 (first_life c) r.xid.0 (printed past))) (r ∷ flying c past) (flying c past) (λ (rs : List RequestOf). In q rs → Flown past c q)
       (λ v i. ⊎_elim
       (λ (e : r ≡ q). subst (Flown past c) e (mine v))
@@ -72,7 +89,7 @@ flyers_send head past stamp (Client d) (Target t) (message.Request r) ok h c = (
         let b = and_parts (is_of 0 (first_life c) (Target t) r) _ a.0 in
         let e = and_parts (pasts.is_target 0 (Target t)) _ b.0 in
         let w = life_is r.who (first_life c) e.1 in
-        ap (λ (x : Who). x.client) (sym w) ∙ ap (λ (x : RequestOf). x.who.client) ok.1.is
+        ap (λ (x : Who). x.client) (sym w) ∙ ap (λ (x : RequestOf). x.who.client) ok.2
 
     fresh : is_of 0 (first_life c) (Target t) r && not (has_number r.xid.0 (flying c past)) && not (has_heard 0 (first_life c) r.xid.0 (printed past)) ≡ true → has_number r.xid.0 (flying c past) ≡ false
     fresh v =
@@ -81,14 +98,12 @@ flyers_send head past stamp (Client d) (Target t) (message.Request r) ok h c = (
         not-true (has_number r.xid.0 (flying c past)) b.1
 
     mine : is_of 0 (first_life c) (Target t) r && not (has_number r.xid.0 (flying c past)) && not (has_heard 0 (first_life c) r.xid.0 (printed past)) ≡ true → Flown past c r
-    mine v = let e = own v in subst (λ k. Flown past k r) (sym e) (ok.1.flight, ok.1.flying, ok.1.is)
-flyers_send head past stamp (Target t) (Client e) (message.Reply k) ok h c = h c
-flyers_send head past stamp node to m ok h c = absurd ok
+    mine v = let e = own v in subst (λ k. Flown past k r) (sym e) ok
 
 -- one more in the table
 flyers_flies : (past : List Line) (stamp : Stamp) (d : ℕ) (f : Flight) → Flyers past → Flyers (line (turn stamp (Client d)) (Flies 0 f) ∷ past)
 flyers_flies past stamp d f h c = (
-  λ r i. let k = (h c).0 r i in (k.0, cond_both (nat_eq c d && nat_eq 0 0) (flights_of c 0 past ++ f ∷ []) (flights_of c 0 past) (λ (fs : List Flight). In k.0 fs) (λ t. in_left k.0 (flights_of c 0 past) (f ∷ []) k.1) (λ t. k.1), k.2),
+  λ r i. let k = (h c).0 r i in (k.0, cond_both (nat_eq c d && nat_eq 0 0) (flights_at c 0 past ++ f ∷ []) (flights_at c 0 past) (λ (fs : List Flight). In k.0 fs) (λ t. in_left k.0 (flights_at c 0 past) (f ∷ []) k.1) (λ t. k.1), k.2),
   (h c).1,
 )
 
@@ -98,57 +113,44 @@ in_filter_on g f (k ∷ fs) (inl e) t = subst (λ (v : List Flight). In f v) (sy
 in_filter_on g f (k ∷ fs) (inr i) t = cond_both (g k) (k ∷ filter g fs) (filter g fs) (λ (v : List Flight). In f v) (λ s. inr (in_filter_on g f fs i t)) (λ s. in_filter_on g f fs i t)
 
 -- one less in both
-flyers_heard : (past : List Line) (stamp : Stamp) (d : ℕ) (f : Flight) (r : ReplyTo) → f.xid ≡ r.xid.0 → Flyers past → Flyers (line (turn stamp (Client d)) (Heard 0 f r) ∷ past)
-flyers_heard past stamp d f r x h c = (
+flyers_heard : (head : Head) (past : List Line) (stamp : Stamp) (d : ℕ) (f : Flight) (r : ReplyTo) → Grown head past → f.xid ≡ r.xid.0 → Flyers past → Flyers (line (turn stamp (Client d)) (Heard 0 f r) ∷ past)
+flyers_heard head past stamp d f r g x h c = (
   λ q. rw test (by q (nat_eq c d) refl),
   rw test (cond_both (nat_eq c d) (without_number r.xid.0 (flying c past)) (flying c past) Distinct (λ t. distinct_filter (λ (v : RequestOf). not (nat_eq v.xid.0 r.xid.0)) (flying c past) (h c).1) (λ t. (h c).1)),
 )
   where
     test : (nat_eq d c && nat_eq (life c (printed past)) 1 && nat_eq 0 0) ≡ nat_eq c d
-    test = rw (flip d c, life_stays c past) (and_true (nat_eq c d))
+    test = rw (flip d c, life_stays head c past g) (and_true (nat_eq c d))
       where
         and_true : (v : Bool) → (v && nat_eq 1 1 && nat_eq 0 0) ≡ v
         and_true true = refl
         and_true false = refl
 
-    Less : Bool → List Flight
-    Less v = if v && nat_eq 0 0 then without_flight f.xid (flights_of c 0 past) else flights_of c 0 past
-
-    by : (q : RequestOf) (t : Bool) → nat_eq c d ≡ t → In q (if t then without_number r.xid.0 (flying c past) else flying c past) → (g : Flight) × In g (if t && nat_eq 0 0 then without_flight f.xid (flights_of c 0 past) else flights_of c 0 past) × (q ≡ request c [] g)
+    by : (q : RequestOf) (t : Bool) → nat_eq c d ≡ t → In q (if t then without_number r.xid.0 (flying c past) else flying c past) → (g : Flight) × In g (if t && nat_eq 0 0 then without_flight f.xid (flights_at c 0 past) else flights_at c 0 past) × (q ≡ first_request c g)
     by q true t i =
         let j = in_filter (λ (v : RequestOf). not (nat_eq v.xid.0 r.xid.0)) q (flying c past) i in
         let k = (h c).0 q j.0 in
         let u : q.xid.0 ≡ k.0.xid = ap (λ (v : RequestOf). v.xid.0) k.2 in
         let n = not-true (nat_eq q.xid.0 r.xid.0) j.1 in
-        (k.0, in_filter_on (λ (v : Flight). not (nat_eq v.xid f.xid)) k.0 (flights_of c 0 past) k.1 (rw (sym u, x, n) refl), k.2)
+        (k.0, in_filter_on (λ (v : Flight). not (nat_eq v.xid f.xid)) k.0 (flights_at c 0 past) k.1 (rw (sym u, x, n) refl), k.2)
     by q false t i = (h c).0 q i
 
-pub keeps_flyers : (head : Head) (past : List Line) (stamp : Stamp) (node : Node) (e : Entry) → EntryOk head past (turn stamp node) node e → Flyers past → Flyers (line (turn stamp node) e ∷ past)
-keeps_flyers head past stamp node (Send to m) ok h = flyers_send head past stamp node to m ok h
-keeps_flyers head past stamp node (Take n m) ok h = h
-keeps_flyers head past stamp node Tick ok h = h
-keeps_flyers head past stamp (Client c) (Begin slot call) ok h = h
-keeps_flyers head past stamp (Client c) (Busy slot) ok h = h
-keeps_flyers head past stamp (Client c) (Queues u q) ok h = h
-keeps_flyers head past stamp (Client c) (Flies u f) ok h = subst (λ (v : ℕ). Flyers (line (turn stamp (Client c)) (Flies v f) ∷ past)) (sym ok.0) (flyers_flies past stamp c f h)
-keeps_flyers head past stamp (Client c) (Heard u f r) ok h = subst (λ (v : ℕ). Flyers (line (turn stamp (Client c)) (Heard v f r) ∷ past)) (sym ok.0) (flyers_heard past stamp c f r ok.1.xid h)
-keeps_flyers head past stamp (Client c) (Told slot at answer) ok h = h
-keeps_flyers head past stamp (Client c) Die ok h = h
-keeps_flyers head past stamp (Client c) (Act d) ok h = absurd ok
-keeps_flyers head past stamp (Client c) (Made d) ok h = absurd ok
-keeps_flyers head past stamp (Target u) (Act d) ok h = h
-keeps_flyers head past stamp (Target u) (Made d) ok h = h
-keeps_flyers head past stamp (Target u) (Begin slot call) ok h = absurd ok
-keeps_flyers head past stamp (Target u) (Busy slot) ok h = absurd ok
-keeps_flyers head past stamp (Target u) (Queues v q) ok h = absurd ok
-keeps_flyers head past stamp (Target u) (Flies v f) ok h = absurd ok
-keeps_flyers head past stamp (Target u) (Heard v f r) ok h = absurd ok
-keeps_flyers head past stamp (Target u) (Told slot at answer) ok h = absurd ok
-keeps_flyers head past stamp (Target u) Die ok h = absurd ok
+pub keeps_flyers : (head : Head) (past : List Line) (stamp : Stamp) (node : Node) (e : Entry) → Allowed head past (turn stamp node) e → Grown head past → Flyers past → Flyers (line (turn stamp node) e ∷ past)
+keeps_flyers head past stamp (Client c) (Send (Target t) (message.Request r)) k g h = flyers_asks past stamp c t r (ask_flown head past c r g (k.of 0 (about_it t k.ok))) h
+keeps_flyers head past stamp (Client c) (Send (Client d) m) k g h = absurd k.ok
+keeps_flyers head past stamp (Client c) (Send (Target t) m) k g h = absurd k.ok
+keeps_flyers head past stamp (Target t) (Send (Client c) (message.Reply r)) k g h = h
+keeps_flyers head past stamp (Target t) (Send (Client c) m) k g h = absurd k.ok
+keeps_flyers head past stamp (Target t) (Send (Target u) m) k g h = absurd k.ok
+keeps_flyers head past stamp (Client c) (Flies u f) k g h = subst (λ (v : ℕ). Flyers (line (turn stamp (Client c)) (Flies v f) ∷ past)) (sym k.ok) (flyers_flies past stamp c f h)
+keeps_flyers head past stamp (Client c) (Heard u f r) k g h = subst (λ (v : ℕ). Flyers (line (turn stamp (Client c)) (Heard v f r) ∷ past)) (sym k.ok) (flyers_heard head past stamp c f r g (k.of 0 (about_it u k.ok)).xid h)
+keeps_flyers head past stamp (Target u) (Flies v f) k g h = absurd k.ok
+keeps_flyers head past stamp (Target u) (Heard v f r) k g h = absurd k.ok
+keeps_flyers head past stamp _ _ k g h = h
 
 pub flyers : (head : Head) (past : List Line) → Grown head past → Flyers past
 flyers head [] g = λ c. (λ r i. absurd i, tt)
-flyers head (l ∷ past) g = keeps_flyers head past l.at.stamp l.at.node l.entry g.0.ok (flyers head past g.1)
+flyers head (l ∷ past) g = keeps_flyers head past l.at.stamp l.at.node l.entry g.0 g.1 (flyers head past g.1)
 
 -- ---- no more than the table has
 

@@ -13,6 +13,7 @@ use Rattle.lu_msg.specs.declared.answers.Answer.TheVariants as told
 use Rattle.lu_msg.specs.declared.answers.Errno.{Errno}
 use Rattle.lu_msg.specs.declared.operations.Op.{Op}
 use Rattle.lu_part.specs.declared.parts.Part.{Part}
+use Rattle.lu_trace.specs.declared.entries.Entry.{Entry as PrintedEntry}
 use Rattle.lu_machine.specs.declared.acts.Act.{Act as ActOf}
 use Rattle.lu_machine.specs.Tree.{Tree}
 use Rattle.lu_machine.specs.Footprint.{empty, answer, touches, writes, changes, after, Every}
@@ -25,25 +26,31 @@ use Rattle.lu_machine.proofs.Stated.{refusals_stay}
 use Rattle.lu_machine.proofs.Removal.{earlier_are_older}
 use Rattle.lu_machine.proofs.Seen.{removal_by_seen}
 use Rattle.lu_machine.proofs.Transactions.{machine_is_table}
-use Rattle.lu_table.specs.Words.{Deed, Entry, Queues, Flies, Told, Act, Txn as Made, Line}
-use Rattle.lu_table.specs.Targets.{transaction_of, operation, tree_of, log_of, count_of, seen_in}
-use Rattle.lu_table.specs.Printed.{printed}
+use Rattle.lu_words.specs.Carried.{Deed, Work}
+use Rattle.lu_words.specs.Words.{Entry, Told, Act, Txn as Made, Line, line}
+use Rattle.lu_words.specs.Sent.{count_sent}
+use Rattle.lu_words.specs.Printed.{printed_entry, printed}
+use Rattle.lu_client_rows.specs.Calls.{first_life}
+use Rattle.lu_target_rows.specs.Parts.{operation, logged}
+use Rattle.lu_target_rows.specs.States.{count_at, tree_at, log_at, server_at, seen_in}
 use Rattle.lu_table.specs.Runs.{Head}
 use Rattle.lu_laws.specs.Lives.{who_is, is_gone}
 use Rattle.lu_laws.specs.Lost.{is_lost}
 use Rattle.lu_laws.specs.Requests.{asked}
 use Rattle.lu_laws.specs.Calls.{open_call}
 use Rattle.lu_laws.specs.Histories.{none, request_act, is_answer, told_item, after_item, machine_of, act_of, deed_of}
-use Rattle.lu_laws.specs.History.{Answers, AnsweredThere, ToldFrom, ToldBy, ToldAt, is_refused, is_counted, IsDone, HistoryOf, History}
+use Rattle.lu_laws.specs.History.{Answers, AnsweredThere, ToldFrom, ToldBy, ToldAt, is_refused, is_counted, IsDone, HistoryAt, HistoryOf, History}
 use Rattle.lu_laws.specs.History as law
-use Rattle.lu_lawful.specs.Fits.{first_life, AllStand, SeenStand, DoneStands, ToldStandsAt, ToldStand, Fits}
-use Rattle.lu_lawful.proofs.Guards.{line, ActOk, TxnOk, EntryOk, Grown}
-use Rattle.lu_lawful.proofs.Base.{turn, Acted}
+use Rattle.lu_lawful.specs.Fits.{AllStand, SeenStand, DoneStands, ToldStandsAt, ToldStand, Fits}
+use Rattle.lu_guards.proofs.Guards.{Allowed, Grown}
+use Rattle.lu_facts.proofs.Groups.{turn, Acted}
+use Rattle.lu_lawful.proofs.MessagesLaw.{OfPrinted}
+use Rattle.lu_lawful.proofs.Once.{act_now, txn_now}
 use Rattle.lu_lawful.proofs.Facts.{AskedAt, AllAsked, TellsAt, AllTold}
 use Rattle.lu_lawful.proofs.Contents.{none_lost, life_stays, number_is, asked_before}
 use Rattle.lu_lawful.proofs.SeenNumbers.{one, seen_snoc}
-use Rattle.lu_lawful.proofs.Deeds.{act_ok, txn_ok, act_is, txn_is, deed_at, deed_node}
-use Rattle.lu_lawful.proofs.Three.{IsThree, threes, told_plain}
+use Rattle.lu_lawful.proofs.Deeds.{ActIs, TxnIs, act_is, txn_is}
+use Rattle.lu_lawful.proofs.Three.{IsThree, acted_three, told_plain}
 
 pub fits_before : (out : Who → Bool) (lost : ℕ → ℕ → Bool) (l : Line) (past : List Line) → Fits out lost (l ∷ past) → Fits out lost past
 fits_before out lost l past f = record { root = f.root; seen = seen_before l.entry f.seen; told = told_before l.entry f.told }
@@ -53,14 +60,14 @@ fits_before out lost l past f = record { root = f.root; seen = seen_before l.ent
     seen_before _ s = s
 
     told_before : (e : Entry) → ToldStand out lost (line l.at e ∷ past) → ToldStand out lost past
-    told_before (Told slot turn given) t = t.1
+    told_before (Told slot turn given work) t = t.1
     told_before _ t = t
 
 told_earlier : (l : Line) (past : List Line) → AllTold (l ∷ past) → AllTold past
 told_earlier l past = by l.entry
   where
     by : (e : Entry) → AllTold (line l.at e ∷ past) → AllTold past
-    by (Told slot turn given) t = t.1
+    by (Told slot turn given work) t = t.1
     by _ t = t
 
 -- ---- the past as items of the removal law
@@ -72,13 +79,15 @@ items (l ∷ past) = elim l.entry [ Made d ↦ Acts (operation d) ∷ items past
 abbrev whole : ℕ → List Item → Tree
 whole osts is = removal.contents osts empty is
 
-whole_is : (osts : ℕ) (past : List Line) → whole osts (items past) ≡ tree_of osts past
-whole_is osts [] = refl
-whole_is osts (l ∷ past) = by l.entry (whole_is osts past)
+whole_is : (head : Head) (past : List Line) → Grown head past → whole head.osts (items past) ≡ tree_at head.osts 0 past
+whole_is head [] g = refl
+whole_is head (l ∷ past) g = by l.at.node l.entry g.0 (whole_is head past g.1)
   where
-    by : (e : Entry) → whole osts (items past) ≡ tree_of osts past → whole osts (items (line l.at e ∷ past)) ≡ tree_of osts (line l.at e ∷ past)
-    by (Made d) h = ap (λ t. after osts t (operation d)) h
-    by _ h = h
+    by : (node : Node) (e : Entry) → Allowed head past (turn l.at.stamp node) e → whole head.osts (items past) ≡ tree_at head.osts 0 past → whole head.osts (items (line (turn l.at.stamp node) e ∷ past)) ≡ tree_at head.osts 0 (line (turn l.at.stamp node) e ∷ past)
+    by (Client c) (Made d) k h = absurd k.ok
+    by (Target t) (Made d) k h =
+        subst (λ (v : ℕ). after head.osts (whole head.osts (items past)) (operation d) ≡ tree_at head.osts 0 (line (turn l.at.stamp (Target v)) (Made d) ∷ past)) (sym k.ok) (ap (λ t. after head.osts t (operation d)) h)
+    by _ _ k h = h
 
 stand_parts : (lost : ℕ → ℕ → Bool) (ms ns : List ℕ) → AllStand lost (ms ++ ns) → AllStand lost ms × AllStand lost ns
 stand_parts lost [] ns s = (tt, s)
@@ -87,44 +96,61 @@ stand_parts lost (m ∷ ms) ns s = let r = stand_parts lost ms ns s.1 in ((s.0, 
 abbrev keep : (ℕ → ℕ → Bool) → ℕ → Bool
 keep lost n = not (lost 0 n)
 
-module _ (osts : ℕ) (lost : ℕ → ℕ → Bool) where
-  seen_kept : (touched : List Part) (past : List Line) → AllStand lost (seen_in touched (log_of osts past)) → Every (λ n. keep lost n ≡ true) (seen osts (whole osts) (items past) touched)
-  seen_kept touched [] s = tt
-  seen_kept touched (l ∷ past) s = by l.entry s (seen_kept touched past)
+module _ (head : Head) (lost : ℕ → ℕ → Bool) where
+  abbrev KeptSeen : List Item → List Part → Type 0
+  KeptSeen is touched = Every (λ n. keep lost n ≡ true) (seen head.osts (whole head.osts) is touched)
+
+  kept_made : (touched : List Part) (past : List Line) (at : At) (d : Deed) → Grown head past → TxnIs head.osts (server_at head.osts 0 past) at d → (AllStand lost (seen_in touched (log_at 0 past)) → KeptSeen (items past) touched)
+      → AllStand lost (seen_in touched (log_at 0 past ++ logged d ∷ [])) → KeptSeen (Acts (operation d) ∷ items past) touched
+  kept_made touched past at d g is h s =
+      let n = d.reply.txn.0 in
+      let ns = seen head.osts (whole head.osts) (items past) touched in
+      let parts = stand_parts lost (seen_in touched (log_at 0 past)) (one (meet d.writes touched) n) (subst (AllStand lost) (seen_snoc touched (log_at 0 past) (logged d)) s) in
+      subst (λ t. Every (λ n. keep lost n ≡ true) (if meet (writes head.osts t (operation d)) touched then n ∷ ns else ns)) (sym (whole_is head past g))
+      (subst (λ (ws : List Part). Every (λ n. keep lost n ≡ true) (if meet ws touched then n ∷ ns else ns)) is.wrote (at_one (meet d.writes touched) n ns parts.1 (h parts.0)))
     where
-      by : (e : Entry) → AllStand lost (seen_in touched (log_of osts (line l.at e ∷ past))) → (AllStand lost (seen_in touched (log_of osts past)) → Every (λ n. keep lost n ≡ true) (seen osts (whole osts) (items past) touched))
-          → Every (λ n. keep lost n ≡ true) (seen osts (whole osts) (items (line l.at e ∷ past)) touched)
-      by (Made d) s h =
-          let ws = writes osts (tree_of osts past) (operation d) in
-          let n = d.reply.txn.0 in
-          let ns = seen osts (whole osts) (items past) touched in
-          let parts = stand_parts lost (seen_in touched (log_of osts past)) (one (meet ws touched) n) (subst (AllStand lost) (seen_snoc touched (log_of osts past) (record { transaction = transaction_of d; writes = ws })) s) in
-          subst (λ t. Every (λ n. keep lost n ≡ true) (if meet (writes osts t (operation d)) touched then n ∷ ns else ns)) (sym (whole_is osts past))
-          (at (meet ws touched) n ns parts.1 (h parts.0))
-        where
-          at : (t : Bool) (n : ℕ) (ns : List ℕ) → AllStand lost (one t n) → Every (λ n. keep lost n ≡ true) ns → Every (λ n. keep lost n ≡ true) (if t then n ∷ ns else ns)
-          at true n ns s h = (ap not s.0, h)
-          at false n ns s h = h
-      by _ s h = h s
+      at_one : (t : Bool) (n : ℕ) (ns : List ℕ) → AllStand lost (one t n) → Every (λ n. keep lost n ≡ true) ns → Every (λ n. keep lost n ≡ true) (if t then n ∷ ns else ns)
+      at_one true n ns s h = (ap not s.0, h)
+      at_one false n ns s h = h
+
+  seen_kept : (touched : List Part) (past : List Line) → Grown head past → AllStand lost (seen_in touched (log_at 0 past)) → KeptSeen (items past) touched
+  seen_kept touched [] g s = tt
+  seen_kept touched (l ∷ past) g s = by l.at.node l.entry g.0 s (seen_kept touched past g.1)
+    where
+      by : (node : Node) (e : Entry) → Allowed head past (turn l.at.stamp node) e → AllStand lost (seen_in touched (log_at 0 (line (turn l.at.stamp node) e ∷ past))) → (AllStand lost (seen_in touched (log_at 0 past)) → KeptSeen (items past) touched)
+          → KeptSeen (items (line (turn l.at.stamp node) e ∷ past)) touched
+      by (Client c) (Made d) k s h = absurd k.ok
+      by (Target t) (Made d) k s h =
+          kept_made touched past (turn l.at.stamp (Target t)) d g.1 (txn_is head past l.at.stamp t d k) h (subst (λ (v : ℕ). AllStand lost (seen_in touched (log_at 0 (line (turn l.at.stamp (Target v)) (Made d) ∷ past)))) k.ok s)
+      by _ _ k s h = h s
 
   -- what saw only what stands
-  saw_kept : (past : List Line) (d : Deed) → d.reply.seen ≡ seen_in (touches osts (tree_of osts past) (operation d)) (log_of osts past) → AllStand lost d.reply.seen → SawKept osts (whole osts) (keep lost) (items past) (operation d)
-  saw_kept past d is s =
-      subst (λ t. Every (λ n. keep lost n ≡ true) (seen osts (whole osts) (items past) (touches osts t (operation d)))) (sym (whole_is osts past))
-      (seen_kept (touches osts (tree_of osts past) (operation d)) past (subst (AllStand lost) is s))
+  saw_kept : (past : List Line) (d : Deed) → Grown head past → d.reply.seen ≡ seen_in (touches head.osts (tree_at head.osts 0 past) (operation d)) (log_at 0 past) → AllStand lost d.reply.seen → SawKept head.osts (whole head.osts) (keep lost) (items past) (operation d)
+  saw_kept past d g is s =
+      subst (λ t. Every (λ n. keep lost n ≡ true) (seen head.osts (whole head.osts) (items past) (touches head.osts t (operation d)))) (sym (whole_is head past g))
+      (seen_kept (touches head.osts (tree_at head.osts 0 past) (operation d)) past g (subst (AllStand lost) is s))
 
 stands_again : (b : Bool) → not b ≡ true → b ≡ false
 stands_again true e = absurd (cc)
 stands_again false e = refl
 
+-- what acted, whatever the node
+act_here : (head : Head) (past : List Line) (stamp : Stamp) (node : Node) (d : Deed) → Allowed head past (turn stamp node) (Act d) → ActIs head.osts (server_at head.osts 0 past) (turn stamp node) d
+act_here head past stamp (Client c) d k = absurd k.ok
+act_here head past stamp (Target t) d k = act_is head past stamp t d k
+
+txn_here : (head : Head) (past : List Line) (stamp : Stamp) (node : Node) (d : Deed) → Allowed head past (turn stamp node) (Made d) → TxnIs head.osts (server_at head.osts 0 past) (turn stamp node) d
+txn_here head past stamp (Client c) d k = absurd k.ok
+txn_here head past stamp (Target t) d k = txn_is head past stamp t d k
+
 all_saw : (head : Head) (lost : ℕ → ℕ → Bool) (past : List Line) → Grown head past → SeenStand lost past → AllSawKept head.osts (whole head.osts) (keep lost) (items past)
 all_saw head lost [] g s = tt
-all_saw head lost (l ∷ past) g s = by l.entry g.0.ok s (all_saw head lost past g.1)
+all_saw head lost (l ∷ past) g s = by l.entry g.0 s (all_saw head lost past g.1)
   where
-    by : (e : Entry) → EntryOk head past l.at l.at.node e → SeenStand lost (line l.at e ∷ past) → (SeenStand lost past → AllSawKept head.osts (whole head.osts) (keep lost) (items past))
+    by : (e : Entry) → Allowed head past l.at e → SeenStand lost (line l.at e ∷ past) → (SeenStand lost past → AllSawKept head.osts (whole head.osts) (keep lost) (items past))
         → AllSawKept head.osts (whole head.osts) (keep lost) (items (line l.at e ∷ past))
-    by (Made d) ok s h = (λ k. saw_kept head.osts lost past d (txn_is head.osts past l.at d (txn_ok head past l.at.stamp l.at.node d ok)).1 (s.0 (stands_again (lost 0 d.reply.txn.0) k)), h s.1)
-    by _ ok s h = h s
+    by (Made d) k s h = (λ kept. saw_kept head lost past d g.1 (txn_here head past l.at.stamp l.at.node d k).saw (s.0 (stands_again (lost 0 d.reply.txn.0) kept)), h s.1)
+    by _ k s h = h s
 
 -- ---- the law's machine
 
@@ -138,21 +164,21 @@ module _ (head : Head) (out : Who → Bool) (lost : ℕ → ℕ → Bool) where
 
   -- its last number is passed by the next, and its tree is what the transactions that stand leave
   abbrev Follows : List Line → Type 0
-  Follows past = ((machine past).last ≤ 4294967296 + count_of past) × ((machine past).tree ≡ whole head.osts (standing past))
+  Follows past = ((machine past).last ≤ 4294967296 + count_at 0 past) × ((machine past).tree ≡ whole head.osts (standing past))
 
   -- the same after a transaction whose request asked for o, and which is lost or not
   abbrev FollowsMade : List Line → Deed → Option Op → Bool → Type 0
   FollowsMade past d o t =
-      ((after_item head.osts (machine past) (if t then None else request_act d.reply.who d.reply.txn o)).last ≤ 4294967296 + (count_of past + 1))
+      ((after_item head.osts (machine past) (if t then None else request_act d.reply.who d.reply.txn o)).last ≤ 4294967296 + (count_at 0 past + 1))
       × ((after_item head.osts (machine past) (if t then None else request_act d.reply.who d.reply.txn o)).tree ≡ whole head.osts (if not t then Acts (operation d) ∷ standing past else standing past))
 
-  follows_made : (past : List Line) (at : At) (d : Deed) → TxnOk head.osts past at d → AskedAt past d → Follows past → Follows (line (turn at.stamp (Target 0)) (Made d) ∷ past)
-  follows_made past at d ok asks h = by (lost 0 d.reply.txn.0)
+  follows_made : (past : List Line) (at : At) (d : Deed) → Grown head past → TxnIs head.osts (server_at head.osts 0 past) at d → AskedAt past d → Follows past → Follows (line (turn at.stamp (Target 0)) (Made d) ∷ past)
+  follows_made past at d g is asks h = by (lost 0 d.reply.txn.0)
     where
-      number : d.reply.txn.0 ≡ 4294967296 + (count_of past + 1)
-      number = number_is head.osts past at d ok
+      number : d.reply.txn.0 ≡ 4294967296 + (count_at 0 past + 1)
+      number = number_is head past at d g is
 
-      last : (machine past).last ≤ 4294967296 + count_of past
+      last : (machine past).last ≤ 4294967296 + count_at 0 past
       last = h.0
 
       by : (t : Bool) → FollowsMade past d (asked (printed past) 0 d.reply.who d.reply.xid.0) t
@@ -164,58 +190,56 @@ module _ (head : Head) (out : Who → Bool) (lost : ℕ → ℕ → Bool) where
           )
 
   -- nothing is told in the turn in which it acted
-  follows_told : (past : List Line) (stamp : Stamp) (c slot : ℕ) (named : At) (given : Answer) → TellsAt past (turn stamp (Client c)) (Client c) named given → Follows past → Follows (line (turn stamp (Client c)) (Told slot named given) ∷ past)
-  follows_told past stamp c slot named given tells h =
-      subst (λ (i : Option ActOf). ((after_item head.osts (machine past) i).last ≤ 4294967296 + count_of past) × ((after_item head.osts (machine past) i).tree ≡ whole head.osts (standing past))) (sym nothing) h
+  follows_told : (past : List Line) (stamp : Stamp) (c slot : ℕ) (named : At) (given : Answer) (work : Option Work) → TellsAt past (turn stamp (Client c)) (Client c) named given → Follows past → Follows (line (turn stamp (Client c)) (Told slot named given work) ∷ past)
+  follows_told past stamp c slot named given work tells h =
+      subst (λ (i : Option ActOf). ((after_item head.osts (machine past) i).last ≤ 4294967296 + count_at 0 past) × ((after_item head.osts (machine past) i).tree ≡ whole head.osts (standing past))) (sym nothing) h
     where
       nothing : told_item out (printed past) (turn stamp (Client c)) (Client c) slot named given ≡ None
       nothing = ap (λ t. if t && is_answer given && not (out (who_is c (printed past))) then act_of (who_is c (printed past)) none (deed_of c (open_call c slot (printed past))) else None) tells.other
 
   follows : (past : List Line) → Grown head past → AllAsked past → AllTold past → Follows past
   follows [] g a t = (omega arith, refl)
-  follows (l ∷ past) g a t = by l.at.node l.entry g.0.ok a t (follows past g.1 (asked_before l past a) (told_earlier l past t))
+  follows (l ∷ past) g a t = by l.at.node l.entry g.0 a t (follows past g.1 (asked_before l past a) (told_earlier l past t))
     where
-      by : (node : Node) (e : Entry) → EntryOk head past (turn l.at.stamp node) node e → AllAsked (line (turn l.at.stamp node) e ∷ past) → AllTold (line (turn l.at.stamp node) e ∷ past) → Follows past → Follows (line (turn l.at.stamp node) e ∷ past)
-      by (Client c) (Made d) ok a t h = absurd ok
-      by (Target u) (Made d) ok a t h =
-          subst (λ (v : ℕ). Follows (line (turn l.at.stamp (Target v)) (Made d) ∷ past)) (sym ok.0) (follows_made past (turn l.at.stamp (Target u)) d ok.1 a.0 h)
-      by (Client c) (Told slot named given) ok a t h = follows_told past l.at.stamp c slot named given t.0 h
-      by (Target u) (Told slot named given) ok a t h = absurd ok
-      by _ _ ok a t h = h
+      by : (node : Node) (e : Entry) → Allowed head past (turn l.at.stamp node) e → AllAsked (line (turn l.at.stamp node) e ∷ past) → AllTold (line (turn l.at.stamp node) e ∷ past) → Follows past → Follows (line (turn l.at.stamp node) e ∷ past)
+      by (Client c) (Made d) k a t h = absurd k.ok
+      by (Target u) (Made d) k a t h =
+          subst (λ (v : ℕ). Follows (line (turn l.at.stamp (Target v)) (Made d) ∷ past)) (sym k.ok) (follows_made past (turn l.at.stamp (Target u)) d g.1 (txn_is head past l.at.stamp u d k) a.0 h)
+      by (Client c) (Told slot named given work) k a t h = follows_told past l.at.stamp c slot named given work t.0 h
+      by (Target u) (Told slot named given work) k a t h = absurd k.ok
+      by _ _ k a t h = h
 
   -- what saw only what stands comes out of the machine as it came out of the target
   alike : (past : List Line) (d : Deed) → Grown head past → AllAsked past → AllTold past → Fits out lost past
-      → d.reply.seen ≡ seen_in (touches head.osts (tree_of head.osts past) (operation d)) (log_of head.osts past) → AllStand lost d.reply.seen → Alike head.osts (tree_of head.osts past) (machine past).tree (operation d)
+      → d.reply.seen ≡ seen_in (touches head.osts (tree_at head.osts 0 past) (operation d)) (log_at 0 past) → AllStand lost d.reply.seen → Alike head.osts (tree_at head.osts 0 past) (machine past).tree (operation d)
   alike past d g a t f is s =
       let root = ap not f.root in
       let older = earlier_are_older head.osts (keep lost) root [] tt in
-      subst (λ (u : Tree). Alike head.osts u (machine past).tree (operation d)) (whole_is head.osts past)
+      subst (λ (u : Tree). Alike head.osts u (machine past).tree (operation d)) (whole_is head past g)
       (subst (λ (u : Tree). Alike head.osts (whole head.osts (items past)) u (operation d)) (sym (follows past g a t).1)
-      (removal_by_seen head.osts empty (keep lost) root older (items past) (all_saw head lost past g f.seen) (operation d) (saw_kept head.osts lost past d is s)))
+      (removal_by_seen head.osts empty (keep lost) root older (items past) (all_saw head lost past g f.seen) (operation d) (saw_kept head lost past d g is s)))
 
-  answered : (past : List Line) (d : Deed) → Alike head.osts (tree_of head.osts past) (machine past).tree (operation d) → IsThree d.op → (changes head.osts (tree_of head.osts past) (operation d) ≡ true → (machine past).last < d.reply.txn.0)
-      → names_answer head.osts (machine past) (operation d) ≡ answer head.osts (tree_of head.osts past) (operation d)
+  answered : (past : List Line) (d : Deed) → Alike head.osts (tree_at head.osts 0 past) (machine past).tree (operation d) → IsThree d.op → (changes head.osts (tree_at head.osts 0 past) (operation d) ≡ true → (machine past).last < d.reply.txn.0)
+      → names_answer head.osts (machine past) (operation d) ≡ answer head.osts (tree_at head.osts 0 past) (operation d)
   answered past d same three above =
       (machine_is_table head.osts (machine past) (operation d) (λ c. above (same.changes ∙ c))).0
       ∙ told_plain head.osts (machine past) (machine past).tree (operation d) three
       ∙ sym same.answer
 
   -- the machine's answer to an act, and to a transaction
-  act_answers : (past : List Line) (at : At) (d : Deed) → Grown head past → AllAsked past → AllTold past → Fits out lost past → ActOk head.osts past at d → AskedAt past d → IsThree d.op → AllStand lost d.reply.seen
+  act_answers : (past : List Line) (at : At) (d : Deed) → Grown head past → AllAsked past → AllTold past → Fits out lost past → ActIs head.osts (server_at head.osts 0 past) at d → AskedAt past d → IsThree d.op → AllStand lost d.reply.seen
       → Answers head.osts (machine past) (request_act d.reply.who none (asked (printed past) 0 d.reply.who d.reply.xid.0)) d.reply.answer
-  act_answers past at d g a t f ok asks three s =
-      let is = act_is head.osts past at d ok in
+  act_answers past at d g a t f is asks three s =
       subst (λ o. Answers head.osts (machine past) (request_act d.reply.who none o) d.reply.answer) (sym asks)
-      (subst (λ (n : TxnOf). Answers head.osts (machine past) (request_act d.reply.who n (Some d.op)) d.reply.answer) is.0
-      (answered past d (alike past d g a t f is.2 s) three (λ c. absurd (let still = is.3 in cc)) ∙ sym is.1))
+      (subst (λ (n : TxnOf). Answers head.osts (machine past) (request_act d.reply.who n (Some d.op)) d.reply.answer) is.txn
+      (answered past d (alike past d g a t f is.saw s) three (λ c. absurd (let still = is.still in cc)) ∙ sym is.answered))
 
-  txn_answers : (past : List Line) (at : At) (d : Deed) → Grown head past → AllAsked past → AllTold past → Fits out lost past → TxnOk head.osts past at d → IsThree d.op → AllStand lost d.reply.seen
+  txn_answers : (past : List Line) (at : At) (d : Deed) → Grown head past → AllAsked past → AllTold past → Fits out lost past → TxnIs head.osts (server_at head.osts 0 past) at d → IsThree d.op → AllStand lost d.reply.seen
       → names_answer head.osts (machine past) (operation d) ≡ d.reply.answer
-  txn_answers past at d g a t f ok three s =
-      let is = txn_is head.osts past at d ok in
-      let n = number_is head.osts past at d ok in
+  txn_answers past at d g a t f is three s =
+      let n = number_is head past at d g is in
       let last = (follows past g a t).0 in
-      answered past d (alike past d g a t f is.1 s) three (λ c. omega (arith, n, last)) ∙ sym is.0
+      answered past d (alike past d g a t f is.saw s) three (λ c. omega (arith, n, last)) ∙ sym is.answered
 
   -- what was done was answered where it stands
   answered_there : (past : List Line) (d : Deed) → Grown head past → AllAsked past → AllTold past → Fits out lost past → Acted past d → DoneStands lost past d.reply.who d.reply.at
@@ -225,25 +249,27 @@ module _ (head : Head) (out : Who → Bool) (lost : ℕ → ℕ → Bool) where
       let earlier = asked_before l past a in
       let before = told_earlier l past t in
       let fits = fits_before out lost l past f in
-      let three = (threes head (l ∷ past) g).acted in
-      by l.entry g.0.ok a three acted s (λ b k. answered_there past d g.1 earlier before fits b k)
+      let three : (b : Deed) → Acted (l ∷ past) b → IsThree b.op = λ b i. acted_three head (l ∷ past) b g i in
+      by l.entry g.0 a three acted s (λ b k. answered_there past d g.1 earlier before fits b k)
     where
-      by : (e : Entry) → EntryOk head past l.at l.at.node e → AllAsked (line l.at e ∷ past) → ((b : Deed) → Acted (line l.at e ∷ past) b → IsThree b.op) → Acted (line l.at e ∷ past) d → DoneStands lost (line l.at e ∷ past) d.reply.who d.reply.at
+      by : (e : Entry) → Allowed head past l.at e → AllAsked (line l.at e ∷ past) → ((b : Deed) → Acted (line l.at e ∷ past) b → IsThree b.op) → Acted (line l.at e ∷ past) d → DoneStands lost (line l.at e ∷ past) d.reply.who d.reply.at
           → (Acted past d → DoneStands lost past d.reply.who d.reply.at → AnsweredThere out lost head.osts (printed past) d.reply.at d.reply.who d.reply.xid.0 d.reply.answer)
           → AnsweredThere out lost head.osts (printed (line l.at e ∷ past)) d.reply.at d.reply.who d.reply.xid.0 d.reply.answer
       by (Act e) ok a three (inl same) s h =
-          let w = deed_at head past l.at.stamp l.at.node e (inl ok) in
-          let node = deed_node head past l.at.stamp l.at.node e (inl ok) in
+          let now = act_now head past l.at.stamp l.at.node e ok g.1 in
+          let w = now.2 in
+          let node = now.1 in
           let stands = s.0 (ap (λ (v : Deed). v.reply.who) same) (ap (λ (v : Deed). v.reply.at) same) in
           inl
           (subst
           (λ (v : Deed). (l.at ≡ v.reply.at) × (l.at.node ≡ Target 0) × (e.reply.who ≡ v.reply.who) × (e.reply.xid.0 ≡ v.reply.xid.0) × Answers head.osts (machine past) (request_act v.reply.who none (asked (printed past) 0 v.reply.who v.reply.xid.0)) v.reply.answer)
           same
-          (sym w, node, refl, refl, act_answers past l.at e g.1 a.1 (told_earlier l past t) (fits_before out lost l past f) (act_ok head past l.at.stamp l.at.node e ok) a.0 (three e (inl refl)) stands))
+          (sym w, node, refl, refl, act_answers past l.at e g.1 a.1 (told_earlier l past t) (fits_before out lost l past f) (act_here head past l.at.stamp l.at.node e ok) a.0 (three e (inl refl)) stands))
       by (Act e) ok a three (inr b) s h = inr (h b s.1)
       by (Made e) ok a three (inl same) s h =
-          let w = deed_at head past l.at.stamp l.at.node e (inr ok) in
-          let node = deed_node head past l.at.stamp l.at.node e (inr ok) in
+          let now = txn_now head past l.at.stamp l.at.node e ok g.1 in
+          let w = now.2 in
+          let node = now.1 in
           let stands = s.0 (ap (λ (v : Deed). v.reply.who) same) (ap (λ (v : Deed). v.reply.at) same) in
           inl
           (subst
@@ -255,7 +281,7 @@ module _ (head : Head) (out : Who → Bool) (lost : ℕ → ℕ → Bool) where
             refl,
             stands.0,
             subst (λ o. Answers head.osts (machine past) (request_act e.reply.who e.reply.txn o) e.reply.answer) (sym a.0)
-                (txn_answers past l.at e g.1 a.1 (told_earlier l past t) (fits_before out lost l past f) (txn_ok head past l.at.stamp l.at.node e ok) (three e (inl refl)) stands.1),
+                (txn_answers past l.at e g.1 a.1 (told_earlier l past t) (fits_before out lost l past f) (txn_here head past l.at.stamp l.at.node e ok) (three e (inl refl)) stands.1),
           ))
       by (Made e) ok a three (inr b) s h = inr (h b s.1)
       by _ ok a three b s h = h b s
@@ -268,7 +294,7 @@ module _ (head : Head) (out : Who → Bool) (lost : ℕ → ℕ → Bool) where
   told_law past stamp c slot named given g a t f tells stands out_not counted there =
       let at = turn stamp (Client c) in
       let d = tells.deed in
-      let life : who_is c (printed past) ≡ first_life c = ap (λ (v : ℕ). record { client = c; life = v }) (life_stays c past) in
+      let life : who_is c (printed past) ≡ first_life c = ap (λ (v : ℕ). record { client = c; life = v }) (life_stays head c past g) in
       let done : DoneStands lost past d.reply.who d.reply.at =
       subst (λ (v : Who). DoneStands lost past v d.reply.at) (sym tells.who) (subst (λ (v : At). DoneStands lost past (first_life c) v) (sym tells.turn) (stands (subst (λ (v : Who). out v ≡ false) life out_not))) in
       let found = answered_there past d g a t f tells.acted done in
@@ -282,36 +308,47 @@ module _ (head : Head) (out : Who → Bool) (lost : ℕ → ℕ → Bool) where
       })
 
   -- what stands isn't refused
-  txn_law : (past : List Line) (at : At) (d : Deed) → Grown head past → AllAsked past → AllTold past → Fits out lost past → TxnOk head.osts past at d → AskedAt past d → IsThree d.op
+  txn_law : (past : List Line) (at : At) (d : Deed) → Grown head past → AllAsked past → AllTold past → Fits out lost past → TxnIs head.osts (server_at head.osts 0 past) at d → AskedAt past d → IsThree d.op
       → (lost 0 d.reply.txn.0 ≡ false → AllStand lost d.reply.seen) → law.TxnAt out lost head.osts (printed past) 0 d.reply.txn d.reply.who d.reply.xid.0
-  txn_law past at d g a t f ok asks three s stands =
-      let is = txn_is head.osts past at d ok in
-      let same = txn_answers past at d g a t f ok three (s stands) in
+  txn_law past at d g a t f is asks three s stands =
+      let same = txn_answers past at d g a t f is three (s stands) in
       subst (λ o. IsDone head.osts (machine past) (request_act d.reply.who d.reply.txn o)) (sym asks)
-      (ap is_refused (same ∙ is.0) ∙ not_refused (answer head.osts (tree_of head.osts past) (operation d)) (λ e r. let still = (refusals_stay head.osts (tree_of head.osts past) (operation d) e r).0 in let moves = is.2 in absurd (cc)))
+      (ap is_refused (same ∙ is.answered) ∙ not_refused (answer head.osts (tree_at head.osts 0 past) (operation d)) (λ e r. let still = (refusals_stay head.osts (tree_at head.osts 0 past) (operation d) e r).0 in let moves = is.moves in absurd (cc)))
     where
       not_refused : (x : Answer) → ((e : Errno) → x ≡ told.Refused e → ⊥) → is_refused x ≡ false
       not_refused (told.Refused e) never = absurd (never e refl)
       not_refused _ never = refl
 
-  pub history_law : (past : List Line) → Fits out lost past → Grown head past → AllAsked past → AllTold past → HistoryOf out lost head.osts (printed past)
-  history_law [] f g a t = tt
-  history_law (l ∷ past) f g a t =
-      by l.at.node l.entry g.0.ok (threes head (l ∷ past) g).acted f.seen f.told a t (history_law past (fits_before out lost l past f) g.1 (asked_before l past a) (told_earlier l past t))
+  history_at : (past : List Line) (l : Line) → Grown head (l ∷ past) → Fits out lost (l ∷ past) → AllAsked (l ∷ past) → AllTold (l ∷ past)
+      → OfPrinted (HistoryAt out lost head.osts (printed past) l.at) (printed_entry (count_sent past + 1) l.entry)
+  history_at past l g f a t = by l.at.node l.entry g.0 (λ b i. acted_three head (l ∷ past) b g i) f.seen f.told a t
     where
       fits : Fits out lost past
       fits = fits_before out lost l past f
 
-      by : (node : Node) (e : Entry) → EntryOk head past (turn l.at.stamp node) node e → ((b : Deed) → Acted (line l.at e ∷ past) b → IsThree b.op) → SeenStand lost (line l.at e ∷ past) → ToldStand out lost (line (turn l.at.stamp node) e ∷ past)
-          → AllAsked (line l.at e ∷ past) → AllTold (line (turn l.at.stamp node) e ∷ past) → HistoryOf out lost head.osts (printed past) → HistoryOf out lost head.osts (printed (line (turn l.at.stamp node) e ∷ past))
-      by (Client c) (Told slot named given) ok three s k a t h = (told_law past l.at.stamp c slot named given g.1 a t.1 fits t.0 k.0, h)
-      by (Target u) (Told slot named given) ok three s k a t h = absurd ok
-      by (Client c) (Made d) ok three s k a t h = absurd ok
-      by (Target u) (Made d) ok three s k a t h =
-          (subst (λ (v : ℕ). law.TxnAt out lost head.osts (printed past) v d.reply.txn d.reply.who d.reply.xid.0) (sym ok.0) (txn_law past (turn l.at.stamp (Target u)) d g.1 a.1 t fits ok.1 a.0 (three d (inl refl)) s.0), h)
-      by node (Queues u q) ok three s k a t h = h
-      by node (Flies u q) ok three s k a t h = h
-      by _ _ ok three s k a t h = (tt, h)
+      earlier : AllTold past
+      earlier = told_earlier l past t
+
+      by : (node : Node) (e : Entry) → Allowed head past (turn l.at.stamp node) e → ((b : Deed) → Acted (line (turn l.at.stamp node) e ∷ past) b → IsThree b.op) → SeenStand lost (line (turn l.at.stamp node) e ∷ past)
+          → ToldStand out lost (line (turn l.at.stamp node) e ∷ past) → AllAsked (line (turn l.at.stamp node) e ∷ past) → AllTold (line (turn l.at.stamp node) e ∷ past)
+          → OfPrinted (HistoryAt out lost head.osts (printed past) (turn l.at.stamp node)) (printed_entry (count_sent past + 1) e)
+      by (Client c) (Told slot named given work) k three s st a t = told_law past l.at.stamp c slot named given g.1 a t.1 fits t.0 st.0
+      by (Target u) (Told slot named given work) k three s st a t = absurd k.ok
+      by (Client c) (Made d) k three s st a t = absurd k.ok
+      by (Target u) (Made d) k three s st a t =
+          subst (λ (v : ℕ). law.TxnAt out lost head.osts (printed past) v d.reply.txn d.reply.who d.reply.xid.0) (sym k.ok)
+          (txn_law past (turn l.at.stamp (Target u)) d g.1 a.1 earlier fits (txn_is head past l.at.stamp u d k) a.0 (three d (inl refl)) s.0)
+      by _ _ k three s st a t = tt
+
+  pub history_law : (past : List Line) → Fits out lost past → Grown head past → AllAsked past → AllTold past → HistoryOf out lost head.osts (printed past)
+  history_law [] f g a t = tt
+  history_law (l ∷ past) f g a t =
+      by (printed_entry (count_sent past + 1) l.entry) (history_at past l g f a t) (history_law past (fits_before out lost l past f) g.1 (asked_before l past a) (told_earlier l past t))
+    where
+      by : (o : Option PrintedEntry) → OfPrinted (HistoryAt out lost head.osts (printed past) l.at) o → HistoryOf out lost head.osts (printed past)
+          → HistoryOf out lost head.osts (elim o [ None ↦ printed past | Some e ↦ record { at = l.at; entry = e } ∷ printed past ])
+      by None p h = h
+      by (Some e) p h = (p, h)
 
 -- ---- of a whole trace: no life is gone, and nothing is lost
 
@@ -348,8 +385,8 @@ none_fit out lost none past = record { root = none 1; seen = seen past; told = t
     tells (l ∷ past) = by l.entry (tells past)
       where
         by : (e : Entry) → ToldStand out lost past → ToldStand out lost (line l.at e ∷ past)
-        by (Told slot turn given) h = (at past l.at.node turn, h)
+        by (Told slot turn given work) h = (at past l.at.node turn, h)
         by _ h = h
 
 pub history_whole : (head : Head) (past : List Line) → Grown head past → AllAsked past → AllTold past → History head.osts (printed past)
-history_whole head past g a t = history_law head (is_gone (printed past)) (is_lost (printed past)) past (none_fit (is_gone (printed past)) (is_lost (printed past)) (none_lost past 0) past) g a t
+history_whole head past g a t = history_law head (is_gone (printed past)) (is_lost (printed past)) past (none_fit (is_gone (printed past)) (is_lost (printed past)) (λ n. none_lost head past 0 n g) past) g a t

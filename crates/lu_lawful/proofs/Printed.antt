@@ -1,19 +1,20 @@
 -- What the notions of the laws are over the printed past of a grown one.
 use Rattle.std.proofs.Common.{◌≡◌, ℕ, ◌+◌, Bool, true, false, List, [], ◌∷◌, Option, Some, None, inl, inr, ⊎_elim, refl, sym, subst, ap, ◌∙◌, arith}
 use Rattle.std.specs.Prelude.{nat_eq, ◌&&◌, if◌then◌else◌}
-use Rattle.std.proofs.lemmas.Bool.{and_parts, eqb-true}
+use Rattle.std.proofs.lemmas.Bool.{and_parts, cond_both, eqb-true}
 use Rattle.std.proofs.lemmas.Bool.Decides.{nat_tests}
 use Rattle.lu_base.specs.declared.ids.Node.{Node}
 use Rattle.lu_base.specs.declared.ids.Node.TheVariants.{Client, Target}
 use Rattle.lu_base.specs.declared.ids.Who.{Who}
-use Rattle.lu_msg.specs.declared.calls.Call.{Call}
 use Rattle.lu_msg.specs.declared.messages.Message.{Message}
 use Rattle.lu_msg.specs.declared.messages.Message.TheVariants as message
 use Rattle.lu_msg.specs.declared.messages.Request.{Request as RequestOf}
-use Rattle.lu_table.specs.Words.{Entry, Begin, Send, Tick, Told, Die, Line, is_client}
-use Rattle.lu_table.specs.Sent.{count_sent, Sent}
-use Rattle.lu_table.specs.Calls.{Begun, call_of, is_dead}
-use Rattle.lu_table.specs.Printed.{printed}
+use Rattle.lu_words.specs.Carried.{Asking, Asked, Answered, Running}
+use Rattle.lu_words.specs.Words.{Entry, Begin, Send, Heard, Told, Queues, Stands, Die, Line, line, is_client}
+use Rattle.lu_words.specs.Sent.{count_sent, Sent}
+use Rattle.lu_words.specs.Printed.{printed}
+use Rattle.lu_client_rows.specs.Calls.{asks, asks_for, call_at, is_dead}
+use Rattle.lu_table.specs.Runs.{Head}
 use Rattle.lu_laws.specs.Pasts.{has_died}
 use Rattle.lu_laws.specs.Pasts as pasts
 use Rattle.lu_laws.specs.Sends.{sends}
@@ -21,8 +22,9 @@ use Rattle.lu_laws.specs.Sends as sends_of
 use Rattle.lu_laws.specs.Calls.{open_call}
 use Rattle.lu_laws.specs.Calls as calls
 use Rattle.lu_laws.specs.Requests.{is_of, or_else, first_request}
-use Rattle.lu_lawful.proofs.Guards.{line}
-use Rattle.lu_lawful.proofs.Lists.{self, life_is}
+use Rattle.lu_guards.proofs.Guards.{Was, Allowed, Grown}
+use Rattle.lu_guards.proofs.Lists.{self, life_is}
+use Rattle.lu_facts.proofs.Groups.{turn}
 
 pub flip : (a b : ℕ) → nat_eq a b ≡ nat_eq b a
 flip a b = grind (arith, nat_tests)
@@ -38,19 +40,17 @@ sends_is (l ∷ past) = by l.entry (sends_is past)
   where
     by : (e : Entry) → sends (printed past) ≡ count_sent past → sends (printed (line l.at e ∷ past)) ≡ count_sent (line l.at e ∷ past)
     by (Send to m) h = omega arith
-    by Tick h = h
     by _ h = h
 
-pub sent_is : (past : List Line) (n : ℕ) (to : Node) (m : Message) → Sent past n to m → (from : Node) × sends_of.Sent (printed past) n from to m
-sent_is [] n to m s = absurd s
-sent_is (l ∷ past) n to m s = by l.entry (sent_is past n to m) s
+pub sent_is : (past : List Line) (n : ℕ) (from to : Node) (m : Message) → Sent past n from to m → sends_of.Sent (printed past) n from to m
+sent_is [] n from to m s = absurd s
+sent_is (l ∷ past) n from to m s = by l.entry (sent_is past n from to m) s
   where
-    by : (e : Entry) → (Sent past n to m → (from : Node) × sends_of.Sent (printed past) n from to m) → Sent (line l.at e ∷ past) n to m → (from : Node) × sends_of.Sent (printed (line l.at e ∷ past)) n from to m
+    by : (e : Entry) → (Sent past n from to m → sends_of.Sent (printed past) n from to m) → Sent (line l.at e ∷ past) n from to m → sends_of.Sent (printed (line l.at e ∷ past)) n from to m
     by (Send node k) h s = ⊎_elim
-        (λ (p : (n ≡ count_sent past + 1) × (node ≡ to) × (k ≡ m)). (l.at.node, inl (sym p.0, refl, p.1, p.2)))
-        (λ (p : Sent past n to m). let r = h p in (r.0, inr r.1))
+        (λ (p : (n ≡ count_sent past + 1) × (l.at.node ≡ from) × (node ≡ to) × (k ≡ m)). inl (sym p.0, p.1, p.2, p.3))
+        (λ (p : Sent past n from to m). inr (h p))
         s
-    by Tick h s = h s
     by _ h s = h s
 
 pub died_is : (c : ℕ) (past : List Line) → has_died c (printed past) ≡ is_dead c past
@@ -59,41 +59,89 @@ died_is c (l ∷ past) = by l.entry (died_is c past)
   where
     by : (e : Entry) → has_died c (printed past) ≡ is_dead c past → has_died c (printed (line l.at e ∷ past)) ≡ is_dead c (line l.at e ∷ past)
     by Die h = rw (flip_client c l.at.node, h) refl
-    by Tick h = h
     by _ h = h
 
+-- ---- calls
+
 -- the call in a slot is the same
-abbrev pub SameCall : Option Begun → Option calls.Begun → Type 0
+abbrev pub SameCall : Option Running → Option calls.Begun → Type 0
 SameCall None None = Unit {0}
 SameCall (Some a) (Some b) = (a.at ≡ b.at) × (a.call ≡ b.call)
 SameCall _ _ = ⊥
 
-flip_slot : (c slot : ℕ) (node : Node) (s : ℕ) → (pasts.is_client c node && nat_eq s slot) ≡ (is_client c node && nat_eq slot s)
-flip_slot c slot node s = rw (flip_client c node, flip s slot) refl
+-- whatever it has asked
+same_asks : (asking : Asking) (a : Option Running) (b : Option calls.Begun) → SameCall a b → SameCall (asks asking a) b
+same_asks asking None b s = s
+same_asks asking (Some a) None s = s
+same_asks asking (Some a) (Some b) s = s
 
-pub same_call : (c slot : ℕ) (past : List Line) → SameCall (call_of c slot past) (open_call c slot (printed past))
-same_call c slot [] = tt
-same_call c slot (l ∷ past) = by l.entry (same_call c slot past)
+same_asks_for : (served : Option ℕ) (slot : ℕ) (asking : Asking) (a : Option Running) (b : Option calls.Begun) → SameCall a b → SameCall (asks_for served slot asking a) b
+same_asks_for None slot asking a b s = s
+same_asks_for (Some k) slot asking a b s = cond_both (nat_eq k slot) (asks asking a) a (λ (o : Option Running). SameCall o b) (λ t. same_asks asking a b s) (λ t. s)
+
+same_began : (running : Running) (call : calls.Begun) (a : Option Running) (b : Option calls.Begun) (t u : Bool) → (running.at ≡ call.at) × (running.call ≡ call.call) → SameCall a b
+    → SameCall (if t then (if u then Some running else a) else a) (if t && u then Some call else b)
+same_began running call a b true true n s = n
+same_began running call a b true false n s = s
+same_began running call a b false u n s = s
+
+same_told : (a : Option Running) (b : Option calls.Begun) (t u : Bool) → SameCall a b → SameCall (if t then (if u then None else a) else a) (if t && u then None else b)
+same_told a b true true s = tt
+same_told a b true false s = s
+same_told a b false u s = s
+
+pub same_call : (head : Head) (c slot : ℕ) (past : List Line) → Grown head past → SameCall (call_at c slot past) (open_call c slot (printed past))
+same_call head c slot [] g = tt
+same_call head c slot (l ∷ past) g = by l.at.node l.entry g.0 (same_call head c slot past g.1)
   where
-    began : (s : ℕ) (call : Call) (t : Bool) → SameCall (call_of c slot past) (open_call c slot (printed past))
-        → SameCall (if t then Some (record { at = l.at; call = call }) else call_of c slot past) (if t then Some (record { at = l.at; call = call; before = printed past }) else open_call c slot (printed past))
-    began s call true h = (refl, refl)
-    began s call false h = h
+    a : Option Running
+    a = call_at c slot past
 
-    told : (t : Bool) → SameCall (call_of c slot past) (open_call c slot (printed past)) → SameCall (if t then None else call_of c slot past) (if t then None else open_call c slot (printed past))
-    told true h = tt
-    told false h = h
+    b : Option calls.Begun
+    b = open_call c slot (printed past)
 
-    by : (e : Entry) → SameCall (call_of c slot past) (open_call c slot (printed past)) → SameCall (call_of c slot (line l.at e ∷ past)) (open_call c slot (printed (line l.at e ∷ past)))
-    by (Begin s call) h = rw (flip_slot c slot l.at.node s) (began s call (is_client c l.at.node && nat_eq slot s) h)
-    by (Told s at answer) h = rw (flip_slot c slot l.at.node s) (told (is_client c l.at.node && nat_eq slot s) h)
-    by Tick h = h
-    by _ h = h
+    by : (node : Node) (e : Entry) → Allowed head past (turn l.at.stamp node) e → SameCall (call_at c slot past) (open_call c slot (printed past))
+        → SameCall (call_at c slot (line (turn l.at.stamp node) e ∷ past)) (open_call c slot (printed (line (turn l.at.stamp node) e ∷ past)))
+    by (Client d) (Begin s running) k h =
+        rw (flip d c)
+        (same_began running (record { at = turn l.at.stamp (Client d); call = running.call; before = printed past }) (call_at c slot past) (open_call c slot (printed past)) (nat_eq c d) (nat_eq s slot) (ap (λ (r : Running). r.at) k.ok.is, refl) h)
+    by (Client d) (Told s at answer work) k h = rw (flip d c) (same_told (call_at c slot past) (open_call c slot (printed past)) (nat_eq c d) (nat_eq s slot) h)
+    by (Client d) (Queues t q) k h = cond_both (nat_eq c d) (asks_for q.slot slot Asked (call_at c slot past)) (call_at c slot past) (λ (o : Option Running). SameCall o (open_call c slot (printed past)))
+        (λ t. same_asks_for q.slot slot Asked (call_at c slot past) (open_call c slot (printed past)) h)
+        (λ t. h)
+    by (Client d) (Heard t f r) k h = cond_both (nat_eq c d) (asks_for f.slot slot (Answered t r) (call_at c slot past)) (call_at c slot past) (λ (o : Option Running). SameCall o (open_call c slot (printed past)))
+        (λ u. same_asks_for f.slot slot (Answered t r) (call_at c slot past) (open_call c slot (printed past)) h)
+        (λ u. h)
+    by (Client d) (Stands s running) k h = absurd k.ok
+    by (Target t) (Begin s running) k h = absurd k.ok
+    by (Target t) (Told s at answer work) k h = absurd k.ok
+    by (Target t) (Queues u q) k h = absurd k.ok
+    by (Target t) (Heard u f r) k h = absurd k.ok
+    by (Target t) (Stands s running) k h = absurd k.ok
+    by _ _ k h = h
+
+pub free_is : (head : Head) (c slot : ℕ) (past : List Line) → Grown head past → call_at c slot past ≡ None → open_call c slot (printed past) ≡ None
+free_is head c slot past g free = by (call_at c slot past) (open_call c slot (printed past)) free (same_call head c slot past g)
+  where
+    by : (a : Option Running) (b : Option calls.Begun) → a ≡ None → SameCall a b → b ≡ None
+    by None None e s = refl
+    by None (Some b) e s = absurd s
+    by (Some a) b e s = absurd (cc)
+
+pub open_is : (head : Head) (c slot : ℕ) (past : List Line) (running : Running) → Grown head past → call_at c slot past ≡ Some running
+    → (b : calls.Begun) × (open_call c slot (printed past) ≡ Some b) × (b.at ≡ running.at) × (b.call ≡ running.call)
+open_is head c slot past running g is = by (call_at c slot past) (open_call c slot (printed past)) refl is (same_call head c slot past g)
+  where
+    by : (a : Option Running) (b : Option calls.Begun) → open_call c slot (printed past) ≡ b → a ≡ Some running → SameCall a b
+        → (b : calls.Begun) × (open_call c slot (printed past) ≡ Some b) × (b.at ≡ running.at) × (b.call ≡ running.call)
+    by None b q e s = absurd (cc)
+    by (Some a) None q e s = absurd s
+    by (Some a) (Some b) q e s = let same : a ≡ running = cc in (b, q, sym s.0 ∙ ap (λ (v : Running). v.at) same, sym s.1 ∙ ap (λ (v : Running). v.call) same)
 
 -- ---- requests
 
 abbrev pub IsFirst : List Line → Who → ℕ → RequestOf → Type 0
-IsFirst past who x r = (n : ℕ) × Sent past n (Target 0) (message.Request r) × (r.who ≡ who) × (r.xid.0 ≡ x)
+IsFirst past who x r = (from : Node) × Was past from (Target 0) (message.Request r) × (r.who ≡ who) × (r.xid.0 ≡ x)
 
 of_target : (to : Node) → pasts.is_target 0 to ≡ true → to ≡ Target 0
 of_target (Client c) e = absurd (cc)
@@ -111,23 +159,19 @@ first_sent (l ∷ past) who x r e = by l.entry (first_sent past who x r) e
         let same : k ≡ r = cc in
         let p = and_parts (is_of 0 who to k) (nat_eq k.xid.0 x) is in
         let o = and_parts (pasts.is_target 0 to) _ p.0 in
-        (count_sent past + 1, inl (refl, of_target to o.0, ap message.Request same), ap (λ (v : RequestOf). v.who) (sym same) ∙ life_is k.who who o.1, ap (λ (v : RequestOf). v.xid.0) (sym same) ∙ eqb-true k.xid.0 x p.1)
+        (l.at.node, inl (refl, of_target to o.0, ap message.Request same), ap (λ (v : RequestOf). v.who) (sym same) ∙ life_is k.who who o.1, ap (λ (v : RequestOf). v.xid.0) (sym same) ∙ eqb-true k.xid.0 x p.1)
     new to k None false is h q = absurd (cc)
 
     by : (e : Entry) → (first_request (printed past) 0 who x ≡ Some r → IsFirst past who x r) → first_request (printed (line l.at e ∷ past)) 0 who x ≡ Some r → IsFirst (line l.at e ∷ past) who x r
     by (Send to (message.Request k)) h q = new to k (first_request (printed past) 0 who x) (is_of 0 who to k && nat_eq k.xid.0 x) refl h q
     by (Send to m) h q = let p = h q in (p.0, inr p.1, p.2, p.3)
-    by Tick h q = h q
     by _ h q = h q
 
 -- what was sent has a first request
-pub sent_first : (past : List Line) (n : ℕ) (r : RequestOf) → Sent past n (Target 0) (message.Request r) → (k : RequestOf) × (first_request (printed past) 0 r.who r.xid.0 ≡ Some k)
-sent_first [] n r s = absurd s
-sent_first (l ∷ past) n r s = by l.entry (sent_first past n r) s
+pub sent_first : (past : List Line) (from : Node) (r : RequestOf) → Was past from (Target 0) (message.Request r) → (k : RequestOf) × (first_request (printed past) 0 r.who r.xid.0 ≡ Some k)
+sent_first [] from r s = absurd s
+sent_first (l ∷ past) from r s = by l.entry (sent_first past from r) s
   where
-    Goal : Entry → Type 0
-    Goal e = (k : RequestOf) × (first_request (printed (line l.at e ∷ past)) 0 r.who r.xid.0 ≡ Some k)
-
     or_new : (old : Option RequestOf) (new : RequestOf) → (k : RequestOf) × (or_else old (Some new) ≡ Some k)
     or_new None new = (new, refl)
     or_new (Some o) new = (o, refl)
@@ -139,18 +183,17 @@ sent_first (l ∷ past) n r s = by l.entry (sent_first past n r) s
     own : is_of 0 r.who (Target 0) r && nat_eq r.xid.0 r.xid.0 ≡ true
     own = rw (self r.who.client, self r.who.life, self r.xid.0) refl
 
-    by : (e : Entry) → (Sent past n (Target 0) (message.Request r) → (k : RequestOf) × (first_request (printed past) 0 r.who r.xid.0 ≡ Some k)) → Sent (line l.at e ∷ past) n (Target 0) (message.Request r)
+    by : (e : Entry) → (Was past from (Target 0) (message.Request r) → (k : RequestOf) × (first_request (printed past) 0 r.who r.xid.0 ≡ Some k)) → Was (line l.at e ∷ past) from (Target 0) (message.Request r)
         → (k : RequestOf) × (first_request (printed (line l.at e ∷ past)) 0 r.who r.xid.0 ≡ Some k)
     by (Send to m) h s = ⊎_elim
-        (λ (p : (n ≡ count_sent past + 1) × (to ≡ Target 0) × (m ≡ message.Request r)).
+        (λ (p : (l.at.node ≡ from) × (to ≡ Target 0) × (m ≡ message.Request r)).
         subst (λ (v : Message). (k : RequestOf) × (first_request (printed (line l.at (Send to v) ∷ past)) 0 r.who r.xid.0 ≡ Some k)) (sym p.2)
         (subst (λ (v : Node). (k : RequestOf) × (first_request (printed (line l.at (Send v (message.Request r)) ∷ past)) 0 r.who r.xid.0 ≡ Some k)) (sym p.1)
         (rw own (or_new (first_request (printed past) 0 r.who r.xid.0) r))))
-        (λ (p : Sent past n (Target 0) (message.Request r)). let k = h p in old to m k.0 k.1)
+        (λ (p : Was past from (Target 0) (message.Request r)). let k = h p in old to m k.0 k.1)
         s
       where
         old : (to : Node) (m : Message) (k : RequestOf) → first_request (printed past) 0 r.who r.xid.0 ≡ Some k → (j : RequestOf) × (first_request (printed (line l.at (Send to m) ∷ past)) 0 r.who r.xid.0 ≡ Some j)
         old to (message.Request q) k e = or_old (first_request (printed past) 0 r.who r.xid.0) _ k e
         old to m k e = (k, e)
-    by Tick h s = h s
     by _ h s = h s

@@ -6,10 +6,8 @@ use Rattle.lu_base.specs.declared.ids.At.{At}
 use Rattle.lu_base.specs.declared.ids.Node.{Node}
 use Rattle.lu_base.specs.declared.ids.Node.TheVariants.{Client, Target}
 use Rattle.lu_base.specs.declared.ids.Who.{Who}
-use Rattle.lu_table.specs.Words.{Told, Act, Txn as Made, Line}
-
-abbrev pub first_life : ℕ → Who
-first_life c = record { client = c; life = 1 }
+use Rattle.lu_words.specs.Words.{Told, Act, Txn as Made, Line}
+use Rattle.lu_client_rows.specs.Calls.{first_life}
 
 -- these numbers aren't lost
 abbrev pub AllStand : (ℕ → ℕ → Bool) → List ℕ → Type 0
@@ -39,7 +37,7 @@ ToldStandsAt out lost past (Target t) turn = Unit {0}
 -- what a life that isn't out was told is of a deed that stands
 abbrev pub ToldStand : (Who → Bool) → (ℕ → ℕ → Bool) → List Line → Type 0
 ToldStand out lost [] = Unit {0}
-ToldStand out lost (l ∷ past) = elim l.entry [ Told slot turn given ↦ ToldStandsAt out lost past l.at.node turn × ToldStand out lost past | _ ↦ ToldStand out lost past ]
+ToldStand out lost (l ∷ past) = elim l.entry [ Told slot turn given work ↦ ToldStandsAt out lost past l.at.node turn × ToldStand out lost past | _ ↦ ToldStand out lost past ]
 
 -- lives and numbers that may be out and lost after a past; the root's number, 1, is no transaction's
 pub record Fits (out : Who → Bool) (lost : ℕ → ℕ → Bool) (past : List Line) : Type 0 where

@@ -3,7 +3,7 @@
 
 ghost use Rattle.std.specs.Prelude.{List, ℕ, Bool};
 ghost use Rattle.lu_base.specs.declared.ids.Who.{Who};
-ghost use Rattle.lu_table.specs.Printed.{printed};
+ghost use Rattle.lu_words.specs.Printed.{printed};
 ghost use Rattle.lu_table.specs.Runs.{Head, IsHead, Turn, lines_of, IsRun};
 ghost use Rattle.lu_laws.specs.Messages.{Messages};
 ghost use Rattle.lu_laws.specs.Acts.{Acts, ActsOf};

@@ -5,25 +5,26 @@ use Rattle.std.proofs.Common.{◌≡◌, ℕ, Bool, true, false, [], ◌∷◌, 
 use Rattle.std.specs.Prelude.{List, codes, ◌==◌, ◌&&◌}
 use Rattle.lu_base.specs.declared.ids.Node.TheVariants.{Client, Target}
 use Rattle.lu_base.specs.declared.ids.Who.{Who}
-use Rattle.lu_msg.specs.declared.answers.Answer.{Answer}
+use Rattle.lu_part.specs.declared.parts.Part.TheVariants as part
 use Rattle.lu_msg.specs.declared.answers.Answer.TheVariants as told
 use Rattle.lu_msg.specs.declared.answers.Errno.TheVariants.{ENOENT}
 use Rattle.lu_msg.specs.declared.calls.Call.TheVariants as call
+use Rattle.lu_msg.specs.declared.messages.Reply.{Reply as ReplyTo}
 use Rattle.lu_msg.specs.declared.operations.Op.{Op}
 use Rattle.lu_msg.specs.declared.operations.Op.TheVariants as op
 use Rattle.lu_machine.specs.declared.acts.Act.{Act as ActOf}
 use Rattle.lu_machine.specs.declared.acts.Deed.TheVariants.{Names}
 use Rattle.lu_machine.specs.Machine.{answer}
-use Rattle.lu_table.specs.Words.{Deed, Begin, Queues, Flies, Send, Take, Heard, Told, Txn, Line}
+use Rattle.lu_words.specs.Words.{Txn, Line}
+use Rattle.lu_words.specs.Printed.{printed}
 use Rattle.lu_table.specs.Runs.{Head, IsHead, Turn, Begins, Comes, lines_of, IsRun}
-use Rattle.lu_table.specs.Printed.{printed}
-use Rattle.lu_laws.proofs.Words.{turn, who, first, request, reply, up, gone, differ}
+use Rattle.lu_laws.proofs.Words.{turn, who, first, made, up, gone, differ}
 use Rattle.lu_laws.specs.Acts.{ActsOf}
 use Rattle.lu_laws.specs.History.{HistoryOf}
 use Rattle.lu_laws.specs.Histories.{machine_of}
 use Rattle.lu_lawful.specs.Fits.{Fits}
-use Rattle.lu_lawful.proofs.SampleWords.{client, target, queued, flight, answered, deed}
 use Rattle.lu_lawful.proofs.Whole as whole
+use Rattle.lu_samples.proofs.Words.{◌then◌, client, target, asks, hears, answered, deed, makes, name, fid, alive, letter}
 
 abbrev pub head : Head
 head = record { clients = 2; osts = 1; flight = 1 }
@@ -34,54 +35,34 @@ mkdir_a = op.Mkdir (codes "a" ∷ [])
 abbrev mkdir_b : Op
 mkdir_b = op.Mkdir (codes "b" ∷ [])
 
-abbrev made : ℕ → Answer
-made count = told.Made (record { 0 = first count })
+abbrev reply_a : ReplyTo
+reply_a = answered 3 0 1 (first 1) [] (made 1)
 
-abbrev deed_a : Deed
-deed_a = deed 0 mkdir_a (answered 0 1 (first 1) [] (turn 3 (Target 0)) (made 1))
-
-abbrev deed_b : Deed
-deed_b = deed 0 mkdir_b (answered 1 1 (first 2) [] (turn 4 (Target 0)) (made 2))
+abbrev reply_b : ReplyTo
+reply_b = answered 4 1 1 (first 2) [] (made 2)
 
 abbrev pub turns : List Turn
 turns =
-    client 6 1 (Take 4 (reply 1 1 (first 2) [] (turn 4 (Target 0)) (made 2)) ∷ Heard 0 (flight 1 0 mkdir_b 0) deed_b.reply ∷ Told 0 (turn 4 (Target 0)) (made 2) ∷ [])
-    ∷ client 5 0 (Take 3 (reply 0 1 (first 1) [] (turn 3 (Target 0)) (made 1)) ∷ Heard 0 (flight 1 0 mkdir_a 0) deed_a.reply ∷ Told 0 (turn 3 (Target 0)) (made 1) ∷ [])
-    ∷ target 4 0 (Take 2 (request 1 1 0 mkdir_b) ∷ Txn deed_b ∷ Send (Client 1) (reply 1 1 (first 2) [] (turn 4 (Target 0)) (made 2)) ∷ [])
-    ∷ target 3 0 (Take 1 (request 0 1 0 mkdir_a) ∷ Txn deed_a ∷ Send (Client 0) (reply 0 1 (first 1) [] (turn 3 (Target 0)) (made 1)) ∷ [])
-    ∷ client 2 1 (Begin 0 (call.Mkdir (codes "b" ∷ [])) ∷ Queues 0 (queued 0 mkdir_b) ∷ Flies 0 (flight 1 0 mkdir_b 0) ∷ Send (Target 0) (request 1 1 0 mkdir_b) ∷ [])
-    ∷ client 1 0 (Begin 0 (call.Mkdir (codes "a" ∷ [])) ∷ Queues 0 (queued 0 mkdir_a) ∷ Flies 0 (flight 1 0 mkdir_a 0) ∷ Send (Target 0) (request 0 1 0 mkdir_a) ∷ [])
+    client 6 1 (hears 4 0 mkdir_b 0 reply_b)
+    ∷ client 5 0 (hears 3 0 mkdir_a 0 reply_a)
+    ∷ target 4 0 (makes 2 mkdir_b 0 (name (codes "b") ∷ []) reply_b)
+    ∷ target 3 0 (makes 1 mkdir_a 0 (name (codes "a") ∷ []) reply_a)
+    ∷ client 2 1 (asks 2 1 0 (call.Mkdir (codes "b" ∷ [])) mkdir_b 1 0)
+    ∷ client 1 0 (asks 1 0 0 (call.Mkdir (codes "a" ∷ [])) mkdir_a 1 0)
     ∷ []
 
 pub is_head : IsHead head
 is_head = record { clients = up _ _ refl; most_clients = up _ _ refl; osts = up _ _ refl; most_osts = up _ _ refl; flight = up _ _ refl; most_flight = up _ _ refl }
 
 pub is_run : IsRun head turns
-is_run = (
-  refl,
-  record { event = Comes 4 _; meets = record { client = record { one = up _ _ refl; alive = refl }; sent = inl (refl, refl, refl) }; is = refl },
-  (
-    refl,
-    record { event = Comes 3 _; meets = record { client = record { one = up _ _ refl; alive = refl }; sent = inr (inl (refl, refl, refl)) }; is = refl },
-    (
-      refl,
-      record { event = Comes 2 _; meets = (refl, up _ _ refl, inr (inl (refl, refl, refl))); is = refl },
-      (
-        refl,
-        record { event = Comes 1 _; meets = (refl, up _ _ refl, inr (inl (refl, refl, refl))); is = refl },
-        (
-          refl,
-          record { event = Begins 0 (call.Mkdir (codes "b" ∷ [])); meets = record { client = record { one = up _ _ refl; alive = refl }; small = up _ _ refl; op = mkdir_b; becomes = refl; asked = tt }; is = refl },
-          (
-            tt,
-            record { event = Begins 0 (call.Mkdir (codes "a" ∷ [])); meets = record { client = record { one = up _ _ refl; alive = refl }; small = up _ _ refl; op = mkdir_a; becomes = refl; asked = tt }; is = refl },
-            tt,
-          ),
-        ),
-      ),
-    ),
-  ),
-)
+is_run =
+    (refl, record { event = Comes 4 (Target 0) _; meets = record { client = alive refl refl; sent = inl (refl, refl, refl, refl) }; is = refl })
+    then (refl, record { event = Comes 3 (Target 0) _; meets = record { client = alive refl refl; sent = inr (inl (refl, refl, refl, refl)) }; is = refl })
+    then (refl, record { event = Comes 2 (Client 1) _; meets = record { names = refl; numbers = λ made. up _ _ refl; sent = inr (inl (refl, refl, refl, refl)); lock = λ new. refl }; is = refl })
+    then (refl, record { event = Comes 1 (Client 0) _; meets = record { names = refl; numbers = λ made. up _ _ refl; sent = inr (inl (refl, refl, refl, refl)); lock = λ new. refl }; is = refl })
+    then (refl, record { event = Begins 0 (call.Mkdir (codes "b" ∷ [])); meets = record { client = alive refl refl; small = up _ _ refl; limits = letter _ refl refl; op = mkdir_b; becomes = refl; asked = tt }; is = refl })
+    then (tt, record { event = Begins 0 (call.Mkdir (codes "a" ∷ [])); meets = record { client = alive refl refl; small = up _ _ refl; limits = letter _ refl refl; op = mkdir_a; becomes = refl; asked = tt }; is = refl })
+    then tt
 
 -- ---- the pair
 
@@ -127,8 +108,8 @@ first_stands = refl
 
 abbrev inside : List Line
 inside =
-    record { at = turn 4 (Target 0); entry = Txn (deed 0 (op.Mkdir (codes "a" ∷ codes "b" ∷ [])) (answered 1 1 (first 2) (first 1 ∷ []) (turn 4 (Target 0)) (made 2))) }
-    ∷ record { at = turn 3 (Target 0); entry = Txn deed_a }
+    record { at = turn 4 (Target 0); entry = Txn (deed 0 (op.Mkdir (codes "a" ∷ codes "b" ∷ [])) (part.Name (fid 1) (codes "b") ∷ []) (answered 4 1 1 (first 2) (first 1 ∷ []) (made 2))) }
+    ∷ record { at = turn 3 (Target 0); entry = Txn (deed 0 mkdir_a (name (codes "a") ∷ []) reply_a) }
     ∷ []
 
 pub unfit : Fits out lost inside → ⊥

@@ -7,9 +7,10 @@ use Rattle.std.proofs.lemmas.Bool.Decides.{nat_tests}
 use Rattle.lu_base.specs.declared.ids.At.{At}
 use Rattle.lu_base.specs.declared.ids.Node.{Node}
 use Rattle.lu_base.specs.declared.ids.Node.TheVariants.{Client, Target}
+use Rattle.lu_base.specs.declared.ids.Stamp.{Stamp}
 use Rattle.lu_base.specs.declared.ids.Who.{Who}
-use Rattle.lu_table.specs.Words.{node_before, turn_before, same_life}
-use Rattle.lu_lawful.proofs.Guards.{In}
+use Rattle.lu_words.specs.Words.{node_before, turn_before, same_life}
+use Rattle.lu_guards.proofs.Guards.{In}
 
 pub self : (n : ℕ) → nat_eq n n ≡ true
 self n = eq-eqb n n refl
@@ -39,6 +40,9 @@ in_filter {A} f x (y ∷ ys) i =
     i
 
 -- ---- turns
+
+abbrev pub turn : Stamp → Node → At
+turn stamp node = record { stamp = stamp; node = node }
 
 node_trans : (a b c : Node) → node_before a b ≡ true → node_before b c ≡ true → node_before a c ≡ true
 node_trans (Client a) (Client b) (Client c) p q = grind (arith, nat_tests)

@@ -1,0 +1,284 @@
+-- What a client's calls have asked, at all targets: what is queued and in flight is for calls that wait for it, one
+-- for each, each at one target.
+use Rattle.std.proofs.Common.{◌≡◌, ℕ, true, false, List, [], ◌∷◌, ◌++◌, Option, Some, None, ◌⊎◌, inl, inr, ⊎_elim, refl, sym, subst, ap, ◌∙◌, arith}
+use Rattle.std.specs.Prelude.{nat_eq, not, ◌&&◌}
+use Rattle.std.proofs.lemmas.Bool.{and_parts, cond_both, cond-true, eqb-true, not-true}
+use Rattle.std.proofs.lemmas.Bool.Decides.{nat_tests}
+use Rattle.lu_base.specs.declared.ids.At.{At}
+use Rattle.lu_base.specs.declared.ids.Node.{Node}
+use Rattle.lu_base.specs.declared.ids.Node.TheVariants.{Client, Target}
+use Rattle.lu_base.specs.declared.ids.Stamp.{Stamp}
+use Rattle.lu_msg.specs.declared.answers.Answer.{Answer}
+use Rattle.lu_msg.specs.declared.messages.Reply.{Reply as ReplyTo}
+use Rattle.lu_msg.specs.declared.operations.Op.{Op}
+use Rattle.lu_words.specs.Carried.{Unasked, Asked, Answered, Queued, Flight, Work, Running}
+use Rattle.lu_words.specs.Words.{Entry, Tick, Begin, Stands, Queues, Flies, Heard, Told, Line, line}
+use Rattle.lu_words.specs.Concerns.{only}
+use Rattle.lu_client_rows.specs.Calls.{asks, asks_for, call_after, call_at}
+use Rattle.lu_client_rows.specs.Imports.{rest, queue_at, without_flight, flights_at}
+use Rattle.lu_table.specs.Runs.{Head}
+use Rattle.lu_guards.proofs.Guards.{In, QueuesOk, FliesOk, EntryOk}
+use Rattle.lu_guards.proofs.Lists.{self, in_append, in_filter}
+use Rattle.lu_guards.proofs.Parts.{queue_is, flights_is}
+use Rattle.lu_facts.proofs.Groups.{turn, CallOf, Apart, Asks}
+use Rattle.lu_facts.proofs.Lines.{AtEach}
+use Rattle.lu_facts.proofs.Calls.{call_stays, asks_other}
+
+-- ---- what no call that waits is on
+
+abbrev pub NotAsked : List Line → ℕ → ℕ → Type 0
+NotAsked past d s = (r : Running) → call_at d s past ≡ Some r → r.asking ≡ Asked → ⊥
+
+clear : (past : List Line) (d s c slot : ℕ) (r : Running) → NotAsked past d s → call_at c slot past ≡ Some r → r.asking ≡ Asked → c ≡ d → s ≡ slot → ⊥
+clear past d s c slot r n k a e q = n r (subst (λ v. call_at v s past ≡ Some r) e (subst (λ v. call_at c v past ≡ Some r) (sym q) k)) a
+
+-- a call that waits is as it was, where the entry leaves it
+call_of_stays : (past : List Line) (stamp : Stamp) (d : ℕ) (e : Entry) (c : ℕ) (s : Option ℕ) (o : Op)
+    → ((slot : ℕ) (r : Running) → s ≡ Some slot → call_at c slot past ≡ Some r → r.asking ≡ Asked → c ≡ d → call_after slot (call_at c slot past) e ≡ call_at c slot past)
+    → CallOf past c s o → CallOf (line (turn stamp (Client d)) e ∷ past) c s o
+call_of_stays past stamp d e c None o f k = absurd k
+call_of_stays past stamp d e c (Some slot) o f k = (k.0, call_stays past stamp d e c slot (f slot k.0 refl k.1 k.2) ∙ k.1, k.2, k.3)
+
+-- ---- a call begins
+
+begin_call : (past : List Line) (stamp : Stamp) (d s : ℕ) (running : Running) → NotAsked past d s → (c : ℕ) (served : Option ℕ) (o : Op) → CallOf past c served o → CallOf (line (turn stamp (Client d)) (Begin s running) ∷ past) c served o
+begin_call past stamp d s running n c served o =
+    call_of_stays past stamp d (Begin s running) c served o
+    (λ slot r is k a e. cond_both (nat_eq s slot) (Some running) (call_at c slot past) (λ v. v ≡ call_at c slot past) (λ t. absurd (clear past d s c slot r n k a e (eqb-true s slot t))) (λ t. refl))
+
+asks_begin : (past : List Line) (stamp : Stamp) (d s : ℕ) (running : Running) → NotAsked past d s → Asks past → Asks (line (turn stamp (Client d)) (Begin s running) ∷ past)
+asks_begin past stamp d s running n h =
+    record {
+      fly_calls = λ c t f i. begin_call past stamp d s running n c f.slot f.op (h.fly_calls c t f i);
+      queue_calls = λ c t q i. begin_call past stamp d s running n c q.slot q.op (h.queue_calls c t q i);
+      fly_one = h.fly_one;
+      queue_one = h.queue_one;
+      queue_apart = h.queue_apart;
+      apart = h.apart;
+    }
+
+-- ---- a call is told
+
+told_call : (past : List Line) (stamp : Stamp) (d s : ℕ) (named : At) (answer : Answer) (work : Option Work) → NotAsked past d s → (c : ℕ) (served : Option ℕ) (o : Op) → CallOf past c served o → CallOf (line (turn stamp (Client d)) (Told s named answer work) ∷ past) c served o
+told_call past stamp d s named answer work n c served o =
+    call_of_stays past stamp d (Told s named answer work) c served o
+    (λ slot r is k a e. cond_both (nat_eq s slot) None (call_at c slot past) (λ v. v ≡ call_at c slot past) (λ t. absurd (clear past d s c slot r n k a e (eqb-true s slot t))) (λ t. refl))
+
+asks_told : (past : List Line) (stamp : Stamp) (d s : ℕ) (named : At) (answer : Answer) (work : Option Work) → NotAsked past d s → Asks past → Asks (line (turn stamp (Client d)) (Told s named answer work) ∷ past)
+asks_told past stamp d s named answer work n h =
+    record {
+      fly_calls = λ c t f i. told_call past stamp d s named answer work n c f.slot f.op (h.fly_calls c t f i);
+      queue_calls = λ c t q i. told_call past stamp d s named answer work n c q.slot q.op (h.queue_calls c t q i);
+      fly_one = h.fly_one;
+      queue_one = h.queue_one;
+      queue_apart = h.queue_apart;
+      apart = h.apart;
+    }
+
+-- ---- a target's own line
+
+own_import : (c d t v : ℕ) → nat_eq c d && nat_eq t v ≡ true → (c ≡ d) × (t ≡ v)
+own_import c d t v e = let p = and_parts (nat_eq c d) (nat_eq t v) e in (eqb-true c d p.0, eqb-true t v p.1)
+
+other_import : (c d t v : ℕ) → nat_eq c d && nat_eq t v ≡ false → c ≡ d → t ≡ v → ⊥
+other_import c d t v e p q = grind (arith, nat_tests)
+
+-- ---- one more in the queue
+
+apart_snoc : (queue : List Queued) (q : Queued) → Apart queue → ((g : Queued) → In g queue → g.slot ≡ q.slot → ⊥) → Apart (queue ++ q ∷ [])
+apart_snoc [] q a n = ((λ g i e. absurd i), tt)
+apart_snoc (p ∷ queue) q a n = (
+  λ g i e. ⊎_elim (λ (j : In g queue). a.0 g j e) (λ (j : In g (q ∷ [])). ⊎_elim (λ (w : q ≡ g). n p (inl refl) (sym e ∙ ap (λ (k : Queued). k.slot) (sym w))) (λ (v : ⊥). v) j) (in_append g queue (q ∷ []) i),
+  apart_snoc queue q a.1 (λ g i. n g (inr i)),
+)
+
+module _ (past : List Line) (stamp : Stamp) (d v : ℕ) (q : Queued) (ok : QueuesOk past d v q) (h : Asks past) where
+  abbrev queues : List Line
+  queues = line (turn stamp (Client d)) (Queues v q) ∷ past
+
+  -- no call that waits is on the slot that it serves
+  fresh : (c : ℕ) (s : Option ℕ) (o : Op) → c ≡ d → s ≡ q.slot → CallOf past c s o → ⊥
+  fresh c None o e x k = absurd k
+  fresh c (Some slot) o e x k =
+      let y : Some slot ≡ Some ok.slot = x ∙ ok.serves in
+      let z : slot ≡ ok.slot = cc in
+      let w : Some k.0 ≡ Some ok.running = sym k.1 ∙ ap (λ j. call_at j slot past) e ∙ ap (λ j. call_at d j past) z ∙ ok.call in
+      let same : k.0 ≡ ok.running = cc in
+      let n : Unasked ≡ Asked = sym ok.new ∙ ap (λ (r : Running). r.asking) (sym same) ∙ k.2 in
+      absurd (cc)
+
+  queue_call : (c : ℕ) (s : Option ℕ) (o : Op) → CallOf past c s o → CallOf queues c s o
+  queue_call c s o k = call_of_stays past stamp d (Queues v q) c s o (λ slot r is w a e. asks_other q.slot slot Asked (call_at c slot past) (λ n. fresh c s o e (is ∙ sym n) k)) k
+
+  call_new : call_at d ok.slot queues ≡ Some (record ok.running { asking = Asked })
+  call_new =
+      cond-true (nat_eq d d) (asks_for q.slot ok.slot Asked (call_at d ok.slot past)) (call_at d ok.slot past) (self d)
+      ∙ ap (λ (s : Option ℕ). asks_for s ok.slot Asked (call_at d ok.slot past)) ok.serves
+      ∙ cond-true (nat_eq ok.slot ok.slot) (asks Asked (call_at d ok.slot past)) (call_at d ok.slot past) (self ok.slot)
+      ∙ ap (λ (r : Option Running). asks Asked r) ok.call
+
+  mine : CallOf queues d q.slot q.op
+  mine = subst (λ (s : Option ℕ). CallOf queues d s q.op) (sym ok.serves) (record ok.running { asking = Asked }, call_new, refl, ok.becomes)
+
+  queue_in : (c t : ℕ) (g : Queued) → In g (queue_at c t queues) → ((c ≡ d) × (t ≡ v) × (q ≡ g)) ⊎ In g (queue_at c t past)
+  queue_in c t g =
+      cond_both (nat_eq c d && nat_eq t v) (queue_at c t past ++ q ∷ []) (queue_at c t past) (λ (qs : List Queued). In g qs → ((c ≡ d) × (t ≡ v) × (q ≡ g)) ⊎ In g (queue_at c t past))
+      (λ e i. ⊎_elim (λ (j : In g (queue_at c t past)). inr j) (λ (j : In g (q ∷ [])). ⊎_elim (λ (w : q ≡ g). let o = own_import c d t v e in inl (o.0, o.1, w)) (λ (w : ⊥). absurd w) j) (in_append g (queue_at c t past) (q ∷ []) i))
+      (λ e i. inr i)
+
+  asks_queues : Asks queues
+  asks_queues =
+      record {
+        fly_calls = λ c t f i. queue_call c f.slot f.op (h.fly_calls c t f i);
+        queue_calls = λ c t g i. ⊎_elim
+            (λ (p : (c ≡ d) × (t ≡ v) × (q ≡ g)). subst (λ (w : Queued). CallOf queues c w.slot w.op) p.2 (subst (λ w. CallOf queues w q.slot q.op) (sym p.0) mine))
+            (λ (j : In g (queue_at c t past)). queue_call c g.slot g.op (h.queue_calls c t g j))
+            (queue_in c t g i);
+        fly_one = h.fly_one;
+        queue_one = λ c t u g k i j e. ⊎_elim
+            (λ (p : (c ≡ d) × (t ≡ v) × (q ≡ g)). ⊎_elim
+            (λ (r : (c ≡ d) × (u ≡ v) × (q ≡ k)). p.1 ∙ sym r.1)
+            (λ (y : In k (queue_at c u past)). absurd (fresh c k.slot k.op p.0 (sym e ∙ ap (λ (w : Queued). w.slot) (sym p.2)) (h.queue_calls c u k y)))
+            (queue_in c u k j))
+            (λ (x : In g (queue_at c t past)). ⊎_elim
+            (λ (r : (c ≡ d) × (u ≡ v) × (q ≡ k)). absurd (fresh c g.slot g.op r.0 (e ∙ ap (λ (w : Queued). w.slot) (sym r.2)) (h.queue_calls c t g x)))
+            (λ (y : In k (queue_at c u past)). h.queue_one c t u g k x y e)
+            (queue_in c u k j))
+            (queue_in c t g i);
+        queue_apart = λ c t. cond_both (nat_eq c d && nat_eq t v) (queue_at c t past ++ q ∷ []) (queue_at c t past) Apart
+            (λ o. apart_snoc (queue_at c t past) q (h.queue_apart c t) (λ g i e. fresh c g.slot g.op (own_import c d t v o).0 e (h.queue_calls c t g i)))
+            (λ o. h.queue_apart c t);
+        apart = λ c t u g f i j e. ⊎_elim
+            (λ (p : (c ≡ d) × (t ≡ v) × (q ≡ g)). fresh c f.slot f.op p.0 (sym e ∙ ap (λ (w : Queued). w.slot) (sym p.2)) (h.fly_calls c u f j))
+            (λ (k : In g (queue_at c t past)). h.apart c t u g f k j e)
+            (queue_in c t g i);
+      }
+
+-- ---- one more in flight
+
+-- the front of the queue, which flies
+record Front (past : List Line) (d v : ℕ) (f : Flight) : Type 0 where
+  front : Queued
+  more : List Queued
+  queue : queue_at d v past ≡ front ∷ more
+  slot : f.slot ≡ front.slot
+  op : f.op ≡ front.op
+
+front_at : (head : Head) (past : List Line) (d v : ℕ) (f : Flight) → FliesOk head (only v past) d f → Front past d v f
+front_at head past d v f ok = record { front = ok.front; more = ok.more; queue = queue_is d v past ∙ ok.queue; slot = ap (λ (g : Flight). g.slot) ok.is; op = ap (λ (g : Flight). g.op) ok.is }
+
+in_rest : (q : Queued) (queue : List Queued) → In q (rest queue) → In q queue
+in_rest q [] i = absurd i
+in_rest q (p ∷ queue) i = inr i
+
+apart_rest : (queue : List Queued) → Apart queue → Apart (rest queue)
+apart_rest [] a = tt
+apart_rest (q ∷ queue) a = a.1
+
+module _ (past : List Line) (stamp : Stamp) (d v : ℕ) (f : Flight) (ok : Front past d v f) (h : Asks past) where
+  abbrev flies : List Line
+  flies = line (turn stamp (Client d)) (Flies v f) ∷ past
+
+  fly_in : (c t : ℕ) (g : Flight) → In g (flights_at c t flies) → ((c ≡ d) × (t ≡ v) × (f ≡ g)) ⊎ In g (flights_at c t past)
+  fly_in c t g =
+      cond_both (nat_eq c d && nat_eq t v) (flights_at c t past ++ f ∷ []) (flights_at c t past) (λ (fs : List Flight). In g fs → ((c ≡ d) × (t ≡ v) × (f ≡ g)) ⊎ In g (flights_at c t past))
+      (λ o i. ⊎_elim (λ (j : In g (flights_at c t past)). inr j) (λ (j : In g (f ∷ [])). ⊎_elim (λ (e : f ≡ g). let w = own_import c d t v o in inl (w.0, w.1, e)) (λ (w : ⊥). absurd w) j) (in_append g (flights_at c t past) (f ∷ []) i))
+      (λ o i. inr i)
+
+  rest_in : (c t : ℕ) (q : Queued) → In q (queue_at c t flies) → In q (queue_at c t past)
+  rest_in c t q = cond_both (nat_eq c d && nat_eq t v) (rest (queue_at c t past)) (queue_at c t past) (λ (qs : List Queued). In q qs → In q (queue_at c t past)) (λ o i. in_rest q (queue_at c t past) i) (λ o i. i)
+
+  front_in : In ok.front (queue_at d v past)
+  front_in = subst (λ qs. In ok.front qs) (sym ok.queue) (inl refl)
+
+  -- the front's slot is no other's
+  front_apart : (c t : ℕ) (q : Queued) → In q (queue_at c t flies) → c ≡ d → q.slot ≡ f.slot → ⊥
+  front_apart c t q i e s =
+      cond_both (nat_eq c d && nat_eq t v) (rest (queue_at c t past)) (queue_at c t past) (λ (qs : List Queued). In q qs → ⊥)
+      (λ o j. later (queue_at d v past) (h.queue_apart d v) ok.queue (subst (λ w. In q (rest (queue_at d w past))) (own_import c d t v o).1 (subst (λ w. In q (rest (queue_at w t past))) e j)))
+      (λ o j. other_import c d t v o e (h.queue_one d t v q ok.front (subst (λ w. In q (queue_at w t past)) e j) front_in (s ∙ ok.slot)))
+      i
+    where
+      later : (qs : List Queued) → Apart qs → qs ≡ ok.front ∷ ok.more → In q (rest qs) → ⊥
+      later qs a z j = let w = subst Apart z a in w.0 q (subst (λ k. In q (rest k)) z j) (s ∙ ok.slot)
+
+  clash : (c t : ℕ) (k : Flight) → In k (flights_at c t past) → c ≡ d → k.slot ≡ f.slot → ⊥
+  clash c t k i e s = h.apart d v t ok.front k front_in (subst (λ w. In k (flights_at w t past)) e i) (sym (s ∙ ok.slot))
+
+  mine_flies : CallOf flies d f.slot f.op
+  mine_flies = subst (λ (s : Option ℕ). CallOf flies d s f.op) (sym ok.slot) (subst (λ (o : Op). CallOf flies d ok.front.slot o) (sym ok.op) (h.queue_calls d v ok.front front_in))
+
+  asks_flies : Asks flies
+  asks_flies =
+      record {
+        fly_calls = λ c t g i. ⊎_elim
+            (λ (p : (c ≡ d) × (t ≡ v) × (f ≡ g)). subst (λ (w : Flight). CallOf flies c w.slot w.op) p.2 (subst (λ w. CallOf flies w f.slot f.op) (sym p.0) mine_flies))
+            (λ (j : In g (flights_at c t past)). h.fly_calls c t g j)
+            (fly_in c t g i);
+        queue_calls = λ c t q i. h.queue_calls c t q (rest_in c t q i);
+        fly_one = λ c t u g k i j e. ⊎_elim
+            (λ (p : (c ≡ d) × (t ≡ v) × (f ≡ g)). ⊎_elim
+            (λ (q : (c ≡ d) × (u ≡ v) × (f ≡ k)). (p.1 ∙ sym q.1, ap (λ (w : Flight). w.xid) (sym p.2 ∙ q.2)))
+            (λ (q : In k (flights_at c u past)). absurd (clash c u k q p.0 (sym e ∙ ap (λ (w : Flight). w.slot) (sym p.2))))
+            (fly_in c u k j))
+            (λ (p : In g (flights_at c t past)). ⊎_elim
+            (λ (q : (c ≡ d) × (u ≡ v) × (f ≡ k)). absurd (clash c t g p q.0 (e ∙ ap (λ (w : Flight). w.slot) (sym q.2))))
+            (λ (q : In k (flights_at c u past)). h.fly_one c t u g k p q e)
+            (fly_in c u k j))
+            (fly_in c t g i);
+        queue_one = λ c t u q g i j e. h.queue_one c t u q g (rest_in c t q i) (rest_in c u g j) e;
+        queue_apart = λ c t. cond_both (nat_eq c d && nat_eq t v) (rest (queue_at c t past)) (queue_at c t past) Apart (λ o. apart_rest (queue_at c t past) (h.queue_apart c t)) (λ o. h.queue_apart c t);
+        apart = λ c t u q g i j e. ⊎_elim
+            (λ (p : (c ≡ d) × (u ≡ v) × (f ≡ g)). front_apart c t q i p.0 (e ∙ ap (λ (w : Flight). w.slot) (sym p.2)))
+            (λ (k : In g (flights_at c u past)). h.apart c t u q g (rest_in c t q i) k e)
+            (fly_in c u g j);
+      }
+
+-- ---- one less in flight
+
+module _ (past : List Line) (stamp : Stamp) (d v : ℕ) (f : Flight) (r : ReplyTo) (flying : In f (flights_at d v past)) (h : Asks past) where
+  abbrev heard : List Line
+  heard = line (turn stamp (Client d)) (Heard v f r) ∷ past
+
+  less : (c t : ℕ) (g : Flight) → In g (flights_at c t heard) → In g (flights_at c t past)
+  less c t g = cond_both (nat_eq c d && nat_eq t v) (without_flight f.xid (flights_at c t past)) (flights_at c t past) (λ (fs : List Flight). In g fs → In g (flights_at c t past)) (λ o i. (in_filter (λ (w : Flight). not (nat_eq w.xid f.xid)) g (flights_at c t past) i).0) (λ o i. i)
+
+  -- no other is for the call that was answered
+  gone : (c t : ℕ) (g : Flight) → In g (flights_at c t heard) → c ≡ d → g.slot ≡ f.slot → ⊥
+  gone c t g i e s =
+      cond_both (nat_eq c d && nat_eq t v) (without_flight f.xid (flights_at c t past)) (flights_at c t past) (λ (fs : List Flight). In g fs → ⊥)
+      (λ o j. let k = in_filter (λ (w : Flight). not (nat_eq w.xid f.xid)) g (flights_at c t past) j in let x = (one k.0).1 in let y = not-true (nat_eq g.xid f.xid) k.1 in grind (arith, nat_tests))
+      (λ o j. other_import c d t v o e (one j).0)
+      i
+    where
+      one : In g (flights_at c t past) → (t ≡ v) × (g.xid ≡ f.xid)
+      one j = h.fly_one d t v g f (subst (λ w. In g (flights_at w t past)) e j) flying s
+
+  heard_call : (c : ℕ) (s : Option ℕ) (o : Op) → (c ≡ d → s ≡ f.slot → ⊥) → CallOf past c s o → CallOf heard c s o
+  heard_call c s o n = call_of_stays past stamp d (Heard v f r) c s o (λ slot q is k a e. asks_other f.slot slot (Answered v r) (call_at c slot past) (λ w. n e (is ∙ sym w)))
+
+  asks_heard : Asks heard
+  asks_heard =
+      record {
+        fly_calls = λ c t g i. heard_call c g.slot g.op (λ e s. gone c t g i e s) (h.fly_calls c t g (less c t g i));
+        queue_calls = λ c t q i. heard_call c q.slot q.op (λ e s. h.apart d t v q f (subst (λ w. In q (queue_at w t past)) e i) flying s) (h.queue_calls c t q i);
+        fly_one = λ c t u g k i j. h.fly_one c t u g k (less c t g i) (less c u k j);
+        queue_one = h.queue_one;
+        queue_apart = h.queue_apart;
+        apart = λ c t u q g i j. h.apart c t u q g i (less c u g j);
+      }
+
+-- ---- each line
+
+pub keeps_asks : (head : Head) (past : List Line) (stamp : Stamp) (node : Node) (e : Entry) → EntryOk past (turn stamp node) node e → AtEach head past (turn stamp node) node e
+    → Asks past → Asks (line (turn stamp node) e ∷ past)
+keeps_asks head past stamp (Client c) (Begin s running) ok of h = asks_begin past stamp c s running (λ r k a. let f = ok.free in absurd (cc)) h
+keeps_asks head past stamp (Client c) (Told s named answer work) ok of h = asks_told past stamp c s named answer work (λ r k a. let f = ok.answered in let g = ok.call in absurd (cc)) h
+keeps_asks head past stamp (Client c) (Queues u q) ok of h = asks_queues past stamp c u q ok h
+keeps_asks head past stamp (Client c) (Flies u f) ok of h = asks_flies past stamp c u f (front_at head past c u f (of u (self u))) h
+keeps_asks head past stamp (Client c) (Heard u f r) ok of h =
+    let k = of u (self u) in
+    asks_heard past stamp c u f r (subst (λ (fs : List Flight). In f fs) (sym (flights_is c u past)) k.flying) h
+keeps_asks head past stamp (Client c) (Stands s running) ok of h = absurd ok
+keeps_asks head past stamp (Target t) Tick ok of h = h
+keeps_asks head past stamp node e ok of h = h

@@ -1,0 +1,300 @@
+-- What one target did, and what is on its way there: each deed is of a request that flew, and acts once; slots keep
+-- the newest number and a deed's reply; messages are those of deeds and flights.
+use Rattle.std.proofs.Common.{◌≡◌, ℕ, ◌≤◌, true, false, List, [], ◌∷◌, Some, ◌⊎◌, inl, inr, ⊎_elim, refl, sym, subst, ap, ◌∙◌, arith}
+use Rattle.std.specs.Prelude.{nat_eq, not, ◌&&◌, if◌then◌else◌}
+use Rattle.std.proofs.lemmas.Bool.{and_parts, and_from, cond_both, eqb-true, not-true}
+use Rattle.lu_base.specs.declared.ids.At.{At}
+use Rattle.lu_base.specs.declared.ids.Node.{Node}
+use Rattle.lu_base.specs.declared.ids.Node.TheVariants.{Client, Target}
+use Rattle.lu_base.specs.declared.ids.Stamp.{Stamp}
+use Rattle.lu_base.specs.declared.ids.Who.{Who}
+use Rattle.lu_base.specs.declared.ids.Xid.{Xid}
+use Rattle.lu_msg.specs.declared.messages.Message.{Message}
+use Rattle.lu_msg.specs.declared.messages.Message.TheVariants as message
+use Rattle.lu_msg.specs.declared.messages.Reply.{Reply as ReplyTo}
+use Rattle.lu_msg.specs.declared.messages.Request.{Request as RequestOf}
+use Rattle.lu_words.specs.Carried.{Deed, Flight, Slot}
+use Rattle.lu_words.specs.Words.{Entry, Flies, Send, Act, Txn as Made, Commit, Boot, Enters, Line, line, same_life}
+use Rattle.lu_target_rows.specs.Parts.{is_request_of, without_request, entered, answered, is_slot_of}
+use Rattle.lu_target_rows.specs.States.{none, server_of, slot_of, next_number}
+use Rattle.lu_target_rows.specs.Rows.{deed, again}
+use Rattle.lu_client_rows.specs.Calls.{first_life}
+use Rattle.lu_client_rows.specs.States.{known_of, life_of}
+use Rattle.lu_table.specs.Runs.{Head}
+use Rattle.lu_guards.proofs.Guards.{In, Was, AskOk, EntersOk, SendOf, EntryOf}
+use Rattle.lu_guards.proofs.Lists.{self, in_append, in_filter, life_is}
+use Rattle.lu_facts.proofs.Groups.{turn, Flew, Acted, Phase, Numbers, first_request, FlewFor, Meant, Waits, Done}
+
+-- ---- slots
+
+same_self : (w : Who) → same_life w w ≡ true
+same_self w = and_from (nat_eq w.client w.client) (nat_eq w.life w.life) (self w.client) (self w.life)
+
+slot_self : (who : Who) (tag : ℕ) → is_slot_of who tag who tag ≡ true
+slot_self who tag = and_from (same_life who who) (nat_eq tag tag) (same_self who) (self tag)
+
+slot_is : (who other : Who) (tag of_tag : ℕ) → is_slot_of who tag other of_tag ≡ true → (who ≡ other) × (tag ≡ of_tag)
+slot_is who other tag of_tag t = let p = and_parts (same_life who other) (nat_eq tag of_tag) t in (life_is who other p.0, eqb-true tag of_tag p.1)
+
+slot_same : (past : List Line) (who other : Who) (tag of_tag : ℕ) → who ≡ other → tag ≡ of_tag → slot_of who tag past ≡ slot_of other of_tag past
+slot_same past who other tag of_tag w t = ap (λ (v : Who). slot_of v tag past) w ∙ ap (λ v. slot_of other v past) t
+
+-- ---- what only grows
+
+record Grows (past new : List Line) : Type 0 where
+  flew : (c : ℕ) (f : Flight) → Flew past c f → Flew new c f
+  acted : (d : Deed) → Acted past d → Acted new d
+
+meant_more : (past new : List Line) → Grows past new → (to : Node) (m : Message) → Meant past to m → Meant new to m
+meant_more past new g (Target t) (message.Request r) h = (h.0, g.flew r.who.client h.0 h.1, h.2)
+meant_more past new g (Client c) (message.Reply k) h = (h.0, g.acted h.0 h.1, h.2, h.3)
+meant_more past new g (Target t) _ h = absurd h
+meant_more past new g (Client c) _ h = absurd h
+
+module _ (osts : ℕ) (past : List Line) (stamp : Stamp) (c t : ℕ) (f : Flight) (h : Done osts past) where
+  abbrev flying : List Line
+  flying = line (turn stamp (Client c)) (Flies t f) ∷ past
+
+  flies_grows : Grows past flying
+  flies_grows = record { flew = λ d k i. inr i; acted = λ d a. a }
+
+  done_flies : Done osts flying
+  done_flies =
+      record {
+        flew = λ d a. let k = h.flew d a in (k.0, inr k.1, k.2, k.3, k.4);
+        life = h.life;
+        high = h.high;
+        kept = h.kept;
+        boots = h.boots;
+        waits = λ r i. let w = h.waits r i in record { target = w.target; meant = meant_more past flying flies_grows (Target w.target) (message.Request r) w.meant; taken = w.taken; new = w.new };
+        sent = λ from to m s. meant_more past flying flies_grows to m (h.sent from to m s);
+        once = h.once;
+      }
+
+-- ---- one more message
+
+module _ (past : List Line) (at : At) (to : Node) (m : Message) (meant : Meant past to m) (sent : (from node : Node) (p : Message) → Was past from node p → Meant past node p) where
+  abbrev sending : List Line
+  sending = line at (Send to m) ∷ past
+
+  send_grows : Grows past sending
+  send_grows = record { flew = λ d k i. i; acted = λ d a. a }
+
+  more_sent : (from node : Node) (p : Message) → Was sending from node p → Meant sending node p
+  more_sent from node p s =
+      ⊎_elim
+      (λ (e : (at.node ≡ from) × (to ≡ node) × (m ≡ p)). subst (λ (v : Node). Meant sending v p) e.1 (subst (λ (v : Message). Meant sending to v) e.2 (meant_more past sending send_grows to m meant)))
+      (λ (e : Was past from node p). meant_more past sending send_grows node p (sent from node p e))
+      s
+
+done_send : (osts : ℕ) (past : List Line) (stamp : Stamp) (node to : Node) (m : Message) → Meant past to m → Done osts past → Done osts (line (turn stamp node) (Send to m) ∷ past)
+done_send osts past stamp (Client c) to m meant h =
+    record { flew = h.flew; life = h.life; high = h.high; kept = h.kept; boots = h.boots; waits = h.waits; sent = more_sent past (turn stamp (Client c)) to m meant h.sent; once = h.once }
+done_send osts past stamp (Target t) to m meant h =
+    record { flew = h.flew; life = h.life; high = h.high; kept = h.kept; boots = h.boots; waits = h.waits; sent = more_sent past (turn stamp (Target t)) to m meant h.sent; once = h.once }
+
+asked_meant : (osts : ℕ) (past : List Line) (c t : ℕ) (r : RequestOf) → AskOk past c r → Phase osts past → Numbers past → Meant past (Target t) (message.Request r)
+asked_meant osts past c t r ok p n =
+    let w : life_of c past ≡ first_life c = p.life c in
+    let client : r.who.client ≡ c = ap (λ (v : RequestOf). v.who.client) ok.is ∙ ap (λ (v : Who). v.client) w in (
+      ok.flight,
+      subst (λ v. Flew past v ok.flight) (sym client) (n.flying c ok.flight ok.flying),
+      ok.is ∙ is (life_of c past) (known_of c past) w (p.known c) ∙ ap (λ v. first_request v ok.flight) (sym client),
+    )
+  where
+    is : (who : Who) (boot : ℕ) → who ≡ first_life c → boot ≡ 1 → record { who = who; boot = boot; xid = record { 0 = ok.flight.xid }; tag = ok.flight.tag; op = ok.flight.op } ≡ first_request c ok.flight
+    is who boot w b = rw (w, b) refl
+
+sent_meant : (head : Head) (past : List Line) (node to : Node) (m : Message) → SendOf head past node to m → Phase head.osts past → Numbers past → Done head.osts past → Meant past to m
+sent_meant head past (Client c) (Target t) (message.Request r) ok p n h = asked_meant head.osts past c t r ok p n
+sent_meant head past (Target t) (Client c) (message.Reply k) ok p n h =
+    let q = h.kept ok.who ok.tag ok.kept ok.slot in
+    (q.0, q.1, ok.is ∙ ap (λ (v : ReplyTo). again (server_of head.osts past) v) (sym q.2) ∙ h.boots q.0 q.1, ok.to)
+sent_meant head past node to m ok p n h = absurd ok
+
+-- ---- one more request that waits
+
+module _ (osts : ℕ) (past : List Line) (stamp : Stamp) (t : ℕ) (r : RequestOf) (ok : EntersOk past t r) (n : Numbers past) (h : Done osts past) where
+  abbrev entering : List Line
+  entering = line (turn stamp (Target t)) (Enters r) ∷ past
+
+  raised : (who : Who) (tag x : ℕ) → x ≤ (slot_of who tag past).taken → x ≤ (slot_of who tag entering).taken
+  raised who tag x le =
+      cond_both (is_slot_of who tag r.who r.tag) (entered r) (slot_of who tag past) (λ (s : Slot). x ≤ s.taken)
+      (λ q. let p = slot_is who r.who tag r.tag q in let e : (slot_of who tag past).taken ≡ (slot_of r.who r.tag past).taken = ap (λ (s : Slot). s.taken) (slot_same past who r.who tag r.tag p.0 p.1) in let lt = ok.newer in omega arith)
+      (λ q. le)
+
+  -- no deed has its number, since one number has one tag
+  fresh : (d : Deed) → Acted past d → d.reply.who ≡ r.who → d.reply.xid ≡ r.xid → ⊥
+  fresh d a w x =
+      let f = h.flew d a in
+      let g = h.sent (Client ok.from) (Target t) (message.Request r) ok.was in
+      let y : d.reply.xid.0 ≡ r.xid.0 = ap (λ (v : Xid). v.0) x in
+      let z : r.xid.0 ≡ g.0.xid = ap (λ (v : RequestOf). v.xid.0) g.2 in
+      let u = f.2 in
+      let same : f.0 ≡ g.0 = n.one r.who.client f.0 g.0 (subst (λ (v : Who). Flew past v.client f.0) w f.1) g.1 (omega arith) in
+      let tag : d.tag ≡ r.tag = sym f.4 ∙ ap (λ (v : Flight). v.tag) same ∙ ap (λ (v : RequestOf). v.tag) (sym g.2) in
+      let e : (slot_of d.reply.who d.tag past).taken ≡ (slot_of r.who r.tag past).taken = ap (λ (s : Slot). s.taken) (slot_same past d.reply.who r.who d.tag r.tag w tag) in
+      let le = h.high d a in
+      let lt = ok.newer in
+      omega arith
+
+  newest : Waits entering r
+  newest =
+      record {
+        target = t;
+        meant = h.sent (Client ok.from) (Target t) (message.Request r) ok.was;
+        taken = cond_both (is_slot_of r.who r.tag r.who r.tag) (entered r) (slot_of r.who r.tag past) (λ (s : Slot). r.xid.0 ≤ s.taken) (λ q. omega arith) (λ q. let s = slot_self r.who r.tag in absurd (cc));
+        new = fresh;
+      }
+
+  still_waits : (q : RequestOf) → Waits past q → Waits entering q
+  still_waits q w = record { target = w.target; meant = w.meant; taken = raised q.who q.tag q.xid.0 w.taken; new = w.new }
+
+  done_enters : Done osts entering
+  done_enters =
+      record {
+        flew = h.flew;
+        life = h.life;
+        high = λ d a. raised d.reply.who d.tag d.reply.xid.0 (h.high d a);
+        kept = λ who tag k. cond_both (is_slot_of who tag r.who r.tag) (entered r) (slot_of who tag past) (λ (s : Slot). s.reply ≡ Some k → (d : Deed) × Acted past d × (d.reply ≡ k))
+            (λ q e. absurd (cc))
+            (λ q e. h.kept who tag k e);
+        boots = h.boots;
+        waits = λ q i. ⊎_elim
+            (λ (j : In q (server_of osts past).waiting). still_waits q (h.waits q j))
+            (λ (j : In q (r ∷ [])). ⊎_elim (λ (e : r ≡ q). subst (Waits entering) e newest) (λ (v : ⊥). absurd v) j)
+            (in_append q (server_of osts past).waiting (r ∷ []) i);
+        sent = h.sent;
+        once = h.once;
+      }
+
+-- ---- one more deed: an act and a transaction alike
+
+-- what a line that does d is
+record Does (osts : ℕ) (past new : List Line) (d : Deed) : Type 0 where
+  flew : (c : ℕ) (f : Flight) → Flew past c f → Flew new c f
+  acted : (e : Deed) → Acted new e → (d ≡ e) ⊎ Acted past e
+  more : (e : Deed) → Acted past e → Acted new e
+  here : Acted new d
+  slot : (who : Who) (tag : ℕ) → slot_of who tag new ≡ (if is_slot_of who tag d.reply.who d.tag then answered d (slot_of who tag past) else slot_of who tag past)
+  waiting : (q : RequestOf) → In q (server_of osts new).waiting → In q (without_request d (server_of osts past).waiting)
+  sent : (from to : Node) (m : Message) → Was new from to m → Was past from to m
+  boots : (e : Deed) → again (server_of osts past) e.reply ≡ e.reply → again (server_of osts new) e.reply ≡ e.reply
+  fresh : again (server_of osts new) d.reply ≡ d.reply
+
+-- it is of that request
+record Is (r : RequestOf) (d : Deed) : Type 0 where
+  who : d.reply.who ≡ r.who
+  xid : d.reply.xid ≡ r.xid
+  tag : d.tag ≡ r.tag
+  op : d.op ≡ r.op
+
+module _ (osts : ℕ) (past new : List Line) (d : Deed) (does : Does osts past new d) (r : RequestOf) (of : Is r d) (w : Waits past r) (h : Done osts past) where
+  grows : Grows past new
+  grows = record { flew = does.flew; acted = does.more }
+
+  taken_same : (who : Who) (tag x : ℕ) → x ≤ (slot_of who tag past).taken → x ≤ (slot_of who tag new).taken
+  taken_same who tag x le =
+      subst (λ (s : Slot). x ≤ s.taken) (sym (does.slot who tag))
+      (cond_both (is_slot_of who tag d.reply.who d.tag) (answered d (slot_of who tag past)) (slot_of who tag past) (λ (s : Slot). x ≤ s.taken) (λ q. le) (λ q. le))
+
+  mine_flew : FlewFor new d
+  mine_flew = (
+    w.meant.0,
+    subst (λ (v : Who). Flew new v.client w.meant.0) (sym of.who) (does.flew r.who.client w.meant.0 w.meant.1),
+    ap (λ (v : RequestOf). v.xid.0) (sym w.meant.2) ∙ ap (λ (v : Xid). v.0) (sym of.xid),
+    ap (λ (v : RequestOf). v.op) (sym w.meant.2) ∙ sym of.op,
+    ap (λ (v : RequestOf). v.tag) (sym w.meant.2) ∙ sym of.tag,
+  )
+
+  mine_life : d.reply.who ≡ first_life d.reply.who.client
+  mine_life = of.who ∙ ap (λ (v : RequestOf). v.who) w.meant.2 ∙ ap (λ (v : Who). first_life v.client) (sym of.who)
+
+  mine_high : d.reply.xid.0 ≤ (slot_of d.reply.who d.tag new).taken
+  mine_high =
+      let e : (slot_of d.reply.who d.tag past).taken ≡ (slot_of r.who r.tag past).taken = ap (λ (s : Slot). s.taken) (slot_same past d.reply.who r.who d.tag r.tag of.who of.tag) in
+      let x : d.reply.xid.0 ≡ r.xid.0 = ap (λ (v : Xid). v.0) of.xid in
+      let le = w.taken in
+      taken_same d.reply.who d.tag d.reply.xid.0 (omega arith)
+
+  -- it hasn't acted before
+  first_time : (e : Deed) → Acted past e → d.reply.who ≡ e.reply.who → d.reply.xid ≡ e.reply.xid → ⊥
+  first_time e a q x = w.new e a (sym q ∙ of.who) (sym x ∙ of.xid)
+
+  -- what still waits is another request
+  other : (q : RequestOf) → is_request_of d q ≡ false → d.reply.who ≡ q.who → d.reply.xid ≡ q.xid → ⊥
+  other q f e x =
+      let t : is_request_of d q ≡ true = subst (λ (v : Who). same_life d.reply.who v && nat_eq d.reply.xid.0 q.xid.0 ≡ true) e (subst (λ (v : Xid). same_life d.reply.who d.reply.who && nat_eq d.reply.xid.0 v.0 ≡ true) x (slot_self d.reply.who d.reply.xid.0)) in
+      absurd (cc)
+
+  keeps_waiting : (q : RequestOf) → In q (server_of osts new).waiting → Waits new q
+  keeps_waiting q i =
+      let j = in_filter (λ (v : RequestOf). not (is_request_of d v)) q (server_of osts past).waiting (does.waiting q i) in
+      let k = h.waits q j.0 in
+      record {
+        target = k.target;
+        meant = meant_more past new grows (Target k.target) (message.Request q) k.meant;
+        taken = taken_same q.who q.tag q.xid.0 k.taken;
+        new = λ e a y x. ⊎_elim
+            (λ (p : d ≡ e). other q (not-true (is_request_of d q) j.1) (ap (λ (v : Deed). v.reply.who) p ∙ y) (ap (λ (v : Deed). v.reply.xid) p ∙ x))
+            (λ (b : Acted past e). k.new e b y x)
+            (does.acted e a);
+      }
+
+  done_does : Done osts new
+  done_does =
+      record {
+        flew = λ e a. ⊎_elim (λ (q : d ≡ e). subst (FlewFor new) q mine_flew) (λ (b : Acted past e). let k = h.flew e b in (k.0, does.flew e.reply.who.client k.0 k.1, k.2, k.3, k.4)) (does.acted e a);
+        life = λ e a. ⊎_elim (λ (q : d ≡ e). subst (λ (v : Deed). v.reply.who ≡ first_life v.reply.who.client) q mine_life) (λ (b : Acted past e). h.life e b) (does.acted e a);
+        high = λ e a. ⊎_elim
+            (λ (q : d ≡ e). subst (λ (v : Deed). v.reply.xid.0 ≤ (slot_of v.reply.who v.tag new).taken) q mine_high)
+            (λ (b : Acted past e). taken_same e.reply.who e.tag e.reply.xid.0 (h.high e b))
+            (does.acted e a);
+        kept = λ who tag k e. cond_both (is_slot_of who tag d.reply.who d.tag) (answered d (slot_of who tag past)) (slot_of who tag past) (λ (s : Slot). s.reply ≡ Some k → (g : Deed) × Acted new g × (g.reply ≡ k))
+            (λ q p. (d, does.here, cc))
+            (λ q p. let g = h.kept who tag k p in (g.0, does.more g.0 g.1, g.2))
+            (ap (λ (s : Slot). s.reply) (sym (does.slot who tag)) ∙ e);
+        boots = λ e a. ⊎_elim (λ (q : d ≡ e). subst (λ (v : Deed). again (server_of osts new) v.reply ≡ v.reply) q does.fresh) (λ (b : Acted past e). does.boots e (h.boots e b)) (does.acted e a);
+        waits = keeps_waiting;
+        sent = λ from to m s. meant_more past new grows to m (h.sent from to m (does.sent from to m s));
+        once = λ e g a b y x. ⊎_elim
+            (λ (p : d ≡ e). ⊎_elim
+            (λ (q : d ≡ g). sym p ∙ q)
+            (λ (q : Acted past g). absurd (first_time g q (ap (λ (v : Deed). v.reply.who) p ∙ y) (ap (λ (v : Deed). v.reply.xid) p ∙ x)))
+            (does.acted g b))
+            (λ (p : Acted past e). ⊎_elim
+            (λ (q : d ≡ g). absurd (first_time e p (ap (λ (v : Deed). v.reply.who) q ∙ sym y) (ap (λ (v : Deed). v.reply.xid) q ∙ sym x)))
+            (λ (q : Acted past g). h.once e g p q y x)
+            (does.acted g b))
+            (does.acted e a);
+      }
+
+act_does : (osts : ℕ) (past : List Line) (stamp : Stamp) (t : ℕ) (d : Deed) → again (server_of osts past) d.reply ≡ d.reply → Does osts past (line (turn stamp (Target t)) (Act d) ∷ past) d
+act_does osts past stamp t d b = record { flew = λ k f i. i; acted = λ e a. a; more = λ e a. inr a; here = inl refl; slot = λ who tag. refl; waiting = λ q i. i; sent = λ from to m s. s; boots = λ e q. q; fresh = b }
+
+txn_does : (osts : ℕ) (past : List Line) (stamp : Stamp) (t : ℕ) (d : Deed) → again (server_of osts past) d.reply ≡ d.reply → Does osts past (line (turn stamp (Target t)) (Made d) ∷ past) d
+txn_does osts past stamp t d b = record { flew = λ k f i. i; acted = λ e a. a; more = λ e a. inr a; here = inl refl; slot = λ who tag. refl; waiting = λ q i. i; sent = λ from to m s. s; boots = λ e q. q; fresh = b }
+
+pub keeps_done : (head : Head) (past : List Line) (stamp : Stamp) (node : Node) (e : Entry) → EntryOf head past (turn stamp node) node e → Phase head.osts past → Numbers past
+    → Done head.osts past → Done head.osts (line (turn stamp node) e ∷ past)
+keeps_done head past stamp (Client c) (Send to m) ok p n h = done_send head.osts past stamp (Client c) to m (sent_meant head past (Client c) to m ok p n h) h
+keeps_done head past stamp (Target t) (Send to m) ok p n h = done_send head.osts past stamp (Target t) to m (sent_meant head past (Target t) to m ok p n h) h
+keeps_done head past stamp (Client c) (Flies t f) ok p n h = done_flies head.osts past stamp c t f h
+keeps_done head past stamp (Target t) (Enters r) ok p n h = done_enters head.osts past stamp t r ok n h
+keeps_done head past stamp (Target t) (Act d) ok p n h =
+    let v = server_of head.osts past in
+    let e = deed head.osts v (turn stamp (Target t)) ok.request none in
+    subst (λ (d : Deed). Done head.osts (line (turn stamp (Target t)) (Act d) ∷ past)) (sym ok.is)
+    (done_does head.osts past (line (turn stamp (Target t)) (Act e) ∷ past) e (act_does head.osts past stamp t e refl) ok.request (record { who = refl; xid = refl; tag = refl; op = refl }) (h.waits ok.request ok.waits) h)
+keeps_done head past stamp (Target t) (Made d) ok p n h =
+    let v = server_of head.osts past in
+    let e = deed head.osts v (turn stamp (Target t)) ok.request (next_number v) in
+    subst (λ (d : Deed). Done head.osts (line (turn stamp (Target t)) (Made d) ∷ past)) (sym ok.is)
+    (done_does head.osts past (line (turn stamp (Target t)) (Made e) ∷ past) e (txn_does head.osts past stamp t e refl) ok.request (record { who = refl; xid = refl; tag = refl; op = refl }) (h.waits ok.request ok.waits) h)
+keeps_done head past stamp (Client c) (Act d) ok p n h = absurd ok
+keeps_done head past stamp (Client c) (Made d) ok p n h = absurd ok
+keeps_done head past stamp (Target t) (Flies u f) ok p n h = absurd ok
+keeps_done head past stamp (Target t) (Commit to batch) ok p n h = absurd ok
+keeps_done head past stamp (Target t) (Boot boot disk) ok p n h = absurd ok
+keeps_done head past stamp node e ok p n h = h

@@ -1,0 +1,12 @@
+pub mod Groups
+pub mod Phase
+pub mod Numbers
+pub mod Done
+pub mod Lines
+pub mod Calls
+pub mod Asks
+pub mod Times
+pub mod Replies
+pub mod All
+pub mod Sides
+pub mod Finds

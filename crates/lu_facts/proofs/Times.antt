@@ -1,0 +1,115 @@
+-- When things happen: turns rise, and what acts for a request in flight acts after the begin of its call.
+use Rattle.std.proofs.Common.{◌≡◌, ℕ, ◌+◌, true, List, [], ◌∷◌, ◌++◌, Option, Some, None, ◌⊎◌, inl, inr, ⊎_elim, sym, subst, ap, ◌∙◌, arith}
+use Rattle.std.specs.Prelude.{nat_eq, not, ◌&&◌}
+use Rattle.std.proofs.lemmas.Bool.{and_parts, cond_both, eqb-true}
+use Rattle.lu_base.specs.declared.ids.At.{At}
+use Rattle.lu_base.specs.declared.ids.Node.{Node}
+use Rattle.lu_base.specs.declared.ids.Node.TheVariants.{Client, Target}
+use Rattle.lu_base.specs.declared.ids.Stamp.{Stamp}
+use Rattle.lu_words.specs.Carried.{Deed, Flight, Running}
+use Rattle.lu_words.specs.Words.{Entry, Tick, Flies, Heard, Line, line, turn_before}
+use Rattle.lu_words.specs.Concerns.{only}
+use Rattle.lu_client_rows.specs.Calls.{call_at}
+use Rattle.lu_client_rows.specs.Imports.{without_flight, flights_at}
+use Rattle.lu_client_rows.specs.States.{last_of}
+use Rattle.lu_table.specs.Runs.{Head}
+use Rattle.lu_guards.proofs.Guards.{In, Steps, EntryOk}
+use Rattle.lu_guards.proofs.Lists.{self, in_append, in_filter, turn_trans}
+use Rattle.lu_facts.proofs.Groups.{turn, Acted, HoldsAt, CallOf, Asks, Upto, Reached, Reaches, Since}
+use Rattle.lu_facts.proofs.Lines.{AtEach, DoneBy, acted_line, only_acted, done_here}
+use Rattle.lu_facts.proofs.Calls.{Began, Touched, call_cases}
+
+-- ---- turns
+
+pub upto_trans : (a b c : At) → Upto a b → Upto b c → Upto a c
+upto_trans a b c (inl p) q = subst (λ (v : At). Upto v c) (sym p) q
+upto_trans a b c (inr p) (inl q) = inr (subst (λ (v : At). turn_before a v ≡ true) q p)
+upto_trans a b c (inr p) (inr q) = inr (turn_trans a b c p q)
+
+pub reached_on : (past : List Line) (at a : At) → Steps past at → Reached past a → Upto a at
+reached_on [] at a s r = absurd r
+reached_on (l ∷ past) at a s r = upto_trans a l.at at r s
+
+pub keeps_reaches : (head : Head) (past : List Line) (stamp : Stamp) (node : Node) (e : Entry) → Steps past (turn stamp node) → EntryOk past (turn stamp node) node e → AtEach head past (turn stamp node) node e
+    → Reaches past → Reaches (line (turn stamp node) e ∷ past)
+keeps_reaches head past stamp node e s ok of h =
+    record {
+      acted = λ d a. ⊎_elim
+          (λ (p : DoneBy e d). inl (done_here head past stamp node e ok of d p).1)
+          (λ (p : Acted past d). reached_on past (turn stamp node) d.reply.at s (h.acted d p))
+          (acted_line (turn stamp node) e past d a);
+      begun = λ c slot r k. ⊎_elim
+          (λ (p : call_at c slot past ≡ Some r). reached_on past (turn stamp node) r.at s (h.begun c slot r p))
+          (λ (p : Began past (turn stamp node) c slot r ⊎ Touched past node e c slot r). ⊎_elim
+          (λ (q : Began past (turn stamp node) c slot r). inl q.at)
+          (λ (q : Touched past node e c slot r). subst (λ (v : At). Upto v (turn stamp node)) q.at (reached_on past (turn stamp node) q.before.at s (h.begun c slot q.before q.call)))
+          p)
+          (call_cases past stamp node e ok c slot r k);
+    }
+
+-- ---- what acts for a call
+
+-- what is in flight was so before, or has the next number
+fly_before : (head : Head) (past : List Line) (stamp : Stamp) (node : Node) (e : Entry) → EntryOk past (turn stamp node) node e → AtEach head past (turn stamp node) node e
+    → (c t : ℕ) (f : Flight) → In f (flights_at c t (line (turn stamp node) e ∷ past)) → In f (flights_at c t past) ⊎ (f.xid ≡ last_of c (only t past) + 1)
+fly_before head past stamp (Client d) (Flies v g) ok of c t f =
+    let k = of v (self v) in
+    cond_both (nat_eq c d && nat_eq t v) (flights_at c t past ++ g ∷ []) (flights_at c t past) (λ (fs : List Flight). In f fs → In f (flights_at c t past) ⊎ (f.xid ≡ last_of c (only t past) + 1))
+    (λ o i.
+    let p = and_parts (nat_eq c d) (nat_eq t v) o in
+    let x : g.xid ≡ last_of d (only v past) + 1 = ap (λ (w : Flight). w.xid) k.is in
+    let y : last_of c (only t past) ≡ last_of d (only v past) = ap (λ w. last_of w (only t past)) (eqb-true c d p.0) ∙ ap (λ w. last_of d (only w past)) (eqb-true t v p.1) in
+    ⊎_elim
+    (λ (j : In f (flights_at c t past)). inl j)
+    (λ (j : In f (g ∷ [])). ⊎_elim (λ (q : g ≡ f). let z : g.xid ≡ f.xid = ap (λ (w : Flight). w.xid) q in inr (omega arith)) (λ (w : ⊥). absurd w) j)
+    (in_append f (flights_at c t past) (g ∷ []) i))
+    (λ o i. inl i)
+fly_before head past stamp (Client d) (Heard v g r) ok of c t f =
+    cond_both (nat_eq c d && nat_eq t v) (without_flight g.xid (flights_at c t past)) (flights_at c t past) (λ (fs : List Flight). In f fs → In f (flights_at c t past) ⊎ (f.xid ≡ last_of c (only t past) + 1))
+    (λ o i. inl (in_filter (λ (w : Flight). not (nat_eq w.xid g.xid)) f (flights_at c t past) i).0)
+    (λ o i. inl i)
+fly_before head past stamp (Target u) Tick ok of c t f = λ i. inl i
+fly_before head past stamp node e ok of c t f = λ i. inl i
+
+-- nothing has acted for the next number
+none_acted : (head : Head) (past : List Line) (c x : ℕ) → HoldsAt head past → (d : Deed) → Acted past d → d.reply.who.client ≡ c → d.reply.xid.0 ≡ x → x ≡ last_of c past + 1 → ⊥
+none_acted head past c x h d a w y n =
+    let f = h.done.flew d a in
+    let low = (h.numbers.tagged d.reply.who.client f.0 f.1).low in
+    let u : last_of d.reply.who.client past ≡ last_of c past = ap (λ v. last_of v past) w in
+    let v = f.2 in
+    omega arith
+
+-- a call that has just begun has nothing in flight
+none_flies : (past : List Line) (c slot : ℕ) (f : Flight) → CallOf past c f.slot f.op → f.slot ≡ Some slot → call_at c slot past ≡ None → ⊥
+none_flies past c slot f k s n =
+    let q = subst (λ (v : Option ℕ). CallOf past c v f.op) s k in
+    let w = q.1 in
+    absurd (cc)
+
+module _ (head : Head) (past : List Line) (stamp : Stamp) (node : Node) (e : Entry) (ok : EntryOk past (turn stamp node) node e) (of : AtEach head past (turn stamp node) node e) where
+  abbrev later : List Line
+  later = line (turn stamp node) e ∷ past
+
+  -- of what had acted before
+  since_old : ((t : ℕ) → HoldsAt head (only t past)) → Asks past → Since past → (c t slot : ℕ) (f : Flight) (r : Running) (d : Deed) → In f (flights_at c t later) → f.slot ≡ Some slot → call_at c slot later ≡ Some r
+      → Acted (only t past) d → d.reply.who.client ≡ c → d.reply.xid.0 ≡ f.xid → Upto r.at d.reply.at
+  since_old at asks h c t slot f r d i s k a w x =
+      ⊎_elim
+      (λ (j : In f (flights_at c t past)). ⊎_elim
+      (λ (p : call_at c slot past ≡ Some r). h c t slot f r d j s p a w x)
+      (λ (p : Began past (turn stamp node) c slot r ⊎ Touched past node e c slot r). ⊎_elim
+      (λ (q : Began past (turn stamp node) c slot r). absurd (none_flies past c slot f (asks.fly_calls c t f j) s q.none))
+      (λ (q : Touched past node e c slot r). subst (λ (v : At). Upto v d.reply.at) q.at (h c t slot f q.before d j s q.call a w x))
+      p)
+      (call_cases past stamp node e ok c slot r k))
+      (λ (n : f.xid ≡ last_of c (only t past) + 1). absurd (none_acted head (only t past) c f.xid (at t) d a w x n))
+      (fly_before head past stamp node e ok of c t f i)
+
+  -- what acts now acts after each begin so far
+  pub keeps_since : ((t : ℕ) → HoldsAt head (only t past)) → Asks past → Reaches later → Since past → Since later
+  keeps_since at asks reaches h c t slot f r d i s k a w x =
+      ⊎_elim
+      (λ (p : DoneBy e d). subst (λ (v : At). Upto r.at v) (sym (done_here head past stamp node e ok of d p).1) (reaches.begun c slot r k))
+      (λ (p : Acted (only t past) d). since_old at asks h c t slot f r d i s k p w x)
+      (only_acted t (line (turn stamp node) e) past d a)

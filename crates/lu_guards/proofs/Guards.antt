@@ -1,0 +1,238 @@
+-- When a line may be added to a past, whatever row makes it: what a single line rests on, over the past just
+-- before it. What it says of one target is said over what concerns that target. What isn't listed never happens.
+use Rattle.std.proofs.Common.{◌≡◌, ℕ, ◌<◌, true, false, List, [], ◌∷◌, Option, Some, None, ◌⊎◌}
+use Rattle.std.specs.Prelude.{length}
+use Rattle.lu_base.specs.declared.ids.At.{At}
+use Rattle.lu_base.specs.declared.ids.Node.{Node}
+use Rattle.lu_base.specs.declared.ids.Node.TheVariants.{Client, Target}
+use Rattle.lu_base.specs.declared.ids.Who.{Who}
+use Rattle.lu_msg.specs.declared.answers.Answer.{Answer}
+use Rattle.lu_msg.specs.declared.messages.Message.{Message}
+use Rattle.lu_msg.specs.declared.messages.Message.TheVariants as message
+use Rattle.lu_msg.specs.declared.messages.Reply.{Reply as ReplyTo}
+use Rattle.lu_msg.specs.declared.messages.Request.{Request as RequestOf}
+use Rattle.lu_msg.specs.declared.operations.Op.{Op}
+use Rattle.lu_trace.specs.WellFormed.{IsCall}
+use Rattle.lu_machine.specs.Fits.{answer_fits}
+use Rattle.lu_machine.specs.Footprint.{changes, grants}
+use Rattle.lu_words.specs.Carried.{Deed, Queued, Flight, Unasked, Answered, Work, Running}
+use Rattle.lu_words.specs.Words.{Entry, Begin, Busy, Queues, Flies, Send, Take, Tick, Heard, Told, Die, Act, Txn, Grant, Enters, Line, line, turn_before}
+use Rattle.lu_words.specs.Concerns.{concerns, only}
+use Rattle.lu_words.specs.Sent.{Sent}
+use Rattle.lu_target_rows.specs.States.{none, server_of, slot_of, next_number}
+use Rattle.lu_target_rows.specs.Rows.{asked, deed, again}
+use Rattle.lu_client_rows.specs.Calls.{begun, call_at, operation_of}
+use Rattle.lu_client_rows.specs.States.{queue_of, flights_of, last_of, known_of, life_of}
+use Rattle.lu_client_rows.specs.Rows.{next_flight}
+use Rattle.lu_table.specs.Runs.{Head, IsAlive, IsAsked}
+
+abbrev pub In : {A : Type 0} → A → List A → Type 0
+In x [] = ⊥
+In x (y ∷ ys) = (y ≡ x) ⊎ In x ys
+
+-- ---- what was sent and heard
+
+-- that node sent that message to that node: reads Send
+abbrev pub Was : List Line → (from to : Node) → Message → Type 0
+Was [] from to m = ⊥
+Was (l ∷ past) from to m = elim l.entry [ Send node message ↦ ((l.at.node ≡ from) × (node ≡ to) × (message ≡ m)) ⊎ Was past from to m | _ ↦ Was past from to m ]
+
+-- in that turn that reply of that target was heard, and nothing was told since: reads Heard and Told
+abbrev pub JustHeard : List Line → At → (target : ℕ) → ReplyTo → Type 0
+JustHeard [] at t r = ⊥
+JustHeard (l ∷ past) at t r =
+    elim l.entry [
+      | Heard target flight reply ↦ (l.at ≡ at) × (target ≡ t) × (reply ≡ r)
+      | Told slot turn answer work ↦ ⊥
+      | _ ↦ JustHeard past at t r
+    ]
+
+-- a request in flight as a message of the client's life, which knows the target's boot
+abbrev pub request : ℕ → List Line → Flight → RequestOf
+request c past f = record { who = life_of c past; boot = known_of c past; xid = record { 0 = f.xid }; tag = f.tag; op = f.op }
+
+-- ---- turns
+
+-- the newest turn is earlier
+abbrev pub Later : List Line → At → Type 0
+Later [] at = Unit {0}
+Later (l ∷ past) at = turn_before l.at at ≡ true
+
+-- it is this one or an earlier one
+abbrev pub Steps : List Line → At → Type 0
+Steps [] at = Unit {0}
+Steps (l ∷ past) at = (l.at ≡ at) ⊎ (turn_before l.at at ≡ true)
+
+-- ---- over the whole past
+
+pub record TakeOk (past : List Line) (at : At) (n : ℕ) (from : Node) (m : Message) : Type 0 where
+  pub sent : Sent past n from at.node m
+  pub later : Later past at
+
+pub record BeginOk (past : List Line) (at : At) (c slot : ℕ) (running : Running) : Type 0 where
+  pub later : Later past at
+  pub small : slot < 4
+  pub free : call_at c slot past ≡ None
+  pub is : running ≡ begun at running.call
+  pub limits : IsCall running.call
+  pub op : Op
+  pub becomes : operation_of running.call ≡ Some op
+  pub asked : IsAsked op
+
+-- of a call that has asked nothing yet; all is asked of the metadata target
+pub record QueuesOk (past : List Line) (c t : ℕ) (q : Queued) : Type 0 where
+  pub names : t ≡ 0
+  pub slot : ℕ
+  pub serves : q.slot ≡ Some slot
+  pub running : Running
+  pub call : call_at c slot past ≡ Some running
+  pub new : running.asking ≡ Unasked
+  pub becomes : operation_of running.call ≡ Some q.op
+
+-- of a call whose request was answered in this turn
+pub record ToldOk (past : List Line) (at : At) (c slot : ℕ) (turn : At) (answer : Answer) (work : Option Work) : Type 0 where
+  pub running : Running
+  pub call : call_at c slot past ≡ Some running
+  pub target : ℕ
+  pub reply : ReplyTo
+  pub answered : running.asking ≡ Answered target reply
+  pub heard : JustHeard past at target reply
+  pub of_turn : turn ≡ reply.at
+  pub of_answer : answer ≡ reply.answer
+  pub plain : work ≡ None
+
+-- what was just done, but for the locks that it granted
+abbrev pub Did : List Line → Deed → Type 0
+Did [] d = ⊥
+Did (l ∷ past) d = elim l.entry [ Act e ↦ e ≡ d | Txn e ↦ e ≡ d | Grant lock asked ↦ Did past d | _ ↦ ⊥ ]
+
+-- the newest line took a message
+pub record Taken (past : List Line) : Type 0 where
+  pub at : At
+  pub number : ℕ
+  pub from : Node
+  pub message : Message
+  pub before : List Line
+  pub newest : past ≡ line at (Take number from message) ∷ before
+
+-- a reply is the kept one but for the boot and the committed number; it is to what was just done, or to what was done
+-- before this turn
+pub record RepliesNow (past : List Line) (t : ℕ) (k : ReplyTo) : Type 0 where
+  pub who : Who
+  pub tag : ℕ
+  pub kept : ReplyTo
+  pub slot : (slot_of who tag (only t past)).reply ≡ Some kept
+  pub is : k ≡ record kept { boot = k.boot; committed = k.committed }
+  pub now : ((d : Deed) × Did past d × (d.reply ≡ kept)) ⊎ Taken past
+
+abbrev pub EntryOk : List Line → At → Node → Entry → Type 0
+EntryOk past at node (Take n from m) = TakeOk past at n from m
+EntryOk past at node Tick = Later past at
+EntryOk past at (Client c) (Begin slot running) = BeginOk past at c slot running
+EntryOk past at (Client c) (Busy slot) = Later past at
+EntryOk past at (Client c) Die = Later past at
+EntryOk past at (Client c) (Queues t q) = QueuesOk past c t q
+EntryOk past at (Client c) (Told slot turn answer work) = ToldOk past at c slot turn answer work
+EntryOk past at (Client c) (Flies t f) = t ≡ 0
+EntryOk past at (Client c) (Heard t f r) = t ≡ 0
+EntryOk past at (Client c) (Send (Target t) (message.Request r)) = t ≡ 0
+EntryOk past at (Target t) (Send (Client c) (message.Reply k)) = (t ≡ 0) × RepliesNow past t k
+EntryOk past at (Target t) (Enters r) = t ≡ 0
+EntryOk past at (Target t) (Act d) = t ≡ 0
+EntryOk past at (Target t) (Txn d) = t ≡ 0
+EntryOk past at _ _ = ⊥
+
+-- ---- over what concerns one target
+
+pub record FliesOk (head : Head) (past : List Line) (c : ℕ) (f : Flight) : Type 0 where
+  pub front : Queued
+  pub more : List Queued
+  pub queue : queue_of c past ≡ front ∷ more
+  pub is : f ≡ next_flight (last_of c past) (flights_of c past) front
+  pub room : length (flights_of c past) < head.flight
+
+pub record AskOk (past : List Line) (c : ℕ) (r : RequestOf) : Type 0 where
+  pub flight : Flight
+  pub flying : In flight (flights_of c past)
+  pub is : r ≡ request c past flight
+
+pub record HeardOk (past : List Line) (c : ℕ) (f : Flight) (r : ReplyTo) : Type 0 where
+  pub from : ℕ
+  pub was : Was past (Target from) (Client c) (message.Reply r)
+  pub flying : In f (flights_of c past)
+  pub xid : f.xid ≡ r.xid.0
+  pub who : r.who ≡ life_of c past
+  pub boot : r.boot ≡ known_of c past
+  pub fits : answer_fits f.op r.answer ≡ true
+
+-- a reply that is kept for a life and tag
+pub record ReplyOk (osts : ℕ) (past : List Line) (c : ℕ) (k : ReplyTo) : Type 0 where
+  pub who : Who
+  pub tag : ℕ
+  pub kept : ReplyTo
+  pub slot : (slot_of who tag past).reply ≡ Some kept
+  pub is : k ≡ again (server_of osts past) kept
+  pub to : c ≡ k.who.client
+
+-- a request that was sent, of a number above the newest one taken of its life and tag
+pub record EntersOk (past : List Line) (t : ℕ) (r : RequestOf) : Type 0 where
+  pub from : ℕ
+  pub was : Was past (Client from) (Target t) (message.Request r)
+  pub newer : (slot_of r.who r.tag past).taken < r.xid.0
+
+pub record ActOk (osts : ℕ) (past : List Line) (at : At) (d : Deed) : Type 0 where
+  pub request : RequestOf
+  pub waits : In request (server_of osts past).waiting
+  pub still : changes osts (server_of osts past).tree (asked request none) ≡ false
+  pub unlocked : grants osts (server_of osts past).tree (asked request none) ≡ []
+  pub is : d ≡ deed osts (server_of osts past) at request none
+
+pub record TxnOk (osts : ℕ) (past : List Line) (at : At) (d : Deed) : Type 0 where
+  pub numbers : (server_of osts past).count < 4294967295
+  pub request : RequestOf
+  pub waits : In request (server_of osts past).waiting
+  pub moves : changes osts (server_of osts past).tree (asked request none) ≡ true
+  pub is : d ≡ deed osts (server_of osts past) at request (next_number (server_of osts past))
+
+abbrev pub SendOf : Head → List Line → Node → Node → Message → Type 0
+SendOf head past (Client c) (Target t) (message.Request r) = AskOk past c r
+SendOf head past (Target t) (Client c) (message.Reply k) = ReplyOk head.osts past c k
+SendOf head past _ _ _ = ⊥
+
+abbrev pub EntryOf : Head → List Line → At → Node → Entry → Type 0
+EntryOf head past at node (Take n from m) = Unit {0}
+EntryOf head past at node (Send to m) = SendOf head past node to m
+EntryOf head past at node Tick = Unit {0}
+EntryOf head past at (Client c) (Begin slot running) = Unit {0}
+EntryOf head past at (Client c) (Busy slot) = Unit {0}
+EntryOf head past at (Client c) (Queues t q) = Unit {0}
+EntryOf head past at (Client c) (Flies t f) = FliesOk head past c f
+EntryOf head past at (Client c) (Heard t f r) = HeardOk past c f r
+EntryOf head past at (Client c) (Told slot turn answer work) = Unit {0}
+EntryOf head past at (Client c) Die = Unit {0}
+EntryOf head past at (Target t) (Enters r) = EntersOk past t r
+EntryOf head past at (Target t) (Act d) = ActOk head.osts past at d
+EntryOf head past at (Target t) (Txn d) = TxnOk head.osts past at d
+EntryOf head past at _ _ = ⊥
+
+-- ---- all lines
+
+-- only a living client of the run has lines
+abbrev pub LivesAt : Head → List Line → Node → Type 0
+LivesAt head past (Client c) = IsAlive head past c
+LivesAt head past (Target t) = Unit {0}
+
+pub record Allowed (head : Head) (past : List Line) (at : At) (e : Entry) : Type 0 where
+  pub steps : Steps past at
+  pub lives : LivesAt head past at.node
+  pub ok : EntryOk past at at.node e
+  pub of : (t : ℕ) → concerns t at.node e ≡ true → EntryOf head (only t past) at at.node e
+
+abbrev pub Grown : Head → List Line → Type 0
+Grown head [] = Unit {0}
+Grown head (l ∷ past) = Allowed head past l.at l.entry × Grown head past
+
+-- each line of a past of one target is allowed there
+abbrev pub GrownOf : Head → List Line → Type 0
+GrownOf head [] = Unit {0}
+GrownOf head (l ∷ past) = EntryOf head past l.at l.at.node l.entry × GrownOf head past

@@ -1,0 +1,11 @@
+pub mod Words
+pub mod OneClient
+pub mod Resent
+pub mod Reordered
+pub mod TwoInFlight
+pub mod Queue
+pub mod Tags
+pub mod Fits
+pub mod NameFound
+pub mod Unfit
+pub mod Spent
