@@ -1,7 +1,8 @@
 -- A reply that the import hears is one that the row hears.
-use Rattle.std.proofs.Common.{◌≡◌, ℕ, Bool, true, false, not, cond, ◌==◌, ◌&&◌, if◌then◌else◌, List, [], ◌∷◌, ◌++◌, map, Option, Some, None, refl, sym, ap, ◌∙◌, true≢false, arith}
+use Rattle.std.proofs.Common.{◌≡◌, ℕ, Bool, true, false, not, cond, ◌==◌, ◌&&◌, if◌then◌else◌, List, [], ◌∷◌, ◌++◌, map, Option, Some, None, refl, sym, ap, ◌∙◌, true≢false}
+use Rattle.std.specs.Option.{option_map}
 use Rattle.std.specs.Prelude.{slice_set}
-use Rattle.std.proofs.lemmas.Bool.Decides.{nat_tests}
+use Rattle.std.proofs.lemmas.Bool.{eqb-true}
 use Rattle.lu_base.specs.declared.ids.At.{At}
 use Rattle.lu_msg.specs.declared.messages.Message.{Message}
 use Rattle.lu_msg.specs.declared.messages.Message.TheVariants as message
@@ -9,16 +10,20 @@ use Rattle.lu_msg.specs.declared.messages.Reply.{Reply as ReplyTo}
 use Rattle.lu_trace.specs.declared.entries.Entry.TheVariants as printed
 use Rattle.lu_trace.specs.declared.traces.Step.{Step}
 use Rattle.lu_import.specs.declared.requests.InFlight.{InFlight}
-use Rattle.lu_import.specs.InFlights.{slot_of, has_number, without}
+use Rattle.lu_import.specs.InFlights.{request_of, has_number, without}
 use Rattle.lu_import.specs.Imports.{ImportState, hears, heard}
-use Rattle.lu_table.specs.Words.{Flight, Entry, Heard, Told, same_life}
-use Rattle.lu_table.specs.Calls.{Begun}
-use Rattle.lu_table.specs.Imports.{without_flight}
-use Rattle.lu_table.specs.ClientRows.{Asker, find_flight, row_hears, row_reply, row_heeds}
-use Rattle.lu_table.specs.Steps.{asker_turn}
-use Rattle.lu_client.specs.Clients.{flight_of, asker_of, state_of}
-use Rattle.lu_client.specs.Turns.{with_line, with_entries, after_entries, sends_of, hearing, heeding_reply, heeding}
-use Rattle.lu_client.proofs.Growth.{sends_free}
+use Rattle.lu_machine.specs.Fits.{answer_fits}
+use Rattle.lu_trace.specs.Turns.{with_line}
+use Rattle.lu_words.specs.Carried.{Flight, Running}
+use Rattle.lu_words.specs.Words.{Entry, Heard, same_life}
+use Rattle.lu_client_rows.specs.Calls.{call_on}
+use Rattle.lu_client_rows.specs.Imports.{without_flight}
+use Rattle.lu_client_rows.specs.States.{Asker, asker_after, asker_turn}
+use Rattle.lu_client_rows.specs.Rows.{find_flight, row_told, row_tells, row_fits, row_hears, row_reply, row_heeds, row_rests}
+use Rattle.lu_client.specs.Clients.{ClientState, flight_of, asker_of, state_of}
+use Rattle.lu_client.specs.Turns.{with_entries, after_entries, hearing_fit, hearing, heeding_reply, heeding}
+use Rattle.lu_client.proofs.Growth.{sends_free, after_is}
+use Rattle.lu_client.proofs.Slots.{self, frees}
 
 -- the test of the row: the reply is of this life and boot
 abbrev pub own : ImportState → ReplyTo → Bool
@@ -31,29 +36,22 @@ hears_own import r = by (r.who.client == import.who.client) (r.who.life == impor
   by true false = refl
   by false life = refl
 
--- ---- a request and its slot
+-- ---- a request and its flight
 
 -- the request of a number, as the row finds it
-record IsFound (number slot : ℕ) (requests : List InFlight) : Type 0 where
-  flight : Flight
-  found : find_flight number (map flight_of requests) ≡ Some flight
-  same_slot : flight.slot ≡ slot
-  same_number : flight.xid ≡ number
-  there : has_number number requests ≡ true
+find_is : (number : ℕ) (requests : List InFlight) → find_flight number (map flight_of requests) ≡ option_map flight_of (request_of number requests)
+find_is number [] = refl
+find_is number (request ∷ requests) = by (request.xid.0 == number) (find_is number requests) where
+  by : (here : Bool) → find_flight number (map flight_of requests) ≡ option_map flight_of (request_of number requests) → (if here then Some (flight_of request) else find_flight number (map flight_of requests)) ≡ option_map flight_of (if here then Some request else request_of number requests)
+  by true rest = refl
+  by false rest = rest
 
-find_none : (number : ℕ) (requests : List InFlight) → slot_of number requests ≡ None → find_flight number (map flight_of requests) ≡ None
-find_none number [] none = refl
-find_none number (request ∷ requests) none = by (request.xid.0 == number) none (find_none number requests) where
-  by : (here : Bool) → (if here then Some request.slot else slot_of number requests) ≡ None → (slot_of number requests ≡ None → find_flight number (map flight_of requests) ≡ None) → (if here then Some (flight_of request) else find_flight number (map flight_of requests)) ≡ None
-  by true none rest = absurd (cc)
-  by false none rest = rest none
-
-find_some : (number slot : ℕ) (requests : List InFlight) → slot_of number requests ≡ Some slot → IsFound number slot requests
-find_some number slot [] some = absurd (cc)
-find_some number slot (request ∷ requests) some = by (request.xid.0 == number) refl some (find_some number slot requests) where
-  by : (here : Bool) → (request.xid.0 == number) ≡ here → (if here then Some request.slot else slot_of number requests) ≡ Some slot → (slot_of number requests ≡ Some slot → IsFound number slot requests) → IsFound number slot (request ∷ requests)
-  by true e some rest = record { flight = flight_of request; found = rw e refl; same_slot = cc; same_number = grind (arith, nat_tests); there = rw e refl }
-  by false e some rest = let more = rest some in record { flight = more.flight; found = rw e more.found; same_slot = more.same_slot; same_number = more.same_number; there = rw e more.there }
+found_number : (number : ℕ) (requests : List InFlight) (found : InFlight) → request_of number requests ≡ Some found → (found.xid.0 ≡ number) × (has_number number requests ≡ true)
+found_number number [] found some = absurd (cc)
+found_number number (request ∷ requests) found some = by (request.xid.0 == number) refl some (found_number number requests found) where
+  by : (here : Bool) → (request.xid.0 == number) ≡ here → (if here then Some request else request_of number requests) ≡ Some found → (request_of number requests ≡ Some found → (found.xid.0 ≡ number) × (has_number number requests ≡ true)) → (found.xid.0 ≡ number) × (has_number number (request ∷ requests) ≡ true)
+  by true e some rest = let same : request ≡ found = cc in (ap (λ (k : InFlight). k.xid.0) (sym same) ∙ eqb-true request.xid.0 number e, rw e refl)
+  by false e some rest = let more = rest some in (more.0, rw e more.1)
 
 without_is : (number : ℕ) (requests : List InFlight) → map flight_of (without number requests) ≡ without_flight number (map flight_of requests)
 without_is number [] = refl
@@ -62,52 +60,85 @@ without_is number (request ∷ requests) = by (request.xid.0 == number) (without
   by true rest = rest
   by false rest = ap (λ (fs : List Flight). flight_of request ∷ fs) rest
 
+-- ---- what is told changes no more than the slot
+
+tells_asker : (calls : List (Option Running)) (slot : Option ℕ) (r : ReplyTo) (k : Asker) → asker_turn k (row_tells calls slot r) ≡ k
+tells_asker calls None r k = refl
+tells_asker calls (Some slot) r k = by (call_on slot calls) where
+  by : (o : Option Running) → asker_turn k (row_told slot r o) ≡ k
+  by None = refl
+  by (Some running) = refl
+
+heard_asker : (k : Asker) (calls : List (Option Running)) (r : ReplyTo) (f : Flight) → asker_turn k (Heard k.target f r ∷ row_tells calls f.slot r) ≡ record k { flights = without_flight f.xid k.flights }
+heard_asker k calls r f =
+    let after : asker_after k (Heard k.target f r) ≡ record k { flights = without_flight f.xid k.flights } = rw (self k.target) refl in
+    ap (λ (j : Asker). asker_turn j (row_tells calls f.slot r)) after ∙ tells_asker calls f.slot r (record k { flights = without_flight f.xid k.flights })
+
 -- ---- what the row makes of a reply
 
 -- no request has that number
-pub unknown : (import : ImportState) (r : ReplyTo) → slot_of r.xid.0 import.in_flight ≡ None → heeding_reply (asker_of import) r (own import r) ≡ []
-unknown import r none = by (own import r) where
-  by : (test : Bool) → heeding_reply (asker_of import) r test ≡ []
-  by true = ap (hearing r) (find_none r.xid.0 import.in_flight none)
+pub unknown : (import : ImportState) (calls : List (Option Running)) (r : ReplyTo) → request_of r.xid.0 import.in_flight ≡ None → heeding_reply (asker_of import) calls r (own import r) ≡ []
+unknown import calls r none = by (own import r) where
+  by : (test : Bool) → heeding_reply (asker_of import) calls r test ≡ []
+  by true = ap (hearing (asker_of import) calls r) (find_is r.xid.0 import.in_flight ∙ ap (option_map flight_of) none)
   by false = refl
 
--- a request has that number, and the reply isn't heard: it is of another life or boot
-pub unheard : (import : ImportState) (r : ReplyTo) (slot : ℕ) → slot_of r.xid.0 import.in_flight ≡ Some slot → hears import r ≡ false → heeding_reply (asker_of import) r (own import r) ≡ []
-unheard import r slot some not_heard = by (own import r) (sym (hears_own import r) ∙ not_heard) where
-  there : has_number r.xid.0 import.in_flight ≡ true
-  there = (find_some r.xid.0 slot import.in_flight some).there
+module _ (import : ImportState) (calls : List (Option Running)) (r : ReplyTo) (request : InFlight) (some : request_of r.xid.0 import.in_flight ≡ Some request) where
+  found : find_flight r.xid.0 (map flight_of import.in_flight) ≡ Some (flight_of request)
+  found = find_is r.xid.0 import.in_flight ∙ ap (option_map flight_of) some
 
-  by : (test : Bool) → (test && has_number r.xid.0 import.in_flight) ≡ false → heeding_reply (asker_of import) r test ≡ []
-  by true not_heard = absurd (true≢false (sym there ∙ not_heard))
-  by false not_heard = refl
+  -- it has no answer to its operation
+  pub unfit : answer_fits request.op r.answer ≡ false → heeding_reply (asker_of import) calls r (own import r) ≡ []
+  unfit fits = by (own import r) where
+    by : (test : Bool) → heeding_reply (asker_of import) calls r test ≡ []
+    by true = ap (hearing (asker_of import) calls r) found ∙ ap (hearing_fit (asker_of import) calls r (flight_of request)) fits
+    by false = refl
 
--- the reply is heard
-heard_row : (import : ImportState) (r : ReplyTo) (slot : ℕ) (found : IsFound r.xid.0 slot import.in_flight) → hears import r ≡ true → heeding_reply (asker_of import) r (own import r) ≡ Heard 0 found.flight r ∷ Told slot r.at r.answer ∷ []
-heard_row import r slot found is_heard = by (own import r) (sym (hears_own import r) ∙ is_heard) where
-  by : (test : Bool) → (test && has_number r.xid.0 import.in_flight) ≡ true → heeding_reply (asker_of import) r test ≡ Heard 0 found.flight r ∷ Told slot r.at r.answer ∷ []
-  by true is_heard = ap (hearing r) found.found ∙ ap (λ (s : ℕ). Heard 0 found.flight r ∷ Told s r.at r.answer ∷ []) found.same_slot
-  by false not_heard = absurd (cc)
+  -- it is of another life or boot
+  pub unheard : hears import r ≡ false → heeding_reply (asker_of import) calls r (own import r) ≡ []
+  unheard not_heard = by (own import r) (sym (hears_own import r) ∙ not_heard) where
+    by : (test : Bool) → (test && has_number r.xid.0 import.in_flight) ≡ false → heeding_reply (asker_of import) calls r test ≡ []
+    by true not_heard = absurd (true≢false (sym (found_number r.xid.0 import.in_flight request some).1 ∙ not_heard))
+    by false not_heard = refl
 
-pub step_heard : (at : At) (step : Step) (import : ImportState) (r : ReplyTo) (slot : ℕ) → slot_of r.xid.0 import.in_flight ≡ Some slot → hears import r ≡ true → with_line at (with_line at step (Some (printed.Heard (record { 0 = 0 }) r.xid))) (Some (printed.Told slot r.at r.answer)) ≡ with_entries at step (heeding_reply (asker_of import) r (own import r))
-step_heard at step import r slot some is_heard = sym (ap (with_entries at step) (heard_row import r slot (find_some r.xid.0 slot import.in_flight some) is_heard))
+  -- it is heard, and the call on its slot told
+  abbrev told : List Entry
+  told = Heard 0 (flight_of request) r ∷ row_told request.slot r (call_on request.slot calls)
 
-pub after_heard : (at : At) (client : ℕ) (spent : Bool) (import : ImportState) (calls : List (Option Begun)) (r : ReplyTo) (slot : ℕ) → slot_of r.xid.0 import.in_flight ≡ Some slot → hears import r ≡ true → state_of client spent (heard import r.xid.0) (slice_set calls slot None) ≡ after_entries at (state_of client spent import calls) (heeding_reply (asker_of import) r (own import r))
-after_heard at client spent import calls r slot some is_heard =
-    let found = find_some r.xid.0 slot import.in_flight some in
-    let flights : map flight_of (without r.xid.0 import.in_flight) ≡ without_flight found.flight.xid (map flight_of import.in_flight) = without_is r.xid.0 import.in_flight ∙ ap (λ (n : ℕ). without_flight n (map flight_of import.in_flight)) (sym found.same_number) in
-    ap (λ (fs : List Flight). record (state_of client spent import (slice_set calls slot None)) { asker = record (asker_of import) { flights = fs } }) flights
-    ∙ sym (ap (after_entries at (state_of client spent import calls)) (heard_row import r slot found is_heard))
+  heard_row : answer_fits request.op r.answer ≡ true → hears import r ≡ true → heeding_reply (asker_of import) calls r (own import r) ≡ told
+  heard_row fits is_heard = by (own import r) (sym (hears_own import r) ∙ is_heard) where
+    by : (test : Bool) → (test && has_number r.xid.0 import.in_flight) ≡ true → heeding_reply (asker_of import) calls r test ≡ told
+    by true is_heard = ap (hearing (asker_of import) calls r) found ∙ ap (hearing_fit (asker_of import) calls r (flight_of request)) fits
+    by false not_heard = absurd (cc)
 
--- what a message makes, and then what has room
-hears_is : (k : Asker) (r : ReplyTo) (found : Option Flight) → row_hears k r found ≡ hearing r found ++ sends_of (asker_turn k (hearing r found))
-hears_is k r None = refl
-hears_is k r (Some f) =
+  pub step_heard : (at : At) (step : Step) → answer_fits request.op r.answer ≡ true → hears import r ≡ true
+      → with_entries at (with_line at step (printed.Heard (record { 0 = 0 }) r.xid)) (row_tells calls (Some request.slot) r) ≡ with_entries at step (heeding_reply (asker_of import) calls r (own import r))
+  step_heard at step fits is_heard = sym (ap (with_entries at step) (heard_row fits is_heard))
+
+  pub after_heard : (client : ℕ) (spent : Bool) → answer_fits request.op r.answer ≡ true → hears import r ≡ true
+      → state_of client spent (heard import r.xid.0) (slice_set calls request.slot None) ≡ after_entries (state_of client spent import calls) (heeding_reply (asker_of import) calls r (own import r))
+  after_heard client spent fits is_heard =
+      let old : ClientState = state_of client spent import calls in
+      let flights : map flight_of (without r.xid.0 import.in_flight) ≡ without_flight request.xid.0 (map flight_of import.in_flight) = without_is r.xid.0 import.in_flight ∙ ap (λ (n : ℕ). without_flight n (map flight_of import.in_flight)) (sym (found_number r.xid.0 import.in_flight request some).0) in
+      let asker : asker_of (heard import r.xid.0) ≡ asker_turn (asker_of import) told = ap (λ (fs : List Flight). record (asker_of import) { flights = fs }) flights ∙ sym (heard_asker (asker_of import) calls r (flight_of request)) in
+      after_is old told (asker_of (heard import r.xid.0)) (slice_set calls request.slot None) asker (sym (frees 0 request.slot (flight_of request) r refl calls))
+      ∙ sym (ap (after_entries old) (heard_row fits is_heard))
+
+-- ---- what a message makes, and then what has room
+
+fits_is : (k : Asker) (calls : List (Option Running)) (r : ReplyTo) (f : Flight) (test : Bool) → row_fits k calls r f test ≡ hearing_fit k calls r f test ++ row_rests (asker_turn k (hearing_fit k calls r f test))
+fits_is k calls r f true =
     let flights : List Flight = without_flight f.xid k.flights in
-    ap (λ (es : List Entry). Heard 0 f r ∷ Told f.slot r.at r.answer ∷ es) (sym (sends_free k k.last k.queue flights k.last flights k.queue))
+    ap (λ (es : List Entry). Heard k.target f r ∷ row_tells calls f.slot r ++ es) (sym (sends_free k k.last k.queue flights k.last flights k.queue) ∙ ap row_rests (sym (heard_asker k calls r f)))
+fits_is k calls r f false = refl
 
-pub heeds_is : (k : Asker) (m : Message) → row_heeds k m ≡ heeding k m ++ sends_of (asker_turn k (heeding k m))
-heeds_is k (message.Reply r) = by (same_life r.who k.who && r.boot == k.boot) where
-  by : (test : Bool) → row_reply k r test ≡ heeding_reply k r test ++ sends_of (asker_turn k (heeding_reply k r test))
-  by true = hears_is k r (find_flight r.xid.0 k.flights)
+hears_is : (k : Asker) (calls : List (Option Running)) (r : ReplyTo) (found : Option Flight) → row_hears k calls r found ≡ hearing k calls r found ++ row_rests (asker_turn k (hearing k calls r found))
+hears_is k calls r None = refl
+hears_is k calls r (Some f) = fits_is k calls r f (answer_fits f.op r.answer)
+
+pub heeds_is : (k : Asker) (calls : List (Option Running)) (m : Message) → row_heeds k calls m ≡ heeding k calls m ++ row_rests (asker_turn k (heeding k calls m))
+heeds_is k calls (message.Reply r) = by (same_life r.who k.who && r.boot == k.boot) where
+  by : (test : Bool) → row_reply k calls r test ≡ heeding_reply k calls r test ++ row_rests (asker_turn k (heeding_reply k calls r test))
+  by true = hears_is k calls r (find_flight r.xid.0 k.flights)
   by false = refl
-heeds_is k _ = refl
+heeds_is k calls _ = refl

@@ -1,4 +1,5 @@
 pub mod Growth
+pub mod Slots
 pub mod Sending
 pub mod Hearing
 pub mod Whole

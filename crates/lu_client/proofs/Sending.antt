@@ -1,5 +1,5 @@
 -- A request that the import sends is the one that the row sends from the front of the queue.
-use Rattle.std.proofs.Common.{◌≡◌, ℕ, zero, suc, max, ◌+◌, ◌<◌, ◌≤◌, Bool, true, false, ◌==◌, ◌||◌, nat_lt, if◌then◌else◌, List, [], ◌∷◌, ◌++◌, length, map, Option, ◌⊎◌, inl, inr, true≢false, refl, sym, ap, subst, ◌∙◌, arith}
+use Rattle.std.proofs.Common.{◌≡◌, ℕ, zero, suc, max, ◌+◌, ◌<◌, ◌≤◌, Bool, true, false, ◌==◌, ◌||◌, nat_lt, if◌then◌else◌, List, [], ◌∷◌, ◌++◌, length, map, Option, Some, ◌⊎◌, inl, inr, true≢false, refl, sym, ap, subst, ◌∙◌, arith}
 use Rattle.std.proofs.lemmas.List.{length-map, map-append, length_push}
 use Rattle.std.proofs.lemmas.Bool.{cases_lt}
 use Rattle.std.proofs.lemmas.Bool.Decides.{nat_tests}
@@ -13,13 +13,13 @@ use Rattle.lu_trace.specs.declared.traces.Step.{Step}
 use Rattle.lu_import.specs.declared.requests.InFlight.{InFlight}
 use Rattle.lu_import.specs.InFlights.{IsLeastFree, has_tag as import_has_tag}
 use Rattle.lu_import.specs.Imports.{ImportState, IsSent, Sends, sent_again}
-use Rattle.lu_table.specs.Words.{Flight, Queued, Entry, Flies, Send}
-use Rattle.lu_table.specs.Calls.{Begun}
-use Rattle.lu_table.specs.Imports.{has_tag, above_tags, free_from, free_tag}
-use Rattle.lu_table.specs.ClientRows.{Asker, row_sent, row_resends, next_flight}
-use Rattle.lu_table.specs.Steps.{asker_turn}
+use Rattle.lu_words.specs.Carried.{Flight, Queued, Running}
+use Rattle.lu_words.specs.Words.{Entry, Flies, Send}
+use Rattle.lu_client_rows.specs.Imports.{has_tag, above_tags, free_from, free_tag}
+use Rattle.lu_client_rows.specs.States.{Asker, asker_turn}
+use Rattle.lu_client_rows.specs.Rows.{row_sent, row_rests, row_resends, next_flight}
 use Rattle.lu_client.specs.Clients.{queued_of, flight_of, asker_of, state_of}
-use Rattle.lu_client.specs.Turns.{with_entry, with_entries, after_entries, sends_of, front_sent, posted}
+use Rattle.lu_client.specs.Turns.{with_entry, with_entries, after_entries, front_sent, posted}
 use Rattle.lu_client.proofs.Growth.{sends_free, front_calls, after_is}
 
 -- ---- the least tag that is free
@@ -64,13 +64,13 @@ least_free requests tag least =
 -- ---- the request at the front of the queue
 
 -- the row sends the front, and then what has room after it
-front_row : (who : Who) (boot limit last : ℕ) (q : Queued) (queue : List Queued) (flights : List Flight) → nat_lt (length flights) limit ≡ true → (k : Asker) → k ≡ record { who = who; boot = boot; limit = limit; last = last; queue = q ∷ queue; flights = flights } → sends_of k ≡ front_sent k true ++ sends_of (asker_turn k (front_sent k true))
+front_row : (who : Who) (boot limit last : ℕ) (q : Queued) (queue : List Queued) (flights : List Flight) → nat_lt (length flights) limit ≡ true → (k : Asker) → k ≡ record { who = who; limit = limit; target = 0; boot = boot; last = last; queue = q ∷ queue; flights = flights } → row_rests k ≡ front_sent k true ++ row_rests (asker_turn k (front_sent k true))
 front_row who boot limit last q queue flights room k e = subst Whole (sym e) whole where
   Whole : Asker → Type 0
-  Whole j = sends_of j ≡ front_sent j true ++ sends_of (asker_turn j (front_sent j true))
+  Whole j = row_rests j ≡ front_sent j true ++ row_rests (asker_turn j (front_sent j true))
 
   before : Asker
-  before = record { who = who; boot = boot; limit = limit; last = last; queue = q ∷ queue; flights = flights }
+  before = record { who = who; limit = limit; target = 0; boot = boot; last = last; queue = q ∷ queue; flights = flights }
 
   sent : Flight
   sent = next_flight last flights q
@@ -79,22 +79,22 @@ front_row who boot limit last q queue flights room k e = subst Whole (sym e) who
   whole = rw room (ap (λ (es : List Entry). Flies 0 sent ∷ row_sent before sent ∷ es) (sym (sends_free before (last + 1) queue (flights ++ sent ∷ []) (last + 1) (flights ++ sent ∷ []) queue)))
 
 -- the message that the import gives is that of the row
-front_is : (old new : ImportState) (request : RequestOf) (sent : IsSent old new request) → front_sent (asker_of old) true ≡ Flies 0 (record { xid = request.xid.0; tag = request.tag; op = request.op; slot = sent.slot }) ∷ Send (Target 0) (message.Request request) ∷ []
+front_is : (old new : ImportState) (request : RequestOf) (sent : IsSent old new request) → front_sent (asker_of old) true ≡ Flies 0 (record { xid = request.xid.0; tag = request.tag; op = request.op; slot = Some sent.slot }) ∷ Send (Target 0) (message.Request request) ∷ []
 front_is old new request sent = rw (sent.front, ← sent.number, ← least_free old.in_flight request.tag sent.tag, ← sent.who, ← sent.boot) refl
 
 asker_is : (old new : ImportState) (request : RequestOf) (sent : IsSent old new request) → asker_of new ≡ asker_turn (asker_of old) (front_sent (asker_of old) true)
 asker_is old new request sent = rw (front_is old new request sent) (ap asker_of sent.after ∙ rw (sent.front, map-append, sent.number) refl)
 
-row_is : (old new : ImportState) (request : RequestOf) → IsSent old new request → sends_of (asker_of old) ≡ front_sent (asker_of old) true ++ sends_of (asker_of new)
+row_is : (old new : ImportState) (request : RequestOf) → IsSent old new request → row_rests (asker_of old) ≡ front_sent (asker_of old) true ++ row_rests (asker_of new)
 row_is old new request sent =
-    let q : Queued = record { slot = sent.slot; op = request.op } in
+    let q : Queued = record { slot = Some sent.slot; op = request.op } in
     let count : length (map flight_of old.in_flight) ≡ length old.in_flight = length-map old.in_flight flight_of in
     let room : nat_lt (length (map flight_of old.in_flight)) old.flight ≡ true = grind (arith, nat_tests, sent.room, count) in
     front_row old.who old.boot old.flight old.last q (map queued_of new.queue) (map flight_of old.in_flight) room (asker_of old) (rw sent.front refl)
-    ∙ ap (λ (j : Asker). front_sent (asker_of old) true ++ sends_of j) (sym (asker_is old new request sent))
+    ∙ ap (λ (j : Asker). front_sent (asker_of old) true ++ row_rests j) (sym (asker_is old new request sent))
 
 -- whatever message it is
-pub row_sent_is : (old new : ImportState) (m : Message) → Sends old new m → sends_of (asker_of old) ≡ front_sent (asker_of old) true ++ sends_of (asker_of new)
+pub row_sent_is : (old new : ImportState) (m : Message) → Sends old new m → row_rests (asker_of old) ≡ front_sent (asker_of old) true ++ row_rests (asker_of new)
 row_sent_is old new (message.Request request) sent = row_is old new request sent
 row_sent_is old new _ sent = absurd sent
 
@@ -102,9 +102,9 @@ pub asker_sent_is : (old new : ImportState) (m : Message) → Sends old new m �
 asker_sent_is old new (message.Request request) sent = asker_is old new request sent
 asker_sent_is old new _ sent = absurd sent
 
-pub after_sent_is : (at : At) (client : ℕ) (spent : Bool) (old new : ImportState) (calls : List (Option Begun)) (m : Message) → Sends old new m → state_of client spent new calls ≡ after_entries at (state_of client spent old calls) (front_sent (asker_of old) true)
-after_sent_is at client spent old new calls m sent =
-    after_is at (state_of client spent old calls) (front_sent (asker_of old) true) (asker_of new) calls (asker_sent_is old new m sent) (sym (front_calls at calls (asker_of old) true))
+pub after_sent_is : (client : ℕ) (spent : Bool) (old new : ImportState) (calls : List (Option Running)) (m : Message) → Sends old new m → state_of client spent new calls ≡ after_entries (state_of client spent old calls) (front_sent (asker_of old) true)
+after_sent_is client spent old new calls m sent =
+    after_is (state_of client spent old calls) (front_sent (asker_of old) true) (asker_of new) calls (asker_sent_is old new m sent) (sym (front_calls calls (asker_of old) true))
 
 pub step_sent_is : (at : At) (step : Step) (old new : ImportState) (m : Message) → Sends old new m → with_entry at step (Send (Target 0) m) ≡ with_entries at step (front_sent (asker_of old) true)
 step_sent_is at step old new (message.Request request) sent = rw (front_is old new request sent) refl

@@ -1,15 +1,16 @@
 -- A client as its steps see it: its calls, slot by slot, and what it asks of the metadata target (Lustre
 -- Operations Manual, recovery: the import; the slots of calls are this project's profile).
-use Rattle.std.specs.Prelude.{◌≡◌, ℕ, ◌≤◌, Bool, true, false, List, [], ◌∷◌, length, map, Option, None, IsSome, IsSomeAnd, slice_get}
+use Rattle.std.specs.Prelude.{◌≡◌, ℕ, ◌≤◌, Bool, true, false, List, [], ◌∷◌, length, map, Option, Some, None, IsSome, IsSomeAnd, slice_get}
 use Rattle.lu_base.specs.declared.ids.At.{At}
 use Rattle.lu_base.specs.declared.ids.Node.TheVariants.{Client as AtClient}
 use Rattle.lu_base.specs.declared.ids.Stamp.{Stamp}
 use Rattle.lu_import.specs.declared.requests.InFlight.{InFlight}
 use Rattle.lu_import.specs.declared.requests.Waiting.{Waiting}
 use Rattle.lu_import.specs.Imports.{ImportState, IsSound as IsSoundImport}
-use Rattle.lu_table.specs.Words.{Queued, Flight}
-use Rattle.lu_table.specs.Calls.{Begun}
-use Rattle.lu_table.specs.ClientRows.{Asker}
+use Rattle.lu_msg.specs.declared.calls.Call.{Call}
+use Rattle.lu_words.specs.Carried.{Queued, Flight, Asked, Running}
+use Rattle.lu_client_rows.specs.Calls.{begun, first_life}
+use Rattle.lu_client_rows.specs.States.{Asker}
 
 -- The client's number, whether memory ran out in a step, what it asks of the metadata target, and its calls that
 -- aren't told, by slot.
@@ -17,7 +18,7 @@ pub record ClientState : Type 0 where
   pub client : ℕ
   pub spent : Bool
   pub asker : Asker
-  pub calls : List (Option Begun)
+  pub calls : List (Option Running)
 
 -- a turn of the client
 abbrev pub turn_of : Stamp → ClientState → At
@@ -33,7 +34,7 @@ fresh client flight =
     record {
       client = client;
       spent = false;
-      asker = record { who = record { client = client; life = 1 }; boot = 1; limit = flight; last = 0; queue = []; flights = [] };
+      asker = record { who = first_life client; limit = flight; target = 0; boot = 1; last = 0; queue = []; flights = [] };
       calls = None ∷ None ∷ None ∷ None ∷ [];
     }
 
@@ -41,7 +42,8 @@ fresh client flight =
 -- `limit` requests in flight, which is 1 to 8.
 pub record IsSound (c : ClientState) : Type 0 where
   pub slots : length c.calls ≡ 4
-  pub who : c.asker.who ≡ record { client = c.client; life = 1 }
+  pub who : c.asker.who ≡ first_life c.client
+  pub target : c.asker.target ≡ 0
   pub boot : c.asker.boot ≡ 1
   pub least : 1 ≤ c.asker.limit
   pub most : c.asker.limit ≤ 8
@@ -49,26 +51,31 @@ pub record IsSound (c : ClientState) : Type 0 where
 
 -- ---- how a client is kept
 
+-- a call that isn't told waits for the answer to its request
+abbrev pub untold : At → Call → Running
+untold at call = record (begun at call) { asking = Asked }
+
 -- what waits to be sent, and what is in flight, as the rows have them
 abbrev pub queued_of : Waiting → Queued
-queued_of waiting = record { slot = waiting.slot; op = waiting.op }
+queued_of waiting = record { slot = Some waiting.slot; op = waiting.op }
 
 abbrev pub flight_of : InFlight → Flight
-flight_of request = record { xid = request.xid.0; tag = request.tag; op = request.op; slot = request.slot }
+flight_of request = record { xid = request.xid.0; tag = request.tag; op = request.op; slot = Some request.slot }
 
 -- the client's side of the metadata target, as the rows read it
 abbrev pub asker_of : ImportState → Asker
 asker_of import =
     record {
       who = import.who;
-      boot = import.boot;
       limit = import.flight;
+      target = 0;
+      boot = import.boot;
       last = import.last;
       queue = map queued_of import.queue;
       flights = map flight_of import.in_flight;
     }
 
-abbrev pub state_of : ℕ → Bool → ImportState → List (Option Begun) → ClientState
+abbrev pub state_of : ℕ → Bool → ImportState → List (Option Running) → ClientState
 state_of client spent import calls = record { client = client; spent = spent; asker = asker_of import; calls = calls }
 
 -- the import is that of the metadata target, which serves the life

@@ -1,14 +1,14 @@
 //! A client's calls that have begun.
 
 ghost use Rattle.std.specs.Prelude.{◌≡◌, IfOk, Option};
-ghost use Rattle.lu_table.specs.Calls.{operation_of};
+ghost use Rattle.lu_client_rows.specs.Calls.{operation_of};
 
 use lu_base::{At, Duplicate, Memory};
 use lu_msg::{Call, Op};
 use std::alloc::Global;
 use std::marker::Model;
 
-/// A call that has begun and isn't told, and in which turn it began.
+/// A call that isn't told, and in which turn it began. Its request is queued or in flight.
 #[derive(Debug, Drop)]
 pub(crate) struct Untold {
     pub(crate) at: At,
@@ -16,11 +16,12 @@ pub(crate) struct Untold {
 }
 
 impl Model for Untold {
-    ghost use Rattle.lu_table.specs.Calls.{Begun};
+    ghost use Rattle.lu_words.specs.Carried.{Running};
+    ghost use Rattle.lu_client.specs.Clients.{untold};
 
-    ghost Value = { Begun };
+    ghost Value = { Running };
 
-    ghost view = { λ b. record { at = b.at; call = b.call } };
+    ghost view = { λ b. untold b.at b.call };
 }
 
 /// The operation that a call becomes; none of a call that the table doesn't have.

@@ -1,20 +1,21 @@
 //! A client's turns.
 
-ghost use Rattle.std.specs.Prelude.{◌≡◌, ◌+◌, ◌^◌, ◌<◌, ◌≤◌, ◌++◌, ◌∷◌, [], length, true, false, if◌then◌else◌, Err, None, ◌↔◌, IfOk, OnOk, OnErr, IsErr, IsSomeAnd, slice_set};
-ghost use Rattle.lu_table.specs.Calls.{operation_of};
-ghost use Rattle.lu_table.specs.ClientRows.{row_call, row_takes, row_tick, row_dies, row_resends};
-ghost use Rattle.lu_table.specs.Steps.{step_of};
-ghost use Rattle.lu_table.specs.Runs.{IsAsked};
+ghost use Rattle.std.specs.Prelude.{◌≡◌, ◌+◌, ◌^◌, ◌<◌, ◌≤◌, ◌++◌, ◌∷◌, [], length, true, false, if◌then◌else◌, Err, None, ◌↔◌, IfOk, OnOk, OnErr, IsErr, Some, IsSome, is_some, slice_set};
+ghost use Rattle.lu_base.specs.declared.ids.Node.TheVariants.{Target};
+ghost use Rattle.lu_trace.specs.Turns.{no_step};
+ghost use Rattle.lu_words.specs.Given.{step_of};
+ghost use Rattle.lu_client_rows.specs.Calls.{call_on, operation_of};
+ghost use Rattle.lu_client_rows.specs.Rows.{row_call, row_takes, row_tick, row_dies, row_resends, row_rests, row_tells};
 ghost use Rattle.lu_client.specs.Clients.{turn_of, HasCall, fresh, IsSound};
-ghost use Rattle.lu_client.specs.Turns.{with_entries, after_entries, sends_of, front_sent, heeding};
+ghost use Rattle.lu_client.specs.Turns.{with_entries, after_entries, front_sent, heeding};
 
 use super::calls::{Untold, operation_of};
 use super::faults::ClientFault;
-use super::turns::Turn;
+use super::fits::answer_fits;
 use lu_base::{At, Duplicate, Memory, Node, Stamp, TargetId, Who};
 use lu_import::Import;
 use lu_msg::{Call, Message, Post, Reply};
-use lu_trace::{Entry, Step};
+use lu_trace::{Entry, Step, Turn};
 use std::alloc::Global;
 use std::marker::Model;
 
@@ -69,15 +70,17 @@ impl Client {
         })
     }
 
-    /// A call begins on this slot, 0 to 3: a `mkdir`, a `rmdir`, or a `lookup` of another path than `/`.
+    /// A call that becomes an operation, a `lookup`, a `mkdir` or a `rmdir`, begins on this slot, 0 to 3.
     /// Its operation is queued, and what has room is sent. `Busy` where the slot has a call that isn't
     /// told; the client is then as before. Fewer than 2^63 requests were sent before.
     pub fn begin(&mut self, stamp: Stamp, slot: u8, call: Call) -> Result<Step, ClientFault>
         requires slot { slot < 4 }
-        requires asked { IsSomeAnd (operation_of call) IsAsked }
+        requires asked { IsSome (operation_of call) }
         requires numbers { self.old.asker.last < 2 ^ 63 }
-        ensures step { IfOk result (λ step. step ≡ step_of (turn_of stamp self.old) (row_call self.old.asker slot call None)) }
-        ensures after { OnOk result (self.new ≡ after_entries (turn_of stamp self.old) self.old (row_call self.old.asker slot call None)) }
+        ensures step { IfOk result (λ step. step
+            ≡ step_of (turn_of stamp self.old) (row_call self.old.asker (turn_of stamp self.old) slot call None)) }
+        ensures after { OnOk result (self.new
+            ≡ after_entries self.old (row_call self.old.asker (turn_of stamp self.old) slot call None)) }
         ensures busy { result ≡ Err ClientFault.Busy ↔ ((self.old.spent ≡ false) × HasCall self.old slot) }
         ensures kept { result ≡ Err ClientFault.Busy → self.new ≡ self.old }
         ensures spent { result ≡ Err ClientFault.Memory → self.new.spent ≡ true }
@@ -98,8 +101,9 @@ impl Client {
     }
 
     /// A message of the metadata target comes, the only one that clients ask so far. A reply to a request in
-    /// flight, of this life and boot, is heard, and its call told; anything else only makes its `take`. Then
-    /// what has room is sent. Fewer than 2^63 requests were sent before.
+    /// flight, of this life and boot, is heard where its answer fits the operation, and the call on its slot,
+    /// if any, is told; anything else only makes its `take`. Then what has room is sent. Fewer than 2^63
+    /// requests were sent before.
     pub fn deliver(
         &mut self,
         stamp: Stamp,
@@ -108,8 +112,11 @@ impl Client {
     ) -> Result<Step, Memory>
         requires from { _from.0 ≡ 0 }
         requires numbers { self.old.asker.last < 2 ^ 63 }
-        ensures step { IfOk result (λ step. step ≡ step_of (turn_of stamp self.old) (row_takes self.old.asker 0 message.now)) }
-        ensures after { OnOk result (self.new ≡ after_entries (turn_of stamp self.old) self.old (row_takes self.old.asker 0 message.now)) }
+        ensures step { IfOk result (λ step. step
+            ≡ step_of (turn_of stamp self.old)
+            (row_takes self.old.asker self.old.calls 0 (Target _from.0) message.now)) }
+        ensures after { OnOk result (self.new
+            ≡ after_entries self.old (row_takes self.old.asker self.old.calls 0 (Target _from.0) message.now)) }
         ensures spent { OnErr result (self.new.spent ≡ true) }
         ensures again { self.old.spent ≡ true → IsErr result }
         ensures counted { self.new.asker.last ≤ self.old.asker.last + 8 }
@@ -124,7 +131,7 @@ impl Client {
         self.heed(&mut turn, message)?;
         self.send_all(&mut turn)?;
         self.spent = false;
-        Ok(turn.done())
+        Ok(turn.into_step())
     }
 
     /// The client's time goes on: the requests in flight are sent again, in rising number. Then what has
@@ -132,7 +139,7 @@ impl Client {
     pub fn tick(&mut self, stamp: Stamp) -> Result<Step, Memory>
         requires numbers { self.old.asker.last < 2 ^ 63 }
         ensures step { IfOk result (λ step. step ≡ step_of (turn_of stamp self.old) (row_tick self.old.asker)) }
-        ensures after { OnOk result (self.new ≡ after_entries (turn_of stamp self.old) self.old (row_tick self.old.asker)) }
+        ensures after { OnOk result (self.new ≡ after_entries self.old (row_tick self.old.asker)) }
         ensures spent { OnErr result (self.new.spent ≡ true) }
         ensures again { self.old.spent ≡ true → IsErr result }
         ensures counted { self.new.asker.last ≤ self.old.asker.last + 8 }
@@ -147,7 +154,7 @@ impl Client {
         self.send_again(&mut turn)?;
         self.send_all(&mut turn)?;
         self.spent = false;
-        Ok(turn.done())
+        Ok(turn.into_step())
     }
 
     /// The client dies. It is to make no further turn.
@@ -166,13 +173,12 @@ impl Client {
         let mut turn = self.turn(stamp);
         turn.note(Entry::Die)?;
         self.spent = false;
-        Ok(turn.done())
+        Ok(turn.into_step())
     }
 
     /// A turn of the client, without lines yet.
     fn turn(&self, stamp: Stamp) -> Turn
-        ensures turn { result.at ≡ turn_of stamp self.now }
-        ensures empty { result.step ≡ record { sends = []; entries = [] } }
+        ensures empty { result ≡ record { at = turn_of stamp self.now; step = no_step } }
     {
         Turn::new(
             self.alloc,
@@ -186,10 +192,12 @@ impl Client {
     /// The turn in which a call begins on a free slot.
     fn ask(&mut self, stamp: Stamp, slot: u8, call: Call) -> Result<Step, Memory>
         requires slot { slot < 4 }
-        requires asked { IsSomeAnd (operation_of call) IsAsked }
+        requires asked { IsSome (operation_of call) }
         requires numbers { self.old.asker.last < 2 ^ 63 }
-        ensures step { IfOk result (λ step. step ≡ step_of (turn_of stamp self.old) (row_call self.old.asker slot call None)) }
-        ensures after { OnOk result (self.new ≡ after_entries (turn_of stamp self.old) self.old (row_call self.old.asker slot call None)) }
+        ensures step { IfOk result (λ step. step
+            ≡ step_of (turn_of stamp self.old) (row_call self.old.asker (turn_of stamp self.old) slot call None)) }
+        ensures after { OnOk result (self.new
+            ≡ after_entries self.old (row_call self.old.asker (turn_of stamp self.old) slot call None)) }
         ensures spent { self.new.spent ≡ self.old.spent }
         ensures counted { self.new.asker.last ≤ self.old.asker.last + 8 }
         ensures sound { IsSound self.new }
@@ -201,15 +209,22 @@ impl Client {
         self.import.queue(slot, op)?;
         let copied = call.copy(self.alloc)?;
         turn.note(Entry::Begin { slot, call: copied })?;
-        self.put(slot, Some(Untold { at: turn.at, call }));
+        self.put(
+            slot,
+            Some(Untold {
+                at: turn.at(),
+                call,
+            }),
+        );
         self.send_all(&mut turn)?;
-        Ok(turn.done())
+        Ok(turn.into_step())
     }
 
     /// Heeds a message: the reply to a request in flight is heard.
     fn heed(&mut self, turn: &mut Turn, message: &Message) -> Result<(), Memory>
-        ensures step { OnOk result (turn.new.step ≡ with_entries turn.old.at turn.old.step (heeding self.old.asker message.now)) }
-        ensures after { OnOk result (self.new ≡ after_entries turn.old.at self.old (heeding self.old.asker message.now)) }
+        ensures step { OnOk result (turn.new.step
+            ≡ with_entries turn.old.at turn.old.step (heeding self.old.asker self.old.calls message.now)) }
+        ensures after { OnOk result (self.new ≡ after_entries self.old (heeding self.old.asker self.old.calls message.now)) }
         ensures turn { turn.new.at ≡ turn.old.at }
         ensures spent { self.new.spent ≡ self.old.spent }
         ensures counted { self.new.asker.last ≡ self.old.asker.last }
@@ -221,29 +236,58 @@ impl Client {
         }
     }
 
-    /// Hears a reply, if it is to a request in flight, of this life and boot: its call is told.
+    /// Hears a reply, if it is to a request in flight, of this life and boot, and an answer to its operation:
+    /// the call on the request's slot is told.
     fn hear(&mut self, turn: &mut Turn, reply: &Reply) -> Result<(), Memory>
-        ensures step { OnOk result (turn.new.step ≡ with_entries turn.old.at turn.old.step (heeding self.old.asker (Message.Reply reply.now))) }
-        ensures after { OnOk result (self.new ≡ after_entries turn.old.at self.old (heeding self.old.asker (Message.Reply reply.now))) }
+        ensures step { OnOk result (turn.new.step
+            ≡ with_entries turn.old.at turn.old.step
+            (heeding self.old.asker self.old.calls (Message.Reply reply.now))) }
+        ensures after { OnOk result (self.new
+            ≡ after_entries self.old (heeding self.old.asker self.old.calls (Message.Reply reply.now))) }
         ensures turn { turn.new.at ≡ turn.old.at }
         ensures spent { self.new.spent ≡ self.old.spent }
         ensures counted { self.new.asker.last ≡ self.old.asker.last }
         ensures sound { IsSound self.new }
     {
-        let Some(slot) = self.import.slot(reply.xid) else {
+        let Some(request) = self.import.find(reply.xid) else {
             return Ok(());
         };
+        if !answer_fits(&request.op, &reply.answer) {
+            return Ok(());
+        }
+        let slot = request.slot;
         if !self.import.hear(self.alloc, reply)? {
             return Ok(());
         }
         let target = TargetId(0);
         let xid = reply.xid;
         turn.note(Entry::Heard { target, xid })?;
+        self.tell(turn, slot, reply)
+    }
+
+    /// The call on the slot, if it has one, is told the reply's answer: the slot is free.
+    fn tell(&mut self, turn: &mut Turn, slot: u8, reply: &Reply) -> Result<(), Memory>
+        ensures step { OnOk result (turn.new.step
+            ≡ with_entries turn.old.at turn.old.step (row_tells self.old.calls (Some slot) reply.now)) }
+        ensures after { OnOk result (self.new ≡ record self.old { calls = slice_set self.old.calls slot None }) }
+        ensures turn { turn.new.at ≡ turn.old.at }
+        ensures kept { OnErr result (self.new ≡ self.old) }
+    {
+        if !self.has_call(slot) {
+            return Ok(());
+        }
         let answer = reply.answer.copy(self.alloc)?;
         let at = reply.at;
         turn.note(Entry::Told { slot, at, answer })?;
         self.put(slot, None);
         Ok(())
+    }
+
+    /// Whether the slot has a call that isn't told.
+    fn has_call(&self, slot: u8) -> bool
+        ensures has { result ≡ is_some (call_on slot self.now.calls) }
+    {
+        matches!(self.calls.get(slot as usize), Some(Some(_)))
     }
 
     /// The slot has this call from now on, or none.
@@ -257,7 +301,8 @@ impl Client {
 
     /// Sends the requests in flight again, in rising number.
     fn send_again(&self, turn: &mut Turn) -> Result<(), Memory>
-        ensures step { OnOk result (turn.new.step ≡ with_entries turn.old.at turn.old.step (row_resends self.now.asker self.now.asker.flights)) }
+        ensures step { OnOk result (turn.new.step
+            ≡ with_entries turn.old.at turn.old.step (row_resends self.now.asker self.now.asker.flights)) }
         ensures turn { turn.new.at ≡ turn.old.at }
     {
         let again = self.import.again(self.alloc)?;
@@ -270,8 +315,8 @@ impl Client {
     /// Sends what has room from the queue.
     fn send_all(&mut self, turn: &mut Turn) -> Result<(), Memory>
         requires numbers { self.old.asker.last < 2 ^ 63 }
-        ensures step { OnOk result (turn.new.step ≡ with_entries turn.old.at turn.old.step (sends_of self.old.asker)) }
-        ensures after { OnOk result (self.new ≡ after_entries turn.old.at self.old (sends_of self.old.asker)) }
+        ensures step { OnOk result (turn.new.step ≡ with_entries turn.old.at turn.old.step (row_rests self.old.asker)) }
+        ensures after { OnOk result (self.new ≡ after_entries self.old (row_rests self.old.asker)) }
         ensures spent { self.new.spent ≡ self.old.spent }
         ensures counted { self.new.asker.last ≤ self.old.asker.last + 8 }
         ensures sound { IsSound self.new }
@@ -284,9 +329,11 @@ impl Client {
     /// be.
     fn send_front(&mut self, turn: &mut Turn) -> Result<bool, Memory>
         requires numbers { self.old.asker.last + 1 < 2 ^ 64 }
-        ensures row { IfOk result (λ sent. sends_of self.old.asker ≡ (if sent then front_sent self.old.asker true ++ sends_of self.new.asker else [])) }
-        ensures step { IfOk result (λ sent. turn.new.step ≡ with_entries turn.old.at turn.old.step (front_sent self.old.asker sent)) }
-        ensures after { IfOk result (λ sent. self.new ≡ after_entries turn.old.at self.old (front_sent self.old.asker sent)) }
+        ensures row { IfOk result (λ sent. row_rests self.old.asker
+            ≡ (if sent then front_sent self.old.asker true ++ row_rests self.new.asker else [])) }
+        ensures step { IfOk result (λ sent. turn.new.step
+            ≡ with_entries turn.old.at turn.old.step (front_sent self.old.asker sent)) }
+        ensures after { IfOk result (λ sent. self.new ≡ after_entries self.old (front_sent self.old.asker sent)) }
         ensures turn { turn.new.at ≡ turn.old.at }
         ensures spent { self.new.spent ≡ self.old.spent }
         ensures shorter { IfOk result (λ sent. length self.new.asker.queue + (if sent then 1 else 0) ≡ length self.old.asker.queue) }

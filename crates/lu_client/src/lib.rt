@@ -5,9 +5,9 @@
 mod calls;
 mod clients;
 mod faults;
+mod fits;
 #[cfg(test)]
 mod tests;
-mod turns;
 
 pub use clients::Client;
 pub use faults::ClientFault;

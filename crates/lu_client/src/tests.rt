@@ -1,6 +1,5 @@
-ghost use Rattle.std.specs.Prelude.{◌≡◌, ◌+◌, ◌*◌, ◌<◌, ◌≤◌, length, IfOk, IsSomeAnd};
-ghost use Rattle.lu_table.specs.Calls.{operation_of};
-ghost use Rattle.lu_table.specs.Runs.{IsAsked};
+ghost use Rattle.std.specs.Prelude.{◌≡◌, ◌+◌, ◌*◌, ◌<◌, ◌≤◌, length, IfOk, IsSome};
+ghost use Rattle.lu_client_rows.specs.Calls.{operation_of};
 
 use super::*;
 use lu_base::{At, Fid, Locks, Memory, Name, Node, Numbers, Path, Stamp, TargetId, Txn, Who, Xid};
@@ -58,7 +57,7 @@ fn path(alloc: Global, name: &[u8]) -> Result<Path, Memory>
 }
 
 fn call(alloc: Global, verb: Verb, name: &[u8]) -> Result<Call, Memory>
-    ensures { IfOk result (λ call. IsSomeAnd (operation_of call) IsAsked) }
+    ensures { IfOk result (λ call. IsSome (operation_of call)) }
 {
     let path = path(alloc, name)?;
     match verb {
@@ -217,13 +216,13 @@ fn a_second_call_waits_for_the_first(rt: HostRuntime) -> Result<(), Fail> {
         ),
         (
             5,
-            Event::Reply(FIRST, 1, 1, 4, Told::Done),
-            b"5 c0 take 0\n5 c0 heard t0 1\n5 c0 told 2 4:t0 ok\n5 c0 send 0 t0 req c0.1 1 2 mkdir /b\nend\n",
+            Event::Reply(FIRST, 1, 1, 4, Told::Made(4294967297)),
+            b"5 c0 take 0\n5 c0 heard t0 1\n5 c0 told 2 4:t0 ok 1.1\n5 c0 send 0 t0 req c0.1 1 2 mkdir /b\nend\n",
         ),
         (
             7,
-            Event::Reply(FIRST, 1, 2, 6, Told::Done),
-            b"7 c0 take 0\n7 c0 heard t0 2\n7 c0 told 0 6:t0 ok\n7 c0 send 0 t0 req c0.1 1 3 mkdir /c\nend\n",
+            Event::Reply(FIRST, 1, 2, 6, Told::Made(4294967297)),
+            b"7 c0 take 0\n7 c0 heard t0 2\n7 c0 told 0 6:t0 ok 1.1\n7 c0 send 0 t0 req c0.1 1 3 mkdir /c\nend\n",
         ),
     ];
     runs(&rt, rt.alloc(), 1, rows.as_slice())
@@ -254,8 +253,8 @@ fn two_requests_are_in_flight(rt: HostRuntime) -> Result<(), Fail> {
         ),
         (
             6,
-            Event::Reply(FIRST, 1, 2, 5, Told::Done),
-            b"6 c0 take 0\n6 c0 heard t0 2\n6 c0 told 1 5:t0 ok\n6 c0 send 0 t0 req c0.1 1 3/1 mkdir /c\nend\n",
+            Event::Reply(FIRST, 1, 2, 5, Told::Made(4294967297)),
+            b"6 c0 take 0\n6 c0 heard t0 2\n6 c0 told 1 5:t0 ok 1.1\n6 c0 send 0 t0 req c0.1 1 3/1 mkdir /c\nend\n",
         ),
         (
             7,
@@ -269,7 +268,7 @@ fn two_requests_are_in_flight(rt: HostRuntime) -> Result<(), Fail> {
 
 #[test]
 fn other_messages_are_only_taken(rt: HostRuntime) -> Result<(), Fail> {
-    let rows: [Row; 8] = [
+    let rows: [Row; 9] = [
         (
             1,
             Event::Call(0, Verb::Mkdir, b"a"),
@@ -277,34 +276,39 @@ fn other_messages_are_only_taken(rt: HostRuntime) -> Result<(), Fail> {
         ),
         (
             2,
-            Event::Reply(SECOND, 1, 1, 9, Told::Done),
+            Event::Reply(SECOND, 1, 1, 9, Told::Made(4294967297)),
             b"2 c0 take 0\nend\n",
         ),
         (
             3,
-            Event::Reply(OTHER, 1, 1, 9, Told::Done),
+            Event::Reply(OTHER, 1, 1, 9, Told::Made(4294967297)),
             b"3 c0 take 0\nend\n",
         ),
         (
             4,
-            Event::Reply(FIRST, 2, 1, 9, Told::Done),
+            Event::Reply(FIRST, 2, 1, 9, Told::Made(4294967297)),
             b"4 c0 take 0\nend\n",
         ),
         (
             5,
-            Event::Reply(FIRST, 1, 2, 9, Told::Done),
+            Event::Reply(FIRST, 1, 2, 9, Told::Made(4294967297)),
             b"5 c0 take 0\nend\n",
         ),
         (6, Event::Up, b"6 c0 take 0\nend\n"),
         (
             7,
             Event::Reply(FIRST, 1, 1, 9, Told::Done),
-            b"7 c0 take 0\n7 c0 heard t0 1\n7 c0 told 0 9:t0 ok\nend\n",
+            b"7 c0 take 0\nend\n",
         ),
         (
             8,
-            Event::Reply(FIRST, 1, 1, 9, Told::Done),
-            b"8 c0 take 0\nend\n",
+            Event::Reply(FIRST, 1, 1, 9, Told::Made(4294967297)),
+            b"8 c0 take 0\n8 c0 heard t0 1\n8 c0 told 0 9:t0 ok 1.1\nend\n",
+        ),
+        (
+            9,
+            Event::Reply(FIRST, 1, 1, 9, Told::Made(4294967297)),
+            b"9 c0 take 0\nend\n",
         ),
     ];
     runs(&rt, rt.alloc(), 1, rows.as_slice())

@@ -14,10 +14,10 @@ has_number number requests = list_any (λ request. request.xid.0 == number) requ
 abbrev pub without : ℕ → List InFlight → List InFlight
 without number requests = filter (λ request. not (request.xid.0 == number)) requests
 
--- The slot of the request of this number.
-abbrev pub slot_of : ℕ → List InFlight → Option ℕ
-slot_of number [] = None
-slot_of number (request ∷ requests) = if request.xid.0 == number then Some request.slot else slot_of number requests
+-- The request of this number.
+abbrev pub request_of : ℕ → List InFlight → Option InFlight
+request_of number [] = None
+request_of number (request ∷ requests) = if request.xid.0 == number then Some request else request_of number requests
 
 -- Whether a request has this tag.
 abbrev pub has_tag : ℕ → List InFlight → Bool

@@ -1,10 +1,11 @@
 //! A client's side of one target (Lustre Operations Manual, recovery: the import).
 
 ghost use Rattle.std.specs.Prelude.{◌≡◌, ℕ, ◌+◌, ◌^◌, ◌<◌, ◌≤◌, Bool, false, if◌then◌else◌, List, [], ◌∷◌, ◌++◌, length, map, slice_get, IfOk, OnOk, OnErr, IfSome, IfNone, IsSomeAnd, is_some};
-ghost use Rattle.lu_import.specs.InFlights.{slot_of};
+ghost use Rattle.std.specs.Option.{option_copied};
+ghost use Rattle.lu_import.specs.InFlights.{request_of};
 ghost use Rattle.lu_import.specs.Imports.{fresh, MustWait, Sends, hears, heard, sent_again, IsSound};
 
-use super::requests::{InFlight, Waiting, free_tag, front_waits, has_number, slot_of};
+use super::requests::{InFlight, Waiting, free_tag, front_waits, has_number, request_of};
 use lu_base::{Duplicate, Memory, Node, TargetId, Who, Xid};
 use lu_msg::{Message, Op, Post, Reply, Request, Sends};
 use std::alloc::Global;
@@ -160,11 +161,11 @@ impl Import {
         Some((request.xid, &request.op))
     }
 
-    /// The slot of the call that the request in flight of this number is for; none where there is none.
-    pub fn slot(&self, xid: Xid) -> Option<u8>
-        ensures slot { result ≡ slot_of xid.0 self.now.in_flight }
+    /// The request in flight of this number; none where there is none.
+    pub fn find(&self, xid: Xid) -> Option<&InFlight>
+        ensures request { option_copied result ≡ request_of xid.0 self.now.in_flight }
     {
-        slot_of(&self.in_flight, xid)
+        request_of(&self.in_flight, xid)
     }
 
     /// Whether the target serves this life.

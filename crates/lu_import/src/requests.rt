@@ -3,7 +3,7 @@
 ghost use Rattle.std.specs.Prelude.{◌≡◌, ℕ, ◌<◌, ◌≤◌, length};
 ghost use Rattle.std.specs.Option.{option_copied};
 ghost use Rattle.lu_import.specs.Objects.{object, same_object};
-ghost use Rattle.lu_import.specs.InFlights.{has_number, slot_of, has_tag, IsLeastFree, is_busy, front_waits};
+ghost use Rattle.lu_import.specs.InFlights.{has_number, request_of, has_tag, IsLeastFree, is_busy, front_waits};
 
 use lu_base::{Resource, TargetId, Xid};
 use lu_msg::Op;
@@ -58,13 +58,13 @@ pub(crate) fn has_number(requests: &[InFlight], xid: Xid) -> bool
     requests.iter().any(|request| request.xid == xid)
 }
 
-/// The slot of the request of this number.
-pub(crate) fn slot_of(requests: &[InFlight], xid: Xid) -> Option<u8>
-    ensures { result ≡ slot_of xid.0 requests.now }
+/// The request of this number.
+pub(crate) fn request_of(requests: &[InFlight], xid: Xid) -> Option<&InFlight>
+    ensures { option_copied result ≡ request_of xid.0 requests.now }
 {
     for request in requests {
         if request.xid == xid {
-            return Some(request.slot);
+            return Some(request);
         }
     }
     None

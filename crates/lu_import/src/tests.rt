@@ -147,14 +147,14 @@ fn requests_keep_their_slots(rt: HostRuntime) -> Result<(), Fail> {
     let mut import = metadata(alloc, 2);
     import.queue(3, mkdir(alloc, b"a")?)?;
     import.queue(1, mkdir(alloc, b"b")?)?;
-    assert_eq!(rt; import.slot(Xid(1)), None);
+    assert_eq!(rt; import.find(Xid(1)).map(|request| request.slot), None);
     sends(&rt, alloc, &mut import, Some((1, 0)))?;
     sends(&rt, alloc, &mut import, Some((2, 1)))?;
-    assert_eq!(rt; import.slot(Xid(1)), Some(3));
-    assert_eq!(rt; import.slot(Xid(2)), Some(1));
+    assert_eq!(rt; import.find(Xid(1)).map(|request| request.slot), Some(3));
+    assert_eq!(rt; import.find(Xid(2)).map(|request| request.slot), Some(1));
     hears(&rt, alloc, &mut import, 1, true)?;
-    assert_eq!(rt; import.slot(Xid(1)), None);
-    assert_eq!(rt; import.slot(Xid(2)), Some(1));
+    assert_eq!(rt; import.find(Xid(1)).map(|request| request.slot), None);
+    assert_eq!(rt; import.find(Xid(2)).map(|request| request.slot), Some(1));
     Ok(())
 }
 

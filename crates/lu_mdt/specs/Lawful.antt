@@ -1,6 +1,6 @@
 -- The laws of footprints hold of the operations on names.
-use Rattle.std.proofs.Common.{◌≡◌, true, false, refl, sym, ap, subst, ◌∙◌}
-use Rattle.std.specs.Prelude.{ℕ, if◌then◌else◌}
+use Rattle.std.proofs.Common.{◌≡◌, refl, ap, subst}
+use Rattle.std.specs.Prelude.{if◌then◌else◌}
 use Rattle.lu_machine.specs.Footprint as footprint
 use Rattle.lu_machine.specs.Footprint.{Operation, Every}
 use Rattle.lu_machine.proofs.Numbers.{number_is_free}
@@ -20,7 +20,7 @@ names_lawful =
     record {
       answer = λ s t a same agree. (decided s t a same agree).0;
       touched = λ s t a same agree. (decided s t a same agree).1;
-      free = λ s a b is. let h = number_is_free s.osts s.tree a b is in record { touches = h.touches; writes = h.writes; grants = h.grants; changes = h.changes };
+      free = λ s a b is same. let h = number_is_free s.osts s.tree a b is same in record { touches = h.touches; writes = h.writes; grants = h.grants; changes = h.changes };
       refused = λ s a e is. let h = refusals_stay s.osts s.tree a e is in (h.0, h.1, h.2);
       unchanged = λ s a no. ((unchanged_stay s.osts s.tree a no).1, ap (λ v. if v then a.number.0 else s.last) no);
       changed = λ s a yes. (transactions_grant_nothing s.osts s.tree a yes, ap (λ v. if v then a.number.0 else s.last) yes);

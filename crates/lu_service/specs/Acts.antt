@@ -1,12 +1,12 @@
 -- What the operations of a service answer, touch, write, grant and change, and the laws of footprints over that.
-use Rattle.std.specs.Prelude.{◌≡◌, Bool, true, false, List, []}
+use Rattle.std.specs.Prelude.{◌≡◌, ◌⊎◌, Bool, true, false, List, []}
 use Rattle.lu_base.specs.declared.ids.Who.{Who}
 use Rattle.lu_msg.specs.declared.answers.Answer.{Answer}
 use Rattle.lu_msg.specs.declared.answers.Answer.TheVariants.{Refused}
 use Rattle.lu_msg.specs.declared.answers.Errno.{Errno}
 use Rattle.lu_part.specs.declared.parts.Part.{Part}
 use Rattle.lu_part.specs.declared.parts.Want.{Want}
-use Rattle.lu_machine.specs.Footprint.{Operation, Every}
+use Rattle.lu_machine.specs.Footprint.{Operation, asks_life, Every}
 use Rattle.lu_service.specs.Contents.{Contents, Same}
 
 pub record Acts : Type 0 where
@@ -36,8 +36,8 @@ module _ (acts : Acts) where
     pub answer : (s t : Contents) (a : Operation) → s.osts ≡ t.osts → Every (Same s t) (acts.touches s a) → acts.answer s a ≡ acts.answer t a
     -- and the same touched and written parts, locks, and whether it makes a transaction
     pub touched : (s t : Contents) (a : Operation) → s.osts ≡ t.osts → Every (Same s t) (acts.touches s a) → Alike s t a a
-    -- these depend neither on the number that it gets nor on who asks
-    pub free : (s : Contents) (a b : Operation) → a.op ≡ b.op → Alike s s a b
+    -- these depend neither on the number that it gets nor, where it doesn't ask that, on the life that asks
+    pub free : (s : Contents) (a b : Operation) → a.op ≡ b.op → (a.who ≡ b.who) ⊎ (asks_life a.op ≡ false) → Alike s s a b
     -- a refusal makes no transaction, and grants and writes nothing
     pub refused : (s : Contents) (a : Operation) (e : Errno) → acts.answer s a ≡ Refused e → (acts.changes s a ≡ false) × (acts.grants s a ≡ []) × (acts.writes s a ≡ [])
     -- what makes no transaction writes nothing and uses no number

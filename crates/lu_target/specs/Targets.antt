@@ -1,50 +1,80 @@
 -- The metadata target as its steps see it, and as the rows of its turns read it.
-use Rattle.std.specs.Prelude.{◌≡◌, ℕ, ◌+◌, ◌*◌, ◌^◌, ◌<◌, Bool, true, [], map, Option, is_some}
+use Rattle.std.specs.Prelude.{◌≡◌, ℕ, ◌+◌, ◌*◌, ◌^◌, ◌<◌, Bool, true, [], map, Option, Some, None, is_some}
 use Rattle.lu_base.specs.declared.ids.Who.{Who}
 use Rattle.lu_msg.specs.declared.messages.Message.{Message}
 use Rattle.lu_msg.specs.declared.messages.Message.TheVariants as message
 use Rattle.lu_msg.specs.declared.messages.Reply.{Reply}
 use Rattle.lu_msg.specs.declared.messages.Request.{Request}
 use Rattle.lu_msg.specs.declared.operations.Op.{Op}
+use Rattle.lu_words.specs.Carried.{Slot}
+use Rattle.lu_target_rows.specs.Parts.{Logged, no_slot}
+use Rattle.lu_target_rows.specs.States.{Server}
 use Rattle.lu_service.specs.Contents.{Contents}
-use Rattle.lu_table.specs.Targets.{Server, Logged}
 use Rattle.lu_txn.specs.declared.logs.Logged.{Logged as JournalLogged}
 use Rattle.lu_txn.specs.Journals.{JournalState, count}
 use Rattle.lu_txn.specs.Slots.{slot_of, reply_at}
 use Rattle.lu_target.specs.declared.faults.StepFault.{StepFault}
 
--- The target's number, which answer a step gave that was its last, if one did; what its service holds, and its
--- journal: the transactions that aren't on its disk, and the replies that it keeps.
+-- What executes requests: what its service holds, and its journal: the transactions that aren't on its disk, and the
+-- replies that it keeps.
+pub record HandlerState : Type 0 where
+  pub contents : Contents
+  pub journal : JournalState
+
+-- The target's number, and which answer a step gave that was its last, if one did; its contents and its journal.
 pub record TargetState : Type 0 where
   pub id : ℕ
   pub spent : Option StepFault
   pub contents : Contents
   pub journal : JournalState
 
--- a transaction of the journal, as the rows have it
+abbrev pub state_of : ℕ → Option StepFault → HandlerState → TargetState
+state_of id spent h = record { id = id; spent = spent; contents = h.contents; journal = h.journal }
+
+abbrev pub handler : TargetState → HandlerState
+handler t = record { contents = t.contents; journal = t.journal }
+
+-- how many transactions a boot makes at most: the count in a number has 32 bits, and is from 1
+abbrev pub most_count : ℕ
+most_count = 4294967295
+
+-- ---- as the rows read it
+
+-- a transaction of the journal
 abbrev pub logged_of : JournalLogged → Logged
 logged_of g = record { transaction = g.transaction; writes = g.writes }
 
--- contents and a journal, as the rows read them
-abbrev pub serving : Contents → JournalState → Server
-serving contents journal =
+-- contents and a journal: between turns no request waits
+abbrev pub serving : HandlerState → Server
+serving h =
     record {
-      boot = journal.boot;
-      count = count journal;
-      committed = record { 0 = journal.committed };
-      tree = contents.tree;
-      log = map logged_of journal.transactions;
+      boot = h.journal.boot;
+      count = count h.journal;
+      committed = record { 0 = h.journal.committed };
+      tree = h.contents.tree;
+      log = map logged_of h.journal.transactions;
+      waiting = [];
     }
 
 abbrev pub server : TargetState → Server
-server t = serving t.contents t.journal
+server t = serving (handler t)
 
 -- the reply that is kept for a life and tag
 abbrev pub kept : JournalState → Who → ℕ → Option Reply
 kept journal who tag = reply_at who tag journal.slots
 
-abbrev pub slot : TargetState → Who → ℕ → Option Reply
-slot t = kept t.journal
+-- the slot with this reply: each request that is taken acts at once, so the newest one taken is the one answered
+abbrev pub replied : Option Reply → Slot
+replied None = no_slot
+replied (Some k) = record { taken = k.xid.0; reply = Some k }
+
+abbrev pub slot_in : JournalState → Who → ℕ → Slot
+slot_in journal who tag = replied (kept journal who tag)
+
+abbrev pub slot : TargetState → Who → ℕ → Slot
+slot t = slot_in t.journal
+
+-- ---- whom it serves, and what it takes
 
 -- whether a life has a slot
 abbrev pub has_slot : JournalState → Who → Bool
@@ -66,6 +96,6 @@ Fits takes journal _ = Unit {0}
 
 -- What holds of a target that isn't spent: the next transaction's number is above all that its service used, and
 -- no file has come to be.
-pub record IsReady (contents : Contents) (journal : JournalState) : Type 0 where
-  pub above : contents.last < journal.boot * 2 ^ 32 + count journal + 1
-  pub files : contents.tree.files ≡ []
+pub record IsReady (h : HandlerState) : Type 0 where
+  pub above : h.contents.last < h.journal.boot * 2 ^ 32 + count h.journal + 1
+  pub files : h.contents.tree.files ≡ []

@@ -2,9 +2,8 @@
 
 ghost use Rattle.std.specs.Prelude.{◌≡◌, ◌<◌, [], true, if◌then◌else◌, IfOk, OnOk};
 ghost use Rattle.lu_base.specs.declared.ids.Txn.{Txn as SpecTxn};
-ghost use Rattle.lu_machine.specs.Footprint as footprint;
 ghost use Rattle.lu_service.specs.declared.services.Kind.TheVariants.{Mdt};
-ghost use Rattle.lu_table.specs.TargetRows.{asked};
+ghost use Rattle.lu_target.specs.Names as names;
 
 use lu_base::{Memory, Txn};
 use lu_msg::{Answer, Request};
@@ -16,7 +15,7 @@ use std::alloc::Global;
 pub(crate) fn changes<S: Service>(service: &S, request: &Request) -> bool
     requires mdt { S.kind ≡ Mdt }
     requires taken { S.takes request.now.op }
-    ensures changes { (number : SpecTxn) → result ≡ footprint.changes (S.contents service.now).osts (S.contents service.now).tree (asked request.now number) }
+    ensures changes { (number : SpecTxn) → result ≡ names.changes (S.contents service.now) request.now number }
 {
     service.changes(request.who, &request.op)
 }
@@ -29,7 +28,7 @@ pub(crate) fn touches<S: Service>(
 ) -> Result<Parts, Memory>
     requires mdt { S.kind ≡ Mdt }
     requires taken { S.takes request.now.op }
-    ensures touches { IfOk result (λ parts. (number : SpecTxn) → parts ≡ footprint.touches (S.contents service.now).osts (S.contents service.now).tree (asked request.now number)) }
+    ensures touches { IfOk result (λ parts. (number : SpecTxn) → parts ≡ names.touches (S.contents service.now) request.now number) }
 {
     service.touches(alloc, request.who, &request.op)
 }
@@ -42,7 +41,7 @@ pub(crate) fn writes<S: Service>(
 ) -> Result<Parts, Memory>
     requires mdt { S.kind ≡ Mdt }
     requires taken { S.takes request.now.op }
-    ensures writes { IfOk result (λ parts. (number : SpecTxn) → parts ≡ footprint.writes (S.contents service.now).osts (S.contents service.now).tree (asked request.now number)) }
+    ensures writes { IfOk result (λ parts. (number : SpecTxn) → parts ≡ names.writes (S.contents service.now) request.now number) }
 {
     service.writes(alloc, request.who, &request.op)
 }
@@ -56,12 +55,12 @@ pub(crate) fn perform<S: Service>(
 ) -> Result<Answer, Memory>
     requires mdt { S.kind ≡ Mdt }
     requires taken { S.takes request.now.op }
-    requires above { footprint.changes (S.contents service.old).osts (S.contents service.old).tree (asked request.now number) ≡ true → (S.contents service.old).last < number.0 }
+    requires above { names.changes (S.contents service.old) request.now number ≡ true → (S.contents service.old).last < number.0 }
     requires files { (S.contents service.old).tree.files ≡ [] }
-    ensures answer { IfOk result (λ answer. answer ≡ footprint.answer (S.contents service.old).osts (S.contents service.old).tree (asked request.now number)) }
+    ensures answer { IfOk result (λ answer. answer ≡ names.answer (S.contents service.old) request.now number) }
     ensures osts { OnOk result ((S.contents service.new).osts ≡ (S.contents service.old).osts) }
-    ensures last { OnOk result ((S.contents service.new).last ≡ (if footprint.changes (S.contents service.old).osts (S.contents service.old).tree (asked request.now number) then number.0 else (S.contents service.old).last)) }
-    ensures tree { OnOk result ((S.contents service.new).tree ≡ footprint.after (S.contents service.old).osts (S.contents service.old).tree (asked request.now number)) }
+    ensures last { OnOk result ((S.contents service.new).last ≡ names.last (S.contents service.old) request.now number) }
+    ensures tree { OnOk result ((S.contents service.new).tree ≡ names.tree (S.contents service.old) request.now number) }
     ensures files { OnOk result ((S.contents service.new).tree.files ≡ []) }
 {
     service.apply(alloc, number, request.who, &request.op)

@@ -1,23 +1,24 @@
 //! The target, and its steps.
 
-ghost use Rattle.std.specs.Prelude.{◌≡◌, ℕ, [], Bool, true, false, Option, Some, None, Err, ◌⊎◌, IfOk, IfErr, OnOk};
+ghost use Rattle.std.specs.Prelude.{◌≡◌, ℕ, Some, None, Err, ◌⊎◌, IfOk, IfErr, OnOk};
+ghost use Rattle.lu_base.specs.declared.ids.Node.{Node as SpecNode};
 ghost use Rattle.lu_base.specs.declared.ids.Who.{Who as SpecWho};
-ghost use Rattle.lu_machine.specs.Footprint.{empty};
 ghost use Rattle.lu_service.specs.declared.services.Kind.TheVariants.{Mdt};
 ghost use Rattle.lu_service.specs.Names.{fresh};
-ghost use Rattle.lu_table.specs.TargetRows.{row_tick};
-ghost use Rattle.lu_table.specs.Steps.{step_of, server_turn};
+ghost use Rattle.lu_words.specs.Given.{step_of};
+ghost use Rattle.lu_target_rows.specs.Parts.{no_slot};
+ghost use Rattle.lu_target_rows.specs.States.{server_start, slot_turn};
+ghost use Rattle.lu_target_rows.specs.Rows.{row_tick};
 ghost use Rattle.lu_txn.specs.Slots.{is_among};
-ghost use Rattle.lu_target.specs.Targets.{server, slot, serves, Fits};
-ghost use Rattle.lu_target.specs.Turns.{turn_of, row, slot_turn, LacksNumber};
+ghost use Rattle.lu_target.specs.Targets.{handler, server, slot, serves, Fits};
+ghost use Rattle.lu_target.specs.Turns.{turn_of, row, heeds, server_after, Gives, LacksNumber, HasNumber};
 
 use super::faults::StepFault;
 use super::handlers::Handler;
-use super::turns::Turn;
 use lu_base::{At, Memory, Node, Stamp, TargetId, Who};
 use lu_msg::Message;
 use lu_service::Service;
-use lu_trace::{Entry, Step};
+use lu_trace::{Entry, Step, Turn};
 use std::alloc::Global;
 use std::marker::Model;
 
@@ -34,13 +35,13 @@ pub struct Target<S: Service> {
 
 impl<S: Service> Model for Target<S> {
     ghost use Rattle.std.specs.Prelude.{◌≡◌, None};
-    ghost use Rattle.lu_target.specs.Targets.{TargetState, IsReady};
+    ghost use Rattle.lu_target.specs.Targets.{TargetState, state_of, IsReady};
 
     ghost Value = { TargetState };
 
-    ghost view = { λ t. record { id = t.id.0; spent = t.spent; contents = S.contents t.handler.service; journal = t.handler.journal } };
+    ghost view = { λ t. state_of t.id.0 t.spent t.handler };
 
-    ghost invariant = { λ t. t.spent ≡ None → IsReady (S.contents t.handler.service) t.handler.journal };
+    ghost invariant = { λ t. t.spent ≡ None → IsReady t.handler };
 }
 
 impl<S: Service> Target<S> {
@@ -62,8 +63,8 @@ impl<S: Service> Target<S> {
         ensures id { IfOk result (λ target. target.id ≡ 0) }
         ensures unspent { IfOk result (λ target. target.spent ≡ None) }
         ensures osts { IfOk result (λ target. target.contents.osts ≡ (S.contents service).osts) }
-        ensures server { IfOk result (λ target. server target ≡ record { boot = 1; count = 0; committed = record { 0 = 0 }; tree = empty; log = [] }) }
-        ensures slots { IfOk result (λ target. (who : SpecWho) (tag : ℕ) → slot target who tag ≡ None) }
+        ensures server { IfOk result (λ target. server target ≡ server_start) }
+        ensures slots { IfOk result (λ target. (who : SpecWho) (tag : ℕ) → slot target who tag ≡ no_slot) }
         ensures served { IfOk result (λ target. (who : SpecWho) → serves target who ≡ is_among who first.now) }
     {
         Ok(Target {
@@ -75,21 +76,23 @@ impl<S: Service> Target<S> {
     }
 
     /// A message comes. A request whose life has a slot, whose tag is 0 to 7 and whose operation the service
-    /// performs goes on by the reply that is kept for its life and tag: with a number above that one it is
-    /// executed, with the same the kept reply is sent again, and with one below it does nothing. A message that
-    /// is no request only makes its `take`. Boots aren't looked at, since no target boots again yet.
-    /// `NumbersSpent` where the turn needs a transaction and the boot's count stands at 2^32 - 1.
+    /// performs goes on by the slot of its life and tag: with a number above the one taken last it is executed,
+    /// with the same the kept reply is sent again, and with one below it does nothing. A request of number 0, and
+    /// a message that is no request, only makes its `take`. Boots aren't looked at, since no target boots again
+    /// yet. `NumbersSpent` exactly where the turn needs a transaction and the boot's count stands at 2^32 - 1.
     pub fn deliver(&mut self, stamp: Stamp, message: &Message) -> Result<Step, StepFault>
         requires mdt { S.kind ≡ Mdt }
         requires fits { self.old.spent ≡ None → Fits S.takes self.old.journal message.now }
-        ensures step { IfOk result (λ step. step ≡ step_of (turn_of self.old.id stamp) (row self.old stamp message.now)) }
-        ensures server { OnOk result (server self.new ≡ server_turn self.old.contents.osts (server self.old) (row self.old stamp message.now)) }
-        ensures slots { OnOk result ((who : SpecWho) (tag : ℕ) → slot self.new who tag ≡ slot_turn (slot self.old) (row self.old stamp message.now) who tag) }
+        ensures step { IfOk result (Gives self.old stamp message.now) }
+        ensures server { OnOk result ((from : SpecNode) → server self.new ≡ server_after self.old (row self.old stamp from message.now)) }
+        ensures slots { OnOk result ((from : SpecNode) (who : SpecWho) (tag : ℕ)
+            → slot self.new who tag ≡ slot_turn who tag (slot self.old who tag) (row self.old stamp from message.now)) }
         ensures served { OnOk result ((who : SpecWho) → serves self.new who ≡ serves self.old who) }
         ensures osts { OnOk result (self.new.contents.osts ≡ self.old.contents.osts) }
         ensures id { self.new.id ≡ self.old.id }
-        ensures numbers { result ≡ Err StepFault.NumbersSpent → (self.old.spent ≡ Some StepFault.NumbersSpent) ⊎ LacksNumber self.old stamp message.now }
-        ensures room { OnOk result (LacksNumber self.old stamp message.now → ⊥) }
+        ensures numbers { result ≡ Err StepFault.NumbersSpent → (self.old.spent ≡ Some StepFault.NumbersSpent)
+            ⊎ LacksNumber (handler self.old) (heeds self.old stamp message.now) }
+        ensures room { OnOk result (HasNumber (handler self.old) (heeds self.old stamp message.now)) }
         ensures unspent { OnOk result ((self.old.spent ≡ None) × (self.new.spent ≡ None)) }
         ensures again { (fault : StepFault) → self.old.spent ≡ Some fault → result ≡ Err fault }
         ensures spent { IfErr result (λ fault. self.new.spent ≡ Some fault) }
@@ -145,5 +148,5 @@ fn ticked(alloc: Global, at: At) -> Result<Step, Memory>
 {
     let mut turn = Turn::new(alloc, at);
     turn.note(Entry::Tick)?;
-    Ok(turn.done())
+    Ok(turn.into_step())
 }

@@ -197,10 +197,15 @@ fn a_repeated_request_gets_the_kept_reply(rt: HostRuntime) -> Result<(), Fail> {
     runs(&rt, rt.alloc(), rows.as_slice())
 }
 
-/// A number below the kept one does nothing; another tag is another slot.
+/// A number below the one taken last does nothing, and so does number 0; another tag is another slot.
 #[test]
 fn numbers_below_and_other_tags(rt: HostRuntime) -> Result<(), Fail> {
-    let rows: [Row; 4] = [
+    let rows: [Row; 5] = [
+        (
+            1,
+            Event::First(0, 0, Verb::Mkdir, b"/a"),
+            b"1 t0 take 0\nend\n",
+        ),
         (
             2,
             Event::First(2, 0, Verb::Lookup, b"/a"),

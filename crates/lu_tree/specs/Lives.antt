@@ -1,5 +1,5 @@
 -- Which files live on.
-use Rattle.std.specs.Prelude.{◌≡◌, Bool, true, false, not, List, Option, Some, None, IsSome, ◌||◌, ◌&&◌, ◌==◌, nat_lt}
+use Rattle.std.specs.Prelude.{◌≡◌, Bool, true, false, not, List, Option, Some, None, IsSome, ◌||◌, ◌&&◌, ◌==◌}
 use Rattle.std.specs.List.{AllByRecursion, list_all}
 use Rattle.std.specs.Map.{lookup}
 use Rattle.lu_base.specs.declared.ids.Fid.{Fid}
@@ -9,25 +9,22 @@ use Rattle.lu_machine.specs.declared.child.Child.{Child}
 use Rattle.lu_machine.specs.declared.child.Child.TheVariants.{Dir, File}
 use Rattle.lu_machine.specs.Entries.{without}
 use Rattle.lu_machine.specs.Tree.{Tree, Inode, Opened, same_fid, same_life}
-use Rattle.lu_machine.specs.Trim.{is_open}
-
-abbrev pub is_living : List Opened → Fid × Inode → Bool
-is_living opens e = nat_lt 0 e.1.links || is_open e.0 opens
+use Rattle.lu_machine.specs.Trim.{is_alive}
 
 abbrev pub is_dead_of : List Opened → Fid → Option Inode → Bool
 is_dead_of opens f None = false
-is_dead_of opens f (Some x) = not (is_living opens (f, x))
+is_dead_of opens f (Some x) = not (is_alive opens (f, x))
 
--- each file but this one has a name or an open
+-- each file but this one is alive
 abbrev pub AreOthersLiving : Tree → Fid → Type 0
-AreOthersLiving t f = AllByRecursion (λ e. same_fid f e.0 ≡ false → is_living t.opens e ≡ true) t.files
+AreOthersLiving t f = AllByRecursion (λ e. same_fid f e.0 ≡ false → is_alive t.opens e ≡ true) t.files
 
 -- a file has an inode
 abbrev pub IsThere : Tree → Child → Type 0
 IsThere t (Dir d) = Unit {0}
 IsThere t (File f) = IsSome (lookup (same_fid f) t.files)
 
--- it is there with neither
+-- it is there and isn't alive
 abbrev pub is_dead : Tree → Fid → Bool
 is_dead t f = is_dead_of t.opens f (lookup (same_fid f) t.files)
 

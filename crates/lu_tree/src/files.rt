@@ -3,7 +3,7 @@
 ghost use Rattle.std.specs.Prelude.{◌≡◌, not, nat_lt, ◌==◌, ◌&&◌};
 ghost use Rattle.lu_machine.specs.Tree.{same_fid, same_life};
 ghost use Rattle.lu_machine.specs.Change.{new_file};
-ghost use Rattle.lu_machine.specs.Trim.{is_open};
+ghost use Rattle.lu_machine.specs.Trim.{is_open, is_alive};
 
 use lu_base::{Fid, Txn, Who};
 use lu_layout::Layout;
@@ -41,7 +41,7 @@ impl FileNode {
     }
 
     /// Whether a name leads to it.
-    pub(crate) fn is_named(&self) -> bool
+    fn is_named(&self) -> bool
         ensures { result ≡ nat_lt 0 self.now.links }
     {
         self.links > 0
@@ -130,8 +130,15 @@ impl OpenFile {
 }
 
 /// Whether the file is open.
-pub(crate) fn is_open(opens: &[OpenFile], file: Fid) -> bool
+fn is_open(opens: &[OpenFile], file: Fid) -> bool
     ensures { result ≡ is_open file opens.now }
 {
     opens.iter().any(|open| open.is_of(file))
+}
+
+/// Whether the file is alive: a name leads to it, or it is open.
+pub(crate) fn is_alive(opens: &[OpenFile], fid: Fid, file: &FileNode) -> bool
+    ensures { result ≡ is_alive opens.now (fid, file.now) }
+{
+    file.is_named() || is_open(opens, fid)
 }

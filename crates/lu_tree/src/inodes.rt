@@ -11,7 +11,7 @@ ghost use Rattle.lu_tree.specs.Ends.{IsReached};
 ghost use Rattle.lu_tree.specs.Lives.{AreOthersLiving, IsThere, is_dead, opens_only, without_file};
 ghost use Rattle.lu_tree.specs.State.{IsCounted};
 
-use super::files::{FileNode, OpenFile, is_open};
+use super::files::{FileNode, OpenFile, is_alive};
 use super::folders::Folder;
 use super::walks::ROOT;
 use lu_base::{Fid, Memory, Name, Names, Txn, Who};
@@ -282,17 +282,17 @@ impl Inodes {
         self.opens.retain(|open| !open.is_made(number, who));
     }
 
-    /// Whether the file is there with neither a name nor an open.
+    /// Whether the file is there and isn't alive.
     fn is_dead(&self, fid: Fid) -> bool
         ensures dead { result ≡ is_dead self.now fid }
     {
         match self.files.get(&fid) {
-            Some(file) => !(file.is_named() || is_open(self.opens.as_slice(), fid)),
+            Some(file) => !is_alive(self.opens.as_slice(), fid, file),
             None => false,
         }
     }
 
-    /// Takes the file out if it has neither a name nor an open, as each other file has.
+    /// Takes the file out if it isn't alive, as each other file is.
     pub(crate) fn bury(&mut self, fid: Fid)
         requires others { AreOthersLiving self.old fid }
         ensures buried { self.new ≡ trim self.old }
@@ -323,16 +323,15 @@ impl Inodes {
         self.opens.retain(|open| !open.is_by(who));
     }
 
-    /// Takes each file out that has neither a name nor an open.
+    /// Takes each file out that isn't alive.
     fn sweep(&mut self)
         ensures swept { self.new ≡ trim self.old }
     {
         let opens = self.opens.as_slice();
-        self.files
-            .retain(|fid, file| file.is_named() || is_open(opens, *fid));
+        self.files.retain(|fid, file| is_alive(opens, *fid, file));
     }
 
-    /// Takes the opens of a life out, and each file that has neither a name nor an open then.
+    /// Takes the opens of a life out, and each file that isn't alive then.
     pub(crate) fn forget(&mut self, who: Who)
         ensures forgotten { self.new ≡ trim (forget self.old who) }
     {

@@ -1,70 +1,98 @@
 -- What the import hears the row hears.
-use Rattle.std.proofs.Common.{◌≡◌, Bool, false, true, if◌then◌else◌, Some, None, subst, sym, ap, ◌∙◌}
+use Rattle.std.proofs.Common.{◌≡◌, Bool, false, true, if◌then◌else◌, List, Option, Some, None, subst, sym, ap, ◌∙◌}
 use Rattle.std.specs.Prelude.{slice_set}
+use Rattle.std.proofs.lemmas.Result.{on_ok_weaker}
 use Rattle.lu_msg.specs.declared.messages.Message.TheVariants.{Reply}
 use Rattle.lu_trace.specs.declared.entries.Entry.TheVariants as printed
-use Rattle.lu_import.specs.InFlights.{slot_of}
+use Rattle.lu_trace.specs.Turns.{with_line}
+use Rattle.lu_import.specs.InFlights.{request_of}
 use Rattle.lu_import.specs.Imports.{ImportState, hears, heard}
+use Rattle.lu_machine.specs.Fits.{answer_fits}
+use Rattle.lu_words.specs.Carried.{Running}
+use Rattle.lu_client_rows.specs.Rows.{row_tells}
 use Rattle.lu_client.specs.Clients.{ClientState, state_of}
-use Rattle.lu_client.specs.Turns.{with_line, with_entries, after_entries, heeding}
-use Rattle.lu_client.proofs.Hearing.{unknown, unheard, step_heard, after_heard}
+use Rattle.lu_client.specs.Turns.{with_entries, after_entries, heeding}
+use Rattle.lu_client.proofs.Hearing.{unknown, unfit, unheard, step_heard, after_heard}
 use Rattle.lu_client.proofs.clients.Client.hear.Goals as goal
 
 pub returns-in_default-clause-step : goal.returns-in_default-clause-step
 returns-in_default-clause-step c =
     let turn = c.args.turn.now in
     let r = c.args.reply.now in
-    let none : slot_of r.xid.0 c.self.inside.import.in_flight ≡ None = sym c.slot.ensures.slot ∙ c.in_default.is in
-    subst (λ (s : ClientState). turn.step ≡ with_entries turn.at turn.step (heeding s.asker (Reply r))) c.self.view_is (sym (ap (with_entries turn.at turn.step) (unknown c.self.inside.import r none)))
+    let calls : List (Option Running) = c.self.inside.calls.items in
+    let none : request_of r.xid.0 c.self.inside.import.in_flight ≡ None = sym c.in_default.ensures.request in
+    subst (λ (s : ClientState). turn.step ≡ with_entries turn.at turn.step (heeding s.asker s.calls (Reply r))) c.self.view_is (sym (ap (with_entries turn.at turn.step) (unknown c.self.inside.import calls r none)))
 
 pub returns-in_default-clause-after : goal.returns-in_default-clause-after
 returns-in_default-clause-after c =
     let old = c.self.inside in
+    let r = c.args.reply.now in
+    let none : request_of r.xid.0 old.import.in_flight ≡ None = sym c.in_default.ensures.request in
+    subst (λ (s : ClientState). s ≡ after_entries s (heeding s.asker s.calls (Reply r))) c.self.view_is (sym (ap (after_entries (state_of old.client old.spent old.import old.calls.items)) (unknown old.import old.calls.items r none)))
+
+pub returns-then-not-answer_fits-clause-step : goal.returns-then-not-answer_fits-clause-step
+returns-then-not-answer_fits-clause-step c =
     let turn = c.args.turn.now in
     let r = c.args.reply.now in
-    let none : slot_of r.xid.0 old.import.in_flight ≡ None = sym c.slot.ensures.slot ∙ c.in_default.is in
-    subst (λ (s : ClientState). s ≡ after_entries turn.at s (heeding s.asker (Reply r))) c.self.view_is (sym (ap (after_entries turn.at (state_of old.client old.spent old.import old.calls.items)) (unknown old.import r none)))
+    let calls : List (Option Running) = c.self.inside.calls.items in
+    let request = c.in-Some.request.now in
+    let some : request_of r.xid.0 c.self.inside.import.in_flight ≡ Some request = sym c.in-Some.ensures.request in
+    let fits : answer_fits request.op r.answer ≡ false = sym c.answer_fits.ensures ∙ c.if-not-answer_fits.true in
+    subst (λ (s : ClientState). turn.step ≡ with_entries turn.at turn.step (heeding s.asker s.calls (Reply r))) c.self.view_is (sym (ap (with_entries turn.at turn.step) (unfit c.self.inside.import calls r request some fits)))
+
+pub returns-then-not-answer_fits-clause-after : goal.returns-then-not-answer_fits-clause-after
+returns-then-not-answer_fits-clause-after c =
+    let old = c.self.inside in
+    let r = c.args.reply.now in
+    let request = c.in-Some.request.now in
+    let some : request_of r.xid.0 old.import.in_flight ≡ Some request = sym c.in-Some.ensures.request in
+    let fits : answer_fits request.op r.answer ≡ false = sym c.answer_fits.ensures ∙ c.if-not-answer_fits.true in
+    subst (λ (s : ClientState). s ≡ after_entries s (heeding s.asker s.calls (Reply r))) c.self.view_is (sym (ap (after_entries (state_of old.client old.spent old.import old.calls.items)) (unfit old.import old.calls.items r request some fits)))
 
 pub returns-then-not-branch-clause-step : goal.returns-then-not-branch-clause-step
 returns-then-not-branch-clause-step c =
     let turn = c.args.turn.now in
     let r = c.args.reply.now in
-    let slot = c.in-Some.slot in
-    let some : slot_of r.xid.0 c.self.inside.import.in_flight ≡ Some slot = sym c.slot.ensures.slot ∙ c.in-Some.is in
+    let calls : List (Option Running) = c.self.inside.calls.items in
+    let request = c.in-Some.request.now in
+    let some : request_of r.xid.0 c.self.inside.import.in_flight ≡ Some request = sym c.in-Some.ensures.request in
     let not_heard : hears c.self.inside.import r ≡ false = sym c.in_ok-hear.ensures.heard ∙ c.if-not-branch.true in
-    subst (λ (s : ClientState). turn.step ≡ with_entries turn.at turn.step (heeding s.asker (Reply r))) c.self.view_is (sym (ap (with_entries turn.at turn.step) (unheard c.self.inside.import r slot some not_heard)))
+    subst (λ (s : ClientState). turn.step ≡ with_entries turn.at turn.step (heeding s.asker s.calls (Reply r))) c.self.view_is (sym (ap (with_entries turn.at turn.step) (unheard c.self.inside.import calls r request some not_heard)))
 
 pub returns-then-not-branch-clause-after : goal.returns-then-not-branch-clause-after
 returns-then-not-branch-clause-after c =
     let old = c.self.inside in
-    let turn = c.args.turn.now in
     let r = c.args.reply.now in
-    let slot = c.in-Some.slot in
-    let some : slot_of r.xid.0 old.import.in_flight ≡ Some slot = sym c.slot.ensures.slot ∙ c.in-Some.is in
+    let request = c.in-Some.request.now in
+    let some : request_of r.xid.0 old.import.in_flight ≡ Some request = sym c.in-Some.ensures.request in
     let not_heard : hears old.import r ≡ false = sym c.in_ok-hear.ensures.heard ∙ c.if-not-branch.true in
     let stays : c.hear.new.self ≡ old.import = subst (λ (b : Bool). c.hear.new.self ≡ (if b then heard old.import r.xid.0 else old.import)) c.if-not-branch.true c.in_ok-hear.ensures.ended in
     ap (λ (i : ImportState). state_of old.client old.spent i old.calls.items) stays
-    ∙ subst (λ (s : ClientState). state_of old.client old.spent old.import old.calls.items ≡ after_entries turn.at s (heeding s.asker (Reply r))) c.self.view_is (sym (ap (after_entries turn.at (state_of old.client old.spent old.import old.calls.items)) (unheard old.import r slot some not_heard)))
+    ∙ subst (λ (s : ClientState). state_of old.client old.spent old.import old.calls.items ≡ after_entries s (heeding s.asker s.calls (Reply r))) c.self.view_is (sym (ap (after_entries (state_of old.client old.spent old.import old.calls.items)) (unheard old.import old.calls.items r request some not_heard)))
 
 pub returns-clause-step : goal.returns-clause-step
 returns-clause-step c =
     let turn = c.args.turn.now in
     let r = c.args.reply.now in
-    let slot = c.in-Some.slot in
-    let some : slot_of r.xid.0 c.self.inside.import.in_flight ≡ Some slot = sym c.slot.ensures.slot ∙ c.in-Some.is in
+    let calls : List (Option Running) = c.self.inside.calls.items in
+    let request = c.in-Some.request.now in
+    let some : request_of r.xid.0 c.self.inside.import.in_flight ≡ Some request = sym c.in-Some.ensures.request in
+    let fits : answer_fits request.op r.answer ≡ true = sym c.answer_fits.ensures ∙ c.if-not-answer_fits.false in
     let is_heard : hears c.self.inside.import r ≡ true = sym c.in_ok-hear.ensures.heard ∙ c.if-not-branch.false in
-    c.in_ok-note-2.ensures.added
-    ∙ rw (c.note.ensures.turn, c.in_ok-note.ensures.added, c.in_ok-answer.ensures.same) (subst (λ (s : ClientState). with_line turn.at (with_line turn.at turn.step (Some (printed.Heard (record { 0 = 0 }) r.xid))) (Some (printed.Told slot r.at r.answer)) ≡ with_entries turn.at turn.step (heeding s.asker (Reply r))) c.self.view_is (step_heard turn.at turn.step c.self.inside.import r slot some is_heard))
+    let row : with_entries turn.at (with_line turn.at turn.step (printed.Heard (record { 0 = 0 }) r.xid)) (row_tells calls (Some request.slot) r) ≡ with_entries turn.at turn.step (heeding c.args.self.now.asker c.args.self.now.calls (Reply r)) =
+    subst (λ (s : ClientState). with_entries turn.at (with_line turn.at turn.step (printed.Heard (record { 0 = 0 }) r.xid)) (row_tells calls (Some request.slot) r) ≡ with_entries turn.at turn.step (heeding s.asker s.calls (Reply r))) c.self.view_is (step_heard c.self.inside.import calls r request some turn.at turn.step fits is_heard) in
+    on_ok_weaker c.tell.result (λ told. told ∙ rw (c.note.ensures.turn, c.in_ok-note.ensures.added) row) c.tell.ensures.step
 
 pub returns-clause-after : goal.returns-clause-after
 returns-clause-after c =
     let old = c.self.inside in
-    let turn = c.args.turn.now in
     let r = c.args.reply.now in
-    let slot = c.in-Some.slot in
-    let some : slot_of r.xid.0 old.import.in_flight ≡ Some slot = sym c.slot.ensures.slot ∙ c.in-Some.is in
+    let request = c.in-Some.request.now in
+    let some : request_of r.xid.0 old.import.in_flight ≡ Some request = sym c.in-Some.ensures.request in
+    let fits : answer_fits request.op r.answer ≡ true = sym c.answer_fits.ensures ∙ c.if-not-answer_fits.false in
     let is_heard : hears old.import r ≡ true = sym c.in_ok-hear.ensures.heard ∙ c.if-not-branch.false in
     let ended : c.hear.new.self ≡ heard old.import r.xid.0 = subst (λ (b : Bool). c.hear.new.self ≡ (if b then heard old.import r.xid.0 else old.import)) c.if-not-branch.false c.in_ok-hear.ensures.ended in
-    c.put.ensures.put
-    ∙ ap (λ (i : ImportState). state_of old.client old.spent i (slice_set old.calls.items slot None)) ended
-    ∙ subst (λ (s : ClientState). state_of old.client old.spent (heard old.import r.xid.0) (slice_set old.calls.items slot None) ≡ after_entries turn.at s (heeding s.asker (Reply r))) c.self.view_is (after_heard turn.at old.client old.spent old.import old.calls.items r slot some is_heard)
+    let row : state_of old.client old.spent c.hear.new.self (slice_set old.calls.items request.slot None) ≡ after_entries c.args.self.now (heeding c.args.self.now.asker c.args.self.now.calls (Reply r)) =
+    ap (λ (i : ImportState). state_of old.client old.spent i (slice_set old.calls.items request.slot None)) ended
+    ∙ subst (λ (s : ClientState). state_of old.client old.spent (heard old.import r.xid.0) (slice_set old.calls.items request.slot None) ≡ after_entries s (heeding s.asker s.calls (Reply r))) c.self.view_is (after_heard old.import old.calls.items r request some old.client old.spent fits is_heard) in
+    on_ok_weaker c.tell.result (λ told. told ∙ row) c.tell.ensures.after

@@ -3,9 +3,10 @@ use Rattle.std.proofs.Common.{◌≡◌, ◌+◌, ◌++◌, length, map, true, s
 use Rattle.std.specs.Prelude.{IfSome}
 use Rattle.lu_base.specs.declared.ids.Node.TheVariants.{Target}
 use Rattle.lu_import.specs.Imports.{Sends}
-use Rattle.lu_table.specs.Words.{Send}
+use Rattle.lu_words.specs.Words.{Send}
+use Rattle.lu_client_rows.specs.Rows.{row_rests}
 use Rattle.lu_client.specs.Clients.{ClientState, state_of, asker_of, queued_of, flight_of}
-use Rattle.lu_client.specs.Turns.{with_entry, with_entries, after_entries, sends_of, front_sent}
+use Rattle.lu_client.specs.Turns.{with_entry, with_entries, after_entries, front_sent}
 use Rattle.lu_client.proofs.Sending.{row_sent_is, after_sent_is, step_sent_is, counted_sent_is, shorter_sent_is}
 use Rattle.lu_client.proofs.clients.Client.send_front.Goals as goal
 
@@ -13,7 +14,7 @@ pub returns-clause-row : goal.returns-clause-row
 returns-clause-row c =
     let new = c.next.new.self in
     let sent : Sends c.self.inside.import new c.in-Some.message = subst (λ o. IfSome o (Sends c.self.inside.import new)) c.in-Some.is c.in_ok-message.ensures.sent in
-    subst (λ (s : ClientState). sends_of s.asker ≡ front_sent s.asker true ++ sends_of (asker_of new)) c.self.view_is (row_sent_is c.self.inside.import new c.in-Some.message sent)
+    subst (λ (s : ClientState). row_rests s.asker ≡ front_sent s.asker true ++ row_rests (asker_of new)) c.self.view_is (row_sent_is c.self.inside.import new c.in-Some.message sent)
 
 pub returns-clause-step : goal.returns-clause-step
 returns-clause-step c =
@@ -28,7 +29,7 @@ returns-clause-after c =
     let old = c.self.inside in
     let new = c.next.new.self in
     let sent : Sends old.import new c.in-Some.message = subst (λ o. IfSome o (Sends c.self.inside.import new)) c.in-Some.is c.in_ok-message.ensures.sent in
-    subst (λ (s : ClientState). state_of old.client old.spent new old.calls.items ≡ after_entries c.args.turn.now.at s (front_sent s.asker true)) c.self.view_is (after_sent_is c.args.turn.now.at old.client old.spent old.import new old.calls.items c.in-Some.message sent)
+    subst (λ (s : ClientState). state_of old.client old.spent new old.calls.items ≡ after_entries s (front_sent s.asker true)) c.self.view_is (after_sent_is old.client old.spent old.import new old.calls.items c.in-Some.message sent)
 
 pub returns-clause-shorter : goal.returns-clause-shorter
 returns-clause-shorter c =
