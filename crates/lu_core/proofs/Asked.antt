@@ -1,8 +1,8 @@
 -- A client's requests in a turn are among the messages that it sends there, so no request number is above the
 -- number of messages.
-use Rattle.std.proofs.Common.{◌≡◌, ℕ, ◌+◌, ◌≤◌, Bool, true, false, List, [], ◌∷◌, ◌++◌, length, Option, Some, None, refl, sym, subst, ap, ◌∙◌, arith}
-use Rattle.std.specs.Prelude.{nat_eq, nat_lt, ◌&&◌}
-use Rattle.std.proofs.lemmas.Bool.{cond_both, eqb-true}
+use Rattle.std.proofs.Common.{ℕ, ◌+◌, ◌≤◌, Bool, true, false, List, [], ◌∷◌, ◌++◌, length, Option, Some, None, arith}
+use Rattle.std.specs.Prelude.{nat_eq, nat_lt, ◌&&◌, if◌then◌else◌}
+use Rattle.std.proofs.lemmas.Bool.{cond_both}
 use Rattle.lu_base.specs.declared.ids.At.{At}
 use Rattle.lu_base.specs.declared.ids.Node.{Node}
 use Rattle.lu_base.specs.declared.ids.Node.TheVariants.{Client, Target}
@@ -10,77 +10,135 @@ use Rattle.lu_msg.specs.declared.calls.Call.{Call}
 use Rattle.lu_msg.specs.declared.messages.Message.{Message}
 use Rattle.lu_msg.specs.declared.messages.Message.TheVariants as message
 use Rattle.lu_msg.specs.declared.messages.Reply.{Reply as ReplyTo}
+use Rattle.lu_msg.specs.declared.messages.Request.{Request as RequestOf}
 use Rattle.lu_msg.specs.declared.operations.Op.{Op}
-use Rattle.lu_table.specs.Words.{Queued, Flight, Entry, Queues, Flies, Heard, Line, is_client, same_life}
-use Rattle.lu_table.specs.Calls.{Begun, call_of, operation_of}
-use Rattle.lu_table.specs.Imports.{last_of, without_flight}
-use Rattle.lu_table.specs.ClientRows.{Asker, asker_of, next_flight, find_flight, row_sent, row_sends, row_asks, row_call, row_hears, row_reply, row_heeds, row_resends, row_tick}
-use Rattle.lu_table.specs.Steps.{asker_after, asker_turn, step_posts}
-use Rattle.lu_table.specs.Runs.{Head, Event, Begins, Comes, Ticks, Dies, row, with_turn}
-use Rattle.lu_core.proofs.Folds.{asker_own, asker_other}
+use Rattle.lu_machine.specs.Fits.{answer_fits}
+use Rattle.lu_machine.specs.Footprint.{changes}
+use Rattle.lu_words.specs.Carried.{Queued, Flight, Running}
+use Rattle.lu_words.specs.Words.{Entry, Flies, Line, line, with_turn, is_client, same_life}
+use Rattle.lu_words.specs.Concerns.{is_about}
+use Rattle.lu_words.specs.Given.{step_posts}
+use Rattle.lu_target_rows.specs.States.{Server, none, server_at, slot_at}
+use Rattle.lu_target_rows.specs.Rows as target
+use Rattle.lu_target_rows.specs.Rows.{asked, row_executes, row_kept, by_number}
+use Rattle.lu_client_rows.specs.Calls.{call_at, calls_at, call_on, operation_of}
+use Rattle.lu_client_rows.specs.Imports.{last_at, without_flight}
+use Rattle.lu_client_rows.specs.States.{Asker, asker_at}
+use Rattle.lu_client_rows.specs.Rows.{next_flight, find_flight, row_sent, row_sends, row_rests, row_asks, row_call, row_told, row_tells, row_fits, row_hears, row_reply, row_heeds, row_resends}
+use Rattle.lu_table.specs.Runs.{Head, Event, Begins, Comes, Ticks, Dies, row}
 
--- the last request number after the turn is above that before it by at most the messages
-abbrev Few : Asker → List Entry → Type 0
-Few k es = (asker_turn k es).last ≤ k.last + length (step_posts es)
+-- ---- the newest number
 
-sends_few : (j k : Asker) (last : ℕ) (flights : List Flight) (queue : List Queued) → k.last ≡ last → Few k (row_sends j last flights queue)
-sends_few j k last flights [] is = omega arith
-sends_few j k last flights (q ∷ queue) is =
-    let f = next_flight last flights q in
-    cond_both (nat_lt (length flights) j.limit) (Flies 0 f ∷ row_sent j f ∷ row_sends j (last + 1) (flights ++ f ∷ []) queue) [] (λ es. Few k es)
-    (λ t. let h = sends_few j (asker_after k (Flies 0 f)) (last + 1) (flights ++ f ∷ []) queue refl in omega arith)
-    (λ t. omega arith)
+-- no request that becomes one in flight has a number above this one
+abbrev Low : ℕ → List Entry → Type 0
+Low most [] = Unit {0}
+Low most (e ∷ es) = elim e [ Flies t f ↦ (f.xid ≤ most) × Low most es | _ ↦ Low most es ]
 
-resends_few : (j k : Asker) (flights : List Flight) (es : List Entry) → Few k es → Few k (row_resends j flights ++ es)
-resends_few j k [] es few = few
-resends_few j k (f ∷ flights) es few = let h = resends_few j k flights es few in omega arith
-
-tick_few : (k : Asker) → Few k (row_tick k)
-tick_few k = resends_few k k k.flights (row_sends k k.last k.flights k.queue) (sends_few k k k.last k.flights k.queue refl)
-
-begins_few : (k : Asker) (slot : ℕ) (call : Call) (o : Option Op) → Few k (elim o [ None ↦ [] | Some p ↦ row_asks k slot call (record { slot = slot; op = p }) ])
-begins_few k slot call None = omega arith
-begins_few k slot call (Some o) =
-    let q : Queued = record { slot = slot; op = o } in
-    sends_few k (asker_after k (Queues 0 q)) k.last k.flights (k.queue ++ q ∷ []) refl
-
-call_few : (k : Asker) (slot : ℕ) (call : Call) (o : Option Begun) → Few k (row_call k slot call o)
-call_few k slot call None = begins_few k slot call (operation_of call)
-call_few k slot call (Some b) = omega arith
-
-hears_few : (k : Asker) (r : ReplyTo) (o : Option Flight) → Few k (row_hears k r o)
-hears_few k r None = sends_few k k k.last k.flights k.queue refl
-hears_few k r (Some f) = sends_few k (asker_after k (Heard 0 f r)) k.last (without_flight f.xid k.flights) k.queue refl
-
-reply_few : (k : Asker) (r : ReplyTo) (t : Bool) → Few k (row_reply k r t)
-reply_few k r true = hears_few k r (find_flight r.xid.0 k.flights)
-reply_few k r false = sends_few k k k.last k.flights k.queue refl
-
-heeds_few : (k : Asker) (m : Message) → Few k (row_heeds k m)
-heeds_few k (message.Reply r) = reply_few k r (same_life r.who k.who && nat_eq r.boot k.boot)
-heeds_few k m = sends_few k k k.last k.flights k.queue refl
-
-client_few : (head : Head) (past : List Line) (at : At) (c : ℕ) (event : Event) → Few (asker_of head.flight c past) (row head past at (Client c) event)
-client_few head past at c (Begins slot call) = call_few (asker_of head.flight c past) slot call (call_of c slot past)
-client_few head past at c (Comes n m) = heeds_few (asker_of head.flight c past) m
-client_few head past at c Ticks = tick_few (asker_of head.flight c past)
-client_few head past at c Dies = omega arith
-
--- a client's own turn, or another's
-pub turn_asks : (head : Head) (past : List Line) (at : At) (event : Event) (d sent : ℕ) → last_of d 0 past ≤ sent → last_of d 0 (with_turn at (row head past at at.node event) past) ≤ sent + length (step_posts (row head past at at.node event))
-turn_asks head past at event d sent low = by (is_client d at.node) refl
+turn_low : (most d t : ℕ) (past : List Line) (at : At) (es : List Entry) → last_at d t past ≤ most → Low most es → last_at d t (with_turn at es past) ≤ most
+turn_low most d t past at [] old low = old
+turn_low most d t past at (e ∷ es) old low = by e low (λ x o l. turn_low most d t (line at x ∷ past) at es o l)
   where
-    own : (node : Node) → is_client d node ≡ true → at.node ≡ node → Few (asker_of head.flight d past) (row head past at at.node event)
-    own (Client c) mine is =
-        let same : d ≡ c = eqb-true d c mine in
-        subst (λ (n : Node). Few (asker_of head.flight d past) (row head past at n event)) (sym (is ∙ ap Client (sym same))) (client_few head past at d event)
-    own (Target t) mine is = absurd (cc)
+    flies : (mine : Bool) (xid : ℕ) → xid ≤ most → (if mine then xid else last_at d t past) ≤ most
+    flies true xid le = le
+    flies false xid le = old
 
-    by : (mine : Bool) → is_client d at.node ≡ mine → last_of d 0 (with_turn at (row head past at at.node event) past) ≤ sent + length (step_posts (row head past at at.node event))
-    by true mine =
-        let few = own at.node mine refl in
-        let is = ap (λ (k : Asker). k.last) (asker_own head.flight d past at (row head past at at.node event) mine) in
-        omega arith
-    by false other =
-        let is = ap (λ (k : Asker). k.last) (asker_other head.flight d past at (row head past at at.node event) other) in
-        omega arith
+    by : (e : Entry) → Low most (e ∷ es) → ((x : Entry) → last_at d t (line at x ∷ past) ≤ most → Low most es → last_at d t (with_turn at es (line at x ∷ past)) ≤ most) → last_at d t (with_turn at es (line at e ∷ past)) ≤ most
+    by (Flies u f) l more = more (Flies u f) (flies (is_client d at.node && is_about t (Flies u f)) f.xid l.0) l.1
+    by e l more = more e old l
+
+-- ---- a client's rows: each number is above the last one by at most the messages
+
+abbrev Few : ℕ → ℕ → List Entry → Type 0
+Few most last es = last + length (step_posts es) ≤ most → Low most es
+
+sends_few : (most : ℕ) (k : Asker) (last : ℕ) (flights : List Flight) (queue : List Queued) → Few most last (row_sends k last flights queue)
+sends_few most k last flights [] = λ le. tt
+sends_few most k last flights (q ∷ queue) =
+    let f = next_flight last flights q in
+    cond_both (nat_lt (length flights) k.limit) (Flies k.target f ∷ row_sent k f ∷ row_sends k (last + 1) (flights ++ f ∷ []) queue) [] (λ es. Few most last es)
+    (λ t le. (omega arith, sends_few most k (last + 1) (flights ++ f ∷ []) queue (omega arith)))
+    (λ t le. tt)
+
+resends_few : (most last : ℕ) (k : Asker) (flights : List Flight) (es : List Entry) → Few most last es → Few most last (row_resends k flights ++ es)
+resends_few most last k [] es few = few
+resends_few most last k (f ∷ flights) es few = λ le. resends_few most last k flights es few (omega arith)
+
+rests_few : (most : ℕ) (k : Asker) → Few most k.last (row_rests k)
+rests_few most k = sends_few most k k.last k.flights k.queue
+
+begins_few : (most : ℕ) (k : Asker) (at : At) (slot : ℕ) (call : Call) (o : Option Op) → Few most k.last (elim o [ None ↦ [] | Some p ↦ row_asks k at slot call (record { slot = Some slot; op = p }) ])
+begins_few most k at slot call None = λ le. tt
+begins_few most k at slot call (Some o) = sends_few most k k.last k.flights (k.queue ++ record { slot = Some slot; op = o } ∷ [])
+
+call_few : (most : ℕ) (k : Asker) (at : At) (slot : ℕ) (call : Call) (o : Option Running) → Few most k.last (row_call k at slot call o)
+call_few most k at slot call None = begins_few most k at slot call (operation_of call)
+call_few most k at slot call (Some b) = λ le. tt
+
+tells_few : (most last : ℕ) (calls : List (Option Running)) (served : Option ℕ) (r : ReplyTo) (es : List Entry) → Few most last es → Few most last (row_tells calls served r ++ es)
+tells_few most last calls None r es few = few
+tells_few most last calls (Some slot) r es few = by (call_on slot calls)
+  where
+    by : (o : Option Running) → Few most last (row_told slot r o ++ es)
+    by None = few
+    by (Some running) = few
+
+fits_few : (most : ℕ) (k : Asker) (calls : List (Option Running)) (r : ReplyTo) (f : Flight) (t : Bool) → Few most k.last (row_fits k calls r f t)
+fits_few most k calls r f true =
+    tells_few most k.last calls f.slot r (row_sends k k.last (without_flight f.xid k.flights) k.queue) (sends_few most k k.last (without_flight f.xid k.flights) k.queue)
+fits_few most k calls r f false = rests_few most k
+
+hears_few : (most : ℕ) (k : Asker) (calls : List (Option Running)) (r : ReplyTo) (o : Option Flight) → Few most k.last (row_hears k calls r o)
+hears_few most k calls r None = rests_few most k
+hears_few most k calls r (Some f) = fits_few most k calls r f (answer_fits f.op r.answer)
+
+reply_few : (most : ℕ) (k : Asker) (calls : List (Option Running)) (r : ReplyTo) (t : Bool) → Few most k.last (row_reply k calls r t)
+reply_few most k calls r true = hears_few most k calls r (find_flight r.xid.0 k.flights)
+reply_few most k calls r false = rests_few most k
+
+heeds_few : (most : ℕ) (k : Asker) (calls : List (Option Running)) (m : Message) → Few most k.last (row_heeds k calls m)
+heeds_few most k calls (message.Reply r) = reply_few most k calls r (same_life r.who k.who && nat_eq r.boot k.boot)
+heeds_few most k calls m = rests_few most k
+
+-- ---- a target's rows have no request in flight
+
+executes_low : (most osts : ℕ) (v : Server) (at : At) (r : RequestOf) (t : Bool) → Low most (row_executes osts v at r t)
+executes_low most osts v at r true = tt
+executes_low most osts v at r false = tt
+
+kept_low : (most : ℕ) (v : Server) (o : Option ReplyTo) → Low most (row_kept v o)
+kept_low most v None = tt
+kept_low most v (Some k) = tt
+
+number_low : (most osts : ℕ) (v : Server) (at : At) (r : RequestOf) (o : Option ReplyTo) (newer same : Bool) → Low most (by_number osts v at r o newer same)
+number_low most osts v at r o true same = executes_low most osts v at r (changes osts v.tree (asked r none))
+number_low most osts v at r o false true = kept_low most v o
+number_low most osts v at r o false false = tt
+
+served_low : (most osts t : ℕ) (past : List Line) (at : At) (m : Message) → Low most (target.row_heeds osts (server_at osts t past) (λ who tag. slot_at who tag t past) at m)
+served_low most osts t past at (message.Request r) =
+    let slot = slot_at r.who r.tag t past in
+    number_low most osts (server_at osts t past) at r slot.reply (nat_lt slot.taken r.xid.0) (nat_eq slot.taken r.xid.0)
+served_low most osts t past at m = tt
+
+-- ---- all rows
+
+row_low : (head : Head) (past : List Line) (at : At) (node : Node) (event : Event) (most : ℕ) → ((c t : ℕ) → last_at c t past + length (step_posts (row head past at node event)) ≤ most) → Low most (row head past at node event)
+row_low head past at (Client c) (Begins slot call) most le = call_few most (asker_at head.flight c 0 past) at slot call (call_at c slot past) (le c 0)
+row_low head past at (Client c) (Comes n (Target t) m) most le = heeds_few most (asker_at head.flight c t past) (calls_at c past) m (le c t)
+row_low head past at (Client c) (Comes n (Client d) m) most le = tt
+row_low head past at (Client c) Ticks most le =
+    let k = asker_at head.flight c 0 past in
+    resends_few most k.last k k.flights (row_rests k) (rests_few most k) (le c 0)
+row_low head past at (Client c) Dies most le = tt
+row_low head past at (Target t) (Comes n (Client c) m) most le = served_low most head.osts t past at m
+row_low head past at (Target t) (Comes n (Target u) m) most le = tt
+row_low head past at (Target t) Ticks most le = tt
+row_low head past at (Target t) (Begins slot call) most le = tt
+row_low head past at (Target t) Dies most le = tt
+
+pub turn_asks : (head : Head) (past : List Line) (at : At) (event : Event) (sent : ℕ) → ((c t : ℕ) → last_at c t past ≤ sent)
+    → (d u : ℕ) → last_at d u (with_turn at (row head past at at.node event) past) ≤ sent + length (step_posts (row head past at at.node event))
+turn_asks head past at event sent low d u =
+    let es = row head past at at.node event in
+    let old = low d u in
+    turn_low (sent + length (step_posts es)) d u past at es (omega arith) (row_low head past at at.node event (sent + length (step_posts es)) (λ c t. let h = low c t in omega arith))

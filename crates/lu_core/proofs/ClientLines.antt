@@ -1,25 +1,24 @@
 -- A line of a client is performed: it is passed over, a limit forbids it, or it is a turn.
 use Rattle.std.proofs.Common.{◌≡◌, ℕ, ◌+◌, ◌<◌, true, false, List, ◌∷◌, length, refl, sym, subst, ap, ◌∙◌, arith}
-use Rattle.std.specs.Prelude.{nat_le, ◌||◌, slice_index_or, IsSomeAnd}
+use Rattle.std.specs.Prelude.{nat_le, ◌||◌, slice_index_or}
 use Rattle.std.proofs.lemmas.Bool.{cond-true, cond-false}
 use Rattle.lu_base.specs.declared.ids.At.{At}
 use Rattle.lu_base.specs.declared.ids.Node.{Node}
 use Rattle.lu_base.specs.declared.ids.Node.TheVariants.{Client, Target}
-use Rattle.lu_msg.specs.declared.calls.Call.{Call as CallOf}
-use Rattle.lu_scene.specs.declared.scene.Head.{Head as SceneHead}
 use Rattle.lu_scene.specs.declared.scene.Scene.{Scene}
 use Rattle.lu_scene.specs.declared.scene.SceneLine.{SceneLine}
 use Rattle.lu_trace.specs.declared.traces.Step.{Step}
 use Rattle.lu_target.specs.Targets.{TargetState}
-use Rattle.lu_table.specs.Calls.{is_dead, operation_of}
-use Rattle.lu_table.specs.Runs.{Head, Event, IsAsked}
+use Rattle.lu_client_rows.specs.Calls.{is_dead}
+use Rattle.lu_table.specs.Runs.{Head, Event}
 use Rattle.lu_core.specs.declared.clients.Clients.{Clients}
 use Rattle.lu_core.specs.declared.players.Player.{Player}
 use Rattle.lu_core.specs.Scenario.{Config, Goes, head_of, past_of, is_full, turn_of, with_turn, due, left, due_alive, next_by, next}
-use Rattle.lu_core.specs.Performed.{Asks, CanPerform}
 use Rattle.lu_core.specs.Shown.{ShowsClients, ShowsTarget, turn_at, GivesRow, TakesTurn, TargetGives, TargetTakes}
 use Rattle.lu_core.specs.Progress.{Shows, IsAt, IsDue, Performs}
-use Rattle.lu_core.proofs.WireTurns.{number_of, unnumbered, Adds, wire_turned, target_waits}
+use Rattle.lu_core.proofs.Covered.{CanPerform}
+use Rattle.lu_core.proofs.WireTurns.{number_of, unnumbered, Adds, wire_turned}
+use Rattle.lu_core.proofs.TargetTurns.{target_waits}
 use Rattle.lu_core.proofs.ClientTurns.{target_turn}
 use Rattle.lu_core.proofs.Placed.{relined, can, counted, goes_on}
 
@@ -30,10 +29,10 @@ full_is head p c h = rw (h.wire.turns, h.wire.messages) refl
 turn_is : (at : At) (turns : ℕ) (c : Config) (node : Node) → at ≡ record { stamp = record { 0 = turns + 1 }; node = node } → turns ≡ length c.turns → at ≡ record { stamp = record { 0 = length c.turns + 1 }; node = node }
 turn_is at turns c node is same = is ∙ ap (λ n. record { stamp = record { 0 = n + 1 }; node = node }) same
 
-module _ (p : Player) (line : SceneLine) (client : ℕ) (event : Event) (does : (head : Head) (c : Config) (rest : List SceneLine) → next_by head c (line ∷ rest) ≡ due_alive head c client event rest) (names : (head : SceneHead) → CanPerform head line → client < head.clients) where
+module _ (p : Player) (line : SceneLine) (client : ℕ) (event : Event) (does : (head : Head) (c : Config) (rest : List SceneLine) → next_by head c (line ∷ rest) ≡ due_alive head c client event rest) (names : (lines : List SceneLine) (clients : ℕ) → CanPerform lines clients line → client < clients) where
   -- whether the client is dead
   dead_is : (scene : Scene) (c : Config) (rest : List SceneLine) → IsAt scene p c → c.lines ≡ line ∷ rest → is_dead client (past_of c) ≡ slice_index_or p.clients.dead.items client false
-  dead_is scene c rest at is = sym (at.shows.clients.dead client false (names scene.head (can scene p c at line rest is)))
+  dead_is scene c rest at is = sym (at.shows.clients.dead client false (names scene.lines scene.head.clients (can scene p c at line rest is)))
 
   next_is : (scene : Scene) (c : Config) (rest : List SceneLine) → IsAt scene p c → c.lines ≡ line ∷ rest → next (head_of scene.head) c ≡ due_alive (head_of scene.head) c client event rest
   next_is scene c rest at is = let head = head_of scene.head in ap (λ lines. next_by head c lines) is ∙ does head c rest
@@ -65,28 +64,25 @@ module _ (p : Player) (line : SceneLine) (client : ℕ) (event : Event) (does : 
       let adds2 = subst (λ (a : At). Adds p.wire q.wire a step (number_of event)) same adds in
       let shows : Shows head q (with_turn head c1 turn) = record {
         clients = takes2 head (past_of c) at.shows.clients;
-        target = subst (λ (t : TargetState). ShowsTarget head (past_of (with_turn head c1 turn)) t) (sym target) (target_waits head (past_of c) p.target turn.at client event at.shows.target);
+        target = subst (λ (t : TargetState). ShowsTarget head (past_of (with_turn head c1 turn)) t) (sym target) (target_waits head (past_of c) p.target turn.at turn.entries refl at.shows.target);
         wire = wire_turned head p.wire q.wire c1 (Client client) event step (relined head p c rest at.shows).wire (counted scene p c at) (gives2 head (past_of c) at.shows.clients) adds2;
       } in
       (with_turn head c1 turn, goes_on scene p c at q (with_turn head c1 turn) goes shows, refl)
 
 -- what is asked of a client's step
-pub one_of : (p : Player) (line : SceneLine) (client : ℕ) → ((head : SceneHead) → CanPerform head line → client < head.clients) → IsDue p line → client < length p.clients.clients.items
+pub one_of : (p : Player) (line : SceneLine) (client : ℕ) → ((lines : List SceneLine) (clients : ℕ) → CanPerform lines clients line → client < clients) → IsDue p line → client < length p.clients.clients.items
 one_of p line client names due =
     let at = due.1.1.1 in
-    let below = names due.1.0.head (can due.1.0 p due.1.1.0 at line due.0 due.1.1.2) in
+    let below = names due.1.0.lines due.1.0.head.clients (can due.1.0 p due.1.1.0 at line due.0 due.1.1.2) in
     let count = at.shows.clients.count in
     omega arith
 
-pub dead_one_of : (p : Player) (line : SceneLine) (client : ℕ) → ((head : SceneHead) → CanPerform head line → client < head.clients) → IsDue p line → client < length p.clients.dead.items
+pub dead_one_of : (p : Player) (line : SceneLine) (client : ℕ) → ((lines : List SceneLine) (clients : ℕ) → CanPerform lines clients line → client < clients) → IsDue p line → client < length p.clients.dead.items
 dead_one_of p line client names due =
     let at = due.1.1.1 in
-    let below = names due.1.0.head (can due.1.0 p due.1.1.0 at line due.0 due.1.1.2) in
+    let below = names due.1.0.lines due.1.0.head.clients (can due.1.0 p due.1.1.0 at line due.0 due.1.1.2) in
     let count = at.shows.clients.dead_count in
     omega arith
-
-pub asked_of : (call : CallOf) → Asks call → IsSomeAnd (operation_of call) IsAsked
-asked_of call asks = rw asks.becomes asks.asked
 
 -- ---- the metadata target's time goes on
 

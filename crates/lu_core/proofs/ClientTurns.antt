@@ -1,5 +1,5 @@
 -- What the player has of its clients after one more turn.
-use Rattle.std.proofs.Common.{◌≡◌, ℕ, zero, suc, ◌<◌, Bool, true, false, List, length, Option, Some, None, refl, sym, subst, ap, ◌∙◌, arith, get_or}
+use Rattle.std.proofs.Common.{◌≡◌, ℕ, zero, suc, ◌<◌, Bool, true, false, List, [], ◌∷◌, length, Option, Some, None, refl, sym, subst, ap, ◌∙◌, arith, get_or}
 use Rattle.std.specs.Prelude.{nat_eq, if◌then◌else◌, slice_set, slice_get, slice_index_or, IsSomeAnd, IsSome}
 use Rattle.std.proofs.lemmas.List.{length-set, get_or-set_same, get_or-set_other}
 use Rattle.std.proofs.lemmas.Bool.{eqb-true}
@@ -7,41 +7,41 @@ use Rattle.std.proofs.lemmas.Bool.Decides.{nat_tests}
 use Rattle.lu_base.specs.declared.ids.At.{At}
 use Rattle.lu_base.specs.declared.ids.Node.{Node}
 use Rattle.lu_base.specs.declared.ids.Node.TheVariants.{Client, Target}
-use Rattle.lu_client.specs.Clients.{ClientState, HasCall, turn_of}
-use Rattle.lu_client.specs.Turns.{after_entries}
-use Rattle.lu_table.specs.Words.{Entry, Line, is_client}
-use Rattle.lu_table.specs.Calls.{Begun, call_of, is_dead}
-use Rattle.lu_table.specs.ClientRows.{asker_of, row_dies}
-use Rattle.lu_table.specs.Steps.{asker_turn}
-use Rattle.lu_table.specs.Runs.{Head, with_turn}
-use Rattle.lu_lawful.proofs.Lists.{self}
 use Rattle.lu_base.specs.declared.ids.Stamp.{Stamp}
 use Rattle.lu_msg.specs.declared.calls.Call.{Call}
 use Rattle.lu_msg.specs.declared.messages.Message.{Message}
-use Rattle.lu_table.specs.ClientRows.{row_call, row_heeds, row_takes, row_tick}
-use Rattle.lu_core.specs.Shown.{calls_of, client_of, ShowsClients, turn_at}
-use Rattle.lu_core.proofs.Folds.{asker_own, asker_other, calls_own, calls_other, dead_other, dead_lives}
-use Rattle.lu_core.proofs.Plain.{dies, plain, heeds_plain, tick_plain, call_plain}
+use Rattle.lu_words.specs.Carried.{Running}
+use Rattle.lu_words.specs.Words.{Entry, Take, Line, with_turn, is_client}
+use Rattle.lu_client_rows.specs.Calls.{call_at, calls_at, calls_from, calls_turn, is_dead}
+use Rattle.lu_client_rows.specs.States.{asker_at, asker_turn}
+use Rattle.lu_client_rows.specs.Rows.{row_call, row_heeds, row_takes, row_tick, row_dies}
+use Rattle.lu_table.specs.Runs.{Head}
+use Rattle.lu_guards.proofs.Lists.{self}
+use Rattle.lu_guards.proofs.After.{dies, asker_own, asker_other, calls_own, calls_other, dead_other, dead_lives}
+use Rattle.lu_client.specs.Clients.{ClientState, HasCall, turn_of}
+use Rattle.lu_client.specs.Turns.{after_entries}
+use Rattle.lu_core.specs.Shown.{client_of, ShowsClients, turn_at}
+use Rattle.lu_core.proofs.Plain.{plain, heeds_plain, tick_plain, call_plain}
 
-same_client : (head : Head) (past new : List Line) (c : ℕ) → asker_of head.flight c new ≡ asker_of head.flight c past → calls_of c new ≡ calls_of c past → client_of head new c ≡ client_of head past c
-same_client head past new c a b = ap (λ k. record { client = c; spent = false; asker = k; calls = calls_of c new }) a ∙ ap (λ cs. record { client = c; spent = false; asker = asker_of head.flight c past; calls = cs }) b
+same_client : (head : Head) (past new : List Line) (c : ℕ) → asker_at head.flight c 0 new ≡ asker_at head.flight c 0 past → calls_at c new ≡ calls_at c past → client_of head new c ≡ client_of head past c
+same_client head past new c a b = ap (λ k. record { client = c; spent = false; asker = k; calls = calls_at c new }) a ∙ ap (λ cs. record { client = c; spent = false; asker = asker_at head.flight c 0 past; calls = cs }) b
 
 -- the turn of another node
 client_else : (head : Head) (past : List Line) (at : At) (es : List Entry) (c : ℕ) → is_client c at.node ≡ false → client_of head (with_turn at es past) c ≡ client_of head past c
-client_else head past at es c other = same_client head past (with_turn at es past) c (asker_other head.flight c past at es other) (calls_other c past at es other)
+client_else head past at es c other = same_client head past (with_turn at es past) c (asker_other head.flight c 0 past at es other) (calls_other c past at es other)
 
 -- its own turn
-client_own : (head : Head) (past : List Line) (at : At) (es : List Entry) (c : ℕ) → is_client c at.node ≡ true → client_of head (with_turn at es past) c ≡ after_entries at (client_of head past c) es
+client_own : (head : Head) (past : List Line) (at : At) (es : List Entry) (c : ℕ) → is_client c at.node ≡ true → client_of head (with_turn at es past) c ≡ after_entries (client_of head past c) es
 client_own head past at es c mine =
-    ap (λ k. record { client = c; spent = false; asker = k; calls = calls_of c (with_turn at es past) }) (asker_own head.flight c past at es mine)
-    ∙ ap (λ cs. record { client = c; spent = false; asker = asker_turn (asker_of head.flight c past) es; calls = cs }) (calls_own c past at es mine)
+    ap (λ k. record { client = c; spent = false; asker = k; calls = calls_at c (with_turn at es past) }) (asker_own head.flight c 0 past at es mine)
+    ∙ ap (λ cs. record { client = c; spent = false; asker = asker_turn (asker_at head.flight c 0 past) es; calls = cs }) (calls_own c past at es mine)
 
 at_client : (at : At) (c d : ℕ) → at.node ≡ Client c → is_client d at.node ≡ nat_eq d c
 at_client at c d e = ap (λ (n : Node). is_client d n) e
 
 -- a turn of a client in which it doesn't die
 pub own_turn : (head : Head) (past : List Line) (clients : List ClientState) (dead : List Bool) (c : ℕ) (at : At) (es : List Entry) (s : ClientState)
-    → ShowsClients head past clients dead → c < head.clients → at.node ≡ Client c → dies es ≡ false → s ≡ after_entries at (client_of head past c) es
+    → ShowsClients head past clients dead → c < head.clients → at.node ≡ Client c → dies es ≡ false → s ≡ after_entries (client_of head past c) es
     → ShowsClients head (with_turn at es past) (slice_set clients c s) dead
 own_turn head past clients dead c at es s h within node lives is =
     record {
@@ -95,26 +95,37 @@ target_turn head past clients dead t at es h node =
 
 -- ---- whether a slot has a call
 
-call_at : (head : Head) (past : List Line) (c slot : ℕ) → slot < 4 → slice_get (client_of head past c).calls slot ≡ Some (call_of c slot past)
-call_at head past c zero small = refl
-call_at head past c (suc zero) small = refl
-call_at head past c (suc (suc zero)) small = refl
-call_at head past c (suc (suc (suc zero))) small = refl
-call_at head past c (suc (suc (suc (suc slot)))) small = absurd (omega arith)
+call_is : (head : Head) (past : List Line) (c slot : ℕ) → slot < 4 → slice_get (client_of head past c).calls slot ≡ Some (call_at c slot past)
+call_is head past c zero small = refl
+call_is head past c (suc zero) small = refl
+call_is head past c (suc (suc zero)) small = refl
+call_is head past c (suc (suc (suc zero))) small = refl
+call_is head past c (suc (suc (suc (suc slot)))) small = absurd (omega arith)
 
-pub has_call : (head : Head) (past : List Line) (c slot : ℕ) → slot < 4 → HasCall (client_of head past c) slot → (b : Begun) × (call_of c slot past ≡ Some b)
-has_call head past c slot small h = by (call_of c slot past) refl (subst (λ o. IsSomeAnd o (λ call. IsSome call)) (call_at head past c slot small) h)
+pub has_call : (head : Head) (past : List Line) (c slot : ℕ) → slot < 4 → HasCall (client_of head past c) slot → (b : Running) × (call_at c slot past ≡ Some b)
+has_call head past c slot small h = by (call_at c slot past) refl (subst (λ o. IsSomeAnd o (λ call. IsSome call)) (call_is head past c slot small) h)
   where
-    by : (o : Option Begun) → call_of c slot past ≡ o → IsSome o → (b : Begun) × (call_of c slot past ≡ Some b)
+    by : (o : Option Running) → call_at c slot past ≡ o → IsSome o → (b : Running) × (call_at c slot past ≡ Some b)
     by None e h = absurd (cc)
     by (Some b) e h = (b, e)
 
-pub no_call : (head : Head) (past : List Line) (c slot : ℕ) → slot < 4 → (HasCall (client_of head past c) slot → ⊥) → call_of c slot past ≡ None
-no_call head past c slot small h = by (call_of c slot past) refl
+pub no_call : (head : Head) (past : List Line) (c slot : ℕ) → slot < 4 → (HasCall (client_of head past c) slot → ⊥) → call_at c slot past ≡ None
+no_call head past c slot small h = by (call_at c slot past) refl
   where
-    by : (o : Option Begun) → call_of c slot past ≡ o → call_of c slot past ≡ None
+    by : (o : Option Running) → call_at c slot past ≡ o → call_at c slot past ≡ None
     by None e = e
-    by (Some b) e = absurd (h (rw (call_at head past c slot small, e) refl))
+    by (Some b) e = absurd (h (rw (call_is head past c slot small, e) refl))
+
+-- ---- the number of a message that is taken changes no client
+
+calls_take : (slot : ℕ) (calls : List (Option Running)) (n : ℕ) (from : Node) (m : Message) → calls_from slot calls (Take n from m) ≡ calls
+calls_take slot [] n from m = refl
+calls_take slot (call ∷ calls) n from m = ap (λ (cs : List (Option Running)). call ∷ cs) (calls_take (suc slot) calls n from m)
+
+takes_same : (c : ClientState) (n : ℕ) (from : Node) (m : Message) → after_entries c (row_takes c.asker c.calls 0 from m) ≡ after_entries c (row_takes c.asker c.calls n from m)
+takes_same c n from m =
+    ap (λ (calls : List (Option Running)). record c { asker = asker_turn c.asker (row_heeds c.asker c.calls m); calls = calls_turn calls (row_heeds c.asker c.calls m) })
+    (calls_take 0 c.calls 0 from m ∙ sym (calls_take 0 c.calls n from m))
 
 -- ---- as the steps of a client say it
 
@@ -126,27 +137,27 @@ module _ (head : Head) (past : List Line) (clients : List ClientState) (dead : L
   pub stepped : ShowsClients head past clients dead → c < length clients → old ≡ get_or clients c old → old ≡ client_of head past c
   stepped h within is = let count = h.count in is ∙ h.each c old (omega arith)
 
-  pub steps : ShowsClients head past clients dead → c < length clients → (es : List Entry) → dies es ≡ false → new ≡ after_entries here (client_of head past c) es
+  pub steps : ShowsClients head past clients dead → c < length clients → (es : List Entry) → dies es ≡ false → new ≡ after_entries (client_of head past c) es
       → ShowsClients head (with_turn here es past) (slice_set clients c new) dead
   steps h within es lives is = let count = h.count in own_turn head past clients dead c here es new h (omega arith) refl lives is
 
-  pub delivered : (n : ℕ) (m : Message) → new ≡ after_entries (turn_of stamp old) old (row_takes old.asker 0 m) → ShowsClients head past clients dead → c < length clients → old ≡ get_or clients c old
-      → ShowsClients head (with_turn here (row_takes (asker_of head.flight c past) n m) past) (slice_set clients c new) dead
+  pub delivered : (n : ℕ) (m : Message) → new ≡ after_entries old (row_takes old.asker old.calls 0 (Target 0) m) → ShowsClients head past clients dead → c < length clients → old ≡ get_or clients c old
+      → ShowsClients head (with_turn here (row_takes (asker_at head.flight c 0 past) (calls_at c past) n (Target 0) m) past) (slice_set clients c new) dead
   delivered n m after h within is =
-      steps h within (row_takes (asker_of head.flight c past) n m) (plain (row_heeds (asker_of head.flight c past) m) (heeds_plain (asker_of head.flight c past) m)).lives
-      (subst (λ (o : ClientState). new ≡ after_entries (turn_of stamp o) o (row_takes o.asker n m)) (stepped h within is) after)
+      steps h within (row_takes (asker_at head.flight c 0 past) (calls_at c past) n (Target 0) m) (plain (row_heeds (asker_at head.flight c 0 past) (calls_at c past) m) (heeds_plain (asker_at head.flight c 0 past) (calls_at c past) m)).lives
+      (subst (λ (o : ClientState). new ≡ after_entries o (row_takes o.asker o.calls n (Target 0) m)) (stepped h within is) (after ∙ takes_same old n (Target 0) m))
 
-  pub ticked : new ≡ after_entries (turn_of stamp old) old (row_tick old.asker) → ShowsClients head past clients dead → c < length clients → old ≡ get_or clients c old
-      → ShowsClients head (with_turn here (row_tick (asker_of head.flight c past)) past) (slice_set clients c new) dead
+  pub ticked : new ≡ after_entries old (row_tick old.asker) → ShowsClients head past clients dead → c < length clients → old ≡ get_or clients c old
+      → ShowsClients head (with_turn here (row_tick (asker_at head.flight c 0 past)) past) (slice_set clients c new) dead
   ticked after h within is =
-      steps h within (row_tick (asker_of head.flight c past)) (plain (row_tick (asker_of head.flight c past)) (tick_plain (asker_of head.flight c past))).lives
-      (subst (λ (o : ClientState). new ≡ after_entries (turn_of stamp o) o (row_tick o.asker)) (stepped h within is) after)
+      steps h within (row_tick (asker_at head.flight c 0 past)) (plain (row_tick (asker_at head.flight c 0 past)) (tick_plain (asker_at head.flight c 0 past))).lives
+      (subst (λ (o : ClientState). new ≡ after_entries o (row_tick o.asker)) (stepped h within is) after)
 
-  pub began : (slot : ℕ) (call : Call) → slot < 4 → ((old.spent ≡ false) × HasCall old slot → ⊥) → new ≡ after_entries (turn_of stamp old) old (row_call old.asker slot call None) → ShowsClients head past clients dead → c < length clients → old ≡ get_or clients c old
-      → ShowsClients head (with_turn here (row_call (asker_of head.flight c past) slot call (call_of c slot past)) past) (slice_set clients c new) dead
+  pub began : (slot : ℕ) (call : Call) → slot < 4 → ((old.spent ≡ false) × HasCall old slot → ⊥) → new ≡ after_entries old (row_call old.asker (turn_of stamp old) slot call None) → ShowsClients head past clients dead → c < length clients → old ≡ get_or clients c old
+      → ShowsClients head (with_turn here (row_call (asker_at head.flight c 0 past) here slot call (call_at c slot past)) past) (slice_set clients c new) dead
   began slot call small free after h within is =
       let same = stepped h within is in
-      let none : call_of c slot past ≡ None = no_call head past c slot small (λ has. free (ap (λ (o : ClientState). o.spent) same, subst (λ (o : ClientState). HasCall o slot) (sym same) has)) in
-      subst (λ o. ShowsClients head (with_turn here (row_call (asker_of head.flight c past) slot call o) past) (slice_set clients c new) dead) (sym none)
-      (steps h within (row_call (asker_of head.flight c past) slot call None) (plain (row_call (asker_of head.flight c past) slot call None) (call_plain (asker_of head.flight c past) slot call None)).lives
-      (subst (λ (o : ClientState). new ≡ after_entries (turn_of stamp o) o (row_call o.asker slot call None)) same after))
+      let none : call_at c slot past ≡ None = no_call head past c slot small (λ has. free (ap (λ (o : ClientState). o.spent) same, subst (λ (o : ClientState). HasCall o slot) (sym same) has)) in
+      subst (λ o. ShowsClients head (with_turn here (row_call (asker_at head.flight c 0 past) here slot call o) past) (slice_set clients c new) dead) (sym none)
+      (steps h within (row_call (asker_at head.flight c 0 past) here slot call None) (call_plain (asker_at head.flight c 0 past) here slot call None).lives
+      (subst (λ (o : ClientState). new ≡ after_entries o (row_call o.asker (turn_of stamp o) slot call None)) same after))

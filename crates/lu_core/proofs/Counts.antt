@@ -1,6 +1,6 @@
 -- A turn makes at most one transaction, so a run has at most as many as turns.
-use Rattle.std.proofs.Common.{◌≡◌, ℕ, ◌+◌, ◌≤◌, Bool, true, false, List, [], ◌∷◌, Option, Some, None, refl, ◌∙◌, arith}
-use Rattle.std.specs.Prelude.{nat_lt, nat_eq}
+use Rattle.std.proofs.Common.{◌≡◌, ℕ, ◌+◌, ◌≤◌, Bool, true, false, List, [], ◌∷◌, Option, Some, None, arith}
+use Rattle.std.specs.Prelude.{nat_lt, nat_eq, if◌then◌else◌}
 use Rattle.lu_base.specs.declared.ids.At.{At}
 use Rattle.lu_base.specs.declared.ids.Node.{Node}
 use Rattle.lu_base.specs.declared.ids.Node.TheVariants.{Client, Target}
@@ -9,33 +9,28 @@ use Rattle.lu_msg.specs.declared.messages.Message.TheVariants as message
 use Rattle.lu_msg.specs.declared.messages.Reply.{Reply as ReplyTo}
 use Rattle.lu_msg.specs.declared.messages.Request.{Request as RequestOf}
 use Rattle.lu_machine.specs.Footprint.{changes}
-use Rattle.lu_table.specs.Words.{Entry, Begin, Busy, Queues, Flies, Send, Take, Tick, Heard, Told, Die, Act, Txn as Made, Line}
-use Rattle.lu_table.specs.Calls.{call_of}
-use Rattle.lu_table.specs.Targets.{Server, count_of, slot_of, server_of}
-use Rattle.lu_table.specs.ClientRows.{asker_of, row_call, row_heeds, row_tick}
-use Rattle.lu_table.specs.TargetRows as target
-use Rattle.lu_table.specs.TargetRows.{asked, none, row_executes, row_known, row_request}
-use Rattle.lu_table.specs.Runs.{Head, Event, Begins, Comes, Ticks, Dies, row, with_turn}
-use Rattle.lu_lawful.proofs.Guards.{line}
+use Rattle.lu_words.specs.Carried.{Slot}
+use Rattle.lu_words.specs.Words.{Entry, Txn as Made, Line, line, with_turn, is_target}
+use Rattle.lu_target_rows.specs.States.{Server, none, count_at, slot_at, server_at}
+use Rattle.lu_target_rows.specs.Rows as target
+use Rattle.lu_target_rows.specs.Rows.{asked, row_executes, row_kept, by_number, row_request}
+use Rattle.lu_client_rows.specs.Calls.{call_at, calls_at}
+use Rattle.lu_client_rows.specs.States.{asker_at}
+use Rattle.lu_client_rows.specs.Rows.{row_heeds, row_tick}
+use Rattle.lu_table.specs.Runs.{Head, Event, Begins, Comes, Ticks, Dies, row}
 use Rattle.lu_core.proofs.Plain.{made_by, plain, call_plain, heeds_plain, tick_plain}
 
-pub turn_counts : (past : List Line) (at : At) (es : List Entry) → count_of (with_turn at es past) ≡ count_of past + made_by es
-turn_counts past at [] = omega arith
-turn_counts past at (e ∷ es) = turn_counts (line at e ∷ past) at es ∙ by e
+pub turn_counts : (t : ℕ) (past : List Line) (at : At) (es : List Entry) → count_at t (with_turn at es past) ≤ count_at t past + made_by es
+turn_counts t past at [] = omega arith
+turn_counts t past at (e ∷ es) = by e (turn_counts t (line at e ∷ past) at es)
   where
-    by : (e : Entry) → count_of (line at e ∷ past) + made_by es ≡ count_of past + made_by (e ∷ es)
-    by (Made d) = omega arith
-    by (Send to m) = refl
-    by (Begin slot call) = refl
-    by (Busy slot) = refl
-    by (Queues t q) = refl
-    by (Flies t f) = refl
-    by (Take n m) = refl
-    by Tick = refl
-    by (Heard t f r) = refl
-    by (Told slot named answer) = refl
-    by Die = refl
-    by (Act d) = refl
+    made : (d : Entry) (mine : Bool) (low : ℕ) → low ≤ (if mine then count_at t past + 1 else count_at t past) + made_by es → low ≤ count_at t past + (made_by es + 1)
+    made d true low le = omega arith
+    made d false low le = omega arith
+
+    by : (e : Entry) → count_at t (with_turn at es (line at e ∷ past)) ≤ count_at t (line at e ∷ past) + made_by es → count_at t (with_turn at es (line at e ∷ past)) ≤ count_at t past + made_by (e ∷ es)
+    by (Made d) le = made (Made d) (is_target t at.node) (count_at t (with_turn at es (line at (Made d) ∷ past))) le
+    by e le = le
 
 -- ---- the metadata target makes at most one
 
@@ -43,28 +38,33 @@ executes_made : (osts : ℕ) (v : Server) (at : At) (r : RequestOf) (t : Bool) �
 executes_made osts v at r true = omega arith
 executes_made osts v at r false = omega arith
 
-known_made : (osts : ℕ) (v : Server) (at : At) (r : RequestOf) (k : ReplyTo) (more same : Bool) → made_by (row_known osts v at r k more same) ≤ 1
-known_made osts v at r k true same = executes_made osts v at r (changes osts v.tree (asked r none))
-known_made osts v at r k false true = omega arith
-known_made osts v at r k false false = omega arith
+kept_made : (v : Server) (o : Option ReplyTo) → made_by (row_kept v o) ≤ 1
+kept_made v None = omega arith
+kept_made v (Some k) = omega arith
 
-request_made : (osts : ℕ) (v : Server) (at : At) (r : RequestOf) (o : Option ReplyTo) → made_by (row_request osts v at r o) ≤ 1
-request_made osts v at r None = executes_made osts v at r (changes osts v.tree (asked r none))
-request_made osts v at r (Some k) = known_made osts v at r k (nat_lt k.xid.0 r.xid.0) (nat_eq k.xid.0 r.xid.0)
+number_made : (osts : ℕ) (v : Server) (at : At) (r : RequestOf) (o : Option ReplyTo) (more same : Bool) → made_by (by_number osts v at r o more same) ≤ 1
+number_made osts v at r o true same = executes_made osts v at r (changes osts v.tree (asked r none))
+number_made osts v at r o false true = kept_made v o
+number_made osts v at r o false false = omega arith
 
-served_made : (head : Head) (past : List Line) (at : At) (m : Message) → made_by (target.row_heeds head.osts (server_of head.osts past) (λ who tag. slot_of who tag past) at m) ≤ 1
-served_made head past at (message.Request r) = request_made head.osts (server_of head.osts past) at r (slot_of r.who r.tag past)
-served_made head past at m = omega arith
+request_made : (osts : ℕ) (v : Server) (at : At) (r : RequestOf) (slot : Slot) → made_by (row_request osts v at r slot) ≤ 1
+request_made osts v at r slot = number_made osts v at r slot.reply (nat_lt slot.taken r.xid.0) (nat_eq slot.taken r.xid.0)
+
+served_made : (osts : ℕ) (past : List Line) (at : At) (t : ℕ) (m : Message) → made_by (target.row_heeds osts (server_at osts t past) (λ who tag. slot_at who tag t past) at m) ≤ 1
+served_made osts past at t (message.Request r) = request_made osts (server_at osts t past) at r (slot_at r.who r.tag t past)
+served_made osts past at t m = omega arith
 
 none_made : (n : ℕ) → n ≡ 0 → n ≤ 1
 none_made n e = omega arith
 
 pub row_made : (head : Head) (past : List Line) (at : At) (node : Node) (event : Event) → made_by (row head past at node event) ≤ 1
-row_made head past at (Client c) (Begins slot call) = none_made _ (plain (row_call (asker_of head.flight c past) slot call (call_of c slot past)) (call_plain (asker_of head.flight c past) slot call (call_of c slot past))).made
-row_made head past at (Client c) (Comes n m) = none_made _ (plain (row_heeds (asker_of head.flight c past) m) (heeds_plain (asker_of head.flight c past) m)).made
-row_made head past at (Client c) Ticks = none_made _ (plain (row_tick (asker_of head.flight c past)) (tick_plain (asker_of head.flight c past))).made
+row_made head past at (Client c) (Begins slot call) = none_made _ (call_plain (asker_at head.flight c 0 past) at slot call (call_at c slot past)).made
+row_made head past at (Client c) (Comes n (Target t) m) = none_made _ (plain (row_heeds (asker_at head.flight c t past) (calls_at c past) m) (heeds_plain (asker_at head.flight c t past) (calls_at c past) m)).made
+row_made head past at (Client c) (Comes n (Client d) m) = omega arith
+row_made head past at (Client c) Ticks = none_made _ (plain (row_tick (asker_at head.flight c 0 past)) (tick_plain (asker_at head.flight c 0 past))).made
 row_made head past at (Client c) Dies = omega arith
-row_made head past at (Target t) (Comes n m) = served_made head past at m
+row_made head past at (Target t) (Comes n (Client c) m) = served_made head.osts past at t m
+row_made head past at (Target t) (Comes n (Target u) m) = omega arith
 row_made head past at (Target t) Ticks = omega arith
 row_made head past at (Target t) (Begins slot call) = omega arith
 row_made head past at (Target t) Dies = omega arith

@@ -17,20 +17,21 @@ use Rattle.lu_scene.specs.declared.scene.SceneLine.{SceneLine}
 use Rattle.lu_client.specs.Clients.{ClientState}
 use Rattle.lu_service.specs.Names.{IsNamed}
 use Rattle.lu_target.specs.Targets.{server, serves, Fits}
-use Rattle.lu_table.specs.Sent.{count_sent, Sent}
-use Rattle.lu_table.specs.Imports.{last_of}
-use Rattle.lu_table.specs.Targets.{Server, count_of}
+use Rattle.lu_words.specs.Sent.{count_sent, Sent}
+use Rattle.lu_target_rows.specs.States.{Server, count_at}
+use Rattle.lu_client_rows.specs.Imports.{last_at}
 use Rattle.lu_table.specs.Runs.{Head}
-use Rattle.lu_lawful.proofs.Obey.{grown}
+use Rattle.lu_guards.proofs.Obey.{grown}
+use Rattle.lu_facts.proofs.Sides.{from_target, from_client}
 use Rattle.lu_lawful.proofs.Three.{IsThree}
 use Rattle.lu_core.specs.declared.players.Player.{Player}
 use Rattle.lu_core.specs.Scenario.{Config, Goes, head_of, past_of, next, more, left}
-use Rattle.lu_core.specs.Performed.{CanPerform}
 use Rattle.lu_core.specs.Shown.{is_down_in, MayTake}
 use Rattle.lu_core.specs.Progress.{Shows, IsAt, is_thrown_in}
 use Rattle.lu_core.proofs.Posts.{count_all, sent_at_is}
+use Rattle.lu_core.proofs.Covered.{CanPerform, AllCan}
 use Rattle.lu_core.proofs.Nodes.{IsNode, Fitting, to_node, request_fits}
-use Rattle.lu_core.proofs.Runs.{Sound, AllCan, Whole, leads_whole, start_whole}
+use Rattle.lu_core.proofs.Runs.{Sound, Whole, leads_whole}
 
 pub in_room : (turns sent : ℕ) → (nat_le 65536 turns || nat_le 131072 sent) ≡ false → (turns < 65536) × (sent < 131072)
 in_room turns sent e = (grind (arith, nat_tests), grind (arith, nat_tests))
@@ -43,15 +44,15 @@ module _ (scene : Scene) (p : Player) (c : Config) (at : IsAt scene p c) where
   abbrev head : Head
   head = head_of scene.head
 
-  whole : Whole scene.head c
-  whole = leads_whole scene.head _ c at.leads (start_whole scene at.performed)
+  whole : Whole scene c
+  whole = leads_whole scene at.performed c at.leads
 
   pub sound : Sound head c.turns c.posts
   sound = whole.sound
 
   -- the next line is one that is performed
-  pub can : (line : SceneLine) (rest : List SceneLine) → c.lines ≡ line ∷ rest → CanPerform scene.head line
-  can line rest is = (subst (λ (lines : List SceneLine). AllCan scene.head lines) is whole.lines).0
+  pub can : (line : SceneLine) (rest : List SceneLine) → c.lines ≡ line ∷ rest → CanPerform scene.lines scene.head.clients line
+  can line rest is = (subst (λ (lines : List SceneLine). AllCan scene lines) is whole.lines).0
 
   pub counted : length c.posts ≡ count_sent (past_of c)
   counted = sym (length-map c.posts (λ post. post.sent)) ∙ ap length sound.same ∙ count_all (past_of c)
@@ -65,8 +66,8 @@ module _ (scene : Scene) (p : Player) (c : Config) (at : IsAt scene p c) where
   numbers client d within room =
       let count = at.shows.clients.count in
       let each = at.shows.clients.each client d (omega arith) in
-      let last : (slice_index_or p.clients.clients.items client d).asker.last ≡ last_of client 0 (past_of c) = ap (λ (s : ClientState). s.asker.last) each in
-      let low = sound.asked client in
+      let last : (slice_index_or p.clients.clients.items client d).asker.last ≡ last_at client 0 (past_of c) = ap (λ (s : ClientState). s.asker.last) each in
+      let low = sound.asked client 0 in
       let shown = at.shows.wire.messages in
       omega arith
 
@@ -76,33 +77,33 @@ module _ (scene : Scene) (p : Player) (c : Config) (at : IsAt scene p c) where
   performed_op (op.Rmdir path) is = tt
   performed_op _ is = absurd is
 
-  fits : (n t : ℕ) (m : Message) → Sent (past_of c) n (Target t) m → Fits IsNamed p.target.journal m
-  fits n t (message.Request r) s =
-      let f : Fitting head r = request_fits head (past_of c) (grown head c.turns sound.run) n t r s in
-      let most = at.performed.head.most_flight in
+  fits : (n : ℕ) (from : Node) (t : ℕ) (m : Message) → Sent (past_of c) n from (Target t) m → Fits IsNamed p.target.journal m
+  fits n from t (message.Request r) s =
+      let f : Fitting head r = request_fits head (past_of c) (grown head c.turns sound.run) n from t r s in
+      let most = at.performed.limits.head.most_flight in
       let tag = f.tag in
       record {
         slot = subst (λ (w : Who). serves p.target w ≡ true) (sym f.life) (at.shows.target.served r.who.client f.one);
         tag = omega arith;
         op = performed_op r.op f.op;
       }
-  fits n t _ s = tt
+  fits n from t _ s = tt
 
   pub may_take : (n : ℕ) (m : SentMessage) → sent_at c.posts n ≡ Some m → p.wire.turns < 65536 → p.wire.messages < 131072 → MayTake p.clients.clients.items p.target m
   may_take n m e few room =
-      let was : Sent (past_of c) n m.to m.message = sent_at_is (past_of c) c.posts n m sound.same e in
-      by m.to was (to_node head (past_of c) (grown head c.turns sound.run) n m.to m.message was)
+      let was : Sent (past_of c) n m.from m.to m.message = sent_at_is (past_of c) c.posts n m sound.same e in
+      by m.to was (to_node head (past_of c) (grown head c.turns sound.run) n m.from m.to m.message was)
     where
-      by : (node : Node) → Sent (past_of c) n node m.message → IsNode head node → MayTake p.clients.clients.items p.target (record { number = m.number; stamp = m.stamp; from = m.from; to = node; message = m.message })
+      by : (node : Node) → Sent (past_of c) n m.from node m.message → IsNode head node → MayTake p.clients.clients.items p.target (record { number = m.number; stamp = m.stamp; from = m.from; to = node; message = m.message })
       by (Client d) was one =
           let count = at.shows.clients.count in
           let within : d < length p.clients.clients.items = omega arith in
-          (within, λ s. numbers d s within room)
+          (from_target head (past_of c) n d m.from m.message (grown head c.turns sound.run) was, within, λ s. numbers d s within room)
       by (Target t) was one =
           let counts = sound.counted in
           let turns = at.shows.wire.turns in
-          let count : (server p.target).count ≡ count_of (past_of c) = ap (λ (v : Server). v.count) at.shows.target.server in
-          (one, fits n t m.message was, at.shows.target.id, at.shows.target.unspent, omega arith)
+          let count : (server p.target).count ≡ count_at 0 (past_of c) = ap (λ (v : Server). v.count) at.shows.target.server in
+          ((from_client head (past_of c) n t m.from m.message (grown head c.turns sound.run) was).1, one, fits n m.from t m.message was, at.shows.target.id, at.shows.target.unspent, omega arith)
 
   pub may_take_it : (n : ℕ) → is_thrown_in p n ≡ Some false → p.wire.turns < 65536 → p.wire.messages < 131072 → IsSomeAnd (sent_at p.wire.links n) (MayTake p.clients.clients.items p.target)
   may_take_it n up few room = by (sent_at p.wire.links n) refl up

@@ -9,11 +9,9 @@ use Rattle.lu_msg.specs.declared.messages.Post.{Post}
 use Rattle.lu_net.specs.declared.links.Posted.{Posted}
 use Rattle.lu_net.specs.declared.links.Sent.{Sent as SentMessage}
 use Rattle.lu_net.specs.Posts.{sent_at, spend}
-use Rattle.lu_table.specs.Words.{Entry, Begin, Busy, Queues, Flies, Send, Take, Tick, Heard, Told, Die, Act, Txn as Made, Line}
-use Rattle.lu_table.specs.Sent.{count_sent, Sent}
-use Rattle.lu_table.specs.Steps.{step_posts}
-use Rattle.lu_table.specs.Runs.{with_turn}
-use Rattle.lu_lawful.proofs.Guards.{line}
+use Rattle.lu_words.specs.Words.{Entry, Send, Line, line, with_turn}
+use Rattle.lu_words.specs.Sent.{count_sent, Sent}
+use Rattle.lu_words.specs.Given.{step_posts}
 use Rattle.lu_core.specs.Scenario.{posted}
 
 -- ---- what was sent, in order
@@ -33,17 +31,7 @@ turn_sends past at (e ∷ es) = turn_sends (line at e ∷ past) at es ∙ by e
   where
     by : (e : Entry) → all_sent (line at e ∷ past) ++ map (sent_by at) (step_posts es) ≡ all_sent past ++ map (sent_by at) (step_posts (e ∷ es))
     by (Send to m) = append_assoc (all_sent past) (sent_by at (record { to = to; message = m }) ∷ []) (map (sent_by at) (step_posts es))
-    by (Begin slot call) = refl
-    by (Busy slot) = refl
-    by (Queues t q) = refl
-    by (Flies t f) = refl
-    by (Take n m) = refl
-    by Tick = refl
-    by (Heard t f r) = refl
-    by (Told slot named answer) = refl
-    by Die = refl
-    by (Act d) = refl
-    by (Made d) = refl
+    by e = refl
 
 length_snoc : {A : Type 0} (xs : List A) (x : A) → length (xs ++ x ∷ []) ≡ length xs + 1
 length_snoc [] x = refl
@@ -55,17 +43,7 @@ count_all (l ∷ past) = by l.entry (count_all past)
   where
     by : (e : Entry) → length (all_sent past) ≡ count_sent past → length (all_sent (line l.at e ∷ past)) ≡ count_sent (line l.at e ∷ past)
     by (Send to m) h = length_snoc (all_sent past) (sent_by l.at (record { to = to; message = m })) ∙ ap (λ n. n + 1) h
-    by (Begin slot call) h = h
-    by (Busy slot) h = h
-    by (Queues t q) h = h
-    by (Flies t f) h = h
-    by (Take n m) h = h
-    by Tick h = h
-    by (Heard t f r) h = h
-    by (Told slot named answer) h = h
-    by Die h = h
-    by (Act d) h = h
-    by (Made d) h = h
+    by e h = h
 
 -- the last of a list, or one of those before
 get_snoc : {A : Type 0} (xs : List A) (x y : A) (k : ℕ) → slice_get (xs ++ x ∷ []) k ≡ Some y → ((k ≡ length xs) × (x ≡ y)) ⊎ (slice_get xs k ≡ Some y)
@@ -78,38 +56,28 @@ get_snoc (z ∷ xs) x y (suc k) e =
     (λ (p : slice_get xs k ≡ Some y). inr p)
     (get_snoc xs x y k e)
 
-pub sent_of : (past : List Line) (place : ℕ) (s : SentMessage) → slice_get (all_sent past) place ≡ Some s → Sent past (place + 1) s.to s.message
+pub sent_of : (past : List Line) (place : ℕ) (s : SentMessage) → slice_get (all_sent past) place ≡ Some s → Sent past (place + 1) s.from s.to s.message
 sent_of [] place s e = absurd (cc)
 sent_of (l ∷ past) place s e = by l.entry (sent_of past place s) e
   where
-    by : (e : Entry) → (slice_get (all_sent past) place ≡ Some s → Sent past (place + 1) s.to s.message) → slice_get (all_sent (line l.at e ∷ past)) place ≡ Some s → Sent (line l.at e ∷ past) (place + 1) s.to s.message
+    by : (e : Entry) → (slice_get (all_sent past) place ≡ Some s → Sent past (place + 1) s.from s.to s.message) → slice_get (all_sent (line l.at e ∷ past)) place ≡ Some s → Sent (line l.at e ∷ past) (place + 1) s.from s.to s.message
     by (Send to m) h e =
         let x = sent_by l.at (record { to = to; message = m }) in
         ⊎_elim
-        (λ (p : (place ≡ length (all_sent past)) × (x ≡ s)). inl (ap (λ n. n + 1) (p.0 ∙ count_all past), ap (λ (v : SentMessage). v.to) p.1, ap (λ (v : SentMessage). v.message) p.1))
+        (λ (p : (place ≡ length (all_sent past)) × (x ≡ s)). inl (ap (λ n. n + 1) (p.0 ∙ count_all past), ap (λ (v : SentMessage). v.from) p.1, ap (λ (v : SentMessage). v.to) p.1, ap (λ (v : SentMessage). v.message) p.1))
         (λ (p : slice_get (all_sent past) place ≡ Some s). inr (h p))
         (get_snoc (all_sent past) x s place e)
-    by (Begin slot call) h e = h e
-    by (Busy slot) h e = h e
-    by (Queues t q) h e = h e
-    by (Flies t f) h e = h e
-    by (Take n m) h e = h e
-    by Tick h e = h e
-    by (Heard t f r) h e = h e
-    by (Told slot named answer) h e = h e
-    by Die h e = h e
-    by (Act d) h e = h e
-    by (Made d) h e = h e
+    by d h e = h e
 
 -- ---- the messages of a configuration, whether they are spent or not
 
 abbrev pub messages : List Posted → List SentMessage
 messages posts = map (λ post. post.sent) posts
 
-pub sent_at_is : (past : List Line) (posts : List Posted) (n : ℕ) (s : SentMessage) → messages posts ≡ all_sent past → sent_at posts n ≡ Some s → Sent past n s.to s.message
+pub sent_at_is : (past : List Line) (posts : List Posted) (n : ℕ) (s : SentMessage) → messages posts ≡ all_sent past → sent_at posts n ≡ Some s → Sent past n s.from s.to s.message
 sent_at_is past posts zero s same e = absurd (cc)
 sent_at_is past posts (suc place) s same e =
-    subst (λ k. Sent past k s.to s.message) (add-one place)
+    subst (λ k. Sent past k s.from s.to s.message) (add-one place)
     (sent_of past place s (ap (λ ms. slice_get ms place) (sym same) ∙ slice_get-map (λ post. post.sent) posts place ∙ e))
 
 set_messages : (posts : List Posted) (place : ℕ) (p q : Posted) → slice_get posts place ≡ Some p → q.sent ≡ p.sent → messages (slice_set posts place q) ≡ messages posts

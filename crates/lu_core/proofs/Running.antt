@@ -12,7 +12,7 @@ use Rattle.lu_scene.specs.declared.scene.Scene.{Scene}
 use Rattle.lu_scene.specs.declared.scene.SceneLine.{SceneLine}
 use Rattle.lu_scene.specs.declared.scene.SceneLine.TheVariants.{RunSome, Deliver, Lose, Tick}
 use Rattle.lu_table.specs.Runs.{Head}
-use Rattle.lu_lawful.proofs.Obey.{grown}
+use Rattle.lu_guards.proofs.Obey.{grown}
 use Rattle.lu_core.specs.declared.players.Player.{Player}
 use Rattle.lu_core.specs.Scenario.{Config, Stops, Goes, head_of, past_of, is_full, is_down, due, left, comes, runs, next_by, next}
 use Rattle.lu_core.specs.Shown.{is_down_in}
@@ -29,7 +29,7 @@ pub down_is : (scene : Scene) (p : Player) (c : Config) (at : IsAt scene p c) (n
 down_is scene p c at n m found =
     let head = head_of scene.head in
     let s = sound scene p c at in
-    by m.to (to_node head (past_of c) (grown head c.turns s.run) n m.to m.message (sent_at_is (past_of c) c.posts n m s.same found))
+    by m.to (to_node head (past_of c) (grown head c.turns s.run) n m.from m.to m.message (sent_at_is (past_of c) c.posts n m s.same found))
   where
     by : (node : Node) → IsNode (head_of scene.head) node → is_down node (past_of c) ≡ is_down_in p.clients.dead.items node
     by (Client d) one = sym (at.shows.clients.dead d false one)

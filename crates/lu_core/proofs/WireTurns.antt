@@ -10,37 +10,34 @@ use Rattle.lu_msg.specs.declared.messages.Message.TheVariants as message
 use Rattle.lu_msg.specs.declared.messages.Reply.{Reply as ReplyTo}
 use Rattle.lu_msg.specs.declared.messages.Request.{Request as RequestOf}
 use Rattle.lu_machine.specs.Footprint.{changes}
-use Rattle.lu_target.specs.Targets.{TargetState}
 use Rattle.lu_trace.specs.declared.traces.Step.{Step}
-use Rattle.lu_table.specs.Words.{Entry, Line}
-use Rattle.lu_table.specs.Sent.{count_sent}
-use Rattle.lu_table.specs.Printed.{printed}
-use Rattle.lu_table.specs.Calls.{call_of}
-use Rattle.lu_table.specs.Targets.{Server, slot_of, server_of}
-use Rattle.lu_table.specs.ClientRows.{asker_of, row_call, row_heeds, row_tick}
-use Rattle.lu_table.specs.TargetRows as target
-use Rattle.lu_table.specs.TargetRows.{asked, none, row_executes, row_known, row_request}
-use Rattle.lu_table.specs.Steps.{step_of, step_lines, step_posts}
-use Rattle.lu_table.specs.Runs as table
+use Rattle.lu_words.specs.Carried.{Slot}
+use Rattle.lu_words.specs.Words.{Line}
+use Rattle.lu_words.specs.Sent.{count_sent}
+use Rattle.lu_words.specs.Printed.{printed}
+use Rattle.lu_words.specs.Given.{step_of, step_lines, step_posts}
+use Rattle.lu_target_rows.specs.States.{Server, none, server_at, slot_at}
+use Rattle.lu_target_rows.specs.Rows as target
+use Rattle.lu_target_rows.specs.Rows.{asked, row_executes, row_kept, by_number}
+use Rattle.lu_client_rows.specs.Calls.{call_at, calls_at}
+use Rattle.lu_client_rows.specs.States.{asker_at}
+use Rattle.lu_client_rows.specs.Rows.{row_heeds, row_tick}
 use Rattle.lu_table.specs.Runs.{Head, Event, Begins, Comes, Ticks, Dies, row}
 use Rattle.lu_core.specs.declared.wire.Wire.{Wire}
 use Rattle.lu_core.specs.Scenario.{Config, past_of, posted, turn_of, with_turn}
 use Rattle.lu_core.specs.Numbering.{last_after_all, numbered_lines}
 use Rattle.lu_core.specs.Progress.{ShowsWire}
-use Rattle.lu_core.specs.Shown.{ShowsTarget}
-use Rattle.lu_core.proofs.Plain.{Takes, is_plain, plain, call_plain, heeds_plain, tick_plain}
-use Rattle.lu_core.proofs.Folds.{plain_server, plain_slots}
+use Rattle.lu_core.proofs.Plain.{Takes, plain, call_plain, heeds_plain, tick_plain}
 use Rattle.lu_core.proofs.Numbers.{turn_prints, lines_last}
 use Rattle.lu_core.proofs.Posts.{posts_length}
-use Rattle.lu_core.proofs.TargetTurns.{target_else}
 
 -- the number of the message that comes, and the event as a node sees it, which doesn't know that number
 abbrev pub number_of : Event → ℕ
-number_of (Comes n m) = n
+number_of (Comes n from m) = n
 number_of _ = 0
 
 abbrev pub unnumbered : Event → Event
-unnumbered (Comes n m) = Comes 0 m
+unnumbered (Comes n from m) = Comes 0 from m
 unnumbered event = event
 
 -- ---- a turn takes no message but that which comes
@@ -49,25 +46,29 @@ executes_take : (osts : ℕ) (v : Server) (at : At) (r : RequestOf) (n : ℕ) (t
 executes_take osts v at r n true = tt
 executes_take osts v at r n false = tt
 
-known_takes : (osts : ℕ) (v : Server) (at : At) (r : RequestOf) (k : ReplyTo) (n : ℕ) (more same : Bool) → Takes n (row_known osts v at r k more same)
-known_takes osts v at r k n true same = executes_take osts v at r n (changes osts v.tree (asked r none))
-known_takes osts v at r k n false true = tt
-known_takes osts v at r k n false false = tt
+kept_takes : (v : Server) (n : ℕ) (o : Option ReplyTo) → Takes n (row_kept v o)
+kept_takes v n None = tt
+kept_takes v n (Some k) = tt
 
-request_takes : (osts : ℕ) (v : Server) (at : At) (r : RequestOf) (n : ℕ) (o : Option ReplyTo) → Takes n (row_request osts v at r o)
-request_takes osts v at r n None = executes_take osts v at r n (changes osts v.tree (asked r none))
-request_takes osts v at r n (Some k) = known_takes osts v at r k n (nat_lt k.xid.0 r.xid.0) (nat_eq k.xid.0 r.xid.0)
+number_takes : (osts : ℕ) (v : Server) (at : At) (r : RequestOf) (o : Option ReplyTo) (n : ℕ) (newer same : Bool) → Takes n (by_number osts v at r o newer same)
+number_takes osts v at r o n true same = executes_take osts v at r n (changes osts v.tree (asked r none))
+number_takes osts v at r o n false true = kept_takes v n o
+number_takes osts v at r o n false false = tt
 
-served_takes : (osts : ℕ) (v : Server) (slot : Who → ℕ → Option ReplyTo) (at : At) (n : ℕ) (m : Message) → Takes n (target.row_heeds osts v slot at m)
-served_takes osts v slot at n (message.Request r) = request_takes osts v at r n (slot r.who r.tag)
+served_takes : (osts : ℕ) (v : Server) (slot : Who → ℕ → Slot) (at : At) (n : ℕ) (m : Message) → Takes n (target.row_heeds osts v slot at m)
+served_takes osts v slot at n (message.Request r) =
+    let s = slot r.who r.tag in
+    number_takes osts v at r s.reply n (nat_lt s.taken r.xid.0) (nat_eq s.taken r.xid.0)
 served_takes osts v slot at n m = tt
 
 pub row_takes_one : (head : Head) (past : List Line) (at : At) (node : Node) (event : Event) → Takes (number_of event) (row head past at node event)
-row_takes_one head past at (Client c) (Begins slot call) = (plain (row_call (asker_of head.flight c past) slot call (call_of c slot past)) (call_plain (asker_of head.flight c past) slot call (call_of c slot past))).takes 0
-row_takes_one head past at (Client c) (Comes n m) = (refl, (plain (row_heeds (asker_of head.flight c past) m) (heeds_plain (asker_of head.flight c past) m)).takes n)
-row_takes_one head past at (Client c) Ticks = (plain (row_tick (asker_of head.flight c past)) (tick_plain (asker_of head.flight c past))).takes 0
+row_takes_one head past at (Client c) (Begins slot call) = (call_plain (asker_at head.flight c 0 past) at slot call (call_at c slot past)).takes 0
+row_takes_one head past at (Client c) (Comes n (Target t) m) = (refl, (plain (row_heeds (asker_at head.flight c t past) (calls_at c past) m) (heeds_plain (asker_at head.flight c t past) (calls_at c past) m)).takes n)
+row_takes_one head past at (Client c) (Comes n (Client d) m) = tt
+row_takes_one head past at (Client c) Ticks = (plain (row_tick (asker_at head.flight c 0 past)) (tick_plain (asker_at head.flight c 0 past))).takes 0
 row_takes_one head past at (Client c) Dies = tt
-row_takes_one head past at (Target t) (Comes n m) = (refl, served_takes head.osts (server_of head.osts past) (λ who tag. slot_of who tag past) at n m)
+row_takes_one head past at (Target t) (Comes n (Client c) m) = (refl, served_takes head.osts (server_at head.osts t past) (λ who tag. slot_at who tag t past) at n m)
+row_takes_one head past at (Target t) (Comes n (Target u) m) = tt
 row_takes_one head past at (Target t) Ticks = tt
 row_takes_one head past at (Target t) (Begins slot call) = tt
 row_takes_one head past at (Target t) Dies = tt
@@ -76,24 +77,18 @@ row_takes_one head past at (Target t) Dies = tt
 
 pub same_lines : (head : Head) (past : List Line) (at : At) (node : Node) (event : Event) (k : ℕ)
     → numbered_lines k (number_of event) (step_lines at (row head past at node (unnumbered event))) ≡ numbered_lines k (number_of event) (step_lines at (row head past at node event))
-same_lines head past at (Client c) (Comes n m) k = refl
-same_lines head past at (Client c) (Begins slot call) k = refl
-same_lines head past at (Client c) Ticks k = refl
-same_lines head past at (Client c) Dies k = refl
-same_lines head past at (Target t) (Comes n m) k = refl
-same_lines head past at (Target t) (Begins slot call) k = refl
-same_lines head past at (Target t) Ticks k = refl
-same_lines head past at (Target t) Dies k = refl
+same_lines head past at (Client c) (Comes n (Target t) m) k = refl
+same_lines head past at (Target t) (Comes n (Client c) m) k = refl
+same_lines head past at (Client c) (Comes n (Client d) m) k = refl
+same_lines head past at (Target t) (Comes n (Target u) m) k = refl
+same_lines head past at node event k = refl
 
 pub same_posts : (head : Head) (past : List Line) (at : At) (node : Node) (event : Event) → step_posts (row head past at node (unnumbered event)) ≡ step_posts (row head past at node event)
-same_posts head past at (Client c) (Comes n m) = refl
-same_posts head past at (Client c) (Begins slot call) = refl
-same_posts head past at (Client c) Ticks = refl
-same_posts head past at (Client c) Dies = refl
-same_posts head past at (Target t) (Comes n m) = refl
-same_posts head past at (Target t) (Begins slot call) = refl
-same_posts head past at (Target t) Ticks = refl
-same_posts head past at (Target t) Dies = refl
+same_posts head past at (Client c) (Comes n (Target t) m) = refl
+same_posts head past at (Target t) (Comes n (Client c) m) = refl
+same_posts head past at (Client c) (Comes n (Client d) m) = refl
+same_posts head past at (Target t) (Comes n (Target u) m) = refl
+same_posts head past at node event = refl
 
 -- what `add` does
 pub record Adds (old new : Wire) (at : At) (step : Step) (taken : ℕ) : Type 0 where
@@ -127,23 +122,6 @@ wire_turned head old new c node event step h counted gives adds =
       turns = omega arith;
       messages = omega arith;
     }
-
--- ---- the metadata target in a client's turn
-
-pub target_waits : (head : Head) (past : List Line) (t : TargetState) (at : At) (c : ℕ) (event : Event) → ShowsTarget head past t → ShowsTarget head (table.with_turn at (row head past at (Client c) event) past) t
-target_waits head past t at c event h = by event
-  where
-    quiet : (es : List Entry) → is_plain es ≡ true → ShowsTarget head (table.with_turn at es past) t
-    quiet es is = target_else head past t at es h (plain_server head.osts (server_of head.osts past) es is) (λ who tag. plain_slots who tag (slot_of who tag past) es is)
-
-    by : (event : Event) → ShowsTarget head (table.with_turn at (row head past at (Client c) event) past) t
-    by (Begins slot call) = quiet (row_call (asker_of head.flight c past) slot call (call_of c slot past)) (call_plain (asker_of head.flight c past) slot call (call_of c slot past))
-    by (Comes n m) =
-        let es = row_heeds (asker_of head.flight c past) m in
-        let is = heeds_plain (asker_of head.flight c past) m in
-        target_else head past t at (row head past at (Client c) (Comes n m)) h (plain_server head.osts (server_of head.osts past) es is) (λ who tag. plain_slots who tag (slot_of who tag past) es is)
-    by Ticks = quiet (row_tick (asker_of head.flight c past)) (tick_plain (asker_of head.flight c past))
-    by Dies = target_else head past t at (row head past at (Client c) Dies) h refl (λ who tag. refl)
 
 -- the clauses of `add` together
 pub added : {E : Type 0} (r : Result (Unit {0}) E) (old new : Wire) (at : At) (step : Step) (taken : ℕ)

@@ -10,8 +10,8 @@ use Rattle.lu_trace.specs.declared.traces.End.{End}
 use Rattle.lu_trace.specs.declared.traces.End.TheVariants.{Done, Limit}
 use Rattle.lu_client.specs.Clients.{ClientState}
 use Rattle.lu_target.specs.Targets.{TargetState}
-use Rattle.lu_table.specs.Printed.{printed}
-use Rattle.lu_table.specs.Sent.{count_sent}
+use Rattle.lu_words.specs.Printed.{printed}
+use Rattle.lu_words.specs.Sent.{count_sent}
 use Rattle.lu_table.specs.Runs.{Head, Comes}
 use Rattle.lu_core.specs.declared.players.Player.{Player}
 use Rattle.lu_core.specs.declared.wire.Wire.{Wire}
@@ -74,7 +74,7 @@ abbrev pub spent : Config → ℕ → List SceneLine → Config
 spent c number lines = record { turns = c.turns; posts = spend c.posts number; lines = lines }
 
 abbrev pub taken : Head → Config → ℕ → SentMessage → List SceneLine → Config
-taken head c number m lines = with_turn head (spent c number lines) (turn_of head (spent c number lines) m.to (Comes number m.message))
+taken head c number m lines = with_turn head (spent c number lines) (turn_of head (spent c number lines) m.to (Comes number m.from m.message))
 
 abbrev pub Takes : Player → ℕ → Player → Type 0
 Takes p number q = (scene : Scene) (c : Config) (m : SentMessage) (lines : List SceneLine) → IsAt scene p c → sent_at c.posts number ≡ Some m → Shows (head_of scene.head) q (taken (head_of scene.head) c number m lines)

@@ -9,7 +9,7 @@ use Rattle.lu_scene.specs.declared.scene.SceneLine.{SceneLine}
 use Rattle.lu_scene.specs.declared.scene.SceneLine.TheVariants.{Call, Run, Deliver, Lose, Tick}
 use Rattle.lu_trace.specs.declared.traces.End.TheVariants.{Done}
 use Rattle.lu_trace.specs.Traces.{trace_text}
-use Rattle.lu_table.specs.Printed.{printed}
+use Rattle.lu_words.specs.Printed.{printed}
 use Rattle.lu_core.specs.Scenario.{Config, past_of}
 
 abbrev a : List (List ℕ)

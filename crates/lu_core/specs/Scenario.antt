@@ -12,9 +12,9 @@ use Rattle.lu_scene.specs.declared.scene.Head.{Head as SceneHead}
 use Rattle.lu_scene.specs.declared.scene.Scene.{Scene}
 use Rattle.lu_scene.specs.declared.scene.SceneLine.{SceneLine}
 use Rattle.lu_scene.specs.declared.scene.SceneLine.TheVariants.{Call, Run, RunSome, Deliver, Lose, Tick, Die}
-use Rattle.lu_table.specs.Words.{Line}
-use Rattle.lu_table.specs.Calls.{is_dead}
-use Rattle.lu_table.specs.Steps.{step_posts}
+use Rattle.lu_words.specs.Words.{Line}
+use Rattle.lu_words.specs.Given.{step_posts}
+use Rattle.lu_client_rows.specs.Calls.{is_dead}
 use Rattle.lu_table.specs.Runs.{Head, Event, Begins, Comes, Ticks, Dies, row, Turn, lines_of}
 
 -- the turns so far, the newest first; all messages so far, each spent (taken or lost) or not; and the lines left
@@ -74,7 +74,7 @@ module _ (head : Head) where
   comes c n (Some sent) thrown taken =
       if is_down sent.to (past_of c)
       then Goes (record { turns = c.turns; posts = spend c.posts n; lines = thrown })
-      else due (record { turns = c.turns; posts = spend c.posts n; lines = taken }) sent.to (Comes n sent.message)
+      else due (record { turns = c.turns; posts = spend c.posts n; lines = taken }) sent.to (Comes n sent.from sent.message)
 
   -- the least message that is neither taken nor lost; `done` are the lines that are left where there is none
   abbrev pub runs : Config → Option ℕ → List SceneLine → List SceneLine → List SceneLine → Next

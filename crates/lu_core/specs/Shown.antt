@@ -1,5 +1,5 @@
 -- What the player has of its nodes after a past.
-use Rattle.std.specs.Prelude.{◌≡◌, ℕ, ◌^◌, ◌<◌, Bool, true, false, List, [], ◌∷◌, length, slice_index_or, Option, None}
+use Rattle.std.specs.Prelude.{◌≡◌, ℕ, ◌^◌, ◌<◌, Bool, true, false, List, length, slice_index_or, None}
 use Rattle.lu_base.specs.declared.ids.At.{At}
 use Rattle.lu_base.specs.declared.ids.Node.{Node}
 use Rattle.lu_base.specs.declared.ids.Stamp.{Stamp}
@@ -8,22 +8,18 @@ use Rattle.lu_base.specs.declared.ids.Who.{Who}
 use Rattle.lu_client.specs.Clients.{ClientState}
 use Rattle.lu_net.specs.declared.links.Sent.{Sent}
 use Rattle.lu_service.specs.Names.{IsNamed}
-use Rattle.lu_target.specs.Targets.{TargetState, server, slot, serves, Fits}
-use Rattle.lu_table.specs.Words.{Line}
-use Rattle.lu_table.specs.Calls.{Begun, call_of, is_dead, life_of}
-use Rattle.lu_table.specs.Targets.{slot_of, server_of}
-use Rattle.lu_table.specs.ClientRows.{asker_of}
-use Rattle.lu_table.specs.Runs.{Head, Event, row, with_turn}
-use Rattle.lu_table.specs.Steps.{step_of}
+use Rattle.lu_target.specs.Targets.{TargetState, most_count, server, slot, serves, Fits}
+use Rattle.lu_words.specs.Words.{Line, with_turn}
+use Rattle.lu_words.specs.Given.{step_of}
+use Rattle.lu_target_rows.specs.States.{server_at, slot_at}
+use Rattle.lu_client_rows.specs.Calls.{calls_at, is_dead, first_life}
+use Rattle.lu_client_rows.specs.States.{asker_at}
+use Rattle.lu_table.specs.Runs.{Head, Event, row}
 use Rattle.lu_trace.specs.declared.traces.Step.{Step}
-
--- a client's calls on its four slots
-abbrev pub calls_of : ℕ → List Line → List (Option Begun)
-calls_of c past = call_of c 0 past ∷ call_of c 1 past ∷ call_of c 2 past ∷ call_of c 3 past ∷ []
 
 -- a client whose memory didn't run out
 abbrev pub client_of : Head → List Line → ℕ → ClientState
-client_of head past c = record { client = c; spent = false; asker = asker_of head.flight c past; calls = calls_of c past }
+client_of head past c = record { client = c; spent = false; asker = asker_at head.flight c 0 past; calls = calls_at c past }
 
 -- the clients by number, and which of them are dead
 pub record ShowsClients (head : Head) (past : List Line) (clients : List ClientState) (deaths : List Bool) : Type 0 where
@@ -53,9 +49,9 @@ pub record ShowsTarget (head : Head) (past : List Line) (t : TargetState) : Type
   pub id : t.id ≡ 0
   pub unspent : t.spent ≡ None
   pub osts : t.contents.osts ≡ head.osts
-  pub server : server t ≡ server_of head.osts past
-  pub slots : (who : Who) (tag : ℕ) → slot t who tag ≡ slot_of who tag past
-  pub served : (c : ℕ) → c < head.clients → serves t (life_of c past) ≡ true
+  pub server : server t ≡ server_at head.osts 0 past
+  pub slots : (who : Who) (tag : ℕ) → slot t who tag ≡ slot_at who tag 0 past
+  pub served : (c : ℕ) → c < head.clients → serves t (first_life c) ≡ true
 
 -- the same of the metadata target's turn
 abbrev pub TargetGives : TargetState → At → Event → Step → Type 0
@@ -64,14 +60,16 @@ TargetGives t at event step = (head : Head) (past : List Line) → ShowsTarget h
 abbrev pub TargetTakes : TargetState → At → Event → TargetState → Type 0
 TargetTakes t at event after = (head : Head) (past : List Line) → ShowsTarget head past t → ShowsTarget head (with_turn at (row head past at (Target 0) event) past) after
 
--- a node may take a message that goes to it: a client of the run, whose numbers aren't near their end, or the
--- metadata target
+-- a node may take a message that goes to it: a client of the run, whose numbers aren't near their end, one of the
+-- metadata target; or the metadata target, one of a client
 abbrev pub MayTake : List ClientState → TargetState → Sent → Type 0
 MayTake clients t sent = by sent.to
   where
     by : Node → Type 0
-    by (Client c) = (c < length clients) × ((d : ClientState) → (slice_index_or clients c d).asker.last < 2 ^ 63)
-    by (Target n) = (n ≡ 0) × Fits IsNamed t.journal sent.message × (t.id ≡ 0) × (t.spent ≡ None) × ((server t).count < 4294967295)
+    by (Client c) = (sent.from ≡ Target 0) × (c < length clients) × ((d : ClientState) → (slice_index_or clients c d).asker.last < 2 ^ 63)
+    by (Target n) =
+        ((c : ℕ) × (sent.from ≡ Client c)) × (n ≡ 0) × Fits IsNamed t.journal sent.message × (t.id ≡ 0) × (t.spent ≡ None)
+        × ((server t).count < most_count)
 
 -- what the turn of any node gives, and that the nodes show the past with it
 abbrev pub NodesGive : List ClientState → List Bool → TargetState → At → Event → Step → Type 0

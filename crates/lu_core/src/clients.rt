@@ -1,20 +1,20 @@
 //! The clients of a run.
 
-ghost use Rattle.std.specs.Prelude.{◌≡◌, ℕ, ◌^◌, ◌<◌, ◌≤◌, false, [], ◌∷◌, length, slice_index_or, IfOk, OnOk, IsSomeAnd};
-ghost use Rattle.lu_base.specs.declared.ids.Node.TheVariants.{Client as AtClient};
+ghost use Rattle.std.specs.Prelude.{◌≡◌, ℕ, ◌^◌, ◌<◌, ◌≤◌, false, [], ◌∷◌, length, slice_index_or, IfOk, OnOk, IsSome};
+ghost use Rattle.lu_base.specs.declared.ids.Node.TheVariants.{Client as AtClient, Target as AtTarget};
 ghost use Rattle.lu_client.specs.Clients.{ClientState};
-ghost use Rattle.lu_table.specs.Words.{Busy as BusyLine};
-ghost use Rattle.lu_table.specs.Calls.{operation_of};
-ghost use Rattle.lu_table.specs.Runs.{IsAsked, Begins, Comes, Ticks, Dies};
-ghost use Rattle.lu_table.specs.Steps.{step_of};
+ghost use Rattle.lu_words.specs.Words.{Busy as BusyLine};
+ghost use Rattle.lu_words.specs.Given.{step_of};
+ghost use Rattle.lu_client_rows.specs.Calls.{operation_of};
+ghost use Rattle.lu_table.specs.Runs.{Begins, Comes, Ticks, Dies};
 ghost use Rattle.lu_core.specs.Scenario.{head_of};
 ghost use Rattle.lu_core.specs.Shown.{ShowsClients, is_down_in, turn_at, GivesRow, TakesTurn};
 
 use lu_base::{At, Duplicate, Memory, Node, Stamp, TargetId};
 use lu_client::{Client, ClientFault};
-use lu_msg::{Call, Message, Sends};
+use lu_msg::{Call, Message};
 use lu_scene::Head;
-use lu_trace::{Entries, Entry, Line, Step};
+use lu_trace::{Entry, Step, Turn};
 use std::alloc::Global;
 
 /// The most unused locks that a client keeps, whatever the head says: the limit isn't observed yet.
@@ -85,10 +85,13 @@ impl Clients {
     ) -> Result<Step, Memory>
         requires one { client < length self.old.clients.items }
         requires slot { slot < 4 }
-        requires asked { IsSomeAnd (operation_of call.now) IsAsked }
+        requires asked { IsSome (operation_of call.now) }
         requires numbers { (d : ClientState) → (slice_index_or self.old.clients.items client d).asker.last < 2 ^ 63 }
-        ensures step { IfOk result (GivesRow self.old.clients.items self.old.dead.items (turn_at stamp (AtClient client)) (Begins slot call.now)) }
-        ensures after { OnOk result (TakesTurn self.old.clients.items self.old.dead.items (turn_at stamp (AtClient client)) (Begins slot call.now) self.new.clients.items self.new.dead.items) }
+        ensures step { IfOk result (GivesRow self.old.clients.items self.old.dead.items (turn_at stamp (AtClient client))
+            (Begins slot call.now)) }
+        ensures after { OnOk result (TakesTurn self.old.clients.items self.old.dead.items
+            (turn_at stamp (AtClient client)) (Begins slot call.now)
+            self.new.clients.items self.new.dead.items) }
     {
         let copied = call.copy(self.alloc)?;
         match self.clients[client as usize].begin(stamp, slot, copied) {
@@ -98,7 +101,7 @@ impl Clients {
         }
     }
 
-    /// The turn of a client to which a message comes.
+    /// The turn of a client to which a message of the metadata target comes.
     pub(crate) fn deliver(
         &mut self,
         stamp: Stamp,
@@ -107,8 +110,11 @@ impl Clients {
     ) -> Result<Step, Memory>
         requires one { client < length self.old.clients.items }
         requires numbers { (d : ClientState) → (slice_index_or self.old.clients.items client d).asker.last < 2 ^ 63 }
-        ensures step { IfOk result (GivesRow self.old.clients.items self.old.dead.items (turn_at stamp (AtClient client)) (Comes 0 message.now)) }
-        ensures after { OnOk result ((number : ℕ) → TakesTurn self.old.clients.items self.old.dead.items (turn_at stamp (AtClient client)) (Comes number message.now) self.new.clients.items self.new.dead.items) }
+        ensures step { IfOk result (GivesRow self.old.clients.items self.old.dead.items (turn_at stamp (AtClient client))
+            (Comes 0 (AtTarget 0) message.now)) }
+        ensures after { OnOk result ((number : ℕ) → TakesTurn self.old.clients.items self.old.dead.items
+            (turn_at stamp (AtClient client)) (Comes number (AtTarget 0) message.now)
+            self.new.clients.items self.new.dead.items) }
     {
         self.clients[client as usize].deliver(stamp, TargetId(0), message)
     }
@@ -117,8 +123,11 @@ impl Clients {
     pub(crate) fn tick(&mut self, stamp: Stamp, client: u16) -> Result<Step, Memory>
         requires one { client < length self.old.clients.items }
         requires numbers { (d : ClientState) → (slice_index_or self.old.clients.items client d).asker.last < 2 ^ 63 }
-        ensures step { IfOk result (GivesRow self.old.clients.items self.old.dead.items (turn_at stamp (AtClient client)) Ticks) }
-        ensures after { OnOk result (TakesTurn self.old.clients.items self.old.dead.items (turn_at stamp (AtClient client)) Ticks self.new.clients.items self.new.dead.items) }
+        ensures step { IfOk result (GivesRow self.old.clients.items self.old.dead.items (turn_at stamp (AtClient client))
+            Ticks) }
+        ensures after { OnOk result (TakesTurn self.old.clients.items self.old.dead.items
+            (turn_at stamp (AtClient client)) Ticks
+            self.new.clients.items self.new.dead.items) }
     {
         self.clients[client as usize].tick(stamp)
     }
@@ -127,8 +136,11 @@ impl Clients {
     pub(crate) fn die(&mut self, stamp: Stamp, client: u16) -> Result<Step, Memory>
         requires one { client < length self.old.clients.items }
         requires two { client < length self.old.dead.items }
-        ensures step { IfOk result (GivesRow self.old.clients.items self.old.dead.items (turn_at stamp (AtClient client)) Dies) }
-        ensures after { OnOk result (TakesTurn self.old.clients.items self.old.dead.items (turn_at stamp (AtClient client)) Dies self.new.clients.items self.new.dead.items) }
+        ensures step { IfOk result (GivesRow self.old.clients.items self.old.dead.items (turn_at stamp (AtClient client))
+            Dies) }
+        ensures after { OnOk result (TakesTurn self.old.clients.items self.old.dead.items
+            (turn_at stamp (AtClient client)) Dies
+            self.new.clients.items self.new.dead.items) }
     {
         let step = self.clients[client as usize].die(stamp)?;
         self.dead[client as usize] = true;
@@ -139,18 +151,14 @@ impl Clients {
     fn busy(&self, stamp: Stamp, client: u16, slot: u8) -> Result<Step, Memory>
         ensures step { IfOk result (λ step. step ≡ step_of (turn_at stamp (AtClient client)) (BusyLine slot ∷ [])) }
     {
-        let at = At {
-            stamp,
-            node: Node::Client(client),
-        };
-        let mut entries = Entries::new(self.alloc);
-        entries.push(Line {
-            at,
-            entry: Entry::Busy(slot),
-        })?;
-        Ok(Step {
-            sends: Sends::new(self.alloc),
-            entries,
-        })
+        let mut turn = Turn::new(
+            self.alloc,
+            At {
+                stamp,
+                node: Node::Client(client),
+            },
+        );
+        turn.note(Entry::Busy(slot))?;
+        Ok(turn.into_step())
     }
 }

@@ -5,7 +5,7 @@ ghost use Rattle.lu_base.specs.declared.ids.Node.TheVariants.{Client as AtClient
 ghost use Rattle.lu_net.specs.Posts.{sent_at, least_unspent};
 ghost use Rattle.lu_scene.specs.declared.scene.SceneLine.TheVariants.{Call as CallLine, Run as RunLine, RunSome as RunSomeLine, Deliver as DeliverLine, Tick as TickLine, Die as DieLine};
 ghost use Rattle.lu_table.specs.Runs.{IsHead};
-ghost use Rattle.lu_table.specs.Calls.{life_of};
+ghost use Rattle.lu_client_rows.specs.Calls.{first_life};
 ghost use Rattle.lu_txn.specs.Slots.{is_among};
 ghost use Rattle.lu_core.specs.Scenario.{head_of};
 ghost use Rattle.lu_core.specs.Shown.{ShowsClients, ShowsTarget, is_down_in, MayTake};
@@ -268,7 +268,8 @@ fn take_from(
     requires may { IsSomeAnd (sent_at wire.old.links number) (MayTake clients.old.clients.items target.old) }
     requires turns { wire.old.turns < 65536 }
     requires messages { wire.old.messages < 131072 }
-    ensures takes { OnOk result (TakesFrom clients.old.clients.items clients.old.dead.items target.old wire.old number clients.new.clients.items clients.new.dead.items target.new wire.new) }
+    ensures takes { OnOk result (TakesFrom clients.old.clients.items clients.old.dead.items target.old wire.old number
+        clients.new.clients.items clients.new.dead.items target.new wire.new) }
     ensures turns { OnOk result (wire.new.turns ≡ wire.old.turns + 1) }
 {
     let Some(sent) = wire.links.at(number) else {
@@ -285,7 +286,7 @@ fn take_from(
 
 /// The first lives of so many clients.
 fn first_lives(alloc: Global, clients: u16) -> Result<Lives, Memory>
-    ensures all { IfOk result (λ lives. (c : ℕ) → c < clients → is_among (life_of c []) lives ≡ true) }
+    ensures all { IfOk result (λ lives. (c : ℕ) → c < clients → is_among (first_life c) lives ≡ true) }
 {
     let mut lives = Lives::new(alloc);
     for client in 0..clients {

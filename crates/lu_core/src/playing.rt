@@ -25,7 +25,8 @@ pub struct Played {
 /// Performs a scenario, to its end or to the limit of turns and messages.
 pub fn play(alloc: Global, scene: &Scene) -> Result<Played, Memory>
     requires performed { IsPerformed scene.now }
-    ensures run { IfOk result (λ played. (c : Config) × Leads (head_of scene.now.head) (start scene.now) c × HasEnded (head_of scene.now.head) c played.end × TracesTo scene.now c played.trace) }
+    ensures run { IfOk result (λ played. (c : Config) × Leads (head_of scene.now.head) (start scene.now) c
+        × HasEnded (head_of scene.now.head) c played.end × TracesTo scene.now c played.trace) }
     ensures lawful { IfOk result (λ played. IsLawful played.trace) }
     ensures failed { IfOk result (λ played. played.failed ≡ None) }
 {
@@ -44,7 +45,8 @@ pub fn play(alloc: Global, scene: &Scene) -> Result<Played, Memory>
 /// Performs lines in order, as far as the limit lets.
 fn perform_all(player: &mut Player, lines: &[SceneLine]) -> Result<End, Memory>
     requires left { HasLeft player.old lines.now }
-    ensures ended { IfOk result (λ end. (scene : SpecScene) (c : Config) → IsAt scene player.old c → c.lines ≡ lines.now → (d : Config) × IsAt scene player.new d × HasEnded (head_of scene.head) d end) }
+    ensures ended { IfOk result (λ end. (scene : SpecScene) (c : Config) → IsAt scene player.old c → c.lines ≡ lines.now
+        → (d : Config) × IsAt scene player.new d × HasEnded (head_of scene.head) d end) }
 {
     for line in lines {
         if !player.perform(line)? {

@@ -1,8 +1,11 @@
-//! Scenarios whose lines or messages are passed over, and how far a run goes. Worked scenarios are tested by the top call.
+//! Scenarios whose lines or messages are passed over, and how far a run goes. Worked scenarios are tested by
+//! the top call.
+
+ghost use Rattle.lu_core.specs.Performed.{KeepsLimits};
 
 use super::*;
 use lu_base::{Bytes, Memory};
-use lu_scene::{SceneFault, read_scene};
+use lu_scene::{Scene, SceneFault, read_scene};
 use lu_trace::{End, render};
 use std::alloc::Global;
 use std::test::Fail;
@@ -17,16 +20,22 @@ enum Came {
 }
 
 /// Performs the scenario that a text spells, and compares its trace with another text.
-fn performed(alloc: Global, scene: &[u8], trace: &[u8]) -> Result<Came, Memory> {
-    let scene = match read_scene(alloc, scene) {
-        Ok(scene) => scene,
-        Err(SceneFault::Memory) => return Err(Memory),
-        Err(SceneFault::Bad { .. }) => return Ok(Came::Nothing),
-    };
-    if !is_performed(&scene) {
+fn performed(alloc: Global, text: &[u8], trace: &[u8]) -> Result<Came, Memory> {
+    match read_scene(alloc, text) {
+        Ok(scene) => played(alloc, &scene, trace),
+        Err(SceneFault::Memory) => Err(Memory),
+        Err(SceneFault::Bad { .. }) => Ok(Came::Nothing),
+    }
+}
+
+/// Performs a scenario, and compares its trace with a text.
+fn played(alloc: Global, scene: &Scene, trace: &[u8]) -> Result<Came, Memory>
+    requires limits { KeepsLimits scene.now }
+{
+    if !is_performed(scene) {
         return Ok(Came::Nothing);
     }
-    let played = play(alloc, &scene)?;
+    let played = play(alloc, scene)?;
     let text = render(alloc, &played.trace, played.end)?;
     Ok(Came::Ran {
         end: played.end,
@@ -159,9 +168,10 @@ fn scenarios_come_to_their_traces(rt: HostRuntime) -> Result<(), Fail> {
 
 #[test]
 fn other_scenarios_are_not_performed(rt: HostRuntime) -> Result<(), Fail> {
-    let rows: [(&[u8], Option<End>); 5] = [
+    let rows: [(&[u8], Option<End>); 6] = [
         (b"call 0.0 lookup /a\n", Some(End::Done)),
         (b"call 0.0 lookup /\n", None),
+        (b"call 0.0 lookup /a\ncall 0.1 mkdir /a\n", None),
         (b"call 0.0 stat /a\n", None),
         (b"tick t1\n", None),
         (b"commit t0\n", None),

@@ -1,9 +1,9 @@
 //! The turns in which a message comes, and those of the metadata target.
 
 ghost use Rattle.std.specs.Prelude.{◌≡◌, ℕ, ◌<◌, None, IfOk, OnOk};
-ghost use Rattle.lu_base.specs.declared.ids.Node.TheVariants.{Target as AtTarget};
+ghost use Rattle.lu_base.specs.declared.ids.Node.TheVariants.{Client as AtClient, Target as AtTarget};
 ghost use Rattle.lu_service.specs.Names.{IsNamed};
-ghost use Rattle.lu_target.specs.Targets.{Fits, server};
+ghost use Rattle.lu_target.specs.Targets.{Fits, most_count, server};
 ghost use Rattle.lu_table.specs.Runs.{Comes, Ticks};
 ghost use Rattle.lu_core.specs.Shown.{turn_at, TargetGives, TargetTakes, MayTake, NodesGive, NodesTake};
 
@@ -23,8 +23,11 @@ pub(crate) fn hand_over(
     sent: &Sent,
 ) -> Result<Step, Memory>
     requires may { MayTake clients.old.clients.items target.old sent.now }
-    ensures step { IfOk result (NodesGive clients.old.clients.items clients.old.dead.items target.old (turn_at stamp sent.now.to) (Comes 0 sent.now.message)) }
-    ensures after { OnOk result ((number : ℕ) → NodesTake clients.old.clients.items clients.old.dead.items target.old (turn_at stamp sent.now.to) (Comes number sent.now.message) clients.new.clients.items clients.new.dead.items target.new) }
+    ensures step { IfOk result (NodesGive clients.old.clients.items clients.old.dead.items target.old
+        (turn_at stamp sent.now.to) (Comes 0 sent.now.from sent.now.message)) }
+    ensures after { OnOk result ((number : ℕ) → NodesTake clients.old.clients.items clients.old.dead.items target.old
+        (turn_at stamp sent.now.to) (Comes number sent.now.from sent.now.message)
+        clients.new.clients.items clients.new.dead.items target.new) }
 {
     match sent.to {
         Node::Client(client) => clients.deliver(stamp, client, &sent.message),
@@ -37,9 +40,11 @@ fn serve(target: &mut Target<Mdt>, stamp: Stamp, message: &Message) -> Result<St
     requires fits { Fits IsNamed target.old.journal message.now }
     requires id { target.old.id ≡ 0 }
     requires unspent { target.old.spent ≡ None }
-    requires numbers { (server target.old).count < 4294967295 }
-    ensures step { IfOk result (TargetGives target.old (turn_at stamp (AtTarget 0)) (Comes 0 message.now)) }
-    ensures after { OnOk result ((number : ℕ) → TargetTakes target.old (turn_at stamp (AtTarget 0)) (Comes number message.now) target.new) }
+    requires numbers { (server target.old).count < most_count }
+    ensures step { IfOk result (λ step. (from : ℕ) → TargetGives target.old (turn_at stamp (AtTarget 0))
+        (Comes 0 (AtClient from) message.now) step) }
+    ensures after { OnOk result ((number from : ℕ) → TargetTakes target.old (turn_at stamp (AtTarget 0))
+        (Comes number (AtClient from) message.now) target.new) }
 {
     match target.deliver(stamp, message) {
         Ok(step) => Ok(step),

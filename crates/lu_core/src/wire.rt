@@ -61,7 +61,8 @@ impl Wire {
     pub(crate) fn add(&mut self, at: At, step: Step, taken: u64) -> Result<(), Memory>
         requires turns_room { self.old.turns < 65536 }
         requires messages_room { self.old.messages < 131072 }
-        ensures lines { OnOk result (self.new.entries ≡ self.old.entries ++ numbered_lines self.old.messages taken step.entries) }
+        ensures lines { OnOk result (self.new.entries
+            ≡ self.old.entries ++ numbered_lines self.old.messages taken step.entries) }
         ensures posts { OnOk result (self.new.links ≡ self.old.links ++ map (posted at) step.sends) }
         ensures messages { OnOk result (self.new.messages ≡ last_after_all self.old.messages step.entries) }
         ensures turns { OnOk result (self.new.turns ≡ self.old.turns + 1) }
@@ -76,7 +77,8 @@ impl Wire {
     /// Writes lines with their numbers. A `send` is one more message.
     fn write(&mut self, lines: Vec<Line>, taken: u64) -> Result<(), Memory>
         requires room { self.old.messages < 131072 }
-        ensures lines { OnOk result (self.new.entries ≡ self.old.entries ++ numbered_lines self.old.messages taken lines.items) }
+        ensures lines { OnOk result (self.new.entries
+            ≡ self.old.entries ++ numbered_lines self.old.messages taken lines.items) }
         ensures messages { OnOk result (self.new.messages ≡ last_after_all self.old.messages lines.items) }
         ensures links { self.new.links ≡ self.old.links }
         ensures turns { self.new.turns ≡ self.old.turns }

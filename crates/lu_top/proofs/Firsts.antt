@@ -9,7 +9,8 @@ use Rattle.lu_msg.specs.declared.calls.Call.{Call as CallOf}
 use Rattle.lu_msg.specs.declared.calls.Call.TheVariants.{Mkdir, Rmdir, Lookup}
 use Rattle.lu_scene.specs.declared.scene.SceneLine.{SceneLine}
 use Rattle.lu_scene.specs.declared.scene.SceneLine.TheVariants.{Call, Run, RunSome, Deliver, Lose, Tick, Die}
-use Rattle.lu_top.specs.Performed.{CallMakes, Makes, IsMade, IsCallPerformed, IsLinePerformed, IsPerformedIn, AllPerformed, IsFirstAt}
+use Rattle.lu_core.specs.Performed.{CallMakes, Makes, IsMade, IsCallPerformed, IsLinePerformed, IsPerformedIn, AllPerformed}
+use Rattle.lu_top.specs.Performed.{IsFirstAt}
 use Rattle.lu_top.specs.Made.{AreMade, Adds}
 
 -- the paths that are made

@@ -11,13 +11,13 @@ use Rattle.lu_scene.specs.Grammar.{IsScene}
 use Rattle.lu_trace.specs.declared.entries.Line.{Line}
 use Rattle.lu_trace.specs.declared.traces.Trace.{Trace}
 use Rattle.lu_trace.specs.declared.traces.End.{End}
-use Rattle.lu_table.specs.Printed.{printed}
+use Rattle.lu_words.specs.Printed.{printed}
 use Rattle.lu_laws.specs.Laws.{Lawful, IsLawful}
 use Rattle.lu_lawful.proofs.Whole.{lawful}
 use Rattle.lu_core.specs.Scenario.{head_of, past_of}
 use Rattle.lu_core.specs.Played.{IsPlayed}
 use Rattle.lu_core.proofs.Runs.{run_is_run}
-use Rattle.lu_top.specs.Performed.{AllPerformed}
+use Rattle.lu_core.specs.Performed.{AllPerformed}
 use Rattle.lu_top.specs.Outcomes.{IsRunOf, IsTraceOutcome, IsOutcome}
 use Rattle.lu_top.specs.declared.status.Status.{Status}
 use Rattle.lu_top.specs.declared.status.Status.TheVariants as status
@@ -32,7 +32,7 @@ run_of : (text : List ℕ) (scene : Scene) (trace : Trace) (end : End) → IsSce
 run_of text scene trace end is all played =
     let performed = is_performed text scene is all in
     let run = run_is_run scene performed played.config played.leads in
-    let law = lawful (head_of scene.head) played.config.turns performed.head run in
+    let law = lawful (head_of scene.head) played.config.turns performed.limits.head run in
     record {
       scene = scene;
       performed = record { is = is; lines = all };

@@ -1,7 +1,7 @@
 -- The set of paths that lines make directories of, as it is gathered.
 use Rattle.std.specs.Prelude.{◌↔◌, ◌⊎◌, ℕ, List, Contains}
 use Rattle.lu_scene.specs.declared.scene.SceneLine.{SceneLine}
-use Rattle.lu_top.specs.Performed.{IsMade}
+use Rattle.lu_core.specs.Performed.{IsMade}
 
 -- these are the paths that the lines make directories of
 abbrev pub AreMade : List SceneLine → List (List (List ℕ)) → Type 0

@@ -1,33 +1,24 @@
 -- The lines that say why a scenario isn't performed.
 use Rattle.std.specs.Prelude.{ℕ, List, [], ◌∷◌, ◌++◌, codes, decimal}
 use Rattle.lu_scene.specs.declared.faults.Fault.{Fault}
-use Rattle.lu_scene.specs.declared.faults.Fault.TheVariants as faults
+use Rattle.lu_base.specs.declared.faults.ReadError.TheVariants as errors
+use Rattle.lu_base.specs.Errors.{read_error_text}
+use Rattle.lu_scene.specs.Faults.{bad_line_text}
 
 -- the line that names the forms of a command line
 abbrev pub usage_text : List ℕ
 usage_text = codes "usage: play, threads, storm N or judge\n"
 
+-- the lines that say why a source was not read
 abbrev pub read_fault_text : List ℕ
-read_fault_text = codes "read fault\n"
+read_fault_text = read_error_text errors.ReadFault ++ 10 ∷ []
 
 abbrev pub too_long_text : List ℕ
-too_long_text = codes "too long\n"
-
--- the name of a fault
-abbrev pub fault_text : Fault → List ℕ
-fault_text faults.Line = codes "Line"
-fault_text faults.UnknownLine = codes "UnknownLine"
-fault_text faults.UnknownCall = codes "UnknownCall"
-fault_text faults.Header = codes "Header"
-fault_text faults.Fields = codes "Fields"
-fault_text faults.Number = codes "Number"
-fault_text faults.Node = codes "Node"
-fault_text faults.Path = codes "Path"
-fault_text faults.Data = codes "Data"
+too_long_text = read_error_text errors.TooLong ++ 10 ∷ []
 
 -- the line that says that a text is no scenario: its first bad line, and what is wrong with it
 abbrev pub bad_text : ℕ → Fault → List ℕ
-bad_text line fault = codes "scene " ++ decimal line ++ 32 ∷ fault_text fault ++ 10 ∷ []
+bad_text line fault = bad_line_text line fault ++ 10 ∷ []
 
 -- the line that says that a line of the scenario isn't performed yet
 abbrev pub not_yet_text : ℕ → List ℕ

@@ -31,7 +31,8 @@ impl PathSet {
 
     /// Adds a path.
     pub fn insert(&mut self, path: Path) -> Result<(), Memory>
-        ensures added { OnOk result ((other : List (List ℕ)) → Contains self.new other ↔ ((other ≡ path) ⊎ Contains self.old other)) }
+        ensures added { OnOk result ((other : List (List ℕ))
+            → Contains self.new other ↔ ((other ≡ path) ⊎ Contains self.old other)) }
     {
         self.paths.insert(path)?;
         Ok(())

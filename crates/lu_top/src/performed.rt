@@ -3,7 +3,8 @@
 ghost use Rattle.std.specs.Prelude.{◌≡◌, ◌↔◌, IsTrue, IfOk, OnOk, IfSome, IfNone, Contains, None};
 ghost use Rattle.lu_scene.specs.Grammar.{IsScene};
 ghost use Rattle.lu_top.specs.Made.{AreMade, Adds};
-ghost use Rattle.lu_top.specs.Performed.{CallMakes, Makes, IsCallPerformed, IsLinePerformed, AllPerformed, IsFirstAt, IsFirstUnperformed};
+ghost use Rattle.lu_core.specs.Performed.{CallMakes, Makes, IsCallPerformed, IsLinePerformed, AllPerformed};
+ghost use Rattle.lu_top.specs.Performed.{IsFirstAt, IsFirstUnperformed};
 
 use super::paths::PathSet;
 use lu_base::{Duplicate, Memory, Node};

@@ -9,9 +9,9 @@ ghost use Rattle.lu_scene.specs.declared.faults.Fault.{Fault};
 ghost use Rattle.lu_trace.specs.Traces.{trace_text};
 ghost use Rattle.lu_trace.specs.declared.traces.Trace.{Trace};
 ghost use Rattle.lu_trace.specs.declared.traces.End.{End};
-ghost use Rattle.lu_core.specs.Performed.{IsPerformed};
+ghost use Rattle.lu_core.specs.Performed.{IsPerformed, AllPerformed};
 ghost use Rattle.lu_core.specs.Played.{IsPlayed};
-ghost use Rattle.lu_top.specs.Performed.{AllPerformed, IsPerformedText, IsFirstUnperformed};
+ghost use Rattle.lu_top.specs.Performed.{IsPerformedText, IsFirstUnperformed};
 ghost use Rattle.lu_top.specs.Refusals.{usage_text, read_fault_text, too_long_text, bad_text, not_yet_text};
 ghost use Rattle.lu_top.specs.Outcomes.{IsOutcome, IsTraceOutcome, IsGiven, IsDone, IsRefused, IsPutOff, WasRead, WasTold, WroteRun, WroteRunInPart};
 
@@ -38,28 +38,48 @@ pub fn run<S: Source, K: Sink>(
     sink: &mut K,
 ) -> Status
     // What was written is the trace of a run of the table, the scenario's, and that trace is lawful.
-    ensures lawful { result ≡ Status.Done → WasRead (S.left source.old) (S.left source.new) (WroteRun (K.holds sink.old) (K.holds sink.new)) }
+    ensures lawful { result ≡ Status.Done
+        → WasRead (S.left source.old) (S.left source.new) (WroteRun (K.holds sink.old) (K.holds sink.new)) }
 
     // When each answer comes.
     ensures usage { (result ≡ Status.Usage) ↔ (map string_bytes words.now ≢ codes "play" ∷ []) }
     ensures unread { result ≡ Status.Usage → source.new ≡ source.old }
     ensures read_fault { result ≡ Status.ReadFault → Rose (S.faults source.old) (S.faults source.new) }
     ensures too_long { result ≡ Status.TooLong → CameMore (S.left source.old) (S.left source.new) 1048576 }
-    ensures scene { (line : ℕ) (fault : Fault) → result ≡ Status.Scene line fault → WasRead (S.left source.old) (S.left source.new) (λ text. IsFirstFault (lines_of text) line fault) }
-    ensures not_yet { (line : ℕ) → result ≡ Status.NotYet line → WasRead (S.left source.old) (S.left source.new) (λ text. IsFirstUnperformed text line) }
+    ensures scene { (line : ℕ) (fault : Fault) → result ≡ Status.Scene line fault
+        → WasRead (S.left source.old) (S.left source.new) (λ text. IsFirstFault (lines_of text) line fault) }
+    ensures not_yet { (line : ℕ) → result ≡ Status.NotYet line
+        → WasRead (S.left source.old) (S.left source.new) (λ text. IsFirstUnperformed text line) }
     ensures write_fault { result ≡ Status.WriteFault → Rose (K.faults sink.old) (K.faults sink.new) }
+    // Unless the source failed, its count of faults stays; so does the count of a sink that took the whole trace.
+    ensures source_steady { result ≢ Status.ReadFault → S.faults source.new ≡ S.faults source.old }
+    ensures sink_steady { result ≡ Status.Done → K.faults sink.new ≡ K.faults sink.old }
     // Where no fault comes and memory suffices, the answer is that of the bytes.
-    ensures refused { (text : List ℕ) → IsGiven (map string_bytes words.now) (S.left source.old) (S.faults source.old) (S.faults source.new) text → ((scene : Scene) → ¬ IsScene text scene) → IsRefused result }
-    ensures put_off { (text : List ℕ) (scene : Scene) → IsGiven (map string_bytes words.now) (S.left source.old) (S.faults source.old) (S.faults source.new) text → IsScene text scene → ¬ AllPerformed scene.lines → IsPutOff result }
-    ensures done { (text : List ℕ) (scene : Scene) → IsGiven (map string_bytes words.now) (S.left source.old) (S.faults source.old) (S.faults source.new) text → IsPerformedText text scene → ¬ Rose (K.faults sink.old) (K.faults sink.new) → IsDone result }
+    ensures refused { (text : List ℕ) → IsGiven (map string_bytes words.now) (S.left source.old) (S.faults source.old)
+        (S.faults source.new) text → ((scene : Scene) → ¬ IsScene text scene) → IsRefused result }
+    ensures put_off { (text : List ℕ) (scene : Scene)
+        → IsGiven (map string_bytes words.now) (S.left source.old) (S.faults source.old)
+        (S.faults source.new) text → IsScene text scene → ¬ AllPerformed scene.lines → IsPutOff result }
+    ensures done { (text : List ℕ) (scene : Scene)
+        → IsGiven (map string_bytes words.now) (S.left source.old) (S.faults source.old)
+        (S.faults source.new) text → IsPerformedText text scene → ¬ Rose (K.faults sink.old) (K.faults sink.new)
+        → IsDone result }
 
     // What stands in the sink then. A line of a refusal may be cut off by a fault; its status stays.
-    ensures usage_told { result ≡ Status.Usage → WasTold (K.holds sink.old) (K.holds sink.new) (K.faults sink.old) (K.faults sink.new) usage_text }
-    ensures read_fault_told { result ≡ Status.ReadFault → WasTold (K.holds sink.old) (K.holds sink.new) (K.faults sink.old) (K.faults sink.new) read_fault_text }
-    ensures too_long_told { result ≡ Status.TooLong → WasTold (K.holds sink.old) (K.holds sink.new) (K.faults sink.old) (K.faults sink.new) too_long_text }
-    ensures scene_told { (line : ℕ) (fault : Fault) → result ≡ Status.Scene line fault → WasTold (K.holds sink.old) (K.holds sink.new) (K.faults sink.old) (K.faults sink.new) (bad_text line fault) }
-    ensures not_yet_told { (line : ℕ) → result ≡ Status.NotYet line → WasTold (K.holds sink.old) (K.holds sink.new) (K.faults sink.old) (K.faults sink.new) (not_yet_text line) }
-    ensures write_fault_written { result ≡ Status.WriteFault → WasRead (S.left source.old) (S.left source.new) (WroteRunInPart (K.holds sink.old) (K.holds sink.new)) }
+    ensures usage_told { result ≡ Status.Usage
+        → WasTold (K.holds sink.old) (K.holds sink.new) (K.faults sink.old) (K.faults sink.new) usage_text }
+    ensures read_fault_told { result ≡ Status.ReadFault
+        → WasTold (K.holds sink.old) (K.holds sink.new) (K.faults sink.old) (K.faults sink.new) read_fault_text }
+    ensures too_long_told { result ≡ Status.TooLong
+        → WasTold (K.holds sink.old) (K.holds sink.new) (K.faults sink.old) (K.faults sink.new) too_long_text }
+    ensures scene_told { (line : ℕ) (fault : Fault) → result ≡ Status.Scene line fault
+        → WasTold (K.holds sink.old) (K.holds sink.new) (K.faults sink.old) (K.faults sink.new)
+        (bad_text line fault) }
+    ensures not_yet_told { (line : ℕ) → result ≡ Status.NotYet line
+        → WasTold (K.holds sink.old) (K.holds sink.new) (K.faults sink.old) (K.faults sink.new)
+        (not_yet_text line) }
+    ensures write_fault_written { result ≡ Status.WriteFault
+        → WasRead (S.left source.old) (S.left source.new) (WroteRunInPart (K.holds sink.old) (K.holds sink.new)) }
     ensures memory_written { result ≡ Status.Memory → sink.new ≡ sink.old }
 {
     if !is_play(words) {
@@ -100,7 +120,9 @@ fn perform<K: Sink>(alloc: Global, text: &[u8], sink: &mut K) -> Status
     ensures outcome { IsOutcome (K.holds sink.old) (K.holds sink.new) (K.faults sink.old) (K.faults sink.new) text.now result }
     ensures refused { ((scene : Scene) → ¬ IsScene text.now scene) → IsRefused result }
     ensures put_off { (scene : Scene) → IsScene text.now scene → ¬ AllPerformed scene.lines → IsPutOff result }
-    ensures done { (scene : Scene) → IsPerformedText text.now scene → ¬ Rose (K.faults sink.old) (K.faults sink.new) → IsDone result }
+    ensures done { (scene : Scene) → IsPerformedText text.now scene → ¬ Rose (K.faults sink.old) (K.faults sink.new)
+        → IsDone result }
+    ensures sink_steady { result ≡ Status.Done → K.faults sink.new ≡ K.faults sink.old }
     ensures memory { result ≡ Status.Memory → sink.new ≡ sink.old }
 {
     match read_scene(alloc, text) {
@@ -113,7 +135,9 @@ fn perform<K: Sink>(alloc: Global, text: &[u8], sink: &mut K) -> Status
 /// Writes that a text is no scenario.
 fn tell_bad<K: Sink>(alloc: Global, line: u64, fault: Fault, sink: &mut K) -> Status
     ensures status { (result ≡ Status.Scene line fault) ⊎ (result ≡ Status.Memory) }
-    ensures told { result ≡ Status.Scene line fault → WasTold (K.holds sink.old) (K.holds sink.new) (K.faults sink.old) (K.faults sink.new) (bad_text line fault) }
+    ensures told { result ≡ Status.Scene line fault
+        → WasTold (K.holds sink.old) (K.holds sink.new) (K.faults sink.old) (K.faults sink.new)
+        (bad_text line fault) }
     ensures memory { result ≡ Status.Memory → sink.new ≡ sink.old }
 {
     match bad_text(alloc, line, fault) {
@@ -128,6 +152,7 @@ fn perform_scene<K: Sink>(alloc: Global, text: &[u8], scene: &Scene, sink: &mut 
     ensures outcome { IsOutcome (K.holds sink.old) (K.holds sink.new) (K.faults sink.old) (K.faults sink.new) text.now result }
     ensures put_off { ¬ AllPerformed scene.now.lines → IsPutOff result }
     ensures done { AllPerformed scene.now.lines → ¬ Rose (K.faults sink.old) (K.faults sink.new) → IsDone result }
+    ensures sink_steady { result ≡ Status.Done → K.faults sink.new ≡ K.faults sink.old }
     ensures memory { result ≡ Status.Memory → sink.new ≡ sink.old }
 {
     match first_unperformed(alloc, text, scene) {
@@ -140,7 +165,9 @@ fn perform_scene<K: Sink>(alloc: Global, text: &[u8], scene: &Scene, sink: &mut 
 /// Writes that a line isn't performed yet.
 fn tell_not_yet<K: Sink>(alloc: Global, line: u64, sink: &mut K) -> Status
     ensures status { (result ≡ Status.NotYet line) ⊎ (result ≡ Status.Memory) }
-    ensures told { result ≡ Status.NotYet line → WasTold (K.holds sink.old) (K.holds sink.new) (K.faults sink.old) (K.faults sink.new) (not_yet_text line) }
+    ensures told { result ≡ Status.NotYet line
+        → WasTold (K.holds sink.old) (K.holds sink.new) (K.faults sink.old) (K.faults sink.new)
+        (not_yet_text line) }
     ensures memory { result ≡ Status.Memory → sink.new ≡ sink.old }
 {
     match not_yet_text(alloc, line) {
@@ -154,6 +181,7 @@ fn write_trace<K: Sink>(alloc: Global, scene: &Scene, sink: &mut K) -> Status
     requires performed { IsPerformed scene.now }
     ensures outcome { IsTraceOutcome (K.holds sink.old) (K.holds sink.new) (K.faults sink.old) (K.faults sink.new) scene.now result }
     ensures done { ¬ Rose (K.faults sink.old) (K.faults sink.new) → IsDone result }
+    ensures sink_steady { result ≡ Status.Done → K.faults sink.new ≡ K.faults sink.old }
     ensures memory { result ≡ Status.Memory → sink.new ≡ sink.old }
 {
     match trace_text(alloc, scene) {
@@ -168,7 +196,8 @@ fn write_trace<K: Sink>(alloc: Global, scene: &Scene, sink: &mut K) -> Status
 /// The text of the trace of a scenario's run.
 fn trace_text(alloc: Global, scene: &Scene) -> Result<Bytes, Memory>
     requires performed { IsPerformed scene.now }
-    ensures text { IfOk result (λ text. (trace : Trace) × (end : End) × IsPlayed scene.now trace end × (text ≡ trace_text trace end)) }
+    ensures text { IfOk result (λ text. (trace : Trace) × (end : End) × IsPlayed scene.now trace end
+        × (text ≡ trace_text trace end)) }
 {
     let played = play(alloc, scene)?;
     render(alloc, &played.trace, played.end)

@@ -2,7 +2,7 @@ use Rattle.std.proofs.Common.{◌∙◌, refl, sym, ap, subst}
 use Rattle.std.specs.Prelude.{List, reverse}
 use Rattle.std.proofs.lemmas.List.{reverse-reverse}
 use Rattle.lu_trace.specs.declared.entries.Line.{Line}
-use Rattle.lu_table.specs.Printed.{printed}
+use Rattle.lu_words.specs.Printed.{printed}
 use Rattle.lu_laws.specs.Laws.{Lawful}
 use Rattle.lu_lawful.proofs.Whole.{lawful}
 use Rattle.lu_core.specs.Scenario.{head_of, here, past_of, start}
@@ -44,4 +44,4 @@ returns-clause-lawful c =
     } in
     let d = c.in_ok-end.ensures.ended scene (start scene) at (sym c.as_slice.ensures.same) in
     let entries = ap (λ (lines : List Line). reverse lines) (c.into_entries.ensures.lines ∙ d.1.shows.wire.entries) ∙ reverse-reverse (printed (past_of d.0)) in
-    subst (λ (lines : List Line). Lawful scene.head.osts lines) (sym entries) (lawful (head_of scene.head) d.0.turns c.requires.performed.head (run_is_run scene c.requires.performed d.0 d.1.leads))
+    subst (λ (lines : List Line). Lawful scene.head.osts lines) (sym entries) (lawful (head_of scene.head) d.0.turns c.requires.performed.limits.head (run_is_run scene c.requires.performed d.0 d.1.leads))

@@ -7,5 +7,5 @@ pub returns : goal.returns
 returns c =
     record {
       run = run_is_run;
-      lawful = λ scene is config leads. lawful (head_of scene.head) config.turns is.head (run_is_run scene is config leads);
+      lawful = λ scene is config leads. lawful (head_of scene.head) config.turns is.limits.head (run_is_run scene is config leads);
     }

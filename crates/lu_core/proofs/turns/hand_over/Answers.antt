@@ -1,19 +1,33 @@
-use Rattle.std.proofs.Common.{sym, subst}
-use Rattle.std.proofs.lemmas.Result.{on_ok_weaker}
-use Rattle.lu_base.specs.declared.ids.Node.{Node}
-use Rattle.lu_base.specs.declared.ids.Node.TheVariants.{Client}
-use Rattle.lu_table.specs.Runs.{Comes}
-use Rattle.lu_core.specs.Shown.{turn_at, NodesTake}
-use Rattle.lu_core.proofs.WireTurns.{target_waits}
+use Rattle.std.proofs.lemmas.Result.{IfOk-weaker, on_ok_weaker}
+use Rattle.lu_core.proofs.Handed.{client_gives, client_takes, target_gives_it, target_takes_it}
 use Rattle.lu_core.proofs.turns.hand_over.Goals as goal
+
+pub returns-in-Client-clause-step : goal.returns-in-Client-clause-step
+returns-in-Client-clause-step c =
+    let clients = c.args.clients.now in
+    let after = c.deliver.new.self in
+    IfOk-weaker c.deliver.result _ _
+    (λ step gives. client_gives clients.clients.items after.clients.items clients.dead.items after.dead.items c.args.target.now c.args.target.now c.args.sent.now c.args.stamp c.requires.may c.in-Client.client step c.in-Client.is gives)
+    c.deliver.ensures.step
 
 pub returns-in-Client-clause-after : goal.returns-in-Client-clause-after
 returns-in-Client-clause-after c =
     let clients = c.args.clients.now in
     let after = c.deliver.new.self in
-    let t = c.args.target.now in
-    let client = c.in-Client.client in
     on_ok_weaker c.deliver.result
-    (λ takes number. subst (λ (n : Node). NodesTake clients.clients.items clients.dead.items t (turn_at c.args.stamp n) (Comes number c.args.sent.now.message) after.clients.items after.dead.items t) (sym c.in-Client.is)
-    (λ head past shows target. (takes number head past shows, target_waits head past t (turn_at c.args.stamp (Client client)) client (Comes number c.args.sent.now.message) target)))
+    (λ takes number. client_takes clients.clients.items after.clients.items clients.dead.items after.dead.items c.args.target.now c.args.target.now c.args.sent.now c.args.stamp c.requires.may c.in-Client.client number c.in-Client.is (takes number))
     c.deliver.ensures.after
+
+pub returns-in-Target-clause-step : goal.returns-in-Target-clause-step
+returns-in-Target-clause-step c =
+    let clients = c.args.clients.now in
+    IfOk-weaker c.serve.result _ _
+    (λ step gives. target_gives_it clients.clients.items clients.clients.items clients.dead.items clients.dead.items c.args.target.now c.serve.new.target c.args.sent.now c.args.stamp c.requires.may c.in-Target.field-0 step c.in-Target.is gives)
+    c.serve.ensures.step
+
+pub returns-in-Target-clause-after : goal.returns-in-Target-clause-after
+returns-in-Target-clause-after c =
+    let clients = c.args.clients.now in
+    on_ok_weaker c.serve.result
+    (λ takes number. target_takes_it clients.clients.items clients.clients.items clients.dead.items clients.dead.items c.args.target.now c.serve.new.target c.args.sent.now c.args.stamp c.requires.may c.in-Target.field-0 number c.in-Target.is (takes number))
+    c.serve.ensures.after

@@ -1,5 +1,5 @@
 use Rattle.std.proofs.Common.{sym, subst}
-use Rattle.lu_top.specs.Performed.{AllPerformed}
+use Rattle.lu_core.specs.Performed.{AllPerformed}
 use Rattle.lu_top.proofs.Firsts.{none_first}
 use Rattle.lu_top.proofs.performed.first_unperformed.Goals as goal
 

@@ -1,6 +1,6 @@
 use Rattle.std.proofs.Common.{OnOk, sym, subst}
 use Rattle.lu_scene.specs.declared.scene.SceneLine.{SceneLine}
-use Rattle.lu_top.specs.Performed.{Makes}
+use Rattle.lu_core.specs.Performed.{Makes}
 use Rattle.lu_top.specs.Made.{Adds}
 use Rattle.lu_top.proofs.performed.note_made.Goals as goal
 

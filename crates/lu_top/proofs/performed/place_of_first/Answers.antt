@@ -2,7 +2,7 @@ use Rattle.std.proofs.Common.{sym, subst, ◌∙◌, true≢false}
 use Rattle.std.specs.Prelude.{All}
 use Rattle.std.proofs.lemmas.List.{take_all}
 use Rattle.std.proofs.lemmas.List.Elements.{All-more}
-use Rattle.lu_top.specs.Performed.{IsPerformedIn}
+use Rattle.lu_core.specs.Performed.{IsPerformedIn}
 use Rattle.lu_top.proofs.Firsts.{performed_by, allowed_by, first_at}
 use Rattle.lu_top.proofs.performed.place_of_first.Goals as goal
 

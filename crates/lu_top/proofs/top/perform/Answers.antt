@@ -1,6 +1,6 @@
 use Rattle.std.proofs.Common.{subst}
 use Rattle.lu_scene.specs.declared.scene.Scene.{Scene}
-use Rattle.lu_top.specs.Performed.{AllPerformed}
+use Rattle.lu_core.specs.Performed.{AllPerformed}
 use Rattle.lu_top.proofs.Runs.{that_one, not_refused}
 use Rattle.lu_top.proofs.top.perform.Goals as goal
 

@@ -3,7 +3,8 @@ use Rattle.lu_scene.specs.declared.scene.SceneLine.{SceneLine}
 use Rattle.lu_scene.specs.declared.scene.SceneLine.TheVariants.{Call}
 use Rattle.lu_table.specs.Runs.{Begins}
 use Rattle.lu_core.specs.declared.players.Player.{Player}
-use Rattle.lu_core.proofs.ClientLines.{passed, stopped, turned, one_of, asked_of}
+use Rattle.lu_core.proofs.ClientLines.{passed, stopped, turned, one_of}
+use Rattle.lu_core.proofs.Covered.{asked_of}
 use Rattle.lu_core.proofs.Placed.{in_room, numbers, can}
 use Rattle.lu_core.proofs.players.Player.begin.Goals as goal
 
@@ -12,29 +13,29 @@ returns-then-is_dead c =
     let p = c.args.self.now in
     let client = c.args.client in
     let line : SceneLine = Call client c.args.slot c.args.call.now in
-    record { performs = passed p line client (Begins c.args.slot c.args.call.now) (λ head config rest. refl) (λ head can. can.0) (sym c.is_dead.ensures.dead ∙ c.if-is_dead.true) }
+    record { performs = passed p line client (Begins c.args.slot c.args.call.now) (λ head config rest. refl) (λ lines clients can. can.one) (sym c.is_dead.ensures.dead ∙ c.if-is_dead.true) }
 
 pub returns-then-is_full : goal.returns-then-is_full
 returns-then-is_full c =
     let p = c.args.self.now in
     let client = c.args.client in
     let line : SceneLine = Call client c.args.slot c.args.call.now in
-    record { performs = stopped p line client (Begins c.args.slot c.args.call.now) (λ head config rest. refl) (λ head can. can.0) (sym c.is_dead.ensures.dead ∙ c.if-is_dead.false) (sym c.is_full.ensures.full ∙ c.if-is_full.true) }
+    record { performs = stopped p line client (Begins c.args.slot c.args.call.now) (λ head config rest. refl) (λ lines clients can. can.one) (sym c.is_dead.ensures.dead ∙ c.if-is_dead.false) (sym c.is_full.ensures.full ∙ c.if-is_full.true) }
 
 pub begin-requires-clause-one : goal.begin-requires-clause-one
-begin-requires-clause-one c = let client = c.args.client in one_of c.args.self.now (Call client c.args.slot c.args.call.now) client (λ head can. can.0) c.requires.due
+begin-requires-clause-one c = let client = c.args.client in one_of c.args.self.now (Call client c.args.slot c.args.call.now) client (λ lines clients can. can.one) c.requires.due
 
 pub begin-requires-clause-slot : goal.begin-requires-clause-slot
 begin-requires-clause-slot c =
     let client = c.args.client in
     let due = c.requires.due in
-    (can due.1.0 c.args.self.now due.1.1.0 due.1.1.1 (Call client c.args.slot c.args.call.now) due.0 due.1.1.2).1
+    (can due.1.0 c.args.self.now due.1.1.0 due.1.1.1 (Call client c.args.slot c.args.call.now) due.0 due.1.1.2).small
 
 pub begin-requires-clause-asked : goal.begin-requires-clause-asked
 begin-requires-clause-asked c =
     let client = c.args.client in
     let due = c.requires.due in
-    asked_of c.args.call.now (can due.1.0 c.args.self.now due.1.1.0 due.1.1.1 (Call client c.args.slot c.args.call.now) due.0 due.1.1.2).2
+    asked_of c.args.call.now (can due.1.0 c.args.self.now due.1.1.0 due.1.1.1 (Call client c.args.slot c.args.call.now) due.0 due.1.1.2).asks
 
 pub begin-requires-clause-numbers : goal.begin-requires-clause-numbers
 begin-requires-clause-numbers c =
@@ -42,7 +43,7 @@ begin-requires-clause-numbers c =
     let client = c.args.client in
     let due = c.requires.due in
     λ d.
-    numbers due.1.0 p due.1.1.0 due.1.1.1 client d (one_of p (Call client c.args.slot c.args.call.now) client (λ head can. can.0) due)
+    numbers due.1.0 p due.1.1.0 due.1.1.1 client d (one_of p (Call client c.args.slot c.args.call.now) client (λ lines clients can. can.one) due)
     (in_room p.wire.turns p.wire.messages (sym c.is_full.ensures.full ∙ c.if-is_full.false)).1
 
 pub returns : goal.returns
@@ -53,7 +54,7 @@ returns c =
     let q : Player = record { clients = c.begin.new.self; target = p.target; wire = c.add.new.self } in
     let add = c.in_ok-add.ensures in
     record {
-      performs = turned p line client (Begins c.args.slot c.args.call.now) (λ head config rest. refl) (λ head can. can.0) (sym c.is_dead.ensures.dead ∙ c.if-is_dead.false) (sym c.is_full.ensures.full ∙ c.if-is_full.false) q c.next_turn-at.result c.in_ok-step.step c.next_turn-at.ensures.at
+      performs = turned p line client (Begins c.args.slot c.args.call.now) (λ head config rest. refl) (λ lines clients can. can.one) (sym c.is_dead.ensures.dead ∙ c.if-is_dead.false) (sym c.is_full.ensures.full ∙ c.if-is_full.false) q c.next_turn-at.result c.in_ok-step.step c.next_turn-at.ensures.at
           c.in_ok-step.ensures.step
           c.in_ok-step.ensures.after
           refl
