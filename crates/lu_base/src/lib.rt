@@ -8,8 +8,6 @@ mod locks;
 mod sequence;
 mod sink;
 mod source;
-#[cfg(test)]
-mod tests;
 mod text;
 mod values;
 

@@ -81,7 +81,13 @@ impl Model for MemorySink {
 
     ghost Value = { MemoryOutput };
 
-    ghost view = { λ s. record { written = s.written; piece = s.piece; failing = s.failing; calls = s.calls; faults = s.faults } };
+    ghost view = { λ s. record {
+      written = s.written;
+      piece = s.piece;
+      failing = s.failing;
+      calls = s.calls;
+      faults = s.faults;
+    } };
 
     ghost invariant = { λ s. 0 < s.piece };
 }

@@ -171,8 +171,7 @@ fn has_star(text: &[u8]) -> bool
 /// The bytes of two digits each, at least one byte.
 fn read_digits(alloc: Global, text: &[u8]) -> Result<Option<Bytes>, Memory>
     ensures some { IfOk result (λ read. IfSome read (λ bytes. (text.now ≡ encode_lower bytes) × (bytes ≢ []))) }
-    ensures none { IfOk result (λ read. IfNone read (
-        (bytes : List ℕ) → IsBytes bytes → text.now ≡ encode_lower bytes → bytes ≡ [])) }
+    ensures none { IfOk result (λ read. IfNone read ((b : List ℕ) → IsBytes b → text.now ≡ encode_lower b → b ≡ [])) }
     ensures bytes { IfOk result (λ read. IfSome read IsBytes) }
 {
     let mut bytes = vec![in alloc; 0u8; text.len() / 2]?;
@@ -268,7 +267,7 @@ fn put_further_names(out: &mut Bytes, names: &[Name]) -> Result<(), Memory>
 
 /// The parts of a text between the bytes that separate them.
 pub fn split_at_byte(alloc: Global, text: &[u8], separator: u8) -> Result<Vec<&[u8]>, Memory>
-    ensures parts { IfOk result (λ parts. map (λ part. part.now) parts.items ≡ slice_split (λ byte. byte == separator) text.now) }
+    ensures parts { IfOk result (λ all. map (λ part. part.now) all.items ≡ slice_split (λ b. b == separator) text.now) }
 {
     let parts = text.split(|byte| *byte == separator).collect(alloc)?;
     Ok(parts)
@@ -279,7 +278,7 @@ pub fn split_at_byte(alloc: Global, text: &[u8], separator: u8) -> Result<Vec<&[
 /// has no such form.
 pub fn read_path(alloc: Global, text: &[u8]) -> Result<Option<Path>, Memory>
     ensures some { IfOk result (λ read. IfSome read (λ path. IsPath path × (text.now ≡ path_text path))) }
-    ensures none { IfOk result (λ read. IfNone read ((path : List (List ℕ)) → IsPath path → text.now ≢ path_text path)) }
+    ensures none { IfOk result (λ read. IfNone read ((p : List (List ℕ)) → IsPath p → text.now ≢ path_text p)) }
 {
     let Some((first, rest)) = text.split_first() else {
         return Ok(None);
@@ -295,9 +294,8 @@ pub fn read_path(alloc: Global, text: &[u8]) -> Result<Option<Path>, Memory>
 
 /// Names joined by `/`.
 fn read_names(alloc: Global, text: &[u8]) -> Result<Option<Path>, Memory>
-    ensures some { IfOk result (λ read. IfSome read (λ names.
-        (names ≡ slice_split (λ byte. byte == 47) text.now) × AreNames names)) }
-    ensures none { IfOk result (λ read. IfNone read (¬ AreNames (slice_split (λ byte. byte == 47) text.now))) }
+    ensures some { IfOk result (λ read. IfSome read (λ p. (p ≡ slice_split (λ b. b == 47) text.now) × AreNames p)) }
+    ensures none { IfOk result (λ read. IfNone read (¬ AreNames (slice_split (λ b. b == 47) text.now))) }
 {
     let parts = split_at_byte(alloc, text, b'/')?;
     if !are_names(parts.as_slice()) {

@@ -1,6 +1,6 @@
 -- Striping over objects (RAID0), as the Lustre Operations Manual has it under striping: a file is cut
 -- into units of the stripe size, and the units go to the stripes in turn, round after round.
-use Rattle.std.specs.Prelude.{◌≡◌, ℕ, zero, suc, ◌+◌, ◌-◌, ◌*◌, ◌/◌, ◌%◌, ◌<◌, ◌==◌, if◌then◌else◌, ◌⊎◌, max, List, [], ◌∷◌, length, slice_index}
+use Rattle.std.specs.Prelude.{◌≡◌, ℕ, zero, suc, ◌+◌, ◌-◌, ◌*◌, ◌/◌, ◌%◌, ◌<◌, ◌↔◌, ◌==◌, if◌then◌else◌, ◌⊎◌, max, List, [], ◌∷◌, length, slice_index}
 
 -- what a caller sees of a layout: the stripe size in bytes, and the target of each stripe in order
 pub record Raid0 : Type 0 where
@@ -23,6 +23,10 @@ position_of l stripe offset = (offset / l.size * length l.targets + stripe) * l.
 unfoldable pub below_of : Raid0 → ℕ → ℕ → ℕ
 below_of l stripe zero = 0
 below_of l stripe (suc n) = below_of l stripe n + (if stripe_of l n == stripe then 1 else 0)
+
+-- offset q of a stripe's object is among those counted below n exactly where it stands for a position below n
+abbrev pub CountsBelow : Raid0 → ℕ → ℕ → ℕ → Type 0
+CountsBelow l stripe n q = (q < below_of l stripe n) ↔ (position_of l stripe q < n)
 
 -- just past the position that stands for the last byte of a stripe's object, or 0 where it is empty
 abbrev pub end_of : Raid0 → ℕ → ℕ → ℕ

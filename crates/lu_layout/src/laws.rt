@@ -4,7 +4,7 @@
 //! `proofs/Places.antt`, `proofs/Below.antt` and `proofs/Sizes.antt`.
 
 ghost use Rattle.std.specs.Prelude.{◌≡◌, ℕ, ◌<◌, ◌≤◌, ◌↔◌, List, length};
-ghost use Rattle.lu_layout.specs.Raid0.{Raid0, stripe_of, offset_of, position_of, below_of, file_size_of, IsFileSize};
+ghost use Rattle.lu_layout.specs.Raid0.{Raid0, stripe_of, offset_of, position_of, below_of, CountsBelow, file_size_of, IsFileSize};
 ghost use Rattle.lu_layout.specs.Sound.{IsLayout};
 
 /// A place is a stripe and an offset, and each place stands for one position.
@@ -23,7 +23,7 @@ pub fn order()
 
 /// `below_of` counts a stripe's offsets, from 0 on, that stand for positions below `n`.
 pub fn counts()
-    ensures below { (l : Raid0) (i n q : ℕ) → IsLayout l → i < length l.targets → (q < below_of l i n) ↔ (position_of l i q < n) }
+    ensures below { (l : Raid0) (i n q : ℕ) → IsLayout l → i < length l.targets → CountsBelow l i n q }
     ensures within { (l : Raid0) (i n : ℕ) → IsLayout l → i < length l.targets → below_of l i n ≤ n }
 {}
 

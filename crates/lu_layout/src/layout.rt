@@ -194,7 +194,8 @@ impl Layout {
 impl PartialEq for Layout {
     ghost eq = { λ a b. (a.size == b.size) && pointwise nat_eq a.targets b.targets };
 
-    ghost laws = { partial_equiv_from_equiv (and_equiv (on_equiv (λ l. l.size) nat_eq_equiv) (on_equiv (λ l. l.targets) nat_list_eq_equiv)) };
+    ghost laws = { partial_equiv_from_equiv
+        (and_equiv (on_equiv (λ l. l.size) nat_eq_equiv) (on_equiv (λ l. l.targets) nat_list_eq_equiv)) };
 
     fn eq(&self, other: &Self) -> bool {
         self.unit == other.unit && self.targets() == other.targets()

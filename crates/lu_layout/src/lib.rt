@@ -3,7 +3,5 @@
 
 pub mod laws;
 mod layout;
-#[cfg(test)]
-mod tests;
 
 pub use layout::{Layout, LayoutError};

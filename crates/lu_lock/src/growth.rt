@@ -1,8 +1,8 @@
 //! How far an extent grows when its lock is granted (this project's profile).
 
-ghost use Rattle.std.specs.Prelude.{◌≡◌, ◌≤◌, ◌∷◌, [], false, IsTrue, option_to_list};
+ghost use Rattle.std.specs.Prelude.{◌≡◌, ◌≤◌, ◌∷◌, [], IsTrue, option_to_list};
 ghost use Rattle.lu_lock.specs.Overlap.{IsRange, Covers};
-ghost use Rattle.lu_lock.specs.Conflict.{conflicts_with_any};
+ghost use Rattle.lu_lock.specs.Conflict.{conflicts_with_any, StaysClear};
 ghost use Rattle.lu_lock.specs.Growth.{opposing, past_below, before_above, grown_extent, granted_policy, granted_ask};
 
 use super::conflicts::conflicts_with_any;
@@ -23,10 +23,8 @@ pub fn grow(ask: &Ask, granted: &[Ask], waiting: &[Ask]) -> Extent
     ensures ordered { result.first ≤ result.last }
 
     // Granted so, the lock conflicts with none of the locks of a list with none of which the ask conflicts.
-    ensures beside_granted { conflicts_with_any ask.now granted.now ≡ false →
-        conflicts_with_any (granted_ask ask.now granted.now waiting.now) granted.now ≡ false }
-    ensures beside_waiting { conflicts_with_any ask.now waiting.now ≡ false →
-        conflicts_with_any (granted_ask ask.now granted.now waiting.now) waiting.now ≡ false }
+    ensures beside_granted { StaysClear ask.now (granted_ask ask.now granted.now waiting.now) granted.now }
+    ensures beside_waiting { StaysClear ask.now (granted_ask ask.now granted.now waiting.now) waiting.now }
 {
     match ask.policy {
         Policy::Range(asked) => extended(ask, asked, granted, waiting),
@@ -37,7 +35,8 @@ pub fn grow(ask: &Ask, granted: &[Ask], waiting: &[Ask]) -> Extent
 /// The same of a lock that asks for this extent.
 fn extended(ask: &Ask, asked: Extent, granted: &[Ask], waiting: &[Ask]) -> Extent
     requires { ask.now.policy ≡ Policy.Range asked }
-    ensures grown { result ≡ grown_extent asked (opposing ask.now.mode granted.now) (opposing ask.now.mode waiting.now) }
+    ensures grown { result
+        ≡ grown_extent asked (opposing ask.now.mode granted.now) (opposing ask.now.mode waiting.now) }
     ensures holds { Covers (Policy.Range result) (Policy.Range asked) }
 {
     if conflicts_with_any(ask, waiting) {

@@ -9,6 +9,3 @@ mod modes;
 pub use conflicts::{conflict, extents_meet};
 pub use growth::grow;
 pub use modes::{compatible, serves};
-
-#[cfg(test)]
-mod tests;

@@ -7,6 +7,3 @@ mod parts;
 
 pub use bits::{LAYOUT, LOOKUP, UPDATE};
 pub use parts::{Part, Parts, Want, Wants, guard, meets};
-
-#[cfg(test)]
-mod tests;

@@ -9,17 +9,18 @@ use Rattle.lu_scene.specs.declared.faults.Fault.{Fault}
 use Rattle.lu_scene.specs.declared.faults.Fault.TheVariants as faults
 use Rattle.lu_scene.specs.declared.words.CallName.{CallName}
 use Rattle.lu_scene.specs.declared.words.CallName.TheVariants as names
-use Rattle.lu_scene.specs.Words.{call_text}
+use Rattle.lu_scene.specs.Words.{name_text}
 use Rattle.lu_scene.specs.Fields.{◌>>=◌, number_in, number_at, mode_at, count_at, path_at, data_at}
 use Rattle.lu_scene.specs.Calls.{one_path, two_paths, handle_at, one_handle, create_of, chmod_of, open_of, read_of, write_of, cut_of, call_of}
-use Rattle.lu_scene.specs.Print.{count_text, stripes_words}
+use Rattle.std.specs.Fmt.{signed_decimal}
+use Rattle.lu_trace.specs.Calls.{stripes_words}
 use Rattle.lu_scene.specs.Grammar.{StripesFit, CallFits, IsCall}
 use Rattle.lu_scene.proofs.Options.{bind_ok, guard_ok, ok_is}
 use Rattle.lu_scene.proofs.Readings.{number_at-read, number_at-again, number_in-read, number_in-again, mode_at-read, mode_at-again, count_at-read, count_at-again, path_at-read, path_at-again, data_at-read, data_at-again}
 
 -- a call that was read
 abbrev pub WasCall : CallName → List (List ℕ) → Call → Type 0
-WasCall name words call = CallFits call × IsCall (call_text name ∷ words) call
+WasCall name words call = CallFits call × IsCall (name_text name ∷ words) call
 
 one_path-read : (words : List (List ℕ)) (path : List (List ℕ)) → one_path words ≡ Ok path → IsPath path × (words ≡ path_text path ∷ [])
 one_path-read [] path e = absurd cc
@@ -76,7 +77,7 @@ create_of-read (word ∷ []) call e =
     let a = bind_ok (path_at word) (λ path. Ok (calls.Create path None)) call e in
     let is = path_at-read word a.0 a.1 in
     subst (λ (k : Call). WasCall names.Create (word ∷ []) k) (ok_is (calls.Create a.0 None) call a.2)
-    ((is.0, tt), ap (λ (w : List ℕ). call_text names.Create ∷ w ∷ []) is.1)
+    ((is.0, tt), ap (λ (w : List ℕ). name_text names.Create ∷ w ∷ []) is.1)
 create_of-read (word ∷ second ∷ third ∷ []) call e =
     let a = bind_ok (path_at word) (λ path. number_in 0 (2 ^ 32) second >>= λ size. count_at third >>= λ count. Ok (calls.Create path (Some (size, count)))) call e in
     let b = bind_ok (number_in 0 (2 ^ 32) second) (λ size. count_at third >>= λ count. Ok (calls.Create a.0 (Some (size, count)))) call a.2 in
@@ -86,9 +87,9 @@ create_of-read (word ∷ second ∷ third ∷ []) call e =
     let three = count_at-read third d.0 d.1 in
     subst (λ (k : Call). WasCall names.Create (word ∷ second ∷ third ∷ []) k) (ok_is (calls.Create a.0 (Some (b.0, d.0))) call d.2) (
       (one.0, (two.high, three.1)),
-      ap (λ (w : List ℕ). call_text names.Create ∷ w ∷ second ∷ third ∷ []) one.1
-          ∙ ap (λ (w : List ℕ). call_text names.Create ∷ path_text a.0 ∷ w ∷ third ∷ []) two.text
-          ∙ ap (λ (w : List ℕ). call_text names.Create ∷ path_text a.0 ∷ decimal b.0 ∷ w ∷ []) three.0,
+      ap (λ (w : List ℕ). name_text names.Create ∷ w ∷ second ∷ third ∷ []) one.1
+          ∙ ap (λ (w : List ℕ). name_text names.Create ∷ path_text a.0 ∷ w ∷ third ∷ []) two.text
+          ∙ ap (λ (w : List ℕ). name_text names.Create ∷ path_text a.0 ∷ decimal b.0 ∷ w ∷ []) three.0,
     )
 
 chmod_of-read : (words : List (List ℕ)) (call : Call) → chmod_of words ≡ Ok call → WasCall names.Chmod words call
@@ -101,7 +102,7 @@ chmod_of-read (word ∷ second ∷ []) call e =
     let one = path_at-read word a.0 a.1 in
     let two = mode_at-read second b.0 b.1 in
     subst (λ (k : Call). WasCall names.Chmod (word ∷ second ∷ []) k) (ok_is (calls.Chmod a.0 b.0) call b.2)
-    ((one.0, two.1), (second, two.0, ap (λ (w : List ℕ). call_text names.Chmod ∷ w ∷ second ∷ []) one.1))
+    ((one.0, two.1), (second, two.0, ap (λ (w : List ℕ). name_text names.Chmod ∷ w ∷ second ∷ []) one.1))
 
 open_of-read : (words : List (List ℕ)) (call : Call) → open_of words ≡ Ok call → WasCall names.Open words call
 open_of-read [] call e = absurd cc
@@ -114,8 +115,8 @@ open_of-read (word ∷ second ∷ []) call e =
     let two = path_at-read second b.0 b.1 in
     subst (λ (k : Call). WasCall names.Open (word ∷ second ∷ []) k) (ok_is (calls.Open a.0 b.0) call b.2) (
       (one.high, two.0),
-      ap (λ (w : List ℕ). call_text names.Open ∷ w ∷ second ∷ []) one.text
-          ∙ ap (λ (w : List ℕ). call_text names.Open ∷ decimal a.0 ∷ w ∷ []) two.1,
+      ap (λ (w : List ℕ). name_text names.Open ∷ w ∷ second ∷ []) one.text
+          ∙ ap (λ (w : List ℕ). name_text names.Open ∷ decimal a.0 ∷ w ∷ []) two.1,
     )
 
 read_of-read : (words : List (List ℕ)) (call : Call) → read_of words ≡ Ok call → WasCall names.Read words call
@@ -133,9 +134,9 @@ read_of-read (word ∷ second ∷ third ∷ []) call e =
     let three = number_in-read 1 65536 third d.0 d.1 in
     subst (λ (k : Call). WasCall names.Read (word ∷ second ∷ third ∷ []) k) g.1 (
       (one.high, three.low, three.high, leb-true (b.0 + d.0) (2 ^ 40) g.0),
-      ap (λ (w : List ℕ). call_text names.Read ∷ w ∷ second ∷ third ∷ []) one.text
-          ∙ ap (λ (w : List ℕ). call_text names.Read ∷ decimal a.0 ∷ w ∷ third ∷ []) two.0
-          ∙ ap (λ (w : List ℕ). call_text names.Read ∷ decimal a.0 ∷ decimal b.0 ∷ w ∷ []) three.text,
+      ap (λ (w : List ℕ). name_text names.Read ∷ w ∷ second ∷ third ∷ []) one.text
+          ∙ ap (λ (w : List ℕ). name_text names.Read ∷ decimal a.0 ∷ w ∷ third ∷ []) two.0
+          ∙ ap (λ (w : List ℕ). name_text names.Read ∷ decimal a.0 ∷ decimal b.0 ∷ w ∷ []) three.text,
     )
 
 write_of-read : (words : List (List ℕ)) (call : Call) → write_of words ≡ Ok call → WasCall names.Write words call
@@ -156,8 +157,8 @@ write_of-read (word ∷ second ∷ third ∷ []) call e =
       (
         third,
         three.text,
-        ap (λ (w : List ℕ). call_text names.Write ∷ w ∷ second ∷ third ∷ []) one.text
-            ∙ ap (λ (w : List ℕ). call_text names.Write ∷ decimal a.0 ∷ w ∷ third ∷ []) two.0,
+        ap (λ (w : List ℕ). name_text names.Write ∷ w ∷ second ∷ third ∷ []) one.text
+            ∙ ap (λ (w : List ℕ). name_text names.Write ∷ decimal a.0 ∷ w ∷ third ∷ []) two.0,
       ),
     )
 
@@ -172,58 +173,58 @@ cut_of-read (word ∷ second ∷ []) call e =
     let two = number_in-read 0 (2 ^ 40) second b.0 b.1 in
     subst (λ (k : Call). WasCall names.Cut (word ∷ second ∷ []) k) (ok_is (calls.Cut a.0 b.0) call b.2) (
       (one.high, two.high),
-      ap (λ (w : List ℕ). call_text names.Cut ∷ w ∷ second ∷ []) one.text
-          ∙ ap (λ (w : List ℕ). call_text names.Cut ∷ decimal a.0 ∷ w ∷ []) two.text,
+      ap (λ (w : List ℕ). name_text names.Cut ∷ w ∷ second ∷ []) one.text
+          ∙ ap (λ (w : List ℕ). name_text names.Cut ∷ decimal a.0 ∷ w ∷ []) two.text,
     )
 
 -- a call that is read has its form and keeps the limits
 pub call_of-read : (name : CallName) (words : List (List ℕ)) (call : Call) → call_of name words ≡ Ok call → WasCall name words call
 call_of-read names.Lookup words call e =
     let r = path_call (λ path. calls.Lookup path) words call e in
-    subst (λ (k : Call). WasCall names.Lookup words k) r.3 (r.1, ap (λ (ws : List (List ℕ)). call_text names.Lookup ∷ ws) r.2)
+    subst (λ (k : Call). WasCall names.Lookup words k) r.3 (r.1, ap (λ (ws : List (List ℕ)). name_text names.Lookup ∷ ws) r.2)
 call_of-read names.Stat words call e =
     let r = path_call (λ path. calls.Stat path) words call e in
-    subst (λ (k : Call). WasCall names.Stat words k) r.3 (r.1, ap (λ (ws : List (List ℕ)). call_text names.Stat ∷ ws) r.2)
+    subst (λ (k : Call). WasCall names.Stat words k) r.3 (r.1, ap (λ (ws : List (List ℕ)). name_text names.Stat ∷ ws) r.2)
 call_of-read names.List words call e =
     let r = path_call (λ path. calls.List path) words call e in
-    subst (λ (k : Call). WasCall names.List words k) r.3 (r.1, ap (λ (ws : List (List ℕ)). call_text names.List ∷ ws) r.2)
+    subst (λ (k : Call). WasCall names.List words k) r.3 (r.1, ap (λ (ws : List (List ℕ)). name_text names.List ∷ ws) r.2)
 call_of-read names.Layout words call e =
     let r = path_call (λ path. calls.Layout path) words call e in
-    subst (λ (k : Call). WasCall names.Layout words k) r.3 (r.1, ap (λ (ws : List (List ℕ)). call_text names.Layout ∷ ws) r.2)
+    subst (λ (k : Call). WasCall names.Layout words k) r.3 (r.1, ap (λ (ws : List (List ℕ)). name_text names.Layout ∷ ws) r.2)
 call_of-read names.Mkdir words call e =
     let r = path_call (λ path. calls.Mkdir path) words call e in
-    subst (λ (k : Call). WasCall names.Mkdir words k) r.3 (r.1, ap (λ (ws : List (List ℕ)). call_text names.Mkdir ∷ ws) r.2)
+    subst (λ (k : Call). WasCall names.Mkdir words k) r.3 (r.1, ap (λ (ws : List (List ℕ)). name_text names.Mkdir ∷ ws) r.2)
 call_of-read names.Create words call e = create_of-read words call e
 call_of-read names.Link words call e =
     let r = paths_call (λ old new. calls.Link old new) words call e in
-    subst (λ (k : Call). WasCall names.Link words k) r.5 ((r.2, r.3), ap (λ (ws : List (List ℕ)). call_text names.Link ∷ ws) r.4)
+    subst (λ (k : Call). WasCall names.Link words k) r.5 ((r.2, r.3), ap (λ (ws : List (List ℕ)). name_text names.Link ∷ ws) r.4)
 call_of-read names.Unlink words call e =
     let r = path_call (λ path. calls.Unlink path) words call e in
-    subst (λ (k : Call). WasCall names.Unlink words k) r.3 (r.1, ap (λ (ws : List (List ℕ)). call_text names.Unlink ∷ ws) r.2)
+    subst (λ (k : Call). WasCall names.Unlink words k) r.3 (r.1, ap (λ (ws : List (List ℕ)). name_text names.Unlink ∷ ws) r.2)
 call_of-read names.Rmdir words call e =
     let r = path_call (λ path. calls.Rmdir path) words call e in
-    subst (λ (k : Call). WasCall names.Rmdir words k) r.3 (r.1, ap (λ (ws : List (List ℕ)). call_text names.Rmdir ∷ ws) r.2)
+    subst (λ (k : Call). WasCall names.Rmdir words k) r.3 (r.1, ap (λ (ws : List (List ℕ)). name_text names.Rmdir ∷ ws) r.2)
 call_of-read names.Rename words call e =
     let r = paths_call (λ old new. calls.Rename old new) words call e in
-    subst (λ (k : Call). WasCall names.Rename words k) r.5 ((r.2, r.3), ap (λ (ws : List (List ℕ)). call_text names.Rename ∷ ws) r.4)
+    subst (λ (k : Call). WasCall names.Rename words k) r.5 ((r.2, r.3), ap (λ (ws : List (List ℕ)). name_text names.Rename ∷ ws) r.4)
 call_of-read names.Chmod words call e = chmod_of-read words call e
 call_of-read names.Open words call e = open_of-read words call e
 call_of-read names.Close words call e =
     let r = handle_call (λ handle. calls.Close handle) words call e in
-    subst (λ (k : Call). WasCall names.Close words k) r.3 (r.1, ap (λ (ws : List (List ℕ)). call_text names.Close ∷ ws) r.2)
+    subst (λ (k : Call). WasCall names.Close words k) r.3 (r.1, ap (λ (ws : List (List ℕ)). name_text names.Close ∷ ws) r.2)
 call_of-read names.Read words call e = read_of-read words call e
 call_of-read names.Write words call e = write_of-read words call e
 call_of-read names.Cut words call e = cut_of-read words call e
 call_of-read names.Flush words call e =
     let r = handle_call (λ handle. calls.Flush handle) words call e in
-    subst (λ (k : Call). WasCall names.Flush words k) r.3 (r.1, ap (λ (ws : List (List ℕ)). call_text names.Flush ∷ ws) r.2)
+    subst (λ (k : Call). WasCall names.Flush words k) r.3 (r.1, ap (λ (ws : List (List ℕ)). name_text names.Flush ∷ ws) r.2)
 call_of-read names.Glimpse words call e =
     let r = handle_call (λ handle. calls.Glimpse handle) words call e in
-    subst (λ (k : Call). WasCall names.Glimpse words k) r.3 (r.1, ap (λ (ws : List (List ℕ)). call_text names.Glimpse ∷ ws) r.2)
+    subst (λ (k : Call). WasCall names.Glimpse words k) r.3 (r.1, ap (λ (ws : List (List ℕ)). name_text names.Glimpse ∷ ws) r.2)
 
 -- a call of this form is read
 abbrev pub Again : List (List ℕ) → Call → Type 0
-Again words call = (name : CallName) × (more : List (List ℕ)) × (words ≡ call_text name ∷ more) × (call_of name more ≡ Ok call)
+Again words call = (name : CallName) × (more : List (List ℕ)) × (words ≡ name_text name ∷ more) × (call_of name more ≡ Ok call)
 
 again_path : (make : List (List ℕ) → Call) (path : List (List ℕ)) → IsPath path → (one_path (path_text path ∷ []) >>= λ p. Ok (make p)) ≡ Ok (make path)
 again_path make path is = ap (λ (r : Result (List (List ℕ)) Fault). r >>= λ p. Ok (make p)) (path_at-again path is)
@@ -246,8 +247,8 @@ again_handle make handle low = ap (λ (r : Result ℕ Fault). r >>= λ h. Ok (ma
 again_create : (path : List (List ℕ)) (stripes : Option (ℕ × ℤ)) → IsPath path → StripesFit stripes → create_of (path_text path ∷ stripes_words stripes) ≡ Ok (calls.Create path stripes)
 again_create path None is fits = ap (λ (r : Result (List (List ℕ)) Fault). r >>= λ p. Ok (calls.Create p None)) (path_at-again path is)
 again_create path (Some stripes) is fits =
-    ap (λ (r : Result (List (List ℕ)) Fault). r >>= λ p. number_in 0 (2 ^ 32) (decimal stripes.0) >>= λ size. count_at (count_text stripes.1) >>= λ count. Ok (calls.Create p (Some (size, count)))) (path_at-again path is)
-    ∙ ap (λ (r : Result ℕ Fault). r >>= λ size. count_at (count_text stripes.1) >>= λ count. Ok (calls.Create path (Some (size, count)))) (number_in-again 0 (2 ^ 32) stripes.0 (omega arith) fits.0 (lit< tt))
+    ap (λ (r : Result (List (List ℕ)) Fault). r >>= λ p. number_in 0 (2 ^ 32) (decimal stripes.0) >>= λ size. count_at (signed_decimal stripes.1) >>= λ count. Ok (calls.Create p (Some (size, count)))) (path_at-again path is)
+    ∙ ap (λ (r : Result ℕ Fault). r >>= λ size. count_at (signed_decimal stripes.1) >>= λ count. Ok (calls.Create path (Some (size, count)))) (number_in-again 0 (2 ^ 32) stripes.0 (omega arith) fits.0 (lit< tt))
     ∙ ap (λ (r : Result ℤ Fault). r >>= λ count. Ok (calls.Create path (Some (stripes.0, count)))) (count_at-again stripes.1 fits.1)
 
 offset_small : (offset size : ℕ) → offset + size ≤ 2 ^ 40 → offset < 2 ^ 64

@@ -1,5 +1,5 @@
 -- Printed words have bytes, and no space among them.
-use Rattle.std.proofs.Common.{◌≡◌, ℕ, zero, suc, ◌+◌, ◌/◌, ◌%◌, ◌^◌, ◌<◌, ◌≤◌, Bool, true, false, cond, ◌&&◌, List, [], ◌∷◌, ◌++◌, length, Option, Some, None, refl, sym, ◌∙◌, decimal, arith, inl, inr, lit<}
+use Rattle.std.proofs.Common.{◌≡◌, ℕ, zero, suc, ◌/◌, ◌%◌, ◌^◌, ◌<◌, ◌≤◌, Bool, true, false, cond, ◌&&◌, List, [], ◌∷◌, ◌++◌, length, Option, Some, None, refl, sym, ◌∙◌, decimal, arith, inl, inr, lit<}
 use Rattle.std.specs.Prelude.{nat_le, nat_lt, slice_index, ℤ, pos, negsuc, All}
 use Rattle.std.specs.List.{list_all, join_with_byte}
 use Rattle.std.specs.Char.{digit_value}
@@ -25,10 +25,11 @@ use Rattle.lu_scene.specs.declared.words.Verb.{Verb}
 use Rattle.lu_scene.specs.declared.words.Verb.TheVariants as verbs
 use Rattle.lu_scene.specs.declared.words.CallName.{CallName}
 use Rattle.lu_scene.specs.declared.words.CallName.TheVariants as names
-use Rattle.lu_scene.specs.Words.{header_text, verb_text, call_text}
-use Rattle.std.specs.Fmt.{digits}
+use Rattle.lu_scene.specs.Words.{header_text, verb_text, name_text}
+use Rattle.std.specs.Fmt.{digits, signed_decimal}
 use Rattle.lu_base.specs.Values.{client_text, target_text, node_text, octal_text}
-use Rattle.lu_scene.specs.Print.{header_words, slot_text, count_text, stripes_words, call_words, line_words}
+use Rattle.lu_trace.specs.Calls.{stripes_words, call_words}
+use Rattle.lu_scene.specs.Print.{header_words, slot_text, line_words}
 use Rattle.lu_scene.specs.Grammar.{CountFits, StripesFit, CallFits, NodeFits, LineFits}
 use Rattle.lu_scene.proofs.LineForms.{IsSmall}
 
@@ -105,7 +106,7 @@ verb_word verbs.Boot = refl
 verb_word verbs.Close = refl
 verb_word verbs.Die = refl
 
-call_word : (name : CallName) → is_word (call_text name) ≡ true
+call_word : (name : CallName) → is_word (name_text name) ≡ true
 call_word names.Lookup = refl
 call_word names.Stat = refl
 call_word names.List = refl
@@ -198,9 +199,11 @@ target_word head target small fits = let few = small.osts in lettered_word 116 t
 slot_word : (client slot : ℕ) → client < 2 ^ 64 → slot < 2 ^ 64 → is_word (slot_text client slot) ≡ true
 slot_word client slot one two = long_word (decimal client) (46 ∷ decimal slot) (decimal_word client one) (word_shown (decimal slot) (decimal_word slot two))
 
-count_word : (count : ℤ) → CountFits count → is_word (count_text count) ≡ true
+count_word : (count : ℤ) → CountFits count → is_word (signed_decimal count) ≡ true
+unfolding digits
 count_word (pos n) fits = decimal_word n (omega (arith, fits))
-count_word (negsuc n) fits = refl
+count_word (negsuc zero) fits = refl
+count_word (negsuc (suc n)) fits = absurd (omega (arith, fits))
 
 -- all of the words
 abbrev pub are_words : List (List ℕ) → Bool
@@ -217,25 +220,25 @@ header_line header n small = two_words (header_text header) (decimal n) (header_
 
 stripes_are : (stripes : Option (ℕ × ℤ)) → StripesFit stripes → are_words (stripes_words stripes) ≡ true
 stripes_are None fits = refl
-stripes_are (Some stripes) fits = let most = fits.0 in two_words (decimal stripes.0) (count_text stripes.1) (decimal_word stripes.0 (omega (arith, most))) (count_word stripes.1 fits.1)
+stripes_are (Some stripes) fits = let most = fits.0 in two_words (decimal stripes.0) (signed_decimal stripes.1) (decimal_word stripes.0 (omega (arith, most))) (count_word stripes.1 fits.1)
 
 handle_word : (handle : ℕ) → handle ≤ 15 → is_word (decimal handle) ≡ true
 handle_word handle low = decimal_word handle (omega (arith, low))
 
 pub call_line_words : (call : Call) → CallFits call → are_words (call_words call) ≡ true
-call_line_words (calls.Lookup path) fits = two_words (call_text names.Lookup) (path_text path) refl (path_word path fits)
-call_line_words (calls.Stat path) fits = two_words (call_text names.Stat) (path_text path) refl (path_word path fits)
-call_line_words (calls.List path) fits = two_words (call_text names.List) (path_text path) refl (path_word path fits)
-call_line_words (calls.Layout path) fits = two_words (call_text names.Layout) (path_text path) refl (path_word path fits)
-call_line_words (calls.Mkdir path) fits = two_words (call_text names.Mkdir) (path_text path) refl (path_word path fits)
+call_line_words (calls.Lookup path) fits = two_words (name_text names.Lookup) (path_text path) refl (path_word path fits)
+call_line_words (calls.Stat path) fits = two_words (name_text names.Stat) (path_text path) refl (path_word path fits)
+call_line_words (calls.List path) fits = two_words (name_text names.List) (path_text path) refl (path_word path fits)
+call_line_words (calls.Layout path) fits = two_words (name_text names.Layout) (path_text path) refl (path_word path fits)
+call_line_words (calls.Mkdir path) fits = two_words (name_text names.Mkdir) (path_text path) refl (path_word path fits)
 call_line_words (calls.Create path stripes) fits = and_from _ _ (call_word names.Create) (and_from _ _ (path_word path fits.0) (stripes_are stripes fits.1))
-call_line_words (calls.Link old new) fits = three_words (call_text names.Link) (path_text old) (path_text new) refl (path_word old fits.0) (path_word new fits.1)
-call_line_words (calls.Unlink path) fits = two_words (call_text names.Unlink) (path_text path) refl (path_word path fits)
-call_line_words (calls.Rmdir path) fits = two_words (call_text names.Rmdir) (path_text path) refl (path_word path fits)
-call_line_words (calls.Rename old new) fits = three_words (call_text names.Rename) (path_text old) (path_text new) refl (path_word old fits.0) (path_word new fits.1)
-call_line_words (calls.Chmod path mode) fits = three_words (call_text names.Chmod) (path_text path) (octal_text mode) refl (path_word path fits.0) (mode_word mode fits.1)
-call_line_words (calls.Open handle path) fits = three_words (call_text names.Open) (decimal handle) (path_text path) refl (handle_word handle fits.0) (path_word path fits.1)
-call_line_words (calls.Close handle) fits = two_words (call_text names.Close) (decimal handle) refl (handle_word handle fits)
+call_line_words (calls.Link old new) fits = three_words (name_text names.Link) (path_text old) (path_text new) refl (path_word old fits.0) (path_word new fits.1)
+call_line_words (calls.Unlink path) fits = two_words (name_text names.Unlink) (path_text path) refl (path_word path fits)
+call_line_words (calls.Rmdir path) fits = two_words (name_text names.Rmdir) (path_text path) refl (path_word path fits)
+call_line_words (calls.Rename old new) fits = three_words (name_text names.Rename) (path_text old) (path_text new) refl (path_word old fits.0) (path_word new fits.1)
+call_line_words (calls.Chmod path mode) fits = three_words (name_text names.Chmod) (path_text path) (octal_text mode) refl (path_word path fits.0) (mode_word mode fits.1)
+call_line_words (calls.Open handle path) fits = three_words (name_text names.Open) (decimal handle) (path_text path) refl (handle_word handle fits.0) (path_word path fits.1)
+call_line_words (calls.Close handle) fits = two_words (name_text names.Close) (decimal handle) refl (handle_word handle fits)
 call_line_words (calls.Read handle offset size) fits =
     let most = fits.3 in
     and_from _ _ (call_word names.Read) (three_words (decimal handle) (decimal offset) (decimal size) (handle_word handle fits.0) (decimal_word offset (omega (arith, most))) (decimal_word size (omega (arith, most))))
@@ -244,9 +247,9 @@ call_line_words (calls.Write handle offset bytes) fits =
     and_from _ _ (call_word names.Write) (three_words (decimal handle) (decimal offset) (bytes_text bytes) (handle_word handle fits.0) (decimal_word offset (omega (arith, most))) (bytes_word bytes fits.1 fits.3))
 call_line_words (calls.Cut handle size) fits =
     let most = fits.1 in
-    three_words (call_text names.Cut) (decimal handle) (decimal size) refl (handle_word handle fits.0) (decimal_word size (omega (arith, most)))
-call_line_words (calls.Flush handle) fits = two_words (call_text names.Flush) (decimal handle) refl (handle_word handle fits)
-call_line_words (calls.Glimpse handle) fits = two_words (call_text names.Glimpse) (decimal handle) refl (handle_word handle fits)
+    three_words (name_text names.Cut) (decimal handle) (decimal size) refl (handle_word handle fits.0) (decimal_word size (omega (arith, most)))
+call_line_words (calls.Flush handle) fits = two_words (name_text names.Flush) (decimal handle) refl (handle_word handle fits)
+call_line_words (calls.Glimpse handle) fits = two_words (name_text names.Glimpse) (decimal handle) refl (handle_word handle fits)
 
 pub said_words : (head : Head) (line : SceneLine) → IsSmall head → LineFits head line → are_words (line_words line) ≡ true
 said_words head (lines.Call client slot call) small fits =

@@ -16,7 +16,7 @@ use Rattle.lu_scene.specs.declared.words.Verb.{Verb}
 use Rattle.lu_scene.specs.declared.words.Verb.TheVariants as verbs
 use Rattle.lu_scene.specs.declared.words.CallName.{CallName}
 use Rattle.lu_scene.specs.declared.words.CallName.TheVariants as names
-use Rattle.lu_scene.specs.Words.{header_text, all_headers, header_of, verb_text, all_verbs, verb_of, call_text, all_calls, call_name_of}
+use Rattle.lu_scene.specs.Words.{header_text, all_headers, header_of, verb_text, all_verbs, verb_of, name_text, all_calls, call_name_of}
 use Rattle.lu_scene.specs.Fields.{◌>>=◌, or_fault, number_in, client_at, target_at, node_at, slot_at}
 use Rattle.lu_scene.specs.Calls.{call_of}
 use Rattle.lu_scene.specs.Lines.{one_number, one_target, call_line, run_line, tick_line, commit_line, die_line, line_of}
@@ -49,8 +49,8 @@ header_of-read word header e = sym (bytes_same (header_text header) word (found_
 pub verb_of-read : (word : List ℕ) (verb : Verb) → verb_of word ≡ Some verb → word ≡ verb_text verb
 verb_of-read word verb e = sym (bytes_same (verb_text verb) word (found_passes (λ x. bytes_eq (verb_text x) word) all_verbs verb e))
 
-pub call_name_of-read : (word : List ℕ) (name : CallName) → call_name_of word ≡ Some name → word ≡ call_text name
-call_name_of-read word name e = sym (bytes_same (call_text name) word (found_passes (λ x. bytes_eq (call_text x) word) all_calls name e))
+pub call_name_of-read : (word : List ℕ) (name : CallName) → call_name_of word ≡ Some name → word ≡ name_text name
+call_name_of-read word name e = sym (bytes_same (name_text name) word (found_passes (λ x. bytes_eq (name_text x) word) all_calls name e))
 
 pub header_of-again : (header : Header) → header_of (header_text header) ≡ Some header
 header_of-again headers.Clients = refl
@@ -85,7 +85,7 @@ no_header verbs.Boot = refl
 no_header verbs.Close = refl
 no_header verbs.Die = refl
 
-pub call_name_of-again : (name : CallName) → call_name_of (call_text name) ≡ Some name
+pub call_name_of-again : (name : CallName) → call_name_of (name_text name) ≡ Some name
 call_name_of-again names.Lookup = refl
 call_name_of-again names.Stat = refl
 call_name_of-again names.List = refl
@@ -148,7 +148,7 @@ call_line-read head (place ∷ word ∷ words) line e =
     subst (λ (l : SceneLine). WasLine head verbs.Call (place ∷ word ∷ words) l) (ok_is (lines.Call a.0.0 a.0.1 d.0) line d.2) (
       (slot.1, slot.2, call.0),
       (
-        call_text b.0 ∷ words,
+        name_text b.0 ∷ words,
         call.1,
         ap (λ (w : List ℕ). verb_text verbs.Call ∷ w ∷ word ∷ words) slot.0 ∙ ap (λ (w : List ℕ). verb_text verbs.Call ∷ slot_text a.0.0 a.0.1 ∷ w ∷ words) name,
       ),
@@ -230,9 +230,9 @@ again_target : (make : TargetId → SceneLine) (osts : ℕ) (target : TargetId) 
 again_target make osts target within few = ap (λ (r : Result TargetId Fault). r >>= λ t. Ok (make t)) (target_at-again osts target within few)
 
 again_call : (head : Head) (client slot : ℕ) (call : Call) (name : CallName) (words : List (List ℕ)) → client < head.clients → slot ≤ 3 → head.clients ≤ 16 → call_of name words ≡ Ok call
-    → call_line head (slot_text client slot ∷ call_text name ∷ words) ≡ Ok (lines.Call client slot call)
+    → call_line head (slot_text client slot ∷ name_text name ∷ words) ≡ Ok (lines.Call client slot call)
 again_call head client slot call name words within low few read =
-    ap (λ (r : Result (ℕ × ℕ) Fault). r >>= λ s. or_fault faults.UnknownCall (call_name_of (call_text name)) >>= λ n. call_of n words >>= λ c. Ok (lines.Call s.0 s.1 c)) (slot_at-again head.clients client slot within low few)
+    ap (λ (r : Result (ℕ × ℕ) Fault). r >>= λ s. or_fault faults.UnknownCall (call_name_of (name_text name)) >>= λ n. call_of n words >>= λ c. Ok (lines.Call s.0 s.1 c)) (slot_at-again head.clients client slot within low few)
     ∙ ap (λ (o : Option CallName). or_fault faults.UnknownCall o >>= λ n. call_of n words >>= λ c. Ok (lines.Call client slot c)) (call_name_of-again name)
     ∙ ap (λ (r : Result Call Fault). r >>= λ c. Ok (lines.Call client slot c)) read
 

@@ -19,7 +19,8 @@ use Rattle.lu_scene.specs.declared.faults.Fault.TheVariants as faults
 use Rattle.lu_scene.specs.declared.scene.Head.{Head}
 use Rattle.lu_scene.specs.Fields.{◌>>=◌, or_fault, number_of, number_in, number_at, mode_of, mode_at, count_at, number_behind, client_at, target_at, node_at, slot_of, slot_at, path_of, path_at, data_of, data_at}
 use Rattle.lu_base.specs.Values.{client_text, target_text, node_text}
-use Rattle.lu_scene.specs.Print.{slot_text, count_text}
+use Rattle.std.specs.Fmt.{digits, signed_decimal}
+use Rattle.lu_scene.specs.Print.{slot_text}
 use Rattle.lu_scene.specs.Grammar.{CountFits, NodeFits, IsModeText}
 use Rattle.lu_scene.proofs.Options.{bind_ok, or_fault_ok, guard_ok, ok_is, bytes_same}
 use Rattle.lu_scene.proofs.Numerals.{number_of-decimal, number_of-read}
@@ -65,27 +66,32 @@ mode_at-again word mode is = ap (or_fault faults.Number) (mode_of-octal word is.
 
 -- numbers of stripes
 
+-- the text of -1
+minus_one : signed_decimal (negsuc 0) ≡ codes "-1"
+unfolding digits
+minus_one = refl
+
 -- no number's text is `-1`
 not_minus : (n : ℕ) → n < 2 ^ 64 → bytes_eq (decimal n) (codes "-1") ≡ false
 not_minus n small = false_from_ne_true _ (λ e.
     let digits = subst (λ (t : List ℕ). AllDigits 10 t) (bytes_same (decimal n) (codes "-1") e) (decimal_is_IsNumeral n small).0.1 in
     omega (arith, digits.0))
 
-pub count_at-read : (word : List ℕ) (count : ℤ) → count_at word ≡ Ok count → (word ≡ count_text count) × CountFits count
+pub count_at-read : (word : List ℕ) (count : ℤ) → count_at word ≡ Ok count → (word ≡ signed_decimal count) × CountFits count
 count_at-read word count e = by (bytes_eq word (codes "-1")) refl e
   where
-    by : (b : Bool) → bytes_eq word (codes "-1") ≡ b → cond b (Ok (negsuc 0)) (number_in 0 1000 word >>= λ n. Ok (pos n)) ≡ Ok count → (word ≡ count_text count) × CountFits count
-    by true is read = subst (λ (z : ℤ). (word ≡ count_text z) × CountFits z) (ok_is (negsuc 0) count read) (bytes_same word (codes "-1") is, refl)
+    by : (b : Bool) → bytes_eq word (codes "-1") ≡ b → cond b (Ok (negsuc 0)) (number_in 0 1000 word >>= λ n. Ok (pos n)) ≡ Ok count → (word ≡ signed_decimal count) × CountFits count
+    by true is read = subst (λ (z : ℤ). (word ≡ signed_decimal z) × CountFits z) (ok_is (negsuc 0) count read) (bytes_same word (codes "-1") is ∙ sym minus_one, refl)
     by false is read =
         let b = bind_ok (number_in 0 1000 word) (λ n. Ok (pos n)) count read in
         let r = number_in-read 0 1000 word b.0 b.1 in
-        subst (λ (z : ℤ). (word ≡ count_text z) × CountFits z) (ok_is (pos b.0) count b.2) (r.text, r.high)
+        subst (λ (z : ℤ). (word ≡ signed_decimal z) × CountFits z) (ok_is (pos b.0) count b.2) (r.text, r.high)
 
-pub count_at-again : (count : ℤ) → CountFits count → count_at (count_text count) ≡ Ok count
+pub count_at-again : (count : ℤ) → CountFits count → count_at (signed_decimal count) ≡ Ok count
 count_at-again (pos n) fits =
     cond-false _ (Ok (negsuc 0)) (number_in 0 1000 (decimal n) >>= λ m. Ok (pos m)) (not_minus n (omega (arith, fits)))
     ∙ ap (λ (r : Result ℕ Fault). r >>= λ m. Ok (pos m)) (number_in-again 0 1000 n (omega arith) fits (lit< tt))
-count_at-again (negsuc zero) fits = refl
+count_at-again (negsuc zero) fits = ap count_at minus_one
 count_at-again (negsuc (suc n)) fits = absurd (omega (arith, fits))
 
 -- nodes

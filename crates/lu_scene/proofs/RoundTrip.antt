@@ -22,7 +22,9 @@ use Rattle.lu_scene.specs.declared.words.Header.TheVariants as headers
 use Rattle.lu_scene.specs.Words.{header_text}
 use Rattle.lu_scene.specs.Fields.{is_octal}
 use Rattle.lu_scene.specs.Lines.{most_of, is_comment}
-use Rattle.lu_scene.specs.Print.{words_text, header_words, head_words, call_words, line_words, scene_words, scene_text}
+use Rattle.lu_trace.specs.Words.{words}
+use Rattle.lu_trace.specs.Calls.{call_words}
+use Rattle.lu_scene.specs.Print.{header_words, head_words, line_words, scene_words, scene_text}
 use Rattle.lu_scene.specs.Grammar.{CallFits, LineFits, Setting, SettingFits, head_of, StandOnce, IsModeText, IsCall, IsForm, AreLines, Spells, IsScene, HeadFits, SceneFits, HasShortLines}
 use Rattle.lu_scene.proofs.LineForms.{IsSmall}
 use Rattle.lu_scene.proofs.Graphic.{header_line, said_words}
@@ -136,7 +138,7 @@ header_length headers.Unused = lit≤ tt
 header_length headers.Rounds = lit≤ tt
 header_length headers.Flight = lit≤ tt
 
-header_start : (header : Header) (n : ℕ) → is_comment (words_text (header_words header n)) ≡ false
+header_start : (header : Header) (n : ℕ) → is_comment (words (header_words header n)) ≡ false
 header_start headers.Clients n = refl
 header_start headers.Osts n = refl
 header_start headers.Expire n = refl
@@ -164,7 +166,7 @@ header_neat header n most =
       are = header_line header n (omega (arith, small));
       some = λ none. cc none;
       plain_start = header_start header n;
-      short = omega (arith, digits, text, length-append (header_text header) (32 ∷ decimal n ++ []), length-append (decimal n) []);
+      short = omega (arith, digits, text, length-append (header_text header) (32 ∷ decimal n));
     }
 
 head_neat : (head : Head) → HeadFits head → All Neat (head_words head)
@@ -189,7 +191,7 @@ head_neat head fits =
       ),
     )
 
-line_start : (line : SceneLine) → is_comment (words_text (line_words line)) ≡ false
+line_start : (line : SceneLine) → is_comment (words (line_words line)) ≡ false
 line_start (lines.Call client slot call) = refl
 line_start lines.Run = refl
 line_start (lines.RunSome turns) = refl
@@ -217,7 +219,7 @@ line_some (lines.Boot target) none = cc none
 line_some (lines.Close target) none = cc none
 line_some (lines.Die client) none = cc none
 
-said_neat : (head : Head) (said : List SceneLine) → IsSmall head → All (LineFits head) said → All (λ line. length (words_text (line_words line)) ≤ 2000) said → All Neat (map line_words said)
+said_neat : (head : Head) (said : List SceneLine) → IsSmall head → All (LineFits head) said → All (λ line. length (words (line_words line)) ≤ 2000) said → All Neat (map line_words said)
 said_neat head [] small fit short = All-nil Neat
 said_neat head (l ∷ ls) small fit short =
     All-cons Neat (line_words l) (map line_words ls)
@@ -225,9 +227,9 @@ said_neat head (l ∷ ls) small fit short =
       are = said_words head l small (All-head (LineFits head) l ls fit);
       some = line_some l;
       plain_start = line_start l;
-      short = All-head (λ line. length (words_text (line_words line)) ≤ 2000) l ls short;
+      short = All-head (λ line. length (words (line_words line)) ≤ 2000) l ls short;
     })
-    (said_neat head ls small (All-tail (LineFits head) l ls fit) (All-tail (λ line. length (words_text (line_words line)) ≤ 2000) l ls short))
+    (said_neat head ls small (All-tail (LineFits head) l ls fit) (All-tail (λ line. length (words (line_words line)) ≤ 2000) l ls short))
 
 -- the text of a scenario is the scenario
 pub text_is_scene : (scene : Scene) → SceneFits scene → HasShortLines scene → IsScene (scene_text scene) scene
@@ -236,7 +238,7 @@ text_is_scene scene fits short =
     let neat : All Neat (scene_words scene) =
     All-append Neat (head_words scene.head) (map line_words scene.lines) (head_neat scene.head fits.head) (said_neat scene.head scene.lines small fits.lines_fit short) in
     let split = lines_back (scene_words scene) neat in
-    let spells : Spells (map words_text (scene_words scene) ++ [] ∷ []) (settings_of scene.head) scene.lines = record {
+    let spells : Spells (map words (scene_words scene) ++ [] ∷ []) (settings_of scene.head) scene.lines = record {
       plain = all_plain (scene_words scene) neat;
       once = stand_once scene.head;
       fit = settings_fit scene.head fits.head;

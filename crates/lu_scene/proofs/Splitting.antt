@@ -1,5 +1,5 @@
 -- A printed text is split into the words that were printed.
-use Rattle.std.proofs.Common.{◌≡◌, ◌≢◌, ℕ, ◌<◌, ◌≤◌, ◌==◌, Bool, true, false, not, cond, ◌&&◌, List, [], ◌∷◌, ◌++◌, length, map, refl, ap, ◌∙◌, append-nil, arith}
+use Rattle.std.proofs.Common.{◌≡◌, ◌≢◌, ℕ, ◌<◌, ◌≤◌, ◌==◌, Bool, true, false, not, cond, ◌&&◌, List, [], ◌∷◌, ◌++◌, length, map, refl, ap, ◌∙◌, arith}
 use Rattle.std.specs.Prelude.{nat_le, nat_lt, filter, All}
 use Rattle.std.specs.List.{list_all, slice_split, AllPass}
 use Rattle.std.proofs.lemmas.Bool.{ltb-true, leb-true, le-leb, ne_eqb, and_parts, and_from}
@@ -7,7 +7,8 @@ use Rattle.std.proofs.lemmas.List.Elements.{All-nil, All-cons, All-head, All-tai
 use Rattle.std.proofs.lemmas.List.Folds.{list_all-append}
 use Rattle.std.proofs.lemmas.List.Splits.{slice_split_none, slice_split_at}
 use Rattle.lu_scene.specs.Lines.{lines_of, words_of, is_plain, is_comment}
-use Rattle.lu_scene.specs.Print.{further, words_text, lines_text}
+use Rattle.lu_trace.specs.Words.{words}
+use Rattle.lu_scene.specs.Print.{lines_text}
 use Rattle.lu_scene.specs.Grammar.{says, sayings}
 use Rattle.lu_scene.proofs.Complete.{says_first}
 use Rattle.lu_scene.proofs.Graphic.{is_graphic, shown, is_word, are_words}
@@ -24,35 +25,34 @@ shown_word : (word : List ℕ) → is_word word ≡ true → shown word ≡ true
 shown_word word is = (and_parts (nat_lt 0 (length word)) (shown word) is).1
 
 -- words are what stands between the spaces
-split_words : (word : List ℕ) (words : List (List ℕ)) → is_word word ≡ true → are_words words ≡ true → slice_split (λ b. b == 32) (word ++ further words) ≡ word ∷ words
-split_words word [] one more =
-    ap (slice_split (λ b. b == 32)) (append-nil word) ∙ slice_split_none (λ b. b == 32) word (without 32 (omega arith) word (shown_word word one))
-split_words word (next ∷ words) one more =
-    let parts = and_parts (is_word next) (are_words words) more in
-    slice_split_at (λ b. b == 32) word 32 (next ++ further words) (without 32 (omega arith) word (shown_word word one)) refl
-    ∙ ap (λ (ws : List (List ℕ)). word ∷ ws) (split_words next words parts.0 parts.1)
+split_words : (word : List ℕ) (more : List (List ℕ)) → is_word word ≡ true → are_words more ≡ true → slice_split (λ b. b == 32) (words (word ∷ more)) ≡ word ∷ more
+split_words word [] one are = slice_split_none (λ b. b == 32) word (without 32 (omega arith) word (shown_word word one))
+split_words word (next ∷ more) one are =
+    let parts = and_parts (is_word next) (are_words more) are in
+    slice_split_at (λ b. b == 32) word 32 (words (next ∷ more)) (without 32 (omega arith) word (shown_word word one)) refl
+    ∙ ap (λ (ws : List (List ℕ)). word ∷ ws) (split_words next more parts.0 parts.1)
 
 -- no word is empty
-kept : (words : List (List ℕ)) → are_words words ≡ true → filter (λ word. not (length word == 0)) words ≡ words
+kept : (line : List (List ℕ)) → are_words line ≡ true → filter (λ word. not (length word == 0)) line ≡ line
 kept [] are = refl
-kept (word ∷ words) are =
-    let parts = and_parts (is_word word) (are_words words) are in
+kept (word ∷ line) are =
+    let parts = and_parts (is_word word) (are_words line) are in
     let some = ltb-true 0 (length word) (and_parts (nat_lt 0 (length word)) (shown word) parts.0).0 in
-    ap (λ (b : Bool). cond (not b) (word ∷ filter (λ w. not (length w == 0)) words) (filter (λ w. not (length w == 0)) words)) (ne_eqb (length word) 0 (λ e. omega (arith, some, e)))
-    ∙ ap (λ (ws : List (List ℕ)). word ∷ ws) (kept words parts.1)
+    ap (λ (b : Bool). cond (not b) (word ∷ filter (λ w. not (length w == 0)) line) (filter (λ w. not (length w == 0)) line)) (ne_eqb (length word) 0 (λ e. omega (arith, some, e)))
+    ∙ ap (λ (ws : List (List ℕ)). word ∷ ws) (kept line parts.1)
 
 -- words that a line may have
-pub record Neat (words : List (List ℕ)) : Type 0 where
-  pub are : are_words words ≡ true
-  pub some : words ≢ []
-  pub plain_start : is_comment (words_text words) ≡ false
-  pub short : length (words_text words) ≤ 2000
+pub record Neat (line : List (List ℕ)) : Type 0 where
+  pub are : are_words line ≡ true
+  pub some : line ≢ []
+  pub plain_start : is_comment (words line) ≡ false
+  pub short : length (words line) ≤ 2000
 
-words_back : (words : List (List ℕ)) → words ≢ [] → are_words words ≡ true → words_of (words_text words) ≡ words
+words_back : (line : List (List ℕ)) → line ≢ [] → are_words line ≡ true → words_of (words line) ≡ line
 words_back [] some are = absurd (some refl)
-words_back (word ∷ words) some are =
-    let parts = and_parts (is_word word) (are_words words) are in
-    ap (filter (λ w. not (length w == 0))) (split_words word words parts.0 parts.1) ∙ kept (word ∷ words) are
+words_back (word ∷ line) some are =
+    let parts = and_parts (is_word word) (are_words line) are in
+    ap (filter (λ w. not (length w == 0))) (split_words word line parts.0 parts.1) ∙ kept (word ∷ line) are
 
 -- bytes of a line
 abbrev plain_byte : ℕ → Bool
@@ -66,17 +66,13 @@ shown_plain (b ∷ more) is =
     let least = leb-true 33 b both.0 in
     and_from _ _ (and_from _ _ (le-leb 32 b (omega (arith, least))) both.1) (shown_plain more parts.1)
 
-further_plain : (words : List (List ℕ)) → are_words words ≡ true → list_all plain_byte (further words) ≡ true
-further_plain [] are = refl
-further_plain (word ∷ words) are =
-    let parts = and_parts (is_word word) (are_words words) are in
-    list_all-append plain_byte word (further words) ∙ and_from _ _ (shown_plain word (shown_word word parts.0)) (further_plain words parts.1)
-
-text_plain : (words : List (List ℕ)) → are_words words ≡ true → list_all plain_byte (words_text words) ≡ true
+text_plain : (line : List (List ℕ)) → are_words line ≡ true → list_all plain_byte (words line) ≡ true
 text_plain [] are = refl
-text_plain (word ∷ words) are =
-    let parts = and_parts (is_word word) (are_words words) are in
-    list_all-append plain_byte word (further words) ∙ and_from _ _ (shown_plain word (shown_word word parts.0)) (further_plain words parts.1)
+text_plain (word ∷ []) are = shown_plain word (shown_word word (and_parts (is_word word) true are).0)
+text_plain (word ∷ next ∷ more) are =
+    let parts = and_parts (is_word word) (are_words (next ∷ more)) are in
+    list_all-append plain_byte word (32 ∷ words (next ∷ more))
+    ∙ and_from _ _ (shown_plain word (shown_word word parts.0)) (text_plain (next ∷ more) parts.1)
 
 no_feed : (bytes : List ℕ) → list_all plain_byte bytes ≡ true → All (λ b. (b == 10) ≡ false) bytes
 no_feed [] is = All-nil (λ b. (b == 10) ≡ false)
@@ -86,34 +82,34 @@ no_feed (b ∷ more) is =
     All-cons (λ d. (d == 10) ≡ false) b more (ne_eqb b 10 (λ e. omega (arith, least, e))) (no_feed more parts.1)
 
 -- lines are what stands between the line feeds, and nothing after the last one
-pub lines_back : (lines : List (List (List ℕ))) → All Neat lines → lines_of (lines_text lines) ≡ map words_text lines ++ [] ∷ []
+pub lines_back : (lines : List (List (List ℕ))) → All Neat lines → lines_of (lines_text lines) ≡ map words lines ++ [] ∷ []
 lines_back [] neat = refl
-lines_back (words ∷ more) neat =
-    let first = All-head Neat words more neat in
-    slice_split_at (λ b. b == 10) (words_text words) 10 (lines_text more) (no_feed (words_text words) (text_plain words first.are)) refl
-    ∙ ap (λ (ls : List (List ℕ)). words_text words ∷ ls) (lines_back more (All-tail Neat words more neat))
+lines_back (line ∷ more) neat =
+    let first = All-head Neat line more neat in
+    slice_split_at (λ b. b == 10) (words line) 10 (lines_text more) (no_feed (words line) (text_plain line first.are)) refl
+    ∙ ap (λ (ls : List (List ℕ)). words line ∷ ls) (lines_back more (All-tail Neat line more neat))
 
-neat_plain : (words : List (List ℕ)) → Neat words → is_plain (words_text words) ≡ true
-neat_plain words neat = and_from _ _ (le-leb (length (words_text words)) 2000 neat.short) (text_plain words neat.are)
+neat_plain : (line : List (List ℕ)) → Neat line → is_plain (words line) ≡ true
+neat_plain line neat = and_from _ _ (le-leb (length (words line)) 2000 neat.short) (text_plain line neat.are)
 
-pub all_plain : (lines : List (List (List ℕ))) → All Neat lines → AllPass is_plain (map words_text lines ++ [] ∷ [])
+pub all_plain : (lines : List (List (List ℕ))) → All Neat lines → AllPass is_plain (map words lines ++ [] ∷ [])
 all_plain [] neat = All-cons (λ l. is_plain l ≡ true) [] [] refl (All-nil (λ l. is_plain l ≡ true))
-all_plain (words ∷ more) neat =
-    All-cons (λ l. is_plain l ≡ true) (words_text words) (map words_text more ++ [] ∷ []) (neat_plain words (All-head Neat words more neat)) (all_plain more (All-tail Neat words more neat))
+all_plain (line ∷ more) neat =
+    All-cons (λ l. is_plain l ≡ true) (words line) (map words more ++ [] ∷ []) (neat_plain line (All-head Neat line more neat)) (all_plain more (All-tail Neat line more neat))
 
-neat_says : (words : List (List ℕ)) → Neat words → says (words_text words) ≡ true
-neat_says words neat =
-    and_from _ _ (ap not neat.plain_start) (ap (λ (ws : List (List ℕ)). not (length ws == 0)) (words_back words neat.some neat.are) ∙ ap not (filled words neat.some))
+neat_says : (line : List (List ℕ)) → Neat line → says (words line) ≡ true
+neat_says line neat =
+    and_from _ _ (ap not neat.plain_start) (ap (λ (ws : List (List ℕ)). not (length ws == 0)) (words_back line neat.some neat.are) ∙ ap not (filled line neat.some))
   where
     filled : (ws : List (List ℕ)) → ws ≢ [] → (length ws == 0) ≡ false
     filled [] some = absurd (some refl)
     filled (w ∷ ws) some = ne_eqb (length (w ∷ ws)) 0 (λ e. omega arith)
 
 -- what is said is what was printed
-pub sayings_back : (lines : List (List (List ℕ))) → All Neat lines → sayings (map words_text lines ++ [] ∷ []) ≡ lines
+pub sayings_back : (lines : List (List (List ℕ))) → All Neat lines → sayings (map words lines ++ [] ∷ []) ≡ lines
 sayings_back [] neat = refl
-sayings_back (words ∷ more) neat =
-    let first = All-head Neat words more neat in
-    says_first (words_text words) (map words_text more ++ [] ∷ []) (neat_says words first)
-    ∙ ap (λ (ws : List (List ℕ)). ws ∷ sayings (map words_text more ++ [] ∷ [])) (words_back words first.some first.are)
-    ∙ ap (λ (ls : List (List (List ℕ))). words ∷ ls) (sayings_back more (All-tail Neat words more neat))
+sayings_back (line ∷ more) neat =
+    let first = All-head Neat line more neat in
+    says_first (words line) (map words more ++ [] ∷ []) (neat_says line first)
+    ∙ ap (λ (ws : List (List ℕ)). ws ∷ sayings (map words more ++ [] ∷ [])) (words_back line first.some first.are)
+    ∙ ap (λ (ls : List (List (List ℕ))). line ∷ ls) (sayings_back more (All-tail Neat line more neat))

@@ -18,10 +18,12 @@ use Rattle.lu_scene.specs.declared.words.Header.{Header}
 use Rattle.lu_scene.specs.declared.words.Header.TheVariants as headers
 use Rattle.lu_scene.specs.declared.words.Verb.TheVariants as verbs
 use Rattle.lu_scene.specs.declared.words.CallName.TheVariants as names
-use Rattle.lu_scene.specs.Words.{verb_text, call_text}
+use Rattle.lu_scene.specs.Words.{verb_text, name_text}
 use Rattle.lu_scene.specs.Fields.{is_octal}
 use Rattle.lu_scene.specs.Lines.{lines_of, words_of, is_plain, is_comment, least_of, most_of, default_head, with_number, place_of, line_after}
-use Rattle.lu_scene.specs.Print.{words_text, header_words, slot_text, call_words, line_words}
+use Rattle.lu_trace.specs.Words.{words}
+use Rattle.lu_trace.specs.Calls.{call_words}
+use Rattle.lu_scene.specs.Print.{header_words, slot_text, line_words}
 
 -- The limits of numbers, nodes and paths.
 
@@ -103,27 +105,27 @@ abbrev pub IsModeText : List ℕ → ℕ → Type 0
 IsModeText text mode = IsTrue (is_octal text) × (mode ≡ digits_value 8 text)
 
 abbrev pub IsCall : List (List ℕ) → Call → Type 0
-IsCall words (calls.Chmod path mode) =
-    (text : List ℕ) × IsModeText text mode × (words ≡ call_text names.Chmod ∷ path_text path ∷ text ∷ [])
-IsCall words (calls.Write handle offset bytes) =
-    (text : List ℕ) × IsDataText text bytes × (words ≡ call_text names.Write ∷ decimal handle ∷ decimal offset ∷ text ∷ [])
-IsCall words call = words ≡ call_words call
+IsCall parts (calls.Chmod path mode) =
+    (text : List ℕ) × IsModeText text mode × (parts ≡ name_text names.Chmod ∷ path_text path ∷ text ∷ [])
+IsCall parts (calls.Write handle offset bytes) =
+    (text : List ℕ) × IsDataText text bytes × (parts ≡ name_text names.Write ∷ decimal handle ∷ decimal offset ∷ text ∷ [])
+IsCall parts call = parts ≡ call_words call
 
 abbrev pub IsForm : List (List ℕ) → SceneLine → Type 0
-IsForm words (lines.Call client slot call) =
-    (further : List (List ℕ)) × IsCall further call × (words ≡ verb_text verbs.Call ∷ slot_text client slot ∷ further)
-IsForm words line = words ≡ line_words line
+IsForm parts (lines.Call client slot call) =
+    (further : List (List ℕ)) × IsCall further call × (parts ≡ verb_text verbs.Call ∷ slot_text client slot ∷ further)
+IsForm parts line = parts ≡ line_words line
 
 -- words are a line of a scenario with this head
 abbrev pub IsLine : Head → List (List ℕ) → SceneLine → Type 0
-IsLine head words line = LineFits head line × IsForm words line
+IsLine head parts line = LineFits head line × IsForm parts line
 
 -- each of the lines is of its words
 abbrev pub AreLines : Head → List (List (List ℕ)) → List SceneLine → Type 0
 AreLines head [] [] = Unit {0}
 AreLines head [] (line ∷ lines) = ⊥
-AreLines head (words ∷ more) [] = ⊥
-AreLines head (words ∷ more) (line ∷ lines) = IsLine head words line × AreLines head more lines
+AreLines head (parts ∷ more) [] = ⊥
+AreLines head (parts ∷ more) (line ∷ lines) = IsLine head parts line × AreLines head more lines
 
 -- a line that isn't a comment, and has a word
 abbrev pub says : List ℕ → Bool
@@ -176,4 +178,4 @@ pub record SceneFits (scene : Scene) : Type 0 where
 
 -- each line, as it is printed, has at most 2,000 bytes
 abbrev pub HasShortLines : Scene → Type 0
-HasShortLines scene = All (λ line. length (words_text (line_words line)) ≤ 2000) scene.lines
+HasShortLines scene = All (λ line. length (words (line_words line)) ≤ 2000) scene.lines

@@ -48,25 +48,25 @@ abbrev pub verb_of : List ℕ → Option Verb
 verb_of word = find (λ x. bytes_eq (verb_text x) word) all_verbs
 
 -- the word that names a call
-abbrev pub call_text : CallName → List ℕ
-call_text names.Lookup = codes "lookup"
-call_text names.Stat = codes "stat"
-call_text names.List = codes "list"
-call_text names.Layout = codes "layout"
-call_text names.Mkdir = codes "mkdir"
-call_text names.Create = codes "create"
-call_text names.Link = codes "link"
-call_text names.Unlink = codes "unlink"
-call_text names.Rmdir = codes "rmdir"
-call_text names.Rename = codes "rename"
-call_text names.Chmod = codes "chmod"
-call_text names.Open = codes "open"
-call_text names.Close = codes "close"
-call_text names.Read = codes "read"
-call_text names.Write = codes "write"
-call_text names.Cut = codes "cut"
-call_text names.Flush = codes "flush"
-call_text names.Glimpse = codes "glimpse"
+abbrev pub name_text : CallName → List ℕ
+name_text names.Lookup = codes "lookup"
+name_text names.Stat = codes "stat"
+name_text names.List = codes "list"
+name_text names.Layout = codes "layout"
+name_text names.Mkdir = codes "mkdir"
+name_text names.Create = codes "create"
+name_text names.Link = codes "link"
+name_text names.Unlink = codes "unlink"
+name_text names.Rmdir = codes "rmdir"
+name_text names.Rename = codes "rename"
+name_text names.Chmod = codes "chmod"
+name_text names.Open = codes "open"
+name_text names.Close = codes "close"
+name_text names.Read = codes "read"
+name_text names.Write = codes "write"
+name_text names.Cut = codes "cut"
+name_text names.Flush = codes "flush"
+name_text names.Glimpse = codes "glimpse"
 
 -- the calls
 abbrev pub all_calls : List CallName
@@ -74,4 +74,4 @@ all_calls = names.Lookup ∷ names.Stat ∷ names.List ∷ names.Layout ∷ name
 
 -- the call that the word names
 abbrev pub call_name_of : List ℕ → Option CallName
-call_name_of word = find (λ x. bytes_eq (call_text x) word) all_calls
+call_name_of word = find (λ x. bytes_eq (name_text x) word) all_calls

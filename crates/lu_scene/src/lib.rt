@@ -18,6 +18,3 @@ pub use places::line_numbers;
 pub use printer::print_scene;
 pub use reader::read_scene;
 pub use scene::{Head, Lines, Scene, SceneLine};
-
-#[cfg(test)]
-mod tests;

@@ -43,7 +43,7 @@ fn add_if(numbers: &mut Numbers, wanted: bool, number: u64) -> Result<(), Memory
 /// aren't of the head. In a scenario there is one for each of its lines, in their order.
 pub fn line_numbers(alloc: Global, text: &[u8]) -> Result<Numbers, Memory>
     ensures numbers { IfOk result (λ numbers. numbers ≡ step_numbers 1 (lines_of text.now)) }
-    ensures each { IfOk result (λ numbers. (scene : Scene) → IsScene text.now scene → length numbers ≡ length scene.lines) }
+    ensures each { IfOk result (λ n. (scene : Scene) → IsScene text.now scene → length n ≡ length scene.lines) }
 {
     let lines = lines_of(alloc, text)?;
     let mut numbers = Numbers::new(alloc);

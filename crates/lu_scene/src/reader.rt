@@ -349,8 +349,7 @@ pub fn read_scene(alloc: Global, text: &[u8]) -> Result<Scene, SceneFault>
     // A scenario is read, unless memory runs out.
     ensures only { (scene : Scene) → IsScene text.now scene → (result ≡ Ok scene) ⊎ (result ≡ Err SceneFault.Memory) }
     // What is wrong is the first bad line, with its first fault.
-    ensures fault { (number : ℕ) (fault : Fault) → result ≡ Err (SceneFault.Bad number fault)
-        → IsFirstFault (lines_of text.now) number fault }
+    ensures fault { (n : ℕ) (f : Fault) → result ≡ Err (SceneFault.Bad n f) → IsFirstFault (lines_of text.now) n f }
 {
     let progress = read(alloc, text)?;
     Ok(Scene {

@@ -1,7 +1,7 @@
 //! The words with which lines and calls begin.
 
 ghost use Rattle.std.specs.Prelude.{◌≡◌};
-ghost use Rattle.lu_scene.specs.Words.{header_text, header_of, verb_text, verb_of, call_text, call_name_of};
+ghost use Rattle.lu_scene.specs.Words.{header_text, header_of, verb_text, verb_of, name_text, call_name_of};
 
 /// A line of the head.
 #[derive(Clone, Copy, Debug, PartialEq, Eq)]
@@ -154,7 +154,7 @@ const CALL_NAMES: [CallName; 18] = [
 impl CallName {
     /// The word that names the call.
     pub fn text(self) -> &'static [u8]
-        ensures text { result.now ≡ call_text self }
+        ensures text { result.now ≡ name_text self }
     {
         match self {
             CallName::Lookup => b"lookup",

@@ -1,4 +1,4 @@
--- The text of a call.
+-- The words of a call, and its text. A line of a scenario and a line of a trace write a call so.
 use Rattle.std.specs.Prelude.{ℕ, ℤ, List, [], ◌∷◌, Option, Some, None, codes, decimal}
 use Rattle.std.specs.Fmt.{signed_decimal}
 use Rattle.lu_base.specs.Texts.{bytes_text, path_text}
@@ -12,22 +12,27 @@ abbrev pub stripes_words : Option (ℕ × ℤ) → List (List ℕ)
 stripes_words None = []
 stripes_words (Some stripes) = decimal stripes.0 ∷ signed_decimal stripes.1 ∷ []
 
+-- the words of a call: its name, and what it is of
+abbrev pub call_words : Call → List (List ℕ)
+call_words (Lookup path) = codes "lookup" ∷ path_text path ∷ []
+call_words (Stat path) = codes "stat" ∷ path_text path ∷ []
+call_words (ListNames path) = codes "list" ∷ path_text path ∷ []
+call_words (Layout path) = codes "layout" ∷ path_text path ∷ []
+call_words (Mkdir path) = codes "mkdir" ∷ path_text path ∷ []
+call_words (Create path stripes) = codes "create" ∷ path_text path ∷ stripes_words stripes
+call_words (Link old new) = codes "link" ∷ path_text old ∷ path_text new ∷ []
+call_words (Unlink path) = codes "unlink" ∷ path_text path ∷ []
+call_words (Rmdir path) = codes "rmdir" ∷ path_text path ∷ []
+call_words (Rename old new) = codes "rename" ∷ path_text old ∷ path_text new ∷ []
+call_words (Chmod path mode) = codes "chmod" ∷ path_text path ∷ octal_text mode ∷ []
+call_words (Open handle path) = codes "open" ∷ decimal handle ∷ path_text path ∷ []
+call_words (Close handle) = codes "close" ∷ decimal handle ∷ []
+call_words (Read handle offset length) = codes "read" ∷ decimal handle ∷ decimal offset ∷ decimal length ∷ []
+call_words (Write handle offset bytes) = codes "write" ∷ decimal handle ∷ decimal offset ∷ bytes_text bytes ∷ []
+call_words (Cut handle size) = codes "cut" ∷ decimal handle ∷ decimal size ∷ []
+call_words (Flush handle) = codes "flush" ∷ decimal handle ∷ []
+call_words (Glimpse handle) = codes "glimpse" ∷ decimal handle ∷ []
+
+-- a call: its words, with one space between them
 abbrev pub call_text : Call → List ℕ
-call_text (Lookup path) = words (codes "lookup" ∷ path_text path ∷ [])
-call_text (Stat path) = words (codes "stat" ∷ path_text path ∷ [])
-call_text (ListNames path) = words (codes "list" ∷ path_text path ∷ [])
-call_text (Layout path) = words (codes "layout" ∷ path_text path ∷ [])
-call_text (Mkdir path) = words (codes "mkdir" ∷ path_text path ∷ [])
-call_text (Create path stripes) = words (codes "create" ∷ path_text path ∷ stripes_words stripes)
-call_text (Link old new) = words (codes "link" ∷ path_text old ∷ path_text new ∷ [])
-call_text (Unlink path) = words (codes "unlink" ∷ path_text path ∷ [])
-call_text (Rmdir path) = words (codes "rmdir" ∷ path_text path ∷ [])
-call_text (Rename old new) = words (codes "rename" ∷ path_text old ∷ path_text new ∷ [])
-call_text (Chmod path mode) = words (codes "chmod" ∷ path_text path ∷ octal_text mode ∷ [])
-call_text (Open handle path) = words (codes "open" ∷ decimal handle ∷ path_text path ∷ [])
-call_text (Close handle) = words (codes "close" ∷ decimal handle ∷ [])
-call_text (Read handle offset length) = words (codes "read" ∷ decimal handle ∷ decimal offset ∷ decimal length ∷ [])
-call_text (Write handle offset bytes) = words (codes "write" ∷ decimal handle ∷ decimal offset ∷ bytes_text bytes ∷ [])
-call_text (Cut handle size) = words (codes "cut" ∷ decimal handle ∷ decimal size ∷ [])
-call_text (Flush handle) = words (codes "flush" ∷ decimal handle ∷ [])
-call_text (Glimpse handle) = words (codes "glimpse" ∷ decimal handle ∷ [])
+call_text call = words (call_words call)

@@ -6,6 +6,7 @@ pub mod Calls
 pub mod Answers
 pub mod Messages
 pub mod Entries
+pub mod Forms
 pub mod Traces
 pub mod Turns
 pub mod WellFormed

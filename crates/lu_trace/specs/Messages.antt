@@ -1,8 +1,14 @@
 -- The text of a message.
 use Rattle.std.specs.Prelude.{ℕ, ◌==◌, if◌then◌else◌, List, [], ◌∷◌, ◌++◌, Option, Some, None, codes, decimal}
 use Rattle.lu_base.specs.Texts.{pair_text}
+use Rattle.lu_base.specs.declared.ids.Cookie.{Cookie}
+use Rattle.lu_base.specs.declared.ids.Who.{Who}
 use Rattle.lu_base.specs.declared.ids.Xid.{Xid}
+use Rattle.lu_base.specs.declared.locks.Mode.{Mode}
+use Rattle.lu_base.specs.declared.locks.Policy.{Policy}
+use Rattle.lu_base.specs.declared.locks.Resource.{Resource}
 use Rattle.lu_msg.specs.declared.messages.Message.{Message}
+use Rattle.lu_msg.specs.declared.messages.Reply.{Reply as ReplyBody}
 use Rattle.lu_msg.specs.declared.messages.Message.TheVariants.{Request, Cancel, Where, Replay, Lock, Word, Join, Size, Up, Reply, Grant, Block, Ask, Ready, Evicted}
 use Rattle.lu_trace.specs.Words.{words}
 use Rattle.lu_base.specs.Values.{mode_text}
@@ -20,10 +26,22 @@ abbrev pub size_text : Option ℕ → List ℕ
 size_text None = codes "-"
 size_text (Some size) = decimal size
 
+-- a word, the life, the boot and a lock
+abbrev pub of_lock_text : List ℕ → Who → ℕ → Cookie → List ℕ
+of_lock_text word who boot cookie = words (word ∷ who_text who ∷ decimal boot ∷ pair_text cookie.0 ∷ [])
+
+-- what a lock is on, its mode and its policy
+abbrev pub terms_text : Resource → Mode → Policy → List ℕ
+terms_text resource mode policy = words (resource_text resource policy ∷ mode_text mode ∷ policy_text policy ∷ [])
+
+-- when a request was executed, what it was granted and its answer
+abbrev pub outcome_text : ReplyBody → List ℕ
+outcome_text reply = words (at_text reply.at ∷ locks_text reply.locks ∷ answer_text reply.answer ∷ [])
+
 abbrev pub message_text : Message → List ℕ
 message_text (Request r) = words (codes "req" ∷ who_text r.who ∷ decimal r.boot ∷ tagged_text r.xid r.tag ∷ op_text r.op ∷ [])
-message_text (Cancel who boot cookie) = words (codes "cancel" ∷ who_text who ∷ decimal boot ∷ pair_text cookie.0 ∷ [])
-message_text (Where who boot cookie) = words (codes "where" ∷ who_text who ∷ decimal boot ∷ pair_text cookie.0 ∷ [])
+message_text (Cancel who boot cookie) = of_lock_text (codes "cancel") who boot cookie
+message_text (Where who boot cookie) = of_lock_text (codes "where") who boot cookie
 message_text (Replay r) =
     words (codes "replay" ∷ who_text r.who ∷ decimal r.boot ∷ pair_text r.txn.0 ∷ tagged_text r.xid r.tag ∷ seen_text r.seen ∷ op_text r.op ∷ [])
 message_text (Lock l) =
@@ -42,7 +60,7 @@ message_text (Reply r) =
 message_text (Grant g) =
     words (codes "grant" ∷ who_text g.who ∷ decimal g.boot ∷ pair_text g.cookie.0
     ∷ extent_text g.extent ∷ decimal g.size ∷ pair_text g.committed.0 ∷ seen_text g.seen ∷ [])
-message_text (Block who boot cookie) = words (codes "block" ∷ who_text who ∷ decimal boot ∷ pair_text cookie.0 ∷ [])
+message_text (Block who boot cookie) = of_lock_text (codes "block") who boot cookie
 message_text (Ask who boot cookie for_who xid) =
     words (codes "ask" ∷ who_text who ∷ decimal boot ∷ pair_text cookie.0 ∷ who_text for_who ∷ decimal xid.0 ∷ [])
 message_text (Ready who boot committed) = words (codes "ready" ∷ who_text who ∷ decimal boot ∷ pair_text committed.0 ∷ [])

@@ -1,5 +1,8 @@
 //! The entries of a trace, and its lines.
 
+ghost use Rattle.std.specs.Prelude.{◌≡◌, IfOk, IsTrue};
+ghost use Rattle.lu_trace.specs.Forms.{has_numbers, has_content};
+
 use lu_base::{
     At, Cause, Cookie, Duplicate, Lock, Memory, Node, Numbers, Sequence, TargetId, Txn, Who, Xid,
 };
@@ -122,69 +125,12 @@ pub type Entries = Sequence<Line>;
 impl Duplicate for Entry {
     fn copy(&self, alloc: Global) -> Result<Entry, Memory> {
         match self {
-            Entry::Begin { slot, call } => Ok(Entry::Begin {
-                slot: *slot,
-                call: call.copy(alloc)?,
-            }),
             Entry::Busy(slot) => Ok(Entry::Busy(*slot)),
             Entry::Skip => Ok(Entry::Skip),
-            Entry::Send {
-                number,
-                to,
-                message,
-            } => Ok(Entry::Send {
-                number: *number,
-                to: *to,
-                message: message.copy(alloc)?,
-            }),
             Entry::Take(number) => Ok(Entry::Take(*number)),
             Entry::Tick => Ok(Entry::Tick),
-            Entry::Heard { target, xid } => Ok(Entry::Heard {
-                target: *target,
-                xid: *xid,
-            }),
-            Entry::Hold { target, cookie } => Ok(Entry::Hold {
-                target: *target,
-                cookie: *cookie,
-            }),
-            Entry::Drop { target, cookie } => Ok(Entry::Drop {
-                target: *target,
-                cookie: *cookie,
-            }),
-            Entry::Told { slot, at, answer } => Ok(Entry::Told {
-                slot: *slot,
-                at: *at,
-                answer: answer.copy(alloc)?,
-            }),
-            Entry::Peek {
-                target,
-                cookie,
-                size,
-            } => Ok(Entry::Peek {
-                target: *target,
-                cookie: *cookie,
-                size: *size,
-            }),
             Entry::Life(who) => Ok(Entry::Life(*who)),
             Entry::Die => Ok(Entry::Die),
-            Entry::Act { who, xid, answer } => Ok(Entry::Act {
-                who: *who,
-                xid: *xid,
-                answer: answer.copy(alloc)?,
-            }),
-            Entry::Txn {
-                txn,
-                who,
-                xid,
-                seen,
-                answer,
-            } => Ok(Entry::Txn {
-                txn: *txn,
-                who: *who,
-                xid: *xid,
-                seen: seen.copy(alloc)?,
-                answer: answer.copy(alloc)?,
-            }),
             Entry::Grant(lock) => Ok(Entry::Grant(*lock)),
             Entry::Wait(lock) => Ok(Entry::Wait(*lock)),
             Entry::Block(cookie) => Ok(Entry::Block(*cookie)),
@@ -196,14 +142,117 @@ impl Duplicate for Entry {
             Entry::Close => Ok(Entry::Close),
             Entry::Kept(txn) => Ok(Entry::Kept(*txn)),
             Entry::Restore(lock) => Ok(Entry::Restore(*lock)),
-            Entry::Evict { who, cause } => Ok(Entry::Evict {
-                who: *who,
-                cause: *cause,
-            }),
             Entry::Joined(who) => Ok(Entry::Joined(*who)),
             Entry::Fail => Ok(Entry::Fail),
+            Entry::Heard { .. }
+            | Entry::Hold { .. }
+            | Entry::Drop { .. }
+            | Entry::Peek { .. }
+            | Entry::Evict { .. } => Ok(self.copy_numbers()),
+            Entry::Begin { .. }
+            | Entry::Send { .. }
+            | Entry::Told { .. }
+            | Entry::Act { .. }
+            | Entry::Txn { .. } => self.copy_content(alloc),
         }
     }
+}
+
+impl Entry {
+    /// A copy of an entry with several numbers.
+    fn copy_numbers(&self) -> Entry
+        requires numbers { IsTrue (has_numbers self.now) }
+        ensures same { result ≡ self.now }
+    {
+        match self {
+            Entry::Heard { target, xid } => Entry::Heard {
+                target: *target,
+                xid: *xid,
+            },
+            Entry::Hold { target, cookie } => Entry::Hold {
+                target: *target,
+                cookie: *cookie,
+            },
+            Entry::Drop { target, cookie } => Entry::Drop {
+                target: *target,
+                cookie: *cookie,
+            },
+            Entry::Peek {
+                target,
+                cookie,
+                size,
+            } => Entry::Peek {
+                target: *target,
+                cookie: *cookie,
+                size: *size,
+            },
+            Entry::Evict { who, cause } => Entry::Evict {
+                who: *who,
+                cause: *cause,
+            },
+            _ => unreachable!(),
+        }
+    }
+
+    /// A copy of an entry with a call, a message or an answer.
+    fn copy_content(&self, alloc: Global) -> Result<Entry, Memory>
+        requires content { IsTrue (has_content self.now) }
+        ensures same { IfOk result (λ copied. copied ≡ self.now) }
+    {
+        match self {
+            Entry::Begin { slot, call } => Ok(Entry::Begin {
+                slot: *slot,
+                call: call.copy(alloc)?,
+            }),
+            Entry::Send {
+                number,
+                to,
+                message,
+            } => Ok(Entry::Send {
+                number: *number,
+                to: *to,
+                message: message.copy(alloc)?,
+            }),
+            Entry::Told { slot, at, answer } => Ok(Entry::Told {
+                slot: *slot,
+                at: *at,
+                answer: answer.copy(alloc)?,
+            }),
+            Entry::Act { who, xid, answer } => Ok(Entry::Act {
+                who: *who,
+                xid: *xid,
+                answer: answer.copy(alloc)?,
+            }),
+            Entry::Txn {
+                txn,
+                who,
+                xid,
+                seen,
+                answer,
+            } => copy_txn(alloc, *txn, *who, *xid, seen, answer),
+            _ => unreachable!(),
+        }
+    }
+}
+
+/// A transaction whose transactions seen and answer are copies of these.
+fn copy_txn(
+    alloc: Global,
+    txn: Txn,
+    who: Who,
+    xid: Xid,
+    seen: &Numbers,
+    answer: &Answer,
+) -> Result<Entry, Memory>
+    ensures same { IfOk result (λ copied. copied ≡ Entry.Txn txn who xid seen.now answer.now) }
+{
+    Ok(Entry::Txn {
+        txn,
+        who,
+        xid,
+        seen: seen.copy(alloc)?,
+        answer: answer.copy(alloc)?,
+    })
 }
 
 impl Duplicate for Line {

@@ -10,6 +10,6 @@ mod traces;
 mod turns;
 
 pub use entries::{Entries, Entry, Line};
-pub use texts::render;
+pub use texts::{put_call, put_with_number, render, then_number};
 pub use traces::{End, NodeJournal, Step, Trace};
 pub use turns::Turn;

@@ -17,10 +17,11 @@ mod words;
 
 use super::entries::Line;
 use super::traces::{End, Trace};
+pub use calls::put_call;
 use entries::put_line;
 use lu_base::{Bytes, Memory};
 use std::alloc::Global;
-use words::then_number;
+pub use words::{put_with_number, then_number};
 
 /// The text of a trace and of how its run ended: a line for each entry, in order, and a last one.
 pub fn render(alloc: Global, trace: &Trace, end: End) -> Result<Bytes, Memory>

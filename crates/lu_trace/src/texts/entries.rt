@@ -92,7 +92,7 @@ fn put_entry(out: &mut Bytes, entry: &Entry) -> Result<(), Memory>
 
 /// A call that begins.
 fn put_begin(out: &mut Bytes, slot: u8, call: &Call) -> Result<(), Memory>
-    ensures put { OnOk result (out.new ≡ out.old ++ words (codes "begin" ∷ decimal slot ∷ call_text call.now ∷ [])) }
+    ensures put { OnOk result (out.new ≡ out.old ++ entry_text (Entry.Begin slot call.now)) }
 {
     put_with_number(out, b"begin", u64::from(slot))?;
     out.push(b' ')?;
@@ -101,8 +101,7 @@ fn put_begin(out: &mut Bytes, slot: u8, call: &Call) -> Result<(), Memory>
 
 /// A message that is sent.
 fn put_send(out: &mut Bytes, number: u64, to: Node, message: &Message) -> Result<(), Memory>
-    ensures put { OnOk result (out.new ≡ out.old
-        ++ words (codes "send" ∷ decimal number ∷ node_text to ∷ message_text message.now ∷ [])) }
+    ensures put { OnOk result (out.new ≡ out.old ++ entry_text (Entry.Send number to message.now)) }
 {
     put_with_number(out, b"send", number)?;
     out.push(b' ')?;
@@ -113,7 +112,7 @@ fn put_send(out: &mut Bytes, number: u64, to: Node, message: &Message) -> Result
 
 /// A reply that is heard.
 fn put_heard(out: &mut Bytes, target: TargetId, xid: Xid) -> Result<(), Memory>
-    ensures put { OnOk result (out.new ≡ out.old ++ words (codes "heard" ∷ target_text target.0 ∷ decimal xid.0 ∷ [])) }
+    ensures put { OnOk result (out.new ≡ out.old ++ entry_text (Entry.Heard target xid)) }
 {
     out.extend(b"heard ")?;
     put_target(out, target)?;
@@ -132,8 +131,7 @@ fn put_of_lock(out: &mut Bytes, word: &[u8], target: TargetId, cookie: Cookie) -
 
 /// A call that is told.
 fn put_told(out: &mut Bytes, slot: u8, at: At, answer: &Answer) -> Result<(), Memory>
-    ensures put { OnOk result (out.new ≡ out.old
-        ++ words (codes "told" ∷ decimal slot ∷ at_text at ∷ answer_text answer.now ∷ [])) }
+    ensures put { OnOk result (out.new ≡ out.old ++ entry_text (Entry.Told slot at answer.now)) }
 {
     put_with_number(out, b"told", u64::from(slot))?;
     out.push(b' ')?;
@@ -144,8 +142,7 @@ fn put_told(out: &mut Bytes, slot: u8, at: At, answer: &Answer) -> Result<(), Me
 
 /// A request that acted.
 fn put_act(out: &mut Bytes, who: Who, xid: Xid, answer: &Answer) -> Result<(), Memory>
-    ensures put { OnOk result (out.new ≡ out.old
-        ++ words (codes "act" ∷ who_text who ∷ decimal xid.0 ∷ answer_text answer.now ∷ [])) }
+    ensures put { OnOk result (out.new ≡ out.old ++ entry_text (Entry.Act who xid answer.now)) }
 {
     put_with_who(out, b"act", who)?;
     then_number(out, xid.0)?;
@@ -162,9 +159,7 @@ fn put_txn(
     seen: &Numbers,
     answer: &Answer,
 ) -> Result<(), Memory>
-    ensures put { OnOk result (out.new ≡ out.old
-        ++ words (codes "txn" ∷ pair_text txn.0 ∷ who_text who ∷ decimal xid.0 ∷ seen_text seen.now
-        ∷ answer_text answer.now ∷ [])) }
+    ensures put { OnOk result (out.new ≡ out.old ++ entry_text (Entry.Txn txn who xid seen.now answer.now)) }
 {
     put_with_pair(out, b"txn", txn.0)?;
     then_who(out, who)?;
@@ -185,7 +180,7 @@ fn put_lock(out: &mut Bytes, word: &[u8], lock: &Lock) -> Result<(), Memory>
 
 /// A life that loses its slot.
 fn put_evict(out: &mut Bytes, who: Who, cause: Cause) -> Result<(), Memory>
-    ensures put { OnOk result (out.new ≡ out.old ++ words (codes "evict" ∷ who_text who ∷ cause_text cause ∷ [])) }
+    ensures put { OnOk result (out.new ≡ out.old ++ entry_text (Entry.Evict who cause)) }
 {
     put_with_who(out, b"evict", who)?;
     out.push(b' ')?;

@@ -8,7 +8,7 @@ ghost use Rattle.lu_trace.specs.Values.{who_text, at_text, policy_text, resource
 ghost use Rattle.lu_trace.specs.Lists.{seen_text, locks_text};
 ghost use Rattle.lu_trace.specs.Ops.{op_text};
 ghost use Rattle.lu_trace.specs.Answers.{answer_text};
-ghost use Rattle.lu_trace.specs.Messages.{tagged_text, size_text, message_text};
+ghost use Rattle.lu_trace.specs.Messages.{tagged_text, size_text, of_lock_text, terms_text, outcome_text, message_text};
 
 use super::answers::put_answer;
 use super::lists::put_locks;
@@ -88,7 +88,7 @@ fn put_of_lock(
     boot: u32,
     cookie: Cookie,
 ) -> Result<(), Memory>
-    ensures put { OnOk result (out.new ≡ out.old ++ words (word.now ∷ who_text who ∷ decimal boot ∷ pair_text cookie.0 ∷ [])) }
+    ensures put { OnOk result (out.new ≡ out.old ++ of_lock_text word.now who boot cookie) }
 {
     put_head(out, word, who, boot)?;
     then_pair(out, cookie.0)
@@ -165,8 +165,7 @@ pub fn then_terms(
     mode: Mode,
     policy: Policy,
 ) -> Result<(), Memory>
-    ensures put { OnOk result (out.new ≡ out.old ++ 32
-        ∷ words (resource_text resource policy ∷ mode_text mode ∷ policy_text policy ∷ [])) }
+    ensures put { OnOk result (out.new ≡ out.old ++ 32 ∷ terms_text resource mode policy) }
 {
     out.push(b' ')?;
     put_resource(out, resource, policy)?;
@@ -209,8 +208,7 @@ fn put_reply(out: &mut Bytes, reply: &Reply) -> Result<(), Memory>
 
 /// Further words: when a request was executed, what it was granted and its answer.
 fn then_outcome(out: &mut Bytes, reply: &Reply) -> Result<(), Memory>
-    ensures put { OnOk result (out.new ≡ out.old ++ 32
-        ∷ words (at_text reply.now.at ∷ locks_text reply.now.locks ∷ answer_text reply.now.answer ∷ [])) }
+    ensures put { OnOk result (out.new ≡ out.old ++ 32 ∷ outcome_text reply.now) }
 {
     out.push(b' ')?;
     put_at(out, reply.at)?;

@@ -6,7 +6,7 @@ ghost use Rattle.lu_base.specs.Texts.{pair_text, path_text, bytes_text};
 ghost use Rattle.lu_base.specs.Values.{mode_text, octal_text};
 ghost use Rattle.lu_trace.specs.Words.{words};
 ghost use Rattle.lu_trace.specs.Values.{object_text, extent_text};
-ghost use Rattle.lu_trace.specs.Ops.{op_text};
+ghost use Rattle.lu_trace.specs.Ops.{under_lock_text, op_text};
 
 use super::values::{put_count, put_object};
 use super::words::{
@@ -69,8 +69,7 @@ pub fn put_op(out: &mut Bytes, op: &Op) -> Result<(), Memory>
 
 /// The making of a file.
 pub fn put_create(out: &mut Bytes, path: &Path, size: u64, count: i32) -> Result<(), Memory>
-    ensures put { OnOk result (out.new ≡ out.old
-        ++ words (codes "create" ∷ path_text path.now ∷ decimal size ∷ signed_decimal count ∷ [])) }
+    ensures put { OnOk result (out.new ≡ out.old ++ op_text (Op.Create path.now size count)) }
 {
     put_with_path(out, b"create", path)?;
     then_number(out, size)?;
@@ -80,7 +79,7 @@ pub fn put_create(out: &mut Bytes, path: &Path, size: u64, count: i32) -> Result
 
 /// The setting of a mode.
 pub fn put_chmod(out: &mut Bytes, path: &Path, mode: u16) -> Result<(), Memory>
-    ensures put { OnOk result (out.new ≡ out.old ++ words (codes "chmod" ∷ path_text path.now ∷ octal_text mode ∷ [])) }
+    ensures put { OnOk result (out.new ≡ out.old ++ op_text (Op.Chmod path.now mode)) }
 {
     put_with_path(out, b"chmod", path)?;
     out.push(b' ')?;
@@ -94,8 +93,7 @@ fn put_enqueue(
     mode: Mode,
     extent: Extent,
 ) -> Result<(), Memory>
-    ensures put { OnOk result (out.new ≡ out.old
-        ++ words (codes "enqueue" ∷ object_text resource ∷ mode_text mode ∷ extent_text extent ∷ [])) }
+    ensures put { OnOk result (out.new ≡ out.old ++ op_text (Op.Enqueue resource mode extent)) }
 {
     put_with_object(out, b"enqueue", resource)?;
     out.push(b' ')?;
@@ -120,8 +118,7 @@ fn put_under_lock(
     cookie: Cookie,
     number: u64,
 ) -> Result<(), Memory>
-    ensures put { OnOk result (out.new ≡ out.old
-        ++ words (word.now ∷ object_text resource ∷ pair_text cookie.0 ∷ decimal number ∷ [])) }
+    ensures put { OnOk result (out.new ≡ out.old ++ under_lock_text word.now resource cookie number) }
 {
     put_with_object(out, word, resource)?;
     then_pair(out, cookie.0)?;

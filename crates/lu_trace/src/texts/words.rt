@@ -10,7 +10,8 @@ use super::lists::put_seen;
 use super::values::{put_extent, put_who};
 use lu_base::{Bytes, Extent, Memory, Numbers, Path, Who, put_number, put_pair, put_path};
 
-/// A further word: a number.
+/// Appends a further word, a number in decimal, after one space. After want of memory a part of it may
+/// stand.
 pub fn then_number(out: &mut Bytes, number: u64) -> Result<(), Memory>
     ensures put { OnOk result (out.new ≡ out.old ++ 32 ∷ decimal number) }
 {
@@ -58,7 +59,7 @@ pub fn then_path(out: &mut Bytes, path: &Path) -> Result<(), Memory>
     put_path(out, path)
 }
 
-/// A word and a number.
+/// Appends a word and, after one space, a number in decimal. After want of memory a part of it may stand.
 pub fn put_with_number(out: &mut Bytes, word: &[u8], number: u64) -> Result<(), Memory>
     ensures put { OnOk result (out.new ≡ out.old ++ words (word.now ∷ decimal number ∷ [])) }
 {

@@ -1,0 +1,19 @@
+//! Worked calls of the vocabulary and of the language of scenarios.
+//!
+//! The tests stand in a crate of their own, since a crate with tests is proved twice.
+#![tactic(auto)]
+
+#[cfg(test)]
+mod inputs;
+#[cfg(test)]
+mod layouts;
+#[cfg(test)]
+mod locks;
+#[cfg(test)]
+mod parts;
+#[cfg(test)]
+mod scenarios;
+#[cfg(test)]
+mod texts;
+#[cfg(test)]
+mod traces;
