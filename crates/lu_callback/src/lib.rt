@@ -3,7 +3,5 @@
 
 mod callbacks;
 mod holders;
-#[cfg(test)]
-mod tests;
 
 pub use callbacks::{Asked, Callbacks, Kind};

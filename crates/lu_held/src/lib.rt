@@ -5,8 +5,6 @@ mod held;
 pub mod laws;
 mod locks;
 mod names;
-#[cfg(test)]
-mod tests;
 
 pub use held::Held;
 pub use locks::{HeldLock, Use};

@@ -42,6 +42,10 @@ abbrev pub locks_of : (QueueState → List Grant) → Entries → List Lock
 locks_of part [] = []
 locks_of part (entry ∷ entries) = map (lock_on entry.0) (part entry.1) ++ locks_of part entries
 
+-- The cookies of the granted locks that pass a test.
+abbrev pub cookies_that : (Lock → Bool) → Entries → List Cookie
+cookies_that test entries = map (λ lock. lock.cookie) (filter test (locks_of (λ all. all.granted) entries))
+
 -- The locks of all resources.
 abbrev pub all_of : Entries → SpaceState
 all_of entries = record { granted = locks_of (λ all. all.granted) entries; waiting = locks_of (λ all. all.waiting) entries }

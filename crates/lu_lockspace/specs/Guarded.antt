@@ -5,11 +5,17 @@ use Rattle.lu_base.specs.declared.ids.Cookie.{Cookie}
 use Rattle.lu_base.specs.declared.locks.Resource.{Resource}
 use Rattle.lu_part.specs.declared.parts.Part.{Part}
 use Rattle.lu_part.specs.Guards.{guard}
-use Rattle.lu_lockspace.specs.Spaces.{same_resource, lock_on, is_guarded}
+use Rattle.lu_queue.specs.declared.locks.Grant.{Grant}
+use Rattle.lu_lockspace.specs.Spaces.{same_resource, lock_on, meets_guard}
 use Rattle.lu_lockspace.specs.Entries.{Entries, at}
 
 abbrev pub is_listed : Resource → List Resource → Bool
 is_listed resource resources = list_any (same_resource resource) resources
+
+-- What isn't listed after this resource was added wasn't listed before, and is another.
+abbrev pub IsAdded : Resource → (old new : List Resource) → Type 0
+IsAdded resource old new =
+    (other : Resource) → is_listed other new ≡ false → (is_listed other old ≡ false) × (same_resource other resource ≡ false)
 
 -- No two of them are one.
 abbrev pub AreApart : List Resource → Type 0
@@ -21,10 +27,13 @@ pub record AreGuards (parts : List Part) (resources : List Resource) : Type 0 wh
   pub once : AreApart resources
   pub all : (resource : Resource) → is_listed resource resources ≡ false → list_any (λ part. same_resource resource (guard part).0) parts ≡ false
 
--- The cookies of the granted locks of a resource that meet a guard of these parts.
+-- The cookies of these locks on a resource that meet a guard of the parts.
+abbrev pub guarded_in : Resource → List Part → List Grant → List Cookie
+guarded_in resource parts locks = map (λ lock. lock.cookie) (filter (λ lock. meets_guard parts (lock_on resource lock)) locks)
+
+-- The cookies of the granted locks of a resource that meet one.
 abbrev pub guarded_on : Resource → List Part → Entries → List Cookie
-guarded_on resource parts entries =
-    map (λ lock. lock.cookie) (filter (λ lock. list_any (λ part. is_guarded part (lock_on resource lock)) parts) (at resource entries).granted)
+guarded_on resource parts entries = guarded_in resource parts (at resource entries).granted
 
 -- Those of some resources.
 abbrev pub guarded_on_all : List Resource → List Part → Entries → List Cookie

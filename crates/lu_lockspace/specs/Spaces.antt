@@ -97,6 +97,15 @@ is_guarded part lock =
     same_resource lock.resource (guard part).0
     && conflict (record { who = lock.ask.who; mode = EX; policy = (guard part).1 }) lock.ask
 
+-- Whether it meets the guard of one of these parts.
+abbrev pub meets_guard : List Part → Lock → Bool
+meets_guard parts lock = list_any (λ part. is_guarded part lock) parts
+
+-- None is below the one before it.
+abbrev pub AreInOrder : List Cookie → Type 0
+AreInOrder cookies =
+    (place : ℕ) (d : Cookie) → place + 1 < length cookies → (slice_index_or cookies place d).0 ≤ (slice_index_or cookies (place + 1) d).0
+
 -- The cookies of the locks that pass a test, rising.
 pub record AreCookiesOf (test : Lock → Bool) (locks : List Lock) (cookies : List Cookie) : Type 0 where
   pub all : IsPermutation (map (λ lock. lock.cookie) (filter test locks)) cookies
@@ -118,6 +127,10 @@ AreBlocking granted [] told cookies = cookies ≡ []
 AreBlocking granted (lock ∷ waiting) told cookies =
     (first : List Cookie) × (rest : List Cookie) × (cookies ≡ first ++ rest) × IsRising first
     × IsPermutation (blocking_more lock.ask granted told) first × AreBlocking granted waiting (told ++ first) rest
+
+-- So it is of a queue.
+abbrev pub AreBlockers : QueueState → List Cookie → Type 0
+AreBlockers queue cookies = AreBlocking queue.granted queue.waiting [] cookies
 
 -- ---- all locks of some lives
 

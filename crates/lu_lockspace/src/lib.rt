@@ -5,7 +5,5 @@ mod ending;
 mod listing;
 mod queues;
 mod space;
-#[cfg(test)]
-mod tests;
 
 pub use space::{Lockspace, SpaceError};

@@ -5,9 +5,9 @@ ghost use Rattle.std.specs.List.{list_any};
 ghost use Rattle.lu_lock.specs.Conflict.{conflict};
 ghost use Rattle.lu_queue.specs.Queues.{lock_of, same_who, IsRising, IsOnce};
 ghost use Rattle.std.specs.Option.{option_map};
-ghost use Rattle.lu_lockspace.specs.Spaces.{same_resource, lock_on, is_guarded, is_told, blocking_more, AreBlocking};
+ghost use Rattle.lu_lockspace.specs.Spaces.{lock_on, is_guarded, meets_guard, is_told, blocking_more, AreInOrder, AreBlocking, AreBlockers};
 ghost use Rattle.lu_base.specs.declared.locks.Resource.{Resource};
-ghost use Rattle.lu_lockspace.specs.Guarded.{is_listed, AreApart, AreGuards};
+ghost use Rattle.lu_lockspace.specs.Guarded.{is_listed, IsAdded, AreApart, AreGuards, guarded_in};
 
 use lu_base::{Ask, Cookie, Cookies, Lock, Memory, Mode, Resource, Who};
 use lu_lock::conflict;
@@ -37,7 +37,7 @@ pub(crate) fn lock_in(resource: Resource, queue: &Queue, cookie: Cookie) -> Opti
 /// The cookies, sorted.
 pub(crate) fn sorted(mut cookies: Vec<Cookie>) -> Cookies
     ensures same { IsPermutation cookies.items result }
-    ensures rising { (place : ℕ) (d : Cookie) → place + 1 < length result → (slice_index_or result place d).0 ≤ (slice_index_or result (place + 1) d).0 }
+    ensures rising { AreInOrder result }
 {
     cookies.sort_unstable();
     Cookies::from(cookies)
@@ -45,7 +45,8 @@ pub(crate) fn sorted(mut cookies: Vec<Cookie>) -> Cookies
 
 /// The cookies of the locks of a life.
 pub(crate) fn of_life(alloc: Global, locks: &[Grant], who: Who) -> Result<Vec<Cookie>, Memory>
-    ensures { IfOk result (λ cookies. cookies.items ≡ map (λ lock. lock.cookie) (filter (λ lock. same_who lock.ask.who who) locks.now)) }
+    ensures { IfOk result (λ cookies. cookies.items
+        ≡ map (λ lock. lock.cookie) (filter (λ lock. same_who lock.ask.who who) locks.now)) }
 {
     let cookies = locks
         .iter()
@@ -70,7 +71,7 @@ fn is_guarded(part: &Part, lock: &Lock) -> bool
 
 /// Whether a lock meets the guard of one of the parts.
 fn meets_guard(parts: &[Part], lock: &Lock) -> bool
-    ensures { result ≡ list_any (λ part. is_guarded part lock.now) parts.now }
+    ensures { result ≡ meets_guard parts.now lock.now }
 {
     parts.iter().any(|part| is_guarded(part, lock))
 }
@@ -82,7 +83,7 @@ pub(crate) fn guarded(
     locks: &[Grant],
     parts: &[Part],
 ) -> Result<Vec<Cookie>, Memory>
-    ensures { IfOk result (λ cookies. cookies.items ≡ map (λ lock. lock.cookie) (filter (λ lock. list_any (λ part. is_guarded part (lock_on resource lock)) parts.now) locks.now)) }
+    ensures { IfOk result (λ cookies. cookies.items ≡ guarded_in resource parts.now locks.now) }
 {
     let cookies = locks
         .iter()
@@ -102,7 +103,7 @@ fn is_listed(resources: &[Resource], resource: Resource) -> bool
 /// Adds a resource where it isn't in the list.
 fn add_resource(resources: &mut Vec<Resource>, resource: Resource) -> Result<(), Memory>
     ensures once { AreApart resources.old.items → AreApart resources.new.items }
-    ensures added { IfOk result (λ _. (other : Resource) → is_listed other resources.new.items ≡ false → (is_listed other resources.old.items ≡ false) × (same_resource other resource ≡ false)) }
+    ensures added { IfOk result (λ _. IsAdded resource resources.old.items resources.new.items) }
 {
     if is_listed(resources, resource) {
         return Ok(());
@@ -170,7 +171,7 @@ fn blocking(alloc: Global, granted: &[Grant], waiting: &[Grant]) -> Result<Cooki
 
 /// The same of a queue.
 pub(crate) fn blocking_in(alloc: Global, queue: &Queue) -> Result<Cookies, Memory>
-    ensures { IfOk result (AreBlocking queue.now.granted queue.now.waiting []) }
+    ensures { IfOk result (AreBlockers queue.now) }
 {
     let waiting = queue.waiting_locks(alloc)?;
     blocking(alloc, queue.granted_locks(), &waiting)

@@ -4,10 +4,10 @@ ghost use Rattle.std.specs.Prelude.{◌≡◌, [], IfOk, OnOk, OnErr, IsSome, Is
 ghost use Rattle.std.specs.List.{list_any};
 ghost use Rattle.std.specs.Option.{option_copied};
 ghost use Rattle.lu_lock.specs.Overlap.{IsOrdered};
-ghost use Rattle.lu_queue.specs.Queues.{empty, is_in, placed, with_lock, may_restore, restored, same_who, without, AreGranted, IsQueue};
+ghost use Rattle.lu_queue.specs.Queues.{empty, lock_under, is_in, placed, with_lock, may_restore, restored, same_who, IsTakenAway, IsQueue};
 ghost use Rattle.lu_lockspace.specs.Guarded.{guarded_on, guarded_on_all};
-ghost use Rattle.lu_lockspace.specs.Spaces.{is_guarded, AreBlocking};
-ghost use Rattle.lu_lockspace.specs.Entries.{entry_of, at, changed, locks_of, AreRising, Keeps};
+ghost use Rattle.lu_lockspace.specs.Spaces.{meets_guard, AreBlockers};
+ghost use Rattle.lu_lockspace.specs.Entries.{entry_of, at, changed, cookies_that, AreRising, Keeps};
 
 use super::listing::{blocking_in, guarded, guards, of_life};
 use lu_base::{Ask, Cookie, Cookies, Memory, Resource, Who};
@@ -59,8 +59,8 @@ impl Queues {
         ask: Ask,
     ) -> Result<Placed, QueueError>
         requires { IsOrdered ask.policy }
-        ensures placed { IfOk result (λ answer. answer ≡ placed (record { cookie = cookie; ask = ask }) (at resource self.old)) }
-        ensures added { OnOk result (at resource self.new ≡ with_lock (record { cookie = cookie; ask = ask }) (at resource self.old)) }
+        ensures placed { IfOk result (λ answer. answer ≡ placed (lock_under cookie ask) (at resource self.old)) }
+        ensures added { OnOk result (at resource self.new ≡ with_lock (lock_under cookie ask) (at resource self.old)) }
         ensures others { Keeps resource self.old self.new }
         ensures kept { OnErr result (self.new ≡ self.old) }
         ensures lawful { OnOk result (IsQueue (at resource self.new)) }
@@ -86,8 +86,8 @@ impl Queues {
     ) -> Result<bool, QueueError>
         requires ask { IsOrdered ask.policy }
         requires quiet { (at resource self.old).waiting ≡ [] }
-        ensures restored { IfOk result (λ answer. answer ≡ may_restore (record { cookie = cookie; ask = ask }) (at resource self.old)) }
-        ensures added { OnOk result (at resource self.new ≡ restored (record { cookie = cookie; ask = ask }) (at resource self.old)) }
+        ensures restored { IfOk result (λ answer. answer ≡ may_restore (lock_under cookie ask) (at resource self.old)) }
+        ensures added { OnOk result (at resource self.new ≡ restored (lock_under cookie ask) (at resource self.old)) }
         ensures others { Keeps resource self.old self.new }
         ensures kept { OnErr result (self.new ≡ self.old) }
         ensures lawful { OnOk result (IsQueue (at resource self.new)) }
@@ -110,7 +110,8 @@ impl Queues {
         resource: Resource,
         cookie: Cookie,
     ) -> Result<Grants, QueueError>
-        ensures granted { IfOk result (λ grants. AreGranted (without cookie.0 (at resource self.old)) grants (at resource self.new)) }
+        ensures granted { IfOk result (λ grants.
+            IsTakenAway cookie.0 (at resource self.old) grants (at resource self.new)) }
         ensures others { Keeps resource self.old self.new }
         ensures kept { OnErr result (self.new ≡ self.old) }
         ensures lawful { OnOk result (IsQueue (at resource self.new)) }
@@ -128,7 +129,8 @@ impl Queues {
         resource: Resource,
         cookie: Cookie,
     ) -> Result<Grants, QueueError>
-        ensures granted { IfOk result (λ grants. AreGranted (without cookie.0 (at resource self.old)) grants (at resource self.new)) }
+        ensures granted { IfOk result (λ grants.
+            IsTakenAway cookie.0 (at resource self.old) grants (at resource self.new)) }
         ensures others { Keeps resource self.old self.new }
         ensures kept { OnErr result (self.new ≡ self.old) }
         ensures lawful { OnOk result (IsQueue (at resource self.new)) }
@@ -156,7 +158,7 @@ impl Queues {
 
     /// The cookies of the granted locks of a life.
     pub(crate) fn of_life(&self, alloc: Global, who: Who) -> Result<Vec<Cookie>, Memory>
-        ensures { IfOk result (λ cookies. cookies.items ≡ map (λ lock. lock.cookie) (filter (λ lock. same_who lock.ask.who who) (locks_of (λ all. all.granted) self.now))) }
+        ensures { IfOk result (λ cookies. cookies.items ≡ cookies_that (λ lock. same_who lock.ask.who who) self.now) }
     {
         let mut cookies: Vec<Cookie> = Vec::new(alloc);
         for (_, queue) in &self.entries {
@@ -199,7 +201,7 @@ impl Queues {
     /// The cookies of the granted locks that meet a guard of these parts.
     pub(crate) fn clashing(&self, alloc: Global, parts: &[Part]) -> Result<Vec<Cookie>, Memory>
         requires { AreRising self.now }
-        ensures { IfOk result (λ cookies. IsPermutation (map (λ lock. lock.cookie) (filter (λ lock. list_any (λ part. is_guarded part lock) parts.now) (locks_of (λ all. all.granted) self.now))) cookies.items) }
+        ensures { IfOk result (λ cookies. IsPermutation (cookies_that (meets_guard parts.now) self.now) cookies.items) }
     {
         let resources = guards(alloc, parts)?;
         let cookies = self.guarded_on_all(alloc, &resources, parts)?;
@@ -209,7 +211,7 @@ impl Queues {
     /// For each waiting lock of a resource in order, the cookies of the granted locks that block it in rising
     /// order, each once.
     pub(crate) fn blockers(&self, alloc: Global, resource: Resource) -> Result<Cookies, Memory>
-        ensures { IfOk result (AreBlocking (at resource self.now).granted (at resource self.now).waiting []) }
+        ensures { IfOk result (AreBlockers (at resource self.now)) }
     {
         match self.of(resource) {
             Some(queue) => blocking_in(alloc, queue),

@@ -4,9 +4,9 @@ ghost use Rattle.std.specs.Prelude.{◌≡◌, ℕ, Bool, true, false, List, [],
 ghost use Rattle.std.specs.List.{list_any};
 ghost use Rattle.std.specs.Option.{option_map};
 ghost use Rattle.lu_lock.specs.Overlap.{IsOrdered};
-ghost use Rattle.lu_queue.specs.Queues.{placed, with_lock, may_restore, restored, same_who, without, AreGranted};
+ghost use Rattle.lu_queue.specs.Queues.{lock_under, placed, with_lock, may_restore, restored, same_who, IsTakenAway};
 ghost use Rattle.lu_lockspace.specs.Entries.{IsPlaced};
-ghost use Rattle.lu_lockspace.specs.Spaces.{empty, is_in, has, lock_of, grant_of, queue_of, KeepsOthers, IsSpace, IsCancelled, AreCancelled, IsAt, AreCookiesOf, is_guarded, AreBlocking};
+ghost use Rattle.lu_lockspace.specs.Spaces.{empty, is_in, has, lock_of, grant_of, queue_of, KeepsOthers, IsSpace, IsCancelled, AreCancelled, IsAt, AreCookiesOf, meets_guard, AreBlockers};
 
 use super::ending::{ended, replace_all};
 use super::listing::{lock_in, lock_on, sorted};
@@ -81,8 +81,9 @@ impl Lockspace {
         requires { IsOrdered ask.policy }
         ensures twice { IsErrOf result SpaceError.Twice ↔ IsTrue (is_in cookie.0 self.old) }
         ensures errors { ¬ IsErrOf result SpaceError.NoLock }
-        ensures placed { IfOk result (λ answer. answer ≡ placed (record { cookie = cookie; ask = ask }) (queue_of resource self.old)) }
-        ensures added { OnOk result (queue_of resource self.new ≡ with_lock (record { cookie = cookie; ask = ask }) (queue_of resource self.old)) }
+        ensures placed { IfOk result (λ answer. answer ≡ placed (lock_under cookie ask) (queue_of resource self.old)) }
+        ensures added { OnOk result (queue_of resource self.new
+            ≡ with_lock (lock_under cookie ask) (queue_of resource self.old)) }
         ensures others { KeepsOthers resource self.old self.new }
         ensures kept { OnErr result (self.new ≡ self.old) }
         ensures lawful { IsSpace self.new }
@@ -147,8 +148,10 @@ impl Lockspace {
         requires quiet { (queue_of lock.resource self.old).waiting ≡ [] }
         ensures twice { IsErrOf result SpaceError.Twice ↔ IsTrue (is_in lock.cookie.0 self.old) }
         ensures errors { ¬ IsErrOf result SpaceError.NoLock }
-        ensures restored { IfOk result (λ answer. answer ≡ may_restore (grant_of lock) (queue_of lock.resource self.old)) }
-        ensures added { OnOk result (queue_of lock.resource self.new ≡ restored (grant_of lock) (queue_of lock.resource self.old)) }
+        ensures restored { IfOk result (λ answer.
+            answer ≡ may_restore (grant_of lock) (queue_of lock.resource self.old)) }
+        ensures added { OnOk result (queue_of lock.resource self.new
+            ≡ restored (grant_of lock) (queue_of lock.resource self.old)) }
         ensures others { KeepsOthers lock.resource self.old self.new }
         ensures kept { OnErr result (self.new ≡ self.old) }
         ensures lawful { IsSpace self.new }
@@ -200,7 +203,7 @@ impl Lockspace {
 
     /// The cookies of the granted locks that meet a guard of these parts, taken in mode EX, rising.
     pub fn clash(&self, alloc: Global, parts: &Parts) -> Result<Cookies, Memory>
-        ensures cookies { IfOk result (AreCookiesOf (λ lock. list_any (λ part. is_guarded part lock) parts.now) self.now.granted) }
+        ensures cookies { IfOk result (AreCookiesOf (meets_guard parts.now) self.now.granted) }
         ensures lawful { IsSpace self.now }
     {
         Ok(sorted(self.queues.clashing(alloc, parts.as_slice())?))
@@ -209,7 +212,7 @@ impl Lockspace {
     /// For each waiting lock of a resource in order, the cookies of the granted locks that block it in rising
     /// order, each once.
     pub fn blockers(&self, alloc: Global, resource: Resource) -> Result<Cookies, Memory>
-        ensures cookies { IfOk result (AreBlocking (queue_of resource self.now).granted (queue_of resource self.now).waiting []) }
+        ensures cookies { IfOk result (AreBlockers (queue_of resource self.now)) }
         ensures lawful { IsSpace self.now }
     {
         let cookies = self.queues.blockers(alloc, resource)?;
@@ -244,7 +247,8 @@ impl Lockspace {
         requires ask { IsOrdered lock.ask.policy }
         requires new { is_in lock.cookie.0 self.old ≡ false }
         ensures placed { IfOk result (λ answer. answer ≡ placed (grant_of lock) (queue_of lock.resource self.old)) }
-        ensures added { OnOk result (queue_of lock.resource self.new ≡ with_lock (grant_of lock) (queue_of lock.resource self.old)) }
+        ensures added { OnOk result (queue_of lock.resource self.new
+            ≡ with_lock (grant_of lock) (queue_of lock.resource self.old)) }
         ensures others { KeepsOthers lock.resource self.old self.new }
         ensures kept { OnErr result (self.new ≡ self.old) }
         ensures lawful { IsSpace self.new }
@@ -267,8 +271,10 @@ impl Lockspace {
         requires ask { IsOrdered lock.ask.policy }
         requires quiet { (queue_of lock.resource self.old).waiting ≡ [] }
         requires new { is_in lock.cookie.0 self.old ≡ false }
-        ensures restored { IfOk result (λ answer. answer ≡ may_restore (grant_of lock) (queue_of lock.resource self.old)) }
-        ensures added { OnOk result (queue_of lock.resource self.new ≡ restored (grant_of lock) (queue_of lock.resource self.old)) }
+        ensures restored { IfOk result (λ answer.
+            answer ≡ may_restore (grant_of lock) (queue_of lock.resource self.old)) }
+        ensures added { OnOk result (queue_of lock.resource self.new
+            ≡ restored (grant_of lock) (queue_of lock.resource self.old)) }
         ensures others { KeepsOthers lock.resource self.old self.new }
         ensures kept { OnErr result (self.new ≡ self.old) }
         ensures lawful { IsSpace self.new }
@@ -298,7 +304,8 @@ impl Lockspace {
         resource: Resource,
     ) -> Result<Grants, Memory>
         requires { IsPlaced cookie.0 self.old (Some resource) }
-        ensures granted { IfOk result (λ grants. AreGranted (without cookie.0 (queue_of resource self.old)) grants (queue_of resource self.new)) }
+        ensures granted { IfOk result (λ grants.
+            IsTakenAway cookie.0 (queue_of resource self.old) grants (queue_of resource self.new)) }
         ensures others { KeepsOthers resource self.old self.new }
         ensures kept { OnErr result (self.new ≡ self.old) }
         ensures lawful { IsSpace self.new }

@@ -22,6 +22,14 @@ pub record QueueState : Type 0 where
 abbrev pub empty : QueueState
 empty = record { granted = []; waiting = [] }
 
+-- The queue of these locks.
+abbrev pub queue_with : (granted waiting : List Grant) → QueueState
+queue_with granted waiting = record { granted = granted; waiting = waiting }
+
+-- A lock as it is asked for, or was granted, under this cookie.
+abbrev pub lock_under : Cookie → Ask → Grant
+lock_under cookie ask = record { cookie = cookie; ask = ask }
+
 -- ---- lists of locks
 
 -- What they ask for.
@@ -122,6 +130,10 @@ restored lock queue = if may_restore lock queue then (record queue { granted = q
 abbrev pub without : ℕ → QueueState → QueueState
 without cookie queue = record { granted = other_than cookie queue.granted; waiting = other_than cookie queue.waiting }
 
+-- The lock of this cookie is taken away, and then all is granted that may be.
+abbrev pub IsTakenAway : ℕ → QueueState → List Grant → QueueState → Type 0
+IsTakenAway cookie before grants after = AreGranted (without cookie before) grants after
+
 -- The lock of this cookie, granted or waiting.
 abbrev pub lock_of : ℕ → QueueState → Option Grant
 lock_of cookie queue = find (λ lock. lock.cookie.0 == cookie) (queue.granted ++ queue.waiting)
@@ -148,11 +160,15 @@ without_lives lives queue = record {
 
 -- ---- what blocks a waiting lock
 
+-- The cookies of the locks in conflict with an ask.
+abbrev pub in_conflict : Ask → List Grant → List Cookie
+in_conflict ask locks = map (λ lock. lock.cookie) (filter (λ lock. conflict ask lock.ask) locks)
+
 -- The cookies of the granted locks in conflict with the waiting lock of this cookie; none where no lock of this cookie waits.
 abbrev pub blocking : ℕ → QueueState → List Cookie
 blocking cookie queue =
     option_map_or
-    (λ lock. map (λ other. other.cookie) (filter (λ other. conflict lock.ask other.ask) queue.granted))
+    (λ lock. in_conflict lock.ask queue.granted)
     (find (λ lock. lock.cookie.0 == cookie) queue.waiting)
     []
 

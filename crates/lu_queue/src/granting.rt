@@ -2,7 +2,7 @@
 
 ghost use Rattle.std.specs.Prelude.{◌≡◌, IfOk, All};
 ghost use Rattle.lu_lock.specs.Overlap.{IsOrdered};
-ghost use Rattle.lu_queue.specs.Queues.{QueueState, has_to_wait, AreGranted};
+ghost use Rattle.lu_queue.specs.Queues.{queue_with, has_to_wait, AreGranted};
 
 use super::locks::{Grant, Grants, as_granted, conflicts};
 use lu_base::{Ask, Memory};
@@ -23,7 +23,8 @@ pub(crate) fn settle(
     waiting: &mut Vec<Grant>,
 ) -> Result<Grants, Memory>
     requires { All (λ lock. IsOrdered lock.ask.policy) waiting.old.items }
-    ensures { IfOk result (λ grants. AreGranted (record { granted = granted.old.items; waiting = waiting.old.items }) grants (record { granted = granted.new.items; waiting = waiting.new.items })) }
+    ensures { IfOk result (λ grants. AreGranted
+        (queue_with granted.old.items waiting.old.items) grants (queue_with granted.new.items waiting.new.items)) }
 {
     let mut grants = Grants::new(alloc);
     let mut place = 0;

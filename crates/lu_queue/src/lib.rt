@@ -6,8 +6,6 @@ mod granted;
 mod granting;
 mod locks;
 mod queue;
-#[cfg(test)]
-mod tests;
 
 pub use locks::{Grant, Grants, Placed, QueueError};
 pub use queue::Queue;

@@ -6,7 +6,7 @@ ghost use Rattle.std.specs.Option.{option_copied};
 ghost use Rattle.lu_lock.specs.Overlap.{IsOrdered};
 ghost use Rattle.lu_lock.specs.Conflict.{conflict};
 ghost use Rattle.lu_lock.specs.Growth.{granted_policy};
-ghost use Rattle.lu_queue.specs.Queues.{asks, has, conflicts, as_granted, other_than, is_of, IsOnce, IsRising};
+ghost use Rattle.lu_queue.specs.Queues.{asks, has, conflicts, in_conflict, as_granted, other_than, is_of, IsOnce, IsRising};
 
 use lu_base::{Ask, Cookie, Cookies, Duplicate, Memory, Policy, Sequence, Who};
 use lu_lock::{conflict, grow};
@@ -125,7 +125,7 @@ pub(crate) fn has_of(lives: &[Who], locks: &[Grant]) -> bool
 pub(crate) fn in_conflict(alloc: Global, ask: &Ask, locks: &[Grant]) -> Result<Cookies, Memory>
     requires { IsOnce locks.now }
     ensures rising { IfOk result IsRising }
-    ensures all { IfOk result (λ cookies. IsPermutation (map (λ lock. lock.cookie) (filter (λ lock. conflict ask.now lock.ask) locks.now)) cookies) }
+    ensures all { IfOk result (λ cookies. IsPermutation (in_conflict ask.now locks.now) cookies) }
 {
     let mut cookies = cookies_in_conflict(alloc, ask, locks)?;
     cookies.sort_unstable();
@@ -134,7 +134,7 @@ pub(crate) fn in_conflict(alloc: Global, ask: &Ask, locks: &[Grant]) -> Result<C
 
 /// The cookies of the locks in conflict with an ask.
 fn cookies_in_conflict(alloc: Global, ask: &Ask, locks: &[Grant]) -> Result<Vec<Cookie>, Memory>
-    ensures { IfOk result (λ cookies. cookies.items ≡ map (λ lock. lock.cookie) (filter (λ lock. conflict ask.now lock.ask) locks.now)) }
+    ensures { IfOk result (λ cookies. cookies.items ≡ in_conflict ask.now locks.now) }
 {
     let cookies = locks
         .iter()

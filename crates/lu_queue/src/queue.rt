@@ -3,7 +3,7 @@
 ghost use Rattle.std.specs.Prelude.{◌≡◌, ℕ, Bool, true, false, List, [], ◌∷◌, ◌++◌, IfOk, OnOk, OnErr, IsErrOf, IsTrue, ◌↔◌, slice_get, IsPermutation};
 ghost use Rattle.std.specs.Option.{option_copied};
 ghost use Rattle.lu_lock.specs.Overlap.{IsOrdered};
-ghost use Rattle.lu_queue.specs.Queues.{empty, is_in, has, lock_of, has_of, placed, with_lock, may_restore, restored, without, without_lives, AreGranted, blocking, IsAt, IsRising, IsCoherent, IsQueue};
+ghost use Rattle.lu_queue.specs.Queues.{empty, queue_with, lock_under, is_in, has, lock_of, has_of, placed, with_lock, may_restore, restored, without_lives, AreGranted, IsTakenAway, blocking, IsAt, IsRising, IsCoherent, IsQueue};
 
 use super::arrivals::Arrivals;
 use super::granted::Granted;
@@ -51,8 +51,8 @@ impl Queue {
         requires { IsOrdered ask.policy }
         ensures twice { IsErrOf result QueueError.Twice ↔ IsTrue (is_in cookie.0 self.old) }
         ensures errors { ¬ IsErrOf result QueueError.NoLock }
-        ensures placed { IfOk result (λ answer. answer ≡ placed (record { cookie = cookie; ask = ask }) self.old) }
-        ensures added { OnOk result (self.new ≡ with_lock (record { cookie = cookie; ask = ask }) self.old) }
+        ensures placed { IfOk result (λ answer. answer ≡ placed (lock_under cookie ask) self.old) }
+        ensures added { OnOk result (self.new ≡ with_lock (lock_under cookie ask) self.old) }
         ensures kept { OnErr result (self.new ≡ self.old) }
         ensures lawful { IsQueue self.new }
     {
@@ -70,8 +70,8 @@ impl Queue {
         requires quiet { self.old.waiting ≡ [] }
         ensures twice { IsErrOf result QueueError.Twice ↔ IsTrue (is_in cookie.0 self.old) }
         ensures errors { ¬ IsErrOf result QueueError.NoLock }
-        ensures restored { IfOk result (λ answer. answer ≡ may_restore (record { cookie = cookie; ask = ask }) self.old) }
-        ensures added { OnOk result (self.new ≡ restored (record { cookie = cookie; ask = ask }) self.old) }
+        ensures restored { IfOk result (λ answer. answer ≡ may_restore (lock_under cookie ask) self.old) }
+        ensures added { OnOk result (self.new ≡ restored (lock_under cookie ask) self.old) }
         ensures kept { OnErr result (self.new ≡ self.old) }
         ensures lawful { IsQueue self.new }
     {
@@ -90,7 +90,7 @@ impl Queue {
     pub fn cancel(&mut self, alloc: Global, cookie: Cookie) -> Result<Grants, QueueError>
         ensures no_lock { IsErrOf result QueueError.NoLock ↔ (is_in cookie.0 self.old ≡ false) }
         ensures errors { ¬ IsErrOf result QueueError.Twice }
-        ensures granted { IfOk result (λ grants. AreGranted (without cookie.0 self.old) grants self.new) }
+        ensures granted { IfOk result (λ grants. IsTakenAway cookie.0 self.old grants self.new) }
         ensures kept { OnErr result (self.new ≡ self.old) }
         ensures lawful { IsQueue self.new }
     {
@@ -230,7 +230,7 @@ impl Queue {
 
     /// The queue without the lock of a cookie, once all is granted that may be then, and what was granted.
     fn without(&self, alloc: Global, cookie: Cookie) -> Result<(Queue, Grants), Memory>
-        ensures granted { IfOk result (λ new. AreGranted (without cookie.0 self.now) new.1 new.0) }
+        ensures granted { IfOk result (λ new. IsTakenAway cookie.0 self.now new.1 new.0) }
         ensures lawful { IfOk result (λ new. IsQueue new.0) }
     {
         let granted = other_than(alloc, self.granted.as_slice(), cookie)?;
@@ -256,8 +256,8 @@ fn settled(
     mut granted: Vec<Grant>,
     mut waiting: Vec<Grant>,
 ) -> Result<(Queue, Grants), Memory>
-    requires { IsCoherent (record { granted = granted.items; waiting = waiting.items }) }
-    ensures granted { IfOk result (λ new. AreGranted (record { granted = granted.items; waiting = waiting.items }) new.1 new.0) }
+    requires { IsCoherent (queue_with granted.items waiting.items) }
+    ensures granted { IfOk result (λ new. AreGranted (queue_with granted.items waiting.items) new.1 new.0) }
     ensures lawful { IfOk result (λ new. IsQueue new.0) }
 {
     let grants = settle(alloc, &mut granted, &mut waiting)?;

@@ -4,7 +4,7 @@ use Rattle.lu_held.specs.declared.names.LockName.{LockName}
 use Rattle.lu_held.specs.Locks.{named, is_named}
 use Rattle.lu_held.specs.Held.{is_held}
 use Rattle.lu_held.proofs.Lists.{none_after}
-use Rattle.lu_held.proofs.tests.hold_anew.Goals as goal
+use Rattle.lu_locks_tests.proofs.client_locks.hold_anew.Goals as goal
 
 pub granted-requires : goal.granted-requires
 granted-requires c =

@@ -2,7 +2,7 @@
 use Rattle.std.proofs.Common.{◌≡◌, ◌∙◌, None, List, [], ◌∷◌, slice_get, refl, sym, ap}
 use Rattle.std.specs.Option.{option_copied}
 use Rattle.lu_queue.proofs.Keyed.{none_from_false}
-use Rattle.lu_queue.proofs.tests.restored.Goals as goal
+use Rattle.lu_locks_tests.proofs.queues.restored.Goals as goal
 
 none_first : {X : Type 0} (xs : List X) → slice_get xs 0 ≡ None → xs ≡ []
 none_first [] h = refl
