@@ -1,20 +1,39 @@
--- A client's calls, slot by slot, its life, and whether it has died.
-use Rattle.std.specs.Prelude.{ℕ, zero, suc, Bool, true, false, ◌==◌, if◌then◌else◌, List, [], ◌∷◌, Option, Some, None}
-use Rattle.lu_base.specs.declared.ids.At.{At}
+-- A client's life and death, its calls by slot, and its handles (POSIX.1, open files: a handle belongs to one life).
+use Rattle.std.specs.Prelude.{ℕ, zero, suc, Bool, true, false, not, ◌==◌, if◌then◌else◌, List, [], ◌∷◌, filter, Option, Some, None}
 use Rattle.lu_base.specs.declared.ids.Who.{Who}
-use Rattle.lu_msg.specs.declared.calls.Call.{Call}
-use Rattle.lu_msg.specs.declared.calls.Call.TheVariants as call
-use Rattle.lu_msg.specs.declared.operations.Op.{Op}
-use Rattle.lu_msg.specs.declared.operations.Op.TheVariants as op
-use Rattle.lu_words.specs.Carried.{Asking, Unasked, Asked, Answered, Plain, Running}
-use Rattle.lu_words.specs.Words.{Entry, Begin, Heard, Told, Life, Die, Queues, Stands, Line}
+use Rattle.lu_words.specs.Carried.{HandleFile, Asking, Asked, Answered, Running}
+use Rattle.lu_words.specs.Words.{Entry, Begin, Heard, Told, Life, Die, Queues, Stands, Binds, Unbinds, Line}
 use Rattle.lu_words.specs.Fields.{at_client}
 
--- ---- the call on a slot that isn't told
+-- ---- its life, and its death
 
--- a call that begins
-abbrev pub begun : At → Call → Running
-begun at call = record { at = at; call = call; file = None; asking = Unasked; stage = Plain; pins = [] }
+abbrev pub reads_life : Entry → Bool
+reads_life (Life who) = true
+reads_life _ = false
+
+abbrev pub life_after : Who → Entry → Who
+life_after who (Life next) = next
+life_after who _ = who
+
+abbrev pub first_life : ℕ → Who
+first_life c = record { client = c; life = 1 }
+
+abbrev pub life_at : ℕ → List Line → Who
+life_at c past = at_client reads_life life_after (first_life c) c past
+
+abbrev pub reads_death : Entry → Bool
+reads_death Die = true
+reads_death _ = false
+
+abbrev pub death_after : Bool → Entry → Bool
+death_after dead Die = true
+death_after dead _ = dead
+
+-- a dead client makes no more turns
+abbrev pub is_dead : ℕ → List Line → Bool
+is_dead c past = at_client reads_death death_after false c past
+
+-- ---- the call on a slot that isn't told
 
 abbrev pub asks : Asking → Option Running → Option Running
 asks asking None = None
@@ -44,9 +63,12 @@ call_after slot call _ = call
 abbrev pub call_at : ℕ → ℕ → List Line → Option Running
 call_at c slot past = at_client reads_call (call_after slot) None c past
 
--- its four slots, and the call on one of them
+-- its four slots
 abbrev pub calls_at : ℕ → List Line → List (Option Running)
 calls_at c past = call_at c 0 past ∷ call_at c 1 past ∷ call_at c 2 past ∷ call_at c 3 past ∷ []
+
+abbrev pub no_calls : List (Option Running)
+no_calls = None ∷ None ∷ None ∷ None ∷ []
 
 abbrev pub call_on : ℕ → List (Option Running) → Option Running
 call_on slot [] = None
@@ -61,42 +83,31 @@ calls_from slot (call ∷ calls) e = call_after slot call e ∷ calls_from (suc 
 abbrev pub calls_after : List (Option Running) → Entry → List (Option Running)
 calls_after calls e = calls_from 0 calls e
 
-abbrev pub calls_turn : List (Option Running) → List Entry → List (Option Running)
-calls_turn calls [] = calls
-calls_turn calls (e ∷ es) = calls_turn (calls_after calls e) es
+-- ---- handles
 
--- ---- its life, and its death
+-- The file that a handle is bound to.
+pub record Bound : Type 0 where
+  pub handle : ℕ
+  pub file : HandleFile
 
-abbrev pub reads_life : Entry → Bool
-reads_life (Life who) = true
-reads_life _ = false
+abbrev pub unbound : ℕ → List Bound → List Bound
+unbound h handles = filter (λ (b : Bound). not (b.handle == h)) handles
 
-abbrev pub life_after : Who → Entry → Who
-life_after who (Life next) = next
-life_after who _ = who
+abbrev pub reads_handles : Entry → Bool
+reads_handles (Binds handle file) = true
+reads_handles (Unbinds handle) = true
+reads_handles (Life who) = true
+reads_handles _ = false
 
-abbrev pub first_life : ℕ → Who
-first_life c = record { client = c; life = 1 }
+abbrev pub handles_after : List Bound → Entry → List Bound
+handles_after handles (Binds h file) = record { handle = h; file = file } ∷ handles
+handles_after handles (Unbinds h) = unbound h handles
+handles_after handles (Life who) = []
+handles_after handles _ = handles
 
-abbrev pub life_at : ℕ → List Line → Who
-life_at c past = at_client reads_life life_after (first_life c) c past
+abbrev pub handles_at : ℕ → List Line → List Bound
+handles_at c past = at_client reads_handles handles_after [] c past
 
-abbrev pub reads_death : Entry → Bool
-reads_death Die = true
-reads_death _ = false
-
-abbrev pub death_after : Bool → Entry → Bool
-death_after dead Die = true
-death_after dead _ = dead
-
-abbrev pub is_dead : ℕ → List Line → Bool
-is_dead c past = at_client reads_death death_after false c past
-
--- ---- what a call asks
-
--- the operation that a call of these three becomes: each asks the metadata target
-abbrev pub operation_of : Call → Option Op
-operation_of (call.Lookup path) = Some (op.Lookup path)
-operation_of (call.Mkdir path) = Some (op.Mkdir path)
-operation_of (call.Rmdir path) = Some (op.Rmdir path)
-operation_of _ = None
+abbrev pub file_of : ℕ → List Bound → Option HandleFile
+file_of h [] = None
+file_of h (b ∷ handles) = if b.handle == h then Some b.file else file_of h handles

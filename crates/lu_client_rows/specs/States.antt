@@ -1,84 +1,114 @@
--- A client as its rows read it, with what it asks of one target: after a past, and after its own entries.
-use Rattle.std.specs.Prelude.{ℕ, List, [], ◌∷◌, ◌&&◌, ◌==◌, if◌then◌else◌}
-use Rattle.lu_base.specs.declared.ids.Node.{Node}
-use Rattle.lu_base.specs.declared.ids.Node.TheVariants.{Client, Target}
+-- A client as its rows read it: after a past, and after its own entries. The state is a record of fields, and what an entry
+-- makes of it is the record of their steps.
+use Rattle.std.specs.Prelude.{ℕ, zero, suc, ◌+◌, List, [], ◌∷◌, ◌++◌, map, Option}
+use Rattle.std.specs.List.{range_with_len}
 use Rattle.lu_base.specs.declared.ids.Who.{Who}
-use Rattle.lu_words.specs.Carried.{Queued, Flight}
-use Rattle.lu_words.specs.Words.{Entry, Heard, Life, Queues, Flies, Knows, Line, is_client}
-use Rattle.lu_client_rows.specs.Calls.{first_life, life_at}
-use Rattle.lu_client_rows.specs.Imports.{queue_after, queue_at, flights_after, flights_at, last_at, known_at}
+use Rattle.lu_base.specs.declared.locks.Resource.{Resource}
+use Rattle.lu_held.specs.declared.locks.HeldLock.{HeldLock}
+use Rattle.lu_words.specs.Carried.{Running}
+use Rattle.lu_words.specs.Words.{Entry, Line}
+use Rattle.lu_client_rows.specs.Bytes.{Bytes}
+use Rattle.lu_client_rows.specs.Patches.{Patch}
+use Rattle.lu_client_rows.specs.Imports.{Import, first_import, imports_after, import_at}
+use Rattle.lu_client_rows.specs.Calls.{Bound, first_life, life_after, life_at, no_calls, calls_after, calls_at, handles_after, handles_at}
+use Rattle.lu_client_rows.specs.Facts.{Fact, facts_after, facts_at}
+use Rattle.lu_client_rows.specs.Caches.{Note, held_after, held_at, bytes_after, known_bytes_at, sizes_after, sizes_at, shown_after, shown_at, patches_after, patches_at}
 
--- Its life, how many requests may be in flight at a target; and of this target the boot that it knows, the number of
--- the newest request, what waits to be sent and what is in flight.
-pub record Asker : Type 0 where
+-- The numbers of a run that a client knows: object storage targets, how many of its requests may be in flight at one
+-- target, above how many dirty bytes it writes back, and how many locks that are neither pinned nor marked it keeps.
+pub record Limits : Type 0 where
+  pub osts : ℕ
+  pub flight : ℕ
+  pub dirty : ℕ
+  pub unused : ℕ
+
+-- What a call on bytes reads and changes: the held locks, what is known of objects, and the client's own changes.
+pub record Store : Type 0 where
+  pub held : List HeldLock
+  pub bytes : List (Resource × Bytes)
+  pub sizes : List Note
+  pub shown : List Note
+  pub patches : List (Resource × Patch)
+
+-- Its life, its handles, its calls by slot, what it knows of each target from 0 on, what it knows of names, and its store.
+pub record Client : Type 0 where
   pub who : Who
-  pub limit : ℕ
-  pub target : ℕ
-  pub boot : ℕ
-  pub last : ℕ
-  pub queue : List Queued
-  pub flights : List Flight
-
-abbrev pub asker_at : (limit c t : ℕ) → List Line → Asker
-asker_at limit c t past =
-    record {
-      who = life_at c past;
-      limit = limit;
-      target = t;
-      boot = known_at c t past;
-      last = last_at c t past;
-      queue = queue_at c t past;
-      flights = flights_at c t past;
-    }
+  pub handles : List Bound
+  pub calls : List (Option Running)
+  pub imports : List Import
+  pub facts : List Fact
+  pub store : Store
 
 -- ---- after its own entries
 
--- what they say of the target
-abbrev pub asker_after : Asker → Entry → Asker
-asker_after k (Life who) = record k { who = who }
-asker_after k (Queues t q) = if k.target == t then record k { queue = queue_after k.queue (Queues t q) } else k
-asker_after k (Flies t f) = if k.target == t then record k { last = f.xid; queue = queue_after k.queue (Flies t f); flights = flights_after k.flights (Flies t f) } else k
-asker_after k (Heard t f r) = if k.target == t then record k { flights = flights_after k.flights (Heard t f r) } else k
-asker_after k (Knows t boot) = if k.target == t then record k { boot = boot } else k
-asker_after k _ = k
+abbrev pub store_after : Store → Entry → Store
+store_after s e =
+    record {
+      held = held_after s.held e;
+      bytes = bytes_after s.bytes e;
+      sizes = sizes_after s.sizes e;
+      shown = shown_after s.shown e;
+      patches = patches_after s.patches e;
+    }
 
-abbrev pub asker_turn : Asker → List Entry → Asker
-asker_turn k [] = k
-asker_turn k (e ∷ es) = asker_turn (asker_after k e) es
+abbrev pub store_turn : Store → List Entry → Store
+store_turn s [] = s
+store_turn s (e ∷ es) = store_turn (store_after s e) es
 
--- ---- of a past in which nothing is about another target
+-- what follows reads the store as these entries left it
+abbrev pub follow_store : List Entry → (Store → List Entry) → Store → List Entry
+follow_store es next s = es ++ next (store_turn s es)
 
-abbrev pub queue_of : ℕ → List Line → List Queued
-queue_of c [] = []
-queue_of c (l ∷ past) =
-    elim l.entry [
-      | Queues t q ↦ if is_client c l.at.node then queue_after (queue_of c past) (Queues t q) else queue_of c past
-      | Flies t f ↦ if is_client c l.at.node then queue_after (queue_of c past) (Flies t f) else queue_of c past
-      | _ ↦ queue_of c past
-    ]
+abbrev pub after : Client → Entry → Client
+after k e =
+    record {
+      who = life_after k.who e;
+      handles = handles_after k.handles e;
+      calls = calls_after k.calls e;
+      imports = imports_after k.imports e;
+      facts = facts_after k.facts e;
+      store = store_after k.store e;
+    }
 
-abbrev pub flights_of : ℕ → List Line → List Flight
-flights_of c [] = []
-flights_of c (l ∷ past) =
-    elim l.entry [
-      | Flies t f ↦ if is_client c l.at.node then flights_after (flights_of c past) (Flies t f) else flights_of c past
-      | Heard t f r ↦ if is_client c l.at.node then flights_after (flights_of c past) (Heard t f r) else flights_of c past
-      | _ ↦ flights_of c past
-    ]
+abbrev pub turn : Client → List Entry → Client
+turn k [] = k
+turn k (e ∷ es) = turn (after k e) es
 
-abbrev pub last_of : ℕ → List Line → ℕ
-last_of c [] = 0
-last_of c (l ∷ past) = elim l.entry [ Flies t f ↦ if is_client c l.at.node then f.xid else last_of c past | _ ↦ last_of c past ]
+-- what follows reads the client as these entries left it
+abbrev pub follow : List Entry → (Client → List Entry) → Client → List Entry
+follow es next k = es ++ next (turn k es)
 
-abbrev pub known_of : ℕ → List Line → ℕ
-known_of c [] = 1
-known_of c (l ∷ past) = elim l.entry [ Knows t boot ↦ if is_client c l.at.node then boot else known_of c past | _ ↦ known_of c past ]
+-- ---- at the start of a run, and after a past
 
-abbrev pub life_of : ℕ → List Line → Who
-life_of c [] = first_life c
-life_of c (l ∷ past) = elim l.entry [ Life who ↦ if is_client c l.at.node then who else life_of c past | _ ↦ life_of c past ]
+abbrev pub empty_store : Store
+empty_store = record { held = []; bytes = []; sizes = []; shown = []; patches = [] }
 
--- the tag that was given to a request number, 0 where it wasn't given
-abbrev pub tag_of : ℕ → ℕ → List Line → ℕ
-tag_of c xid [] = 0
-tag_of c xid (l ∷ past) = elim l.entry [ Flies t f ↦ if is_client c l.at.node && f.xid == xid then f.tag else tag_of c xid past | _ ↦ tag_of c xid past ]
+abbrev pub first_imports : ℕ → List Import
+first_imports zero = []
+first_imports (suc n) = first_import ∷ first_imports n
+
+-- life 1, which each target serves in boot 1
+abbrev pub started : Limits → ℕ → Client
+started limits c =
+    record { who = first_life c; handles = []; calls = no_calls; imports = first_imports (limits.osts + 1); facts = []; store = empty_store }
+
+abbrev pub store_at : ℕ → List Line → Store
+store_at c past =
+    record {
+      held = held_at c past;
+      bytes = known_bytes_at c past;
+      sizes = sizes_at c past;
+      shown = shown_at c past;
+      patches = patches_at c past;
+    }
+
+abbrev pub client_at : Limits → ℕ → List Line → Client
+client_at limits c past =
+    record {
+      who = life_at c past;
+      handles = handles_at c past;
+      calls = calls_at c past;
+      imports = map (λ t. import_at c t past) (range_with_len 0 (limits.osts + 1));
+      facts = facts_at c past;
+      store = store_at c past;
+    }

@@ -1,5 +1,7 @@
-//! What a client knows and does: its state, a field at a time, and the rows of its turns.
+//! What a client does: its whole turn as rows over what it knows. A row is a function from the client's state and an
+//! event to the turn's full entries, in their exact order.
 //!
-//! The definitions stand in `specs/`: `Calls` (the calls on its slots), `Imports` (what it asks of each target), `States`
-//! (a client as its rows read it) and `Rows` (turns, for calls that ask the metadata target and need no lock).
+//! The definitions stand in `specs/`: what the client knows, a field at a time (`Imports`, `Calls`, `Facts`, `Caches`,
+//! `States`), what its calls look at and do (`Looks`, `Wants`, `Known`, `Advances`, `Glimpses`, `Starts`, `Slots`), and its
+//! turns (`Locks`, `Sending`, `Recovery`, `Messages`, `Rows`).
 #![tactic(auto)]

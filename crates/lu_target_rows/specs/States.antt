@@ -1,108 +1,179 @@
--- A target as its rows read it: its parts together, after a past of all targets and after one of its own alone.
-use Rattle.std.specs.Prelude.{ℕ, ◌+◌, ◌*◌, List, [], ◌∷◌, if◌then◌else◌}
-use Rattle.lu_base.specs.declared.ids.Node.{Node}
-use Rattle.lu_base.specs.declared.ids.Node.TheVariants.{Client, Target}
-use Rattle.lu_base.specs.declared.ids.Txn.{Txn as TxnOf}
+-- A target: what it keeps, what each of its entries makes of that, and what it is after a past of all nodes.
+use Rattle.std.specs.Prelude.{ℕ, zero, suc, ◌+◌, ◌==◌, Bool, true, false, List, [], ◌∷◌, ◌++◌}
 use Rattle.lu_base.specs.declared.ids.Who.{Who}
-use Rattle.lu_part.specs.declared.parts.Part.{Part}
+use Rattle.lu_base.specs.declared.locks.Lock.{Lock}
+use Rattle.lu_msg.specs.declared.commits.Batch.{Batch}
 use Rattle.lu_msg.specs.declared.messages.Request.{Request as RequestOf}
-use Rattle.lu_machine.specs.Tree.{Tree}
+use Rattle.lu_msg.specs.declared.messages.RequestReplay.{RequestReplay}
 use Rattle.lu_machine.specs.Footprint.{empty}
-use Rattle.lu_machine.specs.Seen.{meet}
-use Rattle.lu_words.specs.Carried.{Slot}
-use Rattle.lu_words.specs.Words.{Entry, Act, Txn, Commit, Boot, Enters, Line}
+use Rattle.lu_words.specs.Carried.{Deed, LifeSlot, Called, Glimpse, Said, Contents, Disk}
+use Rattle.lu_words.specs.Words.{Entry, Line}
 use Rattle.lu_words.specs.Fields.{at_target}
-use Rattle.lu_target_rows.specs.Parts.{reads_boot, boot_after, reads_count, count_after, reads_committed, committed_after, reads_tree, tree_after, Logged, reads_log, log_after, reads_waiting, waiting_after, no_slot, reads_slot, slot_after}
+use Rattle.lu_target_rows.specs.Phase.{reads_up, up_after, reads_failed, failed_after, reads_boot, boot_after, reads_closed, closed_after}
+use Rattle.lu_target_rows.specs.Phase.{reads_ticks, ticks_after, reads_number, number_after, reads_cookie, cookie_after, first_of}
+use Rattle.lu_target_rows.specs.Lives.{reads_lives, lives_after, reads_removed, removed_after, reads_slots, slots_after}
+use Rattle.lu_target_rows.specs.Stored.{reads_contents, contents_after, reads_log, log_after, reads_committed, committed_after}
+use Rattle.lu_target_rows.specs.Stored.{reads_disk, disk_after, stored}
+use Rattle.lu_target_rows.specs.Locks.{reads_granted, granted_after, reads_waiting, waiting_after, reads_called, called_after}
+use Rattle.lu_target_rows.specs.Locks.{reads_queue, queue_after, reads_glimpses, glimpses_after}
+use Rattle.lu_target_rows.specs.Kept.{reads_replays, replays_after, reads_brought, brought_after}
+use Rattle.lu_target_rows.specs.Kept.{reads_words, words_after, reads_wishes, wishes_after}
 
-pub record Server : Type 0 where
+-- The numbers of a run that a target knows: its own, 0 for the metadata target; that of the object storage targets; and the
+-- ticks until a lock that was called back ends its life.
+pub record Setting : Type 0 where
+  pub id : ℕ
+  pub osts : ℕ
+  pub expire : ℕ
+
+pub record Target : Type 0 where
+  pub setting : Setting
+  pub up : Bool
+  pub failed : Bool
   pub boot : ℕ
-  pub count : ℕ
-  pub committed : TxnOf
-  pub tree : Tree
-  pub log : List Logged
-  pub waiting : List RequestOf
+  pub closed : ℕ
+  pub ticks : ℕ
+  pub number : ℕ
+  pub cookie : ℕ
+  pub lives : List Who
+  pub removed : List Who
+  pub slots : List LifeSlot
+  pub contents : Contents
+  pub log : List Deed
+  pub committed : ℕ
+  pub disk : Disk
+  pub granted : List Lock
+  pub waiting : List Lock
+  pub called : List Called
+  pub queue : List RequestOf
+  pub glimpses : List Glimpse
+  pub replays : List RequestReplay
+  pub brought : List Lock
+  pub words : List Said
+  pub wishes : List Who
 
-abbrev pub none : TxnOf
-none = record { 0 = 0 }
+-- the window of its boot is closed
+abbrev pub is_serving : Target → Bool
+is_serving v = v.closed == v.boot
 
--- ---- at a target, after a past
+abbrev pub is_names : Target → Bool
+is_names v = v.setting.id == 0
 
-abbrev pub boot_at : ℕ → List Line → ℕ
-boot_at t past = at_target reads_boot boot_after 1 t past
+-- ---- the start of a run: boot 1 and a slot for life 1 of each client are on the disk, and the target serves
 
-abbrev pub count_at : ℕ → List Line → ℕ
-count_at t past = at_target reads_count count_after 0 t past
+abbrev pub lives_from : ℕ → ℕ → List Who
+lives_from client zero = []
+lives_from client (suc more) = record { client = client; life = 1 } ∷ lives_from (client + 1) more
 
-abbrev pub committed_at : ℕ → List Line → TxnOf
-committed_at t past = at_target reads_committed committed_after none t past
+abbrev pub no_contents : Contents
+no_contents = record { tree = empty; objects = [] }
 
-abbrev pub tree_at : ℕ → ℕ → List Line → Tree
-tree_at osts t past = at_target reads_tree (tree_after osts) empty t past
+abbrev pub empty_disk : Disk
+empty_disk = record { boot = 0; contents = no_contents; committed = 0; lives = []; removed = []; slots = [] }
 
-abbrev pub log_at : ℕ → List Line → List Logged
-log_at t past = at_target reads_log log_after [] t past
+abbrev pub first_batch : ℕ → Batch
+first_batch clients = record { boot = 1; transactions = []; replies = []; added = lives_from 0 clients; removed = [] }
 
-abbrev pub waiting_at : ℕ → List Line → List RequestOf
-waiting_at t past = at_target reads_waiting waiting_after [] t past
+abbrev pub first_disk : Setting → ℕ → Disk
+first_disk setting clients = stored setting.osts (first_batch clients) empty_disk
 
-abbrev pub slot_at : Who → ℕ → ℕ → List Line → Slot
-slot_at who tag t past = at_target reads_slot (slot_after who tag) no_slot t past
-
-abbrev pub server_at : ℕ → ℕ → List Line → Server
-server_at osts t past =
+abbrev pub started : Setting → (clients : ℕ) → Target
+started setting clients =
     record {
-      boot = boot_at t past;
-      count = count_at t past;
-      committed = committed_at t past;
-      tree = tree_at osts t past;
-      log = log_at t past;
-      waiting = waiting_at t past;
+      setting = setting;
+      up = true;
+      failed = false;
+      boot = 1;
+      closed = 1;
+      ticks = 0;
+      number = first_of 1;
+      cookie = first_of 1;
+      lives = lives_from 0 clients;
+      removed = [];
+      slots = [];
+      contents = no_contents;
+      log = [];
+      committed = 0;
+      disk = first_disk setting clients;
+      granted = [];
+      waiting = [];
+      called = [];
+      queue = [];
+      glimpses = [];
+      replays = [];
+      brought = [];
+      words = [];
+      wishes = [];
     }
 
 -- ---- after its own entries
 
-abbrev pub server_start : Server
-server_start = record { boot = 1; count = 0; committed = none; tree = empty; log = []; waiting = [] }
-
-abbrev pub server_after : ℕ → Server → Entry → Server
-server_after osts v (Boot boot disk) = record v { boot = boot }
-server_after osts v (Commit to batch) = record v { committed = record { 0 = to } }
-server_after osts v (Enters r) = record v { waiting = waiting_after v.waiting (Enters r) }
-server_after osts v (Act d) = record v { waiting = waiting_after v.waiting (Act d) }
-server_after osts v (Txn d) =
-    record v {
-      count = count_after v.count (Txn d);
-      tree = tree_after osts v.tree (Txn d);
-      log = log_after v.log (Txn d);
-      waiting = waiting_after v.waiting (Txn d);
+abbrev pub after : Target → Entry → Target
+after v e =
+    record {
+      setting = v.setting;
+      up = up_after v.up e;
+      failed = failed_after v.failed e;
+      boot = boot_after v.boot e;
+      closed = closed_after v.closed e;
+      ticks = ticks_after v.ticks e;
+      number = number_after v.number e;
+      cookie = cookie_after v.cookie e;
+      lives = lives_after v.lives e;
+      removed = removed_after v.removed e;
+      slots = slots_after v.slots e;
+      contents = contents_after v.setting.osts v.contents e;
+      log = log_after v.log e;
+      committed = committed_after v.committed e;
+      disk = disk_after v.setting.osts v.disk e;
+      granted = granted_after v.granted e;
+      waiting = waiting_after v.waiting e;
+      called = called_after v.called e;
+      queue = queue_after v.queue e;
+      glimpses = glimpses_after v.glimpses e;
+      replays = replays_after v.replays e;
+      brought = brought_after v.brought e;
+      words = words_after v.words e;
+      wishes = wishes_after v.wishes e;
     }
-server_after osts v _ = v
 
-abbrev pub server_turn : ℕ → Server → List Entry → Server
-server_turn osts v [] = v
-server_turn osts v (e ∷ es) = server_turn osts (server_after osts v e) es
+abbrev pub turn : Target → List Entry → Target
+turn v [] = v
+turn v (e ∷ es) = turn (after v e) es
 
-abbrev pub slot_turn : Who → ℕ → Slot → List Entry → Slot
-slot_turn who tag slot [] = slot
-slot_turn who tag slot (e ∷ es) = slot_turn who tag (slot_after who tag slot e) es
+-- these entries, and then what comes of the target after them
+abbrev pub follow : Target → List Entry → (Target → List Entry) → List Entry
+follow v es next = es ++ next (turn v es)
 
--- ---- of a past that has no other target's lines
+-- ---- after a past of all nodes, in a run of so many clients
 
-abbrev pub server_of : ℕ → List Line → Server
-server_of osts [] = server_start
-server_of osts (l ∷ past) = elim l.at.node [ Client c ↦ server_of osts past | Target t ↦ server_after osts (server_of osts past) l.entry ]
-
-abbrev pub slot_of : Who → ℕ → List Line → Slot
-slot_of who tag [] = no_slot
-slot_of who tag (l ∷ past) = elim l.at.node [ Client c ↦ slot_of who tag past | Target t ↦ slot_after who tag (slot_of who tag past) l.entry ]
-
--- ---- numbers
-
--- the next transaction's number: the boot in the high 32 bits, and a count from 1 in it
-abbrev pub next_number : Server → TxnOf
-next_number v = record { 0 = v.boot * 4294967296 + (v.count + 1) }
-
--- the transactions of the log whose writes meet what is touched, in rising number
-abbrev pub seen_in : List Part → List Logged → List ℕ
-seen_in touched [] = []
-seen_in touched (g ∷ log) = if meet g.writes touched then g.transaction.txn.0 ∷ seen_in touched log else seen_in touched log
+abbrev pub target_at : Setting → (clients : ℕ) → List Line → Target
+target_at setting clients past =
+    let t = setting.id in
+    let v = started setting clients in
+    record {
+      setting = setting;
+      up = at_target reads_up up_after v.up t past;
+      failed = at_target reads_failed failed_after v.failed t past;
+      boot = at_target reads_boot boot_after v.boot t past;
+      closed = at_target reads_closed closed_after v.closed t past;
+      ticks = at_target reads_ticks ticks_after v.ticks t past;
+      number = at_target reads_number number_after v.number t past;
+      cookie = at_target reads_cookie cookie_after v.cookie t past;
+      lives = at_target reads_lives lives_after v.lives t past;
+      removed = at_target reads_removed removed_after v.removed t past;
+      slots = at_target reads_slots slots_after v.slots t past;
+      contents = at_target reads_contents (contents_after setting.osts) v.contents t past;
+      log = at_target reads_log log_after v.log t past;
+      committed = at_target reads_committed committed_after v.committed t past;
+      disk = at_target reads_disk (disk_after setting.osts) v.disk t past;
+      granted = at_target reads_granted granted_after v.granted t past;
+      waiting = at_target reads_waiting waiting_after v.waiting t past;
+      called = at_target reads_called called_after v.called t past;
+      queue = at_target reads_queue queue_after v.queue t past;
+      glimpses = at_target reads_glimpses glimpses_after v.glimpses t past;
+      replays = at_target reads_replays replays_after v.replays t past;
+      brought = at_target reads_brought brought_after v.brought t past;
+      words = at_target reads_words words_after v.words t past;
+      wishes = at_target reads_wishes wishes_after v.wishes t past;
+    }

@@ -1,5 +1,6 @@
-//! What a target knows and does: its state, a field at a time, and the rows of its turns.
+//! What a target knows, and what it does in a turn, for the metadata target and for the object storage targets: requests,
+//! locks and their callbacks, glimpses, commits, lives that leave and join, restarts, the recovery window and its close, and
+//! turns over a disk that fails.
 //!
-//! The definitions stand in `specs/`: `Parts` (fields and their steps), `States` (a target as its rows read it) and
-//! `Rows` (turns of the metadata target, for requests that need no lock).
+//! The definitions stand in `specs/`.
 #![tactic(auto)]

@@ -50,13 +50,15 @@ pub record HandleFile : Type 0 where
   pub number : Txn
   pub layout : Raid0
 
--- What a call on bytes does; a read is narrow first, and asks to the end where it hasn't reached.
+-- What a call on bytes does; a read is narrow first, and asks to the end where it hasn't reached. Stats: it tells a file's
+-- size beside what the metadata target told. Glimpses: it tells how long each stripe's object is; the sizes so far.
 pub data Kind : Type 0 where
   Narrow : (offset : ℕ) (count : ℕ) → Kind
   Wide : (offset : ℕ) (count : ℕ) → Kind
   Writes : (offset : ℕ) (bytes : List ℕ) → Kind
   Cuts : (size : ℕ) → Kind
   Stats : (mode : ℕ) (links : ℕ) → Kind
+  Glimpses : (sizes : List ℕ) → Kind
 
 -- A call on bytes: the locks in use, and those still wanted, stripe by stripe.
 pub record Work : Type 0 where
@@ -76,8 +78,9 @@ pub data Asking : Type 0 where
 -- How far a call on bytes has come. Plain: it has no locks to look for (a call on names, or one that has just begun).
 -- Bad: its handle isn't bound, or is bound already. Looks: it looks for the first of the locks that are left.
 -- Enqueued: that lock is asked for. Waits: it waits for that lock, which may have been called back. Came: it was
--- granted. Gets: a page is fetched. Flushing: it writes back the object of that stripe. Sizes: it asks the target of
--- that stripe how long its object is; the sizes so far.
+-- granted. Forgotten: it waited for that lock when its target went down, and asks again once the target serves. Gets: a
+-- page is fetched. Flushing: it writes back the object of that stripe. Sizes: it asks how long the object of the first of
+-- the locks that are left is.
 pub data Stage : Type 0 where
   Plain : Stage
   Bad : Stage
@@ -85,9 +88,10 @@ pub data Stage : Type 0 where
   Enqueued : (work : Work) → Stage
   Waits : (work : Work) (target : TargetId) (lock : Lock) (marked : Bool) → Stage
   Came : (work : Work) (lock : Lock) → Stage
+  Forgotten : (work : Work) → Stage
   Gets : (work : Work) → Stage
   Flushing : (stripe : ℕ) → Stage
-  Sizes : (stripe : ℕ) (sizes : List ℕ) → Stage
+  Sizes : (work : Work) → Stage
 
 -- A call that isn't told: in which turn it began, the file of its handle, where it stands, and the locks that it
 -- pinned, in order.
@@ -106,9 +110,10 @@ pub record Slot : Type 0 where
   pub taken : ℕ
   pub reply : Option ReplyTo
 
--- A lock that was called back, and the count of ticks then.
+-- A lock that was called back, the life that has it, and the count of ticks then.
 pub record Called : Type 0 where
   pub cookie : Cookie
+  pub who : Who
   pub since : ℕ
 
 -- A glimpse that waits for the holder of this lock.
@@ -134,18 +139,29 @@ pub record Contents : Type 0 where
   pub tree : Tree
   pub objects : List (Resource × List (ℕ × ℕ))
 
--- What stands on a target's disk. Lives: those that have a slot; removed: those that had one.
+-- The slot of a life and tag.
+pub record LifeSlot : Type 0 where
+  pub who : Who
+  pub tag : ℕ
+  pub slot : Slot
+
+-- What stands on a target's disk. Boot: the last that was begun there. Lives: those that have a slot; removed: those
+-- that had one. Slots: of each life and tag the reply to its last committed transaction.
 pub record Disk : Type 0 where
+  pub boot : ℕ
   pub contents : Contents
   pub committed : ℕ
   pub lives : List Who
   pub removed : List Who
-  pub slots : Who → ℕ → Slot
+  pub slots : List LifeSlot
 
--- What a close of the recovery window decides: the kept transactions, with the replies made anew; the locks that stand
--- again; the lives that lose their slots, and those that get one; and the numbers that are lost.
+-- What a close of the recovery window decides: the boot in which the target serves from then on; the kept transactions,
+-- with the replies made anew; what stands on the disk once they are committed, on which the target goes on; the locks
+-- that stand again; the lives that lose their slots, and those that get one; and the replayed numbers that are lost.
 pub record Outcome : Type 0 where
+  pub boot : ℕ
   pub kept : List Deed
+  pub disk : Disk
   pub locks : List Lock
   pub gone : List Gone
   pub joins : List Who

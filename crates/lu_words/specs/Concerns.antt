@@ -2,7 +2,7 @@
 use Rattle.std.specs.Prelude.{ℕ, Bool, true, false, List, [], ◌∷◌, ◌==◌, if◌then◌else◌}
 use Rattle.lu_base.specs.declared.ids.Node.{Node}
 use Rattle.lu_base.specs.declared.ids.Node.TheVariants.{Client, Target}
-use Rattle.lu_words.specs.Words.{Entry, Send, Take, Heard, Hold, Drop, Peek, Queues, Flies, Knows, Serves, Unmarks, Learns, Pins, Unpins, Marks, Line, is_target}
+use Rattle.lu_words.specs.Words.{Entry, Send, Take, Heard, Hold, Drop, Peek, Queues, Flies, Knows, Serves, Settles, Unmarks, Learns, Pins, Unpins, Marks, Line, is_target}
 
 -- of a client's entry: whether it is about this target, or about all
 abbrev pub is_about : ℕ → Entry → Bool
@@ -16,6 +16,7 @@ is_about t (Queues u queued) = t == u
 is_about t (Flies u flight) = t == u
 is_about t (Knows u boot) = t == u
 is_about t (Serves u boot) = t == u
+is_about t (Settles u to) = t == u
 is_about t (Pins name) = t == name.target.0
 is_about t (Unpins name) = t == name.target.0
 is_about t (Marks name) = t == name.target.0

@@ -37,6 +37,7 @@ use Rattle.lu_words.specs.Carried.{Deed, Queued, Flight, HandleFile, Work, Runni
 -- and marks:
 --   Queues, Flies                | an operation waits to be sent to a target; it is a request in flight there
 --   Knows, Serves                | the client knows this boot of a target; the target serves its life in that boot
+--   Settles target to            | the client was told that all up to this number is committed there
 --   Stands slot running          | the call on a slot stands so
 --   Binds, Unbinds               | a handle is bound to a file, or to none
 --   Pins, Unpins, Marks, Unmarks | a held lock is in use once more, once less; is to be given back, or not yet
@@ -49,7 +50,8 @@ use Rattle.lu_words.specs.Carried.{Deed, Queued, Flight, HandleFile, Work, Runni
 --   Act, Txn                     | a request acted, with its locks; made a transaction
 --   Grant, Wait lock deed        | a lock is granted, waits; with the request that asked for it, none where it had waited
 --   Block, Release               | a lock is called back; is taken away
---   Commit to batch              | all up to that number is on the disk, with this batch
+--   Commit to batch              | all up to that number is on the disk, with this batch; the lives that it removes are gone,
+--                                  with all that they had, which the next entries show
 --   Boot boot disk               | the target is up again, with what stands on its disk
 --   Close outcome                | the recovery window closes: all that follows of it in this turn is shown by the next
 --   Back, Kept, Restore, Evict, Joined
@@ -75,6 +77,7 @@ pub data Entry : Type 0 where
   Flies : (target : ℕ) (flight : Flight) → Entry
   Knows : (target : ℕ) (boot : ℕ) → Entry
   Serves : (target : ℕ) (boot : ℕ) → Entry
+  Settles : (target : ℕ) (to : ℕ) → Entry
   Stands : (slot : ℕ) (running : Running) → Entry
   Binds : (handle : ℕ) (file : HandleFile) → Entry
   Unbinds : (handle : ℕ) → Entry

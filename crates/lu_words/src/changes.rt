@@ -2,6 +2,14 @@
 
 use lu_base::Bytes;
 
+/// A byte that a client has written, and whether it is in flight: it was sent in a request that isn't answered, and
+/// wasn't touched since.
+#[derive(Clone, Copy, Debug, PartialEq, Eq)]
+pub struct Dirty {
+    pub byte: u8,
+    pub flies: bool,
+}
+
 /// What one request makes of an object.
 #[derive(Debug, PartialEq, Eq, Drop)]
 pub enum Flush {

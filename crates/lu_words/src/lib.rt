@@ -9,5 +9,5 @@
 mod changes;
 mod uses;
 
-pub use changes::Flush;
+pub use changes::{Dirty, Flush};
 pub use uses::Using;

@@ -1,0 +1,57 @@
+-- What one client prints at given events, turn by turn, from the start of a run; and the client that its own entries make,
+-- with the past that they are.
+use Rattle.std.specs.Prelude.{◌≡◌, ℕ, List, [], ◌∷◌, Option, Some, None}
+use Rattle.lu_base.specs.declared.ids.At.{At}
+use Rattle.lu_base.specs.declared.ids.Node.TheVariants as node
+use Rattle.lu_trace.specs.declared.entries.Entry.{Entry as PrintedEntry}
+use Rattle.lu_words.specs.Words.{Entry, Line, with_turn}
+use Rattle.lu_words.specs.Printed.{printed_entry}
+use Rattle.lu_client_rows.specs.States.{Client, Limits, started, turn, client_at}
+use Rattle.lu_client_rows.specs.Rows.{Event, row}
+
+-- an event and the stamp of its turn
+pub record Happens : Type 0 where
+  pub stamp : ℕ
+  pub event : Event
+
+abbrev pub turn_at : ℕ → ℕ → At
+turn_at c stamp = record { stamp = record { 0 = stamp }; node = node.Client c }
+
+abbrev pub shown : Option PrintedEntry → List PrintedEntry → List PrintedEntry
+shown None more = more
+shown (Some e) more = e ∷ more
+
+-- messages that are sent have number 0
+abbrev pub printed_of : List Entry → List PrintedEntry
+printed_of [] = []
+printed_of (e ∷ es) = shown (printed_entry 0 e) (printed_of es)
+
+abbrev pub played_on : Limits → ℕ → Client → List Happens → List (List PrintedEntry)
+played_on limits c k [] = []
+played_on limits c k (h ∷ more) =
+    printed_of (row limits (turn_at c h.stamp) h.event k) ∷ played_on limits c (turn k (row limits (turn_at c h.stamp) h.event k)) more
+
+abbrev pub played : Limits → ℕ → List Happens → List (List PrintedEntry)
+played limits c events = played_on limits c (started limits c) events
+
+-- ---- after these turns
+
+-- The client as its own entries left it, and its lines.
+pub record Lived : Type 0 where
+  pub client : Client
+  pub past : List Line
+
+abbrev pub lives_turn : At → List Entry → Lived → Lived
+lives_turn at es lived = record { client = turn lived.client es; past = with_turn at es lived.past }
+
+abbrev pub lives_on : Limits → ℕ → Lived → List Happens → Lived
+lives_on limits c lived [] = lived
+lives_on limits c lived (h ∷ more) =
+    lives_on limits c (lives_turn (turn_at c h.stamp) (row limits (turn_at c h.stamp) h.event lived.client) lived) more
+
+abbrev pub lived : Limits → ℕ → List Happens → Lived
+lived limits c events = lives_on limits c (record { client = started limits c; past = [] }) events
+
+-- what the fields say of the past is what its own entries made
+abbrev pub Agrees : Limits → ℕ → List Happens → Type 0
+Agrees limits c events = client_at limits c (lived limits c events).past ≡ (lived limits c events).client
