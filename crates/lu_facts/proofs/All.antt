@@ -4,7 +4,7 @@ use Rattle.lu_base.specs.declared.ids.Node.{Node}
 use Rattle.lu_base.specs.declared.ids.Stamp.{Stamp}
 use Rattle.lu_words.specs.Words.{Entry, Line, line}
 use Rattle.lu_words.specs.Concerns.{only}
-use Rattle.lu_table.specs.Runs.{Head}
+use Rattle.lu_covered.specs.Runs.{Head}
 use Rattle.lu_guards.proofs.Guards.{EntryOf, Allowed, Grown, GrownOf}
 use Rattle.lu_guards.proofs.Only.{grown_of}
 use Rattle.lu_facts.proofs.Groups.{turn, HoldsAt, Reaches, Holds}

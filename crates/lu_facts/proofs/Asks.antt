@@ -14,9 +14,9 @@ use Rattle.lu_msg.specs.declared.operations.Op.{Op}
 use Rattle.lu_words.specs.Carried.{Unasked, Asked, Answered, Queued, Flight, Work, Running}
 use Rattle.lu_words.specs.Words.{Entry, Tick, Begin, Stands, Queues, Flies, Heard, Told, Line, line}
 use Rattle.lu_words.specs.Concerns.{only}
-use Rattle.lu_client_rows.specs.Calls.{asks, asks_for, call_after, call_at}
-use Rattle.lu_client_rows.specs.Imports.{rest, queue_at, without_flight, flights_at}
-use Rattle.lu_table.specs.Runs.{Head}
+use Rattle.lu_covered.specs.Calls.{asks, asks_for, call_after, call_at}
+use Rattle.lu_covered.specs.Imports.{rest, queue_at, without_flight, flights_at}
+use Rattle.lu_covered.specs.Runs.{Head}
 use Rattle.lu_guards.proofs.Guards.{In, QueuesOk, FliesOk, EntryOk}
 use Rattle.lu_guards.proofs.Lists.{self, in_append, in_filter}
 use Rattle.lu_guards.proofs.Parts.{queue_is, flights_is}

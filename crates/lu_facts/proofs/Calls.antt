@@ -9,7 +9,7 @@ use Rattle.lu_base.specs.declared.ids.Stamp.{Stamp}
 use Rattle.lu_words.specs.Carried.{Asking, Unasked, Asked, Answered, Running}
 use Rattle.lu_words.specs.Words.{Entry, Tick, Begin, Stands, Queues, Heard, Told, Line, line}
 use Rattle.lu_words.specs.Fields.{on}
-use Rattle.lu_client_rows.specs.Calls.{begun, asks, asks_for, reads_call, call_after, call_at}
+use Rattle.lu_covered.specs.Calls.{begun, asks, asks_for, reads_call, call_after, call_at}
 use Rattle.lu_guards.proofs.Guards.{EntryOk}
 use Rattle.lu_facts.proofs.Groups.{turn}
 

@@ -15,12 +15,12 @@ use Rattle.lu_msg.specs.declared.messages.Reply.{Reply as ReplyTo}
 use Rattle.lu_msg.specs.declared.messages.Request.{Request as RequestOf}
 use Rattle.lu_words.specs.Carried.{Deed, Flight, Slot}
 use Rattle.lu_words.specs.Words.{Entry, Flies, Send, Act, Txn as Made, Commit, Boot, Enters, Line, line, same_life}
-use Rattle.lu_target_rows.specs.Parts.{is_request_of, without_request, entered, answered, is_slot_of}
-use Rattle.lu_target_rows.specs.States.{none, server_of, slot_of, next_number}
-use Rattle.lu_target_rows.specs.Rows.{deed, again}
-use Rattle.lu_client_rows.specs.Calls.{first_life}
-use Rattle.lu_client_rows.specs.States.{known_of, life_of}
-use Rattle.lu_table.specs.Runs.{Head}
+use Rattle.lu_covered.specs.TargetParts.{is_request_of, without_request, entered, answered, is_slot_of}
+use Rattle.lu_covered.specs.TargetStates.{none, server_of, slot_of, next_number}
+use Rattle.lu_covered.specs.TargetRows.{deed, again}
+use Rattle.lu_covered.specs.Calls.{first_life}
+use Rattle.lu_covered.specs.ClientStates.{known_of, life_of}
+use Rattle.lu_covered.specs.Runs.{Head}
 use Rattle.lu_guards.proofs.Guards.{In, Was, AskOk, EntersOk, SendOf, EntryOf}
 use Rattle.lu_guards.proofs.Lists.{self, in_append, in_filter, life_is}
 use Rattle.lu_facts.proofs.Groups.{turn, Flew, Acted, Phase, Numbers, first_request, FlewFor, Meant, Waits, Done}

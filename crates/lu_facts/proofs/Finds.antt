@@ -22,12 +22,12 @@ use Rattle.lu_words.specs.Carried.{Deed, Queued, Flight, Asking, Asked as IsOut,
 use Rattle.lu_words.specs.Words.{Entry, Tick, Begin, Told, Stands, Queues, Flies, Heard, Act, Txn as Made, Line, line}
 use Rattle.lu_words.specs.Concerns.{only}
 use Rattle.lu_words.specs.Sent.{Sent}
-use Rattle.lu_target_rows.specs.Parts.{operation}
-use Rattle.lu_target_rows.specs.States.{none, count_at, tree_at, server_of}
-use Rattle.lu_target_rows.specs.Rows.{asked}
-use Rattle.lu_client_rows.specs.Calls.{asks, asks_for, call_at, operation_of}
-use Rattle.lu_client_rows.specs.States.{queue_of}
-use Rattle.lu_table.specs.Runs.{Head, IsAsked, NeedsNoLock}
+use Rattle.lu_covered.specs.TargetParts.{operation}
+use Rattle.lu_covered.specs.TargetStates.{none, count_at, tree_at, server_of}
+use Rattle.lu_covered.specs.TargetRows.{asked}
+use Rattle.lu_covered.specs.Calls.{asks, asks_for, call_at, operation_of}
+use Rattle.lu_covered.specs.ClientStates.{queue_of}
+use Rattle.lu_covered.specs.Runs.{Head, IsAsked, NeedsNoLock}
 use Rattle.lu_guards.proofs.Guards.{In, Was, EntryOk, Allowed, Grown, TxnOk}
 use Rattle.lu_guards.proofs.Parts.{queue_is, count_is, tree_is}
 use Rattle.lu_facts.proofs.Groups.{turn, Flew, Acted, CallOf}

@@ -15,12 +15,12 @@ use Rattle.lu_msg.specs.declared.operations.Op.{Op}
 use Rattle.lu_words.specs.Carried.{Deed, Queued, Flight, Asked, Answered, Running}
 use Rattle.lu_words.specs.Words.{Flies, Heard, Act, Txn, Line, turn_before}
 use Rattle.lu_words.specs.Concerns.{only}
-use Rattle.lu_target_rows.specs.States.{none, server_of, slot_of}
-use Rattle.lu_target_rows.specs.Rows.{again}
-use Rattle.lu_client_rows.specs.Calls.{first_life, call_at, operation_of}
-use Rattle.lu_client_rows.specs.Imports.{queue_at, flights_at}
-use Rattle.lu_client_rows.specs.States.{flights_of, last_of, known_of, life_of, tag_of}
-use Rattle.lu_table.specs.Runs.{Head}
+use Rattle.lu_covered.specs.TargetStates.{none, server_of, slot_of}
+use Rattle.lu_covered.specs.TargetRows.{again}
+use Rattle.lu_covered.specs.Calls.{first_life, call_at, operation_of}
+use Rattle.lu_covered.specs.Imports.{queue_at, flights_at}
+use Rattle.lu_covered.specs.ClientStates.{flights_of, last_of, known_of, life_of, tag_of}
+use Rattle.lu_covered.specs.Runs.{Head}
 use Rattle.lu_guards.proofs.Guards.{In, Was}
 
 abbrev pub turn : Stamp → Node → At

@@ -11,9 +11,9 @@ use Rattle.lu_base.specs.declared.ids.Stamp.{Stamp}
 use Rattle.lu_msg.specs.declared.messages.Reply.{Reply as ReplyTo}
 use Rattle.lu_words.specs.Carried.{Flight}
 use Rattle.lu_words.specs.Words.{Entry, Flies, Heard, Line, line}
-use Rattle.lu_client_rows.specs.Imports.{without_flight, has_tag, above_tags, free_from, free_tag}
-use Rattle.lu_client_rows.specs.States.{flights_of, last_of, tag_of}
-use Rattle.lu_table.specs.Runs.{Head}
+use Rattle.lu_covered.specs.Imports.{without_flight, has_tag, above_tags, free_from, free_tag}
+use Rattle.lu_covered.specs.ClientStates.{flights_of, last_of, tag_of}
+use Rattle.lu_covered.specs.Runs.{Head}
 use Rattle.lu_guards.proofs.Guards.{In, FliesOk, EntryOf}
 use Rattle.lu_guards.proofs.Lists.{in_append, in_filter}
 use Rattle.lu_facts.proofs.Groups.{turn, Flew, Hears, Tagged, Numbers, Room}

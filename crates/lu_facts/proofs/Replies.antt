@@ -10,10 +10,10 @@ use Rattle.lu_msg.specs.declared.operations.Op.{Op}
 use Rattle.lu_words.specs.Carried.{Deed, Flight, Answered, Running}
 use Rattle.lu_words.specs.Words.{Entry, Queues, Heard, Line, line}
 use Rattle.lu_words.specs.Concerns.{only}
-use Rattle.lu_client_rows.specs.Calls.{call_at, operation_of}
-use Rattle.lu_client_rows.specs.Imports.{flights_at}
-use Rattle.lu_client_rows.specs.States.{flights_of}
-use Rattle.lu_table.specs.Runs.{Head}
+use Rattle.lu_covered.specs.Calls.{call_at, operation_of}
+use Rattle.lu_covered.specs.Imports.{flights_at}
+use Rattle.lu_covered.specs.ClientStates.{flights_of}
+use Rattle.lu_covered.specs.Runs.{Head}
 use Rattle.lu_guards.proofs.Guards.{In, HeardOk, EntryOk}
 use Rattle.lu_guards.proofs.Lists.{self}
 use Rattle.lu_guards.proofs.Parts.{flights_is}

@@ -9,10 +9,10 @@ use Rattle.lu_base.specs.declared.ids.Stamp.{Stamp}
 use Rattle.lu_words.specs.Carried.{Deed, Flight, Running}
 use Rattle.lu_words.specs.Words.{Entry, Tick, Flies, Heard, Line, line, turn_before}
 use Rattle.lu_words.specs.Concerns.{only}
-use Rattle.lu_client_rows.specs.Calls.{call_at}
-use Rattle.lu_client_rows.specs.Imports.{without_flight, flights_at}
-use Rattle.lu_client_rows.specs.States.{last_of}
-use Rattle.lu_table.specs.Runs.{Head}
+use Rattle.lu_covered.specs.Calls.{call_at}
+use Rattle.lu_covered.specs.Imports.{without_flight, flights_at}
+use Rattle.lu_covered.specs.ClientStates.{last_of}
+use Rattle.lu_covered.specs.Runs.{Head}
 use Rattle.lu_guards.proofs.Guards.{In, Steps, EntryOk}
 use Rattle.lu_guards.proofs.Lists.{self, in_append, in_filter, turn_trans}
 use Rattle.lu_facts.proofs.Groups.{turn, Acted, HoldsAt, CallOf, Asks, Upto, Reached, Reaches, Since}

@@ -8,11 +8,11 @@ use Rattle.lu_words.specs.Carried.{Slot, Running}
 use Rattle.lu_words.specs.Words.{Entry, Begin, Heard, Told, Life, Die, Queues, Flies, Knows, Stands, Act, Txn, Commit, Boot, Enters, Line, line, with_turn, is_client, is_target}
 use Rattle.lu_words.specs.Concerns.{is_about}
 use Rattle.lu_words.specs.Fields.{on}
-use Rattle.lu_target_rows.specs.Parts.{slot_after}
-use Rattle.lu_target_rows.specs.States.{Server, server_at, slot_at, server_after, server_turn, slot_turn}
-use Rattle.lu_client_rows.specs.Calls.{call_at, calls_at, calls_after, calls_turn, is_dead}
-use Rattle.lu_client_rows.specs.Imports.{queue_after, flights_after}
-use Rattle.lu_client_rows.specs.States.{Asker, asker_at, asker_after, asker_turn}
+use Rattle.lu_covered.specs.TargetParts.{slot_after}
+use Rattle.lu_covered.specs.TargetStates.{Server, server_at, slot_at, server_after, server_turn, slot_turn}
+use Rattle.lu_covered.specs.Calls.{call_at, calls_at, calls_after, calls_turn, is_dead}
+use Rattle.lu_covered.specs.Imports.{queue_after, flights_after}
+use Rattle.lu_covered.specs.ClientStates.{Asker, asker_at, asker_after, asker_turn}
 
 -- ---- what a client asks of a target
 
@@ -109,7 +109,7 @@ dead_lives c past at (e ∷ es) lives = by e lives (λ e l. dead_lives c (line a
 
 -- ---- a target
 
-server_line : (osts t : ℕ) (past : List Line) (at : At) (e : Entry) → is_target t at.node ≡ true → server_at osts t (line at e ∷ past) ≡ server_after osts (server_at osts t past) e
+pub server_line : (osts t : ℕ) (past : List Line) (at : At) (e : Entry) → is_target t at.node ≡ true → server_at osts t (line at e ∷ past) ≡ server_after osts (server_at osts t past) e
 server_line osts t past at (Boot boot disk) mine = rw mine refl
 server_line osts t past at (Commit to batch) mine = rw mine refl
 server_line osts t past at (Enters r) mine = rw mine refl
@@ -121,7 +121,7 @@ pub server_own : (osts t : ℕ) (past : List Line) (at : At) (es : List Entry) �
 server_own osts t past at [] mine = refl
 server_own osts t past at (e ∷ es) mine = server_own osts t (line at e ∷ past) at es mine ∙ ap (λ (v : Server). server_turn osts v es) (server_line osts t past at e mine)
 
-server_left : (osts t : ℕ) (past : List Line) (at : At) (e : Entry) → is_target t at.node ≡ false → server_at osts t (line at e ∷ past) ≡ server_at osts t past
+pub server_left : (osts t : ℕ) (past : List Line) (at : At) (e : Entry) → is_target t at.node ≡ false → server_at osts t (line at e ∷ past) ≡ server_at osts t past
 server_left osts t past at (Boot boot disk) other = rw other refl
 server_left osts t past at (Commit to batch) other = rw other refl
 server_left osts t past at (Enters r) other = rw other refl
@@ -134,7 +134,7 @@ pub server_other : (osts t : ℕ) (past : List Line) (at : At) (es : List Entry)
 server_other osts t past at [] other = refl
 server_other osts t past at (e ∷ es) other = server_other osts t (line at e ∷ past) at es other ∙ server_left osts t past at e other
 
-slot_line : (who : Who) (tag t : ℕ) (past : List Line) (at : At) (e : Entry) → is_target t at.node ≡ true → slot_at who tag t (line at e ∷ past) ≡ slot_after who tag (slot_at who tag t past) e
+pub slot_line : (who : Who) (tag t : ℕ) (past : List Line) (at : At) (e : Entry) → is_target t at.node ≡ true → slot_at who tag t (line at e ∷ past) ≡ slot_after who tag (slot_at who tag t past) e
 slot_line who tag t past at (Enters r) mine = rw mine refl
 slot_line who tag t past at (Act d) mine = rw mine refl
 slot_line who tag t past at (Txn d) mine = rw mine refl
@@ -144,7 +144,7 @@ pub slot_own : (who : Who) (tag t : ℕ) (past : List Line) (at : At) (es : List
 slot_own who tag t past at [] mine = refl
 slot_own who tag t past at (e ∷ es) mine = slot_own who tag t (line at e ∷ past) at es mine ∙ ap (λ (s : Slot). slot_turn who tag s es) (slot_line who tag t past at e mine)
 
-slot_left : (who : Who) (tag t : ℕ) (past : List Line) (at : At) (e : Entry) → is_target t at.node ≡ false → slot_at who tag t (line at e ∷ past) ≡ slot_at who tag t past
+pub slot_left : (who : Who) (tag t : ℕ) (past : List Line) (at : At) (e : Entry) → is_target t at.node ≡ false → slot_at who tag t (line at e ∷ past) ≡ slot_at who tag t past
 slot_left who tag t past at (Enters r) other = rw other refl
 slot_left who tag t past at (Act d) other = rw other refl
 slot_left who tag t past at (Txn d) other = rw other refl

@@ -19,12 +19,12 @@ use Rattle.lu_words.specs.Carried.{Deed, Queued, Flight, Unasked, Answered, Work
 use Rattle.lu_words.specs.Words.{Entry, Begin, Busy, Queues, Flies, Send, Take, Tick, Heard, Told, Die, Act, Txn, Grant, Enters, Line, line, turn_before}
 use Rattle.lu_words.specs.Concerns.{concerns, only}
 use Rattle.lu_words.specs.Sent.{Sent}
-use Rattle.lu_target_rows.specs.States.{none, server_of, slot_of, next_number}
-use Rattle.lu_target_rows.specs.Rows.{asked, deed, again}
-use Rattle.lu_client_rows.specs.Calls.{begun, call_at, operation_of}
-use Rattle.lu_client_rows.specs.States.{queue_of, flights_of, last_of, known_of, life_of}
-use Rattle.lu_client_rows.specs.Rows.{next_flight}
-use Rattle.lu_table.specs.Runs.{Head, IsAlive, IsAsked}
+use Rattle.lu_covered.specs.TargetStates.{none, server_of, slot_of, next_number}
+use Rattle.lu_covered.specs.TargetRows.{asked, deed, again}
+use Rattle.lu_covered.specs.Calls.{begun, call_at, operation_of}
+use Rattle.lu_covered.specs.ClientStates.{queue_of, flights_of, last_of, known_of, life_of}
+use Rattle.lu_covered.specs.ClientRows.{next_flight}
+use Rattle.lu_covered.specs.Runs.{Head, IsAlive, IsAsked}
 
 abbrev pub In : {A : Type 0} → A → List A → Type 0
 In x [] = ⊥

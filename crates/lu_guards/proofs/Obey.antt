@@ -5,7 +5,7 @@ use Rattle.std.proofs.lemmas.Bool.{cond-true}
 use Rattle.lu_base.specs.declared.ids.At.{At}
 use Rattle.lu_words.specs.Words.{Entry, Line, line, with_turn, turn_before}
 use Rattle.lu_words.specs.Concerns.{concerns, only, about}
-use Rattle.lu_table.specs.Runs.{Head, row, Turn, lines_of, Follows, IsRun}
+use Rattle.lu_covered.specs.Runs.{Head, row, Turn, lines_of, Follows, IsRun}
 use Rattle.lu_guards.proofs.Guards.{Later, Steps, EntryOf, Grown}
 use Rattle.lu_guards.proofs.Lists.{turn_trans}
 use Rattle.lu_guards.proofs.ObeyWhole.{AllOk, row_ok}

@@ -18,16 +18,16 @@ use Rattle.lu_machine.specs.Tree.{Tree}
 use Rattle.lu_words.specs.Carried.{Slot, Queued, Flight, Running}
 use Rattle.lu_words.specs.Words.{Entry, Begin, Queues, Flies, Take, Tick, Heard, Told, Enters, Line, line, with_turn, same_life}
 use Rattle.lu_words.specs.Concerns.{concerns, only, about}
-use Rattle.lu_target_rows.specs.Parts.{is_slot_of, answered}
-use Rattle.lu_target_rows.specs.States.{Server, none, slot_at, slot_of, server_of, next_number}
-use Rattle.lu_target_rows.specs.Rows as target
-use Rattle.lu_target_rows.specs.Rows.{asked, deed, again, row_executes, row_enters, row_kept, by_number, makes}
-use Rattle.lu_client_rows.specs.Calls.{begun, call_at, calls_at, call_on, operation_of}
-use Rattle.lu_client_rows.specs.Imports.{rest, without_flight}
-use Rattle.lu_client_rows.specs.States.{Asker, asker_at, queue_of, flights_of, last_of, known_of, life_of}
-use Rattle.lu_client_rows.specs.Rows as client
-use Rattle.lu_client_rows.specs.Rows.{next_flight, row_sent, row_sends, row_rests, row_asks, row_call, find_flight, row_told, row_tells, row_heard, row_fits, row_hears, row_reply, row_resends}
-use Rattle.lu_table.specs.Runs.{Head, NeedsNoLock, MayReach, Meets, Event, Begins, Comes, Ticks, Dies, row}
+use Rattle.lu_covered.specs.TargetParts.{is_slot_of, answered}
+use Rattle.lu_covered.specs.TargetStates.{Server, none, slot_at, slot_of, server_of, next_number}
+use Rattle.lu_covered.specs.TargetRows as target
+use Rattle.lu_covered.specs.TargetRows.{asked, deed, again, row_executes, row_enters, row_kept, by_number, makes}
+use Rattle.lu_covered.specs.Calls.{begun, call_at, calls_at, call_on, operation_of}
+use Rattle.lu_covered.specs.Imports.{rest, without_flight}
+use Rattle.lu_covered.specs.ClientStates.{Asker, asker_at, queue_of, flights_of, last_of, known_of, life_of}
+use Rattle.lu_covered.specs.ClientRows as client
+use Rattle.lu_covered.specs.ClientRows.{next_flight, row_sent, row_sends, row_rests, row_asks, row_call, find_flight, row_told, row_tells, row_heard, row_fits, row_hears, row_reply, row_resends}
+use Rattle.lu_covered.specs.Runs.{Head, NeedsNoLock, MayReach, Meets, Event, Begins, Comes, Ticks, Dies, row}
 use Rattle.lu_guards.proofs.Guards.{In, Was, EntryOf}
 use Rattle.lu_guards.proofs.Lists.{self, in_right, life_is, turn}
 use Rattle.lu_guards.proofs.Only.{about_own, about_other, asked_target, told_by_target}

@@ -19,16 +19,16 @@ use Rattle.lu_words.specs.Carried.{Slot, Deed, Queued, Flight, Asking, Answered,
 use Rattle.lu_words.specs.Words.{Entry, Begin, Queues, Flies, Send, Take, Tick, Heard, Told, Act, Txn, Enters, Line, line, with_turn, same_life}
 use Rattle.lu_words.specs.Concerns.{only}
 use Rattle.lu_words.specs.Sent.{Sent}
-use Rattle.lu_target_rows.specs.Parts.{is_slot_of, answered}
-use Rattle.lu_target_rows.specs.States.{Server, none, slot_at, slot_of, server_at, next_number}
-use Rattle.lu_target_rows.specs.Rows as target
-use Rattle.lu_target_rows.specs.Rows.{asked, deed, again, row_executes, row_enters, row_kept, by_number}
-use Rattle.lu_client_rows.specs.Calls.{asks, asks_for, begun, call_at, calls_at, call_on, is_dead, operation_of}
-use Rattle.lu_client_rows.specs.Imports.{without_flight}
-use Rattle.lu_client_rows.specs.States.{Asker, asker_at}
-use Rattle.lu_client_rows.specs.Rows as client
-use Rattle.lu_client_rows.specs.Rows.{next_flight, row_sent, row_sends, row_rests, row_asks, row_call, find_flight, row_told, row_tells, row_heard, row_fits, row_hears, row_reply, row_resends}
-use Rattle.lu_table.specs.Runs.{Head, IsAlive, MayBegin, MayCome, MayReach, Meets, Event, Begins, Comes, Ticks, Dies, row}
+use Rattle.lu_covered.specs.TargetParts.{is_slot_of, answered}
+use Rattle.lu_covered.specs.TargetStates.{Server, none, slot_at, slot_of, server_at, next_number}
+use Rattle.lu_covered.specs.TargetRows as target
+use Rattle.lu_covered.specs.TargetRows.{asked, deed, again, row_executes, row_enters, row_kept, by_number}
+use Rattle.lu_covered.specs.Calls.{asks, asks_for, begun, call_at, calls_at, call_on, is_dead, operation_of}
+use Rattle.lu_covered.specs.Imports.{without_flight}
+use Rattle.lu_covered.specs.ClientStates.{Asker, asker_at}
+use Rattle.lu_covered.specs.ClientRows as client
+use Rattle.lu_covered.specs.ClientRows.{next_flight, row_sent, row_sends, row_rests, row_asks, row_call, find_flight, row_told, row_tells, row_heard, row_fits, row_hears, row_reply, row_resends}
+use Rattle.lu_covered.specs.Runs.{Head, IsAlive, MayBegin, MayCome, MayReach, Meets, Event, Begins, Comes, Ticks, Dies, row}
 use Rattle.lu_guards.proofs.Guards.{Later, EntryOk, LivesAt, Grown}
 use Rattle.lu_guards.proofs.Lists.{self, turn}
 use Rattle.lu_guards.proofs.Parts.{slot_is}

@@ -9,7 +9,7 @@ use Rattle.lu_msg.specs.declared.messages.Message.{Message}
 use Rattle.lu_words.specs.Words.{Entry, Send, Line, line, with_turn}
 use Rattle.lu_words.specs.Concerns.{concerns, only, about}
 use Rattle.lu_words.specs.Sent.{Sent}
-use Rattle.lu_table.specs.Runs.{Head}
+use Rattle.lu_covered.specs.Runs.{Head}
 use Rattle.lu_guards.proofs.Guards.{Was, Grown, GrownOf}
 use Rattle.lu_guards.proofs.Lists.{self}
 

@@ -13,11 +13,11 @@ use Rattle.lu_words.specs.Carried.{Slot, Queued, Flight}
 use Rattle.lu_words.specs.Words.{Entry, Heard, Life, Queues, Flies, Knows, Act, Txn, Commit, Boot, Enters, Line, line, is_client, is_target}
 use Rattle.lu_words.specs.Concerns.{is_about, concerns, only}
 use Rattle.lu_words.specs.Fields.{on, at_target, at_import}
-use Rattle.lu_target_rows.specs.Parts.{reads_boot, boot_after, reads_count, count_after, reads_committed, committed_after, reads_tree, tree_after, Logged, reads_log, log_after, reads_waiting, waiting_after, no_slot, reads_slot, slot_after}
-use Rattle.lu_target_rows.specs.States.{Server, boot_at, count_at, committed_at, tree_at, log_at, waiting_at, slot_at, server_at, server_after, server_of, slot_of}
-use Rattle.lu_client_rows.specs.Calls.{reads_life, life_after, life_at}
-use Rattle.lu_client_rows.specs.Imports.{reads_queue, queue_after, queue_at, reads_flights, flights_after, flights_at, reads_last, last_after, last_at, reads_known, known_after, known_at}
-use Rattle.lu_client_rows.specs.States.{Asker, asker_at, queue_of, flights_of, last_of, known_of, life_of}
+use Rattle.lu_covered.specs.TargetParts.{reads_boot, boot_after, reads_count, count_after, reads_committed, committed_after, reads_tree, tree_after, Logged, reads_log, log_after, reads_waiting, waiting_after, no_slot, reads_slot, slot_after}
+use Rattle.lu_covered.specs.TargetStates.{Server, boot_at, count_at, committed_at, tree_at, log_at, waiting_at, slot_at, server_at, server_after, server_of, slot_of}
+use Rattle.lu_covered.specs.Calls.{reads_life, life_after, life_at}
+use Rattle.lu_covered.specs.Imports.{reads_queue, queue_after, queue_at, reads_flights, flights_after, flights_at, reads_last, last_after, last_at, reads_known, known_after, known_at}
+use Rattle.lu_covered.specs.ClientStates.{Asker, asker_at, queue_of, flights_of, last_of, known_of, life_of}
 use Rattle.lu_guards.proofs.Lists.{turn}
 
 -- ---- a field of a target

@@ -13,8 +13,8 @@ use Rattle.lu_words.specs.Carried.{Deed, Flight}
 use Rattle.lu_words.specs.Words.{Entry, Heard, Told, Act, Txn as Made, Line, line}
 use Rattle.lu_words.specs.Concerns.{concerns, only}
 use Rattle.lu_words.specs.Printed.{printed}
-use Rattle.lu_client_rows.specs.Calls.{first_life}
-use Rattle.lu_table.specs.Runs.{Head}
+use Rattle.lu_covered.specs.Calls.{first_life}
+use Rattle.lu_covered.specs.Runs.{Head}
 use Rattle.lu_laws.specs.Pasts as pasts
 use Rattle.lu_laws.specs.Pasts.{Past, UpTo, HeardIn, same_turn}
 use Rattle.lu_laws.specs.Lives.{life}

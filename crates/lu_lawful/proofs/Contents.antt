@@ -12,9 +12,9 @@ use Rattle.lu_machine.specs.Footprint.{after}
 use Rattle.lu_words.specs.Carried.{Deed}
 use Rattle.lu_words.specs.Words.{Entry, Life, Act, Txn as Made, Commit, Boot, Close, Evict, Fail, Line, line}
 use Rattle.lu_words.specs.Printed.{printed}
-use Rattle.lu_target_rows.specs.Parts.{operation}
-use Rattle.lu_target_rows.specs.States.{boot_at, count_at, tree_at, server_at}
-use Rattle.lu_table.specs.Runs.{Head}
+use Rattle.lu_covered.specs.TargetParts.{operation}
+use Rattle.lu_covered.specs.TargetStates.{boot_at, count_at, tree_at, server_at}
+use Rattle.lu_covered.specs.Runs.{Head}
 use Rattle.lu_laws.specs.Pasts.{is_target}
 use Rattle.lu_laws.specs.Lives.{life, is_gone}
 use Rattle.lu_laws.specs.Boots.{boot, committed, greatest}

@@ -9,10 +9,10 @@ use Rattle.lu_machine.proofs.Numbers.{number_is_free}
 use Rattle.lu_words.specs.Carried.{Deed}
 use Rattle.lu_words.specs.Words.{Act, Txn as Made, Line}
 use Rattle.lu_words.specs.Concerns.{only}
-use Rattle.lu_target_rows.specs.Parts.{operation}
-use Rattle.lu_target_rows.specs.States.{Server, none, server_at, server_of, next_number, seen_in}
-use Rattle.lu_target_rows.specs.Rows.{asked}
-use Rattle.lu_table.specs.Runs.{Head}
+use Rattle.lu_covered.specs.TargetParts.{operation}
+use Rattle.lu_covered.specs.TargetStates.{Server, none, server_at, server_of, next_number, seen_in}
+use Rattle.lu_covered.specs.TargetRows.{asked}
+use Rattle.lu_covered.specs.Runs.{Head}
 use Rattle.lu_guards.proofs.Guards.{Allowed, ActOk, TxnOk}
 use Rattle.lu_guards.proofs.Parts.{server_is}
 use Rattle.lu_facts.proofs.Groups.{turn}

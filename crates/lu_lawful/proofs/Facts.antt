@@ -8,7 +8,7 @@ use Rattle.lu_msg.specs.declared.answers.Answer.{Answer}
 use Rattle.lu_words.specs.Carried.{Deed}
 use Rattle.lu_words.specs.Words.{Told, Act, Txn as Made, Line}
 use Rattle.lu_words.specs.Printed.{printed}
-use Rattle.lu_client_rows.specs.Calls.{first_life}
+use Rattle.lu_covered.specs.Calls.{first_life}
 use Rattle.lu_laws.specs.Pasts.{HeardIn, same_turn}
 use Rattle.lu_laws.specs.Requests.{asked}
 use Rattle.lu_facts.proofs.Groups.{Acted}

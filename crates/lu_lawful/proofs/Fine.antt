@@ -19,9 +19,9 @@ use Rattle.lu_machine.specs.Table.{root, look_in, look, there, absent, walk, onw
 use Rattle.lu_machine.specs.Footprint.{answer}
 use Rattle.lu_words.specs.Carried.{Deed}
 use Rattle.lu_words.specs.Words.{Entry, Act, Txn as Made, Line, line}
-use Rattle.lu_target_rows.specs.Parts.{operation}
-use Rattle.lu_target_rows.specs.States.{tree_at}
-use Rattle.lu_table.specs.Runs.{Head}
+use Rattle.lu_covered.specs.TargetParts.{operation}
+use Rattle.lu_covered.specs.TargetStates.{tree_at}
+use Rattle.lu_covered.specs.Runs.{Head}
 use Rattle.lu_laws.specs.Acts.{is_bad_handle, is_end_of_life}
 use Rattle.lu_guards.proofs.Guards.{Allowed, Grown}
 use Rattle.lu_facts.proofs.Groups.{turn, Acted}

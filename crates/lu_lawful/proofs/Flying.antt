@@ -14,10 +14,10 @@ use Rattle.lu_words.specs.Carried.{Flight}
 use Rattle.lu_words.specs.Words.{Entry, Flies, Send, Heard, Line, line}
 use Rattle.lu_words.specs.Concerns.{only}
 use Rattle.lu_words.specs.Printed.{printed}
-use Rattle.lu_client_rows.specs.Calls.{first_life}
-use Rattle.lu_client_rows.specs.Imports.{without_flight, flights_at}
-use Rattle.lu_client_rows.specs.States.{known_of}
-use Rattle.lu_table.specs.Runs.{Head}
+use Rattle.lu_covered.specs.Calls.{first_life}
+use Rattle.lu_covered.specs.Imports.{without_flight, flights_at}
+use Rattle.lu_covered.specs.ClientStates.{known_of}
+use Rattle.lu_covered.specs.Runs.{Head}
 use Rattle.lu_laws.specs.Pasts as pasts
 use Rattle.lu_laws.specs.Lives.{life}
 use Rattle.lu_laws.specs.Requests.{is_of, has_number, without_number, has_heard, in_flight}

@@ -30,10 +30,10 @@ use Rattle.lu_words.specs.Carried.{Deed, Work}
 use Rattle.lu_words.specs.Words.{Entry, Told, Act, Txn as Made, Line, line}
 use Rattle.lu_words.specs.Sent.{count_sent}
 use Rattle.lu_words.specs.Printed.{printed_entry, printed}
-use Rattle.lu_client_rows.specs.Calls.{first_life}
-use Rattle.lu_target_rows.specs.Parts.{operation, logged}
-use Rattle.lu_target_rows.specs.States.{count_at, tree_at, log_at, server_at, seen_in}
-use Rattle.lu_table.specs.Runs.{Head}
+use Rattle.lu_covered.specs.Calls.{first_life}
+use Rattle.lu_covered.specs.TargetParts.{operation, logged}
+use Rattle.lu_covered.specs.TargetStates.{count_at, tree_at, log_at, server_at, seen_in}
+use Rattle.lu_covered.specs.Runs.{Head}
 use Rattle.lu_laws.specs.Lives.{who_is, is_gone}
 use Rattle.lu_laws.specs.Lost.{is_lost}
 use Rattle.lu_laws.specs.Requests.{asked}

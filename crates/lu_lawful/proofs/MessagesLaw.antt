@@ -7,7 +7,7 @@ use Rattle.lu_trace.specs.declared.entries.Entry.{Entry as PrintedEntry}
 use Rattle.lu_words.specs.Words.{Entry, Begin, Send, Take, Tick, Told, Line}
 use Rattle.lu_words.specs.Sent.{count_sent}
 use Rattle.lu_words.specs.Printed.{printed_entry, printed}
-use Rattle.lu_table.specs.Runs.{Head}
+use Rattle.lu_covered.specs.Runs.{Head}
 use Rattle.lu_laws.specs.Messages.{Follows, Lives, Passes, Messages}
 use Rattle.lu_guards.proofs.Guards.{Steps, LivesAt, Allowed, Grown}
 use Rattle.lu_facts.proofs.Groups.{turn}

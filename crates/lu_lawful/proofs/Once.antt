@@ -15,9 +15,9 @@ use Rattle.lu_words.specs.Carried.{Deed, Flight}
 use Rattle.lu_words.specs.Words.{Entry, Act, Txn as Made, Enters, Line, line}
 use Rattle.lu_words.specs.Concerns.{only}
 use Rattle.lu_words.specs.Printed.{printed}
-use Rattle.lu_target_rows.specs.Parts.{is_request_of, without_request}
-use Rattle.lu_target_rows.specs.States.{server_of, waiting_at}
-use Rattle.lu_table.specs.Runs.{Head}
+use Rattle.lu_covered.specs.TargetParts.{is_request_of, without_request}
+use Rattle.lu_covered.specs.TargetStates.{server_of, waiting_at}
+use Rattle.lu_covered.specs.Runs.{Head}
 use Rattle.lu_laws.specs.Requests.{first_request}
 use Rattle.lu_guards.proofs.Guards.{In, Was, Allowed, Grown}
 use Rattle.lu_guards.proofs.Lists.{in_append, in_filter}

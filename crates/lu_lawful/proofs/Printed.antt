@@ -13,8 +13,8 @@ use Rattle.lu_words.specs.Carried.{Asking, Asked, Answered, Running}
 use Rattle.lu_words.specs.Words.{Entry, Begin, Send, Heard, Told, Queues, Stands, Die, Line, line, is_client}
 use Rattle.lu_words.specs.Sent.{count_sent, Sent}
 use Rattle.lu_words.specs.Printed.{printed}
-use Rattle.lu_client_rows.specs.Calls.{asks, asks_for, call_at, is_dead}
-use Rattle.lu_table.specs.Runs.{Head}
+use Rattle.lu_covered.specs.Calls.{asks, asks_for, call_at, is_dead}
+use Rattle.lu_covered.specs.Runs.{Head}
 use Rattle.lu_laws.specs.Pasts.{has_died}
 use Rattle.lu_laws.specs.Pasts as pasts
 use Rattle.lu_laws.specs.Sends.{sends}

@@ -19,9 +19,9 @@ use Rattle.lu_words.specs.Words.{Entry, Send, Take, Act, Txn as Made, Grant, Lin
 use Rattle.lu_words.specs.Concerns.{only}
 use Rattle.lu_words.specs.Sent.{count_sent}
 use Rattle.lu_words.specs.Printed.{printed_entry, printed}
-use Rattle.lu_target_rows.specs.Parts.{operation}
-use Rattle.lu_target_rows.specs.States.{tree_at, log_at, slot_of, count_at, server_at, seen_in}
-use Rattle.lu_table.specs.Runs.{Head}
+use Rattle.lu_covered.specs.TargetParts.{operation}
+use Rattle.lu_covered.specs.TargetStates.{tree_at, log_at, slot_of, count_at, server_at, seen_in}
+use Rattle.lu_covered.specs.Runs.{Head}
 use Rattle.lu_laws.specs.Pasts.{same_turn}
 use Rattle.lu_laws.specs.Sends.{sending, took}
 use Rattle.lu_laws.specs.Requests.{asked}

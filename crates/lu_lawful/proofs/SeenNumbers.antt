@@ -13,9 +13,9 @@ use Rattle.lu_machine.specs.Seen.{meet}
 use Rattle.lu_words.specs.Carried.{Deed}
 use Rattle.lu_words.specs.Words.{Entry, Txn as Made, Line, line}
 use Rattle.lu_words.specs.Printed.{printed}
-use Rattle.lu_target_rows.specs.Parts.{operation, Logged, logged}
-use Rattle.lu_target_rows.specs.States.{tree_at, log_at, server_at, seen_in}
-use Rattle.lu_table.specs.Runs.{Head}
+use Rattle.lu_covered.specs.TargetParts.{operation, Logged, logged}
+use Rattle.lu_covered.specs.TargetStates.{tree_at, log_at, server_at, seen_in}
+use Rattle.lu_covered.specs.Runs.{Head}
 use Rattle.lu_laws.specs.Pasts.{is_target}
 use Rattle.lu_laws.specs.Requests.{asked}
 use Rattle.lu_laws.specs.Boots.{committed}

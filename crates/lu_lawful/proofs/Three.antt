@@ -26,9 +26,9 @@ use Rattle.lu_machine.proofs.Walks.{there_ends, absent_ends, if_empty_ends, walk
 use Rattle.lu_words.specs.Carried.{Deed, Queued, Flight}
 use Rattle.lu_words.specs.Words.{Entry, Flies, Line, line}
 use Rattle.lu_words.specs.Concerns.{only}
-use Rattle.lu_client_rows.specs.Calls.{operation_of}
-use Rattle.lu_client_rows.specs.States.{queue_of}
-use Rattle.lu_table.specs.Runs.{Head}
+use Rattle.lu_covered.specs.Calls.{operation_of}
+use Rattle.lu_covered.specs.ClientStates.{queue_of}
+use Rattle.lu_covered.specs.Runs.{Head}
 use Rattle.lu_guards.proofs.Guards.{In, Allowed, Grown}
 use Rattle.lu_guards.proofs.Parts.{queue_is}
 use Rattle.lu_facts.proofs.Groups.{turn, Flew, Acted, CallOf}

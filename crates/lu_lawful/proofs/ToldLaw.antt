@@ -20,10 +20,10 @@ use Rattle.lu_words.specs.Words.{Entry, Send, Heard, Told, Act, Txn as Made, Lin
 use Rattle.lu_words.specs.Concerns.{only}
 use Rattle.lu_words.specs.Sent.{count_sent}
 use Rattle.lu_words.specs.Printed.{printed_entry, printed}
-use Rattle.lu_client_rows.specs.Calls.{first_life, call_at, operation_of}
-use Rattle.lu_client_rows.specs.Imports.{flights_at}
-use Rattle.lu_client_rows.specs.States.{flights_of}
-use Rattle.lu_table.specs.Runs.{Head, IsHead}
+use Rattle.lu_covered.specs.Calls.{first_life, call_at, operation_of}
+use Rattle.lu_covered.specs.Imports.{flights_at}
+use Rattle.lu_covered.specs.ClientStates.{flights_of}
+use Rattle.lu_covered.specs.Runs.{Head, IsHead}
 use Rattle.lu_laws.specs.Pasts.{Past, UpTo, HeardIn, same_turn}
 use Rattle.lu_laws.specs.Lives.{who_is}
 use Rattle.lu_laws.specs.Requests.{first_request, asked, in_flight}

@@ -2,7 +2,7 @@
 use Rattle.std.proofs.Common.{ℕ, Bool, List}
 use Rattle.lu_base.specs.declared.ids.Who.{Who}
 use Rattle.lu_words.specs.Printed.{printed}
-use Rattle.lu_table.specs.Runs.{Head, IsHead, Turn, lines_of, IsRun}
+use Rattle.lu_covered.specs.Runs.{Head, IsHead, Turn, lines_of, IsRun}
 use Rattle.lu_laws.specs.Lives.{is_gone}
 use Rattle.lu_laws.specs.Lost.{is_lost}
 use Rattle.lu_laws.specs.Acts.{ActsOf}

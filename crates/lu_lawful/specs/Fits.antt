@@ -7,7 +7,7 @@ use Rattle.lu_base.specs.declared.ids.Node.{Node}
 use Rattle.lu_base.specs.declared.ids.Node.TheVariants.{Client, Target}
 use Rattle.lu_base.specs.declared.ids.Who.{Who}
 use Rattle.lu_words.specs.Words.{Told, Act, Txn as Made, Line}
-use Rattle.lu_client_rows.specs.Calls.{first_life}
+use Rattle.lu_covered.specs.Calls.{first_life}
 
 -- these numbers aren't lost
 abbrev pub AllStand : (ℕ → ℕ → Bool) → List ℕ → Type 0

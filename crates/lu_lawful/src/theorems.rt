@@ -4,7 +4,7 @@
 ghost use Rattle.std.specs.Prelude.{List, ℕ, Bool};
 ghost use Rattle.lu_base.specs.declared.ids.Who.{Who};
 ghost use Rattle.lu_words.specs.Printed.{printed};
-ghost use Rattle.lu_table.specs.Runs.{Head, IsHead, Turn, lines_of, IsRun};
+ghost use Rattle.lu_covered.specs.Runs.{Head, IsHead, Turn, lines_of, IsRun};
 ghost use Rattle.lu_laws.specs.Messages.{Messages};
 ghost use Rattle.lu_laws.specs.Acts.{Acts, ActsOf};
 ghost use Rattle.lu_laws.specs.Recovery.{Recovery};

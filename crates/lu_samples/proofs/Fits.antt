@@ -17,7 +17,7 @@ use Rattle.lu_machine.specs.declared.acts.Deed.TheVariants.{Names}
 use Rattle.lu_machine.specs.Machine.{answer}
 use Rattle.lu_words.specs.Words.{Txn, Line}
 use Rattle.lu_words.specs.Printed.{printed}
-use Rattle.lu_table.specs.Runs.{Head, IsHead, Turn, Begins, Comes, lines_of, IsRun}
+use Rattle.lu_covered.specs.Runs.{Head, IsHead, Turn, Begins, Comes, lines_of, IsRun}
 use Rattle.lu_laws.proofs.Words.{turn, who, first, made, up, gone, differ}
 use Rattle.lu_laws.specs.Acts.{ActsOf}
 use Rattle.lu_laws.specs.History.{HistoryOf}

@@ -12,9 +12,9 @@ use Rattle.lu_msg.specs.declared.operations.Op.{Op}
 use Rattle.lu_msg.specs.declared.operations.Op.TheVariants as op
 use Rattle.lu_machine.specs.Footprint.{grants}
 use Rattle.lu_words.specs.Sent.{Sent}
-use Rattle.lu_target_rows.specs.Rows.{asked}
-use Rattle.lu_target_rows.specs.States.{none, tree_at}
-use Rattle.lu_table.specs.Runs.{Head, Turn, Begins, Comes, Meets, lines_of, IsRun}
+use Rattle.lu_covered.specs.TargetRows.{asked}
+use Rattle.lu_covered.specs.TargetStates.{none, tree_at}
+use Rattle.lu_covered.specs.Runs.{Head, Turn, Begins, Comes, Meets, lines_of, IsRun}
 use Rattle.lu_laws.proofs.Words.{turn, first, made, up}
 use Rattle.lu_samples.proofs.Words.{◌then◌, client, target, asks, hears, request_of, answered, makes, name, fid, alive, letter}
 

@@ -10,7 +10,7 @@ use Rattle.lu_msg.specs.declared.messages.Reply.{Reply as ReplyTo}
 use Rattle.lu_msg.specs.declared.operations.Op.{Op}
 use Rattle.lu_msg.specs.declared.operations.Op.TheVariants as op
 use Rattle.lu_words.specs.Printed.{printed}
-use Rattle.lu_table.specs.Runs.{Head, IsHead, Turn, Begins, Comes, lines_of, IsRun}
+use Rattle.lu_covered.specs.Runs.{Head, IsHead, Turn, Begins, Comes, lines_of, IsRun}
 use Rattle.lu_laws.proofs.Words.{first, made, up}
 use Rattle.lu_laws.proofs.RowsReordered.{past}
 use Rattle.lu_laws.specs.Laws.{Lawful}

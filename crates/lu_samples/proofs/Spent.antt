@@ -11,9 +11,9 @@ use Rattle.lu_msg.specs.declared.messages.Reply.{Reply as ReplyTo}
 use Rattle.lu_msg.specs.declared.messages.Request.{Request as RequestOf}
 use Rattle.lu_words.specs.Words.{Entry, Send, Take, Line}
 use Rattle.lu_words.specs.Sent.{Sent}
-use Rattle.lu_target_rows.specs.States.{Server, count_at, server_at, slot_at}
-use Rattle.lu_target_rows.specs.Rows.{again, row_kept, by_number, makes}
-use Rattle.lu_table.specs.Runs.{Head, Comes, Meets, row, row_reached}
+use Rattle.lu_covered.specs.TargetStates.{Server, count_at, server_at, slot_at}
+use Rattle.lu_covered.specs.TargetRows.{again, row_kept, by_number, makes}
+use Rattle.lu_covered.specs.Runs.{Head, Comes, Meets, row, row_reached}
 use Rattle.lu_guards.proofs.Lists.{self}
 
 -- a message that would make a transaction doesn't come any more

@@ -8,7 +8,7 @@ use Rattle.lu_msg.specs.declared.operations.Op.{Op}
 use Rattle.lu_msg.specs.declared.operations.Op.TheVariants as op
 use Rattle.lu_trace.specs.declared.entries.Entry.TheVariants as entry
 use Rattle.lu_words.specs.Printed.{printed}
-use Rattle.lu_table.specs.Runs.{Head, Turn, Begins, Comes, lines_of, IsRun}
+use Rattle.lu_covered.specs.Runs.{Head, Turn, Begins, Comes, lines_of, IsRun}
 use Rattle.lu_laws.specs.Pasts.{Past}
 use Rattle.lu_laws.proofs.Words as trace
 use Rattle.lu_laws.proofs.Words.{turn, first, made, request, reply, heard, txn, up}

@@ -12,9 +12,9 @@ use Rattle.lu_msg.specs.declared.operations.Op.TheVariants as op
 use Rattle.lu_machine.specs.Fits.{answer_fits}
 use Rattle.lu_words.specs.Carried.{Asked}
 use Rattle.lu_words.specs.Words.{Take, Line}
-use Rattle.lu_client_rows.specs.Calls.{call_at}
-use Rattle.lu_client_rows.specs.Imports.{flights_at}
-use Rattle.lu_table.specs.Runs.{Head, Turn, Comes, Meets, row, lines_of}
+use Rattle.lu_covered.specs.Calls.{call_at}
+use Rattle.lu_covered.specs.Imports.{flights_at}
+use Rattle.lu_covered.specs.Runs.{Head, Turn, Comes, Meets, row, lines_of}
 use Rattle.lu_laws.proofs.Words.{turn, first, made}
 use Rattle.lu_samples.proofs.Words.{client, target, asks, hears, running, flight, answered, replies, alive}
 

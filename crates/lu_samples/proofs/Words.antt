@@ -18,8 +18,8 @@ use Rattle.lu_msg.specs.declared.messages.Message.TheVariants.{Request}
 use Rattle.lu_msg.specs.declared.operations.Op.{Op}
 use Rattle.lu_words.specs.Carried.{Deed, Queued, Flight, Unasked, Plain, Running}
 use Rattle.lu_words.specs.Words.{Entry, Begin, Queues, Flies, Send, Take, Heard, Told, Act, Txn, Enters, Line}
-use Rattle.lu_client_rows.specs.Calls.{is_dead}
-use Rattle.lu_table.specs.Runs.{Head, IsAlive, Turn}
+use Rattle.lu_covered.specs.Calls.{is_dead}
+use Rattle.lu_covered.specs.Runs.{Head, IsAlive, Turn}
 use Rattle.lu_laws.proofs.Words.{turn, who, first, up}
 
 -- ---- turns

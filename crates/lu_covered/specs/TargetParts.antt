@@ -1,0 +1,122 @@
+-- What each part of a target is after one of its entries. Each part has a step of its own, entry by entry, and a test
+-- which entries it reads; both have a catch-all last.
+use Rattle.std.specs.Prelude.{ℕ, ◌+◌, Bool, true, false, not, ◌==◌, ◌&&◌, if◌then◌else◌, List, [], ◌∷◌, ◌++◌, filter, Some, None}
+use Rattle.lu_base.specs.declared.ids.Txn.{Txn as TxnOf}
+use Rattle.lu_base.specs.declared.ids.Who.{Who}
+use Rattle.lu_part.specs.declared.parts.Part.{Part}
+use Rattle.lu_msg.specs.declared.commits.Transaction.{Transaction}
+use Rattle.lu_msg.specs.declared.messages.Request.{Request as RequestOf}
+use Rattle.lu_machine.specs.Tree.{Tree}
+use Rattle.lu_machine.specs.Footprint.{Operation, after}
+use Rattle.lu_words.specs.Carried.{Deed, Slot}
+use Rattle.lu_words.specs.Words.{Entry, Act, Txn, Commit, Boot, Enters, same_life}
+
+-- ---- the boot, and the number up to which all is on the disk
+
+abbrev pub reads_boot : Entry → Bool
+reads_boot (Boot boot disk) = true
+reads_boot _ = false
+
+abbrev pub boot_after : ℕ → Entry → ℕ
+boot_after n (Boot boot disk) = boot
+boot_after n _ = n
+
+abbrev pub reads_committed : Entry → Bool
+reads_committed (Commit to batch) = true
+reads_committed _ = false
+
+abbrev pub committed_after : TxnOf → Entry → TxnOf
+committed_after m (Commit to batch) = record { 0 = to }
+committed_after m _ = m
+
+-- ---- how many transactions this boot has made
+
+abbrev pub reads_count : Entry → Bool
+reads_count (Txn d) = true
+reads_count _ = false
+
+abbrev pub count_after : ℕ → Entry → ℕ
+count_after n (Txn d) = n + 1
+count_after n _ = n
+
+-- ---- the tree of the metadata target
+
+-- the operation of a deed, under its number
+abbrev pub operation : Deed → Operation
+operation d = record { number = d.reply.txn; who = d.reply.who; op = d.op }
+
+abbrev pub reads_tree : Entry → Bool
+reads_tree (Txn d) = true
+reads_tree _ = false
+
+abbrev pub tree_after : ℕ → Tree → Entry → Tree
+tree_after osts t (Txn d) = after osts t (operation d)
+tree_after osts t _ = t
+
+-- ---- the transactions that aren't on the disk, in rising number
+
+-- a transaction as it goes to the disk, and what it wrote
+pub record Logged : Type 0 where
+  pub transaction : Transaction
+  pub writes : List Part
+
+abbrev pub transaction_of : Deed → Transaction
+transaction_of d = record { txn = d.reply.txn; who = d.reply.who; xid = d.reply.xid; tag = d.tag; op = d.op }
+
+abbrev pub logged : Deed → Logged
+logged d = record { transaction = transaction_of d; writes = d.writes }
+
+abbrev pub reads_log : Entry → Bool
+reads_log (Txn d) = true
+reads_log _ = false
+
+abbrev pub log_after : List Logged → Entry → List Logged
+log_after log (Txn d) = log ++ logged d ∷ []
+log_after log _ = log
+
+-- ---- requests that were taken and wait to act, in the order in which they came
+
+abbrev pub is_request_of : Deed → RequestOf → Bool
+is_request_of d r = same_life d.reply.who r.who && d.reply.xid.0 == r.xid.0
+
+abbrev pub without_request : Deed → List RequestOf → List RequestOf
+without_request d waiting = filter (λ r. not (is_request_of d r)) waiting
+
+abbrev pub reads_waiting : Entry → Bool
+reads_waiting (Enters r) = true
+reads_waiting (Act d) = true
+reads_waiting (Txn d) = true
+reads_waiting _ = false
+
+abbrev pub waiting_after : List RequestOf → Entry → List RequestOf
+waiting_after waiting (Enters r) = waiting ++ r ∷ []
+waiting_after waiting (Act d) = without_request d waiting
+waiting_after waiting (Txn d) = without_request d waiting
+waiting_after waiting _ = waiting
+
+-- ---- the slot of a life and tag
+
+abbrev pub no_slot : Slot
+no_slot = record { taken = 0; reply = None }
+
+abbrev pub entered : RequestOf → Slot
+entered r = record { taken = r.xid.0; reply = None }
+
+-- its number stays that of the newest request taken
+abbrev pub answered : Deed → Slot → Slot
+answered d slot = record slot { reply = Some d.reply }
+
+abbrev pub is_slot_of : Who → ℕ → Who → ℕ → Bool
+is_slot_of who tag other of_tag = same_life who other && tag == of_tag
+
+abbrev pub reads_slot : Entry → Bool
+reads_slot (Enters r) = true
+reads_slot (Act d) = true
+reads_slot (Txn d) = true
+reads_slot _ = false
+
+abbrev pub slot_after : Who → ℕ → Slot → Entry → Slot
+slot_after who tag slot (Enters r) = if is_slot_of who tag r.who r.tag then entered r else slot
+slot_after who tag slot (Act d) = if is_slot_of who tag d.reply.who d.tag then answered d slot else slot
+slot_after who tag slot (Txn d) = if is_slot_of who tag d.reply.who d.tag then answered d slot else slot
+slot_after who tag slot _ = slot

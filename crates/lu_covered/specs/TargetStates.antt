@@ -1,0 +1,108 @@
+-- A target as its rows read it: its parts together, after a past of all targets and after one of its own alone.
+use Rattle.std.specs.Prelude.{ℕ, ◌+◌, ◌*◌, List, [], ◌∷◌, if◌then◌else◌}
+use Rattle.lu_base.specs.declared.ids.Node.{Node}
+use Rattle.lu_base.specs.declared.ids.Node.TheVariants.{Client, Target}
+use Rattle.lu_base.specs.declared.ids.Txn.{Txn as TxnOf}
+use Rattle.lu_base.specs.declared.ids.Who.{Who}
+use Rattle.lu_part.specs.declared.parts.Part.{Part}
+use Rattle.lu_msg.specs.declared.messages.Request.{Request as RequestOf}
+use Rattle.lu_machine.specs.Tree.{Tree}
+use Rattle.lu_machine.specs.Footprint.{empty}
+use Rattle.lu_machine.specs.Seen.{meet}
+use Rattle.lu_words.specs.Carried.{Slot}
+use Rattle.lu_words.specs.Words.{Entry, Act, Txn, Commit, Boot, Enters, Line}
+use Rattle.lu_words.specs.Fields.{at_target}
+use Rattle.lu_covered.specs.TargetParts.{reads_boot, boot_after, reads_count, count_after, reads_committed, committed_after, reads_tree, tree_after, Logged, reads_log, log_after, reads_waiting, waiting_after, no_slot, reads_slot, slot_after}
+
+pub record Server : Type 0 where
+  pub boot : ℕ
+  pub count : ℕ
+  pub committed : TxnOf
+  pub tree : Tree
+  pub log : List Logged
+  pub waiting : List RequestOf
+
+abbrev pub none : TxnOf
+none = record { 0 = 0 }
+
+-- ---- at a target, after a past
+
+abbrev pub boot_at : ℕ → List Line → ℕ
+boot_at t past = at_target reads_boot boot_after 1 t past
+
+abbrev pub count_at : ℕ → List Line → ℕ
+count_at t past = at_target reads_count count_after 0 t past
+
+abbrev pub committed_at : ℕ → List Line → TxnOf
+committed_at t past = at_target reads_committed committed_after none t past
+
+abbrev pub tree_at : ℕ → ℕ → List Line → Tree
+tree_at osts t past = at_target reads_tree (tree_after osts) empty t past
+
+abbrev pub log_at : ℕ → List Line → List Logged
+log_at t past = at_target reads_log log_after [] t past
+
+abbrev pub waiting_at : ℕ → List Line → List RequestOf
+waiting_at t past = at_target reads_waiting waiting_after [] t past
+
+abbrev pub slot_at : Who → ℕ → ℕ → List Line → Slot
+slot_at who tag t past = at_target reads_slot (slot_after who tag) no_slot t past
+
+abbrev pub server_at : ℕ → ℕ → List Line → Server
+server_at osts t past =
+    record {
+      boot = boot_at t past;
+      count = count_at t past;
+      committed = committed_at t past;
+      tree = tree_at osts t past;
+      log = log_at t past;
+      waiting = waiting_at t past;
+    }
+
+-- ---- after its own entries
+
+abbrev pub server_start : Server
+server_start = record { boot = 1; count = 0; committed = none; tree = empty; log = []; waiting = [] }
+
+abbrev pub server_after : ℕ → Server → Entry → Server
+server_after osts v (Boot boot disk) = record v { boot = boot }
+server_after osts v (Commit to batch) = record v { committed = record { 0 = to } }
+server_after osts v (Enters r) = record v { waiting = waiting_after v.waiting (Enters r) }
+server_after osts v (Act d) = record v { waiting = waiting_after v.waiting (Act d) }
+server_after osts v (Txn d) =
+    record v {
+      count = count_after v.count (Txn d);
+      tree = tree_after osts v.tree (Txn d);
+      log = log_after v.log (Txn d);
+      waiting = waiting_after v.waiting (Txn d);
+    }
+server_after osts v _ = v
+
+abbrev pub server_turn : ℕ → Server → List Entry → Server
+server_turn osts v [] = v
+server_turn osts v (e ∷ es) = server_turn osts (server_after osts v e) es
+
+abbrev pub slot_turn : Who → ℕ → Slot → List Entry → Slot
+slot_turn who tag slot [] = slot
+slot_turn who tag slot (e ∷ es) = slot_turn who tag (slot_after who tag slot e) es
+
+-- ---- of a past that has no other target's lines
+
+abbrev pub server_of : ℕ → List Line → Server
+server_of osts [] = server_start
+server_of osts (l ∷ past) = elim l.at.node [ Client c ↦ server_of osts past | Target t ↦ server_after osts (server_of osts past) l.entry ]
+
+abbrev pub slot_of : Who → ℕ → List Line → Slot
+slot_of who tag [] = no_slot
+slot_of who tag (l ∷ past) = elim l.at.node [ Client c ↦ slot_of who tag past | Target t ↦ slot_after who tag (slot_of who tag past) l.entry ]
+
+-- ---- numbers
+
+-- the next transaction's number: the boot in the high 32 bits, and a count from 1 in it
+abbrev pub next_number : Server → TxnOf
+next_number v = record { 0 = v.boot * 4294967296 + (v.count + 1) }
+
+-- the transactions of the log whose writes meet what is touched, in rising number
+abbrev pub seen_in : List Part → List Logged → List ℕ
+seen_in touched [] = []
+seen_in touched (g ∷ log) = if meet g.writes touched then g.transaction.txn.0 ∷ seen_in touched log else seen_in touched log
