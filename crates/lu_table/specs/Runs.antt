@@ -1,110 +1,89 @@
--- What a run is: turns, each a row over the turns before. Messages may be lost, and come late or again.
-use Rattle.std.specs.Prelude.{◌≡◌, ◌≤◌, ◌<◌, ℕ, true, false, List, [], ◌∷◌, Some}
+-- What a run is: turns, each a row over the turns before. Messages may be lost, and come late or again; targets commit,
+-- crash, boot and close their windows at any time, and their disks may fail.
+use Rattle.std.specs.Prelude.{◌≡◌, ◌≤◌, ◌<◌, ℕ, Bool, true, false, List, [], ◌∷◌, Option, ◌⊎◌}
 use Rattle.lu_base.specs.declared.ids.At.{At}
 use Rattle.lu_base.specs.declared.ids.Node.{Node}
 use Rattle.lu_base.specs.declared.ids.Node.TheVariants.{Client, Target}
-use Rattle.lu_msg.specs.declared.calls.Call.{Call}
-use Rattle.lu_msg.specs.declared.messages.Message.{Message}
-use Rattle.lu_msg.specs.declared.messages.Message.TheVariants.{Request}
-use Rattle.lu_msg.specs.declared.operations.Op.{Op}
-use Rattle.lu_msg.specs.declared.operations.Op.TheVariants as op
 use Rattle.lu_trace.specs.WellFormed.{IsCall}
-use Rattle.lu_machine.specs.Footprint.{grants}
-use Rattle.lu_words.specs.Words.{Entry, Line, with_turn, turn_before}
+use Rattle.lu_words.specs.Words.{Entry, Fail, Line, with_turn, turn_before}
 use Rattle.lu_words.specs.Sent.{Sent}
-use Rattle.lu_target_rows.specs.States.{none, count_at, tree_at, slot_at, server_at}
+use Rattle.lu_target_rows.specs.States.{Setting, Target as TargetState, target_at}
 use Rattle.lu_target_rows.specs.Rows as target
-use Rattle.lu_target_rows.specs.Rows.{asked, makes}
-use Rattle.lu_client_rows.specs.Calls.{call_at, calls_at, is_dead, operation_of}
-use Rattle.lu_client_rows.specs.States.{asker_at}
+use Rattle.lu_target_rows.specs.Disks.{over_disk, row_start}
+use Rattle.lu_client_rows.specs.Calls.{is_dead}
+use Rattle.lu_client_rows.specs.States.{Limits, Client as ClientState, client_at}
 use Rattle.lu_client_rows.specs.Rows as client
+use Rattle.lu_table.specs.Heads.{Head}
 
--- the numbers of a run that its nodes know: clients, object storage targets, and how many requests of one
--- client may be in flight at one target
-pub record Head : Type 0 where
-  pub clients : ℕ
-  pub osts : ℕ
-  pub flight : ℕ
+-- ---- nodes after a past
 
-pub record IsHead (head : Head) : Type 0 where
-  pub clients : 1 ≤ head.clients
-  pub most_clients : head.clients ≤ 16
-  pub osts : 1 ≤ head.osts
-  pub most_osts : head.osts ≤ 8
-  pub flight : 1 ≤ head.flight
-  pub most_flight : head.flight ≤ 8
+abbrev pub limits_of : Head → Limits
+limits_of head = record { osts = head.osts; flight = head.flight; dirty = head.dirty; unused = head.unused }
 
--- what happens to a node: its user begins a call, a message comes, its time goes on, it dies
-pub data Event : Type 0 where
-  Begins : (slot : ℕ) (call : Call) → Event
-  Comes : (number : ℕ) (from : Node) (message : Message) → Event
-  Ticks : Event
-  Dies : Event
+abbrev pub setting_of : Head → ℕ → Setting
+setting_of head t = record { id = t; osts = head.osts; expire = head.expire }
 
--- ---- which calls begin and which events come, so far
+abbrev pub client_of : Head → ℕ → List Line → ClientState
+client_of head c past = client_at (limits_of head) c past
 
--- operations that calls become: all of the metadata target, but for a lookup of the root
-abbrev pub IsAsked : Op → Type 0
-IsAsked (op.Lookup path) = path ≡ [] → ⊥
-IsAsked _ = Unit {0}
+abbrev pub target_of : Head → ℕ → List Line → TargetState
+target_of head t past = target_at (setting_of head t) head.clients past
+
+-- ---- the entries of a turn
+
+-- what happens to a node
+abbrev pub EventAt : Node → Type 0
+EventAt (Client c) = client.Event
+EventAt (Target t) = target.Event
+
+abbrev pub row_at : Head → List Line → At → (node : Node) → EventAt node → List Entry
+row_at head past at (Client c) event = client.row (limits_of head) at event (client_of head c past)
+row_at head past at (Target t) event = target.row (target_of head t past) at event
+
+-- fails: which of the turn's calls to the disk fails, if any; the turn ends there
+abbrev pub row : Head → List Line → (at : At) → EventAt at.node → Option ℕ → List Entry
+row head past at event fails = over_disk fails (row_at head past at at.node event)
+
+-- ---- which events come
+
+-- a disk has failed: the run has ended
+abbrev pub has_failed : List Line → Bool
+has_failed [] = false
+has_failed (l ∷ past) = elim l.entry [ Fail ↦ true | _ ↦ has_failed past ]
 
 pub record IsAlive (head : Head) (past : List Line) (c : ℕ) : Type 0 where
   pub one : c < head.clients
   pub alive : is_dead c past ≡ false
 
-pub record MayBegin (head : Head) (past : List Line) (c slot : ℕ) (begun : Call) : Type 0 where
-  pub client : IsAlive head past c
-  pub small : slot < 4
-  pub limits : IsCall begun
-  pub op : Op
-  pub becomes : operation_of begun ≡ Some op
-  pub asked : IsAsked op
+-- a living client's user begins a call on one of four slots, a message that was sent to it comes, again, late or never, time
+-- goes on, it dies
+abbrev pub MeetsClient : Head → List Line → ℕ → client.Event → Type 0
+MeetsClient head past c (client.Begins slot call) = IsAlive head past c × (slot < 4) × IsCall call
+MeetsClient head past c (client.Comes n from m) = IsAlive head past c × Sent past n from (Client c) m
+MeetsClient head past c client.Ticks = IsAlive head past c
+MeetsClient head past c client.Dies = IsAlive head past c
 
-pub record MayCome (head : Head) (past : List Line) (c t n : ℕ) (m : Message) : Type 0 where
-  pub client : IsAlive head past c
-  pub sent : Sent past n (Target t) (Client c) m
+-- a message comes to a target that is up; time goes on, and commands are given, at any time
+abbrev pub MeetsTarget : Head → List Line → ℕ → target.Event → Type 0
+MeetsTarget head past t (target.Comes n from m) = (t ≤ head.osts) × ((target_of head t past).up ≡ true) × Sent past n from (Target t) m
+MeetsTarget head past t event = t ≤ head.osts
 
--- a new request that would be granted a lock isn't in the table yet: a lookup that finds its name
-abbrev pub NeedsNoLock : Head → List Line → ℕ → Message → Type 0
-NeedsNoLock head past t (Request r) = (slot_at r.who r.tag t past).taken < r.xid.0 → grants head.osts (tree_at head.osts t past) (asked r none) ≡ []
-NeedsNoLock head past t _ = Unit {0}
+abbrev pub Meets : Head → List Line → (node : Node) → EventAt node → Type 0
+Meets head past (Client c) event = MeetsClient head past c event
+Meets head past (Target t) event = MeetsTarget head past t event
 
--- the turn in which a message comes to a target
-abbrev pub row_reached : Head → List Line → At → ℕ → ℕ → Node → Message → List Entry
-row_reached head past at t n from m = target.row_takes head.osts (server_at head.osts t past) (λ who tag. slot_at who tag t past) at n from m
-
--- the count in a transaction's number has 32 bits: where a target has given all numbers of its boot, no turn needs one
-pub record MayReach (head : Head) (past : List Line) (at : At) (t c n : ℕ) (m : Message) : Type 0 where
-  pub names : t ≡ 0
-  pub numbers : makes (row_reached head past at t n (Client c) m) ≡ true → count_at t past < 4294967295
-  pub sent : Sent past n (Client c) (Target t) m
-  pub lock : NeedsNoLock head past t m
-
--- a message goes from a client to a target or back; it was sent before, and may come again, late or never
-abbrev pub Meets : Head → List Line → At → Node → Event → Type 0
-Meets head past at (Client c) (Begins slot call) = MayBegin head past c slot call
-Meets head past at (Client c) (Comes n (Target t) m) = MayCome head past c t n m
-Meets head past at (Client c) Ticks = IsAlive head past c
-Meets head past at (Client c) Dies = IsAlive head past c
-Meets head past at (Target t) (Comes n (Client c) m) = MayReach head past at t c n m
-Meets head past at (Target t) Ticks = t ≤ head.osts
-Meets head past at _ _ = ⊥
-
--- ---- the entries of a turn
-
-abbrev pub row : Head → List Line → At → Node → Event → List Entry
-row head past at (Client c) (Begins slot call) = client.row_call (asker_at head.flight c 0 past) at slot call (call_at c slot past)
-row head past at (Client c) (Comes n (Target t) m) = client.row_takes (asker_at head.flight c t past) (calls_at c past) n (Target t) m
-row head past at (Client c) Ticks = client.row_tick (asker_at head.flight c 0 past)
-row head past at (Client c) Dies = client.row_dies
-row head past at (Target t) (Comes n (Client c) m) = row_reached head past at t n (Client c) m
-row head past at (Target t) Ticks = target.row_tick
-row head past at _ _ = []
+-- a target has numbers left for what the turn makes
+abbrev pub HasNumbers : Head → List Line → At → (node : Node) → EventAt node → Type 0
+HasNumbers head past at (Client c) event = Unit {0}
+HasNumbers head past at (Target t) event = target.overruns (target_of head t past) (row_at head past at (Target t) event) ≡ false
 
 pub record IsRow (head : Head) (past : List Line) (at : At) (entries : List Entry) : Type 0 where
-  pub event : Event
-  pub meets : Meets head past at at.node event
-  pub is : entries ≡ row head past at at.node event
+  pub event : EventAt at.node
+  pub fails : Option ℕ
+  pub goes_on : has_failed past ≡ false
+  pub meets : Meets head past at.node event
+  pub numbers : HasNumbers head past at at.node event
+  pub is : entries ≡ row head past at event fails
 
 -- ---- runs
 
@@ -121,7 +100,18 @@ abbrev pub Follows : List Turn → At → Type 0
 Follows [] at = Unit {0}
 Follows (turn ∷ turns) at = turn_before turn.at at ≡ true
 
+-- a target whose start fails has one line, and the run has no other
+pub record FailsAtStart (head : Head) (turns : List Turn) (turn : Turn) : Type 0 where
+  pub first : turns ≡ []
+  pub target : ℕ
+  pub one : target ≤ head.osts
+  pub node : turn.at.node ≡ Target target
+  pub is : turn.entries ≡ row_start true
+
+abbrev pub IsTurn : Head → List Turn → Turn → Type 0
+IsTurn head turns turn = IsRow head (lines_of turns) turn.at turn.entries ⊎ FailsAtStart head turns turn
+
 -- turns, the newest first
 abbrev pub IsRun : Head → List Turn → Type 0
 IsRun head [] = Unit {0}
-IsRun head (turn ∷ turns) = Follows turns turn.at × IsRow head (lines_of turns) turn.at turn.entries × IsRun head turns
+IsRun head (turn ∷ turns) = Follows turns turn.at × IsTurn head turns turn × IsRun head turns

@@ -1,0 +1,14 @@
+pub mod TargetLines
+pub mod TargetAlike
+pub mod TargetSlots
+pub mod TargetTurns
+pub mod ClientLines
+pub mod ClientAlike
+pub mod ClientTurns
+pub mod ClientSame
+pub mod Heard
+pub mod Between
+pub mod Waiting
+pub mod Small
+pub mod Whole
+pub mod Stated

@@ -1,0 +1,40 @@
+-- Which runs of the whole table the theorem covers so far: the calls that begin look up, make and remove directories, and no
+-- target grants a lock, commits, crashes, boots, closes, passes a command over or fails. Whatever messages are lost, repeated
+-- or late, and whoever dies, is covered.
+use Rattle.std.specs.Prelude.{◌≡◌, List, [], ◌∷◌, Some}
+use Rattle.lu_msg.specs.declared.operations.Op.{Op}
+use Rattle.lu_words.specs.Carried.{Running}
+use Rattle.lu_words.specs.Words.{Entry, Begin, Grant, Commit, Crash, Boot, Close, Skip, Fail, Line}
+use Rattle.lu_table.specs.Heads.{Head}
+use Rattle.lu_covered.specs.Calls.{operation_of}
+use Rattle.lu_table.specs.Runs.{Turn}
+use Rattle.lu_covered.specs.Runs.{IsAsked, Head as CoveredHead, Turn as CoveredTurn}
+
+-- of the calls that begin: lookups but that of the root, mkdir, rmdir
+pub record IsCoveredCall (r : Running) : Type 0 where
+  pub op : Op
+  pub becomes : operation_of r.call ≡ Some op
+  pub asked : IsAsked op
+
+abbrev pub IsCovered : Entry → Type 0
+IsCovered (Begin slot running) = IsCoveredCall running
+IsCovered (Grant lock asked) = ⊥
+IsCovered (Commit to batch) = ⊥
+IsCovered Crash = ⊥
+IsCovered (Boot boot disk) = ⊥
+IsCovered (Close outcome) = ⊥
+IsCovered Skip = ⊥
+IsCovered Fail = ⊥
+IsCovered _ = Unit {0}
+
+abbrev pub AllCovered : List Line → Type 0
+AllCovered [] = Unit {0}
+AllCovered (l ∷ past) = IsCovered l.entry × AllCovered past
+
+-- the numbers that the covered rows know
+abbrev pub covered_head : Head → CoveredHead
+covered_head head = record { clients = head.clients; osts = head.osts; flight = head.flight }
+
+-- a turn of the covered rows as one of the whole table
+abbrev pub turn_of : CoveredTurn → Turn
+turn_of t = record { at = t.at; entries = t.entries }
