@@ -13,9 +13,9 @@ use Rattle.lu_words.specs.Carried.{Flight, Queued, Running}
 use Rattle.lu_words.specs.Words.{Entry, Flies, Send}
 use Rattle.lu_words.specs.Printed.{printed_entry}
 use Rattle.lu_words.specs.Given.{line_of, step_lines, posts_with, step_posts, step_of}
-use Rattle.lu_client_rows.specs.Calls.{call_after, calls_from, calls_after, calls_turn}
-use Rattle.lu_client_rows.specs.States.{Asker, asker_after, asker_turn}
-use Rattle.lu_client_rows.specs.Rows.{row_sends, row_rests, row_sent, row_resends, next_flight}
+use Rattle.lu_covered.specs.Calls.{call_after, calls_from, calls_after, calls_turn}
+use Rattle.lu_covered.specs.ClientStates.{Asker, asker_after, asker_turn}
+use Rattle.lu_covered.specs.ClientRows.{row_sends, row_rests, row_sent, row_resends, next_flight}
 use Rattle.lu_client.specs.Clients.{ClientState}
 use Rattle.lu_client.specs.Turns.{with_printed, with_entry, with_entries, after_entries, front_entries, front_sent}
 

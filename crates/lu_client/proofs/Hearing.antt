@@ -16,10 +16,10 @@ use Rattle.lu_machine.specs.Fits.{answer_fits}
 use Rattle.lu_trace.specs.Turns.{with_line}
 use Rattle.lu_words.specs.Carried.{Flight, Running}
 use Rattle.lu_words.specs.Words.{Entry, Heard, same_life}
-use Rattle.lu_client_rows.specs.Calls.{call_on}
-use Rattle.lu_client_rows.specs.Imports.{without_flight}
-use Rattle.lu_client_rows.specs.States.{Asker, asker_after, asker_turn}
-use Rattle.lu_client_rows.specs.Rows.{find_flight, row_told, row_tells, row_fits, row_hears, row_reply, row_heeds, row_rests}
+use Rattle.lu_covered.specs.Calls.{call_on}
+use Rattle.lu_covered.specs.Imports.{without_flight}
+use Rattle.lu_covered.specs.ClientStates.{Asker, asker_after, asker_turn}
+use Rattle.lu_covered.specs.ClientRows.{find_flight, row_told, row_tells, row_fits, row_hears, row_reply, row_heeds, row_rests}
 use Rattle.lu_client.specs.Clients.{ClientState, flight_of, asker_of, state_of}
 use Rattle.lu_client.specs.Turns.{with_entries, after_entries, hearing_fit, hearing, heeding_reply, heeding}
 use Rattle.lu_client.proofs.Growth.{sends_free, after_is}

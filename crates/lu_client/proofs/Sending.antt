@@ -15,9 +15,9 @@ use Rattle.lu_import.specs.InFlights.{IsLeastFree, has_tag as import_has_tag}
 use Rattle.lu_import.specs.Imports.{ImportState, IsSent, Sends, sent_again}
 use Rattle.lu_words.specs.Carried.{Flight, Queued, Running}
 use Rattle.lu_words.specs.Words.{Entry, Flies, Send}
-use Rattle.lu_client_rows.specs.Imports.{has_tag, above_tags, free_from, free_tag}
-use Rattle.lu_client_rows.specs.States.{Asker, asker_turn}
-use Rattle.lu_client_rows.specs.Rows.{row_sent, row_rests, row_resends, next_flight}
+use Rattle.lu_covered.specs.Imports.{has_tag, above_tags, free_from, free_tag}
+use Rattle.lu_covered.specs.ClientStates.{Asker, asker_turn}
+use Rattle.lu_covered.specs.ClientRows.{row_sent, row_rests, row_resends, next_flight}
 use Rattle.lu_client.specs.Clients.{queued_of, flight_of, asker_of, state_of}
 use Rattle.lu_client.specs.Turns.{with_entry, with_entries, after_entries, front_sent, posted}
 use Rattle.lu_client.proofs.Growth.{sends_free, front_calls, after_is}

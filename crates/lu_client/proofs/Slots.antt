@@ -7,8 +7,8 @@ use Rattle.lu_msg.specs.declared.answers.Answer.{Answer}
 use Rattle.lu_msg.specs.declared.messages.Reply.{Reply as ReplyTo}
 use Rattle.lu_words.specs.Carried.{Queued, Flight, Work, Running}
 use Rattle.lu_words.specs.Words.{Entry, Begin, Queues, Heard, Told}
-use Rattle.lu_client_rows.specs.Calls.{call_after, call_on, calls_from, calls_turn}
-use Rattle.lu_client_rows.specs.Rows.{row_told}
+use Rattle.lu_covered.specs.Calls.{call_after, call_on, calls_from, calls_turn}
+use Rattle.lu_covered.specs.ClientRows.{row_told}
 
 abbrev pub both : ℕ → List (Option Running) → Entry → Entry → List (Option Running)
 both n calls d e = calls_from n (calls_from n calls d) e

@@ -14,9 +14,9 @@ use Rattle.lu_import.specs.Imports.{ImportState}
 use Rattle.lu_words.specs.Carried.{Queued, Running}
 use Rattle.lu_words.specs.Words.{Entry, Begin, Queues, Take, Tick}
 use Rattle.lu_words.specs.Given.{step_of}
-use Rattle.lu_client_rows.specs.Calls.{begun, operation_of, calls_turn}
-use Rattle.lu_client_rows.specs.States.{Asker, asker_turn}
-use Rattle.lu_client_rows.specs.Rows.{row_asks, row_call, row_takes, row_resends, row_tick, row_rests}
+use Rattle.lu_covered.specs.Calls.{begun, operation_of, calls_turn}
+use Rattle.lu_covered.specs.ClientStates.{Asker, asker_turn}
+use Rattle.lu_covered.specs.ClientRows.{row_asks, row_call, row_takes, row_resends, row_tick, row_rests}
 use Rattle.lu_client.specs.Clients.{ClientState, untold, asker_of, queued_of}
 use Rattle.lu_client.specs.Turns.{with_entries, after_entries, heeding}
 use Rattle.lu_client.proofs.Growth.{calls_stay, with_entries_on, asker_turn_on, calls_turn_on, gives_step, sends_free, resends_asker, resends_calls}

@@ -9,8 +9,8 @@ use Rattle.lu_import.specs.declared.requests.Waiting.{Waiting}
 use Rattle.lu_import.specs.Imports.{ImportState, IsSound as IsSoundImport}
 use Rattle.lu_msg.specs.declared.calls.Call.{Call}
 use Rattle.lu_words.specs.Carried.{Queued, Flight, Asked, Running}
-use Rattle.lu_client_rows.specs.Calls.{begun, first_life}
-use Rattle.lu_client_rows.specs.States.{Asker}
+use Rattle.lu_covered.specs.Calls.{begun, first_life}
+use Rattle.lu_covered.specs.ClientStates.{Asker}
 
 -- The client's number, whether memory ran out in a step, what it asks of the metadata target, and its calls that
 -- aren't told, by slot.

@@ -12,9 +12,9 @@ use Rattle.lu_machine.specs.Fits.{answer_fits}
 use Rattle.lu_words.specs.Carried.{Flight, Queued, Running}
 use Rattle.lu_words.specs.Words.{Entry, Flies, Send, Heard, same_life}
 use Rattle.lu_words.specs.Printed.{printed_entry}
-use Rattle.lu_client_rows.specs.Calls.{calls_turn}
-use Rattle.lu_client_rows.specs.States.{Asker, asker_turn}
-use Rattle.lu_client_rows.specs.Rows.{row_sent, row_tells, next_flight, find_flight}
+use Rattle.lu_covered.specs.Calls.{calls_turn}
+use Rattle.lu_covered.specs.ClientStates.{Asker, asker_turn}
+use Rattle.lu_covered.specs.ClientRows.{row_sent, row_tells, next_flight, find_flight}
 use Rattle.lu_client.specs.Clients.{ClientState}
 
 -- ---- what is given: the line of an entry, and the message that it sends

@@ -1,7 +1,7 @@
 //! A client's calls that have begun.
 
 ghost use Rattle.std.specs.Prelude.{◌≡◌, IfOk, Option};
-ghost use Rattle.lu_client_rows.specs.Calls.{operation_of};
+ghost use Rattle.lu_covered.specs.Calls.{operation_of};
 
 use lu_base::{At, Duplicate, Memory};
 use lu_msg::{Call, Op};

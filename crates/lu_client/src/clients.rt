@@ -4,8 +4,8 @@ ghost use Rattle.std.specs.Prelude.{◌≡◌, ◌+◌, ◌^◌, ◌<◌, ◌≤
 ghost use Rattle.lu_base.specs.declared.ids.Node.TheVariants.{Target};
 ghost use Rattle.lu_trace.specs.Turns.{no_step};
 ghost use Rattle.lu_words.specs.Given.{step_of};
-ghost use Rattle.lu_client_rows.specs.Calls.{call_on, operation_of};
-ghost use Rattle.lu_client_rows.specs.Rows.{row_call, row_takes, row_tick, row_dies, row_resends, row_rests, row_tells};
+ghost use Rattle.lu_covered.specs.Calls.{call_on, operation_of};
+ghost use Rattle.lu_covered.specs.ClientRows.{row_call, row_takes, row_tick, row_dies, row_resends, row_rests, row_tells};
 ghost use Rattle.lu_client.specs.Clients.{turn_of, HasCall, fresh, IsSound};
 ghost use Rattle.lu_client.specs.Turns.{with_entries, after_entries, front_sent, heeding};
 
@@ -224,7 +224,8 @@ impl Client {
     fn heed(&mut self, turn: &mut Turn, message: &Message) -> Result<(), Memory>
         ensures step { OnOk result (turn.new.step
             ≡ with_entries turn.old.at turn.old.step (heeding self.old.asker self.old.calls message.now)) }
-        ensures after { OnOk result (self.new ≡ after_entries self.old (heeding self.old.asker self.old.calls message.now)) }
+        ensures after { OnOk result (self.new
+            ≡ after_entries self.old (heeding self.old.asker self.old.calls message.now)) }
         ensures turn { turn.new.at ≡ turn.old.at }
         ensures spent { self.new.spent ≡ self.old.spent }
         ensures counted { self.new.asker.last ≡ self.old.asker.last }
@@ -315,7 +316,8 @@ impl Client {
     /// Sends what has room from the queue.
     fn send_all(&mut self, turn: &mut Turn) -> Result<(), Memory>
         requires numbers { self.old.asker.last < 2 ^ 63 }
-        ensures step { OnOk result (turn.new.step ≡ with_entries turn.old.at turn.old.step (row_rests self.old.asker)) }
+        ensures step { OnOk result (turn.new.step
+            ≡ with_entries turn.old.at turn.old.step (row_rests self.old.asker)) }
         ensures after { OnOk result (self.new ≡ after_entries self.old (row_rests self.old.asker)) }
         ensures spent { self.new.spent ≡ self.old.spent }
         ensures counted { self.new.asker.last ≤ self.old.asker.last + 8 }
@@ -336,8 +338,10 @@ impl Client {
         ensures after { IfOk result (λ sent. self.new ≡ after_entries self.old (front_sent self.old.asker sent)) }
         ensures turn { turn.new.at ≡ turn.old.at }
         ensures spent { self.new.spent ≡ self.old.spent }
-        ensures shorter { IfOk result (λ sent. length self.new.asker.queue + (if sent then 1 else 0) ≡ length self.old.asker.queue) }
-        ensures counted { self.new.asker.last + length self.old.asker.flights ≡ self.old.asker.last + length self.new.asker.flights }
+        ensures shorter { IfOk result (λ sent. length self.new.asker.queue + (if sent then 1 else 0)
+            ≡ length self.old.asker.queue) }
+        ensures counted { self.new.asker.last + length self.old.asker.flights
+            ≡ self.old.asker.last + length self.new.asker.flights }
         ensures room { length self.new.asker.flights ≤ 8 }
         ensures sound { IsSound self.new }
     {

@@ -6,8 +6,6 @@ mod calls;
 mod clients;
 mod faults;
 mod fits;
-#[cfg(test)]
-mod tests;
 
 pub use clients::Client;
 pub use faults::ClientFault;

@@ -18,14 +18,14 @@ use Rattle.lu_words.specs.Carried.{Queued, Flight, Running}
 use Rattle.lu_words.specs.Words.{Entry, Flies, Line, line, with_turn, is_client, same_life}
 use Rattle.lu_words.specs.Concerns.{is_about}
 use Rattle.lu_words.specs.Given.{step_posts}
-use Rattle.lu_target_rows.specs.States.{Server, none, server_at, slot_at}
-use Rattle.lu_target_rows.specs.Rows as target
-use Rattle.lu_target_rows.specs.Rows.{asked, row_executes, row_kept, by_number}
-use Rattle.lu_client_rows.specs.Calls.{call_at, calls_at, call_on, operation_of}
-use Rattle.lu_client_rows.specs.Imports.{last_at, without_flight}
-use Rattle.lu_client_rows.specs.States.{Asker, asker_at}
-use Rattle.lu_client_rows.specs.Rows.{next_flight, find_flight, row_sent, row_sends, row_rests, row_asks, row_call, row_told, row_tells, row_fits, row_hears, row_reply, row_heeds, row_resends}
-use Rattle.lu_table.specs.Runs.{Head, Event, Begins, Comes, Ticks, Dies, row}
+use Rattle.lu_covered.specs.TargetStates.{Server, none, server_at, slot_at}
+use Rattle.lu_covered.specs.TargetRows as target
+use Rattle.lu_covered.specs.TargetRows.{asked, row_executes, row_kept, by_number}
+use Rattle.lu_covered.specs.Calls.{call_at, calls_at, call_on, operation_of}
+use Rattle.lu_covered.specs.Imports.{last_at, without_flight}
+use Rattle.lu_covered.specs.ClientStates.{Asker, asker_at}
+use Rattle.lu_covered.specs.ClientRows.{next_flight, find_flight, row_sent, row_sends, row_rests, row_asks, row_call, row_told, row_tells, row_fits, row_hears, row_reply, row_heeds, row_resends}
+use Rattle.lu_covered.specs.Runs.{Head, Event, Begins, Comes, Ticks, Dies, row}
 
 -- ---- the newest number
 

@@ -11,14 +11,14 @@ use Rattle.lu_msg.specs.declared.messages.Reply.{Reply as ReplyTo}
 use Rattle.lu_msg.specs.declared.messages.Request.{Request as RequestOf}
 use Rattle.lu_machine.specs.Footprint.{changes}
 use Rattle.lu_words.specs.Words.{Entry, Begin, Line, line, with_turn}
-use Rattle.lu_target_rows.specs.States.{Server, none, server_at, slot_at}
-use Rattle.lu_target_rows.specs.Rows as target
-use Rattle.lu_target_rows.specs.Rows.{asked, row_executes, row_kept, by_number}
-use Rattle.lu_client_rows.specs.Calls.{call_at, calls_at}
-use Rattle.lu_client_rows.specs.States.{asker_at}
-use Rattle.lu_client_rows.specs.Rows.{row_heeds, row_tick}
-use Rattle.lu_table.specs.Runs as runs
-use Rattle.lu_table.specs.Runs.{Head, Event, Comes, Ticks, Dies, row}
+use Rattle.lu_covered.specs.TargetStates.{Server, none, server_at, slot_at}
+use Rattle.lu_covered.specs.TargetRows as target
+use Rattle.lu_covered.specs.TargetRows.{asked, row_executes, row_kept, by_number}
+use Rattle.lu_covered.specs.Calls.{call_at, calls_at}
+use Rattle.lu_covered.specs.ClientStates.{asker_at}
+use Rattle.lu_covered.specs.ClientRows.{row_heeds, row_tick}
+use Rattle.lu_covered.specs.Runs as runs
+use Rattle.lu_covered.specs.Runs.{Head, Event, Comes, Ticks, Dies, row}
 use Rattle.lu_facts.proofs.Finds.{Began}
 use Rattle.lu_core.proofs.Plain.{Begins, plain_begins, call_begins, heeds_plain, tick_plain}
 

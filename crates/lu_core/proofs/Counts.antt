@@ -11,13 +11,13 @@ use Rattle.lu_msg.specs.declared.messages.Request.{Request as RequestOf}
 use Rattle.lu_machine.specs.Footprint.{changes}
 use Rattle.lu_words.specs.Carried.{Slot}
 use Rattle.lu_words.specs.Words.{Entry, Txn as Made, Line, line, with_turn, is_target}
-use Rattle.lu_target_rows.specs.States.{Server, none, count_at, slot_at, server_at}
-use Rattle.lu_target_rows.specs.Rows as target
-use Rattle.lu_target_rows.specs.Rows.{asked, row_executes, row_kept, by_number, row_request}
-use Rattle.lu_client_rows.specs.Calls.{call_at, calls_at}
-use Rattle.lu_client_rows.specs.States.{asker_at}
-use Rattle.lu_client_rows.specs.Rows.{row_heeds, row_tick}
-use Rattle.lu_table.specs.Runs.{Head, Event, Begins, Comes, Ticks, Dies, row}
+use Rattle.lu_covered.specs.TargetStates.{Server, none, count_at, slot_at, server_at}
+use Rattle.lu_covered.specs.TargetRows as target
+use Rattle.lu_covered.specs.TargetRows.{asked, row_executes, row_kept, by_number, row_request}
+use Rattle.lu_covered.specs.Calls.{call_at, calls_at}
+use Rattle.lu_covered.specs.ClientStates.{asker_at}
+use Rattle.lu_covered.specs.ClientRows.{row_heeds, row_tick}
+use Rattle.lu_covered.specs.Runs.{Head, Event, Begins, Comes, Ticks, Dies, row}
 use Rattle.lu_core.proofs.Plain.{made_by, plain, call_plain, heeds_plain, tick_plain}
 
 pub turn_counts : (t : ℕ) (past : List Line) (at : At) (es : List Entry) → count_at t (with_turn at es past) ≤ count_at t past + made_by es

@@ -12,8 +12,8 @@ use Rattle.lu_scene.specs.declared.scene.Scene.{Scene}
 use Rattle.lu_scene.specs.declared.scene.SceneLine.{SceneLine}
 use Rattle.lu_scene.specs.declared.scene.SceneLine.TheVariants.{Call, Run, RunSome, Deliver, Lose, Tick, Die}
 use Rattle.lu_trace.specs.WellFormed.{IsCall}
-use Rattle.lu_client_rows.specs.Calls.{operation_of}
-use Rattle.lu_table.specs.Runs.{IsAsked}
+use Rattle.lu_covered.specs.Calls.{operation_of}
+use Rattle.lu_covered.specs.Runs.{IsAsked}
 use Rattle.lu_core.specs.Performed.{CallMakes, IsMade, IsCallPerformed, IsLinePerformed, IsPerformedIn, IsPerformed}
 
 -- ---- calls

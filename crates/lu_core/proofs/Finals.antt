@@ -1,6 +1,6 @@
 -- A run goes one way.
 use Rattle.std.proofs.Common.{◌≡◌, ◌⊎◌, inl, inr, ⊎_elim, refl, sym, subst, ◌∙◌}
-use Rattle.lu_table.specs.Runs.{Head}
+use Rattle.lu_covered.specs.Runs.{Head}
 use Rattle.lu_core.specs.Scenario.{Config, Goes, next, Leads, here, more, IsFinal}
 
 goes : (c d : Config) → Goes c ≡ Goes d → c ≡ d

@@ -7,7 +7,7 @@ pub mod Begun
 pub mod Covered
 pub mod Made
 pub mod Limits
-pub mod Nodes
+pub mod Destinations
 pub mod Runs
 pub mod Finals
 pub mod Worked
@@ -18,5 +18,5 @@ pub mod Throwing
 pub mod Taking
 pub mod Handed
 pub mod Placed
-pub mod ClientLines
+pub mod Lines
 pub mod Running

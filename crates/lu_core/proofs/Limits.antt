@@ -10,7 +10,7 @@ use Rattle.lu_scene.specs.declared.scene.SceneLine.{SceneLine}
 use Rattle.lu_scene.specs.Lines.{least_of, most_of, default_head, with_number}
 use Rattle.lu_scene.specs.Grammar.{Setting, SettingFits, LineFits, AreLines, IsScene}
 use Rattle.lu_scene.specs.Grammar as grammar
-use Rattle.lu_table.specs.Runs.{IsHead}
+use Rattle.lu_covered.specs.Runs.{IsHead}
 use Rattle.lu_core.specs.Scenario.{head_of}
 use Rattle.lu_core.specs.Performed.{KeepsLimits}
 

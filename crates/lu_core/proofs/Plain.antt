@@ -13,10 +13,10 @@ use Rattle.lu_machine.specs.Fits.{answer_fits}
 use Rattle.lu_words.specs.Carried.{Queued, Flight, Running}
 use Rattle.lu_words.specs.Words.{Entry, Begin, Flies, Take, Die, Txn as Made, same_life}
 use Rattle.lu_guards.proofs.After.{dies}
-use Rattle.lu_client_rows.specs.Calls.{call_on, operation_of}
-use Rattle.lu_client_rows.specs.Imports.{without_flight}
-use Rattle.lu_client_rows.specs.States.{Asker}
-use Rattle.lu_client_rows.specs.Rows.{next_flight, find_flight, row_sent, row_sends, row_rests, row_asks, row_call, row_told, row_tells, row_fits, row_hears, row_reply, row_heeds, row_resends, row_tick}
+use Rattle.lu_covered.specs.Calls.{call_on, operation_of}
+use Rattle.lu_covered.specs.Imports.{without_flight}
+use Rattle.lu_covered.specs.ClientStates.{Asker}
+use Rattle.lu_covered.specs.ClientRows.{next_flight, find_flight, row_sent, row_sends, row_rests, row_asks, row_call, row_told, row_tells, row_fits, row_hears, row_reply, row_heeds, row_resends, row_tick}
 
 -- no message is taken, no call begins, no transaction is made and nobody dies
 abbrev pub is_plain : List Entry → Bool

@@ -15,21 +15,21 @@ use Rattle.lu_msg.specs.declared.calls.Call.{Call as CallOf}
 use Rattle.lu_msg.specs.declared.calls.Call.TheVariants as call
 use Rattle.lu_words.specs.Words.{Line}
 use Rattle.lu_words.specs.Sent.{Sent}
-use Rattle.lu_target_rows.specs.States.{count_at}
-use Rattle.lu_client_rows.specs.Calls.{is_dead}
-use Rattle.lu_client_rows.specs.Imports.{last_at}
-use Rattle.lu_table.specs.Runs.{Head, Event, Begins, Comes, Ticks, Dies, Meets, Turn, lines_of, Follows, IsRun}
+use Rattle.lu_covered.specs.TargetStates.{count_at}
+use Rattle.lu_covered.specs.Calls.{is_dead}
+use Rattle.lu_covered.specs.Imports.{last_at}
+use Rattle.lu_covered.specs.Runs.{Head, Event, Begins, Comes, Ticks, Dies, Meets, Turn, lines_of, Follows, IsRun}
 use Rattle.lu_guards.proofs.Guards.{Grown}
 use Rattle.lu_guards.proofs.Obey.{grown}
 use Rattle.lu_facts.proofs.Sides.{from_target, from_client}
 use Rattle.lu_facts.proofs.Finds.{Began, needs_none}
-use Rattle.lu_core.specs.Scenario.{Config, Next, Stops, Goes, head_of, past_of, is_full, is_down, turn_of, with_turn, due, left, due_alive, comes, runs, next_by, Leads, here, more, start}
+use Rattle.lu_core.specs.Scenario.{most_turns, Config, Next, Stops, Goes, head_of, past_of, is_full, is_down, turn_of, with_turn, due, left, due_alive, comes, runs, next_by, Leads, here, more, start}
 use Rattle.lu_core.specs.Performed.{IsPerformed}
 use Rattle.lu_core.proofs.Posts.{all_sent, messages, sent_at_is, spend_messages, spend_length, posts_length, turn_messages}
 use Rattle.lu_core.proofs.Asked.{turn_asks}
 use Rattle.lu_core.proofs.Begun.{BeginsOf, row_begins, turn_began}
 use Rattle.lu_core.proofs.Covered.{Calls, AllCan, performed_can, apart}
-use Rattle.lu_core.proofs.Nodes.{to_node}
+use Rattle.lu_core.proofs.Destinations.{to_node}
 use Rattle.lu_core.proofs.Counts.{turn_counts, row_made}
 
 -- the newest turn's stamp is the number of turns
@@ -58,11 +58,11 @@ follows_next : (turns : List Turn) (at : At) → Stamped turns → at.stamp.0 �
 follows_next [] at s e = tt
 follows_next (turn ∷ turns) at s e = grind (arith, nat_tests)
 
-few_turns : (c : Config) → is_full c ≡ false → length c.turns < 65536
+few_turns : (c : Config) → is_full c ≡ false → length c.turns < most_turns
 few_turns c e = grind (arith, nat_tests)
 
 -- a turn that its node may make
-turn_sound : (head : Head) (c : Config) (node : Node) (event : Event) → Sound head c.turns c.posts → is_full c ≡ false → (length c.turns < 65536 → Meets head (past_of c) (turn_of head c node event).at node event)
+turn_sound : (head : Head) (c : Config) (node : Node) (event : Event) → Sound head c.turns c.posts → is_full c ≡ false → (length c.turns < most_turns → Meets head (past_of c) (turn_of head c node event).at node event)
     → Sound head (with_turn head c (turn_of head c node event)).turns (with_turn head c (turn_of head c node event)).posts
 turn_sound head c node event s free meets =
     let few = few_turns c free in
@@ -90,7 +90,7 @@ module _ (scene : Scene) (performed : IsPerformed scene) where
   moved : (d : Config) → Whole scene d → Kept (Goes d)
   moved d w e same = subst (λ (v : Config). Whole scene v) (goes d e same) w
 
-  due_keeps : (c : Config) (node : Node) (event : Event) → Whole scene c → BeginsOf (Calls scene.lines) event → (length c.turns < 65536 → Meets h (past_of c) (turn_of h c node event).at node event) → Kept (due h c node event)
+  due_keeps : (c : Config) (node : Node) (event : Event) → Whole scene c → BeginsOf (Calls scene.lines) event → (length c.turns < most_turns → Meets h (past_of c) (turn_of h c node event).at node event) → Kept (due h c node event)
   due_keeps c node event w of meets = by (is_full c) refl
     where
       by : (full : Bool) → is_full c ≡ full → Kept (if full then Stops else Goes (with_turn h c (turn_of h c node event)))
@@ -112,7 +112,7 @@ module _ (scene : Scene) (performed : IsPerformed scene) where
       by false e = due_keeps (left h c rest) (Client client) event (record { sound = w.sound; lines = can; begun = w.begun }) of (λ few. meets e)
 
   -- a message that was sent may come to its node, where it is up
-  may_come : (past : List Line) (at : At) (turns : ℕ) (n : ℕ) (m : SentMessage) → Grown h past → count_at 0 past ≤ turns → turns < 65536 → ((call : CallOf) → Began past call → Calls scene.lines call)
+  may_come : (past : List Line) (at : At) (turns : ℕ) (n : ℕ) (m : SentMessage) → Grown h past → count_at 0 past ≤ turns → turns < most_turns → ((call : CallOf) → Began past call → Calls scene.lines call)
       → Sent past n m.from m.to m.message → is_down m.to past ≡ false → Meets h past at m.to (Comes n m.from m.message)
   may_come past at turns n m g counted few begun sent up = by m.to sent up
     where

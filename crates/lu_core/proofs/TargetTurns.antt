@@ -11,10 +11,10 @@ use Rattle.lu_msg.specs.declared.messages.Message.TheVariants as message
 use Rattle.lu_trace.specs.declared.traces.Step.{Step}
 use Rattle.lu_words.specs.Given.{step_of}
 use Rattle.lu_words.specs.Words.{Entry, Take, Line, with_turn, is_target}
-use Rattle.lu_target_rows.specs.States.{server_at, slot_at, slot_turn}
-use Rattle.lu_target_rows.specs.Rows.{row_heeds, row_tick}
-use Rattle.lu_client_rows.specs.Calls.{first_life}
-use Rattle.lu_table.specs.Runs.{Head, Comes, row}
+use Rattle.lu_covered.specs.TargetStates.{server_at, slot_at, slot_turn}
+use Rattle.lu_covered.specs.TargetRows.{row_heeds, row_tick}
+use Rattle.lu_covered.specs.Calls.{first_life}
+use Rattle.lu_covered.specs.Runs.{Head, Comes, row}
 use Rattle.lu_guards.proofs.Lists.{self}
 use Rattle.lu_guards.proofs.After.{server_own, server_other, slot_own, slot_other}
 use Rattle.lu_txn.specs.Slots.{is_among}

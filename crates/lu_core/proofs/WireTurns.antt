@@ -16,16 +16,16 @@ use Rattle.lu_words.specs.Words.{Line}
 use Rattle.lu_words.specs.Sent.{count_sent}
 use Rattle.lu_words.specs.Printed.{printed}
 use Rattle.lu_words.specs.Given.{step_of, step_lines, step_posts}
-use Rattle.lu_target_rows.specs.States.{Server, none, server_at, slot_at}
-use Rattle.lu_target_rows.specs.Rows as target
-use Rattle.lu_target_rows.specs.Rows.{asked, row_executes, row_kept, by_number}
-use Rattle.lu_client_rows.specs.Calls.{call_at, calls_at}
-use Rattle.lu_client_rows.specs.States.{asker_at}
-use Rattle.lu_client_rows.specs.Rows.{row_heeds, row_tick}
-use Rattle.lu_table.specs.Runs.{Head, Event, Begins, Comes, Ticks, Dies, row}
-use Rattle.lu_core.specs.declared.wire.Wire.{Wire}
+use Rattle.lu_covered.specs.TargetStates.{Server, none, server_at, slot_at}
+use Rattle.lu_covered.specs.TargetRows as target
+use Rattle.lu_covered.specs.TargetRows.{asked, row_executes, row_kept, by_number}
+use Rattle.lu_covered.specs.Calls.{call_at, calls_at}
+use Rattle.lu_covered.specs.ClientStates.{asker_at}
+use Rattle.lu_covered.specs.ClientRows.{row_heeds, row_tick}
+use Rattle.lu_covered.specs.Runs.{Head, Event, Begins, Comes, Ticks, Dies, row}
 use Rattle.lu_core.specs.Scenario.{Config, past_of, posted, turn_of, with_turn}
 use Rattle.lu_core.specs.Numbering.{last_after_all, numbered_lines}
+use Rattle.lu_core.specs.States.{WireState}
 use Rattle.lu_core.specs.Progress.{ShowsWire}
 use Rattle.lu_core.proofs.Plain.{Takes, plain, call_plain, heeds_plain, tick_plain}
 use Rattle.lu_core.proofs.Numbers.{turn_prints, lines_last}
@@ -91,13 +91,13 @@ same_posts head past at (Target t) (Comes n (Target u) m) = refl
 same_posts head past at node event = refl
 
 -- what `add` does
-pub record Adds (old new : Wire) (at : At) (step : Step) (taken : ℕ) : Type 0 where
+pub record Adds (old new : WireState) (at : At) (step : Step) (taken : ℕ) : Type 0 where
   pub lines : new.entries ≡ old.entries ++ numbered_lines old.messages taken step.entries
   pub posts : new.links ≡ old.links ++ map (posted at) step.sends
   pub messages : new.messages ≡ last_after_all old.messages step.entries
   pub turns : new.turns ≡ old.turns + 1
 
-pub wire_turned : (head : Head) (old new : Wire) (c : Config) (node : Node) (event : Event) (step : Step) → ShowsWire old c → length c.posts ≡ count_sent (past_of c)
+pub wire_turned : (head : Head) (old new : WireState) (c : Config) (node : Node) (event : Event) (step : Step) → ShowsWire old c → length c.posts ≡ count_sent (past_of c)
     → let turn = turn_of head c node event in step ≡ step_of turn.at (row head (past_of c) turn.at node (unnumbered event)) → Adds old new turn.at step (number_of event)
     → ShowsWire new (with_turn head c turn)
 wire_turned head old new c node event step h counted gives adds =
@@ -124,7 +124,7 @@ wire_turned head old new c node event step h counted gives adds =
     }
 
 -- the clauses of `add` together
-pub added : {E : Type 0} (r : Result (Unit {0}) E) (old new : Wire) (at : At) (step : Step) (taken : ℕ)
+pub added : {E : Type 0} (r : Result (Unit {0}) E) (old new : WireState) (at : At) (step : Step) (taken : ℕ)
     → OnOk r (new.entries ≡ old.entries ++ numbered_lines old.messages taken step.entries) → OnOk r (new.links ≡ old.links ++ map (posted at) step.sends) → OnOk r (new.messages ≡ last_after_all old.messages step.entries) → OnOk r (new.turns ≡ old.turns + 1)
     → OnOk r (Adds old new at step taken)
 added (Ok x) old new at step taken a b c d = record { lines = a; posts = b; messages = c; turns = d }

@@ -1,10 +1,9 @@
 -- The worked scenarios, computed.
 use Rattle.std.specs.Fmt.{digits}
-use Rattle.std.proofs.Common.{◌≡◌, ℕ, zero, suc, List, refl}
-use Rattle.lu_scene.specs.declared.scene.Scene.{Scene}
-use Rattle.lu_table.specs.Runs.{Head}
+use Rattle.std.proofs.Common.{◌≡◌, ℕ, zero, suc, refl}
+use Rattle.lu_covered.specs.Runs.{Head}
 use Rattle.lu_core.specs.Scenario.{Config, Next, Ends, Stops, Goes, head_of, next, Leads, here, more, start}
-use Rattle.lu_core.specs.Samples.{text_of, one_client, one_client_text, lost_reply, lost_reply_text}
+use Rattle.lu_core.specs.Samples.{ComesTo, one_client, one_client_text, lost_reply, lost_reply_text}
 
 -- so many steps, or as many as there are
 abbrev go : Head → ℕ → Config → Config
@@ -24,14 +23,10 @@ go_leads head (suc k) c = by (next head c) refl (go_leads head k)
     by Stops e h = here c
     by (Goes d) e h = from head c d (go head k d) e (h d)
 
--- a scenario comes to its end with this text
-abbrev Comes : Scene → List ℕ → Type 0
-Comes scene text = (c : Config) × Leads (head_of scene.head) (start scene) c × (next (head_of scene.head) c ≡ Ends) × (text_of c ≡ text)
-
-pub one_client_is : Comes one_client one_client_text
+pub one_client_is : ComesTo one_client one_client_text
 unfolding digits
 one_client_is = (go (head_of one_client.head) 40 (start one_client), go_leads (head_of one_client.head) 40 (start one_client), refl, refl)
 
-pub lost_reply_is : Comes lost_reply lost_reply_text
+pub lost_reply_is : ComesTo lost_reply lost_reply_text
 unfolding digits
 lost_reply_is = (go (head_of lost_reply.head) 20 (start lost_reply), go_leads (head_of lost_reply.head) 20 (start lost_reply), refl, refl)

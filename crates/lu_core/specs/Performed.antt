@@ -9,7 +9,7 @@ use Rattle.lu_scene.specs.Grammar.{LineFits}
 use Rattle.lu_scene.specs.declared.scene.Scene.{Scene}
 use Rattle.lu_scene.specs.declared.scene.SceneLine.{SceneLine}
 use Rattle.lu_scene.specs.declared.scene.SceneLine.TheVariants.{Call, Run, RunSome, Deliver, Lose, Tick, Die}
-use Rattle.lu_table.specs.Runs.{IsHead}
+use Rattle.lu_covered.specs.Runs.{IsHead}
 use Rattle.lu_core.specs.Scenario.{head_of}
 
 -- ---- which paths are made

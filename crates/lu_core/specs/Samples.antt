@@ -1,5 +1,5 @@
 -- Two worked scenarios with their traces.
-use Rattle.std.specs.Prelude.{ℕ, List, [], ◌∷◌, ◌++◌, reverse, codes}
+use Rattle.std.specs.Prelude.{◌≡◌, ℕ, List, [], ◌∷◌, ◌++◌, reverse, codes}
 use Rattle.std.specs.List.{flat_map}
 use Rattle.lu_base.specs.declared.ids.Node.TheVariants.{Client}
 use Rattle.lu_msg.specs.declared.calls.Call.TheVariants.{Mkdir, Rmdir, Lookup}
@@ -10,7 +10,7 @@ use Rattle.lu_scene.specs.declared.scene.SceneLine.TheVariants.{Call, Run, Deliv
 use Rattle.lu_trace.specs.declared.traces.End.TheVariants.{Done}
 use Rattle.lu_trace.specs.Traces.{trace_text}
 use Rattle.lu_words.specs.Printed.{printed}
-use Rattle.lu_core.specs.Scenario.{Config, past_of}
+use Rattle.lu_core.specs.Scenario.{Config, Ends, LeadsTo, head_of, next, past_of}
 
 abbrev a : List (List ℕ)
 a = codes "a" ∷ []
@@ -24,6 +24,10 @@ scene_of lines = record { head = default_head; lines = lines }
 -- the text of the trace of a configuration at which nothing is left, with one object storage target
 abbrev pub text_of : Config → List ℕ
 text_of c = trace_text (record { osts = 1; entries = reverse (printed (past_of c)) }) Done
+
+-- a scenario comes to its end with this text
+abbrev pub ComesTo : Scene → List ℕ → Type 0
+ComesTo scene text = (c : Config) × LeadsTo scene c × (next (head_of scene.head) c ≡ Ends) × (text_of c ≡ text)
 
 -- one client makes a directory twice, looks up another and removes the first
 abbrev pub one_client : Scene

@@ -14,8 +14,8 @@ use Rattle.lu_scene.specs.declared.scene.SceneLine.{SceneLine}
 use Rattle.lu_scene.specs.declared.scene.SceneLine.TheVariants.{Call, Run, RunSome, Deliver, Lose, Tick, Die}
 use Rattle.lu_words.specs.Words.{Line}
 use Rattle.lu_words.specs.Given.{step_posts}
-use Rattle.lu_client_rows.specs.Calls.{is_dead}
-use Rattle.lu_table.specs.Runs.{Head, Event, Begins, Comes, Ticks, Dies, row, Turn, lines_of}
+use Rattle.lu_covered.specs.Calls.{is_dead}
+use Rattle.lu_covered.specs.Runs.{Head, Event, Begins, Comes, Ticks, Dies, row, Turn, lines_of}
 
 -- the turns so far, the newest first; all messages so far, each spent (taken or lost) or not; and the lines left
 pub record Config : Type 0 where
@@ -37,8 +37,14 @@ abbrev pub past_of : Config → List Line
 past_of c = lines_of c.turns
 
 -- no turn begins once a run has so many turns or messages
+abbrev pub most_turns : ℕ
+most_turns = 65536
+
+abbrev pub most_messages : ℕ
+most_messages = 131072
+
 abbrev pub is_full : Config → Bool
-is_full c = nat_le 65536 (length c.turns) || nat_le 131072 (length c.posts)
+is_full c = nat_le most_turns (length c.turns) || nat_le most_messages (length c.posts)
 
 -- a dead client takes nothing
 abbrev pub is_down : Node → List Line → Bool
@@ -109,3 +115,7 @@ module _ (head : Head) where
 
 abbrev pub start : Scene → Config
 start scene = record { turns = []; posts = []; lines = scene.lines }
+
+-- what a scenario leads to
+abbrev pub LeadsTo : Scene → Config → Type 0
+LeadsTo scene c = Leads (head_of scene.head) (start scene) c

@@ -1,5 +1,5 @@
 -- What the player has of its nodes after a past.
-use Rattle.std.specs.Prelude.{◌≡◌, ℕ, ◌^◌, ◌<◌, Bool, true, false, List, length, slice_index_or, None}
+use Rattle.std.specs.Prelude.{◌≡◌, ℕ, ◌^◌, ◌<◌, true, false, List, length, slice_index_or, None}
 use Rattle.lu_base.specs.declared.ids.At.{At}
 use Rattle.lu_base.specs.declared.ids.Node.{Node}
 use Rattle.lu_base.specs.declared.ids.Stamp.{Stamp}
@@ -11,38 +11,29 @@ use Rattle.lu_service.specs.Names.{IsNamed}
 use Rattle.lu_target.specs.Targets.{TargetState, most_count, server, slot, serves, Fits}
 use Rattle.lu_words.specs.Words.{Line, with_turn}
 use Rattle.lu_words.specs.Given.{step_of}
-use Rattle.lu_target_rows.specs.States.{server_at, slot_at}
-use Rattle.lu_client_rows.specs.Calls.{calls_at, is_dead, first_life}
-use Rattle.lu_client_rows.specs.States.{asker_at}
-use Rattle.lu_table.specs.Runs.{Head, Event, row}
+use Rattle.lu_covered.specs.TargetStates.{server_at, slot_at}
+use Rattle.lu_covered.specs.Calls.{calls_at, is_dead, first_life}
+use Rattle.lu_covered.specs.ClientStates.{asker_at}
+use Rattle.lu_covered.specs.Runs.{Head, Event, row}
 use Rattle.lu_trace.specs.declared.traces.Step.{Step}
+use Rattle.lu_core.specs.declared.nodes.Seat.{Seat}
+use Rattle.lu_core.specs.States.{NodesState, seat_of}
 
 -- a client whose memory didn't run out
 abbrev pub client_of : Head → List Line → ℕ → ClientState
 client_of head past c = record { client = c; spent = false; asker = asker_at head.flight c 0 past; calls = calls_at c past }
 
--- the clients by number, and which of them are dead
-pub record ShowsClients (head : Head) (past : List Line) (clients : List ClientState) (deaths : List Bool) : Type 0 where
-  pub count : length clients ≡ head.clients
-  pub each : (c : ℕ) (d : ClientState) → c < head.clients → slice_index_or clients c d ≡ client_of head past c
-  pub dead_count : length deaths ≡ head.clients
-  pub dead : (c : ℕ) (d : Bool) → c < head.clients → slice_index_or deaths c d ≡ is_dead c past
+-- its seat
+abbrev pub seat_at : Head → List Line → ℕ → Seat
+seat_at head past c = seat_of (client_of head past c) (is_dead c past)
 
--- a node that takes nothing, by which clients are dead
-abbrev pub is_down_in : List Bool → Node → Bool
-is_down_in dead (Client c) = slice_index_or dead c false
-is_down_in dead (Target t) = false
+-- the clients by number
+pub record ShowsSeats (head : Head) (past : List Line) (seats : List Seat) : Type 0 where
+  pub count : length seats ≡ head.clients
+  pub each : (c : ℕ) (d : Seat) → c < head.clients → slice_index_or seats c d ≡ seat_at head past c
 
 abbrev pub turn_at : Stamp → Node → At
 turn_at stamp node = record { stamp = stamp; node = node }
-
--- what a client's turn gives, and that the clients show the past with it, whatever past they showed before
-abbrev pub GivesRow : List ClientState → List Bool → At → Event → Step → Type 0
-GivesRow clients deaths at event step = (head : Head) (past : List Line) → ShowsClients head past clients deaths → step ≡ step_of at (row head past at at.node event)
-
-abbrev pub TakesTurn : List ClientState → List Bool → At → Event → List ClientState → List Bool → Type 0
-TakesTurn clients deaths at event after after_deaths =
-    (head : Head) (past : List Line) → ShowsClients head past clients deaths → ShowsClients head (with_turn at (row head past at at.node event) past) after after_deaths
 
 -- the metadata target, which has a slot for the first life of each client
 pub record ShowsTarget (head : Head) (past : List Line) (t : TargetState) : Type 0 where
@@ -53,30 +44,37 @@ pub record ShowsTarget (head : Head) (past : List Line) (t : TargetState) : Type
   pub slots : (who : Who) (tag : ℕ) → slot t who tag ≡ slot_at who tag 0 past
   pub served : (c : ℕ) → c < head.clients → serves t (first_life c) ≡ true
 
--- the same of the metadata target's turn
+-- what its turn gives, and that it shows the past with it, whatever past it showed before
 abbrev pub TargetGives : TargetState → At → Event → Step → Type 0
 TargetGives t at event step = (head : Head) (past : List Line) → ShowsTarget head past t → step ≡ step_of at (row head past at (Target 0) event)
 
 abbrev pub TargetTakes : TargetState → At → Event → TargetState → Type 0
 TargetTakes t at event after = (head : Head) (past : List Line) → ShowsTarget head past t → ShowsTarget head (with_turn at (row head past at (Target 0) event) past) after
 
--- a node may take a message that goes to it: a client of the run, whose numbers aren't near their end, one of the
--- metadata target; or the metadata target, one of a client
-abbrev pub MayTake : List ClientState → TargetState → Sent → Type 0
-MayTake clients t sent = by sent.to
-  where
-    by : Node → Type 0
-    by (Client c) = (sent.from ≡ Target 0) × (c < length clients) × ((d : ClientState) → (slice_index_or clients c d).asker.last < 2 ^ 63)
-    by (Target n) =
-        ((c : ℕ) × (sent.from ≡ Client c)) × (n ≡ 0) × Fits IsNamed t.journal sent.message × (t.id ≡ 0) × (t.spent ≡ None)
-        × ((server t).count < most_count)
+-- the nodes together
+pub record ShowsNodes (head : Head) (past : List Line) (nodes : NodesState) : Type 0 where
+  pub seats : ShowsSeats head past nodes.seats
+  pub target : ShowsTarget head past nodes.target
 
 -- what the turn of any node gives, and that the nodes show the past with it
-abbrev pub NodesGive : List ClientState → List Bool → TargetState → At → Event → Step → Type 0
-NodesGive clients deaths t at event step =
-    (head : Head) (past : List Line) → ShowsClients head past clients deaths → ShowsTarget head past t → step ≡ step_of at (row head past at at.node event)
+abbrev pub NodesGive : NodesState → At → Event → Step → Type 0
+NodesGive nodes at event step = (head : Head) (past : List Line) → ShowsNodes head past nodes → step ≡ step_of at (row head past at at.node event)
 
-abbrev pub NodesTake : List ClientState → List Bool → TargetState → At → Event → List ClientState → List Bool → TargetState → Type 0
-NodesTake clients deaths t at event after after_deaths u =
-    (head : Head) (past : List Line) → ShowsClients head past clients deaths → ShowsTarget head past t
-    → ShowsClients head (with_turn at (row head past at at.node event) past) after after_deaths × ShowsTarget head (with_turn at (row head past at at.node event) past) u
+abbrev pub NodesTake : NodesState → At → Event → NodesState → Type 0
+NodesTake nodes at event after =
+    (head : Head) (past : List Line) → ShowsNodes head past nodes → ShowsNodes head (with_turn at (row head past at at.node event) past) after
+
+-- a client's request numbers aren't near their end
+abbrev pub HasNumbers : NodesState → ℕ → Type 0
+HasNumbers nodes c = (d : Seat) → (slice_index_or nodes.seats c d).client.asker.last < 2 ^ 63
+
+-- a node may take a message that goes to it: a client of the run, whose numbers aren't near their end, one of the
+-- metadata target; or the metadata target, one of a client
+abbrev pub MayTake : NodesState → Sent → Type 0
+MayTake nodes sent = by sent.to
+  where
+    by : Node → Type 0
+    by (Client c) = (sent.from ≡ Target 0) × (c < length nodes.seats) × HasNumbers nodes c
+    by (Target n) =
+        ((c : ℕ) × (sent.from ≡ Client c)) × (n ≡ 0) × Fits IsNamed nodes.target.journal sent.message × (nodes.target.id ≡ 0) × (nodes.target.spent ≡ None)
+        × ((server nodes.target).count < most_count)

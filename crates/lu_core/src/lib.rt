@@ -4,12 +4,10 @@
 //! that it gives is lawful.
 #![tactic(auto)]
 
-mod clients;
+mod nodes;
 mod performed;
 mod players;
 mod playing;
-#[cfg(test)]
-mod tests;
 pub mod theorems;
 mod turns;
 mod wire;

@@ -1,58 +1,60 @@
 //! The player: the nodes of a run, the messages between them and the trace so far.
 
-ghost use Rattle.std.specs.Prelude.{◌≡◌, ℕ, ◌+◌, ◌<◌, true, false, [], Some, IfOk, OnOk, IfSome, IsSomeAnd};
+ghost use Rattle.std.specs.Prelude.{◌≡◌, ◌+◌, ◌<◌, false, [], Some, IfOk, OnOk, IfSome, IsSomeAnd};
 ghost use Rattle.lu_base.specs.declared.ids.Node.TheVariants.{Client as AtClient, Target as AtTarget};
-ghost use Rattle.lu_net.specs.Posts.{sent_at, least_unspent};
+ghost use Rattle.lu_net.specs.Posts.{sent_at, IsUnspent, least_unspent, spend};
 ghost use Rattle.lu_scene.specs.declared.scene.SceneLine.TheVariants.{Call as CallLine, Run as RunLine, RunSome as RunSomeLine, Deliver as DeliverLine, Tick as TickLine, Die as DieLine};
-ghost use Rattle.lu_table.specs.Runs.{IsHead};
-ghost use Rattle.lu_client_rows.specs.Calls.{first_life};
-ghost use Rattle.lu_txn.specs.Slots.{is_among};
-ghost use Rattle.lu_core.specs.Scenario.{head_of};
-ghost use Rattle.lu_core.specs.Shown.{ShowsClients, ShowsTarget, is_down_in, MayTake};
-ghost use Rattle.lu_core.specs.Progress.{IsPlaying, IsDue, Performs, Thrown, is_thrown_in, Takes, TakesFrom};
+ghost use Rattle.lu_covered.specs.Runs.{IsHead};
+ghost use Rattle.lu_core.specs.Scenario.{most_turns, most_messages, head_of};
+ghost use Rattle.lu_core.specs.States.{is_dead_in, is_down_in, is_full_in, is_thrown_in, with_links};
+ghost use Rattle.lu_core.specs.Shown.{ShowsNodes, MayTake};
+ghost use Rattle.lu_core.specs.Progress.{IsPlaying, IsDue, Performs, Thrown, Takes, TakesFrom};
 
-use super::clients::Clients;
-use super::turns::{hand_over, pass_time};
+use super::nodes::Nodes;
 use super::wire::Wire;
-use lu_base::{At, Lives, Memory, Node, TargetId, Who};
-use lu_mdt::Mdt;
+use lu_base::{At, Memory, Node};
 use lu_msg::Call;
 use lu_scene::{Head, SceneLine};
-use lu_target::Target;
+use lu_trace::Entries;
 use std::alloc::Global;
+use std::marker::Model;
 
 /// The nodes, the messages between them and the trace so far.
 #[derive(Drop)]
 pub(crate) struct Player {
-    pub(crate) clients: Clients,
-    pub(crate) target: Target<Mdt>,
-    pub(crate) wire: Wire,
+    nodes: Nodes,
+    wire: Wire,
+}
+
+impl Model for Player {
+    ghost use Rattle.lu_core.specs.States.{PlayerState};
+
+    ghost Value = { PlayerState };
+
+    ghost view = { λ p. record { nodes = p.nodes; wire = p.wire } };
 }
 
 impl Player {
     /// A player before the first turn.
     pub(crate) fn new(alloc: Global, head: &Head) -> Result<Player, Memory>
         requires head { IsHead (head_of head.now) }
-        ensures clients { IfOk result (λ p. ShowsClients (head_of head.now) [] p.clients.clients.items p.clients.dead.items) }
-        ensures target { IfOk result (λ p. ShowsTarget (head_of head.now) [] p.target) }
+        ensures nodes { IfOk result (λ p. ShowsNodes (head_of head.now) [] p.nodes) }
         ensures entries { IfOk result (λ p. p.wire.entries ≡ []) }
         ensures links { IfOk result (λ p. p.wire.links ≡ []) }
         ensures turns { IfOk result (λ p. p.wire.turns ≡ 0) }
         ensures messages { IfOk result (λ p. p.wire.messages ≡ 0) }
     {
-        let lives = first_lives(alloc, head.clients)?;
-        let target = Target::start(
-            alloc,
-            Mdt::new(alloc, head.osts)?,
-            TargetId(0),
-            lives.as_slice(),
-            head.expire,
-        )?;
         Ok(Player {
-            clients: Clients::new(alloc, head)?,
-            target,
+            nodes: Nodes::new(alloc, head)?,
             wire: Wire::new(alloc),
         })
+    }
+
+    /// The lines of all turns.
+    pub(crate) fn into_entries(self) -> Entries
+        ensures lines { result ≡ self.wire.entries }
+    {
+        self.wire.into_entries()
     }
 }
 
@@ -68,7 +70,7 @@ impl Player {
             SceneLine::RunSome(turns) => self.run_some(*turns),
             SceneLine::Deliver(number) => self.deliver(*number),
             SceneLine::Lose(number) => {
-                self.wire.links.spend(*number);
+                self.spend(*number);
                 Ok(true)
             }
             SceneLine::Tick(node) => self.tick(*node),
@@ -86,14 +88,14 @@ impl Player {
         requires due { IsDue self.old (CallLine client slot call.now) }
         ensures performs { IfOk result (Performs self.old (CallLine client slot call.now) self.new) }
     {
-        if self.clients.is_dead(client) {
+        if self.is_dead(client) {
             return Ok(true);
         }
-        if self.wire.is_full() {
+        if self.is_full() {
             return Ok(false);
         }
         let at = self.next_turn(Node::Client(client));
-        let step = self.clients.begin(at.stamp, client, slot, call)?;
+        let step = self.nodes.begin(at.stamp, client, slot, call)?;
         self.wire.add(at, step, 0)?;
         Ok(true)
     }
@@ -114,14 +116,14 @@ impl Player {
         requires due { IsDue self.old (TickLine (AtClient client)) }
         ensures performs { IfOk result (Performs self.old (TickLine (AtClient client)) self.new) }
     {
-        if self.clients.is_dead(client) {
+        if self.is_dead(client) {
             return Ok(true);
         }
-        if self.wire.is_full() {
+        if self.is_full() {
             return Ok(false);
         }
         let at = self.next_turn(Node::Client(client));
-        let step = self.clients.tick(at.stamp, client)?;
+        let step = self.nodes.tick_client(at.stamp, client)?;
         self.wire.add(at, step, 0)?;
         Ok(true)
     }
@@ -131,11 +133,11 @@ impl Player {
         requires due { IsDue self.old (TickLine (AtTarget 0)) }
         ensures performs { IfOk result (Performs self.old (TickLine (AtTarget 0)) self.new) }
     {
-        if self.wire.is_full() {
+        if self.is_full() {
             return Ok(false);
         }
         let at = self.next_turn(Node::Target(0));
-        let step = pass_time(&mut self.target, at.stamp)?;
+        let step = self.nodes.tick_target(at.stamp)?;
         self.wire.add(at, step, 0)?;
         Ok(true)
     }
@@ -145,21 +147,21 @@ impl Player {
         requires due { IsDue self.old (DieLine client) }
         ensures performs { IfOk result (Performs self.old (DieLine client) self.new) }
     {
-        if self.clients.is_dead(client) {
+        if self.is_dead(client) {
             return Ok(true);
         }
-        if self.wire.is_full() {
+        if self.is_full() {
             return Ok(false);
         }
         let at = self.next_turn(Node::Client(client));
-        let step = self.clients.die(at.stamp, client)?;
+        let step = self.nodes.die(at.stamp, client)?;
         self.wire.add(at, step, 0)?;
         Ok(true)
     }
 
     /// The next turn, at this node.
     fn next_turn(&self, node: Node) -> At
-        requires room { self.now.wire.turns < 65536 }
+        requires room { self.now.wire.turns < most_turns }
         ensures at { result ≡ record { stamp = record { 0 = self.now.wire.turns + 1 }; node = node } }
     {
         At {
@@ -176,7 +178,7 @@ impl Player {
         ensures performs { IfOk result (Performs self.old RunLine self.new) }
     {
         while let Some(number) = self.next_message() {
-            if self.wire.is_full() {
+            if self.is_full() {
                 return Ok(false);
             }
             self.take(number)?;
@@ -193,7 +195,7 @@ impl Player {
             let Some(number) = self.next_message() else {
                 return Ok(true);
             };
-            if self.wire.is_full() {
+            if self.is_full() {
                 return Ok(false);
             }
             self.take(number)?;
@@ -210,10 +212,10 @@ impl Player {
             return Ok(true);
         };
         if thrown {
-            self.wire.links.spend(number);
+            self.spend(number);
             return Ok(true);
         }
-        if self.wire.is_full() {
+        if self.is_full() {
             return Ok(false);
         }
         self.take(number)?;
@@ -223,74 +225,88 @@ impl Player {
     /// The least number of a message that is neither taken nor lost. Messages before it for a node that is
     /// down are thrown away.
     fn next_message(&mut self) -> Option<u64>
-        ensures thrown { Thrown (is_down_in self.old.clients.dead.items) self.old.wire.links self.new.wire.links }
+        ensures thrown { Thrown (is_down_in self.old.nodes) self.old.wire.links self.new.wire.links }
         ensures least { result ≡ least_unspent self.new.wire.links }
         ensures up { IfSome result (λ number. is_thrown_in self.new number ≡ Some false) }
-        ensures same { self.new ≡ record self.old { wire = record self.old.wire { links = self.new.wire.links } } }
+        ensures same { self.new ≡ with_links self.old self.new.wire.links }
     {
-        while let Some(number) = self.wire.links.least_unspent() {
+        while let Some(number) = self.least_unspent() {
             if self.is_thrown(number) == Some(false) {
                 return Some(number);
             }
-            self.wire.links.spend(number);
+            self.spend(number);
         }
         None
-    }
-
-    /// Whether the message of this number is for a node that is down; none where none was sent.
-    fn is_thrown(&self, number: u64) -> Option<bool>
-        ensures thrown { result ≡ is_thrown_in self.now number }
-    {
-        let sent = self.wire.links.at(number)?;
-        Some(self.clients.is_down(sent.to))
     }
 
     /// The turn of the node to which the message of this number goes.
     fn take(&mut self, number: u64) -> Result<(), Memory>
         requires playing { IsPlaying self.old }
         requires up { is_thrown_in self.old number ≡ Some false }
-        requires turns { self.old.wire.turns < 65536 }
-        requires messages { self.old.wire.messages < 131072 }
+        requires turns { self.old.wire.turns < most_turns }
+        requires messages { self.old.wire.messages < most_messages }
         ensures takes { OnOk result (Takes self.old number self.new) }
         ensures turns { OnOk result (self.new.wire.turns ≡ self.old.wire.turns + 1) }
     {
-        take_from(&mut self.clients, &mut self.target, &mut self.wire, number)
+        take_from(&mut self.nodes, &mut self.wire, number)
+    }
+}
+
+impl Player {
+    /// Whether a client is dead.
+    fn is_dead(&self, client: u16) -> bool
+        ensures dead { result ≡ is_dead_in self.now.nodes client }
+    {
+        self.nodes.is_dead(client)
+    }
+
+    /// Whether no turn may begin.
+    fn is_full(&self) -> bool
+        ensures full { result ≡ is_full_in self.now.wire }
+    {
+        self.wire.is_full()
+    }
+
+    /// Whether the message of this number is for a node that is down; none where none was sent.
+    fn is_thrown(&self, number: u64) -> Option<bool>
+        ensures thrown { result ≡ is_thrown_in self.now number }
+    {
+        let sent = self.wire.sent(number)?;
+        Some(self.nodes.is_down(sent.to))
+    }
+
+    /// The least number of a message that is neither taken nor lost; none where there is none.
+    fn least_unspent(&self) -> Option<u64>
+        ensures number { result ≡ least_unspent self.now.wire.links }
+        ensures unspent { IfSome result (IsUnspent self.now.wire.links) }
+    {
+        self.wire.least_unspent()
+    }
+
+    /// The message of this number is taken or lost.
+    fn spend(&mut self, number: u64)
+        ensures spent { self.new ≡ with_links self.old (spend self.old.wire.links number) }
+    {
+        self.wire.spend(number);
     }
 }
 
 /// The turn of the node to which the message of this number goes.
-fn take_from(
-    clients: &mut Clients,
-    target: &mut Target<Mdt>,
-    wire: &mut Wire,
-    number: u64,
-) -> Result<(), Memory>
-    requires may { IsSomeAnd (sent_at wire.old.links number) (MayTake clients.old.clients.items target.old) }
-    requires turns { wire.old.turns < 65536 }
-    requires messages { wire.old.messages < 131072 }
-    ensures takes { OnOk result (TakesFrom clients.old.clients.items clients.old.dead.items target.old wire.old number
-        clients.new.clients.items clients.new.dead.items target.new wire.new) }
+fn take_from(nodes: &mut Nodes, wire: &mut Wire, number: u64) -> Result<(), Memory>
+    requires may { IsSomeAnd (sent_at wire.old.links number) (MayTake nodes.old) }
+    requires turns { wire.old.turns < most_turns }
+    requires messages { wire.old.messages < most_messages }
+    ensures takes { OnOk result (TakesFrom nodes.old wire.old number nodes.new wire.new) }
     ensures turns { OnOk result (wire.new.turns ≡ wire.old.turns + 1) }
 {
-    let Some(sent) = wire.links.at(number) else {
+    let Some(sent) = wire.sent(number) else {
         unreachable!();
     };
     let at = At {
         stamp: wire.next_stamp(),
         node: sent.to,
     };
-    let step = hand_over(clients, target, at.stamp, sent)?;
-    wire.links.spend(number);
+    let step = nodes.hand_over(at.stamp, sent)?;
+    wire.spend(number);
     wire.add(at, step, number)
-}
-
-/// The first lives of so many clients.
-fn first_lives(alloc: Global, clients: u16) -> Result<Lives, Memory>
-    ensures all { IfOk result (λ lives. (c : ℕ) → c < clients → is_among (first_life c) lives ≡ true) }
-{
-    let mut lives = Lives::new(alloc);
-    for client in 0..clients {
-        lives.push(Who { client, life: 1 })?;
-    }
-    Ok(lives)
 }

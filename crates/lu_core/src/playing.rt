@@ -1,12 +1,10 @@
 //! The run of a scenario.
 
-ghost use Rattle.std.specs.Prelude.{◌≡◌, List, IfOk, None};
-ghost use Rattle.lu_scene.specs.declared.scene.Scene.{Scene as SpecScene};
+ghost use Rattle.std.specs.Prelude.{◌≡◌, IfOk, None};
 ghost use Rattle.lu_laws.specs.Laws.{IsLawful};
-ghost use Rattle.lu_core.specs.Scenario.{Config, Leads, head_of, start};
 ghost use Rattle.lu_core.specs.Performed.{IsPerformed};
-ghost use Rattle.lu_core.specs.Progress.{IsAt, HasLeft, HasEnded};
-ghost use Rattle.lu_core.specs.Outcome.{TracesTo};
+ghost use Rattle.lu_core.specs.Progress.{HasLeft, Finishes};
+ghost use Rattle.lu_core.specs.Played.{IsPlayed};
 
 use super::players::Player;
 use lu_base::{Memory, TargetId};
@@ -25,8 +23,7 @@ pub struct Played {
 /// Performs a scenario, to its end or to the limit of turns and messages.
 pub fn play(alloc: Global, scene: &Scene) -> Result<Played, Memory>
     requires performed { IsPerformed scene.now }
-    ensures run { IfOk result (λ played. (c : Config) × Leads (head_of scene.now.head) (start scene.now) c
-        × HasEnded (head_of scene.now.head) c played.end × TracesTo scene.now c played.trace) }
+    ensures run { IfOk result (λ played. IsPlayed scene.now played.trace played.end) }
     ensures lawful { IfOk result (λ played. IsLawful played.trace) }
     ensures failed { IfOk result (λ played. played.failed ≡ None) }
 {
@@ -35,7 +32,7 @@ pub fn play(alloc: Global, scene: &Scene) -> Result<Played, Memory>
     Ok(Played {
         trace: Trace {
             osts: scene.head.osts,
-            entries: player.wire.into_entries(),
+            entries: player.into_entries(),
         },
         end,
         failed: None,
@@ -45,8 +42,7 @@ pub fn play(alloc: Global, scene: &Scene) -> Result<Played, Memory>
 /// Performs lines in order, as far as the limit lets.
 fn perform_all(player: &mut Player, lines: &[SceneLine]) -> Result<End, Memory>
     requires left { HasLeft player.old lines.now }
-    ensures ended { IfOk result (λ end. (scene : SpecScene) (c : Config) → IsAt scene player.old c → c.lines ≡ lines.now
-        → (d : Config) × IsAt scene player.new d × HasEnded (head_of scene.head) d end) }
+    ensures ended { IfOk result (Finishes player.old lines.now player.new) }
 {
     for line in lines {
         if !player.perform(line)? {

@@ -4,31 +4,28 @@
 ghost use Rattle.std.specs.Prelude.{◌≡◌};
 ghost use Rattle.lu_scene.specs.declared.scene.Scene.{Scene};
 ghost use Rattle.lu_words.specs.Printed.{printed};
-ghost use Rattle.lu_table.specs.Runs.{lines_of, IsRun};
+ghost use Rattle.lu_covered.specs.Runs.{IsRun};
 ghost use Rattle.lu_laws.specs.Laws.{Lawful};
-ghost use Rattle.lu_core.specs.Scenario.{Config, Ends, Leads, Goes, IsFinal, head_of, start, next};
+ghost use Rattle.lu_core.specs.Scenario.{Config, LeadsTo, IsFinal, head_of, past_of};
 ghost use Rattle.lu_core.specs.Performed.{IsPerformed};
-ghost use Rattle.lu_core.specs.Samples.{text_of, one_client, one_client_text, lost_reply, lost_reply_text};
+ghost use Rattle.lu_core.specs.Samples.{ComesTo, one_client, one_client_text, lost_reply, lost_reply_text};
 
-/// Whatever a scenario comes to is a run of the table, so its trace is lawful.
+/// Whatever a scenario comes to is a run of the covered rows, so its trace is lawful.
 pub fn every_scenario_is_lawful()
-    ensures run { (scene : Scene) → IsPerformed scene → (c : Config) → Leads (head_of scene.head) (start scene) c
+    ensures run { (scene : Scene) → IsPerformed scene → (c : Config) → LeadsTo scene c
         → IsRun (head_of scene.head) c.turns }
-    ensures lawful { (scene : Scene) → IsPerformed scene → (c : Config) → Leads (head_of scene.head) (start scene) c
-        → Lawful scene.head.osts (printed (lines_of c.turns)) }
+    ensures lawful { (scene : Scene) → IsPerformed scene → (c : Config) → LeadsTo scene c
+        → Lawful scene.head.osts (printed (past_of c)) }
 {}
 
 /// A scenario has at most one outcome.
 pub fn outcomes_are_the_same()
     ensures same { (scene : Scene) → let head = head_of scene.head in
-        (b c : Config) → Leads head (start scene) b → Leads head (start scene) c → IsFinal head b
-        → IsFinal head c → b ≡ c }
+        (b c : Config) → LeadsTo scene b → LeadsTo scene c → IsFinal head b → IsFinal head c → b ≡ c }
 {}
 
 /// Two worked scenarios come to their end, with the traces that were worked out for them by hand.
 pub fn worked_scenarios_come_out()
-    ensures one_client { (c : Config) × Leads (head_of one_client.head) (start one_client) c × (next (head_of one_client.head) c ≡ Ends)
-        × (text_of c ≡ one_client_text) }
-    ensures lost_reply { (c : Config) × Leads (head_of lost_reply.head) (start lost_reply) c × (next (head_of lost_reply.head) c ≡ Ends)
-        × (text_of c ≡ lost_reply_text) }
+    ensures one_client { ComesTo one_client one_client_text }
+    ensures lost_reply { ComesTo lost_reply lost_reply_text }
 {}

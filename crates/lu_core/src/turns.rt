@@ -1,42 +1,24 @@
-//! The turns in which a message comes, and those of the metadata target.
+//! The turns of the metadata target.
 
 ghost use Rattle.std.specs.Prelude.{◌≡◌, ℕ, ◌<◌, None, IfOk, OnOk};
 ghost use Rattle.lu_base.specs.declared.ids.Node.TheVariants.{Client as AtClient, Target as AtTarget};
 ghost use Rattle.lu_service.specs.Names.{IsNamed};
 ghost use Rattle.lu_target.specs.Targets.{Fits, most_count, server};
-ghost use Rattle.lu_table.specs.Runs.{Comes, Ticks};
-ghost use Rattle.lu_core.specs.Shown.{turn_at, TargetGives, TargetTakes, MayTake, NodesGive, NodesTake};
+ghost use Rattle.lu_covered.specs.Runs.{Comes, Ticks};
+ghost use Rattle.lu_core.specs.Shown.{turn_at, TargetGives, TargetTakes};
 
-use super::clients::Clients;
-use lu_base::{Memory, Node, Stamp};
+use lu_base::{Memory, Stamp};
 use lu_mdt::Mdt;
 use lu_msg::Message;
-use lu_net::Sent;
 use lu_target::{StepFault, Target};
 use lu_trace::Step;
 
-/// The turn of the node to which a message goes.
-pub(crate) fn hand_over(
-    clients: &mut Clients,
+/// The turn of the metadata target to which a message comes.
+pub(crate) fn serve(
     target: &mut Target<Mdt>,
     stamp: Stamp,
-    sent: &Sent,
+    message: &Message,
 ) -> Result<Step, Memory>
-    requires may { MayTake clients.old.clients.items target.old sent.now }
-    ensures step { IfOk result (NodesGive clients.old.clients.items clients.old.dead.items target.old
-        (turn_at stamp sent.now.to) (Comes 0 sent.now.from sent.now.message)) }
-    ensures after { OnOk result ((number : ℕ) → NodesTake clients.old.clients.items clients.old.dead.items target.old
-        (turn_at stamp sent.now.to) (Comes number sent.now.from sent.now.message)
-        clients.new.clients.items clients.new.dead.items target.new) }
-{
-    match sent.to {
-        Node::Client(client) => clients.deliver(stamp, client, &sent.message),
-        Node::Target(_) => serve(target, stamp, &sent.message),
-    }
-}
-
-/// The turn of the metadata target to which a message comes.
-fn serve(target: &mut Target<Mdt>, stamp: Stamp, message: &Message) -> Result<Step, Memory>
     requires fits { Fits IsNamed target.old.journal message.now }
     requires id { target.old.id ≡ 0 }
     requires unspent { target.old.spent ≡ None }

@@ -1,7 +1,10 @@
 //! All messages between the nodes, and the trace so far.
 
-ghost use Rattle.std.specs.Prelude.{◌≡◌, ◌+◌, ◌^◌, ◌<◌, ◌||◌, nat_le, [], ◌++◌, length, map, OnOk};
-ghost use Rattle.lu_core.specs.Scenario.{posted};
+ghost use Rattle.std.specs.Prelude.{◌≡◌, ◌+◌, ◌^◌, ◌<◌, [], ◌∷◌, ◌++◌, map, OnOk, IfSome};
+ghost use Rattle.std.specs.Option.{option_copied};
+ghost use Rattle.lu_net.specs.Posts.{sent_at, IsUnspent, least_unspent};
+ghost use Rattle.lu_core.specs.Scenario.{most_turns, most_messages, posted};
+ghost use Rattle.lu_core.specs.States.{is_full_in, wire_spent};
 ghost use Rattle.lu_core.specs.Numbering.{last_after, numbered_line, last_after_all, numbered_lines};
 
 use lu_base::{At, Memory, Node, Stamp};
@@ -9,6 +12,7 @@ use lu_msg::{Message, Post};
 use lu_net::{Links, Sent};
 use lu_trace::{Entries, Entry, Line, Step};
 use std::alloc::Global;
+use std::marker::Model;
 
 /// No turn begins once a run has this many turns.
 const MOST_TURNS: u64 = 65536;
@@ -19,10 +23,18 @@ const MOST_MESSAGES: u64 = 131072;
 /// The lines of the turns so far, and all messages; how many turns and messages there were.
 #[derive(Drop)]
 pub(crate) struct Wire {
-    pub(crate) links: Links,
-    pub(crate) entries: Entries,
-    pub(crate) turns: u64,
-    pub(crate) messages: u64,
+    links: Links,
+    entries: Entries,
+    turns: u64,
+    messages: u64,
+}
+
+impl Model for Wire {
+    ghost use Rattle.lu_core.specs.States.{WireState};
+
+    ghost Value = { WireState };
+
+    ghost view = { λ w. record { links = w.links; entries = w.entries; turns = w.turns; messages = w.messages } };
 }
 
 impl Wire {
@@ -43,14 +55,36 @@ impl Wire {
 
     /// Whether no turn may begin.
     pub(crate) fn is_full(&self) -> bool
-        ensures full { result ≡ (nat_le 65536 self.now.turns || nat_le 131072 self.now.messages) }
+        ensures full { result ≡ is_full_in self.now }
     {
         self.turns >= MOST_TURNS || self.messages >= MOST_MESSAGES
     }
 
+    /// The message of this number; none where none was sent.
+    pub(crate) fn sent(&self, number: u64) -> Option<&Sent>
+        ensures sent { option_copied result ≡ sent_at self.now.links number }
+    {
+        self.links.at(number)
+    }
+
+    /// The least number of a message that is neither taken nor lost; none where there is none.
+    pub(crate) fn least_unspent(&self) -> Option<u64>
+        ensures number { result ≡ least_unspent self.now.links }
+        ensures unspent { IfSome result (IsUnspent self.now.links) }
+    {
+        self.links.least_unspent()
+    }
+
+    /// The message of this number is taken or lost; nothing changes where none was sent.
+    pub(crate) fn spend(&mut self, number: u64)
+        ensures spent { self.new ≡ wire_spent self.old number }
+    {
+        self.links.spend(number);
+    }
+
     /// The stamp of the next turn.
     pub(crate) fn next_stamp(&self) -> Stamp
-        requires room { self.now.turns < 65536 }
+        requires room { self.now.turns < most_turns }
         ensures stamp { result.0 ≡ self.now.turns + 1 }
     {
         Stamp(self.turns + 1)
@@ -59,8 +93,8 @@ impl Wire {
     /// Adds a turn: its messages get their numbers, and its `take` the number of the message that it took.
     /// After want of memory a part of the turn may be there.
     pub(crate) fn add(&mut self, at: At, step: Step, taken: u64) -> Result<(), Memory>
-        requires turns_room { self.old.turns < 65536 }
-        requires messages_room { self.old.messages < 131072 }
+        requires turns_room { self.old.turns < most_turns }
+        requires messages_room { self.old.messages < most_messages }
         ensures lines { OnOk result (self.new.entries
             ≡ self.old.entries ++ numbered_lines self.old.messages taken step.entries) }
         ensures posts { OnOk result (self.new.links ≡ self.old.links ++ map (posted at) step.sends) }
@@ -76,7 +110,7 @@ impl Wire {
 
     /// Writes lines with their numbers. A `send` is one more message.
     fn write(&mut self, lines: Vec<Line>, taken: u64) -> Result<(), Memory>
-        requires room { self.old.messages < 131072 }
+        requires room { self.old.messages < most_messages }
         ensures lines { OnOk result (self.new.entries
             ≡ self.old.entries ++ numbered_lines self.old.messages taken lines.items) }
         ensures messages { OnOk result (self.new.messages ≡ last_after_all self.old.messages lines.items) }
@@ -84,9 +118,22 @@ impl Wire {
         ensures turns { self.new.turns ≡ self.old.turns }
     {
         for line in lines {
-            let numbered = self.numbered(line, taken);
-            self.entries.push(numbered)?;
+            self.write_line(line, taken)?;
         }
+        Ok(())
+    }
+
+    /// Writes a line with its number.
+    fn write_line(&mut self, line: Line, taken: u64) -> Result<(), Memory>
+        requires room { self.old.messages + 1 < 2 ^ 64 }
+        ensures line { OnOk result (self.new.entries
+            ≡ self.old.entries ++ numbered_line self.old.messages taken line ∷ []) }
+        ensures messages { OnOk result (self.new.messages ≡ last_after self.old.messages line.entry) }
+        ensures links { self.new.links ≡ self.old.links }
+        ensures turns { self.new.turns ≡ self.old.turns }
+    {
+        let numbered = self.numbered(line, taken);
+        self.entries.push(numbered)?;
         Ok(())
     }
 
@@ -127,14 +174,25 @@ impl Wire {
         ensures messages { self.new.messages ≡ self.old.messages }
     {
         for post in sends {
-            self.links.post(Sent {
-                number: 0,
-                stamp: at.stamp,
-                from: at.node,
-                to: post.to,
-                message: post.message,
-            })?;
+            self.post_one(at, post)?;
         }
+        Ok(())
+    }
+
+    /// Sends a message.
+    fn post_one(&mut self, at: At, post: Post) -> Result<(), Memory>
+        ensures posts { OnOk result (self.new.links ≡ self.old.links ++ posted at post ∷ []) }
+        ensures entries { self.new.entries ≡ self.old.entries }
+        ensures turns { self.new.turns ≡ self.old.turns }
+        ensures messages { self.new.messages ≡ self.old.messages }
+    {
+        self.links.post(Sent {
+            number: 0,
+            stamp: at.stamp,
+            from: at.node,
+            to: post.to,
+            message: post.message,
+        })?;
         Ok(())
     }
 

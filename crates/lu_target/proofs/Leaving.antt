@@ -14,9 +14,9 @@ use Rattle.lu_part.specs.declared.parts.Part.{Part}
 use Rattle.lu_machine.specs.Tree.{Tree}
 use Rattle.lu_machine.proofs.Stated.{unchanged_stay}
 use Rattle.lu_words.specs.Carried.{Deed, Slot as RowSlot}
-use Rattle.lu_target_rows.specs.Parts.{Logged, without_request, entered, answered}
-use Rattle.lu_target_rows.specs.States.{Server, none, next_number, seen_in}
-use Rattle.lu_target_rows.specs.Rows.{asked, deed}
+use Rattle.lu_covered.specs.TargetParts.{Logged, without_request, entered, answered}
+use Rattle.lu_covered.specs.TargetStates.{Server, none, next_number, seen_in}
+use Rattle.lu_covered.specs.TargetRows.{asked, deed}
 use Rattle.lu_txn.specs.declared.slots.Slot.{Slot}
 use Rattle.lu_txn.specs.Journals.{JournalState, count, appended}
 use Rattle.lu_txn.specs.Slots.{same_life, is_of, slot_of, with_tag, with_reply}

@@ -5,7 +5,7 @@ use Rattle.lu_part.specs.declared.parts.Part.{Part}
 use Rattle.lu_part.specs.Meets.{meets}
 use Rattle.lu_part.proofs.PartLaws.{meets_symmetric}
 use Rattle.lu_machine.specs.Seen.{meet}
-use Rattle.lu_target_rows.specs.States.{seen_in}
+use Rattle.lu_covered.specs.TargetStates.{seen_in}
 use Rattle.lu_txn.specs.declared.logs.Logged.{Logged}
 use Rattle.lu_txn.specs.Logs.{number, meets_written, is_seen, seen_by}
 use Rattle.std.specs.List.{list_any, filter}

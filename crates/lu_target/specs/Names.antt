@@ -7,7 +7,7 @@ use Rattle.lu_part.specs.declared.parts.Part.{Part}
 use Rattle.lu_machine.specs.Footprint as footprint
 use Rattle.lu_machine.specs.Tree.{Tree}
 use Rattle.lu_service.specs.Contents.{Contents}
-use Rattle.lu_target_rows.specs.Rows.{asked}
+use Rattle.lu_covered.specs.TargetRows.{asked}
 
 abbrev pub changes : Contents → Request → Txn → Bool
 changes s r number = footprint.changes s.osts s.tree (asked r number)

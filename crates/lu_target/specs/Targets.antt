@@ -7,8 +7,8 @@ use Rattle.lu_msg.specs.declared.messages.Reply.{Reply}
 use Rattle.lu_msg.specs.declared.messages.Request.{Request}
 use Rattle.lu_msg.specs.declared.operations.Op.{Op}
 use Rattle.lu_words.specs.Carried.{Slot}
-use Rattle.lu_target_rows.specs.Parts.{Logged, no_slot}
-use Rattle.lu_target_rows.specs.States.{Server}
+use Rattle.lu_covered.specs.TargetParts.{Logged, no_slot}
+use Rattle.lu_covered.specs.TargetStates.{Server}
 use Rattle.lu_service.specs.Contents.{Contents}
 use Rattle.lu_txn.specs.declared.logs.Logged.{Logged as JournalLogged}
 use Rattle.lu_txn.specs.Journals.{JournalState, count}

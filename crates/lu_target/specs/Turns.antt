@@ -15,8 +15,8 @@ use Rattle.lu_trace.specs.declared.traces.Step.{Step}
 use Rattle.lu_trace.specs.Turns.{Making, then_step}
 use Rattle.lu_words.specs.Words.{Entry, Enters}
 use Rattle.lu_words.specs.Given.{step_of}
-use Rattle.lu_target_rows.specs.States.{Server, server_turn, slot_turn}
-use Rattle.lu_target_rows.specs.Rows.{row_executes, row_enters, row_request, row_heeds, row_takes, makes}
+use Rattle.lu_covered.specs.TargetStates.{Server, server_turn, slot_turn}
+use Rattle.lu_covered.specs.TargetRows.{row_executes, row_enters, row_request, row_heeds, row_takes, makes}
 use Rattle.lu_txn.specs.Journals.{count}
 use Rattle.lu_txn.specs.Slots.{same_life}
 use Rattle.lu_target.specs.Targets.{HandlerState, TargetState, handler, most_count, serving, server, kept, slot_in, slot, has_slot, IsReady}

@@ -5,15 +5,15 @@ ghost use Rattle.lu_base.specs.declared.ids.Node.{Node as SpecNode};
 ghost use Rattle.lu_base.specs.declared.ids.Txn.{Txn as SpecTxn};
 ghost use Rattle.lu_trace.specs.Turns.{then_step};
 ghost use Rattle.lu_words.specs.Given.{step_of};
-ghost use Rattle.lu_target_rows.specs.States.{none, next_number, seen_in};
-ghost use Rattle.lu_target_rows.specs.Rows.{again, reply_to as row_reply};
+ghost use Rattle.lu_covered.specs.TargetStates.{none, next_number, seen_in};
+ghost use Rattle.lu_covered.specs.TargetRows.{again, reply_to as row_reply};
 ghost use Rattle.lu_service.specs.declared.services.Kind.TheVariants.{Mdt};
 ghost use Rattle.lu_service.specs.Names.{fresh};
 ghost use Rattle.lu_txn.specs.Journals.{fresh as unused, count, appended};
 ghost use Rattle.lu_txn.specs.Slots.{is_among, with_reply};
 ghost use Rattle.lu_target.specs.Names as names;
 ghost use Rattle.lu_target.specs.Targets.{most_count, serving, kept, has_slot, slot_in, IsTaken, Fits, IsReady};
-ghost use Rattle.lu_target_rows.specs.Parts.{no_slot};
+ghost use Rattle.lu_covered.specs.TargetParts.{no_slot};
 ghost use Rattle.lu_target.specs.Turns.{taking, heeding, asking, entering, acting, transacting, giving, Keeps, Leaves, LacksNumber, HasNumber};
 
 use super::faults::StepFault;
@@ -57,8 +57,10 @@ impl<S: Service> Handler<S> {
         requires new { S.contents service ≡ fresh (S.contents service).osts }
         ensures contents { IfOk result (λ handler. handler.contents ≡ S.contents service) }
         ensures journal { IfOk result (λ handler. handler.journal ≡ unused first.now) }
-        ensures slots { IfOk result (λ handler. (who : Who) (tag : ℕ) → slot_in handler.journal who tag ≡ no_slot) }
-        ensures served { IfOk result (λ handler. (who : Who) → has_slot handler.journal who ≡ is_among who first.now) }
+        ensures slots { IfOk result (λ handler. (who : Who) (tag : ℕ)
+            → slot_in handler.journal who tag ≡ no_slot) }
+        ensures served { IfOk result (λ handler. (who : Who)
+            → has_slot handler.journal who ≡ is_among who first.now) }
         ensures ready { IfOk result IsReady }
     {
         Ok(Handler {
@@ -114,9 +116,11 @@ impl<S: Service> Handler<S> {
         requires mdt { S.kind ≡ Mdt }
         requires ready { IsReady self.old }
         requires fits { Fits S.takes self.old.journal message.now }
-        ensures step { IfOk result (λ step. (from : SpecNode) → step ≡ step_of at (taking self.old at from message.now)) }
+        ensures step { IfOk result (λ step. (from : SpecNode)
+            → step ≡ step_of at (taking self.old at from message.now)) }
         ensures leaves { OnOk result (Leaves self.old self.new (heeding self.old at message.now)) }
-        ensures numbers { result ≡ Err StepFault.NumbersSpent → LacksNumber self.old (heeding self.old at message.now) }
+        ensures numbers { result ≡ Err StepFault.NumbersSpent
+            → LacksNumber self.old (heeding self.old at message.now) }
         ensures room { OnOk result (HasNumber self.old (heeding self.old at message.now)) }
     {
         let mut turn = Turn::new(self.alloc, at);
@@ -134,7 +138,8 @@ impl<S: Service> Handler<S> {
         requires taken { IsTaken S.takes self.old.journal request.now }
         ensures step { OnOk result (turn.new.step ≡ giving turn.old (asking self.old turn.old.at request.now)) }
         ensures leaves { OnOk result (Leaves self.old self.new (asking self.old turn.old.at request.now)) }
-        ensures numbers { result ≡ Err StepFault.NumbersSpent → LacksNumber self.old (asking self.old turn.old.at request.now) }
+        ensures numbers { result ≡ Err StepFault.NumbersSpent
+            → LacksNumber self.old (asking self.old turn.old.at request.now) }
         ensures room { OnOk result (HasNumber self.old (asking self.old turn.old.at request.now)) }
     {
         match self.journal.look(request.who, request.tag, request.xid) {
@@ -148,7 +153,8 @@ impl<S: Service> Handler<S> {
 
     /// Sends a kept reply again, with the present boot and committed number.
     fn resend(&self, turn: &mut Turn, kept: &Reply) -> Result<(), Memory>
-        ensures step { OnOk result (turn.new.step ≡ giving turn.old (row_reply (again (serving self.now) kept.now) ∷ [])) }
+        ensures step { OnOk result (turn.new.step
+            ≡ giving turn.old (row_reply (again (serving self.now) kept.now) ∷ [])) }
     {
         let mut again = kept.copy(self.alloc)?;
         again.boot = self.boot;
@@ -163,7 +169,8 @@ impl<S: Service> Handler<S> {
         requires taken { IsTaken S.takes self.old.journal request.now }
         ensures step { OnOk result (turn.new.step ≡ giving turn.old (entering self.old turn.old.at request.now)) }
         ensures leaves { OnOk result (Leaves self.old self.new (entering self.old turn.old.at request.now)) }
-        ensures numbers { result ≡ Err StepFault.NumbersSpent → LacksNumber self.old (entering self.old turn.old.at request.now) }
+        ensures numbers { result ≡ Err StepFault.NumbersSpent
+            → LacksNumber self.old (entering self.old turn.old.at request.now) }
         ensures room { OnOk result (HasNumber self.old (entering self.old turn.old.at request.now)) }
     {
         if changes(&self.service, request) {
@@ -228,7 +235,8 @@ impl<S: Service> Handler<S> {
         ensures number { IfOk result (λ number. number ≡ next_number (serving self.now)) }
         ensures above { IfOk result (λ number. self.now.journal.newest < number.0) }
         ensures room { OnOk result (count self.now.journal < most_count) }
-        ensures spent { IfErr result (λ fault. (fault ≡ StepFault.NumbersSpent) × (count self.now.journal ≡ most_count)) }
+        ensures spent { IfErr result (λ fault. (fault ≡ StepFault.NumbersSpent)
+            × (count self.now.journal ≡ most_count)) }
     {
         match self.journal.next() {
             Ok(number) => Ok(number),

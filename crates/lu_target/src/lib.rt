@@ -6,8 +6,6 @@ mod faults;
 mod handlers;
 mod names;
 mod targets;
-#[cfg(test)]
-mod tests;
 mod turns;
 
 pub use faults::StepFault;

@@ -28,7 +28,8 @@ pub(crate) fn touches<S: Service>(
 ) -> Result<Parts, Memory>
     requires mdt { S.kind ≡ Mdt }
     requires taken { S.takes request.now.op }
-    ensures touches { IfOk result (λ parts. (number : SpecTxn) → parts ≡ names.touches (S.contents service.now) request.now number) }
+    ensures touches { IfOk result (λ parts. (number : SpecTxn)
+        → parts ≡ names.touches (S.contents service.now) request.now number) }
 {
     service.touches(alloc, request.who, &request.op)
 }
@@ -41,7 +42,8 @@ pub(crate) fn writes<S: Service>(
 ) -> Result<Parts, Memory>
     requires mdt { S.kind ≡ Mdt }
     requires taken { S.takes request.now.op }
-    ensures writes { IfOk result (λ parts. (number : SpecTxn) → parts ≡ names.writes (S.contents service.now) request.now number) }
+    ensures writes { IfOk result (λ parts. (number : SpecTxn)
+        → parts ≡ names.writes (S.contents service.now) request.now number) }
 {
     service.writes(alloc, request.who, &request.op)
 }
@@ -55,12 +57,15 @@ pub(crate) fn perform<S: Service>(
 ) -> Result<Answer, Memory>
     requires mdt { S.kind ≡ Mdt }
     requires taken { S.takes request.now.op }
-    requires above { names.changes (S.contents service.old) request.now number ≡ true → (S.contents service.old).last < number.0 }
+    requires above { names.changes (S.contents service.old) request.now number ≡ true
+        → (S.contents service.old).last < number.0 }
     requires files { (S.contents service.old).tree.files ≡ [] }
     ensures answer { IfOk result (λ answer. answer ≡ names.answer (S.contents service.old) request.now number) }
     ensures osts { OnOk result ((S.contents service.new).osts ≡ (S.contents service.old).osts) }
-    ensures last { OnOk result ((S.contents service.new).last ≡ names.last (S.contents service.old) request.now number) }
-    ensures tree { OnOk result ((S.contents service.new).tree ≡ names.tree (S.contents service.old) request.now number) }
+    ensures last { OnOk result ((S.contents service.new).last
+        ≡ names.last (S.contents service.old) request.now number) }
+    ensures tree { OnOk result ((S.contents service.new).tree
+        ≡ names.tree (S.contents service.old) request.now number) }
     ensures files { OnOk result ((S.contents service.new).tree.files ≡ []) }
 {
     service.apply(alloc, number, request.who, &request.op)

@@ -6,9 +6,9 @@ ghost use Rattle.lu_base.specs.declared.ids.Who.{Who as SpecWho};
 ghost use Rattle.lu_service.specs.declared.services.Kind.TheVariants.{Mdt};
 ghost use Rattle.lu_service.specs.Names.{fresh};
 ghost use Rattle.lu_words.specs.Given.{step_of};
-ghost use Rattle.lu_target_rows.specs.Parts.{no_slot};
-ghost use Rattle.lu_target_rows.specs.States.{server_start, slot_turn};
-ghost use Rattle.lu_target_rows.specs.Rows.{row_tick};
+ghost use Rattle.lu_covered.specs.TargetParts.{no_slot};
+ghost use Rattle.lu_covered.specs.TargetStates.{server_start, slot_turn};
+ghost use Rattle.lu_covered.specs.TargetRows.{row_tick};
 ghost use Rattle.lu_txn.specs.Slots.{is_among};
 ghost use Rattle.lu_target.specs.Targets.{handler, server, slot, serves, Fits};
 ghost use Rattle.lu_target.specs.Turns.{turn_of, row, heeds, server_after, Gives, LacksNumber, HasNumber};
@@ -84,9 +84,11 @@ impl<S: Service> Target<S> {
         requires mdt { S.kind ≡ Mdt }
         requires fits { self.old.spent ≡ None → Fits S.takes self.old.journal message.now }
         ensures step { IfOk result (Gives self.old stamp message.now) }
-        ensures server { OnOk result ((from : SpecNode) → server self.new ≡ server_after self.old (row self.old stamp from message.now)) }
+        ensures server { OnOk result ((from : SpecNode)
+            → server self.new ≡ server_after self.old (row self.old stamp from message.now)) }
         ensures slots { OnOk result ((from : SpecNode) (who : SpecWho) (tag : ℕ)
-            → slot self.new who tag ≡ slot_turn who tag (slot self.old who tag) (row self.old stamp from message.now)) }
+            → slot self.new who tag
+            ≡ slot_turn who tag (slot self.old who tag) (row self.old stamp from message.now)) }
         ensures served { OnOk result ((who : SpecWho) → serves self.new who ≡ serves self.old who) }
         ensures osts { OnOk result (self.new.contents.osts ≡ self.old.contents.osts) }
         ensures id { self.new.id ≡ self.old.id }

@@ -14,11 +14,14 @@ use Rattle.lu_trace.specs.declared.traces.End.{End}
 use Rattle.lu_words.specs.Printed.{printed}
 use Rattle.lu_laws.specs.Laws.{Lawful, IsLawful}
 use Rattle.lu_lawful.proofs.Whole.{lawful}
+use Rattle.lu_table.specs.Scenarios.{head_of as whole_head}
+use Rattle.lu_covering.proofs.Small.{to_whole}
+use Rattle.lu_covering.proofs.Stated.{rows_covered}
 use Rattle.lu_core.specs.Scenario.{head_of, past_of}
 use Rattle.lu_core.specs.Played.{IsPlayed}
 use Rattle.lu_core.proofs.Runs.{run_is_run}
 use Rattle.lu_core.specs.Performed.{AllPerformed}
-use Rattle.lu_top.specs.Outcomes.{IsRunOf, IsTraceOutcome, IsOutcome}
+use Rattle.lu_top.specs.Outcomes.{IsRunOf, IsTraceOutcome, IsOutcome, Tells}
 use Rattle.lu_top.specs.declared.status.Status.{Status}
 use Rattle.lu_top.specs.declared.status.Status.TheVariants as status
 use Rattle.lu_top.proofs.Today.{is_performed}
@@ -37,7 +40,8 @@ run_of text scene trace end is all played =
       scene = scene;
       performed = record { is = is; lines = all };
       played = played;
-      run = run;
+      run = to_whole (whole_head scene.head) played.config.turns run;
+      covered = rows_covered (whole_head scene.head) played.config.turns run;
       lawful = law_of scene.head.osts trace (printed (past_of played.config)) played.traced.osts played.traced.entries law;
     }
 
@@ -49,6 +53,15 @@ outcome_of old new before now text scene status.WriteFault is all out =
     let part = out.0 in ((part.0, part.1, run_of text scene part.0 part.1 is all part.2, part.3), out.1)
 outcome_of old new before now text scene status.Memory is all out = tt
 outcome_of old new before now text scene _ is all out = absurd out
+
+-- and it tells the line of its status
+pub told_of : (old new : Option (List ℕ)) (before now : ℕ) (text : List ℕ) (answer : Status) → IsOutcome old new before now text answer → Tells old new before now answer
+told_of old new before now text (status.Scene line fault) out = out.1
+told_of old new before now text (status.NotYet line) out = out.1
+told_of old new before now text status.Done out = tt
+told_of old new before now text status.WriteFault out = tt
+told_of old new before now text status.Memory out = tt
+told_of old new before now text _ out = absurd out
 
 abbrev fine : Scene → Result Scene SceneFault
 fine s = Ok s

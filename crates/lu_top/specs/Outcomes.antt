@@ -1,5 +1,5 @@
 -- What the top call reads and writes.
-use Rattle.std.specs.Prelude.{◌≡◌, ℕ, ◌≤◌, List, [], ◌∷◌, length, codes, Some, ◌⊎◌}
+use Rattle.std.specs.Prelude.{◌≡◌, ℕ, ◌≤◌, List, [], ◌∷◌, length, map, codes, Some, None, IfSome, ◌⊎◌}
 use Rattle.std.specs.declared.option.Option.{Option}
 use Rattle.std.specs.Io.KnownBytes.{Appends}
 use Rattle.lu_base.specs.Faults.{Rose, ReadWhole, WrotePrefix}
@@ -7,16 +7,22 @@ use Rattle.lu_scene.specs.Lines.{lines_of}
 use Rattle.lu_scene.specs.Grammar.{IsFirstFault}
 use Rattle.lu_scene.specs.declared.scene.Scene.{Scene}
 use Rattle.lu_table.specs.Runs.{IsRun}
+use Rattle.lu_table.specs.Scenarios.{head_of}
+use Rattle.lu_covering.specs.Covered.{AllCovered, turn_of}
 use Rattle.lu_trace.specs.declared.traces.Trace.{Trace}
 use Rattle.lu_trace.specs.declared.traces.End.{End}
 use Rattle.lu_trace.specs.Traces.{trace_text}
 use Rattle.lu_laws.specs.Laws.{IsLawful}
-use Rattle.lu_core.specs.Scenario.{head_of}
+use Rattle.lu_core.specs.Scenario.{past_of}
 use Rattle.lu_core.specs.Played.{IsPlayed}
 use Rattle.lu_top.specs.Performed.{IsPerformedText, IsFirstUnperformed}
-use Rattle.lu_top.specs.Refusals.{bad_text, not_yet_text}
+use Rattle.lu_top.specs.Refusals.{usage_text, read_fault_text, too_long_text, bad_text, not_yet_text}
 use Rattle.lu_top.specs.declared.status.Status.{Status}
 use Rattle.lu_top.specs.declared.status.Status.TheVariants as status
+
+-- the most bytes that a scenario has
+abbrev pub most_bytes : ℕ
+most_bytes = 1048576
 
 -- the source was read to its end, it gave at most a scenario's bytes, and this holds of them
 abbrev pub WasRead : Option (List ℕ) → Option (List ℕ) → (List ℕ → Type 0) → Type 0
@@ -26,12 +32,27 @@ WasRead old new P = (text : List ℕ) × ReadWhole old new text × (length text 
 abbrev pub WasTold : Option (List ℕ) → Option (List ℕ) → ℕ → ℕ → List ℕ → Type 0
 WasTold old new before now line = Appends old new line ⊎ (WrotePrefix old new line × Rose before now)
 
--- the run of the scenario that a text is: with this trace, and it ends so. It is a run of the table, and its trace is lawful
+-- the line that a status tells, if it tells one
+abbrev pub line_told : Status → Option (List ℕ)
+line_told status.Usage = Some usage_text
+line_told status.ReadFault = Some read_fault_text
+line_told status.TooLong = Some too_long_text
+line_told (status.Scene line fault) = Some (bad_text line fault)
+line_told (status.NotYet line) = Some (not_yet_text line)
+line_told _ = None
+
+-- the line of a status was written whole, or a prefix of it and the sink's count of faults rose
+abbrev pub Tells : Option (List ℕ) → Option (List ℕ) → ℕ → ℕ → Status → Type 0
+Tells old new before now answer = IfSome (line_told answer) (λ line. WasTold old new before now line)
+
+-- the run of the scenario that a text is: with this trace, and it ends so. It is a run of the whole table, of those that the
+-- theorem covers so far, and its trace is lawful
 pub record IsRunOf (text : List ℕ) (trace : Trace) (end : End) : Type 0 where
   pub scene : Scene
   pub performed : IsPerformedText text scene
   pub played : IsPlayed scene trace end
-  pub run : IsRun (head_of scene.head) played.config.turns
+  pub run : IsRun (head_of scene.head) (map turn_of played.config.turns)
+  pub covered : AllCovered (past_of played.config)
   pub lawful : IsLawful trace
 
 -- the whole text of the trace of a text's run was written
@@ -63,7 +84,7 @@ IsOutcome old new before now text _ = ⊥
 pub record IsGiven (words : List (List ℕ)) (left : Option (List ℕ)) (before now : ℕ) (text : List ℕ) : Type 0 where
   pub play : words ≡ codes "play" ∷ []
   pub bytes : left ≡ Some text
-  pub fits : length text ≤ 1048576
+  pub fits : length text ≤ most_bytes
   pub calm : ¬ Rose before now
 
 -- done, or memory ran out

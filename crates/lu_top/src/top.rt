@@ -12,8 +12,8 @@ ghost use Rattle.lu_trace.specs.declared.traces.End.{End};
 ghost use Rattle.lu_core.specs.Performed.{IsPerformed, AllPerformed};
 ghost use Rattle.lu_core.specs.Played.{IsPlayed};
 ghost use Rattle.lu_top.specs.Performed.{IsPerformedText, IsFirstUnperformed};
-ghost use Rattle.lu_top.specs.Refusals.{usage_text, read_fault_text, too_long_text, bad_text, not_yet_text};
-ghost use Rattle.lu_top.specs.Outcomes.{IsOutcome, IsTraceOutcome, IsGiven, IsDone, IsRefused, IsPutOff, WasRead, WasTold, WroteRun, WroteRunInPart};
+ghost use Rattle.lu_top.specs.Refusals.{usage_text, bad_text, not_yet_text};
+ghost use Rattle.lu_top.specs.Outcomes.{most_bytes, IsOutcome, IsTraceOutcome, IsGiven, IsDone, IsRefused, IsPutOff, Tells, WasRead, WasTold, WroteRun, WroteRunInPart};
 
 use super::performed::first_unperformed;
 use super::refusals::{bad_text, not_yet_text};
@@ -45,7 +45,7 @@ pub fn run<S: Source, K: Sink>(
     ensures usage { (result ≡ Status.Usage) ↔ (map string_bytes words.now ≢ codes "play" ∷ []) }
     ensures unread { result ≡ Status.Usage → source.new ≡ source.old }
     ensures read_fault { result ≡ Status.ReadFault → Rose (S.faults source.old) (S.faults source.new) }
-    ensures too_long { result ≡ Status.TooLong → CameMore (S.left source.old) (S.left source.new) 1048576 }
+    ensures too_long { result ≡ Status.TooLong → CameMore (S.left source.old) (S.left source.new) most_bytes }
     ensures scene { (line : ℕ) (fault : Fault) → result ≡ Status.Scene line fault
         → WasRead (S.left source.old) (S.left source.new) (λ text. IsFirstFault (lines_of text) line fault) }
     ensures not_yet { (line : ℕ) → result ≡ Status.NotYet line
@@ -55,35 +55,24 @@ pub fn run<S: Source, K: Sink>(
     ensures source_steady { result ≢ Status.ReadFault → S.faults source.new ≡ S.faults source.old }
     ensures sink_steady { result ≡ Status.Done → K.faults sink.new ≡ K.faults sink.old }
     // Where no fault comes and memory suffices, the answer is that of the bytes.
-    ensures refused { (text : List ℕ) → IsGiven (map string_bytes words.now) (S.left source.old) (S.faults source.old)
-        (S.faults source.new) text → ((scene : Scene) → ¬ IsScene text scene) → IsRefused result }
+    ensures refused { (text : List ℕ)
+        → IsGiven (map string_bytes words.now) (S.left source.old) (S.faults source.old) (S.faults source.new) text
+        → ((scene : Scene) → ¬ IsScene text scene) → IsRefused result }
     ensures put_off { (text : List ℕ) (scene : Scene)
-        → IsGiven (map string_bytes words.now) (S.left source.old) (S.faults source.old)
-        (S.faults source.new) text → IsScene text scene → ¬ AllPerformed scene.lines → IsPutOff result }
+        → IsGiven (map string_bytes words.now) (S.left source.old) (S.faults source.old) (S.faults source.new) text
+        → IsScene text scene → ¬ AllPerformed scene.lines → IsPutOff result }
     ensures done { (text : List ℕ) (scene : Scene)
-        → IsGiven (map string_bytes words.now) (S.left source.old) (S.faults source.old)
-        (S.faults source.new) text → IsPerformedText text scene → ¬ Rose (K.faults sink.old) (K.faults sink.new)
-        → IsDone result }
+        → IsGiven (map string_bytes words.now) (S.left source.old) (S.faults source.old) (S.faults source.new) text
+        → IsPerformedText text scene → ¬ Rose (K.faults sink.old) (K.faults sink.new) → IsDone result }
 
     // What stands in the sink then. A line of a refusal may be cut off by a fault; its status stays.
-    ensures usage_told { result ≡ Status.Usage
-        → WasTold (K.holds sink.old) (K.holds sink.new) (K.faults sink.old) (K.faults sink.new) usage_text }
-    ensures read_fault_told { result ≡ Status.ReadFault
-        → WasTold (K.holds sink.old) (K.holds sink.new) (K.faults sink.old) (K.faults sink.new) read_fault_text }
-    ensures too_long_told { result ≡ Status.TooLong
-        → WasTold (K.holds sink.old) (K.holds sink.new) (K.faults sink.old) (K.faults sink.new) too_long_text }
-    ensures scene_told { (line : ℕ) (fault : Fault) → result ≡ Status.Scene line fault
-        → WasTold (K.holds sink.old) (K.holds sink.new) (K.faults sink.old) (K.faults sink.new)
-        (bad_text line fault) }
-    ensures not_yet_told { (line : ℕ) → result ≡ Status.NotYet line
-        → WasTold (K.holds sink.old) (K.holds sink.new) (K.faults sink.old) (K.faults sink.new)
-        (not_yet_text line) }
+    ensures told { Tells (K.holds sink.old) (K.holds sink.new) (K.faults sink.old) (K.faults sink.new) result }
     ensures write_fault_written { result ≡ Status.WriteFault
         → WasRead (S.left source.old) (S.left source.new) (WroteRunInPart (K.holds sink.old) (K.holds sink.new)) }
     ensures memory_written { result ≡ Status.Memory → sink.new ≡ sink.old }
 {
     if !is_play(words) {
-        return tell(sink, USAGE, Status::Usage);
+        return tell_usage(sink);
     }
     match read_all(alloc, source, MOST_BYTES) {
         Ok(text) => perform(alloc, text.as_slice(), sink),
@@ -106,6 +95,14 @@ fn is_play(words: &[String]) -> bool
     }
 }
 
+/// Writes the line that names the forms of a command line.
+pub(crate) fn tell_usage<K: Sink>(sink: &mut K) -> Status
+    ensures status { result ≡ Status.Usage }
+    ensures told { WasTold (K.holds sink.old) (K.holds sink.new) (K.faults sink.old) (K.faults sink.new) usage_text }
+{
+    tell(sink, USAGE, Status::Usage)
+}
+
 /// Writes a line, and answers the status whatever comes of it.
 fn tell<K: Sink>(sink: &mut K, line: &[u8], status: Status) -> Status
     ensures status { result ≡ status }
@@ -117,11 +114,12 @@ fn tell<K: Sink>(sink: &mut K, line: &[u8], status: Status) -> Status
 
 /// Performs a text and writes the trace of its run.
 fn perform<K: Sink>(alloc: Global, text: &[u8], sink: &mut K) -> Status
-    ensures outcome { IsOutcome (K.holds sink.old) (K.holds sink.new) (K.faults sink.old) (K.faults sink.new) text.now result }
+    ensures outcome { IsOutcome (K.holds sink.old) (K.holds sink.new)
+        (K.faults sink.old) (K.faults sink.new) text.now result }
     ensures refused { ((scene : Scene) → ¬ IsScene text.now scene) → IsRefused result }
     ensures put_off { (scene : Scene) → IsScene text.now scene → ¬ AllPerformed scene.lines → IsPutOff result }
-    ensures done { (scene : Scene) → IsPerformedText text.now scene → ¬ Rose (K.faults sink.old) (K.faults sink.new)
-        → IsDone result }
+    ensures done { (scene : Scene) → IsPerformedText text.now scene
+        → ¬ Rose (K.faults sink.old) (K.faults sink.new) → IsDone result }
     ensures sink_steady { result ≡ Status.Done → K.faults sink.new ≡ K.faults sink.old }
     ensures memory { result ≡ Status.Memory → sink.new ≡ sink.old }
 {
@@ -149,7 +147,8 @@ fn tell_bad<K: Sink>(alloc: Global, line: u64, fault: Fault, sink: &mut K) -> St
 /// Performs the scenario that a text is, and writes the trace of its run.
 fn perform_scene<K: Sink>(alloc: Global, text: &[u8], scene: &Scene, sink: &mut K) -> Status
     requires scene { IsScene text.now scene.now }
-    ensures outcome { IsOutcome (K.holds sink.old) (K.holds sink.new) (K.faults sink.old) (K.faults sink.new) text.now result }
+    ensures outcome { IsOutcome (K.holds sink.old) (K.holds sink.new)
+        (K.faults sink.old) (K.faults sink.new) text.now result }
     ensures put_off { ¬ AllPerformed scene.now.lines → IsPutOff result }
     ensures done { AllPerformed scene.now.lines → ¬ Rose (K.faults sink.old) (K.faults sink.new) → IsDone result }
     ensures sink_steady { result ≡ Status.Done → K.faults sink.new ≡ K.faults sink.old }
@@ -179,7 +178,8 @@ fn tell_not_yet<K: Sink>(alloc: Global, line: u64, sink: &mut K) -> Status
 /// Performs a scenario, each line of which is performed so far, and writes the trace of its run.
 fn write_trace<K: Sink>(alloc: Global, scene: &Scene, sink: &mut K) -> Status
     requires performed { IsPerformed scene.now }
-    ensures outcome { IsTraceOutcome (K.holds sink.old) (K.holds sink.new) (K.faults sink.old) (K.faults sink.new) scene.now result }
+    ensures outcome { IsTraceOutcome (K.holds sink.old) (K.holds sink.new)
+        (K.faults sink.old) (K.faults sink.new) scene.now result }
     ensures done { ¬ Rose (K.faults sink.old) (K.faults sink.new) → IsDone result }
     ensures sink_steady { result ≡ Status.Done → K.faults sink.new ≡ K.faults sink.old }
     ensures memory { result ≡ Status.Memory → sink.new ≡ sink.old }

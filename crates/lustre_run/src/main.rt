@@ -2,26 +2,13 @@
 #![tactic(auto)]
 
 use lu_base::{StdSink, StdSource};
-use lu_top::{Status, code, run};
+use lu_top::{code, run_command};
+use std::io;
 use std::process::ExitCode;
-use std::rt::Env;
-use std::{env, io};
 
 fn main(rt: HostRuntime) -> ExitCode {
-    let Ok(words) = words_of(&rt) else {
-        return ExitCode::from(code(&Status::Memory));
-    };
     let mut source = StdSource::new(rt.reader());
     let mut sink = StdSink::new(io::writer(&rt));
-    let status = run(rt.alloc(), words.as_slice(), &mut source, &mut sink);
+    let status = run_command(&rt, &mut source, &mut sink);
     ExitCode::from(code(&status))
-}
-
-/// The words of the command line, without the program's name.
-fn words_of(rt: &(impl Env + AllocGlobal)) -> io::Result<Vec<String>> {
-    let mut words = Vec::new(rt.alloc());
-    for word in env::args(rt)?.skip(1) {
-        words.push(word)?;
-    }
-    Ok(words)
 }

@@ -17,7 +17,7 @@ perform_all-requires c =
     let at : IsAt scene c.in_ok-player.player (start scene) = record {
       performed = c.requires.performed;
       leads = here (start scene);
-      shows = record { clients = made.clients; target = made.target; wire = record { entries = made.entries; links = made.links; turns = made.turns; messages = made.messages } };
+      shows = record { nodes = made.nodes; wire = record { entries = made.entries; links = made.links; turns = made.turns; messages = made.messages } };
     } in
     record { left = (scene, (start scene, at, sym c.as_slice.ensures.same)) }
 
@@ -28,10 +28,10 @@ returns-clause-run c =
     let at : IsAt scene c.in_ok-player.player (start scene) = record {
       performed = c.requires.performed;
       leads = here (start scene);
-      shows = record { clients = made.clients; target = made.target; wire = record { entries = made.entries; links = made.links; turns = made.turns; messages = made.messages } };
+      shows = record { nodes = made.nodes; wire = record { entries = made.entries; links = made.links; turns = made.turns; messages = made.messages } };
     } in
     let d = c.in_ok-end.ensures.ended scene (start scene) at (sym c.as_slice.ensures.same) in
-    (d.0, d.1.leads, d.2, record { osts = refl; entries = c.into_entries.ensures.lines ∙ d.1.shows.wire.entries })
+    record { config = d.0; leads = d.1.leads; ended = d.2; traced = record { osts = refl; entries = c.into_entries.ensures.lines ∙ d.1.shows.wire.entries } }
 
 pub returns-clause-lawful : goal.returns-clause-lawful
 returns-clause-lawful c =
@@ -40,7 +40,7 @@ returns-clause-lawful c =
     let at : IsAt scene c.in_ok-player.player (start scene) = record {
       performed = c.requires.performed;
       leads = here (start scene);
-      shows = record { clients = made.clients; target = made.target; wire = record { entries = made.entries; links = made.links; turns = made.turns; messages = made.messages } };
+      shows = record { nodes = made.nodes; wire = record { entries = made.entries; links = made.links; turns = made.turns; messages = made.messages } };
     } in
     let d = c.in_ok-end.ensures.ended scene (start scene) at (sym c.as_slice.ensures.same) in
     let entries = ap (λ (lines : List Line). reverse lines) (c.into_entries.ensures.lines ∙ d.1.shows.wire.entries) ∙ reverse-reverse (printed (past_of d.0)) in

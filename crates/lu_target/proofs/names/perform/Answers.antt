@@ -4,7 +4,7 @@ use Rattle.std.proofs.lemmas.Result.{on_ok_weaker}
 use Rattle.lu_service.specs.Acts.{Acts}
 use Rattle.lu_service.specs.Contents.{Contents}
 use Rattle.lu_machine.specs.Tree.{Tree}
-use Rattle.lu_target_rows.specs.Rows.{asked}
+use Rattle.lu_covered.specs.TargetRows.{asked}
 use Rattle.lu_target.proofs.Files.{nothing_trimmed, no_files}
 use Rattle.lu_target.proofs.names.perform.Goals as goal
 

@@ -2,7 +2,7 @@
 use Rattle.std.proofs.Common.{◌≡◌, IfOk, subst}
 use Rattle.lu_base.specs.declared.ids.Txn.{Txn}
 use Rattle.lu_service.specs.Acts.{Acts}
-use Rattle.lu_target_rows.specs.Rows.{asked}
+use Rattle.lu_covered.specs.TargetRows.{asked}
 use Rattle.lu_target.proofs.names.writes.Goals as goal
 
 pub returns : goal.returns

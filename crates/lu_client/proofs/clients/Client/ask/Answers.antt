@@ -9,9 +9,9 @@ use Rattle.lu_trace.specs.Turns.{Making, with_line}
 use Rattle.lu_import.specs.Imports.{ImportState}
 use Rattle.lu_words.specs.Carried.{Queued, Running}
 use Rattle.lu_words.specs.Given.{step_of}
-use Rattle.lu_client_rows.specs.Calls.{operation_of}
-use Rattle.lu_client_rows.specs.States.{Asker}
-use Rattle.lu_client_rows.specs.Rows.{row_call, row_rests}
+use Rattle.lu_covered.specs.Calls.{operation_of}
+use Rattle.lu_covered.specs.ClientStates.{Asker}
+use Rattle.lu_covered.specs.ClientRows.{row_call, row_rests}
 use Rattle.lu_client.specs.Clients.{ClientState, turn_of, untold, asker_of, state_of}
 use Rattle.lu_client.specs.Turns.{with_entries, after_entries}
 use Rattle.lu_client.proofs.Whole.{queued, asking, queued_is, asks_step, asks_after}

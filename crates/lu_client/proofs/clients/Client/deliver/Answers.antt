@@ -5,7 +5,7 @@ use Rattle.lu_base.specs.declared.ids.Node.TheVariants.{Target}
 use Rattle.lu_trace.specs.Turns.{Making}
 use Rattle.lu_words.specs.Carried.{Running}
 use Rattle.lu_words.specs.Given.{step_of}
-use Rattle.lu_client_rows.specs.Rows.{row_takes}
+use Rattle.lu_covered.specs.ClientRows.{row_takes}
 use Rattle.lu_client.specs.Clients.{ClientState, turn_of, asker_of, state_of}
 use Rattle.lu_client.specs.Turns.{after_entries}
 use Rattle.lu_client.proofs.Whole.{unmarked, takes_step, takes_after}

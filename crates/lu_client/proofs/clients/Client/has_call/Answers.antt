@@ -3,7 +3,7 @@ use Rattle.std.proofs.Common.{◌≡◌, ◌≤◌, List, length, Option, false,
 use Rattle.std.specs.Prelude.{is_some}
 use Rattle.std.proofs.lemmas.Bool.Decides.{nat_tests}
 use Rattle.lu_words.specs.Carried.{Running}
-use Rattle.lu_client_rows.specs.Calls.{call_on}
+use Rattle.lu_covered.specs.Calls.{call_on}
 use Rattle.lu_client.specs.Clients.{ClientState}
 use Rattle.lu_client.proofs.Slots.{beyond}
 use Rattle.lu_client.proofs.clients.Client.has_call.Goals as goal

@@ -9,7 +9,7 @@ use Rattle.lu_import.specs.InFlights.{request_of}
 use Rattle.lu_import.specs.Imports.{ImportState, hears, heard}
 use Rattle.lu_machine.specs.Fits.{answer_fits}
 use Rattle.lu_words.specs.Carried.{Running}
-use Rattle.lu_client_rows.specs.Rows.{row_tells}
+use Rattle.lu_covered.specs.ClientRows.{row_tells}
 use Rattle.lu_client.specs.Clients.{ClientState, state_of}
 use Rattle.lu_client.specs.Turns.{with_entries, after_entries, heeding}
 use Rattle.lu_client.proofs.Hearing.{unknown, unfit, unheard, step_heard, after_heard}

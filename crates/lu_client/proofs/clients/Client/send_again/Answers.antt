@@ -3,7 +3,7 @@ use Rattle.std.proofs.Common.{◌≡◌, List, [], map, drop, subst, ap, ◌∙�
 use Rattle.std.proofs.lemmas.List.{drop_all}
 use Rattle.lu_import.specs.Imports.{sent_again}
 use Rattle.lu_msg.specs.declared.messages.Post.{Post}
-use Rattle.lu_client_rows.specs.Rows.{row_resends}
+use Rattle.lu_covered.specs.ClientRows.{row_resends}
 use Rattle.lu_client.specs.Clients.{ClientState}
 use Rattle.lu_client.specs.Turns.{with_entries, posted}
 use Rattle.lu_client.proofs.Sending.{resends_is}

@@ -1,7 +1,7 @@
 -- The front is sent, and then what has room after it; at last nothing more has room.
 use Rattle.std.proofs.Common.{◌≡◌, ◌+◌, ◌++◌, List, [], length, Bool, true, if◌then◌else◌, subst, ap, ◌∙◌, arith}
 use Rattle.lu_words.specs.Words.{Entry}
-use Rattle.lu_client_rows.specs.Rows.{row_rests}
+use Rattle.lu_covered.specs.ClientRows.{row_rests}
 use Rattle.lu_client.specs.Clients.{ClientState}
 use Rattle.lu_client.specs.Turns.{with_entries, after_entries, front_sent}
 use Rattle.lu_client.proofs.Growth.{rests_step, rests_asker, front_calls, all_sent}

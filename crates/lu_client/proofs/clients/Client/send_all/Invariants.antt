@@ -1,8 +1,8 @@
 -- What was sent so far, and then what has room, is the whole; and as many numbers were used as requests went
 -- into flight.
 use Rattle.std.proofs.Common.{◌≡◌, ◌+◌, ◌≤◌, length}
-use Rattle.lu_client_rows.specs.States.{asker_turn}
-use Rattle.lu_client_rows.specs.Rows.{row_rests}
+use Rattle.lu_covered.specs.ClientStates.{asker_turn}
+use Rattle.lu_covered.specs.ClientRows.{row_rests}
 use Rattle.lu_client.specs.Turns.{with_entries}
 use Rattle.lu_client.proofs.clients.Client.send_all.Given as goal
 

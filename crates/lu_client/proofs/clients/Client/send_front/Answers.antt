@@ -4,7 +4,7 @@ use Rattle.std.specs.Prelude.{IfSome}
 use Rattle.lu_base.specs.declared.ids.Node.TheVariants.{Target}
 use Rattle.lu_import.specs.Imports.{Sends}
 use Rattle.lu_words.specs.Words.{Send}
-use Rattle.lu_client_rows.specs.Rows.{row_rests}
+use Rattle.lu_covered.specs.ClientRows.{row_rests}
 use Rattle.lu_client.specs.Clients.{ClientState, state_of, asker_of, queued_of, flight_of}
 use Rattle.lu_client.specs.Turns.{with_entry, with_entries, after_entries, front_sent}
 use Rattle.lu_client.proofs.Sending.{row_sent_is, after_sent_is, step_sent_is, counted_sent_is, shorter_sent_is}

@@ -2,7 +2,7 @@
 use Rattle.std.proofs.Common.{◌≡◌, List, Option, false, sym, ap, ◌∙◌}
 use Rattle.std.specs.Prelude.{is_some}
 use Rattle.lu_words.specs.Carried.{Running}
-use Rattle.lu_client_rows.specs.Calls.{call_on}
+use Rattle.lu_covered.specs.Calls.{call_on}
 use Rattle.lu_client.proofs.Slots.{free_still}
 use Rattle.lu_client.proofs.clients.Client.tell.Goals as goal
 

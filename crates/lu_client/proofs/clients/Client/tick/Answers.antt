@@ -2,7 +2,7 @@
 use Rattle.std.proofs.Common.{◌≡◌, true, false, subst, ap, ◌∙◌}
 use Rattle.lu_trace.specs.Turns.{Making}
 use Rattle.lu_words.specs.Given.{step_of}
-use Rattle.lu_client_rows.specs.Rows.{row_tick}
+use Rattle.lu_covered.specs.ClientRows.{row_tick}
 use Rattle.lu_client.specs.Clients.{ClientState, turn_of, asker_of, state_of}
 use Rattle.lu_client.specs.Turns.{after_entries}
 use Rattle.lu_client.proofs.Whole.{unmarked, tick_step, tick_after}

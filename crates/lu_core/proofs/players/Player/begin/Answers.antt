@@ -1,62 +1,63 @@
-use Rattle.std.proofs.Common.{◌∙◌, refl, sym}
+use Rattle.std.proofs.Common.{◌∙◌, ◌<◌, length, refl, sym, subst}
+use Rattle.lu_base.specs.declared.ids.Node.TheVariants.{Client}
 use Rattle.lu_scene.specs.declared.scene.SceneLine.{SceneLine}
 use Rattle.lu_scene.specs.declared.scene.SceneLine.TheVariants.{Call}
-use Rattle.lu_table.specs.Runs.{Begins}
-use Rattle.lu_core.specs.declared.players.Player.{Player}
-use Rattle.lu_core.proofs.ClientLines.{passed, stopped, turned, one_of}
+use Rattle.lu_covered.specs.Runs.{Begins}
+use Rattle.lu_core.specs.States.{PlayerState}
+use Rattle.lu_core.specs.Shown.{HasNumbers}
 use Rattle.lu_core.proofs.Covered.{asked_of}
+use Rattle.lu_core.proofs.Lines.{passed, stopped, turned, turns_of, one_of}
 use Rattle.lu_core.proofs.Placed.{in_room, numbers, can}
 use Rattle.lu_core.proofs.players.Player.begin.Goals as goal
 
 pub returns-then-is_dead : goal.returns-then-is_dead
 returns-then-is_dead c =
-    let p = c.args.self.now in
     let client = c.args.client in
     let line : SceneLine = Call client c.args.slot c.args.call.now in
-    record { performs = passed p line client (Begins c.args.slot c.args.call.now) (λ head config rest. refl) (λ lines clients can. can.one) (sym c.is_dead.ensures.dead ∙ c.if-is_dead.true) }
+    record { performs = passed c.args.self.now line client (Begins c.args.slot c.args.call.now) (λ head config rest. refl) (λ lines clients can. can.one) (sym c.is_dead.ensures.dead ∙ c.if-is_dead.true) }
 
 pub returns-then-is_full : goal.returns-then-is_full
 returns-then-is_full c =
-    let p = c.args.self.now in
     let client = c.args.client in
     let line : SceneLine = Call client c.args.slot c.args.call.now in
-    record { performs = stopped p line client (Begins c.args.slot c.args.call.now) (λ head config rest. refl) (λ lines clients can. can.one) (sym c.is_dead.ensures.dead ∙ c.if-is_dead.false) (sym c.is_full.ensures.full ∙ c.if-is_full.true) }
+    record { performs = stopped c.args.self.now line client (Begins c.args.slot c.args.call.now) (λ head config rest. refl) (λ lines clients can. can.one) (sym c.is_dead.ensures.dead ∙ c.if-is_dead.false) (sym c.is_full.ensures.full ∙ c.if-is_full.true) }
 
 pub begin-requires-clause-one : goal.begin-requires-clause-one
-begin-requires-clause-one c = let client = c.args.client in one_of c.args.self.now (Call client c.args.slot c.args.call.now) client (λ lines clients can. can.one) c.requires.due
+begin-requires-clause-one c =
+    let client = c.args.client in
+    subst (λ (p : PlayerState). client < length p.nodes.seats) (sym c.self.view_is) (one_of c.args.self.now (Call client c.args.slot c.args.call.now) client (λ lines clients can. can.one) c.requires.due)
 
 pub begin-requires-clause-slot : goal.begin-requires-clause-slot
 begin-requires-clause-slot c =
-    let client = c.args.client in
     let due = c.requires.due in
-    (can due.1.0 c.args.self.now due.1.1.0 due.1.1.1 (Call client c.args.slot c.args.call.now) due.0 due.1.1.2).small
+    (can due.1.0 c.args.self.now due.1.1.0 due.1.1.1 (Call c.args.client c.args.slot c.args.call.now) due.0 due.1.1.2).small
 
 pub begin-requires-clause-asked : goal.begin-requires-clause-asked
 begin-requires-clause-asked c =
-    let client = c.args.client in
     let due = c.requires.due in
-    asked_of c.args.call.now (can due.1.0 c.args.self.now due.1.1.0 due.1.1.1 (Call client c.args.slot c.args.call.now) due.0 due.1.1.2).asks
+    asked_of c.args.call.now (can due.1.0 c.args.self.now due.1.1.0 due.1.1.1 (Call c.args.client c.args.slot c.args.call.now) due.0 due.1.1.2).asks
 
 pub begin-requires-clause-numbers : goal.begin-requires-clause-numbers
 begin-requires-clause-numbers c =
     let p = c.args.self.now in
     let client = c.args.client in
     let due = c.requires.due in
-    λ d.
-    numbers due.1.0 p due.1.1.0 due.1.1.1 client d (one_of p (Call client c.args.slot c.args.call.now) client (λ lines clients can. can.one) due)
-    (in_room p.wire.turns p.wire.messages (sym c.is_full.ensures.full ∙ c.if-is_full.false)).1
+    subst (λ (v : PlayerState). HasNumbers v.nodes client) (sym c.self.view_is)
+    (numbers due.1.0 p due.1.1.0 due.1.1.1 client (one_of p (Call client c.args.slot c.args.call.now) client (λ lines clients can. can.one) due) (in_room p.wire (sym c.is_full.ensures.full ∙ c.if-is_full.false)).1)
 
 pub returns : goal.returns
 returns c =
     let p = c.args.self.now in
+    let parts : PlayerState = record { nodes = c.self.inside.nodes; wire = c.self.inside.wire } in
     let client = c.args.client in
     let line : SceneLine = Call client c.args.slot c.args.call.now in
-    let q : Player = record { clients = c.begin.new.self; target = p.target; wire = c.add.new.self } in
+    let nodes = c.begin.new.self in
+    let wire = c.add.new.self in
+    let here = c.next_turn-at.result in
+    let step = c.in_ok-step.step in
     let add = c.in_ok-add.ensures in
     record {
-      performs = turned p line client (Begins c.args.slot c.args.call.now) (λ head config rest. refl) (λ lines clients can. can.one) (sym c.is_dead.ensures.dead ∙ c.if-is_dead.false) (sym c.is_full.ensures.full ∙ c.if-is_full.false) q c.next_turn-at.result c.in_ok-step.step c.next_turn-at.ensures.at
-          c.in_ok-step.ensures.step
-          c.in_ok-step.ensures.after
-          refl
-          (record { lines = add.lines; posts = add.posts; messages = add.messages; turns = add.turns });
+      performs = turned p line client (Begins c.args.slot c.args.call.now) (λ head config rest. refl) (λ lines clients can. can.one) (sym c.is_dead.ensures.dead ∙ c.if-is_dead.false) (sym c.is_full.ensures.full ∙ c.if-is_full.false) (record { nodes = nodes; wire = wire }) here step
+          (turns_of parts p (Client client) (Begins c.args.slot c.args.call.now) here step nodes wire c.self.view_is c.next_turn-at.ensures.at c.in_ok-step.ensures.gives c.in_ok-step.ensures.takes
+          (record { lines = add.lines; posts = add.posts; messages = add.messages; turns = add.turns }));
     }

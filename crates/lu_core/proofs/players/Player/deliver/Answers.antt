@@ -1,9 +1,9 @@
 use Rattle.std.proofs.Common.{◌∙◌, Some, sym, ap, subst}
-use Rattle.std.specs.Prelude.{List, true}
-use Rattle.lu_net.specs.declared.links.Posted.{Posted}
+use Rattle.std.specs.Prelude.{true}
 use Rattle.lu_scene.specs.declared.scene.SceneLine.TheVariants.{Deliver}
 use Rattle.lu_core.specs.Progress.{Performs}
-use Rattle.lu_core.proofs.Running.{with_links, deliver_none, deliver_thrown, deliver_stops, deliver_takes}
+use Rattle.lu_core.specs.States.{PlayerState}
+use Rattle.lu_core.proofs.Running.{deliver_none, deliver_thrown, deliver_stops, deliver_takes}
 use Rattle.lu_core.proofs.players.Player.deliver.Goals as goal
 
 pub returns-in_default : goal.returns-in_default
@@ -14,7 +14,7 @@ returns-then-thrown c =
     let p = c.args.self.now in
     let n = c.args.number in
     record {
-      performs = subst (λ (links : List Posted). Performs p (Deliver n) (with_links p links) true) (sym c.spend.ensures.spent)
+      performs = subst (λ (q : PlayerState). Performs p (Deliver n) q true) (sym c.spend.ensures.spent)
           (deliver_thrown p n (sym c.in-Some.ensures.thrown ∙ ap Some c.if-thrown.true));
     }
 

@@ -1,5 +1,5 @@
 use Rattle.std.proofs.Common.{◌≡◌}
-use Rattle.lu_core.specs.Shown.{is_down_in}
+use Rattle.lu_core.specs.States.{is_down_in, with_links}
 use Rattle.lu_core.specs.Progress.{Thrown}
 use Rattle.lu_core.proofs.Throwing.{unspent}
 use Rattle.lu_core.proofs.players.Player.next_message.Given as goal
@@ -7,8 +7,8 @@ use Rattle.lu_core.proofs.players.Player.next_message.Given as goal
 -- messages were thrown away, and nothing else changed
 abbrev pub invariant-loop-number : goal.invariant-loop-number
 invariant-loop-number l = record {
-  thrown : Thrown (is_down_in l.initial.self.clients.dead.items) l.initial.self.wire.links l.self.wire.links;
-  same : l.self ≡ record l.initial.self { wire = record l.initial.self.wire { links = l.self.wire.links } };
+  thrown : Thrown (is_down_in l.initial.self.nodes) l.initial.self.wire.links l.self.wire.links;
+  same : l.self ≡ with_links l.initial.self l.self.wire.links;
 }
 
 -- each message that is thrown away is spent

@@ -1,18 +1,18 @@
 use Rattle.std.proofs.Common.{sym, subst, refl}
-use Rattle.std.specs.Prelude.{List, true}
-use Rattle.lu_net.specs.declared.links.Posted.{Posted}
+use Rattle.std.specs.Prelude.{true}
 use Rattle.lu_net.specs.Posts.{spend}
 use Rattle.lu_scene.specs.declared.scene.SceneLine.{SceneLine}
 use Rattle.lu_scene.specs.declared.scene.SceneLine.TheVariants.{Commit, CommitSome, Crash, Boot, Close}
 use Rattle.lu_core.specs.Progress.{Performs}
-use Rattle.lu_core.proofs.Running.{with_links, loses, left_out}
+use Rattle.lu_core.specs.States.{PlayerState, with_links}
+use Rattle.lu_core.proofs.Running.{loses, left_out}
 use Rattle.lu_core.proofs.players.Player.perform.Goals as goal
 
 pub returns-in-Lose : goal.returns-in-Lose
 returns-in-Lose c =
     let p = c.args.self.now in
     record {
-      performs = subst (λ (links : List Posted). Performs p c.args.line.now (with_links p links) true) (sym c.spend.ensures.spent)
+      performs = subst (λ (q : PlayerState). Performs p c.args.line.now q true) (sym c.spend.ensures.spent)
           (subst (λ (l : SceneLine). Performs p l (with_links p (spend p.wire.links c.in-Lose.number)) true) (sym c.in-Lose.is) (loses p c.in-Lose.number));
     }
 

@@ -2,17 +2,16 @@ use Rattle.std.proofs.Common.{◌≡◌, ◌∙◌, ◌∷◌, refl, sym, ap, su
 use Rattle.std.specs.Prelude.{List}
 use Rattle.lu_scene.specs.declared.scene.SceneLine.{SceneLine}
 use Rattle.lu_scene.specs.declared.scene.SceneLine.TheVariants.{Run}
-use Rattle.lu_core.specs.declared.players.Player.{Player}
+use Rattle.lu_core.specs.States.{PlayerState, is_down_in, with_links}
 use Rattle.lu_core.specs.Progress.{Thrown}
-use Rattle.lu_core.specs.Shown.{is_down_in}
 use Rattle.lu_core.proofs.Placed.{in_room}
-use Rattle.lu_core.proofs.Running.{Leaves, leaves_then, with_links, throws, ends, stops, takes}
+use Rattle.lu_core.proofs.Running.{Leaves, leaves_then, throws, ends, stops, takes}
 use Rattle.lu_core.proofs.players.Player.run.Goals as goal
 
 -- what was thrown away leaves the lines
-thrown_away : (p q : Player) (rest : List SceneLine) → Thrown (is_down_in p.clients.dead.items) p.wire.links q.wire.links → q ≡ with_links p q.wire.links → Leaves p (Run ∷ rest) q (Run ∷ rest)
+thrown_away : (p q : PlayerState) (rest : List SceneLine) → Thrown (is_down_in p.nodes) p.wire.links q.wire.links → q ≡ with_links p q.wire.links → Leaves p (Run ∷ rest) q (Run ∷ rest)
 thrown_away p q rest thrown same =
-    subst (λ (r : Player). Leaves p (Run ∷ rest) r (Run ∷ rest)) (sym same) (throws (Run ∷ rest) rest (Run ∷ rest) (λ head c. refl) p q.wire.links thrown)
+    subst (λ (r : PlayerState). Leaves p (Run ∷ rest) r (Run ∷ rest)) (sym same) (throws (Run ∷ rest) rest (Run ∷ rest) (λ head c. refl) p q.wire.links thrown)
 
 pub returns-then-is_full : goal.returns-then-is_full
 returns-then-is_full c =
@@ -33,9 +32,9 @@ take-requires-clause-playing c =
 
 pub loop-number-smaller : goal.loop-number-smaller
 loop-number-smaller c =
-    let room = in_room c.next_message.new.self.wire.turns c.next_message.new.self.wire.messages (sym c.is_full.ensures.full ∙ c.if-is_full.false) in
+    let room = in_room c.next_message.new.self.wire (sym c.is_full.ensures.full ∙ c.if-is_full.false) in
     let few = room.0 in
-    let same = ap (λ (p : Player). p.wire.turns) c.next_message.ensures.same in
+    let same = ap (λ (p : PlayerState). p.wire.turns) c.next_message.ensures.same in
     let more = c.in_ok-take.ensures.turns in
     omega arith
 

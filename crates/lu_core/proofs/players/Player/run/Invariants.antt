@@ -1,6 +1,7 @@
 use Rattle.std.proofs.Common.{List, ◌∷◌, ◌-◌}
 use Rattle.lu_scene.specs.declared.scene.SceneLine.{SceneLine}
 use Rattle.lu_scene.specs.declared.scene.SceneLine.TheVariants.{Run}
+use Rattle.lu_core.specs.Scenario.{most_turns}
 use Rattle.lu_core.proofs.Running.{Leaves}
 use Rattle.lu_core.proofs.players.Player.run.Given as goal
 
@@ -10,4 +11,4 @@ invariant-loop-number l = (rest : List SceneLine) → Leaves l.initial.self (Run
 
 -- each message that is taken is a turn
 abbrev pub decreases-loop-number : goal.decreases-loop-number
-decreases-loop-number l = 65536 - l.self.wire.turns
+decreases-loop-number l = most_turns - l.self.wire.turns

@@ -2,20 +2,19 @@ use Rattle.std.proofs.Common.{◌≡◌, ◌∙◌, ◌+◌, ◌-◌, ◌<◌, �
 use Rattle.std.specs.Prelude.{List}
 use Rattle.lu_scene.specs.declared.scene.SceneLine.{SceneLine}
 use Rattle.lu_scene.specs.declared.scene.SceneLine.TheVariants.{RunSome}
-use Rattle.lu_core.specs.declared.players.Player.{Player}
+use Rattle.lu_core.specs.States.{PlayerState, is_down_in, with_links}
 use Rattle.lu_core.specs.Progress.{Thrown}
-use Rattle.lu_core.specs.Shown.{is_down_in}
-use Rattle.lu_core.proofs.Running.{Leaves, leaves_then, with_links, throws, ends, stops, takes, none_left}
+use Rattle.lu_core.proofs.Running.{Leaves, leaves_then, throws, ends, stops, takes, none_left}
 use Rattle.lu_core.proofs.players.Player.run_some.Goals as goal
 
 -- what was thrown away leaves the lines, while a turn is left
-thrown_away : (first p q : Player) (turns done : ℕ) (rest : List SceneLine) → done < turns → Leaves first (RunSome turns ∷ rest) p (RunSome (turns - done) ∷ rest) → Thrown (is_down_in p.clients.dead.items) p.wire.links q.wire.links → q ≡ with_links p q.wire.links
+thrown_away : (first p q : PlayerState) (turns done : ℕ) (rest : List SceneLine) → done < turns → Leaves first (RunSome turns ∷ rest) p (RunSome (turns - done) ∷ rest) → Thrown (is_down_in p.nodes) p.wire.links q.wire.links → q ≡ with_links p q.wire.links
     → Leaves first (RunSome turns ∷ rest) q (RunSome (suc (turns - (done + 1))) ∷ rest)
 thrown_away first p q turns done rest below leaves thrown same =
     let k = turns - (done + 1) in
     let some : turns - done ≡ suc k = omega arith in
     leaves_then first p q (RunSome turns ∷ rest) (RunSome (suc k) ∷ rest) (RunSome (suc k) ∷ rest) (subst (λ n. Leaves first (RunSome turns ∷ rest) p (RunSome n ∷ rest)) some leaves)
-    (subst (λ (r : Player). Leaves p (RunSome (suc k) ∷ rest) r (RunSome (suc k) ∷ rest)) (sym same) (throws (RunSome (suc k) ∷ rest) rest (RunSome k ∷ rest) (λ head c. refl) p q.wire.links thrown))
+    (subst (λ (r : PlayerState). Leaves p (RunSome (suc k) ∷ rest) r (RunSome (suc k) ∷ rest)) (sym same) (throws (RunSome (suc k) ∷ rest) rest (RunSome k ∷ rest) (λ head c. refl) p q.wire.links thrown))
 
 pub returns-in_default : goal.returns-in_default
 returns-in_default c =

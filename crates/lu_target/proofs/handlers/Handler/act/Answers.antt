@@ -2,7 +2,7 @@
 use Rattle.std.proofs.Common.{◌≡◌, false, ap, subst, sym, ◌∙◌}
 use Rattle.std.proofs.lemmas.Result.{on_ok_weaker}
 use Rattle.lu_service.specs.Contents.{Contents}
-use Rattle.lu_target_rows.specs.States.{none, seen_in}
+use Rattle.lu_covered.specs.TargetStates.{none, seen_in}
 use Rattle.lu_target.specs.Names as names
 use Rattle.lu_target.specs.Targets.{HandlerState, serving, IsReady}
 use Rattle.lu_target.specs.Turns.{acting, Leaves}

@@ -1,7 +1,7 @@
 -- The journal's seen numbers are those of the rows.
 use Rattle.std.proofs.Common.{map, ap, ◌∙◌}
 use Rattle.std.proofs.lemmas.Result.{IfOk-weaker}
-use Rattle.lu_target_rows.specs.States.{seen_in}
+use Rattle.lu_covered.specs.TargetStates.{seen_in}
 use Rattle.lu_target.specs.Targets.{logged_of}
 use Rattle.lu_target.proofs.Seen.{seen_same}
 use Rattle.lu_target.proofs.handlers.Handler.seen.Goals as goal

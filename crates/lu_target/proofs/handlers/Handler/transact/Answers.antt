@@ -1,7 +1,7 @@
 -- A transaction leaves what the rows' one does.
 use Rattle.std.proofs.Common.{◌≡◌, ap, subst, sym, ◌∙◌}
 use Rattle.lu_service.specs.Contents.{Contents}
-use Rattle.lu_target_rows.specs.States.{next_number, seen_in}
+use Rattle.lu_covered.specs.TargetStates.{next_number, seen_in}
 use Rattle.lu_target.specs.Names as names
 use Rattle.lu_target.specs.Targets.{HandlerState, serving, IsReady}
 use Rattle.lu_target.specs.Turns.{transacting, Leaves}
