@@ -72,13 +72,14 @@ pub all_covered : (head : few.Head) (past : List Line) → Grown head past → A
 all_covered head [] g = tt
 all_covered head (l ∷ past) g = (covered_entry past l.at l.at.node l.entry g.0.ok, all_covered head past g.1)
 
-never_failed : (head : few.Head) (past : List Line) → Grown head past → whole.has_failed past ≡ false
-never_failed head [] g = refl
-never_failed head (l ∷ past) g = by l.at.node l.entry g.0.ok (never_failed head past g.1)
+start_held : (head : few.Head) (past : List Line) → Grown head past → whole.start_failed past ≡ false
+start_held head [] g = refl
+start_held head (l ∷ []) g = by l.at.node l.entry g.0.ok
   where
-    by : (n : Node) (e : Entry) → EntryOk past l.at n e → whole.has_failed past ≡ false → whole.has_failed (line l.at e ∷ past) ≡ false
-    by n Fail ok h = absurd ok
-    by n e ok h = h
+    by : (n : Node) (e : Entry) → EntryOk [] l.at n e → whole.start_failed (line l.at e ∷ []) ≡ false
+    by n Fail ok = absurd ok
+    by n e ok = refl
+start_held head (l ∷ m ∷ past) g = start_held head (m ∷ past) g.1
 
 -- ---- what comes
 
@@ -192,7 +193,7 @@ module _ (head : Head) where
       record {
         event = client.Begins slot call;
         fails = None;
-        goes_on = never_failed h (few.lines_of turns) (grown h turns run);
+        goes_on = start_held h (few.lines_of turns) (grown h turns run);
         meets = (lives c (few.lines_of turns) meets.client, meets.small, meets.limits);
         numbers = tt;
         is = sym (call_row turns (here stamp (node.Client c)) c slot call run meets);
@@ -204,7 +205,7 @@ module _ (head : Head) where
       record {
         event = client.Comes k (node.Target t) m;
         fails = None;
-        goes_on = never_failed h past g;
+        goes_on = start_held h past g;
         meets = (lives c past meets.client, meets.sent);
         numbers = tt;
         is = ap (λ (u : ℕ). few_client.row_takes (asker_at head.flight c u past) (calls_at c past) k (node.Target t) m) z ∙ sym (reply_row turns (here stamp (node.Client c)) c k (node.Target t) m run meets.sent);
@@ -215,7 +216,7 @@ module _ (head : Head) where
       record {
         event = client.Ticks;
         fails = None;
-        goes_on = never_failed h past g;
+        goes_on = start_held h past g;
         meets = lives c past meets;
         numbers = tt;
         is = sym (tick_same (whole.limits_of head) (asker_at head.flight c 0 past) refl refl (here stamp (node.Client c)) (whole.client_of head c past) (client_knows c past g) (between h turns run c));
@@ -224,7 +225,7 @@ module _ (head : Head) where
       record {
         event = client.Dies;
         fails = None;
-        goes_on = never_failed h (few.lines_of turns) (grown h turns run);
+        goes_on = start_held h (few.lines_of turns) (grown h turns run);
         meets = lives c (few.lines_of turns) meets;
         numbers = tt;
         is = refl;
@@ -244,8 +245,8 @@ module _ (head : Head) where
           record {
             event = target.Comes k (node.Client c) m;
             fails = None;
-            goes_on = never_failed h past g;
-            meets = (omega arith, (target_knows 0 past g).up, p.0);
+            goes_on = start_held h past g;
+            meets = (omega arith, (target_knows 0 past g).failed, (target_knows 0 past g).up, p.0);
             numbers = subst (λ (es : List Entry). target.overruns (whole.target_of head 0 past) es ≡ false) (sym is) (has_numbers 0 past (here stamp (node.Target 0)) (few.row_reached h past (here stamp (node.Target 0)) 0 k (node.Client c) m) refl p.2);
             is = sym is;
           }
@@ -256,8 +257,8 @@ module _ (head : Head) where
       record {
         event = target.Ticks;
         fails = None;
-        goes_on = never_failed h past g;
-        meets = meets;
+        goes_on = start_held h past g;
+        meets = (meets, (target_knows t past g).failed);
         numbers = subst (λ (es : List Entry). target.overruns (whole.target_of head t past) es ≡ false) (sym is) (has_numbers t past (here stamp (node.Target t)) (Tick ∷ []) (self t) new);
         is = sym is;
       }

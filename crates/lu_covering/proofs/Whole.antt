@@ -331,7 +331,7 @@ module _ (head : Head) where
       → target.overruns (whole.target_of head t (few.lines_of turns)) (target.row (whole.target_of head t (few.lines_of turns)) (here stamp (node.Target t)) event) ≡ false
       → EntriesCovered (target.row (whole.target_of head t (few.lines_of turns)) (here stamp (node.Target t)) event)
       → few.IsRow h (few.lines_of turns) (here stamp (node.Target t)) (target.row (whole.target_of head t (few.lines_of turns)) (here stamp (node.Target t)) event)
-  target_row turns stamp t (target.Comes n from m) run meets numbers covered = by t from m (from_client h past n t from m g meets.2).0 (from_client h past n t from m g meets.2).1.0 (from_client h past n t from m g meets.2).1.1 (only_request h past n t from m g meets.2).0 (only_request h past n t from m g meets.2).1 meets.2 numbers covered
+  target_row turns stamp t (target.Comes n from m) run meets numbers covered = by t from m (from_client h past n t from m g meets.3).0 (from_client h past n t from m g meets.3).1.0 (from_client h past n t from m g meets.3).1.1 (only_request h past n t from m g meets.3).0 (only_request h past n t from m g meets.3).1 meets.3 numbers covered
     where
       past : List Line
       past = few.lines_of turns
@@ -355,7 +355,7 @@ module _ (head : Head) where
       let past = few.lines_of turns in
       record {
         event = few.Ticks;
-        meets = meets;
+        meets = meets.0;
         is = target_tick head.clients (whole.target_of head t past) (server_at head.osts t past) (here stamp (node.Target t)) (target_knows head t past (grown h turns run));
       }
   target_row turns stamp t (target.Commits count) run meets numbers covered =

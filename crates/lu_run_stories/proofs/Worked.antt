@@ -1,5 +1,5 @@
 -- Whole scenarios: the trace that the definition of a scenario's run gives, and how it ends.
-use Rattle.std.proofs.Common.{◌≡◌, ℕ, List, [], ◌∷◌, refl}
+use Rattle.std.proofs.Common.{◌≡◌, ℕ, List, [], ◌∷◌, Some, None, refl, pos}
 use Rattle.std.specs.Prelude.{zero, suc, codes}
 use Rattle.lu_base.specs.declared.ids.Node.TheVariants as node
 use Rattle.lu_msg.specs.declared.answers.Answer.TheVariants as answer
@@ -99,3 +99,10 @@ commit_fails = refl
 
 failed_ends : next (head_of (scene_of failed).head) third (config_after third 9 failed) ≡ Fails
 failed_ends = refl
+
+-- A `create` that gives no numbers begins, and is asked, with the defaults.
+create_with_defaults : trace_of (config_after never 1 (Call 0 0 (call.Create a None) ∷ []))
+    ≡ at_client 1 0 (entry.Begin 0 (call.Create a (Some (1048576, pos 1))))
+    ∷ at_client 1 0 (asks 1 0 (life 0 1) 1 1 (op.Create a 1048576 (pos 1)))
+    ∷ []
+create_with_defaults = refl

@@ -46,10 +46,16 @@ row head past at event fails = over_disk fails (row_at head past at at.node even
 
 -- ---- which events come
 
--- a disk has failed: the run has ended
+-- a disk has failed
 abbrev pub has_failed : List Line → Bool
 has_failed [] = false
 has_failed (l ∷ past) = elim l.entry [ Fail ↦ true | _ ↦ has_failed past ]
+
+-- a target's start has failed: its line is the first of all, and the run has no other
+abbrev pub start_failed : List Line → Bool
+start_failed [] = false
+start_failed (l ∷ []) = elim l.entry [ Fail ↦ true | _ ↦ false ]
+start_failed (l ∷ m ∷ past) = start_failed (m ∷ past)
 
 pub record IsAlive (head : Head) (past : List Line) (c : ℕ) : Type 0 where
   pub one : c < head.clients
@@ -63,10 +69,12 @@ MeetsClient head past c (client.Comes n from m) = IsAlive head past c × Sent pa
 MeetsClient head past c client.Ticks = IsAlive head past c
 MeetsClient head past c client.Dies = IsAlive head past c
 
--- a message comes to a target that is up; time goes on, and commands are given, at any time
+-- a message comes to a target that is up; time goes on, and commands are given, at any time. One whose disk has failed makes no
+-- further turn
 abbrev pub MeetsTarget : Head → List Line → ℕ → target.Event → Type 0
-MeetsTarget head past t (target.Comes n from m) = (t ≤ head.osts) × ((target_of head t past).up ≡ true) × Sent past n from (Target t) m
-MeetsTarget head past t event = t ≤ head.osts
+MeetsTarget head past t (target.Comes n from m) =
+    (t ≤ head.osts) × ((target_of head t past).failed ≡ false) × ((target_of head t past).up ≡ true) × Sent past n from (Target t) m
+MeetsTarget head past t event = (t ≤ head.osts) × ((target_of head t past).failed ≡ false)
 
 abbrev pub Meets : Head → List Line → (node : Node) → EventAt node → Type 0
 Meets head past (Client c) event = MeetsClient head past c event
@@ -80,7 +88,7 @@ HasNumbers head past at (Target t) event = target.overruns (target_of head t pas
 pub record IsRow (head : Head) (past : List Line) (at : At) (entries : List Entry) : Type 0 where
   pub event : EventAt at.node
   pub fails : Option ℕ
-  pub goes_on : has_failed past ≡ false
+  pub goes_on : start_failed past ≡ false
   pub meets : Meets head past at.node event
   pub numbers : HasNumbers head past at at.node event
   pub is : entries ≡ row head past at event fails

@@ -1,10 +1,12 @@
 -- The run of a scenario: its lines are performed in order, all of them. A turn's stamp is the number of turns so far, from
 -- 1. What is left to do after each step is decided by the turns so far, the messages and the lines that are left.
-use Rattle.std.specs.Prelude.{◌≡◌, ℕ, zero, suc, ◌+◌, Bool, true, false, not, ◌||◌, nat_le, if◌then◌else◌, List, [], ◌∷◌, ◌++◌, length, map, Option, Some, None, nat_eq, option_map}
+use Rattle.std.specs.Prelude.{◌≡◌, ℕ, zero, suc, ◌+◌, Bool, true, false, not, ◌||◌, nat_le, if◌then◌else◌, List, [], ◌∷◌, ◌++◌, length, map, Option, Some, None, pos, nat_eq, option_map}
 use Rattle.std.specs.List.{list_any}
 use Rattle.lu_base.specs.declared.ids.At.{At}
 use Rattle.lu_base.specs.declared.ids.Node.{Node}
 use Rattle.lu_base.specs.declared.ids.Node.TheVariants.{Client, Target}
+use Rattle.lu_msg.specs.declared.calls.Call.{Call as CallOf}
+use Rattle.lu_msg.specs.declared.calls.Call.TheVariants.{Create}
 use Rattle.lu_msg.specs.declared.messages.Message.{Message}
 use Rattle.lu_msg.specs.declared.messages.Post.{Post}
 use Rattle.lu_net.specs.declared.links.Posted.{Posted}
@@ -86,6 +88,11 @@ abbrev pub start_turn : Option ℕ → List Turn
 start_turn None = []
 start_turn (Some t) = record { at = record { stamp = record { 0 = 1 }; node = Target t }; entries = row_start true } ∷ []
 
+-- a `create` that gives no numbers begins with the defaults
+abbrev pub with_stripes : CallOf → CallOf
+with_stripes (Create path None) = Create path (Some (1048576, pos 1))
+with_stripes call = call
+
 -- ---- the lines
 
 module _ (head : Head) (disks : Disks) where
@@ -127,7 +134,7 @@ module _ (head : Head) (disks : Disks) where
   -- what a line comes to, by the lines after it
   abbrev pub next_by : Config → List SceneLine → Next
   next_by c [] = Ends
-  next_by c (Call who slot call ∷ rest) = due_alive c who (client.Begins slot call) rest
+  next_by c (Call who slot call ∷ rest) = due_alive c who (client.Begins slot (with_stripes call)) rest
   next_by c (Run ∷ rest) = runs c (least_unspent c.posts) rest (Run ∷ rest) (Run ∷ rest)
   next_by c (RunSome zero ∷ rest) = Goes (left c rest)
   next_by c (RunSome (suc k) ∷ rest) = runs c (least_unspent c.posts) rest (RunSome (suc k) ∷ rest) (RunSome k ∷ rest)
