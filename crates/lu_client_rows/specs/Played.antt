@@ -1,12 +1,11 @@
--- What one client prints at given events, turn by turn, from the start of a run; and the client that its own entries make,
--- with the past that they are.
-use Rattle.std.specs.Prelude.{◌≡◌, ℕ, List, [], ◌∷◌, Option, Some, None}
+-- What one client prints at given events, turn by turn, from the start of a run.
+use Rattle.std.specs.Prelude.{ℕ, List, [], ◌∷◌, Option, Some, None}
 use Rattle.lu_base.specs.declared.ids.At.{At}
 use Rattle.lu_base.specs.declared.ids.Node.TheVariants as node
 use Rattle.lu_trace.specs.declared.entries.Entry.{Entry as PrintedEntry}
-use Rattle.lu_words.specs.Words.{Entry, Line, with_turn}
+use Rattle.lu_words.specs.Words.{Entry}
 use Rattle.lu_words.specs.Printed.{printed_entry}
-use Rattle.lu_client_rows.specs.States.{Client, Limits, started, turn, client_at}
+use Rattle.lu_client_rows.specs.States.{Client, Limits, started, turn}
 use Rattle.lu_client_rows.specs.Rows.{Event, row}
 
 -- an event and the stamp of its turn
@@ -33,25 +32,3 @@ played_on limits c k (h ∷ more) =
 
 abbrev pub played : Limits → ℕ → List Happens → List (List PrintedEntry)
 played limits c events = played_on limits c (started limits c) events
-
--- ---- after these turns
-
--- The client as its own entries left it, and its lines.
-pub record Lived : Type 0 where
-  pub client : Client
-  pub past : List Line
-
-abbrev pub lives_turn : At → List Entry → Lived → Lived
-lives_turn at es lived = record { client = turn lived.client es; past = with_turn at es lived.past }
-
-abbrev pub lives_on : Limits → ℕ → Lived → List Happens → Lived
-lives_on limits c lived [] = lived
-lives_on limits c lived (h ∷ more) =
-    lives_on limits c (lives_turn (turn_at c h.stamp) (row limits (turn_at c h.stamp) h.event lived.client) lived) more
-
-abbrev pub lived : Limits → ℕ → List Happens → Lived
-lived limits c events = lives_on limits c (record { client = started limits c; past = [] }) events
-
--- what the fields say of the past is what its own entries made
-abbrev pub Agrees : Limits → ℕ → List Happens → Type 0
-Agrees limits c events = client_at limits c (lived limits c events).past ≡ (lived limits c events).client

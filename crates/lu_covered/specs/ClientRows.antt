@@ -48,7 +48,7 @@ row_rests k = row_sends k k.last k.flights k.queue
 abbrev pub row_asks : Asker → At → ℕ → Call → Queued → List Entry
 row_asks k at slot call q = Begin slot (begun at call) ∷ Queues k.target q ∷ row_sends k k.last k.flights (k.queue ++ q ∷ [])
 
--- calls that become no operation aren't in the table yet
+-- calls that become no operation aren't among these rows yet
 abbrev pub row_begins : Asker → At → ℕ → Call → List Entry
 row_begins k at slot call = elim (operation_of call) [ None ↦ [] | Some o ↦ row_asks k at slot call (record { slot = Some slot; op = o }) ]
 

@@ -64,7 +64,7 @@ pub record MayCome (head : Head) (past : List Line) (c t n : ℕ) (m : Message) 
   pub client : IsAlive head past c
   pub sent : Sent past n (Target t) (Client c) m
 
--- a new request that would be granted a lock isn't in the table yet: a lookup that finds its name
+-- a new request that would be granted a lock isn't among these rows yet: a lookup that finds its name
 abbrev pub NeedsNoLock : Head → List Line → ℕ → Message → Type 0
 NeedsNoLock head past t (Request r) = (slot_at r.who r.tag t past).taken < r.xid.0 → grants head.osts (tree_at head.osts t past) (asked r none) ≡ []
 NeedsNoLock head past t _ = Unit {0}
