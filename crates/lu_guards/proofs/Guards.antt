@@ -47,6 +47,11 @@ JustHeard (l ∷ past) at t r =
       | _ ↦ JustHeard past at t r
     ]
 
+-- the newest line took that message of that node, in this turn
+abbrev pub TookNow : List Line → At → (from : Node) → Message → Type 0
+TookNow [] at from m = ⊥
+TookNow (l ∷ past) at from m = elim l.entry [ Take n sender message ↦ (l.at ≡ at) × (sender ≡ from) × (message ≡ m) | _ ↦ ⊥ ]
+
 -- a request in flight as a message of the client's life, which knows the target's boot
 abbrev pub request : ℕ → List Line → Flight → RequestOf
 request c past f = record { who = life_of c past; boot = known_of c past; xid = record { 0 = f.xid }; tag = f.tag; op = f.op }
@@ -134,7 +139,7 @@ EntryOk past at (Client c) Die = Later past at
 EntryOk past at (Client c) (Queues t q) = QueuesOk past c t q
 EntryOk past at (Client c) (Told slot turn answer work) = ToldOk past at c slot turn answer work
 EntryOk past at (Client c) (Flies t f) = t ≡ 0
-EntryOk past at (Client c) (Heard t f r) = t ≡ 0
+EntryOk past at (Client c) (Heard t f r) = (t ≡ 0) × TookNow past at (Target t) (message.Reply r)
 EntryOk past at (Client c) (Send (Target t) (message.Request r)) = t ≡ 0
 EntryOk past at (Target t) (Send (Client c) (message.Reply k)) = (t ≡ 0) × RepliesNow past t k
 EntryOk past at (Target t) (Enters r) = t ≡ 0

@@ -29,7 +29,7 @@ use Rattle.lu_covered.specs.ClientStates.{Asker, asker_at}
 use Rattle.lu_covered.specs.ClientRows as client
 use Rattle.lu_covered.specs.ClientRows.{next_flight, row_sent, row_sends, row_rests, row_asks, row_call, find_flight, row_told, row_tells, row_heard, row_fits, row_hears, row_reply, row_resends}
 use Rattle.lu_covered.specs.Runs.{Head, IsAlive, MayBegin, MayCome, MayReach, Meets, Event, Begins, Comes, Ticks, Dies, row}
-use Rattle.lu_guards.proofs.Guards.{Later, EntryOk, LivesAt, Grown}
+use Rattle.lu_guards.proofs.Guards.{Later, TookNow, EntryOk, LivesAt, Grown}
 use Rattle.lu_guards.proofs.Lists.{self, turn}
 use Rattle.lu_guards.proofs.Parts.{slot_is}
 
@@ -168,28 +168,28 @@ module _ (head : Head) (c : ℕ) (stamp : Stamp) where
       sends_ok k z past1 k.last (without_flight f.xid k.flights) k.queue (lives_on head c past past1 refl a)
   tells_ok k z past calls stands r f (Some slot) e a = told_ok k z past r f slot e (call_on slot calls) (stands slot) a
 
-  fits_ok : (k : Asker) → k.target ≡ 0 → (past : List Line) (calls : List (Option Running)) → Stand calls past → (r : ReplyTo) (f : Flight) (b : Bool) → IsAlive head past c → AllOk head past here (row_fits k calls r f b)
-  fits_ok k z past calls stands r f true a = (a, z, tells_ok k z past calls stands r f f.slot refl a)
-  fits_ok k z past calls stands r f false a = rests_ok k z past a
+  fits_ok : (k : Asker) → k.target ≡ 0 → (past : List Line) (calls : List (Option Running)) → Stand calls past → (r : ReplyTo) (f : Flight) (b : Bool) → TookNow past here (Target k.target) (message.Reply r) → IsAlive head past c → AllOk head past here (row_fits k calls r f b)
+  fits_ok k z past calls stands r f true took a = (a, (z, took), tells_ok k z past calls stands r f f.slot refl a)
+  fits_ok k z past calls stands r f false took a = rests_ok k z past a
 
-  hears_ok : (k : Asker) → k.target ≡ 0 → (past : List Line) (calls : List (Option Running)) → Stand calls past → (r : ReplyTo) (o : Option Flight) → IsAlive head past c → AllOk head past here (row_hears k calls r o)
-  hears_ok k z past calls stands r None a = rests_ok k z past a
-  hears_ok k z past calls stands r (Some f) a = fits_ok k z past calls stands r f (answer_fits f.op r.answer) a
+  hears_ok : (k : Asker) → k.target ≡ 0 → (past : List Line) (calls : List (Option Running)) → Stand calls past → (r : ReplyTo) (o : Option Flight) → TookNow past here (Target k.target) (message.Reply r) → IsAlive head past c → AllOk head past here (row_hears k calls r o)
+  hears_ok k z past calls stands r None took a = rests_ok k z past a
+  hears_ok k z past calls stands r (Some f) took a = fits_ok k z past calls stands r f (answer_fits f.op r.answer) took a
 
-  reply_ok : (k : Asker) → k.target ≡ 0 → (past : List Line) (calls : List (Option Running)) → Stand calls past → (r : ReplyTo) (b : Bool) → IsAlive head past c → AllOk head past here (row_reply k calls r b)
-  reply_ok k z past calls stands r true a = hears_ok k z past calls stands r (find_flight r.xid.0 k.flights) a
-  reply_ok k z past calls stands r false a = rests_ok k z past a
+  reply_ok : (k : Asker) → k.target ≡ 0 → (past : List Line) (calls : List (Option Running)) → Stand calls past → (r : ReplyTo) (b : Bool) → TookNow past here (Target k.target) (message.Reply r) → IsAlive head past c → AllOk head past here (row_reply k calls r b)
+  reply_ok k z past calls stands r true took a = hears_ok k z past calls stands r (find_flight r.xid.0 k.flights) took a
+  reply_ok k z past calls stands r false took a = rests_ok k z past a
 
-  heeds_ok : (k : Asker) → k.target ≡ 0 → (past : List Line) (calls : List (Option Running)) → Stand calls past → (m : Message) → IsAlive head past c → AllOk head past here (client.row_heeds k calls m)
-  heeds_ok k z past calls stands (message.Reply r) a = reply_ok k z past calls stands r (same_life r.who k.who && nat_eq r.boot k.boot) a
-  heeds_ok k z past calls stands m a = rests_ok k z past a
+  heeds_ok : (k : Asker) → k.target ≡ 0 → (past : List Line) (calls : List (Option Running)) → Stand calls past → (m : Message) → TookNow past here (Target k.target) m → IsAlive head past c → AllOk head past here (client.row_heeds k calls m)
+  heeds_ok k z past calls stands (message.Reply r) took a = reply_ok k z past calls stands r (same_life r.who k.who && nat_eq r.boot k.boot) took a
+  heeds_ok k z past calls stands m took a = rests_ok k z past a
 
   takes_ok : (past : List Line) (t n : ℕ) (m : Message) → Grown head past → Later past here → MayCome head past c t n m → AllOk head past here (client.row_takes (asker_at head.flight c t past) (calls_at c past) n (Target t) m)
   takes_ok past t n m g later may =
       let past1 = line here (Take n (Target t) m) ∷ past in (
         may.client,
         record { sent = may.sent; later = later },
-        heeds_ok (asker_at head.flight c t past) (sender_zero head past n t (Client c) m g may.sent) past1 (calls_at c past) (stand past) m (lives_on head c past past1 refl may.client),
+        heeds_ok (asker_at head.flight c t past) (sender_zero head past n t (Client c) m g may.sent) past1 (calls_at c past) (stand past) m (refl, refl, refl) (lives_on head c past past1 refl may.client),
       )
 
   resends_ok : (k : Asker) → k.target ≡ 0 → (past : List Line) (flights : List Flight) → IsAlive head past c → AllOk head past here (row_resends k flights)
