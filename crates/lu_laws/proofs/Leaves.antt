@@ -8,7 +8,7 @@ use Rattle.lu_machine.specs.Tree.{Tree}
 use Rattle.lu_machine.specs.Footprint.{Operation, changes, after}
 use Rattle.lu_machine.specs.Machine.{Machine}
 use Rattle.lu_machine.proofs.Stated.{unchanged_stay}
-use Rattle.lu_laws.specs.Histories.{ActsLeave, none}
+use Rattle.lu_laws.specs.Words.Histories.{ActsLeave, none}
 
 abbrev tree_after : ℕ → Machine → Operation → Bool → Tree
 tree_after osts m a v = if v && not (nat_lt m.last a.number.0) then m.tree else after osts m.tree a

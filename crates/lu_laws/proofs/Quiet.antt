@@ -1,24 +1,29 @@
 -- A line that a notion doesn't read leaves it as it is, by computation: here a tick, of any node, after any past.
 use Rattle.std.proofs.Common.{◌≡◌, ℕ, Bool, refl}
-use Rattle.std.specs.Prelude.{◌∷◌, List}
+use Rattle.std.specs.Prelude.{◌∷◌, List, Some}
 use Rattle.lu_part.specs.declared.parts.Part.{Part}
 use Rattle.lu_base.specs.declared.ids.At.{At}
 use Rattle.lu_base.specs.declared.ids.Fid.{Fid}
 use Rattle.lu_base.specs.declared.ids.Who.{Who}
 use Rattle.lu_trace.specs.declared.entries.Entry.TheVariants.{Tick}
-use Rattle.lu_laws.specs.Pasts.{Past, has_died}
-use Rattle.lu_laws.specs.Sends.{sends, sending, message_of, took, reply_in, grant_in}
-use Rattle.lu_laws.specs.Lives.{life, is_evicted, is_gone}
-use Rattle.lu_laws.specs.Requests.{first_request, asked, has_heard, in_flight}
-use Rattle.lu_laws.specs.Calls.{open_call, binding, bound_to, heard_in, number_in}
-use Rattle.lu_laws.specs.Boots.{boot, committed, greatest, has_slot, replays, locks, is_back, heard_number}
-use Rattle.lu_laws.specs.Lost.{is_lost}
-use Rattle.lu_laws.specs.Standing.{contents}
-use Rattle.lu_laws.specs.Seen.{seen_by, lock_with, saw}
-use Rattle.lu_laws.specs.Acts.{standing_count}
-use Rattle.lu_laws.specs.Recovery.{seen_in}
-use Rattle.lu_laws.specs.Histories.{machine_of}
-use Rattle.lu_laws.specs.Pieces.{layout_heard, before_request}
+use Rattle.lu_laws.specs.Words.Pasts.{Past, has_died}
+use Rattle.lu_laws.specs.Words.Sends.{sends, sending, message_of, taken, reply_in, grant_in}
+use Rattle.lu_laws.specs.Words.Lives.{life, is_evicted, is_gone}
+use Rattle.lu_laws.specs.Words.Requests.{first_request, asked, has_heard, in_flight}
+use Rattle.lu_laws.specs.Words.Calls.{open_call, binding, bound_to, heard_in, number_in}
+use Rattle.lu_laws.specs.Words.Boots.{boot, committed, greatest, is_recovering}
+use Rattle.lu_laws.specs.Words.Slots.{has_slot, slots}
+use Rattle.lu_laws.specs.Words.Handed.{handed, is_back}
+use Rattle.lu_laws.specs.Words.Learned.{heard_number, saw}
+use Rattle.lu_laws.specs.Words.CalledBack.{was_called_back}
+use Rattle.lu_laws.specs.Words.Lost.{transactions, is_lost}
+use Rattle.lu_laws.specs.Words.Standing.{contents}
+use Rattle.lu_laws.specs.Words.Seen.{seen_by}
+use Rattle.lu_laws.specs.Laws.Acts.{standing_count}
+use Rattle.lu_laws.specs.Laws.Recovery.{seen_in}
+use Rattle.lu_laws.specs.Words.Histories.{machine_of, answer_there}
+use Rattle.lu_laws.specs.Words.Pieces.{layout_heard, done_calls, done_before}
+use Rattle.lu_laws.specs.Words.Glimpses.{peeked}
 
 module _ (past : Past) (at : At) where
   abbrev after_tick : Past
@@ -31,7 +36,7 @@ module _ (past : Past) (at : At) where
       × (sends after_tick ≡ sends past)
       × (sending after_tick n ≡ sending past n)
       × (message_of after_tick n ≡ message_of past n)
-      × (took after_tick turn ≡ took past turn)
+      × (taken after_tick turn ≡ taken past turn)
       × (reply_in after_tick turn t who x ≡ reply_in past turn t who x)
       × (grant_in after_tick turn t who x ≡ grant_in past turn t who x)
       × (life c after_tick ≡ life c past)
@@ -50,19 +55,24 @@ module _ (past : Past) (at : At) where
       × (committed t after_tick ≡ committed t past)
       × (greatest t after_tick ≡ greatest t past)
       × (has_slot t after_tick who ≡ has_slot t past who)
-      × (replays t who n after_tick ≡ replays t who n past)
-      × (locks t who n after_tick ≡ locks t who n past)
+      × (is_recovering t after_tick ≡ is_recovering t past)
+      × (slots n t after_tick ≡ slots n t past)
+      × (handed t after_tick ≡ handed t past)
       × (is_back t after_tick who ≡ is_back t past who)
       × (heard_number t who n after_tick ≡ heard_number t who n past)
       × (is_lost after_tick t n ≡ is_lost past t n)
       × (contents osts after_tick ≡ contents osts past)
-      × (lock_with t n after_tick ≡ lock_with t n past)
+      × (transactions t after_tick ≡ transactions t past)
+      × (was_called_back t who turn after_tick ≡ was_called_back t who turn past)
       × (saw t who n after_tick ≡ saw t who n past)
       × (seen_in after_tick turn who x ≡ seen_in past turn who x)
       × ((touched : List Part) → seen_by osts t after_tick touched ≡ seen_by osts t past touched)
       × (standing_count lost t who x after_tick ≡ standing_count lost t who x past)
       × (machine_of out lost osts after_tick ≡ machine_of out lost osts past)
       × (layout_heard who fid after_tick ≡ layout_heard who fid past)
-      × (before_request t who x after_tick ≡ before_request t who x past)
+      × (answer_there out lost osts after_tick turn who x ≡ answer_there out lost osts past turn who x)
+      × (done_calls who fid after_tick ≡ done_calls who fid past)
+      × (done_before t who x fid after_tick ≡ done_before t who x fid past)
+      × (peeked c slot (Some fid) n after_tick ≡ peeked c slot (Some fid) n past)
   stay n t c slot x h osts who turn fid out lost =
-      (refl, refl, refl, refl, refl, refl, refl, refl, refl, refl, refl, refl, refl, refl, refl, refl, refl, refl, refl, refl, refl, refl, refl, refl, refl, refl, refl, refl, refl, refl, refl, refl, λ touched. refl, refl, refl, refl, refl)
+      (refl, refl, refl, refl, refl, refl, refl, refl, refl, refl, refl, refl, refl, refl, refl, refl, refl, refl, refl, refl, refl, refl, refl, refl, refl, refl, refl, refl, refl, refl, refl, refl, refl, refl, λ touched. refl, refl, refl, refl, refl, refl, refl, refl)

@@ -1,8 +1,8 @@
 //! What holds of the laws themselves. A function here does nothing: its contract is a theorem over the
 //! definitions of `specs/`.
 
-ghost use Rattle.lu_laws.specs.Histories.{ActsLeave};
-ghost use Rattle.lu_laws.specs.SoFar.{SoFarIsWhole};
+ghost use Rattle.lu_laws.specs.Words.Histories.{ActsLeave};
+ghost use Rattle.lu_laws.specs.Laws.SoFar.{SoFarIsWhole};
 
 /// The law of acts speaks of the whole trace. It may be shown line by line, each over the lines before it: that
 /// a transaction's request has none that stands and that no act of it was told.

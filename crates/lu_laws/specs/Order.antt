@@ -1,0 +1,19 @@
+-- What every run keeps beyond the laws, each a condition on a single line.
+pub mod Phases
+pub mod Serving
+pub mod Requests
+pub mod Boots
+pub mod Messages
+pub mod Lives
+pub mod Held
+pub mod Heard
+pub mod Repeated
+pub mod Answers
+pub mod Closes
+pub mod Handed
+pub mod Kept
+pub mod Restored
+pub mod Joined
+pub mod Waits
+pub mod Releases
+pub mod Blocks

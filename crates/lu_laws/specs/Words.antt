@@ -1,0 +1,25 @@
+-- What the laws speak of, each notion computed from the printed lines so far.
+pub mod Pasts
+pub mod Sends
+pub mod Lives
+pub mod Requests
+pub mod Calls
+pub mod Later
+pub mod Scopes
+pub mod Clients
+pub mod Boots
+pub mod Slots
+pub mod Handed
+pub mod Learned
+pub mod Lost
+pub mod Closes
+pub mod CalledBack
+pub mod Standing
+pub mod Seen
+pub mod Queues
+pub mod Held
+pub mod Asked
+pub mod Repeats
+pub mod Pieces
+pub mod Histories
+pub mod Glimpses
