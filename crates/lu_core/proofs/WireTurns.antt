@@ -73,7 +73,7 @@ row_takes_one head past at (Target t) Ticks = tt
 row_takes_one head past at (Target t) (Begins slot call) = tt
 row_takes_one head past at (Target t) Dies = tt
 
--- ---- with its number, what a node gives is what the table has
+-- ---- with its number, what a node gives is what the rows have
 
 pub same_lines : (head : Head) (past : List Line) (at : At) (node : Node) (event : Event) (k : ℕ)
     → numbered_lines k (number_of event) (step_lines at (row head past at node (unnumbered event))) ≡ numbered_lines k (number_of event) (step_lines at (row head past at node event))

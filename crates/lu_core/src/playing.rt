@@ -1,7 +1,7 @@
 //! The run of a scenario.
 
 ghost use Rattle.std.specs.Prelude.{◌≡◌, IfOk, None};
-ghost use Rattle.lu_laws.specs.Laws.{IsLawful};
+ghost use Rattle.lu_laws.specs.Lawful.{IsLawful};
 ghost use Rattle.lu_core.specs.Performed.{IsPerformed};
 ghost use Rattle.lu_core.specs.Progress.{HasLeft, Finishes};
 ghost use Rattle.lu_core.specs.Played.{IsPlayed};

@@ -5,7 +5,7 @@ ghost use Rattle.std.specs.Prelude.{◌≡◌};
 ghost use Rattle.lu_scene.specs.declared.scene.Scene.{Scene};
 ghost use Rattle.lu_words.specs.Printed.{printed};
 ghost use Rattle.lu_covered.specs.Runs.{IsRun};
-ghost use Rattle.lu_laws.specs.Laws.{Lawful};
+ghost use Rattle.lu_laws.specs.Lawful.{Lawful};
 ghost use Rattle.lu_core.specs.Scenario.{Config, LeadsTo, IsFinal, head_of, past_of};
 ghost use Rattle.lu_core.specs.Performed.{IsPerformed};
 ghost use Rattle.lu_core.specs.Samples.{ComesTo, one_client, one_client_text, lost_reply, lost_reply_text};

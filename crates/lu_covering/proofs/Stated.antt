@@ -6,7 +6,7 @@ use Rattle.lu_table.specs.Heads.{Head, IsHead}
 use Rattle.lu_table.specs.Runs.{Turn, lines_of, IsRun}
 use Rattle.lu_covered.specs.Runs as few
 use Rattle.lu_guards.proofs.Obey.{grown}
-use Rattle.lu_laws.specs.Laws.{Lawful}
+use Rattle.lu_laws.specs.Lawful.{Lawful}
 use Rattle.lu_lawful.proofs.Whole as theorem
 use Rattle.lu_covering.specs.Covered.{AllCovered, covered_head}
 use Rattle.lu_covering.proofs.Small.{all_covered}

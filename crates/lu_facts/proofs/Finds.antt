@@ -69,7 +69,7 @@ asks_call (Some s) slot asking o r e = cond_both (nat_eq s slot) (asks asking o)
     by (Some q) g = let same : record q { asking = asking } ≡ r = cc in (q, refl, ap (λ (v : Running). v.call) same)
 
 -- each call that isn't told began
-began_call : (head : Head) (past : List Line) → Grown head past → (c slot : ℕ) (r : Running) → call_at c slot past ≡ Some r → Asks past r.call
+pub began_call : (head : Head) (past : List Line) → Grown head past → (c slot : ℕ) (r : Running) → call_at c slot past ≡ Some r → Asks past r.call
 began_call head [] g c slot r e = absurd (cc)
 began_call head (l ∷ past) g c slot r e = by l.at.node l.entry g.0.ok (began_call head past g.1 c slot) e
   where

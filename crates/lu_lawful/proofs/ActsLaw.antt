@@ -1,7 +1,8 @@
 -- The law of acts holds of the printed past of every grown one, for all lives that will be out and all numbers
 -- that will be lost, as far as none of a deed that is told is.
 use Rattle.std.proofs.Common.{◌≡◌, ◌≢◌, ℕ, suc, ◌≤◌, Bool, List, [], ◌∷◌, ◌⊎◌, inl, inr, ⊎_elim, refl, sym, subst, ap, ◌∙◌, arith}
-use Rattle.std.specs.Prelude.{nat_eq, not, ◌&&◌}
+use Rattle.std.specs.Prelude.{nat_eq, not, ◌&&◌, ◌||◌, Option, Some, None, true, false, if◌then◌else◌}
+use Rattle.lu_trace.specs.declared.entries.Entry.TheVariants as trace
 use Rattle.std.proofs.lemmas.Bool.{and_parts, cond_both, eqb-true}
 use Rattle.lu_base.specs.declared.ids.At.{At}
 use Rattle.lu_base.specs.declared.ids.Node.{Node}
@@ -15,16 +16,17 @@ use Rattle.lu_words.specs.Concerns.{concerns, only}
 use Rattle.lu_words.specs.Printed.{printed}
 use Rattle.lu_covered.specs.Calls.{first_life}
 use Rattle.lu_covered.specs.Runs.{Head}
-use Rattle.lu_laws.specs.Pasts as pasts
-use Rattle.lu_laws.specs.Pasts.{Past, UpTo, HeardIn, same_turn}
-use Rattle.lu_laws.specs.Lives.{life}
-use Rattle.lu_laws.specs.Acts.{ActIn, TxnIn, standing_count, ToldWith}
+use Rattle.lu_laws.specs.Words.Pasts as pasts
+use Rattle.lu_laws.specs.Words.Lives.{is_by}
+use Rattle.lu_laws.specs.Words.Calls.{heard_in}
+use Rattle.lu_laws.specs.Laws.Acts.{acts_there, acted, made, standing_count, is_number, tells_with, told_with}
 use Rattle.lu_lawful.specs.Fits.{DoneStands}
 use Rattle.lu_guards.proofs.Guards.{Allowed, Grown}
-use Rattle.lu_guards.proofs.Lists.{life_is}
+use Rattle.lu_guards.proofs.Lists.{self, life_is}
 use Rattle.lu_facts.proofs.Groups.{turn, Acted, Hears}
 use Rattle.lu_lawful.proofs.Story.{about_it}
 use Rattle.lu_lawful.proofs.Once.{NoneFor, act_now, txn_now}
+use Rattle.lu_lawful.proofs.Turns.{same_turn_is}
 
 -- ---- each request acts once in the whole trace
 
@@ -89,31 +91,70 @@ module _ (lost : ℕ → ℕ → Bool) (who : Who) (x : ℕ) where
 
 -- ---- an act of the printed past is one of the full one
 
-pub act_for : (past : List Line) (named : At) (who : Who) (x : ℕ) → ActIn (printed past) named who x → ActFor past who x
-act_for [] named who x a = absurd a
+either : (a b : Bool) → (a || b) ≡ true → (a ≡ true) ⊎ (b ≡ true)
+either true b e = inl refl
+either false b e = inr e
+
+pub or_left : (a b : Bool) → a ≡ true → (a || b) ≡ true
+or_left true b e = refl
+or_left false b e = absurd (cc)
+
+pub or_right : (a b : Bool) → b ≡ true → (a || b) ≡ true
+or_right true b e = refl
+or_right false b e = e
+
+pub act_for : (past : List Line) (named : At) (who : Who) (x : ℕ) → acted (printed past) named who x ≡ true → ActFor past who x
+act_for [] named who x a = absurd (cc)
 act_for (l ∷ past) named who x a = by l.entry (act_for past named who x) a
   where
-    by : (e : Entry) → (ActIn (printed past) named who x → ActFor past who x) → ActIn (printed (line l.at e ∷ past)) named who x → ActFor (line l.at e ∷ past) who x
-    by (Act d) h a = ⊎_elim (λ (p : (l.at ≡ named) × (l.at.node ≡ Target 0) × (d.reply.who ≡ who) × (d.reply.xid.0 ≡ x)). inl (p.2, p.3)) (λ (p : ActIn (printed past) named who x). inr (h p)) a
+    by : (e : Entry) → (acted (printed past) named who x ≡ true → ActFor past who x) → acted (printed (line l.at e ∷ past)) named who x ≡ true → ActFor (line l.at e ∷ past) who x
+    by (Act d) h a = ⊎_elim
+        (λ (p : (pasts.is_target 0 l.at.node && pasts.same_turn l.at named && same_life d.reply.who who && nat_eq d.reply.xid.0 x) ≡ true).
+        let q = and_parts (pasts.is_target 0 l.at.node && pasts.same_turn l.at named && same_life d.reply.who who) _ p in
+        let r = and_parts (pasts.is_target 0 l.at.node && pasts.same_turn l.at named) _ q.0 in
+        inl (life_is d.reply.who who r.1, eqb-true d.reply.xid.0 x q.1))
+        (λ (p : acted (printed past) named who x ≡ true). inr (h p))
+        (either (acts_there named who x (printed past) (record { at = l.at; entry = trace.Act d.reply.who d.reply.xid d.reply.answer })) (acted (printed past) named who x) a)
     by _ h a = h a
 
 -- what was done stands in the printed past
-pub acted_in : (head : Head) (lost : ℕ → ℕ → Bool) (past : List Line) → Grown head past → (d : Deed) → Acted past d → DoneStands lost past d.reply.who d.reply.at → ActIn (printed past) d.reply.at d.reply.who d.reply.xid.0 ⊎ TxnIn lost (printed past) d.reply.at d.reply.who d.reply.xid.0
+abbrev pub Stands : (ℕ → ℕ → Bool) → List Line → Deed → Type 0
+Stands lost past d = (acted (printed past) d.reply.at d.reply.who d.reply.xid.0 ≡ true) ⊎ (made lost (printed past) d.reply.at d.reply.who d.reply.xid.0 ≡ true)
+
+pub own_line : (at turn : At) (who : Who) (x : ℕ) → at ≡ turn → at.node ≡ Target 0 → (pasts.is_target 0 at.node && pasts.same_turn at turn && same_life who who && nat_eq x x) ≡ true
+own_line at turn who x same node =
+    subst (λ (v : At). (pasts.is_target 0 at.node && pasts.same_turn at v && same_life who who && nat_eq x x) ≡ true) same
+    (subst (λ (n : Node). (pasts.is_target 0 n && pasts.same_turn (record { stamp = at.stamp; node = n }) (record { stamp = at.stamp; node = n }) && same_life who who && nat_eq x x) ≡ true) (sym node)
+    (rw (self at.stamp.0, self who.client, self who.life, self x) refl))
+
+pub acted_in : (head : Head) (lost : ℕ → ℕ → Bool) (past : List Line) → Grown head past → (d : Deed) → Acted past d → DoneStands lost past d.reply.who d.reply.at → Stands lost past d
 acted_in head lost [] g d a s = absurd a
 acted_in head lost (l ∷ past) g d a s = by l.entry g.0 (acted_in head lost past g.1 d) a s
   where
-    Stands : List Line → Deed → Type 0
-    Stands p e = ActIn (printed p) e.reply.at e.reply.who e.reply.xid.0 ⊎ TxnIn lost (printed p) e.reply.at e.reply.who e.reply.xid.0
-
-    by : (e : Entry) → Allowed head past l.at e → (Acted past d → DoneStands lost past d.reply.who d.reply.at → Stands past d) → Acted (line l.at e ∷ past) d → DoneStands lost (line l.at e ∷ past) d.reply.who d.reply.at → Stands (line l.at e ∷ past) d
+    by : (e : Entry) → Allowed head past l.at e → (Acted past d → DoneStands lost past d.reply.who d.reply.at → Stands lost past d) → Acted (line l.at e ∷ past) d → DoneStands lost (line l.at e ∷ past) d.reply.who d.reply.at → Stands lost (line l.at e ∷ past) d
     by (Act e) ok h a s = ⊎_elim
-        (λ (p : e ≡ d). subst (λ (v : Deed). Stands (line l.at (Act e) ∷ past) v) p (let k = act_now head past l.at.stamp l.at.node e ok g.1 in inl (inl (sym k.2, k.1, refl, refl))))
-        (λ (p : Acted past d). ⊎_elim (λ (i : ActIn (printed past) d.reply.at d.reply.who d.reply.xid.0). inl (inr i)) (λ (i : TxnIn lost (printed past) d.reply.at d.reply.who d.reply.xid.0). inr i) (h p s.1))
+        (λ (p : e ≡ d). subst (λ (v : Deed). Stands lost (line l.at (Act e) ∷ past) v) p
+        (let k = act_now head past l.at.stamp l.at.node e ok g.1 in inl (or_left _ (acted (printed past) e.reply.at e.reply.who e.reply.xid.0) (own_line l.at e.reply.at e.reply.who e.reply.xid.0 (sym k.2) k.1))))
+        (λ (p : Acted past d). ⊎_elim
+        (λ (i : acted (printed past) d.reply.at d.reply.who d.reply.xid.0 ≡ true). inl (or_right _ (acted (printed past) d.reply.at d.reply.who d.reply.xid.0) i))
+        (λ (i : made lost (printed past) d.reply.at d.reply.who d.reply.xid.0 ≡ true). inr i)
+        (h p s.1))
         a
     by (Made e) ok h a s = ⊎_elim
-        (λ (p : e ≡ d). let k = txn_now head past l.at.stamp l.at.node e ok g.1 in inr (inl (sym k.2 ∙ ap (λ (v : Deed). v.reply.at) p, k.1, ap (λ (v : Deed). v.reply.who) p, ap (λ (v : Deed). v.reply.xid.0) p, (s.0 (ap (λ (v : Deed). v.reply.who) p) (ap (λ (v : Deed). v.reply.at) p)).0)))
-        (λ (p : Acted past d). ⊎_elim (λ (i : ActIn (printed past) d.reply.at d.reply.who d.reply.xid.0). inl i) (λ (i : TxnIn lost (printed past) d.reply.at d.reply.who d.reply.xid.0). inr (inr i)) (h p s.1))
+        (λ (p : e ≡ d). let k = txn_now head past l.at.stamp l.at.node e ok g.1 in
+        let stands = (s.0 (ap (λ (v : Deed). v.reply.who) p) (ap (λ (v : Deed). v.reply.at) p)).0 in
+        subst (λ (v : Deed). Stands lost (line l.at (Made e) ∷ past) v) p
+        (inr (or_left _ (made lost (printed past) e.reply.at e.reply.who e.reply.xid.0) (and_both (own_line l.at e.reply.at e.reply.who e.reply.xid.0 (sym k.2) k.1) stands))))
+        (λ (p : Acted past d). ⊎_elim
+        (λ (i : acted (printed past) d.reply.at d.reply.who d.reply.xid.0 ≡ true). inl i)
+        (λ (i : made lost (printed past) d.reply.at d.reply.who d.reply.xid.0 ≡ true). inr (or_right _ (made lost (printed past) d.reply.at d.reply.who d.reply.xid.0) i))
+        (h p s.1))
         a
+      where
+        and_both : {a b : Bool} → a ≡ true → b ≡ false → (a && not b) ≡ true
+        and_both {a = true} {b = true} p q = absurd (cc)
+        and_both {a = true} {b = false} p q = refl
+        and_both {a = false} {b} p q = absurd (cc)
     by _ ok h a s = h a s
 
 -- ---- what was heard
@@ -128,31 +169,49 @@ hears_more l past c x h = by l.entry
 hears_on : (l : Line) (past : List Line) (c x : ℕ) → Hears (only 0 past) c x → Hears (only 0 (l ∷ past)) c x
 hears_on l past c x h = cond_both (concerns 0 l.at.node l.entry) (l ∷ only 0 past) (only 0 past) (λ (p : List Line). Hears p c x) (λ t. hears_more l (only 0 past) c x h) (λ t. h)
 
-heard_hears : (head : Head) (past : List Line) → Grown head past → (at : At) (c x : ℕ) → at.node ≡ Client c → HeardIn (printed past) at 0 x → Hears (only 0 past) c x
-heard_hears head [] g at c x n i = absurd i
+heard_hears : (head : Head) (past : List Line) → Grown head past → (at : At) (c x : ℕ) → at.node ≡ Client c → heard_in (printed past) at ≡ Some x → Hears (only 0 past) c x
+heard_hears head [] g at c x n i = absurd (cc)
 heard_hears head (l ∷ past) g at c x n i = by l.at.node l.entry g.0 i (heard_hears head past g.1 at c x n)
   where
     here : (d t : ℕ) (f : Flight) (r : ReplyTo) → t ≡ 0 → f.xid ≡ r.xid.0 → turn l.at.stamp (Client d) ≡ at → r.xid.0 ≡ x → Hears (only 0 (line (turn l.at.stamp (Client d)) (Heard t f r) ∷ past)) c x
     here d t f r z y a e =
         subst (λ (v : ℕ). Hears (only 0 (line (turn l.at.stamp (Client d)) (Heard v f r) ∷ past)) c x) (sym z) (inl (ap (λ (v : At). v.node) a ∙ n, y ∙ e))
 
-    by : (node : Node) (e : Entry) → Allowed head past (turn l.at.stamp node) e → HeardIn (printed (line (turn l.at.stamp node) e ∷ past)) at 0 x → (HeardIn (printed past) at 0 x → Hears (only 0 past) c x)
+    new : (d t : ℕ) (f : Flight) (r : ReplyTo) (was : Option ℕ) (b : Bool) → t ≡ 0 → f.xid ≡ r.xid.0 → heard_in (printed past) at ≡ was → (pasts.same_turn (turn l.at.stamp (Client d)) at && nat_eq t 0) ≡ b
+        → (heard_in (printed past) at ≡ Some x → Hears (only 0 past) c x) → pasts.or_else was (if b then Some r.xid.0 else None) ≡ Some x → Hears (only 0 (line (turn l.at.stamp (Client d)) (Heard t f r) ∷ past)) c x
+    new d t f r (Some y) b z e w q h i = hears_on (line (turn l.at.stamp (Client d)) (Heard t f r)) past c x (h (w ∙ i))
+    new d t f r None true z e w q h i =
+        let at_is = same_turn_is (turn l.at.stamp (Client d)) at (and_parts (pasts.same_turn (turn l.at.stamp (Client d)) at) _ q).0 in
+        let same : r.xid.0 ≡ x = cc in
+        here d t f r z e at_is same
+    new d t f r None false z e w q h i = absurd (cc)
+
+    by : (node : Node) (e : Entry) → Allowed head past (turn l.at.stamp node) e → heard_in (printed (line (turn l.at.stamp node) e ∷ past)) at ≡ Some x → (heard_in (printed past) at ≡ Some x → Hears (only 0 past) c x)
         → Hears (only 0 (line (turn l.at.stamp node) e ∷ past)) c x
     by (Target t) (Heard u f r) k i h = absurd k.ok
-    by (Client d) (Heard t f r) k i h = ⊎_elim
-        (λ (p : (turn l.at.stamp (Client d) ≡ at) × (t ≡ 0) × (r.xid.0 ≡ x)). here d t f r p.1 (k.of 0 (about_it t k.ok)).xid p.0 p.2)
-        (λ (p : HeardIn (printed past) at 0 x). hears_on (line (turn l.at.stamp (Client d)) (Heard t f r)) past c x (h p))
-        i
+    by (Client d) (Heard t f r) k i h = new d t f r (heard_in (printed past) at) (pasts.same_turn (turn l.at.stamp (Client d)) at && nat_eq t 0) k.ok.0 (k.of 0 (about_it t k.ok.0)).xid refl refl h i
     by node e k i h = hears_on (line (turn l.at.stamp node) e) past c x (h i)
 
 -- what was told of a number was heard
-pub told_hears : (head : Head) (past : List Line) → Grown head past → (c x : ℕ) → ToldWith (printed past) (first_life c) x → Hears (only 0 past) c x
-told_hears head [] g c x i = absurd i
+pub told_hears : (head : Head) (past : List Line) → Grown head past → (c x : ℕ) → told_with (printed past) (first_life c) x ≡ true → Hears (only 0 past) c x
+told_hears head [] g c x i = absurd (cc)
 told_hears head (l ∷ past) g c x i = by l.entry (told_hears head past g.1 c x) i
   where
-    by : (e : Entry) → (ToldWith (printed past) (first_life c) x → Hears (only 0 past) c x) → ToldWith (printed (line l.at e ∷ past)) (first_life c) x → Hears (only 0 (line l.at e ∷ past)) c x
+    number_is : (o : Option ℕ) → is_number x o ≡ true → o ≡ Some x
+    number_is None e = absurd (cc)
+    number_is (Some y) e = ap (λ (v : ℕ). Some v) (eqb-true y x e)
+
+    client_is : (n : Node) → pasts.is_client c n ≡ true → n ≡ Client c
+    client_is (Client d) e = ap Client (eqb-true d c e)
+    client_is (Target t) e = absurd (cc)
+
+    by : (e : Entry) → (told_with (printed past) (first_life c) x ≡ true → Hears (only 0 past) c x) → told_with (printed (line l.at e ∷ past)) (first_life c) x ≡ true → Hears (only 0 (line l.at e ∷ past)) c x
     by (Told slot named given work) h i = hears_on (line l.at (Told slot named given work)) past c x (⊎_elim
-        (λ (p : (l.at.node ≡ Client c) × (life c (printed past) ≡ 1) × (named ≢ l.at) × HeardIn (printed past) l.at 0 x). heard_hears head past g.1 l.at c x p.0 p.3)
-        (λ (p : ToldWith (printed past) (first_life c) x). h p)
-        i)
+        (λ (p : (is_by (first_life c) (printed past) l.at.node && not (pasts.same_turn named l.at) && is_number x (heard_in (printed past) l.at)) ≡ true).
+        let q = and_parts (is_by (first_life c) (printed past) l.at.node && not (pasts.same_turn named l.at)) _ p in
+        let r = and_parts (is_by (first_life c) (printed past) l.at.node) _ q.0 in
+        let o = and_parts (pasts.is_client c l.at.node) _ r.0 in
+        heard_hears head past g.1 l.at c x (client_is l.at.node o.0) (number_is (heard_in (printed past) l.at) q.1))
+        (λ (p : told_with (printed past) (first_life c) x ≡ true). h p)
+        (either (tells_with (first_life c) x (printed past) (record { at = l.at; entry = trace.Told slot named given })) (told_with (printed past) (first_life c) x) i))
     by e h i = hears_on (line l.at e) past c x (h i)

@@ -10,18 +10,18 @@ use Rattle.lu_base.specs.declared.ids.Stamp.{Stamp}
 use Rattle.lu_base.specs.declared.ids.Who.{Who}
 use Rattle.lu_machine.specs.Footprint.{after}
 use Rattle.lu_words.specs.Carried.{Deed}
-use Rattle.lu_words.specs.Words.{Entry, Life, Act, Txn as Made, Commit, Boot, Close, Evict, Fail, Line, line}
+use Rattle.lu_words.specs.Words.{Entry, Life, Act, Txn as Made, Commit, Crash, Boot, Close, Evict, Fail, Line, line}
 use Rattle.lu_words.specs.Printed.{printed}
 use Rattle.lu_covered.specs.TargetParts.{operation}
 use Rattle.lu_covered.specs.TargetStates.{boot_at, count_at, tree_at, server_at}
 use Rattle.lu_covered.specs.Runs.{Head}
-use Rattle.lu_laws.specs.Pasts.{is_target}
-use Rattle.lu_laws.specs.Lives.{life, is_gone}
-use Rattle.lu_laws.specs.Boots.{boot, committed, greatest}
-use Rattle.lu_laws.specs.Lost.{lost_with, is_lost}
-use Rattle.lu_laws.specs.Standing as standing
-use Rattle.lu_laws.specs.Requests.{asked}
-use Rattle.lu_laws.specs.Standing.{executed, contents}
+use Rattle.lu_laws.specs.Words.Pasts.{is_target}
+use Rattle.lu_laws.specs.Words.Lives.{life, is_gone}
+use Rattle.lu_laws.specs.Words.Boots.{boot, committed, greatest, is_recovering}
+use Rattle.lu_laws.specs.Words.Lost.{Loss, losses, numbers_of, is_among, is_lost}
+use Rattle.lu_laws.specs.Words.Standing as standing
+use Rattle.lu_laws.specs.Words.Requests.{asked}
+use Rattle.lu_laws.specs.Words.Standing.{executed, contents}
 use Rattle.lu_guards.proofs.Guards.{EntryOk, Allowed, Grown}
 use Rattle.lu_guards.proofs.Parts.{server_is}
 use Rattle.lu_guards.proofs.Parts as parts
@@ -51,11 +51,11 @@ module _ (head : Head) where
       by (Target t) (Commit to batch) ok h = absurd ok
       by _ _ ok h = h
 
-  none_lost_with : (failed : At → Bool) (t n : ℕ) (past : List Line) → Grown head past → lost_with failed t n (printed past) ≡ false
-  none_lost_with failed t n [] g = refl
-  none_lost_with failed t n (l ∷ past) g = by l.at.node l.entry g.0.ok (none_lost_with failed t n past g.1)
+  no_losses : (t : ℕ) (past : List Line) → Grown head past → losses t (printed past) ≡ []
+  no_losses t [] g = refl
+  no_losses t (l ∷ past) g = by l.at.node l.entry g.0.ok (no_losses t past g.1)
     where
-      by : (node : Node) (e : Entry) → EntryOk past (turn l.at.stamp node) node e → lost_with failed t n (printed past) ≡ false → lost_with failed t n (printed (line (turn l.at.stamp node) e ∷ past)) ≡ false
+      by : (node : Node) (e : Entry) → EntryOk past (turn l.at.stamp node) node e → losses t (printed past) ≡ [] → losses t (printed (line (turn l.at.stamp node) e ∷ past)) ≡ []
       by (Client c) (Close outcome) ok h = absurd ok
       by (Target u) (Close outcome) ok h = absurd ok
       by (Client c) Fail ok h = absurd ok
@@ -63,7 +63,21 @@ module _ (head : Head) where
       by _ _ ok h = h
 
   pub none_lost : (past : List Line) (t n : ℕ) → Grown head past → is_lost (printed past) t n ≡ false
-  none_lost past t n g = none_lost_with (λ at. false) t n past g
+  none_lost past t n g = ap (λ (ls : List Loss). is_among (numbers_of ls) n) (no_losses t past g)
+
+  -- no window is ever open
+  pub not_recovering : (t : ℕ) (past : List Line) → Grown head past → is_recovering t (printed past) ≡ false
+  not_recovering t [] g = refl
+  not_recovering t (l ∷ past) g = by l.at.node l.entry g.0.ok (not_recovering t past g.1)
+    where
+      by : (node : Node) (e : Entry) → EntryOk past (turn l.at.stamp node) node e → is_recovering t (printed past) ≡ false → is_recovering t (printed (line (turn l.at.stamp node) e ∷ past)) ≡ false
+      by (Client c) (Boot b disk) ok h = absurd ok
+      by (Target u) (Boot b disk) ok h = absurd ok
+      by (Client c) (Close outcome) ok h = absurd ok
+      by (Target u) (Close outcome) ok h = absurd ok
+      by (Client c) Crash ok h = absurd ok
+      by (Target u) Crash ok h = absurd ok
+      by _ _ ok h = h
 
   pub life_stays : (c : ℕ) (past : List Line) → Grown head past → life c (printed past) ≡ 1
   life_stays c [] g = refl

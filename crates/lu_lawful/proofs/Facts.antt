@@ -9,8 +9,9 @@ use Rattle.lu_words.specs.Carried.{Deed}
 use Rattle.lu_words.specs.Words.{Told, Act, Txn as Made, Line}
 use Rattle.lu_words.specs.Printed.{printed}
 use Rattle.lu_covered.specs.Calls.{first_life}
-use Rattle.lu_laws.specs.Pasts.{HeardIn, same_turn}
-use Rattle.lu_laws.specs.Requests.{asked}
+use Rattle.lu_laws.specs.Words.Pasts.{same_turn}
+use Rattle.lu_laws.specs.Words.Calls.{heard_in}
+use Rattle.lu_laws.specs.Words.Requests.{asked}
 use Rattle.lu_facts.proofs.Groups.{Acted}
 
 abbrev pub AskedAt : List Line → Deed → Type 0
@@ -28,7 +29,7 @@ TellsAt past at (Client c) named given =
       who : deed.reply.who ≡ first_life c;
       turn : deed.reply.at ≡ named;
       answer : deed.reply.answer ≡ given;
-      heard : HeardIn (printed past) at 0 deed.reply.xid.0;
+      heard : heard_in (printed past) at ≡ Some deed.reply.xid.0;
       other : same_turn named at ≡ false;
     }
 TellsAt past at (Target t) named given = Unit {0}

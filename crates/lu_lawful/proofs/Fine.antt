@@ -1,5 +1,5 @@
--- The operations of a client's first calls are answered neither EBADF nor EIO, whatever the tree.
-use Rattle.std.proofs.Common.{◌≡◌, ℕ, false, List, [], ◌∷◌, Option, Some, None, ⊎_elim, refl, sym, subst}
+-- The operations of a client's first calls are answered neither EBADF nor EIO nor sizes, whatever the tree.
+use Rattle.std.proofs.Common.{◌≡◌, ℕ, Bool, true, false, List, [], ◌∷◌, Option, Some, None, ⊎_elim, refl, sym, subst}
 use Rattle.std.proofs.lemmas.Bool.{cond_both}
 use Rattle.lu_base.specs.declared.ids.Fid.{Fid}
 use Rattle.lu_base.specs.declared.ids.Node.{Node}
@@ -7,6 +7,7 @@ use Rattle.lu_base.specs.declared.ids.Node.TheVariants.{Client, Target}
 use Rattle.lu_base.specs.declared.ids.Txn.{Txn}
 use Rattle.lu_base.specs.declared.ids.Who.{Who}
 use Rattle.lu_msg.specs.declared.answers.Answer.{Answer}
+use Rattle.lu_msg.specs.declared.answers.Answer.TheVariants as told
 use Rattle.lu_msg.specs.declared.operations.Op.{Op}
 use Rattle.lu_msg.specs.declared.operations.Op.TheVariants as op
 use Rattle.lu_msg.specs.declared.answers.Errno.TheVariants.{ENAMETOOLONG}
@@ -22,33 +23,37 @@ use Rattle.lu_words.specs.Words.{Entry, Act, Txn as Made, Line, line}
 use Rattle.lu_covered.specs.TargetParts.{operation}
 use Rattle.lu_covered.specs.TargetStates.{tree_at}
 use Rattle.lu_covered.specs.Runs.{Head}
-use Rattle.lu_laws.specs.Acts.{is_bad_handle, is_end_of_life}
+use Rattle.lu_laws.specs.Laws.Acts.{is_bad_handle, is_end_of_life}
 use Rattle.lu_guards.proofs.Guards.{Allowed, Grown}
 use Rattle.lu_facts.proofs.Groups.{turn, Acted}
 use Rattle.lu_lawful.proofs.Deeds.{act_is, txn_is}
 use Rattle.lu_lawful.proofs.Three.{IsThree, acted_three}
 
+abbrev pub are_sizes : Answer → Bool
+are_sizes (told.Sizes sizes) = true
+are_sizes _ = false
+
 abbrev pub IsFine : Answer → Type 0
-IsFine a = (is_bad_handle a ≡ false) × (is_end_of_life a ≡ false)
+IsFine a = (is_bad_handle a ≡ false) × (is_end_of_life a ≡ false) × (are_sizes a ≡ false)
 
 module _ (t : Tree) where
   abbrev Ends : Plan → Type 0
   Ends p = IsFine (outcome t p).answer
 
   look_fine : (at : Child) (n : List ℕ) (next : Fid → Option Child → Plan) → ((d : Fid) → Ends (next d (child t d n))) → Ends (look at n next)
-  look_fine at n next h = cond_both (is_too_long n) (Refuse ENAMETOOLONG) (look_in at n next) Ends (λ _. (refl, refl)) (λ _. by at)
+  look_fine at n next h = cond_both (is_too_long n) (Refuse ENAMETOOLONG) (look_in at n next) Ends (λ _. (refl, refl, refl)) (λ _. by at)
     where
       by : (at : Child) → Ends (look_in at n next)
-      by (File f) = (refl, refl)
+      by (File f) = (refl, refl, refl)
       by (Dir d) = h d
 
   there_fine : (next : Child → Plan) (o : Option Child) → ((c : Child) → Ends (next c)) → Ends (there next o)
-  there_fine next None h = (refl, refl)
+  there_fine next None h = (refl, refl, refl)
   there_fine next (Some c) h = h c
 
   absent_fine : (next : Plan) (o : Option Child) → Ends next → Ends (absent next o)
   absent_fine next None h = h
-  absent_fine next (Some c) h = (refl, refl)
+  absent_fine next (Some c) h = (refl, refl, refl)
 
   walk_fine : (at : Child) (ns : List (List ℕ)) (next : List Child → Plan) → ((cs : List Child) → Ends (next cs)) → Ends (walk at ns next)
   walk_fine at [] next h = h []
@@ -62,25 +67,25 @@ module _ (t : Tree) where
 
   empty_fine : (names : List (List ℕ)) (next : Plan) → Ends next → Ends (if_empty names next)
   empty_fine [] next h = h
-  empty_fine (n ∷ ns) next h = (refl, refl)
+  empty_fine (n ∷ ns) next h = (refl, refl, refl)
 
   found_fine : (cs : List Child) (c : Child) → Ends (row_lookup cs c)
-  found_fine cs (Dir d) = (refl, refl)
-  found_fine cs (File f) = (refl, refl)
+  found_fine cs (Dir d) = (refl, refl, refl)
+  found_fine cs (File f) = (refl, refl, refl)
 
   rmdir_fine : (d : Fid) (n : List ℕ) (c : Child) → Ends (row_rmdir d n c)
-  rmdir_fine d n (File f) = (refl, refl)
-  rmdir_fine d n (Dir e) = empty_fine (listing t e) _ (refl, refl)
+  rmdir_fine d n (File f) = (refl, refl, refl)
+  rmdir_fine d n (Dir e) = empty_fine (listing t e) _ (refl, refl, refl)
 
   plan_fine : (osts : ℕ) (number : Txn) (who : Who) (o : Op) → IsThree o → Ends (plan osts number who o)
   plan_fine osts number who (op.Lookup path) i = walk_fine root path (λ cs. row_lookup cs (last_of root cs)) (λ cs. found_fine cs (last_of root cs))
-  plan_fine osts number who (op.Mkdir []) i = (refl, refl)
-  plan_fine osts number who (op.Mkdir (n ∷ ns)) i = look_fine root n (λ d. onward ns (λ cs d n. absent (row_mkdir number d n)) d n) (λ d. onward_fine ns (λ cs d n. absent (row_mkdir number d n)) d n (child t d n) (λ cs d m o. absent_fine (row_mkdir number d m) o (refl, refl)))
-  plan_fine osts number who (op.Rmdir []) i = (refl, refl)
+  plan_fine osts number who (op.Mkdir []) i = (refl, refl, refl)
+  plan_fine osts number who (op.Mkdir (n ∷ ns)) i = look_fine root n (λ d. onward ns (λ cs d n. absent (row_mkdir number d n)) d n) (λ d. onward_fine ns (λ cs d n. absent (row_mkdir number d n)) d n (child t d n) (λ cs d m o. absent_fine (row_mkdir number d m) o (refl, refl, refl)))
+  plan_fine osts number who (op.Rmdir []) i = (refl, refl, refl)
   plan_fine osts number who (op.Rmdir (n ∷ ns)) i = look_fine root n (λ d. onward ns (λ cs d n. there (row_rmdir d n)) d n) (λ d. onward_fine ns (λ cs d n. there (row_rmdir d n)) d n (child t d n) (λ cs d m o. there_fine (row_rmdir d m) o (λ c. rmdir_fine d m c)))
   plan_fine osts number who _ i = absurd i
 
--- ---- what was done is answered by the table
+-- ---- what was done is answered by the rows
 
 abbrev Answered : ℕ → Deed → Type 0
 Answered osts d = (t : Tree) × (d.reply.answer ≡ answer osts t (operation d))

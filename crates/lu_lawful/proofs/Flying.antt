@@ -1,4 +1,4 @@
--- What the laws call in flight is what the table calls so: at most eight requests, each with its own tag.
+-- What the laws call in flight is what the rows call so: at most eight requests, each with its own tag.
 use Rattle.std.proofs.Common.{◌≡◌, ℕ, ◌+◌, ◌≤◌, Bool, true, false, List, [], ◌∷◌, ◌++◌, inl, inr, ⊎_elim, refl, sym, subst, ap, ◌∙◌, arith}
 use Rattle.std.specs.Prelude.{nat_eq, not, ◌&&◌, if◌then◌else◌, length, filter}
 use Rattle.std.proofs.lemmas.Bool.{and_parts, cond_both, cond-true, eqb-true, not-true}
@@ -18,9 +18,9 @@ use Rattle.lu_covered.specs.Calls.{first_life}
 use Rattle.lu_covered.specs.Imports.{without_flight, flights_at}
 use Rattle.lu_covered.specs.ClientStates.{known_of}
 use Rattle.lu_covered.specs.Runs.{Head}
-use Rattle.lu_laws.specs.Pasts as pasts
-use Rattle.lu_laws.specs.Lives.{life}
-use Rattle.lu_laws.specs.Requests.{is_of, has_number, without_number, has_heard, in_flight}
+use Rattle.lu_laws.specs.Words.Pasts as pasts
+use Rattle.lu_laws.specs.Words.Lives.{life}
+use Rattle.lu_laws.specs.Words.Requests.{is_of, has_number, without_number, has_heard, in_flight}
 use Rattle.lu_guards.proofs.Guards.{In, AskOk, Allowed, Grown}
 use Rattle.lu_guards.proofs.Lists.{in_left, in_filter, life_is}
 use Rattle.lu_guards.proofs.Parts.{flights_is}
@@ -34,7 +34,7 @@ use Rattle.lu_lawful.proofs.Printed.{flip}
 abbrev pub flying : ℕ → List Line → List RequestOf
 flying c past = in_flight 0 (first_life c) (printed past)
 
--- a request in flight by the laws is one by the table
+-- a request in flight by the laws is one by the rows
 abbrev pub Flown : List Line → ℕ → RequestOf → Type 0
 Flown past c r = (f : Flight) × In f (flights_at c 0 past) × (r ≡ first_request c f)
 
@@ -57,7 +57,7 @@ distinct_filter g (r ∷ rs) d =
     (λ t. (λ q i. d.0 q (in_filter g q rs i).0, distinct_filter g rs d.1))
     (λ t. distinct_filter g rs d.1)
 
--- what a client sends is in flight by the table
+-- what a client sends is in flight by the rows
 pub ask_flown : (head : Head) (past : List Line) (c : ℕ) (r : RequestOf) → Grown head past → AskOk (only 0 past) c r → Flown past c r
 ask_flown head past c r g ok =
     let phase = ((holds head past g).at 0).phase in (
@@ -100,7 +100,7 @@ flyers_asks past stamp d t r ok h c = (
     mine : is_of 0 (first_life c) (Target t) r && not (has_number r.xid.0 (flying c past)) && not (has_heard 0 (first_life c) r.xid.0 (printed past)) ≡ true → Flown past c r
     mine v = let e = own v in subst (λ k. Flown past k r) (sym e) ok
 
--- one more in the table
+-- one more in the rows
 flyers_flies : (past : List Line) (stamp : Stamp) (d : ℕ) (f : Flight) → Flyers past → Flyers (line (turn stamp (Client d)) (Flies 0 f) ∷ past)
 flyers_flies past stamp d f h c = (
   λ r i. let k = (h c).0 r i in (k.0, cond_both (nat_eq c d && nat_eq 0 0) (flights_at c 0 past ++ f ∷ []) (flights_at c 0 past) (λ (fs : List Flight). In k.0 fs) (λ t. in_left k.0 (flights_at c 0 past) (f ∷ []) k.1) (λ t. k.1), k.2),
@@ -143,7 +143,7 @@ keeps_flyers head past stamp (Target t) (Send (Client c) (message.Reply r)) k g 
 keeps_flyers head past stamp (Target t) (Send (Client c) m) k g h = absurd k.ok
 keeps_flyers head past stamp (Target t) (Send (Target u) m) k g h = absurd k.ok
 keeps_flyers head past stamp (Client c) (Flies u f) k g h = subst (λ (v : ℕ). Flyers (line (turn stamp (Client c)) (Flies v f) ∷ past)) (sym k.ok) (flyers_flies past stamp c f h)
-keeps_flyers head past stamp (Client c) (Heard u f r) k g h = subst (λ (v : ℕ). Flyers (line (turn stamp (Client c)) (Heard v f r) ∷ past)) (sym k.ok) (flyers_heard head past stamp c f r g (k.of 0 (about_it u k.ok)).xid h)
+keeps_flyers head past stamp (Client c) (Heard u f r) k g h = subst (λ (v : ℕ). Flyers (line (turn stamp (Client c)) (Heard v f r) ∷ past)) (sym k.ok.0) (flyers_heard head past stamp c f r g (k.of 0 (about_it u k.ok.0)).xid h)
 keeps_flyers head past stamp (Target u) (Flies v f) k g h = absurd k.ok
 keeps_flyers head past stamp (Target u) (Heard v f r) k g h = absurd k.ok
 keeps_flyers head past stamp _ _ k g h = h
@@ -152,7 +152,7 @@ pub flyers : (head : Head) (past : List Line) → Grown head past → Flyers pas
 flyers head [] g = λ c. (λ r i. absurd i, tt)
 flyers head (l ∷ past) g = keeps_flyers head past l.at.stamp l.at.node l.entry g.0 g.1 (flyers head past g.1)
 
--- ---- no more than the table has
+-- ---- no more than the rows have
 
 shorter : (x : ℕ) (fs : List Flight) → length (without_flight x fs) ≤ length fs
 shorter x [] = omega arith

@@ -2,6 +2,8 @@
 -- refuses no transaction that stands.
 use Rattle.std.proofs.Common.{◌≡◌, ℕ, ◌+◌, ◌<◌, ◌≤◌, Bool, true, false, List, [], ◌∷◌, ◌++◌, Option, Some, None, inl, inr, refl, sym, subst, ap, ◌∙◌, arith}
 use Rattle.std.specs.Prelude.{not, ◌&&◌, if◌then◌else◌}
+use Rattle.std.specs.Option.{option_map}
+use Rattle.std.proofs.lemmas.Bool.{and_parts, eqb-true}
 use Rattle.lu_base.specs.declared.ids.At.{At}
 use Rattle.lu_base.specs.declared.ids.Node.{Node}
 use Rattle.lu_base.specs.declared.ids.Node.TheVariants.{Client, Target}
@@ -13,9 +15,10 @@ use Rattle.lu_msg.specs.declared.answers.Answer.TheVariants as told
 use Rattle.lu_msg.specs.declared.answers.Errno.{Errno}
 use Rattle.lu_msg.specs.declared.operations.Op.{Op}
 use Rattle.lu_part.specs.declared.parts.Part.{Part}
-use Rattle.lu_trace.specs.declared.entries.Entry.{Entry as PrintedEntry}
+use Rattle.lu_trace.specs.declared.entries.Line.{Line as PrintedLine}
 use Rattle.lu_machine.specs.declared.acts.Act.{Act as ActOf}
-use Rattle.lu_machine.specs.Tree.{Tree}
+use Rattle.lu_machine.specs.declared.acts.Deed.TheVariants.{Names}
+use Rattle.lu_machine.specs.Tree.{Tree, same_life}
 use Rattle.lu_machine.specs.Footprint.{empty, answer, touches, writes, changes, after, Every}
 use Rattle.lu_machine.specs.Removal as removal
 use Rattle.lu_machine.specs.Removal.{Item, Acts, pick, Older}
@@ -28,26 +31,29 @@ use Rattle.lu_machine.proofs.Seen.{removal_by_seen}
 use Rattle.lu_machine.proofs.Transactions.{machine_is_table}
 use Rattle.lu_words.specs.Carried.{Deed, Work}
 use Rattle.lu_words.specs.Words.{Entry, Told, Act, Txn as Made, Line, line}
-use Rattle.lu_words.specs.Sent.{count_sent}
-use Rattle.lu_words.specs.Printed.{printed_entry, printed}
+use Rattle.lu_words.specs.Printed.{printed}
 use Rattle.lu_covered.specs.Calls.{first_life}
 use Rattle.lu_covered.specs.TargetParts.{operation, logged}
 use Rattle.lu_covered.specs.TargetStates.{count_at, tree_at, log_at, server_at, seen_in}
 use Rattle.lu_covered.specs.Runs.{Head}
-use Rattle.lu_laws.specs.Lives.{who_is, is_gone}
-use Rattle.lu_laws.specs.Lost.{is_lost}
-use Rattle.lu_laws.specs.Requests.{asked}
-use Rattle.lu_laws.specs.Calls.{open_call}
-use Rattle.lu_laws.specs.Histories.{none, request_act, is_answer, told_item, after_item, machine_of, act_of, deed_of}
-use Rattle.lu_laws.specs.History.{Answers, AnsweredThere, ToldFrom, ToldBy, ToldAt, is_refused, is_counted, IsDone, HistoryAt, HistoryOf, History}
-use Rattle.lu_laws.specs.History as law
+use Rattle.lu_laws.specs.Words.Pasts.{same_turn, is_target}
+use Rattle.lu_laws.specs.Words.Lives.{who_is}
+use Rattle.lu_laws.specs.Words.Requests.{asked}
+use Rattle.lu_laws.specs.Words.Calls.{Begun, open_call, heard_in}
+use Rattle.lu_laws.specs.Words.Histories.{none, names_act, call_act, acts_as, is_answer, told_item, after_item, machine_of, answer_to, answer_there}
+use Rattle.lu_laws.specs.Holds.{Holds}
+use Rattle.lu_laws.proofs.Tests.{both, settled}
+use Rattle.lu_laws.specs.Laws.History.{is_accepted, heard_answer, right_answer, ToldOn, ToldAt, HistoryOf}
+use Rattle.lu_laws.specs.Laws.History as law
 use Rattle.lu_lawful.specs.Fits.{AllStand, SeenStand, DoneStands, ToldStandsAt, ToldStand, Fits}
 use Rattle.lu_guards.proofs.Guards.{Allowed, Grown}
+use Rattle.lu_guards.proofs.Lists.{life_is}
 use Rattle.lu_facts.proofs.Groups.{turn, Acted}
-use Rattle.lu_lawful.proofs.MessagesLaw.{OfPrinted}
-use Rattle.lu_lawful.proofs.Once.{act_now, txn_now}
+use Rattle.lu_lawful.proofs.Lines.{Keeps, holds_before}
+use Rattle.lu_lawful.proofs.ActsLaw.{own_line}
+use Rattle.lu_lawful.proofs.Once.{NoneFor, act_now, txn_now}
 use Rattle.lu_lawful.proofs.Facts.{AskedAt, AllAsked, TellsAt, AllTold}
-use Rattle.lu_lawful.proofs.Contents.{none_lost, life_stays, number_is, asked_before}
+use Rattle.lu_lawful.proofs.Contents.{life_stays, number_is, asked_before}
 use Rattle.lu_lawful.proofs.SeenNumbers.{one, seen_snoc}
 use Rattle.lu_lawful.proofs.Deeds.{ActIs, TxnIs, act_is, txn_is}
 use Rattle.lu_lawful.proofs.Three.{IsThree, acted_three, told_plain}
@@ -63,7 +69,7 @@ fits_before out lost l past f = record { root = f.root; seen = seen_before l.ent
     told_before (Told slot turn given work) t = t.1
     told_before _ t = t
 
-told_earlier : (l : Line) (past : List Line) → AllTold (l ∷ past) → AllTold past
+pub told_earlier : (l : Line) (past : List Line) → AllTold (l ∷ past) → AllTold past
 told_earlier l past = by l.entry
   where
     by : (e : Entry) → AllTold (line l.at e ∷ past) → AllTold past
@@ -169,8 +175,8 @@ module _ (head : Head) (out : Who → Bool) (lost : ℕ → ℕ → Bool) where
   -- the same after a transaction whose request asked for o, and which is lost or not
   abbrev FollowsMade : List Line → Deed → Option Op → Bool → Type 0
   FollowsMade past d o t =
-      ((after_item head.osts (machine past) (if t then None else request_act d.reply.who d.reply.txn o)).last ≤ 4294967296 + (count_at 0 past + 1))
-      × ((after_item head.osts (machine past) (if t then None else request_act d.reply.who d.reply.txn o)).tree ≡ whole head.osts (if not t then Acts (operation d) ∷ standing past else standing past))
+      ((after_item head.osts (machine past) (if t then None else names_act d.reply.who d.reply.txn o)).last ≤ 4294967296 + (count_at 0 past + 1))
+      × ((after_item head.osts (machine past) (if t then None else names_act d.reply.who d.reply.txn o)).tree ≡ whole head.osts (if not t then Acts (operation d) ∷ standing past else standing past))
 
   follows_made : (past : List Line) (at : At) (d : Deed) → Grown head past → TxnIs head.osts (server_at head.osts 0 past) at d → AskedAt past d → Follows past → Follows (line (turn at.stamp (Target 0)) (Made d) ∷ past)
   follows_made past at d g is asks h = by (lost 0 d.reply.txn.0)
@@ -195,7 +201,7 @@ module _ (head : Head) (out : Who → Bool) (lost : ℕ → ℕ → Bool) where
       subst (λ (i : Option ActOf). ((after_item head.osts (machine past) i).last ≤ 4294967296 + count_at 0 past) × ((after_item head.osts (machine past) i).tree ≡ whole head.osts (standing past))) (sym nothing) h
     where
       nothing : told_item out (printed past) (turn stamp (Client c)) (Client c) slot named given ≡ None
-      nothing = ap (λ t. if t && is_answer given && not (out (who_is c (printed past))) then act_of (who_is c (printed past)) none (deed_of c (open_call c slot (printed past))) else None) tells.other
+      nothing = ap (λ (t : Bool). if t && is_answer given && not (out (who_is c (printed past))) then call_act (printed past) c slot else None) tells.other
 
   follows : (past : List Line) → Grown head past → AllAsked past → AllTold past → Follows past
   follows [] g a t = (omega arith, refl)
@@ -226,13 +232,17 @@ module _ (head : Head) (out : Who → Bool) (lost : ℕ → ℕ → Bool) where
       ∙ told_plain head.osts (machine past) (machine past).tree (operation d) three
       ∙ sym same.answer
 
-  -- the machine's answer to an act, and to a transaction
+  -- its answer after a past
+  abbrev answers : List Line → Option ActOf → Option Answer
+  answers past act = answer_to head.osts (machine past) act
+
+  -- to an act, and to a transaction
   act_answers : (past : List Line) (at : At) (d : Deed) → Grown head past → AllAsked past → AllTold past → Fits out lost past → ActIs head.osts (server_at head.osts 0 past) at d → AskedAt past d → IsThree d.op → AllStand lost d.reply.seen
-      → Answers head.osts (machine past) (request_act d.reply.who none (asked (printed past) 0 d.reply.who d.reply.xid.0)) d.reply.answer
+      → answers past (names_act d.reply.who none (asked (printed past) 0 d.reply.who d.reply.xid.0)) ≡ Some d.reply.answer
   act_answers past at d g a t f is asks three s =
-      subst (λ o. Answers head.osts (machine past) (request_act d.reply.who none o) d.reply.answer) (sym asks)
-      (subst (λ (n : TxnOf). Answers head.osts (machine past) (request_act d.reply.who n (Some d.op)) d.reply.answer) is.txn
-      (answered past d (alike past d g a t f is.saw s) three (λ c. absurd (let still = is.still in cc)) ∙ sym is.answered))
+      subst (λ o. answers past (names_act d.reply.who none o) ≡ Some d.reply.answer) (sym asks)
+      (subst (λ (n : TxnOf). answers past (names_act d.reply.who n (Some d.op)) ≡ Some d.reply.answer) is.txn
+      (ap (λ (v : Answer). Some v) (answered past d (alike past d g a t f is.saw s) three (λ c. absurd (let still = is.still in cc)) ∙ sym is.answered)))
 
   txn_answers : (past : List Line) (at : At) (d : Deed) → Grown head past → AllAsked past → AllTold past → Fits out lost past → TxnIs head.osts (server_at head.osts 0 past) at d → IsThree d.op → AllStand lost d.reply.seen
       → names_answer head.osts (machine past) (operation d) ≡ d.reply.answer
@@ -241,9 +251,18 @@ module _ (head : Head) (out : Who → Bool) (lost : ℕ → ℕ → Bool) where
       let last = (follows past g a t).0 in
       answered past d (alike past d g a t f is.saw s) three (λ c. omega (arith, n, last)) ∙ sym is.answered
 
+  -- a line that executes the request answers, one that doesn't leaves what was
+  here_is : (b : Bool) (now old : Option Answer) (given : Answer) → b ≡ true → now ≡ Some given → (if b then now else old) ≡ Some given
+  here_is true now old given e q = q
+  here_is false now old given e q = absurd (cc)
+
+  before_is : (b : Bool) (now old : Option Answer) (given : Answer) → (b ≡ true → ⊥) → old ≡ Some given → (if b then now else old) ≡ Some given
+  before_is true now old given n q = absurd (n refl)
+  before_is false now old given n q = q
+
   -- what was done was answered where it stands
   answered_there : (past : List Line) (d : Deed) → Grown head past → AllAsked past → AllTold past → Fits out lost past → Acted past d → DoneStands lost past d.reply.who d.reply.at
-      → AnsweredThere out lost head.osts (printed past) d.reply.at d.reply.who d.reply.xid.0 d.reply.answer
+      → answer_there out lost head.osts (printed past) d.reply.at d.reply.who d.reply.xid.0 ≡ Some d.reply.answer
   answered_there [] d g a t f acted s = absurd acted
   answered_there (l ∷ past) d g a t f acted s =
       let earlier = asked_before l past a in
@@ -252,38 +271,42 @@ module _ (head : Head) (out : Who → Bool) (lost : ℕ → ℕ → Bool) where
       let three : (b : Deed) → Acted (l ∷ past) b → IsThree b.op = λ b i. acted_three head (l ∷ past) b g i in
       by l.entry g.0 a three acted s (λ b k. answered_there past d g.1 earlier before fits b k)
     where
+      before : AllTold past
+      before = told_earlier l past t
+
+      fits : Fits out lost past
+      fits = fits_before out lost l past f
+
+      -- a line like that is of the same request
+      same_request : (e : Deed) → NoneFor past e.reply.who e.reply.xid.0 → Acted past d → acts_as d.reply.at d.reply.who d.reply.xid.0 l.at e.reply.who e.reply.xid.0 ≡ true → ⊥
+      same_request e new i p =
+          let q = and_parts (is_target 0 l.at.node && same_turn l.at d.reply.at && same_life e.reply.who d.reply.who) _ p in
+          let r = and_parts (is_target 0 l.at.node && same_turn l.at d.reply.at) _ q.0 in
+          new d i (sym (life_is e.reply.who d.reply.who r.1)) (sym (eqb-true e.reply.xid.0 d.reply.xid.0 q.1))
+
       by : (e : Entry) → Allowed head past l.at e → AllAsked (line l.at e ∷ past) → ((b : Deed) → Acted (line l.at e ∷ past) b → IsThree b.op) → Acted (line l.at e ∷ past) d → DoneStands lost (line l.at e ∷ past) d.reply.who d.reply.at
-          → (Acted past d → DoneStands lost past d.reply.who d.reply.at → AnsweredThere out lost head.osts (printed past) d.reply.at d.reply.who d.reply.xid.0 d.reply.answer)
-          → AnsweredThere out lost head.osts (printed (line l.at e ∷ past)) d.reply.at d.reply.who d.reply.xid.0 d.reply.answer
+          → (Acted past d → DoneStands lost past d.reply.who d.reply.at → answer_there out lost head.osts (printed past) d.reply.at d.reply.who d.reply.xid.0 ≡ Some d.reply.answer)
+          → answer_there out lost head.osts (printed (line l.at e ∷ past)) d.reply.at d.reply.who d.reply.xid.0 ≡ Some d.reply.answer
       by (Act e) ok a three (inl same) s h =
           let now = act_now head past l.at.stamp l.at.node e ok g.1 in
-          let w = now.2 in
-          let node = now.1 in
           let stands = s.0 (ap (λ (v : Deed). v.reply.who) same) (ap (λ (v : Deed). v.reply.at) same) in
-          inl
-          (subst
-          (λ (v : Deed). (l.at ≡ v.reply.at) × (l.at.node ≡ Target 0) × (e.reply.who ≡ v.reply.who) × (e.reply.xid.0 ≡ v.reply.xid.0) × Answers head.osts (machine past) (request_act v.reply.who none (asked (printed past) 0 v.reply.who v.reply.xid.0)) v.reply.answer)
-          same
-          (sym w, node, refl, refl, act_answers past l.at e g.1 a.1 (told_earlier l past t) (fits_before out lost l past f) (act_here head past l.at.stamp l.at.node e ok) a.0 (three e (inl refl)) stands))
-      by (Act e) ok a three (inr b) s h = inr (h b s.1)
+          subst (λ (v : Deed). answer_there out lost head.osts (printed (line l.at (Act e) ∷ past)) v.reply.at v.reply.who v.reply.xid.0 ≡ Some v.reply.answer) same
+          (here_is _ _ _ e.reply.answer (own_line l.at e.reply.at e.reply.who e.reply.xid.0 (sym now.2) now.1)
+          (act_answers past l.at e g.1 a.1 before fits (act_here head past l.at.stamp l.at.node e ok) a.0 (three e (inl refl)) stands))
+      by (Act e) ok a three (inr i) s h =
+          before_is _ _ _ d.reply.answer (same_request e (act_now head past l.at.stamp l.at.node e ok g.1).0.new i) (h i s.1)
       by (Made e) ok a three (inl same) s h =
           let now = txn_now head past l.at.stamp l.at.node e ok g.1 in
-          let w = now.2 in
-          let node = now.1 in
           let stands = s.0 (ap (λ (v : Deed). v.reply.who) same) (ap (λ (v : Deed). v.reply.at) same) in
-          inl
-          (subst
-          (λ (v : Deed). (l.at ≡ v.reply.at) × (l.at.node ≡ Target 0) × (e.reply.who ≡ v.reply.who) × (e.reply.xid.0 ≡ v.reply.xid.0) × (lost 0 e.reply.txn.0 ≡ false) × Answers head.osts (machine past) (request_act v.reply.who e.reply.txn (asked (printed past) 0 v.reply.who v.reply.xid.0)) v.reply.answer)
-          same (
-            sym w,
-            node,
-            refl,
-            refl,
-            stands.0,
-            subst (λ o. Answers head.osts (machine past) (request_act e.reply.who e.reply.txn o) e.reply.answer) (sym a.0)
-                (txn_answers past l.at e g.1 a.1 (told_earlier l past t) (fits_before out lost l past f) (txn_here head past l.at.stamp l.at.node e ok) (three e (inl refl)) stands.1),
-          ))
-      by (Made e) ok a three (inr b) s h = inr (h b s.1)
+          let own = own_line l.at e.reply.at e.reply.who e.reply.xid.0 (sym now.2) now.1 in
+          subst (λ (v : Deed). answer_there out lost head.osts (printed (line l.at (Made e) ∷ past)) v.reply.at v.reply.who v.reply.xid.0 ≡ Some v.reply.answer) same
+          (here_is _ _ _ e.reply.answer (both own (settled (lost 0 e.reply.txn.0) stands.0))
+          (subst (λ o. answers past (names_act e.reply.who e.reply.txn o) ≡ Some e.reply.answer) (sym a.0)
+          (ap (λ (v : Answer). Some v) (txn_answers past l.at e g.1 a.1 before fits (txn_here head past l.at.stamp l.at.node e ok) (three e (inl refl)) stands.1))))
+      by (Made e) ok a three (inr i) s h =
+          before_is _ _ _ d.reply.answer
+          (λ p. same_request e (txn_now head past l.at.stamp l.at.node e ok g.1).0.new i (and_parts (acts_as d.reply.at d.reply.who d.reply.xid.0 l.at e.reply.who e.reply.xid.0) (not (lost 0 e.reply.txn.0)) p).0)
+          (h i s.1)
       by _ ok a three b s h = h b s
 
   -- ---- the law, line by line
@@ -291,64 +314,65 @@ module _ (head : Head) (out : Who → Bool) (lost : ℕ → ℕ → Bool) where
   -- what is told is what the machine answers where it acted
   told_law : (past : List Line) (stamp : Stamp) (c slot : ℕ) (named : At) (given : Answer) → Grown head past → AllAsked past → AllTold past → Fits out lost past
       → TellsAt past (turn stamp (Client c)) (Client c) named given → ToldStandsAt out lost past (Client c) named → ToldAt out lost head.osts (printed past) (turn stamp (Client c)) (Client c) slot named given
-  told_law past stamp c slot named given g a t f tells stands out_not counted there =
+  told_law past stamp c slot named given g a t f tells stands out_not counted =
       let at = turn stamp (Client c) in
       let d = tells.deed in
       let life : who_is c (printed past) ≡ first_life c = ap (λ (v : ℕ). record { client = c; life = v }) (life_stays head c past g) in
       let done : DoneStands lost past d.reply.who d.reply.at =
       subst (λ (v : Who). DoneStands lost past v d.reply.at) (sym tells.who) (subst (λ (v : At). DoneStands lost past (first_life c) v) (sym tells.turn) (stands (subst (λ (v : Who). out v ≡ false) life out_not))) in
       let found = answered_there past d g a t f tells.acted done in
-      subst (λ b. ToldBy out lost head.osts (printed past) at c slot named given b) (sym tells.other)
-      (record {
-        xid = d.reply.xid.0;
-        heard = tells.heard;
-        answered = subst (λ (v : Answer). AnsweredThere out lost head.osts (printed past) named (who_is c (printed past)) d.reply.xid.0 v) tells.answer
-            (subst (λ (v : At). AnsweredThere out lost head.osts (printed past) v (who_is c (printed past)) d.reply.xid.0 d.reply.answer) tells.turn
-            (subst (λ (v : Who). AnsweredThere out lost head.osts (printed past) d.reply.at v d.reply.xid.0 d.reply.answer) (tells.who ∙ sym life) found));
-      })
+      on (open_call c slot (printed past))
+      (subst (λ b. right_answer out lost head.osts (printed past) at c slot named b ≡ Some given) (sym tells.other)
+      (subst (λ (o : Option ℕ). heard_answer out lost head.osts (printed past) named (who_is c (printed past)) o ≡ Some given) (sym tells.heard)
+      (subst (λ (v : Answer). answer_there out lost head.osts (printed past) named (who_is c (printed past)) d.reply.xid.0 ≡ Some v) tells.answer
+      (subst (λ (v : At). answer_there out lost head.osts (printed past) v (who_is c (printed past)) d.reply.xid.0 ≡ Some d.reply.answer) tells.turn
+      (subst (λ (v : Who). answer_there out lost head.osts (printed past) d.reply.at v d.reply.xid.0 ≡ Some d.reply.answer) (tells.who ∙ sym life) found)))))
+    where
+      on : (o : Option Begun) → right_answer out lost head.osts (printed past) (turn stamp (Client c)) c slot named (same_turn named (turn stamp (Client c))) ≡ Some given → ToldOn out lost head.osts (printed past) (turn stamp (Client c)) c slot o named given
+      on None is = tt
+      on (Some begun) is = λ counts. is
 
   -- what stands isn't refused
   txn_law : (past : List Line) (at : At) (d : Deed) → Grown head past → AllAsked past → AllTold past → Fits out lost past → TxnIs head.osts (server_at head.osts 0 past) at d → AskedAt past d → IsThree d.op
       → (lost 0 d.reply.txn.0 ≡ false → AllStand lost d.reply.seen) → law.TxnAt out lost head.osts (printed past) 0 d.reply.txn d.reply.who d.reply.xid.0
   txn_law past at d g a t f is asks three s stands =
       let same = txn_answers past at d g a t f is three (s stands) in
-      subst (λ o. IsDone head.osts (machine past) (request_act d.reply.who d.reply.txn o)) (sym asks)
-      (ap is_refused (same ∙ is.answered) ∙ not_refused (answer head.osts (tree_at head.osts 0 past) (operation d)) (λ e r. let still = (refusals_stay head.osts (tree_at head.osts 0 past) (operation d) e r).0 in let moves = is.moves in absurd (cc)))
+      subst (λ o. is_accepted (answers past (names_act d.reply.who d.reply.txn o)) ≡ true) (sym asks)
+      (ap (λ (v : Answer). is_accepted (Some v)) (same ∙ is.answered) ∙ accepted (answer head.osts (tree_at head.osts 0 past) (operation d)) (λ e r. let still = (refusals_stay head.osts (tree_at head.osts 0 past) (operation d) e r).0 in let moves = is.moves in absurd (cc)))
     where
-      not_refused : (x : Answer) → ((e : Errno) → x ≡ told.Refused e → ⊥) → is_refused x ≡ false
-      not_refused (told.Refused e) never = absurd (never e refl)
-      not_refused _ never = refl
+      accepted : (x : Answer) → ((e : Errno) → x ≡ told.Refused e → ⊥) → is_accepted (Some x) ≡ true
+      accepted (told.Refused e) never = absurd (never e refl)
+      accepted _ never = refl
 
-  history_at : (past : List Line) (l : Line) → Grown head (l ∷ past) → Fits out lost (l ∷ past) → AllAsked (l ∷ past) → AllTold (l ∷ past)
-      → OfPrinted (HistoryAt out lost head.osts (printed past) l.at) (printed_entry (count_sent past + 1) l.entry)
-  history_at past l g f a t = by l.at.node l.entry g.0 (λ b i. acted_three head (l ∷ past) b g i) f.seen f.told a t
+  -- what is known of a past
+  abbrev Known : List Line → Type 0
+  Known past = record { fits : Fits out lost past; asked : AllAsked past; told : AllTold past }
+
+  known_before : (l : Line) (past : List Line) → Known (l ∷ past) → Known past
+  known_before l past k = record { fits = fits_before out lost l past k.fits; asked = asked_before l past k.asked; told = told_earlier l past k.told }
+
+  history_at : (past : List Line) (l : Line) (later : List PrintedLine) → Allowed head past l.at l.entry → Grown head past → Known (l ∷ past) → Keeps (HistoryOf out lost head.osts) past l later
+  history_at past l later ok g known = by l.at.node l.entry ok (λ b i. acted_three head (l ∷ past) b (ok, g) i) known.fits.seen known.fits.told known.asked known.told
     where
       fits : Fits out lost past
-      fits = fits_before out lost l past f
+      fits = fits_before out lost l past known.fits
 
       earlier : AllTold past
-      earlier = told_earlier l past t
+      earlier = told_earlier l past known.told
 
       by : (node : Node) (e : Entry) → Allowed head past (turn l.at.stamp node) e → ((b : Deed) → Acted (line (turn l.at.stamp node) e ∷ past) b → IsThree b.op) → SeenStand lost (line (turn l.at.stamp node) e ∷ past)
           → ToldStand out lost (line (turn l.at.stamp node) e ∷ past) → AllAsked (line (turn l.at.stamp node) e ∷ past) → AllTold (line (turn l.at.stamp node) e ∷ past)
-          → OfPrinted (HistoryAt out lost head.osts (printed past) (turn l.at.stamp node)) (printed_entry (count_sent past + 1) e)
-      by (Client c) (Told slot named given work) k three s st a t = told_law past l.at.stamp c slot named given g.1 a t.1 fits t.0 st.0
+          → Keeps (HistoryOf out lost head.osts) past (line (turn l.at.stamp node) e) later
+      by (Client c) (Told slot named given work) k three s st a t = told_law past l.at.stamp c slot named given g a t.1 fits t.0 st.0
       by (Target u) (Told slot named given work) k three s st a t = absurd k.ok
       by (Client c) (Made d) k three s st a t = absurd k.ok
       by (Target u) (Made d) k three s st a t =
           subst (λ (v : ℕ). law.TxnAt out lost head.osts (printed past) v d.reply.txn d.reply.who d.reply.xid.0) (sym k.ok)
-          (txn_law past (turn l.at.stamp (Target u)) d g.1 a.1 earlier fits (txn_is head past l.at.stamp u d k) a.0 (three d (inl refl)) s.0)
+          (txn_law past (turn l.at.stamp (Target u)) d g a.1 earlier fits (txn_is head past l.at.stamp u d k) a.0 (three d (inl refl)) s.0)
       by _ _ k three s st a t = tt
 
-  pub history_law : (past : List Line) → Fits out lost past → Grown head past → AllAsked past → AllTold past → HistoryOf out lost head.osts (printed past)
-  history_law [] f g a t = tt
-  history_law (l ∷ past) f g a t =
-      by (printed_entry (count_sent past + 1) l.entry) (history_at past l g f a t) (history_law past (fits_before out lost l past f) g.1 (asked_before l past a) (told_earlier l past t))
-    where
-      by : (o : Option PrintedEntry) → OfPrinted (HistoryAt out lost head.osts (printed past) l.at) o → HistoryOf out lost head.osts (printed past)
-          → HistoryOf out lost head.osts (elim o [ None ↦ printed past | Some e ↦ record { at = l.at; entry = e } ∷ printed past ])
-      by None p h = h
-      by (Some e) p h = (p, h)
+  pub history_law : (past : List Line) → Fits out lost past → Grown head past → AllAsked past → AllTold past → Holds (HistoryOf out lost head.osts) (printed past)
+  history_law past f g a t = holds_before head (HistoryOf out lost head.osts) Known known_before history_at past [] g (record { fits = f; asked = a; told = t })
 
 -- ---- of a whole trace: no life is gone, and nothing is lost
 
@@ -387,6 +411,3 @@ none_fit out lost none past = record { root = none 1; seen = seen past; told = t
         by : (e : Entry) → ToldStand out lost past → ToldStand out lost (line l.at e ∷ past)
         by (Told slot turn given work) h = (at past l.at.node turn, h)
         by _ h = h
-
-pub history_whole : (head : Head) (past : List Line) → Grown head past → AllAsked past → AllTold past → History head.osts (printed past)
-history_whole head past g a t = history_law head (is_gone (printed past)) (is_lost (printed past)) past (none_fit (is_gone (printed past)) (is_lost (printed past)) (λ n. none_lost head past 0 n g) past) g a t

@@ -1,4 +1,5 @@
 pub mod Turns
+pub mod Lines
 pub mod Story
 pub mod Printed
 pub mod MessagesLaw
@@ -14,4 +15,7 @@ pub mod ActsLaw
 pub mod ToldLaw
 pub mod RecoveryLaw
 pub mod HistoryLaw
+pub mod LocksLaw
+pub mod SilentLaw
+pub mod GlimpseLaw
 pub mod Whole

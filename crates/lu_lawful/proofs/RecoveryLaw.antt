@@ -1,43 +1,52 @@
 -- The law of recovery: transactions have rising numbers of their boot and the seen numbers, and a reply that is
 -- sent in the turn that it names carries those of its deed.
 use Rattle.std.proofs.Common.{◌≡◌, ℕ, ◌+◌, ◌/◌, Bool, true, false, List, [], ◌∷◌, Option, Some, None, ◌⊎◌, inl, inr, ⊎_elim, refl, sym, subst, ap, ◌∙◌, arith}
-use Rattle.std.specs.Prelude.{nat_eq, ◌&&◌, ◌||◌}
-use Rattle.std.proofs.lemmas.Bool.{and_parts, cond_both, cond-true, eqb-true}
+use Rattle.std.specs.Prelude.{nat_eq, not, ◌&&◌, ◌||◌, if◌then◌else◌}
+use Rattle.std.specs.Bool.{then_some}
+use Rattle.std.proofs.lemmas.Bool.{and_parts, cond_both, eqb-true, true≢false}
 use Rattle.lu_base.specs.declared.ids.At.{At}
 use Rattle.lu_base.specs.declared.ids.Stamp.{Stamp}
 use Rattle.lu_base.specs.declared.ids.Node.{Node}
 use Rattle.lu_base.specs.declared.ids.Node.TheVariants.{Client, Target}
+use Rattle.lu_base.specs.declared.ids.Txn.{Txn}
 use Rattle.lu_base.specs.declared.ids.Who.{Who}
 use Rattle.lu_msg.specs.declared.messages.Message.{Message}
 use Rattle.lu_msg.specs.declared.messages.Message.TheVariants as message
 use Rattle.lu_msg.specs.declared.messages.Reply.{Reply as ReplyTo}
 use Rattle.lu_trace.specs.declared.entries.Entry.{Entry as PrintedEntry}
+use Rattle.lu_trace.specs.declared.entries.Entry.TheVariants as entry
+use Rattle.lu_trace.specs.declared.entries.Line.{Line as PrintedLine}
 use Rattle.lu_machine.specs.Tree.{Tree, same_life}
 use Rattle.lu_machine.specs.Footprint.{touches}
 use Rattle.lu_words.specs.Carried.{Deed}
-use Rattle.lu_words.specs.Words.{Entry, Send, Take, Act, Txn as Made, Grant, Line, line, turn_before}
+use Rattle.lu_words.specs.Words.{Entry, Send, Take, Act, Txn as Made, Grant, Commit, Back, Close, Kept, Restore, Evict, Joined, Line, line, turn_before}
 use Rattle.lu_words.specs.Concerns.{only}
 use Rattle.lu_words.specs.Sent.{count_sent}
 use Rattle.lu_words.specs.Printed.{printed_entry, printed}
 use Rattle.lu_covered.specs.TargetParts.{operation}
 use Rattle.lu_covered.specs.TargetStates.{tree_at, log_at, slot_of, count_at, server_at, seen_in}
 use Rattle.lu_covered.specs.Runs.{Head}
-use Rattle.lu_laws.specs.Pasts.{same_turn}
-use Rattle.lu_laws.specs.Sends.{sending, took}
-use Rattle.lu_laws.specs.Requests.{asked}
-use Rattle.lu_laws.specs.Seen.{touches_of, seen_by}
-use Rattle.lu_laws.specs.Recovery as law
-use Rattle.lu_laws.specs.Recovery.{TxnAt, is_size_for, is_executed, reply_seen, ReplyAt, RecoveryAt, Recovery}
+use Rattle.lu_laws.specs.Words.Pasts.{same_turn, or_else}
+use Rattle.lu_laws.specs.Words.Scopes.{counted}
+use Rattle.lu_laws.specs.Words.Sends.{Sending, sending, message_of, with_taken, taken}
+use Rattle.lu_laws.specs.Words.Requests.{asked}
+use Rattle.lu_laws.specs.Words.Clients.{clients}
+use Rattle.lu_laws.specs.Words.Boots.{is_recovering}
+use Rattle.lu_laws.specs.Words.Handed.{is_back}
+use Rattle.lu_laws.specs.Words.Seen.{touches_of, seen_by}
+use Rattle.lu_laws.specs.Holds.{Holds}
+use Rattle.lu_laws.specs.Laws.Recovery as law
+use Rattle.lu_laws.specs.Laws.Recovery.{TxnAt, answers_size, is_size_for, is_executed, other_than, reply_seen, ReplyAt, BringsBack, TakenAt, RecoveryAt, RecoveryOf, Recovery}
 use Rattle.lu_guards.proofs.Guards.{Later, Steps, Did, Taken, RepliesNow, Allowed, Grown}
 use Rattle.lu_guards.proofs.Lists.{self, turn_trans, turn_irreflexive, life_is}
 use Rattle.lu_facts.proofs.Groups.{turn, Acted}
 use Rattle.lu_facts.proofs.All.{holds}
 use Rattle.lu_lawful.proofs.Turns.{later_before, same_turn_is, same_turn_self, same_life_self}
 use Rattle.lu_lawful.proofs.Story.{acted_whole}
-use Rattle.lu_lawful.proofs.MessagesLaw.{OfPrinted}
+use Rattle.lu_lawful.proofs.Lines.{OfPrinted, Keeps, holds_before}
 use Rattle.lu_lawful.proofs.Once.{NoneFor, act_now, txn_now}
 use Rattle.lu_lawful.proofs.Facts.{AskedAt, AllAsked}
-use Rattle.lu_lawful.proofs.Contents.{boot_is, number_is, number_in_boot, below_next, asked_before, contents_are}
+use Rattle.lu_lawful.proofs.Contents.{boot_is, not_recovering, number_is, number_in_boot, below_next, asked_before, contents_are}
 use Rattle.lu_lawful.proofs.SeenNumbers.{seen_is}
 use Rattle.lu_lawful.proofs.Deeds.{TxnIs, act_is, txn_is}
 
@@ -60,7 +69,7 @@ acted_before head (l ∷ past) at d g later a = by l.entry g.0 a (λ b. acted_be
 
 -- ---- no target asks another how long a file is
 
-not_size : (head : Head) (past : List Line) (stamp : Stamp) (node to : Node) (m : Message) (who : Who) (x : ℕ) → Allowed head past (turn stamp node) (Send to m) → is_size_for who x (Some (record { from = node; to = to; message = m })) ≡ false
+not_size : (head : Head) (past : List Line) (stamp : Stamp) (node to : Node) (m : Message) (who : Who) (x : ℕ) → Allowed head past (turn stamp node) (Send to m) → answers_size who x m ≡ false
 not_size head past stamp (Client c) (Target t) (message.Request r) who x k = refl
 not_size head past stamp (Target t) (Client c) (message.Reply r) who x k = refl
 not_size head past stamp (Client c) (Target t) m who x k = absurd k.ok
@@ -68,24 +77,39 @@ not_size head past stamp (Client c) (Client d) m who x k = absurd k.ok
 not_size head past stamp (Target t) (Client c) m who x k = absurd k.ok
 not_size head past stamp (Target t) (Target u) m who x k = absurd k.ok
 
-no_size : (head : Head) (past : List Line) (who : Who) (x n : ℕ) → Grown head past → is_size_for who x (sending (printed past) n) ≡ false
-no_size head [] who x n g = refl
+abbrev is_no_size : Who → ℕ → Option Sending → Type 0
+is_no_size who x None = Unit {0}
+is_no_size who x (Some s) = answers_size who x s.message ≡ false
+
+no_size : (head : Head) (past : List Line) (who : Who) (x n : ℕ) → Grown head past → is_no_size who x (sending (printed past) n)
+no_size head [] who x n g = tt
 no_size head (l ∷ past) who x n g = by l.entry g.0 (no_size head past who x n g.1)
   where
-    by : (e : Entry) → Allowed head past l.at e → is_size_for who x (sending (printed past) n) ≡ false → is_size_for who x (sending (printed (line l.at e ∷ past)) n) ≡ false
-    by (Send to m) ok h = cond_both (nat_eq (count_sent past + 1) n) (Some (record { from = l.at.node; to = to; message = m })) (sending (printed past) n) (λ o. is_size_for who x o ≡ false) (λ t. not_size head past l.at.stamp l.at.node to m who x ok) (λ t. h)
+    by : (e : Entry) → Allowed head past l.at e → is_no_size who x (sending (printed past) n) → is_no_size who x (sending (printed (line l.at e ∷ past)) n)
+    by (Send to m) ok h = at (nat_eq (count_sent past + 1) n)
+      where
+        sent : Sending
+        sent = record { from = l.at.node; to = to; message = m }
+
+        at : (t : Bool) → is_no_size who x (or_else (if t then Some sent else None) (sending (printed past) n))
+        at true = not_size head past l.at.stamp l.at.node to m who x ok
+        at false = h
     by _ ok h = h
 
-took_no_size : (head : Head) (past : List Line) (who : Who) (x : ℕ) (at : At) → Grown head past → is_size_for who x (took (printed past) at) ≡ false
-took_no_size head [] who x at g = refl
-took_no_size head (l ∷ past) who x at g = by l.entry (took_no_size head past who x at g.1)
+taken_no_size : (head : Head) (past : List Line) (who : Who) (x : ℕ) (at : At) → Grown head past → is_size_for who x (taken (printed past) at) ≡ false
+taken_no_size head [] who x at g = refl
+taken_no_size head (l ∷ past) who x at g = by l.entry (taken_no_size head past who x at g.1)
   where
-    by : (e : Entry) → is_size_for who x (took (printed past) at) ≡ false → is_size_for who x (took (printed (line l.at e ∷ past)) at) ≡ false
-    by (Take n from m) h = cond_both (same_turn l.at at) (sending (printed past) n) (took (printed past) at) (λ o. is_size_for who x o ≡ false) (λ t. no_size head past who x n g.1) (λ t. h)
+    more : (o : Option Sending) (ss : List Sending) → is_no_size who x o → is_size_for who x ss ≡ false → is_size_for who x (with_taken o ss) ≡ false
+    more None ss n h = h
+    more (Some s) ss n h = rw (n, h) refl
+
+    by : (e : Entry) → is_size_for who x (taken (printed past) at) ≡ false → is_size_for who x (taken (printed (line l.at e ∷ past)) at) ≡ false
+    by (Take n from m) h = cond_both (same_turn l.at at) (with_taken (sending (printed past) n) (taken (printed past) at)) (taken (printed past) at) (λ ss. is_size_for who x ss ≡ false) (λ t. more (sending (printed past) n) (taken (printed past) at) (no_size head past who x n g.1) h) (λ t. h)
     by _ h = h
 
 executed_now : (head : Head) (past : List Line) (at : At) (k : ReplyTo) → Grown head past → is_executed (printed past) at k ≡ true → k.at ≡ at
-executed_now head past at k g e = let s = took_no_size head past k.who k.xid.0 at g in same_turn_is k.at at (by (same_turn k.at at) (is_size_for k.who k.xid.0 (took (printed past) at)) s e)
+executed_now head past at k g e = let s = taken_no_size head past k.who k.xid.0 at g in same_turn_is k.at at (by (same_turn k.at at) (is_size_for k.who k.xid.0 (taken (printed past) at)) s e)
   where
     by : (a b : Bool) → b ≡ false → (a || b) ≡ true → a ≡ true
     by true b s e = refl
@@ -110,12 +134,11 @@ none_seen [] at who x n = refl
 none_seen (l ∷ past) at who x n = by l.entry n (none_seen past at who x)
   where
     by : (e : Entry) → NoneFor (line l.at e ∷ past) who x → (NoneFor past who x → law.seen_in (printed past) at who x ≡ None) → law.seen_in (printed (line l.at e ∷ past)) at who x ≡ None
-    by (Made d) n h = cond_both (same_turn l.at at && same_life d.reply.who who && nat_eq d.reply.xid.0 x) (Some d.reply.seen) (law.seen_in (printed past) at who x) (λ (o : Option (List ℕ)). o ≡ None)
-        (λ t.
-        let p = and_parts (same_turn l.at at && same_life d.reply.who who) (nat_eq d.reply.xid.0 x) t in
-        let q = and_parts (same_turn l.at at) (same_life d.reply.who who) p.0 in
-        absurd (n d (inl refl) (life_is d.reply.who who q.1) (eqb-true d.reply.xid.0 x p.1)))
-        (λ t. h (λ e a. n e (inr a)))
+    by (Made d) n h = of (same_life d.reply.who who && nat_eq d.reply.xid.0 x) refl
+      where
+        of : (own : Bool) → (same_life d.reply.who who && nat_eq d.reply.xid.0 x) ≡ own → or_else (counted (then_some own d.reply.seen) (same_turn l.at at)) (law.seen_in (printed past) at who x) ≡ None
+        of true t = let p = and_parts (same_life d.reply.who who) (nat_eq d.reply.xid.0 x) t in absurd (n d (inl refl) (life_is d.reply.who who p.0) (eqb-true d.reply.xid.0 x p.1))
+        of false t = h (λ e a. n e (inr a))
     by (Act d) n h = h (λ e a. n e (inr a))
     by _ n h = h n
 
@@ -128,8 +151,10 @@ act_reply head before stamp (Target t) d g a =
     let past = line (turn stamp (Target t)) (Act d) ∷ before in
     let is = act_is head before stamp t d g.0 in
     let never : law.seen_in (printed before) d.reply.at d.reply.who d.reply.xid.0 ≡ None = none_seen before d.reply.at d.reply.who d.reply.xid.0 (act_now head before stamp (Target t) d g.0 g.1).0.new in
+    let sees = law_seen head.osts past d in
     is.saw
     ∙ sym (law_seen_is head past d g a a.0)
+    ∙ sym (ap (λ (n : Txn). other_than n.0 sees) is.txn)
     ∙ sym (ap (λ o. reply_seen head.osts 0 (printed past) d.reply o) never)
 
 txn_reply : (head : Head) (before : List Line) (stamp : Stamp) (node : Node) (d : Deed) → let past = line (turn stamp node) (Made d) ∷ before in Grown head past → d.reply.seen ≡ reply_numbers head.osts past d.reply
@@ -138,8 +163,10 @@ txn_reply head before stamp node d g =
     let past = line at (Made d) ∷ before in
     let w : d.reply.at ≡ at = (txn_now head before stamp node d g.0 g.1).2 in
     let now : same_turn at d.reply.at ≡ true = subst (λ (v : At). same_turn at v ≡ true) (sym w) (same_turn_self at) in
-    let own : (same_turn at d.reply.at && same_life d.reply.who d.reply.who && nat_eq d.reply.xid.0 d.reply.xid.0) ≡ true = rw (now, same_life_self d.reply.who, self d.reply.xid.0) refl in
-    sym (ap (λ o. reply_seen head.osts 0 (printed past) d.reply o) (cond-true (same_turn at d.reply.at && same_life d.reply.who d.reply.who && nat_eq d.reply.xid.0 d.reply.xid.0) (Some d.reply.seen) (law.seen_in (printed before) d.reply.at d.reply.who d.reply.xid.0) own))
+    let own : (same_life d.reply.who d.reply.who && nat_eq d.reply.xid.0 d.reply.xid.0) ≡ true = rw (same_life_self d.reply.who, self d.reply.xid.0) refl in
+    let rest = law.seen_in (printed before) d.reply.at d.reply.who d.reply.xid.0 in
+    let here : or_else (counted (then_some (same_life d.reply.who d.reply.who && nat_eq d.reply.xid.0 d.reply.xid.0) d.reply.seen) (same_turn at d.reply.at)) rest ≡ Some d.reply.seen = rw (own, now) refl in
+    sym (ap (λ o. reply_seen head.osts 0 (printed past) d.reply o) here)
 
 -- what was just done
 did_reply : (head : Head) (past : List Line) (d : Deed) → Grown head past → AllAsked past → Did past d → d.reply.seen ≡ reply_numbers head.osts past d.reply
@@ -182,7 +209,7 @@ reply_law head past at k g a steps ok =
 
 -- ---- transactions
 
-txn_law : (head : Head) (past : List Line) (at : At) (d : Deed) → Grown head past → AllAsked past → AskedAt past d → TxnIs head.osts (server_at head.osts 0 past) at d → TxnAt head.osts (printed past) 0 d.reply.txn d.reply.who d.reply.xid.0 d.reply.seen d.reply.answer
+txn_law : (head : Head) (past : List Line) (at : At) (d : Deed) → Grown head past → AllAsked past → AskedAt past d → TxnIs head.osts (server_at head.osts 0 past) at d → TxnAt head.osts 0 (printed past) d.reply.txn d.reply.who d.reply.xid.0 d.reply.seen d.reply.answer
 txn_law head past at d g a asks is =
     let n = number_is head past at d g is in
     let le = below_next head past g in
@@ -193,26 +220,47 @@ txn_law head past at d g a asks is =
       sees = is.saw ∙ sym (law_seen_is head past d g a asks);
     }
 
+-- ---- no life comes back, for no window is ever open
+
+never_back : (head : Head) (past : List Line) (l : PrintedLine) (later : List PrintedLine) (t : ℕ) (who : Who) → Grown head past → BringsBack t (printed past) l later who
+never_back head past l later t who g e =
+    let p = and_parts (is_recovering t (printed past) && is_back t (l ∷ printed past) who) (not (is_back t (printed past) who)) e in
+    let q = and_parts (is_recovering t (printed past)) (is_back t (l ∷ printed past) who) p.0 in
+    absurd (true≢false (sym q.0 ∙ not_recovering head t past g))
+
+never_taken : (head : Head) (past : List Line) (l : PrintedLine) (later : List PrintedLine) (t : ℕ) (m : Option Message) → Grown head past → TakenAt t (printed past) l later m
+never_taken head past l later t (Some (message.Replay r)) g = never_back head past l later t r.who g
+never_taken head past l later t (Some (message.Lock r)) g = never_back head past l later t r.who g
+never_taken head past l later t (Some (message.Word who boot replays locks seen)) g = never_back head past l later t who g
+never_taken head past l later t (Some (message.Join who boot)) g = never_back head past l later t who g
+never_taken head past l later t _ g = tt
+
 -- ---- the law
 
-recovery_at : (head : Head) (past : List Line) (l : Line) → Allowed head past l.at l.entry → Grown head past → AllAsked (l ∷ past) → OfPrinted (RecoveryAt head.osts (printed past) l.at) (printed_entry (count_sent past + 1) l.entry)
-recovery_at head past l k g a = by l.at.node l.entry k a
+-- a trace of however many clients: they are asked for at a close alone
+recovery_at : (clients : ℕ) (head : Head) (past : List Line) (l : Line) (later : List PrintedLine) → Allowed head past l.at l.entry → Grown head past → AllAsked (l ∷ past) → Keeps (RecoveryOf clients head.osts) past l later
+recovery_at clients head past l later k g a = by l.at.node l.entry k a
   where
-    by : (node : Node) (e : Entry) → Allowed head past (turn l.at.stamp node) e → AllAsked (line (turn l.at.stamp node) e ∷ past) → OfPrinted (RecoveryAt head.osts (printed past) (turn l.at.stamp node)) (printed_entry (count_sent past + 1) e)
+    by : (node : Node) (e : Entry) → Allowed head past (turn l.at.stamp node) e → AllAsked (line (turn l.at.stamp node) e ∷ past)
+        → OfPrinted (λ (e : PrintedEntry). RecoveryAt clients head.osts (printed past) (record { at = turn l.at.stamp node; entry = e }) later e) (printed_entry (count_sent past + 1) e)
     by (Client c) (Send to m) k a = tt
     by (Target t) (Send (Client c) (message.Reply r)) k a =
         subst (λ (v : ℕ). ReplyAt head.osts v (printed past) (turn l.at.stamp (Target t)) r) (sym k.ok.0) (reply_law head past (turn l.at.stamp (Target t)) r g a k.steps (subst (λ (v : ℕ). RepliesNow past v r) k.ok.0 k.ok.1))
     by (Target t) (Send (Client c) m) k a = absurd k.ok
     by (Target t) (Send (Target u) m) k a = absurd k.ok
+    by (Target t) (Take n from m) k a = never_taken head past (record { at = turn l.at.stamp (Target t); entry = entry.Take n }) later t (message_of (printed past) n) g
     by (Client c) (Made d) k a = absurd k.ok
     by (Target t) (Made d) k a =
-        subst (λ (v : ℕ). TxnAt head.osts (printed past) v d.reply.txn d.reply.who d.reply.xid.0 d.reply.seen d.reply.answer) (sym k.ok) (txn_law head past (turn l.at.stamp (Target t)) d g a.1 a.0 (txn_is head past l.at.stamp t d k))
+        subst (λ (v : ℕ). TxnAt head.osts v (printed past) d.reply.txn d.reply.who d.reply.xid.0 d.reply.seen d.reply.answer) (sym k.ok) (txn_law head past (turn l.at.stamp (Target t)) d g a.1 a.0 (txn_is head past l.at.stamp t d k))
+    by (Target t) (Commit to batch) k a = absurd k.ok
+    by (Target t) (Back who) k a = absurd k.ok
+    by (Target t) (Close outcome) k a = absurd k.ok
+    by (Target t) (Kept n) k a = absurd k.ok
+    by (Target t) (Restore lock) k a = absurd k.ok
+    by (Target t) (Evict who cause) k a = absurd k.ok
+    by (Target t) (Joined who) k a = absurd k.ok
     by _ _ k a = tt
 
-pub recovery_law : (head : Head) (past : List Line) → Grown head past → AllAsked past → Recovery head.osts (printed past)
-recovery_law head [] g a = tt
-recovery_law head (l ∷ past) g a = by (printed_entry (count_sent past + 1) l.entry) (recovery_at head past l g.0 g.1 a) (recovery_law head past g.1 (asked_before l past a))
-  where
-    by : (o : Option PrintedEntry) → OfPrinted (RecoveryAt head.osts (printed past) l.at) o → Recovery head.osts (printed past) → Recovery head.osts (elim o [ None ↦ printed past | Some e ↦ record { at = l.at; entry = e } ∷ printed past ])
-    by None p h = h
-    by (Some e) p h = (p, h)
+pub recovery_law : (head : Head) (past : List Line) → Grown head past → AllAsked past → Holds (Recovery head.osts (printed past)) (printed past)
+recovery_law head past g a =
+    holds_before head (RecoveryOf (clients (printed past)) head.osts) AllAsked asked_before (λ past' l later k g a. recovery_at (clients (printed past)) head past' l later k g a) past [] g a

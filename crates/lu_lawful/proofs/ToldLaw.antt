@@ -1,6 +1,7 @@
 -- The law of acts at a told line and at a request's message, and the whole of it.
-use Rattle.std.proofs.Common.{◌≡◌, ◌≢◌, ℕ, ◌+◌, ◌≤◌, Bool, true, false, List, [], ◌∷◌, Option, Some, None, ◌⊎◌, inl, inr, refl, sym, subst, ap, ◌∙◌, arith}
-use Rattle.std.specs.Prelude.{◌||◌, length}
+use Rattle.std.proofs.Common.{◌≡◌, ◌≢◌, ℕ, ◌+◌, ◌≤◌, Bool, true, false, List, [], ◌∷◌, Option, Some, None, inl, inr, ⊎_elim, refl, sym, subst, ap, ◌∙◌, arith}
+use Rattle.std.specs.Prelude.{nat_eq, nat_lt, ◌&&◌, ◌||◌, if◌then◌else◌, length}
+use Rattle.std.proofs.lemmas.Bool.Decides.{nat_tests}
 use Rattle.lu_base.specs.declared.ids.At.{At}
 use Rattle.lu_base.specs.declared.ids.Stamp.{Stamp}
 use Rattle.lu_base.specs.declared.ids.Node.{Node}
@@ -13,10 +14,11 @@ use Rattle.lu_msg.specs.declared.messages.Message.TheVariants as message
 use Rattle.lu_msg.specs.declared.messages.Reply.{Reply as ReplyTo}
 use Rattle.lu_msg.specs.declared.messages.Request.{Request as RequestOf}
 use Rattle.lu_msg.specs.declared.operations.Op.{Op}
-use Rattle.lu_trace.specs.declared.entries.Entry.{Entry as PrintedEntry}
+use Rattle.lu_msg.specs.declared.messages.Message.{Message}
+use Rattle.lu_trace.specs.declared.entries.Line.{Line as PrintedLine}
 use Rattle.lu_machine.specs.Footprint.{Every}
 use Rattle.lu_words.specs.Carried.{Deed, Flight, Work, Running}
-use Rattle.lu_words.specs.Words.{Entry, Send, Heard, Told, Act, Txn as Made, Line, line}
+use Rattle.lu_words.specs.Words.{Entry, Begin, Send, Take, Heard, Told, Act, Txn as Made, Line, line, node_before, turn_before}
 use Rattle.lu_words.specs.Concerns.{only}
 use Rattle.lu_words.specs.Sent.{count_sent}
 use Rattle.lu_words.specs.Printed.{printed_entry, printed}
@@ -24,63 +26,117 @@ use Rattle.lu_covered.specs.Calls.{first_life, call_at, operation_of}
 use Rattle.lu_covered.specs.Imports.{flights_at}
 use Rattle.lu_covered.specs.ClientStates.{flights_of}
 use Rattle.lu_covered.specs.Runs.{Head, IsHead}
-use Rattle.lu_laws.specs.Pasts.{Past, UpTo, HeardIn, same_turn}
-use Rattle.lu_laws.specs.Lives.{who_is}
-use Rattle.lu_laws.specs.Requests.{first_request, asked, in_flight}
-use Rattle.lu_laws.specs.Calls as calls
-use Rattle.lu_laws.specs.Calls.{open_call, is_bad, operation}
-use Rattle.lu_laws.specs.Acts.{ActIn, TxnIn, standing_count, ToldWith, is_bad_handle, is_end_of_life, is_local, ActsInTime, ToldAt, Pairwise, SameTag, FliesAt, ActsAt, ActsOf}
+use Rattle.lu_laws.specs.Words.Pasts.{UpTo, same_turn, or_else}
+use Rattle.lu_laws.specs.Words.Lives.{who_is}
+use Rattle.lu_laws.specs.Words.Requests.{first_request, asked, in_flight}
+use Rattle.lu_laws.specs.Words.Calls as calls
+use Rattle.lu_laws.specs.Words.Calls.{heard_in, operation}
+use Rattle.lu_laws.specs.Holds.{HoldsBefore}
+use Rattle.lu_laws.specs.Laws.Acts.{acted, made, standing_count, told_with, is_bad_handle, is_end_of_life, is_local, ActsFor, ActsInTime, ToldOn, ToldBy, Pairwise, SameTag, FliesAt, ActsAt, ActsOf}
 use Rattle.lu_lawful.specs.Fits.{DoneStands, ToldStand}
-use Rattle.lu_guards.proofs.Guards.{In, JustHeard, Allowed, Grown}
+use Rattle.lu_guards.proofs.Guards.{In, JustHeard, TookNow, Later, Allowed, Grown}
 use Rattle.lu_guards.proofs.Lists.{self, who as who_of}
 use Rattle.lu_guards.proofs.Parts.{flights_is}
 use Rattle.lu_facts.proofs.Groups.{turn, Upto, Acted, Flew}
 use Rattle.lu_facts.proofs.All.{holds}
 use Rattle.lu_facts.proofs.Sides.{acted_at}
 use Rattle.lu_facts.proofs.Times.{reached_on}
-use Rattle.lu_lawful.proofs.Turns.{upto_is, other_node}
+use Rattle.lu_lawful.proofs.Turns.{later_before, upto_is, same_turn_is, same_turn_self, other_node}
 use Rattle.lu_lawful.proofs.Story.{about_it, acted_whole, was_story}
 use Rattle.lu_lawful.proofs.Contents.{life_stays}
-use Rattle.lu_lawful.proofs.Printed.{first_sent, open_is}
-use Rattle.lu_lawful.proofs.MessagesLaw.{OfPrinted}
+use Rattle.lu_lawful.proofs.Printed.{first_sent, good_call, open_is}
+use Rattle.lu_lawful.proofs.Lines.{OfPrinted, Keeps, holds_before}
 use Rattle.lu_lawful.proofs.Once.{asked_is, acted_sent}
 use Rattle.lu_lawful.proofs.Fine.{IsFine, deed_fine}
 use Rattle.lu_lawful.proofs.Flying.{Flown, flying, ask_flown, Distinct, flyers, keeps_flyers, no_more}
 use Rattle.lu_lawful.proofs.Facts.{AllTold}
-use Rattle.lu_lawful.proofs.ActsLaw.{ActFor, at_most, act_for, acted_in, told_hears}
+use Rattle.lu_lawful.proofs.ActsLaw.{ActFor, at_most, act_for, Stands, or_left, or_right, acted_in, told_hears}
 
 -- ---- what was just heard
 
+lt_self : (n : ℕ) → nat_lt n n ≡ false
+lt_self n = grind (arith, nat_tests)
+
+node_not_before : (a : Node) → node_before a a ≡ false
+node_not_before (Client c) = lt_self c
+node_not_before (Target t) = lt_self t
+
+not_before : (a : At) → turn_before a a ≡ false
+not_before a = rw (self a.stamp.0) (node_not_before a.node)
+
+-- an earlier turn is another one
+other_turn : (a b : At) → turn_before a b ≡ true → same_turn a b ≡ false
+other_turn a b e = by (same_turn a b) refl
+  where
+    by : (v : Bool) → same_turn a b ≡ v → v ≡ false
+    by true q = let n = not_before a in let e2 = subst (λ (w : At). turn_before a w ≡ true) (sym (same_turn_is a b q)) e in absurd (cc)
+    by false q = refl
+
+-- in a turn that is still to come nothing was heard
+unheard : (head : Head) (past : List Line) (at : At) → Grown head past → Later past at → heard_in (printed past) at ≡ None
+unheard head [] at g later = refl
+unheard head (l ∷ past) at g later = by l.entry (unheard head past at g.1 (later_before l past at g.0.steps later))
+  where
+    none_yet : (was : Option ℕ) (b : Bool) (x : ℕ) → was ≡ None → b ≡ false → or_else was (if b then Some x else None) ≡ None
+    none_yet None true x e q = absurd (cc)
+    none_yet None false x e q = refl
+    none_yet (Some y) b x e q = e
+
+    by : (e : Entry) → heard_in (printed past) at ≡ None → heard_in (printed (line l.at e ∷ past)) at ≡ None
+    by (Heard t f r) h = none_yet (heard_in (printed past) at) (same_turn l.at at && nat_eq t 0) r.xid.0 h (ap (λ (b : Bool). b && nat_eq t 0) (other_turn l.at at later))
+    by _ h = h
+
+-- nor before the line that takes the turn's message
+unheard_now : (head : Head) (past : List Line) (at : At) (from : Node) (m : Message) → Grown head past → TookNow past at from m → heard_in (printed past) at ≡ None
+unheard_now head [] at from m g t = absurd t
+unheard_now head (l ∷ past) at from m g t = by l.at.node l.entry g.0 t
+  where
+    by : (node : Node) (e : Entry) → Allowed head past (turn l.at.stamp node) e → TookNow (line (turn l.at.stamp node) e ∷ past) at from m → heard_in (printed (line (turn l.at.stamp node) e ∷ past)) at ≡ None
+    by node (Take n sender message) k t = unheard head past at g.1 (subst (λ (v : At). Later past v) t.0 k.ok.later)
+    by node _ k t = absurd t
+
 -- it was heard at the metadata target, in this turn
-just_heard : (head : Head) (past : List Line) (at : At) (c t : ℕ) (r : ReplyTo) → Grown head past → at.node ≡ Client c → JustHeard past at t r → (t ≡ 0) × HeardIn (printed past) at 0 r.xid.0
+just_heard : (head : Head) (past : List Line) (at : At) (c t : ℕ) (r : ReplyTo) → Grown head past → at.node ≡ Client c → JustHeard past at t r → (t ≡ 0) × (heard_in (printed past) at ≡ Some r.xid.0)
 just_heard head [] at c t r g n j = absurd j
 just_heard head (l ∷ past) at c t r g n j = by l.at.node l.entry g.0 j (just_heard head past at c t r g.1 n)
   where
-    by : (node : Node) (e : Entry) → Allowed head past (turn l.at.stamp node) e → JustHeard (line (turn l.at.stamp node) e ∷ past) at t r → (JustHeard past at t r → (t ≡ 0) × HeardIn (printed past) at 0 r.xid.0)
-        → (t ≡ 0) × HeardIn (printed (line (turn l.at.stamp node) e ∷ past)) at 0 r.xid.0
+    first : (here : At) (u x y : ℕ) (was : Option ℕ) → was ≡ None → same_turn here at ≡ true → u ≡ 0 → x ≡ y → or_else was (if same_turn here at && nat_eq u 0 then Some x else None) ≡ Some y
+    first here u x y None e s z same = rw (s, z) (ap (λ (v : ℕ). Some v) same)
+    first here u x y (Some w) e s z same = absurd (cc)
+
+    by : (node : Node) (e : Entry) → Allowed head past (turn l.at.stamp node) e → JustHeard (line (turn l.at.stamp node) e ∷ past) at t r → (JustHeard past at t r → (t ≡ 0) × (heard_in (printed past) at ≡ Some r.xid.0))
+        → (t ≡ 0) × (heard_in (printed (line (turn l.at.stamp node) e ∷ past)) at ≡ Some r.xid.0)
     by (Target u) (Heard v f q) k j h = absurd k.ok
-    by (Client d) (Heard v f q) k j h = (sym j.1 ∙ k.ok, inl (j.0, k.ok, ap (λ (w : ReplyTo). w.xid.0) j.2))
+    by (Client d) (Heard v f q) k j h =
+        let none = unheard_now head past (turn l.at.stamp (Client d)) (Target v) (message.Reply q) g.1 k.ok.1 in (
+          sym j.1 ∙ k.ok.0,
+          first (turn l.at.stamp (Client d)) v q.xid.0 r.xid.0 (heard_in (printed past) at) (subst (λ (w : At). heard_in (printed past) w ≡ None) j.0 none) (subst (λ (w : At). same_turn w at ≡ true) (sym j.0) (same_turn_self at)) k.ok.0 (ap (λ (w : ReplyTo). w.xid.0) j.2),
+        )
     by (Client d) (Told slot named given work) k j h = absurd j
     by (Target u) (Told slot named given work) k j h = absurd j
     by _ _ k j h = h j
 
 -- and no client was told of that number before
-untold : (head : Head) (past : List Line) (at : At) (c t : ℕ) (r : ReplyTo) → Grown head past → at.node ≡ Client c → JustHeard past at t r → ToldWith (printed past) (first_life c) r.xid.0 → ⊥
+untold : (head : Head) (past : List Line) (at : At) (c t : ℕ) (r : ReplyTo) → Grown head past → at.node ≡ Client c → JustHeard past at t r → told_with (printed past) (first_life c) r.xid.0 ≡ true → ⊥
 untold head [] at c t r g n j i = absurd j
 untold head (l ∷ past) at c t r g n j i = by l.at.node l.entry g.0 j i (untold head past at c t r g.1 n)
   where
-    by : (node : Node) (e : Entry) → Allowed head past (turn l.at.stamp node) e → JustHeard (line (turn l.at.stamp node) e ∷ past) at t r → ToldWith (printed (line (turn l.at.stamp node) e ∷ past)) (first_life c) r.xid.0
-        → (JustHeard past at t r → ToldWith (printed past) (first_life c) r.xid.0 → ⊥) → ⊥
+    by : (node : Node) (e : Entry) → Allowed head past (turn l.at.stamp node) e → JustHeard (line (turn l.at.stamp node) e ∷ past) at t r → told_with (printed (line (turn l.at.stamp node) e ∷ past)) (first_life c) r.xid.0 ≡ true
+        → (JustHeard past at t r → told_with (printed past) (first_life c) r.xid.0 ≡ true → ⊥) → ⊥
     by (Target u) (Heard v f q) k j i h = absurd k.ok
     by (Client d) (Heard v f q) k j i h =
         let own : Client d ≡ Client c = ap (λ (w : At). w.node) j.0 ∙ n in
         let same : d ≡ c = cc in
-        let ok = k.of 0 (about_it v k.ok) in
+        let ok = k.of 0 (about_it v k.ok.0) in
         let x : f.xid ≡ r.xid.0 = ok.xid ∙ ap (λ (w : ReplyTo). w.xid.0) j.2 in
         (((holds head past g.1).at 0).numbers.over c r.xid.0 (told_hears head past g.1 c r.xid.0 i)).1 f (subst (λ (w : ℕ). In f (flights_of w (only 0 past))) same ok.flying) x
     by (Client d) (Told slot named given work) k j i h = absurd j
     by (Target u) (Told slot named given work) k j i h = absurd j
     by _ _ k j i h = h j i
+
+never : (b : Bool) → (b ≡ true → ⊥) → b ≡ false
+never true n = absurd (n refl)
+never false n = refl
 
 -- ---- what a told line tells
 
@@ -90,13 +146,13 @@ pub record Tells (past : List Line) (at : At) (c slot : ℕ) (named : At) (given
   pub who : deed.reply.who ≡ first_life c
   pub turn_is : deed.reply.at ≡ named
   pub answer : deed.reply.answer ≡ given
-  pub heard : HeardIn (printed past) at 0 deed.reply.xid.0
+  pub heard : heard_in (printed past) at ≡ Some deed.reply.xid.0
   pub begun : Running
   pub call : call_at c slot past ≡ Some begun
   pub becomes : operation_of begun.call ≡ Some deed.op
   pub after : Upto begun.at named
   pub until : Upto named at
-  pub untold : ToldWith (printed past) (first_life c) deed.reply.xid.0 → ⊥
+  pub untold : told_with (printed past) (first_life c) deed.reply.xid.0 ≡ false
 
 told_tells : (head : Head) (past : List Line) (stamp : Stamp) (c slot : ℕ) (named : At) (given : Answer) (work : Option Work) → Allowed head past (turn stamp (Client c)) (Told slot named given work) → Grown head past
     → Tells past (turn stamp (Client c)) c slot named given
@@ -115,13 +171,13 @@ told_tells head past stamp c slot named given work k g =
       who = ap (λ (v : ReplyTo). v.who) is.is ∙ is.client;
       turn_is = ap (λ (v : ReplyTo). v.at) is.is ∙ sym ok.of_turn;
       answer = ap (λ (v : ReplyTo). v.answer) is.is ∙ sym ok.of_answer;
-      heard = subst (λ (v : ℕ). HeardIn (printed past) at 0 v) x heard.1;
+      heard = heard.1 ∙ ap (λ (v : ℕ). Some v) x;
       begun = ok.running;
       call = ok.call;
       becomes = is.op;
       after = subst (λ (v : At). Upto ok.running.at v) (sym ok.of_turn) is.since;
       until = subst (λ (v : At). Upto v at) (ap (λ (v : ReplyTo). v.at) is.is ∙ sym ok.of_turn) (reached_on past at d.reply.at k.steps (h.reaches.acted d acted));
-      untold = λ t. untold head past at c ok.target ok.reply g refl ok.heard (subst (λ (v : ℕ). ToldWith (printed past) (first_life c) v) (sym x) t);
+      untold = never (told_with (printed past) (first_life c) d.reply.xid.0) (λ t. untold head past at c ok.target ok.reply g refl ok.heard (subst (λ (v : ℕ). told_with (printed past) (first_life c) v ≡ true) (sym x) t));
     }
 
 -- ---- every told line
@@ -150,16 +206,16 @@ all_told head (l ∷ past) g = by l.at.node l.entry g.0 (all_told head past g.1)
 
 -- ---- calls
 
-good_call : (c : ℕ) (past : Past) (x : Call) (o : Op) → operation_of x ≡ Some o → (is_bad c past x ≡ false) × (is_local x ≡ false)
-good_call c past (call.Lookup path) o e = (refl, refl)
-good_call c past (call.Mkdir path) o e = (refl, refl)
-good_call c past (call.Rmdir path) o e = (refl, refl)
-good_call c past _ o e = absurd (cc)
+not_local : (x : Call) (o : Op) → operation_of x ≡ Some o → is_local x ≡ false
+not_local (call.Lookup path) o e = refl
+not_local (call.Mkdir path) o e = refl
+not_local (call.Rmdir path) o e = refl
+not_local _ o e = absurd (cc)
 
-same_operation : (c : ℕ) (b : calls.Begun) (o : Op) → operation_of b.call ≡ Some o → operation c b ≡ Some o
-same_operation c b o = by b.call
+same_operation : (b : calls.Begun) (o : Op) → operation_of b.call ≡ Some o → operation b ≡ Some o
+same_operation b o = by b.call
   where
-    by : (x : Call) → operation_of x ≡ Some o → calls.operation_on x (calls.bound_to c b.before) ≡ Some o
+    by : (x : Call) → operation_of x ≡ Some o → calls.operation_on x b.bound ≡ Some o
     by (call.Lookup path) e = e
     by (call.Mkdir path) e = e
     by (call.Rmdir path) e = e
@@ -178,11 +234,12 @@ moved_asked : (past : List Line) (d : Deed) (c x : ℕ) (o : Op) → d.reply.who
 moved_asked past d c x o w y p a = subst (λ (v : Who). asked (printed past) 0 v x ≡ Some o) w (subst (λ v. asked (printed past) 0 d.reply.who v ≡ Some o) y (a ∙ ap (λ (v : Op). Some v) p))
 
 moved_acted : (lost : ℕ → ℕ → Bool) (past : List Line) (d : Deed) (c x : ℕ) (named : At) → d.reply.who ≡ first_life c → d.reply.at ≡ named → d.reply.xid.0 ≡ x
-    → ActIn (printed past) d.reply.at d.reply.who d.reply.xid.0 ⊎ TxnIn lost (printed past) d.reply.at d.reply.who d.reply.xid.0 → ActIn (printed past) named (first_life c) x ⊎ TxnIn lost (printed past) named (first_life c) x
+    → Stands lost past d → (acted (printed past) named (first_life c) x || made lost (printed past) named (first_life c) x) ≡ true
 moved_acted lost past d c x named w n y a =
-    subst (λ (v : Who). ActIn (printed past) named v x ⊎ TxnIn lost (printed past) named v x) w
-    (subst (λ (v : At). ActIn (printed past) v d.reply.who x ⊎ TxnIn lost (printed past) v d.reply.who x) n
-    (subst (λ v. ActIn (printed past) d.reply.at d.reply.who v ⊎ TxnIn lost (printed past) d.reply.at d.reply.who v) y a))
+    subst (λ (v : Who). (acted (printed past) named v x || made lost (printed past) named v x) ≡ true) w
+    (subst (λ (v : At). (acted (printed past) v d.reply.who x || made lost (printed past) v d.reply.who x) ≡ true) n
+    (subst (λ v. (acted (printed past) d.reply.at d.reply.who v || made lost (printed past) d.reply.at d.reply.who v) ≡ true) y
+    (⊎_elim (λ (i : acted (printed past) d.reply.at d.reply.who d.reply.xid.0 ≡ true). or_left _ _ i) (λ (i : made lost (printed past) d.reply.at d.reply.who d.reply.xid.0 ≡ true). or_right _ _ i) a)))
 
 -- ---- the law at a told line
 
@@ -198,23 +255,22 @@ module _ (head : Head) (out : Who → Bool) (lost : ℕ → ℕ → Bool) (whole
       let x = d.reply.xid.0 in
       let is = asked_is head past d g (acted_sent head past d g t.acted) in
       let there = acted_in head lost past g d t.acted (subst (λ (v : Who). DoneStands lost past v d.reply.at) (sym t.who) (subst (λ (v : At). DoneStands lost past (first_life c) v) (sym t.turn_is) s)) in
+      let op_is = same_operation b d.op (ap operation_of call_is ∙ t.becomes) in
       record {
         after = subst (λ (v : At). UpTo v named) (sym at_is) (upto_is t.begun.at named t.after);
         before = upto_is named at t.until;
-        acts = inr (record {
-          xid = x;
-          op = d.op;
-          heard = t.heard;
-          call = same_operation c b d.op (ap operation_of call_is ∙ t.becomes);
-          request = moved_asked past d c x d.op t.who refl refl is;
-          acted = moved_acted lost past d c x named t.who t.turn_is refl there;
-          untold = t.untold;
-          alone = λ a. (at_most lost (first_life c) x head whole w).1 (i (first_life c) x (act_for past named (first_life c) x a));
-        });
+        acts = λ other. subst (λ (o : Option ℕ). ActsFor lost (printed whole) (printed past) (first_life c) b named o (operation b)) (sym t.heard)
+            (subst (λ (o : Option Op). ActsFor lost (printed whole) (printed past) (first_life c) b named (Some x) o) (sym op_is)
+            (record {
+              request = moved_asked past d c x d.op t.who refl refl is;
+              executed = moved_acted lost past d c x named t.who t.turn_is refl there;
+              untold = t.untold;
+              alone = λ a. (at_most lost (first_life c) x head whole w).1 (i (first_life c) x (act_for past named (first_life c) x a));
+            }));
       }
 
   told_law : (past : List Line) (stamp : Stamp) (c slot : ℕ) (named : At) (given : Answer) (work : Option Work) → Allowed head past (turn stamp (Client c)) (Told slot named given work) → Grown head past → Grown head whole → Inside past
-      → (out (first_life c) ≡ false → DoneStands lost past (first_life c) named) → ToldAt out lost (printed whole) (printed past) (turn stamp (Client c)) c slot named given
+      → (out (first_life c) ≡ false → DoneStands lost past (first_life c) named) → ToldBy out lost (printed whole) (printed past) (turn stamp (Client c)) (Client c) slot named given
   told_law past stamp c slot named given work k g w i s =
       let at = turn stamp (Client c) in
       let t = told_tells head past stamp c slot named given work k g in
@@ -222,17 +278,14 @@ module _ (head : Head) (out : Who → Bool) (lost : ℕ → ℕ → Bool) (whole
       let b = o.0 in
       let becomes = ap operation_of o.3 ∙ t.becomes in
       let fine = subst IsFine t.answer (deed_fine head past t.deed g t.acted) in
-      let good = good_call c b.before b.call t.deed.op becomes in
-      record {
-        begun = b;
-        stands = o.1;
-        handle = fine.0 ∙ sym good.0;
-        at_once = λ e. let f = fine.0 in absurd (cc);
+      subst (λ (v : Option calls.Begun). ToldOn out lost (printed whole) (printed past) at (who_is c (printed past)) v named given) (sym o.1)
+      (record {
+        handle = λ e. let f = fine.0 in absurd (cc);
         evicted = λ e. let f = fine.1 in absurd (cc);
-        own = λ e. absurd (own_no (is_local b.call) (is_bad_handle given) (is_end_of_life given) good.1 fine.0 fine.1 e);
+        own = λ e. absurd (own_no (is_local b.call) (is_bad_handle given) (is_end_of_life given) (not_local b.call t.deed.op becomes) fine.0 fine.1 e);
         acts = λ e. subst (λ (v : Who). ActsInTime lost (printed whole) (printed past) at v b named) (sym (who_one head c past g))
             (in_time past at c slot named given g w i (s (ap out (sym (who_one head c past g)) ∙ e)) t b o.2 o.3);
-      }
+      })
 
 -- ---- the law at a request's message
 
@@ -307,9 +360,15 @@ module _ (head : Head) (is : IsHead head) (out : Who → Bool) (lost : ℕ → �
       by (Told slot named given work) s = s.1
       by _ s = s
 
-  acts_at : (past : List Line) (l : Line) → Allowed head past l.at l.entry → Grown head past → Inside head out lost whole past → ToldStand out lost (l ∷ past)
-      → OfPrinted (λ e. ActsAt out lost (printed whole) (printed past) (record { at = l.at; entry = e }) e) (printed_entry (count_sent past + 1) l.entry)
-  acts_at past l k g i s = by l.at.node l.entry k s
+  -- what is known of a past: its acts are among those of the whole trace, and what was told stands
+  abbrev Known : List Line → Type 0
+  Known past = Inside head out lost whole past × ToldStand out lost past
+
+  earlier : (l : Line) (past : List Line) → Known (l ∷ past) → Known past
+  earlier l past k = (inside_before past l k.0, told_before past l k.1)
+
+  acts_at : (past : List Line) (l : Line) (later : List PrintedLine) → Allowed head past l.at l.entry → Grown head past → Known (l ∷ past) → Keeps (ActsOf out lost (printed whole)) past l later
+  acts_at past l later k g known = by l.at.node l.entry k known.1
     where
       Flies : ℕ → ℕ → RequestOf → Type 0
       Flies c t r = FliesAt (printed past) t r (in_flight t r.who (printed (line (turn l.at.stamp (Client c)) (Send (Target t) (message.Request r)) ∷ past)))
@@ -318,8 +377,10 @@ module _ (head : Head) (is : IsHead head) (out : Who → Bool) (lost : ℕ → �
       sent c t r z k = subst (λ (v : ℕ). Flies c v r) (sym z) (sends_law head past l.at.stamp c r is (subst (λ (v : ℕ). Allowed head past (turn l.at.stamp (Client c)) (Send (Target v) (message.Request r))) z k) g)
 
       by : (node : Node) (e : Entry) → Allowed head past (turn l.at.stamp node) e → ToldStand out lost (line (turn l.at.stamp node) e ∷ past)
-          → OfPrinted (λ x. ActsAt out lost (printed whole) (printed past) (record { at = turn l.at.stamp node; entry = x }) x) (printed_entry (count_sent past + 1) e)
-      by (Client c) (Told slot named given work) k s = told_law head out lost whole past l.at.stamp c slot named given work k g all_grown i s.0
+          → OfPrinted (λ x. ActsAt out lost (printed whole) (printed past) (record { at = turn l.at.stamp node; entry = x }) later x) (printed_entry (count_sent past + 1) e)
+      by (Client c) (Begin slot running) k s = λ bad. let good = good_call c (printed past) running.call k.ok.op k.ok.becomes in absurd (cc)
+      by (Target t) (Begin slot running) k s = absurd k.ok
+      by (Client c) (Told slot named given work) k s = told_law head out lost whole past l.at.stamp c slot named given work k g all_grown (inside_before past l known.0) s.0
       by (Target t) (Told slot named given work) k s = absurd k.ok
       by (Client c) (Send (Target t) (message.Request r)) k s = sent c t r k.ok k
       by (Client c) (Send (Target t) m) k s = absurd k.ok
@@ -330,13 +391,5 @@ module _ (head : Head) (is : IsHead head) (out : Who → Bool) (lost : ℕ → �
       by (Client c) (Made d) k s = absurd k.ok
       by _ _ k s = tt
 
-  pub acts_law : (past : List Line) → Grown head past → Inside head out lost whole past → ToldStand out lost past → ActsOf out lost (printed whole) (printed past)
-  acts_law [] g i s = tt
-  acts_law (l ∷ past) g i s =
-      let inside = inside_before past l i in
-      by (printed_entry (count_sent past + 1) l.entry) (acts_at past l g.0 g.1 inside s) (acts_law past g.1 inside (told_before past l s))
-    where
-      by : (o : Option PrintedEntry) → OfPrinted (λ e. ActsAt out lost (printed whole) (printed past) (record { at = l.at; entry = e }) e) o → ActsOf out lost (printed whole) (printed past)
-          → ActsOf out lost (printed whole) (elim o [ None ↦ printed past | Some e ↦ record { at = l.at; entry = e } ∷ printed past ])
-      by None p h = h
-      by (Some e) p h = (p, h)
+  pub acts_law : (past : List Line) → Grown head past → Inside head out lost whole past → ToldStand out lost past → HoldsBefore (ActsOf out lost (printed whole)) [] (printed past)
+  acts_law past g i s = holds_before head (ActsOf out lost (printed whole)) Known earlier acts_at past [] g (i, s)

@@ -8,7 +8,7 @@ use Rattle.lu_base.specs.declared.ids.Node.TheVariants.{Client, Target}
 use Rattle.lu_base.specs.declared.ids.Who.{Who}
 use Rattle.lu_machine.specs.Tree.{same_life}
 use Rattle.lu_words.specs.Words.{Line, node_before, turn_before}
-use Rattle.lu_laws.specs.Pasts.{NodeUpTo, UpTo, same_turn, same_node}
+use Rattle.lu_laws.specs.Words.Pasts.{NodeUpTo, UpTo, same_turn, same_node}
 use Rattle.lu_guards.proofs.Guards.{Later, Steps}
 use Rattle.lu_guards.proofs.Lists.{self, turn_trans}
 use Rattle.lu_facts.proofs.Groups.{turn, Upto}

@@ -1,30 +1,31 @@
-//! What every run keeps. Each function does nothing: its contract is a theorem over the definitions of the
-//! table and of the laws.
+//! What every covered run keeps. Each function does nothing: its contract is a theorem over the definitions of the
+//! covered rows and of the laws.
 
-ghost use Rattle.std.specs.Prelude.{List, ℕ, Bool};
-ghost use Rattle.lu_base.specs.declared.ids.Who.{Who};
-ghost use Rattle.lu_words.specs.Printed.{printed};
-ghost use Rattle.lu_covered.specs.Runs.{Head, IsHead, Turn, lines_of, IsRun};
-ghost use Rattle.lu_laws.specs.Messages.{Messages};
-ghost use Rattle.lu_laws.specs.Acts.{Acts, ActsOf};
-ghost use Rattle.lu_laws.specs.Recovery.{Recovery};
-ghost use Rattle.lu_laws.specs.History.{History, HistoryOf};
-ghost use Rattle.lu_laws.specs.Laws.{Lawful};
-ghost use Rattle.lu_lawful.specs.Fits.{Fits};
+ghost use Rattle.lu_laws.specs.Holds.{Holds};
+ghost use Rattle.lu_laws.specs.Laws.Messages.{Messages};
+ghost use Rattle.lu_laws.specs.Laws.Locks.{Locks};
+ghost use Rattle.lu_laws.specs.Laws.Silent.{Silent};
+ghost use Rattle.lu_laws.specs.Laws.Acts.{Acts, ActsOf};
+ghost use Rattle.lu_laws.specs.Laws.Recovery.{Recovery};
+ghost use Rattle.lu_laws.specs.Laws.History.{History, HistoryOf};
+ghost use Rattle.lu_laws.specs.Laws.Glimpse.{Glimpse};
+ghost use Rattle.lu_laws.specs.Lawful.{Lawful};
+ghost use Rattle.lu_lawful.specs.Everywhere.{OfEveryRun, OfAllThatFit};
 
-/// The printed trace of every run is lawful, whatever the network loses, repeats or reorders: for every
-/// number of clients, of object storage targets and of requests in flight, and every schedule. Lawful means
-/// the four laws that are written so far; of the law of recovery that is what it says of the numbers of
-/// transactions and of seen numbers.
+/// The printed trace of every covered run is lawful, whatever the network loses, repeats or reorders: for every
+/// number of clients, of object storage targets and of requests in flight, and every schedule.
 ///
 /// Of the law of acts and that of history more is shown: they hold for all lives that will be out and all
 /// numbers that will be lost at the end of the trace, so far as these fit the run.
 pub fn every_run_is_lawful()
-    ensures messages { (head : Head) (turns : List Turn) → IsHead head → IsRun head turns → Messages (printed (lines_of turns)) }
-    ensures acts { (head : Head) (turns : List Turn) → IsHead head → IsRun head turns → Acts (printed (lines_of turns)) }
-    ensures recovery { (head : Head) (turns : List Turn) → IsHead head → IsRun head turns → Recovery head.osts (printed (lines_of turns)) }
-    ensures history { (head : Head) (turns : List Turn) → IsHead head → IsRun head turns → History head.osts (printed (lines_of turns)) }
-    ensures lawful { (head : Head) (turns : List Turn) → IsHead head → IsRun head turns → Lawful head.osts (printed (lines_of turns)) }
-    ensures acts_of { (head : Head) (turns : List Turn) → IsHead head → IsRun head turns → (out : Who → Bool) (lost : ℕ → ℕ → Bool) → Fits out lost (lines_of turns) → ActsOf out lost (printed (lines_of turns)) (printed (lines_of turns)) }
-    ensures history_of { (head : Head) (turns : List Turn) → IsHead head → IsRun head turns → (out : Who → Bool) (lost : ℕ → ℕ → Bool) → Fits out lost (lines_of turns) → HistoryOf out lost head.osts (printed (lines_of turns)) }
+    ensures messages { OfEveryRun (λ osts whole. Holds Messages whole) }
+    ensures locks { OfEveryRun (λ osts whole. Holds (Locks osts) whole) }
+    ensures silent { OfEveryRun (λ osts whole. Holds Silent whole) }
+    ensures acts { OfEveryRun (λ osts whole. Holds (Acts whole) whole) }
+    ensures recovery { OfEveryRun (λ osts whole. Holds (Recovery osts whole) whole) }
+    ensures history { OfEveryRun (λ osts whole. Holds (History osts whole) whole) }
+    ensures glimpse { OfEveryRun (λ osts whole. Holds (Glimpse osts whole) whole) }
+    ensures lawful { OfEveryRun (λ osts whole. Lawful osts whole) }
+    ensures acts_of { OfAllThatFit (λ out lost osts whole. Holds (ActsOf out lost whole) whole) }
+    ensures history_of { OfAllThatFit (λ out lost osts whole. Holds (HistoryOf out lost osts) whole) }
 {}

@@ -19,9 +19,10 @@ use Rattle.lu_words.specs.Words.{Txn, Line}
 use Rattle.lu_words.specs.Printed.{printed}
 use Rattle.lu_covered.specs.Runs.{Head, IsHead, Turn, Begins, Comes, lines_of, IsRun}
 use Rattle.lu_laws.proofs.Words.{turn, who, first, made, up, gone, differ}
-use Rattle.lu_laws.specs.Acts.{ActsOf}
-use Rattle.lu_laws.specs.History.{HistoryOf}
-use Rattle.lu_laws.specs.Histories.{machine_of}
+use Rattle.lu_laws.specs.Holds.{Holds}
+use Rattle.lu_laws.specs.Laws.Acts.{ActsOf}
+use Rattle.lu_laws.specs.Laws.History.{HistoryOf}
+use Rattle.lu_laws.specs.Words.Histories.{machine_of}
 use Rattle.lu_lawful.specs.Fits.{Fits}
 use Rattle.lu_lawful.proofs.Whole as whole
 use Rattle.lu_samples.proofs.Words.{◌then◌, client, target, asks, hears, answered, deed, makes, name, fid, alive, letter}
@@ -83,11 +84,11 @@ fits =
       told = (λ stays. (λ own named. (refl, tt), (λ own. others own, tt)), (λ stays. gone stays, tt));
     }
 
-pub acts_of : ActsOf out lost (printed (lines_of turns)) (printed (lines_of turns))
+pub acts_of : Holds (ActsOf out lost (printed (lines_of turns))) (printed (lines_of turns))
 acts_of = whole.acts_of head turns is_head is_run out lost fits
 
-pub history_of : HistoryOf out lost 1 (printed (lines_of turns))
-history_of = whole.history_of head turns is_run out lost fits
+pub history_of : Holds (HistoryOf out lost 1) (printed (lines_of turns))
+history_of = whole.history_of head turns is_head is_run out lost fits
 
 -- ---- the machine of that history: the second directory is there, the first one isn't
 

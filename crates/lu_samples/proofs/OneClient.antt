@@ -1,4 +1,4 @@
--- The first worked scenario, turn by turn: these turns are a run of the table, and their printed lines are the worked trace.
+-- The first worked scenario, turn by turn: these turns are a covered run, and their printed lines are the worked trace.
 use Rattle.std.proofs.Common.{◌≡◌, [], ◌∷◌, inl, refl}
 use Rattle.std.specs.Prelude.{List, codes}
 use Rattle.lu_base.specs.declared.ids.Node.TheVariants.{Client, Target}
@@ -12,8 +12,8 @@ use Rattle.lu_msg.specs.declared.operations.Op.TheVariants as op
 use Rattle.lu_words.specs.Printed.{printed}
 use Rattle.lu_covered.specs.Runs.{Head, IsHead, Turn, Begins, Comes, lines_of, IsRun}
 use Rattle.lu_laws.proofs.Words.{first, made, up}
-use Rattle.lu_laws.proofs.RowsOneClient.{past}
-use Rattle.lu_laws.specs.Laws.{Lawful}
+use Rattle.lu_laws.proofs.Rows.Names.{one_client_past as past}
+use Rattle.lu_laws.specs.Lawful.{Lawful}
 use Rattle.lu_lawful.proofs.Whole as whole
 use Rattle.lu_samples.proofs.Words.{◌then◌, client, target, asks, hears, answered, makes, acts, name, fid, alive, letter}
 

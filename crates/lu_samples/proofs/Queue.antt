@@ -14,7 +14,7 @@ use Rattle.lu_trace.specs.declared.entries.Entry.TheVariants as entry
 use Rattle.lu_words.specs.Words.{Send, Take, Tick, Busy, Die}
 use Rattle.lu_words.specs.Printed.{printed}
 use Rattle.lu_covered.specs.Runs.{Head, Turn, Begins, Comes, Ticks, Dies, lines_of, IsRun}
-use Rattle.lu_laws.specs.Pasts.{Past}
+use Rattle.lu_laws.specs.Words.Pasts.{Past}
 use Rattle.lu_laws.proofs.Words as trace
 use Rattle.lu_laws.proofs.Words.{turn, first, made, request, reply, heard, txn, up}
 use Rattle.lu_samples.proofs.Words.{◌then◌, client, target, asks, waits, sends, hears, request_of, answered, takes, makes, name, alive, letter}

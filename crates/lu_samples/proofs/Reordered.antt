@@ -1,4 +1,4 @@
--- Two clients make one directory, and the later request comes first, turn by turn: a run of the table, whose printed
+-- Two clients make one directory, and the later request comes first, turn by turn: a covered run, whose printed
 -- lines are the worked trace.
 use Rattle.std.proofs.Common.{◌≡◌, [], ◌∷◌, inl, inr, refl}
 use Rattle.std.specs.Prelude.{List, codes}
@@ -12,8 +12,8 @@ use Rattle.lu_msg.specs.declared.operations.Op.TheVariants as op
 use Rattle.lu_words.specs.Printed.{printed}
 use Rattle.lu_covered.specs.Runs.{Head, IsHead, Turn, Begins, Comes, lines_of, IsRun}
 use Rattle.lu_laws.proofs.Words.{first, made, up}
-use Rattle.lu_laws.proofs.RowsReordered.{past}
-use Rattle.lu_laws.specs.Laws.{Lawful}
+use Rattle.lu_laws.proofs.Rows.Names.{reordered_past as past}
+use Rattle.lu_laws.specs.Lawful.{Lawful}
 use Rattle.lu_lawful.proofs.Whole as whole
 use Rattle.lu_samples.proofs.Words.{◌then◌, client, target, asks, hears, answered, makes, acts, name, alive, letter}
 

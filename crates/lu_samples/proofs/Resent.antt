@@ -1,4 +1,4 @@
--- A request comes twice, its replies are lost, and a tick sends it again, turn by turn: a run of the table, whose printed
+-- A request comes twice, its replies are lost, and a tick sends it again, turn by turn: a covered run, whose printed
 -- lines are the worked trace.
 use Rattle.std.proofs.Common.{◌≡◌, [], ◌∷◌, inl, inr, refl}
 use Rattle.std.specs.Prelude.{List, codes}
@@ -12,8 +12,8 @@ use Rattle.lu_words.specs.Words.{Send, Tick}
 use Rattle.lu_words.specs.Printed.{printed}
 use Rattle.lu_covered.specs.Runs.{Head, IsHead, Turn, Begins, Comes, Ticks, lines_of, IsRun}
 use Rattle.lu_laws.proofs.Words.{first, made, up}
-use Rattle.lu_laws.proofs.RowsResent.{past}
-use Rattle.lu_laws.specs.Laws.{Lawful}
+use Rattle.lu_laws.proofs.Rows.Names.{lost_reply_resent_past as past}
+use Rattle.lu_laws.specs.Lawful.{Lawful}
 use Rattle.lu_lawful.proofs.Whole as whole
 use Rattle.lu_samples.proofs.Words.{◌then◌, client, target, asks, hears, request_of, answered, makes, repeats, name, alive, letter}
 

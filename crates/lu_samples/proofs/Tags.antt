@@ -15,7 +15,7 @@ use Rattle.lu_trace.specs.declared.entries.Entry.TheVariants as entry
 use Rattle.lu_words.specs.Words.{Send, Tick}
 use Rattle.lu_words.specs.Printed.{printed}
 use Rattle.lu_covered.specs.Runs.{Head, Turn, Begins, Comes, Ticks, lines_of, IsRun}
-use Rattle.lu_laws.specs.Pasts.{Past}
+use Rattle.lu_laws.specs.Words.Pasts.{Past}
 use Rattle.lu_laws.proofs.Words as trace
 use Rattle.lu_laws.proofs.Words.{turn, first, made, request, reply, heard, txn, up}
 use Rattle.lu_samples.proofs.Words.{◌then◌, client, target, asks, hears, request_of, answered, makes, repeats, name, fid, alive, letter}

@@ -1,4 +1,4 @@
--- Two requests of one client in flight at once, with two tags, and the later one comes first, turn by turn: a run of the table.
+-- Two requests of one client in flight at once, with two tags, and the later one comes first, turn by turn: a covered run.
 use Rattle.std.proofs.Common.{◌≡◌, [], ◌∷◌, inl, inr, refl}
 use Rattle.std.specs.Prelude.{List, codes}
 use Rattle.lu_base.specs.declared.ids.Node.TheVariants.{Client, Target}
@@ -9,7 +9,7 @@ use Rattle.lu_msg.specs.declared.operations.Op.TheVariants as op
 use Rattle.lu_trace.specs.declared.entries.Entry.TheVariants as entry
 use Rattle.lu_words.specs.Printed.{printed}
 use Rattle.lu_covered.specs.Runs.{Head, Turn, Begins, Comes, lines_of, IsRun}
-use Rattle.lu_laws.specs.Pasts.{Past}
+use Rattle.lu_laws.specs.Words.Pasts.{Past}
 use Rattle.lu_laws.proofs.Words as trace
 use Rattle.lu_laws.proofs.Words.{turn, first, made, request, reply, heard, txn, up}
 use Rattle.lu_samples.proofs.Words.{◌then◌, client, target, asks, hears, answered, makes, name, alive, letter}

@@ -1,4 +1,4 @@
--- Short words in which the worked runs of the table are written: turns, and what nodes do in one, of the metadata target in
+-- Short words in which the worked runs are written: turns, and what nodes do in one, of the metadata target in
 -- its first boot and of first lives, with nothing on the disk and no locks; and what closes the evidence of a turn.
 use Rattle.std.proofs.Common.{◌≡◌, ℕ, suc, true, false, List, [], ◌∷◌, Some, None, refl, subst}
 use Rattle.std.specs.Prelude.{◌==◌}

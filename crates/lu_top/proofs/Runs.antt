@@ -12,7 +12,7 @@ use Rattle.lu_trace.specs.declared.entries.Line.{Line}
 use Rattle.lu_trace.specs.declared.traces.Trace.{Trace}
 use Rattle.lu_trace.specs.declared.traces.End.{End}
 use Rattle.lu_words.specs.Printed.{printed}
-use Rattle.lu_laws.specs.Laws.{Lawful, IsLawful}
+use Rattle.lu_laws.specs.Lawful.{Lawful, IsLawful}
 use Rattle.lu_lawful.proofs.Whole.{lawful}
 use Rattle.lu_table.specs.Scenarios.{head_of as whole_head}
 use Rattle.lu_covering.proofs.Small.{to_whole}

@@ -12,7 +12,7 @@ use Rattle.lu_covering.specs.Covered.{AllCovered, turn_of}
 use Rattle.lu_trace.specs.declared.traces.Trace.{Trace}
 use Rattle.lu_trace.specs.declared.traces.End.{End}
 use Rattle.lu_trace.specs.Traces.{trace_text}
-use Rattle.lu_laws.specs.Laws.{IsLawful}
+use Rattle.lu_laws.specs.Lawful.{IsLawful}
 use Rattle.lu_core.specs.Scenario.{past_of}
 use Rattle.lu_core.specs.Played.{IsPlayed}
 use Rattle.lu_top.specs.Performed.{IsPerformedText, IsFirstUnperformed}

@@ -3,7 +3,7 @@ use Rattle.std.specs.Prelude.{List, reverse}
 use Rattle.std.proofs.lemmas.List.{reverse-reverse}
 use Rattle.lu_trace.specs.declared.entries.Line.{Line}
 use Rattle.lu_words.specs.Printed.{printed}
-use Rattle.lu_laws.specs.Laws.{Lawful}
+use Rattle.lu_laws.specs.Lawful.{Lawful}
 use Rattle.lu_lawful.proofs.Whole.{lawful}
 use Rattle.lu_core.specs.Scenario.{head_of, here, past_of, start}
 use Rattle.lu_core.specs.Progress.{IsAt}

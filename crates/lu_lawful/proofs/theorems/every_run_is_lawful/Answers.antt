@@ -5,10 +5,13 @@ pub returns : goal.returns
 returns c =
     record {
       messages = λ head turns is run. (lawful head turns is run).messages;
+      locks = λ head turns is run. (lawful head turns is run).locks;
+      silent = λ head turns is run. (lawful head turns is run).silent;
       acts = λ head turns is run. (lawful head turns is run).acts;
       recovery = λ head turns is run. (lawful head turns is run).recovery;
       history = λ head turns is run. (lawful head turns is run).history;
+      glimpse = λ head turns is run. (lawful head turns is run).glimpse;
       lawful = lawful;
       acts_of = acts_of;
-      history_of = λ head turns is run. history_of head turns run;
+      history_of = history_of;
     }

@@ -1,0 +1,36 @@
+-- A law holds of the printed past of a grown one where each allowed line that is printed keeps it.
+use Rattle.std.proofs.Common.{ℕ, ◌+◌, List, [], ◌∷◌, Option, Some, None}
+use Rattle.lu_trace.specs.declared.entries.Entry.{Entry as PrintedEntry}
+use Rattle.lu_trace.specs.declared.entries.Line.{Line as PrintedLine}
+use Rattle.lu_words.specs.Words.{Line}
+use Rattle.lu_words.specs.Sent.{count_sent}
+use Rattle.lu_words.specs.Printed.{printed_entry, printed}
+use Rattle.lu_covered.specs.Runs.{Head}
+use Rattle.lu_laws.specs.Words.Pasts.{Past}
+use Rattle.lu_laws.specs.Holds.{HoldsBefore}
+use Rattle.lu_guards.proofs.Guards.{Allowed, Grown}
+
+-- of what is printed of a line, if anything
+abbrev pub OfPrinted : (PrintedEntry → Type 0) → Option PrintedEntry → Type 0
+OfPrinted P None = Unit {0}
+OfPrinted P (Some e) = P e
+
+-- what the law asks where this line is printed
+abbrev pub Keeps : (Past → PrintedLine → List PrintedLine → Type 0) → List Line → Line → List PrintedLine → Type 0
+Keeps law past l later = OfPrinted (λ e. law (printed past) (record { at = l.at; entry = e }) later) (printed_entry (count_sent past + 1) l.entry)
+
+-- `Known` is what else is known of a past, and so of those before it
+module _ (head : Head) (law : Past → PrintedLine → List PrintedLine → Type 0) (Known : List Line → Type 0) (earlier : (l : Line) (past : List Line) → Known (l ∷ past) → Known past)
+    (each : (past : List Line) (l : Line) (later : List PrintedLine) → Allowed head past l.at l.entry → Grown head past → Known (l ∷ past) → Keeps law past l later) where
+  pub holds_before : (past : List Line) (later : List PrintedLine) → Grown head past → Known past → HoldsBefore law later (printed past)
+  holds_before [] later g k = tt
+  holds_before (l ∷ past) later g k = by (printed_entry (count_sent past + 1) l.entry) (each past l later g.0 g.1 k) (λ later. holds_before past later g.1 (earlier l past k))
+    where
+      by : (o : Option PrintedEntry) → OfPrinted (λ e. law (printed past) (record { at = l.at; entry = e }) later) o → ((later : List PrintedLine) → HoldsBefore law later (printed past))
+          → HoldsBefore law later (elim o [ None ↦ printed past | Some e ↦ record { at = l.at; entry = e } ∷ printed past ])
+      by None p h = h later
+      by (Some e) p h = (p, h (record { at = l.at; entry = e } ∷ later))
+
+-- of a law for which nothing else is asked
+abbrev pub Nothing : List Line → Type 0
+Nothing past = Unit {0}
