@@ -25,7 +25,7 @@ asked =
 abbrev pub made : Past
 made =
     target 2 0 (sends 2 (Client 0) (replies (life 0 1) 1 1 (txn_of 1 1) (txn_of 0 0) [] (turn 2 (Target 0)) []
-        (told.Made (fid 1 1)))) ∷
+    (told.Made (fid 1 1)))) ∷
     target 2 0 (executes (txn_of 1 1) (life 0 1) 1 [] (told.Made (fid 1 1))) ∷
     target 2 0 (entry.Take 1) ∷
     asked
@@ -140,7 +140,7 @@ heard_foreign_past =
     client 4 1 (heard 0 1) ∷
     client 4 1 (entry.Take 3) ∷
     target 3 0 (sends 3 (Client 1) (replies (life 0 1) 1 1 (txn_of 1 1) (txn_of 0 0) [] (turn 3 (Target 0)) []
-        (told.Made (fid 1 1)))) ∷
+    (told.Made (fid 1 1)))) ∷
     target 3 0 (executes (txn_of 1 1) (life 0 1) 1 [] (told.Made (fid 1 1))) ∷
     target 3 0 (entry.Take 1) ∷
     client 2 1 (sends 2 (Target 0) (asks (life 1 1) 1 1 0 (op.Mkdir (codes "b" ∷ [])))) ∷
@@ -155,7 +155,7 @@ heard_foreign = refl
 abbrev pub repeated_other_past : Past
 repeated_other_past =
     target 3 0 (sends 3 (Client 0) (replies (life 0 1) 1 1 (txn_of 1 1) (txn_of 0 0) [] (turn 2 (Target 0)) []
-        (told.Refused EEXIST))) ∷
+    (told.Refused EEXIST))) ∷
     target 3 0 (entry.Take 1) ∷
     made
 
@@ -166,7 +166,7 @@ repeated_other = refl
 abbrev pub repeated_unasked_past : Past
 repeated_unasked_past =
     target 3 0 (sends 3 (Client 0) (replies (life 0 1) 1 1 (txn_of 1 1) (txn_of 0 0) [] (turn 2 (Target 0)) []
-        (told.Made (fid 1 1)))) ∷
+    (told.Made (fid 1 1)))) ∷
     target 3 0 entry.Tick ∷
     made
 
@@ -177,7 +177,7 @@ repeated_unasked = refl
 abbrev pub repeated_first_past : Past
 repeated_first_past =
     target 3 0 (sends 2 (Client 0) (replies (life 0 1) 1 1 (txn_of 1 1) (txn_of 0 0) [] (turn 2 (Target 0)) []
-        (told.Made (fid 1 1)))) ∷
+    (told.Made (fid 1 1)))) ∷
     target 3 0 (entry.Take 1) ∷
     target 2 0 (executes (txn_of 1 1) (life 0 1) 1 [] (told.Made (fid 1 1))) ∷
     target 2 0 (entry.Take 1) ∷

@@ -80,7 +80,7 @@ abbrev pub requests_twice_past : Past
 requests_twice_past =
     target 2 0 (acts (life 0 1) 1 (told.Refused ENOENT)) ∷
     target 2 0 (sends 2 (Client 0) (replies (life 0 1) 1 1 (txn_of 0 0) (txn_of 0 0) [] (turn 2 (Target 0)) []
-        (told.Refused ENOENT))) ∷
+    (told.Refused ENOENT))) ∷
     target 2 0 (acts (life 0 1) 1 (told.Refused ENOENT)) ∷
     target 2 0 (entry.Take 1) ∷
     looked
@@ -139,7 +139,7 @@ boots_again = refl
 abbrev pub messages_boot_past : Past
 messages_boot_past =
     target 2 0 (sends 2 (Client 0) (replies (life 0 1) 2 1 (txn_of 0 0) (txn_of 0 0) [] (turn 2 (Target 0)) []
-        (told.Refused ENOENT))) ∷
+    (told.Refused ENOENT))) ∷
     target 2 0 (acts (life 0 1) 1 (told.Refused ENOENT)) ∷
     target 2 0 (entry.Take 1) ∷
     looked
@@ -151,7 +151,7 @@ messages_boot = refl
 abbrev pub messages_committed_past : Past
 messages_committed_past =
     target 2 0 (sends 2 (Client 0) (replies (life 0 1) 1 1 (txn_of 1 1) (txn_of 1 1) [] (turn 2 (Target 0)) []
-        (told.Made (fid 1 1)))) ∷
+    (told.Made (fid 1 1)))) ∷
     target 2 0 (executes (txn_of 1 1) (life 0 1) 1 [] (told.Made (fid 1 1))) ∷
     target 2 0 (entry.Take 1) ∷
     asked

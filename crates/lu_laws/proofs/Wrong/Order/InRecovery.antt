@@ -27,7 +27,7 @@ asked =
 abbrev pub made : Past
 made =
     target 2 0 (sends 2 (Client 0) (replies (life 0 1) 1 1 (txn_of 1 1) (txn_of 0 0) [] (turn 2 (Target 0)) []
-        (told.Made (fid 1 1)))) ∷
+    (told.Made (fid 1 1)))) ∷
     target 2 0 (executes (txn_of 1 1) (life 0 1) 1 [] (told.Made (fid 1 1))) ∷
     target 2 0 (entry.Take 1) ∷
     asked
@@ -66,7 +66,7 @@ handed =
     client 3 0 (heard 1 1) ∷
     client 3 0 (entry.Take 2) ∷
     target 2 1 (sends 2 (Client 0) (replies (life 0 1) 1 1 (txn_of 0 0) (txn_of 0 0) [] (turn 2 (Target 1)) []
-        (told.Granted (cookie 1 1) (onward 0) 0))) ∷
+    (told.Granted (cookie 1 1) (onward 0) 0))) ∷
     target 2 1 (entry.Grant (lock (cookie 1 1) (life 0 1) (object 1 1 0) PR (Range (onward 0)))) ∷
     target 2 1 (entry.Take 1) ∷
     client 1 0 (sends 1 (Target 1) (asks (life 0 1) 1 1 0 (op.Enqueue (object 1 1 0) PR (extent 0 9)))) ∷

@@ -18,7 +18,7 @@ use Rattle.lu_laws.proofs.Wrong.Order.{Waits, Releases, Blocks, Breaks}
 abbrev pub granted : Past
 granted =
     target 2 1 (sends 2 (Client 0) (replies (life 0 1) 1 1 (txn_of 0 0) (txn_of 0 0) [] (turn 2 (Target 1)) []
-        (told.Granted (cookie 1 1) (onward 0) 0))) ∷
+    (told.Granted (cookie 1 1) (onward 0) 0))) ∷
     target 2 1 (entry.Grant (lock (cookie 1 1) (life 0 1) (object 1 1 0) PW (Range (onward 0)))) ∷
     target 2 1 (entry.Take 1) ∷
     client 1 0 (sends 1 (Target 1) (asks (life 0 1) 1 1 0 (op.Enqueue (object 1 1 0) PW (extent 0 9)))) ∷
@@ -28,7 +28,7 @@ granted =
 abbrev pub awaited : Past
 awaited =
     target 4 1 (sends 4 (Client 1) (replies (life 1 1) 1 1 (txn_of 0 0) (txn_of 0 0) [] (turn 4 (Target 1)) []
-        (told.Waiting (cookie 1 2)))) ∷
+    (told.Waiting (cookie 1 2)))) ∷
     target 4 1 (entry.Wait (lock (cookie 1 2) (life 1 1) (object 1 1 0) PR (Range (extent 0 9)))) ∷
     target 4 1 (entry.Take 3) ∷
     client 3 1 (sends 3 (Target 1) (asks (life 1 1) 1 1 0 (op.Enqueue (object 1 1 0) PR (extent 0 9)))) ∷
@@ -142,7 +142,7 @@ blocks_unguarded_past =
     target 4 0 (entry.Take 3) ∷
     client 3 1 (sends 3 (Target 0) (asks (life 1 1) 1 1 0 (op.Lookup (codes "a" ∷ [])))) ∷
     target 2 0 (sends 2 (Client 0) (replies (life 0 1) 1 1 (txn_of 0 0) (txn_of 0 0) [] (turn 2 (Target 0)) (lock
-        (cookie 1 1) (life 0 1) (object 0 1 0) PR (Bits 2) ∷ []) (told.Names []))) ∷
+    (cookie 1 1) (life 0 1) (object 0 1 0) PR (Bits 2) ∷ []) (told.Names []))) ∷
     target 2 0 (entry.Grant (lock (cookie 1 1) (life 0 1) (object 0 1 0) PR (Bits 2))) ∷
     target 2 0 (acts (life 0 1) 1 (told.Names [])) ∷
     target 2 0 (entry.Take 1) ∷
