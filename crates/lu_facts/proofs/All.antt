@@ -37,6 +37,8 @@ first_at head =
         flying = λ c f i. absurd i;
         tags = λ c f g i. absurd i;
         over = λ c x i. absurd i;
+        stays = λ c f i. absurd i;
+        after = λ c f g i. absurd i;
       };
       room = λ c. omega arith;
       done = record {
@@ -44,6 +46,8 @@ first_at head =
         life = λ d a. absurd a;
         high = λ d a. absurd a;
         kept = λ who tag k e. absurd (cc);
+        slots = λ who tag k e. absurd (cc);
+        heard = λ c x i. absurd i;
         boots = λ d a. absurd a;
         waits = λ r i. absurd i;
         sent = λ from to m s. absurd s;

@@ -14,16 +14,16 @@ use Rattle.lu_msg.specs.declared.messages.Message.TheVariants as message
 use Rattle.lu_msg.specs.declared.messages.Reply.{Reply as ReplyTo}
 use Rattle.lu_msg.specs.declared.messages.Request.{Request as RequestOf}
 use Rattle.lu_words.specs.Carried.{Deed, Flight, Slot}
-use Rattle.lu_words.specs.Words.{Entry, Flies, Send, Act, Txn as Made, Commit, Boot, Enters, Line, line, same_life}
+use Rattle.lu_words.specs.Words.{Entry, Flies, Heard, Send, Act, Txn as Made, Commit, Boot, Enters, Line, line, same_life}
 use Rattle.lu_covered.specs.TargetParts.{is_request_of, without_request, entered, answered, is_slot_of}
 use Rattle.lu_covered.specs.TargetStates.{none, server_of, slot_of, next_number}
 use Rattle.lu_covered.specs.TargetRows.{deed, again}
 use Rattle.lu_covered.specs.Calls.{first_life}
 use Rattle.lu_covered.specs.ClientStates.{known_of, life_of}
 use Rattle.lu_covered.specs.Runs.{Head}
-use Rattle.lu_guards.proofs.Guards.{In, Was, AskOk, EntersOk, SendOf, EntryOf}
+use Rattle.lu_guards.proofs.Guards.{In, Was, AskOk, HeardOk, EntersOk, SendOf, EntryOf}
 use Rattle.lu_guards.proofs.Lists.{self, in_append, in_filter, life_is}
-use Rattle.lu_facts.proofs.Groups.{turn, Flew, Acted, Phase, Numbers, first_request, FlewFor, Meant, Waits, Done}
+use Rattle.lu_facts.proofs.Groups.{turn, Flew, Acted, Hears, Phase, Numbers, first_request, FlewFor, DoneFor, Meant, Waits, Done}
 
 -- ---- slots
 
@@ -65,6 +65,8 @@ module _ (osts : ℕ) (past : List Line) (stamp : Stamp) (c t : ℕ) (f : Flight
         life = h.life;
         high = h.high;
         kept = h.kept;
+        slots = h.slots;
+        heard = h.heard;
         boots = h.boots;
         waits = λ r i. let w = h.waits r i in record { target = w.target; meant = meant_more past flying flies_grows (Target w.target) (message.Request r) w.meant; taken = w.taken; new = w.new };
         sent = λ from to m s. meant_more past flying flies_grows to m (h.sent from to m s);
@@ -89,9 +91,9 @@ module _ (past : List Line) (at : At) (to : Node) (m : Message) (meant : Meant p
 
 done_send : (osts : ℕ) (past : List Line) (stamp : Stamp) (node to : Node) (m : Message) → Meant past to m → Done osts past → Done osts (line (turn stamp node) (Send to m) ∷ past)
 done_send osts past stamp (Client c) to m meant h =
-    record { flew = h.flew; life = h.life; high = h.high; kept = h.kept; boots = h.boots; waits = h.waits; sent = more_sent past (turn stamp (Client c)) to m meant h.sent; once = h.once }
+    record { flew = h.flew; life = h.life; high = h.high; kept = h.kept; slots = h.slots; heard = h.heard; boots = h.boots; waits = h.waits; sent = more_sent past (turn stamp (Client c)) to m meant h.sent; once = h.once }
 done_send osts past stamp (Target t) to m meant h =
-    record { flew = h.flew; life = h.life; high = h.high; kept = h.kept; boots = h.boots; waits = h.waits; sent = more_sent past (turn stamp (Target t)) to m meant h.sent; once = h.once }
+    record { flew = h.flew; life = h.life; high = h.high; kept = h.kept; slots = h.slots; heard = h.heard; boots = h.boots; waits = h.waits; sent = more_sent past (turn stamp (Target t)) to m meant h.sent; once = h.once }
 
 asked_meant : (osts : ℕ) (past : List Line) (c t : ℕ) (r : RequestOf) → AskOk past c r → Phase osts past → Numbers past → Meant past (Target t) (message.Request r)
 asked_meant osts past c t r ok p n =
@@ -144,12 +146,36 @@ module _ (osts : ℕ) (past : List Line) (stamp : Stamp) (t : ℕ) (r : RequestO
       record {
         target = t;
         meant = h.sent (Client ok.from) (Target t) (message.Request r) ok.was;
-        taken = cond_both (is_slot_of r.who r.tag r.who r.tag) (entered r) (slot_of r.who r.tag past) (λ (s : Slot). r.xid.0 ≤ s.taken) (λ q. omega arith) (λ q. let s = slot_self r.who r.tag in absurd (cc));
+        taken = cond_both (is_slot_of r.who r.tag r.who r.tag) (entered r) (slot_of r.who r.tag past) (λ (s : Slot). r.xid.0 ≡ s.taken) (λ q. refl) (λ q. let s = slot_self r.who r.tag in absurd (cc));
         new = fresh;
       }
 
+  -- its tag was free, so no other request with it waits: that would have been heard, and so done
+  alone : (q : RequestOf) → Waits past q → is_slot_of q.who q.tag r.who r.tag ≡ true → ⊥
+  alone q w e =
+      let p = slot_is q.who r.who q.tag r.tag e in
+      let g = h.sent (Client ok.from) (Target t) (message.Request r) ok.was in
+      let same : (slot_of q.who q.tag past).taken ≡ (slot_of r.who r.tag past).taken = ap (λ (s : Slot). s.taken) (slot_same past q.who r.who q.tag r.tag p.0 p.1) in
+      let x : w.meant.0.xid ≡ q.xid.0 = ap (λ (v : RequestOf). v.xid.0) (sym w.meant.2) in
+      let y : g.0.xid ≡ r.xid.0 = ap (λ (v : RequestOf). v.xid.0) (sym g.2) in
+      let tag : w.meant.0.tag ≡ g.0.tag = ap (λ (v : RequestOf). v.tag) (sym w.meant.2) ∙ p.1 ∙ ap (λ (v : RequestOf). v.tag) g.2 in
+      let z = w.taken in
+      let lt = ok.newer in
+      let heard = n.after q.who.client w.meant.0 g.0 w.meant.1 (subst (λ (v : Who). Flew past v.client g.0) (sym p.0) g.1) tag (omega arith) in
+      let d = h.heard q.who.client w.meant.0.xid heard in
+      w.new d.0 d.1 (d.2 ∙ ap (λ (v : RequestOf). v.who) (sym w.meant.2)) (ap numbered (d.3 ∙ x))
+    where
+      numbered : ℕ → Xid
+      numbered v = record { 0 = v }
+
   still_waits : (q : RequestOf) → Waits past q → Waits entering q
-  still_waits q w = record { target = w.target; meant = w.meant; taken = raised q.who q.tag q.xid.0 w.taken; new = w.new }
+  still_waits q w =
+      record {
+        target = w.target;
+        meant = w.meant;
+        taken = cond_both (is_slot_of q.who q.tag r.who r.tag) (entered r) (slot_of q.who q.tag past) (λ (s : Slot). q.xid.0 ≡ s.taken) (λ e. absurd (alone q w e)) (λ e. w.taken);
+        new = w.new;
+      }
 
   done_enters : Done osts entering
   done_enters =
@@ -160,6 +186,10 @@ module _ (osts : ℕ) (past : List Line) (stamp : Stamp) (t : ℕ) (r : RequestO
         kept = λ who tag k. cond_both (is_slot_of who tag r.who r.tag) (entered r) (slot_of who tag past) (λ (s : Slot). s.reply ≡ Some k → (d : Deed) × Acted past d × (d.reply ≡ k))
             (λ q e. absurd (cc))
             (λ q e. h.kept who tag k e);
+        slots = λ who tag k. cond_both (is_slot_of who tag r.who r.tag) (entered r) (slot_of who tag past) (λ (s : Slot). s.reply ≡ Some k → (k.who ≡ who) × (k.xid.0 ≡ s.taken))
+            (λ q e. absurd (cc))
+            (λ q e. h.slots who tag k e);
+        heard = h.heard;
         boots = h.boots;
         waits = λ q i. ⊎_elim
             (λ (j : In q (server_of osts past).waiting). still_waits q (h.waits q j))
@@ -180,6 +210,7 @@ record Does (osts : ℕ) (past new : List Line) (d : Deed) : Type 0 where
   slot : (who : Who) (tag : ℕ) → slot_of who tag new ≡ (if is_slot_of who tag d.reply.who d.tag then answered d (slot_of who tag past) else slot_of who tag past)
   waiting : (q : RequestOf) → In q (server_of osts new).waiting → In q (without_request d (server_of osts past).waiting)
   sent : (from to : Node) (m : Message) → Was new from to m → Was past from to m
+  hears : (c x : ℕ) → Hears new c x → Hears past c x
   boots : (e : Deed) → again (server_of osts past) e.reply ≡ e.reply → again (server_of osts new) e.reply ≡ e.reply
   fresh : again (server_of osts new) d.reply ≡ d.reply
 
@@ -194,10 +225,17 @@ module _ (osts : ℕ) (past new : List Line) (d : Deed) (does : Does osts past n
   grows : Grows past new
   grows = record { flew = does.flew; acted = does.more }
 
+  taken_is : (who : Who) (tag : ℕ) → (slot_of who tag past).taken ≡ (slot_of who tag new).taken
+  taken_is who tag =
+      subst (λ (s : Slot). (slot_of who tag past).taken ≡ s.taken) (sym (does.slot who tag))
+      (cond_both (is_slot_of who tag d.reply.who d.tag) (answered d (slot_of who tag past)) (slot_of who tag past) (λ (s : Slot). (slot_of who tag past).taken ≡ s.taken) (λ q. refl) (λ q. refl))
+
   taken_same : (who : Who) (tag x : ℕ) → x ≤ (slot_of who tag past).taken → x ≤ (slot_of who tag new).taken
-  taken_same who tag x le =
-      subst (λ (s : Slot). x ≤ s.taken) (sym (does.slot who tag))
-      (cond_both (is_slot_of who tag d.reply.who d.tag) (answered d (slot_of who tag past)) (slot_of who tag past) (λ (s : Slot). x ≤ s.taken) (λ q. le) (λ q. le))
+  taken_same who tag x le = let e = taken_is who tag in omega arith
+
+  -- the number of its slot
+  mine_taken : d.reply.xid.0 ≡ (slot_of d.reply.who d.tag past).taken
+  mine_taken = ap (λ (v : Xid). v.0) of.xid ∙ w.taken ∙ ap (λ (s : Slot). s.taken) (sym (slot_same past d.reply.who r.who d.tag r.tag of.who of.tag))
 
   mine_flew : FlewFor new d
   mine_flew = (
@@ -212,11 +250,7 @@ module _ (osts : ℕ) (past new : List Line) (d : Deed) (does : Does osts past n
   mine_life = of.who ∙ ap (λ (v : RequestOf). v.who) w.meant.2 ∙ ap (λ (v : Who). first_life v.client) (sym of.who)
 
   mine_high : d.reply.xid.0 ≤ (slot_of d.reply.who d.tag new).taken
-  mine_high =
-      let e : (slot_of d.reply.who d.tag past).taken ≡ (slot_of r.who r.tag past).taken = ap (λ (s : Slot). s.taken) (slot_same past d.reply.who r.who d.tag r.tag of.who of.tag) in
-      let x : d.reply.xid.0 ≡ r.xid.0 = ap (λ (v : Xid). v.0) of.xid in
-      let le = w.taken in
-      taken_same d.reply.who d.tag d.reply.xid.0 (omega arith)
+  mine_high = let e = mine_taken in taken_same d.reply.who d.tag d.reply.xid.0 (omega arith)
 
   -- it hasn't acted before
   first_time : (e : Deed) → Acted past e → d.reply.who ≡ e.reply.who → d.reply.xid ≡ e.reply.xid → ⊥
@@ -235,7 +269,7 @@ module _ (osts : ℕ) (past new : List Line) (d : Deed) (does : Does osts past n
       record {
         target = k.target;
         meant = meant_more past new grows (Target k.target) (message.Request q) k.meant;
-        taken = taken_same q.who q.tag q.xid.0 k.taken;
+        taken = k.taken ∙ taken_is q.who q.tag;
         new = λ e a y x. ⊎_elim
             (λ (p : d ≡ e). other q (not-true (is_request_of d q) j.1) (ap (λ (v : Deed). v.reply.who) p ∙ y) (ap (λ (v : Deed). v.reply.xid) p ∙ x))
             (λ (b : Acted past e). k.new e b y x)
@@ -255,6 +289,16 @@ module _ (osts : ℕ) (past new : List Line) (d : Deed) (does : Does osts past n
             (λ q p. (d, does.here, cc))
             (λ q p. let g = h.kept who tag k p in (g.0, does.more g.0 g.1, g.2))
             (ap (λ (s : Slot). s.reply) (sym (does.slot who tag)) ∙ e);
+        slots = λ who tag k. subst (λ (s : Slot). s.reply ≡ Some k → (k.who ≡ who) × (k.xid.0 ≡ s.taken)) (sym (does.slot who tag))
+            (cond_both (is_slot_of who tag d.reply.who d.tag) (answered d (slot_of who tag past)) (slot_of who tag past) (λ (s : Slot). s.reply ≡ Some k → (k.who ≡ who) × (k.xid.0 ≡ s.taken))
+            (λ q p.
+            let same : d.reply ≡ k = cc in
+            let i = slot_is who d.reply.who tag d.tag q in (
+              ap (λ (v : ReplyTo). v.who) (sym same) ∙ sym i.0,
+              ap (λ (v : ReplyTo). v.xid.0) (sym same) ∙ mine_taken ∙ ap (λ (s : Slot). s.taken) (sym (slot_same past who d.reply.who tag d.tag i.0 i.1)),
+            ))
+            (λ q p. h.slots who tag k p));
+        heard = λ c x q. let g = h.heard c x (does.hears c x q) in (g.0, does.more g.0 g.1, g.2, g.3);
         boots = λ e a. ⊎_elim (λ (q : d ≡ e). subst (λ (v : Deed). again (server_of osts new) v.reply ≡ v.reply) q does.fresh) (λ (b : Acted past e). does.boots e (h.boots e b)) (does.acted e a);
         waits = keeps_waiting;
         sent = λ from to m s. meant_more past new grows to m (h.sent from to m (does.sent from to m s));
@@ -270,17 +314,44 @@ module _ (osts : ℕ) (past new : List Line) (d : Deed) (does : Does osts past n
             (does.acted e a);
       }
 
+-- ---- one more reply heard
+
+heard_done : (osts : ℕ) (past : List Line) (c : ℕ) (f : Flight) (k : ReplyTo) → HeardOk past c f k → Phase osts past → Done osts past → DoneFor past c f.xid
+heard_done osts past c f k ok p h =
+    let m = h.sent (Target ok.from) (Client c) (message.Reply k) ok.was in
+    (m.0, m.1, ap (λ (v : ReplyTo). v.who) (sym m.2) ∙ ok.who ∙ p.life c, ap (λ (v : ReplyTo). v.xid.0) (sym m.2) ∙ sym ok.xid)
+
+done_heard : (osts : ℕ) (past : List Line) (stamp : Stamp) (c t : ℕ) (f : Flight) (k : ReplyTo) → HeardOk past c f k → Phase osts past → Done osts past → Done osts (line (turn stamp (Client c)) (Heard t f k) ∷ past)
+done_heard osts past stamp c t f k ok p h =
+    record {
+      flew = h.flew;
+      life = h.life;
+      high = h.high;
+      kept = h.kept;
+      slots = h.slots;
+      heard = λ e x. ⊎_elim
+          (λ (q : (Client c ≡ Client e) × (f.xid ≡ x)).
+          let same : c ≡ e = cc in
+          subst (λ v. DoneFor past e v) q.1 (subst (λ v. DoneFor past v f.xid) same (heard_done osts past c f k ok p h)))
+          (λ (q : Hears past e x). h.heard e x q);
+      boots = h.boots;
+      waits = h.waits;
+      sent = h.sent;
+      once = h.once;
+    }
+
 act_does : (osts : ℕ) (past : List Line) (stamp : Stamp) (t : ℕ) (d : Deed) → again (server_of osts past) d.reply ≡ d.reply → Does osts past (line (turn stamp (Target t)) (Act d) ∷ past) d
-act_does osts past stamp t d b = record { flew = λ k f i. i; acted = λ e a. a; more = λ e a. inr a; here = inl refl; slot = λ who tag. refl; waiting = λ q i. i; sent = λ from to m s. s; boots = λ e q. q; fresh = b }
+act_does osts past stamp t d b = record { flew = λ k f i. i; acted = λ e a. a; more = λ e a. inr a; here = inl refl; slot = λ who tag. refl; waiting = λ q i. i; sent = λ from to m s. s; hears = λ c x q. q; boots = λ e q. q; fresh = b }
 
 txn_does : (osts : ℕ) (past : List Line) (stamp : Stamp) (t : ℕ) (d : Deed) → again (server_of osts past) d.reply ≡ d.reply → Does osts past (line (turn stamp (Target t)) (Made d) ∷ past) d
-txn_does osts past stamp t d b = record { flew = λ k f i. i; acted = λ e a. a; more = λ e a. inr a; here = inl refl; slot = λ who tag. refl; waiting = λ q i. i; sent = λ from to m s. s; boots = λ e q. q; fresh = b }
+txn_does osts past stamp t d b = record { flew = λ k f i. i; acted = λ e a. a; more = λ e a. inr a; here = inl refl; slot = λ who tag. refl; waiting = λ q i. i; sent = λ from to m s. s; hears = λ c x q. q; boots = λ e q. q; fresh = b }
 
 pub keeps_done : (head : Head) (past : List Line) (stamp : Stamp) (node : Node) (e : Entry) → EntryOf head past (turn stamp node) node e → Phase head.osts past → Numbers past
     → Done head.osts past → Done head.osts (line (turn stamp node) e ∷ past)
 keeps_done head past stamp (Client c) (Send to m) ok p n h = done_send head.osts past stamp (Client c) to m (sent_meant head past (Client c) to m ok p n h) h
 keeps_done head past stamp (Target t) (Send to m) ok p n h = done_send head.osts past stamp (Target t) to m (sent_meant head past (Target t) to m ok p n h) h
 keeps_done head past stamp (Client c) (Flies t f) ok p n h = done_flies head.osts past stamp c t f h
+keeps_done head past stamp (Client c) (Heard t f k) ok p n h = done_heard head.osts past stamp c t f k ok p h
 keeps_done head past stamp (Target t) (Enters r) ok p n h = done_enters head.osts past stamp t r ok n h
 keeps_done head past stamp (Target t) (Act d) ok p n h =
     let v = server_of head.osts past in
@@ -295,6 +366,7 @@ keeps_done head past stamp (Target t) (Made d) ok p n h =
 keeps_done head past stamp (Client c) (Act d) ok p n h = absurd ok
 keeps_done head past stamp (Client c) (Made d) ok p n h = absurd ok
 keeps_done head past stamp (Target t) (Flies u f) ok p n h = absurd ok
+keeps_done head past stamp (Target t) (Heard u f k) ok p n h = absurd ok
 keeps_done head past stamp (Target t) (Commit to batch) ok p n h = absurd ok
 keeps_done head past stamp (Target t) (Boot boot disk) ok p n h = absurd ok
 keeps_done head past stamp node e ok p n h = h

@@ -1,6 +1,6 @@
 -- The groups of facts: what holds after every line. Those of one target speak of what concerns it; what calls have
 -- asked, when things happened, and who is told what, of the whole past with every target.
-use Rattle.std.proofs.Common.{◌≡◌, ℕ, ◌≤◌, true, List, [], ◌∷◌, Option, Some, None, ◌⊎◌}
+use Rattle.std.proofs.Common.{◌≡◌, ℕ, ◌<◌, ◌≤◌, true, List, [], ◌∷◌, Option, Some, None, ◌⊎◌}
 use Rattle.std.specs.Prelude.{length}
 use Rattle.lu_base.specs.declared.ids.At.{At}
 use Rattle.lu_base.specs.declared.ids.Node.{Node}
@@ -68,6 +68,8 @@ Numbers past =
       flying : (c : ℕ) (f : Flight) → In f (flights_of c past) → Flew past c f;
       tags : (c : ℕ) (f g : Flight) → In f (flights_of c past) → In g (flights_of c past) → f.tag ≡ g.tag → f.xid ≡ g.xid;
       over : (c x : ℕ) → Hears past c x → (x ≤ last_of c past) × ((f : Flight) → In f (flights_of c past) → f.xid ≡ x → ⊥);
+      stays : (c : ℕ) (f : Flight) → Flew past c f → In f (flights_of c past) ⊎ Hears past c f.xid;
+      after : (c : ℕ) (f g : Flight) → Flew past c f → Flew past c g → f.tag ≡ g.tag → f.xid < g.xid → Hears past c f.xid;
     }
 
 -- no more requests fly than may
@@ -82,6 +84,10 @@ first_request c f = record { who = first_life c; boot = 1; xid = record { 0 = f.
 abbrev pub FlewFor : List Line → Deed → Type 0
 FlewFor past d = (f : Flight) × Flew past d.reply.who.client f × (f.xid ≡ d.reply.xid.0) × (f.op ≡ d.op) × (f.tag ≡ d.tag)
 
+-- what a client's request of that number asked for was done
+abbrev pub DoneFor : List Line → ℕ → ℕ → Type 0
+DoneFor past c x = (d : Deed) × Acted past d × (d.reply.who ≡ first_life c) × (d.reply.xid.0 ≡ x)
+
 -- what was sent is of a request that flew, or of what was done
 abbrev pub Meant : List Line → Node → Message → Type 0
 Meant past (Target t) (message.Request r) = (f : Flight) × Flew past r.who.client f × (r ≡ first_request r.who.client f)
@@ -94,7 +100,7 @@ Waits past r =
     record {
       target : ℕ;
       meant : Meant past (Target target) (message.Request r);
-      taken : r.xid.0 ≤ (slot_of r.who r.tag past).taken;
+      taken : r.xid.0 ≡ (slot_of r.who r.tag past).taken;
       new : (d : Deed) → Acted past d → d.reply.who ≡ r.who → d.reply.xid ≡ r.xid → ⊥;
     }
 
@@ -105,6 +111,8 @@ Done osts past =
       life : (d : Deed) → Acted past d → d.reply.who ≡ first_life d.reply.who.client;
       high : (d : Deed) → Acted past d → d.reply.xid.0 ≤ (slot_of d.reply.who d.tag past).taken;
       kept : (who : Who) (tag : ℕ) (k : ReplyTo) → (slot_of who tag past).reply ≡ Some k → (d : Deed) × Acted past d × (d.reply ≡ k);
+      slots : (who : Who) (tag : ℕ) (k : ReplyTo) → (slot_of who tag past).reply ≡ Some k → (k.who ≡ who) × (k.xid.0 ≡ (slot_of who tag past).taken);
+      heard : (c x : ℕ) → Hears past c x → DoneFor past c x;
       boots : (d : Deed) → Acted past d → again (server_of osts past) d.reply ≡ d.reply;
       waits : (r : RequestOf) → In r (server_of osts past).waiting → Waits past r;
       sent : (from to : Node) (m : Message) → Was past from to m → Meant past to m;

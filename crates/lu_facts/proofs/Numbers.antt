@@ -15,7 +15,7 @@ use Rattle.lu_covered.specs.Imports.{without_flight, has_tag, above_tags, free_f
 use Rattle.lu_covered.specs.ClientStates.{flights_of, last_of, tag_of}
 use Rattle.lu_covered.specs.Runs.{Head}
 use Rattle.lu_guards.proofs.Guards.{In, FliesOk, EntryOf}
-use Rattle.lu_guards.proofs.Lists.{in_append, in_filter}
+use Rattle.lu_guards.proofs.Lists.{in_append, in_filter, in_filtered, in_left, in_right}
 use Rattle.lu_facts.proofs.Groups.{turn, Flew, Hears, Tagged, Numbers, Room}
 
 pub client_is : (c d : ℕ) → Client d ≡ Client c → c ≡ d
@@ -84,6 +84,12 @@ module _ (head : Head) (past : List Line) (stamp : Stamp) (d t : ℕ) (f : Fligh
       (λ q i. ⊎_elim (λ (j : In g (flights_of c past)). inr j) (λ (j : In g (f ∷ [])). ⊎_elim (λ (e : f ≡ g). inl (eqb-true c d q, e)) (λ (v : ⊥). absurd v) j) (in_append g (flights_of c past) (f ∷ []) i))
       (λ q i. inr i)
 
+  flies_on : (c : ℕ) (g : Flight) → In g (flights_of c past) → In g (flights_of c new)
+  flies_on c g i = cond_both (nat_eq c d) (flights_of c past ++ f ∷ []) (flights_of c past) (λ (fs : List Flight). In g fs) (λ q. in_left g (flights_of c past) (f ∷ []) i) (λ q. i)
+
+  flies_now : (c : ℕ) → c ≡ d → In f (flights_of c new)
+  flies_now c e = cond_both (nat_eq c d) (flights_of c past ++ f ∷ []) (flights_of c past) (λ (fs : List Flight). In f fs) (λ q. in_right f (flights_of c past) (f ∷ []) (inl refl)) (λ q. absurd (grind (arith, nat_tests)))
+
   taken : (c : ℕ) (g : Flight) → In g (flights_of c past) → c ≡ d → g.tag ≡ f.tag → ⊥
   taken c g i e s = free_new (flights_of d past) g (subst (λ v. In g (flights_of v past)) e i) (s ∙ ap (λ (v : Flight). v.tag) ok.is)
 
@@ -124,6 +130,19 @@ module _ (head : Head) (past : List Line) (stamp : Stamp) (d t : ℕ) (f : Fligh
               (λ (j : In g (flights_of c past)). old.1 g j e)
               (fly_in c g i),
         );
+        stays = λ c g. ⊎_elim
+            (λ (p : (Client d ≡ Client c) × (f ≡ g)). inl (subst (λ (v : Flight). In v (flights_of c new)) p.1 (flies_now c (client_is c d p.0))))
+            (λ (p : Flew past c g). ⊎_elim (λ (i : In g (flights_of c past)). inl (flies_on c g i)) (λ (q : Hears past c g.xid). inr q) (h.stays c g p));
+        after = λ c g k. ⊎_elim
+            (λ (p : (Client d ≡ Client c) × (f ≡ g)). ⊎_elim
+            (λ (q : (Client d ≡ Client c) × (f ≡ k)) e lt. let y : g.xid ≡ k.xid = ap (λ (v : Flight). v.xid) (sym p.1 ∙ q.1) in absurd (omega arith))
+            (λ (q : Flew past c k) e lt. let y : f.xid ≡ g.xid = ap (λ (v : Flight). v.xid) p.1 in let l = (h.tagged c k q).low in let s = last_same c (client_is c d p.0) in let n = next in absurd (omega arith)))
+            (λ (p : Flew past c g). ⊎_elim
+            (λ (q : (Client d ≡ Client c) × (f ≡ k)) e lt. ⊎_elim
+            (λ (i : In g (flights_of c past)). absurd (taken c g i (client_is c d q.0) (e ∙ ap (λ (v : Flight). v.tag) (sym q.1))))
+            (λ (r : Hears past c g.xid). r)
+            (h.stays c g p))
+            (λ (q : Flew past c k) e lt. h.after c g k p q e lt));
       }
 
 -- ---- one less in flight
@@ -139,6 +158,16 @@ heard_gone past stamp d t f r c g e =
     cond_both (nat_eq c d) (without_flight f.xid (flights_of c past)) (flights_of c past) (λ (fs : List Flight). In g fs → g.xid ≡ f.xid → ⊥)
     (λ q i k. let y = not-true (nat_eq g.xid f.xid) (in_filter (λ (v : Flight). not (nat_eq v.xid f.xid)) g (flights_of c past) i).1 in grind (arith, nat_tests))
     (λ q i k. absurd (grind (arith, nat_tests)))
+
+heard_or_stays : (past : List Line) (stamp : Stamp) (d t : ℕ) (f : Flight) (r : ReplyTo) (c : ℕ) (g : Flight) → let new = line (turn stamp (Client d)) (Heard t f r) ∷ past in In g (flights_of c past) → In g (flights_of c new) ⊎ Hears new c g.xid
+heard_or_stays past stamp d t f r c g i =
+    cond_both (nat_eq c d) (without_flight f.xid (flights_of c past)) (flights_of c past) (λ (fs : List Flight). In g fs ⊎ Hears (line (turn stamp (Client d)) (Heard t f r) ∷ past) c g.xid)
+    (λ q. by (nat_eq g.xid f.xid) refl (eqb-true c d q))
+    (λ q. inl i)
+  where
+    by : (b : Bool) → nat_eq g.xid f.xid ≡ b → c ≡ d → In g (without_flight f.xid (flights_of c past)) ⊎ Hears (line (turn stamp (Client d)) (Heard t f r) ∷ past) c g.xid
+    by true e s = inr (inl (ap Client (sym s), sym (eqb-true g.xid f.xid e)))
+    by false e s = inl (in_filtered (λ (k : Flight). not (nat_eq k.xid f.xid)) g (flights_of c past) i (ap not e))
 
 numbers_heard : (past : List Line) (stamp : Stamp) (d t : ℕ) (f : Flight) (r : ReplyTo) → In f (flights_of d past) → Numbers past → Numbers (line (turn stamp (Client d)) (Heard t f r) ∷ past)
 numbers_heard past stamp d t f r flying h =
@@ -156,6 +185,8 @@ numbers_heard past stamp d t f r flying h =
           let y = p.1 in
           (omega arith, λ g i w. heard_gone past stamp d t f r c g e i (w ∙ sym y)))
           (λ (p : Hears past c x). let old = h.over c x p in (old.0, λ g i w. old.1 g (heard_less past stamp d t f r c g i) w));
+      stays = λ c g p. ⊎_elim (λ (i : In g (flights_of c past)). heard_or_stays past stamp d t f r c g i) (λ (q : Hears past c g.xid). inr (inr q)) (h.stays c g p);
+      after = λ c g k p q e lt. inr (h.after c g k p q e lt);
     }
 
 pub keeps_numbers : (head : Head) (past : List Line) (stamp : Stamp) (node : Node) (e : Entry) → EntryOf head past (turn stamp node) node e

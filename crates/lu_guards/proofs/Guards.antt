@@ -52,6 +52,10 @@ abbrev pub TookNow : List Line → At → (from : Node) → Message → Type 0
 TookNow [] at from m = ⊥
 TookNow (l ∷ past) at from m = elim l.entry [ Take n sender message ↦ (l.at ≡ at) × (sender ≡ from) × (message ≡ m) | _ ↦ ⊥ ]
 
+-- the newest line took that request, in this turn
+abbrev pub TookRequest : List Line → At → RequestOf → Type 0
+TookRequest past at r = (from : Node) × TookNow past at from (message.Request r)
+
 -- a request in flight as a message of the client's life, which knows the target's boot
 abbrev pub request : ℕ → List Line → Flight → RequestOf
 request c past f = record { who = life_of c past; boot = known_of c past; xid = record { 0 = f.xid }; tag = f.tag; op = f.op }
@@ -130,6 +134,26 @@ pub record RepliesNow (past : List Line) (t : ℕ) (k : ReplyTo) : Type 0 where
   pub is : k ≡ record kept { boot = k.boot; committed = k.committed }
   pub now : ((d : Deed) × Did past d × (d.reply ≡ kept)) ⊎ Taken past
 
+-- it is that to the newest request of its life and tag, which the newest line took once more, in this turn
+pub record RepliesAgain (past : List Line) (at : At) (t : ℕ) (k : ReplyTo) : Type 0 where
+  pub request : RequestOf
+  pub took : TookRequest past at request
+  pub kept : ReplyTo
+  pub slot : (slot_of request.who request.tag (only t past)).reply ≡ Some kept
+  pub is : k ≡ record kept { boot = k.boot; committed = k.committed }
+  pub same : (slot_of request.who request.tag (only t past)).taken ≡ request.xid.0
+
+-- what was just done is answered next, in the same turn
+abbrev pub Answers : At → Deed → Entry → Type 0
+Answers at d (Send (Client c) (message.Reply k)) = (k ≡ d.reply) × (d.reply.at ≡ at)
+Answers at d (Grant lock asked) = Unit {0}
+Answers at d _ = ⊥
+
+abbrev pub Owes : List Line → At → Entry → Type 0
+Owes [] at e = Unit {0}
+Owes (l ∷ past) at e =
+    elim l.entry [ Act d ↦ Answers at d e | Txn d ↦ Answers at d e | Grant lock asked ↦ Owes past at e | _ ↦ Unit {0} ]
+
 abbrev pub EntryOk : List Line → At → Node → Entry → Type 0
 EntryOk past at node (Take n from m) = TakeOk past at n from m
 EntryOk past at node Tick = Later past at
@@ -141,8 +165,8 @@ EntryOk past at (Client c) (Told slot turn answer work) = ToldOk past at c slot 
 EntryOk past at (Client c) (Flies t f) = t ≡ 0
 EntryOk past at (Client c) (Heard t f r) = (t ≡ 0) × TookNow past at (Target t) (message.Reply r)
 EntryOk past at (Client c) (Send (Target t) (message.Request r)) = t ≡ 0
-EntryOk past at (Target t) (Send (Client c) (message.Reply k)) = (t ≡ 0) × RepliesNow past t k
-EntryOk past at (Target t) (Enters r) = t ≡ 0
+EntryOk past at (Target t) (Send (Client c) (message.Reply k)) = (t ≡ 0) × RepliesNow past t k × (Taken past → RepliesAgain past at t k)
+EntryOk past at (Target t) (Enters r) = (t ≡ 0) × TookRequest past at r
 EntryOk past at (Target t) (Act d) = t ≡ 0
 EntryOk past at (Target t) (Txn d) = t ≡ 0
 EntryOk past at _ _ = ⊥
@@ -230,6 +254,7 @@ LivesAt head past (Target t) = Unit {0}
 pub record Allowed (head : Head) (past : List Line) (at : At) (e : Entry) : Type 0 where
   pub steps : Steps past at
   pub lives : LivesAt head past at.node
+  pub owes : Owes past at e
   pub ok : EntryOk past at at.node e
   pub of : (t : ℕ) → concerns t at.node e ≡ true → EntryOf head (only t past) at at.node e
 

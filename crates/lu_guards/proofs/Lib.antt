@@ -4,5 +4,6 @@ pub mod Parts
 pub mod Only
 pub mod ObeyWhole
 pub mod ObeyOne
+pub mod Owed
 pub mod Obey
 pub mod After

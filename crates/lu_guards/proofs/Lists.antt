@@ -1,8 +1,8 @@
 -- Facts of tests, turns and lists.
-use Rattle.std.proofs.Common.{◌≡◌, ℕ, Bool, true, List, [], ◌∷◌, ◌++◌, ◌⊎◌, inl, inr, ⊎_elim, refl, sym, ap, ◌∙◌, arith}
+use Rattle.std.proofs.Common.{◌≡◌, ℕ, Bool, true, List, [], ◌∷◌, ◌++◌, ◌⊎◌, inl, inr, ⊎_elim, refl, sym, subst, ap, ◌∙◌, arith}
 use Rattle.std.specs.Prelude.{nat_eq}
 use Rattle.std.specs.List.{filter}
-use Rattle.std.proofs.lemmas.Bool.{cond_both, eqb-true, eq-eqb, and_parts}
+use Rattle.std.proofs.lemmas.Bool.{cond_both, cond-true, eqb-true, eq-eqb, and_parts}
 use Rattle.std.proofs.lemmas.Bool.Decides.{nat_tests}
 use Rattle.lu_base.specs.declared.ids.At.{At}
 use Rattle.lu_base.specs.declared.ids.Node.{Node}
@@ -38,6 +38,11 @@ in_filter {A} f x (y ∷ ys) i =
     (λ t j. ⊎_elim (λ (e : y ≡ x). (inl e, ap f (sym e) ∙ t)) (λ (k : In x (filter f ys)). let r = in_filter f x ys k in (inr r.0, r.1)) j)
     (λ t j. let r = in_filter f x ys j in (inr r.0, r.1))
     i
+
+pub in_filtered : {A : Type 0} (f : A → Bool) (x : A) (xs : List A) → In x xs → f x ≡ true → In x (filter f xs)
+in_filtered f x [] i t = absurd i
+in_filtered f x (y ∷ xs) (inl e) t = subst (λ v. In x v) (sym (cond-true (f y) (y ∷ filter f xs) (filter f xs) (ap f e ∙ t))) (inl e)
+in_filtered f x (y ∷ xs) (inr i) t = cond_both (f y) (y ∷ filter f xs) (filter f xs) (λ v. In x v) (λ s. inr (in_filtered f x xs i t)) (λ s. in_filtered f x xs i t)
 
 -- ---- turns
 

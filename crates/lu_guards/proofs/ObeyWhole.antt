@@ -1,7 +1,7 @@
 -- Each row makes lines that are allowed over the whole past.
 use Rattle.std.proofs.Common.{zero, suc, ◌≡◌, ℕ, ◌+◌, Bool, true, false, List, [], ◌∷◌, ◌++◌, Option, Some, None, inl, inr, refl, sym, subst, ap, ◌∙◌}
 use Rattle.std.specs.Prelude.{nat_eq, nat_lt, ◌&&◌, length, if◌then◌else◌}
-use Rattle.std.proofs.lemmas.Bool.{cond_both, cond-true}
+use Rattle.std.proofs.lemmas.Bool.{cond_both, cond-true, eqb-true}
 use Rattle.lu_base.specs.declared.ids.At.{At}
 use Rattle.lu_base.specs.declared.ids.Stamp.{Stamp}
 use Rattle.lu_base.specs.declared.ids.Node.{Node}
@@ -29,7 +29,7 @@ use Rattle.lu_covered.specs.ClientStates.{Asker, asker_at}
 use Rattle.lu_covered.specs.ClientRows as client
 use Rattle.lu_covered.specs.ClientRows.{next_flight, row_sent, row_sends, row_rests, row_asks, row_call, find_flight, row_told, row_tells, row_heard, row_fits, row_hears, row_reply, row_resends}
 use Rattle.lu_covered.specs.Runs.{Head, IsAlive, MayBegin, MayCome, MayReach, Meets, Event, Begins, Comes, Ticks, Dies, row}
-use Rattle.lu_guards.proofs.Guards.{Later, TookNow, EntryOk, LivesAt, Grown}
+use Rattle.lu_guards.proofs.Guards.{Later, TookNow, Taken, EntryOk, LivesAt, Grown}
 use Rattle.lu_guards.proofs.Lists.{self, turn}
 use Rattle.lu_guards.proofs.Parts.{slot_is}
 
@@ -221,6 +221,13 @@ module _ (head : Head) (c : ℕ) (stamp : Stamp) where
 
 -- ---- targets
 
+abbrev Takes : List Line → Type 0
+Takes [] = ⊥
+Takes (l ∷ past) = elim l.entry [ Take n from m ↦ Unit {0} | _ ↦ ⊥ ]
+
+takes_newest : (past : List Line) → Taken past → Takes past
+takes_newest past k = subst Takes (sym k.newest) tt
+
 pub own_slot : (who : Who) (tag : ℕ) → is_slot_of who tag who tag ≡ true
 own_slot who tag = rw (self who.client, self who.life, self tag) refl
 
@@ -242,15 +249,21 @@ module _ (head : Head) (t : ℕ) (stamp : Stamp) where
   executes_ok : t ≡ 0 → (past : List Line) (v : Server) (r : RequestOf) (b : Bool) → AllOk head past there (row_executes head.osts v there r b)
   executes_ok z past v r true =
       let d = deed head.osts v there r (next_number v) in
-      (tt, z, (tt, (z, record { who = r.who; tag = r.tag; kept = d.reply; slot = slot_after_txn past d; is = refl; now = inl (d, refl, refl) }), tt))
+      (tt, z, (tt, (z, record { who = r.who; tag = r.tag; kept = d.reply; slot = slot_after_txn past d; is = refl; now = inl (d, refl, refl) }, λ k. absurd (takes_newest _ k)), tt))
   executes_ok z past v r false =
       let d = deed head.osts v there r none in
-      (tt, z, (tt, (z, record { who = r.who; tag = r.tag; kept = d.reply; slot = slot_after_act past d; is = refl; now = inl (d, refl, refl) }), tt))
+      (tt, z, (tt, (z, record { who = r.who; tag = r.tag; kept = d.reply; slot = slot_after_act past d; is = refl; now = inl (d, refl, refl) }, λ k. absurd (takes_newest _ k)), tt))
 
-  kept_ok : t ≡ 0 → (past : List Line) (n : ℕ) (from : Node) (m : Message) (v : Server) (r : RequestOf) (kept : Option ReplyTo) → (slot_at r.who r.tag t past).reply ≡ kept
-      → AllOk head (line there (Take n from m) ∷ past) there (row_kept v kept)
-  kept_ok z past n from m v r None e = tt
-  kept_ok z past n from m v r (Some k) e = (
+  -- a message that is taken leaves the slot
+  slot_taken : (past : List Line) (n : ℕ) (from : Node) (r : RequestOf) → slot_of r.who r.tag (only t (line there (Take n from (message.Request r)) ∷ past)) ≡ slot_at r.who r.tag t past
+  slot_taken past n from r =
+      ap (λ (b : Bool). slot_of r.who r.tag (if b then line there (Take n from (message.Request r)) ∷ only t past else only t past)) (self t)
+      ∙ sym (slot_is r.who r.tag t past)
+
+  kept_ok : t ≡ 0 → (past : List Line) (n : ℕ) (from : Node) (v : Server) (r : RequestOf) (kept : Option ReplyTo) → (slot_at r.who r.tag t past).reply ≡ kept → nat_eq (slot_at r.who r.tag t past).taken r.xid.0 ≡ true
+      → AllOk head (line there (Take n from (message.Request r)) ∷ past) there (row_kept v kept)
+  kept_ok z past n from v r None e same = tt
+  kept_ok z past n from v r (Some k) e same = (
     tt,
     (
       z,
@@ -258,25 +271,35 @@ module _ (head : Head) (t : ℕ) (stamp : Stamp) where
         who = r.who;
         tag = r.tag;
         kept = k;
-        slot =
-            ap (λ (b : Bool). (slot_of r.who r.tag (if b then line there (Take n from m) ∷ only t past else only t past)).reply) (self t)
-            ∙ sym (ap (λ (s : Slot). s.reply) (slot_is r.who r.tag t past))
-            ∙ e;
+        slot = ap (λ (s : Slot). s.reply) (slot_taken past n from r) ∙ e;
         is = refl;
-        now = inr (record { at = there; number = n; from = from; message = m; before = past; newest = refl });
+        now = inr (record { at = there; number = n; from = from; message = message.Request r; before = past; newest = refl });
       },
+      λ taken.
+          record {
+            request = r;
+            took = (from, (refl, refl, refl));
+            kept = k;
+            slot = ap (λ (s : Slot). s.reply) (slot_taken past n from r) ∙ e;
+            is = refl;
+            same = ap (λ (s : Slot). s.taken) (slot_taken past n from r) ∙ eqb-true (slot_at r.who r.tag t past).taken r.xid.0 same;
+          },
     ),
     tt,
   )
 
-  number_ok : t ≡ 0 → (past : List Line) (n : ℕ) (from : Node) (m : Message) (v : Server) (r : RequestOf) (more same : Bool)
-      → AllOk head (line there (Take n from m) ∷ past) there (by_number head.osts v there r (slot_at r.who r.tag t past).reply more same)
-  number_ok z past n from m v r true same = (tt, z, executes_ok z (line there (Enters r) ∷ line there (Take n from m) ∷ past) v r (changes head.osts v.tree (asked r none)))
-  number_ok z past n from m v r false true = kept_ok z past n from m v r (slot_at r.who r.tag t past).reply refl
-  number_ok z past n from m v r false false = tt
+  number_ok : t ≡ 0 → (past : List Line) (n : ℕ) (from : Node) (v : Server) (r : RequestOf) (more same : Bool) → nat_eq (slot_at r.who r.tag t past).taken r.xid.0 ≡ same
+      → AllOk head (line there (Take n from (message.Request r)) ∷ past) there (by_number head.osts v there r (slot_at r.who r.tag t past).reply more same)
+  number_ok z past n from v r true same e = (
+    tt,
+    (z, (from, (refl, refl, refl))),
+    executes_ok z (line there (Enters r) ∷ line there (Take n from (message.Request r)) ∷ past) v r (changes head.osts v.tree (asked r none)),
+  )
+  number_ok z past n from v r false true e = kept_ok z past n from v r (slot_at r.who r.tag t past).reply refl e
+  number_ok z past n from v r false false e = tt
 
   served_ok : t ≡ 0 → (past : List Line) (n : ℕ) (from : Node) (m : Message) (v : Server) → AllOk head (line there (Take n from m) ∷ past) there (target.row_heeds head.osts v (λ who tag. slot_at who tag t past) there m)
-  served_ok z past n from (message.Request r) v = number_ok z past n from (message.Request r) v r (nat_lt (slot_at r.who r.tag t past).taken r.xid.0) (nat_eq (slot_at r.who r.tag t past).taken r.xid.0)
+  served_ok z past n from (message.Request r) v = number_ok z past n from v r (nat_lt (slot_at r.who r.tag t past).taken r.xid.0) (nat_eq (slot_at r.who r.tag t past).taken r.xid.0) refl
   served_ok z past n from m v = tt
 
   reached_ok : (past : List Line) (c n : ℕ) (m : Message) → Later past there → MayReach head past there t c n m → AllOk head past there (row head past there (Target t) (Comes n (Client c) m))
