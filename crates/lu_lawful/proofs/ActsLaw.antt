@@ -166,7 +166,7 @@ hears_more l past c x h = by l.entry
     by (Heard t f r) = inr h
     by _ = h
 
-hears_on : (l : Line) (past : List Line) (c x : ℕ) → Hears (only 0 past) c x → Hears (only 0 (l ∷ past)) c x
+pub hears_on : (l : Line) (past : List Line) (c x : ℕ) → Hears (only 0 past) c x → Hears (only 0 (l ∷ past)) c x
 hears_on l past c x h = cond_both (concerns 0 l.at.node l.entry) (l ∷ only 0 past) (only 0 past) (λ (p : List Line). Hears p c x) (λ t. hears_more l (only 0 past) c x h) (λ t. h)
 
 heard_hears : (head : Head) (past : List Line) → Grown head past → (at : At) (c x : ℕ) → at.node ≡ Client c → heard_in (printed past) at ≡ Some x → Hears (only 0 past) c x

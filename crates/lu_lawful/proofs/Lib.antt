@@ -18,4 +18,9 @@ pub mod HistoryLaw
 pub mod LocksLaw
 pub mod SilentLaw
 pub mod GlimpseLaw
+pub mod OrderlyQuiet
+pub mod OrderlySaid
+pub mod OrderlyAsked
+pub mod OrderlyAgain
+pub mod OrderlyWhole
 pub mod Whole

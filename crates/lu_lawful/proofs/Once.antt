@@ -51,8 +51,8 @@ waits_asked head (l ∷ past) r g i = by l.at.node l.entry g.0 i (waits_asked he
     by (Client c) (Act d) k i h = absurd k.ok
     by (Client c) (Made d) k i h = absurd k.ok
     by (Target t) (Enters q) k i h =
-        let ok = k.of 0 (about_it t k.ok) in
-        let was = subst (λ (v : ℕ). Was past (Client ok.from) (Target v) (message.Request q)) k.ok (was_back 0 past (Client ok.from) (Target t) (message.Request q) ok.was) in
+        let ok = k.of 0 (about_it t k.ok.0) in
+        let was = subst (λ (v : ℕ). Was past (Client ok.from) (Target v) (message.Request q)) k.ok.0 (was_back 0 past (Client ok.from) (Target t) (message.Request q) ok.was) in
         let at = line (turn l.at.stamp (Target t)) (Enters q) in
         cond_both (nat_eq 0 t) (waiting_at 0 past ++ q ∷ []) (waiting_at 0 past) (λ (v : List RequestOf). In r v → WasAsked (at ∷ past) r)
         (λ e j. ⊎_elim

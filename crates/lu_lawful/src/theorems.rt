@@ -10,6 +10,7 @@ ghost use Rattle.lu_laws.specs.Laws.Recovery.{Recovery};
 ghost use Rattle.lu_laws.specs.Laws.History.{History, HistoryOf};
 ghost use Rattle.lu_laws.specs.Laws.Glimpse.{Glimpse};
 ghost use Rattle.lu_laws.specs.Lawful.{Lawful};
+ghost use Rattle.lu_laws.specs.Orderly.{Orderly};
 ghost use Rattle.lu_lawful.specs.Everywhere.{OfEveryRun, OfAllThatFit};
 
 /// The printed trace of every covered run is lawful, whatever the network loses, repeats or reorders: for every
@@ -28,4 +29,12 @@ pub fn every_run_is_lawful()
     ensures lawful { OfEveryRun (λ osts whole. Lawful osts whole) }
     ensures acts_of { OfAllThatFit (λ out lost osts whole. Holds (ActsOf out lost whole) whole) }
     ensures history_of { OfAllThatFit (λ out lost osts whole. Holds (HistoryOf out lost osts) whole) }
+{}
+
+/// The printed trace of every covered run has no line without its cause, as far as `Orderly` says: what acts was asked for
+/// and has the answer of the contents, what a target sends carries its boot and what it has committed, what is heard was
+/// in flight, and a reply that is sent again is as it was. No covered run has the other lines that it speaks of: boots,
+/// new lives, locks, and what a recovery hands out.
+pub fn every_run_is_orderly()
+    ensures orderly { OfEveryRun (λ osts whole. Orderly osts whole) }
 {}

@@ -1,0 +1,203 @@
+-- What every covered run keeps of replies that are sent again: they answer a request that was taken again, and are as the
+-- last reply to it was.
+use Rattle.std.proofs.Common.{◌≡◌, ℕ, ◌+◌, Bool, true, false, List, [], ◌∷◌, Option, Some, None, ◌⊎◌, inl, inr, ⊎_elim, refl, sym, subst, ap, ◌∙◌}
+use Rattle.std.specs.Prelude.{nat_eq, ◌&&◌, ◌||◌, if◌then◌else◌}
+use Rattle.std.specs.List.{list_any}
+use Rattle.std.proofs.lemmas.Bool.{and_parts, cond_both, eqb-true}
+use Rattle.lu_base.specs.declared.ids.At.{At}
+use Rattle.lu_base.specs.declared.ids.Node.{Node}
+use Rattle.lu_base.specs.declared.ids.Node.TheVariants.{Client, Target}
+use Rattle.lu_base.specs.declared.ids.Stamp.{Stamp}
+use Rattle.lu_base.specs.declared.ids.Who.{Who}
+use Rattle.lu_base.specs.declared.ids.Xid.{Xid}
+use Rattle.lu_msg.specs.declared.messages.Message.{Message}
+use Rattle.lu_msg.specs.declared.messages.Message.TheVariants as message
+use Rattle.lu_msg.specs.declared.messages.Reply.{Reply as ReplyTo}
+use Rattle.lu_trace.specs.declared.entries.Line.{Line as PrintedLine}
+use Rattle.lu_machine.specs.Tree.{same_life}
+use Rattle.lu_words.specs.Carried.{Deed}
+use Rattle.lu_words.specs.Words.{Entry, Send, Take, Act, Txn as Made, Grant, Line, line}
+use Rattle.lu_words.specs.Concerns.{only}
+use Rattle.lu_words.specs.Sent.{count_sent}
+use Rattle.lu_words.specs.Printed.{printed}
+use Rattle.lu_covered.specs.Runs.{Head}
+use Rattle.lu_laws.specs.Holds.{Holds}
+use Rattle.lu_laws.specs.Words.Pasts.{same_turn, or_else}
+use Rattle.lu_laws.specs.Words.Sends.{Sending, taken}
+use Rattle.lu_laws.specs.Laws.Recovery.{is_size_for, is_executed}
+use Rattle.lu_laws.specs.Order.Repeated.{last_reply, asks, took_request, SameReply, Repeats, RepeatedAt, RepeatedBy, Repeated}
+use Rattle.lu_laws.proofs.Tests.{either_left}
+use Rattle.lu_guards.proofs.Guards.{Did, TookNow, Taken, RepliesNow, RepliesAgain, ReplyOk, Answers, Owes, Allowed, Grown}
+use Rattle.lu_guards.proofs.Lists.{self, life_is}
+use Rattle.lu_facts.proofs.Groups.{turn, Acted}
+use Rattle.lu_facts.proofs.All.{holds}
+use Rattle.lu_facts.proofs.Sides.{acted_only}
+use Rattle.lu_lawful.proofs.Turns.{same_turn_self, same_life_self}
+use Rattle.lu_lawful.proofs.Story.{about_it, acted_whole}
+use Rattle.lu_lawful.proofs.Lines.{Keeps, holds_before}
+use Rattle.lu_lawful.proofs.OrderlyQuiet.{Says}
+use Rattle.lu_lawful.proofs.OrderlySaid.{takes_it}
+
+-- ---- the last reply to each request
+
+-- it is the reply to what was done, but for boot and committed number
+abbrev IsLast : List Line → Deed → Type 0
+IsLast past d = (k : ReplyTo) × (last_reply 0 d.reply.who d.reply.xid.0 (printed past) ≡ Some k) × SameReply d.reply k
+
+-- what was done was answered, but for what was just done
+abbrev pub AllAnswered : List Line → Type 0
+AllAnswered past = (d : Deed) → Acted past d → Did past d ⊎ IsLast past d
+
+did_owes : (past : List Line) (at : At) (d : Deed) (e : Entry) → Did past d → Owes past at e → Answers at d e
+did_owes [] at d e i o = absurd i
+did_owes (l ∷ past) at d e i o = by l.entry i o (did_owes past at d e)
+  where
+    by : (x : Entry) → Did (line l.at x ∷ past) d → Owes (line l.at x ∷ past) at e → (Did past d → Owes past at e → Answers at d e) → Answers at d e
+    by (Act f) i o h = subst (λ (v : Deed). Answers at v e) i o
+    by (Made f) i o h = subst (λ (v : Deed). Answers at v e) i o
+    by (Grant lock asked) i o h = h i o
+    by _ i o h = absurd i
+
+-- a reply to that request, or to another one
+replied : (past : List Line) (d : Deed) (k : ReplyTo) (b : Bool) → (b ≡ true → SameReply d.reply k) → IsLast past d
+    → (j : ReplyTo) × (or_else (if b then Some k else None) (last_reply 0 d.reply.who d.reply.xid.0 (printed past)) ≡ Some j) × SameReply d.reply j
+replied past d k true same last = (k, refl, same refl)
+replied past d k false same last = last
+
+-- the reply to what was just done
+replied_now : (past : List Line) (d : Deed) (k : ReplyTo) (b : Bool) → b ≡ true → k ≡ d.reply
+    → (j : ReplyTo) × (or_else (if b then Some k else None) (last_reply 0 d.reply.who d.reply.xid.0 (printed past)) ≡ Some j) × SameReply d.reply j
+replied_now past d k true e is = (k, refl, subst (λ (v : ReplyTo). SameReply v k) is (record { number = refl; seen = refl; turn = refl; locks = refl; answer = refl }))
+replied_now past d k false e is = absurd (cc)
+
+-- a kept reply to the request of a deed is that deed's
+same_deed : (head : Head) (past : List Line) (c : ℕ) (k : ReplyTo) (d : Deed) → Grown head past → ReplyOk head.osts (only 0 past) c k → Acted past d → (same_life k.who d.reply.who && nat_eq k.xid.0 d.reply.xid.0) ≡ true → SameReply d.reply k
+same_deed head past c k d g ok a e =
+    let h = ((holds head past g).at 0).done in
+    let f = h.kept ok.who ok.tag ok.kept ok.slot in
+    let p = and_parts (same_life k.who d.reply.who) (nat_eq k.xid.0 d.reply.xid.0) e in
+    let who : f.0.reply.who ≡ d.reply.who = ap (λ (v : ReplyTo). v.who) f.2 ∙ sym (ap (λ (v : ReplyTo). v.who) ok.is) ∙ life_is k.who d.reply.who p.0 in
+    let xid : f.0.reply.xid ≡ d.reply.xid = ap (λ (v : ReplyTo). v.xid) f.2 ∙ sym (ap (λ (v : ReplyTo). v.xid) ok.is) ∙ ap numbered (eqb-true k.xid.0 d.reply.xid.0 p.1) in
+    let same : f.0 ≡ d = h.once f.0 d f.1 (acted_only head past d g a) who xid in
+    let kept : d.reply ≡ ok.kept = ap (λ (v : Deed). v.reply) (sym same) ∙ f.2 in
+    record {
+      number = ap (λ (v : ReplyTo). v.txn) kept ∙ sym (ap (λ (v : ReplyTo). v.txn) ok.is);
+      seen = ap (λ (v : ReplyTo). v.seen) kept ∙ sym (ap (λ (v : ReplyTo). v.seen) ok.is);
+      turn = ap (λ (v : ReplyTo). v.at) kept ∙ sym (ap (λ (v : ReplyTo). v.at) ok.is);
+      locks = ap (λ (v : ReplyTo). v.locks) kept ∙ sym (ap (λ (v : ReplyTo). v.locks) ok.is);
+      answer = ap (λ (v : ReplyTo). v.answer) kept ∙ sym (ap (λ (v : ReplyTo). v.answer) ok.is);
+    }
+  where
+    numbered : ℕ → Xid
+    numbered n = record { 0 = n }
+
+sends_reply : (head : Head) (past : List Line) (stamp : Stamp) (c : ℕ) (k : ReplyTo) → Allowed head past (turn stamp (Target 0)) (Send (Client c) (message.Reply k)) → Grown head past → AllAnswered past → (d : Deed) → Acted past d
+    → IsLast (line (turn stamp (Target 0)) (Send (Client c) (message.Reply k)) ∷ past) d
+sends_reply head past stamp c k a g h d i = ⊎_elim
+    (λ (did : Did past d).
+    let pays = did_owes past (turn stamp (Target 0)) d (Send (Client c) (message.Reply k)) did a.owes in
+    let own : (same_life k.who d.reply.who && nat_eq k.xid.0 d.reply.xid.0) ≡ true = subst (λ (v : ReplyTo). (same_life k.who v.who && nat_eq k.xid.0 v.xid.0) ≡ true) pays.0 (its_own k) in
+    replied_now past d k (same_life k.who d.reply.who && nat_eq k.xid.0 d.reply.xid.0) own pays.0)
+    (λ (last : IsLast past d). replied past d k (same_life k.who d.reply.who && nat_eq k.xid.0 d.reply.xid.0) (same_deed head past c k d g (a.of 0 refl) i) last)
+    (h d i)
+  where
+    its_own : (k : ReplyTo) → (same_life k.who k.who && nat_eq k.xid.0 k.xid.0) ≡ true
+    its_own k = rw (same_life_self k.who, self k.xid.0) refl
+
+keeps_answered : (head : Head) (past : List Line) (stamp : Stamp) (node : Node) (e : Entry) → Allowed head past (turn stamp node) e → Grown head past → AllAnswered past → AllAnswered (line (turn stamp node) e ∷ past)
+keeps_answered head past stamp (Target t) (Send (Client c) (message.Reply k)) a g h d i =
+    subst (λ (v : ℕ). AllAnswered (line (turn stamp (Target v)) (Send (Client c) (message.Reply k)) ∷ past)) (sym a.ok.0)
+    (λ d i. inr (sends_reply head past stamp c k (subst (λ (v : ℕ). Allowed head past (turn stamp (Target v)) (Send (Client c) (message.Reply k))) a.ok.0 a) g h d i)) d i
+keeps_answered head past stamp (Target t) (Send to m) a g h d i = absurd a.ok
+keeps_answered head past stamp (Client c) (Send (Target t) (message.Request r)) a g h d i =
+    ⊎_elim (λ (did : Did past d). absurd (did_owes past (turn stamp (Client c)) d (Send (Target t) (message.Request r)) did a.owes)) (λ (last : IsLast past d). inr last) (h d i)
+keeps_answered head past stamp (Client c) (Send to m) a g h d i = absurd a.ok
+keeps_answered head past stamp (Client c) (Act e) a g h d i = absurd a.ok
+keeps_answered head past stamp (Client c) (Made e) a g h d i = absurd a.ok
+keeps_answered head past stamp (Target t) (Act e) a g h d i = ⊎_elim
+    (λ (same : e ≡ d). inl same)
+    (λ (b : Acted past d). ⊎_elim (λ (did : Did past d). absurd (did_owes past (turn stamp (Target t)) d (Act e) did a.owes)) (λ (last : IsLast past d). inr last) (h d b))
+    i
+keeps_answered head past stamp (Target t) (Made e) a g h d i = ⊎_elim
+    (λ (same : e ≡ d). inl same)
+    (λ (b : Acted past d). ⊎_elim (λ (did : Did past d). absurd (did_owes past (turn stamp (Target t)) d (Made e) did a.owes)) (λ (last : IsLast past d). inr last) (h d b))
+    i
+keeps_answered head past stamp (Client c) (Grant lock asked) a g h d i = absurd a.ok
+keeps_answered head past stamp (Target t) (Grant lock asked) a g h d i = absurd a.ok
+keeps_answered head past stamp node e a g h d i = ⊎_elim (λ (did : Did past d). absurd (did_owes past (turn stamp node) d e did a.owes)) (λ (last : IsLast past d). inr last) (h d i)
+
+pub all_answered : (head : Head) (past : List Line) → Grown head past → AllAnswered past
+all_answered head [] g d i = absurd i
+all_answered head (l ∷ past) g d i = keeps_answered head past l.at.stamp l.at.node l.entry g.0 g.1 (all_answered head past g.1) d i
+
+-- ---- the condition
+
+took_not_did : (past : List Line) (at : At) (from : Node) (m : Message) (d : Deed) → TookNow past at from m → Did past d → ⊥
+took_not_did [] at from m d t i = t
+took_not_did (l ∷ past) at from m d t i = by l.entry t i
+  where
+    by : (e : Entry) → TookNow (line l.at e ∷ past) at from m → Did (line l.at e ∷ past) d → ⊥
+    by (Take n sender msg) t i = i
+    by _ t i = t
+
+-- the request was taken again
+answers_again : (head : Head) (past : List Line) (at : At) (k : ReplyTo) → Grown head past → RepliesAgain past at 0 k → RepeatedAt (printed past) at 0 k
+answers_again head past at k g ok =
+    let q = ok.request in
+    let h = ((holds head past g).at 0).done in
+    let slot = h.slots q.who q.tag ok.kept ok.slot in
+    let who : q.who ≡ k.who = sym slot.0 ∙ sym (ap (λ (v : ReplyTo). v.who) ok.is) in
+    let xid : q.xid.0 ≡ k.xid.0 = sym ok.same ∙ sym slot.1 ∙ sym (ap (λ (v : ReplyTo). v.xid.0) ok.is) in
+    let took = takes_it head past at ok.took.0 (message.Request q) g ok.took.1 in
+    let its : (same_life q.who k.who && nat_eq q.xid.0 k.xid.0) ≡ true = subst (λ (v : Who). (same_life q.who v && nat_eq q.xid.0 k.xid.0) ≡ true) who (subst (λ (v : ℕ). (same_life q.who q.who && nat_eq q.xid.0 v) ≡ true) xid own) in
+    let d = h.kept q.who q.tag ok.kept ok.slot in
+    let dwho : d.0.reply.who ≡ k.who = ap (λ (v : ReplyTo). v.who) d.2 ∙ sym (ap (λ (v : ReplyTo). v.who) ok.is) in
+    let dxid : d.0.reply.xid.0 ≡ k.xid.0 = ap (λ (v : ReplyTo). v.xid.0) d.2 ∙ sym (ap (λ (v : ReplyTo). v.xid.0) ok.is) in
+    record {
+      asked = subst (λ (v : List Sending). list_any (λ s. asks k.who k.xid.0 s.message) v ≡ true) (sym took.1) (either_left (list_any (λ s. asks k.who k.xid.0 s.message) took.0) its);
+      same = ⊎_elim
+          (λ (did : Did past d.0). absurd (took_not_did past at ok.took.0 (message.Request q) d.0 ok.took.1 did))
+          (λ (last : IsLast past d.0).
+          let is : last_reply 0 k.who k.xid.0 (printed past) ≡ Some last.0 = subst (λ (v : Who). last_reply 0 v k.xid.0 (printed past) ≡ Some last.0) dwho (subst (λ (v : ℕ). last_reply 0 d.0.reply.who v (printed past) ≡ Some last.0) dxid last.1) in
+          subst (λ (o : Option ReplyTo). Repeats k o) (sym is)
+          (record {
+            number = ap (λ (v : ReplyTo). v.txn) (ok.is) ∙ ap (λ (v : ReplyTo). v.txn) (sym d.2) ∙ last.2.number;
+            seen = ap (λ (v : ReplyTo). v.seen) (ok.is) ∙ ap (λ (v : ReplyTo). v.seen) (sym d.2) ∙ last.2.seen;
+            turn = ap (λ (v : ReplyTo). v.at) (ok.is) ∙ ap (λ (v : ReplyTo). v.at) (sym d.2) ∙ last.2.turn;
+            locks = ap (λ (v : ReplyTo). v.locks) (ok.is) ∙ ap (λ (v : ReplyTo). v.locks) (sym d.2) ∙ last.2.locks;
+            answer = ap (λ (v : ReplyTo). v.answer) (ok.is) ∙ ap (λ (v : ReplyTo). v.answer) (sym d.2) ∙ last.2.answer;
+          }))
+          (all_answered head past g d.0 (acted_whole 0 past d.0 d.1));
+    }
+  where
+    own : (same_life ok.request.who ok.request.who && nat_eq ok.request.xid.0 ok.request.xid.0) ≡ true
+    own = rw (same_life_self ok.request.who, self ok.request.xid.0) refl
+
+-- a reply to what was just done is executed in its turn
+executed_now : (past : List Line) (at : At) (k : ReplyTo) → k.at ≡ at → is_executed (printed past) at k ≡ true
+executed_now past at k e = either_left (is_size_for k.who k.xid.0 (taken (printed past) at)) (subst (λ (v : At). same_turn k.at v ≡ true) e (same_turn_self k.at))
+
+reply_again : (head : Head) (past : List Line) (stamp : Stamp) (t c : ℕ) (k : ReplyTo) → Allowed head past (turn stamp (Target t)) (Send (Client c) (message.Reply k)) → Grown head past
+    → RepeatedBy (printed past) (turn stamp (Target t)) (Target t) (message.Reply k)
+reply_again head past stamp t c k a g =
+    let at = turn stamp (Target t) in
+    λ not_executed. ⊎_elim
+    (λ (f : (d : Deed) × Did past d × (d.reply ≡ a.ok.1.kept)).
+    let pays = did_owes past at f.0 (Send (Client c) (message.Reply k)) f.1 a.owes in
+    let e = executed_now past at k (ap (λ (v : ReplyTo). v.at) pays.0 ∙ pays.1) in
+    absurd (cc))
+    (λ (taken : Taken past).
+    subst (λ (v : ℕ). RepeatedAt (printed past) at v k) (sym a.ok.0) (answers_again head past at k g (subst (λ (v : ℕ). RepliesAgain past at v k) a.ok.0 (a.ok.2 taken))))
+    a.ok.1.now
+
+repeated_at : (head : Head) (past : List Line) (l : Line) (later : List PrintedLine) → Allowed head past l.at l.entry → Grown head past → Keeps Repeated past l later
+repeated_at head past l later a g = by l.at.node l.entry a
+  where
+    by : (node : Node) (e : Entry) → Allowed head past (turn l.at.stamp node) e → Says Repeated past (turn l.at.stamp node) later e
+    by (Target t) (Send (Client c) (message.Reply k)) a = reply_again head past l.at.stamp t c k a g
+    by (Target t) (Send to m) a = absurd a.ok
+    by (Client c) (Send to m) a = tt
+    by _ _ a = tt
+
+pub repeated : (head : Head) (past : List Line) → Grown head past → Holds Repeated (printed past)
+repeated head past g = holds_before head Repeated (λ past. Unit {0}) (λ l past k. k) (λ past l later a g k. repeated_at head past l later a g) past [] g tt

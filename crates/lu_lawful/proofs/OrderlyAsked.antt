@@ -1,0 +1,180 @@
+-- What every covered run keeps of requests: what acts was asked for since its target serves, and isn't answered yet.
+use Rattle.std.proofs.Common.{◌≡◌, ℕ, ◌+◌, Bool, true, false, List, [], ◌∷◌, ◌++◌, Option, Some, None, inl, inr, ⊎_elim, refl, sym, subst, ap, ◌∙◌}
+use Rattle.std.specs.Prelude.{nat_eq, not, ◌&&◌, ◌||◌, if◌then◌else◌, filter}
+use Rattle.std.specs.List.{list_any}
+use Rattle.std.specs.Option.{option_map}
+use Rattle.std.proofs.lemmas.Bool.{and_parts, cond_both, cond-true, eqb-true}
+use Rattle.lu_base.specs.declared.ids.At.{At}
+use Rattle.lu_base.specs.declared.ids.Node.{Node}
+use Rattle.lu_base.specs.declared.ids.Node.TheVariants.{Client, Target}
+use Rattle.lu_base.specs.declared.ids.Stamp.{Stamp}
+use Rattle.lu_base.specs.declared.ids.Who.{Who}
+use Rattle.lu_base.specs.declared.ids.Xid.{Xid}
+use Rattle.lu_msg.specs.declared.messages.Message.{Message}
+use Rattle.lu_msg.specs.declared.messages.Message.TheVariants as message
+use Rattle.lu_msg.specs.declared.messages.Reply.{Reply as ReplyTo}
+use Rattle.lu_msg.specs.declared.messages.Request.{Request as RequestOf}
+use Rattle.lu_trace.specs.declared.entries.Line.{Line as PrintedLine}
+use Rattle.lu_machine.specs.Tree.{same_life}
+use Rattle.lu_words.specs.Carried.{Deed}
+use Rattle.lu_words.specs.Words.{Entry, Send, Take, Act, Txn as Made, Boot, Close, Evict, Enters, Line, line}
+use Rattle.lu_words.specs.Concerns.{only}
+use Rattle.lu_words.specs.Sent.{count_sent, Sent}
+use Rattle.lu_words.specs.Printed.{printed}
+use Rattle.lu_covered.specs.TargetParts.{is_request_of, without_request}
+use Rattle.lu_covered.specs.TargetStates.{waiting_at, server_of}
+use Rattle.lu_covered.specs.Runs.{Head}
+use Rattle.lu_laws.specs.Holds.{Holds}
+use Rattle.lu_laws.specs.Words.Pasts.{is_target}
+use Rattle.lu_laws.specs.Words.Sends.{Sending, sending, message_of}
+use Rattle.lu_laws.specs.Words.Boots.{boot}
+use Rattle.lu_laws.specs.Order.Handed.{comes_to}
+use Rattle.lu_laws.specs.Order.Requests.{is_request, with_request, without_answered, unanswered, has_request, Requests}
+use Rattle.lu_laws.proofs.Tests.{either_left, either_right, settled}
+use Rattle.lu_guards.proofs.Guards.{In, TookNow, TookRequest, ReplyOk, EntersOk, Allowed, Grown}
+use Rattle.lu_guards.proofs.Lists.{self, in_append, in_filter, life_is}
+use Rattle.lu_guards.proofs.Parts.{waiting_is}
+use Rattle.lu_facts.proofs.Groups.{turn, Acted}
+use Rattle.lu_facts.proofs.All.{holds}
+use Rattle.lu_lawful.proofs.Turns.{same_life_self}
+use Rattle.lu_lawful.proofs.Story.{about_it}
+use Rattle.lu_lawful.proofs.Lines.{Keeps, holds_before}
+use Rattle.lu_lawful.proofs.Contents.{boot_is}
+use Rattle.lu_lawful.proofs.Printed.{sending_is}
+use Rattle.lu_lawful.proofs.OrderlyQuiet.{Says}
+use Rattle.lu_lawful.proofs.OrderlySaid.{any_left}
+
+-- a request is taken and not answered
+abbrev Unanswered : List Line → RequestOf → Type 0
+Unanswered past r = list_any (is_request r.who r.xid.0) (unanswered 0 (printed past)) ≡ true
+
+-- what waits is
+abbrev pub AllUnanswered : List Line → Type 0
+AllUnanswered past = (r : RequestOf) → In r (waiting_at 0 past) → Unanswered past r
+
+its_own : (r : RequestOf) → is_request r.who r.xid.0 r ≡ true
+its_own r = rw (same_life_self r.who, self r.xid.0) refl
+
+-- ---- a message is taken
+
+with_more : (p : RequestOf → Bool) (o : Option Message) (b : ℕ) (rs : List RequestOf) → list_any p rs ≡ true → list_any p (with_request o b rs) ≡ true
+with_more p (Some (message.Request q)) b rs h = cond_both (nat_eq q.boot b) (q ∷ rs) rs (λ (v : List RequestOf). list_any p v ≡ true) (λ t. either_right (p q) h) (λ t. h)
+with_more p _ b rs h = h
+
+with_it : (r : RequestOf) (b : ℕ) (rs : List RequestOf) → r.boot ≡ b → list_any (is_request r.who r.xid.0) (with_request (Some (message.Request r)) b rs) ≡ true
+with_it r b rs e =
+    subst (λ (v : List RequestOf). list_any (is_request r.who r.xid.0) v ≡ true) (sym (cond-true (nat_eq r.boot b) (r ∷ rs) rs (subst (λ (v : ℕ). nat_eq r.boot v ≡ true) e (self r.boot))))
+    (either_left (list_any (is_request r.who r.xid.0) rs) (its_own r))
+
+-- the request that the newest line took
+took_it : (head : Head) (past : List Line) (at : At) (from : Node) (r : RequestOf) → Grown head past → at.node ≡ Target 0 → r.boot ≡ 1 → TookNow past at from (message.Request r) → Unanswered past r
+took_it head [] at from r g n b t = absurd t
+took_it head (l ∷ past) at from r g n b t = by l.entry g.0 t
+  where
+    by : (e : Entry) → Allowed head past l.at e → TookNow (line l.at e ∷ past) at from (message.Request r) → Unanswered (line l.at e ∷ past) r
+    by (Take k sender m) a t =
+        let here : l.at.node ≡ Target 0 = ap (λ (v : At). v.node) t.0 ∙ n in
+        let is : message_of (printed past) k ≡ Some m = ap (λ (o : Option Sending). option_map (λ (s : Sending). s.message) o) (sending_is past k sender l.at.node m a.ok.sent) in
+        let comes : comes_to 0 (printed past) l.at.node k ≡ Some (message.Request r) =
+        ap (λ (v : Node). comes_to 0 (printed past) v k) here ∙ is ∙ ap (λ (v : Message). Some v) t.2
+        in
+        subst (λ (o : Option Message). list_any (is_request r.who r.xid.0) (with_request o (boot 0 (printed past)) (unanswered 0 (printed past))) ≡ true) (sym comes)
+        (with_it r (boot 0 (printed past)) (unanswered 0 (printed past)) (b ∙ sym (boot_is head past g.1)))
+    by _ a t = absurd t
+
+-- ---- a reply is sent
+
+-- what waits isn't what is answered
+stays : (head : Head) (past : List Line) (c : ℕ) (k : ReplyTo) (r : RequestOf) → Grown head past → ReplyOk head.osts (only 0 past) c k → In r (waiting_at 0 past) → (q : RequestOf) → is_request r.who r.xid.0 q ≡ true → not (is_request k.who k.xid.0 q) ≡ true
+stays head past c k r g ok i q e = settled (is_request k.who k.xid.0 q) (never (is_request k.who k.xid.0 q) other)
+  where
+    never : (b : Bool) → (b ≡ true → ⊥) → b ≡ false
+    never true n = absurd (n refl)
+    never false n = refl
+
+    numbered : ℕ → Xid
+    numbered n = record { 0 = n }
+
+    other : is_request k.who k.xid.0 q ≡ true → ⊥
+    other f =
+        let h = ((holds head past g).at 0).done in
+        let d = h.kept ok.who ok.tag ok.kept ok.slot in
+        let waits = h.waits r (subst (λ (v : List RequestOf). In r v) (waiting_is head.osts 0 past) i) in
+        let mine = and_parts (same_life q.who r.who) (nat_eq q.xid.0 r.xid.0) e in
+        let its = and_parts (same_life q.who k.who) (nat_eq q.xid.0 k.xid.0) f in
+        let who : d.0.reply.who ≡ r.who = ap (λ (v : ReplyTo). v.who) d.2 ∙ sym (ap (λ (v : ReplyTo). v.who) ok.is) ∙ sym (life_is q.who k.who its.0) ∙ life_is q.who r.who mine.0 in
+        let xid : d.0.reply.xid ≡ r.xid = ap (λ (v : ReplyTo). v.xid) d.2 ∙ sym (ap (λ (v : ReplyTo). v.xid) ok.is) ∙ ap numbered (sym (eqb-true q.xid.0 k.xid.0 its.1) ∙ eqb-true q.xid.0 r.xid.0 mine.1) in
+        waits.new d.0 d.1 who xid
+
+-- ---- each line keeps it
+
+acted_fewer : (past : List Line) (at : At) (e : Entry) (d : Deed) (own : Bool) (r : RequestOf) → ((r : RequestOf) → In r (waiting_at 0 past) → Unanswered past r) → In r (if own then without_request d (waiting_at 0 past) else waiting_at 0 past) → Unanswered past r
+acted_fewer past at e d true r h i = h r (in_filter (λ (q : RequestOf). not (is_request_of d q)) r (waiting_at 0 past) i).0
+acted_fewer past at e d false r h i = h r i
+
+entered : (head : Head) (past : List Line) (stamp : Stamp) (t : ℕ) (q : RequestOf) → Allowed head past (turn stamp (Target t)) (Enters q) → Grown head past → Unanswered past q
+entered head past stamp t q a g =
+    let ok = a.of 0 (about_it t a.ok.0) in
+    let m = ((holds head past g).at 0).done.sent (Client ok.from) (Target t) (message.Request q) ok.was in
+    took_it head past (turn stamp (Target t)) a.ok.1.0 q g (ap Target a.ok.0) (ap (λ (v : RequestOf). v.boot) m.2) a.ok.1.1
+
+keeps_unanswered : (head : Head) (past : List Line) (stamp : Stamp) (node : Node) (e : Entry) → Allowed head past (turn stamp node) e → Grown head past → AllUnanswered past → AllUnanswered (line (turn stamp node) e ∷ past)
+keeps_unanswered head past stamp node (Take n from m) a g h r i = with_more (is_request r.who r.xid.0) (comes_to 0 (printed past) node n) (boot 0 (printed past)) (unanswered 0 (printed past)) (h r i)
+keeps_unanswered head past stamp (Client c) (Send to m) a g h r i = h r i
+keeps_unanswered head past stamp (Target t) (Send (Client c) (message.Reply k)) a g h r i =
+    let ok = a.of 0 (about_it t a.ok.0) in
+    cond_both (is_target 0 (Target t)) (without_answered (message.Reply k) (unanswered 0 (printed past))) (unanswered 0 (printed past)) (λ (v : List RequestOf). list_any (is_request r.who r.xid.0) v ≡ true)
+    (λ e. any_left (is_request r.who r.xid.0) (λ (q : RequestOf). not (is_request k.who k.xid.0 q)) (unanswered 0 (printed past)) (stays head past c k r g ok i) (h r i))
+    (λ e. h r i)
+keeps_unanswered head past stamp (Target t) (Send to m) a g h r i = absurd a.ok
+keeps_unanswered head past stamp (Client c) (Enters q) a g h r i = absurd a.ok
+keeps_unanswered head past stamp (Target t) (Enters q) a g h r i =
+    cond_both (nat_eq 0 t) (waiting_at 0 past ++ q ∷ []) (waiting_at 0 past) (λ (v : List RequestOf). In r v → Unanswered past r)
+    (λ e j. ⊎_elim
+    (λ (w : In r (waiting_at 0 past)). h r w)
+    (λ (w : In r (q ∷ [])). ⊎_elim (λ (s : q ≡ r). subst (λ (v : RequestOf). Unanswered past v) s (entered head past stamp t q a g)) (λ (v : ⊥). absurd v) w)
+    (in_append r (waiting_at 0 past) (q ∷ []) j))
+    (λ e j. h r j)
+    i
+keeps_unanswered head past stamp (Client c) (Act d) a g h r i = absurd a.ok
+keeps_unanswered head past stamp (Client c) (Made d) a g h r i = absurd a.ok
+keeps_unanswered head past stamp (Target t) (Act d) a g h r i = acted_fewer past (turn stamp (Target t)) (Act d) d (nat_eq 0 t) r h i
+keeps_unanswered head past stamp (Target t) (Made d) a g h r i = acted_fewer past (turn stamp (Target t)) (Made d) d (nat_eq 0 t) r h i
+keeps_unanswered head past stamp (Client c) (Boot b disk) a g h r i = absurd a.ok
+keeps_unanswered head past stamp (Target t) (Boot b disk) a g h r i = absurd a.ok
+keeps_unanswered head past stamp (Client c) (Close outcome) a g h r i = absurd a.ok
+keeps_unanswered head past stamp (Target t) (Close outcome) a g h r i = absurd a.ok
+keeps_unanswered head past stamp (Client c) (Evict who cause) a g h r i = absurd a.ok
+keeps_unanswered head past stamp (Target t) (Evict who cause) a g h r i = absurd a.ok
+keeps_unanswered head past stamp _ _ a g h r i = h r i
+
+pub all_unanswered : (head : Head) (past : List Line) → Grown head past → AllUnanswered past
+all_unanswered head [] g r i = absurd i
+all_unanswered head (l ∷ past) g r i = keeps_unanswered head past l.at.stamp l.at.node l.entry g.0 g.1 (all_unanswered head past g.1) r i
+
+-- ---- the condition
+
+acts_asked : (head : Head) (past : List Line) (t : ℕ) (d : Deed) (r : RequestOf) → Grown head past → t ≡ 0 → In r (server_of head.osts (only 0 past)).waiting → r.who ≡ d.reply.who → r.xid ≡ d.reply.xid
+    → has_request (printed past) (Target t) d.reply.who d.reply.xid.0 ≡ true
+acts_asked head past t d r g z i w x =
+    subst (λ (v : ℕ). has_request (printed past) (Target v) d.reply.who d.reply.xid.0 ≡ true) (sym z)
+    (subst (λ (v : Who). has_request (printed past) (Target 0) v d.reply.xid.0 ≡ true) w
+    (subst (λ (v : Xid). has_request (printed past) (Target 0) r.who v.0 ≡ true) x
+    (all_unanswered head past g r (subst (λ (v : List RequestOf). In r v) (sym (waiting_is head.osts 0 past)) i))))
+
+requests_at : (head : Head) (past : List Line) (l : Line) (later : List PrintedLine) → Allowed head past l.at l.entry → Grown head past → Keeps Requests past l later
+requests_at head past l later a g = by l.at.node l.entry a
+  where
+    by : (node : Node) (e : Entry) → Allowed head past (turn l.at.stamp node) e → Says Requests past (turn l.at.stamp node) later e
+    by (Client c) (Act d) k = absurd k.ok
+    by (Client c) (Made d) k = absurd k.ok
+    by (Target t) (Act d) k =
+        let ok = k.of 0 (about_it t k.ok) in
+        acts_asked head past t d ok.request g k.ok ok.waits (ap (λ (v : Deed). v.reply.who) (sym ok.is)) (ap (λ (v : Deed). v.reply.xid) (sym ok.is))
+    by (Target t) (Made d) k =
+        let ok = k.of 0 (about_it t k.ok) in
+        acts_asked head past t d ok.request g k.ok ok.waits (ap (λ (v : Deed). v.reply.who) (sym ok.is)) (ap (λ (v : Deed). v.reply.xid) (sym ok.is))
+    by _ _ k = tt
+
+pub requests : (head : Head) (past : List Line) → Grown head past → Holds Requests (printed past)
+requests head past g = holds_before head Requests (λ past. Unit {0}) (λ l past k. k) (λ past l later a g k. requests_at head past l later a g) past [] g tt

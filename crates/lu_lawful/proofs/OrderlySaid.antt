@@ -1,0 +1,277 @@
+-- What every covered run keeps of what is said: messages carry the boot and the committed number of their target, what is
+-- heard was in flight, and what acts has the answer of the contents.
+use Rattle.std.proofs.Common.{◌≡◌, ℕ, ◌+◌, Bool, true, false, List, [], ◌∷◌, Option, Some, None, ◌⊎◌, inl, inr, ⊎_elim, refl, sym, subst, ap, ◌∙◌, arith}
+use Rattle.std.specs.Prelude.{nat_eq, not, ◌&&◌, ◌||◌, if◌then◌else◌, is_some, filter}
+use Rattle.std.specs.List.{list_any}
+use Rattle.std.proofs.lemmas.Bool.Decides.{nat_tests}
+use Rattle.std.proofs.lemmas.Bool.{and_parts, cond_both, cond-true, eqb-true}
+use Rattle.lu_base.specs.declared.ids.At.{At}
+use Rattle.lu_base.specs.declared.ids.Node.{Node}
+use Rattle.lu_base.specs.declared.ids.Node.TheVariants.{Client, Target}
+use Rattle.lu_base.specs.declared.ids.Stamp.{Stamp}
+use Rattle.lu_base.specs.declared.ids.Txn.{Txn as TxnOf}
+use Rattle.lu_base.specs.declared.ids.Who.{Who}
+use Rattle.lu_base.specs.declared.ids.Xid.{Xid}
+use Rattle.lu_msg.specs.declared.messages.Message.{Message}
+use Rattle.lu_msg.specs.declared.messages.Message.TheVariants as message
+use Rattle.lu_msg.specs.declared.messages.Reply.{Reply as ReplyTo}
+use Rattle.lu_msg.specs.declared.messages.Request.{Request as RequestOf}
+use Rattle.lu_msg.specs.declared.operations.Op.{Op}
+use Rattle.lu_trace.specs.declared.entries.Line.{Line as PrintedLine}
+use Rattle.lu_machine.specs.Tree.{Tree, same_life}
+use Rattle.lu_machine.specs.Footprint.{Operation, answer, changes}
+use Rattle.lu_words.specs.Carried.{Deed, Flight}
+use Rattle.lu_words.specs.Words.{Entry, Send, Take, Heard as Hears_, Act, Txn as Made, Line, line}
+use Rattle.lu_words.specs.Concerns.{only}
+use Rattle.lu_words.specs.Sent.{count_sent}
+use Rattle.lu_words.specs.Printed.{printed}
+use Rattle.lu_covered.specs.TargetParts.{operation}
+use Rattle.lu_covered.specs.TargetStates.{server_at}
+use Rattle.lu_covered.specs.Calls.{first_life}
+use Rattle.lu_covered.specs.Runs.{Head}
+use Rattle.lu_laws.specs.Holds.{Holds}
+use Rattle.lu_laws.specs.Words.Pasts.{same_turn, or_else}
+use Rattle.lu_laws.specs.Words.Sends.{Sending, sending, with_taken, taken, as_reply, first_fit, reply_in}
+use Rattle.lu_laws.specs.Words.Lives.{who_is, is_by}
+use Rattle.lu_laws.specs.Words.Requests.{asked, is_of, has_heard, has_number, without_number, in_flight}
+use Rattle.lu_laws.specs.Words.Standing.{contents}
+use Rattle.lu_laws.specs.Order.Messages.{MessageAt, Messages}
+use Rattle.lu_laws.specs.Order.Heard.{HeardAt, Heard}
+use Rattle.lu_laws.specs.Order.Answers.{none, AnswerAt, AnswerOf, AnswerBy, Answers}
+use Rattle.lu_guards.proofs.Guards.{Was, TookNow, Allowed, Grown}
+use Rattle.lu_guards.proofs.Lists.{self}
+use Rattle.lu_facts.proofs.Groups.{turn, Hears}
+use Rattle.lu_facts.proofs.All.{holds}
+use Rattle.lu_lawful.proofs.Turns.{same_turn_self, same_life_self}
+use Rattle.lu_lawful.proofs.Story.{about_it, acted_whole}
+use Rattle.lu_lawful.proofs.Once.{acted_sent}
+use Rattle.lu_lawful.proofs.ActsLaw.{hears_on}
+use Rattle.lu_laws.proofs.Tests.{settled, either_left, either_right}
+use Rattle.lu_lawful.proofs.Lines.{Keeps, holds_before, Nothing}
+use Rattle.lu_lawful.proofs.Facts.{AskedAt, AllAsked}
+use Rattle.lu_lawful.proofs.Contents.{boot_is, committed_is, life_stays, contents_are, asked_before}
+use Rattle.lu_lawful.proofs.Deeds.{ActIs, TxnIs, act_is, txn_is}
+use Rattle.lu_lawful.proofs.Printed.{sending_is}
+use Rattle.lu_lawful.proofs.OrderlyQuiet.{Says}
+
+-- ---- what messages carry
+
+reply_carries : (head : Head) (past : List Line) (stamp : Stamp) (t c : ℕ) (r : ReplyTo) → Allowed head past (turn stamp (Target t)) (Send (Client c) (message.Reply r)) → Grown head past → MessageAt (printed past) t (message.Reply r)
+reply_carries head past stamp t c r a g =
+    let ok = a.of 0 (about_it t a.ok.0) in
+    let phase = ((holds head past g).at 0).phase in
+    let b : r.boot ≡ 1 = ap (λ (v : ReplyTo). v.boot) ok.is ∙ phase.boot in
+    let n : r.committed.0 ≡ 0 = ap (λ (v : ReplyTo). v.committed.0) ok.is ∙ ap (λ (v : TxnOf). v.0) phase.committed in
+    subst (λ (v : ℕ). MessageAt (printed past) v (message.Reply r)) (sym a.ok.0) (record { present = ap (λ (v : ℕ). Some v) (b ∙ sym (boot_is head past g)); number = n ∙ sym (committed_is head past g) })
+
+messages_at : (head : Head) (past : List Line) (l : Line) (later : List PrintedLine) → Allowed head past l.at l.entry → Grown head past → Keeps Messages past l later
+messages_at head past l later a g = by l.at.node l.entry a
+  where
+    by : (node : Node) (e : Entry) → Allowed head past (turn l.at.stamp node) e → Says Messages past (turn l.at.stamp node) later e
+    by (Client c) (Send to m) k = tt
+    by (Target t) (Send (Client c) (message.Reply r)) k = reply_carries head past l.at.stamp t c r k g
+    by (Target t) (Send (Client c) m) k = absurd k.ok
+    by (Target t) (Send (Target u) m) k = absurd k.ok
+    by _ _ k = tt
+
+pub messages : (head : Head) (past : List Line) → Grown head past → Holds Messages (printed past)
+messages head past g = holds_before head Messages Nothing (λ l past k. k) (λ past l later a g k. messages_at head past l later a g) past [] g tt
+
+-- ---- what a turn took
+
+-- the message that the newest line took
+pub takes_it : (head : Head) (past : List Line) (at : At) (from : Node) (m : Message) → Grown head past → TookNow past at from m → (rest : List Sending) × (taken (printed past) at ≡ record { from = from; to = at.node; message = m } ∷ rest)
+takes_it head [] at from m g t = absurd t
+takes_it head (l ∷ past) at from m g t = by l.entry g.0 t
+  where
+    by : (e : Entry) → Allowed head past l.at e → TookNow (line l.at e ∷ past) at from m → (rest : List Sending) × (taken (printed (line l.at e ∷ past)) at ≡ record { from = from; to = at.node; message = m } ∷ rest)
+    by (Take n sender msg) k t =
+        let now : same_turn l.at at ≡ true = subst (λ (v : At). same_turn l.at v ≡ true) t.0 (same_turn_self l.at) in
+        let is = sending_is past n sender l.at.node msg k.ok.sent in (
+          taken (printed past) at,
+          cond-true (same_turn l.at at) (with_taken (sending (printed past) n) (taken (printed past) at)) (taken (printed past) at) now
+              ∙ ap (λ (o : Option Sending). with_taken o (taken (printed past) at)) is
+              ∙ ap (λ (v : Node). taking v l.at.node msg) t.1
+              ∙ ap (λ (v : At). taking from v.node msg) t.0
+              ∙ ap (λ (v : Message). taking from at.node v) t.2,
+        )
+      where
+        taking : (from to : Node) → Message → List Sending
+        taking from to m = record { from = from; to = to; message = m } ∷ taken (printed past) at
+    by _ k t = absurd t
+
+-- ---- what is heard
+
+-- elements that pass one test stay where those that fail another go
+pub any_left : {A : Type 0} (p q : A → Bool) (xs : List A) → ((x : A) → p x ≡ true → q x ≡ true) → list_any p xs ≡ true → list_any p (filter q xs) ≡ true
+any_left p q [] stay h = h
+any_left p q (x ∷ xs) stay h = by (p x) refl h (any_left p q xs stay)
+  where
+    by : (b : Bool) → p x ≡ b → (b || list_any p xs) ≡ true → (list_any p xs ≡ true → list_any p (filter q xs) ≡ true) → list_any p (filter q (x ∷ xs)) ≡ true
+    by true e h left = subst (λ ys. list_any p ys ≡ true) (sym (cond-true (q x) (x ∷ filter q xs) (filter q xs) (stay x e))) (either_left (list_any p (filter q xs)) e)
+    by false e h left = cond_both (q x) (x ∷ filter q xs) (filter q xs) (λ ys. list_any p ys ≡ true) (λ t. either_right (p x) (left h)) (λ t. left h)
+
+-- a number is in flight, or its reply was heard
+abbrev FlownOr : List Line → ℕ → ℕ → Type 0
+FlownOr past c x = (has_number x (in_flight 0 (first_life c) (printed past)) || has_heard 0 (first_life c) x (printed past)) ≡ true
+
+module _ (flight : List RequestOf) (heard : Bool) (x : ℕ) where
+  or_more : (a b : Bool) → (b || heard) ≡ true → ((a || b) || heard) ≡ true
+  or_more true b h = refl
+  or_more false b h = h
+
+  -- one more is sent
+  asked_more : (b : Bool) (q : RequestOf) → (has_number x flight || heard) ≡ true → (has_number x (if b then q ∷ flight else flight) || heard) ≡ true
+  asked_more b q h = cond_both b (q ∷ flight) flight (λ (fs : List RequestOf). (has_number x fs || heard) ≡ true) (λ t. or_more (nat_eq q.xid.0 x) (has_number x flight) h) (λ t. h)
+
+  -- it is sent itself
+  asked_now : (r : RequestOf) → r.xid.0 ≡ x → (o a : Bool) → o ≡ true → has_number x flight ≡ a → (b : Bool) → (has_number x (if o && not a && not b then r ∷ flight else flight) || b) ≡ true
+  asked_now r e true true is n b = either_left b n
+  asked_now r e true false is n true = either_right (has_number x flight) refl
+  asked_now r e true false is n false = either_left false (either_left (has_number x flight) (subst (λ (v : ℕ). nat_eq r.xid.0 v ≡ true) e (self r.xid.0)))
+  asked_now r e false a is n b = absurd (cc)
+
+  -- one is heard
+  heard_more : (y : ℕ) (a b : Bool) → nat_eq y x ≡ b → (has_number x flight || heard) ≡ true → (has_number x (if a then without_number y flight else flight) || ((a && b) || heard)) ≡ true
+  heard_more y false b e h = h
+  heard_more y true true e h = either_right (has_number x (without_number y flight)) refl
+  heard_more y true false e h = by (has_number x flight) refl h
+    where
+      other : (r : RequestOf) → nat_eq r.xid.0 x ≡ true → not (nat_eq r.xid.0 y) ≡ true
+      other r s = let k = eqb-true r.xid.0 x s in settled (nat_eq r.xid.0 y) (grind (arith, nat_tests))
+
+      by : (v : Bool) → has_number x flight ≡ v → (v || heard) ≡ true → (has_number x (without_number y flight) || heard) ≡ true
+      by true n h = either_left heard (any_left (λ (r : RequestOf). nat_eq r.xid.0 x) (λ (r : RequestOf). not (nat_eq r.xid.0 y)) flight other n)
+      by false n h = either_right (has_number x (without_number y flight)) h
+
+sent_flies : (past : List Line) (c : ℕ) (r : RequestOf) (from : Node) → r.who ≡ first_life c → Was past from (Target 0) (message.Request r) → FlownOr past c r.xid.0
+sent_flies [] c r from w s = absurd s
+sent_flies (l ∷ past) c r from w s = by l.entry s (sent_flies past c r from w)
+  where
+    sends : (to : Node) (m : Message) → FlownOr past c r.xid.0 → FlownOr (line l.at (Send to m) ∷ past) c r.xid.0
+    sends to (message.Request q) h = asked_more (in_flight 0 (first_life c) (printed past)) (has_heard 0 (first_life c) r.xid.0 (printed past)) r.xid.0 _ q h
+    sends to _ h = h
+
+    now : FlownOr (line l.at (Send (Target 0) (message.Request r)) ∷ past) c r.xid.0
+    now =
+        let flight = in_flight 0 (first_life c) (printed past) in
+        let heard = has_heard 0 (first_life c) r.xid.0 (printed past) in
+        let mine : is_of 0 (first_life c) (Target 0) r ≡ true = subst (λ (v : Who). same_life r.who v ≡ true) w (same_life_self r.who) in
+        asked_now flight heard r.xid.0 r refl (is_of 0 (first_life c) (Target 0) r) (has_number r.xid.0 flight) mine refl heard
+
+    by : (e : Entry) → Was (line l.at e ∷ past) from (Target 0) (message.Request r) → (Was past from (Target 0) (message.Request r) → FlownOr past c r.xid.0) → FlownOr (line l.at e ∷ past) c r.xid.0
+    by (Send to m) s h = ⊎_elim
+        (λ (p : (l.at.node ≡ from) × (to ≡ Target 0) × (m ≡ message.Request r)).
+        subst (λ (v : Message). FlownOr (line l.at (Send to v) ∷ past) c r.xid.0) (sym p.2)
+        (subst (λ (v : Node). FlownOr (line l.at (Send v (message.Request r)) ∷ past) c r.xid.0) (sym p.1) now))
+        (λ (p : Was past from (Target 0) (message.Request r)). sends to m (h p))
+        s
+    by (Hears_ t f k) s h =
+        heard_more (in_flight 0 (first_life c) (printed past)) (has_heard 0 (first_life c) r.xid.0 (printed past)) r.xid.0 k.xid.0
+        (is_by (first_life c) (printed past) l.at.node && nat_eq t 0) (nat_eq k.xid.0 r.xid.0) refl (h s)
+    by _ s h = h s
+
+-- what a life heard, its client heard
+life_heard : (head : Head) (past : List Line) → Grown head past → (c x : ℕ) → has_heard 0 (first_life c) x (printed past) ≡ true → Hears (only 0 past) c x
+life_heard head [] g c x i = absurd (cc)
+life_heard head (l ∷ past) g c x i = by l.at.node l.entry g.0 i (life_heard head past g.1 c x)
+  where
+    here : (d t : ℕ) (f : Flight) (r : ReplyTo) → Allowed head past (turn l.at.stamp (Client d)) (Hears_ t f r) → (is_by (first_life c) (printed past) (Client d) && nat_eq t 0 && nat_eq r.xid.0 x) ≡ true
+        → Hears (only 0 (line (turn l.at.stamp (Client d)) (Hears_ t f r) ∷ past)) c x
+    here d t f r k p =
+        let a = and_parts (is_by (first_life c) (printed past) (Client d) && nat_eq t 0) _ p in
+        let b = and_parts (is_by (first_life c) (printed past) (Client d)) _ a.0 in
+        let o = and_parts (nat_eq d c) _ b.0 in
+        let y = (k.of 0 (about_it t k.ok.0)).xid in
+        subst (λ (v : ℕ). Hears (only 0 (line (turn l.at.stamp (Client d)) (Hears_ v f r) ∷ past)) c x) (sym k.ok.0) (inl (ap Client (eqb-true d c o.0), y ∙ eqb-true r.xid.0 x a.1))
+
+    by : (node : Node) (e : Entry) → Allowed head past (turn l.at.stamp node) e → has_heard 0 (first_life c) x (printed (line (turn l.at.stamp node) e ∷ past)) ≡ true → (has_heard 0 (first_life c) x (printed past) ≡ true → Hears (only 0 past) c x)
+        → Hears (only 0 (line (turn l.at.stamp node) e ∷ past)) c x
+    by (Target t) (Hears_ u f r) k i h = absurd k.ok
+    by (Client d) (Hears_ t f r) k i h = ⊎_elim
+        (λ (p : (is_by (first_life c) (printed past) (Client d) && nat_eq t 0 && nat_eq r.xid.0 x) ≡ true). here d t f r k p)
+        (λ (p : has_heard 0 (first_life c) x (printed past) ≡ true). hears_on (line (turn l.at.stamp (Client d)) (Hears_ t f r)) past c x (h p))
+        (either (is_by (first_life c) (printed past) (Client d) && nat_eq t 0 && nat_eq r.xid.0 x) (has_heard 0 (first_life c) x (printed past)) i)
+      where
+        either : (a b : Bool) → (a || b) ≡ true → (a ≡ true) ⊎ (b ≡ true)
+        either true b e = inl refl
+        either false b e = inr e
+    by node e k i h = hears_on (line (turn l.at.stamp node) e) past c x (h i)
+
+reply_heard : (head : Head) (past : List Line) (stamp : Stamp) (c t : ℕ) (f : Flight) (r : ReplyTo) → Allowed head past (turn stamp (Client c)) (Hears_ t f r) → Grown head past
+    → HeardAt (printed past) (turn stamp (Client c)) (who_is c (printed past)) t r.xid.0
+reply_heard head past stamp c t f r a g =
+    let at = turn stamp (Client c) in
+    let ok = a.of 0 (about_it t a.ok.0) in
+    let h = (holds head past g).at 0 in
+    let mine : r.who ≡ first_life c = ok.who ∙ h.phase.life c in
+    let took = takes_it head past at (Target t) (message.Reply r) g a.ok.1 in
+    let fits : as_reply t (first_life c) r.xid.0 (Target t) (message.Reply r) ≡ Some r = by (same_life r.who (first_life c)) (subst (λ (v : Who). same_life r.who v ≡ true) mine (same_life_self r.who)) in
+    let m = h.done.sent (Target ok.from) (Client c) (message.Reply r) ok.was in
+    let sent = acted_sent head past m.0 g (acted_whole 0 past m.0 m.1) in
+    let who : sent.0.who ≡ first_life c = sent.2 ∙ ap (λ (v : ReplyTo). v.who) (sym m.2) ∙ mine in
+    let x : sent.0.xid.0 ≡ r.xid.0 = ap (λ (v : Xid). v.0) sent.3 ∙ ap (λ (v : ReplyTo). v.xid.0) (sym m.2) in
+    let flown = subst (λ (v : ℕ). FlownOr past c v) x (sent_flies past c sent.0 sent.1.0 who sent.1.1) in
+    let unheard : has_heard 0 (first_life c) r.xid.0 (printed past) ≡ true → ⊥ = λ e. (h.numbers.over c r.xid.0 (life_heard head past g c r.xid.0 e)).1 f ok.flying ok.xid in
+    subst (λ (v : ℕ). HeardAt (printed past) at (record { client = c; life = v }) t r.xid.0) (sym (life_stays head c past g))
+    (record {
+      reply = ap (λ (v : List Sending). is_some (first_fit (λ s. as_reply t (first_life c) r.xid.0 s.from s.message) v)) took.1 ∙ ap (λ (o : Option ReplyTo). is_some (or_else o (first_fit (λ s. as_reply t (first_life c) r.xid.0 s.from s.message) took.0))) fits;
+      flies = subst (λ (v : ℕ). has_number r.xid.0 (in_flight v (first_life c) (printed past)) ≡ true) (sym a.ok.0) (in_flight_then (has_number r.xid.0 (in_flight 0 (first_life c) (printed past))) (has_heard 0 (first_life c) r.xid.0 (printed past)) flown unheard);
+    })
+  where
+    by : (b : Bool) → b ≡ true → (if nat_eq t t && (b && nat_eq r.xid.0 r.xid.0) then Some r else None) ≡ Some r
+    by true e = rw (self t, self r.xid.0) refl
+    by false e = absurd (cc)
+
+    in_flight_then : (a b : Bool) → (a || b) ≡ true → (b ≡ true → ⊥) → a ≡ true
+    in_flight_then true b e n = refl
+    in_flight_then false true e n = absurd (n refl)
+    in_flight_then false false e n = absurd (cc)
+
+heard_at : (head : Head) (past : List Line) (l : Line) (later : List PrintedLine) → Allowed head past l.at l.entry → Grown head past → Keeps Heard past l later
+heard_at head past l later a g = by l.at.node l.entry a
+  where
+    by : (node : Node) (e : Entry) → Allowed head past (turn l.at.stamp node) e → Says Heard past (turn l.at.stamp node) later e
+    by (Client c) (Hears_ t f r) k = reply_heard head past l.at.stamp c t f r k g
+    by (Target u) (Hears_ t f r) k = absurd k.ok
+    by _ _ k = tt
+
+pub heard : (head : Head) (past : List Line) → Grown head past → Holds Heard (printed past)
+heard head past g = holds_before head Heard Nothing (λ l past k. k) (λ past l later a g k. heard_at head past l later a g) past [] g tt
+
+-- ---- answers
+
+abbrev told_of : Deed → TxnOf → Operation
+told_of d number = record { number = number; who = d.reply.who; op = d.op }
+
+act_answers : (head : Head) (past : List Line) (at : At) (d : Deed) → Grown head past → AllAsked past → AskedAt past d → ActIs head.osts (server_at head.osts 0 past) at d → AnswerOf head.osts (printed past) none d.reply.who d.reply.answer false (asked (printed past) 0 d.reply.who d.reply.xid.0)
+act_answers head past at d g a asks is =
+    let tree = contents_are head past g a in
+    subst (AnswerOf head.osts (printed past) none d.reply.who d.reply.answer false) (sym asks)
+    (record {
+      same = is.answered ∙ ap (λ (n : TxnOf). answer head.osts (server_at head.osts 0 past).tree (told_of d n)) is.txn ∙ ap (λ (v : Tree). answer head.osts v (told_of d none)) (sym tree);
+      kind = ap (λ (v : Tree). changes head.osts v (told_of d none)) tree ∙ ap (λ (n : TxnOf). changes head.osts (server_at head.osts 0 past).tree (told_of d n)) (sym is.txn) ∙ is.still;
+    })
+
+txn_answers : (head : Head) (past : List Line) (at : At) (d : Deed) → Grown head past → AllAsked past → AskedAt past d → TxnIs head.osts (server_at head.osts 0 past) at d
+    → AnswerOf head.osts (printed past) d.reply.txn d.reply.who d.reply.answer true (asked (printed past) 0 d.reply.who d.reply.xid.0)
+txn_answers head past at d g a asks is =
+    let tree = contents_are head past g a in
+    subst (AnswerOf head.osts (printed past) d.reply.txn d.reply.who d.reply.answer true) (sym asks)
+    (record {
+      same = is.answered ∙ ap (λ (v : Tree). answer head.osts v (operation d)) (sym tree);
+      kind = ap (λ (v : Tree). changes head.osts v (operation d)) tree ∙ is.moves;
+    })
+
+answers_at : (head : Head) (past : List Line) (l : Line) (later : List PrintedLine) → Allowed head past l.at l.entry → Grown head past → AllAsked (l ∷ past) → Keeps (Answers head.osts) past l later
+answers_at head past l later a g asks = by l.at.node l.entry a asks
+  where
+    by : (node : Node) (e : Entry) → Allowed head past (turn l.at.stamp node) e → AllAsked (line (turn l.at.stamp node) e ∷ past) → Says (Answers head.osts) past (turn l.at.stamp node) later e
+    by (Client c) (Act d) k asks = absurd k.ok
+    by (Client c) (Made d) k asks = absurd k.ok
+    by (Target t) (Act d) k asks = subst (λ (v : ℕ). AnswerBy head.osts (printed past) (Target v) none d.reply.who d.reply.xid.0 d.reply.answer false) (sym k.ok) (act_answers head past (turn l.at.stamp (Target t)) d g asks.1 asks.0 (act_is head past l.at.stamp t d k))
+    by (Target t) (Made d) k asks = subst (λ (v : ℕ). AnswerBy head.osts (printed past) (Target v) d.reply.txn d.reply.who d.reply.xid.0 d.reply.answer true) (sym k.ok) (txn_answers head past (turn l.at.stamp (Target t)) d g asks.1 asks.0 (txn_is head past l.at.stamp t d k))
+    by _ _ k asks = tt
+
+pub answers : (head : Head) (past : List Line) → Grown head past → AllAsked past → Holds (Answers head.osts) (printed past)
+answers head past g a = holds_before head (Answers head.osts) AllAsked asked_before (λ past l later a g k. answers_at head past l later a g k) past [] g a
