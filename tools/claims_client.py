@@ -12,20 +12,20 @@ script doesn't read are counted, with the reason. The words of the claims are th
 import os
 import re
 import sys
+import traces
 
 
-def pair(text):
-    high, low = text.split(".")
-    return f"{high} {low}"
+class Words(traces.Terms):
+    """the words of lu_client_stories, Short"""
+    pair, txn_word, onward = "pair", "txn", "extent {} the_end"
+    on_inode = "on_inode {life} {cookie} {fid} {bits}"
+    client_turn, target_turn = "(client {stamp} {place})", "(target {stamp} {place})"
+    long = 64
+    answers, errnos, modes, policies = "answer.", "errno.", "mode.", "policy."
+    reply, grant, ask = "reply", "grant", "ask"
 
 
-def number(text):
-    return f"(pair {pair(text)})" if text != "0.0" else "0"
-
-
-def items(texts):
-    texts = list(texts)
-    return "(" + " ∷ ".join(texts + ["[]"]) + ")" if texts else "[]"
+terms = Words()
 
 
 def rows(texts):
@@ -33,262 +33,40 @@ def rows(texts):
     return "      (" + "".join(text + "\n      ∷ " for text in texts) + "[])"
 
 
-def fid(text):
-    return f"(fid {pair(text)})"
-
-
-def txn(text):
-    return f"(txn {pair(text)})"
-
-
-def cookie(text):
-    return f"(cookie {pair(text)})"
-
-
-def data(text):
-    if text == "-":
-        return "[]"
-    if "*" in text:
-        byte, count_of = text.split("*")
-        return f"(replicate {count_of} {int(byte, 16)})"
-    return items(str(int(text[i:i + 2], 16)) for i in range(0, len(text), 2))
-
-
-def name(text):
-    return f"replicate {len(text)} {ord(text[0])}" if len(text) > 64 and len(set(text)) == 1 else f'codes "{text}"'
-
-
-def path(text):
-    return items(name(word) for word in text.split("/") if word)
-
-
-def resource(text):
-    place, stripe = (text.split("/") + ["0"])[:2]
-    return f"(object {pair(place)} {stripe})"
-
-
-def extent(text):
-    first, last = text.split("-")
-    return f"(extent {first} {'the_end' if last == 'end' else last})"
-
-
-def layout(text):
-    size, targets = text.split(":")
-    return f"(striped {size} {items(targets.split(','))})"
-
-
-def who(text):
-    client, life = text[1:].split(".")
-    return f"(life {client} {life})"
-
-
-def at(text):
-    stamp, place = text.split(":")
-    return f"({'client' if place[0] == 'c' else 'target'} {stamp} {place[1:]})"
-
-
-def count(text):
-    return f"(negsuc {-int(text) - 1})" if text[0] == "-" else f"(pos {text})"
-
-
-def policy(text):
-    return f"(policy.Range {extent(text)})" if "-" in text else f"(policy.Bits {text})"
-
-
-def numbers(text):
-    return "[]" if text == "-" else items(number(word)[1:-1] for word in text.split(","))
-
-
-PATHS = ("lookup", "stat", "list", "layout", "mkdir", "unlink", "rmdir")
-
-
-def on_names(words, form):
-    """A call or operation on names, None where it is another."""
-    kind = words[0]
-    if kind in PATHS:
-        return f"({form}.{kind.capitalize()} {path(words[1])})"
-    if kind in ("link", "rename"):
-        return f"({form}.{kind.capitalize()} {path(words[1])} {path(words[2])})"
-    if kind == "chmod":
-        return f"({form}.Chmod {path(words[1])} {int(words[2], 8)})"
-    return None
-
-
-def operation(words):
-    kind = words[0]
-    if kind == "open":
-        return f"(op.Open {path(words[1])})"
-    if kind == "create":
-        return f"(op.Create {path(words[1])} {words[2]} {count(words[3])})"
-    if kind == "close":
-        return f"(op.Close {txn(words[1])} {fid(words[2])})"
-    if kind == "enqueue":
-        return f"(op.Enqueue {resource(words[1])} mode.{words[2]} {extent(words[3])})"
-    if kind == "get":
-        return f"(op.Get {resource(words[1])} {cookie(words[2])} {words[3]})"
-    if kind == "put":
-        return f"(op.Put {resource(words[1])} {cookie(words[2])} {words[3]} {data(words[4])})"
-    if kind == "cut":
-        return f"(op.Cut {resource(words[1])} {cookie(words[2])} {words[3]})"
-    if kind == "size":
-        return f"(op.Size {resource(words[1])})"
-    found = on_names(words, "op")
-    if found is None:
-        raise ValueError("operation " + kind)
-    return found
-
-
-def call(words):
-    kind = words[0]
-    if kind == "create":
-        return f"(call.Create {path(words[1])} (Some ({words[2]}, {count(words[3])})))"
-    if kind == "open":
-        return f"(call.Open {words[1]} {path(words[2])})"
-    if kind in ("close", "flush", "glimpse"):
-        return f"(call.{kind.capitalize()} {words[1]})"
-    if kind in ("read", "cut"):
-        return f"(call.{kind.capitalize()} {' '.join(words[1:])})"
-    if kind == "write":
-        return f"(call.Write {words[1]} {words[2]} {data(words[3])})"
-    found = on_names(words, "call")
-    if found is None:
-        raise ValueError("call " + kind)
-    return found
-
-
-def of_inode(words):
-    """The answer to a lookup or stat."""
-    kind = words[0].capitalize()
-    if len(words) == 2:
-        return f"(answer.{kind} {fid(words[1])})"
-    front = f"{fid(words[1])} {int(words[2], 8)}"
-    if kind == "Dir":
-        return f"(answer.DirStat {front})"
-    if ":" in words[4]:
-        return f"(answer.FileStat {front} {words[3]} {layout(words[4])})"
-    return f"(answer.FileSize {front} {words[3]} {words[4]})"
-
-
-def answer(words):
-    kind = words[0]
-    if kind == "ok":
-        return "answer.Done" if len(words) == 1 else f"(answer.Made {fid(words[1])})"
-    if kind in ("dir", "file"):
-        return of_inode(words)
-    if kind == "names":
-        return f"(answer.Names {items(name(word) for word in words[2:])})"
-    if kind == "layout":
-        return f"(answer.Layout {layout(words[1])})"
-    if kind == "open":
-        return f"(answer.OpenFile {fid(words[1])} {txn(words[2])} {layout(words[3])})"
-    if kind == "granted":
-        return f"(answer.Granted {cookie(words[1])} {extent(words[2])} {words[3]})"
-    if kind == "waiting":
-        return f"(answer.Waiting {cookie(words[1])})"
-    if kind == "content":
-        return f"(answer.Content {data(words[1])})"
-    if kind == "size":
-        return f"(answer.Size {words[1]})"
-    if kind in ("lock", "uncovered"):
-        return f"answer.{kind.capitalize()}"
-    if kind == "sizes":
-        return f"(answer.Sizes {items(words[1].split(','))})"
-    if kind[0] == "E":
-        return f"(answer.Refused errno.{kind})"
-    raise ValueError("answer " + kind)
-
-
-def lock(life, text):
-    lock_cookie, inode, bits = text.split(":")
-    return f"on_inode {who(life)} {cookie(lock_cookie)} {fid(inode)} {bits}"
-
-
-def locks(life, text):
-    return "[]" if text == "-" else items(lock(life, word) for word in text.split(","))
-
-
-def request_number(text):
-    return " ".join((text.split("/") + ["0"])[:2])
-
-
 def sent(to, words, stamp):
     """A message that the client sends, as it is printed."""
     kind = words[0]
-    front = f"{to[1:]} {who(words[1])} {words[2]}"
-    if kind == "req":
-        return f"asks {front} {request_number(words[3])} {operation(words[4:])}"
-    if kind == "cancel":
-        return f"cancels {front} {cookie(words[3])}"
-    if kind == "where":
-        return f"asks_where {front} {cookie(words[3])}"
-    if kind == "replay":
-        return f"replays {front} {txn(words[3])} {request_number(words[4])} {numbers(words[5])} {operation(words[6:])}"
-    if kind == "lock":
-        return f"replays_lock {front} {cookie(words[3])} {resource(words[4])} mode.{words[5]} {policy(words[6])}"
+    front = f"{to[1:]} {terms.life(words[1])} {words[2]}"
+    if kind in ("cancel", "where"):
+        return f"{'cancels' if kind == 'cancel' else 'asks_where'} {front} {terms.cookie(words[3])}"
     if kind == "word":
-        return f"says {front} {words[3]} {words[4]} {numbers(words[5])}"
+        return f"says {front} {words[3]} {words[4]} {terms.numbers(words[5])}"
     if kind == "join":
         return f"joins {front}"
-    if kind == "size":
-        size = "None" if words[6] == "-" else f"(Some {words[6]})"
-        return f"reports {front} {cookie(words[3])} {who(words[4])} {words[5]} {size} {stamp}"
-    raise ValueError("message " + kind)
-
-
-def message(words):
-    """A message that a target sends."""
-    kind = words[0]
-    if kind == "up":
-        return f"(message.Up {words[1]})"
-    front = f"{who(words[1])} {words[2]}"
-    if kind == "reply":
-        return (f"(reply {front} {words[3]} {txn(words[4])} {txn(words[5])} {numbers(words[6])} {at(words[7])} "
-                f"{locks(words[1], words[8])} {answer(words[9:])})")
-    if kind == "grant":
-        return f"(grant {front} {cookie(words[3])} {extent(words[4])} {words[5]} {txn(words[6])} {numbers(words[7])})"
-    if kind == "block":
-        return f"(message.Block {front} {cookie(words[3])})"
-    if kind == "ask":
-        return f"(ask {front} {cookie(words[3])} {who(words[4])} {words[5]})"
-    if kind == "ready":
-        return f"(message.Ready {front} {txn(words[3])})"
-    if kind == "evicted":
-        return f"(message.Evicted {front})"
-    raise ValueError("message " + kind)
+    word, tail = terms.from_client(words, stamp)[1:-1].split(" ", 1)
+    return f"{'replays_lock' if word == terms.lock_again else word} {to[1:]} {tail}"
 
 
 def line(entry, stamp):
     kind = entry[0]
-    if kind == "begin":
-        return f"entry.Begin {entry[1]} {call(entry[2:])}"
     if kind in ("busy", "take"):
         return f"entry.{kind.capitalize()} {entry[1]}"
     if kind == "send":
         return sent(entry[2], entry[3:], stamp)
-    if kind == "heard":
-        return f"heard {entry[1][1:]} {entry[2]}"
-    if kind in ("hold", "drop"):
-        return f"{kind} {entry[1][1:]} {cookie(entry[2])}"
-    if kind == "told":
-        return f"entry.Told {entry[1]} {at(entry[2])} {answer(entry[3:])}"
-    if kind == "peek":
-        return f"peek {entry[1][1:]} {cookie(entry[2])} {entry[3]}"
-    if kind == "life":
-        return f"entry.Life {who(entry[1])}"
     if kind in ("die", "tick"):
         return f"entry.{kind.capitalize()}"
-    raise ValueError("entry " + kind)
+    return terms.of_client(entry)[1:-1]
 
 
 def event(entry, stamp, messages):
     kind = entry[0]
     if kind == "begin":
-        return f"begins {stamp} {entry[1]} {call(entry[2:])}"
+        return f"begins {stamp} {entry[1]} {terms.call(entry[2:])}"
     if kind == "busy":
         return f"begins {stamp} {entry[1]} (call.Flush 0)"
     if kind == "take":
         sender, words = messages[entry[1]]
-        return f"comes {stamp} {entry[1]} {sender[1:]} {message(words)}"
+        return f"comes {stamp} {entry[1]} {sender[1:]} {terms.from_target(words)}"
     if kind in ("tick", "die"):
         return f"{kind}s {stamp}"
     raise ValueError("event " + kind)
@@ -334,7 +112,7 @@ def claim(title, head, client, turns, agree):
     events = rows(what for what, _ in turns)
     if agree:
         return f"pub {title}_agrees :\n    Agrees {limits} {client}\n{events}\n{UNFOLDING}\n{title}_agrees = refl\n"
-    lines = rows(items(printed) for _, printed in turns)
+    lines = rows(traces.items(printed) for _, printed in turns)
     return f"pub {title} :\n    played {limits} {client}\n{events}\n    ≡\n{lines}\n{UNFOLDING}\n{title} = refl\n"
 
 

@@ -12,6 +12,7 @@ import os
 import re
 import sys
 import textwrap
+import traces
 
 HEAD = """use Rattle.std.proofs.Common.{◌≡◌, List, [], ◌∷◌, Some, None, refl, pos, negsuc}
 use Rattle.std.specs.Prelude.{codes, replicate}
@@ -30,201 +31,32 @@ use Rattle.lu_target_stories.proofs.Words.{all_lines, played}
 """
 
 
-class Passed(Exception):
-    """A trace that isn't read, with the reason."""
+
+class Words(traces.Terms):
+    """the words of `lu_target_stories`, `proofs/Words.antt`"""
+    pair, txn_word, extent_word, striped = "pair", "txn", "from {} {}", "layout"
+    on_inode = "bits {cookie} {life} {fid} {bits}"
+    client_turn, target_turn = "(client_turn {place} {stamp})", "(target_turn {place} {stamp})"
+    codes, repeated = '(codes "{}")', "(replicate {} {})"
+    answers, errnos = "answer.", "errno."
+    request, replay, lock_again, size = "request", "replay", "lock_again", "size"
+    reply, grant, ask = "reply", "grant", "ask"
+
+    def lock(self, number, who, where, mode, what):
+        if "-" not in what and mode == "PR":
+            return f"(bits {self.cookie(number)} {self.life(who)} {self.fid(where)} {what})"
+        return super().lock(number, who, where, mode, what)
 
 
-# ---- values
-
-def items(texts):
-    """a list"""
-    return "[]" if not texts else "(" + "".join(text + " ∷ " for text in texts) + "[])"
-
-
-def halves(text):
-    """the two halves of a number, with a space between"""
-    return text.replace(".", " ")
-
-
-def fid(text):
-    return f"(fid {halves(text)})"
-
-
-def txn(text):
-    return f"(txn {halves(text)})"
-
-
-def cookie(text):
-    return f"(cookie {halves(text)})"
-
-
-def life(text):
-    return f"(life {halves(text[1:])})"
-
-
-def numbers(text):
-    return "[]" if text == "-" else items([f"pair {halves(word)}" for word in text.split(",")])
-
-
-def data(text):
-    if text == "-":
-        return "[]"
-    if "*" in text:
-        byte, count = text.split("*")
-        return f"(replicate {count} {int(byte, 16)})"
-    return items([str(int(text[i:i + 2], 16)) for i in range(0, len(text), 2)])
-
-
-def name(text):
-    if len(text) > 40 and len(set(text)) == 1:
-        return f"(replicate {len(text)} {ord(text[0])})"
-    return f'(codes "{text}")'
-
-
-def path(text):
-    return items([name(word) for word in text.split("/") if word])
-
-
-def extent(text):
-    first, last = text.split("-")
-    return f"(onward {first})" if last == "end" else f"(from {first} {last})"
-
-
-def resource(text):
-    number, stripe = (text.split("/") + ["0"])[:2]
-    return f"(object {halves(number)} {stripe})"
-
-
-def layout(text):
-    length, targets = text.split(":")
-    return f"(layout {length} {items(targets.split(','))})"
-
-
-def policy(text):
-    return f"(Range {extent(text)})" if "-" in text else f"(Bits {text})"
-
-
-def lock(number, who, where, mode, what):
-    if "-" not in what and mode == "PR":
-        return f"(bits {cookie(number)} {life(who)} {fid(where)} {what})"
-    return f"(lock {cookie(number)} {life(who)} {resource(where)} {mode} {policy(what)})"
-
-
-def locks(text, who):
-    """the locks of a reply"""
-    if text == "-":
-        return "[]"
-    parts = [word.split(":") for word in text.split(",")]
-    return items([f"bits {cookie(part[0])} {life(who)} {fid(part[1])} {part[2]}" for part in parts])
-
-
-def turn(text):
-    stamp, node = text.split(":")
-    return f"({'client' if node[0] == 'c' else 'target'}_turn {node[1:]} {stamp})"
-
-
-def whole(text):
-    return f"(negsuc {-int(text) - 1})" if text[0] == "-" else f"(pos {text})"
-
-
-# ---- operations, answers, messages
-
-def operation(words):
-    kind = words[0]
-    if kind in ("lookup", "stat", "list", "layout", "mkdir", "unlink", "rmdir", "open"):
-        return f"(op.{kind.capitalize()} {path(words[1])})"
-    if kind == "create":
-        return f"(op.Create {path(words[1])} {words[2]} {whole(words[3])})"
-    if kind in ("link", "rename"):
-        return f"(op.{kind.capitalize()} {path(words[1])} {path(words[2])})"
-    if kind == "chmod":
-        return f"(op.Chmod {path(words[1])} {int(words[2], 8)})"
-    if kind == "close":
-        return f"(op.Close {txn(words[1])} {fid(words[2])})"
-    if kind == "enqueue":
-        return f"(op.Enqueue {resource(words[1])} {words[2]} {extent(words[3])})"
-    if kind == "get":
-        return f"(op.Get {resource(words[1])} {cookie(words[2])} {words[3]})"
-    if kind == "put":
-        return f"(op.Put {resource(words[1])} {cookie(words[2])} {words[3]} {data(words[4])})"
-    if kind == "cut":
-        return f"(op.Cut {resource(words[1])} {cookie(words[2])} {words[3]})"
-    if kind == "size":
-        return f"(op.Size {resource(words[1])})"
-    raise Passed("operation " + kind)
-
-
-def answer(words):
-    kind = words[0]
-    if kind == "ok":
-        return "answer.Done" if len(words) == 1 else f"(answer.Made {fid(words[1])})"
-    if kind == "dir":
-        return f"(answer.Dir {fid(words[1])})" if len(words) == 2 else f"(answer.DirStat {fid(words[1])} {int(words[2], 8)})"
-    if kind == "file" and len(words) == 2:
-        return f"(answer.File {fid(words[1])})"
-    if kind == "file":
-        return f"(answer.FileStat {fid(words[1])} {int(words[2], 8)} {words[3]} {layout(words[4])})"
-    if kind == "names":
-        return f"(answer.Names {items([name(word) for word in words[2:]])})"
-    if kind == "layout":
-        return f"(answer.Layout {layout(words[1])})"
-    if kind == "open":
-        return f"(answer.OpenFile {fid(words[1])} {txn(words[2])} {layout(words[3])})"
-    if kind == "granted":
-        return f"(answer.Granted {cookie(words[1])} {extent(words[2])} {words[3]})"
-    if kind == "waiting":
-        return f"(answer.Waiting {cookie(words[1])})"
-    if kind == "content":
-        return f"(answer.Content {data(words[1])})"
-    if kind == "size":
-        return f"(answer.Size {words[1]})"
-    if kind in ("lock", "uncovered"):
-        return f"answer.{kind.capitalize()}"
-    if kind[0] == "E":
-        return f"(answer.Refused errno.{kind})"
-    raise Passed("answer " + kind)
-
-
-def tagged(text):
-    """a request's number and tag"""
-    number, tag = (text.split("/") + ["0"])[:2]
-    return f"{number} {tag}"
-
-
-def message(words, stamp):
-    """a message that was sent in the turn of this stamp"""
-    kind = words[0]
-    if kind == "req":
-        return f"(request {life(words[1])} {words[2]} {tagged(words[3])} {operation(words[4:])})"
-    if kind == "replay":
-        return f"(replay {life(words[1])} {words[2]} {txn(words[3])} {tagged(words[4])} {numbers(words[5])} {operation(words[6:])})"
-    if kind in ("cancel", "where", "block"):
-        return f"(message.{kind.capitalize()} {life(words[1])} {words[2]} {cookie(words[3])})"
-    if kind == "lock":
-        return f"(lock_again {life(words[1])} {words[2]} {cookie(words[3])} {resource(words[4])} {words[5]} {policy(words[6])})"
-    if kind == "word":
-        return f"(message.Word {life(words[1])} {words[2]} {words[3]} {words[4]} {numbers(words[5])})"
-    if kind in ("join", "evicted"):
-        return f"(message.{kind.capitalize()} {life(words[1])} {words[2]})"
-    if kind == "size":
-        found = "None" if words[6] == "-" else f"(Some {words[6]})"
-        return f"(size {life(words[1])} {words[2]} {cookie(words[3])} {life(words[4])} {words[5]} {found} {stamp})"
-    if kind == "up":
-        return f"(message.Up {words[1]})"
-    if kind == "reply":
-        head = f"{life(words[1])} {words[2]} {words[3]} {txn(words[4])} {txn(words[5])} {numbers(words[6])}"
-        return f"(reply {head} {turn(words[7])} {locks(words[8], words[1])} {answer(words[9:])})"
-    if kind == "grant":
-        tail = f"{extent(words[4])} {words[5]} {txn(words[6])} {numbers(words[7])}"
-        return f"(grant {life(words[1])} {words[2]} {cookie(words[3])} {tail})"
-    if kind == "ask":
-        return f"(ask {life(words[1])} {words[2]} {cookie(words[3])} {life(words[4])} {words[5]})"
-    if kind == "ready":
-        return f"(message.Ready {life(words[1])} {words[2]} {txn(words[3])})"
-    raise Passed("message " + kind)
+terms = Words()
 
 
 # ---- lines and events
+
+def message(words, stamp):
+    """a message that was sent in the turn of this stamp; that of one kind tells which side sent it"""
+    return terms.from_client(words, stamp) if words[0] in traces.FROM_CLIENT else terms.from_target(words)
+
 
 def line(stamp, words):
     kind = words[0]
@@ -235,22 +67,13 @@ def line(stamp, words):
     if kind in ("skip", "tick", "crash", "close", "fail"):
         return f"entry.{kind.capitalize()}"
     if kind == "act":
-        return f"act {life(words[1])} {words[2]} {answer(words[3:])}"
+        return f"act {terms.life(words[1])} {words[2]} {terms.answer(words[3:])}"
     if kind == "txn":
-        return f"transaction {txn(words[1])} {life(words[2])} {words[3]} {numbers(words[4])} {answer(words[5:])}"
-    if kind in ("grant", "wait", "restore"):
-        return f"entry.{kind.capitalize()} {lock(*words[1:])}"
-    if kind in ("block", "release"):
-        return f"entry.{kind.capitalize()} {cookie(words[1])}"
-    if kind in ("commit", "kept"):
-        return f"entry.{kind.capitalize()} {txn(words[1])}"
+        tail = f"{terms.numbers(words[4])} {terms.answer(words[5:])}"
+        return f"transaction {terms.txn(words[1])} {terms.life(words[2])} {words[3]} {tail}"
     if kind == "boot":
         return f"entry.Boot {words[1]}"
-    if kind in ("back", "joined"):
-        return f"entry.{kind.capitalize()} {life(words[1])}"
-    if kind == "evict":
-        return f"entry.Evict {life(words[1])} {words[2].capitalize()}"
-    raise Passed("entry " + kind)
+    return terms.of_target(words)[1:-1]
 
 
 def commands(scene):
@@ -373,7 +196,7 @@ def main(words):
             trace = held.read()
         try:
             found = claims_of(scene, trace)
-        except Passed as reason:
+        except ValueError as reason:
             passed[str(reason)] = passed.get(str(reason), 0) + 1
             continue
         for target, head, turns in found:

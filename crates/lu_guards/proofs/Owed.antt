@@ -1,5 +1,5 @@
 -- What is done in a turn is answered in it, at once: a client's turn does nothing, and a target's row puts the reply next.
-use Rattle.std.proofs.Common.{◌≡◌, ℕ, Bool, true, false, List, [], ◌∷◌, Option, Some, None, refl}
+use Rattle.std.proofs.Common.{ℕ, Bool, true, false, List, [], ◌∷◌, Option, Some, None, refl}
 use Rattle.std.specs.Prelude.{nat_eq, nat_lt}
 use Rattle.lu_base.specs.declared.ids.At.{At}
 use Rattle.lu_base.specs.declared.ids.Node.{Node}
@@ -10,7 +10,7 @@ use Rattle.lu_msg.specs.declared.messages.Message.TheVariants as message
 use Rattle.lu_msg.specs.declared.messages.Reply.{Reply as ReplyTo}
 use Rattle.lu_msg.specs.declared.messages.Request.{Request as RequestOf}
 use Rattle.lu_machine.specs.Footprint.{changes}
-use Rattle.lu_words.specs.Words.{Entry, Send, Take, Act, Txn, Grant, Line, line, with_turn}
+use Rattle.lu_words.specs.Words.{Entry, Take, Act, Txn, Grant, Line, line, with_turn}
 use Rattle.lu_covered.specs.TargetStates.{Server, none, slot_at, server_at}
 use Rattle.lu_covered.specs.TargetRows as target
 use Rattle.lu_covered.specs.TargetRows.{asked, row_executes, row_kept, by_number}

@@ -1,9 +1,9 @@
 -- What every covered run keeps of replies that are sent again: they answer a request that was taken again, and are as the
 -- last reply to it was.
-use Rattle.std.proofs.Common.{◌≡◌, ℕ, ◌+◌, Bool, true, false, List, [], ◌∷◌, Option, Some, None, ◌⊎◌, inl, inr, ⊎_elim, refl, sym, subst, ap, ◌∙◌}
-use Rattle.std.specs.Prelude.{nat_eq, ◌&&◌, ◌||◌, if◌then◌else◌}
+use Rattle.std.proofs.Common.{◌≡◌, ℕ, Bool, true, false, List, [], ◌∷◌, Option, Some, None, ◌⊎◌, inl, inr, ⊎_elim, refl, sym, subst, ap, ◌∙◌}
+use Rattle.std.specs.Prelude.{nat_eq, ◌&&◌, if◌then◌else◌}
 use Rattle.std.specs.List.{list_any}
-use Rattle.std.proofs.lemmas.Bool.{and_parts, cond_both, eqb-true}
+use Rattle.std.proofs.lemmas.Bool.{and_parts, eqb-true}
 use Rattle.lu_base.specs.declared.ids.At.{At}
 use Rattle.lu_base.specs.declared.ids.Node.{Node}
 use Rattle.lu_base.specs.declared.ids.Node.TheVariants.{Client, Target}
@@ -18,22 +18,21 @@ use Rattle.lu_machine.specs.Tree.{same_life}
 use Rattle.lu_words.specs.Carried.{Deed}
 use Rattle.lu_words.specs.Words.{Entry, Send, Take, Act, Txn as Made, Grant, Line, line}
 use Rattle.lu_words.specs.Concerns.{only}
-use Rattle.lu_words.specs.Sent.{count_sent}
 use Rattle.lu_words.specs.Printed.{printed}
 use Rattle.lu_covered.specs.Runs.{Head}
 use Rattle.lu_laws.specs.Holds.{Holds}
 use Rattle.lu_laws.specs.Words.Pasts.{same_turn, or_else}
 use Rattle.lu_laws.specs.Words.Sends.{Sending, taken}
 use Rattle.lu_laws.specs.Laws.Recovery.{is_size_for, is_executed}
-use Rattle.lu_laws.specs.Order.Repeated.{last_reply, asks, took_request, SameReply, Repeats, RepeatedAt, RepeatedBy, Repeated}
+use Rattle.lu_laws.specs.Order.Repeated.{last_reply, asks, SameReply, Repeats, RepeatedAt, RepeatedBy, Repeated}
 use Rattle.lu_laws.proofs.Tests.{either_left}
-use Rattle.lu_guards.proofs.Guards.{Did, TookNow, Taken, RepliesNow, RepliesAgain, ReplyOk, Answers, Owes, Allowed, Grown}
+use Rattle.lu_guards.proofs.Guards.{Did, TookNow, Taken, RepliesAgain, ReplyOk, Answers, Owes, Allowed, Grown}
 use Rattle.lu_guards.proofs.Lists.{self, life_is}
 use Rattle.lu_facts.proofs.Groups.{turn, Acted}
 use Rattle.lu_facts.proofs.All.{holds}
 use Rattle.lu_facts.proofs.Sides.{acted_only}
 use Rattle.lu_lawful.proofs.Turns.{same_turn_self, same_life_self}
-use Rattle.lu_lawful.proofs.Story.{about_it, acted_whole}
+use Rattle.lu_lawful.proofs.Story.{acted_whole}
 use Rattle.lu_lawful.proofs.Lines.{Keeps, holds_before}
 use Rattle.lu_lawful.proofs.OrderlyQuiet.{Says}
 use Rattle.lu_lawful.proofs.OrderlySaid.{takes_it}

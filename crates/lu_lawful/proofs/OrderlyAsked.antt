@@ -1,6 +1,6 @@
 -- What every covered run keeps of requests: what acts was asked for since its target serves, and isn't answered yet.
-use Rattle.std.proofs.Common.{◌≡◌, ℕ, ◌+◌, Bool, true, false, List, [], ◌∷◌, ◌++◌, Option, Some, None, inl, inr, ⊎_elim, refl, sym, subst, ap, ◌∙◌}
-use Rattle.std.specs.Prelude.{nat_eq, not, ◌&&◌, ◌||◌, if◌then◌else◌, filter}
+use Rattle.std.proofs.Common.{◌≡◌, ℕ, Bool, true, false, List, [], ◌∷◌, ◌++◌, Option, Some, ⊎_elim, refl, sym, subst, ap, ◌∙◌}
+use Rattle.std.specs.Prelude.{nat_eq, not, if◌then◌else◌}
 use Rattle.std.specs.List.{list_any}
 use Rattle.std.specs.Option.{option_map}
 use Rattle.std.proofs.lemmas.Bool.{and_parts, cond_both, cond-true, eqb-true}
@@ -19,22 +19,21 @@ use Rattle.lu_machine.specs.Tree.{same_life}
 use Rattle.lu_words.specs.Carried.{Deed}
 use Rattle.lu_words.specs.Words.{Entry, Send, Take, Act, Txn as Made, Boot, Close, Evict, Enters, Line, line}
 use Rattle.lu_words.specs.Concerns.{only}
-use Rattle.lu_words.specs.Sent.{count_sent, Sent}
 use Rattle.lu_words.specs.Printed.{printed}
 use Rattle.lu_covered.specs.TargetParts.{is_request_of, without_request}
 use Rattle.lu_covered.specs.TargetStates.{waiting_at, server_of}
 use Rattle.lu_covered.specs.Runs.{Head}
 use Rattle.lu_laws.specs.Holds.{Holds}
 use Rattle.lu_laws.specs.Words.Pasts.{is_target}
-use Rattle.lu_laws.specs.Words.Sends.{Sending, sending, message_of}
+use Rattle.lu_laws.specs.Words.Sends.{Sending, message_of}
 use Rattle.lu_laws.specs.Words.Boots.{boot}
 use Rattle.lu_laws.specs.Order.Handed.{comes_to}
 use Rattle.lu_laws.specs.Order.Requests.{is_request, with_request, without_answered, unanswered, has_request, Requests}
 use Rattle.lu_laws.proofs.Tests.{either_left, either_right, settled}
-use Rattle.lu_guards.proofs.Guards.{In, TookNow, TookRequest, ReplyOk, EntersOk, Allowed, Grown}
+use Rattle.lu_guards.proofs.Guards.{In, TookNow, ReplyOk, Allowed, Grown}
 use Rattle.lu_guards.proofs.Lists.{self, in_append, in_filter, life_is}
 use Rattle.lu_guards.proofs.Parts.{waiting_is}
-use Rattle.lu_facts.proofs.Groups.{turn, Acted}
+use Rattle.lu_facts.proofs.Groups.{turn}
 use Rattle.lu_facts.proofs.All.{holds}
 use Rattle.lu_lawful.proofs.Turns.{same_life_self}
 use Rattle.lu_lawful.proofs.Story.{about_it}

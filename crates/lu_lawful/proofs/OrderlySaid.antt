@@ -1,6 +1,6 @@
 -- What every covered run keeps of what is said: messages carry the boot and the committed number of their target, what is
 -- heard was in flight, and what acts has the answer of the contents.
-use Rattle.std.proofs.Common.{◌≡◌, ℕ, ◌+◌, Bool, true, false, List, [], ◌∷◌, Option, Some, None, ◌⊎◌, inl, inr, ⊎_elim, refl, sym, subst, ap, ◌∙◌, arith}
+use Rattle.std.proofs.Common.{◌≡◌, ℕ, Bool, true, false, List, [], ◌∷◌, Option, Some, None, ◌⊎◌, inl, inr, ⊎_elim, refl, sym, subst, ap, ◌∙◌, arith}
 use Rattle.std.specs.Prelude.{nat_eq, not, ◌&&◌, ◌||◌, if◌then◌else◌, is_some, filter}
 use Rattle.std.specs.List.{list_any}
 use Rattle.std.proofs.lemmas.Bool.Decides.{nat_tests}
@@ -16,14 +16,12 @@ use Rattle.lu_msg.specs.declared.messages.Message.{Message}
 use Rattle.lu_msg.specs.declared.messages.Message.TheVariants as message
 use Rattle.lu_msg.specs.declared.messages.Reply.{Reply as ReplyTo}
 use Rattle.lu_msg.specs.declared.messages.Request.{Request as RequestOf}
-use Rattle.lu_msg.specs.declared.operations.Op.{Op}
 use Rattle.lu_trace.specs.declared.entries.Line.{Line as PrintedLine}
 use Rattle.lu_machine.specs.Tree.{Tree, same_life}
 use Rattle.lu_machine.specs.Footprint.{Operation, answer, changes}
 use Rattle.lu_words.specs.Carried.{Deed, Flight}
 use Rattle.lu_words.specs.Words.{Entry, Send, Take, Heard as Hears_, Act, Txn as Made, Line, line}
 use Rattle.lu_words.specs.Concerns.{only}
-use Rattle.lu_words.specs.Sent.{count_sent}
 use Rattle.lu_words.specs.Printed.{printed}
 use Rattle.lu_covered.specs.TargetParts.{operation}
 use Rattle.lu_covered.specs.TargetStates.{server_at}
@@ -31,13 +29,12 @@ use Rattle.lu_covered.specs.Calls.{first_life}
 use Rattle.lu_covered.specs.Runs.{Head}
 use Rattle.lu_laws.specs.Holds.{Holds}
 use Rattle.lu_laws.specs.Words.Pasts.{same_turn, or_else}
-use Rattle.lu_laws.specs.Words.Sends.{Sending, sending, with_taken, taken, as_reply, first_fit, reply_in}
+use Rattle.lu_laws.specs.Words.Sends.{Sending, sending, with_taken, taken, as_reply, first_fit}
 use Rattle.lu_laws.specs.Words.Lives.{who_is, is_by}
 use Rattle.lu_laws.specs.Words.Requests.{asked, is_of, has_heard, has_number, without_number, in_flight}
-use Rattle.lu_laws.specs.Words.Standing.{contents}
 use Rattle.lu_laws.specs.Order.Messages.{MessageAt, Messages}
 use Rattle.lu_laws.specs.Order.Heard.{HeardAt, Heard}
-use Rattle.lu_laws.specs.Order.Answers.{none, AnswerAt, AnswerOf, AnswerBy, Answers}
+use Rattle.lu_laws.specs.Order.Answers.{none, AnswerOf, AnswerBy, Answers}
 use Rattle.lu_guards.proofs.Guards.{Was, TookNow, Allowed, Grown}
 use Rattle.lu_guards.proofs.Lists.{self}
 use Rattle.lu_facts.proofs.Groups.{turn, Hears}

@@ -1,5 +1,4 @@
 -- Every covered run keeps all that `Orderly` asks.
-use Rattle.std.proofs.Common.{ℕ, List}
 use Rattle.lu_covered.specs.Runs.{lines_of}
 use Rattle.lu_laws.specs.Orderly.{Orderly}
 use Rattle.lu_lawful.specs.Everywhere.{OfEveryRun}

@@ -27,7 +27,7 @@ use Rattle.lu_covered.specs.TargetParts.{operation}
 use Rattle.lu_covered.specs.TargetStates.{tree_at, log_at, slot_of, count_at, server_at, seen_in}
 use Rattle.lu_covered.specs.Runs.{Head}
 use Rattle.lu_laws.specs.Words.Pasts.{same_turn, or_else}
-use Rattle.lu_laws.specs.Words.Scopes.{counted}
+use Rattle.lu_laws.specs.Words.Scopes.{only_here}
 use Rattle.lu_laws.specs.Words.Sends.{Sending, sending, message_of, with_taken, taken}
 use Rattle.lu_laws.specs.Words.Requests.{asked}
 use Rattle.lu_laws.specs.Words.Clients.{clients}
@@ -36,7 +36,7 @@ use Rattle.lu_laws.specs.Words.Handed.{is_back}
 use Rattle.lu_laws.specs.Words.Seen.{touches_of, seen_by}
 use Rattle.lu_laws.specs.Holds.{Holds}
 use Rattle.lu_laws.specs.Laws.Recovery as law
-use Rattle.lu_laws.specs.Laws.Recovery.{TxnAt, answers_size, is_size_for, is_executed, other_than, reply_seen, ReplyAt, BringsBack, TakenAt, RecoveryAt, RecoveryOf, Recovery}
+use Rattle.lu_laws.specs.Laws.Recovery.{request_sees, TransactionAt, answers_size, is_size_for, is_executed, other_than, reply_seen, ReplyAt, BringsBack, TakenAt, RecoveryAt, RecoveryOf, Recovery}
 use Rattle.lu_guards.proofs.Guards.{Later, Steps, Did, Taken, RepliesNow, Allowed, Grown}
 use Rattle.lu_guards.proofs.Lists.{self, turn_trans, turn_irreflexive, life_is}
 use Rattle.lu_facts.proofs.Groups.{turn, Acted}
@@ -136,7 +136,7 @@ none_seen (l ∷ past) at who x n = by l.entry n (none_seen past at who x)
     by : (e : Entry) → NoneFor (line l.at e ∷ past) who x → (NoneFor past who x → law.seen_in (printed past) at who x ≡ None) → law.seen_in (printed (line l.at e ∷ past)) at who x ≡ None
     by (Made d) n h = of (same_life d.reply.who who && nat_eq d.reply.xid.0 x) refl
       where
-        of : (own : Bool) → (same_life d.reply.who who && nat_eq d.reply.xid.0 x) ≡ own → or_else (counted (then_some own d.reply.seen) (same_turn l.at at)) (law.seen_in (printed past) at who x) ≡ None
+        of : (own : Bool) → (same_life d.reply.who who && nat_eq d.reply.xid.0 x) ≡ own → or_else (only_here (then_some own d.reply.seen) (same_turn l.at at)) (law.seen_in (printed past) at who x) ≡ None
         of true t = let p = and_parts (same_life d.reply.who who) (nat_eq d.reply.xid.0 x) t in absurd (n d (inl refl) (life_is d.reply.who who p.0) (eqb-true d.reply.xid.0 x p.1))
         of false t = h (λ e a. n e (inr a))
     by (Act d) n h = h (λ e a. n e (inr a))
@@ -165,7 +165,7 @@ txn_reply head before stamp node d g =
     let now : same_turn at d.reply.at ≡ true = subst (λ (v : At). same_turn at v ≡ true) (sym w) (same_turn_self at) in
     let own : (same_life d.reply.who d.reply.who && nat_eq d.reply.xid.0 d.reply.xid.0) ≡ true = rw (same_life_self d.reply.who, self d.reply.xid.0) refl in
     let rest = law.seen_in (printed before) d.reply.at d.reply.who d.reply.xid.0 in
-    let here : or_else (counted (then_some (same_life d.reply.who d.reply.who && nat_eq d.reply.xid.0 d.reply.xid.0) d.reply.seen) (same_turn at d.reply.at)) rest ≡ Some d.reply.seen = rw (own, now) refl in
+    let here : or_else (only_here (then_some (same_life d.reply.who d.reply.who && nat_eq d.reply.xid.0 d.reply.xid.0) d.reply.seen) (same_turn at d.reply.at)) rest ≡ Some d.reply.seen = rw (own, now) refl in
     sym (ap (λ o. reply_seen head.osts 0 (printed past) d.reply o) here)
 
 -- what was just done
@@ -209,7 +209,7 @@ reply_law head past at k g a steps ok =
 
 -- ---- transactions
 
-txn_law : (head : Head) (past : List Line) (at : At) (d : Deed) → Grown head past → AllAsked past → AskedAt past d → TxnIs head.osts (server_at head.osts 0 past) at d → TxnAt head.osts 0 (printed past) d.reply.txn d.reply.who d.reply.xid.0 d.reply.seen d.reply.answer
+txn_law : (head : Head) (past : List Line) (at : At) (d : Deed) → Grown head past → AllAsked past → AskedAt past d → TxnIs head.osts (server_at head.osts 0 past) at d → TransactionAt 0 (printed past) d.reply.txn.0 d.reply.seen (law_seen head.osts past d)
 txn_law head past at d g a asks is =
     let n = number_is head past at d g is in
     let le = below_next head past g in
@@ -251,7 +251,7 @@ recovery_at clients head past l later k g a = by l.at.node l.entry k a
     by (Target t) (Take n from m) k a = never_taken head past (record { at = turn l.at.stamp (Target t); entry = entry.Take n }) later t (message_of (printed past) n) g
     by (Client c) (Made d) k a = absurd k.ok
     by (Target t) (Made d) k a =
-        subst (λ (v : ℕ). TxnAt head.osts v (printed past) d.reply.txn d.reply.who d.reply.xid.0 d.reply.seen d.reply.answer) (sym k.ok) (txn_law head past (turn l.at.stamp (Target t)) d g a.1 a.0 (txn_is head past l.at.stamp t d k))
+        subst (λ (v : ℕ). TransactionAt v (printed past) d.reply.txn.0 d.reply.seen (request_sees head.osts v (printed past) d.reply.txn d.reply.who d.reply.xid.0 d.reply.answer)) (sym k.ok) (txn_law head past (turn l.at.stamp (Target t)) d g a.1 a.0 (txn_is head past l.at.stamp t d k))
     by (Target t) (Commit to batch) k a = absurd k.ok
     by (Target t) (Back who) k a = absurd k.ok
     by (Target t) (Close outcome) k a = absurd k.ok

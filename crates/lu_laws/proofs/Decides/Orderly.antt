@@ -1,5 +1,5 @@
 -- What every run keeps beyond the laws is decided, condition by condition.
-use Rattle.std.proofs.Common.{◌≡◌, ℕ, zero, suc, Bool, true, false, Option, Some, None, List}
+use Rattle.std.proofs.Common.{ℕ, zero, suc, Bool, true, false, Option, Some, None, List}
 use Rattle.lu_base.specs.declared.ids.At.{At}
 use Rattle.lu_base.specs.declared.ids.Node.{Node}
 use Rattle.lu_base.specs.declared.ids.Node.TheVariants.{Client, Target}
@@ -16,7 +16,6 @@ use Rattle.lu_trace.specs.declared.entries.Entry.TheVariants as entry
 use Rattle.lu_trace.specs.declared.entries.Line.{Line}
 use Rattle.lu_machine.specs.Footprint.{answer}
 use Rattle.lu_laws.specs.Words.Pasts.{Past}
-use Rattle.lu_laws.specs.Words.Lives.{who_is}
 use Rattle.lu_laws.specs.Words.Requests.{asked}
 use Rattle.lu_laws.specs.Words.Boots.{committed}
 use Rattle.lu_laws.specs.Words.Standing.{contents}

@@ -21,7 +21,7 @@ use Rattle.lu_laws.specs.Words.Sends.{message_of}
 use Rattle.lu_laws.specs.Words.Clients.{clients}
 use Rattle.lu_laws.specs.Words.Slots.{slots}
 use Rattle.lu_laws.specs.Words.Closes.{kept_at, cause_at, restored_at, find_lock, is_finished, decided, last_kept, last_evicted, has_restored, will_evict, will_restore}
-use Rattle.lu_laws.specs.Laws.Recovery.{TxnAt, SentAt, CommitAt, BackAt, BringsBack, TakenAt, Evicts, Restores, FollowsAt, AllBack, CloseAt, KeptAfter, KeptIn, KeptAt, RestoredAfter, RestoredIn, RestoredAt, EvictedAfter, ExpiredAt, EvictedBy, EvictedIn, EvictAt, OnTarget, RecoveryAt, RecoveryOf, Recovery}
+use Rattle.lu_laws.specs.Laws.Recovery.{request_sees, TransactionAt, SentAt, CommitAt, BackAt, BringsBack, TakenAt, Evicts, Restores, FollowsAt, AllBack, CloseAt, KeptAfter, KeptIn, KeptAt, RestoredAfter, RestoredIn, RestoredAt, EvictedAfter, ExpiredAt, EvictedBy, EvictedIn, EvictAt, OnTarget, RecoveryAt, RecoveryOf, Recovery}
 use Rattle.lu_laws.proofs.Decides.{Decided, Decides-yes, Decides-wrong, nothing, never, like, both, three, when, numbers, up_to, below, is_true, is_false, every}
 use Rattle.lu_laws.proofs.Same.{options, number_lists, locks}
 
@@ -46,8 +46,8 @@ causes a b = record { answer = cause_test a b; decides = Decides-cause a b }
 
 -- ---- transactions, replies and grants
 
-abbrev pub decide_txn : (osts t : ℕ) (past : Past) (n : TxnOf) (who : Who) (x : ℕ) (seen : List ℕ) (a : Answer) → Decided (TxnAt osts t past n who x seen a)
-decide_txn osts t past n who x seen a =
+abbrev pub decide_txn : (t : ℕ) (past : Past) (number : ℕ) (seen due : List ℕ) → Decided (TransactionAt t past number seen due)
+decide_txn t past number seen due =
     like (λ f. record { above = f.0; in_boot = f.1; sees = f.2 }) (λ r. (r.above, r.in_boot, r.sees))
     (three (below _ _) (numbers _ _) (number_lists _ _))
 
@@ -145,7 +145,7 @@ on_target (Client c) d = nothing
 abbrev pub decide_at : (clients osts : ℕ) (past : Past) (l : Line) (later : List Line) (e : Entry) → Decided (RecoveryAt clients osts past l later e)
 decide_at clients osts past l later (Send number to m) = on_target l.at.node (λ t. decide_sent osts t past l.at m)
 decide_at clients osts past l later (Take n) = on_target l.at.node (λ t. decide_taken t past l later (message_of past n))
-decide_at clients osts past l later (Txn number who xid seen answer) = on_target l.at.node (λ t. decide_txn osts t past number who xid.0 seen answer)
+decide_at clients osts past l later (Txn number who xid seen answer) = on_target l.at.node (λ t. decide_txn t past number.0 seen (request_sees osts t past number who xid.0 answer))
 decide_at clients osts past l later (Commit number) = on_target l.at.node (λ t. decide_commit t past number.0)
 decide_at clients osts past l later (Back who) = on_target l.at.node (λ t. decide_back t past l.at who)
 decide_at clients osts past l later Close = on_target l.at.node (λ t. decide_close clients t past l.at later)

@@ -9,10 +9,10 @@ use Rattle.lu_base.specs.declared.locks.Cause.TheVariants.{Absent}
 use Rattle.lu_msg.specs.declared.answers.Answer.TheVariants as told
 use Rattle.lu_msg.specs.declared.operations.Op.TheVariants as op
 use Rattle.lu_trace.specs.declared.entries.Entry.{Entry}
-use Rattle.lu_trace.specs.declared.entries.Entry.TheVariants.{Take, Commit, Boot, Crash, Grant, Restore}
+use Rattle.lu_trace.specs.declared.entries.Entry.TheVariants.{Take, Commit, Boot, Crash, Close, Grant, Restore}
 use Rattle.lu_laws.specs.Words.Pasts.{Past}
 use Rattle.lu_laws.proofs.Words.{target, turn, life, number, fid, txn_of, cookie, extent, onward, object, lock, asks, reports, replies, grants, sends, executes}
-use Rattle.lu_laws.proofs.Wrong.Recovering.{BreaksAt, Keeps, turn_of, client_turn, mkdir, makes, served, commit, closes, both_kept, both_restored, both_evicted}
+use Rattle.lu_laws.proofs.Wrong.Recovering.{BreaksAt, Keeps, turn_of, client_turn, mkdir, makes, served, commit, evict, closes, both_kept, both_restored, both_evicted}
 
 -- ---- numbers
 
@@ -24,6 +24,10 @@ number_falls = refl
 
 number_falls_later : BreaksAt (turn_of 0 3 (makes 2 2 ∷ []) (turn_of 0 2 (makes 1 3 ∷ []) (turn_of 0 1 (makes 0 1 ∷ []) []))) (target 3 0 (makes 2 2) ∷ [])
 number_falls_later = refl
+
+-- above the last one, but not above all
+number_between : BreaksAt (turn_of 0 3 (makes 2 4 ∷ []) (turn_of 0 2 (makes 1 3 ∷ []) (turn_of 0 1 (makes 0 5 ∷ []) []))) (target 3 0 (makes 2 4) ∷ target 2 0 (makes 1 3) ∷ [])
+number_between = refl
 
 -- each target has its own numbers, and none need be used
 number_of_another_target : Keeps (turn_of 1 2 (makes 1 1 ∷ []) (turn_of 0 1 (makes 0 2 ∷ []) []))
@@ -83,6 +87,24 @@ saw_the_committed = refl
 
 saw_in_falling_order : BreaksAt (set_back_after (Commit (txn_of 0 0)) (number 1 2 ∷ number 1 1 ∷ [])) (target 7 0 (sets_back (number 1 2 ∷ number 1 1 ∷ [])) ∷ [])
 saw_in_falling_order = refl
+
+-- 1.1 was lost at a close: the name is free again, and the next one doesn't see it
+abbrev makes_again : List ℕ → Entry
+makes_again seen = executes (txn_of 2 1) (life 1 1) 1 seen (told.Made (fid 2 1))
+
+abbrev made_again : List ℕ → Past
+made_again seen =
+    turn_of 0 7 (makes_again seen ∷ [])
+    (client_turn 1 6 (sends 2 (Target 0) (mkdir 1 97) ∷ [])
+    (turn_of 0 5 (Close ∷ Commit (txn_of 0 0) ∷ evict 0 Absent ∷ evict 1 Absent ∷ [])
+    (turn_of 0 4 (Boot 2 ∷ []) (turn_of 0 3 (Crash ∷ [])
+    (turn_of 0 2 (makes 0 1 ∷ []) (client_turn 0 1 (sends 1 (Target 0) (mkdir 0 97) ∷ []) []))))))
+
+saw_only_what_stands : Keeps (made_again [])
+saw_only_what_stands = refl
+
+saw_the_lost : BreaksAt (made_again (number 1 1 ∷ [])) (target 7 0 (makes_again (number 1 1 ∷ [])) ∷ [])
+saw_the_lost = refl
 
 -- ---- what a reply and a grant let see
 

@@ -101,27 +101,35 @@ replay c count name = replays (life c 1) 2 (txn_of 1 count) 1 0 [] (op.Mkdir ((n
 abbrev pub hand_in : ℕ → ℕ → Message
 hand_in c count = hands_in (life c 1) 2 (cookie 1 count) (object 1 2 0) PR (Bits 3)
 
--- the target booted again; c1 sent its word (8), c2 and c3 each a replay (9, 12), a lock (10, 13) and a word (11, 14)
+-- each sent what it has: c1 a lock (8) and its word (9); c2 a replay (10), a lock (11) and its word (12); c3 the same (13 to 15)
+abbrev pub handed_in : Past → Past
+handed_in past =
+    client_turn 3 16 (sends 13 (Target 0) (replay 3 3 99) ∷ sends 14 (Target 0) (hand_in 3 3) ∷ sends 15 (Target 0) (word 3 1 1) ∷ [])
+    (client_turn 2 15 (sends 10 (Target 0) (replay 2 2 98) ∷ sends 11 (Target 0) (hand_in 2 2) ∷ sends 12 (Target 0) (word 2 1 1) ∷ [])
+    (client_turn 1 14 (sends 8 (Target 0) (hand_in 1 1) ∷ sends 9 (Target 0) (word 1 0 1) ∷ []) past))
+
+-- the target booted again
 abbrev pub booted : Past
-booted =
-    client_turn 3 16 (sends 12 (Target 0) (replay 3 3 99) ∷ sends 13 (Target 0) (hand_in 3 3) ∷ sends 14 (Target 0) (word 3 1 1) ∷ [])
-    (client_turn 2 15 (sends 9 (Target 0) (replay 2 2 98) ∷ sends 10 (Target 0) (hand_in 2 2) ∷ sends 11 (Target 0) (word 2 1 1) ∷ [])
-    (client_turn 1 14 (sends 8 (Target 0) (word 1 0 0) ∷ [])
-    (turn_of 0 13 (entry.Boot 2 ∷ []) (turn_of 0 12 (entry.Crash ∷ []) served))))
+booted = handed_in (turn_of 0 13 (entry.Boot 2 ∷ []) (turn_of 0 12 (entry.Crash ∷ []) served))
 
 abbrev pub back : ℕ → Entry
 back c = entry.Back (life c 1)
 
+-- c1 and c2 are back
+abbrev pub two_back : Past
+two_back =
+    turn_of 0 21 (entry.Take 12 ∷ back 2 ∷ [])
+    (turn_of 0 20 (entry.Take 11 ∷ [])
+    (turn_of 0 19 (entry.Take 10 ∷ [])
+    (turn_of 0 18 (entry.Take 9 ∷ back 1 ∷ [])
+    (turn_of 0 17 (entry.Take 8 ∷ []) booted))))
+
 -- all but c0 are back
 abbrev pub window : Past
 window =
-    turn_of 0 23 (entry.Take 14 ∷ back 3 ∷ [])
-    (turn_of 0 22 (entry.Take 13 ∷ [])
-    (turn_of 0 21 (entry.Take 12 ∷ [])
-    (turn_of 0 20 (entry.Take 11 ∷ back 2 ∷ [])
-    (turn_of 0 19 (entry.Take 10 ∷ [])
-    (turn_of 0 18 (entry.Take 9 ∷ [])
-    (turn_of 0 17 (entry.Take 8 ∷ back 1 ∷ []) booted))))))
+    turn_of 0 24 (entry.Take 15 ∷ back 3 ∷ [])
+    (turn_of 0 23 (entry.Take 14 ∷ [])
+    (turn_of 0 22 (entry.Take 13 ∷ []) two_back))
 
 abbrev pub commit : ℕ → Entry
 commit count = entry.Commit (txn_of 1 count)

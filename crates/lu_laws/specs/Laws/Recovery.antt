@@ -56,11 +56,12 @@ abbrev pub request_sees : ℕ → ℕ → Past → TxnOf → Who → ℕ → Ans
 request_sees osts t past number who x answer =
     seen_by osts t past (touches_of osts t past number who (asked past t who x) answer)
 
--- a transaction's number is above all earlier ones of its target, and its high 32 bits are the target's boot
-pub record TxnAt (osts t : ℕ) (past : Past) (n : TxnOf) (who : Who) (x : ℕ) (seen : List ℕ) (a : Answer) : Type 0 where
-  pub above : greatest t past < n.0
-  pub in_boot : n.0 / 2 ^ 32 ≡ boot t past
-  pub sees : seen ≡ request_sees osts t past n who x a
+-- a transaction's number is above all earlier ones of its target, its high 32 bits are the target's boot, and it names
+-- the seen numbers that are due
+pub record TransactionAt (t : ℕ) (past : Past) (number : ℕ) (seen due : List ℕ) : Type 0 where
+  pub above : greatest t past < number
+  pub in_boot : number / 2 ^ 32 ≡ boot t past
+  pub sees : seen ≡ due
 
 -- ---- replies, where they are executed
 
@@ -100,12 +101,12 @@ ReplyAt osts t past at r =
     is_executed past at r ≡ true → r.seen ≡ reply_seen osts t past r (seen_in past at r.who r.xid.0)
 
 -- a grant has the numbers over the range that is granted, when it is sent
-abbrev pub GrantAt : ℕ → ℕ → Past → GrantNotice → Type 0
-GrantAt osts t past g = g.seen ≡ seen_by osts t past (notice_touches t past g)
+abbrev pub NoticeAt : ℕ → ℕ → Past → GrantNotice → Type 0
+NoticeAt osts t past g = g.seen ≡ seen_by osts t past (notice_touches t past g)
 
 abbrev pub SentAt : ℕ → ℕ → Past → At → Message → Type 0
 SentAt osts t past at (message.Reply r) = ReplyAt osts t past at r
-SentAt osts t past at (message.Grant g) = GrantAt osts t past g
+SentAt osts t past at (message.Grant g) = NoticeAt osts t past g
 SentAt osts t past at _ = Unit {0}
 
 -- ---- commits
@@ -255,7 +256,7 @@ abbrev pub RecoveryAt : ℕ → ℕ → Past → Line → List Line → Entry �
 RecoveryAt clients osts past l later (Send number to m) = OnTarget l.at.node (λ t. SentAt osts t past l.at m)
 RecoveryAt clients osts past l later (Take n) = OnTarget l.at.node (λ t. TakenAt t past l later (message_of past n))
 RecoveryAt clients osts past l later (Txn number who xid seen answer) =
-    OnTarget l.at.node (λ t. TxnAt osts t past number who xid.0 seen answer)
+    OnTarget l.at.node (λ t. TransactionAt t past number.0 seen (request_sees osts t past number who xid.0 answer))
 RecoveryAt clients osts past l later (Commit number) = OnTarget l.at.node (λ t. CommitAt t past number.0)
 RecoveryAt clients osts past l later (Back who) = OnTarget l.at.node (λ t. BackAt t past l.at who)
 RecoveryAt clients osts past l later Close = OnTarget l.at.node (λ t. CloseAt clients t past l.at later)

@@ -39,26 +39,27 @@ handed t (l ∷ past) = handed_step t (message_of past) l (handed t past)
 abbrev pub is_replay_of : RequestReplay → RequestReplay → Bool
 is_replay_of a b = same_life a.who b.who && a.txn.0 == b.txn.0
 
-abbrev pub with_replay : ℕ → Message → List RequestReplay → List RequestReplay
-with_replay b (Replay r) older = if r.boot == b && not (list_any (is_replay_of r) older) then r ∷ older else older
-with_replay b _ older = older
+abbrev pub with_handed_replay : ℕ → Message → List RequestReplay → List RequestReplay
+with_handed_replay b (Replay r) older =
+    if r.boot == b && not (list_any (is_replay_of r) older) then r ∷ older else older
+with_handed_replay b _ older = older
 
 -- one replay for each life and transaction
 abbrev pub replays : ℕ → List Message → List RequestReplay
 replays b [] = []
-replays b (m ∷ handed) = with_replay b m (replays b handed)
+replays b (m ∷ handed) = with_handed_replay b m (replays b handed)
 
 abbrev pub is_lock_of : LockReplay → LockReplay → Bool
 is_lock_of a b = same_life a.who b.who && a.cookie.0 == b.cookie.0
 
-abbrev pub with_lock : ℕ → Message → List LockReplay → List LockReplay
-with_lock b (Lock r) older = if r.boot == b && not (list_any (is_lock_of r) older) then r ∷ older else older
-with_lock b _ older = older
+abbrev pub with_handed_lock : ℕ → Message → List LockReplay → List LockReplay
+with_handed_lock b (Lock r) older = if r.boot == b && not (list_any (is_lock_of r) older) then r ∷ older else older
+with_handed_lock b _ older = older
 
 -- one lock for each life and cookie
 abbrev pub locks : ℕ → List Message → List LockReplay
 locks b [] = []
-locks b (m ∷ handed) = with_lock b m (locks b handed)
+locks b (m ∷ handed) = with_handed_lock b m (locks b handed)
 
 abbrev pub replay_count : ℕ → Who → List Message → ℕ
 replay_count b who handed = length (filter (λ (r : RequestReplay). same_life r.who who) (replays b handed))

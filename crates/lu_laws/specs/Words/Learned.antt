@@ -16,13 +16,13 @@ use Rattle.lu_laws.specs.Words.Sends.{Sending, taken}
 use Rattle.lu_laws.specs.Words.Lives.{is_by}
 
 -- the message is the target's reply to that request of the life, and passes the test
-abbrev pub replies : (ReplyOf → Bool) → ℕ → Who → ℕ → Sending → Bool
-replies test t who x s =
+abbrev pub is_reply_to : (ReplyOf → Bool) → ℕ → Who → ℕ → Sending → Bool
+is_reply_to test t who x s =
     elim s.message [ Reply r ↦ is_target t s.from && same_life r.who who && r.xid.0 == x && test r | _ ↦ false ]
 
 -- the message is the target's grant of that lock of the life, and passes the test
-abbrev pub grants : (GrantNotice → Bool) → ℕ → Who → ℕ → Sending → Bool
-grants test t who cookie s =
+abbrev pub is_grant_to : (GrantNotice → Bool) → ℕ → Who → ℕ → Sending → Bool
+is_grant_to test t who cookie s =
     elim s.message [ Grant g ↦ is_target t s.from && same_life g.who who && g.cookie.0 == cookie && test g | _ ↦ false ]
 
 -- with this line the life hears a reply of the target that passes the test: any that the turn took
@@ -30,7 +30,7 @@ abbrev pub hears_one : (ReplyOf → Bool) → ℕ → Who → Past → Line → 
 hears_one test t who past l =
     elim l.entry [
       | Heard target xid ↦
-          target.0 == t && is_by who past l.at.node && list_any (replies test t who xid.0) (taken past l.at)
+          target.0 == t && is_by who past l.at.node && list_any (is_reply_to test t who xid.0) (taken past l.at)
       | _ ↦ false
     ]
 
@@ -39,7 +39,7 @@ abbrev pub holds_by_one : (GrantNotice → Bool) → ℕ → Who → Past → Li
 holds_by_one test t who past l =
     elim l.entry [
       | Hold target cookie ↦
-          target.0 == t && is_by who past l.at.node && list_any (grants test t who cookie.0) (taken past l.at)
+          target.0 == t && is_by who past l.at.node && list_any (is_grant_to test t who cookie.0) (taken past l.at)
       | _ ↦ false
     ]
 

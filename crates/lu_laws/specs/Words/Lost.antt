@@ -74,7 +74,7 @@ abbrev pub is_fail : Entry → Bool
 is_fail Fail = true
 is_fail _ = false
 
--- a close in whose turn the disk fails isn't finished, and loses nothing
+-- a close in whose turn the disk fails isn't finished, and loses nothing; in the newest turn, as far as the past goes
 abbrev pub with_close : Bool → At → (List ℕ → List ℕ) → List Loss → List Loss
 with_close failed at lose old = if failed then old else record { at = at; numbers = lose (numbers_of old) } ∷ old
 

@@ -2,6 +2,8 @@
 use Rattle.std.proofs.Common.{[], ◌∷◌, refl}
 use Rattle.std.specs.Prelude.{codes}
 use Rattle.lu_base.specs.declared.ids.Node.TheVariants.{Client, Target}
+use Rattle.lu_base.specs.declared.locks.Mode.TheVariants.{PR}
+use Rattle.lu_base.specs.declared.locks.Policy.TheVariants.{Bits}
 use Rattle.lu_msg.specs.declared.answers.Answer.TheVariants as told
 use Rattle.lu_msg.specs.declared.answers.Errno.TheVariants.{EEXIST}
 use Rattle.lu_msg.specs.declared.calls.Call.TheVariants as call
@@ -9,7 +11,7 @@ use Rattle.lu_msg.specs.declared.messages.Message.TheVariants as message
 use Rattle.lu_msg.specs.declared.operations.Op.TheVariants as op
 use Rattle.lu_trace.specs.declared.entries.Entry.TheVariants as entry
 use Rattle.lu_laws.specs.Words.Pasts.{Past}
-use Rattle.lu_laws.proofs.Words.{turn, client, target, life, fid, txn_of, cookie, extent}
+use Rattle.lu_laws.proofs.Words.{turn, client, target, life, fid, txn_of, cookie, extent, object, lock}
 use Rattle.lu_laws.proofs.Words.{asks, replies, grants}
 use Rattle.lu_laws.proofs.Words.{sends, heard, hold, executes}
 use Rattle.lu_laws.proofs.Wrong.Order.{Lives, Held, Heard, Repeated, Breaks}
@@ -19,6 +21,13 @@ abbrev pub asked : Past
 asked =
     client 1 0 (sends 1 (Target 0) (asks (life 0 1) 1 1 0 (op.Mkdir (codes "a" ∷ [])))) ∷
     client 1 0 (entry.Begin 0 (call.Mkdir (codes "a" ∷ []))) ∷
+    []
+
+-- a name is looked up
+abbrev pub looked : Past
+looked =
+    client 1 0 (sends 1 (Target 0) (asks (life 0 1) 1 1 0 (op.Lookup (codes "a" ∷ [])))) ∷
+    client 1 0 (entry.Begin 0 (call.Lookup (codes "a" ∷ []))) ∷
     []
 
 -- it is made
@@ -78,6 +87,15 @@ lives_busy_past =
 pub lives_busy : Breaks Lives lives_busy_past
 lives_busy = refl
 
+-- a new life of another client
+abbrev pub lives_other_past : Past
+lives_other_past =
+    client 2 0 (entry.Life (life 1 2)) ∷
+    noticed
+
+pub lives_other : Breaks Lives lives_other_past
+lives_other = refl
+
 -- ---- what comes to be held
 
 -- a lock that came with nothing
@@ -111,6 +129,19 @@ held_elsewhere_past =
 
 pub held_elsewhere : Breaks Held held_elsewhere_past
 held_elsewhere = refl
+
+-- a lock that isn't among those of the reply
+abbrev pub held_reply_past : Past
+held_reply_past =
+    client 3 0 (hold 0 (cookie 1 2)) ∷
+    client 3 0 (heard 0 1) ∷
+    client 3 0 (entry.Take 2) ∷
+    target 2 0 (sends 2 (Client 0) (replies (life 0 1) 1 1 (txn_of 0 0) (txn_of 0 0) [] (turn 2 (Target 0)) (lock
+    (cookie 1 1) (life 0 1) (object 0 1 0) PR (Bits 1) ∷ []) (told.Dir (fid 1 1)))) ∷
+    looked
+
+pub held_reply : Breaks Held held_reply_past
+held_reply = refl
 
 -- ---- what is heard
 

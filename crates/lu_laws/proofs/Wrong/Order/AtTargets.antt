@@ -2,16 +2,18 @@
 use Rattle.std.proofs.Common.{[], ◌∷◌, refl}
 use Rattle.std.specs.Prelude.{codes}
 use Rattle.lu_base.specs.declared.ids.Node.TheVariants.{Client, Target}
+use Rattle.lu_base.specs.declared.locks.Cause.TheVariants.{Expired}
 use Rattle.lu_base.specs.declared.locks.Mode.TheVariants.{PR}
 use Rattle.lu_base.specs.declared.locks.Policy.TheVariants.{Bits}
 use Rattle.lu_msg.specs.declared.answers.Answer.TheVariants as told
 use Rattle.lu_msg.specs.declared.answers.Errno.TheVariants.{ENOENT, EEXIST}
 use Rattle.lu_msg.specs.declared.calls.Call.TheVariants as call
+use Rattle.lu_msg.specs.declared.messages.Message.TheVariants as message
 use Rattle.lu_msg.specs.declared.operations.Op.TheVariants as op
 use Rattle.lu_trace.specs.declared.entries.Entry.TheVariants as entry
 use Rattle.lu_laws.specs.Words.Pasts.{Past}
-use Rattle.lu_laws.proofs.Words.{turn, client, target, life, fid, txn_of, cookie, object, lock}
-use Rattle.lu_laws.proofs.Words.{asks, replies}
+use Rattle.lu_laws.proofs.Words.{turn, client, target, life, fid, txn_of, cookie, extent, object, lock}
+use Rattle.lu_laws.proofs.Words.{asks, replies, grants}
 use Rattle.lu_laws.proofs.Words.{sends, acts, executes}
 use Rattle.lu_laws.proofs.Wrong.Order.{Serving, Requests, Boots, Messages, Answers, Breaks}
 
@@ -102,6 +104,48 @@ requests_before_past =
 pub requests_before : Breaks Requests requests_before_past
 requests_before = refl
 
+-- an act of a request that names an earlier boot
+abbrev pub requests_stale_past : Past
+requests_stale_past =
+    target 5 0 (acts (life 0 1) 1 (told.Refused ENOENT)) ∷
+    target 5 0 (entry.Take 1) ∷
+    target 4 0 (entry.Commit (txn_of 0 0)) ∷
+    target 4 0 entry.Close ∷
+    target 3 0 (entry.Boot 2) ∷
+    target 2 0 entry.Crash ∷
+    looked
+
+pub requests_stale : Breaks Requests requests_stale_past
+requests_stale = refl
+
+-- an act of a request that was taken while the target recovered
+abbrev pub requests_early_past : Past
+requests_early_past =
+    target 6 0 (acts (life 0 1) 1 (told.Refused ENOENT)) ∷
+    target 5 0 (entry.Commit (txn_of 0 0)) ∷
+    target 5 0 entry.Close ∷
+    target 4 0 (entry.Take 1) ∷
+    client 3 0 (sends 1 (Target 0) (asks (life 0 1) 2 1 0 (op.Lookup (codes "a" ∷ [])))) ∷
+    target 2 0 (entry.Boot 2) ∷
+    target 1 0 entry.Crash ∷
+    []
+
+pub requests_early : Breaks Requests requests_early_past
+requests_early = refl
+
+-- an act for a life that was evicted meanwhile
+abbrev pub requests_gone_past : Past
+requests_gone_past =
+    target 3 0 (acts (life 0 1) 1 (told.Refused ENOENT)) ∷
+    target 3 0 (entry.Evict (life 0 1) Expired) ∷
+    target 3 0 (entry.Commit (txn_of 0 0)) ∷
+    target 3 0 entry.Tick ∷
+    target 2 0 (entry.Take 1) ∷
+    looked
+
+pub requests_gone : Breaks Requests requests_gone_past
+requests_gone = refl
+
 -- ---- boots and crashes
 
 -- a boot of a target that is up
@@ -167,6 +211,24 @@ messages_kind_past =
 
 pub messages_kind : Breaks Messages messages_kind_past
 messages_kind = refl
+
+-- a `ready` that says that something is committed
+abbrev pub messages_ready_past : Past
+messages_ready_past =
+    target 1 0 (sends 1 (Client 0) (message.Ready (life 0 1) 1 (txn_of 1 1))) ∷
+    []
+
+pub messages_ready : Breaks Messages messages_ready_past
+messages_ready = refl
+
+-- a grant that says that something is committed
+abbrev pub messages_grant_past : Past
+messages_grant_past =
+    target 1 1 (sends 1 (Client 0) (grants (life 0 1) 1 (cookie 1 1) (extent 0 9) 0 (txn_of 1 1) [])) ∷
+    []
+
+pub messages_grant : Breaks Messages messages_grant_past
+messages_grant = refl
 
 -- ---- answers at the metadata target
 
