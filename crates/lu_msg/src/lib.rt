@@ -8,12 +8,14 @@
 mod answers;
 mod calls;
 mod commits;
+mod limits;
 mod messages;
 mod operations;
 
 pub use answers::{Answer, Errno};
 pub use calls::Call;
 pub use commits::{Batch, Batches, KeptReplies, KeptReply, Transaction, Transactions};
+pub use limits::{SLOTS, TAGS};
 pub use messages::{
     GrantNotice, LockReplay, Message, Post, Reply, Request, RequestReplay, Sends, SizeReport,
 };
