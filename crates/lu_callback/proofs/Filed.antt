@@ -9,11 +9,12 @@ use Rattle.std.specs.BTreeMap.{BTreeMap, insert_entry}
 use Rattle.std.proofs.lemmas.Bool.{eq-eqb, eqb-true}
 use Rattle.std.proofs.lemmas.Bool.Decides.{nat_tests}
 use Rattle.std.proofs.lemmas.List.Elements.{All-append, All-cons, All-filter, filter-append}
+use Rattle.std.proofs.lemmas.List.{append-nil}
 use Rattle.std.proofs.lemmas.List.Folds.{list_any-append, list_any_none}
 use Rattle.lu_base.specs.declared.ids.Cookie.{Cookie}
 use Rattle.lu_callback.specs.declared.callbacks.Asked.{Asked}
 use Rattle.lu_callback.specs.declared.callbacks.Kind.{Kind}
-use Rattle.lu_callback.specs.Callbacks.{is_block, is_asked, is_outstanding, stands_before, with_asked, without, IsSound}
+use Rattle.lu_callback.specs.Callbacks.{is_block, is_asked, is_outstanding, stands_before, with_asked, without, of_lock, IsSound}
 use Rattle.lu_callback.specs.Filed.{of_kind, put_in, all_asked, at, is_idle, IsFiled, IsHeld}
 use Rattle.lu_callback.proofs.Orders.{rest_all, none_at, sound_asked, sound_filtered}
 
@@ -43,7 +44,7 @@ some_is : (one other : List Asked) → Some one ≡ Some other → one ≡ other
 some_is one other e = cc
 
 -- of one lock, of later ones, and of others
-abbrev Of : ℕ → Asked → Type 0
+abbrev pub Of : ℕ → Asked → Type 0
 Of n asked = asked.cookie.0 ≡ n
 
 abbrev Above : ℕ → Asked → Type 0
@@ -60,7 +61,7 @@ above_apart cookie n xs less above = λ k d within. by (get_or xs k d).cookie.0 
   by : (m : ℕ) → n ≤ m → (m == cookie.0) ≡ false
   by m more = grind (arith, nat_tests)
 
-lower : (m n : ℕ) (entries : Entries) → m ≤ n → IsFiled n entries → IsFiled m entries
+pub lower : (m n : ℕ) (entries : Entries) → m ≤ n → IsFiled n entries → IsFiled m entries
 lower m n [] less filed = filed
 lower m n (entry ∷ entries) less filed = (omega (arith, filed.0), filed.1, filed.2)
 
@@ -380,6 +381,41 @@ pub none_forgot : (cookie : Cookie) (kind : Kind) (entries : Entries) → IsHeld
 none_forgot cookie kind entries held none =
     let absent : is_outstanding cookie kind (all_asked entries) ≡ false = any_is cookie kind 0 entries held.filed ∙ ap (λ found. option_map_or (list_any (of_kind kind)) found false) none in
     sym (filter_all (other_than cookie kind) (all_asked entries) (λ k d within. ap not (none_at (is_asked cookie kind) (all_asked entries) absent k d within)))
+
+-- what stands under a cookie is what is outstanding of its lock
+abbrev on : Cookie → Asked → Bool
+on cookie one = one.cookie.0 == cookie.0
+
+of_stays : (cookie : Cookie) (xs : List Asked) → All (Of cookie.0) xs → of_lock cookie xs ≡ xs
+of_stays cookie xs of = filter_all (on cookie) xs (λ k d within. eq-eqb (get_or xs k d).cookie.0 cookie.0 (of k d within))
+
+apart_goes : (cookie : Cookie) (xs : List Asked) → All (Apart cookie) xs → of_lock cookie xs ≡ []
+apart_goes cookie xs apart = filter_none (on cookie) xs apart
+
+abbrev pub found_in : Option (List Asked) → List Asked
+found_in None = []
+found_in (Some xs) = xs
+
+of_is : (cookie : Cookie) (n : ℕ) (entries : Entries) → IsFiled n entries → of_lock cookie (all_asked entries) ≡ found_in (lookup (at cookie) entries)
+of_is cookie n [] filed = refl
+of_is cookie n (entry ∷ entries) filed = by (at cookie entry.0) refl (of_is cookie (entry.0.0 + 1) entries filed.2) where
+  all : of_lock cookie (entry.1 ++ all_asked entries) ≡ of_lock cookie entry.1 ++ of_lock cookie (all_asked entries)
+  all = filter-append (on cookie) entry.1 (all_asked entries)
+
+  by : (same : Bool) → at cookie entry.0 ≡ same → of_lock cookie (all_asked entries) ≡ found_in (lookup (at cookie) entries) → of_lock cookie (entry.1 ++ all_asked entries) ≡ found_in (cond same (Some entry.1) (lookup (at cookie) entries))
+  by true e rest =
+      let key : entry.0.0 ≡ cookie.0 = key_is cookie entry.0 e in
+      all
+      ∙ ap (λ xs. xs ++ of_lock cookie (all_asked entries)) (of_stays cookie entry.1 (subst (λ m. All (Of m) entry.1) key filed.1))
+      ∙ ap (λ more. entry.1 ++ more) (apart_goes cookie (all_asked entries) (rest_apart cookie entry entries key filed.2))
+      ∙ append-nil entry.1
+  by false e rest =
+      all
+      ∙ ap (λ xs. xs ++ of_lock cookie (all_asked entries)) (apart_goes cookie entry.1 (of_apart cookie entry.0.0 entry.1 (key_apart cookie entry.0 e) filed.1))
+      ∙ rest
+
+pub of_found : (cookie : Cookie) (entries : Entries) (found : Option (List Asked)) → IsHeld entries → found ≡ lookup (at cookie) entries → of_lock cookie (all_asked entries) ≡ found_in found
+of_found cookie entries found held is = of_is cookie 0 entries held.filed ∙ ap found_in (sym is)
 
 -- letting go of a cookie under which nothing stands
 idle_found : (found : Option (List Asked)) → option_map_or (λ asked. length asked == 0) found false ≡ true → found ≡ Some []

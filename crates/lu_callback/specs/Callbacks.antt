@@ -46,9 +46,32 @@ with_asked asked (there ∷ callbacks) =
 abbrev pub without : Cookie → List Asked → List Asked
 without cookie callbacks = filter (λ asked. not (asked.cookie.0 == cookie.0)) callbacks
 
+-- What is outstanding of this lock.
+abbrev pub of_lock : Cookie → List Asked → List Asked
+of_lock cookie callbacks = filter (λ asked. asked.cookie.0 == cookie.0) callbacks
+
 -- All that is outstanding but this glimpse.
 abbrev pub without_glimpse : Cookie → Who → Xid → List Asked → List Asked
 without_glimpse cookie who xid callbacks = filter (λ asked. not (is_asked cookie (Glimpse who xid) asked)) callbacks
+
+-- It was asked of one of these locks.
+abbrev pub is_of_locks : List Cookie → Asked → Bool
+is_of_locks cookies asked = list_any (λ cookie. asked.cookie.0 == cookie.0) cookies
+
+-- It is a glimpse for a request of one of these lives.
+abbrev pub is_among : Who → List Who → Bool
+is_among who lives = list_any (λ life. life.client == who.client && life.life == who.life) lives
+
+abbrev pub is_for : List Who → Kind → Bool
+is_for lives Block = false
+is_for lives (Glimpse who _) = is_among who lives
+
+-- What is outstanding of other locks than these, and what isn't a glimpse for these lives.
+abbrev pub without_locks : List Cookie → List Asked → List Asked
+without_locks cookies callbacks = filter (λ asked. not (is_of_locks cookies asked)) callbacks
+
+abbrev pub without_lives : List Who → List Asked → List Asked
+without_lives lives callbacks = filter (λ asked. not (is_for lives asked.kind)) callbacks
 
 -- It is a block that was asked at least `age` ticks before `tick`.
 abbrev pub is_due : (tick age : ℕ) → Asked → Bool

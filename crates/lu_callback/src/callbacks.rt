@@ -4,8 +4,8 @@
 ghost use Rattle.std.specs.Prelude.{◌≡◌, ◌<◌, not, false, if◌then◌else◌, [], AllPairs, slice_get, option_map, IfOk, OnOk, OnErr};
 ghost use Rattle.std.specs.Option.{option_copied};
 ghost use Rattle.lu_callback.specs.declared.callbacks.Kind.TheVariants as kind;
-ghost use Rattle.lu_callback.specs.Callbacks.{is_block, same_kind, is_outstanding, with_asked, without, without_glimpse, is_due, due, IsSound};
-ghost use Rattle.lu_callback.specs.Filed.{all_asked, is_idle};
+ghost use Rattle.lu_callback.specs.Callbacks.{is_block, same_kind, is_outstanding, with_asked, without, of_lock, without_glimpse, is_among, is_for, without_locks, without_lives, is_due, due, IsSound};
+ghost use Rattle.lu_callback.specs.Filed.{all_asked, is_idle, IsHeld};
 
 use super::holders::Holder;
 use lu_base::{Cookie, Cookies, Memory, Who, Xid};
@@ -49,6 +49,43 @@ pub(crate) fn is_block(kind: Kind) -> bool
     match kind {
         Kind::Block => true,
         Kind::Glimpse(..) => false,
+    }
+}
+
+/// Whether it is a glimpse for a request of one of these lives.
+pub(crate) fn is_for(kind: Kind, lives: &[Who]) -> bool
+    ensures { result ≡ is_for lives.now kind }
+{
+    match kind {
+        Kind::Block => false,
+        Kind::Glimpse(who, _) => is_among(who, lives),
+    }
+}
+
+/// Whether a life is one of these.
+fn is_among(who: Who, lives: &[Who]) -> bool
+    ensures { result ≡ is_among who lives.now }
+{
+    lives.iter().any(|life| *life == who)
+}
+
+/// Takes away all that is outstanding of a lock.
+fn remove(holders: &mut BTreeMap<Cookie, Holder>, cookie: Cookie)
+    requires { IsHeld holders.old.entries }
+    ensures held { IsHeld holders.new.entries }
+    ensures without { all_asked holders.new.entries ≡ without cookie (all_asked holders.old.entries) }
+{
+    holders.remove(&cookie);
+}
+
+/// Takes away all that is outstanding of these locks.
+fn remove_all(holders: &mut BTreeMap<Cookie, Holder>, locks: &[Cookie])
+    requires { IsHeld holders.old.entries }
+    ensures held { IsHeld holders.new.entries }
+    ensures without { all_asked holders.new.entries ≡ without_locks locks.now (all_asked holders.old.entries) }
+{
+    for cookie in locks {
+        remove(holders, *cookie);
     }
 }
 
@@ -180,7 +217,25 @@ impl Callbacks {
         ensures without { self.new ≡ without cookie self.old }
         ensures sound { IsSound self.new }
     {
-        self.holders.remove(&cookie);
+        remove(&mut self.holders, cookie);
+    }
+
+    /// Takes away all that ends with these lives: what is outstanding of these locks, which are theirs, and the
+    /// glimpses of any lock for their requests. It takes no memory.
+    pub fn end_lives(&mut self, lives: &[Who], locks: &Cookies)
+        ensures without { self.new ≡ without_lives lives.now (without_locks locks.now self.old) }
+        ensures sound { IsSound self.new }
+    {
+        remove_all(&mut self.holders, locks.as_slice());
+        self.forget_lives(lives);
+    }
+
+    /// Takes away the glimpses of any lock for requests of these lives. It takes no memory.
+    pub fn forget_lives(&mut self, lives: &[Who])
+        ensures without { self.new ≡ without_lives lives.now self.old }
+        ensures sound { IsSound self.new }
+    {
+        self.holders.retain(|_, holder| holder.outlives(lives));
     }
 
     /// Takes away the glimpse of this lock for the request of this life and number. False where it
@@ -219,6 +274,18 @@ impl Callbacks {
     {
         let cookies = due(alloc, &self.holders, tick, age)?;
         Ok(Cookies::from(cookies))
+    }
+
+    /// What is outstanding of this lock, from place 0 on: the block first and then the glimpses in the order in
+    /// which they were asked; none past the last.
+    pub fn of(&self, cookie: Cookie, at: usize) -> Option<Kind>
+        ensures asked { result ≡ option_map (λ asked. asked.kind) (slice_get (of_lock cookie self.now) at) }
+        ensures sound { IsSound self.now }
+    {
+        match self.holders.get(&cookie) {
+            Some(holder) => holder.kind_at(at),
+            None => None,
+        }
     }
 
     /// What is outstanding, from place 0 on: in rising cookie, for one cookie the block first and then

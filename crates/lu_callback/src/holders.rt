@@ -1,11 +1,12 @@
 //! What was asked of the holder of one lock.
 
-ghost use Rattle.std.specs.Prelude.{◌≡◌, ◌==◌, not, filter, length, [], OnOk, OnErr};
+ghost use Rattle.std.specs.Prelude.{◌≡◌, ◌==◌, not, filter, length, [], slice_get, option_map, OnOk, OnErr};
 ghost use Rattle.std.specs.List.{list_any};
+ghost use Rattle.lu_callback.specs.Callbacks.{without_lives};
 ghost use Rattle.lu_callback.specs.Filed.{of_kind, put_in};
 
-use super::callbacks::{Asked, Kind, is_block, same_kind};
-use lu_base::Memory;
+use super::callbacks::{Asked, Kind, is_block, is_for, same_kind};
+use lu_base::{Memory, Who};
 use std::alloc::Global;
 use std::marker::Model;
 
@@ -49,6 +50,14 @@ impl Holder {
         self.asked.as_slice()
     }
 
+    /// The kind of what was asked at this place, from 0; none past the last.
+    pub(crate) fn kind_at(&self, at: usize) -> Option<Kind>
+        ensures kind { result ≡ option_map (λ asked. asked.kind) (slice_get self.now at) }
+    {
+        let asked = self.asked.get(at)?;
+        Some(asked.kind)
+    }
+
     /// Whether something of this kind was asked.
     pub(crate) fn has(&self, kind: Kind) -> bool
         ensures has { result ≡ list_any (of_kind kind) self.now }
@@ -75,5 +84,14 @@ impl Holder {
         ensures forgot { self.new ≡ filter (λ asked. not (of_kind kind asked)) self.old }
     {
         self.asked.retain(|asked| !same_kind(asked.kind, kind));
+    }
+
+    /// Takes away the glimpses for requests of these lives, and answers whether anything is left.
+    pub(crate) fn outlives(&mut self, lives: &[Who]) -> bool
+        ensures forgot { self.new ≡ without_lives lives.now self.old }
+        ensures left { result ≡ not (length self.new == 0) }
+    {
+        self.asked.retain(|asked| !is_for(asked.kind, lives));
+        !self.asked.is_empty()
     }
 }

@@ -1,7 +1,7 @@
 //! What a target has asked of the holders of its locks.
 
 use crate::asks::life;
-use lu_base::{Cookie, Xid};
+use lu_base::{Cookie, Cookies, Xid};
 use lu_callback::{Callbacks, Kind};
 use std::alloc::Global;
 use std::process::Abort;
@@ -40,6 +40,29 @@ fn they_stand_by_cookie_then_block_then_as_asked(rt: HostRuntime) -> Result<(), 
         None,
     ];
     for (place, asked) in order.into_iter().enumerate() {
+        assert_eq!(rt; callbacks.outstanding(place), asked);
+    }
+    Ok(())
+}
+
+/// Client 0 ends, whose lock was the third: its glimpses of other locks go, and all that was asked of the third.
+#[test]
+fn what_ends_with_a_life_goes(rt: HostRuntime) -> Result<(), Fail> {
+    let alloc = rt.alloc();
+    let mut callbacks = five(&rt, alloc)?;
+    let mut locks = Cookies::new(alloc);
+    locks.push(Cookie(3))?;
+    assert_eq!(rt; callbacks.of(Cookie(2), 2), Some(glimpse(0, 3)));
+    callbacks.end_lives(&[life(0)], &locks);
+    assert_eq!(rt; callbacks.of(Cookie(2), 1), Some(glimpse(1, 7)));
+    assert_eq!(rt; callbacks.of(Cookie(2), 2), None);
+    assert_eq!(rt; callbacks.of(Cookie(3), 0), None);
+    let left: [Option<(Cookie, Kind)>; 3] = [
+        Some((Cookie(2), Kind::Block)),
+        Some((Cookie(2), glimpse(1, 7))),
+        None,
+    ];
+    for (place, asked) in left.into_iter().enumerate() {
         assert_eq!(rt; callbacks.outstanding(place), asked);
     }
     Ok(())
