@@ -1,0 +1,3 @@
+pub mod Maps
+pub mod Runs
+pub mod Changes

@@ -1,0 +1,6 @@
+pub mod Gaps
+pub mod Joined
+pub mod Steps
+pub mod Changed
+pub mod Laid
+pub mod Seen

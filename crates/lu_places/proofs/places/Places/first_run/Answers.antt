@@ -1,0 +1,20 @@
+use Rattle.std.proofs.Common.{◌≡◌, ℕ, ◌≤◌, ◌^◌, ◌+◌, length, ◌-◌, ◌%◌, ◌∙◌, Some, sym, ap, subst, rules, arith}
+use Rattle.std.specs.Prelude.{not, nat_lt}
+use Rattle.lu_machine.specs.Places.{inside, is_in, RisingFrom}
+use Rattle.lu_bytes.specs.Maps.{AllBelow}
+use Rattle.lu_bytes.specs.Runs.{run_at, first_run}
+use Rattle.lu_bytes.proofs.Rising.{first_run_found, rising_filter, all_filter, run_fits}
+use Rattle.lu_places.proofs.Joined.{joined_map, joined_below}
+use Rattle.lu_places.proofs.places.Places.first_run.Goals as goal
+
+pub returns-clause-run : goal.returns-clause-run
+returns-clause-run g c =
+    let rising : RisingFrom 0 c.args.self.now = subst (λ m. RisingFrom 0 m) c.self.view_is (joined_map c.self.inside.pages.entries c.self.invariant) in
+    ap (λ run. Some (c.in-Some.position, run)) c.in_ok-run.ensures.run ∙ sym (first_run_found c.in-Some.position (inside c.args.extent c.args.self.now) (rising_filter 0 (λ e. is_in c.args.extent e.0) c.args.self.now rising) (sym c.in-Some.ensures.first))
+
+pub returns-clause-fits : goal.returns-clause-fits
+returns-clause-fits g c =
+    let below : AllBelow (2 ^ 62) c.args.self.now = subst (λ m. AllBelow (2 ^ 62) m) c.self.view_is (joined_below 0 c.self.inside.pages.entries c.self.invariant) in
+    let fits : c.in-Some.position + length (run_at (4096 - c.in-Some.position % 4096) (inside c.args.extent c.args.self.now) c.in-Some.position) ≤ 2 ^ 62 =
+    run_fits (2 ^ 62) (4096 - c.in-Some.position % 4096) c.in-Some.position (inside c.args.extent c.args.self.now) (all_filter (2 ^ 62) (λ e. is_in c.args.extent e.0) c.args.self.now below) (omega (arith, c.in-Some.ensures.fits)) in
+    subst (λ xs. c.in-Some.position + length xs ≤ 2 ^ 62) (sym c.in_ok-run.ensures.run) fits
