@@ -1,9 +1,7 @@
 -- The operations on names as those of a service: the plain machine's, but that a file leaves with its last name
 -- and its last open.
-use Rattle.std.specs.Prelude.{ℕ, if◌then◌else◌}
+use Rattle.std.specs.Prelude.{ℕ, [], if◌then◌else◌}
 use Rattle.lu_base.specs.declared.ids.Who.{Who}
-use Rattle.lu_msg.specs.declared.operations.Op.{Op}
-use Rattle.lu_msg.specs.declared.operations.Op.TheVariants as op
 use Rattle.lu_machine.specs.Footprint as footprint
 use Rattle.lu_machine.specs.Footprint.{Operation, empty, forget}
 use Rattle.lu_machine.specs.Trim.{trim}
@@ -12,7 +10,7 @@ use Rattle.lu_service.specs.Contents.{Contents}
 
 -- a new file system
 abbrev pub fresh : ℕ → Contents
-fresh osts = record { osts = osts; last = 1; tree = empty }
+fresh osts = record { osts = osts; last = 1; tree = empty; objects = [] }
 
 abbrev pub after : Contents → Operation → Contents
 after s a =
@@ -20,11 +18,13 @@ after s a =
       osts = s.osts;
       last = if footprint.changes s.osts s.tree a then a.number.0 else s.last;
       tree = trim (footprint.after s.osts s.tree a);
+      objects = s.objects;
     }
 
 abbrev pub forgotten : Contents → Who → Contents
 forgotten s who = record s { tree = trim (forget s.tree who) }
 
+-- names have no bytes to be read
 abbrev pub names : Acts
 names =
     record {
@@ -35,11 +35,5 @@ names =
       changes = λ s a. footprint.changes s.osts s.tree a;
       after = after;
       forgotten = forgotten;
+      read = λ s r page extent. [];
     }
-
--- the operations on names that are performed so far: they make no file
-abbrev pub IsNamed : Op → Type 0
-IsNamed (op.Lookup path) = Unit {0}
-IsNamed (op.Mkdir path) = Unit {0}
-IsNamed (op.Rmdir path) = Unit {0}
-IsNamed _ = ⊥

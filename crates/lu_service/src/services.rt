@@ -1,10 +1,10 @@
 //! A service, its meaning and its laws.
 
-ghost use Rattle.std.specs.Prelude.{◌≡◌, ◌<◌, true, IfOk, OnOk, OnErr};
+ghost use Rattle.std.specs.Prelude.{◌≡◌, ◌<◌, ◌≤◌, ◌/◌, true, IfOk, OnOk, OnErr};
 ghost use Rattle.lu_base.specs.declared.ids.Txn.{Txn as SpecTxn};
-ghost use Rattle.lu_msg.specs.declared.operations.Op.{Op as SpecOp};
+ghost use Rattle.lu_machine.specs.Objects.{page_size};
 
-use lu_base::{Memory, Txn, Who};
+use lu_base::{Bytes, Extent, Memory, Resource, Txn, Who};
 use lu_msg::{Answer, Op};
 use lu_part::{Parts, Wants};
 use std::alloc::Global;
@@ -22,10 +22,12 @@ pub enum Kind {
 /// decide.
 pub trait Service {
     ghost use Rattle.lu_service.specs.declared.services.Kind.{Kind as SpecKind};
-    ghost use Rattle.lu_service.specs.Contents.{Contents, asked};
-    ghost use Rattle.lu_service.specs.declared.services.Kind.TheVariants.{Mdt};
+    ghost use Rattle.lu_service.specs.Contents.{Contents, asked, most_bytes};
+    ghost use Rattle.lu_service.specs.declared.services.Kind.TheVariants.{Mdt, Ost};
     ghost use Rattle.lu_service.specs.Acts.{Acts, IsLawful};
-    ghost use Rattle.lu_service.specs.Names.{names, IsNamed};
+    ghost use Rattle.lu_service.specs.Takes.{Takes, Performs};
+    ghost use Rattle.lu_service.specs.Names.{names};
+    ghost use Rattle.lu_service.specs.Objects.{objects};
 
     // Its kind.
     ghost kind: { SpecKind };
@@ -33,51 +35,66 @@ pub trait Service {
     // What it holds.
     ghost contents: { Self → Contents };
 
-    // The operations that it performs.
-    ghost takes: { SpecOp → Type 0 };
-
-    // What the operations answer, touch, write, grant and change.
+    // What the operations answer, touch, write, grant and change, and what is read.
     ghost acts: { Acts };
 
     /// Performs an operation of a life, as transaction `number` if it makes one, which is then above all numbers
     /// used before. A refusal, and after want of memory everything, leaves the contents as they were.
     fn apply(&mut self, alloc: Global, number: Txn, who: Who, op: &Op) -> Result<Answer, Memory>
-        requires taken { takes op.now }
-        requires above { acts.changes (contents self.old) (asked number who op.now) ≡ true → (contents self.old).last < number.0 }
-        ensures answer { IfOk result (λ answer. answer ≡ acts.answer (contents self.old) (asked number who op.now)) }
-        ensures after { OnOk result (contents self.new ≡ acts.after (contents self.old) (asked number who op.now)) }
+        requires performs { Performs kind op.now }
+        requires above { acts.changes (contents self.old) (asked number who op.now) ≡ true
+            → (contents self.old).last < number.0 }
+        ensures answer { IfOk result (λ answer. answer
+            ≡ acts.answer (contents self.old) (asked number who op.now)) }
+        ensures after { OnOk result (contents self.new
+            ≡ acts.after (contents self.old) (asked number who op.now)) }
         ensures kept { OnErr result (contents self.new ≡ contents self.old) };
 
     /// Whether the operation would make a transaction.
     fn changes(&self, who: Who, op: &Op) -> bool
-        requires taken { takes op.now }
-        ensures changes { (number : SpecTxn) → result ≡ acts.changes (contents self.now) (asked number who op.now) };
+        requires takes { Takes kind op.now }
+        ensures changes { (number : SpecTxn)
+            → result ≡ acts.changes (contents self.now) (asked number who op.now) };
 
-    /// The parts that the operation would touch, in the order in which it looks at them.
+    /// The parts that the operation would touch, in the order in which it looks at them. A `get` touches its page,
+    /// as if a lock covered it; an `enqueue` touches nothing before it is granted.
     fn touches(&self, alloc: Global, who: Who, op: &Op) -> Result<Parts, Memory>
-        requires taken { takes op.now }
-        ensures touches { IfOk result (λ parts. (number : SpecTxn) → parts ≡ acts.touches (contents self.now) (asked number who op.now)) };
+        requires takes { Takes kind op.now }
+        ensures touches { IfOk result (λ parts. (number : SpecTxn)
+            → parts ≡ acts.touches (contents self.now) (asked number who op.now)) };
 
     /// The parts that the operation would write, none where it is refused.
     fn writes(&self, alloc: Global, who: Who, op: &Op) -> Result<Parts, Memory>
-        requires taken { takes op.now }
-        ensures writes { IfOk result (λ parts. (number : SpecTxn) → parts ≡ acts.writes (contents self.now) (asked number who op.now)) };
+        requires takes { Takes kind op.now }
+        ensures writes { IfOk result (λ parts. (number : SpecTxn)
+            → parts ≡ acts.writes (contents self.now) (asked number who op.now)) };
 
     /// The locks that would come with the answer, in order, none where it is refused or makes a transaction.
     fn grants(&self, alloc: Global, who: Who, op: &Op) -> Result<Wants, Memory>
-        requires taken { takes op.now }
-        ensures grants { IfOk result (λ wants. (number : SpecTxn) → wants ≡ acts.grants (contents self.now) (asked number who op.now)) };
+        requires takes { Takes kind op.now }
+        ensures grants { IfOk result (λ wants. (number : SpecTxn)
+            → wants ≡ acts.grants (contents self.now) (asked number who op.now)) };
 
     /// Forgets the opens of a life.
     fn forget(&mut self, who: Who)
         ensures forgotten { contents self.new ≡ acts.forgotten (contents self.old) who };
 
+    /// What a `get` reads of an object under a lock on `part`, offsets in one page of 4,096 bytes that end at or
+    /// below 2^40: the bytes from the page's start to the last one that is there in that part, those before the part
+    /// and those that aren't there as 0, and none where none is there in it. The metadata target has no bytes.
+    fn read(&self, alloc: Global, resource: Resource, part: Extent) -> Result<Bytes, Memory>
+        requires ordered { part.first ≤ part.last }
+        requires page { part.last / page_size ≡ part.first / page_size }
+        requires end { part.last < most_bytes }
+        ensures read { IfOk result (λ bytes. bytes
+            ≡ acts.read (contents self.now) resource (part.first / page_size) part) };
+
     // The laws of footprints.
-    ghost lawful: { IsLawful acts };
+    ghost lawful: { IsLawful acts kind };
 
     // The metadata target serves the names of a file system.
     ghost serves_names: { kind ≡ Mdt → acts ≡ names };
 
-    // And it performs only operations on names.
-    ghost performs_names: { kind ≡ Mdt → (op : SpecOp) → takes op → IsNamed op };
+    // An object storage target serves objects.
+    ghost serves_objects: { kind ≡ Ost → acts ≡ objects };
 }

@@ -1,0 +1,3 @@
+pub mod Lookups
+pub mod Removal
+pub mod Footprints

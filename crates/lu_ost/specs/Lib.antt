@@ -1,0 +1,4 @@
+pub mod Shown
+pub mod Stored
+pub mod Lawful
+pub mod Footprints

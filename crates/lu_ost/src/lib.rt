@@ -1,0 +1,10 @@
+//! The service of an object storage target.
+#![tactic(auto)]
+
+mod objects;
+mod osts;
+mod ranges;
+mod reading;
+pub mod theorems;
+
+pub use osts::Ost;
