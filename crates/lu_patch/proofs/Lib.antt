@@ -1,0 +1,9 @@
+pub mod Maps
+pub mod Seen
+pub mod Landings
+pub mod WriteBack
+pub mod Ends
+pub mod Changes
+pub mod Kept
+pub mod Landed
+pub mod Own
