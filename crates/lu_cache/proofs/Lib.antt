@@ -1,0 +1,15 @@
+pub mod Learned
+pub mod Tables
+pub mod Falling
+pub mod TopicKeys
+pub mod Guarding
+pub mod Filed
+pub mod Forgotten
+pub mod Indexed
+pub mod Choosing
+pub mod Noting
+pub mod InOrder
+pub mod Seeing
+pub mod Walks
+pub mod Histories
+pub mod Pairs

@@ -1,0 +1,11 @@
+pub mod Topics
+pub mod Usable
+pub mod Numbered
+pub mod Filings
+pub mod Logs
+pub mod Forgetting
+pub mod Tells
+pub mod Kept
+pub mod Cached
+pub mod Histories
+pub mod Reading
