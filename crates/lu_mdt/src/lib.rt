@@ -2,7 +2,6 @@
 #![tactic(auto)]
 
 mod mdts;
-#[cfg(test)]
-mod tests;
+pub mod theorems;
 
 pub use mdts::Mdt;

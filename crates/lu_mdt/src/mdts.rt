@@ -3,7 +3,7 @@
 ghost use Rattle.std.specs.Prelude.{◌≡◌, ◌≤◌, IfOk, refl};
 ghost use Rattle.lu_service.specs.Names.{fresh};
 
-use lu_base::{Memory, Txn, Who};
+use lu_base::{Bytes, Extent, Memory, Resource, Txn, Who};
 use lu_msg::{Answer, Op};
 use lu_part::{Parts, Wants};
 use lu_service::Service;
@@ -41,14 +41,12 @@ impl Mdt {
 
 impl Service for Mdt {
     ghost use Rattle.lu_service.specs.declared.services.Kind.TheVariants.{Mdt as MdtKind};
-    ghost use Rattle.lu_service.specs.Names.{names, IsNamed};
-    ghost use Rattle.lu_mdt.specs.Lawful.{names_lawful};
+    ghost use Rattle.lu_service.specs.Names.{names};
+    ghost use Rattle.lu_mdt.specs.Lawful.{names_lawful, serves_no_objects};
 
     ghost kind = { MdtKind };
 
     ghost contents = { λ mdt. mdt };
-
-    ghost takes = { IsNamed };
 
     ghost acts = { names };
 
@@ -56,7 +54,7 @@ impl Service for Mdt {
 
     ghost serves_names = { λ _. refl };
 
-    ghost performs_names = { λ _ _ is. is };
+    ghost serves_objects = { serves_no_objects };
 
     fn apply(&mut self, alloc: Global, number: Txn, who: Who, op: &Op) -> Result<Answer, Memory> {
         self.tree.apply(alloc, number, who, op)
@@ -80,5 +78,9 @@ impl Service for Mdt {
 
     fn forget(&mut self, who: Who) {
         self.tree.forget(who);
+    }
+
+    fn read(&self, alloc: Global, _resource: Resource, _part: Extent) -> Result<Bytes, Memory> {
+        Ok(Bytes::new(alloc))
     }
 }

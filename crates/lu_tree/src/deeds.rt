@@ -26,7 +26,8 @@ impl Inodes {
     /// Makes a directory of this number, to which the name leads. After want of memory nothing has changed.
     fn make(&mut self, alloc: Global, number: Txn, new: Place<'_>) -> Result<(), Memory>
         requires unused { lookup (same_fid (made_by number)) self.old.dirs ≡ None }
-        ensures made { OnOk result (self.new ≡ changed self.old (MakesDir (made_by number) ∷ Leads new.entry.dir new.entry.name.now (SpecDir (made_by number)) ∷ [])) }
+        ensures made { OnOk result (self.new ≡ changed self.old
+            (MakesDir (made_by number) ∷ Leads new.entry.dir new.entry.name.now (SpecDir (made_by number)) ∷ [])) }
         ensures kept { OnErr result (self.new ≡ self.old) }
     {
         let made = Fid(number.0);
@@ -48,7 +49,9 @@ impl Inodes {
         layout: Layout,
     ) -> Result<(), Memory>
         requires unused { lookup (same_fid (made_by number)) self.old.files ≡ None }
-        ensures made { OnOk result (self.new ≡ changed self.old (MakesFile (made_by number) layout ∷ Leads new.entry.dir new.entry.name.now (SpecFile (made_by number)) ∷ [])) }
+        ensures made { OnOk result (self.new ≡ changed self.old
+            (MakesFile (made_by number) layout ∷ Leads new.entry.dir new.entry.name.now (SpecFile (made_by number))
+            ∷ [])) }
         ensures kept { OnErr result (self.new ≡ self.old) }
     {
         let made = Fid(number.0);
@@ -65,7 +68,9 @@ impl Inodes {
     fn link(&mut self, alloc: Global, new: Place<'_>, file: Fid) -> Result<(), Memory>
         requires there { IsThere self.old (SpecFile file) }
         requires room { (file_of self.old file).links < u64.MAX }
-        ensures linked { OnOk result (self.new ≡ changed self.old (Leads new.entry.dir new.entry.name.now (SpecFile file) ∷ SetLinks file ((file_of self.old file).links + 1) ∷ [])) }
+        ensures linked { OnOk result (self.new ≡ changed self.old
+            (Leads new.entry.dir new.entry.name.now (SpecFile file)
+            ∷ SetLinks file ((file_of self.old file).links + 1) ∷ [])) }
         ensures kept { OnErr result (self.new ≡ self.old) }
     {
         let links = self.links(file) + 1;
@@ -86,7 +91,8 @@ impl Inodes {
         requires ordered { IsOrdered self.old }
         requires named { child self.old old.dir old.name.now ≡ Some moved }
         requires other { here new.dir new.name.now old.dir old.name.now ≡ false }
-        ensures moved { OnOk result (self.new ≡ changed self.old (Drops old.entry.dir old.entry.name.now ∷ Leads new.entry.dir new.entry.name.now moved ∷ [])) }
+        ensures moved { OnOk result (self.new ≡ changed self.old
+            (Drops old.entry.dir old.entry.name.now ∷ Leads new.entry.dir new.entry.name.now moved ∷ [])) }
         ensures kept { OnErr result (self.new ≡ self.old) }
     {
         let name = new.name.copy(alloc)?;
@@ -120,7 +126,8 @@ impl Inodes {
         requires there { IsThere self.old gone }
         requires empty { MayLeave self.old gone }
         requires lean { trim self.old ≡ self.old }
-        ensures gone { self.new ≡ trim (changed self.old (Drops old.entry.dir old.entry.name.now ∷ Parted (fid_of gone) ∷ leaving self.old gone ∷ [])) }
+        ensures gone { self.new ≡ trim (changed self.old (Drops old.entry.dir old.entry.name.now
+            ∷ Parted (fid_of gone) ∷ leaving self.old gone ∷ [])) }
     {
         self.unlead(old.dir, old.name);
         self.lose(gone);
@@ -143,7 +150,8 @@ impl Inodes {
         requires counted { IsCounted self.old }
         requires fresh { is_some_change (changes_of osts self.old number who end) ≡ true → IsFresh self.old number }
         requires seen { Seen osts self.old end }
-        ensures done { OnOk result (self.new ≡ trim (changed self.old (changes_of osts self.old number who end.entry))) }
+        ensures done { OnOk result (self.new ≡ trim (changed self.old
+            (changes_of osts self.old number who end.entry))) }
         ensures kept { OnErr result (self.new ≡ self.old) }
     {
         match end {

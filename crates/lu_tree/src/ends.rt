@@ -64,7 +64,8 @@ pub(crate) enum End<'a> {
 
 /// Whether it makes a transaction.
 pub(crate) fn changes(end: End<'_>) -> bool
-    ensures { (osts : ℕ) (t : Tree) (number : SpecTxn) (who : SpecWho) → result ≡ is_some_change (changes_of osts t number who end.entry) }
+    ensures { (osts : ℕ) (t : Tree) (number : SpecTxn) (who : SpecWho) → result
+        ≡ is_some_change (changes_of osts t number who end.entry) }
 {
     match end {
         End::Makes(_) => true,
@@ -82,7 +83,8 @@ pub(crate) fn changes(end: End<'_>) -> bool
 
 /// The greatest number that was used once it is done, where `last` was it before.
 pub(crate) fn last_used(last: u64, number: Txn, end: End<'_>) -> u64
-    ensures { (osts : ℕ) (t : Tree) (who : SpecWho) → result ≡ (if is_some_change (changes_of osts t number who end.entry) then number.0 else last) }
+    ensures { (osts : ℕ) (t : Tree) (who : SpecWho) → result
+        ≡ (if is_some_change (changes_of osts t number who end.entry) then number.0 else last) }
 {
     if changes(end) { number.0 } else { last }
 }

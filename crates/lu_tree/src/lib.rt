@@ -11,8 +11,6 @@ mod operations;
 mod renames;
 mod rows;
 mod striping;
-#[cfg(test)]
-mod tests;
 mod touches;
 mod trees;
 mod walks;

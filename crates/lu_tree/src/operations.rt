@@ -35,8 +35,10 @@ impl Inodes {
     /// Where an operation comes to. One of an object storage target is none on names.
     pub(crate) fn end<'a>(&self, osts: u16, op: &'a Op) -> End<'a>
         requires { 1 ≤ osts }
-        ensures ends { (number : SpecTxn) (who : SpecWho) → outcome_of osts self.now (asked number who op.now) ≡ ended osts self.now number who (trail self.now root (path_of op.now)) result }
-        ensures looks { (number : SpecTxn) (who : SpecWho) → footprint.touches osts self.now (asked number who op.now) ≡ names_of self.now op.now ++ looked_of result }
+        ensures ends { (number : SpecTxn) (who : SpecWho) → outcome_of osts self.now (asked number who op.now)
+            ≡ ended osts self.now number who (trail self.now root (path_of op.now)) result }
+        ensures looks { (number : SpecTxn) (who : SpecWho) →
+            footprint.touches osts self.now (asked number who op.now) ≡ names_of self.now op.now ++ looked_of result }
         ensures seen { Seen osts self.now result }
     {
         match op {

@@ -22,9 +22,16 @@ use lu_msg::Errno;
 impl Inodes {
     /// The end where the new name leads to another inode.
     fn replace_row<'a>(&self, old: Place<'a>, moved: Child, new: Place<'a>, gone: Child) -> End<'a>
-        ensures ends { (osts : ℕ) (number : SpecTxn) (who : SpecWho) → outcome self.now (row_replace old.entry.dir old.entry.name.now moved new.entry.dir new.entry.name.now gone) ≡ ended osts self.now number who [] result }
-        ensures looks { looked self.now (row_replace old.entry.dir old.entry.name.now moved new.entry.dir new.entry.name.now gone) ≡ looked_of result }
-        ensures seen { (osts : ℕ) → child self.now old.entry.dir old.entry.name.now ≡ Some moved → child self.now new.entry.dir new.entry.name.now ≡ Some gone → same_fid (fid_of gone) (fid_of moved) ≡ false → Seen osts self.now result }
+        ensures ends { (osts : ℕ) (number : SpecTxn) (who : SpecWho) →
+            outcome self.now
+            (row_replace old.entry.dir old.entry.name.now moved new.entry.dir new.entry.name.now gone)
+            ≡ ended osts self.now number who [] result }
+        ensures looks { looked self.now
+            (row_replace old.entry.dir old.entry.name.now moved new.entry.dir new.entry.name.now gone)
+            ≡ looked_of result }
+        ensures seen { (osts : ℕ) → child self.now old.entry.dir old.entry.name.now ≡ Some moved →
+            child self.now new.entry.dir new.entry.name.now ≡ Some gone → same_fid (fid_of gone) (fid_of moved)
+            ≡ false → Seen osts self.now result }
     {
         match moved {
             Child::Dir(_) => match gone {
@@ -53,9 +60,17 @@ impl Inodes {
         found: Option<Child>,
         inside: bool,
     ) -> End<'a>
-        ensures ends { (osts : ℕ) (number : SpecTxn) (who : SpecWho) (passed : SpecList SpecChild) → inside ≡ passes moved passed → outcome self.now (row_rename old.entry.dir old.entry.name.now moved passed new.entry.dir new.entry.name.now found) ≡ ended osts self.now number who [] result }
-        ensures looks { (passed : SpecList SpecChild) → inside ≡ passes moved passed → looked self.now (row_rename old.entry.dir old.entry.name.now moved passed new.entry.dir new.entry.name.now found) ≡ looked_of result }
-        ensures seen { (osts : ℕ) → child self.now old.entry.dir old.entry.name.now ≡ Some moved → child self.now new.entry.dir new.entry.name.now ≡ found → IsReached self.now (SpecDir new.entry.dir) → Seen osts self.now result }
+        ensures ends { (osts : ℕ) (number : SpecTxn) (who : SpecWho) (passed : SpecList SpecChild) → inside
+            ≡ passes moved passed → outcome self.now
+            (row_rename old.entry.dir old.entry.name.now moved passed new.entry.dir new.entry.name.now found)
+            ≡ ended osts self.now number who [] result }
+        ensures looks { (passed : SpecList SpecChild) → inside ≡ passes moved passed →
+            looked self.now
+            (row_rename old.entry.dir old.entry.name.now moved passed new.entry.dir new.entry.name.now found)
+            ≡ looked_of result }
+        ensures seen { (osts : ℕ) → child self.now old.entry.dir old.entry.name.now ≡ Some moved →
+            child self.now new.entry.dir new.entry.name.now ≡ found → IsReached self.now (SpecDir new.entry.dir) →
+            Seen osts self.now result }
     {
         match found {
             None => {
@@ -79,9 +94,13 @@ impl Inodes {
 
     /// The end of a rename of what the old name leads to, to this path.
     fn rename_to<'a>(&self, old: Place<'a>, moved: Child, path: &'a [Name]) -> End<'a>
-        ensures ends { (osts : ℕ) (number : SpecTxn) (who : SpecWho) → outcome self.now (to_last SpecBusy path.now (row_rename old.entry.dir old.entry.name.now moved)) ≡ ended osts self.now number who [] result }
-        ensures looks { looked self.now (to_last SpecBusy path.now (row_rename old.entry.dir old.entry.name.now moved)) ≡ looks self.now root path.now ++ looked_of result }
-        ensures seen { (osts : ℕ) → child self.now old.entry.dir old.entry.name.now ≡ Some moved → Seen osts self.now result }
+        ensures ends { (osts : ℕ) (number : SpecTxn) (who : SpecWho) →
+            outcome self.now (to_last SpecBusy path.now (row_rename old.entry.dir old.entry.name.now moved))
+            ≡ ended osts self.now number who [] result }
+        ensures looks { looked self.now (to_last SpecBusy path.now
+            (row_rename old.entry.dir old.entry.name.now moved)) ≡ looks self.now root path.now ++ looked_of result }
+        ensures seen { (osts : ℕ) → child self.now old.entry.dir old.entry.name.now ≡ Some moved →
+            Seen osts self.now result }
     {
         let Some((name, front)) = path.split_last() else {
             return End::Refused(Errno::EBUSY);
@@ -97,8 +116,10 @@ impl Inodes {
 
     /// The end of a `rename`.
     pub(crate) fn rename_end<'a>(&self, old: &'a [Name], new: &'a [Name]) -> End<'a>
-        ensures ends { (osts : ℕ) (number : SpecTxn) (who : SpecWho) → outcome self.now (rename old.now new.now) ≡ ended osts self.now number who [] result }
-        ensures looks { looked self.now (rename old.now new.now) ≡ rename_names self.now old.now new.now ++ looked_of result }
+        ensures ends { (osts : ℕ) (number : SpecTxn) (who : SpecWho) → outcome self.now (rename old.now new.now)
+            ≡ ended osts self.now number who [] result }
+        ensures looks { looked self.now (rename old.now new.now) ≡ rename_names self.now old.now new.now
+            ++ looked_of result }
         ensures seen { (osts : ℕ) → Seen osts self.now result }
     {
         if new.is_empty() {

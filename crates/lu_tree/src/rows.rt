@@ -46,7 +46,8 @@ pub(crate) enum LastAsk {
 impl Inodes {
     /// The end of a `chmod` of this.
     fn chmod_row<'a>(&self, at: Child, mode: u16) -> End<'a>
-        ensures ends { (osts : ℕ) (number : SpecTxn) (who : SpecWho) (passed : SpecList SpecChild) → outcome self.now (row_chmod mode at) ≡ ended osts self.now number who passed result }
+        ensures ends { (osts : ℕ) (number : SpecTxn) (who : SpecWho) (passed : SpecList SpecChild) →
+            outcome self.now (row_chmod mode at) ≡ ended osts self.now number who passed result }
         ensures looks { looked self.now (row_chmod mode at) ≡ looked_of result }
         ensures seen { (osts : ℕ) → IsReached self.now at → Seen osts self.now result }
     {
@@ -59,8 +60,10 @@ impl Inodes {
 
     /// The end of what is asked of this.
     fn row<'a>(&self, ask: Ask, at: Child) -> End<'a>
-        ensures ends { (osts : ℕ) (number : SpecTxn) (who : SpecWho) (passed : SpecList SpecChild) → outcome self.now (row_of number who ask passed at) ≡ ended osts self.now number who passed result }
-        ensures looks { (number : SpecTxn) (who : SpecWho) (passed : SpecList SpecChild) → looked self.now (row_of number who ask passed at) ≡ looked_of result }
+        ensures ends { (osts : ℕ) (number : SpecTxn) (who : SpecWho) (passed : SpecList SpecChild) →
+            outcome self.now (row_of number who ask passed at) ≡ ended osts self.now number who passed result }
+        ensures looks { (number : SpecTxn) (who : SpecWho) (passed : SpecList SpecChild) →
+            looked self.now (row_of number who ask passed at) ≡ looked_of result }
         ensures seen { (osts : ℕ) → IsReached self.now at → Seen osts self.now result }
     {
         match ask {
@@ -84,8 +87,12 @@ impl Inodes {
 
     /// The end of what is asked of that to which the path leads.
     pub(crate) fn whole_end<'a>(&self, ask: Ask, path: &'a [Name]) -> End<'a>
-        ensures ends { (osts : ℕ) (number : SpecTxn) (who : SpecWho) → outcome self.now (walk root path.now (λ passed. row_of number who ask passed (last_of root passed))) ≡ ended osts self.now number who (trail self.now root path.now) result }
-        ensures looks { (number : SpecTxn) (who : SpecWho) → looked self.now (walk root path.now (λ passed. row_of number who ask passed (last_of root passed))) ≡ looks self.now root path.now ++ looked_of result }
+        ensures ends { (osts : ℕ) (number : SpecTxn) (who : SpecWho) →
+            outcome self.now (walk root path.now (λ passed. row_of number who ask passed (last_of root passed)))
+            ≡ ended osts self.now number who (trail self.now root path.now) result }
+        ensures looks { (number : SpecTxn) (who : SpecWho) →
+            looked self.now (walk root path.now (λ passed. row_of number who ask passed (last_of root passed)))
+            ≡ looks self.now root path.now ++ looked_of result }
         ensures seen { (osts : ℕ) → Seen osts self.now result }
     {
         match self.reach(path) {
@@ -96,9 +103,12 @@ impl Inodes {
 
     /// The end of an `unlink` of that to which this name leads.
     fn unlink_row<'a>(&self, old: Place<'a>, found: Child) -> End<'a>
-        ensures ends { (osts : ℕ) (number : SpecTxn) (who : SpecWho) → outcome self.now (row_unlink old.entry.dir old.entry.name.now found) ≡ ended osts self.now number who [] result }
+        ensures ends { (osts : ℕ) (number : SpecTxn) (who : SpecWho) →
+            outcome self.now (row_unlink old.entry.dir old.entry.name.now found)
+            ≡ ended osts self.now number who [] result }
         ensures looks { looked self.now (row_unlink old.entry.dir old.entry.name.now found) ≡ looked_of result }
-        ensures seen { (osts : ℕ) → child self.now old.entry.dir old.entry.name.now ≡ Some found → Seen osts self.now result }
+        ensures seen { (osts : ℕ) → child self.now old.entry.dir old.entry.name.now ≡ Some found →
+            Seen osts self.now result }
     {
         match found {
             Child::Dir(_) => End::Refused(Errno::EISDIR),
@@ -108,9 +118,12 @@ impl Inodes {
 
     /// The end of a `rmdir` of that to which this name leads.
     fn rmdir_row<'a>(&self, old: Place<'a>, found: Child) -> End<'a>
-        ensures ends { (osts : ℕ) (number : SpecTxn) (who : SpecWho) → outcome self.now (row_rmdir old.entry.dir old.entry.name.now found) ≡ ended osts self.now number who [] result }
+        ensures ends { (osts : ℕ) (number : SpecTxn) (who : SpecWho) →
+            outcome self.now (row_rmdir old.entry.dir old.entry.name.now found)
+            ≡ ended osts self.now number who [] result }
         ensures looks { looked self.now (row_rmdir old.entry.dir old.entry.name.now found) ≡ looked_of result }
-        ensures seen { (osts : ℕ) → child self.now old.entry.dir old.entry.name.now ≡ Some found → Seen osts self.now result }
+        ensures seen { (osts : ℕ) → child self.now old.entry.dir old.entry.name.now ≡ Some found →
+            Seen osts self.now result }
     {
         match found {
             Child::File(_) => End::Refused(Errno::ENOTDIR),
@@ -127,9 +140,14 @@ impl Inodes {
     /// The end of a `create` of a name that is free.
     fn create_row<'a>(&self, osts: u16, new: Place<'a>, size: u64, count: i32) -> End<'a>
         requires { 1 ≤ osts }
-        ensures ends { (number : SpecTxn) (who : SpecWho) → outcome self.now (row_create number new.entry.dir new.entry.name.now (new_layout osts number size count)) ≡ ended osts self.now number who [] result }
-        ensures looks { (number : SpecTxn) → looked self.now (row_create number new.entry.dir new.entry.name.now (new_layout osts number size count)) ≡ looked_of result }
-        ensures seen { IsReached self.now (SpecDir new.entry.dir) → child self.now new.entry.dir new.entry.name.now ≡ None → Seen osts self.now result }
+        ensures ends { (number : SpecTxn) (who : SpecWho) →
+            outcome self.now (row_create number new.entry.dir new.entry.name.now (new_layout osts number size count))
+            ≡ ended osts self.now number who [] result }
+        ensures looks { (number : SpecTxn) → looked self.now
+            (row_create number new.entry.dir new.entry.name.now (new_layout osts number size count))
+            ≡ looked_of result }
+        ensures seen { IsReached self.now (SpecDir new.entry.dir) → child self.now new.entry.dir new.entry.name.now
+            ≡ None → Seen osts self.now result }
     {
         let size = stripe_size(size);
         let count = stripe_count(osts, count);
@@ -149,9 +167,13 @@ impl Inodes {
         found: Option<Child>,
     ) -> End<'a>
         requires { 1 ≤ osts }
-        ensures ends { (number : SpecTxn) (who : SpecWho) → outcome self.now (last_row_of osts number ask place.entry.dir place.entry.name.now found) ≡ ended osts self.now number who [] result }
-        ensures looks { (number : SpecTxn) → looked self.now (last_row_of osts number ask place.entry.dir place.entry.name.now found) ≡ looked_of result }
-        ensures seen { IsAskable self.now ask → IsReached self.now (SpecDir place.entry.dir) → child self.now place.entry.dir place.entry.name.now ≡ found → Seen osts self.now result }
+        ensures ends { (number : SpecTxn) (who : SpecWho) →
+            outcome self.now (last_row_of osts number ask place.entry.dir place.entry.name.now found)
+            ≡ ended osts self.now number who [] result }
+        ensures looks { (number : SpecTxn) → looked self.now
+            (last_row_of osts number ask place.entry.dir place.entry.name.now found) ≡ looked_of result }
+        ensures seen { IsAskable self.now ask → IsReached self.now (SpecDir place.entry.dir) →
+            child self.now place.entry.dir place.entry.name.now ≡ found → Seen osts self.now result }
     {
         match (ask, found) {
             (LastAsk::Mkdir, None) => End::Makes(place),
@@ -170,8 +192,12 @@ impl Inodes {
     /// The end of what is asked of the path's last name.
     pub(crate) fn last_end<'a>(&self, osts: u16, ask: LastAsk, path: &'a [Name]) -> End<'a>
         requires { 1 ≤ osts }
-        ensures ends { (number : SpecTxn) (who : SpecWho) → outcome self.now (to_last (no_last ask) path.now (λ passed. last_row_of osts number ask)) ≡ ended osts self.now number who [] result }
-        ensures looks { (number : SpecTxn) → looked self.now (to_last (no_last ask) path.now (λ passed. last_row_of osts number ask)) ≡ looks self.now root path.now ++ looked_of result }
+        ensures ends { (number : SpecTxn) (who : SpecWho) →
+            outcome self.now (to_last (no_last ask) path.now (λ passed. last_row_of osts number ask))
+            ≡ ended osts self.now number who [] result }
+        ensures looks { (number : SpecTxn) → looked self.now
+            (to_last (no_last ask) path.now (λ passed. last_row_of osts number ask)) ≡ looks self.now root path.now
+            ++ looked_of result }
         ensures seen { IsAskable self.now ask → Seen osts self.now result }
     {
         let Some((name, front)) = path.split_last() else {
@@ -186,8 +212,12 @@ impl Inodes {
     /// The end of a `link`.
     pub(crate) fn link_end<'a>(&self, osts: u16, old: &[Name], new: &'a [Name]) -> End<'a>
         requires { 1 ≤ osts }
-        ensures ends { (number : SpecTxn) (who : SpecWho) → outcome self.now (walk root old.now (λ passed. row_link new.now (last_of root passed))) ≡ ended osts self.now number who [] result }
-        ensures looks { looked self.now (walk root old.now (λ passed. row_link new.now (last_of root passed))) ≡ looks self.now root old.now ++ names_after self.now new.now (reach self.now root old.now) ++ looked_of result }
+        ensures ends { (number : SpecTxn) (who : SpecWho) →
+            outcome self.now (walk root old.now (λ passed. row_link new.now (last_of root passed)))
+            ≡ ended osts self.now number who [] result }
+        ensures looks { looked self.now (walk root old.now (λ passed. row_link new.now (last_of root passed)))
+            ≡ looks self.now root old.now ++ names_after self.now new.now (reach self.now root old.now)
+            ++ looked_of result }
         ensures seen { Seen osts self.now result }
     {
         match self.reach(old) {

@@ -28,7 +28,8 @@ impl Inodes {
         old: &[Name],
         new: &[Name],
     ) -> Result<(), Memory>
-        ensures pushed { OnOk result (parts.new ≡ parts.old ++ (looks self.now root old.now ++ names_after self.now new.now (reach self.now root old.now))) }
+        ensures pushed { OnOk result (parts.new ≡ parts.old
+            ++ (looks self.now root old.now ++ names_after self.now new.now (reach self.now root old.now))) }
     {
         self.push_looks(alloc, parts, old)?;
         match self.reach(old) {
@@ -136,7 +137,8 @@ fn push_moved(
     child: Child,
     new: Place<'_>,
 ) -> Result<(), Memory>
-    ensures pushed { OnOk result (parts.new ≡ parts.old ++ NamePart old.entry.dir old.entry.name.now ∷ NamePart new.entry.dir new.entry.name.now ∷ Parent (fid_of child) ∷ []) }
+    ensures pushed { OnOk result (parts.new ≡ parts.old ++ NamePart old.entry.dir old.entry.name.now
+        ∷ NamePart new.entry.dir new.entry.name.now ∷ Parent (fid_of child) ∷ []) }
 {
     push_name(alloc, parts, old)?;
     push_name(alloc, parts, new)?;
@@ -153,7 +155,8 @@ fn push_gone(parts: &mut Parts, gone: Child) -> Result<(), Memory>
 
 /// Adds what an operation that comes to this writes.
 pub(crate) fn push_written(alloc: Global, parts: &mut Parts, end: End<'_>) -> Result<(), Memory>
-    ensures pushed { OnOk result ((osts : ℕ) (t : Tree) (number : SpecTxn) (who : SpecWho) → parts.new ≡ parts.old ++ written (changes_of osts t number who end.entry)) }
+    ensures pushed { OnOk result ((osts : ℕ) (t : Tree) (number : SpecTxn) (who : SpecWho) → parts.new ≡ parts.old
+        ++ written (changes_of osts t number who end.entry)) }
 {
     match end {
         End::Makes(new) => push_name(alloc, parts, new),

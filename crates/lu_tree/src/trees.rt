@@ -51,8 +51,10 @@ impl Tree {
     /// Performs an operation of a life, as transaction `number` if it makes one, which is then above all numbers
     /// used before. A refusal, and after want of memory everything, leaves the tree as it was.
     pub fn apply(&mut self, alloc: Global, number: Txn, who: Who, op: &Op) -> Result<Answer, Memory>
-        requires above { footprint.changes self.old.osts self.old.tree (asked number who op.now) ≡ true → self.old.last < number.0 }
-        ensures answer { IfOk result (λ answer. answer ≡ footprint.answer self.old.osts self.old.tree (asked number who op.now)) }
+        requires above { footprint.changes self.old.osts self.old.tree (asked number who op.now) ≡ true →
+            self.old.last < number.0 }
+        ensures answer { IfOk result (λ answer. answer ≡ footprint.answer self.old.osts self.old.tree
+            (asked number who op.now)) }
         ensures after { OnOk result (self.new ≡ performed self.old (asked number who op.now)) }
         ensures kept { OnErr result (self.new ≡ self.old) }
     {
@@ -65,14 +67,16 @@ impl Tree {
 
     /// Whether the operation would make a transaction.
     pub fn changes(&self, _who: Who, op: &Op) -> bool
-        ensures changes { (number : SpecTxn) → result ≡ footprint.changes self.now.osts self.now.tree (asked number _who op.now) }
+        ensures changes { (number : SpecTxn) → result ≡ footprint.changes self.now.osts self.now.tree
+            (asked number _who op.now) }
     {
         changes(self.inodes.end(self.osts, op))
     }
 
     /// The parts that the operation would touch, in the order in which it looks at them.
     pub fn touches(&self, alloc: Global, _who: Who, op: &Op) -> Result<Parts, Memory>
-        ensures touches { IfOk result (λ parts. (number : SpecTxn) → parts ≡ footprint.touches self.now.osts self.now.tree (asked number _who op.now)) }
+        ensures touches { IfOk result (λ parts. (number : SpecTxn) → parts
+            ≡ footprint.touches self.now.osts self.now.tree (asked number _who op.now)) }
     {
         let mut parts = Parts::new(alloc);
         self.inodes.push_names(alloc, &mut parts, op)?;
@@ -82,7 +86,8 @@ impl Tree {
 
     /// The parts that the operation would write, none where it is refused.
     pub fn writes(&self, alloc: Global, _who: Who, op: &Op) -> Result<Parts, Memory>
-        ensures writes { IfOk result (λ parts. (number : SpecTxn) → parts ≡ footprint.writes self.now.osts self.now.tree (asked number _who op.now)) }
+        ensures writes { IfOk result (λ parts. (number : SpecTxn) → parts
+            ≡ footprint.writes self.now.osts self.now.tree (asked number _who op.now)) }
     {
         let mut parts = Parts::new(alloc);
         push_written(alloc, &mut parts, self.inodes.end(self.osts, op))?;
@@ -91,7 +96,8 @@ impl Tree {
 
     /// The locks that would come with the answer, in order, none where it is refused or makes a transaction.
     pub fn grants(&self, alloc: Global, _who: Who, op: &Op) -> Result<Wants, Memory>
-        ensures grants { IfOk result (λ wants. (number : SpecTxn) → wants ≡ footprint.grants self.now.osts self.now.tree (asked number _who op.now)) }
+        ensures grants { IfOk result (λ wants. (number : SpecTxn) → wants
+            ≡ footprint.grants self.now.osts self.now.tree (asked number _who op.now)) }
     {
         match bits(self.inodes.end(self.osts, op)) {
             Some(more) => self.inodes.wants(alloc, whole_path(op), more),

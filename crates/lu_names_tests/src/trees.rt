@@ -1,10 +1,12 @@
+//! The tree of names: rows of operations with their answers, and rows of footprints.
+
 ghost use Rattle.std.specs.Prelude.{◌<◌, ◌≤◌};
 
-use super::*;
 use lu_base::{Bytes, Fid, Memory, Name, Path, Resource, Txn, Who, put_number, put_pair};
 use lu_layout::Layout;
 use lu_msg::{Answer, Errno, Op};
 use lu_part::Part;
+use lu_tree::Tree;
 use std::alloc::Global;
 use std::process::Abort;
 use std::test::Fail;
@@ -40,7 +42,7 @@ enum Verb {
 
 /// What is answered; an inode is told by the count of the transaction of boot 1 that made it.
 #[derive(Clone, Copy)]
-enum Told {
+pub(crate) enum Told {
     Done,
     Made(u32),
     Dir(u32),
@@ -72,7 +74,7 @@ type Print = (
 );
 
 /// The names between the slashes.
-fn path(alloc: Global, text: &[u8]) -> Result<Path, Memory> {
+pub(crate) fn path(alloc: Global, text: &[u8]) -> Result<Path, Memory> {
     let mut path = Path::new(alloc);
     let mut name = Name::new(alloc);
     for byte in text {
@@ -123,11 +125,11 @@ fn op(alloc: Global, verb: Verb, text: &[u8]) -> Result<Op, Memory> {
     }
 }
 
-fn fid(count: u32) -> Fid {
+pub(crate) fn fid(count: u32) -> Fid {
     Fid(BOOT + count as u64)
 }
 
-fn answer(alloc: Global, told: Told) -> Result<Answer, Fail> {
+pub(crate) fn answer(alloc: Global, told: Told) -> Result<Answer, Fail> {
     match told {
         Told::Done => Ok(Answer::Done),
         Told::Made(count) => Ok(Answer::Made(fid(count))),
@@ -184,7 +186,7 @@ fn acts_all(rt: &impl Abort, alloc: Global, rows: &[Row<'_>]) -> Result<Tree, Fa
     Ok(tree)
 }
 
-fn put_inode(out: &mut Bytes, kind: &[u8], fid: Fid) -> Result<(), Memory> {
+pub(crate) fn put_inode(out: &mut Bytes, kind: &[u8], fid: Fid) -> Result<(), Memory> {
     out.extend(kind)?;
     put_pair(out, fid.0)
 }
@@ -204,7 +206,7 @@ fn put_part(out: &mut Bytes, part: &Part) -> Result<(), Memory> {
     }
 }
 
-fn parts_text(alloc: Global, parts: &[Part]) -> Result<Bytes, Memory> {
+pub(crate) fn parts_text(alloc: Global, parts: &[Part]) -> Result<Bytes, Memory> {
     let mut out = Bytes::new(alloc);
     for part in parts {
         put_part(&mut out, part)?;

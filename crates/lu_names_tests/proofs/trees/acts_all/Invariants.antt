@@ -1,6 +1,6 @@
 -- The numbers rise by one.
 use Rattle.std.proofs.Common.{◌≡◌, ◌+◌, ◌≤◌}
-use Rattle.lu_tree.proofs.tests.acts_all.Given as goal
+use Rattle.lu_names_tests.proofs.trees.acts_all.Given as goal
 
 abbrev pub invariant-loop-row : goal.invariant-loop-row
 invariant-loop-row g l = record { number : l.number ≡ 4294967296 + l.row-index; last : l.tree.last ≤ l.number }

@@ -1,0 +1,3 @@
+mod Trimmed
+mod Footprints
+mod Removal
