@@ -1,18 +1,17 @@
 -- What a target that recovers keeps of the lives that come back (Lustre Operations Manual, recovery: replays, and clients
 -- that reconnect): their replays by number, their locks by cookie, the first word of each, and of each client the newest
 -- life that asks to join.
-use Rattle.std.specs.Prelude.{nat_lt, ◌==◌, not, if◌then◌else◌, Bool, true, false, List, [], ◌∷◌, ◌++◌, filter}
+use Rattle.std.specs.Prelude.{Bool, true, false, List, []}
 use Rattle.lu_base.specs.declared.ids.Who.{Who}
 use Rattle.lu_base.specs.declared.locks.Lock.{Lock}
 use Rattle.lu_msg.specs.declared.messages.RequestReplay.{RequestReplay}
 use Rattle.lu_words.specs.Carried.{Said}
 use Rattle.lu_words.specs.Words.{Entry, Boot, Close, Stores, Brings, Says, Wishes}
-use Rattle.lu_target_rows.specs.Lives.{with_life}
-use Rattle.lu_target_rows.specs.Locks.{with_lock}
+use Rattle.lu_target_rows.specs.Windows.{Replayed, with_replay, with_brought, with_word, with_wish}
 
-abbrev pub with_replay : RequestReplay → List RequestReplay → List RequestReplay
-with_replay r [] = r ∷ []
-with_replay r (s ∷ replays) = if nat_lt r.txn.0 s.txn.0 then r ∷ s ∷ replays else s ∷ with_replay r replays
+-- the boot that the message names is the present one
+abbrev pub replayed : RequestReplay → Replayed
+replayed r = record { who = r.who; number = r.txn.0; xid = r.xid.0; tag = r.tag; seen = r.seen; op = r.op }
 
 abbrev pub reads_replays : Entry → Bool
 reads_replays (Stores r) = true
@@ -20,8 +19,8 @@ reads_replays (Boot boot disk) = true
 reads_replays (Close o) = true
 reads_replays _ = false
 
-abbrev pub replays_after : List RequestReplay → Entry → List RequestReplay
-replays_after replays (Stores r) = with_replay r replays
+abbrev pub replays_after : List Replayed → Entry → List Replayed
+replays_after replays (Stores r) = with_replay (replayed r) replays
 replays_after replays (Boot boot disk) = []
 replays_after replays (Close o) = []
 replays_after replays _ = replays
@@ -33,7 +32,7 @@ reads_brought (Close o) = true
 reads_brought _ = false
 
 abbrev pub brought_after : List Lock → Entry → List Lock
-brought_after locks (Brings lock) = with_lock lock locks
+brought_after locks (Brings lock) = with_brought lock locks
 brought_after locks (Boot boot disk) = []
 brought_after locks (Close o) = []
 brought_after locks _ = locks
@@ -45,7 +44,7 @@ reads_words (Close o) = true
 reads_words _ = false
 
 abbrev pub words_after : List Said → Entry → List Said
-words_after words (Says word) = words ++ word ∷ []
+words_after words (Says word) = with_word word words
 words_after words (Boot boot disk) = []
 words_after words (Close o) = []
 words_after words _ = words
@@ -57,7 +56,7 @@ reads_wishes (Close o) = true
 reads_wishes _ = false
 
 abbrev pub wishes_after : List Who → Entry → List Who
-wishes_after wishes (Wishes who) = with_life who (filter (λ w. not (w.client == who.client)) wishes)
+wishes_after wishes (Wishes who) = with_wish who wishes
 wishes_after wishes (Boot boot disk) = []
 wishes_after wishes (Close o) = []
 wishes_after wishes _ = wishes

@@ -2,6 +2,7 @@ pub mod Phase
 pub mod Lives
 pub mod Stored
 pub mod Locks
+pub mod Windows
 pub mod Kept
 pub mod States
 pub mod Replies

@@ -1,18 +1,20 @@
 -- A target that recovers (Lustre Operations Manual, recovery): a boot, what it takes of the lives that come back, and the
 -- close of its window, which comes when every life is back or has left, by the command, or at a boot without lives.
-use Rattle.std.specs.Prelude.{◌+◌, nat_lt, nat_le, ◌==◌, ◌&&◌, ◌||◌, not, if◌then◌else◌, Bool, true, List, [], ◌∷◌, ◌++◌, filter, Option, Some, None}
+use Rattle.std.specs.Prelude.{◌+◌, nat_lt, ◌==◌, ◌&&◌, not, if◌then◌else◌, Bool, List, [], ◌∷◌, ◌++◌, filter, Option, Some, None}
 use Rattle.std.specs.List.{list_any}
 use Rattle.lu_base.specs.declared.ids.At.{At}
 use Rattle.lu_base.specs.declared.ids.Who.{Who}
 use Rattle.lu_base.specs.declared.locks.Lock.{Lock}
 use Rattle.lu_msg.specs.declared.messages.RequestReplay.{RequestReplay}
 use Rattle.lu_words.specs.Carried.{Deed, Said, Gone, Outcome}
-use Rattle.lu_words.specs.Words.{Entry, Commit, Boot, Back, Close, Kept, Restore, Evict, Joined, Stores, Brings, Says, Wishes, same_life}
+use Rattle.lu_words.specs.Words.{Entry, Commit, Boot, Back, Close, Kept, Restore, Evict, Joined, Stores, Brings, Says, Wishes}
 use Rattle.lu_target_rows.specs.Lives.{is_life, lives_of}
 use Rattle.lu_target_rows.specs.Stored.{batch_of}
 use Rattle.lu_target_rows.specs.States.{Target, follow}
 use Rattle.lu_target_rows.specs.Leaving.{up, evicted, ready, life_of}
-use Rattle.lu_target_rows.specs.Outcomes.{word_of, is_back, is_left, outcome_of}
+use Rattle.lu_target_rows.specs.Windows.{is_replay, cut_seen, is_lock, word_of, is_newest, is_back, all_settled}
+use Rattle.lu_target_rows.specs.Kept.{replayed}
+use Rattle.lu_target_rows.specs.Outcomes.{window_of, outcome_of}
 
 -- ---- a close: the commit, and what shows the outcome
 
@@ -50,33 +52,23 @@ closes v o = follow v (Close o ∷ commit_of o ∷ kept_lines o.kept ++ restore_
 abbrev pub row_close : At → Target → List Entry
 row_close at v = closes v (outcome_of v at)
 
-abbrev pub all_settled : Target → List Who → Bool
-all_settled v [] = true
-all_settled v (who ∷ lives) = (is_back v who || is_left v who) && all_settled v lives
-
 abbrev pub settles : At → Target → List Entry
-settles at v = if all_settled v v.lives then row_close at v else []
+settles at v = if all_settled (window_of v) v.lives then row_close at v else []
 
 -- ---- what is taken: it is kept, once; with what comes last its life is back
 
 abbrev pub back_line : Bool → Who → Target → List Entry
-back_line before who v = if is_back v who && not before then Back who ∷ [] else []
+back_line before who v = if is_back (window_of v) who && not before then Back who ∷ [] else []
 
 abbrev pub row_keeps : Target → At → Who → Entry → List Entry
-row_keeps v at who e = follow v (e ∷ []) (λ w. follow w (back_line (is_back v who) who w) (settles at))
+row_keeps v at who e = follow v (e ∷ []) (λ w. follow w (back_line (is_back (window_of v) who) who w) (settles at))
 
-abbrev pub is_replay : RequestReplay → RequestReplay → Bool
-is_replay r s = same_life s.who r.who && s.txn.0 == r.txn.0
-
--- a replay saw nothing at or above its own number
-abbrev pub cut_seen : RequestReplay → RequestReplay
-cut_seen r = record r { seen = filter (λ n. nat_lt n r.txn.0) r.seen }
+-- it is kept without what it can't have seen
+abbrev pub cut : RequestReplay → RequestReplay
+cut r = record r { seen = (cut_seen (replayed r)).seen }
 
 abbrev pub row_replay : Target → At → RequestReplay → List Entry
-row_replay v at r = if list_any (is_replay r) v.replays then [] else row_keeps v at r.who (Stores (cut_seen r))
-
-abbrev pub is_lock : Lock → Lock → Bool
-is_lock l k = k.cookie.0 == l.cookie.0 && same_life k.ask.who l.ask.who
+row_replay v at r = if list_any (is_replay (replayed r)) v.replays then [] else row_keeps v at r.who (Stores (cut r))
 
 abbrev pub row_lock : Target → At → Lock → List Entry
 row_lock v at l = if list_any (is_lock l) v.brought then [] else row_keeps v at l.ask.who (Brings l)
@@ -93,9 +85,6 @@ row_word v at word = row_says v at word (word_of word.who v.words)
 
 abbrev pub empty_word : Who → Said
 empty_word who = record { who = who; replays = 0; locks = 0; seen = [] }
-
-abbrev pub is_newest : Who → List Who → Bool
-is_newest who wishes = not (list_any (λ w. w.client == who.client && nat_le who.life w.life) wishes)
 
 abbrev pub wishes_by : Target → At → Who → Option Who → List Entry
 wishes_by v at who None = []

@@ -4,7 +4,6 @@ use Rattle.lu_base.specs.declared.ids.Who.{Who}
 use Rattle.lu_base.specs.declared.locks.Lock.{Lock}
 use Rattle.lu_msg.specs.declared.commits.Batch.{Batch}
 use Rattle.lu_msg.specs.declared.messages.Request.{Request as RequestOf}
-use Rattle.lu_msg.specs.declared.messages.RequestReplay.{RequestReplay}
 use Rattle.lu_machine.specs.Footprint.{empty}
 use Rattle.lu_words.specs.Carried.{Deed, LifeSlot, Called, Glimpse, Said, Contents, Disk}
 use Rattle.lu_words.specs.Words.{Entry, Line}
@@ -16,6 +15,7 @@ use Rattle.lu_target_rows.specs.Stored.{reads_contents, contents_after, reads_lo
 use Rattle.lu_target_rows.specs.Stored.{reads_disk, disk_after, stored}
 use Rattle.lu_target_rows.specs.Locks.{reads_granted, granted_after, reads_waiting, waiting_after, reads_called, called_after}
 use Rattle.lu_target_rows.specs.Locks.{reads_queue, queue_after, reads_glimpses, glimpses_after}
+use Rattle.lu_target_rows.specs.Windows.{Replayed}
 use Rattle.lu_target_rows.specs.Kept.{reads_replays, replays_after, reads_brought, brought_after}
 use Rattle.lu_target_rows.specs.Kept.{reads_words, words_after, reads_wishes, wishes_after}
 
@@ -47,7 +47,7 @@ pub record Target : Type 0 where
   pub called : List Called
   pub queue : List RequestOf
   pub glimpses : List Glimpse
-  pub replays : List RequestReplay
+  pub replays : List Replayed
   pub brought : List Lock
   pub words : List Said
   pub wishes : List Who
