@@ -1,6 +1,6 @@
 -- What an index finds: sorted places each once, and a bucket for each two parts that meet.
 use Rattle.std.proofs.Common.{◌⊎◌, inl, inr, ◌≡◌, ℕ, suc, ◌+◌, ◌<◌, ◌≤◌, ◌==◌, ◌||◌, Bool, true, false, cond, List, [], ◌∷◌, ◌++◌, length, get_or, refl, sym, ap, ◌∙◌, subst, arith, ◌-◌, length-drop}
-use Rattle.std.specs.Prelude.{Contains, slice_get, ⊤, Some, None, map, filter, drop}
+use Rattle.std.specs.Prelude.{Contains, slice_get, ⊤, Some, None, Option, map, filter, drop, nat_lt}
 use Rattle.std.specs.List.{list_any, flat_map, filter_map, cons_option, dedup}
 use Rattle.std.proofs.lemmas.Grind.{common_steps}
 use Rattle.std.proofs.lemmas.Bool.Decides.{nat_tests}
@@ -27,8 +27,8 @@ use Rattle.std.specs.Map.{lookup, set_value}
 use Rattle.std.specs.Option.{unwrap_or}
 use Rattle.std.proofs.lemmas.Map.{lookup-set_value}
 use Rattle.lu_txn.specs.Buckets.{same_bucket, holds, filing, lookups}
-use Rattle.lu_txn.specs.Logs.{number, meets_written, is_seen, seen_at, seen_by}
-use Rattle.lu_txn.specs.Indexes.{places_of, has, files, Grows, gathered, IsIndexed}
+use Rattle.lu_txn.specs.Logs.{number, meets_written, is_seen, seen_here, seen_at, seen_by}
+use Rattle.lu_txn.specs.Indexes.{places_of, has, files, Grows, Keeps, gathered, IsIndexed}
 
 -- a number that a list has stands in it, and the other way round
 pub contains_from_has : (numbers : List ℕ) (n : ℕ) → has numbers n ≡ true → Contains numbers n
@@ -50,11 +50,14 @@ or_true : (a : Bool) → (a || true) ≡ true
 or_true true = refl
 or_true false = refl
 
-has_left : (xs ys : List ℕ) (n : ℕ) → has xs n ≡ true → has (xs ++ ys) n ≡ true
+pub has_left : (xs ys : List ℕ) (n : ℕ) → has xs n ≡ true → has (xs ++ ys) n ≡ true
 has_left xs ys n h = rw (list_any-append (λ m. m == n) xs ys, h) refl
 
 has_right : (xs ys : List ℕ) (n : ℕ) → has ys n ≡ true → has (xs ++ ys) n ≡ true
 has_right xs ys n h = rw (list_any-append (λ m. m == n) xs ys, h) (or_true (has xs n))
+
+pub has_last : (xs : List ℕ) (n : ℕ) → has (xs ++ n ∷ []) n ≡ true
+has_last xs n = has_right xs (n ∷ []) n (has_first n [])
 
 -- the buckets as keys
 laws : IsEquivalence same_bucket
@@ -73,28 +76,15 @@ found_same : (a b : Bucket) → same_bucket a b ≡ true → (filed : Filed) →
 found_same a b e [] = refl
 found_same a b e (entry ∷ filed) = rw (laws.congr a b entry.0 e, found_same a b e filed) refl
 
-abbrev pub with_place : Bucket → List ℕ → ℕ → Filed → Filed
-with_place a old place filed = set_value (same_bucket a) filed (old ++ place ∷ [])
-
-written : (a b : Bucket) (old : List ℕ) (place : ℕ) (filed : Filed) → lookup (same_bucket a) filed ≡ Some old → lookup (same_bucket b) (with_place a old place filed) ≡ cond (same_bucket a b) (Some (old ++ place ∷ [])) (lookup (same_bucket b) filed)
-written a b old place filed e = lookup-set_value laws (same_bucket a) (λ x y h. laws.congr a x y h) b (old ++ place ∷ []) filed (rw e refl)
-
-pub grown_there : (a b : Bucket) (old : List ℕ) (place n : ℕ) (filed : Filed) → lookup (same_bucket a) filed ≡ Some old → has (there b filed) n ≡ true → has (there b (with_place a old place filed)) n ≡ true
-grown_there a b old place n filed e h = by (same_bucket a b) refl where
-  by : (same : Bool) → same_bucket a b ≡ same → has (there b (with_place a old place filed)) n ≡ true
-  by true same =
-      let here : lookup (same_bucket b) filed ≡ Some old = sym (found_same a b same filed) ∙ e in
-      rw (written a b old place filed e, same) (has_left old (place ∷ []) n (rw here at h))
-  by false same = rw (written a b old place filed e, same) h
-
-pub grown_new : (a b : Bucket) (place n : ℕ) (filed : Filed) → lookup (same_bucket a) filed ≡ None → has (there b filed) n ≡ true → has (unwrap_or (cond (same_bucket a b) (Some (place ∷ [])) (lookup (same_bucket b) filed)) []) n ≡ true
-grown_new a b place n filed none h = by (same_bucket a b) refl where
-  by : (same : Bool) → same_bucket a b ≡ same → has (unwrap_or (cond same (Some (place ∷ [])) (lookup (same_bucket b) filed)) []) n ≡ true
-  by true same =
-      let here : lookup (same_bucket b) filed ≡ None = sym (found_same a b same filed) ∙ none in
-      let off : has (there b filed) n ≡ false = rw here refl in
-      absurd (cc)
+-- once the places of a bucket are written anew
+pub entry_grows : (a b : Bucket) (new : List ℕ) (n : ℕ) (filed : Filed) → ((m : ℕ) → has (there a filed) m ≡ true → has new m ≡ true) → has (there b filed) n ≡ true → has (unwrap_or (cond (same_bucket a b) (Some new) (lookup (same_bucket b) filed)) []) n ≡ true
+entry_grows a b new n filed keep h = by (same_bucket a b) refl where
+  by : (same : Bool) → same_bucket a b ≡ same → has (unwrap_or (cond same (Some new) (lookup (same_bucket b) filed)) []) n ≡ true
+  by true same = keep n (rw (found_same a b same filed) h)
   by false same = h
+
+pub entry_files : (a b : Bucket) (new : List ℕ) (n : ℕ) (filed : Filed) → has new n ≡ true → same_bucket a b ≡ true → has (unwrap_or (cond (same_bucket a b) (Some new) (lookup (same_bucket b) filed)) []) n ≡ true
+entry_files a b new n filed h same = rw same h
 
 -- a part is filed in a bucket under which it stands by itself, or one before it does
 pub or_cases : (P : Type 0) (a b : Bool) → (a || b) ≡ true → (a ≡ true → P) → (b ≡ true → P) → P
@@ -178,8 +168,12 @@ not_before from n (place ∷ places) below rise =
     let other : (place == n) ≡ false = grind (arith, nat_tests, rise.0) in
     rw other (not_before (place + 1) n places (omega (arith, rise.0)) rise.1)
 
+-- the number at a place of a list, where it is seen
+abbrev at_place : List Part → List Logged → ℕ → Option ℕ
+at_place touched all place = seen_here touched (slice_get all place)
+
 -- places past the last transaction give none
-none_past : (touched : List Part) (all : List Logged) (from : ℕ) (places : List ℕ) → length all ≤ from → Rise from places → filter_map (seen_at touched all) places ≡ []
+none_past : (touched : List Part) (all : List Logged) (from : ℕ) (places : List ℕ) → length all ≤ from → Rise from places → filter_map (at_place touched all) places ≡ []
 none_past touched all from [] past rise = refl
 none_past touched all from (place ∷ places) past rise =
     let none : slice_get all place ≡ None = slice_get_past all place (omega (arith, rise.0)) in
@@ -194,7 +188,7 @@ stands : (all : List Logged) (from : ℕ) (first : Logged) → from < length all
 stands all from first within at = grind (arith, common_steps, gets)
 
 -- From rising places that have all that is seen, exactly what is seen is taken.
-pick : (touched : List Part) (all rest : List Logged) (from : ℕ) (places : List ℕ) → drop from all ≡ rest → Rise from places → Complete touched all from places → filter_map (seen_at touched all) places ≡ seen_by touched rest
+pick : (touched : List Part) (all rest : List Logged) (from : ℕ) (places : List ℕ) → drop from all ≡ rest → Rise from places → Complete touched all from places → filter_map (at_place touched all) places ≡ seen_by touched rest
 pick touched all [] from places dropped rise complete =
     let count : length all - from ≡ 0 = sym (length-drop from all) ∙ ap length dropped in
     none_past touched all from places (omega arith) rise
@@ -234,36 +228,75 @@ pick touched all (first ∷ rest) from places dropped rise complete =
       after : (place p : ℕ) (places : List ℕ) → place < p → has (place ∷ places) p ≡ true → has places p ≡ true
       after place p places less h = let other : (place == p) ≡ false = grind (arith, nat_tests) in rw other at h
 
-      split : (place : ℕ) (places : List ℕ) (same : Bool) → (place == from) ≡ same → Rise from (place ∷ places) → Complete touched all from (place ∷ places) → ((cs : List ℕ) → Rise (suc from) cs → Complete touched all (suc from) cs → filter_map (seen_at touched all) cs ≡ seen_by touched rest) → filter_map (seen_at touched all) (place ∷ places) ≡ seen_by touched (first ∷ rest)
+      split : (place : ℕ) (places : List ℕ) (same : Bool) → (place == from) ≡ same → Rise from (place ∷ places) → Complete touched all from (place ∷ places) → ((cs : List ℕ) → Rise (suc from) cs → Complete touched all (suc from) cs → filter_map (at_place touched all) cs ≡ seen_by touched rest) → filter_map (at_place touched all) (place ∷ places) ≡ seen_by touched (first ∷ rest)
       split place places true e rise complete next =
           let same : place ≡ from = eqb-true place from e in
-          let tail : filter_map (seen_at touched all) places ≡ seen_by touched rest =
+          let tail : filter_map (at_place touched all) places ≡ seen_by touched rest =
           next places (rise_lower (suc from) (place + 1) places (omega arith) rise.1) (λ p d above below seen. after place p places (omega arith) (complete p d (omega arith) below seen)) in
           let found : slice_get all place ≡ Some first = rw same here in
-          rw found (taken (is_seen touched first) (filter_map (seen_at touched all) places) tail)
+          rw found (taken (is_seen touched first) (filter_map (at_place touched all) places) tail)
       split place places false e rise complete next =
           let past : suc from ≤ place = grind (arith, nat_tests, rise.0) in
           let none : has (place ∷ places) from ≡ false = not_before (suc from) from (place ∷ places) (omega arith) (past, rise.1) in
           next (place ∷ places) (past, rise.1) (λ p d above below seen. complete p d (omega arith) below seen) ∙ passed_over (unseen (is_seen touched first) refl (place ∷ places) complete none)
 
-      by : (places : List ℕ) → Rise from places → Complete touched all from places → ((cs : List ℕ) → Rise (suc from) cs → Complete touched all (suc from) cs → filter_map (seen_at touched all) cs ≡ seen_by touched rest) → filter_map (seen_at touched all) places ≡ seen_by touched (first ∷ rest)
+      by : (places : List ℕ) → Rise from places → Complete touched all from places → ((cs : List ℕ) → Rise (suc from) cs → Complete touched all (suc from) cs → filter_map (at_place touched all) cs ≡ seen_by touched rest) → filter_map (at_place touched all) places ≡ seen_by touched (first ∷ rest)
       by [] rise complete next = next [] tt (λ p d above below seen. complete p d (omega arith) below seen) ∙ passed_over (unseen (is_seen touched first) refl [] complete refl)
       by (place ∷ places) rise complete next = split place places (place == from) refl rise complete next
 
+-- places counted from the first transaction
+abbrev from_first : ℕ → ℕ → Option ℕ
+from_first first place = cond (nat_lt place first) None (Some (place - first))
+
+abbrev counted : ℕ → List ℕ → List ℕ
+counted first places = filter_map (from_first first) places
+
+seen_counted : (touched : List Part) (all : List Logged) (first : ℕ) (places : List ℕ) → filter_map (seen_at touched first all) places ≡ filter_map (at_place touched all) (counted first places)
+seen_counted touched all first [] = refl
+seen_counted touched all first (place ∷ places) = by (nat_lt place first) (seen_counted touched all first places) where
+  by : (before : Bool) → filter_map (seen_at touched first all) places ≡ filter_map (at_place touched all) (counted first places) → cons_option (cond before None (at_place touched all (place - first))) (filter_map (seen_at touched first all) places) ≡ filter_map (at_place touched all) (cons_option (cond before None (Some (place - first))) (counted first places))
+  by true rest = rest
+  by false rest = ap (cons_option (at_place touched all (place - first))) rest
+
+rise_counted : (first from : ℕ) (places : List ℕ) → Rise from places → Rise (from - first) (counted first places)
+rise_counted first from [] rise = tt
+rise_counted first from (place ∷ places) rise = by (nat_lt place first) refl (rise_counted first (place + 1) places rise.1) where
+  by : (before : Bool) → nat_lt place first ≡ before → Rise (place + 1 - first) (counted first places) → Rise (from - first) (cons_option (cond before None (Some (place - first))) (counted first places))
+  by true e rest = rise_lower (from - first) (place + 1 - first) (counted first places) (omega (arith, rise.0)) rest
+  by false e rest = let past : first ≤ place = grind (arith, nat_tests) in (omega (arith, rise.0), rise_lower (place - first + 1) (place + 1 - first) (counted first places) (omega arith) rest)
+
+has_counted : (first k : ℕ) (places : List ℕ) → has places (first + k) ≡ true → has (counted first places) k ≡ true
+has_counted first k [] h = absurd (cc)
+has_counted first k (place ∷ places) h = by (nat_lt place first) (place == first + k) refl refl h (has_counted first k places) where
+  by : (before same : Bool) → nat_lt place first ≡ before → (place == first + k) ≡ same → (same || has places (first + k)) ≡ true → (has places (first + k) ≡ true → has (counted first places) k ≡ true) → has (cons_option (cond before None (Some (place - first))) (counted first places)) k ≡ true
+  by true true e f h rest = absurd (grind (arith, nat_tests))
+  by true false e f h rest = rest h
+  by false true e f h rest = let same : (place - first == k) ≡ true = grind (arith, nat_tests) in rw same refl
+  by false false e f h rest = rw (rest h) (or_true (place - first == k))
+
 -- the same for the candidates of an index
-pub seen_found : (index : Index) (touched : List Part) (transactions : List Logged) (places : List ℕ) → IsIndexed index transactions → IsStrictlyIncreasing places → ((place : ℕ) → has (gathered index touched) place ≡ true → has places place ≡ true) → filter_map (seen_at touched transactions) places ≡ seen_by touched transactions
-seen_found index touched transactions places indexed increasing all =
-    pick touched transactions transactions 0 places refl (rises 0 places (λ some. omega arith) increasing) (λ place d above below seen. all place (found index touched (get_or transactions place d).writes place (λ b. indexed place b d below) seen))
+pub seen_found : (index : Index) (touched : List Part) (first : ℕ) (transactions : List Logged) (places : List ℕ) → IsIndexed first index transactions → IsStrictlyIncreasing places → ((place : ℕ) → has (gathered index touched) place ≡ true → has places place ≡ true) → filter_map (seen_at touched first transactions) places ≡ seen_by touched transactions
+seen_found index touched first transactions places indexed increasing all =
+    seen_counted touched transactions first places
+    ∙ pick touched transactions transactions 0 (counted first places) refl
+    (rise_lower 0 (0 - first) (counted first places) (omega arith) (rise_counted first 0 places (rises 0 places (λ some. omega arith) increasing)))
+    (λ k d above below seen. has_counted first k places (all (first + k) (found index touched (get_or transactions k d).writes (first + k) (λ b. indexed k b d below) seen)))
 
 -- one more transaction is filed
-pub indexed_appended : (old new : Index) (transactions : List Logged) (logged : Logged) → IsIndexed old transactions → Grows old new → ((b : Bucket) → files logged.writes b ≡ true → has (places_of new b) (length transactions) ≡ true) → IsIndexed new (transactions ++ logged ∷ [])
-indexed_appended old new transactions logged indexed grows filed = λ place b d within. by place b d within (cases_lt place (length transactions)) where
-  by : (place : ℕ) (b : Bucket) (d : Logged) → place < length (transactions ++ logged ∷ []) → (place < length transactions) ⊎ (length transactions ≤ place) → files (get_or (transactions ++ logged ∷ []) place d).writes b ≡ true → has (places_of new b) place ≡ true
-  by place b d within (inl below) h = grows b place (indexed place b d below (rw (get_or-append transactions (logged ∷ []) d place below) at h))
-  by place b d within (inr past) h =
+pub indexed_appended : (first : ℕ) (old new : Index) (transactions : List Logged) (logged : Logged) → IsIndexed first old transactions → Grows old new → ((b : Bucket) → files logged.writes b ≡ true → has (places_of new b) (first + length transactions) ≡ true) → IsIndexed first new (transactions ++ logged ∷ [])
+indexed_appended first old new transactions logged indexed grows filed = λ k b d within. by k b d within (cases_lt k (length transactions)) where
+  by : (k : ℕ) (b : Bucket) (d : Logged) → k < length (transactions ++ logged ∷ []) → (k < length transactions) ⊎ (length transactions ≤ k) → files (get_or (transactions ++ logged ∷ []) k d).writes b ≡ true → has (places_of new b) (first + k) ≡ true
+  by k b d within (inl below) h = grows b (first + k) (indexed k b d below (rw (get_or-append transactions (logged ∷ []) d k below) at h))
+  by k b d within (inr past) h =
       let count : length (transactions ++ logged ∷ []) ≡ length transactions + 1 = length_push transactions logged in
-      let last : length transactions ≡ place = omega arith in
-      subst (λ p. has (places_of new b) p ≡ true) last (filed b (rw (get_or_push transactions logged d place last) at h))
+      let last : length transactions ≡ k = omega arith in
+      subst (λ p. has (places_of new b) (first + p) ≡ true) last (filed b (rw (get_or_push transactions logged d k last) at h))
 
-pub indexed_grown : (old new : Index) (transactions : List Logged) → IsIndexed old transactions → Grows old new → IsIndexed new transactions
-indexed_grown old new transactions indexed grows = λ place b d within h. grows b place (indexed place b d within h)
+pub indexed_grown : (first : ℕ) (old new : Index) (transactions : List Logged) → IsIndexed first old transactions → Grows old new → IsIndexed first new transactions
+indexed_grown first old new transactions indexed grows = λ k b d within h. grows b (first + k) (indexed k b d within h)
+
+-- the first transaction is taken out
+pub indexed_dropped : (first : ℕ) (old new : Index) (logged : Logged) (transactions : List Logged) → IsIndexed first old (logged ∷ transactions) → Keeps first old new → IsIndexed (first + 1) new transactions
+indexed_dropped first old new logged transactions indexed keeps = λ k b d within h.
+    let next : first + suc k ≡ first + 1 + k = omega arith in
+    subst (λ p. has (places_of new b) p ≡ true) next (keeps b (first + suc k) (omega arith) (indexed (suc k) b d (omega arith) h))

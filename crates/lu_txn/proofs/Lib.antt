@@ -2,4 +2,8 @@ pub mod SlotLaws
 pub mod SlotMaps
 pub mod Lookups
 pub mod IndexLaws
+pub mod Filing
+pub mod Cuts
 pub mod Soundness
+pub mod Loading
+pub mod LastReplies

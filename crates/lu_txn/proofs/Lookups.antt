@@ -1,6 +1,6 @@
 -- What is found in the slots once a reply was kept, and once lives got their slots.
-use Rattle.std.proofs.Common.{◌≡◌, ℕ, suc, ◌<◌, ◌==◌, ◌&&◌, ◌||◌, Bool, true, false, cond, List, [], ◌∷◌, length, Option, Some, None, refl, ap, ◌∙◌, arith}
-use Rattle.std.specs.Prelude.{All, IsSome, ⊤}
+use Rattle.std.proofs.Common.{◌≡◌, ℕ, zero, suc, ◌<◌, ◌==◌, ◌&&◌, ◌||◌, Bool, true, false, cond, List, [], ◌∷◌, length, Option, Some, None, refl, ap, ◌∙◌, arith}
+use Rattle.std.specs.Prelude.{All, AllPairs, IsSome, ⊤}
 use Rattle.std.specs.List.{fold}
 use Rattle.std.proofs.lemmas.Grind.{common_steps}
 use Rattle.std.proofs.lemmas.Bool.Decides.{nat_tests}
@@ -9,7 +9,8 @@ use Rattle.std.proofs.lemmas.Option.{gets}
 use Rattle.lu_base.specs.declared.ids.Who.{Who}
 use Rattle.lu_msg.specs.declared.messages.Reply.{Reply}
 use Rattle.lu_txn.specs.declared.slots.Slot.{Slot}
-use Rattle.lu_txn.specs.Slots.{same_life, is_among, is_before, is_of, slot_of, in_slot, reply_at, empty, with_tag, with_life, with_reply}
+use Rattle.lu_txn.specs.Slots.{same_life, is_among, is_before, is_of, slot_of, in_slot, reply_at, lives_of, empty, with_tag, with_life, without_life, with_reply}
+use Rattle.lu_txn.proofs.SlotLaws.{Before, first_before, rest_rises}
 
 same_as : (a b c : Who) → same_life a b ≡ true → same_life a c ≡ true → same_life c b ≡ true
 same_as a b c p q = grind (arith, nat_tests)
@@ -95,3 +96,50 @@ slots_of (life ∷ lives) slots who bare =
       by : (here : Bool) → same_life life who ≡ here → slot_of who (with_life life slots) ≡ cond here (Some (empty who)) (slot_of who slots) → slot_of who (fold (λ slots who. with_life who slots) (with_life life slots) lives) ≡ cond (is_among who lives) (Some (empty who)) (slot_of who (with_life life slots)) → slot_of who (fold (λ slots who. with_life who slots) (with_life life slots) lives) ≡ cond (here || is_among who lives) (Some (empty who)) (slot_of who slots)
       by true e at rest = rest ∙ rw at (either (is_among who lives) (Some (empty who)))
       by false e at rest = rest ∙ rw at refl
+
+-- where lives are in order
+pub apart : (who life : Who) → Before who life → same_life life who ≡ false
+apart who life before = grind (arith, nat_tests)
+
+same_self : (who : Who) → same_life who who ≡ true
+same_self who = grind (arith, nat_tests)
+
+pub before_same : (who other life : Who) → same_life who other ≡ true → Before who life → Before other life
+before_same who other life same before = grind (arith, nat_tests)
+
+pub front_before : (who : Who) (slot : Slot) → is_before slot.who who ≡ false → is_of who slot ≡ false → Before who slot.who
+front_before who slot e f = grind (arith, nat_tests)
+
+before_both : (who life later : Who) → Before who life → Before life later → Before who later
+before_both who life later e f = grind (arith, nat_tests)
+
+pub none_after : (who : Who) (slots : List Slot) → All (Before who) (lives_of slots) → slot_of who slots ≡ None
+none_after who [] all = refl
+none_after who (slot ∷ slots) all =
+    let other : is_of who slot ≡ false = apart who slot.who (all 0 slot.who (omega arith)) in
+    rw other (none_after who slots (λ k d within. all (suc k) d (omega arith)))
+
+pub all_after : (who : Who) (slot : Slot) (slots : List Slot) → Before who slot.who → AllPairs Before (lives_of (slot ∷ slots)) → All (Before who) (lives_of (slot ∷ slots))
+all_after who slot slots front rises zero d within = front
+all_after who slot slots front rises (suc k) d within = before_both who slot.who _ front (first_before slot.who (lives_of slots) rises k d (omega arith))
+
+-- a life that has its slot now has it
+pub some_with_life : (who : Who) (slots : List Slot) → IsSome (slot_of who (with_life who slots))
+some_with_life who [] = rw (same_self who) refl
+some_with_life who (slot ∷ slots) = by (is_before slot.who who) (is_of who slot) refl (some_with_life who slots) where
+  by : (past here : Bool) → is_of who slot ≡ here → IsSome (slot_of who (with_life who slots)) → IsSome (slot_of who (cond past (slot ∷ with_life who slots) (cond here (slot ∷ slots) (empty who ∷ slot ∷ slots))))
+  by true true e rest = rw e refl
+  by true false e rest = rw e rest
+  by false true e rest = rw e refl
+  by false false e rest = rw (same_self who) refl
+
+pub after_same : (w : Who) (slot : Slot) (slots : List Slot) → is_of w slot ≡ true → AllPairs Before (lives_of (slot ∷ slots)) → All (Before w) (lives_of slots)
+after_same w slot slots same rises = λ k d within. before_same slot.who w _ same (first_before slot.who (lives_of slots) rises k d within)
+
+-- a life without its slot
+pub none_without : (who : Who) (slots : List Slot) → AllPairs Before (lives_of slots) → slot_of who (without_life who slots) ≡ None
+none_without who [] rises = refl
+none_without who (slot ∷ slots) rises = by (is_of who slot) refl (none_without who slots (rest_rises slot.who (lives_of slots) rises)) where
+  by : (here : Bool) → is_of who slot ≡ here → slot_of who (without_life who slots) ≡ None → slot_of who (cond here slots (slot ∷ without_life who slots)) ≡ None
+  by true e rest = none_after who slots (after_same who slot slots e rises)
+  by false e rest = rw e rest

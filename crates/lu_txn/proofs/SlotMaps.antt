@@ -2,7 +2,7 @@
 use Rattle.std.proofs.Common.{Ordering, ◌≡◌, ℕ, suc, Bool, true, false, cond, List, [], ◌∷◌, Option, Some, None, refl, ap, sym, subst, ◌∙◌, arith}
 use Rattle.std.specs.Prelude.{All, AllPairs, slice_get, option_map, is_some}
 use Rattle.std.specs.Ordering.{nat_cmp, ordering_then, match_ordering, is_eq}
-use Rattle.std.specs.Map.{keys_of, values_of, lookup, set_value}
+use Rattle.std.specs.Map.{keys_of, values_of, lookup, remove_entry, set_value}
 use Rattle.std.specs.BTreeMap.{BTreeMap, insert_entry}
 use Rattle.std.proofs.lemmas.List.Elements.{All-cons}
 use Rattle.std.proofs.lemmas.Option.{slice_get-map}
@@ -10,8 +10,8 @@ use Rattle.std.proofs.lemmas.Bool.Decides.{nat_tests}
 use Rattle.lu_base.specs.declared.ids.Who.{Who}
 use Rattle.lu_msg.specs.declared.messages.Reply.{Reply}
 use Rattle.lu_txn.specs.declared.slots.Slot.{Slot}
-use Rattle.lu_txn.specs.Slots.{same_life, is_before, is_of, slot_of, lives_of, empty, with_tag, with_life, with_reply, IsByLife}
-use Rattle.lu_txn.proofs.SlotLaws.{Before, first_before, rest_rises, rises-with_life, lives-with_reply}
+use Rattle.lu_txn.specs.Slots.{same_life, is_before, is_of, slot_of, lives_of, empty, with_tag, with_life, without_life, with_reply, IsByLife}
+use Rattle.lu_txn.proofs.SlotLaws.{Before, Eight, first_before, rest_rises, rises-with_life, rises-without_life, lives-with_reply, tags-with_life, tags-without_life, tags-with_reply}
 
 -- lives as keys
 abbrev pub by_who : Who → Who → Ordering
@@ -99,6 +99,7 @@ by_life_kept who tag reply slot entries before found =
     record {
       keyed = keyed_kept who tag reply slot entries before.keyed found;
       rising = subst (AllPairs Before) (sym lives) before.rising;
+      tags = subst (All Eight) (sym (reply_kept who tag reply slot entries before.keyed found)) (tags-with_reply who tag reply (values_of entries) before.tags);
     }
 
 -- a new life
@@ -137,6 +138,7 @@ pub by_life_added : (who : Who) (entries : Entries) → IsByLife entries → loo
 by_life_added who entries before none = record {
   keyed = keyed_added who entries before.keyed none;
   rising = subst (λ slots. AllPairs Before (lives_of slots)) (sym (life_added who entries before.keyed none)) (rises-with_life who (values_of entries) before.rising);
+  tags = subst (All Eight) (sym (life_added who entries before.keyed none)) (tags-with_life who (values_of entries) before.tags);
 }
 
 -- a life that has its slot
@@ -172,6 +174,34 @@ there_stays who entries before there = by (lookup (at who) entries) refl there w
   by : (found : Option Slot) → lookup (at who) entries ≡ found → is_some found ≡ true → values_of entries ≡ with_life who (values_of entries)
   by None e h = absurd (cc)
   by (Some slot) e h = life_stays who entries slot before e
+
+-- a life without its slot
+abbrev pub removed : Who → Entries → Entries
+removed who entries = remove_entry (at who) entries
+
+pub life_removed : (who : Who) (entries : Entries) → All Keyed entries → values_of (removed who entries) ≡ without_life who (values_of entries)
+life_removed who [] keyed = refl
+life_removed who (entry ∷ entries) keyed = by (at who entry.0) refl (life_removed who entries (rest_keyed entry entries keyed)) where
+  on : at who entry.0 ≡ is_of who entry.1
+  on = here who entry (keyed 0 entry (omega arith))
+
+  by : (same : Bool) → at who entry.0 ≡ same → values_of (removed who entries) ≡ without_life who (values_of entries) → values_of (cond same entries (entry ∷ removed who entries)) ≡ without_life who (entry.1 ∷ values_of entries)
+  by true e rest = let same : is_of who entry.1 ≡ true = sym on ∙ e in rw same refl
+  by false e rest = let other : is_of who entry.1 ≡ false = sym on ∙ e in rw other (ap (λ more. entry.1 ∷ more) rest)
+
+keyed_removed : (who : Who) (entries : Entries) → All Keyed entries → All Keyed (removed who entries)
+keyed_removed who [] keyed = keyed
+keyed_removed who (entry ∷ entries) keyed = by (at who entry.0) (keyed_removed who entries (rest_keyed entry entries keyed)) where
+  by : (same : Bool) → All Keyed (removed who entries) → All Keyed (cond same entries (entry ∷ removed who entries))
+  by true rest = rest_keyed entry entries keyed
+  by false rest = All-cons Keyed entry (removed who entries) (keyed 0 entry (omega arith)) rest
+
+pub by_life_removed : (who : Who) (entries : Entries) → IsByLife entries → IsByLife (removed who entries)
+by_life_removed who entries before = record {
+  keyed = keyed_removed who entries before.keyed;
+  rising = subst (λ slots. AllPairs Before (lives_of slots)) (sym (life_removed who entries before.keyed)) (rises-without_life who (values_of entries) before.rising);
+  tags = subst (All Eight) (sym (life_removed who entries before.keyed)) (tags-without_life who (values_of entries) before.tags);
+}
 
 -- the entries of a map that was written to
 pub values_all : {one other : Entries} → one ≡ other → values_of one ≡ values_of other

@@ -1,9 +1,10 @@
 -- Reply slots: for each life that a target serves, and each tag from 0 to 7, the reply to the newest request
 -- (Lustre Operations Manual, recovery, and multiple modifying requests in flight with their tags).
-use Rattle.std.specs.Prelude.{◌≡◌, ℕ, ◌==◌, ◌&&◌, ◌||◌, nat_lt, Bool, if◌then◌else◌, List, [], ◌∷◌, replicate, slice_set, slice_get, Option, Some, None, find, map, true, All, AllPairs}
-use Rattle.std.specs.List.{list_any}
+use Rattle.std.specs.Prelude.{◌≡◌, ℕ, ◌==◌, ◌&&◌, ◌||◌, nat_lt, ◌+◌, Bool, if◌then◌else◌, List, [], ◌∷◌, replicate, length, slice_set, slice_get, Option, Some, None, find, map, true, All, AllPairs}
+use Rattle.std.specs.List.{list_any, fold, flat_map}
 use Rattle.std.specs.Map.{values_of}
 use Rattle.lu_base.specs.declared.ids.Who.{Who}
+use Rattle.lu_msg.specs.declared.commits.KeptReply.{KeptReply}
 use Rattle.lu_msg.specs.declared.messages.Reply.{Reply}
 use Rattle.lu_txn.specs.declared.slots.Slot.{Slot}
 
@@ -80,7 +81,32 @@ with_reply who tag reply (slot ∷ slots) =
     if is_of who slot then with_tag tag reply slot ∷ slots
     else slot ∷ with_reply who tag reply slots
 
--- How the code keeps the slots: each under its life, and these in order.
+-- The slots once this life has none.
+abbrev pub without_life : Who → List Slot → List Slot
+without_life who [] = []
+without_life who (slot ∷ slots) = if is_of who slot then slots else slot ∷ without_life who slots
+
+-- The slots once these lives have one too, once these replies are kept, and once these lives have none.
+abbrev pub with_lives : List Who → List Slot → List Slot
+with_lives lives slots = fold (λ slots who. with_life who slots) slots lives
+
+abbrev pub with_replies : List KeptReply → List Slot → List Slot
+with_replies replies slots = fold (λ slots kept. with_reply kept.who kept.tag kept.reply slots) slots replies
+
+abbrev pub without_lives : List Who → List Slot → List Slot
+without_lives lives slots = fold (λ slots who. without_life who slots) slots lives
+
+-- The replies that these slots keep, by life and then by tag.
+abbrev pub tagged : Who → ℕ → List (Option Reply) → List KeptReply
+tagged who tag [] = []
+tagged who tag (None ∷ replies) = tagged who (tag + 1) replies
+tagged who tag (Some reply ∷ replies) = record { who = who; tag = tag; reply = reply } ∷ tagged who (tag + 1) replies
+
+abbrev pub kept_in : List Slot → List KeptReply
+kept_in slots = flat_map (λ slot. tagged slot.who 0 slot.replies) slots
+
+-- How the code keeps the slots: each under its life, these in order, and each with eight tags.
 pub record IsByLife (entries : List (Who × Slot)) : Type 0 where
   pub keyed : All (λ entry. entry.0 ≡ entry.1.who) entries
   pub rising : AllPairs (λ earlier later. is_before earlier later ≡ true) (lives_of (values_of entries))
+  pub tags : All (λ slot. length slot.replies ≡ tag_count) (values_of entries)

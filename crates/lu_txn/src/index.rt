@@ -8,9 +8,10 @@ ghost use Rattle.std.specs.Option.{option_to_list};
 ghost use Rattle.lu_txn.specs.declared.index.Bucket.{Bucket};
 ghost use Rattle.lu_txn.specs.declared.index.Bucket.TheVariants as bucket;
 ghost use Rattle.lu_txn.specs.Buckets.{same_bucket, holds, filing, lookups};
-ghost use Rattle.lu_txn.specs.Indexes.{places_of, has, Grows, files, gathered};
+ghost use Rattle.lu_txn.specs.Indexes.{places_of, has, Grows, Keeps, files, gathered};
 
-use lu_base::{Fid, Memory, Name, Sequence};
+use super::places::Places;
+use lu_base::{Fid, Memory, Name};
 use lu_part::{Part, Parts};
 use std::alloc::Global;
 use std::collections::HashMap;
@@ -58,6 +59,23 @@ fn filing(alloc: Global, part: &Part) -> Result<(Bucket, Option<Bucket>), Memory
     }
 }
 
+/// Where a written part is filed. It takes no memory.
+fn into_filing(part: Part) -> (Bucket, Option<Bucket>)
+    ensures { result.0 ∷ option_to_list result.1 ≡ filing part }
+{
+    match part {
+        Part::Name(directory, name) => (
+            Bucket::Name(directory, name),
+            Some(Bucket::Inside(directory)),
+        ),
+        Part::List(directory) => (Bucket::List(directory), Some(Bucket::Inside(directory))),
+        Part::Attr(fid) => (Bucket::Attr(fid), None),
+        Part::Layout(fid) => (Bucket::Layout(fid), None),
+        Part::Parent(fid) => (Bucket::Parent(fid), None),
+        Part::Bytes(fid, stripe, _) => (Bucket::Bytes(fid, stripe), None),
+    }
+}
+
 /// Where a touched part is looked up: under its own bucket, and for a name under the list of its directory; for a list
 /// under all that is written in its directory.
 fn lookups(alloc: Global, part: &Part) -> Result<(Bucket, Option<Bucket>), Memory>
@@ -80,7 +98,7 @@ fn lookups(alloc: Global, part: &Part) -> Result<(Bucket, Option<Bucket>), Memor
 #[derive(Debug, Drop)]
 pub(crate) struct Index {
     alloc: Global,
-    buckets: HashMap<Bucket, Sequence<usize>>,
+    buckets: HashMap<Bucket, Places>,
 }
 
 impl Index {
@@ -100,15 +118,10 @@ impl Index {
             same_bucket bucket b ≡ true → has (places_of self.new b) place ≡ true) }
         ensures grows { Grows self.old self.new }
     {
-        match self.buckets.get_mut(&bucket) {
-            Some(places) => places.push(place),
-            None => {
-                let mut places = Sequence::new(self.alloc);
-                places.push(place)?;
-                self.buckets.insert(bucket, places)?;
-                Ok(())
-            }
-        }
+        self.buckets
+            .entry(bucket)?
+            .or_insert(Places::new(self.alloc))
+            .push(place)
     }
 
     /// Files a place in the buckets of a written part.
@@ -138,12 +151,45 @@ impl Index {
         Ok(())
     }
 
+    /// Takes the places up to this one out of a bucket, and the bucket with the last one.
+    fn unfile(&mut self, bucket: &Bucket, place: usize)
+        ensures kept { Keeps place self.old self.new }
+    {
+        let Some(places) = self.buckets.get_mut(bucket) else {
+            return;
+        };
+        places.drop_to(place);
+        if places.is_empty() {
+            let _ = self.buckets.remove(bucket);
+        }
+    }
+
+    /// Takes the places up to this one out of the buckets of a written part.
+    fn unfile_part(&mut self, part: Part, place: usize)
+        ensures kept { Keeps place self.old self.new }
+    {
+        let (own, other) = into_filing(part);
+        self.unfile(&own, place);
+        if let Some(other) = other {
+            self.unfile(&other, place);
+        }
+    }
+
+    /// Takes the places up to this one out of the buckets of all that a transaction writes.
+    pub(crate) fn remove(&mut self, writes: Parts, place: usize)
+        ensures kept { Keeps place self.old self.new }
+    {
+        for part in writes.into_vec() {
+            self.unfile_part(part, place);
+        }
+    }
+
     /// Adds the places that are filed in a bucket.
     fn gather(&self, bucket: &Bucket, places: &mut Vec<usize>) -> Result<(), Memory>
         ensures gathered { OnOk result (places.new.items ≡ places.old.items ++ places_of self.now bucket.now) }
     {
         if let Some(found) = self.buckets.get(bucket) {
-            places.extend_from_slice(found.as_slice())?;
+            found.add_to(places)?;
         }
         Ok(())
     }

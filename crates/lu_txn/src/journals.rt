@@ -1,19 +1,23 @@
 //! A target's journal (Lustre Operations Manual, recovery: transaction numbers and the last reply of each client).
 
-ghost use Rattle.std.specs.Prelude.{◌≡◌, ◌≢◌, ℕ, ◌==◌, ◌&&◌, if◌then◌else◌, ◌+◌, ◌-◌, ◌*◌, ◌^◌, ◌<◌, ◌≤◌, ◌↔◌, List, [], ◌∷◌, ◌++◌, length, slice_get, option_map, Option, Some, None, IsSome, IfOk, IfErr, OnOk, OnErr, Err};
+ghost use Rattle.std.specs.Prelude.{◌≡◌, ◌≢◌, ℕ, ◌==◌, ◌&&◌, if◌then◌else◌, ◌+◌, ◌-◌, ◌*◌, ◌^◌, ◌<◌, ◌≤◌, ◌↔◌, List, [], ◌∷◌, ◌++◌, length, slice_get, option_map, Option, Some, None, IsSome, IfSome, IfOk, IfErr, OnOk, OnErr, Err};
+ghost use Rattle.std.specs.List.{list_any};
 ghost use Rattle.std.specs.List.Sorted.{IsStrictlyIncreasing};
 ghost use Rattle.lu_txn.specs.Slots.{tag_count, slot_of, empty_of, with_reply, reply_at, lives_of, IsReplyKept};
-ghost use Rattle.lu_txn.specs.Logs.{number, seen_by};
-ghost use Rattle.lu_txn.specs.Journals.{JournalState, fresh, count, most_numbers, appended, IsSeen, IsSound};
+ghost use Rattle.lu_txn.specs.Logs.{number, up_to, seen_by};
+ghost use Rattle.lu_txn.specs.Journals.{JournalState, fresh, count, most_numbers, appended, with_slot, without_slot, is_over, IsSeen, IsSound};
+ghost use Rattle.lu_txn.specs.Commits.{batch_of, reply_for, last_reply, after_commit};
+ghost use Rattle.lu_txn.specs.Loads.{loaded, AreBelow};
 ghost use Rattle.lu_txn.specs.declared.journals.TxnError.TheVariants as error;
 
-use super::index::Index;
-use super::logs::{Logged, seen_among};
+use super::loads::Stored;
+use super::logs::Logged;
 use super::slots::Slots;
-use lu_base::{Memory, Numbers, Txn, Who, Xid};
-use lu_msg::{Op, Reply, Transaction};
+use super::uncommitted::Uncommitted;
+use lu_base::{Duplicate, Lives, Memory, Numbers, Txn, Who, Xid};
+use lu_msg::{Batch, Batches, Op, Reply, Transaction};
 use lu_part::Parts;
-use std::alloc::{AllocFailed, Global};
+use std::alloc::{AllocError, AllocFailed, Global};
 use std::error::Error;
 use std::fmt;
 use std::marker::Model;
@@ -83,61 +87,106 @@ pub struct Journal {
     alloc: Global,
     /// The target's boot, from 1.
     boot: u32,
-    /// The greatest number of a transaction so far; 0 where there was none.
-    newest: Txn,
+    /// Whether the boot is on the disk.
+    boot_stored: bool,
     /// The greatest number that is on the disk; 0 where there is none.
     committed: Txn,
-    /// Those that aren't committed, in rising number.
-    transactions: Vec<Logged>,
-    /// Where the transactions stand by what they write.
-    index: Index,
+    /// What isn't committed.
+    log: Uncommitted,
     /// What is kept for each life.
     slots: Slots,
+    /// The lives whose slots were added since the last commit.
+    added: Vec<Who>,
+    /// The lives whose slots were dropped, the last ones since the last commit. There is room for one more life
+    /// of each slot.
+    removed: Vec<Who>,
+    /// How many of these are on the disk.
+    settled: usize,
 }
 
 impl Model for Journal {
+    ghost use Rattle.std.specs.Prelude.{◌≤◌, ◌+◌, length, drop};
+    ghost use Rattle.std.specs.Vec.{vec_capacity};
     ghost use Rattle.lu_txn.specs.Journals.{JournalState, IsSound};
-    ghost use Rattle.lu_txn.specs.Indexes.{IsIndexed};
 
     ghost Value = { JournalState };
 
     ghost view = { λ j. record {
       boot = j.boot;
-      newest = j.newest.0;
+      boot_stored = j.boot_stored;
+      newest = j.log.newest;
       committed = j.committed.0;
-      transactions = j.transactions.items;
+      transactions = j.log.transactions;
       slots = j.slots;
+      added = j.added.items;
+      dropped = drop j.settled j.removed.items;
+      removed = j.removed.items;
     } };
 
     ghost invariant = { λ j.
         IsSound (record {
           boot = j.boot;
-          newest = j.newest.0;
+          boot_stored = j.boot_stored;
+          newest = j.log.newest;
           committed = j.committed.0;
-          transactions = j.transactions.items;
+          transactions = j.log.transactions;
           slots = j.slots;
-        }) × IsIndexed j.index j.transactions.items };
+          added = j.added.items;
+          dropped = drop j.settled j.removed.items;
+          removed = j.removed.items;
+        }) × (j.settled ≤ length j.removed.items) × (length j.removed.items + length j.slots ≤ vec_capacity j.removed) };
 }
 
 impl Journal {
-    /// The empty journal of boot 1, with a slot without replies for each of these lives.
-    pub fn new(alloc: Global, first: &[Who]) -> Result<Journal, Memory>
+    /// The journal of a target that starts anew: of boot 1, with a slot without replies for each of these lives.
+    /// Nothing of it is on the disk yet.
+    pub fn start(alloc: Global, first: &[Who]) -> Result<Journal, Memory>
         ensures fresh { IfOk result (λ journal. journal ≡ fresh first.now) }
         ensures lives { IfOk result (λ journal. (who : Who) → slot_of who journal.slots ≡ empty_of who first.now) }
         ensures sound { IfOk result IsSound }
     {
         let mut slots = Slots::new(alloc);
-        for who in first {
-            slots.add(*who)?;
-        }
+        slots.add_all(first)?;
+        let added = slots.lives(alloc)?;
+        let mut removed = Vec::new(alloc);
+        removed.reserve(slots.len())?;
         Ok(Journal {
             alloc,
             boot: 1,
-            newest: Txn(0),
+            boot_stored: false,
             committed: Txn(0),
-            transactions: Vec::new(alloc),
-            index: Index::new(alloc),
+            log: Uncommitted::new(alloc, Txn(0)),
             slots,
+            added,
+            removed,
+            settled: 0,
+        })
+    }
+
+    /// The journal of this boot over what a disk holds: the batches in the order of their commits. Only the boot
+    /// isn't on the disk yet.
+    pub fn new(alloc: Global, batches: &Batches, boot: u32) -> Result<Journal, Memory>
+        requires boots { AreBelow boot batches.now }
+        ensures loaded { IfOk result (λ journal. journal ≡ loaded batches.now boot) }
+        ensures sound { IfOk result IsSound }
+    {
+        let Stored {
+            committed,
+            slots,
+            mut removed,
+        } = Stored::by(alloc, batches)?;
+        removed.reserve(slots.len())?;
+        let settled = removed.len();
+        Ok(Journal {
+            alloc,
+            boot,
+            boot_stored: false,
+            committed,
+            log: Uncommitted::new(alloc, committed),
+            slots,
+            added: Vec::new(alloc),
+            removed,
+            settled,
         })
     }
 
@@ -151,7 +200,7 @@ impl Journal {
         ensures sound { IsSound self.now }
     {
         let first = u64::from(self.boot) << 32;
-        let count = self.newest.0.saturating_sub(first);
+        let count = self.log.newest().0.saturating_sub(first);
         if count == MOST_NUMBERS {
             return Err(TxnError::NumbersSpent);
         }
@@ -183,7 +232,7 @@ impl Journal {
         if self.slots.of(who).is_none() {
             return Err(TxnError::NoSlot);
         }
-        self.index.add(&writes, self.transactions.len())?;
+        let kept = reply.copy(self.alloc)?;
         let transaction = Transaction {
             txn: number,
             who,
@@ -191,11 +240,11 @@ impl Journal {
             tag,
             op,
         };
-        self.transactions.push(Logged {
+        self.log.push(Logged {
             transaction,
             writes,
+            reply: kept,
         })?;
-        self.newest = number;
         self.slots.keep(who, tag, reply);
         Ok(())
     }
@@ -250,9 +299,7 @@ impl Journal {
         ensures rising { IfOk result IsStrictlyIncreasing }
         ensures sound { IsSound self.now }
     {
-        let places = self.index.candidates(touched)?;
-        let numbers = seen_among(self.alloc, &self.transactions, touched, &places)?;
-        Ok(Numbers::from(numbers))
+        Ok(Numbers::from(self.log.seen(touched)?))
     }
 
     /// The lives that have a slot, by client and then by life, from place 0 on; none past the last.
@@ -267,9 +314,11 @@ impl Journal {
     pub fn uncommitted(&self, at: usize) -> Option<Txn>
         ensures number { result
             ≡ option_map (λ logged. logged.transaction.txn) (slice_get self.now.transactions at) }
+        ensures above { IfSome result (λ txn. self.now.committed < txn.0) }
+        ensures given { IfSome result (λ txn. txn.0 ≤ self.now.newest) }
         ensures sound { IsSound self.now }
     {
-        Some(self.transactions.get(at)?.transaction.txn)
+        Some(self.log.at(at)?.transaction.txn)
     }
 
     /// The greatest number that is on the disk; 0 where there is none.
@@ -277,5 +326,80 @@ impl Journal {
         ensures number { result.0 ≡ self.now.committed }
     {
         self.committed
+    }
+
+    /// The batch that commits all up to this number: the boot where it isn't on the disk yet, the transactions
+    /// with the last reply of each life and tag, and the lives whose slots were added and dropped since the last
+    /// commit.
+    pub fn batch(&self, to: Txn) -> Result<Batch, Memory>
+        ensures batch { IfOk result (λ batch. batch ≡ batch_of to.0 self.now) }
+        ensures last { IfOk result (λ batch. (who : Who) (tag : ℕ)
+            → reply_for who tag batch.replies ≡ last_reply who tag (up_to to.0 self.now.transactions)) }
+        ensures sound { IsSound self.now }
+    {
+        Ok(Batch {
+            boot: if self.boot_stored { 0 } else { self.boot },
+            transactions: self.log.transactions_to(to)?,
+            replies: self.log.replies_to(to)?,
+            added: Lives::from(Vec::from_slice(self.alloc, &self.added)?),
+            removed: Lives::from(Vec::from_slice(self.alloc, &self.removed[self.settled..])?),
+        })
+    }
+
+    /// That batch is on the disk. It takes no memory.
+    pub fn committed(&mut self, to: Txn)
+        requires order { self.old.committed ≤ to.0 }
+        requires given { to.0 ≤ self.old.newest }
+        ensures committed { self.new ≡ after_commit to.0 self.old }
+        ensures sound { IsSound self.new }
+    {
+        let settled = self.removed.len();
+        self.log.drop_to(to);
+        self.boot_stored = true;
+        self.committed = to;
+        self.added.clear();
+        self.settled = settled;
+    }
+
+    /// Adds a slot without replies for this life; nothing where it has one.
+    pub fn add_slot(&mut self, who: Who) -> Result<(), Memory>
+        ensures added { OnOk result (slot_of who self.old.slots ≡ None → self.new ≡ with_slot who self.old) }
+        ensures there { IsSome (slot_of who self.old.slots) → self.new ≡ self.old }
+        ensures slot { OnOk result (IsSome (slot_of who self.new.slots)) }
+        ensures kept { OnErr result (self.new ≡ self.old) }
+        ensures sound { IsSound self.new }
+    {
+        if self.slots.of(who).is_some() {
+            return Ok(());
+        }
+        self.added.reserve(1)?;
+        self.removed.reserve(self.slots.len() + 1)?;
+        self.slots.add(who)?;
+        self.added.push_reserved(who);
+        Ok(())
+    }
+
+    /// Removes the slot of this life, with its replies; nothing where it has none. It takes no memory.
+    pub fn drop_slot(&mut self, who: Who)
+        ensures dropped { IsSome (slot_of who self.old.slots) → self.new ≡ without_slot who self.old }
+        ensures absent { slot_of who self.old.slots ≡ None → self.new ≡ self.old }
+        ensures slot { slot_of who self.new.slots ≡ None }
+        ensures sound { IsSound self.new }
+    {
+        if self.slots.of(who).is_none() {
+            return;
+        }
+        self.slots.remove(who);
+        self.added.retain(|life| *life != who);
+        self.removed.push_reserved(who);
+    }
+
+    /// Whether a life of this client that isn't older had a slot here which was removed: this life comes too late.
+    pub fn is_over(&self, who: Who) -> bool
+        ensures over { result ≡ list_any (is_over who) self.now.removed }
+    {
+        self.removed
+            .iter()
+            .any(|gone| gone.client == who.client && gone.life >= who.life)
     }
 }

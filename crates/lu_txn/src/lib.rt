@@ -3,10 +3,11 @@
 
 mod index;
 mod journals;
+mod loads;
 mod logs;
+mod places;
 mod slots;
-#[cfg(test)]
-mod tests;
+mod uncommitted;
 
 pub use journals::{Journal, Seen, TxnError};
 pub use logs::Logged;

@@ -1,18 +1,27 @@
-//! Transactions as a journal keeps them, each with what it writes.
+//! Transactions as a journal keeps them, each with what it writes and its reply.
 
 ghost use Rattle.std.specs.Prelude.{◌≡◌, List, IfOk};
 ghost use Rattle.std.specs.List.{filter_map};
 ghost use Rattle.lu_txn.specs.Logs.{meets_written, is_seen, seen_at};
 
-use lu_msg::Transaction;
+use lu_msg::{Reply, Transaction};
 use lu_part::{Part, Parts, meets};
 use std::alloc::{AllocError, Global};
+use std::collections::VecDeque;
 
-/// A transaction, and the parts of the target's contents that it writes.
+/// A transaction, the parts of the target's contents that it writes, and its reply.
 #[derive(Debug, Drop)]
 pub struct Logged {
     pub transaction: Transaction,
     pub writes: Parts,
+    pub reply: Reply,
+}
+
+impl Logged {
+    /// What it writes.
+    pub(crate) fn into_writes(self) -> Parts {
+        self.writes
+    }
 }
 
 /// Whether this part meets one of those written.
@@ -32,27 +41,35 @@ fn is_seen(logged: &Logged, touched: &Parts) -> bool
         .any(|part| meets_written(logged.writes.as_slice(), part))
 }
 
-/// The numbers of the transactions at these places that are seen by what touches these parts.
+/// The numbers of the transactions at these places that are seen by what touches these parts. The first one
+/// stands at place `first`.
 pub(crate) fn seen_among(
     alloc: Global,
-    transactions: &[Logged],
+    transactions: &VecDeque<Logged>,
+    first: usize,
     touched: &Parts,
     places: &[usize],
 ) -> Result<Vec<u64>, AllocError>
-    ensures { IfOk result (λ numbers. numbers.items ≡ filter_map (seen_at touched.now transactions.now) places.now) }
+    ensures { IfOk result (λ numbers.
+        numbers.items ≡ filter_map (seen_at touched.now first transactions.now.items) places.now) }
 {
     places
         .iter()
-        .filter_map(|place| seen_at(transactions, touched, *place))
+        .filter_map(|place| seen_at(transactions, first, touched, *place))
         .collect(alloc)
 }
 
 /// The number of the transaction at this place, where what was touched meets what it writes; none where
 /// it doesn't, or no transaction stands there.
-fn seen_at(transactions: &[Logged], touched: &Parts, place: usize) -> Option<u64>
-    ensures { result ≡ seen_at touched.now transactions.now place }
+fn seen_at(
+    transactions: &VecDeque<Logged>,
+    first: usize,
+    touched: &Parts,
+    place: usize,
+) -> Option<u64>
+    ensures { result ≡ seen_at touched.now first transactions.now.items place }
 {
-    let logged = transactions.get(place)?;
+    let logged = transactions.get(place.checked_sub(first)?)?;
     if is_seen(logged, touched) {
         Some(logged.transaction.txn.0)
     } else {
