@@ -1,2 +1,4 @@
 pub mod Tags
+pub mod SeenNumbers
+pub mod Replays
 pub mod Soundness

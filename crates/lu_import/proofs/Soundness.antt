@@ -1,5 +1,5 @@
 -- What holds of every import still holds once a reply was heard, and once a request was sent.
-use Rattle.std.proofs.Common.{◌≡◌, ◌≢◌, ℕ, ◌+◌, ◌<◌, ◌≤◌, ◌==◌, Bool, true, false, not, cond, List, [], ◌∷◌, ◌++◌, length, get_or, refl, arith}
+use Rattle.std.proofs.Common.{◌≡◌, ◌≢◌, ℕ, ◌+◌, ◌<◌, ◌≤◌, ◌==◌, ◌||◌, Bool, true, false, not, cond, Some, is_some, List, [], ◌∷◌, ◌++◌, length, get_or, refl, arith}
 use Rattle.std.specs.List.{list_any}
 use Rattle.std.proofs.lemmas.Grind.{common_steps}
 use Rattle.std.proofs.lemmas.Bool.Decides.{nat_tests}
@@ -11,8 +11,9 @@ use Rattle.std.proofs.lemmas.List.Folds.{list_any_at}
 use Rattle.lu_import.specs.declared.requests.Waiting.{Waiting}
 use Rattle.lu_import.specs.declared.requests.InFlight.{InFlight}
 use Rattle.lu_import.specs.Objects.{same_object}
-use Rattle.lu_import.specs.InFlights.{has_number, without, has_tag, front_waits}
-use Rattle.lu_import.specs.Imports.{ImportState, IsSound, heard}
+use Rattle.lu_import.specs.InFlights.{has_number, request_of, without, has_tag, front_waits}
+use Rattle.lu_import.specs.Kept.{KeptState, IsSettled}
+use Rattle.lu_import.specs.Imports.{ImportState, IsSound}
 
 -- no request of this number is left
 pub none_left : (number : ℕ) (requests : List InFlight) → has_number number (without number requests) ≡ false
@@ -42,8 +43,8 @@ UpTo last request = request.xid.0 ≤ last
 abbrev TagBelow : ℕ → InFlight → Type 0
 TagBelow flight request = request.tag < flight
 
-pub sound_heard : (import : ImportState) (number : ℕ) → IsSound import → IsSound (heard import number)
-sound_heard import number sound =
+pub sound_heard : (import : ImportState) (number : ℕ) (kept : KeptState) → IsSound import → IsSettled kept → IsSound (record import { in_flight = without number import.in_flight; kept = kept })
+sound_heard import number kept sound settled =
     let other : InFlight → Bool = λ request. not (request.xid.0 == number) in
     let fewer : length (without number import.in_flight) ≤ length import.in_flight = no_more number import.in_flight in
     let most : length import.in_flight ≤ import.flight = sound.most in
@@ -55,6 +56,7 @@ sound_heard import number sound =
       tags = AllPairs-filter OtherTags other import.in_flight sound.tags;
       range = All-filter other (TagBelow import.flight) import.in_flight sound.range;
       objects = λ ost. AllPairs-filter OtherObjects other import.in_flight (sound.objects ost);
+      kept = settled;
     }
 
 -- what a test of the whole list refuses it refuses at each place
@@ -76,6 +78,7 @@ sound_sent import request rest sound room number free within unblocked =
       tags = all_pairs_push OtherTags requests request sound.tags (λ place d below. apart (get_or requests place d).tag (none_at (λ r. r.tag == request.tag) requests free place d below));
       range = All-push (TagBelow import.flight) requests request sound.range (omega arith);
       objects = λ ost. all_pairs_push OtherObjects requests request (sound.objects ost) (λ place d below. none_at (λ r. same_object r.op request.op) requests (idle ost) place d below);
+      kept = sound.kept;
     }
   where
     apart : (tag : ℕ) → (tag == request.tag) ≡ false → tag ≢ request.tag
@@ -83,3 +86,11 @@ sound_sent import request rest sound room number free within unblocked =
 
     idle : 0 < import.target.0 → list_any (λ r. same_object r.op request.op) import.in_flight ≡ false
     idle ost = grind (arith, nat_tests)
+
+-- a request of a number is in flight exactly where one is found
+pub number_found : (number : ℕ) (requests : List InFlight) → has_number number requests ≡ is_some (request_of number requests)
+number_found number [] = refl
+number_found number (request ∷ requests) = by (request.xid.0 == number) (number_found number requests) where
+  by : (here : Bool) → has_number number requests ≡ is_some (request_of number requests) → (here || has_number number requests) ≡ is_some (cond here (Some request) (request_of number requests))
+  by true rest = refl
+  by false rest = rest

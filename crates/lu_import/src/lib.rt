@@ -1,10 +1,13 @@
-//! A client's side of one target: the requests that wait to be sent to it, and those in flight.
+//! A client's side of one target: the requests that wait to be sent to it, those in flight, and what its life has to
+//! tell when the target recovers.
 #![tactic(auto)]
 
 mod imports;
+mod kept;
+mod numbers;
+mod recovery;
 mod requests;
-#[cfg(test)]
-mod tests;
 
 pub use imports::Import;
+pub use recovery::Standing;
 pub use requests::{InFlight, Waiting};

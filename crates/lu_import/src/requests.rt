@@ -11,8 +11,8 @@ use lu_msg::Op;
 /// An operation that waits to be sent.
 #[derive(Debug, Drop)]
 pub struct Waiting {
-    /// The slot, 0 to 3, of the call that it is for.
-    pub slot: u8,
+    /// The slot, 0 to 3, of the call that it is for; none of a write-back.
+    pub slot: Option<u8>,
     pub op: Op,
 }
 
@@ -23,8 +23,8 @@ pub struct InFlight {
     /// The tag, 0 to 7.
     pub tag: u8,
     pub op: Op,
-    /// The slot, 0 to 3, of the call that it is for.
-    pub slot: u8,
+    /// The slot, 0 to 3, of the call that it is for; none of a write-back.
+    pub slot: Option<u8>,
 }
 
 /// The object that an operation of an object storage target is on; none of one of the metadata target.
