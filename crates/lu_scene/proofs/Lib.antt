@@ -17,3 +17,4 @@ pub mod Splitting
 pub mod RoundTrip
 pub mod Numbering
 pub mod Rows
+pub mod Drawn

@@ -1,5 +1,5 @@
 -- Worked texts, computed by the definitions.
-use Rattle.std.proofs.Common.{◌≡◌, [], ◌∷◌, ◌++◌, Ok, Err, refl}
+use Rattle.std.proofs.Common.{◌≡◌, true, [], ◌∷◌, ◌++◌, Ok, Err, refl}
 use Rattle.std.specs.Prelude.{codes}
 use Rattle.std.specs.Fmt.{digits}
 use Rattle.lu_scene.specs.declared.faults.Fault.TheVariants as faults
@@ -9,6 +9,8 @@ use Rattle.lu_base.specs.declared.ids.Node.TheVariants.{Client}
 use Rattle.lu_scene.specs.declared.words.Header.TheVariants as headers
 use Rattle.lu_scene.specs.Fields.{number_of}
 use Rattle.lu_scene.specs.Lines.{lines_of, line_after, lines_after, nothing, default_head}
+use Rattle.lu_scene.specs.Storms.{draw_of}
+use Rattle.rand_xoshiro.specs.SplitMix64.{mix_u64}
 
 -- no such line
 fly : lines_after 1 nothing (lines_of (codes "fly")) ≡ Err (Bad 1 faults.UnknownLine)
@@ -35,3 +37,10 @@ two_lines : lines_after 1 nothing (lines_of (codes "clients 2" ++ 10 ∷ codes "
     ≡ Ok (record { head = record default_head { clients = 2 }; given = headers.Clients ∷ []; lines = lines.Tick (Client 1) ∷ lines.RunSome 3 ∷ [] })
 unfolding lines_after line_after number_of digits
 two_lines = refl
+
+-- the first two words of the storm of 0
+first_word : draw_of (mix_u64 0).0 ≡ record { client = 3; kind = 11; name = 6; page = 6; runs = true; slot = 3 }
+first_word = refl
+
+second_word : draw_of (mix_u64 (mix_u64 0).1).0 ≡ record { client = 0; kind = 13; name = 7; page = 18; runs = true; slot = 2 }
+second_word = refl

@@ -11,6 +11,7 @@ mod places;
 mod printer;
 mod reader;
 mod scene;
+mod storms;
 mod words;
 
 pub use faults::{Fault, SceneFault};
@@ -18,3 +19,4 @@ pub use places::line_numbers;
 pub use printer::print_scene;
 pub use reader::read_scene;
 pub use scene::{Head, Lines, Scene, SceneLine};
+pub use storms::storm;

@@ -223,7 +223,7 @@ impl Head {
     ghost use Rattle.lu_scene.specs.Lines.{default_head, most_of, with_number};
 
     /// The head where nothing is said.
-    fn plain() -> Head
+    pub(crate) fn plain() -> Head
         ensures head { result ≡ default_head }
     {
         Head {

@@ -14,6 +14,8 @@ mod parts;
 #[cfg(test)]
 mod scenarios;
 #[cfg(test)]
+mod storms;
+#[cfg(test)]
 mod texts;
 #[cfg(test)]
 mod traces;
