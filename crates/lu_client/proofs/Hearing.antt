@@ -1,7 +1,6 @@
 -- A reply that the import hears is one that the row hears.
 use Rattle.std.proofs.Common.{◌≡◌, ℕ, Bool, true, false, not, cond, ◌==◌, ◌&&◌, if◌then◌else◌, List, [], ◌∷◌, ◌++◌, map, Option, Some, None, refl, sym, ap, ◌∙◌, true≢false}
 use Rattle.std.specs.Option.{option_map}
-use Rattle.std.specs.Prelude.{slice_set}
 use Rattle.std.proofs.lemmas.Bool.{eqb-true}
 use Rattle.lu_base.specs.declared.ids.At.{At}
 use Rattle.lu_msg.specs.declared.messages.Message.{Message}
@@ -20,10 +19,10 @@ use Rattle.lu_covered.specs.Calls.{call_on}
 use Rattle.lu_covered.specs.Imports.{without_flight}
 use Rattle.lu_covered.specs.ClientStates.{Asker, asker_after, asker_turn}
 use Rattle.lu_covered.specs.ClientRows.{find_flight, row_told, row_tells, row_fits, row_hears, row_reply, row_heeds, row_rests}
-use Rattle.lu_client.specs.Clients.{ClientState, flight_of, asker_of, state_of}
+use Rattle.lu_client.specs.Clients.{ClientState, flight_of, asker_of, state_of, freed}
 use Rattle.lu_client.specs.Turns.{with_entries, after_entries, hearing_fit, hearing, heeding_reply, heeding}
 use Rattle.lu_client.proofs.Growth.{sends_free, after_is}
-use Rattle.lu_client.proofs.Slots.{self, frees}
+use Rattle.lu_client.proofs.Slots.{self, frees_served}
 
 -- the test of the row: the reply is of this life and boot
 abbrev pub own : ImportState → ReplyTo → Bool
@@ -103,7 +102,7 @@ module _ (import : ImportState) (calls : List (Option Running)) (r : ReplyTo) (r
 
   -- it is heard, and the call on its slot told
   abbrev told : List Entry
-  told = Heard 0 (flight_of request) r ∷ row_told request.slot r (call_on request.slot calls)
+  told = Heard 0 (flight_of request) r ∷ row_tells calls request.slot r
 
   heard_row : answer_fits request.op r.answer ≡ true → hears import r ≡ true → heeding_reply (asker_of import) calls r (own import r) ≡ told
   heard_row fits is_heard = by (own import r) (sym (hears_own import r) ∙ is_heard) where
@@ -112,16 +111,16 @@ module _ (import : ImportState) (calls : List (Option Running)) (r : ReplyTo) (r
     by false not_heard = absurd (cc)
 
   pub step_heard : (at : At) (step : Step) → answer_fits request.op r.answer ≡ true → hears import r ≡ true
-      → with_entries at (with_line at step (printed.Heard (record { 0 = 0 }) r.xid)) (row_tells calls (Some request.slot) r) ≡ with_entries at step (heeding_reply (asker_of import) calls r (own import r))
+      → with_entries at (with_line at step (printed.Heard (record { 0 = 0 }) r.xid)) (row_tells calls request.slot r) ≡ with_entries at step (heeding_reply (asker_of import) calls r (own import r))
   step_heard at step fits is_heard = sym (ap (with_entries at step) (heard_row fits is_heard))
 
   pub after_heard : (client : ℕ) (spent : Bool) → answer_fits request.op r.answer ≡ true → hears import r ≡ true
-      → state_of client spent (heard import r.xid.0) (slice_set calls request.slot None) ≡ after_entries (state_of client spent import calls) (heeding_reply (asker_of import) calls r (own import r))
+      → state_of client spent (heard import r) (freed request.slot calls) ≡ after_entries (state_of client spent import calls) (heeding_reply (asker_of import) calls r (own import r))
   after_heard client spent fits is_heard =
       let old : ClientState = state_of client spent import calls in
       let flights : map flight_of (without r.xid.0 import.in_flight) ≡ without_flight request.xid.0 (map flight_of import.in_flight) = without_is r.xid.0 import.in_flight ∙ ap (λ (n : ℕ). without_flight n (map flight_of import.in_flight)) (sym (found_number r.xid.0 import.in_flight request some).0) in
-      let asker : asker_of (heard import r.xid.0) ≡ asker_turn (asker_of import) told = ap (λ (fs : List Flight). record (asker_of import) { flights = fs }) flights ∙ sym (heard_asker (asker_of import) calls r (flight_of request)) in
-      after_is old told (asker_of (heard import r.xid.0)) (slice_set calls request.slot None) asker (sym (frees 0 request.slot (flight_of request) r refl calls))
+      let asker : asker_of (heard import r) ≡ asker_turn (asker_of import) told = ap (λ (fs : List Flight). record (asker_of import) { flights = fs }) flights ∙ sym (heard_asker (asker_of import) calls r (flight_of request)) in
+      after_is old told (asker_of (heard import r)) (freed request.slot calls) asker (sym (frees_served 0 request.slot (flight_of request) r refl calls))
       ∙ sym (ap (after_entries old) (heard_row fits is_heard))
 
 -- ---- what a message makes, and then what has room

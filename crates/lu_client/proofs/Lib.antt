@@ -3,3 +3,4 @@ pub mod Slots
 pub mod Sending
 pub mod Hearing
 pub mod Whole
+pub mod Recovering

@@ -79,7 +79,7 @@ front_row who boot limit last q queue flights room k e = subst Whole (sym e) who
   whole = rw room (ap (λ (es : List Entry). Flies 0 sent ∷ row_sent before sent ∷ es) (sym (sends_free before (last + 1) queue (flights ++ sent ∷ []) (last + 1) (flights ++ sent ∷ []) queue)))
 
 -- the message that the import gives is that of the row
-front_is : (old new : ImportState) (request : RequestOf) (sent : IsSent old new request) → front_sent (asker_of old) true ≡ Flies 0 (record { xid = request.xid.0; tag = request.tag; op = request.op; slot = Some sent.slot }) ∷ Send (Target 0) (message.Request request) ∷ []
+front_is : (old new : ImportState) (request : RequestOf) (sent : IsSent old new request) → front_sent (asker_of old) true ≡ Flies 0 (record { xid = request.xid.0; tag = request.tag; op = request.op; slot = sent.slot }) ∷ Send (Target 0) (message.Request request) ∷ []
 front_is old new request sent = rw (sent.front, ← sent.number, ← least_free old.in_flight request.tag sent.tag, ← sent.who, ← sent.boot) refl
 
 asker_is : (old new : ImportState) (request : RequestOf) (sent : IsSent old new request) → asker_of new ≡ asker_turn (asker_of old) (front_sent (asker_of old) true)
@@ -87,7 +87,7 @@ asker_is old new request sent = rw (front_is old new request sent) (ap asker_of 
 
 row_is : (old new : ImportState) (request : RequestOf) → IsSent old new request → row_rests (asker_of old) ≡ front_sent (asker_of old) true ++ row_rests (asker_of new)
 row_is old new request sent =
-    let q : Queued = record { slot = Some sent.slot; op = request.op } in
+    let q : Queued = record { slot = sent.slot; op = request.op } in
     let count : length (map flight_of old.in_flight) ≡ length old.in_flight = length-map old.in_flight flight_of in
     let room : nat_lt (length (map flight_of old.in_flight)) old.flight ≡ true = grind (arith, nat_tests, sent.room, count) in
     front_row old.who old.boot old.flight old.last q (map queued_of new.queue) (map flight_of old.in_flight) room (asker_of old) (rw sent.front refl)

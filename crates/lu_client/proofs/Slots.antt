@@ -8,7 +8,8 @@ use Rattle.lu_msg.specs.declared.messages.Reply.{Reply as ReplyTo}
 use Rattle.lu_words.specs.Carried.{Queued, Flight, Work, Running}
 use Rattle.lu_words.specs.Words.{Entry, Begin, Queues, Heard, Told}
 use Rattle.lu_covered.specs.Calls.{call_after, call_on, calls_from, calls_turn}
-use Rattle.lu_covered.specs.ClientRows.{row_told}
+use Rattle.lu_covered.specs.ClientRows.{row_told, row_tells}
+use Rattle.lu_client.specs.Clients.{freed}
 
 abbrev pub both : ℕ → List (Option Running) → Entry → Entry → List (Option Running)
 both n calls d e = calls_from n (calls_from n calls d) e
@@ -93,7 +94,7 @@ free_stays zero (call ∷ calls) free = ap (λ (o : Option Running). o ∷ calls
 free_stays (suc k) (call ∷ calls) free = ap (λ (os : List (Option Running)). call ∷ os) (free_stays k calls free)
 
 -- a call that is answered, and told where it stands
-pub frees : (t slot : ℕ) (f : Flight) (r : ReplyTo) → f.slot ≡ Some slot → (calls : List (Option Running)) → calls_turn calls (Heard t f r ∷ row_told slot r (call_on slot calls)) ≡ slice_set calls slot None
+frees : (t slot : ℕ) (f : Flight) (r : ReplyTo) → f.slot ≡ Some slot → (calls : List (Option Running)) → calls_turn calls (Heard t f r ∷ row_told slot r (call_on slot calls)) ≡ slice_set calls slot None
 frees t slot f r serves calls = by (call_on slot calls) refl
   where
     same : (k : ℕ) → call_on slot calls ≡ None → nat_eq slot (0 + k) ≡ true → call_on k calls ≡ None
@@ -102,6 +103,21 @@ frees t slot f r serves calls = by (call_on slot calls) refl
     by : (o : Option Running) → call_on slot calls ≡ o → calls_turn calls (Heard t f r ∷ row_told slot r o) ≡ slice_set calls slot None
     by (Some running) is = tells t slot f r r.at r.answer None serves calls
     by None is = unserved t slot f r serves 0 calls (λ k. same k is) ∙ sym (free_stays slot calls is)
+
+-- a write-back that is answered
+unseen : (t : ℕ) (f : Flight) (r : ReplyTo) → f.slot ≡ None → (n : ℕ) (calls : List (Option Running)) → calls_from n calls (Heard t f r) ≡ calls
+unseen t f r serves n [] = refl
+unseen t f r serves n (call ∷ calls) =
+    ap (λ (o : Option Running). o ∷ calls_from (suc n) calls (Heard t f r)) here
+    ∙ ap (λ (os : List (Option Running)). call ∷ os) (unseen t f r serves (suc n) calls)
+  where
+    here : call_after n call (Heard t f r) ≡ call
+    here = rw serves refl
+
+-- whatever it served
+pub frees_served : (t : ℕ) (slot : Option ℕ) (f : Flight) (r : ReplyTo) → f.slot ≡ slot → (calls : List (Option Running)) → calls_turn calls (Heard t f r ∷ row_tells calls slot r) ≡ freed slot calls
+frees_served t None f r serves calls = unseen t f r serves 0 calls
+frees_served t (Some slot) f r serves calls = frees t slot f r serves calls
 
 -- ---- whether a slot has a call
 

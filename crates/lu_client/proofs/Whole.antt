@@ -115,5 +115,5 @@ module _ (at : At) (k : Asker) (slot : ℕ) (call : Call) (op : Op) (becomes : o
       ∙ after_two_parts c opening (row_rests (queued k q))
       ∙ ap (after_entries c) asks_is
 
-pub queued_is : (import : ImportState) (slot : ℕ) (op : Op) → asker_of (record import { queue = import.queue ++ record { slot = slot; op = op } ∷ [] }) ≡ queued (asker_of import) (asking slot op)
-queued_is import slot op = ap (λ (qs : List Queued). record (asker_of import) { queue = qs }) (map-append queued_of import.queue (record { slot = slot; op = op } ∷ []))
+pub queued_is : (import : ImportState) (slot : ℕ) (op : Op) → asker_of (record import { queue = import.queue ++ record { slot = Some slot; op = op } ∷ [] }) ≡ queued (asker_of import) (asking slot op)
+queued_is import slot op = ap (λ (qs : List Queued). record (asker_of import) { queue = qs }) (map-append queued_of import.queue (record { slot = Some slot; op = op } ∷ []))

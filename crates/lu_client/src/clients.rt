@@ -2,11 +2,12 @@
 
 ghost use Rattle.std.specs.Prelude.{◌≡◌, ◌+◌, ◌^◌, ◌<◌, ◌≤◌, ◌++◌, ◌∷◌, [], length, true, false, if◌then◌else◌, Err, None, ◌↔◌, IfOk, OnOk, OnErr, IsErr, Some, IsSome, is_some, slice_set};
 ghost use Rattle.lu_base.specs.declared.ids.Node.TheVariants.{Target};
+ghost use Rattle.lu_msg.specs.Limits.{slot_count, tag_count};
 ghost use Rattle.lu_trace.specs.Turns.{no_step};
 ghost use Rattle.lu_words.specs.Given.{step_of};
 ghost use Rattle.lu_covered.specs.Calls.{call_on, operation_of};
 ghost use Rattle.lu_covered.specs.ClientRows.{row_call, row_takes, row_tick, row_dies, row_resends, row_rests, row_tells};
-ghost use Rattle.lu_client.specs.Clients.{turn_of, HasCall, fresh, IsSound};
+ghost use Rattle.lu_client.specs.Clients.{turn_of, HasCall, fresh, freed, IsSound};
 ghost use Rattle.lu_client.specs.Turns.{with_entries, after_entries, front_sent, heeding};
 
 use super::calls::{Untold, operation_of};
@@ -55,7 +56,7 @@ impl Client {
         flight: u8,
     ) -> Result<Client, Memory>
         requires least { 0 < flight }
-        requires most { flight ≤ 8 }
+        requires most { flight ≤ tag_count }
         ensures fresh { IfOk result (λ made. made ≡ fresh client flight) }
         ensures sound { IfOk result (λ made. IsSound made) }
     {
@@ -74,7 +75,7 @@ impl Client {
     /// Its operation is queued, and what has room is sent. `Busy` where the slot has a call that isn't
     /// told; the client is then as before. Fewer than 2^63 requests were sent before.
     pub fn begin(&mut self, stamp: Stamp, slot: u8, call: Call) -> Result<Step, ClientFault>
-        requires slot { slot < 4 }
+        requires slot { slot < slot_count }
         requires asked { IsSome (operation_of call) }
         requires numbers { self.old.asker.last < 2 ^ 63 }
         ensures step { IfOk result (λ step. step
@@ -85,7 +86,7 @@ impl Client {
         ensures kept { result ≡ Err ClientFault.Busy → self.new ≡ self.old }
         ensures spent { result ≡ Err ClientFault.Memory → self.new.spent ≡ true }
         ensures again { self.old.spent ≡ true → result ≡ Err ClientFault.Memory }
-        ensures counted { self.new.asker.last ≤ self.old.asker.last + 8 }
+        ensures counted { self.new.asker.last ≤ self.old.asker.last + tag_count }
         ensures sound { IsSound self.new }
     {
         if self.spent {
@@ -119,7 +120,7 @@ impl Client {
             ≡ after_entries self.old (row_takes self.old.asker self.old.calls 0 (Target _from.0) message.now)) }
         ensures spent { OnErr result (self.new.spent ≡ true) }
         ensures again { self.old.spent ≡ true → IsErr result }
-        ensures counted { self.new.asker.last ≤ self.old.asker.last + 8 }
+        ensures counted { self.new.asker.last ≤ self.old.asker.last + tag_count }
         ensures sound { IsSound self.new }
     {
         if self.spent {
@@ -142,7 +143,7 @@ impl Client {
         ensures after { OnOk result (self.new ≡ after_entries self.old (row_tick self.old.asker)) }
         ensures spent { OnErr result (self.new.spent ≡ true) }
         ensures again { self.old.spent ≡ true → IsErr result }
-        ensures counted { self.new.asker.last ≤ self.old.asker.last + 8 }
+        ensures counted { self.new.asker.last ≤ self.old.asker.last + tag_count }
         ensures sound { IsSound self.new }
     {
         if self.spent {
@@ -163,7 +164,7 @@ impl Client {
         ensures after { OnOk result (self.new ≡ self.old) }
         ensures spent { OnErr result (self.new.spent ≡ true) }
         ensures again { self.old.spent ≡ true → IsErr result }
-        ensures counted { self.new.asker.last ≤ self.old.asker.last + 8 }
+        ensures counted { self.new.asker.last ≤ self.old.asker.last + tag_count }
         ensures sound { IsSound self.new }
     {
         if self.spent {
@@ -191,7 +192,7 @@ impl Client {
 
     /// The turn in which a call begins on a free slot.
     fn ask(&mut self, stamp: Stamp, slot: u8, call: Call) -> Result<Step, Memory>
-        requires slot { slot < 4 }
+        requires slot { slot < slot_count }
         requires asked { IsSome (operation_of call) }
         requires numbers { self.old.asker.last < 2 ^ 63 }
         ensures step { IfOk result (λ step. step
@@ -199,14 +200,14 @@ impl Client {
         ensures after { OnOk result (self.new
             ≡ after_entries self.old (row_call self.old.asker (turn_of stamp self.old) slot call None)) }
         ensures spent { self.new.spent ≡ self.old.spent }
-        ensures counted { self.new.asker.last ≤ self.old.asker.last + 8 }
+        ensures counted { self.new.asker.last ≤ self.old.asker.last + tag_count }
         ensures sound { IsSound self.new }
     {
         let Some(op) = operation_of(self.alloc, &call)? else {
             unreachable!();
         };
         let mut turn = self.turn(stamp);
-        self.import.queue(slot, op)?;
+        self.import.queue(Some(slot), op)?;
         let copied = call.copy(self.alloc)?;
         turn.note(Entry::Begin { slot, call: copied })?;
         self.put(
@@ -257,7 +258,7 @@ impl Client {
             return Ok(());
         }
         let slot = request.slot;
-        if !self.import.hear(self.alloc, reply)? {
+        if !self.import.hear(reply)? {
             return Ok(());
         }
         let target = TargetId(0);
@@ -266,8 +267,23 @@ impl Client {
         self.tell(turn, slot, reply)
     }
 
+    /// The call that the request served, if any, is told the reply's answer: its slot is free. A write-back serves
+    /// none.
+    fn tell(&mut self, turn: &mut Turn, slot: Option<u8>, reply: &Reply) -> Result<(), Memory>
+        ensures step { OnOk result (turn.new.step
+            ≡ with_entries turn.old.at turn.old.step (row_tells self.old.calls slot reply.now)) }
+        ensures after { OnOk result (self.new ≡ record self.old { calls = freed slot self.old.calls }) }
+        ensures turn { turn.new.at ≡ turn.old.at }
+        ensures kept { OnErr result (self.new ≡ self.old) }
+    {
+        match slot {
+            Some(slot) => self.tell_call(turn, slot, reply),
+            None => Ok(()),
+        }
+    }
+
     /// The call on the slot, if it has one, is told the reply's answer: the slot is free.
-    fn tell(&mut self, turn: &mut Turn, slot: u8, reply: &Reply) -> Result<(), Memory>
+    fn tell_call(&mut self, turn: &mut Turn, slot: u8, reply: &Reply) -> Result<(), Memory>
         ensures step { OnOk result (turn.new.step
             ≡ with_entries turn.old.at turn.old.step (row_tells self.old.calls (Some slot) reply.now)) }
         ensures after { OnOk result (self.new ≡ record self.old { calls = slice_set self.old.calls slot None }) }
@@ -306,7 +322,7 @@ impl Client {
             ≡ with_entries turn.old.at turn.old.step (row_resends self.now.asker self.now.asker.flights)) }
         ensures turn { turn.new.at ≡ turn.old.at }
     {
-        let again = self.import.again(self.alloc)?;
+        let again = self.import.again()?;
         for post in again.as_slice() {
             turn.send(post.copy(self.alloc)?)?;
         }
@@ -320,7 +336,7 @@ impl Client {
             ≡ with_entries turn.old.at turn.old.step (row_rests self.old.asker)) }
         ensures after { OnOk result (self.new ≡ after_entries self.old (row_rests self.old.asker)) }
         ensures spent { self.new.spent ≡ self.old.spent }
-        ensures counted { self.new.asker.last ≤ self.old.asker.last + 8 }
+        ensures counted { self.new.asker.last ≤ self.old.asker.last + tag_count }
         ensures sound { IsSound self.new }
     {
         while self.send_front(turn)? {}
@@ -342,10 +358,10 @@ impl Client {
             ≡ length self.old.asker.queue) }
         ensures counted { self.new.asker.last + length self.old.asker.flights
             ≡ self.old.asker.last + length self.new.asker.flights }
-        ensures room { length self.new.asker.flights ≤ 8 }
+        ensures room { length self.new.asker.flights ≤ tag_count }
         ensures sound { IsSound self.new }
     {
-        let Some(message) = self.import.next(self.alloc)? else {
+        let Some(message) = self.import.next()? else {
             return Ok(false);
         };
         turn.send(Post {

@@ -35,7 +35,7 @@ use Rattle.lu_lawful.proofs.Three.{IsThree, becomes_three}
 -- ---- the least free tag isn't above the number of requests in flight
 
 abbrev in_flight : Flight → InFlight
-in_flight f = record { xid = record { 0 = f.xid }; tag = f.tag; op = f.op; slot = 0 }
+in_flight f = record { xid = record { 0 = f.xid }; tag = f.tag; op = f.op; slot = f.slot }
 
 same_tags : (tag : ℕ) (flights : List Flight) → has_tag_in tag (map in_flight flights) ≡ has_tag tag flights
 same_tags tag [] = refl

@@ -20,3 +20,4 @@ pub mod Handed
 pub mod Placed
 pub mod Lines
 pub mod Running
+pub mod Seats

@@ -14,7 +14,7 @@ use Rattle.lu_net.specs.declared.links.Sent.{Sent as SentMessage}
 use Rattle.lu_net.specs.Posts.{sent_at}
 use Rattle.lu_scene.specs.declared.scene.Scene.{Scene}
 use Rattle.lu_scene.specs.declared.scene.SceneLine.{SceneLine}
-use Rattle.lu_service.specs.Names.{IsNamed}
+use Rattle.lu_target.specs.Names.{IsPerformed}
 use Rattle.lu_target.specs.Targets.{server, serves, Fits}
 use Rattle.lu_words.specs.Sent.{count_sent, Sent}
 use Rattle.lu_covered.specs.TargetStates.{Server, count_at}
@@ -71,13 +71,13 @@ module _ (scene : Scene) (p : PlayerState) (c : Config) (at : IsAt scene p c) wh
       let shown = at.shows.wire.messages in
       omega arith
 
-  performed_op : (o : Op) → IsThree o → IsNamed o
+  performed_op : (o : Op) → IsThree o → IsPerformed o
   performed_op (op.Lookup path) is = tt
   performed_op (op.Mkdir path) is = tt
   performed_op (op.Rmdir path) is = tt
   performed_op _ is = absurd is
 
-  fits : (n : ℕ) (from : Node) (t : ℕ) (m : Message) → Sent (past_of c) n from (Target t) m → Fits IsNamed p.nodes.target.journal m
+  fits : (n : ℕ) (from : Node) (t : ℕ) (m : Message) → Sent (past_of c) n from (Target t) m → Fits p.nodes.target.journal m
   fits n from t (message.Request r) s =
       let f : Fitting head r = request_fits head (past_of c) (grown head c.turns sound.run) n from t r s in
       let most = at.performed.limits.head.most_flight in

@@ -7,7 +7,6 @@ use Rattle.lu_base.specs.declared.ids.Node.TheVariants.{Client, Target}
 use Rattle.lu_base.specs.declared.ids.Who.{Who}
 use Rattle.lu_client.specs.Clients.{ClientState}
 use Rattle.lu_net.specs.declared.links.Sent.{Sent}
-use Rattle.lu_service.specs.Names.{IsNamed}
 use Rattle.lu_target.specs.Targets.{TargetState, most_count, server, slot, serves, Fits}
 use Rattle.lu_words.specs.Words.{Line, with_turn}
 use Rattle.lu_words.specs.Given.{step_of}
@@ -76,5 +75,5 @@ MayTake nodes sent = by sent.to
     by : Node → Type 0
     by (Client c) = (sent.from ≡ Target 0) × (c < length nodes.seats) × HasNumbers nodes c
     by (Target n) =
-        ((c : ℕ) × (sent.from ≡ Client c)) × (n ≡ 0) × Fits IsNamed nodes.target.journal sent.message × (nodes.target.id ≡ 0) × (nodes.target.spent ≡ None)
+        ((c : ℕ) × (sent.from ≡ Client c)) × (n ≡ 0) × Fits nodes.target.journal sent.message × (nodes.target.id ≡ 0) × (nodes.target.spent ≡ None)
         × ((server nodes.target).count < most_count)

@@ -2,6 +2,7 @@
 
 ghost use Rattle.std.specs.Prelude.{◌≡◌, ℕ, ◌<◌, ◌≤◌, true, false, [], ◌∷◌, length, None, Err, IfOk, OnOk, IsSome};
 ghost use Rattle.lu_base.specs.declared.ids.Node.TheVariants.{Client as AtClient, Target as AtTarget};
+ghost use Rattle.lu_msg.specs.Limits.{slot_count, tag_count};
 ghost use Rattle.lu_trace.specs.declared.traces.Step.{Step as SpecStep};
 ghost use Rattle.lu_words.specs.Words.{Busy as BusyLine};
 ghost use Rattle.lu_words.specs.Given.{step_of};
@@ -101,7 +102,7 @@ impl Nodes {
         call: &Call,
     ) -> Result<Step, Memory>
         requires one { client < length self.old.seats }
-        requires slot { slot < 4 }
+        requires slot { slot < slot_count }
         requires asked { IsSome (operation_of call.now) }
         requires numbers { HasNumbers self.old client }
         ensures gives { IfOk result (NodesGive self.old (turn_at stamp (AtClient client)) (Begins slot call.now)) }
@@ -124,7 +125,7 @@ impl Nodes {
         call: &Call,
     ) -> Result<Step, ClientFault>
         requires one { client < length self.old.seats }
-        requires slot { slot < 4 }
+        requires slot { slot < slot_count }
         requires asked { IsSome (operation_of call.now) }
         requires numbers { HasNumbers self.old client }
         ensures gives { IfOk result (NodesGive self.old (turn_at stamp (AtClient client)) (Begins slot call.now)) }
@@ -211,7 +212,7 @@ impl Nodes {
 /// The seats of the clients before the first turn.
 fn first_seats(alloc: Global, head: &Head) -> Result<Vec<Seat>, Memory>
     requires least { 1 ≤ head.now.flight }
-    requires most { head.now.flight ≤ 8 }
+    requires most { head.now.flight ≤ tag_count }
     ensures shows { IfOk result (λ made. ShowsSeats (head_of head.now) [] made.items) }
 {
     let mut seats = Vec::new(alloc);

@@ -2,7 +2,6 @@
 
 ghost use Rattle.std.specs.Prelude.{◌≡◌, ℕ, ◌<◌, None, IfOk, OnOk};
 ghost use Rattle.lu_base.specs.declared.ids.Node.TheVariants.{Client as AtClient, Target as AtTarget};
-ghost use Rattle.lu_service.specs.Names.{IsNamed};
 ghost use Rattle.lu_target.specs.Targets.{Fits, most_count, server};
 ghost use Rattle.lu_covered.specs.Runs.{Comes, Ticks};
 ghost use Rattle.lu_core.specs.Shown.{turn_at, TargetGives, TargetTakes};
@@ -19,7 +18,7 @@ pub(crate) fn serve(
     stamp: Stamp,
     message: &Message,
 ) -> Result<Step, Memory>
-    requires fits { Fits IsNamed target.old.journal message.now }
+    requires fits { Fits target.old.journal message.now }
     requires id { target.old.id ≡ 0 }
     requires unspent { target.old.spent ≡ None }
     requires numbers { (server target.old).count < most_count }

@@ -8,6 +8,7 @@ use Rattle.lu_msg.specs.declared.messages.Message.{Message}
 use Rattle.lu_msg.specs.declared.messages.Message.TheVariants.{Request}
 use Rattle.lu_msg.specs.declared.operations.Op.{Op}
 use Rattle.lu_msg.specs.declared.operations.Op.TheVariants as op
+use Rattle.lu_msg.specs.Limits.{slot_count, tag_count}
 use Rattle.lu_trace.specs.WellFormed.{IsCall}
 use Rattle.lu_machine.specs.Footprint.{grants}
 use Rattle.lu_words.specs.Words.{Entry, Line, with_turn, turn_before}
@@ -32,7 +33,7 @@ pub record IsHead (head : Head) : Type 0 where
   pub osts : 1 ≤ head.osts
   pub most_osts : head.osts ≤ 8
   pub flight : 1 ≤ head.flight
-  pub most_flight : head.flight ≤ 8
+  pub most_flight : head.flight ≤ tag_count
 
 -- what happens to a node: its user begins a call, a message comes, its time goes on, it dies
 pub data Event : Type 0 where
@@ -54,7 +55,7 @@ pub record IsAlive (head : Head) (past : List Line) (c : ℕ) : Type 0 where
 
 pub record MayBegin (head : Head) (past : List Line) (c slot : ℕ) (begun : Call) : Type 0 where
   pub client : IsAlive head past c
-  pub small : slot < 4
+  pub small : slot < slot_count
   pub limits : IsCall begun
   pub op : Op
   pub becomes : operation_of begun ≡ Some op

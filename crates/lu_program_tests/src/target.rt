@@ -2,7 +2,7 @@
 
 ghost use Rattle.std.specs.Prelude.{◌≡◌, true, IfOk, OnOk};
 ghost use Rattle.lu_base.specs.declared.ids.Who.{Who as SpecWho};
-ghost use Rattle.lu_service.specs.Names.{IsNamed};
+ghost use Rattle.lu_target.specs.Names.{IsPerformed};
 ghost use Rattle.lu_target.specs.Targets.{serves};
 
 use crate::texts::shows;
@@ -50,7 +50,7 @@ fn path(alloc: Global, text: &[u8]) -> Result<Path, Memory> {
 }
 
 fn op(alloc: Global, verb: Verb, text: &[u8]) -> Result<Op, Memory>
-    ensures { IfOk result IsNamed }
+    ensures { IfOk result IsPerformed }
 {
     let path = path(alloc, text)?;
     match verb {
@@ -70,7 +70,7 @@ fn asked(
     op: Op,
 ) -> Result<Step, StepFault>
     requires slot { serves target.old who ≡ true }
-    requires performed { IsNamed op }
+    requires performed { IsPerformed op }
     ensures served { OnOk result ((other : SpecWho) → serves target.new other ≡ serves target.old other) }
 {
     let request = Request {

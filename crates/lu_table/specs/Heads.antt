@@ -1,5 +1,6 @@
 -- The numbers of a run that its nodes know.
 use Rattle.std.specs.Prelude.{◌≤◌, ℕ}
+use Rattle.lu_msg.specs.Limits.{tag_count}
 
 -- clients, object storage targets, after how many ticks a lock that was called back ends its life, the most dirty bytes
 -- and the most unused locks of a client, and how many requests of one client may be in flight at one target
@@ -20,4 +21,4 @@ pub record IsHead (head : Head) : Type 0 where
   pub dirty : 1 ≤ head.dirty
   pub unused : 1 ≤ head.unused
   pub flight : 1 ≤ head.flight
-  pub most_flight : head.flight ≤ 8
+  pub most_flight : head.flight ≤ tag_count

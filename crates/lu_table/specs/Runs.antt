@@ -4,6 +4,7 @@ use Rattle.std.specs.Prelude.{◌≡◌, ◌≤◌, ◌<◌, ℕ, Bool, true, fa
 use Rattle.lu_base.specs.declared.ids.At.{At}
 use Rattle.lu_base.specs.declared.ids.Node.{Node}
 use Rattle.lu_base.specs.declared.ids.Node.TheVariants.{Client, Target}
+use Rattle.lu_msg.specs.Limits.{slot_count}
 use Rattle.lu_trace.specs.WellFormed.{IsCall}
 use Rattle.lu_words.specs.Words.{Entry, Fail, Line, with_turn, turn_before}
 use Rattle.lu_words.specs.Sent.{Sent}
@@ -64,7 +65,7 @@ pub record IsAlive (head : Head) (past : List Line) (c : ℕ) : Type 0 where
 -- a living client's user begins a call on one of four slots, a message that was sent to it comes, again, late or never, time
 -- goes on, it dies
 abbrev pub MeetsClient : Head → List Line → ℕ → client.Event → Type 0
-MeetsClient head past c (client.Begins slot call) = IsAlive head past c × (slot < 4) × IsCall call
+MeetsClient head past c (client.Begins slot call) = IsAlive head past c × (slot < slot_count) × IsCall call
 MeetsClient head past c (client.Comes n from m) = IsAlive head past c × Sent past n from (Client c) m
 MeetsClient head past c client.Ticks = IsAlive head past c
 MeetsClient head past c client.Dies = IsAlive head past c

@@ -5,7 +5,7 @@ use Rattle.lu_msg.specs.declared.messages.Message.{Message}
 use Rattle.lu_msg.specs.declared.messages.Message.TheVariants as message
 use Rattle.lu_msg.specs.declared.messages.Reply.{Reply}
 use Rattle.lu_msg.specs.declared.messages.Request.{Request}
-use Rattle.lu_msg.specs.declared.operations.Op.{Op}
+use Rattle.lu_msg.specs.Limits.{tag_count}
 use Rattle.lu_words.specs.Carried.{Slot}
 use Rattle.lu_covered.specs.TargetParts.{Logged, no_slot}
 use Rattle.lu_covered.specs.TargetStates.{Server}
@@ -14,6 +14,7 @@ use Rattle.lu_txn.specs.declared.logs.Logged.{Logged as JournalLogged}
 use Rattle.lu_txn.specs.Journals.{JournalState, count}
 use Rattle.lu_txn.specs.Slots.{slot_of, reply_at}
 use Rattle.lu_target.specs.declared.faults.StepFault.{StepFault}
+use Rattle.lu_target.specs.Names.{IsPerformed}
 
 -- What executes requests: what its service holds, and its journal: the transactions that aren't on its disk, and the
 -- replies that it keeps.
@@ -83,16 +84,16 @@ has_slot journal who = is_some (slot_of who journal.slots)
 abbrev pub serves : TargetState → Who → Bool
 serves t = has_slot t.journal
 
--- What a target takes of a request: its life has a slot, its tag is 0 to 7, and the service performs its operation.
-pub record IsTaken (takes : Op → Type 0) (journal : JournalState) (r : Request) : Type 0 where
+-- What a target takes of a request: its life has a slot, its tag is 0 to 7, and its operation is performed so far.
+pub record IsTaken (journal : JournalState) (r : Request) : Type 0 where
   pub slot : has_slot journal r.who ≡ true
-  pub tag : r.tag < 8
-  pub op : takes r.op
+  pub tag : r.tag < tag_count
+  pub op : IsPerformed r.op
 
 -- any other message makes its `take` alone
-abbrev pub Fits : (Op → Type 0) → JournalState → Message → Type 0
-Fits takes journal (message.Request r) = IsTaken takes journal r
-Fits takes journal _ = Unit {0}
+abbrev pub Fits : JournalState → Message → Type 0
+Fits journal (message.Request r) = IsTaken journal r
+Fits journal _ = Unit {0}
 
 -- What holds of a target that isn't spent: the next transaction's number is above all that its service used, and
 -- no file has come to be.

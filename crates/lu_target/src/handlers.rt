@@ -3,6 +3,7 @@
 ghost use Rattle.std.specs.Prelude.{◌≡◌, ℕ, ◌+◌, ◌*◌, ◌^◌, ◌<◌, ◌==◌, ◌&&◌, if◌then◌else◌, [], ◌∷◌, true, false, Some, None, Err, IfOk, IfErr, OnOk};
 ghost use Rattle.lu_base.specs.declared.ids.Node.{Node as SpecNode};
 ghost use Rattle.lu_base.specs.declared.ids.Txn.{Txn as SpecTxn};
+ghost use Rattle.lu_msg.specs.Limits.{tag_count};
 ghost use Rattle.lu_trace.specs.Turns.{then_step};
 ghost use Rattle.lu_words.specs.Given.{step_of};
 ghost use Rattle.lu_covered.specs.TargetStates.{none, next_number, seen_in};
@@ -12,6 +13,7 @@ ghost use Rattle.lu_service.specs.Names.{fresh};
 ghost use Rattle.lu_txn.specs.Journals.{fresh as unused, count, appended};
 ghost use Rattle.lu_txn.specs.Slots.{is_among, with_reply};
 ghost use Rattle.lu_target.specs.Names as names;
+ghost use Rattle.lu_target.specs.Names.{IsPerformed};
 ghost use Rattle.lu_target.specs.Targets.{most_count, serving, kept, has_slot, slot_in, IsTaken, Fits, IsReady};
 ghost use Rattle.lu_covered.specs.TargetParts.{no_slot};
 ghost use Rattle.lu_target.specs.Turns.{taking, heeding, asking, entering, acting, transacting, giving, Keeps, Leaves, LacksNumber, HasNumber};
@@ -67,14 +69,14 @@ impl<S: Service> Handler<S> {
             alloc,
             boot: 1,
             service,
-            journal: Journal::new(alloc, first)?,
+            journal: Journal::start(alloc, first)?,
         })
     }
 
     /// The numbers of the uncommitted transactions that a request sees now.
     fn seen(&self, request: &Request) -> Result<Numbers, Memory>
         requires mdt { S.kind ≡ Mdt }
-        requires taken { S.takes request.now.op }
+        requires taken { IsPerformed request.now.op }
         ensures seen { IfOk result (λ numbers. (number : SpecTxn)
             → numbers ≡ seen_in (names.touches self.now.contents request.now number) (serving self.now).log) }
     {
@@ -115,7 +117,7 @@ impl<S: Service> Handler<S> {
     pub(crate) fn take(&mut self, at: At, message: &Message) -> Result<Step, StepFault>
         requires mdt { S.kind ≡ Mdt }
         requires ready { IsReady self.old }
-        requires fits { Fits S.takes self.old.journal message.now }
+        requires fits { Fits self.old.journal message.now }
         ensures step { IfOk result (λ step. (from : SpecNode)
             → step ≡ step_of at (taking self.old at from message.now)) }
         ensures leaves { OnOk result (Leaves self.old self.new (heeding self.old at message.now)) }
@@ -135,7 +137,7 @@ impl<S: Service> Handler<S> {
     fn heed(&mut self, turn: &mut Turn, request: &Request) -> Result<(), StepFault>
         requires mdt { S.kind ≡ Mdt }
         requires ready { IsReady self.old }
-        requires taken { IsTaken S.takes self.old.journal request.now }
+        requires taken { IsTaken self.old.journal request.now }
         ensures step { OnOk result (turn.new.step ≡ giving turn.old (asking self.old turn.old.at request.now)) }
         ensures leaves { OnOk result (Leaves self.old self.new (asking self.old turn.old.at request.now)) }
         ensures numbers { result ≡ Err StepFault.NumbersSpent
@@ -166,7 +168,7 @@ impl<S: Service> Handler<S> {
     fn execute(&mut self, turn: &mut Turn, request: &Request) -> Result<(), StepFault>
         requires mdt { S.kind ≡ Mdt }
         requires ready { IsReady self.old }
-        requires taken { IsTaken S.takes self.old.journal request.now }
+        requires taken { IsTaken self.old.journal request.now }
         ensures step { OnOk result (turn.new.step ≡ giving turn.old (entering self.old turn.old.at request.now)) }
         ensures leaves { OnOk result (Leaves self.old self.new (entering self.old turn.old.at request.now)) }
         ensures numbers { result ≡ Err StepFault.NumbersSpent
@@ -184,7 +186,7 @@ impl<S: Service> Handler<S> {
     fn act(&mut self, turn: &mut Turn, request: &Request) -> Result<(), Memory>
         requires mdt { S.kind ≡ Mdt }
         requires ready { IsReady self.old }
-        requires taken { IsTaken S.takes self.old.journal request.now }
+        requires taken { IsTaken self.old.journal request.now }
         requires quiet { names.changes self.old.contents request.now none ≡ false }
         ensures step { OnOk result (turn.new.step ≡ giving turn.old (acting self.old turn.old.at request.now)) }
         ensures leaves { OnOk result (Leaves self.old self.new (acting self.old turn.old.at request.now)) }
@@ -206,7 +208,7 @@ impl<S: Service> Handler<S> {
     fn transact(&mut self, turn: &mut Turn, request: &Request) -> Result<(), StepFault>
         requires mdt { S.kind ≡ Mdt }
         requires ready { IsReady self.old }
-        requires taken { IsTaken S.takes self.old.journal request.now }
+        requires taken { IsTaken self.old.journal request.now }
         requires changing { names.changes self.old.contents request.now none ≡ true }
         ensures step { OnOk result (turn.new.step ≡ giving turn.old (transacting self.old turn.old.at request.now)) }
         ensures leaves { OnOk result (Leaves self.old self.new (transacting self.old turn.old.at request.now)) }
@@ -247,7 +249,7 @@ impl<S: Service> Handler<S> {
     /// Keeps the reply to a request that made no transaction.
     fn keep(&mut self, request: &Request, reply: Reply)
         requires slot { has_slot self.old.journal request.now.who ≡ true }
-        requires tag { request.now.tag < 8 }
+        requires tag { request.now.tag < tag_count }
         ensures stored { self.new.journal ≡ record self.old.journal {
           slots = with_reply request.now.who request.now.tag reply self.old.journal.slots;
         } }
@@ -269,7 +271,7 @@ impl<S: Service> Handler<S> {
         reply: Reply,
     ) -> Result<(), Memory>
         requires slot { has_slot self.old.journal request.now.who ≡ true }
-        requires tag { request.now.tag < 8 }
+        requires tag { request.now.tag < tag_count }
         requires above { self.old.journal.newest < number.0 }
         requires boot { number.0 < (self.old.journal.boot + 1) * 2 ^ 32 }
         ensures added { OnOk result (self.new.journal

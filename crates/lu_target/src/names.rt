@@ -4,6 +4,7 @@ ghost use Rattle.std.specs.Prelude.{◌≡◌, ◌<◌, [], true, if◌then◌el
 ghost use Rattle.lu_base.specs.declared.ids.Txn.{Txn as SpecTxn};
 ghost use Rattle.lu_service.specs.declared.services.Kind.TheVariants.{Mdt};
 ghost use Rattle.lu_target.specs.Names as names;
+ghost use Rattle.lu_target.specs.Names.{IsPerformed};
 
 use lu_base::{Memory, Txn};
 use lu_msg::{Answer, Request};
@@ -12,22 +13,24 @@ use lu_service::Service;
 use std::alloc::Global;
 
 /// Whether the request would make a transaction.
+#[tactic(auto, using(crate::proofs::Files::takes_performed))]
 pub(crate) fn changes<S: Service>(service: &S, request: &Request) -> bool
     requires mdt { S.kind ≡ Mdt }
-    requires taken { S.takes request.now.op }
+    requires taken { IsPerformed request.now.op }
     ensures changes { (number : SpecTxn) → result ≡ names.changes (S.contents service.now) request.now number }
 {
     service.changes(request.who, &request.op)
 }
 
 /// The parts that the request would touch, in the order in which it looks at them.
+#[tactic(auto, using(crate::proofs::Files::takes_performed))]
 pub(crate) fn touches<S: Service>(
     service: &S,
     alloc: Global,
     request: &Request,
 ) -> Result<Parts, Memory>
     requires mdt { S.kind ≡ Mdt }
-    requires taken { S.takes request.now.op }
+    requires taken { IsPerformed request.now.op }
     ensures touches { IfOk result (λ parts. (number : SpecTxn)
         → parts ≡ names.touches (S.contents service.now) request.now number) }
 {
@@ -35,13 +38,14 @@ pub(crate) fn touches<S: Service>(
 }
 
 /// The parts that the request would write.
+#[tactic(auto, using(crate::proofs::Files::takes_performed))]
 pub(crate) fn writes<S: Service>(
     service: &S,
     alloc: Global,
     request: &Request,
 ) -> Result<Parts, Memory>
     requires mdt { S.kind ≡ Mdt }
-    requires taken { S.takes request.now.op }
+    requires taken { IsPerformed request.now.op }
     ensures writes { IfOk result (λ parts. (number : SpecTxn)
         → parts ≡ names.writes (S.contents service.now) request.now number) }
 {
@@ -49,6 +53,7 @@ pub(crate) fn writes<S: Service>(
 }
 
 /// Performs the request, as transaction `number` if it makes one. No file comes to be.
+#[tactic(auto, using(crate::proofs::Files::performs_performed))]
 pub(crate) fn perform<S: Service>(
     service: &mut S,
     alloc: Global,
@@ -56,7 +61,7 @@ pub(crate) fn perform<S: Service>(
     request: &Request,
 ) -> Result<Answer, Memory>
     requires mdt { S.kind ≡ Mdt }
-    requires taken { S.takes request.now.op }
+    requires taken { IsPerformed request.now.op }
     requires above { names.changes (S.contents service.old) request.now number ≡ true
         → (S.contents service.old).last < number.0 }
     requires files { (S.contents service.old).tree.files ≡ [] }

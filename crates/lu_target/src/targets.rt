@@ -75,14 +75,15 @@ impl<S: Service> Target<S> {
         })
     }
 
-    /// A message comes. A request whose life has a slot, whose tag is 0 to 7 and whose operation the service
-    /// performs goes on by the slot of its life and tag: with a number above the one taken last it is executed,
-    /// with the same the kept reply is sent again, and with one below it does nothing. A request of number 0, and
-    /// a message that is no request, only makes its `take`. Boots aren't looked at, since no target boots again
-    /// yet. `NumbersSpent` exactly where the turn needs a transaction and the boot's count stands at 2^32 - 1.
+    /// A message comes. A request whose life has a slot, whose tag is 0 to 7 and whose operation is performed so
+    /// far (`lookup`, `mkdir`, `rmdir`) goes on by the slot of its life and tag: with a number above the one taken
+    /// last it is executed, with the same the kept reply is sent again, and with one below it does nothing. A request
+    /// of number 0, and a message that is no request, only makes its `take`. Boots aren't looked at, since no target
+    /// boots again yet. `NumbersSpent` exactly where the turn needs a transaction and the boot's count stands at
+    /// 2^32 - 1.
     pub fn deliver(&mut self, stamp: Stamp, message: &Message) -> Result<Step, StepFault>
         requires mdt { S.kind ≡ Mdt }
-        requires fits { self.old.spent ≡ None → Fits S.takes self.old.journal message.now }
+        requires fits { self.old.spent ≡ None → Fits self.old.journal message.now }
         ensures step { IfOk result (Gives self.old stamp message.now) }
         ensures server { OnOk result ((from : SpecNode)
             → server self.new ≡ server_after self.old (row self.old stamp from message.now)) }

@@ -22,6 +22,7 @@ use Rattle.lu_msg.specs.declared.operations.Op.{Op}
 use Rattle.lu_msg.specs.declared.messages.Request.{Request as RequestOf}
 use Rattle.lu_msg.specs.declared.messages.Message.{Message}
 use Rattle.lu_msg.specs.declared.messages.Message.TheVariants.{Request, Evicted}
+use Rattle.lu_msg.specs.Limits.{tag_count}
 use Rattle.lu_trace.specs.declared.entries.Entry.{Entry}
 use Rattle.lu_trace.specs.declared.entries.Entry.TheVariants.{Begin, Send, Told, Act, Txn}
 use Rattle.lu_trace.specs.declared.entries.Line.{Line}
@@ -161,7 +162,7 @@ SameTag (Some first) tag = first.tag ≡ tag
 -- object storage target no two on one object; and each request number has one tag (Lustre Operations Manual, multiple
 -- modifying requests in flight; that an object has one is this project's profile)
 pub record FliesAt (past : Past) (t : ℕ) (r : RequestOf) (flight : List RequestOf) : Type 0 where
-  pub most : length flight ≤ 8
+  pub most : length flight ≤ tag_count
   pub tags : Pairwise (λ one other. one.tag ≢ other.tag) flight
   pub objects : 0 < t → Pairwise (λ one other. same_object one other ≡ false) flight
   pub one_tag : SameTag (first_request past t r.who r.xid.0) r.tag

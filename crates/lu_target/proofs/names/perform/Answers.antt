@@ -12,13 +12,11 @@ pub returns-clause-tree : goal.returns-clause-tree
 returns-clause-tree g c =
     let before : Contents = g.S.Service.contents c.args.service.now in
     let act = asked c.args.request.now c.args.number in
-    let named = g.met.S.Service.performs_names c.requires.mdt c.args.request.now.op c.requires.taken in
     let after = subst (λ (acts : Acts). OnOk c.apply.result (g.S.Service.contents c.apply.new.self ≡ acts.after before act)) (g.met.S.Service.serves_names c.requires.mdt) c.apply.ensures.after in
-    on_ok_weaker c.apply.result (λ is. ap (λ (s : Contents). s.tree) is ∙ nothing_trimmed before.osts before.tree act named c.requires.files) after
+    on_ok_weaker c.apply.result (λ is. ap (λ (s : Contents). s.tree) is ∙ nothing_trimmed before.osts before.tree act c.requires.taken c.requires.files) after
 
 pub returns-clause-files : goal.returns-clause-files
 returns-clause-files g c =
     let before : Contents = g.S.Service.contents c.args.service.now in
     let act = asked c.args.request.now c.args.number in
-    let named = g.met.S.Service.performs_names c.requires.mdt c.args.request.now.op c.requires.taken in
-    on_ok_weaker c.apply.result (λ is. ap (λ (t : Tree). t.files) is ∙ no_files before.osts before.tree act named c.requires.files) (returns-clause-tree g c)
+    on_ok_weaker c.apply.result (λ is. ap (λ (t : Tree). t.files) is ∙ no_files before.osts before.tree act c.requires.taken c.requires.files) (returns-clause-tree g c)

@@ -4,7 +4,7 @@ use Rattle.std.specs.Prelude.{is_some}
 use Rattle.lu_words.specs.Carried.{Running}
 use Rattle.lu_covered.specs.Calls.{call_on}
 use Rattle.lu_client.proofs.Slots.{free_still}
-use Rattle.lu_client.proofs.clients.Client.tell.Goals as goal
+use Rattle.lu_client.proofs.clients.Client.tell_call.Goals as goal
 
 pub returns-then-not-has_call-clause-after : goal.returns-then-not-has_call-clause-after
 returns-then-not-has_call-clause-after c =
