@@ -21,8 +21,8 @@ seats_more n osts flight seats s shows is =
     by : (c : ℕ) (d : Seat) → c < n + 1 → (c < n) ⊎ (n ≤ c) → slice_index_or (seats ++ s ∷ []) c d ≡ seat_of (fresh c flight) false
     by c d below (inl less) = get_or_append_left seats (s ∷ []) d c (subst (λ k. c < k) (sym shows.count) less) ∙ shows.each c d less
     by c d below (inr more) =
-      let last : length seats ≡ c = shows.count ∙ n_is c below more in
-      subst (λ k. slice_index_or (seats ++ s ∷ []) k d ≡ seat_of (fresh k flight) false) last
+        let last : length seats ≡ c = shows.count ∙ n_is c below more in
+        subst (λ k. slice_index_or (seats ++ s ∷ []) k d ≡ seat_of (fresh k flight) false) last
         (get_or-append_seam seats s [] d ∙ is ∙ ap (λ k. seat_of (fresh k flight) false) (sym shows.count))
       where
         n_is : (c : ℕ) → c < n + 1 → n ≤ c → n ≡ c

@@ -10,4 +10,4 @@ loop-number-preserved c =
     let osts = c.args.head.now.osts in
     let flight = c.args.head.now.flight in
     subst (ShowsSeats (record { clients = n + 1; osts = osts; flight = flight }) []) (sym c.in_ok-push.ensures.items)
-      (seats_more n osts flight c.loop-number.seats.items _ c.loop-number.invariant (ap (λ k. seat_of k false) c.in_ok-client.ensures.fresh))
+    (seats_more n osts flight c.loop-number.seats.items _ c.loop-number.invariant (ap (λ k. seat_of k false) c.in_ok-client.ensures.fresh))
