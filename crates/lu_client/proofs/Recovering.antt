@@ -1,6 +1,5 @@
 -- What an import keeps and tells is what the rows of a client keep and tell.
-use Rattle.std.proofs.Common.{◌≡◌, ℕ, ◌+◌, ◌≤◌, ◌==◌, ◌||◌, Bool, true, false, cond, nat_lt, max, if◌then◌else◌, List, [], ◌∷◌, ◌++◌, length, map, filter, refl, sym, ap, ◌∙◌, arith}
-use Rattle.std.specs.List.{list_any}
+use Rattle.std.proofs.Common.{◌≡◌, ℕ, ◌+◌, ◌≤◌, ◌==◌, Bool, true, false, cond, nat_lt, max, if◌then◌else◌, List, [], ◌∷◌, ◌++◌, length, map, filter, refl, sym, ap, ◌∙◌, arith}
 use Rattle.std.proofs.lemmas.Bool.Decides.{nat_tests}
 use Rattle.lu_msg.specs.declared.messages.Post.{Post}
 use Rattle.lu_msg.specs.declared.messages.Reply.{Reply}
@@ -48,28 +47,24 @@ noted_is n seen kept =
     settled_is n (record kept { seen = own.with_numbers seen kept.seen })
     ∙ ap (λ (numbers : List ℕ). row.settled n (record (kept_of kept) { seen = numbers })) (numbers_is seen kept.seen)
 
--- whether a replay has this number
-abbrev pub has_replay : ℕ → List own.Replay → Bool
-has_replay n replays = list_any (λ (r : own.Replay). r.txn.0 == n) replays
+put_is : (r : own.Replay) (replays : List own.Replay) → map replay_of (own.with_replay r replays) ≡ row.with_replay (replay_of r) (map replay_of replays)
+put_is r [] = refl
+put_is r (q ∷ replays) = by (nat_lt q.txn.0 r.txn.0) (q.txn.0 == r.txn.0) where
+  by : (below same : Bool)
+      → map replay_of (if below then q ∷ own.with_replay r replays else if same then r ∷ replays else r ∷ q ∷ replays) ≡ (if below then replay_of q ∷ row.with_replay (replay_of r) (map replay_of replays) else if same then replay_of r ∷ map replay_of replays else replay_of r ∷ replay_of q ∷ map replay_of replays)
+  by true same = ap (λ (more : List row.Replay). replay_of q ∷ more) (put_is r replays)
+  by false true = refl
+  by false false = refl
 
-put_is : (r : own.Replay) (replays : List own.Replay) → has_replay r.txn.0 replays ≡ false → map replay_of (own.with_replay r replays) ≡ row.with_replay (replay_of r) (map replay_of replays)
-put_is r [] new = refl
-put_is r (q ∷ replays) new = by (nat_lt q.txn.0 r.txn.0) (q.txn.0 == r.txn.0) new (put_is r replays) where
-  by : (below same : Bool) → (same || has_replay r.txn.0 replays) ≡ false → (has_replay r.txn.0 replays ≡ false → map replay_of (own.with_replay r replays) ≡ row.with_replay (replay_of r) (map replay_of replays))
-      → map replay_of (if below then q ∷ own.with_replay r replays else if same then r ∷ replays else r ∷ q ∷ replays) ≡ (if below then replay_of q ∷ row.with_replay (replay_of r) (map replay_of replays) else replay_of r ∷ replay_of q ∷ map replay_of replays)
-  by below true new rest = absurd (cc)
-  by true false new rest = ap (λ (more : List row.Replay). replay_of q ∷ more) (rest new)
-  by false false new rest = refl
-
--- the reply to a request, where it names no transaction that is kept already
-pub taught_is : (t : ℕ) (request : InFlight) (reply : Reply) (kept : own.KeptState) → has_replay reply.txn.0 kept.replays ≡ false → kept_of (own.taught request reply kept) ≡ row.kept_after (kept_of kept) (Heard t (flight_of request) reply)
-taught_is t request reply kept new =
+-- the reply to a request
+pub taught_is : (t : ℕ) (request : InFlight) (reply : Reply) (kept : own.KeptState) → kept_of (own.taught request reply kept) ≡ row.kept_after (kept_of kept) (Heard t (flight_of request) reply)
+taught_is t request reply kept =
     noted_is reply.committed.0 reply.seen (record kept { replays = own.with_reply request reply kept.replays })
     ∙ ap (λ (replays : List row.Replay). row.settled reply.committed.0 (record { committed = kept.committed; seen = row.with_numbers reply.seen kept.seen; replays = replays })) (by (reply.txn.0 == 0))
   where
     by : (none : Bool) → map replay_of (if none then kept.replays else own.with_replay (own.replay_to request reply) kept.replays) ≡ (if none then map replay_of kept.replays else row.with_replay (row.replay_of (flight_of request) reply) (map replay_of kept.replays))
     by true = refl
-    by false = put_is (own.replay_to request reply) kept.replays new
+    by false = put_is (own.replay_to request reply) kept.replays
 
 -- ---- what is told
 

@@ -127,10 +127,13 @@ abbrev pub with_numbers : List ℕ → List ℕ → List ℕ
 with_numbers [] ms = ms
 with_numbers (n ∷ ns) ms = with_numbers ns (with_number n ms)
 
--- a replay in its place
+-- a replay in its place, which a later one of the same number takes
 abbrev pub with_replay : Replay → List Replay → List Replay
 with_replay r [] = r ∷ []
-with_replay r (q ∷ replays) = if nat_lt q.txn.0 r.txn.0 then q ∷ with_replay r replays else r ∷ q ∷ replays
+with_replay r (q ∷ replays) =
+    if nat_lt q.txn.0 r.txn.0 then q ∷ with_replay r replays
+    else if q.txn.0 == r.txn.0 then r ∷ replays
+    else r ∷ q ∷ replays
 
 abbrev pub replay_of : Flight → ReplyTo → Replay
 replay_of f r = record { txn = r.txn; xid = r.xid; tag = f.tag; seen = r.seen; op = f.op }

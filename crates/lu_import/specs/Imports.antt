@@ -10,6 +10,7 @@ use Rattle.lu_msg.specs.declared.messages.Reply.{Reply}
 use Rattle.lu_msg.specs.declared.messages.Post.{Post}
 use Rattle.lu_msg.specs.declared.messages.Message.{Message}
 use Rattle.lu_msg.specs.declared.messages.Message.TheVariants as message
+use Rattle.lu_msg.specs.Limits.{tag_count}
 use Rattle.lu_import.specs.declared.requests.Waiting.{Waiting}
 use Rattle.lu_import.specs.declared.requests.InFlight.{InFlight}
 use Rattle.lu_import.specs.declared.recovery.Standing.{Standing}
@@ -163,7 +164,7 @@ reborn who import =
 -- and no two have one tag; each tag is below `flight`; at an object storage target no two are on one object. What is
 -- kept rises, each once, above the committed number.
 pub record IsSound (import : ImportState) : Type 0 where
-  pub flight : import.flight ≤ 8
+  pub flight : import.flight ≤ tag_count
   pub most : length import.in_flight ≤ import.flight
   pub rising : AllPairs (λ earlier later. earlier.xid.0 < later.xid.0) import.in_flight
   pub given : All (λ request. request.xid.0 ≤ import.last) import.in_flight

@@ -2,6 +2,7 @@
 
 ghost use Rattle.std.specs.Prelude.{◌≡◌, ℕ, ◌+◌, ◌^◌, ◌<◌, ◌≤◌, Bool, false, if◌then◌else◌, List, [], ◌∷◌, ◌++◌, length, map, slice_get, IfOk, OnOk, OnErr, IfSome, IfNone, IsSomeAnd, is_some};
 ghost use Rattle.std.specs.Option.{option_copied};
+ghost use Rattle.lu_msg.specs.Limits.{tag_count};
 ghost use Rattle.lu_import.specs.InFlights.{request_of};
 ghost use Rattle.lu_import.specs.Kept.{noted};
 ghost use Rattle.lu_import.specs.Imports.{fresh, is_serving, first_standing, MustWait, Sends, hears, heard, sent_again, up, reconnecting, ready, resumes, reborn, IsSound};
@@ -81,7 +82,7 @@ impl Import {
     /// start; a later one must join first. It takes no memory yet.
     pub fn new(alloc: Global, target: TargetId, who: Who, boot: u32, flight: u8) -> Import
         requires least { 0 < flight }
-        requires most { flight ≤ 8 }
+        requires most { flight ≤ tag_count }
         ensures fresh { result ≡ fresh target who boot flight }
         ensures sound { IsSound result }
     {

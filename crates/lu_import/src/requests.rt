@@ -2,6 +2,7 @@
 
 ghost use Rattle.std.specs.Prelude.{◌≡◌, ℕ, ◌<◌, ◌≤◌, length};
 ghost use Rattle.std.specs.Option.{option_copied};
+ghost use Rattle.lu_msg.specs.Limits.{tag_count};
 ghost use Rattle.lu_import.specs.Objects.{object, same_object};
 ghost use Rattle.lu_import.specs.InFlights.{has_number, request_of, has_tag, IsLeastFree, is_busy, front_waits};
 
@@ -94,7 +95,7 @@ fn has_tag(requests: &[InFlight], tag: u8) -> bool
 
 /// The least tag that no request has.
 pub(crate) fn free_tag(requests: &[InFlight]) -> u8
-    requires { length requests.now < 8 }
+    requires { length requests.now < tag_count }
     ensures least { IsLeastFree requests.now result }
     ensures within { result ≤ length requests.now }
 {

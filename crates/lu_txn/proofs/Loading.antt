@@ -7,7 +7,8 @@ use Rattle.lu_msg.specs.declared.commits.Batch.{Batch}
 use Rattle.lu_msg.specs.declared.commits.KeptReply.{KeptReply}
 use Rattle.lu_msg.specs.declared.commits.Transaction.{Transaction}
 use Rattle.lu_txn.specs.declared.slots.Slot.{Slot}
-use Rattle.lu_txn.specs.Slots.{tag_count, lives_of, with_life, with_lives, without_life, without_lives, with_reply, with_replies}
+use Rattle.lu_msg.specs.Limits.{tag_count}
+use Rattle.lu_txn.specs.Slots.{lives_of, with_life, with_lives, without_life, without_lives, with_reply, with_replies}
 use Rattle.lu_txn.specs.Journals.{JournalState, IsSound}
 use Rattle.lu_txn.specs.Loads.{Stored, nothing, last_number, with_batch, stored_by, AreBelow}
 use Rattle.lu_txn.proofs.SlotLaws.{Before, lives-with_reply, rises-with_life, rises-without_life, tags-with_reply, tags-with_life, tags-without_life}

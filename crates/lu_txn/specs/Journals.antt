@@ -11,7 +11,8 @@ use Rattle.lu_txn.specs.declared.logs.Logged.{Logged}
 use Rattle.lu_txn.specs.declared.slots.Slot.{Slot}
 use Rattle.lu_txn.specs.declared.journals.Seen.{Seen}
 use Rattle.lu_txn.specs.declared.journals.Seen.TheVariants.{New, Again, Old}
-use Rattle.lu_txn.specs.Slots.{tag_count, same_life, is_before, lives_of, with_life, without_life, with_lives, with_reply}
+use Rattle.lu_msg.specs.Limits.{tag_count}
+use Rattle.lu_txn.specs.Slots.{same_life, is_before, lives_of, with_life, without_life, with_lives, with_reply}
 use Rattle.lu_txn.specs.Logs.{number}
 
 -- the target's boot, and whether it is on the disk; the greatest number so far and the greatest that is on the disk (0

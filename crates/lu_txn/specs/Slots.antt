@@ -6,6 +6,7 @@ use Rattle.std.specs.Map.{values_of}
 use Rattle.lu_base.specs.declared.ids.Who.{Who}
 use Rattle.lu_msg.specs.declared.commits.KeptReply.{KeptReply}
 use Rattle.lu_msg.specs.declared.messages.Reply.{Reply}
+use Rattle.lu_msg.specs.Limits.{tag_count}
 use Rattle.lu_txn.specs.declared.slots.Slot.{Slot}
 
 -- The same life.
@@ -49,10 +50,6 @@ IsReplyKept who tag reply old new =
 -- The lives that have a slot.
 abbrev pub lives_of : List Slot → List Who
 lives_of slots = map (λ slot. slot.who) slots
-
--- How many tags a slot has.
-abbrev pub tag_count : ℕ
-tag_count = 8
 
 -- A slot that has no reply yet.
 abbrev pub empty : Who → Slot

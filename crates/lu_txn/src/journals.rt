@@ -3,7 +3,8 @@
 ghost use Rattle.std.specs.Prelude.{◌≡◌, ◌≢◌, ℕ, ◌==◌, ◌&&◌, if◌then◌else◌, ◌+◌, ◌-◌, ◌*◌, ◌^◌, ◌<◌, ◌≤◌, ◌↔◌, List, [], ◌∷◌, ◌++◌, length, slice_get, option_map, Option, Some, None, IsSome, IfSome, IfOk, IfErr, OnOk, OnErr, Err};
 ghost use Rattle.std.specs.List.{list_any};
 ghost use Rattle.std.specs.List.Sorted.{IsStrictlyIncreasing};
-ghost use Rattle.lu_txn.specs.Slots.{tag_count, slot_of, empty_of, with_reply, reply_at, lives_of, IsReplyKept};
+ghost use Rattle.lu_msg.specs.Limits.{tag_count};
+ghost use Rattle.lu_txn.specs.Slots.{slot_of, empty_of, with_reply, reply_at, lives_of, IsReplyKept};
 ghost use Rattle.lu_txn.specs.Logs.{number, up_to, seen_by};
 ghost use Rattle.lu_txn.specs.Journals.{JournalState, fresh, count, most_numbers, appended, with_slot, without_slot, is_over, IsSeen, IsSound};
 ghost use Rattle.lu_txn.specs.Commits.{batch_of, reply_for, last_reply, after_commit};

@@ -2,7 +2,8 @@
 
 ghost use Rattle.std.specs.Prelude.{◌≡◌, ◌++◌, [], length, slice_get, option_map, IfOk, OnOk, OnErr};
 ghost use Rattle.std.specs.Option.{option_copied};
-ghost use Rattle.lu_txn.specs.Slots.{tag_count, empty, slot_of, lives_of, with_tag, with_reply, with_life, without_life, with_lives, with_replies, without_lives, tagged, kept_in};
+ghost use Rattle.lu_msg.specs.Limits.{tag_count};
+ghost use Rattle.lu_txn.specs.Slots.{empty, slot_of, lives_of, with_tag, with_reply, with_life, without_life, with_lives, with_replies, without_lives, tagged, kept_in};
 
 use lu_base::{Duplicate, Memory, Who};
 use lu_msg::{KeptReplies, KeptReply, Reply};
@@ -11,7 +12,7 @@ use std::collections::BTreeMap;
 use std::marker::Model;
 
 /// How many tags a slot has.
-pub const TAGS: usize = 8;
+pub const TAGS: usize = lu_msg::TAGS as usize;
 
 /// What is kept for one life.
 #[derive(Debug, Drop)]

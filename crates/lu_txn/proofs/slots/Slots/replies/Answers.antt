@@ -2,7 +2,8 @@
 use Rattle.std.proofs.Common.{◌≡◌, ℕ, suc, ◌∷◌, ◌++◌, length, ap, subst, ◌∙◌, arith}
 use Rattle.std.specs.Prelude.{All}
 use Rattle.std.proofs.lemmas.List.{append_assoc}
-use Rattle.lu_txn.specs.Slots.{tag_count, tagged, kept_in}
+use Rattle.lu_msg.specs.Limits.{tag_count}
+use Rattle.lu_txn.specs.Slots.{tagged, kept_in}
 use Rattle.lu_txn.proofs.slots.Slots.replies.Goals as goal
 
 pub loop-slot-preserved : goal.loop-slot-preserved

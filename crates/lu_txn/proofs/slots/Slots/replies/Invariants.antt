@@ -1,7 +1,8 @@
 -- The replies of the slots so far, and those of the slots that are left.
 use Rattle.std.proofs.Common.{◌≡◌, ◌++◌, length}
 use Rattle.std.specs.Prelude.{All}
-use Rattle.lu_txn.specs.Slots.{tag_count, kept_in}
+use Rattle.lu_msg.specs.Limits.{tag_count}
+use Rattle.lu_txn.specs.Slots.{kept_in}
 use Rattle.lu_txn.proofs.slots.Slots.replies.Given as goal
 
 abbrev pub invariant-loop-slot : goal.invariant-loop-slot
