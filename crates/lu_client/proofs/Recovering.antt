@@ -49,12 +49,12 @@ noted_is n seen kept =
 
 put_is : (r : own.Replay) (replays : List own.Replay) → map replay_of (own.with_replay r replays) ≡ row.with_replay (replay_of r) (map replay_of replays)
 put_is r [] = refl
-put_is r (q ∷ replays) = by (nat_lt q.txn.0 r.txn.0) (q.txn.0 == r.txn.0) where
-  by : (below same : Bool)
+put_is r (q ∷ replays) = by (nat_lt q.txn.0 r.txn.0) (q.txn.0 == r.txn.0) (put_is r replays) where
+  by : (below same : Bool) → map replay_of (own.with_replay r replays) ≡ row.with_replay (replay_of r) (map replay_of replays)
       → map replay_of (if below then q ∷ own.with_replay r replays else if same then r ∷ replays else r ∷ q ∷ replays) ≡ (if below then replay_of q ∷ row.with_replay (replay_of r) (map replay_of replays) else if same then replay_of r ∷ map replay_of replays else replay_of r ∷ replay_of q ∷ map replay_of replays)
-  by true same = ap (λ (more : List row.Replay). replay_of q ∷ more) (put_is r replays)
-  by false true = refl
-  by false false = refl
+  by true same rest = ap (λ (more : List row.Replay). replay_of q ∷ more) rest
+  by false true rest = refl
+  by false false rest = refl
 
 -- the reply to a request
 pub taught_is : (t : ℕ) (request : InFlight) (reply : Reply) (kept : own.KeptState) → kept_of (own.taught request reply kept) ≡ row.kept_after (kept_of kept) (Heard t (flight_of request) reply)
