@@ -3,6 +3,7 @@
 ghost use Rattle.std.specs.Prelude.{◌≡◌, ◌≢◌, ℕ, ◌==◌, ◌&&◌, if◌then◌else◌, ◌+◌, ◌-◌, ◌*◌, ◌^◌, ◌<◌, ◌≤◌, ◌↔◌, List, [], ◌∷◌, ◌++◌, length, slice_get, option_map, Option, Some, None, IsSome, IfSome, IfOk, IfErr, OnOk, OnErr, Err};
 ghost use Rattle.std.specs.List.{list_any};
 ghost use Rattle.std.specs.List.Sorted.{IsStrictlyIncreasing};
+ghost use Rattle.std.specs.Option.{option_copied};
 ghost use Rattle.lu_msg.specs.Limits.{tag_count};
 ghost use Rattle.lu_txn.specs.Slots.{slot_of, empty_of, with_reply, reply_at, lives_of, IsReplyKept};
 ghost use Rattle.lu_txn.specs.Logs.{number, up_to, seen_by};
@@ -269,6 +270,18 @@ impl Journal {
         Ok(())
     }
 
+    /// The reply that is kept for this life and tag; none where the life has no slot, or none was kept.
+    pub fn reply(&self, who: Who, tag: u8) -> Option<&Reply>
+        requires tag { tag < tag_count }
+        ensures reply { option_copied result ≡ reply_at who tag self.now.slots }
+        ensures sound { IsSound self.now }
+    {
+        match self.slots.of(who) {
+            Some(slot) => slot.replies[usize::from(tag)].as_ref(),
+            None => None,
+        }
+    }
+
     /// What this number says at the slot of this life and tag. `NoSlot` exactly where the life has no slot.
     /// It takes no memory.
     pub fn look(&self, who: Who, tag: u8, xid: Xid) -> Result<Seen<'_>, TxnError>
@@ -320,6 +333,14 @@ impl Journal {
         ensures sound { IsSound self.now }
     {
         Some(self.log.at(at)?.transaction.txn)
+    }
+
+    /// How many transactions aren't on the disk.
+    pub fn uncommitted_count(&self) -> usize
+        ensures count { result ≡ length self.now.transactions }
+        ensures sound { IsSound self.now }
+    {
+        self.log.len()
     }
 
     /// The greatest number that is on the disk; 0 where there is none.

@@ -77,6 +77,13 @@ impl Uncommitted {
         Ok(())
     }
 
+    /// How many there are.
+    pub(crate) fn len(&self) -> usize
+        ensures count { result ≡ length self.now.transactions }
+    {
+        self.transactions.len()
+    }
+
     /// The transaction at this place, from 0; none past the last.
     pub(crate) fn at(&self, place: usize) -> Option<&Logged>
         ensures logged { option_copied result ≡ slice_get self.now.transactions place }
