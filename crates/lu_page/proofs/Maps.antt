@@ -2,7 +2,9 @@
 use Rattle.std.proofs.Common.{◌≡◌, ℕ, zero, suc, ◌+◌, ◌<◌, ◌≤◌, Bool, true, false, cond, List, [], ◌∷◌, ◌++◌, length, Option, Some, None, refl, sym, ap, ◌∙◌, subst, arith, append_assoc, length-append}
 use Rattle.std.specs.Prelude.{nat_eq, nat_lt, nat_le, filter, ◌==◌, if◌then◌else◌, is_some}
 use Rattle.std.proofs.lemmas.Bool.Decides.{nat_tests}
-use Rattle.lu_machine.specs.Places.{Places, RisingFrom, found_at, below, from, placed, laid, end_of}
+use Rattle.lu_base.specs.declared.locks.Extent.{Extent}
+use Rattle.lu_machine.specs.Places.{Places, RisingFrom, found_at, below, from, placed, laid, is_in, inside, end_of}
+use Rattle.lu_machine.proofs.Places.{in_parts, found_inside}
 use Rattle.lu_bytes.specs.Maps.{AllBelow}
 use Rattle.lu_bytes.specs.Runs.{first_position}
 use Rattle.std.proofs.lemmas.List.{append-nil}
@@ -125,3 +127,39 @@ same_below n p q m h is e = ap (λ r. below r m) e ∙ below_still n p m h (none
 
 pub end_at : {A : Type 0} (n p q : ℕ) (m : Places A) → RisingFrom n m → is_some (found_at m p) ≡ true → q ≡ p + 1 → end_of (below q m) ≡ q
 end_at n p q m h is e = let o = some_of (found_at m p) is in ap (λ r. end_of (below r m)) e ∙ end_found n p o.0 m h o.1 ∙ sym e
+
+-- ---- a range
+
+-- all before the range
+pub bare_before : {A : Type 0} (extent : Extent) (k n p : ℕ) (m : Places A) → RisingFrom k m → (k ≤ p → extent.first ≤ p → p < n → ⊥) → p < n → found_at (inside extent m) p ≡ None
+bare_before {A} extent k n p m h apart less = found_inside extent m p ∙ by (is_in extent p) refl (nat_lt p k) refl
+  where
+    by : (v : Bool) → is_in extent p ≡ v → (w : Bool) → nat_lt p k ≡ w → (if v then found_at m p else None) ≡ None
+    by false out w low = refl
+    by true here true low = none_before k p m h (grind (arith, nat_tests))
+    by true here false low = let first = (in_parts extent p here).0 in absurd (apart (grind (arith, nat_tests)) first less)
+
+-- none past the range
+pub all_inside : {A : Type 0} (extent : Extent) (k high n : ℕ) (m : Places A) → RisingFrom k m → AllBelow high m → ((p : ℕ) → k ≤ p → p < high → p ≤ extent.last → p < n) → AllBelow n (inside extent m)
+all_inside extent k high n [] h all within = tt
+all_inside {A} extent k high n (e ∷ m) h all within = by (is_in extent e.0) refl (all_inside extent (e.0 + 1) high n m h.1 all.1 (λ p low. within p (omega (arith, low, h.0))))
+  where
+    by : (v : Bool) → is_in extent e.0 ≡ v → AllBelow n (inside extent m) → AllBelow n (cond v (e ∷ inside extent m) (inside extent m))
+    by true here rest = (within e.0 h.0 all.0 (in_parts extent e.0 here).1, rest)
+    by false here rest = rest
+
+-- ---- the end
+
+pub all_less : {A : Type 0} (p : ℕ) (m : Places A) → AllBelow (p + 1) m → is_some (found_at m p) ≡ false → AllBelow p m
+all_less p [] h none = tt
+all_less {A} p (e ∷ m) h none = by (nat_eq p e.0) refl none (all_less p m h.1)
+  where
+    by : (v : Bool) → nat_eq p e.0 ≡ v → is_some (if v then Some e.1 else found_at m p) ≡ false → (is_some (found_at m p) ≡ false → AllBelow p m) → AllBelow p (e ∷ m)
+    by true here none rest = absurd (cc (none))
+    by false here none rest = (grind (arith, nat_tests, h.0), rest none)
+
+pub end_there : {A : Type 0} (n p : ℕ) (m : Places A) → RisingFrom n m → AllBelow (p + 1) m → is_some (found_at m p) ≡ true → end_of m ≡ p + 1
+end_there n p m h all is = ap end_of (sym (below_same (p + 1) (p + 1) m all (omega arith))) ∙ end_at n p (p + 1) m h is refl
+
+pub end_nowhere : {A : Type 0} (n : ℕ) (m : Places A) → RisingFrom n m → AllBelow n m → end_of m ≡ 0
+end_nowhere n m h all = ap end_of (sym (below_same n n m all (omega arith)) ∙ below_none n n m h (omega arith))

@@ -1,7 +1,8 @@
 //! What a page is asked: what stands in a range of its positions.
 
-ghost use Rattle.std.specs.Prelude.{◌≡◌, ◌≤◌, ◌+◌, ◌++◌, ◌^◌, length, OnOk, IfOk};
+ghost use Rattle.std.specs.Prelude.{◌≡◌, ◌≤◌, ◌<◌, ◌+◌, ◌++◌, ◌^◌, ℕ, None, length, OnOk, IfOk};
 ghost use Rattle.lu_machine.specs.Places.{is_in, found_at, inside, end_of};
+ghost use Rattle.lu_bytes.specs.Maps.{AllBelow};
 ghost use Rattle.lu_bytes.specs.Runs.{first_position, run_at, found_run};
 
 use crate::page::{PAGE, Page};
@@ -27,12 +28,42 @@ impl<T: Copy> Page<T> {
         }
     }
 
+    /// How many positions of the page lie before a range.
+    fn slots_before(&self, extent: Extent) -> u64
+        ensures bare { (p : ℕ) → p < self.now.first + result → found_at (inside extent self.now.here) p ≡ None }
+        ensures most { result ≤ 4096 }
+    {
+        let first = self.first();
+        if extent.first < first {
+            return 0;
+        }
+        if PAGE <= extent.first - first {
+            return PAGE;
+        }
+        extent.first - first
+    }
+
+    /// How many positions of the page don't lie past a range.
+    fn slots_up_to(&self, extent: Extent) -> u64
+        ensures below { AllBelow (self.now.first + result) (inside extent self.now.here) }
+        ensures most { result ≤ 4096 }
+    {
+        let first = self.first();
+        if extent.last < first {
+            return 0;
+        }
+        if PAGE <= extent.last - first {
+            return PAGE;
+        }
+        extent.last - first + 1
+    }
+
     /// The least position in a range where something stands.
     pub fn first_in(&self, extent: Extent) -> Option<u64>
         ensures first { result ≡ first_position (inside extent self.now.here) }
     {
         let first = self.first();
-        for slot in 0..PAGE {
+        for slot in self.slots_before(extent)..PAGE {
             if self.at_inside(extent, first + slot).is_some() {
                 return Some(first + slot);
             }
@@ -45,13 +76,14 @@ impl<T: Copy> Page<T> {
         ensures end { result ≡ end_of (inside extent self.now.here) }
     {
         let first = self.first();
-        let mut end = 0;
-        for slot in 0..PAGE {
+        let mut slot = self.slots_up_to(extent);
+        while slot > 0 {
+            slot -= 1;
             if self.at_inside(extent, first + slot).is_some() {
-                end = first + slot + 1;
+                return first + slot + 1;
             }
         }
-        end
+        0
     }
 
     /// In how many positions of a range something stands.

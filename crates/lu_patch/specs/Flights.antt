@@ -1,5 +1,5 @@
 -- What is under way, as a patch keeps it: the bytes that fly lie in a range, so that an answer looks at that range alone.
-use Rattle.std.specs.Prelude.{◌≡◌, ◌<◌, ◌≤◌, ℕ, true, [], ◌∷◌, nat_eq, nat_lt, nat_le, not, ◌&&◌, filter, Option, Some, None}
+use Rattle.std.specs.Prelude.{◌≡◌, ◌<◌, ◌≤◌, ℕ, true, [], ◌∷◌, Option, Some, None}
 use Rattle.lu_words.specs.declared.changes.Dirty.{Dirty}
 use Rattle.lu_machine.specs.Places.{Places}
 use Rattle.lu_bytes.specs.Maps.{IsMap}
@@ -26,10 +26,3 @@ FlyUnder (Some (Bytes first end)) m = FlyBetween first end m
 pub record IsKept (flight : Option Flight) (m : Places Dirty) : Type 0 where
   pub map : IsMap m
   pub flies : FlyUnder flight m
-
--- the bytes once what flies at a position is gone, and from one position on below another
-abbrev pub landed_at : ℕ → Places Dirty → Places Dirty
-landed_at p m = filter (λ (e : ℕ × Dirty). not (nat_eq e.0 p && e.1.flies)) m
-
-abbrev pub landed_between : ℕ → ℕ → Places Dirty → Places Dirty
-landed_between first end m = filter (λ (e : ℕ × Dirty). not ((nat_le first e.0 && nat_lt e.0 end) && e.1.flies)) m

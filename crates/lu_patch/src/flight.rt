@@ -1,9 +1,8 @@
 //! What is under way of a write-back.
 
 ghost use Rattle.std.specs.Prelude.{◌≡◌, ◌≤◌, ◌^◌, ◌+◌, ◌<◌, length, IfOk};
-ghost use Rattle.lu_machine.specs.Places.{RisingFrom};
 ghost use Rattle.lu_client_rows.specs.Patches.{fresh, sent, bytes_of, landed};
-ghost use Rattle.lu_patch.specs.Flights.{FlyBetween, landed_at};
+ghost use Rattle.lu_patch.specs.Flights.{FlyBetween};
 
 use lu_base::{Bytes, Extent, Memory};
 use lu_places::Places;
@@ -58,28 +57,13 @@ pub(crate) fn sent(alloc: Global, run: &[Dirty]) -> Result<Vec<Dirty>, Memory>
     Ok(made)
 }
 
-/// Takes away what flies at an offset.
-fn land_at(dirty: &mut Places<Dirty>, offset: u64)
-    requires rises { RisingFrom 0 dirty.old }
-    ensures landed { dirty.new ≡ landed_at offset dirty.old }
-{
-    if let Some(byte) = dirty.at(offset) {
-        if byte.flies {
-            dirty.remove(Extent {
-                first: offset,
-                last: offset,
-            });
-        }
-    }
-}
-
 /// Takes away what flies. All of it lies from `first` on and below `end`.
 pub(crate) fn land(dirty: &mut Places<Dirty>, first: u64, end: u64)
-    requires rises { RisingFrom 0 dirty.old }
     requires between { FlyBetween first end dirty.old }
     ensures landed { dirty.new ≡ landed dirty.old }
 {
-    for offset in first..end {
-        land_at(dirty, offset);
-    }
+    dirty.drop_marked_in(Extent {
+        first,
+        last: end.saturating_sub(1),
+    });
 }

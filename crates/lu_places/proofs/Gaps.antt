@@ -1,12 +1,14 @@
 -- Where nothing stands: below the first position in a range, and in a range with none.
-use Rattle.std.proofs.Common.{◌≡◌, ℕ, ◌+◌, ◌<◌, ◌≤◌, ◌⊎◌, inl, inr, Bool, true, false, cond, List, [], ◌∷◌, Option, Some, None, refl, sym, ap, ◌∙◌, subst, arith}
+use Rattle.std.proofs.Common.{◌≡◌, ℕ, ◌+◌, ◌<◌, ◌≤◌, ◌⊎◌, inl, inr, Bool, true, false, cond, List, [], ◌∷◌, ◌++◌, Option, Some, None, refl, sym, ap, ◌∙◌, subst, arith}
 use Rattle.std.specs.Prelude.{nat_eq, nat_lt, nat_le, ◌==◌, ◌&&◌, if◌then◌else◌, is_some}
 use Rattle.std.proofs.lemmas.Bool.Decides.{nat_tests}
 use Rattle.lu_base.specs.declared.locks.Extent.{Extent}
 use Rattle.lu_machine.specs.Places.{Places, RisingFrom, found_at, is_in, inside}
-use Rattle.lu_machine.proofs.Places.{in_parts, in_whole, found_inside}
+use Rattle.lu_machine.proofs.Places.{in_parts, in_whole, found_inside, rising_inside}
 use Rattle.lu_bytes.specs.Runs.{first_position}
-use Rattle.lu_bytes.proofs.Rising.{none_before, rising_filter}
+use Rattle.lu_bytes.specs.Maps.{AllBelow}
+use Rattle.lu_bytes.proofs.Rising.{none_before, rising_filter, end_snoc}
+use Rattle.lu_page.proofs.Maps.{none_past}
 use Rattle.lu_places.specs.Pages.{IsBare}
 
 some_same : {A : Type 0} (x y : A) → Some x ≡ Some y → x ≡ y
@@ -64,3 +66,25 @@ bare_tail {A} low high p x m bare = (by (nat_lt p low) (nat_le high p) refl refl
     tail : (q : ℕ) (v : Bool) → nat_eq q p ≡ v → (if v then Some x else found_at m q) ≡ None → found_at m q ≡ None
     tail q true same none = absurd (no_item x none)
     tail q false same none = none
+
+-- ---- above the last position in a range
+
+snoc_below : {A : Type 0} (n : ℕ) (m : Places A) (e : ℕ × A) → RisingFrom n (m ++ e ∷ []) → AllBelow (e.0 + 1) (m ++ e ∷ [])
+snoc_below n [] e h = (omega arith, tt)
+snoc_below n (d ∷ m) e h = let after = (end_snoc (d.0 + 1) m e h.1).0 in (omega (arith, after), snoc_below (d.0 + 1) m e h.1)
+
+pub gap_last : {A : Type 0} (extent : Extent) (e : ℕ × A) (rest m : Places A) → RisingFrom 0 m → inside extent m ≡ rest ++ e ∷ [] → IsBare (e.0 + 1) (extent.last + 1) m
+gap_last {A} extent e rest m h is p over under =
+    let rises : RisingFrom extent.first (rest ++ e ∷ []) = subst (λ m. RisingFrom extent.first m) is (rising_inside 0 extent m h) in
+    let low = (end_snoc extent.first rest e rises).0 in
+    let all : AllBelow (e.0 + 1) (inside extent m) = subst (λ m. AllBelow (e.0 + 1) m) (sym is) (snoc_below extent.first rest e rises) in
+    found_in extent p m (in_whole extent p (omega (arith, low, over)) (omega (arith, under))) (none_past (e.0 + 1) p (inside extent m) all over)
+
+-- nothing there, so all lies further below
+pub bare_less : {A : Type 0} (low high : ℕ) (m : Places A) → AllBelow high m → IsBare low high m → AllBelow low m
+bare_less low high [] h bare = tt
+bare_less {A} low high (e ∷ m) h bare = let tail = bare_tail low high e.0 e.1 m bare in (by tail.0, bare_less low high m h.1 tail.1)
+  where
+    by : (e.0 < low) ⊎ (high ≤ e.0) → e.0 < low
+    by (inl under) = under
+    by (inr over) = absurd (omega (arith, h.0, over))

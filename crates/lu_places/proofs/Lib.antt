@@ -4,3 +4,4 @@ pub mod Steps
 pub mod Changed
 pub mod Laid
 pub mod Seen
+pub mod Parts

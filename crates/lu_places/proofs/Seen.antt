@@ -10,12 +10,12 @@ use Rattle.lu_bytes.specs.Maps.{AllBelow}
 use Rattle.lu_bytes.specs.Runs.{first_position}
 use Rattle.lu_bytes.proofs.Rising.{none_before, same_map, rising_filter, below_all}
 use Rattle.lu_page.specs.Sheets.{Sheet}
-use Rattle.lu_page.proofs.Maps.{rises_from, none_past, below_none, below_same, all_up_to, first_at, first_none}
+use Rattle.lu_page.proofs.Maps.{rises_from, none_past, below_none, below_same, all_up_to, first_at, first_none, end_nowhere}
 use Rattle.lu_places.specs.Pages.{joined, IsPage, PagesFrom, IsBare}
 use Rattle.lu_places.proofs.Joined.{found_joined, joined_map, page_found, page_rises, page_below, all_two}
 use Rattle.lu_places.proofs.Changed.{page_is}
 use Rattle.lu_places.proofs.Steps.{in_page, out_page}
-use Rattle.lu_places.proofs.Gaps.{first_before, nil_first, bare_tail}
+use Rattle.lu_places.proofs.Gaps.{first_before, nil_first, bare_tail, bare_less}
 
 -- ---- a page's part
 
@@ -23,7 +23,7 @@ abbrev pub page_items : {A : Type 0} → Option (Sheet A) → Places A
 page_items None = []
 page_items (Some s) = s.here
 
-items_found : {A : Type 0} (o : Option (Sheet A)) (p : ℕ) → page_found o p ≡ found_at (page_items o) p
+pub items_found : {A : Type 0} (o : Option (Sheet A)) (p : ℕ) → page_found o p ≡ found_at (page_items o) p
 items_found None p = refl
 items_found (Some s) p = refl
 
@@ -208,26 +208,6 @@ end_over : {A : Type 0} (n : ℕ) (m : Places A) → RisingFrom n m → 0 < end_
 end_over n [] h some = absurd (omega (arith, some))
 end_over n (e ∷ m) h some = omega (arith, h.0)
 
-pub last_below : {A : Type 0} (n j : ℕ) (es : Places (Sheet A)) (e : ℕ × Sheet A) → PagesFrom n es → j + 1 ≡ length es → slice_get es j ≡ Some e → (n ≤ e.0) × AllBelow ((e.0 + 1) * 4096) (joined es)
-last_below n j [] e h is at = absurd (omega (arith, is))
-last_below {A} n j (d ∷ []) e h is at =
-    let zero_j : j ≡ 0 = omega (arith, is) in
-    let same : d ≡ e = some_entry d e (subst (λ (q : ℕ). slice_get (d ∷ []) q ≡ Some e) zero_j at) in
-    subst (λ (e : ℕ × Sheet A). (n ≤ e.0) × AllBelow ((e.0 + 1) * 4096) (joined (d ∷ []))) same (h.0, all_two ((d.0 + 1) * 4096) d.1.here [] (page_below d.0 d.1 h.1) tt)
-  where
-    some_entry : (x y : ℕ × Sheet A) → Some x ≡ Some y → x ≡ y
-    some_entry x y p = cc
-last_below {A} n j (d ∷ c ∷ es) e h is at =
-    let less : (i : ℕ) × (j ≡ suc i) = before j (omega (arith, is)) in
-    let there : slice_get (c ∷ es) less.0 ≡ Some e = subst (λ (q : ℕ). slice_get (d ∷ c ∷ es) q ≡ Some e) less.1 at in
-    let rest = last_below (d.0 + 1) less.0 (c ∷ es) e h.2 (omega (arith, is, less.1)) there in
-    let over = rest.0 in
-    (omega (arith, h.0, over), all_two ((e.0 + 1) * 4096) d.1.here (joined (c ∷ es)) (all_up_to ((d.0 + 1) * 4096) ((e.0 + 1) * 4096) d.1.here (omega (arith, over)) (page_below d.0 d.1 h.1)) rest.1)
-  where
-    before : (q : ℕ) → 1 ≤ q → (i : ℕ) × (q ≡ suc i)
-    before zero p = absurd (omega (arith, p))
-    before (suc i) p = (i, refl)
-
 pub end_page : {A : Type 0} (k : ℕ) (m : Places A) → RisingFrom 0 m → AllBelow ((k + 1) * 4096) m → 0 < end_of (inside (page_extent k) m) → end_of m ≡ end_of (inside (page_extent k) m)
 end_page k m h all some =
     let parts : m ≡ below (k * 4096) m ++ inside (page_extent k) m = sym (below_same ((k + 1) * 4096) ((k + 1) * 4096) m all (omega arith)) ∙ below_page 0 k m h in
@@ -235,3 +215,33 @@ end_page k m h all some =
     let over = end_over (page_extent k).first (inside (page_extent k) m) (rising_inside 0 (page_extent k) m h) some in
     let both = end_two (below (k * 4096) m) (inside (page_extent k) m) in
     ap end_of parts ∙ omega (arith, both, first, over)
+
+-- ---- the end of a range, from the last page down
+
+pub less_gap : {A : Type 0} (extent : Extent) (low high : ℕ) (m : Places A) → AllBelow high (inside extent m) → IsBare low high m → AllBelow low (inside extent m)
+less_gap extent low high m all bare = bare_less low high (inside extent m) all (bare_inside extent low high m bare)
+
+swapped : {A : Type 0} (extent : Extent) (k : ℕ) (m : Places A) → inside (page_extent k) (inside extent m) ≡ inside extent (inside (page_extent k) m)
+swapped {A} extent k m = filter_swap (λ (e : ℕ × A). is_in (page_extent k) e.0) (λ (e : ℕ × A). is_in extent e.0) m
+
+no_end : {A : Type 0} (m : Places A) → end_of m ≡ 0 → m ≡ []
+no_end [] none = refl
+no_end (e ∷ m) none = absurd (omega (arith, none))
+
+-- nothing in the page
+pub less_page : {A : Type 0} (extent : Extent) (k : ℕ) (m : Places A) → RisingFrom 0 m → AllBelow ((k + 1) * 4096) (inside extent m) → end_of (inside extent (inside (page_extent k) m)) ≡ 0 → AllBelow (k * 4096) (inside extent m)
+less_page {A} extent k m h all none =
+    let rises : RisingFrom 0 (inside extent m) = rising_filter 0 (λ (e : ℕ × A). is_in extent e.0) m h in
+    let parts : inside extent m ≡ below (k * 4096) (inside extent m) ++ [] = sym (below_same ((k + 1) * 4096) ((k + 1) * 4096) (inside extent m) all (omega arith)) ∙ below_page 0 k (inside extent m) rises ∙ ap (λ r. below (k * 4096) (inside extent m) ++ r) (swapped extent k m ∙ no_end (inside extent (inside (page_extent k) m)) none) in
+    subst (λ l. AllBelow (k * 4096) l) (sym parts) (all_two (k * 4096) (below (k * 4096) (inside extent m)) [] (below_all (k * 4096) (k * 4096) (inside extent m) (omega arith)) tt)
+
+-- something in the page
+pub end_there : {A : Type 0} (extent : Extent) (k : ℕ) (m : Places A) → RisingFrom 0 m → AllBelow ((k + 1) * 4096) (inside extent m) → 0 < end_of (inside extent (inside (page_extent k) m)) → end_of (inside extent m) ≡ end_of (inside extent (inside (page_extent k) m))
+end_there {A} extent k m h all some =
+    let rises : RisingFrom 0 (inside extent m) = rising_filter 0 (λ (e : ℕ × A). is_in extent e.0) m h in
+    let same = ap end_of (swapped extent k m) in
+    end_page k (inside extent m) rises all (omega (arith, some, same)) ∙ same
+
+-- no page more
+pub end_gone : {A : Type 0} (extent : Extent) (n high : ℕ) (m : Places A) → RisingFrom 0 m → n ≤ extent.first → AllBelow high (inside extent m) → IsBare n high m → end_of (inside extent m) ≡ 0
+end_gone {A} extent n high m h low all bare = end_nowhere n (inside extent m) (rises_from extent.first n (inside extent m) low (rising_inside 0 extent m h)) (less_gap extent n high m all bare)

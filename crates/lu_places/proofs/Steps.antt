@@ -160,14 +160,6 @@ least_right a b = by (nat_lt b a) (nat_eq b a) refl refl
     by false true less same = grind (arith, nat_tests)
     by false false less same = grind (arith, nat_tests)
 
-pub most_is : (a b : ℕ) → ord_max nat_cmp a b ≡ max a b
-most_is a b = by (nat_lt b a) (nat_eq b a) refl refl
-  where
-    by : (v w : Bool) → nat_lt b a ≡ v → nat_eq b a ≡ w → cond (is_lt (cond v Less (cond w Equal Greater))) a b ≡ max a b
-    by true w less same = grind (arith, nat_tests)
-    by false true less same = grind (arith, nat_tests)
-    by false false less same = grind (arith, nat_tests)
-
 -- ---- the end of an edit
 
 pub out_low : (extent : Extent) (p : ℕ) → p < extent.first → is_in extent p ≡ false

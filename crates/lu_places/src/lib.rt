@@ -7,5 +7,6 @@ mod edits;
 mod looks;
 mod pages;
 mod places;
+mod reads;
 
 pub use places::Places;

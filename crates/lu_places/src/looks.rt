@@ -6,10 +6,9 @@ ghost use Rattle.lu_machine.specs.Places.{inside, end_of};
 ghost use Rattle.lu_bytes.specs.Runs.{first_position};
 ghost use Rattle.lu_places.specs.Pages.{joined, PagesFrom};
 
-use crate::pages::next_page;
+use crate::pages::{last_page, next_page};
 use lu_base::Extent;
 use lu_page::{PAGE, Page};
-use std::cmp::max;
 use std::collections::BTreeMap;
 
 /// The least position of a page in a range where something stands.
@@ -82,23 +81,24 @@ pub fn count<T: Copy>(pages: &BTreeMap<u64, Page<T>>, extent: Extent) -> u64
     count
 }
 
-/// One past the last position in a range where something stands, or 0.
+/// One past the last position in a range where something stands, or 0. It looks at the pages from the last one down.
 pub fn end_in<T: Copy>(pages: &BTreeMap<u64, Page<T>>, extent: Extent) -> u64
     requires pages { PagesFrom 0 pages.now.entries }
-    requires range { extent.first ≤ extent.last }
     ensures end { result ≡ end_of (inside extent (joined pages.now.entries)) }
 {
-    let last = extent.last / PAGE;
-    let mut next = extent.first / PAGE;
-    let mut end = 0;
-    while let Some(number) = next_page(pages, next, last) {
-        end = max(end, end_in_page(pages, number, extent));
-        next = number + 1;
+    let first = extent.first / PAGE;
+    let mut end = extent.last / PAGE + 1;
+    while let Some(number) = last_page(pages, first, end) {
+        let found = end_in_page(pages, number, extent);
+        if found != 0 {
+            return found;
+        }
+        end = number;
     }
-    end
+    0
 }
 
-/// One past the last position where something stands, or 0. The last page tells it, where something stands there.
+/// One past the last position where something stands, or 0.
 pub fn end<T: Copy>(pages: &BTreeMap<u64, Page<T>>) -> u64
     requires pages { PagesFrom 0 pages.now.entries }
     ensures end { result ≡ end_of (joined pages.now.entries) }
@@ -107,11 +107,5 @@ pub fn end<T: Copy>(pages: &BTreeMap<u64, Page<T>>) -> u64
         first: 0,
         last: u64::MAX,
     };
-    if let Some((number, _)) = pages.last_key_value() {
-        let end = end_in_page(pages, *number, whole);
-        if end != 0 {
-            return end;
-        }
-    }
     end_in(pages, whole)
 }

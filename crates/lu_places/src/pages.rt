@@ -27,6 +27,20 @@ pub fn next_page<T>(pages: &BTreeMap<u64, Page<T>>, from: u64, to: u64) -> Optio
     Some(*number)
 }
 
+/// The greatest number of a page from one number on and below another.
+pub fn last_page<T>(pages: &BTreeMap<u64, Page<T>>, from: u64, end: u64) -> Option<u64>
+    requires pages { PagesFrom 0 pages.now.entries }
+    ensures range { IfSome result (λ k. (from ≤ k) × (k < end)) }
+    ensures some { IfSome result (λ k. IsBare ((k + 1) * 4096) (end * 4096) (joined pages.now.entries)) }
+    ensures none { IfNone result (IsBare (from * 4096) (end * 4096) (joined pages.now.entries)) }
+{
+    if end <= from {
+        return None;
+    }
+    let (number, _) = pages.range(from..=end - 1).next_back()?;
+    Some(*number)
+}
+
 /// Makes a page, if it isn't there. Nothing stands in it.
 fn make_page<T: Copy + Drop>(
     alloc: Global,

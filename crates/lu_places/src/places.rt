@@ -2,11 +2,11 @@
 
 ghost use Rattle.std.specs.Prelude.{not, ◌&&◌, nat_lt, if◌then◌else◌, ◌<◌, ◌≡◌, ◌≤◌, ◌+◌, ◌^◌, [], length, OnOk, OnErr, IfOk, IfSome, filter, option_map};
 ghost use Rattle.lu_machine.specs.Places.{is_in, found_at, below, laid, inside, end_of};
-ghost use Rattle.lu_bytes.specs.Runs.{first_position, run_at, first_run, found_run};
+ghost use Rattle.lu_bytes.specs.Runs.{first_position, first_run, found_run};
 ghost use Rattle.lu_bytes.specs.Changes.{outside, unmarked, zeroed};
 
-use crate::edits::{DropMarked, Remove, Zero, is_in};
-use crate::{looks, pages};
+use crate::edits::{DropMarked, Remove, Zero};
+use crate::{looks, pages, reads};
 use lu_base::{Extent, Memory};
 use lu_bytes::Marked;
 use lu_page::{PAGE, Page};
@@ -166,41 +166,8 @@ impl<T> Places<T> {
         requires fits { at + count ≤ 2 ^ 63 }
         ensures found { IfOk result (λ found. found.items ≡ found_run count self.now at) }
     {
-        let mut found = Vec::new(alloc);
-        for k in 0..count {
-            found.push(self.at(at + k))?;
-        }
-        Ok(found)
-    }
-
-    /// What stands at a position of a range.
-    fn at_inside(&self, extent: Extent, position: u64) -> Option<T>
-    where
-        T: Copy,
-        ensures found { result ≡ found_at (inside extent self.now) position }
-    {
-        if is_in(extent, position) {
-            self.at(position)
-        } else {
-            None
-        }
-    }
-
-    /// What stands in a range from a position on without a gap, at most so many.
-    fn run(&self, alloc: Global, extent: Extent, from: u64, most: u64) -> Result<Vec<T>, Memory>
-    where
-        T: Copy + Drop,
-        requires fits { from + most ≤ 2 ^ 63 }
-        ensures run { IfOk result (λ run. run.items ≡ run_at most (inside extent self.now) from) }
-    {
-        let mut run = Vec::new(alloc);
-        for k in 0..most {
-            let Some(item) = self.at_inside(extent, from + k) else {
-                return Ok(run);
-            };
-            run.push(item)?;
-        }
-        Ok(run)
+        let _ = &self.pages;
+        reads::read(&self.pages, alloc, at, count)
     }
 
     /// The unbroken run of least position in a range, up to the end of its page.
@@ -214,7 +181,7 @@ impl<T> Places<T> {
         let Some(position) = self.first_in(extent) else {
             return Ok(None);
         };
-        let run = self.run(alloc, extent, position, PAGE - position % PAGE)?;
+        let run = reads::run(&self.pages, alloc, extent, position)?;
         Ok(Some((position, run)))
     }
 }

@@ -11,7 +11,6 @@ use Rattle.lu_machine.proofs.Places.{rising_inside}
 use Rattle.lu_bytes.proofs.Rising.{rising_filter, all_filter}
 use Rattle.lu_page.proofs.Maps.{below_none, below_same}
 use Rattle.lu_places.proofs.Joined.{joined_map, joined_below}
-use Rattle.lu_places.proofs.Steps.{most_is}
 use Rattle.lu_places.proofs.Seen.{below_next, below_last, inside_below, end_two, length_fits}
 use Rattle.lu_places.proofs.looks.count.Goals as goal
 

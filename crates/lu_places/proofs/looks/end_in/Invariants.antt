@@ -1,20 +1,11 @@
-use Rattle.std.proofs.Common.{◌≡◌, ℕ, ◌+◌, ◌-◌, ◌*◌, ◌/◌, ◌^◌, ◌<◌, ◌≤◌, ◌∙◌, Bool, true, false, List, [], ◌∷◌, ◌++◌, length, length-append, max, refl, sym, ap, subst, arith}
-use Rattle.std.specs.Prelude.{Option, Some, None, is_some, IsSome, nat_lt}
-use Rattle.lu_base.specs.declared.locks.Extent.{Extent}
-use Rattle.lu_machine.specs.Objects.{page_extent}
-use Rattle.lu_machine.specs.Places.{RisingFrom, found_at, is_in, inside, below, end_of}
+use Rattle.std.proofs.Common.{◌*◌}
+use Rattle.lu_machine.specs.Places.{inside}
 use Rattle.lu_bytes.specs.Maps.{AllBelow}
-use Rattle.lu_bytes.specs.Runs.{first_position}
-use Rattle.lu_page.specs.Edits.{edited, in_range}
-use Rattle.lu_places.specs.Pages.{joined, PagesFrom, IsBare, up_to}
+use Rattle.lu_places.specs.Pages.{joined}
 use Rattle.lu_places.proofs.looks.end_in.Given as goal
 
 abbrev pub invariant-loop-number : goal.invariant-loop-number
-invariant-loop-number g l =
-    record {
-      end : l.end ≡ end_of (below (l.next * 4096) (inside l.extent (joined l.pages.entries)));
-      next : l.next ≤ l.extent.last / 4096 + 1;
-    }
+invariant-loop-number g l = AllBelow (l.end * 4096) (inside l.extent (joined l.pages.entries))
 
 abbrev pub decreases-loop-number : goal.decreases-loop-number
-decreases-loop-number g l = l.last + 1 - l.next
+decreases-loop-number g l = l.end

@@ -8,9 +8,7 @@ use Rattle.lu_page.proofs.Maps.{first_at, first_none, not_at}
 use Rattle.lu_page.proofs.page.Page.first_in.Goals as goal
 
 pub loop-slot-init : goal.loop-slot-init
-loop-slot-init g c =
-    let rising : RisingFrom c.args.self.now.first (inside c.args.extent c.args.self.now.here) = rising_filter c.args.self.now.first (λ e. is_in c.args.extent e.0) c.args.self.now.here c.first-first.ensures.sheet.rising in
-    λ q less. none_before c.args.self.now.first q (inside c.args.extent c.args.self.now.here) rising (omega (arith, less, c.first-first.ensures.first))
+loop-slot-init g c = λ q less. c.slots_before-slot.ensures.bare q (omega (arith, less, c.first-first.ensures.first))
 
 pub returns-then-is_some : goal.returns-then-is_some
 returns-then-is_some g c =
