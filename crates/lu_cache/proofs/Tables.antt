@@ -48,6 +48,16 @@ module _ {A : Type 0} where
         let there : Found r es ≡ Some old = subst (λ b. cond b (Some e.1) (Found r es) ≡ Some old) t h in
         rw t (ap (λ more. e ∷ more) (rest there))
 
+  set_same : (r : Resource) (es : List (Resource × A)) (old : A) → Found r es ≡ Some old → set_value (equal_resource r) es old ≡ es
+  set_same r [] old found = refl
+  set_same r (e ∷ es) old found = by (equal_resource r e.0) found (set_same r es old) where
+    by : (same : Bool) → cond same (Some e.1) (Found r es) ≡ Some old → (Found r es ≡ Some old → set_value (equal_resource r) es old ≡ es) → cond same ((e.0, old) ∷ es) (e ∷ set_value (equal_resource r) es old) ≡ e ∷ es
+    by true found rest = ap (λ x. (e.0, x) ∷ es) (sym (some_is e.1 old found))
+    by false found rest = ap (λ more. e ∷ more) (rest found)
+
+  pub kept_there : (r : Resource) (es now : List (Resource × A)) (old new : A) → es ≡ now → Found r es ≡ Some old → new ≡ old → set_value (equal_resource r) es new ≡ now
+  kept_there r es now old new is found same = ap (set_value (equal_resource r) es) same ∙ set_same r es old found ∙ is
+
   pub none_on : (r : Resource) (change : A → A) (es : List (Resource × A)) → Found r es ≡ None → on_object r change es ≡ es
   none_on r change [] none = refl
   none_on r change (e ∷ es) none = by (same_resource e.0 r) (turned r e.0) none (none_on r change es) where

@@ -69,11 +69,12 @@ impl KnownBytes {
         }
     }
 
-    /// Bytes of an object are known from this offset on.
+    /// Bytes of an object are known from this offset on. After want of memory nothing has changed.
     pub(crate) fn fill(&mut self, resource: Resource, at: u64, from: &[u8]) -> Result<(), Memory>
         requires fits { at + length from.now ≤ 2 ^ 62 }
         ensures filled { OnOk result (self.new
             ≡ with_object resource (laid at from.now (bytes_at resource self.old)) self.old) }
+        ensures kept { OnErr result (self.new ≡ self.old) }
     {
         if let Some(places) = self.objects.get_mut(&resource) {
             return places.lay(at, from);

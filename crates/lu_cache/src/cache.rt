@@ -140,10 +140,11 @@ impl Cache {
         paths::stat_locks(&self.facts, held, alloc, path, file)
     }
 
-    /// Bytes of an object are known from this offset on.
+    /// Bytes of an object are known from this offset on. After want of memory nothing has changed.
     pub fn fill(&mut self, resource: Resource, at: u64, from: &[u8]) -> Result<(), Memory>
         requires fits { at + length from.now ≤ 2 ^ 62 }
         ensures filled { OnOk result (self.new ≡ cache_after self.old (Fills resource at from.now)) }
+        ensures kept { OnErr result (self.new ≡ self.old) }
     {
         self.bytes.fill(resource, at, from)
     }
