@@ -25,7 +25,7 @@ const OBJECT: Resource = Resource {
 
 /// What a lookup is told.
 #[derive(Clone, Copy)]
-enum Told {
+pub(crate) enum Told {
     Nothing,
     Dir(u64),
     File(u64),
@@ -44,6 +44,11 @@ enum Step<'a> {
     Read(u64, bool, &'a [u8]),
     /// A lock from offset 0 to this one is granted, of this size.
     Grant(u64, u64),
+    /// A lock from offset 0 to this one came, with or without a size; a lock on names came with a size.
+    Hold(u64, Option<u64>),
+    HoldNames(u64),
+    /// All is forgotten.
+    Clear,
     /// So many bytes were put from an offset on, or the object was cut to a size.
     Put(u64, u8),
     Shorten(u64),
@@ -84,7 +89,7 @@ fn over(cookie: u64, first: u64, last: u64) -> Lock {
 }
 
 /// A lock on the LOOKUP and UPDATE bits of an inode.
-fn on_names(cookie: u64, fid: u64) -> Lock {
+pub(crate) fn on_names(cookie: u64, fid: u64) -> Lock {
     lock(cookie, fid, Policy::Bits(3))
 }
 
@@ -145,7 +150,7 @@ fn put(alloc: Global, cache: &mut Cache, at: u64, count: u8) -> Result<bool, Mem
 }
 
 /// The path of these names, each of one byte.
-fn path(alloc: Global, names: &[u8]) -> Result<Path, Memory> {
+pub(crate) fn path(alloc: Global, names: &[u8]) -> Result<Path, Memory> {
     let mut path = Path::new(alloc);
     for name in names {
         path.push(Name::from_slice(alloc, &[*name])?)?;
@@ -154,7 +159,7 @@ fn path(alloc: Global, names: &[u8]) -> Result<Path, Memory> {
 }
 
 /// Whether it is the answer.
-fn is_answer(answer: &Answer, told: Told) -> bool {
+pub(crate) fn is_answer(answer: &Answer, told: Told) -> bool {
     match (answer, told) {
         (Answer::Dir(fid), Told::Dir(inode)) => fid.0 == inode,
         (Answer::File(fid), Told::File(inode)) => fid.0 == inode,
@@ -163,7 +168,7 @@ fn is_answer(answer: &Answer, told: Told) -> bool {
 }
 
 /// Whether these are the cookies.
-fn are_cookies(cookies: &Cookies, numbers: &[u64]) -> bool {
+pub(crate) fn are_cookies(cookies: &Cookies, numbers: &[u64]) -> bool {
     let cookies = cookies.as_slice();
     cookies.len() == numbers.len()
         && cookies
@@ -238,6 +243,18 @@ fn is_so(alloc: Global, cache: &mut Cache, step: Step) -> Result<bool, Memory> {
         }
         Step::Grant(last, size) => {
             grant(cache, last, size)?;
+            Ok(true)
+        }
+        Step::Hold(last, size) => {
+            cache.hold(&over(FIRST, 0, last), size)?;
+            Ok(true)
+        }
+        Step::HoldNames(size) => {
+            cache.hold(&on_names(FIRST, 1), Some(size))?;
+            Ok(true)
+        }
+        Step::Clear => {
+            cache.clear();
             Ok(true)
         }
         Step::Shorten(size) => {
@@ -324,6 +341,57 @@ fn a_size_follows_changes_until_its_lock_goes(rt: HostRuntime) -> Result<(), Fai
     Ok(())
 }
 
+/// A size that came with a lock is kept where the lock reaches the end, in place of one that was kept before.
+#[test]
+fn a_size_comes_with_a_lock_to_the_end(rt: HostRuntime) -> Result<(), Fail> {
+    let alloc = rt.alloc();
+    let steps = [
+        Step::Hold(END, None),
+        Step::Size(None),
+        Step::Hold(99, Some(4)),
+        Step::HoldNames(4),
+        Step::Size(None),
+        Step::Hold(END, Some(4)),
+        Step::Size(Some(4)),
+        Step::Hold(END, Some(9)),
+        Step::Hold(END, None),
+        Step::Hold(99, Some(5)),
+        Step::HoldNames(5),
+        Step::Size(Some(9)),
+        Step::Put(8, 3),
+        Step::Size(Some(11)),
+        Step::DropRange(FIRST, 0, END),
+        Step::Size(None),
+    ];
+    let wrong = first_wrong(alloc, &mut Cache::new(alloc), steps.as_slice())?;
+    assert_eq!(rt; wrong, None);
+    Ok(())
+}
+
+/// Bytes, sizes, offsets and facts are all forgotten at once.
+#[test]
+fn all_is_forgotten(rt: HostRuntime) -> Result<(), Fail> {
+    let alloc = rt.alloc();
+    let steps = [
+        Step::Clear,
+        Step::Lookup(b"d", 1, Told::Nothing, &[]),
+        Step::Fill(0, b"ab"),
+        Step::Hold(END, Some(2)),
+        Step::Show(1),
+        Step::Clear,
+        Step::Byte(0, None),
+        Step::Read(0, false, &[9]),
+        Step::Size(None),
+        Step::Shown(None),
+        Step::Fill(1, b"c"),
+        Step::Read(0, false, &[9, 9]),
+        Step::Read(1, true, b"c"),
+    ];
+    let wrong = first_wrong(alloc, &mut taught(alloc)?, steps.as_slice())?;
+    assert_eq!(rt; wrong, None);
+    Ok(())
+}
+
 /// Of the offsets that were shown under a lock the greatest is kept.
 #[test]
 fn the_greatest_offset_that_was_shown_is_kept(rt: HostRuntime) -> Result<(), Fail> {
@@ -347,7 +415,7 @@ fn the_greatest_offset_that_was_shown_is_kept(rt: HostRuntime) -> Result<(), Fai
 
 /// A directory `d` with number 5 under cookie 7, in it a file `f` with number 6 under cookie 9, and the directory's
 /// list under cookie 8.
-fn taught(alloc: Global) -> Result<Cache, Memory> {
+pub(crate) fn taught(alloc: Global) -> Result<Cache, Memory> {
     let mut cache = Cache::new(alloc);
     let file = Op::Lookup(path(alloc, b"df")?);
     let locks = [on_names(7, 5), on_names(9, 6)];

@@ -7,6 +7,10 @@
 #[cfg(test)]
 mod caches;
 #[cfg(test)]
+mod guarded;
+#[cfg(test)]
+mod marks;
+#[cfg(test)]
 mod objects;
 #[cfg(test)]
 mod patches;
