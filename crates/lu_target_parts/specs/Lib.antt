@@ -1,0 +1,9 @@
+pub mod Journals
+pub mod Locks
+pub mod Callbacks
+pub mod Contents
+pub mod Batches
+pub mod Unread
+pub mod Lives
+pub mod Cookies
+pub mod Windows
