@@ -1,0 +1,6 @@
+pub mod Without
+pub mod Showing
+pub mod Lasts
+pub mod Moves
+pub mod Begins
+pub mod Closing
