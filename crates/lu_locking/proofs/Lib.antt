@@ -1,0 +1,6 @@
+pub mod Enqueues
+pub mod Cookies
+pub mod CallingBack
+pub mod Releases
+pub mod Ways
+pub mod Rows
