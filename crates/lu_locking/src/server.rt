@@ -1,6 +1,6 @@
 //! The locks of a target, with what it has asked of their holders.
 
-ghost use Rattle.std.specs.Prelude.{◌≡◌, ℕ, ◌+◌, ◌<◌, false, Some, is_some, slice_get, IfOk, IfErr, OnOk, OnErr};
+ghost use Rattle.std.specs.Prelude.{◌≡◌, ◌⊎◌, ℕ, ◌+◌, ◌<◌, false, Some, is_some, slice_get, IfOk, IfErr, OnOk, OnErr};
 ghost use Rattle.lu_lock.specs.Overlap.{IsOrdered};
 ghost use Rattle.lu_target_rows.specs.Objects.{lock_of};
 ghost use Rattle.lu_target_rows.specs.Names.{in_way};
@@ -117,6 +117,8 @@ impl LockServer {
         requires ordered { IsOrdered ask.policy }
         ensures enqueued { IfOk result (λ answer. IsEnqueued resource ask answer self.old self.new) }
         ensures room { IfOk result (λ _. self.old.count < most_cookies) }
+        ensures spent { IfErr result (λ fault. ((fault ≡ lock_fault.CookiesSpent) × (self.old.count ≡ most_cookies))
+            ⊎ ((fault ≡ lock_fault.Memory) × (self.old.count < most_cookies))) }
         ensures kept { OnErr result (self.new ≡ self.old) }
     {
         let cookie = self.next_cookie()?;
@@ -215,6 +217,7 @@ impl LockServer {
     /// nothing has changed, where that was asked before and isn't answered. After want of memory nothing has changed.
     pub fn ask_size(&mut self, cookie: Cookie, who: Who, xid: Xid) -> Result<bool, Memory>
         ensures asked { IfOk result (λ new. IsGlimpsed cookie who xid new self.old self.new) }
+        ensures same { IfOk result (λ new. new ≡ false → self.new ≡ self.old) }
         ensures kept { OnErr result (self.new ≡ self.old) }
     {
         let new = self.calls.ask(cookie, Kind::Glimpse(who, xid), self.ticks)?;
