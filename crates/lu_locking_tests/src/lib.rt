@@ -1,0 +1,7 @@
+//! Lock servers of targets: rows of calls, each with what it must answer.
+//!
+//! The tests stand in a crate of their own, since a crate with tests is proved twice.
+#![tactic(auto)]
+
+#[cfg(test)]
+mod servers;
