@@ -1,14 +1,14 @@
 //! Callbacks (Wang et al., Understanding Lustre Filesystem Internals, the lock manager: blocking and glimpse
 //! callbacks).
 
-ghost use Rattle.std.specs.Prelude.{◌≡◌, ◌<◌, not, false, if◌then◌else◌, [], AllPairs, slice_get, option_map, IfOk, OnOk, OnErr};
+ghost use Rattle.std.specs.Prelude.{◌≡◌, ◌<◌, not, false, if◌then◌else◌, [], AllPairs, slice_get, option_map, map, IfOk, OnOk, OnErr};
 ghost use Rattle.std.specs.Option.{option_copied};
 ghost use Rattle.lu_callback.specs.declared.callbacks.Kind.TheVariants as kind;
 ghost use Rattle.lu_callback.specs.Callbacks.{is_block, same_kind, is_outstanding, with_asked, without, of_lock, without_glimpse, is_among, is_for, without_locks, without_lives, is_due, due, IsSound};
 ghost use Rattle.lu_callback.specs.Filed.{all_asked, is_idle, IsHeld};
 
 use super::holders::Holder;
-use lu_base::{Cookie, Cookies, Memory, Who, Xid};
+use lu_base::{Cookie, Cookies, Memory, Sequence, Who, Xid};
 use std::alloc::{AllocError, Global};
 use std::collections::BTreeMap;
 use std::marker::Model;
@@ -123,6 +123,17 @@ fn asked_at(holders: &BTreeMap<Cookie, Holder>, at: usize) -> Option<&Asked>
         .nth(at)
 }
 
+/// All that is outstanding.
+fn all(alloc: Global, holders: &BTreeMap<Cookie, Holder>) -> Result<Vec<Asked>, AllocError>
+    ensures { IfOk result (λ asked. asked.items ≡ all_asked holders.now.entries) }
+{
+    let mut asked: Vec<Asked> = Vec::new(alloc);
+    for (_, holder) in holders {
+        asked.extend_from_slice(holder.as_slice())?;
+    }
+    Ok(asked)
+}
+
 /// Whether this lock is there, and nothing is outstanding of it.
 fn is_idle(holders: &BTreeMap<Cookie, Holder>, cookie: Cookie) -> bool
     ensures { result ≡ is_idle cookie holders.now.entries }
@@ -184,7 +195,7 @@ impl Callbacks {
     }
 
     /// Whether this is outstanding of that lock.
-    fn is_outstanding(&self, cookie: Cookie, kind: Kind) -> bool
+    pub fn is_outstanding(&self, cookie: Cookie, kind: Kind) -> bool
         ensures outstanding { result ≡ is_outstanding cookie kind self.now }
         ensures sound { IsSound self.now }
     {
@@ -286,6 +297,27 @@ impl Callbacks {
             Some(holder) => holder.kind_at(at),
             None => None,
         }
+    }
+
+    /// All that is outstanding of this lock: the block first and then the glimpses in the order in which they were asked.
+    pub fn kinds(&self, alloc: Global, cookie: Cookie) -> Result<Sequence<Kind>, Memory>
+        ensures kinds { IfOk result (λ kinds. kinds ≡ map (λ asked. asked.kind) (of_lock cookie self.now)) }
+        ensures sound { IsSound self.now }
+    {
+        match self.holders.get(&cookie) {
+            Some(holder) => Ok(Sequence::from(holder.kinds(alloc)?)),
+            None => Ok(Sequence::new(alloc)),
+        }
+    }
+
+    /// All that is outstanding: in rising cookie, for one cookie the block first and then the glimpses in the order in
+    /// which they were asked.
+    pub fn all(&self, alloc: Global) -> Result<Sequence<Asked>, Memory>
+        ensures all { IfOk result (λ all. all ≡ self.now) }
+        ensures sound { IsSound self.now }
+    {
+        let asked = all(alloc, &self.holders)?;
+        Ok(Sequence::from(asked))
     }
 
     /// What is outstanding, from place 0 on: in rising cookie, for one cookie the block first and then

@@ -1,13 +1,13 @@
 //! What was asked of the holder of one lock.
 
-ghost use Rattle.std.specs.Prelude.{◌≡◌, ◌==◌, not, filter, length, [], slice_get, option_map, OnOk, OnErr};
+ghost use Rattle.std.specs.Prelude.{◌≡◌, ◌==◌, not, filter, length, [], slice_get, option_map, map, IfOk, OnOk, OnErr};
 ghost use Rattle.std.specs.List.{list_any};
 ghost use Rattle.lu_callback.specs.Callbacks.{without_lives};
 ghost use Rattle.lu_callback.specs.Filed.{of_kind, put_in};
 
 use super::callbacks::{Asked, Kind, is_block, is_for, same_kind};
 use lu_base::{Memory, Who};
-use std::alloc::Global;
+use std::alloc::{AllocError, Global};
 use std::marker::Model;
 
 /// What was asked of the holder of one lock: the block first, and then the glimpses in the order in which they were
@@ -56,6 +56,13 @@ impl Holder {
     {
         let asked = self.asked.get(at)?;
         Some(asked.kind)
+    }
+
+    /// The kinds of all that was asked.
+    pub(crate) fn kinds(&self, alloc: Global) -> Result<Vec<Kind>, AllocError>
+        ensures kinds { IfOk result (λ kinds. kinds.items ≡ map (λ asked. asked.kind) self.now) }
+    {
+        self.asked.iter().map(|asked| asked.kind).collect(alloc)
     }
 
     /// Whether something of this kind was asked.

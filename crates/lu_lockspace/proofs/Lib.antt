@@ -4,3 +4,4 @@ pub mod Laws
 pub mod Ended
 pub mod Lists
 pub mod Guarded
+pub mod Waited

@@ -13,7 +13,7 @@ use Rattle.lu_queue.specs.declared.locks.Grant.{Grant}
 use Rattle.lu_queue.specs.Queues as queue
 use Rattle.lu_queue.specs.Queues.{QueueState, has_of, IsQueue}
 use Rattle.lu_base.specs.declared.ids.Who.{Who}
-use Rattle.lu_lockspace.specs.Spaces.{SpaceState, same_resource, lock_on, queue_of}
+use Rattle.lu_lockspace.specs.Spaces.{SpaceState, same_resource, lock_on, queue_of, some_waits}
 
 abbrev pub Entries : Type 0
 Entries = List (Resource × QueueState)
@@ -53,6 +53,10 @@ all_of entries = record { granted = locks_of (λ all. all.granted) entries; wait
 -- The resources on which one of these lives has a lock.
 abbrev pub changed : List Who → Entries → List Resource
 changed lives entries = map (λ entry. entry.0) (filter (λ entry. has_of lives entry.1) entries)
+
+-- The resources on which a lock waits.
+abbrev pub waited_on : Entries → List Resource
+waited_on entries = map (λ entry. entry.0) (filter (λ entry. some_waits entry.1) entries)
 
 -- ---- on which resource the lock of a cookie is
 

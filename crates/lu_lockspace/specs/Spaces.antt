@@ -1,6 +1,6 @@
 -- All locks of a target: the queue of each resource is what is granted and what waits on it (Wang et al., Understanding
 -- Lustre Filesystem Internals, the lock manager; the order of grants is this project's profile).
-use Rattle.std.specs.Prelude.{◌≡◌, ℕ, ◌+◌, ◌≤◌, ◌<◌, Bool, false, not, ◌&&◌, ◌||◌, ◌==◌, List, [], ◌∷◌, ◌++◌, Option, Some, map, filter, find, count_by, length, slice_index_or, slice_get, IsPermutation}
+use Rattle.std.specs.Prelude.{◌≡◌, ℕ, ◌+◌, ◌≤◌, ◌<◌, Bool, false, not, ◌&&◌, ◌||◌, ◌==◌, List, [], ◌∷◌, ◌++◌, Option, Some, map, filter, find, count_by, length, slice_index_or, slice_get, is_some, AllPairs, IsPermutation}
 use Rattle.std.specs.List.{list_any}
 use Rattle.lu_base.specs.declared.ids.Cookie.{Cookie}
 use Rattle.lu_base.specs.declared.ids.Who.{Who}
@@ -131,6 +131,20 @@ AreBlocking granted (lock ∷ waiting) told cookies =
 -- So it is of a queue.
 abbrev pub AreBlockers : QueueState → List Cookie → Type 0
 AreBlockers queue cookies = AreBlocking queue.granted queue.waiting [] cookies
+
+-- ---- where locks wait
+
+unfoldable pub some_waits : QueueState → Bool
+some_waits queue = is_some (slice_get queue.waiting 0)
+
+-- Fid comes first, then the stripe.
+abbrev pub IsLower : Resource → Resource → Type 0
+IsLower a b = (a.fid.0 ≤ b.fid.0) × ((a.fid.0 ≡ b.fid.0) → a.stripe < b.stripe)
+
+-- The resources on which a lock waits, each below all later ones.
+pub record AreWaitedOn (space : SpaceState) (resources : List Resource) : Type 0 where
+  pub rising : AllPairs IsLower resources
+  pub every : (resource : Resource) → list_any (same_resource resource) resources ≡ some_waits (queue_of resource space)
 
 -- ---- all locks of some lives
 

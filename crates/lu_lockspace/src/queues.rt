@@ -6,8 +6,8 @@ ghost use Rattle.std.specs.Option.{option_copied};
 ghost use Rattle.lu_lock.specs.Overlap.{IsOrdered};
 ghost use Rattle.lu_queue.specs.Queues.{empty, lock_under, is_in, placed, with_lock, may_restore, restored, same_who, IsTakenAway, IsQueue};
 ghost use Rattle.lu_lockspace.specs.Guarded.{guarded_on, guarded_on_all};
-ghost use Rattle.lu_lockspace.specs.Spaces.{meets_guard, AreBlockers};
-ghost use Rattle.lu_lockspace.specs.Entries.{entry_of, at, changed, cookies_that, AreRising, Keeps};
+ghost use Rattle.lu_lockspace.specs.Spaces.{meets_guard, some_waits, AreBlockers};
+ghost use Rattle.lu_lockspace.specs.Entries.{entry_of, at, changed, waited_on, cookies_that, AreRising, Keeps};
 
 use super::listing::{blocking_in, guarded, guards, of_life};
 use lu_base::{Ask, Cookie, Cookies, Memory, Resource, Who};
@@ -16,6 +16,14 @@ use lu_queue::{Grants, Placed, Queue, QueueError};
 use std::alloc::Global;
 use std::collections::BTreeMap;
 use std::marker::Model;
+
+/// Whether a lock of the queue waits.
+#[tactic(auto, unfolding(crate::specs::Spaces::some_waits))]
+fn waits(queue: &Queue) -> bool
+    ensures { result ≡ some_waits queue.now }
+{
+    queue.waiting(0).is_some()
+}
 
 /// The queues of the resources that have locks.
 #[derive(Debug, Drop)]
@@ -153,6 +161,20 @@ impl Queues {
             .filter(|entry| entry.1.has_of(lives))
             .map(|entry| *entry.0)
             .collect(alloc)?;
+        Ok(resources)
+    }
+
+    /// The resources on which a lock waits, in rising Fid and stripe.
+    pub(crate) fn waited_on(&self, alloc: Global) -> Result<Vec<Resource>, Memory>
+        ensures resources { IfOk result (λ resources. resources.items ≡ waited_on self.now) }
+        ensures rising { AreRising self.now }
+    {
+        let mut resources: Vec<Resource> = Vec::new(alloc);
+        for (resource, queue) in &self.entries {
+            if waits(queue) {
+                resources.push(*resource)?;
+            }
+        }
         Ok(resources)
     }
 

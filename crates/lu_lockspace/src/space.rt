@@ -6,12 +6,12 @@ ghost use Rattle.std.specs.Option.{option_map};
 ghost use Rattle.lu_lock.specs.Overlap.{IsOrdered};
 ghost use Rattle.lu_queue.specs.Queues.{lock_under, placed, with_lock, may_restore, restored, same_who, IsTakenAway};
 ghost use Rattle.lu_lockspace.specs.Entries.{IsPlaced};
-ghost use Rattle.lu_lockspace.specs.Spaces.{empty, is_in, has, lock_of, grant_of, queue_of, KeepsOthers, IsSpace, IsCancelled, AreCancelled, IsAt, AreCookiesOf, meets_guard, AreBlockers};
+ghost use Rattle.lu_lockspace.specs.Spaces.{empty, is_in, has, lock_of, grant_of, queue_of, KeepsOthers, IsSpace, IsCancelled, AreCancelled, IsAt, AreCookiesOf, meets_guard, AreBlockers, AreWaitedOn};
 
 use super::ending::{ended, replace_all};
 use super::listing::{lock_in, lock_on, sorted};
 use super::queues::Queues;
-use lu_base::{Ask, Cookie, Cookies, Lock, Memory, Resource, Who};
+use lu_base::{Ask, Cookie, Cookies, Lock, Memory, Resource, Resources, Who};
 use lu_part::Parts;
 use lu_queue::{Grants, Placed, Queue};
 use std::alloc::Global;
@@ -217,6 +217,15 @@ impl Lockspace {
     {
         let cookies = self.queues.blockers(alloc, resource)?;
         Ok(cookies)
+    }
+
+    /// The resources on which a lock waits, each once, in rising Fid and stripe.
+    pub fn waited_on(&self, alloc: Global) -> Result<Resources, Memory>
+        ensures resources { IfOk result (AreWaitedOn self.now) }
+        ensures lawful { IsSpace self.now }
+    {
+        let resources = self.queues.waited_on(alloc)?;
+        Ok(Resources::from(resources))
     }
 
     /// The resource of the lock of this cookie, and its queue; none where no lock has it.
