@@ -29,7 +29,7 @@ use Rattle.lu_target_rows.specs.Replies.{locks_on, asks_of, replies}
 use Rattle.lu_target_rows.specs.States.{Target, after, turn}
 use Rattle.lu_target_parts.specs.Locks.{ShowsLocks, AreEnqueued}
 use Rattle.lu_target_parts.proofs.LockLists.{not_above, Above, Rises, rises_from, rises_with, placed_among}
-use Rattle.lu_target_parts.proofs.Locks.{locks_same, enqueue_granted, turn-append}
+use Rattle.lu_target_parts.proofs.Locks.{locks_same, enqueue_granted, LeavesLocks, turn-append}
 
 -- a lock for reading, on bits
 abbrev pub IsReading : Lock → Type 0
@@ -214,28 +214,33 @@ greatest_again m n (l ∷ locks) high =
     let same : max m l.cookie.0 ≡ m = omega (arith, high, low) in
     ap (λ k. greatest_cookie k locks) same ∙ greatest_again m (max n l.cookie.0) locks high
 
--- the whole of an act
-pub admitted : (space after_it : SpaceState) (v : Target) (d : Deed) → ShowsLocks space v → AllByRecursion IsReading d.reply.locks → Numbered v.cookie d.reply.locks →
-    v.waiting ≡ [] → All (λ k. k.ask.mode ≡ PR) v.granted → AreEnqueued d.reply.locks space after_it → ShowsLocks after_it (turn v (row_acts d))
-admitted space after_it v d shows reading numbered quiet all steps =
-    subst (ShowsLocks after_it) (sym (turn-append w (grant_lines d locks) (replies d ∷ [])))
-    (locks_same after_it (turn v (grant_lines d locks)) (turn (turn w (grant_lines d locks)) (replies d ∷ [])) granted waiting cookie
-    (all_admitted d locks space after_it v shows reading numbered quiet all steps))
+-- ---- the act
+
+-- its line alone
+pub act_admitted : (space after_it : SpaceState) (v : Target) (d : Deed) → ShowsLocks space v → AllByRecursion IsReading d.reply.locks → Numbered v.cookie d.reply.locks →
+    v.waiting ≡ [] → All (λ k. k.ask.mode ≡ PR) v.granted → AreEnqueued d.reply.locks space after_it → ShowsLocks after_it (after v (Act d))
+act_admitted space after_it v d shows reading numbered quiet all steps =
+    locks_same after_it (turn v (grant_lines d d.reply.locks)) (after v (Act d)) (sym (lines_granted d d.reply.locks v)) (quiet ∙ sym (lines_waiting d d.reply.locks v quiet))
+    (sym (lines_cookie d d.reply.locks v)) (all_admitted d d.reply.locks space after_it v shows reading numbered quiet all steps)
+
+-- the lines of the grants change nothing any more
+pub act_lines : (v : Target) (d : Deed) → Rises v.granted → Numbered v.cookie d.reply.locks → v.waiting ≡ [] → LeavesLocks (after v (Act d)) (turn (after v (Act d)) (grant_lines d d.reply.locks))
+act_lines v d rises numbered quiet = (
+  lines_granted d locks (after v (Act d))
+      ∙ with_again locks (with_locks locks v.granted) (rises_all locks v.granted rises) (all_there v.cookie locks v.granted numbered),
+  lines_waiting d locks (after v (Act d)) quiet ∙ sym quiet,
+  lines_cookie d locks (after v (Act d)) ∙ greatest_again (greatest_cookie v.cookie locks) v.cookie locks (omega arith),
+)
   where
     locks : List Lock
     locks = d.reply.locks
 
-    w : Target
-    w = after v (Act d)
-
-    granted : (turn w (grant_lines d locks)).granted ≡ (turn v (grant_lines d locks)).granted
-    granted =
-        lines_granted d locks w
-        ∙ with_again locks (with_locks locks v.granted) (rises_all locks v.granted (rises_from v.granted shows.rising)) (all_there v.cookie locks v.granted numbered)
-        ∙ sym (lines_granted d locks v)
-
-    waiting : (turn w (grant_lines d locks)).waiting ≡ (turn v (grant_lines d locks)).waiting
-    waiting = lines_waiting d locks w quiet ∙ sym (lines_waiting d locks v quiet)
-
-    cookie : (turn w (grant_lines d locks)).cookie ≡ (turn v (grant_lines d locks)).cookie
-    cookie = lines_cookie d locks w ∙ greatest_again (greatest_cookie v.cookie locks) v.cookie locks (omega arith) ∙ sym (lines_cookie d locks v)
+-- the whole of it
+pub admitted : (space after_it : SpaceState) (v : Target) (d : Deed) → ShowsLocks space v → AllByRecursion IsReading d.reply.locks → Numbered v.cookie d.reply.locks →
+    v.waiting ≡ [] → All (λ k. k.ask.mode ≡ PR) v.granted → AreEnqueued d.reply.locks space after_it → ShowsLocks after_it (turn v (row_acts d))
+admitted space after_it v d shows reading numbered quiet all steps =
+    let w : Target = after v (Act d) in
+    let lines = act_lines v d (rises_from v.granted shows.rising) numbered quiet in
+    subst (ShowsLocks after_it) (sym (turn-append w (grant_lines d d.reply.locks) (replies d ∷ [])))
+    (locks_same after_it w (turn (turn w (grant_lines d d.reply.locks)) (replies d ∷ [])) lines.0 lines.1 lines.2
+    (act_admitted space after_it v d shows reading numbered quiet all steps))

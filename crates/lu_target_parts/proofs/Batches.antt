@@ -22,7 +22,7 @@ use Rattle.lu_target_rows.specs.Lives.{is_life, life_before, no_slot, slot_in, s
 use Rattle.lu_target_rows.specs.Stored.{transaction_of, batch_of}
 use Rattle.lu_target_rows.specs.States.{Target, after}
 use Rattle.lu_target_rows.specs.Leaving.{last_of, commits, is_over}
-use Rattle.lu_target_parts.specs.Journals.{logged_of, TakenBy, slot_shown, AreShown, IsWithout, IsSettled, ShowsBoot, AreHeld, ShowsJournal, AreRising}
+use Rattle.lu_target_parts.specs.Journals.{logged_of, TakenBy, slot_shown, AreShown, IsWithout, IsSettled, ShowsBoot, AreHeld, AreLate, ShowsJournal, AreRising}
 use Rattle.lu_target_parts.specs.Batches.{left_by, joined_by, AreOnce, AreAmong, AreApart}
 use Rattle.lu_target_parts.proofs.Slots.{slot_without}
 use Rattle.lu_target_parts.proofs.Rising.{Rises}
@@ -156,6 +156,7 @@ pub boot_moved : (j : JournalState) (v : Target) (to : ℕ) (ds : List Deed) (go
     → ShowsBoot (after_commit to (joined_as come (left_as gone j))) (after v (Commit to (batch_of ds gone come)))
 boot_moved j v to ds gone come shows rises = record {
   boot = shows.boot;
+  begun = shows.begun;
   number = shows.number;
   lives = ap (λ lives. with_lives come (without_lives gone lives)) shows.lives ∙ ap (with_lives come) (sym (lives_gone_all gone j.slots rises)) ∙ sym (lives_with_all come (slots_gone gone j.slots));
   over = λ who. any_with_lives (is_over who) gone v.removed ∙ ap (λ rest. list_any (is_over who) gone || rest) (shows.over who)
@@ -200,6 +201,14 @@ pub held_front : (lives : List Who) (ds rest : List Deed) → AreHeld lives (ds 
 held_front lives [] rest held = tt
 held_front lives (d ∷ ds) rest held = (held.0, held_front lives ds rest held.1)
 
+pub late_front : (ds rest : List Deed) → AreLate (ds ++ rest) → AreLate ds
+late_front [] rest late = tt
+late_front (d ∷ ds) rest late = (late.0, late_front ds rest late.1)
+
+late_rest : (ds rest : List Deed) → AreLate (ds ++ rest) → AreLate rest
+late_rest [] rest late = late
+late_rest (d ∷ ds) rest late = late_rest ds rest late.1
+
 pub held_more : (come lives : List Who) (ds : List Deed) → AreHeld lives ds → AreHeld (with_lives come lives) ds
 held_more come lives [] held = tt
 held_more come lives (d ∷ ds) held = (any_with_lives (same_life d.reply.who) come lives ∙ rw held.0 (or_true (is_life d.reply.who come)), held_more come lives ds held.1) where
@@ -226,4 +235,5 @@ committed taken new_taken j v ds rest gone come shows sound log staying once amo
       log = ap (above (last_of ds v.committed)) shows.log ∙ above_log (last_of ds v.committed) v.log;
       slots = slots_moved taken new_taken j.slots v.slots gone come shows.slots without rises;
       held = subst (AreHeld (with_lives come (without_lives gone v.lives))) (sym rest_is) (held_more come (without_lives gone v.lives) rest staying);
+      late = subst AreLate (sym rest_is) (late_rest ds rest (subst AreLate log shows.late));
     })

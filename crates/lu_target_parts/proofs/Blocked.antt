@@ -12,7 +12,7 @@ use Rattle.lu_base.specs.declared.locks.Lock.{Lock}
 use Rattle.lu_base.specs.declared.locks.Resource.{Resource}
 use Rattle.lu_lock.specs.Conflict.{conflict}
 use Rattle.lu_queue.specs.declared.locks.Grant.{Grant as Granted}
-use Rattle.lu_queue.specs.Queues.{IsRising}
+use Rattle.lu_queue.specs.Queues.{QueueState, IsRising}
 use Rattle.lu_lockspace.specs.Spaces.{SpaceState, same_resource, grant_of, queue_of, is_told, blocking_more, AreBlocking, AreBlockers}
 use Rattle.lu_lockspace.proofs.Resources.{same_is}
 use Rattle.lu_words.specs.Carried.{Called}
@@ -20,7 +20,7 @@ use Rattle.lu_words.specs.Words.{Block}
 use Rattle.lu_target_rows.specs.Replies.{locks_on, is_called, called, block_of, blocks}
 use Rattle.lu_target_rows.specs.Queues.{conflicting, blocks_go}
 use Rattle.lu_target_rows.specs.States.{Target, after, turn}
-use Rattle.lu_target_parts.specs.Locks.{grants_of, ShowsLocks, found_or, named}
+use Rattle.lu_target_parts.specs.Locks.{grants_of, ShowsLocks, ShowsQueue, found_or, named}
 use Rattle.lu_target_parts.proofs.LockLists.{Rises, rises_from, rises_filter}
 use Rattle.lu_target_parts.proofs.LockOrders.{IsPermutation-filter}
 use Rattle.lu_target_parts.proofs.Granting.{IsOn, all_on}
@@ -276,12 +276,12 @@ go r v granted (l ∷ waiting) told cookies w moved rises on goes (first, rest, 
         (λ i. sym (ap (λ cs. named cs v.granted) is ∙ named_same (opposed_new l.ask told locks) v.granted each) i ++ named rest v.granted)
         ∙ sym (named-append first rest v.granted) ∙ ap (λ cs. named cs v.granted) (sym all)
 
--- the locks of the cookies that the lockspace tells are called back, but for those that are already
-pub blocked : (space : SpaceState) (v : Target) (r : Resource) (cookies : List Cookie) → ShowsLocks space v → AreBlockers (queue_of r space) cookies →
+-- the locks of the cookies that the queue of a resource tells are called back, but for those that are already
+pub blocked_on : (r : Resource) (one : QueueState) (v : Target) (cookies : List Cookie) → ShowsQueue r one v → Rises v.granted → AreBlockers one cookies →
     blocks_go (locks_on r v.waiting) v ≡ blocks v (named cookies v.granted)
-blocked space v r cookies shows are =
-    go r v (queue_of r space).granted (locks_on r v.waiting) [] cookies v (shows.queues r).granted (rises_from v.granted shows.rising) (all_on r v.waiting) start
-    (subst (λ waiting. AreBlocking (queue_of r space).granted waiting [] cookies) (shows.queues r).waiting are)
+blocked_on r one v cookies shows rises are =
+    go r v one.granted (locks_on r v.waiting) [] cookies v shows.granted rises (all_on r v.waiting) start
+    (subst (λ waiting. AreBlocking one.granted waiting [] cookies) shows.waiting are)
   where
     or_nothing : (b : Bool) → b ≡ (b || false)
     or_nothing true = refl
@@ -289,3 +289,8 @@ blocked space v r cookies shows are =
 
     start : Goes v v []
     start = record { granted = refl; ticks = refl; boot = refl; calls = λ c. or_nothing (is_called c v.called) }
+
+-- those that the lockspace tells
+pub blocked : (space : SpaceState) (v : Target) (r : Resource) (cookies : List Cookie) → ShowsLocks space v → AreBlockers (queue_of r space) cookies →
+    blocks_go (locks_on r v.waiting) v ≡ blocks v (named cookies v.granted)
+blocked space v r cookies shows are = blocked_on r (queue_of r space) v cookies (shows.queues r) (rises_from v.granted shows.rising) are

@@ -171,7 +171,7 @@ blocks_go_more v (k ∷ waiting) l =
 
 -- ---- grants: the locks that were there stay
 
-more_locks : (asked : List Asked) (cs : List Called) (gs : List Glimpse) (old new : List Lock) → ((test : Lock → Bool) → list_any test old ≡ true → list_any test new ≡ true)
+pub more_locks : (asked : List Asked) (cs : List Called) (gs : List Glimpse) (old new : List Lock) → ((test : Lock → Bool) → list_any test old ≡ true → list_any test new ≡ true)
     → Shows asked cs gs old → Shows asked cs gs new
 more_locks asked cs gs old new stay shows =
     record {

@@ -33,6 +33,7 @@ use Rattle.lu_target_parts.proofs.Rising.{AllAfter, Rises, none_after, after_bes
 use Rattle.lu_target_parts.proofs.LifeLists.{any_append, any_with_lives, or_turned, or_twice, life_without, has_slot, one_lives, rises_from, rises_with_lives, rises_without, lives_with_all, lives_gone_all}
 use Rattle.lu_target_parts.proofs.Moving.{append_none, append_one, left_as, joined_as}
 use Rattle.lu_target_parts.proofs.Replies.{kept_order, rises_replies, reply_in, key, reply_found, newer, replies_for}
+use Rattle.lu_target_parts.proofs.RisingNumbers.{late_rising}
 use Rattle.lu_target_parts.proofs.Batches.{rising_from, transactions_of, above_log, cut_rest, batch_is, moved_is, slots_moved, held_more}
 use Rattle.lu_target_parts.proofs.Loads.{last_same, stored_committed, of_replies, below_front, given_below, stores}
 
@@ -172,7 +173,7 @@ closing_settled j v ds shows =
     let beside : IsBeside j (all_appended ds j) = appended_beside ds j in
     record { stored = beside.stored ∙ shows.settled.stored; added = beside.added ∙ shows.settled.added; dropped = beside.dropped ∙ shows.settled.dropped }
 
-closing_lives : (j : JournalState) (v : Target) (ds : List Deed) → ShowsWindow j v → v.lives ≡ lives_of (all_appended ds j).slots
+pub closing_lives : (j : JournalState) (v : Target) (ds : List Deed) → ShowsWindow j v → v.lives ≡ lives_of (all_appended ds j).slots
 closing_lives j v ds shows = shows.booted.lives ∙ sym (appended_lives ds j)
 
 pub closing_committed : (j : JournalState) (v : Target) (ds : List Deed) → ShowsWindow j v → v.committed ≡ (all_appended ds j).committed
@@ -234,6 +235,7 @@ closed_boot batches j v ds s disk shows sound_before sound closing =
     last_early j.newest (first_of j.boot) ds (newest_early j.boot j.newest shows.none_yet) (subst (λ boot. All (λ (d : Deed). d.reply.txn.0 ≤ first_of boot) ds) shows.booted.boot closing.earlier) in
     record {
       boot = shows.booted.boot ∙ sym beside.boot;
+      begun = subst (λ n. 0 < n) (sym beside.boot) shows.booted.begun;
       number = closed_number j.boot j.newest (all_appended ds j).boot (all_appended ds j).newest v.number beside.boot shows.booted.number shows.none_yet
           (subst (λ n. n ≤ first_of j.boot) (sym (appended_newest ds j)) early);
       lives =
@@ -288,6 +290,7 @@ closes taken batches j v ds s untaken disk shows sound_before sound closing =
       log = none_left;
       slots = closed_slots taken j v ds (gone_of s.gone) s.joins untaken shows sound_before sound closing.held;
       held = tt;
+      late = tt;
     })
 
 -- and the disk what its batches tell
@@ -301,7 +304,7 @@ close_stores batches j v ds s disk shows sound_before sound closing =
     (subst (All (λ logged. number logged ≤ (all_appended ds j).newest)) (closing_log j v ds shows) sound.given) in
     let alone : ShowsDisk (batches ++ batch_of ds (gone_of s.gone) s.joins ∷ []) (after v (commit_of (outcome_by v ds s))) =
     stores batches v (outcome_by v ds s).disk.committed (batch_of ds (gone_of s.gone) s.joins) disk
-    (close_committed batches j v ds s disk shows sound ∙ last_same v.committed ds) (omega arith) (closing_rises j v ds shows sound)
+    (close_committed batches j v ds s disk shows sound ∙ last_same v.committed ds) (omega arith) (late_rising v.committed ds (closing_rises j v ds shows sound) closing.late)
     (below_front ((v.boot + 1) * 2 ^ 32) ds [] (subst (λ all. All (λ logged. number logged < (v.boot + 1) * 2 ^ 32) (map logged_of all)) (sym (append_none ds)) below))
     (of_replies (with_lives s.joins v.lives) ds [] tt (held_more s.joins v.lives ds closing.held) (subst (All (λ logged. logged.transaction.tag < 8)) (closing_log j v ds shows) sound.tagged)) in
     record {

@@ -17,7 +17,7 @@ use Rattle.lu_target_rows.specs.Windows.{Replayed, Window, with_wish, is_back, i
 use Rattle.lu_target_rows.specs.States.{Target}
 use Rattle.lu_target_rows.specs.Leaving.{is_due, condemned, life_of}
 use Rattle.lu_target_rows.specs.Outcomes.{window_of, deed_again, deeds_again}
-use Rattle.lu_target_parts.specs.Journals.{AreHeld}
+use Rattle.lu_target_parts.specs.Journals.{AreHeld, AreLate}
 use Rattle.lu_target_parts.specs.Batches.{AreOnce, AreAmong, AreApart, AreReplaysOf, IsClosing}
 use Rattle.lu_target_parts.proofs.Slots.{never, one_life, same_self}
 use Rattle.lu_target_parts.proofs.Rising.{IsOrder, AllAfter, Rises, put, rises_put}
@@ -228,12 +228,16 @@ again_held : (v : Target) (at : At) (c : Contents) (lives : List Who) (most : �
 again_held v at c lives most [] all = tt
 again_held v at c lives most (r ∷ replays) all = (all.0.0, again_held v at (done v.setting.osts c (transaction_of (deed_again v at c r))) lives most replays all.1)
 
+again_late : (v : Target) (at : At) (c : Contents) (lives : List Who) (most : ℕ) (replays : List Replayed) → AreReplaysOf lives most replays → AreLate (deeds_again v at c replays)
+again_late v at c lives most [] all = tt
+again_late v at c lives most (r ∷ replays) all = (all.0.1, again_late v at (done v.setting.osts c (transaction_of (deed_again v at c r))) lives most replays all.1)
+
 again_early : (v : Target) (at : At) (c : Contents) (lives : List Who) (most : ℕ) (replays : List Replayed) → AreReplaysOf lives most replays
     → All (λ (d : Deed). d.reply.txn.0 ≤ most) (deeds_again v at c replays)
 again_early v at c lives most [] all = λ k d within. absurd (omega arith)
 again_early v at c lives most (r ∷ replays) all =
     All-cons (λ (d : Deed). d.reply.txn.0 ≤ most) (deed_again v at c r) (deeds_again v at (done v.setting.osts c (transaction_of (deed_again v at c r))) replays)
-    all.0.1 (again_early v at (done v.setting.osts c (transaction_of (deed_again v at c r))) lives most replays all.1)
+    all.0.2 (again_early v at (done v.setting.osts c (transaction_of (deed_again v at c r))) lives most replays all.1)
 
 -- ---- all that a close of the target's window decides is as the journal wants it
 
@@ -244,6 +248,7 @@ closing v at lives wishes replays =
     replays_some v.lives (first_of v.boot) (λ r. has_number r.number (kept_numbers (window_of v))) v.replays replays in
     record {
       earlier = again_early v at v.disk.contents v.lives (first_of v.boot) (kept_of (kept_numbers (window_of v)) v.replays) some;
+      late = again_late v at v.disk.contents v.lives (first_of v.boot) (kept_of (kept_numbers (window_of v)) v.replays) some;
       held = again_held v at v.disk.contents v.lives (first_of v.boot) (kept_of (kept_numbers (window_of v)) v.replays) some;
       once = once_rising (gone_of (gone_from (window_of v) (kept_numbers (window_of v)) v.lives)) (gone_rise (window_of v) (kept_numbers (window_of v)) v.lives lives);
       among = gone_among (window_of v) (kept_numbers (window_of v)) v.lives;

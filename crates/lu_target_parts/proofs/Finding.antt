@@ -47,7 +47,7 @@ same_bools false true f g = g refl
 same_bools false false f g = refl
 
 -- on one resource, as in its queue
-any_grants : (test : Lock → Bool) (r : Resource) (locks : List Lock) → list_any (λ g. test (lock_on r g)) (grants_of (locks_on r locks)) ≡ list_any test (locks_on r locks)
+pub any_grants : (test : Lock → Bool) (r : Resource) (locks : List Lock) → list_any (λ g. test (lock_on r g)) (grants_of (locks_on r locks)) ≡ list_any test (locks_on r locks)
 any_grants test r [] = refl
 any_grants test r (l ∷ locks) = by (same_resource l.resource r) refl (any_grants test r locks) where
   by : (v : Bool) → same_resource l.resource r ≡ v → list_any (λ g. test (lock_on r g)) (grants_of (locks_on r locks)) ≡ list_any test (locks_on r locks) →
@@ -59,7 +59,7 @@ any_grants test r (l ∷ locks) = by (same_resource l.resource r) refl (any_gran
       λ i. here i || rest i
   by false e rest = rest
 
-any_some : (test : Lock → Bool) (r : Resource) (locks : List Lock) → list_any test (locks_on r locks) ≡ true → list_any test locks ≡ true
+pub any_some : (test : Lock → Bool) (r : Resource) (locks : List Lock) → list_any test (locks_on r locks) ≡ true → list_any test locks ≡ true
 any_some test r [] some = some
 any_some test r (l ∷ locks) some = by (same_resource l.resource r) (test l) some (any_some test r locks) where
   by : (v w : Bool) → list_any test (cond v (l ∷ locks_on r locks) (locks_on r locks)) ≡ true → (list_any test (locks_on r locks) ≡ true → list_any test locks ≡ true) → (test l || list_any test locks) ≡ true
@@ -69,7 +69,7 @@ any_some test r (l ∷ locks) some = by (same_resource l.resource r) (test l) so
     inner true g = refl
     inner false g = rest g
 
-any_where : (P : Type 0) (test : Lock → Bool) (locks : List Lock) → list_any test locks ≡ true → ((r : Resource) → list_any test (locks_on r locks) ≡ true → P) → P
+pub any_where : (P : Type 0) (test : Lock → Bool) (locks : List Lock) → list_any test locks ≡ true → ((r : Resource) → list_any test (locks_on r locks) ≡ true → P) → P
 any_where P test [] some goal = absurd (cc)
 any_where P test (l ∷ locks) some goal = by (test l) refl some (any_where P test locks) where
   more : (r : Resource) (v : Bool) → list_any test (locks_on r locks) ≡ true → list_any test (cond v (l ∷ locks_on r locks) (locks_on r locks)) ≡ true

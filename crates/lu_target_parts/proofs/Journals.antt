@@ -20,12 +20,13 @@ use Rattle.lu_txn.specs.Journals.{JournalState, count, appended, IsSeen}
 use Rattle.lu_txn.proofs.SlotLaws.{lives-with_reply}
 use Rattle.lu_words.specs.Carried.{Deed}
 use Rattle.lu_words.specs.Words.{Act, Txn, Grant, Wait, Enters, Answers}
+use Rattle.lu_target_rows.specs.Phase.{first_of}
 use Rattle.lu_target_rows.specs.Lives.{is_life, slots_answered}
 use Rattle.lu_target_rows.specs.States.{Target, after}
 use Rattle.lu_target_rows.specs.Leaving.{is_over}
 use Rattle.lu_target_rows.specs.Replies.{seen_in, next_number, row_kept}
 use Rattle.lu_target_rows.specs.Requests.{row_enters, by_number, by_slot, row_request}
-use Rattle.lu_target_parts.specs.Journals.{logged_of, Taken, TakenBy, slot_shown, AreShown, IsEntered, IsAnswered, IsSettled, AreHeld, ShowsBoot, ShowsJournal}
+use Rattle.lu_target_parts.specs.Journals.{logged_of, Taken, TakenBy, slot_shown, AreShown, IsEntered, IsAnswered, IsSettled, AreHeld, AreLate, ShowsBoot, ShowsJournal}
 use Rattle.lu_target_parts.proofs.Slots.{never, shown_answered, shown_entered}
 use Rattle.lu_target_parts.proofs.LifeLists.{has_slot}
 
@@ -69,6 +70,7 @@ kept_boot : (j : JournalState) (v w : Target) (who : Who) (tag : ℕ) (reply : R
     → w.committed ≡ v.committed → ShowsBoot j v → ShowsBoot (record j { slots = with_reply who tag reply j.slots }) w
 kept_boot j v w who tag reply boot number lives removed committed shows = record {
   boot = boot ∙ shows.boot;
+  begun = shows.begun;
   number = number ∙ shows.number;
   lives = lives ∙ shows.lives ∙ sym (lives-with_reply who tag reply j.slots);
   over = λ other. ap (list_any (is_over other)) removed ∙ shows.over other;
@@ -87,6 +89,7 @@ kept_as taken new_taken j new v w d boot number lives removed committed log slot
   log = ap (λ (it : JournalState). it.transactions) stored ∙ shows.log ∙ ap (map logged_of) (sym log);
   slots = subst (AreShown new_taken new.slots) (sym slots) (shown_answered taken new_taken j.slots new.slots v.slots d some answers replies shows.slots);
   held = subst (AreHeld w.lives) (sym log) (subst (λ held. AreHeld held v.log) (sym lives) shows.held);
+  late = subst AreLate (sym log) shows.late;
 }
 
 pub acts : (taken new_taken : TakenBy) (j new : JournalState) (v : Target) (d : Deed)
@@ -119,6 +122,10 @@ held_push : (lives : List Who) (log : List Deed) (d : Deed) → AreHeld lives lo
 held_push lives [] d held e = (e, tt)
 held_push lives (x ∷ log) d held e = (held.0, held_push lives log d held.1 e)
 
+late_push : (log : List Deed) (d : Deed) → AreLate log → 1 < d.reply.txn.0 → AreLate (log ++ d ∷ [])
+late_push [] d late e = (e, tt)
+late_push (x ∷ log) d late e = (late.0, late_push log d late.1 e)
+
 map_push : (log : List Deed) (d : Deed) → map logged_of (log ++ d ∷ []) ≡ map logged_of log ++ logged_of d ∷ []
 map_push [] d = refl
 map_push (e ∷ log) d = ap (λ more. logged_of e ∷ more) (map_push log d)
@@ -127,11 +134,15 @@ appended_boot : (j : JournalState) (v : Target) (d : Deed) → d.reply.txn.0 ≡
     → ShowsBoot (appended d.reply.txn d.reply.who d.tag d.op d.writes d.reply j) (after v (Txn d))
 appended_boot j v d next shows = record {
   boot = shows.boot;
+  begun = shows.begun;
   number = omega (arith, shows.number, next);
   lives = shows.lives ∙ sym (lives-with_reply d.reply.who d.tag d.reply j.slots);
   over = shows.over;
   committed = shows.committed;
 }
+
+above_one : (number boot given next : ℕ) → 0 < boot → number ≡ first_of boot + given → next ≡ number + 1 → 1 < next
+above_one number boot given next begun is is_next = omega (arith, begun, is, is_next)
 
 pub transacts : (taken new_taken : TakenBy) (j new : JournalState) (v : Target) (d : Deed)
     → d.reply.txn ≡ next_number v
@@ -145,6 +156,7 @@ transacts taken new_taken j new v d next some answers added replies slot shows =
   log = ap (λ (it : JournalState). it.transactions) added ∙ ap (λ log. log ++ logged_of d ∷ []) shows.log ∙ sym (map_push v.log d);
   slots = shown_answered taken new_taken j.slots new.slots v.slots d some answers replies shows.slots;
   held = held_push v.lives v.log d shows.held (ap (is_life d.reply.who) shows.booted.lives ∙ sym (has_slot d.reply.who j.slots) ∙ slot);
+  late = late_push v.log d shows.late (above_one v.number j.boot (count j) d.reply.txn.0 shows.booted.begun shows.booted.number (ap (λ (n : TxnOf). n.0) next));
 }
 
 -- ---- a request is taken: the journal is as it was
@@ -153,11 +165,12 @@ pub enters : (taken new_taken : TakenBy) (j : JournalState) (v : Target) (r : Re
     → IsEntered r.who r.tag r.xid.0 taken new_taken
     → ShowsJournal taken j v → ShowsJournal new_taken j (after v (Enters r))
 enters taken new_taken j v r told shows = record {
-  booted = record { boot = shows.booted.boot; number = shows.booted.number; lives = shows.booted.lives; over = shows.booted.over; committed = shows.booted.committed };
+  booted = record { boot = shows.booted.boot; begun = shows.booted.begun; number = shows.booted.number; lives = shows.booted.lives; over = shows.booted.over; committed = shows.booted.committed };
   settled = shows.settled;
   log = shows.log;
   slots = shown_entered taken new_taken j.slots v.slots r.who r.tag r.xid.0 told shows.slots;
   held = shows.held;
+  late = shows.late;
 }
 
 -- ---- a request comes: what is done by what was taken, and by what `look` says where nothing was

@@ -5,6 +5,7 @@ pub mod Rising
 pub mod LifeLists
 pub mod Replies
 pub mod Moving
+pub mod RisingNumbers
 pub mod Batches
 pub mod Loads
 pub mod Closes

@@ -26,13 +26,14 @@ use Rattle.lu_target_rows.specs.Stored.{transaction_of, last_number, stored, bat
 use Rattle.lu_target_rows.specs.States.{Setting, Target, lives_from, empty_disk, first_batch, started, after}
 use Rattle.lu_target_rows.specs.Leaving.{last_of, commits, is_over}
 use Rattle.lu_target_rows.specs.Disks.{boot_batch, loaded_on}
-use Rattle.lu_target_parts.specs.Journals.{logged_of, TakenBy, slot_shown, AreShown, IsUntaken, IsWithout, ShowsBoot, ShowsWindow, AreHeld, ShowsJournal, AreRising, AllRising, AreOf, AllOf, ShowsDisk}
+use Rattle.lu_target_parts.specs.Journals.{logged_of, TakenBy, slot_shown, AreShown, IsUntaken, IsWithout, ShowsBoot, ShowsWindow, AreHeld, AreLate, ShowsJournal, AreRising, AllRising, last_in, AreOf, AllOf, ShowsDisk}
 use Rattle.lu_target_parts.proofs.Slots.{slot_put}
 use Rattle.lu_target_parts.proofs.Rising.{AllAfter, Rises}
 use Rattle.lu_target_parts.proofs.LifeLists.{any_append, any_with_lives, or_turned, life_without, has_slot, one_lives, rises_from, rises_with_lives, rises_without, without_none, lives_with_all, lives_gone_all}
 use Rattle.lu_target_parts.proofs.Moving.{reply_with_all}
 use Rattle.lu_target_parts.proofs.Replies.{kept_of}
-use Rattle.lu_target_parts.proofs.Batches.{log_rising, rising_front, held_front, held_more, slots_moved}
+use Rattle.lu_target_parts.proofs.RisingNumbers.{rising_below, late_rising, all_rising_below, last_in_max, rising_push}
+use Rattle.lu_target_parts.proofs.Batches.{log_rising, rising_front, late_front, held_front, held_more, slots_moved}
 
 -- ---- numbers
 
@@ -53,10 +54,6 @@ all_new n m (t ∷ ts) below rises =
 
 pub stored_committed : (osts : ℕ) (disk : Disk) (batch : Batch) → AreRising disk.committed batch.transactions → (stored osts batch disk).committed ≡ last_number batch.transactions disk.committed
 stored_committed osts disk batch rises = ap (λ ts. last_number ts disk.committed) (all_new disk.committed disk.committed batch.transactions (omega arith) rises)
-
-abbrev last_in : ℕ → List Batch → ℕ
-last_in n [] = n
-last_in n (batch ∷ batches) = last_in (last_number batch.transactions n) batches
 
 loaded_committed : (osts : ℕ) (disk : Disk) (batches : List Batch) → AllRising disk.committed batches → (loaded_on osts disk batches).committed ≡ last_in disk.committed batches
 loaded_committed osts disk [] rises = refl
@@ -79,10 +76,6 @@ loaded_push : (osts : ℕ) (disk : Disk) (batches : List Batch) (batch : Batch) 
 loaded_push osts disk [] batch = refl
 loaded_push osts disk (b ∷ batches) batch = loaded_push osts (stored osts b disk) batches batch
 
-rising_push : (n : ℕ) (batches : List Batch) (batch : Batch) → AllRising n batches → AreRising (last_in n batches) batch.transactions → AllRising n (batches ++ batch ∷ [])
-rising_push n [] batch rises new = (new, tt)
-rising_push n (b ∷ batches) batch rises new = (rises.0, rising_push (last_number b.transactions n) batches batch rises.1 new)
-
 of_push : (lives : List Who) (batches : List Batch) (batch : Batch) → AllOf lives batches → AreOf (with_lives batch.added (lives_in lives batches)) batch.replies → AllOf lives (batches ++ batch ∷ [])
 of_push lives [] batch all new = (new, tt)
 of_push lives (b ∷ batches) batch all new = (all.0, of_push (with_lives b.added (without_lives b.removed lives)) batches batch all.1 new)
@@ -90,22 +83,26 @@ of_push lives (b ∷ batches) batch all new = (all.0, of_push (with_lives b.adde
 abbrev Below : ℕ → Batch → Type 0
 Below boot batch = All (λ t. t.txn.0 < boot * 2 ^ 32) batch.transactions
 
-shown_last : (batches : List Batch) (v : Target) → ShowsDisk batches v → last_in 0 batches ≡ v.committed
-shown_last batches v shows = sym (loaded_committed v.setting.osts empty_disk batches shows.rising) ∙ ap (λ (disk : Disk). disk.committed) (sym shows.disk) ∙ shows.committed
+shown_last : (batches : List Batch) (v : Target) → ShowsDisk batches v → last_in 1 batches ≡ max 1 v.committed
+shown_last batches v shows =
+    last_in_max 1 0 batches shows.rising
+    ∙ ap (max 1) (sym (loaded_committed v.setting.osts empty_disk batches (all_rising_below 0 1 batches (omega arith) shows.rising)))
+    ∙ ap (λ (disk : Disk). max 1 disk.committed) (sym shows.disk)
+    ∙ ap (max 1) shows.committed
 
 shown_lives : (batches : List Batch) (v : Target) → ShowsDisk batches v → lives_in [] batches ≡ v.lives
 shown_lives batches v shows = sym (loaded_lives v.setting.osts empty_disk batches) ∙ ap (λ (disk : Disk). disk.lives) (sym shows.disk) ∙ shows.lives
 
 pub stores : (batches : List Batch) (v : Target) (to : ℕ) (batch : Batch) → ShowsDisk batches v → to ≡ last_number batch.transactions v.committed → batch.boot ≤ v.boot
-    → AreRising v.committed batch.transactions → All (λ t. t.txn.0 < (v.boot + 1) * 2 ^ 32) batch.transactions → AreOf (with_lives batch.added v.lives) batch.replies
+    → AreRising (max 1 v.committed) batch.transactions → All (λ t. t.txn.0 < (v.boot + 1) * 2 ^ 32) batch.transactions → AreOf (with_lives batch.added v.lives) batch.replies
     → ShowsDisk (batches ++ batch ∷ []) (after v (Commit to batch))
 stores batches v to batch shows last boot rises below replies = record {
   disk = ap (stored v.setting.osts batch) shows.disk ∙ sym (loaded_push v.setting.osts empty_disk batches batch);
   boot = greatest v.disk.boot batch.boot v.boot shows.boot boot;
-  committed = stored_committed v.setting.osts v.disk batch (subst (λ n. AreRising n batch.transactions) (sym shows.committed) rises) ∙ ap (last_number batch.transactions) shows.committed ∙ sym last;
+  committed = stored_committed v.setting.osts v.disk batch (subst (λ n. AreRising n batch.transactions) (sym shows.committed) (rising_below v.committed (max 1 v.committed) batch.transactions (omega arith) rises)) ∙ ap (last_number batch.transactions) shows.committed ∙ sym last;
   lives = ap (λ lives. with_lives batch.added (without_lives batch.removed lives)) shows.lives;
   over = λ who. any_with_lives (is_over who) batch.removed v.disk.removed ∙ ap (λ rest. list_any (is_over who) batch.removed || rest) (shows.over who) ∙ sym (any_with_lives (is_over who) batch.removed v.removed);
-  rising = rising_push 0 batches batch shows.rising (subst (λ n. AreRising n batch.transactions) (sym (shown_last batches v shows)) rises);
+  rising = rising_push 1 batches batch shows.rising (subst (λ n. AreRising n batch.transactions) (sym (shown_last batches v shows)) rises);
   below = All-push (Below (v.boot + 1)) batches batch shows.below below;
   replies = of_push [] batches batch shows.replies (subst (λ lives. AreOf (with_lives batch.added lives) batch.replies) (sym (shown_lives batches v shows)) replies);
 } where
@@ -145,7 +142,8 @@ commit_stores taken j v ds rest gone come batches shows sound log disk =
     let given : All (λ logged. number logged < (v.boot + 1) * 2 ^ 32) j.transactions =
     given_below j.newest ((v.boot + 1) * 2 ^ 32) j.transactions (subst (λ boot. j.newest < (boot + 1) * 2 ^ 32) (sym shows.booted.boot) sound.newest) sound.given in
     stores batches v (last_of ds v.committed) (batch_of ds gone come) disk (last_same v.committed ds) (omega arith)
-    (rising_front v.committed ds rest (subst (λ log. AreRising v.committed (map transaction_of log)) log (log_rising taken j v shows sound)))
+    (late_rising v.committed ds (rising_front v.committed ds rest (subst (λ log. AreRising v.committed (map transaction_of log)) log (log_rising taken j v shows sound)))
+    (late_front ds rest (subst AreLate log shows.late)))
     (below_front ((v.boot + 1) * 2 ^ 32) ds rest (subst (All (λ logged. number logged < (v.boot + 1) * 2 ^ 32)) all given))
     (of_replies (with_lives come v.lives) ds [] tt (held_more come v.lives ds (held_front v.lives ds rest (subst (AreHeld v.lives) log shows.held)))
     (tags_front ds rest (subst (All (λ logged. logged.transaction.tag < 8)) all sound.tagged)))
@@ -249,7 +247,7 @@ told_all osts (batch ∷ batches) disk s told rises all =
 pub told : (batches : List Batch) (v : Target) → ShowsDisk batches v → IsTold v.disk (stored_by batches)
 told batches v shows =
     subst (λ disk. IsTold disk (stored_by batches)) (sym shows.disk)
-    (told_all v.setting.osts batches empty_disk nothing (record { committed = refl; lives = refl; over = λ who. refl; slots = λ who tag. refl; tidy = tidy-nothing }) shows.rising shows.replies)
+    (told_all v.setting.osts batches empty_disk nothing (record { committed = refl; lives = refl; over = λ who. refl; slots = λ who tag. refl; tidy = tidy-nothing }) (all_rising_below 0 1 batches (omega arith) shows.rising) shows.replies)
 
 -- ---- a boot
 
@@ -276,6 +274,7 @@ boots batches v shows =
     let told_here : IsTold v.disk (stored_by batches) = told batches v shows in
     record {
       boot = refl;
+      begun = omega arith;
       number = omega (arith, boot_last batches v shows);
       lives = told_here.lives;
       over = told_here.over;
@@ -294,6 +293,7 @@ boot_committed batches v shows =
     record {
       booted = record {
         boot = refl;
+        begun = omega arith;
         number = omega (arith, boot_last batches v shows);
         lives = told_here.lives;
         over = told_here.over;
@@ -332,7 +332,7 @@ boot_stores batches v shows = record {
   committed = refl;
   lives = refl;
   over = λ who. refl;
-  rising = rising_push 0 batches (boot_batch (v.disk.boot + 1)) shows.rising tt;
+  rising = rising_push 1 batches (boot_batch (v.disk.boot + 1)) shows.rising tt;
   below = All-push (Below (v.disk.boot + 1 + 1)) batches (boot_batch (v.disk.boot + 1)) (below_more (v.disk.boot + 1) batches (boot_below batches v shows)) (λ k d within. absurd (omega arith));
   replies = of_push [] batches (boot_batch (v.disk.boot + 1)) shows.replies tt;
 }
@@ -366,11 +366,12 @@ first_batch_is clients = ap (λ (lives : List Who). record { boot = 1; transacti
 
 pub starts : (taken : TakenBy) (setting : Setting) (clients : ℕ) → IsUntaken taken → ShowsJournal taken (after_commit 0 (fresh (lives_from 0 clients))) (started setting clients)
 starts taken setting clients untaken = record {
-  booted = record { boot = refl; number = omega arith; lives = sym (fresh_lives clients); over = λ who. refl; committed = refl };
+  booted = record { boot = refl; begun = omega arith; number = omega arith; lives = sym (fresh_lives clients); over = λ who. refl; committed = refl };
   settled = record { stored = refl; added = refl; dropped = refl };
   log = refl;
   slots = λ w t. sym (ap (λ found. slot_shown found (reply_at w t (slots_with (lives_from 0 clients) []))) (untaken w t) ∙ ap (slot_shown None) (reply_with_all w t (lives_from 0 clients) [] tt));
   held = tt;
+  late = tt;
 }
 
 pub start_stores : (setting : Setting) (clients : ℕ) → ShowsDisk (first_batch clients ∷ []) (started setting clients)

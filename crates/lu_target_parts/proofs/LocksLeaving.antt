@@ -46,7 +46,7 @@ granted_in-append [] ys = refl
 granted_in-append (Grant l None ∷ xs) ys = ap (λ gs. grant_of l ∷ gs) (granted_in-append xs ys)
 granted_in-append (_ ∷ xs) ys = granted_in-append xs ys
 
-granted_told : (r : Resource) (v : Target) (grants : List Granted) → granted_in (grants_told r v grants) ≡ grants
+pub granted_told : (r : Resource) (v : Target) (grants : List Granted) → granted_in (grants_told r v grants) ≡ grants
 granted_told r v [] = refl
 granted_told r v (g ∷ grants) = ap (λ gs. g ∷ gs) (granted_told r v grants)
 
@@ -95,7 +95,7 @@ queue_step r queues next u grants shows steps others = (said, shown) where
       (shows_same next w (turn w (blocks_go (locks_on r w.waiting) w)) left.0 left.1 left.2 (subst (λ xs. Shows next (turn u xs)) (sym walked.0) walked.1))
 
 -- where all have to wait nothing is granted
-nothing_granted : (before after_it : QueueState) (grants : List Granted) → AllWait before.granted before.waiting → AreGranted before grants after_it → (grants ≡ []) × (after_it ≡ before)
+pub nothing_granted : (before after_it : QueueState) (grants : List Granted) → AllWait before.granted before.waiting → AreGranted before grants after_it → (grants ≡ []) × (after_it ≡ before)
 nothing_granted before after_it [] stuck (same, all) = (refl, same)
 nothing_granted before after_it (g ∷ grants) stuck (mid, step, rest) = absurd (none_granted before g mid (stuck_from before.granted [] before.waiting stuck) step)
 
@@ -148,26 +148,26 @@ none_all lives [] before after_it none (same, all) = subst (NoneIn lives) (sym s
 none_all lives (g ∷ grants) before after_it none (mid, step, rest) = none_all lives grants mid after_it (none_granted_of lives before g mid none step) rest
 
 -- so once a resource was gone through, taking the lives away changes nothing there
-settled_same : (lives : List Who) (grants : List Granted) (before after_it : QueueState) → AreGranted (without_lives lives before) grants after_it → without_lives lives after_it ≡ after_it
+pub settled_same : (lives : List Who) (grants : List Granted) (before after_it : QueueState) → AreGranted (without_lives lives before) grants after_it → without_lives lives after_it ≡ after_it
 settled_same lives grants before after_it steps =
     let none = none_all lives grants (without_lives lives before) after_it (filtered_none lives before.granted, filtered_none lives before.waiting) steps in
     λ i. record { granted = all_stay lives after_it.granted none.0 i; waiting = all_stay lives after_it.waiting none.1 i }
 
 -- and each lock that waits there has to
-settled_stuck : (grants : List Granted) (before after_it : QueueState) → AreGranted before grants after_it → AllWait after_it.granted after_it.waiting
+pub settled_stuck : (grants : List Granted) (before after_it : QueueState) → AreGranted before grants after_it → AllWait after_it.granted after_it.waiting
 settled_stuck [] before after_it (same, all) = subst (λ q. AllWait q.granted q.waiting) (sym same) all
 settled_stuck (g ∷ grants) before after_it (mid, step, rest) = settled_stuck grants mid after_it rest
 
 -- ---- the order of resources
 
-abbrev listed : Resource → List Resource → Bool
+abbrev pub listed : Resource → List Resource → Bool
 listed r rs = list_any (same_resource r) rs
 
 -- each comes before the next, and so before all later ones
-abbrev Later : Resource → List Resource → Type 0
+abbrev pub Later : Resource → List Resource → Type 0
 Later r rs = AllByRecursion (λ s. is_before r s ≡ true) rs
 
-abbrev Ordered : List Resource → Type 0
+abbrev pub Ordered : List Resource → Type 0
 Ordered [] = ⊤
 Ordered (r ∷ rs) = Later r rs × Ordered rs
 
@@ -180,7 +180,7 @@ Falls [] = ⊤
 Falls (r ∷ rs) = NotBelow r rs × Falls rs
 
 -- one is before another, or not above it
-abbrev IsLower : Resource → Resource → Type 0
+abbrev pub IsLower : Resource → Resource → Type 0
 IsLower a b = (a.fid.0 < b.fid.0) ⊎ ((a.fid.0 ≡ b.fid.0) × (a.stripe < b.stripe))
 
 abbrev NotHigher : Resource → Resource → Type 0
@@ -202,7 +202,7 @@ not_higher a b h = by (nat_lt b.fid.0 a.fid.0) refl (b.fid.0 == a.fid.0) refl (n
   by false p true q false r g = inr (grind (arith, nat_tests, q), grind (arith, nat_tests, r))
   by false p false q w r g = inl (grind (arith, nat_tests, p, q))
 
-before_from : (a b : Resource) → IsLower a b → is_before a b ≡ true
+pub before_from : (a b : Resource) → IsLower a b → is_before a b ≡ true
 before_from a b (inl less) = let p : nat_lt a.fid.0 b.fid.0 ≡ true = grind (arith, nat_tests, less) in λ i. p i || (a.fid.0 == b.fid.0 && nat_lt a.stripe b.stripe)
 before_from a b (inr both) =
     let same = both.0 in
@@ -224,7 +224,7 @@ not_before_from a b (inr both) =
     let r : nat_lt b.stripe a.stripe ≡ false = grind (arith, nat_tests, low) in
     λ i. p i || (q i && r i)
 
-before_trans : (a b c : Resource) → is_before a b ≡ true → is_before b c ≡ true → is_before a c ≡ true
+pub before_trans : (a b c : Resource) → is_before a b ≡ true → is_before b c ≡ true → is_before a c ≡ true
 before_trans a b c x y = before_from a c (by (is_lower a b x) (is_lower b c y)) where
   by : IsLower a b → IsLower b c → IsLower a c
   by (inl p) (inl q) = inl (omega (arith, p, q))
@@ -240,7 +240,7 @@ before_not_below a b c x y = before_from a c (by (is_lower a b x) (not_higher b 
   by (inr p) (inl q) = let same = p.0 in inl (omega (arith, same, q))
   by (inr p) (inr q) = let s = p.0 in let t = q.0 in let m = p.1 in let n = q.1 in inr (s ∙ t, omega (arith, m, n))
 
-before_differs : (a b : Resource) → is_before a b ≡ true → same_resource a b ≡ false
+pub before_differs : (a b : Resource) → is_before a b ≡ true → same_resource a b ≡ false
 before_differs a b x = by (is_lower a b x) where
   by : IsLower a b → same_resource a b ≡ false
   by (inl p) = let q : (a.fid.0 == b.fid.0) ≡ false = grind (arith, nat_tests, p) in λ i. q i && (a.stripe == b.stripe)
@@ -251,7 +251,7 @@ before_differs a b x = by (is_lower a b x) where
       let r : (a.stripe == b.stripe) ≡ false = grind (arith, nat_tests, less) in
       λ i. q i && r i
 
-neither_same : (a b : Resource) → is_before a b ≡ false → is_before b a ≡ false → same_resource a b ≡ true
+pub neither_same : (a b : Resource) → is_before a b ≡ false → is_before b a ≡ false → same_resource a b ≡ true
 neither_same a b x y = by (not_higher b a x) (not_higher a b y) where
   by : NotHigher b a → NotHigher a b → same_resource a b ≡ true
   by (inl p) (inl q) = absurd (omega (arith, p, q))
@@ -298,7 +298,7 @@ falls_from (r ∷ rs) rising = by rs (falls_from rs tail) rising where
       let low = not_below_from r s (whole 0 r (omega arith)) in
       ((low, not_below_all r s more low falls.0), falls)
 
-later_all : (a b : Resource) (rs : List Resource) → is_before a b ≡ true → Later b rs → Later a rs
+pub later_all : (a b : Resource) (rs : List Resource) → is_before a b ≡ true → Later b rs → Later a rs
 later_all a b [] x all = tt
 later_all a b (r ∷ rs) x all = (before_trans a b r x all.0, later_all a b rs x all.1)
 
@@ -334,7 +334,7 @@ resources_ordered [] = tt
 resources_ordered (l ∷ locks) = with_ordered l.resource (resources_of locks) (resources_ordered locks)
 
 -- a resource that isn't there has no lock
-listed_with : (r s : Resource) (rs : List Resource) → listed r (with_resource s rs) ≡ false → (same_resource r s ≡ false) × (listed r rs ≡ false)
+pub listed_with : (r s : Resource) (rs : List Resource) → listed r (with_resource s rs) ≡ false → (same_resource r s ≡ false) × (listed r rs ≡ false)
 listed_with r s [] h = or_false (same_resource r s) false h
 listed_with r s (x ∷ rs) h = by (same_resource s x) refl (is_before s x) h (listed_with r s rs) where
   by : (same : Bool) → same_resource s x ≡ same → (less : Bool) → listed r (if same then x ∷ rs else (if less then s ∷ x ∷ rs else x ∷ with_resource s rs)) ≡ false →
@@ -348,7 +348,7 @@ listed_with r s (x ∷ rs) h = by (same_resource s x) refl (is_before s x) h (li
       let more = rest parts.1 in
       (more.0, rw parts.0 more.1)
 
-none_waits : (r : Resource) (locks : List Lock) → listed r (resources_of locks) ≡ false → locks_on r locks ≡ []
+pub none_waits : (r : Resource) (locks : List Lock) → listed r (resources_of locks) ≡ false → locks_on r locks ≡ []
 none_waits r [] h = refl
 none_waits r (l ∷ locks) h =
     let parts = listed_with r l.resource (resources_of locks) h in
@@ -356,7 +356,7 @@ none_waits r (l ∷ locks) h =
     ap (λ b. cond b (l ∷ locks_on r locks) (locks_on r locks)) differ ∙ none_waits r locks parts.1
 
 -- what comes before all of them isn't one of them
-not_listed_later : (r : Resource) (rs : List Resource) → Later r rs → listed r rs ≡ false
+pub not_listed_later : (r : Resource) (rs : List Resource) → Later r rs → listed r rs ≡ false
 not_listed_later r [] all = refl
 not_listed_later r (s ∷ rs) all = rw (before_differs r s all.0) (not_listed_later r rs all.1)
 
@@ -368,28 +368,28 @@ not_listed_below r s (t ∷ rs) x all =
 -- ---- the lockspace and the rows go through their resources
 
 -- A resource that the lockspace doesn't come to any more has no lock of the lives, and what waits there has to.
-abbrev Settled : List Who → SpaceState → List Resource → Type 0
+abbrev pub Settled : List Who → SpaceState → List Resource → Type 0
 Settled lives space rs =
     (r : Resource) → listed r rs ≡ false →
     (without_lives lives (queue_of r space) ≡ queue_of r space) × AllWait (queue_of r space).granted (queue_of r space).waiting
 
 -- Where the rows don't come any more nothing is to be granted.
-abbrev Quiet : List Who → SpaceState → List Resource → Type 0
+abbrev pub Quiet : List Who → SpaceState → List Resource → Type 0
 Quiet lives space rs =
     (r : Resource) → listed r rs ≡ false →
     AllWait (without_lives lives (queue_of r space)).granted (without_lives lives (queue_of r space)).waiting
 
-abbrev Left : List Who → SpaceState → Queues
+abbrev pub Left : List Who → SpaceState → Queues
 Left lives space r = without_lives lives (queue_of r space)
 
 -- after one resource of the lockspace
-left_here : (lives : List Who) (r : Resource) (space next : SpaceState) (grants : List Granted) → AreGranted (Left lives space r) grants (queue_of r next) → Left lives next r ≡ queue_of r next
+pub left_here : (lives : List Who) (r : Resource) (space next : SpaceState) (grants : List Granted) → AreGranted (Left lives space r) grants (queue_of r next) → Left lives next r ≡ queue_of r next
 left_here lives r space next grants steps = settled_same lives grants (queue_of r space) (queue_of r next) steps
 
-left_keeps : (lives : List Who) (r : Resource) (space next : SpaceState) → KeepsOthers r space next → KeepsQueues r (Left lives space) (Left lives next)
+pub left_keeps : (lives : List Who) (r : Resource) (space next : SpaceState) → KeepsOthers r space next → KeepsQueues r (Left lives space) (Left lives next)
 left_keeps lives r space next keeps = λ s differ. ap (without_lives lives) (keeps s differ)
 
-settled_next : (lives : List Who) (r : Resource) (rs : List Resource) (space next : SpaceState) (grants : List Granted) → Settled lives space (r ∷ rs) →
+pub settled_next : (lives : List Who) (r : Resource) (rs : List Resource) (space next : SpaceState) (grants : List Granted) → Settled lives space (r ∷ rs) →
     AreGranted (Left lives space r) grants (queue_of r next) → KeepsOthers r space next → Settled lives next rs
 settled_next lives r rs space next grants settled steps keeps = λ s apart. by s apart (same_resource r s) refl where
   by : (s : Resource) → listed s rs ≡ false → (b : Bool) → same_resource r s ≡ b →
@@ -544,7 +544,7 @@ queues_gone lives space after_it u grants lawful lawful2 shows cancelled =
 -- ---- the commit that takes their slots, and the lines of the evictions
 
 -- a lock of a life that left is nowhere
-gone_cookies : (lives : List Who) (v : Target) → ((c : ℕ) → times c v.granted ≤ 1) →
+pub gone_cookies : (lives : List Who) (v : Target) → ((c : ℕ) → times c v.granted ≤ 1) →
     All (λ l. is_life l.ask.who lives ≡ true → has l.cookie.0 (locks_without lives v.granted) ≡ false) v.granted
 gone_cookies lives v once = gone v.granted once where
   gone : (locks : List Lock) → ((c : ℕ) → times c locks ≤ 1) → All (λ l. is_life l.ask.who lives ≡ true → has l.cookie.0 (locks_without lives locks) ≡ false) locks
@@ -596,7 +596,7 @@ away_of lives who (l ∷ locks) left own away =
     by false e rest = rest
 
 -- one of these lives
-abbrev AreOf : List Who → List Who → Type 0
+abbrev pub AreOf : List Who → List Who → Type 0
 AreOf lives gone = AllByRecursion (λ who. is_life who lives ≡ true) gone
 
 same_lives : (a b : Who) → same_life a b ≡ true → a ≡ b
@@ -639,7 +639,7 @@ leaves_evictions at cause lives granted (who ∷ gone) u of away =
         subst (LeavesLocks v) (sym (turn-append w es (all_released at locks x)))
         (left_twice v x (turn y (all_released at locks x)) here_v (released_from x y locks both later))
 
-lives_own : (lives : List Who) → AreOf lives lives
+pub lives_own : (lives : List Who) → AreOf lives lives
 lives_own lives = within lives lives (λ who there. there) where
   itself : (who : Who) → same_life who who ≡ true
   itself who = grind (arith, nat_tests)

@@ -14,7 +14,7 @@ use Rattle.lu_target_rows.specs.Disks.{loaded_on}
 use Rattle.lu_txn.specs.Loads.{AreBelow}
 use Rattle.lu_txn.specs.Journals.{JournalState}
 use Rattle.lu_msg.specs.declared.commits.Batch.{Batch}
-use Rattle.lu_target_parts.specs.Journals.{TakenBy, logged_of, AreHeld, ShowsBoot, ShowsWindow, ShowsJournal, ShowsDisk}
+use Rattle.lu_target_parts.specs.Journals.{TakenBy, logged_of, AreHeld, AreLate, ShowsBoot, ShowsWindow, ShowsJournal, ShowsDisk}
 use Rattle.lu_target_parts.specs.Unread.{is_read, is_unread, all_unread, AreTheSame}
 use Rattle.lu_target_parts.proofs.Slots.{never}
 
@@ -130,6 +130,7 @@ same_turn v (e ∷ es) h =
 pub boot_stays : (j : JournalState) (v w : Target) → AreTheSame v w → ShowsBoot j v → ShowsBoot j w
 boot_stays j v w same shows = record {
   boot = same.boot ∙ shows.boot;
+  begun = shows.begun;
   number = same.number ∙ shows.number;
   lives = same.lives ∙ shows.lives;
   over = λ other. ap (list_any (is_over other)) same.removed ∙ shows.over other;
@@ -152,6 +153,7 @@ journal_stays taken j v w same shows = record {
   log = shows.log ∙ ap (map logged_of) (sym same.log);
   slots = λ other t. ap (λ slots. slot_in slots other t) same.slots ∙ shows.slots other t;
   held = subst (AreHeld w.lives) (sym same.log) (subst (λ lives. AreHeld lives v.log) (sym same.lives) shows.held);
+  late = subst AreLate (sym same.log) shows.late;
 }
 
 pub disk_stays : (batches : List Batch) (v w : Target) → AreTheSame v w → ShowsDisk batches v → ShowsDisk batches w

@@ -1,6 +1,6 @@
 -- Lives that leave and lives that come, as a target has its journal drop and add their slots one after another, and what is
 -- known of such lists of lives; and kept replays that are added to a loaded journal.
-use Rattle.std.specs.Prelude.{◌≡◌, ℕ, ◌≤◌, if◌then◌else◌, true, false, ⊤, List, [], ◌∷◌, All}
+use Rattle.std.specs.Prelude.{◌≡◌, ℕ, ◌<◌, ◌≤◌, if◌then◌else◌, true, false, ⊤, List, [], ◌∷◌, All}
 use Rattle.std.specs.List.{fold}
 use Rattle.std.specs.Option.{is_some}
 use Rattle.lu_base.specs.declared.ids.Who.{Who}
@@ -11,7 +11,7 @@ use Rattle.lu_target_rows.specs.Phase.{first_of}
 use Rattle.lu_target_rows.specs.Lives.{is_life, without_lives}
 use Rattle.lu_target_rows.specs.Windows.{Replayed}
 use Rattle.lu_target_rows.specs.States.{Target}
-use Rattle.lu_target_parts.specs.Journals.{AreHeld}
+use Rattle.lu_target_parts.specs.Journals.{AreHeld, AreLate}
 
 -- ---- slots
 
@@ -47,10 +47,10 @@ AreApart lives (who ∷ more) = (is_life who lives ≡ false) × AreApart lives 
 
 -- ---- kept replays
 
--- each is of one of these lives, and its number is at most this one
+-- each is of one of these lives, and its number is above 1 and at most this one
 abbrev pub AreReplaysOf : List Who → ℕ → List Replayed → Type 0
 AreReplaysOf lives most [] = ⊤
-AreReplaysOf lives most (r ∷ replays) = ((is_life r.who lives ≡ true) × (r.number ≤ most)) × AreReplaysOf lives most replays
+AreReplaysOf lives most (r ∷ replays) = ((is_life r.who lives ≡ true) × (1 < r.number) × (r.number ≤ most)) × AreReplaysOf lives most replays
 
 -- the journal with these transactions too
 abbrev pub appended_one : JournalState → Deed → JournalState
@@ -61,10 +61,11 @@ all_appended deeds j = fold appended_one j deeds
 
 -- ---- a close
 
--- what the code of a close knows: the kept replays' numbers are of earlier boots, and their lives have slots; the lives that
+-- what the code of a close knows: the kept replays' numbers are of earlier boots, and above 1; their lives have slots; the lives that
 -- leave are some of those that have slots, each once, and those that come are others
 pub record IsClosing (v : Target) (ds : List Deed) (gone come : List Who) : Type 0 where
   pub earlier : All (λ (d : Deed). d.reply.txn.0 ≤ first_of v.boot) ds
+  pub late : AreLate ds
   pub held : AreHeld v.lives ds
   pub once : AreOnce gone
   pub among : AreAmong v.lives gone

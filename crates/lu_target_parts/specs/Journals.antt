@@ -75,8 +75,10 @@ IsUntaken taken = (who : Who) (tag : ℕ) → taken who tag ≡ None
 
 -- ---- the journal in every phase
 
+-- boots are counted from 1
 pub record ShowsBoot (j : JournalState) (v : Target) : Type 0 where
   pub boot : v.boot ≡ j.boot
+  pub begun : 0 < j.boot
   pub number : v.number ≡ first_of j.boot + count j
   pub lives : v.lives ≡ lives_of j.slots
   pub over : (who : Who) → list_any (is_over who) v.removed ≡ list_any (journal.is_over who) j.removed
@@ -104,12 +106,18 @@ abbrev pub AreHeld : List Who → List Deed → Type 0
 AreHeld lives [] = ⊤
 AreHeld lives (d ∷ deeds) = (is_life d.reply.who lives ≡ true) × AreHeld lives deeds
 
+-- The numbers of these transactions are above 1, which a new service of names has used: no boot has a number so low.
+abbrev pub AreLate : List Deed → Type 0
+AreLate [] = ⊤
+AreLate (d ∷ deeds) = (1 < d.reply.txn.0) × AreLate deeds
+
 pub record ShowsJournal (taken : TakenBy) (j : JournalState) (v : Target) : Type 0 where
   pub booted : ShowsBoot j v
   pub settled : IsSettled j
   pub log : j.transactions ≡ map logged_of v.log
   pub slots : AreShown taken j.slots v.slots
   pub held : AreHeld v.lives v.log
+  pub late : AreLate v.log
 
 -- ---- the disk
 
@@ -122,6 +130,11 @@ abbrev pub AllRising : ℕ → List Batch → Type 0
 AllRising n [] = ⊤
 AllRising n (batch ∷ batches) = AreRising n batch.transactions × AllRising (last_number batch.transactions n) batches
 
+-- the number of the last transaction of these batches, or the one before them
+abbrev pub last_in : ℕ → List Batch → ℕ
+last_in n [] = n
+last_in n (batch ∷ batches) = last_in (last_number batch.transactions n) batches
+
 -- the replies are of tags that there are, and of lives that have slots
 abbrev pub AreOf : List Who → List KeptReply → Type 0
 AreOf lives [] = ⊤
@@ -132,14 +145,14 @@ AllOf lives [] = ⊤
 AllOf lives (batch ∷ batches) =
     AreOf (with_lives batch.added lives) batch.replies × AllOf (with_lives batch.added (without_lives batch.removed lives)) batches
 
--- what stands on the disk is what its batches tell: their transactions rise and are of no later boot, and their replies
--- are of lives that have slots
+-- what stands on the disk is what its batches tell: their transactions rise, from above 1, which a new service of names has
+-- used, and are of no later boot; and their replies are of lives that have slots
 pub record ShowsDisk (batches : List Batch) (v : Target) : Type 0 where
   pub disk : v.disk ≡ loaded_on v.setting.osts empty_disk batches
   pub boot : v.disk.boot ≡ v.boot
   pub committed : v.disk.committed ≡ v.committed
   pub lives : v.disk.lives ≡ v.lives
   pub over : (who : Who) → list_any (is_over who) v.disk.removed ≡ list_any (is_over who) v.removed
-  pub rising : AllRising 0 batches
+  pub rising : AllRising 1 batches
   pub below : AreBelow (v.boot + 1) batches
   pub replies : AllOf [] batches
