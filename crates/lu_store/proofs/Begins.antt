@@ -1,5 +1,5 @@
 -- What a store shows at the start of a run, and at a boot over its disk.
-use Rattle.std.proofs.Common.{◌≡◌, ℕ, ◌+◌, ◌≤◌, max, List, [], ◌∷◌, ◌++◌, refl, sym, ap, subst, ◌∙◌, arith}
+use Rattle.std.proofs.Common.{◌≡◌, ℕ, ◌+◌, max, List, [], ◌∷◌, ◌++◌, refl, sym, ap, subst, ◌∙◌, arith}
 use Rattle.std.specs.List.{fold}
 use Rattle.lu_base.specs.declared.ids.Who.{Who}
 use Rattle.lu_msg.specs.declared.commits.Batch.{Batch}
@@ -15,7 +15,7 @@ use Rattle.lu_target_parts.specs.Journals.{IsUntaken, ShowsJournal, ShowsDisk, S
 use Rattle.lu_target_parts.proofs.Loads as parts
 use Rattle.lu_store.specs.Taken.{Entries, taken_of}
 use Rattle.lu_store.specs.Commits.{last_boot}
-use Rattle.lu_store.specs.Stores.{StoreState, Serves, Recovers}
+use Rattle.lu_store.specs.Stores.{Serves, Recovers}
 
 pub begun : (setting : Setting) (clients : ℕ) (first : List Who) (j new_j : JournalState) (taken : Entries) (old batches : List Batch) (n : ℕ)
     → first ≡ lives_from 0 clients → j ≡ fresh first → new_j ≡ after_commit 0 j → old ≡ [] → batches ≡ old ++ batch_of 0 j ∷ [] → IsUntaken (taken_of taken)
@@ -58,4 +58,12 @@ booted old batches v boot to j new_j taken n shows is_boot untaken sound is_load
       disk = subst (λ it. ShowsDisk it (after v (Boot (v.disk.boot + 1) v.disk))) (sym disk) (parts.boot_stores old v shows);
       untaken = untaken;
       sound = sound;
+      newest = ap (λ (it : JournalState). it.newest) now ∙ sym (ap (λ (it : JournalState). it.committed) now);
     }
+
+-- what goes to the disk is the boot
+pub boot_stored : (old batches : List Batch) (boot to : ℕ) (j : JournalState) → boot ≡ last_boot old + 1 → j ≡ loaded old boot → to ≡ j.committed → batches ≡ old ++ batch_of to j ∷ []
+    → batches ≡ old ++ boot_batch (last_boot old + 1) ∷ []
+boot_stored old batches boot to j is_boot is_loaded is_to is_batches =
+    is_batches ∙ ap (λ it. old ++ batch_of it j ∷ []) is_to ∙ ap (λ (it : JournalState). old ++ batch_of it.committed it ∷ []) is_loaded
+    ∙ ap (λ (batch : Batch). old ++ batch ∷ []) (parts.boot_batch_is old boot) ∙ ap (λ n. old ++ boot_batch n ∷ []) is_boot

@@ -1,6 +1,6 @@
 -- The close of the recovery window: kept transactions are the journal's again, one after another, and go to the disk with the
 -- lives that leave and come.
-use Rattle.std.proofs.Common.{◌≡◌, ℕ, ◌==◌, ◌&&◌, Bool, true, false, List, [], ◌∷◌, ◌++◌, Option, Some, None, refl, sym, ap, subst, ◌∙◌}
+use Rattle.std.proofs.Common.{◌≡◌, ℕ, Bool, true, false, List, [], ◌∷◌, ◌++◌, Option, None, refl, sym, ap, subst, ◌∙◌}
 use Rattle.std.specs.Prelude.{if◌then◌else◌}
 use Rattle.std.proofs.lemmas.List.Sums.{fold-append}
 use Rattle.lu_base.specs.declared.ids.Who.{Who}
@@ -10,12 +10,13 @@ use Rattle.lu_words.specs.Words.{Close}
 use Rattle.lu_txn.specs.Journals.{JournalState, IsSound}
 use Rattle.lu_txn.specs.Commits.{batch_of, after_commit}
 use Rattle.lu_target_rows.specs.Lives.{is_life, lives_of as gone_of}
+use Rattle.lu_target_rows.specs.Stored.{batch_of as rows_batch}
 use Rattle.lu_target_rows.specs.Windows.{Settled}
 use Rattle.lu_target_rows.specs.States.{Target, turn}
 use Rattle.lu_target_rows.specs.Leaving.{last_of}
 use Rattle.lu_target_rows.specs.Outcomes.{outcome_by}
 use Rattle.lu_target_rows.specs.Recovery.{commit_of}
-use Rattle.lu_target_parts.specs.Journals.{Taken, IsUntaken, IsWithout, ShowsJournal, ShowsWindow, ShowsDisk}
+use Rattle.lu_target_parts.specs.Journals.{Taken, IsUntaken, IsWithout, ShowsJournal, ShowsDisk}
 use Rattle.lu_target_parts.specs.Batches.{left_by, joined_by, appended_one, all_appended, IsClosing}
 use Rattle.lu_target_parts.proofs.Closes as parts
 use Rattle.lu_store.specs.Taken.{Entries, taken_of}
@@ -43,6 +44,14 @@ untaken_still taken new gone untaken without who tag = without who tag ∙ by (i
   by : (v : Bool) (found : Option Taken) → found ≡ None → (if v then None else found) ≡ None
   by true found e = refl
   by false found e = e
+
+pub closed_is : (taken : Entries) (j : JournalState) (batches : List Batch) (n : ℕ) (v : Target) (deeds : List Deed) (gone come : List Who) (to : ℕ)
+    → Redoes deeds (record { journal = j; taken = taken; batches = batches; faults = n }) v → IsSound j → IsClosing v deeds gone come → to ≡ last_of deeds v.committed
+    → batch_of to (joined_by come (left_by gone j)) ≡ rows_batch deeds gone come
+closed_is taken j batches n v deeds gone come to shows sound closing is_to =
+    ap (λ number. batch_of number (joined_by come (left_by gone j))) is_to
+    ∙ ap (λ it. batch_of (last_of deeds v.committed) (joined_by come (left_by gone it))) shows.journal
+    ∙ parts.close_batch shows.before v deeds gone come shows.window (subst IsSound shows.journal sound) closing
 
 pub closed_shows : (taken new_taken : Entries) (j new_j : JournalState) (batches new_batches : List Batch) (n m : ℕ) (v : Target) (deeds : List Deed) (s : Settled) (gone come : List Who) (to : ℕ)
     → Redoes deeds (record { journal = j; taken = taken; batches = batches; faults = n }) v → IsSound j → IsWithout gone (taken_of taken) (taken_of new_taken)

@@ -4,3 +4,5 @@ pub mod Lasts
 pub mod Moves
 pub mod Begins
 pub mod Closing
+pub mod Keeping
+pub mod Listed

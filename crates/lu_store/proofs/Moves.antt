@@ -1,5 +1,5 @@
 -- What goes to the disk, and what a store shows once it is there.
-use Rattle.std.proofs.Common.{◌≡◌, ◌≢◌, ℕ, zero, suc, ◌+◌, ◌≤◌, Bool, true, false, cond, List, [], ◌∷◌, ◌++◌, Option, Some, None, length, map, min, take, drop, refl, sym, ap, subst, ◌∙◌, arith}
+use Rattle.std.proofs.Common.{◌≡◌, ◌≢◌, ℕ, zero, suc, ◌≤◌, Bool, true, false, List, [], ◌∷◌, ◌++◌, Option, Some, None, length, map, min, take, drop, refl, sym, ap, subst, ◌∙◌, arith}
 use Rattle.std.specs.Option.{is_some}
 use Rattle.std.specs.Prelude.{if◌then◌else◌}
 use Rattle.lu_base.specs.declared.ids.Who.{Who}
@@ -9,6 +9,7 @@ use Rattle.lu_txn.specs.Slots.{slot_of}
 use Rattle.lu_txn.specs.Journals.{JournalState, IsSound, with_slot, without_slot}
 use Rattle.lu_txn.specs.Commits.{batch_of, after_commit}
 use Rattle.lu_target_rows.specs.Lives.{without_lives}
+use Rattle.lu_target_rows.specs.Stored.{batch_of as rows_batch}
 use Rattle.lu_target_rows.specs.States.{Target, after}
 use Rattle.lu_target_rows.specs.Leaving.{commits, last_of}
 use Rattle.lu_target_rows.specs.Rows.{first_deeds}
@@ -17,7 +18,7 @@ use Rattle.lu_target_parts.specs.Batches.{dropped, added, left_by, joined_by, Ar
 use Rattle.lu_target_parts.proofs.Batches as parts
 use Rattle.lu_target_parts.proofs.Loads.{commit_stores}
 use Rattle.lu_store.specs.Taken.{Entries, taken_of}
-use Rattle.lu_store.specs.Stores.{StoreState, Serves}
+use Rattle.lu_store.specs.Stores.{Serves}
 use Rattle.lu_store.specs.Commits.{counted, last_in}
 
 -- ---- slots that come and go leave the numbers
@@ -46,6 +47,20 @@ joined_keeps (who ∷ come) j =
     by : (there : Bool) → Numbers j (if there then j else with_slot who j)
     by true = (refl, refl)
     by false = (refl, refl)
+
+pub left_boot : (gone : List Who) (j : JournalState) → (left_by gone j).boot ≡ j.boot
+left_boot [] j = refl
+left_boot (who ∷ gone) j = left_boot gone (dropped j who) ∙ by (is_some (slot_of who j.slots)) where
+  by : (there : Bool) → (if there then without_slot who j else j).boot ≡ j.boot
+  by true = refl
+  by false = refl
+
+pub joined_boot : (come : List Who) (j : JournalState) → (joined_by come j).boot ≡ j.boot
+joined_boot [] j = refl
+joined_boot (who ∷ come) j = joined_boot come (added j who) ∙ by (is_some (slot_of who j.slots)) where
+  by : (there : Bool) → (if there then j else with_slot who j).boot ≡ j.boot
+  by true = refl
+  by false = refl
 
 -- ---- the first transactions
 
@@ -99,7 +114,15 @@ pub some_first : (k : ℕ) (log : List Deed) → suc k ≤ length log → take (
 some_first k [] le e = omega (arith, le)
 some_first k (d ∷ log) le e = cc
 
--- ---- once the batch is on the disk
+-- ---- the batch
+
+pub stored_is : (taken : Entries) (j : JournalState) (v : Target) (ds rest : List Deed) (gone come : List Who) (to : ℕ)
+    → ShowsJournal (taken_of taken) j v → IsSound j → v.log ≡ ds ++ rest → AreOnce gone → AreAmong v.lives gone → AreOnce come → AreApart (without_lives gone v.lives) come
+    → to ≡ last_of ds v.committed → batch_of to (joined_by come (left_by gone j)) ≡ rows_batch ds gone come
+stored_is taken j v ds rest gone come to shows sound log once among new apart is_to =
+    ap (λ it. batch_of it (joined_by come (left_by gone j))) is_to ∙ parts.batches (taken_of taken) j v ds rest gone come shows sound log once among new apart
+
+-- ---- once it is on the disk
 
 pub stored_shows : (taken new_taken : Entries) (j new_j : JournalState) (batches new_batches : List Batch) (n m : ℕ) (v : Target) (ds rest : List Deed) (gone come : List Who) (to : ℕ)
     → Serves (record { journal = j; taken = taken; batches = batches; faults = n }) v → IsSound j → v.log ≡ ds ++ rest → AreHeld (without_lives gone v.lives) rest
@@ -109,8 +132,8 @@ pub stored_shows : (taken new_taken : Entries) (j new_j : JournalState) (batches
 stored_shows taken new_taken j new_j batches new_batches n m v ds rest gone come to s sound log held once among new apart without is_to is_new is_batches =
     let moved = joined_by come (left_by gone j) in
     let now : new_j ≡ after_commit (last_of ds v.committed) moved = is_new ∙ ap (λ it. after_commit it moved) is_to in
-    let disk : new_batches ≡ batches ++ _ ∷ [] =
-    is_batches ∙ ap (λ batch. batches ++ batch ∷ []) (ap (λ it. batch_of it moved) is_to ∙ parts.batches (taken_of taken) j v ds rest gone come s.journal sound log once among new apart) in
+    let disk : new_batches ≡ batches ++ rows_batch ds gone come ∷ [] =
+    is_batches ∙ ap (λ batch. batches ++ batch ∷ []) (stored_is taken j v ds rest gone come to s.journal sound log once among new apart is_to) in
     record {
       journal = subst (λ it. ShowsJournal (taken_of new_taken) it (after v (commits v ds gone come))) (sym now)
           (parts.committed (taken_of taken) (taken_of new_taken) j v ds rest gone come s.journal sound log held once among new apart without);

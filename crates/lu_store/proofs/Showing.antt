@@ -2,7 +2,6 @@
 use Rattle.std.proofs.Common.{◌≡◌, ℕ, ◌+◌, List, Some, refl, sym, ap, subst, ◌∙◌}
 use Rattle.std.specs.List.{list_any}
 use Rattle.std.specs.Prelude.{IsSome}
-use Rattle.lu_base.specs.declared.locks.Lock.{Lock}
 use Rattle.lu_msg.specs.declared.commits.Batch.{Batch}
 use Rattle.lu_msg.specs.declared.messages.Reply.{Reply}
 use Rattle.lu_msg.specs.declared.messages.Request.{Request}
@@ -18,7 +17,7 @@ use Rattle.lu_target_rows.specs.Disks.{loaded_on}
 use Rattle.lu_target_parts.specs.Journals.{IsEntered, IsAnswered, ShowsDisk}
 use Rattle.lu_target_parts.proofs.Journals as parts
 use Rattle.lu_store.specs.Taken.{Entries, taken_of}
-use Rattle.lu_store.specs.Stores.{StoreState, Serves, IsAnsweredBy}
+use Rattle.lu_store.specs.Stores.{Serves, IsAnsweredBy}
 
 -- none of the fields that the disk shows is changed
 disk_moves : (batches : List Batch) (v w : Target) → w.setting.osts ≡ v.setting.osts → w.disk ≡ v.disk → w.boot ≡ v.boot → w.committed ≡ v.committed → w.lives ≡ v.lives → w.removed ≡ v.removed

@@ -1,12 +1,10 @@
 -- What was taken, once what is of some lives is taken out of it.
-use Rattle.std.proofs.Common.{◌≡◌, ℕ, ◌==◌, ◌&&◌, Bool, true, false, not, cond, List, Option, Some, None, filter, refl, sym, ap, ◌∙◌}
+use Rattle.std.proofs.Common.{◌≡◌, ℕ, Bool, true, false, not, cond, List, Option, None, filter, refl, sym, ap, ◌∙◌}
 use Rattle.std.specs.Prelude.{if◌then◌else◌}
 use Rattle.std.specs.Map.{lookup}
 use Rattle.std.proofs.lemmas.Map.Entries.{lookup-filter-keys}
 use Rattle.lu_base.specs.declared.ids.Who.{Who}
-use Rattle.lu_words.specs.Words.{same_life}
 use Rattle.lu_target_rows.specs.Lives.{is_life}
-use Rattle.lu_target_parts.specs.Journals.{Taken}
 use Rattle.lu_target_parts.proofs.Slots.{one_place}
 use Rattle.lu_store.specs.declared.taken.Newest.{Newest}
 use Rattle.lu_store.specs.Taken.{shown, is_named}

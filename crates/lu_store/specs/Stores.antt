@@ -10,7 +10,8 @@ use Rattle.lu_words.specs.Carried.{Slot, Deed}
 use Rattle.lu_words.specs.Words.{Act, Answers, Grant, Wait, Close}
 use Rattle.lu_txn.specs.Slots.{lives_of}
 use Rattle.lu_txn.specs.Journals.{JournalState, IsSound}
-use Rattle.lu_target_rows.specs.Lives.{without_lives, lives_of as gone_of}
+use Rattle.lu_target_rows.specs.Lives.{is_life, without_lives, lives_of as gone_of}
+use Rattle.lu_target_rows.specs.Stored.{batch_of}
 use Rattle.lu_target_rows.specs.Leaving.{commits, last_of}
 use Rattle.lu_target_rows.specs.Rows.{first_deeds}
 use Rattle.lu_target_rows.specs.Windows.{Settled}
@@ -42,6 +43,7 @@ pub record Recovers (s : StoreState) (v : Target) : Type 0 where
   pub disk : ShowsDisk s.batches v
   pub untaken : IsUntaken (taken_of s.taken)
   pub sound : IsSound s.journal
+  pub newest : s.journal.newest ≡ s.journal.committed
 
 -- while its window closes: these kept transactions are the journal's again, beside what it had
 pub record Redoes (deeds : List Deed) (s : StoreState) (v : Target) : Type 0 where
@@ -61,6 +63,14 @@ pub record KeepsDisk (old new : StoreState) : Type 0 where
 abbrev pub HasTaken : Who → ℕ → StoreState → Type 0
 HasTaken who tag s = IsSome (taken_of s.taken who tag)
 
+-- what was taken stays so
+abbrev pub KeepsTaken : (old new : StoreState) → Type 0
+KeepsTaken old new = (who : Who) (tag : ℕ) → HasTaken who tag old → HasTaken who tag new
+
+-- what was taken of all other lives stays so
+abbrev pub KeepsTakenBut : List Who → (old new : StoreState) → Type 0
+KeepsTakenBut gone old new = (who : Who) (tag : ℕ) → is_life who gone ≡ false → HasTaken who tag old → HasTaken who tag new
+
 -- A request was answered so without a transaction: by an act, an answer of which nothing is printed, a lock that is
 -- granted at once, or one that waits.
 pub record IsAnsweredBy (tag : ℕ) (reply : Reply) (old new : StoreState) : Type 0 where
@@ -77,6 +87,7 @@ pub record IsCommit (count : Option ℕ) (to : Option Txn) (old new : StoreState
   pub nothing : (v : Target) → Serves old v → to ≡ None → (first_deeds count v.log ≡ []) × (new ≡ old)
   pub some : (v : Target) (number : Txn) → Serves old v → to ≡ Some number → (first_deeds count v.log ≢ []) × (number.0 ≡ last_of (first_deeds count v.log) v.committed)
   pub shows : (v : Target) (number : Txn) → Serves old v → to ≡ Some number → Serves new (after v (commits v (first_deeds count v.log) [] []))
+  pub batches : (v : Target) (number : Txn) → Serves old v → to ≡ Some number → new.batches ≡ old.batches ++ batch_of (first_deeds count v.log) [] [] ∷ []
 
 -- Lives that leave and lives that come: each of the first has a slot, none of the others but where it leaves, and each
 -- stands once.
@@ -90,6 +101,7 @@ pub record MayMove (gone come : List Who) (s : StoreState) : Type 0 where
 pub record IsMove (gone come : List Who) (to : Txn) (old new : StoreState) : Type 0 where
   pub number : (v : Target) → Serves old v → to.0 ≡ last_of v.log v.committed
   pub shows : (v : Target) → Serves old v → Serves new (after v (commits v v.log gone come))
+  pub batches : (v : Target) → Serves old v → new.batches ≡ old.batches ++ batch_of v.log gone come ∷ []
 
 -- A kept transaction is the journal's again.
 abbrev pub IsRedone : Deed → (old new : StoreState) → Type 0
@@ -101,6 +113,7 @@ pub record IsClose (gone come : List Who) (to : Txn) (old new : StoreState) : Ty
   pub shows :
       (v : Target) (deeds : List Deed) (s : Settled) → Redoes deeds old v → gone_of s.gone ≡ gone → s.joins ≡ come
       → IsClosing v deeds gone come → Serves new (turn v (Close (outcome_by v deeds s) ∷ commit_of (outcome_by v deeds s) ∷ []))
+  pub batches : (v : Target) (deeds : List Deed) → Redoes deeds old v → IsClosing v deeds gone come → new.batches ≡ old.batches ++ batch_of deeds gone come ∷ []
 
 -- ---- requests that come
 

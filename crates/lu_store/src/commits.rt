@@ -55,6 +55,7 @@ pub(crate) fn last_of_first(journal: &Journal, count: usize) -> Txn
 /// Drops the slots of these lives.
 pub(crate) fn drop_slots(journal: &mut Journal, gone: &[Who])
     ensures left { journal.new ≡ left_by gone.now journal.old }
+    ensures boot { journal.new.boot ≡ journal.old.boot }
 {
     for who in gone {
         journal.drop_slot(*who);
@@ -64,6 +65,7 @@ pub(crate) fn drop_slots(journal: &mut Journal, gone: &[Who])
 /// Adds slots for these lives. After want of memory some may have got theirs.
 pub(crate) fn add_slots(journal: &mut Journal, come: &[Who]) -> Result<(), Memory>
     ensures joined { OnOk result (journal.new ≡ joined_by come.now journal.old) }
+    ensures boot { journal.new.boot ≡ journal.old.boot }
 {
     for who in come {
         journal.add_slot(*who)?;
@@ -78,6 +80,7 @@ pub(crate) fn write<D: Disk>(journal: &mut Journal, disk: &mut D, to: Txn) -> Re
     ensures committed { OnOk result (journal.new ≡ after_commit to.0 journal.old) }
     ensures stored { OnOk result (D.batches disk.new ≡ D.batches disk.old ++ batch_of to.0 journal.old ∷ []) }
     ensures journal { OnErr result (journal.new ≡ journal.old) }
+    ensures boot { journal.new.boot ≡ journal.old.boot }
     ensures kept { OnErr result (D.batches disk.new ≡ D.batches disk.old) }
     ensures cause { HasCause (D.faults disk.old) (D.faults disk.new) result }
     ensures faults { IfErr result IsOfDisk }

@@ -1,28 +1,30 @@
 //! The journal over its disk, and the newest requests.
 
-ghost use Rattle.std.specs.Prelude.{◌≡◌, ◌↔◌, ◌⊎◌, ℕ, ◌+◌, ◌*◌, ◌^◌, ◌<◌, [], Some, None, IfOk, IfErr, OnOk, OnErr, IsSome, IsTrue};
+ghost use Rattle.std.specs.Prelude.{◌≡◌, ◌≢◌, ◌↔◌, ◌⊎◌, ℕ, ◌+◌, ◌*◌, ◌^◌, ◌<◌, [], ◌∷◌, ◌++◌, Some, None, IfOk, IfErr, OnOk, OnErr, IsSome, IsTrue};
 ghost use Rattle.std.specs.List.{list_any};
 ghost use Rattle.lu_msg.specs.Limits.{tag_count};
-ghost use Rattle.lu_txn.specs.Slots.{slot_of, reply_at};
-ghost use Rattle.lu_txn.specs.Journals.{count, most_numbers};
+ghost use Rattle.lu_txn.specs.Slots.{slot_of, reply_at, lives_of};
+ghost use Rattle.lu_txn.specs.Journals.{count, most_numbers, appended};
 ghost use Rattle.lu_txn.specs.Loads.{AreBelow};
 ghost use Rattle.lu_words.specs.Words.{Enters, Boot as BootEntry, Txn as TxnEntry};
 ghost use Rattle.lu_target_rows.specs.Lives.{slot_in, is_life};
 ghost use Rattle.lu_target_rows.specs.Replies.{seen_in, next_number};
 ghost use Rattle.lu_target_rows.specs.States.{Setting, Target, after, lives_from, started};
-ghost use Rattle.lu_target_rows.specs.Leaving.{is_over};
+ghost use Rattle.lu_target_rows.specs.Leaving.{is_over, life_of};
+ghost use Rattle.lu_target_rows.specs.Disks.{boot_batch};
+ghost use Rattle.lu_target_rows.specs.Rows.{first_deeds};
 ghost use Rattle.lu_target_parts.specs.Journals.{slot_shown, ShowsDisk};
 ghost use Rattle.lu_store.specs.Taken.{shown};
-ghost use Rattle.lu_store.specs.Stores.{Serves, Recovers, KeepsDisk, HasTaken, IsAnsweredBy, IsCommit, MayMove, IsMove, IsRedone, IsClose, IsLook};
+ghost use Rattle.lu_store.specs.Stores.{Serves, Recovers, KeepsDisk, HasTaken, KeepsTaken, KeepsTakenBut, IsAnsweredBy, IsCommit, MayMove, IsMove, IsRedone, IsClose, IsLook};
 ghost use Rattle.lu_store.specs.Commits.{HasCause, IsOfDisk, failure, last_boot, most_boots};
 ghost use Rattle.lu_store.specs.declared.faults.StoreFault.TheVariants as store_fault;
 
 use super::commits::{add_slots, counted, drop_slots, last_boot, last_of_first, write};
 use super::faults::StoreFault;
 use super::taken::{Newest, TakenRequests};
-use lu_base::{Memory, Numbers, Txn, Who, Xid};
+use lu_base::{Lives, Memory, Numbers, Txn, Who, Xid};
 use lu_disk::Disk;
-use lu_msg::{Op, Reply, Request};
+use lu_msg::{Batches, Op, Reply, Request};
 use lu_part::Parts;
 use lu_txn::{Journal, TxnError};
 use std::alloc::Global;
@@ -46,11 +48,14 @@ pub enum Look<'a> {
 pub struct Store<D: Disk> {
     alloc: Global,
     disk: D,
+    /// The target's boot, from 1.
+    boot: u32,
     journal: Journal,
     taken: TakenRequests,
 }
 
 impl<D: Disk> Model for Store<D> {
+    ghost use Rattle.std.specs.Prelude.{◌≡◌};
     ghost use Rattle.lu_store.specs.Stores.{StoreState};
 
     ghost Value = { StoreState };
@@ -61,6 +66,8 @@ impl<D: Disk> Model for Store<D> {
       batches = D.batches s.disk;
       faults = D.faults s.disk;
     } };
+
+    ghost invariant = { λ s. s.boot ≡ s.journal.boot };
 }
 
 impl<D: Disk> Store<D> {
@@ -81,6 +88,7 @@ impl<D: Disk> Store<D> {
         let mut store = Store {
             alloc,
             disk,
+            boot: 1,
             journal,
             taken: TakenRequests::new(alloc),
         };
@@ -90,27 +98,27 @@ impl<D: Disk> Store<D> {
         }
     }
 
-    /// The store of a target that boots over its disk: the boot after the last one there goes there too, and the target
-    /// recovers. `BootsSpent` exactly where that was 2^32 - 1. After an error the disk comes back as it was.
-    pub fn boot(alloc: Global, mut disk: D) -> Result<Store<D>, (D, StoreFault)>
+    /// The store of a target that boots over its disk, of which these batches were loaded: the boot after the last one there
+    /// goes there too, and the target recovers. `BootsSpent` exactly where that was 2^32 - 1. After an error the disk comes
+    /// back as it was.
+    pub fn boot(alloc: Global, disk: D, batches: &Batches) -> Result<Store<D>, (D, StoreFault)>
+        requires loaded { batches.now ≡ D.batches disk }
         requires below { AreBelow (last_boot (D.batches disk) + 1) (D.batches disk) }
         ensures booted { IfOk result (λ store. (v : Target) → ShowsDisk (D.batches disk) v
             → Recovers store (after v (BootEntry (v.disk.boot + 1) v.disk))) }
         ensures room { IfOk result (λ _. last_boot (D.batches disk) < most_boots) }
+        ensures stored { IfOk result (λ store. store.batches ≡ D.batches disk ++ boot_batch (last_boot (D.batches disk) + 1) ∷ []) }
+        ensures steady { IfOk result (λ store. store.faults ≡ D.faults disk) }
         ensures kept { IfErr result (λ failed. D.batches failed.0 ≡ D.batches disk) }
         ensures cause { IfErr result (λ failed. HasCause (D.faults disk) (D.faults failed.0) (failure failed.1)) }
         ensures faults { IfErr result (λ failed. IsOfDisk failed.1
             ⊎ ((failed.1 ≡ store_fault.BootsSpent) × (last_boot (D.batches disk) ≡ most_boots))) }
     {
-        let batches = match disk.load() {
-            Ok(batches) => batches,
-            Err(error) => return Err((disk, StoreFault::from(error))),
-        };
         let last = last_boot(batches.as_slice());
         if last == u32::MAX {
             return Err((disk, StoreFault::BootsSpent));
         }
-        let journal = match Journal::new(alloc, &batches, last + 1) {
+        let journal = match Journal::new(alloc, batches, last + 1) {
             Ok(journal) => journal,
             Err(Memory) => return Err((disk, StoreFault::Memory)),
         };
@@ -118,6 +126,7 @@ impl<D: Disk> Store<D> {
         let mut store = Store {
             alloc,
             disk,
+            boot: last + 1,
             journal,
             taken: TakenRequests::new(alloc),
         };
@@ -193,6 +202,7 @@ impl<D: Disk> Store<D> {
         ensures number { IfOk result (λ number. (v : Target) → Serves self.now v → number ≡ next_number v) }
         ensures value { IfOk result (λ number. number.0 ≡ self.now.journal.boot * 2 ^ 32 + count self.now.journal + 1) }
         ensures above { IfOk result (λ number. self.now.journal.newest < number.0) }
+        ensures boot { IfOk result (λ number. number.0 < (self.now.journal.boot + 1) * 2 ^ 32) }
         ensures room { IfOk result (λ number. count self.now.journal < most_numbers) }
         ensures spent { IfErr result (λ fault. (fault ≡ store_fault.NumbersSpent) × (count self.now.journal ≡ most_numbers)) }
     {
@@ -223,6 +233,7 @@ impl<D: Disk> Store<D> {
         requires tag { request.now.tag < tag_count }
         ensures shows { OnOk result ((v : Target) → Serves self.old v → Serves self.new (after v (Enters request.now))) }
         ensures entered { OnOk result (HasTaken request.now.who request.now.tag self.new) }
+        ensures takes { OnOk result (KeepsTaken self.old self.new) }
         ensures journal { self.new.journal ≡ self.old.journal }
         ensures disk { KeepsDisk self.old self.new }
     {
@@ -236,6 +247,7 @@ impl<D: Disk> Store<D> {
         requires taken { HasTaken reply.who tag self.old }
         requires tag { tag < tag_count }
         ensures shows { OnOk result (IsAnsweredBy tag reply self.old self.new) }
+        ensures takes { OnOk result (KeepsTaken self.old self.new) }
         ensures disk { KeepsDisk self.old self.new }
     {
         let who = reply.who;
@@ -255,6 +267,7 @@ impl<D: Disk> Store<D> {
         requires boot { reply.txn.0 < (self.old.journal.boot + 1) * 2 ^ 32 }
         ensures shows { OnOk result ((v : Target) → Serves self.old v → reply.txn ≡ next_number v
             → Serves self.new (after v (TxnEntry (record { tag = tag; op = op; writes = writes; reply = reply })))) }
+        ensures takes { OnOk result (KeepsTaken self.old self.new) }
         ensures disk { KeepsDisk self.old self.new }
     {
         let who = reply.who;
@@ -274,6 +287,7 @@ impl<D: Disk> Store<D> {
         requires above { self.old.journal.newest < reply.txn.0 }
         requires boot { reply.txn.0 < (self.old.journal.boot + 1) * 2 ^ 32 }
         ensures redone { OnOk result (IsRedone (record { tag = tag; op = op; writes = writes; reply = reply }) self.old self.new) }
+        ensures journal { OnOk result (self.new.journal ≡ appended reply.txn reply.who tag op writes reply self.old.journal) }
         ensures disk { KeepsDisk self.old self.new }
     {
         let who = reply.who;
@@ -288,6 +302,8 @@ impl<D: Disk> Store<D> {
     /// of the last of them, and `None` where there is none. After an error the disk has what it had.
     pub fn commit(&mut self, count: Option<u32>) -> Result<Option<Txn>, StoreFault>
         ensures commit { IfOk result (λ to. IsCommit count to self.old self.new) }
+        ensures some { OnErr result ((v : Target) → Serves self.old v → first_deeds count v.log ≢ []) }
+        ensures takes { OnOk result (KeepsTaken self.old self.new) }
         ensures kept { OnErr result (self.new.batches ≡ self.old.batches) }
         ensures cause { HasCause self.old.faults self.new.faults result }
         ensures faults { IfErr result IsOfDisk }
@@ -307,6 +323,7 @@ impl<D: Disk> Store<D> {
         requires may { MayMove gone.now come.now self.old }
         ensures moved { IfOk result (λ to. IsMove gone.now come.now to self.old self.new) }
         ensures closed { IfOk result (λ to. IsClose gone.now come.now to self.old self.new) }
+        ensures takes { OnOk result (KeepsTakenBut gone.now self.old self.new) }
         ensures kept { OnErr result (self.new.batches ≡ self.old.batches) }
         ensures cause { HasCause self.old.faults self.new.faults result }
         ensures faults { IfErr result IsOfDisk }
@@ -318,6 +335,41 @@ impl<D: Disk> Store<D> {
         write(&mut self.journal, &mut self.disk, to)?;
         self.taken.forget(gone);
         Ok(to)
+    }
+
+    /// The target's boot, from 1.
+    pub fn boot_number(&self) -> u32
+        ensures serving { (v : Target) → Serves self.now v → result ≡ v.boot }
+        ensures recovering { (v : Target) → Recovers self.now v → result ≡ v.boot }
+    {
+        self.boot
+    }
+
+    /// The lives that have a slot, by client and then by life.
+    pub fn lives(&self, alloc: Global) -> Result<Lives, Memory>
+        ensures slots { IfOk result (λ lives. lives ≡ lives_of self.now.journal.slots) }
+        ensures serving { IfOk result (λ lives. (v : Target) → Serves self.now v → lives ≡ v.lives) }
+        ensures recovering { IfOk result (λ lives. (v : Target) → Recovers self.now v → lives ≡ v.lives) }
+    {
+        let mut lives = Lives::new(alloc);
+        while let Some(who) = self.journal.life(lives.len()) {
+            lives.push(who)?;
+        }
+        Ok(lives)
+    }
+
+    /// The first life of this client that has a slot.
+    pub fn life_of(&self, alloc: Global, client: u16) -> Result<Option<Who>, Memory>
+        ensures serving { IfOk result (λ life. (v : Target) → Serves self.now v → life ≡ life_of client v.lives) }
+        ensures recovering { IfOk result (λ life. (v : Target) → Recovers self.now v → life ≡ life_of client v.lives) }
+    {
+        let lives = self.lives(alloc)?;
+        for who in lives.as_slice() {
+            if who.client == client {
+                return Ok(Some(*who));
+            }
+        }
+        Ok(None)
     }
 
     /// The disk.

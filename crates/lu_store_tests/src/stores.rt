@@ -5,10 +5,10 @@ ghost use Rattle.lu_msg.specs.Limits.{tag_count};
 ghost use Rattle.lu_txn.specs.Slots.{slot_of};
 ghost use Rattle.lu_store_tests.specs.Disks.{IsOne};
 
-use lu_base::{At, Lives, Locks, Memory, Node, Numbers, Path, Stamp, Txn, Who, Xid};
+use lu_base::{At, Fid, Lives, Locks, Memory, Node, Numbers, Path, Stamp, Txn, Who, Xid};
 use lu_disk::{Disk, MemoryDisk};
 use lu_msg::{Answer, Batch, KeptReplies, Op, Reply, Request, Transactions};
-use lu_part::Parts;
+use lu_part::{Part, Parts};
 use lu_store::{Look, Store, StoreFault};
 use std::alloc::Global;
 use std::test::Fail;
@@ -95,7 +95,7 @@ fn comes(
     match step {
         Step::Taken => Ok(store.enter(&request(alloc, who, tag, xid))?),
         Step::Answered => answered(alloc, store, who, tag, xid),
-        Step::Made => made(alloc, store, who, tag, xid),
+        Step::Made => made(alloc, store, who, tag, xid, Parts::new(alloc)),
     }
 }
 
@@ -115,13 +115,14 @@ fn answered(
     Ok(())
 }
 
-/// It is taken and makes the next transaction.
+/// It is taken and makes the next transaction, which writes these parts.
 fn made(
     alloc: Global,
     store: &mut Store<MemoryDisk>,
     who: Who,
     tag: u8,
     xid: u64,
+    writes: Parts,
 ) -> Result<(), Fail>
     requires tag { tag < tag_count }
     requires slot { IsSome (slot_of who store.old.journal.slots) }
@@ -129,7 +130,6 @@ fn made(
     store.enter(&request(alloc, who, tag, xid))?;
     let number = store.next()?;
     let op = Op::Mkdir(Path::new(alloc));
-    let writes = Parts::new(alloc);
     store.append(tag, op, writes, reply(alloc, who, xid, number))?;
     Ok(())
 }
@@ -211,6 +211,57 @@ fn the_first_transactions_are_committed(rt: HostRuntime) -> Result<(), Fail> {
     Ok(())
 }
 
+/// The attributes of this inode.
+fn attributes(alloc: Global, inode: u64) -> Result<Parts, Memory> {
+    let mut parts = Parts::new(alloc);
+    parts.push(Part::Attr(Fid(inode)))?;
+    Ok(parts)
+}
+
+/// A life's request of tag 0 and this number makes a transaction that writes the attributes of this inode.
+fn wrote(
+    alloc: Global,
+    store: &mut Store<MemoryDisk>,
+    who: Who,
+    xid: u64,
+    inode: u64,
+) -> Result<(), Fail> {
+    if !store.serves(who) {
+        return Err(Fail::from(Memory));
+    }
+    made(alloc, store, who, 0, xid, attributes(alloc, inode)?)
+}
+
+/// Whether these are the numbers that an operation has seen which touches the attributes of this inode.
+fn sees(
+    alloc: Global,
+    store: &Store<MemoryDisk>,
+    inode: u64,
+    numbers: &[u64],
+) -> Result<bool, Fail> {
+    let seen = store.seen(&attributes(alloc, inode)?)?;
+    Ok(seen.as_slice() == numbers)
+}
+
+#[test]
+fn an_operation_has_seen_what_wrote_its_parts(rt: HostRuntime) -> Result<(), Fail> {
+    let alloc = rt.alloc();
+    let mut store = begun(alloc, &[])??;
+    for (who, xid, inode) in [(A, 1, 7), (B, 1, 8), (A, 2, 7)] {
+        wrote(alloc, &mut store, who, xid, inode)?;
+    }
+    for (inode, numbers) in [
+        (7, [first(1).0, first(3).0].as_slice()),
+        (8, &[first(2).0]),
+        (9, &[]),
+    ] {
+        assert!(rt; sees(alloc, &store, inode, numbers)?);
+    }
+    assert_eq!(rt; store.commit(Some(1))?, Some(first(1)));
+    assert!(rt; sees(alloc, &store, 7, &[first(3).0])?);
+    Ok(())
+}
+
 #[test]
 fn a_failing_disk_keeps_what_it_had(rt: HostRuntime) -> Result<(), Fail> {
     let alloc = rt.alloc();
@@ -269,7 +320,9 @@ fn disk_of_boot_3(alloc: Global) -> Result<MemoryDisk, Fail>
 
 /// The store of the target that boots over it.
 fn booted(alloc: Global) -> Result<Store<MemoryDisk>, Fail> {
-    match Store::boot(alloc, disk_of_boot_3(alloc)?) {
+    let mut disk = disk_of_boot_3(alloc)?;
+    let batches = disk.load()?;
+    match Store::boot(alloc, disk, &batches) {
         Ok(store) => Ok(store),
         Err((_, fault)) => Err(Fail::from(fault)),
     }

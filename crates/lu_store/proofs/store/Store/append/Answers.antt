@@ -9,8 +9,9 @@ use Rattle.lu_target_rows.specs.Replies.{next_number}
 use Rattle.lu_target_rows.specs.States.{Target, after}
 use Rattle.lu_target_parts.specs.Journals.{IsAnswered}
 use Rattle.lu_store.specs.Taken.{taken_of}
-use Rattle.lu_store.specs.Stores.{Serves}
+use Rattle.lu_store.specs.Stores.{StoreState, Serves, HasTaken, KeepsTaken}
 use Rattle.lu_store.proofs.Showing.{transacted}
+use Rattle.lu_store.proofs.Keeping.{answered_keeps}
 use Rattle.lu_store.proofs.store.Store.append.Goals.{in-Ok, in-Err-Memory}
 use Rattle.lu_store.proofs.store.Store.append.Goals as goal
 
@@ -30,4 +31,18 @@ returns-clause-shows g c =
           let shows : Shows = (λ v s next. transacted c.self.inside.journal c.append.new.self c.self.inside.taken c.answer.new.self batches faults faults d slot some is added replies v (subst (λ it. Serves it v) (sym c.self.view_is) s) next) in
           subst (λ r. OnOk r Shows) (sym w.result-is) shows
       | in-Err-Memory w ↦ subst (λ r. OnOk r Shows) (sym w.result-is) (search rules)
+    ]
+
+pub returns-clause-takes : goal.returns-clause-takes
+returns-clause-takes g c =
+    let batches = g.D.Disk.batches c.self.inside.disk in
+    let faults = g.D.Disk.faults c.self.inside.disk in
+    let Takes : Type 0 = KeepsTaken c.args.self.now (record { journal = c.append.new.self; taken = c.answer.new.self; batches = batches; faults = faults }) in
+    elim c.match-append.branch [
+      | in-Ok w ↦
+          let is : IsAnswered c.args.reply.who c.args.tag (taken_of c.self.inside.taken) (taken_of c.answer.new.self) = search rules in
+          let takes : Takes = (λ who tag some.
+          answered_keeps c.args.reply.who c.args.tag c.self.inside.taken c.answer.new.self is who tag (subst (λ (it : StoreState). HasTaken who tag it) (sym c.self.view_is) some)) in
+          subst (λ r. OnOk r Takes) (sym w.result-is) takes
+      | in-Err-Memory w ↦ subst (λ r. OnOk r Takes) (sym w.result-is) (search rules)
     ]

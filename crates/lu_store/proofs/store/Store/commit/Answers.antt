@@ -1,17 +1,19 @@
 -- The first transactions are on the disk.
-use Rattle.std.proofs.Common.{◌≡◌, ◌≢◌, ℕ, suc, ◌-◌, ◌≤◌, ◌++◌, [], Some, List, length, map, take, drop, refl, sym, ap, subst, ◌∙◌, arith, rules}
+use Rattle.std.proofs.Common.{◌≡◌, ◌≢◌, suc, ◌-◌, ◌≤◌, ◌++◌, [], ◌∷◌, List, length, take, drop, refl, sym, ap, subst, ◌∙◌, arith}
 use Rattle.std.proofs.lemmas.Bool.Decides.{nat_tests}
 use Rattle.lu_base.specs.declared.ids.Txn.{Txn}
 use Rattle.lu_txn.specs.declared.logs.Logged.{Logged}
-use Rattle.lu_target_rows.specs.States.{Target, after}
-use Rattle.lu_target_rows.specs.Leaving.{commits, last_of}
+use Rattle.lu_msg.specs.declared.commits.Batch.{Batch}
+use Rattle.lu_target_rows.specs.Stored.{batch_of as rows_batch}
+use Rattle.lu_target_rows.specs.States.{Target}
+use Rattle.lu_target_rows.specs.Leaving.{last_of}
 use Rattle.lu_target_rows.specs.Rows.{first_deeds}
-use Rattle.lu_target_parts.specs.Journals.{logged_of}
 use Rattle.lu_target_parts.proofs.Batches.{rest_held}
 use Rattle.lu_store.specs.Taken.{taken_of}
 use Rattle.lu_store.specs.Commits.{counted, last_in}
 use Rattle.lu_store.specs.Stores.{StoreState, Serves}
-use Rattle.lu_store.proofs.Moves.{first_is, last_first, cut_at, length_logged, some_first, counted_fits, stored_shows}
+use Rattle.lu_store.proofs.Keeping.{on_any_err}
+use Rattle.lu_store.proofs.Moves.{first_is, last_first, cut_at, length_logged, some_first, counted_fits, stored_is, stored_shows}
 use Rattle.lu_store.proofs.store.Store.commit.Goals as goal
 
 pub returns-clause-commit : goal.returns-clause-commit
@@ -45,4 +47,25 @@ returns-clause-commit g c =
           (cut_at k v.log ∙ ap (λ deeds. deeds ++ drop k v.log) (deeds_are v own_s))
           (rest_held (taken_of taken) j v (first_deeds count v.log) (drop k v.log) own_s.journal (cut_at k v.log ∙ ap (λ deeds. deeds ++ drop k v.log) (deeds_are v own_s)))
           tt tt tt tt (λ who tag. refl) (number_is v own_s) (c.in_ok-write.ensures.committed) (c.in_ok-write.ensures.stored);
+      batches = λ v number s e. let own_s = back v s in
+          c.in_ok-write.ensures.stored
+          ∙ ap (λ (batch : Batch). own.batches ++ batch ∷ [])
+          (stored_is taken j v (first_deeds count v.log) (drop k v.log) [] [] to.0 own_s.journal c.uncommitted_count.ensures.sound
+          (cut_at k v.log ∙ ap (λ deeds. deeds ++ drop k v.log) (deeds_are v own_s)) tt tt tt tt (number_is v own_s))
+          ∙ ap (λ (it : StoreState). it.batches ++ rows_batch (first_deeds count v.log) [] [] ∷ []) c.self.view_is;
     }
+
+-- there was something to commit
+pub returns-in_err-write-clause-some : goal.returns-in_err-write-clause-some
+returns-in_err-write-clause-some g c =
+    let count = c.args.count in
+    let k = c.counted-first.result in
+    let own : StoreState = record { journal = c.self.inside.journal; taken = c.self.inside.taken; batches = g.D.Disk.batches c.self.inside.disk; faults = g.D.Disk.faults c.self.inside.disk } in
+    let k_is : (v : Target) → Serves own v → k ≡ counted count (length v.log) =
+    (λ v s. c.counted-first.ensures.first ∙ ap (counted count) (c.uncommitted_count.ensures.count ∙ ap (λ (ts : List Logged). length ts) s.journal.log ∙ length_logged v.log)) in
+    let some_k : suc (k - 1) ≡ k = grind (arith, nat_tests, c.if-first-eq0.false) in
+    let some : (v : Target) → Serves c.args.self.now v → first_deeds count v.log ≢ [] =
+    (λ v s. let own_s : Serves own v = subst (λ (it : StoreState). Serves it v) (sym c.self.view_is) s in
+    let fits : suc (k - 1) ≤ length v.log = subst (λ n. n ≤ length v.log) (sym some_k) (subst (λ n. n ≤ length v.log) (sym (k_is v own_s)) (counted_fits count (length v.log))) in
+    λ none. some_first (k - 1) v.log fits (ap (λ n. take n v.log) some_k ∙ ap (λ n. take n v.log) (k_is v own_s) ∙ first_is count v.log ∙ none)) in
+    on_any_err c.from_residual.result ((v : Target) → Serves c.args.self.now v → first_deeds count v.log ≢ []) some

@@ -1,21 +1,24 @@
 -- All that wasn't on the disk is there, and the lives have left and come.
-use Rattle.std.proofs.Common.{◌≡◌, ℕ, ◌≤◌, ◌++◌, [], ◌∷◌, List, length, map, take, refl, sym, ap, subst, ◌∙◌, arith, rules}
+use Rattle.std.proofs.Common.{◌≡◌, ℕ, ◌≤◌, ◌++◌, [], ◌∷◌, List, length, map, take, sym, ap, subst, ◌∙◌, rules}
 use Rattle.lu_base.specs.declared.ids.Who.{Who}
 use Rattle.lu_txn.specs.declared.logs.Logged.{Logged}
 use Rattle.lu_txn.specs.Slots.{lives_of}
 use Rattle.lu_txn.specs.Commits.{batch_of, after_commit}
 use Rattle.lu_txn.specs.Journals.{JournalState}
+use Rattle.lu_msg.specs.declared.commits.Batch.{Batch}
 use Rattle.lu_target_rows.specs.Lives.{without_lives}
+use Rattle.lu_target_rows.specs.Stored.{batch_of as rows_batch}
 use Rattle.lu_target_rows.specs.States.{Target}
 use Rattle.lu_target_rows.specs.Leaving.{last_of}
 use Rattle.lu_target_parts.specs.Batches.{left_by, joined_by, AreAmong, AreApart}
 use Rattle.lu_store.specs.Commits.{last_in}
-use Rattle.lu_store.specs.Stores.{StoreState, Serves, Redoes}
+use Rattle.lu_store.specs.Stores.{StoreState, Serves, Redoes, HasTaken}
 use Rattle.lu_words.specs.Carried.{Deed}
 use Rattle.lu_target_parts.specs.Journals.{logged_of}
 use Rattle.lu_target_parts.proofs.Closes.{closing_log, closing_committed}
-use Rattle.lu_store.proofs.Closing.{closed_shows}
-use Rattle.lu_store.proofs.Moves.{Numbers, left_keeps, joined_keeps, take_all, last_first, append_nothing, length_logged, stored_shows}
+use Rattle.lu_store.proofs.Closing.{closed_shows, closed_is}
+use Rattle.lu_store.proofs.Keeping.{without_keeps}
+use Rattle.lu_store.proofs.Moves.{Numbers, left_keeps, joined_keeps, take_all, last_first, append_nothing, length_logged, stored_is, stored_shows}
 use Rattle.lu_store.proofs.store.Store.move_lives.Goals as goal
 
 -- the numbers are those of before
@@ -68,6 +71,14 @@ returns-clause-moved g c =
           c.requires.may.once (subst (λ (all : List Who). AreAmong all gone) (lives v own_s) c.requires.may.among) c.requires.may.new
           (subst (λ (all : List Who). AreApart (without_lives gone all) come) (lives v own_s) c.requires.may.apart) c.forget.ensures.without (number_is v own_s)
           (c.in_ok-write.ensures.committed ∙ ap (after_commit to.0) is) (c.in_ok-write.ensures.stored ∙ ap (λ (it : JournalState). own.batches ++ batch_of to.0 it ∷ []) is);
+      batches = λ v s. let own_s = back v s in
+          c.in_ok-write.ensures.stored
+          ∙ ap (λ (it : JournalState). own.batches ++ batch_of to.0 it ∷ []) is
+          ∙ ap (λ (batch : Batch). own.batches ++ batch ∷ [])
+          (stored_is taken j v v.log [] gone come to.0 own_s.journal c.uncommitted_count-all.ensures.sound (sym (append_nothing v.log))
+          c.requires.may.once (subst (λ (all : List Who). AreAmong all gone) (lives v own_s) c.requires.may.among) c.requires.may.new
+          (subst (λ (all : List Who). AreApart (without_lives gone all) come) (lives v own_s) c.requires.may.apart) (number_is v own_s))
+          ∙ ap (λ (it : StoreState). it.batches ++ rows_batch v.log gone come ∷ []) c.self.view_is;
     }
 
 pub returns-clause-closed : goal.returns-clause-closed
@@ -100,4 +111,15 @@ returns-clause-closed g c =
           closed_shows taken c.forget.new.self j c.write.new.journal _ _ _ _ v deeds s gone come to.0 (back v deeds shows) c.uncommitted_count-all.ensures.sound c.forget.ensures.without
           is_gone is_come closing (number_is v deeds (back v deeds shows)) (c.in_ok-write.ensures.committed ∙ ap (after_commit to.0) is)
           (c.in_ok-write.ensures.stored ∙ ap (λ (it : JournalState). own.batches ++ batch_of to.0 it ∷ []) is);
+      batches = λ v deeds shows closing.
+          c.in_ok-write.ensures.stored
+          ∙ ap (λ (it : JournalState). own.batches ++ batch_of to.0 it ∷ []) is
+          ∙ ap (λ (batch : Batch). own.batches ++ batch ∷ [])
+          (closed_is taken j own.batches own.faults v deeds gone come to.0 (back v deeds shows) c.uncommitted_count-all.ensures.sound closing (number_is v deeds (back v deeds shows)))
+          ∙ ap (λ (it : StoreState). it.batches ++ rows_batch deeds gone come ∷ []) c.self.view_is;
     }
+
+pub returns-clause-takes : goal.returns-clause-takes
+returns-clause-takes g c =
+    λ who tag apart some.
+    without_keeps c.args.gone.now c.self.inside.taken c.forget.new.self c.forget.ensures.without who tag apart (subst (λ (it : StoreState). HasTaken who tag it) (sym c.self.view_is) some)

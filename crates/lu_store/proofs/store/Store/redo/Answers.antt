@@ -1,7 +1,6 @@
 -- The journal has the kept transaction.
-use Rattle.std.proofs.Common.{◌≡◌, List, OnOk, sym, subst, rules}
+use Rattle.std.proofs.Common.{◌≡◌, OnOk, sym, subst, rules}
 use Rattle.lu_words.specs.Carried.{Deed}
-use Rattle.lu_target_rows.specs.States.{Target}
 use Rattle.lu_target_parts.specs.Batches.{appended_one}
 use Rattle.lu_store.specs.Stores.{StoreState, Redoes, IsRedone}
 use Rattle.lu_store.proofs.Closing.{one_more}

@@ -1,7 +1,6 @@
 -- The map is changed at this key alone.
-use Rattle.std.proofs.Common.{◌≡◌, ◌==◌, ◌&&◌, Some, ap, subst, ◌∙◌}
+use Rattle.std.proofs.Common.{Some, ap, subst, ◌∙◌}
 use Rattle.std.specs.Prelude.{if◌then◌else◌}
-use Rattle.lu_words.specs.Words.{same_life}
 use Rattle.lu_target_parts.proofs.Slots.{place_back}
 use Rattle.lu_store.specs.Taken.{newest_of, IsPut}
 use Rattle.lu_store.proofs.taken.TakenRequests.put.Goals as goal
