@@ -13,24 +13,10 @@ use Rattle.lu_target_rows.specs.States.{no_contents, empty_disk}
 use Rattle.lu_target_rows.specs.Outcomes.{deed_again}
 use Rattle.lu_target_parts.specs.Contents.{transaction_again}
 use Rattle.lu_target_parts.specs.Journals.{AreRising, AllRising}
+use Rattle.lu_target_parts.proofs.RisingNumbers.{last_max}
 use Rattle.lu_redo.specs.declared.deeds.Close.{Close}
 use Rattle.lu_redo.specs.declared.deeds.Deed.{Deed}
 use Rattle.lu_redo.specs.Shown.{deed_of, Shows, ShowsDone, AreDeeds, ShowsForgotten, ShowsLoaded, ShowsDiskOf}
-
--- ---- numbers that rise
-
-pub rising_below : (m n : ℕ) (ts : List Transaction) → m ≤ n → AreRising n ts → AreRising m ts
-rising_below m n [] le rising = tt
-rising_below m n (t ∷ ts) le rising = (omega (arith, le, rising.0), rising.1)
-
-pub last_le : (m n : ℕ) (ts : List Transaction) → m ≤ n → last_number ts m ≤ last_number ts n
-last_le m n [] le = le
-last_le m n (t ∷ ts) le = omega arith
-
-pub all_rising_below : (m n : ℕ) (batches : List Batch) → m ≤ n → AllRising n batches → AllRising m batches
-all_rising_below m n [] le rising = tt
-all_rising_below m n (batch ∷ batches) le rising =
-    (rising_below m n batch.transactions le rising.0, all_rising_below (last_number batch.transactions m) (last_number batch.transactions n) batches (last_le m n batch.transactions le) rising.1)
 
 -- ---- transactions
 
@@ -73,14 +59,6 @@ all_news committed n (t ∷ ts) le rising =
 
 pub loaded_none : (kind : Kind) (s : Contents) → ShowsLoaded kind [] s s
 loaded_none kind s osts disk n shows rising = shows
-
-last_over : (n : ℕ) (ts : List Transaction) → AreRising n ts → n ≤ last_number ts n
-last_over n [] rising = omega arith
-last_over n (t ∷ ts) rising = let more : t.txn.0 ≤ last_number ts t.txn.0 = last_over t.txn.0 ts rising.1 in omega (arith, rising.0, more)
-
-last_max : (n m : ℕ) (ts : List Transaction) → AreRising (max n m) ts → last_number ts (max n m) ≡ max n (last_number ts m)
-last_max n m [] rising = refl
-last_max n m (t ∷ ts) rising = let more : t.txn.0 ≤ last_number ts t.txn.0 = last_over t.txn.0 ts rising.1 in omega (arith, rising.0, more)
 
 pub loaded_more : (kind : Kind) (batch : Batch) (batches : List Batch) (s between left new : Contents) → ShowsDone kind batch.transactions s between → ShowsForgotten kind batch.removed between left
     → ShowsLoaded kind batches left new → ShowsLoaded kind (batch ∷ batches) s new

@@ -1,26 +1,18 @@
 //! Replays of names, and what the service of names answers once they were performed again.
 
-ghost use Rattle.std.specs.Prelude.{◌≡◌, ◌+◌, length, IfOk, OnOk};
-ghost use Rattle.lu_service.specs.Takes.{IsNamed};
+ghost use Rattle.std.specs.Prelude.{◌+◌, length, IfOk, OnOk};
 ghost use Rattle.lu_redo_tests.specs.Kept.{AreKept};
 
-use lu_base::{At, Fid, Memory, Name, Node, Numbers, Path, Stamp, Txn, Who, Xid};
+use super::rows::{A, B, BOOT, Told, Verb, answer, found, op};
+use lu_base::{At, Memory, Node, Numbers, Stamp, Txn, Who, Xid};
 use lu_mdt::Mdt;
-use lu_msg::{Answer, Errno, Op};
-use lu_redo::{Close, Deed, Deeds, close_window};
+use lu_msg::Errno;
+use lu_redo::{Close, Deed, Deeds, close_window, redo};
 use lu_replay::Replay;
-use lu_service::Service;
 use lu_window::{KeptReplay, KeptReplays};
 use std::alloc::Global;
 use std::process::Abort;
 use std::test::Fail;
-
-const A: Who = Who { client: 0, life: 1 };
-
-const B: Who = Who { client: 1, life: 1 };
-
-/// The number 1.0: transactions of boot 1 follow it.
-const BOOT: u64 = 4294967296;
 
 /// A close in boot 2, with nothing of boot 1 on the disk.
 const CLOSE: Close = Close {
@@ -32,49 +24,9 @@ const CLOSE: Close = Close {
     committed: Txn(0),
 };
 
-/// An operation on a path.
-#[derive(Clone, Copy)]
-enum Verb {
-    Lookup,
-    Mkdir,
-    Unlink,
-    Rmdir,
-}
-
-/// What is answered; inodes by the count of their transaction in boot 1.
-#[derive(Clone, Copy)]
-enum Told {
-    Done,
-    Made(u32),
-    Dir(u32),
-    No(Errno),
-}
-
 /// A life's operation, the name of its path, what it must answer, and whether it writes anything. The first one of a table
 /// is transaction 1.1, the second one 1.2, and so on.
 type Row = (Who, Verb, &'static [u8], Told, bool);
-
-fn op(alloc: Global, verb: Verb, name: &[u8]) -> Result<Op, Memory>
-    ensures named { IfOk result IsNamed }
-{
-    let mut path = Path::new(alloc);
-    path.push(Name::from_slice(alloc, name)?)?;
-    match verb {
-        Verb::Lookup => Ok(Op::Lookup(path)),
-        Verb::Mkdir => Ok(Op::Mkdir(path)),
-        Verb::Unlink => Ok(Op::Unlink(path)),
-        Verb::Rmdir => Ok(Op::Rmdir(path)),
-    }
-}
-
-fn answer(told: Told) -> Answer {
-    match told {
-        Told::Done => Answer::Done,
-        Told::Made(count) => Answer::Made(Fid(BOOT + count as u64)),
-        Told::Dir(count) => Answer::Dir(Fid(BOOT + count as u64)),
-        Told::No(errno) => Answer::Refused(errno),
-    }
-}
 
 /// Puts a replay of that number, the next one, behind the others.
 fn add(alloc: Global, kept: &mut KeptReplays, row: Row, number: u64) -> Result<(), Memory>
@@ -112,6 +64,14 @@ fn closed(alloc: Global, rows: &[Row]) -> Result<(Mdt, Deeds), Memory> {
     Ok((mdt, deeds))
 }
 
+/// New names, once these replays were performed again; no life leaves.
+fn redone(alloc: Global, rows: &[Row]) -> Result<(Mdt, Deeds), Memory> {
+    let mut mdt = Mdt::new(alloc, 1)?;
+    let kept = kept_of(alloc, rows)?;
+    let deeds = redo(alloc, &mut mdt, CLOSE, kept)?;
+    Ok((mdt, deeds))
+}
+
 /// The replay of this row and number was performed again so.
 fn is_of(rt: &impl Abort, deed: &Deed, row: Row, number: u64) {
     assert_eq!(rt; deed.tag, 3);
@@ -135,14 +95,35 @@ fn replays_are_answered_anew(rt: HostRuntime) -> Result<(), Fail> {
         (A, Verb::Unlink, b"c", Told::No(Errno::ENOENT), false),
     ];
     let (mdt, deeds) = closed(rt.alloc(), rows.as_slice())?;
-    assert_eq!(rt; deeds.len(), 5);
-    let mut number = BOOT;
-    for (deed, row) in deeds.as_slice().iter().zip(rows.as_slice()) {
-        number = number.saturating_add(1);
-        is_of(&rt, deed, *row, number);
-    }
+    are_of(&rt, &deeds, rows.as_slice());
     drop(mdt);
     Ok(())
+}
+
+/// So they are before the lives leave.
+#[test]
+fn replays_are_performed_in_their_order(rt: HostRuntime) -> Result<(), Fail> {
+    let rows: [Row; 5] = [
+        (A, Verb::Create, b"f", Told::Made(1), true),
+        (B, Verb::Mkdir, b"f", Told::No(Errno::EEXIST), false),
+        (A, Verb::Unlink, b"f", Told::Done, true),
+        (B, Verb::Mkdir, b"f", Told::Made(4), true),
+        (A, Verb::Unlink, b"f", Told::No(Errno::EISDIR), false),
+    ];
+    let (mdt, deeds) = redone(rt.alloc(), rows.as_slice())?;
+    are_of(&rt, &deeds, rows.as_slice());
+    drop(mdt);
+    Ok(())
+}
+
+/// The deeds are those of these rows.
+fn are_of(rt: &impl Abort, deeds: &Deeds, rows: &[Row]) {
+    assert_eq!(rt; deeds.len(), rows.len());
+    let mut number = BOOT;
+    for (deed, row) in deeds.as_slice().iter().zip(rows) {
+        number = number.saturating_add(1);
+        is_of(rt, deed, *row, number);
+    }
 }
 
 /// The names after the close are those that the replays left.
@@ -161,22 +142,5 @@ fn the_names_are_there_after_the_close(rt: HostRuntime) -> Result<(), Fail> {
     ] {
         found(&rt, alloc, &mut mdt, name, told)?;
     }
-    Ok(())
-}
-
-/// A look-up of the name is answered so.
-fn found(
-    rt: &impl Abort,
-    alloc: Global,
-    mdt: &mut Mdt,
-    name: &[u8],
-    told: Told,
-) -> Result<(), Memory> {
-    let op = op(alloc, Verb::Lookup, name)?;
-    if mdt.changes(A, &op) {
-        return Err(Memory);
-    }
-    let same = mdt.apply(alloc, Txn(0), A, &op)? == answer(told);
-    assert!(rt; same);
     Ok(())
 }

@@ -7,7 +7,8 @@ use Rattle.lu_msg.specs.declared.commits.Transaction.{Transaction}
 use Rattle.lu_target_rows.specs.Stored.{last_number}
 use Rattle.lu_target_parts.specs.Journals.{AllRising}
 use Rattle.lu_redo.specs.Shown.{AllRepeatable, ShowsDone, ShowsForgotten, ShowsLoaded}
-use Rattle.lu_redo.proofs.Runs.{all_rising_below, loaded_none, loaded_more, disk_shown}
+use Rattle.lu_target_parts.proofs.RisingNumbers.{all_rising_below}
+use Rattle.lu_redo.proofs.Runs.{loaded_none, loaded_more, disk_shown}
 use Rattle.lu_redo.proofs.batches.load.Goals as goal
 
 pub loop-batch-preserved : goal.loop-batch-preserved

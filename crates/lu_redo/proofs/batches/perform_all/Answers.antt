@@ -6,7 +6,8 @@ use Rattle.lu_target_rows.specs.Stored.{last_number}
 use Rattle.lu_target_parts.specs.Journals.{AreRising}
 use Rattle.lu_redo.specs.Shown.{AreRepeatable, ShowsDone}
 use Rattle.lu_redo.proofs.Steps.{shows_one}
-use Rattle.lu_redo.proofs.Runs.{rising_below, last_le, done_more}
+use Rattle.lu_target_parts.proofs.RisingNumbers.{rising_below, last_le}
+use Rattle.lu_redo.proofs.Runs.{done_more}
 use Rattle.lu_redo.proofs.batches.perform_all.Goals as goal
 
 pub loop-transaction-preserved : goal.loop-transaction-preserved

@@ -9,7 +9,8 @@ use Rattle.lu_window.specs.declared.outcomes.KeptReplay.{KeptReplay}
 use Rattle.lu_window.specs.Shown.{kept_replay}
 use Rattle.lu_redo.specs.declared.deeds.Deed.{Deed as DeedAgain}
 use Rattle.lu_redo.specs.Shown.{deed_of, transactions_of, AreRepeatable, ShowsDone, AreDeeds}
-use Rattle.lu_redo.proofs.Runs.{rising_below, done_more, deeds_none, deeds_more, one_more, no_more}
+use Rattle.lu_target_parts.proofs.RisingNumbers.{rising_below}
+use Rattle.lu_redo.proofs.Runs.{done_more, deeds_none, deeds_more, one_more, no_more}
 use Rattle.lu_redo.proofs.replays.redo.Goals as goal
 
 pub loop-replay-preserved : goal.loop-replay-preserved

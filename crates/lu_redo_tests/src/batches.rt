@@ -1,0 +1,98 @@
+//! Batches of names that a new service loads, and what it answers then.
+
+ghost use Rattle.std.specs.Prelude.{◌+◌, length, IfOk, OnOk};
+ghost use Rattle.lu_redo_tests.specs.Told.{IsNext, AreNext};
+
+use super::rows::{A, B, BOOT, Told, Verb, found, op};
+use lu_base::{Lives, Memory, Txn, Who, Xid};
+use lu_mdt::Mdt;
+use lu_msg::{Batch, Batches, Errno, KeptReplies, Transaction, Transactions};
+use lu_redo::{forget_all, load};
+use std::alloc::Global;
+use std::process::Abort;
+use std::test::Fail;
+
+/// A life's operation and the name of its path, which are a batch alone, and the lives that leave with it. The first one of
+/// a table is transaction 1.1, the second one 1.2, and so on.
+type Row = (Who, Verb, &'static [u8], &'static [Who]);
+
+/// The batch of this row, whose transaction has that number.
+fn batch_of(alloc: Global, row: Row, number: u64) -> Result<Batch, Memory>
+    ensures next { IfOk result (IsNext number) }
+{
+    let mut transactions = Transactions::new(alloc);
+    transactions.push(Transaction {
+        txn: Txn(number),
+        who: row.0,
+        xid: Xid(1),
+        tag: 0,
+        op: op(alloc, row.1, row.2)?,
+    })?;
+    Ok(Batch {
+        boot: 0,
+        transactions,
+        replies: KeptReplies::new(alloc),
+        added: Lives::new(alloc),
+        removed: Lives::from(Vec::from_slice(alloc, row.3)?),
+    })
+}
+
+/// Puts the batch of this row behind the others; its transaction's number is the next one.
+fn add(alloc: Global, batches: &mut Batches, row: Row, number: u64) -> Result<(), Memory>
+    requires below { AreNext number batches.old }
+    ensures more { OnOk result (AreNext (number + 1) batches.new) }
+{
+    batches.push(batch_of(alloc, row, number)?)
+}
+
+/// The batches of these rows.
+fn batches_of(alloc: Global, rows: &[Row]) -> Result<Batches, Memory>
+    ensures told { IfOk result (λ batches. AreNext (4294967297 + length rows.now) batches) }
+{
+    let mut batches = Batches::new(alloc);
+    let mut number = BOOT;
+    for row in rows {
+        number += 1;
+        add(alloc, &mut batches, *row, number)?;
+    }
+    Ok(batches)
+}
+
+/// New names, over one object storage target, that loaded these batches.
+fn loaded(alloc: Global, rows: &[Row]) -> Result<Mdt, Memory> {
+    let mut mdt = Mdt::new(alloc, 1)?;
+    let batches = batches_of(alloc, rows)?;
+    load(alloc, &mut mdt, batches.as_slice())?;
+    Ok(mdt)
+}
+
+/// The batches are performed in their order, and lives that are forgotten take no name with them.
+#[test]
+fn a_new_service_loads_batches(rt: HostRuntime) -> Result<(), Fail> {
+    let alloc = rt.alloc();
+    let rows: [Row; 5] = [
+        (A, Verb::Create, b"f", &[]),
+        (B, Verb::Open, b"f", &[]),
+        (A, Verb::Mkdir, b"a", &[]),
+        (A, Verb::Mkdir, b"b", &[B]),
+        (A, Verb::Rmdir, b"a", &[]),
+    ];
+    for gone in [[].as_slice(), &[B], &[B, A]] {
+        let mut mdt = loaded(alloc, rows.as_slice())?;
+        forget_all(&mut mdt, gone);
+        are_there(&rt, alloc, &mut mdt)?;
+    }
+    Ok(())
+}
+
+/// The names that those batches leave are there.
+fn are_there(rt: &impl Abort, alloc: Global, mdt: &mut Mdt) -> Result<(), Memory> {
+    for (name, told) in [
+        (b"f".as_slice(), Told::File(1)),
+        (b"b", Told::Dir(4)),
+        (b"a", Told::No(Errno::ENOENT)),
+    ] {
+        found(rt, alloc, mdt, name, told)?;
+    }
+    Ok(())
+}
