@@ -56,7 +56,7 @@ one_of : {P : Type 0} (a b : Bool) → (a || b) ≡ true → (a ≡ true → P) 
 one_of true b h left right = left refl
 one_of false b h left right = right h
 
-members : (granted waiting : List Granted) (told cookies : List Cookie) → AreBlocking granted waiting told cookies → (c : Cookie) → is_told c cookies ≡ true
+pub members : (granted waiting : List Granted) (told cookies : List Cookie) → AreBlocking granted waiting told cookies → (c : Cookie) → is_told c cookies ≡ true
     → (is_told c told ≡ false) × (queue.has c.0 granted ≡ true)
 members granted [] told cookies none c h = absurd (unequal (sym (ap (is_told c) none) ∙ h))
 members granted (l ∷ waiting) told cookies (first, rest, all, rising, permuted, more) c h =
@@ -144,7 +144,7 @@ has_on c r (l ∷ locks) h = by (same_resource l.resource r) h (has_on c r locks
   by true h rest = of (l.cookie.0 == c) (queue.has c (map grant_of (filter (λ l. same_resource l.resource r) locks))) (has c locks) rest h
   by false h rest = right (l.cookie.0 == c) (has c locks) (rest h)
 
-is_of_lock : (space : SpaceState) (v : Target) (c : Cookie) → ShowsLocks space v → has c.0 space.granted ≡ true → IsOfLock space v.granted c
+pub is_of_lock : (space : SpaceState) (v : Target) (c : Cookie) → ShowsLocks space v → has c.0 space.granted ≡ true → IsOfLock space v.granted c
 is_of_lock space v c shows there =
     let one = some_found c.0 v.granted (sym (any_granted space v (λ l. l.cookie.0 == c.0) shows) ∙ there) in
     let same : find (λ l. l.cookie.0 == c.0) space.granted ≡ Some one.0 = find_granted space v c.0 shows ∙ one.1 in

@@ -7,8 +7,8 @@ use Rattle.lu_base.specs.declared.locks.Lock.{Lock}
 use Rattle.lu_base.specs.declared.locks.Resource.{Resource}
 use Rattle.lu_queue.specs.declared.locks.Placed.{Placed}
 use Rattle.lu_queue.specs.declared.locks.Placed.TheVariants as place
-use Rattle.lu_queue.specs.Queues.{lock_under, with_lock, placed}
-use Rattle.lu_lockspace.specs.Spaces.{queue_of, KeepsOthers, IsSpace, grant_of}
+use Rattle.lu_queue.specs.Queues.{with_lock, placed}
+use Rattle.lu_lockspace.specs.Spaces.{queue_of, grant_of}
 use Rattle.lu_words.specs.Words.{Grant}
 use Rattle.lu_target_rows.specs.Replies.{locks_on}
 use Rattle.lu_target_rows.specs.Queues.{has_to_wait}
@@ -18,18 +18,8 @@ use Rattle.lu_target_parts.proofs.LockLists.{not_above}
 use Rattle.lu_target_parts.proofs.Locks.{enqueue_answers, enqueue_granted, enqueue_waits}
 use Rattle.lu_target_parts.proofs.Blocking.{grants_shown}
 use Rattle.lu_locking.specs.declared.server.Enqueued.TheVariants as enqueued
-use Rattle.lu_locking.specs.Servers.{ServerState, Shows, greatest, new_lock, as_grown, enqueued_of, IsEnqueued}
-
--- what the lockspace's call left
-pub record IsAdded (resource : Resource) (ask : Ask) (cookie : Cookie) (p : Placed) (old new : ServerState) : Type 0 where
-  pub next : cookie.0 ≡ greatest old + 1
-  pub is : p ≡ placed (lock_under cookie ask) (queue_of resource old.space)
-  pub added : queue_of resource new.space ≡ with_lock (lock_under cookie ask) (queue_of resource old.space)
-  pub others : KeepsOthers resource old.space new.space
-  pub lawful : IsSpace new.space
-  pub asked : new.asked ≡ old.asked
-  pub greater : greatest new ≡ greatest old + 1
-  pub ticks : new.ticks ≡ old.ticks
+use Rattle.lu_locking.specs.Adding.{IsAdded}
+use Rattle.lu_locking.specs.Servers.{ServerState, Shows, new_lock, as_grown, enqueued_of, IsEnqueued}
 
 above_max : (n m : ℕ) → m ≡ n + 1 → max n m ≡ m
 above_max n m e = omega (arith, e)

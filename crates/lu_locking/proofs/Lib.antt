@@ -4,3 +4,14 @@ pub mod CallingBack
 pub mod Releases
 pub mod Ways
 pub mod Rows
+pub mod Segments
+pub mod GoingOn
+pub mod Departures
+pub mod Admits
+pub mod Stands
+pub mod Reminds
+pub mod LifePlaces
+pub mod Leaves
+pub mod OneMore
+pub mod EvictionsTold
+pub mod Starts

@@ -74,11 +74,11 @@ goes_shown ahead (l ∷ later) asked v shows once =
 
 -- ---- what neither releases nor grants change
 
-ticks_told : (r : Resource) (v w : Target) (grants : List Granted) → (turn w (grants_told r v grants)).ticks ≡ w.ticks
+pub ticks_told : (r : Resource) (v w : Target) (grants : List Granted) → (turn w (grants_told r v grants)).ticks ≡ w.ticks
 ticks_told r v w [] = refl
 ticks_told r v w (g ∷ grants) = ticks_told r v (turn w (grants_told r v (g ∷ []))) grants
 
-ticks_ended : (at : At) (v w : Target) (gs : List Glimpse) → (turn w (glimpses_end at gs v)).ticks ≡ w.ticks
+pub ticks_ended : (at : At) (v w : Target) (gs : List Glimpse) → (turn w (glimpses_end at gs v)).ticks ≡ w.ticks
 ticks_ended at v w [] = refl
 ticks_ended at v w (g ∷ gs) = ticks_ended at v (turn (after w (Ends g)) (row_locked v at g.request)) gs
 
@@ -86,7 +86,7 @@ below_max : (n m : ℕ) → m ≤ n → max n m ≡ n
 below_max n m le = omega (arith, le)
 
 -- a lock that had waited has no new cookie
-cookie_stays : (n : ℕ) (ahead later : List Lock) (v : Target) → v.cookie ≡ n → AllByRecursion (λ l. l.cookie.0 ≤ n) later → (turn v (grants_go ahead later v)).cookie ≡ n
+pub cookie_stays : (n : ℕ) (ahead later : List Lock) (v : Target) → v.cookie ≡ n → AllByRecursion (λ l. l.cookie.0 ≤ n) later → (turn v (grants_go ahead later v)).cookie ≡ n
 cookie_stays n ahead [] v is low = is
 cookie_stays n ahead (l ∷ later) v is low =
     by (has_to_wait v ahead l) (cookie_stays n (ahead ++ l ∷ []) later v is low.1)
@@ -98,7 +98,7 @@ cookie_stays n ahead (l ∷ later) v is low =
     by true waits goes = waits
     by false waits goes = goes
 
-low_on : (n : ℕ) (r : Resource) (locks : List Lock) → All (λ l. l.cookie.0 ≤ n) locks → AllByRecursion (λ l. l.cookie.0 ≤ n) (locks_on r locks)
+pub low_on : (n : ℕ) (r : Resource) (locks : List Lock) → All (λ l. l.cookie.0 ≤ n) locks → AllByRecursion (λ l. l.cookie.0 ≤ n) (locks_on r locks)
 low_on n r [] all = tt
 low_on n r (l ∷ locks) all = by (same_resource l.resource r) (low_on n r locks (rest_all (λ k. k.cookie.0 ≤ n) l locks all)) where
   by : (on : Bool) → AllByRecursion (λ l. l.cookie.0 ≤ n) (locks_on r locks) → AllByRecursion (λ l. l.cookie.0 ≤ n) (cond on (l ∷ locks_on r locks) (locks_on r locks))

@@ -1,3 +1,10 @@
 pub mod Calling
 pub mod Servers
 pub mod Asking
+pub mod Admitted
+pub mod Departing
+pub mod Reminding
+pub mod Standing
+pub mod Adding
+pub mod Leaving
+pub mod Starts

@@ -51,6 +51,11 @@ pub record Shows (s : ServerState) (v : Target) : Type 0 where
   pub cookie : v.cookie ≡ greatest s
   pub ticks : v.ticks ≡ s.ticks
 
+-- It shows as much of a state as it keeps of a target that recovers: how many cookies its boot has given, and its ticks.
+pub record ShowsCounts (s : ServerState) (v : Target) : Type 0 where
+  pub cookie : v.cookie ≡ greatest s
+  pub ticks : v.ticks ≡ s.ticks
+
 -- A target at the start of a boot: it has no locks, has asked nothing, and has given no cookie and counted no tick.
 pub record HasNoLocks (boot : ℕ) (v : Target) : Type 0 where
   pub granted : v.granted ≡ []

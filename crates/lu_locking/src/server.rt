@@ -1,24 +1,39 @@
 //! The locks of a target, with what it has asked of their holders.
 
-ghost use Rattle.std.specs.Prelude.{◌≡◌, ◌⊎◌, ℕ, ◌+◌, ◌<◌, false, Some, is_some, slice_get, IfOk, IfErr, OnOk, OnErr};
+ghost use Rattle.std.specs.Prelude.{◌≡◌, ◌⊎◌, ℕ, ◌+◌, ◌<◌, ◌≤◌, false, [], length, Some, is_some, slice_get, IfOk, IfErr, OnOk, OnErr};
 ghost use Rattle.lu_lock.specs.Overlap.{IsOrdered};
 ghost use Rattle.lu_target_rows.specs.Objects.{lock_of};
 ghost use Rattle.lu_target_rows.specs.Names.{in_way};
 ghost use Rattle.lu_target_rows.specs.Glimpses.{asked_for};
+ghost use Rattle.lu_target_rows.specs.Phase.{first_of};
+ghost use Rattle.lu_target_rows.specs.Leaving.{condemned, sends_again};
+ghost use Rattle.lu_target_rows.specs.Outcomes.{restored};
 ghost use Rattle.lu_target_rows.specs.States.{Target, after};
 ghost use Rattle.lu_words.specs.Carried.{Glimpse};
 ghost use Rattle.lu_words.specs.Words.{Ends, Tick};
-ghost use Rattle.lu_locking.specs.Asking.{kinds_asked, IsGlimpsed, AreShared, cookies_of, AreCalled};
-ghost use Rattle.lu_locking.specs.Servers.{greatest, most_cookies, most_ticks, enqueued_of, Shows, HasNoLocks, IsEnqueued, IsCancel, AreCalledBack};
+ghost use Rattle.lu_target_parts.specs.Callbacks.{ShowsCalls};
+ghost use Rattle.lu_locking.specs.Adding.{IsAdded, IsAdmitted};
+ghost use Rattle.lu_locking.specs.Admitted.{AreAdmitted};
+ghost use Rattle.lu_locking.specs.Asking.{kinds_asked, IsGlimpsed, AreShared, cookies_of as row_cookies, AreCalled};
+ghost use Rattle.lu_locking.specs.Departing.{IsLeft};
+ghost use Rattle.lu_locking.specs.Reminding.{again_told};
+ghost use Rattle.lu_locking.specs.Standing.{AreOrdered, StandAgain};
+ghost use Rattle.lu_locking.specs.Servers.{greatest, most_cookies, most_ticks, enqueued_of, Shows, ShowsCounts, HasNoLocks, IsEnqueued, IsCancel, AreCalledBack};
 ghost use Rattle.lu_locking.specs.declared.faults.LockFault.TheVariants as lock_fault;
 
 use super::calling::call_all;
+use super::departing::{Left, all_go_on, cookies_of, departures, found};
+use super::expiring::holders;
 use super::faults::LockFault;
-use lu_base::{Ask, Cookie, Cookies, Lock, Locks, Memory, Resource, Who, Xid};
-use lu_callback::{Callbacks, Kind};
+use super::reminding::{Reminder, reminders};
+use super::standing::all_stand;
+use lu_base::{
+    Ask, Cookie, Cookies, Lives, Lock, Locks, Memory, Mode, Policy, Resource, Sequence, Who, Xid,
+};
+use lu_callback::{Asked, Callbacks, Kind};
 use lu_lockspace::Lockspace;
 use lu_msg::SizeReport;
-use lu_part::Parts;
+use lu_part::{Parts, Want, Wants};
 use lu_queue::{Grants, Placed};
 use std::alloc::Global;
 use std::marker::Model;
@@ -56,11 +71,11 @@ fn as_placed(lock: Lock, placed: Placed) -> Enqueued
 /// The locks of a target, granted and waiting, and what it has asked of their holders.
 #[derive(Debug, Drop)]
 pub struct LockServer {
-    space: Lockspace,
-    calls: Callbacks,
-    boot: u32,
+    pub(crate) space: Lockspace,
+    pub(crate) calls: Callbacks,
+    pub(crate) boot: u32,
     /// How many cookies the boot has given.
-    count: u32,
+    pub(crate) count: u32,
     ticks: u64,
 }
 
@@ -82,6 +97,7 @@ impl LockServer {
     /// No locks, at the start of this boot. It takes no memory yet.
     pub fn new(alloc: Global, boot: u32) -> LockServer
         ensures shows { (v : Target) → HasNoLocks boot v → Shows result v }
+        ensures counts { (v : Target) → v.cookie ≡ first_of boot → v.ticks ≡ 0 → ShowsCounts result v }
     {
         LockServer {
             space: Lockspace::new(alloc),
@@ -121,19 +137,36 @@ impl LockServer {
             ⊎ ((fault ≡ lock_fault.Memory) × (self.old.count < most_cookies))) }
         ensures kept { OnErr result (self.new ≡ self.old) }
     {
+        let (lock, placed) = self.add(alloc, resource, ask)?;
+        Ok(as_placed(lock, placed))
+    }
+
+    /// Adds a lock under the next cookie. After an error nothing has changed.
+    fn add(
+        &mut self,
+        alloc: Global,
+        resource: Resource,
+        ask: Ask,
+    ) -> Result<(Lock, Placed), LockFault>
+        requires ordered { IsOrdered ask.policy }
+        ensures lock { IfOk result (λ both. both.0 ≡ record { cookie = both.0.cookie; resource = resource; ask = ask }) }
+        ensures added { IfOk result (λ both. IsAdded resource ask both.0.cookie both.1 self.old self.new) }
+        ensures room { IfOk result (λ _. self.old.count < most_cookies) }
+        ensures spent { IfErr result (λ fault. ((fault ≡ lock_fault.CookiesSpent) × (self.old.count ≡ most_cookies))
+            ⊎ ((fault ≡ lock_fault.Memory) × (self.old.count < most_cookies))) }
+        ensures kept { OnErr result (self.new ≡ self.old) }
+    {
         let cookie = self.next_cookie()?;
         let Ok(placed) = self.space.enqueue(alloc, cookie, resource, ask) else {
             return Err(LockFault::Memory);
         };
         self.count += 1;
-        Ok(as_placed(
-            Lock {
-                cookie,
-                resource,
-                ask,
-            },
-            placed,
-        ))
+        let lock = Lock {
+            cookie,
+            resource,
+            ask,
+        };
+        Ok((lock, placed))
     }
 
     /// Calls back what is in the way of the locks that wait on a resource, and answers the locks that weren't called back
@@ -192,7 +225,7 @@ impl LockServer {
     /// The cookies of the granted locks that guard one of these parts, rising: they are in the way of a change of these.
     pub fn in_way(&self, alloc: Global, parts: &Parts) -> Result<Cookies, Memory>
         ensures cookies { IfOk result (λ cookies. (v : Target) → Shows self.now v → AreShared v.granted
-            → cookies ≡ cookies_of (in_way v.granted parts.now)) }
+            → cookies ≡ row_cookies (in_way v.granted parts.now)) }
     {
         let cookies = self.space.clash(alloc, parts)?;
         Ok(cookies)
@@ -246,6 +279,7 @@ impl LockServer {
     /// One tick more. `TicksSpent`, and nothing has changed, exactly where the count stands at 2^64 - 1.
     pub fn tick(&mut self) -> Result<(), LockFault>
         ensures shows { OnOk result ((v : Target) → Shows self.old v → Shows self.new (after v Tick)) }
+        ensures counts { OnOk result ((v : Target) → ShowsCounts self.old v → ShowsCounts self.new (after v Tick)) }
         ensures room { IfOk result (λ _. self.old.ticks < most_ticks) }
         ensures spent { IfErr result (λ fault. (fault ≡ lock_fault.TicksSpent) × (self.old.ticks ≡ most_ticks)) }
         ensures kept { OnErr result (self.new ≡ self.old) }
@@ -255,5 +289,115 @@ impl LockServer {
         }
         self.ticks += 1;
         Ok(())
+    }
+
+    /// The locks of an act of this life at a target of names: one for each want, under the next cookies, all granted.
+    /// `CookiesSpent`, and nothing has changed, exactly where the boot has fewer cookies left than there are wants. After
+    /// want of memory some of them may be granted.
+    pub fn admit(&mut self, alloc: Global, who: Who, wants: &Wants) -> Result<Locks, LockFault>
+        ensures admitted { IfOk result (λ locks. AreAdmitted who wants.now locks self.old self.new) }
+        ensures room { IfOk result (λ _. self.old.count + length wants.now ≤ most_cookies) }
+        ensures spent { IfErr result (λ fault.
+            ((fault ≡ lock_fault.CookiesSpent) × (most_cookies < self.old.count + length wants.now) × (self.new ≡ self.old))
+            ⊎ ((fault ≡ lock_fault.Memory) × (self.old.count + length wants.now ≤ most_cookies))) }
+    {
+        if u64::from(u32::MAX - self.count) < wants.len() as u64 {
+            return Err(LockFault::CookiesSpent);
+        }
+        let mut locks = Vec::new(alloc);
+        for want in wants.as_slice() {
+            let Ok(lock) = self.admit_one(alloc, who, *want) else {
+                return Err(LockFault::Memory);
+            };
+            if locks.push(lock).is_err() {
+                return Err(LockFault::Memory);
+            }
+        }
+        Ok(Locks::from(locks))
+    }
+
+    /// One of them.
+    fn admit_one(&mut self, alloc: Global, who: Who, want: Want) -> Result<Lock, LockFault>
+        ensures admitted { IfOk result (λ lock. IsAdmitted who want lock self.old self.new) }
+    {
+        let resource = Resource {
+            fid: want.fid,
+            stripe: 0,
+        };
+        let ask = Ask {
+            who,
+            mode: Mode::PR,
+            policy: Policy::Bits(want.bits),
+        };
+        let (lock, _) = self.add(alloc, resource, ask)?;
+        Ok(lock)
+    }
+
+    /// These lives leave with the commit that takes their slots: what each had granted ends, with the glimpses for
+    /// requests of others that wait for it; and then all queues go on. After want of memory some locks may be away, or
+    /// called back.
+    pub fn leave(&mut self, alloc: Global, gone: &[Who]) -> Result<Left, Memory>
+        ensures left { IfOk result (λ left. IsLeft gone.now left self.old self.new) }
+    {
+        let departures = departures(alloc, &self.space, &self.calls, gone)?;
+        let resources = self.space.waited_on(alloc)?;
+        let cookies = cookies_of(alloc, &self.space, gone)?;
+        let grants = self.space.cancel_all(alloc, gone)?;
+        self.calls.end_lives(gone, &cookies);
+        let granted = found(alloc, &self.space, grants.as_slice())?;
+        let steps = all_go_on(
+            alloc,
+            &mut self.calls,
+            &self.space,
+            self.ticks,
+            &granted,
+            resources.as_slice(),
+        )?;
+        Ok(Left { departures, steps })
+    }
+
+    /// The lives of the locks that were called back at least `age` ticks ago, by client and life, each once.
+    pub fn due(&self, alloc: Global, age: u64) -> Result<Lives, Memory>
+        ensures due { IfOk result (λ lives. (v : Target) → Shows self.now v → v.setting.expire ≡ age → lives ≡ condemned v v.called) }
+    {
+        let cookies = self.calls.due(alloc, self.ticks, age)?;
+        let lives = holders(alloc, &self.space, cookies.as_slice())?;
+        Ok(lives)
+    }
+
+    /// All that is outstanding, for `again`.
+    pub fn asked(&self, alloc: Global) -> Result<Sequence<Asked>, Memory>
+        ensures asked { IfOk result (λ asked. (v : Target) → Shows self.now v → ShowsCalls asked v) }
+    {
+        let asked = self.calls.all(alloc)?;
+        Ok(asked)
+    }
+
+    /// What was outstanding before, and still is: in rising cookie, for one lock its block first and then its glimpses.
+    pub fn again(
+        &self,
+        alloc: Global,
+        before: &Sequence<Asked>,
+    ) -> Result<Sequence<Reminder>, Memory>
+        ensures again { IfOk result (λ reminders. (v w : Target) → ShowsCalls before.now v → Shows self.now w
+            → sends_again w v.called v.glimpses w.granted ≡ again_told w reminders) }
+    {
+        let reminders = reminders(alloc, &self.calls, &self.space, before.as_slice())?;
+        Ok(Sequence::from(reminders))
+    }
+
+    /// At the close of a window these locks stand again, in their order, but for those that meet one before; it answers
+    /// them. Whatever locks there were are forgotten. After want of memory nothing has changed. It answers that too where
+    /// a cookie comes twice.
+    pub fn restore(&mut self, alloc: Global, locks: &Locks) -> Result<Locks, Memory>
+        requires ordered { AreOrdered locks.now }
+        ensures stand { IfOk result (λ standing. standing ≡ restored [] locks.now) }
+        ensures shows { OnOk result ((v w : Target) → ShowsCounts self.old v → StandAgain locks.now v w → Shows self.new w) }
+        ensures kept { OnErr result (self.new ≡ self.old) }
+    {
+        let (space, standing) = all_stand(alloc, locks.as_slice())?;
+        self.space = space;
+        self.calls = Callbacks::new(alloc);
+        Ok(standing)
     }
 }

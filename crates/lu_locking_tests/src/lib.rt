@@ -5,3 +5,5 @@
 
 #[cfg(test)]
 mod servers;
+#[cfg(test)]
+mod turns;
