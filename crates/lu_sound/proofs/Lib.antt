@@ -1,0 +1,15 @@
+pub mod Requests
+pub mod Taken
+pub mod Entries
+pub mod Commits
+pub mod Blocks
+pub mod Names
+pub mod Glimpses
+pub mod Objects
+pub mod Turns
+pub mod Holders
+pub mod Closing
+pub mod Plain
+pub mod Numbers
+pub mod Failing
+pub mod Spent

@@ -1,0 +1,3 @@
+pub mod Requests
+pub mod Sound
+pub mod Numbers
