@@ -1,6 +1,9 @@
--- The batch has no transaction.
+-- The batch has no transaction, and the disk was loaded as it is.
+use Rattle.std.proofs.Common.{subst, sym}
+use Rattle.lu_store_tests.specs.Disks.{IsOne}
 use Rattle.lu_store_tests.proofs.Disks.{one_below}
 use Rattle.lu_store_tests.proofs.stores.booted.Goals as goal
 
-pub boot-requires : goal.boot-requires
-boot-requires c = record { below = one_below c.in_ok-disk_of_boot_3.field-0.batches c.in_ok-disk_of_boot_3.ensures.batch }
+pub boot-requires-clause-below : goal.boot-requires-clause-below
+boot-requires-clause-below c =
+    one_below c.load.new.self.batches (subst IsOne (sym c.in_ok-batches.ensures.same) c.in_ok-disk.ensures.batch)
