@@ -1,0 +1,21 @@
+-- The tick is counted, and then what comes of it.
+use Rattle.std.proofs.Common.{◌≡◌, [], ◌∷◌, ap, subst}
+use Rattle.std.proofs.lemmas.Result.{on_ok_weaker}
+use Rattle.lu_base.specs.declared.ids.At.{At}
+use Rattle.lu_trace.specs.Turns.{Making}
+use Rattle.lu_words.specs.Words.{Tick}
+use Rattle.lu_target_rows.specs.Leaving.{ticked}
+use Rattle.lu_turns.specs.Servers.{Makes}
+use Rattle.lu_turns.proofs.Composing.{makes_then}
+use Rattle.lu_turns.proofs.server.Server.tick.Goals as goal
+
+pub returns-clause-makes : goal.returns-clause-makes
+returns-clause-makes g c =
+    let s = c.args.self.now in
+    let mid = c.count_tick.new.self in
+    let now = c.expire_and_remind.new.self in
+    let at : c.count_tick.new.turn.at ≡ c.args.turn.now.at = ap (λ (making : Making). making.at) c.in_ok-count_tick.ensures.given in
+    on_ok_weaker c.expire_and_remind.result
+    (λ makes. makes_then (λ v. Tick ∷ []) (ticked c.args.turn.now.at) s mid now c.args.turn.now c.count_tick.new.turn c.expire_and_remind.new.turn
+    (record { gives = λ v shows. c.in_ok-count_tick.ensures.given; shows = c.in_ok-count_tick.ensures.shows })
+    (subst (λ (it : At). Makes (ticked it) mid now c.count_tick.new.turn c.expire_and_remind.new.turn) at makes)) c.expire_and_remind.ensures.makes

@@ -1,0 +1,17 @@
+pub mod Faults
+pub mod Giving
+pub mod Requests
+pub mod Servers
+pub mod Answering
+pub mod Commits
+pub mod Objects
+pub mod Passes
+pub mod Middles
+pub mod Releases
+pub mod Joins
+pub mod Givers
+pub mod Recovering
+pub mod Passing
+pub mod Closing
+pub mod Booting
+pub mod Acting
