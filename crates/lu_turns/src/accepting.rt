@@ -1,6 +1,6 @@
 //! Which requests may be taken.
 
-ghost use Rattle.std.specs.Prelude.{IsTrue};
+ghost use Rattle.std.specs.Prelude.{IsTrue, ◌↔◌};
 ghost use Rattle.lu_service.specs.Takes.{IsNamed, IsOnObject};
 ghost use Rattle.lu_turns.specs.Servers.{Stands, MayTake};
 
@@ -17,7 +17,7 @@ const MOST_PAGES: u64 = 1 << 28;
 
 /// Whether it is an operation on names.
 fn is_named(op: &Op) -> bool
-    ensures test { IsTrue result → IsNamed op.now }
+    ensures test { IsTrue result ↔ IsNamed op.now }
 {
     match op {
         Op::Create { count, .. } => *count >= -1,
@@ -29,7 +29,7 @@ fn is_named(op: &Op) -> bool
 
 /// Whether it is one on an object, in a range that is in order and ends at or below the limit.
 fn is_on_object(op: &Op) -> bool
-    ensures test { IsTrue result → IsOnObject op.now }
+    ensures test { IsTrue result ↔ IsOnObject op.now }
 {
     match op {
         Op::Enqueue { extent, .. } => extent.first <= extent.last,
@@ -48,7 +48,7 @@ impl<S: Service, D: Disk> Server<S, D> {
     /// request that waits of its life and number has its tag.
     pub fn accepts(&self, request: &Request) -> bool
         requires stands { Stands self.now }
-        ensures may { IsTrue result → MayTake request.now self.now }
+        ensures may { IsTrue result ↔ MayTake request.now self.now }
     {
         if !self.serves(request.who) || request.tag >= TAGS || !self.requests.agree(request) {
             return false;

@@ -1,6 +1,6 @@
 //! Requests that wait to be answered.
 
-ghost use Rattle.std.specs.Prelude.{◌≡◌, ◌++◌, [], ◌∷◌, true, not, filter, length, slice_get, All, OnOk, OnErr, IsTrue};
+ghost use Rattle.std.specs.Prelude.{◌≡◌, ◌↔◌, ◌++◌, [], ◌∷◌, true, not, filter, length, slice_get, All, OnOk, OnErr, IsTrue};
 ghost use Rattle.std.specs.Option.{option_copied};
 ghost use Rattle.lu_target_rows.specs.Lives.{is_life};
 ghost use Rattle.lu_target_rows.specs.Locks.{same_request};
@@ -61,7 +61,7 @@ impl Requests {
 
     /// Whether each request of the life and number of this one has its tag.
     pub(crate) fn agree(&self, request: &Request) -> bool
-        ensures tags { IsTrue result → All (λ q. same_request q request.now ≡ true → q.tag ≡ request.now.tag) self.now }
+        ensures tags { IsTrue result ↔ All (λ q. same_request q request.now ≡ true → q.tag ≡ request.now.tag) self.now }
     {
         for other in &self.items {
             if other.who == request.who && other.xid == request.xid && other.tag != request.tag {

@@ -47,7 +47,10 @@ returns c =
     let r = c.args.request.now in
     let items = c.deref-other-items.result.now in
     record {
-      tags = λ t.
-          subst (All (agrees r)) (c.deref-other-items.ensures.value ∙ c.self.view_is)
-          (c.loop-other.invariant (subst (All (agrees r)) (sym (drop_all c.loop-other.other-index items c.loop-other-test.false)) (All-nil (agrees r))));
+      tags = (
+        λ t.
+            subst (All (agrees r)) (c.deref-other-items.ensures.value ∙ c.self.view_is)
+            (c.loop-other.invariant (subst (All (agrees r)) (sym (drop_all c.loop-other.other-index items c.loop-other-test.false)) (All-nil (agrees r)))),
+        λ _. refl,
+      );
     }
