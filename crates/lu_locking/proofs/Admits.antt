@@ -43,7 +43,7 @@ from_more n who (w ∷ wants) want =
     ap (λ (ls : List Lock). wanted_lock n who w ∷ ls) (from_more (n + 1) who wants want ∙ ap (λ (m : ℕ). locks_from (n + 1) who wants ++ wanted_lock m who want ∷ []) same)
 
 pub none_admitted : (who : Who) (old : ServerState) → AllAdmitted who [] [] old old
-none_admitted who old = record { locks_are = refl; spaces = refl; asked = refl; greater = omega arith; ticks = refl }
+none_admitted who old = record { locks_are = refl; spaces = refl; asked = refl; boots = refl; counted = λ low. low; greater = omega arith; ticks = refl }
 
 pub admitted_more : (who : Who) (wants : List Want) (want : Want) (locks : List Lock) (lock : Lock) (old mid new : ServerState) → AllAdmitted who wants locks old mid → IsAdmitted who want lock mid new →
     AllAdmitted who (wants ++ want ∷ []) (locks ++ lock ∷ []) old new
@@ -59,6 +59,8 @@ admitted_more who wants want locks lock old mid new all one = record {
       let b = all.greater in
       omega (arith, whole, a, b);
   ticks = one.added.ticks ∙ all.ticks;
+  boots = one.added.boots ∙ all.boots;
+  counted = λ low. one.added.counted;
 }
   where
     lock_is : lock ≡ wanted_lock (greatest old + length wants) who want
@@ -99,6 +101,10 @@ lines_ticks : (d : Deed) (locks : List Lock) (v : Target) → (turn v (grant_lin
 lines_ticks d [] v = refl
 lines_ticks d (l ∷ locks) v = lines_ticks d locks (after v (Grant l (Some d)))
 
+lines_boot : (d : Deed) (locks : List Lock) (v : Target) → (turn v (grant_lines d locks)).boot ≡ v.boot
+lines_boot d [] v = refl
+lines_boot d (l ∷ locks) v = lines_boot d locks (after v (Grant l (Some d)))
+
 -- ---- locks for reading
 
 with_reading : (l : Lock) (locks : List Lock) → l.ask.mode ≡ PR → AllByRecursion (λ k. k.ask.mode ≡ PR) locks → AllByRecursion (λ k. k.ask.mode ≡ PR) (with_lock l locks)
@@ -132,6 +138,8 @@ are_admitted who wants locks old new all = record {
         calls = moved new.asked (turn w (grant_lines d d.reply.locks)) w.called w.glimpses w.granted (lines_called d d.reply.locks w) (lines_glimpses d d.reply.locks w) lines.0 shown.calls;
         cookie = lines.2 ∙ shown.cookie;
         ticks = lines_ticks d d.reply.locks w ∙ shown.ticks;
+        boot = lines_boot d d.reply.locks w ∙ shown.boot;
+        counted = shown.counted;
       };
   reading = λ v d s reading same.
       All-from_recursion (λ k. k.ask.mode ≡ PR) (with_locks d.reply.locks v.granted)
@@ -159,4 +167,6 @@ are_admitted who wants locks old new all = record {
           ap (greatest_cookie v.cookie) (sym (told_are v d s same)) ∙ greatest_from v.cookie who wants
           ∙ ap (λ n. n + length wants) s.cookie ∙ sym all.greater;
       ticks = s.ticks ∙ sym all.ticks;
+      boot = s.boot ∙ sym all.boots;
+      counted = all.counted s.counted;
     }

@@ -44,6 +44,20 @@ ticks_blocks_go v (l ∷ locks) =
     let es : List Entry = blocks v (conflicting v l) in
     ap (λ (w : Target). w.ticks) (turn-append v es (blocks_go locks (turn v es))) ∙ ticks_blocks_go (turn v es) locks ∙ ticks_blocks v v (conflicting v l)
 
+pub boot_blocks : (v w : Target) (locks : List Lock) → (turn w (blocks v locks)).boot ≡ w.boot
+boot_blocks v w [] = refl
+boot_blocks v w (l ∷ locks) = by (is_called l.cookie v.called) (boot_blocks v w locks) (boot_blocks v (turn w (Block (called v l) ∷ block_of v l ∷ [])) locks) where
+  by : (was : Bool) → (turn w (blocks v locks)).boot ≡ w.boot → (turn (turn w (Block (called v l) ∷ block_of v l ∷ [])) (blocks v locks)).boot ≡ w.boot
+      → (turn w (if was then blocks v locks else Block (called v l) ∷ block_of v l ∷ blocks v locks)).boot ≡ w.boot
+  by true same more = same
+  by false same more = more
+
+boot_blocks_go : (v : Target) (locks : List Lock) → (turn v (blocks_go locks v)).boot ≡ v.boot
+boot_blocks_go v [] = refl
+boot_blocks_go v (l ∷ locks) =
+    let es : List Entry = blocks v (conflicting v l) in
+    ap (λ (w : Target). w.boot) (turn-append v es (blocks_go locks (turn v es))) ∙ boot_blocks_go (turn v es) locks ∙ boot_blocks v v (conflicting v l)
+
 -- ---- one lock after another
 
 told_later : (v : Target) (l : Lock) (locks : List Lock) → blocks_told (turn v (Block (called v l) ∷ block_of v l ∷ [])) locks ≡ blocks_told v locks
@@ -143,6 +157,8 @@ called_back r cookies asked locks old are is = record {
         (subst (λ (asks : List Asked). ShowsCalls asks (turn v (blocks v (named cookies v.granted)))) (sym (ap (λ (c : Calling). c.asked) is)) (whole v s).3);
     cookie = left.2 ∙ s.cookie;
     ticks = ticks_blocks_go v (locks_on r v.waiting) ∙ s.ticks;
+    boot = boot_blocks_go v (locks_on r v.waiting) ∙ s.boot;
+    counted = s.counted;
   };
 }
   where

@@ -40,12 +40,16 @@ is_enqueued resource ask cookie p old new is = record {
         (grants_shown v old.asked (as_grown v (new_lock v resource ask)) asked s.calls (not_above v.cookie (v.cookie + 1) v.granted (omega arith) s.locks.granted));
     cookie = above_max v.cookie (v.cookie + 1) refl ∙ ap (λ n. n + 1) s.cookie ∙ sym is.greater;
     ticks = s.ticks ∙ sym is.ticks;
+    boot = s.boot ∙ sym is.boots;
+    counted = is.counted;
   };
   waits = λ v d s waits. record {
     locks = enqueue_waits old.space new.space v (new_lock v resource ask) d s.locks refl (added v s) is.others is.lawful waits;
     calls = subst (λ asks. ShowsCalls asks v) (sym is.asked) s.calls;
     cookie = above_max v.cookie (v.cookie + 1) refl ∙ ap (λ n. n + 1) s.cookie ∙ sym is.greater;
     ticks = s.ticks ∙ sym is.ticks;
+    boot = s.boot ∙ sym is.boots;
+    counted = is.counted;
   };
 }
   where

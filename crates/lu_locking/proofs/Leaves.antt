@@ -38,13 +38,13 @@ use Rattle.lu_target_parts.proofs.LocksLeaving.{Settled, Left as Leaves, listed,
 use Rattle.lu_locking.specs.declared.departing.Left.{Left}
 use Rattle.lu_locking.specs.declared.departing.QueueStep.{QueueStep}
 use Rattle.lu_locking.specs.declared.departing.QueueStep.TheVariants as step
-use Rattle.lu_locking.specs.Servers.{ServerState, Shows, greatest}
+use Rattle.lu_locking.specs.Servers.{ServerState, Shows, greatest, most_cookies}
 use Rattle.lu_locking.specs.Departing.{departed, steps_told, IsLeft}
 use Rattle.lu_locking.specs.Leaving.{AreDepartures, AreTheirs, AllHaveGoneOn, found_all}
 use Rattle.lu_locking.proofs.Departures.{departures_are, without_theirs}
 use Rattle.lu_locking.proofs.EvictionsTold.{evictions_at_once}
 use Rattle.lu_locking.proofs.GoingOn.{told_itself, Comes, through, through_other, through_listed, all_go}
-use Rattle.lu_locking.proofs.Releases.{ticks_ended}
+use Rattle.lu_locking.proofs.Releases.{ticks_ended, boot_ended}
 use Rattle.lu_locking.proofs.Segments.{IsSegment, segments}
 
 -- ---- ticks
@@ -63,6 +63,21 @@ ticks_evictions at cause granted (who ∷ gone) v w =
     ap (λ (x : Target). x.ticks) (turn-append w es (evictions at cause granted gone (turn v es)))
     ∙ ticks_evictions at cause granted gone (turn v es) (turn w es)
     ∙ ticks_released at (locks_of who granted) v (turn w (Evict who cause ∷ evicted v who ∷ []))
+
+boot_released : (at : At) (locks : List Lock) (v w : Target) → (turn w (all_released at locks v)).boot ≡ w.boot
+boot_released at [] v w = refl
+boot_released at (l ∷ locks) v w =
+    let es : List Entry = releases at l v in
+    ap (λ (x : Target). x.boot) (turn-append w es (all_released at locks (turn v es)))
+    ∙ boot_released at locks (turn v es) (turn w es) ∙ boot_ended at v (after w (Release l)) (glimpses_of l v.glimpses)
+
+boot_evictions : (at : At) (cause : Cause) (granted : List Lock) (gone : List Who) (v w : Target) → (turn w (evictions at cause granted gone v)).boot ≡ w.boot
+boot_evictions at cause granted [] v w = refl
+boot_evictions at cause granted (who ∷ gone) v w =
+    let es : List Entry = Evict who cause ∷ evicted v who ∷ all_released at (locks_of who granted) v in
+    ap (λ (x : Target). x.boot) (turn-append w es (evictions at cause granted gone (turn v es)))
+    ∙ boot_evictions at cause granted gone (turn v es) (turn w es)
+    ∙ boot_released at (locks_of who granted) v (turn w (Evict who cause ∷ evicted v who ∷ []))
 
 -- ---- the resources on which something waits
 
@@ -242,6 +257,8 @@ pub record HasLeft (gone : List Who) (left : Left) (old new : ServerState) : Typ
   pub went : AllHaveGoneOn new.space old.ticks (found_all new.space grants) resources mid left.steps new.asked
   pub greater : greatest new ≡ greatest old
   pub ticks : new.ticks ≡ old.ticks
+  pub boots : new.boot ≡ old.boot
+  pub counts : new.count ≡ old.count
 
 abbrev Goes : Target → List Entry → Left → ServerState → Type 0
 Goes u es left new = (es ≡ steps_told u left.steps) × Shows new (turn u es)
@@ -320,6 +337,8 @@ goes_on left old new v at cause to batch s has = subst (λ es. Goes u es left ne
     calls = all.2;
     cookie = all.4 ∙ cookie ∙ sym has.greater;
     ticks = all.3.ticks ∙ now ∙ sym has.ticks;
+    boot = all.3.boot ∙ boot_evictions at cause v.granted gone w w ∙ s.boot ∙ sym has.boots;
+    counted = subst (λ n. n ≤ most_cookies) (sym has.counts) s.counted;
   }
 
   same_queues : queues_go rs u ≡ all_queues_go u

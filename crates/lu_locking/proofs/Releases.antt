@@ -30,7 +30,7 @@ use Rattle.lu_target_parts.proofs.Locks.{once_in, leaves_glimpses, granted_there
 use Rattle.lu_target_parts.proofs.Answered as calls
 use Rattle.lu_target_parts.proofs.Answered.{release_granted}
 use Rattle.lu_target_parts.proofs.Blocking.{grants_shown}
-use Rattle.lu_locking.specs.Servers.{ServerState, Shows, greatest, IsReleased}
+use Rattle.lu_locking.specs.Servers.{ServerState, Shows, greatest, most_cookies, IsReleased}
 
 -- ---- grants
 
@@ -82,6 +82,14 @@ pub ticks_ended : (at : At) (v w : Target) (gs : List Glimpse) → (turn w (glim
 ticks_ended at v w [] = refl
 ticks_ended at v w (g ∷ gs) = ticks_ended at v (turn (after w (Ends g)) (row_locked v at g.request)) gs
 
+boot_told : (r : Resource) (v w : Target) (grants : List Granted) → (turn w (grants_told r v grants)).boot ≡ w.boot
+boot_told r v w [] = refl
+boot_told r v w (g ∷ grants) = boot_told r v (turn w (grants_told r v (g ∷ []))) grants
+
+pub boot_ended : (at : At) (v w : Target) (gs : List Glimpse) → (turn w (glimpses_end at gs v)).boot ≡ w.boot
+boot_ended at v w [] = refl
+boot_ended at v w (g ∷ gs) = boot_ended at v (turn (after w (Ends g)) (row_locked v at g.request)) gs
+
 below_max : (n m : ℕ) → m ≤ n → max n m ≡ n
 below_max n m le = omega (arith, le)
 
@@ -108,9 +116,9 @@ low_on n r (l ∷ locks) all = by (same_resource l.resource r) (low_on n r locks
 -- ---- the whole
 
 pub is_released : (who : Who) (cookie : Cookie) (l : Lock) (grants : List Granted) (old new : ServerState) → ((v : Target) → Shows old v → Some l ≡ lock_of who cookie v.granted)
-    → IsCancelled cookie.0 old.space grants new.space → IsSpace new.space → new.asked ≡ without cookie old.asked → IsSound new.asked → greatest new ≡ greatest old → new.ticks ≡ old.ticks
+    → IsCancelled cookie.0 old.space grants new.space → IsSpace new.space → new.asked ≡ without cookie old.asked → IsSound new.asked → greatest new ≡ greatest old → new.ticks ≡ old.ticks → new.boot ≡ old.boot → new.count ≡ old.count
     → IsReleased who cookie (record { lock = l; granted = grants }) old new
-is_released who cookie l grants old new found cancelled lawful asked sound greater ticks = record {
+is_released who cookie l grants old new found cancelled lawful asked sound greater ticks boots counts = record {
   was = λ v s. sym (found v s);
   granted = λ v at s. (space v at s).0;
   shows = λ v at s. let w = turn v (releases at l v) in record {
@@ -118,6 +126,8 @@ is_released who cookie l grants old new found cancelled lawful asked sound great
     calls = subst (λ (es : List Entry). ShowsCalls new.asked (turn w es)) (space v at s).0 (goes_shown [] (locks_on l.resource w.waiting) new.asked w (there v at s) (once v at s));
     cookie = ap (λ (es : List Entry). (turn w es).cookie) (sym (space v at s).0) ∙ cookie_stays v.cookie [] (locks_on l.resource w.waiting) w (leaves_glimpses at v (after v (Release l)) (glimpses_of l v.glimpses)).2 (low v at s) ∙ s.cookie ∙ sym greater;
     ticks = ticks_told l.resource w w grants ∙ ticks_ended at v (after v (Release l)) (glimpses_of l v.glimpses) ∙ s.ticks ∙ sym ticks;
+    boot = boot_told l.resource w w grants ∙ boot_ended at v (after v (Release l)) (glimpses_of l v.glimpses) ∙ s.boot ∙ sym boots;
+    counted = subst (λ n. n ≤ most_cookies) (sym counts) s.counted;
   };
 }
   where

@@ -35,7 +35,7 @@ deed_granted v at r l = answered v at r (told.Granted l.cookie (extent_of l) (si
 
 -- a message changes nothing
 replied : (s : ServerState) (v : Target) (d : Deed) → Shows s v → Shows s (after v (replies d))
-replied s v d shows = record { locks = locks_same s.space v (after v (replies d)) refl refl refl shows.locks; calls = shows.calls; cookie = shows.cookie; ticks = shows.ticks }
+replied s v d shows = record { locks = locks_same s.space v (after v (replies d)) refl refl refl shows.locks; calls = shows.calls; boot = shows.boot; counted = shows.counted; cookie = shows.cookie; ticks = shows.ticks }
 
 -- it waits, and calls back what is in its way
 abbrev pub waits_told : Target → At → Request → Lock → List Lock → List Entry

@@ -125,6 +125,8 @@ stand_shown space locks old new v w counts again steps lawful sound is =
       calls = moved [] w [] [] w.granted again.called again.glimpses refl nothing;
       cookie = again.cookie ∙ counts.cookie;
       ticks = again.ticks ∙ counts.ticks;
+      boot = again.boot ∙ counts.boot;
+      counted = counts.counted;
     })
   where
     nothing : ShowsAsked [] [] [] w.granted

@@ -25,7 +25,7 @@ use Rattle.lu_locking.specs.Calling.{Calling, calling, call_all}
 use Rattle.lu_locking.specs.Servers.{ServerState, Shows, blocks_told}
 use Rattle.lu_locking.specs.Asking.{cookies_of, AreCalled, IsGlimpsed}
 use Rattle.lu_locking.proofs.Cookies.{StandOnce, rising_once, all_of_locks}
-use Rattle.lu_locking.proofs.CallingBack.{Ends, all_called, ticks_blocks}
+use Rattle.lu_locking.proofs.CallingBack.{Ends, all_called, ticks_blocks, boot_blocks}
 
 -- ---- locks by their cookies
 
@@ -81,6 +81,8 @@ module _ (cookies : List Cookie) (asked : List Asked) (locks : List Lock) (old :
           (subst (λ (asks : List Asked). ShowsCalls asks (turn v (blocks v (named cookies v.granted)))) (sym (ap (λ (c : Calling). c.asked) is)) (whole v test s e).3);
       cookie = left.2 ∙ s.cookie;
       ticks = ticks_blocks v v (filter test v.granted) ∙ s.ticks;
+      boot = boot_blocks v v (filter test v.granted) ∙ s.boot;
+      counted = s.counted;
     };
   }
 
@@ -95,6 +97,8 @@ is_glimpsed cookie who xid new asked old e added sound = record {
     locks = locks_same old.space v (turn v (row_asks v r resource l)) refl refl refl s.locks;
     calls = asks_glimpse v old.asked asked r resource l new old.ticks s.calls (subst (λ (c : Cookie). list_any (is_of_lock c) v.granted ≡ true) (sym same_cookie) held) first
         (added ∙ (λ i. if new then with_asked (record { cookie = sym same_cookie i; kind = kind.Glimpse (sym same_who i) (sym same_xid i); tick = old.ticks }) old.asked else old.asked)) sound;
+    boot = s.boot;
+    counted = s.counted;
     cookie = s.cookie;
     ticks = s.ticks;
   };

@@ -1,5 +1,5 @@
 -- What adding locks leaves of the lockspace and of what stands beside it.
-use Rattle.std.specs.Prelude.{◌≡◌, ◌+◌, List, length}
+use Rattle.std.specs.Prelude.{◌≡◌, ◌+◌, ◌≤◌, List, length}
 use Rattle.lu_base.specs.declared.ids.Cookie.{Cookie}
 use Rattle.lu_base.specs.declared.ids.Who.{Who}
 use Rattle.lu_base.specs.declared.locks.Ask.{Ask}
@@ -13,7 +13,7 @@ use Rattle.lu_queue.specs.Queues.{lock_under, with_lock, placed}
 use Rattle.lu_lockspace.specs.Spaces.{queue_of, KeepsOthers, IsSpace}
 use Rattle.lu_target_rows.specs.Names.{locks_from}
 use Rattle.lu_target_parts.specs.Locks.{AreEnqueued}
-use Rattle.lu_locking.specs.Servers.{ServerState, greatest}
+use Rattle.lu_locking.specs.Servers.{ServerState, greatest, most_cookies}
 
 -- one lock, under the next cookie
 pub record IsAdded (resource : Resource) (ask : Ask) (cookie : Cookie) (p : Placed) (old new : ServerState) : Type 0 where
@@ -23,6 +23,8 @@ pub record IsAdded (resource : Resource) (ask : Ask) (cookie : Cookie) (p : Plac
   pub others : KeepsOthers resource old.space new.space
   pub lawful : IsSpace new.space
   pub asked : new.asked ≡ old.asked
+  pub boots : new.boot ≡ old.boot
+  pub counted : new.count ≤ most_cookies
   pub greater : greatest new ≡ greatest old + 1
   pub ticks : new.ticks ≡ old.ticks
 
@@ -44,5 +46,7 @@ pub record AllAdmitted (who : Who) (wants : List Want) (locks : List Lock) (old 
   pub locks_are : locks ≡ locks_from (greatest old) who wants
   pub spaces : AreEnqueued locks old.space new.space
   pub asked : new.asked ≡ old.asked
+  pub boots : new.boot ≡ old.boot
+  pub counted : old.count ≤ most_cookies → new.count ≤ most_cookies
   pub greater : greatest new ≡ greatest old + length wants
   pub ticks : new.ticks ≡ old.ticks

@@ -1,5 +1,5 @@
 -- The locks of a target with what it has asked of their holders, as its calls see it and as the rows read it.
-use Rattle.std.specs.Prelude.{◌≡◌, ℕ, ◌+◌, if◌then◌else◌, true, false, List, [], ◌∷◌, Option, Some, None}
+use Rattle.std.specs.Prelude.{◌≡◌, ℕ, ◌+◌, ◌≤◌, if◌then◌else◌, true, false, List, [], ◌∷◌, Option, Some, None}
 use Rattle.lu_base.specs.declared.ids.At.{At}
 use Rattle.lu_base.specs.declared.ids.Cookie.{Cookie}
 use Rattle.lu_base.specs.declared.ids.Who.{Who}
@@ -48,11 +48,15 @@ most_ticks = 18446744073709551615
 pub record Shows (s : ServerState) (v : Target) : Type 0 where
   pub locks : ShowsLocks s.space v
   pub calls : ShowsCalls s.asked v
+  pub boot : v.boot ≡ s.boot
+  pub counted : s.count ≤ most_cookies
   pub cookie : v.cookie ≡ greatest s
   pub ticks : v.ticks ≡ s.ticks
 
 -- It shows as much of a state as it keeps of a target that recovers: how many cookies its boot has given, and its ticks.
 pub record ShowsCounts (s : ServerState) (v : Target) : Type 0 where
+  pub boot : v.boot ≡ s.boot
+  pub counted : s.count ≤ most_cookies
   pub cookie : v.cookie ≡ greatest s
   pub ticks : v.ticks ≡ s.ticks
 
@@ -62,6 +66,7 @@ pub record HasNoLocks (boot : ℕ) (v : Target) : Type 0 where
   pub waiting : v.waiting ≡ []
   pub called : v.called ≡ []
   pub glimpses : v.glimpses ≡ []
+  pub boots : v.boot ≡ boot
   pub cookie : v.cookie ≡ first_of boot
   pub ticks : v.ticks ≡ 0
 

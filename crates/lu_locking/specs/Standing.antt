@@ -21,5 +21,6 @@ pub record StandAgain (locks : List Lock) (v w : Target) : Type 0 where
   pub waiting : w.waiting ≡ []
   pub called : w.called ≡ []
   pub glimpses : w.glimpses ≡ []
+  pub boot : w.boot ≡ v.boot
   pub cookie : w.cookie ≡ v.cookie
   pub ticks : w.ticks ≡ v.ticks

@@ -97,7 +97,8 @@ impl LockServer {
     /// No locks, at the start of this boot. It takes no memory yet.
     pub fn new(alloc: Global, boot: u32) -> LockServer
         ensures shows { (v : Target) → HasNoLocks boot v → Shows result v }
-        ensures counts { (v : Target) → v.cookie ≡ first_of boot → v.ticks ≡ 0 → ShowsCounts result v }
+        ensures counts { (v : Target) → v.boot ≡ boot → v.cookie ≡ first_of boot → v.ticks ≡ 0
+            → ShowsCounts result v }
     {
         LockServer {
             space: Lockspace::new(alloc),

@@ -16,4 +16,4 @@ returns-clause-released c =
     let found : (v : Target) → Shows c.args.self.now v → Some c.in-Some.lock ≡ lock_of c.args.who c.args.cookie v.granted = search rules in
     subst (λ (s : ServerState). IsReleased c.args.who c.args.cookie released s new) c.self.view_is
     (is_released c.args.who c.args.cookie c.in-Some.lock c.in-Ok.granted old new (λ v s. found v (subst (λ (it : ServerState). Shows it v) c.self.view_is s))
-    c.in-Ok.ensures.granted c.in-Ok.ensures.lawful c.answered.ensures.without c.answered.ensures.sound refl refl)
+    c.in-Ok.ensures.granted c.in-Ok.ensures.lawful c.answered.ensures.without c.answered.ensures.sound refl refl refl refl)

@@ -33,5 +33,7 @@ returns c =
           (subst (λ rs. AllHaveGoneOn c.cancel_all.new.self it.ticks c.deref.result.now rs c.end_lives.new.self c.in_ok-steps.steps c.all_go_on.new.calls) resources c.in_ok-steps.ensures.gone);
       greater = refl;
       ticks = refl;
+      boots = refl;
+      counts = refl;
     } in
     record { left = subst (λ (s : ServerState). IsLeft c.args.gone.now left s new) c.self.view_is (is_left c.args.gone.now left old new has) }

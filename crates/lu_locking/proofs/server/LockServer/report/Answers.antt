@@ -20,6 +20,8 @@ returns-clause-shows c =
       calls = reports v c.self.inside.calls c.glimpsed.new.self c.args.report.now g own.calls is c.glimpsed.ensures.without c.glimpsed.ensures.sound;
       cookie = own.cookie;
       ticks = own.ticks;
+      boot = own.boot;
+      counted = own.counted;
     }
 
 pub returns-clause-kept : goal.returns-clause-kept
