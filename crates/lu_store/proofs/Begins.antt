@@ -17,17 +17,23 @@ use Rattle.lu_store.specs.Taken.{Entries, taken_of}
 use Rattle.lu_store.specs.Commits.{last_boot}
 use Rattle.lu_store.specs.Stores.{Serves, Recovers}
 
+-- what goes to the disk at the start is the slots
+pub begun_stored : (clients : ℕ) (first : List Who) (j : JournalState) (old batches : List Batch) → first ≡ lives_from 0 clients → j ≡ fresh first → old ≡ []
+    → batches ≡ old ++ batch_of 0 j ∷ [] → batches ≡ first_batch clients ∷ []
+begun_stored clients first j old batches lives is_fresh none is_batches =
+    is_batches ∙ ap (λ before. before ++ batch_of 0 j ∷ []) none ∙ ap (λ (it : JournalState). batch_of 0 it ∷ []) (is_fresh ∙ ap fresh lives)
+    ∙ ap (λ (batch : Batch). batch ∷ []) (parts.first_batch_is clients)
+
 pub begun : (setting : Setting) (clients : ℕ) (first : List Who) (j new_j : JournalState) (taken : Entries) (old batches : List Batch) (n : ℕ)
-    → first ≡ lives_from 0 clients → j ≡ fresh first → new_j ≡ after_commit 0 j → old ≡ [] → batches ≡ old ++ batch_of 0 j ∷ [] → IsUntaken (taken_of taken)
+    → first ≡ lives_from 0 clients → j ≡ fresh first → new_j ≡ after_commit 0 j → old ≡ [] → batches ≡ old ++ batch_of 0 j ∷ [] → IsUntaken (taken_of taken) → IsSound new_j
     → Serves (record { journal = new_j; taken = taken; batches = batches; faults = n }) (started setting clients)
-begun setting clients first j new_j taken old batches n lives is_fresh is_new none is_batches untaken =
-    let is : j ≡ fresh (lives_from 0 clients) = is_fresh ∙ ap fresh lives in
-    let now : new_j ≡ after_commit 0 (fresh (lives_from 0 clients)) = is_new ∙ ap (after_commit 0) is in
-    let disk : batches ≡ first_batch clients ∷ [] =
-    is_batches ∙ ap (λ before. before ++ batch_of 0 j ∷ []) none ∙ ap (λ (it : JournalState). batch_of 0 it ∷ []) is ∙ ap (λ (batch : Batch). batch ∷ []) (parts.first_batch_is clients) in
+begun setting clients first j new_j taken old batches n lives is_fresh is_new none is_batches untaken sound =
+    let now : new_j ≡ after_commit 0 (fresh (lives_from 0 clients)) = is_new ∙ ap (after_commit 0) (is_fresh ∙ ap fresh lives) in
+    let disk = begun_stored clients first j old batches lives is_fresh none is_batches in
     record {
       journal = subst (λ it. ShowsJournal (taken_of taken) it (started setting clients)) (sym now) (parts.starts (taken_of taken) setting clients untaken);
       disk = subst (λ it. ShowsDisk it (started setting clients)) (sym disk) (parts.start_stores setting clients);
+      sound = sound;
     }
 
 -- ---- the last boot is that of the disk

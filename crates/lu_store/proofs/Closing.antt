@@ -56,9 +56,9 @@ closed_is taken j batches n v deeds gone come to shows sound closing is_to =
 pub closed_shows : (taken new_taken : Entries) (j new_j : JournalState) (batches new_batches : List Batch) (n m : ℕ) (v : Target) (deeds : List Deed) (s : Settled) (gone come : List Who) (to : ℕ)
     → Redoes deeds (record { journal = j; taken = taken; batches = batches; faults = n }) v → IsSound j → IsWithout gone (taken_of taken) (taken_of new_taken)
     → gone_of s.gone ≡ gone → s.joins ≡ come → IsClosing v deeds gone come
-    → to ≡ last_of deeds v.committed → new_j ≡ after_commit to (joined_by come (left_by gone j)) → new_batches ≡ batches ++ batch_of to (joined_by come (left_by gone j)) ∷ []
+    → to ≡ last_of deeds v.committed → new_j ≡ after_commit to (joined_by come (left_by gone j)) → new_batches ≡ batches ++ batch_of to (joined_by come (left_by gone j)) ∷ [] → IsSound new_j
     → Serves (record { journal = new_j; taken = new_taken; batches = new_batches; faults = m }) (turn v (Close (outcome_by v deeds s) ∷ commit_of (outcome_by v deeds s) ∷ []))
-closed_shows taken new_taken j new_j batches new_batches n m v deeds s gone come to shows sound without is_gone is_come closing is_to is_new is_batches =
+closed_shows taken new_taken j new_j batches new_batches n m v deeds s gone come to shows sound without is_gone is_come closing is_to is_new is_batches sound_new =
     let start : JournalState = shows.before in
     let last = last_of deeds v.committed in
     let all : JournalState = all_appended deeds start in
@@ -78,4 +78,5 @@ closed_shows taken new_taken j new_j batches new_batches n m v deeds s gone come
       journal = subst (λ it. ShowsJournal (taken_of new_taken) it after_close) (sym now)
           (parts.closes (taken_of new_taken) batches start v deeds s (untaken_still taken new_taken gone shows.untaken without) shows.disk shows.window shows.sound sound_all closing_s);
       disk = subst (λ it. ShowsDisk it after_close) (sym disk) (parts.close_stores batches start v deeds s shows.disk shows.window shows.sound sound_all closing_s);
+      sound = sound_new;
     }

@@ -127,9 +127,9 @@ stored_is taken j v ds rest gone come to shows sound log once among new apart is
 pub stored_shows : (taken new_taken : Entries) (j new_j : JournalState) (batches new_batches : List Batch) (n m : ℕ) (v : Target) (ds rest : List Deed) (gone come : List Who) (to : ℕ)
     → Serves (record { journal = j; taken = taken; batches = batches; faults = n }) v → IsSound j → v.log ≡ ds ++ rest → AreHeld (without_lives gone v.lives) rest
     → AreOnce gone → AreAmong v.lives gone → AreOnce come → AreApart (without_lives gone v.lives) come → IsWithout gone (taken_of taken) (taken_of new_taken)
-    → to ≡ last_of ds v.committed → new_j ≡ after_commit to (joined_by come (left_by gone j)) → new_batches ≡ batches ++ batch_of to (joined_by come (left_by gone j)) ∷ []
+    → to ≡ last_of ds v.committed → new_j ≡ after_commit to (joined_by come (left_by gone j)) → new_batches ≡ batches ++ batch_of to (joined_by come (left_by gone j)) ∷ [] → IsSound new_j
     → Serves (record { journal = new_j; taken = new_taken; batches = new_batches; faults = m }) (after v (commits v ds gone come))
-stored_shows taken new_taken j new_j batches new_batches n m v ds rest gone come to s sound log held once among new apart without is_to is_new is_batches =
+stored_shows taken new_taken j new_j batches new_batches n m v ds rest gone come to s sound log held once among new apart without is_to is_new is_batches sound_new =
     let moved = joined_by come (left_by gone j) in
     let now : new_j ≡ after_commit (last_of ds v.committed) moved = is_new ∙ ap (λ it. after_commit it moved) is_to in
     let disk : new_batches ≡ batches ++ rows_batch ds gone come ∷ [] =
@@ -139,4 +139,5 @@ stored_shows taken new_taken j new_j batches new_batches n m v ds rest gone come
           (parts.committed (taken_of taken) (taken_of new_taken) j v ds rest gone come s.journal sound log held once among new apart without);
       disk = subst (λ it. ShowsDisk it (after v (commits v ds gone come))) (sym disk)
           (commit_stores (taken_of taken) j v ds rest gone come batches s.journal sound log s.disk);
+      sound = sound_new;
     }

@@ -9,7 +9,7 @@ use Rattle.lu_words.specs.Carried.{Deed, Disk}
 use Rattle.lu_words.specs.Words.{Enters, Act, Answers, Grant, Wait, Txn}
 use Rattle.lu_txn.specs.Slots.{slot_of, with_reply, IsReplyKept}
 use Rattle.lu_txn.specs.Loads.{AreBelow}
-use Rattle.lu_txn.specs.Journals.{JournalState, appended}
+use Rattle.lu_txn.specs.Journals.{JournalState, IsSound, appended}
 use Rattle.lu_target_rows.specs.Replies.{next_number}
 use Rattle.lu_target_rows.specs.States.{Target, after, empty_disk}
 use Rattle.lu_target_rows.specs.Leaving.{is_over}
@@ -40,6 +40,7 @@ pub entered : (j : JournalState) (taken new : Entries) (batches : List Batch) (n
 entered j taken new batches n m r enters v s = record {
   journal = parts.enters (taken_of taken) (taken_of new) j v r enters s.journal;
   disk = disk_moves batches v (after v (Enters r)) refl refl refl refl refl refl s.disk;
+  sound = s.sound;
 }
 
 -- ---- a request is answered without a transaction
@@ -50,6 +51,7 @@ pub record IsKept (j new_j : JournalState) (taken new : Entries) (tag : ℕ) (re
   pub answers : IsAnswered reply.who tag (taken_of taken) (taken_of new)
   pub stored : new_j ≡ record j { slots = with_reply reply.who tag reply j.slots }
   pub replies : IsReplyKept reply.who tag reply j.slots new_j.slots
+  pub sound : IsSound new_j
 
 module _ (j new_j : JournalState) (taken new : Entries) (batches : List Batch) (n m : ℕ) (tag : ℕ) (reply : Reply) (kept : IsKept j new_j taken new tag reply) where
   of_deed : (d : Deed) → d.tag ≡ tag → d.reply ≡ reply → IsKept j new_j taken new d.tag d.reply
@@ -61,18 +63,22 @@ module _ (j new_j : JournalState) (taken new : Entries) (batches : List Batch) (
     acts = λ v d t r s. let k = of_deed d t r in record {
       journal = parts.acts (taken_of taken) (taken_of new) j new_j v d k.some k.answers k.stored k.replies s.journal;
       disk = disk_moves batches v (after v (Act d)) refl refl refl refl refl refl s.disk;
+      sound = k.sound;
     };
     answers = λ v d t r s. let k = of_deed d t r in record {
       journal = parts.answers (taken_of taken) (taken_of new) j new_j v d k.some k.answers k.stored k.replies s.journal;
       disk = disk_moves batches v (after v (Answers d)) refl refl refl refl refl refl s.disk;
+      sound = k.sound;
     };
     grants = λ v l d t r s. let k = of_deed d t r in record {
       journal = parts.grants (taken_of taken) (taken_of new) j new_j v l d k.some k.answers k.stored k.replies s.journal;
       disk = disk_moves batches v (after v (Grant l (Some d))) refl refl refl refl refl refl s.disk;
+      sound = k.sound;
     };
     waits = λ v l d t r s. let k = of_deed d t r in record {
       journal = parts.waits (taken_of taken) (taken_of new) j new_j v l d k.some k.answers k.stored k.replies s.journal;
       disk = disk_moves batches v (after v (Wait l d)) refl refl refl refl refl refl s.disk;
+      sound = k.sound;
     };
   }
 
@@ -80,10 +86,11 @@ module _ (j new_j : JournalState) (taken new : Entries) (batches : List Batch) (
 
 pub transacted : (j new_j : JournalState) (taken new : Entries) (batches : List Batch) (n m : ℕ) (d : Deed)
     → IsSome (slot_of d.reply.who j.slots) → IsSome (taken_of taken d.reply.who d.tag) → IsAnswered d.reply.who d.tag (taken_of taken) (taken_of new)
-    → new_j ≡ appended d.reply.txn d.reply.who d.tag d.op d.writes d.reply j → IsReplyKept d.reply.who d.tag d.reply j.slots new_j.slots
+    → new_j ≡ appended d.reply.txn d.reply.who d.tag d.op d.writes d.reply j → IsReplyKept d.reply.who d.tag d.reply j.slots new_j.slots → IsSound new_j
     → (v : Target) → Serves (record { journal = j; taken = taken; batches = batches; faults = n }) v → d.reply.txn ≡ next_number v
     → Serves (record { journal = new_j; taken = new; batches = batches; faults = m }) (after v (Txn d))
-transacted j new_j taken new batches n m d slot some answers added replies v s next = record {
+transacted j new_j taken new batches n m d slot some answers added replies sound v s next = record {
   journal = parts.transacts (taken_of taken) (taken_of new) j new_j v d next some answers added replies slot s.journal;
   disk = disk_moves batches v (after v (Txn d)) refl refl refl refl refl refl s.disk;
+  sound = sound;
 }

@@ -36,6 +36,7 @@ pub record StoreState : Type 0 where
 pub record Serves (s : StoreState) (v : Target) : Type 0 where
   pub journal : ShowsJournal (taken_of s.taken) s.journal v
   pub disk : ShowsDisk s.batches v
+  pub sound : IsSound s.journal
 
 -- while it recovers
 pub record Recovers (s : StoreState) (v : Target) : Type 0 where

@@ -9,7 +9,7 @@ ghost use Rattle.lu_txn.specs.Loads.{AreBelow};
 ghost use Rattle.lu_words.specs.Words.{Enters, Boot as BootEntry, Txn as TxnEntry};
 ghost use Rattle.lu_target_rows.specs.Lives.{slot_in, is_life};
 ghost use Rattle.lu_target_rows.specs.Replies.{seen_in, next_number};
-ghost use Rattle.lu_target_rows.specs.States.{Setting, Target, after, lives_from, started};
+ghost use Rattle.lu_target_rows.specs.States.{Setting, Target, after, first_batch, lives_from, started};
 ghost use Rattle.lu_target_rows.specs.Leaving.{is_over, life_of};
 ghost use Rattle.lu_target_rows.specs.Disks.{boot_batch};
 ghost use Rattle.lu_target_rows.specs.Rows.{first_deeds};
@@ -77,9 +77,12 @@ impl<D: Disk> Store<D> {
         requires empty { D.batches disk ≡ [] }
         ensures started { IfOk result (λ store. (setting : Setting) (clients : ℕ)
             → first.now ≡ lives_from 0 clients → Serves store (started setting clients)) }
+        ensures stored { IfOk result (λ store. (clients : ℕ)
+            → first.now ≡ lives_from 0 clients → store.batches ≡ first_batch clients ∷ []) }
         ensures kept { IfErr result (λ failed. D.batches failed.0 ≡ []) }
         ensures faults { IfOk result (λ store. store.faults ≡ D.faults disk) }
         ensures cause { IfErr result (λ failed. HasCause (D.faults disk) (D.faults failed.0) (failure failed.1)) }
+        ensures of_disk { IfErr result (λ failed. IsOfDisk failed.1) }
     {
         let journal = match Journal::start(alloc, first) {
             Ok(journal) => journal,

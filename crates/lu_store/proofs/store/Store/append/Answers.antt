@@ -28,7 +28,7 @@ returns-clause-shows g c =
           let is : IsAnswered d.reply.who d.tag (taken_of c.self.inside.taken) (taken_of c.answer.new.self) = search rules in
           let added : c.append.new.self ≡ appended d.reply.txn d.reply.who d.tag d.op d.writes d.reply c.self.inside.journal = search rules in
           let replies : IsReplyKept d.reply.who d.tag d.reply c.self.inside.journal.slots c.append.new.self.slots = search rules in
-          let shows : Shows = (λ v s next. transacted c.self.inside.journal c.append.new.self c.self.inside.taken c.answer.new.self batches faults faults d slot some is added replies v (subst (λ it. Serves it v) (sym c.self.view_is) s) next) in
+          let shows : Shows = (λ v s next. transacted c.self.inside.journal c.append.new.self c.self.inside.taken c.answer.new.self batches faults faults d slot some is added replies c.append.ensures.sound v (subst (λ it. Serves it v) (sym c.self.view_is) s) next) in
           subst (λ r. OnOk r Shows) (sym w.result-is) shows
       | in-Err-Memory w ↦ subst (λ r. OnOk r Shows) (sym w.result-is) (search rules)
     ]

@@ -46,7 +46,7 @@ returns-clause-commit g c =
           stored_shows taken taken j c.write.new.journal _ _ _ _ v (first_deeds count v.log) (drop k v.log) [] [] to.0 own_s c.uncommitted_count.ensures.sound
           (cut_at k v.log ∙ ap (λ deeds. deeds ++ drop k v.log) (deeds_are v own_s))
           (rest_held (taken_of taken) j v (first_deeds count v.log) (drop k v.log) own_s.journal (cut_at k v.log ∙ ap (λ deeds. deeds ++ drop k v.log) (deeds_are v own_s)))
-          tt tt tt tt (λ who tag. refl) (number_is v own_s) (c.in_ok-write.ensures.committed) (c.in_ok-write.ensures.stored);
+          tt tt tt tt (λ who tag. refl) (number_is v own_s) (c.in_ok-write.ensures.committed) (c.in_ok-write.ensures.stored) (c.in_ok-write.ensures.sound);
       batches = λ v number s e. let own_s = back v s in
           c.in_ok-write.ensures.stored
           ∙ ap (λ (batch : Batch). own.batches ++ batch ∷ [])

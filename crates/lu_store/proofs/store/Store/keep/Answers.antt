@@ -14,6 +14,7 @@ returns-clause-shows g c =
       answers = search rules;
       stored = search rules;
       replies = search rules;
+      sound = search rules;
     } in
     let batches = g.D.Disk.batches c.self.inside.disk in
     let faults = g.D.Disk.faults c.self.inside.disk in

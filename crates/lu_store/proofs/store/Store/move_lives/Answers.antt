@@ -70,7 +70,7 @@ returns-clause-moved g c =
           (sym (append_nothing v.log)) tt
           c.requires.may.once (subst (λ (all : List Who). AreAmong all gone) (lives v own_s) c.requires.may.among) c.requires.may.new
           (subst (λ (all : List Who). AreApart (without_lives gone all) come) (lives v own_s) c.requires.may.apart) c.forget.ensures.without (number_is v own_s)
-          (c.in_ok-write.ensures.committed ∙ ap (after_commit to.0) is) (c.in_ok-write.ensures.stored ∙ ap (λ (it : JournalState). own.batches ++ batch_of to.0 it ∷ []) is);
+          (c.in_ok-write.ensures.committed ∙ ap (after_commit to.0) is) (c.in_ok-write.ensures.stored ∙ ap (λ (it : JournalState). own.batches ++ batch_of to.0 it ∷ []) is) (c.in_ok-write.ensures.sound);
       batches = λ v s. let own_s = back v s in
           c.in_ok-write.ensures.stored
           ∙ ap (λ (it : JournalState). own.batches ++ batch_of to.0 it ∷ []) is
@@ -110,7 +110,7 @@ returns-clause-closed g c =
       shows = λ v deeds s shows is_gone is_come closing.
           closed_shows taken c.forget.new.self j c.write.new.journal _ _ _ _ v deeds s gone come to.0 (back v deeds shows) c.uncommitted_count-all.ensures.sound c.forget.ensures.without
           is_gone is_come closing (number_is v deeds (back v deeds shows)) (c.in_ok-write.ensures.committed ∙ ap (after_commit to.0) is)
-          (c.in_ok-write.ensures.stored ∙ ap (λ (it : JournalState). own.batches ++ batch_of to.0 it ∷ []) is);
+          (c.in_ok-write.ensures.stored ∙ ap (λ (it : JournalState). own.batches ++ batch_of to.0 it ∷ []) is) (c.in_ok-write.ensures.sound);
       batches = λ v deeds shows closing.
           c.in_ok-write.ensures.stored
           ∙ ap (λ (it : JournalState). own.batches ++ batch_of to.0 it ∷ []) is
