@@ -113,7 +113,7 @@ module _ (before new : ServerState) (v : Target) (r : Request) (d : Deed) (objec
   shows_answers shows is =
       let w = after v (Answers d) in
       shows_answered r.tag d before before new v w shows refl is (record { setting = refl; boot = refl; number = refl; contents = refl; queue = refl })
-      (is.store.answers v d tag refl shows.store) (locks_still before.locks v w refl refl refl refl refl refl shows.locks)
+      (is.store.answers v d tag refl shows.store) (locks_still before.locks v w refl refl refl refl refl refl refl shows.locks)
       (sound_answers before.kind v d (none shows) shows.sound)
 
   pub shows_acts : d.reply.locks ≡ [] → Shows before v → IsAnswered r.tag d.reply before new → Shows new (after v (Act d))
@@ -123,7 +123,7 @@ module _ (before new : ServerState) (v : Target) (r : Request) (d : Deed) (objec
       let cookie : w.cookie ≡ v.cookie = ap (greatest_cookie v.cookie) no_locks in
       shows_answered r.tag d before before new v w shows refl is (record { setting = refl; boot = refl; number = refl; contents = refl; queue = refl })
       (is.store.acts v d tag refl shows.store)
-      (locks_still before.locks v w granted refl refl refl cookie refl shows.locks)
+      (locks_still before.locks v w granted refl refl refl cookie refl refl shows.locks)
       (sound_act before.kind v d (subst (ReadsOnly before.kind) (sym no_locks) (reads_none before.kind)) (subst (All (IsOfLife v.lives)) (sym no_locks) (All-nil (IsOfLife v.lives))) (none shows) shows.sound)
 
   pub shows_grants : (l : Lock) → IsOfLife v.lives l → (middle : ServerState) → middle ≡ record before { locks = middle.locks } → locking.Shows middle.locks (after v (Grant l (Some d)))

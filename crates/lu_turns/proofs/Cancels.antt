@@ -22,6 +22,9 @@ use Rattle.lu_locking.specs.declared.departing.EndedLock.{EndedLock}
 use Rattle.lu_locking.specs.Servers as locking
 use Rattle.lu_locking.specs.Servers.{ServerState as LockState, IsNoRelease}
 use Rattle.lu_sound.specs.Sound.{HasLocksOf}
+use Rattle.lu_sound.proofs.Spent.{overruns_later}
+use Rattle.lu_target_rows.specs.Rows.{overruns}
+use Rattle.lu_turns.specs.Numbers.{Overruns}
 use Rattle.lu_turns.specs.Giving.{giving}
 use Rattle.lu_turns.specs.Servers.{ServerState, Shows, Stands, Makes}
 use Rattle.lu_turns.specs.Middles.{ShowsRest, MakesPart, MakesRest}
@@ -92,6 +95,18 @@ module _ (s back released : ServerState) (v : Target) (who : Who) (cookie : Cook
   goes_objects now afterwards test made =
       rest_then (releases before.at ended.lock v) (goes_on ended.lock before.at w) v back released now before between afterwards part
       (subst (λ (names : Bool). MakesRest (if names then names_go before.at w else queue_goes ended.lock.resource w) w now between afterwards) (sym (names_row released.id w part.shows.id ∙ test)) made)
+
+  -- it overruns
+  pub over_names : released.kind ≡ Mdt → (released.id == 0) ≡ true → between.at ≡ before.at → Overruns (names_go between.at) released
+      → overruns v (follow v (releases before.at ended.lock v) (goes_on ended.lock before.at)) ≡ true
+  over_names is test same over =
+      overruns_later v (releases before.at ended.lock v) (goes_on ended.lock before.at w)
+      (subst (λ (names : Bool). overruns w (if names then names_go before.at w else queue_goes ended.lock.resource w) ≡ true) (sym (names_row released.id w part.shows.id ∙ test))
+      (subst (λ (at : At). overruns w (names_go at w) ≡ true) same (over w (names_after is))))
+
+pub over_cancels : (s : ServerState) (who : Who) (cookie : Cookie) (l : Lock) (at : At) → ((v : Target) → Shows s v → lock_of who cookie v.granted ≡ Some l)
+    → ((v : Target) → Shows s v → overruns v (follow v (releases at l v) (goes_on l at)) ≡ true) → Overruns (λ v. row_cancel v at who cookie) s
+over_cancels s who cookie l at was over = λ v shows. subst (λ (found : Option Lock). overruns v (row_cancels v at found) ≡ true) (sym (was v shows)) (over v shows)
 
 pub cancels : (s now : ServerState) (who : Who) (cookie : Cookie) (l : Lock) (before afterwards : Making) → ((v : Target) → Shows s v → lock_of who cookie v.granted ≡ Some l)
     → ((v : Target) → Shows s v → MakesRest (follow v (releases before.at l v) (goes_on l before.at)) v now before afterwards) → Makes (λ v. row_cancel v before.at who cookie) s now before afterwards

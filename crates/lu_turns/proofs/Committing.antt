@@ -66,6 +66,8 @@ module _ (v : Target) (deeds : List Deed) where
     calls = subst (λ (called : List Called). CallsShow s.asked called w.glimpses w.granted) (sym called_stay)
         (subst (λ (gs : List Glimpse). CallsShow s.asked v.called gs w.granted) (sym glimpses_stay)
         (subst (λ (locks : List Lock). CallsShow s.asked v.called v.glimpses locks) (sym granted_stay) shows.calls));
+    boot = shows.boot;
+    counted = shows.counted;
     cookie = shows.cookie;
     ticks = shows.ticks;
   }

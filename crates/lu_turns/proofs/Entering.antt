@@ -87,7 +87,7 @@ enters_made old store making r serves has keeps may above =
             expire = shows.expire;
             boot = shows.boot;
             store = serves v shows.store;
-            locks = locks_still old.locks v (after v (Enters r)) refl refl refl refl refl refl shows.locks;
+            locks = locks_still old.locks v (after v (Enters r)) refl refl refl refl refl refl refl shows.locks;
             contents = shows.contents;
             requests = ap (λ (queue : List Request). queue ++ r ∷ []) shows.requests;
             taken = All-push (λ (q : Request). HasTaken q.who q.tag store) old.requests r
@@ -154,20 +154,25 @@ taken_unasked old store v r shows may above = λ w shown.
 
 -- ---- it goes on
 
+-- the row then, by the kind of target
+pub enters_names : (old : ServerState) (at : At) (r : Request) → (old.id == 0) ≡ true → (v : Target) → Shows old v → follow v (Enters r ∷ []) (names_go at) ≡ row_enters v at r
+enters_names old at r names v shows =
+    let w = after v (Enters r) in
+    ap (λ (b : Bool). Enters r ∷ (if b then names_go at w else objects_go w at r r.op)) (sym (ap (λ n. n == 0) shows.id ∙ names))
+
+pub enters_objects : (old : ServerState) (at : At) (r : Request) → (old.id == 0) ≡ false → (v : Target) → Shows old v → follow v (Enters r ∷ []) (λ w. objects_go w at r r.op) ≡ row_enters v at r
+enters_objects old at r objects v shows =
+    let w = after v (Enters r) in
+    ap (λ (b : Bool). Enters r ∷ (if b then names_go at w else objects_go w at r r.op)) (sym (ap (λ n. n == 0) shows.id ∙ objects))
+
 pub goes_names : (old new : ServerState) (before end : Making) (r : Request) → (old.id == 0) ≡ true
     → Makes (λ v. follow v (Enters r ∷ []) (names_go before.at)) old new before end → Makes (λ v. row_enters v before.at r) old new before end
 goes_names old new before end r names makes =
     makes_as (λ v. follow v (Enters r ∷ []) (names_go before.at)) (λ v. row_enters v before.at r) old new before end
-    (λ v shows.
-    let w = after v (Enters r) in
-    ap (λ (b : Bool). Enters r ∷ (if b then names_go before.at w else objects_go w before.at r r.op)) (sym (ap (λ n. n == 0) shows.id ∙ names)))
-    makes
+    (enters_names old before.at r names) makes
 
 pub goes_objects : (old new : ServerState) (before end : Making) (r : Request) → (old.id == 0) ≡ false
     → Makes (λ v. follow v (Enters r ∷ []) (λ w. objects_go w before.at r r.op)) old new before end → Makes (λ v. row_enters v before.at r) old new before end
 goes_objects old new before end r objects makes =
     makes_as (λ v. follow v (Enters r ∷ []) (λ w. objects_go w before.at r r.op)) (λ v. row_enters v before.at r) old new before end
-    (λ v shows.
-    let w = after v (Enters r) in
-    ap (λ (b : Bool). Enters r ∷ (if b then names_go before.at w else objects_go w before.at r r.op)) (sym (ap (λ n. n == 0) shows.id ∙ objects)))
-    makes
+    (enters_objects old before.at r objects) makes

@@ -30,6 +30,10 @@ use Rattle.lu_locking.specs.declared.reminding.Reminder.{Reminder}
 use Rattle.lu_locking.specs.Reminding.{again_told}
 use Rattle.lu_locking.specs.Servers as locking
 use Rattle.lu_sound.proofs.Entries.{sound_quiet}
+use Rattle.lu_sound.proofs.Numbers.{overruns_more, raises_sends_again}
+use Rattle.lu_sound.proofs.Spent.{overruns_later}
+use Rattle.lu_target_rows.specs.Rows.{overruns}
+use Rattle.lu_turns.specs.Numbers.{Overruns}
 use Rattle.lu_turns.specs.Giving.{giving}
 use Rattle.lu_turns.specs.Servers.{ServerState, Shows, Makes, KeepsBatches, Fails}
 use Rattle.lu_turns.specs.Middles.{ShowsRest, MakesRest, KeepsFirst}
@@ -130,6 +134,19 @@ ticks s now gone asked reminders before between afterwards due was made again to
   row v shows =
       ap (λ (lives : List Who). follow v (expels before.at lives v) (λ w. sends_again w v.called v.glimpses w.granted)) (sym (due v shows))
       ∙ ap (λ (fs : List Entry). expels before.at gone v ++ fs) (again v (turn v (expels before.at gone v)) (was v shows.locks) (made.shows v shows).locks)
+
+-- ---- what overruns
+
+pub over_expels : (v : Target) (at : At) (gone : List Who) → gone ≢ [] → (let u = turn v (moves at Expired gone [] v) in overruns u (all_go at u) ≡ true) → overruns v (expels at gone v) ≡ true
+over_expels v at [] some over = absurd (some refl)
+over_expels v at (who ∷ gone) some over = let es : List Entry = moves at Expired (who ∷ gone) [] v in overruns_later v es (all_go at (turn v es)) over
+
+pub over_ticked : (s : ServerState) (gone : List Who) (at : At) → ((v : Target) → Shows s v → gone ≡ condemned v v.called) → Overruns (expels at gone) s → Overruns (ticked at) s
+over_ticked s gone at due over = λ v shows.
+    let es : List Entry = expels at (condemned v v.called) v in
+    let w : Target = turn v es in
+    overruns_more v es (sends_again w v.called v.glimpses w.granted) (raises_sends_again w w v.called v.glimpses w.granted)
+    (subst (λ (lives : List Who). overruns v (expels at lives v) ≡ true) (due v shows) (over v shows))
 
 -- ---- after an error
 

@@ -267,7 +267,7 @@ gathers_beside s w x v z beside window still awaits g = record {
     sound = g.store.sound;
     newest = g.store.newest;
   };
-  locks = record { cookie = beside.cookie ∙ g.locks.cookie; ticks = beside.ticks ∙ g.locks.ticks };
+  locks = record { boot = beside.same.boot ∙ g.locks.boot; counted = g.locks.counted; cookie = beside.cookie ∙ g.locks.cookie; ticks = beside.ticks ∙ g.locks.ticks };
   first = beside.cookie ∙ g.first ∙ ap first_of (sym beside.same.boot);
   contents =
       subst (λ (it : Setting). redo.Shows s.kind it.osts (max 1 z.disk.committed) s.contents z.disk.contents) (sym beside.same.setting)

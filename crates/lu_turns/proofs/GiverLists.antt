@@ -1,22 +1,21 @@
 -- Who gave the numbers of a window, once one more is known.
 use Rattle.std.proofs.Common.{◌≡◌, ℕ, ◌==◌, Bool, true, false, List, [], ◌∷◌, Option, Some, refl, sym, ap, subst, ◌∙◌, arith}
-use Rattle.std.specs.Prelude.{if◌then◌else◌, Ok, Err, OnOk, OnErr}
-use Rattle.std.specs.declared.result.Result.{Result}
+use Rattle.std.specs.Prelude.{if◌then◌else◌, ◌↔◌, IsTrue, not, None}
+use Rattle.std.specs.Option.{is_some}
 use Rattle.std.specs.List.{list_any}
 use Rattle.std.proofs.lemmas.Bool.{eqb-true}
 use Rattle.std.proofs.lemmas.Bool.Decides.{nat_tests}
 use Rattle.lu_base.specs.declared.ids.Who.{Who}
 use Rattle.lu_base.specs.declared.locks.Lock.{Lock}
-use Rattle.lu_machine.specs.Footprint.{Every}
 use Rattle.lu_words.specs.Words.{same_life}
 use Rattle.lu_target_rows.specs.Windows.{Replayed, Window, replay_before, brought_before, with_replay, with_brought, cut_seen, is_replay, is_lock}
 use Rattle.lu_target_parts.proofs.Slots.{one_life, same_self}
-use Rattle.lu_window.specs.States.{State, took_replay, took_lock}
-use Rattle.lu_turns.specs.Givers.{Entries, giver_of, IsGivenBy, GaveReplays, GaveLocks}
+use Rattle.lu_window.specs.States.{took_replay, took_lock}
+use Rattle.lu_turns.specs.Givers.{Entries, giver_of, IsGivenBy, IsForgotten, GaveReplays, GaveLocks}
 use Rattle.lu_turns.specs.Recovering.{IsOnlyReplay, IsOnlyLock}
 use Rattle.lu_turns.proofs.Gathering.{every_placed}
 
-itself : (n : ℕ) → (n == n) ≡ true
+pub itself : (n : ℕ) → (n == n) ≡ true
 itself n = grind (arith, nat_tests)
 
 pub turned : (m n : ℕ) → (m == n) ≡ (n == m)
@@ -73,8 +72,34 @@ only_lock l entries [] free gave = tt
 only_lock l entries (k ∷ locks) free gave =
     (λ e. same_who k.ask.who l.ask.who (free k.ask.who (ap (λ n. giver_of n entries) (sym (eqb-true k.cookie.0 l.cookie.0 e)) ∙ gave.0)), only_lock l entries locks free gave.1)
 
--- ---- whether it was taken or not
+-- ---- whether one is free
 
-pub either_way : {A E : Type 0} (r : Result A E) (old new x : State) (P : State → Type 0) → OnOk r (new ≡ x) → OnErr r (new ≡ old) → P x → P old → P new
-either_way (Ok a) old new x P ok err one other = subst P (sym ok) one
-either_way (Err e) old new x P ok err one other = subst P (sym err) other
+pub the_giver : (a b : Who) → ◌≡◌ {A = Option Who} (Some a) (Some b) → a ≡ b
+the_giver a b e = cc
+
+pub free_of : (number : ℕ) (giver who : Who) (b : Bool) (entries : Entries) → giver_of number entries ≡ Some giver → b ≡ same_life giver who
+    → (IsTrue b ↔ ((other : Who) → giver_of number entries ≡ Some other → other ≡ who))
+free_of number giver who b entries is test =
+    (λ t other e. the_giver other giver (sym e ∙ is) ∙ one_life giver who (sym test ∙ t), λ free. test ∙ same_who giver who (free giver is))
+
+no_giver : {X : Type 0} → (other : Who) → ◌≡◌ {A = Option Who} None (Some other) → X
+no_giver other e = absurd (cc)
+
+pub free_none : (number : ℕ) (who : Who) (entries : Entries) → giver_of number entries ≡ None → (IsTrue true ↔ ((other : Who) → giver_of number entries ≡ Some other → other ≡ who))
+free_none number who entries is = (λ t other e. no_giver other (sym is ∙ e), λ free. refl)
+
+-- ---- the map is changed at this key alone
+
+pub given_by : (number : ℕ) (who : Who) (old mid new : Entries) → mid ≡ old → ((n : ℕ) → giver_of n new ≡ (if number == n then Some who else giver_of n mid)) → IsGivenBy number who old new
+given_by number who old mid new view is = subst (λ old. IsGivenBy number who old new) view (λ n. is n ∙ ap (λ own. if own then Some who else giver_of n mid) (turned number n))
+
+pub forgotten : (number : ℕ) (old mid new : Entries) → mid ≡ old → ((n : ℕ) → giver_of n new ≡ (if number == n then None else giver_of n mid)) → IsForgotten number old new
+forgotten number old mid new view is = subst (λ old. IsForgotten number old new) view (λ n. is n ∙ ap (λ own. if own then None else giver_of n mid) (turned number n))
+
+pub was_none : (number : ℕ) (before : Option Who) (b : Bool) (old : Entries) → before ≡ giver_of number old → is_some before ≡ not b → (IsTrue b ↔ giver_of number old ≡ None)
+was_none number before b old is test = by before b is test where
+  by : (o : Option Who) (v : Bool) → o ≡ giver_of number old → is_some o ≡ not v → (IsTrue v ↔ giver_of number old ≡ None)
+  by None true is test = (λ t. sym is, λ none. refl)
+  by None false is test = absurd (cc)
+  by (Some giver) true is test = absurd (cc)
+  by (Some giver) false is test = (λ t. absurd (cc), λ none. no_giver giver (sym none ∙ sym is))

@@ -283,5 +283,5 @@ makes_reported old middle new begun done m at from answer was mid some is ended 
     state =
         shows_answered g.request.tag d old middle new v x shows mid is_answered (record { setting = refl; boot = refl; number = refl; contents = refl; queue = refl })
         (is_answered.store.answers w d refl refl serves_it)
-        (locks_still middle.locks w x refl refl refl refl refl refl (ended v g shows.locks e))
+        (locks_still middle.locks w x refl refl refl refl refl refl refl (ended v g shows.locks e))
         (subst (λ es. IsSound old.kind (turn v es)) whole (sound_report old.kind v at m shows.sound))

@@ -26,6 +26,8 @@ use Rattle.lu_sound.specs.Sound.{IsSound}
 use Rattle.lu_sound.proofs.Blocks.{sound_queue_goes, sound_all_queues_go}
 use Rattle.lu_turns.specs.Giving.{giving}
 use Rattle.lu_turns.specs.Servers.{ServerState, Shows, Stands, Makes}
+use Rattle.lu_target_rows.specs.Rows.{overruns}
+use Rattle.lu_turns.specs.Numbers.{Overruns, OverrunsRest}
 use Rattle.lu_turns.specs.Middles.{ShowsRest, MakesRest}
 use Rattle.lu_turns.specs.Releases.{QueueGoesOn, GoesOn}
 use Rattle.lu_turns.proofs.Composing.{giving_more, turn_more}
@@ -90,6 +92,11 @@ all_went_names s now u at steps before afterwards is test goes makes =
     let shows : Shows s u = names_stand s u steps is goes in
     subst (λ (names : Bool). MakesRest (if names then names_go at u else all_queues_go u) u now before afterwards) (sym (names_row s.id u goes.rest.id ∙ test))
     (record { gives = makes.gives u shows; shows = makes.shows u shows })
+
+pub all_over : (s : ServerState) (at : At) (steps : List QueueStep) → ((u : Target) → GoesOn steps s u → s.kind ≡ Mdt) → (s.id == 0) ≡ true → Overruns (names_go at) s → OverrunsRest at steps s
+all_over s at steps is test over = λ u goes.
+    subst (λ (names : Bool). overruns u (if names then names_go at u else all_queues_go u) ≡ true) (sym (names_row s.id u goes.rest.id ∙ test))
+    (over u (names_stand s u steps (is u goes) goes))
 
 -- ---- the queue of one resource
 

@@ -7,6 +7,8 @@ pub mod Gathering
 pub mod Passings
 pub mod WindowClose
 pub mod Executions
+pub mod Overrunning
+pub mod Rooms
 pub mod Sweeps
 pub mod AnsweredObjects
 pub mod ObjectRows
@@ -29,5 +31,14 @@ pub mod Entering
 pub mod Notes
 pub mod Takings
 pub mod GiverLists
+pub mod GiverKnown
+pub mod Accepted
 pub mod WholeClose
 pub mod Starting
+pub mod Boots
+pub mod Waking
+pub mod Itemwise
+pub mod Redoing
+pub mod Backs
+pub mod Standing
+pub mod CarryingOut

@@ -118,6 +118,7 @@ pub serves_stays : (s : StoreState) (v w : Target) → AreTheSame v w → Serves
 serves_stays s v w same shows = record {
   journal = journal_stays (taken_of s.taken) s.journal v w same shows.journal;
   disk = disk_stays s.batches v w same shows.disk;
+  sound = shows.sound;
 }
 
 -- ---- entries that leave what the service shows

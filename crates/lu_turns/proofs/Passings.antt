@@ -1,5 +1,5 @@
 -- Turns of a target that recovers, put together: what is told first, and what comes then.
-use Rattle.std.proofs.Common.{◌≡◌, ℕ, ◌+◌, ◌&&◌, Bool, true, false, not, List, [], ◌∷◌, ◌++◌, take, refl, sym, ap, subst, ◌∙◌}
+use Rattle.std.proofs.Common.{◌≡◌, ◌+◌, ◌&&◌, Bool, true, false, not, List, [], ◌∷◌, ◌++◌, take, Option, Some, None, refl, sym, ap, subst, ◌∙◌}
 use Rattle.std.specs.Prelude.{if◌then◌else◌}
 use Rattle.std.specs.List.{list_any}
 use Rattle.lu_base.specs.declared.ids.At.{At}
@@ -9,16 +9,16 @@ use Rattle.lu_msg.specs.declared.commits.Batch.{Batch}
 use Rattle.lu_msg.specs.declared.messages.RequestReplay.{RequestReplay}
 use Rattle.lu_trace.specs.Turns.{Making}
 use Rattle.lu_words.specs.Carried.{Said}
-use Rattle.lu_words.specs.Words.{Entry, Back, Stores, Brings, Says, Wishes}
+use Rattle.lu_words.specs.Words.{Entry, Stores, Brings, Says, Wishes}
 use Rattle.lu_target_rows.specs.Disks.{failing, batches_of}
-use Rattle.lu_target_rows.specs.Windows.{Window, is_replay, is_lock, is_word, is_newest, is_back, with_replay, with_brought, with_word, with_wish, cut_seen, all_settled}
+use Rattle.lu_target_rows.specs.Windows.{Window, is_replay, is_lock, is_word, is_newest, is_back, with_replay, with_brought, with_word, cut_seen, all_settled}
 use Rattle.lu_target_rows.specs.Kept.{replayed}
 use Rattle.lu_target_rows.specs.Outcomes.{window_of}
 use Rattle.lu_target_rows.specs.Recovery.{cut, row_close, row_replay, row_lock, row_word, settles}
 use Rattle.lu_target_rows.specs.States.{Target, turn}
 use Rattle.lu_target_parts.specs.Windows.{ShowsWindow, stores, brings, says, wishes, backs}
 use Rattle.lu_target_parts.proofs.Windows.{row_replay_is, row_replay_was, row_lock_is, row_lock_was, row_word_is, row_word_was}
-use Rattle.lu_window.specs.States.{State, at_window, with_replays, took_replay, took_lock, took_word, took_wish}
+use Rattle.lu_window.specs.States.{State, at_window, with_replays, took_replay, took_lock, took_word}
 use Rattle.lu_turns.specs.Giving.{giving}
 use Rattle.lu_turns.specs.Servers.{ServerState, Shows}
 use Rattle.lu_turns.specs.Recovering.{Gathers, Recovers}
@@ -104,11 +104,11 @@ module _ (shown mid : Target → Type 0) (first next row : Target → List Entry
   given : (v : Target) → shown v → (es : List Entry) → after ≡ giving between es → after ≡ giving before (first v ++ es)
   given v it es is = is ∙ ap (λ (making : Making). giving making es) (begins.told v it) ∙ giving_more before (first v) es
 
-  pub passes_then : (closed : Bool) (new : ServerState) (x : State) → Passes mid next closed new x between after → Passes shown row closed new x before after
-  passes_then closed new x passes = record {
+  pub passes_then : (new : ServerState) (window : Option State) → Passes mid next new window between after → Passes shown row new window before after
+  passes_then new window passes = record {
     gives = λ v it.
         given v it (next (turn v (first v))) (passes.gives (turn v (first v)) (begins.stands v it)) ∙ ap (giving before) (sym (begins.rows v it));
-    stays = λ still v it. subst (Recovers new x) (sym (turned v it)) (passes.stays still (turn v (first v)) (begins.stands v it));
+    recovers = λ x is v it. subst (Recovers new x) (sym (turned v it)) (passes.recovers x is (turn v (first v)) (begins.stands v it));
     serves = λ out v it. subst (Shows new) (sym (turned v it)) (passes.serves out (turn v (first v)) (begins.stands v it));
   }
 
@@ -147,20 +147,23 @@ all_there at v e = ap (λ (all : Bool). if all then row_close at v else []) e
 pub tested : (s : ServerState) (w : State) (v : Target) (all : Bool) → Gathers s w v → all ≡ all_settled w.window w.window.lives → all_settled (window_of v) v.lives ≡ all
 tested s w v all g e = sym (e ∙ ap (λ (it : Window). all_settled it it.lives) g.window)
 
-pub passes_open : (s : ServerState) (w : State) (making : Making) → all_settled w.window w.window.lives ≡ false → Passes (Gathers s w) (settles making.at) false s w making making
+pub passes_open : (s : ServerState) (w : State) (making : Making) → all_settled w.window w.window.lives ≡ false → Passes (Gathers s w) (settles making.at) s (Some w) making making
 passes_open s w making still = record {
   gives = λ v g. sym (ap (giving making) (is v g) ∙ giving_none making);
-  stays = λ e v g. subst (Recovers s w) (ap (turn v) (sym (is v g))) (record { gathers = g; awaits = tested s w v false g (sym still) });
+  recovers = λ x e v g. subst (λ (it : State). Recovers s it (turn v (settles making.at v))) (own x e) (subst (Recovers s w) (ap (turn v) (sym (is v g))) (record { gathers = g; awaits = tested s w v false g (sym still) }));
   serves = λ e. absurd (cc);
 } where
   is : (v : Target) → Gathers s w v → settles making.at v ≡ []
   is v g = unsettled making.at v (tested s w v false g (sym still))
 
-pub passes_closed : (s new : ServerState) (w x : State) (before after : Making) → all_settled w.window w.window.lives ≡ true
-    → IsClosed (Gathers s w) (row_close before.at) new before after → Passes (Gathers s w) (settles before.at) true new x before after
-passes_closed s new w x before after all closed = record {
+  own : (x : State) → Some w ≡ Some x → w ≡ x
+  own x e = cc
+
+pub passes_closed : (s new : ServerState) (w : State) (before after : Making) → all_settled w.window w.window.lives ≡ true
+    → IsClosed (Gathers s w) (row_close before.at) new before after → Passes (Gathers s w) (settles before.at) new None before after
+passes_closed s new w before after all closed = record {
   gives = λ v g. closed.gives v g ∙ ap (giving before) (sym (is v g));
-  stays = λ e. absurd (cc);
+  recovers = λ x e. absurd (cc);
   serves = λ e v g. subst (Shows new) (ap (turn v) (sym (is v g))) (closed.serves v g);
 } where
   is : (v : Target) → Gathers s w v → settles before.at v ≡ row_close before.at v

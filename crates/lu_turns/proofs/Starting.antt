@@ -32,7 +32,7 @@ starts place kind own store s setting clients over is serves =
       expire = is.expire ∙ sym over.expire;
       boot = sym over.booted;
       store = subst (λ (st : StoreState). Serves st v) (sym over.stored) serves;
-      locks = over.locks v (record { granted = refl; waiting = refl; called = refl; glimpses = refl; cookie = refl; ticks = refl });
+      locks = over.locks v (record { granted = refl; waiting = refl; called = refl; glimpses = refl; boots = refl; cookie = refl; ticks = refl });
       contents =
           subst (λ k. redo.Shows k setting.osts (first_of 1) s.contents no_contents) (sym over.sort)
           (subst (λ c. redo.Shows kind setting.osts (first_of 1) c no_contents) (sym over.contents) (shows_later kind setting.osts own is.contents));

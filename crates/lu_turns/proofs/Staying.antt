@@ -38,16 +38,19 @@ serves_same s v w same serves =
     record {
       journal = journal_stays (taken_of s.taken) s.journal v w same serves.journal;
       disk = disk_stays s.batches v w same serves.disk;
+      sound = serves.sound;
     }
 
 -- and neither do the locks
 pub locks_still :
-    (s : LockState) (v w : Target) → w.granted ≡ v.granted → w.waiting ≡ v.waiting → w.called ≡ v.called → w.glimpses ≡ v.glimpses → w.cookie ≡ v.cookie → w.ticks ≡ v.ticks
+    (s : LockState) (v w : Target) → w.granted ≡ v.granted → w.waiting ≡ v.waiting → w.called ≡ v.called → w.glimpses ≡ v.glimpses → w.cookie ≡ v.cookie → w.ticks ≡ v.ticks → w.boot ≡ v.boot
     → locking.Shows s v → locking.Shows s w
-locks_still s v w granted waiting called_same glimpses cookie ticks shows =
+locks_still s v w granted waiting called_same glimpses cookie ticks boot shows =
     record {
       locks = locks_same s.space v w granted waiting cookie shows.locks;
       calls = calls_same;
+      boot = boot ∙ shows.boot;
+      counted = shows.counted;
       cookie = cookie ∙ shows.cookie;
       ticks = ticks ∙ shows.ticks;
     } where
@@ -176,6 +179,7 @@ lines_serve s d (l ∷ locks) w has serves =
         below = b.below;
         replies = b.replies;
       };
+      sound = serves.sound;
     })
 
 pub shows_acts :
@@ -233,7 +237,7 @@ shows_transacts old contents new v d appended shows next shows_contents sound =
       expire = shows.expire;
       boot = shows.boot;
       store = appended.store v shows.store next;
-      locks = locks_still old.locks v (after v (Txn d)) refl refl refl refl refl refl shows.locks;
+      locks = locks_still old.locks v (after v (Txn d)) refl refl refl refl refl refl refl shows.locks;
       contents = shows_contents;
       requests = ap (without_request d) shows.requests ∙ sym appended.requests;
       taken = subst (All (λ (r : Request). HasTaken r.who r.tag new.store)) (sym appended.requests) (taken_still d.reply old.store new.store old.requests appended.takes shows.taken);

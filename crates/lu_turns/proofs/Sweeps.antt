@@ -17,7 +17,9 @@ use Rattle.lu_turns.specs.Servers.{ServerState, Shows, Stands, Makes}
 use Rattle.lu_turns.specs.Passes.{pass_over, acts_in, names_pass, one_acts, IsPass, IsWay, AreCalled}
 use Rattle.lu_turns.specs.declared.names.Way.{Way}
 use Rattle.lu_turns.specs.declared.names.Way.TheVariants as way
+use Rattle.lu_turns.specs.Numbers.{Overruns}
 use Rattle.lu_turns.proofs.Composing.{nothing_more, turn_more, makes_nothing, makes_then, makes_as, same_turn}
+use Rattle.lu_turns.proofs.Overrunning.{over_then, over_as, over_sweep}
 use Rattle.lu_turns.proofs.Passes.{sweep_acted, sweep_ended, sweep_last, pass_acts, pass_waits}
 
 -- ---- a pass, at each request
@@ -55,6 +57,23 @@ module _ (place : ℕ) (stood : Bool) (old now : ServerState) (before so_far : M
   there : slice_get now.requests place ≡ Some r
   there = ap (λ (them : List Request). slice_get them place) here.requests ∙ found
 
+  acts_row : IsWay now place stood (way.Free r) → (v : Target) → Shows old v → names_pass before.at v ≡ follow v (here.row v) (λ w. row_executes w before.at r (does_change w r))
+  unfolding rest
+  acts_row free v shows =
+      let w = turn v (here.row v) in
+      let ready : is_ready w stood r ≡ true = (free w r (here.makes.shows v shows) there).1 in
+      here.left v shows
+      ∙ ap (λ (queue : List Request). here.row v ++ pass_over before.at w stood queue) here_is
+      ∙ ap (λ (es : List Entry). here.row v ++ es) (pass_acts before.at w stood r rest ready).0
+
+  -- no number was left for it
+  pub place_over : Stands old → IsWay now place stood (way.Free r) → Overruns (λ w. row_executes w so_far.at r (does_change w r)) now → Overruns (names_pass before.at) old
+  place_over stands free over =
+      let at : so_far.at ≡ before.at = same_turn here.row old now before so_far here.makes stands in
+      over_as (λ v. follow v (here.row v) (λ w. row_executes w before.at r (does_change w r))) (names_pass before.at) old (λ v shows. sym (acts_row free v shows))
+      (over_then here.row (λ w. row_executes w before.at r (does_change w r)) old now before so_far here.makes
+      (subst (λ (a : At). Overruns (λ w. row_executes w a r (does_change w r)) now) at over))
+
   -- it acts
   pub place_acts :
       (new : ServerState) (end : Making) → Stands old → IsWay now place stood (way.Free r) → Makes (λ w. row_executes w so_far.at r (does_change w r)) now new so_far end
@@ -66,12 +85,7 @@ module _ (place : ℕ) (stood : Bool) (old now : ServerState) (before so_far : M
       subst (λ (a : At). Makes (λ w. row_executes w a r (does_change w r)) now new so_far end) at makes in
       record {
         makes = makes_as (λ v. follow v (here.row v) (λ w. row_executes w before.at r (does_change w r))) (names_pass before.at) old new before end
-            (λ v shows.
-            let w = turn v (here.row v) in
-            let ready : is_ready w stood r ≡ true = (free w r (here.makes.shows v shows) there).1 in
-            sym (here.left v shows
-            ∙ ap (λ (queue : List Request). here.row v ++ pass_over before.at w stood queue) here_is
-            ∙ ap (λ (es : List Entry). here.row v ++ es) (pass_acts before.at w stood r rest ready).0))
+            (λ v shows. sym (acts_row free v shows))
             (makes_then here.row (λ w. row_executes w before.at r (does_change w r)) old now new before so_far end here.makes acts);
         one = λ v shows.
             let w = turn v (here.row v) in
@@ -267,6 +281,18 @@ module _ (passes : ℕ) (old now : ServerState) (before so_far : Making) (here :
       rest_of : (n m : ℕ) → n < m → n + suc (m - n) ≡ m + 1
       rest_of n m less = omega arith
 
+  -- no number was left in it
+  pub swept_over : passes ≤ length old.requests → Overruns (names_pass so_far.at) now → Overruns (names_go before.at) old
+  swept_over within over =
+      let more : ℕ = length old.requests - passes in
+      over_as (λ v. follow v (here.row v) (row_sweep (suc more) before.at)) (names_go before.at) old
+      (λ v shows. sym (here.left v (suc more) shows (rest_of passes (length old.requests) within)))
+      (over_then here.row (row_sweep (suc more) before.at) old now before so_far here.makes
+      (over_sweep more before.at now (subst (λ (a : At). Overruns (names_pass a) now) same_at over)))
+    where
+      rest_of : (n m : ℕ) → n ≤ m → n + suc (m - n) ≡ m + 1
+      rest_of n m within = omega (arith, within)
+
   -- it was the last one
   pub swept_all : (acted : Bool) (next : ServerState) (end : Making) → IsPass acted now next so_far end → passes ≡ length old.requests → Makes (names_go before.at) old next before end
   swept_all acted next end pass all =
@@ -278,3 +304,6 @@ module _ (passes : ℕ) (old now : ServerState) (before so_far : Making) (here :
 
 pub at_the_end : (n end : ℕ) → n ≤ end → end ≤ n → n ≡ end
 at_the_end n end below past = omega arith
+
+pub below_so : (n m : ℕ) → n < m → n ≤ m
+below_so n m less = omega (arith, less)

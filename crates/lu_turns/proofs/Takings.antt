@@ -8,7 +8,7 @@ use Rattle.lu_base.specs.declared.locks.Lock.{Lock}
 use Rattle.lu_msg.specs.declared.messages.RequestReplay.{RequestReplay}
 use Rattle.lu_trace.specs.Turns.{Making}
 use Rattle.lu_words.specs.Carried.{Said}
-use Rattle.lu_words.specs.Words.{Entry, Wishes, same_life}
+use Rattle.lu_words.specs.Words.{Wishes, same_life}
 use Rattle.lu_target_rows.specs.Lives.{is_life}
 use Rattle.lu_target_rows.specs.Leaving.{life_of}
 use Rattle.lu_target_rows.specs.Windows.{Window, is_back, is_newest, all_settled}

@@ -390,6 +390,7 @@ module _ (s : ServerState) (w : _) (v : Target) (g : Gathers s w v) (at : At) wh
     waiting = refl;
     called = refl;
     glimpses = refl;
+    boot = refl;
     cookie = refl;
     ticks = refl;
   }

@@ -1,9 +1,10 @@
 -- A target that begins.
-use Rattle.std.specs.Prelude.{◌≡◌, ℕ, ◌≤◌, List, []}
+use Rattle.std.specs.Prelude.{◌≡◌, ℕ, ◌+◌, ◌≤◌, List, []}
 use Rattle.lu_msg.specs.declared.commits.Batch.{Batch}
 use Rattle.lu_service.specs.declared.services.Kind.{Kind}
 use Rattle.lu_service.specs.Contents.{Contents}
-use Rattle.lu_target_rows.specs.States.{Setting, Target, no_contents}
+use Rattle.lu_words.specs.Words.{Boot}
+use Rattle.lu_target_rows.specs.States.{Setting, Target, no_contents, after}
 use Rattle.lu_target_parts.specs.Journals.{ShowsDisk}
 use Rattle.lu_target_parts.specs.Lives.{OfClients}
 use Rattle.lu_target_rows.specs.Phase.{first_of}
@@ -40,8 +41,12 @@ pub record IsOver (place : Place) (boot : ℕ) (kind : Kind) (own : Contents) (s
   pub stored : s.store ≡ store
   pub requests : s.requests ≡ []
   pub locks : (v : Target) → HasNoLocks boot v → locking.Shows s.locks v
-  pub counts : (v : Target) → v.cookie ≡ first_of boot → v.ticks ≡ 0 → locking.ShowsCounts s.locks v
+  pub counts : (v : Target) → v.boot ≡ boot → v.cookie ≡ first_of boot → v.ticks ≡ 0 → locking.ShowsCounts s.locks v
 
 -- It gathers with a new window.
 abbrev pub IsFresh : ServerState → Target → Type 0
 IsFresh s w = (x : State) → x ≡ opened w.lives w.committed → Gathers s x w
+
+-- it gathers so in the boot after this state's
+abbrev pub IsBooting : ServerState → Target → Type 0
+IsBooting s v = IsFresh s (after v (Boot (v.disk.boot + 1) v.disk))

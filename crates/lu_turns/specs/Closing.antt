@@ -1,5 +1,5 @@
 -- The close of a recovery window in its parts: in its middle no state is shown.
-use Rattle.std.specs.Prelude.{◌≡◌, ℕ, ◌+◌, ◌<◌, ◌≤◌, max, if◌then◌else◌, true, ⊤, List, [], ◌∷◌, ◌++◌, map, take}
+use Rattle.std.specs.Prelude.{◌≡◌, ℕ, ◌+◌, ◌*◌, ◌^◌, ◌<◌, ◌≤◌, max, if◌then◌else◌, true, ⊤, List, [], ◌∷◌, ◌++◌, map, take, IsSome}
 use Rattle.lu_base.specs.declared.ids.At.{At}
 use Rattle.lu_base.specs.declared.ids.Txn.{Txn}
 use Rattle.lu_base.specs.declared.ids.Who.{Who}
@@ -11,6 +11,7 @@ use Rattle.lu_msg.specs.declared.commits.Batch.{Batch}
 use Rattle.lu_trace.specs.Turns.{Making}
 use Rattle.lu_words.specs.Carried.{Deed}
 use Rattle.lu_words.specs.Words.{Entry, Close, Kept, Restore, Evict, Joined}
+use Rattle.lu_txn.specs.Slots.{slot_of}
 use Rattle.lu_target_rows.specs.Lives.{is_life, lives_of as gone_of}
 use Rattle.lu_target_rows.specs.Phase.{first_of}
 use Rattle.lu_target_rows.specs.Replies.{to_life}
@@ -84,6 +85,13 @@ MayRedo lives most n (d ∷ deeds) =
 
 abbrev pub CanRedo : List Deed → ServerState → Target → Type 0
 CanRedo deeds s v = stores.Recovers s.store v × MayRedo v.lives (first_of v.boot) v.committed deeds
+
+-- what the store wants of the next one
+pub record MayBeNext (d : Deed) (s : StoreState) : Type 0 where
+  pub slot : IsSome (slot_of d.reply.who s.journal.slots)
+  pub tag : d.tag < tag_count
+  pub above : s.journal.newest < d.reply.txn.0
+  pub boot : d.reply.txn.0 < (s.journal.boot + 1) * 2 ^ 32
 
 -- the numbers of deeds
 abbrev pub numbers_of : List Deed → List Txn

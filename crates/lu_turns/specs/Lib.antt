@@ -15,3 +15,4 @@ pub mod Passing
 pub mod Closing
 pub mod Booting
 pub mod Acting
+pub mod Numbers

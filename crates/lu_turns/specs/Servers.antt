@@ -74,7 +74,7 @@ pub record Makes (row : Target → List Entry) (old new : ServerState) (before a
   pub gives : (v : Target) → Shows old v → after ≡ giving before (row v)
   pub shows : (v : Target) → Shows old v → Shows new (turn v (row v))
 
--- After an error the disk has what it had, and the first of the row's batches.
+-- The disk has what it had, and the first of the row's batches.
 abbrev pub KeepsBatches : (row : Target → List Entry) → (old new : ServerState) → Type 0
 KeepsBatches row old new = (v : Target) → Shows old v → (n : ℕ) × (new.store.batches ≡ old.store.batches ++ take n (batches_of (row v)))
 

@@ -1,6 +1,6 @@
 //! What goes to the disk while the target serves.
 
-ghost use Rattle.std.specs.Prelude.{◌≡◌, ℕ, [], ◌∷◌, ◌++◌, Option, Err, OnOk, OnErr};
+ghost use Rattle.std.specs.Prelude.{◌≡◌, ◌≢◌, ◌⊎◌, ℕ, [], ◌∷◌, ◌++◌, Option, Err, OnOk, OnErr};
 ghost use Rattle.lu_base.specs.Faults.{Rose};
 ghost use Rattle.lu_trace.specs.declared.entries.Entry.TheVariants as line;
 ghost use Rattle.lu_words.specs.Words.{Fail};
@@ -25,6 +25,7 @@ use lu_trace::{Entry, Turn};
 
 /// A commit failed: where the disk did, the turn ends with that line.
 pub(crate) fn fails(turn: &mut Turn, cause: StoreFault) -> TurnFault
+    ensures numbers { result ≡ fault.NumbersSpent → (cause ≡ store_fault.NumbersSpent) ⊎ (cause ≡ store_fault.BootsSpent) }
     ensures failed { result ≡ fault.Disk → (cause ≡ store_fault.Disk) × (turn.new ≡ giving turn.old (Fail ∷ [])) }
 {
     match cause {
@@ -53,9 +54,10 @@ impl<S: Service, D: Disk> Server<S, D> {
     pub fn commit(&mut self, turn: &mut Turn, count: Option<u32>) -> Result<(), TurnFault>
         requires stands { Stands self.old }
         ensures makes { OnOk result (Makes (λ v. row_commits v (first_deeds count v.log)) self.old self.new turn.old turn.new) }
+        ensures numbers { result ≢ Err fault.NumbersSpent }
         ensures failed { result ≡ Err fault.Disk → DiskFailed self.old self.new
             × Fails (λ v. row_commits v (first_deeds count v.log)) self.old turn.old turn.new }
-        ensures batches { OnErr result (KeepsBatches (λ v. row_commits v (first_deeds count v.log)) self.old self.new) }
+        ensures batches { KeepsBatches (λ v. row_commits v (first_deeds count v.log)) self.old self.new }
     {
         let to = match self.store.commit(count) {
             Ok(to) => to,
@@ -74,6 +76,7 @@ impl<S: Service, D: Disk> Server<S, D> {
     ) -> Result<(), TurnFault>
         requires may { MayMove gone.now come.now self.old.store }
         ensures moved { OnOk result (IsMoved gone.now come.now self.old self.new turn.old turn.new) }
+        ensures numbers { result ≢ Err fault.NumbersSpent }
         ensures failed { result ≡ Err fault.Disk → DiskFailed self.old self.new × (turn.new ≡ giving turn.old (Fail ∷ [])) }
         ensures batches { OnErr result (KeepsMoved gone.now come.now self.old.store self.new.store) }
     {

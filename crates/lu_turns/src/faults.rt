@@ -10,7 +10,8 @@ use std::fmt;
 pub enum TurnFault {
     /// The disk failed: the turn ends with the line `fail`.
     Disk,
-    /// The boot has no transaction number or no cookie left: its count stands at 2^32 - 1.
+    /// The boot has fewer transaction numbers, cookies or ticks left than the turn needs: it has 2^32 - 1 of each of the
+    /// first two, and 2^64 - 1 ticks.
     NumbersSpent,
     /// Want of memory.
     Memory,

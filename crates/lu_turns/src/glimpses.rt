@@ -46,6 +46,7 @@ impl<S: Service, D: Disk> Server<S, D> {
         ensures makes { OnOk result (Makes
             (λ v. row_size v turn.old.at request.now resource (highest (locks_on resource v.granted)))
             self.old self.new turn.old turn.new) }
+        ensures numbers { result ≢ Err fault.NumbersSpent }
         ensures fault { result ≢ Err fault.Disk }
         ensures disk { KeepsDisk self.old.store self.new.store }
     {
@@ -76,6 +77,7 @@ impl<S: Service, D: Disk> Server<S, D> {
             → turn.new ≡ giving turn.old (row_sizes (answered v turn.old.at request.now (told.Size size)))) }
         ensures answered { OnOk result ((v : Target) → Tells self.old v
             → IsAnswered request.now.tag (answered v turn.old.at request.now (told.Size size)).reply self.old self.new) }
+        ensures numbers { result ≢ Err fault.NumbersSpent }
         ensures fault { result ≢ Err fault.Disk }
         ensures disk { KeepsDisk self.old.store self.new.store }
     {
@@ -109,6 +111,7 @@ impl<S: Service, D: Disk> Server<S, D> {
         requires unasked { IsUnasked request.now self.old }
         ensures makes { OnOk result (Makes (λ v. row_asks v request.now resource lock.now)
             self.old self.new turn.old turn.new) }
+        ensures numbers { result ≢ Err fault.NumbersSpent }
         ensures fault { result ≢ Err fault.Disk }
         ensures disk { KeepsDisk self.old.store self.new.store }
     {
@@ -122,6 +125,7 @@ impl<S: Service, D: Disk> Server<S, D> {
         requires stands { Stands self.old }
         ensures makes { OnOk result (Makes (λ v. row_report v turn.old.at report.now (asked_for report.now v.glimpses))
             self.old self.new turn.old turn.new) }
+        ensures numbers { result ≢ Err fault.NumbersSpent }
         ensures fault { result ≢ Err fault.Disk }
         ensures disk { KeepsDisk self.old.store self.new.store }
     {
@@ -152,6 +156,7 @@ impl<S: Service, D: Disk> Server<S, D> {
         ensures answered { OnOk result ((v : Target) (r : SpecRequest) → Tells self.old v
             → request_of report.now.for_who report.now.xid self.old.requests ≡ Some r
             → IsAnswered r.tag (answered v (by_holder report.now) r (told.Size size)).reply self.old self.new) }
+        ensures numbers { result ≢ Err fault.NumbersSpent }
         ensures fault { result ≢ Err fault.Disk }
         ensures disk { KeepsDisk self.old.store self.new.store }
     {
@@ -178,6 +183,7 @@ impl<S: Service, D: Disk> Server<S, D> {
         ensures answered { OnOk result ((v : Target) → Tells self.old v
             → IsAnswered request.now.tag (answered v (by_holder report.now) request.now (told.Size size)).reply
             self.old self.new) }
+        ensures numbers { result ≢ Err fault.NumbersSpent }
         ensures fault { result ≢ Err fault.Disk }
         ensures disk { KeepsDisk self.old.store self.new.store }
     {
@@ -199,6 +205,7 @@ impl<S: Service, D: Disk> Server<S, D> {
         ensures answered { OnOk result ((v : Target) (r : SpecRequest) → Tells self.old v
             → request_of who xid self.old.requests ≡ Some r
             → IsAnswered r.tag (answered v turn.old.at r told.Lock).reply self.old self.new) }
+        ensures numbers { result ≢ Err fault.NumbersSpent }
         ensures fault { result ≢ Err fault.Disk }
         ensures disk { KeepsDisk self.old.store self.new.store }
     {

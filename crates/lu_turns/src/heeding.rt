@@ -5,6 +5,7 @@ ghost use Rattle.lu_target_rows.specs.Lives.{slot_in};
 ghost use Rattle.lu_target_rows.specs.Requests.{row_enters, row_request, row_where};
 ghost use Rattle.lu_target_rows.specs.States.{Target};
 ghost use Rattle.lu_store.specs.Stores.{KeepsDisk};
+ghost use Rattle.lu_turns.specs.Numbers.{Overruns, HasRoom};
 ghost use Rattle.lu_turns.specs.Servers.{Shows, Stands, MayTake, Makes};
 ghost use Rattle.lu_turns.specs.declared.faults.TurnFault.TheVariants as fault;
 
@@ -25,6 +26,8 @@ impl<S: Service, D: Disk> Server<S, D> {
         requires stands { Stands self.old }
         requires may { MayTake request.now self.old }
         ensures makes { OnOk result (Makes (λ v. row_request v turn.old.at request.now) self.old self.new turn.old turn.new) }
+        ensures numbers { result ≡ Err fault.NumbersSpent → Overruns (λ v. row_request v turn.old.at request.now) self.old }
+        ensures room { OnOk result (HasRoom (λ v. row_request v turn.old.at request.now) self.old) }
         ensures fault { result ≢ Err fault.Disk }
         ensures disk { KeepsDisk self.old.store self.new.store }
     {
@@ -43,6 +46,7 @@ impl<S: Service, D: Disk> Server<S, D> {
         requires new { (v : Target) → Shows self.old v
             → (slot_in v.slots request.now.who request.now.tag).taken < request.now.xid.0 }
         ensures makes { OnOk result (Makes (λ v. row_enters v turn.old.at request.now) self.old self.new turn.old turn.new) }
+        ensures numbers { result ≡ Err fault.NumbersSpent → Overruns (λ v. row_enters v turn.old.at request.now) self.old }
         ensures fault { result ≢ Err fault.Disk }
         ensures disk { KeepsDisk self.old.store self.new.store }
     {

@@ -16,6 +16,7 @@ ghost use Rattle.lu_turns.specs.Answering.{Tells, TellsSizes};
 ghost use Rattle.lu_turns.specs.Giving.{giving};
 ghost use Rattle.lu_turns.specs.Joins.{TakesPlace, IsAlone};
 ghost use Rattle.lu_turns.specs.Middles.{MakesPart, MakesRest, KeepsFirst};
+ghost use Rattle.lu_turns.specs.Numbers.{Overruns, OverrunsRest, HasRoom};
 ghost use Rattle.lu_turns.specs.Releases.{MayDepart, MayDepartAll, GoesOn, AreMoved};
 ghost use Rattle.lu_turns.specs.Servers.{Shows, Stands, Makes, Fails, KeepsBatches, DiskFailed};
 ghost use Rattle.lu_turns.specs.declared.faults.TurnFault.TheVariants as fault;
@@ -51,6 +52,7 @@ impl<S: Service, D: Disk> Server<S, D> {
         requires alone { (v : Target) → Shows self.old v → IsAlone gone.now come.now v.lives }
         ensures moved { IfOk result (λ steps. (v : Target) → Shows self.old v
             → AreMoved cause gone.now come.now steps v self.old self.new turn.old turn.new) }
+        ensures numbers { result ≢ Err fault.NumbersSpent }
         ensures failed { result ≡ Err fault.Disk → DiskFailed self.old self.new × (turn.new ≡ giving turn.old (Fail ∷ [])) }
         ensures batches { OnErr result ((v : Target) → Shows self.old v
             → KeepsFirst (batch_of v.log gone.now come.now ∷ []) self.old.store self.new.store) }
@@ -85,6 +87,7 @@ impl<S: Service, D: Disk> Server<S, D> {
         ensures departed { OnOk result ((w : Target) (granted : List SpecLock) (gone : List SpecWho)
             → MayDepartAll granted gone departures.now self.old w
             → MakesPart (evictions turn.old.at cause granted gone w) w self.old self.new turn.old turn.new) }
+        ensures numbers { result ≢ Err fault.NumbersSpent }
         ensures fault { result ≢ Err fault.Disk }
         ensures disk { KeepsDisk self.old.store self.new.store }
     {
@@ -106,6 +109,7 @@ impl<S: Service, D: Disk> Server<S, D> {
             → MayDepart locks departure.now.released self.old v
             → MakesPart (Evict departure.now.who cause ∷ evicted v departure.now.who ∷ all_released turn.old.at locks v) v
             self.old self.new turn.old turn.new) }
+        ensures numbers { result ≢ Err fault.NumbersSpent }
         ensures fault { result ≢ Err fault.Disk }
         ensures disk { KeepsDisk self.old.store self.new.store }
     {
@@ -123,6 +127,7 @@ impl<S: Service, D: Disk> Server<S, D> {
         requires goes { (u : Target) × GoesOn steps.now self.old u }
         ensures went { OnOk result ((u : Target) → GoesOn steps.now self.old u
             → MakesRest (all_go turn.old.at u) u self.new turn.old turn.new) }
+        ensures numbers { result ≡ Err fault.NumbersSpent → OverrunsRest turn.old.at steps.now self.old }
         ensures fault { result ≢ Err fault.Disk }
         ensures disk { KeepsDisk self.old.store self.new.store }
     {
@@ -174,9 +179,11 @@ impl<S: Service, D: Disk> Server<S, D> {
     pub fn join(&mut self, turn: &mut Turn, who: Who) -> Result<(), TurnFault>
         requires stands { Stands self.old }
         ensures makes { OnOk result (Makes (λ v. row_join v turn.old.at who) self.old self.new turn.old turn.new) }
+        ensures numbers { result ≡ Err fault.NumbersSpent → Overruns (λ v. row_join v turn.old.at who) self.old }
+        ensures room { OnOk result (HasRoom (λ v. row_join v turn.old.at who) self.old) }
         ensures failed { result ≡ Err fault.Disk → DiskFailed self.old self.new
             × Fails (λ v. row_join v turn.old.at who) self.old turn.old turn.new }
-        ensures batches { OnErr result (KeepsBatches (λ v. row_join v turn.old.at who) self.old self.new) }
+        ensures batches { KeepsBatches (λ v. row_join v turn.old.at who) self.old self.new }
     {
         if self.store.is_over(who) {
             return Ok(say_evicted(turn, who, self.boot)?);
@@ -201,8 +208,9 @@ impl<S: Service, D: Disk> Server<S, D> {
         requires stands { Stands self.old }
         requires place { (v : Target) → Shows self.old v → TakesPlace old.now who v.lives }
         ensures makes { OnOk result (Makes (row_admits turn.old.at old.now who) self.old self.new turn.old turn.new) }
+        ensures numbers { result ≡ Err fault.NumbersSpent → Overruns (row_admits turn.old.at old.now who) self.old }
         ensures failed { result ≡ Err fault.Disk → DiskFailed self.old self.new × (turn.new ≡ giving turn.old (Fail ∷ [])) }
-        ensures batches { OnErr result (KeepsBatches (row_admits turn.old.at old.now who) self.old self.new) }
+        ensures batches { KeepsBatches (row_admits turn.old.at old.now who) self.old self.new }
     {
         let steps = self.move_lives(turn, Cause::Replaced, old, &[who])?;
         turn.note(Entry::Joined(who))?;

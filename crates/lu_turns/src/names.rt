@@ -13,7 +13,8 @@ ghost use Rattle.lu_store.specs.Stores.{KeepsDisk};
 ghost use Rattle.lu_turns.specs.Giving.{giving};
 ghost use Rattle.lu_turns.specs.Servers.{Shows, Stands, Makes};
 ghost use Rattle.lu_turns.specs.Acting.{HasTold, HasToldAs};
-ghost use Rattle.lu_turns.specs.Passes.{IsWaiting, IsPass, IsWay, AreCalled};
+ghost use Rattle.lu_turns.specs.Numbers.{Overruns, LacksCookies};
+ghost use Rattle.lu_turns.specs.Passes.{IsWaiting, IsPass, IsWay, AreCalled, names_pass};
 ghost use Rattle.lu_turns.specs.declared.faults.TurnFault.TheVariants as fault;
 
 use super::faults::TurnFault;
@@ -53,6 +54,7 @@ impl<S: Service, D: Disk> Server<S, D> {
         requires names { self.old.kind ≡ kind.Mdt }
         requires stands { Stands self.old }
         ensures makes { OnOk result (Makes (names_go turn.old.at) self.old self.new turn.old turn.new) }
+        ensures numbers { result ≡ Err fault.NumbersSpent → Overruns (names_go turn.old.at) self.old }
         ensures fault { result ≢ Err fault.Disk }
         ensures disk { KeepsDisk self.old.store self.new.store }
     {
@@ -71,6 +73,7 @@ impl<S: Service, D: Disk> Server<S, D> {
         requires names { self.old.kind ≡ kind.Mdt }
         requires stands { Stands self.old }
         ensures pass { IfOk result (λ acted. IsPass acted self.old self.new turn.old turn.new) }
+        ensures numbers { result ≡ Err fault.NumbersSpent → Overruns (names_pass turn.old.at) self.old }
         ensures fault { result ≢ Err fault.Disk }
         ensures disk { KeepsDisk self.old.store self.new.store }
     {
@@ -145,6 +148,8 @@ impl<S: Service, D: Disk> Server<S, D> {
         requires stands { Stands self.old }
         requires waits { IsWaiting request self.old.requests }
         ensures makes { OnOk result (Makes (λ v. row_executes v turn.old.at request (does_change v request)) self.old self.new turn.old turn.new) }
+        ensures numbers { result ≡ Err fault.NumbersSpent
+            → Overruns (λ v. row_executes v turn.old.at request (does_change v request)) self.old }
         ensures fault { result ≢ Err fault.Disk }
         ensures disk { KeepsDisk self.old.store self.new.store }
     {
@@ -161,6 +166,8 @@ impl<S: Service, D: Disk> Server<S, D> {
         requires waits { IsWaiting request self.old.requests }
         requires still { (v : Target) → Shows self.old v → does_change v request ≡ false }
         ensures makes { OnOk result (Makes (λ v. row_acts (names_deed v turn.old.at request none (locks_for v request))) self.old self.new turn.old turn.new) }
+        ensures numbers { result ≡ Err fault.NumbersSpent
+            → Overruns (λ v. row_acts (names_deed v turn.old.at request none (locks_for v request))) self.old }
         ensures fault { result ≢ Err fault.Disk }
         ensures disk { KeepsDisk self.old.store self.new.store }
     {
@@ -177,6 +184,7 @@ impl<S: Service, D: Disk> Server<S, D> {
         requires still { (v : Target) → Shows self.old v → does_change v request.now ≡ false }
         ensures told { IfOk result (λ reply. HasTold S.acts at request.now reply self.old self.new) }
         ensures own { IfOk result (λ reply. reply.who ≡ request.now.who) }
+        ensures numbers { result ≡ Err fault.NumbersSpent → LacksCookies request.now self.old }
         ensures fault { result ≢ Err fault.Disk }
         ensures disk { KeepsDisk self.old.store self.new.store }
     {
@@ -197,6 +205,8 @@ impl<S: Service, D: Disk> Server<S, D> {
         requires waits { IsWaiting request self.old.requests }
         requires changes { (v : Target) → Shows self.old v → does_change v request ≡ true }
         ensures makes { OnOk result (Makes (λ v. row_transacts (names_deed v turn.old.at request (next_number v) [])) self.old self.new turn.old turn.new) }
+        ensures numbers { result ≡ Err fault.NumbersSpent
+            → Overruns (λ v. row_transacts (names_deed v turn.old.at request (next_number v) [])) self.old }
         ensures fault { result ≢ Err fault.Disk }
         ensures disk { KeepsDisk self.old.store self.new.store }
     {

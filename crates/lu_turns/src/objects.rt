@@ -18,6 +18,7 @@ ghost use Rattle.lu_target_rows.specs.Replies.{locks_on, replies};
 ghost use Rattle.lu_target_rows.specs.States.{Target};
 ghost use Rattle.lu_store.specs.Stores.{KeepsDisk};
 ghost use Rattle.lu_turns.specs.Giving.{giving};
+ghost use Rattle.lu_turns.specs.Numbers.{Overruns};
 ghost use Rattle.lu_turns.specs.Objects.{AsksFor, Reads, IsWrite};
 ghost use Rattle.lu_turns.specs.Requests.{request_of};
 ghost use Rattle.lu_turns.specs.Answering.{Tells, TellsSizes, MayRefuse, IsAnswered};
@@ -60,6 +61,8 @@ impl<S: Service, D: Disk> Server<S, D> {
         requires unasked { IsUnasked request.now self.old }
         ensures makes { OnOk result (Makes (λ v. objects_go v turn.old.at request.now request.now.op)
             self.old self.new turn.old turn.new) }
+        ensures numbers { result ≡ Err fault.NumbersSpent
+            → Overruns (λ v. objects_go v turn.old.at request.now request.now.op) self.old }
         ensures fault { result ≢ Err fault.Disk }
         ensures disk { KeepsDisk self.old.store self.new.store }
     {
@@ -98,6 +101,8 @@ impl<S: Service, D: Disk> Server<S, D> {
         ensures makes { OnOk result (Makes
             (λ v. row_enqueue v turn.old.at request.now (lock_for v request.now resource mode extent))
             self.old self.new turn.old turn.new) }
+        ensures numbers { result ≡ Err fault.NumbersSpent
+            → Overruns (λ v. row_enqueue v turn.old.at request.now (lock_for v request.now resource mode extent)) self.old }
         ensures fault { result ≢ Err fault.Disk }
         ensures disk { KeepsDisk self.old.store self.new.store }
     {
@@ -126,6 +131,7 @@ impl<S: Service, D: Disk> Server<S, D> {
         ensures answered { OnOk result ((v : Target) → TellsSizes self.old v
             → IsAnswered request.now.tag (answered v turn.old.at request.now
             (told.Granted lock.cookie (extent_of lock) (size_of v lock.resource))).reply self.old self.new) }
+        ensures numbers { result ≢ Err fault.NumbersSpent }
         ensures fault { result ≢ Err fault.Disk }
         ensures disk { KeepsDisk self.old.store self.new.store }
     {
@@ -153,6 +159,7 @@ impl<S: Service, D: Disk> Server<S, D> {
         ensures answered { OnOk result ((v : Target) → Tells self.old v
             → IsAnswered request.now.tag (answered v turn.old.at request.now (told.Waiting lock.cookie)).reply
             self.old self.new) }
+        ensures numbers { result ≢ Err fault.NumbersSpent }
         ensures fault { result ≢ Err fault.Disk }
         ensures disk { KeepsDisk self.old.store self.new.store }
     {
@@ -173,6 +180,7 @@ impl<S: Service, D: Disk> Server<S, D> {
             → turn.new ≡ giving turn.old (replies (answered v turn.old.at request.now answer) ∷ [])) }
         ensures answered { OnOk result ((v : Target) → Tells self.old v
             → IsAnswered request.now.tag (answered v turn.old.at request.now answer).reply self.old self.new) }
+        ensures numbers { result ≢ Err fault.NumbersSpent }
         ensures fault { result ≢ Err fault.Disk }
         ensures disk { KeepsDisk self.old.store self.new.store }
     {
@@ -198,6 +206,7 @@ impl<S: Service, D: Disk> Server<S, D> {
         requires unasked { IsUnasked request.now self.old }
         ensures makes { OnOk result (Makes (λ v. row_get v turn.old.at request.now resource page
             (lock_of request.now.who cookie (locks_on resource v.granted))) self.old self.new turn.old turn.new) }
+        ensures numbers { result ≢ Err fault.NumbersSpent }
         ensures fault { result ≢ Err fault.Disk }
         ensures disk { KeepsDisk self.old.store self.new.store }
     {
@@ -229,6 +238,7 @@ impl<S: Service, D: Disk> Server<S, D> {
         ensures answered { OnOk result ((v : Target) → TellsSizes self.old v
             → IsAnswered request.now.tag (answered v turn.old.at request.now
             (told.Content (content page extent (object v resource)))).reply self.old self.new) }
+        ensures numbers { result ≢ Err fault.NumbersSpent }
         ensures fault { result ≢ Err fault.Disk }
         ensures disk { KeepsDisk self.old.store self.new.store }
     {
@@ -251,6 +261,8 @@ impl<S: Service, D: Disk> Server<S, D> {
         requires unasked { IsUnasked request.now self.old }
         ensures makes { OnOk result (Makes (λ v. objects_go v turn.old.at request.now request.now.op)
             self.old self.new turn.old turn.new) }
+        ensures numbers { result ≡ Err fault.NumbersSpent
+            → Overruns (λ v. objects_go v turn.old.at request.now request.now.op) self.old }
         ensures fault { result ≢ Err fault.Disk }
         ensures disk { KeepsDisk self.old.store self.new.store }
     {
@@ -271,6 +283,7 @@ impl<S: Service, D: Disk> Server<S, D> {
         requires unasked { IsUnasked request.now self.old }
         ensures makes { OnOk result (Makes (λ v. row_written (written v turn.old.at request.now))
             self.old self.new turn.old turn.new) }
+        ensures numbers { result ≡ Err fault.NumbersSpent → Overruns (λ v. row_written (written v turn.old.at request.now)) self.old }
         ensures fault { result ≢ Err fault.Disk }
         ensures disk { KeepsDisk self.old.store self.new.store }
     {

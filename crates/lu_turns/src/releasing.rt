@@ -11,6 +11,7 @@ ghost use Rattle.lu_target_rows.specs.States.{Target};
 ghost use Rattle.lu_turns.specs.Answering.{TellsSizes};
 ghost use Rattle.lu_turns.specs.Giving.{giving};
 ghost use Rattle.lu_turns.specs.Middles.{MakesPart, MakesRest};
+ghost use Rattle.lu_turns.specs.Numbers.{Overruns, HasRoom};
 ghost use Rattle.lu_turns.specs.Releases.{MayRelease, IsReturn, QueueGoesOn};
 ghost use Rattle.lu_turns.specs.Servers.{Stands, Makes};
 ghost use Rattle.lu_turns.specs.declared.faults.TurnFault.TheVariants as fault;
@@ -33,6 +34,8 @@ impl<S: Service, D: Disk> Server<S, D> {
     pub fn cancel(&mut self, turn: &mut Turn, who: Who, cookie: Cookie) -> Result<(), TurnFault>
         requires stands { Stands self.old }
         ensures makes { OnOk result (Makes (λ v. row_cancel v turn.old.at who cookie) self.old self.new turn.old turn.new) }
+        ensures numbers { result ≡ Err fault.NumbersSpent → Overruns (λ v. row_cancel v turn.old.at who cookie) self.old }
+        ensures room { OnOk result (HasRoom (λ v. row_cancel v turn.old.at who cookie) self.old) }
         ensures fault { result ≢ Err fault.Disk }
         ensures disk { KeepsDisk self.old.store self.new.store }
     {
@@ -64,6 +67,7 @@ impl<S: Service, D: Disk> Server<S, D> {
         requires may { (v : Target) × MayRelease ended.now self.old v }
         ensures released { OnOk result ((v : Target) → MayRelease ended.now self.old v
             → MakesPart (releases turn.old.at ended.now.lock v) v self.old self.new turn.old turn.new) }
+        ensures numbers { result ≢ Err fault.NumbersSpent }
         ensures fault { result ≢ Err fault.Disk }
         ensures disk { KeepsDisk self.old.store self.new.store }
     {
@@ -85,6 +89,7 @@ impl<S: Service, D: Disk> Server<S, D> {
         requires goes { (w : Target) × QueueGoesOn resource granted.now self.old w }
         ensures went { OnOk result ((w : Target) → QueueGoesOn resource granted.now self.old w
             → MakesRest (queue_goes resource w) w self.new turn.old turn.new) }
+        ensures numbers { result ≢ Err fault.NumbersSpent }
         ensures fault { result ≢ Err fault.Disk }
         ensures disk { KeepsDisk self.old.store self.new.store }
     {

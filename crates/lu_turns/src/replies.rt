@@ -114,6 +114,7 @@ impl<S: Service, D: Disk> Server<S, D> {
         requires tag { tag < tag_count }
         ensures sent { OnOk result (turn.new ≡ giving turn.old (to_life reply.who (message.Reply reply) ∷ [])) }
         ensures answered { OnOk result (IsAnswered tag reply self.old self.new) }
+        ensures numbers { result ≢ Err fault.NumbersSpent }
         ensures fault { result ≢ Err fault.Disk }
         ensures disk { KeepsDisk self.old.store self.new.store }
     {
@@ -192,6 +193,7 @@ impl<S: Service, D: Disk> Server<S, D> {
             turn.new ≡ giving turn.old (TxnEntry d ∷ replies d ∷ [])) }
         ensures appended { OnOk result (IsAppended
             (record { tag = request.tag; op = request.op; writes = written; reply = reply }) self.old self.new) }
+        ensures numbers { result ≢ Err fault.NumbersSpent }
         ensures fault { result ≢ Err fault.Disk }
         ensures disk { KeepsDisk self.old.store self.new.store }
     {

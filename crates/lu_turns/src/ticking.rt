@@ -1,13 +1,14 @@
 //! A target's ticks while it serves.
 
-ghost use Rattle.std.specs.Prelude.{◌≡◌, ◌≢◌, [], ◌∷◌, Err, OnOk, OnErr};
+ghost use Rattle.std.specs.Prelude.{◌≡◌, ◌≢◌, ◌⊎◌, [], ◌∷◌, Err, OnOk, OnErr};
 ghost use Rattle.lu_words.specs.Words.{Tick, Fail};
 ghost use Rattle.lu_locking.specs.Reminding.{again_told};
-ghost use Rattle.lu_locking.specs.Servers.{ShowsCounts};
+ghost use Rattle.lu_locking.specs.Servers.{ShowsCounts, most_ticks};
 ghost use Rattle.lu_store.specs.Stores.{KeepsDisk};
 ghost use Rattle.lu_target_rows.specs.Leaving.{condemned, expels, ticked};
 ghost use Rattle.lu_target_rows.specs.States.{Target, after, follow};
 ghost use Rattle.lu_turns.specs.Giving.{giving};
+ghost use Rattle.lu_turns.specs.Numbers.{Overruns, HasNoTick, HasRoom};
 ghost use Rattle.lu_turns.specs.Servers.{Shows, Stands, Makes, Fails, KeepsBatches, DiskFailed};
 ghost use Rattle.lu_turns.specs.declared.faults.TurnFault.TheVariants as fault;
 
@@ -30,9 +31,12 @@ impl<S: Service, D: Disk> Server<S, D> {
     pub fn tick(&mut self, turn: &mut Turn) -> Result<(), TurnFault>
         requires stands { Stands self.old }
         ensures makes { OnOk result (Makes (λ v. follow v (Tick ∷ []) (ticked turn.old.at)) self.old self.new turn.old turn.new) }
+        ensures numbers { result ≡ Err fault.NumbersSpent
+            → HasNoTick self.old ⊎ Overruns (λ v. follow v (Tick ∷ []) (ticked turn.old.at)) self.old }
+        ensures room { OnOk result (HasRoom (λ v. follow v (Tick ∷ []) (ticked turn.old.at)) self.old) }
         ensures failed { result ≡ Err fault.Disk → DiskFailed self.old self.new
             × Fails (λ v. follow v (Tick ∷ []) (ticked turn.old.at)) self.old turn.old turn.new }
-        ensures batches { OnErr result (KeepsBatches (λ v. follow v (Tick ∷ []) (ticked turn.old.at)) self.old self.new) }
+        ensures batches { KeepsBatches (λ v. follow v (Tick ∷ []) (ticked turn.old.at)) self.old self.new }
     {
         self.count_tick(turn)?;
         self.expire_and_remind(turn)
@@ -45,6 +49,7 @@ impl<S: Service, D: Disk> Server<S, D> {
         ensures counts { OnOk result ((v : Target) → ShowsCounts self.old.locks v
             → ShowsCounts self.new.locks (after v Tick)) }
         ensures same { self.new ≡ record self.old { locks = self.new.locks } }
+        ensures numbers { result ≡ Err fault.NumbersSpent → self.old.locks.ticks ≡ most_ticks }
         ensures fault { result ≢ Err fault.Disk }
     {
         self.locks.tick()?;
@@ -55,9 +60,10 @@ impl<S: Service, D: Disk> Server<S, D> {
     fn expire_and_remind(&mut self, turn: &mut Turn) -> Result<(), TurnFault>
         requires stands { Stands self.old }
         ensures makes { OnOk result (Makes (ticked turn.old.at) self.old self.new turn.old turn.new) }
+        ensures numbers { result ≡ Err fault.NumbersSpent → Overruns (ticked turn.old.at) self.old }
         ensures failed { result ≡ Err fault.Disk → DiskFailed self.old self.new
             × Fails (ticked turn.old.at) self.old turn.old turn.new }
-        ensures batches { OnErr result (KeepsBatches (ticked turn.old.at) self.old self.new) }
+        ensures batches { KeepsBatches (ticked turn.old.at) self.old self.new }
     {
         let before = self.locks.asked(self.alloc)?;
         let condemned = self.locks.due(self.alloc, self.expire)?;
@@ -73,6 +79,7 @@ impl<S: Service, D: Disk> Server<S, D> {
         requires due { (v : Target) → Shows self.old v → gone.now ≡ condemned v v.called }
         ensures makes { OnOk result (Makes (expels turn.old.at gone.now) self.old self.new turn.old turn.new) }
         ensures some { result ≡ Err fault.Disk → gone.now ≢ [] }
+        ensures numbers { result ≡ Err fault.NumbersSpent → Overruns (expels turn.old.at gone.now) self.old }
         ensures failed { result ≡ Err fault.Disk → DiskFailed self.old self.new × (turn.new ≡ giving turn.old (Fail ∷ [])) }
         ensures batches { KeepsBatches (expels turn.old.at gone.now) self.old self.new }
     {

@@ -1,5 +1,5 @@
 -- The request acts: its locks come with it, and nothing else changes.
-use Rattle.std.proofs.Common.{◌≡◌, ◌∙◌, sym, ap, subst}
+use Rattle.std.proofs.Common.{◌≡◌, ◌∙◌, sym, ap, subst, rules}
 use Rattle.lu_service.specs.declared.services.Kind.TheVariants.{Mdt}
 use Rattle.lu_service.specs.Names.{names}
 use Rattle.lu_base.specs.declared.ids.At.{At}
@@ -7,6 +7,7 @@ use Rattle.lu_turns.specs.Acting.{HasTold}
 use Rattle.lu_turns.specs.Servers.{ServerState, IsTaken}
 use Rattle.lu_turns.proofs.Composing.{on_ok_two}
 use Rattle.lu_turns.proofs.Executions.{waiting_taken, would_is, may_answer, act_given, acts_made}
+use Rattle.lu_turns.proofs.Overrunning.{over_acts}
 use Rattle.lu_turns.proofs.server.Server.act.Goals as goal
 
 pub told-requires : goal.told-requires
@@ -43,3 +44,9 @@ returns-clause-makes g c =
     c.args.turn.now c.answer.new.turn
     (λ d is. act_given c.args.turn.now c.note_act.new.turn c.answer.new.turn d reply is (c.in_ok-note_act.ensures.noted d is) sent))
     c.answer.result c.answer.ensures.sent c.answer.ensures.answered
+
+pub returns-in_err-reply-clause-numbers : goal.returns-in_err-reply-clause-numbers
+returns-in_err-reply-clause-numbers g c =
+    λ is.
+    over_acts c.args.self.now c.args.turn.now.at c.args.request
+    (c.told.ensures.numbers (search rules))

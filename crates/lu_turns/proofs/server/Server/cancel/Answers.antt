@@ -8,8 +8,10 @@ use Rattle.lu_sound.specs.Sound.{IsKindOf}
 use Rattle.lu_turns.specs.Middles.{MakesPart}
 use Rattle.lu_turns.specs.Releases.{IsGivenBack, IsReturn}
 use Rattle.lu_turns.specs.Servers.{ServerState, Shows}
-use Rattle.lu_turns.proofs.Cancels.{may_release_back, names_after, queue_after, goes_names, goes_objects, cancels}
+use Rattle.lu_turns.proofs.Cancels.{may_release_back, names_after, queue_after, goes_names, goes_objects, over_names, over_cancels, cancels}
 use Rattle.lu_turns.proofs.Middles.{names_kind, objects_kind}
+use Rattle.lu_turns.proofs.Rooms.{room_made}
+use Rattle.lu_target_rows.specs.Requests.{row_cancel}
 use Rattle.lu_turns.proofs.server.Server.cancel.Goals as goal
 
 pub release-requires : goal.release-requires
@@ -128,3 +130,32 @@ returns-clause-makes g c =
     (λ v shows. goes_objects s back released v c.args.who c.args.cookie ended granted c.args.turn.now c.release.new.turn shows is_back (part v shows) c.queue_goes.new.self c.queue_goes.new.turn test
     (went (turn v (releases c.args.turn.now.at ended.lock v))
     (queue_after s back released v c.args.who c.args.cookie ended granted c.args.turn.now c.release.new.turn shows is_back (part v shows))))) c.queue_goes.ensures.went
+
+pub returns-then-serves_names-clause-numbers : goal.returns-then-serves_names-clause-numbers
+returns-then-serves_names-clause-numbers g c =
+    λ is.
+    let s = c.args.self.now in
+    let back = c.take_back.new.self in
+    let ended = c.in-Some.ended in
+    let granted = c.in-Some.granted in
+    let is_back : IsGivenBack c.args.who c.args.cookie ended granted s.locks back.locks =
+    subst (λ o. IsReturn c.args.who c.args.cookie o s.locks back.locks) c.in-Some.is c.in_ok-ended.ensures.back in
+    let released = c.release.new.self in
+    let part : (v : Target) → Shows s v → MakesPart (releases c.args.turn.now.at ended.lock v) v back released c.args.turn.now c.release.new.turn =
+    (λ v shows. c.in_ok-release.ensures.released v (may_release_back s back v c.args.who c.args.cookie ended granted shows c.take_back.ensures.same is_back)) in
+    let kind_of : IsKindOf released.id released.kind = (part c.requires.stands.0 c.requires.stands.1).shows.kind in
+    let test : (released.id == 0) ≡ true = sym c.serves_names.ensures.names ∙ c.if-serves_names.true in
+    let kind = names_kind released.id released.kind kind_of test in
+    over_cancels s c.args.who c.args.cookie ended.lock c.args.turn.now.at (λ v shows. is_back.released.was v shows.locks)
+    (λ v shows. over_names s back released v c.args.who c.args.cookie ended granted c.args.turn.now c.release.new.turn shows is_back (part v shows) kind test
+    (ap (λ (making : Making). making.at) (part v shows).gives) (c.names_go.ensures.numbers is))
+
+pub returns-then-serves_names-clause-room : goal.returns-then-serves_names-clause-room
+returns-then-serves_names-clause-room g c =
+    on_ok_weaker c.names_go.result
+    (room_made (λ v. row_cancel v c.args.turn.now.at c.args.who c.args.cookie) c.args.self.now c.names_go.new.self c.args.turn.now c.names_go.new.turn) (returns-then-serves_names-clause-makes g c)
+
+pub returns-clause-room : goal.returns-clause-room
+returns-clause-room g c =
+    on_ok_weaker c.queue_goes.result
+    (room_made (λ v. row_cancel v c.args.turn.now.at c.args.who c.args.cookie) c.args.self.now c.queue_goes.new.self c.args.turn.now c.queue_goes.new.turn) (returns-clause-makes g c)

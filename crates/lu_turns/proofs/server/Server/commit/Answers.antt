@@ -3,14 +3,19 @@ use Rattle.std.proofs.Common.{◌≡◌, ap, subst}
 use Rattle.lu_store.specs.Stores.{StoreState, KeepsTaken, IsCommit}
 use Rattle.lu_turns.specs.Servers.{ServerState}
 use Rattle.lu_turns.proofs.Committing.{commits_made, commit_kept}
-use Rattle.lu_turns.proofs.Items.{on_err}
 use Rattle.lu_turns.proofs.server.Server.commit.Goals as goal
 
 pub returns-in_err-note_commit-clause-batches : goal.returns-in_err-note_commit-clause-batches
 returns-in_err-note_commit-clause-batches g c =
     let is : IsCommit c.args.count c.in-Ok.to c.args.self.now.store c.commit.new.self =
     subst (λ (it : StoreState). IsCommit c.args.count c.in-Ok.to it c.commit.new.self) (ap (λ (it : ServerState). it.store) c.self.view_is) c.in-Ok.ensures.commit in
-    on_err c.from_residual.result (commit_kept c.args.self.now (record c.args.self.now { store = c.commit.new.self }) c.args.count c.in-Ok.to is)
+    commit_kept c.args.self.now (record c.args.self.now { store = c.commit.new.self }) c.args.count c.in-Ok.to is
+
+pub returns-clause-batches : goal.returns-clause-batches
+returns-clause-batches g c =
+    let is : IsCommit c.args.count c.in-Ok.to c.args.self.now.store c.commit.new.self =
+    subst (λ (it : StoreState). IsCommit c.args.count c.in-Ok.to it c.commit.new.self) (ap (λ (it : ServerState). it.store) c.self.view_is) c.in-Ok.ensures.commit in
+    commit_kept c.args.self.now (record c.args.self.now { store = c.commit.new.self }) c.args.count c.in-Ok.to is
 
 pub returns-clause-makes : goal.returns-clause-makes
 returns-clause-makes g c =

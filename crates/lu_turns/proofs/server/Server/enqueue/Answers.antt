@@ -15,6 +15,8 @@ use Rattle.lu_turns.specs.Servers.{ServerState, Makes}
 use Rattle.lu_turns.proofs.AnsweredObjects.{may_refuse_middle}
 use Rattle.lu_turns.proofs.ObjectRows.{granted_on, waiting_on, makes_granted, makes_waits, makes_waiting, makes_called}
 use Rattle.lu_turns.proofs.Replying.{on_ok_two}
+use Rattle.lu_locking.specs.Servers.{most_cookies}
+use Rattle.lu_turns.proofs.Overrunning.{lock_spent, over_enqueue}
 use Rattle.lu_turns.proofs.server.Server.enqueue.Goals as goal
 
 pub granted-requires-clause-may : goal.granted-requires-clause-may
@@ -135,3 +137,10 @@ returns-in_ok-say_blocks-in-Waiting-clause-makes g c =
     last c.args.turn.now c.waiting.new.turn c.say_blocks.new.turn is
     (makes_waits c.args.self.now middle c.waiting.new.self r c.args.turn.now.at c.args.resource c.args.mode c.args.extent c.in-Waiting.lock c.requires.objects c.requires.unasked c.requires.waits mid
     c.args.turn.now c.waiting.new.turn is c.in_ok-waiting-in-Waiting.ensures.sent c.in_ok-waiting-in-Waiting.ensures.answered) next
+
+pub returns-in_err-lock-clause-numbers : goal.returns-in_err-lock-clause-numbers
+returns-in_err-lock-clause-numbers g c =
+    λ is.
+    let spent = lock_spent c.from_residual.result c.in_err-lock.field-0.0 _ _ c.from_residual.ensures.1 is c.in_err-lock.ensures.spent in
+    over_enqueue c.args.self.now c.args.turn.now.at c.args.request.now c.args.resource c.args.mode c.args.extent
+    (subst (λ (s : ServerState). s.locks.count ≡ most_cookies) c.self.view_is spent.1)

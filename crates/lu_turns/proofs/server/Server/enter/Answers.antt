@@ -7,11 +7,15 @@ use Rattle.lu_service.specs.declared.services.Kind.{Kind}
 use Rattle.lu_words.specs.Words.{Enters}
 use Rattle.lu_target_rows.specs.Names.{names_go}
 use Rattle.lu_target_rows.specs.Objects.{objects_go}
+use Rattle.lu_target_rows.specs.Requests.{row_enters}
+use Rattle.lu_target_rows.specs.States.{follow}
 use Rattle.lu_sound.specs.Requests.{request_of}
 use Rattle.lu_store.specs.Stores.{StoreState, Serves, KeepsTaken}
 use Rattle.lu_turns.specs.Servers.{ServerState, Makes, Stands, IsUnasked}
 use Rattle.lu_turns.proofs.Composing.{makes_then, stands_then}
-use Rattle.lu_turns.proofs.Entering.{kind_names, kind_objects, enters_made, with_taken, goes_names, goes_objects, taken_waits, taken_unasked}
+use Rattle.lu_turns.proofs.Entering.{kind_names, kind_objects, enters_made, with_taken, enters_names, enters_objects, goes_names, goes_objects, taken_waits, taken_unasked}
+use Rattle.lu_turns.specs.Numbers.{Overruns}
+use Rattle.lu_turns.proofs.Overrunning.{over_then, over_as}
 use Rattle.lu_turns.proofs.server.Server.enter.Goals as goal
 
 -- what was taken is the server's
@@ -97,3 +101,37 @@ returns-clause-makes g c =
     (makes_then (λ v. Enters r ∷ []) (λ v. objects_go v turn.at r r.op) s (with_taken s store r) c.objects_go.new.self turn turn c.objects_go.new.turn one
     (subst (λ (x : ServerState). Makes (λ v. objects_go v turn.at r r.op) x c.objects_go.new.self turn c.objects_go.new.turn) middle makes)))
     c.objects_go.ensures.makes
+
+pub returns-then-serves_names-clause-numbers : goal.returns-then-serves_names-clause-numbers
+returns-then-serves_names-clause-numbers g c =
+    λ is.
+    let s = c.args.self.now in
+    let r = c.args.request.now in
+    let turn = c.args.turn.now in
+    let store = c.enter.new.self in
+    let one : Makes (λ v. Enters r ∷ []) s (with_taken s store r) turn turn =
+    enters_made s store turn r
+    (λ v serves. c.in_ok-enter.ensures.shows v (subst (λ (x : ServerState). Serves x.store v) (sym c.self.view_is) serves))
+    c.in_ok-enter.ensures.entered (subst (λ (x : ServerState). KeepsTaken x.store store) c.self.view_is c.in_ok-enter.ensures.takes) c.requires.may c.requires.new in
+    let middle = middle_is _ s store c.push.new.self c.in_ok-copy.field-0 r c.self.view_is c.in_ok-copy.ensures.same c.in_ok-push.ensures.added in
+    let zero : (s.id == 0) ≡ true = ap (λ (x : ServerState). x.id == 0) (sym c.self.view_is) ∙ sym c.if-serves_names.ensures.names in
+    over_as (λ v. follow v (Enters r ∷ []) (names_go turn.at)) (λ v. row_enters v turn.at r) s (enters_names s turn.at r zero)
+    (over_then (λ v. Enters r ∷ []) (names_go turn.at) s (with_taken s store r) turn turn one
+    (subst (λ (x : ServerState). Overruns (names_go turn.at) x) middle (c.names_go.ensures.numbers is)))
+
+pub returns-clause-numbers : goal.returns-clause-numbers
+returns-clause-numbers g c =
+    λ is.
+    let s = c.args.self.now in
+    let r = c.args.request.now in
+    let turn = c.args.turn.now in
+    let store = c.enter.new.self in
+    let one : Makes (λ v. Enters r ∷ []) s (with_taken s store r) turn turn =
+    enters_made s store turn r
+    (λ v serves. c.in_ok-enter.ensures.shows v (subst (λ (x : ServerState). Serves x.store v) (sym c.self.view_is) serves))
+    c.in_ok-enter.ensures.entered (subst (λ (x : ServerState). KeepsTaken x.store store) c.self.view_is c.in_ok-enter.ensures.takes) c.requires.may c.requires.new in
+    let middle = middle_is _ s store c.push.new.self c.in_ok-copy.field-0 r c.self.view_is c.in_ok-copy.ensures.same c.in_ok-push.ensures.added in
+    let other : (s.id == 0) ≡ false = ap (λ (x : ServerState). x.id == 0) (sym c.self.view_is) ∙ sym c.if-serves_names.ensures.names in
+    over_as (λ v. follow v (Enters r ∷ []) (λ w. objects_go w turn.at r r.op)) (λ v. row_enters v turn.at r) s (enters_objects s turn.at r other)
+    (over_then (λ v. Enters r ∷ []) (λ w. objects_go w turn.at r r.op) s (with_taken s store r) turn turn one
+    (subst (λ (x : ServerState). Overruns (λ w. objects_go w turn.at r r.op) x) middle (c.objects_go.ensures.numbers is)))

@@ -9,6 +9,7 @@ use Rattle.lu_target_rows.specs.Replies.{none}
 use Rattle.lu_target_rows.specs.States.{Target}
 use Rattle.lu_turns.specs.Servers.{ServerState, Shows, IsTaken}
 use Rattle.lu_turns.proofs.Executions.{waiting_taken, would_is, as_transacts, as_acts}
+use Rattle.lu_turns.proofs.Overrunning.{over_transacting, over_acting}
 use Rattle.lu_turns.proofs.server.Server.execute.Goals as goal
 
 pub changes-requires : goal.changes-requires
@@ -67,3 +68,27 @@ returns-clause-makes g c =
     ∙ sym (c.changes.ensures.changes none ∙ ap (λ (x : ServerState). g.S.Service.acts.changes x.contents (asked none r.who r.op)) c.self.view_is)
     ∙ c.if-changes.false) in
     on_ok_weaker c.act.result (λ made. as_acts c.args.turn.now.at r old c.act.new.self c.args.turn.now c.act.new.turn still made) c.act.ensures.makes
+
+pub returns-then-changes-clause-numbers : goal.returns-then-changes-clause-numbers
+returns-then-changes-clause-numbers g c =
+    λ is.
+    let r = c.args.request in
+    let old = c.args.self.now in
+    let kind_is : g.S.Service.kind ≡ Mdt = ap (λ (x : ServerState). x.kind) c.self.view_is ∙ c.requires.names in
+    let changes : ((v : Target) → Shows old v → does_change v r ≡ true) = (λ v shows.
+    would_is g.S.Service.acts (g.met.S.Service.serves_names kind_is) old v r c.requires.names shows
+    ∙ sym (c.changes.ensures.changes none ∙ ap (λ (x : ServerState). g.S.Service.acts.changes x.contents (asked none r.who r.op)) c.self.view_is)
+    ∙ c.if-changes.true) in
+    over_transacting old c.args.turn.now.at r changes (c.transact.ensures.numbers is)
+
+pub returns-clause-numbers : goal.returns-clause-numbers
+returns-clause-numbers g c =
+    λ is.
+    let r = c.args.request in
+    let old = c.args.self.now in
+    let kind_is : g.S.Service.kind ≡ Mdt = ap (λ (x : ServerState). x.kind) c.self.view_is ∙ c.requires.names in
+    let still : ((v : Target) → Shows old v → does_change v r ≡ false) = (λ v shows.
+    would_is g.S.Service.acts (g.met.S.Service.serves_names kind_is) old v r c.requires.names shows
+    ∙ sym (c.changes.ensures.changes none ∙ ap (λ (x : ServerState). g.S.Service.acts.changes x.contents (asked none r.who r.op)) c.self.view_is)
+    ∙ c.if-changes.false) in
+    over_acting old c.args.turn.now.at r still (c.act.ensures.numbers is)

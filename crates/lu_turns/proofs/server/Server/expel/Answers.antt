@@ -1,5 +1,5 @@
 -- The lives leave, and what waited goes on.
-use Rattle.std.proofs.Common.{◌≡◌, ◌≢◌, [], ◌∷◌, List, sym, ap, subst, ◌∙◌, rules}
+use Rattle.std.proofs.Common.{◌≡◌, ◌≢◌, [], ◌∷◌, List, sym, ap, subst, ◌∙◌, rules, true}
 use Rattle.std.proofs.lemmas.Result.{on_ok_weaker}
 use Rattle.lu_base.specs.declared.ids.Who.{Who}
 use Rattle.lu_base.specs.declared.locks.Cause.TheVariants.{Expired}
@@ -12,6 +12,10 @@ use Rattle.lu_turns.specs.Releases.{GoesOn, moves, AreMoved}
 use Rattle.lu_turns.specs.Servers.{Shows}
 use Rattle.lu_turns.proofs.Expiring.{may_expel, expels_then, expels_keep}
 use Rattle.lu_turns.proofs.MovedLives.{keeps_one}
+use Rattle.lu_base.specs.declared.ids.At.{At}
+use Rattle.lu_trace.specs.Turns.{Making}
+use Rattle.lu_target_rows.specs.Rows.{overruns}
+use Rattle.lu_turns.proofs.Expiring.{over_expels}
 use Rattle.lu_turns.proofs.server.Server.expel.Goals as goal
 
 pub move_lives-requires-clause-may : goal.move_lives-requires-clause-may
@@ -51,3 +55,14 @@ returns-clause-batches g c =
     (c.in_ok-steps.ensures.moved v shows) in
     expels_keep c.args.self.now c.all_go.new.self v c.args.turn.now.at c.args.gone.now some
     (keeps_one c.args.self.now.store c.all_go.new.self.store (batch_of v.log c.args.gone.now []) [] (c.all_go.ensures.disk.batches ∙ moved.batches))
+
+pub returns-clause-numbers : goal.returns-clause-numbers
+returns-clause-numbers g c =
+    let some : c.args.gone.now ≢ [] = search rules in
+    λ is v shows.
+    let moved : AreMoved Expired c.args.gone.now [] c.in_ok-steps.steps v c.args.self.now c.move_lives.new.self c.args.turn.now c.move_lives.new.turn =
+    subst (λ (lives : List Who). AreMoved Expired lives [] c.in_ok-steps.steps v c.args.self.now c.move_lives.new.self c.args.turn.now c.move_lives.new.turn) c.as_slice.ensures.same
+    (c.in_ok-steps.ensures.moved v shows) in
+    let u : Target = turn v (moves c.args.turn.now.at Expired c.args.gone.now [] v) in
+    over_expels v c.args.turn.now.at c.args.gone.now some
+    (subst (λ (it : At). overruns u (all_go it u) ≡ true) (ap (λ (making : Making). making.at) moved.gives) (c.all_go.ensures.numbers is u moved.goes))

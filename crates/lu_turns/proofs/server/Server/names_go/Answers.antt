@@ -1,11 +1,11 @@
 -- Pass after pass.
-use Rattle.std.proofs.Common.{◌≡◌, ◌<◌, ◌∙◌, ℕ, true, false, length, ap, subst, rules}
+use Rattle.std.proofs.Common.{◌≡◌, ◌<◌, ◌≤◌, ◌∙◌, ℕ, true, false, length, ap, subst, rules}
 use Rattle.lu_turns.specs.Servers.{ServerState}
 use Rattle.lu_turns.specs.Passes.{IsPass}
 use Rattle.lu_turns.proofs.Composing.{stands_then}
 use Rattle.lu_turns.proofs.Entering.{names_kept}
 use Rattle.lu_turns.proofs.Releases.{disk_then}
-use Rattle.lu_turns.proofs.Sweeps.{swept_none, swept_more, swept_ended, swept_all, at_the_end}
+use Rattle.lu_turns.proofs.Sweeps.{swept_none, swept_more, swept_ended, swept_all, swept_over, at_the_end, below_so}
 use Rattle.lu_turns.proofs.server.Server.names_go.Goals as goal
 
 pub loop-pass-init : goal.loop-pass-init
@@ -59,3 +59,19 @@ returns-clause-makes g c =
 
 pub returns-clause-disk : goal.returns-clause-disk
 returns-clause-disk g c = disk_then c.args.self.now.store c.loop-pass.self.store c.pass-2.new.self.store c.loop-pass.invariant.disk c.pass-2.ensures.disk
+
+pub returns-in_err-acted-clause-numbers : goal.returns-in_err-acted-clause-numbers
+returns-in_err-acted-clause-numbers g c =
+    λ is.
+    let less : c.loop-pass._pass < length c.args.self.now.requests = subst (λ (n : ℕ). c.loop-pass._pass < n)
+    (c.len-pass-end.ensures.count ∙ ap (λ (x : ServerState). length x.requests) c.self.view_is)
+    c.loop-pass-test.true in
+    swept_over c.loop-pass._pass c.args.self.now c.loop-pass.self c.args.turn.now c.loop-pass.turn c.loop-pass.invariant c.requires.stands
+    (below_so c.loop-pass._pass (length c.args.self.now.requests) less) (c.pass.ensures.numbers (search rules))
+
+pub returns-in_err-pass-clause-numbers : goal.returns-in_err-pass-clause-numbers
+returns-in_err-pass-clause-numbers g c =
+    λ is.
+    let end_is : c.len-pass-end.result ≡ length c.args.self.now.requests = c.len-pass-end.ensures.count ∙ ap (λ (x : ServerState). length x.requests) c.self.view_is in
+    swept_over c.loop-pass._pass c.args.self.now c.loop-pass.self c.args.turn.now c.loop-pass.turn c.loop-pass.invariant c.requires.stands
+    (subst (λ (n : ℕ). c.loop-pass._pass ≤ n) end_is c.loop-pass.auto._pass-end) (c.pass-2.ensures.numbers (search rules))

@@ -3,7 +3,7 @@ use Rattle.std.proofs.Common.{◌≡◌, sym, ap, rules}
 use Rattle.std.proofs.lemmas.Result.{on_ok_weaker}
 use Rattle.lu_msg.specs.declared.operations.Op.TheVariants as op
 use Rattle.lu_target_rows.specs.Glimpses.{highest, row_size}
-use Rattle.lu_target_rows.specs.Objects.{lock_of, objects_go, row_get}
+use Rattle.lu_target_rows.specs.Objects.{lock_for, lock_of, objects_go, row_enqueue, row_get}
 use Rattle.lu_target_rows.specs.Replies.{locks_on}
 use Rattle.lu_turns.proofs.Composing.{makes_as}
 use Rattle.lu_turns.proofs.server.Server.objects_go.Goals as goal
@@ -29,3 +29,14 @@ returns-in-Size-clause-makes g c =
     makes_as (λ v. row_size v at r c.in-Size.resource (highest (locks_on c.in-Size.resource v.granted))) (λ v. objects_go v at r r.op) c.args.self.now c.size.new.self c.args.turn.now c.size.new.turn
     (λ v s. ap (objects_go v at r) (sym is)) makes)
     c.size.ensures.makes
+
+pub returns-in-Enqueue-clause-makes : goal.returns-in-Enqueue-clause-makes
+returns-in-Enqueue-clause-makes g c =
+    let r = c.args.request.now in
+    let at = c.args.turn.now.at in
+    let is : r.op ≡ op.Enqueue c.in-Enqueue.resource c.in-Enqueue.mode c.in-Enqueue.extent = search rules in
+    on_ok_weaker c.enqueue.result
+    (λ makes.
+    makes_as (λ v. row_enqueue v at r (lock_for v r c.in-Enqueue.resource c.in-Enqueue.mode c.in-Enqueue.extent)) (λ v. objects_go v at r r.op) c.args.self.now c.enqueue.new.self
+    c.args.turn.now c.enqueue.new.turn (λ v s. ap (objects_go v at r) (sym is)) makes)
+    c.enqueue.ensures.makes

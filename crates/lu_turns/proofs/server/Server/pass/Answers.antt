@@ -1,12 +1,12 @@
 -- Request after request.
-use Rattle.std.proofs.Common.{◌≡◌, ◌<◌, ◌≤◌, ◌∙◌, ℕ, List, Some, length, slice_get, sym, ap, subst}
+use Rattle.std.proofs.Common.{◌≡◌, ◌<◌, ◌≤◌, ◌∙◌, ℕ, List, Some, length, slice_get, sym, ap, subst, rules}
 use Rattle.lu_msg.specs.declared.messages.Request.{Request}
 use Rattle.lu_turns.specs.Servers.{ServerState}
 use Rattle.lu_turns.specs.Passes.{IsWay}
 use Rattle.lu_turns.specs.declared.names.Way.TheVariants as way
 use Rattle.lu_turns.proofs.Composing.{stands_then}
 use Rattle.lu_turns.proofs.Entering.{names_kept}
-use Rattle.lu_turns.proofs.Sweeps.{at_first, place_acts, place_last, free_waits, of_way, waits_behind, waits_barred}
+use Rattle.lu_turns.proofs.Sweeps.{at_first, place_acts, place_over, place_last, free_waits, of_way, waits_behind, waits_barred}
 use Rattle.lu_turns.proofs.server.Server.pass.Goals.{in-Behind, in-Barred+in_ok-call_back_all-in-Barred}
 use Rattle.lu_turns.proofs.server.Server.pass.Goals as goal
 
@@ -81,3 +81,19 @@ returns-clause-pass g c =
     (c.len-place-end.ensures.count ∙ ap (λ (x : ServerState). length x.requests) c.self.view_is)
     c.loop-place-test.false in
     place_last c.loop-place.place c.loop-place.stood c.args.self.now c.loop-place.self c.args.turn.now c.loop-place.turn here past
+
+pub returns-in_err-execute-in-Free-clause-numbers : goal.returns-in_err-execute-in-Free-clause-numbers
+returns-in_err-execute-in-Free-clause-numbers g c =
+    λ is.
+    let here = c.loop-place.invariant in
+    let within : c.loop-place.place < length c.loop-place.self.requests = subst (λ (n : ℕ). c.loop-place.place < n)
+    (c.len-place-end.ensures.count ∙ ap (λ (x : ServerState). length x.requests) c.self.view_is ∙ ap (λ (them : List Request). length them) (sym here.requests))
+    c.loop-place-test.true in
+    let stands = stands_then here.row c.args.self.now c.loop-place.self c.args.turn.now c.loop-place.turn here.makes c.requires.stands in
+    let free : IsWay c.loop-place.self c.loop-place.place c.loop-place.stood (way.Free c.in-Free.request) =
+    of_way c.loop-place.self c.loop-place.place c.loop-place.stood c.in_ok-request.field-0 (way.Free c.in-Free.request) c.in-Free.is c.in_ok-request.ensures.way in
+    let found : slice_get c.args.self.now.requests c.loop-place.place ≡ Some c.in-Free.request =
+    ap (λ (them : List Request). slice_get them c.loop-place.place) (sym here.requests)
+    ∙ free_waits c.loop-place.self c.loop-place.place c.loop-place.stood c.in-Free.request stands within free in
+    place_over c.loop-place.place c.loop-place.stood c.args.self.now c.loop-place.self c.args.turn.now c.loop-place.turn here c.in-Free.request found
+    c.requires.stands free (c.execute.ensures.numbers (search rules))

@@ -1,5 +1,5 @@
 -- What the service says, and the locks that come with it.
-use Rattle.std.proofs.Common.{◌≡◌, ◌∙◌, true, false, sym, ap, subst}
+use Rattle.std.proofs.Common.{◌≡◌, ◌<◌, ◌+◌, ◌∙◌, length, true, false, sym, ap, subst}
 use Rattle.lu_service.specs.declared.services.Kind.{Kind}
 use Rattle.lu_service.specs.declared.services.Kind.TheVariants.{Mdt}
 use Rattle.lu_service.specs.Contents.{Contents, asked}
@@ -7,8 +7,10 @@ use Rattle.lu_service.specs.Takes.{Takes, Performs}
 use Rattle.lu_target_rows.specs.Replies.{none}
 use Rattle.lu_store.specs.Stores.{Serves}
 use Rattle.lu_locking.specs.Admitted.{AreAdmitted}
+use Rattle.lu_locking.specs.Servers.{most_cookies}
 use Rattle.lu_turns.specs.Servers.{ServerState, IsTaken}
 use Rattle.lu_turns.proofs.Executions.{waiting_taken, waiting_named, would_is}
+use Rattle.lu_turns.proofs.Overrunning.{lacks_cookies, lock_spent}
 use Rattle.lu_turns.proofs.server.Server.told.Goals as goal
 
 true-false : true ≡ false → ⊥
@@ -60,3 +62,14 @@ returns-clause-told g c =
       mid_is = ap (λ (x : ServerState). record x { locks = c.admit.new.self; contents = g.S.Service.contents c.apply.new.self }) c.self.view_is;
       replies = c.reply.ensures.reply;
     }
+
+pub returns-in_err-locks-clause-numbers : goal.returns-in_err-locks-clause-numbers
+returns-in_err-locks-clause-numbers g c =
+    λ is.
+    let r = c.args.request.now in
+    let kind_is : g.S.Service.kind ≡ Mdt = ap (λ (x : ServerState). x.kind) c.self.view_is ∙ c.requires.names in
+    let contents_is : g.S.Service.contents c.self.inside.service ≡ c.args.self.now.contents = ap (λ (x : ServerState). x.contents) c.self.view_is in
+    let spent = lock_spent c.from_residual-in_err-locks.result c.in_err-locks.field-0.0 _ _ c.from_residual-in_err-locks.ensures.1 is c.in_err-locks.ensures.spent in
+    lacks_cookies g.S.Service.acts (g.met.S.Service.serves_names kind_is) c.args.self.now r c.in_ok-wants.wants c.requires.names
+    (subst (λ (x : Contents). c.in_ok-wants.wants ≡ g.S.Service.acts.grants x (asked none r.who r.op)) contents_is (c.in_ok-wants.ensures.grants none))
+    (subst (λ (x : ServerState). most_cookies < x.locks.count + length c.in_ok-wants.wants) c.self.view_is spent.1)

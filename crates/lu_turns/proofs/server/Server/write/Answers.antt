@@ -11,6 +11,7 @@ use Rattle.lu_turns.proofs.AnsweredObjects.{may_refuse}
 use Rattle.lu_turns.proofs.Composing.{makes_as, tells}
 use Rattle.lu_turns.proofs.ObjectRows.{makes_answers, write_found, write_uncovered}
 use Rattle.lu_turns.proofs.Replying.{on_ok_two}
+use Rattle.lu_turns.proofs.Overrunning.{over_as}
 use Rattle.lu_turns.proofs.server.Server.write.Goals as goal
 
 pub answer_unseen-requires-clause-may : goal.answer_unseen-requires-clause-may
@@ -43,3 +44,14 @@ returns-clause-makes g c =
     (λ v s. let own : locking.Shows c.self.inside.locks v = subst (λ (x : ServerState). locking.Shows x.locks v) (sym c.self.view_is) s.locks in
     sym (write_found c.self.inside.locks v at r c.args.cookie r.op found c.requires.op own (c.find-lock.ensures.lock v own) covers)) makes)
     c.perform_write.ensures.makes
+
+pub returns-clause-numbers : goal.returns-clause-numbers
+returns-clause-numbers g c =
+    λ is.
+    let r = c.args.request.now in
+    let at = c.args.turn.now.at in
+    let found : Option Lock = c.find-lock.result in
+    let covers : covered r.op found r.who ≡ true = search rules in
+    over_as (λ v. row_written (written v at r)) (λ v. objects_go v at r r.op) c.args.self.now
+    (λ v s. let own : locking.Shows c.self.inside.locks v = subst (λ (x : ServerState). locking.Shows x.locks v) (sym c.self.view_is) s.locks in
+    sym (write_found c.self.inside.locks v at r c.args.cookie r.op found c.requires.op own (c.find-lock.ensures.lock v own) covers)) (c.perform_write.ensures.numbers is)
