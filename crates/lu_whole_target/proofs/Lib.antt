@@ -1,0 +1,9 @@
+pub mod Turning
+pub mod Heeding
+pub mod Ticking
+pub mod Steps
+pub mod Beginning
+pub mod Coming
+pub mod Keeping
+pub mod Standing
+pub mod Repeating

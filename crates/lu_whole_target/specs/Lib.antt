@@ -1,0 +1,4 @@
+pub mod Running
+pub mod Faults
+pub mod Targets
+pub mod Repeating
