@@ -136,14 +136,18 @@ joins_keep at t new who boot none later keeps =
     ∙ ap (λ (b : Bool). if b then row_join v at who else row_wish v at who) (serving_is t.server v (in_none t v none it))))
     (keeps_in (λ v. row_join v at who) t new none keeps)
 
+pub joins_row : (at : At) (t : RunningState) (who : Who) (boot : ℕ) → t.window ≡ None → nat_lt boot t.server.boot ≡ false → (v : Target) → IsIn t v
+    → row_join v at who ≡ by_boot v who (nat_lt boot v.boot) (if is_serving v then row_join v at who else row_wish v at who)
+joins_row at t who boot none later v it =
+    sym (ap (λ (b : Bool). by_boot v who b (if is_serving v then row_join v at who else row_wish v at who)) (ap (nat_lt boot) (boot_of t v it) ∙ later)
+    ∙ ap (λ (b : Bool). if b then row_join v at who else row_wish v at who) (serving_is t.server v (in_none t v none it)))
+
 pub joins_turn : (at : At) (t new : RunningState) (who : Who) (boot : ℕ) (before after : Making) → t.window ≡ None → new.window ≡ None → nat_lt boot t.server.boot ≡ false
     → Makes (λ v. row_join v at who) t.server new.server before after
     → Turns (λ v. by_boot v who (nat_lt boot v.boot) (if is_serving v then row_join v at who else row_wish v at who)) t new before after
 joins_turn at t new who boot before after none left later makes =
     turns_as (λ v. row_join v at who) (λ v. by_boot v who (nat_lt boot v.boot) (if is_serving v then row_join v at who else row_wish v at who)) t new before after
-    (λ v it.
-    sym (ap (λ (b : Bool). by_boot v who b (if is_serving v then row_join v at who else row_wish v at who)) (ap (nat_lt boot) (boot_of t v it) ∙ later)
-    ∙ ap (λ (b : Bool). if b then row_join v at who else row_wish v at who) (serving_is t.server v (in_none t v none it))))
+    (joins_row at t who boot none later)
     (makes_turns (λ v. row_join v at who) t new before after none left makes)
 
 -- ---- the command to close

@@ -6,4 +6,5 @@ pub mod Beginning
 pub mod Coming
 pub mod Keeping
 pub mod Standing
+pub mod Numbers
 pub mod Repeating

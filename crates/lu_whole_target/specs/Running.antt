@@ -12,9 +12,10 @@ use Rattle.lu_words.specs.Words.{Entry}
 use Rattle.lu_target_rows.specs.Disks.{failing, batches_of, row_start}
 use Rattle.lu_target_rows.specs.Lives.{is_life}
 use Rattle.lu_target_rows.specs.Recovery.{row_boot}
-use Rattle.lu_target_rows.specs.Rows.{heeds, lock_again}
+use Rattle.lu_target_rows.specs.Rows.{heeds, lock_again, overruns}
 use Rattle.lu_target_rows.specs.States.{Target, turn}
 use Rattle.lu_window.specs.States.{State}
+use Rattle.lu_locking.specs.Servers.{most_ticks}
 use Rattle.lu_turns.specs.declared.booting.Place.{Place}
 use Rattle.lu_turns.specs.Giving.{giving}
 use Rattle.lu_turns.specs.Servers.{ServerState, Shows, HasLife, MayTake}
@@ -78,6 +79,14 @@ pub record StopsIn (row : Target → List Entry) (old new : RunningState) (befor
 -- The disk has what it had, and the first of the row's batches.
 abbrev pub KeepsIn : (row : Target → List Entry) → (old new : RunningState) → Type 0
 KeepsIn row old new = (v : Target) → IsIn old v → (n : ℕ) × (new.server.store.batches ≡ old.server.store.batches ++ take n (batches_of (row v)))
+
+-- The row needs a transaction number or a cookie that the boot doesn't have, whatever state was shown.
+abbrev pub OverrunsIn : (row : Target → List Entry) → RunningState → Type 0
+OverrunsIn row t = (v : Target) → IsIn t v → overruns v (row v) ≡ true
+
+-- the boot has no tick left
+abbrev pub HasNoTickIn : RunningState → Type 0
+HasNoTickIn t = (v : Target) → IsIn t v → v.ticks ≡ most_ticks
 
 -- The disk failed while the target began over these batches.
 pub record HasStopped (place : Place) (kind : Kind) (own : Contents) (batches : List Batch) (before after : Making) : Type 0 where

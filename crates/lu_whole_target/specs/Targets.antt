@@ -1,5 +1,5 @@
 -- A target as its caller sees it: its steps, and what stands after each.
-use Rattle.std.specs.Prelude.{◌≡◌, ◌≢◌, ℕ, true, List, [], Option, Some, None, Result, Ok, Err, IfOk, IfErr}
+use Rattle.std.specs.Prelude.{◌≡◌, ◌≢◌, ℕ, true, false, List, [], Option, Some, None, Result, Ok, Err, IfOk, IfErr, ◌⊎◌}
 use Rattle.lu_base.specs.Faults.{Rose}
 use Rattle.lu_base.specs.declared.ids.At.{At}
 use Rattle.lu_base.specs.declared.ids.Node.TheVariants as node
@@ -12,11 +12,12 @@ use Rattle.lu_trace.specs.declared.traces.Step.{Step}
 use Rattle.lu_words.specs.Given.{step_of}
 use Rattle.lu_target_rows.specs.Disks.{failing, row_start}
 use Rattle.lu_target_rows.specs.Recovery.{row_boot}
-use Rattle.lu_target_rows.specs.Rows.{Event, row}
+use Rattle.lu_target_rows.specs.Rows.{Event, Ticks, overruns, row}
 use Rattle.lu_target_rows.specs.States.{Target, turn}
 use Rattle.lu_turns.specs.declared.booting.Place.{Place}
 use Rattle.lu_turns.specs.declared.faults.TurnFault.{TurnFault}
 use Rattle.lu_turns.specs.declared.faults.TurnFault.TheVariants as fault
+use Rattle.lu_locking.specs.Servers.{most_ticks}
 use Rattle.lu_turns.specs.Booting.{StandsOn}
 use Rattle.lu_whole_target.specs.declared.faults.StepFault.{StepFault}
 use Rattle.lu_whole_target.specs.declared.faults.StepFault.TheVariants as step_fault
@@ -42,21 +43,30 @@ pub record IsReady (t : TargetState) : Type 0 where
 
 -- ---- a step
 
--- The turn was made: it gives the row of this event, whatever state was shown, and what that makes of the state is shown.
+-- The turn was made: it gives the row of this event, whatever state was shown, for which the boot has the numbers, and what
+-- that makes of the state is shown.
 pub record HasStepped (e : Event) (stamp : Stamp) (old new : TargetState) (step : Step) : Type 0 where
   pub unspent : old.spent ≡ None
   pub still : new.spent ≡ None
   pub gives : (v : Target) → IsIn old.running v → step ≡ step_of (turn_of old.id stamp) (row v (turn_of old.id stamp) e)
   pub shows : (v : Target) → IsIn old.running v → IsIn new.running (turn v (row v (turn_of old.id stamp) e))
+  pub room : (v : Target) → IsIn old.running v → overruns v (row v (turn_of old.id stamp) e) ≡ false
 
 -- The disk failed: its count rose, and the step has the row's lines up to that of it.
 pub record HasFailed (e : Event) (stamp : Stamp) (old new : TargetState) (step : Step) : Type 0 where
   pub rose : Rose old.running.server.store.faults new.running.server.store.faults
   pub gives : (v : Target) → IsIn old.running v → step ≡ step_of (turn_of old.id stamp) (failing (row v (turn_of old.id stamp) e) 0)
 
+-- In this turn the event needs a transaction number or a cookie that the boot doesn't have, whatever state is shown; or it is a
+-- tick, and the boot has none left.
+abbrev pub LacksNumber : Event → At → RunningState → Type 0
+LacksNumber e at t = (v : Target) → IsIn t v → (overruns v (row v at e) ≡ true) ⊎ ((e ≡ Ticks) × (v.ticks ≡ most_ticks))
+
 pub record Steps (e : Event) (stamp : Stamp) (old new : TargetState) (result : Result Step StepFault) : Type 0 where
   pub made : IfOk result (HasStepped e stamp old new)
   pub failed : (step : Step) → result ≡ Err (step_fault.Disk step) → HasFailed e stamp old new step
+  -- a number was wanting
+  pub numbers : old.spent ≡ None → result ≡ Err step_fault.NumbersSpent → LacksNumber e (turn_of old.id stamp) old.running
   -- after an error it is spent
   pub spent : IfErr result (λ f. (cause : TurnFault) × (step : Step) × (new.spent ≡ Some cause) × (f ≡ step_fault_of cause step))
   -- whatever the answer, the disk has what it had and the first of the row's batches

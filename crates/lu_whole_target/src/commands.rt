@@ -1,10 +1,10 @@
 //! Ticks and commands.
 
-ghost use Rattle.std.specs.Prelude.{◌≡◌, Err, OnOk};
+ghost use Rattle.std.specs.Prelude.{◌≡◌, ◌≢◌, ◌⊎◌, Err, OnOk};
 ghost use Rattle.lu_target_rows.specs.Leaving.{row_tick};
 ghost use Rattle.lu_target_rows.specs.Rows.{row_closes, row_commit};
 ghost use Rattle.lu_turns.specs.declared.faults.TurnFault.TheVariants as fault;
-ghost use Rattle.lu_whole_target.specs.Running.{IsUp, Turns, StopsIn, KeepsIn};
+ghost use Rattle.lu_whole_target.specs.Running.{IsUp, Turns, OverrunsIn, HasNoTickIn, StopsIn, KeepsIn};
 
 use super::running::Running;
 use lu_disk::Disk;
@@ -17,6 +17,8 @@ impl<S: Service, D: Disk> Running<S, D> {
     pub(crate) fn tick(&mut self, turn: &mut Turn) -> Result<(), TurnFault>
         requires up { IsUp self.old }
         ensures turns { OnOk result (Turns (λ v. row_tick v turn.old.at) self.old self.new turn.old turn.new) }
+        ensures numbers { result ≡ Err fault.NumbersSpent
+            → HasNoTickIn self.old ⊎ OverrunsIn (λ v. row_tick v turn.old.at) self.old }
         ensures failed { result ≡ Err fault.Disk → StopsIn (λ v. row_tick v turn.old.at) self.old self.new turn.old turn.new }
         ensures batches { KeepsIn (λ v. row_tick v turn.old.at) self.old self.new }
     {
@@ -31,6 +33,7 @@ impl<S: Service, D: Disk> Running<S, D> {
     pub(crate) fn commit(&mut self, turn: &mut Turn, count: Option<u32>) -> Result<(), TurnFault>
         requires up { IsUp self.old }
         ensures turns { OnOk result (Turns (λ v. row_commit v count) self.old self.new turn.old turn.new) }
+        ensures numbers { result ≢ Err fault.NumbersSpent }
         ensures failed { result ≡ Err fault.Disk → StopsIn (λ v. row_commit v count) self.old self.new turn.old turn.new }
         ensures batches { KeepsIn (λ v. row_commit v count) self.old self.new }
     {
@@ -44,6 +47,7 @@ impl<S: Service, D: Disk> Running<S, D> {
     pub(crate) fn close(&mut self, turn: &mut Turn) -> Result<(), TurnFault>
         requires up { IsUp self.old }
         ensures turns { OnOk result (Turns (λ v. row_closes v turn.old.at) self.old self.new turn.old turn.new) }
+        ensures numbers { result ≢ Err fault.NumbersSpent }
         ensures failed { result ≡ Err fault.Disk → StopsIn (λ v. row_closes v turn.old.at) self.old self.new turn.old turn.new }
         ensures batches { KeepsIn (λ v. row_closes v turn.old.at) self.old self.new }
     {

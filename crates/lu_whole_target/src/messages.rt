@@ -7,7 +7,7 @@ ghost use Rattle.lu_target_rows.specs.Recovery.{row_word};
 ghost use Rattle.lu_target_rows.specs.Rows.{lock_again, of_boot, row_heeds, row_takes};
 ghost use Rattle.lu_store.specs.Stores.{KeepsDisk};
 ghost use Rattle.lu_turns.specs.declared.faults.TurnFault.TheVariants as fault;
-ghost use Rattle.lu_whole_target.specs.Running.{HasSlot, IsUp, MayHeed, Turns, StopsIn, KeepsIn};
+ghost use Rattle.lu_whole_target.specs.Running.{HasSlot, IsUp, MayHeed, Turns, OverrunsIn, StopsIn, KeepsIn};
 
 use super::running::Running;
 use lu_base::{Ask, Cookie, Duplicate, Lock, Numbers, Who};
@@ -24,6 +24,8 @@ impl<S: Service, D: Disk> Running<S, D> {
         requires may { MayHeed message.now self.old }
         ensures turns { OnOk result ((from : SpecNode) → Turns (λ v. row_takes v turn.old.at 0 from message.now)
             self.old self.new turn.old turn.new) }
+        ensures numbers { result ≡ Err fault.NumbersSpent
+            → (from : SpecNode) → OverrunsIn (λ v. row_takes v turn.old.at 0 from message.now) self.old }
         ensures failed { result ≡ Err fault.Disk → (from : SpecNode)
             → StopsIn (λ v. row_takes v turn.old.at 0 from message.now) self.old self.new turn.old turn.new }
         ensures batches { (from : SpecNode)
@@ -38,6 +40,7 @@ impl<S: Service, D: Disk> Running<S, D> {
         requires up { IsUp self.old }
         requires may { MayHeed message.now self.old }
         ensures turns { OnOk result (Turns (λ v. row_heeds v turn.old.at message.now) self.old self.new turn.old turn.new) }
+        ensures numbers { result ≡ Err fault.NumbersSpent → OverrunsIn (λ v. row_heeds v turn.old.at message.now) self.old }
         ensures failed { result ≡ Err fault.Disk
             → StopsIn (λ v. row_heeds v turn.old.at message.now) self.old self.new turn.old turn.new }
         ensures batches { KeepsIn (λ v. row_heeds v turn.old.at message.now) self.old self.new }
@@ -67,6 +70,8 @@ impl<S: Service, D: Disk> Running<S, D> {
         requires may { MayHeed (message.Request request.now) self.old }
         ensures turns { OnOk result (Turns (λ v. row_heeds v turn.old.at (message.Request request.now))
             self.old self.new turn.old turn.new) }
+        ensures numbers { result ≡ Err fault.NumbersSpent
+            → OverrunsIn (λ v. row_heeds v turn.old.at (message.Request request.now)) self.old }
         ensures fault { result ≢ Err fault.Disk }
         ensures disk { KeepsDisk self.old.server.store self.new.server.store }
     {
@@ -90,6 +95,8 @@ impl<S: Service, D: Disk> Running<S, D> {
         requires up { IsUp self.old }
         ensures turns { OnOk result (Turns (λ v. row_heeds v turn.old.at (message.Cancel who boot cookie))
             self.old self.new turn.old turn.new) }
+        ensures numbers { result ≡ Err fault.NumbersSpent
+            → OverrunsIn (λ v. row_heeds v turn.old.at (message.Cancel who boot cookie)) self.old }
         ensures fault { result ≢ Err fault.Disk }
         ensures disk { KeepsDisk self.old.server.store self.new.server.store }
     {
@@ -113,6 +120,7 @@ impl<S: Service, D: Disk> Running<S, D> {
         requires up { IsUp self.old }
         ensures turns { OnOk result (Turns (λ v. row_heeds v turn.old.at (message.Where who boot cookie))
             self.old self.new turn.old turn.new) }
+        ensures numbers { result ≢ Err fault.NumbersSpent }
         ensures fault { result ≢ Err fault.Disk }
         ensures disk { KeepsDisk self.old.server.store self.new.server.store }
     {
@@ -130,6 +138,7 @@ impl<S: Service, D: Disk> Running<S, D> {
         requires up { IsUp self.old }
         ensures turns { OnOk result (Turns (λ v. row_heeds v turn.old.at (message.Size report.now))
             self.old self.new turn.old turn.new) }
+        ensures numbers { result ≢ Err fault.NumbersSpent }
         ensures fault { result ≢ Err fault.Disk }
         ensures disk { KeepsDisk self.old.server.store self.new.server.store }
     {
@@ -148,6 +157,7 @@ impl<S: Service, D: Disk> Running<S, D> {
         requires may { MayHeed (message.Replay replay.now) self.old }
         ensures turns { OnOk result (Turns (λ v. row_heeds v turn.old.at (message.Replay replay.now))
             self.old self.new turn.old turn.new) }
+        ensures numbers { result ≢ Err fault.NumbersSpent }
         ensures failed { result ≡ Err fault.Disk → StopsIn (λ v. row_heeds v turn.old.at (message.Replay replay.now))
             self.old self.new turn.old turn.new }
         ensures batches { KeepsIn (λ v. row_heeds v turn.old.at (message.Replay replay.now)) self.old self.new }
@@ -173,6 +183,7 @@ impl<S: Service, D: Disk> Running<S, D> {
         requires may { MayHeed (message.Lock lock.now) self.old }
         ensures turns { OnOk result (Turns (λ v. row_heeds v turn.old.at (message.Lock lock.now))
             self.old self.new turn.old turn.new) }
+        ensures numbers { result ≢ Err fault.NumbersSpent }
         ensures failed { result ≡ Err fault.Disk → StopsIn (λ v. row_heeds v turn.old.at (message.Lock lock.now))
             self.old self.new turn.old turn.new }
         ensures batches { KeepsIn (λ v. row_heeds v turn.old.at (message.Lock lock.now)) self.old self.new }
@@ -205,6 +216,7 @@ impl<S: Service, D: Disk> Running<S, D> {
         requires up { IsUp self.old }
         ensures turns { OnOk result (Turns (λ v. row_heeds v turn.old.at (message.Word who boot replays locks seen.now))
             self.old self.new turn.old turn.new) }
+        ensures numbers { result ≢ Err fault.NumbersSpent }
         ensures failed { result ≡ Err fault.Disk
             → StopsIn (λ v. row_heeds v turn.old.at (message.Word who boot replays locks seen.now))
             self.old self.new turn.old turn.new }
@@ -236,6 +248,7 @@ impl<S: Service, D: Disk> Running<S, D> {
         ensures turns { OnOk result (Turns (λ v. of_boot v boot (row_word v turn.old.at
             (record { who = who; replays = replays; locks = locks; seen = seen.now })))
             self.old self.new turn.old turn.new) }
+        ensures numbers { result ≢ Err fault.NumbersSpent }
         ensures failed { result ≡ Err fault.Disk
             → StopsIn (λ v. of_boot v boot (row_word v turn.old.at
             (record { who = who; replays = replays; locks = locks; seen = seen.now }))) self.old self.new turn.old turn.new }
@@ -260,6 +273,8 @@ impl<S: Service, D: Disk> Running<S, D> {
         requires up { IsUp self.old }
         ensures turns { OnOk result (Turns (λ v. row_heeds v turn.old.at (message.Join who boot))
             self.old self.new turn.old turn.new) }
+        ensures numbers { result ≡ Err fault.NumbersSpent
+            → OverrunsIn (λ v. row_heeds v turn.old.at (message.Join who boot)) self.old }
         ensures failed { result ≡ Err fault.Disk → StopsIn (λ v. row_heeds v turn.old.at (message.Join who boot))
             self.old self.new turn.old turn.new }
         ensures batches { KeepsIn (λ v. row_heeds v turn.old.at (message.Join who boot)) self.old self.new }

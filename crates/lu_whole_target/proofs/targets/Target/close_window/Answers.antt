@@ -16,5 +16,5 @@ returns g c =
     record {
       steps = subst (λ (s : TargetState). Steps Closes c.args.stamp s c.end.new.self c.end.result) c.self.view_is
           (ended_up Closes (λ v at. row_closes v at) (λ v at. refl) c.args.stamp t mid c.end.new.self c.in-Ok.turn c.close-made.new.turn c.close-made.result c.end.result
-          unspent refl unspent start c.close-made.ensures.turns c.close-made.ensures.failed c.close-made.ensures.batches c.end.ensures.ended);
+          unspent refl unspent start c.close-made.ensures.turns (λ spent. absurd (c.close-made.ensures.numbers spent)) c.close-made.ensures.failed c.close-made.ensures.batches c.end.ensures.ended);
     }

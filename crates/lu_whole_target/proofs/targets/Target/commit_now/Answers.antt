@@ -16,5 +16,5 @@ returns g c =
     record {
       steps = subst (λ (s : TargetState). Steps (Commits c.args.count) c.args.stamp s c.end.new.self c.end.result) c.self.view_is
           (ended_up (Commits c.args.count) (λ v at. row_commit v c.args.count) (λ v at. refl) c.args.stamp t mid c.end.new.self c.in-Ok.turn c.commit-made.new.turn c.commit-made.result c.end.result
-          unspent refl unspent start c.commit-made.ensures.turns c.commit-made.ensures.failed c.commit-made.ensures.batches c.end.ensures.ended);
+          unspent refl unspent start c.commit-made.ensures.turns (λ spent. absurd (c.commit-made.ensures.numbers spent)) c.commit-made.ensures.failed c.commit-made.ensures.batches c.end.ensures.ended);
     }

@@ -3,7 +3,7 @@ use Rattle.std.proofs.Common.{◌≡◌, None, refl, sym, subst}
 use Rattle.std.proofs.lemmas.Result.{on_ok_weaker}
 use Rattle.lu_target_rows.specs.Rows.{Comes}
 use Rattle.lu_whole_target.specs.Targets.{TargetState, turn_of, Steps}
-use Rattle.lu_whole_target.proofs.Steps.{new_turn, ended_steps}
+use Rattle.lu_whole_target.proofs.Steps.{new_turn, ended_steps, takes_lack}
 use Rattle.lu_whole_target.proofs.targets.Target.deliver.Goals as goal
 
 pub returns : goal.returns
@@ -17,6 +17,7 @@ returns g c =
       steps = λ from.
           subst (λ (s : TargetState). Steps (Comes 0 from c.args.message.now) c.args.stamp s c.end.new.self c.end.result) c.self.view_is
           (ended_steps (Comes 0 from c.args.message.now) c.args.stamp t mid c.end.new.self c.in-Ok.turn c.take-made.new.turn c.take-made.result c.end.result
-          unspent refl unspent start (on_ok_weaker c.take-made.result (λ turns. turns from) c.take-made.ensures.turns) (λ failed. c.take-made.ensures.failed failed from)
+          unspent refl unspent start (on_ok_weaker c.take-made.result (λ turns. turns from) c.take-made.ensures.turns)
+          (λ spent. takes_lack from c.args.message.now c.in-Ok.turn.at t.running (c.take-made.ensures.numbers spent from)) (λ failed. c.take-made.ensures.failed failed from)
           (c.take-made.ensures.batches from) c.end.ensures.ended);
     }

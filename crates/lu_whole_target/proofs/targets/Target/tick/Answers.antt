@@ -3,7 +3,7 @@ use Rattle.std.proofs.Common.{◌≡◌, None, refl, sym, subst}
 use Rattle.lu_target_rows.specs.Leaving.{row_tick}
 use Rattle.lu_target_rows.specs.Rows.{Ticks}
 use Rattle.lu_whole_target.specs.Targets.{TargetState, turn_of, Steps}
-use Rattle.lu_whole_target.proofs.Steps.{new_turn, ended_up}
+use Rattle.lu_whole_target.proofs.Steps.{new_turn, ended_up, tick_lacks}
 use Rattle.lu_whole_target.proofs.targets.Target.tick.Goals as goal
 
 pub returns : goal.returns
@@ -16,5 +16,5 @@ returns g c =
     record {
       steps = subst (λ (s : TargetState). Steps Ticks c.args.stamp s c.end.new.self c.end.result) c.self.view_is
           (ended_up Ticks (λ v at. row_tick v at) (λ v at. refl) c.args.stamp t mid c.end.new.self c.in-Ok.turn c.tick-made.new.turn c.tick-made.result c.end.result
-          unspent refl unspent start c.tick-made.ensures.turns c.tick-made.ensures.failed c.tick-made.ensures.batches c.end.ensures.ended);
+          unspent refl unspent start c.tick-made.ensures.turns (λ spent. tick_lacks c.in-Ok.turn.at t.running (c.tick-made.ensures.numbers spent)) c.tick-made.ensures.failed c.tick-made.ensures.batches c.end.ensures.ended);
     }
