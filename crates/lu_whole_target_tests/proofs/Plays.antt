@@ -22,7 +22,7 @@ use Rattle.lu_whole_target.specs.Targets.{TargetState, IsReady, Steps, place_of,
 use Rattle.lu_whole_target.specs.declared.faults.StepFault.{StepFault}
 use Rattle.lu_whole_target.proofs.Repeating.{repeats_as, begun_repeats, booted_repeats, stepped_repeats, leaves}
 use Rattle.lu_whole_target.proofs.Standing.{setting_stays, same_kind, may_boot_left}
-use Rattle.lu_whole_target_tests.specs.declared.events.Run.{Run}
+use Rattle.lu_whole_target_tests.specs.declared.runs.Run.{Run}
 use Rattle.lu_whole_target_tests.specs.Plays.{Plays, Stood, setting_of}
 
 -- ---- a turn

@@ -6,7 +6,7 @@ use Rattle.lu_target_rows.specs.States.{Setting, Target}
 use Rattle.lu_whole_target.specs.Repeating.{Repeats, IsLeft}
 use Rattle.lu_whole_target.specs.Running.{IsIn}
 use Rattle.lu_whole_target.specs.Targets.{TargetState}
-use Rattle.lu_whole_target_tests.specs.declared.events.Run.{Run}
+use Rattle.lu_whole_target_tests.specs.declared.runs.Run.{Run}
 
 -- what the rows' target knows of the run
 abbrev pub setting_of : Run → Setting

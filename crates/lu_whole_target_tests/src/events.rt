@@ -1,23 +1,12 @@
-//! What a target knows of its run, and what comes to it, as the lines of a conversation say.
+//! What a target knows of its run, and what comes to it, as the lines of a conversation say it.
 
 use super::faults::PlayFault;
 use super::messages::message;
+use super::runs::Run;
 use super::words::Words;
 use lu_base::{Numbers, Stamp, TargetId};
 use lu_msg::Message;
 use std::alloc::Global;
-
-/// What a target knows of its run.
-#[derive(Clone, Copy, Debug, PartialEq, Eq)]
-pub struct Run {
-    pub id: TargetId,
-    /// How many clients there are, each with a slot at first.
-    pub clients: u16,
-    /// The number of object storage targets.
-    pub osts: u16,
-    /// The ticks after which the holder of a lock that was called back loses its slot.
-    pub expire: u64,
-}
 
 /// What comes to a target.
 #[derive(Debug, Drop)]

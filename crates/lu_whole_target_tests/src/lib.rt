@@ -17,5 +17,8 @@ mod hostile;
 mod messages;
 #[cfg(test)]
 mod player;
+mod runs;
 #[cfg(test)]
 mod words;
+
+pub use runs::Run;

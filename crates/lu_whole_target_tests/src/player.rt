@@ -5,11 +5,12 @@ ghost use Rattle.lu_redo.specs.Shown.{Shows};
 ghost use Rattle.lu_sound.specs.Sound.{IsKindOf};
 ghost use Rattle.lu_target_rows.specs.States.{lives_from, no_contents};
 ghost use Rattle.lu_whole_target_tests.specs.Plays.{Plays, Stood};
-ghost use Rattle.lu_whole_target_tests.specs.declared.events.Run.{Run as SpecRun};
+ghost use Rattle.lu_whole_target_tests.specs.declared.runs.Run.{Run as SpecRun};
 
-use super::events::{Event, Run, read_event, read_failing, read_run};
+use super::events::{Event, read_event, read_failing, read_run};
 use super::faults::PlayFault;
 use super::fresh::Fresh;
+use super::runs::Run;
 use super::words::Words;
 use lu_base::{Bytes, Lives, Stamp, Who, split_at_byte};
 use lu_disk::MemoryDisk;
