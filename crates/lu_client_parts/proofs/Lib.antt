@@ -1,0 +1,15 @@
+pub mod Lists
+pub mod Numbers
+pub mod Kept
+pub mod Tags
+pub mod Imports
+pub mod Sending
+pub mod Hearing
+pub mod Recovering
+pub mod Turns
+pub mod Targets
+pub mod Slots
+pub mod Lives
+pub mod Follow
+pub mod Rounds
+pub mod Whole
