@@ -1,0 +1,17 @@
+pub mod Acts
+pub mod Changed
+pub mod Contents
+pub mod Counted
+pub mod Holding
+pub mod InOrder
+pub mod Missing
+pub mod ObjectSizes
+pub mod Parts
+pub mod Patched
+pub mod Reaching
+pub mod Rests
+pub mod Striping
+pub mod Trimming
+pub mod Turns
+pub mod Visits
+pub mod FirstFlush

@@ -1,0 +1,18 @@
+-- An object's patch is answered in its place; where there is none, nothing changes.
+use Rattle.std.proofs.Common.{◌≡◌, Some, None, ap, sym, ◌∙◌}
+use Rattle.lu_client_rows.specs.Patches.{acked}
+use Rattle.lu_cache.proofs.Tables.{Found}
+use Rattle.lu_client_store.proofs.Changed.{none_changed, changed_there}
+use Rattle.lu_client_store.proofs.patches.Patches.ack.Goals as goal
+
+pub returns-in_default : goal.returns-in_default
+returns-in_default c =
+    let es = c.self.inside.objects.entries in
+    let none : Found c.args.resource es ≡ None = sym c.in_default.ensures.value in
+    record { acked = ap (λ m. m.entries) c.get_mut.follows.holds-at-none ∙ none_changed c.args.resource acked es c.args.self.now c.self.view_is none }
+
+pub returns : goal.returns
+returns c =
+    let es = c.self.inside.objects.entries in
+    let found : Found c.args.resource es ≡ Some c.in-Some.patch.now = sym c.in-Some.ensures.value in
+    record { acked = (c.get_mut.follows.holds c.ack_flush.new.self).0 ∙ changed_there c.args.resource acked es c.args.self.now c.in-Some.patch.now c.ack_flush.new.self c.self.view_is found c.ack_flush.ensures.acked }

@@ -1,0 +1,4 @@
+pub mod Counting
+pub mod Pages
+pub mod Stored
+pub mod WriteBacks
