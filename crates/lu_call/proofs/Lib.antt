@@ -1,0 +1,12 @@
+pub mod Going
+pub mod Stripes
+pub mod Wanted
+pub mod Reaching
+pub mod Acting
+pub mod Naming
+pub mod Unstaged
+pub mod Beginning
+pub mod Onward
+pub mod Alone
+pub mod Glimpsing
+pub mod WritingBack

@@ -1,0 +1,10 @@
+pub mod Views
+pub mod Turning
+pub mod Hearing
+pub mod Going
+pub mod Looked
+pub mod Glimpsed
+pub mod Flushed
+pub mod Ranges
+pub mod Sizes
+pub mod Starting
