@@ -1,11 +1,10 @@
 //! What a target knows of its run, and what comes to it, as the lines of a conversation say it.
 
 use super::faults::PlayFault;
-use super::messages::message;
 use super::runs::Run;
-use super::words::Words;
-use lu_base::{Numbers, Stamp, TargetId};
-use lu_msg::Message;
+use lu_base::{Numbers, Stamp, TargetId, read_number};
+use lu_conversations::{Words, read_message, split_word};
+use lu_msg::{Message, SizeReport};
 use std::alloc::Global;
 
 /// What comes to a target.
@@ -23,13 +22,13 @@ pub enum Event {
 
 /// The words `target T clients N osts N expire N`.
 pub fn read_run(words: &mut Words) -> Result<Run, PlayFault> {
-    named(words, "target")?;
+    words.named(b"target")?;
     let id = TargetId(words.place()?);
-    named(words, "clients")?;
+    words.named(b"clients")?;
     let clients = words.place()?;
-    named(words, "osts")?;
+    words.named(b"osts")?;
     let osts = words.place()?;
-    named(words, "expire")?;
+    words.named(b"expire")?;
     let expire = words.number()?;
     Ok(Run {
         id,
@@ -45,46 +44,66 @@ pub fn read_failing(alloc: Global, words: &mut Words) -> Result<Numbers, PlayFau
     if words.are_read() {
         return Ok(failing);
     }
-    named(words, "failing")?;
+    words.named(b"failing")?;
     failing.push(words.number()?)?;
     Ok(failing)
 }
 
-/// The next word is this one.
-fn named(words: &mut Words, name: &str) -> Result<(), PlayFault> {
-    if words.text()? == name {
-        Ok(())
-    } else {
-        Err(PlayFault::Unread)
-    }
+/// The text of an event's line behind `> `: its stamp and what comes.
+pub fn read_event(alloc: Global, text: &[u8]) -> Result<(Stamp, Event), PlayFault> {
+    let Some((stamp, event)) = split_word(text) else {
+        return Err(PlayFault::Unread);
+    };
+    let stamp = Stamp(number_of(stamp)?);
+    Ok((stamp, comes(alloc, event)?))
 }
 
-/// The line of an event: its stamp and what comes.
-pub fn read_event(words: &mut Words) -> Result<(Stamp, Event), PlayFault> {
-    let stamp = Stamp(words.number()?);
-    let event = comes(words)?;
-    if !words.are_read() {
-        return Err(PlayFault::Unread);
+/// A word that is a number.
+fn number_of(word: &[u8]) -> Result<u64, PlayFault> {
+    match read_number(word) {
+        Some(number) => Ok(number),
+        None => Err(PlayFault::Unread),
     }
-    Ok((stamp, event))
 }
 
 /// What comes.
-fn comes(words: &mut Words) -> Result<Event, PlayFault> {
-    match words.text()? {
-        "tick" => Ok(Event::Tick),
-        "commit" => Ok(Event::Commit(count(words)?)),
-        "close" => Ok(Event::Close),
-        "crash" => Ok(Event::Crash),
-        "boot" => Ok(Event::Boot),
-        first => Ok(Event::Message(message(first, words)?)),
+fn comes(alloc: Global, text: &[u8]) -> Result<Event, PlayFault> {
+    match split_word(text) {
+        Some((b"commit", count)) => commit(count),
+        Some((b"size", _)) => Ok(Event::Message(size(alloc, text)?)),
+        Some(_) => Ok(Event::Message(read_message(alloc, text)?)),
+        None => alone(text),
     }
 }
 
-/// How many transactions, where a number stands.
-fn count(words: &mut Words) -> Result<Option<u32>, PlayFault> {
-    if words.are_read() {
-        return Ok(None);
+/// What comes, of one word.
+fn alone(word: &[u8]) -> Result<Event, PlayFault> {
+    match word {
+        b"tick" => Ok(Event::Tick),
+        b"commit" => Ok(Event::Commit(None)),
+        b"close" => Ok(Event::Close),
+        b"crash" => Ok(Event::Crash),
+        b"boot" => Ok(Event::Boot),
+        _ => Err(PlayFault::Unread),
     }
-    Ok(Some(words.short()?))
+}
+
+/// A commit of so many transactions.
+fn commit(count: &[u8]) -> Result<Event, PlayFault> {
+    match u32::try_from(number_of(count)?) {
+        Ok(count) => Ok(Event::Commit(Some(count))),
+        Err(_) => Err(PlayFault::Unread),
+    }
+}
+
+/// A size; behind it stands the stamp of the turn that sent it.
+fn size(alloc: Global, text: &[u8]) -> Result<Message, PlayFault> {
+    let Some(place) = text.iter().rposition(|byte| *byte == b' ') else {
+        return Err(PlayFault::Unread);
+    };
+    let stamp = Stamp(number_of(&text[place + 1..])?);
+    match read_message(alloc, &text[..place])? {
+        Message::Size(report) => Ok(Message::Size(SizeReport { stamp, ..report })),
+        _ => Err(PlayFault::Unread),
+    }
 }

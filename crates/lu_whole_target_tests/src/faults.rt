@@ -1,6 +1,7 @@
 //! Why a conversation isn't played to its end.
 
 use lu_base::Memory;
+use lu_conversations::ReadFault;
 use lu_whole_target::{BootFault, StepFault};
 use std::alloc::AllocError;
 
@@ -15,6 +16,15 @@ pub enum PlayFault {
     Memory,
     Step(StepFault),
     Boot(BootFault),
+}
+
+impl From<ReadFault> for PlayFault {
+    fn from(fault: ReadFault) -> PlayFault {
+        match fault {
+            ReadFault::Unread => PlayFault::Unread,
+            ReadFault::Memory => PlayFault::Memory,
+        }
+    }
 }
 
 impl From<Memory> for PlayFault {

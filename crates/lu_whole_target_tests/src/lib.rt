@@ -14,11 +14,7 @@ mod fresh;
 #[cfg(test)]
 mod hostile;
 #[cfg(test)]
-mod messages;
-#[cfg(test)]
 mod player;
 mod runs;
-#[cfg(test)]
-mod words;
 
 pub use runs::Run;

@@ -11,13 +11,13 @@ use super::events::{Event, read_event, read_failing, read_run};
 use super::faults::PlayFault;
 use super::fresh::Fresh;
 use super::runs::Run;
-use super::words::Words;
 use lu_base::{Bytes, Lives, Stamp, Who, split_at_byte};
+use lu_conversations::{Words, event_of, first_wrong_line, put_step};
 use lu_disk::MemoryDisk;
 use lu_mdt::Mdt;
 use lu_msg::Message;
 use lu_ost::Ost;
-use lu_trace::{End, Step, Trace, render};
+use lu_trace::Step;
 use lu_whole_target::{BootFault, StepFault, Target};
 use std::alloc::Global;
 
@@ -118,23 +118,10 @@ fn turn<S: Fresh>(
     }
 }
 
-/// The lines of a turn.
-fn put_step(alloc: Global, out: &mut Bytes, step: Step) -> Result<(), PlayFault> {
-    let trace = Trace {
-        osts: 1,
-        entries: step.entries,
-    };
-    let text = render(alloc, &trace, End::Done)?;
-    match text.as_slice().strip_suffix(b"end\n".as_slice()) {
-        Some(lines) => Ok(out.extend(lines)?),
-        None => Err(PlayFault::Unread),
-    }
-}
-
 /// What a turn gave, or that nothing came.
 fn put_turn(alloc: Global, out: &mut Bytes, given: Option<Step>) -> Result<(), PlayFault> {
     match given {
-        Some(step) => put_step(alloc, out, step),
+        Some(step) => Ok(put_step(alloc, out, step)?),
         None => Ok(out.extend(b"refused\n")?),
     }
 }
@@ -252,20 +239,12 @@ impl<S: Fresh> Node<S> {
         requires plays { Plays run self.target }
         ensures plays { IfOk result (λ node. Plays run node.target) }
     {
-        match event_of(alloc, line)? {
-            Some((stamp, event)) => self.comes(alloc, run, stamp, event, out),
-            None => Ok(self),
-        }
+        let Some(text) = event_of(line) else {
+            return Ok(self);
+        };
+        let (stamp, event) = read_event(alloc, text)?;
+        self.comes(alloc, run, stamp, event, out)
     }
-}
-
-/// The event of a line, if it is that of one.
-fn event_of(alloc: Global, line: &[u8]) -> Result<Option<(Stamp, Event)>, PlayFault> {
-    let Some(said) = line.strip_prefix(b"> ".as_slice()) else {
-        return Ok(None);
-    };
-    let words = split_at_byte(alloc, said, b' ')?;
-    Ok(Some(read_event(&mut Words::new(alloc, words.as_slice()))?))
 }
 
 /// The events of these lines come to a target over a new disk.
@@ -299,11 +278,9 @@ fn play_all(alloc: Global, first: &[u8], rest: &[&[u8]], out: &mut Bytes) -> Res
     }
 }
 
-/// What the target of a conversation prints when its events come. Where its disk fails, that ends with the lines of that turn.
-fn played(alloc: Global, lines: &[&[u8]]) -> Result<Bytes, PlayFault> {
-    let Some((first, rest)) = lines.split_first() else {
-        return Err(PlayFault::Unread);
-    };
+/// What the target that the first line names prints when the events of the others come. Where its disk fails, that ends with
+/// the lines of that turn.
+fn played(alloc: Global, first: &[u8], rest: &[&[u8]]) -> Result<Bytes, PlayFault> {
     let mut out = Bytes::new(alloc);
     match play_all(alloc, first, rest, &mut out) {
         Ok(()) => {}
@@ -315,41 +292,20 @@ fn played(alloc: Global, lines: &[&[u8]]) -> Result<Bytes, PlayFault> {
     Ok(out)
 }
 
-/// What the conversation says that it prints: the lines after the first that aren't events.
-fn told(alloc: Global, lines: &[&[u8]]) -> Result<Bytes, PlayFault> {
-    let mut out = Bytes::new(alloc);
-    for line in lines.iter().skip(1) {
-        if !line.is_empty() && !line.starts_with(b"> ".as_slice()) {
-            out.extend(line)?;
-            out.push(b'\n')?;
-        }
-    }
-    Ok(out)
-}
-
-/// The number of the first line, from 0, in which two texts differ.
-fn first_other(alloc: Global, told: &[u8], played: &[u8]) -> Result<Option<usize>, PlayFault> {
-    if told == played {
-        return Ok(None);
-    }
-    let told = split_at_byte(alloc, told, b'\n')?;
-    let played = split_at_byte(alloc, played, b'\n')?;
-    let pairs = told.as_slice().iter().zip(played.as_slice());
-    Ok(Some(pairs.take_while(|pair| pair.0 == pair.1).count()))
-}
-
 /// The number of the first printed line of a conversation, from 0, which its target doesn't print so.
-fn first_wrong_line(alloc: Global, text: &[u8]) -> Result<Option<usize>, PlayFault> {
+fn first_wrong_of(alloc: Global, text: &[u8]) -> Result<Option<usize>, PlayFault> {
     let lines = split_at_byte(alloc, text, b'\n')?;
-    let told = told(alloc, lines.as_slice())?;
-    let played = played(alloc, lines.as_slice())?;
-    first_other(alloc, told.as_slice(), played.as_slice())
+    let Some((first, rest)) = lines.as_slice().split_first() else {
+        return Err(PlayFault::Unread);
+    };
+    let played = played(alloc, first, rest)?;
+    Ok(first_wrong_line(alloc, rest, played.as_slice())?)
 }
 
 /// The first of these conversations that its target doesn't print so, from 0, and the number of the first such line.
 pub fn first_wrong(alloc: Global, texts: &[&[u8]]) -> Result<Option<(usize, usize)>, PlayFault> {
     for (place, text) in texts.iter().enumerate() {
-        if let Some(line) = first_wrong_line(alloc, text)? {
+        if let Some(line) = first_wrong_of(alloc, text)? {
             return Ok(Some((place, line)));
         }
     }
