@@ -65,7 +65,7 @@ def event(entry, stamp, messages):
     if kind == "busy":
         return f"begins {stamp} {entry[1]} (call.Flush 0)"
     if kind == "take":
-        sender, words = messages[entry[1]]
+        _, sender, words = messages[entry[1]]
         return f"comes {stamp} {entry[1]} {sender[1:]} {terms.from_target(words)}"
     if kind in ("tick", "die"):
         return f"{kind}s {stamp}"
@@ -74,22 +74,11 @@ def event(entry, stamp, messages):
 
 def turns_of(trace, clients):
     """Each client's turns: what happens, and its lines."""
-    messages = {}
-    turns = {client: [] for client in range(clients)}
-    last = None
-    for text in trace.split("\n"):
-        words = text.split()
-        if not words or words[0] == "end":
-            continue
-        stamp, place, entry = words[0], words[1], words[2:]
-        if entry[0] == "send":
-            messages[entry[1]] = (place, entry[3:])
-        if place[0] == "c":
-            if last != (stamp, place):
-                turns[int(place[1:])].append((event(entry, stamp, messages), []))
-            turns[int(place[1:])][-1][1].append(line(entry, stamp))
-        last = (stamp, place)
-    return turns
+    turns, sent = traces.turns_of(trace)
+    return {
+        client: [(event(lines[0], stamp, sent), [line(words, stamp) for words in lines]) for stamp, lines in turns.get(f"c{client}", [])]
+        for client in range(clients)
+    }
 
 
 HEADS = {"clients": 1, "osts": 1, "dirty": 1048576, "unused": 64, "flight": 1}

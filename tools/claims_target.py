@@ -98,26 +98,6 @@ def event(words, sent, due):
     return {"crash": "Crashes", "boot": "Boots", "close": "Closes"}[command[0]]
 
 
-def turns_of(trace, targets):
-    """of each target its turns, each a stamp and lines of words; and of each message its stamp, its sender and its words"""
-    sent = {}
-    turns = {target: [] for target in range(targets + 1)}
-    now = None
-    for text in trace.split("\n"):
-        words = text.split()
-        if not words or words[0] == "end":
-            continue
-        stamp, node, entry = words[0], words[1], words[2:]
-        if entry[0] == "send":
-            sent[entry[1]] = (stamp, node, entry[3:])
-        if node[0] == "t" and now != (stamp, node):
-            turns[int(node[1:])].append((stamp, []))
-        if node[0] == "t":
-            turns[int(node[1:])][-1][1].append(entry)
-        now = (stamp, node)
-    return turns, sent
-
-
 def head_of(scene):
     head = dict(clients=1, osts=1, expire=8)
     for text in scene.split("\n"):
@@ -130,11 +110,11 @@ def head_of(scene):
 def claims_of(scene, trace):
     """of each target that has a turn: its number, the head of the run, and its turns as texts"""
     head = head_of(scene)
-    turns, sent = turns_of(trace, head["osts"])
+    turns, sent = traces.turns_of(trace)
     due = commands(scene)
     claims = []
-    for target, mine in turns.items():
-        left = due.get(f"t{target}", [])
+    for target in range(head["osts"] + 1):
+        left, mine = due.get(f"t{target}", []), turns.get(f"t{target}", [])
         made = [(stamp, event(entries[0], sent, left), [line(stamp, words) for words in entries]) for stamp, entries in mine]
         if made:
             claims.append((target, head, made))

@@ -318,6 +318,26 @@ def read(text):
     raise ValueError("no end")
 
 
+# ---- turns
+
+def turns_of(trace):
+    """of each node its turns, each a stamp and lines of words; and of each message its stamp, its sender and its words"""
+    turns, sent = {}, {}
+    now = None
+    for text in trace.split("\n"):
+        words = text.split()
+        if not words or words[0] == "end":
+            continue
+        stamp, node, entry = words[0], words[1], words[2:]
+        if entry[0] == "send":
+            sent[entry[1]] = (stamp, node, entry[3:])
+        if now != (stamp, node):
+            turns.setdefault(node, []).append((stamp, []))
+        turns[node][-1][1].append(entry)
+        now = (stamp, node)
+    return turns, sent
+
+
 # ---- what a proof file of such terms brings in
 
 IMPORTS = """Rattle.std.proofs.Common ◌≡◌ true false [] ◌∷◌ Some None refl pos negsuc
