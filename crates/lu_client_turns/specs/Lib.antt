@@ -1,0 +1,4 @@
+pub mod Clients
+pub mod Advancing
+pub mod Numbers
+pub mod Fronts
