@@ -1,28 +1,25 @@
 -- What a client sends to a target, front by front, and to each target, is what the rows send, and uses at most 8 numbers.
-use Rattle.std.proofs.Common.{◌≡◌, ◌≢◌, ℕ, suc, ◌+◌, ◌<◌, ◌≤◌, Bool, true, false, List, [], ◌∷◌, ◌++◌, ◌==◌, length, refl, sym, ap, subst, ◌∙◌, arith, add-one}
-use Rattle.std.specs.Prelude.{slice_set}
+use Rattle.std.proofs.Common.{◌≡◌, ◌≢◌, ℕ, ◌+◌, ◌<◌, ◌≤◌, Bool, true, false, List, [], ◌∷◌, ◌==◌, length, refl, sym, ap, subst, ◌∙◌, arith, add-one}
 use Rattle.std.proofs.lemmas.List.{length-append, length-set}
 use Rattle.std.proofs.lemmas.Bool.Decides.{nat_tests}
 use Rattle.lu_base.specs.declared.ids.Node.TheVariants.{Target}
 use Rattle.lu_msg.specs.declared.messages.Message.{Message}
-use Rattle.lu_msg.specs.declared.messages.Post.{Post}
 use Rattle.lu_msg.specs.Limits.{tag_count}
 use Rattle.lu_trace.specs.Turns.{Making, with_post}
-use Rattle.lu_words.specs.Carried.{Flight, Queued}
+use Rattle.lu_words.specs.Carried.{Flight}
 use Rattle.lu_words.specs.Words.{Entry, Flies, Send}
 use Rattle.lu_client_rows.specs.Imports.{Import, import_of}
 use Rattle.lu_client_rows.specs.Sending.{sends_all}
-use Rattle.lu_client_rows.specs.States.{Client, Limits, turn, follow}
+use Rattle.lu_client_rows.specs.States.{Client, Limits, follow}
 use Rattle.lu_client_parts.specs.Goes.{Goes}
 use Rattle.lu_client_parts.specs.Rounds.{sends_one, sends_left}
-use Rattle.lu_client_parts.specs.Sending.{SendsFront}
 use Rattle.lu_client_parts.proofs.Follow.{giving_past, sent, goes_as}
 use Rattle.lu_client_parts.proofs.Rounds.{front_turn, front_left_one, sends_step, sends_done}
 use Rattle.lu_client_parts.proofs.Sending.{front_is}
 use Rattle.lu_client_parts.proofs.Targets.{import_of_set, import_of_other}
-use Rattle.lu_client_turns.specs.Clients.{ClientState, Makes, Remains}
-use Rattle.lu_client_turns.specs.Fronts.{IsNext, MustRest, IsFrontSent, IsFrontKept, front_row, IsCountedAt, SendsOn, SendsToAll}
-use Rattle.lu_client_turns.specs.Numbers.{AreCounted, HasNumbers}
+use Rattle.lu_client_turns.specs.Clients.{ClientState, Makes}
+use Rattle.lu_client_turns.specs.Fronts.{IsNext, IsFrontSent, IsFrontKept, front_row, IsCountedAt, SendsOn, SendsToAll}
+use Rattle.lu_client_turns.specs.Numbers.{HasNumbers}
 use Rattle.lu_client_turns.proofs.Making.{remains_first, remains_step, remains_end}
 
 -- ---- the front of one target's queue

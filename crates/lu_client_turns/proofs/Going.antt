@@ -25,7 +25,8 @@ use Rattle.lu_client_store.specs.Stored.{StoreState, stored_after, stored_turn}
 use Rattle.lu_call.specs.declared.nexts.Binding.{Binding}
 use Rattle.lu_call.specs.declared.nexts.Next.{Next}
 use Rattle.lu_call.specs.declared.nexts.Next.TheVariants as next
-use Rattle.lu_call.specs.Going.{GoesFrom, are_own, is_own, outward, entries_of, standing}
+use Rattle.lu_client_rows.specs.Advances.{queued_for}
+use Rattle.lu_call.specs.Going.{GoesFrom, are_own, outward, back_of, entries_of, standing}
 use Rattle.lu_call.specs.Starting.{alone}
 use Rattle.lu_call.specs.Turning as call_state
 use Rattle.lu_call.specs.Views.{file_of}
@@ -36,8 +37,9 @@ use Rattle.lu_client_parts.proofs.Lists.{self, both_true}
 use Rattle.lu_client_parts.proofs.Slots.{calls_turn_at}
 use Rattle.lu_client_parts.proofs.Turns.{turned, life_quiet, imports_stay}
 use Rattle.lu_client_turns.specs.Advancing.{number_of, close_number, is_crowded, begun_number, must_wait, IsAdvanced, Advances, finished, Finishes, is_plain}
-use Rattle.lu_client_turns.specs.Clients.{ClientState, with_call, with_store, stored_of, Makes}
+use Rattle.lu_client_turns.specs.Clients.{ClientState, with_call, with_store, stored_of, AsksNoMore, Makes}
 use Rattle.lu_client_turns.proofs.Making.{makes_nothing, makes_as}
+use Rattle.lu_client_turns.proofs.Unasked.{asks_none, asks_nothing}
 
 -- ---- entries of a call that goes on: its client sees those that go outward
 
@@ -366,3 +368,20 @@ pub gone : (at : At) (slot : ℕ) (c mid new : ClientState) (out : Next) (before
     → Makes (goes before.at slot) c new before after
 gone at slot c mid new out before after same free went did =
     subst (λ (a : At). Makes (goes a slot) c new before after) same (went_on at slot c mid new (call_on slot c.client.calls) out before after refl free went did)
+
+-- ---- no target was asked more
+
+advanced_imports : (at : At) (slot : ℕ) (call : Option Running) (old mid : ClientState) (out : Next) → Advances at slot call old mid out → mid.client.imports ≡ old.client.imports
+advanced_imports at slot None old mid out still = ap (λ (s : ClientState). s.client.imports) still.0
+advanced_imports at slot (Some r) old mid out went = ap (λ (s : ClientState). s.client.imports) went.shows
+
+finished_asks : (slot : ℕ) (out : Next) (c : ClientState) → AsksNoMore c.client.imports (finished slot out c).client.imports
+finished_asks slot next.Waits c = asks_nothing c.client.imports
+finished_asks slot (next.Asks target o) c = asks_none c.client.imports (Queues target.0 (queued_for slot o) ∷ []) refl
+finished_asks slot (next.WritesBack target o) c = asks_none c.client.imports (Queues target.0 (back_of o) ∷ []) refl
+finished_asks slot (next.Told at answer binding) c = asks_nothing c.client.imports
+
+pub gone_asks : (at : At) (slot : ℕ) (call : Option Running) (old mid new : ClientState) (out : Next) (before after : Making) → Advances at slot call old mid out → Finishes slot out mid new before after → AsksNoMore old.client.imports new.client.imports
+gone_asks at slot call old mid new out before after went did =
+    subst (λ (s : ClientState). AsksNoMore old.client.imports s.client.imports) (sym did.shows)
+    (subst (λ (is : List Import). AsksNoMore is (finished slot out mid).client.imports) (advanced_imports at slot call old mid out went) (finished_asks slot out mid))

@@ -2,7 +2,9 @@ pub mod Making
 pub mod Keeping
 pub mod Handles
 pub mod Begun
+pub mod Unasked
 pub mod Going
 pub mod Passing
 pub mod Fronts
 pub mod Nexts
+pub mod Visiting

@@ -1,6 +1,6 @@
 -- How the parts of a client's turn are put together: none, one row after another, a row said otherwise, a line, and rows that a
 -- loop does.
-use Rattle.std.proofs.Common.{◌≡◌, Bool, false, List, [], ◌∷◌, ◌++◌, Option, Some, None, refl, sym, ap, ◌∙◌}
+use Rattle.std.proofs.Common.{◌≡◌, Bool, false, List, [], ◌∷◌, ◌++◌, Option, Some, None, Result, Ok, Err, OnOk, refl, sym, ap, ◌∙◌}
 use Rattle.lu_base.specs.declared.ids.At.{At}
 use Rattle.lu_trace.specs.declared.entries.Entry.{Entry as PrintedEntry}
 use Rattle.lu_trace.specs.Turns.{Making, with_line}
@@ -110,3 +110,10 @@ makes_end {one = one} next {old = old} {new = new} {before = before} {after = af
       limits = makes.limits;
       spent = makes.spent;
     }
+
+-- ---- answers
+
+-- what two clauses say of an answer
+pub on_ok_two : {T E P Q R : Type 0} (r : Result T E) → (P → Q → R) → OnOk r P → OnOk r Q → OnOk r R
+on_ok_two (Ok x) both p q = both p q
+on_ok_two (Err e) both p q = tt

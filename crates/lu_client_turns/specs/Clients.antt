@@ -13,7 +13,7 @@ use Rattle.lu_trace.specs.Turns.{Making}
 use Rattle.lu_words.specs.Carried.{Running}
 use Rattle.lu_words.specs.Words.{Entry}
 use Rattle.lu_client_rows.specs.Calls.{Bound}
-use Rattle.lu_client_rows.specs.Imports.{Import}
+use Rattle.lu_client_rows.specs.Imports.{Import, import_of}
 use Rattle.lu_client_rows.specs.States.{Client, Limits, started}
 use Rattle.lu_client_parts.specs.Goes.{Goes, Leads}
 use Rattle.lu_client_parts.specs.Imports.{imports_of, AreImports}
@@ -48,6 +48,10 @@ stored_of c = record { unused = c.limits.unused; facts = c.client.facts; store =
 
 abbrev pub with_store : StoreState → ClientState → ClientState
 with_store s c = record c { limits = record c.limits { unused = s.unused }; client = record c.client { facts = s.facts; store = s.store } }
+
+-- No target was asked more requests.
+pub record AsksNoMore (old new : List Import) : Type 0 where
+  pub last : (t : ℕ) → (import_of t new).last ≤ (import_of t old).last
 
 -- ---- how a client is kept
 

@@ -1,12 +1,11 @@
 -- What a client sends to a target: the front of its queue, and then the next one, as long as there is room.
-use Rattle.std.specs.Prelude.{◌≡◌, ◌≢◌, ℕ, suc, ◌+◌, ◌≤◌, Bool, true, false, List, [], length, slice_set, Option, Some, None}
+use Rattle.std.specs.Prelude.{◌≡◌, ◌≢◌, ℕ, ◌+◌, ◌≤◌, Bool, true, false, List, [], length, slice_set, Option, Some, None}
 use Rattle.lu_msg.specs.declared.messages.Message.{Message}
 use Rattle.lu_msg.specs.Limits.{tag_count}
 use Rattle.lu_trace.specs.Turns.{Making}
 use Rattle.lu_words.specs.Words.{Entry}
 use Rattle.lu_client_rows.specs.Imports.{Import, import_of}
-use Rattle.lu_client_rows.specs.Sending.{sends_all}
-use Rattle.lu_client_rows.specs.States.{Client, Limits, follow}
+use Rattle.lu_client_rows.specs.States.{Client, follow}
 use Rattle.lu_client_parts.specs.Rounds.{sends_one, sends_left}
 use Rattle.lu_client_parts.specs.Sending.{SendsFront, front_sent}
 use Rattle.lu_client_turns.specs.Clients.{ClientState, with_imports, Makes, Remains}

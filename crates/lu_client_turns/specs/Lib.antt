@@ -1,4 +1,5 @@
 pub mod Clients
-pub mod Advancing
 pub mod Numbers
+pub mod Advancing
 pub mod Fronts
+pub mod Visits

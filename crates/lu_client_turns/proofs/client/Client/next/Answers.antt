@@ -1,11 +1,9 @@
-use Rattle.std.proofs.Common.{rules, ◌≡◌, ℕ, ◌+◌, ◌<◌, List, length, get_or, sym, ap, subst, ◌∙◌}
-use Rattle.std.proofs.lemmas.List.{length-map}
+use Rattle.std.proofs.Common.{rules, ◌≡◌, ◌+◌, ◌<◌, List, length, get_or, sym, ap, subst, ◌∙◌}
 use Rattle.lu_import.specs.Imports.{ImportState}
 use Rattle.lu_client_rows.specs.Imports.{Import, import_of}
 use Rattle.lu_client_parts.specs.Imports.{import_of_state, imports_of}
 use Rattle.lu_client_parts.proofs.Targets.{import_of_at}
 use Rattle.lu_client_turns.specs.Clients.{ClientState}
-use Rattle.lu_client_turns.specs.Fronts.{NextIs}
 use Rattle.lu_client_turns.proofs.Nexts.{import_inside, next_keeps, next_gone}
 use Rattle.lu_client_turns.proofs.client.Client.next.Goals as goal
 
