@@ -1,25 +1,21 @@
 -- What a call does whose locks are all in use, by what is missing and by what is known.
-use Rattle.std.proofs.Common.{◌≡◌, ◌<◌, ℕ, Bool, true, false, List, [], ◌∷◌, length, Option, Some, None, refl, sym, ap, subst, ◌∙◌, arith}
+use Rattle.std.proofs.Common.{◌≡◌, ◌<◌, ℕ, Bool, true, false, List, [], ◌∷◌, length, Option, Some, None, sym, ap, subst, ◌∙◌, arith}
 use Rattle.std.specs.Prelude.{◌+◌, ◌-◌, min, if◌then◌else◌}
 use Rattle.lu_base.specs.declared.ids.At.{At}
-use Rattle.lu_base.specs.declared.locks.Lock.{Lock}
 use Rattle.lu_msg.specs.declared.answers.Answer.TheVariants as answer
 use Rattle.lu_held.specs.declared.locks.Use.{Use}
-use Rattle.lu_held.specs.declared.names.LockName.{LockName}
 use Rattle.lu_words.specs.Carried.{Work, Running, Writes, Cuts, Stats}
-use Rattle.lu_words.specs.Words.{Entry, Pins}
+use Rattle.lu_words.specs.Words.{Entry}
 use Rattle.lu_client_rows.specs.Stripes.{stripes}
 use Rattle.lu_client_rows.specs.States.{Store}
-use Rattle.lu_client_rows.specs.Looks.{Page, missing, content, file_size, has_reached, size_under}
-use Rattle.lu_client_rows.specs.Advances.{acts, gets, tells, unpins, writes, cuts, looks, asks_lock, widened, reads_wide, reads_narrow, widens}
-use Rattle.lu_client_rows.specs.Starts.{pins}
-use Rattle.lu_client_store.specs.Stored.{StoreState, stored_after, stored_turn}
+use Rattle.lu_client_rows.specs.Looks.{Page, missing, content, file_size, has_reached}
+use Rattle.lu_client_rows.specs.Advances.{acts, gets, tells, unpins, writes, cuts, looks, widened, reads_wide, reads_narrow, widens}
+use Rattle.lu_client_store.specs.Stored.{StoreState, stored_turn}
 use Rattle.lu_call.specs.declared.nexts.Next.{Next}
 use Rattle.lu_call.specs.Going.{GoesBy}
-use Rattle.lu_call.specs.Looked.{Looked, first_left, after_looking}
+use Rattle.lu_call.specs.Looked.{Looked, first_left}
 use Rattle.lu_call.specs.Ranges.{IsWork, IsWanting, IsActing, is_glimpse}
-use Rattle.lu_call.specs.Sizes.{AreInFile}
-use Rattle.lu_call.proofs.Going.{goes_as, goes_on, goes_follow, goes_looked, writes_quiet, cuts_quiet, unpins_quiet, pins_quiet}
+use Rattle.lu_call.proofs.Going.{goes_as, goes_on, goes_follow, writes_quiet, cuts_quiet, unpins_quiet}
 
 -- ---- a write and a cut
 
@@ -77,25 +73,6 @@ widens_on {last = last} {before = before} {bare = bare} {after = after} {out = o
     goes_follow (unpins r.pins) (looks slot (reads_wide at slot p n) (widened p n w).left (record r { pins = [] }) (widened p n w)) (unpins_quiet r.pins) store
     (subst (λ (v : Work). GoesBy (looks slot (reads_wide at slot p n) v.left (record r { pins = [] }) v bare.store) slot last bare after out) work
     (subst (λ (q : Running). GoesBy (looks slot (reads_wide at slot p n) from.left q from bare.store) slot last bare after out) call goes))
-
--- ---- what pins don't change
-
-sizes_unpinned : (names : List LockName) (s : StoreState) (l : Lock) → size_under l (stored_turn s (unpins names)).store ≡ size_under l s.store
-sizes_unpinned [] s l = refl
-sizes_unpinned (name ∷ names) s l = sizes_unpinned names _ l
-
-sizes_pinned : (names : List LockName) (s : StoreState) (l : Lock) → size_under l (stored_turn s (pins names)).store ≡ size_under l s.store
-sizes_pinned [] s l = refl
-sizes_pinned (name ∷ names) s l = sizes_pinned names _ l
-
-pub unpinned_in_file : (before after : StoreState) (names : List LockName) → after ≡ stored_turn before (unpins names) → AreInFile before.store → AreInFile after.store
-unpinned_in_file before after names e small = λ l. rw (e, sizes_unpinned names before l) (small l)
-
-pub looked_in_file : {wanted : Option Use} {old new : Running} {from to : Work} {before after : StoreState} → Looked wanted old new from to before after → AreInFile before.store → AreInFile after.store
-looked_in_file {before = before} looked small = λ l. rw (looked.store, sizes_pinned looked.names before l) (small l)
-
-pub pinned_in_file : (before after : StoreState) (name : LockName) → after ≡ stored_after before (Pins name) → AreInFile before.store → AreInFile after.store
-pinned_in_file before after name e small = λ l. rw (e) (small l)
 
 -- ---- what a call that has looked may do
 

@@ -1,13 +1,12 @@
 -- What a call does first, put together from what its parts do.
 use Rattle.std.proofs.Common.{◌≡◌, ℕ, Bool, true, false, List, [], ◌∷◌, length, Option, Some, None, refl, sym, ap, subst, ◌∙◌, arith}
-use Rattle.std.specs.Prelude.{◌≢◌, ◌==◌, ◌≤◌, ◌^◌, if◌then◌else◌, nat_lt, option_map, IfOk}
+use Rattle.std.specs.Prelude.{◌≢◌, ◌==◌, if◌then◌else◌, nat_lt, option_map, IfOk}
 use Rattle.std.specs.declared.result.Result.{Result}
 use Rattle.std.proofs.lemmas.Result.{IfOk-weaker}
 use Rattle.lu_base.specs.declared.ids.At.{At}
 use Rattle.lu_base.specs.declared.ids.Cookie.{Cookie}
 use Rattle.lu_base.specs.declared.ids.Fid.{Fid}
 use Rattle.lu_base.specs.declared.ids.Txn.{Txn}
-use Rattle.lu_base.specs.declared.locks.Lock.{Lock}
 use Rattle.lu_layout.specs.Raid0.{Raid0}
 use Rattle.lu_msg.specs.declared.answers.Answer.{Answer}
 use Rattle.lu_msg.specs.declared.answers.Answer.TheVariants as answer
@@ -17,19 +16,17 @@ use Rattle.lu_msg.specs.declared.operations.Op.{Op}
 use Rattle.lu_msg.specs.declared.operations.Op.TheVariants as op
 use Rattle.lu_held.specs.declared.names.LockName.{LockName}
 use Rattle.lu_words.specs.Carried.{HandleFile, Kind, Stats, Glimpses, Work, Running}
-use Rattle.lu_words.specs.Words.{Entry, Pins}
+use Rattle.lu_words.specs.Words.{Entry}
 use Rattle.lu_cache.specs.declared.known.Known.{Known}
 use Rattle.lu_cache.specs.Tells.{known_of, locks_of, of_file, stat_known}
 use Rattle.lu_client_rows.specs.Advances.{tells, looks, acts}
 use Rattle.lu_client_rows.specs.Known.{Notes, Found, Known as RowKnown, KnownFile, names_of, directory_at, directory_known, file_at, file_known}
 use Rattle.lu_client_rows.specs.Starts.{asks_names, pins, with_pins, tells_known, starts_known, stats, stats_file, starts_stat, looks_at, work_on, is_on, starts_close, starts_bytes, starts_names, names_op, starts, answers}
-use Rattle.lu_client_rows.specs.Looks.{size_under}
 use Rattle.lu_client_rows.specs.States.{Client, Store}
-use Rattle.lu_client_store.specs.Stored.{StoreState, stored_after, stored_turn}
+use Rattle.lu_client_store.specs.Stored.{StoreState, stored_turn}
 use Rattle.lu_call.specs.declared.nexts.Next.{Next}
 use Rattle.lu_call.specs.Going.{GoesBy, GoesFrom}
 use Rattle.lu_call.specs.Ranges.{is_glimpse}
-use Rattle.lu_call.specs.Sizes.{AreInFile}
 use Rattle.lu_call.specs.Starting.{alone, names_with, is_file, starts_on_handle}
 use Rattle.lu_call.proofs.Going.{goes_as, goes_from, goes_on, goes_follow, pins_quiet}
 use Rattle.lu_call.proofs.Naming.{names_again}
@@ -77,15 +74,6 @@ stats_pinned {new = new} {before = before} {middle = middle} {after = after} {ou
   where
     same : names_with locks ≡ names_of cookies
     same = ap names_with told ∙ names_again cookies
-
-pins_small : (names : List LockName) (s : StoreState) (l : Lock) → size_under l (stored_turn s (pins names)).store ≡ size_under l s.store
-pins_small [] s l = refl
-pins_small (name ∷ names) s l = pins_small names (stored_after s (Pins name)) l
-
--- pins change no size
-pub all_pinned_in_file : (before after : StoreState) (names : List LockName) → after ≡ stored_turn before (pins names) → AreInFile before.store → AreInFile after.store
-all_pinned_in_file before after names first small l =
-    subst (λ (s : StoreState). size_under l s.store ≤ 2 ^ 40) (sym first) (subst (λ (n : ℕ). n ≤ 2 ^ 40) (sym (pins_small names before l)) (small l))
 
 -- what is told of a file is known
 pub stats_told : {new : Running} {before after : StoreState} {out : Next} (at : At) (slot : ℕ) (k : Known) (fid : Fid) (mode links : ℕ) (layout : Raid0) (file : KnownFile) (old : Running) → k.answer ≡ answer.FileStat fid mode links layout → k ≡ known_of (of_file file) → ((cookies : List Cookie) → k.locks ≡ locks_of cookies → GoesBy (stats at slot fid layout (Stats mode links) (names_of cookies) old before.store) slot new before after out) → GoesBy (stats at slot file.fid file.layout (Stats file.mode file.links) (names_of file.cookies) old before.store) slot new before after out

@@ -15,12 +15,12 @@ use Rattle.lu_words.specs.Words.{Entry}
 use Rattle.lu_client_rows.specs.States.{Store}
 use Rattle.lu_client_rows.specs.Looks.{size_under}
 use Rattle.lu_client_rows.specs.Advances.{asks_lock, tells}
-use Rattle.lu_client_rows.specs.Glimpses.{sized, asks_size, glimpses, glimpses_on, glimpse_asks, glimpse_comes, glimpse_hears}
+use Rattle.lu_client_rows.specs.Glimpses.{sized, glimpses, glimpses_on, glimpse_asks, glimpse_comes, glimpse_hears}
 use Rattle.lu_client_store.specs.Stored.{StoreState}
 use Rattle.lu_call.specs.declared.nexts.Next.{Next}
 use Rattle.lu_call.specs.Glimpsed.{Glimpsed, GlimpsesOn, GlimpsesNoMore, asks_for_size, after_glimpses}
 use Rattle.lu_call.specs.Going.{GoesBy}
-use Rattle.lu_call.specs.Ranges.{IsWant, IsWork, IsWanting, IsSizing}
+use Rattle.lu_call.specs.Ranges.{IsWant, IsWork, IsSizing}
 use Rattle.lu_call.proofs.Going.{goes_as}
 use Rattle.lu_call.proofs.Unstaged.{glimpses_unstaged}
 

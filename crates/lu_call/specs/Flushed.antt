@@ -1,8 +1,7 @@
 -- The stripe at which a flush stands.
-use Rattle.std.specs.Prelude.{ℕ, ◌<◌, ◌++◌, ◌&&◌, not, if◌then◌else◌, Bool, List, [], ◌∷◌, All, Option, Some, None}
+use Rattle.std.specs.Prelude.{ℕ, ◌++◌, ◌&&◌, not, if◌then◌else◌, Bool, List, [], ◌∷◌, Option, Some, None}
 use Rattle.lu_base.specs.declared.ids.At.{At}
 use Rattle.lu_msg.specs.declared.answers.Answer.TheVariants as answer
-use Rattle.lu_held.specs.declared.locks.HeldLock.{HeldLock}
 use Rattle.lu_held.specs.Held.{in_order}
 use Rattle.lu_words.specs.Carried.{HandleFile, Flushing, Running}
 use Rattle.lu_words.specs.Words.{Entry, Stands}
@@ -12,10 +11,6 @@ use Rattle.lu_client_rows.specs.Patches.{Patch, in_flight}
 use Rattle.lu_client_rows.specs.Stripes.{object}
 use Rattle.lu_client_rows.specs.Advances.{at_stage, tells}
 use Rattle.lu_client_rows.specs.WriteBack.{is_clean, flushes}
-
--- the held locks are of the targets 0 to 8, which are all that there are
-abbrev pub AreOfTargets : Store → Type 0
-AreOfTargets s = All (λ (h : HeldLock). h.target.0 < 9) s.held
 
 -- nothing of an object is to be written back, or on its way
 abbrev pub is_written : Patch → Bool

@@ -1,5 +1,5 @@
--- The lock that a call waits for, and what its grant brings.
-use Rattle.std.specs.Prelude.{ℕ, ◌==◌, if◌then◌else◌, Bool, false, List, [], ◌∷◌, Option, Some, None}
+-- How a call stands for its client: without locks to look for, or waiting for a lock, and what that lock's grant brings.
+use Rattle.std.specs.Prelude.{ℕ, ◌==◌, if◌then◌else◌, Bool, true, false, List, [], ◌∷◌, Option, Some, None}
 use Rattle.lu_base.specs.declared.ids.Node.TheVariants.{Target}
 use Rattle.lu_base.specs.declared.ids.TargetId.{TargetId}
 use Rattle.lu_base.specs.declared.ids.Who.{Who}
@@ -7,9 +7,14 @@ use Rattle.lu_msg.specs.declared.messages.GrantNotice.{GrantNotice}
 use Rattle.lu_msg.specs.declared.messages.Message.TheVariants as message
 use Rattle.lu_held.specs.declared.names.LockName.{LockName}
 use Rattle.lu_held.specs.Locks.{named}
-use Rattle.lu_words.specs.Carried.{Stage, Waits, Running}
+use Rattle.lu_words.specs.Carried.{Stage, Plain, Waits, Running}
 use Rattle.lu_words.specs.Words.{Entry, Send, Hold, Settles, Stands}
 use Rattle.lu_call.specs.declared.hearing.CameLock.{CameLock}
+
+-- it has no locks to look for
+abbrev pub is_plain : Stage → Bool
+is_plain Plain = true
+is_plain _ = false
 
 -- the name of the lock that it waits for
 abbrev pub waited : Stage → Option LockName

@@ -6,5 +6,4 @@ pub mod Looked
 pub mod Glimpsed
 pub mod Flushed
 pub mod Ranges
-pub mod Sizes
 pub mod Starting

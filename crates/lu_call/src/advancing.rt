@@ -8,10 +8,8 @@ ghost use Rattle.lu_client_rows.specs.Glimpses.{glimpse_hears};
 ghost use Rattle.lu_client_rows.specs.Slots.{goes_at};
 ghost use Rattle.lu_client_rows.specs.Starts.{looks_at, comes_at, sizes_heard, goes_plain};
 ghost use Rattle.lu_client_rows.specs.WriteBack.{flushing};
-ghost use Rattle.lu_call.specs.Flushed.{AreOfTargets};
 ghost use Rattle.lu_call.specs.Going.{GoesBy, GoesFrom};
 ghost use Rattle.lu_call.specs.Ranges.{IsLooking, IsWanting, IsSizing, is_glimpse};
-ghost use Rattle.lu_call.specs.Sizes.{AreInFile};
 ghost use Rattle.lu_call.specs.Starting.{alone, sizes_of, glimpsing};
 ghost use Rattle.lu_call.specs.Views.{work_of, kind_of};
 
@@ -53,7 +51,6 @@ impl CallState {
     /// A call on bytes looks for the locks that are left.
     fn go_looking(&mut self, at: At, mut work: Work, store: &mut Store) -> Result<Next, Memory>
         requires looking { IsLooking (work_of work) }
-        requires sizes { AreInFile store.old.store }
         ensures goes { IfOk result (λ out. (slot : ℕ)
             → GoesBy (looks_at at slot (kind_of work.kind) self.old (work_of work) store.old.store)
             slot self.new store.old store.new out) }
@@ -74,7 +71,6 @@ impl CallState {
         store: &mut Store,
     ) -> Result<Next, Memory>
         requires wanting { IsWanting (work_of work) }
-        requires sizes { AreInFile store.old.store }
         ensures goes { IfOk result (λ out. (slot : ℕ)
             → GoesBy (comes_at at slot (kind_of work.kind) self.old (work_of work) store.old.store lock)
             slot self.new store.old store.new out) }
@@ -106,7 +102,6 @@ impl CallState {
     /// A glimpse asked for the size of an object: it goes on once it is told the size, or left to the lock.
     fn go_sizing(&mut self, at: At, work: Work, store: &mut Store) -> Result<Next, Memory>
         requires sizing { IsSizing (work_of work) }
-        requires sizes { AreInFile store.old.store }
         ensures goes { IfOk result (λ out. (slot : ℕ)
             → GoesFrom (sizes_heard at slot self.old.asking (kind_of work.kind) self.old (work_of work)
             store.old.store) slot (at_stage self.old (Sizes (work_of work))) self.new store.old store.new out) }
@@ -130,7 +125,6 @@ impl CallState {
 
     /// A flush goes on with the stripe that it writes back.
     fn go_flushing(&mut self, at: At, stripe: u16, store: &mut Store) -> Result<Next, Memory>
-        requires targets { AreOfTargets store.old.store }
         ensures goes { IfOk result (λ out. (slot : ℕ)
             → GoesFrom (flushing at slot stripe self.old self.old.file store.old.store)
             slot (at_stage self.old (Flushing stripe)) self.new store.old store.new out) }
@@ -146,8 +140,6 @@ impl CallState {
 
     /// A call that looks for no locks begins, or goes on with the metadata target's answer.
     fn go_plain(&mut self, at: At, store: &mut Store) -> Result<Next, Memory>
-        requires sizes { AreInFile store.old.store }
-        requires targets { AreOfTargets store.old.store }
         ensures goes { IfOk result (λ out. (slot : ℕ)
             → GoesFrom (goes_plain at slot self.old.asking self.old (alone self.old store.old))
             slot self.old self.new store.old store.new out) }
@@ -167,8 +159,6 @@ impl CallState {
     /// answered. Once the call is told it is over. A close that others on its open keep waiting isn't let go on. After
     /// want of memory neither the call nor the store is of any use.
     pub fn advance(&mut self, at: At, store: &mut Store) -> Result<Next, Memory>
-        requires sizes { AreInFile store.old.store }
-        requires targets { AreOfTargets store.old.store }
         ensures goes { IfOk result (λ out. (slot : ℕ)
             → GoesFrom (goes_at at slot self.old.stage self.old (alone self.old store.old))
             slot self.old self.new store.old store.new out) }

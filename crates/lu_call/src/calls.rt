@@ -4,6 +4,7 @@ ghost use Rattle.std.specs.Prelude.{◌≡◌, [], Some, option_map};
 ghost use Rattle.lu_words.specs.Carried.{HandleFile as RowFile, Unasked, Plain};
 ghost use Rattle.lu_client_rows.specs.Slots.{is_close, opens};
 ghost use Rattle.lu_client_rows.specs.Starts.{is_on};
+ghost use Rattle.lu_call.specs.Hearing.{is_plain};
 ghost use Rattle.lu_call.specs.Ranges.{IsCall};
 ghost use Rattle.lu_call.specs.Views.{file_of};
 
@@ -123,6 +124,16 @@ impl CallState {
         match &self.file {
             Some(file) => Some(file.number),
             None => None,
+        }
+    }
+
+    /// Whether it has no locks to look for: a call on names, or one that has just begun.
+    pub fn is_plain(&self) -> bool
+        ensures plain { result ≡ is_plain self.now.stage }
+    {
+        match &self.stage {
+            Stage::Plain => true,
+            _ => false,
         }
     }
 

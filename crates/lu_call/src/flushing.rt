@@ -7,7 +7,7 @@ ghost use Rattle.lu_client_rows.specs.Caches.{patch_at};
 ghost use Rattle.lu_client_rows.specs.Patches.{in_flight};
 ghost use Rattle.lu_client_rows.specs.Stripes.{stripes, object};
 ghost use Rattle.lu_client_rows.specs.WriteBack.{flush_from};
-ghost use Rattle.lu_call.specs.Flushed.{AreOfTargets, is_written, flush_object, flush_stripe, flush_at};
+ghost use Rattle.lu_call.specs.Flushed.{is_written, flush_object, flush_stripe, flush_at};
 ghost use Rattle.lu_call.specs.Going.{GoesBy};
 ghost use Rattle.lu_call.specs.Views.{file_of};
 
@@ -17,9 +17,6 @@ use super::works::HandleFile;
 use lu_base::{At, Memory, Resource};
 use lu_client_store::Store;
 use lu_msg::Answer;
-
-/// How many targets there are at most: 0 to 8.
-const MOST_TARGETS: u16 = 9;
 
 /// The object of a stripe of a file.
 fn object(file: &HandleFile, stripe: u16) -> Resource
@@ -65,12 +62,11 @@ impl CallState {
         store: &mut Store,
     ) -> Result<Next, Memory>
         requires rests { in_flight (patch_at (object file.now.fid stripe) store.old.store.patches) ≡ false }
-        requires targets { AreOfTargets store.old.store }
         ensures goes { IfOk result (λ out. (slot : ℕ)
             → GoesBy (flush_object slot self.old (file_of file.now) stripe store.old.store)
             slot self.new store.old store.new out) }
     {
-        let locks = store.in_order(self.alloc, MOST_TARGETS)?;
+        let locks = store.in_order(self.alloc)?;
         self.stage = Stage::Flushing(stripe);
         match store.take_first_flush(object(file, stripe), &locks)? {
             Some(back) => Ok(Next::WritesBack(back.target, back.operation())),
@@ -85,7 +81,6 @@ impl CallState {
         stripe: u16,
         store: &mut Store,
     ) -> Result<Next, Memory>
-        requires targets { AreOfTargets store.old.store }
         ensures goes { IfOk result (λ out. (slot : ℕ)
             → GoesBy (flush_stripe slot self.old (file_of file.now) stripe store.old.store)
             slot self.new store.old store.new out) }
@@ -106,7 +101,6 @@ impl CallState {
         stripe: u16,
         store: &mut Store,
     ) -> Result<Next, Memory>
-        requires targets { AreOfTargets store.old.store }
         ensures goes { IfOk result (λ out. (slot : ℕ)
             → GoesBy (flush_from at slot self.old (file_of file) (drop stripe (stripes file.layout)) store.old.store)
             slot self.new store.old store.new out) }

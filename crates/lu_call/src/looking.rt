@@ -9,7 +9,6 @@ ghost use Rattle.lu_client_store.specs.Stored.{StoreState, stored_after, stored_
 ghost use Rattle.lu_call.specs.Going.{GoesBy};
 ghost use Rattle.lu_call.specs.Looked.{Looked};
 ghost use Rattle.lu_call.specs.Ranges.{IsWork, IsActing, IsWanting};
-ghost use Rattle.lu_call.specs.Sizes.{AreInFile};
 ghost use Rattle.lu_call.specs.Views.{kind_of, work_of};
 
 use super::calls::{Asking, CallState, Stage};
@@ -95,7 +94,6 @@ impl CallState {
         store: &mut Store,
     ) -> Result<Next, Memory>
         requires acting { IsActing (work_of work) }
-        requires sizes { AreInFile store.old.store }
         ensures goes { IfOk result (λ out. (slot : ℕ) → GoesBy
             (looks slot (acts at slot (kind_of work.kind)) work.left.items self.old (work_of work) store.old.store)
             slot self.new store.old store.new out) }
@@ -116,7 +114,6 @@ impl CallState {
         store: &mut Store,
     ) -> Result<Next, Memory>
         requires acting { IsActing (work_of work) }
-        requires sizes { AreInFile store.old.store }
         requires some { 0 < length work.left.items }
         ensures goes { IfOk result (λ out. (slot : ℕ) → GoesBy
             (comes slot (acts at slot (kind_of work.kind)) lock work.left.items self.old (work_of work)

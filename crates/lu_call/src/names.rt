@@ -11,7 +11,6 @@ ghost use Rattle.lu_words.specs.Words.{Pins};
 ghost use Rattle.lu_client_rows.specs.Advances.{pinned};
 ghost use Rattle.lu_client_store.specs.Stored.{StoreState, stored_after, stored_turn};
 ghost use Rattle.lu_call.specs.Going.{GoesBy, GoesFrom};
-ghost use Rattle.lu_call.specs.Sizes.{AreInFile};
 ghost use Rattle.lu_call.specs.Starting.{names_with, is_file};
 
 use super::calls::{Asking, CallState};
@@ -147,7 +146,6 @@ impl CallState {
         locks: &Cookies,
         store: &mut Store,
     ) -> Result<Next, Memory>
-        requires sizes { AreInFile store.old.store }
         ensures goes { IfOk result (λ out. (slot : ℕ) (cookies : List CookieOf) → locks.now ≡ locks_of cookies
             → GoesBy (stats at slot file.fid file.layout (Stats file.mode file.links) (names_of cookies) self.old
             store.old.store) slot self.new store.old store.new out) }
@@ -165,7 +163,6 @@ impl CallState {
 
     /// A stat of a file goes on, where what the metadata target would tell of it is known.
     fn stat_known(&mut self, at: At, known: Known, store: &mut Store) -> Result<Next, Memory>
-        requires sizes { AreInFile store.old.store }
         ensures goes { IfOk result (λ out. (slot : ℕ) (file : KnownFile) → known ≡ known_of (of_file file)
             → GoesBy (stats at slot file.fid file.layout (Stats file.mode file.links) (names_of file.cookies) self.old
             store.old.store) slot self.new store.old store.new out) }
@@ -209,7 +206,6 @@ impl CallState {
         path: Path,
         store: &mut Store,
     ) -> Result<Next, Memory>
-        requires sizes { AreInFile store.old.store }
         ensures goes { IfOk result (λ out. (slot : ℕ)
             → GoesFrom (starts_stat at slot path self.old store.old.store (notes store.old.facts store.old.store.held)
             (found_at_path (notes store.old.facts store.old.store.held) path)

@@ -9,7 +9,6 @@ ghost use Rattle.lu_client_store.specs.Stored.{StoreState, stored_turn};
 ghost use Rattle.lu_client_store.specs.Pages.{page_of};
 ghost use Rattle.lu_call.specs.Going.{GoesBy};
 ghost use Rattle.lu_call.specs.Ranges.{IsActing, IsSpan};
-ghost use Rattle.lu_call.specs.Sizes.{AreInFile};
 ghost use Rattle.lu_call.specs.Views.{work_of, kind_of};
 
 use super::calls::{Asking, CallState, Stage};
@@ -58,7 +57,6 @@ impl CallState {
         store: &Store,
     ) -> Result<Bytes, Memory>
         requires span { IsSpan offset count }
-        requires sizes { AreInFile store.now.store }
         ensures bytes { IfOk result (λ bytes. bytes ≡ content work.now.layout work.now.fid store.now.store offset
             (min count (file_size work.now.layout (stripes work.now.layout) work.now.used.items store.now.store - offset))) }
     {
@@ -78,7 +76,6 @@ impl CallState {
     ) -> Result<Next, Memory>
         requires span { IsSpan offset count }
         requires acting { IsActing (work_of work) }
-        requires sizes { AreInFile store.old.store }
         ensures goes { IfOk result (λ out. (slot : ℕ)
             → GoesBy (reads_wide at slot offset count self.old (work_of work) store.old.store)
             slot self.new store.old store.new out) }
@@ -114,7 +111,6 @@ impl CallState {
         store: &mut Store,
     ) -> Result<Next, Memory>
         requires span { IsSpan offset count }
-        requires sizes { AreInFile store.old.store }
         ensures goes { IfOk result (λ out. (slot : ℕ)
             → GoesBy (widens at slot offset count self.old (work_of work) store.old.store)
             slot self.new store.old store.new out) }
@@ -140,7 +136,6 @@ impl CallState {
     ) -> Result<Next, Memory>
         requires span { IsSpan offset count }
         requires acting { IsActing (work_of work) }
-        requires sizes { AreInFile store.old.store }
         ensures goes { IfOk result (λ out. (slot : ℕ)
             → GoesBy (reads_narrow at slot offset count self.old (work_of work) store.old.store)
             slot self.new store.old store.new out) }
@@ -159,7 +154,6 @@ impl CallState {
 
     /// A stat is told the file's size under the locks in use, beside its mode and its number of names.
     fn stat(&mut self, at: At, mode: u16, links: u64, work: &Work, store: &mut Store) -> Next
-        requires sizes { AreInFile store.old.store }
         ensures goes { (slot : ℕ)
             → GoesBy (acts at slot (Stats mode links) self.old (work_of work.now) store.old.store)
             slot self.new store.old store.new result }
@@ -178,7 +172,6 @@ impl CallState {
     /// call is told, and unpins its locks. A glimpse acts otherwise. After want of memory nothing is promised.
     pub(crate) fn act(&mut self, at: At, work: Work, store: &mut Store) -> Result<Next, Memory>
         requires acting { IsActing (work_of work) }
-        requires sizes { AreInFile store.old.store }
         ensures goes { IfOk result (λ out. (slot : ℕ)
             → GoesBy (acts at slot (kind_of work.kind) self.old (work_of work) store.old.store)
             slot self.new store.old store.new out) }

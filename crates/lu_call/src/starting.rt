@@ -6,10 +6,8 @@ ghost use Rattle.lu_client_rows.specs.Starts.{starts, answers};
 ghost use Rattle.lu_base.specs.declared.ids.At.{At as AtOf};
 ghost use Rattle.lu_client_store.specs.Stored.{StoreState};
 ghost use Rattle.lu_msg.specs.declared.answers.Answer.TheVariants as answer;
-ghost use Rattle.lu_call.specs.Flushed.{AreOfTargets};
 ghost use Rattle.lu_call.specs.Going.{GoesBy, GoesFrom};
 ghost use Rattle.lu_call.specs.Ranges.{IsInRange, is_glimpse};
-ghost use Rattle.lu_call.specs.Sizes.{AreInFile};
 ghost use Rattle.lu_call.specs.Starting.{alone, starts_on_handle};
 ghost use Rattle.lu_call.specs.Views.{kind_of, file_of};
 
@@ -44,7 +42,6 @@ impl CallState {
     fn start_bytes(&mut self, at: At, kind: Kind, store: &mut Store) -> Result<Next, Memory>
         requires range { IsInRange (kind_of kind) }
         requires acting { is_glimpse (kind_of kind) ≡ false }
-        requires sizes { AreInFile store.old.store }
         ensures goes { IfOk result (λ out. (slot : ℕ)
             → GoesFrom (starts_bytes at slot (kind_of kind) self.old store.old.store self.old.file)
             slot self.old self.new store.old store.new out) }
@@ -58,7 +55,6 @@ impl CallState {
 
     /// A flush writes back from the first stripe on.
     fn start_flush(&mut self, at: At, store: &mut Store) -> Result<Next, Memory>
-        requires targets { AreOfTargets store.old.store }
         ensures goes { IfOk result (λ out. (slot : ℕ)
             → GoesFrom (starts_flush at slot self.old store.old.store self.old.file)
             slot self.old self.new store.old store.new out) }
@@ -87,8 +83,6 @@ impl CallState {
 
     /// A call on a handle, or one that always asks the metadata target, begins.
     fn start_on_handle(&mut self, at: At, store: &mut Store) -> Result<Next, Memory>
-        requires sizes { AreInFile store.old.store }
-        requires targets { AreOfTargets store.old.store }
         ensures goes { IfOk result (λ out. (slot : ℕ)
             → GoesFrom (starts_on_handle at slot self.old.call self.old store.old.store)
             slot self.old self.new store.old store.new out) }
@@ -120,8 +114,6 @@ impl CallState {
 
     /// A call that has asked nothing yet goes on. It is the only one on its open, where it is a close.
     pub(crate) fn start(&mut self, at: At, store: &mut Store) -> Result<Next, Memory>
-        requires sizes { AreInFile store.old.store }
-        requires targets { AreOfTargets store.old.store }
         ensures goes { IfOk result (λ out. (slot : ℕ)
             → GoesFrom (starts at slot self.old.call self.old (alone self.old store.old))
             slot self.old self.new store.old store.new out) }
@@ -189,7 +181,6 @@ impl CallState {
         file: FileStat,
         store: &mut Store,
     ) -> Result<Next, Memory>
-        requires sizes { AreInFile store.old.store }
         ensures goes { IfOk result (λ out. (slot : ℕ)
             → GoesBy (answers at slot acted (answer.FileStat file.fid file.mode file.links file.layout) self.old.call
             self.old (alone self.old store.old)) slot self.new store.old store.new out) }
@@ -225,7 +216,6 @@ impl CallState {
         answer: Answer,
         store: &mut Store,
     ) -> Result<Next, Memory>
-        requires sizes { AreInFile store.old.store }
         ensures goes { IfOk result (λ out. (slot : ℕ)
             → GoesBy (answers at slot acted answer self.old.call self.old (alone self.old store.old))
             slot self.new store.old store.new out) }

@@ -12,9 +12,9 @@ ghost use Rattle.lu_client.specs.Turns.{with_entries, after_entries, front_sent,
 
 use super::calls::{Untold, operation_of};
 use super::faults::ClientFault;
-use super::fits::answer_fits;
 use lu_base::{At, Duplicate, Memory, Node, Stamp, TargetId, Who};
 use lu_import::Import;
+use lu_machine::answer_fits;
 use lu_msg::{Call, Message, Post, Reply};
 use lu_trace::{Entry, Step, Turn};
 use std::alloc::Global;

@@ -5,7 +5,6 @@
 mod calls;
 mod clients;
 mod faults;
-mod fits;
 
 pub use clients::Client;
 pub use faults::ClientFault;

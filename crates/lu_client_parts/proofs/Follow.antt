@@ -9,11 +9,11 @@ use Rattle.lu_trace.specs.declared.entries.Entry.{Entry as PrintedEntry}
 use Rattle.lu_trace.specs.declared.entries.Line.{Line as PrintedLine}
 use Rattle.lu_trace.specs.declared.traces.Step.{Step}
 use Rattle.lu_trace.specs.Turns.{Making, no_step, with_line, with_post}
-use Rattle.lu_words.specs.Given.{line_of, step_lines, posts_with, step_posts, step_of}
+use Rattle.lu_words.specs.Given.{line_of, step_lines, posts_with, step_posts, step_of, giving}
 use Rattle.lu_words.specs.Printed.{printed_entry}
 use Rattle.lu_words.specs.Words.{Entry, Send}
 use Rattle.lu_client_rows.specs.States.{Client, after, turn, follow}
-use Rattle.lu_client_parts.specs.Giving.{giving, prints}
+use Rattle.lu_client_parts.specs.Prints.{prints}
 use Rattle.lu_client_parts.specs.Goes.{Goes, Leads}
 use Rattle.lu_client_parts.specs.Posts.{posted}
 use Rattle.lu_client_parts.specs.Turns.{none_read}

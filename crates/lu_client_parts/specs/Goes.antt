@@ -3,7 +3,7 @@ use Rattle.std.specs.Prelude.{◌≡◌, List}
 use Rattle.lu_trace.specs.Turns.{Making}
 use Rattle.lu_words.specs.Words.{Entry}
 use Rattle.lu_client_rows.specs.States.{Client, turn}
-use Rattle.lu_client_parts.specs.Giving.{giving}
+use Rattle.lu_words.specs.Given.{giving}
 
 -- A step went as this row has it: it gave what the row's entries give after what was given before, and the client is as they
 -- leave it. The row is read at the client as it was before the step.

@@ -1,6 +1,6 @@
 pub mod Imports
 pub mod Posts
-pub mod Giving
+pub mod Prints
 pub mod Sending
 pub mod Telling
 pub mod Turns

@@ -1,5 +1,5 @@
 -- One turn of the loops that write and cut, stripe by stripe.
-use Rattle.std.proofs.Common.{◌≡◌, ℕ, ◌+◌, ◌<◌, List, [], ◌∷◌, ◌++◌, length, drop, get_or, refl, sym, ap, ◌∙◌, add-one, drop-cons}
+use Rattle.std.proofs.Common.{◌≡◌, ℕ, ◌+◌, ◌<◌, List, length, drop, get_or, sym, ap, ◌∙◌}
 use Rattle.lu_layout.specs.Raid0.{Raid0}
 use Rattle.lu_words.specs.declared.changes.Flush.TheVariants.{Cut}
 use Rattle.lu_words.specs.declared.uses.Using.{Using}

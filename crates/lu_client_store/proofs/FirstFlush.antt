@@ -1,5 +1,5 @@
 -- The first held lock under which an object has a change.
-use Rattle.std.proofs.Common.{◌≡◌, ℕ, ◌==◌, ◌&&◌, Bool, true, false, List, [], ◌∷◌, Option, Some, None, refl, sym, ap, ◌∙◌, arith}
+use Rattle.std.proofs.Common.{◌≡◌, ℕ, ◌==◌, ◌&&◌, Bool, true, List, ◌∷◌, Option, Some, None, refl, sym, ap, ◌∙◌, arith}
 use Rattle.std.specs.Prelude.{if◌then◌else◌, option_map}
 use Rattle.lu_base.specs.declared.locks.Resource.{Resource}
 use Rattle.lu_held.specs.declared.locks.HeldLock.{HeldLock}
@@ -10,7 +10,7 @@ use Rattle.lu_client_rows.specs.Patches.{Patch}
 use Rattle.lu_client_rows.specs.Caches.{patch_at}
 use Rattle.lu_client_rows.specs.WriteBack.{flush_under, flushes, writes_back}
 use Rattle.lu_client_store.specs.declared.flushes.WriteBack.{WriteBack}
-use Rattle.lu_client_store.specs.WriteBacks.{back_under, backs, backs_or}
+use Rattle.lu_client_store.specs.WriteBacks.{back_under, backs_or}
 
 is_it : (n : ℕ) → (n == n) ≡ true
 is_it n = grind (arith)

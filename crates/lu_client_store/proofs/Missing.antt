@@ -1,5 +1,5 @@
 -- One turn of the search for a missing byte, and of that for a missing page.
-use Rattle.std.proofs.Common.{◌≡◌, ℕ, zero, suc, ◌+◌, ◌/◌, ◌<◌, List, [], ◌∷◌, length, drop, get_or, Option, Some, None, Bool, true, false, refl, sym, ap, ◌∙◌, arith, add-one, drop-cons}
+use Rattle.std.proofs.Common.{◌≡◌, ℕ, zero, suc, ◌+◌, ◌/◌, ◌<◌, List, ◌∷◌, length, drop, get_or, Option, Some, None, true, false, refl, sym, ap, ◌∙◌, arith}
 use Rattle.std.specs.Prelude.{if◌then◌else◌}
 use Rattle.lu_machine.specs.Places.{Places}
 use Rattle.lu_layout.specs.Raid0.{Raid0}

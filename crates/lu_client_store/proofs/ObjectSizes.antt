@@ -1,12 +1,12 @@
 -- One turn of the search for the lock in use on a stripe, and of the loop over the stripes' sizes.
-use Rattle.std.proofs.Common.{◌≡◌, ℕ, ◌+◌, ◌<◌, ◌≤◌, List, [], ◌∷◌, ◌++◌, length, take, drop, get_or, Bool, true, false, refl, sym, ap, ◌∙◌, arith, add-one, drop-cons}
-use Rattle.std.specs.Prelude.{nat_eq, ◌==◌, if◌then◌else◌, map, All}
+use Rattle.std.proofs.Common.{◌≡◌, ℕ, ◌+◌, ◌<◌, ◌≤◌, List, [], ◌∷◌, ◌++◌, length, take, drop, get_or, true, false, sym, ap, subst, ◌∙◌, arith}
+use Rattle.std.specs.Prelude.{nat_eq, if◌then◌else◌, map, All}
 use Rattle.std.specs.List.{range_with_len}
 use Rattle.std.proofs.Math.ListN.{set, length-set}
 use Rattle.std.proofs.lemmas.List.{take_more_set}
 use Rattle.std.proofs.lemmas.List.FromFn.{map-range_with_len_more}
 use Rattle.std.proofs.lemmas.Bool.Decides.{nat_tests}
-use Rattle.std.proofs.lemmas.List.Elements.{All-cons, All-head, All-tail}
+use Rattle.std.proofs.lemmas.List.Elements.{All-push}
 use Rattle.lu_words.specs.declared.uses.Using.{Using}
 use Rattle.lu_client_rows.specs.States.{Store}
 use Rattle.lu_client_rows.specs.Looks.{size_under, size_on}
@@ -24,20 +24,6 @@ size_here i s used k d less here =
     ap (λ us. size_on i us s) (dropped used k d less)
     ∙ ap (λ v. if v then size_under (get_or used k d).lock s else size_on i (drop (k + 1) used) s) test
 
--- where the sizes under the locks in use are small, each stripe's is
-size_small : (n i : ℕ) (s : Store) (used : List Using) → All (λ (u : Using). size_under u.lock s ≤ n) used → size_on i used s ≤ n
-size_small n i s [] all = omega arith
-size_small n i s (u ∷ used) all =
-    by (u.want.resource.stripe == i) (All-head (λ (u : Using). size_under u.lock s ≤ n) u used all) (size_small n i s used (All-tail (λ (u : Using). size_under u.lock s ≤ n) u used all))
-  where
-    by : (v : Bool) → size_under u.lock s ≤ n → size_on i used s ≤ n → (if v then size_under u.lock s else size_on i used s) ≤ n
-    by true here later = here
-    by false here later = later
-
-pub sizes_small : (n : ℕ) (s : Store) (used : List Using) (stripes : List ℕ) → All (λ (u : Using). size_under u.lock s ≤ n) used → All (λ (size : ℕ). size ≤ n) (map (λ (i : ℕ). size_on i used s) stripes)
-sizes_small n s used [] all = λ k d less. absurd (omega arith)
-sizes_small n s used (i ∷ stripes) all = All-cons (λ (size : ℕ). size ≤ n) (size_on i used s) (map (λ (i : ℕ). size_on i used s) stripes) (size_small n i s used all) (sizes_small n s used stripes all)
-
 -- ---- one after another
 
 pub count_stays : (xs : List ℕ) (k v : ℕ) → length (set xs k v) ≡ length xs
@@ -49,3 +35,7 @@ sizes_more f xs k v less is before =
     ∙ ap (λ (ys : List ℕ). ys ++ v ∷ []) before
     ∙ ap (λ (y : ℕ). map f (range_with_len 0 k) ++ y ∷ []) is
     ∙ sym (map-range_with_len_more f 0 k k (omega arith))
+
+pub short_more : (n : ℕ) (xs : List ℕ) (k v : ℕ) → k < length xs → v ≤ n → All (λ (x : ℕ). x ≤ n) (take k xs) → All (λ (x : ℕ). x ≤ n) (take (k + 1) (set xs k v))
+short_more n xs k v less short before =
+    subst (λ (ys : List ℕ). All (λ (x : ℕ). x ≤ n) ys) (sym (take_more_set xs k v less)) (All-push (λ (x : ℕ). x ≤ n) (take k xs) v before short)

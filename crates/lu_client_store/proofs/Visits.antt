@@ -1,5 +1,5 @@
 -- Where not too much is dirty, only the locks that are marked and not pinned are visited.
-use Rattle.std.proofs.Common.{◌≡◌, ◌&&◌, Bool, true, false, List, [], ◌∷◌, ◌++◌, filter, cond, refl, sym, ap, ◌∙◌}
+use Rattle.std.proofs.Common.{◌≡◌, Bool, true, false, List, [], ◌∷◌, ◌++◌, filter, cond, refl, ap, ◌∙◌}
 use Rattle.lu_base.specs.declared.locks.Mode.{Mode}
 use Rattle.lu_base.specs.declared.locks.Mode.TheVariants.{EX, PW, PR, CW, CR, NL}
 use Rattle.lu_base.specs.declared.locks.Policy.{Policy}
@@ -7,9 +7,8 @@ use Rattle.lu_base.specs.declared.locks.Policy.TheVariants.{Bits, Range}
 use Rattle.lu_held.specs.declared.locks.HeldLock.{HeldLock}
 use Rattle.lu_words.specs.Words.{Entry}
 use Rattle.lu_client_rows.specs.Patches.{Patch}
-use Rattle.lu_client_rows.specs.Imports.{is_serving, import_of}
 use Rattle.lu_client_rows.specs.Caches.{patch_at}
-use Rattle.lu_client_rows.specs.Locks.{is_called, must_write, gives_up, visits, visits_all}
+use Rattle.lu_client_rows.specs.Locks.{is_called, must_write, visits, visits_all}
 use Rattle.lu_client_rows.specs.States.{Client, turn}
 
 needs_none : (h : HeldLock) (mode : Mode) (policy : Policy) (p : Patch) → is_called h ≡ false → must_write false h mode policy p ≡ false

@@ -1,4 +1,6 @@
+pub mod Bounds
 pub mod Counting
 pub mod Pages
+pub mod Runs
 pub mod Stored
 pub mod WriteBacks

@@ -1,11 +1,10 @@
 -- What a client holds, as one state: how many unused locks it may keep, what it knows of names, and its store of locks,
 -- bytes, sizes, offsets shown and changes. Each entry of its turns makes of the parts what the client's rows say.
-use Rattle.std.specs.Prelude.{ℕ, ◌+◌, ◌≤◌, ◌^◌, nat_lt, List, [], ◌∷◌, length, filter, drop, reverse, Option, Some, None}
+use Rattle.std.specs.Prelude.{ℕ, ◌+◌, ◌≤◌, ◌^◌, List, [], ◌∷◌, length, filter, drop, reverse, Option, Some, None}
 use Rattle.lu_base.specs.declared.locks.Resource.{Resource}
-use Rattle.lu_held.specs.declared.locks.HeldLock.{HeldLock}
 use Rattle.lu_held.specs.declared.names.LockName.{LockName}
 use Rattle.lu_held.specs.Locks.{is_free}
-use Rattle.lu_held.specs.Held.{HeldState, in_order}
+use Rattle.lu_held.specs.Held.{HeldState}
 use Rattle.lu_words.specs.declared.changes.Flush.{Flush}
 use Rattle.lu_words.specs.declared.changes.Flush.TheVariants.{Cut, Put}
 use Rattle.lu_words.specs.Words.{Entry, Marks, WritesBack}
@@ -52,12 +51,6 @@ patches_sent r (Some flush) patches = patches_after patches (WritesBack r flush)
 abbrev pub stored_sent : Resource → Option Flush → StoreState → StoreState
 stored_sent r None s = s
 stored_sent r (Some flush) s = stored_after s (WritesBack r flush)
-
--- ---- held locks in order
-
--- those of the targets below this one, by target and then by cookie
-abbrev pub held_below : ℕ → List HeldLock → List HeldLock
-held_below targets held = filter (λ (h : HeldLock). nat_lt h.target.0 targets) (in_order held)
 
 -- ---- unused locks
 

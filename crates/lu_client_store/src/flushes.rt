@@ -1,11 +1,11 @@
 //! The next change of an object that is written back, and the held lock under which it is.
 
-ghost use Rattle.std.specs.Prelude.{◌≡◌, List, ◌∷◌, false, option_map, IfOk, OnErr};
+ghost use Rattle.std.specs.Prelude.{◌≡◌, List, ◌∷◌, false, option_map, IfOk, IfSome, OnErr};
 ghost use Rattle.lu_held.specs.declared.locks.HeldLock.{HeldLock as HeldOf};
 ghost use Rattle.lu_client_rows.specs.Patches.{Patch, in_flight};
 ghost use Rattle.lu_client_rows.specs.Caches.{patch_at};
 ghost use Rattle.lu_client_rows.specs.WriteBack.{operation, flush_under, flushes};
-ghost use Rattle.lu_client_store.specs.Stored.{stored_turn};
+ghost use Rattle.lu_client_store.specs.Stored.{stored_turn, IsInFile};
 ghost use Rattle.lu_client_store.specs.WriteBacks.{back_under, backs, backs_or, next_in};
 
 use super::store::Store;
@@ -66,6 +66,7 @@ impl Store {
         ensures back { IfOk result (λ back. back ≡ option_map (back_under held.now)
             (flush_under (patch_at held.now.lock.resource self.old.store.patches) held.now.lock.ask.mode
             held.now.lock.ask.policy)) }
+        ensures in_file { IfOk result (λ back. IfSome back (λ back. IsInFile back.flush)) }
         ensures sent { IfOk result (λ back. self.new ≡ stored_turn self.old (backs back)) }
         ensures kept { OnErr result (self.new ≡ self.old) }
     {
@@ -93,6 +94,7 @@ impl Store {
         ensures back { IfOk result (λ back. (others : List HeldOf)
             → flushes resource (patch_at resource self.old.store.patches) (held.now ∷ others)
             ≡ backs_or (flushes resource (patch_at resource self.old.store.patches) others) back) }
+        ensures in_file { IfOk result (λ back. IfSome back (λ back. IsInFile back.flush)) }
         ensures sent { IfOk result (λ back. self.new ≡ stored_turn self.old (backs back)) }
         ensures kept { OnErr result (self.new ≡ self.old) }
     {
@@ -112,6 +114,7 @@ impl Store {
         requires rests { in_flight (patch_at resource self.old.store.patches) ≡ false }
         ensures back { IfOk result (λ back. backs back
             ≡ flushes resource (patch_at resource self.old.store.patches) locks.now) }
+        ensures in_file { IfOk result (λ back. IfSome back (λ back. IsInFile back.flush)) }
         ensures sent { IfOk result (λ back. self.new ≡ stored_turn self.old (backs back)) }
         ensures kept { OnErr result (self.new ≡ self.old) }
     {

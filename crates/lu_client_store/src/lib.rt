@@ -4,6 +4,7 @@
 mod content;
 mod flushes;
 mod looks;
+mod objects;
 mod pages;
 mod patches;
 mod reached;

@@ -1,6 +1,6 @@
 //! What a client's calls and its pass over the locks look at.
 
-ghost use Rattle.std.specs.Prelude.{◌≡◌, ◌<◌, [], ◌++◌, All, nat_lt, find, slice_get, option_map, unwrap_or, IfOk, OnOk};
+ghost use Rattle.std.specs.Prelude.{◌≡◌, ◌≤◌, ◌^◌, [], map, nat_lt, find, slice_get, option_map, unwrap_or, IfOk, IfSome};
 ghost use Rattle.std.specs.Option.{option_copied};
 ghost use Rattle.lu_held.specs.declared.locks.Wanted.TheVariants as wanted;
 ghost use Rattle.lu_held.specs.Locks.{is_named, lock_of};
@@ -11,71 +11,15 @@ ghost use Rattle.lu_client_rows.specs.Patches.{clean, size_over, in_flight, has_
 ghost use Rattle.lu_client_rows.specs.Caches.{noted, bytes_at, patch_at};
 ghost use Rattle.lu_client_rows.specs.Locks.{dirty_total};
 ghost use Rattle.lu_client_rows.specs.WriteBack.{is_clean};
-ghost use Rattle.lu_client_store.specs.Stored.{held_below};
 
 use super::store::Store;
 use lu_base::{Cookie, Cookies, Extent, Fid, Lock, Memory, Path, Resource, TargetId};
 use lu_cache::Known;
-use lu_held::{Held, HeldLock, LockName, Use};
+use lu_held::{HeldLock, LockName, Use};
 use lu_msg::Op;
 use lu_patch::Patch;
 use lu_places::Places;
 use std::alloc::Global;
-
-/// The held lock at this place among those of a target, in rising cookie; none past the last.
-fn held_at(held: &Held, target: TargetId, at: usize) -> Option<HeldLock>
-    ensures held { result ≡ slice_get (those (wanted.Of target) held.now.locks) at }
-    ensures sound { IsOnce held.now.locks }
-{
-    let lock = held.lock(target, at)?;
-    held.held(LockName {
-        target,
-        cookie: lock.cookie,
-    })
-    .copied()
-}
-
-/// Adds the held locks of a target, in rising cookie.
-fn add_locks(held: &Held, target: TargetId, locks: &mut Vec<HeldLock>) -> Result<(), Memory>
-    ensures added { OnOk result (locks.new.items ≡ locks.old.items ++ those (wanted.Of target) held.now.locks) }
-    ensures sound { IsOnce held.now.locks }
-{
-    let before = locks.len();
-    while let Some(lock) = held_at(held, target, locks.len() - before) {
-        locks.push(lock)?;
-    }
-    Ok(())
-}
-
-/// The lock at this place among those that are marked and not pinned, by target and then by cookie; none past the last.
-fn ready_at(held: &Held, at: usize) -> Option<HeldLock>
-    ensures held { result ≡ slice_get (those wanted.Ready held.now.locks) at }
-{
-    let (target, cookie) = held.ready_to_cancel(at)?;
-    held.held(LockName { target, cookie }).copied()
-}
-
-/// The locks that are marked and not pinned, by target and then by cookie.
-fn ready_locks(alloc: Global, held: &Held) -> Result<Vec<HeldLock>, Memory>
-    ensures ready { IfOk result (λ locks. locks.items ≡ those wanted.Ready held.now.locks) }
-{
-    let mut locks = Vec::new(alloc);
-    while let Some(lock) = ready_at(held, locks.len()) {
-        locks.push(lock)?;
-    }
-    Ok(locks)
-}
-
-/// The held locks of the targets below this one, by target and then by cookie.
-fn locks_below(alloc: Global, held: &Held, targets: u16) -> Result<Vec<HeldLock>, Memory>
-    ensures order { IfOk result (λ locks. locks.items ≡ held_below targets held.now.locks) }
-{
-    let mut locks = Vec::new(alloc);
-    for target in 0..targets {
-        add_locks(held, TargetId(target), &mut locks)?;
-    }
-    Ok(locks)
-}
 
 impl Store {
     // ---- held locks
@@ -119,20 +63,26 @@ impl Store {
         self.held.covering(target, resource, offset, at)
     }
 
-    /// The held locks of the targets below this one, by target and then by cookie.
-    pub fn in_order(&self, alloc: Global, targets: u16) -> Result<Vec<HeldLock>, Memory>
-        ensures order { IfOk result (λ locks. locks.items ≡ held_below targets self.now.store.held) }
-        ensures all { All (λ held. held.target.0 < targets) self.now.store.held
-            → IfOk result (λ locks. locks.items ≡ in_order self.now.store.held) }
+    /// The held locks by target and then by cookie.
+    pub fn in_order(&self, alloc: Global) -> Result<Vec<HeldLock>, Memory>
+        ensures order { IfOk result (λ locks. locks.items ≡ in_order self.now.store.held) }
     {
-        locks_below(alloc, &self.held, targets)
+        self.held.in_order(alloc)
+    }
+
+    /// The held locks of a target, in rising cookie.
+    pub fn locks_of(&self, alloc: Global, target: TargetId) -> Result<Vec<Lock>, Memory>
+        ensures locks { IfOk result (λ locks.
+            locks.items ≡ map lock_of (those (wanted.Of target) self.now.store.held)) }
+    {
+        self.held.of_target(alloc, target)
     }
 
     /// The held locks that are marked and not pinned, by target and then by cookie.
     pub fn ready(&self, alloc: Global) -> Result<Vec<HeldLock>, Memory>
         ensures ready { IfOk result (λ locks. locks.items ≡ those wanted.Ready self.now.store.held) }
     {
-        ready_locks(alloc, &self.held)
+        self.held.ready(alloc)
     }
 
     // ---- what is known
@@ -158,6 +108,7 @@ impl Store {
     /// The object's size that is kept for a lock that reaches the end.
     pub fn size(&self, resource: Resource, cookie: Cookie) -> Option<u64>
         ensures size { result ≡ noted resource cookie self.now.store.sizes }
+        ensures short { IfSome result (λ n. n ≤ 2 ^ 40) }
     {
         self.cache.size(resource, cookie)
     }
@@ -188,6 +139,7 @@ impl Store {
     /// The size of an object with the client's changes, where it had this one at the server.
     pub fn size_over(&self, resource: Resource, server: u64) -> u64
         ensures size { result ≡ size_over server (patch_at resource self.now.store.patches) }
+        ensures short { server ≤ 2 ^ 40 → result ≤ 2 ^ 40 }
     {
         self.patches.size_over(resource, server)
     }

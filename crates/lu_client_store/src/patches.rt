@@ -1,15 +1,16 @@
 //! A client's own changes, object by object.
 
-ghost use Rattle.std.specs.Prelude.{◌≡◌, ◌≤◌, [], false, nat_lt, length, fold, Some, unwrap_or, is_some, IfOk, OnOk, OnErr};
+ghost use Rattle.std.specs.Prelude.{◌≡◌, ◌≤◌, ◌^◌, [], false, nat_lt, length, fold, Some, unwrap_or, is_some, IfOk, IfSome, OnOk, OnErr};
 ghost use Rattle.std.specs.Option.{option_copied};
 ghost use Rattle.lu_words.specs.Words.{Changes, Acks};
 ghost use Rattle.lu_client_rows.specs.Patches.{clean, size_over, in_flight, cut_within, has_change, next_flush, dirty_in};
-ghost use Rattle.lu_client_rows.specs.Caches.{made, patch_at, patches_after};
+ghost use Rattle.lu_client_rows.specs.Caches.{patch_at, patches_after};
 ghost use Rattle.lu_client_rows.specs.Locks.{dirty_total};
 ghost use Rattle.lu_client_rows.specs.WriteBack.{is_clean};
 ghost use Rattle.lu_client_store.specs.Stored.{IsInFile, patches_sent};
 ghost use Rattle.lu_client_store.specs.Counting.{left_after};
 
+use super::objects::ObjectPatch;
 use indexmap::IndexMap;
 use lu_base::{Extent, Memory, Resource};
 use lu_patch::Patch;
@@ -21,7 +22,7 @@ use std::marker::Model;
 #[derive(Drop)]
 pub(crate) struct Patches {
     alloc: Global,
-    objects: IndexMap<Resource, Patch>,
+    objects: IndexMap<Resource, ObjectPatch>,
 }
 
 impl Model for Patches {
@@ -34,18 +35,6 @@ impl Model for Patches {
     ghost view = { λ p. p.objects.entries };
 }
 
-/// A change is made of an object's patch. After want of memory nothing has changed.
-fn make(patch: &mut Patch, change: &Flush) -> Result<(), Memory>
-    requires fits { IsInFile change.now }
-    ensures made { OnOk result (patch.new ≡ made change.now patch.old) }
-    ensures kept { OnErr result (patch.new ≡ patch.old) }
-{
-    match change {
-        Flush::Cut(n) => patch.cut(*n),
-        Flush::Put(at, bytes) => patch.write(*at, bytes.as_slice()),
-    }
-}
-
 /// How many bytes are dirty, those in flight among them.
 fn count_dirty(patch: &Patch) -> u64
     ensures count { result ≡ length patch.now.dirty }
@@ -56,15 +45,15 @@ fn count_dirty(patch: &Patch) -> u64
     })
 }
 
-/// What is left of a limit once a patch's dirty bytes are taken from it; None where it has fewer.
-fn left_after(left: Option<u64>, patch: &Patch) -> Option<u64>
-    ensures left { result ≡ left_after left (length patch.now.dirty) }
+/// What is left of a limit once an object's dirty bytes are taken from it; None where it has fewer.
+fn left_after(left: Option<u64>, object: &ObjectPatch) -> Option<u64>
+    ensures left { result ≡ left_after left (length object.now.dirty) }
 {
-    left?.checked_sub(count_dirty(patch))
+    left?.checked_sub(count_dirty(object.patch()))
 }
 
 /// What is left of a limit once the dirty bytes of all objects are taken from it; None where it has fewer.
-fn left_of_all(objects: &IndexMap<Resource, Patch>, limit: u64) -> Option<u64>
+fn left_of_all(objects: &IndexMap<Resource, ObjectPatch>, limit: u64) -> Option<u64>
     ensures { result ≡ fold (λ left object. left_after left (length object.1.dirty)) (Some limit) objects.now.entries }
 {
     objects
@@ -142,11 +131,21 @@ impl Patches {
         }
     }
 
+    /// An object's entry; none where it was never changed.
+    fn object(&self, resource: Resource) -> Option<&ObjectPatch>
+        ensures patch { unwrap_or (option_copied result) clean ≡ patch_at resource self.now }
+    {
+        self.objects.get(&resource)
+    }
+
     /// The changes of an object; none where it was never changed.
     pub(crate) fn of(&self, resource: Resource) -> Option<&Patch>
         ensures patch { unwrap_or (option_copied result) clean ≡ patch_at resource self.now }
     {
-        self.objects.get(&resource)
+        match self.object(resource) {
+            Some(object) => Some(object.patch()),
+            None => None,
+        }
     }
 
     /// Changes an object: cuts it, or writes bytes. After want of memory nothing has changed.
@@ -155,12 +154,12 @@ impl Patches {
         ensures changed { OnOk result (self.new ≡ patches_after self.old (Changes resource change.now)) }
         ensures kept { OnErr result (self.new ≡ self.old) }
     {
-        if let Some(patch) = self.objects.get_mut(&resource) {
-            return make(patch, change);
+        if let Some(object) = self.objects.get_mut(&resource) {
+            return object.change(change);
         }
-        let mut patch = Patch::new(self.alloc);
-        make(&mut patch, change)?;
-        self.objects.insert(resource, patch)?;
+        let mut object = ObjectPatch::new(self.alloc);
+        object.change(change)?;
+        self.objects.insert(resource, object)?;
         Ok(())
     }
 
@@ -173,26 +172,27 @@ impl Patches {
     ) -> Result<Option<Flush>, Memory>
         requires rests { in_flight (patch_at resource self.old) ≡ false }
         ensures flush { IfOk result (λ flush. flush ≡ next_flush within (patch_at resource self.old)) }
+        ensures in_file { IfOk result (λ flush. IfSome flush IsInFile) }
         ensures sent { IfOk result (λ flush. self.new ≡ patches_sent resource flush self.old) }
         ensures kept { OnErr result (self.new ≡ self.old) }
     {
         if within.last < within.first {
             return Ok(None);
         }
-        let Some(patch) = self.objects.get_mut(&resource) else {
+        let Some(object) = self.objects.get_mut(&resource) else {
             return Ok(None);
         };
-        patch.take_flush(within)
+        object.take_flush(within)
     }
 
     /// Takes away what was in flight of an object and wasn't touched since.
     pub(crate) fn ack(&mut self, resource: Resource)
         ensures acked { self.new ≡ patches_after self.old (Acks resource) }
     {
-        let Some(patch) = self.objects.get_mut(&resource) else {
+        let Some(object) = self.objects.get_mut(&resource) else {
             return;
         };
-        patch.ack_flush();
+        object.ack_flush();
     }
 
     /// Nothing is changed any more.
@@ -205,9 +205,10 @@ impl Patches {
     /// The size of an object with its changes, where it had this one at the server.
     pub(crate) fn size_over(&self, resource: Resource, server: u64) -> u64
         ensures size { result ≡ size_over server (patch_at resource self.now) }
+        ensures short { server ≤ 2 ^ 40 → result ≤ 2 ^ 40 }
     {
-        match self.of(resource) {
-            Some(patch) => patch.size_over(server),
+        match self.object(resource) {
+            Some(object) => object.size_over(server),
             None => server,
         }
     }

@@ -15,9 +15,10 @@ const MOST_STRIPES: usize = 8;
 
 impl Store {
     /// The size of a lock's object, in bytes: that which is kept for the lock, with the client's own changes over it. Where
-    /// none is kept, as for a lock that doesn't reach the end, it counts as 0.
+    /// none is kept, as for a lock that doesn't reach the end, it counts as 0. It is at most 2^40.
     pub fn size_under(&self, lock: &Lock) -> u64
         ensures size { result ≡ size_under lock.now self.now.store }
+        ensures short { result ≤ 2 ^ 40 }
     {
         let server = self.size(lock.resource, lock.cookie).unwrap_or(0);
         self.size_over(lock.resource, server)
@@ -26,6 +27,7 @@ impl Store {
     /// The size of a stripe's object under the lock in use on that stripe; 0 where no lock is.
     fn size_on(&self, stripe: u16, used: &[Using]) -> u64
         ensures size { result ≡ size_on stripe used.now self.now.store }
+        ensures short { result ≤ 2 ^ 40 }
     {
         for one in used {
             if one.want.resource.stripe == stripe {
@@ -40,16 +42,16 @@ impl Store {
         requires few { length into.old ≤ 8 }
         ensures sizes { into.new
             ≡ map (λ i. size_on i used.now self.now.store) (range_with_len 0 (length into.old)) }
+        ensures short { All (λ n. n ≤ 2 ^ 40) into.new }
     {
         for (stripe, size) in into.iter_mut().enumerate() {
             *size = self.size_on(stripe as u16, used);
         }
     }
 
-    /// The size of a file, in bytes, by the sizes of its objects under the locks in use; each of them is at most 2^40. The
-    /// object of a stripe with no lock in use counts as empty.
+    /// The size of a file, in bytes, by the sizes of its objects under the locks in use. The object of a stripe with no lock
+    /// in use counts as empty.
     pub fn file_size(&self, layout: &Layout, used: &[Using]) -> u64
-        requires sizes { All (λ u. size_under u.lock self.now.store ≤ 2 ^ 40) used.now }
         ensures size { result ≡ file_size layout.now (stripes layout.now) used.now self.now.store }
     {
         let mut sizes = [0; MOST_STRIPES];

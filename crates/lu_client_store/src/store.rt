@@ -5,7 +5,7 @@ ghost use Rattle.lu_base.specs.declared.ids.Who.{Who};
 ghost use Rattle.lu_held.specs.Locks.{named, name_of};
 ghost use Rattle.lu_held.specs.Held.{is_held, to_trim};
 ghost use Rattle.lu_words.specs.Words.{Hold, Drop as DropOf, Life, Pins, Unpins, Marks, Unmarks, Learns, Changes, Acks, Fills, Zeroes, Grown, Shows};
-ghost use Rattle.lu_cache.specs.Kept.{Fits};
+ghost use Rattle.lu_cache.specs.Cached.{cache_after};
 ghost use Rattle.lu_client_rows.specs.Patches.{in_flight, next_flush};
 ghost use Rattle.lu_client_rows.specs.Facts.{without_facts};
 ghost use Rattle.lu_client_rows.specs.Caches.{held_as, forgotten_bytes, forgotten_notes, patch_at};
@@ -21,7 +21,7 @@ use std::alloc::Global;
 use std::marker::Model;
 
 /// The locks that a client holds, what it knows under them, and its own changes of objects. Offsets and sizes are in
-/// bytes, from 0.
+/// bytes, from 0. No size that is kept is above 2^40, and no change reaches past it.
 #[derive(Drop)]
 pub struct Store {
     pub(crate) held: Held,
@@ -31,6 +31,7 @@ pub struct Store {
 
 impl Model for Store {
     ghost use Rattle.lu_client_store.specs.Stored.{StoreState};
+    ghost use Rattle.lu_client_store.specs.Bounds.{AreShort};
 
     ghost Value = { StoreState };
 
@@ -45,6 +46,8 @@ impl Model for Store {
         patches = s.patches;
       };
     } };
+
+    ghost invariant = { λ s. AreShort s.cache.sizes };
 }
 
 /// Holds a lock that a target granted, as the last used; it is called back already where `marked`. After want of memory
@@ -61,6 +64,18 @@ fn grant(held: &mut Held, target: TargetId, lock: &Lock, marked: bool) -> Result
         return Ok(());
     }
     Ok(())
+}
+
+/// Learns what an answer tells of names, attributes, lists and layouts. After want of memory nothing has changed.
+fn learn_names(cache: &mut Cache, op: &Op, answer: &Answer, locks: &[Lock]) -> Result<(), Memory>
+    ensures learned { OnOk result ((target : ℕ)
+        → cache.new ≡ cache_after cache.old (Learns target op.now answer.now locks.now)) }
+    ensures kept { OnErr result (cache.new ≡ cache.old) }
+{
+    if let Op::Enqueue { .. } = op {
+        return Ok(());
+    }
+    cache.know(op, answer, locks)
 }
 
 /// Forgets the facts under a lock that is given up: the metadata target's locks guard them.
@@ -106,7 +121,7 @@ impl Store {
     // ---- held locks
 
     /// Holds a lock that a target granted, as the last used; it is called back already where `marked`. Keeps the object's
-    /// size that came with it, where the lock reaches the end. After want of memory nothing has changed.
+    /// size that came with it, at most 2^40, where the lock reaches the end. After want of memory nothing has changed.
     pub fn hold(
         &mut self,
         target: TargetId,
@@ -115,6 +130,7 @@ impl Store {
         size: Option<u64>,
     ) -> Result<(), Memory>
         requires absent { is_held (named target lock.now.cookie) self.old.store.held ≡ false }
+        requires short { IfSome size (λ n. n ≤ 2 ^ 40) }
         ensures held { OnOk result ((seen : List ℕ)
             → self.new ≡ stored_after self.old (Hold target.0 lock.now marked size seen)) }
         ensures kept { OnErr result (self.new ≡ self.old) }
@@ -191,10 +207,7 @@ impl Store {
         ensures learned { OnOk result (self.new ≡ stored_after self.old (Learns target.0 op.now answer.now locks.now)) }
         ensures kept { OnErr result (self.new ≡ self.old) }
     {
-        if let Op::Enqueue { .. } = op {
-            return Ok(());
-        }
-        self.cache.know(op, answer, locks)
+        learn_names(&mut self.cache, op, answer, locks)
     }
 
     /// Bytes of an object are known from this offset on. After want of memory nothing has changed.
@@ -215,7 +228,7 @@ impl Store {
 
     /// Makes the sizes that are kept for an object those after an answered change of it.
     pub fn grow(&mut self, resource: Resource, change: &Flush)
-        requires fits { Fits change.now }
+        requires fits { IsInFile change.now }
         ensures grown { self.new ≡ stored_after self.old (Grown resource change.now) }
     {
         self.cache.grow(resource, change);
@@ -252,6 +265,7 @@ impl Store {
         requires rests { in_flight (patch_at resource self.old.store.patches) ≡ false }
         ensures flush { IfOk result (λ flush.
             flush ≡ next_flush within (patch_at resource self.old.store.patches)) }
+        ensures in_file { IfOk result (λ flush. IfSome flush IsInFile) }
         ensures sent { IfOk result (λ flush. self.new ≡ stored_sent resource flush self.old) }
         ensures kept { OnErr result (self.new ≡ self.old) }
     {

@@ -1,6 +1,6 @@
 -- A call begins on a slot: it stands there, or is told at once that its handle is bad.
 use Rattle.std.proofs.Common.{◌≡◌, ℕ, [], ◌∷◌, List, Option, Some, None, refl, sym, ap, subst, ◌∙◌}
-use Rattle.std.specs.Prelude.{option_map, slice_set}
+use Rattle.std.specs.Prelude.{slice_set}
 use Rattle.lu_base.specs.declared.ids.At.{At}
 use Rattle.lu_msg.specs.declared.answers.Answer.TheVariants as answer
 use Rattle.lu_msg.specs.declared.answers.Errno.TheVariants.{EBADF}
@@ -11,7 +11,7 @@ use Rattle.lu_words.specs.Carried.{HandleFile, Plain, Bad, Running}
 use Rattle.lu_words.specs.Words.{Entry, Begin, Told, Unbinds}
 use Rattle.lu_client_rows.specs.Calls.{call_on, calls_after, unbound}
 use Rattle.lu_client_rows.specs.Slots.{begun, refuses}
-use Rattle.lu_client_rows.specs.States.{Client, after, turn}
+use Rattle.lu_client_rows.specs.States.{after}
 use Rattle.lu_client_parts.specs.Turns.{calls_turn}
 use Rattle.lu_client_parts.proofs.Slots.{calls_begin, calls_refused}
 use Rattle.lu_client_parts.proofs.Turns.{turned_calls, turned_handles}

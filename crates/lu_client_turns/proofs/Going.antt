@@ -1,5 +1,5 @@
 -- A call that went on leaves of its client what the rows' entries make of it, once its client has done what it left.
-use Rattle.std.proofs.Common.{◌≡◌, ℕ, zero, suc, ◌<◌, ◌==◌, ◌&&◌, Bool, true, false, if◌then◌else◌, List, [], ◌∷◌, ◌++◌, length, filter, nat_lt, Option, Some, None, refl, sym, ap, subst, ◌∙◌, arith}
+use Rattle.std.proofs.Common.{◌≡◌, ℕ, zero, suc, ◌<◌, ◌==◌, Bool, true, false, if◌then◌else◌, List, [], ◌∷◌, ◌++◌, length, nat_lt, Option, Some, None, refl, sym, ap, subst, ◌∙◌, arith}
 use Rattle.std.specs.Prelude.{slice_set}
 use Rattle.std.proofs.lemmas.List.{set-set}
 use Rattle.lu_base.specs.declared.ids.At.{At}
@@ -12,17 +12,15 @@ use Rattle.lu_msg.specs.declared.operations.Op.TheVariants as op
 use Rattle.lu_trace.specs.declared.entries.Line.{Line as PrintedLine}
 use Rattle.lu_trace.specs.Turns.{Making}
 use Rattle.lu_words.specs.Carried.{HandleFile, Asking, Unasked, Asked, Answered, Stage, Plain, Running}
-use Rattle.lu_words.specs.Given.{line_of, step_lines, step_posts}
+use Rattle.lu_words.specs.Given.{line_of, step_lines, step_posts, giving}
 use Rattle.lu_words.specs.Printed.{printed_entry}
 use Rattle.lu_words.specs.Words.{Entry, Told, Queues, Stands, Binds, Pins, Unpins, Changes, WritesBack, Shows}
 use Rattle.lu_client_rows.specs.Calls.{Bound, reads_life, handles_after, call_after, call_on}
-use Rattle.lu_client_rows.specs.Facts.{Fact}
 use Rattle.lu_client_rows.specs.Imports.{Import, imports_after}
 use Rattle.lu_client_rows.specs.Slots.{goes_at, goes_on, goes, is_close}
-use Rattle.lu_client_rows.specs.Starts.{asks_names, is_on as is_on_open, count_on, starts_close, starts, answers, goes_plain}
-use Rattle.lu_client_rows.specs.States.{Client, Limits, turn}
+use Rattle.lu_client_rows.specs.Starts.{asks_names, is_on as is_on_open, starts_close, starts, answers, goes_plain}
+use Rattle.lu_client_rows.specs.States.{Client, turn}
 use Rattle.lu_client_store.specs.Stored.{StoreState, stored_after, stored_turn}
-use Rattle.lu_call.specs.declared.nexts.Binding.{Binding}
 use Rattle.lu_call.specs.declared.nexts.Next.{Next}
 use Rattle.lu_call.specs.declared.nexts.Next.TheVariants as next
 use Rattle.lu_client_rows.specs.Advances.{queued_for}
@@ -31,12 +29,11 @@ use Rattle.lu_call.specs.Starting.{alone}
 use Rattle.lu_call.specs.Turning as call_state
 use Rattle.lu_call.specs.Views.{file_of}
 use Rattle.lu_call.proofs.Going.{stored_store}
-use Rattle.lu_client_parts.specs.Giving.{giving}
-use Rattle.lu_client_parts.specs.Turns.{handles_turn, calls_turn, call_turn, imports_turn, facts_turn, none_read, is_on, all_on, serves_slot}
+use Rattle.lu_client_parts.specs.Turns.{handles_turn, calls_turn, call_turn, imports_turn, facts_turn, none_read, all_on, serves_slot}
 use Rattle.lu_client_parts.proofs.Lists.{self, both_true}
 use Rattle.lu_client_parts.proofs.Slots.{calls_turn_at}
 use Rattle.lu_client_parts.proofs.Turns.{turned, life_quiet, imports_stay}
-use Rattle.lu_client_turns.specs.Advancing.{number_of, close_number, is_crowded, begun_number, must_wait, IsAdvanced, Advances, finished, Finishes, is_plain}
+use Rattle.lu_client_turns.specs.Advancing.{number_of, close_number, is_crowded, must_wait, Advances, finished, Finishes, is_plain}
 use Rattle.lu_client_turns.specs.Clients.{ClientState, with_call, with_store, stored_of, AsksNoMore, Makes}
 use Rattle.lu_client_turns.proofs.Making.{makes_nothing, makes_as}
 use Rattle.lu_client_turns.proofs.Unasked.{asks_none, asks_nothing}
@@ -167,7 +164,7 @@ stored_unused : (s : StoreState) (es : List Entry) → (stored_turn s es).unused
 stored_unused s [] = refl
 stored_unused s (e ∷ es) = stored_unused (stored_after s e) es
 
-same_call : (slot : ℕ) (call : Option Running) (es : List Entry) → call_state.call_turn slot call es ≡ call_turn slot call es
+pub same_call : (slot : ℕ) (call : Option Running) (es : List Entry) → call_state.call_turn slot call es ≡ call_turn slot call es
 same_call slot call [] = refl
 same_call slot call (e ∷ es) = same_call slot (call_after slot call e) es
 
@@ -246,7 +243,7 @@ waited at slot c m waits = makes_as (sym (waits_on at slot c.client (call_on slo
 
 -- ---- what its client did
 
-some_inside : (slot : ℕ) (calls : List (Option Running)) (r : Running) → call_on slot calls ≡ Some r → slot < length calls
+pub some_inside : (slot : ℕ) (calls : List (Option Running)) (r : Running) → call_on slot calls ≡ Some r → slot < length calls
 some_inside slot [] r some = absurd (cc)
 some_inside zero (call ∷ calls) r some = omega arith
 some_inside (suc slot) (call ∷ calls) r some = let rest : slot < length calls = some_inside slot calls r some in omega arith

@@ -1,8 +1,6 @@
 -- The handles as a client keeps them.
-use Rattle.std.proofs.Common.{◌≡◌, ℕ, ◌+◌, ◌<◌, ◌==◌, Bool, true, false, not, if◌then◌else◌, List, [], ◌∷◌, length, take, drop, get_or, map, filter, Option, Some, None, refl, sym, ap, ◌∙◌, arith}
-use Rattle.std.specs.Prelude.{option_map}
+use Rattle.std.proofs.Common.{◌≡◌, ℕ, ◌+◌, ◌<◌, ◌==◌, Bool, true, false, not, if◌then◌else◌, List, [], ◌∷◌, length, drop, get_or, map, filter, Some, refl, ap, ◌∙◌}
 use Rattle.std.proofs.lemmas.List.{drop_more}
-use Rattle.lu_words.specs.Carried.{HandleFile}
 use Rattle.lu_client_rows.specs.Calls.{Bound, unbound, file_of}
 use Rattle.lu_call.specs.declared.nexts.Binding.{Binding}
 use Rattle.lu_client_turns.specs.Clients.{bound_of}

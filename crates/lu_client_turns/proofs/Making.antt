@@ -1,14 +1,12 @@
 -- How the parts of a client's turn are put together: none, one row after another, a row said otherwise, a line, and rows that a
 -- loop does.
-use Rattle.std.proofs.Common.{◌≡◌, Bool, false, List, [], ◌∷◌, ◌++◌, Option, Some, None, Result, Ok, Err, OnOk, refl, sym, ap, ◌∙◌}
-use Rattle.lu_base.specs.declared.ids.At.{At}
+use Rattle.std.proofs.Common.{◌≡◌, List, [], ◌∷◌, Some, None, Result, Ok, Err, OnOk, refl, sym, ap, ◌∙◌}
 use Rattle.lu_trace.specs.declared.entries.Entry.{Entry as PrintedEntry}
 use Rattle.lu_trace.specs.Turns.{Making, with_line}
-use Rattle.lu_words.specs.Given.{step_posts}
+use Rattle.lu_words.specs.Given.{step_posts, giving}
 use Rattle.lu_words.specs.Printed.{printed_entry}
 use Rattle.lu_words.specs.Words.{Entry}
 use Rattle.lu_client_rows.specs.States.{Client, turn, follow}
-use Rattle.lu_client_parts.specs.Giving.{giving}
 use Rattle.lu_client_parts.proofs.Follow as part
 use Rattle.lu_client_turns.specs.Clients.{ClientState, Makes, Remains}
 

@@ -1,11 +1,11 @@
 -- The passes over the slots.
-use Rattle.std.proofs.Common.{◌≡◌, ℕ, zero, suc, ◌+◌, ◌-◌, ◌<◌, ◌≤◌, Bool, true, false, if◌then◌else◌, List, [], ◌∷◌, ◌++◌, drop, refl, sym, ap, subst, ◌∙◌, arith}
+use Rattle.std.proofs.Common.{◌≡◌, ℕ, zero, suc, ◌+◌, ◌-◌, ◌<◌, ◌≤◌, Bool, true, false, if◌then◌else◌, List, [], ◌∷◌, drop, refl, sym, ap, subst, arith}
 use Rattle.std.specs.List.{list_any}
 use Rattle.lu_base.specs.declared.ids.At.{At}
 use Rattle.lu_trace.specs.Turns.{Making}
 use Rattle.lu_words.specs.Words.{Entry}
 use Rattle.lu_client_rows.specs.Slots.{all_slots, goes, is_free_close, passes, slots_go}
-use Rattle.lu_client_rows.specs.States.{Client, turn, follow}
+use Rattle.lu_client_rows.specs.States.{Client}
 use Rattle.lu_client_turns.specs.Clients.{ClientState, Makes, Remains}
 use Rattle.lu_client_turns.proofs.Making.{makes_end, remains_step, remains_as, remains_all, remains_at}
 

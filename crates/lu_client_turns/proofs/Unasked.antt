@@ -26,7 +26,7 @@ use Rattle.lu_msg.specs.declared.operations.Op.TheVariants as op
 use Rattle.lu_held.specs.declared.locks.Use.{Use}
 use Rattle.lu_words.specs.declared.changes.Flush.{Flush}
 use Rattle.lu_words.specs.Carried.{HandleFile, Flight, Work, Stage, Enqueued, Waits, Gets, Running}
-use Rattle.lu_words.specs.Words.{Entry, Heard, Drop, Flies, Knows, Life, Send, Stands}
+use Rattle.lu_words.specs.Words.{Entry, Heard, Drop, Flies, Knows, Life, Send}
 use Rattle.lu_words.specs.Concerns.{is_about}
 use Rattle.lu_client_rows.specs.Calls.{call_on}
 use Rattle.lu_client_rows.specs.Caches.{brought, patch_at}

@@ -159,29 +159,31 @@ gives_served who h i boot called served =
 pub gives_nothing : (h : HeldLock) (c : ClientState) (making : Making) → gives_row h c.client ≡ [] → Makes (gives_row h) c c making making
 gives_nothing h c making none = makes_as (sym none) (makes_nothing c making)
 
--- it is held no more, and its target was told
-module _ (h : HeldLock) (boot : ℕ) (old new : ClientState) (before between after : Making) (dropped : new ≡ with_store (stored_after (stored_of old) (Drop h.target.0 h.lock)) old)
-    (line : between.step ≡ with_line before.at before.step (printed.Drop h.target h.lock.cookie)) (noted_at : between.at ≡ before.at)
-    (post : after.step ≡ with_post between.at between.step (record { to = Target h.target.0; message = message.Cancel old.client.who boot h.lock.cookie })) (sent_at : after.at ≡ between.at) where
-  abbrev drop_entry : Entry
-  drop_entry = Drop h.target.0 h.lock
+-- it is held no more
+pub held_dropped : (h : HeldLock) (old new : ClientState) (before after : Making) → new ≡ with_store (stored_after (stored_of old) (Drop h.target.0 h.lock)) old
+    → after.step ≡ with_line before.at before.step (printed.Drop h.target h.lock.cookie) → after.at ≡ before.at → Makes (λ k. Drop h.target.0 h.lock ∷ []) old new before after
+held_dropped h old new before after dropped line at =
+    let e : Entry = Drop h.target.0 h.lock in
+    let shows : new.client ≡ turn old.client (e ∷ []) =
+    ap (λ (c : ClientState). c.client) dropped ∙ turned_kept old.client (facts_after old.client.facts e) (store_after old.client.store e) (e ∷ []) refl refl refl refl refl refl in
+    makes_note e refl refl line at shows (ap (λ (c : ClientState). c.limits) dropped) (ap (λ (c : ClientState). c.spent) dropped)
 
-  abbrev word : Post
-  word = record { to = Target h.target.0; message = message.Cancel old.client.who boot h.lock.cookie }
+-- and its target is told so
+module _ (h : HeldLock) (boot : ℕ) (old new : ClientState) (before between after : Making) (drops : Makes (λ k. Drop h.target.0 h.lock ∷ []) old new before between) where
+  -- by this life
+  abbrev word : Who → Post
+  word who = record { to = Target h.target.0; message = message.Cancel who boot h.lock.cookie }
 
-  drop_shows : new.client ≡ turn old.client (drop_entry ∷ [])
-  drop_shows =
-      ap (λ (c : ClientState). c.client) dropped
-      ∙ turned_kept old.client (facts_after old.client.facts drop_entry) (store_after old.client.store drop_entry) (drop_entry ∷ []) refl refl refl refl refl refl
+  same_life : new.client.who ≡ old.client.who
+  same_life = ap (λ (k : Client). k.who) drops.goes.shows
 
-  drops : Makes (λ k. drop_entry ∷ []) old new before between
-  drops = makes_note drop_entry refl refl line noted_at drop_shows (ap (λ (c : ClientState). c.limits) dropped) (ap (λ (c : ClientState). c.spent) dropped)
-
-  tells : Makes (λ k. Send word.to word.message ∷ []) new new between after
-  tells = record { goes = goes_post new.client between after word post sent_at; limits = refl; spent = refl }
-
-  pub given_back : Makes (λ k. Drop h.target.0 h.lock ∷ Send (Target h.target.0) (message.Cancel k.who boot h.lock.cookie) ∷ []) old new before after
-  given_back = makes_as {row = λ k. drop_entry ∷ Send word.to word.message ∷ []} refl (makes_on drops tells)
+  pub given_back : after.step ≡ with_post between.at between.step (word new.client.who) → after.at ≡ between.at
+      → Makes (λ k. Drop h.target.0 h.lock ∷ Send (Target h.target.0) (message.Cancel k.who boot h.lock.cookie) ∷ []) old new before after
+  given_back post sent_at =
+      let sent : Post = word old.client.who in
+      let tells : Makes (λ k. Send sent.to sent.message ∷ []) new new between after =
+      record { goes = goes_post new.client between after sent (post ∙ ap (λ (who : Who). with_post between.at between.step (word who)) same_life) sent_at; limits = refl; spent = refl } in
+      makes_as {row = λ k. Drop h.target.0 h.lock ∷ Send sent.to sent.message ∷ []} refl (makes_on drops tells)
 
 -- ---- the boot of a target that serves the life
 

@@ -1,16 +1,16 @@
 -- How a client's call goes on: which close waits for other calls, what the call leaves to its client, and what the client does
 -- with it.
-use Rattle.std.specs.Prelude.{◌≡◌, ℕ, nat_lt, if◌then◌else◌, Bool, true, false, List, [], ◌∷◌, Option, Some, None, option_map}
+use Rattle.std.specs.Prelude.{◌≡◌, ℕ, nat_lt, if◌then◌else◌, Bool, false, List, ◌∷◌, Option, Some, None, option_map}
 use Rattle.lu_base.specs.declared.ids.At.{At}
 use Rattle.lu_base.specs.declared.ids.Txn.{Txn}
 use Rattle.lu_msg.specs.declared.calls.Call.{Call}
 use Rattle.lu_msg.specs.declared.calls.Call.TheVariants as call
 use Rattle.lu_trace.specs.Turns.{Making}
-use Rattle.lu_words.specs.Carried.{HandleFile, Stage, Plain, Running}
-use Rattle.lu_words.specs.Words.{Entry, Queues}
+use Rattle.lu_words.specs.Carried.{HandleFile, Running}
+use Rattle.lu_words.specs.Words.{Queues}
 use Rattle.lu_client_rows.specs.Advances.{queued_for}
 use Rattle.lu_client_rows.specs.Calls.{Bound}
-use Rattle.lu_client_rows.specs.Imports.{Import, imports_after}
+use Rattle.lu_client_rows.specs.Imports.{imports_after}
 use Rattle.lu_client_rows.specs.Slots.{goes_at, is_close}
 use Rattle.lu_client_rows.specs.Starts.{count_on}
 use Rattle.lu_client_store.specs.Stored.{StoreState}
@@ -18,16 +18,12 @@ use Rattle.lu_call.specs.declared.nexts.Binding.{Binding}
 use Rattle.lu_call.specs.declared.nexts.Next.{Next}
 use Rattle.lu_call.specs.declared.nexts.Next.TheVariants as next
 use Rattle.lu_call.specs.Going.{GoesFrom, back_of, entries_of}
+pub use Rattle.lu_call.specs.Hearing.{is_plain}
 use Rattle.lu_call.specs.Starting.{alone}
-use Rattle.lu_client_parts.specs.Giving.{giving}
+use Rattle.lu_words.specs.Given.{giving}
 use Rattle.lu_client_turns.specs.Clients.{ClientState, bound_of, with_handles, with_call, with_imports, stored_of, with_store}
 
 -- ---- a close that waits
-
--- it has no locks to look for
-abbrev pub is_plain : Stage → Bool
-is_plain Plain = true
-is_plain _ = false
 
 -- of a close that has asked nothing, the number of its open
 abbrev pub number_of : Option HandleFile → Option Txn

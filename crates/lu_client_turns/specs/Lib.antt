@@ -1,5 +1,13 @@
 pub mod Clients
+pub mod Comings
+pub mod Accepting
 pub mod Numbers
 pub mod Advancing
 pub mod Fronts
 pub mod Visits
+pub mod Stepping
+pub mod Replies
+pub mod Answers
+pub mod Callbacks
+pub mod Recovering
+pub mod Resuming

@@ -52,7 +52,7 @@ impl Client {
     }
 
     /// The slot, 0 to 3, has this call from now on, or none.
-    fn put(&mut self, slot: u8, call: Option<CallState>)
+    pub(crate) fn put(&mut self, slot: u8, call: Option<CallState>)
         requires slot { slot < slot_count }
         ensures put { self.new ≡ with_call slot call self.old }
     {

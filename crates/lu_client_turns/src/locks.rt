@@ -12,7 +12,6 @@ ghost use Rattle.lu_client_rows.specs.Imports.{import_of};
 ghost use Rattle.lu_client_rows.specs.Locks.{is_called, must_write, trims, visits, visits_all, locks_go};
 ghost use Rattle.lu_client_rows.specs.Patches.{Patch};
 ghost use Rattle.lu_client_rows.specs.States.{Client as Rows};
-ghost use Rattle.lu_call.specs.Flushed.{AreOfTargets};
 ghost use Rattle.lu_client_turns.specs.Clients.{Makes};
 ghost use Rattle.lu_client_turns.specs.Visits.{TrimsOne, must_write_in, back_row, gives_row, boot_served};
 
@@ -21,9 +20,6 @@ use lu_base::{Ask, Extent, Lock, Memory, Mode, Node, Policy};
 use lu_held::HeldLock;
 use lu_msg::{Message, Post};
 use lu_trace::{Entry, Turn};
-
-/// The most targets that a run has: the metadata target, and eight for objects.
-const TARGETS: u16 = 9;
 
 /// Whether a lock is called back and not in use.
 fn is_called(held: &HeldLock) -> bool
@@ -74,7 +70,6 @@ impl Client {
     /// Each held lock in order of target and cookie writes its changes back or is given up. Whether too much is
     /// dirty is looked at before. After want of memory the client is of no use.
     pub fn visit_locks(&mut self, turn: &mut Turn) -> Result<(), Memory>
-        requires targets { AreOfTargets self.old.client.store }
         ensures makes { OnOk result (Makes (locks_go self.old.limits) self.old self.new turn.old turn.new) }
     {
         let over = self.store.is_dirty_above(self.dirty);
@@ -85,12 +80,11 @@ impl Client {
     /// The held locks that may need a visit, by target and then by cookie: all, where too much is dirty, or else
     /// those that are called back and not in use.
     fn to_visit(&self, over: bool) -> Result<Vec<HeldLock>, Memory>
-        requires targets { AreOfTargets self.now.client.store }
         ensures visits { IfOk result (λ locks. (k : Rows)
             → visits_all over (in_order self.now.client.store.held) k ≡ visits_all over locks.items k) }
     {
         if over {
-            return self.store.in_order(self.alloc, TARGETS);
+            return self.store.in_order(self.alloc);
         }
         self.store.ready(self.alloc)
     }
@@ -194,17 +188,25 @@ impl Client {
             ∷ Send (Target held.now.target.0) (message.Cancel k.who boot held.now.lock.cookie) ∷ [])
             self.old self.new turn.old turn.new) }
     {
-        let cookie = held.lock.cookie;
-        let target = held.target;
-        self.store.drop_lock(target, &held.lock);
-        turn.note(Entry::Drop { target, cookie })?;
+        self.drop_held(turn, held)?;
         turn.send(Post {
-            to: Node::Target(target.0),
+            to: Node::Target(held.target.0),
             message: Message::Cancel {
                 who: self.who,
                 boot,
-                cookie,
+                cookie: held.lock.cookie,
             },
         })
+    }
+
+    /// A lock is held no more.
+    pub(crate) fn drop_held(&mut self, turn: &mut Turn, held: &HeldLock) -> Result<(), Memory>
+        ensures makes { OnOk result (Makes (λ k. DropOf held.now.target.0 held.now.lock ∷ [])
+            self.old self.new turn.old turn.new) }
+    {
+        let cookie = held.lock.cookie;
+        let target = held.target;
+        self.store.drop_lock(target, &held.lock);
+        turn.note(Entry::Drop { target, cookie })
     }
 }

@@ -22,7 +22,7 @@ abbrev Others : HeldLock → HeldLock → Type 0
 Others one other = is_named (name_of one) other ≡ false
 
 -- the order
-transitive : (a b c : LockName) → is_before a b ≡ true → is_before b c ≡ true → is_before a c ≡ true
+pub transitive : (a b c : LockName) → is_before a b ≡ true → is_before b c ≡ true → is_before a c ≡ true
 transitive a b c = grind (arith, nat_tests)
 
 other_way : (a b : LockName) → is_before a b ≡ false → same_name b a ≡ false → is_before b a ≡ true
@@ -75,7 +75,7 @@ none_ahead test (first ∷ locks) held rising found = by (test first) refl found
   by false e h rest = All-cons (NotAhead test held) first locks (λ t. absurd (cc)) (rest h)
 
 -- the lock that does for a use
-both : (a b : Bool) → (a && b) ≡ true → (a ≡ true) × (b ≡ true)
+pub both : (a b : Bool) → (a && b) ≡ true → (a ≡ true) × (b ≡ true)
 both true true e = (refl, refl)
 both true false e = absurd (cc)
 both false b e = absurd (cc)
@@ -114,7 +114,7 @@ serving_none wanted locks = by (to_the_end wanted locks) (to_any wanted locks) r
   by None (Some held) e f = rw (e, f) tt
   by None None e f = rw (e, f) (from_order (λ held. serves_use wanted held ≡ false) locks (none_passes (matches (Serving wanted)) (in_order locks) f))
 
-of_target : (wanted : Use) (held : HeldLock) → serves_use wanted held ≡ true → (held.target.0 == wanted.target.0) ≡ true
+pub of_target : (wanted : Use) (held : HeldLock) → serves_use wanted held ≡ true → (held.target.0 == wanted.target.0) ≡ true
 of_target wanted held does =
     let two : (is_for wanted.target wanted.resource held && serves held.lock.ask.mode wanted.mode) ≡ true = (both (is_for wanted.target wanted.resource held && serves held.lock.ask.mode wanted.mode) (covers held.lock.ask.policy wanted.policy) does).0 in
     let fits : is_for wanted.target wanted.resource held ≡ true = (both (is_for wanted.target wanted.resource held) (serves held.lock.ask.mode wanted.mode) two).0 in

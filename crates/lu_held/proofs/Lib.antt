@@ -6,3 +6,7 @@ pub mod Looks
 pub mod Trims
 pub mod Unmarks
 pub mod Choices
+pub mod Places
+pub mod Indexes
+pub mod Marks
+pub mod AtTarget

@@ -72,3 +72,13 @@ none_passes test (x ∷ xs) none = by (test x) refl none (none_passes test xs) w
   by : (here : Bool) → test x ≡ here → slice_get (cond here (x ∷ filter test xs) (filter test xs)) 0 ≡ None → (slice_get (filter test xs) 0 ≡ None → All (λ y. test y ≡ false) xs) → All (λ y. test y ≡ false) (x ∷ xs)
   by true e h rest = absurd (cc)
   by false e h rest = All-cons (λ y. test y ≡ false) x xs e (rest h)
+
+-- a filter by what a second test follows from
+pub filter_within : {A : Type 0} (test wider : A → Bool) → ((x : A) → test x ≡ true → wider x ≡ true) → (xs : List A) → filter test (filter wider xs) ≡ filter test xs
+filter_within test wider follows [] = refl
+filter_within test wider follows (x ∷ xs) = by (wider x) (test x) refl refl (filter_within test wider follows xs) where
+  by : (there here : Bool) → wider x ≡ there → test x ≡ here → filter test (filter wider xs) ≡ filter test xs → filter test (cond there (x ∷ filter wider xs) (filter wider xs)) ≡ cond here (x ∷ filter test xs) (filter test xs)
+  by true true e f rest = rw f (ap (λ more. x ∷ more) rest)
+  by true false e f rest = rw f rest
+  by false true e f rest = let on : wider x ≡ true = follows x f in absurd (cc)
+  by false false e f rest = rest

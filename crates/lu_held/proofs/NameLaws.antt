@@ -46,7 +46,7 @@ commute_two a b apart false true g h = rw (h, g) refl
 commute_two a b apart true true g h = absurd (grind (arith, nat_tests))
 commute_two a b apart false false g h = absurd (grind (arith, nat_tests))
 
-commute : (a b : LockName) → Apart a b → (names : List LockName) → with_name a (with_name b names) ≡ with_name b (with_name a names)
+pub commute : (a b : LockName) → Apart a b → (names : List LockName) → with_name a (with_name b names) ≡ with_name b (with_name a names)
 commute a b apart [] = commute_two a b apart (is_before a b) (is_before b a) refl refl
 commute a b apart (x ∷ names) = by (is_before x a) (is_before x b) refl refl (commute a b apart names) where
   by : (v w : Bool) → is_before x a ≡ v → is_before x b ≡ w → with_name a (with_name b names) ≡ with_name b (with_name a names) → with_name a (with_name b (x ∷ names)) ≡ with_name b (with_name a (x ∷ names))
@@ -67,7 +67,7 @@ all_sorted P [] all = all
 all_sorted P (name ∷ names) all = all_with P name (sorted names) (all 0 name (omega arith)) (all_sorted P names (rest_all P name names all))
 
 -- what was put in and is taken out again
-filter_with : (name : LockName) (names : List LockName) → filter (others name) (with_name name names) ≡ filter (others name) names
+pub filter_with : (name : LockName) (names : List LockName) → filter (others name) (with_name name names) ≡ filter (others name) names
 filter_with name [] = rw (same_self name) refl
 filter_with name (first ∷ names) = by (is_before first name) refl (filter_with name names) where
   by : (before : Bool) → is_before first name ≡ before → filter (others name) (with_name name names) ≡ filter (others name) names → filter (others name) (with_name name (first ∷ names)) ≡ filter (others name) (first ∷ names)

@@ -32,7 +32,7 @@ no_mark : (there : Bool) → (there && false) ≡ false
 no_mark true = refl
 no_mark false = refl
 
-none_behind : (name : LockName) (first : HeldLock) (locks : List HeldLock) → Once (first ∷ locks) → is_named name first ≡ true → All (λ other. is_named name other ≡ false) locks
+pub none_behind : (name : LockName) (first : HeldLock) (locks : List HeldLock) → Once (first ∷ locks) → is_named name first ≡ true → All (λ other. is_named name other ≡ false) locks
 none_behind name first locks once e =
     subst (λ n. All (λ other. is_named n other ≡ false) locks) (sym (same_is name (name_of first) e)) (first_pairs (λ one other. is_named (name_of one) other ≡ false) first locks once)
 

@@ -1,15 +1,16 @@
 //! The locks that a client holds, in order of their last use (this project's profile; the bound on unused locks is
 //! that of Lustre Operations Manual, the size of the lock lists).
 
-ghost use Rattle.std.specs.Prelude.{◌≡◌, ◌≤◌, ◌<◌, false, if◌then◌else◌, [], ◌∷◌, length, map, filter, find, fold, count_by, slice_get, option_map, Option, Some, None, IfOk, OnOk, OnErr, IfSome, IfNone};
+ghost use Rattle.std.specs.Prelude.{◌≡◌, ◌≤◌, ◌+◌, ◌-◌, ◌^◌, true, AllPairs, vec_capacity, ◌<◌, false, if◌then◌else◌, [], ◌∷◌, length, map, filter, find, fold, count_by, slice_get, option_map, Option, Some, None, IfOk, OnOk, OnErr, IfSome, IfNone};
 ghost use Rattle.std.specs.Option.{option_copied};
-ghost use Rattle.std.specs.Map.{lookup};
+ghost use Rattle.std.specs.Map.{lookup, set_value};
+ghost use Rattle.std.specs.List.{filter_map, insert};
 ghost use Rattle.lu_held.specs.declared.locks.Change.TheVariants as change;
 ghost use Rattle.lu_held.specs.declared.locks.Wanted.TheVariants as wanted;
-ghost use Rattle.lu_held.specs.Names.{same_name};
-ghost use Rattle.lu_held.specs.Locks.{named, name_of, use_of, lock_of, cookie_of, pair_of, is_named, is_free};
-ghost use Rattle.lu_held.specs.Held.{HeldState, granted, is_held, with_change, with_last, without, unmarked, those, serving, last_of, to_trim, trimmed, IsSound};
-ghost use Rattle.lu_held.specs.Kept.{unbounded, is_asked};
+ghost use Rattle.lu_held.specs.Names.{same_name, with_name, IsEarlier};
+ghost use Rattle.lu_held.specs.Locks.{named, name_of, use_of, lock_of, cookie_of, pair_of, after, is_named, is_free};
+ghost use Rattle.lu_held.specs.Held.{HeldState, granted, is_held, with_change, with_last, without, unmarked, in_order, those, serving, last_of, to_trim, trimmed, IsSound};
+ghost use Rattle.lu_held.specs.Kept.{unbounded, remarked, recounted, names_at, names_for, is_asked, asked};
 
 use super::locks::{Change, HeldLock, Use, Wanted};
 use super::names::LockName;
@@ -17,6 +18,7 @@ use lru::LruCache;
 use lu_base::{Cookie, Cookies, Lock, Memory, Mode, Policy, Resource, TargetId};
 use std::alloc::{AllocError, Global};
 use std::collections::BTreeSet;
+use std::collections::btree_set::Range;
 use std::marker::Model;
 
 /// All locks that a client holds, of all targets, each with a count of pins and a mark. A lock is last used
@@ -29,10 +31,15 @@ pub struct Held {
     uses: LruCache<LockName, HeldLock>,
     /// Their names, by target and then by cookie.
     names: BTreeSet<LockName>,
+    /// The names of the marked ones in the same order, with room for the names of all.
+    marked: Vec<LockName>,
+    /// How many are neither pinned nor marked.
+    free: usize,
 }
 
 impl Model for Held {
     ghost use Rattle.std.specs.Map.{values_of};
+    ghost use Rattle.std.specs.Prelude.{vec_capacity};
     ghost use Rattle.lu_held.specs.Held.{HeldState};
     ghost use Rattle.lu_held.specs.Kept.{IsStored};
 
@@ -40,7 +47,7 @@ impl Model for Held {
 
     ghost view = { λ h. record { unused = h.unused; locks = values_of h.uses.entries } };
 
-    ghost invariant = { λ h. IsStored h.names.keys h.uses };
+    ghost invariant = { λ h. IsStored h.names.keys h.uses h.marked.items (vec_capacity h.marked) h.free };
 }
 
 impl Held {
@@ -53,6 +60,8 @@ impl Held {
             unused,
             uses: LruCache::unbounded(alloc)?,
             names: BTreeSet::new(alloc),
+            marked: Vec::new(alloc),
+            free: 0,
         })
     }
 
@@ -71,11 +80,13 @@ impl Held {
             marked: false,
         };
         let name = held.name();
+        make_room(&mut self.marked, self.uses.len())?;
         put_first(&mut self.uses, name, held)?;
         if self.names.insert(name).is_err() {
             self.uses.pop(&name);
             return Err(Memory);
         }
+        self.free += 1;
         Ok(())
     }
 
@@ -179,8 +190,13 @@ impl Held {
         ensures sound { IsSound self.new }
     {
         let name = LockName { target, cookie };
+        let Some(held) = self.uses.pop(&name) else {
+            return false;
+        };
         self.names.remove(&name);
-        self.uses.pop(&name).is_some()
+        remark(&mut self.marked, name, held.marked, false);
+        self.free = recounted(self.free, held.is_free(), false);
+        true
     }
 
     /// The held locks of this target in rising cookie, from place 0 on; none past the last.
@@ -193,6 +209,33 @@ impl Held {
         Some(&held.lock)
     }
 
+    /// All held locks, by target and then by cookie.
+    pub fn in_order(&self, alloc: Global) -> Result<Vec<HeldLock>, Memory>
+        ensures order { IfOk result (λ locks. locks.items ≡ in_order self.now.locks) }
+        ensures sound { IsSound self.now }
+    {
+        Ok(locks_in_order(alloc, &self.names, &self.uses)?)
+    }
+
+    /// The marked locks that aren't pinned, by target and then by cookie.
+    pub fn ready(&self, alloc: Global) -> Result<Vec<HeldLock>, Memory>
+        ensures ready { IfOk result (λ locks. locks.items ≡ those wanted.Ready self.now.locks) }
+        ensures sound { IsSound self.now }
+    {
+        let marked = self.marked.as_slice();
+        Ok(locks_among(alloc, marked, &self.uses, Wanted::Ready)?)
+    }
+
+    /// The locks of this target in rising cookie.
+    pub fn of_target(&self, alloc: Global, target: TargetId) -> Result<Vec<Lock>, Memory>
+        ensures locks { IfOk result (λ locks.
+            locks.items ≡ map lock_of (those (wanted.Of target) self.now.locks)) }
+        ensures sound { IsSound self.now }
+    {
+        let locks = granted_among(alloc, &self.names, &self.uses, Wanted::Of(target))?;
+        Ok(locks)
+    }
+
     /// The cookies of the marked locks of this target, rising.
     pub fn marked(&self, alloc: Global, target: TargetId) -> Result<Cookies, Memory>
         ensures marked { IfOk result (λ cookies.
@@ -200,7 +243,7 @@ impl Held {
         ensures sound { IsSound self.now }
     {
         let wanted = Wanted::Marked(target);
-        let cookies = cookies_among(alloc, &self.names, &self.uses, wanted)?;
+        let cookies = cookies_among(alloc, self.marked.as_slice(), &self.uses, wanted)?;
         Ok(Cookies::from(cookies))
     }
 
@@ -244,6 +287,9 @@ impl Held {
         ensures name { result ≡ option_map name_of (slice_get (those wanted self.now.locks) at) }
         ensures sound { IsSound self.now }
     {
+        if wanted.is_of_marked() {
+            return marked_among(self.marked.as_slice(), &self.uses, wanted, at);
+        }
         name_among(&self.names, &self.uses, wanted, at)
     }
 
@@ -262,10 +308,13 @@ impl Held {
         ensures changed { self.new ≡ with_change name change self.old }
         ensures sound { IsSound self.new }
     {
-        let Some(held) = self.uses.peek_mut(&name) else {
+        prove!(self.uses.len() < usize::MAX);
+        let Some(was) = write(&mut self.uses, name, change) else {
             return false;
         };
-        *held = held.after(change);
+        let now = was.after(change);
+        remark(&mut self.marked, name, was.marked, now.marked);
+        self.free = recounted(self.free, was.is_free(), now.is_free());
         true
     }
 
@@ -281,7 +330,7 @@ impl Held {
     fn free(&self) -> usize
         ensures { result ≡ length (filter is_free self.now.locks) }
     {
-        free_among(&self.uses)
+        self.free
     }
 
     /// The name of the least recently used lock that is neither pinned nor marked.
@@ -309,6 +358,85 @@ fn put_first(
     Ok(())
 }
 
+/// Makes room for the names of as many locks as are held and one more.
+fn make_room(marked: &mut Vec<LockName>, held: usize) -> Result<(), Memory>
+    requires few { held < 2 ^ 63 }
+    ensures same { marked.new.items ≡ marked.old.items }
+    ensures room { OnOk result (held + 1 ≤ vec_capacity marked.new) }
+    ensures larger { vec_capacity marked.old ≤ vec_capacity marked.new }
+{
+    marked.reserve(held + 1)?;
+    Ok(())
+}
+
+/// Does this to the lock of this name, and answers what it was before; none where none is there.
+fn write(
+    uses: &mut LruCache<LockName, HeldLock>,
+    name: LockName,
+    change: Change,
+) -> Option<HeldLock>
+    ensures found { result ≡ lookup (same_name name) uses.old.entries }
+    ensures written { IfSome result (λ was.
+        uses.new.entries ≡ set_value (same_name name) uses.old.entries (after change was)) }
+    ensures kept { IfNone result (uses.new.entries ≡ uses.old.entries) }
+    ensures room { uses.new.cap ≡ uses.old.cap }
+{
+    let held = uses.peek_mut(&name)?;
+    let was = *held;
+    *held = was.after(change);
+    Some(was)
+}
+
+/// How many are free, once one of them is free or not, as it was or wasn't.
+fn recounted(free: usize, was: bool, now: bool) -> usize
+    requires room { was ≡ false → now ≡ true → free < 2 ^ 64 - 1 }
+    ensures { result ≡ recounted was now free }
+{
+    match (was, now) {
+        (true, false) => free.saturating_sub(1),
+        (false, true) => free + 1,
+        _ => free,
+    }
+}
+
+/// Puts this name in among those of the marked locks, or takes it away, where its lock is marked or not and wasn't or
+/// was.
+fn remark(marked: &mut Vec<LockName>, name: LockName, was: bool, now: bool)
+    requires order { AllPairs IsEarlier marked.old.items }
+    requires room { was ≡ false → now ≡ true → length marked.old.items < vec_capacity marked.old }
+    ensures names { marked.new.items ≡ remarked name was now marked.old.items }
+    ensures larger { vec_capacity marked.old ≤ vec_capacity marked.new }
+{
+    match (was, now) {
+        (true, false) => marked.retain(|other| *other != name),
+        (false, true) => put_name(marked, name),
+        _ => {}
+    }
+}
+
+/// Puts a name in among others that are in order.
+fn put_name(names: &mut Vec<LockName>, name: LockName)
+    requires order { AllPairs IsEarlier names.old.items }
+    requires room { length names.old.items < vec_capacity names.old }
+    ensures names { names.new.items ≡ with_name name names.old.items }
+    ensures larger { vec_capacity names.old ≤ vec_capacity names.new }
+{
+    let at = place_of(names.as_slice(), name);
+    match names.insert(at, name) {
+        Ok(()) => {}
+        Err(_) => unreachable!(),
+    }
+}
+
+/// Where a name goes among others that are in order.
+fn place_of(names: &[LockName], name: LockName) -> usize
+    requires order { AllPairs IsEarlier names.now }
+    ensures within { result ≤ length names.now }
+    ensures place { insert names.now result name ≡ with_name name names.now }
+{
+    names.partition_point(|other| other.is_before(name))
+}
+
 /// Whether the lock of this name is one of those that are looked for.
 fn is_wanted(uses: &LruCache<LockName, HeldLock>, name: &LockName, wanted: Wanted) -> bool
     ensures { result ≡ is_asked wanted uses.now.entries name.now }
@@ -319,6 +447,44 @@ fn is_wanted(uses: &LruCache<LockName, HeldLock>, name: &LockName, wanted: Wante
     }
 }
 
+/// The first name that a lock of this target may have.
+fn first_name(target: TargetId) -> LockName
+    ensures { result ≡ named target (record { 0 = 0 }) }
+{
+    LockName {
+        target,
+        cookie: Cookie(0),
+    }
+}
+
+/// All names.
+fn all_names(names: &BTreeSet<LockName>) -> Range<'_, LockName>
+    ensures { result ≡ names.now.keys }
+{
+    names.range(..)
+}
+
+/// The names of this target's locks; of the last target that there is, all names.
+fn names_at(names: &BTreeSet<LockName>, target: TargetId) -> Range<'_, LockName>
+    ensures { result ≡ names_at target names.now.keys }
+{
+    if target.0 < u16::MAX {
+        names.range(first_name(target)..first_name(TargetId(target.0 + 1)))
+    } else {
+        all_names(names)
+    }
+}
+
+/// The names among which these locks are looked for.
+fn names_for(names: &BTreeSet<LockName>, wanted: Wanted) -> Range<'_, LockName>
+    ensures { result ≡ names_for wanted names.now.keys }
+{
+    match wanted.target() {
+        Some(target) => names_at(names, target),
+        None => all_names(names),
+    }
+}
+
 /// The name at this place of those whose locks are looked for; none past the last.
 fn name_among(
     names: &BTreeSet<LockName>,
@@ -326,7 +492,22 @@ fn name_among(
     wanted: Wanted,
     at: usize,
 ) -> Option<LockName>
-    ensures { result ≡ slice_get (filter (is_asked wanted uses.now.entries) names.now.keys) at }
+    ensures { result ≡ slice_get (filter (is_asked wanted uses.now.entries) (names_for wanted names.now.keys)) at }
+{
+    names_for(names, wanted)
+        .filter(|name| is_wanted(uses, *name, wanted))
+        .nth(at)
+        .copied()
+}
+
+/// The same among these names.
+fn marked_among(
+    names: &[LockName],
+    uses: &LruCache<LockName, HeldLock>,
+    wanted: Wanted,
+    at: usize,
+) -> Option<LockName>
+    ensures { result ≡ slice_get (filter (is_asked wanted uses.now.entries) names.now) at }
 {
     names
         .iter()
@@ -335,28 +516,72 @@ fn name_among(
         .copied()
 }
 
-/// The cookies of the locks that are looked for, in the order of their names.
-fn cookies_among(
+/// The lock of this name, where it is one of those that are looked for.
+fn asked(uses: &LruCache<LockName, HeldLock>, name: &LockName, wanted: Wanted) -> Option<HeldLock>
+    ensures { result ≡ asked wanted uses.now.entries name.now }
+{
+    uses.peek(name).copied().filter(|held| held.matches(wanted))
+}
+
+/// The locks of these names, in the order of the names.
+fn locks_in_order(
+    alloc: Global,
+    names: &BTreeSet<LockName>,
+    uses: &LruCache<LockName, HeldLock>,
+) -> Result<Vec<HeldLock>, AllocError>
+    ensures { IfOk result (λ locks. locks.items ≡ filter_map (λ name. lookup (same_name name) uses.now.entries) names.now.keys) }
+{
+    names
+        .iter()
+        .filter_map(|name| uses.peek(name).copied())
+        .collect(alloc)
+}
+
+/// The locks that are looked for, in the order of their names.
+fn locks_among(
+    alloc: Global,
+    names: &[LockName],
+    uses: &LruCache<LockName, HeldLock>,
+    wanted: Wanted,
+) -> Result<Vec<HeldLock>, AllocError>
+    ensures { IfOk result (λ locks. locks.items ≡ filter_map (asked wanted uses.now.entries) names.now) }
+{
+    names
+        .iter()
+        .filter_map(|name| asked(uses, name, wanted))
+        .collect(alloc)
+}
+
+/// The same, as they were granted.
+fn granted_among(
     alloc: Global,
     names: &BTreeSet<LockName>,
     uses: &LruCache<LockName, HeldLock>,
     wanted: Wanted,
+) -> Result<Vec<Lock>, AllocError>
+    ensures { IfOk result (λ locks. locks.items
+        ≡ filter_map (λ name. option_map lock_of (asked wanted uses.now.entries name)) (names_for wanted names.now.keys)) }
+{
+    names_for(names, wanted)
+        .filter_map(|name| Some(asked(uses, name, wanted)?.lock))
+        .collect(alloc)
+}
+
+/// The cookies of the locks that are looked for, in the order of their names.
+fn cookies_among(
+    alloc: Global,
+    names: &[LockName],
+    uses: &LruCache<LockName, HeldLock>,
+    wanted: Wanted,
 ) -> Result<Vec<Cookie>, AllocError>
     ensures { IfOk result (λ cookies. cookies.items
-        ≡ map (λ name. name.cookie) (filter (is_asked wanted uses.now.entries) names.now.keys)) }
+        ≡ map (λ name. name.cookie) (filter (is_asked wanted uses.now.entries) names.now)) }
 {
     names
         .iter()
         .filter(|name| is_wanted(uses, *name, wanted))
         .map(|name| name.cookie)
         .collect(alloc)
-}
-
-/// How many locks are neither pinned nor marked.
-fn free_among(uses: &LruCache<LockName, HeldLock>) -> usize
-    ensures { result ≡ count_by (λ entry. is_free entry.1) uses.now.entries }
-{
-    uses.iter().filter(|entry| entry.1.is_free()).count()
 }
 
 /// The name of the last lock that is neither pinned nor marked.

@@ -2,6 +2,7 @@
 
 ghost use Rattle.std.specs.Prelude.{◌≡◌};
 ghost use Rattle.lu_held.specs.Locks.{name_of, after, same_resource, reaches_end, holds_offset, is_for, serves_use, matches, is_free};
+ghost use Rattle.lu_held.specs.Kept.{of_marked, target_of};
 ghost use Rattle.lu_base.specs.declared.locks.Policy.TheVariants as policy;
 ghost use Rattle.lu_lock.specs.Overlap.{covers};
 
@@ -165,5 +166,29 @@ impl HeldLock {
         ensures { result ≡ is_free self.now }
     {
         self.pins == 0 && !self.marked
+    }
+}
+
+impl Wanted {
+    /// Whether only marked locks are looked for.
+    pub(crate) fn is_of_marked(&self) -> bool
+        ensures { result ≡ of_marked self.now }
+    {
+        match self {
+            Wanted::Marked(_) | Wanted::Ready => true,
+            _ => false,
+        }
+    }
+
+    /// The target of which locks are looked for, if it is one.
+    pub(crate) fn target(&self) -> Option<TargetId>
+        ensures { result ≡ target_of self.now }
+    {
+        match *self {
+            Wanted::Of(target) | Wanted::Marked(target) => Some(target),
+            Wanted::Ready => None,
+            Wanted::Serving(wanted) | Wanted::ServingToTheEnd(wanted) => Some(wanted.target),
+            Wanted::Holding(target, _, _) => Some(target),
+        }
     }
 }

@@ -135,3 +135,32 @@ fn locks_are_marked_pinned_and_trimmed(rt: HostRuntime) -> Result<(), Fail> {
     }
     Ok(())
 }
+
+/// In rising cookie: all locks, those that are to be given back and aren't pinned, and those of the target.
+#[test]
+fn the_lists_stand_in_rising_cookie(rt: HostRuntime) -> Result<(), Fail> {
+    let mut held = four(rt.alloc())?;
+    for step in [
+        Step::Block(5),
+        Step::Block(3),
+        Step::Block(2),
+        Step::Pin(2),
+        Step::Remove(4),
+    ] {
+        perform(&mut held, step);
+    }
+    let all = held.in_order(rt.alloc())?;
+    let ready = held.ready(rt.alloc())?;
+    let granted = held.of_target(rt.alloc(), T1)?;
+    for (place, cookie, to_cancel) in [
+        (0, Some(Cookie(2)), Some(Cookie(3))),
+        (1, Some(Cookie(3)), Some(Cookie(5))),
+        (2, Some(Cookie(5)), None),
+        (3, None, None),
+    ] {
+        assert_eq!(rt; all.get(place).map(|held| held.lock.cookie), cookie);
+        assert_eq!(rt; ready.get(place).map(|held| held.lock.cookie), to_cancel);
+        assert_eq!(rt; granted.get(place).map(|lock| lock.cookie), cookie);
+    }
+    Ok(())
+}

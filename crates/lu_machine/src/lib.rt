@@ -7,7 +7,9 @@
 
 mod acts;
 mod child;
+mod forms;
 pub mod theorems;
 
 pub use acts::{Act, Deed};
 pub use child::Child;
+pub use forms::answer_fits;

@@ -3,10 +3,10 @@
 ghost use Rattle.std.specs.Prelude.{◌≡◌, ◌*◌, ◌^◌, ◌<◌, ◌≤◌, true, All};
 ghost use Rattle.lu_txn.specs.Loads.{AreBelow};
 
-use crate::steps::{A, B, C, D, Step, first, looked, perform_all};
+use crate::steps::{A, B, C, D, Step, are_looked_up, first, have_lives, perform_all};
 use lu_base::{Memory, Numbers, Txn, Who};
 use lu_disk::{Disk, MemoryDisk};
-use lu_msg::{Batch, Transaction};
+use lu_msg::{Batch, KeptReply, Transaction};
 use lu_txn::Journal;
 use std::alloc::Global;
 use std::process::Abort;
@@ -15,6 +15,7 @@ use std::test::Fail;
 /// What is done since the last commit, up to which place all is committed then (none where nothing is), and what the
 /// batch must hold: the boot, the counts of its transactions, their replies by life, tag and number, and the lives whose
 /// slots came and went.
+#[derive(Clone, Copy)]
 struct Row {
     steps: &'static [Step],
     place: Option<usize>,
@@ -24,95 +25,6 @@ struct Row {
     added: &'static [Who],
     removed: &'static [Who],
 }
-
-const ROWS: [Row; 8] = [
-    Row {
-        steps: &[],
-        place: None,
-        boot: 1,
-        counts: &[],
-        replies: &[],
-        added: &[A, B],
-        removed: &[],
-    },
-    Row {
-        steps: &[
-            Step::Makes(A, 0, 1, b'a'),
-            Step::Makes(B, 0, 1, b'b'),
-            Step::Makes(A, 0, 2, b'c'),
-            Step::Reads(A, 0, 3),
-        ],
-        place: Some(1),
-        boot: 0,
-        counts: &[1, 2],
-        replies: &[(A, 0, 1), (B, 0, 1)],
-        added: &[],
-        removed: &[],
-    },
-    Row {
-        steps: &[],
-        place: Some(0),
-        boot: 0,
-        counts: &[3],
-        replies: &[(A, 0, 2)],
-        added: &[],
-        removed: &[],
-    },
-    Row {
-        steps: &[Step::Drops(B), Step::Adds(C), Step::Adds(A), Step::Drops(D)],
-        place: None,
-        boot: 0,
-        counts: &[],
-        replies: &[],
-        added: &[C],
-        removed: &[B],
-    },
-    Row {
-        steps: &[Step::Adds(D), Step::Drops(D)],
-        place: None,
-        boot: 0,
-        counts: &[],
-        replies: &[],
-        added: &[],
-        removed: &[D],
-    },
-    Row {
-        steps: &[
-            Step::Makes(C, 0, 1, b'd'),
-            Step::Makes(A, 3, 9, b'e'),
-            Step::Makes(A, 1, 7, b'f'),
-            Step::Makes(A, 1, 8, b'g'),
-        ],
-        place: Some(3),
-        boot: 0,
-        counts: &[4, 5, 6, 7],
-        replies: &[(A, 1, 8), (A, 3, 9), (C, 0, 1)],
-        added: &[],
-        removed: &[],
-    },
-    Row {
-        steps: &[],
-        place: None,
-        boot: 0,
-        counts: &[],
-        replies: &[],
-        added: &[],
-        removed: &[],
-    },
-    Row {
-        steps: &[
-            Step::Makes(A, 1, 9, b'h'),
-            Step::Makes(A, 1, 10, b'i'),
-            Step::Makes(A, 2, 1, b'j'),
-        ],
-        place: Some(0),
-        boot: 0,
-        counts: &[8],
-        replies: &[(A, 1, 9)],
-        added: &[],
-        removed: &[],
-    },
-];
 
 /// The number up to which all up to this place is committed; the last committed one where there is no such place.
 fn number_at(journal: &Journal, place: Option<usize>) -> Txn
@@ -125,68 +37,87 @@ fn number_at(journal: &Journal, place: Option<usize>) -> Txn
     }
 }
 
-/// The counts of a batch's transactions, all of boot 1.
-fn counts(alloc: Global, batch: &Batch) -> Result<Vec<u64>, Fail> {
-    let transactions = batch.transactions.as_slice();
-    Ok(
-        transactions
-            .iter()
-            .map(|made| made.txn.0 % 4_294_967_296)
-            .collect(alloc)?,
-    )
+/// Whether the transactions of a batch, all of boot 1, have these counts.
+fn have_counts(transactions: &[Transaction], counts: &[u64]) -> bool {
+    let mut pairs = transactions.iter().zip(counts);
+    transactions.len() == counts.len()
+        && pairs.all(|(made, count)| made.txn.0 % 4_294_967_296 == *count)
 }
 
-/// A batch's replies by life, tag and number.
-fn replies(alloc: Global, batch: &Batch) -> Result<Vec<(Who, u8, u64)>, Fail> {
-    let replies = batch.replies.as_slice();
-    Ok(
-        replies
-            .iter()
-            .map(|kept| (kept.who, kept.tag, kept.reply.xid.0))
-            .collect(alloc)?,
-    )
+/// Whether a reply is kept for this life, tag and number.
+fn is_kept(kept: &KeptReply, wanted: (Who, u8, u64)) -> bool {
+    let (who, tag, xid) = wanted;
+    kept.who == who && kept.tag == tag && kept.reply.xid.0 == xid
 }
 
-/// The disk and the journal after these rows.
-fn after_rows(alloc: Global, rows: &[Row]) -> Result<(MemoryDisk, Journal), Fail> {
+/// Whether replies are kept for these lives, tags and numbers.
+fn are_kept(replies: &[KeptReply], wanted: &[(Who, u8, u64)]) -> bool {
+    let mut pairs = replies.iter().zip(wanted);
+    replies.len() == wanted.len() && pairs.all(|(kept, wanted)| is_kept(kept, *wanted))
+}
+
+/// The batch holds what its row says.
+fn is_right(rt: &impl Abort, batch: &Batch, row: &Row) {
+    assert!(rt; batch.boot == row.boot);
+    assert!(rt; have_counts(batch.transactions.as_slice(), row.counts));
+    assert!(rt; are_kept(batch.replies.as_slice(), row.replies));
+    assert!(rt; batch.added.as_slice() == row.added);
+    assert!(rt; batch.removed.as_slice() == row.removed);
+}
+
+/// The batch of all up to this number goes to the disk, and holds what its row says.
+fn stores(
+    rt: &impl Abort,
+    disk: &mut MemoryDisk,
+    journal: &Journal,
+    to: Txn,
+    row: &Row,
+) -> Result<(), Fail> {
+    let batch = journal.batch(to)?;
+    is_right(rt, &batch, row);
+    disk.commit(&batch)?;
+    Ok(())
+}
+
+/// What the row says is done, and committed.
+fn commits(
+    rt: &impl Abort,
+    alloc: Global,
+    disk: &mut MemoryDisk,
+    journal: &mut Journal,
+    row: &Row,
+) -> Result<(), Fail> {
+    perform_all(alloc, journal, row.steps)?;
+    let to = number_at(journal, row.place);
+    stores(rt, disk, journal, to, row)?;
+    journal.committed(to);
+    assert!(rt; journal.last_committed() == to);
+    Ok(())
+}
+
+/// The disk and the journal after these rows, of which each batch holds what its row says.
+fn after_rows(rt: &impl Abort, alloc: Global, rows: &[Row]) -> Result<(MemoryDisk, Journal), Fail> {
     let mut disk = MemoryDisk::new(alloc, Numbers::new(alloc));
     let mut journal = Journal::start(alloc, &[B, A])?;
     for row in rows {
-        perform_all(alloc, &mut journal, row.steps)?;
-        let to = number_at(&journal, row.place);
-        disk.commit(&journal.batch(to)?)?;
-        journal.committed(to);
+        commits(rt, alloc, &mut disk, &mut journal, row)?;
     }
     Ok((disk, journal))
 }
 
-/// Each batch holds what its row says.
-fn batches_are_right(rt: &impl Abort, alloc: Global, rows: &[Row]) -> Result<(), Fail> {
-    let mut journal = Journal::start(alloc, &[B, A])?;
-    for row in rows {
-        perform_all(alloc, &mut journal, row.steps)?;
-        let to = number_at(&journal, row.place);
-        let batch = journal.batch(to)?;
-        assert_eq!(rt; batch.boot, row.boot);
-        assert_eq!(rt; counts(alloc, &batch)?.as_slice(), row.counts);
-        assert_eq!(rt; replies(alloc, &batch)?.as_slice(), row.replies);
-        assert_eq!(rt; batch.added.as_slice(), row.added);
-        assert_eq!(rt; batch.removed.as_slice(), row.removed);
-        journal.committed(to);
-        assert_eq!(rt; journal.last_committed(), to);
-    }
+/// The journal of the next boot begins above what was committed, with nothing to commit but its boot.
+fn begins(rt: &impl Abort, journal: &Journal) -> Result<(), Fail> {
+    assert!(rt; journal.last_committed() == Txn(first(8)));
+    assert!(rt; journal.next()? == Txn(8_589_934_593));
+    assert!(rt; journal.uncommitted(0).is_none());
+    assert!(rt; journal.batch(journal.last_committed())?.boot == 2);
     Ok(())
 }
 
 /// The journal of the next boot has what was committed.
-fn journal_is_right(rt: &impl Abort, journal: &Journal) -> Result<(), Fail> {
-    assert_eq!(rt; journal.last_committed(), Txn(first(8)));
-    assert_eq!(rt; journal.next()?, Txn(8_589_934_593));
-    assert_eq!(rt; journal.uncommitted(0), None);
-    for (at, who) in [(0, Some(A)), (1, Some(C)), (2, None)] {
-        assert_eq!(rt; journal.life(at), who);
-    }
-    for (who, tag, xid, answer) in [
+fn has_slots(rt: &impl Abort, journal: &Journal) {
+    have_lives(rt, journal, &[A, C]);
+    let requests = [
         (A, 0, 1, "old"),
         (A, 0, 2, "again"),
         (A, 0, 3, "new"),
@@ -197,11 +128,8 @@ fn journal_is_right(rt: &impl Abort, journal: &Journal) -> Result<(), Fail> {
         (B, 0, 1, "no slot"),
         (C, 0, 1, "again"),
         (D, 0, 1, "no slot"),
-    ] {
-        assert_eq!(rt; looked(journal, who, tag, xid), answer);
-    }
-    assert_eq!(rt; journal.batch(journal.last_committed())?.boot, 2);
-    Ok(())
+    ];
+    are_looked_up(rt, journal, requests.as_slice());
 }
 
 /// A life of this client.
@@ -209,9 +137,16 @@ fn life(client: u16, life: u32) -> Who {
     Who { client, life }
 }
 
+/// Whether these lives are over.
+fn are_over(rt: &impl Abort, journal: &Journal, lives: &[(Who, bool)]) {
+    for (who, over) in lives {
+        assert!(rt; journal.is_over(*who) == *over);
+    }
+}
+
 /// The lives that went are known.
 fn lives_are_over(rt: &impl Abort, journal: &Journal) {
-    for (who, over) in [
+    let lives = [
         (life(0, 1), false),
         (life(1, 0), true),
         (life(1, 1), true),
@@ -220,9 +155,8 @@ fn lives_are_over(rt: &impl Abort, journal: &Journal) {
         (life(2, 7), true),
         (life(2, 8), false),
         (life(3, 1), false),
-    ] {
-        assert_eq!(rt; journal.is_over(who), over);
-    }
+    ];
+    are_over(rt, journal, lives.as_slice());
 }
 
 /// Whether these transactions are of boots below this one.
@@ -251,15 +185,107 @@ fn booted(alloc: Global, disk: &mut MemoryDisk) -> Result<Journal, Fail> {
     Ok(Journal::new(alloc, &batches, 2)?)
 }
 
-/// One test names the rows, since a table costs each function that does.
+/// The next boot finds on this disk what was committed.
+fn next_boot_is_right(rt: &impl Abort, alloc: Global, mut disk: MemoryDisk) -> Result<(), Fail> {
+    let journal = booted(alloc, &mut disk)?;
+    begins(rt, &journal)?;
+    has_slots(rt, &journal);
+    lives_are_over(rt, &journal);
+    Ok(())
+}
+
 #[test]
 fn batches_hold_what_a_boot_finds(rt: HostRuntime) -> Result<(), Fail> {
     let alloc = rt.alloc();
-    batches_are_right(&rt, alloc, &ROWS)?;
-    let (mut disk, before) = after_rows(alloc, &ROWS)?;
-    let after = booted(alloc, &mut disk)?;
-    journal_is_right(&rt, &after)?;
+    let rows = [
+        Row {
+            steps: &[],
+            place: None,
+            boot: 1,
+            counts: &[],
+            replies: &[],
+            added: &[A, B],
+            removed: &[],
+        },
+        Row {
+            steps: &[
+                Step::Makes(A, 0, 1, b'a'),
+                Step::Makes(B, 0, 1, b'b'),
+                Step::Makes(A, 0, 2, b'c'),
+                Step::Reads(A, 0, 3),
+            ],
+            place: Some(1),
+            boot: 0,
+            counts: &[1, 2],
+            replies: &[(A, 0, 1), (B, 0, 1)],
+            added: &[],
+            removed: &[],
+        },
+        Row {
+            steps: &[],
+            place: Some(0),
+            boot: 0,
+            counts: &[3],
+            replies: &[(A, 0, 2)],
+            added: &[],
+            removed: &[],
+        },
+        Row {
+            steps: &[Step::Drops(B), Step::Adds(C), Step::Adds(A), Step::Drops(D)],
+            place: None,
+            boot: 0,
+            counts: &[],
+            replies: &[],
+            added: &[C],
+            removed: &[B],
+        },
+        Row {
+            steps: &[Step::Adds(D), Step::Drops(D)],
+            place: None,
+            boot: 0,
+            counts: &[],
+            replies: &[],
+            added: &[],
+            removed: &[D],
+        },
+        Row {
+            steps: &[
+                Step::Makes(C, 0, 1, b'd'),
+                Step::Makes(A, 3, 9, b'e'),
+                Step::Makes(A, 1, 7, b'f'),
+                Step::Makes(A, 1, 8, b'g'),
+            ],
+            place: Some(3),
+            boot: 0,
+            counts: &[4, 5, 6, 7],
+            replies: &[(A, 1, 8), (A, 3, 9), (C, 0, 1)],
+            added: &[],
+            removed: &[],
+        },
+        Row {
+            steps: &[],
+            place: None,
+            boot: 0,
+            counts: &[],
+            replies: &[],
+            added: &[],
+            removed: &[],
+        },
+        Row {
+            steps: &[
+                Step::Makes(A, 1, 9, b'h'),
+                Step::Makes(A, 1, 10, b'i'),
+                Step::Makes(A, 2, 1, b'j'),
+            ],
+            place: Some(0),
+            boot: 0,
+            counts: &[8],
+            replies: &[(A, 1, 9)],
+            added: &[],
+            removed: &[],
+        },
+    ];
+    let (disk, before) = after_rows(&rt, alloc, rows.as_slice())?;
     lives_are_over(&rt, &before);
-    lives_are_over(&rt, &after);
-    Ok(())
+    next_boot_is_right(&rt, alloc, disk)
 }

@@ -3,12 +3,12 @@
 ghost use Rattle.std.specs.Prelude.{◌≡◌, ◌+◌, ◌^◌, ◌<◌, ◌≤◌};
 
 use lu_base::{
-    Ask, At, Bytes, Cookie, Duplicate, Extent, Fid, Lock, Locks, Memory, Mode, Name, Node, Numbers,
-    Path, Policy, Resource, Stamp, TargetId, Txn, Who, Xid,
+    Ask, At, Bytes, Cookie, Duplicate, Fid, Lock, Locks, Memory, Mode, Name, Node, Numbers, Path,
+    Policy, Resource, Stamp, TargetId, Txn, Who, Xid,
 };
 use lu_import::{Import, Standing};
 use lu_msg::{Answer, Message, Op, Post, Reply, Sends};
-use lu_trace::{End, Trace, Turn, render};
+use lu_trace::{End, Entries, Entry, Line, Trace, render};
 use std::alloc::Global;
 use std::process::Abort;
 use std::test::Fail;
@@ -34,6 +34,8 @@ enum Row<'a> {
     Next(Option<(u64, u8)>),
     /// The reply to this request comes, without a transaction; whether it is heard.
     Hear(u64, bool),
+    /// The same of a reply to another life, or of another boot.
+    HearOf(Who, u32, u64, bool),
     /// The reply to this request comes with a transaction, a committed number and what it has seen.
     Learn(u64, u64, u64, &'a [u64]),
     /// A grant tells a committed number and what it lets see.
@@ -44,6 +46,10 @@ enum Row<'a> {
     Ready(u32, u64, &'a [&'a str]),
     /// What is sent again as time goes on.
     Again(&'a [&'a str]),
+    /// The request in flight at this place has this number, or there is none.
+    Flies(usize, Option<u64>),
+    /// The request in flight of this number is for the call on this slot or for none, or there is no such request.
+    Slot(u64, Option<Option<u8>>),
     /// How the life stands, and the boot that it knows.
     Stands(Standing, u32),
     /// This life begins.
@@ -64,15 +70,18 @@ fn numbers(alloc: Global, from: &[u64]) -> Result<Numbers, Memory> {
     Ok(numbers)
 }
 
-/// A reply of boot 1 to a request of the first life, executed in turn 1.
-fn reply(alloc: Global, xid: u64, txn: u64, committed: u64, seen: &[u64]) -> Result<Reply, Memory> {
+/// A reply of boot 1 to a request of the first life, executed in turn 1, with its transaction, a committed number and
+/// what it has seen.
+fn reply(alloc: Global, numbers: (u64, u64, u64), seen: &[u64]) -> Result<Reply, Memory> {
+    let (xid, txn, committed) = numbers;
+    let seen = self::numbers(alloc, seen)?;
     Ok(Reply {
         who: FIRST,
         boot: 1,
         xid: Xid(xid),
         txn: Txn(txn),
         committed: Txn(committed),
-        seen: numbers(alloc, seen)?,
+        seen,
         at: At {
             stamp: Stamp(1),
             node: Node::Target(0),
@@ -106,94 +115,253 @@ fn locks(alloc: Global, cookies: &[u64]) -> Result<Locks, Memory> {
     Ok(locks)
 }
 
+/// The line of a message that client 0 sends in turn 1.
+fn line(alloc: Global, post: &Post) -> Result<Line, Memory> {
+    let at = At {
+        stamp: Stamp(1),
+        node: Node::Client(0),
+    };
+    let entry = Entry::Send {
+        number: 0,
+        to: post.to,
+        message: post.message.copy(alloc)?,
+    };
+    Ok(Line { at, entry })
+}
+
+/// The lines of these messages.
+fn lines(alloc: Global, sends: &Sends) -> Result<Entries, Memory> {
+    let mut lines = Entries::new(alloc);
+    for post in sends.as_slice() {
+        lines.push(line(alloc, post)?)?;
+    }
+    Ok(lines)
+}
+
 /// The text of messages as a trace shows them that client 0 sends in turn 1.
 fn text(alloc: Global, sends: &Sends) -> Result<Bytes, Memory> {
-    let mut turn = Turn::new(
-        alloc,
-        At {
-            stamp: Stamp(1),
-            node: Node::Client(0),
-        },
-    );
-    for post in sends.as_slice() {
-        turn.send(post.copy(alloc)?)?;
-    }
     let trace = Trace {
         osts: 1,
-        entries: turn.into_step().entries,
+        entries: lines(alloc, sends)?,
     };
     render(alloc, &trace, End::Done)
+}
+
+/// Appends the line of a message in such a trace.
+fn put_line(out: &mut Bytes, message: &str) -> Result<(), Memory> {
+    out.extend(b"1 c0 send 0 t0 ")?;
+    out.extend(message.as_bytes())?;
+    out.push(b'\n')
 }
 
 /// The text of these messages in such a trace.
 fn wanted(alloc: Global, messages: &[&str]) -> Result<Bytes, Memory> {
     let mut text = Bytes::new(alloc);
     for message in messages {
-        text.extend(b"1 c0 send 0 t0 ")?;
-        text.extend(message.as_bytes())?;
-        text.push(b'\n')?;
+        put_line(&mut text, message)?;
     }
     text.extend(b"end\n")?;
     Ok(text)
 }
 
 /// These messages are sent, and no other.
-fn are_sent(rt: &impl Abort, alloc: Global, sends: &Sends, messages: &[&str]) -> Result<(), Fail> {
-    assert!(rt; text(alloc, sends)? == wanted(alloc, messages)?);
+fn are_sent(
+    rt: &impl Abort,
+    alloc: Global,
+    sends: &Sends,
+    messages: &[&str],
+) -> Result<(), Memory> {
+    let text = text(alloc, sends)?;
+    let wanted = wanted(alloc, messages)?;
+    assert!(rt; text.as_slice() == wanted.as_slice());
     Ok(())
+}
+
+/// The number and the tag of a request; none of what isn't one.
+fn sent(message: Option<&Message>) -> Option<(u64, u8)> {
+    match message {
+        Some(Message::Request(request)) => Some((request.xid.0, request.tag)),
+        _ => None,
+    }
 }
 
 /// The front is sent with this number and tag, or nothing is.
-fn next(rt: &impl Abort, import: &mut Import, wanted: Option<(u64, u8)>) -> Result<(), Fail>
+fn next(rt: &impl Abort, import: &mut Import, wanted: Option<(u64, u8)>) -> Result<(), Memory>
     requires { import.old.last + 1 < 2 ^ 64 }
     ensures { import.new.last ≤ import.old.last + 1 }
 {
-    let found = match &import.next()? {
-        Some(Message::Request(request)) => Some((request.xid.0, request.tag)),
-        _ => None,
-    };
-    assert_eq!(rt; found, wanted);
+    let message = import.next()?;
+    assert!(rt; sent(message.as_ref()) == wanted);
     Ok(())
 }
 
+/// A `mkdir /a` waits, for the call on this slot.
+fn queue(alloc: Global, import: &mut Import, slot: u8) -> Result<(), Memory>
+    ensures { import.new.last ≤ import.old.last }
+{
+    let op = mkdir(alloc)?;
+    import.queue(Some(slot), op)
+}
+
+/// A `size` of this file's stripe waits.
+fn size(import: &mut Import, fid: u64, stripe: u16) -> Result<(), Memory>
+    ensures { import.new.last ≤ import.old.last }
+{
+    let object = Resource {
+        fid: Fid(fid),
+        stripe,
+    };
+    import.queue(None, Op::Size(object))
+}
+
+/// The reply of this boot to a request of this life comes, without a transaction; whether it is heard.
+fn hear(
+    rt: &impl Abort,
+    alloc: Global,
+    import: &mut Import,
+    request: (Who, u32, u64),
+    heard: bool,
+) -> Result<(), Memory>
+    ensures { import.new.last ≤ import.old.last }
+{
+    let (who, boot, xid) = request;
+    let mut reply = reply(alloc, (xid, 0, 0), &[])?;
+    reply.who = who;
+    reply.boot = boot;
+    let found = import.hear(&reply)?;
+    assert!(rt; found == heard);
+    Ok(())
+}
+
+/// The reply to this request comes with a transaction, a committed number and what it has seen, and is heard.
+fn learn(
+    rt: &impl Abort,
+    alloc: Global,
+    import: &mut Import,
+    numbers: (u64, u64, u64),
+    seen: &[u64],
+) -> Result<(), Memory>
+    ensures { import.new.last ≤ import.old.last }
+{
+    let reply = reply(alloc, numbers, seen)?;
+    let heard = import.hear(&reply)?;
+    assert!(rt; heard);
+    Ok(())
+}
+
+/// A grant tells a committed number and what it lets see.
+fn note(alloc: Global, import: &mut Import, committed: u64, seen: &[u64]) -> Result<(), Memory>
+    ensures { import.new.last ≤ import.old.last }
+{
+    let seen = numbers(alloc, seen)?;
+    import.note(Txn(committed), &seen)
+}
+
+/// The target is up in this boot, while the locks of these cookies are held: what is told.
+fn up(
+    rt: &impl Abort,
+    alloc: Global,
+    import: &mut Import,
+    boot: u32,
+    cookies: &[u64],
+    told: &[&str],
+) -> Result<(), Memory>
+    ensures { import.new.last ≤ import.old.last }
+{
+    let locks = locks(alloc, cookies)?;
+    let sends = import.reconnect(boot, locks.as_slice())?;
+    are_sent(rt, alloc, &sends, told)
+}
+
+/// The target serves the life in this boot and has committed up to here: what is sent again.
+fn ready(
+    rt: &impl Abort,
+    alloc: Global,
+    import: &mut Import,
+    boot: u32,
+    committed: u64,
+    again: &[&str],
+) -> Result<(), Memory>
+    ensures { import.new.last ≤ import.old.last }
+{
+    let sends = import.ready(boot, Txn(committed))?;
+    are_sent(rt, alloc, &sends, again)
+}
+
+/// How the life stands, and the boot that it knows.
+fn stands(rt: &impl Abort, import: &Import, standing: Standing, boot: u32) -> Result<(), Memory> {
+    assert!(rt; import.standing() == standing);
+    assert!(rt; import.boot() == boot);
+    assert!(rt; import.serving() == (standing == Standing::Serving));
+    Ok(())
+}
+
+/// The request in flight at this place has this number, or there is none.
+fn flies(rt: &impl Abort, import: &Import, at: usize, number: Option<u64>) -> Result<(), Memory> {
+    let found = match import.in_flight(at) {
+        Some((xid, _)) => Some(xid.0),
+        None => None,
+    };
+    assert!(rt; found == number);
+    Ok(())
+}
+
+/// The request in flight of this number is for the call on this slot or for none, or there is no such request.
+fn has_slot(
+    rt: &impl Abort,
+    import: &Import,
+    xid: u64,
+    slot: Option<Option<u8>>,
+) -> Result<(), Memory> {
+    let found = match import.find(Xid(xid)) {
+        Some(request) => Some(request.slot),
+        None => None,
+    };
+    assert!(rt; found == slot);
+    Ok(())
+}
+
+/// This life begins.
+fn begin(import: &mut Import, life: u32) -> Result<(), Memory>
+    ensures { import.new.last ≤ import.old.last }
+{
+    import.begin_life(Who { client: 0, life });
+    Ok(())
+}
+
+/// What is sent again as time goes on.
+fn again(rt: &impl Abort, alloc: Global, import: &Import, again: &[&str]) -> Result<(), Memory> {
+    let sends = import.again()?;
+    are_sent(rt, alloc, &sends, again)
+}
+
 /// One call.
-fn call(rt: &impl Abort, alloc: Global, import: &mut Import, row: Row<'_>) -> Result<(), Fail>
+fn call(rt: &impl Abort, alloc: Global, import: &mut Import, row: Row<'_>) -> Result<(), Memory>
     requires { import.old.last + 1 < 2 ^ 64 }
     ensures { import.new.last ≤ import.old.last + 1 }
 {
     match row {
-        Row::Queue(slot) => import.queue(Some(slot), mkdir(alloc)?)?,
-        Row::Size(fid, stripe) => import.queue(
-            None,
-            Op::Size(Resource {
-                fid: Fid(fid),
-                stripe,
-            }),
-        )?,
-        Row::Next(wanted) => next(rt, import, wanted)?,
-        Row::Hear(xid, heard) => {
-            assert_eq!(rt; import.hear(&reply(alloc, xid, 0, 0, &[])?)?, heard);
-        }
-        Row::Learn(xid, txn, committed, seen) => {
-            assert!(rt; import.hear(&reply(alloc, xid, txn, committed, seen)?)?);
-        }
-        Row::Note(committed, seen) => import.note(Txn(committed), &numbers(alloc, seen)?)?,
-        Row::Up(boot, cookies, told) => {
-            let sends = import.reconnect(boot, locks(alloc, cookies)?.as_slice())?;
-            are_sent(rt, alloc, &sends, told)?;
-        }
-        Row::Ready(boot, committed, again) => {
-            let sends = import.ready(boot, Txn(committed))?;
-            are_sent(rt, alloc, &sends, again)?;
-        }
-        Row::Again(again) => are_sent(rt, alloc, &import.again()?, again)?,
-        Row::Stands(standing, boot) => {
-            assert_eq!(rt; (import.standing(), import.boot()), (standing, boot));
-            assert_eq!(rt; import.serving(), standing == Standing::Serving);
-        }
-        Row::Life(life) => import.begin_life(Who { client: 0, life }),
+        Row::Queue(slot) => queue(alloc, import, slot),
+        Row::Size(fid, stripe) => size(import, fid, stripe),
+        Row::Next(wanted) => next(rt, import, wanted),
+        Row::Hear(xid, heard) => hear(rt, alloc, import, (FIRST, 1, xid), heard),
+        Row::HearOf(who, boot, xid, heard) => hear(rt, alloc, import, (who, boot, xid), heard),
+        Row::Learn(xid, txn, committed, seen) => learn(
+            rt,
+            alloc,
+            import,
+            (xid, txn, committed),
+            seen,
+        ),
+        Row::Note(committed, seen) => note(alloc, import, committed, seen),
+        Row::Up(boot, cookies, told) => up(rt, alloc, import, boot, cookies, told),
+        Row::Ready(boot, committed, told) => ready(rt, alloc, import, boot, committed, told),
+        Row::Again(told) => again(rt, alloc, import, told),
+        Row::Flies(at, number) => flies(rt, import, at, number),
+        Row::Slot(xid, slot) => has_slot(rt, import, xid, slot),
+        Row::Stands(standing, boot) => stands(rt, import, standing, boot),
+        Row::Life(life) => begin(import, life),
     }
-    Ok(())
 }
 
 /// Calls, one after another, of the import of a life at a target in boot 1.
@@ -204,7 +372,7 @@ fn calls(
     life: u32,
     flight: u8,
     rows: &[Row<'_>],
-) -> Result<Import, Fail>
+) -> Result<(), Memory>
     requires least { 0 < flight }
     requires most { flight ≤ 8 }
 {
@@ -212,7 +380,7 @@ fn calls(
     for row in rows {
         call(rt, alloc, &mut import, *row)?;
     }
-    Ok(import)
+    Ok(())
 }
 
 #[test]
@@ -258,11 +426,12 @@ fn tags_are_the_least_that_are_free(rt: HostRuntime) -> Result<(), Fail> {
             "req c0.1 1 5 mkdir /a",
             "req c0.1 1 6/2 mkdir /a",
         ]),
+        Row::Flies(0, Some(4)),
+        Row::Flies(1, Some(5)),
+        Row::Flies(2, Some(6)),
+        Row::Flies(3, None),
     ];
-    let import = calls(&rt, rt.alloc(), 0, 1, 3, rows.as_slice())?;
-    for (at, number) in [(0, Some(4)), (1, Some(5)), (2, Some(6)), (3, None)] {
-        assert_eq!(rt; import.in_flight(at).map(|found| found.0.0), number);
-    }
+    calls(&rt, rt.alloc(), 0, 1, 3, rows.as_slice())?;
     Ok(())
 }
 
@@ -276,11 +445,12 @@ fn requests_keep_their_slots(rt: HostRuntime) -> Result<(), Fail> {
         Row::Next(Some((2, 1))),
         Row::Next(Some((3, 2))),
         Row::Hear(1, true),
+        Row::Slot(1, None),
+        Row::Slot(2, Some(None)),
+        Row::Slot(3, Some(Some(1))),
+        Row::Slot(4, None),
     ];
-    let import = calls(&rt, rt.alloc(), 0, 1, 3, rows.as_slice())?;
-    for (number, slot) in [(1, None), (2, Some(None)), (3, Some(Some(1))), (4, None)] {
-        assert_eq!(rt; import.find(Xid(number)).map(|request| request.slot), slot);
-    }
+    calls(&rt, rt.alloc(), 0, 1, 3, rows.as_slice())?;
     Ok(())
 }
 
@@ -417,21 +587,16 @@ fn a_life_ends_and_the_next_begins(rt: HostRuntime) -> Result<(), Fail> {
 
 #[test]
 fn replies_of_another_life_or_boot_are_not_heard(rt: HostRuntime) -> Result<(), Fail> {
-    let alloc = rt.alloc();
-    let rows = [Row::Queue(0), Row::Next(Some((1, 0)))];
-    let mut import = calls(&rt, alloc, 0, 1, 1, rows.as_slice())?;
-    for (client, life, boot, number, heard) in [
-        (0, 2, 1, 1, false),
-        (1, 1, 1, 1, false),
-        (0, 1, 2, 1, false),
-        (0, 1, 1, 2, false),
-        (0, 1, 1, 1, true),
-        (0, 1, 1, 1, false),
-    ] {
-        let mut reply = reply(alloc, number, 0, 0, &[])?;
-        reply.who = Who { client, life };
-        reply.boot = boot;
-        assert_eq!(rt; import.hear(&reply)?, heard);
-    }
+    let rows = [
+        Row::Queue(0),
+        Row::Next(Some((1, 0))),
+        Row::HearOf(Who { client: 0, life: 2 }, 1, 1, false),
+        Row::HearOf(Who { client: 1, life: 1 }, 1, 1, false),
+        Row::HearOf(FIRST, 2, 1, false),
+        Row::HearOf(FIRST, 1, 2, false),
+        Row::HearOf(FIRST, 1, 1, true),
+        Row::HearOf(FIRST, 1, 1, false),
+    ];
+    calls(&rt, rt.alloc(), 0, 1, 1, rows.as_slice())?;
     Ok(())
 }

@@ -3,35 +3,49 @@
 ghost use Rattle.std.specs.Prelude.{◌≡◌, ◌+◌, ◌*◌, ◌^◌, ◌<◌, ◌≤◌};
 
 use crate::steps::{
-    A, B, C, D, Step, first, journal_after, looked, mkdir, name, one, perform, reply, seen,
+    A, B, C, D, Step, append, are_looked_up, are_numbers, first, have_lives, journal_after, mkdir,
+    name, perform, reply, seen, sees,
 };
-use lu_base::{Extent, Fid, Memory, Txn, Xid};
+use lu_base::{Extent, Fid, Memory, Txn, Who, Xid};
 use lu_part::{Part, Parts};
 use lu_txn::{Journal, Seen, TxnError};
 use std::alloc::Global;
+use std::process::Abort;
 use std::test::Fail;
 
+/// The next transaction has the number of boot 1 with this count.
+fn counts_on(rt: &impl Abort, journal: &Journal, count: u64) -> Result<(), TxnError> {
+    let next = journal.next()?;
+    assert!(rt; next.0 == first(count));
+    Ok(())
+}
+
 #[test]
-fn one_transaction_is_looked_up_and_seen(rt: HostRuntime) -> Result<(), Fail> {
+fn one_transaction_is_looked_up(rt: HostRuntime) -> Result<(), Fail> {
     let alloc = rt.alloc();
     let mut journal = Journal::start(alloc, &[A])?;
-    assert_eq!(rt; journal.next()?, Txn(first(1)));
-    assert_eq!(rt; looked(&journal, A, 0, 0), "new");
+    counts_on(&rt, &journal, 1)?;
+    are_looked_up(&rt, &journal, &[(A, 0, 0, "new")]);
     perform(alloc, &mut journal, Step::Makes(A, 0, 1, b'a'))?;
-    for (who, xid, word) in [
-        (A, 1, "again"),
-        (A, 2, "new"),
-        (A, 0, "old"),
-        (B, 1, "no slot"),
-    ] {
-        assert_eq!(rt; looked(&journal, who, 0, xid), word);
-    }
-    assert_eq!(rt; journal.next()?, Txn(first(2)));
-    let listed = seen(alloc, &journal, Part::List(Fid(1)))?;
-    assert_eq!(rt; listed.as_slice(), [first(1)].as_slice());
+    let requests = [
+        (A, 0, 1, "again"),
+        (A, 0, 2, "new"),
+        (A, 0, 0, "old"),
+        (B, 0, 1, "no slot"),
+    ];
+    are_looked_up(&rt, &journal, requests.as_slice());
+    counts_on(&rt, &journal, 2)?;
+    Ok(())
+}
+
+#[test]
+fn one_transaction_is_seen(rt: HostRuntime) -> Result<(), Fail> {
+    let alloc = rt.alloc();
+    let mut journal = journal_after(alloc, &[A], &[Step::Makes(A, 0, 1, b'a')])?;
+    sees(&rt, alloc, &journal, Part::List(Fid(1)), &[1])?;
     perform(alloc, &mut journal, Step::Commits(0))?;
-    assert_eq!(rt; journal.last_committed(), Txn(first(1)));
-    assert!(rt; seen(alloc, &journal, Part::List(Fid(1)))?.is_empty());
+    assert!(rt; journal.last_committed().0 == first(1));
+    sees(&rt, alloc, &journal, Part::List(Fid(1)), &[])?;
     Ok(())
 }
 
@@ -56,7 +70,7 @@ fn tags_and_lives_have_slots_of_their_own(rt: HostRuntime) -> Result<(), Fail> {
         Step::Reads(B, 0, 6),
     ];
     let journal = journal_after(alloc, &[C, A, B, A], &steps)?;
-    for (who, tag, xid, answer) in [
+    let requests = [
         (B, 0, 5, "old"),
         (B, 0, 6, "again"),
         (B, 0, 7, "new"),
@@ -66,12 +80,30 @@ fn tags_and_lives_have_slots_of_their_own(rt: HostRuntime) -> Result<(), Fail> {
         (A, 0, 6, "new"),
         (C, 0, 6, "new"),
         (D, 0, 6, "no slot"),
-    ] {
-        assert_eq!(rt; looked(&journal, who, tag, xid), answer);
-    }
-    for (at, who) in [(0, Some(A)), (1, Some(B)), (2, Some(C)), (3, None)] {
-        assert_eq!(rt; journal.life(at), who);
-    }
+    ];
+    are_looked_up(&rt, &journal, requests.as_slice());
+    have_lives(&rt, &journal, &[A, B, C]);
+    Ok(())
+}
+
+/// A reply to this life isn't kept.
+fn refuses_a_reply(rt: &impl Abort, alloc: Global, journal: &mut Journal, who: Who) {
+    let kept = journal.keep(who, 0, reply(alloc, who, 1, Txn(0)));
+    assert!(rt; kept == Err(TxnError::NoSlot));
+}
+
+/// A transaction of this life isn't appended.
+fn refuses_a_transaction(
+    rt: &impl Abort,
+    alloc: Global,
+    journal: &mut Journal,
+    who: Who,
+) -> Result<(), Fail> {
+    let op = mkdir(alloc, b"a")?;
+    let number = journal.next()?;
+    let answer = reply(alloc, who, 1, number);
+    let added = journal.append(number, who, 0, op, Parts::new(alloc), answer);
+    assert!(rt; added == Err(TxnError::NoSlot));
     Ok(())
 }
 
@@ -79,15 +111,10 @@ fn tags_and_lives_have_slots_of_their_own(rt: HostRuntime) -> Result<(), Fail> {
 fn a_life_without_slot_is_refused(rt: HostRuntime) -> Result<(), Fail> {
     let alloc = rt.alloc();
     let mut journal = Journal::start(alloc, &[A])?;
-    let kept = journal.keep(C, 0, reply(alloc, C, 1, Txn(0)));
-    assert_eq!(rt; kept, Err(TxnError::NoSlot));
-    let op = mkdir(alloc, b"a")?;
-    let number = journal.next()?;
-    let answer = reply(alloc, C, 1, number);
-    let added = journal.append(number, C, 0, op, Parts::new(alloc), answer);
-    assert_eq!(rt; added, Err(TxnError::NoSlot));
-    assert_eq!(rt; journal.next()?, Txn(first(1)));
-    assert_eq!(rt; journal.uncommitted(0), None);
+    refuses_a_reply(&rt, alloc, &mut journal, C);
+    refuses_a_transaction(&rt, alloc, &mut journal, C)?;
+    counts_on(&rt, &journal, 1)?;
+    assert!(rt; journal.uncommitted(0).is_none());
     Ok(())
 }
 
@@ -105,17 +132,24 @@ fn append_at(alloc: Global, journal: &mut Journal, count: u32) -> Result<(), Fai
     Ok(())
 }
 
+/// The uncommitted transactions have these counts, in this order.
+fn are_uncommitted(rt: &impl Abort, journal: &Journal, counts: &[u64]) {
+    for (at, count) in counts.iter().enumerate() {
+        let number = journal.uncommitted(at);
+        assert!(rt; number == Some(Txn(first(*count))));
+    }
+    assert!(rt; journal.uncommitted(counts.len()).is_none());
+}
+
 #[test]
 fn the_last_number_of_a_boot_is_given_once(rt: HostRuntime) -> Result<(), Fail> {
     let alloc = rt.alloc();
     let mut journal = Journal::start(alloc, &[A])?;
     append_at(alloc, &mut journal, 4_294_967_294)?;
-    assert_eq!(rt; journal.next(), Ok(Txn(first(4_294_967_295))));
+    counts_on(&rt, &journal, 4_294_967_295)?;
     append_at(alloc, &mut journal, 4_294_967_295)?;
-    assert_eq!(rt; journal.next(), Err(TxnError::NumbersSpent));
-    assert_eq!(rt; journal.uncommitted(0), Some(Txn(first(4_294_967_294))));
-    assert_eq!(rt; journal.uncommitted(1), Some(Txn(first(4_294_967_295))));
-    assert_eq!(rt; journal.uncommitted(2), None);
+    assert!(rt; journal.next() == Err(TxnError::NumbersSpent));
+    are_uncommitted(&rt, &journal, &[4_294_967_294, 4_294_967_295]);
     Ok(())
 }
 
@@ -133,84 +167,134 @@ fn three(alloc: Global, committed: usize) -> Result<Journal, Fail> {
     Ok(journal)
 }
 
-#[test]
-fn what_is_seen_rises_and_is_not_committed(rt: HostRuntime) -> Result<(), Fail> {
-    let alloc = rt.alloc();
-    for (committed, listed, named) in [
-        (
-            0,
-            [first(1), first(2), first(3)].as_slice(),
-            [first(1), first(3)].as_slice(),
-        ),
-        (1, [first(2), first(3)].as_slice(), [first(3)].as_slice()),
-        (2, [first(3)].as_slice(), [first(3)].as_slice()),
-        (3, [].as_slice(), [].as_slice()),
-    ] {
-        let journal = three(alloc, committed)?;
-        let mut touched = one(alloc, Part::Name(Fid(1), name(alloc, b"a")?))?;
-        assert_eq!(rt; journal.seen(&touched)?.as_slice(), named);
-        touched.push(Part::List(Fid(1)))?;
-        assert_eq!(rt; journal.seen(&touched)?.as_slice(), listed);
-        assert!(rt; journal.seen(&Parts::new(alloc))?.is_empty());
+/// Of three transactions of which so many are committed, what touches the name `a` has seen those of the first counts, and
+/// what touches the list of names too those of the second ones.
+type Sights<'a> = (usize, &'a [u64], &'a [u64]);
+
+/// What is seen is what the row says.
+fn is_seen(rt: &impl Abort, alloc: Global, row: Sights<'_>) -> Result<(), Fail> {
+    let (committed, named, listed) = row;
+    let journal = three(alloc, committed)?;
+    let touched = parts(alloc, &[Touch::Name(1, b'a')])?;
+    assert!(rt; are_numbers(journal.seen(&touched)?.as_slice(), named));
+    let touched = parts(alloc, &[Touch::Name(1, b'a'), Touch::List(1)])?;
+    assert!(rt; are_numbers(journal.seen(&touched)?.as_slice(), listed));
+    assert!(rt; journal.seen(&Parts::new(alloc))?.is_empty());
+    Ok(())
+}
+
+/// What is seen is what these rows say.
+fn all_are_seen(rt: &impl Abort, alloc: Global, rows: &[Sights<'_>]) -> Result<(), Fail> {
+    for row in rows {
+        is_seen(rt, alloc, *row)?;
     }
     Ok(())
 }
 
-/// A journal with one transaction that writes this.
-fn written(alloc: Global, writes: Parts) -> Result<Journal, Fail> {
+#[test]
+fn what_is_seen_rises_and_is_not_committed(rt: HostRuntime) -> Result<(), Fail> {
+    let rows: [Sights<'_>; 4] = [
+        (0, &[1, 3], &[1, 2, 3]),
+        (1, &[3], &[2, 3]),
+        (2, &[3], &[3]),
+        (3, &[], &[]),
+    ];
+    all_are_seen(&rt, rt.alloc(), rows.as_slice())
+}
+
+/// A part.
+#[derive(Clone, Copy)]
+enum Touch {
+    /// The name of this letter in a directory.
+    Name(u64, u8),
+    List(u64),
+    Attr(u64),
+    Layout(u64),
+    Parent(u64),
+    /// The bytes of a file's stripe from the first to the last.
+    Bytes(u64, u16, u64, u64),
+}
+
+fn part(alloc: Global, touch: Touch) -> Result<Part, Memory> {
+    match touch {
+        Touch::Name(fid, letter) => Ok(Part::Name(Fid(fid), name(alloc, &[letter])?)),
+        Touch::List(fid) => Ok(Part::List(Fid(fid))),
+        Touch::Attr(fid) => Ok(Part::Attr(Fid(fid))),
+        Touch::Layout(fid) => Ok(Part::Layout(Fid(fid))),
+        Touch::Parent(fid) => Ok(Part::Parent(Fid(fid))),
+        Touch::Bytes(fid, stripe, first, last) => {
+            Ok(Part::Bytes(Fid(fid), stripe, Extent { first, last }))
+        }
+    }
+}
+
+fn parts(alloc: Global, touches: &[Touch]) -> Result<Parts, Memory> {
+    let mut parts = Parts::new(alloc);
+    for touch in touches {
+        parts.push(part(alloc, *touch)?)?;
+    }
+    Ok(parts)
+}
+
+/// A journal with one transaction that writes these parts.
+fn written(alloc: Global, writes: &[Touch]) -> Result<Journal, Fail> {
     let mut journal = Journal::start(alloc, &[A])?;
-    let number = journal.next()?;
-    let op = mkdir(alloc, b"a")?;
-    journal.append(number, A, 0, op, writes, reply(alloc, A, 1, number))?;
+    let writes = parts(alloc, writes)?;
+    append(alloc, &mut journal, (A, 0, 1), b'a', writes)?;
     Ok(journal)
+}
+
+/// What touches these parts has seen so many transactions.
+fn see(
+    rt: &impl Abort,
+    alloc: Global,
+    journal: &Journal,
+    rows: &[(Touch, usize)],
+) -> Result<(), Memory> {
+    for (touch, count) in rows {
+        let seen = seen(alloc, journal, part(alloc, *touch)?)?;
+        assert!(rt; seen.len() == *count);
+    }
+    Ok(())
 }
 
 #[test]
 fn bytes_are_seen_where_ranges_share_an_offset(rt: HostRuntime) -> Result<(), Fail> {
     let alloc = rt.alloc();
-    let journal = written(
-        alloc,
-        one(alloc, Part::Bytes(Fid(5), 0, range(4096, 8191)))?,
-    )?;
-    for (stripe, first, last, count) in [
-        (0, 0, 4095, 0),
-        (0, 8191, 9000, 1),
-        (0, 0, u64::MAX, 1),
-        (0, 8192, 9000, 0),
-        (1, 4096, 8191, 0),
-    ] {
-        let part = Part::Bytes(Fid(5), stripe, range(first, last));
-        assert_eq!(rt; seen(alloc, &journal, part)?.len(), count);
-    }
+    let journal = written(alloc, &[Touch::Bytes(5, 0, 4096, 8191)])?;
+    let rows = [
+        (Touch::Bytes(5, 0, 0, 4095), 0),
+        (Touch::Bytes(5, 0, 8191, 9000), 1),
+        (Touch::Bytes(5, 0, 0, u64::MAX), 1),
+        (Touch::Bytes(5, 0, 8192, 9000), 0),
+        (Touch::Bytes(5, 1, 4096, 8191), 0),
+    ];
+    see(&rt, alloc, &journal, rows.as_slice())?;
     Ok(())
 }
 
 #[test]
 fn each_kind_of_part_is_found(rt: HostRuntime) -> Result<(), Fail> {
     let alloc = rt.alloc();
-    let mut writes = Parts::new(alloc);
-    writes.push(Part::List(Fid(2)))?;
-    writes.push(Part::Attr(Fid(3)))?;
-    writes.push(Part::Layout(Fid(4)))?;
-    writes.push(Part::Parent(Fid(5)))?;
-    let journal = written(alloc, writes)?;
-    for (part, count) in [
-        (Part::Name(Fid(2), name(alloc, b"x")?), 1),
-        (Part::List(Fid(2)), 1),
-        (Part::Attr(Fid(3)), 1),
-        (Part::Layout(Fid(4)), 1),
-        (Part::Parent(Fid(5)), 1),
-        (Part::Name(Fid(3), name(alloc, b"x")?), 0),
-        (Part::Attr(Fid(4)), 0),
-        (Part::Layout(Fid(3)), 0),
-        (Part::Parent(Fid(2)), 0),
-        (Part::Bytes(Fid(3), 0, range(0, 9)), 0),
-    ] {
-        assert_eq!(rt; seen(alloc, &journal, part)?.len(), count);
-    }
+    let writes = [
+        Touch::List(2),
+        Touch::Attr(3),
+        Touch::Layout(4),
+        Touch::Parent(5),
+    ];
+    let journal = written(alloc, writes.as_slice())?;
+    let rows = [
+        (Touch::Name(2, b'x'), 1),
+        (Touch::List(2), 1),
+        (Touch::Attr(3), 1),
+        (Touch::Layout(4), 1),
+        (Touch::Parent(5), 1),
+        (Touch::Name(3, b'x'), 0),
+        (Touch::Attr(4), 0),
+        (Touch::Layout(3), 0),
+        (Touch::Parent(2), 0),
+        (Touch::Bytes(3, 0, 0, 9), 0),
+    ];
+    see(&rt, alloc, &journal, rows.as_slice())?;
     Ok(())
-}
-
-fn range(first: u64, last: u64) -> Extent {
-    Extent { first, last }
 }

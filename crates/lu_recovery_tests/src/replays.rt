@@ -4,6 +4,7 @@ use lu_base::{Memory, Numbers, Path, Txn, Who, Xid};
 use lu_msg::Op;
 use lu_replay::{Replay, Replays};
 use std::alloc::Global;
+use std::process::Abort;
 use std::test::Fail;
 
 /// The number of boot 1 with this count.
@@ -36,33 +37,68 @@ pub fn replay(alloc: Global, count: u32, seen: &[u32]) -> Result<Replay, Memory>
     })
 }
 
+/// Replays of these clients and counts are put, each new or not.
+fn puts(
+    rt: &impl Abort,
+    alloc: Global,
+    replays: &mut Replays,
+    rows: &[(u16, u32, bool)],
+) -> Result<(), Memory> {
+    for (client, count, new) in rows {
+        let put = replays.put(life(*client), replay(alloc, *count, &[])?)?;
+        assert!(rt; put == *new);
+    }
+    Ok(())
+}
+
+/// So many replays of these clients are there.
+fn counts(rt: &impl Abort, replays: &Replays, rows: &[(u16, usize)]) {
+    for (client, count) in rows {
+        assert!(rt; replays.count(life(*client)) == *count);
+    }
+}
+
+/// Whether a replay is of this client and count.
+fn is_of(found: Option<(Who, Txn)>, client: u16, count: u32) -> bool {
+    match found {
+        Some((who, txn)) => who == life(client) && txn.0 == number(count),
+        None => false,
+    }
+}
+
+/// The life and the number of the least replay, which is taken.
+fn taken(replays: &mut Replays) -> Option<(Who, Txn)> {
+    match replays.take_least() {
+        Some((who, replay)) => Some((who, replay.number)),
+        None => None,
+    }
+}
+
+/// Replays of these clients and counts are taken one after another, each the least.
+fn takes(rt: &impl Abort, replays: &mut Replays, rows: &[(u16, u32)]) {
+    for (client, count) in rows {
+        assert!(rt; is_of(replays.next_least(), *client, *count));
+        assert!(rt; is_of(taken(replays), *client, *count));
+    }
+}
+
 #[test]
 fn replays_are_taken_in_rising_number(rt: HostRuntime) -> Result<(), Fail> {
     let alloc = rt.alloc();
     let mut replays = Replays::new(alloc);
-    for (client, count, new) in [
+    let puts_of = [
         (0, 2, true),
         (0, 2, false),
         (1, 1, true),
         (1, 2, true),
         (0, 7, true),
-    ] {
-        assert_eq!(rt; replays.put(life(client), replay(alloc, count, &[])?)?, new);
-    }
-    assert_eq!(rt; replays.count(life(0)), 2);
-    assert_eq!(rt; replays.count(life(1)), 2);
-    assert_eq!(rt; replays.count(life(2)), 0);
-    for (client, count) in [(1, 1), (0, 2), (1, 2), (0, 7)] {
-        let least = Some((life(client), Txn(number(count))));
-        assert_eq!(rt; replays.next_least(), least);
-        let taken = replays
-            .take_least()
-            .map(|(who, replay)| (who, replay.number));
-        assert_eq!(rt; taken, least);
-    }
+    ];
+    puts(&rt, alloc, &mut replays, puts_of.as_slice())?;
+    counts(&rt, &replays, &[(0, 2), (1, 2), (2, 0)]);
+    takes(&rt, &mut replays, &[(1, 1), (0, 2), (1, 2), (0, 7)]);
     assert!(rt; replays.next_least().is_none());
-    assert!(rt; replays.take_least().is_none());
-    assert_eq!(rt; replays.count(life(0)), 0);
+    assert!(rt; taken(&mut replays).is_none());
+    counts(&rt, &replays, &[(0, 0)]);
     Ok(())
 }
 
@@ -71,9 +107,10 @@ fn a_replay_comes_out_as_it_came(rt: HostRuntime) -> Result<(), Fail> {
     let alloc = rt.alloc();
     let mut replays = Replays::new(alloc);
     replays.put(life(3), replay(alloc, 9, &[4, 5])?)?;
-    assert_eq!(rt;
-        replays.take_least(),
-        Some((life(3), replay(alloc, 9, &[4, 5])?))
-    );
+    let Some((who, found)) = replays.take_least() else {
+        return Err(Fail::from(Memory));
+    };
+    assert!(rt; who == life(3));
+    assert!(rt; found == replay(alloc, 9, &[4, 5])?);
     Ok(())
 }

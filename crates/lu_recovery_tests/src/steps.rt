@@ -5,6 +5,7 @@ use lu_msg::{Answer, Op, Reply};
 use lu_part::{Part, Parts};
 use lu_txn::{Journal, Seen, TxnError};
 use std::alloc::Global;
+use std::process::Abort;
 use std::test::Fail;
 
 pub const A: Who = Who { client: 0, life: 1 };
@@ -68,27 +69,37 @@ pub fn mkdir(alloc: Global, text: &[u8]) -> Result<Op, Memory> {
     Ok(Op::Mkdir(path))
 }
 
-/// A directory of this name is made in the root.
-fn makes(
+/// A request of this life, tag and number makes a directory of this name, and writes these parts.
+pub fn append(
     alloc: Global,
     journal: &mut Journal,
-    who: Who,
-    tag: u8,
-    xid: u64,
+    request: (Who, u8, u64),
     letter: u8,
+    writes: Parts,
 ) -> Result<(), Fail> {
-    let number = journal.next()?;
+    let (who, tag, xid) = request;
     let op = mkdir(alloc, &[letter])?;
-    let writes = one(alloc, Part::Name(Fid(1), name(alloc, &[letter])?))?;
+    let number = journal.next()?;
     let answer = reply(alloc, who, xid, number);
     journal.append(number, who, tag % 8, op, writes, answer)?;
     Ok(())
 }
 
+/// A directory of this name is made in the root.
+fn makes(
+    alloc: Global,
+    journal: &mut Journal,
+    request: (Who, u8, u64),
+    letter: u8,
+) -> Result<(), Fail> {
+    let writes = one(alloc, Part::Name(Fid(1), name(alloc, &[letter])?))?;
+    append(alloc, journal, request, letter, writes)
+}
+
 /// Does one step.
 pub fn perform(alloc: Global, journal: &mut Journal, step: Step) -> Result<(), Fail> {
     match step {
-        Step::Makes(who, tag, xid, letter) => makes(alloc, journal, who, tag, xid, letter),
+        Step::Makes(who, tag, xid, letter) => makes(alloc, journal, (who, tag, xid), letter),
         Step::Reads(who, tag, xid) => {
             journal.keep(who, tag % 8, reply(alloc, who, xid, Txn(0)))?;
             Ok(())
@@ -139,4 +150,46 @@ pub fn looked(journal: &Journal, who: Who, tag: u8, xid: u64) -> &'static str {
 /// The numbers seen by what touches this part.
 pub fn seen(alloc: Global, journal: &Journal, part: Part) -> Result<Vec<u64>, Memory> {
     Ok(journal.seen(&one(alloc, part)?)?.into_vec())
+}
+
+/// Requests of these lives, tags and numbers are answered so when they are looked up.
+pub fn are_looked_up(rt: &impl Abort, journal: &Journal, requests: &[(Who, u8, u64, &str)]) {
+    for (who, tag, xid, answer) in requests {
+        assert!(rt; looked(journal, *who, *tag, *xid) == *answer);
+    }
+}
+
+/// Whether the life at this place is this one.
+fn has_life(journal: &Journal, at: usize, life: Who) -> bool {
+    match journal.life(at) {
+        Some(who) => who == life,
+        None => false,
+    }
+}
+
+/// The journal has slots for these lives, in this order, and no other.
+pub fn have_lives(rt: &impl Abort, journal: &Journal, lives: &[Who]) {
+    for (at, life) in lives.iter().enumerate() {
+        assert!(rt; has_life(journal, at, *life));
+    }
+    assert!(rt; journal.life(lives.len()).is_none());
+}
+
+/// Whether these are the numbers of boot 1 with these counts.
+pub fn are_numbers(numbers: &[u64], counts: &[u64]) -> bool {
+    let mut pairs = numbers.iter().zip(counts);
+    numbers.len() == counts.len() && pairs.all(|(number, count)| *number == first(*count))
+}
+
+/// What touches this part has seen the transactions of boot 1 with these counts, and no other.
+pub fn sees(
+    rt: &impl Abort,
+    alloc: Global,
+    journal: &Journal,
+    part: Part,
+    counts: &[u64],
+) -> Result<(), Memory> {
+    let seen = seen(alloc, journal, part)?;
+    assert!(rt; are_numbers(seen.as_slice(), counts));
+    Ok(())
 }

@@ -1,8 +1,10 @@
 //! Recovery windows, from what they take to what their close decides.
 
 use crate::replays::{life, number, numbers, replay};
-use lu_base::{Ask, Cause, Cookie, Extent, Fid, Lock, Mode, Numbers, Policy, Resource, Txn, Who};
-use lu_window::{Eviction, Outcome, Window, WindowError};
+use lu_base::{
+    Ask, Cause, Cookie, Extent, Fid, Lock, Memory, Mode, Numbers, Policy, Resource, Txn, Who,
+};
+use lu_window::{Eviction, KeptReplay, Outcome, Window, WindowError};
 use std::alloc::Global;
 use std::process::Abort;
 use std::test::Fail;
@@ -85,44 +87,56 @@ fn outcome(alloc: Global, row: &Row<'_>) -> Result<Outcome, Fail> {
     Ok(window.settle()?)
 }
 
+/// Whether the replays of these counts are kept.
+fn are_kept(kept: &[KeptReplay], counts: &[u32]) -> bool {
+    let mut pairs = kept.iter().zip(counts);
+    kept.len() == counts.len() && pairs.all(|(kept, count)| kept.replay.number.0 == number(*count))
+}
+
+/// Whether these are the numbers of these counts.
+fn are_numbers(numbers: &[u64], counts: &[u32]) -> bool {
+    let mut pairs = numbers.iter().zip(counts);
+    numbers.len() == counts.len() && pairs.all(|(found, count)| *found == number(*count))
+}
+
+/// Whether the first life of this client is evicted for this cause.
+fn is_evicted(eviction: &Eviction, client: u16, cause: Cause) -> bool {
+    eviction.who == life(client) && eviction.cause == cause
+}
+
+/// Whether the first lives of these clients are evicted for these causes.
+fn are_evicted(evicted: &[Eviction], wanted: &[(u16, Cause)]) -> bool {
+    let mut pairs = evicted.iter().zip(wanted);
+    evicted.len() == wanted.len()
+        && pairs.all(|(eviction, (client, cause))| is_evicted(eviction, *client, *cause))
+}
+
+/// Whether these locks have these cookies.
+fn have_cookies(locks: &[Lock], cookies: &[u64]) -> bool {
+    let mut pairs = locks.iter().zip(cookies);
+    locks.len() == cookies.len() && pairs.all(|(lock, cookie)| lock.cookie.0 == *cookie)
+}
+
+/// Whether these are lives of these clients.
+fn are_lives(lives: &[Who], wanted: &[(u16, u32)]) -> bool {
+    let mut pairs = lives.iter().zip(wanted);
+    lives.len() == wanted.len()
+        && pairs.all(|(who, (client, life))| who.client == *client && who.life == *life)
+}
+
 /// Compares what was decided with a row.
-fn compare(rt: &impl Abort, alloc: Global, row: &Row<'_>, outcome: &Outcome) -> Result<(), Fail> {
-    let mut kept = Numbers::new(alloc);
-    for one in outcome.kept.as_slice() {
-        kept.push(one.replay.number.0)?;
-    }
-    assert_eq!(rt; kept, numbers(alloc, row.kept)?);
-    assert_eq!(rt; outcome.lost, numbers(alloc, row.lost)?);
-    let evicted: Vec<Eviction> = row
-        .evicted
-        .iter()
-        .map(|(client, cause)| Eviction {
-            who: life(*client),
-            cause: *cause,
-        })
-        .collect(alloc)?;
-    assert_eq!(rt; outcome.evicted.as_slice(), evicted.as_slice());
-    let locks: Vec<u64> = outcome
-        .locks
-        .as_slice()
-        .iter()
-        .map(|lock| lock.cookie.0)
-        .collect(alloc)?;
-    assert_eq!(rt; locks.as_slice(), row.locks);
-    let joins: Vec<(u16, u32)> = outcome
-        .joins
-        .as_slice()
-        .iter()
-        .map(|who| (who.client, who.life))
-        .collect(alloc)?;
-    assert_eq!(rt; joins.as_slice(), row.joins);
-    Ok(())
+fn compare(rt: &impl Abort, row: &Row<'_>, outcome: &Outcome) {
+    assert!(rt; are_kept(outcome.kept.as_slice(), row.kept));
+    assert!(rt; are_numbers(outcome.lost.as_slice(), row.lost));
+    assert!(rt; are_evicted(outcome.evicted.as_slice(), row.evicted));
+    assert!(rt; have_cookies(outcome.locks.as_slice(), row.locks));
+    assert!(rt; are_lives(outcome.joins.as_slice(), row.joins));
 }
 
 /// Lets the windows of all rows decide.
 fn all_decide(rt: &impl Abort, alloc: Global, rows: &[Row<'_>]) -> Result<(), Fail> {
     for row in rows {
-        compare(rt, alloc, row, &outcome(alloc, row)?)?;
+        compare(rt, row, &outcome(alloc, row)?);
     }
     Ok(())
 }
@@ -509,11 +523,25 @@ fn newer_lives_join(rt: HostRuntime) -> Result<(), Fail> {
     all_decide(&rt, rt.alloc(), &rows)
 }
 
+/// Whether a life is back with what the window takes, and whether all are then.
+fn become_back(
+    rt: &impl Abort,
+    alloc: Global,
+    window: &mut Window,
+    rows: &[(Event<'_>, bool, bool)],
+) -> Result<(), Fail> {
+    for (event, back, all) in rows {
+        assert!(rt; take(alloc, window, event)? == *back);
+        assert!(rt; window.all_back() == *all);
+    }
+    Ok(())
+}
+
 #[test]
 fn a_life_becomes_back_once(rt: HostRuntime) -> Result<(), Fail> {
     let alloc = rt.alloc();
     let mut window = Window::new(alloc, &[life(0), life(1), life(2)], Txn(0))?;
-    for (event, back, all) in [
+    let rows: [(Event<'_>, bool, bool); 11] = [
         (Event::Replay(0, 1, &[]), false, false),
         (Event::Word(0, 2, 1, &[]), false, false),
         (Event::Replay(0, 1, &[]), false, false),
@@ -525,11 +553,8 @@ fn a_life_becomes_back_once(rt: HostRuntime) -> Result<(), Fail> {
         (Event::Wish(1, 2), false, false),
         (Event::Word(2, 0, 0, &[]), true, true),
         (Event::Word(1, 0, 0, &[]), true, true),
-    ] {
-        assert_eq!(rt; take(alloc, &mut window, &event)?, back);
-        assert_eq!(rt; window.all_back(), all);
-    }
-    Ok(())
+    ];
+    become_back(&rt, alloc, &mut window, rows.as_slice())
 }
 
 /// A lock is handed in by its life.
@@ -537,52 +562,74 @@ fn hand_in(window: &mut Window, lock: Lock) -> Result<bool, WindowError> {
     window.lock(lock.ask.who, lock)
 }
 
+/// A window of the first lives of clients 1 and 0.
+fn of_two(alloc: Global) -> Result<Window, Memory> {
+    Window::new(alloc, &[life(1), life(0)], Txn(0))
+}
+
+/// The first life of a client says that it has told all; what the window answers.
+fn says(alloc: Global, window: &mut Window, client: u16) -> Result<bool, WindowError> {
+    window.word(life(client), 0, 0, Numbers::new(alloc))
+}
+
+/// Whether a replay of the first life of a client is one of an unknown life.
+fn is_unknown(alloc: Global, window: &mut Window, client: u16) -> Result<bool, Memory> {
+    let answer = window.replay(life(client), replay(alloc, 1, &[])?);
+    Ok(answer == Err(WindowError::Unknown))
+}
+
+/// Lives of clients wish to join, and the window answers so.
+fn joins(rt: &impl Abort, window: &mut Window, rows: &[(u16, u32, Result<(), WindowError>)]) {
+    for (client, life, answer) in rows {
+        let who = Who {
+            client: *client,
+            life: *life,
+        };
+        assert!(rt; window.joined(who) == *answer);
+    }
+}
+
 #[test]
 fn strangers_are_unknown(rt: HostRuntime) -> Result<(), Fail> {
     let alloc = rt.alloc();
-    let mut window = Window::new(alloc, &[life(1), life(0)], Txn(0))?;
-    assert!(rt; window.word(life(0), 0, 0, Numbers::new(alloc))?);
+    let mut window = of_two(alloc)?;
+    assert!(rt; says(alloc, &mut window, 0)?);
     assert!(rt; !window.all_back());
-    let stranger = window.replay(life(2), replay(alloc, 1, &[])?);
-    assert_eq!(rt; stranger, Err(WindowError::Unknown));
-    for (client, life, answer) in [
+    assert!(rt; is_unknown(alloc, &mut window, 2)?);
+    let rows = [
         (0, 1, Err(WindowError::Unknown)),
         (0, 2, Ok(())),
         (2, 2, Err(WindowError::Unknown)),
-    ] {
-        assert_eq!(rt; window.joined(Who { client, life }), answer);
-    }
+    ];
+    joins(&rt, &mut window, rows.as_slice());
     Ok(())
 }
 
 #[test]
 fn a_closed_window_is_late(rt: HostRuntime) -> Result<(), Fail> {
     let alloc = rt.alloc();
-    let mut window = Window::new(alloc, &[life(1), life(0)], Txn(0))?;
+    let mut window = of_two(alloc)?;
     window.close_now();
-    let word = window.word(life(1), 0, 0, Numbers::new(alloc));
-    assert_eq!(rt; word, Err(WindowError::Late));
-    for (client, answer) in [(1, WindowError::Late), (2, WindowError::Unknown)] {
-        assert_eq!(rt; hand_in(&mut window, lock(client, 3)), Err(answer));
-    }
-    let joins = window.joined(Who { client: 1, life: 2 });
-    assert_eq!(rt; joins, Err(WindowError::Late));
+    assert!(rt; says(alloc, &mut window, 1) == Err(WindowError::Late));
+    assert!(rt; hand_in(&mut window, lock(1, 3)) == Err(WindowError::Late));
+    assert!(rt; hand_in(&mut window, lock(2, 3)) == Err(WindowError::Unknown));
+    joins(&rt, &mut window, &[(1, 2, Err(WindowError::Late))]);
     Ok(())
+}
+
+/// Nothing is kept and nothing lost, and the first life of this client alone is evicted, since it didn't come.
+fn lacks(rt: &impl Abort, outcome: &Outcome, client: u16) {
+    assert!(rt; outcome.kept.is_empty());
+    assert!(rt; outcome.lost.is_empty());
+    assert!(rt; are_evicted(outcome.evicted.as_slice(), &[(client, Cause::Absent)]));
 }
 
 #[test]
 fn two_lives_of_which_one_comes(rt: HostRuntime) -> Result<(), Fail> {
     let alloc = rt.alloc();
     let mut window = Window::new(alloc, &[life(0), life(1)], Txn(0))?;
-    assert!(rt; window.word(life(0), 0, 0, Numbers::new(alloc))?);
+    assert!(rt; says(alloc, &mut window, 0)?);
     window.close_now();
-    let outcome = window.settle()?;
-    assert!(rt; outcome.kept.is_empty());
-    assert!(rt; outcome.lost.is_empty());
-    let absent = Eviction {
-        who: life(1),
-        cause: Cause::Absent,
-    };
-    assert_eq!(rt; outcome.evicted.as_slice(), [absent].as_slice());
+    lacks(&rt, &window.settle()?, 1);
     Ok(())
 }

@@ -15,7 +15,7 @@ use Rattle.lu_target_rows.specs.States.{Target, turn}
 use Rattle.lu_target_rows.specs.Windows.{Replayed, Window}
 use Rattle.lu_target_parts.specs.Windows.{backs}
 use Rattle.lu_window.specs.States.{State, has_older}
-use Rattle.lu_turns.specs.Giving.{giving}
+use Rattle.lu_words.specs.Given.{giving}
 use Rattle.lu_turns.specs.Servers.{ServerState}
 use Rattle.lu_turns.specs.Recovering.{Gathers, Recovers}
 use Rattle.lu_turns.specs.Passing.{Passes, HasBatches, StopsAt}

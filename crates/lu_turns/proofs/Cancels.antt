@@ -25,7 +25,7 @@ use Rattle.lu_sound.specs.Sound.{HasLocksOf}
 use Rattle.lu_sound.proofs.Spent.{overruns_later}
 use Rattle.lu_target_rows.specs.Rows.{overruns}
 use Rattle.lu_turns.specs.Numbers.{Overruns}
-use Rattle.lu_turns.specs.Giving.{giving}
+use Rattle.lu_words.specs.Given.{giving}
 use Rattle.lu_turns.specs.Servers.{ServerState, Shows, Stands, Makes}
 use Rattle.lu_turns.specs.Middles.{ShowsRest, MakesPart, MakesRest}
 use Rattle.lu_turns.specs.Releases.{MayRelease, IsGivenBack, QueueGoesOn}

@@ -22,7 +22,7 @@ use Rattle.lu_store.specs.Stores.{Serves}
 use Rattle.lu_locking.specs.Servers as locking
 use Rattle.lu_locking.specs.Servers.{ShowsCounts, ServerState as LockState}
 use Rattle.lu_locking.specs.Standing.{AreOrdered, StandAgain}
-use Rattle.lu_turns.specs.Giving.{giving}
+use Rattle.lu_words.specs.Given.{giving}
 use Rattle.lu_turns.specs.Middles.{KeepsFirst}
 use Rattle.lu_turns.specs.Passing.{IsClosed, HasBatches, StopsAt}
 use Rattle.lu_turns.specs.Recovering.{Gathers}

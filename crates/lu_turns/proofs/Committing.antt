@@ -13,7 +13,7 @@ use Rattle.lu_trace.specs.declared.entries.Entry.TheVariants as line
 use Rattle.lu_trace.specs.declared.traces.Step.{Step}
 use Rattle.lu_trace.specs.Turns.{Making, with_line, then_step}
 use Rattle.lu_words.specs.Carried.{Deed, Called, Glimpse}
-use Rattle.lu_words.specs.Given.{line_of, step_of, step_posts}
+use Rattle.lu_words.specs.Given.{line_of, step_of, step_posts, giving}
 use Rattle.lu_words.specs.Printed.{printed_entry}
 use Rattle.lu_words.specs.Words.{Entry, Commit, Skip, Fail}
 use Rattle.lu_target_rows.specs.Disks.{batches_of}
@@ -30,7 +30,6 @@ use Rattle.lu_locking.specs.Servers as locking
 use Rattle.lu_locking.specs.Servers.{ServerState as LockState}
 use Rattle.lu_sound.proofs.Commits.{sound_leaves}
 use Rattle.lu_turns.specs.Commits.{commit_line}
-use Rattle.lu_turns.specs.Giving.{giving}
 use Rattle.lu_turns.specs.Servers.{ServerState, Shows, Makes, KeepsBatches}
 use Rattle.lu_turns.specs.Middles.{KeepsFirst}
 use Rattle.lu_turns.proofs.Middles.{noted}

@@ -6,7 +6,7 @@ use Rattle.lu_trace.specs.declared.entries.Entry.{Entry as PrintedEntry}
 use Rattle.lu_trace.specs.declared.entries.Line.{Line as PrintedLine}
 use Rattle.lu_trace.specs.declared.traces.Step.{Step}
 use Rattle.lu_trace.specs.Turns.{Making, then_step, with_line}
-use Rattle.lu_words.specs.Given.{line_of, step_lines, posts_with, step_posts, step_of}
+use Rattle.lu_words.specs.Given.{line_of, step_lines, posts_with, step_posts, step_of, giving}
 use Rattle.lu_words.specs.Printed.{printed_entry}
 use Rattle.lu_words.specs.Words.{Entry, Send}
 use Rattle.lu_target_rows.specs.States.{Target, after, turn, follow}
@@ -14,7 +14,6 @@ use Rattle.lu_service.specs.declared.services.Kind.{Kind}
 use Rattle.lu_service.specs.declared.services.Kind.TheVariants.{Mdt, Ost}
 use Rattle.lu_target_parts.specs.Contents.{ShowsNames, ShowsObjects}
 use Rattle.lu_redo.specs.Shown as redo
-use Rattle.lu_turns.specs.Giving.{giving}
 use Rattle.lu_turns.specs.Servers.{ServerState, Shows, Stands, Makes}
 use Rattle.lu_turns.specs.Answering.{Tells, TellsSizes}
 

@@ -30,7 +30,7 @@ use Rattle.lu_locking.specs.Departing.{asker_of, ended_with}
 use Rattle.lu_turns.specs.Servers.{ServerState}
 use Rattle.lu_turns.specs.Middles.{ShowsRest, MakesPart}
 use Rattle.lu_turns.specs.Releases.{MayRelease, MayDepart, departs, MayDepartAll}
-use Rattle.lu_turns.specs.Giving.{giving}
+use Rattle.lu_words.specs.Given.{giving}
 use Rattle.lu_turns.proofs.Composing.{giving_none, giving_more, turn_more}
 use Rattle.lu_turns.proofs.Middles.{noted, SoFar, so_far_more, so_far_all}
 

@@ -35,7 +35,7 @@ use Rattle.lu_redo.specs.Shown as redo
 use Rattle.lu_sound.proofs.Names.{sound_executes}
 use Rattle.lu_store.specs.Stores.{StoreState, Serves, HasTaken}
 use Rattle.lu_store.proofs.Keeping.{serves_slot}
-use Rattle.lu_turns.specs.Giving.{giving}
+use Rattle.lu_words.specs.Given.{giving}
 use Rattle.lu_turns.specs.Servers.{ServerState, Shows, Makes, IsTaken, IsSound}
 use Rattle.lu_turns.specs.Answering.{Tells, MayAnswer, IsAnswered, IsAppended}
 use Rattle.lu_turns.specs.Acting.{HasTold, HasToldAs}

@@ -34,7 +34,7 @@ use Rattle.lu_sound.proofs.Numbers.{overruns_more, raises_sends_again}
 use Rattle.lu_sound.proofs.Spent.{overruns_later}
 use Rattle.lu_target_rows.specs.Rows.{overruns}
 use Rattle.lu_turns.specs.Numbers.{Overruns}
-use Rattle.lu_turns.specs.Giving.{giving}
+use Rattle.lu_words.specs.Given.{giving}
 use Rattle.lu_turns.specs.Servers.{ServerState, Shows, Makes, KeepsBatches, Fails}
 use Rattle.lu_turns.specs.Middles.{ShowsRest, MakesRest, KeepsFirst}
 use Rattle.lu_turns.specs.Releases.{moves, AreMoved}

@@ -25,7 +25,7 @@ use Rattle.lu_locking.specs.Asking.{AreShared, cookies_of}
 use Rattle.lu_locking.specs.Servers as locking
 use Rattle.lu_locking.specs.Servers.{ServerState as LockState, blocks_told}
 use Rattle.lu_sound.proofs.Blocks.{sound_blocks}
-use Rattle.lu_turns.specs.Giving.{giving}
+use Rattle.lu_words.specs.Given.{giving}
 use Rattle.lu_turns.specs.Servers.{ServerState, Shows, IsSound}
 use Rattle.lu_turns.specs.Passes.{IsWay, AreCalled}
 use Rattle.lu_turns.specs.declared.names.Way.TheVariants as way

@@ -42,7 +42,7 @@ use Rattle.lu_sound.specs.Sound.{IsAsked, IsSound}
 use Rattle.lu_sound.proofs.Glimpses.{sound_report}
 use Rattle.lu_store.specs.Stores.{Serves}
 use Rattle.lu_turns.specs.Answering.{Tells, IsAnswered}
-use Rattle.lu_turns.specs.Giving.{giving}
+use Rattle.lu_words.specs.Given.{giving}
 use Rattle.lu_turns.specs.Objects.{AsksSize}
 use Rattle.lu_turns.specs.Servers.{ServerState, Shows, Makes, IsUnasked}
 use Rattle.lu_turns.proofs.Composing.{makes_as, makes_nothing, objects_shown}

@@ -24,7 +24,7 @@ use Rattle.lu_locking.specs.Servers as locking
 use Rattle.lu_locking.specs.Servers.{ServerState as LockState, AreCalledBack, blocks_told}
 use Rattle.lu_sound.specs.Sound.{IsSound}
 use Rattle.lu_sound.proofs.Blocks.{sound_queue_goes, sound_all_queues_go}
-use Rattle.lu_turns.specs.Giving.{giving}
+use Rattle.lu_words.specs.Given.{giving}
 use Rattle.lu_turns.specs.Servers.{ServerState, Shows, Stands, Makes}
 use Rattle.lu_target_rows.specs.Rows.{overruns}
 use Rattle.lu_turns.specs.Numbers.{Overruns, OverrunsRest}

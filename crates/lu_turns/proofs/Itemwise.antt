@@ -12,7 +12,7 @@ use Rattle.lu_target_rows.specs.Outcomes.{restored}
 use Rattle.lu_redo.specs.declared.deeds.Deed.{Deed}
 use Rattle.lu_redo.specs.Shown.{deed_of}
 use Rattle.lu_window.specs.declared.outcomes.Eviction.{Eviction}
-use Rattle.lu_turns.specs.Giving.{giving}
+use Rattle.lu_words.specs.Given.{giving}
 use Rattle.lu_turns.specs.Closing.{lines, restore_line, evict_line, ready_line, stays_line, joined_line, close_lines, gone_in, numbers_of}
 use Rattle.lu_turns.proofs.Composing.{giving_none, giving_more}
 use Rattle.lu_turns.proofs.Lines.{one_line_more}

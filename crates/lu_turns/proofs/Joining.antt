@@ -22,7 +22,7 @@ use Rattle.lu_store.specs.Stores.{MayMove}
 use Rattle.lu_locking.specs.declared.departing.QueueStep.{QueueStep}
 use Rattle.lu_sound.proofs.Commits.{life_left}
 use Rattle.lu_turns.specs.Answering.{Tells}
-use Rattle.lu_turns.specs.Giving.{giving}
+use Rattle.lu_words.specs.Given.{giving}
 use Rattle.lu_turns.specs.Joins.{IsAlone, TakesPlace}
 use Rattle.lu_turns.specs.Servers.{ServerState, Shows, Stands, Makes, KeepsBatches, Fails}
 use Rattle.lu_turns.specs.Middles.{MakesRest, KeepsFirst}

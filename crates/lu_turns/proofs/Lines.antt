@@ -16,7 +16,7 @@ use Rattle.lu_target_rows.specs.Recovery.{kept_lines, restore_lines, evict_lines
 use Rattle.lu_target_rows.specs.States.{Target}
 use Rattle.lu_window.specs.Shown.{gone}
 use Rattle.lu_window.specs.declared.outcomes.Eviction.{Eviction}
-use Rattle.lu_turns.specs.Giving.{giving}
+use Rattle.lu_words.specs.Given.{giving}
 use Rattle.lu_turns.specs.Closing.{lines, kept_line, restore_line, evict_line, ready_line, stays_line, joined_line, up_line, numbers_of, close_lines}
 use Rattle.lu_turns.proofs.Composing.{giving_more, giving_none}
 

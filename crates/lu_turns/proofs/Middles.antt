@@ -12,7 +12,7 @@ use Rattle.lu_service.specs.Contents.{Contents}
 use Rattle.lu_trace.specs.declared.entries.Entry.{Entry as PrintedEntry}
 use Rattle.lu_trace.specs.declared.traces.Step.{Step}
 use Rattle.lu_trace.specs.Turns.{Making, with_line}
-use Rattle.lu_words.specs.Given.{line_of, step_posts}
+use Rattle.lu_words.specs.Given.{line_of, step_posts, giving}
 use Rattle.lu_words.specs.Printed.{printed_entry}
 use Rattle.lu_words.specs.Carried.{Contents as Read}
 use Rattle.lu_words.specs.Words.{Entry, Send, Tick, Grant, Block, Release, Evict, Joined, Asks, Ends, Answers}
@@ -26,7 +26,6 @@ use Rattle.lu_target_parts.proofs.Slots.{never}
 use Rattle.lu_store.specs.Taken.{taken_of}
 use Rattle.lu_store.specs.Stores.{StoreState, Serves, HasTaken}
 use Rattle.lu_locking.specs.Servers as locking
-use Rattle.lu_turns.specs.Giving.{giving}
 use Rattle.lu_turns.specs.Answering.{Tells, TellsSizes}
 use Rattle.lu_sound.specs.Sound.{IsKindOf, IsTaken, IsSound}
 use Rattle.lu_turns.specs.Servers.{ServerState, Shows, Stands}

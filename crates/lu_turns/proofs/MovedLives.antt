@@ -32,7 +32,7 @@ use Rattle.lu_sound.specs.Sound.{IsKindOf, HasLocksOf, IsSound}
 use Rattle.lu_sound.proofs.Commits.{sound_leaves, sound_joins}
 use Rattle.lu_sound.proofs.Requests.{all_passed}
 use Rattle.lu_turns.specs.Commits.{IsMoved}
-use Rattle.lu_turns.specs.Giving.{giving}
+use Rattle.lu_words.specs.Given.{giving}
 use Rattle.lu_turns.specs.Joins.{IsAlone}
 use Rattle.lu_turns.specs.Servers.{ServerState, Shows}
 use Rattle.lu_turns.specs.Middles.{ShowsRest, MakesPart, MakesRest, KeepsFirst}

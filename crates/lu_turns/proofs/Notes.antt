@@ -5,9 +5,8 @@ use Rattle.lu_msg.specs.declared.messages.Post.{Post}
 use Rattle.lu_trace.specs.declared.entries.Entry.{Entry as PrintedEntry}
 use Rattle.lu_trace.specs.declared.traces.Step.{Step}
 use Rattle.lu_trace.specs.Turns.{Making, with_line, then_step}
-use Rattle.lu_words.specs.Given.{step_of}
+use Rattle.lu_words.specs.Given.{step_of, giving}
 use Rattle.lu_words.specs.Words.{Entry}
-use Rattle.lu_turns.specs.Giving.{giving}
 use Rattle.lu_turns.proofs.Composing.{giving_more, nothing_more}
 
 -- the step of one line

@@ -23,7 +23,7 @@ use Rattle.lu_service.specs.Objects.{objects, answer_of}
 use Rattle.lu_trace.specs.Turns.{Making, with_line, then_step}
 use Rattle.lu_trace.specs.declared.entries.Entry.TheVariants as line
 use Rattle.lu_words.specs.Carried.{Deed}
-use Rattle.lu_words.specs.Given.{step_of}
+use Rattle.lu_words.specs.Given.{step_of, giving}
 use Rattle.lu_words.specs.Words.{Entry, Grant}
 use Rattle.lu_target_rows.specs.Glimpses.{answered}
 use Rattle.lu_target_rows.specs.Queues.{object, size_of, extent_of}
@@ -33,7 +33,6 @@ use Rattle.lu_target_rows.specs.Stored.{object_in}
 use Rattle.lu_target_parts.specs.Contents.{ShowsObjects}
 use Rattle.lu_target_parts.proofs.Objects.{object_is, read_is}
 use Rattle.lu_turns.specs.Objects.{AsksFor, Reads, AsksSize}
-use Rattle.lu_turns.specs.Giving.{giving}
 use Rattle.lu_turns.proofs.Composing.{giving_more}
 use Rattle.lu_turns.proofs.Replying.{answered_as}
 

@@ -37,7 +37,7 @@ use Rattle.lu_locking.specs.Servers as locking
 use Rattle.lu_locking.specs.Servers.{ServerState as LockState, IsEnqueued, AreCalledBack, new_lock, as_grown, blocks_told}
 use Rattle.lu_sound.specs.Requests.{request_of}
 use Rattle.lu_turns.specs.Answering.{Tells, TellsSizes, IsAnswered}
-use Rattle.lu_turns.specs.Giving.{giving}
+use Rattle.lu_words.specs.Given.{giving}
 use Rattle.lu_turns.specs.Objects.{IsWrite}
 use Rattle.lu_turns.specs.Servers.{ServerState, Shows, Makes, IsUnasked}
 use Rattle.lu_turns.proofs.Composing.{makes_as, makes_then, tells, objects_shown}

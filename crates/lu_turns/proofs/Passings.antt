@@ -19,7 +19,7 @@ use Rattle.lu_target_rows.specs.States.{Target, turn}
 use Rattle.lu_target_parts.specs.Windows.{ShowsWindow, stores, brings, says, wishes, backs}
 use Rattle.lu_target_parts.proofs.Windows.{row_replay_is, row_replay_was, row_lock_is, row_lock_was, row_word_is, row_word_was}
 use Rattle.lu_window.specs.States.{State, at_window, with_replays, took_replay, took_lock, took_word}
-use Rattle.lu_turns.specs.Giving.{giving}
+use Rattle.lu_words.specs.Given.{giving}
 use Rattle.lu_turns.specs.Servers.{ServerState, Shows}
 use Rattle.lu_turns.specs.Recovering.{Gathers, Recovers}
 use Rattle.lu_turns.specs.Passing.{Passes, IsClosed, HasBatches, StopsAt}

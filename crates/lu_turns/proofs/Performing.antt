@@ -30,7 +30,7 @@ use Rattle.lu_redo.specs.Shown as redo
 use Rattle.lu_sound.proofs.Entries.{none_asks}
 use Rattle.lu_sound.proofs.Objects.{sound_written}
 use Rattle.lu_turns.specs.Answering.{Tells, IsAppended}
-use Rattle.lu_turns.specs.Giving.{giving}
+use Rattle.lu_words.specs.Given.{giving}
 use Rattle.lu_turns.specs.Servers.{ServerState, Shows, Makes, IsUnasked}
 use Rattle.lu_turns.proofs.Composing.{objects_shown}
 use Rattle.lu_turns.proofs.ObjectRows.{sees_nothing}

@@ -37,7 +37,7 @@ use Rattle.lu_locking.specs.Departing.{asker_of}
 use Rattle.lu_sound.specs.Requests.{is_named, request_of}
 use Rattle.lu_sound.specs.Sound.{IsAsked, AreApart, AskApart, HasLocksOf, IsSound}
 use Rattle.lu_sound.proofs.Glimpses.{sound_releases}
-use Rattle.lu_turns.specs.Giving.{giving}
+use Rattle.lu_words.specs.Given.{giving}
 use Rattle.lu_turns.specs.Answering.{Tells, MayRefuse, IsAnswered, others}
 use Rattle.lu_turns.specs.Servers.{ServerState}
 use Rattle.lu_turns.specs.Middles.{ShowsRest, Waits, MakesPart}

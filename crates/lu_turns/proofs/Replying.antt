@@ -13,7 +13,7 @@ use Rattle.lu_target_rows.specs.Glimpses.{answered}
 use Rattle.lu_target_rows.specs.Replies.{none, reply_to, seen_in, to_life}
 use Rattle.lu_target_rows.specs.States.{Target}
 use Rattle.lu_turns.specs.Answering.{IsAnswered}
-use Rattle.lu_turns.specs.Giving.{giving}
+use Rattle.lu_words.specs.Given.{giving}
 use Rattle.lu_turns.specs.Servers.{ServerState}
 use Rattle.lu_turns.proofs.ObjectRows.{sees_nothing}
 

@@ -28,7 +28,7 @@ use Rattle.lu_store.specs.Stores.{StoreState, Redoes, MayMove, KeepsDisk}
 use Rattle.lu_redo.specs.Shown as redo
 use Rattle.lu_redo.proofs.Steps.{last_shown, shows_above}
 use Rattle.lu_turns.specs.Commits.{IsMoved, KeepsMoved}
-use Rattle.lu_turns.specs.Giving.{giving}
+use Rattle.lu_words.specs.Given.{giving}
 use Rattle.lu_turns.specs.Middles.{KeepsFirst}
 use Rattle.lu_turns.specs.Servers.{ServerState}
 use Rattle.lu_turns.specs.Closing.{lines, kept_line, numbers_of, MayPerform, MayRedo, CanRedo, Decides, IsKept, HasSome}

@@ -3,7 +3,7 @@ use Rattle.std.proofs.Common.{◌≡◌, ℕ, ◌+◌, ◌<◌, ◌≤◌, List,
 use Rattle.std.proofs.lemmas.List.{take_more, take_all}
 use Rattle.lu_trace.specs.Turns.{Making}
 use Rattle.lu_words.specs.Words.{Entry}
-use Rattle.lu_turns.specs.Giving.{giving}
+use Rattle.lu_words.specs.Given.{giving}
 use Rattle.lu_turns.proofs.Composing.{giving_none, giving_more}
 
 module _ {A : Type 0} (told : List A → List Entry) where

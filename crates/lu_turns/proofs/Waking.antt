@@ -18,7 +18,7 @@ use Rattle.lu_store.specs.Stores.{StoreState}
 use Rattle.lu_turns.specs.Booting.{IsFresh, IsBooting}
 use Rattle.lu_turns.specs.Closing.{lines, up_line}
 use Rattle.lu_turns.specs.declared.faults.TurnFault.{TurnFault}
-use Rattle.lu_turns.specs.Giving.{giving}
+use Rattle.lu_words.specs.Given.{giving}
 use Rattle.lu_turns.specs.Servers.{ServerState, Shows}
 use Rattle.lu_turns.specs.Recovering.{Gathers, Recovers}
 use Rattle.lu_turns.specs.Passing.{Passes, HasBatches, StopsAt}

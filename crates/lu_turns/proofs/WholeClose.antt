@@ -26,7 +26,7 @@ use Rattle.lu_store.specs.Stores.{Serves, HasTaken}
 use Rattle.lu_locking.specs.Servers as locking
 use Rattle.lu_locking.specs.Standing.{StandAgain}
 use Rattle.lu_redo.specs.Shown as redo
-use Rattle.lu_turns.specs.Giving.{giving}
+use Rattle.lu_words.specs.Given.{giving}
 use Rattle.lu_turns.specs.Servers.{ServerState, Shows}
 use Rattle.lu_turns.specs.Recovering.{Gathers}
 use Rattle.lu_turns.specs.Closing.{Settles, Decides, IsKept, closed_at, close_lines, gone_in, lines, restore_line, evict_line, stays_line, joined_line}

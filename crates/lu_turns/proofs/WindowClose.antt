@@ -50,7 +50,7 @@ use Rattle.lu_redo.proofs.Steps.{shows_above}
 use Rattle.lu_trace.specs.Turns.{Making, with_line}
 use Rattle.lu_trace.specs.declared.entries.Entry.TheVariants as line
 use Rattle.lu_target_parts.proofs.Loads.{stored_committed, last_same}
-use Rattle.lu_turns.specs.Giving.{giving}
+use Rattle.lu_words.specs.Given.{giving}
 use Rattle.lu_turns.specs.Servers.{ServerState}
 use Rattle.lu_turns.specs.Recovering.{IsReplay, IsBrought, IsLockOf, AreLater, CookiesRise, IsAwaiting, Gathers}
 use Rattle.lu_turns.specs.Closing.{MayPerform, MayRedo, CanRedo, Decides, closed_at, MayBeCommitted}

@@ -31,7 +31,7 @@ use Rattle.lu_store.specs.Stores as stores
 use Rattle.lu_store.specs.Stores.{StoreState, Redoes, IsClose}
 use Rattle.lu_redo.specs.Shown as redo
 use Rattle.lu_redo.specs.Shown.{AreRepeatable}
-use Rattle.lu_turns.specs.Giving.{giving}
+use Rattle.lu_words.specs.Given.{giving}
 use Rattle.lu_turns.specs.Servers.{ServerState}
 use Rattle.lu_turns.specs.Recovering.{Gathers}
 

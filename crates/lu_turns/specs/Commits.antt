@@ -15,7 +15,7 @@ use Rattle.lu_target_rows.specs.Stored.{batch_of}
 use Rattle.lu_target_rows.specs.States.{Target}
 use Rattle.lu_target_parts.specs.Batches.{IsClosing}
 use Rattle.lu_store.specs.Stores.{StoreState, Serves, Redoes, IsMove, IsClose, KeepsTakenBut}
-use Rattle.lu_turns.specs.Giving.{giving}
+use Rattle.lu_words.specs.Given.{giving}
 use Rattle.lu_turns.specs.Middles.{KeepsFirst}
 use Rattle.lu_turns.specs.Servers.{ServerState}
 

@@ -1,5 +1,4 @@
 pub mod Faults
-pub mod Giving
 pub mod Requests
 pub mod Servers
 pub mod Answering

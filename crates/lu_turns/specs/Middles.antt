@@ -8,7 +8,7 @@ use Rattle.lu_target_rows.specs.Lives.{is_life}
 use Rattle.lu_target_rows.specs.States.{Target, turn}
 use Rattle.lu_redo.specs.Shown as redo
 use Rattle.lu_store.specs.Stores.{StoreState, Serves, HasTaken}
-use Rattle.lu_turns.specs.Giving.{giving}
+use Rattle.lu_words.specs.Given.{giving}
 use Rattle.lu_sound.specs.Sound.{IsKindOf, IsSound}
 use Rattle.lu_turns.specs.Servers.{ServerState, Shows}
 

@@ -11,7 +11,7 @@ use Rattle.lu_target_rows.specs.Names.{is_read, in_way, written_by, is_ready, ro
 use Rattle.lu_target_rows.specs.Replies.{blocks}
 use Rattle.lu_target_rows.specs.States.{Target, turn}
 use Rattle.lu_locking.specs.Asking.{cookies_of}
-use Rattle.lu_turns.specs.Giving.{giving}
+use Rattle.lu_words.specs.Given.{giving}
 use Rattle.lu_turns.specs.Servers.{ServerState, Shows, Makes}
 use Rattle.lu_turns.specs.declared.names.Way.{Way}
 use Rattle.lu_turns.specs.declared.names.Way.TheVariants as way

@@ -6,7 +6,7 @@ use Rattle.lu_words.specs.Words.{Entry}
 use Rattle.lu_target_rows.specs.Disks.{failing, batches_of}
 use Rattle.lu_target_rows.specs.States.{Target, turn}
 use Rattle.lu_window.specs.States.{State}
-use Rattle.lu_turns.specs.Giving.{giving}
+use Rattle.lu_words.specs.Given.{giving}
 use Rattle.lu_turns.specs.Servers.{ServerState, Shows}
 use Rattle.lu_turns.specs.Recovering.{Gathers, Recovers}
 

@@ -27,7 +27,7 @@ use Rattle.lu_locking.specs.declared.departing.QueueStep.{QueueStep}
 use Rattle.lu_locking.specs.Departing.{asker_of, ended_with, steps_told}
 use Rattle.lu_locking.specs.Servers as locking
 use Rattle.lu_locking.specs.Servers.{ServerState as LockState, IsNoRelease, IsReleased}
-use Rattle.lu_turns.specs.Giving.{giving}
+use Rattle.lu_words.specs.Given.{giving}
 use Rattle.lu_turns.specs.Servers.{ServerState}
 use Rattle.lu_turns.specs.Middles.{ShowsRest}
 

@@ -18,7 +18,7 @@ use Rattle.lu_store.specs.Stores.{StoreState, Serves, HasTaken}
 use Rattle.lu_locking.specs.Servers as locking
 use Rattle.lu_locking.specs.Servers.{ServerState as LockState}
 use Rattle.lu_redo.specs.Shown as redo
-use Rattle.lu_turns.specs.Giving.{giving}
+use Rattle.lu_words.specs.Given.{giving}
 
 -- A target's number, 0 for the metadata target, and its boot; the ticks after which the holder of a lock that was called back
 -- loses its slot; the kind of its service and what that holds; store and locks; and the requests that wait.

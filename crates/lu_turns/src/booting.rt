@@ -10,7 +10,7 @@ ghost use Rattle.lu_target_rows.specs.Disks.{boot_batch, row_start};
 ghost use Rattle.lu_target_rows.specs.Recovery.{row_boot, settles};
 ghost use Rattle.lu_target_rows.specs.States.{Setting, Target, first_batch, lives_from, started};
 ghost use Rattle.lu_store.specs.declared.faults.StoreFault.TheVariants as store_fault;
-ghost use Rattle.lu_turns.specs.Giving.{giving};
+ghost use Rattle.lu_words.specs.Given.{giving};
 ghost use Rattle.lu_turns.specs.Servers.{Shows, DiskFailed};
 ghost use Rattle.lu_turns.specs.Booting.{IsStart, IsOver, IsFresh, IsBooting, StandsOn};
 ghost use Rattle.lu_turns.specs.Closing.{lines, up_line};

@@ -18,7 +18,7 @@ ghost use Rattle.lu_target_rows.specs.Stored.{batch_of, last_number};
 ghost use Rattle.lu_target_parts.specs.Contents.{transaction_again};
 ghost use Rattle.lu_window.specs.Shown.{kept_replay};
 ghost use Rattle.lu_turns.specs.Closing.{lines, kept_line, restore_line, evict_line, stays_line, joined_line, close_lines, gone_in, numbers_of, Settles, Decides, MayPerform, MayBeNext, CanRedo, IsKept, HasSome};
-ghost use Rattle.lu_turns.specs.Giving.{giving};
+ghost use Rattle.lu_words.specs.Given.{giving};
 ghost use Rattle.lu_turns.specs.Passing.{IsClosed, HasBatches, StopsAt};
 ghost use Rattle.lu_turns.specs.Recovering.{Gathers, GathersSome};
 ghost use Rattle.lu_turns.specs.Servers.{DiskFailed};

@@ -9,7 +9,7 @@ ghost use Rattle.lu_target_rows.specs.Rows.{first_deeds, row_commits};
 ghost use Rattle.lu_target_rows.specs.States.{Target};
 ghost use Rattle.lu_store.specs.Stores.{Serves, MayMove, IsMove, IsClose, KeepsTakenBut};
 ghost use Rattle.lu_store.specs.declared.faults.StoreFault.TheVariants as store_fault;
-ghost use Rattle.lu_turns.specs.Giving.{giving};
+ghost use Rattle.lu_words.specs.Given.{giving};
 ghost use Rattle.lu_turns.specs.Servers.{Stands, Makes, Fails, KeepsBatches, DiskFailed};
 ghost use Rattle.lu_trace.specs.Turns.{with_line};
 ghost use Rattle.lu_turns.specs.Commits.{commit_line, IsMoved, KeepsMoved};

@@ -12,7 +12,7 @@ ghost use Rattle.lu_target_rows.specs.Replies.{locks_on, replies};
 ghost use Rattle.lu_target_rows.specs.States.{Target};
 ghost use Rattle.lu_target_parts.specs.Callbacks.{is_of_lock};
 ghost use Rattle.lu_store.specs.Stores.{KeepsDisk};
-ghost use Rattle.lu_turns.specs.Giving.{giving};
+ghost use Rattle.lu_words.specs.Given.{giving};
 ghost use Rattle.lu_turns.specs.Objects.{AsksSize};
 ghost use Rattle.lu_turns.specs.Requests.{request_of};
 ghost use Rattle.lu_turns.specs.Answering.{Tells, TellsSizes, MayRefuse, IsAnswered};

@@ -13,7 +13,7 @@ ghost use Rattle.lu_target_rows.specs.Lives.{is_life};
 ghost use Rattle.lu_target_rows.specs.Stored.{batch_of};
 ghost use Rattle.lu_target_rows.specs.States.{Target};
 ghost use Rattle.lu_turns.specs.Answering.{Tells, TellsSizes};
-ghost use Rattle.lu_turns.specs.Giving.{giving};
+ghost use Rattle.lu_words.specs.Given.{giving};
 ghost use Rattle.lu_turns.specs.Joins.{TakesPlace, IsAlone};
 ghost use Rattle.lu_turns.specs.Middles.{MakesPart, MakesRest, KeepsFirst};
 ghost use Rattle.lu_turns.specs.Numbers.{Overruns, OverrunsRest, HasRoom};

@@ -10,7 +10,7 @@ ghost use Rattle.lu_words.specs.Carried.{Deed};
 ghost use Rattle.lu_words.specs.Words.{Act as ActEntry};
 ghost use Rattle.lu_locking.specs.Servers.{blocks_told};
 ghost use Rattle.lu_store.specs.Stores.{KeepsDisk};
-ghost use Rattle.lu_turns.specs.Giving.{giving};
+ghost use Rattle.lu_words.specs.Given.{giving};
 ghost use Rattle.lu_turns.specs.Servers.{Shows, Stands, Makes};
 ghost use Rattle.lu_turns.specs.Acting.{HasTold, HasToldAs};
 ghost use Rattle.lu_turns.specs.Numbers.{Overruns, LacksCookies};

@@ -17,7 +17,7 @@ ghost use Rattle.lu_target_rows.specs.Queues.{extent_of, object, size_of};
 ghost use Rattle.lu_target_rows.specs.Replies.{locks_on, replies};
 ghost use Rattle.lu_target_rows.specs.States.{Target};
 ghost use Rattle.lu_store.specs.Stores.{KeepsDisk};
-ghost use Rattle.lu_turns.specs.Giving.{giving};
+ghost use Rattle.lu_words.specs.Given.{giving};
 ghost use Rattle.lu_turns.specs.Numbers.{Overruns};
 ghost use Rattle.lu_turns.specs.Objects.{AsksFor, Reads, IsWrite};
 ghost use Rattle.lu_turns.specs.Requests.{request_of};

@@ -9,7 +9,7 @@ ghost use Rattle.lu_target_rows.specs.Queues.{queue_goes};
 ghost use Rattle.lu_target_rows.specs.Requests.{row_cancel, releases};
 ghost use Rattle.lu_target_rows.specs.States.{Target};
 ghost use Rattle.lu_turns.specs.Answering.{TellsSizes};
-ghost use Rattle.lu_turns.specs.Giving.{giving};
+ghost use Rattle.lu_words.specs.Given.{giving};
 ghost use Rattle.lu_turns.specs.Middles.{MakesPart, MakesRest};
 ghost use Rattle.lu_turns.specs.Numbers.{Overruns, HasRoom};
 ghost use Rattle.lu_turns.specs.Releases.{MayRelease, IsReturn, QueueGoesOn};

@@ -15,7 +15,7 @@ ghost use Rattle.lu_target_rows.specs.Replies.{next_number, none, reply_to, row_
 ghost use Rattle.lu_target_rows.specs.States.{Target};
 ghost use Rattle.lu_txn.specs.Journals.{count, most_numbers};
 ghost use Rattle.lu_store.specs.Stores.{Serves, KeepsDisk};
-ghost use Rattle.lu_turns.specs.Giving.{giving};
+ghost use Rattle.lu_words.specs.Given.{giving};
 ghost use Rattle.lu_turns.specs.Answering.{Tells, TellsSizes, MayAnswer, IsAnswered, IsAppended};
 ghost use Rattle.lu_turns.specs.declared.faults.TurnFault.TheVariants as fault;
 

@@ -3,7 +3,7 @@
 ghost use Rattle.std.specs.Prelude.{◌≡◌, [], ◌∷◌, OnOk};
 ghost use Rattle.lu_msg.specs.declared.messages.Message.TheVariants as message;
 ghost use Rattle.lu_target_rows.specs.Replies.{to_life};
-ghost use Rattle.lu_turns.specs.Giving.{giving};
+ghost use Rattle.lu_words.specs.Given.{giving};
 
 use lu_base::{Lock, Memory, Node, Txn, Who, Xid};
 use lu_msg::{Message, Post};

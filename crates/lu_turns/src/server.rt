@@ -5,7 +5,7 @@ ghost use Rattle.lu_msg.specs.declared.messages.Message.TheVariants as message;
 ghost use Rattle.lu_target_rows.specs.Lives.{is_life};
 ghost use Rattle.lu_target_rows.specs.Replies.{to_life};
 ghost use Rattle.lu_target_rows.specs.States.{Target};
-ghost use Rattle.lu_turns.specs.Giving.{giving};
+ghost use Rattle.lu_words.specs.Given.{giving};
 ghost use Rattle.lu_turns.specs.Servers.{Shows};
 ghost use Rattle.lu_window.specs.States.{State};
 ghost use Rattle.lu_turns.specs.Recovering.{Gathers};

@@ -7,7 +7,7 @@ ghost use Rattle.lu_locking.specs.Servers.{ShowsCounts, most_ticks};
 ghost use Rattle.lu_store.specs.Stores.{KeepsDisk};
 ghost use Rattle.lu_target_rows.specs.Leaving.{condemned, expels, ticked};
 ghost use Rattle.lu_target_rows.specs.States.{Target, after, follow};
-ghost use Rattle.lu_turns.specs.Giving.{giving};
+ghost use Rattle.lu_words.specs.Given.{giving};
 ghost use Rattle.lu_turns.specs.Numbers.{Overruns, HasNoTick, HasRoom};
 ghost use Rattle.lu_turns.specs.Servers.{Shows, Stands, Makes, Fails, KeepsBatches, DiskFailed};
 ghost use Rattle.lu_turns.specs.declared.faults.TurnFault.TheVariants as fault;

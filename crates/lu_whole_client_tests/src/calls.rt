@@ -20,7 +20,21 @@ pub fn read_call(alloc: Global, text: &[u8]) -> Result<(u8, Call), PlayFault> {
 /// The one line of a scenario, which is a call.
 fn only_call(alloc: Global, scene: &Scene) -> Result<(u8, Call), PlayFault> {
     match scene.lines.as_slice() {
-        [SceneLine::Call { slot, call, .. }] => Ok((*slot, call.copy(alloc)?)),
+        [SceneLine::Call { slot, call, .. }] => Ok((*slot, with_stripes(call.copy(alloc)?))),
         _ => Err(PlayFault::Unread),
+    }
+}
+
+/// A `create` that doesn't say its stripes gets the ones that the language of scenarios has for it: of 1 MiB, one of them.
+fn with_stripes(call: Call) -> Call {
+    match call {
+        Call::Create {
+            path,
+            stripes: None,
+        } => Call::Create {
+            path,
+            stripes: Some((1_048_576, 1)),
+        },
+        call => call,
     }
 }

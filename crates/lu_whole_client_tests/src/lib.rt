@@ -12,6 +12,6 @@ mod events;
 #[cfg(test)]
 mod faults;
 #[cfg(test)]
-mod reader;
+mod player;
 #[cfg(test)]
 mod texts;

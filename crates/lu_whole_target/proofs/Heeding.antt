@@ -14,7 +14,7 @@ use Rattle.lu_target_rows.specs.Replies.{to_life}
 use Rattle.lu_target_rows.specs.Rows.{by_boot, by_slot, heeds, while_serving, while_recovering, of_boot}
 use Rattle.lu_target_rows.specs.States.{Target, is_serving, turn}
 use Rattle.lu_window.specs.States.{State}
-use Rattle.lu_turns.specs.Giving.{giving}
+use Rattle.lu_words.specs.Given.{giving}
 use Rattle.lu_turns.specs.Servers.{Shows}
 use Rattle.lu_turns.specs.Recovering.{Gathers, Recovers}
 use Rattle.lu_whole_target.specs.Running.{RunningState, IsOf, IsIn, HasHeeded, Turns, KeepsIn}

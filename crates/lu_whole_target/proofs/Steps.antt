@@ -8,14 +8,13 @@ use Rattle.lu_msg.specs.declared.messages.Message.{Message}
 use Rattle.lu_locking.specs.Servers.{most_ticks}
 use Rattle.lu_trace.specs.declared.traces.Step.{Step}
 use Rattle.lu_trace.specs.Turns.{Making, no_step}
-use Rattle.lu_words.specs.Given.{step_of}
+use Rattle.lu_words.specs.Given.{step_of, giving}
 use Rattle.lu_words.specs.Words.{Entry, Skip}
 use Rattle.lu_target_rows.specs.Disks.{failing}
 use Rattle.lu_target_rows.specs.Leaving.{row_tick}
 use Rattle.lu_target_rows.specs.Rows.{Event, Comes, Ticks, overruns, row, row_takes, when_up}
 use Rattle.lu_target_rows.specs.States.{Target}
 use Rattle.lu_window.specs.States.{State}
-use Rattle.lu_turns.specs.Giving.{giving}
 use Rattle.lu_turns.specs.declared.faults.TurnFault.{TurnFault}
 use Rattle.lu_turns.specs.declared.faults.TurnFault.TheVariants as fault
 use Rattle.lu_whole_target.specs.declared.faults.StepFault.{StepFault}

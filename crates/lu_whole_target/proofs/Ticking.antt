@@ -11,7 +11,7 @@ use Rattle.lu_target_parts.proofs.Unread.{window_stays, disk_stays}
 use Rattle.lu_window.specs.States.{State}
 use Rattle.lu_locking.specs.Servers.{ShowsCounts}
 use Rattle.lu_locking.specs.Servers.{ServerState as LockState}
-use Rattle.lu_turns.specs.Giving.{giving}
+use Rattle.lu_words.specs.Given.{giving}
 use Rattle.lu_turns.specs.Servers.{ServerState}
 use Rattle.lu_turns.specs.Recovering.{Gathers, Recovers}
 use Rattle.lu_whole_target.specs.Running.{RunningState, IsOf, IsIn, Turns}

@@ -17,7 +17,7 @@ use Rattle.lu_target_rows.specs.States.{Target, turn}
 use Rattle.lu_window.specs.States.{State}
 use Rattle.lu_locking.specs.Servers.{most_ticks}
 use Rattle.lu_turns.specs.declared.booting.Place.{Place}
-use Rattle.lu_turns.specs.Giving.{giving}
+use Rattle.lu_words.specs.Given.{giving}
 use Rattle.lu_turns.specs.Servers.{ServerState, Shows, HasLife, MayTake}
 use Rattle.lu_turns.specs.Recovering.{Recovers, MayReplay, MayBring}
 use Rattle.lu_turns.specs.Passing.{StopsAt}

@@ -8,7 +8,7 @@ ghost use Rattle.lu_target_rows.specs.Disks.{row_start};
 ghost use Rattle.lu_target_rows.specs.Recovery.{row_boot};
 ghost use Rattle.lu_target_rows.specs.States.{Setting, Target as SpecTarget, first_batch, lives_from, started, turn as turned};
 ghost use Rattle.lu_turns.specs.Booting.{IsStart, StandsOn};
-ghost use Rattle.lu_turns.specs.Giving.{giving};
+ghost use Rattle.lu_words.specs.Given.{giving};
 ghost use Rattle.lu_turns.specs.Passing.{HasBatches};
 ghost use Rattle.lu_turns.specs.declared.booting.BeginFault.TheVariants as begin;
 ghost use Rattle.lu_turns.specs.declared.faults.TurnFault.TheVariants as fault;

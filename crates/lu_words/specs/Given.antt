@@ -5,6 +5,7 @@ use Rattle.lu_msg.specs.declared.messages.Post.{Post}
 use Rattle.lu_trace.specs.declared.entries.Entry.{Entry as PrintedEntry}
 use Rattle.lu_trace.specs.declared.entries.Line.{Line as PrintedLine}
 use Rattle.lu_trace.specs.declared.traces.Step.{Step}
+use Rattle.lu_trace.specs.Turns.{Making, then_step}
 use Rattle.lu_words.specs.Words.{Entry, Send}
 use Rattle.lu_words.specs.Printed.{printed_entry}
 
@@ -26,3 +27,7 @@ step_posts (e ∷ es) = posts_with e (step_posts es)
 
 abbrev pub step_of : At → List Entry → Step
 step_of at es = record { sends = step_posts es; entries = step_lines at es }
+
+-- a turn in the making, and after what was given in it what these entries give
+abbrev pub giving : Making → List Entry → Making
+giving turn es = record { at = turn.at; step = then_step turn.step (step_of turn.at es) }

@@ -1,9 +1,9 @@
-use Rattle.std.proofs.Common.{◌≡◌, ◌+◌, ◌-◌, ◌∙◌, [], sym, arith, true, false}
+use Rattle.std.proofs.Common.{◌≡◌, ◌+◌, ◌-◌, ◌∙◌, [], sym, arith, true}
 use Rattle.std.specs.Prelude.{unwrap_or}
 use Rattle.std.specs.Option.{option_copied}
 use Rattle.lu_client_rows.specs.Patches.{clean}
 use Rattle.lu_client_rows.specs.Looks.{is_there}
-use Rattle.lu_client_store.proofs.Missing.{missing_more, missing_here, missing_none}
+use Rattle.lu_client_store.proofs.Missing.{missing_more}
 use Rattle.lu_client_store.proofs.pages.first_missing.Goals as goal
 
 pub loop-k-preserved : goal.loop-k-preserved

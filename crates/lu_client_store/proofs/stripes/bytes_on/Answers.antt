@@ -1,6 +1,4 @@
-use Rattle.std.proofs.Common.{◌≡◌, ◌+◌, ◌++◌, ◌∷◌, [], ◌∙◌, take, get_or, sym, ap, arith}
-use Rattle.std.proofs.lemmas.List.{take_all}
-use Rattle.lu_client_rows.specs.Stripes.{bytes_on}
+use Rattle.std.proofs.Common.{◌++◌, ◌∷◌, [], ◌∙◌, get_or, sym, ap, arith}
 use Rattle.lu_client_store.proofs.Striping.{picks_on, picks_not}
 use Rattle.lu_client_store.proofs.stripes.bytes_on.Goals as goal
 use Rattle.lu_client_store.proofs.stripes.bytes_on.Goals.{then-place-stripe+in_ok-push, else-place-stripe}

@@ -1,8 +1,6 @@
 use Rattle.std.proofs.Common.{◌≡◌, ℕ, ◌+◌, List, [], ◌∷◌, ◌++◌, length, refl, sym, ap, subst, ◌∙◌, arith}
 use Rattle.std.proofs.lemmas.List.{length-append}
-use Rattle.lu_base.specs.declared.ids.TargetId.{TargetId}
 use Rattle.lu_import.specs.Imports.{ImportState, fresh}
-use Rattle.lu_client_rows.specs.States.{Limits}
 use Rattle.lu_client_parts.specs.Imports.{imports_of, AreImports}
 use Rattle.lu_client_parts.proofs.Imports.{fresh_shown, fresh_one}
 use Rattle.lu_client_parts.proofs.Lives.{started_push}

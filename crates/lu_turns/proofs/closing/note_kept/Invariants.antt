@@ -1,7 +1,7 @@
 -- What is left of the lines comes to what all come to.
 use Rattle.std.proofs.Common.{◌≡◌, drop}
 use Rattle.lu_turns.specs.Closing.{lines, kept_line}
-use Rattle.lu_turns.specs.Giving.{giving}
+use Rattle.lu_words.specs.Given.{giving}
 use Rattle.lu_turns.proofs.closing.note_kept.Given as goal
 
 abbrev pub invariant-loop-number : goal.invariant-loop-number

@@ -1,7 +1,7 @@
 -- What is left of the lines comes to what all come to.
 use Rattle.std.proofs.Common.{◌≡◌, drop}
 use Rattle.lu_turns.specs.Closing.{lines, stays_line}
-use Rattle.lu_turns.specs.Giving.{giving}
+use Rattle.lu_words.specs.Given.{giving}
 use Rattle.lu_turns.proofs.closing.tell_all_stay.Given as goal
 
 abbrev pub invariant-loop-who : goal.invariant-loop-who

@@ -6,7 +6,7 @@ use Rattle.lu_trace.specs.declared.entries.Entry.TheVariants as line
 use Rattle.lu_trace.specs.Turns.{Making}
 use Rattle.lu_words.specs.Words.{Grant}
 use Rattle.lu_target_rows.specs.Names.{grant_lines}
-use Rattle.lu_turns.specs.Giving.{giving}
+use Rattle.lu_words.specs.Given.{giving}
 use Rattle.lu_turns.proofs.Composing.{giving_more, giving_none, noted}
 use Rattle.lu_turns.proofs.Executions.{no_lock}
 use Rattle.lu_turns.proofs.names.note_grants.Goals as goal

@@ -2,7 +2,7 @@
 use Rattle.std.proofs.Common.{◌≡◌, drop}
 use Rattle.lu_words.specs.Carried.{Deed}
 use Rattle.lu_target_rows.specs.Names.{grant_lines}
-use Rattle.lu_turns.specs.Giving.{giving}
+use Rattle.lu_words.specs.Given.{giving}
 use Rattle.lu_turns.proofs.names.note_grants.Given as goal
 
 abbrev pub invariant-loop-lock : goal.invariant-loop-lock

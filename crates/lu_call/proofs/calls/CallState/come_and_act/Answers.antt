@@ -1,11 +1,10 @@
 use Rattle.std.proofs.Common.{◌≡◌, ◌∷◌, drop, sym, ap, subst}
 use Rattle.std.proofs.lemmas.Result.{IfOk-weaker}
 use Rattle.lu_words.specs.Carried.{Kind, Work}
-use Rattle.lu_client_rows.specs.Advances.{acts, looks, name_under}
+use Rattle.lu_client_rows.specs.Advances.{acts, looks}
 use Rattle.lu_call.specs.Going.{GoesBy}
 use Rattle.lu_call.specs.Ranges.{IsActing}
 use Rattle.lu_call.specs.Views.{kind_of, work_of}
-use Rattle.lu_call.proofs.Acting.{pinned_in_file}
 use Rattle.lu_call.proofs.Reaching.{first_is, using_sound, goes_come}
 use Rattle.lu_call.proofs.calls.CallState.come_and_act.Goals as goal
 
@@ -16,7 +15,6 @@ look_and_act-requires c =
     record {
       acting = subst IsActing (sym c.in_ok-take_up.ensures.used)
           (record { work = using_sound c.index-wanted.result.now c.args.lock (drop 1 c.args.work.left.items) (work_of c.args.work) first c.requires.acting.work; kind = c.requires.acting.kind });
-      sizes = pinned_in_file c.args.store.now c.take_up.new.store (name_under c.index-wanted.result.now c.args.lock) c.in_ok-take_up.ensures.store c.requires.sizes;
     }
 
 pub returns : goal.returns

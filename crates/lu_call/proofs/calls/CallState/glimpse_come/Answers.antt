@@ -1,5 +1,5 @@
 -- The size under the lock is as one that was told.
-use Rattle.std.proofs.Common.{◌≡◌, ◌∙◌, List, ℕ, ap, sym}
+use Rattle.std.proofs.Common.{◌∙◌, ℕ, ap, sym}
 use Rattle.lu_msg.specs.declared.answers.Answer.TheVariants as answer
 use Rattle.lu_client_rows.specs.Glimpses.{glimpse_hears}
 use Rattle.lu_call.specs.Views.{work_of}

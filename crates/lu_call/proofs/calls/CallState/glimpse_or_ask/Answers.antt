@@ -1,5 +1,5 @@
 -- A held lock is used as one that came, or the lock is asked for.
-use Rattle.std.proofs.Common.{◌≡◌, ◌∷◌, ◌∙◌, drop, sym}
+use Rattle.std.proofs.Common.{◌≡◌, ◌∷◌, drop, sym}
 use Rattle.lu_call.specs.Views.{work_of}
 use Rattle.lu_call.proofs.Beginning.{if_ok}
 use Rattle.lu_call.proofs.Glimpsing.{serves_as_came, asks_for_lock}

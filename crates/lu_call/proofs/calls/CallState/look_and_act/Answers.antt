@@ -5,7 +5,6 @@ use Rattle.lu_client_rows.specs.Advances.{acts}
 use Rattle.lu_call.specs.Going.{GoesBy}
 use Rattle.lu_call.specs.Looked.{Looked}
 use Rattle.lu_call.specs.Views.{kind_of, work_of}
-use Rattle.lu_call.proofs.Acting.{looked_in_file}
 use Rattle.lu_call.proofs.Going.{goes_looked}
 use Rattle.lu_call.proofs.calls.CallState.look_and_act.Goals as goal
 
@@ -25,6 +24,3 @@ returns-in-None c =
           (λ out goes slot. goes_looked (acts c.args.at slot (kind_of c.args.work.kind)) looked
           (subst (λ (k : Kind). GoesBy (acts c.args.at slot k c.look.new.self (work_of c.look.new.work) c.look.new.store.store) slot c.act.new.self c.look.new.store c.act.new.store out) kind (goes slot))) c.act.ensures.goes;
     }
-
-pub act-requires-clause-sizes : goal.act-requires-clause-sizes
-act-requires-clause-sizes c = looked_in_file c.in_ok-wanted.ensures.looked c.requires.sizes

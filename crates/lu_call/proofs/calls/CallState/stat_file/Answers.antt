@@ -1,10 +1,6 @@
-use Rattle.lu_call.specs.Starting.{names_with}
 use Rattle.lu_call.specs.Views.{work_of}
-use Rattle.lu_call.proofs.Beginning.{if_ok, stats_pinned, all_pinned_in_file}
+use Rattle.lu_call.proofs.Beginning.{if_ok, stats_pinned}
 use Rattle.lu_call.proofs.calls.CallState.stat_file.Goals as goal
-
-pub look_and_act-requires-clause-sizes : goal.look_and_act-requires-clause-sizes
-look_and_act-requires-clause-sizes c = all_pinned_in_file c.args.store.now c.pin_all.new.store (names_with c.args.locks.now) c.in_ok-pin_all.ensures.store c.requires.sizes
 
 pub returns : goal.returns
 returns c =

@@ -5,7 +5,7 @@ use Rattle.lu_client_rows.specs.Advances.{reads_wide}
 use Rattle.lu_call.specs.Ranges.{is_glimpse}
 use Rattle.lu_call.specs.Views.{work_of}
 use Rattle.lu_call.proofs.Going.{goes_asks, goes_acts}
-use Rattle.lu_call.proofs.Acting.{widens_on, unpinned_in_file, looked_in_file, looked_wanting, looked_acting}
+use Rattle.lu_call.proofs.Acting.{widens_on, looked_wanting, looked_acting}
 use Rattle.lu_call.proofs.calls.CallState.widen.Goals as goal
 
 pub returns-in-Some : goal.returns-in-Some
@@ -22,9 +22,6 @@ ask_lock-requires c =
 
 pub read_wide-requires-clause-acting : goal.read_wide-requires-clause-acting
 read_wide-requires-clause-acting c = looked_acting c.in_ok-wanted.ensures.looked (ap (λ (w : Work). is_glimpse w.kind) c.in_ok-work.ensures.work) c.in_ok-wanted.ensures.sound
-
-pub read_wide-requires-clause-sizes : goal.read_wide-requires-clause-sizes
-read_wide-requires-clause-sizes c = looked_in_file c.in_ok-wanted.ensures.looked (unpinned_in_file c.args.store.now c.unpin_locks.new.store c.args.self.now.pins c.unpin_locks.ensures.store c.requires.sizes)
 
 pub returns : goal.returns
 returns c =

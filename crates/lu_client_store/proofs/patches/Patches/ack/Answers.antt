@@ -14,5 +14,5 @@ returns-in_default c =
 pub returns : goal.returns
 returns c =
     let es = c.self.inside.objects.entries in
-    let found : Found c.args.resource es ≡ Some c.in-Some.patch.now = sym c.in-Some.ensures.value in
-    record { acked = (c.get_mut.follows.holds c.ack_flush.new.self).0 ∙ changed_there c.args.resource acked es c.args.self.now c.in-Some.patch.now c.ack_flush.new.self c.self.view_is found c.ack_flush.ensures.acked }
+    let found : Found c.args.resource es ≡ Some c.in-Some.object.now = sym c.in-Some.ensures.value in
+    record { acked = (c.get_mut.follows.holds c.ack_flush.new.self).0 ∙ changed_there c.args.resource acked es c.args.self.now c.in-Some.object.now c.ack_flush.new.self c.self.view_is found c.ack_flush.ensures.acked }

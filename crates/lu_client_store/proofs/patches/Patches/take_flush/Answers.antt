@@ -14,21 +14,21 @@ pub returns-in_default-clause-flush : goal.returns-in_default-clause-flush
 returns-in_default-clause-flush c = none_clean c.args.within c.args.resource c.self.inside.objects.entries c.args.self.now c.self.view_is (sym c.in_default.ensures.value)
 
 pub take_flush-requires-clause-rests : goal.take_flush-requires-clause-rests
-take_flush-requires-clause-rests c = ap in_flight (sym (patch_found c.args.resource c.self.inside.objects.entries c.args.self.now c.in-Some.patch.now c.self.view_is (sym c.in-Some.ensures.value))) ∙ c.requires.rests
+take_flush-requires-clause-rests c = ap in_flight (sym (patch_found c.args.resource c.self.inside.objects.entries c.args.self.now c.in-Some.object.now c.self.view_is (sym c.in-Some.ensures.value))) ∙ c.requires.rests
 
 pub returns-clause-flush : goal.returns-clause-flush
 returns-clause-flush c =
-    let there : patch_at c.args.resource c.args.self.now ≡ c.in-Some.patch.now = patch_found c.args.resource c.self.inside.objects.entries c.args.self.now c.in-Some.patch.now c.self.view_is (sym c.in-Some.ensures.value) in
+    let there : patch_at c.args.resource c.args.self.now ≡ c.in-Some.object.now = patch_found c.args.resource c.self.inside.objects.entries c.args.self.now c.in-Some.object.now c.self.view_is (sym c.in-Some.ensures.value) in
     IfOk-weaker c.take_flush.result _ _ (λ flush is. is ∙ ap (next_flush c.args.within) (sym there)) c.take_flush.ensures.flush
 
 pub returns-clause-sent : goal.returns-clause-sent
 returns-clause-sent c =
     let es = c.self.inside.objects.entries in
-    let found : Found c.args.resource es ≡ Some c.in-Some.patch.now = sym c.in-Some.ensures.value in
-    IfOk-weaker c.take_flush.result _ _ (λ flush is. (c.get_mut.follows.holds c.take_flush.new.self).0 ∙ sent_there c.args.resource flush es c.args.self.now c.in-Some.patch.now c.take_flush.new.self c.self.view_is found is) c.take_flush.ensures.taken
+    let found : Found c.args.resource es ≡ Some c.in-Some.object.now = sym c.in-Some.ensures.value in
+    IfOk-weaker c.take_flush.result _ _ (λ flush is. (c.get_mut.follows.holds c.take_flush.new.self).0 ∙ sent_there c.args.resource flush es c.args.self.now c.in-Some.object.now c.take_flush.new.self c.self.view_is found is) c.take_flush.ensures.taken
 
 pub returns-clause-kept : goal.returns-clause-kept
 returns-clause-kept c =
     let es = c.self.inside.objects.entries in
-    let found : Found c.args.resource es ≡ Some c.in-Some.patch.now = sym c.in-Some.ensures.value in
-    on_err_weaker c.take_flush.result (λ (same : c.take_flush.new.self ≡ c.in-Some.patch.now). (c.get_mut.follows.holds c.take_flush.new.self).0 ∙ kept_there c.args.resource es c.args.self.now c.in-Some.patch.now c.take_flush.new.self c.self.view_is found same) c.take_flush.ensures.kept
+    let found : Found c.args.resource es ≡ Some c.in-Some.object.now = sym c.in-Some.ensures.value in
+    on_err_weaker c.take_flush.result (λ (same : c.take_flush.new.self ≡ c.in-Some.object.now). (c.get_mut.follows.holds c.take_flush.new.self).0 ∙ kept_there c.args.resource es c.args.self.now c.in-Some.object.now c.take_flush.new.self c.self.view_is found same) c.take_flush.ensures.kept

@@ -5,8 +5,14 @@ use Rattle.lu_words.specs.Words.{Life}
 use Rattle.lu_client_rows.specs.Patches.{Patch}
 use Rattle.lu_cache.specs.Cached.{Cached, cache_after}
 use Rattle.lu_client_store.specs.Stored.{StoreState, stored_after}
+use Rattle.lu_client_rows.specs.Calls.{first_life}
 use Rattle.lu_client_store.proofs.Parts.{together}
+use Rattle.lu_client_store.proofs.Short.{short_then}
 use Rattle.lu_client_store.proofs.store.Store.begin_life.Goals as goal
+
+-- no size is kept then
+pub invariant_of-self : goal.invariant_of-self
+invariant_of-self c = short_then (cache_after c.self.inside.cache (Life (first_life 0))) c.clear.new.self (c.clear.ensures.cleared (first_life 0)) tt
 
 pub returns : goal.returns
 returns c =

@@ -1,14 +1,15 @@
 -- No lock of its name was held: it comes in front, and goes again where the size can't be kept.
-use Rattle.std.proofs.Common.{◌≡◌, List, false, ap, ◌∙◌}
+use Rattle.std.proofs.Common.{◌≡◌, List, [], false, ap, ◌∙◌}
 use Rattle.lu_held.specs.declared.locks.HeldLock.{HeldLock}
 use Rattle.lu_held.specs.Locks.{named}
 use Rattle.lu_held.specs.Held.{HeldState, is_held}
 use Rattle.lu_words.specs.Words.{Hold}
 use Rattle.lu_client_rows.specs.Caches.{held_as, with_held}
-use Rattle.lu_cache.specs.Cached.{Cached}
+use Rattle.lu_cache.specs.Cached.{Cached, cache_after}
 use Rattle.lu_client_store.specs.Stored.{StoreState, stored_after}
 use Rattle.lu_client_store.proofs.Parts.{together}
 use Rattle.lu_client_store.proofs.Holding.{held_anew, taken_back}
+use Rattle.lu_client_store.proofs.Short.{short_then, short_kept}
 use Rattle.lu_client_store.proofs.store.Store.hold.Goals as goal
 
 pub returns-in-Err-clause-kept : goal.returns-in-Err-clause-kept
@@ -29,3 +30,12 @@ returns-clause-held c = λ seen.
     ∙ ap (λ (locks : List HeldLock). together (record old { locks = locks }) c.hold.new.self patches) (held_anew c.args.target c.args.lock.now c.args.marked old.locks absent)
     ∙ ap (λ (k : Cached). together (record old { locks = with_held (held_as c.args.target.0 c.args.lock.now c.args.marked) old.locks }) k patches) (c.in_default.ensures.held c.args.target.0 c.args.marked seen)
     ∙ ap (λ (s : StoreState). stored_after s (Hold c.args.target.0 c.args.lock.now c.args.marked c.args.size seen)) c.self.view_is
+
+-- the size that is kept, if any, is at most 2^40
+pub invariant_of-self-in-Err : goal.invariant_of-self-in-Err
+invariant_of-self-in-Err c = short_then c.self.inside.cache c.hold.new.self c.in-Err.ensures.kept c.self.invariant
+
+pub invariant_of-self-in_default : goal.invariant_of-self-in_default
+invariant_of-self-in_default c =
+    short_then (cache_after c.self.inside.cache (Hold c.args.target.0 c.args.lock.now c.args.marked c.args.size [])) c.hold.new.self (c.in_default.ensures.held c.args.target.0 c.args.marked [])
+    (short_kept c.args.lock.now c.args.size c.self.inside.cache.sizes c.requires.short c.self.invariant)

@@ -1,8 +1,7 @@
 -- Each lock of the list is looked at in turn.
-use Rattle.std.proofs.Common.{◌≡◌, ◌+◌, ◌<◌, ◌∙◌, ℕ, Some, None, sym, ap, subst, arith, length, drop, option_map, slice_get}
+use Rattle.std.proofs.Common.{◌≡◌, ◌+◌, ◌<◌, ◌∙◌, ℕ, Some, None, sym, ap, subst, arith, length, drop}
 use Rattle.std.specs.Vec.{vec_len}
 use Rattle.lu_held.specs.declared.locks.Wanted.TheVariants.{Holding}
-use Rattle.lu_held.specs.Locks.{lock_of}
 use Rattle.lu_held.specs.Held.{those}
 use Rattle.lu_client_rows.specs.Looks.{shown_elsewhere}
 use Rattle.lu_client_store.proofs.Reaching.{LockAt, none_here, one_here, none_left, is_within}

@@ -1,4 +1,4 @@
-use Rattle.std.proofs.Common.{◌≡◌, ℕ, List, ◌+◌, ◌≤◌, ◌∙◌, ap, subst, sym, arith, length}
+use Rattle.std.proofs.Common.{◌≡◌, ℕ, List, ◌+◌, ◌≤◌, ◌∙◌, ap, subst, arith, length}
 use Rattle.std.specs.Prelude.{OnOk}
 use Rattle.lu_layout.specs.Raid0.{below_of}
 use Rattle.lu_client_rows.specs.Stripes.{below_on, bytes_on}

@@ -1,13 +1,10 @@
-use Rattle.std.proofs.Common.{◌≡◌, sym, ap, subst, ◌∙◌, Some, Option, [], ◌∷◌}
+use Rattle.std.proofs.Common.{◌≡◌, sym, ap, subst, ◌∙◌, Some, [], ◌∷◌}
 use Rattle.std.specs.Prelude.{option_map}
-use Rattle.lu_call.specs.declared.works.HandleFile.{HandleFile}
-use Rattle.lu_msg.specs.declared.calls.Call.TheVariants as call
-use Rattle.lu_words.specs.Carried.{HandleFile as RowFile, Plain}
-use Rattle.lu_words.specs.Words.{Begin, Unbinds}
-use Rattle.lu_client_rows.specs.Calls.{file_of, unbound}
-use Rattle.lu_client_rows.specs.Slots.{begun, begins_close}
+use Rattle.lu_words.specs.Words.{Unbinds}
+use Rattle.lu_client_rows.specs.Calls.{file_of}
+use Rattle.lu_client_rows.specs.Slots.{begins_close}
 use Rattle.lu_call.specs.Views.{file_of as row_file}
-use Rattle.lu_client_turns.specs.Clients.{ClientState, with_handles, Makes}
+use Rattle.lu_client_turns.specs.Clients.{ClientState, Makes}
 use Rattle.lu_client_turns.proofs.Begun.{unbinds}
 use Rattle.lu_client_turns.proofs.Making.{makes_as, makes_on}
 use Rattle.lu_client_turns.proofs.client.Client.begin_close.Goals as goal

@@ -8,7 +8,7 @@ use Rattle.lu_store.specs.Stores.{Serves}
 use Rattle.lu_target_rows.specs.Replies.{again, to_life}
 use Rattle.lu_target_rows.specs.States.{Target}
 use Rattle.lu_turns.specs.Answering.{Tells}
-use Rattle.lu_turns.specs.Giving.{giving}
+use Rattle.lu_words.specs.Given.{giving}
 use Rattle.lu_turns.specs.Servers.{ServerState}
 use Rattle.lu_turns.proofs.server.Server.answer_again.Goals as goal
 

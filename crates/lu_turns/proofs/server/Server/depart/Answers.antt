@@ -9,7 +9,7 @@ use Rattle.lu_target_rows.specs.States.{Target, turn}
 use Rattle.lu_store.specs.Stores.{KeepsDisk}
 use Rattle.lu_locking.specs.declared.departing.EndedLock.{EndedLock}
 use Rattle.lu_locking.specs.Departing.{ended_with}
-use Rattle.lu_turns.specs.Giving.{giving}
+use Rattle.lu_words.specs.Given.{giving}
 use Rattle.lu_turns.specs.Releases.{MayRelease, MayDepart}
 use Rattle.lu_turns.specs.Servers.{ServerState}
 use Rattle.lu_turns.proofs.Items.{item_at, items_done}

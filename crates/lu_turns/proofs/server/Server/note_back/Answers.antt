@@ -3,7 +3,7 @@ use Rattle.std.proofs.Common.{◌≡◌, ◌++◌, refl, ◌∙◌}
 use Rattle.std.proofs.lemmas.Result.{IfOk-weaker}
 use Rattle.lu_target_rows.specs.Recovery.{settles}
 use Rattle.lu_target_parts.specs.Windows.{backs}
-use Rattle.lu_turns.specs.Giving.{giving}
+use Rattle.lu_words.specs.Given.{giving}
 use Rattle.lu_turns.specs.Recovering.{Gathers}
 use Rattle.lu_turns.proofs.Backs.{back_told, none_told, back_passes, back_stops, back_batches}
 use Rattle.lu_turns.proofs.Passings.{no_batches}

@@ -10,7 +10,7 @@ use Rattle.lu_txn.specs.Slots.{slot_of}
 use Rattle.lu_store.specs.Stores.{HasTaken}
 use Rattle.lu_target_rows.specs.Objects.{row_written}
 use Rattle.lu_turns.specs.Answering.{MayRefuse, IsAppended}
-use Rattle.lu_turns.specs.Giving.{giving}
+use Rattle.lu_words.specs.Given.{giving}
 use Rattle.lu_turns.specs.Servers.{ServerState}
 use Rattle.lu_turns.proofs.AnsweredObjects.{may_refuse}
 use Rattle.lu_turns.proofs.Performing.{performed, alters_unseen, reply_plain, makes_written}

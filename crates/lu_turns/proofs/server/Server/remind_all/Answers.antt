@@ -2,7 +2,7 @@
 use Rattle.std.proofs.Common.{◌≡◌, List, ap, ◌∙◌}
 use Rattle.lu_locking.specs.declared.reminding.Reminder.{Reminder}
 use Rattle.lu_locking.specs.Reminding.{again_told}
-use Rattle.lu_turns.specs.Giving.{giving}
+use Rattle.lu_words.specs.Given.{giving}
 use Rattle.lu_turns.proofs.Expiring.{again_more}
 use Rattle.lu_turns.proofs.Telling.{tells_more, tells_all}
 use Rattle.lu_turns.proofs.server.Server.remind_all.Goals as goal

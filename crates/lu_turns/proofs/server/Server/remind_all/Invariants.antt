@@ -2,7 +2,7 @@
 use Rattle.std.proofs.Common.{◌≡◌, take}
 use Rattle.lu_target_rows.specs.States.{Target}
 use Rattle.lu_locking.specs.Reminding.{again_told}
-use Rattle.lu_turns.specs.Giving.{giving}
+use Rattle.lu_words.specs.Given.{giving}
 use Rattle.lu_turns.proofs.server.Server.remind_all.Given as goal
 
 abbrev pub invariant-loop-reminder : goal.invariant-loop-reminder

@@ -8,7 +8,7 @@ use Rattle.lu_trace.specs.Turns.{Making}
 use Rattle.lu_words.specs.Words.{Block}
 use Rattle.lu_target_rows.specs.Replies.{called, block_of, to_life}
 use Rattle.lu_locking.specs.Servers.{blocks_told}
-use Rattle.lu_turns.specs.Giving.{giving}
+use Rattle.lu_words.specs.Given.{giving}
 use Rattle.lu_turns.specs.Servers.{ServerState}
 use Rattle.lu_turns.proofs.Composing.{giving_more, giving_none, noted}
 use Rattle.lu_turns.proofs.Executions.{no_lock}

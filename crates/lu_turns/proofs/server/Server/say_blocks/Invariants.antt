@@ -2,7 +2,7 @@
 use Rattle.std.proofs.Common.{◌≡◌, drop}
 use Rattle.lu_target_rows.specs.States.{Target}
 use Rattle.lu_locking.specs.Servers.{blocks_told}
-use Rattle.lu_turns.specs.Giving.{giving}
+use Rattle.lu_words.specs.Given.{giving}
 use Rattle.lu_turns.proofs.server.Server.say_blocks.Given as goal
 
 abbrev pub invariant-loop-lock : goal.invariant-loop-lock

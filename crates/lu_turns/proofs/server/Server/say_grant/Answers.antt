@@ -13,7 +13,7 @@ use Rattle.lu_target_rows.specs.Queues.{extent_of, size_of}
 use Rattle.lu_target_rows.specs.Replies.{seen_in, to_life}
 use Rattle.lu_target_rows.specs.States.{Target}
 use Rattle.lu_turns.specs.Answering.{TellsSizes}
-use Rattle.lu_turns.specs.Giving.{giving}
+use Rattle.lu_words.specs.Given.{giving}
 use Rattle.lu_turns.specs.Servers.{ServerState}
 use Rattle.lu_turns.proofs.server.Server.say_grant.Goals as goal
 

@@ -3,7 +3,7 @@ use Rattle.std.proofs.Common.{◌≡◌, ℕ, sym, ap, subst}
 use Rattle.std.proofs.lemmas.Result.{on_ok_weaker}
 use Rattle.lu_store.specs.Stores.{Serves}
 use Rattle.lu_turns.specs.Closing.{evict_line, stays_line, joined_line, lines}
-use Rattle.lu_turns.specs.Giving.{giving}
+use Rattle.lu_words.specs.Given.{giving}
 use Rattle.lu_turns.specs.Servers.{ServerState}
 use Rattle.lu_turns.proofs.Itemwise.{four_lines}
 use Rattle.lu_turns.proofs.server.Server.tell_close.Goals as goal

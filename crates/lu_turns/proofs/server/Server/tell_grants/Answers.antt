@@ -3,7 +3,7 @@ use Rattle.std.proofs.Common.{◌≡◌, List, sym, ap, subst, ◌∙◌}
 use Rattle.lu_queue.specs.declared.locks.Grant.{Grant}
 use Rattle.lu_target_parts.specs.Locks.{grants_told}
 use Rattle.lu_turns.specs.Answering.{TellsSizes}
-use Rattle.lu_turns.specs.Giving.{giving}
+use Rattle.lu_words.specs.Given.{giving}
 use Rattle.lu_turns.specs.Servers.{ServerState}
 use Rattle.lu_turns.proofs.GoingOn.{grants_more}
 use Rattle.lu_turns.proofs.Telling.{tells_more, tells_all}

@@ -3,7 +3,7 @@ use Rattle.std.proofs.Common.{◌≡◌, take}
 use Rattle.lu_target_rows.specs.States.{Target}
 use Rattle.lu_target_parts.specs.Locks.{grants_told}
 use Rattle.lu_turns.specs.Answering.{TellsSizes}
-use Rattle.lu_turns.specs.Giving.{giving}
+use Rattle.lu_words.specs.Given.{giving}
 use Rattle.lu_turns.proofs.server.Server.tell_grants.Given as goal
 
 abbrev pub invariant-loop-grant : goal.invariant-loop-grant

@@ -3,7 +3,7 @@ use Rattle.std.proofs.Common.{◌≡◌, List, sym, ap, subst, ◌∙◌}
 use Rattle.lu_locking.specs.declared.departing.QueueStep.{QueueStep}
 use Rattle.lu_locking.specs.Departing.{steps_told}
 use Rattle.lu_turns.specs.Answering.{TellsSizes}
-use Rattle.lu_turns.specs.Giving.{giving}
+use Rattle.lu_words.specs.Given.{giving}
 use Rattle.lu_turns.specs.Servers.{ServerState}
 use Rattle.lu_turns.proofs.GoingOn.{steps_more}
 use Rattle.lu_turns.proofs.Telling.{tells_more, tells_all}

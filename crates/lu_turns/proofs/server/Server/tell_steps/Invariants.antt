@@ -3,7 +3,7 @@ use Rattle.std.proofs.Common.{◌≡◌, take}
 use Rattle.lu_target_rows.specs.States.{Target}
 use Rattle.lu_locking.specs.Departing.{steps_told}
 use Rattle.lu_turns.specs.Answering.{TellsSizes}
-use Rattle.lu_turns.specs.Giving.{giving}
+use Rattle.lu_words.specs.Given.{giving}
 use Rattle.lu_turns.proofs.server.Server.tell_steps.Given as goal
 
 abbrev pub invariant-loop-step : goal.invariant-loop-step
