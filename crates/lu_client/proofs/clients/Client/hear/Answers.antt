@@ -36,7 +36,7 @@ returns-then-not-answer_fits-clause-step c =
     let calls : List (Option Running) = c.self.inside.calls.items in
     let request = c.in-Some.request.now in
     let some : request_of r.xid.0 c.self.inside.import.in_flight ≡ Some request = sym c.in-Some.ensures.request in
-    let fits : answer_fits request.op r.answer ≡ false = sym c.answer_fits.ensures ∙ c.if-not-answer_fits.true in
+    let fits : answer_fits request.op r.answer ≡ false = sym c.answer_fits.ensures.fits ∙ c.if-not-answer_fits.true in
     subst (λ (s : ClientState). turn.step ≡ with_entries turn.at turn.step (heeding s.asker s.calls (Reply r))) c.self.view_is (sym (ap (with_entries turn.at turn.step) (unfit c.self.inside.import calls r request some fits)))
 
 pub returns-then-not-answer_fits-clause-after : goal.returns-then-not-answer_fits-clause-after
@@ -45,7 +45,7 @@ returns-then-not-answer_fits-clause-after c =
     let r = c.args.reply.now in
     let request = c.in-Some.request.now in
     let some : request_of r.xid.0 old.import.in_flight ≡ Some request = sym c.in-Some.ensures.request in
-    let fits : answer_fits request.op r.answer ≡ false = sym c.answer_fits.ensures ∙ c.if-not-answer_fits.true in
+    let fits : answer_fits request.op r.answer ≡ false = sym c.answer_fits.ensures.fits ∙ c.if-not-answer_fits.true in
     subst (λ (s : ClientState). s ≡ after_entries s (heeding s.asker s.calls (Reply r))) c.self.view_is (sym (ap (after_entries (state_of old.client old.spent old.import old.calls.items)) (unfit old.import old.calls.items r request some fits)))
 
 pub returns-then-not-branch-clause-step : goal.returns-then-not-branch-clause-step
@@ -76,7 +76,7 @@ returns-clause-step c =
     let calls : List (Option Running) = c.self.inside.calls.items in
     let request = c.in-Some.request.now in
     let some : request_of r.xid.0 c.self.inside.import.in_flight ≡ Some request = sym c.in-Some.ensures.request in
-    let fits : answer_fits request.op r.answer ≡ true = sym c.answer_fits.ensures ∙ c.if-not-answer_fits.false in
+    let fits : answer_fits request.op r.answer ≡ true = sym c.answer_fits.ensures.fits ∙ c.if-not-answer_fits.false in
     let is_heard : hears c.self.inside.import r ≡ true = sym c.in_ok-hear.ensures.heard ∙ c.if-not-branch.false in
     let row : with_entries turn.at (with_line turn.at turn.step (printed.Heard (record { 0 = 0 }) r.xid)) (row_tells calls request.slot r) ≡ with_entries turn.at turn.step (heeding c.args.self.now.asker c.args.self.now.calls (Reply r)) =
     subst (λ (s : ClientState). with_entries turn.at (with_line turn.at turn.step (printed.Heard (record { 0 = 0 }) r.xid)) (row_tells calls request.slot r) ≡ with_entries turn.at turn.step (heeding s.asker s.calls (Reply r))) c.self.view_is (step_heard c.self.inside.import calls r request some turn.at turn.step fits is_heard) in
@@ -88,7 +88,7 @@ returns-clause-after c =
     let r = c.args.reply.now in
     let request = c.in-Some.request.now in
     let some : request_of r.xid.0 old.import.in_flight ≡ Some request = sym c.in-Some.ensures.request in
-    let fits : answer_fits request.op r.answer ≡ true = sym c.answer_fits.ensures ∙ c.if-not-answer_fits.false in
+    let fits : answer_fits request.op r.answer ≡ true = sym c.answer_fits.ensures.fits ∙ c.if-not-answer_fits.false in
     let is_heard : hears old.import r ≡ true = sym c.in_ok-hear.ensures.heard ∙ c.if-not-branch.false in
     let ended : c.hear.new.self ≡ heard old.import r = subst (λ (b : Bool). c.hear.new.self ≡ (if b then heard old.import r else old.import)) c.if-not-branch.false c.in_ok-hear.ensures.ended in
     let row : state_of old.client old.spent c.hear.new.self (freed request.slot old.calls.items) ≡ after_entries c.args.self.now (heeding c.args.self.now.asker c.args.self.now.calls (Reply r)) =
