@@ -1,2 +1,4 @@
 pub mod Clients
+pub mod Targets
+pub mod Lives
 pub mod Numbers
