@@ -585,11 +585,11 @@ module _ (c : ℕ) where
   after_lives k (Life who) one l = grind (arith, nat_tests, l)
   after_lives k e one l = one
 
-  turn_lives : (k : Client) (es : List Entry) → k.who.client ≡ c → all_live c es ≡ true → (turn k es).who.client ≡ c
+  pub turn_lives : (k : Client) (es : List Entry) → k.who.client ≡ c → all_live c es ≡ true → (turn k es).who.client ≡ c
   turn_lives k [] one l = one
   turn_lives k (e ∷ es) one l = let h = both_true (lives c e) (all_live c es) l in turn_lives (after k e) es (after_lives k e one h.0) h.1
 
-  dead_lives : (d : ℕ) (past : List Line) (at : At) (es : List Entry) → all_live c es ≡ true → is_dead d (with_turn at es past) ≡ is_dead d past
+  pub dead_lives : (d : ℕ) (past : List Line) (at : At) (es : List Entry) → all_live c es ≡ true → is_dead d (with_turn at es past) ≡ is_dead d past
   dead_lives d past at [] l = refl
   dead_lives d past at (e ∷ es) l = let h = both_true (lives c e) (all_live c es) l in dead_lives d (line at e ∷ past) at es h.1 ∙ by e h.0
     where
