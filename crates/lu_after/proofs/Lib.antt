@@ -1,0 +1,6 @@
+pub mod Clients
+pub mod Targets
+pub mod Lives
+pub mod Disks
+pub mod Numbers
+pub mod Posts
