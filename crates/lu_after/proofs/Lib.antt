@@ -4,3 +4,6 @@ pub mod Lives
 pub mod Disks
 pub mod Numbers
 pub mod Posts
+pub mod Unfailing
+pub mod ClientUnfailing
+pub mod Unfailed

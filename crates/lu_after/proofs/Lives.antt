@@ -34,7 +34,7 @@ use Rattle.lu_machine.specs.Fits.{answer_fits}
 use Rattle.lu_words.specs.declared.changes.Flush.{Flush}
 use Rattle.lu_words.specs.declared.uses.Using.{Using}
 use Rattle.lu_words.specs.Carried.{Queued, Flight, HandleFile, Kind, Narrow, Wide, Writes, Cuts, Stats, Glimpses, Work, Asking, Unasked, Answered, Stage, Plain, Looks, Enqueued, Waits, Came, Forgotten, Gets, Flushing, Sizes, Running}
-use Rattle.lu_words.specs.Words.{Entry, Take, Tick, Heard, Life, Die, Knows, Line, line, with_turn}
+use Rattle.lu_words.specs.Words.{Entry, Take, Tick, Heard, Life, Die, Fail, Knows, Line, line, with_turn}
 use Rattle.lu_client_rows.specs.Advances.{Next, unpins, looks, comes, reads_wide, widened, widens, reads_narrow, writes, cuts, acts}
 use Rattle.lu_client_rows.specs.Caches.{brought, patch_at}
 use Rattle.lu_client_rows.specs.Calls.{file_of, call_on, is_dead}
@@ -54,10 +54,11 @@ use Rattle.lu_client_rows.specs.States.{Client, Limits, Store, store_turn, after
 use Rattle.lu_client_rows.specs.Stripes.{object}
 use Rattle.lu_client_rows.specs.WriteBack.{flush_under, flushes, is_clean, flush_from, flushing}
 
--- of one entry: it is no death, and a new life has this client's number
+-- of one entry: it is no death and no failed disk, and a new life has this client's number
 abbrev pub lives : ℕ → Entry → Bool
 lives c (Life who) = who.client == c
 lives c Die = false
+lives c Fail = false
 lives c _ = true
 
 abbrev pub all_live : ℕ → List Entry → Bool
