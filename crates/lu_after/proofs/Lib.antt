@@ -7,3 +7,4 @@ pub mod Posts
 pub mod Unfailing
 pub mod ClientUnfailing
 pub mod Unfailed
+pub mod Runs

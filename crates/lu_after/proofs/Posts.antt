@@ -13,16 +13,9 @@ use Rattle.lu_words.specs.Words.{Entry, Send, Line, line, with_turn}
 use Rattle.lu_words.specs.Sent.{count_sent, Sent}
 use Rattle.lu_words.specs.Given.{step_posts}
 use Rattle.lu_table.specs.Scenarios.{posted}
+use Rattle.lu_after.specs.Posts.{sent_by, all_sent, messages}
 
 -- ---- what was sent, in order
-
-abbrev pub sent_by : At → Post → SentMessage
-sent_by at post = (posted at post).sent
-
--- reads Send
-abbrev pub all_sent : List Line → List SentMessage
-all_sent [] = []
-all_sent (l ∷ past) = elim l.entry [ Send to m ↦ all_sent past ++ sent_by l.at (record { to = to; message = m }) ∷ [] | _ ↦ all_sent past ]
 
 -- a turn adds its messages
 pub turn_sends : (past : List Line) (at : At) (es : List Entry) → all_sent (with_turn at es past) ≡ all_sent past ++ map (sent_by at) (step_posts es)
@@ -70,9 +63,6 @@ sent_of (l ∷ past) place s e = by l.entry (sent_of past place s) e
     by d h e = h e
 
 -- ---- the messages of a configuration, whether they are spent or not
-
-abbrev pub messages : List Posted → List SentMessage
-messages posts = map (λ post. post.sent) posts
 
 pub sent_at_is : (past : List Line) (posts : List Posted) (n : ℕ) (s : SentMessage) → messages posts ≡ all_sent past → sent_at posts n ≡ Some s → Sent past n s.from s.to s.message
 sent_at_is past posts zero s same e = absurd (cc)
