@@ -16,19 +16,6 @@ pub nothing_inside : {A : Type 0} (extent : Extent) → extent.last < extent.fir
 nothing_inside extent none [] = refl
 nothing_inside extent none (e ∷ m) = let out : is_in extent e.0 ≡ false = grind (arith, nat_tests, none) in rw out (nothing_inside extent none m)
 
-abbrev pub up_to : ℕ → Extent
-up_to last = record { first = 0; last = last }
-
-all_inside : {A : Type 0} (last : ℕ) (m : Places A) → end_of m ≤ last → inside (up_to last) m ≡ m
-all_inside last [] h = refl
-all_inside last (e ∷ m) h =
-    let here : is_in (up_to last) e.0 ≡ true = in_whole (up_to last) e.0 (omega arith) (omega (arith, h)) in
-    rw here (ap (λ more. e ∷ more) (all_inside last m (omega (arith, h))))
-
--- all that is dirty stands below the size
-pub all_dirty : (p : Patch) → dirty_in (up_to (size_over 0 p)) p ≡ length p.dirty
-all_dirty p = ap length (all_inside (size_over 0 p) p.dirty (omega arith))
-
 -- ---- a pending cut
 
 -- at the size nothing is dirty: what is read there is 0 exactly where a cut is pending
@@ -130,9 +117,3 @@ cut_from within p none range far first some =
 pub not_back : (a b : Bool) → a ≡ not b → b ≡ not a
 not_back a true e = cc
 not_back a false e = cc
-
-pub not_both : (a b : Bool) → not a ≡ not b → a ≡ b
-not_both true true e = refl
-not_both true false e = cc
-not_both false true e = cc
-not_both false false e = refl

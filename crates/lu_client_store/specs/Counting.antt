@@ -1,7 +1,15 @@
--- How dirty bytes are counted against a limit. This is the code's own, and no part of what a caller sees.
-use Rattle.std.specs.Prelude.{ℕ, ◌-◌, nat_lt, if◌then◌else◌, Option, Some, None}
+-- How the dirty bytes of all objects are counted. This is the code's own, and no part of what a caller sees.
+use Rattle.std.specs.Prelude.{◌≡◌, ℕ, ◌^◌, ◌<◌, List, [], ◌∷◌, length}
+use Rattle.lu_base.specs.declared.locks.Resource.{Resource}
+use Rattle.lu_client_rows.specs.Patches.{Patch}
+use Rattle.lu_client_rows.specs.Locks.{dirty_total}
 
--- What is left of a limit once so many are taken from it; none where it has fewer.
-abbrev pub left_after : Option ℕ → ℕ → Option ℕ
-left_after None count = None
-left_after (Some left) count = if nat_lt left count then None else Some (left - count)
+-- each object has fewer dirty bytes than a u64 counts
+abbrev pub AreFew : List (Resource × Patch) → Type 0
+AreFew [] = Unit {0}
+AreFew (e ∷ objects) = (length e.1.dirty < 2 ^ 64) × AreFew objects
+
+-- so many bytes of all objects are dirty
+pub record IsTotal (total : ℕ) (objects : List (Resource × Patch)) : Type 0 where
+  pub few : AreFew objects
+  pub all : total ≡ dirty_total objects

@@ -166,11 +166,11 @@ impl Store {
         self.patches.has_change(resource, within)
     }
 
-    /// How many bytes of an object are dirty in a range, those in flight among them.
-    pub fn dirty(&self, resource: Resource, within: Extent) -> u64
-        ensures count { result ≡ dirty_in within (patch_at resource self.now.store.patches) }
+    /// Whether a byte of an object is dirty in a range, in flight or not.
+    pub fn is_dirty_in(&self, resource: Resource, within: Extent) -> bool
+        ensures dirty { result ≡ nat_lt 0 (dirty_in within (patch_at resource self.now.store.patches)) }
     {
-        self.patches.dirty(resource, within)
+        self.patches.is_dirty_in(resource, within)
     }
 
     /// Whether more bytes than this are dirty, of all objects together, those in flight among them.

@@ -1,6 +1,6 @@
 //! A client's changes of one object, none past the greatest size of a file.
 
-ghost use Rattle.std.specs.Prelude.{◌≡◌, ◌≤◌, ◌^◌, false, IfOk, IfSome, OnOk, OnErr};
+ghost use Rattle.std.specs.Prelude.{◌≡◌, ◌≤◌, ◌^◌, false, length, IfOk, IfSome, OnOk, OnErr};
 ghost use Rattle.lu_client_rows.specs.Patches.{clean, size_over, in_flight, next_flush, taken, acked};
 ghost use Rattle.lu_client_rows.specs.Caches.{made};
 ghost use Rattle.lu_client_store.specs.Stored.{IsInFile};
@@ -55,6 +55,13 @@ impl ObjectPatch {
         ensures patch { result.now ≡ self.now }
     {
         &self.patch
+    }
+
+    /// How many bytes are dirty, those in flight among them.
+    pub(crate) fn count(&self) -> u64
+        ensures count { result ≡ length self.now.dirty }
+    {
+        self.patch.count()
     }
 
     /// Changes the object: cuts it, or writes bytes. After want of memory nothing has changed.

@@ -1,6 +1,6 @@
 //! A client's own changes, object by object.
 
-ghost use Rattle.std.specs.Prelude.{◌≡◌, ◌≤◌, ◌^◌, [], false, nat_lt, length, fold, Some, unwrap_or, is_some, IfOk, IfSome, OnOk, OnErr};
+ghost use Rattle.std.specs.Prelude.{◌≡◌, ◌≤◌, ◌+◌, ◌^◌, [], false, nat_lt, unwrap_or, is_some, IfOk, IfSome, OnOk, OnErr};
 ghost use Rattle.std.specs.Option.{option_copied};
 ghost use Rattle.lu_words.specs.Words.{Changes, Acks};
 ghost use Rattle.lu_client_rows.specs.Patches.{clean, size_over, in_flight, cut_within, has_change, next_flush, dirty_in};
@@ -8,7 +8,7 @@ ghost use Rattle.lu_client_rows.specs.Caches.{patch_at, patches_after};
 ghost use Rattle.lu_client_rows.specs.Locks.{dirty_total};
 ghost use Rattle.lu_client_rows.specs.WriteBack.{is_clean};
 ghost use Rattle.lu_client_store.specs.Stored.{IsInFile, patches_sent};
-ghost use Rattle.lu_client_store.specs.Counting.{left_after};
+ghost use Rattle.lu_client_store.specs.Counting.{AreFew};
 
 use super::objects::ObjectPatch;
 use indexmap::IndexMap;
@@ -23,52 +23,37 @@ use std::marker::Model;
 pub(crate) struct Patches {
     alloc: Global,
     objects: IndexMap<Resource, ObjectPatch>,
+    /// How many bytes of all objects are dirty, those in flight among them.
+    total: u128,
 }
 
 impl Model for Patches {
     ghost use Rattle.std.specs.Prelude.{List};
     ghost use Rattle.lu_base.specs.declared.locks.Resource.{Resource as ResourceOf};
     ghost use Rattle.lu_client_rows.specs.Patches.{Patch as Shown};
+    ghost use Rattle.lu_client_store.specs.Counting.{IsTotal};
 
     ghost Value = { List (ResourceOf × Shown) };
 
     ghost view = { λ p. p.objects.entries };
+
+    ghost invariant = { λ p. IsTotal p.total p.objects.entries };
 }
 
-/// How many bytes are dirty, those in flight among them.
-fn count_dirty(patch: &Patch) -> u64
-    ensures count { result ≡ length patch.now.dirty }
+/// How many bytes of all objects are dirty, once so many of one are that were so many before.
+fn recounted(
+    objects: &IndexMap<Resource, ObjectPatch>,
+    total: u128,
+    before: u64,
+    after: u64,
+) -> u128
+    requires few { AreFew objects.now.entries }
+    requires changed { total + after ≡ dirty_total objects.now.entries + before }
+    ensures counted { result ≡ dirty_total objects.now.entries }
 {
-    patch.dirty(Extent {
-        first: 0,
-        last: patch.size_over(0),
-    })
-}
-
-/// What is left of a limit once an object's dirty bytes are taken from it; None where it has fewer.
-fn left_after(left: Option<u64>, object: &ObjectPatch) -> Option<u64>
-    ensures left { result ≡ left_after left (length object.now.dirty) }
-{
-    left?.checked_sub(count_dirty(object.patch()))
-}
-
-/// What is left of a limit once the dirty bytes of all objects are taken from it; None where it has fewer.
-fn left_of_all(objects: &IndexMap<Resource, ObjectPatch>, limit: u64) -> Option<u64>
-    ensures { result ≡ fold (λ left object. left_after left (length object.1.dirty)) (Some limit) objects.now.entries }
-{
-    objects
-        .iter()
-        .fold(Some(limit), |left, object| left_after(left, object.1))
-}
-
-/// How many bytes of a range are dirty; none is in a range that ends before it begins.
-fn dirty_in(patch: &Patch, within: Extent) -> u64
-    ensures count { result ≡ dirty_in within patch.now }
-{
-    if within.last < within.first {
-        return 0;
-    }
-    patch.dirty(within)
+    // There are fewer than 2^63 objects, each with fewer than 2^64 dirty bytes.
+    let _objects = objects.len();
+    total + after as u128 - before as u128
 }
 
 /// Whether a cut is pending: past the object's size a byte is 0 then, whatever the server has.
@@ -111,7 +96,7 @@ fn holds_cut(patch: &Patch, within: Extent) -> bool
 fn has_change(patch: &Patch, within: Extent) -> bool
     ensures change { result ≡ has_change within patch.now }
 {
-    if dirty_in(patch, within) > 0 {
+    if patch.is_dirty_in(within) {
         return true;
     }
     if within.last < within.first {
@@ -128,6 +113,7 @@ impl Patches {
         Patches {
             alloc,
             objects: IndexMap::new(alloc),
+            total: 0,
         }
     }
 
@@ -155,11 +141,17 @@ impl Patches {
         ensures kept { OnErr result (self.new ≡ self.old) }
     {
         if let Some(object) = self.objects.get_mut(&resource) {
-            return object.change(change);
+            let before = object.count();
+            let made = object.change(change);
+            let after = object.count();
+            self.total = recounted(&self.objects, self.total, before, after);
+            return made;
         }
         let mut object = ObjectPatch::new(self.alloc);
         object.change(change)?;
+        let count = object.count();
         self.objects.insert(resource, object)?;
+        self.total = recounted(&self.objects, self.total, 0, count);
         Ok(())
     }
 
@@ -182,7 +174,11 @@ impl Patches {
         let Some(object) = self.objects.get_mut(&resource) else {
             return Ok(None);
         };
-        object.take_flush(within)
+        let before = object.count();
+        let flush = object.take_flush(within);
+        let after = object.count();
+        self.total = recounted(&self.objects, self.total, before, after);
+        flush
     }
 
     /// Takes away what was in flight of an object and wasn't touched since.
@@ -192,7 +188,10 @@ impl Patches {
         let Some(object) = self.objects.get_mut(&resource) else {
             return;
         };
+        let unanswered = object.count();
         object.ack_flush();
+        let left = object.count();
+        self.total = recounted(&self.objects, self.total, unanswered, left);
     }
 
     /// Nothing is changed any more.
@@ -243,13 +242,13 @@ impl Patches {
         }
     }
 
-    /// How many bytes of an object are dirty in a range, those in flight among them.
-    pub(crate) fn dirty(&self, resource: Resource, within: Extent) -> u64
-        ensures count { result ≡ dirty_in within (patch_at resource self.now) }
+    /// Whether a byte of an object is dirty in a range, in flight or not.
+    pub(crate) fn is_dirty_in(&self, resource: Resource, within: Extent) -> bool
+        ensures dirty { result ≡ nat_lt 0 (dirty_in within (patch_at resource self.now)) }
     {
         match self.of(resource) {
-            Some(patch) => dirty_in(patch, within),
-            None => 0,
+            Some(patch) => patch.is_dirty_in(within),
+            None => false,
         }
     }
 
@@ -257,6 +256,6 @@ impl Patches {
     pub(crate) fn is_dirty_above(&self, limit: u64) -> bool
         ensures above { result ≡ nat_lt limit (dirty_total self.now) }
     {
-        left_of_all(&self.objects, limit).is_none()
+        self.total > limit as u128
     }
 }

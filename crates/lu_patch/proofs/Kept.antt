@@ -1,24 +1,24 @@
 -- What changes keep of a patch's bytes: they are a map, and what flies lies where the patch says.
-use Rattle.std.proofs.Common.{◌≡◌, ℕ, zero, suc, ◌+◌, ◌-◌, ◌^◌, ◌<◌, ◌≤◌, Bool, true, false, cond, List, [], ◌∷◌, ◌++◌, length, Option, Some, None, refl, sym, ap, subst, ◌∙◌, arith}
+use Rattle.std.proofs.Common.{◌≡◌, ℕ, zero, suc, ◌+◌, ◌^◌, ◌<◌, ◌≤◌, Bool, true, false, cond, List, [], ◌∷◌, ◌++◌, length, Option, Some, None, refl, sym, ap, subst, ◌∙◌, arith}
 use Rattle.std.specs.Prelude.{nat_eq, nat_lt, nat_le, is_some, Result, Ok, Err, OnOk, OnErr, filter, not, if◌then◌else◌}
 use Rattle.std.proofs.lemmas.Bool.Decides.{nat_tests}
 use Rattle.std.proofs.lemmas.List.{length-map}
 use Rattle.lu_words.specs.declared.changes.Dirty.{Dirty}
 use Rattle.lu_machine.specs.Places.{Places, found_at, RisingFrom, below, from, placed, laid}
 use Rattle.lu_machine.proofs.Places.{overlay, found_filter, found_laid, rising_below, rising_laid}
-use Rattle.lu_bytes.specs.Maps.{AllBelow, IsMap}
+use Rattle.lu_bytes.specs.Maps.{IsMap}
 use Rattle.lu_bytes.proofs.Rising.{same_map, placed_all, all_filter, kept_filter}
-use Rattle.lu_client_rows.specs.Patches.{Patch, fresh, sent, written, ended, cut_over, cut, landed}
+use Rattle.lu_client_rows.specs.Patches.{Patch, fresh, sent, ended, cut_over, cut, landed}
 use Rattle.lu_patch.specs.declared.flight.Flight.{Flight}
 use Rattle.lu_patch.specs.declared.flight.Flight.TheVariants.{Cut, Bytes}
-use Rattle.lu_patch.specs.Sound.{NoneFlies, FliesUnder, IsSound}
+use Rattle.lu_patch.specs.Sound.{NoneFlies, IsSound}
 use Rattle.lu_patch.specs.Flights.{flight_of, FlyBetween, FlyUnder, IsKept}
 use Rattle.lu_patch.proofs.Maps.{all_on}
 use Rattle.lu_patch.proofs.Landings.{none_flies_filter, none_flies_landed}
 
 -- ---- a map
 
-map_laid : (at : ℕ) (xs : List Dirty) (m : Places Dirty) → at + length xs ≤ 2 ^ 62 → IsMap m → IsMap (laid at xs m)
+pub map_laid : (at : ℕ) (xs : List Dirty) (m : Places Dirty) → at + length xs ≤ 2 ^ 62 → IsMap m → IsMap (laid at xs m)
 map_laid at xs m fits h =
     record {
       rising = rising_laid at xs m h.rising;

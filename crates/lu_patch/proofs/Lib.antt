@@ -7,3 +7,4 @@ pub mod Changes
 pub mod Kept
 pub mod Landed
 pub mod Own
+pub mod Counted

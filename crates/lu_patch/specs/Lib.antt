@@ -6,3 +6,4 @@ pub mod SeenLaws
 pub mod WriteBackLaws
 pub mod ChangeLaws
 pub mod Flights
+pub mod Counted

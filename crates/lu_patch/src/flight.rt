@@ -1,11 +1,9 @@
 //! What is under way of a write-back.
 
-ghost use Rattle.std.specs.Prelude.{◌≡◌, ◌≤◌, ◌^◌, ◌+◌, ◌<◌, length, IfOk};
-ghost use Rattle.lu_client_rows.specs.Patches.{fresh, sent, bytes_of, landed};
-ghost use Rattle.lu_patch.specs.Flights.{FlyBetween};
+ghost use Rattle.std.specs.Prelude.{◌≡◌, IfOk};
+ghost use Rattle.lu_client_rows.specs.Patches.{fresh, sent, bytes_of};
 
-use lu_base::{Bytes, Extent, Memory};
-use lu_places::Places;
+use lu_base::{Bytes, Memory};
 use lu_words::Dirty;
 use std::alloc::Global;
 
@@ -55,15 +53,4 @@ pub(crate) fn sent(alloc: Global, run: &[Dirty]) -> Result<Vec<Dirty>, Memory>
         })?;
     }
     Ok(made)
-}
-
-/// Takes away what flies. All of it lies from `first` on and below `end`.
-pub(crate) fn land(dirty: &mut Places<Dirty>, first: u64, end: u64)
-    requires between { FlyBetween first end dirty.old }
-    ensures landed { dirty.new ≡ landed dirty.old }
-{
-    dirty.drop_marked_in(Extent {
-        first,
-        last: end.saturating_sub(1),
-    });
 }

@@ -1,15 +1,15 @@
 //! A client's changes of one object: a pending cut, and dirty bytes over it (this project's profile; the dirty pages of
 //! Wang et al., Understanding Lustre Filesystem Internals, byte by byte).
 
-ghost use Rattle.std.specs.Prelude.{◌≡◌, ◌≤◌, ◌<◌, ◌+◌, ◌^◌, ◌↔◌, ℕ, false, length, slice_index, OnOk, OnErr, IfOk, Option, None, Some, is_some};
+ghost use Rattle.std.specs.Prelude.{◌≡◌, ◌≤◌, ◌<◌, ◌+◌, ◌^◌, ◌↔◌, ℕ, false, nat_lt, length, slice_index, OnOk, OnErr, IfOk, Option, None, Some, is_some};
 ghost use Rattle.lu_machine.specs.Places.{found_at, below};
 ghost use Rattle.lu_client_rows.specs.Patches.{clean, written, ended, cut, size_over, reads_at, in_flight, acked, holds_extent, cut_extent, cut_within, next_flush, has_change, taken, dirty_in, bytes_of, flown, other_cut};
 ghost use Rattle.lu_words.specs.declared.changes.Flush.TheVariants.{Put};
 ghost use Rattle.lu_patch.specs.Sound.{IsSound};
 
-use super::flight::{Flight, bytes_of, fresh, land, sent};
+use super::dirty::DirtyBytes;
+use super::flight::{Flight, bytes_of, fresh, sent};
 use lu_base::{Extent, Memory};
-use lu_places::Places;
 use lu_words::{Dirty, Flush};
 use std::alloc::Global;
 use std::marker::Model;
@@ -21,7 +21,7 @@ pub struct Patch {
     alloc: Global,
     /// The size that the object is to be cut to before the bytes are put.
     pending: Option<u64>,
-    dirty: Places<Dirty>,
+    dirty: DirtyBytes,
     flight: Option<Flight>,
 }
 
@@ -51,7 +51,7 @@ impl Patch {
         Patch {
             alloc,
             pending: None,
-            dirty: Places::new(alloc),
+            dirty: DirtyBytes::new(alloc),
             flight: None,
         }
     }
@@ -140,7 +140,21 @@ impl Patch {
         requires range { within.first ≤ within.last }
         ensures count { result ≡ dirty_in within self.now }
     {
-        self.dirty.count(within)
+        self.dirty.count_in(within)
+    }
+
+    /// Whether a byte of a range is dirty, in flight or not.
+    pub fn is_dirty_in(&self, within: Extent) -> bool
+        ensures dirty { result ≡ nat_lt 0 (dirty_in within self.now) }
+    {
+        self.dirty.is_any_in(within)
+    }
+
+    /// How many bytes are dirty, those in flight among them. It answers at once.
+    pub fn count(&self) -> u64
+        ensures count { result ≡ length self.now.dirty }
+    {
+        self.dirty.count()
     }
 
     /// A byte as it is read, over what is known of the object there; None where it isn't known.
@@ -241,7 +255,7 @@ impl Patch {
     {
         match self.flight.take() {
             Some(Flight::Cut(n)) => self.ack_cut(n),
-            Some(Flight::Bytes { first, end }) => land(&mut self.dirty, first, end),
+            Some(Flight::Bytes { first, end }) => self.dirty.land(first, end),
             None => {}
         }
     }
@@ -260,7 +274,7 @@ impl Patch {
         ensures clean { self.new ≡ clean }
     {
         self.pending = None;
-        self.dirty = Places::new(self.alloc);
+        self.dirty = DirtyBytes::new(self.alloc);
         self.flight = None;
     }
 }
