@@ -1,0 +1,69 @@
+-- The scenarios whose runs the theorem covers so far: clients make, remove and look up directories, messages come or
+-- are lost, time goes on at clients and at the metadata target, clients die. A lookup that finds its name is granted a
+-- lock, so only one of a path that no line makes is covered.
+use Rattle.std.specs.Prelude.{◌≡◌, ◌≢◌, ℕ, List, [], ◌∷◌, All, ◌⊎◌}
+use Rattle.lu_base.specs.declared.ids.Node.TheVariants.{Client, Target}
+use Rattle.lu_msg.specs.declared.calls.Call.{Call as CallOf}
+use Rattle.lu_msg.specs.declared.calls.Call.TheVariants.{Mkdir, Rmdir, Lookup}
+use Rattle.lu_scene.specs.Grammar.{LineFits}
+use Rattle.lu_scene.specs.declared.scene.Scene.{Scene}
+use Rattle.lu_scene.specs.declared.scene.SceneLine.{SceneLine}
+use Rattle.lu_scene.specs.declared.scene.SceneLine.TheVariants.{Call, Run, RunSome, Deliver, Lose, Tick, Die}
+use Rattle.lu_table.specs.Heads.{IsHead}
+use Rattle.lu_table.specs.Scenarios.{head_of}
+
+-- ---- which paths are made
+
+-- a call makes a directory of this path
+abbrev pub CallMakes : CallOf → List (List ℕ) → Type 0
+CallMakes (Mkdir made) path = path ≡ made
+CallMakes _ path = ⊥
+
+-- a line does
+abbrev pub Makes : SceneLine → List (List ℕ) → Type 0
+Makes (Call client slot call) path = CallMakes call path
+Makes _ path = ⊥
+
+-- some line makes a directory of this path
+abbrev pub IsMade : List SceneLine → List (List ℕ) → Type 0
+IsMade [] path = ⊥
+IsMade (line ∷ lines) path = Makes line path ⊎ IsMade lines path
+
+-- ---- which lines are covered
+
+-- a call that is covered where these are the paths that are made: a lookup of another path, and not of the root
+abbrev pub IsCallCovered : (List (List ℕ) → Type 0) → CallOf → Type 0
+IsCallCovered Made (Mkdir path) = Unit {0}
+IsCallCovered Made (Rmdir path) = Unit {0}
+IsCallCovered Made (Lookup path) = (path ≢ []) × ¬ Made path
+IsCallCovered Made _ = ⊥
+
+-- a line that is covered where these are the paths that are made
+abbrev pub IsLineCovered : (List (List ℕ) → Type 0) → SceneLine → Type 0
+IsLineCovered Made (Call client slot call) = IsCallCovered Made call
+IsLineCovered Made Run = Unit {0}
+IsLineCovered Made (RunSome turns) = Unit {0}
+IsLineCovered Made (Deliver number) = Unit {0}
+IsLineCovered Made (Lose number) = Unit {0}
+IsLineCovered Made (Tick (Client client)) = Unit {0}
+IsLineCovered Made (Tick (Target target)) = target ≡ 0
+IsLineCovered Made (Die client) = Unit {0}
+IsLineCovered Made _ = ⊥
+
+-- these are all lines of a scenario, and one that is covered among them
+abbrev pub IsCoveredIn : List SceneLine → SceneLine → Type 0
+IsCoveredIn lines line = IsLineCovered (IsMade lines) line
+
+abbrev pub AllLinesCovered : List SceneLine → Type 0
+AllLinesCovered lines = All (IsCoveredIn lines) lines
+
+-- ---- scenarios
+
+-- A scenario's numbers are in their ranges, and each of its lines keeps the limits, as in each that is read.
+pub record KeepsLimits (scene : Scene) : Type 0 where
+  pub head : IsHead (head_of scene.head)
+  pub lines : All (LineFits scene.head) scene.lines
+
+pub record IsCovered (scene : Scene) : Type 0 where
+  pub limits : KeepsLimits scene
+  pub lines : AllLinesCovered scene.lines

@@ -1,0 +1,32 @@
+//! What holds of each scenario that is covered. Each function does nothing: its contract is a theorem over the definition of
+//! the run of a scenario.
+
+ghost use Rattle.std.specs.Prelude.{◌≡◌, ℕ, ◌+◌, List, false, None};
+ghost use Rattle.lu_scene.specs.Grammar.{IsScene};
+ghost use Rattle.lu_scene.specs.declared.scene.Scene.{Scene};
+ghost use Rattle.lu_words.specs.Printed.{printed};
+ghost use Rattle.lu_table.specs.Runs.{has_failed, IsRun};
+ghost use Rattle.lu_table.specs.Scenarios.{Config, Disks, start_fails, Leads, start, head_of, past_of};
+ghost use Rattle.lu_covering.specs.Covered.{AllCovered};
+ghost use Rattle.lu_laws.specs.Lawful.{Lawful};
+ghost use Rattle.lu_covered_scenes.specs.Covered.{KeepsLimits, IsCovered};
+
+/// Whatever a covered scenario comes to, where no call to a disk has failed, is a covered run of the whole table, so its
+/// trace is lawful. And none has, unless one at a target's start: its turns make no other.
+pub fn scenes_are_lawful()
+    ensures run { (scene : Scene) → IsCovered scene → let head = head_of scene.head in (disks : Disks) (c : Config)
+        → Leads head disks (start head disks scene) c → has_failed (past_of c) ≡ false → IsRun head c.turns }
+    ensures covered { (scene : Scene) → IsCovered scene → let head = head_of scene.head in (disks : Disks) (c : Config)
+        → Leads head disks (start head disks scene) c → has_failed (past_of c) ≡ false → AllCovered (past_of c) }
+    ensures lawful { (scene : Scene) → IsCovered scene → let head = head_of scene.head in (disks : Disks) (c : Config)
+        → Leads head disks (start head disks scene) c → has_failed (past_of c) ≡ false
+        → Lawful scene.head.osts (printed (past_of c)) }
+    ensures unfailed { (scene : Scene) → IsCovered scene → let head = head_of scene.head in (disks : Disks) (c : Config)
+        → Leads head disks (start head disks scene) c → start_fails disks 0 (head.osts + 1) ≡ None
+        → has_failed (past_of c) ≡ false }
+{}
+
+/// Each scenario that is read keeps the limits.
+pub fn read_scenes_keep_limits()
+    ensures limits { (text : List ℕ) (scene : Scene) → IsScene text scene → KeepsLimits scene }
+{}
