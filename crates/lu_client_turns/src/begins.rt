@@ -44,7 +44,7 @@ fn handle_of(call: &Call) -> Option<u8>
 
 impl Client {
     /// Whether the slot, 0 to 3, has a call that isn't told.
-    pub fn has_call(&self, slot: u8) -> bool
+    pub(crate) fn has_call(&self, slot: u8) -> bool
         requires slot { slot < slot_count }
         ensures has { result ≡ is_some (call_on slot self.now.client.calls) }
     {
@@ -63,7 +63,7 @@ impl Client {
 
     /// A call begins on a free slot, 0 to 3: one on a handle that isn't bound is refused, and so is an open of a handle that is
     /// bound or being opened. After want of memory the client is of no use.
-    pub fn begin_call(&mut self, turn: &mut Turn, slot: u8, call: Call) -> Result<(), Memory>
+    pub(crate) fn begin_call(&mut self, turn: &mut Turn, slot: u8, call: Call) -> Result<(), Memory>
         requires slot { slot < slot_count }
         requires free { call_on slot self.old.client.calls ≡ None }
         requires range { IsCall call }

@@ -48,7 +48,7 @@ impl Client {
 
     /// Where more locks are neither in use nor called back than may be kept, the least recently used of them are
     /// marked.
-    pub fn trim(&mut self)
+    pub(crate) fn trim(&mut self)
         ensures makes { (turn : Making) → Makes (trims self.old.limits) self.old self.new turn turn }
     {
         while self.trim_one() {}
@@ -69,7 +69,7 @@ impl Client {
 
     /// Each held lock in order of target and cookie writes its changes back or is given up. Whether too much is
     /// dirty is looked at before. After want of memory the client is of no use.
-    pub fn visit_locks(&mut self, turn: &mut Turn) -> Result<(), Memory>
+    pub(crate) fn visit_locks(&mut self, turn: &mut Turn) -> Result<(), Memory>
         ensures makes { OnOk result (Makes (locks_go self.old.limits) self.old self.new turn.old turn.new) }
     {
         let over = self.store.is_dirty_above(self.dirty);
@@ -134,7 +134,7 @@ impl Client {
             }
         }
         if over {
-            return self.store.dirty(held.lock.resource, extent) > 0;
+            return self.store.is_dirty_in(held.lock.resource, extent);
         }
         false
     }

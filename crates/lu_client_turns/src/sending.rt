@@ -17,7 +17,7 @@ use lu_trace::Turn;
 impl Client {
     /// To each target in order that serves the life, what may be sent. After want of memory the client is of no
     /// use.
-    pub fn send_all(&mut self, turn: &mut Turn) -> Result<(), Memory>
+    pub(crate) fn send_all(&mut self, turn: &mut Turn) -> Result<(), Memory>
         requires numbers { HasNumbers self.old.client.imports }
         ensures makes { OnOk result (Makes (λ k. sends_all self.old.limits k.who 0 k.imports)
             self.old self.new turn.old turn.new) }
