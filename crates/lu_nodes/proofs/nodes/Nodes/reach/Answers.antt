@@ -1,0 +1,26 @@
+use Rattle.std.proofs.Common.{◌<◌, length, sym, subst}
+use Rattle.std.proofs.lemmas.Result.{IfOk-weaker}
+use Rattle.lu_client_rows.specs.Rows.{Comes}
+use Rattle.lu_nodes.specs.States.{NodesState}
+use Rattle.lu_nodes.specs.Shown.{AreShown}
+use Rattle.lu_nodes.proofs.NodesMade.{client_is_shown, client_step}
+use Rattle.lu_nodes.proofs.nodes.Nodes.reach.Goals as goal
+
+pub deliver-requires : goal.deliver-requires
+deliver-requires g c =
+    let nodes : NodesState = record { clients = c.self.inside.clients.items; names = c.self.inside.names; objects = c.self.inside.objects.items } in
+    let shown = subst (λ (n : NodesState). AreShown n) (sym c.self.view_is) c.requires.shown in
+    let within : c.args.client < length nodes.clients = c.in-Some.ensures.item.3.0 in
+    record { shown = client_is_shown nodes c.args.client c.in-Some.seat.now shown within c.in-Some.ensures.value }
+
+pub returns-clause-made : goal.returns-clause-made
+returns-clause-made g c =
+    let nodes : NodesState = record { clients = c.self.inside.clients.items; names = c.self.inside.names; objects = c.self.inside.objects.items } in
+    let client = c.args.client in
+    let message = c.args.message.now in
+    let within : client < length nodes.clients = c.in-Some.ensures.item.3.0 in
+    IfOk-weaker c.deliver.result _ _
+    (λ step makes n.
+    client_step nodes c.args.self.now c.args.stamp c.self.view_is client c.in-Some.seat.now c.deliver.new.self within c.in-Some.ensures.value (Comes 0 c.args.from message) (Comes n c.args.from message)
+    step (makes n))
+    c.deliver.ensures.made

@@ -1,0 +1,17 @@
+-- The target takes it, in a step.
+use Rattle.std.proofs.Common.{refl, rules}
+use Rattle.lu_target_rows.specs.Rows.{Comes}
+use Rattle.lu_whole_target.specs.Running.{MayHeed}
+use Rattle.lu_nodes.proofs.TargetsTurning.{makes_step, fails_step}
+use Rattle.lu_nodes.proofs.targets.TargetSeat.deliver.Goals as goal
+
+pub returns-in_err-deliver-clause-failed : goal.returns-in_err-deliver-clause-failed
+returns-in_err-deliver-clause-failed g c = λ step failed from.
+    fails_step _ _ c.self.view_is (Comes 0 from c.args.message.now) c.args.stamp c.in-Some.target c.deliver.new.self c.in-Some.is
+    c.in_err-deliver.field-0.0 (c.in_err-deliver.ensures.steps from) c.from_residual.result c.from_residual.ensures.1 step failed
+
+pub returns-clause-made : goal.returns-clause-made
+returns-clause-made g c = λ n from.
+    let may : MayHeed c.args.message.now c.in-Some.target.running = search rules in
+    makes_step _ _ c.self.view_is (Comes 0 from c.args.message.now) (Comes n from c.args.message.now) (λ v at. refl) c.args.stamp c.in-Some.target
+    c.deliver.new.self c.in-Some.is may c.in_ok-deliver.field-0 (c.in_ok-deliver.ensures.steps from)

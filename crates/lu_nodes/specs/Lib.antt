@@ -1,0 +1,4 @@
+pub mod States
+pub mod Faults
+pub mod Shown
+pub mod Turns
