@@ -11,8 +11,8 @@ use Rattle.lu_scene.specs.Lines.{least_of, most_of, default_head, with_number}
 use Rattle.lu_scene.specs.Grammar.{Setting, SettingFits, LineFits, AreLines, IsScene}
 use Rattle.lu_scene.specs.Grammar as grammar
 use Rattle.lu_table.specs.Heads.{IsHead}
+use Rattle.lu_table.specs.Limits.{KeepsLimits}
 use Rattle.lu_table.specs.Scenarios.{head_of}
-use Rattle.lu_covered_scenes.specs.Covered.{KeepsLimits}
 
 -- ---- heads
 

@@ -5,12 +5,10 @@ use Rattle.std.specs.Prelude.{◌≡◌, ◌≢◌, ℕ, List, [], ◌∷◌, Al
 use Rattle.lu_base.specs.declared.ids.Node.TheVariants.{Client, Target}
 use Rattle.lu_msg.specs.declared.calls.Call.{Call as CallOf}
 use Rattle.lu_msg.specs.declared.calls.Call.TheVariants.{Mkdir, Rmdir, Lookup}
-use Rattle.lu_scene.specs.Grammar.{LineFits}
 use Rattle.lu_scene.specs.declared.scene.Scene.{Scene}
 use Rattle.lu_scene.specs.declared.scene.SceneLine.{SceneLine}
 use Rattle.lu_scene.specs.declared.scene.SceneLine.TheVariants.{Call, Run, RunSome, Deliver, Lose, Tick, Die}
-use Rattle.lu_table.specs.Heads.{IsHead}
-use Rattle.lu_table.specs.Scenarios.{head_of}
+use Rattle.lu_table.specs.Limits.{KeepsLimits}
 
 -- ---- which paths are made
 
@@ -58,11 +56,6 @@ abbrev pub AllLinesCovered : List SceneLine → Type 0
 AllLinesCovered lines = All (IsCoveredIn lines) lines
 
 -- ---- scenarios
-
--- A scenario's numbers are in their ranges, and each of its lines keeps the limits, as in each that is read.
-pub record KeepsLimits (scene : Scene) : Type 0 where
-  pub head : IsHead (head_of scene.head)
-  pub lines : All (LineFits scene.head) scene.lines
 
 pub record IsCovered (scene : Scene) : Type 0 where
   pub limits : KeepsLimits scene
