@@ -3,7 +3,6 @@ pub mod Counts
 pub mod Begun
 pub mod Lines
 pub mod Nodes
-pub mod Limits
 pub mod Rows
 pub mod Runs
 pub mod Stated

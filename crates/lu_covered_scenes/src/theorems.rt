@@ -1,15 +1,13 @@
 //! What holds of each scenario that is covered. Each function does nothing: its contract is a theorem over the definition of
 //! the run of a scenario.
 
-ghost use Rattle.std.specs.Prelude.{◌≡◌, ℕ, ◌+◌, List, false, None};
-ghost use Rattle.lu_scene.specs.Grammar.{IsScene};
+ghost use Rattle.std.specs.Prelude.{◌≡◌, ◌+◌, false, None};
 ghost use Rattle.lu_scene.specs.declared.scene.Scene.{Scene};
 ghost use Rattle.lu_words.specs.Printed.{printed};
 ghost use Rattle.lu_table.specs.Runs.{has_failed, IsRun};
 ghost use Rattle.lu_table.specs.Scenarios.{Config, Disks, start_fails, Leads, start, head_of, past_of};
 ghost use Rattle.lu_covering.specs.Covered.{AllCovered};
 ghost use Rattle.lu_laws.specs.Lawful.{Lawful};
-ghost use Rattle.lu_table.specs.Limits.{KeepsLimits};
 ghost use Rattle.lu_covered_scenes.specs.Covered.{IsCovered};
 
 /// Whatever a covered scenario comes to, where no call to a disk has failed, is a covered run of the whole table, so its
@@ -25,9 +23,4 @@ pub fn scenes_are_lawful()
     ensures unfailed { (scene : Scene) → IsCovered scene → let head = head_of scene.head in (disks : Disks) (c : Config)
         → Leads head disks (start head disks scene) c → start_fails disks 0 (head.osts + 1) ≡ None
         → has_failed (past_of c) ≡ false }
-{}
-
-/// Each scenario that is read keeps the limits.
-pub fn read_scenes_keep_limits()
-    ensures limits { (text : List ℕ) (scene : Scene) → IsScene text scene → KeepsLimits scene }
 {}

@@ -1,0 +1,5 @@
+pub mod Sparing
+pub mod Turning
+pub mod Due
+pub mod Messages
+pub mod Strangers
