@@ -1,5 +1,5 @@
 -- New services show that nothing is there.
-use Rattle.std.proofs.Common.{◌≡◌, ℕ, ◌≤◌, [], refl, subst, sym, arith}
+use Rattle.std.proofs.Common.{◌≡◌, ℕ, [], refl, subst, sym, arith}
 use Rattle.lu_service.specs.declared.services.Kind.TheVariants.{Mdt, Ost}
 use Rattle.lu_service.specs.Contents.{Contents}
 use Rattle.lu_service.specs.Names.{fresh}

@@ -2,6 +2,10 @@ pub mod Beginnings
 pub mod ClientTurns
 pub mod TargetsComing
 pub mod TargetsTurning
+pub mod TargetsForeseen
+pub mod Disks
+pub mod Giving
 pub mod NodesStay
 pub mod NodesMade
+pub mod NodesForeseen
 pub mod StartsMade

@@ -3,6 +3,7 @@ use Rattle.std.proofs.Common.{◌≡◌, ℕ, ◌+◌, ◌<◌, ◌≤◌, ◌==
 use Rattle.std.specs.Prelude.{not, is_some, slice_set}
 use Rattle.std.proofs.lemmas.Bool.{eqb-true, eqb-false, ne_eqb}
 use Rattle.std.proofs.lemmas.List.{get_or-set_same, get_or-set_other, length-set}
+use Rattle.std.proofs.lemmas.List.Elements.{All-cons, All-set}
 use Rattle.std.proofs.lemmas.Option.{slice_get-get_or, slice_get_past}
 use Rattle.lu_base.specs.Faults.{Rose}
 use Rattle.lu_base.specs.declared.ids.Node.TheVariants.{Client, Target}
@@ -16,6 +17,7 @@ use Rattle.lu_table.specs.Runs.{row_at}
 use Rattle.lu_nodes.specs.States.{ClientSeat, TargetSeat, NodesState, is_off, target_in, disk_in, disk_at, faults_of, seat_disk}
 use Rattle.lu_nodes.specs.Shown.{ShowsClient, IsClientShown, ShowsTarget, IsTargetShown, ShowsNodes, AreShown}
 use Rattle.lu_nodes.specs.Turns.{turn_at, ClientMakes, TargetMakes, TargetFails, NodesMake, NodesFail}
+use Rattle.lu_nodes.proofs.Disks.{HasDisk, objects_have, shown_has}
 use Rattle.lu_nodes.proofs.NodesStay.{client_stays, target_stays}
 
 -- the nodes with another seat of a client, of the metadata target, or of an object storage target
@@ -94,12 +96,20 @@ module _ (nodes : NodesState) (c : ℕ) (stamp : Stamp) (old new : ClientSeat) (
         gives = λ head turns past shows. makes.gives head turns c past (client_shows head turns past shows);
         shows = λ head turns past shows.
             client_turned head turns past (row_at head past (turn_at stamp (Client c)) (Client c) event) shows (makes.shows head turns c past (client_shows head turns past shows));
+        one = λ head turns past shows. subst (λ (n : ℕ). c < n) shows.clients within;
+        room = λ head turns past shows. tt;
       }
 
 -- ---- the turn of the metadata target
 
 one_more_is_other : (i : ℕ) → ((i + 1) == 0) ≡ false
 one_more_is_other i = ne_eqb (i + 1) 0 (omega arith)
+
+zero_le : (n : ℕ) → 0 ≤ n
+zero_le n = omega arith
+
+one_more_le : (i n : ℕ) → i < n → i + 1 ≤ n
+one_more_le i n below = omega (arith, below)
 
 zero_is_other : (i : ℕ) → (0 == (i + 1)) ≡ false
 zero_is_other i = ne_eqb 0 (i + 1) (omega arith)
@@ -123,10 +133,19 @@ module _ (nodes : NodesState) (stamp : Stamp) (new : TargetSeat) where
         gives = λ head turns past shows. makes.gives head 0 past shows.names;
         shows = λ head turns past shows.
             names_turned head turns past (row_at head past (turn_at stamp (Target 0)) (Target 0) event) shows (makes.shows head 0 past shows.names);
+        one = λ head turns past shows. zero_le head.osts;
+        room = λ head turns past shows. makes.room head 0 past shows.names;
       }
 
   pub names_failed : (event : target.Event) (step : Step) → TargetFails event stamp nodes.names new step → NodesFail 0 event stamp nodes (with_names nodes new) step
-  names_failed event step fails = record { rose = fails.rose; gives = λ head turns past shows. fails.gives head 0 past shows.names }
+  names_failed event step fails =
+      record {
+        rose = fails.rose;
+        gives = λ head turns past shows. fails.gives head 0 past shows.names;
+        one = λ head turns past shows. zero_le head.osts;
+        kept = λ head turns past shows. All-cons HasDisk new nodes.objects fails.kept (objects_have head turns past nodes shows);
+        count = refl;
+      }
 
 -- ---- the turn of an object storage target
 
@@ -152,6 +171,9 @@ module _ (nodes : NodesState) (i : ℕ) (stamp : Stamp) (old new : TargetSeat) (
             shows.object (λ k x other kept. target_stays head past (k + 1) x at es (ne_eqb (k + 1) (i + 1) (λ same. other (omega arith))) kept) turned;
       }
 
+  object_one : (head : Head) (turns : ℕ) (past : List Line) → ShowsNodes head turns past nodes → i + 1 ≤ head.osts
+  object_one head turns past shows = one_more_le i head.osts (subst (λ (n : ℕ). i < n) shows.objects within)
+
   object_rose : Rose (faults_of (disk_in old)) (faults_of (disk_in new)) → Rose (faults_of (disk_at nodes (i + 1))) (faults_of (disk_at (with_object nodes i new) (i + 1)))
   object_rose rose =
       let before = disk_at_object nodes i old within is in
@@ -166,11 +188,21 @@ module _ (nodes : NodesState) (i : ℕ) (stamp : Stamp) (old new : TargetSeat) (
         gives = λ head turns past shows. makes.gives head (i + 1) past (object_shows head turns past shows);
         shows = λ head turns past shows.
             object_turned head turns past (row_at head past (turn_at stamp (Target (i + 1))) (Target (i + 1)) event) shows (makes.shows head (i + 1) past (object_shows head turns past shows));
+        one = object_one;
+        room = λ head turns past shows. makes.room head (i + 1) past (object_shows head turns past shows);
       }
 
   pub object_failed : (event : target.Event) (step : Step) → TargetFails event stamp old new step → NodesFail (i + 1) event stamp nodes (with_object nodes i new) step
   object_failed event step fails =
-      record { rose = object_rose fails.rose; gives = λ head turns past shows. fails.gives head (i + 1) past (object_shows head turns past shows) }
+      record {
+        rose = object_rose fails.rose;
+        gives = λ head turns past shows. fails.gives head (i + 1) past (object_shows head turns past shows);
+        one = object_one;
+        kept = λ head turns past shows.
+            All-cons HasDisk nodes.names (slice_set nodes.objects i new) (shown_has head past 0 nodes.names shows.names)
+            (All-set HasDisk nodes.objects i new fails.kept (objects_have head turns past nodes shows));
+        count = length-set nodes.objects i new;
+      }
 
 -- ---- as callers see the nodes
 

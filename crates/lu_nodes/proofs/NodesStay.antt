@@ -1,9 +1,10 @@
 -- A node shows the past with the turn of another node as it showed the past.
-use Rattle.std.proofs.Common.{◌≡◌, ℕ, ◌+◌, false, List, arith, sym, subst, ap, ◌∙◌}
+use Rattle.std.proofs.Common.{◌≡◌, ℕ, ◌+◌, false, List, [], arith, sym, subst, ap, ◌∙◌}
 use Rattle.std.specs.Prelude.{Option, Some, None}
 use Rattle.lu_base.specs.declared.ids.At.{At}
 use Rattle.lu_service.specs.declared.services.Kind.{Kind}
 use Rattle.lu_words.specs.Words.{Entry, Line, with_turn, is_client, is_target}
+use Rattle.lu_target_rows.specs.Rows.{overruns}
 use Rattle.lu_target_rows.specs.States.{Target}
 use Rattle.lu_whole_target.specs.Repeating.{Repeats, IsLeft}
 use Rattle.lu_whole_target.specs.Running.{IsIn}
@@ -43,7 +44,13 @@ module _ (head : Head) (t : ℕ) (kind : Kind) (old new : List Line) (same : tar
       }
 
   down_stays : (d : DiskState) → IsDown head old t kind d → IsDown head new t kind d
-  down_stays d down = record { down = ap (λ (v : Target). v.up) same ∙ down.down; some = down.some; left = subst (IsLeft kind d.batches) (sym same) down.left }
+  down_stays d down =
+      record {
+        down = ap (λ (v : Target). v.up) same ∙ down.down;
+        some = down.some;
+        left = subst (IsLeft kind d.batches) (sym same) down.left;
+        counted = ap (λ (v : Target). overruns v []) same ∙ down.counted;
+      }
 
   stands_still : (target : Option TargetState) (disk : Option DiskState) → Stands head old t kind target disk → Stands head new t kind target disk
   stands_still (Some s) disk up = up_stays s up

@@ -4,6 +4,7 @@ use Rattle.std.specs.Prelude.{Some, None, Result, Err, slice_set}
 use Rattle.std.proofs.Math.Seq.{get_or-append_seam}
 use Rattle.std.proofs.lemmas.Bool.{cases_lt}
 use Rattle.std.proofs.lemmas.List.{get_or_append_left, get_or-set_same, get_or-set_other, length-set}
+use Rattle.std.proofs.lemmas.List.Elements.{All-cons, All-set}
 use Rattle.lu_base.specs.declared.ids.Stamp.{Stamp}
 use Rattle.lu_base.specs.declared.ids.TargetId.{TargetId}
 use Rattle.lu_base.specs.declared.ids.Who.{Who}
@@ -14,10 +15,10 @@ use Rattle.lu_target_rows.specs.States.{lives_from}
 use Rattle.lu_table.specs.Heads.{Head}
 use Rattle.lu_nodes.specs.declared.faults.StartFault.{StartFault}
 use Rattle.lu_nodes.specs.declared.faults.TurnFault.{TurnFault}
-use Rattle.lu_nodes.specs.declared.faults.TurnFault.TheVariants as fault
 use Rattle.lu_nodes.specs.States.{ClientSeat, DiskState, TargetSeat, NodesState}
 use Rattle.lu_nodes.specs.Shown.{kind_of, ShowsTarget, IsUnstarted, AreUnstarted, ShowsNodes}
 use Rattle.lu_nodes.specs.Turns.{StartFails, NodesFailStart}
+use Rattle.lu_nodes.proofs.Disks.{HasDisk, shown_has, waiting_have}
 use Rattle.lu_nodes.proofs.NodesMade.{disk_at_object, with_names, with_object}
 
 -- ---- the first lives, one after another
@@ -83,10 +84,10 @@ object_sort n = sym (ap kind_of (add-one n))
 abbrev Stops : StartFault → Result (Unit {0}) StartFault
 Stops stop = Err stop
 
-pub stop_says : (stop : StartFault) (t : TargetId) (step : Step) (n : ℕ) (why : TurnFault) → Stops stop ≡ Stops (record { target = t; fault = fault.Disk step })
-    → stop ≡ record { target = record { 0 = n }; fault = why } → (n ≡ t.0) × (why ≡ fault.Disk step)
-stop_says stop t step n why is stops =
-    let same : stop ≡ record { target = t; fault = fault.Disk step } = cc in
+pub stop_says : (stop : StartFault) (t : TargetId) (f : TurnFault) (n : ℕ) (why : TurnFault) → Stops stop ≡ Stops (record { target = t; fault = f })
+    → stop ≡ record { target = record { 0 = n }; fault = why } → (n ≡ t.0) × (why ≡ f)
+stop_says stop t f n why is stops =
+    let same : stop ≡ record { target = t; fault = f } = cc in
     (ap (λ (s : StartFault). s.target.0) (sym stops ∙ same), ap (λ (s : StartFault). s.fault) (sym stops ∙ same))
 
 -- the nodes in their start: the metadata target and so many object storage targets show that nothing has happened; the others
@@ -123,7 +124,14 @@ all_started old now starting head unstarted =
 -- the metadata target doesn't start
 pub names_stop : (old : NodesState) (new : TargetSeat) (stamp : Stamp) (step : Step) (head : Head) → AreUnstarted head old → StartFails 0 stamp old.names new step
     → NodesFailStart head 0 stamp old (with_names old new) step
-names_stop old new stamp step head unstarted fails = record { one = omega arith; rose = fails.rose; gives = fails.gives }
+names_stop old new stamp step head unstarted fails =
+    record {
+      one = omega arith;
+      rose = fails.rose;
+      gives = fails.gives;
+      kept = All-cons HasDisk new old.objects fails.kept (waiting_have head old unstarted);
+      count = refl;
+    }
 
 module _ (old now : NodesState) (place : ℕ) (seat : TargetSeat) (starting : AreStarting old now place) (within : place < length now.objects) (is : seat ≡ get_or now.objects place seat) where
   -- the next to start is as it was
@@ -135,6 +143,16 @@ module _ (old now : NodesState) (place : ℕ) (seat : TargetSeat) (starting : Ar
 
   pub next_unstarted : (head : Head) → AreUnstarted head old → IsUnstarted head (place + 1) seat
   next_unstarted head unstarted = subst (IsUnstarted head (place + 1)) (sym was) (unstarted.object place seat (subst (λ (n : ℕ). place < n) unstarted.objects within_old))
+
+  -- those that are started have their disks, and so have those that wait
+  starting_have : (head : Head) → AreUnstarted head old → (i : ℕ) (d : TargetSeat) → i < length now.objects → HasDisk (get_or now.objects i d)
+  starting_have head unstarted i d below = by (cases_lt i place)
+    where
+      by : (i < place) ⊎ (place ≤ i) → HasDisk (get_or now.objects i d)
+      by (inl less) = shown_has head [] (i + 1) (get_or now.objects i d) (starting.started head unstarted i d less)
+      by (inr more) =
+          let within : i < length old.objects = subst (λ (n : ℕ). i < n) starting.objects below in
+          subst HasDisk (sym (starting.waiting i d more)) (waiting_have head old unstarted i d within)
 
   pub next_started : (new : TargetSeat) → ((head : Head) → IsUnstarted head (place + 1) seat → AreUnstarted head old → ShowsTarget head [] (place + 1) new)
       → AreStarting old (with_object now place new) (place + 1)
@@ -159,6 +177,10 @@ module _ (old now : NodesState) (place : ℕ) (seat : TargetSeat) (starting : Ar
         one = let count = unstarted.objects in let below = within_old in omega arith;
         rose = rw (before, after) fails.rose;
         gives = fails.gives;
+        kept =
+            All-cons HasDisk now.names (slice_set now.objects place new) (shown_has head [] 0 now.names (starting.names head unstarted))
+            (All-set HasDisk now.objects place new fails.kept (starting_have head unstarted));
+        count = length-set now.objects place new ∙ starting.objects;
       }
 
 -- ---- each object storage target has its seat
@@ -168,3 +190,6 @@ all_seated n target osts count end past = omega (arith, count, end, past)
 
 pub one_at_least : (n : ℕ) → 1 ≤ n + 1
 one_at_least n = omega arith
+
+pub none_below : (n : ℕ) → n < 0 → ⊥
+none_below n below = omega (arith, below)

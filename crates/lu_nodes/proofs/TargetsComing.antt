@@ -11,12 +11,13 @@ use Rattle.lu_base.specs.declared.ids.Who.{Who}
 use Rattle.lu_msg.specs.declared.commits.Batch.{Batch}
 use Rattle.lu_service.specs.declared.services.Kind.{Kind}
 use Rattle.lu_service.specs.Contents.{Contents}
+use Rattle.lu_store.specs.Commits.{last_boot, most_boots}
 use Rattle.lu_trace.specs.declared.traces.Step.{Step}
 use Rattle.lu_words.specs.Given.{step_of}
 use Rattle.lu_words.specs.Words.{Entry, Skip, Line, with_turn}
 use Rattle.lu_target_rows.specs.Disks.{failing, row_start}
 use Rattle.lu_target_rows.specs.Recovery.{row_boot}
-use Rattle.lu_target_rows.specs.Rows.{Boots, row}
+use Rattle.lu_target_rows.specs.Rows.{Boots, row, overruns}
 use Rattle.lu_target_rows.specs.States.{Setting, Target as TargetOf, first_batch, lives_from, no_contents, started, turn}
 use Rattle.lu_redo.specs.Shown as redo
 use Rattle.lu_redo.specs.Shown.{AllRepeatable}
@@ -37,10 +38,10 @@ use Rattle.lu_whole_target.proofs.Steps.{up_in}
 use Rattle.lu_nodes.specs.declared.faults.TurnFault.{TurnFault}
 use Rattle.lu_nodes.specs.declared.faults.TurnFault.TheVariants as fault
 use Rattle.lu_nodes.specs.Faults.{boot_fault as given_as}
-use Rattle.lu_nodes.specs.States.{DiskState, TargetSeat, disk_in, disk_of, faults_of, with_disk}
+use Rattle.lu_nodes.specs.States.{DiskState, TargetSeat, with_disk}
 use Rattle.lu_nodes.specs.Shown.{IsUp, IsDown, IsSeat, IsTargetShown, IsTargetUnstarted, IsUnstarted, ShowsTarget, kind_of}
 use Rattle.lu_nodes.specs.Turns.{turn_at, StartFails, TargetFails, TargetMakes}
-use Rattle.lu_nodes.proofs.TargetsTurning.{later}
+use Rattle.lu_nodes.proofs.TargetsTurning.{in_room, later}
 
 -- ---- the kind of its service
 
@@ -74,6 +75,20 @@ boot_disk : (error : BootFault) (step : Step) → fault.Disk step ≡ given_as e
 boot_disk (boot_fault.Disk s) step is = cc
 boot_disk boot_fault.BootsSpent step is = absurd (cc)
 boot_disk boot_fault.Memory step is = absurd (cc)
+
+-- no boot is left, of which the seat is told so
+boot_spent : (error : BootFault) → fault.Unforeseen ≡ given_as error → error ≡ boot_fault.BootsSpent
+boot_spent (boot_fault.Disk s) is = absurd (cc)
+boot_spent boot_fault.BootsSpent is = refl
+boot_spent boot_fault.Memory is = absurd (cc)
+
+pub spent_told : {T : Type 0} (result : Result T TurnFault) (error : BootFault) → IsErrAnd result (λ f. f ≡ given_as error) → result ≡ Err fault.Unforeseen
+    → error ≡ boot_fault.BootsSpent
+spent_told {T} result error given failed = boot_spent error (subst (λ (r : Result T TurnFault). IsErrAnd r (λ f. f ≡ given_as error)) failed given)
+
+-- an empty disk has its boots before it
+pub no_boot_spent : (batches : List Batch) → batches ≡ [] → last_boot batches ≡ most_boots → ⊥
+no_boot_spent batches none spent = let most : 0 ≡ 4294967295 = ap last_boot (sym none) ∙ spent in absurd (omega (arith, most))
 
 -- ---- a seat whose target is down, over a disk of these batches
 
@@ -184,6 +199,9 @@ module _ (inside : TargetSeat) (batches : List Batch) (faults : ℕ) where
             (boots off.some v (stands head t past shows)).0
             ∙ (ap (λ (i : ℕ). step_of (turn_of i stamp) (row_boot v own_turn)) shows.sits.id ∙ ap (step_of at) (sym row_is))
 
+        has_room : overruns v (row v at Boots) ≡ false
+        has_room = ap (overruns v) row_is ∙ in_room u.running (turn v (row_boot v own_turn)) (boots off.some v (stands head t past shows)).1
+
         came_up : IsUp head (with_turn at (row v at Boots) past) t kind u
         came_up =
             let w : TargetOf = turn v (row_boot v own_turn) in
@@ -213,6 +231,7 @@ module _ (inside : TargetSeat) (batches : List Batch) (faults : ℕ) where
           sits = seat_is head t shows.sits (Some u) inside.disk;
           stands = came_up boots keeps head t past shows;
         };
+        room = λ head t past shows. has_room boots keeps head t past shows;
       }
 
     -- ---- its disk failed
@@ -227,6 +246,7 @@ module _ (inside : TargetSeat) (batches : List Batch) (faults : ℕ) where
       start_stops head t unstarted = record {
         rose = rose;
         gives = stops.start (empty head t unstarted) ∙ ap (λ (i : ℕ). step_of (turn_of i stamp) (row_start true)) unstarted.sits.id;
+        kept = refl;
       }
 
       boot_stops : TargetFails Boots stamp down stopped step
@@ -243,6 +263,7 @@ module _ (inside : TargetSeat) (batches : List Batch) (faults : ℕ) where
                   ∙ (ap (λ (i : ℕ). step_of (turn_of i stamp) (failing (row_boot v (turn_of i stamp)) boot.0)) shows.sits.id
                   ∙ ap (λ (es : List Entry). step_of at (failing es boot.0)) (sym row_is)),
             );
+        kept = refl;
       }
 
 -- ---- a seat as it was passed, whose disk was taken out of it
@@ -317,14 +338,26 @@ module _ (inside old : TargetSeat) (is : inside ≡ old) (none : old.target ≡ 
 
 -- ---- the disk that was taken out of a seat
 
+abbrev stored : Option DiskState → List Batch
+stored (Some d) = d.batches
+stored None = []
+
 pub put_back :
     {D : Type 0} (d : D) (view : D → DiskState) (inside old : TargetSeat) (held : Option D) → inside ≡ old → inside.disk ≡ option_map view held
     → held ≡ Some d → with_disk inside (view d).batches (view d).faults ≡ old
 put_back d view inside old held is shown taken =
     ap (λ (disk : Option DiskState). record inside { disk = disk }) (sym (shown ∙ ap (option_map view) taken)) ∙ is
 
+-- it had no batches before the start
+pub none_stored :
+    {D : Type 0} (d : D) (view : D → DiskState) (inside old : TargetSeat) (held : Option D) → inside ≡ old → inside.disk ≡ option_map view held
+    → held ≡ Some d → IsTargetUnstarted old → (view d).batches ≡ []
+none_stored d view inside old held is shown taken unstarted =
+    let disk : old.disk ≡ Some (view d) = ap (λ (seat : TargetSeat). seat.disk) (sym is) ∙ shown ∙ ap (option_map view) taken in
+    ap stored (sym disk ∙ unstarted.1.1.disk.1) ∙ unstarted.1.1.disk.2
+
 -- a fault that is passed on
-pub passed_on : {T : Type 0} (result : Result T TurnFault) (error : TurnFault) (step : Step) → IsErrAnd result (λ e. e ≡ error)
-    → result ≡ Err (fault.Disk step) → ◌≡◌ {A = Result Step TurnFault} (Err error) (Err (fault.Disk step))
-passed_on {T} result error step given failed =
+pub passed_on : {T : Type 0} (result : Result T TurnFault) (error f : TurnFault) → IsErrAnd result (λ e. e ≡ error)
+    → result ≡ Err f → ◌≡◌ {A = Result Step TurnFault} (Err error) (Err f)
+passed_on {T} result error f given failed =
     ap (λ (e : TurnFault). Err e) (sym (subst (λ (r : Result T TurnFault). IsErrAnd r (λ e. e ≡ error)) failed given))

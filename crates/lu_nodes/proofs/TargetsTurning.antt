@@ -1,5 +1,5 @@
 -- A step of a target is a turn of its seat, and so is a turn that is passed over.
-use Rattle.std.proofs.Common.{◌≡◌, ◌≢◌, ℕ, ◌<◌, if◌then◌else◌, Bool, true, false, List, [], ◌∷◌, Option, Some, None, Result, Ok, Err, refl, sym, ap, subst, ◌∙◌, arith, eq-eqb}
+use Rattle.std.proofs.Common.{◌≡◌, ◌≢◌, ℕ, ◌<◌, ◌||◌, nat_lt, if◌then◌else◌, Bool, true, false, List, [], ◌∷◌, Option, Some, None, Result, Ok, Err, refl, sym, ap, subst, ◌∙◌, arith, eq-eqb}
 use Rattle.std.specs.Result.{IsErrAnd}
 use Rattle.lu_base.specs.Faults.{Rose}
 use Rattle.lu_base.specs.declared.ids.At.{At}
@@ -15,7 +15,7 @@ use Rattle.lu_words.specs.Given.{step_of}
 use Rattle.lu_words.specs.Words.{Entry, Skip, Crash, Line, with_turn, is_target}
 use Rattle.lu_target_rows.specs.Disks.{failing}
 use Rattle.lu_target_rows.specs.Recovery.{row_boot}
-use Rattle.lu_target_rows.specs.Rows.{Event, Comes, Ticks, Commits, Crashes, Boots, Closes, row, when_up}
+use Rattle.lu_target_rows.specs.Rows.{Event, Crashes, Boots, row, when_up, most_numbers, passes, overruns}
 use Rattle.lu_target_rows.specs.States.{Target as TargetOf, after, turn}
 use Rattle.lu_target_parts.specs.Journals.{ShowsBoot, ShowsDisk}
 use Rattle.lu_window.specs.States.{State}
@@ -27,15 +27,17 @@ use Rattle.lu_whole_target.specs.Repeating.{Repeats, MayComeTo, IsLeft}
 use Rattle.lu_whole_target.specs.Running.{RunningState, IsOf, IsIn, KeepsIn}
 use Rattle.lu_whole_target.specs.Running.{IsUp as IsRunning}
 use Rattle.lu_whole_target.specs.Targets.{TargetState, turn_of, HasFailed, HasStepped, IsReady, Steps}
+use Rattle.lu_whole_target.proofs.Numbers.{room_in}
 use Rattle.lu_whole_target.proofs.Repeating.{leaves, stepped_repeats}
 use Rattle.lu_whole_target.proofs.Standing.{kind_stays}
-use Rattle.lu_whole_target.proofs.Steps.{up_in}
+use Rattle.lu_whole_target.proofs.Steps.{new_turn, up_in}
+use Rattle.lu_whole_target.proofs.Turning.{nothing_turns}
 use Rattle.lu_after.proofs.Targets.{target_own}
 use Rattle.lu_nodes.specs.declared.faults.TurnFault.{TurnFault}
 use Rattle.lu_nodes.specs.declared.faults.TurnFault.TheVariants as fault
 use Rattle.lu_nodes.specs.Faults.{step_fault as given_as}
 use Rattle.lu_nodes.specs.States.{DiskState, TargetSeat, disk_of, disk_in, faults_of}
-use Rattle.lu_nodes.specs.Shown.{IsUp, IsDown, Stands, IsSeat, ShowsTarget, IsTargetShown}
+use Rattle.lu_nodes.specs.Shown.{IsUp, IsDown, Stands, ShowsTarget, IsTargetShown}
 use Rattle.lu_nodes.specs.Turns.{turn_at, one_line, TargetMakes, TargetFails}
 
 -- ---- the target of a run after one more turn of its own
@@ -67,6 +69,7 @@ down_as head past more t kind d same it = record {
   down = subst (λ (v : TargetOf). v.up ≡ false) (sym same) it.down;
   some = it.some;
   left = subst (IsLeft kind d.batches) (sym same) it.left;
+  counted = ap (λ (v : TargetOf). overruns v []) same ∙ it.counted;
 }
 
 stands_as : (head : Head) (past more : List Line) (t : ℕ) (kind : Kind) (target : Option TargetState) (disk : Option DiskState)
@@ -116,6 +119,24 @@ is_down head past t seat none shows =
     by_down head past t seat.kind seat.disk
     (subst (λ (target : Option TargetState). Stands head past t seat.kind target seat.disk) none shows.stands)
 
+-- ---- what is shown counts no further than the numbers that there are
+
+-- whether a target of this state has counted further
+abbrev pub is_over : TargetOf → Bool
+is_over v = nat_lt most_numbers v.boot || (passes v.boot v.number || passes v.boot v.cookie)
+
+pub in_room : (t : RunningState) (v : TargetOf) → IsIn t v → overruns v [] ≡ false
+in_room t v it =
+    let making = new_turn (turn_of 0 (record { 0 = 0 })) in
+    room_in (λ _. []) t t making making (nothing_turns (λ _. []) t making (λ _ _. refl)) v it
+
+pub is_counted : (head : Head) (past : List Line) (t : ℕ) (seat : TargetSeat) → ShowsTarget head past t seat → overruns (target_of head t past) [] ≡ false
+is_counted head past t seat shows = by seat.target seat.disk shows.stands where
+  by : (target : Option TargetState) (disk : Option DiskState) → Stands head past t seat.kind target disk → overruns (target_of head t past) [] ≡ false
+  by (Some s) disk it = in_room s.running (target_of head t past) it.shows
+  by None (Some d) it = it.counted
+  by None None it = absurd it
+
 -- ---- a target that is up
 
 none_some : {A : Type 0} {a : A} → None ≡ Some a → ⊥
@@ -163,6 +184,12 @@ module _ (e f : Event) (same : AreSame e f) (stamp : Stamp) (s u : TargetState) 
         let v : TargetOf = target_of head t past in
         steps.gives v it.shows ∙ ap (λ (i : ℕ). step_of (turn_of i stamp) (row v (turn_of i stamp) e)) it.id
 
+    has_room : (head : Head) (t : ℕ) (past : List Line) (kind : Kind) → IsUp head past t kind s
+        → overruns (target_of head t past) (row (target_of head t past) (turn_at stamp (Target t)) f) ≡ false
+    has_room head t past kind it =
+        let v : TargetOf = target_of head t past in
+        ap is_over (sym (same v (turn_at stamp (Target t)))) ∙ ap (λ (i : ℕ). overruns v (row v (turn_of i stamp) e)) (sym it.id) ∙ steps.room v it.shows
+
 -- ---- of a seat whose target is up
 
 module _ (seat : TargetSeat) (stamp : Stamp) (s u : TargetState) (up : seat.target ≡ Some s) where
@@ -174,6 +201,7 @@ module _ (seat : TargetSeat) (stamp : Stamp) (s u : TargetState) (up : seat.targ
       sits = record { id = shows.sits.id; osts = shows.sits.osts; expire = shows.sits.expire; sort = shows.sits.sort };
       stands = stepped e f same stamp s u step may steps.id steps.made steps.batches head t past seat.kind (up_in_seat head past t seat s up shows);
     };
+    room = λ head t past shows. has_room e f same stamp s u step may steps.id steps.made steps.batches head t past seat.kind (up_in_seat head past t seat s up shows);
   }
 
   faults_are : faults_of (disk_in seat) ≡ s.running.server.store.faults
@@ -186,6 +214,7 @@ module _ (seat : TargetSeat) (stamp : Stamp) (s u : TargetState) (up : seat.targ
         let it = up_in_seat head past t seat s up shows in
         let v : TargetOf = target_of head t past in
         (0, failed.gives v it.shows ∙ ap (λ (i : ℕ). step_of (turn_of i stamp) (failing (row v (turn_of i stamp) e) 0)) it.id);
+    kept = refl;
   }
 
 -- the disk failed, of which the seat is told so
@@ -212,6 +241,7 @@ module _ (seat : TargetSeat) (stamp : Stamp) (step : Step) (is : step ≡ one_li
         let at : At = turn_at stamp (Target t) in
         let es : List Entry = row (target_of head t past) at e in
         shown_as head past (with_turn at es past) t seat (skip_left head t past stamp es (skips head t past at shows)) shows;
+    room = λ head t past shows. ap (overruns (target_of head t past)) (skips head t past (turn_at stamp (Target t)) shows) ∙ is_counted head past t seat shows;
   }
 
   -- by a target that is down
@@ -264,6 +294,7 @@ crashed head t past kind stamp s batches faults same it =
           subst (IsLeft kind batches) (sym is)
           (subst (λ (b : List Batch). IsLeft kind b (after v Crash)) (sym same)
           (subst (λ (k : Kind). IsLeft k s.running.server.store.batches (after v Crash)) it.sort (leaves s.running v it.shows own)));
+      counted = ap (λ (w : TargetOf). overruns w []) is ∙ in_room s.running v it.shows;
     }
 
 crash_makes :
@@ -279,6 +310,10 @@ crash_makes seat stamp s up batches faults same step is = record {
     sits = record { id = shows.sits.id; osts = shows.sits.osts; expire = shows.sits.expire; sort = shows.sits.sort };
     stands = crashed head t past seat.kind stamp s batches faults same (up_in_seat head past t seat s up shows);
   };
+  room = λ head t past shows.
+      let it = up_in_seat head past t seat s up shows in
+      let v : TargetOf = target_of head t past in
+      ap (λ (b : Bool). overruns v (if b then Crash ∷ [] else Skip ∷ [])) it.up ∙ in_room s.running v it.shows;
 }
 
 -- ---- a seat as it was passed

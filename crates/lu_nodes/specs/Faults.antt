@@ -1,6 +1,4 @@
 -- What the fault of a target or a client is to the nodes.
-use Rattle.lu_client_turns.specs.declared.faults.ClientFault.{ClientFault}
-use Rattle.lu_client_turns.specs.declared.faults.ClientFault.TheVariants as client
 use Rattle.lu_whole_target.specs.declared.faults.StepFault.{StepFault}
 use Rattle.lu_whole_target.specs.declared.faults.StepFault.TheVariants as step
 use Rattle.lu_whole_target.specs.declared.faults.BootFault.{BootFault}

@@ -1,12 +1,10 @@
 -- What the nodes of a run show after a past: each the state that the rows read of it.
-use Rattle.std.specs.Prelude.{◌≡◌, ◌≢◌, ℕ, zero, suc, ◌+◌, ◌^◌, ◌<◌, Bool, true, false, List, [], length, slice_index_or, Option, Some, None}
-use Rattle.lu_msg.specs.declared.commits.Batch.{Batch}
+use Rattle.std.specs.Prelude.{◌≡◌, ◌≢◌, ℕ, zero, suc, ◌+◌, ◌^◌, ◌<◌, true, false, List, [], length, slice_index_or, Option, Some, None}
 use Rattle.lu_service.specs.declared.services.Kind.{Kind}
 use Rattle.lu_service.specs.declared.services.Kind.TheVariants.{Mdt, Ost}
 use Rattle.lu_words.specs.Words.{Line}
-use Rattle.lu_target_rows.specs.States.{lives_from}
+use Rattle.lu_target_rows.specs.Rows.{overruns}
 use Rattle.lu_client_rows.specs.Calls.{is_dead}
-use Rattle.lu_client_turns.specs.Clients.{ClientState}
 use Rattle.lu_client_turns.specs.Numbers.{HasAsked}
 use Rattle.lu_whole_target.specs.Repeating.{Repeats, IsLeft}
 use Rattle.lu_whole_target.specs.Running.{IsIn}
@@ -40,11 +38,12 @@ pub record IsUp (head : Head) (past : List Line) (t : ℕ) (kind : Kind) (s : Ta
   pub shows : IsIn s.running (target_of head t past)
   pub repeats : Repeats kind s.running (target_of head t past)
 
--- A disk that a target left is never empty: a run begins over an empty one.
+-- A disk that a target left is never empty: a run begins over an empty one. The target counted no further than there are numbers.
 pub record IsDown (head : Head) (past : List Line) (t : ℕ) (kind : Kind) (d : DiskState) : Type 0 where
   pub down : (target_of head t past).up ≡ false
   pub some : d.batches ≢ []
   pub left : IsLeft kind d.batches (target_of head t past)
+  pub counted : overruns (target_of head t past) [] ≡ false
 
 abbrev pub Stands : Head → List Line → ℕ → Kind → Option TargetState → Option DiskState → Type 0
 Stands head past t kind (Some s) disk = IsUp head past t kind s

@@ -1,5 +1,5 @@
 -- The nodes of a run as contracts see them.
-use Rattle.std.specs.Prelude.{ℕ, zero, suc, Bool, true, false, not, is_some, List, ◌∷◌, Option, Some, None, slice_get}
+use Rattle.std.specs.Prelude.{ℕ, zero, suc, Bool, false, not, is_some, List, Option, Some, None, slice_get}
 use Rattle.lu_base.specs.declared.ids.Node.{Node}
 use Rattle.lu_base.specs.declared.ids.Node.TheVariants.{Client, Target}
 use Rattle.lu_msg.specs.declared.commits.Batch.{Batch}

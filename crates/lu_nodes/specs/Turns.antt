@@ -1,5 +1,5 @@
 -- The turns of a run's nodes: what each gives, and what the nodes show after it.
-use Rattle.std.specs.Prelude.{◌≡◌, ℕ, ◌+◌, ◌<◌, ◌≤◌, true, List, [], ◌∷◌}
+use Rattle.std.specs.Prelude.{◌≡◌, ℕ, ◌+◌, ◌≤◌, true, List, [], ◌∷◌, length, IsSome}
 use Rattle.lu_base.specs.Faults.{Rose}
 use Rattle.lu_base.specs.declared.ids.At.{At}
 use Rattle.lu_base.specs.declared.ids.Node.{Node}
@@ -14,10 +14,12 @@ use Rattle.lu_target_rows.specs.Disks.{failing, row_start}
 use Rattle.lu_target_rows.specs.Rows as target
 use Rattle.lu_client_rows.specs.Rows as client
 use Rattle.lu_table.specs.Heads.{Head}
-use Rattle.lu_table.specs.Runs.{EventAt, row_at, client_of, target_of, limits_of}
+use Rattle.lu_table.specs.Runs.{EventAt, row_at, HasNumbers}
+use Rattle.lu_after.specs.InTable.{IsOfRun}
 use Rattle.lu_nodes.specs.declared.nodes.Command.{Command}
 use Rattle.lu_nodes.specs.declared.nodes.Command.TheVariants as command
 use Rattle.lu_nodes.specs.States.{ClientSeat, TargetSeat, NodesState, disk_in, disk_at, faults_of}
+use Rattle.lu_nodes.specs.Disks.{HaveDisks}
 use Rattle.lu_nodes.specs.Shown.{ShowsClient, ShowsTarget, ShowsNodes}
 
 abbrev pub turn_at : Stamp → Node → At
@@ -49,17 +51,21 @@ pub record TargetMakes (given event : target.Event) (stamp : Stamp) (old new : T
       → step ≡ step_of (turn_at stamp (Target t)) (row_at head past (turn_at stamp (Target t)) (Target t) given)
   pub shows : (head : Head) (t : ℕ) (past : List Line) → ShowsTarget head past t old
       → ShowsTarget head (with_turn (turn_at stamp (Target t)) (row_at head past (turn_at stamp (Target t)) (Target t) event) past) t new
+  pub room : (head : Head) (t : ℕ) (past : List Line) → ShowsTarget head past t old
+      → HasNumbers head past (turn_at stamp (Target t)) (Target t) event
 
 -- The disk failed: its count rose, and the step has the row's lines up to that of it.
 pub record TargetFails (event : target.Event) (stamp : Stamp) (old new : TargetSeat) (step : Step) : Type 0 where
   pub rose : Rose (faults_of (disk_in old)) (faults_of (disk_in new))
   pub gives : (head : Head) (t : ℕ) (past : List Line) → ShowsTarget head past t old
       → (n : ℕ) × (step ≡ step_of (turn_at stamp (Target t)) (failing (row_at head past (turn_at stamp (Target t)) (Target t) event) n))
+  pub kept : IsSome (disk_in new)
 
 -- It didn't start: the step is the line that says so.
 pub record StartFails (t : ℕ) (stamp : Stamp) (old new : TargetSeat) (step : Step) : Type 0 where
   pub rose : Rose (faults_of (disk_in old)) (faults_of (disk_in new))
   pub gives : step ≡ step_of (turn_at stamp (Target t)) (row_start true)
+  pub kept : IsSome (disk_in new)
 
 -- ---- of any node
 
@@ -68,18 +74,26 @@ pub record NodesMake (node : Node) (given event : EventAt node) (stamp : Stamp) 
       → step ≡ step_of (turn_at stamp node) (row_at head past (turn_at stamp node) node given)
   pub shows : (head : Head) (turns : ℕ) (past : List Line) → ShowsNodes head turns past old
       → ShowsNodes head (turns + 1) (with_turn (turn_at stamp node) (row_at head past (turn_at stamp node) node event) past) new
+  -- it is a node of the run, and a target has numbers left for what the turn makes
+  pub one : (head : Head) (turns : ℕ) (past : List Line) → ShowsNodes head turns past old → IsOfRun head node
+  pub room : (head : Head) (turns : ℕ) (past : List Line) → ShowsNodes head turns past old → HasNumbers head past (turn_at stamp node) node event
 
 -- The disk of a target failed.
 pub record NodesFail (t : ℕ) (event : target.Event) (stamp : Stamp) (old new : NodesState) (step : Step) : Type 0 where
   pub rose : Rose (faults_of (disk_at old t)) (faults_of (disk_at new t))
   pub gives : (head : Head) (turns : ℕ) (past : List Line) → ShowsNodes head turns past old
       → (n : ℕ) × (step ≡ step_of (turn_at stamp (Target t)) (failing (row_at head past (turn_at stamp (Target t)) (Target t) event) n))
+  pub one : (head : Head) (turns : ℕ) (past : List Line) → ShowsNodes head turns past old → t ≤ head.osts
+  pub kept : (head : Head) (turns : ℕ) (past : List Line) → ShowsNodes head turns past old → HaveDisks new
+  pub count : length new.objects ≡ length old.objects
 
 -- One of the run's targets didn't start.
 pub record NodesFailStart (head : Head) (t : ℕ) (stamp : Stamp) (old new : NodesState) (step : Step) : Type 0 where
   pub one : t ≤ head.osts
   pub rose : Rose (faults_of (disk_at old t)) (faults_of (disk_at new t))
   pub gives : step ≡ step_of (turn_at stamp (Target t)) (row_start true)
+  pub kept : HaveDisks new
+  pub count : length new.objects ≡ length old.objects
 
 -- ---- commands
 

@@ -1,12 +1,13 @@
 //! A client of a run, living or dead.
 
-ghost use Rattle.std.specs.Prelude.{◌≡◌, ◌≢◌, ◌<◌, ℕ, [], ◌∷◌, Err, IfOk};
+ghost use Rattle.std.specs.Prelude.{◌≡◌, ◌≢◌, ◌<◌, ℕ, false, [], ◌∷◌, Err, IfOk};
 ghost use Rattle.lu_base.specs.declared.ids.Node.TheVariants as node;
 ghost use Rattle.lu_call.specs.Ranges.{IsCall};
 ghost use Rattle.lu_msg.specs.Limits.{slot_count};
 ghost use Rattle.lu_words.specs.Given.{step_of};
 ghost use Rattle.lu_words.specs.Words.{Busy as BusyLine};
 ghost use Rattle.lu_client_rows.specs.Rows.{Begins, Comes, Ticks, Dies};
+ghost use Rattle.lu_client_turns.specs.Comings.{may_come};
 ghost use Rattle.lu_trace.specs.declared.traces.Step.{Step as StepOf};
 ghost use Rattle.lu_table.specs.Heads.{IsHead};
 ghost use Rattle.lu_table.specs.Scenarios.{head_of, with_stripes};
@@ -108,6 +109,8 @@ impl ClientSeat {
         ensures undisked { (step : StepOf) → result ≢ Err (fault.Disk step) }
         ensures made { IfOk result (λ step. (n : ℕ)
             → ClientMakes (Comes 0 from message.now) (Comes n from message.now) stamp self.old self.new step) }
+        ensures foreseen { result ≡ Err fault.Unforeseen → (t : ℕ) → from ≡ node.Target t
+            → may_come from message.now self.old.client.client ≡ false }
     {
         let Node::Target(target) = from else {
             return Err(TurnFault::Unforeseen);

@@ -13,8 +13,8 @@ use std::fmt;
 pub enum TurnFault {
     /// The disk of the target failed; its count of faults rose. The step has the lines of the turn up to `fail`.
     Disk(Step),
-    /// What came isn't what the node may be given, or it has no number left that the turn needs. No run is known that
-    /// comes to this; that none does isn't proved.
+    /// The turn isn't foreseen (`specs/Foreseen`): what came isn't what the node may be given, or it has no number left that
+    /// the turn needs. No run is known that comes to this; that none does isn't proved.
     Unforeseen,
     /// Want of memory.
     Memory,

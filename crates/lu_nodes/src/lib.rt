@@ -4,6 +4,7 @@
 #![tactic(auto)]
 
 mod clients;
+mod ends;
 mod faults;
 mod fresh;
 mod nodes;

@@ -1,17 +1,22 @@
 //! The nodes of a run.
 
-ghost use Rattle.std.specs.Prelude.{◌≡◌, ◌≢◌, ◌≤◌, ◌<◌, ℕ, length, Err, IfOk};
+ghost use Rattle.std.specs.Prelude.{◌≡◌, ◌≢◌, ◌≤◌, ◌<◌, ℕ, false, List, length, Err, IfOk};
 ghost use Rattle.lu_base.specs.declared.ids.Node.TheVariants as node;
 ghost use Rattle.lu_call.specs.Ranges.{IsCall};
 ghost use Rattle.lu_base.specs.declared.ids.Node.{Node as NodeOf};
 ghost use Rattle.lu_client_rows.specs.Rows as client_rows;
 ghost use Rattle.lu_client_rows.specs.Rows.{Begins, Ticks, Dies};
+ghost use Rattle.lu_client_turns.specs.Comings.{may_come};
 ghost use Rattle.lu_msg.specs.Limits.{slot_count};
 ghost use Rattle.lu_target_rows.specs.Rows.{Comes};
 ghost use Rattle.lu_trace.specs.declared.traces.Step.{Step as StepOf};
+ghost use Rattle.lu_table.specs.Heads.{Head as HeadOf};
+ghost use Rattle.lu_table.specs.Runs.{client_of};
 ghost use Rattle.lu_table.specs.Scenarios.{with_stripes};
+ghost use Rattle.lu_words.specs.Words.{Line};
 ghost use Rattle.lu_nodes.specs.declared.faults.TurnFault.TheVariants as fault;
-ghost use Rattle.lu_nodes.specs.Shown.{AreShown, IsTargetShown};
+ghost use Rattle.lu_nodes.specs.Foreseen.{IsForeseen, IsTickForeseen, TakesSurely};
+ghost use Rattle.lu_nodes.specs.Shown.{AreShown, IsTargetShown, ShowsNodes, ShowsTarget};
 ghost use Rattle.lu_nodes.specs.States.{is_dead_in, is_down_in};
 ghost use Rattle.lu_nodes.specs.Turns.{arrives, event_of, NodesMake, NodesFail, TargetMakes, TargetFails};
 
@@ -151,6 +156,8 @@ impl<D: Disk + Drop> Nodes<D> {
             stamp self.old self.new) }
         ensures failed { (step : StepOf) → result ≡ Err (fault.Disk step)
             → NodesFail target (event_of command) stamp self.old self.new step }
+        ensures foreseen { result ≡ Err fault.Unforeseen → command ≡ Command.Tick → (head : HeadOf) (turns : ℕ) (past : List Line)
+            → ShowsNodes head turns past self.old → ¬ IsTickForeseen head past stamp target }
     {
         match target.checked_sub(1) {
             None => obey(&mut self.names, stamp, command),
@@ -169,6 +176,8 @@ impl<D: Disk + Drop> Nodes<D> {
         ensures failed { (step : StepOf) → result ≡ Err (fault.Disk step) → (t : ℕ) → sent.now.to ≡ node.Target t
             → NodesFail t (Comes 0 sent.now.from sent.now.message) stamp self.old self.new step }
         ensures target { (step : StepOf) → result ≡ Err (fault.Disk step) → (c : ℕ) → sent.now.to ≢ node.Client c }
+        ensures foreseen { result ≡ Err fault.Unforeseen → (head : HeadOf) (turns : ℕ) (past : List Line)
+            → ShowsNodes head turns past self.old → ¬ IsForeseen head past stamp sent.now }
     {
         match sent.to {
             Node::Client(client) => self.reach(stamp, client, sent.from, &sent.message),
@@ -188,6 +197,9 @@ impl<D: Disk + Drop> Nodes<D> {
         ensures made { IfOk result (λ step. (n : ℕ) → NodesMake (node.Client client)
             (client_rows.Comes 0 from message.now) (client_rows.Comes n from message.now) stamp self.old self.new step) }
         ensures failed { (step : StepOf) → result ≢ Err (fault.Disk step) }
+        ensures foreseen { result ≡ Err fault.Unforeseen → (head : HeadOf) (turns : ℕ) (past : List Line)
+            → ShowsNodes head turns past self.old → client < head.clients → (t : ℕ) → from ≡ node.Target t
+            → may_come from message.now (client_of head client past) ≡ false }
     {
         let Some(seat) = self.clients.get_mut(client as usize) else {
             return Err(TurnFault::Unforeseen);
@@ -202,6 +214,8 @@ impl<D: Disk + Drop> Nodes<D> {
             (Comes 0 from message.now) (Comes n from message.now) stamp self.old self.new step) }
         ensures failed { (step : StepOf) → result ≡ Err (fault.Disk step) → (from : NodeOf)
             → NodesFail target (Comes 0 from message.now) stamp self.old self.new step }
+        ensures foreseen { result ≡ Err fault.Unforeseen → (head : HeadOf) (turns : ℕ) (past : List Line) (from : NodeOf)
+            → ShowsNodes head turns past self.old → target ≤ head.osts → ¬ TakesSurely head past stamp from message.now target }
     {
         let Some(place) = target.checked_sub(1) else {
             return self.names.deliver(stamp, message);
@@ -223,6 +237,8 @@ fn obey<S: Fresh, D: Disk + Drop>(
     ensures made { IfOk result (TargetMakes (event_of command) (event_of command) stamp seat.old seat.new) }
     ensures failed { (step : StepOf) → result ≡ Err (fault.Disk step)
         → TargetFails (event_of command) stamp seat.old seat.new step }
+    ensures foreseen { result ≡ Err fault.Unforeseen → command ≡ Command.Tick → (head : HeadOf) (t : ℕ) (past : List Line)
+        → ShowsTarget head past t seat.old → ¬ IsTickForeseen head past stamp t }
 {
     match command {
         Command::Tick => seat.tick(stamp),

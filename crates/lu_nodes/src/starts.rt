@@ -1,6 +1,6 @@
 //! The nodes at the start of a run.
 
-ghost use Rattle.std.specs.Prelude.{◌≡◌, ◌<◌, ◌≤◌, ◌+◌, ℕ, [], All, length, slice_index_or, Err, IfOk, OnOk};
+ghost use Rattle.std.specs.Prelude.{◌≡◌, ◌≢◌, ◌<◌, ◌≤◌, ◌+◌, ℕ, List, [], ◌∷◌, ◌++◌, All, length, slice_index_or, Err, IfOk, OnOk};
 ghost use Rattle.lu_base.specs.declared.ids.TargetId.{TargetId as TargetIdOf};
 ghost use Rattle.lu_target_rows.specs.States.{lives_from};
 ghost use Rattle.lu_trace.specs.declared.traces.Step.{Step as StepOf};
@@ -33,6 +33,8 @@ impl<D: Disk + Drop> Nodes<D> {
         requires enough { head.now.osts < length disks.old.items }
         requires empty { All (λ d. D.batches d ≡ []) disks.old.items }
         ensures unstarted { IfOk result (AreUnstarted (head_of head.now)) }
+        ensures rest { OnOk result ((taken : List D) × (disks.old.items ≡ disks.new.items ++ taken)
+            × (length taken ≡ head.now.osts + 1)) }
     {
         let clients = first_clients(alloc, head)?;
         let names = seat(alloc, head, 0, disks);
@@ -53,6 +55,7 @@ impl<D: Disk + Drop> Nodes<D> {
         ensures failed { (t : TargetIdOf) (step : StepOf)
             → result ≡ Err (record { target = t; fault = fault.Disk step })
             → (head : HeadOf) → AreUnstarted head self.old → NodesFailStart head t.0 (record { 0 = 1 }) self.old self.new step }
+        ensures foreseen { (t : TargetIdOf) → result ≢ Err (record { target = t; fault = fault.Unforeseen }) }
     {
         let lives = match first_lives(self.alloc, self.clients.len()) {
             Ok(lives) => lives,
@@ -106,6 +109,8 @@ fn first_objects<D: Disk + Drop>(
     ensures count { IfOk result (λ objects. length objects.items ≡ head.now.osts) }
     ensures unstarted { IfOk result (λ objects. (i : ℕ) (d : TargetSeatOf) → i < head.now.osts
         → IsUnstarted (head_of head.now) (i + 1) (slice_index_or objects.items i d)) }
+    ensures rest { OnOk result ((taken : List D) × (disks.old.items ≡ disks.new.items ++ taken)
+        × (length taken ≡ head.now.osts)) }
 {
     let mut objects = Vec::new(alloc);
     for target in 1..head.osts + 1 {
@@ -126,6 +131,7 @@ fn seat<S: Fresh, D: Disk + Drop>(
     requires empty { All (λ d. D.batches d ≡ []) disks.old.items }
     ensures unstarted { S.kind ≡ kind_of target → IsUnstarted (head_of head.now) target result }
     ensures fewer { length disks.old.items ≡ length disks.new.items + 1 }
+    ensures rest { (disk : D) × (disks.old.items ≡ disks.new.items ++ disk ∷ []) }
     ensures empty { All (λ d. D.batches d ≡ []) disks.new.items }
 {
     match disks.pop() {

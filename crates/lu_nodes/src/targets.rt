@@ -1,16 +1,20 @@
 //! A target of a run with its disk, up or down.
 
-ghost use Rattle.std.specs.Prelude.{◌≡◌, ◌≤◌, ◌⊎◌, ℕ, [], is_some, None, Some, Err, IfOk};
+ghost use Rattle.std.specs.Prelude.{◌≡◌, ◌≢◌, ◌≤◌, ◌⊎◌, ℕ, List, [], is_some, IsSome, None, Some, Err, IfOk};
 ghost use Rattle.lu_base.specs.declared.ids.Node.{Node as NodeOf};
 ghost use Rattle.lu_base.specs.declared.ids.Node.TheVariants as node;
 ghost use Rattle.lu_target_rows.specs.Rows.{Comes, Ticks, Commits, Crashes, Boots, Closes};
 ghost use Rattle.lu_target_rows.specs.States.{lives_from};
+ghost use Rattle.lu_store.specs.Commits.{last_boot, most_boots};
 ghost use Rattle.lu_trace.specs.declared.entries.Entry.{Entry as EntryOf};
 ghost use Rattle.lu_trace.specs.declared.traces.Step.{Step as StepOf};
 ghost use Rattle.lu_table.specs.Heads.{Head as HeadOf};
+ghost use Rattle.lu_words.specs.Words.{Line};
+ghost use Rattle.lu_nodes.specs.Disks.{disk_or_none};
+ghost use Rattle.lu_nodes.specs.Foreseen.{IsTickForeseen, TakesSurely};
 ghost use Rattle.lu_nodes.specs.declared.faults.TurnFault.TheVariants as fault;
 ghost use Rattle.lu_nodes.specs.Shown.{IsTargetShown, IsTargetUnstarted, IsUnstarted, ShowsTarget};
-ghost use Rattle.lu_nodes.specs.States.{with_disk};
+ghost use Rattle.lu_nodes.specs.States.{disk_in, with_disk};
 ghost use Rattle.lu_nodes.specs.Turns.{turn_at, one_line, TargetMakes, TargetFails, StartFails};
 
 use super::faults::TurnFault;
@@ -100,6 +104,7 @@ impl<S: Fresh, D: Disk + Drop> TargetSeat<S, D> {
             → first.now ≡ lives_from 0 head.clients → ShowsTarget head [] t self.new) }
         ensures failed { (step : StepOf) → result ≡ Err (fault.Disk step)
             → (head : HeadOf) (t : ℕ) → IsUnstarted head t self.old → StartFails t stamp self.old self.new step }
+        ensures foreseen { result ≢ Err fault.Unforeseen }
     {
         let Some(disk) = self.disk.take() else {
             unreachable!()
@@ -139,6 +144,7 @@ impl<S: Fresh, D: Disk + Drop> TargetSeat<S, D> {
             → StartFails t stamp (with_disk self.old (D.batches disk) (D.faults disk)) self.new step }
         ensures boot_failed { (step : StepOf) → result ≡ Err (fault.Disk step)
             → TargetFails Boots stamp (with_disk self.old (D.batches disk) (D.faults disk)) self.new step }
+        ensures spent { result ≡ Err fault.Unforeseen → last_boot (D.batches disk) ≡ most_boots }
     {
         let service = match S::fresh(self.alloc, self.osts) {
             Ok(service) => service,
@@ -186,6 +192,8 @@ impl<S: Fresh, D: Disk + Drop> TargetSeat<S, D> {
             → TargetMakes (Comes 0 from message.now) (Comes n from message.now) stamp self.old self.new step) }
         ensures failed { (step : StepOf) → result ≡ Err (fault.Disk step) → (from : NodeOf)
             → TargetFails (Comes 0 from message.now) stamp self.old self.new step }
+        ensures foreseen { result ≡ Err fault.Unforeseen → (head : HeadOf) (t : ℕ) (past : List Line) (from : NodeOf)
+            → ShowsTarget head past t self.old → ¬ TakesSurely head past stamp from message.now t }
     {
         let Some(target) = &mut self.target else {
             return Err(TurnFault::Unforeseen);
@@ -202,6 +210,8 @@ impl<S: Fresh, D: Disk + Drop> TargetSeat<S, D> {
         ensures made { IfOk result (TargetMakes Ticks Ticks stamp self.old self.new) }
         ensures failed { (step : StepOf) → result ≡ Err (fault.Disk step)
             → TargetFails Ticks stamp self.old self.new step }
+        ensures foreseen { result ≡ Err fault.Unforeseen → (head : HeadOf) (t : ℕ) (past : List Line)
+            → ShowsTarget head past t self.old → ¬ IsTickForeseen head past stamp t }
     {
         match &mut self.target {
             Some(target) => Ok(target.tick(stamp)?),
@@ -233,6 +243,19 @@ impl<S: Fresh, D: Disk + Drop> TargetSeat<S, D> {
             Some(target) => Ok(target.close_window(stamp)?),
             None => Ok(self.line(stamp, Entry::Skip)?),
         }
+    }
+
+    /// Its disk. A target that is up goes down.
+    pub(crate) fn into_disk(self) -> D
+        requires some { IsSome (disk_in self) }
+        ensures disk { disk_or_none (disk_in self) ≡ record { batches = D.batches result; faults = D.faults result } }
+    {
+        let TargetSeat { target, disk, .. } = self;
+        if let Some(target) = target {
+            return target.crash();
+        }
+        let Some(disk) = disk else { unreachable!() };
+        disk
     }
 
     /// A turn of one line.

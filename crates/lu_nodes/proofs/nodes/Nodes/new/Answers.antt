@@ -1,4 +1,5 @@
 use Rattle.std.proofs.Common.{refl}
+use Rattle.lu_nodes.proofs.Giving.{all_taken}
 use Rattle.lu_nodes.proofs.nodes.Nodes.new.Goals as goal
 
 pub returns : goal.returns
@@ -12,4 +13,5 @@ returns g c =
             names = c.seat-names.ensures.unstarted refl;
             object = c.in_ok-objects.ensures.unstarted;
           };
+      rest = all_taken {D = g.row.D.Denot} c.args.disks.now.items c.seat-names.new.disks.items c.first_objects.new.disks.items c.args.head.now.osts c.seat-names.ensures.rest c.in_ok-objects.ensures.rest;
     }

@@ -4,6 +4,7 @@ use Rattle.std.specs.Prelude.{Err}
 use Rattle.std.proofs.lemmas.List.{length-set}
 use Rattle.lu_target_rows.specs.States.{lives_from}
 use Rattle.lu_table.specs.Heads.{Head}
+use Rattle.lu_nodes.specs.declared.faults.TurnFault.TheVariants as fault
 use Rattle.lu_nodes.specs.States.{NodesState}
 use Rattle.lu_nodes.specs.Shown.{AreUnstarted}
 use Rattle.lu_nodes.specs.Turns.{NodesFailStart}
@@ -15,10 +16,15 @@ pub returns-in-Err-start-clause-failed : goal.returns-in-Err-start-clause-failed
 returns-in-Err-start-clause-failed g c = λ t step is head unstarted.
     let nodes : NodesState = record { clients = c.self.inside.clients.items; names = c.self.inside.names; objects = c.self.inside.objects.items } in
     let before = subst (λ (n : NodesState). AreUnstarted head n) (sym c.self.view_is) unstarted in
-    let why = stop_says c.stopped-in-Err-start.result t step 0 c.in-Err-start.fault is c.stopped-in-Err-start.ensures.fault in
+    let why = stop_says c.stopped-in-Err-start.result t (fault.Disk step) 0 c.in-Err-start.fault is c.stopped-in-Err-start.ensures.fault in
     let fails = c.in-Err-start.ensures.failed step (ap Err why.1) head 0 before.names in
     subst (λ (k : ℕ). NodesFailStart head k (record { 0 = 1 }) c.args.self.now (with_names nodes c.start.new.self) step) why.0
     (subst (λ (n : NodesState). NodesFailStart head 0 (record { 0 = 1 }) n (with_names nodes c.start.new.self) step) c.self.view_is (names_stop nodes c.start.new.self (record { 0 = 1 }) step head before fails))
+
+pub returns-in-Err-start-clause-foreseen : goal.returns-in-Err-start-clause-foreseen
+returns-in-Err-start-clause-foreseen g c = λ t is.
+    let why = stop_says c.stopped-in-Err-start.result t fault.Unforeseen 0 c.in-Err-start.fault is c.stopped-in-Err-start.ensures.fault in
+    c.in-Err-start.ensures.foreseen (ap Err why.1)
 
 pub loop-place-init : goal.loop-place-init
 loop-place-init g c =
@@ -50,11 +56,16 @@ returns-in-Err-start-2-clause-failed g c = λ t step is head unstarted.
     let seat = c.index_mut.result.now in
     let new = c.start-in-loop-place.new.self in
     let within : place < length now.objects = omega (arith, c.loop-place.invariant.count) in
-    let why = stop_says c.stopped-in-Err-start-2.result t step (place + 1) c.in-Err-start-2.fault is c.stopped-in-Err-start-2.ensures.fault in
+    let why = stop_says c.stopped-in-Err-start-2.result t (fault.Disk step) (place + 1) c.in-Err-start-2.fault is c.stopped-in-Err-start-2.ensures.fault in
     let before = next_unstarted c.args.self.now now place seat c.loop-place.invariant.starting within c.index_mut.ensures.value head unstarted in
     let fails = c.in-Err-start-2.ensures.failed step (ap Err why.1) head (place + 1) before in
     subst (λ (k : ℕ). NodesFailStart head k (record { 0 = 1 }) c.args.self.now (with_object now place new) step) why.0
     (next_stops c.args.self.now now place seat c.loop-place.invariant.starting within c.index_mut.ensures.value new (record { 0 = 1 }) step head unstarted fails)
+
+pub returns-in-Err-start-2-clause-foreseen : goal.returns-in-Err-start-2-clause-foreseen
+returns-in-Err-start-2-clause-foreseen g c = λ t is.
+    let why = stop_says c.stopped-in-Err-start-2.result t fault.Unforeseen (c.loop-place.place + 1) c.in-Err-start-2.fault is c.stopped-in-Err-start-2.ensures.fault in
+    c.in-Err-start-2.ensures.foreseen (ap Err why.1)
 
 pub loop-place-preserved : goal.loop-place-preserved
 loop-place-preserved g c =

@@ -1,6 +1,6 @@
 -- Over an empty disk it begins its run, and over another it boots.
 use Rattle.std.proofs.Common.{Err}
-use Rattle.lu_nodes.proofs.TargetsComing.{boot_failed, has_booted, has_started, may_repeat, may_stand, start_failed}
+use Rattle.lu_nodes.proofs.TargetsComing.{boot_failed, has_booted, has_started, may_repeat, may_stand, spent_told, start_failed}
 use Rattle.lu_nodes.proofs.targets.TargetSeat.come_up.Goals as goal
 
 pub boot-requires : goal.boot-requires
@@ -34,3 +34,7 @@ returns-in-Err-boot-clause-boot_failed g c = λ step failed.
     boot_failed _ _ c.self.view_is c.requires.down (g.D.Disk.batches c.args.disk) (g.D.Disk.faults c.args.disk) (g.S.Service.contents c.in-Ok.service) c.in-Ok.ensures.fresh
     c.args.stamp c.in-Err-boot.fault (g.D.Disk.batches c.in-Err-boot.disk) (g.D.Disk.faults c.in-Err-boot.disk) c.in-Err-boot.ensures.failed (Err c.from-in-Err-boot.result)
     c.from-in-Err-boot.ensures step failed
+
+pub returns-in-Err-boot-clause-spent : goal.returns-in-Err-boot-clause-spent
+returns-in-Err-boot-clause-spent g c = λ failed.
+    c.in-Err-boot.ensures.spent (spent_told (Err c.from-in-Err-boot.result) c.in-Err-boot.fault c.from-in-Err-boot.ensures failed)

@@ -1,9 +1,7 @@
 -- It goes down, or the turn is passed over.
-use Rattle.std.proofs.Common.{refl, ◌∷◌, [], sym, ◌∙◌}
+use Rattle.std.proofs.Common.{sym, ◌∙◌}
 use Rattle.std.proofs.lemmas.Result.{IfOk-weaker}
-use Rattle.lu_words.specs.Words.{Crash}
-use Rattle.lu_target_rows.specs.Rows.{Crashes}
-use Rattle.lu_nodes.proofs.TargetsTurning.{goes_down, passes_down}
+use Rattle.lu_nodes.proofs.TargetsTurning.{goes_down}
 use Rattle.lu_nodes.proofs.targets.TargetSeat.crash.Goals as goal
 
 pub returns : goal.returns

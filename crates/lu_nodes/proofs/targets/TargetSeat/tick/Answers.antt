@@ -2,6 +2,7 @@
 use Rattle.std.proofs.Common.{refl}
 use Rattle.lu_target_rows.specs.Leaving.{row_tick}
 use Rattle.lu_target_rows.specs.Rows.{Ticks}
+use Rattle.lu_nodes.proofs.TargetsForeseen.{ticks_numbers}
 use Rattle.lu_nodes.proofs.TargetsTurning.{ready, makes_step, fails_step, passes_down}
 use Rattle.lu_nodes.proofs.targets.TargetSeat.tick.Goals as goal
 
@@ -21,3 +22,8 @@ returns-in_err-tick-in-Some-clause-failed g c = λ step failed.
 pub returns-in_ok-line-in-None-clause-made : goal.returns-in_ok-line-in-None-clause-made
 returns-in_ok-line-in-None-clause-made g c =
     passes_down _ _ c.self.view_is Ticks row_tick (λ v at. refl) c.args.stamp c.in-None.is c.in_ok-line-in-None.field-0 c.in_ok-line-in-None.ensures.step
+
+pub returns-in_err-tick-in-Some-clause-foreseen : goal.returns-in_err-tick-in-Some-clause-foreseen
+returns-in_err-tick-in-Some-clause-foreseen g c = λ is head t past shows ticks.
+    ticks_numbers _ _ c.self.view_is head t past shows c.in-Some.target c.in-Some.is c.args.stamp ticks c.tick.new.self c.in_err-tick-in-Some.field-0.0
+    c.in_err-tick-in-Some.ensures.steps c.from_residual.result c.from_residual.ensures.1 is
