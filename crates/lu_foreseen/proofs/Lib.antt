@@ -1,0 +1,5 @@
+pub mod Asked
+pub mod Answered
+pub mod Numbers
+pub mod Ticks
+pub mod Stated

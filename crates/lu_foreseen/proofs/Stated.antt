@@ -1,0 +1,163 @@
+-- Each covered scenario is foreseen.
+use Rattle.std.proofs.Common.{◌≡◌, ℕ, ◌+◌, ◌<◌, true, false, List, [], ◌∷◌, Some, length, refl, sym, subst, ◌∙◌, arith}
+use Rattle.std.proofs.lemmas.Bool.Decides.{nat_tests}
+use Rattle.std.proofs.lemmas.List.Elements.{All-nil}
+use Rattle.lu_base.specs.declared.ids.Node.{Node}
+use Rattle.lu_base.specs.declared.ids.Node.TheVariants.{Client, Target}
+use Rattle.lu_msg.specs.declared.calls.Call.TheVariants as call
+use Rattle.lu_msg.specs.declared.messages.Message.{Message}
+use Rattle.lu_msg.specs.declared.messages.Message.TheVariants as message
+use Rattle.lu_msg.specs.declared.messages.Request.{Request as RequestOf}
+use Rattle.lu_msg.specs.declared.operations.Op.{Op}
+use Rattle.lu_msg.specs.declared.operations.Op.TheVariants as op
+use Rattle.lu_net.specs.declared.links.Sent.{Sent as SentMessage}
+use Rattle.lu_net.specs.Posts.{sent_at}
+use Rattle.lu_scene.specs.declared.scene.Scene.{Scene}
+use Rattle.lu_scene.specs.declared.scene.SceneLine.{SceneLine}
+use Rattle.lu_scene.specs.declared.scene.SceneLine.TheVariants.{Tick, Commit, CommitSome, Crash, Boot, Close}
+use Rattle.lu_service.specs.declared.services.Kind.TheVariants.{Mdt}
+use Rattle.lu_service.specs.Takes.{Takes}
+use Rattle.lu_words.specs.Words.{Line}
+use Rattle.lu_words.specs.Sent.{Sent}
+use Rattle.lu_target_rows.specs.Locks.{same_request}
+use Rattle.lu_target_rows.specs.States.{is_serving}
+use Rattle.lu_table.specs.Heads.{Head}
+use Rattle.lu_table.specs.Runs.{target_of}
+use Rattle.lu_table.specs.Scenarios.{Config, Disks, head_of, past_of, is_full, is_down}
+use Rattle.lu_covered.specs.TargetStates.{server_at}
+use Rattle.lu_covered.specs.Runs as few
+use Rattle.lu_guards.proofs.Guards.{Grown}
+use Rattle.lu_guards.proofs.Obey.{grown}
+use Rattle.lu_facts.proofs.Sides.{from_target, from_client}
+use Rattle.lu_facts.proofs.Finds.{needs_none}
+use Rattle.lu_lawful.proofs.Three.{IsThree}
+use Rattle.lu_after.proofs.Posts.{sent_at_is}
+use Rattle.lu_covering.specs.Covered.{covered_head}
+use Rattle.lu_covering.proofs.TargetAlike.{Alike}
+use Rattle.lu_covering.proofs.Small.{target_knows}
+use Rattle.lu_covering.proofs.Waiting.{none_waits}
+use Rattle.lu_covering.proofs.Whole.{few_turns, few_lines}
+use Rattle.lu_covered_scenes.specs.Covered.{IsCovered}
+use Rattle.lu_covered_scenes.proofs.Lines.{AllKnown, IsKnown, apart}
+use Rattle.lu_covered_scenes.proofs.Nodes.{to_client}
+use Rattle.lu_covered_scenes.proofs.Runs.{Follows, leads_follow}
+use Rattle.lu_nodes.specs.Foreseen.{MayHave, IsForeseen, IsTickForeseen}
+use Rattle.lu_foreseen.specs.Scenes.{next_stamp, IsOpen, IsCommand, AllForeseen}
+use Rattle.lu_foreseen.proofs.Asked.{Fitting, request_fits}
+use Rattle.lu_foreseen.proofs.Answered.{comes}
+use Rattle.lu_foreseen.proofs.Numbers.{MayBe, numbered}
+use Rattle.lu_foreseen.proofs.Ticks.{ticks_few}
+
+-- the three operations are of the metadata target's service
+names_take : (o : Op) → IsThree o → Takes Mdt o
+names_take (op.Lookup path) is = tt
+names_take (op.Mkdir path) is = tt
+names_take (op.Rmdir path) is = tt
+names_take _ is = absurd is
+
+has_room : (c : Config) → is_full c ≡ false → length c.turns < 65536
+has_room c free = grind (arith, nat_tests)
+
+module _ (scene : Scene) (covered : IsCovered scene) (disks : Disks) (c : Config) (is : IsOpen scene disks c) where
+  abbrev head : Head
+  head = head_of scene.head
+
+  abbrev h : few.Head
+  h = covered_head head
+
+  abbrev past : List Line
+  past = past_of c
+
+  f : Follows scene c
+  f = leads_follow scene covered disks c is.leads is.unfailed
+
+  room : length c.turns < 65536
+  room = has_room c is.room
+
+  g : Grown h past
+  g = subst (Grown h) (few_lines head c.turns) (grown h (few_turns head c.turns) f.sound.run)
+
+  knows : Alike head.clients (target_of head 0 past) (server_at head.osts 0 past)
+  knows = target_knows head 0 past g
+
+  -- ---- a message to the metadata target
+
+  queue_none : (target_of head 0 past).queue ≡ []
+  queue_none =
+      let none = none_waits h (few_turns head c.turns) f.sound.run in
+      knows.queue ∙ subst (λ (p : List Line). (server_at head.osts 0 p).waiting ≡ []) (few_lines head c.turns) none
+
+  may_have : (n from : ℕ) (m : Message) → Sent past n (Client from) (Target 0) m → MayHave m (target_of head 0 past)
+  may_have n from (message.Request r) sent =
+      let fits : Fitting h r = request_fits h past g n (Client from) 0 r sent in
+      let most = covered.limits.head.most_flight in
+      let tag = fits.tag in
+      (omega arith, names_take r.op fits.op, rw queue_none (All-nil (λ (q : RequestOf). same_request q r ≡ true → q.tag ≡ r.tag)))
+  may_have n from _ sent = tt
+
+  may_reach : (n from : ℕ) (m : Message) → Sent past n (Client from) (Target 0) m → MayBe head (length c.turns + 1) (few.Comes n (Client from) m) past
+  may_reach n from m sent =
+      let counted = f.sound.counted in
+      let few_turns_made = room in
+      record {
+        names = refl;
+        numbers = λ makes. omega arith;
+        sent = sent;
+        lock = needs_none h past g 0 from n m sent (λ path looked made. apart scene covered path (f.begun (call.Lookup path) looked) (f.begun (call.Mkdir path) made));
+      }
+
+  abbrev message_to : Node → Node → SentMessage → SentMessage
+  message_to from to m = record { number = m.number; stamp = m.stamp; from = from; to = to; message = m.message }
+
+  to_names : (n from : ℕ) (m : SentMessage) → Sent past n (Client from) (Target 0) m.message → IsForeseen head past (next_stamp c) (message_to (Client from) (Target 0) m)
+  to_names n from m sent =
+      let serves : is_serving (target_of head 0 past) ≡ true = rw (knows.closed, knows.boot) refl in
+      (omega arith, knows.up, serves, may_have n from m.message sent, numbered head c.turns (few.Comes n (Client from) m.message) f.sound.run f.sound.stamped (may_reach n from m.message sent))
+
+  -- ---- all messages
+
+  messages : (n : ℕ) (m : SentMessage) → sent_at c.posts n ≡ Some m → is_down head disks m.to past ≡ false → IsForeseen head past (next_stamp c) m
+  messages n m e up = by m.to (sent_at_is past c.posts n m f.sound.sent e)
+    where
+      by : (node : Node) → Sent past n m.from node m.message → IsForeseen head past (next_stamp c) (message_to m.from node m)
+      by (Client who) sent =
+          let from = from_target h past n who m.from m.message g sent in
+          (to_client h past g n who m.from m.message sent, (0, from), comes head past g n who m.from m.message from sent)
+      by (Target t) sent =
+          let from = from_client h past n t m.from m.message g sent in
+          let asked = subst (λ (v : Node). Sent past n v (Target t) m.message) from.1.1 sent in
+          subst (λ (v : Node). IsForeseen head past (next_stamp c) (message_to v (Target t) m)) (sym from.1.1)
+          (subst (λ (u : ℕ). Sent past n (Client from.1.0) (Target u) m.message → IsForeseen head past (next_stamp c) (message_to (Client from.1.0) (Target u) m)) (sym from.0) (to_names n from.1.0 m) asked)
+
+  -- ---- lines
+
+  line_known : (line : SceneLine) (rest : List SceneLine) → c.lines ≡ line ∷ rest → IsKnown scene.lines scene.head.clients line
+  line_known line rest e = (subst (AllKnown scene) e f.lines).0
+
+  tick : IsTickForeseen head past (next_stamp c) 0
+  tick =
+      let low = ticks_few head c.turns f.sound.run in
+      let few_turns_made = room in
+      (λ all. omega arith, numbered head c.turns few.Ticks f.sound.run f.sound.stamped (omega arith))
+
+  ticks : (t : ℕ) (rest : List SceneLine) → c.lines ≡ Tick (Target t) ∷ rest → IsTickForeseen head past (next_stamp c) t
+  ticks t rest e = subst (IsTickForeseen head past (next_stamp c)) (sym (line_known (Tick (Target t)) rest e)) tick
+
+  no_command : (line : SceneLine) → IsKnown scene.lines scene.head.clients line → IsCommand line → ⊥
+  no_command (Commit t) known is = absurd known
+  no_command (CommitSome t count) known is = absurd known
+  no_command (Crash t) known is = absurd known
+  no_command (Boot t) known is = absurd known
+  no_command (Close t) known is = absurd known
+  no_command _ known is = absurd is
+
+  commands : (line : SceneLine) (rest : List SceneLine) → c.lines ≡ line ∷ rest → IsCommand line → ⊥
+  commands line rest e = no_command line (line_known line rest e)
+
+pub all_foreseen : (scene : Scene) → IsCovered scene → AllForeseen scene
+all_foreseen scene covered =
+    record {
+      messages = λ disks c n m open_one e up. messages scene covered disks c open_one n m e up;
+      ticks = λ disks c t rest open_one e. ticks scene covered disks c open_one t rest e;
+      commands = λ disks c line rest open_one e command. commands scene covered disks c open_one line rest e command;
+    }

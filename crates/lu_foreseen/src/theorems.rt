@@ -1,0 +1,11 @@
+//! Which scenarios are foreseen. The function does nothing: its contract is a theorem over the definition of the run of a
+//! scenario.
+
+ghost use Rattle.lu_scene.specs.declared.scene.Scene.{Scene};
+ghost use Rattle.lu_covered_scenes.specs.Covered.{IsCovered};
+ghost use Rattle.lu_foreseen.specs.Scenes.{AllForeseen};
+
+/// Each covered scenario is.
+pub fn covered_scenes_are_foreseen()
+    ensures foreseen { (scene : Scene) → IsCovered scene → AllForeseen scene }
+{}

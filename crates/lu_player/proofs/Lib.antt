@@ -1,0 +1,9 @@
+pub mod Moves
+pub mod Throwing
+pub mod Running
+pub mod Arrivals
+mod Lines
+mod Telling
+mod Starting
+mod Performing
+mod Ending

@@ -1,0 +1,4 @@
+pub mod States
+pub mod Commands
+pub mod Progress
+pub mod Played
