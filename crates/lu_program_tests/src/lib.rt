@@ -1,10 +1,10 @@
-//! Turns of the nodes and whole runs of the program, against texts that were written out by hand.
+//! Whole runs of the program, against texts that were written out by hand or made by another implementation.
 //!
 //! The tests stand in a crate of their own, since a crate with tests is proved twice.
 #![tactic(auto)]
 
 #[cfg(test)]
-mod client;
+mod disks;
 #[cfg(test)]
 mod limits;
 #[cfg(test)]
@@ -12,8 +12,8 @@ mod refusals;
 #[cfg(test)]
 mod running;
 #[cfg(test)]
+mod samples;
+#[cfg(test)]
 mod scenarios;
 #[cfg(test)]
-mod target;
-#[cfg(test)]
-mod texts;
+mod storms;

@@ -1,4 +1,4 @@
-//! Scenarios and their traces. Three longer ones stand in `scenarios/`, where the gate performs them.
+//! Scenarios and their traces. Longer ones stand in `scenarios/`, where the gate performs them.
 
 use crate::running::performed;
 use std::test::Fail;
@@ -76,12 +76,139 @@ end
 ",
 );
 
+/// A name that was looked up is known, and a second lookup asks nobody.
+const KNOWN: (&[u8], &[u8]) = (
+    b"call 0.0 mkdir /a
+run
+call 0.0 lookup /a
+run
+call 0.0 lookup /a
+",
+    b"1 c0 begin 0 mkdir /a
+1 c0 send 1 t0 req c0.1 1 1 mkdir /a
+2 t0 take 1
+2 t0 txn 1.1 c0.1 1 - ok 1.1
+2 t0 send 2 c0 reply c0.1 1 1 1.1 0.0 - 2:t0 - ok 1.1
+3 c0 take 2
+3 c0 heard t0 1
+3 c0 told 0 2:t0 ok 1.1
+4 c0 begin 0 lookup /a
+4 c0 send 3 t0 req c0.1 1 2 lookup /a
+5 t0 take 3
+5 t0 act c0.1 2 dir 1.1
+5 t0 grant 1.1 c0.1 1.1 PR 1
+5 t0 send 4 c0 reply c0.1 1 2 0.0 0.0 1.1 5:t0 1.1:1.1:1 dir 1.1
+6 c0 take 4
+6 c0 heard t0 2
+6 c0 hold t0 1.1
+6 c0 told 0 5:t0 dir 1.1
+7 c0 begin 0 lookup /a
+7 c0 told 0 7:c0 dir 1.1
+end
+",
+);
+
+/// A target goes down before its transaction is committed: the request comes again and is executed anew.
+const CRASHED: (&[u8], &[u8]) = (
+    b"call 0.0 mkdir /a
+deliver 1
+lose 2
+crash t0
+boot t0
+run
+",
+    b"1 c0 begin 0 mkdir /a
+1 c0 send 1 t0 req c0.1 1 1 mkdir /a
+2 t0 take 1
+2 t0 txn 1.1 c0.1 1 - ok 1.1
+2 t0 send 2 c0 reply c0.1 1 1 1.1 0.0 - 2:t0 - ok 1.1
+3 t0 crash
+4 t0 boot 2
+4 t0 send 3 c0 up 2
+5 c0 take 3
+5 c0 send 4 t0 word c0.1 2 0 0 -
+6 t0 take 4
+6 t0 back c0.1
+6 t0 close
+6 t0 commit 0.0
+6 t0 send 5 c0 ready c0.1 2 0.0
+7 c0 take 5
+7 c0 send 6 t0 req c0.1 2 1 mkdir /a
+8 t0 take 6
+8 t0 txn 2.1 c0.1 1 - ok 2.1
+8 t0 send 7 c0 reply c0.1 2 1 2.1 0.0 - 8:t0 - ok 2.1
+9 c0 take 7
+9 c0 heard t0 1
+9 c0 told 0 8:t0 ok 2.1
+end
+",
+);
+
+/// The same after a commit: the kept reply comes.
+const COMMITTED: (&[u8], &[u8]) = (
+    b"call 0.0 mkdir /a
+deliver 1
+lose 2
+commit t0
+crash t0
+boot t0
+run
+",
+    b"1 c0 begin 0 mkdir /a
+1 c0 send 1 t0 req c0.1 1 1 mkdir /a
+2 t0 take 1
+2 t0 txn 1.1 c0.1 1 - ok 1.1
+2 t0 send 2 c0 reply c0.1 1 1 1.1 0.0 - 2:t0 - ok 1.1
+3 t0 commit 1.1
+4 t0 crash
+5 t0 boot 2
+5 t0 send 3 c0 up 2
+6 c0 take 3
+6 c0 send 4 t0 word c0.1 2 0 0 -
+7 t0 take 4
+7 t0 back c0.1
+7 t0 close
+7 t0 commit 1.1
+7 t0 send 5 c0 ready c0.1 2 1.1
+8 c0 take 5
+8 c0 send 6 t0 req c0.1 2 1 mkdir /a
+9 t0 take 6
+9 t0 send 7 c0 reply c0.1 2 1 1.1 1.1 - 2:t0 - ok 1.1
+10 c0 take 7
+10 c0 heard t0 1
+10 c0 told 0 2:t0 ok 1.1
+end
+",
+);
+
+/// A layout that no file has.
+const LAYOUT: (&[u8], &[u8]) = (
+    b"call 0.0 create /f 65535 1
+run
+",
+    b"1 c0 begin 0 create /f 65535 1
+1 c0 send 1 t0 req c0.1 1 1 create /f 65535 1
+2 t0 take 1
+2 t0 act c0.1 1 EINVAL
+2 t0 send 2 c0 reply c0.1 1 1 0.0 0.0 - 2:t0 - EINVAL
+3 c0 take 2
+3 c0 heard t0 1
+3 c0 told 0 2:t0 EINVAL
+end
+",
+);
+
 #[test]
 fn scenarios_come_to_their_traces(rt: HostRuntime) -> Result<(), Fail> {
-    let rows: [(&[u8], &[u8]); 12] = [
+    let rows: [(&[u8], &[u8]); 17] = [
         DEAD,
         THROWN,
         LOST,
+        KNOWN,
+        CRASHED,
+        COMMITTED,
+        LAYOUT,
+        (b"tick t0\ntick t1\n", b"1 t0 tick\n2 t1 tick\nend\n"),
         (b"", b"end\n"),
         (b"\n  \n# nothing\nrun", b"end\n"),
         (

@@ -1,4 +1,4 @@
-pub mod Sets
-pub mod Firsts
-pub mod Today
+pub mod Clap
+pub mod Words
+pub mod Reading
 pub mod Runs

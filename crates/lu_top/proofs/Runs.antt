@@ -1,96 +1,85 @@
--- What the player leaves is lawful, and performing a text comes to what it owes.
-use Rattle.std.proofs.Common.{◌≡◌, ◌⊎◌, ℕ, List, ◌++◌, inl, inr, Option, Some, None, Result, Ok, Err, sym, ap, subst, ◌∙◌, append-nil}
-use Rattle.std.specs.Prelude.{reverse}
-use Rattle.std.proofs.lemmas.List.{reverse-reverse}
-use Rattle.lu_base.specs.Faults.{ReadWhole}
-use Rattle.lu_scene.specs.declared.faults.Fault.{Fault}
-use Rattle.lu_scene.specs.declared.faults.SceneFault.{SceneFault}
-use Rattle.lu_scene.specs.declared.faults.SceneFault.TheVariants as faults
+-- What performing a scenario comes to is what the top call owes.
+use Rattle.std.proofs.Common.{◌≡◌, ℕ, List, Option, Some, None, sym, ap, subst, ◌∙◌}
+use Rattle.std.specs.Io.KnownBytes.{Appends}
+use Rattle.lu_base.specs.Faults.{Rose, WrotePrefix}
+use Rattle.lu_base.specs.declared.ids.TargetId.{TargetId}
+use Rattle.lu_scene.specs.Storms.{storm_of}
 use Rattle.lu_scene.specs.declared.scene.Scene.{Scene}
-use Rattle.lu_scene.specs.Grammar.{IsScene}
-use Rattle.lu_trace.specs.declared.entries.Line.{Line}
-use Rattle.lu_trace.specs.declared.traces.Trace.{Trace}
-use Rattle.lu_trace.specs.declared.traces.End.{End}
-use Rattle.lu_words.specs.Printed.{printed}
-use Rattle.lu_laws.specs.Lawful.{Lawful, IsLawful}
-use Rattle.lu_lawful.proofs.Whole.{lawful}
-use Rattle.lu_table.specs.Scenarios.{head_of as whole_head}
-use Rattle.lu_covering.proofs.Small.{to_whole}
-use Rattle.lu_covering.proofs.Stated.{rows_covered}
-use Rattle.lu_core.specs.Scenario.{head_of, past_of}
-use Rattle.lu_core.specs.Played.{IsPlayed}
-use Rattle.lu_core.proofs.Runs.{run_is_run}
-use Rattle.lu_core.specs.Performed.{AllPerformed}
-use Rattle.lu_top.specs.Outcomes.{IsRunOf, IsTraceOutcome, IsOutcome, Tells}
+use Rattle.lu_summary.specs.Summaries.{summary_text}
+use Rattle.lu_laws.specs.Lawful.{IsLawful}
+use Rattle.lu_covered_scenes.specs.Covered.{IsCovered}
+use Rattle.lu_nodes.specs.States.{DiskState}
+use Rattle.lu_player.specs.declared.playing.Played.{Played}
+use Rattle.lu_player.specs.Played.{IsPlayed, SomeRose}
+use Rattle.lu_top.specs.declared.forms.Form.{Form}
+use Rattle.lu_top.specs.declared.forms.Form.TheVariants.{Play, Storm}
+use Rattle.lu_top.specs.Forms.{Says}
+use Rattle.lu_top.specs.Asked.{WasRead, IsSceneBy}
+use Rattle.lu_top.specs.Outcomes.{WasTold, WroteBy, OfAsked, HasFailed, WroteRun, WroteStorm, IsRunBy, IsWritten, IsOutcome, IsDone}
 use Rattle.lu_top.specs.declared.status.Status.{Status}
 use Rattle.lu_top.specs.declared.status.Status.TheVariants as status
-use Rattle.lu_top.proofs.Today.{is_performed}
+use Rattle.lu_top.proofs.Words.{one_form}
 
-law_of : (osts : ℕ) (trace : Trace) (past : List Line) → trace.osts ≡ osts → trace.entries ≡ reverse past → Lawful osts past → IsLawful trace
-law_of osts trace past same entries law =
-    subst (λ (n : ℕ). Lawful n (reverse trace.entries)) (sym same)
-    (subst (λ (ls : List Line). Lawful osts ls) (sym (ap reverse entries ∙ reverse-reverse past)) law)
+same_seed : (m n : ℕ) → Storm m ≡ Storm n → m ≡ n
+same_seed m n is = cc
 
-run_of : (text : List ℕ) (scene : Scene) (trace : Trace) (end : End) → IsScene text scene → AllPerformed scene.lines → IsPlayed scene trace end → IsRunOf text trace end
-run_of text scene trace end is all played =
-    let performed = is_performed text scene is all in
-    let run = run_is_run scene performed played.config played.leads in
-    let law = lawful (head_of scene.head) played.config.turns performed.limits.head run in
-    record {
-      scene = scene;
-      performed = record { is = is; lines = all };
-      played = played;
-      run = to_whole (whole_head scene.head) played.config.turns run;
-      covered = rows_covered (whole_head scene.head) played.config.turns run;
-      lawful = law_of scene.head.osts trace (printed (past_of played.config)) played.traced.osts played.traced.entries law;
-    }
+-- where neither the sink nor a disk failed, a run that was written is done
+pub done_of : (form : Form) (scene : Scene) (held : List DiskState) (played : Played) (old new : Option (List ℕ)) (before now : ℕ) (answer : Status)
+    → IsWritten form played old new before now answer → IsPlayed scene played held → (Rose before now → ⊥) → (SomeRose scene held → ⊥) → IsDone answer
+done_of form scene held played old new before now status.Done out run calm sound = tt
+done_of form scene held played old new before now status.WriteFault out run calm sound = absurd (calm out.2)
+done_of form scene held played old new before now (status.DiskFault t) out run calm sound = let rose = run.rose t out.0 in absurd (sound (t.0, rose.0, rose.1))
+done_of form scene held played old new before now status.Memory out run calm sound = tt
+done_of form scene held played old new before now _ out run calm sound = absurd out
 
--- what writing the trace comes to is what performing the text comes to
-pub outcome_of : (old new : Option (List ℕ)) (before now : ℕ) (text : List ℕ) (scene : Scene) (answer : Status) → IsScene text scene → AllPerformed scene.lines
-    → IsTraceOutcome old new before now scene answer → IsOutcome old new before now text answer
-outcome_of old new before now text scene status.Done is all out = (out.0, out.1, run_of text scene out.0 out.1 is all out.2, out.3)
-outcome_of old new before now text scene status.WriteFault is all out =
-    let part = out.0 in ((part.0, part.1, run_of text scene part.0 part.1 is all part.2, part.3), out.1)
-outcome_of old new before now text scene status.Memory is all out = tt
-outcome_of old new before now text scene _ is all out = absurd out
+-- of words, what the source had and has left, the disks, and what the sink held and holds with its counts
+module _ (words : List (List ℕ)) (left rest : Option (List ℕ)) (held : List DiskState) (old new : Option (List ℕ)) (before now : ℕ)
+    (form : Form) (says : Says words form) (scene : Scene) (is : IsSceneBy form left rest scene) (answer : Status)
+    (out : IsOutcome form scene held old new before now answer) where
+  as_is : (a : Status) → answer ≡ a → IsOutcome form scene held old new before now a
+  as_is a same = subst (λ (s : Status). IsOutcome form scene held old new before now s) same out
 
--- and it tells the line of its status
-pub told_of : (old new : Option (List ℕ)) (before now : ℕ) (text : List ℕ) (answer : Status) → IsOutcome old new before now text answer → Tells old new before now answer
-told_of old new before now text (status.Scene line fault) out = out.1
-told_of old new before now text (status.NotYet line) out = out.1
-told_of old new before now text status.Done out = tt
-told_of old new before now text status.WriteFault out = tt
-told_of old new before now text status.Memory out = tt
-told_of old new before now text _ out = absurd out
+  run_by : (played : Played) → IsPlayed scene played held → (IsCovered scene → played.failed ≡ None → IsLawful played.trace) → IsRunBy words left rest held form played
+  run_by played run law = record { says = says; scene = scene; is = is; run = run; lawful = law }
 
-abbrev fine : Scene → Result Scene SceneFault
-fine s = Ok s
+  -- what was written of a run
+  pub wrote_whole : answer ≡ status.Done → WroteBy words left rest held None (Appends old new)
+  wrote_whole same = let out = as_is status.Done same in (form, out.0, run_by out.0 out.1 out.2, out.3.0, out.3.1)
 
-abbrev wrong : SceneFault → Result Scene SceneFault
-wrong e = Err e
+  pub wrote_part : answer ≡ status.WriteFault → WroteBy words left rest held None (WrotePrefix old new)
+  wrote_part same = let out = as_is status.WriteFault same in (form, out.0, run_by out.0 out.1 out.2, out.3.0, out.3.1)
 
-same_scene : (a b : Scene) → fine a ≡ fine b → a ≡ b
-same_scene a b e = cc
+  pub wrote_failed : (t : TargetId) → answer ≡ status.DiskFault t → WroteBy words left rest held (Some t) (WasTold old new before now)
+  wrote_failed t same = let out = as_is (status.DiskFault t) same in (form, out.0, run_by out.0 out.1 out.2, out.3.0, out.3.1)
 
-apart : (s : Scene) (e : SceneFault) → fine s ≡ wrong e → ⊥
-apart s e is = cc
+  -- the disk whose failure is told did fail
+  pub disk_failed : (t : TargetId) → answer ≡ status.DiskFault t → OfAsked words left rest (HasFailed held t)
+  disk_failed t same = let out = as_is (status.DiskFault t) same in (form, scene, says, is, out.1.rose t out.3.0)
 
-other_fault : (line : ℕ) (fault : Fault) → wrong faults.Memory ≡ wrong (faults.Bad line fault) → ⊥
-other_fault line fault is = cc
+  -- under `play` the trace was written, under `storm` the summary
+  pub wrote_run : answer ≡ status.Done → Says words Play → WasRead left rest (WroteRun old new held)
+  wrote_run done play = by form (one_form words Play form play says) is (as_is status.Done done)
+    where
+      by : (f : Form) → Play ≡ f → IsSceneBy f left rest scene → IsOutcome f scene held old new before now status.Done → WasRead left rest (WroteRun old new held)
+      by Play same read out = (
+        read.0,
+        read.1,
+        read.2,
+        record { scene = scene; is = read.3; played = out.0; run = out.1; whole = out.3.0; wrote = out.3.1; lawful = λ covered. out.2 covered out.3.0 },
+      )
+      by (Storm seed) same read out = absurd (cc same)
 
--- what was read is the scenario
-pub that_one : (r : Result Scene SceneFault) (here scene : Scene) → r ≡ Ok here → (r ≡ Ok scene) ⊎ (r ≡ Err faults.Memory) → scene ≡ here
-that_one r here scene is (inl same) = same_scene scene here (sym same ∙ is)
-that_one r here scene is (inr none) = absurd (apart here faults.Memory (sym is ∙ none))
-
--- a scenario isn't refused
-pub not_refused : (r : Result Scene SceneFault) (line : ℕ) (fault : Fault) (scene : Scene) → r ≡ Err (faults.Bad line fault) → (r ≡ Ok scene) ⊎ (r ≡ Err faults.Memory) → ⊥
-not_refused r line fault scene is (inl same) = apart scene (faults.Bad line fault) (sym same ∙ is)
-not_refused r line fault scene is (inr none) = other_fault line fault (sym none ∙ is)
-
--- what was read to the end are the bytes that were there
-pub read_is : (old new : Option (List ℕ)) (bytes text : List ℕ) → ReadWhole old new bytes → old ≡ Some text → bytes ≡ text
-read_is None new bytes text read is = absurd (cc is)
-read_is (Some xs) None bytes text read is = absurd read.came
-read_is (Some xs) (Some ys) bytes text read is =
-    sym (append-nil bytes) ∙ ap (λ (rest : List ℕ). bytes ++ rest) (sym read.at_end) ∙ sym read.came ∙ cc
+  pub wrote_storm : (seed : ℕ) → answer ≡ status.Done → Says words (Storm seed) → WroteStorm old new held seed
+  wrote_storm seed done storm = by form (one_form words (Storm seed) form storm says) is (as_is status.Done done)
+    where
+      by : (f : Form) → Storm seed ≡ f → IsSceneBy f left rest scene → IsOutcome f scene held old new before now status.Done → WroteStorm old new held seed
+      by Play same read out = absurd (cc same)
+      by (Storm other) same read out = by_seed other (same_seed seed other same) read.1 out
+        where
+          by_seed : (n : ℕ) → seed ≡ n → scene ≡ storm_of n → IsOutcome (Storm n) scene held old new before now status.Done → WroteStorm old new held seed
+          by_seed n same one out = record {
+            played = out.0;
+            run = subst (λ (s : Scene). IsPlayed s out.0 held) (one ∙ ap storm_of (sym same)) out.1;
+            whole = out.3.0;
+            wrote = subst (λ (k : ℕ). Appends old new (summary_text k out.0.trace.entries)) (sym same) out.3.1;
+          }

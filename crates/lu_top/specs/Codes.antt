@@ -1,7 +1,7 @@
 -- The exit codes.
 use Rattle.std.specs.Prelude.{ℕ}
 use Rattle.lu_top.specs.declared.status.Status.{Status}
-use Rattle.lu_top.specs.declared.status.Status.TheVariants.{Done, Usage, Scene, NotYet, TooLong, ReadFault, WriteFault, Memory}
+use Rattle.lu_top.specs.declared.status.Status.TheVariants.{Done, Usage, Scene, TooLong, ReadFault, WriteFault, DiskFault, Memory, Unforeseen}
 
 -- the exit code of each status
 abbrev pub code_of : Status → ℕ
@@ -11,5 +11,6 @@ code_of (Scene line fault) = 3
 code_of TooLong = 3
 code_of ReadFault = 4
 code_of WriteFault = 5
+code_of (DiskFault target) = 6
 code_of Memory = 7
-code_of (NotYet line) = 8
+code_of Unforeseen = 8

@@ -1,5 +1,5 @@
 pub mod Codes
-pub mod Performed
-pub mod Made
 pub mod Refusals
+pub mod Forms
+pub mod Asked
 pub mod Outcomes

@@ -1,36 +1,32 @@
--- What the top call reads and writes.
-use Rattle.std.specs.Prelude.{◌≡◌, ℕ, ◌≤◌, List, [], ◌∷◌, length, map, codes, Some, None, IfSome, ◌⊎◌}
-use Rattle.std.specs.declared.option.Option.{Option}
+-- What the top call performs and writes.
+use Rattle.std.specs.Prelude.{◌≡◌, ℕ, ◌≤◌, List, map, Option, Some, None, IfSome, ◌⊎◌}
 use Rattle.std.specs.Io.KnownBytes.{Appends}
-use Rattle.lu_base.specs.Faults.{Rose, ReadWhole, WrotePrefix}
-use Rattle.lu_scene.specs.Lines.{lines_of}
-use Rattle.lu_scene.specs.Grammar.{IsFirstFault}
+use Rattle.lu_base.specs.Faults.{Rose, WrotePrefix}
+use Rattle.lu_base.specs.declared.ids.TargetId.{TargetId}
+use Rattle.lu_msg.specs.declared.commits.Batch.{Batch}
+use Rattle.lu_scene.specs.Grammar.{IsScene}
+use Rattle.lu_scene.specs.Storms.{storm_of}
 use Rattle.lu_scene.specs.declared.scene.Scene.{Scene}
-use Rattle.lu_table.specs.Runs.{IsRun}
-use Rattle.lu_table.specs.Scenarios.{head_of}
-use Rattle.lu_covering.specs.Covered.{AllCovered, turn_of}
-use Rattle.lu_trace.specs.declared.traces.Trace.{Trace}
-use Rattle.lu_trace.specs.declared.traces.End.{End}
 use Rattle.lu_trace.specs.Traces.{trace_text}
+use Rattle.lu_summary.specs.Summaries.{summary_text}
 use Rattle.lu_laws.specs.Lawful.{IsLawful}
-use Rattle.lu_core.specs.Scenario.{past_of}
-use Rattle.lu_core.specs.Played.{IsPlayed}
-use Rattle.lu_top.specs.Performed.{IsPerformedText, IsFirstUnperformed}
-use Rattle.lu_top.specs.Refusals.{usage_text, read_fault_text, too_long_text, bad_text, not_yet_text}
+use Rattle.lu_covered_scenes.specs.Covered.{IsCovered}
+use Rattle.lu_nodes.specs.States.{DiskState}
+use Rattle.lu_player.specs.declared.playing.Played.{Played}
+use Rattle.lu_player.specs.Played.{IsPlayed, faults_at}
+use Rattle.lu_top.specs.Refusals.{usage_text, read_fault_text, too_long_text, bad_text, unforeseen_text}
+use Rattle.lu_top.specs.declared.forms.Form.{Form}
+use Rattle.lu_top.specs.declared.forms.Form.TheVariants.{Play, Storm}
+use Rattle.lu_top.specs.Forms.{Says}
+use Rattle.lu_top.specs.Asked.{IsSceneBy}
 use Rattle.lu_top.specs.declared.status.Status.{Status}
 use Rattle.lu_top.specs.declared.status.Status.TheVariants as status
 
--- the most bytes that a scenario has
-abbrev pub most_bytes : ℕ
-most_bytes = 1048576
+-- ---- the lines of the statuses
 
--- the source was read to its end, it gave at most a scenario's bytes, and this holds of them
-abbrev pub WasRead : Option (List ℕ) → Option (List ℕ) → (List ℕ → Type 0) → Type 0
-WasRead old new P = (text : List ℕ) × ReadWhole old new text × (length text ≤ 1048576) × P text
-
--- a line was written whole, or a prefix of it and the sink's count of faults rose
+-- a text was written whole, or a prefix of it and the sink's count of faults rose
 abbrev pub WasTold : Option (List ℕ) → Option (List ℕ) → ℕ → ℕ → List ℕ → Type 0
-WasTold old new before now line = Appends old new line ⊎ (WrotePrefix old new line × Rose before now)
+WasTold old new before now text = Appends old new text ⊎ (WrotePrefix old new text × Rose before now)
 
 -- the line that a status tells, if it tells one
 abbrev pub line_told : Status → Option (List ℕ)
@@ -38,54 +34,98 @@ line_told status.Usage = Some usage_text
 line_told status.ReadFault = Some read_fault_text
 line_told status.TooLong = Some too_long_text
 line_told (status.Scene line fault) = Some (bad_text line fault)
-line_told (status.NotYet line) = Some (not_yet_text line)
+line_told status.Unforeseen = Some unforeseen_text
 line_told _ = None
 
 -- the line of a status was written whole, or a prefix of it and the sink's count of faults rose
 abbrev pub Tells : Option (List ℕ) → Option (List ℕ) → ℕ → ℕ → Status → Type 0
 Tells old new before now answer = IfSome (line_told answer) (λ line. WasTold old new before now line)
 
--- the run of the scenario that a text is: with this trace, and it ends so. It is a run of the whole table, of those that the
--- theorem covers so far, and its trace is lawful
-pub record IsRunOf (text : List ℕ) (trace : Trace) (end : End) : Type 0 where
+-- ---- a run
+
+-- what disks hold and how often they failed
+abbrev pub held_by : {D : Type 0} → (D → List Batch) → (D → ℕ) → List D → List DiskState
+held_by batches faults disks = map (λ d. record { batches = batches d; faults = faults d }) disks
+
+-- what a form writes of a run: its trace and how it ended, or the summary of the trace
+abbrev pub text_by : Form → Played → List ℕ
+text_by Play played = trace_text played.trace played.end
+text_by (Storm seed) played = summary_text seed played.trace.entries
+
+-- A run of the scenario that the words ask for, with what the source had and has left, and with what the disks hold then. Where
+-- the theorem covers the scenario and no disk failed, its trace is lawful.
+pub record IsRunBy (words : List (List ℕ)) (left rest : Option (List ℕ)) (held : List DiskState) (form : Form) (played : Played) : Type 0 where
+  pub says : Says words form
   pub scene : Scene
-  pub performed : IsPerformedText text scene
-  pub played : IsPlayed scene trace end
-  pub run : IsRun (head_of scene.head) (map turn_of played.config.turns)
-  pub covered : AllCovered (past_of played.config)
-  pub lawful : IsLawful trace
+  pub is : IsSceneBy form left rest scene
+  pub run : IsPlayed scene played held
+  pub lawful : IsCovered scene → played.failed ≡ None → IsLawful played.trace
 
--- the whole text of the trace of a text's run was written
-abbrev pub WroteRun : Option (List ℕ) → Option (List ℕ) → List ℕ → Type 0
-WroteRun old new text = (trace : Trace) × (end : End) × IsRunOf text trace end × Appends old new (trace_text trace end)
+-- some run by the words, in which this disk failed or none, and this holds of what it writes
+abbrev pub WroteBy : List (List ℕ) → Option (List ℕ) → Option (List ℕ) → List DiskState → Option TargetId → (List ℕ → Type 0) → Type 0
+WroteBy words left rest held failed P = (form : Form) × (played : Played) × IsRunBy words left rest held form played × (played.failed ≡ failed) × P (text_by form played)
 
--- a prefix of it was written
-abbrev pub WroteRunInPart : Option (List ℕ) → Option (List ℕ) → List ℕ → Type 0
-WroteRunInPart old new text = (trace : Trace) × (end : End) × IsRunOf text trace end × WrotePrefix old new (trace_text trace end)
+-- this holds of the scenario that the words ask for
+abbrev pub OfAsked : List (List ℕ) → Option (List ℕ) → Option (List ℕ) → (Scene → Type 0) → Type 0
+OfAsked words left rest P = (form : Form) × (scene : Scene) × Says words form × IsSceneBy form left rest scene × P scene
 
--- what writing the trace of a scenario's run comes to
-abbrev pub IsTraceOutcome : Option (List ℕ) → Option (List ℕ) → ℕ → ℕ → Scene → Status → Type 0
-IsTraceOutcome old new before now scene status.Done = (trace : Trace) × (end : End) × IsPlayed scene trace end × Appends old new (trace_text trace end)
-IsTraceOutcome old new before now scene status.WriteFault =
-    ((trace : Trace) × (end : End) × IsPlayed scene trace end × WrotePrefix old new (trace_text trace end)) × Rose before now
-IsTraceOutcome old new before now scene status.Memory = Unit {0}
-IsTraceOutcome old new before now scene _ = ⊥
+-- the disk of one of its targets failed
+abbrev pub HasFailed : List DiskState → TargetId → Scene → Type 0
+HasFailed held t scene = (t.0 ≤ scene.head.osts) × Rose 0 (faults_at held t.0)
 
--- what performing a text comes to
-abbrev pub IsOutcome : Option (List ℕ) → Option (List ℕ) → ℕ → ℕ → List ℕ → Status → Type 0
-IsOutcome old new before now text (status.Scene line fault) = IsFirstFault (lines_of text) line fault × WasTold old new before now (bad_text line fault)
-IsOutcome old new before now text (status.NotYet line) = IsFirstUnperformed text line × WasTold old new before now (not_yet_text line)
-IsOutcome old new before now text status.Done = WroteRun old new text
-IsOutcome old new before now text status.WriteFault = WroteRunInPart old new text × Rose before now
-IsOutcome old new before now text status.Memory = Unit {0}
-IsOutcome old new before now text _ = ⊥
+-- ---- what is written where all went well
 
--- the words are `play`, these are the bytes that the source has, not more than a scenario's, and it met no fault
-pub record IsGiven (words : List (List ℕ)) (left : Option (List ℕ)) (before now : ℕ) (text : List ℕ) : Type 0 where
-  pub play : words ≡ codes "play" ∷ []
-  pub bytes : left ≡ Some text
-  pub fits : length text ≤ most_bytes
-  pub calm : ¬ Rose before now
+-- the trace of a run of the scenario that a text is was written whole, with how it ended; and it is lawful, where the theorem
+-- covers the scenario
+pub record WroteRun (old new : Option (List ℕ)) (held : List DiskState) (text : List ℕ) : Type 0 where
+  pub scene : Scene
+  pub is : IsScene text scene
+  pub played : Played
+  pub run : IsPlayed scene played held
+  pub whole : played.failed ≡ None
+  pub wrote : Appends old new (trace_text played.trace played.end)
+  pub lawful : IsCovered scene → IsLawful played.trace
+
+-- the summary of the trace of a run of the storm of a number was written whole
+pub record WroteStorm (old new : Option (List ℕ)) (held : List DiskState) (seed : ℕ) : Type 0 where
+  pub played : Played
+  pub run : IsPlayed (storm_of seed) played held
+  pub whole : played.failed ≡ None
+  pub wrote : Appends old new (summary_text seed played.trace.entries)
+
+-- ---- what performing a scenario comes to
+
+-- what writing of a run comes to
+abbrev pub IsWritten : Form → Played → Option (List ℕ) → Option (List ℕ) → ℕ → ℕ → Status → Type 0
+IsWritten form played old new before now status.Done = (played.failed ≡ None) × Appends old new (text_by form played) × (now ≡ before)
+IsWritten form played old new before now status.WriteFault = (played.failed ≡ None) × WrotePrefix old new (text_by form played) × Rose before now
+IsWritten form played old new before now (status.DiskFault t) = (played.failed ≡ Some t) × WasTold old new before now (text_by form played)
+IsWritten form played old new before now status.Memory = Unit {0}
+IsWritten form played old new before now _ = ⊥
+
+-- a run of the scenario was written; or a node met what no run is known to bring, or memory ran out
+abbrev pub IsOutcome : Form → Scene → List DiskState → Option (List ℕ) → Option (List ℕ) → ℕ → ℕ → Status → Type 0
+IsOutcome form scene held old new before now status.Unforeseen = WasTold old new before now unforeseen_text
+IsOutcome form scene held old new before now status.Memory = Unit {0}
+IsOutcome form scene held old new before now answer =
+    (played : Played) × IsPlayed scene played held × (IsCovered scene → played.failed ≡ None → IsLawful played.trace) × IsWritten form played old new before now answer
+
+-- ---- answers
+
+-- a scenario was performed to its end, to a limit or to the failure of a disk
+abbrev pub HasRun : Status → Type 0
+HasRun status.Done = Unit {0}
+HasRun status.WriteFault = Unit {0}
+HasRun (status.DiskFault t) = Unit {0}
+HasRun _ = ⊥
+
+-- no scenario was performed, and memory didn't run out
+abbrev pub HasRefused : Status → Type 0
+HasRefused status.Usage = Unit {0}
+HasRefused (status.Scene line fault) = Unit {0}
+HasRefused status.TooLong = Unit {0}
+HasRefused status.ReadFault = Unit {0}
+HasRefused _ = ⊥
 
 -- done, or memory ran out
 abbrev pub IsDone : Status → Type 0
@@ -99,8 +139,8 @@ IsRefused (status.Scene line fault) = Unit {0}
 IsRefused status.Memory = Unit {0}
 IsRefused _ = ⊥
 
--- not performed yet, or memory ran out
-abbrev pub IsPutOff : Status → Type 0
-IsPutOff (status.NotYet line) = Unit {0}
-IsPutOff status.Memory = Unit {0}
-IsPutOff _ = ⊥
+-- a scenario was performed; or a node met what no run is known to bring, or memory ran out
+abbrev pub IsPerformedStatus : Status → Type 0
+IsPerformedStatus status.Unforeseen = Unit {0}
+IsPerformedStatus status.Memory = Unit {0}
+IsPerformedStatus answer = HasRun answer

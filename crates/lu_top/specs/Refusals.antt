@@ -1,5 +1,5 @@
--- The lines that say why a scenario isn't performed.
-use Rattle.std.specs.Prelude.{ℕ, List, [], ◌∷◌, ◌++◌, codes, decimal}
+-- The lines that say why nothing is performed, or why a run went no further.
+use Rattle.std.specs.Prelude.{ℕ, List, [], ◌∷◌, ◌++◌, codes}
 use Rattle.lu_scene.specs.declared.faults.Fault.{Fault}
 use Rattle.lu_base.specs.declared.faults.ReadError.TheVariants as errors
 use Rattle.lu_base.specs.Errors.{read_error_text}
@@ -20,6 +20,6 @@ too_long_text = read_error_text errors.TooLong ++ 10 ∷ []
 abbrev pub bad_text : ℕ → Fault → List ℕ
 bad_text line fault = bad_line_text line fault ++ 10 ∷ []
 
--- the line that says that a line of the scenario isn't performed yet
-abbrev pub not_yet_text : ℕ → List ℕ
-not_yet_text line = codes "not yet " ++ decimal line ++ 10 ∷ []
+-- the line that says that a node met what no run is known to bring
+abbrev pub unforeseen_text : List ℕ
+unforeseen_text = codes "unforeseen\n"

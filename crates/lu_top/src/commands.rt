@@ -1,11 +1,16 @@
 //! The command line of the process.
 
-ghost use Rattle.std.specs.Prelude.{◌≡◌};
-ghost use Rattle.lu_top.specs.Outcomes.{Tells, WasRead, WroteRun, WroteRunInPart};
+ghost use Rattle.std.specs.Prelude.{◌≡◌, ℕ, List, Some, None};
+ghost use Rattle.std.specs.Io.KnownBytes.{Appends};
+ghost use Rattle.lu_base.specs.Faults.{WrotePrefix};
+ghost use Rattle.lu_base.specs.declared.ids.TargetId.{TargetId};
+ghost use Rattle.lu_player.specs.Played.{AreFresh, AreBack};
+ghost use Rattle.lu_top.specs.Outcomes.{held_by, WasTold, Tells, WroteBy, OfAsked, HasRun, HasRefused};
 
 use super::status::Status;
 use super::top::{run, tell_usage};
 use lu_base::{Sink, Source};
+use lu_disk::Disk;
 use std::env;
 use std::io::{self, ErrorKind};
 use std::rt::Env;
@@ -21,22 +26,33 @@ enum WordsFault {
 
 /// Performs the command line of the process, the words after the program's name, by `run`. A word that
 /// isn't UTF-8 is none of a form: the answer is `Usage`, and nothing was read.
-pub fn run_command<R: Env + AllocGlobal, S: Source, K: Sink>(
+pub fn run_command<R: Env + AllocGlobal, S: Source, K: Sink, D: Disk + Drop>(
     rt: &R,
     source: &mut S,
     sink: &mut K,
+    disks: &mut Vec<D>,
 ) -> Status
-    // What was written is the trace of a run of the table, the scenario's, and that trace is lawful.
-    ensures lawful { result ≡ Status.Done
-        → WasRead (S.left source.old) (S.left source.new) (WroteRun (K.holds sink.old) (K.holds sink.new)) }
+    requires fresh { AreFresh (held_by D.batches D.faults disks.old.items) }
+    // What was written is the trace of a run of the scenario that was read, or the summary of one of the storm; and that
+    // trace is lawful where the theorem covers the scenario.
+    ensures written { result ≡ Status.Done → (words : List (List ℕ)) × WroteBy words (S.left source.old) (S.left source.new)
+        (held_by D.batches D.faults disks.new.items) None (Appends (K.holds sink.old) (K.holds sink.new)) }
     ensures unread { result ≡ Status.Usage → source.new ≡ source.old }
+    ensures back { HasRun result → (words : List (List ℕ)) × OfAsked words (S.left source.old) (S.left source.new)
+        (λ scene. AreBack scene (held_by D.batches D.faults disks.old.items) (held_by D.batches D.faults disks.new.items)) }
+    ensures untouched { HasRefused result → disks.new ≡ disks.old }
     ensures told { Tells (K.holds sink.old) (K.holds sink.new) (K.faults sink.old) (K.faults sink.new) result }
-    ensures write_fault_written { result ≡ Status.WriteFault
-        → WasRead (S.left source.old) (S.left source.new) (WroteRunInPart (K.holds sink.old) (K.holds sink.new)) }
+    ensures write_fault_written { result ≡ Status.WriteFault → (words : List (List ℕ))
+        × WroteBy words (S.left source.old) (S.left source.new)
+        (held_by D.batches D.faults disks.new.items) None (WrotePrefix (K.holds sink.old) (K.holds sink.new)) }
+    ensures disk_fault_written { (t : TargetId) → result ≡ Status.DiskFault t → (words : List (List ℕ))
+        × WroteBy words (S.left source.old) (S.left source.new)
+        (held_by D.batches D.faults disks.new.items) (Some t)
+        (WasTold (K.holds sink.old) (K.holds sink.new) (K.faults sink.old) (K.faults sink.new)) }
     ensures memory_written { result ≡ Status.Memory → sink.new ≡ sink.old }
 {
     match words_of(rt) {
-        Ok(words) => run(rt.alloc(), words.as_slice(), source, sink),
+        Ok(words) => run(rt.alloc(), words.as_slice(), source, sink, disks),
         Err(WordsFault::NotText) => tell_usage(sink),
         Err(WordsFault::Memory) => Status::Memory,
     }

@@ -1,13 +1,14 @@
-//! The top call: reads a scenario, performs it and writes its trace.
+//! The top call: performs the scenario that a command line asks for, over nine disks, and writes what came of it.
 #![tactic(auto)]
 
 mod commands;
-mod paths;
-mod performed;
+mod forms;
 mod refusals;
+mod scenes;
 mod status;
 mod top;
 
 pub use commands::run_command;
+pub use forms::Form;
 pub use status::{Status, code};
 pub use top::run;

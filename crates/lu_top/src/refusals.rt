@@ -1,7 +1,7 @@
-//! The lines that say why a scenario isn't performed.
+//! The line that says why a text isn't performed.
 
 ghost use Rattle.std.specs.Prelude.{◌≡◌, IfOk};
-ghost use Rattle.lu_top.specs.Refusals.{bad_text, not_yet_text};
+ghost use Rattle.lu_top.specs.Refusals.{bad_text};
 
 use lu_base::{Bytes, Memory, put_number};
 use lu_scene::Fault;
@@ -16,16 +16,6 @@ pub fn bad_text(alloc: Global, line: u64, fault: Fault) -> Result<Bytes, Memory>
     put_number(&mut text, line)?;
     text.push(b' ')?;
     text.extend(fault.text().as_bytes())?;
-    text.push(b'\n')?;
-    Ok(text)
-}
-
-/// The line that says that a line of the scenario isn't performed yet.
-pub fn not_yet_text(alloc: Global, line: u64) -> Result<Bytes, Memory>
-    ensures text { IfOk result (λ text. text ≡ not_yet_text line) }
-{
-    let mut text = Bytes::from_slice(alloc, b"not yet ")?;
-    put_number(&mut text, line)?;
     text.push(b'\n')?;
     Ok(text)
 }

@@ -1,97 +1,112 @@
 //! The top call.
 
-ghost use Rattle.std.specs.Prelude.{◌≡◌, ◌≢◌, ◌↔◌, ◌⊎◌, ℕ, List, ◌≤◌, [], ◌∷◌, length, map, codes, Some, string_bytes, IsTrue, IfOk};
-ghost use Rattle.lu_base.specs.Faults.{Rose, CameMore};
+ghost use Rattle.std.specs.Prelude.{◌≡◌, ◌≢◌, ◌↔◌, ◌⊎◌, ℕ, List, map, string_bytes, Some, None, IfOk};
+ghost use Rattle.lu_base.specs.Faults.{Rose, CameMore, WrotePrefix};
+ghost use Rattle.std.specs.Io.KnownBytes.{Appends};
+ghost use Rattle.lu_base.specs.declared.ids.TargetId.{TargetId};
 ghost use Rattle.lu_scene.specs.Lines.{lines_of};
 ghost use Rattle.lu_scene.specs.Grammar.{IsScene, IsFirstFault};
-ghost use Rattle.lu_scene.specs.declared.scene.Scene.{Scene};
-ghost use Rattle.lu_scene.specs.declared.faults.Fault.{Fault};
-ghost use Rattle.lu_trace.specs.Traces.{trace_text};
-ghost use Rattle.lu_trace.specs.declared.traces.Trace.{Trace};
-ghost use Rattle.lu_trace.specs.declared.traces.End.{End};
-ghost use Rattle.lu_core.specs.Performed.{IsPerformed, AllPerformed};
-ghost use Rattle.lu_core.specs.Played.{IsPlayed};
-ghost use Rattle.lu_top.specs.Performed.{IsPerformedText, IsFirstUnperformed};
-ghost use Rattle.lu_top.specs.Refusals.{usage_text, bad_text, not_yet_text};
-ghost use Rattle.lu_top.specs.Outcomes.{most_bytes, IsOutcome, IsTraceOutcome, IsGiven, IsDone, IsRefused, IsPutOff, Tells, WasRead, WasTold, WroteRun, WroteRunInPart};
+ghost use Rattle.lu_scene.specs.declared.scene.Scene.{Scene as SceneOf};
+ghost use Rattle.lu_scene.specs.declared.faults.Fault.{Fault as FaultOf};
+ghost use Rattle.lu_table.specs.Limits.{KeepsLimits};
+ghost use Rattle.lu_covered_scenes.specs.Covered.{IsCovered};
+ghost use Rattle.lu_player.specs.Played.{AreFresh, AreBack, SomeRose};
+ghost use Rattle.lu_top.specs.Refusals.{usage_text, bad_text};
+ghost use Rattle.lu_top.specs.Forms.{Says, SaysNothing};
+ghost use Rattle.lu_top.specs.Asked.{most_bytes, WasRead, IsGiven};
+ghost use Rattle.lu_top.specs.Outcomes.{held_by, text_by, WasTold, Tells, WroteBy, OfAsked, HasFailed, WroteRun, WroteStorm, IsWritten, IsOutcome, HasRun, HasRefused, IsDone, IsRefused, IsPerformedStatus};
 
-use super::performed::first_unperformed;
-use super::refusals::{bad_text, not_yet_text};
+use super::forms::{Form, read_form};
+use super::refusals::bad_text;
+use super::scenes::{Refusal, scene_of};
 use super::status::Status;
-use lu_base::{Bytes, Memory, ReadError, Sink, Source, read_all, write_all};
-use lu_core::play;
-use lu_scene::{Fault, Scene, SceneFault, read_scene};
+use lu_base::{Bytes, Memory, Sink, Source, write_all};
+use lu_disk::Disk;
+use lu_player::{PlayFault, Played, play};
+use lu_scene::{Fault, Scene};
+use lu_summary::summary;
 use lu_trace::render;
 use std::alloc::Global;
-
-/// The most bytes that a scenario has.
-const MOST_BYTES: usize = 1048576;
 
 /// The forms of a command line.
 const USAGE: &[u8] = b"usage: play, threads, storm N or judge\n";
 
-/// Performs the command line: under `play` reads a scenario, performs it and writes its trace.
-pub fn run<S: Source, K: Sink>(
+/// Performs the command line over nine disks, those of the targets in their order, each of which is empty: under `play`
+/// reads a scenario, performs it and writes its trace; under `storm N` performs the storm of the number N and writes the
+/// summary of its trace.
+pub fn run<S: Source, K: Sink, D: Disk + Drop>(
     alloc: Global,
     words: &[String],
     source: &mut S,
     sink: &mut K,
+    disks: &mut Vec<D>,
 ) -> Status
-    // What was written is the trace of a run of the table, the scenario's, and that trace is lawful.
-    ensures lawful { result ≡ Status.Done
-        → WasRead (S.left source.old) (S.left source.new) (WroteRun (K.holds sink.old) (K.holds sink.new)) }
+    requires fresh { AreFresh (held_by D.batches D.faults disks.old.items) }
+    // What was written is the trace of a run of the scenario that was read, or the summary of one of the storm.
+    ensures run { result ≡ Status.Done → Says (map string_bytes words.now) Form.Play
+        → WasRead (S.left source.old) (S.left source.new)
+        (WroteRun (K.holds sink.old) (K.holds sink.new) (held_by D.batches D.faults disks.new.items)) }
+    ensures storm { (seed : ℕ) → result ≡ Status.Done → Says (map string_bytes words.now) (Form.Storm seed)
+        → WroteStorm (K.holds sink.old) (K.holds sink.new) (held_by D.batches D.faults disks.new.items) seed }
 
     // When each answer comes.
-    ensures usage { (result ≡ Status.Usage) ↔ (map string_bytes words.now ≢ codes "play" ∷ []) }
+    ensures usage { (result ≡ Status.Usage) ↔ SaysNothing (map string_bytes words.now) }
     ensures unread { result ≡ Status.Usage → source.new ≡ source.old }
+    ensures storm_unread { (seed : ℕ) → Says (map string_bytes words.now) (Form.Storm seed) → source.new ≡ source.old }
     ensures read_fault { result ≡ Status.ReadFault → Rose (S.faults source.old) (S.faults source.new) }
     ensures too_long { result ≡ Status.TooLong → CameMore (S.left source.old) (S.left source.new) most_bytes }
-    ensures scene { (line : ℕ) (fault : Fault) → result ≡ Status.Scene line fault
+    ensures scene { (line : ℕ) (fault : FaultOf) → result ≡ Status.Scene line fault
         → WasRead (S.left source.old) (S.left source.new) (λ text. IsFirstFault (lines_of text) line fault) }
-    ensures not_yet { (line : ℕ) → result ≡ Status.NotYet line
-        → WasRead (S.left source.old) (S.left source.new) (λ text. IsFirstUnperformed text line) }
+    ensures disk_fault { (t : TargetId) → result ≡ Status.DiskFault t
+        → OfAsked (map string_bytes words.now) (S.left source.old) (S.left source.new)
+        (HasFailed (held_by D.batches D.faults disks.new.items) t) }
     ensures write_fault { result ≡ Status.WriteFault → Rose (K.faults sink.old) (K.faults sink.new) }
-    // Unless the source failed, its count of faults stays; so does the count of a sink that took the whole trace.
+    // Unless the source failed, its count of faults stays; so does the count of a sink that took all of a trace or a summary.
     ensures source_steady { result ≢ Status.ReadFault → S.faults source.new ≡ S.faults source.old }
     ensures sink_steady { result ≡ Status.Done → K.faults sink.new ≡ K.faults sink.old }
+    // After a run the disks stand again in their order; where nothing was performed they are as they were.
+    ensures back { HasRun result → OfAsked (map string_bytes words.now) (S.left source.old) (S.left source.new)
+        (λ scene. AreBack scene (held_by D.batches D.faults disks.old.items) (held_by D.batches D.faults disks.new.items)) }
+    ensures untouched { HasRefused result → disks.new ≡ disks.old }
+
     // Where no fault comes and memory suffices, the answer is that of the bytes.
-    ensures refused { (text : List ℕ)
-        → IsGiven (map string_bytes words.now) (S.left source.old) (S.faults source.old) (S.faults source.new) text
-        → ((scene : Scene) → ¬ IsScene text scene) → IsRefused result }
-    ensures put_off { (text : List ℕ) (scene : Scene)
-        → IsGiven (map string_bytes words.now) (S.left source.old) (S.faults source.old) (S.faults source.new) text
-        → IsScene text scene → ¬ AllPerformed scene.lines → IsPutOff result }
-    ensures done { (text : List ℕ) (scene : Scene)
-        → IsGiven (map string_bytes words.now) (S.left source.old) (S.faults source.old) (S.faults source.new) text
-        → IsPerformedText text scene → ¬ Rose (K.faults sink.old) (K.faults sink.new) → IsDone result }
+    ensures refused { (text : List ℕ) → Says (map string_bytes words.now) Form.Play
+        → IsGiven (S.left source.old) (S.faults source.old) (S.faults source.new) text
+        → ((scene : SceneOf) → ¬ IsScene text scene) → IsRefused result }
+    ensures performed { (text : List ℕ) (scene : SceneOf) → Says (map string_bytes words.now) Form.Play
+        → IsGiven (S.left source.old) (S.faults source.old) (S.faults source.new) text
+        → IsScene text scene → IsPerformedStatus result }
+    ensures done { (text : List ℕ) (scene : SceneOf) → Says (map string_bytes words.now) Form.Play
+        → IsGiven (S.left source.old) (S.faults source.old) (S.faults source.new) text
+        → IsScene text scene → IsCovered scene → ¬ Rose (K.faults sink.old) (K.faults sink.new)
+        → ¬ SomeRose scene (held_by D.batches D.faults disks.new.items) → IsDone result }
+    ensures storm_performed { (seed : ℕ) → Says (map string_bytes words.now) (Form.Storm seed) → IsPerformedStatus result }
 
     // What stands in the sink then. A line of a refusal may be cut off by a fault; its status stays.
     ensures told { Tells (K.holds sink.old) (K.holds sink.new) (K.faults sink.old) (K.faults sink.new) result }
+    ensures written { result ≡ Status.Done
+        → WroteBy (map string_bytes words.now) (S.left source.old) (S.left source.new)
+        (held_by D.batches D.faults disks.new.items) None (Appends (K.holds sink.old) (K.holds sink.new)) }
     ensures write_fault_written { result ≡ Status.WriteFault
-        → WasRead (S.left source.old) (S.left source.new) (WroteRunInPart (K.holds sink.old) (K.holds sink.new)) }
+        → WroteBy (map string_bytes words.now) (S.left source.old) (S.left source.new)
+        (held_by D.batches D.faults disks.new.items) None (WrotePrefix (K.holds sink.old) (K.holds sink.new)) }
+    ensures disk_fault_written { (t : TargetId) → result ≡ Status.DiskFault t
+        → WroteBy (map string_bytes words.now) (S.left source.old) (S.left source.new)
+        (held_by D.batches D.faults disks.new.items) (Some t)
+        (WasTold (K.holds sink.old) (K.holds sink.new) (K.faults sink.old) (K.faults sink.new)) }
     ensures memory_written { result ≡ Status.Memory → sink.new ≡ sink.old }
 {
-    if !is_play(words) {
-        return tell_usage(sink);
-    }
-    match read_all(alloc, source, MOST_BYTES) {
-        Ok(text) => perform(alloc, text.as_slice(), sink),
-        Err(ReadError::ReadFault) => tell(sink, b"read fault\n", Status::ReadFault),
-        Err(ReadError::TooLong) => tell(sink, b"too long\n", Status::TooLong),
-        Err(ReadError::Memory) => Status::Memory,
-    }
-}
-
-/// Whether the words are the one word `play`.
-fn is_play(words: &[String]) -> bool
-    ensures test { IsTrue result ↔ (map string_bytes words.now ≡ codes "play" ∷ []) }
-{
-    match words {
-        [word] => match word.as_str() {
-            "play" => true,
-            _ => false,
-        },
-        _ => false,
+    let form = match read_form(alloc, words) {
+        Ok(Some(form)) => form,
+        Ok(None) => return tell_usage(sink),
+        Err(Memory) => return Status::Memory,
+    };
+    match scene_of(alloc, form, source) {
+        Ok(scene) => perform(alloc, form, &scene, sink, disks),
+        Err(Refusal::ReadFault) => tell(sink, b"read fault\n", Status::ReadFault),
+        Err(Refusal::TooLong) => tell(sink, b"too long\n", Status::TooLong),
+        Err(Refusal::Bad { line, fault }) => tell_bad(alloc, line, fault, sink),
+        Err(Refusal::Memory) => Status::Memory,
     }
 }
 
@@ -112,24 +127,6 @@ fn tell<K: Sink>(sink: &mut K, line: &[u8], status: Status) -> Status
     status
 }
 
-/// Performs a text and writes the trace of its run.
-fn perform<K: Sink>(alloc: Global, text: &[u8], sink: &mut K) -> Status
-    ensures outcome { IsOutcome (K.holds sink.old) (K.holds sink.new)
-        (K.faults sink.old) (K.faults sink.new) text.now result }
-    ensures refused { ((scene : Scene) → ¬ IsScene text.now scene) → IsRefused result }
-    ensures put_off { (scene : Scene) → IsScene text.now scene → ¬ AllPerformed scene.lines → IsPutOff result }
-    ensures done { (scene : Scene) → IsPerformedText text.now scene
-        → ¬ Rose (K.faults sink.old) (K.faults sink.new) → IsDone result }
-    ensures sink_steady { result ≡ Status.Done → K.faults sink.new ≡ K.faults sink.old }
-    ensures memory { result ≡ Status.Memory → sink.new ≡ sink.old }
-{
-    match read_scene(alloc, text) {
-        Ok(scene) => perform_scene(alloc, text, &scene, sink),
-        Err(SceneFault::Bad { line, fault }) => tell_bad(alloc, line, fault, sink),
-        Err(SceneFault::Memory) => Status::Memory,
-    }
-}
-
 /// Writes that a text is no scenario.
 fn tell_bad<K: Sink>(alloc: Global, line: u64, fault: Fault, sink: &mut K) -> Status
     ensures status { (result ≡ Status.Scene line fault) ⊎ (result ≡ Status.Memory) }
@@ -144,61 +141,55 @@ fn tell_bad<K: Sink>(alloc: Global, line: u64, fault: Fault, sink: &mut K) -> St
     }
 }
 
-/// Performs the scenario that a text is, and writes the trace of its run.
-fn perform_scene<K: Sink>(alloc: Global, text: &[u8], scene: &Scene, sink: &mut K) -> Status
-    requires scene { IsScene text.now scene.now }
-    ensures outcome { IsOutcome (K.holds sink.old) (K.holds sink.new)
-        (K.faults sink.old) (K.faults sink.new) text.now result }
-    ensures put_off { ¬ AllPerformed scene.now.lines → IsPutOff result }
-    ensures done { AllPerformed scene.now.lines → ¬ Rose (K.faults sink.old) (K.faults sink.new) → IsDone result }
-    ensures sink_steady { result ≡ Status.Done → K.faults sink.new ≡ K.faults sink.old }
+/// Performs a scenario and writes of its run what the form wants.
+fn perform<K: Sink, D: Disk + Drop>(
+    alloc: Global,
+    form: Form,
+    scene: &Scene,
+    sink: &mut K,
+    disks: &mut Vec<D>,
+) -> Status
+    requires limits { KeepsLimits scene.now }
+    requires fresh { AreFresh (held_by D.batches D.faults disks.old.items) }
+    ensures outcome { IsOutcome form scene.now (held_by D.batches D.faults disks.new.items)
+        (K.holds sink.old) (K.holds sink.new) (K.faults sink.old) (K.faults sink.new) result }
+    ensures back { HasRun result
+        → AreBack scene.now (held_by D.batches D.faults disks.old.items) (held_by D.batches D.faults disks.new.items) }
+    ensures done { IsCovered scene.now → ¬ Rose (K.faults sink.old) (K.faults sink.new)
+        → ¬ SomeRose scene.now (held_by D.batches D.faults disks.new.items) → IsDone result }
     ensures memory { result ≡ Status.Memory → sink.new ≡ sink.old }
 {
-    match first_unperformed(alloc, text, scene) {
-        Ok(None) => write_trace(alloc, scene, sink),
-        Ok(Some(line)) => tell_not_yet(alloc, line, sink),
-        Err(Memory) => Status::Memory,
+    match play(alloc, scene, disks) {
+        Ok(played) => write(alloc, form, &played, sink),
+        Err(PlayFault::Unforeseen) => tell(sink, b"unforeseen\n", Status::Unforeseen),
+        Err(PlayFault::Memory) => Status::Memory,
     }
 }
 
-/// Writes that a line isn't performed yet.
-fn tell_not_yet<K: Sink>(alloc: Global, line: u64, sink: &mut K) -> Status
-    ensures status { (result ≡ Status.NotYet line) ⊎ (result ≡ Status.Memory) }
-    ensures told { result ≡ Status.NotYet line
-        → WasTold (K.holds sink.old) (K.holds sink.new) (K.faults sink.old) (K.faults sink.new)
-        (not_yet_text line) }
+/// Writes of a run what the form wants. Where a disk failed, that is the answer whatever the sink does.
+fn write<K: Sink>(alloc: Global, form: Form, played: &Played, sink: &mut K) -> Status
+    ensures written { IsWritten form played.now
+        (K.holds sink.old) (K.holds sink.new) (K.faults sink.old) (K.faults sink.new) result }
     ensures memory { result ≡ Status.Memory → sink.new ≡ sink.old }
 {
-    match not_yet_text(alloc, line) {
-        Ok(text) => tell(sink, text.as_slice(), Status::NotYet { line }),
-        Err(Memory) => Status::Memory,
+    let text = match text_of(alloc, form, played) {
+        Ok(text) => text,
+        Err(Memory) => return Status::Memory,
+    };
+    let is_whole = write_all(sink, text.as_slice()).is_ok();
+    match played.failed {
+        Some(target) => Status::DiskFault { target },
+        None if is_whole => Status::Done,
+        None => Status::WriteFault,
     }
 }
 
-/// Performs a scenario, each line of which is performed so far, and writes the trace of its run.
-fn write_trace<K: Sink>(alloc: Global, scene: &Scene, sink: &mut K) -> Status
-    requires performed { IsPerformed scene.now }
-    ensures outcome { IsTraceOutcome (K.holds sink.old) (K.holds sink.new)
-        (K.faults sink.old) (K.faults sink.new) scene.now result }
-    ensures done { ¬ Rose (K.faults sink.old) (K.faults sink.new) → IsDone result }
-    ensures sink_steady { result ≡ Status.Done → K.faults sink.new ≡ K.faults sink.old }
-    ensures memory { result ≡ Status.Memory → sink.new ≡ sink.old }
+/// What a form wants of a run: the text of its trace and how it ended, or the summary of the trace.
+fn text_of(alloc: Global, form: Form, played: &Played) -> Result<Bytes, Memory>
+    ensures text { IfOk result (λ text. text ≡ text_by form played.now) }
 {
-    match trace_text(alloc, scene) {
-        Ok(text) => match write_all(sink, text.as_slice()) {
-            Ok(()) => Status::Done,
-            Err(_) => Status::WriteFault,
-        },
-        Err(Memory) => Status::Memory,
+    match form {
+        Form::Play => render(alloc, &played.trace, played.end),
+        Form::Storm(seed) => summary(alloc, seed, &played.trace),
     }
-}
-
-/// The text of the trace of a scenario's run.
-fn trace_text(alloc: Global, scene: &Scene) -> Result<Bytes, Memory>
-    requires performed { IsPerformed scene.now }
-    ensures text { IfOk result (λ text. (trace : Trace) × (end : End) × IsPlayed scene.now trace end
-        × (text ≡ trace_text trace end)) }
-{
-    let played = play(alloc, scene)?;
-    render(alloc, &played.trace, played.end)
 }

@@ -1,9 +1,0 @@
-pub mod Scenario
-pub mod Performed
-pub mod Samples
-pub mod Numbering
-pub mod States
-pub mod Shown
-pub mod Progress
-pub mod Outcome
-pub mod Played

@@ -1,3 +1,0 @@
-pub mod Names
-pub mod Targets
-pub mod Turns

@@ -1,0 +1,5 @@
+use Rattle.std.proofs.Common.{map, string_bytes}
+use Rattle.lu_top.proofs.commands.run_command.Goals as goal
+
+pub returns-in-Ok-clause-back : goal.returns-in-Ok-clause-back
+returns-in-Ok-clause-back g c = λ ran. (map string_bytes c.as_slice.result.now, c.run.ensures.back ran)

@@ -1,0 +1,14 @@
+-- The disks so far are so many, empty, and haven't failed.
+use Rattle.std.proofs.Common.{◌≡◌, [], length}
+use Rattle.std.specs.Prelude.{All}
+use Rattle.lu_top.specs.Outcomes.{held_by}
+use Rattle.lustre_run.proofs.new_disks.Given as goal
+
+abbrev pub invariant-loop : goal.invariant-loop
+invariant-loop l =
+    let held = held_by (λ d. d.batches) (λ d. d.faults) l.disks.items in
+    record {
+      count : length held ≡ l.counter;
+      empty : All (λ d. d.batches ≡ []) held;
+      calm : All (λ d. d.faults ≡ 0) held;
+    }
