@@ -1,0 +1,10 @@
+pub mod Added
+pub mod FileLayouts
+pub mod GoodLayouts
+pub mod Runs
+pub mod SameNames
+pub mod Showing
+pub mod Sound
+pub mod Units
+pub mod Written
+pub mod Both

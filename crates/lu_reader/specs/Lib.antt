@@ -1,0 +1,9 @@
+pub mod Faults
+pub mod Reading
+pub mod Names
+pub mod Values
+pub mod Lists
+pub mod Parts
+pub mod Messages
+pub mod Entries
+pub mod Reads
