@@ -8,7 +8,7 @@ use Rattle.lu_laws.specs.Words.Pasts.{Past}
 use Rattle.lu_laws.specs.Holds.{HoldsBefore, Holds}
 use Rattle.lu_judge.specs.Firsts.{before, HoldsAt, HoldsBelow, IsFirst}
 
-before_more : (lines : List Line) (place : ℕ) (d : Line) → place < length lines → before lines (place + 1) ≡ slice_index_or lines place d ∷ before lines place
+pub before_more : (lines : List Line) (place : ℕ) (d : Line) → place < length lines → before lines (place + 1) ≡ slice_index_or lines place d ∷ before lines place
 before_more lines place d below = ap reverse (take_more lines place d below) ∙ reverse-append (take place lines) (slice_index_or lines place d ∷ [])
 
 some_line : (lines : List Line) (k : ℕ) → k < length lines → Line
@@ -65,7 +65,7 @@ whole law lines holds =
     subst (λ (later : List Line). HoldsBefore law later (reverse lines)) (none_after lines)
     (subst (λ (past : Past). HoldsBefore law (drop (length lines) lines) past) (all_before lines) (until law lines (length lines) (omega arith) holds))
 
-at_each : (law : Past → Line → List Line → Type 0) (lines : List Line) → Holds law (reverse lines) → HoldsBelow law lines (length lines)
+pub at_each : (law : Past → Line → List Line → Type 0) (lines : List Line) → Holds law (reverse lines) → HoldsBelow law lines (length lines)
 at_each law lines holds =
     each law lines (length lines) (omega arith)
     (subst (λ (past : Past). HoldsBefore law (drop (length lines) lines) past) (sym (all_before lines))

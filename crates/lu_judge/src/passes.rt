@@ -1,10 +1,10 @@
 //! One pass over the lines of a trace, whatever the law.
 
-ghost use Rattle.std.specs.Prelude.{◌≡◌, List, [], ◌∷◌, reverse, None, IfOk, OnOk, IsTrue, ◌↔◌};
+ghost use Rattle.std.specs.Prelude.{◌≡◌, List, [], ◌∷◌, reverse, None, IfOk, OnOk, IsTrue, ◌↔◌, length};
 ghost use Rattle.lu_trace.specs.declared.entries.Line.{Line};
 ghost use Rattle.lu_laws.specs.Words.Pasts.{Past};
 ghost use Rattle.lu_laws.specs.Holds.{Holds};
-ghost use Rattle.lu_judge.specs.Firsts.{About, IsFirst};
+ghost use Rattle.lu_judge.specs.Firsts.{About, HoldsBelow, IsFirst};
 
 use lu_base::Memory;
 use lu_trace::Line;
@@ -13,6 +13,9 @@ use lu_trace::Line;
 pub trait Judge<'a> {
     /// What the law speaks of beside the lines around each line. No line changes it.
     ghost about: { Self → About };
+
+    /// What is known to hold at each line of the trace: what earlier laws say there.
+    ghost given: { About → Past → Line → List Line → Type 0 };
 
     /// The tables show this past, at each line of which the law holds.
     ghost shows: { Self → Past → Type 0 };
@@ -23,12 +26,14 @@ pub trait Judge<'a> {
     /// Whether the law holds at the next line, before these later ones. It answers want of memory alone.
     fn allows(&self, line: &'a Line, later: &'a [Line]) -> Result<bool, Memory>
         ensures decided { IfOk result (λ holds. (past : Past) → shows self.now past
+            → given (about self.now) past line.now later.now
             → IsTrue holds ↔ law (about self.now) past line.now later.now) };
 
     /// Takes in the next line, at which the law holds. After want of memory nothing is known of the tables.
     fn step(&mut self, line: &'a Line) -> Result<(), Memory>
         ensures shows { OnOk result ((past : Past) (later : List Line) → shows self.old past
-            → law (about self.old) past line.now later → shows self.new (line.now ∷ past)) }
+            → given (about self.old) past line.now later → law (about self.old) past line.now later
+            → shows self.new (line.now ∷ past)) }
         ensures about { OnOk result (about self.new ≡ about self.old) };
 }
 
@@ -37,7 +42,8 @@ fn first_place<'a, J: Judge<'a> + Drop>(
     judge: J,
     lines: &'a [Line],
 ) -> Result<Option<usize>, Memory>
-    requires { J.shows judge [] }
+    requires shows { J.shows judge [] }
+    requires given { HoldsBelow (J.given (J.about judge)) lines.now (length lines.now) }
     ensures { IfOk result (IsFirst (J.law (J.about judge)) lines.now) }
 {
     let mut tables = judge;
@@ -59,7 +65,8 @@ pub fn first_broken<'a, J: Judge<'a> + Drop>(
     judge: J,
     lines: &'a [Line],
 ) -> Result<Option<usize>, Memory>
-    requires { J.shows judge [] }
+    requires shows { J.shows judge [] }
+    requires given { Holds (J.given (J.about judge)) (reverse lines.now) }
     ensures first { IfOk result (IsFirst (J.law (J.about judge)) lines.now) }
     ensures none { IfOk result (λ place. (place ≡ None)
         ↔ Holds (J.law (J.about judge)) (reverse lines.now)) }

@@ -1,9 +1,11 @@
 //! Nodes and turns, compared.
 
 ghost use Rattle.std.specs.Prelude.{◌≡◌, IsTrue, ◌↔◌};
-ghost use Rattle.lu_laws.specs.Words.Pasts.{same_node, NodeUpTo, UpTo};
+ghost use Rattle.lu_laws.specs.Words.Pasts.{same_node, same_turn, NodeUpTo, UpTo};
+ghost use Rattle.lu_judge.specs.Places.{turn_of};
 
 use lu_base::{At, Node};
+use lu_trace::Line;
 
 /// Whether both are one node.
 pub fn same_node(a: Node, b: Node) -> bool
@@ -46,4 +48,22 @@ pub fn is_up_to(a: At, b: At) -> bool
         return true;
     }
     a.stamp.0 == b.stamp.0 && is_node_up_to(a.node, b.node)
+}
+
+/// Whether both are one turn.
+pub fn same_turn(a: At, b: At) -> bool
+    ensures { result ≡ same_turn a b }
+{
+    a.stamp.0 == b.stamp.0 && same_node(a.node, b.node)
+}
+
+/// The lines that follow in this turn, up to the first line of another one.
+pub fn rest_of_turn<'a>(at: At, later: &'a [Line]) -> &'a [Line]
+    ensures { result.now ≡ turn_of at later.now }
+{
+    let mut count = 0;
+    while count < later.len() && same_turn(later[count].at, at) {
+        count += 1;
+    }
+    &later[..count]
 }

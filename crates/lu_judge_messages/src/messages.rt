@@ -123,6 +123,8 @@ fn last_after(last: u64, entry: &Entry) -> u64
 impl<'a> Judge<'a> for Messages<'a> {
     ghost about = { λ _. record { osts = 0; whole = [] } };
 
+    ghost given = { λ _ _ _ _. Unit {0} };
+
     ghost shows = { Shown };
 
     ghost law = { λ _. MessagesLaw };

@@ -89,6 +89,21 @@ impl Machine {
         Ok(self.told(answer))
     }
 
+    /// What `perform` would answer. Nothing changes.
+    pub fn would_answer(
+        &self,
+        alloc: Global,
+        number: Txn,
+        who: Who,
+        op: &Op,
+    ) -> Result<Answer, Memory>
+        ensures answer { IfOk result (λ told. (osts : ℕ) (m : Plain) → Shows osts self.now m
+            → told ≡ names_answer osts m (asked number who op.now)) }
+    {
+        let answer = self.names.answer(alloc, number, who, op)?;
+        Ok(self.told(answer))
+    }
+
     /// What the user is told: of an open the file, of a file's attributes its size.
     fn told(&self, answer: Answer) -> Answer
         ensures told { (m : Plain) → ShowsObjects self.now.objects m → result ≡ as_told m answer }
@@ -132,6 +147,24 @@ impl Machine {
                 self.cut(alloc, fid, *size)?;
                 Ok(Answer::Done)
             }
+            Call::Flush(_) => Ok(Answer::Done),
+            _ => Ok(Answer::Refused(Errno::EBADF)),
+        }
+    }
+
+    /// What `call` would answer. Nothing changes.
+    pub fn would_tell(&self, alloc: Global, fid: Fid, call: &Call) -> Result<Answer, Memory>
+        requires limits { KeepsCall call.now }
+        ensures answer { IfOk result (λ told. (osts : ℕ) (m : Plain) → Shows osts self.now m
+            → told ≡ data_answer m fid call.now) }
+    {
+        match call {
+            Call::Read { offset, length, .. } => {
+                let bytes = self.read(alloc, fid, *offset, *length)?;
+                Ok(Answer::Content(bytes))
+            }
+            Call::Write { .. } => Ok(Answer::Done),
+            Call::Cut { .. } => Ok(Answer::Done),
             Call::Flush(_) => Ok(Answer::Done),
             _ => Ok(Answer::Refused(Errno::EBADF)),
         }

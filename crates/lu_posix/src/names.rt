@@ -70,6 +70,22 @@ impl Names {
         Ok(answer)
     }
 
+    /// What `perform` would answer. Nothing changes.
+    pub(crate) fn answer(
+        &self,
+        alloc: Global,
+        number: Txn,
+        who: Who,
+        op: &Op,
+    ) -> Result<Answer, Memory>
+        ensures answer { IfOk result (λ answer. answer ≡ answer_of self.now (asked number who op.now)) }
+    {
+        if self.is_passed(number, who, op) {
+            return Ok(Answer::Refused(Errno::EBADF));
+        }
+        self.tree.answer(alloc, number, who, op)
+    }
+
     /// The layout of the file that the operation made, if it made one, by its answer.
     pub(crate) fn made(&self, number: Txn, op: &Op, answer: &Answer) -> Option<Layout>
         ensures made { result ≡ made_layout self.now.osts number op.now answer.now }

@@ -1,10 +1,8 @@
--- The words with which calls, operations, answers, messages and entries begin.
+-- The words with which operations, answers, messages and entries begin.
 use Rattle.std.specs.Prelude.{ℕ, Option, List, [], ◌∷◌, codes, find}
 use Rattle.std.specs.Str.{bytes_eq}
 use Rattle.lu_msg.specs.declared.answers.Errno.TheVariants as errnos
 use Rattle.lu_trace.specs.Answers.{errno_text}
-use Rattle.lu_reader.specs.declared.names.CallName.{CallName}
-use Rattle.lu_reader.specs.declared.names.CallName.TheVariants as call
 use Rattle.lu_reader.specs.declared.names.OpName.{OpName}
 use Rattle.lu_reader.specs.declared.names.OpName.TheVariants as op
 use Rattle.lu_reader.specs.declared.names.AnswerName.{AnswerName}
@@ -13,35 +11,6 @@ use Rattle.lu_reader.specs.declared.names.MessageName.{MessageName}
 use Rattle.lu_reader.specs.declared.names.MessageName.TheVariants as message
 use Rattle.lu_reader.specs.declared.names.EntryName.{EntryName}
 use Rattle.lu_reader.specs.declared.names.EntryName.TheVariants as entry
-
--- the first word of a call
-abbrev pub call_word : CallName → List ℕ
-call_word call.Lookup = codes "lookup"
-call_word call.Stat = codes "stat"
-call_word call.List = codes "list"
-call_word call.Layout = codes "layout"
-call_word call.Mkdir = codes "mkdir"
-call_word call.Create = codes "create"
-call_word call.Link = codes "link"
-call_word call.Unlink = codes "unlink"
-call_word call.Rmdir = codes "rmdir"
-call_word call.Rename = codes "rename"
-call_word call.Chmod = codes "chmod"
-call_word call.Open = codes "open"
-call_word call.Close = codes "close"
-call_word call.Read = codes "read"
-call_word call.Write = codes "write"
-call_word call.Cut = codes "cut"
-call_word call.Flush = codes "flush"
-call_word call.Glimpse = codes "glimpse"
-
--- all of these
-abbrev pub all_call_names : List CallName
-all_call_names = call.Lookup ∷ call.Stat ∷ call.List ∷ call.Layout ∷ call.Mkdir ∷ call.Create ∷ call.Link ∷ call.Unlink ∷ call.Rmdir ∷ call.Rename ∷ call.Chmod ∷ call.Open ∷ call.Close ∷ call.Read ∷ call.Write ∷ call.Cut ∷ call.Flush ∷ call.Glimpse ∷ []
-
--- what begins with the word
-abbrev pub call_name_of : List ℕ → Option CallName
-call_name_of word = find (λ x. bytes_eq (call_word x) word) all_call_names
 
 -- the first word of an operation
 abbrev pub op_word : OpName → List ℕ

@@ -12,13 +12,14 @@ use Rattle.lu_msg.specs.declared.operations.Op.TheVariants as op
 use Rattle.lu_msg.specs.declared.answers.Answer.{Answer}
 use Rattle.lu_msg.specs.declared.answers.Answer.TheVariants as answer
 use Rattle.lu_scene.specs.Fields.{number_of, path_of}
-use Rattle.lu_reader.specs.declared.names.CallName.{CallName}
-use Rattle.lu_reader.specs.declared.names.CallName.TheVariants as calls
+use Rattle.lu_scene.specs.declared.words.CallName.{CallName}
+use Rattle.lu_scene.specs.declared.words.CallName.TheVariants as calls
 use Rattle.lu_reader.specs.declared.names.OpName.{OpName}
 use Rattle.lu_reader.specs.declared.names.OpName.TheVariants as ops
 use Rattle.lu_reader.specs.declared.names.AnswerName.{AnswerName}
 use Rattle.lu_reader.specs.declared.names.AnswerName.TheVariants as answers
-use Rattle.lu_reader.specs.Names.{call_name_of, op_name_of, answer_name_of}
+use Rattle.lu_scene.specs.Words.{call_name_of}
+use Rattle.lu_reader.specs.Names.{op_name_of, answer_name_of}
 use Rattle.lu_reader.specs.Reading.{◌>>?◌, ◌>>=◌, Reader, give, with_left, one, if_more}
 use Rattle.lu_reader.specs.Values.{up_to, small_of, pair_of, object_of, inode_of, extent_of, mode_of, octal_of, rights_of, count_of, bytes_of}
 use Rattle.lu_reader.specs.Lists.{sizes_of, names_of, layout_of}

@@ -2,15 +2,15 @@
 
 ghost use Rattle.std.specs.Prelude.{◌≤◌, All, IfOk, length};
 ghost use Rattle.lu_trace.specs.WellFormed.{Fits, IsCall};
-ghost use Rattle.lu_reader.specs.declared.names.CallName.TheVariants as calls;
+ghost use Rattle.lu_scene.specs.declared.words.CallName.TheVariants as calls;
 ghost use Rattle.lu_reader.specs.Reading.{Gives, Reads};
 ghost use Rattle.lu_reader.specs.Parts.{read_of, write_of, call_rest, call_reader};
 
 use super::faults::LineFault;
-use super::names::{CallName, call_name_of};
 use super::words::Words;
 use lu_base::Bytes;
 use lu_msg::Call;
+use lu_scene::{CallName, call_name_of};
 
 /// The greatest position in a file, in bytes.
 pub const MOST_POSITION: u64 = 1 << 40;

@@ -1,90 +1,10 @@
-//! The words with which calls, operations, answers, messages and entries begin.
+//! The words with which operations, answers, messages and entries begin.
 
 ghost use Rattle.std.specs.Prelude.{◌≡◌};
 ghost use Rattle.lu_trace.specs.Answers.{errno_text};
-ghost use Rattle.lu_reader.specs.Names.{call_word, call_name_of, op_word, op_name_of, answer_word, answer_name_of, message_word, message_name_of, entry_word, entry_name_of};
+ghost use Rattle.lu_reader.specs.Names.{op_word, op_name_of, answer_word, answer_name_of, message_word, message_name_of, entry_word, entry_name_of};
 
 use lu_msg::Errno;
-
-/// The first word of a call.
-#[derive(Clone, Copy, Debug, PartialEq, Eq)]
-pub enum CallName {
-    Lookup,
-    Stat,
-    List,
-    Layout,
-    Mkdir,
-    Create,
-    Link,
-    Unlink,
-    Rmdir,
-    Rename,
-    Chmod,
-    Open,
-    Close,
-    Read,
-    Write,
-    Cut,
-    Flush,
-    Glimpse,
-}
-
-/// All of these.
-const CALLS: [CallName; 18] = [
-    CallName::Lookup,
-    CallName::Stat,
-    CallName::List,
-    CallName::Layout,
-    CallName::Mkdir,
-    CallName::Create,
-    CallName::Link,
-    CallName::Unlink,
-    CallName::Rmdir,
-    CallName::Rename,
-    CallName::Chmod,
-    CallName::Open,
-    CallName::Close,
-    CallName::Read,
-    CallName::Write,
-    CallName::Cut,
-    CallName::Flush,
-    CallName::Glimpse,
-];
-
-impl CallName {
-    /// The word.
-    pub fn word(self) -> &'static [u8]
-        ensures word { result.now ≡ call_word self }
-    {
-        match self {
-            CallName::Lookup => b"lookup",
-            CallName::Stat => b"stat",
-            CallName::List => b"list",
-            CallName::Layout => b"layout",
-            CallName::Mkdir => b"mkdir",
-            CallName::Create => b"create",
-            CallName::Link => b"link",
-            CallName::Unlink => b"unlink",
-            CallName::Rmdir => b"rmdir",
-            CallName::Rename => b"rename",
-            CallName::Chmod => b"chmod",
-            CallName::Open => b"open",
-            CallName::Close => b"close",
-            CallName::Read => b"read",
-            CallName::Write => b"write",
-            CallName::Cut => b"cut",
-            CallName::Flush => b"flush",
-            CallName::Glimpse => b"glimpse",
-        }
-    }
-}
-
-/// What begins with this word.
-pub fn call_name_of(word: &[u8]) -> Option<CallName>
-    ensures name { result ≡ call_name_of word.now }
-{
-    CALLS.iter().copied().find(|name| name.word() == word)
-}
 
 /// The first word of an operation.
 #[derive(Clone, Copy, Debug, PartialEq, Eq)]

@@ -15,6 +15,5 @@ pub mod Printed
 pub mod Graphic
 pub mod Splitting
 pub mod RoundTrip
-pub mod Numbering
 pub mod Rows
 pub mod Drawn

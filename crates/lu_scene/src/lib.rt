@@ -7,7 +7,6 @@
 mod calls;
 mod faults;
 mod fields;
-mod places;
 mod printer;
 mod reader;
 mod scene;
@@ -15,8 +14,8 @@ mod storms;
 mod words;
 
 pub use faults::{Fault, SceneFault};
-pub use places::line_numbers;
 pub use printer::print_scene;
 pub use reader::read_scene;
 pub use scene::{Head, Lines, Scene, SceneLine};
 pub use storms::storm;
+pub use words::{CallName, call_name_of};

@@ -38,14 +38,14 @@ pub struct Progress {
 }
 
 /// The lines of a text.
-pub fn lines_of(alloc: Global, text: &[u8]) -> Result<Vec<&[u8]>, AllocError>
+fn lines_of(alloc: Global, text: &[u8]) -> Result<Vec<&[u8]>, AllocError>
     ensures lines { IfOk result (λ lines. map (λ line. line.now) lines.items ≡ lines_of text.now) }
 {
     text.split(|b| *b == b'\n').collect(alloc)
 }
 
 /// The words of a line.
-pub fn words_of(alloc: Global, line: &[u8]) -> Result<Vec<&[u8]>, AllocError>
+fn words_of(alloc: Global, line: &[u8]) -> Result<Vec<&[u8]>, AllocError>
     ensures words { IfOk result (λ words. map (λ word. word.now) words.items ≡ words_of line.now) }
 {
     line.split(|b| *b == b' ')
@@ -68,7 +68,7 @@ fn are_plain(line: &[u8]) -> bool
 }
 
 /// Whether a line begins with `#`.
-pub fn is_comment(line: &[u8]) -> bool
+fn is_comment(line: &[u8]) -> bool
     ensures comment { result ≡ is_comment line.now }
 {
     match line.first() {

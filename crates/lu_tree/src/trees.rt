@@ -65,6 +65,15 @@ impl Tree {
         Ok(answer)
     }
 
+    /// What the operation would be answered, as transaction `number` if it makes one. The tree stays.
+    pub fn answer(&self, alloc: Global, number: Txn, who: Who, op: &Op) -> Result<Answer, Memory>
+        ensures answer { IfOk result (λ answer. answer ≡ footprint.answer self.now.osts self.now.tree
+            (asked number who op.now)) }
+    {
+        let end = self.inodes.end(self.osts, op);
+        self.inodes.answer(alloc, number, end)
+    }
+
     /// Whether the operation would make a transaction.
     pub fn changes(&self, _who: Who, op: &Op) -> bool
         ensures changes { (number : SpecTxn) → result ≡ footprint.changes self.now.osts self.now.tree

@@ -1,7 +1,7 @@
 //! Scenarios: faults, lines of each form, heads, lengths, and the numbers of lines.
 
 use lu_base::{Bytes, Memory};
-use lu_scene::{Fault, SceneFault, line_numbers, print_scene, read_scene};
+use lu_scene::{Fault, SceneFault, print_scene, read_scene};
 use std::alloc::Global;
 use std::test::Fail;
 
@@ -234,10 +234,8 @@ fn lines_and_paths_have_a_greatest_length(rt: HostRuntime) -> Result<(), Fail> {
 }
 
 #[test]
-fn lines_are_numbered_and_faults_worded(rt: HostRuntime) -> Result<(), Fail> {
+fn faults_are_worded(rt: HostRuntime) -> Result<(), Fail> {
     let alloc = rt.alloc();
-    let numbers = line_numbers(alloc, b"\n#x\nclients 2\nrun\n \ntick c1\n")?;
-    assert!(rt; numbers.as_slice() == [4, 6].as_slice());
     let fault = SceneFault::Bad {
         line: 3,
         fault: Fault::UnknownLine,

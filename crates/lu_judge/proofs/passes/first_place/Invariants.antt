@@ -5,6 +5,7 @@ use Rattle.lu_judge.proofs.passes.first_place.Given as goal
 abbrev pub invariant-loop-place : goal.invariant-loop-place
 invariant-loop-place g l = record {
   about : g.J.Judge.about l.tables ≡ g.J.Judge.about l.initial.tables;
+  given : HoldsBelow (g.J.Judge.given (g.J.Judge.about l.initial.tables)) l.lines (length l.lines);
   within : l.place ≤ length l.lines;
   shows : g.J.Judge.shows l.tables (before l.lines l.place);
   holds : HoldsBelow (g.J.Judge.law (g.J.Judge.about l.initial.tables)) l.lines l.place;

@@ -1,0 +1,9 @@
+pub mod Acted
+pub mod Counted
+pub mod Executing
+pub mod Flown
+pub mod Later
+pub mod Notices
+pub mod Quiet
+pub mod Sending
+pub mod Telling

@@ -1,0 +1,4 @@
+pub mod Answers
+pub mod Flying
+pub mod Shown
+pub mod Tables

@@ -1,0 +1,10 @@
+pub mod Ended
+pub mod Loops
+pub mod Numbers
+pub mod Passed
+pub mod Seen
+pub mod Steps
+pub mod Told
+pub mod TurnEnds
+pub mod Turns
+pub mod Watches

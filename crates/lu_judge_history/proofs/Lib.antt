@@ -1,0 +1,11 @@
+pub mod Asking
+pub mod Carrying
+pub mod Given
+pub mod Keys
+pub mod Limits
+pub mod Marks
+pub mod Playing
+pub mod Replies
+pub mod Sources
+pub mod Steps
+pub mod Telling

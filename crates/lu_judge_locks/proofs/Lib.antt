@@ -1,0 +1,11 @@
+pub mod Asking
+pub mod Decided
+pub mod Filters
+pub mod Finds
+pub mod Heads
+pub mod Lasting
+pub mod Marks
+pub mod Notions
+pub mod Passing
+pub mod Turning
+pub mod Stepped

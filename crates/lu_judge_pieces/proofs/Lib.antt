@@ -1,0 +1,4 @@
+pub mod Filed
+pub mod Firsts
+pub mod Pages
+pub mod Searches

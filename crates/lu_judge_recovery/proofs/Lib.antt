@@ -1,0 +1,17 @@
+pub mod Lines
+pub mod Calling
+pub mod Coming
+pub mod Marking
+pub mod Every
+pub mod Sets
+pub mod Turning
+pub mod Closed
+pub mod Deciding
+pub mod Listed
+pub mod Wholly
+pub mod Slotted
+pub mod Judging
+pub mod AtLines
+pub mod Checks
+pub mod Searches
+pub mod Deeds

@@ -1,0 +1,12 @@
+pub mod Callbacks
+pub mod Clients
+pub mod Closings
+pub mod Failing
+pub mod Handing
+pub mod Known
+pub mod Marks
+pub mod Noted
+pub mod Rest
+pub mod Returns
+pub mod Shown
+pub mod Turns

@@ -1,0 +1,2 @@
+pub mod FormedLines
+pub mod LogLines

@@ -1,0 +1,14 @@
+pub mod Ahead
+pub mod Completed
+pub mod Counts
+pub mod FateLines
+pub mod HandedLines
+pub mod LearnedLines
+pub mod Listed
+pub mod LossLines
+pub mod MarkLines
+pub mod OfferLines
+pub mod SilentMessages
+pub mod SlotLines
+pub mod Tests
+pub mod Words

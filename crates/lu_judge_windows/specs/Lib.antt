@@ -1,0 +1,12 @@
+pub mod Bounds
+pub mod Counted
+pub mod Fates
+pub mod Handed
+pub mod Joins
+pub mod Learned
+pub mod Losses
+pub mod Lost
+pub mod Marks
+pub mod Offers
+pub mod Transactions
+pub mod Windows
