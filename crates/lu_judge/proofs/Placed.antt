@@ -2,12 +2,10 @@
 use Rattle.std.proofs.Common.{◌≡◌, List, [], ◌∷◌, refl, ◌∙◌, sym, ap, ◌++◌, append_assoc}
 use Rattle.std.specs.Prelude.{ℕ, reverse}
 use Rattle.std.proofs.lemmas.List.{reverse-append}
-use Rattle.lu_base.specs.declared.ids.At.{At}
 use Rattle.lu_trace.specs.declared.entries.Line.{Line}
-use Rattle.lu_laws.specs.Words.Pasts.{Past, UpTo}
+use Rattle.lu_laws.specs.Words.Pasts.{Past}
 use Rattle.lu_laws.specs.Laws.Messages.{Messages}
 use Rattle.lu_laws.specs.Holds.{HoldsBefore, Holds}
-use Rattle.lu_judge.specs.Firsts.{About}
 use Rattle.lu_judge.specs.Places.{Ordered, InOrder, PlacedIn, Placed}
 
 -- the later lines stand in order after the newest line

@@ -1,14 +1,11 @@
 -- The turn of the newest line, and what a line adds to it.
-use Rattle.std.proofs.Common.{◌≡◌, Bool, true, false, Option, Some, None, List, [], ◌∷◌, ◌++◌, map, refl, sym, subst, ap, ◌∙◌}
-use Rattle.std.specs.Prelude.{ℕ, ◌==◌, if◌then◌else◌, reverse}
-use Rattle.std.specs.Option.{option_map}
+use Rattle.std.proofs.Common.{◌≡◌, Bool, true, false, Option, Some, None, [], ◌∷◌, subst}
+use Rattle.std.specs.Prelude.{ℕ, ◌==◌, if◌then◌else◌}
 use Rattle.lu_base.specs.declared.ids.At.{At}
 use Rattle.lu_base.specs.declared.ids.TargetId.{TargetId}
 use Rattle.lu_base.specs.declared.ids.Xid.{Xid}
-use Rattle.lu_trace.specs.declared.entries.Entry.{Entry}
 use Rattle.lu_trace.specs.declared.entries.Entry.TheVariants.{Heard}
 use Rattle.lu_laws.specs.Words.Pasts.{Past, same_turn, or_else}
-use Rattle.lu_laws.specs.Words.Sends.{Sending, sending, taken, with_taken}
 use Rattle.lu_laws.specs.Words.Calls.{heard_in}
 use Rattle.lu_laws.specs.Laws.Messages.{Follows}
 use Rattle.lu_laws.proofs.Tests.{turn_is, same_turn_itself}

@@ -1,9 +1,8 @@
 -- What the later lines of a turn say, the rest of the turn says: no line after the first one of another turn is of this one.
-use Rattle.std.proofs.Common.{◌≡◌, Bool, true, false, List, [], ◌∷◌, refl, ap, ◌∙◌, subst}
-use Rattle.std.specs.Prelude.{ℕ, ◌&&◌, ◌||◌, ◌==◌, if◌then◌else◌, Option, Some, None}
+use Rattle.std.proofs.Common.{◌≡◌, Bool, true, false, List, [], ◌∷◌, refl, ap, subst}
+use Rattle.std.specs.Prelude.{ℕ, ◌&&◌, ◌||◌, if◌then◌else◌, Option, None}
 use Rattle.std.proofs.lemmas.Bool.{and_right, or_from}
 use Rattle.lu_base.specs.declared.ids.At.{At}
-use Rattle.lu_msg.specs.declared.answers.Answer.{Answer}
 use Rattle.lu_trace.specs.declared.entries.Entry.{Entry}
 use Rattle.lu_trace.specs.declared.entries.Entry.TheVariants.{Told, Send}
 use Rattle.lu_trace.specs.declared.entries.Line.{Line}

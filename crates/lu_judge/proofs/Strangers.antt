@@ -1,14 +1,14 @@
 -- Before the first line of a turn no line is of that turn: nothing is said, taken or heard in it yet.
-use Rattle.std.proofs.Common.{◌≡◌, Bool, true, false, List, [], ◌∷◌, refl}
-use Rattle.std.specs.Prelude.{ℕ, ◌&&◌, ◌==◌, Option, Some, None}
-use Rattle.std.proofs.lemmas.Bool.{and_left, and_right, or_from}
+use Rattle.std.proofs.Common.{◌≡◌, Bool, false, [], ◌∷◌, refl}
+use Rattle.std.specs.Prelude.{◌&&◌, Option, Some, None}
+use Rattle.std.proofs.lemmas.Bool.{and_right, or_from}
 use Rattle.lu_base.specs.declared.ids.At.{At}
 use Rattle.lu_trace.specs.declared.entries.Entry.{Entry}
 use Rattle.lu_trace.specs.declared.entries.Entry.TheVariants.{Take, Heard}
 use Rattle.lu_trace.specs.declared.entries.Line.{Line}
 use Rattle.lu_laws.specs.Words.Pasts.{Past, UpTo, same_turn, or_else}
 use Rattle.lu_laws.specs.Words.Scopes.{only_here, any_in, last_in}
-use Rattle.lu_laws.specs.Words.Sends.{Sending, taken}
+use Rattle.lu_laws.specs.Words.Sends.{taken}
 use Rattle.lu_laws.specs.Words.Calls.{heard_in}
 use Rattle.lu_laws.specs.Laws.Messages.{Follows}
 use Rattle.lu_judge.specs.Places.{Ordered, NoneOf, IsNew}
