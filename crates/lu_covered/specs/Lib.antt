@@ -2,6 +2,7 @@ pub mod TargetParts
 pub mod TargetStates
 pub mod TargetRows
 pub mod Calls
+pub mod Makes
 pub mod Imports
 pub mod ClientStates
 pub mod ClientRows

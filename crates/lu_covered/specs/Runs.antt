@@ -44,7 +44,7 @@ pub data Event : Type 0 where
 
 -- ---- which calls begin and which events come, so far
 
--- operations that calls become: all of the metadata target, but for a lookup of the root
+-- operations that calls become: all of the metadata target, but for a lookup of the root, which asks nobody
 abbrev pub IsAsked : Op → Type 0
 IsAsked (op.Lookup path) = path ≡ [] → ⊥
 IsAsked _ = Unit {0}
@@ -65,7 +65,7 @@ pub record MayCome (head : Head) (past : List Line) (c t n : ℕ) (m : Message) 
   pub client : IsAlive head past c
   pub sent : Sent past n (Target t) (Client c) m
 
--- a new request that would be granted a lock isn't among these rows yet: a lookup that finds its name
+-- a new request that would be granted a lock isn't among these rows yet: a reading that finds what it asks for
 abbrev pub NeedsNoLock : Head → List Line → ℕ → Message → Type 0
 NeedsNoLock head past t (Request r) = (slot_at r.who r.tag t past).taken < r.xid.0 → grants head.osts (tree_at head.osts t past) (asked r none) ≡ []
 NeedsNoLock head past t _ = Unit {0}

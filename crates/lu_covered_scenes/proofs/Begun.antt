@@ -19,7 +19,7 @@ use Rattle.lu_covered.specs.ClientStates.{asker_at}
 use Rattle.lu_covered.specs.ClientRows.{row_heeds, row_tick}
 use Rattle.lu_covered.specs.Runs as runs
 use Rattle.lu_covered.specs.Runs.{Head, Event, Comes, Ticks, Dies, row}
-use Rattle.lu_facts.proofs.Finds.{Began}
+use Rattle.lu_facts.proofs.Asked.{Began}
 use Rattle.lu_covered_scenes.proofs.Plain.{Begins, plain_begins, call_begins, heeds_plain, tick_plain}
 
 -- of the call that an event begins, if it begins one, this holds

@@ -7,7 +7,6 @@ use Rattle.lu_base.specs.declared.ids.At.{At}
 use Rattle.lu_base.specs.declared.ids.Node.{Node}
 use Rattle.lu_base.specs.declared.ids.Node.TheVariants.{Client, Target}
 use Rattle.lu_msg.specs.declared.calls.Call.{Call as CallOf}
-use Rattle.lu_msg.specs.declared.calls.Call.TheVariants as call
 use Rattle.lu_msg.specs.declared.messages.Message.{Message}
 use Rattle.lu_net.specs.declared.links.Posted.{Posted}
 use Rattle.lu_net.specs.declared.links.Sent.{Sent as SentMessage}
@@ -22,14 +21,15 @@ use Rattle.lu_client_rows.specs.Calls.{is_dead}
 use Rattle.lu_client_rows.specs.Rows as client
 use Rattle.lu_table.specs.Heads.{Head}
 use Rattle.lu_table.specs.Runs.{EventAt, Turn, lines_of, has_failed, row_at, IsRun}
-use Rattle.lu_table.specs.Scenarios.{Config, Next, Stops, Fails, Goes, head_of, past_of, is_full, posted, with_turn, left, Disks, start_fails, start_turn, is_down, turn_of, due, arrives, due_alive, comes, runs, next_by, Leads, here, more, start}
+use Rattle.lu_table.specs.Scenarios.{Config, Next, Stops, Fails, Goes, head_of, past_of, is_full, posted, with_turn, left, Disks, start_fails, start_turn, is_down, turn_of, due, arrives, due_alive, comes, runs, next_by, with_stripes, Leads, here, more, start}
 use Rattle.lu_covered.specs.TargetStates.{count_at}
 use Rattle.lu_covered.specs.Runs as few
 use Rattle.lu_covered.specs.Runs.{Event, Begins, Comes, Ticks, Dies}
 use Rattle.lu_guards.proofs.Guards.{Grown}
 use Rattle.lu_guards.proofs.Obey.{grown}
 use Rattle.lu_facts.proofs.Sides.{from_target, from_client}
-use Rattle.lu_facts.proofs.Finds.{Began, needs_none}
+use Rattle.lu_facts.proofs.Asked.{Began}
+use Rattle.lu_facts.proofs.Finds.{needs_none}
 use Rattle.lu_after.specs.Posts.{all_sent, messages}
 use Rattle.lu_after.specs.InTable.{next_at, IsStamped}
 use Rattle.lu_after.proofs.Posts.{sent_at_is, spend_messages, turn_messages}
@@ -39,7 +39,7 @@ use Rattle.lu_covering.proofs.Whole.{few_turns, few_lines}
 use Rattle.lu_covered_scenes.specs.Covered.{IsCovered}
 use Rattle.lu_covered_scenes.proofs.Begun.{BeginsOf, row_begins, turn_began}
 use Rattle.lu_covered_scenes.proofs.Counts.{turn_counts, row_made}
-use Rattle.lu_covered_scenes.proofs.Lines.{Calls, AllKnown, lines_known, apart}
+use Rattle.lu_covered_scenes.proofs.Lines.{Calls, AllKnown, lines_known, all_miss}
 use Rattle.lu_covered_scenes.proofs.Nodes.{to_client}
 use Rattle.lu_covered_scenes.proofs.Rows.{event_at, row_same, turn_covered, no_calls, whole_turn, covered_unfailed}
 
@@ -191,7 +191,7 @@ module _ (scene : Scene) (covered : IsCovered scene) (disks : Disks) where
             names = from.0;
             numbers = λ makes. subst (λ v. count_at v past < 4294967295) (sym from.0) (omega arith);
             sent = asked;
-            lock = needs_none small past g t from.1.0 n m.message asked (λ path looked made. apart scene covered path (begun (call.Lookup path) looked) (begun (call.Mkdir path) made));
+            lock = needs_none small past g t from.1.0 n m.message asked (all_miss scene covered past begun);
           })
 
   arrives_is : (n : ℕ) (from : Node) (m : Message) (node : Node) → arrives head disks n from m node ≡ event_at node (Comes n from m)
@@ -229,9 +229,8 @@ module _ (scene : Scene) (covered : IsCovered scene) (disks : Disks) where
   step_keeps c [] f known = λ d e. absurd (cc)
   step_keeps c (Call who slot call ∷ rest) f known =
       let k = known.0 in
-      subst (λ (v : CallOf). Kept (due_alive head disks c who (client.Begins slot v) rest)) (sym k.plain)
-      (alive_keeps c who (Begins slot call) rest f known.1 k.among
-      (λ up. record { client = record { one = k.one; alive = up }; small = k.small; limits = k.limits; op = k.asks.op; becomes = k.asks.becomes; asked = k.asks.asked }))
+      alive_keeps c who (Begins slot (with_stripes call)) rest f known.1 k.among
+      (λ up. record { client = record { one = k.one; alive = up }; small = k.small; limits = k.limits; op = k.asks.op; becomes = k.asks.becomes; asked = k.asks.asked })
   step_keeps c (Run ∷ rest) f known = runs_keeps c (least_unspent c.posts) rest (Run ∷ rest) (Run ∷ rest) f known.1 known known
   step_keeps c (RunSome zero ∷ rest) f known = moved (left c rest) (record { sound = f.sound; lines = known.1; begun = f.begun })
   step_keeps c (RunSome (suc k) ∷ rest) f known = runs_keeps c (least_unspent c.posts) rest (RunSome (suc k) ∷ rest) (RunSome k ∷ rest) f known.1 known known

@@ -1,43 +1,48 @@
--- The scenarios whose runs the theorem covers so far: clients make, remove and look up directories, messages come or
--- are lost, time goes on at clients and at the metadata target, clients die. A lookup that finds its name is granted a
--- lock, so only one of a path that no line makes is covered.
+-- The scenarios whose runs the theorem covers so far: clients begin calls on names, messages come or are lost, time goes on at
+-- clients and at the metadata target, clients die. A reading that finds what it asks for is granted a lock, so only one of a path
+-- that no line makes is covered.
 use Rattle.std.specs.Prelude.{◌≡◌, ◌≢◌, ℕ, List, [], ◌∷◌, All, ◌⊎◌}
 use Rattle.lu_base.specs.declared.ids.Node.TheVariants.{Client, Target}
 use Rattle.lu_msg.specs.declared.calls.Call.{Call as CallOf}
-use Rattle.lu_msg.specs.declared.calls.Call.TheVariants.{Mkdir, Rmdir, Lookup}
+use Rattle.lu_msg.specs.declared.calls.Call.TheVariants.{Lookup, Stat, List as Lists, Layout, Mkdir, Create, Link, Unlink, Rmdir, Rename, Chmod}
 use Rattle.lu_scene.specs.declared.scene.Scene.{Scene}
 use Rattle.lu_scene.specs.declared.scene.SceneLine.{SceneLine}
 use Rattle.lu_scene.specs.declared.scene.SceneLine.TheVariants.{Call, Run, RunSome, Deliver, Lose, Tick, Die}
 use Rattle.lu_table.specs.Limits.{KeepsLimits}
+use Rattle.lu_covered.specs.Makes.{Path, CallMakes}
 
 -- ---- which paths are made
 
--- a call makes a directory of this path
-abbrev pub CallMakes : CallOf → List (List ℕ) → Type 0
-CallMakes (Mkdir made) path = path ≡ made
-CallMakes _ path = ⊥
-
--- a line does
-abbrev pub Makes : SceneLine → List (List ℕ) → Type 0
+-- a line's call makes this path
+abbrev pub Makes : SceneLine → Path → Type 0
 Makes (Call client slot call) path = CallMakes call path
 Makes _ path = ⊥
 
--- some line makes a directory of this path
-abbrev pub IsMade : List SceneLine → List (List ℕ) → Type 0
+-- some line does
+abbrev pub IsMade : List SceneLine → Path → Type 0
 IsMade [] path = ⊥
 IsMade (line ∷ lines) path = Makes line path ⊎ IsMade lines path
 
 -- ---- which lines are covered
 
--- a call that is covered where these are the paths that are made: a lookup of another path, and not of the root
-abbrev pub IsCallCovered : (List (List ℕ) → Type 0) → CallOf → Type 0
-IsCallCovered Made (Mkdir path) = Unit {0}
-IsCallCovered Made (Rmdir path) = Unit {0}
+-- A call that is covered where these are the paths that are made: one that changes names, or one that reads another path. Of
+-- the root a `lookup` asks nobody, and a `stat` and a `list` are granted its lock.
+abbrev pub IsCallCovered : (Path → Type 0) → CallOf → Type 0
 IsCallCovered Made (Lookup path) = (path ≢ []) × ¬ Made path
+IsCallCovered Made (Stat path) = (path ≢ []) × ¬ Made path
+IsCallCovered Made (Lists path) = (path ≢ []) × ¬ Made path
+IsCallCovered Made (Layout path) = ¬ Made path
+IsCallCovered Made (Mkdir path) = Unit {0}
+IsCallCovered Made (Create path stripes) = Unit {0}
+IsCallCovered Made (Link old new) = Unit {0}
+IsCallCovered Made (Unlink path) = Unit {0}
+IsCallCovered Made (Rmdir path) = Unit {0}
+IsCallCovered Made (Rename old new) = Unit {0}
+IsCallCovered Made (Chmod path mode) = Unit {0}
 IsCallCovered Made _ = ⊥
 
 -- a line that is covered where these are the paths that are made
-abbrev pub IsLineCovered : (List (List ℕ) → Type 0) → SceneLine → Type 0
+abbrev pub IsLineCovered : (Path → Type 0) → SceneLine → Type 0
 IsLineCovered Made (Call client slot call) = IsCallCovered Made call
 IsLineCovered Made Run = Unit {0}
 IsLineCovered Made (RunSome turns) = Unit {0}

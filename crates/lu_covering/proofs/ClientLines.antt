@@ -26,6 +26,9 @@ use Rattle.lu_guards.proofs.Only.{grown_of}
 use Rattle.lu_guards.proofs.Parts.{flights_is}
 use Rattle.lu_facts.proofs.Groups.{Acted, CallOf, Holds}
 use Rattle.lu_facts.proofs.All.{holds}
+use Rattle.lu_facts.proofs.OnNames.{IsOnNames, becomes_on_names, IsPlain}
+use Rattle.lu_facts.proofs.Refused.{acted_plain}
+use Rattle.lu_lawful.proofs.Story.{acted_whole}
 
 -- ---- calls
 
@@ -38,16 +41,17 @@ some_is a b e = cc
 
 -- its operation brings no lock but those of the reply
 pub brings_none : (call : Call) (o : Op) → operation_of call ≡ Some o → (r : ReplyTo) (a : Answer) → granted_lock o r a ≡ []
-brings_none (call.Lookup path) o e r a = subst (λ (x : Op). granted_lock x r a ≡ []) (some_is (op.Lookup path) o e) refl
-brings_none (call.Mkdir path) o e r a = subst (λ (x : Op). granted_lock x r a ≡ []) (some_is (op.Mkdir path) o e) refl
-brings_none (call.Rmdir path) o e r a = subst (λ (x : Op). granted_lock x r a ≡ []) (some_is (op.Rmdir path) o e) refl
-brings_none c o e r a = absurd (cc)
+brings_none c o e r a = by o (becomes_on_names c o e)
+  where
+    by : (o : Op) → IsOnNames o → granted_lock o r a ≡ []
+    by (op.Enqueue resource mode extent) is = absurd is
+    by o is = refl
 
 -- ---- lines
 
--- what a reply brings: no locks, of the metadata target, to an operation on names
+-- what a reply brings: no locks, of the metadata target, to an operation on names, and an answer that is told as it is
 abbrev pub FewReply : ℕ → Flight → ReplyTo → Type 0
-FewReply t f r = (t ≡ 0) × (r.locks ≡ []) × ((call : Call) × (operation_of call ≡ Some f.op))
+FewReply t f r = (t ≡ 0) × (r.locks ≡ []) × ((call : Call) × (operation_of call ≡ Some f.op)) × IsPlain r.answer
 
 abbrev pub Few : Entry → Type 0
 Few (Take n from m) = Unit {0}
@@ -85,7 +89,12 @@ pub few_heard : (head : Head) (past : List Line) → Holds head past → Grown h
 few_heard head past h g c t f r names ok =
     let m = (h.at t).done.sent (node.Target ok.from) (node.Client c) (message.Reply r) ok.was in
     let free = acted_free head (only t past) m.0 (grown_of head t past g) m.1 in
-    (names, ap (λ (y : ReplyTo). y.locks) m.2 ∙ free, named f.slot (h.asks.fly_calls c t f (subst (λ (fs : List Flight). In f fs) (sym (flights_is c t past)) ok.flying)))
+    let plain = acted_plain head past m.0 g (acted_whole t past m.0 m.1) in (
+      names,
+      ap (λ (y : ReplyTo). y.locks) m.2 ∙ free,
+      named f.slot (h.asks.fly_calls c t f (subst (λ (fs : List Flight). In f fs) (sym (flights_is c t past)) ok.flying)),
+      subst (λ (y : ReplyTo). IsPlain y.answer) (sym m.2) plain,
+    )
   where
     named : (s : Option ℕ) → CallOf past c s f.op → (call : Call) × (operation_of call ≡ Some f.op)
     named None k = absurd k

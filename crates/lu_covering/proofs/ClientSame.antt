@@ -1,5 +1,5 @@
 -- Each turn of a client in the covered runs has the same entries in both tables.
-use Rattle.std.proofs.Common.{◌≡◌, ℕ, zero, suc, ◌+◌, ◌<◌, Bool, true, false, List, [], ◌∷◌, ◌++◌, Option, Some, None, refl, sym, subst, ap, ◌∙◌, arith}
+use Rattle.std.proofs.Common.{◌≡◌, ℕ, zero, suc, ◌+◌, ◌<◌, Bool, true, false, List, [], ◌∷◌, ◌++◌, Option, Some, None, refl, sym, subst, ap, ◌∙◌, arith, pos}
 use Rattle.std.specs.Prelude.{nat_eq, ◌&&◌, length}
 use Rattle.std.proofs.lemmas.Bool.{eqb-true}
 use Rattle.lu_base.specs.declared.ids.At.{At}
@@ -21,7 +21,7 @@ use Rattle.lu_words.specs.Carried.{Flight, Asked, Answered, Stage, Running}
 use Rattle.lu_words.specs.Words.{Entry, Send, Take, Tick, Begin, Heard, Told, Queues, same_life}
 use Rattle.lu_client_rows.specs.Calls.{call_on, calls_from, calls_after}
 use Rattle.lu_client_rows.specs.Imports.{Import, import_of, without_flight}
-use Rattle.lu_client_rows.specs.Known.{lookup_known, found_at_path}
+use Rattle.lu_client_rows.specs.Known.{lookup_known, list_known, layout_known, directory_known, file_known, found_at_path}
 use Rattle.lu_client_rows.specs.Messages.{find_flight, hears_flight, hears_fitting, hears, replied, is_present, comes_by, heeds, holds, learns, size_with}
 use Rattle.lu_client_rows.specs.Recovery.{ticks, on_calls, where_stage}
 use Rattle.lu_client_rows.specs.Rows.{rests, row_call, row_takes, row_tick}
@@ -36,6 +36,7 @@ use Rattle.lu_covered.specs.ClientRows as few
 use Rattle.lu_covered.specs.ClientStates.{Asker}
 use Rattle.lu_covered.specs.Runs.{IsAsked}
 use Rattle.lu_guards.proofs.Lists.{self}
+use Rattle.lu_facts.proofs.OnNames.{IsOnNames, becomes_on_names, IsPlain}
 use Rattle.lu_covering.proofs.ClientLines.{FewReply, brings_none, some_is}
 use Rattle.lu_covering.proofs.ClientAlike.{Same, AllRest, Imports, Alike}
 use Rattle.lu_covering.proofs.ClientTurns.{nil_right, Idle, passes_not, passes_one, rests_one, all_as, with_flights, alike_take, alike_send, alike_tick, alike_begin, alike_told, alike_queues, alike_heard, call_next, call_same}
@@ -102,23 +103,63 @@ calls_long n (c ∷ calls) e = rw (calls_long (suc n) calls e) refl
 
 -- ---- a call begins
 
--- a lookup of a path that isn't the root's: nothing is known
-unknown : (k : Client) (path : List (List ℕ)) → k.facts ≡ [] → (path ≡ [] → ⊥) → lookup_known (found_at_path (notes_of k) path) ≡ None
-unknown k [] e f = absurd (f refl)
-unknown k (name ∷ path) e f = rw e refl
+-- where no facts are known, nothing is known of what a path leads to, but that of the root
+module _ (k : Client) (none : k.facts ≡ []) where
+  unknown : (path : List (List ℕ)) → (path ≡ [] → ⊥) → lookup_known (found_at_path (notes_of k) path) ≡ None
+  unknown [] f = absurd (f refl)
+  unknown (name ∷ path) f = rw none refl
 
+  unknown_list : (path : List (List ℕ)) → list_known (notes_of k) (found_at_path (notes_of k) path) ≡ None
+  unknown_list [] = rw none refl
+  unknown_list (name ∷ path) = rw none refl
+
+  unknown_layout : (path : List (List ℕ)) → layout_known (notes_of k) (found_at_path (notes_of k) path) ≡ None
+  unknown_layout [] = refl
+  unknown_layout (name ∷ path) = rw none refl
+
+  unknown_directory : (path : List (List ℕ)) → directory_known (notes_of k) (found_at_path (notes_of k) path) ≡ None
+  unknown_directory [] = rw none refl
+  unknown_directory (name ∷ path) = rw none refl
+
+  unknown_file : (path : List (List ℕ)) → file_known (notes_of k) (found_at_path (notes_of k) path) ≡ None
+  unknown_file [] = refl
+  unknown_file (name ∷ path) = rw none refl
+
+-- a call begins with what it asks
 asks_so : (at : At) (slot : ℕ) (k : Client) (r : Running) (c : Call) (o : Op) → k.facts ≡ [] → operation_of c ≡ Some o → IsAsked o → starts at slot c r k ≡ Queues 0 (queued_for slot o) ∷ []
-asks_so at slot k r (call.Lookup path) o e is asked =
-    let same : op.Lookup path ≡ o = some_is (op.Lookup path) o is in
-    rw (unknown k path e (subst IsAsked (sym same) asked)) (ap (λ (x : Op). Queues 0 (queued_for slot x) ∷ []) same)
-asks_so at slot k r (call.Mkdir path) o e is asked = ap (λ (x : Op). Queues 0 (queued_for slot x) ∷ []) (some_is (op.Mkdir path) o is)
-asks_so at slot k r (call.Rmdir path) o e is asked = ap (λ (x : Op). Queues 0 (queued_for slot x) ∷ []) (some_is (op.Rmdir path) o is)
-asks_so at slot k r c o e is asked = absurd (cc)
+asks_so at slot k r c o e is asked = by c is
+  where
+    queues : (p : Op) → Some p ≡ Some o → Queues 0 (queued_for slot p) ∷ [] ≡ Queues 0 (queued_for slot o) ∷ []
+    queues p same = ap (λ (x : Op). Queues 0 (queued_for slot x) ∷ []) (some_is p o same)
+
+    by : (c : Call) → operation_of c ≡ Some o → starts at slot c r k ≡ Queues 0 (queued_for slot o) ∷ []
+    by (call.Lookup path) is = rw (unknown k e path (subst IsAsked (sym (some_is (op.Lookup path) o is)) asked)) (queues (op.Lookup path) is)
+    by (call.Stat path) is = rw (unknown_directory k e path, unknown_file k e path) (queues (op.Stat path) is)
+    by (call.List path) is = rw (unknown_list k e path) (queues (op.List path) is)
+    by (call.Layout path) is = rw (unknown_layout k e path) (queues (op.Layout path) is)
+    by (call.Mkdir path) is = queues (op.Mkdir path) is
+    by (call.Create path None) is = queues (op.Create path 1048576 (pos 1)) is
+    by (call.Create path (Some stripes)) is = queues (op.Create path stripes.0 stripes.1) is
+    by (call.Link old new) is = queues (op.Link old new) is
+    by (call.Unlink path) is = queues (op.Unlink path) is
+    by (call.Rmdir path) is = queues (op.Rmdir path) is
+    by (call.Rename old new) is = queues (op.Rename old new) is
+    by (call.Chmod path mode) is = queues (op.Chmod path mode) is
+    by c is = absurd (cc)
 
 begins_so : (at : At) (slot : ℕ) (k : Client) (c : Call) (o : Op) → operation_of c ≡ Some o → begins at slot c k ≡ Begin slot (begun at c) ∷ []
 begins_so at slot k (call.Lookup path) o is = refl
+begins_so at slot k (call.Stat path) o is = refl
+begins_so at slot k (call.List path) o is = refl
+begins_so at slot k (call.Layout path) o is = refl
 begins_so at slot k (call.Mkdir path) o is = refl
+begins_so at slot k (call.Create path None) o is = refl
+begins_so at slot k (call.Create path (Some stripes)) o is = refl
+begins_so at slot k (call.Link old new) o is = refl
+begins_so at slot k (call.Unlink path) o is = refl
 begins_so at slot k (call.Rmdir path) o is = refl
+begins_so at slot k (call.Rename old new) o is = refl
+begins_so at slot k (call.Chmod path mode) o is = refl
 begins_so at slot k c o is = absurd (cc)
 
 few_asks : (a : Asker) (at : At) (slot : ℕ) (c : Call) (o : Op) (x : Option Op) → x ≡ Some o
@@ -128,32 +169,20 @@ few_asks a at slot c o (Some p) e = ap (λ (y : Op). few.row_asks a at slot c (r
 
 -- ---- a reply is heard
 
-told_plain : (at : At) (slot : ℕ) (acted : At) (c : Call) (o : Op) → operation_of c ≡ Some o → (x : Answer) (r : Running) (k : Client) → answers at slot acted x c r k ≡ tells slot r acted x None
-told_plain at slot acted (call.Lookup path) o e x r k = by x
-  where
-    by : (x : Answer) → answers at slot acted x (call.Lookup path) r k ≡ tells slot r acted x None
-    by (answer.OpenFile fid number layout) = refl
-    by (answer.FileStat fid mode links layout) = refl
-    by x = refl
-told_plain at slot acted (call.Mkdir path) o e x r k = by x
-  where
-    by : (x : Answer) → answers at slot acted x (call.Mkdir path) r k ≡ tells slot r acted x None
-    by (answer.OpenFile fid number layout) = refl
-    by (answer.FileStat fid mode links layout) = refl
-    by x = refl
-told_plain at slot acted (call.Rmdir path) o e x r k = by x
-  where
-    by : (x : Answer) → answers at slot acted x (call.Rmdir path) r k ≡ tells slot r acted x None
-    by (answer.OpenFile fid number layout) = refl
-    by (answer.FileStat fid mode links layout) = refl
-    by x = refl
-told_plain at slot acted c o e x r k = absurd (cc)
+told_plain : (at : At) (slot : ℕ) (acted : At) (c : Call) (x : Answer) → IsPlain x → (r : Running) (k : Client) → answers at slot acted x c r k ≡ tells slot r acted x None
+told_plain at slot acted c (answer.OpenFile fid number layout) plain r k = absurd plain
+told_plain at slot acted c (answer.FileStat fid mode links layout) plain r k = absurd plain
+told_plain at slot acted c x plain r k = refl
 
 heeds_nothing : (t : ℕ) (f : Flight) (c : Call) (o : Op) → operation_of c ≡ Some o → (r : ReplyTo) (x : Answer) (k : Client) → heeds t f o r x k ≡ []
-heeds_nothing t f (call.Lookup path) o e r x k = subst (λ (y : Op). heeds t f y r x k ≡ []) (some_is (op.Lookup path) o e) refl
-heeds_nothing t f (call.Mkdir path) o e r x k = subst (λ (y : Op). heeds t f y r x k ≡ []) (some_is (op.Mkdir path) o e) refl
-heeds_nothing t f (call.Rmdir path) o e r x k = subst (λ (y : Op). heeds t f y r x k ≡ []) (some_is (op.Rmdir path) o e) refl
-heeds_nothing t f c o e r x k = absurd (cc)
+heeds_nothing t f c o e r x k = by o (becomes_on_names c o e)
+  where
+    by : (o : Op) → IsOnNames o → heeds t f o r x k ≡ []
+    by (op.Enqueue resource mode extent) is = absurd is
+    by (op.Get resource cookie page) is = absurd is
+    by (op.Put resource cookie offset bytes) is = absurd is
+    by (op.Cut resource cookie size) is = absurd is
+    by o is = refl
 
 hears_so : (f : Flight) (r : ReplyTo) (k : Client) → FewReply 0 f r → hears_flight 0 r f k ≡ Heard 0 f r ∷ []
 hears_so f r k p =
@@ -251,7 +280,7 @@ module _ (limits : Limits) (a : Asker) (flight : limits.flight ≡ a.limit) (nam
       let goes_so : goes at s k1 ≡ told ∷ [] =
       ap (λ (x : Option Running). goes_on at s k1 x) own
       ∙ ap (λ (x : Stage). goes_at at s x run k1) waits.0.0
-      ∙ told_plain at s r.at running.call waits.0.2.0 waits.0.2.1 r.answer run k1
+      ∙ told_plain at s r.at running.call r.answer few_reply.3 run k1
       ∙ ap (λ (names : List LockName). told ∷ unpins names) waits.0.1
       in
       let others = other_heard s f r serves k0.calls (same_take n from m k.calls idle) in

@@ -1,6 +1,6 @@
--- Which runs of the whole table the theorem covers so far: the calls that begin look up, make and remove directories, and no
--- target grants a lock, commits, crashes, boots, closes, passes a command over or fails. Whatever messages are lost, repeated
--- or late, and whoever dies, is covered.
+-- Which runs of the whole table the theorem covers so far: the calls that begin are on names, but for `open`, and no target
+-- grants a lock, commits, crashes, boots, closes, passes a command over or fails. Whatever messages are lost, repeated or late,
+-- and whoever dies, is covered.
 use Rattle.std.specs.Prelude.{◌≡◌, List, [], ◌∷◌, Some}
 use Rattle.lu_msg.specs.declared.operations.Op.{Op}
 use Rattle.lu_words.specs.Carried.{Running}
@@ -10,7 +10,7 @@ use Rattle.lu_covered.specs.Calls.{operation_of}
 use Rattle.lu_table.specs.Runs.{Turn}
 use Rattle.lu_covered.specs.Runs.{IsAsked, Head as CoveredHead, Turn as CoveredTurn}
 
--- of the calls that begin: lookups but that of the root, mkdir, rmdir
+-- of the calls that begin: it becomes an operation that is asked, as all on names do but an `open` and a `lookup` of the root
 pub record IsCoveredCall (r : Running) : Type 0 where
   pub op : Op
   pub becomes : operation_of r.call ≡ Some op

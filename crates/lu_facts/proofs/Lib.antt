@@ -9,4 +9,11 @@ pub mod Times
 pub mod Replies
 pub mod All
 pub mod Sides
+pub mod OnNames
+pub mod Asked
+pub mod Ways
+pub mod Grafts
+pub mod Named
+pub mod Readings
 pub mod Finds
+pub mod Refused

@@ -30,7 +30,7 @@ use Rattle.lu_guards.proofs.Guards.{Grown}
 use Rattle.lu_facts.proofs.Groups.{Meant}
 use Rattle.lu_facts.proofs.All.{holds}
 use Rattle.lu_facts.proofs.Sides.{sent_only}
-use Rattle.lu_lawful.proofs.Three.{IsThree, becomes_three}
+use Rattle.lu_facts.proofs.OnNames.{IsOnNames, becomes_on_names}
 use Rattle.lu_table.specs.Heads.{Head}
 use Rattle.lu_table.specs.Runs.{client_of}
 use Rattle.lu_covering.specs.Covered.{covered_head}
@@ -40,30 +40,38 @@ use Rattle.lu_covering.proofs.Heard.{waited}
 use Rattle.lu_covering.proofs.Small.{client_knows}
 use Rattle.lu_client_turns.specs.Comings.{is_short, is_in_file, may_answer, may_fit, may_reply, may_come}
 
--- ---- what an answer to one of the three operations brings
+-- ---- what an answer to an operation on names brings
 
-granted_fits : (o : Op) (cookie : Cookie) (extent : Extent) (size : ℕ) → IsThree o → answer_fits o (answer.Granted cookie extent size) ≡ true → ⊥
+granted_fits : (o : Op) (cookie : Cookie) (extent : Extent) (size : ℕ) → IsOnNames o → answer_fits o (answer.Granted cookie extent size) ≡ true → ⊥
 granted_fits (op.Lookup path) cookie extent size is fits = cc
+granted_fits (op.Stat path) cookie extent size is fits = cc
+granted_fits (op.List path) cookie extent size is fits = cc
+granted_fits (op.Layout path) cookie extent size is fits = cc
 granted_fits (op.Mkdir path) cookie extent size is fits = cc
+granted_fits (op.Create path stripe count) cookie extent size is fits = cc
+granted_fits (op.Link old new) cookie extent size is fits = cc
+granted_fits (op.Unlink path) cookie extent size is fits = cc
 granted_fits (op.Rmdir path) cookie extent size is fits = cc
+granted_fits (op.Rename old new) cookie extent size is fits = cc
+granted_fits (op.Chmod path mode) cookie extent size is fits = cc
 granted_fits _ cookie extent size is fits = absurd is
 
-short : (o : Op) (a : Answer) → IsThree o → answer_fits o a ≡ true → is_short (size_with a) ≡ true
+short : (o : Op) (a : Answer) → IsOnNames o → answer_fits o a ≡ true → is_short (size_with a) ≡ true
 short o (answer.Granted cookie extent size) is fits = absurd (granted_fits o cookie extent size is fits)
 short o _ is fits = refl
 
-in_file : (o : Op) → IsThree o → is_in_file o ≡ true
-in_file (op.Lookup path) is = refl
-in_file (op.Mkdir path) is = refl
-in_file (op.Rmdir path) is = refl
-in_file _ is = absurd is
+in_file : (o : Op) → IsOnNames o → is_in_file o ≡ true
+in_file (op.Get resource cookie page) is = absurd is
+in_file (op.Put resource cookie offset bytes) is = absurd is
+in_file (op.Cut resource cookie size) is = absurd is
+in_file _ is = refl
 
 answers : (r : ReplyTo) (f : Flight) (k : Client) → FewReply 0 f r → answer_fits f.op r.answer ≡ true → may_answer 0 r f k ≡ true
 answers r f k few fits =
     let call = few.2.0 in
-    let three = becomes_three call f.op few.2.1 in
+    let on_names = becomes_on_names call f.op few.2.1 in
     let none : brought f.op r ≡ [] = ap (λ (locks : List Lock). locks ++ granted_lock f.op r r.answer) few.1 ∙ brings_none call f.op few.2.1 r r.answer in
-    rw (none, short f.op r.answer three fits, in_file f.op three) refl
+    rw (none, short f.op r.answer on_names fits, in_file f.op on_names) refl
 
 -- ---- a reply
 

@@ -26,7 +26,7 @@ use Rattle.lu_facts.proofs.Lines.{flew_whole}
 use Rattle.lu_facts.proofs.All.{holds}
 use Rattle.lu_facts.proofs.Sides.{sent_only}
 use Rattle.lu_guards.proofs.Lists.{self}
-use Rattle.lu_lawful.proofs.Three.{IsThree, becomes_three}
+use Rattle.lu_facts.proofs.OnNames.{IsOnNames, becomes_on_names}
 
 -- ---- the least free tag isn't above the number of requests in flight
 
@@ -59,11 +59,11 @@ free_within flights =
 
 record Flying (head : Head) (f : Flight) : Type 0 where
   tag : f.tag < head.flight
-  op : IsThree f.op
+  op : IsOnNames f.op
 
-asked_three : (past : List Line) (c : ℕ) (slot : Option ℕ) (o : Op) → CallOf past c slot o → IsThree o
-asked_three past c None o k = absurd k
-asked_three past c (Some slot) o k = becomes_three k.0.call o k.3
+asked_on_names : (past : List Line) (c : ℕ) (slot : Option ℕ) (o : Op) → CallOf past c slot o → IsOnNames o
+asked_on_names past c None o k = absurd k
+asked_on_names past c (Some slot) o k = becomes_on_names k.0.call o k.3
 
 flies_one : (head : Head) (past : List Line) (c t : ℕ) (f : Flight) → Grown head past → FliesOk head (only t past) c f → Flying head f
 flies_one head past c t f g ok =
@@ -73,7 +73,7 @@ flies_one head past c t f g ok =
     let waits : In ok.front (queue_at c t past) = subst (λ (queue : List Queued). In ok.front queue) (sym (queue_is c t past ∙ ok.queue)) (inl refl) in
     record {
       tag = omega arith;
-      op = subst IsThree (ap (λ (v : Flight). v.op) (sym ok.is)) (asked_three past c ok.front.slot ok.front.op ((holds head past g).asks.queue_calls c t ok.front waits));
+      op = subst IsOnNames (ap (λ (v : Flight). v.op) (sym ok.is)) (asked_on_names past c ok.front.slot ok.front.op ((holds head past g).asks.queue_calls c t ok.front waits));
     }
 
 flew_one : (head : Head) (past : List Line) → Grown head past → (c : ℕ) (f : Flight) → Flew past c f → Flying head f
@@ -89,7 +89,7 @@ flew_one head (l ∷ past) g c f i = by l.at.node l.entry g.0.of (flew_one head 
 
 pub record Fitting (head : Head) (r : RequestOf) : Type 0 where
   pub tag : r.tag < head.flight
-  pub op : IsThree r.op
+  pub op : IsOnNames r.op
 
 pub request_fits : (head : Head) (past : List Line) → Grown head past → (n : ℕ) (from : Node) (t : ℕ) (r : RequestOf) → Sent past n from (Target t) (message.Request r) → Fitting head r
 request_fits head past g n from t r s =
@@ -97,5 +97,5 @@ request_fits head past g n from t r s =
     let flying = flew_one head past g r.who.client m.0 (flew_whole 0 past r.who.client m.0 m.1) in
     record {
       tag = subst (λ v. v < head.flight) (ap (λ (v : RequestOf). v.tag) (sym m.2)) flying.tag;
-      op = subst IsThree (ap (λ (v : RequestOf). v.op) (sym m.2)) flying.op;
+      op = subst IsOnNames (ap (λ (v : RequestOf). v.op) (sym m.2)) flying.op;
     }

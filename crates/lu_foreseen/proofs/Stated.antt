@@ -29,8 +29,8 @@ use Rattle.lu_covered.specs.Runs as few
 use Rattle.lu_guards.proofs.Guards.{Grown}
 use Rattle.lu_guards.proofs.Obey.{grown}
 use Rattle.lu_facts.proofs.Sides.{from_target, from_client}
+use Rattle.lu_facts.proofs.OnNames.{IsOnNames}
 use Rattle.lu_facts.proofs.Finds.{needs_none}
-use Rattle.lu_lawful.proofs.Three.{IsThree}
 use Rattle.lu_after.proofs.Posts.{sent_at_is}
 use Rattle.lu_covering.specs.Covered.{covered_head}
 use Rattle.lu_covering.proofs.TargetAlike.{Alike}
@@ -38,7 +38,7 @@ use Rattle.lu_covering.proofs.Small.{target_knows}
 use Rattle.lu_covering.proofs.Waiting.{none_waits}
 use Rattle.lu_covering.proofs.Whole.{few_turns, few_lines}
 use Rattle.lu_covered_scenes.specs.Covered.{IsCovered}
-use Rattle.lu_covered_scenes.proofs.Lines.{AllKnown, IsKnown, apart}
+use Rattle.lu_covered_scenes.proofs.Lines.{AllKnown, IsKnown, all_miss}
 use Rattle.lu_covered_scenes.proofs.Nodes.{to_client}
 use Rattle.lu_covered_scenes.proofs.Runs.{Follows, leads_follow}
 use Rattle.lu_nodes.specs.Foreseen.{MayHave, IsForeseen, IsTickForeseen}
@@ -48,11 +48,19 @@ use Rattle.lu_foreseen.proofs.Answered.{comes}
 use Rattle.lu_foreseen.proofs.Numbers.{MayBe, numbered}
 use Rattle.lu_foreseen.proofs.Ticks.{ticks_few}
 
--- the three operations are of the metadata target's service
-names_take : (o : Op) → IsThree o → Takes Mdt o
+-- operations on names are of the metadata target's service
+names_take : (o : Op) → IsOnNames o → Takes Mdt o
 names_take (op.Lookup path) is = tt
+names_take (op.Stat path) is = tt
+names_take (op.List path) is = tt
+names_take (op.Layout path) is = tt
 names_take (op.Mkdir path) is = tt
+names_take (op.Create path size count) is = tt
+names_take (op.Link old new) is = tt
+names_take (op.Unlink path) is = tt
 names_take (op.Rmdir path) is = tt
+names_take (op.Rename old new) is = tt
+names_take (op.Chmod path mode) is = tt
 names_take _ is = absurd is
 
 has_room : (c : Config) → is_full c ≡ false → length c.turns < 65536
@@ -103,7 +111,7 @@ module _ (scene : Scene) (covered : IsCovered scene) (disks : Disks) (c : Config
         names = refl;
         numbers = λ makes. omega arith;
         sent = sent;
-        lock = needs_none h past g 0 from n m sent (λ path looked made. apart scene covered path (f.begun (call.Lookup path) looked) (f.begun (call.Mkdir path) made));
+        lock = needs_none h past g 0 from n m sent (all_miss scene covered past f.begun);
       }
 
   abbrev message_to : Node → Node → SentMessage → SentMessage

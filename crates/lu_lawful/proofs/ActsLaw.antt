@@ -1,6 +1,6 @@
 -- The law of acts holds of the printed past of every grown one, for all lives that will be out and all numbers
 -- that will be lost, as far as none of a deed that is told is.
-use Rattle.std.proofs.Common.{◌≡◌, ◌≢◌, ℕ, suc, ◌≤◌, Bool, List, [], ◌∷◌, ◌⊎◌, inl, inr, ⊎_elim, refl, sym, subst, ap, ◌∙◌, arith}
+use Rattle.std.proofs.Common.{◌≡◌, ℕ, suc, ◌≤◌, Bool, List, [], ◌∷◌, ◌⊎◌, inl, inr, ⊎_elim, refl, sym, subst, ap, ◌∙◌, arith}
 use Rattle.std.specs.Prelude.{nat_eq, not, ◌&&◌, ◌||◌, Option, Some, None, true, false, if◌then◌else◌}
 use Rattle.lu_trace.specs.declared.entries.Entry.TheVariants as trace
 use Rattle.std.proofs.lemmas.Bool.{and_parts, cond_both, eqb-true}

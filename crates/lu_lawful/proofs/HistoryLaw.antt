@@ -2,7 +2,6 @@
 -- refuses no transaction that stands.
 use Rattle.std.proofs.Common.{◌≡◌, ℕ, ◌+◌, ◌<◌, ◌≤◌, Bool, true, false, List, [], ◌∷◌, ◌++◌, Option, Some, None, inl, inr, refl, sym, subst, ap, ◌∙◌, arith}
 use Rattle.std.specs.Prelude.{not, ◌&&◌, if◌then◌else◌}
-use Rattle.std.specs.Option.{option_map}
 use Rattle.std.proofs.lemmas.Bool.{and_parts, eqb-true}
 use Rattle.lu_base.specs.declared.ids.At.{At}
 use Rattle.lu_base.specs.declared.ids.Node.{Node}
@@ -17,7 +16,6 @@ use Rattle.lu_msg.specs.declared.operations.Op.{Op}
 use Rattle.lu_part.specs.declared.parts.Part.{Part}
 use Rattle.lu_trace.specs.declared.entries.Line.{Line as PrintedLine}
 use Rattle.lu_machine.specs.declared.acts.Act.{Act as ActOf}
-use Rattle.lu_machine.specs.declared.acts.Deed.TheVariants.{Names}
 use Rattle.lu_machine.specs.Tree.{Tree, same_life}
 use Rattle.lu_machine.specs.Footprint.{empty, answer, touches, writes, changes, after, Every}
 use Rattle.lu_machine.specs.Removal as removal
@@ -39,7 +37,7 @@ use Rattle.lu_covered.specs.Runs.{Head}
 use Rattle.lu_laws.specs.Words.Pasts.{same_turn, is_target}
 use Rattle.lu_laws.specs.Words.Lives.{who_is}
 use Rattle.lu_laws.specs.Words.Requests.{asked}
-use Rattle.lu_laws.specs.Words.Calls.{Begun, open_call, heard_in}
+use Rattle.lu_laws.specs.Words.Calls.{Begun, open_call}
 use Rattle.lu_laws.specs.Words.Histories.{none, names_act, call_act, acts_as, is_answer, told_item, after_item, machine_of, answer_to, answer_there}
 use Rattle.lu_laws.specs.Holds.{Holds}
 use Rattle.lu_laws.proofs.Tests.{both, settled}
@@ -49,6 +47,8 @@ use Rattle.lu_lawful.specs.Fits.{AllStand, SeenStand, DoneStands, ToldStandsAt, 
 use Rattle.lu_guards.proofs.Guards.{Allowed, Grown}
 use Rattle.lu_guards.proofs.Lists.{life_is}
 use Rattle.lu_facts.proofs.Groups.{turn, Acted}
+use Rattle.lu_facts.proofs.OnNames.{IsPlain}
+use Rattle.lu_facts.proofs.Refused.{acted_plain}
 use Rattle.lu_lawful.proofs.Lines.{Keeps, holds_before}
 use Rattle.lu_lawful.proofs.ActsLaw.{own_line}
 use Rattle.lu_lawful.proofs.Once.{NoneFor, act_now, txn_now}
@@ -56,7 +56,7 @@ use Rattle.lu_lawful.proofs.Facts.{AskedAt, AllAsked, TellsAt, AllTold}
 use Rattle.lu_lawful.proofs.Contents.{life_stays, number_is, asked_before}
 use Rattle.lu_lawful.proofs.SeenNumbers.{one, seen_snoc}
 use Rattle.lu_lawful.proofs.Deeds.{ActIs, TxnIs, act_is, txn_is}
-use Rattle.lu_lawful.proofs.Three.{IsThree, acted_three, told_plain}
+use Rattle.lu_lawful.proofs.Plain.{told_plain}
 
 pub fits_before : (out : Who → Bool) (lost : ℕ → ℕ → Bool) (l : Line) (past : List Line) → Fits out lost (l ∷ past) → Fits out lost past
 fits_before out lost l past f = record { root = f.root; seen = seen_before l.entry f.seen; told = told_before l.entry f.told }
@@ -225,11 +225,11 @@ module _ (head : Head) (out : Who → Bool) (lost : ℕ → ℕ → Bool) where
       (subst (λ (u : Tree). Alike head.osts (whole head.osts (items past)) u (operation d)) (sym (follows past g a t).1)
       (removal_by_seen head.osts empty (keep lost) root older (items past) (all_saw head lost past g f.seen) (operation d) (saw_kept head lost past d g is s)))
 
-  answered : (past : List Line) (d : Deed) → Alike head.osts (tree_at head.osts 0 past) (machine past).tree (operation d) → IsThree d.op → (changes head.osts (tree_at head.osts 0 past) (operation d) ≡ true → (machine past).last < d.reply.txn.0)
+  answered : (past : List Line) (d : Deed) → Alike head.osts (tree_at head.osts 0 past) (machine past).tree (operation d) → IsPlain (answer head.osts (tree_at head.osts 0 past) (operation d)) → (changes head.osts (tree_at head.osts 0 past) (operation d) ≡ true → (machine past).last < d.reply.txn.0)
       → names_answer head.osts (machine past) (operation d) ≡ answer head.osts (tree_at head.osts 0 past) (operation d)
-  answered past d same three above =
+  answered past d same plain above =
       (machine_is_table head.osts (machine past) (operation d) (λ c. above (same.changes ∙ c))).0
-      ∙ told_plain head.osts (machine past) (machine past).tree (operation d) three
+      ∙ told_plain (machine past) (answer head.osts (machine past).tree (operation d)) (subst IsPlain same.answer plain)
       ∙ sym same.answer
 
   -- its answer after a past
@@ -237,19 +237,19 @@ module _ (head : Head) (out : Who → Bool) (lost : ℕ → ℕ → Bool) where
   answers past act = answer_to head.osts (machine past) act
 
   -- to an act, and to a transaction
-  act_answers : (past : List Line) (at : At) (d : Deed) → Grown head past → AllAsked past → AllTold past → Fits out lost past → ActIs head.osts (server_at head.osts 0 past) at d → AskedAt past d → IsThree d.op → AllStand lost d.reply.seen
+  act_answers : (past : List Line) (at : At) (d : Deed) → Grown head past → AllAsked past → AllTold past → Fits out lost past → ActIs head.osts (server_at head.osts 0 past) at d → AskedAt past d → IsPlain d.reply.answer → AllStand lost d.reply.seen
       → answers past (names_act d.reply.who none (asked (printed past) 0 d.reply.who d.reply.xid.0)) ≡ Some d.reply.answer
-  act_answers past at d g a t f is asks three s =
+  act_answers past at d g a t f is asks plain s =
       subst (λ o. answers past (names_act d.reply.who none o) ≡ Some d.reply.answer) (sym asks)
       (subst (λ (n : TxnOf). answers past (names_act d.reply.who n (Some d.op)) ≡ Some d.reply.answer) is.txn
-      (ap (λ (v : Answer). Some v) (answered past d (alike past d g a t f is.saw s) three (λ c. absurd (let still = is.still in cc)) ∙ sym is.answered)))
+      (ap (λ (v : Answer). Some v) (answered past d (alike past d g a t f is.saw s) (subst IsPlain is.answered plain) (λ c. absurd (let still = is.still in cc)) ∙ sym is.answered)))
 
-  txn_answers : (past : List Line) (at : At) (d : Deed) → Grown head past → AllAsked past → AllTold past → Fits out lost past → TxnIs head.osts (server_at head.osts 0 past) at d → IsThree d.op → AllStand lost d.reply.seen
+  txn_answers : (past : List Line) (at : At) (d : Deed) → Grown head past → AllAsked past → AllTold past → Fits out lost past → TxnIs head.osts (server_at head.osts 0 past) at d → IsPlain d.reply.answer → AllStand lost d.reply.seen
       → names_answer head.osts (machine past) (operation d) ≡ d.reply.answer
-  txn_answers past at d g a t f is three s =
+  txn_answers past at d g a t f is plain s =
       let n = number_is head past at d g is in
       let last = (follows past g a t).0 in
-      answered past d (alike past d g a t f is.saw s) three (λ c. omega (arith, n, last)) ∙ sym is.answered
+      answered past d (alike past d g a t f is.saw s) (subst IsPlain is.answered plain) (λ c. omega (arith, n, last)) ∙ sym is.answered
 
   -- a line that executes the request answers, one that doesn't leaves what was
   here_is : (b : Bool) (now old : Option Answer) (given : Answer) → b ≡ true → now ≡ Some given → (if b then now else old) ≡ Some given
@@ -268,8 +268,8 @@ module _ (head : Head) (out : Who → Bool) (lost : ℕ → ℕ → Bool) where
       let earlier = asked_before l past a in
       let before = told_earlier l past t in
       let fits = fits_before out lost l past f in
-      let three : (b : Deed) → Acted (l ∷ past) b → IsThree b.op = λ b i. acted_three head (l ∷ past) b g i in
-      by l.entry g.0 a three acted s (λ b k. answered_there past d g.1 earlier before fits b k)
+      let plain : (b : Deed) → Acted (l ∷ past) b → IsPlain b.reply.answer = λ b i. acted_plain head (l ∷ past) b g i in
+      by l.entry g.0 a plain acted s (λ b k. answered_there past d g.1 earlier before fits b k)
     where
       before : AllTold past
       before = told_earlier l past t
@@ -284,30 +284,30 @@ module _ (head : Head) (out : Who → Bool) (lost : ℕ → ℕ → Bool) where
           let r = and_parts (is_target 0 l.at.node && same_turn l.at d.reply.at) _ q.0 in
           new d i (sym (life_is e.reply.who d.reply.who r.1)) (sym (eqb-true e.reply.xid.0 d.reply.xid.0 q.1))
 
-      by : (e : Entry) → Allowed head past l.at e → AllAsked (line l.at e ∷ past) → ((b : Deed) → Acted (line l.at e ∷ past) b → IsThree b.op) → Acted (line l.at e ∷ past) d → DoneStands lost (line l.at e ∷ past) d.reply.who d.reply.at
+      by : (e : Entry) → Allowed head past l.at e → AllAsked (line l.at e ∷ past) → ((b : Deed) → Acted (line l.at e ∷ past) b → IsPlain b.reply.answer) → Acted (line l.at e ∷ past) d → DoneStands lost (line l.at e ∷ past) d.reply.who d.reply.at
           → (Acted past d → DoneStands lost past d.reply.who d.reply.at → answer_there out lost head.osts (printed past) d.reply.at d.reply.who d.reply.xid.0 ≡ Some d.reply.answer)
           → answer_there out lost head.osts (printed (line l.at e ∷ past)) d.reply.at d.reply.who d.reply.xid.0 ≡ Some d.reply.answer
-      by (Act e) ok a three (inl same) s h =
+      by (Act e) ok a plain (inl same) s h =
           let now = act_now head past l.at.stamp l.at.node e ok g.1 in
           let stands = s.0 (ap (λ (v : Deed). v.reply.who) same) (ap (λ (v : Deed). v.reply.at) same) in
           subst (λ (v : Deed). answer_there out lost head.osts (printed (line l.at (Act e) ∷ past)) v.reply.at v.reply.who v.reply.xid.0 ≡ Some v.reply.answer) same
           (here_is _ _ _ e.reply.answer (own_line l.at e.reply.at e.reply.who e.reply.xid.0 (sym now.2) now.1)
-          (act_answers past l.at e g.1 a.1 before fits (act_here head past l.at.stamp l.at.node e ok) a.0 (three e (inl refl)) stands))
-      by (Act e) ok a three (inr i) s h =
+          (act_answers past l.at e g.1 a.1 before fits (act_here head past l.at.stamp l.at.node e ok) a.0 (plain e (inl refl)) stands))
+      by (Act e) ok a plain (inr i) s h =
           before_is _ _ _ d.reply.answer (same_request e (act_now head past l.at.stamp l.at.node e ok g.1).0.new i) (h i s.1)
-      by (Made e) ok a three (inl same) s h =
+      by (Made e) ok a plain (inl same) s h =
           let now = txn_now head past l.at.stamp l.at.node e ok g.1 in
           let stands = s.0 (ap (λ (v : Deed). v.reply.who) same) (ap (λ (v : Deed). v.reply.at) same) in
           let own = own_line l.at e.reply.at e.reply.who e.reply.xid.0 (sym now.2) now.1 in
           subst (λ (v : Deed). answer_there out lost head.osts (printed (line l.at (Made e) ∷ past)) v.reply.at v.reply.who v.reply.xid.0 ≡ Some v.reply.answer) same
           (here_is _ _ _ e.reply.answer (both own (settled (lost 0 e.reply.txn.0) stands.0))
           (subst (λ o. answers past (names_act e.reply.who e.reply.txn o) ≡ Some e.reply.answer) (sym a.0)
-          (ap (λ (v : Answer). Some v) (txn_answers past l.at e g.1 a.1 before fits (txn_here head past l.at.stamp l.at.node e ok) (three e (inl refl)) stands.1))))
-      by (Made e) ok a three (inr i) s h =
+          (ap (λ (v : Answer). Some v) (txn_answers past l.at e g.1 a.1 before fits (txn_here head past l.at.stamp l.at.node e ok) (plain e (inl refl)) stands.1))))
+      by (Made e) ok a plain (inr i) s h =
           before_is _ _ _ d.reply.answer
           (λ p. same_request e (txn_now head past l.at.stamp l.at.node e ok g.1).0.new i (and_parts (acts_as d.reply.at d.reply.who d.reply.xid.0 l.at e.reply.who e.reply.xid.0) (not (lost 0 e.reply.txn.0)) p).0)
           (h i s.1)
-      by _ ok a three b s h = h b s
+      by _ ok a plain b s h = h b s
 
   -- ---- the law, line by line
 
@@ -333,10 +333,10 @@ module _ (head : Head) (out : Who → Bool) (lost : ℕ → ℕ → Bool) where
       on (Some begun) is = λ counts. is
 
   -- what stands isn't refused
-  txn_law : (past : List Line) (at : At) (d : Deed) → Grown head past → AllAsked past → AllTold past → Fits out lost past → TxnIs head.osts (server_at head.osts 0 past) at d → AskedAt past d → IsThree d.op
+  txn_law : (past : List Line) (at : At) (d : Deed) → Grown head past → AllAsked past → AllTold past → Fits out lost past → TxnIs head.osts (server_at head.osts 0 past) at d → AskedAt past d → IsPlain d.reply.answer
       → (lost 0 d.reply.txn.0 ≡ false → AllStand lost d.reply.seen) → law.TxnAt out lost head.osts (printed past) 0 d.reply.txn d.reply.who d.reply.xid.0
-  txn_law past at d g a t f is asks three s stands =
-      let same = txn_answers past at d g a t f is three (s stands) in
+  txn_law past at d g a t f is asks plain s stands =
+      let same = txn_answers past at d g a t f is plain (s stands) in
       subst (λ o. is_accepted (answers past (names_act d.reply.who d.reply.txn o)) ≡ true) (sym asks)
       (ap (λ (v : Answer). is_accepted (Some v)) (same ∙ is.answered) ∙ accepted (answer head.osts (tree_at head.osts 0 past) (operation d)) (λ e r. let still = (refusals_stay head.osts (tree_at head.osts 0 past) (operation d) e r).0 in let moves = is.moves in absurd (cc)))
     where
@@ -352,7 +352,7 @@ module _ (head : Head) (out : Who → Bool) (lost : ℕ → ℕ → Bool) where
   known_before l past k = record { fits = fits_before out lost l past k.fits; asked = asked_before l past k.asked; told = told_earlier l past k.told }
 
   history_at : (past : List Line) (l : Line) (later : List PrintedLine) → Allowed head past l.at l.entry → Grown head past → Known (l ∷ past) → Keeps (HistoryOf out lost head.osts) past l later
-  history_at past l later ok g known = by l.at.node l.entry ok (λ b i. acted_three head (l ∷ past) b (ok, g) i) known.fits.seen known.fits.told known.asked known.told
+  history_at past l later ok g known = by l.at.node l.entry ok (λ b i. acted_plain head (l ∷ past) b (ok, g) i) known.fits.seen known.fits.told known.asked known.told
     where
       fits : Fits out lost past
       fits = fits_before out lost l past known.fits
@@ -360,16 +360,16 @@ module _ (head : Head) (out : Who → Bool) (lost : ℕ → ℕ → Bool) where
       earlier : AllTold past
       earlier = told_earlier l past known.told
 
-      by : (node : Node) (e : Entry) → Allowed head past (turn l.at.stamp node) e → ((b : Deed) → Acted (line (turn l.at.stamp node) e ∷ past) b → IsThree b.op) → SeenStand lost (line (turn l.at.stamp node) e ∷ past)
+      by : (node : Node) (e : Entry) → Allowed head past (turn l.at.stamp node) e → ((b : Deed) → Acted (line (turn l.at.stamp node) e ∷ past) b → IsPlain b.reply.answer) → SeenStand lost (line (turn l.at.stamp node) e ∷ past)
           → ToldStand out lost (line (turn l.at.stamp node) e ∷ past) → AllAsked (line (turn l.at.stamp node) e ∷ past) → AllTold (line (turn l.at.stamp node) e ∷ past)
           → Keeps (HistoryOf out lost head.osts) past (line (turn l.at.stamp node) e) later
-      by (Client c) (Told slot named given work) k three s st a t = told_law past l.at.stamp c slot named given g a t.1 fits t.0 st.0
-      by (Target u) (Told slot named given work) k three s st a t = absurd k.ok
-      by (Client c) (Made d) k three s st a t = absurd k.ok
-      by (Target u) (Made d) k three s st a t =
+      by (Client c) (Told slot named given work) k plain s st a t = told_law past l.at.stamp c slot named given g a t.1 fits t.0 st.0
+      by (Target u) (Told slot named given work) k plain s st a t = absurd k.ok
+      by (Client c) (Made d) k plain s st a t = absurd k.ok
+      by (Target u) (Made d) k plain s st a t =
           subst (λ (v : ℕ). law.TxnAt out lost head.osts (printed past) v d.reply.txn d.reply.who d.reply.xid.0) (sym k.ok)
-          (txn_law past (turn l.at.stamp (Target u)) d g a.1 earlier fits (txn_is head past l.at.stamp u d k) a.0 (three d (inl refl)) s.0)
-      by _ _ k three s st a t = tt
+          (txn_law past (turn l.at.stamp (Target u)) d g a.1 earlier fits (txn_is head past l.at.stamp u d k) a.0 (plain d (inl refl)) s.0)
+      by _ _ k plain s st a t = tt
 
   pub history_law : (past : List Line) → Fits out lost past → Grown head past → AllAsked past → AllTold past → Holds (HistoryOf out lost head.osts) (printed past)
   history_law past f g a t = holds_before head (HistoryOf out lost head.osts) Known known_before history_at past [] g (record { fits = f; asked = a; told = t })

@@ -8,7 +8,7 @@ pub mod Deeds
 pub mod Contents
 pub mod SeenNumbers
 pub mod Once
-pub mod Three
+pub mod Plain
 pub mod Fine
 pub mod Flying
 pub mod ActsLaw

@@ -1,5 +1,5 @@
 -- A law holds of the printed past of a grown one where each allowed line that is printed keeps it.
-use Rattle.std.proofs.Common.{ℕ, ◌+◌, List, [], ◌∷◌, Option, Some, None}
+use Rattle.std.proofs.Common.{◌+◌, List, [], ◌∷◌, Option, Some, None}
 use Rattle.lu_trace.specs.declared.entries.Entry.{Entry as PrintedEntry}
 use Rattle.lu_trace.specs.declared.entries.Line.{Line as PrintedLine}
 use Rattle.lu_words.specs.Words.{Line}

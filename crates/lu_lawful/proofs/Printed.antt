@@ -111,8 +111,17 @@ SameCall _ _ = ⊥
 -- a call that covered runs know names no handle
 pub good_call : (c : ℕ) (past : pasts.Past) (x : Call) (o : Op) → operation_of x ≡ Some o → calls.is_bad c past x ≡ false
 good_call c past (call.Lookup path) o e = refl
+good_call c past (call.Stat path) o e = refl
+good_call c past (call.List path) o e = refl
+good_call c past (call.Layout path) o e = refl
 good_call c past (call.Mkdir path) o e = refl
+good_call c past (call.Create path None) o e = refl
+good_call c past (call.Create path (Some stripes)) o e = refl
+good_call c past (call.Link old new) o e = refl
+good_call c past (call.Unlink path) o e = refl
 good_call c past (call.Rmdir path) o e = refl
+good_call c past (call.Rename old new) o e = refl
+good_call c past (call.Chmod path mode) o e = refl
 good_call c past _ o e = absurd (cc)
 
 -- whatever it has asked

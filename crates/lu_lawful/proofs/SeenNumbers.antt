@@ -1,5 +1,5 @@
 -- The numbers that the law sees in the printed past of a run are those that the metadata target sees in its log.
-use Rattle.std.proofs.Common.{◌≡◌, ℕ, Bool, true, false, List, [], ◌∷◌, ◌++◌, reverse, refl, sym, subst, ap, ◌∙◌, append-nil, arith}
+use Rattle.std.proofs.Common.{◌≡◌, ℕ, Bool, true, false, List, [], ◌∷◌, ◌++◌, reverse, refl, sym, subst, ap, ◌∙◌, arith}
 use Rattle.std.specs.Prelude.{nat_lt, if◌then◌else◌, map, filter}
 use Rattle.std.proofs.lemmas.Bool.{lt-ltb}
 use Rattle.std.proofs.lemmas.Grind.{reverse_onto}
@@ -14,9 +14,8 @@ use Rattle.lu_words.specs.Carried.{Deed}
 use Rattle.lu_words.specs.Words.{Entry, Txn as Made, Line, line}
 use Rattle.lu_words.specs.Printed.{printed}
 use Rattle.lu_covered.specs.TargetParts.{operation, Logged, logged}
-use Rattle.lu_covered.specs.TargetStates.{tree_at, log_at, server_at, seen_in}
+use Rattle.lu_covered.specs.TargetStates.{log_at, server_at, seen_in}
 use Rattle.lu_covered.specs.Runs.{Head}
-use Rattle.lu_laws.specs.Words.Pasts.{is_target}
 use Rattle.lu_laws.specs.Words.Requests.{asked}
 use Rattle.lu_laws.specs.Words.Boots.{committed}
 use Rattle.lu_laws.specs.Words.Lost.{is_lost}

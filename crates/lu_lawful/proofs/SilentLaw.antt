@@ -1,37 +1,30 @@
--- The law of silent repeats holds of the printed past of every grown one: what is looked up there isn't found, so that no
--- call which could be repeated is told anything but an error.
-use Rattle.std.proofs.Common.{◌≡◌, ℕ, ◌+◌, Bool, true, false, List, [], ◌∷◌, ◌++◌, Option, Some, None, ⊎_elim, refl, sym, subst, ap, ◌∙◌}
-use Rattle.std.specs.Prelude.{nat_eq, not, ◌==◌, ◌&&◌, ◌⊎◌, if◌then◌else◌, map, filter}
+-- The law of silent repeats holds of the printed past of every grown one: what is read there isn't found, so that no call
+-- which could be repeated is told anything but an error.
+use Rattle.std.proofs.Common.{◌≡◌, ℕ, ◌+◌, Bool, true, false, List, [], ◌∷◌, ◌++◌, Option, Some, None, refl, sym, subst, ap, ◌∙◌}
+use Rattle.std.specs.Prelude.{nat_eq, not, ◌==◌, ◌&&◌, if◌then◌else◌, map, filter}
 use Rattle.std.specs.List.{list_any}
 use Rattle.std.specs.Option.{option_map}
 use Rattle.std.proofs.lemmas.Bool.{cond_both, and_parts, eqb-true}
 use Rattle.lu_base.specs.declared.ids.At.{At}
 use Rattle.lu_base.specs.declared.ids.Node.{Node}
 use Rattle.lu_base.specs.declared.ids.Node.TheVariants.{Client, Target}
-use Rattle.lu_base.specs.declared.ids.Txn.{Txn as TxnOf}
 use Rattle.lu_base.specs.declared.ids.Who.{Who}
 use Rattle.lu_msg.specs.declared.answers.Answer.{Answer}
+use Rattle.lu_msg.specs.declared.answers.Answer.TheVariants as told
 use Rattle.lu_msg.specs.declared.calls.Call.{Call}
 use Rattle.lu_msg.specs.declared.calls.Call.TheVariants as call
 use Rattle.lu_msg.specs.declared.operations.Op.{Op}
 use Rattle.lu_msg.specs.declared.operations.Op.TheVariants as op
 use Rattle.lu_msg.specs.declared.messages.Reply.{Reply as ReplyTo}
 use Rattle.lu_trace.specs.declared.entries.Line.{Line as PrintedLine}
-use Rattle.lu_machine.specs.declared.child.Child.{Child}
-use Rattle.lu_machine.specs.Tree.{Tree}
-use Rattle.lu_machine.specs.Plan.{Outcome, outcome}
-use Rattle.lu_machine.specs.Table.{root, last_of, row_lookup}
-use Rattle.lu_machine.specs.Footprint.{answer, grants, changes, is_some_change, Every}
-use Rattle.lu_machine.proofs.Paths.{Steps, walk_steps}
-use Rattle.lu_words.specs.Carried.{Deed, Work, Asking, Running}
-use Rattle.lu_words.specs.Words.{Entry, Begin, Heard, Told, Take, Drop, Queues, Stands, Act, Txn as Made, Line, line}
-use Rattle.lu_words.specs.Concerns.{only}
+use Rattle.lu_machine.specs.Footprint.{changes, Every}
+use Rattle.lu_machine.specs.Laws.{IsReading}
+use Rattle.lu_words.specs.Carried.{Work, Asking, Running}
+use Rattle.lu_words.specs.Words.{Entry, Begin, Heard, Told, Take, Drop, Queues, Stands, Line, line}
 use Rattle.lu_words.specs.Sent.{count_sent}
 use Rattle.lu_words.specs.Printed.{printed_entry, printed}
-use Rattle.lu_covered.specs.TargetStates.{none, server_of}
-use Rattle.lu_covered.specs.TargetRows.{asked, deed}
 use Rattle.lu_covered.specs.Calls.{first_life, call_at, asks, asks_for, operation_of}
-use Rattle.lu_covered.specs.Runs.{Head, IsAsked}
+use Rattle.lu_covered.specs.Runs.{Head}
 use Rattle.lu_laws.specs.Words.Lives.{life, who_is}
 use Rattle.lu_laws.specs.Words.Calls.{call_in}
 use Rattle.lu_laws.specs.Words.Held.{held, has_write_lock}
@@ -39,77 +32,15 @@ use Rattle.lu_laws.specs.Words.Repeats.{same_reading, rebinds, is_error, is_read
 use Rattle.lu_laws.specs.Holds.{Holds}
 use Rattle.lu_laws.specs.Laws.Silent.{SilentAt, Silent}
 use Rattle.lu_guards.proofs.Lists.{self, who as who_of}
-use Rattle.lu_guards.proofs.Guards.{EntryOk, ActOk, TxnOk, Allowed, Grown}
-use Rattle.lu_facts.proofs.Groups.{turn, Acted}
+use Rattle.lu_guards.proofs.Guards.{EntryOk, Allowed, Grown}
+use Rattle.lu_facts.proofs.Groups.{turn}
 use Rattle.lu_facts.proofs.All.{holds}
-use Rattle.lu_facts.proofs.Finds.{began_call}
-use Rattle.lu_lawful.proofs.Story.{about_it, acted_whole}
+use Rattle.lu_facts.proofs.OnNames.{op_is, IsRefusal}
+use Rattle.lu_facts.proofs.Refused.{acted_refused}
+use Rattle.lu_lawful.proofs.Story.{acted_whole}
 use Rattle.lu_lawful.proofs.Contents.{life_stays}
 use Rattle.lu_lawful.proofs.Printed.{flip}
 use Rattle.lu_lawful.proofs.Lines.{OfPrinted, Keeps, holds_before, Nothing}
-
--- ---- a lookup that is granted no lock is refused
-
-module _ (t : Tree) where
-  abbrev Refuses : Outcome → Type 0
-  Refuses o = o.grants ≡ [] → is_error o.answer ≡ true
-
-  abbrev Stays : Outcome → Type 0
-  Stays o = is_some_change o.changes ≡ false
-
-  lookup_refused : (osts : ℕ) (number : TxnOf) (who : Who) (path : List (List ℕ)) → (path ≡ [] → ⊥) → grants osts t (record { number = number; who = who; op = op.Lookup path }) ≡ []
-      → is_error (answer osts t (record { number = number; who = who; op = op.Lookup path })) ≡ true
-  lookup_refused osts number who path some = walk_steps t Refuses (λ e _. refl) root path (λ cs. row_lookup cs (last_of root cs)) (ends path some)
-    where
-      ends : (path : List (List ℕ)) → (path ≡ [] → ⊥) → (cs : List Child) → Steps t root path cs → Refuses (outcome t (row_lookup cs (last_of root cs)))
-      ends [] some cs s n = absurd (some refl)
-      ends (n ∷ ns) some [] s e = absurd s
-      ends (n ∷ ns) some (c ∷ []) s e = absurd (cc)
-      ends (n ∷ ns) some (c ∷ d ∷ cs) s e = absurd (cc)
-
-  lookup_stays : (osts : ℕ) (number : TxnOf) (who : Who) (path : List (List ℕ)) → changes osts t (record { number = number; who = who; op = op.Lookup path }) ≡ false
-  lookup_stays osts number who path = walk_steps t Stays (λ e. refl) root path (λ cs. row_lookup cs (last_of root cs)) (λ cs s. refl)
-
--- ---- what was done for a lookup
-
-abbrev IsRefused : Deed → Type 0
-IsRefused d = (path : List (List ℕ)) → d.op ≡ op.Lookup path → (path ≡ [] → ⊥) → is_error d.reply.answer ≡ true
-
-act_refused : (osts : ℕ) (past : List Line) (l : Line) (d : Deed) → ActOk osts past l.at d → IsRefused d
-act_refused osts past l d ok path is some =
-    let v = server_of osts past in
-    let r = ok.request in
-    let same : r.op ≡ op.Lookup path = ap (λ (x : Deed). x.op) (sym ok.is) ∙ is in
-    let free : grants osts v.tree (record { number = none; who = r.who; op = op.Lookup path }) ≡ [] = subst (λ (o : Op). grants osts v.tree (record { number = none; who = r.who; op = o }) ≡ []) same ok.unlocked in
-    ap (λ (x : Deed). is_error x.reply.answer) ok.is
-    ∙ ap (λ (o : Op). is_error (answer osts v.tree (record { number = none; who = r.who; op = o }))) same
-    ∙ lookup_refused v.tree osts none r.who path some free
-
-txn_refused : (osts : ℕ) (past : List Line) (l : Line) (d : Deed) → TxnOk osts past l.at d → IsRefused d
-txn_refused osts past l d ok path is some =
-    let v = server_of osts past in
-    let r = ok.request in
-    let same : r.op ≡ op.Lookup path = ap (λ (x : Deed). x.op) (sym ok.is) ∙ is in
-    let moves : changes osts v.tree (record { number = none; who = r.who; op = op.Lookup path }) ≡ true = subst (λ (o : Op). changes osts v.tree (record { number = none; who = r.who; op = o }) ≡ true) same ok.moves in
-    let stays = lookup_stays v.tree osts none r.who path in
-    absurd (cc)
-
-done_refused : (head : Head) (past : List Line) (d : Deed) → Grown head past → Acted past d → IsRefused d
-done_refused head [] d g a = absurd a
-done_refused head (l ∷ past) d g a = by l.at.node l.entry g.0 a (done_refused head past d g.1)
-  where
-    by : (node : Node) (e : Entry) → Allowed head past (turn l.at.stamp node) e → Acted (line (turn l.at.stamp node) e ∷ past) d → (Acted past d → IsRefused d) → IsRefused d
-    by (Client c) (Act x) k a h = absurd k.ok
-    by (Client c) (Made x) k a h = absurd k.ok
-    by (Target t) (Act x) k a h = ⊎_elim
-        (λ (p : x ≡ d). subst IsRefused p (act_refused head.osts (only 0 past) (line (turn l.at.stamp (Target t)) (Act x)) x (k.of 0 (about_it t k.ok))))
-        (λ (p : Acted past d). h p)
-        a
-    by (Target t) (Made x) k a h = ⊎_elim
-        (λ (p : x ≡ d). subst IsRefused p (txn_refused head.osts (only 0 past) (line (turn l.at.stamp (Target t)) (Made x)) x (k.of 0 (about_it t k.ok))))
-        (λ (p : Acted past d). h p)
-        a
-    by _ _ k a h = h a
 
 -- ---- the call in a slot is the same
 
@@ -225,34 +156,56 @@ calm_stands head c (l ∷ past) g = by l.at.node l.entry g.0.ok (calm_stands hea
 abbrev IsQuiet : Call → Type 0
 IsQuiet k = (a : Call) → same_reading a k ≡ false
 
-mkdir_quiet : (path : List (List ℕ)) → IsQuiet (call.Mkdir path)
-mkdir_quiet path (call.Lookup other) = refl
-mkdir_quiet path _ = refl
+abbrev IsNoReading : Call → Type 0
+IsNoReading (call.Lookup path) = ⊥
+IsNoReading (call.Stat path) = ⊥
+IsNoReading (call.List path) = ⊥
+IsNoReading (call.Layout path) = ⊥
+IsNoReading (call.Read handle offset count) = ⊥
+IsNoReading _ = Unit {0}
 
-rmdir_quiet : (path : List (List ℕ)) → IsQuiet (call.Rmdir path)
-rmdir_quiet path (call.Lookup other) = refl
-rmdir_quiet path _ = refl
+never_same : (a k : Call) → IsNoReading k → same_reading a k ≡ false
+never_same (call.Lookup path) (call.Lookup other) changes = absurd changes
+never_same (call.Stat path) (call.Stat other) changes = absurd changes
+never_same (call.List path) (call.List other) changes = absurd changes
+never_same (call.Layout path) (call.Layout other) changes = absurd changes
+never_same (call.Read h offset count) (call.Read k start number) changes = absurd changes
+never_same _ _ changes = refl
 
--- a call that is told something else than an error
-answer_quiet : (k : Call) (o : Op) (given : Answer) → operation_of k ≡ Some o → IsAsked o → ((path : List (List ℕ)) → o ≡ op.Lookup path → (path ≡ [] → ⊥) → is_error given ≡ true) → is_error given ≡ false → IsQuiet k
-answer_quiet (call.Lookup path) o given e asked h f =
-    let same : o ≡ op.Lookup path = cc in
-    let some : path ≡ [] → ⊥ = subst IsAsked same asked in
-    let t = h path same some in
-    absurd (cc)
-answer_quiet (call.Mkdir path) o given e asked h f = mkdir_quiet path
-answer_quiet (call.Rmdir path) o given e asked h f = rmdir_quiet path
-answer_quiet _ o given e asked h f = absurd (cc)
+refusal_is : (given : Answer) → IsRefusal given → is_error given ≡ true
+refusal_is (told.Refused e) is = refl
+refusal_is _ is = absurd is
+
+-- a call that is told something else than an error, where a reading is refused
+answer_quiet : (k : Call) (o : Op) (given : Answer) → operation_of k ≡ Some o → (IsReading o → IsRefusal given) → is_error given ≡ false → IsQuiet k
+answer_quiet k o given e refused fine a = by k e
+  where
+    -- no reading is
+    never : (p : Op) → Some p ≡ Some o → IsReading p → ⊥
+    never p e reads = let error = refusal_is given (refused (subst IsReading (op_is p o e) reads)) in absurd (cc)
+
+    by : (k : Call) → operation_of k ≡ Some o → same_reading a k ≡ false
+    by (call.Lookup path) e = absurd (never (op.Lookup path) e tt)
+    by (call.Stat path) e = absurd (never (op.Stat path) e tt)
+    by (call.List path) e = absurd (never (op.List path) e tt)
+    by (call.Layout path) e = absurd (never (op.Layout path) e tt)
+    by (call.Mkdir path) e = never_same a (call.Mkdir path) tt
+    by (call.Create path stripes) e = never_same a (call.Create path stripes) tt
+    by (call.Link old new) e = never_same a (call.Link old new) tt
+    by (call.Unlink path) e = never_same a (call.Unlink path) tt
+    by (call.Rmdir path) e = never_same a (call.Rmdir path) tt
+    by (call.Rename old new) e = never_same a (call.Rename old new) tt
+    by (call.Chmod path mode) e = never_same a (call.Chmod path mode) tt
+    by k e = absurd (cc)
 
 -- what is told of a call: it is quiet, or this is an error
 told_quiet : (head : Head) (past : List Line) (l : Line) (c slot : ℕ) (named : At) (given : Answer) (work : Option Work) → EntryOk past l.at (Client c) (Told slot named given work) → Grown head past
     → (r : Running) × (call_at c slot past ≡ Some r) × (is_error given ≡ false → IsQuiet r.call)
 told_quiet head past l c slot named given work ok g =
     let is = (holds head past g).replies c slot ok.target ok.running ok.reply ok.call ok.answered in
-    let asks = began_call head past g c slot ok.running ok.call in
     let same : is.deed.reply.answer ≡ given = ap (λ (v : ReplyTo). v.answer) is.is ∙ sym ok.of_answer in
-    let refused = done_refused head past is.deed g (acted_whole ok.target past is.deed is.acted) in
-    (ok.running, ok.call, answer_quiet ok.running.call is.deed.op given is.op (asks.1 is.deed.op is.op) (λ path e some. subst (λ (v : Answer). is_error v ≡ true) same (refused path e some)))
+    let acted = acted_whole ok.target past is.deed is.acted in
+    (ok.running, ok.call, answer_quiet ok.running.call is.deed.op given is.op (λ reads. subst IsRefusal same (acted_refused head past is.deed g acted reads)))
 
 -- of the calls that stand calm in the slot, those are quiet
 calm_quiet : (in_slot : ℕ → Option Call) (slot : ℕ) (told : Call) (given : Answer) (standing : List (ℕ × Call)) → in_slot slot ≡ Some told → (is_error given ≡ false → IsQuiet told) → Every (StandsIn in_slot) standing
@@ -311,14 +264,14 @@ known_quiet head c (l ∷ past) g = by l.at.node l.entry g.0.ok (known_quiet hea
 
 -- ---- the law
 
-never_same : (a : Call) (calls : List Call) → Every IsQuiet calls → list_any (same_reading a) calls ≡ false
-never_same a [] h = refl
-never_same a (k ∷ calls) h = rw (h.0 a) (never_same a calls h.1)
+none_same : (a : Call) (calls : List Call) → Every IsQuiet calls → list_any (same_reading a) calls ≡ false
+none_same a [] h = refl
+none_same a (k ∷ calls) h = rw (h.0 a) (none_same a calls h.1)
 
 never_repeats : (head : Head) (c : ℕ) (past : List Line) (a : Call) → Grown head past → is_repeat (who_is c (printed past)) (printed past) a ≡ false
 never_repeats head c past a g =
     subst (λ (w : Who). is_repeat w (printed past) a ≡ false) (sym (ap (λ (v : ℕ). who_of c v) (life_stays head c past g)))
-    (ap (λ (b : Bool). b && not (has_write_lock (first_life c) (held (printed past)))) (never_same a (known (first_life c) (printed past)) (known_quiet head c past g)))
+    (ap (λ (b : Bool). b && not (has_write_lock (first_life c) (held (printed past)))) (none_same a (known (first_life c) (printed past)) (known_quiet head c past g)))
 
 silent_at : (head : Head) (past : List Line) (l : Line) (later : List PrintedLine) → Allowed head past l.at l.entry → Grown head past → Keeps Silent past l later
 silent_at head past l later a g = by l.at.node l.entry

@@ -208,8 +208,17 @@ all_told head (l ∷ past) g = by l.at.node l.entry g.0 (all_told head past g.1)
 
 not_local : (x : Call) (o : Op) → operation_of x ≡ Some o → is_local x ≡ false
 not_local (call.Lookup path) o e = refl
+not_local (call.Stat path) o e = refl
+not_local (call.List path) o e = refl
+not_local (call.Layout path) o e = refl
 not_local (call.Mkdir path) o e = refl
+not_local (call.Create path None) o e = refl
+not_local (call.Create path (Some stripes)) o e = refl
+not_local (call.Link old new) o e = refl
+not_local (call.Unlink path) o e = refl
 not_local (call.Rmdir path) o e = refl
+not_local (call.Rename old new) o e = refl
+not_local (call.Chmod path mode) o e = refl
 not_local _ o e = absurd (cc)
 
 same_operation : (b : calls.Begun) (o : Op) → operation_of b.call ≡ Some o → operation b ≡ Some o
@@ -217,8 +226,17 @@ same_operation b o = by b.call
   where
     by : (x : Call) → operation_of x ≡ Some o → calls.operation_on x b.bound ≡ Some o
     by (call.Lookup path) e = e
+    by (call.Stat path) e = e
+    by (call.List path) e = e
+    by (call.Layout path) e = e
     by (call.Mkdir path) e = e
+    by (call.Create path None) e = e
+    by (call.Create path (Some stripes)) e = e
+    by (call.Link old new) e = e
+    by (call.Unlink path) e = e
     by (call.Rmdir path) e = e
+    by (call.Rename old new) e = e
+    by (call.Chmod path mode) e = e
     by _ e = absurd (cc)
 
 who_one : (head : Head) (c : ℕ) (past : List Line) → Grown head past → who_is c (printed past) ≡ first_life c

@@ -1,6 +1,4 @@
 -- The theorem: every covered run is lawful.
-use Rattle.std.proofs.Common.{ℕ, Bool, List}
-use Rattle.lu_base.specs.declared.ids.Who.{Who}
 use Rattle.lu_words.specs.Printed.{printed}
 use Rattle.lu_covered.specs.Runs.{lines_of}
 use Rattle.lu_laws.specs.Words.Lives.{is_gone}

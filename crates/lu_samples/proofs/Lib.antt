@@ -6,6 +6,7 @@ pub mod TwoInFlight
 pub mod Queue
 pub mod Tags
 pub mod Fits
+pub mod Files
 pub mod NameFound
 pub mod Unfit
 pub mod Spent

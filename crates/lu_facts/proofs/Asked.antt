@@ -1,0 +1,130 @@
+-- What is asked and done was asked by a call that began.
+use Rattle.std.proofs.Common.{◌≡◌, ℕ, List, [], ◌∷◌, Option, Some, None, ◌⊎◌, inl, inr, ⊎_elim, refl, sym, subst, ap, ◌∙◌}
+use Rattle.std.specs.Prelude.{nat_eq, if◌then◌else◌}
+use Rattle.std.proofs.lemmas.Bool.{cond_both}
+use Rattle.lu_base.specs.declared.ids.Node.{Node}
+use Rattle.lu_base.specs.declared.ids.Node.TheVariants.{Client, Target}
+use Rattle.lu_msg.specs.declared.calls.Call.{Call}
+use Rattle.lu_msg.specs.declared.operations.Op.{Op}
+use Rattle.lu_words.specs.Carried.{Deed, Queued, Flight, Asking, Asked as IsOut, Running}
+use Rattle.lu_words.specs.Words.{Entry, Tick, Begin, Told, Stands, Queues, Flies, Heard, Line, line}
+use Rattle.lu_words.specs.Concerns.{only}
+use Rattle.lu_covered.specs.Calls.{asks, asks_for, call_at, operation_of}
+use Rattle.lu_covered.specs.ClientStates.{queue_of}
+use Rattle.lu_covered.specs.Runs.{Head, IsAsked}
+use Rattle.lu_guards.proofs.Guards.{In, EntryOk, Allowed, Grown}
+use Rattle.lu_guards.proofs.Parts.{queue_is}
+use Rattle.lu_facts.proofs.Groups.{turn, Flew, Acted, CallOf}
+use Rattle.lu_facts.proofs.All.{holds}
+use Rattle.lu_facts.proofs.Lines.{flew_whole}
+use Rattle.lu_facts.proofs.OnNames.{IsOnNames, becomes_on_names}
+use Rattle.lu_facts.proofs.Sides.{acted_only}
+
+-- a call began: reads Begin
+abbrev pub Began : List Line → Call → Type 0
+Began [] k = ⊥
+Began (l ∷ past) k = elim l.entry [ Begin slot running ↦ (running.call ≡ k) ⊎ Began past k | _ ↦ Began past k ]
+
+pub began_more : (l : Line) (past : List Line) (k : Call) → Began past k → Began (l ∷ past) k
+began_more l past k b = by l.entry
+  where
+    by : (e : Entry) → Began (line l.at e ∷ past) k
+    by (Begin slot running) = inr b
+    by _ = b
+
+-- a call that began, and asks what may be asked
+abbrev pub Asks : List Line → Call → Type 0
+Asks past k = Began past k × ((o : Op) → operation_of k ≡ Some o → IsAsked o)
+
+-- such a call asks that operation
+abbrev pub AskedBy : List Line → Op → Type 0
+AskedBy past o = (k : Call) × Began past k × (operation_of k ≡ Some o) × IsAsked o
+
+asked_more : (l : Line) (past : List Line) (o : Op) → AskedBy past o → AskedBy (l ∷ past) o
+asked_more l past o a = (a.0, began_more l past a.0 a.1, a.2, a.3)
+
+-- ---- calls
+
+asks_call : (served : Option ℕ) (slot : ℕ) (asking : Asking) (o : Option Running) (r : Running) → asks_for served slot asking o ≡ Some r → (q : Running) × (o ≡ Some q) × (q.call ≡ r.call)
+asks_call None slot asking o r e = (r, e, refl)
+asks_call (Some s) slot asking o r e = cond_both (nat_eq s slot) (asks asking o) o (λ v. v ≡ Some r → (q : Running) × (o ≡ Some q) × (q.call ≡ r.call)) (λ t g. by o g) (λ t g. (r, g, refl)) e
+  where
+    by : (o : Option Running) → asks asking o ≡ Some r → (q : Running) × (o ≡ Some q) × (q.call ≡ r.call)
+    by None g = absurd (cc)
+    by (Some q) g = let same : record q { asking = asking } ≡ r = cc in (q, refl, ap (λ (v : Running). v.call) same)
+
+-- each call that isn't told began
+pub began_call : (head : Head) (past : List Line) → Grown head past → (c slot : ℕ) (r : Running) → call_at c slot past ≡ Some r → Asks past r.call
+began_call head [] g c slot r e = absurd (cc)
+began_call head (l ∷ past) g c slot r e = by l.at.node l.entry g.0.ok (began_call head past g.1 c slot) e
+  where
+    Goal : Type 0
+    Goal = Asks (line l.at l.entry ∷ past) r.call
+
+    more : (e : Entry) (k : Call) → Asks past k → Asks (line l.at e ∷ past) k
+    more e k a = (began_more (line l.at e) past k a.0, a.1)
+
+    asks_now : (e : Entry) (served : Option ℕ) (asking : Asking) → ((q : Running) → call_at c slot past ≡ Some q → Asks past q.call) → asks_for served slot asking (call_at c slot past) ≡ Some r → Asks (line l.at e ∷ past) r.call
+    asks_now e served asking h is = let k = asks_call served slot asking (call_at c slot past) r is in subst (λ (v : Call). Asks (line l.at e ∷ past) v) k.2 (more e k.0.call (h k.0 k.1))
+
+    by : (node : Node) (e : Entry) → EntryOk past (turn l.at.stamp node) node e → ((q : Running) → call_at c slot past ≡ Some q → Asks past q.call) → call_at c slot (line (turn l.at.stamp node) e ∷ past) ≡ Some r → Asks (line l.at e ∷ past) r.call
+    by (Client d) (Begin s running) ok h is =
+        cond_both (nat_eq c d) (if nat_eq s slot then Some running else call_at c slot past) (call_at c slot past) (λ v. v ≡ Some r → Asks (line l.at (Begin s running) ∷ past) r.call)
+        (λ t. cond_both (nat_eq s slot) (Some running) (call_at c slot past) (λ v. v ≡ Some r → Asks (line l.at (Begin s running) ∷ past) r.call)
+        (λ u q. let same : running ≡ r = cc in subst (λ (v : Running). Asks (line l.at (Begin s running) ∷ past) v.call) same (inl refl, λ o becomes. let same_op : ok.op ≡ o = one ok.op o (sym ok.becomes ∙ becomes) in subst IsAsked same_op ok.asked))
+        (λ u q. more (Begin s running) r.call (h r q)))
+        (λ t q. more (Begin s running) r.call (h r q))
+        is
+      where
+        one : (a b : Op) → Some a ≡ Some b → a ≡ b
+        one a b e = cc
+    by (Client d) (Queues u q) ok h is =
+        cond_both (nat_eq c d) (asks_for q.slot slot IsOut (call_at c slot past)) (call_at c slot past) (λ v. v ≡ Some r → Asks (line l.at (Queues u q) ∷ past) r.call)
+        (λ t. asks_now (Queues u q) q.slot IsOut h) (λ t k. more (Queues u q) r.call (h r k)) is
+    by (Client d) (Heard u f k) ok h is =
+        cond_both (nat_eq c d) (asks_for f.slot slot _ (call_at c slot past)) (call_at c slot past) (λ v. v ≡ Some r → Asks (line l.at (Heard u f k) ∷ past) r.call)
+        (λ t. asks_now (Heard u f k) f.slot _ h) (λ t j. more (Heard u f k) r.call (h r j)) is
+    by (Client d) (Told s named answer work) ok h is =
+        cond_both (nat_eq c d) (if nat_eq s slot then None else call_at c slot past) (call_at c slot past) (λ v. v ≡ Some r → Asks (line l.at (Told s named answer work) ∷ past) r.call)
+        (λ t. cond_both (nat_eq s slot) None (call_at c slot past) (λ v. v ≡ Some r → Asks (line l.at (Told s named answer work) ∷ past) r.call) (λ u q. absurd (cc)) (λ u q. more (Told s named answer work) r.call (h r q)))
+        (λ t q. more (Told s named answer work) r.call (h r q))
+        is
+    by (Client d) (Stands s running) ok h is = absurd ok
+    by (Target t) Tick ok h is = more Tick r.call (h r is)
+    by node e ok h is = more e r.call (h r is)
+
+-- ---- what is asked and done
+
+pub served_asked : (head : Head) (past : List Line) → Grown head past → (c : ℕ) (slot : Option ℕ) (o : Op) → CallOf past c slot o → AskedBy past o
+served_asked head past g c None o k = absurd k
+served_asked head past g c (Some slot) o k = let a = began_call head past g c slot k.0 k.1 in (k.0.call, a.0, k.3, a.1 o k.3)
+
+pub flew_asked : (head : Head) (past : List Line) (c : ℕ) (f : Flight) → Grown head past → Flew past c f → AskedBy past f.op
+flew_asked head [] c f g a = absurd a
+flew_asked head (l ∷ past) c f g a = asked_more l past f.op (by l.at.node l.entry g.0 a (flew_asked head past c f g.1))
+  where
+    by : (node : Node) (e : Entry) → Allowed head past (turn l.at.stamp node) e → Flew (line (turn l.at.stamp node) e ∷ past) c f → (Flew past c f → AskedBy past f.op) → AskedBy past f.op
+    by (Target u) (Flies t q) k a h = absurd k.ok
+    by (Client d) (Flies t q) k a h = ⊎_elim
+        (λ (p : (Client d ≡ Client c) × (q ≡ f)).
+        let ok = k.of 0 (ap (λ (v : ℕ). nat_eq 0 v) k.ok) in
+        let i : In ok.front (queue_of d (only 0 past)) = subst (λ (v : List Queued). In ok.front v) (sym ok.queue) (inl refl) in
+        let call = (holds head past g.1).asks.queue_calls d 0 ok.front (subst (λ (v : List Queued). In ok.front v) (sym (queue_is d 0 past)) i) in
+        let same : ok.front.op ≡ f.op = ap (λ (v : Flight). v.op) (sym ok.is) ∙ ap (λ (v : Flight). v.op) p.1 in
+        subst (AskedBy past) same (served_asked head past g.1 d ok.front.slot ok.front.op call))
+        (λ (p : Flew past c f). h p)
+        a
+    by _ _ k a h = h a
+
+-- what was done was asked
+pub acted_asked : (head : Head) (past : List Line) (d : Deed) → Grown head past → Acted past d → AskedBy past d.op
+acted_asked head past d g a =
+    let flew = ((holds head past g).at 0).done.flew d (acted_only head past d g a) in
+    subst (AskedBy past) flew.3 (flew_asked head past d.reply.who.client flew.0 g (flew_whole 0 past d.reply.who.client flew.0 flew.1))
+
+-- so it is an operation on names
+pub flew_on_names : (head : Head) (past : List Line) (c : ℕ) (f : Flight) → Grown head past → Flew past c f → IsOnNames f.op
+flew_on_names head past c f g a = let k = flew_asked head past c f g a in becomes_on_names k.0 f.op k.2
+
+pub acted_on_names : (head : Head) (past : List Line) (d : Deed) → Grown head past → Acted past d → IsOnNames d.op
+acted_on_names head past d g a = let k = acted_asked head past d g a in becomes_on_names k.0 d.op k.2
