@@ -7,7 +7,7 @@ use Rattle.lu_msg.specs.declared.calls.Call.{Call as CallOf}
 use Rattle.lu_msg.specs.declared.calls.Call.TheVariants as call
 use Rattle.lu_msg.specs.declared.operations.Op.{Op}
 use Rattle.lu_msg.specs.declared.operations.Op.TheVariants as op
-use Rattle.lu_scene.specs.Grammar.{CallFits, LineFits}
+use Rattle.lu_scene.specs.Grammar.{LineFits}
 use Rattle.lu_scene.specs.declared.scene.Scene.{Scene}
 use Rattle.lu_scene.specs.declared.scene.SceneLine.{SceneLine}
 use Rattle.lu_scene.specs.declared.scene.SceneLine.TheVariants.{Call, Run, RunSome, Deliver, Lose, Tick, Die}
@@ -136,6 +136,16 @@ called_misses Made Fewer fewer (line ∷ lines) call are i = by line (All-head (
     by (Call client slot begun) is (inl e) more = subst (Misses Fewer) e (misses Made Fewer fewer begun is)
     by (Call client slot begun) is (inr j) more = more j
     by line is j more = more j
+
+-- and each keeps the limits of calls
+pub called_fits : (scene : Scene) (lines : List SceneLine) → AllKnown scene lines → (call : CallOf) → Calls lines call → IsCall call
+called_fits scene [] known call i = absurd i
+called_fits scene (line ∷ lines) known call i = by line known.0 i (called_fits scene lines known.1 call)
+  where
+    by : (line : SceneLine) → IsKnown scene.lines scene.head.clients line → Calls (line ∷ lines) call → (Calls lines call → IsCall call) → IsCall call
+    by (Call client slot begun) known (inl e) more = subst IsCall e known.limits
+    by (Call client slot begun) known (inr j) more = more j
+    by line known j more = more j
 
 -- where all calls that began are those of lines, none makes what another reads
 pub all_miss : (scene : Scene) → IsCovered scene → (past : List Line) → ((call : CallOf) → Began past call → Calls scene.lines call) → (call : CallOf) → Began past call → Misses (Made_in past) call

@@ -18,7 +18,6 @@ use Rattle.lu_words.specs.Given.{step_posts}
 use Rattle.lu_words.specs.Words.{Entry, Line, with_turn as with_lines}
 use Rattle.lu_words.specs.Sent.{Sent}
 use Rattle.lu_client_rows.specs.Calls.{is_dead}
-use Rattle.lu_client_rows.specs.Rows as client
 use Rattle.lu_table.specs.Heads.{Head}
 use Rattle.lu_table.specs.Runs.{EventAt, Turn, lines_of, has_failed, row_at, IsRun}
 use Rattle.lu_table.specs.Scenarios.{Config, Next, Stops, Fails, Goes, head_of, past_of, is_full, posted, with_turn, left, Disks, start_fails, start_turn, is_down, turn_of, due, arrives, due_alive, comes, runs, next_by, with_stripes, Leads, here, more, start}

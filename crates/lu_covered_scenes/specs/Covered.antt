@@ -1,7 +1,7 @@
 -- The scenarios whose runs the theorem covers so far: clients begin calls on names, messages come or are lost, time goes on at
 -- clients and at the metadata target, clients die. A reading that finds what it asks for is granted a lock, so only one of a path
 -- that no line makes is covered.
-use Rattle.std.specs.Prelude.{◌≡◌, ◌≢◌, ℕ, List, [], ◌∷◌, All, ◌⊎◌}
+use Rattle.std.specs.Prelude.{◌≡◌, ◌≢◌, List, [], ◌∷◌, All, ◌⊎◌}
 use Rattle.lu_base.specs.declared.ids.Node.TheVariants.{Client, Target}
 use Rattle.lu_msg.specs.declared.calls.Call.{Call as CallOf}
 use Rattle.lu_msg.specs.declared.calls.Call.TheVariants.{Lookup, Stat, List as Lists, Layout, Mkdir, Create, Link, Unlink, Rmdir, Rename, Chmod}

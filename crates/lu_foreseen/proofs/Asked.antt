@@ -1,6 +1,6 @@
 -- Which requests there are in a run of the covered rows: each has a tag below the number of requests that may be in flight, and asks
--- for one of three operations on names.
-use Rattle.std.proofs.Common.{◌≡◌, true, false, Bool, ℕ, zero, suc, ◌+◌, ◌<◌, ◌≤◌, List, [], ◌∷◌, length, map, Option, Some, None, inl, ⊎_elim, refl, sym, subst, ap, ◌∙◌, arith}
+-- for the operation of a call that began.
+use Rattle.std.proofs.Common.{◌≡◌, true, false, Bool, ℕ, zero, suc, ◌+◌, ◌<◌, ◌≤◌, List, [], ◌∷◌, length, map, ⊎_elim, refl, sym, subst, ap, ◌∙◌, arith}
 use Rattle.std.specs.Prelude.{if◌then◌else◌, ◌||◌, nat_eq}
 use Rattle.std.proofs.lemmas.Bool.{cases_lt}
 use Rattle.std.proofs.lemmas.List.{length-map}
@@ -8,25 +8,23 @@ use Rattle.lu_base.specs.declared.ids.Node.{Node}
 use Rattle.lu_base.specs.declared.ids.Node.TheVariants.{Client, Target}
 use Rattle.lu_msg.specs.declared.messages.Message.TheVariants as message
 use Rattle.lu_msg.specs.declared.messages.Request.{Request as RequestOf}
-use Rattle.lu_msg.specs.declared.operations.Op.{Op}
 use Rattle.lu_import.specs.declared.requests.InFlight.{InFlight}
 use Rattle.lu_import.specs.InFlights.{has_tag as has_tag_in}
 use Rattle.lu_import.proofs.Tags.{taken_below}
-use Rattle.lu_words.specs.Carried.{Queued, Flight}
+use Rattle.lu_words.specs.Carried.{Flight}
 use Rattle.lu_words.specs.Words.{Entry, Flies, Line, line}
 use Rattle.lu_words.specs.Concerns.{concerns, only}
 use Rattle.lu_words.specs.Sent.{Sent}
-use Rattle.lu_covered.specs.Imports.{queue_at, has_tag, free_from, free_tag, above_tags}
+use Rattle.lu_covered.specs.Imports.{has_tag, free_from, free_tag, above_tags}
 use Rattle.lu_covered.specs.ClientStates.{flights_of}
 use Rattle.lu_covered.specs.Runs.{Head}
-use Rattle.lu_guards.proofs.Guards.{In, EntryOf, FliesOk, Grown}
-use Rattle.lu_guards.proofs.Parts.{queue_is}
-use Rattle.lu_facts.proofs.Groups.{Flew, Meant, CallOf}
+use Rattle.lu_guards.proofs.Guards.{EntryOf, FliesOk, Grown}
+use Rattle.lu_facts.proofs.Groups.{Flew, Meant}
 use Rattle.lu_facts.proofs.Lines.{flew_whole}
 use Rattle.lu_facts.proofs.All.{holds}
 use Rattle.lu_facts.proofs.Sides.{sent_only}
 use Rattle.lu_guards.proofs.Lists.{self}
-use Rattle.lu_facts.proofs.OnNames.{IsOnNames, becomes_on_names}
+use Rattle.lu_facts.proofs.Asked.{AskedBy, flew_asked}
 
 -- ---- the least free tag isn't above the number of requests in flight
 
@@ -57,45 +55,34 @@ free_within flights =
 
 -- ---- what flew
 
-record Flying (head : Head) (f : Flight) : Type 0 where
-  tag : f.tag < head.flight
-  op : IsOnNames f.op
-
-asked_on_names : (past : List Line) (c : ℕ) (slot : Option ℕ) (o : Op) → CallOf past c slot o → IsOnNames o
-asked_on_names past c None o k = absurd k
-asked_on_names past c (Some slot) o k = becomes_on_names k.0.call o k.3
-
-flies_one : (head : Head) (past : List Line) (c t : ℕ) (f : Flight) → Grown head past → FliesOk head (only t past) c f → Flying head f
-flies_one head past c t f g ok =
+flies_one : (head : Head) (past : List Line) (c t : ℕ) (f : Flight) → FliesOk head (only t past) c f → f.tag < head.flight
+flies_one head past c t f ok =
     let tag : f.tag ≡ free_tag (flights_of c (only t past)) = ap (λ (v : Flight). v.tag) ok.is in
     let within = free_within (flights_of c (only t past)) in
     let room = ok.room in
-    let waits : In ok.front (queue_at c t past) = subst (λ (queue : List Queued). In ok.front queue) (sym (queue_is c t past ∙ ok.queue)) (inl refl) in
-    record {
-      tag = omega arith;
-      op = subst IsOnNames (ap (λ (v : Flight). v.op) (sym ok.is)) (asked_on_names past c ok.front.slot ok.front.op ((holds head past g).asks.queue_calls c t ok.front waits));
-    }
+    omega arith
 
-flew_one : (head : Head) (past : List Line) → Grown head past → (c : ℕ) (f : Flight) → Flew past c f → Flying head f
+flew_one : (head : Head) (past : List Line) → Grown head past → (c : ℕ) (f : Flight) → Flew past c f → f.tag < head.flight
 flew_one head [] g c f i = absurd i
 flew_one head (l ∷ past) g c f i = by l.at.node l.entry g.0.of (flew_one head past g.1 c f) i
   where
-    by : (node : Node) (e : Entry) → ((t : ℕ) → concerns t node e ≡ true → EntryOf head (only t past) l.at node e) → (Flew past c f → Flying head f) → Flew (line (record { stamp = l.at.stamp; node = node }) e ∷ past) c f → Flying head f
-    by (Client d) (Flies t x) of h i = ⊎_elim (λ (p : (Client d ≡ Client c) × (x ≡ f)). subst (Flying head) p.1 (flies_one head past d t x g.1 (of t (self t)))) h i
+    by : (node : Node) (e : Entry) → ((t : ℕ) → concerns t node e ≡ true → EntryOf head (only t past) l.at node e) → (Flew past c f → f.tag < head.flight) → Flew (line (record { stamp = l.at.stamp; node = node }) e ∷ past) c f → f.tag < head.flight
+    by (Client d) (Flies t x) of h i = ⊎_elim (λ (p : (Client d ≡ Client c) × (x ≡ f)). subst (λ (v : Flight). v.tag < head.flight) p.1 (flies_one head past d t x (of t (self t)))) h i
     by (Target t) (Flies u x) of h i = absurd (of t (self t))
     by node e of h i = h i
 
 -- ---- requests
 
-pub record Fitting (head : Head) (r : RequestOf) : Type 0 where
+-- its tag is small, and a call that began asks for its operation
+pub record Fitting (head : Head) (past : List Line) (r : RequestOf) : Type 0 where
   pub tag : r.tag < head.flight
-  pub op : IsOnNames r.op
+  pub asked : AskedBy past r.op
 
-pub request_fits : (head : Head) (past : List Line) → Grown head past → (n : ℕ) (from : Node) (t : ℕ) (r : RequestOf) → Sent past n from (Target t) (message.Request r) → Fitting head r
+pub request_fits : (head : Head) (past : List Line) → Grown head past → (n : ℕ) (from : Node) (t : ℕ) (r : RequestOf) → Sent past n from (Target t) (message.Request r) → Fitting head past r
 request_fits head past g n from t r s =
     let m : Meant (only 0 past) (Target t) (message.Request r) = ((holds head past g).at 0).done.sent from (Target t) (message.Request r) (sent_only head past n from (Target t) (message.Request r) g s) in
-    let flying = flew_one head past g r.who.client m.0 (flew_whole 0 past r.who.client m.0 m.1) in
+    let flew = flew_whole 0 past r.who.client m.0 m.1 in
     record {
-      tag = subst (λ v. v < head.flight) (ap (λ (v : RequestOf). v.tag) (sym m.2)) flying.tag;
-      op = subst IsOnNames (ap (λ (v : RequestOf). v.op) (sym m.2)) flying.op;
+      tag = subst (λ v. v < head.flight) (ap (λ (v : RequestOf). v.tag) (sym m.2)) (flew_one head past g r.who.client m.0 flew);
+      asked = subst (AskedBy past) (ap (λ (v : RequestOf). v.op) (sym m.2)) (flew_asked head past r.who.client m.0 g flew);
     }

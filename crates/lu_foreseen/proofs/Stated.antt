@@ -1,9 +1,11 @@
 -- Each covered scenario is foreseen.
-use Rattle.std.proofs.Common.{◌≡◌, ℕ, ◌+◌, ◌<◌, true, false, List, [], ◌∷◌, Some, length, refl, sym, subst, ◌∙◌, arith}
+use Rattle.std.proofs.Common.{◌≡◌, ℕ, ◌+◌, ◌<◌, true, false, List, [], ◌∷◌, Some, None, length, refl, sym, subst, ◌∙◌, arith}
+use Rattle.std.specs.Prelude.{ℤ, pos, negsuc}
 use Rattle.std.proofs.lemmas.Bool.Decides.{nat_tests}
 use Rattle.std.proofs.lemmas.List.Elements.{All-nil}
 use Rattle.lu_base.specs.declared.ids.Node.{Node}
 use Rattle.lu_base.specs.declared.ids.Node.TheVariants.{Client, Target}
+use Rattle.lu_msg.specs.declared.calls.Call.{Call}
 use Rattle.lu_msg.specs.declared.calls.Call.TheVariants as call
 use Rattle.lu_msg.specs.declared.messages.Message.{Message}
 use Rattle.lu_msg.specs.declared.messages.Message.TheVariants as message
@@ -16,7 +18,8 @@ use Rattle.lu_scene.specs.declared.scene.Scene.{Scene}
 use Rattle.lu_scene.specs.declared.scene.SceneLine.{SceneLine}
 use Rattle.lu_scene.specs.declared.scene.SceneLine.TheVariants.{Tick, Commit, CommitSome, Crash, Boot, Close}
 use Rattle.lu_service.specs.declared.services.Kind.TheVariants.{Mdt}
-use Rattle.lu_service.specs.Takes.{Takes}
+use Rattle.lu_service.specs.Takes.{Takes, IsCount as Counts}
+use Rattle.lu_trace.specs.WellFormed.{IsCount, IsCall}
 use Rattle.lu_words.specs.Words.{Line}
 use Rattle.lu_words.specs.Sent.{Sent}
 use Rattle.lu_target_rows.specs.Locks.{same_request}
@@ -24,12 +27,13 @@ use Rattle.lu_target_rows.specs.States.{is_serving}
 use Rattle.lu_table.specs.Heads.{Head}
 use Rattle.lu_table.specs.Runs.{target_of}
 use Rattle.lu_table.specs.Scenarios.{Config, Disks, head_of, past_of, is_full, is_down}
+use Rattle.lu_covered.specs.Calls.{operation_of}
 use Rattle.lu_covered.specs.TargetStates.{server_at}
 use Rattle.lu_covered.specs.Runs as few
 use Rattle.lu_guards.proofs.Guards.{Grown}
 use Rattle.lu_guards.proofs.Obey.{grown}
 use Rattle.lu_facts.proofs.Sides.{from_target, from_client}
-use Rattle.lu_facts.proofs.OnNames.{IsOnNames}
+use Rattle.lu_facts.proofs.OnNames.{op_is}
 use Rattle.lu_facts.proofs.Finds.{needs_none}
 use Rattle.lu_after.proofs.Posts.{sent_at_is}
 use Rattle.lu_covering.specs.Covered.{covered_head}
@@ -38,7 +42,7 @@ use Rattle.lu_covering.proofs.Small.{target_knows}
 use Rattle.lu_covering.proofs.Waiting.{none_waits}
 use Rattle.lu_covering.proofs.Whole.{few_turns, few_lines}
 use Rattle.lu_covered_scenes.specs.Covered.{IsCovered}
-use Rattle.lu_covered_scenes.proofs.Lines.{AllKnown, IsKnown, all_miss}
+use Rattle.lu_covered_scenes.proofs.Lines.{AllKnown, IsKnown, lines_known, called_fits, all_miss}
 use Rattle.lu_covered_scenes.proofs.Nodes.{to_client}
 use Rattle.lu_covered_scenes.proofs.Runs.{Follows, leads_follow}
 use Rattle.lu_nodes.specs.Foreseen.{MayHave, IsForeseen, IsTickForeseen}
@@ -48,20 +52,25 @@ use Rattle.lu_foreseen.proofs.Answered.{comes}
 use Rattle.lu_foreseen.proofs.Numbers.{MayBe, numbered}
 use Rattle.lu_foreseen.proofs.Ticks.{ticks_few}
 
--- operations on names are of the metadata target's service
-names_take : (o : Op) → IsOnNames o → Takes Mdt o
-names_take (op.Lookup path) is = tt
-names_take (op.Stat path) is = tt
-names_take (op.List path) is = tt
-names_take (op.Layout path) is = tt
-names_take (op.Mkdir path) is = tt
-names_take (op.Create path size count) is = tt
-names_take (op.Link old new) is = tt
-names_take (op.Unlink path) is = tt
-names_take (op.Rmdir path) is = tt
-names_take (op.Rename old new) is = tt
-names_take (op.Chmod path mode) is = tt
-names_take _ is = absurd is
+-- what a call that keeps the limits becomes is of the metadata target's service
+count_takes : (count : ℤ) → IsCount count → Counts count
+count_takes (pos n) fits = tt
+count_takes (negsuc n) fits = fits
+
+names_take : (k : Call) (o : Op) → operation_of k ≡ Some o → IsCall k → Takes Mdt o
+names_take (call.Create path None) o e fits = absurd fits
+names_take (call.Create path (Some stripes)) o e fits = subst (Takes Mdt) (op_is (op.Create path stripes.0 stripes.1) o e) (count_takes stripes.1 fits.1.1)
+names_take (call.Lookup path) o e fits = subst (Takes Mdt) (op_is (op.Lookup path) o e) tt
+names_take (call.Stat path) o e fits = subst (Takes Mdt) (op_is (op.Stat path) o e) tt
+names_take (call.List path) o e fits = subst (Takes Mdt) (op_is (op.List path) o e) tt
+names_take (call.Layout path) o e fits = subst (Takes Mdt) (op_is (op.Layout path) o e) tt
+names_take (call.Mkdir path) o e fits = subst (Takes Mdt) (op_is (op.Mkdir path) o e) tt
+names_take (call.Link old new) o e fits = subst (Takes Mdt) (op_is (op.Link old new) o e) tt
+names_take (call.Unlink path) o e fits = subst (Takes Mdt) (op_is (op.Unlink path) o e) tt
+names_take (call.Rmdir path) o e fits = subst (Takes Mdt) (op_is (op.Rmdir path) o e) tt
+names_take (call.Rename old new) o e fits = subst (Takes Mdt) (op_is (op.Rename old new) o e) tt
+names_take (call.Chmod path mode) o e fits = subst (Takes Mdt) (op_is (op.Chmod path mode) o e) tt
+names_take k o e fits = absurd (cc)
 
 has_room : (c : Config) → is_full c ≡ false → length c.turns < 65536
 has_room c free = grind (arith, nat_tests)
@@ -97,10 +106,12 @@ module _ (scene : Scene) (covered : IsCovered scene) (disks : Disks) (c : Config
 
   may_have : (n from : ℕ) (m : Message) → Sent past n (Client from) (Target 0) m → MayHave m (target_of head 0 past)
   may_have n from (message.Request r) sent =
-      let fits : Fitting h r = request_fits h past g n (Client from) 0 r sent in
+      let fits : Fitting h past r = request_fits h past g n (Client from) 0 r sent in
       let most = covered.limits.head.most_flight in
       let tag = fits.tag in
-      (omega arith, names_take r.op fits.op, rw queue_none (All-nil (λ (q : RequestOf). same_request q r ≡ true → q.tag ≡ r.tag)))
+      let asked = fits.asked in
+      let within = called_fits scene scene.lines (lines_known scene covered) asked.0 (f.begun asked.0 asked.1) in
+      (omega arith, names_take asked.0 r.op asked.2 within, rw queue_none (All-nil (λ (q : RequestOf). same_request q r ≡ true → q.tag ≡ r.tag)))
   may_have n from _ sent = tt
 
   may_reach : (n from : ℕ) (m : Message) → Sent past n (Client from) (Target 0) m → MayBe head (length c.turns + 1) (few.Comes n (Client from) m) past
