@@ -6,6 +6,8 @@
 #[cfg(test)]
 mod disks;
 #[cfg(test)]
+mod judging;
+#[cfg(test)]
 mod limits;
 #[cfg(test)]
 mod refusals;

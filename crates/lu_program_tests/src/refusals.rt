@@ -13,7 +13,7 @@ fn refuses_words_of_no_form(rt: HostRuntime) -> Result<(), Fail> {
         &["-play"],
         &["--", "play"],
         &["threads"],
-        &["judge"],
+        &["judge", "now"],
         &[""],
         &[],
         &["storm"],
@@ -100,7 +100,7 @@ fn writes_whole_pieces_before_a_fault_of_the_sink(rt: HostRuntime) -> Result<(),
 #[test]
 fn keeps_its_answer_where_the_line_of_a_refusal_is_cut_off(rt: HostRuntime) -> Result<(), Fail> {
     let rows: [(&[&str], &[u8], u8, &[u8]); 2] = [
-        (&["judge"], b"", 2, b"usag"),
+        (&["threads"], b"", 2, b"usag"),
         (&["play"], b"fly\n", 3, b"scen"),
     ];
     for (words, text, code, written) in rows {

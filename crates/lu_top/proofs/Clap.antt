@@ -7,8 +7,9 @@ use Rattle.clap.specs.Words.{App, Rule, Text, first_of, is_simple, new_app, new_
 use Rattle.clap.specs.declared.builder.ArgAction.TheVariants.{Set}
 use Rattle.clap.proofs.OnLiterals.{clap_on_literals}
 use Rattle.lu_top.specs.Forms.{IsForm, word_of, number_of, words_with}
+use Rattle.lu_top.specs.declared.forms.Performance.TheVariants.{Play, Storm}
 use Rattle.lu_top.specs.declared.forms.Form.{Form}
-use Rattle.lu_top.specs.declared.forms.Form.TheVariants.{Play, Storm}
+use Rattle.lu_top.specs.declared.forms.Form.TheVariants.{Perform, Judge}
 
 -- ---- the command
 
@@ -99,41 +100,56 @@ module _ (seed : ℕ) (small : seed < 2 ^ 64) where
   abbrev begun : (k : ℕ) × (rest : List ℕ) × (k < 10) × (decimal seed ≡ (48 + k) ∷ rest)
   begun = begins (decimal seed) (are_digits seed small) (decimal_nonempty seed small)
 
-  taken_storm : takes command (words_of (Storm seed)) ≡ true
+  taken_storm : takes command (words_of (Perform (Storm seed))) ≡ true
   taken_storm =
       subst (λ (ds : Text). takes command (codes "storm" ∷ ds ∷ []) ≡ true) (sym begun.3) (storm_taken begun.0 begun.1 begun.2)
 
-  word_storm : first_of (codes "form") (matches_of command (words_of (Storm seed))) ≡ Some (codes "storm")
+  word_storm : first_of (codes "form") (matches_of command (words_of (Perform (Storm seed)))) ≡ Some (codes "storm")
   word_storm =
       subst (λ (ds : Text). first_of (codes "form") (matches_of command (codes "storm" ∷ ds ∷ [])) ≡ Some (codes "storm")) (sym begun.3)
       (storm_word begun.0 begun.1 begun.2)
 
-  number_storm : first_of (codes "number") (matches_of command (words_of (Storm seed))) ≡ Some (decimal seed)
+  number_storm : first_of (codes "number") (matches_of command (words_of (Perform (Storm seed)))) ≡ Some (decimal seed)
   number_storm =
       subst (λ (ds : Text). first_of (codes "number") (matches_of command (codes "storm" ∷ ds ∷ [])) ≡ Some ds) (sym begun.3)
       (storm_number begun.0 begun.1 begun.2)
 
-taken_play : takes command (words_of Play) ≡ true
+taken_play : takes command (words_of (Perform Play)) ≡ true
 unfolding clap_on_literals
 taken_play = refl
 
-word_play : first_of (codes "form") (matches_of command (words_of Play)) ≡ Some (codes "play")
+word_play : first_of (codes "form") (matches_of command (words_of (Perform Play))) ≡ Some (codes "play")
 unfolding clap_on_literals
 word_play = refl
 
-number_play : first_of (codes "number") (matches_of command (words_of Play)) ≡ None
+number_play : first_of (codes "number") (matches_of command (words_of (Perform Play))) ≡ None
 unfolding clap_on_literals
 number_play = refl
 
+taken_judge : takes command (words_of Judge) ≡ true
+unfolding clap_on_literals
+taken_judge = refl
+
+word_judge : first_of (codes "form") (matches_of command (words_of Judge)) ≡ Some (codes "judge")
+unfolding clap_on_literals
+word_judge = refl
+
+number_judge : first_of (codes "number") (matches_of command (words_of Judge)) ≡ None
+unfolding clap_on_literals
+number_judge = refl
+
 -- it takes them, and finds the word and the number
 pub taken : (form : Form) → IsForm form → takes command (words_of form) ≡ true
-taken Play is = taken_play
-taken (Storm seed) is = taken_storm seed is
+taken (Perform Play) is = taken_play
+taken (Perform (Storm seed)) is = taken_storm seed is
+taken Judge is = taken_judge
 
 pub word_found : (form : Form) → IsForm form → first_of (codes "form") (matches_of command (words_of form)) ≡ Some (word_of form)
-word_found Play is = word_play
-word_found (Storm seed) is = word_storm seed is
+word_found (Perform Play) is = word_play
+word_found (Perform (Storm seed)) is = word_storm seed is
+word_found Judge is = word_judge
 
 pub number_found : (form : Form) → IsForm form → first_of (codes "number") (matches_of command (words_of form)) ≡ number_of form
-number_found Play is = number_play
-number_found (Storm seed) is = number_storm seed is
+number_found (Perform Play) is = number_play
+number_found (Perform (Storm seed)) is = number_storm seed is
+number_found Judge is = number_judge

@@ -2,8 +2,10 @@
 use Rattle.std.proofs.Common.{◌≡◌, ℕ, List, [], ◌∷◌, Option, Some, None, IfSome, IfNone, refl, sym, ap, ap₂, ◌∙◌, decimal, codes}
 use Rattle.std.proofs.lemmas.Fmt.{decimal_injective}
 use Rattle.lu_top.specs.Forms.{IsForm, Says, SaysNothing, word_of, number_of, words_with}
+use Rattle.lu_top.specs.declared.forms.Performance.{Performance}
+use Rattle.lu_top.specs.declared.forms.Performance.TheVariants.{Play, Storm}
 use Rattle.lu_top.specs.declared.forms.Form.{Form}
-use Rattle.lu_top.specs.declared.forms.Form.TheVariants.{Play, Storm}
+use Rattle.lu_top.specs.declared.forms.Form.TheVariants.{Perform, Judge}
 
 abbrev words_of : Form → List (List ℕ)
 words_of form = words_with (word_of form) (number_of form)
@@ -15,13 +17,26 @@ same_number : (a b : List ℕ) → codes "storm" ∷ a ∷ [] ≡ codes "storm" 
 same_number a b is = cc
 
 same_form : (a b : Form) → IsForm a → IsForm b → words_of a ≡ words_of b → a ≡ b
-same_form Play Play x y is = refl
-same_form Play (Storm n) x y is = absurd (cc is)
-same_form (Storm m) Play x y is = absurd (cc is)
-same_form (Storm m) (Storm n) x y is = ap (λ k. Storm k) (decimal_injective m n x y (same_number (decimal m) (decimal n) is))
+same_form Judge Judge x y is = refl
+same_form Judge (Perform Play) x y is = absurd (cc is)
+same_form Judge (Perform (Storm n)) x y is = absurd (cc is)
+same_form (Perform Play) Judge x y is = absurd (cc is)
+same_form (Perform Play) (Perform Play) x y is = refl
+same_form (Perform Play) (Perform (Storm n)) x y is = absurd (cc is)
+same_form (Perform (Storm m)) Judge x y is = absurd (cc is)
+same_form (Perform (Storm m)) (Perform Play) x y is = absurd (cc is)
+same_form (Perform (Storm m)) (Perform (Storm n)) x y is =
+    ap (λ k. Perform (Storm k)) (decimal_injective m n x y (same_number (decimal m) (decimal n) is))
 
-pub one_form : (words : List (List ℕ)) (a b : Form) → Says words a → Says words b → a ≡ b
+one_form : (words : List (List ℕ)) (a b : Form) → Says words a → Says words b → a ≡ b
 one_form words a b x y = same_form a b x.0 y.0 (sym x.1 ∙ y.1)
+
+same_performance : (p q : Performance) → Perform p ≡ Perform q → p ≡ q
+same_performance p q is = cc
+
+-- so they ask for one performance
+pub one_performance : (words : List (List ℕ)) (p q : Performance) → Says words (Perform p) → Says words (Perform q) → p ≡ q
+one_performance words p q x y = same_performance p q (one_form words (Perform p) (Perform q) x y)
 
 same_some : (a b : List ℕ) → some_of a ≡ some_of b → a ≡ b
 same_some a b is = cc

@@ -1,16 +1,19 @@
 -- The forms of a command line.
 use Rattle.std.specs.Prelude.{◌≡◌, ℕ, ◌<◌, ◌^◌, List, [], ◌∷◌, codes, decimal, Option, Some, None}
+use Rattle.lu_top.specs.declared.forms.Performance.TheVariants.{Play, Storm}
 use Rattle.lu_top.specs.declared.forms.Form.{Form}
-use Rattle.lu_top.specs.declared.forms.Form.TheVariants.{Play, Storm}
+use Rattle.lu_top.specs.declared.forms.Form.TheVariants.{Perform, Judge}
 
 -- its word, and the number after it if it has one
 abbrev pub word_of : Form → List ℕ
-word_of Play = codes "play"
-word_of (Storm seed) = codes "storm"
+word_of (Perform Play) = codes "play"
+word_of (Perform (Storm seed)) = codes "storm"
+word_of Judge = codes "judge"
 
 abbrev pub number_of : Form → Option (List ℕ)
-number_of Play = None
-number_of (Storm seed) = Some (decimal seed)
+number_of (Perform Play) = None
+number_of (Perform (Storm seed)) = Some (decimal seed)
+number_of Judge = None
 
 -- a word, and a number after it if there is one
 abbrev pub words_with : List ℕ → Option (List ℕ) → List (List ℕ)
@@ -19,8 +22,9 @@ words_with word (Some number) = word ∷ number ∷ []
 
 -- a form that there is: its number is a u64
 abbrev pub IsForm : Form → Type 0
-IsForm Play = Unit {0}
-IsForm (Storm seed) = seed < 2 ^ 64
+IsForm (Perform Play) = Unit {0}
+IsForm (Perform (Storm seed)) = seed < 2 ^ 64
+IsForm Judge = Unit {0}
 
 -- the words are of this form
 abbrev pub Says : List (List ℕ) → Form → Type 0

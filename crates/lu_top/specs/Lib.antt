@@ -3,3 +3,4 @@ pub mod Refusals
 pub mod Forms
 pub mod Asked
 pub mod Outcomes
+pub mod Judged

@@ -1,4 +1,4 @@
--- What the top call performs and writes.
+-- What the top call performs, and what it writes and answers.
 use Rattle.std.specs.Prelude.{◌≡◌, ℕ, ◌≤◌, List, map, Option, Some, None, IfSome, ◌⊎◌}
 use Rattle.std.specs.Io.KnownBytes.{Appends}
 use Rattle.lu_base.specs.Faults.{Rose, WrotePrefix}
@@ -14,9 +14,10 @@ use Rattle.lu_covered_scenes.specs.Covered.{IsCovered}
 use Rattle.lu_nodes.specs.States.{DiskState}
 use Rattle.lu_player.specs.declared.playing.Played.{Played}
 use Rattle.lu_player.specs.Played.{IsPlayed, faults_at}
-use Rattle.lu_top.specs.Refusals.{usage_text, read_fault_text, too_long_text, bad_text, unforeseen_text}
-use Rattle.lu_top.specs.declared.forms.Form.{Form}
-use Rattle.lu_top.specs.declared.forms.Form.TheVariants.{Play, Storm}
+use Rattle.lu_top.specs.Refusals.{usage_text, read_fault_text, too_long_text, bad_text, bad_trace_text, unforeseen_text}
+use Rattle.lu_top.specs.declared.forms.Performance.{Performance}
+use Rattle.lu_top.specs.declared.forms.Performance.TheVariants.{Play, Storm}
+use Rattle.lu_top.specs.declared.forms.Form.TheVariants.{Perform}
 use Rattle.lu_top.specs.Forms.{Says}
 use Rattle.lu_top.specs.Asked.{IsSceneBy}
 use Rattle.lu_top.specs.declared.status.Status.{Status}
@@ -34,6 +35,7 @@ line_told status.Usage = Some usage_text
 line_told status.ReadFault = Some read_fault_text
 line_told status.TooLong = Some too_long_text
 line_told (status.Scene line fault) = Some (bad_text line fault)
+line_told (status.Trace line) = Some (bad_trace_text line)
 line_told status.Unforeseen = Some unforeseen_text
 line_told _ = None
 
@@ -47,27 +49,36 @@ Tells old new before now answer = IfSome (line_told answer) (λ line. WasTold ol
 abbrev pub held_by : {D : Type 0} → (D → List Batch) → (D → ℕ) → List D → List DiskState
 held_by batches faults disks = map (λ d. record { batches = batches d; faults = faults d }) disks
 
--- what a form writes of a run: its trace and how it ended, or the summary of the trace
-abbrev pub text_by : Form → Played → List ℕ
+-- what is written of a run: its trace and how it ended, or the summary of the trace
+abbrev pub text_by : Performance → Played → List ℕ
 text_by Play played = trace_text played.trace played.end
 text_by (Storm seed) played = summary_text seed played.trace.entries
 
--- A run of the scenario that the words ask for, with what the source had and has left, and with what the disks hold then. Where
--- the theorem covers the scenario and no disk failed, its trace is lawful.
-pub record IsRunBy (words : List (List ℕ)) (left rest : Option (List ℕ)) (held : List DiskState) (form : Form) (played : Played) : Type 0 where
-  pub says : Says words form
+-- A run of the scenario of a performance, with what the source had and has left, and with what the disks hold then. Where the
+-- theorem covers the scenario and no disk failed, its trace is lawful.
+pub record IsRunOf (performance : Performance) (left rest : Option (List ℕ)) (held : List DiskState) (played : Played) : Type 0 where
   pub scene : Scene
-  pub is : IsSceneBy form left rest scene
+  pub is : IsSceneBy performance left rest scene
   pub run : IsPlayed scene played held
   pub lawful : IsCovered scene → played.failed ≡ None → IsLawful played.trace
 
--- some run by the words, in which this disk failed or none, and this holds of what it writes
-abbrev pub WroteBy : List (List ℕ) → Option (List ℕ) → Option (List ℕ) → List DiskState → Option TargetId → (List ℕ → Type 0) → Type 0
-WroteBy words left rest held failed P = (form : Form) × (played : Played) × IsRunBy words left rest held form played × (played.failed ≡ failed) × P (text_by form played)
+-- some run of a performance, in which this disk failed or none, and this holds of what is written of it
+abbrev pub WroteOf : Performance → Option (List ℕ) → Option (List ℕ) → List DiskState → Option TargetId → (List ℕ → Type 0) → Type 0
+WroteOf performance left rest held failed P =
+    (played : Played) × IsRunOf performance left rest held played × (played.failed ≡ failed) × P (text_by performance played)
 
--- this holds of the scenario that the words ask for
+-- the same of the performance that the words ask for
+abbrev pub WroteBy : List (List ℕ) → Option (List ℕ) → Option (List ℕ) → List DiskState → Option TargetId → (List ℕ → Type 0) → Type 0
+WroteBy words left rest held failed P =
+    (performance : Performance) × Says words (Perform performance) × WroteOf performance left rest held failed P
+
+-- this holds of the scenario of a performance
+abbrev pub OfScene : Performance → Option (List ℕ) → Option (List ℕ) → (Scene → Type 0) → Type 0
+OfScene performance left rest P = (scene : Scene) × IsSceneBy performance left rest scene × P scene
+
+-- the same of the performance that the words ask for
 abbrev pub OfAsked : List (List ℕ) → Option (List ℕ) → Option (List ℕ) → (Scene → Type 0) → Type 0
-OfAsked words left rest P = (form : Form) × (scene : Scene) × Says words form × IsSceneBy form left rest scene × P scene
+OfAsked words left rest P = (performance : Performance) × Says words (Perform performance) × OfScene performance left rest P
 
 -- the disk of one of its targets failed
 abbrev pub HasFailed : List DiskState → TargetId → Scene → Type 0
@@ -96,23 +107,24 @@ pub record WroteStorm (old new : Option (List ℕ)) (held : List DiskState) (see
 -- ---- what performing a scenario comes to
 
 -- what writing of a run comes to
-abbrev pub IsWritten : Form → Played → Option (List ℕ) → Option (List ℕ) → ℕ → ℕ → Status → Type 0
-IsWritten form played old new before now status.Done = (played.failed ≡ None) × Appends old new (text_by form played) × (now ≡ before)
-IsWritten form played old new before now status.WriteFault = (played.failed ≡ None) × WrotePrefix old new (text_by form played) × Rose before now
-IsWritten form played old new before now (status.DiskFault t) = (played.failed ≡ Some t) × WasTold old new before now (text_by form played)
-IsWritten form played old new before now status.Memory = Unit {0}
-IsWritten form played old new before now _ = ⊥
+abbrev pub IsWritten : Performance → Played → Option (List ℕ) → Option (List ℕ) → ℕ → ℕ → Status → Type 0
+IsWritten performance played old new before now status.Done = (played.failed ≡ None) × Appends old new (text_by performance played) × (now ≡ before)
+IsWritten performance played old new before now status.WriteFault = (played.failed ≡ None) × WrotePrefix old new (text_by performance played) × Rose before now
+IsWritten performance played old new before now (status.DiskFault t) = (played.failed ≡ Some t) × WasTold old new before now (text_by performance played)
+IsWritten performance played old new before now status.Memory = Unit {0}
+IsWritten performance played old new before now _ = ⊥
 
 -- a run of the scenario was written; or a node met what no run is known to bring, or memory ran out
-abbrev pub IsOutcome : Form → Scene → List DiskState → Option (List ℕ) → Option (List ℕ) → ℕ → ℕ → Status → Type 0
-IsOutcome form scene held old new before now status.Unforeseen = WasTold old new before now unforeseen_text
-IsOutcome form scene held old new before now status.Memory = Unit {0}
-IsOutcome form scene held old new before now answer =
-    (played : Played) × IsPlayed scene played held × (IsCovered scene → played.failed ≡ None → IsLawful played.trace) × IsWritten form played old new before now answer
+abbrev pub IsOutcome : Performance → Scene → List DiskState → Option (List ℕ) → Option (List ℕ) → ℕ → ℕ → Status → Type 0
+IsOutcome performance scene held old new before now status.Unforeseen = WasTold old new before now unforeseen_text
+IsOutcome performance scene held old new before now status.Memory = Unit {0}
+IsOutcome performance scene held old new before now answer =
+    (played : Played) × IsPlayed scene played held × (IsCovered scene → played.failed ≡ None → IsLawful played.trace) × IsWritten performance played old new before now answer
 
 -- ---- answers
 
--- a scenario was performed to its end, to a limit or to the failure of a disk
+-- a scenario was performed to its end, to a limit or to the failure of a disk; or a trace was judged, and is lawful or the
+-- verdict on it was cut off
 abbrev pub HasRun : Status → Type 0
 HasRun status.Done = Unit {0}
 HasRun status.WriteFault = Unit {0}
@@ -121,8 +133,10 @@ HasRun _ = ⊥
 
 -- no scenario was performed, and memory didn't run out
 abbrev pub HasRefused : Status → Type 0
+HasRefused (status.Unlawful law line) = Unit {0}
 HasRefused status.Usage = Unit {0}
 HasRefused (status.Scene line fault) = Unit {0}
+HasRefused (status.Trace line) = Unit {0}
 HasRefused status.TooLong = Unit {0}
 HasRefused status.ReadFault = Unit {0}
 HasRefused _ = ⊥
@@ -144,3 +158,10 @@ abbrev pub IsPerformedStatus : Status → Type 0
 IsPerformedStatus status.Unforeseen = Unit {0}
 IsPerformedStatus status.Memory = Unit {0}
 IsPerformedStatus answer = HasRun answer
+
+-- an answer that a performance comes to, whatever is read and written
+abbrev pub IsOfPerformance : Status → Type 0
+IsOfPerformance status.Usage = ⊥
+IsOfPerformance (status.Unlawful law line) = ⊥
+IsOfPerformance (status.Trace line) = ⊥
+IsOfPerformance _ = Unit {0}

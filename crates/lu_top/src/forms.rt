@@ -10,13 +10,22 @@ use clap::{Arg, ArgAction, ArgMatches, Command, Error};
 use lu_base::{Memory, read_number};
 use std::alloc::Global;
 
+/// Which scenario is performed, and what is written of its run.
+#[derive(Clone, Copy, Debug, PartialEq, Eq)]
+pub enum Performance {
+    /// `play`: a scenario that is read, and its trace is written.
+    Play,
+    /// `storm` and a number: the storm of that number, and the summary of its trace is written.
+    Storm(u64),
+}
+
 /// A form of a command line.
 #[derive(Clone, Copy, Debug, PartialEq, Eq)]
 pub enum Form {
-    /// `play`: a scenario is read and performed, and its trace is written.
-    Play,
-    /// `storm` and a number: the storm of that number is performed, and the summary of its trace is written.
-    Storm(u64),
+    /// A scenario is performed.
+    Perform(Performance),
+    /// `judge`: a trace is read and judged, and the verdict is written.
+    Judge,
 }
 
 /// The form of the words, where they have one. `clap` reads only words that have one.
@@ -52,11 +61,12 @@ fn form_of(word: &str, number: Option<&str>) -> Option<Form>
     ensures none { IfNone result (SaysNothing (words_with word.now (option_map (λ n. n.now) number.entry))) }
 {
     match (word, number) {
-        ("play", None) => Some(Form::Play),
+        ("play", None) => Some(Form::Perform(Performance::Play)),
         ("storm", Some(number)) => match read_number(number.as_bytes()) {
-            Some(seed) => Some(Form::Storm(seed)),
+            Some(seed) => Some(Form::Perform(Performance::Storm(seed))),
             None => None,
         },
+        ("judge", None) => Some(Form::Judge),
         _ => None,
     }
 }

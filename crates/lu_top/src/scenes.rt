@@ -7,9 +7,9 @@ ghost use Rattle.lu_scene.specs.Grammar.{IsScene, IsFirstFault};
 ghost use Rattle.lu_scene.specs.Storms.{storm_of};
 ghost use Rattle.lu_scene.specs.declared.scene.Scene.{Scene as SceneOf};
 ghost use Rattle.lu_scene.specs.declared.faults.Fault.{Fault as FaultOf};
-ghost use Rattle.lu_top.specs.Asked.{most_bytes, WasRead, IsGiven, IsSceneBy, IsRefusal};
+ghost use Rattle.lu_top.specs.Asked.{most_scene_bytes, WasRead, IsGiven, IsSceneBy, IsRefusal};
 
-use super::forms::Form;
+use super::forms::Performance;
 use lu_base::{Memory, ReadError, Source, read_all};
 use lu_scene::{Fault, Scene, SceneFault, read_scene, storm};
 use std::alloc::Global;
@@ -30,33 +30,33 @@ pub(crate) enum Refusal {
     Memory,
 }
 
-/// The scenario that a form says: the one that the source has, or the storm of the form's number.
+/// The scenario of a performance: the one that the source has, or the storm of the number.
 pub(crate) fn scene_of<S: Source>(
     alloc: Global,
-    form: Form,
+    performance: Performance,
     source: &mut S,
 ) -> Result<Scene, Refusal>
-    ensures scene { IfOk result (IsSceneBy form (S.left source.old) (S.left source.new)) }
+    ensures scene { IfOk result (IsSceneBy performance (S.left source.old) (S.left source.new)) }
     ensures bad { (line : ℕ) (fault : FaultOf) → result ≡ Err (Refusal.Bad line fault)
-        → WasRead (S.left source.old) (S.left source.new) (λ text. IsFirstFault (lines_of text) line fault) }
-    ensures too_long { result ≡ Err Refusal.TooLong → CameMore (S.left source.old) (S.left source.new) most_bytes }
+        → WasRead most_scene_bytes (S.left source.old) (S.left source.new) (λ text. IsFirstFault (lines_of text) line fault) }
+    ensures too_long { result ≡ Err Refusal.TooLong → CameMore (S.left source.old) (S.left source.new) most_scene_bytes }
     ensures read_fault { result ≡ Err Refusal.ReadFault → Rose (S.faults source.old) (S.faults source.new) }
     ensures steady { result ≢ Err Refusal.ReadFault → S.faults source.new ≡ S.faults source.old }
     // Where the source meets no fault, the answer is that of its bytes, unless memory runs out.
-    ensures only { (text : List ℕ) (scene : SceneOf) → form ≡ Form.Play
-        → IsGiven (S.left source.old) (S.faults source.old) (S.faults source.new) text
+    ensures only { (text : List ℕ) (scene : SceneOf) → performance ≡ Performance.Play
+        → IsGiven most_scene_bytes (S.left source.old) (S.faults source.old) (S.faults source.new) text
         → IsScene text scene → (result ≡ Ok scene) ⊎ (result ≡ Err Refusal.Memory) }
-    ensures refused { (text : List ℕ) → form ≡ Form.Play
-        → IsGiven (S.left source.old) (S.faults source.old) (S.faults source.new) text
+    ensures refused { (text : List ℕ) → performance ≡ Performance.Play
+        → IsGiven most_scene_bytes (S.left source.old) (S.faults source.old) (S.faults source.new) text
         → ((scene : SceneOf) → ¬ IsScene text scene) → IsRefusal result }
     // Of a storm nothing is read.
-    ensures unread { (seed : ℕ) → form ≡ Form.Storm seed → source.new ≡ source.old }
-    ensures storm { (seed : ℕ) → form ≡ Form.Storm seed
+    ensures unread { (seed : ℕ) → performance ≡ Performance.Storm seed → source.new ≡ source.old }
+    ensures storm { (seed : ℕ) → performance ≡ Performance.Storm seed
         → (result ≡ Ok (storm_of seed)) ⊎ (result ≡ Err Refusal.Memory) }
 {
-    match form {
-        Form::Play => read_from(alloc, source),
-        Form::Storm(seed) => match storm(alloc, seed) {
+    match performance {
+        Performance::Play => read_from(alloc, source),
+        Performance::Storm(seed) => match storm(alloc, seed) {
             Ok(scene) => Ok(scene),
             Err(Memory) => Err(Refusal::Memory),
         },
@@ -65,17 +65,17 @@ pub(crate) fn scene_of<S: Source>(
 
 /// The scenario that the source has.
 fn read_from<S: Source>(alloc: Global, source: &mut S) -> Result<Scene, Refusal>
-    ensures scene { IfOk result (λ scene. WasRead (S.left source.old) (S.left source.new) (λ text. IsScene text scene)) }
+    ensures scene { IfOk result (λ scene. WasRead most_scene_bytes (S.left source.old) (S.left source.new) (λ text. IsScene text scene)) }
     ensures bad { (line : ℕ) (fault : FaultOf) → result ≡ Err (Refusal.Bad line fault)
-        → WasRead (S.left source.old) (S.left source.new) (λ text. IsFirstFault (lines_of text) line fault) }
-    ensures too_long { result ≡ Err Refusal.TooLong → CameMore (S.left source.old) (S.left source.new) most_bytes }
+        → WasRead most_scene_bytes (S.left source.old) (S.left source.new) (λ text. IsFirstFault (lines_of text) line fault) }
+    ensures too_long { result ≡ Err Refusal.TooLong → CameMore (S.left source.old) (S.left source.new) most_scene_bytes }
     ensures read_fault { result ≡ Err Refusal.ReadFault → Rose (S.faults source.old) (S.faults source.new) }
     ensures steady { result ≢ Err Refusal.ReadFault → S.faults source.new ≡ S.faults source.old }
     ensures only { (text : List ℕ) (scene : SceneOf)
-        → IsGiven (S.left source.old) (S.faults source.old) (S.faults source.new) text
+        → IsGiven most_scene_bytes (S.left source.old) (S.faults source.old) (S.faults source.new) text
         → IsScene text scene → (result ≡ Ok scene) ⊎ (result ≡ Err Refusal.Memory) }
     ensures refused { (text : List ℕ)
-        → IsGiven (S.left source.old) (S.faults source.old) (S.faults source.new) text
+        → IsGiven most_scene_bytes (S.left source.old) (S.faults source.old) (S.faults source.new) text
         → ((scene : SceneOf) → ¬ IsScene text scene) → IsRefusal result }
 {
     let text = match read_all(alloc, source, MOST_BYTES) {

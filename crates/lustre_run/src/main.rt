@@ -1,5 +1,5 @@
 //! `lustre_run`: performs a scenario from standard input and writes its trace to standard output, or performs a storm and
-//! writes the summary of it.
+//! writes the summary of it, or judges a trace from standard input and writes the verdict.
 #![tactic(auto)]
 
 ghost use Rattle.std.specs.Prelude.{◌≡◌, [], IfOk};

@@ -1,72 +1,71 @@
-use Rattle.std.proofs.Common.{sym, subst, map, string_bytes}
-use Rattle.lu_scene.specs.declared.scene.Scene.{Scene}
-use Rattle.lu_covered_scenes.specs.Covered.{IsCovered}
-use Rattle.lu_player.specs.Played.{SomeRose}
-use Rattle.lu_top.specs.Outcomes.{held_by, Tells}
-use Rattle.lu_top.specs.declared.status.Status.{Status}
-use Rattle.lu_top.specs.declared.forms.Form.TheVariants.{Play, Storm}
-use Rattle.lu_top.specs.declared.scenes.Refusal.TheVariants as refusal
-use Rattle.lu_top.proofs.Words.{one_form}
-use Rattle.lu_top.proofs.Reading.{that_one, not_bad, limits_of}
-use Rattle.lu_top.proofs.Runs.{wrote_storm, disk_failed}
+use Rattle.std.proofs.Common.{map, string_bytes, inl}
+use Rattle.lu_top.specs.declared.forms.Performance.TheVariants.{Play, Storm}
+use Rattle.lu_top.specs.declared.forms.Form.TheVariants.{Perform, Judge}
+use Rattle.lu_top.proofs.Words.{one_performance}
 use Rattle.lu_top.proofs.top.run.Goals as goal
+
+-- ---- a scenario is performed
+
+pub returns-in-Ok-Some-Perform-clause-storm : goal.returns-in-Ok-Some-Perform-clause-storm
+returns-in-Ok-Some-Perform-clause-storm g c = λ seed done says.
+    let which = c.in-Ok-Some-Perform in
+    let said = rw (which.field-0-is, which.field-0-0-is) at which.ensures.some in
+    c.perform_asked.ensures.storm seed done (one_performance (map string_bytes c.args.words.now) which.performance (Storm seed) said says)
+
+pub returns-in-Ok-Some-Perform-clause-performed : goal.returns-in-Ok-Some-Perform-clause-performed
+returns-in-Ok-Some-Perform-clause-performed g c = λ text scene says given is.
+    let which = c.in-Ok-Some-Perform in
+    let said = rw (which.field-0-is, which.field-0-0-is) at which.ensures.some in
+    c.perform_asked.ensures.performed text scene (one_performance (map string_bytes c.args.words.now) which.performance Play said says) given is
+
+pub returns-in-Ok-Some-Perform-clause-done : goal.returns-in-Ok-Some-Perform-clause-done
+returns-in-Ok-Some-Perform-clause-done g c = λ text scene says given is covered calm sound.
+    let which = c.in-Ok-Some-Perform in
+    let said = rw (which.field-0-is, which.field-0-0-is) at which.ensures.some in
+    c.perform_asked.ensures.done text scene (one_performance (map string_bytes c.args.words.now) which.performance Play said says) given is covered calm sound
+
+pub returns-in-Ok-Some-Perform-clause-written : goal.returns-in-Ok-Some-Perform-clause-written
+returns-in-Ok-Some-Perform-clause-written g c = λ done.
+    let which = c.in-Ok-Some-Perform in
+    let said = rw (which.field-0-is, which.field-0-0-is) at which.ensures.some in
+    inl (which.performance, said, c.perform_asked.ensures.written done)
+
+pub returns-in-Ok-Some-Perform-clause-write_fault_written : goal.returns-in-Ok-Some-Perform-clause-write_fault_written
+returns-in-Ok-Some-Perform-clause-write_fault_written g c = λ fault.
+    let which = c.in-Ok-Some-Perform in
+    let said = rw (which.field-0-is, which.field-0-0-is) at which.ensures.some in
+    inl (which.performance, said, c.perform_asked.ensures.write_fault_written fault)
+
+-- ---- a trace is judged
+
+pub returns-in-Ok-Some-Judge-clause-judged : goal.returns-in-Ok-Some-Judge-clause-judged
+returns-in-Ok-Some-Judge-clause-judged g c = λ text trace says given is. c.judge_source.ensures.judged text trace given is
+
+pub returns-in-Ok-Some-Judge-clause-verdict : goal.returns-in-Ok-Some-Judge-clause-verdict
+returns-in-Ok-Some-Judge-clause-verdict g c = λ text trace says given is calm. c.judge_source.ensures.verdict text trace given is calm
 
 -- ---- the words are of no form
 
 pub returns-in-Ok-None-clause-refused : goal.returns-in-Ok-None-clause-refused
-returns-in-Ok-None-clause-refused g c = λ text says. absurd ((rw c.in-Ok-None.field-0-is at c.in-Ok-None.ensures.none) Play says)
+returns-in-Ok-None-clause-refused g c = λ text says. absurd ((rw c.in-Ok-None.field-0-is at c.in-Ok-None.ensures.none) (Perform Play) says)
 
 pub returns-in-Ok-None-clause-performed : goal.returns-in-Ok-None-clause-performed
-returns-in-Ok-None-clause-performed g c = λ text scene says. absurd ((rw c.in-Ok-None.field-0-is at c.in-Ok-None.ensures.none) Play says)
+returns-in-Ok-None-clause-performed g c = λ text scene says. absurd ((rw c.in-Ok-None.field-0-is at c.in-Ok-None.ensures.none) (Perform Play) says)
 
 pub returns-in-Ok-None-clause-done : goal.returns-in-Ok-None-clause-done
-returns-in-Ok-None-clause-done g c = λ text scene says. absurd ((rw c.in-Ok-None.field-0-is at c.in-Ok-None.ensures.none) Play says)
+returns-in-Ok-None-clause-done g c = λ text scene says. absurd ((rw c.in-Ok-None.field-0-is at c.in-Ok-None.ensures.none) (Perform Play) says)
 
 pub returns-in-Ok-None-clause-storm_performed : goal.returns-in-Ok-None-clause-storm_performed
-returns-in-Ok-None-clause-storm_performed g c = λ seed says. absurd ((rw c.in-Ok-None.field-0-is at c.in-Ok-None.ensures.none) (Storm seed) says)
+returns-in-Ok-None-clause-storm_performed g c = λ seed says. absurd ((rw c.in-Ok-None.field-0-is at c.in-Ok-None.ensures.none) (Perform (Storm seed)) says)
 
--- ---- a scenario is performed
+pub returns-in-Ok-None-clause-judge_answers : goal.returns-in-Ok-None-clause-judge_answers
+returns-in-Ok-None-clause-judge_answers g c = λ says. absurd ((rw c.in-Ok-None.field-0-is at c.in-Ok-None.ensures.none) Judge says)
 
-pub perform-requires-clause-limits : goal.perform-requires-clause-limits
-perform-requires-clause-limits g c = limits_of c.in-Ok-Some.form _ _ c.in-Ok.scene c.in-Ok.ensures.scene
+pub returns-in-Ok-None-clause-refused_trace : goal.returns-in-Ok-None-clause-refused_trace
+returns-in-Ok-None-clause-refused_trace g c = λ text says. absurd ((rw c.in-Ok-None.field-0-is at c.in-Ok-None.ensures.none) Judge says)
 
-pub returns-in-Ok-clause-storm : goal.returns-in-Ok-clause-storm
-returns-in-Ok-clause-storm g c =
-    wrote_storm (map string_bytes c.args.words.now) (g.S.Source.left c.args.source.now) (g.S.Source.left c.scene_of.new.source)
-    (held_by g.D.Disk.batches g.D.Disk.faults c.perform.new.disks.items)
-    (g.K.Sink.holds c.args.sink.now) (g.K.Sink.holds c.perform.new.sink) (g.K.Sink.faults c.args.sink.now) (g.K.Sink.faults c.perform.new.sink)
-    c.in-Ok-Some.form (rw c.in-Ok-Some.field-0-is at c.in-Ok-Some.ensures.some) c.in-Ok.scene c.in-Ok.ensures.scene c.perform.result c.perform.ensures.outcome
+pub returns-in-Ok-None-clause-judged : goal.returns-in-Ok-None-clause-judged
+returns-in-Ok-None-clause-judged g c = λ text trace says. absurd ((rw c.in-Ok-None.field-0-is at c.in-Ok-None.ensures.none) Judge says)
 
-pub returns-in-Ok-clause-disk_fault : goal.returns-in-Ok-clause-disk_fault
-returns-in-Ok-clause-disk_fault g c =
-    disk_failed (map string_bytes c.args.words.now) (g.S.Source.left c.args.source.now) (g.S.Source.left c.scene_of.new.source)
-    (held_by g.D.Disk.batches g.D.Disk.faults c.perform.new.disks.items)
-    (g.K.Sink.holds c.args.sink.now) (g.K.Sink.holds c.perform.new.sink) (g.K.Sink.faults c.args.sink.now) (g.K.Sink.faults c.perform.new.sink)
-    c.in-Ok-Some.form (rw c.in-Ok-Some.field-0-is at c.in-Ok-Some.ensures.some) c.in-Ok.scene c.in-Ok.ensures.scene c.perform.result c.perform.ensures.outcome
-
-pub returns-in-Ok-clause-done : goal.returns-in-Ok-clause-done
-returns-in-Ok-clause-done g c = λ text scene says given is covered calm sound.
-    let form_is = one_form (map string_bytes c.args.words.now) c.in-Ok-Some.form Play (rw c.in-Ok-Some.field-0-is at c.in-Ok-Some.ensures.some) says in
-    let there = c.scene_of.ensures.only text scene form_is given is in
-    let same = that_one c.scene_of.result c.in-Ok.scene scene refusal.Memory c.in-Ok.is there in
-    c.perform.ensures.done (subst IsCovered same covered) calm
-    (subst (λ (s : Scene). SomeRose s (held_by g.D.Disk.batches g.D.Disk.faults c.perform.new.disks.items) → ⊥) same sound)
-
--- ---- there is none
-
-pub returns-in-Err-ReadFault-clause-told : goal.returns-in-Err-ReadFault-clause-told
-returns-in-Err-ReadFault-clause-told g c =
-    subst (λ (answer : Status). Tells (g.K.Sink.holds c.args.sink.now) (g.K.Sink.holds c.tell.new.sink)
-    (g.K.Sink.faults c.args.sink.now) (g.K.Sink.faults c.tell.new.sink) answer) (sym c.tell.ensures.status) c.tell.ensures.told
-
-pub returns-in-Err-Bad-clause-performed : goal.returns-in-Err-Bad-clause-performed
-returns-in-Err-Bad-clause-performed g c = λ text scene says given is.
-    let form_is = one_form (map string_bytes c.args.words.now) c.in-Ok-Some.form Play (rw c.in-Ok-Some.field-0-is at c.in-Ok-Some.ensures.some) says in
-    let there = c.scene_of.ensures.only text scene form_is given is in
-    absurd (not_bad c.scene_of.result c.in-Err-Bad.line c.in-Err-Bad.fault scene (rw c.in-Err-Bad.field-0-is at c.in-Err-Bad.is) there)
-
-pub returns-in-Err-Bad-clause-done : goal.returns-in-Err-Bad-clause-done
-returns-in-Err-Bad-clause-done g c = λ text scene says given is covered calm sound.
-    let form_is = one_form (map string_bytes c.args.words.now) c.in-Ok-Some.form Play (rw c.in-Ok-Some.field-0-is at c.in-Ok-Some.ensures.some) says in
-    let there = c.scene_of.ensures.only text scene form_is given is in
-    absurd (not_bad c.scene_of.result c.in-Err-Bad.line c.in-Err-Bad.fault scene (rw c.in-Err-Bad.field-0-is at c.in-Err-Bad.is) there)
+pub returns-in-Ok-None-clause-verdict : goal.returns-in-Ok-None-clause-verdict
+returns-in-Ok-None-clause-verdict g c = λ text trace says. absurd ((rw c.in-Ok-None.field-0-is at c.in-Ok-None.ensures.none) Judge says)

@@ -3,7 +3,7 @@ use Rattle.lu_top.specs.Outcomes.{held_by, IsOutcome}
 use Rattle.lu_top.specs.declared.status.Status.{Status}
 use Rattle.lu_foreseen.proofs.Stated.{all_foreseen}
 use Rattle.lu_top.proofs.Runs.{done_of}
-use Rattle.lu_top.proofs.top.perform.Goals as goal
+use Rattle.lu_top.proofs.performing.perform.Goals as goal
 
 pub returns-in-Ok-clause-done : goal.returns-in-Ok-clause-done
 returns-in-Ok-clause-done g c = λ covered calm sound.
@@ -11,7 +11,7 @@ returns-in-Ok-clause-done g c = λ covered calm sound.
 
 pub returns-in-Err-Unforeseen-clause-outcome : goal.returns-in-Err-Unforeseen-clause-outcome
 returns-in-Err-Unforeseen-clause-outcome g c =
-    subst (λ (answer : Status). IsOutcome c.args.form c.args.scene.now (held_by g.D.Disk.batches g.D.Disk.faults c.play.new.disks.items)
+    subst (λ (answer : Status). IsOutcome c.args.performance c.args.scene.now (held_by g.D.Disk.batches g.D.Disk.faults c.play.new.disks.items)
     (g.K.Sink.holds c.args.sink.now) (g.K.Sink.holds c.tell.new.sink) (g.K.Sink.faults c.args.sink.now) (g.K.Sink.faults c.tell.new.sink) answer)
     (sym c.tell.ensures.status) c.tell.ensures.told
 
