@@ -1,7 +1,5 @@
 -- A client as its rows read it, with what it asks of one target: after a past, and after its own entries.
 use Rattle.std.specs.Prelude.{ℕ, List, [], ◌∷◌, ◌&&◌, ◌==◌, if◌then◌else◌}
-use Rattle.lu_base.specs.declared.ids.Node.{Node}
-use Rattle.lu_base.specs.declared.ids.Node.TheVariants.{Client, Target}
 use Rattle.lu_base.specs.declared.ids.Who.{Who}
 use Rattle.lu_words.specs.Carried.{Queued, Flight}
 use Rattle.lu_words.specs.Words.{Entry, Heard, Life, Queues, Flies, Knows, Line, is_client}

@@ -1,5 +1,5 @@
 -- What a run is: turns, each a row over the turns before. Messages may be lost, and come late or again.
-use Rattle.std.specs.Prelude.{◌≡◌, ◌≤◌, ◌<◌, ℕ, true, false, List, [], ◌∷◌, Some}
+use Rattle.std.specs.Prelude.{◌≡◌, ◌≤◌, ◌<◌, ℕ, true, false, List, [], ◌∷◌, Option, Some}
 use Rattle.lu_base.specs.declared.ids.At.{At}
 use Rattle.lu_base.specs.declared.ids.Node.{Node}
 use Rattle.lu_base.specs.declared.ids.Node.TheVariants.{Client, Target}
@@ -35,12 +35,15 @@ pub record IsHead (head : Head) : Type 0 where
   pub flight : 1 ≤ head.flight
   pub most_flight : head.flight ≤ tag_count
 
--- what happens to a node: its user begins a call, a message comes, its time goes on, it dies
+-- what happens to a node: its user begins a call, a message comes, its time goes on, it dies; it is to commit all that isn't
+-- committed, or the first transactions of it; a command comes that it passes over
 pub data Event : Type 0 where
   Begins : (slot : ℕ) (call : Call) → Event
   Comes : (number : ℕ) (from : Node) (message : Message) → Event
   Ticks : Event
   Dies : Event
+  Commits : (count : Option ℕ) → Event
+  Passes : Event
 
 -- ---- which calls begin and which events come, so far
 
@@ -89,6 +92,8 @@ Meets head past at (Client c) Ticks = IsAlive head past c
 Meets head past at (Client c) Dies = IsAlive head past c
 Meets head past at (Target t) (Comes n (Client c) m) = MayReach head past at t c n m
 Meets head past at (Target t) Ticks = t ≤ head.osts
+Meets head past at (Target t) (Commits count) = t ≤ head.osts
+Meets head past at (Target t) Passes = t ≤ head.osts
 Meets head past at _ _ = ⊥
 
 -- ---- the entries of a turn
@@ -100,6 +105,8 @@ row head past at (Client c) Ticks = client.row_tick (asker_at head.flight c 0 pa
 row head past at (Client c) Dies = client.row_dies
 row head past at (Target t) (Comes n (Client c) m) = row_reached head past at t n (Client c) m
 row head past at (Target t) Ticks = target.row_tick
+row head past at (Target t) (Commits count) = target.row_commit (server_at head.osts t past) count
+row head past at (Target t) Passes = target.row_passes
 row head past at _ _ = []
 
 pub record IsRow (head : Head) (past : List Line) (at : At) (entries : List Entry) : Type 0 where

@@ -1,10 +1,8 @@
 -- What each part of a target is after one of its entries. Each part has a step of its own, entry by entry, and a test
 -- which entries it reads; both have a catch-all last.
-use Rattle.std.specs.Prelude.{ℕ, ◌+◌, Bool, true, false, not, ◌==◌, ◌&&◌, if◌then◌else◌, List, [], ◌∷◌, ◌++◌, filter, Some, None}
+use Rattle.std.specs.Prelude.{ℕ, ◌+◌, Bool, true, false, not, ◌==◌, ◌&&◌, nat_lt, if◌then◌else◌, List, [], ◌∷◌, ◌++◌, filter, Some, None}
 use Rattle.lu_base.specs.declared.ids.Txn.{Txn as TxnOf}
 use Rattle.lu_base.specs.declared.ids.Who.{Who}
-use Rattle.lu_part.specs.declared.parts.Part.{Part}
-use Rattle.lu_msg.specs.declared.commits.Transaction.{Transaction}
 use Rattle.lu_msg.specs.declared.messages.Request.{Request as RequestOf}
 use Rattle.lu_machine.specs.Tree.{Tree}
 use Rattle.lu_machine.specs.Footprint.{Operation, after}
@@ -55,23 +53,14 @@ tree_after osts t _ = t
 
 -- ---- the transactions that aren't on the disk, in rising number
 
--- a transaction as it goes to the disk, and what it wrote
-pub record Logged : Type 0 where
-  pub transaction : Transaction
-  pub writes : List Part
-
-abbrev pub transaction_of : Deed → Transaction
-transaction_of d = record { txn = d.reply.txn; who = d.reply.who; xid = d.reply.xid; tag = d.tag; op = d.op }
-
-abbrev pub logged : Deed → Logged
-logged d = record { transaction = transaction_of d; writes = d.writes }
-
 abbrev pub reads_log : Entry → Bool
 reads_log (Txn d) = true
+reads_log (Commit to batch) = true
 reads_log _ = false
 
-abbrev pub log_after : List Logged → Entry → List Logged
-log_after log (Txn d) = log ++ logged d ∷ []
+abbrev pub log_after : List Deed → Entry → List Deed
+log_after log (Txn d) = log ++ d ∷ []
+log_after log (Commit to batch) = filter (λ d. nat_lt to d.reply.txn.0) log
 log_after log _ = log
 
 -- ---- requests that were taken and wait to act, in the order in which they came

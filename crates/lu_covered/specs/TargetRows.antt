@@ -12,7 +12,10 @@ use Rattle.lu_msg.specs.declared.messages.Reply.{Reply as ReplyTo}
 use Rattle.lu_msg.specs.declared.messages.Request.{Request as RequestOf}
 use Rattle.lu_machine.specs.Footprint.{Operation, answer, touches, writes, changes}
 use Rattle.lu_words.specs.Carried.{Deed, Slot}
-use Rattle.lu_words.specs.Words.{Entry, Send, Take, Tick, Act, Txn as Made, Enters}
+use Rattle.lu_words.specs.Words.{Entry, Send, Take, Tick, Skip, Act, Txn as Made, Commit, Enters}
+use Rattle.lu_target_rows.specs.Stored.{batch_of}
+use Rattle.lu_target_rows.specs.Leaving.{last_of}
+use Rattle.lu_target_rows.specs.Rows.{first_deeds}
 use Rattle.lu_covered.specs.TargetStates.{Server, none, next_number, seen_in}
 
 -- the operation that a request asks for, under a number
@@ -79,6 +82,20 @@ row_takes osts v slot at n from m = Take n from m ∷ row_heeds osts v slot at m
 
 abbrev pub row_tick : List Entry
 row_tick = Tick ∷ []
+
+-- ---- commands
+
+-- all that isn't on the disk goes there, or the first of it; where there is nothing the command is passed over
+abbrev pub row_commits : Server → List Deed → List Entry
+row_commits v [] = Skip ∷ []
+row_commits v (d ∷ deeds) = Commit (last_of (d ∷ deeds) v.committed.0) (batch_of (d ∷ deeds) [] []) ∷ []
+
+abbrev pub row_commit : Server → Option ℕ → List Entry
+row_commit v count = row_commits v (first_deeds count v.log)
+
+-- one that doesn't fit is passed over too
+abbrev pub row_passes : List Entry
+row_passes = Skip ∷ []
 
 -- ---- what a turn makes
 

@@ -1,25 +1,23 @@
 -- A target as its rows read it: its parts together, after a past of all targets and after one of its own alone.
-use Rattle.std.specs.Prelude.{ℕ, ◌+◌, ◌*◌, List, [], ◌∷◌, if◌then◌else◌}
-use Rattle.lu_base.specs.declared.ids.Node.{Node}
+use Rattle.std.specs.Prelude.{ℕ, ◌+◌, ◌*◌, List, [], ◌∷◌}
 use Rattle.lu_base.specs.declared.ids.Node.TheVariants.{Client, Target}
 use Rattle.lu_base.specs.declared.ids.Txn.{Txn as TxnOf}
 use Rattle.lu_base.specs.declared.ids.Who.{Who}
-use Rattle.lu_part.specs.declared.parts.Part.{Part}
 use Rattle.lu_msg.specs.declared.messages.Request.{Request as RequestOf}
 use Rattle.lu_machine.specs.Tree.{Tree}
 use Rattle.lu_machine.specs.Footprint.{empty}
-use Rattle.lu_machine.specs.Seen.{meet}
-use Rattle.lu_words.specs.Carried.{Slot}
+use Rattle.lu_words.specs.Carried.{Deed, Slot}
 use Rattle.lu_words.specs.Words.{Entry, Act, Txn, Commit, Boot, Enters, Line}
 use Rattle.lu_words.specs.Fields.{at_target}
-use Rattle.lu_covered.specs.TargetParts.{reads_boot, boot_after, reads_count, count_after, reads_committed, committed_after, reads_tree, tree_after, Logged, reads_log, log_after, reads_waiting, waiting_after, no_slot, reads_slot, slot_after}
+pub use Rattle.lu_target_rows.specs.Replies.{seen_in}
+use Rattle.lu_covered.specs.TargetParts.{reads_boot, boot_after, reads_count, count_after, reads_committed, committed_after, reads_tree, tree_after, reads_log, log_after, reads_waiting, waiting_after, no_slot, reads_slot, slot_after}
 
 pub record Server : Type 0 where
   pub boot : ℕ
   pub count : ℕ
   pub committed : TxnOf
   pub tree : Tree
-  pub log : List Logged
+  pub log : List Deed
   pub waiting : List RequestOf
 
 abbrev pub none : TxnOf
@@ -39,7 +37,7 @@ committed_at t past = at_target reads_committed committed_after none t past
 abbrev pub tree_at : ℕ → ℕ → List Line → Tree
 tree_at osts t past = at_target reads_tree (tree_after osts) empty t past
 
-abbrev pub log_at : ℕ → List Line → List Logged
+abbrev pub log_at : ℕ → List Line → List Deed
 log_at t past = at_target reads_log log_after [] t past
 
 abbrev pub waiting_at : ℕ → List Line → List RequestOf
@@ -66,7 +64,7 @@ server_start = record { boot = 1; count = 0; committed = none; tree = empty; log
 
 abbrev pub server_after : ℕ → Server → Entry → Server
 server_after osts v (Boot boot disk) = record v { boot = boot }
-server_after osts v (Commit to batch) = record v { committed = record { 0 = to } }
+server_after osts v (Commit to batch) = record v { committed = record { 0 = to }; log = log_after v.log (Commit to batch) }
 server_after osts v (Enters r) = record v { waiting = waiting_after v.waiting (Enters r) }
 server_after osts v (Act d) = record v { waiting = waiting_after v.waiting (Act d) }
 server_after osts v (Txn d) =
@@ -101,8 +99,3 @@ slot_of who tag (l ∷ past) = elim l.at.node [ Client c ↦ slot_of who tag pas
 -- the next transaction's number: the boot in the high 32 bits, and a count from 1 in it
 abbrev pub next_number : Server → TxnOf
 next_number v = record { 0 = v.boot * 4294967296 + (v.count + 1) }
-
--- the transactions of the log whose writes meet what is touched, in rising number
-abbrev pub seen_in : List Part → List Logged → List ℕ
-seen_in touched [] = []
-seen_in touched (g ∷ log) = if meet g.writes touched then g.transaction.txn.0 ∷ seen_in touched log else seen_in touched log

@@ -9,15 +9,16 @@ use Rattle.lu_msg.specs.declared.messages.Message.TheVariants as message
 use Rattle.lu_msg.specs.declared.messages.Reply.{Reply as ReplyTo}
 use Rattle.lu_msg.specs.declared.messages.Request.{Request as RequestOf}
 use Rattle.lu_machine.specs.Footprint.{changes}
-use Rattle.lu_words.specs.Carried.{Slot}
+use Rattle.lu_words.specs.Carried.{Deed, Slot}
 use Rattle.lu_words.specs.Words.{Entry, Txn as Made, Line, line, with_turn, is_target}
-use Rattle.lu_covered.specs.TargetStates.{Server, none, count_at, slot_at, server_at}
+use Rattle.lu_covered.specs.TargetStates.{Server, none, count_at, log_at, slot_at, server_at}
+use Rattle.lu_target_rows.specs.Rows.{first_deeds}
 use Rattle.lu_covered.specs.TargetRows as target
-use Rattle.lu_covered.specs.TargetRows.{asked, row_executes, row_kept, by_number, row_request}
+use Rattle.lu_covered.specs.TargetRows.{asked, row_executes, row_kept, by_number, row_request, row_commits}
 use Rattle.lu_covered.specs.Calls.{call_at, calls_at}
 use Rattle.lu_covered.specs.ClientStates.{asker_at}
 use Rattle.lu_covered.specs.ClientRows.{row_heeds, row_tick}
-use Rattle.lu_covered.specs.Runs.{Head, Event, Begins, Comes, Ticks, Dies, row}
+use Rattle.lu_covered.specs.Runs.{Head, Event, Begins, Comes, Ticks, Dies, Commits, Passes, row}
 use Rattle.lu_covered_scenes.proofs.Plain.{made_by, plain_made, call_made, heeds_plain, tick_plain}
 
 pub turn_counts : (t : ℕ) (past : List Line) (at : At) (es : List Entry) → count_at t (with_turn at es past) ≤ count_at t past + made_by es
@@ -68,3 +69,11 @@ row_made head past at (Target t) (Comes n (Target u) m) = omega arith
 row_made head past at (Target t) Ticks = omega arith
 row_made head past at (Target t) (Begins slot call) = omega arith
 row_made head past at (Target t) Dies = omega arith
+row_made head past at (Client c) (Commits count) = omega arith
+row_made head past at (Target t) (Commits count) = by (first_deeds count (log_at t past))
+  where
+    by : (deeds : List Deed) → made_by (row_commits (server_at head.osts t past) deeds) ≤ 1
+    by [] = omega arith
+    by (d ∷ deeds) = omega arith
+row_made head past at (Client c) Passes = omega arith
+row_made head past at (Target t) Passes = omega arith

@@ -1,4 +1,4 @@
--- A client's turn makes no transaction, and begins no call but that of its event.
+-- A client's turn makes no transaction, commits nothing, and begins no call but that of its event.
 use Rattle.std.proofs.Common.{◌≡◌, ℕ, ◌+◌, Bool, true, false, List, [], ◌∷◌, ◌++◌, Option, Some, None, refl}
 use Rattle.std.specs.Prelude.{nat_eq, nat_lt, ◌&&◌, length}
 use Rattle.std.proofs.lemmas.Bool.{cond_both}
@@ -10,16 +10,16 @@ use Rattle.lu_msg.specs.declared.messages.Reply.{Reply as ReplyTo}
 use Rattle.lu_msg.specs.declared.operations.Op.{Op}
 use Rattle.lu_machine.specs.Fits.{answer_fits}
 use Rattle.lu_words.specs.Carried.{Queued, Flight, Running}
-use Rattle.lu_words.specs.Words.{Entry, Begin, Flies, Txn as Made, same_life}
+use Rattle.lu_words.specs.Words.{Entry, Begin, Flies, Txn as Made, Commit, same_life}
 use Rattle.lu_covered.specs.Calls.{call_on, operation_of}
 use Rattle.lu_covered.specs.Imports.{without_flight}
 use Rattle.lu_covered.specs.ClientStates.{Asker}
 use Rattle.lu_covered.specs.ClientRows.{next_flight, find_flight, row_sent, row_sends, row_rests, row_asks, row_call, row_told, row_tells, row_fits, row_hears, row_reply, row_heeds, row_resends, row_tick}
 
--- no call begins, and no transaction is made
+-- no call begins, no transaction is made, and nothing is committed
 abbrev pub is_plain : List Entry → Bool
 is_plain [] = true
-is_plain (e ∷ es) = elim e [ Begin slot running ↦ false | Made d ↦ false | _ ↦ is_plain es ]
+is_plain (e ∷ es) = elim e [ Begin slot running ↦ false | Made d ↦ false | Commit to batch ↦ false | _ ↦ is_plain es ]
 
 sends_plain : (k : Asker) (last : ℕ) (flights : List Flight) (queue : List Queued) → is_plain (row_sends k last flights queue) ≡ true
 sends_plain k last flights [] = refl
@@ -83,6 +83,7 @@ plain_made (e ∷ es) is = by e is (plain_made es)
     by : (e : Entry) → is_plain (e ∷ es) ≡ true → (is_plain es ≡ true → made_by es ≡ 0) → made_by (e ∷ es) ≡ 0
     by (Begin slot running) is more = absurd (cc)
     by (Made d) is more = absurd (cc)
+    by (Commit to batch) is more = absurd (cc)
     by e is more = more is
 
 pub plain_begins : (P : Call → Type 0) (es : List Entry) → is_plain es ≡ true → Begins P es
@@ -92,6 +93,22 @@ plain_begins P (e ∷ es) is = by e is (plain_begins P es)
     by : (e : Entry) → is_plain (e ∷ es) ≡ true → (is_plain es ≡ true → Begins P es) → Begins P (e ∷ es)
     by (Begin slot running) is more = absurd (cc)
     by (Made d) is more = absurd (cc)
+    by (Commit to batch) is more = absurd (cc)
+    by e is more = more is
+
+-- nothing is committed
+abbrev pub Uncommitted : List Entry → Type 0
+Uncommitted [] = Unit {0}
+Uncommitted (e ∷ es) = elim e [ Commit to batch ↦ ⊥ | _ ↦ Uncommitted es ]
+
+pub plain_uncommitted : (es : List Entry) → is_plain es ≡ true → Uncommitted es
+plain_uncommitted [] is = tt
+plain_uncommitted (e ∷ es) is = by e is (plain_uncommitted es)
+  where
+    by : (e : Entry) → is_plain (e ∷ es) ≡ true → (is_plain es ≡ true → Uncommitted es) → Uncommitted (e ∷ es)
+    by (Begin slot running) is more = absurd (cc)
+    by (Made d) is more = absurd (cc)
+    by (Commit to batch) is more = absurd (cc)
     by e is more = more is
 
 -- ---- a call begins
@@ -105,6 +122,16 @@ begins_made k at slot call (Some o) =
 pub call_made : (k : Asker) (at : At) (slot : ℕ) (call : Call) (o : Option Running) → made_by (row_call k at slot call o) ≡ 0
 call_made k at slot call None = begins_made k at slot call (operation_of call)
 call_made k at slot call (Some b) = refl
+
+begins_uncommitted : (k : Asker) (at : At) (slot : ℕ) (call : Call) (o : Option Op) → Uncommitted (elim o [ None ↦ [] | Some p ↦ row_asks k at slot call (record { slot = Some slot; op = p }) ])
+begins_uncommitted k at slot call None = tt
+begins_uncommitted k at slot call (Some o) =
+    let queue = k.queue ++ record { slot = Some slot; op = o } ∷ [] in
+    plain_uncommitted (row_sends k k.last k.flights queue) (sends_plain k k.last k.flights queue)
+
+pub call_uncommitted : (k : Asker) (at : At) (slot : ℕ) (call : Call) (o : Option Running) → Uncommitted (row_call k at slot call o)
+call_uncommitted k at slot call None = begins_uncommitted k at slot call (operation_of call)
+call_uncommitted k at slot call (Some b) = tt
 
 begins_one : (P : Call → Type 0) (k : Asker) (at : At) (slot : ℕ) (call : Call) → P call → (o : Option Op) → Begins P (elim o [ None ↦ [] | Some p ↦ row_asks k at slot call (record { slot = Some slot; op = p }) ])
 begins_one P k at slot call is None = tt

@@ -21,11 +21,12 @@ use Rattle.lu_guards.proofs.Obey.{grown}
 use Rattle.lu_facts.proofs.Sides.{from_target}
 use Rattle.lu_covering.specs.Covered as covering
 use Rattle.lu_covering.specs.Covered.{AllCovered, covered_head}
-use Rattle.lu_covering.proofs.TargetTurns.{tick_same as target_tick}
+use Rattle.lu_covering.proofs.TargetTurns.{tick_same as target_tick, commit_same, boot_same}
 use Rattle.lu_covering.proofs.ClientSame.{tick_same}
 use Rattle.lu_covering.proofs.Between.{between}
 use Rattle.lu_covering.proofs.Small.{client_knows, call_row, reply_row, target_knows, request_row}
 use Rattle.lu_covering.proofs.Whole.{EntriesCovered}
+use Rattle.lu_covered_scenes.proofs.Plain.{Uncommitted}
 
 -- an event of the covered rows in the whole table; a call begins, and death comes, at clients alone
 abbrev pub event_at : (n : Node) → few.Event → whole.EventAt n
@@ -34,7 +35,10 @@ event_at (node.Client c) (few.Comes n from m) = client.Comes n from m
 event_at (node.Client c) few.Ticks = client.Ticks
 event_at (node.Client c) few.Dies = client.Dies
 event_at (node.Target t) (few.Comes n from m) = target.Comes n from m
+event_at (node.Target t) (few.Commits count) = target.Commits count
+event_at (node.Target t) few.Passes = target.Boots
 event_at (node.Target t) _ = target.Ticks
+event_at (node.Client c) _ = client.Ticks
 
 module _ (head : Head) where
   abbrev h : few.Head
@@ -73,6 +77,12 @@ module _ (head : Head) where
   row_same turns stamp (node.Target t) few.Ticks run meets =
       let past = few.lines_of turns in
       target_tick head.clients (whole.target_of head t past) (server_at head.osts t past) (here stamp (node.Target t)) (target_knows head t past (grown h turns run))
+  row_same turns stamp (node.Target t) (few.Commits count) run meets =
+      let past = few.lines_of turns in
+      commit_same head.clients (whole.target_of head t past) (server_at head.osts t past) (here stamp (node.Target t)) count (target_knows head t past (grown h turns run))
+  row_same turns stamp (node.Target t) few.Passes run meets =
+      let past = few.lines_of turns in
+      boot_same head.clients (whole.target_of head t past) (server_at head.osts t past) (here stamp (node.Target t)) (target_knows head t past (grown h turns run))
   row_same turns stamp n event run meets = absurd meets
 
 -- ---- disks
@@ -84,11 +94,11 @@ turn_covered at es past c = (both at es past c).0
     both at [] past c = (tt, c)
     both at (e ∷ es) past c = let p = both at es (line at e ∷ past) c in ((p.1.0, p.0), p.1.1)
 
-pub no_calls : (es : List Entry) → EntriesCovered es → calls es ≡ 0
-no_calls [] c = refl
-no_calls (Commit to batch ∷ es) c = absurd c.0
-no_calls (Boot boot disk ∷ es) c = absurd c.0
-no_calls (e ∷ es) c = ap (λ (n : ℕ). 0 + n) (no_calls es c.1)
+pub no_calls : (es : List Entry) → EntriesCovered es → Uncommitted es → calls es ≡ 0
+no_calls [] c u = refl
+no_calls (Commit to batch ∷ es) c u = absurd u
+no_calls (Boot boot disk ∷ es) c u = absurd c.0
+no_calls (e ∷ es) c u = ap (λ (n : ℕ). 0 + n) (no_calls es c.1 u)
 
 -- so none fails
 pub whole_turn : (disks : Disks) (past : List Line) (n : Node) (raw es : List Entry) → raw ≡ es → calls es ≡ 0 → over_disk (fails_at disks past n raw) raw ≡ es

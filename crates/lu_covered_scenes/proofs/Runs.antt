@@ -36,7 +36,8 @@ use Rattle.lu_covering.specs.Covered.{AllCovered, covered_head}
 use Rattle.lu_covering.proofs.Small.{all_covered, turns_of, to_whole}
 use Rattle.lu_covering.proofs.Whole.{few_turns, few_lines}
 use Rattle.lu_covered_scenes.specs.Covered.{IsCovered}
-use Rattle.lu_covered_scenes.proofs.Begun.{BeginsOf, row_begins, turn_began}
+use Rattle.lu_covered_scenes.proofs.Begun.{BeginsOf, row_begins, row_uncommitted, turn_began}
+use Rattle.lu_covered_scenes.proofs.Plain.{Uncommitted}
 use Rattle.lu_covered_scenes.proofs.Counts.{turn_counts, row_made}
 use Rattle.lu_covered_scenes.proofs.Lines.{Calls, AllKnown, lines_known, all_miss}
 use Rattle.lu_covered_scenes.proofs.Nodes.{to_client}
@@ -123,12 +124,12 @@ module _ (head : Head) where
       subst (λ (p : List Line). few.Meets h p (next_at c node) node event → row_at head p (next_at c node) node (event_at node event) ≡ few.row h p (next_at c node) node event) (few_lines head c.turns)
       (row_same head (few_turns head c.turns) (next_at c node).stamp node event s.run) meets
 
-  entries_same : (disks : Disks) (c : Config) (node : Node) (event : Event) → Sound head c.turns c.posts → few.Meets h (past_of c) (next_at c node) node event
+  entries_same : (disks : Disks) (c : Config) (node : Node) (event : Event) → Uncommitted (few_row c node event) → Sound head c.turns c.posts → few.Meets h (past_of c) (next_at c node) node event
       → (turn_of head disks c node (event_at node event)).entries ≡ few_row c node event
-  entries_same disks c node event s meets =
+  entries_same disks c node event free s meets =
       whole_turn disks (past_of c) node (row_at head (past_of c) (next_at c node) node (event_at node event)) (few_row c node event)
       (rows_same c node event s meets)
-      (no_calls (few_row c node event) (turn_covered (next_at c node) (few_row c node event) (past_of c) (new_covered c node event s meets)))
+      (no_calls (few_row c node event) (turn_covered (next_at c node) (few_row c node event) (past_of c) (new_covered c node event s meets)) free)
 
 -- ---- one step
 
@@ -149,7 +150,7 @@ module _ (scene : Scene) (covered : IsCovered scene) (disks : Disks) where
   turn_follows : (c : Config) (node : Node) (event : Event) → Follows scene c → BeginsOf (Calls scene.lines) event → few.Meets small (past_of c) (next_at c node) node event
       → Follows scene (with_turn c (turn_of head disks c node (event_at node event)))
   turn_follows c node event f of meets =
-      subst (λ (es : List Entry). Follows scene (with_turn c (record { at = next_at c node; entries = es }))) (sym (entries_same head disks c node event f.sound meets))
+      subst (λ (es : List Entry). Follows scene (with_turn c (record { at = next_at c node; entries = es }))) (sym (entries_same head disks c node event (row_uncommitted (Calls scene.lines) small (past_of c) (next_at c node) node event of) f.sound meets))
       (record {
         sound = turn_sound head c node event f.sound meets;
         lines = f.lines;

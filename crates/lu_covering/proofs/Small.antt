@@ -13,7 +13,7 @@ use Rattle.lu_msg.specs.declared.messages.Message.TheVariants as message
 use Rattle.lu_msg.specs.declared.messages.Reply.{Reply as ReplyTo}
 use Rattle.lu_msg.specs.declared.messages.Request.{Request as RequestOf}
 use Rattle.lu_words.specs.Carried.{Running}
-use Rattle.lu_words.specs.Words.{is_target, Entry, Take, Tick, Begin, Grant, Commit, Crash, Boot, Close, Skip, Fail, Line, line, with_turn}
+use Rattle.lu_words.specs.Words.{is_target, Entry, Take, Tick, Begin, Grant, Crash, Boot, Close, Fail, Line, line, with_turn}
 use Rattle.lu_words.specs.Concerns.{only}
 use Rattle.lu_words.specs.Sent.{Sent}
 use Rattle.lu_target_rows.specs.Lives.{is_life}
@@ -26,6 +26,7 @@ use Rattle.lu_table.specs.Runs.{Turn, lines_of, IsRow, IsRun}
 use Rattle.lu_covered.specs.Calls.{call_at, calls_at}
 use Rattle.lu_covered.specs.ClientStates.{asker_at}
 use Rattle.lu_covered.specs.ClientRows as few_client
+use Rattle.lu_covered.specs.TargetRows as few_target
 use Rattle.lu_covered.specs.TargetStates.{Server, server_at, slot_at}
 use Rattle.lu_covered.specs.Runs as few
 use Rattle.lu_guards.proofs.Guards.{EntryOk, Grown}
@@ -39,7 +40,7 @@ use Rattle.lu_covering.specs.Covered.{IsCovered, AllCovered, covered_head, turn_
 use Rattle.lu_covering.proofs.TargetLines.{target_line}
 use Rattle.lu_covering.proofs.TargetAlike as target_alike
 use Rattle.lu_covering.proofs.TargetSlots.{slots_alike}
-use Rattle.lu_covering.proofs.TargetTurns.{first_among, request_same, tick_same as target_tick}
+use Rattle.lu_covering.proofs.TargetTurns.{first_among, request_same, tick_same as target_tick, commit_same, boot_same}
 use Rattle.lu_covering.proofs.ClientLines.{all_few}
 use Rattle.lu_covering.proofs.ClientAlike as client_alike
 use Rattle.lu_covering.proofs.ClientSame.{begin_same, tick_same, reply_same}
@@ -60,11 +61,9 @@ covered_entry : (past : List Line) (at : At) (node : Node) (e : Entry) → Entry
 covered_entry past at (node.Client c) (Begin slot r) ok = record { op = ok.op; becomes = ok.becomes; asked = ok.asked }
 covered_entry past at (node.Target t) (Begin slot r) ok = absurd ok
 covered_entry past at n (Grant l d) ok = absurd ok
-covered_entry past at n (Commit to b) ok = absurd ok
 covered_entry past at n Crash ok = absurd ok
 covered_entry past at n (Boot b d) ok = absurd ok
 covered_entry past at n (Close o) ok = absurd ok
-covered_entry past at n Skip ok = absurd ok
 covered_entry past at n Fail ok = absurd ok
 covered_entry past at n e ok = tt
 
@@ -260,6 +259,31 @@ module _ (head : Head) where
         goes_on = start_held h past g;
         meets = (meets, (target_knows t past g).failed);
         numbers = subst (λ (es : List Entry). target.overruns (whole.target_of head t past) es ≡ false) (sym is) (has_numbers t past (here stamp (node.Target t)) (Tick ∷ []) (self t) new);
+        is = sym is;
+      }
+  row_to turns stamp (node.Target t) (few.Commits count) run meets new =
+      let past = few.lines_of turns in
+      let g = grown h turns run in
+      let is = commit_same head.clients (whole.target_of head t past) (server_at head.osts t past) (here stamp (node.Target t)) count (target_knows t past g) in
+      record {
+        event = target.Commits count;
+        fails = None;
+        goes_on = start_held h past g;
+        meets = (meets, (target_knows t past g).failed);
+        numbers = subst (λ (es : List Entry). target.overruns (whole.target_of head t past) es ≡ false) (sym is)
+            (has_numbers t past (here stamp (node.Target t)) (few_target.row_commit (server_at head.osts t past) count) (self t) new);
+        is = sym is;
+      }
+  row_to turns stamp (node.Target t) few.Passes run meets new =
+      let past = few.lines_of turns in
+      let g = grown h turns run in
+      let is = boot_same head.clients (whole.target_of head t past) (server_at head.osts t past) (here stamp (node.Target t)) (target_knows t past g) in
+      record {
+        event = target.Boots;
+        fails = None;
+        goes_on = start_held h past g;
+        meets = (meets, (target_knows t past g).failed);
+        numbers = subst (λ (es : List Entry). target.overruns (whole.target_of head t past) es ≡ false) (sym is) (has_numbers t past (here stamp (node.Target t)) few_target.row_passes (self t) new);
         is = sym is;
       }
   row_to turns stamp n event run meets new = absurd meets

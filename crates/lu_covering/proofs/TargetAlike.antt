@@ -1,7 +1,7 @@
 -- After every past of the runs that are covered, a target of the whole table knows what the covered rows read of it, and of
--- the rest nothing has happened: it serves in its first boot, no lock was granted, nothing is on the disk.
+-- the rest nothing has happened: it serves in its first boot, and no lock was granted.
 use Rattle.std.proofs.Common.{◌≡◌, ℕ, ◌+◌, ◌*◌, Bool, true, false, List, [], ◌∷◌, ◌++◌, refl, sym, subst, ap, ◌∙◌, arith}
-use Rattle.std.specs.Prelude.{map}
+use Rattle.std.specs.Prelude.{nat_lt, filter}
 use Rattle.std.proofs.lemmas.Bool.{eqb-true}
 use Rattle.lu_base.specs.declared.ids.At.{At}
 use Rattle.lu_base.specs.declared.ids.Node.{Node}
@@ -10,15 +10,15 @@ use Rattle.lu_base.specs.declared.ids.Txn.{Txn as TxnOf}
 use Rattle.lu_base.specs.declared.ids.Who.{Who}
 use Rattle.lu_msg.specs.declared.operations.Op.{Op}
 use Rattle.lu_msg.specs.declared.operations.Op.TheVariants as op
+use Rattle.lu_msg.specs.declared.commits.Batch.{Batch}
 use Rattle.lu_msg.specs.declared.commits.Transaction.{Transaction}
 use Rattle.lu_msg.specs.declared.messages.Request.{Request as RequestOf}
 use Rattle.lu_machine.specs.Footprint.{changes, after as tree_after}
 use Rattle.lu_words.specs.Carried.{Deed, Contents}
-use Rattle.lu_words.specs.Words.{Entry, Send, Take, Tick, Act, Txn, Enters, Line, is_target}
+use Rattle.lu_words.specs.Words.{Entry, Send, Take, Tick, Skip, Act, Txn, Commit, Enters, Line, is_target}
 use Rattle.lu_words.specs.Concerns.{only}
 use Rattle.lu_target_rows.specs.States.{Setting, Target, after, lives_from, target_at}
 use Rattle.lu_target_rows.specs.Stored.{done_by, operation_of, transaction_of}
-use Rattle.lu_covered.specs.TargetParts.{Logged, logged}
 use Rattle.lu_covered.specs.TargetStates.{Server, server_at, server_of, server_after}
 use Rattle.lu_covered.specs.TargetRows.{deed, asked}
 use Rattle.lu_covered.specs.Runs.{Head}
@@ -41,7 +41,7 @@ Alike clients v s =
       cookie : v.cookie ≡ 4294967296;
       lives : v.lives ≡ lives_from 0 clients;
       tree : v.contents.tree ≡ s.tree;
-      log : map {A = Deed} {B = Logged} logged v.log ≡ s.log;
+      log : v.log ≡ s.log;
       committed : v.committed ≡ s.committed.0;
       granted : v.granted ≡ [];
       waiting : v.waiting ≡ [];
@@ -56,10 +56,6 @@ tree_done : (osts : ℕ) (c : Contents) (t : Transaction) (number : TxnOf) (who 
 tree_done osts c t number who (op.Put r cookie at bytes) moves is = absurd (cc)
 tree_done osts c t number who (op.Cut r cookie n) moves is = absurd (cc)
 tree_done osts c t number who o moves is = refl
-
-map_snoc : (log : List Deed) (d : Deed) → map {A = Deed} {B = Logged} logged (log ++ d ∷ []) ≡ map {A = Deed} {B = Logged} logged log ++ logged d ∷ []
-map_snoc [] d = refl
-map_snoc (x ∷ log) d = ap (λ (g : List Logged). logged x ∷ g) (map_snoc log d)
 
 pub alike_enters : (clients osts : ℕ) (v : Target) (s : Server) (r : RequestOf) → Alike clients v s → Alike clients (after v (Enters r)) (server_after osts s (Enters r))
 alike_enters clients osts v s r h =
@@ -118,13 +114,39 @@ alike_txn clients osts v s at r d o moves is h =
       cookie = h.cookie;
       lives = h.lives;
       tree = ap (λ (x : Op). (done_by v.setting.osts (transaction_of d) v.contents x).tree) op_is ∙ tree_done v.setting.osts v.contents (transaction_of d) (record { 0 = 0 }) r.who r.op (rw (o, h.tree) moves) op_is ∙ rw (o, h.tree) refl;
-      log = map_snoc v.log d ∙ ap (λ (g : List Logged). g ++ logged d ∷ []) h.log;
+      log = ap (λ (g : List Deed). g ++ d ∷ []) h.log;
       committed = h.committed;
       granted = h.granted;
       waiting = h.waiting;
       called = h.called;
       queue = rw h.queue refl;
       glimpses = h.glimpses;
+    }
+
+-- where nobody leaves, all stay
+pub all_stay : {A : Type 0} (xs : List A) → filter (λ (x : A). true) xs ≡ xs
+all_stay [] = refl
+all_stay (x ∷ xs) = ap (λ ys. x ∷ ys) (all_stay xs)
+
+alike_commit : (clients osts : ℕ) (v : Target) (s : Server) (to : ℕ) (batch : Batch) → batch.removed ≡ [] → batch.added ≡ [] → Alike clients v s → Alike clients (after v (Commit to batch)) (server_after osts s (Commit to batch))
+alike_commit clients osts v s to batch removed added h =
+    record {
+      up = h.up;
+      failed = h.failed;
+      boot = h.boot;
+      closed = h.closed;
+      first = h.first;
+      number = h.number;
+      cookie = h.cookie;
+      lives = rw (removed, added) (all_stay v.lives ∙ h.lives);
+      tree = rw removed h.tree;
+      log = ap (λ (g : List Deed). filter (λ d. nat_lt to d.reply.txn.0) g) h.log;
+      committed = refl;
+      granted = rw h.granted refl;
+      waiting = rw h.waiting refl;
+      called = rw h.called refl;
+      queue = rw removed (all_stay v.queue ∙ h.queue);
+      glimpses = rw h.glimpses refl;
     }
 
 pub is_own : (t : ℕ) (n : Node) → is_target t n ≡ true → n ≡ node.Target t
@@ -140,6 +162,8 @@ alike_own head clients past at t Tick v o ok h = h
 alike_own head clients past at t (Enters r) v o ok h = alike_enters clients head.osts v (server_of head.osts (only t past)) r h
 alike_own head clients past at t (Act d) v o ok h = alike_act clients head.osts v (server_of head.osts (only t past)) at ok.request d ok.is h
 alike_own head clients past at t (Txn d) v o ok h = alike_txn clients head.osts v (server_of head.osts (only t past)) at ok.request d o ok.moves ok.is h
+alike_own head clients past at t Skip v o ok h = h
+alike_own head clients past at t (Commit to batch) v o ok h = alike_commit clients head.osts v (server_of head.osts (only t past)) to batch ok.removed ok.added h
 alike_own head clients past at t e v o ok h = absurd ok
 
 pub alike : (head : Head) (clients : ℕ) (setting : Setting) → setting.osts ≡ head.osts → (past : List Line) → Grown head past → Alike clients (target_at setting clients past) (server_at head.osts setting.id past)

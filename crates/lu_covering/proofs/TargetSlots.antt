@@ -7,7 +7,7 @@ use Rattle.lu_base.specs.declared.ids.Node.{Node}
 use Rattle.lu_base.specs.declared.ids.Node.TheVariants as node
 use Rattle.lu_base.specs.declared.ids.Who.{Who}
 use Rattle.lu_words.specs.Carried.{Deed, Slot, LifeSlot}
-use Rattle.lu_words.specs.Words.{Entry, Send, Take, Tick, Act, Txn, Enters, Line, is_target, same_life}
+use Rattle.lu_words.specs.Words.{Entry, Send, Take, Tick, Skip, Act, Txn, Commit, Enters, Line, is_target, same_life}
 use Rattle.lu_words.specs.Concerns.{only}
 use Rattle.lu_target_rows.specs.Lives.{slot_in, with_slot, slots_after, slots_answered}
 use Rattle.lu_target_rows.specs.States.{Setting, Target, target_at}
@@ -18,7 +18,7 @@ use Rattle.lu_guards.proofs.Guards.{EntryOf, Grown}
 use Rattle.lu_guards.proofs.Lists.{self, life_is}
 use Rattle.lu_guards.proofs.After.{slot_line, slot_left}
 use Rattle.lu_covering.proofs.TargetLines.{target_line, target_left}
-use Rattle.lu_covering.proofs.TargetAlike.{is_own}
+use Rattle.lu_covering.proofs.TargetAlike.{is_own, all_stay}
 
 -- ---- two lives and tags are one, or not
 
@@ -100,6 +100,8 @@ slots_own head past at t (Txn d) slots ok h who tag = answered slots t past d h 
 slots_own head past at t (Send to m) slots ok h who tag = h who tag
 slots_own head past at t (Take n from m) slots ok h who tag = h who tag
 slots_own head past at t Tick slots ok h who tag = h who tag
+slots_own head past at t Skip slots ok h who tag = h who tag
+slots_own head past at t (Commit to batch) slots ok h who tag = let stay = all_stay slots in rw (ok.removed, stay) (h who tag)
 slots_own head past at t e slots ok h who tag = absurd ok
 
 pub slots_alike : (head : Head) (clients : ℕ) (setting : Setting) (past : List Line) → Grown head past → (who : Who) (tag : ℕ) → slot_in (target_at setting clients past).slots who tag ≡ slot_at who tag setting.id past

@@ -1,7 +1,7 @@
 -- The turns of a target of the whole table, where it serves in its first boot, no lock was granted and no request waits, are
 -- those of the covered rows.
 use Rattle.std.proofs.Common.{◌≡◌, ℕ, zero, suc, ◌+◌, ◌≤◌, ◌<◌, Bool, true, false, List, [], ◌∷◌, ◌++◌, Option, Some, None, refl, ap, ◌∙◌, arith}
-use Rattle.std.specs.Prelude.{nat_eq, nat_lt, ◌||◌, not, if◌then◌else◌, map}
+use Rattle.std.specs.Prelude.{nat_eq, nat_lt, ◌||◌, not, if◌then◌else◌}
 use Rattle.std.proofs.lemmas.Bool.{cond-true, eqb-false, ltb-true}
 use Rattle.lu_base.specs.declared.ids.At.{At}
 use Rattle.lu_base.specs.declared.ids.Txn.{Txn as TxnOf}
@@ -9,9 +9,8 @@ use Rattle.lu_base.specs.declared.ids.Who.{Who}
 use Rattle.lu_msg.specs.declared.messages.Message.TheVariants as message
 use Rattle.lu_msg.specs.declared.messages.Reply.{Reply as ReplyTo}
 use Rattle.lu_msg.specs.declared.messages.Request.{Request as RequestOf}
-use Rattle.lu_part.specs.declared.parts.Part.{Part}
 use Rattle.lu_part.specs.declared.parts.Want.{Want}
-use Rattle.lu_machine.specs.Footprint.{grants, changes, touches}
+use Rattle.lu_machine.specs.Footprint.{grants, changes}
 use Rattle.lu_words.specs.Carried.{Deed, Slot}
 use Rattle.lu_words.specs.Words.{Entry, Act, Txn, Enters}
 use Rattle.lu_target_rows.specs.Lives.{is_life, slot_in}
@@ -19,11 +18,10 @@ use Rattle.lu_target_rows.specs.Names.{does_change, in_way, is_free, is_read, is
 use Rattle.lu_target_rows.specs.Objects.{objects_go}
 use Rattle.lu_target_rows.specs.Replies as whole
 use Rattle.lu_target_rows.specs.Requests.{by_number, row_enters}
-use Rattle.lu_target_rows.specs.Rows.{Ticks, row, row_heeds}
+use Rattle.lu_target_rows.specs.Rows.{Ticks, Commits, Boots, Closes, first_deeds, row_commits, row, row_heeds}
 use Rattle.lu_target_rows.specs.States.{Target, after, turn, follow, lives_from}
 use Rattle.lu_covered.specs.Calls.{first_life}
-use Rattle.lu_covered.specs.TargetParts.{Logged, logged}
-use Rattle.lu_covered.specs.TargetStates.{Server, none, next_number, seen_in, server_after}
+use Rattle.lu_covered.specs.TargetStates.{Server, none, next_number, server_after}
 use Rattle.lu_covered.specs.TargetRows as few
 use Rattle.lu_covered.specs.TargetRows.{deed, asked, reply_to}
 use Rattle.lu_guards.proofs.Lists.{self}
@@ -49,13 +47,9 @@ first_among from (suc more) c low high = by (nat_eq c from) refl (λ e. first_am
 
 -- ---- what is done
 
-seen_same : (touched : List Part) (log : List Deed) → whole.seen_in touched log ≡ seen_in touched (map {A = Deed} {B = Logged} logged log)
-seen_same touched [] = refl
-seen_same touched (d ∷ log) = rw (seen_same touched log) refl
-
 deed_same : (clients osts : ℕ) (v : Target) (s : Server) (at : At) (r : RequestOf) (number : TxnOf) → v.setting.osts ≡ osts → Alike clients v s → names_deed v at r number [] ≡ deed osts s at r number
 deed_same clients osts v s at r number o h =
-    rw (o, h.tree, seen_same (touches osts s.tree (asked r number)) v.log, h.log, h.boot, h.first, h.committed) refl
+    rw (o, h.tree, h.log, h.boot, h.first, h.committed) refl
 
 next_same : (clients : ℕ) (v : Target) (s : Server) → Alike clients v s → whole.next_number v ≡ next_number s
 next_same clients v s h = ap (λ (n : ℕ). record { 0 = n }) (rw (h.number, h.first) (omega arith))
@@ -142,3 +136,20 @@ request_same clients osts v s slot at r names o h nobody slots lives boot free =
 
 pub tick_same : (clients : ℕ) (v : Target) (s : Server) (at : At) → Alike clients v s → row v at Ticks ≡ few.row_tick
 tick_same clients v s at h = rw (h.up, h.boot, h.closed, h.called, h.glimpses, h.granted) refl
+
+-- ---- commands
+
+commits_same : (clients : ℕ) (v : Target) (s : Server) (deeds : List Deed) → Alike clients v s → row_commits v deeds ≡ few.row_commits s deeds
+commits_same clients v s [] h = refl
+commits_same clients v s (d ∷ deeds) h = refl
+
+pub commit_same : (clients : ℕ) (v : Target) (s : Server) (at : At) (count : Option ℕ) → Alike clients v s → row v at (Commits count) ≡ few.row_commit s count
+commit_same clients v s at count h = rw (h.up, h.boot, h.closed) (commits_same clients v s (first_deeds count v.log) h ∙ ap (λ (log : List Deed). few.row_commits s (first_deeds count log)) h.log)
+
+-- a target that is up isn't booted
+pub boot_same : (clients : ℕ) (v : Target) (s : Server) (at : At) → Alike clients v s → row v at Boots ≡ few.row_passes
+boot_same clients v s at h = rw h.up refl
+
+-- and one that serves has no window to close
+pub close_same : (clients : ℕ) (v : Target) (s : Server) (at : At) → Alike clients v s → row v at Closes ≡ few.row_passes
+close_same clients v s at h = rw (h.up, h.boot, h.closed) refl

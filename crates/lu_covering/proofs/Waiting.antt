@@ -11,15 +11,16 @@ use Rattle.lu_msg.specs.declared.messages.Message.TheVariants as message
 use Rattle.lu_msg.specs.declared.messages.Reply.{Reply as ReplyTo}
 use Rattle.lu_msg.specs.declared.messages.Request.{Request as RequestOf}
 use Rattle.lu_machine.specs.Footprint.{changes}
-use Rattle.lu_words.specs.Carried.{Slot}
+use Rattle.lu_words.specs.Carried.{Deed, Slot}
 use Rattle.lu_words.specs.Words.{Entry, Send, Txn, Enters, Line, line, with_turn, is_target}
 use Rattle.lu_words.specs.Concerns.{only}
 use Rattle.lu_words.specs.Fields.{on}
+use Rattle.lu_target_rows.specs.Rows.{first_deeds}
 use Rattle.lu_covered.specs.Calls.{first_life}
 use Rattle.lu_covered.specs.TargetParts.{reads_count, count_after}
-use Rattle.lu_covered.specs.TargetStates.{Server, none, count_at, server_at, slot_at, server_turn}
-use Rattle.lu_covered.specs.TargetRows.{asked, row_executes, row_kept, by_number, row_heeds}
-use Rattle.lu_covered.specs.Runs.{Head, Event, Comes, Ticks, Meets, row, Turn, lines_of, IsRun}
+use Rattle.lu_covered.specs.TargetStates.{Server, none, count_at, log_at, server_at, slot_at, server_turn}
+use Rattle.lu_covered.specs.TargetRows.{asked, row_executes, row_kept, by_number, row_heeds, row_commits}
+use Rattle.lu_covered.specs.Runs.{Head, Event, Comes, Ticks, Commits, Passes, Meets, row, Turn, lines_of, IsRun}
 use Rattle.lu_guards.proofs.Guards.{Was, EntryOf, LivesAt, Grown}
 use Rattle.lu_covering.proofs.ClientLines.{on_other}
 use Rattle.lu_guards.proofs.Lists.{self}
@@ -51,6 +52,12 @@ module _ (head : Head) where
   turn_none : (past : List Line) (at : At) (event : Event) → Meets head past at (node.Target 0) event → (server_at head.osts 0 past).waiting ≡ [] → (server_turn head.osts (server_at head.osts 0 past) (row head past at (node.Target 0) event)).waiting ≡ []
   turn_none past at (Comes n (node.Client c) m) meets h = heeds_none head.osts (server_at head.osts 0 past) (λ who tag. slot_at who tag 0 past) at m h
   turn_none past at Ticks meets h = h
+  turn_none past at (Commits count) meets h = commits_none (first_deeds count (log_at 0 past))
+    where
+      commits_none : (deeds : List Deed) → (server_turn head.osts (server_at head.osts 0 past) (row_commits (server_at head.osts 0 past) deeds)).waiting ≡ []
+      commits_none [] = h
+      commits_none (d ∷ deeds) = h
+  turn_none past at Passes meets h = h
   turn_none past at event meets h = absurd meets
 
   pub none_waits : (turns : List Turn) → IsRun head turns → (server_at head.osts 0 (lines_of turns)).waiting ≡ []

@@ -1,6 +1,6 @@
 -- Each run of the whole table whose lines are covered is a run of the covered rows.
 use Rattle.std.proofs.Common.{◌≡◌, ℕ, zero, suc, ◌+◌, ◌*◌, ◌<◌, Bool, true, false, List, [], ◌∷◌, ◌++◌, inl, inr, Option, Some, None, refl, sym, subst, ap, ◌∙◌, arith}
-use Rattle.std.specs.Prelude.{nat_eq, nat_lt, ◌||◌, not, if◌then◌else◌, map, is_some}
+use Rattle.std.specs.Prelude.{nat_eq, nat_lt, ◌||◌, not, map, is_some}
 use Rattle.std.specs.List.{list_any}
 use Rattle.lu_base.specs.Texts.{IsPath}
 use Rattle.lu_base.specs.declared.ids.At.{At}
@@ -16,8 +16,8 @@ use Rattle.lu_msg.specs.declared.messages.Reply.{Reply as ReplyTo}
 use Rattle.lu_msg.specs.declared.messages.Request.{Request as RequestOf}
 use Rattle.lu_msg.specs.declared.operations.Op.{Op}
 use Rattle.lu_msg.specs.declared.operations.Op.TheVariants as op
-use Rattle.lu_words.specs.Carried.{Deed, HandleFile, Slot, Running}
-use Rattle.lu_words.specs.Words.{Entry, Commit, Crash, Boot, Skip, Enters, Line, line, with_turn}
+use Rattle.lu_words.specs.Carried.{HandleFile, Slot, Running}
+use Rattle.lu_words.specs.Words.{Entry, Commit, Crash, Boot, Enters, Line, line, with_turn}
 use Rattle.lu_words.specs.Sent.{Sent}
 use Rattle.lu_target_rows.specs.Disks.{failing, over_disk}
 use Rattle.lu_target_rows.specs.Rows as target
@@ -25,7 +25,7 @@ use Rattle.lu_target_rows.specs.Names.{does_change, is_read, is_ready, locks_for
 use Rattle.lu_target_rows.specs.Objects.{objects_go}
 use Rattle.lu_target_rows.specs.Requests.{by_number, row_enters}
 use Rattle.lu_target_rows.specs.Lives.{is_life, slot_in}
-use Rattle.lu_target_rows.specs.States.{Target, after, follow, is_serving, lives_from, turn as turn_target}
+use Rattle.lu_target_rows.specs.States.{Target, after, follow, lives_from, turn as turn_target}
 use Rattle.lu_client_rows.specs.Calls.{file_of}
 use Rattle.lu_client_rows.specs.Rows as client
 use Rattle.lu_client_rows.specs.Slots.{begins, begins_on, begins_close, begins_open, opens}
@@ -51,7 +51,7 @@ use Rattle.lu_covered.specs.TargetStates.{Server, none, server_at, slot_at}
 use Rattle.lu_covered.specs.TargetRows as few_target
 use Rattle.lu_covered.specs.TargetRows.{asked, makes}
 use Rattle.lu_covering.proofs.TargetAlike as target_alike
-use Rattle.lu_covering.proofs.TargetTurns.{is_first, first_among, tick_same as target_tick}
+use Rattle.lu_covering.proofs.TargetTurns.{is_first, first_among, tick_same as target_tick, commit_same, boot_same, close_same}
 use Rattle.lu_covering.proofs.ClientSame.{tick_same}
 use Rattle.lu_covering.proofs.Heard.{on_small}
 use Rattle.lu_covering.proofs.Between.{between}
@@ -73,7 +73,7 @@ covered_turn at (e ∷ es) past c = let p = covered_turn at es (line at e ∷ pa
 failing_none : (es : List Entry) (n : ℕ) → EntriesCovered (failing es n) → failing es n ≡ es
 failing_none [] n c = refl
 failing_none (Commit to batch ∷ es) zero c = absurd c.0
-failing_none (Commit to batch ∷ es) (suc n) c = absurd c.0
+failing_none (Commit to batch ∷ es) (suc n) c = ap (λ (xs : List Entry). Commit to batch ∷ xs) (failing_none es n c.1)
 failing_none (Boot boot disk ∷ es) zero c = absurd c.0
 failing_none (Boot boot disk ∷ es) (suc zero) c = absurd c.0
 failing_none (Boot boot disk ∷ es) (suc (suc n)) c = absurd c.0
@@ -175,18 +175,6 @@ module _ (head : Head) where
   client_row turns stamp c client.Dies run meets covered = record { event = few.Dies; meets = lives c (few.lines_of turns) meets; is = refl }
 
   -- ---- targets
-
-  -- commands make lines that aren't covered
-  chosen_none : (b : Bool) (xs ys : List Entry) → (EntriesCovered xs → ⊥) → (EntriesCovered ys → ⊥) → EntriesCovered (if b then xs else ys) → ⊥
-  chosen_none true xs ys f g c = f c
-  chosen_none false xs ys f g c = g c
-
-  skips : EntriesCovered (Skip ∷ []) → ⊥
-  skips c = c.0
-
-  commits_none : (v : Target) (deeds : List Deed) → EntriesCovered (target.row_commits v deeds) → ⊥
-  commits_none v [] c = c.0
-  commits_none v (d ∷ deeds) c = c.0
 
   -- a new request that would be granted a lock makes a line that isn't covered
   no_locks : (v : Target) (at : At) (r : RequestOf) (more : List Entry) → EntriesCovered (row_executes v at r false ++ more) → locks_for v r ≡ []
@@ -359,18 +347,30 @@ module _ (head : Head) where
         is = target_tick head.clients (whole.target_of head t past) (server_at head.osts t past) (here stamp (node.Target t)) (target_knows head t past (grown h turns run));
       }
   target_row turns stamp t (target.Commits count) run meets numbers covered =
-      let v = whole.target_of head t (few.lines_of turns) in
-      absurd (chosen_none v.up (target.row_commit v count) (Skip ∷ []) (chosen_none (is_serving v) (target.row_commits v (target.first_deeds count v.log)) (Skip ∷ []) (commits_none v (target.first_deeds count v.log)) skips) skips covered)
+      let past = few.lines_of turns in
+      record {
+        event = few.Commits count;
+        meets = meets.0;
+        is = commit_same head.clients (whole.target_of head t past) (server_at head.osts t past) (here stamp (node.Target t)) count (target_knows head t past (grown h turns run));
+      }
   target_row turns stamp t target.Crashes run meets numbers covered =
-      let v = whole.target_of head t (few.lines_of turns) in absurd (chosen_none v.up (Crash ∷ []) (Skip ∷ []) (λ c. c.0) skips covered)
+      let k = target_knows head t (few.lines_of turns) (grown h turns run) in
+      let crashed : EntriesCovered (Crash ∷ []) = rw k.up at covered in
+      absurd crashed.0
   target_row turns stamp t target.Boots run meets numbers covered =
-      let k = target_knows head t (few.lines_of turns) (grown h turns run) in
-      let skipped : EntriesCovered (Skip ∷ []) = rw k.up at covered in
-      absurd skipped.0
+      let past = few.lines_of turns in
+      record {
+        event = few.Passes;
+        meets = meets.0;
+        is = boot_same head.clients (whole.target_of head t past) (server_at head.osts t past) (here stamp (node.Target t)) (target_knows head t past (grown h turns run));
+      }
   target_row turns stamp t target.Closes run meets numbers covered =
-      let k = target_knows head t (few.lines_of turns) (grown h turns run) in
-      let skipped : EntriesCovered (Skip ∷ []) = rw (k.up, k.boot, k.closed) at covered in
-      absurd skipped.0
+      let past = few.lines_of turns in
+      record {
+        event = few.Passes;
+        meets = meets.0;
+        is = close_same head.clients (whole.target_of head t past) (server_at head.osts t past) (here stamp (node.Target t)) (target_knows head t past (grown h turns run));
+      }
 
   -- ---- runs
 

@@ -1,10 +1,10 @@
 -- Which runs of the whole table the theorem covers so far: the calls that begin are on names, but for `open`, and no target
--- grants a lock, commits, crashes, boots, closes, passes a command over or fails. Whatever messages are lost, repeated or late,
--- and whoever dies, is covered.
+-- grants a lock, crashes, boots, closes or fails. Whatever messages are lost, repeated or late, whoever dies, and whatever is
+-- committed, is covered.
 use Rattle.std.specs.Prelude.{◌≡◌, List, [], ◌∷◌, Some}
 use Rattle.lu_msg.specs.declared.operations.Op.{Op}
 use Rattle.lu_words.specs.Carried.{Running}
-use Rattle.lu_words.specs.Words.{Entry, Begin, Grant, Commit, Crash, Boot, Close, Skip, Fail, Line}
+use Rattle.lu_words.specs.Words.{Entry, Begin, Grant, Crash, Boot, Close, Fail, Line}
 use Rattle.lu_table.specs.Heads.{Head}
 use Rattle.lu_covered.specs.Calls.{operation_of}
 use Rattle.lu_table.specs.Runs.{Turn}
@@ -19,11 +19,9 @@ pub record IsCoveredCall (r : Running) : Type 0 where
 abbrev pub IsCovered : Entry → Type 0
 IsCovered (Begin slot running) = IsCoveredCall running
 IsCovered (Grant lock asked) = ⊥
-IsCovered (Commit to batch) = ⊥
 IsCovered Crash = ⊥
 IsCovered (Boot boot disk) = ⊥
 IsCovered (Close outcome) = ⊥
-IsCovered Skip = ⊥
 IsCovered Fail = ⊥
 IsCovered _ = Unit {0}
 

@@ -29,7 +29,7 @@ step_at head past stamp node e ok h =
 first_at : (head : Head) → HoldsAt head []
 first_at head =
     record {
-      phase = record { boot = refl; committed = refl; known = λ c. refl; life = λ c. refl };
+      phase = record { boot = refl; known = λ c. refl; life = λ c. refl };
       numbers = record {
         positive = λ c f i. absurd i;
         tagged = λ c f i. absurd i;

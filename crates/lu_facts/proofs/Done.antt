@@ -7,6 +7,7 @@ use Rattle.lu_base.specs.declared.ids.At.{At}
 use Rattle.lu_base.specs.declared.ids.Node.{Node}
 use Rattle.lu_base.specs.declared.ids.Node.TheVariants.{Client, Target}
 use Rattle.lu_base.specs.declared.ids.Stamp.{Stamp}
+use Rattle.lu_base.specs.declared.ids.Txn.{Txn as TxnOf}
 use Rattle.lu_base.specs.declared.ids.Who.{Who}
 use Rattle.lu_base.specs.declared.ids.Xid.{Xid}
 use Rattle.lu_msg.specs.declared.messages.Message.{Message}
@@ -14,7 +15,7 @@ use Rattle.lu_msg.specs.declared.messages.Message.TheVariants as message
 use Rattle.lu_msg.specs.declared.messages.Reply.{Reply as ReplyTo}
 use Rattle.lu_msg.specs.declared.messages.Request.{Request as RequestOf}
 use Rattle.lu_words.specs.Carried.{Deed, Flight, Slot}
-use Rattle.lu_words.specs.Words.{Entry, Flies, Heard, Send, Act, Txn as Made, Commit, Boot, Enters, Line, line, same_life}
+use Rattle.lu_words.specs.Words.{Entry, Flies, Heard, Send, Act, Txn as Made, Boot, Enters, Line, line, same_life}
 use Rattle.lu_covered.specs.TargetParts.{is_request_of, without_request, entered, answered, is_slot_of}
 use Rattle.lu_covered.specs.TargetStates.{none, server_of, slot_of, next_number}
 use Rattle.lu_covered.specs.TargetRows.{deed, again}
@@ -111,7 +112,15 @@ sent_meant : (head : Head) (past : List Line) (node to : Node) (m : Message) →
 sent_meant head past (Client c) (Target t) (message.Request r) ok p n h = asked_meant head.osts past c t r ok p n
 sent_meant head past (Target t) (Client c) (message.Reply k) ok p n h =
     let q = h.kept ok.who ok.tag ok.kept ok.slot in
-    (q.0, q.1, ok.is ∙ ap (λ (v : ReplyTo). again (server_of head.osts past) v) (sym q.2) ∙ h.boots q.0 q.1, ok.to)
+    let v = server_of head.osts past in (
+      q.0,
+      q.1,
+      ok.is
+          ∙ ap (λ (x : ReplyTo). again v x) (sym q.2)
+          ∙ ap (λ b. record q.0.reply { boot = b; committed = v.committed }) (sym (h.boots q.0 q.1))
+          ∙ ap (λ (n : TxnOf). record q.0.reply { committed = n }) (sym (ap (λ (x : ReplyTo). x.committed) ok.is)),
+      ok.to,
+    )
 sent_meant head past node to m ok p n h = absurd ok
 
 -- ---- one more request that waits
@@ -211,8 +220,8 @@ record Does (osts : ℕ) (past new : List Line) (d : Deed) : Type 0 where
   waiting : (q : RequestOf) → In q (server_of osts new).waiting → In q (without_request d (server_of osts past).waiting)
   sent : (from to : Node) (m : Message) → Was new from to m → Was past from to m
   hears : (c x : ℕ) → Hears new c x → Hears past c x
-  boots : (e : Deed) → again (server_of osts past) e.reply ≡ e.reply → again (server_of osts new) e.reply ≡ e.reply
-  fresh : again (server_of osts new) d.reply ≡ d.reply
+  boots : (e : Deed) → e.reply.boot ≡ (server_of osts past).boot → e.reply.boot ≡ (server_of osts new).boot
+  fresh : d.reply.boot ≡ (server_of osts new).boot
 
 -- it is of that request
 record Is (r : RequestOf) (d : Deed) : Type 0 where
@@ -299,7 +308,7 @@ module _ (osts : ℕ) (past new : List Line) (d : Deed) (does : Does osts past n
             ))
             (λ q p. h.slots who tag k p));
         heard = λ c x q. let g = h.heard c x (does.hears c x q) in (g.0, does.more g.0 g.1, g.2, g.3);
-        boots = λ e a. ⊎_elim (λ (q : d ≡ e). subst (λ (v : Deed). again (server_of osts new) v.reply ≡ v.reply) q does.fresh) (λ (b : Acted past e). does.boots e (h.boots e b)) (does.acted e a);
+        boots = λ e a. ⊎_elim (λ (q : d ≡ e). subst (λ (v : Deed). v.reply.boot ≡ (server_of osts new).boot) q does.fresh) (λ (b : Acted past e). does.boots e (h.boots e b)) (does.acted e a);
         waits = keeps_waiting;
         sent = λ from to m s. meant_more past new grows to m (h.sent from to m (does.sent from to m s));
         once = λ e g a b y x. ⊎_elim
@@ -340,10 +349,10 @@ done_heard osts past stamp c t f k ok p h =
       once = h.once;
     }
 
-act_does : (osts : ℕ) (past : List Line) (stamp : Stamp) (t : ℕ) (d : Deed) → again (server_of osts past) d.reply ≡ d.reply → Does osts past (line (turn stamp (Target t)) (Act d) ∷ past) d
+act_does : (osts : ℕ) (past : List Line) (stamp : Stamp) (t : ℕ) (d : Deed) → d.reply.boot ≡ (server_of osts past).boot → Does osts past (line (turn stamp (Target t)) (Act d) ∷ past) d
 act_does osts past stamp t d b = record { flew = λ k f i. i; acted = λ e a. a; more = λ e a. inr a; here = inl refl; slot = λ who tag. refl; waiting = λ q i. i; sent = λ from to m s. s; hears = λ c x q. q; boots = λ e q. q; fresh = b }
 
-txn_does : (osts : ℕ) (past : List Line) (stamp : Stamp) (t : ℕ) (d : Deed) → again (server_of osts past) d.reply ≡ d.reply → Does osts past (line (turn stamp (Target t)) (Made d) ∷ past) d
+txn_does : (osts : ℕ) (past : List Line) (stamp : Stamp) (t : ℕ) (d : Deed) → d.reply.boot ≡ (server_of osts past).boot → Does osts past (line (turn stamp (Target t)) (Made d) ∷ past) d
 txn_does osts past stamp t d b = record { flew = λ k f i. i; acted = λ e a. a; more = λ e a. inr a; here = inl refl; slot = λ who tag. refl; waiting = λ q i. i; sent = λ from to m s. s; hears = λ c x q. q; boots = λ e q. q; fresh = b }
 
 pub keeps_done : (head : Head) (past : List Line) (stamp : Stamp) (node : Node) (e : Entry) → EntryOf head past (turn stamp node) node e → Phase head.osts past → Numbers past
@@ -367,6 +376,5 @@ keeps_done head past stamp (Client c) (Act d) ok p n h = absurd ok
 keeps_done head past stamp (Client c) (Made d) ok p n h = absurd ok
 keeps_done head past stamp (Target t) (Flies u f) ok p n h = absurd ok
 keeps_done head past stamp (Target t) (Heard u f k) ok p n h = absurd ok
-keeps_done head past stamp (Target t) (Commit to batch) ok p n h = absurd ok
 keeps_done head past stamp (Target t) (Boot boot disk) ok p n h = absurd ok
 keeps_done head past stamp node e ok p n h = h

@@ -15,8 +15,7 @@ use Rattle.lu_msg.specs.declared.operations.Op.{Op}
 use Rattle.lu_words.specs.Carried.{Deed, Queued, Flight, Asked, Answered, Running}
 use Rattle.lu_words.specs.Words.{Flies, Heard, Act, Txn, Line, turn_before}
 use Rattle.lu_words.specs.Concerns.{only}
-use Rattle.lu_covered.specs.TargetStates.{none, server_of, slot_of}
-use Rattle.lu_covered.specs.TargetRows.{again}
+use Rattle.lu_covered.specs.TargetStates.{server_of, slot_of}
 use Rattle.lu_covered.specs.Calls.{first_life, call_at, operation_of}
 use Rattle.lu_covered.specs.Imports.{queue_at, flights_at}
 use Rattle.lu_covered.specs.ClientStates.{flights_of, last_of, known_of, life_of, tag_of}
@@ -45,12 +44,11 @@ Hears (l ∷ past) c x = elim l.entry [ Heard t f r ↦ ((l.at.node ≡ Client c
 
 -- ---- at one target
 
--- the first boot, the first lives, and nothing on the disk
+-- the first boot, and the first lives
 abbrev pub Phase : ℕ → List Line → Type 0
 Phase osts past =
     record {
       boot : (server_of osts past).boot ≡ 1;
-      committed : (server_of osts past).committed ≡ none;
       known : (c : ℕ) → known_of c past ≡ 1;
       life : (c : ℕ) → life_of c past ≡ first_life c;
     }
@@ -88,10 +86,10 @@ FlewFor past d = (f : Flight) × Flew past d.reply.who.client f × (f.xid ≡ d.
 abbrev pub DoneFor : List Line → ℕ → ℕ → Type 0
 DoneFor past c x = (d : Deed) × Acted past d × (d.reply.who ≡ first_life c) × (d.reply.xid.0 ≡ x)
 
--- what was sent is of a request that flew, or of what was done
+-- what was sent is of a request that flew, or of what was done, with the number committed then
 abbrev pub Meant : List Line → Node → Message → Type 0
 Meant past (Target t) (message.Request r) = (f : Flight) × Flew past r.who.client f × (r ≡ first_request r.who.client f)
-Meant past (Client c) (message.Reply k) = (d : Deed) × Acted past d × (k ≡ d.reply) × (c ≡ k.who.client)
+Meant past (Client c) (message.Reply k) = (d : Deed) × Acted past d × (k ≡ record d.reply { committed = k.committed }) × (c ≡ k.who.client)
 Meant past _ _ = ⊥
 
 -- a request that waits to act was sent, and hasn't acted
@@ -113,7 +111,7 @@ Done osts past =
       kept : (who : Who) (tag : ℕ) (k : ReplyTo) → (slot_of who tag past).reply ≡ Some k → (d : Deed) × Acted past d × (d.reply ≡ k);
       slots : (who : Who) (tag : ℕ) (k : ReplyTo) → (slot_of who tag past).reply ≡ Some k → (k.who ≡ who) × (k.xid.0 ≡ (slot_of who tag past).taken);
       heard : (c x : ℕ) → Hears past c x → DoneFor past c x;
-      boots : (d : Deed) → Acted past d → again (server_of osts past) d.reply ≡ d.reply;
+      boots : (d : Deed) → Acted past d → d.reply.boot ≡ (server_of osts past).boot;
       waits : (r : RequestOf) → In r (server_of osts past).waiting → Waits past r;
       sent : (from to : Node) (m : Message) → Was past from to m → Meant past to m;
       once : (d e : Deed) → Acted past d → Acted past e → d.reply.who ≡ e.reply.who → d.reply.xid ≡ e.reply.xid → d ≡ e;
@@ -181,7 +179,7 @@ Replied past c r target reply =
     record {
       deed : Deed;
       acted : Acted (only target past) deed;
-      is : deed.reply ≡ reply;
+      is : record deed.reply { committed = reply.committed } ≡ reply;
       client : reply.who ≡ first_life c;
       op : operation_of r.call ≡ Some deed.op;
       since : Upto r.at reply.at;

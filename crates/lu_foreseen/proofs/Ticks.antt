@@ -9,11 +9,12 @@ use Rattle.lu_msg.specs.declared.messages.Message.TheVariants as message
 use Rattle.lu_msg.specs.declared.messages.Reply.{Reply as ReplyTo}
 use Rattle.lu_msg.specs.declared.messages.Request.{Request as RequestOf}
 use Rattle.lu_machine.specs.Footprint.{changes}
-use Rattle.lu_words.specs.Carried.{Slot}
+use Rattle.lu_words.specs.Carried.{Deed, Slot}
 use Rattle.lu_words.specs.Words.{Entry, Enters, Line, with_turn, is_target}
+use Rattle.lu_target_rows.specs.Rows.{first_deeds}
 use Rattle.lu_target_rows.specs.States.{Target as TargetState, after, turn}
-use Rattle.lu_covered.specs.TargetStates.{Server, none, server_at, slot_at}
-use Rattle.lu_covered.specs.TargetRows.{asked, row_executes, row_kept, by_number, row_request}
+use Rattle.lu_covered.specs.TargetStates.{Server, none, log_at, server_at, slot_at}
+use Rattle.lu_covered.specs.TargetRows.{asked, row_executes, row_kept, by_number, row_request, row_commits}
 use Rattle.lu_covered.specs.Runs as few
 use Rattle.lu_table.specs.Heads.{Head}
 use Rattle.lu_table.specs.Runs.{Turn, lines_of, target_of, setting_of}
@@ -53,6 +54,12 @@ module _ (head : Head) where
   row_ticks : (past : List Line) (at : At) (event : few.Event) (v : TargetState) → few.Meets h past at (Target 0) event → (turn v (few.row h past at (Target 0) event)).ticks ≤ v.ticks + 1
   row_ticks past at (few.Comes n (Client c) m) v meets = let same = reached_still h past at 0 n (Client c) m v in omega arith
   row_ticks past at few.Ticks v meets = omega arith
+  row_ticks past at (few.Commits count) v meets = by (first_deeds count (log_at 0 past))
+    where
+      by : (deeds : List Deed) → (turn v (row_commits (server_at h.osts 0 past) deeds)).ticks ≤ v.ticks + 1
+      by [] = omega arith
+      by (d ∷ deeds) = omega arith
+  row_ticks past at few.Passes v meets = omega arith
   row_ticks past at event v meets = absurd meets
 
   few_ticks : (turns : List few.Turn) → few.IsRun h turns → (target_of head 0 (few.lines_of turns)).ticks ≤ length turns

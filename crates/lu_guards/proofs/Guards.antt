@@ -7,6 +7,7 @@ use Rattle.lu_base.specs.declared.ids.Node.{Node}
 use Rattle.lu_base.specs.declared.ids.Node.TheVariants.{Client, Target}
 use Rattle.lu_base.specs.declared.ids.Who.{Who}
 use Rattle.lu_msg.specs.declared.answers.Answer.{Answer}
+use Rattle.lu_msg.specs.declared.commits.Batch.{Batch}
 use Rattle.lu_msg.specs.declared.messages.Message.{Message}
 use Rattle.lu_msg.specs.declared.messages.Message.TheVariants as message
 use Rattle.lu_msg.specs.declared.messages.Reply.{Reply as ReplyTo}
@@ -16,7 +17,7 @@ use Rattle.lu_trace.specs.WellFormed.{IsCall}
 use Rattle.lu_machine.specs.Fits.{answer_fits}
 use Rattle.lu_machine.specs.Footprint.{changes, grants}
 use Rattle.lu_words.specs.Carried.{Deed, Queued, Flight, Unasked, Answered, Work, Running}
-use Rattle.lu_words.specs.Words.{Entry, Begin, Busy, Queues, Flies, Send, Take, Tick, Heard, Told, Die, Act, Txn, Grant, Enters, Line, line, turn_before}
+use Rattle.lu_words.specs.Words.{Entry, Begin, Busy, Queues, Flies, Send, Take, Tick, Heard, Told, Die, Act, Txn, Grant, Enters, Line, line, turn_before, Skip, Commit}
 use Rattle.lu_words.specs.Concerns.{concerns, only}
 use Rattle.lu_words.specs.Sent.{Sent}
 use Rattle.lu_covered.specs.TargetStates.{none, server_of, slot_of, next_number}
@@ -169,6 +170,8 @@ EntryOk past at (Target t) (Send (Client c) (message.Reply k)) = (t ≡ 0) × Re
 EntryOk past at (Target t) (Enters r) = (t ≡ 0) × TookRequest past at r
 EntryOk past at (Target t) (Act d) = t ≡ 0
 EntryOk past at (Target t) (Txn d) = t ≡ 0
+EntryOk past at (Target t) Skip = Later past at
+EntryOk past at (Target t) (Commit to batch) = (t ≡ 0) × Later past at
 EntryOk past at _ _ = ⊥
 
 -- ---- over what concerns one target
@@ -223,6 +226,14 @@ pub record TxnOk (osts : ℕ) (past : List Line) (at : At) (d : Deed) : Type 0 w
   pub moves : changes osts (server_of osts past).tree (asked request none) ≡ true
   pub is : d ≡ deed osts (server_of osts past) at request (next_number (server_of osts past))
 
+-- the last of the transactions that go to the disk; no life leaves or comes
+pub record CommitOk (osts : ℕ) (past : List Line) (to : ℕ) (batch : Batch) : Type 0 where
+  pub last : Deed
+  pub logged : In last (server_of osts past).log
+  pub is : to ≡ last.reply.txn.0
+  pub removed : batch.removed ≡ []
+  pub added : batch.added ≡ []
+
 abbrev pub SendOf : Head → List Line → Node → Node → Message → Type 0
 SendOf head past (Client c) (Target t) (message.Request r) = AskOk past c r
 SendOf head past (Target t) (Client c) (message.Reply k) = ReplyOk head.osts past c k
@@ -242,6 +253,8 @@ EntryOf head past at (Client c) Die = Unit {0}
 EntryOf head past at (Target t) (Enters r) = EntersOk past t r
 EntryOf head past at (Target t) (Act d) = ActOk head.osts past at d
 EntryOf head past at (Target t) (Txn d) = TxnOk head.osts past at d
+EntryOf head past at (Target t) Skip = Unit {0}
+EntryOf head past at (Target t) (Commit to batch) = CommitOk head.osts past to batch
 EntryOf head past at _ _ = ⊥
 
 -- ---- all lines

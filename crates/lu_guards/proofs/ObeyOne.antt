@@ -15,10 +15,12 @@ use Rattle.lu_msg.specs.declared.operations.Op.{Op}
 use Rattle.lu_machine.specs.Fits.{answer_fits}
 use Rattle.lu_machine.specs.Footprint.{changes, grants}
 use Rattle.lu_machine.specs.Tree.{Tree}
-use Rattle.lu_words.specs.Carried.{Slot, Queued, Flight, Running}
+use Rattle.lu_words.specs.Carried.{Deed, Slot, Queued, Flight, Running}
 use Rattle.lu_words.specs.Words.{Entry, Begin, Queues, Flies, Take, Tick, Heard, Told, Enters, Line, line, with_turn, same_life}
 use Rattle.lu_words.specs.Concerns.{concerns, only, about}
 use Rattle.lu_covered.specs.TargetParts.{is_slot_of, answered}
+use Rattle.lu_target_rows.specs.Leaving.{last_of as last_number}
+use Rattle.lu_target_rows.specs.Rows.{first_deeds}
 use Rattle.lu_covered.specs.TargetStates.{Server, none, slot_at, slot_of, server_of, next_number}
 use Rattle.lu_covered.specs.TargetRows as target
 use Rattle.lu_covered.specs.TargetRows.{asked, deed, again, row_executes, row_enters, row_kept, by_number, makes}
@@ -27,11 +29,11 @@ use Rattle.lu_covered.specs.Imports.{rest, without_flight}
 use Rattle.lu_covered.specs.ClientStates.{Asker, asker_at, queue_of, flights_of, last_of, known_of, life_of}
 use Rattle.lu_covered.specs.ClientRows as client
 use Rattle.lu_covered.specs.ClientRows.{next_flight, row_sent, row_sends, row_rests, row_asks, row_call, find_flight, row_told, row_tells, row_heard, row_fits, row_hears, row_reply, row_resends}
-use Rattle.lu_covered.specs.Runs.{Head, NeedsNoLock, MayReach, Meets, Event, Begins, Comes, Ticks, Dies, row}
+use Rattle.lu_covered.specs.Runs.{Head, NeedsNoLock, MayReach, Meets, Event, Begins, Comes, Ticks, Dies, Commits, Passes, row}
 use Rattle.lu_guards.proofs.Guards.{In, Was, EntryOf}
 use Rattle.lu_guards.proofs.Lists.{self, in_right, life_is, turn}
 use Rattle.lu_guards.proofs.Only.{about_own, about_other, asked_target, told_by_target}
-use Rattle.lu_guards.proofs.ObeyWhole.{own_slot}
+use Rattle.lu_guards.proofs.ObeyWhole.{own_slot, in_first}
 use Rattle.lu_guards.proofs.Parts.{server_is, slot_is, tree_is, queue_is, flights_is, last_is, known_is, life_is_of}
 
 abbrev pub AllOf : Head → List Line → At → List Entry → Type 0
@@ -270,6 +272,8 @@ module _ (head : Head) (c : ℕ) (stamp : Stamp) where
       let k = asker_at head.flight c 0 past in
       each_of 0 (client.row_tick k) past (tick_face k) (tick_of k (only 0 past) (asker_of 0 past))
   client_of past Dies may = each_of 0 client.row_dies past (inr (λ u. refl, λ p. tt), tt) (tt, tt)
+  client_of past (Commits count) may = absurd may
+  client_of past Passes may = absurd may
 
 -- ---- targets
 
@@ -339,12 +343,25 @@ module _ (head : Head) (t : ℕ) (stamp : Stamp) where
             may.lock,
       )
 
+  -- the last of what is committed
+  last_in : (deeds : List Deed) (d : Deed) → (x : Deed) × In x (d ∷ deeds) × (last_number deeds d.reply.txn.0 ≡ x.reply.txn.0)
+  last_in [] d = (d, inl refl, refl)
+  last_in (e ∷ deeds) d = let r = last_in deeds e in (r.0, inr r.1, r.2)
+
+  commits_of : (past : List Line) (deeds : List Deed) → ((d : Deed) → In d deeds → In d (server_of head.osts past).log) → AllOf head past there (target.row_commits (server_of head.osts past) deeds)
+  commits_of past [] within = (tt, tt)
+  commits_of past (d ∷ deeds) within = let r = last_in deeds d in (record { last = r.0; logged = within r.0 r.1; is = r.2; removed = refl; added = refl }, tt)
+
   own_of : (past : List Line) (event : Event) → Meets head past there (Target t) event → AllOf head (only t past) there (row head past there (Target t) event)
   own_of past (Begins slot call) may = absurd may
   own_of past (Comes n (Client c) m) may = reached_of past c n m may
   own_of past (Comes n (Target u) m) may = absurd may
   own_of past Ticks may = (tt, tt)
   own_of past Dies may = absurd may
+  own_of past (Commits count) may =
+      subst (λ (v : Server). AllOf head (only t past) there (target.row_commit v count)) (sym (server_is head.osts t past))
+      (commits_of (only t past) (first_deeds count (server_of head.osts (only t past)).log) (λ d i. in_first count (server_of head.osts (only t past)).log d i))
+  own_of past Passes may = (tt, tt)
 
   target_of : (past : List Line) (es : List Entry) → AllOf head (only t past) there es → (u : ℕ) → AllOf head (only u past) there (about u (Target t) es)
   target_of past es ok u = by (nat_eq u t) refl

@@ -1,6 +1,6 @@
 -- Each row makes lines that are allowed over the whole past.
 use Rattle.std.proofs.Common.{zero, suc, ◌≡◌, ℕ, ◌+◌, Bool, true, false, List, [], ◌∷◌, ◌++◌, Option, Some, None, inl, inr, refl, sym, subst, ap, ◌∙◌}
-use Rattle.std.specs.Prelude.{nat_eq, nat_lt, ◌&&◌, length, if◌then◌else◌}
+use Rattle.std.specs.Prelude.{nat_eq, nat_lt, ◌&&◌, length, if◌then◌else◌, take, filter}
 use Rattle.std.proofs.lemmas.Bool.{cond_both, cond-true, eqb-true}
 use Rattle.lu_base.specs.declared.ids.At.{At}
 use Rattle.lu_base.specs.declared.ids.Stamp.{Stamp}
@@ -16,11 +16,12 @@ use Rattle.lu_msg.specs.declared.operations.Op.{Op}
 use Rattle.lu_machine.specs.Fits.{answer_fits}
 use Rattle.lu_machine.specs.Footprint.{changes}
 use Rattle.lu_words.specs.Carried.{Slot, Deed, Queued, Flight, Asking, Answered, Running}
-use Rattle.lu_words.specs.Words.{Entry, Begin, Queues, Flies, Send, Take, Tick, Heard, Told, Act, Txn, Enters, Line, line, with_turn, same_life}
+use Rattle.lu_words.specs.Words.{Entry, Begin, Queues, Flies, Send, Take, Tick, Heard, Told, Act, Txn, Commit, Enters, Line, line, with_turn, same_life}
 use Rattle.lu_words.specs.Concerns.{only}
 use Rattle.lu_words.specs.Sent.{Sent}
 use Rattle.lu_covered.specs.TargetParts.{is_slot_of, answered}
-use Rattle.lu_covered.specs.TargetStates.{Server, none, slot_at, slot_of, server_at, next_number}
+use Rattle.lu_target_rows.specs.Rows.{first_deeds}
+use Rattle.lu_covered.specs.TargetStates.{Server, none, slot_at, slot_of, log_at, server_at, next_number}
 use Rattle.lu_covered.specs.TargetRows as target
 use Rattle.lu_covered.specs.TargetRows.{asked, deed, again, row_executes, row_enters, row_kept, by_number}
 use Rattle.lu_covered.specs.Calls.{asks, asks_for, begun, call_at, calls_at, call_on, is_dead, operation_of}
@@ -28,9 +29,9 @@ use Rattle.lu_covered.specs.Imports.{without_flight}
 use Rattle.lu_covered.specs.ClientStates.{Asker, asker_at}
 use Rattle.lu_covered.specs.ClientRows as client
 use Rattle.lu_covered.specs.ClientRows.{next_flight, row_sent, row_sends, row_rests, row_asks, row_call, find_flight, row_told, row_tells, row_heard, row_fits, row_hears, row_reply, row_resends}
-use Rattle.lu_covered.specs.Runs.{Head, IsAlive, MayBegin, MayCome, MayReach, Meets, Event, Begins, Comes, Ticks, Dies, row}
-use Rattle.lu_guards.proofs.Guards.{Later, TookNow, Taken, EntryOk, LivesAt, Grown}
-use Rattle.lu_guards.proofs.Lists.{self, turn}
+use Rattle.lu_covered.specs.Runs.{Head, IsAlive, MayBegin, MayCome, MayReach, Meets, Event, Begins, Comes, Ticks, Dies, Commits, Passes, row}
+use Rattle.lu_guards.proofs.Guards.{In, Later, TookNow, Taken, EntryOk, LivesAt, Grown}
+use Rattle.lu_guards.proofs.Lists.{self, in_filter, turn}
 use Rattle.lu_guards.proofs.Parts.{slot_is}
 
 abbrev pub AllOk : Head → List Line → At → List Entry → Type 0
@@ -55,6 +56,32 @@ sender_zero head (l ∷ past) n t to m g s = by l.entry s g.0.ok (λ r. sender_z
     by (Send node message) (inl r) ok f = sends_zero past l.at t node message (subst (λ (k : Node). EntryOk past l.at k (Send node message)) r.1 ok)
     by (Send node message) (inr r) ok f = f r
     by e r ok f = f r
+
+-- ---- only the metadata target has transactions
+
+pub log_zero : (head : Head) (t : ℕ) (d : Deed) (past : List Line) → Grown head past → In d (log_at t past) → t ≡ 0
+log_zero head t d [] g i = absurd i
+log_zero head t d (l ∷ past) g i = by l.at.node l.entry g.0.ok i (log_zero head t d past g.1)
+  where
+    by : (node : Node) (e : Entry) → EntryOk past (turn l.at.stamp node) node e → In d (log_at t (line (turn l.at.stamp node) e ∷ past)) → (In d (log_at t past) → t ≡ 0) → t ≡ 0
+    by (Client c) (Txn x) ok j h = absurd ok
+    by (Client c) (Commit to batch) ok j h = absurd ok
+    by (Target u) (Txn x) ok j h = cond_both (nat_eq t u) (log_at t past ++ x ∷ []) (log_at t past) (λ (v : List Deed). In d v → t ≡ 0) (λ e k. eqb-true t u e ∙ ok) (λ e k. h k) j
+    by (Target u) (Commit to batch) ok j h =
+        cond_both (nat_eq t u) (filter (λ x. nat_lt to x.reply.txn.0) (log_at t past)) (log_at t past) (λ (v : List Deed). In d v → t ≡ 0)
+        (λ e k. h (in_filter (λ x. nat_lt to x.reply.txn.0) d (log_at t past) k).0) (λ e k. h k) j
+    by _ _ ok j h = h j
+
+in_take : (n : ℕ) (log : List Deed) (d : Deed) → In d (take n log) → In d log
+in_take zero log d i = absurd i
+in_take (suc n) [] d i = absurd i
+in_take (suc n) (x ∷ log) d (inl e) = inl e
+in_take (suc n) (x ∷ log) d (inr i) = inr (in_take n log d i)
+
+-- what a command commits is in the log
+pub in_first : (count : Option ℕ) (log : List Deed) (d : Deed) → In d (first_deeds count log) → In d log
+in_first None log d i = i
+in_first (Some n) log d i = in_take n log d i
 
 -- ---- clients
 
@@ -218,6 +245,8 @@ module _ (head : Head) (c : ℕ) (stamp : Stamp) where
   client_ok past (Comes n (Client d) m) g later may = absurd may
   client_ok past Ticks g later may = tick_ok past later may
   client_ok past Dies g later may = (may, later, tt)
+  client_ok past (Commits count) g later may = absurd may
+  client_ok past Passes g later may = absurd may
 
 -- ---- targets
 
@@ -305,16 +334,23 @@ module _ (head : Head) (t : ℕ) (stamp : Stamp) where
   reached_ok : (past : List Line) (c n : ℕ) (m : Message) → Later past there → MayReach head past there t c n m → AllOk head past there (row head past there (Target t) (Comes n (Client c) m))
   reached_ok past c n m later may = (tt, record { sent = may.sent; later = later }, served_ok may.names past n (Client c) m (server_at head.osts t past))
 
-  target_ok : (past : List Line) (event : Event) → Later past there → Meets head past there (Target t) event → AllOk head past there (row head past there (Target t) event)
-  target_ok past (Begins slot call) later may = absurd may
-  target_ok past (Comes n (Client c) m) later may = reached_ok past c n m later may
-  target_ok past (Comes n (Target u) m) later may = absurd may
-  target_ok past Ticks later may = (tt, later, tt)
-  target_ok past Dies later may = absurd may
+  commits_ok : (past : List Line) (v : Server) (deeds : List Deed) → Later past there → ((d : Deed) → In d deeds → t ≡ 0) → AllOk head past there (target.row_commits v deeds)
+  commits_ok past v [] later names = (tt, later, tt)
+  commits_ok past v (d ∷ deeds) later names = (tt, (names d (inl refl), later), tt)
+
+  target_ok : (past : List Line) (event : Event) → Grown head past → Later past there → Meets head past there (Target t) event → AllOk head past there (row head past there (Target t) event)
+  target_ok past (Begins slot call) g later may = absurd may
+  target_ok past (Comes n (Client c) m) g later may = reached_ok past c n m later may
+  target_ok past (Comes n (Target u) m) g later may = absurd may
+  target_ok past Ticks g later may = (tt, later, tt)
+  target_ok past Dies g later may = absurd may
+  target_ok past (Commits count) g later may =
+      commits_ok past (server_at head.osts t past) (first_deeds count (log_at t past)) later (λ d i. log_zero head t d past g (in_first count (log_at t past) d i))
+  target_ok past Passes g later may = (tt, later, tt)
 
 -- ---- both
 
 pub row_ok : (head : Head) (past : List Line) (stamp : Stamp) (node : Node) (event : Event) → Grown head past → Later past (turn stamp node) → Meets head past (turn stamp node) node event
     → AllOk head past (turn stamp node) (row head past (turn stamp node) node event)
 row_ok head past stamp (Client c) event g later may = client_ok head c stamp past event g later may
-row_ok head past stamp (Target t) event g later may = target_ok head t stamp past event later may
+row_ok head past stamp (Target t) event g later may = target_ok head t stamp past event g later may

@@ -11,10 +11,12 @@ use Rattle.lu_msg.specs.declared.messages.Reply.{Reply as ReplyTo}
 use Rattle.lu_msg.specs.declared.messages.Request.{Request as RequestOf}
 use Rattle.lu_machine.specs.Footprint.{changes}
 use Rattle.lu_words.specs.Words.{Entry, Take, Act, Txn, Grant, Line, line, with_turn}
-use Rattle.lu_covered.specs.TargetStates.{Server, none, slot_at, server_at}
+use Rattle.lu_words.specs.Carried.{Deed}
+use Rattle.lu_target_rows.specs.Rows.{first_deeds}
+use Rattle.lu_covered.specs.TargetStates.{Server, none, slot_at, log_at, server_at}
 use Rattle.lu_covered.specs.TargetRows as target
 use Rattle.lu_covered.specs.TargetRows.{asked, row_executes, row_kept, by_number}
-use Rattle.lu_covered.specs.Runs.{Head, Event, Begins, Comes, Ticks, Dies, Meets, row}
+use Rattle.lu_covered.specs.Runs.{Head, Event, Begins, Comes, Ticks, Dies, Commits, Passes, Meets, row}
 use Rattle.lu_guards.proofs.Guards.{EntryOk, Owes}
 use Rattle.lu_guards.proofs.Lists.{turn}
 use Rattle.lu_guards.proofs.ObeyWhole.{AllOk}
@@ -89,12 +91,18 @@ module _ (head : Head) (t : ℕ) (stamp : Stamp) where
       number_paid past v r slot.reply (nat_lt slot.taken r.xid.0) (nat_eq slot.taken r.xid.0) s
   heeds_paid past before v m s = s
 
+  commits_paid : (past : List Line) (v : Server) (deeds : List Deed) → Settled past → AllPaid past there (target.row_commits v deeds)
+  commits_paid past v [] s = (owes_nothing past there _ s, tt)
+  commits_paid past v (d ∷ deeds) s = (owes_nothing past there _ s, tt)
+
   target_paid : (past : List Line) (event : Event) → Settled past → Meets head past there (Target t) event → AllPaid past there (row head past there (Target t) event)
   target_paid past (Begins slot call) s may = absurd may
   target_paid past (Comes n (Client c) m) s may = (owes_nothing past there _ s, heeds_paid (line there (Take n (Client c) m) ∷ past) past (server_at head.osts t past) m tt)
   target_paid past (Comes n (Target u) m) s may = absurd may
   target_paid past Ticks s may = (owes_nothing past there _ s, tt)
   target_paid past Dies s may = absurd may
+  target_paid past (Commits count) s may = commits_paid past (server_at head.osts t past) (first_deeds count (log_at t past)) s
+  target_paid past Passes s may = (owes_nothing past there _ s, tt)
 
 -- ---- both
 

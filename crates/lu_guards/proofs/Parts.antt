@@ -9,11 +9,11 @@ use Rattle.lu_base.specs.declared.ids.Txn.{Txn as TxnOf}
 use Rattle.lu_base.specs.declared.ids.Who.{Who}
 use Rattle.lu_msg.specs.declared.messages.Request.{Request as RequestOf}
 use Rattle.lu_machine.specs.Tree.{Tree}
-use Rattle.lu_words.specs.Carried.{Slot, Queued, Flight}
+use Rattle.lu_words.specs.Carried.{Deed, Slot, Queued, Flight}
 use Rattle.lu_words.specs.Words.{Entry, Heard, Life, Queues, Flies, Knows, Act, Txn, Commit, Boot, Enters, Line, line, is_client, is_target}
 use Rattle.lu_words.specs.Concerns.{is_about, concerns, only}
 use Rattle.lu_words.specs.Fields.{on, at_target, at_import}
-use Rattle.lu_covered.specs.TargetParts.{reads_boot, boot_after, reads_count, count_after, reads_committed, committed_after, reads_tree, tree_after, Logged, reads_log, log_after, reads_waiting, waiting_after, no_slot, reads_slot, slot_after}
+use Rattle.lu_covered.specs.TargetParts.{reads_boot, boot_after, reads_count, count_after, reads_committed, committed_after, reads_tree, tree_after, reads_log, log_after, reads_waiting, waiting_after, no_slot, reads_slot, slot_after}
 use Rattle.lu_covered.specs.TargetStates.{Server, boot_at, count_at, committed_at, tree_at, log_at, waiting_at, slot_at, server_at, server_after, server_of, slot_of}
 use Rattle.lu_covered.specs.Calls.{reads_life, life_after, life_at}
 use Rattle.lu_covered.specs.Imports.{reads_queue, queue_after, queue_at, reads_flights, flights_after, flights_at, reads_last, last_after, last_at, reads_known, known_after, known_at}
@@ -123,10 +123,12 @@ log_part osts = record { steps = steps; stays = stays }
   where
     steps : (v : Server) (e : Entry) → reads_log e ≡ true → log_after v.log e ≡ (server_after osts v e).log
     steps v (Txn d) r = refl
+    steps v (Commit to batch) r = refl
     steps v e r = absurd (cc)
 
     stays : (v : Server) (e : Entry) → reads_log e ≡ false → v.log ≡ (server_after osts v e).log
     stays v (Txn d) r = absurd (cc)
+    stays v (Commit to batch) r = absurd (cc)
     stays v e r = refl
 
 waiting_part : (osts : ℕ) → ServerPart osts reads_waiting waiting_after (λ v. v.waiting)
@@ -169,13 +171,13 @@ server_is osts t past = whole (boot_is osts t past) (count_is osts t past) (comm
     V : Server
     V = server_of osts (only t past)
 
-    whole : {b n : ℕ} {m : TxnOf} {r : Tree} {l : List Logged} {w : List RequestOf} → b ≡ V.boot → n ≡ V.count → m ≡ V.committed → r ≡ V.tree → l ≡ V.log → w ≡ V.waiting → ◌≡◌ {A = Server} (record { boot = b; count = n; committed = m; tree = r; log = l; waiting = w }) V
+    whole : {b n : ℕ} {m : TxnOf} {r : Tree} {l : List Deed} {w : List RequestOf} → b ≡ V.boot → n ≡ V.count → m ≡ V.committed → r ≡ V.tree → l ≡ V.log → w ≡ V.waiting → ◌≡◌ {A = Server} (record { boot = b; count = n; committed = m; tree = r; log = l; waiting = w }) V
     whole {b} {n} {m} {r} {l} {w} eb en em er el ew =
         ap (λ (x : ℕ). record { boot = x; count = n; committed = m; tree = r; log = l; waiting = w }) eb
         ∙ ap (λ (x : ℕ). record { boot = V.boot; count = x; committed = m; tree = r; log = l; waiting = w }) en
         ∙ ap (λ (x : TxnOf). record { boot = V.boot; count = V.count; committed = x; tree = r; log = l; waiting = w }) em
         ∙ ap (λ (x : Tree). record { boot = V.boot; count = V.count; committed = V.committed; tree = x; log = l; waiting = w }) er
-        ∙ ap (λ (x : List Logged). record { boot = V.boot; count = V.count; committed = V.committed; tree = V.tree; log = x; waiting = w }) el
+        ∙ ap (λ (x : List Deed). record { boot = V.boot; count = V.count; committed = V.committed; tree = V.tree; log = x; waiting = w }) el
         ∙ ap (λ (x : List RequestOf). record { boot = V.boot; count = V.count; committed = V.committed; tree = V.tree; log = V.log; waiting = x }) ew
 
 -- ---- a field that a client has for each target

@@ -1,4 +1,4 @@
--- What the laws read in the printed past of a run: no target has booted again, committed or lost anything, no
+-- What the laws read in the printed past of a run: no target has booted again or lost anything, no
 -- life has ended, and the metadata target's contents are its tree.
 use Rattle.std.proofs.Common.{◌≡◌, ℕ, ◌+◌, ◌*◌, ◌/◌, ◌<◌, ◌≤◌, max, Bool, true, false, List, [], ◌∷◌, refl, sym, subst, ap, ◌∙◌, arith}
 use Rattle.std.specs.Prelude.{not, ◌&&◌}
@@ -13,7 +13,7 @@ use Rattle.lu_words.specs.Carried.{Deed}
 use Rattle.lu_words.specs.Words.{Entry, Life, Act, Txn as Made, Commit, Crash, Boot, Close, Evict, Fail, Line, line}
 use Rattle.lu_words.specs.Printed.{printed}
 use Rattle.lu_covered.specs.TargetParts.{operation}
-use Rattle.lu_covered.specs.TargetStates.{boot_at, count_at, tree_at, server_at}
+use Rattle.lu_covered.specs.TargetStates.{boot_at, count_at, committed_at, tree_at, server_at}
 use Rattle.lu_covered.specs.Runs.{Head}
 use Rattle.lu_laws.specs.Words.Pasts.{is_target}
 use Rattle.lu_laws.specs.Words.Lives.{life, is_gone}
@@ -42,13 +42,18 @@ module _ (head : Head) where
       by (Target t) (Boot b disk) ok h = absurd ok
       by _ _ ok h = h
 
-  pub committed_is : (past : List Line) → Grown head past → committed 0 (printed past) ≡ 0
+  -- the committed number is the metadata target's
+  pub committed_is : (past : List Line) → Grown head past → committed 0 (printed past) ≡ (committed_at 0 past).0
   committed_is [] g = refl
   committed_is (l ∷ past) g = by l.at.node l.entry g.0.ok (committed_is past g.1)
     where
-      by : (node : Node) (e : Entry) → EntryOk past (turn l.at.stamp node) node e → committed 0 (printed past) ≡ 0 → committed 0 (printed (line (turn l.at.stamp node) e ∷ past)) ≡ 0
+      by : (node : Node) (e : Entry) → EntryOk past (turn l.at.stamp node) node e → committed 0 (printed past) ≡ (committed_at 0 past).0
+          → committed 0 (printed (line (turn l.at.stamp node) e ∷ past)) ≡ (committed_at 0 (line (turn l.at.stamp node) e ∷ past)).0
       by (Client c) (Commit to batch) ok h = absurd ok
-      by (Target t) (Commit to batch) ok h = absurd ok
+      by (Target t) (Commit to batch) ok h =
+          subst (λ (v : ℕ). committed 0 (printed (line (turn l.at.stamp (Target v)) (Commit to batch) ∷ past)) ≡ (committed_at 0 (line (turn l.at.stamp (Target v)) (Commit to batch) ∷ past)).0) (sym ok.0) refl
+      by (Client c) (Boot boot disk) ok h = absurd ok
+      by (Target t) (Boot boot disk) ok h = absurd ok
       by _ _ ok h = h
 
   no_losses : (t : ℕ) (past : List Line) → Grown head past → losses t (printed past) ≡ []

@@ -1,8 +1,8 @@
 -- The law of history: with the lost transactions taken out, the plain machine answers what clients were told, and
 -- refuses no transaction that stands.
 use Rattle.std.proofs.Common.{◌≡◌, ℕ, ◌+◌, ◌<◌, ◌≤◌, Bool, true, false, List, [], ◌∷◌, ◌++◌, Option, Some, None, inl, inr, refl, sym, subst, ap, ◌∙◌, arith}
-use Rattle.std.specs.Prelude.{not, ◌&&◌, if◌then◌else◌}
-use Rattle.std.proofs.lemmas.Bool.{and_parts, eqb-true}
+use Rattle.std.specs.Prelude.{not, ◌&&◌, nat_lt, if◌then◌else◌, filter}
+use Rattle.std.proofs.lemmas.Bool.{and_parts, eqb-true, ltb-false}
 use Rattle.lu_base.specs.declared.ids.At.{At}
 use Rattle.lu_base.specs.declared.ids.Node.{Node}
 use Rattle.lu_base.specs.declared.ids.Node.TheVariants.{Client, Target}
@@ -28,10 +28,10 @@ use Rattle.lu_machine.proofs.Removal.{earlier_are_older}
 use Rattle.lu_machine.proofs.Seen.{removal_by_seen}
 use Rattle.lu_machine.proofs.Transactions.{machine_is_table}
 use Rattle.lu_words.specs.Carried.{Deed, Work}
-use Rattle.lu_words.specs.Words.{Entry, Told, Act, Txn as Made, Line, line}
+use Rattle.lu_words.specs.Words.{Entry, Told, Act, Txn as Made, Commit, Line, line}
 use Rattle.lu_words.specs.Printed.{printed}
 use Rattle.lu_covered.specs.Calls.{first_life}
-use Rattle.lu_covered.specs.TargetParts.{operation, logged}
+use Rattle.lu_covered.specs.TargetParts.{operation}
 use Rattle.lu_covered.specs.TargetStates.{count_at, tree_at, log_at, server_at, seen_in}
 use Rattle.lu_covered.specs.Runs.{Head}
 use Rattle.lu_laws.specs.Words.Pasts.{same_turn, is_target}
@@ -43,7 +43,7 @@ use Rattle.lu_laws.specs.Holds.{Holds}
 use Rattle.lu_laws.proofs.Tests.{both, settled}
 use Rattle.lu_laws.specs.Laws.History.{is_accepted, heard_answer, right_answer, ToldOn, ToldAt, HistoryOf}
 use Rattle.lu_laws.specs.Laws.History as law
-use Rattle.lu_lawful.specs.Fits.{AllStand, SeenStand, DoneStands, ToldStandsAt, ToldStand, Fits}
+use Rattle.lu_lawful.specs.Fits.{AllStand, SeenStand, CommitsStand, DoneStands, ToldStandsAt, ToldStand, Fits}
 use Rattle.lu_guards.proofs.Guards.{Allowed, Grown}
 use Rattle.lu_guards.proofs.Lists.{life_is}
 use Rattle.lu_facts.proofs.Groups.{turn, Acted}
@@ -58,8 +58,15 @@ use Rattle.lu_lawful.proofs.SeenNumbers.{one, seen_snoc}
 use Rattle.lu_lawful.proofs.Deeds.{ActIs, TxnIs, act_is, txn_is}
 use Rattle.lu_lawful.proofs.Plain.{told_plain}
 
+commits_before : (lost : ℕ → ℕ → Bool) (l : Line) (past : List Line) → CommitsStand lost (l ∷ past) → CommitsStand lost past
+commits_before lost l past = by l.entry
+  where
+    by : (e : Entry) → CommitsStand lost (line l.at e ∷ past) → CommitsStand lost past
+    by (Commit to batch) c = c.1
+    by _ c = c
+
 pub fits_before : (out : Who → Bool) (lost : ℕ → ℕ → Bool) (l : Line) (past : List Line) → Fits out lost (l ∷ past) → Fits out lost past
-fits_before out lost l past f = record { root = f.root; seen = seen_before l.entry f.seen; told = told_before l.entry f.told }
+fits_before out lost l past f = record { root = f.root; seen = seen_before l.entry f.seen; told = told_before l.entry f.told; committed = commits_before lost l past f.committed }
   where
     seen_before : (e : Entry) → SeenStand lost (line l.at e ∷ past) → SeenStand lost past
     seen_before (Made d) s = s.1
@@ -107,11 +114,11 @@ module _ (head : Head) (lost : ℕ → ℕ → Bool) where
   KeptSeen is touched = Every (λ n. keep lost n ≡ true) (seen head.osts (whole head.osts) is touched)
 
   kept_made : (touched : List Part) (past : List Line) (at : At) (d : Deed) → Grown head past → TxnIs head.osts (server_at head.osts 0 past) at d → (AllStand lost (seen_in touched (log_at 0 past)) → KeptSeen (items past) touched)
-      → AllStand lost (seen_in touched (log_at 0 past ++ logged d ∷ [])) → KeptSeen (Acts (operation d) ∷ items past) touched
+      → AllStand lost (seen_in touched (log_at 0 past ++ d ∷ [])) → KeptSeen (Acts (operation d) ∷ items past) touched
   kept_made touched past at d g is h s =
       let n = d.reply.txn.0 in
       let ns = seen head.osts (whole head.osts) (items past) touched in
-      let parts = stand_parts lost (seen_in touched (log_at 0 past)) (one (meet d.writes touched) n) (subst (AllStand lost) (seen_snoc touched (log_at 0 past) (logged d)) s) in
+      let parts = stand_parts lost (seen_in touched (log_at 0 past)) (one (meet d.writes touched) n) (subst (AllStand lost) (seen_snoc touched (log_at 0 past) d) s) in
       subst (λ t. Every (λ n. keep lost n ≡ true) (if meet (writes head.osts t (operation d)) touched then n ∷ ns else ns)) (sym (whole_is head past g))
       (subst (λ (ws : List Part). Every (λ n. keep lost n ≡ true) (if meet ws touched then n ∷ ns else ns)) is.wrote (at_one (meet d.writes touched) n ns parts.1 (h parts.0)))
     where
@@ -119,22 +126,43 @@ module _ (head : Head) (lost : ℕ → ℕ → Bool) where
       at_one true n ns s h = (ap not s.0, h)
       at_one false n ns s h = h
 
-  seen_kept : (touched : List Part) (past : List Line) → Grown head past → AllStand lost (seen_in touched (log_at 0 past)) → KeptSeen (items past) touched
-  seen_kept touched [] g s = tt
-  seen_kept touched (l ∷ past) g s = by l.at.node l.entry g.0 s (seen_kept touched past g.1)
+  -- where what is committed stands, all that was seen stood before the commit too
+  stood : (touched : List Part) (to : ℕ) (log : List Deed) → ((n : ℕ) → n ≤ to → lost 0 n ≡ false) → AllStand lost (seen_in touched (filter (λ d. nat_lt to d.reply.txn.0) log)) → AllStand lost (seen_in touched log)
+  stood touched to [] c s = tt
+  stood touched to (d ∷ log) c s = by (nat_lt to d.reply.txn.0) (meet d.writes touched) refl refl s (stood touched to log c)
     where
-      by : (node : Node) (e : Entry) → Allowed head past (turn l.at.stamp node) e → AllStand lost (seen_in touched (log_at 0 (line (turn l.at.stamp node) e ∷ past))) → (AllStand lost (seen_in touched (log_at 0 past)) → KeptSeen (items past) touched)
-          → KeptSeen (items (line (turn l.at.stamp node) e ∷ past)) touched
-      by (Client c) (Made d) k s h = absurd k.ok
-      by (Target t) (Made d) k s h =
-          kept_made touched past (turn l.at.stamp (Target t)) d g.1 (txn_is head past l.at.stamp t d k) h (subst (λ (v : ℕ). AllStand lost (seen_in touched (log_at 0 (line (turn l.at.stamp (Target v)) (Made d) ∷ past)))) k.ok s)
-      by _ _ k s h = h s
+      rest : List Deed
+      rest = filter (λ x. nat_lt to x.reply.txn.0) log
+
+      low : nat_lt to d.reply.txn.0 ≡ false → lost 0 d.reply.txn.0 ≡ false
+      low e = c d.reply.txn.0 (ltb-false to d.reply.txn.0 e)
+
+      by : (b m : Bool) → nat_lt to d.reply.txn.0 ≡ b → meet d.writes touched ≡ m → AllStand lost (seen_in touched (if b then d ∷ rest else rest)) → (AllStand lost (seen_in touched rest) → AllStand lost (seen_in touched log))
+          → AllStand lost (if m then d.reply.txn.0 ∷ seen_in touched log else seen_in touched log)
+      by true true e f s more = let t = subst (λ (v : Bool). AllStand lost (if v then d.reply.txn.0 ∷ seen_in touched rest else seen_in touched rest)) f s in (t.0, more t.1)
+      by true false e f s more = more (subst (λ (v : Bool). AllStand lost (if v then d.reply.txn.0 ∷ seen_in touched rest else seen_in touched rest)) f s)
+      by false true e f s more = (low e, more s)
+      by false false e f s more = more s
+
+  seen_kept : (touched : List Part) (past : List Line) → Grown head past → CommitsStand lost past → AllStand lost (seen_in touched (log_at 0 past)) → KeptSeen (items past) touched
+  seen_kept touched [] g c s = tt
+  seen_kept touched (l ∷ past) g c s = by l.at.node l.entry g.0 c s (seen_kept touched past g.1)
+    where
+      by : (node : Node) (e : Entry) → Allowed head past (turn l.at.stamp node) e → CommitsStand lost (line (turn l.at.stamp node) e ∷ past) → AllStand lost (seen_in touched (log_at 0 (line (turn l.at.stamp node) e ∷ past)))
+          → (CommitsStand lost past → AllStand lost (seen_in touched (log_at 0 past)) → KeptSeen (items past) touched) → KeptSeen (items (line (turn l.at.stamp node) e ∷ past)) touched
+      by (Client c) (Made d) k f s h = absurd k.ok
+      by (Client c) (Commit to batch) k f s h = absurd k.ok
+      by (Target t) (Commit to batch) k f s h =
+          h f.1 (stood touched to (log_at 0 past) f.0 (subst (λ (v : ℕ). AllStand lost (seen_in touched (log_at 0 (line (turn l.at.stamp (Target v)) (Commit to batch) ∷ past)))) k.ok.0 s))
+      by (Target t) (Made d) k f s h =
+          kept_made touched past (turn l.at.stamp (Target t)) d g.1 (txn_is head past l.at.stamp t d k) (h f) (subst (λ (v : ℕ). AllStand lost (seen_in touched (log_at 0 (line (turn l.at.stamp (Target v)) (Made d) ∷ past)))) k.ok s)
+      by _ _ k f s h = h f s
 
   -- what saw only what stands
-  saw_kept : (past : List Line) (d : Deed) → Grown head past → d.reply.seen ≡ seen_in (touches head.osts (tree_at head.osts 0 past) (operation d)) (log_at 0 past) → AllStand lost d.reply.seen → SawKept head.osts (whole head.osts) (keep lost) (items past) (operation d)
-  saw_kept past d g is s =
+  saw_kept : (past : List Line) (d : Deed) → Grown head past → CommitsStand lost past → d.reply.seen ≡ seen_in (touches head.osts (tree_at head.osts 0 past) (operation d)) (log_at 0 past) → AllStand lost d.reply.seen → SawKept head.osts (whole head.osts) (keep lost) (items past) (operation d)
+  saw_kept past d g c is s =
       subst (λ t. Every (λ n. keep lost n ≡ true) (seen head.osts (whole head.osts) (items past) (touches head.osts t (operation d)))) (sym (whole_is head past g))
-      (seen_kept (touches head.osts (tree_at head.osts 0 past) (operation d)) past g (subst (AllStand lost) is s))
+      (seen_kept (touches head.osts (tree_at head.osts 0 past) (operation d)) past g c (subst (AllStand lost) is s))
 
 stands_again : (b : Bool) → not b ≡ true → b ≡ false
 stands_again true e = absurd (cc)
@@ -149,13 +177,13 @@ txn_here : (head : Head) (past : List Line) (stamp : Stamp) (node : Node) (d : D
 txn_here head past stamp (Client c) d k = absurd k.ok
 txn_here head past stamp (Target t) d k = txn_is head past stamp t d k
 
-all_saw : (head : Head) (lost : ℕ → ℕ → Bool) (past : List Line) → Grown head past → SeenStand lost past → AllSawKept head.osts (whole head.osts) (keep lost) (items past)
-all_saw head lost [] g s = tt
-all_saw head lost (l ∷ past) g s = by l.entry g.0 s (all_saw head lost past g.1)
+all_saw : (head : Head) (lost : ℕ → ℕ → Bool) (past : List Line) → Grown head past → CommitsStand lost past → SeenStand lost past → AllSawKept head.osts (whole head.osts) (keep lost) (items past)
+all_saw head lost [] g c s = tt
+all_saw head lost (l ∷ past) g c s = by l.entry g.0 s (all_saw head lost past g.1 (commits_before lost l past c))
   where
     by : (e : Entry) → Allowed head past l.at e → SeenStand lost (line l.at e ∷ past) → (SeenStand lost past → AllSawKept head.osts (whole head.osts) (keep lost) (items past))
         → AllSawKept head.osts (whole head.osts) (keep lost) (items (line l.at e ∷ past))
-    by (Made d) k s h = (λ kept. saw_kept head lost past d g.1 (txn_here head past l.at.stamp l.at.node d k).saw (s.0 (stands_again (lost 0 d.reply.txn.0) kept)), h s.1)
+    by (Made d) k s h = (λ kept. saw_kept head lost past d g.1 (commits_before lost l past c) (txn_here head past l.at.stamp l.at.node d k).saw (s.0 (stands_again (lost 0 d.reply.txn.0) kept)), h s.1)
     by _ k s h = h s
 
 -- ---- the law's machine
@@ -223,7 +251,7 @@ module _ (head : Head) (out : Who → Bool) (lost : ℕ → ℕ → Bool) where
       let older = earlier_are_older head.osts (keep lost) root [] tt in
       subst (λ (u : Tree). Alike head.osts u (machine past).tree (operation d)) (whole_is head past g)
       (subst (λ (u : Tree). Alike head.osts (whole head.osts (items past)) u (operation d)) (sym (follows past g a t).1)
-      (removal_by_seen head.osts empty (keep lost) root older (items past) (all_saw head lost past g f.seen) (operation d) (saw_kept head lost past d g is s)))
+      (removal_by_seen head.osts empty (keep lost) root older (items past) (all_saw head lost past g f.committed f.seen) (operation d) (saw_kept head lost past d g f.committed is s)))
 
   answered : (past : List Line) (d : Deed) → Alike head.osts (tree_at head.osts 0 past) (machine past).tree (operation d) → IsPlain (answer head.osts (tree_at head.osts 0 past) (operation d)) → (changes head.osts (tree_at head.osts 0 past) (operation d) ≡ true → (machine past).last < d.reply.txn.0)
       → names_answer head.osts (machine past) (operation d) ≡ answer head.osts (tree_at head.osts 0 past) (operation d)
@@ -377,7 +405,7 @@ module _ (head : Head) (out : Who → Bool) (lost : ℕ → ℕ → Bool) where
 -- ---- of a whole trace: no life is gone, and nothing is lost
 
 pub none_fit : (out : Who → Bool) (lost : ℕ → ℕ → Bool) → ((n : ℕ) → lost 0 n ≡ false) → (past : List Line) → Fits out lost past
-none_fit out lost none past = record { root = none 1; seen = seen past; told = tells past }
+none_fit out lost none past = record { root = none 1; seen = seen past; told = tells past; committed = commits past }
   where
     all : (ns : List ℕ) → AllStand lost ns
     all [] = tt
@@ -410,4 +438,12 @@ none_fit out lost none past = record { root = none 1; seen = seen past; told = t
       where
         by : (e : Entry) → ToldStand out lost past → ToldStand out lost (line l.at e ∷ past)
         by (Told slot turn given work) h = (at past l.at.node turn, h)
+        by _ h = h
+
+    commits : (past : List Line) → CommitsStand lost past
+    commits [] = tt
+    commits (l ∷ past) = by l.entry (commits past)
+      where
+        by : (e : Entry) → CommitsStand lost past → CommitsStand lost (line l.at e ∷ past)
+        by (Commit to batch) h = ((λ n le. none n), h)
         by _ h = h

@@ -6,6 +6,7 @@ pub mod MessagesLaw
 pub mod Facts
 pub mod Deeds
 pub mod Contents
+pub mod Committed
 pub mod SeenNumbers
 pub mod Once
 pub mod Plain

@@ -24,7 +24,7 @@ use Rattle.lu_words.specs.Words.{Entry, Send, Take, Heard as Hears_, Act, Txn as
 use Rattle.lu_words.specs.Concerns.{only}
 use Rattle.lu_words.specs.Printed.{printed}
 use Rattle.lu_covered.specs.TargetParts.{operation}
-use Rattle.lu_covered.specs.TargetStates.{server_at}
+use Rattle.lu_covered.specs.TargetStates.{committed_at, server_at}
 use Rattle.lu_covered.specs.Calls.{first_life}
 use Rattle.lu_covered.specs.Runs.{Head}
 use Rattle.lu_laws.specs.Holds.{Holds}
@@ -37,6 +37,7 @@ use Rattle.lu_laws.specs.Order.Heard.{HeardAt, Heard}
 use Rattle.lu_laws.specs.Order.Answers.{none, AnswerOf, AnswerBy, Answers}
 use Rattle.lu_guards.proofs.Guards.{Was, TookNow, Allowed, Grown}
 use Rattle.lu_guards.proofs.Lists.{self}
+use Rattle.lu_guards.proofs.Parts.{committed_is as server_committed}
 use Rattle.lu_facts.proofs.Groups.{turn, Hears}
 use Rattle.lu_facts.proofs.All.{holds}
 use Rattle.lu_lawful.proofs.Turns.{same_turn_self, same_life_self}
@@ -58,7 +59,7 @@ reply_carries head past stamp t c r a g =
     let ok = a.of 0 (about_it t a.ok.0) in
     let phase = ((holds head past g).at 0).phase in
     let b : r.boot ≡ 1 = ap (λ (v : ReplyTo). v.boot) ok.is ∙ phase.boot in
-    let n : r.committed.0 ≡ 0 = ap (λ (v : ReplyTo). v.committed.0) ok.is ∙ ap (λ (v : TxnOf). v.0) phase.committed in
+    let n : r.committed.0 ≡ (committed_at 0 past).0 = ap (λ (v : ReplyTo). v.committed.0) ok.is ∙ ap (λ (v : TxnOf). v.0) (sym (server_committed head.osts 0 past)) in
     subst (λ (v : ℕ). MessageAt (printed past) v (message.Reply r)) (sym a.ok.0) (record { present = ap (λ (v : ℕ). Some v) (b ∙ sym (boot_is head past g)); number = n ∙ sym (committed_is head past g) })
 
 messages_at : (head : Head) (past : List Line) (l : Line) (later : List PrintedLine) → Allowed head past l.at l.entry → Grown head past → Keeps Messages past l later

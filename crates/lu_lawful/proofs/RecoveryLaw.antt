@@ -3,6 +3,7 @@
 use Rattle.std.proofs.Common.{◌≡◌, ℕ, ◌+◌, ◌/◌, Bool, true, false, List, [], ◌∷◌, Option, Some, None, ◌⊎◌, inl, inr, ⊎_elim, refl, sym, subst, ap, ◌∙◌, arith}
 use Rattle.std.specs.Prelude.{nat_eq, not, ◌&&◌, ◌||◌, if◌then◌else◌}
 use Rattle.std.specs.Bool.{then_some}
+use Rattle.std.specs.List.{list_any}
 use Rattle.std.proofs.lemmas.Bool.{and_parts, cond_both, eqb-true, true≢false}
 use Rattle.lu_base.specs.declared.ids.At.{At}
 use Rattle.lu_base.specs.declared.ids.Stamp.{Stamp}
@@ -10,6 +11,7 @@ use Rattle.lu_base.specs.declared.ids.Node.{Node}
 use Rattle.lu_base.specs.declared.ids.Node.TheVariants.{Client, Target}
 use Rattle.lu_base.specs.declared.ids.Txn.{Txn}
 use Rattle.lu_base.specs.declared.ids.Who.{Who}
+use Rattle.lu_msg.specs.declared.commits.Batch.{Batch}
 use Rattle.lu_msg.specs.declared.messages.Message.{Message}
 use Rattle.lu_msg.specs.declared.messages.Message.TheVariants as message
 use Rattle.lu_msg.specs.declared.messages.Reply.{Reply as ReplyTo}
@@ -33,20 +35,22 @@ use Rattle.lu_laws.specs.Words.Requests.{asked}
 use Rattle.lu_laws.specs.Words.Clients.{clients}
 use Rattle.lu_laws.specs.Words.Boots.{is_recovering}
 use Rattle.lu_laws.specs.Words.Handed.{is_back}
+use Rattle.lu_laws.specs.Words.Lost.{Transaction, transactions}
 use Rattle.lu_laws.specs.Words.Seen.{touches_of, seen_by}
 use Rattle.lu_laws.specs.Holds.{Holds}
 use Rattle.lu_laws.specs.Laws.Recovery as law
-use Rattle.lu_laws.specs.Laws.Recovery.{request_sees, TransactionAt, answers_size, is_size_for, is_executed, other_than, reply_seen, ReplyAt, BringsBack, TakenAt, RecoveryAt, RecoveryOf, Recovery}
-use Rattle.lu_guards.proofs.Guards.{Later, Steps, Did, Taken, RepliesNow, Allowed, Grown}
+use Rattle.lu_laws.specs.Laws.Recovery.{request_sees, TransactionAt, answers_size, is_size_for, is_executed, other_than, reply_seen, ReplyAt, BringsBack, TakenAt, CommitAt, stands, RecoveryAt, RecoveryOf, Recovery}
+use Rattle.lu_guards.proofs.Guards.{Later, Steps, Did, Taken, RepliesNow, CommitOk, Allowed, Grown}
 use Rattle.lu_guards.proofs.Lists.{self, turn_trans, turn_irreflexive, life_is}
 use Rattle.lu_facts.proofs.Groups.{turn, Acted}
 use Rattle.lu_facts.proofs.All.{holds}
 use Rattle.lu_lawful.proofs.Turns.{later_before, same_turn_is, same_turn_self, same_life_self}
-use Rattle.lu_lawful.proofs.Story.{acted_whole}
+use Rattle.lu_lawful.proofs.Story.{about_it, acted_whole}
+use Rattle.lu_lawful.proofs.Committed.{commits, logs}
 use Rattle.lu_lawful.proofs.Lines.{OfPrinted, Keeps, holds_before}
 use Rattle.lu_lawful.proofs.Once.{NoneFor, act_now, txn_now}
 use Rattle.lu_lawful.proofs.Facts.{AskedAt, AllAsked}
-use Rattle.lu_lawful.proofs.Contents.{boot_is, not_recovering, number_is, number_in_boot, below_next, asked_before, contents_are}
+use Rattle.lu_lawful.proofs.Contents.{boot_is, committed_is, none_lost, not_recovering, number_is, number_in_boot, below_next, asked_before, contents_are}
 use Rattle.lu_lawful.proofs.SeenNumbers.{seen_is}
 use Rattle.lu_lawful.proofs.Deeds.{TxnIs, act_is, txn_is}
 
@@ -220,6 +224,26 @@ txn_law head past at d g a asks is =
       sees = is.saw ∙ sym (law_seen_is head past d g a asks);
     }
 
+-- ---- commits
+
+either_right : (a b : Bool) → b ≡ true → (a || b) ≡ true
+either_right true b e = refl
+either_right false b e = e
+
+commit_law : (head : Head) (past : List Line) (to : ℕ) (batch : Batch) → Grown head past → CommitOk head.osts (only 0 past) to batch → CommitAt 0 (printed past) to
+commit_law head past to batch g ok =
+    let c = commits head.osts past to batch ok in
+    let h = logs head past g in
+    let is = c.2 in
+    let above = h.above c.0 c.1 in
+    let m = committed_is head past g in
+    let made : list_any (λ (x : Transaction). nat_eq x.number to) (transactions 0 (printed past)) ≡ true =
+    subst (λ (n : ℕ). list_any (λ (x : Transaction). nat_eq x.number n) (transactions 0 (printed past)) ≡ true) (sym is) (h.made c.0 c.1) in
+    record {
+      standing = either_right (nat_eq to 0) (stands 0 (printed past) to) (rw (made, none_lost head past 0 to g) refl);
+      least = omega (arith, m, above, is);
+    }
+
 -- ---- no life comes back, for no window is ever open
 
 never_back : (head : Head) (past : List Line) (l : PrintedLine) (later : List PrintedLine) (t : ℕ) (who : Who) → Grown head past → BringsBack t (printed past) l later who
@@ -252,7 +276,8 @@ recovery_at clients head past l later k g a = by l.at.node l.entry k a
     by (Client c) (Made d) k a = absurd k.ok
     by (Target t) (Made d) k a =
         subst (λ (v : ℕ). TransactionAt v (printed past) d.reply.txn.0 d.reply.seen (request_sees head.osts v (printed past) d.reply.txn d.reply.who d.reply.xid.0 d.reply.answer)) (sym k.ok) (txn_law head past (turn l.at.stamp (Target t)) d g a.1 a.0 (txn_is head past l.at.stamp t d k))
-    by (Target t) (Commit to batch) k a = absurd k.ok
+    by (Target t) (Commit to batch) k a =
+        subst (λ (v : ℕ). CommitAt v (printed past) to) (sym k.ok.0) (commit_law head past to batch g (k.of 0 (about_it t k.ok.0)))
     by (Target t) (Back who) k a = absurd k.ok
     by (Target t) (Close outcome) k a = absurd k.ok
     by (Target t) (Kept n) k a = absurd k.ok

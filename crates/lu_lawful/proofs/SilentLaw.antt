@@ -17,7 +17,7 @@ use Rattle.lu_msg.specs.declared.operations.Op.{Op}
 use Rattle.lu_msg.specs.declared.operations.Op.TheVariants as op
 use Rattle.lu_msg.specs.declared.messages.Reply.{Reply as ReplyTo}
 use Rattle.lu_trace.specs.declared.entries.Line.{Line as PrintedLine}
-use Rattle.lu_machine.specs.Footprint.{changes, Every}
+use Rattle.lu_machine.specs.Footprint.{Every}
 use Rattle.lu_machine.specs.Laws.{IsReading}
 use Rattle.lu_words.specs.Carried.{Work, Asking, Running}
 use Rattle.lu_words.specs.Words.{Entry, Begin, Heard, Told, Take, Drop, Queues, Stands, Line, line}
@@ -165,12 +165,12 @@ IsNoReading (call.Read handle offset count) = ⊥
 IsNoReading _ = Unit {0}
 
 never_same : (a k : Call) → IsNoReading k → same_reading a k ≡ false
-never_same (call.Lookup path) (call.Lookup other) changes = absurd changes
-never_same (call.Stat path) (call.Stat other) changes = absurd changes
-never_same (call.List path) (call.List other) changes = absurd changes
-never_same (call.Layout path) (call.Layout other) changes = absurd changes
-never_same (call.Read h offset count) (call.Read k start number) changes = absurd changes
-never_same _ _ changes = refl
+never_same (call.Lookup path) (call.Lookup other) apart = absurd apart
+never_same (call.Stat path) (call.Stat other) apart = absurd apart
+never_same (call.List path) (call.List other) apart = absurd apart
+never_same (call.Layout path) (call.Layout other) apart = absurd apart
+never_same (call.Read h offset count) (call.Read k start number) apart = absurd apart
+never_same _ _ apart = refl
 
 refusal_is : (given : Answer) → IsRefusal given → is_error given ≡ true
 refusal_is (told.Refused e) is = refl

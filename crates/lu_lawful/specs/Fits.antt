@@ -1,12 +1,12 @@
 -- Which lives may be out at the end of a trace, and which of the metadata target's numbers lost, so far as a past
--- goes: what stands saw only what stands, and what a life that isn't out was told stands with all that it saw. A
--- life that stays at a recovery is one of these; so far no life is out and no number lost.
-use Rattle.std.specs.Prelude.{◌≡◌, ℕ, Bool, false, List, [], ◌∷◌}
+-- goes: what stands saw only what stands, what a life that isn't out was told stands with all that it saw, and what is
+-- committed stands. A life that stays at a recovery is one of these; so far no life is out and no number lost.
+use Rattle.std.specs.Prelude.{◌≡◌, ◌≤◌, ℕ, Bool, false, List, [], ◌∷◌}
 use Rattle.lu_base.specs.declared.ids.At.{At}
 use Rattle.lu_base.specs.declared.ids.Node.{Node}
 use Rattle.lu_base.specs.declared.ids.Node.TheVariants.{Client, Target}
 use Rattle.lu_base.specs.declared.ids.Who.{Who}
-use Rattle.lu_words.specs.Words.{Told, Act, Txn as Made, Line}
+use Rattle.lu_words.specs.Words.{Told, Act, Txn as Made, Commit, Line}
 use Rattle.lu_covered.specs.Calls.{first_life}
 
 -- these numbers aren't lost
@@ -39,8 +39,14 @@ abbrev pub ToldStand : (Who → Bool) → (ℕ → ℕ → Bool) → List Line �
 ToldStand out lost [] = Unit {0}
 ToldStand out lost (l ∷ past) = elim l.entry [ Told slot turn given work ↦ ToldStandsAt out lost past l.at.node turn × ToldStand out lost past | _ ↦ ToldStand out lost past ]
 
+-- nothing up to a committed number is lost
+abbrev pub CommitsStand : (ℕ → ℕ → Bool) → List Line → Type 0
+CommitsStand lost [] = Unit {0}
+CommitsStand lost (l ∷ past) = elim l.entry [ Commit to batch ↦ ((n : ℕ) → n ≤ to → lost 0 n ≡ false) × CommitsStand lost past | _ ↦ CommitsStand lost past ]
+
 -- lives and numbers that may be out and lost after a past; the root's number, 1, is no transaction's
 pub record Fits (out : Who → Bool) (lost : ℕ → ℕ → Bool) (past : List Line) : Type 0 where
   pub root : lost 0 1 ≡ false
   pub seen : SeenStand lost past
   pub told : ToldStand out lost past
+  pub committed : CommitsStand lost past

@@ -82,6 +82,7 @@ fits =
       root = refl;
       seen = (λ stands. tt, (λ stands. tt, tt));
       told = (λ stays. (λ own named. (refl, tt), (λ own. others own, tt)), (λ stays. gone stays, tt));
+      committed = tt;
     }
 
 pub acts_of : Holds (ActsOf out lost (printed (lines_of turns))) (printed (lines_of turns))

@@ -7,6 +7,7 @@ pub mod Queue
 pub mod Tags
 pub mod Fits
 pub mod Files
+pub mod Commits
 pub mod NameFound
 pub mod Unfit
 pub mod Spent
