@@ -1,9 +1,10 @@
 pub mod TargetParts
 pub mod TargetStates
-pub mod TargetRows
+pub mod Deeds
 pub mod Calls
+pub mod Known
 pub mod Makes
 pub mod Imports
 pub mod ClientStates
-pub mod ClientRows
-pub mod Runs
+pub mod Heads
+pub mod Covered

@@ -7,7 +7,11 @@ use Rattle.lu_msg.specs.declared.messages.Request.{Request as RequestOf}
 use Rattle.lu_machine.specs.Tree.{Tree}
 use Rattle.lu_machine.specs.Footprint.{Operation, after}
 use Rattle.lu_words.specs.Carried.{Deed, Slot}
-use Rattle.lu_words.specs.Words.{Entry, Act, Txn, Commit, Boot, Enters, same_life}
+use Rattle.lu_words.specs.Words.{Entry, Act, Txn, Commit, Boot, Enters, Block, Release, same_life}
+use Rattle.lu_base.specs.declared.locks.Lock.{Lock}
+use Rattle.lu_words.specs.Carried.{Called}
+use Rattle.lu_target_rows.specs.Phase.{greatest_cookie}
+use Rattle.lu_target_rows.specs.Locks.{with_locks, without_lock, called_without}
 
 -- ---- the boot, and the number up to which all is on the disk
 
@@ -109,3 +113,37 @@ slot_after who tag slot (Enters r) = if is_slot_of who tag r.who r.tag then ente
 slot_after who tag slot (Act d) = if is_slot_of who tag d.reply.who d.tag then answered d slot else slot
 slot_after who tag slot (Txn d) = if is_slot_of who tag d.reply.who d.tag then answered d slot else slot
 slot_after who tag slot _ = slot
+
+-- ---- granted locks, in rising cookie: those of an act come with it, and the lines that follow show them
+
+abbrev pub reads_granted : Entry → Bool
+reads_granted (Act d) = true
+reads_granted (Release lock) = true
+reads_granted _ = false
+
+abbrev pub granted_after : List Lock → Entry → List Lock
+granted_after locks (Act d) = with_locks d.reply.locks locks
+granted_after locks (Release lock) = without_lock lock locks
+granted_after locks _ = locks
+
+-- ---- the greatest cookie
+
+abbrev pub reads_cookie : Entry → Bool
+reads_cookie (Act d) = true
+reads_cookie _ = false
+
+abbrev pub cookie_after : ℕ → Entry → ℕ
+cookie_after n (Act d) = greatest_cookie n d.reply.locks
+cookie_after n _ = n
+
+-- ---- locks that were called back
+
+abbrev pub reads_called : Entry → Bool
+reads_called (Block called) = true
+reads_called (Release lock) = true
+reads_called _ = false
+
+abbrev pub called_after : List Called → Entry → List Called
+called_after cs (Block called) = cs ++ called ∷ []
+called_after cs (Release lock) = called_without lock cs
+called_after cs _ = cs

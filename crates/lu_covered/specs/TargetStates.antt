@@ -6,11 +6,14 @@ use Rattle.lu_base.specs.declared.ids.Who.{Who}
 use Rattle.lu_msg.specs.declared.messages.Request.{Request as RequestOf}
 use Rattle.lu_machine.specs.Tree.{Tree}
 use Rattle.lu_machine.specs.Footprint.{empty}
-use Rattle.lu_words.specs.Carried.{Deed, Slot}
-use Rattle.lu_words.specs.Words.{Entry, Act, Txn, Commit, Boot, Enters, Line}
+use Rattle.lu_base.specs.declared.locks.Lock.{Lock}
+use Rattle.lu_words.specs.Carried.{Deed, Slot, Called}
+use Rattle.lu_words.specs.Words.{Entry, Act, Txn, Commit, Boot, Enters, Block, Release, Line}
 use Rattle.lu_words.specs.Fields.{at_target}
 pub use Rattle.lu_target_rows.specs.Replies.{seen_in}
 use Rattle.lu_covered.specs.TargetParts.{reads_boot, boot_after, reads_count, count_after, reads_committed, committed_after, reads_tree, tree_after, reads_log, log_after, reads_waiting, waiting_after, no_slot, reads_slot, slot_after}
+use Rattle.lu_covered.specs.TargetParts.{reads_granted, granted_after, reads_cookie, cookie_after, reads_called, called_after}
+use Rattle.lu_target_rows.specs.Phase.{first_of}
 
 pub record Server : Type 0 where
   pub boot : ℕ
@@ -19,6 +22,9 @@ pub record Server : Type 0 where
   pub tree : Tree
   pub log : List Deed
   pub waiting : List RequestOf
+  pub granted : List Lock
+  pub cookie : ℕ
+  pub called : List Called
 
 abbrev pub none : TxnOf
 none = record { 0 = 0 }
@@ -43,6 +49,15 @@ log_at t past = at_target reads_log log_after [] t past
 abbrev pub waiting_at : ℕ → List Line → List RequestOf
 waiting_at t past = at_target reads_waiting waiting_after [] t past
 
+abbrev pub granted_at : ℕ → List Line → List Lock
+granted_at t past = at_target reads_granted granted_after [] t past
+
+abbrev pub cookie_at : ℕ → List Line → ℕ
+cookie_at t past = at_target reads_cookie cookie_after (first_of 1) t past
+
+abbrev pub called_at : ℕ → List Line → List Called
+called_at t past = at_target reads_called called_after [] t past
+
 abbrev pub slot_at : Who → ℕ → ℕ → List Line → Slot
 slot_at who tag t past = at_target reads_slot (slot_after who tag) no_slot t past
 
@@ -55,18 +70,28 @@ server_at osts t past =
       tree = tree_at osts t past;
       log = log_at t past;
       waiting = waiting_at t past;
+      granted = granted_at t past;
+      cookie = cookie_at t past;
+      called = called_at t past;
     }
 
 -- ---- after its own entries
 
 abbrev pub server_start : Server
-server_start = record { boot = 1; count = 0; committed = none; tree = empty; log = []; waiting = [] }
+server_start = record { boot = 1; count = 0; committed = none; tree = empty; log = []; waiting = []; granted = []; cookie = first_of 1; called = [] }
 
 abbrev pub server_after : ℕ → Server → Entry → Server
 server_after osts v (Boot boot disk) = record v { boot = boot }
 server_after osts v (Commit to batch) = record v { committed = record { 0 = to }; log = log_after v.log (Commit to batch) }
 server_after osts v (Enters r) = record v { waiting = waiting_after v.waiting (Enters r) }
-server_after osts v (Act d) = record v { waiting = waiting_after v.waiting (Act d) }
+server_after osts v (Act d) =
+    record v {
+      waiting = waiting_after v.waiting (Act d);
+      granted = granted_after v.granted (Act d);
+      cookie = cookie_after v.cookie (Act d);
+    }
+server_after osts v (Block called) = record v { called = called_after v.called (Block called) }
+server_after osts v (Release lock) = record v { granted = granted_after v.granted (Release lock); called = called_after v.called (Release lock) }
 server_after osts v (Txn d) =
     record v {
       count = count_after v.count (Txn d);

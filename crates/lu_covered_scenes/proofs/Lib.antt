@@ -1,8 +1,10 @@
-pub mod Plain
-pub mod Counts
-pub mod Begun
+pub mod Every
+pub mod Clients
+pub mod ClientRows
+pub mod Targets
+pub mod Numbers
 pub mod Lines
-pub mod Nodes
-pub mod Rows
+pub mod Arrivals
+pub mod Turns
 pub mod Runs
 pub mod Stated

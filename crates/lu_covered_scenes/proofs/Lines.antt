@@ -1,5 +1,5 @@
 -- What is known of the lines of a scenario that is covered, and of its calls.
-use Rattle.std.proofs.Common.{◌≡◌, ℕ, ◌<◌, List, [], ◌∷◌, Some, None, ◌⊎◌, inl, inr, refl, sym, subst, arith, pos}
+use Rattle.std.proofs.Common.{◌≡◌, ℕ, ◌<◌, ◌≤◌, List, [], ◌∷◌, Some, None, ◌⊎◌, inl, inr, refl, sym, subst, arith, pos}
 use Rattle.std.specs.Prelude.{All}
 use Rattle.std.proofs.lemmas.List.Elements.{All-head, All-tail}
 use Rattle.lu_base.specs.declared.ids.Node.TheVariants.{Client, Target}
@@ -13,52 +13,51 @@ use Rattle.lu_scene.specs.declared.scene.SceneLine.{SceneLine}
 use Rattle.lu_scene.specs.declared.scene.SceneLine.TheVariants.{Call, Run, RunSome, Deliver, Lose, Tick, Die}
 use Rattle.lu_trace.specs.WellFormed.{IsCall}
 use Rattle.lu_covered.specs.Calls.{operation_of}
-use Rattle.lu_covered.specs.Makes.{Path, CallMakes, Misses}
-use Rattle.lu_covered.specs.Runs.{IsAsked}
+use Rattle.lu_covered.specs.Makes.{Path, CallMakes, CallMakesFile, Misses, StatsNoFile}
 use Rattle.lu_facts.proofs.Asked.{Began}
+use Rattle.lu_facts.proofs.Files.{File_in}
 use Rattle.lu_facts.proofs.Finds.{Made_in}
+use Rattle.lu_facts.proofs.Unlocked.{misses_fewer, AllMiss}
 use Rattle.lu_table.specs.Scenarios.{head_of, with_stripes}
 use Rattle.lu_words.specs.Words.{Line}
 use Rattle.lu_after.proofs.Runs.{begins_meets}
-use Rattle.lu_covered_scenes.specs.Covered.{IsMade, IsCallCovered, IsLineCovered, IsCoveredIn, IsCovered}
+use Rattle.lu_covered_scenes.specs.Covered as scenes
+use Rattle.lu_covered_scenes.specs.Covered.{IsMade, IsFile, IsOnNames, IsLineCovered, IsCoveredIn, LineMisses, IsCovered}
 
 -- ---- calls
 
--- a call that becomes an operation that is asked
-pub record Asks (call : CallOf) : Type 0 where
-  pub op : Op
-  pub becomes : operation_of call ≡ Some op
-  pub asked : IsAsked op
+-- the operation that a call becomes as it begins, with the stripes that it is given
+asks : (call : CallOf) → IsOnNames call → (o : Op) × (operation_of (with_stripes call) ≡ Some o)
+asks (call.Lookup path) is = (op.Lookup path, refl)
+asks (call.Stat path) is = (op.Stat path, refl)
+asks (call.List path) is = (op.List path, refl)
+asks (call.Layout path) is = (op.Layout path, refl)
+asks (call.Mkdir path) is = (op.Mkdir path, refl)
+asks (call.Create path None) is = (op.Create path 1048576 (pos 1), refl)
+asks (call.Create path (Some stripes)) is = (op.Create path stripes.0 stripes.1, refl)
+asks (call.Link old new) is = (op.Link old new, refl)
+asks (call.Unlink path) is = (op.Unlink path, refl)
+asks (call.Rmdir path) is = (op.Rmdir path, refl)
+asks (call.Rename old new) is = (op.Rename old new, refl)
+asks (call.Chmod path mode) is = (op.Chmod path mode, refl)
+asks _ is = absurd is
 
--- as it begins, with the stripes that it is given
-asks : (Made : Path → Type 0) (call : CallOf) → IsCallCovered Made call → Asks (with_stripes call)
-asks Made (call.Lookup path) is = record { op = op.Lookup path; becomes = refl; asked = is.0 }
-asks Made (call.Stat path) is = record { op = op.Stat path; becomes = refl; asked = tt }
-asks Made (call.List path) is = record { op = op.List path; becomes = refl; asked = tt }
-asks Made (call.Layout path) is = record { op = op.Layout path; becomes = refl; asked = tt }
-asks Made (call.Mkdir path) is = record { op = op.Mkdir path; becomes = refl; asked = tt }
-asks Made (call.Create path None) is = record { op = op.Create path 1048576 (pos 1); becomes = refl; asked = tt }
-asks Made (call.Create path (Some stripes)) is = record { op = op.Create path stripes.0 stripes.1; becomes = refl; asked = tt }
-asks Made (call.Link old new) is = record { op = op.Link old new; becomes = refl; asked = tt }
-asks Made (call.Unlink path) is = record { op = op.Unlink path; becomes = refl; asked = tt }
-asks Made (call.Rmdir path) is = record { op = op.Rmdir path; becomes = refl; asked = tt }
-asks Made (call.Rename old new) is = record { op = op.Rename old new; becomes = refl; asked = tt }
-asks Made (call.Chmod path mode) is = record { op = op.Chmod path mode; becomes = refl; asked = tt }
-asks Made _ is = absurd is
-
--- the stripes make no other path
+-- the stripes make no other path, and ask for none
 makes_same : (call : CallOf) (path : Path) → CallMakes (with_stripes call) path → CallMakes call path
 makes_same (call.Create made None) path m = m
 makes_same call path m = m
 
--- where more paths are made, a covered call misses the fewer
-misses : (Made Fewer : Path → Type 0) → ((path : Path) → Fewer path → Made path) → (call : CallOf) → IsCallCovered Made call → Misses Fewer (with_stripes call)
-misses Made Fewer fewer (call.Lookup path) is = (is.0, λ m. is.1 (fewer path m))
-misses Made Fewer fewer (call.Stat path) is = (is.0, λ m. is.1 (fewer path m))
-misses Made Fewer fewer (call.List path) is = (is.0, λ m. is.1 (fewer path m))
-misses Made Fewer fewer (call.Layout path) is = λ m. is (fewer path m)
-misses Made Fewer fewer (call.Create path None) is = tt
-misses Made Fewer fewer _ is = tt
+files_same : (call : CallOf) (path : Path) → CallMakesFile (with_stripes call) path → CallMakesFile call path
+files_same (call.Create made None) path m = m
+files_same call path m = m
+
+misses_same : (Made : Path → Type 0) (call : CallOf) → Misses Made call → Misses Made (with_stripes call)
+misses_same Made (call.Create made None) m = tt
+misses_same Made call m = m
+
+stats_same : (Files : Path → Type 0) (call : CallOf) → StatsNoFile Files call → StatsNoFile Files (with_stripes call)
+stats_same Files (call.Create made None) m = tt
+stats_same Files call m = m
 
 -- ---- lines
 
@@ -68,33 +67,33 @@ Calls [] call = ⊥
 Calls (Call client slot begun ∷ lines) call = (with_stripes begun ≡ call) ⊎ Calls lines call
 Calls (line ∷ lines) call = Calls lines call
 
--- what is known of a line of a scenario of these lines, in which there are so many clients
-abbrev pub IsKnown : List SceneLine → ℕ → SceneLine → Type 0
-IsKnown lines clients (Call client slot call) =
-    record { one : client < clients; small : slot < 4; limits : IsCall (with_stripes call); asks : Asks (with_stripes call); among : Calls lines (with_stripes call) }
-IsKnown lines clients Run = Unit {0}
-IsKnown lines clients (RunSome turns) = Unit {0}
-IsKnown lines clients (Deliver number) = Unit {0}
-IsKnown lines clients (Lose number) = Unit {0}
-IsKnown lines clients (Tick (Client client)) = client < clients
-IsKnown lines clients (Tick (Target target)) = target ≡ 0
-IsKnown lines clients (Die client) = client < clients
-IsKnown lines clients _ = ⊥
+-- what is known of a line of a scenario of these lines, with so many clients and object storage targets
+abbrev pub IsKnown : List SceneLine → (clients osts : ℕ) → SceneLine → Type 0
+IsKnown lines clients osts (Call client slot call) =
+    record { one : client < clients; small : slot < 4; limits : IsCall (with_stripes call); asks : (o : Op) × (operation_of (with_stripes call) ≡ Some o); among : Calls lines (with_stripes call) }
+IsKnown lines clients osts Run = Unit {0}
+IsKnown lines clients osts (RunSome turns) = Unit {0}
+IsKnown lines clients osts (Deliver number) = Unit {0}
+IsKnown lines clients osts (Lose number) = Unit {0}
+IsKnown lines clients osts (Tick (Client client)) = client < clients
+IsKnown lines clients osts (Tick (Target target)) = target ≤ osts
+IsKnown lines clients osts (Die client) = client < clients
+IsKnown lines clients osts _ = ⊥
 
 abbrev pub AllKnown : Scene → List SceneLine → Type 0
 AllKnown scene [] = Unit {0}
-AllKnown scene (line ∷ lines) = IsKnown scene.lines scene.head.clients line × AllKnown scene lines
+AllKnown scene (line ∷ lines) = IsKnown scene.lines scene.head.clients scene.head.osts line × AllKnown scene lines
 
 module _ (scene : Scene) where
-  one_known : (line : SceneLine) → LineFits scene.head line → IsCoveredIn scene.lines line → ((call : CallOf) → Calls (line ∷ []) call → Calls scene.lines call) → IsKnown scene.lines scene.head.clients line
+  one_known : (line : SceneLine) → LineFits scene.head line → IsCoveredIn scene.lines line → ((call : CallOf) → Calls (line ∷ []) call → Calls scene.lines call) → IsKnown scene.lines scene.head.clients scene.head.osts line
   one_known (Call client slot call) fits is among =
-      record { one = fits.0; small = omega (arith, fits.1); limits = (begins_meets (head_of scene.head) [] client slot call fits.0 refl (omega (arith, fits.1)) fits.2).2; asks = asks (IsMade scene.lines) call is; among = among (with_stripes call) (inl refl) }
+      record { one = fits.0; small = omega (arith, fits.1); limits = (begins_meets (head_of scene.head) [] client slot call fits.0 refl (omega (arith, fits.1)) fits.2).2; asks = asks call is.0; among = among (with_stripes call) (inl refl) }
   one_known Run fits is among = tt
   one_known (RunSome turns) fits is among = tt
   one_known (Deliver number) fits is among = tt
   one_known (Lose number) fits is among = tt
   one_known (Tick (Client client)) fits is among = fits
-  one_known (Tick (Target target)) fits is among = is
+  one_known (Tick (Target target)) fits is among = fits
   one_known (Die client) fits is among = fits
   one_known _ fits is among = absurd is
 
@@ -117,7 +116,17 @@ module _ (scene : Scene) where
   pub lines_known : IsCovered scene → AllKnown scene scene.lines
   lines_known is = all_known scene.lines is.limits.lines is.lines (λ call i. i)
 
--- ---- no reading finds what it asks for
+-- ---- the calls of lines
+
+-- what each line's call is, and is so with stripes, holds of each call of the lines
+called : (Q : SceneLine → Type 0) (P : CallOf → Type 0) → ((client slot : ℕ) (begun : CallOf) → Q (Call client slot begun) → P (with_stripes begun)) → (lines : List SceneLine) (call : CallOf) → All Q lines → Calls lines call → P call
+called Q P so [] call are i = absurd i
+called Q P so (line ∷ lines) call are i = by line (All-head Q line lines are) i (called Q P so lines call (All-tail Q line lines are))
+  where
+    by : (line : SceneLine) → Q line → Calls (line ∷ lines) call → (Calls lines call → P call) → P call
+    by (Call client slot begun) q (inl e) more = subst P e (so client slot begun q)
+    by (Call client slot begun) q (inr j) more = more j
+    by line q j more = more j
 
 called_made : (lines : List SceneLine) (call : CallOf) (path : Path) → Calls lines call → CallMakes call path → IsMade lines path
 called_made [] call path i m = absurd i
@@ -128,26 +137,40 @@ called_made (line ∷ lines) call path i m = by line i (λ j. called_made lines 
     by (Call client slot begun) (inr j) more = inr (more j)
     by line j more = inr (more j)
 
-called_misses : (Made Fewer : Path → Type 0) → ((path : Path) → Fewer path → Made path) → (lines : List SceneLine) (call : CallOf) → All (IsLineCovered Made) lines → Calls lines call → Misses Fewer call
-called_misses Made Fewer fewer [] call are i = absurd i
-called_misses Made Fewer fewer (line ∷ lines) call are i = by line (All-head (IsLineCovered Made) line lines are) i (called_misses Made Fewer fewer lines call (All-tail (IsLineCovered Made) line lines are))
+called_file : (lines : List SceneLine) (call : CallOf) (path : Path) → Calls lines call → CallMakesFile call path → IsFile lines path
+called_file [] call path i m = absurd i
+called_file (line ∷ lines) call path i m = by line i (λ j. called_file lines call path j m)
   where
-    by : (line : SceneLine) → IsLineCovered Made line → Calls (line ∷ lines) call → (Calls lines call → Misses Fewer call) → Misses Fewer call
-    by (Call client slot begun) is (inl e) more = subst (Misses Fewer) e (misses Made Fewer fewer begun is)
-    by (Call client slot begun) is (inr j) more = more j
-    by line is j more = more j
+    by : (line : SceneLine) → Calls (line ∷ lines) call → (Calls lines call → IsFile lines path) → IsFile (line ∷ lines) path
+    by (Call client slot begun) (inl e) more = inl (files_same begun path (subst (λ (c : CallOf). CallMakesFile c path) (sym e) m))
+    by (Call client slot begun) (inr j) more = inr (more j)
+    by line j more = inr (more j)
 
--- and each keeps the limits of calls
+-- each keeps the limits of calls
 pub called_fits : (scene : Scene) (lines : List SceneLine) → AllKnown scene lines → (call : CallOf) → Calls lines call → IsCall call
 called_fits scene [] known call i = absurd i
 called_fits scene (line ∷ lines) known call i = by line known.0 i (called_fits scene lines known.1 call)
   where
-    by : (line : SceneLine) → IsKnown scene.lines scene.head.clients line → Calls (line ∷ lines) call → (Calls lines call → IsCall call) → IsCall call
+    by : (line : SceneLine) → IsKnown scene.lines scene.head.clients scene.head.osts line → Calls (line ∷ lines) call → (Calls lines call → IsCall call) → IsCall call
     by (Call client slot begun) known (inl e) more = subst IsCall e known.limits
     by (Call client slot begun) known (inr j) more = more j
     by line known j more = more j
 
--- where all calls that began are those of lines, none makes what another reads
-pub all_miss : (scene : Scene) → IsCovered scene → (past : List Line) → ((call : CallOf) → Began past call → Calls scene.lines call) → (call : CallOf) → Began past call → Misses (Made_in past) call
-all_miss scene is past begun call began =
-    called_misses (IsMade scene.lines) (Made_in past) (λ path m. called_made scene.lines m.0 path (begun m.0 m.1) m.2) scene.lines call is.lines (begun call began)
+-- ---- where all calls that began are those of lines
+
+abbrev pub AllOfLines : Scene → List Line → Type 0
+AllOfLines scene past = (call : CallOf) → Began past call → Calls scene.lines call
+
+-- a path leads to a file only where lines make one, and no stat asks for it
+pub all_files : (scene : Scene) (past : List Line) → AllOfLines scene past → (path : Path) → File_in past path → IsFile scene.lines path
+all_files scene past begun path m = called_file scene.lines m.0 path (begun m.0 m.1) m.2
+
+pub all_stats : (scene : Scene) → IsCovered scene → (past : List Line) → AllOfLines scene past → (call : CallOf) → Began past call → StatsNoFile (IsFile scene.lines) call
+all_stats scene is past begun call began =
+    called (IsCoveredIn scene.lines) (StatsNoFile (IsFile scene.lines)) (λ client slot made covered. stats_same (IsFile scene.lines) made covered.1) scene.lines call is.lines (begun call began)
+
+-- where no line makes what another reads, no call does
+pub all_miss : (scene : Scene) → scenes.AllMiss scene.lines → (past : List Line) → AllOfLines scene past → AllMiss past
+all_miss scene miss past begun call began =
+    misses_fewer (IsMade scene.lines) (Made_in past) (λ path m. called_made scene.lines m.0 path (begun m.0 m.1) m.2) call
+    (called (LineMisses (IsMade scene.lines)) (Misses (IsMade scene.lines)) (λ client slot made m. misses_same (IsMade scene.lines) made m) scene.lines call miss (begun call began))

@@ -5,11 +5,11 @@ use Rattle.lu_words.specs.Printed.{printed}
 use Rattle.lu_table.specs.Runs.{has_failed}
 use Rattle.lu_table.specs.Scenarios.{Config, Disks, Leads, start, head_of, past_of}
 use Rattle.lu_laws.specs.Lawful.{Lawful}
-use Rattle.lu_covering.proofs.Stated.{covered_lawful}
+use Rattle.lu_lawful.proofs.Whole as whole
 use Rattle.lu_covered_scenes.specs.Covered.{IsCovered}
 use Rattle.lu_covered_scenes.proofs.Runs.{scene_run, scene_covered}
 
 pub scene_lawful : (scene : Scene) → IsCovered scene → (disks : Disks) (c : Config) → Leads (head_of scene.head) disks (start (head_of scene.head) disks scene) c → has_failed (past_of c) ≡ false
     → Lawful scene.head.osts (printed (past_of c))
 scene_lawful scene covered disks c l unfailed =
-    covered_lawful (head_of scene.head) c.turns covered.limits.head (scene_run scene covered disks c l unfailed) (scene_covered scene covered disks c l unfailed)
+    whole.lawful (head_of scene.head) c.turns covered.limits.head (scene_run scene covered disks c l unfailed) (scene_covered scene covered disks c l unfailed)

@@ -1,15 +1,15 @@
--- The scenarios whose runs the theorem covers so far: clients begin calls on names, messages come or are lost, time goes on at
--- clients and at the metadata target, clients die. A reading that finds what it asks for is granted a lock, so only one of a path
--- that no line makes is covered.
-use Rattle.std.specs.Prelude.{◌≡◌, ◌≢◌, List, [], ◌∷◌, All, ◌⊎◌}
-use Rattle.lu_base.specs.declared.ids.Node.TheVariants.{Client, Target}
+-- The scenarios whose runs the theorem covers so far: clients begin calls on names, but for `open` and `close`, messages come or are
+-- lost, time goes on, clients die. A `stat` must find no file, whose size it would ask for; and the metadata target's time must not go so
+-- far that it evicts a client that doesn't give back a lock.
+use Rattle.std.specs.Prelude.{◌<◌, ◌+◌, ℕ, zero, List, [], ◌∷◌, All, ◌⊎◌}
+use Rattle.lu_base.specs.declared.ids.Node.TheVariants.{Target}
 use Rattle.lu_msg.specs.declared.calls.Call.{Call as CallOf}
-use Rattle.lu_msg.specs.declared.calls.Call.TheVariants.{Lookup, Stat, List as Lists, Layout, Mkdir, Create, Link, Unlink, Rmdir, Rename, Chmod}
+use Rattle.lu_msg.specs.declared.calls.Call.TheVariants.{Open, Close as CloseFile, Read, Write, Cut, Flush, Glimpse}
 use Rattle.lu_scene.specs.declared.scene.Scene.{Scene}
 use Rattle.lu_scene.specs.declared.scene.SceneLine.{SceneLine}
 use Rattle.lu_scene.specs.declared.scene.SceneLine.TheVariants.{Call, Run, RunSome, Deliver, Lose, Tick, Die}
 use Rattle.lu_table.specs.Limits.{KeepsLimits}
-use Rattle.lu_covered.specs.Makes.{Path, CallMakes}
+use Rattle.lu_covered.specs.Makes.{Path, CallMakes, CallMakesFile, Misses, StatsNoFile}
 
 -- ---- which paths are made
 
@@ -23,45 +23,66 @@ abbrev pub IsMade : List SceneLine → Path → Type 0
 IsMade [] path = ⊥
 IsMade (line ∷ lines) path = Makes line path ⊎ IsMade lines path
 
+-- and then it may lead to a file
+abbrev pub MakesFile : SceneLine → Path → Type 0
+MakesFile (Call client slot call) path = CallMakesFile call path
+MakesFile _ path = ⊥
+
+abbrev pub IsFile : List SceneLine → Path → Type 0
+IsFile [] path = ⊥
+IsFile (line ∷ lines) path = MakesFile line path ⊎ IsFile lines path
+
 -- ---- which lines are covered
 
--- A call that is covered where these are the paths that are made: one that changes names, or one that reads another path. Of
--- the root a `lookup` asks nobody, and a `stat` and a `list` are granted its lock.
-abbrev pub IsCallCovered : (Path → Type 0) → CallOf → Type 0
-IsCallCovered Made (Lookup path) = (path ≢ []) × ¬ Made path
-IsCallCovered Made (Stat path) = (path ≢ []) × ¬ Made path
-IsCallCovered Made (Lists path) = (path ≢ []) × ¬ Made path
-IsCallCovered Made (Layout path) = ¬ Made path
-IsCallCovered Made (Mkdir path) = Unit {0}
-IsCallCovered Made (Create path stripes) = Unit {0}
-IsCallCovered Made (Link old new) = Unit {0}
-IsCallCovered Made (Unlink path) = Unit {0}
-IsCallCovered Made (Rmdir path) = Unit {0}
-IsCallCovered Made (Rename old new) = Unit {0}
-IsCallCovered Made (Chmod path mode) = Unit {0}
-IsCallCovered Made _ = ⊥
+-- a call on names, but for `open` and `close`
+abbrev pub IsOnNames : CallOf → Type 0
+IsOnNames (Open handle path) = ⊥
+IsOnNames (CloseFile handle) = ⊥
+IsOnNames (Read handle offset size) = ⊥
+IsOnNames (Write handle offset bytes) = ⊥
+IsOnNames (Cut handle size) = ⊥
+IsOnNames (Flush handle) = ⊥
+IsOnNames (Glimpse handle) = ⊥
+IsOnNames _ = Unit {0}
 
--- a line that is covered where these are the paths that are made
+-- a line that is covered where these are the paths that may lead to files
 abbrev pub IsLineCovered : (Path → Type 0) → SceneLine → Type 0
-IsLineCovered Made (Call client slot call) = IsCallCovered Made call
-IsLineCovered Made Run = Unit {0}
-IsLineCovered Made (RunSome turns) = Unit {0}
-IsLineCovered Made (Deliver number) = Unit {0}
-IsLineCovered Made (Lose number) = Unit {0}
-IsLineCovered Made (Tick (Client client)) = Unit {0}
-IsLineCovered Made (Tick (Target target)) = target ≡ 0
-IsLineCovered Made (Die client) = Unit {0}
-IsLineCovered Made _ = ⊥
+IsLineCovered Files (Call client slot call) = IsOnNames call × StatsNoFile Files call
+IsLineCovered Files Run = Unit {0}
+IsLineCovered Files (RunSome turns) = Unit {0}
+IsLineCovered Files (Deliver number) = Unit {0}
+IsLineCovered Files (Lose number) = Unit {0}
+IsLineCovered Files (Tick node) = Unit {0}
+IsLineCovered Files (Die client) = Unit {0}
+IsLineCovered Files _ = ⊥
 
 -- these are all lines of a scenario, and one that is covered among them
 abbrev pub IsCoveredIn : List SceneLine → SceneLine → Type 0
-IsCoveredIn lines line = IsLineCovered (IsMade lines) line
+IsCoveredIn lines line = IsLineCovered (IsFile lines) line
 
 abbrev pub AllLinesCovered : List SceneLine → Type 0
 AllLinesCovered lines = All (IsCoveredIn lines) lines
 
+-- ---- locks that are called back
+
+-- how often the metadata target's time goes on
+abbrev pub ticks_of : List SceneLine → ℕ
+ticks_of [] = 0
+ticks_of (Tick (Target zero) ∷ lines) = ticks_of lines + 1
+ticks_of (line ∷ lines) = ticks_of lines
+
+-- a line's call asks for no path that is made, if it reads: then it is granted no lock
+abbrev pub LineMisses : (Path → Type 0) → SceneLine → Type 0
+LineMisses Made (Call client slot call) = Misses Made call
+LineMisses Made _ = Unit {0}
+
+abbrev pub AllMiss : List SceneLine → Type 0
+AllMiss lines = All (LineMisses (IsMade lines)) lines
+
 -- ---- scenarios
 
+-- No lock that is called back expires: the metadata target's time doesn't go on so often, or no lock is granted.
 pub record IsCovered (scene : Scene) : Type 0 where
   pub limits : KeepsLimits scene
   pub lines : AllLinesCovered scene.lines
+  pub time : (ticks_of scene.lines < scene.head.expire) ⊎ AllMiss scene.lines

@@ -6,7 +6,7 @@ ghost use Rattle.lu_scene.specs.declared.scene.Scene.{Scene};
 ghost use Rattle.lu_words.specs.Printed.{printed};
 ghost use Rattle.lu_table.specs.Runs.{has_failed, IsRun};
 ghost use Rattle.lu_table.specs.Scenarios.{Config, Disks, start_fails, Leads, start, head_of, past_of};
-ghost use Rattle.lu_covering.specs.Covered.{AllCovered};
+ghost use Rattle.lu_covered.specs.Covered.{AllCovered};
 ghost use Rattle.lu_laws.specs.Lawful.{Lawful};
 ghost use Rattle.lu_covered_scenes.specs.Covered.{IsCovered};
 

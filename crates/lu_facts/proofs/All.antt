@@ -4,26 +4,28 @@ use Rattle.lu_base.specs.declared.ids.Node.{Node}
 use Rattle.lu_base.specs.declared.ids.Stamp.{Stamp}
 use Rattle.lu_words.specs.Words.{Entry, Line, line}
 use Rattle.lu_words.specs.Concerns.{only}
-use Rattle.lu_covered.specs.Runs.{Head}
-use Rattle.lu_guards.proofs.Guards.{EntryOf, Allowed, Grown, GrownOf}
+use Rattle.lu_covered.specs.Heads.{Head}
+use Rattle.lu_guards.proofs.Guards.{EntryOf, IsOfFirst, Allowed, Grown, GrownOf}
 use Rattle.lu_guards.proofs.Only.{grown_of}
 use Rattle.lu_facts.proofs.Groups.{turn, HoldsAt, Reaches, Holds}
 use Rattle.lu_facts.proofs.Phase.{keeps_phase}
 use Rattle.lu_facts.proofs.Numbers.{keeps_numbers, keeps_room}
 use Rattle.lu_facts.proofs.Done.{keeps_done}
+use Rattle.lu_facts.proofs.Locks.{locks_start, keeps_locks}
 use Rattle.lu_facts.proofs.Asks.{keeps_asks}
 use Rattle.lu_facts.proofs.Times.{keeps_reaches, keeps_since}
 use Rattle.lu_facts.proofs.Replies.{keeps_replies}
 
 -- ---- at one target
 
-step_at : (head : Head) (past : List Line) (stamp : Stamp) (node : Node) (e : Entry) → EntryOf head past (turn stamp node) node e → HoldsAt head past → HoldsAt head (line (turn stamp node) e ∷ past)
-step_at head past stamp node e ok h =
+step_at : (head : Head) (past : List Line) (stamp : Stamp) (node : Node) (e : Entry) → EntryOf head past (turn stamp node) node e → IsOfFirst e → HoldsAt head past → HoldsAt head (line (turn stamp node) e ∷ past)
+step_at head past stamp node e ok first h =
     record {
       phase = keeps_phase head past stamp node e ok h.phase;
       numbers = keeps_numbers head past stamp node e ok h.numbers;
       room = keeps_room head past stamp node e ok h.room;
       done = keeps_done head past stamp node e ok h.phase h.numbers h.done;
+      locks = keeps_locks head past stamp node e ok first h.phase h.numbers h.done h.locks;
     }
 
 first_at : (head : Head) → HoldsAt head []
@@ -53,11 +55,12 @@ first_at head =
         sent = λ from to m s. absurd s;
         once = λ d e a. absurd a;
       };
+      locks = locks_start head.osts;
     }
 
 pub holds_at : (head : Head) (past : List Line) → GrownOf head past → HoldsAt head past
 holds_at head [] g = first_at head
-holds_at head (l ∷ past) g = step_at head past l.at.stamp l.at.node l.entry g.0 (holds_at head past g.1)
+holds_at head (l ∷ past) g = step_at head past l.at.stamp l.at.node l.entry g.0 g.1 (holds_at head past g.2)
 
 -- ---- over all targets
 

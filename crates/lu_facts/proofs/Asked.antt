@@ -1,18 +1,24 @@
 -- What is asked and done was asked by a call that began.
 use Rattle.std.proofs.Common.{◌≡◌, ℕ, List, [], ◌∷◌, Option, Some, None, ◌⊎◌, inl, inr, ⊎_elim, refl, sym, subst, ap, ◌∙◌}
-use Rattle.std.specs.Prelude.{nat_eq, if◌then◌else◌}
+use Rattle.std.specs.Prelude.{nat_eq, ◌&&◌, ◌++◌, if◌then◌else◌}
 use Rattle.std.proofs.lemmas.Bool.{cond_both}
 use Rattle.lu_base.specs.declared.ids.Node.{Node}
 use Rattle.lu_base.specs.declared.ids.Node.TheVariants.{Client, Target}
 use Rattle.lu_msg.specs.declared.calls.Call.{Call}
+use Rattle.lu_msg.specs.declared.calls.Call.TheVariants as call
 use Rattle.lu_msg.specs.declared.operations.Op.{Op}
+use Rattle.lu_msg.specs.declared.operations.Op.TheVariants as op
+use Rattle.lu_client_rows.specs.Known.{Notes}
 use Rattle.lu_words.specs.Carried.{Deed, Queued, Flight, Asking, Asked as IsOut, Running}
 use Rattle.lu_words.specs.Words.{Entry, Tick, Begin, Told, Stands, Queues, Flies, Heard, Line, line}
 use Rattle.lu_words.specs.Concerns.{only}
 use Rattle.lu_covered.specs.Calls.{asks, asks_for, call_at, operation_of}
+use Rattle.lu_covered.specs.Imports.{rest, queue_at}
+use Rattle.lu_covered.specs.Known.{notes_at, known_answer}
 use Rattle.lu_covered.specs.ClientStates.{queue_of}
-use Rattle.lu_covered.specs.Runs.{Head, IsAsked}
+use Rattle.lu_covered.specs.Heads.{Head}
 use Rattle.lu_guards.proofs.Guards.{In, EntryOk, Allowed, Grown}
+use Rattle.lu_guards.proofs.Lists.{in_append}
 use Rattle.lu_guards.proofs.Parts.{queue_is}
 use Rattle.lu_facts.proofs.Groups.{turn, Flew, Acted, CallOf}
 use Rattle.lu_facts.proofs.All.{holds}
@@ -32,16 +38,12 @@ began_more l past k b = by l.entry
     by (Begin slot running) = inr b
     by _ = b
 
--- a call that began, and asks what may be asked
-abbrev pub Asks : List Line → Call → Type 0
-Asks past k = Began past k × ((o : Op) → operation_of k ≡ Some o → IsAsked o)
-
--- such a call asks that operation
+-- a call that began asks that operation
 abbrev pub AskedBy : List Line → Op → Type 0
-AskedBy past o = (k : Call) × Began past k × (operation_of k ≡ Some o) × IsAsked o
+AskedBy past o = (k : Call) × Began past k × (operation_of k ≡ Some o)
 
 asked_more : (l : Line) (past : List Line) (o : Op) → AskedBy past o → AskedBy (l ∷ past) o
-asked_more l past o a = (a.0, began_more l past a.0 a.1, a.2, a.3)
+asked_more l past o a = (a.0, began_more l past a.0 a.1, a.2)
 
 -- ---- calls
 
@@ -54,39 +56,33 @@ asks_call (Some s) slot asking o r e = cond_both (nat_eq s slot) (asks asking o)
     by (Some q) g = let same : record q { asking = asking } ≡ r = cc in (q, refl, ap (λ (v : Running). v.call) same)
 
 -- each call that isn't told began
-pub began_call : (head : Head) (past : List Line) → Grown head past → (c slot : ℕ) (r : Running) → call_at c slot past ≡ Some r → Asks past r.call
+pub began_call : (head : Head) (past : List Line) → Grown head past → (c slot : ℕ) (r : Running) → call_at c slot past ≡ Some r → Began past r.call
 began_call head [] g c slot r e = absurd (cc)
 began_call head (l ∷ past) g c slot r e = by l.at.node l.entry g.0.ok (began_call head past g.1 c slot) e
   where
-    Goal : Type 0
-    Goal = Asks (line l.at l.entry ∷ past) r.call
+    more : (e : Entry) (k : Call) → Began past k → Began (line l.at e ∷ past) k
+    more e k a = began_more (line l.at e) past k a
 
-    more : (e : Entry) (k : Call) → Asks past k → Asks (line l.at e ∷ past) k
-    more e k a = (began_more (line l.at e) past k a.0, a.1)
+    asks_now : (e : Entry) (served : Option ℕ) (asking : Asking) → ((q : Running) → call_at c slot past ≡ Some q → Began past q.call) → asks_for served slot asking (call_at c slot past) ≡ Some r → Began (line l.at e ∷ past) r.call
+    asks_now e served asking h is = let k = asks_call served slot asking (call_at c slot past) r is in subst (λ (v : Call). Began (line l.at e ∷ past) v) k.2 (more e k.0.call (h k.0 k.1))
 
-    asks_now : (e : Entry) (served : Option ℕ) (asking : Asking) → ((q : Running) → call_at c slot past ≡ Some q → Asks past q.call) → asks_for served slot asking (call_at c slot past) ≡ Some r → Asks (line l.at e ∷ past) r.call
-    asks_now e served asking h is = let k = asks_call served slot asking (call_at c slot past) r is in subst (λ (v : Call). Asks (line l.at e ∷ past) v) k.2 (more e k.0.call (h k.0 k.1))
-
-    by : (node : Node) (e : Entry) → EntryOk past (turn l.at.stamp node) node e → ((q : Running) → call_at c slot past ≡ Some q → Asks past q.call) → call_at c slot (line (turn l.at.stamp node) e ∷ past) ≡ Some r → Asks (line l.at e ∷ past) r.call
+    by : (node : Node) (e : Entry) → EntryOk past (turn l.at.stamp node) node e → ((q : Running) → call_at c slot past ≡ Some q → Began past q.call) → call_at c slot (line (turn l.at.stamp node) e ∷ past) ≡ Some r → Began (line l.at e ∷ past) r.call
     by (Client d) (Begin s running) ok h is =
-        cond_both (nat_eq c d) (if nat_eq s slot then Some running else call_at c slot past) (call_at c slot past) (λ v. v ≡ Some r → Asks (line l.at (Begin s running) ∷ past) r.call)
-        (λ t. cond_both (nat_eq s slot) (Some running) (call_at c slot past) (λ v. v ≡ Some r → Asks (line l.at (Begin s running) ∷ past) r.call)
-        (λ u q. let same : running ≡ r = cc in subst (λ (v : Running). Asks (line l.at (Begin s running) ∷ past) v.call) same (inl refl, λ o becomes. let same_op : ok.op ≡ o = one ok.op o (sym ok.becomes ∙ becomes) in subst IsAsked same_op ok.asked))
+        cond_both (nat_eq c d) (if nat_eq s slot then Some running else call_at c slot past) (call_at c slot past) (λ v. v ≡ Some r → Began (line l.at (Begin s running) ∷ past) r.call)
+        (λ t. cond_both (nat_eq s slot) (Some running) (call_at c slot past) (λ v. v ≡ Some r → Began (line l.at (Begin s running) ∷ past) r.call)
+        (λ u q. let same : running ≡ r = cc in subst (λ (v : Running). Began (line l.at (Begin s running) ∷ past) v.call) same (inl refl))
         (λ u q. more (Begin s running) r.call (h r q)))
         (λ t q. more (Begin s running) r.call (h r q))
         is
-      where
-        one : (a b : Op) → Some a ≡ Some b → a ≡ b
-        one a b e = cc
     by (Client d) (Queues u q) ok h is =
-        cond_both (nat_eq c d) (asks_for q.slot slot IsOut (call_at c slot past)) (call_at c slot past) (λ v. v ≡ Some r → Asks (line l.at (Queues u q) ∷ past) r.call)
+        cond_both (nat_eq c d) (asks_for q.slot slot IsOut (call_at c slot past)) (call_at c slot past) (λ v. v ≡ Some r → Began (line l.at (Queues u q) ∷ past) r.call)
         (λ t. asks_now (Queues u q) q.slot IsOut h) (λ t k. more (Queues u q) r.call (h r k)) is
     by (Client d) (Heard u f k) ok h is =
-        cond_both (nat_eq c d) (asks_for f.slot slot _ (call_at c slot past)) (call_at c slot past) (λ v. v ≡ Some r → Asks (line l.at (Heard u f k) ∷ past) r.call)
+        cond_both (nat_eq c d) (asks_for f.slot slot _ (call_at c slot past)) (call_at c slot past) (λ v. v ≡ Some r → Began (line l.at (Heard u f k) ∷ past) r.call)
         (λ t. asks_now (Heard u f k) f.slot _ h) (λ t j. more (Heard u f k) r.call (h r j)) is
     by (Client d) (Told s named answer work) ok h is =
-        cond_both (nat_eq c d) (if nat_eq s slot then None else call_at c slot past) (call_at c slot past) (λ v. v ≡ Some r → Asks (line l.at (Told s named answer work) ∷ past) r.call)
-        (λ t. cond_both (nat_eq s slot) None (call_at c slot past) (λ v. v ≡ Some r → Asks (line l.at (Told s named answer work) ∷ past) r.call) (λ u q. absurd (cc)) (λ u q. more (Told s named answer work) r.call (h r q)))
+        cond_both (nat_eq c d) (if nat_eq s slot then None else call_at c slot past) (call_at c slot past) (λ v. v ≡ Some r → Began (line l.at (Told s named answer work) ∷ past) r.call)
+        (λ t. cond_both (nat_eq s slot) None (call_at c slot past) (λ v. v ≡ Some r → Began (line l.at (Told s named answer work) ∷ past) r.call) (λ u q. absurd (cc)) (λ u q. more (Told s named answer work) r.call (h r q)))
         (λ t q. more (Told s named answer work) r.call (h r q))
         is
     by (Client d) (Stands s running) ok h is = absurd ok
@@ -97,7 +93,7 @@ began_call head (l ∷ past) g c slot r e = by l.at.node l.entry g.0.ok (began_c
 
 pub served_asked : (head : Head) (past : List Line) → Grown head past → (c : ℕ) (slot : Option ℕ) (o : Op) → CallOf past c slot o → AskedBy past o
 served_asked head past g c None o k = absurd k
-served_asked head past g c (Some slot) o k = let a = began_call head past g c slot k.0 k.1 in (k.0.call, a.0, k.3, a.1 o k.3)
+served_asked head past g c (Some slot) o k = (k.0.call, began_call head past g c slot k.0 k.1, k.3)
 
 pub flew_asked : (head : Head) (past : List Line) (c : ℕ) (f : Flight) → Grown head past → Flew past c f → AskedBy past f.op
 flew_asked head [] c f g a = absurd a
@@ -128,3 +124,58 @@ flew_on_names head past c f g a = let k = flew_asked head past c f g a in become
 
 pub acted_on_names : (head : Head) (past : List Line) (d : Deed) → Grown head past → Acted past d → IsOnNames d.op
 acted_on_names head past d g a = let k = acted_asked head past d g a in becomes_on_names k.0 d.op k.2
+
+-- ---- a lookup of the root is known, and so it is never asked
+
+root_known : (n : Notes) (k : Call) → operation_of k ≡ Some (op.Lookup []) → known_answer n k ≡ None → ⊥
+root_known n (call.Lookup path) e none =
+    let nil : path ≡ [] = cc in
+    let root : known_answer n (call.Lookup []) ≡ None = subst (λ (p : List (List ℕ)). known_answer n (call.Lookup p) ≡ None) nil none in
+    absurd (cc)
+root_known n (call.Create path None) e none = absurd (cc)
+root_known n (call.Create path (Some stripes)) e none = absurd (cc)
+root_known n k e none = absurd (cc)
+
+in_rest : (q : Queued) (queue : List Queued) → In q (rest queue) → In q queue
+in_rest q [] i = absurd i
+in_rest q (p ∷ queue) i = inr i
+
+queued_other : (head : Head) (past : List Line) → Grown head past → (c t : ℕ) (q : Queued) → In q (queue_at c t past) → q.op ≡ op.Lookup [] → ⊥
+queued_other head [] g c t q i = absurd i
+queued_other head (l ∷ past) g c t q i = by l.at.node l.entry g.0.ok (queued_other head past g.1 c t q) i
+  where
+    by : (node : Node) (e : Entry) → EntryOk past (turn l.at.stamp node) node e → (In q (queue_at c t past) → q.op ≡ op.Lookup [] → ⊥) → In q (queue_at c t (line (turn l.at.stamp node) e ∷ past)) → q.op ≡ op.Lookup [] → ⊥
+    by (Client d) (Queues v new) ok h =
+        cond_both (nat_eq c d && nat_eq t v) (queue_at c t past ++ new ∷ []) (queue_at c t past) (λ (qs : List Queued). In q qs → q.op ≡ op.Lookup [] → ⊥)
+        (λ o i is. ⊎_elim
+        (λ (j : In q (queue_at c t past)). h j is)
+        (λ (j : In q (new ∷ [])). ⊎_elim (λ (w : new ≡ q). root_known (notes_at d past) ok.running.call (ok.becomes ∙ ap (λ (v : Queued). Some v.op) w ∙ ap (λ (v : Op). Some v) is) ok.unknown) (λ (w : ⊥). w) j)
+        (in_append q (queue_at c t past) (new ∷ []) i))
+        (λ o. h)
+    by (Client d) (Flies v f) ok h =
+        cond_both (nat_eq c d && nat_eq t v) (rest (queue_at c t past)) (queue_at c t past) (λ (qs : List Queued). In q qs → q.op ≡ op.Lookup [] → ⊥)
+        (λ o i. h (in_rest q (queue_at c t past) i))
+        (λ o. h)
+    by (Target u) Tick ok h = h
+    by node e ok h = h
+
+pub flew_other : (head : Head) (past : List Line) (c : ℕ) (f : Flight) → Grown head past → Flew past c f → f.op ≡ op.Lookup [] → ⊥
+flew_other head [] c f g a = absurd a
+flew_other head (l ∷ past) c f g a = by l.at.node l.entry g.0 a (flew_other head past c f g.1)
+  where
+    by : (node : Node) (e : Entry) → Allowed head past (turn l.at.stamp node) e → Flew (line (turn l.at.stamp node) e ∷ past) c f → (Flew past c f → f.op ≡ op.Lookup [] → ⊥) → f.op ≡ op.Lookup [] → ⊥
+    by (Target u) (Flies t q) k a h = absurd k.ok
+    by (Client d) (Flies t q) k a h = ⊎_elim
+        (λ (p : (Client d ≡ Client c) × (q ≡ f)) is.
+        let ok = k.of 0 (ap (λ (v : ℕ). nat_eq 0 v) k.ok) in
+        let i : In ok.front (queue_of d (only 0 past)) = subst (λ (v : List Queued). In ok.front v) (sym ok.queue) (inl refl) in
+        let same : ok.front.op ≡ f.op = ap (λ (v : Flight). v.op) (sym ok.is) ∙ ap (λ (v : Flight). v.op) p.1 in
+        queued_other head past g.1 d 0 ok.front (subst (λ (v : List Queued). In ok.front v) (sym (queue_is d 0 past)) i) (same ∙ is))
+        (λ (p : Flew past c f). h p)
+        a
+    by _ _ k a h = h a
+
+pub acted_other : (head : Head) (past : List Line) (d : Deed) → Grown head past → Acted past d → d.op ≡ op.Lookup [] → ⊥
+acted_other head past d g a is =
+    let flew = ((holds head past g).at 0).done.flew d (acted_only head past d g a) in
+    flew_other head past d.reply.who.client flew.0 g (flew_whole 0 past d.reply.who.client flew.0 flew.1) (flew.3 ∙ is)

@@ -16,7 +16,7 @@ use Rattle.lu_words.specs.Words.{Entry, Tick, Begin, Stands, Queues, Flies, Hear
 use Rattle.lu_words.specs.Concerns.{only}
 use Rattle.lu_covered.specs.Calls.{asks, asks_for, call_after, call_at}
 use Rattle.lu_covered.specs.Imports.{rest, queue_at, without_flight, flights_at}
-use Rattle.lu_covered.specs.Runs.{Head}
+use Rattle.lu_covered.specs.Heads.{Head}
 use Rattle.lu_guards.proofs.Guards.{In, QueuesOk, FliesOk, EntryOk}
 use Rattle.lu_guards.proofs.Lists.{self, in_append, in_filter}
 use Rattle.lu_guards.proofs.Parts.{queue_is, flights_is}
@@ -273,7 +273,8 @@ module _ (past : List Line) (stamp : Stamp) (d v : ℕ) (f : Flight) (r : ReplyT
 pub keeps_asks : (head : Head) (past : List Line) (stamp : Stamp) (node : Node) (e : Entry) → EntryOk past (turn stamp node) node e → AtEach head past (turn stamp node) node e
     → Asks past → Asks (line (turn stamp node) e ∷ past)
 keeps_asks head past stamp (Client c) (Begin s running) ok of h = asks_begin past stamp c s running (λ r k a. let f = ok.free in absurd (cc)) h
-keeps_asks head past stamp (Client c) (Told s named answer work) ok of h = asks_told past stamp c s named answer work (λ r k a. let f = ok.answered in let g = ok.call in absurd (cc)) h
+keeps_asks head past stamp (Client c) (Told s named answer work) (inl ok) of h = asks_told past stamp c s named answer work (λ r k a. let f = ok.answered in let g = ok.call in absurd (cc)) h
+keeps_asks head past stamp (Client c) (Told s named answer work) (inr ok) of h = asks_told past stamp c s named answer work (λ r k a. let f = ok.new in let g = ok.call in absurd (cc)) h
 keeps_asks head past stamp (Client c) (Queues u q) ok of h = asks_queues past stamp c u q ok h
 keeps_asks head past stamp (Client c) (Flies u f) ok of h = asks_flies past stamp c u f (front_at head past c u f (of u (self u))) h
 keeps_asks head past stamp (Client c) (Heard u f r) ok of h =

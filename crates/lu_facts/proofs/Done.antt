@@ -18,10 +18,10 @@ use Rattle.lu_words.specs.Carried.{Deed, Flight, Slot}
 use Rattle.lu_words.specs.Words.{Entry, Flies, Heard, Send, Act, Txn as Made, Boot, Enters, Line, line, same_life}
 use Rattle.lu_covered.specs.TargetParts.{is_request_of, without_request, entered, answered, is_slot_of}
 use Rattle.lu_covered.specs.TargetStates.{none, server_of, slot_of, next_number}
-use Rattle.lu_covered.specs.TargetRows.{deed, again}
+use Rattle.lu_covered.specs.Deeds.{deed, locks_of, again}
 use Rattle.lu_covered.specs.Calls.{first_life}
 use Rattle.lu_covered.specs.ClientStates.{known_of, life_of}
-use Rattle.lu_covered.specs.Runs.{Head}
+use Rattle.lu_covered.specs.Heads.{Head}
 use Rattle.lu_guards.proofs.Guards.{In, Was, AskOk, HeardOk, EntersOk, SendOf, EntryOf}
 use Rattle.lu_guards.proofs.Lists.{self, in_append, in_filter, life_is}
 use Rattle.lu_facts.proofs.Groups.{turn, Flew, Acted, Hears, Phase, Numbers, first_request, FlewFor, DoneFor, Meant, Waits, Done}
@@ -49,6 +49,8 @@ record Grows (past new : List Line) : Type 0 where
 meant_more : (past new : List Line) → Grows past new → (to : Node) (m : Message) → Meant past to m → Meant new to m
 meant_more past new g (Target t) (message.Request r) h = (h.0, g.flew r.who.client h.0 h.1, h.2)
 meant_more past new g (Client c) (message.Reply k) h = (h.0, g.acted h.0 h.1, h.2, h.3)
+meant_more past new g (Client c) (message.Block who boot cookie) h = tt
+meant_more past new g (Target t) (message.Cancel who boot cookie) h = tt
 meant_more past new g (Target t) _ h = absurd h
 meant_more past new g (Client c) _ h = absurd h
 
@@ -121,6 +123,8 @@ sent_meant head past (Target t) (Client c) (message.Reply k) ok p n h =
           ∙ ap (λ (n : TxnOf). record q.0.reply { committed = n }) (sym (ap (λ (x : ReplyTo). x.committed) ok.is)),
       ok.to,
     )
+sent_meant head past (Client c) (Target t) (message.Cancel who boot cookie) ok p n h = tt
+sent_meant head past (Target t) (Client c) (message.Block who boot cookie) ok p n h = tt
 sent_meant head past node to m ok p n h = absurd ok
 
 -- ---- one more request that waits
@@ -364,12 +368,12 @@ keeps_done head past stamp (Client c) (Heard t f k) ok p n h = done_heard head.o
 keeps_done head past stamp (Target t) (Enters r) ok p n h = done_enters head.osts past stamp t r ok n h
 keeps_done head past stamp (Target t) (Act d) ok p n h =
     let v = server_of head.osts past in
-    let e = deed head.osts v (turn stamp (Target t)) ok.request none in
+    let e = deed head.osts v (turn stamp (Target t)) ok.request none (locks_of head.osts v ok.request) in
     subst (λ (d : Deed). Done head.osts (line (turn stamp (Target t)) (Act d) ∷ past)) (sym ok.is)
     (done_does head.osts past (line (turn stamp (Target t)) (Act e) ∷ past) e (act_does head.osts past stamp t e refl) ok.request (record { who = refl; xid = refl; tag = refl; op = refl }) (h.waits ok.request ok.waits) h)
 keeps_done head past stamp (Target t) (Made d) ok p n h =
     let v = server_of head.osts past in
-    let e = deed head.osts v (turn stamp (Target t)) ok.request (next_number v) in
+    let e = deed head.osts v (turn stamp (Target t)) ok.request (next_number v) [] in
     subst (λ (d : Deed). Done head.osts (line (turn stamp (Target t)) (Made d) ∷ past)) (sym ok.is)
     (done_does head.osts past (line (turn stamp (Target t)) (Made e) ∷ past) e (txn_does head.osts past stamp t e refl) ok.request (record { who = refl; xid = refl; tag = refl; op = refl }) (h.waits ok.request ok.waits) h)
 keeps_done head past stamp (Client c) (Act d) ok p n h = absurd ok

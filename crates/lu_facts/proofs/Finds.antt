@@ -5,11 +5,9 @@ use Rattle.std.specs.Prelude.{nat_eq}
 use Rattle.lu_base.specs.declared.ids.At.{At}
 use Rattle.lu_base.specs.declared.ids.Node.{Node}
 use Rattle.lu_base.specs.declared.ids.Node.TheVariants.{Client, Target}
+use Rattle.lu_base.specs.declared.ids.Who.{Who}
 use Rattle.lu_msg.specs.declared.calls.Call.{Call}
 use Rattle.lu_msg.specs.declared.calls.Call.TheVariants as call
-use Rattle.lu_msg.specs.declared.messages.Message.{Message}
-use Rattle.lu_msg.specs.declared.messages.Message.TheVariants as message
-use Rattle.lu_msg.specs.declared.messages.Request.{Request as RequestOf}
 use Rattle.lu_msg.specs.declared.operations.Op.{Op}
 use Rattle.lu_msg.specs.declared.operations.Op.TheVariants as op
 use Rattle.lu_machine.specs.Footprint.{grants, after}
@@ -17,21 +15,17 @@ use Rattle.lu_machine.proofs.Made.{Named, named_wide, named_empty}
 use Rattle.lu_words.specs.Carried.{Deed}
 use Rattle.lu_words.specs.Words.{Entry, Tick, Txn as Made, Line, line}
 use Rattle.lu_words.specs.Concerns.{only}
-use Rattle.lu_words.specs.Sent.{Sent}
 use Rattle.lu_covered.specs.TargetParts.{operation}
 use Rattle.lu_covered.specs.TargetStates.{none, count_at, tree_at, server_of}
-use Rattle.lu_covered.specs.TargetRows.{asked}
 use Rattle.lu_covered.specs.Calls.{operation_of}
 use Rattle.lu_covered.specs.Makes.{Path, CallMakes, Misses}
-use Rattle.lu_covered.specs.Runs.{Head, NeedsNoLock}
+use Rattle.lu_covered.specs.Heads.{Head}
 use Rattle.lu_guards.proofs.Guards.{Allowed, Grown, TxnOk}
 use Rattle.lu_guards.proofs.Parts.{count_is}
 use Rattle.lu_facts.proofs.Groups.{turn, Acted}
 use Rattle.lu_facts.proofs.All.{holds}
-use Rattle.lu_facts.proofs.Lines.{flew_whole}
-use Rattle.lu_facts.proofs.Sides.{from_client, sent_only}
 use Rattle.lu_facts.proofs.OnNames.{op_is, becomes_on_names}
-use Rattle.lu_facts.proofs.Asked.{Began, began_more, AskedBy, flew_asked, acted_asked}
+use Rattle.lu_facts.proofs.Asked.{Began, began_more, AskedBy, acted_asked}
 use Rattle.lu_facts.proofs.Named.{Makes, named_after}
 use Rattle.lu_facts.proofs.Readings.{lookup_misses, stat_misses, list_misses, layout_misses, changing_free}
 
@@ -63,6 +57,14 @@ call_makes k o path e m = absurd (cc)
 makes_asked : (past : List Line) (o : Op) (path : Path) → AskedBy past o → Makes o path → Made_in past path
 makes_asked past o path a m = (a.0, a.1, call_makes a.0 o path a.2 m)
 
+-- the number of a transaction
+pub number_is : (head : Head) (past : List Line) → Grown head past → (at : At) (d : Deed) → TxnOk head.osts (only 0 past) at d → d.reply.txn.0 ≡ 4294967296 + (count_at 0 past + 1)
+number_is head past g at d ok =
+    let b = ((holds head past g).at 0).phase.boot in
+    let c = count_is head.osts 0 past in
+    let n : d.reply.txn.0 ≡ (server_of head.osts (only 0 past)).boot * 4294967296 + ((server_of head.osts (only 0 past)).count + 1) = ap (λ (e : Deed). e.reply.txn.0) ok.is in
+    n ∙ ap (λ (k : ℕ). k * 4294967296 + ((server_of head.osts (only 0 past)).count + 1)) b ∙ ap (λ (k : ℕ). 4294967296 + (k + 1)) (sym c)
+
 pub named : (head : Head) (past : List Line) → Grown head past → Named (Made_in past) (4294967296 + count_at 0 past) (tree_at head.osts 0 past)
 named head [] g = named_empty (Made_in []) 4294967296 (omega arith)
 named head (l ∷ past) g = by l.at.node l.entry g.0 (λ d x. acted_asked head (l ∷ past) d g x) (named head past g.1)
@@ -70,17 +72,10 @@ named head (l ∷ past) g = by l.at.node l.entry g.0 (λ d x. acted_asked head (
     wide : (e : Entry) → Named (Made_in past) (4294967296 + count_at 0 past) (tree_at head.osts 0 past) → Named (Made_in (line l.at e ∷ past)) (4294967296 + count_at 0 past) (tree_at head.osts 0 past)
     wide e h = named_wide (Made_in past) (Made_in (line l.at e ∷ past)) (4294967296 + count_at 0 past) (4294967296 + count_at 0 past) (tree_at head.osts 0 past) (λ path m. made_more (line l.at e) past path m) (omega arith) h
 
-    number_is : (at : At) (d : Deed) (ok : TxnOk head.osts (only 0 past) at d) → d.reply.txn.0 ≡ 4294967296 + (count_at 0 past + 1)
-    number_is at d ok =
-        let b = ((holds head past g.1).at 0).phase.boot in
-        let c = count_is head.osts 0 past in
-        let n : d.reply.txn.0 ≡ (server_of head.osts (only 0 past)).boot * 4294967296 + ((server_of head.osts (only 0 past)).count + 1) = ap (λ (e : Deed). e.reply.txn.0) ok.is in
-        n ∙ ap (λ (k : ℕ). k * 4294967296 + ((server_of head.osts (only 0 past)).count + 1)) b ∙ ap (λ (k : ℕ). 4294967296 + (k + 1)) (sym c)
-
     made : (at : At) (d : Deed) → TxnOk head.osts (only 0 past) at d → AskedBy past d.op → Named (Made_in past) (4294967296 + count_at 0 past) (tree_at head.osts 0 past)
         → Named (Made_in past) (4294967296 + (count_at 0 past + 1)) (after head.osts (tree_at head.osts 0 past) (operation d))
     made at d ok a h =
-        let n = number_is at d ok in
+        let n = number_is head past g.1 at d ok in
         let nm = named_after head.osts (tree_at head.osts 0 past) d.reply.txn d.reply.who (Made_in past) (4294967296 + count_at 0 past) h (omega arith) d.op (becomes_on_names a.0 d.op a.2) in
         named_wide (λ path. Made_in past path ⊎ Makes d.op path) (Made_in past) d.reply.txn.0 (4294967296 + (count_at 0 past + 1)) (after head.osts (tree_at head.osts 0 past) (operation d))
         (λ path m. ⊎_elim (λ (x : Made_in past path). x) (λ (x : Makes d.op path). makes_asked past d.op path a x) m) (omega arith) nm
@@ -94,35 +89,30 @@ named head (l ∷ past) g = by l.at.node l.entry g.0 (λ d x. acted_asked head (
     by (Target t) Tick k a h = wide Tick h
     by _ e k a h = wide e h
 
--- ---- what a target is asked needs no lock
+-- ---- what was asked is granted no lock
 
 -- where each call that reads misses what calls make
-pub needs_none : (head : Head) (past : List Line) → Grown head past → (t c n : ℕ) (m : Message) → Sent past n (Client c) (Target t) m → ((k : Call) → Began past k → Misses (Made_in past) k) → NeedsNoLock head past t m
-needs_none head past g t c n (message.Request r) s misses = λ newer.
-    let sides = from_client head past n t (Client c) (message.Request r) g s in
-    let meant = ((holds head past g).at 0).done.sent (Client c) (Target t) (message.Request r) (sent_only head past n (Client c) (Target t) (message.Request r) g s) in
-    let same : meant.0.op ≡ r.op = ap (λ (v : RequestOf). v.op) (sym meant.2) in
-    let a = subst (AskedBy past) same (flew_asked head past r.who.client meant.0 g (flew_whole 0 past r.who.client meant.0 meant.1)) in
-    subst (λ (v : ℕ). grants head.osts (tree_at head.osts v past) (asked r none) ≡ []) (sym sides.0) (by a.0 r.op a.2 (misses a.0 a.1))
+pub granted_none : (head : Head) (past : List Line) → Grown head past → (who : Who) (o : Op) → AskedBy past o → ((k : Call) → Began past k → Misses (Made_in past) k)
+    → grants head.osts (tree_at head.osts 0 past) (record { number = none; who = who; op = o }) ≡ []
+granted_none head past g who o a misses = by a.0 o a.2 (misses a.0 a.1)
   where
     bound : ℕ
     bound = 4294967296 + count_at 0 past
 
     Free : Op → Type 0
-    Free o = grants head.osts (tree_at head.osts 0 past) (record { number = none; who = r.who; op = o }) ≡ []
+    Free o = grants head.osts (tree_at head.osts 0 past) (record { number = none; who = who; op = o }) ≡ []
 
     by : (k : Call) (o : Op) → operation_of k ≡ Some o → Misses (Made_in past) k → Free o
-    by (call.Lookup path) o e k = subst Free (op_is (op.Lookup path) o e) (lookup_misses head.osts (tree_at head.osts 0 past) none r.who (Made_in past) bound (named head past g) path k.0 k.1)
-    by (call.Stat path) o e k = subst Free (op_is (op.Stat path) o e) (stat_misses head.osts (tree_at head.osts 0 past) none r.who (Made_in past) bound (named head past g) path k.0 k.1)
-    by (call.List path) o e k = subst Free (op_is (op.List path) o e) (list_misses head.osts (tree_at head.osts 0 past) none r.who (Made_in past) bound (named head past g) path k.0 k.1)
-    by (call.Layout path) o e k = subst Free (op_is (op.Layout path) o e) (layout_misses head.osts (tree_at head.osts 0 past) none r.who (Made_in past) bound (named head past g) path k)
-    by (call.Mkdir path) o e k = subst Free (op_is (op.Mkdir path) o e) (changing_free head.osts (tree_at head.osts 0 past) none r.who (op.Mkdir path) tt (λ is. is))
-    by (call.Create path None) o e k = subst Free (op_is (op.Create path 1048576 (pos 1)) o e) (changing_free head.osts (tree_at head.osts 0 past) none r.who (op.Create path 1048576 (pos 1)) tt (λ is. is))
-    by (call.Create path (Some stripes)) o e k = subst Free (op_is (op.Create path stripes.0 stripes.1) o e) (changing_free head.osts (tree_at head.osts 0 past) none r.who (op.Create path stripes.0 stripes.1) tt (λ is. is))
-    by (call.Link old new) o e k = subst Free (op_is (op.Link old new) o e) (changing_free head.osts (tree_at head.osts 0 past) none r.who (op.Link old new) tt (λ is. is))
-    by (call.Unlink path) o e k = subst Free (op_is (op.Unlink path) o e) (changing_free head.osts (tree_at head.osts 0 past) none r.who (op.Unlink path) tt (λ is. is))
-    by (call.Rmdir path) o e k = subst Free (op_is (op.Rmdir path) o e) (changing_free head.osts (tree_at head.osts 0 past) none r.who (op.Rmdir path) tt (λ is. is))
-    by (call.Rename old new) o e k = subst Free (op_is (op.Rename old new) o e) (changing_free head.osts (tree_at head.osts 0 past) none r.who (op.Rename old new) tt (λ is. is))
-    by (call.Chmod path mode) o e k = subst Free (op_is (op.Chmod path mode) o e) (changing_free head.osts (tree_at head.osts 0 past) none r.who (op.Chmod path mode) tt (λ is. is))
+    by (call.Lookup path) o e k = subst Free (op_is (op.Lookup path) o e) (lookup_misses head.osts (tree_at head.osts 0 past) none who (Made_in past) bound (named head past g) path k.0 k.1)
+    by (call.Stat path) o e k = subst Free (op_is (op.Stat path) o e) (stat_misses head.osts (tree_at head.osts 0 past) none who (Made_in past) bound (named head past g) path k.0 k.1)
+    by (call.List path) o e k = subst Free (op_is (op.List path) o e) (list_misses head.osts (tree_at head.osts 0 past) none who (Made_in past) bound (named head past g) path k.0 k.1)
+    by (call.Layout path) o e k = subst Free (op_is (op.Layout path) o e) (layout_misses head.osts (tree_at head.osts 0 past) none who (Made_in past) bound (named head past g) path k)
+    by (call.Mkdir path) o e k = subst Free (op_is (op.Mkdir path) o e) (changing_free head.osts (tree_at head.osts 0 past) none who (op.Mkdir path) tt (λ is. is))
+    by (call.Create path None) o e k = subst Free (op_is (op.Create path 1048576 (pos 1)) o e) (changing_free head.osts (tree_at head.osts 0 past) none who (op.Create path 1048576 (pos 1)) tt (λ is. is))
+    by (call.Create path (Some stripes)) o e k = subst Free (op_is (op.Create path stripes.0 stripes.1) o e) (changing_free head.osts (tree_at head.osts 0 past) none who (op.Create path stripes.0 stripes.1) tt (λ is. is))
+    by (call.Link old new) o e k = subst Free (op_is (op.Link old new) o e) (changing_free head.osts (tree_at head.osts 0 past) none who (op.Link old new) tt (λ is. is))
+    by (call.Unlink path) o e k = subst Free (op_is (op.Unlink path) o e) (changing_free head.osts (tree_at head.osts 0 past) none who (op.Unlink path) tt (λ is. is))
+    by (call.Rmdir path) o e k = subst Free (op_is (op.Rmdir path) o e) (changing_free head.osts (tree_at head.osts 0 past) none who (op.Rmdir path) tt (λ is. is))
+    by (call.Rename old new) o e k = subst Free (op_is (op.Rename old new) o e) (changing_free head.osts (tree_at head.osts 0 past) none who (op.Rename old new) tt (λ is. is))
+    by (call.Chmod path mode) o e k = subst Free (op_is (op.Chmod path mode) o e) (changing_free head.osts (tree_at head.osts 0 past) none who (op.Chmod path mode) tt (λ is. is))
     by k o e misses = absurd (cc)
-needs_none head past g t c n _ s misses = tt

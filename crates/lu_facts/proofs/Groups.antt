@@ -1,26 +1,32 @@
 -- The groups of facts: what holds after every line. Those of one target speak of what concerns it; what calls have
 -- asked, when things happened, and who is told what, of the whole past with every target.
-use Rattle.std.proofs.Common.{◌≡◌, ℕ, ◌<◌, ◌≤◌, true, List, [], ◌∷◌, Option, Some, None, ◌⊎◌}
+use Rattle.std.proofs.Common.{◌≡◌, ℕ, ◌<◌, ◌≤◌, true, false, List, [], ◌∷◌, Option, Some, None, ◌⊎◌}
 use Rattle.std.specs.Prelude.{length}
 use Rattle.lu_base.specs.declared.ids.At.{At}
 use Rattle.lu_base.specs.declared.ids.Node.{Node}
 use Rattle.lu_base.specs.declared.ids.Node.TheVariants.{Client, Target}
 use Rattle.lu_base.specs.declared.ids.Stamp.{Stamp}
 use Rattle.lu_base.specs.declared.ids.Who.{Who}
+use Rattle.lu_base.specs.declared.ids.Cookie.{Cookie}
+use Rattle.lu_base.specs.declared.locks.Lock.{Lock}
+use Rattle.lu_base.specs.declared.locks.Mode.TheVariants.{PR}
 use Rattle.lu_msg.specs.declared.messages.Message.{Message}
 use Rattle.lu_msg.specs.declared.messages.Message.TheVariants as message
 use Rattle.lu_msg.specs.declared.messages.Reply.{Reply as ReplyTo}
 use Rattle.lu_msg.specs.declared.messages.Request.{Request as RequestOf}
 use Rattle.lu_msg.specs.declared.operations.Op.{Op}
 use Rattle.lu_words.specs.Carried.{Deed, Queued, Flight, Asked, Answered, Running}
-use Rattle.lu_words.specs.Words.{Flies, Heard, Act, Txn, Line, turn_before}
+use Rattle.lu_words.specs.Words.{Flies, Heard, Drop, Act, Txn, Line, turn_before}
 use Rattle.lu_words.specs.Concerns.{only}
 use Rattle.lu_covered.specs.TargetStates.{server_of, slot_of}
 use Rattle.lu_covered.specs.Calls.{first_life, call_at, operation_of}
 use Rattle.lu_covered.specs.Imports.{queue_at, flights_at}
 use Rattle.lu_covered.specs.ClientStates.{flights_of, last_of, known_of, life_of, tag_of}
-use Rattle.lu_covered.specs.Runs.{Head}
-use Rattle.lu_guards.proofs.Guards.{In, Was}
+use Rattle.lu_covered.specs.Heads.{Head}
+use Rattle.lu_held.specs.declared.locks.HeldLock.{HeldLock}
+use Rattle.lu_held.specs.Held.{is_held}
+use Rattle.lu_client_rows.specs.Caches.{granted_lock, held_at}
+use Rattle.lu_guards.proofs.Guards.{In, Was, name_of}
 
 abbrev pub turn : Stamp → Node → At
 turn stamp node = record { stamp = stamp; node = node }
@@ -90,6 +96,8 @@ DoneFor past c x = (d : Deed) × Acted past d × (d.reply.who ≡ first_life c) 
 abbrev pub Meant : List Line → Node → Message → Type 0
 Meant past (Target t) (message.Request r) = (f : Flight) × Flew past r.who.client f × (r ≡ first_request r.who.client f)
 Meant past (Client c) (message.Reply k) = (d : Deed) × Acted past d × (k ≡ record d.reply { committed = k.committed }) × (c ≡ k.who.client)
+Meant past (Client c) (message.Block who boot cookie) = Unit {0}
+Meant past (Target t) (message.Cancel who boot cookie) = Unit {0}
 Meant past _ _ = ⊥
 
 -- a request that waits to act was sent, and hasn't acted
@@ -117,12 +125,65 @@ Done osts past =
       once : (d e : Deed) → Acted past d → Acted past e → d.reply.who ≡ e.reply.who → d.reply.xid ≡ e.reply.xid → d ≡ e;
     }
 
+-- a lock of what was done
+abbrev pub Gave : List Line → Deed → Lock → Type 0
+Gave past d l = Acted past d × In l d.reply.locks
+
+-- the reply that brings the lock was heard, and the client doesn't hold it
+abbrev pub Dead : List Line → Deed → Lock → Type 0
+Dead past d l = Hears past d.reply.who.client d.reply.xid.0 × (is_held (name_of l.cookie) (held_at d.reply.who.client past) ≡ false)
+
+-- what a client holds came with a reply that it heard, and is granted still
+abbrev pub Holding : ℕ → List Line → ℕ → HeldLock → Type 0
+Holding osts past c h =
+    record {
+      target : h.target.0 ≡ 0;
+      deed : Deed;
+      gave : Gave past deed h.lock;
+      who : deed.reply.who ≡ first_life c;
+      heard : Hears past c deed.reply.xid.0;
+      granted : In h.lock (server_of osts past).granted;
+    }
+
+-- a lock that was called back was given to that life
+abbrev pub Called : List Line → ℕ → Who → Cookie → Type 0
+Called past c who cookie = record { deed : Deed; lock : Lock; gave : Gave past deed lock; is : lock.cookie ≡ cookie; of : deed.reply.who ≡ who; to : who ≡ first_life c }
+
+-- a lock that is given back was given to that life, and is dead
+abbrev pub GivenBack : List Line → Who → ℕ → Cookie → Type 0
+GivenBack past who boot cookie =
+    record { deed : Deed; lock : Lock; gave : Gave past deed lock; is : lock.cookie ≡ cookie; of : deed.reply.who ≡ who; dead : Dead past deed lock; first : boot ≡ 1 }
+
+-- the client gave up that lock once: reads Drop
+abbrev pub Gone : List Line → ℕ → Cookie → Type 0
+Gone [] c cookie = ⊥
+Gone (l ∷ past) c cookie = elim l.entry [ Drop target lock ↦ ((l.at.node ≡ Client c) × (lock.cookie ≡ cookie)) ⊎ Gone past c cookie | _ ↦ Gone past c cookie ]
+
+-- each lock that was given is granted, or is dead; what is held, and what isn't heard yet, is granted; no answer of what was done
+-- is itself a lock
+abbrev pub Locks : ℕ → List Line → Type 0
+Locks osts past =
+    record {
+      whose : (d : Deed) (l : Lock) → Gave past d l → l.ask.who ≡ d.reply.who;
+      readers : (d : Deed) (l : Lock) → Gave past d l → l.ask.mode ≡ PR;
+      low : (d : Deed) (l : Lock) → Gave past d l → l.cookie.0 ≤ (server_of osts past).cookie;
+      once : (d e : Deed) (l k : Lock) → Gave past d l → Gave past e k → l.cookie ≡ k.cookie → (d ≡ e) × (l ≡ k);
+      granted : (l : Lock) → In l (server_of osts past).granted → (d : Deed) × Gave past d l;
+      held : (c : ℕ) (h : HeldLock) → In h (held_at c past) → Holding osts past c h;
+      alive : (d : Deed) (l : Lock) → Gave past d l → In l (server_of osts past).granted ⊎ Dead past d l;
+      blocks : (from : Node) (c : ℕ) (who : Who) (boot : ℕ) (cookie : Cookie) → Was past from (Client c) (message.Block who boot cookie) → Called past c who cookie;
+      cancels : (from to : Node) (who : Who) (boot : ℕ) (cookie : Cookie) → Was past from to (message.Cancel who boot cookie) → GivenBack past who boot cookie;
+      gone : (c : ℕ) (cookie : Cookie) → Gone past c cookie → GivenBack past (first_life c) 1 cookie;
+      answers : (d : Deed) → Acted past d → (r : ReplyTo) → granted_lock d.op r d.reply.answer ≡ [];
+    }
+
 -- all groups of one target, over what concerns it
 pub record HoldsAt (head : Head) (past : List Line) : Type 0 where
   pub phase : Phase head.osts past
   pub numbers : Numbers past
   pub room : Room head past
   pub done : Done head.osts past
+  pub locks : Locks head.osts past
 
 -- ---- over all targets: what calls have asked
 

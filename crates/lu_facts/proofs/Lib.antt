@@ -2,6 +2,8 @@ pub mod Groups
 pub mod Phase
 pub mod Numbers
 pub mod Done
+pub mod LockLists
+pub mod Locks
 pub mod Lines
 pub mod Calls
 pub mod Asks
@@ -15,5 +17,13 @@ pub mod Ways
 pub mod Grafts
 pub mod Named
 pub mod Readings
+pub mod Inodes
 pub mod Finds
+pub mod Files
+pub mod Unlocked
 pub mod Refused
+pub mod KnownPaths
+pub mod TaughtFacts
+pub mod FactsStay
+pub mod Taught
+pub mod Known

@@ -8,7 +8,7 @@ use Rattle.lu_base.specs.declared.ids.Stamp.{Stamp}
 use Rattle.lu_words.specs.Carried.{Deed, Flight}
 use Rattle.lu_words.specs.Words.{Entry, Flies, Act, Txn, Line, line}
 use Rattle.lu_words.specs.Concerns.{concerns, only}
-use Rattle.lu_covered.specs.Runs.{Head}
+use Rattle.lu_covered.specs.Heads.{Head}
 use Rattle.lu_guards.proofs.Guards.{EntryOk, EntryOf, Grown}
 use Rattle.lu_guards.proofs.Lists.{self}
 use Rattle.lu_facts.proofs.Groups.{turn, Acted, Flew}

@@ -13,7 +13,7 @@ use Rattle.lu_words.specs.Carried.{Flight}
 use Rattle.lu_words.specs.Words.{Entry, Flies, Heard, Line, line}
 use Rattle.lu_covered.specs.Imports.{without_flight, has_tag, above_tags, free_from, free_tag}
 use Rattle.lu_covered.specs.ClientStates.{flights_of, last_of, tag_of}
-use Rattle.lu_covered.specs.Runs.{Head}
+use Rattle.lu_covered.specs.Heads.{Head}
 use Rattle.lu_guards.proofs.Guards.{In, FliesOk, EntryOf}
 use Rattle.lu_guards.proofs.Lists.{in_append, in_filter, in_filtered, in_left, in_right}
 use Rattle.lu_facts.proofs.Groups.{turn, Flew, Hears, Tagged, Numbers, Room}

@@ -1,5 +1,5 @@
 -- What calls become: operations on names. How they are answered, and what a user is told of it as it is.
-use Rattle.std.proofs.Common.{◌≡◌, ℕ, true, Some, None, subst, pos}
+use Rattle.std.proofs.Common.{◌≡◌, ℕ, true, List, Some, None, refl, sym, subst, pos}
 use Rattle.lu_layout.specs.Raid0.{Raid0}
 use Rattle.lu_base.specs.declared.ids.Fid.{Fid}
 use Rattle.lu_base.specs.declared.ids.Txn.{Txn}
@@ -59,21 +59,21 @@ IsPlain (told.OpenFile fid number layout) = ⊥
 IsPlain _ = Unit {0}
 
 -- attributes are told by a stat alone
-no_attributes : (o : Op) (fid : Fid) (mode links : ℕ) (layout : Raid0) → IsOnNames o → answer_fits o (told.FileStat fid mode links layout) ≡ true → (IsReading o → IsRefusal (told.FileStat fid mode links layout)) → ⊥
-no_attributes (op.Lookup path) fid mode links layout is fits refused = absurd (cc)
-no_attributes (op.Stat path) fid mode links layout is fits refused = refused tt
-no_attributes (op.List path) fid mode links layout is fits refused = absurd (cc)
-no_attributes (op.Layout path) fid mode links layout is fits refused = absurd (cc)
-no_attributes (op.Mkdir path) fid mode links layout is fits refused = absurd (cc)
-no_attributes (op.Create path size count) fid mode links layout is fits refused = absurd (cc)
-no_attributes (op.Link old new) fid mode links layout is fits refused = absurd (cc)
-no_attributes (op.Unlink path) fid mode links layout is fits refused = absurd (cc)
-no_attributes (op.Rmdir path) fid mode links layout is fits refused = absurd (cc)
-no_attributes (op.Rename old new) fid mode links layout is fits refused = absurd (cc)
-no_attributes (op.Chmod path bits) fid mode links layout is fits refused = absurd (cc)
-no_attributes _ fid mode links layout is fits refused = is
+no_attributes : (o : Op) (fid : Fid) (mode links : ℕ) (layout : Raid0) → IsOnNames o → answer_fits o (told.FileStat fid mode links layout) ≡ true → ((path : List (List ℕ)) → o ≡ op.Stat path → ⊥) → ⊥
+no_attributes (op.Lookup path) fid mode links layout is fits other = absurd (cc)
+no_attributes (op.Stat path) fid mode links layout is fits other = other path refl
+no_attributes (op.List path) fid mode links layout is fits other = absurd (cc)
+no_attributes (op.Layout path) fid mode links layout is fits other = absurd (cc)
+no_attributes (op.Mkdir path) fid mode links layout is fits other = absurd (cc)
+no_attributes (op.Create path size count) fid mode links layout is fits other = absurd (cc)
+no_attributes (op.Link old new) fid mode links layout is fits other = absurd (cc)
+no_attributes (op.Unlink path) fid mode links layout is fits other = absurd (cc)
+no_attributes (op.Rmdir path) fid mode links layout is fits other = absurd (cc)
+no_attributes (op.Rename old new) fid mode links layout is fits other = absurd (cc)
+no_attributes (op.Chmod path bits) fid mode links layout is fits other = absurd (cc)
+no_attributes _ fid mode links layout is fits other = is
 
-no_open : (o : Op) (fid : Fid) (number : Txn) (layout : Raid0) → IsOnNames o → answer_fits o (told.OpenFile fid number layout) ≡ true → ⊥
+pub no_open : (o : Op) (fid : Fid) (number : Txn) (layout : Raid0) → IsOnNames o → answer_fits o (told.OpenFile fid number layout) ≡ true → ⊥
 no_open (op.Lookup path) fid number layout is fits = absurd (cc)
 no_open (op.Stat path) fid number layout is fits = absurd (cc)
 no_open (op.List path) fid number layout is fits = absurd (cc)
@@ -89,6 +89,12 @@ no_open _ fid number layout is fits = is
 
 -- so an answer of the table is plain, where a reading is refused
 pub is_plain : (o : Op) (a : Answer) → IsOnNames o → answer_fits o a ≡ true → (IsReading o → IsRefusal a) → IsPlain a
-is_plain o (told.FileStat fid mode links layout) is fits refused = no_attributes o fid mode links layout is fits refused
+is_plain o (told.FileStat fid mode links layout) is fits refused = no_attributes o fid mode links layout is fits (λ path e. refused (subst IsReading (sym e) tt))
 is_plain o (told.OpenFile fid number layout) is fits refused = no_open o fid number layout is fits
 is_plain o a is fits refused = tt
+
+-- so is any but that to a stat
+pub other_plain : (o : Op) (a : Answer) → IsOnNames o → answer_fits o a ≡ true → ((path : List (List ℕ)) → o ≡ op.Stat path → IsPlain a) → IsPlain a
+other_plain o (told.FileStat fid mode links layout) is fits stat = no_attributes o fid mode links layout is fits stat
+other_plain o (told.OpenFile fid number layout) is fits stat = no_open o fid number layout is fits
+other_plain o a is fits stat = tt

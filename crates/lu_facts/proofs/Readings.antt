@@ -1,6 +1,6 @@
 -- A reading that finds what it asks for is granted a lock, and one that is granted none is refused. Where the paths that lead
 -- somewhere are known, one of another path finds nothing; and what changes names is granted no lock at all.
-use Rattle.std.proofs.Common.{◌≡◌, ℕ, suc, ◌+◌, List, [], ◌∷◌, ⊎_elim, Option, Some, None, refl}
+use Rattle.std.proofs.Common.{◌≡◌, ℕ, suc, ◌+◌, List, [], ◌∷◌, ⊎_elim, Option, Some, None, refl, ap}
 use Rattle.std.specs.Prelude.{◌==◌, if◌then◌else◌}
 use Rattle.std.proofs.lemmas.Bool.{cond_both}
 use Rattle.lu_base.specs.declared.ids.Fid.{Fid}
@@ -25,7 +25,6 @@ use Rattle.lu_machine.proofs.Made.{Named}
 use Rattle.lu_machine.proofs.Walks.{there_ends, absent_ends, if_empty_ends, walk_ends, to_last_ends, walk_up_ends}
 use Rattle.lu_machine.proofs.Paths.{Steps, steps_lead, walk_steps}
 use Rattle.lu_covered.specs.Makes.{Path}
-use Rattle.lu_covered.specs.Runs.{IsAsked}
 use Rattle.lu_facts.proofs.OnNames.{IsOnNames, IsRefusal}
 
 -- more bits on the last inode are a lock on it
@@ -64,9 +63,9 @@ module _ (osts : ℕ) (t : Tree) (number : Txn) (who : Who) where
   layout_refused cs (Dir d) e = tt
   layout_refused cs (File f) e = absurd (wants_some _ cs e)
 
-  -- but a lookup of the root, which asks nobody
-  pub reading_refused : (o : Op) → IsReading o → IsAsked o → grants osts t (act o) ≡ [] → IsRefusal (answer osts t (act o))
-  reading_refused (op.Lookup path) is asked = lookup_refused path asked
+  -- but a lookup of the root, which is told without a lock
+  pub reading_refused : (o : Op) → IsReading o → (o ≡ op.Lookup [] → ⊥) → grants osts t (act o) ≡ [] → IsRefusal (answer osts t (act o))
+  reading_refused (op.Lookup path) is asked = lookup_refused path (λ e. asked (ap op.Lookup e))
   reading_refused (op.Stat path) is asked = walk_steps t Refuses (λ e _. tt) root path (λ cs. row_stat cs (last_of root cs)) (λ cs s. stat_refused cs (last_of root cs))
   reading_refused (op.List path) is asked = walk_steps t Refuses (λ e _. tt) root path (λ cs. row_list cs (last_of root cs)) (λ cs s. list_refused cs (last_of root cs))
   reading_refused (op.Layout path) is asked = walk_steps t Refuses (λ e _. tt) root path (λ cs. row_layout cs (last_of root cs)) (λ cs s. layout_refused cs (last_of root cs))

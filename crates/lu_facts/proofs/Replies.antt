@@ -13,7 +13,7 @@ use Rattle.lu_words.specs.Concerns.{only}
 use Rattle.lu_covered.specs.Calls.{call_at, operation_of}
 use Rattle.lu_covered.specs.Imports.{flights_at}
 use Rattle.lu_covered.specs.ClientStates.{flights_of}
-use Rattle.lu_covered.specs.Runs.{Head}
+use Rattle.lu_covered.specs.Heads.{Head}
 use Rattle.lu_guards.proofs.Guards.{In, HeardOk, EntryOk}
 use Rattle.lu_guards.proofs.Lists.{self}
 use Rattle.lu_guards.proofs.Parts.{flights_is}

@@ -11,7 +11,7 @@ use Rattle.lu_words.specs.Carried.{Deed}
 use Rattle.lu_words.specs.Words.{Entry, Send, Line, line}
 use Rattle.lu_words.specs.Concerns.{concerns, only}
 use Rattle.lu_words.specs.Sent.{Sent}
-use Rattle.lu_covered.specs.Runs.{Head}
+use Rattle.lu_covered.specs.Heads.{Head}
 use Rattle.lu_guards.proofs.Guards.{Was, EntryOk, Grown}
 use Rattle.lu_guards.proofs.Only.{sent_was, was_only}
 use Rattle.lu_facts.proofs.Groups.{Acted}
@@ -48,6 +48,8 @@ Sides _ _ = ⊥
 send_sides : (past : List Line) (at : At) (node to : Node) (m : Message) → EntryOk past at node (Send to m) → Sides node to
 send_sides past at (Client c) (Target t) (message.Request r) ok = ok
 send_sides past at (Target t) (Client c) (message.Reply k) ok = ok.0
+send_sides past at (Client c) (Target t) (message.Cancel who boot cookie) ok = ok
+send_sides past at (Target t) (Client c) (message.Block who boot cookie) ok = ok
 send_sides past at node to m ok = absurd ok
 
 pub was_sides : (head : Head) (past : List Line) (from to : Node) (m : Message) → Grown head past → Was past from to m → Sides from to

@@ -12,7 +12,7 @@ use Rattle.lu_words.specs.Concerns.{only}
 use Rattle.lu_covered.specs.Calls.{call_at}
 use Rattle.lu_covered.specs.Imports.{without_flight, flights_at}
 use Rattle.lu_covered.specs.ClientStates.{last_of}
-use Rattle.lu_covered.specs.Runs.{Head}
+use Rattle.lu_covered.specs.Heads.{Head}
 use Rattle.lu_guards.proofs.Guards.{In, Steps, EntryOk}
 use Rattle.lu_guards.proofs.Lists.{self, in_append, in_filter, turn_trans}
 use Rattle.lu_facts.proofs.Groups.{turn, Acted, HoldsAt, CallOf, Asks, Upto, Reached, Reaches, Since}

@@ -1,135 +1,172 @@
--- What is sent to a client in a run of the covered rows may come to it: it is a reply of the metadata target that brings no lock and
--- no size, to an operation on names.
-use Rattle.std.proofs.Common.{◌≡◌, ℕ, ◌++◌, Bool, true, false, List, [], ◌∷◌, length, Option, Some, None, refl, sym, subst, ap, ◌∙◌, arith}
-use Rattle.std.proofs.lemmas.Bool.{lt-ltb}
-use Rattle.std.specs.Prelude.{nat_eq, nat_lt, ◌&&◌, if◌then◌else◌}
+-- What is sent to a client in a covered run may come to it: it is a block, or a reply of the metadata target that brings no size, and no
+-- lock that is held already.
+use Rattle.std.proofs.Common.{◌≡◌, ℕ, ◌+◌, ◌++◌, Bool, true, false, List, [], ◌∷◌, length, map, Option, Some, None, inl, inr, ⊎_elim, refl, sym, subst, ap, ◌∙◌, add-one, arith}
+use Rattle.std.proofs.lemmas.Bool.{eqb-true}
+use Rattle.std.proofs.lemmas.Bool.Decides.{nat_tests}
+use Rattle.std.specs.List.{range_with_len}
+use Rattle.std.specs.Prelude.{nat_eq, nat_lt, ◌&&◌, not, if◌then◌else◌}
+use Rattle.lu_base.specs.declared.ids.Cookie.{Cookie}
 use Rattle.lu_base.specs.declared.ids.Node.{Node}
 use Rattle.lu_base.specs.declared.ids.Node.TheVariants as node
-use Rattle.lu_base.specs.declared.locks.Extent.{Extent}
-use Rattle.lu_base.specs.declared.ids.Cookie.{Cookie}
+use Rattle.lu_base.specs.declared.ids.TargetId.{TargetId}
 use Rattle.lu_base.specs.declared.locks.Lock.{Lock}
 use Rattle.lu_msg.specs.declared.answers.Answer.{Answer}
-use Rattle.lu_msg.specs.declared.answers.Answer.TheVariants as answer
 use Rattle.lu_msg.specs.declared.messages.Message.{Message}
 use Rattle.lu_msg.specs.declared.messages.Message.TheVariants as message
 use Rattle.lu_msg.specs.declared.messages.Reply.{Reply as ReplyTo}
 use Rattle.lu_msg.specs.declared.operations.Op.{Op}
 use Rattle.lu_msg.specs.declared.operations.Op.TheVariants as op
+use Rattle.lu_held.specs.declared.locks.HeldLock.{HeldLock}
+use Rattle.lu_held.specs.declared.names.LockName.{LockName}
+use Rattle.lu_held.specs.Held.{is_held}
+use Rattle.lu_held.specs.Locks.{named, name_of, is_named}
 use Rattle.lu_machine.specs.Fits.{answer_fits}
-use Rattle.lu_words.specs.Carried.{Queued, Flight}
-use Rattle.lu_words.specs.Words.{Line, same_life}
+use Rattle.lu_words.specs.Carried.{Deed, Flight}
 use Rattle.lu_words.specs.Concerns.{only}
 use Rattle.lu_words.specs.Sent.{Sent}
-use Rattle.lu_client_rows.specs.Caches.{granted_lock, brought}
-use Rattle.lu_client_rows.specs.Imports.{Import, import_of}
+use Rattle.lu_words.specs.Words.{Line}
+use Rattle.lu_client_rows.specs.Caches.{held_at, held_as, with_held, brought}
+use Rattle.lu_client_rows.specs.Imports.{Import, import_of, import_at}
 use Rattle.lu_client_rows.specs.Messages.{find_flight, is_present, size_with}
 use Rattle.lu_client_rows.specs.States.{Client}
-use Rattle.lu_covered.specs.ClientStates.{Asker, asker_at}
-use Rattle.lu_covered.specs.Runs as few
-use Rattle.lu_guards.proofs.Guards.{Grown}
-use Rattle.lu_facts.proofs.Groups.{Meant}
-use Rattle.lu_facts.proofs.All.{holds}
-use Rattle.lu_facts.proofs.Sides.{sent_only}
-use Rattle.lu_facts.proofs.OnNames.{IsOnNames, becomes_on_names}
+use Rattle.lu_covered.specs.Covered.{AllCovered}
+use Rattle.lu_covered.specs.ClientStates.{flights_of}
 use Rattle.lu_table.specs.Heads.{Head}
 use Rattle.lu_table.specs.Runs.{client_of}
-use Rattle.lu_covering.specs.Covered.{covered_head}
-use Rattle.lu_covering.proofs.ClientLines.{FewReply, brings_none}
-use Rattle.lu_covering.proofs.ClientAlike.{Same, Imports, Alike}
-use Rattle.lu_covering.proofs.Heard.{waited}
-use Rattle.lu_covering.proofs.Small.{client_knows}
-use Rattle.lu_client_turns.specs.Comings.{is_short, is_in_file, may_answer, may_fit, may_reply, may_come}
+use Rattle.lu_guards.proofs.ClientLines.{IsNames, brings_its, no_size, becomes_names, flights_same, reply_differs}
+use Rattle.lu_guards.proofs.ClientLocks.{Differ, none_any, names_same, with_only}
+use Rattle.lu_guards.proofs.Guards.{In, Was, Grown}
+use Rattle.lu_guards.proofs.Held.{held_is}
+use Rattle.lu_guards.proofs.Only.{grown_of}
+use Rattle.lu_guards.proofs.Parts.{flights_is}
+use Rattle.lu_guards.proofs.Turns.{covered_head}
+use Rattle.lu_facts.proofs.All.{holds}
+use Rattle.lu_facts.proofs.Asked.{flew_asked}
+use Rattle.lu_facts.proofs.Groups.{HoldsAt}
+use Rattle.lu_facts.proofs.Lines.{flew_whole}
+use Rattle.lu_facts.proofs.Sides.{sent_only}
+use Rattle.lu_client_turns.specs.Comings.{are_new, is_short, is_in_file, may_answer, may_fit, may_reply, may_from, may_come}
 
--- ---- what an answer to an operation on names brings
+-- ---- locks that come are new
 
-granted_fits : (o : Op) (cookie : Cookie) (extent : Extent) (size : ℕ) → IsOnNames o → answer_fits o (answer.Granted cookie extent size) ≡ true → ⊥
-granted_fits (op.Lookup path) cookie extent size is fits = cc
-granted_fits (op.Stat path) cookie extent size is fits = cc
-granted_fits (op.List path) cookie extent size is fits = cc
-granted_fits (op.Layout path) cookie extent size is fits = cc
-granted_fits (op.Mkdir path) cookie extent size is fits = cc
-granted_fits (op.Create path stripe count) cookie extent size is fits = cc
-granted_fits (op.Link old new) cookie extent size is fits = cc
-granted_fits (op.Unlink path) cookie extent size is fits = cc
-granted_fits (op.Rmdir path) cookie extent size is fits = cc
-granted_fits (op.Rename old new) cookie extent size is fits = cc
-granted_fits (op.Chmod path mode) cookie extent size is fits = cc
-granted_fits _ cookie extent size is fits = absurd is
+-- of the metadata target
+abbrev names : TargetId
+names = record { 0 = 0 }
 
-short : (o : Op) (a : Answer) → IsOnNames o → answer_fits o a ≡ true → is_short (size_with a) ≡ true
-short o (answer.Granted cookie extent size) is fits = absurd (granted_fits o cookie extent size is fits)
-short o _ is fits = refl
+free_so : (l : Lock) (held : List HeldLock) → ((h : HeldLock) → In h held → h.target.0 ≡ 0 → h.lock.cookie ≡ l.cookie → ⊥) → is_held (named names l.cookie) held ≡ false
+free_so l held apart = none_any (is_named (named names l.cookie)) held (λ h i. by h (is_named (named names l.cookie) h) refl (apart h i))
+  where
+    by : (h : HeldLock) (b : Bool) → is_named (named names l.cookie) h ≡ b → (h.target.0 ≡ 0 → h.lock.cookie ≡ l.cookie → ⊥) → b ≡ false
+    by h false e away = refl
+    by h true e away =
+        let same = names_same (named names l.cookie) (name_of h) e in
+        absurd (away (ap (λ (n : LockName). n.target.0) (sym same)) (ap (λ (n : LockName). n.cookie) (sym same)))
 
-in_file : (o : Op) → IsOnNames o → is_in_file o ≡ true
+new_so : (locks : List Lock) (held : List HeldLock) → Differ locks → ((l : Lock) → In l locks → (h : HeldLock) → In h held → h.target.0 ≡ 0 → h.lock.cookie ≡ l.cookie → ⊥) → are_new 0 locks held ≡ true
+new_so [] held differ apart = refl
+new_so (l ∷ locks) held differ apart =
+    let free = free_so l held (apart l (inl refl)) in
+    let rest = new_so locks (with_held (held_as 0 l false) held) differ.1 (λ m i h j zero_is same. ⊎_elim
+    (λ (e : held_as 0 l false ≡ h).
+    let one : l.cookie.0 ≡ m.cookie.0 = ap (λ (x : HeldLock). x.lock.cookie.0) e ∙ ap (λ (x : Cookie). x.0) same in
+    let other = differ.0 m i in
+    grind (arith, nat_tests, one, other))
+    (λ (k : In h held). apart m (inr i) h k zero_is same)
+    (with_only (held_as 0 l false) h held j)) in
+    ap (λ (b : Bool). not b && are_new 0 locks (with_held (held_as 0 l false) held)) free ∙ rest
+
+-- ---- an operation on names lies in a file
+
+in_file : (o : Op) → IsNames o → is_in_file o ≡ true
 in_file (op.Get resource cookie page) is = absurd is
 in_file (op.Put resource cookie offset bytes) is = absurd is
 in_file (op.Cut resource cookie size) is = absurd is
 in_file _ is = refl
 
-answers : (r : ReplyTo) (f : Flight) (k : Client) → FewReply 0 f r → answer_fits f.op r.answer ≡ true → may_answer 0 r f k ≡ true
-answers r f k few fits =
-    let call = few.2.0 in
-    let on_names = becomes_on_names call f.op few.2.1 in
-    let none : brought f.op r ≡ [] = ap (λ (locks : List Lock). locks ++ granted_lock f.op r r.answer) few.1 ∙ brings_none call f.op few.2.1 r r.answer in
-    rw (none, short f.op r.answer on_names fits, in_file f.op on_names) refl
+-- ---- a flight that is found
 
--- ---- a reply
+found_in : (xid : ℕ) (flights : List Flight) (f : Flight) → find_flight xid flights ≡ Some f → In f flights × (f.xid ≡ xid)
+found_in xid [] f e = absurd (cc)
+found_in xid (g ∷ flights) f e = by (nat_eq g.xid xid) refl e (found_in xid flights f)
+  where
+    by : (b : Bool) → nat_eq g.xid xid ≡ b → (if b then Some g else find_flight xid flights) ≡ Some f → (find_flight xid flights ≡ Some f → In f flights × (f.xid ≡ xid)) → In f (g ∷ flights) × (f.xid ≡ xid)
+    by true q e more = let same : g ≡ f = cc in (inl same, subst (λ (x : Flight). x.xid ≡ xid) same (eqb-true g.xid xid q))
+    by false q e more = let m = more e in (inr m.0, m.1)
 
-names_import : (imports : List Import) (boot last : ℕ) (queue : List Queued) (flights : List Flight) → Imports imports boot last queue flights → Same (import_of 0 imports) boot last queue flights
-names_import [] boot last queue flights p = absurd p
-names_import (i ∷ imports) boot last queue flights p = p.0
+-- ---- the import of the metadata target is the first
 
-some_import : (imports : List Import) (boot last : ℕ) (queue : List Queued) (flights : List Flight) → Imports imports boot last queue flights → nat_lt 0 (length imports) ≡ true
-some_import [] boot last queue flights p = absurd p
-some_import (i ∷ imports) boot last queue flights p = lt-ltb 0 (length (i ∷ imports)) (omega arith)
+first_one : (f : ℕ → Import) (n : ℕ) → map f (range_with_len 0 (n + 1)) ≡ f 0 ∷ map f (range_with_len (0 + 1) n)
+first_one f n = ap (λ (k : ℕ). map f (range_with_len 0 k)) (add-one n)
 
-module _ (a : Asker) (k : Client) (alike : Alike k a) (r : ReplyTo) where
-  -- the reply is of the client's life, and of the boot that it knows
-  abbrev IsPresent : Type 0
-  IsPresent = (same_life r.who a.who && nat_eq r.boot a.boot) ≡ true
+module _ (head : Head) (past : List Line) (covered : AllCovered past) (g : Grown (covered_head head) past) (c : ℕ) where
+  abbrev k : Client
+  k = client_of head c past
 
-  -- it brings nothing to a request that waits for it
-  abbrev pub BringsNone : Type 0
-  BringsNone = (f : Flight) → find_flight r.xid.0 a.flights ≡ Some f → answer_fits f.op r.answer ≡ true → IsPresent → FewReply 0 f r
+  abbrev story : List Line
+  story = only 0 past
 
-  fits : BringsNone → IsPresent → (o : Option Flight) → find_flight r.xid.0 a.flights ≡ o → may_fit 0 r k o ≡ true
-  fits none present None found = refl
-  fits none present (Some f) found = by (answer_fits f.op r.answer) refl
+  h : HoldsAt (covered_head head) story
+  h = (holds (covered_head head) past g).at 0
+
+  import_is : import_of 0 k.imports ≡ import_at c 0 past
+  import_is = ap (import_of 0) (first_one (λ t. import_at c t past) head.osts)
+
+  some_imports : nat_lt 0 (length k.imports) ≡ true
+  some_imports = ap (λ (is : List Import). nat_lt 0 (length is)) (first_one (λ t. import_at c t past) head.osts) ∙ grind (arith, nat_tests)
+
+  flights_story : (import_of 0 k.imports).flights ≡ flights_of c story
+  flights_story = ap (λ (i : Import). i.flights) import_is ∙ flights_same c 0 past covered ∙ flights_is c 0 past
+
+  -- ---- a reply to a request that is in flight
+
+  module _ (r : ReplyTo) (was : Was story (node.Target 0) (node.Client c) (message.Reply r)) (f : Flight) (flying : In f (flights_of c story)) (number : f.xid ≡ r.xid.0) where
+    -- none of its locks is held: what is held came with a reply that was heard
+    unheld : (l : Lock) → In l r.locks → (x : HeldLock) → In x (held_at c past) → x.lock.cookie ≡ l.cookie → ⊥
+    unheld l i x j same =
+        let meant = h.done.sent (node.Target 0) (node.Client c) (message.Reply r) was in
+        let d : Deed = meant.0 in
+        let holding = h.locks.held c x (subst (λ (xs : List HeldLock). In x xs) (held_is (covered_head head) c past g) j) in
+        let among : In l d.reply.locks = subst (λ (ls : List Lock). In l ls) (ap (λ (v : ReplyTo). v.locks) meant.2) i in
+        let one = (h.locks.once d holding.deed l x.lock (meant.1, among) holding.gave (sym same)).0 in
+        let xid : f.xid ≡ holding.deed.reply.xid.0 = number ∙ ap (λ (v : ReplyTo). v.xid.0) meant.2 ∙ ap (λ (v : Deed). v.reply.xid.0) one in
+        (h.numbers.over c holding.deed.reply.xid.0 holding.heard).1 f flying xid
+
+    on_names : IsNames f.op
+    on_names = let asked = flew_asked (covered_head head) past c f g (flew_whole 0 past c f (h.numbers.flying c f flying)) in becomes_names asked.0 f.op asked.2
+
+    locks_new : are_new 0 (brought f.op r) k.store.held ≡ true
+    locks_new =
+        subst (λ (ls : List Lock). are_new 0 ls k.store.held ≡ true) (sym (brings_its f.op r on_names))
+        (new_so r.locks k.store.held (reply_differs (covered_head head) story (node.Target 0) c r (grown_of (covered_head head) 0 past g) was) (λ l i x j zero_is same. unheld l i x j same))
+
+    answers : answer_fits f.op r.answer ≡ true → may_answer 0 r f k ≡ true
+    answers fits = rw (locks_new, no_size f.op r.answer on_names fits, in_file f.op on_names) refl
+
+  reply_comes : (r : ReplyTo) → Was story (node.Target 0) (node.Client c) (message.Reply r) → may_reply 0 r k ≡ true
+  reply_comes r was = by (is_present r.who r.boot 0 k)
     where
-      by : (fit : Bool) → answer_fits f.op r.answer ≡ fit → (if fit then may_answer 0 r f k else true) ≡ true
-      by false e = refl
-      by true e = answers r f k (none f found e present) e
+      fit : (o : Option Flight) → find_flight r.xid.0 (import_of 0 k.imports).flights ≡ o → may_fit 0 r k o ≡ true
+      fit None found = refl
+      fit (Some f) found = by_answer (answer_fits f.op r.answer) refl
+        where
+          by_answer : (b : Bool) → answer_fits f.op r.answer ≡ b → (if b then may_answer 0 r f k else true) ≡ true
+          by_answer false e = refl
+          by_answer true e =
+              let i = found_in r.xid.0 (import_of 0 k.imports).flights f found in
+              answers r was f (subst (λ (fs : List Flight). In f fs) flights_story i.0) i.1 e
 
-  replies : BringsNone → may_reply 0 r k ≡ true
-  replies none = by (is_present r.who r.boot 0 k) refl
-    where
-      i : Same (import_of 0 k.imports) a.boot a.last a.queue a.flights
-      i = names_import k.imports a.boot a.last a.queue a.flights alike.imports
+      by : (b : Bool) → (if b then may_fit 0 r k (find_flight r.xid.0 (import_of 0 k.imports).flights) else true) ≡ true
+      by false = refl
+      by true = fit (find_flight r.xid.0 (import_of 0 k.imports).flights) refl
 
-      here : is_present r.who r.boot 0 k ≡ (same_life r.who a.who && nat_eq r.boot a.boot)
-      here = rw (alike.who, i.boot) refl
+  -- ---- what is sent to a client
 
-      by : (present : Bool) → is_present r.who r.boot 0 k ≡ present → (if present then may_fit 0 r k (find_flight r.xid.0 (import_of 0 k.imports).flights) else true) ≡ true
-      by false e = refl
-      by true e = fits none (sym here ∙ e) (find_flight r.xid.0 (import_of 0 k.imports).flights) (ap (find_flight r.xid.0) (sym i.flights))
+  from_so : (m : Message) → Was story (node.Target 0) (node.Client c) m → may_from 0 m k ≡ true
+  from_so (message.Reply r) was = reply_comes r was
+  from_so (message.Block who boot cookie) was = refl
+  from_so m was = absurd (h.done.sent (node.Target 0) (node.Client c) m was)
 
-  pub reply_comes : BringsNone → may_come (node.Target 0) (message.Reply r) k ≡ true
-  reply_comes none = rw (some_import k.imports a.boot a.last a.queue a.flights alike.imports) (replies none)
-
--- ---- what is sent to a client
-
-module _ (head : Head) (past : List Line) (g : Grown (covered_head head) past) (n c : ℕ) where
-  abbrev h : few.Head
-  h = covered_head head
-
-  -- only replies are, from the metadata target
-  pub comes : (from : Node) (m : Message) → from ≡ node.Target 0 → Sent past n from (node.Client c) m → may_come from m (client_of head c past) ≡ true
-  comes from m is sent =
-      let was = subst (λ (v : Node). Sent past n v (node.Client c) m) is sent in
-      subst (λ (v : Node). may_come v m (client_of head c past) ≡ true) (sym is) (by m was (((holds h past g).at 0).done.sent (node.Target 0) (node.Client c) m (sent_only h past n (node.Target 0) (node.Client c) m g was)))
-    where
-      by : (m : Message) → Sent past n (node.Target 0) (node.Client c) m → Meant (only 0 past) (node.Client c) m → may_come (node.Target 0) m (client_of head c past) ≡ true
-      by (message.Reply r) sent meant =
-          reply_comes (asker_at head.flight c 0 past) (client_of head c past) (client_knows head c past g) r
-          (λ f found fit present. (waited h past c n r head.flight g sent f found fit present).0)
-      by _ sent meant = absurd meant
+  pub comes : (n : ℕ) (from : Node) (m : Message) → from ≡ node.Target 0 → Sent past n from (node.Client c) m → may_come from m k ≡ true
+  comes n from m is sent =
+      let was = subst (λ (v : Node). Was story v (node.Client c) m) is (sent_only (covered_head head) past n from (node.Client c) m g sent) in
+      subst (λ (v : Node). may_come v m k ≡ true) (sym is) (rw (some_imports, from_so m was) refl)

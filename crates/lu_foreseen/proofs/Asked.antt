@@ -1,29 +1,32 @@
--- Which requests there are in a run of the covered rows: each has a tag below the number of requests that may be in flight, and asks
--- for the operation of a call that began.
+-- Which requests there are in a covered run: each has a tag below the number of requests that may be in flight, and asks for the operation
+-- of a call that began; and two of one life and number have one tag.
 use Rattle.std.proofs.Common.{◌≡◌, true, false, Bool, ℕ, zero, suc, ◌+◌, ◌<◌, ◌≤◌, List, [], ◌∷◌, length, map, ⊎_elim, refl, sym, subst, ap, ◌∙◌, arith}
 use Rattle.std.specs.Prelude.{if◌then◌else◌, ◌||◌, nat_eq}
-use Rattle.std.proofs.lemmas.Bool.{cases_lt}
+use Rattle.std.proofs.lemmas.Bool.{cases_lt, and_parts, eqb-true}
 use Rattle.std.proofs.lemmas.List.{length-map}
 use Rattle.lu_base.specs.declared.ids.Node.{Node}
 use Rattle.lu_base.specs.declared.ids.Node.TheVariants.{Client, Target}
+use Rattle.lu_base.specs.declared.ids.Who.{Who}
 use Rattle.lu_msg.specs.declared.messages.Message.TheVariants as message
 use Rattle.lu_msg.specs.declared.messages.Request.{Request as RequestOf}
 use Rattle.lu_import.specs.declared.requests.InFlight.{InFlight}
 use Rattle.lu_import.specs.InFlights.{has_tag as has_tag_in}
 use Rattle.lu_import.proofs.Tags.{taken_below}
 use Rattle.lu_words.specs.Carried.{Flight}
-use Rattle.lu_words.specs.Words.{Entry, Flies, Line, line}
+use Rattle.lu_words.specs.Words.{Entry, Flies, Line, line, same_life}
 use Rattle.lu_words.specs.Concerns.{concerns, only}
 use Rattle.lu_words.specs.Sent.{Sent}
 use Rattle.lu_covered.specs.Imports.{has_tag, free_from, free_tag, above_tags}
 use Rattle.lu_covered.specs.ClientStates.{flights_of}
-use Rattle.lu_covered.specs.Runs.{Head}
-use Rattle.lu_guards.proofs.Guards.{EntryOf, FliesOk, Grown}
-use Rattle.lu_facts.proofs.Groups.{Flew, Meant}
+use Rattle.lu_covered.specs.Heads.{Head}
+use Rattle.lu_covered.specs.TargetStates.{server_of}
+use Rattle.lu_target_rows.specs.Locks.{same_request}
+use Rattle.lu_guards.proofs.Guards.{In, EntryOf, FliesOk, Grown}
+use Rattle.lu_facts.proofs.Groups.{Flew, Meant, HoldsAt}
 use Rattle.lu_facts.proofs.Lines.{flew_whole}
 use Rattle.lu_facts.proofs.All.{holds}
 use Rattle.lu_facts.proofs.Sides.{sent_only}
-use Rattle.lu_guards.proofs.Lists.{self}
+use Rattle.lu_guards.proofs.Lists.{self, life_is}
 use Rattle.lu_facts.proofs.Asked.{AskedBy, flew_asked}
 
 -- ---- the least free tag isn't above the number of requests in flight
@@ -86,3 +89,19 @@ request_fits head past g n from t r s =
       tag = subst (λ v. v < head.flight) (ap (λ (v : RequestOf). v.tag) (sym m.2)) (flew_one head past g r.who.client m.0 flew);
       asked = subst (AskedBy past) (ap (λ (v : RequestOf). v.op) (sym m.2)) (flew_asked head past r.who.client m.0 g flew);
     }
+
+-- a request that waits has the tag of each that was sent of its life and number
+pub same_tag : (head : Head) (past : List Line) → Grown head past → (n : ℕ) (from : Node) (t : ℕ) (q r : RequestOf) → In q (server_of head.osts (only 0 past)).waiting → Sent past n from (Target t) (message.Request r) → same_request q r ≡ true → q.tag ≡ r.tag
+same_tag head past g n from t q r waits s e =
+    let p = and_parts (same_life q.who r.who) (nat_eq q.xid.0 r.xid.0) e in
+    let who : q.who ≡ r.who = life_is q.who r.who p.0 in
+    let xid : q.xid.0 ≡ r.xid.0 = eqb-true q.xid.0 r.xid.0 p.1 in
+    let old = (h.done.waits q waits).meant in
+    let new = h.done.sent from (Target t) (message.Request r) (sent_only head past n from (Target t) (message.Request r) g s) in
+    let xids : old.0.xid ≡ new.0.xid = ap (λ (v : RequestOf). v.xid.0) (sym old.2) ∙ xid ∙ ap (λ (v : RequestOf). v.xid.0) new.2 in
+    let flew = subst (λ (w : Who). Flew (only 0 past) w.client old.0) who old.1 in
+    let one = h.numbers.one r.who.client old.0 new.0 flew new.1 xids in
+    ap (λ (v : RequestOf). v.tag) old.2 ∙ ap (λ (f : Flight). f.tag) one ∙ ap (λ (v : RequestOf). v.tag) (sym new.2)
+  where
+    h : HoldsAt head (only 0 past)
+    h = (holds head past g).at 0

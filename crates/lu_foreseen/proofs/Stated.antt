@@ -1,8 +1,8 @@
 -- Each covered scenario is foreseen.
-use Rattle.std.proofs.Common.{◌≡◌, ℕ, ◌+◌, ◌<◌, true, false, List, [], ◌∷◌, Some, None, length, refl, sym, subst, ◌∙◌, arith}
-use Rattle.std.specs.Prelude.{ℤ, pos, negsuc}
+use Rattle.std.proofs.Common.{◌≡◌, ℕ, zero, suc, ◌+◌, ◌<◌, ◌≤◌, true, false, List, [], ◌∷◌, Some, None, length, inl, inr, refl, sym, subst, ◌∙◌, arith}
+use Rattle.std.specs.Prelude.{ℤ, pos, negsuc, All}
 use Rattle.std.proofs.lemmas.Bool.Decides.{nat_tests}
-use Rattle.std.proofs.lemmas.List.Elements.{All-nil}
+use Rattle.std.proofs.lemmas.List.Elements.{All-nil, All-cons}
 use Rattle.lu_base.specs.declared.ids.Node.{Node}
 use Rattle.lu_base.specs.declared.ids.Node.TheVariants.{Client, Target}
 use Rattle.lu_msg.specs.declared.calls.Call.{Call}
@@ -25,32 +25,28 @@ use Rattle.lu_words.specs.Sent.{Sent}
 use Rattle.lu_target_rows.specs.Locks.{same_request}
 use Rattle.lu_target_rows.specs.States.{is_serving}
 use Rattle.lu_table.specs.Heads.{Head}
-use Rattle.lu_table.specs.Runs.{target_of}
+use Rattle.lu_table.specs.Runs.{target_of, setting_of}
 use Rattle.lu_table.specs.Scenarios.{Config, Disks, head_of, past_of, is_full, is_down}
 use Rattle.lu_covered.specs.Calls.{operation_of}
-use Rattle.lu_covered.specs.TargetStates.{server_at}
-use Rattle.lu_covered.specs.Runs as few
-use Rattle.lu_guards.proofs.Guards.{Grown}
-use Rattle.lu_guards.proofs.Obey.{grown}
+use Rattle.lu_covered.specs.Heads as few
+use Rattle.lu_covered.specs.TargetStates.{server_of}
+use Rattle.lu_words.specs.Concerns.{only}
+use Rattle.lu_guards.proofs.Guards.{In, Grown}
+use Rattle.lu_guards.proofs.TargetAlike.{serving}
+use Rattle.lu_guards.proofs.Turns.{covered_head}
 use Rattle.lu_facts.proofs.Sides.{from_target, from_client}
 use Rattle.lu_facts.proofs.OnNames.{op_is}
-use Rattle.lu_facts.proofs.Finds.{needs_none}
 use Rattle.lu_after.proofs.Posts.{sent_at_is}
-use Rattle.lu_covering.specs.Covered.{covered_head}
-use Rattle.lu_covering.proofs.TargetAlike.{Alike}
-use Rattle.lu_covering.proofs.Small.{target_knows}
-use Rattle.lu_covering.proofs.Waiting.{none_waits}
-use Rattle.lu_covering.proofs.Whole.{few_turns, few_lines}
-use Rattle.lu_covered_scenes.specs.Covered.{IsCovered}
-use Rattle.lu_covered_scenes.proofs.Lines.{AllKnown, IsKnown, lines_known, called_fits, all_miss}
-use Rattle.lu_covered_scenes.proofs.Nodes.{to_client}
+use Rattle.lu_covered_scenes.specs.Covered.{IsCovered, ticks_of}
+use Rattle.lu_covered_scenes.proofs.Arrivals.{to_client}
+use Rattle.lu_covered_scenes.proofs.Lines.{AllKnown, IsKnown, lines_known, called_fits}
 use Rattle.lu_covered_scenes.proofs.Runs.{Follows, leads_follow}
+use Rattle.lu_covered_scenes.proofs.Targets.{Serves, serving_is}
+use Rattle.lu_covered_scenes.proofs.Turns.{Timely, NoneDue, past_grown, target_serves, comes_makes, names_due, others_due, tick_makes}
 use Rattle.lu_nodes.specs.Foreseen.{MayHave, IsForeseen, IsTickForeseen}
 use Rattle.lu_foreseen.specs.Scenes.{next_stamp, IsOpen, IsCommand, AllForeseen}
-use Rattle.lu_foreseen.proofs.Asked.{Fitting, request_fits}
+use Rattle.lu_foreseen.proofs.Asked.{Fitting, request_fits, same_tag}
 use Rattle.lu_foreseen.proofs.Answered.{comes}
-use Rattle.lu_foreseen.proofs.Numbers.{MayBe, numbered}
-use Rattle.lu_foreseen.proofs.Ticks.{ticks_few}
 
 -- what a call that keeps the limits becomes is of the metadata target's service
 count_takes : (count : ℤ) → IsCount count → Counts count
@@ -72,6 +68,10 @@ names_take (call.Rename old new) o e fits = subst (Takes Mdt) (op_is (op.Rename 
 names_take (call.Chmod path mode) o e fits = subst (Takes Mdt) (op_is (op.Chmod path mode) o e) tt
 names_take k o e fits = absurd (cc)
 
+all_of : {A : Type 0} (P : A → Type 0) (xs : List A) → ((x : A) → In x xs → P x) → All P xs
+all_of P [] so = All-nil P
+all_of P (x ∷ xs) so = All-cons P x xs (so x (inl refl)) (all_of P xs (λ y i. so y (inr i)))
+
 has_room : (c : Config) → is_full c ≡ false → length c.turns < 65536
 has_room c free = grind (arith, nat_tests)
 
@@ -92,77 +92,65 @@ module _ (scene : Scene) (covered : IsCovered scene) (disks : Disks) (c : Config
   room = has_room c is.room
 
   g : Grown h past
-  g = subst (Grown h) (few_lines head c.turns) (grown h (few_turns head c.turns) f.sound.run)
+  g = past_grown scene covered c f.sound
 
-  knows : Alike head.clients (target_of head 0 past) (server_at head.osts 0 past)
-  knows = target_knows head 0 past g
+  serves_at : (t : ℕ) → Serves head.clients (target_of head t past)
+  serves_at t = target_serves scene covered c f.sound t
 
   -- ---- a message to the metadata target
 
-  queue_none : (target_of head 0 past).queue ≡ []
-  queue_none =
-      let none = none_waits h (few_turns head c.turns) f.sound.run in
-      knows.queue ∙ subst (λ (p : List Line). (server_at head.osts 0 p).waiting ≡ []) (few_lines head c.turns) none
-
-  may_have : (n from : ℕ) (m : Message) → Sent past n (Client from) (Target 0) m → MayHave m (target_of head 0 past)
+  may_have : (n : ℕ) (from : Node) (m : Message) → Sent past n from (Target 0) m → MayHave m (target_of head 0 past)
   may_have n from (message.Request r) sent =
-      let fits : Fitting h past r = request_fits h past g n (Client from) 0 r sent in
+      let fits : Fitting h past r = request_fits h past g n from 0 r sent in
       let most = covered.limits.head.most_flight in
       let tag = fits.tag in
       let asked = fits.asked in
-      let within = called_fits scene scene.lines (lines_known scene covered) asked.0 (f.begun asked.0 asked.1) in
-      (omega arith, names_take asked.0 r.op asked.2 within, rw queue_none (All-nil (λ (q : RequestOf). same_request q r ≡ true → q.tag ≡ r.tag)))
+      let within = called_fits scene scene.lines (lines_known scene covered) asked.0 (f.sound.begun asked.0 asked.1) in
+      let queue : (target_of head 0 past).queue ≡ (server_of head.osts (only 0 past)).waiting = (serving h head.clients (setting_of head 0) refl past g).alike.queue in (
+        omega arith,
+        names_take asked.0 r.op asked.2 within,
+        subst (All (λ (q : RequestOf). same_request q r ≡ true → q.tag ≡ r.tag)) (sym queue)
+            (all_of (λ (q : RequestOf). same_request q r ≡ true → q.tag ≡ r.tag) (server_of head.osts (only 0 past)).waiting (λ q i e. same_tag h past g n from 0 q r i sent e)),
+      )
   may_have n from _ sent = tt
-
-  may_reach : (n from : ℕ) (m : Message) → Sent past n (Client from) (Target 0) m → MayBe head (length c.turns + 1) (few.Comes n (Client from) m) past
-  may_reach n from m sent =
-      let counted = f.sound.counted in
-      let few_turns_made = room in
-      record {
-        names = refl;
-        numbers = λ makes. omega arith;
-        sent = sent;
-        lock = needs_none h past g 0 from n m sent (all_miss scene covered past f.begun);
-      }
 
   abbrev message_to : Node → Node → SentMessage → SentMessage
   message_to from to m = record { number = m.number; stamp = m.stamp; from = from; to = to; message = m.message }
 
-  to_names : (n from : ℕ) (m : SentMessage) → Sent past n (Client from) (Target 0) m.message → IsForeseen head past (next_stamp c) (message_to (Client from) (Target 0) m)
-  to_names n from m sent =
-      let serves : is_serving (target_of head 0 past) ≡ true = rw (knows.closed, knows.boot) refl in
-      (omega arith, knows.up, serves, may_have n from m.message sent, numbered head c.turns (few.Comes n (Client from) m.message) f.sound.run f.sound.stamped (may_reach n from m.message sent))
+  to_names : (n : ℕ) (m : SentMessage) → Sent past n m.from (Target 0) m.message → IsForeseen head past (next_stamp c) (message_to m.from (Target 0) m)
+  to_names n m sent =
+      let s = serves_at 0 in
+      (omega arith, s.up, serving_is head.clients (target_of head 0 past) s, may_have n m.from m.message sent, (comes_makes scene covered c n m.from m.message f.sound sent room).numbers)
 
   -- ---- all messages
 
   messages : (n : ℕ) (m : SentMessage) → sent_at c.posts n ≡ Some m → is_down head disks m.to past ≡ false → IsForeseen head past (next_stamp c) m
-  messages n m e up = by m.to (sent_at_is past c.posts n m f.sound.sent e)
+  messages n m e up = by m.to (sent_at_is past c.posts n m f.sound.table.posts e)
     where
       by : (node : Node) → Sent past n m.from node m.message → IsForeseen head past (next_stamp c) (message_to m.from node m)
       by (Client who) sent =
           let from = from_target h past n who m.from m.message g sent in
-          (to_client h past g n who m.from m.message sent, (0, from), comes head past g n who m.from m.message from sent)
+          (to_client h past g n who m.from m.message sent, (0, from), comes head past f.sound.covered g who n m.from m.message from sent)
       by (Target t) sent =
-          let from = from_client h past n t m.from m.message g sent in
-          let asked = subst (λ (v : Node). Sent past n v (Target t) m.message) from.1.1 sent in
-          subst (λ (v : Node). IsForeseen head past (next_stamp c) (message_to v (Target t) m)) (sym from.1.1)
-          (subst (λ (u : ℕ). Sent past n (Client from.1.0) (Target u) m.message → IsForeseen head past (next_stamp c) (message_to (Client from.1.0) (Target u) m)) (sym from.0) (to_names n from.1.0 m) asked)
+          let zero_is = (from_client h past n t m.from m.message g sent).0 in
+          subst (λ (u : ℕ). Sent past n m.from (Target u) m.message → IsForeseen head past (next_stamp c) (message_to m.from (Target u) m)) (sym zero_is) (to_names n m) sent
 
   -- ---- lines
 
-  line_known : (line : SceneLine) (rest : List SceneLine) → c.lines ≡ line ∷ rest → IsKnown scene.lines scene.head.clients line
+  line_known : (line : SceneLine) (rest : List SceneLine) → c.lines ≡ line ∷ rest → IsKnown scene.lines scene.head.clients scene.head.osts line
   line_known line rest e = (subst (AllKnown scene) e f.lines).0
 
-  tick : IsTickForeseen head past (next_stamp c) 0
-  tick =
-      let low = ticks_few head c.turns f.sound.run in
+  tick : (t : ℕ) → t ≤ head.osts → NoneDue scene covered c t → IsTickForeseen head past (next_stamp c) t
+  tick t one none =
+      let low = f.sound.ticks t in
       let few_turns_made = room in
-      (λ all. omega arith, numbered head c.turns few.Ticks f.sound.run f.sound.stamped (omega arith))
+      (λ all. omega arith, (tick_makes scene covered c t f.sound none room one).numbers)
 
   ticks : (t : ℕ) (rest : List SceneLine) → c.lines ≡ Tick (Target t) ∷ rest → IsTickForeseen head past (next_stamp c) t
-  ticks t rest e = subst (IsTickForeseen head past (next_stamp c)) (sym (line_known (Tick (Target t)) rest e)) tick
+  ticks zero rest e = tick 0 (line_known (Tick (Target 0)) rest e) (names_due scene covered c (ticks_of rest) f.sound (subst (λ (lines : List SceneLine). Timely scene (ticks_of lines) past) e f.time))
+  ticks (suc t) rest e = tick (suc t) (line_known (Tick (Target (suc t))) rest e) (others_due scene covered c (suc t) f.sound (λ q. absurd (cc)))
 
-  no_command : (line : SceneLine) → IsKnown scene.lines scene.head.clients line → IsCommand line → ⊥
+  no_command : (line : SceneLine) → IsKnown scene.lines scene.head.clients scene.head.osts line → IsCommand line → ⊥
   no_command (Commit t) known is = absurd known
   no_command (CommitSome t count) known is = absurd known
   no_command (Crash t) known is = absurd known

@@ -1,63 +1,117 @@
--- Each row makes allowed lines, so every run is grown.
-use Rattle.std.proofs.Common.{◌≡◌, ℕ, Bool, true, false, List, [], ◌∷◌, inl, inr, refl, sym, subst}
-use Rattle.std.specs.Prelude.{if◌then◌else◌}
-use Rattle.std.proofs.lemmas.Bool.{cond-true}
+-- Each covered run of the table makes lines that are allowed, one after another; after each turn nothing is owed, and between its turns
+-- each call of a client waits for its reply, and none of its held locks is pinned or marked.
+use Rattle.std.proofs.Common.{◌≡◌, ℕ, Bool, true, false, List, [], ◌∷◌, inl, inr, None, refl, sym, subst, ap, ◌∙◌}
+use Rattle.std.specs.Prelude.{nat_eq}
+use Rattle.std.proofs.lemmas.Bool.{eqb-true}
 use Rattle.lu_base.specs.declared.ids.At.{At}
-use Rattle.lu_words.specs.Words.{Entry, Line, line, with_turn, turn_before}
-use Rattle.lu_words.specs.Concerns.{concerns, only, about}
-use Rattle.lu_covered.specs.Runs.{Head, row, Turn, lines_of, Follows, IsRun}
-use Rattle.lu_guards.proofs.Guards.{Later, Steps, EntryOf, Grown}
-use Rattle.lu_guards.proofs.Lists.{turn_trans}
-use Rattle.lu_guards.proofs.ObeyWhole.{AllOk, row_ok}
-use Rattle.lu_guards.proofs.ObeyOne.{AllOf, row_of}
-use Rattle.lu_guards.proofs.Owed.{Settled, AllPaid, settled_after, row_paid}
+use Rattle.lu_base.specs.declared.ids.Node.{Node}
+use Rattle.lu_base.specs.declared.ids.Node.TheVariants.{Client, Target}
+use Rattle.lu_base.specs.declared.ids.Stamp.{Stamp}
+use Rattle.lu_held.specs.declared.locks.HeldLock.{HeldLock}
+use Rattle.lu_words.specs.Words.{Entry, Line, line, with_turn, is_client}
+use Rattle.lu_words.specs.Fields.{on, at_client}
+use Rattle.lu_target_rows.specs.Disks.{row_start}
+use Rattle.lu_client_rows.specs.Caches.{reads_held, held_after}
+use Rattle.lu_client_rows.specs.Rows as client
+use Rattle.lu_covered.specs.Calls.{reads_call, call_after}
+use Rattle.lu_covered.specs.Covered.{AllCovered}
+use Rattle.lu_covered.specs.Heads.{IsAlive}
+use Rattle.lu_table.specs.Heads as table
+use Rattle.lu_table.specs.Runs as table_runs
+use Rattle.lu_table.specs.Runs.{limits_of, client_of, row, MeetsClient, IsRow, Turn, lines_of, IsRun}
+use Rattle.lu_guards.proofs.Guards.{In, Later, Grown}
+use Rattle.lu_guards.proofs.Lists.{turn}
+use Rattle.lu_guards.proofs.Turns.{covered_head, Settled, settled_after, turn_grows, run_later}
+use Rattle.lu_guards.proofs.Covers.{covered_turn, over_none}
+use Rattle.lu_guards.proofs.ClientLines.{on_other}
+use Rattle.lu_guards.proofs.ClientRests.{Idle, Between}
+use Rattle.lu_guards.proofs.ClientTurns.{client_ok}
+use Rattle.lu_guards.proofs.TargetTurns.{of_target, target_ok}
 
--- what is allowed over the whole past, and at each target
-turn_grows : (head : Head) (at : At) (es : List Entry) (past : List Line) → Grown head past → Steps past at → AllPaid past at es → AllOk head past at es → ((t : ℕ) → AllOf head (only t past) at (about t at.node es)) → Grown head (with_turn at es past)
-turn_grows head at [] past g s p a b = g
-turn_grows head at (e ∷ es) past g s p a b = turn_grows head at es (line at e ∷ past) (record { steps = s; lives = a.0; owes = p.0; ok = a.1; of = first }, g) (inl refl) p.1 a.2 (λ t. more t (concerns t at.node e) (b t))
+-- ---- a turn of another node leaves a client as it is
+
+field_other : {A : Type 0} (reads : Entry → Bool) (after : A → Entry → A) (start : A) (c : ℕ) (at : At) (es : List Entry) (past : List Line) → is_client c at.node ≡ false
+    → at_client reads after start c (with_turn at es past) ≡ at_client reads after start c past
+field_other reads after start c at [] past other = refl
+field_other {A} reads after start c at (e ∷ es) past other =
+    let X : A = at_client reads after start c past in
+    field_other reads after start c at es (line at e ∷ past) other ∙ ap (λ (own : Bool). on (reads e) own (after X e) X) other ∙ on_other (reads e) (after X e) X
+
+between_other : (c : ℕ) (at : At) (es : List Entry) (past : List Line) → is_client c at.node ≡ false → Between c past → Between c (with_turn at es past)
+between_other c at es past other b =
+    record {
+      idle = λ slot. subst Idle (sym (field_other reads_call (call_after slot) None c at es past other)) (b.idle slot);
+      held = subst (λ (hs : List HeldLock). (x : HeldLock) → In x hs → (x.marked ≡ false) × (x.pins ≡ 0)) (sym (field_other reads_held held_after [] c at es past other)) b.held;
+    }
+
+-- ---- one turn
+
+-- what holds between turns
+pub record Stands (head : table.Head) (past : List Line) : Type 0 where
+  pub grown : Grown (covered_head head) past
+  pub settled : Settled past
+  pub between : (c : ℕ) → Between c past
+
+lives : (head : table.Head) (past : List Line) (c : ℕ) (event : client.Event) → MeetsClient head past c event → IsAlive (covered_head head) past c
+lives head past c (client.Begins slot wanted) m = record { one = m.0.one; alive = m.0.alive }
+lives head past c (client.Comes n from message) m = record { one = m.0.one; alive = m.0.alive }
+lives head past c client.Ticks m = record { one = m.one; alive = m.alive }
+lives head past c client.Dies m = record { one = m.one; alive = m.alive }
+
+client_stands : (head : table.Head) (past : List Line) (stamp : Stamp) (c : ℕ) (event : client.Event) → Stands head past → Later past (turn stamp (Client c)) → MeetsClient head past c event
+    → AllCovered (with_turn (turn stamp (Client c)) (client.row (limits_of head) (turn stamp (Client c)) event (client_of head c past)) past)
+    → Stands head (with_turn (turn stamp (Client c)) (client.row (limits_of head) (turn stamp (Client c)) event (client_of head c past)) past)
+client_stands head past stamp c event s later meets covered =
+    let alive = lives head past c event meets in
+    let closed = client_ok head c stamp past event (record { grown = s.grown; covered = (covered_turn at es past covered).1; settled = s.settled; later = later; alive = alive; between = s.between c }) meets covered in
+    record { grown = closed.grown; settled = closed.settled; between = λ d. by d (nat_eq d c) refl closed.between }
   where
-    first : (t : ℕ) → concerns t at.node e ≡ true → EntryOf head (only t past) at at.node e
-    first t q = (subst (λ (fs : List Entry). AllOf head (only t past) at fs) (cond-true (concerns t at.node e) (e ∷ about t at.node es) (about t at.node es) q) (b t)).0
+    at : At
+    at = turn stamp (Client c)
 
-    more : (t : ℕ) (c : Bool) → AllOf head (only t past) at (if c then e ∷ about t at.node es else about t at.node es) → AllOf head (if c then line at e ∷ only t past else only t past) at (about t at.node es)
-    more t true h = h.1
-    more t false h = h
+    es : List Entry
+    es = client.row (limits_of head) at event (client_of head c past)
 
--- the first line of a turn
-steps_after : (past : List Line) (at : At) → Later past at → Steps past at
-steps_after [] at l = tt
-steps_after (x ∷ past) at l = inr l
+    by : (d : ℕ) (b : Bool) → nat_eq d c ≡ b → Between c (with_turn at es past) → Between d (with_turn at es past)
+    by d true e k = subst (λ (u : ℕ). Between u (with_turn at es past)) (sym (eqb-true d c e)) k
+    by d false e k = between_other d at es past e (s.between d)
 
--- where a turn's lines were put on, the newest turn is that one, or that of the past
-turn_later : (past : List Line) (at next : At) (es : List Entry) → Later past next → turn_before at next ≡ true → Later (with_turn at es past) next
-turn_later past at next [] l b = l
-turn_later past at next (e ∷ es) l b = turn_later (line at e ∷ past) at next es b b
+row_stands : (head : table.Head) (past : List Line) (stamp : Stamp) (node : Node) (es : List Entry) → Stands head past → Later past (turn stamp node) → IsRow head past (turn stamp node) es → AllCovered (with_turn (turn stamp node) es past)
+    → Stands head (with_turn (turn stamp node) es past)
+row_stands head past stamp (Client c) es s later r covered =
+    let at = turn stamp (Client c) in
+    let fs = client.row (limits_of head) at r.event (client_of head c past) in
+    let whole = subst (λ (gs : List Entry). AllCovered (with_turn at gs past)) r.is covered in
+    let all : es ≡ fs = r.is ∙ over_none r.fails fs (covered_turn at (row head past at r.event r.fails) past whole).0 in
+    subst (λ (gs : List Entry). Stands head (with_turn at gs past)) (sym all) (client_stands head past stamp c r.event s later r.meets (subst (λ (gs : List Entry). AllCovered (with_turn at gs past)) all covered))
+row_stands head past stamp (Target t) es s later r covered =
+    let at = turn stamp (Target t) in
+    let fs = of_target head past stamp t r.event r.fails in
+    let ok = target_ok head past stamp t r.event r.fails s.grown s.settled later r.meets r.numbers (subst (λ (gs : List Entry). AllCovered (with_turn at gs past)) r.is covered) in
+    subst (λ (gs : List Entry). Stands head (with_turn at gs past)) (sym r.is) (record {
+      grown = turn_grows (covered_head head) past at fs s.grown later ok;
+      settled = settled_after past at fs ok.paid;
+      between = λ c. between_other c at fs past refl (s.between c);
+    })
 
-follows : (turns : List Turn) (at next : At) → Follows turns at → turn_before at next ≡ true → Follows turns next
-follows [] at next f b = tt
-follows (t ∷ turns) at next f b = turn_trans t.at at next f b
+-- ---- runs
 
--- a turn that follows the newest one of a run follows all
-pub run_later : (head : Head) (turns : List Turn) (next : At) → IsRun head turns → Follows turns next → Later (lines_of turns) next
-run_later head [] next run f = tt
-run_later head (turn ∷ turns) next run f = turn_later (lines_of turns) turn.at next turn.entries (run_later head turns next run.2 (follows turns turn.at next run.0 f)) f
+pub stands : (head : table.Head) (turns : List Turn) → IsRun head turns → AllCovered (lines_of turns) → Stands head (lines_of turns)
+stands head [] run covered = record { grown = tt; settled = tt; between = λ c. record { idle = λ slot. tt; held = λ x i. absurd i } }
+stands head (t ∷ turns) run covered = by run.1 (stands head turns run.2 (covered_turn t.at t.entries (lines_of turns) covered).1)
+  where
+    by : table_runs.IsTurn head turns t → Stands head (lines_of turns) → Stands head (lines_of (t ∷ turns))
+    by (inl r) s = row_stands head (lines_of turns) t.at.stamp t.at.node t.entries s (run_later head turns t.at run.2 run.0) r covered
+    by (inr f) s = absurd (fails (subst (λ (es : List Entry). AllCovered (with_turn t.at es (lines_of turns))) f.is covered))
+      where
+        fails : AllCovered (with_turn t.at (row_start true) (lines_of turns)) → ⊥
+        fails k = k.0
 
--- a run is grown, and after its last turn nothing is owed
-grown_settled : (head : Head) (turns : List Turn) → IsRun head turns → Grown head (lines_of turns) × Settled (lines_of turns)
-grown_settled head [] run = (tt, tt)
-grown_settled head (turn ∷ turns) run =
-    let past = lines_of turns in
-    let at = turn.at in
-    let r = row head past at at.node run.1.event in
-    let k = grown_settled head turns run.2 in
-    let later = run_later head turns at run.2 run.0 in
-    let ok = row_ok head past at.stamp at.node run.1.event k.0 later run.1.meets in
-    let paid = row_paid head past at.stamp at.node run.1.event k.1 run.1.meets ok in
-    subst (λ (es : List Entry). Grown head (with_turn at es past) × Settled (with_turn at es past)) (sym run.1.is) (
-      turn_grows head at r past k.0 (steps_after past at later) paid ok (λ t. row_of head past at.stamp at.node run.1.event run.1.meets t),
-      settled_after past at r paid,
-    )
+pub grown : (head : table.Head) (turns : List Turn) → IsRun head turns → AllCovered (lines_of turns) → Grown (covered_head head) (lines_of turns)
+grown head turns run covered = (stands head turns run covered).grown
 
-pub grown : (head : Head) (turns : List Turn) → IsRun head turns → Grown head (lines_of turns)
-grown head turns run = (grown_settled head turns run).0
+pub settled : (head : table.Head) (turns : List Turn) → IsRun head turns → AllCovered (lines_of turns) → Settled (lines_of turns)
+settled head turns run covered = (stands head turns run covered).settled
+
+pub between : (head : table.Head) (turns : List Turn) → IsRun head turns → AllCovered (lines_of turns) → (c : ℕ) → Between c (lines_of turns)
+between head turns run covered c = (stands head turns run covered).between c

@@ -6,11 +6,11 @@ use Rattle.lu_base.specs.declared.ids.At.{At}
 use Rattle.lu_base.specs.declared.ids.Node.{Node}
 use Rattle.lu_base.specs.declared.ids.Node.TheVariants.{Client, Target}
 use Rattle.lu_msg.specs.declared.messages.Message.{Message}
-use Rattle.lu_words.specs.Words.{Entry, Send, Line, line, with_turn}
+use Rattle.lu_words.specs.Words.{Entry, Send, Heard, Hold, Line, line, with_turn}
 use Rattle.lu_words.specs.Concerns.{concerns, only, about}
 use Rattle.lu_words.specs.Sent.{Sent}
-use Rattle.lu_covered.specs.Runs.{Head}
-use Rattle.lu_guards.proofs.Guards.{Was, Grown, GrownOf}
+use Rattle.lu_covered.specs.Heads.{Head}
+use Rattle.lu_guards.proofs.Guards.{Was, EntryOk, Grown, IsOfFirst, GrownOf}
 use Rattle.lu_guards.proofs.Lists.{self}
 
 -- ---- a turn
@@ -145,10 +145,17 @@ told_by_target past n t to m s = was_only t past (Target t) to m (self t) (sent_
 
 -- ---- each line of one target's story is allowed there
 
+of_first : (past : List Line) (at : At) (node : Node) (e : Entry) → EntryOk past at node e → IsOfFirst e
+of_first past at (Client c) (Heard t f r) ok = ok.0
+of_first past at (Client c) (Hold t lock marked size seen) ok = ok.names
+of_first past at (Target u) (Heard t f r) ok = absurd ok
+of_first past at (Target u) (Hold t lock marked size seen) ok = absurd ok
+of_first past at node e ok = tt
+
 pub grown_of : (head : Head) (t : ℕ) (past : List Line) → Grown head past → GrownOf head (only t past)
 grown_of head t [] g = tt
 grown_of head t (l ∷ past) g = by (concerns t l.at.node l.entry) refl (grown_of head t past g.1)
   where
     by : (b : Bool) → concerns t l.at.node l.entry ≡ b → GrownOf head (only t past) → GrownOf head (if b then l ∷ only t past else only t past)
-    by true q h = (g.0.of t q, h)
+    by true q h = (g.0.of t q, of_first past l.at l.at.node l.entry g.0.ok, h)
     by false q h = h

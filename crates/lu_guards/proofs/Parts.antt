@@ -9,15 +9,16 @@ use Rattle.lu_base.specs.declared.ids.Txn.{Txn as TxnOf}
 use Rattle.lu_base.specs.declared.ids.Who.{Who}
 use Rattle.lu_msg.specs.declared.messages.Request.{Request as RequestOf}
 use Rattle.lu_machine.specs.Tree.{Tree}
-use Rattle.lu_words.specs.Carried.{Deed, Slot, Queued, Flight}
-use Rattle.lu_words.specs.Words.{Entry, Heard, Life, Queues, Flies, Knows, Act, Txn, Commit, Boot, Enters, Line, line, is_client, is_target}
+use Rattle.lu_words.specs.Carried.{Deed, Slot, Called}
+use Rattle.lu_words.specs.Words.{Entry, Heard, Life, Queues, Flies, Knows, Act, Txn, Commit, Boot, Enters, Block, Release, Line, line, is_client, is_target}
 use Rattle.lu_words.specs.Concerns.{is_about, concerns, only}
 use Rattle.lu_words.specs.Fields.{on, at_target, at_import}
-use Rattle.lu_covered.specs.TargetParts.{reads_boot, boot_after, reads_count, count_after, reads_committed, committed_after, reads_tree, tree_after, reads_log, log_after, reads_waiting, waiting_after, no_slot, reads_slot, slot_after}
-use Rattle.lu_covered.specs.TargetStates.{Server, boot_at, count_at, committed_at, tree_at, log_at, waiting_at, slot_at, server_at, server_after, server_of, slot_of}
+use Rattle.lu_base.specs.declared.locks.Lock.{Lock}
+use Rattle.lu_covered.specs.TargetParts.{reads_granted, granted_after, reads_cookie, cookie_after, reads_called, called_after, reads_boot, boot_after, reads_count, count_after, reads_committed, committed_after, reads_tree, tree_after, reads_log, log_after, reads_waiting, waiting_after, no_slot, reads_slot, slot_after}
+use Rattle.lu_covered.specs.TargetStates.{Server, boot_at, count_at, committed_at, tree_at, log_at, waiting_at, granted_at, cookie_at, called_at, slot_at, server_at, server_after, server_of, slot_of}
 use Rattle.lu_covered.specs.Calls.{reads_life, life_after, life_at}
 use Rattle.lu_covered.specs.Imports.{reads_queue, queue_after, queue_at, reads_flights, flights_after, flights_at, reads_last, last_after, last_at, reads_known, known_after, known_at}
-use Rattle.lu_covered.specs.ClientStates.{Asker, asker_at, queue_of, flights_of, last_of, known_of, life_of}
+use Rattle.lu_covered.specs.ClientStates.{queue_of, flights_of, last_of, known_of, life_of}
 use Rattle.lu_guards.proofs.Lists.{turn}
 
 -- ---- a field of a target
@@ -146,6 +147,43 @@ waiting_part osts = record { steps = steps; stays = stays }
     stays v (Txn d) r = absurd (cc)
     stays v e r = refl
 
+granted_part : (osts : ℕ) → ServerPart osts reads_granted granted_after (λ v. v.granted)
+granted_part osts = record { steps = steps; stays = stays }
+  where
+    steps : (v : Server) (e : Entry) → reads_granted e ≡ true → granted_after v.granted e ≡ (server_after osts v e).granted
+    steps v (Act d) r = refl
+    steps v (Release l) r = refl
+    steps v e r = absurd (cc)
+
+    stays : (v : Server) (e : Entry) → reads_granted e ≡ false → v.granted ≡ (server_after osts v e).granted
+    stays v (Act d) r = absurd (cc)
+    stays v (Release l) r = absurd (cc)
+    stays v e r = refl
+
+cookie_part : (osts : ℕ) → ServerPart osts reads_cookie cookie_after (λ v. v.cookie)
+cookie_part osts = record { steps = steps; stays = stays }
+  where
+    steps : (v : Server) (e : Entry) → reads_cookie e ≡ true → cookie_after v.cookie e ≡ (server_after osts v e).cookie
+    steps v (Act d) r = refl
+    steps v e r = absurd (cc)
+
+    stays : (v : Server) (e : Entry) → reads_cookie e ≡ false → v.cookie ≡ (server_after osts v e).cookie
+    stays v (Act d) r = absurd (cc)
+    stays v e r = refl
+
+called_part : (osts : ℕ) → ServerPart osts reads_called called_after (λ v. v.called)
+called_part osts = record { steps = steps; stays = stays }
+  where
+    steps : (v : Server) (e : Entry) → reads_called e ≡ true → called_after v.called e ≡ (server_after osts v e).called
+    steps v (Block c) r = refl
+    steps v (Release l) r = refl
+    steps v e r = absurd (cc)
+
+    stays : (v : Server) (e : Entry) → reads_called e ≡ false → v.called ≡ (server_after osts v e).called
+    stays v (Block c) r = absurd (cc)
+    stays v (Release l) r = absurd (cc)
+    stays v e r = refl
+
 pub boot_is : (osts t : ℕ) (past : List Line) → boot_at t past ≡ (server_of osts (only t past)).boot
 boot_is osts t past = part_is osts reads_boot boot_after (λ v. v.boot) (boot_part osts) t past
 
@@ -164,21 +202,34 @@ log_is osts t past = part_is osts reads_log log_after (λ v. v.log) (log_part os
 pub waiting_is : (osts t : ℕ) (past : List Line) → waiting_at t past ≡ (server_of osts (only t past)).waiting
 waiting_is osts t past = part_is osts reads_waiting waiting_after (λ v. v.waiting) (waiting_part osts) t past
 
+pub granted_is : (osts t : ℕ) (past : List Line) → granted_at t past ≡ (server_of osts (only t past)).granted
+granted_is osts t past = part_is osts reads_granted granted_after (λ v. v.granted) (granted_part osts) t past
+
+pub cookie_is : (osts t : ℕ) (past : List Line) → cookie_at t past ≡ (server_of osts (only t past)).cookie
+cookie_is osts t past = part_is osts reads_cookie cookie_after (λ v. v.cookie) (cookie_part osts) t past
+
+pub called_is : (osts t : ℕ) (past : List Line) → called_at t past ≡ (server_of osts (only t past)).called
+called_is osts t past = part_is osts reads_called called_after (λ v. v.called) (called_part osts) t past
+
 -- all parts together
 pub server_is : (osts t : ℕ) (past : List Line) → server_at osts t past ≡ server_of osts (only t past)
-server_is osts t past = whole (boot_is osts t past) (count_is osts t past) (committed_is osts t past) (tree_is osts t past) (log_is osts t past) (waiting_is osts t past)
+server_is osts t past = whole (boot_is osts t past) (count_is osts t past) (committed_is osts t past) (tree_is osts t past) (log_is osts t past) (waiting_is osts t past) (granted_is osts t past) (cookie_is osts t past) (called_is osts t past)
   where
     V : Server
     V = server_of osts (only t past)
 
-    whole : {b n : ℕ} {m : TxnOf} {r : Tree} {l : List Deed} {w : List RequestOf} → b ≡ V.boot → n ≡ V.count → m ≡ V.committed → r ≡ V.tree → l ≡ V.log → w ≡ V.waiting → ◌≡◌ {A = Server} (record { boot = b; count = n; committed = m; tree = r; log = l; waiting = w }) V
-    whole {b} {n} {m} {r} {l} {w} eb en em er el ew =
-        ap (λ (x : ℕ). record { boot = x; count = n; committed = m; tree = r; log = l; waiting = w }) eb
-        ∙ ap (λ (x : ℕ). record { boot = V.boot; count = x; committed = m; tree = r; log = l; waiting = w }) en
-        ∙ ap (λ (x : TxnOf). record { boot = V.boot; count = V.count; committed = x; tree = r; log = l; waiting = w }) em
-        ∙ ap (λ (x : Tree). record { boot = V.boot; count = V.count; committed = V.committed; tree = x; log = l; waiting = w }) er
-        ∙ ap (λ (x : List Deed). record { boot = V.boot; count = V.count; committed = V.committed; tree = V.tree; log = x; waiting = w }) el
-        ∙ ap (λ (x : List RequestOf). record { boot = V.boot; count = V.count; committed = V.committed; tree = V.tree; log = V.log; waiting = x }) ew
+    whole : {b : ℕ} {n : ℕ} {m : TxnOf} {r : Tree} {l : List Deed} {w : List RequestOf} {g : List Lock} {k : ℕ} {c : List Called} → b ≡ V.boot → n ≡ V.count → m ≡ V.committed → r ≡ V.tree → l ≡ V.log → w ≡ V.waiting → g ≡ V.granted → k ≡ V.cookie → c ≡ V.called
+        → ◌≡◌ {A = Server} (record { boot = b; count = n; committed = m; tree = r; log = l; waiting = w; granted = g; cookie = k; called = c }) V
+    whole {b} {n} {m} {r} {l} {w} {g} {k} {c} eb en em er el ew eg ek ec =
+        ap (λ (x : ℕ). record { boot = x; count = n; committed = m; tree = r; log = l; waiting = w; granted = g; cookie = k; called = c }) eb
+        ∙ ap (λ (x : ℕ). record { boot = V.boot; count = x; committed = m; tree = r; log = l; waiting = w; granted = g; cookie = k; called = c }) en
+        ∙ ap (λ (x : TxnOf). record { boot = V.boot; count = V.count; committed = x; tree = r; log = l; waiting = w; granted = g; cookie = k; called = c }) em
+        ∙ ap (λ (x : Tree). record { boot = V.boot; count = V.count; committed = V.committed; tree = x; log = l; waiting = w; granted = g; cookie = k; called = c }) er
+        ∙ ap (λ (x : List Deed). record { boot = V.boot; count = V.count; committed = V.committed; tree = V.tree; log = x; waiting = w; granted = g; cookie = k; called = c }) el
+        ∙ ap (λ (x : List RequestOf). record { boot = V.boot; count = V.count; committed = V.committed; tree = V.tree; log = V.log; waiting = x; granted = g; cookie = k; called = c }) ew
+        ∙ ap (λ (x : List Lock). record { boot = V.boot; count = V.count; committed = V.committed; tree = V.tree; log = V.log; waiting = V.waiting; granted = x; cookie = k; called = c }) eg
+        ∙ ap (λ (x : ℕ). record { boot = V.boot; count = V.count; committed = V.committed; tree = V.tree; log = V.log; waiting = V.waiting; granted = V.granted; cookie = x; called = c }) ek
+        ∙ ap (λ (x : List Called). record { boot = V.boot; count = V.count; committed = V.committed; tree = V.tree; log = V.log; waiting = V.waiting; granted = V.granted; cookie = V.cookie; called = x }) ec
 
 -- ---- a field that a client has for each target
 
@@ -283,17 +334,3 @@ life_is_of c t (l ∷ past) = by l.at.node l.entry (life_is_of c t past)
     by (Client d) (Life who) ih = own d who (nat_eq c d) refl ih
     by (Target u) (Life who) ih = quiet (Target u) (Life who) (nat_eq t u) ih refl
     by node e ih = quiet node e (concerns t node e) ih refl
-
--- all that a client asks of a target
-pub asker_is : (limit c t : ℕ) (past : List Line)
-    → asker_at limit c t past ≡ record { who = life_of c (only t past); limit = limit; target = t; boot = known_of c (only t past); last = last_of c (only t past); queue = queue_of c (only t past); flights = flights_of c (only t past) }
-asker_is limit c t past = whole (life_is_of c t past) (known_is c t past) (last_is c t past) (queue_is c t past) (flights_is c t past)
-  where
-    whole : {w v : Who} {b d l m : ℕ} {q r : List Queued} {f g : List Flight} → w ≡ v → b ≡ d → l ≡ m → q ≡ r → f ≡ g
-        → ◌≡◌ {A = Asker} (record { who = w; limit = limit; target = t; boot = b; last = l; queue = q; flights = f }) (record { who = v; limit = limit; target = t; boot = d; last = m; queue = r; flights = g })
-    whole {w} {v} {b} {d} {l} {m} {q} {r} {f} {g} ew eb el eq ef =
-        ap (λ (x : Who). record { who = x; limit = limit; target = t; boot = b; last = l; queue = q; flights = f }) ew
-        ∙ ap (λ (x : ℕ). record { who = v; limit = limit; target = t; boot = x; last = l; queue = q; flights = f }) eb
-        ∙ ap (λ (x : ℕ). record { who = v; limit = limit; target = t; boot = d; last = x; queue = q; flights = f }) el
-        ∙ ap (λ (x : List Queued). record { who = v; limit = limit; target = t; boot = d; last = m; queue = x; flights = f }) eq
-        ∙ ap (λ (x : List Flight). record { who = v; limit = limit; target = t; boot = d; last = m; queue = r; flights = x }) ef

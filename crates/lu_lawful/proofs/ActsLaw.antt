@@ -15,12 +15,12 @@ use Rattle.lu_words.specs.Words.{Entry, Heard, Told, Act, Txn as Made, Line, lin
 use Rattle.lu_words.specs.Concerns.{concerns, only}
 use Rattle.lu_words.specs.Printed.{printed}
 use Rattle.lu_covered.specs.Calls.{first_life}
-use Rattle.lu_covered.specs.Runs.{Head}
+use Rattle.lu_covered.specs.Heads.{Head}
 use Rattle.lu_laws.specs.Words.Pasts as pasts
 use Rattle.lu_laws.specs.Words.Lives.{is_by}
 use Rattle.lu_laws.specs.Words.Calls.{heard_in}
 use Rattle.lu_laws.specs.Laws.Acts.{acts_there, acted, made, standing_count, is_number, tells_with, told_with}
-use Rattle.lu_lawful.specs.Fits.{DoneStands}
+use Rattle.lu_lawful.specs.Fits.{ReplyStands}
 use Rattle.lu_guards.proofs.Guards.{Allowed, Grown}
 use Rattle.lu_guards.proofs.Lists.{self, life_is}
 use Rattle.lu_facts.proofs.Groups.{turn, Acted, Hears}
@@ -127,35 +127,35 @@ own_line at turn who x same node =
     (subst (λ (n : Node). (pasts.is_target 0 n && pasts.same_turn (record { stamp = at.stamp; node = n }) (record { stamp = at.stamp; node = n }) && same_life who who && nat_eq x x) ≡ true) (sym node)
     (rw (self at.stamp.0, self who.client, self who.life, self x) refl))
 
-pub acted_in : (head : Head) (lost : ℕ → ℕ → Bool) (past : List Line) → Grown head past → (d : Deed) → Acted past d → DoneStands lost past d.reply.who d.reply.at → Stands lost past d
+pub acted_in : (head : Head) (lost : ℕ → ℕ → Bool) (past : List Line) → Grown head past → (d : Deed) → Acted past d → ReplyStands lost d.reply → Stands lost past d
 acted_in head lost [] g d a s = absurd a
-acted_in head lost (l ∷ past) g d a s = by l.entry g.0 (acted_in head lost past g.1 d) a s
+acted_in head lost (l ∷ past) g d a s = by l.entry g.0 (λ i. acted_in head lost past g.1 d i s) a
   where
-    by : (e : Entry) → Allowed head past l.at e → (Acted past d → DoneStands lost past d.reply.who d.reply.at → Stands lost past d) → Acted (line l.at e ∷ past) d → DoneStands lost (line l.at e ∷ past) d.reply.who d.reply.at → Stands lost (line l.at e ∷ past) d
-    by (Act e) ok h a s = ⊎_elim
+    by : (e : Entry) → Allowed head past l.at e → (Acted past d → Stands lost past d) → Acted (line l.at e ∷ past) d → Stands lost (line l.at e ∷ past) d
+    by (Act e) ok h a = ⊎_elim
         (λ (p : e ≡ d). subst (λ (v : Deed). Stands lost (line l.at (Act e) ∷ past) v) p
         (let k = act_now head past l.at.stamp l.at.node e ok g.1 in inl (or_left _ (acted (printed past) e.reply.at e.reply.who e.reply.xid.0) (own_line l.at e.reply.at e.reply.who e.reply.xid.0 (sym k.2) k.1))))
         (λ (p : Acted past d). ⊎_elim
         (λ (i : acted (printed past) d.reply.at d.reply.who d.reply.xid.0 ≡ true). inl (or_right _ (acted (printed past) d.reply.at d.reply.who d.reply.xid.0) i))
         (λ (i : made lost (printed past) d.reply.at d.reply.who d.reply.xid.0 ≡ true). inr i)
-        (h p s.1))
+        (h p))
         a
-    by (Made e) ok h a s = ⊎_elim
+    by (Made e) ok h a = ⊎_elim
         (λ (p : e ≡ d). let k = txn_now head past l.at.stamp l.at.node e ok g.1 in
-        let stands = (s.0 (ap (λ (v : Deed). v.reply.who) p) (ap (λ (v : Deed). v.reply.at) p)).0 in
+        let stands : lost 0 e.reply.txn.0 ≡ false = ap (λ (v : Deed). lost 0 v.reply.txn.0) p ∙ s.0 in
         subst (λ (v : Deed). Stands lost (line l.at (Made e) ∷ past) v) p
         (inr (or_left _ (made lost (printed past) e.reply.at e.reply.who e.reply.xid.0) (and_both (own_line l.at e.reply.at e.reply.who e.reply.xid.0 (sym k.2) k.1) stands))))
         (λ (p : Acted past d). ⊎_elim
         (λ (i : acted (printed past) d.reply.at d.reply.who d.reply.xid.0 ≡ true). inl i)
         (λ (i : made lost (printed past) d.reply.at d.reply.who d.reply.xid.0 ≡ true). inr (or_right _ (made lost (printed past) d.reply.at d.reply.who d.reply.xid.0) i))
-        (h p s.1))
+        (h p))
         a
       where
         and_both : {a b : Bool} → a ≡ true → b ≡ false → (a && not b) ≡ true
         and_both {a = true} {b = true} p q = absurd (cc)
         and_both {a = true} {b = false} p q = refl
         and_both {a = false} {b} p q = absurd (cc)
-    by _ ok h a s = h a s
+    by _ ok h a = h a
 
 -- ---- what was heard
 

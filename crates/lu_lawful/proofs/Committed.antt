@@ -12,7 +12,7 @@ use Rattle.lu_words.specs.Words.{Entry, Txn as Made, Commit, Line, line}
 use Rattle.lu_words.specs.Concerns.{only}
 use Rattle.lu_words.specs.Printed.{printed}
 use Rattle.lu_covered.specs.TargetStates.{count_at, committed_at, log_at}
-use Rattle.lu_covered.specs.Runs.{Head}
+use Rattle.lu_covered.specs.Heads.{Head}
 use Rattle.lu_laws.specs.Words.Lost.{Transaction, transactions}
 use Rattle.lu_guards.proofs.Guards.{In, CommitOk, Allowed, Grown}
 use Rattle.lu_guards.proofs.Lists.{self, in_append, in_filter}

@@ -14,7 +14,7 @@ use Rattle.lu_words.specs.Words.{Entry, Life, Act, Txn as Made, Commit, Crash, B
 use Rattle.lu_words.specs.Printed.{printed}
 use Rattle.lu_covered.specs.TargetParts.{operation}
 use Rattle.lu_covered.specs.TargetStates.{boot_at, count_at, committed_at, tree_at, server_at}
-use Rattle.lu_covered.specs.Runs.{Head}
+use Rattle.lu_covered.specs.Heads.{Head}
 use Rattle.lu_laws.specs.Words.Pasts.{is_target}
 use Rattle.lu_laws.specs.Words.Lives.{life, is_gone}
 use Rattle.lu_laws.specs.Words.Boots.{boot, committed, greatest, is_recovering}
@@ -23,7 +23,6 @@ use Rattle.lu_laws.specs.Words.Standing as standing
 use Rattle.lu_laws.specs.Words.Requests.{asked}
 use Rattle.lu_laws.specs.Words.Standing.{executed, contents}
 use Rattle.lu_guards.proofs.Guards.{EntryOk, Allowed, Grown}
-use Rattle.lu_guards.proofs.Parts.{server_is}
 use Rattle.lu_guards.proofs.Parts as parts
 use Rattle.lu_facts.proofs.Groups.{turn}
 use Rattle.lu_facts.proofs.All.{holds}

@@ -1,18 +1,22 @@
 -- What the laws rest on, line by line: the operation of each deed is that of the first request sent with its
--- number, and what is told is the answer of a deed that is heard in that turn.
-use Rattle.std.proofs.Common.{◌≡◌, false, List, [], ◌∷◌, Some}
+-- number; and what is told is the answer of a deed that is heard in that turn, or what the client knew when its call began.
+use Rattle.std.proofs.Common.{◌≡◌, ℕ, true, false, List, [], ◌∷◌, Some, ◌⊎◌}
 use Rattle.lu_base.specs.declared.ids.At.{At}
 use Rattle.lu_base.specs.declared.ids.Node.{Node}
 use Rattle.lu_base.specs.declared.ids.Node.TheVariants.{Client, Target}
 use Rattle.lu_msg.specs.declared.answers.Answer.{Answer}
-use Rattle.lu_words.specs.Carried.{Deed}
-use Rattle.lu_words.specs.Words.{Told, Act, Txn as Made, Line}
+use Rattle.lu_msg.specs.declared.messages.Reply.{Reply as ReplyTo}
+use Rattle.lu_words.specs.Carried.{Deed, Flight, Running}
+use Rattle.lu_words.specs.Words.{Entry, Told, Act, Txn as Made, Line, line}
 use Rattle.lu_words.specs.Printed.{printed}
-use Rattle.lu_covered.specs.Calls.{first_life}
+use Rattle.lu_covered.specs.Calls.{first_life, call_at}
+use Rattle.lu_covered.specs.Known.{notes_at, known_answer}
 use Rattle.lu_laws.specs.Words.Pasts.{same_turn}
 use Rattle.lu_laws.specs.Words.Calls.{heard_in}
 use Rattle.lu_laws.specs.Words.Requests.{asked}
 use Rattle.lu_facts.proofs.Groups.{Acted}
+use Rattle.lu_facts.proofs.OnNames.{IsPlain}
+use Rattle.lu_facts.proofs.Known.{HeardBy}
 
 abbrev pub AskedAt : List Line → Deed → Type 0
 AskedAt past d = asked (printed past) 0 d.reply.who d.reply.xid.0 ≡ Some d.op
@@ -21,8 +25,9 @@ abbrev pub AllAsked : List Line → Type 0
 AllAsked [] = Unit {0}
 AllAsked (l ∷ past) = elim l.entry [ Act d ↦ AskedAt past d × AllAsked past | Made d ↦ AskedAt past d × AllAsked past | _ ↦ AllAsked past ]
 
-abbrev pub TellsAt : List Line → At → Node → At → Answer → Type 0
-TellsAt past at (Client c) named given =
+-- of a call that asked: what acted for it, and the reply that was heard
+abbrev pub AnswersAt : List Line → At → ℕ → At → Answer → Type 0
+AnswersAt past at c named given =
     record {
       deed : Deed;
       acted : Acted past deed;
@@ -31,9 +36,36 @@ TellsAt past at (Client c) named given =
       answer : deed.reply.answer ≡ given;
       heard : heard_in (printed past) at ≡ Some deed.reply.xid.0;
       other : same_turn named at ≡ false;
+      flight : Flight;
+      reply : ReplyTo;
+      hears : HeardBy past c flight reply;
+      is : record deed.reply { committed = reply.committed } ≡ reply;
+      plain : IsPlain given;
     }
-TellsAt past at (Target t) named given = Unit {0}
+
+-- of a call whose answer its client knew: it began in this turn
+abbrev pub KnewAt : List Line → At → (c slot : ℕ) → At → Answer → Type 0
+KnewAt past at c slot named given =
+    record {
+      running : Running;
+      call : call_at c slot past ≡ Some running;
+      begun : running.at ≡ at;
+      known : known_answer (notes_at c past) running.call ≡ Some given;
+      turn : named ≡ at;
+      own : same_turn named at ≡ true;
+    }
+
+abbrev pub TellsAt : List Line → At → Node → (slot : ℕ) → At → Answer → Type 0
+TellsAt past at (Client c) slot named given = AnswersAt past at c named given ⊎ KnewAt past at c slot named given
+TellsAt past at (Target t) slot named given = Unit {0}
 
 abbrev pub AllTold : List Line → Type 0
 AllTold [] = Unit {0}
-AllTold (l ∷ past) = elim l.entry [ Told slot turn answer work ↦ TellsAt past l.at l.at.node turn answer × AllTold past | _ ↦ AllTold past ]
+AllTold (l ∷ past) = elim l.entry [ Told slot turn answer work ↦ TellsAt past l.at l.at.node slot turn answer × AllTold past | _ ↦ AllTold past ]
+
+pub told_earlier : (l : Line) (past : List Line) → AllTold (l ∷ past) → AllTold past
+told_earlier l past = by l.entry
+  where
+    by : (e : Entry) → AllTold (line l.at e ∷ past) → AllTold past
+    by (Told slot turn given work) t = t.1
+    by _ t = t

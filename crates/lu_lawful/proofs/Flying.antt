@@ -17,7 +17,7 @@ use Rattle.lu_words.specs.Printed.{printed}
 use Rattle.lu_covered.specs.Calls.{first_life}
 use Rattle.lu_covered.specs.Imports.{without_flight, flights_at}
 use Rattle.lu_covered.specs.ClientStates.{known_of}
-use Rattle.lu_covered.specs.Runs.{Head}
+use Rattle.lu_covered.specs.Heads.{Head}
 use Rattle.lu_laws.specs.Words.Pasts as pasts
 use Rattle.lu_laws.specs.Words.Lives.{life}
 use Rattle.lu_laws.specs.Words.Requests.{is_of, has_number, without_number, has_heard, in_flight}
@@ -137,9 +137,11 @@ flyers_heard head past stamp d f r g x h c = (
 
 pub keeps_flyers : (head : Head) (past : List Line) (stamp : Stamp) (node : Node) (e : Entry) → Allowed head past (turn stamp node) e → Grown head past → Flyers past → Flyers (line (turn stamp node) e ∷ past)
 keeps_flyers head past stamp (Client c) (Send (Target t) (message.Request r)) k g h = flyers_asks past stamp c t r (ask_flown head past c r g (k.of 0 (about_it t k.ok))) h
+keeps_flyers head past stamp (Client c) (Send (Target t) (message.Cancel who boot cookie)) k g h = h
 keeps_flyers head past stamp (Client c) (Send (Client d) m) k g h = absurd k.ok
 keeps_flyers head past stamp (Client c) (Send (Target t) m) k g h = absurd k.ok
 keeps_flyers head past stamp (Target t) (Send (Client c) (message.Reply r)) k g h = h
+keeps_flyers head past stamp (Target t) (Send (Client c) (message.Block who boot cookie)) k g h = h
 keeps_flyers head past stamp (Target t) (Send (Client c) m) k g h = absurd k.ok
 keeps_flyers head past stamp (Target t) (Send (Target u) m) k g h = absurd k.ok
 keeps_flyers head past stamp (Client c) (Flies u f) k g h = subst (λ (v : ℕ). Flyers (line (turn stamp (Client c)) (Flies v f) ∷ past)) (sym k.ok) (flyers_flies past stamp c f h)

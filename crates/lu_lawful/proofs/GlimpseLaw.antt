@@ -1,5 +1,5 @@
 -- The law of glimpses: so far nobody is told sizes, since what is told is the answer of an operation on names.
-use Rattle.std.proofs.Common.{◌≡◌, ℕ, Bool, false, List, [], ◌∷◌, subst}
+use Rattle.std.proofs.Common.{◌≡◌, ℕ, Bool, false, List, [], ◌∷◌, ⊎_elim, subst}
 use Rattle.lu_base.specs.declared.ids.At.{At}
 use Rattle.lu_base.specs.declared.ids.Node.{Node}
 use Rattle.lu_base.specs.declared.ids.Node.TheVariants.{Client, Target}
@@ -10,7 +10,7 @@ use Rattle.lu_trace.specs.declared.entries.Entry.TheVariants as trace
 use Rattle.lu_trace.specs.declared.entries.Line.{Line as PrintedLine}
 use Rattle.lu_words.specs.Words.{Entry, Told, Line, line}
 use Rattle.lu_words.specs.Printed.{printed}
-use Rattle.lu_covered.specs.Runs.{Head}
+use Rattle.lu_covered.specs.Heads.{Head}
 use Rattle.lu_laws.specs.Words.Pasts.{Past}
 use Rattle.lu_laws.specs.Words.Lives.{is_gone}
 use Rattle.lu_laws.specs.Holds.{Holds}
@@ -18,9 +18,8 @@ use Rattle.lu_laws.specs.Laws.Glimpse.{GlimpseAt, GlimpseOf, Glimpse}
 use Rattle.lu_guards.proofs.Guards.{Allowed, Grown}
 use Rattle.lu_facts.proofs.Groups.{turn}
 use Rattle.lu_lawful.proofs.Lines.{Keeps, holds_before}
-use Rattle.lu_lawful.proofs.Facts.{TellsAt, AllTold}
-use Rattle.lu_lawful.proofs.Fine.{are_sizes, deed_fine}
-use Rattle.lu_lawful.proofs.HistoryLaw.{told_earlier}
+use Rattle.lu_lawful.proofs.Facts.{AnswersAt, KnewAt, TellsAt, AllTold, told_earlier}
+use Rattle.lu_lawful.proofs.Fine.{are_sizes, deed_fine, known_fine}
 use Rattle.lu_lawful.proofs.ToldLaw.{all_told}
 
 module _ (head : Head) (out : Who → Bool) where
@@ -29,15 +28,18 @@ module _ (head : Head) (out : Who → Bool) where
   quiet past l later slot named (told.Sizes sizes) is = absurd (cc)
   quiet past l later slot named _ is = tt
 
-  told_none : (past : List Line) (at : At) (c : ℕ) (named : At) (given : Answer) → Grown head past → TellsAt past at (Client c) named given → are_sizes given ≡ false
-  told_none past at c named given g tells = subst (λ (v : Answer). are_sizes v ≡ false) tells.answer (deed_fine head past tells.deed g tells.acted).2
+  told_none : (past : List Line) (at : At) (c slot : ℕ) (named : At) (given : Answer) → Grown head past → TellsAt past at (Client c) slot named given → are_sizes given ≡ false
+  told_none past at c slot named given g tells = ⊎_elim
+      (λ (a : AnswersAt past at c named given). subst (λ (v : Answer). are_sizes v ≡ false) a.answer (deed_fine head past a.deed g a.acted).2)
+      (λ (k : KnewAt past at c slot named given). (known_fine head past c k.running.call given g k.known).2)
+      tells
 
   glimpse_at : (past : List Line) (l : Line) (later : List PrintedLine) → Allowed head past l.at l.entry → Grown head past → AllTold (l ∷ past) → Keeps (GlimpseOf out head.osts) past l later
   glimpse_at past l later ok g told = by l.at.node l.entry ok told
     where
       by : (node : Node) (e : Entry) → Allowed head past (turn l.at.stamp node) e → AllTold (line (turn l.at.stamp node) e ∷ past) → Keeps (GlimpseOf out head.osts) past (line (turn l.at.stamp node) e) later
       by (Client c) (Told slot named given work) k t =
-          quiet (printed past) (record { at = turn l.at.stamp (Client c); entry = trace.Told slot named given }) later slot named given (told_none past (turn l.at.stamp (Client c)) c named given g t.0)
+          quiet (printed past) (record { at = turn l.at.stamp (Client c); entry = trace.Told slot named given }) later slot named given (told_none past (turn l.at.stamp (Client c)) c slot named given g t.0)
       by (Target u) (Told slot named given work) k t = absurd k.ok
       by _ _ k t = tt
 

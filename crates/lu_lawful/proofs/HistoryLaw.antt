@@ -1,8 +1,10 @@
 -- The law of history: with the lost transactions taken out, the plain machine answers what clients were told, and
 -- refuses no transaction that stands.
-use Rattle.std.proofs.Common.{◌≡◌, ℕ, ◌+◌, ◌<◌, ◌≤◌, Bool, true, false, List, [], ◌∷◌, ◌++◌, Option, Some, None, inl, inr, refl, sym, subst, ap, ◌∙◌, arith}
-use Rattle.std.specs.Prelude.{not, ◌&&◌, nat_lt, if◌then◌else◌, filter}
-use Rattle.std.proofs.lemmas.Bool.{and_parts, eqb-true, ltb-false}
+use Rattle.std.proofs.Common.{◌≡◌, ℕ, ◌+◌, ◌<◌, ◌≤◌, Bool, true, false, List, [], ◌∷◌, ◌++◌, ◌⊎◌, Option, Some, None, inl, inr, refl, sym, subst, ap, ◌∙◌, arith}
+use Rattle.std.specs.Prelude.{not, ◌&&◌, ◌||◌, nat_lt, if◌then◌else◌, filter}
+use Rattle.std.specs.List.{list_any}
+use Rattle.std.specs.Option.{option_map}
+use Rattle.std.proofs.lemmas.Bool.{cond_both, and_parts, eqb-true, ltb-false}
 use Rattle.lu_base.specs.declared.ids.At.{At}
 use Rattle.lu_base.specs.declared.ids.Node.{Node}
 use Rattle.lu_base.specs.declared.ids.Node.TheVariants.{Client, Target}
@@ -12,51 +14,66 @@ use Rattle.lu_base.specs.declared.ids.Who.{Who}
 use Rattle.lu_msg.specs.declared.answers.Answer.{Answer}
 use Rattle.lu_msg.specs.declared.answers.Answer.TheVariants as told
 use Rattle.lu_msg.specs.declared.answers.Errno.{Errno}
+use Rattle.lu_msg.specs.declared.calls.Call.{Call}
+use Rattle.lu_msg.specs.declared.calls.Call.TheVariants as call
+use Rattle.lu_msg.specs.declared.messages.Reply.{Reply as ReplyTo}
 use Rattle.lu_msg.specs.declared.operations.Op.{Op}
+use Rattle.lu_part.specs.Meets.{meets}
 use Rattle.lu_part.specs.declared.parts.Part.{Part}
 use Rattle.lu_trace.specs.declared.entries.Line.{Line as PrintedLine}
 use Rattle.lu_machine.specs.declared.acts.Act.{Act as ActOf}
+use Rattle.lu_machine.specs.declared.acts.Deed.{Deed as DeedOf}
+use Rattle.lu_machine.specs.declared.acts.Deed.TheVariants.{Names}
 use Rattle.lu_machine.specs.Tree.{Tree, same_life}
-use Rattle.lu_machine.specs.Footprint.{empty, answer, touches, writes, changes, after, Every}
+use Rattle.lu_machine.specs.Footprint.{Operation, empty, answer, touches, writes, changes, after, Every, Apart}
 use Rattle.lu_machine.specs.Removal as removal
-use Rattle.lu_machine.specs.Removal.{Item, Acts, pick, Older}
+use Rattle.lu_machine.specs.Removal.{Item, Acts, pick}
 use Rattle.lu_machine.specs.Seen.{meet, seen, SawKept, AllSawKept}
 use Rattle.lu_machine.specs.Laws.{Alike}
 use Rattle.lu_machine.specs.Machine.{Machine, names_answer}
 use Rattle.lu_machine.proofs.Stated.{refusals_stay}
 use Rattle.lu_machine.proofs.Removal.{earlier_are_older}
 use Rattle.lu_machine.proofs.Seen.{removal_by_seen}
-use Rattle.lu_machine.proofs.Transactions.{machine_is_table}
-use Rattle.lu_words.specs.Carried.{Deed, Work}
-use Rattle.lu_words.specs.Words.{Entry, Told, Act, Txn as Made, Commit, Line, line}
+use Rattle.lu_machine.proofs.Transactions.{readings_change_nothing, machine_is_table}
+use Rattle.lu_words.specs.Carried.{Deed, Work, Running}
+use Rattle.lu_words.specs.Words.{Entry, Heard, Told, Act, Txn as Made, Commit, Line, line}
 use Rattle.lu_words.specs.Printed.{printed}
-use Rattle.lu_covered.specs.Calls.{first_life}
+use Rattle.lu_covered.specs.Calls.{first_life, call_at, operation_of}
+use Rattle.lu_covered.specs.Known.{notes_at, known_answer}
 use Rattle.lu_covered.specs.TargetParts.{operation}
-use Rattle.lu_covered.specs.TargetStates.{count_at, tree_at, log_at, server_at, seen_in}
-use Rattle.lu_covered.specs.Runs.{Head}
+use Rattle.lu_covered.specs.TargetStates.{count_at, committed_at, tree_at, log_at, server_at, seen_in}
+use Rattle.lu_covered.specs.Heads.{Head}
 use Rattle.lu_laws.specs.Words.Pasts.{same_turn, is_target}
 use Rattle.lu_laws.specs.Words.Lives.{who_is}
 use Rattle.lu_laws.specs.Words.Requests.{asked}
 use Rattle.lu_laws.specs.Words.Calls.{Begun, open_call}
-use Rattle.lu_laws.specs.Words.Histories.{none, names_act, call_act, acts_as, is_answer, told_item, after_item, machine_of, answer_to, answer_there}
+use Rattle.lu_laws.specs.Words.Calls.{operation as operation_in}
+use Rattle.lu_laws.specs.Words.Histories.{none, deed_on, deed_of, act_of, names_act, call_act, acts_as, is_answer, told_item, after_item, machine_of, answer_to, answer_there}
 use Rattle.lu_laws.specs.Holds.{Holds}
+use Rattle.lu_laws.proofs.Leaves.{acts_leave}
 use Rattle.lu_laws.proofs.Tests.{both, settled}
 use Rattle.lu_laws.specs.Laws.History.{is_accepted, heard_answer, right_answer, ToldOn, ToldAt, HistoryOf}
 use Rattle.lu_laws.specs.Laws.History as law
-use Rattle.lu_lawful.specs.Fits.{AllStand, SeenStand, CommitsStand, DoneStands, ToldStandsAt, ToldStand, Fits}
-use Rattle.lu_guards.proofs.Guards.{Allowed, Grown}
+use Rattle.lu_lawful.specs.Fits.{AllStand, SeenStand, ReplyStands, HeardStandsAt, HeardStand, CommitsStand, Fits}
+use Rattle.lu_guards.proofs.Guards.{In, Allowed, Grown}
 use Rattle.lu_guards.proofs.Lists.{life_is}
 use Rattle.lu_facts.proofs.Groups.{turn, Acted}
 use Rattle.lu_facts.proofs.OnNames.{IsPlain}
 use Rattle.lu_facts.proofs.Refused.{acted_plain}
+use Rattle.lu_facts.proofs.Sides.{acted_only}
+use Rattle.lu_facts.proofs.Known.{any_in, right, SawBy, known_saw}
 use Rattle.lu_lawful.proofs.Lines.{Keeps, holds_before}
 use Rattle.lu_lawful.proofs.ActsLaw.{own_line}
 use Rattle.lu_lawful.proofs.Once.{NoneFor, act_now, txn_now}
-use Rattle.lu_lawful.proofs.Facts.{AskedAt, AllAsked, TellsAt, AllTold}
+use Rattle.lu_lawful.proofs.Facts.{AskedAt, AllAsked, AnswersAt, KnewAt, TellsAt, AllTold, told_earlier}
 use Rattle.lu_lawful.proofs.Contents.{life_stays, number_is, asked_before}
 use Rattle.lu_lawful.proofs.SeenNumbers.{one, seen_snoc}
 use Rattle.lu_lawful.proofs.Deeds.{ActIs, TxnIs, act_is, txn_is}
 use Rattle.lu_lawful.proofs.Plain.{told_plain}
+use Rattle.lu_lawful.proofs.Fine.{known_operation}
+use Rattle.lu_lawful.proofs.Printed.{open_is}
+use Rattle.lu_lawful.proofs.Story.{about_it}
+use Rattle.lu_lawful.proofs.ToldLaw.{heard_stands, same_stands, same_operation}
 
 commits_before : (lost : ℕ → ℕ → Bool) (l : Line) (past : List Line) → CommitsStand lost (l ∷ past) → CommitsStand lost past
 commits_before lost l past = by l.entry
@@ -66,22 +83,15 @@ commits_before lost l past = by l.entry
     by _ c = c
 
 pub fits_before : (out : Who → Bool) (lost : ℕ → ℕ → Bool) (l : Line) (past : List Line) → Fits out lost (l ∷ past) → Fits out lost past
-fits_before out lost l past f = record { root = f.root; seen = seen_before l.entry f.seen; told = told_before l.entry f.told; committed = commits_before lost l past f.committed }
+fits_before out lost l past f = record { root = f.root; seen = seen_before l.entry f.seen; heard = heard_before l.entry f.heard; committed = commits_before lost l past f.committed }
   where
     seen_before : (e : Entry) → SeenStand lost (line l.at e ∷ past) → SeenStand lost past
     seen_before (Made d) s = s.1
     seen_before _ s = s
 
-    told_before : (e : Entry) → ToldStand out lost (line l.at e ∷ past) → ToldStand out lost past
-    told_before (Told slot turn given work) t = t.1
-    told_before _ t = t
-
-pub told_earlier : (l : Line) (past : List Line) → AllTold (l ∷ past) → AllTold past
-told_earlier l past = by l.entry
-  where
-    by : (e : Entry) → AllTold (line l.at e ∷ past) → AllTold past
-    by (Told slot turn given work) t = t.1
-    by _ t = t
+    heard_before : (e : Entry) → HeardStand out lost (line l.at e ∷ past) → HeardStand out lost past
+    heard_before (Heard target flight reply) t = t.1
+    heard_before _ t = t
 
 -- ---- the past as items of the removal law
 
@@ -164,6 +174,29 @@ module _ (head : Head) (lost : ℕ → ℕ → Bool) where
       subst (λ t. Every (λ n. keep lost n ≡ true) (seen head.osts (whole head.osts) (items past) (touches head.osts t (operation d)))) (sym (whole_is head past g))
       (seen_kept (touches head.osts (tree_at head.osts 0 past) (operation d)) past g c (subst (AllStand lost) is s))
 
+  -- where each transaction that wrote what is touched stands
+  seen_stands : (touched : List Part) (past : List Line) → Grown head past → ((e : Deed) → Acted past e → 0 < e.reply.txn.0 → meet e.writes touched ≡ true → lost 0 e.reply.txn.0 ≡ false) → KeptSeen (items past) touched
+  seen_stands touched [] g h = tt
+  seen_stands touched (l ∷ past) g h = by l.at.node l.entry g.0 h (λ k. seen_stands touched past g.1 k)
+    where
+      Stand : List Line → Type 0
+      Stand p = (e : Deed) → Acted p e → 0 < e.reply.txn.0 → meet e.writes touched ≡ true → lost 0 e.reply.txn.0 ≡ false
+
+      made : (at : At) (d : Deed) → TxnIs head.osts (server_at head.osts 0 past) at d → (meet d.writes touched ≡ true → lost 0 d.reply.txn.0 ≡ false) → KeptSeen (items past) touched → KeptSeen (Acts (operation d) ∷ items past) touched
+      made at d is own rest =
+          subst (λ (t : Tree). Every (λ n. keep lost n ≡ true) (if meet (writes head.osts t (operation d)) touched then d.reply.txn.0 ∷ seen head.osts (whole head.osts) (items past) touched else seen head.osts (whole head.osts) (items past) touched)) (sym (whole_is head past g.1))
+          (subst (λ (ws : List Part). Every (λ n. keep lost n ≡ true) (if meet ws touched then d.reply.txn.0 ∷ seen head.osts (whole head.osts) (items past) touched else seen head.osts (whole head.osts) (items past) touched)) is.wrote
+          (cond_both (meet d.writes touched) (d.reply.txn.0 ∷ seen head.osts (whole head.osts) (items past) touched) (seen head.osts (whole head.osts) (items past) touched) (λ (ns : List ℕ). Every (λ n. keep lost n ≡ true) ns) (λ m. (ap not (own m), rest)) (λ m. rest)))
+
+      by : (node : Node) (e : Entry) → Allowed head past (turn l.at.stamp node) e → Stand (line (turn l.at.stamp node) e ∷ past) → (Stand past → KeptSeen (items past) touched) → KeptSeen (items (line (turn l.at.stamp node) e ∷ past)) touched
+      by (Client c) (Made d) k h ih = absurd k.ok
+      by (Target t) (Made d) k h ih =
+          let is = txn_is head past l.at.stamp t d k in
+          let n = number_is head past (turn l.at.stamp (Target t)) d g.1 is in
+          made (turn l.at.stamp (Target t)) d is (λ m. h d (inl refl) (omega (arith, n)) m) (ih (λ e a. h e (inr a)))
+      by node (Act d) k h ih = ih (λ e a. h e (inr a))
+      by _ _ k h ih = ih h
+
 stands_again : (b : Bool) → not b ≡ true → b ≡ false
 stands_again true e = absurd (cc)
 stands_again false e = refl
@@ -185,6 +218,51 @@ all_saw head lost (l ∷ past) g c s = by l.entry g.0 s (all_saw head lost past 
         → AllSawKept head.osts (whole head.osts) (keep lost) (items (line l.at e ∷ past))
     by (Made d) k s h = (λ kept. saw_kept head lost past d g.1 (commits_before lost l past c) (txn_here head past l.at.stamp l.at.node d k).saw (s.0 (stands_again (lost 0 d.reply.txn.0) kept)), h s.1)
     by _ k s h = h s
+
+-- ---- numbers that stand
+
+pub one_stands : (lost : ℕ → ℕ → Bool) (ns : List ℕ) (n : ℕ) → AllStand lost ns → In n ns → lost 0 n ≡ false
+one_stands lost [] n s i = absurd i
+one_stands lost (m ∷ ns) n s (inl e) = ap (lost 0) (sym e) ∙ s.0
+one_stands lost (m ∷ ns) n s (inr i) = one_stands lost ns n s.1 i
+
+-- a number up to the committed one
+committed_stands : (head : Head) (lost : ℕ → ℕ → Bool) (past : List Line) → Grown head past → CommitsStand lost past → (n : ℕ) → 0 < n → n ≤ (committed_at 0 past).0 → lost 0 n ≡ false
+committed_stands head lost [] g c n positive le = absurd (omega (arith, positive, le))
+committed_stands head lost (l ∷ past) g c n positive le = by l.at.node l.entry g.0 c le (λ k. committed_stands head lost past g.1 k n positive)
+  where
+    by : (node : Node) (e : Entry) → Allowed head past (turn l.at.stamp node) e → CommitsStand lost (line (turn l.at.stamp node) e ∷ past) → n ≤ (committed_at 0 (line (turn l.at.stamp node) e ∷ past)).0
+        → (CommitsStand lost past → n ≤ (committed_at 0 past).0 → lost 0 n ≡ false) → lost 0 n ≡ false
+    by (Client b) (Commit to batch) k c le ih = absurd k.ok
+    by (Target t) (Commit to batch) k c le ih = c.0 n (subst (λ (v : ℕ). n ≤ (committed_at 0 (line (turn l.at.stamp (Target v)) (Commit to batch) ∷ past)).0) k.ok.0 le)
+    by _ _ k c le ih = ih c le
+
+-- ---- a call whose answer is known
+
+-- what it asks of the machine
+names_deed : (b : Begun) (o : Op) → operation_of b.call ≡ Some o → deed_on b b.call ≡ Some (Names o)
+names_deed b o e = by b.call e (ap (option_map Names) (same_operation b o e))
+  where
+    by : (k : Call) → operation_of k ≡ Some o → option_map Names (operation_in b) ≡ Some (Names o) → deed_on b k ≡ Some (Names o)
+    by (call.Lookup path) e q = q
+    by (call.Stat path) e q = q
+    by (call.List path) e q = q
+    by (call.Layout path) e q = q
+    by (call.Mkdir path) e q = q
+    by (call.Create path stripes) e q = q
+    by (call.Link old new) e q = q
+    by (call.Unlink path) e q = q
+    by (call.Rmdir path) e q = q
+    by (call.Rename old new) e q = q
+    by (call.Chmod path mode) e q = q
+    by k e q = absurd (cc)
+
+known_act : (head : Head) (past : List Line) (c slot : ℕ) (r : Running) (o : Op) → Grown head past → call_at c slot past ≡ Some r → operation_of r.call ≡ Some o
+    → call_act (printed past) c slot ≡ Some (record { who = who_is c (printed past); number = none; deed = Names o })
+known_act head past c slot r o g call becomes =
+    let b = open_is head c slot past r g call in
+    ap (λ (v : Option Begun). act_of (who_is c (printed past)) none (deed_of v)) b.1
+    ∙ ap (λ (v : Option DeedOf). act_of (who_is c (printed past)) none v) (names_deed b.0 o (ap operation_of b.3 ∙ becomes))
 
 -- ---- the law's machine
 
@@ -223,13 +301,19 @@ module _ (head : Head) (out : Who → Bool) (lost : ℕ → ℕ → Bool) where
             (machine_is_table head.osts (machine past) (operation d) (λ c. omega (arith, last, number))).1 ∙ ap (λ t. after head.osts t (operation d)) h.1,
           )
 
-  -- nothing is told in the turn in which it acted
-  follows_told : (past : List Line) (stamp : Stamp) (c slot : ℕ) (named : At) (given : Answer) (work : Option Work) → TellsAt past (turn stamp (Client c)) (Client c) named given → Follows past → Follows (line (turn stamp (Client c)) (Told slot named given work) ∷ past)
-  follows_told past stamp c slot named given work tells h =
-      subst (λ (i : Option ActOf). ((after_item head.osts (machine past) i).last ≤ 4294967296 + count_at 0 past) × ((after_item head.osts (machine past) i).tree ≡ whole head.osts (standing past))) (sym nothing) h
+  -- what is told of a call that asked is no item, and a call whose answer was known changes nothing
+  follows_told : (past : List Line) (stamp : Stamp) (c slot : ℕ) (named : At) (given : Answer) (work : Option Work) → Grown head past → TellsAt past (turn stamp (Client c)) (Client c) slot named given → Follows past
+      → Follows (line (turn stamp (Client c)) (Told slot named given work) ∷ past)
+  follows_told past stamp c slot named given work g tells h =
+      subst (λ (m : Machine). (m.last ≤ 4294967296 + count_at 0 past) × (m.tree ≡ whole head.osts (standing past))) (sym (by tells)) h
     where
-      nothing : told_item out (printed past) (turn stamp (Client c)) (Client c) slot named given ≡ None
-      nothing = ap (λ (t : Bool). if t && is_answer given && not (out (who_is c (printed past))) then call_act (printed past) c slot else None) tells.other
+      by : TellsAt past (turn stamp (Client c)) (Client c) slot named given → after_item head.osts (machine past) (told_item out (printed past) (turn stamp (Client c)) (Client c) slot named given) ≡ machine past
+      by (inl asks) = ap (λ (b : Bool). after_item head.osts (machine past) (if b && is_answer given && not (out (who_is c (printed past))) then call_act (printed past) c slot else None)) asks.other
+      by (inr knew) =
+          cond_both (same_turn named (turn stamp (Client c)) && is_answer given && not (out (who_is c (printed past)))) (call_act (printed past) c slot) None (λ (i : Option ActOf). after_item head.osts (machine past) i ≡ machine past)
+          (λ _. let k = known_operation (notes_at c past) knew.running.call given knew.known in
+          ap (after_item head.osts (machine past)) (known_act head past c slot knew.running k.0 g knew.call k.1) ∙ acts_leave head.osts (machine past) (who_is c (printed past)) k.0)
+          (λ _. refl)
 
   follows : (past : List Line) → Grown head past → AllAsked past → AllTold past → Follows past
   follows [] g a t = (omega arith, refl)
@@ -239,19 +323,23 @@ module _ (head : Head) (out : Who → Bool) (lost : ℕ → ℕ → Bool) where
       by (Client c) (Made d) k a t h = absurd k.ok
       by (Target u) (Made d) k a t h =
           subst (λ (v : ℕ). Follows (line (turn l.at.stamp (Target v)) (Made d) ∷ past)) (sym k.ok) (follows_made past (turn l.at.stamp (Target u)) d g.1 (txn_is head past l.at.stamp u d k) a.0 h)
-      by (Client c) (Told slot named given work) k a t h = follows_told past l.at.stamp c slot named given work t.0 h
+      by (Client c) (Told slot named given work) k a t h = follows_told past l.at.stamp c slot named given work g.1 t.0 h
       by (Target u) (Told slot named given work) k a t h = absurd k.ok
       by _ _ k a t h = h
 
   -- what saw only what stands comes out of the machine as it came out of the target
-  alike : (past : List Line) (d : Deed) → Grown head past → AllAsked past → AllTold past → Fits out lost past
-      → d.reply.seen ≡ seen_in (touches head.osts (tree_at head.osts 0 past) (operation d)) (log_at 0 past) → AllStand lost d.reply.seen → Alike head.osts (tree_at head.osts 0 past) (machine past).tree (operation d)
-  alike past d g a t f is s =
+  alike_op : (past : List Line) (o : Operation) → Grown head past → AllAsked past → AllTold past → Fits out lost past
+      → SawKept head.osts (whole head.osts) (keep lost) (items past) o → Alike head.osts (tree_at head.osts 0 past) (machine past).tree o
+  alike_op past o g a t f saw =
       let root = ap not f.root in
       let older = earlier_are_older head.osts (keep lost) root [] tt in
-      subst (λ (u : Tree). Alike head.osts u (machine past).tree (operation d)) (whole_is head past g)
-      (subst (λ (u : Tree). Alike head.osts (whole head.osts (items past)) u (operation d)) (sym (follows past g a t).1)
-      (removal_by_seen head.osts empty (keep lost) root older (items past) (all_saw head lost past g f.committed f.seen) (operation d) (saw_kept head lost past d g f.committed is s)))
+      subst (λ (u : Tree). Alike head.osts u (machine past).tree o) (whole_is head past g)
+      (subst (λ (u : Tree). Alike head.osts (whole head.osts (items past)) u o) (sym (follows past g a t).1)
+      (removal_by_seen head.osts empty (keep lost) root older (items past) (all_saw head lost past g f.committed f.seen) o saw))
+
+  alike : (past : List Line) (d : Deed) → Grown head past → AllAsked past → AllTold past → Fits out lost past
+      → d.reply.seen ≡ seen_in (touches head.osts (tree_at head.osts 0 past) (operation d)) (log_at 0 past) → AllStand lost d.reply.seen → Alike head.osts (tree_at head.osts 0 past) (machine past).tree (operation d)
+  alike past d g a t f is s = alike_op past (operation d) g a t f (saw_kept head lost past d g f.committed is s)
 
   answered : (past : List Line) (d : Deed) → Alike head.osts (tree_at head.osts 0 past) (machine past).tree (operation d) → IsPlain (answer head.osts (tree_at head.osts 0 past) (operation d)) → (changes head.osts (tree_at head.osts 0 past) (operation d) ≡ true → (machine past).last < d.reply.txn.0)
       → names_answer head.osts (machine past) (operation d) ≡ answer head.osts (tree_at head.osts 0 past) (operation d)
@@ -289,15 +377,11 @@ module _ (head : Head) (out : Who → Bool) (lost : ℕ → ℕ → Bool) where
   before_is false now old given n q = q
 
   -- what was done was answered where it stands
-  answered_there : (past : List Line) (d : Deed) → Grown head past → AllAsked past → AllTold past → Fits out lost past → Acted past d → DoneStands lost past d.reply.who d.reply.at
+  answered_there : (past : List Line) (d : Deed) → Grown head past → AllAsked past → AllTold past → Fits out lost past → Acted past d → IsPlain d.reply.answer → ReplyStands lost d.reply
       → answer_there out lost head.osts (printed past) d.reply.at d.reply.who d.reply.xid.0 ≡ Some d.reply.answer
-  answered_there [] d g a t f acted s = absurd acted
-  answered_there (l ∷ past) d g a t f acted s =
-      let earlier = asked_before l past a in
-      let before = told_earlier l past t in
-      let fits = fits_before out lost l past f in
-      let plain : (b : Deed) → Acted (l ∷ past) b → IsPlain b.reply.answer = λ b i. acted_plain head (l ∷ past) b g i in
-      by l.entry g.0 a plain acted s (λ b k. answered_there past d g.1 earlier before fits b k)
+  answered_there [] d g a t f acted plain s = absurd acted
+  answered_there (l ∷ past) d g a t f acted plain s =
+      by l.entry g.0 a acted (λ b. answered_there past d g.1 (asked_before l past a) (told_earlier l past t) (fits_before out lost l past f) b plain s)
     where
       before : AllTold past
       before = told_earlier l past t
@@ -312,50 +396,92 @@ module _ (head : Head) (out : Who → Bool) (lost : ℕ → ℕ → Bool) where
           let r = and_parts (is_target 0 l.at.node && same_turn l.at d.reply.at) _ q.0 in
           new d i (sym (life_is e.reply.who d.reply.who r.1)) (sym (eqb-true e.reply.xid.0 d.reply.xid.0 q.1))
 
-      by : (e : Entry) → Allowed head past l.at e → AllAsked (line l.at e ∷ past) → ((b : Deed) → Acted (line l.at e ∷ past) b → IsPlain b.reply.answer) → Acted (line l.at e ∷ past) d → DoneStands lost (line l.at e ∷ past) d.reply.who d.reply.at
-          → (Acted past d → DoneStands lost past d.reply.who d.reply.at → answer_there out lost head.osts (printed past) d.reply.at d.reply.who d.reply.xid.0 ≡ Some d.reply.answer)
+      by : (e : Entry) → Allowed head past l.at e → AllAsked (line l.at e ∷ past) → Acted (line l.at e ∷ past) d
+          → (Acted past d → answer_there out lost head.osts (printed past) d.reply.at d.reply.who d.reply.xid.0 ≡ Some d.reply.answer)
           → answer_there out lost head.osts (printed (line l.at e ∷ past)) d.reply.at d.reply.who d.reply.xid.0 ≡ Some d.reply.answer
-      by (Act e) ok a plain (inl same) s h =
+      by (Act e) ok a (inl same) h =
           let now = act_now head past l.at.stamp l.at.node e ok g.1 in
-          let stands = s.0 (ap (λ (v : Deed). v.reply.who) same) (ap (λ (v : Deed). v.reply.at) same) in
+          let stands = subst (λ (v : Deed). AllStand lost v.reply.seen) (sym same) s.1 in
+          let told_so = subst (λ (v : Deed). IsPlain v.reply.answer) (sym same) plain in
           subst (λ (v : Deed). answer_there out lost head.osts (printed (line l.at (Act e) ∷ past)) v.reply.at v.reply.who v.reply.xid.0 ≡ Some v.reply.answer) same
           (here_is _ _ _ e.reply.answer (own_line l.at e.reply.at e.reply.who e.reply.xid.0 (sym now.2) now.1)
-          (act_answers past l.at e g.1 a.1 before fits (act_here head past l.at.stamp l.at.node e ok) a.0 (plain e (inl refl)) stands))
-      by (Act e) ok a plain (inr i) s h =
-          before_is _ _ _ d.reply.answer (same_request e (act_now head past l.at.stamp l.at.node e ok g.1).0.new i) (h i s.1)
-      by (Made e) ok a plain (inl same) s h =
+          (act_answers past l.at e g.1 a.1 before fits (act_here head past l.at.stamp l.at.node e ok) a.0 told_so stands))
+      by (Act e) ok a (inr i) h =
+          before_is _ _ _ d.reply.answer (same_request e (act_now head past l.at.stamp l.at.node e ok g.1).0.new i) (h i)
+      by (Made e) ok a (inl same) h =
           let now = txn_now head past l.at.stamp l.at.node e ok g.1 in
-          let stands = s.0 (ap (λ (v : Deed). v.reply.who) same) (ap (λ (v : Deed). v.reply.at) same) in
+          let stands = subst (λ (v : Deed). ReplyStands lost v.reply) (sym same) s in
+          let told_so = subst (λ (v : Deed). IsPlain v.reply.answer) (sym same) plain in
           let own = own_line l.at e.reply.at e.reply.who e.reply.xid.0 (sym now.2) now.1 in
           subst (λ (v : Deed). answer_there out lost head.osts (printed (line l.at (Made e) ∷ past)) v.reply.at v.reply.who v.reply.xid.0 ≡ Some v.reply.answer) same
           (here_is _ _ _ e.reply.answer (both own (settled (lost 0 e.reply.txn.0) stands.0))
           (subst (λ o. answers past (names_act e.reply.who e.reply.txn o) ≡ Some e.reply.answer) (sym a.0)
-          (ap (λ (v : Answer). Some v) (txn_answers past l.at e g.1 a.1 before fits (txn_here head past l.at.stamp l.at.node e ok) (plain e (inl refl)) stands.1))))
-      by (Made e) ok a plain (inr i) s h =
+          (ap (λ (v : Answer). Some v) (txn_answers past l.at e g.1 a.1 before fits (txn_here head past l.at.stamp l.at.node e ok) told_so stands.1))))
+      by (Made e) ok a (inr i) h =
           before_is _ _ _ d.reply.answer
           (λ p. same_request e (txn_now head past l.at.stamp l.at.node e ok g.1).0.new i (and_parts (acts_as d.reply.at d.reply.who d.reply.xid.0 l.at e.reply.who e.reply.xid.0) (not (lost 0 e.reply.txn.0)) p).0)
-          (h i s.1)
-      by _ ok a plain b s h = h b s
+          (h i)
+      by _ ok a b h = h b
 
   -- ---- the law, line by line
 
+  life_is_first : (past : List Line) (c : ℕ) → Grown head past → who_is c (printed past) ≡ first_life c
+  life_is_first past c g = ap (λ (v : ℕ). record { client = c; life = v }) (life_stays head c past g)
+
   -- what is told is what the machine answers where it acted
-  told_law : (past : List Line) (stamp : Stamp) (c slot : ℕ) (named : At) (given : Answer) → Grown head past → AllAsked past → AllTold past → Fits out lost past
-      → TellsAt past (turn stamp (Client c)) (Client c) named given → ToldStandsAt out lost past (Client c) named → ToldAt out lost head.osts (printed past) (turn stamp (Client c)) (Client c) slot named given
-  told_law past stamp c slot named given g a t f tells stands out_not counted =
-      let at = turn stamp (Client c) in
+  asked_law : (past : List Line) (stamp : Stamp) (c slot : ℕ) (named : At) (given : Answer) → Grown head past → AllAsked past → AllTold past → Fits out lost past
+      → AnswersAt past (turn stamp (Client c)) c named given → out (who_is c (printed past)) ≡ false → right_answer out lost head.osts (printed past) (turn stamp (Client c)) c slot named (same_turn named (turn stamp (Client c))) ≡ Some given
+  asked_law past stamp c slot named given g a t f tells out_not =
       let d = tells.deed in
-      let life : who_is c (printed past) ≡ first_life c = ap (λ (v : ℕ). record { client = c; life = v }) (life_stays head c past g) in
-      let done : DoneStands lost past d.reply.who d.reply.at =
-      subst (λ (v : Who). DoneStands lost past v d.reply.at) (sym tells.who) (subst (λ (v : At). DoneStands lost past (first_life c) v) (sym tells.turn) (stands (subst (λ (v : Who). out v ≡ false) life out_not))) in
-      let found = answered_there past d g a t f tells.acted done in
-      on (open_call c slot (printed past))
-      (subst (λ b. right_answer out lost head.osts (printed past) at c slot named b ≡ Some given) (sym tells.other)
+      let life = life_is_first past c g in
+      let stands = same_stands lost d.reply tells.reply tells.is (heard_stands out lost past c tells.flight tells.reply f.heard tells.hears (subst (λ (v : Who). out v ≡ false) life out_not)) in
+      let found = answered_there past d g a t f tells.acted (subst IsPlain (sym tells.answer) tells.plain) stands in
+      subst (λ b. right_answer out lost head.osts (printed past) (turn stamp (Client c)) c slot named b ≡ Some given) (sym tells.other)
       (subst (λ (o : Option ℕ). heard_answer out lost head.osts (printed past) named (who_is c (printed past)) o ≡ Some given) (sym tells.heard)
       (subst (λ (v : Answer). answer_there out lost head.osts (printed past) named (who_is c (printed past)) d.reply.xid.0 ≡ Some v) tells.answer
       (subst (λ (v : At). answer_there out lost head.osts (printed past) v (who_is c (printed past)) d.reply.xid.0 ≡ Some d.reply.answer) tells.turn
-      (subst (λ (v : Who). answer_there out lost head.osts (printed past) d.reply.at v d.reply.xid.0 ≡ Some d.reply.answer) (tells.who ∙ sym life) found)))))
+      (subst (λ (v : Who). answer_there out lost head.osts (printed past) d.reply.at v d.reply.xid.0 ≡ Some d.reply.answer) (tells.who ∙ sym life) found))))
+
+  -- all that it rests on stands: it is committed, or the life heard of it
+  known_stands : (past : List Line) (c : ℕ) (who : Who) (k : Call) (o : Op) (given : Answer) → Grown head past → Fits out lost past → known_answer (notes_at c past) k ≡ Some given → operation_of k ≡ Some o → out (first_life c) ≡ false
+      → (e : Deed) → Acted past e → 0 < e.reply.txn.0 → meet e.writes (touches head.osts (tree_at head.osts 0 past) (record { number = none; who = who; op = o })) ≡ true → lost 0 e.reply.txn.0 ≡ false
+  known_stands past c who k o given g f known becomes stays e acted positive m =
+      let r = any_in (λ (p : Part). list_any (λ w. meets w p) e.writes) (touches head.osts (tree_at head.osts 0 past) (record { number = none; who = who; op = o })) m in
+      by r.0 r.2 (known_saw head past g c none who k o given known becomes r.0 r.1 e (acted_only head past e g acted))
     where
+      clash : (ws : List Part) (p : Part) → Apart ws p → list_any (λ w. meets w p) ws ≡ true → ⊥
+      clash [] p h q = absurd (cc)
+      clash (w ∷ ws) p h q = clash ws p h.1 (subst (λ (b : Bool). (b || list_any (λ w. meets w p) ws) ≡ true) h.0 q)
+
+      by : (p : Part) → list_any (λ w. meets w p) e.writes ≡ true → Apart e.writes p ⊎ ((e.reply.txn.0 ≤ (committed_at 0 past).0) ⊎ SawBy head past g c none who k o given known becomes e.reply.txn.0) → lost 0 e.reply.txn.0 ≡ false
+      by p q (inl apart) = absurd (clash e.writes p apart q)
+      by p q (inr (inl le)) = committed_stands head lost past g f.committed e.reply.txn.0 positive le
+      by p q (inr (inr saw)) = one_stands lost saw.reply.seen e.reply.txn.0 (heard_stands out lost past c saw.flight saw.reply f.heard saw.heard stays).1 saw.seen
+
+  -- what is told of what is known is what the machine answers then
+  knew_law : (past : List Line) (stamp : Stamp) (c slot : ℕ) (named : At) (given : Answer) → Grown head past → AllAsked past → AllTold past → Fits out lost past
+      → KnewAt past (turn stamp (Client c)) c slot named given → out (who_is c (printed past)) ≡ false → right_answer out lost head.osts (printed past) (turn stamp (Client c)) c slot named (same_turn named (turn stamp (Client c))) ≡ Some given
+  knew_law past stamp c slot named given g a t f knew out_not =
+      let k = known_operation (notes_at c past) knew.running.call given knew.known in
+      let who = who_is c (printed past) in
+      let o : Operation = record { number = none; who = who; op = k.0 } in
+      let r = right head past g c none who knew.running.call k.0 given knew.known k.1 in
+      let saw = seen_stands head lost (touches head.osts (tree_at head.osts 0 past) o) past g (known_stands past c who knew.running.call k.0 given g f knew.known k.1 (subst (λ (v : Who). out v ≡ false) (life_is_first past c g) out_not)) in
+      let same = alike_op past o g a t f (subst (λ (u : Tree). Every (λ n. keep lost n ≡ true) (seen head.osts (whole head.osts) (items past) (touches head.osts u o))) (sym (whole_is head past g)) saw) in
+      let still = readings_change_nothing head.osts (machine past).tree o r.reads in
+      subst (λ b. right_answer out lost head.osts (printed past) (turn stamp (Client c)) c slot named b ≡ Some given) (sym knew.own)
+      (ap (λ (i : Option ActOf). answer_to head.osts (machine past) i) (known_act head past c slot knew.running k.0 g knew.call k.1)
+      ∙ ap (λ (v : Answer). Some v) ((machine_is_table head.osts (machine past) o (λ c. absurd (let s = still in cc))).0
+      ∙ told_plain (machine past) (answer head.osts (machine past).tree o) (subst IsPlain (r.same ∙ same.answer) r.plain) ∙ sym (r.same ∙ same.answer)))
+
+  told_law : (past : List Line) (stamp : Stamp) (c slot : ℕ) (named : At) (given : Answer) → Grown head past → AllAsked past → AllTold past → Fits out lost past
+      → TellsAt past (turn stamp (Client c)) (Client c) slot named given → ToldAt out lost head.osts (printed past) (turn stamp (Client c)) (Client c) slot named given
+  told_law past stamp c slot named given g a t f tells stays counted = on (open_call c slot (printed past)) (by tells)
+    where
+      by : TellsAt past (turn stamp (Client c)) (Client c) slot named given → right_answer out lost head.osts (printed past) (turn stamp (Client c)) c slot named (same_turn named (turn stamp (Client c))) ≡ Some given
+      by (inl asks) = asked_law past stamp c slot named given g a t f asks stays
+      by (inr knew) = knew_law past stamp c slot named given g a t f knew stays
+
       on : (o : Option Begun) → right_answer out lost head.osts (printed past) (turn stamp (Client c)) c slot named (same_turn named (turn stamp (Client c))) ≡ Some given → ToldOn out lost head.osts (printed past) (turn stamp (Client c)) c slot o named given
       on None is = tt
       on (Some begun) is = λ counts. is
@@ -380,7 +506,7 @@ module _ (head : Head) (out : Who → Bool) (lost : ℕ → ℕ → Bool) where
   known_before l past k = record { fits = fits_before out lost l past k.fits; asked = asked_before l past k.asked; told = told_earlier l past k.told }
 
   history_at : (past : List Line) (l : Line) (later : List PrintedLine) → Allowed head past l.at l.entry → Grown head past → Known (l ∷ past) → Keeps (HistoryOf out lost head.osts) past l later
-  history_at past l later ok g known = by l.at.node l.entry ok (λ b i. acted_plain head (l ∷ past) b (ok, g) i) known.fits.seen known.fits.told known.asked known.told
+  history_at past l later ok g known = by l.at.node l.entry ok (λ b i. acted_plain head (l ∷ past) b (ok, g) i) known.fits.seen known.asked known.told
     where
       fits : Fits out lost past
       fits = fits_before out lost l past known.fits
@@ -388,16 +514,16 @@ module _ (head : Head) (out : Who → Bool) (lost : ℕ → ℕ → Bool) where
       earlier : AllTold past
       earlier = told_earlier l past known.told
 
-      by : (node : Node) (e : Entry) → Allowed head past (turn l.at.stamp node) e → ((b : Deed) → Acted (line (turn l.at.stamp node) e ∷ past) b → IsPlain b.reply.answer) → SeenStand lost (line (turn l.at.stamp node) e ∷ past)
-          → ToldStand out lost (line (turn l.at.stamp node) e ∷ past) → AllAsked (line (turn l.at.stamp node) e ∷ past) → AllTold (line (turn l.at.stamp node) e ∷ past)
+      by : (node : Node) (e : Entry) → Allowed head past (turn l.at.stamp node) e → ((b : Deed) → Acted (line (turn l.at.stamp node) e ∷ past) b → b.reply.locks ≡ [] → IsPlain b.reply.answer) → SeenStand lost (line (turn l.at.stamp node) e ∷ past)
+          → AllAsked (line (turn l.at.stamp node) e ∷ past) → AllTold (line (turn l.at.stamp node) e ∷ past)
           → Keeps (HistoryOf out lost head.osts) past (line (turn l.at.stamp node) e) later
-      by (Client c) (Told slot named given work) k plain s st a t = told_law past l.at.stamp c slot named given g a t.1 fits t.0 st.0
-      by (Target u) (Told slot named given work) k plain s st a t = absurd k.ok
-      by (Client c) (Made d) k plain s st a t = absurd k.ok
-      by (Target u) (Made d) k plain s st a t =
+      by (Client c) (Told slot named given work) k plain s a t = told_law past l.at.stamp c slot named given g a t.1 fits t.0
+      by (Target u) (Told slot named given work) k plain s a t = absurd k.ok
+      by (Client c) (Made d) k plain s a t = absurd k.ok
+      by (Target u) (Made d) k plain s a t =
           subst (λ (v : ℕ). law.TxnAt out lost head.osts (printed past) v d.reply.txn d.reply.who d.reply.xid.0) (sym k.ok)
-          (txn_law past (turn l.at.stamp (Target u)) d g a.1 earlier fits (txn_is head past l.at.stamp u d k) a.0 (plain d (inl refl)) s.0)
-      by _ _ k plain s st a t = tt
+          (txn_law past (turn l.at.stamp (Target u)) d g a.1 earlier fits (txn_is head past l.at.stamp u d k) a.0 (plain d (inl refl) (ap (λ (v : Deed). v.reply.locks) (k.of 0 (about_it u k.ok)).is)) s.0)
+      by _ _ k plain s a t = tt
 
   pub history_law : (past : List Line) → Fits out lost past → Grown head past → AllAsked past → AllTold past → Holds (HistoryOf out lost head.osts) (printed past)
   history_law past f g a t = holds_before head (HistoryOf out lost head.osts) Known known_before history_at past [] g (record { fits = f; asked = a; told = t })
@@ -405,20 +531,11 @@ module _ (head : Head) (out : Who → Bool) (lost : ℕ → ℕ → Bool) where
 -- ---- of a whole trace: no life is gone, and nothing is lost
 
 pub none_fit : (out : Who → Bool) (lost : ℕ → ℕ → Bool) → ((n : ℕ) → lost 0 n ≡ false) → (past : List Line) → Fits out lost past
-none_fit out lost none past = record { root = none 1; seen = seen past; told = tells past; committed = commits past }
+none_fit out lost none past = record { root = none 1; seen = seen past; heard = hears past; committed = commits past }
   where
     all : (ns : List ℕ) → AllStand lost ns
     all [] = tt
     all (n ∷ ns) = (none n, all ns)
-
-    done : (past : List Line) (who : Who) (at : At) → DoneStands lost past who at
-    done [] who at = tt
-    done (l ∷ past) who at = by l.entry (done past who at)
-      where
-        by : (e : Entry) → DoneStands lost past who at → DoneStands lost (line l.at e ∷ past) who at
-        by (Act d) h = ((λ w s. all d.reply.seen), h)
-        by (Made d) h = ((λ w s. (none d.reply.txn.0, all d.reply.seen)), h)
-        by _ h = h
 
     seen : (past : List Line) → SeenStand lost past
     seen [] = tt
@@ -428,16 +545,16 @@ none_fit out lost none past = record { root = none 1; seen = seen past; told = t
         by (Made d) h = ((λ s. all d.reply.seen), h)
         by _ h = h
 
-    at : (past : List Line) (node : Node) (turn : At) → ToldStandsAt out lost past node turn
-    at past (Client c) turn = λ o. done past (first_life c) turn
-    at past (Target t) turn = tt
+    at : (node : Node) (r : ReplyTo) → HeardStandsAt out lost node r
+    at (Client c) r = λ o. (none r.txn.0, all r.seen)
+    at (Target t) r = tt
 
-    tells : (past : List Line) → ToldStand out lost past
-    tells [] = tt
-    tells (l ∷ past) = by l.entry (tells past)
+    hears : (past : List Line) → HeardStand out lost past
+    hears [] = tt
+    hears (l ∷ past) = by l.entry (hears past)
       where
-        by : (e : Entry) → ToldStand out lost past → ToldStand out lost (line l.at e ∷ past)
-        by (Told slot turn given work) h = (at past l.at.node turn, h)
+        by : (e : Entry) → HeardStand out lost past → HeardStand out lost (line l.at e ∷ past)
+        by (Heard target flight reply) h = (at l.at.node reply, h)
         by _ h = h
 
     commits : (past : List Line) → CommitsStand lost past

@@ -1,5 +1,5 @@
 -- The law of messages holds of the printed past of every grown one.
-use Rattle.std.proofs.Common.{◌+◌, List, [], ◌∷◌, Option, Some, None, ◌∙◌, arith}
+use Rattle.std.proofs.Common.{◌+◌, List, [], ◌∷◌, Option, Some, None, ⊎_elim, ◌∙◌, arith}
 use Rattle.lu_base.specs.declared.ids.At.{At}
 use Rattle.lu_base.specs.declared.ids.Node.{Node}
 use Rattle.lu_base.specs.declared.ids.Node.TheVariants.{Client, Target}
@@ -8,10 +8,10 @@ use Rattle.lu_trace.specs.declared.entries.Line.{Line as PrintedLine}
 use Rattle.lu_words.specs.Words.{Entry, Begin, Send, Take, Tick, Told, Line}
 use Rattle.lu_words.specs.Sent.{count_sent}
 use Rattle.lu_words.specs.Printed.{printed_entry, printed}
-use Rattle.lu_covered.specs.Runs.{Head}
+use Rattle.lu_covered.specs.Heads.{Head}
 use Rattle.lu_laws.specs.Laws.Messages.{Follows, Lives, Passes, MessagesAt, Messages}
 use Rattle.lu_laws.specs.Holds.{Holds}
-use Rattle.lu_guards.proofs.Guards.{Steps, LivesAt, Allowed, Grown}
+use Rattle.lu_guards.proofs.Guards.{Steps, ToldOk, KnownOk, LivesAt, Allowed, Grown}
 use Rattle.lu_facts.proofs.Groups.{turn}
 use Rattle.lu_lawful.proofs.Turns.{steps_trans, upto_is}
 use Rattle.lu_lawful.proofs.Printed.{sends_is, sent_to, died_is, free_is, open_is_some}
@@ -41,7 +41,10 @@ messages_at head past l later a g = at (printed_entry (count_sent past + 1) l.en
     by node (Send to m) k = let q = sends_is past in omega arith
     by node (Take n from m) k = sent_to past n from node m k.ok.sent
     by (Client c) (Begin slot running) k = free_is head c slot past g k.ok.free
-    by (Client c) (Told slot at answer work) k = open_is_some head c slot past k.ok.running g k.ok.call
+    by (Client c) (Told slot at answer work) k = ⊎_elim
+        (λ (ok : ToldOk past (turn l.at.stamp (Client c)) c slot at answer work). open_is_some head c slot past ok.running g ok.call)
+        (λ (ok : KnownOk past (turn l.at.stamp (Client c)) c slot at answer work). open_is_some head c slot past ok.running g ok.call)
+        k.ok
     by (Target t) (Begin slot running) k = absurd k.ok
     by (Target t) (Told slot at answer work) k = absurd k.ok
     by (Target t) Tick k = tt

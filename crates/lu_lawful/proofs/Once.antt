@@ -17,7 +17,7 @@ use Rattle.lu_words.specs.Concerns.{only}
 use Rattle.lu_words.specs.Printed.{printed}
 use Rattle.lu_covered.specs.TargetParts.{is_request_of, without_request}
 use Rattle.lu_covered.specs.TargetStates.{server_of, waiting_at}
-use Rattle.lu_covered.specs.Runs.{Head}
+use Rattle.lu_covered.specs.Heads.{Head}
 use Rattle.lu_laws.specs.Words.Requests.{first_request}
 use Rattle.lu_guards.proofs.Guards.{In, Was, Allowed, Grown}
 use Rattle.lu_guards.proofs.Lists.{in_append, in_filter}

@@ -19,7 +19,7 @@ use Rattle.lu_words.specs.Carried.{Deed}
 use Rattle.lu_words.specs.Words.{Entry, Send, Take, Act, Txn as Made, Grant, Line, line}
 use Rattle.lu_words.specs.Concerns.{only}
 use Rattle.lu_words.specs.Printed.{printed}
-use Rattle.lu_covered.specs.Runs.{Head}
+use Rattle.lu_covered.specs.Heads.{Head}
 use Rattle.lu_laws.specs.Holds.{Holds}
 use Rattle.lu_laws.specs.Words.Pasts.{same_turn, or_else}
 use Rattle.lu_laws.specs.Words.Sends.{Sending, taken}
@@ -107,9 +107,13 @@ keeps_answered : (head : Head) (past : List Line) (stamp : Stamp) (node : Node) 
 keeps_answered head past stamp (Target t) (Send (Client c) (message.Reply k)) a g h d i =
     subst (λ (v : ℕ). AllAnswered (line (turn stamp (Target v)) (Send (Client c) (message.Reply k)) ∷ past)) (sym a.ok.0)
     (λ d i. inr (sends_reply head past stamp c k (subst (λ (v : ℕ). Allowed head past (turn stamp (Target v)) (Send (Client c) (message.Reply k))) a.ok.0 a) g h d i)) d i
+keeps_answered head past stamp (Target t) (Send (Client c) (message.Block who boot cookie)) a g h d i =
+    ⊎_elim (λ (did : Did past d). absurd (did_owes past (turn stamp (Target t)) d (Send (Client c) (message.Block who boot cookie)) did a.owes)) (λ (last : IsLast past d). inr last) (h d i)
 keeps_answered head past stamp (Target t) (Send to m) a g h d i = absurd a.ok
 keeps_answered head past stamp (Client c) (Send (Target t) (message.Request r)) a g h d i =
     ⊎_elim (λ (did : Did past d). absurd (did_owes past (turn stamp (Client c)) d (Send (Target t) (message.Request r)) did a.owes)) (λ (last : IsLast past d). inr last) (h d i)
+keeps_answered head past stamp (Client c) (Send (Target t) (message.Cancel who boot cookie)) a g h d i =
+    ⊎_elim (λ (did : Did past d). absurd (did_owes past (turn stamp (Client c)) d (Send (Target t) (message.Cancel who boot cookie)) did a.owes)) (λ (last : IsLast past d). inr last) (h d i)
 keeps_answered head past stamp (Client c) (Send to m) a g h d i = absurd a.ok
 keeps_answered head past stamp (Client c) (Act e) a g h d i = absurd a.ok
 keeps_answered head past stamp (Client c) (Made e) a g h d i = absurd a.ok
@@ -121,8 +125,7 @@ keeps_answered head past stamp (Target t) (Made e) a g h d i = ⊎_elim
     (λ (same : e ≡ d). inl same)
     (λ (b : Acted past d). ⊎_elim (λ (did : Did past d). absurd (did_owes past (turn stamp (Target t)) d (Made e) did a.owes)) (λ (last : IsLast past d). inr last) (h d b))
     i
-keeps_answered head past stamp (Client c) (Grant lock asked) a g h d i = absurd a.ok
-keeps_answered head past stamp (Target t) (Grant lock asked) a g h d i = absurd a.ok
+keeps_answered head past stamp node (Grant lock asked) a g h d i = h d i
 keeps_answered head past stamp node e a g h d i = ⊎_elim (λ (did : Did past d). absurd (did_owes past (turn stamp node) d e did a.owes)) (λ (last : IsLast past d). inr last) (h d i)
 
 pub all_answered : (head : Head) (past : List Line) → Grown head past → AllAnswered past
@@ -194,6 +197,7 @@ repeated_at head past l later a g = by l.at.node l.entry a
   where
     by : (node : Node) (e : Entry) → Allowed head past (turn l.at.stamp node) e → Says Repeated past (turn l.at.stamp node) later e
     by (Target t) (Send (Client c) (message.Reply k)) a = reply_again head past l.at.stamp t c k a g
+    by (Target t) (Send (Client c) (message.Block who boot cookie)) a = tt
     by (Target t) (Send to m) a = absurd a.ok
     by (Client c) (Send to m) a = tt
     by _ _ a = tt

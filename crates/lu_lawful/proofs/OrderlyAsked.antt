@@ -1,5 +1,5 @@
 -- What every covered run keeps of requests: what acts was asked for since its target serves, and isn't answered yet.
-use Rattle.std.proofs.Common.{◌≡◌, ℕ, Bool, true, false, List, [], ◌∷◌, ◌++◌, Option, Some, ⊎_elim, refl, sym, subst, ap, ◌∙◌}
+use Rattle.std.proofs.Common.{◌≡◌, ℕ, Bool, true, false, List, [], ◌∷◌, ◌++◌, Option, Some, inl, inr, ⊎_elim, refl, sym, subst, ap, ◌∙◌}
 use Rattle.std.specs.Prelude.{nat_eq, not, if◌then◌else◌}
 use Rattle.std.specs.List.{list_any}
 use Rattle.std.specs.Option.{option_map}
@@ -22,7 +22,7 @@ use Rattle.lu_words.specs.Concerns.{only}
 use Rattle.lu_words.specs.Printed.{printed}
 use Rattle.lu_covered.specs.TargetParts.{is_request_of, without_request}
 use Rattle.lu_covered.specs.TargetStates.{waiting_at, server_of}
-use Rattle.lu_covered.specs.Runs.{Head}
+use Rattle.lu_covered.specs.Heads.{Head}
 use Rattle.lu_laws.specs.Holds.{Holds}
 use Rattle.lu_laws.specs.Words.Pasts.{is_target}
 use Rattle.lu_laws.specs.Words.Sends.{Sending, message_of}
@@ -31,7 +31,7 @@ use Rattle.lu_laws.specs.Order.Handed.{comes_to}
 use Rattle.lu_laws.specs.Order.Requests.{is_request, with_request, without_answered, unanswered, has_request, Requests}
 use Rattle.lu_laws.proofs.Tests.{either_left, either_right, settled}
 use Rattle.lu_guards.proofs.Guards.{In, TookNow, ReplyOk, Allowed, Grown}
-use Rattle.lu_guards.proofs.Lists.{self, in_append, in_filter, life_is}
+use Rattle.lu_guards.proofs.Lists.{self, in_append, in_filter, in_filtered, life_is}
 use Rattle.lu_guards.proofs.Parts.{waiting_is}
 use Rattle.lu_facts.proofs.Groups.{turn}
 use Rattle.lu_facts.proofs.All.{holds}
@@ -41,11 +41,10 @@ use Rattle.lu_lawful.proofs.Lines.{Keeps, holds_before}
 use Rattle.lu_lawful.proofs.Contents.{boot_is}
 use Rattle.lu_lawful.proofs.Printed.{sending_is}
 use Rattle.lu_lawful.proofs.OrderlyQuiet.{Says}
-use Rattle.lu_lawful.proofs.OrderlySaid.{any_left}
 
 -- a request is taken and not answered
 abbrev Unanswered : List Line → RequestOf → Type 0
-Unanswered past r = list_any (is_request r.who r.xid.0) (unanswered 0 (printed past)) ≡ true
+Unanswered past r = In r (unanswered 0 (printed past))
 
 -- what waits is
 abbrev pub AllUnanswered : List Line → Type 0
@@ -54,16 +53,19 @@ AllUnanswered past = (r : RequestOf) → In r (waiting_at 0 past) → Unanswered
 its_own : (r : RequestOf) → is_request r.who r.xid.0 r ≡ true
 its_own r = rw (same_life_self r.who, self r.xid.0) refl
 
+pub some_any : {A : Type 0} (p : A → Bool) (x : A) (xs : List A) → In x xs → p x ≡ true → list_any p xs ≡ true
+some_any p x [] i t = absurd i
+some_any p x (y ∷ xs) (inl e) t = either_left (list_any p xs) (ap p e ∙ t)
+some_any p x (y ∷ xs) (inr i) t = either_right (p y) (some_any p x xs i t)
+
 -- ---- a message is taken
 
-with_more : (p : RequestOf → Bool) (o : Option Message) (b : ℕ) (rs : List RequestOf) → list_any p rs ≡ true → list_any p (with_request o b rs) ≡ true
-with_more p (Some (message.Request q)) b rs h = cond_both (nat_eq q.boot b) (q ∷ rs) rs (λ (v : List RequestOf). list_any p v ≡ true) (λ t. either_right (p q) h) (λ t. h)
-with_more p _ b rs h = h
+with_more : (r : RequestOf) (o : Option Message) (b : ℕ) (rs : List RequestOf) → In r rs → In r (with_request o b rs)
+with_more r (Some (message.Request q)) b rs h = cond_both (nat_eq q.boot b) (q ∷ rs) rs (λ (v : List RequestOf). In r v) (λ t. inr h) (λ t. h)
+with_more r _ b rs h = h
 
-with_it : (r : RequestOf) (b : ℕ) (rs : List RequestOf) → r.boot ≡ b → list_any (is_request r.who r.xid.0) (with_request (Some (message.Request r)) b rs) ≡ true
-with_it r b rs e =
-    subst (λ (v : List RequestOf). list_any (is_request r.who r.xid.0) v ≡ true) (sym (cond-true (nat_eq r.boot b) (r ∷ rs) rs (subst (λ (v : ℕ). nat_eq r.boot v ≡ true) e (self r.boot))))
-    (either_left (list_any (is_request r.who r.xid.0) rs) (its_own r))
+with_it : (r : RequestOf) (b : ℕ) (rs : List RequestOf) → r.boot ≡ b → In r (with_request (Some (message.Request r)) b rs)
+with_it r b rs e = subst (λ (v : List RequestOf). In r v) (sym (cond-true (nat_eq r.boot b) (r ∷ rs) rs (subst (λ (v : ℕ). nat_eq r.boot v ≡ true) e (self r.boot)))) (inl refl)
 
 -- the request that the newest line took
 took_it : (head : Head) (past : List Line) (at : At) (from : Node) (r : RequestOf) → Grown head past → at.node ≡ Target 0 → r.boot ≡ 1 → TookNow past at from (message.Request r) → Unanswered past r
@@ -77,15 +79,15 @@ took_it head (l ∷ past) at from r g n b t = by l.entry g.0 t
         let comes : comes_to 0 (printed past) l.at.node k ≡ Some (message.Request r) =
         ap (λ (v : Node). comes_to 0 (printed past) v k) here ∙ is ∙ ap (λ (v : Message). Some v) t.2
         in
-        subst (λ (o : Option Message). list_any (is_request r.who r.xid.0) (with_request o (boot 0 (printed past)) (unanswered 0 (printed past))) ≡ true) (sym comes)
+        subst (λ (o : Option Message). In r (with_request o (boot 0 (printed past)) (unanswered 0 (printed past)))) (sym comes)
         (with_it r (boot 0 (printed past)) (unanswered 0 (printed past)) (b ∙ sym (boot_is head past g.1)))
     by _ a t = absurd t
 
 -- ---- a reply is sent
 
 -- what waits isn't what is answered
-stays : (head : Head) (past : List Line) (c : ℕ) (k : ReplyTo) (r : RequestOf) → Grown head past → ReplyOk head.osts (only 0 past) c k → In r (waiting_at 0 past) → (q : RequestOf) → is_request r.who r.xid.0 q ≡ true → not (is_request k.who k.xid.0 q) ≡ true
-stays head past c k r g ok i q e = settled (is_request k.who k.xid.0 q) (never (is_request k.who k.xid.0 q) other)
+stays : (head : Head) (past : List Line) (c : ℕ) (k : ReplyTo) (r : RequestOf) → Grown head past → ReplyOk head.osts (only 0 past) c k → In r (waiting_at 0 past) → not (is_request k.who k.xid.0 r) ≡ true
+stays head past c k r g ok i = settled (is_request k.who k.xid.0 r) (never (is_request k.who k.xid.0 r) other)
   where
     never : (b : Bool) → (b ≡ true → ⊥) → b ≡ false
     never true n = absurd (n refl)
@@ -94,15 +96,14 @@ stays head past c k r g ok i q e = settled (is_request k.who k.xid.0 q) (never (
     numbered : ℕ → Xid
     numbered n = record { 0 = n }
 
-    other : is_request k.who k.xid.0 q ≡ true → ⊥
+    other : is_request k.who k.xid.0 r ≡ true → ⊥
     other f =
         let h = ((holds head past g).at 0).done in
         let d = h.kept ok.who ok.tag ok.kept ok.slot in
         let waits = h.waits r (subst (λ (v : List RequestOf). In r v) (waiting_is head.osts 0 past) i) in
-        let mine = and_parts (same_life q.who r.who) (nat_eq q.xid.0 r.xid.0) e in
-        let its = and_parts (same_life q.who k.who) (nat_eq q.xid.0 k.xid.0) f in
-        let who : d.0.reply.who ≡ r.who = ap (λ (v : ReplyTo). v.who) d.2 ∙ sym (ap (λ (v : ReplyTo). v.who) ok.is) ∙ sym (life_is q.who k.who its.0) ∙ life_is q.who r.who mine.0 in
-        let xid : d.0.reply.xid ≡ r.xid = ap (λ (v : ReplyTo). v.xid) d.2 ∙ sym (ap (λ (v : ReplyTo). v.xid) ok.is) ∙ ap numbered (sym (eqb-true q.xid.0 k.xid.0 its.1) ∙ eqb-true q.xid.0 r.xid.0 mine.1) in
+        let its = and_parts (same_life r.who k.who) (nat_eq r.xid.0 k.xid.0) f in
+        let who : d.0.reply.who ≡ r.who = ap (λ (v : ReplyTo). v.who) d.2 ∙ sym (ap (λ (v : ReplyTo). v.who) ok.is) ∙ sym (life_is r.who k.who its.0) in
+        let xid : d.0.reply.xid ≡ r.xid = ap (λ (v : ReplyTo). v.xid) d.2 ∙ sym (ap (λ (v : ReplyTo). v.xid) ok.is) ∙ ap numbered (sym (eqb-true r.xid.0 k.xid.0 its.1)) in
         waits.new d.0 d.1 who xid
 
 -- ---- each line keeps it
@@ -118,13 +119,15 @@ entered head past stamp t q a g =
     took_it head past (turn stamp (Target t)) a.ok.1.0 q g (ap Target a.ok.0) (ap (λ (v : RequestOf). v.boot) m.2) a.ok.1.1
 
 keeps_unanswered : (head : Head) (past : List Line) (stamp : Stamp) (node : Node) (e : Entry) → Allowed head past (turn stamp node) e → Grown head past → AllUnanswered past → AllUnanswered (line (turn stamp node) e ∷ past)
-keeps_unanswered head past stamp node (Take n from m) a g h r i = with_more (is_request r.who r.xid.0) (comes_to 0 (printed past) node n) (boot 0 (printed past)) (unanswered 0 (printed past)) (h r i)
+keeps_unanswered head past stamp node (Take n from m) a g h r i = with_more r (comes_to 0 (printed past) node n) (boot 0 (printed past)) (unanswered 0 (printed past)) (h r i)
 keeps_unanswered head past stamp (Client c) (Send to m) a g h r i = h r i
 keeps_unanswered head past stamp (Target t) (Send (Client c) (message.Reply k)) a g h r i =
     let ok = a.of 0 (about_it t a.ok.0) in
-    cond_both (is_target 0 (Target t)) (without_answered (message.Reply k) (unanswered 0 (printed past))) (unanswered 0 (printed past)) (λ (v : List RequestOf). list_any (is_request r.who r.xid.0) v ≡ true)
-    (λ e. any_left (is_request r.who r.xid.0) (λ (q : RequestOf). not (is_request k.who k.xid.0 q)) (unanswered 0 (printed past)) (stays head past c k r g ok i) (h r i))
+    cond_both (is_target 0 (Target t)) (without_answered (message.Reply k) (unanswered 0 (printed past))) (unanswered 0 (printed past)) (λ (v : List RequestOf). In r v)
+    (λ e. in_filtered (λ (q : RequestOf). not (is_request k.who k.xid.0 q)) r (unanswered 0 (printed past)) (h r i) (stays head past c k r g ok i))
     (λ e. h r i)
+keeps_unanswered head past stamp (Target t) (Send (Client c) (message.Block who b cookie)) a g h r i =
+    cond_both (is_target 0 (Target t)) (unanswered 0 (printed past)) (unanswered 0 (printed past)) (λ (v : List RequestOf). In r v) (λ e. h r i) (λ e. h r i)
 keeps_unanswered head past stamp (Target t) (Send to m) a g h r i = absurd a.ok
 keeps_unanswered head past stamp (Client c) (Enters q) a g h r i = absurd a.ok
 keeps_unanswered head past stamp (Target t) (Enters q) a g h r i =
@@ -159,7 +162,7 @@ acts_asked head past t d r g z i w x =
     subst (λ (v : ℕ). has_request (printed past) (Target v) d.reply.who d.reply.xid.0 ≡ true) (sym z)
     (subst (λ (v : Who). has_request (printed past) (Target 0) v d.reply.xid.0 ≡ true) w
     (subst (λ (v : Xid). has_request (printed past) (Target 0) r.who v.0 ≡ true) x
-    (all_unanswered head past g r (subst (λ (v : List RequestOf). In r v) (sym (waiting_is head.osts 0 past)) i))))
+    (some_any (is_request r.who r.xid.0) r (unanswered 0 (printed past)) (all_unanswered head past g r (subst (λ (v : List RequestOf). In r v) (sym (waiting_is head.osts 0 past)) i)) (its_own r))))
 
 requests_at : (head : Head) (past : List Line) (l : Line) (later : List PrintedLine) → Allowed head past l.at l.entry → Grown head past → Keeps Requests past l later
 requests_at head past l later a g = by l.at.node l.entry a

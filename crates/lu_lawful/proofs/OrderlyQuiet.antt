@@ -5,24 +5,21 @@ use Rattle.lu_base.specs.declared.ids.At.{At}
 use Rattle.lu_base.specs.declared.ids.Node.{Node}
 use Rattle.lu_base.specs.declared.ids.Node.TheVariants.{Client, Target}
 use Rattle.lu_trace.specs.declared.entries.Line.{Line as PrintedLine}
-use Rattle.lu_words.specs.Words.{Entry, Hold, Life, Act, Txn as Made, Grant, Wait, Block, Release, Crash, Boot, Close, Kept as Keeps_, Restore, Joined as Joins, Line, line}
+use Rattle.lu_words.specs.Words.{Entry, Life, Act, Txn as Made, Grant, Wait, Block, Release, Crash, Boot, Close, Kept as Keeps_, Restore, Joined as Joins, Line, line}
 use Rattle.lu_words.specs.Sent.{count_sent}
 use Rattle.lu_words.specs.Printed.{printed_entry, printed}
-use Rattle.lu_covered.specs.Runs.{Head}
+use Rattle.lu_covered.specs.Heads.{Head}
 use Rattle.lu_laws.specs.Holds.{Holds}
 use Rattle.lu_laws.specs.Words.Pasts.{Past, newest}
 use Rattle.lu_laws.specs.Order.Phases.{Phase, Serves, turns_to, is_serving, serves}
 use Rattle.lu_laws.specs.Order.Serving.{Serving}
 use Rattle.lu_laws.specs.Order.Boots.{Boots}
 use Rattle.lu_laws.specs.Order.Lives.{Lives}
-use Rattle.lu_laws.specs.Order.Held.{Held}
 use Rattle.lu_laws.specs.Order.Closes.{Closes}
 use Rattle.lu_laws.specs.Order.Kept.{Kept}
 use Rattle.lu_laws.specs.Order.Restored.{Restored}
 use Rattle.lu_laws.specs.Order.Joined.{Joined}
 use Rattle.lu_laws.specs.Order.Waits.{Waits}
-use Rattle.lu_laws.specs.Order.Releases.{Releases}
-use Rattle.lu_laws.specs.Order.Blocks.{Blocks}
 use Rattle.lu_guards.proofs.Guards.{EntryOk, Allowed, Grown}
 use Rattle.lu_facts.proofs.Groups.{turn}
 use Rattle.lu_lawful.proofs.Lines.{OfPrinted, Keeps, holds_before, Nothing}
@@ -58,13 +55,13 @@ serving_at head past l later a g = by l.at.node l.entry a.ok
     by (Client c) (Made d) ok = absurd ok
     by (Target t) (Made d) ok = it_serves head t past g
     by (Client c) (Grant lock asked) ok = absurd ok
-    by (Target t) (Grant lock asked) ok = absurd ok
+    by (Target t) (Grant lock asked) ok = it_serves head t past g
     by (Client c) (Wait lock asked) ok = absurd ok
     by (Target t) (Wait lock asked) ok = absurd ok
     by (Client c) (Block called) ok = absurd ok
-    by (Target t) (Block called) ok = absurd ok
+    by (Target t) (Block called) ok = it_serves head t past g
     by (Client c) (Release lock) ok = absurd ok
-    by (Target t) (Release lock) ok = absurd ok
+    by (Target t) (Release lock) ok = it_serves head t past g
     by _ _ ok = tt
 
 pub serving : (head : Head) (past : List Line) → Grown head past → Holds Serving (printed past)
@@ -83,11 +80,6 @@ lives_at : (past : List Line) (at : At) (later : List PrintedLine) (node : Node)
 lives_at past at later (Client c) (Life who) ok = absurd ok
 lives_at past at later (Target t) (Life who) ok = absurd ok
 lives_at past at later _ _ ok = tt
-
-held_at : (past : List Line) (at : At) (later : List PrintedLine) (node : Node) (e : Entry) → EntryOk past (turn at.stamp node) node e → Says Held past (turn at.stamp node) later e
-held_at past at later (Client c) (Hold target lock marked size seen) ok = absurd ok
-held_at past at later (Target t) (Hold target lock marked size seen) ok = absurd ok
-held_at past at later _ _ ok = tt
 
 closes_at : (past : List Line) (at : At) (later : List PrintedLine) (node : Node) (e : Entry) → EntryOk past (turn at.stamp node) node e → Says Closes past (turn at.stamp node) later e
 closes_at past at later (Client c) (Close outcome) ok = absurd ok
@@ -114,16 +106,6 @@ waits_at past at later (Client c) (Wait lock asked) ok = absurd ok
 waits_at past at later (Target t) (Wait lock asked) ok = absurd ok
 waits_at past at later _ _ ok = tt
 
-releases_at : (past : List Line) (at : At) (later : List PrintedLine) (node : Node) (e : Entry) → EntryOk past (turn at.stamp node) node e → Says Releases past (turn at.stamp node) later e
-releases_at past at later (Client c) (Release lock) ok = absurd ok
-releases_at past at later (Target t) (Release lock) ok = absurd ok
-releases_at past at later _ _ ok = tt
-
-blocks_at : (osts : ℕ) (past : List Line) (at : At) (later : List PrintedLine) (node : Node) (e : Entry) → EntryOk past (turn at.stamp node) node e → Says (Blocks osts) past (turn at.stamp node) later e
-blocks_at osts past at later (Client c) (Block called) ok = absurd ok
-blocks_at osts past at later (Target t) (Block called) ok = absurd ok
-blocks_at osts past at later _ _ ok = tt
-
 -- a condition that each allowed entry keeps by itself
 module _ (head : Head) (law : Past → PrintedLine → List PrintedLine → Type 0) (each : (past : List Line) (at : At) (later : List PrintedLine) (node : Node) (e : Entry) → EntryOk past (turn at.stamp node) node e → Says law past (turn at.stamp node) later e) where
   kept_by_each : (past : List Line) → Grown head past → Holds law (printed past)
@@ -135,9 +117,6 @@ module _ (head : Head) (past : List Line) (g : Grown head past) where
 
   pub lives : Holds Lives (printed past)
   lives = kept_by_each head Lives lives_at past g
-
-  pub held : Holds Held (printed past)
-  held = kept_by_each head Held held_at past g
 
   pub closes : Holds Closes (printed past)
   closes = kept_by_each head Closes closes_at past g
@@ -153,9 +132,3 @@ module _ (head : Head) (past : List Line) (g : Grown head past) where
 
   pub waits : Holds Waits (printed past)
   waits = kept_by_each head Waits waits_at past g
-
-  pub releases : Holds Releases (printed past)
-  releases = kept_by_each head Releases releases_at past g
-
-  pub blocks : Holds (Blocks head.osts) (printed past)
-  blocks = kept_by_each head (Blocks head.osts) (blocks_at head.osts) past g

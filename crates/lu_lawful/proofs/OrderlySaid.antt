@@ -6,6 +6,7 @@ use Rattle.std.specs.List.{list_any}
 use Rattle.std.proofs.lemmas.Bool.Decides.{nat_tests}
 use Rattle.std.proofs.lemmas.Bool.{and_parts, cond_both, cond-true, eqb-true}
 use Rattle.lu_base.specs.declared.ids.At.{At}
+use Rattle.lu_base.specs.declared.ids.Cookie.{Cookie}
 use Rattle.lu_base.specs.declared.ids.Node.{Node}
 use Rattle.lu_base.specs.declared.ids.Node.TheVariants.{Client, Target}
 use Rattle.lu_base.specs.declared.ids.Stamp.{Stamp}
@@ -26,7 +27,7 @@ use Rattle.lu_words.specs.Printed.{printed}
 use Rattle.lu_covered.specs.TargetParts.{operation}
 use Rattle.lu_covered.specs.TargetStates.{committed_at, server_at}
 use Rattle.lu_covered.specs.Calls.{first_life}
-use Rattle.lu_covered.specs.Runs.{Head}
+use Rattle.lu_covered.specs.Heads.{Head}
 use Rattle.lu_laws.specs.Holds.{Holds}
 use Rattle.lu_laws.specs.Words.Pasts.{same_turn, or_else}
 use Rattle.lu_laws.specs.Words.Sends.{Sending, sending, with_taken, taken, as_reply, first_fit}
@@ -62,12 +63,20 @@ reply_carries head past stamp t c r a g =
     let n : r.committed.0 ≡ (committed_at 0 past).0 = ap (λ (v : ReplyTo). v.committed.0) ok.is ∙ ap (λ (v : TxnOf). v.0) (sym (server_committed head.osts 0 past)) in
     subst (λ (v : ℕ). MessageAt (printed past) v (message.Reply r)) (sym a.ok.0) (record { present = ap (λ (v : ℕ). Some v) (b ∙ sym (boot_is head past g)); number = n ∙ sym (committed_is head past g) })
 
+block_carries : (head : Head) (past : List Line) (stamp : Stamp) (t c : ℕ) (who : Who) (boot : ℕ) (cookie : Cookie) → Allowed head past (turn stamp (Target t)) (Send (Client c) (message.Block who boot cookie)) → Grown head past
+    → MessageAt (printed past) t (message.Block who boot cookie)
+block_carries head past stamp t c who boot cookie a g =
+    let ok = a.of 0 (about_it t a.ok) in
+    let phase = ((holds head past g).at 0).phase in
+    subst (λ (v : ℕ). MessageAt (printed past) v (message.Block who boot cookie)) (sym a.ok) (record { present = ap (λ (v : ℕ). Some v) (ok.of_boot ∙ phase.boot ∙ sym (boot_is head past g)); number = tt })
+
 messages_at : (head : Head) (past : List Line) (l : Line) (later : List PrintedLine) → Allowed head past l.at l.entry → Grown head past → Keeps Messages past l later
 messages_at head past l later a g = by l.at.node l.entry a
   where
     by : (node : Node) (e : Entry) → Allowed head past (turn l.at.stamp node) e → Says Messages past (turn l.at.stamp node) later e
     by (Client c) (Send to m) k = tt
     by (Target t) (Send (Client c) (message.Reply r)) k = reply_carries head past l.at.stamp t c r k g
+    by (Target t) (Send (Client c) (message.Block who boot cookie)) k = block_carries head past l.at.stamp t c who boot cookie k g
     by (Target t) (Send (Client c) m) k = absurd k.ok
     by (Target t) (Send (Target u) m) k = absurd k.ok
     by _ _ k = tt

@@ -1,25 +1,28 @@
 -- Every covered run keeps all that `Orderly` asks.
-use Rattle.lu_covered.specs.Runs.{lines_of}
+use Rattle.lu_table.specs.Runs.{lines_of}
 use Rattle.lu_laws.specs.Orderly.{Orderly}
 use Rattle.lu_lawful.specs.Everywhere.{OfEveryRun}
+use Rattle.lu_guards.proofs.Turns.{covered_head}
 use Rattle.lu_guards.proofs.Obey.{grown}
 use Rattle.lu_lawful.proofs.Once.{all_asked}
 use Rattle.lu_lawful.proofs.OrderlyQuiet as quiet
 use Rattle.lu_lawful.proofs.OrderlySaid as said
 use Rattle.lu_lawful.proofs.OrderlyAsked as asked
 use Rattle.lu_lawful.proofs.OrderlyAgain as again
+use Rattle.lu_lawful.proofs.OrderlyLocks as locks
 
 pub orderly : OfEveryRun (λ osts whole. Orderly osts whole)
-orderly head turns is run =
+orderly all turns is run covered =
+    let head = covered_head all in
     let past = lines_of turns in
-    let g = grown head turns run in
+    let g = grown all turns run covered in
     record {
       serving = quiet.serving head past g;
       requests = asked.requests head past g;
       boots = quiet.boots head past g;
       messages = said.messages head past g;
       lives = quiet.lives head past g;
-      held = quiet.held head past g;
+      held = locks.held head past g;
       heard = said.heard head past g;
       repeated = again.repeated head past g;
       answers = said.answers head past g (all_asked head past g);
@@ -28,6 +31,6 @@ orderly head turns is run =
       restored = quiet.restored head past g;
       joined = quiet.joined head past g;
       waits = quiet.waits head past g;
-      releases = quiet.releases head past g;
-      blocks = quiet.blocks head past g;
+      releases = locks.releases head past g;
+      blocks = locks.blocks head past g;
     }

@@ -20,7 +20,7 @@ use Rattle.lu_words.specs.Words.{Entry, Begin, Send, Heard, Told, Queues, Stands
 use Rattle.lu_words.specs.Sent.{count_sent, Sent}
 use Rattle.lu_words.specs.Printed.{printed}
 use Rattle.lu_covered.specs.Calls.{asks, asks_for, call_at, is_dead, operation_of}
-use Rattle.lu_covered.specs.Runs.{Head}
+use Rattle.lu_covered.specs.Heads.{Head}
 use Rattle.lu_laws.specs.Words.Pasts.{has_died}
 use Rattle.lu_laws.specs.Words.Pasts as pasts
 use Rattle.lu_laws.specs.Words.Sends.{Sending, sends, sending, goes_to, is_sent_to}

@@ -27,7 +27,7 @@ use Rattle.lu_words.specs.Sent.{count_sent}
 use Rattle.lu_words.specs.Printed.{printed_entry, printed}
 use Rattle.lu_covered.specs.TargetParts.{operation}
 use Rattle.lu_covered.specs.TargetStates.{tree_at, log_at, slot_of, count_at, server_at, seen_in}
-use Rattle.lu_covered.specs.Runs.{Head}
+use Rattle.lu_covered.specs.Heads.{Head}
 use Rattle.lu_laws.specs.Words.Pasts.{same_turn, or_else}
 use Rattle.lu_laws.specs.Words.Scopes.{only_here}
 use Rattle.lu_laws.specs.Words.Sends.{Sending, sending, message_of, with_taken, taken}
@@ -75,7 +75,9 @@ acted_before head (l ∷ past) at d g later a = by l.entry g.0 a (λ b. acted_be
 
 not_size : (head : Head) (past : List Line) (stamp : Stamp) (node to : Node) (m : Message) (who : Who) (x : ℕ) → Allowed head past (turn stamp node) (Send to m) → answers_size who x m ≡ false
 not_size head past stamp (Client c) (Target t) (message.Request r) who x k = refl
+not_size head past stamp (Client c) (Target t) (message.Cancel other boot cookie) who x k = refl
 not_size head past stamp (Target t) (Client c) (message.Reply r) who x k = refl
+not_size head past stamp (Target t) (Client c) (message.Block other boot cookie) who x k = refl
 not_size head past stamp (Client c) (Target t) m who x k = absurd k.ok
 not_size head past stamp (Client c) (Client d) m who x k = absurd k.ok
 not_size head past stamp (Target t) (Client c) m who x k = absurd k.ok
@@ -175,15 +177,15 @@ txn_reply head before stamp node d g =
 -- what was just done
 did_reply : (head : Head) (past : List Line) (d : Deed) → Grown head past → AllAsked past → Did past d → d.reply.seen ≡ reply_numbers head.osts past d.reply
 did_reply head [] d g a i = absurd i
-did_reply head (l ∷ past) d g a i = by l.at.node l.entry g a i
+did_reply head (l ∷ past) d g a i = by l.at.node l.entry g a i (did_reply head past d)
   where
     by : (node : Node) (e : Entry) → Grown head (line (turn l.at.stamp node) e ∷ past) → AllAsked (line (turn l.at.stamp node) e ∷ past) → Did (line (turn l.at.stamp node) e ∷ past) d
+        → (Grown head past → AllAsked past → Did past d → d.reply.seen ≡ reply_numbers head.osts past d.reply)
         → d.reply.seen ≡ reply_numbers head.osts (line (turn l.at.stamp node) e ∷ past) d.reply
-    by node (Act e) g a i = subst (λ (v : Deed). v.reply.seen ≡ reply_numbers head.osts (line (turn l.at.stamp node) (Act e) ∷ past) v.reply) i (act_reply head past l.at.stamp node e g a)
-    by node (Made e) g a i = subst (λ (v : Deed). v.reply.seen ≡ reply_numbers head.osts (line (turn l.at.stamp node) (Made e) ∷ past) v.reply) i (txn_reply head past l.at.stamp node e g)
-    by (Client c) (Grant lock asks) g a i = absurd g.0.ok
-    by (Target t) (Grant lock asks) g a i = absurd g.0.ok
-    by _ _ g a i = absurd i
+    by node (Act e) g a i h = subst (λ (v : Deed). v.reply.seen ≡ reply_numbers head.osts (line (turn l.at.stamp node) (Act e) ∷ past) v.reply) i (act_reply head past l.at.stamp node e g a)
+    by node (Made e) g a i h = subst (λ (v : Deed). v.reply.seen ≡ reply_numbers head.osts (line (turn l.at.stamp node) (Made e) ∷ past) v.reply) i (txn_reply head past l.at.stamp node e g)
+    by node (Grant lock asks) g a i h = h g.1 a i
+    by _ _ g a i h = absurd i
 
 -- what was done in an earlier turn isn't of this one
 taken_reply : (head : Head) (past : List Line) (at : At) (who : Who) (tag : ℕ) (kept : ReplyTo) → Grown head past → Steps past at → Taken past → (slot_of who tag (only 0 past)).reply ≡ Some kept → kept.at ≡ at → ⊥
@@ -270,6 +272,7 @@ recovery_at clients head past l later k g a = by l.at.node l.entry k a
     by (Client c) (Send to m) k a = tt
     by (Target t) (Send (Client c) (message.Reply r)) k a =
         subst (λ (v : ℕ). ReplyAt head.osts v (printed past) (turn l.at.stamp (Target t)) r) (sym k.ok.0) (reply_law head past (turn l.at.stamp (Target t)) r g a k.steps (subst (λ (v : ℕ). RepliesNow past v r) k.ok.0 k.ok.1))
+    by (Target t) (Send (Client c) (message.Block who boot cookie)) k a = tt
     by (Target t) (Send (Client c) m) k a = absurd k.ok
     by (Target t) (Send (Target u) m) k a = absurd k.ok
     by (Target t) (Take n from m) k a = never_taken head past (record { at = turn l.at.stamp (Target t); entry = entry.Take n }) later t (message_of (printed past) n) g

@@ -15,7 +15,7 @@ use Rattle.lu_words.specs.Words.{Entry, Txn as Made, Commit, Boot, Line, line}
 use Rattle.lu_words.specs.Printed.{printed}
 use Rattle.lu_covered.specs.TargetParts.{operation}
 use Rattle.lu_covered.specs.TargetStates.{committed_at, log_at, server_at, seen_in}
-use Rattle.lu_covered.specs.Runs.{Head}
+use Rattle.lu_covered.specs.Heads.{Head}
 use Rattle.lu_laws.specs.Words.Requests.{asked}
 use Rattle.lu_laws.specs.Words.Boots.{committed}
 use Rattle.lu_laws.specs.Words.Lost.{is_lost}

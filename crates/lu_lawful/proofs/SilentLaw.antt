@@ -1,285 +1,317 @@
--- The law of silent repeats holds of the printed past of every grown one: what is read there isn't found, so that no call
--- which could be repeated is told anything but an error.
-use Rattle.std.proofs.Common.{◌≡◌, ℕ, ◌+◌, Bool, true, false, List, [], ◌∷◌, ◌++◌, Option, Some, None, refl, sym, subst, ap, ◌∙◌}
+-- The law of silent repeats holds of the printed past of every grown one that is settled: each call whose answer is known is known
+-- by facts under held locks, so that it is told as it begins.
+use Rattle.std.proofs.Common.{◌≡◌, ℕ, ◌+◌, Bool, true, false, List, [], ◌∷◌, ◌++◌, ◌⊎◌, Option, Some, None, inl, inr, refl, sym, subst, ap, ◌∙◌}
 use Rattle.std.specs.Prelude.{nat_eq, not, ◌==◌, ◌&&◌, if◌then◌else◌, map, filter}
 use Rattle.std.specs.List.{list_any}
-use Rattle.std.specs.Option.{option_map}
-use Rattle.std.proofs.lemmas.Bool.{cond_both, and_parts, eqb-true}
+use Rattle.std.proofs.lemmas.Bool.{cond_both, cond-true, and_parts, eqb-true}
 use Rattle.lu_base.specs.declared.ids.At.{At}
 use Rattle.lu_base.specs.declared.ids.Node.{Node}
 use Rattle.lu_base.specs.declared.ids.Node.TheVariants.{Client, Target}
 use Rattle.lu_base.specs.declared.ids.Who.{Who}
 use Rattle.lu_msg.specs.declared.answers.Answer.{Answer}
 use Rattle.lu_msg.specs.declared.answers.Answer.TheVariants as told
+use Rattle.lu_msg.specs.declared.answers.Errno.{Errno}
 use Rattle.lu_msg.specs.declared.calls.Call.{Call}
 use Rattle.lu_msg.specs.declared.calls.Call.TheVariants as call
 use Rattle.lu_msg.specs.declared.operations.Op.{Op}
-use Rattle.lu_msg.specs.declared.operations.Op.TheVariants as op
-use Rattle.lu_msg.specs.declared.messages.Reply.{Reply as ReplyTo}
+use Rattle.lu_held.specs.declared.locks.HeldLock.{HeldLock}
+use Rattle.lu_held.specs.declared.locks.Change.TheVariants as lock
+use Rattle.lu_held.specs.declared.names.LockName.{LockName}
+use Rattle.lu_held.specs.Locks.{is_named, after}
+use Rattle.lu_held.specs.Held.{changed}
+use Rattle.lu_trace.specs.declared.entries.Entry.{Entry as PrintedEntry}
+use Rattle.lu_trace.specs.declared.entries.Entry.TheVariants as entry
 use Rattle.lu_trace.specs.declared.entries.Line.{Line as PrintedLine}
 use Rattle.lu_machine.specs.Footprint.{Every}
-use Rattle.lu_machine.specs.Laws.{IsReading}
-use Rattle.lu_words.specs.Carried.{Work, Asking, Running}
-use Rattle.lu_words.specs.Words.{Entry, Begin, Heard, Told, Take, Drop, Queues, Stands, Line, line}
+use Rattle.lu_machine.specs.Name.{same_name}
+use Rattle.lu_machine.proofs.Keys.{name_tells}
+use Rattle.lu_words.specs.Carried.{Work, Queued, Running}
+use Rattle.lu_words.specs.Words.{Entry, Begin, Told, Take, Drop, Queues, Pins, Line, line}
 use Rattle.lu_words.specs.Sent.{count_sent}
 use Rattle.lu_words.specs.Printed.{printed_entry, printed}
-use Rattle.lu_covered.specs.Calls.{first_life, call_at, asks, asks_for, operation_of}
-use Rattle.lu_covered.specs.Runs.{Head}
-use Rattle.lu_laws.specs.Words.Lives.{life, who_is}
+use Rattle.lu_client_rows.specs.Caches.{held_at}
+use Rattle.lu_client_rows.specs.Facts.{facts_at}
+use Rattle.lu_client_rows.specs.Known.{Notes}
+use Rattle.lu_covered.specs.Calls.{first_life, call_at, operation_of}
+use Rattle.lu_covered.specs.Heads.{Head}
+use Rattle.lu_covered.specs.Known.{notes_at, known_answer}
+use Rattle.lu_laws.specs.Holds.{HoldsBefore, Holds}
+use Rattle.lu_laws.specs.Laws.Silent.{is_told_silently, SilentAt, Silent}
 use Rattle.lu_laws.specs.Words.Calls.{call_in}
 use Rattle.lu_laws.specs.Words.Held.{held, has_write_lock}
-use Rattle.lu_laws.specs.Words.Repeats.{same_reading, rebinds, is_error, is_ready, in_other_slot, begun_calm, calm, told_calm, known, is_repeat}
-use Rattle.lu_laws.specs.Holds.{Holds}
-use Rattle.lu_laws.specs.Laws.Silent.{SilentAt, Silent}
-use Rattle.lu_guards.proofs.Lists.{self, who as who_of}
-use Rattle.lu_guards.proofs.Guards.{EntryOk, Allowed, Grown}
+use Rattle.lu_laws.specs.Words.Lives.{life}
+use Rattle.lu_laws.specs.Words.Pasts.{same_turn}
+use Rattle.lu_laws.specs.Words.Repeats.{same_path, same_reading, is_error, calm, told_calm, known, is_repeat}
+use Rattle.lu_guards.proofs.Guards.{In, Starts, Owes, QueuesOk, ToldOk, KnownOk, Grown}
+use Rattle.lu_guards.proofs.Lists.{self, in_filter, who as who_of}
+use Rattle.lu_guards.proofs.Turns.{Settled}
 use Rattle.lu_facts.proofs.Groups.{turn}
-use Rattle.lu_facts.proofs.All.{holds}
-use Rattle.lu_facts.proofs.OnNames.{op_is, IsRefusal}
-use Rattle.lu_facts.proofs.Refused.{acted_refused}
-use Rattle.lu_lawful.proofs.Story.{acted_whole}
 use Rattle.lu_lawful.proofs.Contents.{life_stays}
 use Rattle.lu_lawful.proofs.Printed.{flip}
-use Rattle.lu_lawful.proofs.Lines.{OfPrinted, Keeps, holds_before, Nothing}
+use Rattle.lu_lawful.proofs.Lines.{OfPrinted, Keeps}
+use Rattle.lu_lawful.proofs.SilentKnown.{Agrees, Grows, IsKnown, IsReadingCall, known_more, known_told, told_known}
+use Rattle.lu_lawful.proofs.SilentHeld.{bare_at, gives_up, Unmarked, of_any, map_in, grows_to_bare, grows_from_bare, notes_grow}
+use Rattle.lu_lawful.proofs.SilentCalm.{called, call_is, calm_stands, StandsIn, and_true, every_filter, every_both, every_in, in_every, every_map}
+use Rattle.lu_lawful.proofs.SilentTaught.{told_is_known}
+use Rattle.lu_lawful.proofs.SilentAgrees.{agrees}
 
--- ---- the call in a slot is the same
+-- ---- each call whose answer is known is known by facts
 
-abbrev called : Option Running → Option Call
-called o = option_map (λ (r : Running). r.call) o
+abbrev KnownAt : ℕ → List Line → Call → Type 0
+KnownAt c past k = IsKnown (bare_at c past) k
 
-asks_stays : (served : Option ℕ) (slot : ℕ) (asking : Asking) (o : Option Running) → called (asks_for served slot asking o) ≡ called o
-asks_stays None slot asking o = refl
-asks_stays (Some s) slot asking o = cond_both (nat_eq s slot) (asks asking o) o (λ v. called v ≡ called o) (λ t. by o) (λ f. refl)
+no_refusal : (given : Answer) → is_error given ≡ false → (e : Errno) → given ≡ told.Refused e → ⊥
+no_refusal given fine e is = let error : is_error given ≡ true = ap is_error is in absurd (cc)
+
+module _ (head : Head) (c : ℕ) where
+  -- a line that gives up no lock keeps it
+  still : (past : List Line) (l : Line) → Grown head (l ∷ past) → gives_up c l.at.node l.entry ≡ false → (k : Call) → KnownAt c past k → KnownAt c (l ∷ past) k
+  still past l g stays k h = known_more (bare_at c past) (bare_at c (l ∷ past)) (notes_grow c past l.at.stamp l.at.node l.entry g.0.ok stays) (agrees head c (l ∷ past) g) k h
+
+  -- the call that is told
+  told_one : (past : List Line) (at : At) (slot : ℕ) (named : At) (given : Answer) (work : Option Work) → Grown head past → at.node ≡ Client c → ToldOk past at c slot named given work ⊎ KnownOk past at c slot named given work → is_error given ≡ false
+      → (x : ℕ × Call) → In x (calm (first_life c) (printed past)) → x.0 ≡ slot → KnownAt c past x.1
+  told_one past at slot named given work g own ok fine x i is = by ok
+    where
+      -- it is the call in the slot
+      the_call : (r : Running) → call_at c slot past ≡ Some r → r.call ≡ x.1
+      the_call r e =
+          let stands : call_in c x.0 (printed past) ≡ Some x.1 = every_in (StandsIn (λ k. call_in c k (printed past))) x (calm (first_life c) (printed past)) (calm_stands head c past g) i in
+          let here : call_in c slot (printed past) ≡ Some r.call = call_is head c slot past g ∙ ap called e in
+          let there : call_in c slot (printed past) ≡ Some x.1 = subst (λ (v : ℕ). call_in c v (printed past) ≡ Some x.1) is stands in
+          cc
+
+      by : ToldOk past at c slot named given work ⊎ KnownOk past at c slot named given work → KnownAt c past x.1
+      by (inl a) = subst (λ (v : Call). KnownAt c past v) (the_call a.running a.call) (told_is_known head c slot past at named given work g (agrees head c past g) own a (no_refusal given fine) x i is)
+      by (inr a) =
+          subst (λ (v : Call). KnownAt c past v) (the_call a.running a.call)
+          (known_more (notes_at c past) (bare_at c past) (grows_to_bare (facts_at c past) (held_at c past)) (agrees head c past g) a.running.call (told_known (notes_at c past) given a.running.call a.known))
+
+  -- all that is told calm in the slot
+  told_all : (past : List Line) (at : At) (slot : ℕ) (named : At) (given : Answer) (work : Option Work) → Grown head past → at.node ≡ Client c → ToldOk past at c slot named given work ⊎ KnownOk past at c slot named given work
+      → Every (KnownAt c past) (told_calm slot given (calm (first_life c) (printed past)))
+  told_all past at slot named given work g own ok = by (is_error given) refl
+    where
+      P : List (ℕ × Call)
+      P = calm (first_life c) (printed past)
+
+      by : (b : Bool) → is_error given ≡ b → Every (KnownAt c past) (if b then [] else map (λ s. s.1) (filter (λ s. s.0 == slot) P))
+      by true e = tt
+      by false e =
+          in_every (KnownAt c past) (map (λ s. s.1) (filter (λ s. s.0 == slot) P))
+          (λ k i.
+          let m = map_in (λ (s : ℕ × Call). s.1) k (filter (λ s. s.0 == slot) P) i in
+          let f = in_filter (λ (s : ℕ × Call). s.0 == slot) m.0 P m.1.0 in
+          subst (λ (v : Call). KnownAt c past v) m.1.1 (told_one past at slot named given work g own ok e m.0 f.0 (eqb-true m.0.0 slot f.1)))
+
+  begun_known : (past : List Line) (t : Bool) (test : Call → Bool) (old : List Call) → Every (KnownAt c past) old → Every (KnownAt c past) (if t then filter test old else old)
+  begun_known past true test old h = every_filter test (λ x is q. q) old h
+  begun_known past false test old h = h
+
+  gone : (past : List Line) (t : Bool) (old : List Call) → (t ≡ false → Every (KnownAt c past) old) → Every (KnownAt c past) (if t then [] else old)
+  gone past true old h = tt
+  gone past false old h = h refl
+
+  more_known : (past : List Line) (t : Bool) (more old : List Call) → (t ≡ true → Every (KnownAt c past) more) → Every (KnownAt c past) old → Every (KnownAt c past) (if t then more ++ old else old)
+  more_known past true more old h k = every_both (KnownAt c past) more old (h refl) k
+  more_known past false more old h k = k
+
+  pub known_is_known : (past : List Line) → Grown head past → Every (KnownAt c past) (known (first_life c) (printed past))
+  known_is_known [] g = tt
+  known_is_known (l ∷ past) g = by l.at.node l.entry g (known_is_known past g.1)
+    where
+      own : life c (printed past) ≡ 1
+      own = life_stays head c past g.1
+
+      P : List Call
+      P = known (first_life c) (printed past)
+
+      after_line : (node : Node) (e : Entry) → Grown head (line (turn l.at.stamp node) e ∷ past) → gives_up c node e ≡ false → (xs : List Call) → Every (KnownAt c past) xs → Every (KnownAt c (line (turn l.at.stamp node) e ∷ past)) xs
+      after_line node e g stays xs h = every_map (KnownAt c past) (KnownAt c (line (turn l.at.stamp node) e ∷ past)) xs (λ k q. still past (line (turn l.at.stamp node) e) g stays k q) h
+
+      by : (node : Node) (e : Entry) → Grown head (line (turn l.at.stamp node) e ∷ past) → Every (KnownAt c past) P → Every (KnownAt c (line (turn l.at.stamp node) e ∷ past)) (known (first_life c) (printed (line (turn l.at.stamp node) e ∷ past)))
+      by (Client d) (Begin s running) g h = begun_known (line (turn l.at.stamp (Client d)) (Begin s running) ∷ past) _ _ P (after_line (Client d) (Begin s running) g refl P h)
+      by (Client d) (Told s named given work) g h =
+          rw (own, and_true (nat_eq d c))
+          (more_known (line (turn l.at.stamp (Client d)) (Told s named given work) ∷ past) (nat_eq d c) (told_calm s given (calm (first_life c) (printed past))) P
+          (λ t.
+          let same : d ≡ c = eqb-true d c t in
+          after_line (Client d) (Told s named given work) g refl (told_calm s given (calm (first_life c) (printed past)))
+          (told_all past (turn l.at.stamp (Client d)) s named given work g.1 (ap Client same)
+          (subst (λ (v : ℕ). ToldOk past (turn l.at.stamp (Client d)) v s named given work ⊎ KnownOk past (turn l.at.stamp (Client d)) v s named given work) same g.0.ok)))
+          (after_line (Client d) (Told s named given work) g refl P h))
+      by (Client d) (Drop t x) g h =
+          rw (own, and_true (nat_eq d c))
+          (gone (line (turn l.at.stamp (Client d)) (Drop t x) ∷ past) (nat_eq d c) P (λ f. after_line (Client d) (Drop t x) g (flip c d ∙ f) P h))
+      by (Client d) (Take n from m) g h = gone (line (turn l.at.stamp (Client d)) (Take n from m) ∷ past) _ P (λ f. after_line (Client d) (Take n from m) g refl P h)
+      by (Target u) (Begin s running) g h = absurd g.0.ok
+      by (Target u) (Told s named given work) g h = absurd g.0.ok
+      by (Target u) (Drop v x) g h = absurd g.0.ok
+      by (Target u) (Take n from m) g h = after_line (Target u) (Take n from m) g refl P h
+      by node e g h = after_line node e g refl P h
+
+-- ---- a call that repeats one whose answer is known
+
+same_paths : (a b : List (List ℕ)) → same_path a b ≡ true → a ≡ b
+same_paths [] [] e = refl
+same_paths (n ∷ ns) (m ∷ ms) e = let p = and_parts (same_name n m) (same_path ns ms) e in ap (λ v. v ∷ ns) (one (name_tells n m) p.0) ∙ ap (λ v. m ∷ v) (same_paths ns ms p.1)
   where
-    by : (o : Option Running) → called (asks asking o) ≡ called o
-    by None = refl
-    by (Some r) = refl
+    one : ((same_name n m ≡ true) × (n ≡ m)) ⊎ ((same_name n m ≡ false) × (n ≡ m → ⊥)) → same_name n m ≡ true → n ≡ m
+    one (inl q) e = q.1
+    one (inr q) e = let f = q.0 in absurd (cc)
+same_paths [] (m ∷ ms) e = absurd (cc)
+same_paths (n ∷ ns) [] e = absurd (cc)
 
-began_same : (running : Running) (a : Option Running) (b : Option Call) (t u : Bool) → b ≡ called a → (if t && u then Some running.call else b) ≡ called (if t then (if u then Some running else a) else a)
-began_same running a b true true h = refl
-began_same running a b true false h = h
-began_same running a b false u h = h
+repeats : (n : Notes) (a k : Call) (o : Op) → operation_of a ≡ Some o → same_reading a k ≡ true → IsKnown n k → IsReadingCall a × IsKnown n a
+repeats n (call.Lookup p) (call.Lookup q) o e s h = (tt, subst (λ (v : List (List ℕ)). IsKnown n (call.Lookup v)) (sym (same_paths p q s)) h)
+repeats n (call.Stat p) (call.Stat q) o e s h = (tt, subst (λ (v : List (List ℕ)). IsKnown n (call.Stat v)) (sym (same_paths p q s)) h)
+repeats n (call.List p) (call.List q) o e s h = (tt, subst (λ (v : List (List ℕ)). IsKnown n (call.List v)) (sym (same_paths p q s)) h)
+repeats n (call.Layout p) (call.Layout q) o e s h = (tt, subst (λ (v : List (List ℕ)). IsKnown n (call.Layout v)) (sym (same_paths p q s)) h)
+repeats n (call.Read h offset count) k o e s is = absurd (cc)
+repeats n _ _ o e s h = absurd (cc)
 
-told_same : (a : Option Running) (b : Option Call) (t u : Bool) → b ≡ called a → (if t && u then None else b) ≡ called (if t then (if u then None else a) else a)
-told_same a b true true h = refl
-told_same a b true false h = h
-told_same a b false u h = h
+-- ---- what a call that begins owes
 
-call_is : (head : Head) (c slot : ℕ) (past : List Line) → Grown head past → call_in c slot (printed past) ≡ called (call_at c slot past)
-call_is head c slot [] g = refl
-call_is head c slot (l ∷ past) g = by l.at.node l.entry g.0.ok (call_is head c slot past g.1)
-  where
-    by : (node : Node) (e : Entry) → EntryOk past (turn l.at.stamp node) node e → call_in c slot (printed past) ≡ called (call_at c slot past)
-        → call_in c slot (printed (line (turn l.at.stamp node) e ∷ past)) ≡ called (call_at c slot (line (turn l.at.stamp node) e ∷ past))
-    by (Client d) (Begin s running) ok h = rw (flip d c) (began_same running (call_at c slot past) (call_in c slot (printed past)) (nat_eq c d) (nat_eq s slot) h)
-    by (Client d) (Told s named given work) ok h = rw (flip d c) (told_same (call_at c slot past) (call_in c slot (printed past)) (nat_eq c d) (nat_eq s slot) h)
-    by (Client d) (Queues t q) ok h = cond_both (nat_eq c d) (asks_for q.slot slot _ (call_at c slot past)) (call_at c slot past) (λ (o : Option Running). call_in c slot (printed past) ≡ called o) (λ b. h ∙ sym (asks_stays q.slot slot _ (call_at c slot past))) (λ b. h)
-    by (Client d) (Heard t f r) ok h = cond_both (nat_eq c d) (asks_for f.slot slot _ (call_at c slot past)) (call_at c slot past) (λ (o : Option Running). call_in c slot (printed past) ≡ called o) (λ b. h ∙ sym (asks_stays f.slot slot _ (call_at c slot past))) (λ b. h)
-    by (Client d) (Stands s running) ok h = absurd ok
-    by (Target t) (Begin s running) ok h = absurd ok
-    by (Target t) (Told s named given work) ok h = absurd ok
-    by (Target t) (Queues u q) ok h = absurd ok
-    by (Target t) (Heard u f r) ok h = absurd ok
-    by (Target t) (Stands s running) ok h = absurd ok
-    by _ _ ok h = h
+module _ (head : Head) where
+  -- where the newest line began a call that is known, but for pins, it is told in the lines to come before anything is sent
+  abbrev Due : List Line → List PrintedLine → Type 0
+  Due [] later = Unit {0}
+  Due (l ∷ past) later =
+      elim l.entry [
+        | Begin slot running ↦ (c : ℕ) → l.at.node ≡ Client c → IsReadingCall running.call → KnownAt c past running.call → is_told_silently slot l.at later ≡ true
+        | Pins name ↦ Due past later
+        | _ ↦ Unit {0}
+      ]
 
--- ---- lists
+  nothing_due : (past : List Line) → Settled past → Due past []
+  nothing_due [] s = tt
+  nothing_due (l ∷ past) s = by l.entry s
+    where
+      by : (e : Entry) → Settled (line l.at e ∷ past) → Due (line l.at e ∷ past) []
+      by (Begin slot running) s = absurd s
+      by (Pins name) s = absurd s
+      by _ s = tt
 
-module _ {A : Type 0} {P Q : A → Type 0} (test : A → Bool) (gives : (x : A) → test x ≡ true → P x → Q x) where
-  every_filter : (xs : List A) → Every P xs → Every Q (filter test xs)
-  every_filter [] h = tt
-  every_filter (x ∷ xs) h = cond_both (test x) (x ∷ filter test xs) (filter test xs) (λ v. Every Q v) (λ t. (gives x t h.0, every_filter xs h.1)) (λ f. every_filter xs h.1)
+  turn_self : (a b : At) → a ≡ b → same_turn b a ≡ true
+  turn_self a b e = subst (λ (v : At). same_turn v a ≡ true) e (by a.node)
+    where
+      by : (node : Node) → same_turn (turn a.stamp node) (turn a.stamp node) ≡ true
+      by (Client c) = ap (λ (v : Bool). v && nat_eq c c) (self a.stamp.0) ∙ self c
+      by (Target t) = ap (λ (v : Bool). v && nat_eq t t) (self a.stamp.0) ∙ self t
 
-module _ {A : Type 0} (P : A → Type 0) where
-  every_both : (xs ys : List A) → Every P xs → Every P ys → Every P (xs ++ ys)
-  every_both [] ys h k = k
-  every_both (x ∷ xs) ys h k = (h.0, every_both xs ys h.1 k)
+  told_due : (at : At) (s : ℕ) (named : At) (given : Answer) (work : Option Work) (later : List PrintedLine) (past : List Line) → Owes past at (Told s named given work)
+      → Due past (record { at = at; entry = entry.Told s named given } ∷ later)
+  told_due at s named given work later [] o = tt
+  told_due at s named given work later (l ∷ past) o = by l.entry o (told_due at s named given work later past)
+    where
+      by : (e : Entry) → Owes (line l.at e ∷ past) at (Told s named given work) → (Owes past at (Told s named given work) → Due past (record { at = at; entry = entry.Told s named given } ∷ later))
+          → Due (line l.at e ∷ past) (record { at = at; entry = entry.Told s named given } ∷ later)
+      by (Begin slot running) o more = λ c own reads h.
+          cond-true (same_turn at l.at && nat_eq s slot) true (is_told_silently slot l.at later) (ap (λ (b : Bool). b && nat_eq s slot) (turn_self l.at at o.0) ∙ ap (λ (v : ℕ). nat_eq v slot) o.1 ∙ self slot)
+      by (Pins name) o more = more o.1
+      by _ o more = tt
 
-  cleared : (b : Bool) (old : List A) → Every P old → Every P (if b then [] else old)
-  cleared true old h = tt
-  cleared false old h = h
+  -- nothing else may follow, but pins and a request
+  other_due : (at : At) (e : Entry) → ((slot : ℕ) → Starts slot e → ⊥) → (later : List PrintedLine) (past : List Line) → Owes past at e → Due past later
+  other_due at e never later [] o = tt
+  other_due at e never later (l ∷ past) o = by l.entry o (other_due at e never later past)
+    where
+      by : (x : Entry) → Owes (line l.at x ∷ past) at e → (Owes past at e → Due past later) → Due (line l.at x ∷ past) later
+      by (Begin slot running) o more = absurd (never slot o.1)
+      by (Pins name) o more = more o.1
+      by _ o more = tt
 
--- ---- each call that stands calm stands in its slot
+  -- and nothing is asked for a call that is known
+  agrees_too : (n k : Notes) → Grows n k → Agrees k → Agrees n
+  agrees_too n k more a d m f g u v = a d m f g (more f u) (more g v)
 
-abbrev StandsIn : (ℕ → Option Call) → ℕ × Call → Type 0
-StandsIn in_slot x = in_slot x.0 ≡ Some x.1
+  pinned_calm : (name : LockName) (held : List HeldLock) → Unmarked held → Unmarked (changed name lock.Pin held)
+  pinned_calm name held calm h i =
+      let m = map_in (λ (g : HeldLock). if is_named name g then after lock.Pin g else g) h held i in
+      cond_both (is_named name m.0) (after lock.Pin m.0) m.0 (λ (v : HeldLock). v ≡ h → h.marked ≡ false)
+      (λ t e. ap (λ (v : HeldLock). v.marked) (sym e) ∙ calm m.0 m.1.0) (λ t e. ap (λ (v : HeldLock). v.marked) (sym e) ∙ calm m.0 m.1.0) m.1.1
 
-other_slot : (a b : ℕ) → not (nat_eq a b) ≡ true → nat_eq b a ≡ false
-other_slot a b e = by (nat_eq a b) (flip b a) e
-  where
-    by : (v : Bool) → nat_eq b a ≡ v → not v ≡ true → nat_eq b a ≡ false
-    by true f e = absurd (cc)
-    by false f e = f
+  module _ (c : ℕ) (at : At) (own : at.node ≡ Client c) (t : ℕ) (q : Queued) (now : List Line) (grown : Grown head now) (ok : QueuesOk now c t q) (later : List PrintedLine) where
+    -- a call that is known when all is calm isn't asked for
+    never_asked : (slot : ℕ) (running : Running) → q.slot ≡ Some slot → call_at c slot now ≡ Some running → Unmarked (held_at c now) → IsReadingCall running.call → KnownAt c now running.call → ⊥
+    never_asked slot running serves is calm reads h =
+        let same : ok.slot ≡ slot = one_slot ok.slot slot q.slot ok.serves serves in
+        let there : call_at c slot now ≡ Some ok.running = subst (λ (v : ℕ). call_at c v now ≡ Some ok.running) same ok.call in
+        let same_call : ok.running ≡ running = one_running ok.running running (call_at c slot now) there is in
+        let notes_agree = agrees_too (notes_at c now) (bare_at c now) (grows_to_bare (facts_at c now) (held_at c now)) (agrees head c now grown) in
+        let knows = known_more (bare_at c now) (notes_at c now) (grows_from_bare (facts_at c now) (held_at c now) calm) notes_agree running.call h in
+        known_told (notes_at c now) running.call reads knows (subst (λ (v : Running). known_answer (notes_at c now) v.call ≡ None) same_call ok.unknown)
+      where
+        one_slot : (a b : ℕ) (v : Option ℕ) → v ≡ Some a → v ≡ Some b → a ≡ b
+        one_slot a b v e f = cc
 
-begin_stands : (t ready : Bool) (slot : ℕ) (new : Call) (in_slot : ℕ → Option Call) (old : List (ℕ × Call)) → Every (StandsIn in_slot) old
-    → Every (StandsIn (λ k. if t && nat_eq slot k then Some new else in_slot k)) (if t then begun_calm slot new ready old else old)
-begin_stands false ready slot new in_slot old h = h
-begin_stands true ready slot new in_slot old h =
-    every_both (StandsIn (λ k. if nat_eq slot k then Some new else in_slot k)) (if ready then (slot, new) ∷ [] else []) _ (first ready)
-    (every_filter (λ x. in_other_slot slot x && not (rebinds new x.1))
-    (λ x is s. let p = and_parts (in_other_slot slot x) _ is in let other = other_slot x.0 slot p.0 in ap (λ (b : Bool). if b then Some new else in_slot x.0) other ∙ s) old h)
-  where
-    first : (ready : Bool) → Every (StandsIn (λ k. if nat_eq slot k then Some new else in_slot k)) (if ready then (slot, new) ∷ [] else [])
-    first true = (ap (λ (b : Bool). if b then Some new else in_slot slot) (self slot), tt)
-    first false = tt
+        one_running : (a b : Running) (v : Option Running) → v ≡ Some a → v ≡ Some b → a ≡ b
+        one_running a b v e f = cc
 
-told_stands : (t : Bool) (slot : ℕ) (in_slot : ℕ → Option Call) (old : List (ℕ × Call)) → Every (StandsIn in_slot) old
-    → Every (StandsIn (λ k. if t && nat_eq slot k then None else in_slot k)) (if t then filter (in_other_slot slot) old else old)
-told_stands false slot in_slot old h = h
-told_stands true slot in_slot old h = every_filter (in_other_slot slot) (λ x is s. let other = other_slot x.0 slot is in ap (λ (b : Bool). if b then None else in_slot x.0) other ∙ s) old h
+    one_client : (d : ℕ) (here : At) → here.node ≡ Client d → here ≡ at → d ≡ c
+    one_client d here is e = let same : Client d ≡ Client c = sym is ∙ ap (λ (v : At). v.node) e ∙ own in cc
 
-and_true : (b : Bool) → (b && true) ≡ b
-and_true true = refl
-and_true false = refl
+    queues_due : (past : List Line) → Grown head past → ((slot : ℕ) → call_at c slot now ≡ call_at c slot past) → ((k : Call) → KnownAt c past k → KnownAt c now k) → (Unmarked (held_at c past) → Unmarked (held_at c now)) → Owes past at (Queues t q) → Due past later
+    queues_due [] g calls knows calm o = tt
+    queues_due (l ∷ past) g calls knows calm o = by l.at.node l.entry g calls knows calm o (queues_due past g.1)
+      where
+        by : (node : Node) (e : Entry) → Grown head (line (turn l.at.stamp node) e ∷ past) → ((slot : ℕ) → call_at c slot now ≡ call_at c slot (line (turn l.at.stamp node) e ∷ past))
+            → ((k : Call) → KnownAt c (line (turn l.at.stamp node) e ∷ past) k → KnownAt c now k) → (Unmarked (held_at c (line (turn l.at.stamp node) e ∷ past)) → Unmarked (held_at c now)) → Owes (line (turn l.at.stamp node) e ∷ past) at (Queues t q)
+            → (((slot : ℕ) → call_at c slot now ≡ call_at c slot past) → ((k : Call) → KnownAt c past k → KnownAt c now k) → (Unmarked (held_at c past) → Unmarked (held_at c now)) → Owes past at (Queues t q) → Due past later)
+            → Due (line (turn l.at.stamp node) e ∷ past) later
+        by (Client d) (Begin slot running) g calls knows calm o more = λ b is reads h.
+            let same_b : b ≡ c = one_client b (turn l.at.stamp (Client d)) is o.0 in
+            let same_d : d ≡ c = one_client d (turn l.at.stamp (Client d)) refl o.0 in
+            let stands : call_at c slot now ≡ Some running =
+            calls slot ∙ ap (λ (v : Bool). if v then (if nat_eq slot slot then Some running else call_at c slot past) else call_at c slot past) (ap (λ (v : ℕ). nat_eq c v) same_d ∙ self c)
+            ∙ ap (λ (v : Bool). if v then Some running else call_at c slot past) (self slot) in
+            let unmarked : Unmarked (held_at c past) = subst (λ (v : ℕ). Unmarked (held_at v past)) same_d g.0.ok.calm in
+            absurd (never_asked slot running o.1 stands (calm unmarked) reads (knows running.call (subst (λ (v : ℕ). KnownAt v past running.call) same_b h)))
+        by (Client d) (Pins name) g calls knows calm o more =
+            more calls (λ k h. knows k (still head c past (line (turn l.at.stamp (Client d)) (Pins name)) g refl k h))
+            (λ u. calm (cond_both (nat_eq c d) (changed name lock.Pin (held_at c past)) (held_at c past) (λ (v : List HeldLock). Unmarked v) (λ s. pinned_calm name (held_at c past) u) (λ s. u))) o.1
+        by (Target u) (Begin slot running) g calls knows calm o more = absurd g.0.ok
+        by (Target u) (Pins name) g calls knows calm o more = absurd g.0.ok
+        by _ _ g calls knows calm o more = tt
 
-calm_stands : (head : Head) (c : ℕ) (past : List Line) → Grown head past → Every (StandsIn (λ k. call_in c k (printed past))) (calm (first_life c) (printed past))
-calm_stands head c [] g = tt
-calm_stands head c (l ∷ past) g = by l.at.node l.entry g.0.ok (calm_stands head c past g.1)
-  where
-    own : life c (printed past) ≡ 1
-    own = life_stays head c past g.1
+  -- ---- line by line
 
-    by : (node : Node) (e : Entry) → EntryOk past (turn l.at.stamp node) node e → Every (StandsIn (λ k. call_in c k (printed past))) (calm (first_life c) (printed past))
-        → Every (StandsIn (λ k. call_in c k (printed (line (turn l.at.stamp node) e ∷ past)))) (calm (first_life c) (printed (line (turn l.at.stamp node) e ∷ past)))
-    by (Client d) (Begin s running) ok h = rw (own, and_true (nat_eq d c)) (begin_stands (nat_eq d c) (is_ready (first_life c) (printed past)) s running.call (λ k. call_in c k (printed past)) (calm (first_life c) (printed past)) h)
-    by (Client d) (Told s named given work) ok h = rw (own, and_true (nat_eq d c)) (told_stands (nat_eq d c) s (λ k. call_in c k (printed past)) (calm (first_life c) (printed past)) h)
-    by (Client d) (Drop t lock) ok h = absurd ok
-    by (Target t) (Begin s running) ok h = absurd ok
-    by (Target t) (Told s named given work) ok h = absurd ok
-    by (Target t) (Drop u lock) ok h = absurd ok
-    by (Client d) (Take n from m) ok h = cleared (StandsIn (λ k. call_in c k (printed past))) _ (calm (first_life c) (printed past)) h
-    by (Target t) (Take n from m) ok h = h
-    by _ _ ok h = h
+  abbrev shown : At → Option PrintedEntry → List PrintedLine → List PrintedLine
+  shown at None later = later
+  shown at (Some e) later = record { at = at; entry = e } ∷ later
 
--- ---- no call whose answer is known is a reading
+  due_before : (past : List Line) (l : Line) (later : List PrintedLine) → Grown head (l ∷ past) → Due (l ∷ past) later → Due past (shown l.at (printed_entry (count_sent past + 1) l.entry) later)
+  due_before past l later g d = by l.at.node l.entry g d
+    where
+      by : (node : Node) (e : Entry) → Grown head (line (turn l.at.stamp node) e ∷ past) → Due (line (turn l.at.stamp node) e ∷ past) later → Due past (shown (turn l.at.stamp node) (printed_entry (count_sent past + 1) e) later)
+      by node (Pins name) g d = d
+      by node (Told s named given work) g d = told_due (turn l.at.stamp node) s named given work later past g.0.owes
+      by (Client c) (Queues t q) g d = queues_due c (turn l.at.stamp (Client c)) refl t q past g.1 g.0.ok later past g.1 (λ slot. refl) (λ k h. h) (λ u. u) g.0.owes
+      by (Target u) (Queues t q) g d = absurd g.0.ok
+      by node e g d = other_due (turn l.at.stamp node) e (λ slot s. s) _ past g.0.owes
 
-abbrev IsQuiet : Call → Type 0
-IsQuiet k = (a : Call) → same_reading a k ≡ false
+  silent_at : (past : List Line) (l : Line) (later : List PrintedLine) → Grown head (l ∷ past) → Due (l ∷ past) later → Keeps Silent past l later
+  silent_at past l later g d = by l.at.node l.entry g d
+    where
+      by : (node : Node) (e : Entry) → Grown head (line (turn l.at.stamp node) e ∷ past) → Due (line (turn l.at.stamp node) e ∷ past) later → OfPrinted (SilentAt (printed past) (turn l.at.stamp node) later) (printed_entry (count_sent past + 1) e)
+      by (Client c) (Begin slot running) g d = λ is.
+          let first : is_repeat (first_life c) (printed past) running.call ≡ true = subst (λ (w : Who). is_repeat w (printed past) running.call ≡ true) (ap (λ (v : ℕ). who_of c v) (life_stays head c past g.1)) is in
+          let some = and_parts (list_any (same_reading running.call) (known (first_life c) (printed past))) (not (has_write_lock (first_life c) (held (printed past)))) first in
+          let one = of_any (same_reading running.call) (known (first_life c) (printed past)) some.0 in
+          let knows = every_in (KnownAt c past) one.0 (known (first_life c) (printed past)) (known_is_known head c past g.1) one.1.0 in
+          let r = repeats (bare_at c past) running.call one.0 g.0.ok.op g.0.ok.becomes one.1.1 knows in
+          d c refl r.0 r.1
+      by (Target t) (Begin slot running) g d = tt
+      by _ _ g d = tt
 
-abbrev IsNoReading : Call → Type 0
-IsNoReading (call.Lookup path) = ⊥
-IsNoReading (call.Stat path) = ⊥
-IsNoReading (call.List path) = ⊥
-IsNoReading (call.Layout path) = ⊥
-IsNoReading (call.Read handle offset count) = ⊥
-IsNoReading _ = Unit {0}
+  silent_before : (past : List Line) (later : List PrintedLine) → Grown head past → Due past later → HoldsBefore Silent later (printed past)
+  silent_before [] later g d = tt
+  silent_before (l ∷ past) later g d = by (printed_entry (count_sent past + 1) l.entry) (silent_at past l later g d) (silent_before past (shown l.at (printed_entry (count_sent past + 1) l.entry) later) g.1 (due_before past l later g d))
+    where
+      by : (o : Option PrintedEntry) → OfPrinted (λ e. Silent (printed past) (record { at = l.at; entry = e }) later) o → HoldsBefore Silent (shown l.at o later) (printed past)
+          → HoldsBefore Silent later (elim o [ None ↦ printed past | Some e ↦ record { at = l.at; entry = e } ∷ printed past ])
+      by None p h = h
+      by (Some e) p h = (p, h)
 
-never_same : (a k : Call) → IsNoReading k → same_reading a k ≡ false
-never_same (call.Lookup path) (call.Lookup other) apart = absurd apart
-never_same (call.Stat path) (call.Stat other) apart = absurd apart
-never_same (call.List path) (call.List other) apart = absurd apart
-never_same (call.Layout path) (call.Layout other) apart = absurd apart
-never_same (call.Read h offset count) (call.Read k start number) apart = absurd apart
-never_same _ _ apart = refl
-
-refusal_is : (given : Answer) → IsRefusal given → is_error given ≡ true
-refusal_is (told.Refused e) is = refl
-refusal_is _ is = absurd is
-
--- a call that is told something else than an error, where a reading is refused
-answer_quiet : (k : Call) (o : Op) (given : Answer) → operation_of k ≡ Some o → (IsReading o → IsRefusal given) → is_error given ≡ false → IsQuiet k
-answer_quiet k o given e refused fine a = by k e
-  where
-    -- no reading is
-    never : (p : Op) → Some p ≡ Some o → IsReading p → ⊥
-    never p e reads = let error = refusal_is given (refused (subst IsReading (op_is p o e) reads)) in absurd (cc)
-
-    by : (k : Call) → operation_of k ≡ Some o → same_reading a k ≡ false
-    by (call.Lookup path) e = absurd (never (op.Lookup path) e tt)
-    by (call.Stat path) e = absurd (never (op.Stat path) e tt)
-    by (call.List path) e = absurd (never (op.List path) e tt)
-    by (call.Layout path) e = absurd (never (op.Layout path) e tt)
-    by (call.Mkdir path) e = never_same a (call.Mkdir path) tt
-    by (call.Create path stripes) e = never_same a (call.Create path stripes) tt
-    by (call.Link old new) e = never_same a (call.Link old new) tt
-    by (call.Unlink path) e = never_same a (call.Unlink path) tt
-    by (call.Rmdir path) e = never_same a (call.Rmdir path) tt
-    by (call.Rename old new) e = never_same a (call.Rename old new) tt
-    by (call.Chmod path mode) e = never_same a (call.Chmod path mode) tt
-    by k e = absurd (cc)
-
--- what is told of a call: it is quiet, or this is an error
-told_quiet : (head : Head) (past : List Line) (l : Line) (c slot : ℕ) (named : At) (given : Answer) (work : Option Work) → EntryOk past l.at (Client c) (Told slot named given work) → Grown head past
-    → (r : Running) × (call_at c slot past ≡ Some r) × (is_error given ≡ false → IsQuiet r.call)
-told_quiet head past l c slot named given work ok g =
-    let is = (holds head past g).replies c slot ok.target ok.running ok.reply ok.call ok.answered in
-    let same : is.deed.reply.answer ≡ given = ap (λ (v : ReplyTo). v.answer) is.is ∙ sym ok.of_answer in
-    let acted = acted_whole ok.target past is.deed is.acted in
-    (ok.running, ok.call, answer_quiet ok.running.call is.deed.op given is.op (λ reads. subst IsRefusal same (acted_refused head past is.deed g acted reads)))
-
--- of the calls that stand calm in the slot, those are quiet
-calm_quiet : (in_slot : ℕ → Option Call) (slot : ℕ) (told : Call) (given : Answer) (standing : List (ℕ × Call)) → in_slot slot ≡ Some told → (is_error given ≡ false → IsQuiet told) → Every (StandsIn in_slot) standing
-    → Every IsQuiet (told_calm slot given standing)
-calm_quiet in_slot slot told given standing is quiet h = by (is_error given) refl
-  where
-    one : (x : ℕ × Call) → IsQuiet told → nat_eq x.0 slot ≡ true → StandsIn in_slot x → IsQuiet x.1
-    one x q e s =
-        let here : in_slot slot ≡ Some x.1 = ap in_slot (sym (eqb-true x.0 slot e)) ∙ s in
-        let same : told ≡ x.1 = cc in
-        subst IsQuiet same q
-
-    those : (xs : List (ℕ × Call)) → IsQuiet told → Every (StandsIn in_slot) xs → Every IsQuiet (map (λ s. s.1) (filter (λ s. s.0 == slot) xs))
-    those [] q h = tt
-    those (x ∷ xs) q h =
-        cond_both (nat_eq x.0 slot) (x ∷ filter (λ s. s.0 == slot) xs) (filter (λ s. s.0 == slot) xs) (λ (v : List (ℕ × Call)). Every IsQuiet (map (λ s. s.1) v))
-        (λ t. (one x q t h.0, those xs q h.1)) (λ f. those xs q h.1)
-
-    by : (b : Bool) → is_error given ≡ b → Every IsQuiet (if b then [] else map (λ s. s.1) (filter (λ s. s.0 == slot) standing))
-    by true e = tt
-    by false e = those standing (quiet e) h
-
-known_told : (t : Bool) (more old : List Call) → (t ≡ true → Every IsQuiet more) → Every IsQuiet old → Every IsQuiet (if t then more ++ old else old)
-known_told true more old h k = every_both IsQuiet more old (h refl) k
-known_told false more old h k = k
-
-known_begun : (t : Bool) (test : Call → Bool) (old : List Call) → Every IsQuiet old → Every IsQuiet (if t then filter test old else old)
-known_begun true test old h = every_filter test (λ x is q. q) old h
-known_begun false test old h = h
-
-known_quiet : (head : Head) (c : ℕ) (past : List Line) → Grown head past → Every IsQuiet (known (first_life c) (printed past))
-known_quiet head c [] g = tt
-known_quiet head c (l ∷ past) g = by l.at.node l.entry g.0.ok (known_quiet head c past g.1)
-  where
-    own : life c (printed past) ≡ 1
-    own = life_stays head c past g.1
-
-    told : (d slot : ℕ) (named : At) (given : Answer) (work : Option Work) → EntryOk past (turn l.at.stamp (Client d)) (Client d) (Told slot named given work) → nat_eq d c ≡ true → Every IsQuiet (told_calm slot given (calm (first_life c) (printed past)))
-    told d slot named given work ok e =
-        let q = told_quiet head past (line (turn l.at.stamp (Client d)) (Told slot named given work)) d slot named given work ok g.1 in
-        let here : call_in c slot (printed past) ≡ Some q.0.call = call_is head c slot past g.1 ∙ ap called (subst (λ (v : ℕ). call_at v slot past ≡ Some q.0) (eqb-true d c e) q.1) in
-        calm_quiet (λ k. call_in c k (printed past)) slot q.0.call given (calm (first_life c) (printed past)) here q.2 (calm_stands head c past g.1)
-
-    by : (node : Node) (e : Entry) → EntryOk past (turn l.at.stamp node) node e → Every IsQuiet (known (first_life c) (printed past)) → Every IsQuiet (known (first_life c) (printed (line (turn l.at.stamp node) e ∷ past)))
-    by (Client d) (Begin s running) ok h = known_begun _ _ (known (first_life c) (printed past)) h
-    by (Client d) (Told s named given work) ok h =
-        rw (own, and_true (nat_eq d c))
-        (known_told (nat_eq d c) (told_calm s given (calm (first_life c) (printed past))) (known (first_life c) (printed past)) (told d s named given work ok) h)
-    by (Client d) (Drop t lock) ok h = absurd ok
-    by (Target t) (Begin s running) ok h = absurd ok
-    by (Target t) (Told s named given work) ok h = absurd ok
-    by (Target t) (Drop u lock) ok h = absurd ok
-    by (Client d) (Take n from m) ok h = cleared IsQuiet _ (known (first_life c) (printed past)) h
-    by (Target t) (Take n from m) ok h = h
-    by _ _ ok h = h
-
--- ---- the law
-
-none_same : (a : Call) (calls : List Call) → Every IsQuiet calls → list_any (same_reading a) calls ≡ false
-none_same a [] h = refl
-none_same a (k ∷ calls) h = rw (h.0 a) (none_same a calls h.1)
-
-never_repeats : (head : Head) (c : ℕ) (past : List Line) (a : Call) → Grown head past → is_repeat (who_is c (printed past)) (printed past) a ≡ false
-never_repeats head c past a g =
-    subst (λ (w : Who). is_repeat w (printed past) a ≡ false) (sym (ap (λ (v : ℕ). who_of c v) (life_stays head c past g)))
-    (ap (λ (b : Bool). b && not (has_write_lock (first_life c) (held (printed past)))) (none_same a (known (first_life c) (printed past)) (known_quiet head c past g)))
-
-silent_at : (head : Head) (past : List Line) (l : Line) (later : List PrintedLine) → Allowed head past l.at l.entry → Grown head past → Keeps Silent past l later
-silent_at head past l later a g = by l.at.node l.entry
-  where
-    by : (node : Node) (e : Entry) → OfPrinted (SilentAt (printed past) (turn l.at.stamp node) later) (printed_entry (count_sent past + 1) e)
-    by (Client c) (Begin slot running) = λ is. let never = never_repeats head c past running.call g in absurd (cc)
-    by (Target t) (Begin slot running) = tt
-    by _ _ = tt
-
-pub silent_law : (head : Head) (past : List Line) → Grown head past → Holds Silent (printed past)
-silent_law head past g = holds_before head Silent Nothing (λ l past k. k) (λ past l later a g k. silent_at head past l later a g) past [] g tt
+  pub silent_law : (past : List Line) → Grown head past → Settled past → Holds Silent (printed past)
+  silent_law past g settled = silent_before past [] g (nothing_due past settled)

@@ -8,7 +8,7 @@ use Rattle.lu_msg.specs.declared.messages.Message.{Message}
 use Rattle.lu_words.specs.Carried.{Deed}
 use Rattle.lu_words.specs.Words.{Entry, Send, Line, line}
 use Rattle.lu_words.specs.Concerns.{concerns, only}
-use Rattle.lu_covered.specs.Runs.{Head}
+use Rattle.lu_covered.specs.Heads.{Head}
 use Rattle.lu_guards.proofs.Guards.{Was, Grown}
 use Rattle.lu_guards.proofs.Only.{was_only}
 use Rattle.lu_facts.proofs.Groups.{Acted}

@@ -1,5 +1,5 @@
 -- The law of acts at a told line and at a request's message, and the whole of it.
-use Rattle.std.proofs.Common.{◌≡◌, ◌≢◌, ℕ, ◌+◌, ◌≤◌, Bool, true, false, List, [], ◌∷◌, Option, Some, None, inl, inr, ⊎_elim, refl, sym, subst, ap, ◌∙◌, arith}
+use Rattle.std.proofs.Common.{◌≡◌, ◌≢◌, ℕ, ◌+◌, ◌≤◌, Bool, true, false, List, [], ◌∷◌, Option, Some, None, inl, inr, ⊎_elim, refl, sym, subst, ap, ◌∙◌, arith, pos}
 use Rattle.std.specs.Prelude.{nat_eq, nat_lt, ◌&&◌, ◌||◌, if◌then◌else◌, length}
 use Rattle.std.proofs.lemmas.Bool.Decides.{nat_tests}
 use Rattle.lu_base.specs.declared.ids.At.{At}
@@ -8,14 +8,17 @@ use Rattle.lu_base.specs.declared.ids.Node.{Node}
 use Rattle.lu_base.specs.declared.ids.Node.TheVariants.{Client, Target}
 use Rattle.lu_base.specs.declared.ids.Who.{Who}
 use Rattle.lu_msg.specs.declared.answers.Answer.{Answer}
+use Rattle.lu_msg.specs.declared.answers.Answer.TheVariants as answer
 use Rattle.lu_msg.specs.declared.calls.Call.{Call}
 use Rattle.lu_msg.specs.declared.calls.Call.TheVariants as call
 use Rattle.lu_msg.specs.declared.messages.Message.TheVariants as message
 use Rattle.lu_msg.specs.declared.messages.Reply.{Reply as ReplyTo}
 use Rattle.lu_msg.specs.declared.messages.Request.{Request as RequestOf}
 use Rattle.lu_msg.specs.declared.operations.Op.{Op}
+use Rattle.lu_msg.specs.declared.operations.Op.TheVariants as op
 use Rattle.lu_msg.specs.declared.messages.Message.{Message}
 use Rattle.lu_trace.specs.declared.entries.Line.{Line as PrintedLine}
+use Rattle.lu_machine.specs.Fits.{answer_fits}
 use Rattle.lu_machine.specs.Footprint.{Every}
 use Rattle.lu_words.specs.Carried.{Deed, Flight, Work, Running}
 use Rattle.lu_words.specs.Words.{Entry, Begin, Send, Take, Heard, Told, Act, Txn as Made, Line, line, node_before, turn_before}
@@ -25,7 +28,7 @@ use Rattle.lu_words.specs.Printed.{printed_entry, printed}
 use Rattle.lu_covered.specs.Calls.{first_life, call_at, operation_of}
 use Rattle.lu_covered.specs.Imports.{flights_at}
 use Rattle.lu_covered.specs.ClientStates.{flights_of}
-use Rattle.lu_covered.specs.Runs.{Head, IsHead}
+use Rattle.lu_covered.specs.Heads.{Head, IsHead}
 use Rattle.lu_laws.specs.Words.Pasts.{UpTo, same_turn, or_else}
 use Rattle.lu_laws.specs.Words.Lives.{who_is}
 use Rattle.lu_laws.specs.Words.Requests.{first_request, asked, in_flight}
@@ -33,13 +36,16 @@ use Rattle.lu_laws.specs.Words.Calls as calls
 use Rattle.lu_laws.specs.Words.Calls.{heard_in, operation}
 use Rattle.lu_laws.specs.Holds.{HoldsBefore}
 use Rattle.lu_laws.specs.Laws.Acts.{acted, made, standing_count, told_with, is_bad_handle, is_end_of_life, is_local, ActsFor, ActsInTime, ToldOn, ToldBy, Pairwise, SameTag, FliesAt, ActsAt, ActsOf}
-use Rattle.lu_lawful.specs.Fits.{DoneStands, ToldStand}
-use Rattle.lu_guards.proofs.Guards.{In, JustHeard, TookNow, Later, Allowed, Grown}
+use Rattle.lu_lawful.specs.Fits.{ReplyStands, HeardStand}
+use Rattle.lu_guards.proofs.Guards.{In, JustHeard, TookNow, Later, Steps, IsToldAsIs, ToldOk, KnownOk, Allowed, Grown}
 use Rattle.lu_guards.proofs.Lists.{self, who as who_of}
 use Rattle.lu_guards.proofs.Parts.{flights_is}
 use Rattle.lu_facts.proofs.Groups.{turn, Upto, Acted, Flew}
 use Rattle.lu_facts.proofs.All.{holds}
 use Rattle.lu_facts.proofs.Sides.{acted_at}
+use Rattle.lu_facts.proofs.OnNames.{IsPlain, op_is, no_open, becomes_on_names}
+use Rattle.lu_facts.proofs.Refused.{acted_answered}
+use Rattle.lu_facts.proofs.Known.{HeardBy, client_is}
 use Rattle.lu_facts.proofs.Times.{reached_on}
 use Rattle.lu_lawful.proofs.Turns.{later_before, upto_is, same_turn_is, same_turn_self, other_node}
 use Rattle.lu_lawful.proofs.Story.{about_it, acted_whole, was_story}
@@ -47,9 +53,9 @@ use Rattle.lu_lawful.proofs.Contents.{life_stays}
 use Rattle.lu_lawful.proofs.Printed.{first_sent, good_call, open_is}
 use Rattle.lu_lawful.proofs.Lines.{OfPrinted, Keeps, holds_before}
 use Rattle.lu_lawful.proofs.Once.{asked_is, acted_sent}
-use Rattle.lu_lawful.proofs.Fine.{IsFine, deed_fine}
+use Rattle.lu_lawful.proofs.Fine.{IsFine, deed_fine, known_fine}
 use Rattle.lu_lawful.proofs.Flying.{Flown, flying, ask_flown, Distinct, flyers, keeps_flyers, no_more}
-use Rattle.lu_lawful.proofs.Facts.{AllTold}
+use Rattle.lu_lawful.proofs.Facts.{AnswersAt, KnewAt, AllTold}
 use Rattle.lu_lawful.proofs.ActsLaw.{ActFor, at_most, act_for, Stands, or_left, or_right, acted_in, told_hears}
 
 -- ---- what was just heard
@@ -138,6 +144,56 @@ never : (b : Bool) → (b ≡ true → ⊥) → b ≡ false
 never true n = absurd (n refl)
 never false n = refl
 
+-- it was heard by that client
+just_heard_by : (past : List Line) (at : At) (c t : ℕ) (r : ReplyTo) → JustHeard past at t r → at.node ≡ Client c → (f : Flight) × HeardBy past c f r
+just_heard_by [] at c t r j n = absurd j
+just_heard_by (l ∷ past) at c t r j n = by l.entry j (λ i. just_heard_by past at c t r i n)
+  where
+    by : (e : Entry) → JustHeard (line l.at e ∷ past) at t r → (JustHeard past at t r → (f : Flight) × HeardBy past c f r) → (f : Flight) × HeardBy (line l.at e ∷ past) c f r
+    by (Heard v f q) j h = (f, inl (ap (λ (w : At). w.node) j.0 ∙ n, refl, j.2))
+    by (Told slot named given work) j h = absurd j
+    by _ j h = h j
+
+-- what stands of what was heard
+pub heard_stands : (out : Who → Bool) (lost : ℕ → ℕ → Bool) (past : List Line) (c : ℕ) (f : Flight) (r : ReplyTo) → HeardStand out lost past → HeardBy past c f r → out (first_life c) ≡ false → ReplyStands lost r
+heard_stands out lost [] c f r s i o = absurd i
+heard_stands out lost (l ∷ past) c f r s i o = by l.at.node l.entry s i (λ s j. heard_stands out lost past c f r s j o)
+  where
+    by : (node : Node) (e : Entry) → HeardStand out lost (line (turn l.at.stamp node) e ∷ past) → HeardBy (line (turn l.at.stamp node) e ∷ past) c f r → (HeardStand out lost past → HeardBy past c f r → ReplyStands lost r) → ReplyStands lost r
+    by (Client d) (Heard v g q) s (inl e) h = let same : d ≡ c = client_is d c e.0 in subst (ReplyStands lost) e.2 (s.0 (subst (λ (w : ℕ). out (first_life w) ≡ false) (sym same) o))
+    by (Client d) (Heard v g q) s (inr j) h = h s.1 j
+    by (Target u) (Heard v g q) s (inl e) h = absurd (cc (e.0))
+    by (Target u) (Heard v g q) s (inr j) h = h s.1 j
+    by _ _ s j h = h s j
+
+-- a reply but for the committed number
+pub same_stands : (lost : ℕ → ℕ → Bool) (k r : ReplyTo) → record k { committed = r.committed } ≡ r → ReplyStands lost r → ReplyStands lost k
+same_stands lost k r e s = subst (ReplyStands lost) (sym e) s
+
+-- what is told as it is
+told_as_plain : (k : Call) (o : Op) (a : Answer) → operation_of k ≡ Some o → answer_fits o a ≡ true → IsToldAsIs k a → IsPlain a
+told_as_plain k o (answer.FileStat fid mode links layout) e fits as_is = by k e as_is
+  where
+    of : (p : Op) → Some p ≡ Some o → answer_fits p (answer.FileStat fid mode links layout) ≡ true
+    of p e = subst (λ (v : Op). answer_fits v (answer.FileStat fid mode links layout) ≡ true) (sym (op_is p o e)) fits
+
+    by : (k : Call) → operation_of k ≡ Some o → IsToldAsIs k (answer.FileStat fid mode links layout) → ⊥
+    by (call.Stat path) e as_is = as_is
+    by (call.Lookup path) e as_is = let f = of (op.Lookup path) e in absurd (cc)
+    by (call.List path) e as_is = let f = of (op.List path) e in absurd (cc)
+    by (call.Layout path) e as_is = let f = of (op.Layout path) e in absurd (cc)
+    by (call.Mkdir path) e as_is = let f = of (op.Mkdir path) e in absurd (cc)
+    by (call.Create path None) e as_is = let f = of (op.Create path 1048576 (pos 1)) e in absurd (cc)
+    by (call.Create path (Some stripes)) e as_is = let f = of (op.Create path stripes.0 stripes.1) e in absurd (cc)
+    by (call.Link old new) e as_is = let f = of (op.Link old new) e in absurd (cc)
+    by (call.Unlink path) e as_is = let f = of (op.Unlink path) e in absurd (cc)
+    by (call.Rmdir path) e as_is = let f = of (op.Rmdir path) e in absurd (cc)
+    by (call.Rename old new) e as_is = let f = of (op.Rename old new) e in absurd (cc)
+    by (call.Chmod path mode) e as_is = let f = of (op.Chmod path mode) e in absurd (cc)
+    by k e as_is = absurd (cc)
+told_as_plain k o (answer.OpenFile fid number layout) e fits as_is = no_open o fid number layout (becomes_on_names k o e) fits
+told_as_plain k o a e fits as_is = tt
+
 -- ---- what a told line tells
 
 pub record Tells (past : List Line) (at : At) (c slot : ℕ) (named : At) (given : Answer) : Type 0 where
@@ -153,18 +209,24 @@ pub record Tells (past : List Line) (at : At) (c slot : ℕ) (named : At) (given
   pub after : Upto begun.at named
   pub until : Upto named at
   pub untold : told_with (printed past) (first_life c) deed.reply.xid.0 ≡ false
+  pub flight : Flight
+  pub reply : ReplyTo
+  pub hears : HeardBy past c flight reply
+  pub is : record deed.reply { committed = reply.committed } ≡ reply
+  pub plain : IsPlain given
 
-told_tells : (head : Head) (past : List Line) (stamp : Stamp) (c slot : ℕ) (named : At) (given : Answer) (work : Option Work) → Allowed head past (turn stamp (Client c)) (Told slot named given work) → Grown head past
+told_tells : (head : Head) (past : List Line) (stamp : Stamp) (c slot : ℕ) (named : At) (given : Answer) (work : Option Work) → Steps past (turn stamp (Client c)) → ToldOk past (turn stamp (Client c)) c slot named given work → Grown head past
     → Tells past (turn stamp (Client c)) c slot named given
-told_tells head past stamp c slot named given work k g =
+told_tells head past stamp c slot named given work steps ok g =
     let at = turn stamp (Client c) in
-    let ok = k.ok in
     let h = holds head past g in
     let is = h.replies c slot ok.target ok.running ok.reply ok.call ok.answered in
     let d = is.deed in
     let acted = acted_whole ok.target past d is.acted in
     let heard = just_heard head past at c ok.target ok.reply g refl ok.heard in
     let x : ok.reply.xid.0 ≡ d.reply.xid.0 = ap (λ (v : ReplyTo). v.xid.0) (sym is.is) in
+    let heard_by = just_heard_by past at c ok.target ok.reply ok.heard refl in
+    let fits = subst (λ (v : Answer). answer_fits d.op v ≡ true) (ap (λ (v : ReplyTo). v.answer) is.is ∙ sym ok.of_answer) (acted_answered head past d g acted).0 in
     record {
       deed = d;
       acted = acted;
@@ -176,31 +238,52 @@ told_tells head past stamp c slot named given work k g =
       call = ok.call;
       becomes = is.op;
       after = subst (λ (v : At). Upto ok.running.at v) (sym ok.of_turn) is.since;
-      until = subst (λ (v : At). Upto v at) (ap (λ (v : ReplyTo). v.at) is.is ∙ sym ok.of_turn) (reached_on past at d.reply.at k.steps (h.reaches.acted d acted));
+      until = subst (λ (v : At). Upto v at) (ap (λ (v : ReplyTo). v.at) is.is ∙ sym ok.of_turn) (reached_on past at d.reply.at steps (h.reaches.acted d acted));
+      flight = heard_by.0;
+      reply = ok.reply;
+      hears = heard_by.1;
+      is = is.is;
+      plain = told_as_plain ok.running.call d.op given is.op fits ok.as_is;
       untold = never (told_with (printed past) (first_life c) d.reply.xid.0) (λ t. untold head past at c ok.target ok.reply g refl ok.heard (subst (λ (v : ℕ). told_with (printed past) (first_life c) v ≡ true) (sym x) t));
     }
 
 -- ---- every told line
 
+knew : (past : List Line) (at : At) (c slot : ℕ) (named : At) (given : Answer) (work : Option Work) → KnownOk past at c slot named given work → KnewAt past at c slot named given
+knew past at c slot named given work ok =
+    record { running = ok.running; call = ok.call; begun = ok.begun; known = ok.known; turn = ok.of_turn; own = subst (λ (v : At). same_turn v at ≡ true) (sym ok.of_turn) (same_turn_self at) }
+
 pub all_told : (head : Head) (past : List Line) → Grown head past → AllTold past
 all_told head [] g = tt
 all_told head (l ∷ past) g = by l.at.node l.entry g.0 (all_told head past g.1)
   where
+    answered : (c slot : ℕ) (named : At) (given : Answer) (work : Option Work) → Steps past (turn l.at.stamp (Client c)) → ToldOk past (turn l.at.stamp (Client c)) c slot named given work → AnswersAt past (turn l.at.stamp (Client c)) c named given
+    answered c slot named given work steps ok =
+        let t = told_tells head past l.at.stamp c slot named given work steps ok g.1 in
+        let n = acted_at head past t.deed g.1 t.acted in
+        record {
+          deed = t.deed;
+          acted = t.acted;
+          who = t.who;
+          turn = t.turn_is;
+          answer = t.answer;
+          heard = t.heard;
+          other = subst (λ (v : At). same_turn v (turn l.at.stamp (Client c)) ≡ false) t.turn_is (other_node t.deed.reply.at (turn l.at.stamp (Client c)) 0 c n refl);
+          flight = t.flight;
+          reply = t.reply;
+          hears = t.hears;
+          is = t.is;
+          plain = t.plain;
+        }
+
     by : (node : Node) (e : Entry) → Allowed head past (turn l.at.stamp node) e → AllTold past → AllTold (line (turn l.at.stamp node) e ∷ past)
-    by (Client c) (Told slot named given work) k h =
-        let t = told_tells head past l.at.stamp c slot named given work k g.1 in
-        let n = acted_at head past t.deed g.1 t.acted in (
-          record {
-            deed = t.deed;
-            acted = t.acted;
-            who = t.who;
-            turn = t.turn_is;
-            answer = t.answer;
-            heard = t.heard;
-            other = subst (λ (v : At). same_turn v (turn l.at.stamp (Client c)) ≡ false) t.turn_is (other_node t.deed.reply.at (turn l.at.stamp (Client c)) 0 c n refl);
-          },
-          h,
-        )
+    by (Client c) (Told slot named given work) k h = (
+      ⊎_elim
+          (λ (ok : ToldOk past (turn l.at.stamp (Client c)) c slot named given work). inl (answered c slot named given work k.steps ok))
+          (λ (ok : KnownOk past (turn l.at.stamp (Client c)) c slot named given work). inr (knew past (turn l.at.stamp (Client c)) c slot named given work ok))
+          k.ok,
+      h,
+    )
     by (Target t) (Told slot named given work) k h = absurd k.ok
     by _ _ k h = h
 
@@ -221,7 +304,7 @@ not_local (call.Rename old new) o e = refl
 not_local (call.Chmod path mode) o e = refl
 not_local _ o e = absurd (cc)
 
-same_operation : (b : calls.Begun) (o : Op) → operation_of b.call ≡ Some o → operation b ≡ Some o
+pub same_operation : (b : calls.Begun) (o : Op) → operation_of b.call ≡ Some o → operation b ≡ Some o
 same_operation b o = by b.call
   where
     by : (x : Call) → operation_of x ≡ Some o → calls.operation_on x b.bound ≡ Some o
@@ -266,13 +349,13 @@ module _ (head : Head) (out : Who → Bool) (lost : ℕ → ℕ → Bool) (whole
   abbrev Inside : List Line → Type 0
   Inside past = (who : Who) (x : ℕ) → ActFor past who x → ActFor whole who x
 
-  in_time : (past : List Line) (at : At) (c slot : ℕ) (named : At) (given : Answer) → Grown head past → Grown head whole → Inside past → DoneStands lost past (first_life c) named
-      → (t : Tells past at c slot named given) → (b : calls.Begun) → b.at ≡ t.begun.at → b.call ≡ t.begun.call → ActsInTime lost (printed whole) (printed past) at (first_life c) b named
-  in_time past at c slot named given g w i s t b at_is call_is =
+  in_time : (past : List Line) (at : At) (c slot : ℕ) (named : At) (given : Answer) → Grown head past → Grown head whole → Inside past
+      → (t : Tells past at c slot named given) → ReplyStands lost t.deed.reply → (b : calls.Begun) → b.at ≡ t.begun.at → b.call ≡ t.begun.call → ActsInTime lost (printed whole) (printed past) at (first_life c) b named
+  in_time past at c slot named given g w i t s b at_is call_is =
       let d = t.deed in
       let x = d.reply.xid.0 in
       let is = asked_is head past d g (acted_sent head past d g t.acted) in
-      let there = acted_in head lost past g d t.acted (subst (λ (v : Who). DoneStands lost past v d.reply.at) (sym t.who) (subst (λ (v : At). DoneStands lost past (first_life c) v) (sym t.turn_is) s)) in
+      let there = acted_in head lost past g d t.acted s in
       let op_is = same_operation b d.op (ap operation_of call_is ∙ t.becomes) in
       record {
         after = subst (λ (v : At). UpTo v named) (sym at_is) (upto_is t.begun.at named t.after);
@@ -287,11 +370,12 @@ module _ (head : Head) (out : Who → Bool) (lost : ℕ → ℕ → Bool) (whole
             }));
       }
 
-  told_law : (past : List Line) (stamp : Stamp) (c slot : ℕ) (named : At) (given : Answer) (work : Option Work) → Allowed head past (turn stamp (Client c)) (Told slot named given work) → Grown head past → Grown head whole → Inside past
-      → (out (first_life c) ≡ false → DoneStands lost past (first_life c) named) → ToldBy out lost (printed whole) (printed past) (turn stamp (Client c)) (Client c) slot named given
-  told_law past stamp c slot named given work k g w i s =
+  -- of a call that asked
+  asked_law : (past : List Line) (stamp : Stamp) (c slot : ℕ) (named : At) (given : Answer) (work : Option Work) → Steps past (turn stamp (Client c)) → ToldOk past (turn stamp (Client c)) c slot named given work → Grown head past → Grown head whole → Inside past
+      → HeardStand out lost past → ToldBy out lost (printed whole) (printed past) (turn stamp (Client c)) (Client c) slot named given
+  asked_law past stamp c slot named given work steps ok g w i s =
       let at = turn stamp (Client c) in
-      let t = told_tells head past stamp c slot named given work k g in
+      let t = told_tells head past stamp c slot named given work steps ok g in
       let o = open_is head c slot past t.begun g t.call in
       let b = o.0 in
       let becomes = ap operation_of o.3 ∙ t.becomes in
@@ -302,8 +386,36 @@ module _ (head : Head) (out : Who → Bool) (lost : ℕ → ℕ → Bool) (whole
         evicted = λ e. let f = fine.1 in absurd (cc);
         own = λ e. absurd (own_no (is_local b.call) (is_bad_handle given) (is_end_of_life given) (not_local b.call t.deed.op becomes) fine.0 fine.1 e);
         acts = λ e. subst (λ (v : Who). ActsInTime lost (printed whole) (printed past) at v b named) (sym (who_one head c past g))
-            (in_time past at c slot named given g w i (s (ap out (sym (who_one head c past g)) ∙ e)) t b o.2 o.3);
+            (in_time past at c slot named given g w i t (same_stands lost t.deed.reply t.reply t.is (heard_stands out lost past c t.flight t.reply s t.hears (ap out (sym (who_one head c past g)) ∙ e))) b o.2 o.3);
       })
+
+  -- of a call whose answer was known: its turn is the one in which it began and is told
+  knew_law : (past : List Line) (stamp : Stamp) (c slot : ℕ) (named : At) (given : Answer) (work : Option Work) → KnownOk past (turn stamp (Client c)) c slot named given work → Grown head past
+      → ToldBy out lost (printed whole) (printed past) (turn stamp (Client c)) (Client c) slot named given
+  knew_law past stamp c slot named given work ok g =
+      let at = turn stamp (Client c) in
+      let o = open_is head c slot past ok.running g ok.call in
+      let k = knew past at c slot named given work ok in
+      let fine = known_fine head past c ok.running.call given g ok.known in
+      let now : UpTo at at = upto_is at at (inl refl) in
+      subst (λ (v : Option calls.Begun). ToldOn out lost (printed whole) (printed past) at (who_is c (printed past)) v named given) (sym o.1)
+      (record {
+        handle = λ e. let f = fine.0 in absurd (cc);
+        evicted = λ e. let f = fine.1 in absurd (cc);
+        own = λ e. k.own;
+        acts = λ e. record {
+          after = subst (λ (v : At). UpTo v named) (sym (o.2 ∙ ok.begun)) (subst (λ (v : At). UpTo at v) (sym ok.of_turn) now);
+          before = subst (λ (v : At). UpTo v at) (sym ok.of_turn) now;
+          acts = λ other. let own = k.own in absurd (cc);
+        };
+      })
+
+  told_law : (past : List Line) (stamp : Stamp) (c slot : ℕ) (named : At) (given : Answer) (work : Option Work) → Allowed head past (turn stamp (Client c)) (Told slot named given work) → Grown head past → Grown head whole → Inside past
+      → HeardStand out lost past → ToldBy out lost (printed whole) (printed past) (turn stamp (Client c)) (Client c) slot named given
+  told_law past stamp c slot named given work k g w i s = ⊎_elim
+      (λ (ok : ToldOk past (turn stamp (Client c)) c slot named given work). asked_law past stamp c slot named given work k.steps ok g w i s)
+      (λ (ok : KnownOk past (turn stamp (Client c)) c slot named given work). knew_law past stamp c slot named given work ok g)
+      k.ok
 
 -- ---- the law at a request's message
 
@@ -371,19 +483,19 @@ module _ (head : Head) (is : IsHead head) (out : Who → Bool) (lost : ℕ → �
       by (Act d) = inr a
       by _ = a
 
-  told_before : (past : List Line) (l : Line) → ToldStand out lost (l ∷ past) → ToldStand out lost past
-  told_before past l s = by l.entry s
+  heard_before : (past : List Line) (l : Line) → HeardStand out lost (l ∷ past) → HeardStand out lost past
+  heard_before past l s = by l.entry s
     where
-      by : (e : Entry) → ToldStand out lost (line l.at e ∷ past) → ToldStand out lost past
-      by (Told slot named given work) s = s.1
+      by : (e : Entry) → HeardStand out lost (line l.at e ∷ past) → HeardStand out lost past
+      by (Heard t f r) s = s.1
       by _ s = s
 
-  -- what is known of a past: its acts are among those of the whole trace, and what was told stands
+  -- what is known of a past: its acts are among those of the whole trace, and what was heard stands
   abbrev Known : List Line → Type 0
-  Known past = Inside head out lost whole past × ToldStand out lost past
+  Known past = Inside head out lost whole past × HeardStand out lost past
 
   earlier : (l : Line) (past : List Line) → Known (l ∷ past) → Known past
-  earlier l past k = (inside_before past l k.0, told_before past l k.1)
+  earlier l past k = (inside_before past l k.0, heard_before past l k.1)
 
   acts_at : (past : List Line) (l : Line) (later : List PrintedLine) → Allowed head past l.at l.entry → Grown head past → Known (l ∷ past) → Keeps (ActsOf out lost (printed whole)) past l later
   acts_at past l later k g known = by l.at.node l.entry k known.1
@@ -394,13 +506,14 @@ module _ (head : Head) (is : IsHead head) (out : Who → Bool) (lost : ℕ → �
       sent : (c t : ℕ) (r : RequestOf) → t ≡ 0 → Allowed head past (turn l.at.stamp (Client c)) (Send (Target t) (message.Request r)) → Flies c t r
       sent c t r z k = subst (λ (v : ℕ). Flies c v r) (sym z) (sends_law head past l.at.stamp c r is (subst (λ (v : ℕ). Allowed head past (turn l.at.stamp (Client c)) (Send (Target v) (message.Request r))) z k) g)
 
-      by : (node : Node) (e : Entry) → Allowed head past (turn l.at.stamp node) e → ToldStand out lost (line (turn l.at.stamp node) e ∷ past)
+      by : (node : Node) (e : Entry) → Allowed head past (turn l.at.stamp node) e → HeardStand out lost (line (turn l.at.stamp node) e ∷ past)
           → OfPrinted (λ x. ActsAt out lost (printed whole) (printed past) (record { at = turn l.at.stamp node; entry = x }) later x) (printed_entry (count_sent past + 1) e)
       by (Client c) (Begin slot running) k s = λ bad. let good = good_call c (printed past) running.call k.ok.op k.ok.becomes in absurd (cc)
       by (Target t) (Begin slot running) k s = absurd k.ok
-      by (Client c) (Told slot named given work) k s = told_law head out lost whole past l.at.stamp c slot named given work k g all_grown (inside_before past l known.0) s.0
+      by (Client c) (Told slot named given work) k s = told_law head out lost whole past l.at.stamp c slot named given work k g all_grown (inside_before past l known.0) s
       by (Target t) (Told slot named given work) k s = absurd k.ok
       by (Client c) (Send (Target t) (message.Request r)) k s = sent c t r k.ok k
+      by (Client c) (Send (Target t) (message.Cancel who boot cookie)) k s = tt
       by (Client c) (Send (Target t) m) k s = absurd k.ok
       by (Client c) (Send (Client d) m) k s = absurd k.ok
       by (Target t) (Send (Client c) m) k s = tt
@@ -409,5 +522,5 @@ module _ (head : Head) (is : IsHead head) (out : Who → Bool) (lost : ℕ → �
       by (Client c) (Made d) k s = absurd k.ok
       by _ _ k s = tt
 
-  pub acts_law : (past : List Line) → Grown head past → Inside head out lost whole past → ToldStand out lost past → HoldsBefore (ActsOf out lost (printed whole)) [] (printed past)
+  pub acts_law : (past : List Line) → Grown head past → Inside head out lost whole past → HeardStand out lost past → HoldsBefore (ActsOf out lost (printed whole)) [] (printed past)
   acts_law past g i s = holds_before head (ActsOf out lost (printed whole)) Known earlier acts_at past [] g (i, s)

@@ -1,6 +1,11 @@
-//! What every covered run keeps. Each function does nothing: its contract is a theorem over the definitions of the
-//! covered rows and of the laws.
+//! What every covered run of the whole table keeps. Each function does nothing: its contract is a theorem over the
+//! definitions of the rows and of the laws.
 
+ghost use Rattle.std.specs.Prelude.{List};
+ghost use Rattle.lu_words.specs.Printed.{printed};
+ghost use Rattle.lu_table.specs.Heads.{Head, IsHead};
+ghost use Rattle.lu_table.specs.Runs.{Turn, lines_of, IsRun};
+ghost use Rattle.lu_covered.specs.Covered.{AllCovered};
 ghost use Rattle.lu_laws.specs.Holds.{Holds};
 ghost use Rattle.lu_laws.specs.Laws.Messages.{Messages};
 ghost use Rattle.lu_laws.specs.Laws.Locks.{Locks};
@@ -13,12 +18,12 @@ ghost use Rattle.lu_laws.specs.Lawful.{Lawful};
 ghost use Rattle.lu_laws.specs.Orderly.{Orderly};
 ghost use Rattle.lu_lawful.specs.Everywhere.{OfEveryRun, OfAllThatFit};
 
-/// The printed trace of every covered run is lawful, whatever the network loses, repeats or reorders: for every
-/// number of clients, of object storage targets and of requests in flight, and every schedule.
+/// Every run of the whole table whose lines are covered prints a lawful trace, whatever the network loses, repeats or
+/// reorders: for every number of clients, of object storage targets and of requests in flight, and every schedule.
 ///
 /// Of the law of acts and that of history more is shown: they hold for all lives that will be out and all
 /// numbers that will be lost at the end of the trace, so far as these fit the run.
-pub fn every_run_is_lawful()
+pub fn covered_runs_are_lawful()
     ensures messages { OfEveryRun (λ osts whole. Holds Messages whole) }
     ensures locks { OfEveryRun (λ osts whole. Holds (Locks osts) whole) }
     ensures silent { OfEveryRun (λ osts whole. Holds Silent whole) }
@@ -26,15 +31,17 @@ pub fn every_run_is_lawful()
     ensures recovery { OfEveryRun (λ osts whole. Holds (Recovery osts whole) whole) }
     ensures history { OfEveryRun (λ osts whole. Holds (History osts whole) whole) }
     ensures glimpse { OfEveryRun (λ osts whole. Holds (Glimpse osts whole) whole) }
-    ensures lawful { OfEveryRun (λ osts whole. Lawful osts whole) }
+    ensures lawful { (head : Head) (turns : List Turn) → IsHead head → IsRun head turns → AllCovered (lines_of turns)
+        → Lawful head.osts (printed (lines_of turns)) }
     ensures acts_of { OfAllThatFit (λ out lost osts whole. Holds (ActsOf out lost whole) whole) }
     ensures history_of { OfAllThatFit (λ out lost osts whole. Holds (HistoryOf out lost osts) whole) }
 {}
 
 /// The printed trace of every covered run has no line without its cause, as far as `Orderly` says: what acts was asked for
 /// and has the answer of the contents, what a target sends carries its boot and what it has committed, what is heard was
-/// in flight, and a reply that is sent again is as it was. No covered run has the other lines that it speaks of: boots,
-/// new lives, locks, and what a recovery hands out.
-pub fn every_run_is_orderly()
+/// in flight, a reply that is sent again is as it was, what is held came in its turn, what is released was given back in
+/// its turn, and what is called back guards what a request that waits would write. No covered run has the other lines that
+/// it speaks of: boots, new lives, and what a recovery hands out.
+pub fn covered_runs_are_orderly()
     ensures orderly { OfEveryRun (λ osts whole. Orderly osts whole) }
 {}

@@ -1,71 +1,47 @@
 -- Lives that are out and numbers that are lost, and not none: two clients make two directories; the first client is out and
--- what it made is lost. The pair fits the run, and the history over it, in which the second directory stands alone, is
--- kept by the law. The same pair doesn't fit where the second client makes its directory in the first one's.
-use Rattle.std.proofs.Common.{◌≡◌, ℕ, Bool, true, false, [], ◌∷◌, inl, inr, refl, ap}
-use Rattle.std.specs.Prelude.{List, codes, ◌==◌, ◌&&◌}
+-- what it made is lost. The pair fits the run, and in the machine of that history the second directory stands alone. The
+-- same pair doesn't fit where the second client makes its directory in the first one's.
+use Rattle.std.proofs.Common.{◌≡◌, ℕ, Bool, true, false, ◌||◌, [], ◌∷◌, refl, sym, ◌∙◌}
+use Rattle.std.specs.Prelude.{List, codes, ◌==◌, ◌&&◌, not}
+use Rattle.std.specs.List.{list_all}
+use Rattle.std.proofs.lemmas.Bool.{and_parts, and_from}
+use Rattle.lu_base.specs.declared.ids.Node.{Node}
 use Rattle.lu_base.specs.declared.ids.Node.TheVariants.{Client, Target}
 use Rattle.lu_base.specs.declared.ids.Who.{Who}
-use Rattle.lu_part.specs.declared.parts.Part.TheVariants as part
+use Rattle.lu_machine.specs.declared.acts.Act.{Act as ActOf}
+use Rattle.lu_machine.specs.declared.acts.Deed.TheVariants.{Names}
+use Rattle.lu_machine.specs.Machine.{answer}
 use Rattle.lu_msg.specs.declared.answers.Answer.TheVariants as told
 use Rattle.lu_msg.specs.declared.answers.Errno.TheVariants.{ENOENT}
 use Rattle.lu_msg.specs.declared.calls.Call.TheVariants as call
 use Rattle.lu_msg.specs.declared.messages.Reply.{Reply as ReplyTo}
 use Rattle.lu_msg.specs.declared.operations.Op.{Op}
 use Rattle.lu_msg.specs.declared.operations.Op.TheVariants as op
-use Rattle.lu_machine.specs.declared.acts.Act.{Act as ActOf}
-use Rattle.lu_machine.specs.declared.acts.Deed.TheVariants.{Names}
-use Rattle.lu_machine.specs.Machine.{answer}
-use Rattle.lu_words.specs.Words.{Txn, Line}
+use Rattle.lu_scene.specs.declared.scene.Scene.{Scene}
+use Rattle.lu_scene.specs.declared.scene.SceneLine.TheVariants.{Call, Run}
 use Rattle.lu_words.specs.Printed.{printed}
-use Rattle.lu_covered.specs.Runs.{Head, IsHead, Turn, Begins, Comes, lines_of, IsRun}
-use Rattle.lu_laws.proofs.Words.{turn, who, first, made, up, gone, differ}
-use Rattle.lu_laws.specs.Holds.{Holds}
-use Rattle.lu_laws.specs.Laws.Acts.{ActsOf}
-use Rattle.lu_laws.specs.Laws.History.{HistoryOf}
+use Rattle.lu_words.specs.Words.{Entry, Heard, Txn as Made, Commit, Line, line}
+use Rattle.lu_table.specs.Scenarios.{past_of}
+use Rattle.lu_covered.specs.Calls.{first_life}
+use Rattle.lu_trace.specs.declared.entries.Entry.TheVariants as entry
+use Rattle.lu_laws.specs.Words.Pasts.{Past}
+use Rattle.lu_laws.proofs.Words as trace
+use Rattle.lu_laws.proofs.Words.{turn, who, first, made, request, reply, txn}
+use Rattle.lu_laws.proofs.Words.{heard as heard_of}
 use Rattle.lu_laws.specs.Words.Histories.{machine_of}
-use Rattle.lu_lawful.specs.Fits.{Fits}
-use Rattle.lu_lawful.proofs.Whole as whole
-use Rattle.lu_samples.proofs.Words.{◌then◌, client, target, asks, hears, answered, deed, makes, name, fid, alive, letter}
+use Rattle.lu_lawful.specs.Fits.{AllStand, SeenStand, ReplyStands, HeardStandsAt, HeardStand, CommitsStand, Fits}
+use Rattle.lu_samples.proofs.Words.{with_head, after}
 
-abbrev pub head : Head
-head = record { clients = 2; osts = 1; flight = 1 }
+-- each in the root, or the second in the first
+abbrev scene_with : (second : List (List ℕ)) → Scene
+scene_with second =
+    record { head = with_head 2 1; lines = Call 0 0 (call.Mkdir (codes "a" ∷ [])) ∷ Run ∷ Call 1 0 (call.Mkdir second) ∷ Run ∷ [] }
 
-abbrev mkdir_a : Op
-mkdir_a = op.Mkdir (codes "a" ∷ [])
+abbrev pub beside : List Line
+beside = past_of (after 10 (scene_with (codes "b" ∷ [])))
 
-abbrev mkdir_b : Op
-mkdir_b = op.Mkdir (codes "b" ∷ [])
-
-abbrev reply_a : ReplyTo
-reply_a = answered 3 0 1 (first 1) [] (made 1)
-
-abbrev reply_b : ReplyTo
-reply_b = answered 4 1 1 (first 2) [] (made 2)
-
-abbrev pub turns : List Turn
-turns =
-    client 6 1 (hears 4 0 mkdir_b 0 reply_b)
-    ∷ client 5 0 (hears 3 0 mkdir_a 0 reply_a)
-    ∷ target 4 0 (makes 2 mkdir_b 0 (name (codes "b") ∷ []) reply_b)
-    ∷ target 3 0 (makes 1 mkdir_a 0 (name (codes "a") ∷ []) reply_a)
-    ∷ client 2 1 (asks 2 1 0 (call.Mkdir (codes "b" ∷ [])) mkdir_b 1 0)
-    ∷ client 1 0 (asks 1 0 0 (call.Mkdir (codes "a" ∷ [])) mkdir_a 1 0)
-    ∷ []
-
-pub is_head : IsHead head
-is_head = record { clients = up _ _ refl; most_clients = up _ _ refl; osts = up _ _ refl; most_osts = up _ _ refl; flight = up _ _ refl; most_flight = up _ _ refl }
-
-pub is_run : IsRun head turns
-is_run =
-    (refl, record { event = Comes 4 (Target 0) _; meets = record { client = alive refl refl; sent = inl (refl, refl, refl, refl) }; is = refl })
-    then (refl, record { event = Comes 3 (Target 0) _; meets = record { client = alive refl refl; sent = inr (inl (refl, refl, refl, refl)) }; is = refl })
-    then (refl, record { event = Comes 2 (Client 1) _; meets = record { names = refl; numbers = λ made. up _ _ refl; sent = inr (inl (refl, refl, refl, refl)); lock = λ new. refl }; is = refl })
-    then (refl, record { event = Comes 1 (Client 0) _; meets = record { names = refl; numbers = λ made. up _ _ refl; sent = inr (inl (refl, refl, refl, refl)); lock = λ new. refl }; is = refl })
-    then (refl, record { event = Begins 0 (call.Mkdir (codes "b" ∷ [])); meets = record { client = alive refl refl; small = up _ _ refl; limits = letter _ refl refl; op = mkdir_b; becomes = refl; asked = tt }; is = refl })
-    then (tt, record { event = Begins 0 (call.Mkdir (codes "a" ∷ [])); meets = record { client = alive refl refl; small = up _ _ refl; limits = letter _ refl refl; op = mkdir_a; becomes = refl; asked = tt }; is = refl })
-    then tt
-
--- ---- the pair
+abbrev pub inside : List Line
+inside = past_of (after 10 (scene_with (codes "a" ∷ codes "b" ∷ [])))
 
 abbrev pub out : Who → Bool
 out w = w.client == 0
@@ -73,46 +49,139 @@ out w = w.client == 0
 abbrev pub lost : ℕ → ℕ → Bool
 lost t n = t == 0 && n == first 1
 
-others : {A : Type 0} → who 0 ≡ who 1 → A
-others same = absurd (differ 0 1 refl (ap (λ (w : Who). w.client) same))
+-- ---- whether a past without commits fits, as a test
 
-pub fits : Fits out lost (lines_of turns)
-fits =
-    record {
-      root = refl;
-      seen = (λ stands. tt, (λ stands. tt, tt));
-      told = (λ stays. (λ own named. (refl, tt), (λ own. others own, tt)), (λ stays. gone stays, tt));
-      committed = tt;
-    }
+abbrev all_stand : List ℕ → Bool
+all_stand ns = list_all (λ n. not (lost 0 n)) ns
 
-pub acts_of : Holds (ActsOf out lost (printed (lines_of turns))) (printed (lines_of turns))
-acts_of = whole.acts_of head turns is_head is_run out lost fits
+abbrev seen_passes : List Line → Bool
+seen_passes [] = true
+seen_passes (l ∷ past) = elim l.entry [ Made d ↦ (lost 0 d.reply.txn.0 || all_stand d.reply.seen) && seen_passes past | _ ↦ seen_passes past ]
 
-pub history_of : Holds (HistoryOf out lost 1) (printed (lines_of turns))
-history_of = whole.history_of head turns is_head is_run out lost fits
+abbrev is_out : Node → Bool
+is_out (Client c) = out (first_life c)
+is_out (Target t) = true
+
+abbrev heard_passes : List Line → Bool
+heard_passes [] = true
+heard_passes (l ∷ past) =
+    elim l.entry [ Heard target flight reply ↦ (is_out l.at.node || (not (lost 0 reply.txn.0) && all_stand reply.seen)) && heard_passes past | _ ↦ heard_passes past ]
+
+abbrev commits_nothing : List Line → Bool
+commits_nothing [] = true
+commits_nothing (l ∷ past) = elim l.entry [ Commit to batch ↦ false | _ ↦ commits_nothing past ]
+
+not_lost : (b : Bool) → not b ≡ true → b ≡ false
+not_lost false is = refl
+not_lost true is = absurd (cc)
+
+stand : (ns : List ℕ) → all_stand ns ≡ true → AllStand lost ns
+stand [] is = tt
+stand (n ∷ ns) is = let both = and_parts (not (lost 0 n)) (all_stand ns) is in (not_lost (lost 0 n) both.0, stand ns both.1)
+
+seen : (past : List Line) → seen_passes past ≡ true → SeenStand lost past
+seen [] is = tt
+seen (l ∷ past) is = by (seen past) l.entry is
+  where
+    one : (b : Bool) (ns : List ℕ) → b || all_stand ns ≡ true → b ≡ false → AllStand lost ns
+    one false ns is stands = stand ns is
+    one true ns is stands = absurd (cc)
+
+    by : (seen_passes past ≡ true → SeenStand lost past) → (x : Entry) → seen_passes (line l.at x ∷ past) ≡ true → SeenStand lost (line l.at x ∷ past)
+    by rest (Made d) is =
+        let both = and_parts (lost 0 d.reply.txn.0 || all_stand d.reply.seen) (seen_passes past) is in
+        (λ stands. one (lost 0 d.reply.txn.0) d.reply.seen both.0 stands, rest both.1)
+    by rest _ is = rest is
+
+heard : (past : List Line) → heard_passes past ≡ true → HeardStand out lost past
+heard [] is = tt
+heard (l ∷ past) is = by (heard past) l.entry is
+  where
+    one : (node : Node) (r : ReplyTo) → is_out node || (not (lost 0 r.txn.0) && all_stand r.seen) ≡ true → HeardStandsAt out lost node r
+    one (Target t) r is = tt
+    one (Client c) r is = λ stays. here (out (first_life c)) stays is
+      where
+        here : (b : Bool) → b ≡ false → b || (not (lost 0 r.txn.0) && all_stand r.seen) ≡ true → ReplyStands lost r
+        here true stays is = absurd (cc)
+        here false stays is = let both = and_parts (not (lost 0 r.txn.0)) (all_stand r.seen) is in (not_lost (lost 0 r.txn.0) both.0, stand r.seen both.1)
+
+    by : (heard_passes past ≡ true → HeardStand out lost past) → (x : Entry) → heard_passes (line l.at x ∷ past) ≡ true → HeardStand out lost (line l.at x ∷ past)
+    by rest (Heard target flight reply) is =
+        let both = and_parts (is_out l.at.node || (not (lost 0 reply.txn.0) && all_stand reply.seen)) (heard_passes past) is in
+        (one l.at.node reply both.0, rest both.1)
+    by rest _ is = rest is
+
+committed : (past : List Line) → commits_nothing past ≡ true → CommitsStand lost past
+committed [] is = tt
+committed (l ∷ past) is = by (committed past) l.entry is
+  where
+    by : (commits_nothing past ≡ true → CommitsStand lost past) → (x : Entry) → commits_nothing (line l.at x ∷ past) ≡ true → CommitsStand lost (line l.at x ∷ past)
+    by rest (Commit to batch) is = absurd (cc)
+    by rest _ is = rest is
+
+-- ---- the pair fits
+
+pub fits : Fits out lost beside
+fits = record { root = refl; seen = seen beside refl; heard = heard beside refl; committed = committed beside refl }
 
 -- ---- the machine of that history: the second directory is there, the first one isn't
+
+abbrev pub beside_past : Past
+beside_past =
+    trace.client 6 1 (entry.Told 0 (turn 5 (Target 0)) (made 2))
+    ∷ trace.client 6 1 (heard_of 0 1)
+    ∷ trace.client 6 1 (entry.Take 4)
+    ∷ trace.target 5 0 (entry.Send 4 (Client 1) (reply 1 1 (first 2) [] (turn 5 (Target 0)) (made 2)))
+    ∷ trace.target 5 0 (txn (first 2) 1 1 [] (made 2))
+    ∷ trace.target 5 0 (entry.Take 3)
+    ∷ trace.client 4 1 (entry.Send 3 (Target 0) (request 1 1 0 (op.Mkdir (codes "b" ∷ []))))
+    ∷ trace.client 4 1 (entry.Begin 0 (call.Mkdir (codes "b" ∷ [])))
+    ∷ trace.client 3 0 (entry.Told 0 (turn 2 (Target 0)) (made 1))
+    ∷ trace.client 3 0 (heard_of 0 1)
+    ∷ trace.client 3 0 (entry.Take 2)
+    ∷ trace.target 2 0 (entry.Send 2 (Client 0) (reply 0 1 (first 1) [] (turn 2 (Target 0)) (made 1)))
+    ∷ trace.target 2 0 (txn (first 1) 0 1 [] (made 1))
+    ∷ trace.target 2 0 (entry.Take 1)
+    ∷ trace.client 1 0 (entry.Send 1 (Target 0) (request 0 1 0 (op.Mkdir (codes "a" ∷ []))))
+    ∷ trace.client 1 0 (entry.Begin 0 (call.Mkdir (codes "a" ∷ [])))
+    ∷ []
+
+pub beside_run : printed beside ≡ beside_past
+beside_run = refl
 
 abbrev looks : Op → ActOf
 looks o = record { who = who 1; number = record { 0 = 0 }; deed = Names o }
 
-pub first_is_gone : answer 1 (machine_of out lost 1 (printed (lines_of turns))) (looks (op.Lookup (codes "a" ∷ []))) ≡ told.Refused ENOENT
+pub first_is_gone : answer 1 (machine_of out lost 1 beside_past) (looks (op.Lookup (codes "a" ∷ []))) ≡ told.Refused ENOENT
 first_is_gone = refl
 
-pub second_stands : answer 1 (machine_of out lost 1 (printed (lines_of turns))) (looks (op.Lookup (codes "b" ∷ []))) ≡ told.Dir (record { 0 = first 2 })
+pub second_stands : answer 1 (machine_of out lost 1 beside_past) (looks (op.Lookup (codes "b" ∷ []))) ≡ told.Dir (record { 0 = first 2 })
 second_stands = refl
 
 -- where nothing is lost the first directory is there too
-pub first_stands : answer 1 (machine_of (λ w. false) (λ t n. false) 1 (printed (lines_of turns))) (looks (op.Lookup (codes "a" ∷ []))) ≡ told.Dir (record { 0 = first 1 })
+pub first_stands : answer 1 (machine_of (λ w. false) (λ t n. false) 1 beside_past) (looks (op.Lookup (codes "a" ∷ []))) ≡ told.Dir (record { 0 = first 1 })
 first_stands = refl
 
 -- ---- a transaction that saw the lost one and isn't lost itself doesn't fit
 
-abbrev inside : List Line
-inside =
-    record { at = turn 4 (Target 0); entry = Txn (deed 0 (op.Mkdir (codes "a" ∷ codes "b" ∷ [])) (part.Name (fid 1) (codes "b") ∷ []) (answered 4 1 1 (first 2) (first 1 ∷ []) (made 2))) }
-    ∷ record { at = turn 3 (Target 0); entry = Txn (deed 0 mkdir_a (name (codes "a") ∷ []) reply_a) }
-    ∷ []
+stand_back : (ns : List ℕ) → AllStand lost ns → all_stand ns ≡ true
+stand_back [] is = refl
+stand_back (n ∷ ns) is = rw (is.0) (stand_back ns is.1)
+
+seen_back : (past : List Line) → SeenStand lost past → seen_passes past ≡ true
+seen_back [] is = refl
+seen_back (l ∷ past) is = by (seen_back past) l.entry is
+  where
+    one : (b : Bool) (ns : List ℕ) → (b ≡ false → AllStand lost ns) → b || all_stand ns ≡ true
+    one true ns is = refl
+    one false ns is = stand_back ns (is refl)
+
+    by : (SeenStand lost past → seen_passes past ≡ true) → (x : Entry) → SeenStand lost (line l.at x ∷ past) → seen_passes (line l.at x ∷ past) ≡ true
+    by rest (Made d) is = and_from (lost 0 d.reply.txn.0 || all_stand d.reply.seen) (seen_passes past) (one (lost 0 d.reply.txn.0) d.reply.seen is.0) (rest is.1)
+    by rest _ is = rest is
+
+saw_the_lost : seen_passes inside ≡ false
+saw_the_lost = refl
 
 pub unfit : Fits out lost inside → ⊥
-unfit f = let stands : true ≡ false = (f.seen.0 refl).0 in absurd (cc)
+unfit f = let passes : true ≡ false = sym (seen_back inside f.seen) ∙ saw_the_lost in absurd (cc)

@@ -1,13 +1,7 @@
 pub mod Words
-pub mod OneClient
-pub mod Resent
-pub mod Reordered
-pub mod TwoInFlight
-pub mod Queue
-pub mod Tags
+pub mod Flying
+pub mod Names
+pub mod Locks
+pub mod Covered
 pub mod Fits
-pub mod Files
-pub mod Commits
-pub mod NameFound
 pub mod Unfit
-pub mod Spent

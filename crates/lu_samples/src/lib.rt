@@ -1,5 +1,5 @@
-//! Worked runs, computed on the definitions: turns written out by hand are covered rows, and their printed lines
-//! are the worked traces. Beside them stand what can't be a turn, and what a spent target still answers.
+//! Worked scenarios, computed on the definition of a scenario's run: what they print, line by line, that they are covered,
+//! and so lawful.
 //!
 //! These are proofs alone; `proofs/Words` has the short words in which they are written.
 #![tactic(auto)]

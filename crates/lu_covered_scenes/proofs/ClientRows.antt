@@ -1,0 +1,363 @@
+-- A client's row in a covered scenario: where it stood so before, all its lines are covered, and it stands so after them.
+use Rattle.std.proofs.Common.{◌≡◌, ℕ, zero, suc, ◌+◌, Bool, true, false, List, [], ◌∷◌, ◌++◌, Option, Some, None, refl, sym, subst, ap, ◌∙◌}
+use Rattle.std.specs.Prelude.{nat_eq, nat_lt, ◌&&◌, if◌then◌else◌, filter, drop, reverse}
+use Rattle.std.specs.List.{list_any}
+use Rattle.std.proofs.lemmas.Bool.{cond_both}
+use Rattle.lu_base.specs.declared.ids.At.{At}
+use Rattle.lu_base.specs.declared.ids.Cookie.{Cookie}
+use Rattle.lu_base.specs.declared.ids.Node.{Node}
+use Rattle.lu_base.specs.declared.ids.Node.TheVariants.{Client as FromClient, Target}
+use Rattle.lu_base.specs.declared.ids.Who.{Who}
+use Rattle.lu_base.specs.declared.locks.Lock.{Lock}
+use Rattle.lu_base.specs.declared.locks.Mode.{Mode}
+use Rattle.lu_base.specs.declared.locks.Mode.TheVariants.{PR}
+use Rattle.lu_msg.specs.declared.answers.Answer.{Answer}
+use Rattle.lu_msg.specs.declared.answers.Answer.TheVariants as told
+use Rattle.lu_msg.specs.declared.calls.Call.{Call}
+use Rattle.lu_msg.specs.declared.calls.Call.TheVariants as call
+use Rattle.lu_msg.specs.declared.messages.Message.{Message}
+use Rattle.lu_msg.specs.declared.messages.Message.TheVariants as message
+use Rattle.lu_msg.specs.declared.messages.Reply.{Reply as ReplyTo}
+use Rattle.lu_msg.specs.declared.operations.Op.{Op}
+use Rattle.lu_msg.specs.declared.operations.Op.TheVariants as op
+use Rattle.lu_held.specs.declared.names.LockName.{LockName}
+use Rattle.lu_held.specs.declared.locks.HeldLock.{HeldLock}
+use Rattle.lu_held.specs.Locks.{name_of, is_free, named}
+use Rattle.lu_held.specs.Held.{is_held, put_in, in_order}
+use Rattle.lu_held.specs.Names.{is_before}
+use Rattle.lu_machine.specs.Fits.{answer_fits}
+use Rattle.lu_part.specs.declared.parts.Part.{Part}
+use Rattle.lu_part.specs.declared.parts.Part.TheVariants as part
+use Rattle.lu_words.specs.Carried.{Queued, Flight, Asking, Unasked, Asked, Answered, Stage, Running}
+use Rattle.lu_words.specs.Words.{Entry, Send, Take, Tick, Heard, Drop, same_life}
+use Rattle.lu_client_rows.specs.Advances.{tells, unpins}
+use Rattle.lu_client_rows.specs.Caches.{brought, granted_lock, patch_at}
+use Rattle.lu_client_rows.specs.Calls.{call_on}
+use Rattle.lu_client_rows.specs.Facts.{Fact}
+use Rattle.lu_client_rows.specs.Imports.{Standing, Import, import_of, is_serving}
+use Rattle.lu_client_rows.specs.Known.{Notes, Known, KnownFile, Found, same_part, is_usable, lesser, of_least_cookie, fact_on, found_at_path, lookup_known, list_known, layout_known, directory_known, file_with, file_facts, file_at, names_of}
+use Rattle.lu_client_rows.specs.Locks.{marks_of, trims, must_write, gives_up, writes_under, visits_with, visits, visits_all, locks_go, dirty_total, is_called}
+use Rattle.lu_client_rows.specs.Messages.{holds, learns, heeds, hears_flight, hears_fitting, find_flight, hears, replied, waits_for, is_waiter, waiter, cancels_unknown, blocked_waiting, blocked_held, blocked, is_present, size_with, comes_by}
+use Rattle.lu_base.specs.declared.locks.Policy.{Policy}
+use Rattle.lu_client_rows.specs.Patches.{Patch}
+use Rattle.lu_client_rows.specs.Recovery.{where_stage, on_calls, ticks, ticks_at}
+use Rattle.lu_client_rows.specs.Rows.{Event, Begins, Comes, Ticks, Dies, rests, row_call, row}
+use Rattle.lu_client_rows.specs.Sending.{resends, flies, sends, sends_to, sends_all, has_room, next_flight}
+use Rattle.lu_client_rows.specs.Slots.{begins, goes, goes_at, goes_on, passes, all_slots, slots_go, is_free_close}
+use Rattle.lu_client_rows.specs.Starts.{notes_of, pins, tells_known, starts_known, stats_file, starts_stat, starts, answers, goes_plain}
+use Rattle.lu_client_rows.specs.States.{Client, Limits, Store, follow}
+use Rattle.lu_covered.specs.Calls.{operation_of}
+use Rattle.lu_facts.proofs.OnNames.{IsOnNames, IsPlain}
+use Rattle.lu_covered_scenes.proofs.Every.{Every, every_more, every_filter}
+use Rattle.lu_covered_scenes.proofs.Clients.{AskingCalm, RunningCalm, CallCalm, ImportCalm, FactCalm, IsReader, HeldCalm, Calm, LineCalm, AllCalm, follow_calm, on_calm}
+
+-- what may come to such a client
+abbrev pub MessageCalm : Message → Type 0
+MessageCalm (message.Reply r) = Every IsReader r.locks × IsPlain r.answer
+MessageCalm (message.Block who boot cookie) = Unit {0}
+MessageCalm _ = ⊥
+
+abbrev pub EventCalm : (Call → Type 0) → Event → Type 0
+EventCalm P (Begins slot c) = ((o : Op) × (operation_of c ≡ Some o)) × P c
+EventCalm P (Comes n from m) = MessageCalm m
+EventCalm P Ticks = Unit {0}
+EventCalm P Dies = Unit {0}
+
+-- ---- what is known of a file: its attributes never are
+
+some_so : (f : Fact) (o : Option Fact) → FactCalm f → ((g : Fact) → o ≡ Some g → FactCalm g) → FactCalm (lesser f o)
+some_so f None c more = c
+some_so f (Some g) c more = cond_both (nat_lt g.cookie.0 f.cookie.0) g f FactCalm (λ t. more g refl) (λ t. c)
+
+least_so : (facts : List Fact) (f : Fact) → Every FactCalm facts → of_least_cookie facts ≡ Some f → FactCalm f
+least_so [] f c e = absurd (cc)
+least_so (g ∷ facts) f c e =
+    let same : lesser g (of_least_cookie facts) ≡ f = cc in
+    subst FactCalm same (some_so g (of_least_cookie facts) c.0 (λ x is. least_so facts x c.1 is))
+
+fact_so : (p : Part) (n : Notes) (f : Fact) → Every FactCalm n.facts → fact_on p n ≡ Some f → FactCalm f
+fact_so p n f c e =
+    least_so (filter (λ (g : Fact). same_part p g.part && is_usable g.cookie n.held) n.facts) f
+    (every_filter FactCalm (λ (g : Fact). same_part p g.part && is_usable g.cookie n.held) n.facts c) e
+
+no_file_with : (found : Found) (a l : Cookie) (x y : Answer) → IsPlain x → file_with found a l x y ≡ None
+no_file_with found a l (told.FileStat fid mode links layout) y none = absurd none
+no_file_with found a l x y none = refl
+
+no_file_facts : (found : Found) (a l : Option Fact) → ((f : Fact) → a ≡ Some f → FactCalm f) → file_facts found a l ≡ None
+no_file_facts found None l c = refl
+no_file_facts found (Some a) None c = refl
+no_file_facts found (Some a) (Some l) c = no_file_with found a.cookie l.cookie a.answer l.answer (c a refl)
+
+no_file_at : (n : Notes) (found : Found) (o : Option Answer) → Every FactCalm n.facts → file_at n found o ≡ None
+no_file_at n found (Some (told.File f)) c = no_file_facts found (fact_on (part.Attr f) n) (fact_on (part.Layout f) n) (λ g is. fact_so (part.Attr f) n g c is)
+no_file_at n found _ c = refl
+
+-- ---- the parts of a row
+
+module _ (P : Call → Type 0) where
+  abbrev All : List Entry → Type 0
+  All es = AllCalm P es
+
+  pins_calm : (names : List LockName) → All (pins names)
+  pins_calm [] = tt
+  pins_calm (n ∷ names) = (tt, pins_calm names)
+
+  unpins_calm : (names : List LockName) → All (unpins names)
+  unpins_calm [] = tt
+  unpins_calm (n ∷ names) = (tt, unpins_calm names)
+
+  known_calm : (at : At) (slot : ℕ) (r : Running) (known : Known) → All (tells_known at slot r known)
+  known_calm at slot r known = every_more (LineCalm P) (pins (names_of known.cookies)) _ (pins_calm (names_of known.cookies)) (tt, unpins_calm _)
+
+  starts_known_calm : (at : At) (slot : ℕ) (r : Running) (o : Op) (known : Option Known) → IsOnNames o → All (starts_known at slot r o known)
+  starts_known_calm at slot r o None is = (is, tt)
+  starts_known_calm at slot r o (Some known) is = known_calm at slot r known
+
+  stat_calm : (at : At) (slot : ℕ) (path : List (List ℕ)) (r : Running) (s : Store) (n : Notes) (found : Found) (o : Option Known) → Every FactCalm n.facts → All (starts_stat at slot path r s n found o)
+  stat_calm at slot path r s n found (Some known) c = known_calm at slot r known
+  stat_calm at slot path r s n found None c =
+      subst (λ (o : Option KnownFile). All (stats_file at slot path r s o)) (sym (no_file_at n found found.inode c)) (tt, tt)
+
+  starts_calm : (at : At) (slot : ℕ) (c : Call) (r : Running) (k : Client) (o : Op) → operation_of c ≡ Some o → Calm k → All (starts at slot c r k)
+  starts_calm at slot (call.Lookup path) r k o e h = starts_known_calm at slot r (op.Lookup path) (lookup_known (found_at_path (notes_of k) path)) tt
+  starts_calm at slot (call.Stat path) r k o e h =
+      stat_calm at slot path r k.store (notes_of k) (found_at_path (notes_of k) path) (directory_known (notes_of k) (found_at_path (notes_of k) path)) h.facts
+  starts_calm at slot (call.List path) r k o e h = starts_known_calm at slot r (op.List path) (list_known (notes_of k) (found_at_path (notes_of k) path)) tt
+  starts_calm at slot (call.Layout path) r k o e h = starts_known_calm at slot r (op.Layout path) (layout_known (notes_of k) (found_at_path (notes_of k) path)) tt
+  starts_calm at slot (call.Mkdir path) r k o e h = (tt, tt)
+  starts_calm at slot (call.Create path None) r k o e h = (tt, tt)
+  starts_calm at slot (call.Create path (Some numbers)) r k o e h = (tt, tt)
+  starts_calm at slot (call.Link path new) r k o e h = (tt, tt)
+  starts_calm at slot (call.Unlink path) r k o e h = (tt, tt)
+  starts_calm at slot (call.Rmdir path) r k o e h = (tt, tt)
+  starts_calm at slot (call.Rename path new) r k o e h = (tt, tt)
+  starts_calm at slot (call.Chmod path mode) r k o e h = (tt, tt)
+  starts_calm at slot c r k o e h = absurd (cc)
+
+  -- a call is told its answer
+  tells_calm : (slot : ℕ) (r : Running) (at : At) (a : Answer) → All (tells slot r at a None)
+  tells_calm slot r at a = (tt, unpins_calm r.pins)
+
+  answers_calm : (at : At) (slot : ℕ) (acted : At) (a : Answer) (c : Call) (r : Running) (k : Client) (o : Op) → operation_of c ≡ Some o → IsPlain a → All (answers at slot acted a c r k)
+  answers_calm at slot acted (told.OpenFile fid number layout) (call.Open h path) r k o e none = absurd (cc)
+  answers_calm at slot acted (told.FileStat fid mode links layout) c r k o e none = absurd none
+  answers_calm at slot acted a c r k o e none = tells_calm slot r acted a
+
+  plain_calm : (at : At) (slot : ℕ) (a : Asking) (r : Running) (k : Client) → RunningCalm r → r.asking ≡ a → Calm k → All (goes_plain at slot a r k)
+  plain_calm at slot Unasked r k c e h = starts_calm at slot r.call r k c.op c.becomes h
+  plain_calm at slot Asked r k c e h = tt
+  plain_calm at slot (Answered t reply) r k c e h =
+      answers_calm at slot reply.at reply.answer r.call r k c.op c.becomes (subst (λ (x : Asking). AskingCalm x) e c.asking)
+
+  goes_calm : (at : At) (slot : ℕ) (k : Client) → Calm k → All (goes at slot k)
+  goes_calm at slot k h = by (call_on slot k.calls) (on_calm slot k.calls h.calls)
+    where
+      by : (o : Option Running) → CallCalm o → All (goes_on at slot k o)
+      by None c = tt
+      by (Some r) c = subst (λ (stage : Stage). All (goes_at at slot stage r k)) (sym c.plain) (plain_calm at slot r.asking r k c refl h)
+
+  passes_calm : (at : At) (slots : List ℕ) (k : Client) → Calm k → All (passes at slots k)
+  passes_calm at [] k h = tt
+  passes_calm at (slot ∷ slots) k h = follow_calm P (goes at slot k) (passes at slots) k h (goes_calm at slot k h) (λ j c. passes_calm at slots j c)
+
+  slots_calm : (n : ℕ) (at : At) (k : Client) → Calm k → All (slots_go n at k)
+  slots_calm zero at k h = tt
+  slots_calm (suc n) at k h =
+      follow_calm P (passes at all_slots k) (λ j. if list_any (is_free_close j.calls) j.calls then slots_go n at j else []) k h (passes_calm at all_slots k h)
+      (λ j c. cond_both (list_any (is_free_close j.calls) j.calls) (slots_go n at j) [] All (λ t. slots_calm n at j c) (λ t. tt))
+
+  -- ---- held locks
+
+  marks_calm : (held : List HeldLock) → All (marks_of held)
+  marks_calm [] = tt
+  marks_calm (h ∷ held) = (tt, marks_calm held)
+
+  trims_calm : (limits : Limits) (k : Client) → All (trims limits k)
+  trims_calm limits k = marks_calm (reverse (drop limits.unused (filter is_free k.store.held)))
+
+  put_calm : (h : HeldLock) (held : List HeldLock) → HeldCalm h → Every HeldCalm held → Every HeldCalm (put_in h held)
+  put_calm h [] is c = (is, tt)
+  put_calm h (g ∷ held) is c =
+      cond_both (is_before (name_of g) (name_of h)) (g ∷ put_in h held) (h ∷ g ∷ held) (Every HeldCalm) (λ t. (c.0, put_calm h held is c.1)) (λ t. (is, c))
+
+  order_calm : (held : List HeldLock) → Every HeldCalm held → Every HeldCalm (in_order held)
+  order_calm [] c = tt
+  order_calm (h ∷ held) c = put_calm h (in_order held) c.0 (order_calm held c.1)
+
+  -- nothing is written under a lock for reading
+  writes_none : (over : Bool) (h : HeldLock) (mode : Mode) (policy : Policy) (p : Patch) → mode ≡ PR → must_write over h mode policy p ≡ false
+  writes_none over h mode policy p e = subst (λ (m : Mode). must_write over h m policy p ≡ false) (sym e) refl
+
+  gives_calm : (who : Who) (h : HeldLock) (i : Import) → All (gives_up who h i)
+  gives_calm who h i =
+      cond_both (is_called h && is_serving i.standing) (Drop h.target.0 h.lock ∷ Send (Target h.target.0) (message.Cancel who i.boot h.lock.cookie) ∷ []) [] All (λ t. (tt, (tt, tt))) (λ t. tt)
+
+  visit_calm : (over : Bool) (h : HeldLock) (p : Patch) (k : Client) → HeldCalm h → All (visits_with over h p k)
+  visit_calm over h p k is =
+      subst (λ (b : Bool). All (if b then writes_under h p else gives_up k.who h (import_of h.target.0 k.imports))) (sym (writes_none over h h.lock.ask.mode h.lock.ask.policy p is))
+      (gives_calm k.who h (import_of h.target.0 k.imports))
+
+  visits_calm : (over : Bool) (held : List HeldLock) (k : Client) → Every HeldCalm held → Calm k → All (visits_all over held k)
+  visits_calm over [] k is h = tt
+  visits_calm over (g ∷ held) k is h =
+      follow_calm P (visits over g k) (visits_all over held) k h (visit_calm over g (patch_at g.lock.resource k.store.patches) k is.0) (λ j c. visits_calm over held j is.1 c)
+
+  locks_calm : (limits : Limits) (k : Client) → Calm k → All (locks_go limits k)
+  locks_calm limits k h = visits_calm (nat_lt limits.dirty (dirty_total k.store.patches)) (in_order k.store.held) k (order_calm k.store.held h.held) h
+
+  -- ---- sending
+
+  sends_calm : (limits : Limits) (who : Who) (boot t last : ℕ) (flights : List Flight) (queue : List Queued) → Every (λ (q : Queued). IsOnNames q.op) queue → All (sends limits who boot t last flights queue)
+  sends_calm limits who boot t last flights [] c = tt
+  sends_calm limits who boot t last flights (q ∷ queue) c =
+      let f = next_flight last flights q in
+      let more = sends limits who boot t (last + 1) (flights ++ f ∷ []) queue in
+      cond_both (has_room limits t q.op flights) (flies who boot t f more) [] All (λ r. (c.0, (tt, sends_calm limits who boot t (last + 1) (flights ++ f ∷ []) queue c.1))) (λ r. tt)
+
+  all_sent_calm : (limits : Limits) (who : Who) (t : ℕ) (imports : List Import) → Every ImportCalm imports → All (sends_all limits who t imports)
+  all_sent_calm limits who t [] c = tt
+  all_sent_calm limits who t (i ∷ imports) c =
+      every_more (LineCalm P) (sends_to limits who t i) (sends_all limits who (t + 1) imports)
+      (cond_both (is_serving i.standing) (sends limits who i.boot t i.last i.flights i.queue) [] All (λ s. sends_calm limits who i.boot t i.last i.flights i.queue c.0.queue) (λ s. tt))
+      (all_sent_calm limits who (t + 1) imports c.1)
+
+  rests_calm : (limits : Limits) (at : At) (k : Client) → Calm k → All (rests limits at k)
+  rests_calm limits at k h =
+      follow_calm P (slots_go 5 at k) (λ j. follow (trims limits j) (λ j. follow (locks_go limits j) (λ j. sends_all limits j.who 0 j.imports) j) j) k h (slots_calm 5 at k h)
+      (λ j c. follow_calm P (trims limits j) (λ j. follow (locks_go limits j) (λ j. sends_all limits j.who 0 j.imports) j) j c (trims_calm limits j)
+      (λ i b. follow_calm P (locks_go limits i) (λ j. sends_all limits j.who 0 j.imports) i b (locks_calm limits i b)
+      (λ g a. all_sent_calm limits g.who 0 g.imports a.imports)))
+
+  -- ---- a message comes
+
+  no_grant : (o : Op) (r : ReplyTo) (a : Answer) → IsOnNames o → granted_lock o r a ≡ []
+  no_grant (op.Enqueue resource mode asked) r a is = absurd is
+  no_grant _ r a is = refl
+
+  brings_calm : (o : Op) (r : ReplyTo) → IsOnNames o → Every IsReader r.locks → Every IsReader (brought o r)
+  brings_calm o r is c = every_more IsReader r.locks (granted_lock o r r.answer) c (subst (Every IsReader) (sym (no_grant o r r.answer is)) tt)
+
+  holds_calm : (t : ℕ) (size : Option ℕ) (seen : List ℕ) (locks : List Lock) → Every IsReader locks → All (holds t size seen locks)
+  holds_calm t size seen [] c = tt
+  holds_calm t size seen (l ∷ locks) c = (c.0, holds_calm t size seen locks c.1)
+
+  learns_calm : (t : ℕ) (o : Op) (a : Answer) (locks : List Lock) → IsPlain a → All (learns t o a locks)
+  learns_calm t o a [] none = tt
+  learns_calm t o a (l ∷ locks) none = (none, tt)
+
+  no_heeds : (t : ℕ) (f : Flight) (o : Op) (r : ReplyTo) (a : Answer) (k : Client) → IsOnNames o → heeds t f o r a k ≡ []
+  no_heeds t f (op.Enqueue resource mode extent) r a k is = absurd is
+  no_heeds t f (op.Get resource cookie page) r a k is = absurd is
+  no_heeds t f (op.Put resource cookie offset bytes) r a k is = absurd is
+  no_heeds t f (op.Cut resource cookie size) r a k is = absurd is
+  no_heeds t f _ r a k is = refl
+
+  flight_calm : (t : ℕ) (r : ReplyTo) (f : Flight) (k : Client) → IsOnNames f.op → MessageCalm (message.Reply r) → Calm k → All (hears_flight t r f k)
+  flight_calm t r f k is m h =
+      let brings = brings_calm f.op r is m.0 in
+      follow_calm P (Heard t f r ∷ holds t (size_with r.answer) r.seen (brought f.op r) ++ learns t f.op r.answer r.locks) (heeds t f f.op r r.answer) k h
+      ((brings, m.1), every_more (LineCalm P) (holds t (size_with r.answer) r.seen (brought f.op r)) (learns t f.op r.answer r.locks) (holds_calm t (size_with r.answer) r.seen (brought f.op r) brings) (learns_calm t f.op r.answer r.locks m.1))
+      (λ j c. subst All (sym (no_heeds t f f.op r r.answer j is)) tt)
+
+  abbrev FlightCalm : Option Flight → Type 0
+  FlightCalm None = Unit {0}
+  FlightCalm (Some f) = IsOnNames f.op
+
+  found_calm : (xid : ℕ) (flights : List Flight) → Every (λ (f : Flight). IsOnNames f.op) flights → FlightCalm (find_flight xid flights)
+  found_calm xid [] c = tt
+  found_calm xid (f ∷ flights) c = cond_both (nat_eq f.xid xid) (Some f) (find_flight xid flights) FlightCalm (λ t. c.0) (λ t. found_calm xid flights c.1)
+
+  flights_calm : (t : ℕ) (imports : List Import) → Every ImportCalm imports → Every (λ (f : Flight). IsOnNames f.op) (import_of t imports).flights
+  flights_calm t [] c = tt
+  flights_calm zero (i ∷ imports) c = c.0.flights
+  flights_calm (suc t) (i ∷ imports) c = flights_calm t imports c.1
+
+  reply_calm : (t : ℕ) (r : ReplyTo) (k : Client) (present : Bool) → MessageCalm (message.Reply r) → Calm k → All (replied t r k present)
+  reply_calm t r k false m h = tt
+  reply_calm t r k true m h = by (find_flight r.xid.0 (import_of t k.imports).flights) (found_calm r.xid.0 (import_of t k.imports).flights (flights_calm t k.imports h.imports))
+    where
+      fit : (f : Flight) → IsOnNames f.op → (b : Bool) → All (hears_fitting t r f k b)
+      fit f c true = flight_calm t r f k c m h
+      fit f c false = tt
+
+      by : (o : Option Flight) → FlightCalm o → All (hears t r k o)
+      by None c = tt
+      by (Some f) c = fit f c (answer_fits f.op r.answer)
+
+  -- no call waits for a lock
+  waits_not : (name : LockName) (o : Option Running) → CallCalm o → is_waiter name o ≡ false
+  waits_not name None c = refl
+  waits_not name (Some r) c = ap (waits_for name) c.plain
+
+  no_waiter : (name : LockName) (slot : ℕ) (calls : List (Option Running)) → Every CallCalm calls → waiter name slot calls ≡ None
+  no_waiter name slot [] c = refl
+  no_waiter name slot (o ∷ calls) c =
+      ap (λ (b : Bool). if b then Some slot else waiter name (slot + 1) calls) (waits_not name o c.0) ∙ no_waiter name (slot + 1) calls c.1
+
+  unknown_calm : (who : Who) (name : LockName) (boot : ℕ) (flights : List Flight) → All (cancels_unknown who name boot flights)
+  unknown_calm who name boot [] = (tt, tt)
+  unknown_calm who name boot (f ∷ flights) = tt
+
+  block_calm : (name : LockName) (k : Client) (mine : Bool) → Calm k → All (blocked name k mine)
+  block_calm name k false h = tt
+  block_calm name k true h = by (is_held name k.store.held)
+    where
+      by : (b : Bool) → All (blocked_held name k b)
+      by true = (tt, tt)
+      by false =
+          subst (λ (o : Option ℕ). All (blocked_waiting name k o)) (sym (no_waiter name 0 k.calls h.calls))
+          (unknown_calm k.who name (import_of name.target.0 k.imports).boot (import_of name.target.0 k.imports).flights)
+
+  comes_calm : (at : At) (from : Node) (m : Message) (k : Client) → MessageCalm m → Calm k → All (comes_by at from m k)
+  comes_calm at (FromClient c) m k is h = tt
+  comes_calm at (Target t) (message.Reply r) k is h = reply_calm t r k (is_present r.who r.boot t k) is h
+  comes_calm at (Target t) (message.Block who boot cookie) k is h = block_calm (named (record { 0 = t }) cookie) k (same_life who k.who) h
+  comes_calm at (Target t) m k is h = absurd is
+
+  -- ---- time goes on
+
+  resends_calm : (who : Who) (boot t : ℕ) (flights : List Flight) → All (resends who boot t flights)
+  resends_calm who boot t [] = tt
+  resends_calm who boot t (f ∷ flights) = (tt, resends_calm who boot t flights)
+
+  where_calm : (who : Who) (boot t slot : ℕ) (calls : List (Option Running)) → Every CallCalm calls → All (on_calls (where_stage who boot t) slot calls)
+  where_calm who boot t slot [] c = tt
+  where_calm who boot t slot (None ∷ calls) c = where_calm who boot t (slot + 1) calls c.1
+  where_calm who boot t slot (Some r ∷ calls) c =
+      every_more (LineCalm P) (where_stage who boot t slot r r.stage) (on_calls (where_stage who boot t) (slot + 1) calls)
+      (subst (λ (stage : Stage). All (where_stage who boot t slot r stage)) (sym c.0.plain) tt) (where_calm who boot t (slot + 1) calls c.1)
+
+  ticks_calm : (t : ℕ) (imports : List Import) (k : Client) → Every ImportCalm imports → Calm k → All (ticks t imports k)
+  ticks_calm t [] k is h = tt
+  ticks_calm t (i ∷ imports) k is h =
+      every_more (LineCalm P) (ticks_at t k i i.standing) (ticks (t + 1) imports k)
+      (subst (λ (s : Standing). All (ticks_at t k i s)) (sym is.0.serves)
+      (every_more (LineCalm P) (resends k.who i.boot t i.flights) (on_calls (where_stage k.who i.boot t) 0 k.calls) (resends_calm k.who i.boot t i.flights) (where_calm k.who i.boot t 0 k.calls h.calls)))
+      (ticks_calm (t + 1) imports k is.1 h)
+
+  -- ---- a call begins
+
+  begins_calm : (at : At) (slot : ℕ) (c : Call) (k : Client) (o : Op) → operation_of c ≡ Some o → P c → All (begins at slot c k)
+  begins_calm at slot (call.Open h path) k o e p = absurd (cc)
+  begins_calm at slot (call.Close h) k o e p = absurd (cc)
+  begins_calm at slot (call.Read h x n) k o e p = absurd (cc)
+  begins_calm at slot (call.Write h x bs) k o e p = absurd (cc)
+  begins_calm at slot (call.Cut h n) k o e p = absurd (cc)
+  begins_calm at slot (call.Flush h) k o e p = absurd (cc)
+  begins_calm at slot (call.Glimpse h) k o e p = absurd (cc)
+  begins_calm at slot c k o e p = ((record { plain = refl; op = o; becomes = e; asking = tt }, p), tt)
+
+  -- ---- the row
+
+  pub row_calm : (limits : Limits) (at : At) (event : Event) (k : Client) → EventCalm P event → Calm k → All (row limits at event k)
+  row_calm limits at (Begins slot c) k is h = by (call_on slot k.calls)
+    where
+      by : (o : Option Running) → All (row_call limits at slot c k o)
+      by None = follow_calm P (begins at slot c k) (rests limits at) k h (begins_calm at slot c k is.0.0 is.0.1 is.1) (λ j i. rests_calm limits at j i)
+      by (Some r) = (tt, tt)
+  row_calm limits at (Comes n from m) k is h =
+      follow_calm P (Take n from m ∷ comes_by at from m k) (rests limits at) k h (tt, comes_calm at from m k is h) (λ j i. rests_calm limits at j i)
+  row_calm limits at Ticks k is h =
+      follow_calm P (Tick ∷ ticks 0 k.imports k) (rests limits at) k h (tt, ticks_calm 0 k.imports k h.imports h) (λ j i. rests_calm limits at j i)
+  row_calm limits at Dies k is h = (tt, tt)

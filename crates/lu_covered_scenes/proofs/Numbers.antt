@@ -1,0 +1,358 @@
+-- A target has numbers left in a covered scenario: each request that comes brings at most one transaction, and at most one lock for each
+-- name of a path and one more.
+use Rattle.std.proofs.Common.{◌≡◌, ℕ, zero, suc, ◌+◌, ◌*◌, ◌≤◌, Bool, true, false, List, [], ◌∷◌, ◌++◌, inl, inr, Option, Some, None, refl, sym, subst, ap, ◌∙◌, arith}
+use Rattle.std.specs.Prelude.{nat_eq, nat_lt, max, not, ◌||◌, if◌then◌else◌, length}
+use Rattle.std.specs.List.{filter}
+use Rattle.std.proofs.lemmas.Bool.{cond_both}
+use Rattle.std.proofs.Math.Nat.{max-le}
+use Rattle.std.proofs.lemmas.Bool.Decides.{nat_tests}
+use Rattle.lu_base.specs.declared.ids.At.{At}
+use Rattle.lu_base.specs.declared.ids.Node.{Node}
+use Rattle.lu_base.specs.declared.ids.Txn.{Txn as TxnOf}
+use Rattle.lu_base.specs.declared.ids.Who.{Who}
+use Rattle.lu_base.specs.declared.locks.Lock.{Lock}
+use Rattle.lu_msg.specs.declared.answers.Errno.{Errno}
+use Rattle.lu_msg.specs.declared.answers.Answer.TheVariants.{Refused}
+use Rattle.lu_msg.specs.declared.messages.Message.{Message}
+use Rattle.lu_msg.specs.declared.messages.Message.TheVariants as message
+use Rattle.lu_msg.specs.declared.messages.Reply.{Reply as ReplyTo}
+use Rattle.lu_msg.specs.declared.messages.Request.{Request as RequestOf}
+use Rattle.lu_msg.specs.declared.operations.Op.{Op}
+use Rattle.lu_msg.specs.declared.operations.Op.TheVariants as op
+use Rattle.lu_machine.specs.declared.child.Child.{Child}
+use Rattle.lu_machine.specs.declared.child.Child.TheVariants.{Dir, File}
+use Rattle.lu_machine.specs.Footprint.{Operation, grants}
+use Rattle.lu_machine.specs.Laws.{IsReading}
+use Rattle.lu_machine.specs.Plan.{Plan, Outcome, outcome}
+use Rattle.lu_machine.specs.Table.{root, last_of, walk, wants, row_lookup, row_stat, row_list, row_layout}
+use Rattle.lu_machine.specs.Tree.{Tree}
+use Rattle.lu_machine.proofs.Paths.{Steps, walk_steps}
+use Rattle.lu_part.specs.declared.bits.TheConstants.{UPDATE, LAYOUT}
+use Rattle.lu_part.specs.declared.parts.Want.{Want}
+use Rattle.lu_words.specs.Carried.{Deed, Slot, Glimpse}
+use Rattle.lu_words.specs.Words.{Entry, Tick, Act, Grant, Block, Release, Enters}
+use Rattle.lu_target_rows.specs.Glimpses.{glimpses_of, glimpses_end}
+use Rattle.lu_target_rows.specs.Lives.{slot_in}
+use Rattle.lu_target_rows.specs.Locks.{is_request_of}
+use Rattle.lu_target_rows.specs.Names.{asked, does_change, is_read, is_ready, locks_from, locks_for, written_by, in_way, names_deed, grant_lines, row_executes, row_waits, row_pass, row_sweep, names_go}
+use Rattle.lu_target_rows.specs.Objects.{lock_of, objects_go}
+use Rattle.lu_target_rows.specs.Phase.{greatest_cookie}
+use Rattle.lu_target_rows.specs.Queues.{queue_goes}
+use Rattle.lu_target_rows.specs.Replies.{none, next_number, is_called, called, block_of, blocks, replies, row_kept}
+use Rattle.lu_target_rows.specs.Requests.{by_number, by_slot as slot_of_request, row_request, releases, goes_on, row_cancels}
+use Rattle.lu_target_rows.specs.Rows as target
+use Rattle.lu_target_rows.specs.States.{Target, is_names, after, turn, follow}
+use Rattle.lu_guards.proofs.Guards.{In}
+use Rattle.lu_guards.proofs.Lists.{self}
+use Rattle.lu_facts.proofs.OnNames.{IsOnNames}
+use Rattle.lu_facts.proofs.Readings.{changing_free}
+use Rattle.lu_covered_scenes.proofs.Every.{Every, every_more, every_filter}
+use Rattle.lu_covered_scenes.proofs.Targets.{Serves, MessageServed, heeded, heeded_is}
+
+-- ---- how many locks an operation is granted
+
+-- its path has at most so many names as paths have
+abbrev pub IsShort : Op → Type 0
+IsShort (op.Lookup path) = length path ≤ 32
+IsShort (op.Stat path) = length path ≤ 32
+IsShort (op.List path) = length path ≤ 32
+IsShort (op.Layout path) = length path ≤ 32
+IsShort o = IsOnNames o
+
+steps_length : (t : Tree) (at : Child) (path : List (List ℕ)) (cs : List Child) → Steps t at path cs → length cs ≡ length path
+steps_length t at [] [] s = refl
+steps_length t at [] (c ∷ cs) s = absurd s
+steps_length t (Dir d) (n ∷ ns) [] s = absurd s
+steps_length t (Dir d) (n ∷ ns) (c ∷ cs) s = ap suc (steps_length t c ns cs s.1)
+steps_length t (File f) (n ∷ ns) cs s = absurd s
+
+wants_few : (more : ℕ) (cs : List Child) → length (wants more cs) ≤ length cs + 1
+wants_few zero [] = omega arith
+wants_few (suc more) [] = omega arith
+wants_few more (c ∷ []) = omega arith
+wants_few more (c ∷ d ∷ cs) = let few = wants_few more (d ∷ cs) in omega (arith, few)
+
+module _ (osts : ℕ) (t : Tree) (number : TxnOf) (who : Who) where
+  abbrev act : Op → Operation
+  act o = record { number = number; who = who; op = o }
+
+  abbrev IsFew : Outcome → Type 0
+  IsFew o = length o.grants ≤ 33
+
+  refused : (e : Errno) → IsFew (record { answer = Refused e; grants = []; changes = [] })
+  refused e = omega arith
+
+  walks_few : (path : List (List ℕ)) (next : List Child → Plan) → length path ≤ 32 → ((cs : List Child) → length cs ≤ 32 → IsFew (outcome t (next cs))) → IsFew (outcome t (walk root path next))
+  walks_few path next short few = walk_steps t IsFew refused root path next (λ cs s. few cs (let same = steps_length t root path cs s in omega (arith, same, short)))
+
+  so_few : (more : ℕ) (cs : List Child) → length cs ≤ 32 → length (wants more cs) ≤ 33
+  so_few more cs short = let few = wants_few more cs in omega (arith, few, short)
+
+  stat_few : (cs : List Child) (c : Child) → length cs ≤ 32 → IsFew (outcome t (row_stat cs c))
+  stat_few cs (Dir d) short = so_few UPDATE cs short
+  stat_few cs (File f) short = so_few (UPDATE + LAYOUT) cs short
+
+  list_few : (cs : List Child) (c : Child) → length cs ≤ 32 → IsFew (outcome t (row_list cs c))
+  list_few cs (Dir d) short = so_few UPDATE cs short
+  list_few cs (File f) short = omega arith
+
+  layout_few : (cs : List Child) (c : Child) → length cs ≤ 32 → IsFew (outcome t (row_layout cs c))
+  layout_few cs (Dir d) short = omega arith
+  layout_few cs (File f) short = so_few LAYOUT cs short
+
+  free_few : (o : Op) → IsOnNames o → (IsReading o → ⊥) → length (grants osts t (act o)) ≤ 33
+  free_few o is changes = subst (λ (ws : List Want). length ws ≤ 33) (sym (changing_free osts t number who o is changes)) (omega arith)
+
+  pub grants_few : (o : Op) → IsShort o → length (grants osts t (act o)) ≤ 33
+  grants_few (op.Lookup path) short = walks_few path (λ cs. row_lookup cs (last_of root cs)) short (λ cs few. so_few 0 cs few)
+  grants_few (op.Stat path) short = walks_few path (λ cs. row_stat cs (last_of root cs)) short (λ cs few. stat_few cs (last_of root cs) few)
+  grants_few (op.List path) short = walks_few path (λ cs. row_list cs (last_of root cs)) short (λ cs few. list_few cs (last_of root cs) few)
+  grants_few (op.Layout path) short = walks_few path (λ cs. row_layout cs (last_of root cs)) short (λ cs few. layout_few cs (last_of root cs) few)
+  grants_few (op.Mkdir path) short = free_few (op.Mkdir path) tt (λ r. r)
+  grants_few (op.Create path size count) short = free_few (op.Create path size count) tt (λ r. r)
+  grants_few (op.Link old new) short = free_few (op.Link old new) tt (λ r. r)
+  grants_few (op.Unlink path) short = free_few (op.Unlink path) tt (λ r. r)
+  grants_few (op.Rmdir path) short = free_few (op.Rmdir path) tt (λ r. r)
+  grants_few (op.Rename old new) short = free_few (op.Rename old new) tt (λ r. r)
+  grants_few (op.Chmod path mode) short = free_few (op.Chmod path mode) tt (λ r. r)
+  grants_few o short = absurd short
+
+-- ---- lists
+
+filter_le : {A : Type 0} (f : A → Bool) (xs : List A) → length (filter f xs) ≤ length xs
+filter_le f [] = omega arith
+filter_le {A} f (x ∷ xs) =
+    let less = filter_le f xs in
+    cond_both (f x) (x ∷ filter f xs) (filter f xs) (λ (ys : List A). length ys ≤ length (x ∷ xs)) (λ t. omega (arith, less)) (λ t. omega (arith, less))
+
+filter_out : {A : Type 0} (f : A → Bool) (x : A) (xs : List A) → In x xs → f x ≡ false → length (filter f xs) + 1 ≤ length xs
+filter_out f x [] i out = absurd i
+filter_out f x (y ∷ xs) (inl e) out =
+    let less = filter_le f xs in
+    let gone : (if f y then y ∷ filter f xs else filter f xs) ≡ filter f xs = ap (λ (b : Bool). if b then y ∷ filter f xs else filter f xs) (ap f e ∙ out) in
+    subst (λ (ys : List _). length ys + 1 ≤ length (y ∷ xs)) (sym gone) (omega (arith, less))
+filter_out {A} f x (y ∷ xs) (inr i) out =
+    let less = filter_out f x xs i out in
+    cond_both (f y) (y ∷ filter f xs) (filter f xs) (λ (ys : List A). length ys + 1 ≤ length (y ∷ xs)) (λ t. omega (arith, less)) (λ t. omega (arith, less))
+
+all_in : {A : Type 0} (xs : List A) → Every (λ (x : A). In x xs) xs
+all_in {A} xs = within xs (λ x i. i)
+  where
+    within : (ys : List A) → ((x : A) → In x ys → In x xs) → Every (λ (x : A). In x xs) ys
+    within [] more = tt
+    within (y ∷ ys) more = (more y (inl refl), within ys (λ x i. more x (inr i)))
+
+-- ---- cookies
+
+abbrev AllUpto : ℕ → List Lock → Type 0
+AllUpto m locks = Every (λ (l : Lock). l.cookie.0 ≤ m) locks
+
+max_upto : (a b m : ℕ) → a ≤ m → b ≤ m → max a b ≤ m
+max_upto a b m p q = max-le p q
+
+greatest_upto : (n m : ℕ) (locks : List Lock) → n ≤ m → AllUpto m locks → greatest_cookie n locks ≤ m
+greatest_upto n m [] p all = p
+greatest_upto n m (l ∷ locks) p all = greatest_upto (max n l.cookie.0) m locks (max_upto n l.cookie.0 m p all.0) all.1
+
+locks_upto : (cookie : ℕ) (who : Who) (ws : List Want) (m : ℕ) → cookie + length ws ≤ m → AllUpto m (locks_from cookie who ws)
+locks_upto cookie who [] m p = tt
+locks_upto cookie who (w ∷ ws) m p = (omega (arith, p), locks_upto (cookie + 1) who ws m (omega (arith, p)))
+
+-- ---- a target that so many requests have come to
+
+abbrev pub RequestFits : RequestOf → Type 0
+RequestFits r = IsShort r.op
+
+-- each that waits may bring a number and so many cookies yet
+pub record Below (n : ℕ) (v : Target) : Type 0 where
+  pub queue : Every RequestFits v.queue
+  pub number : v.number + length v.queue ≤ 4294967296 + n
+  pub cookie : v.cookie + 33 * length v.queue ≤ 4294967296 + 33 * n
+
+-- one of them acts
+acts_below : (n : ℕ) (v w : Target) → Every RequestFits w.queue → w.number ≤ v.number + 1 → w.cookie ≤ v.cookie + 33 → length w.queue + 1 ≤ length v.queue → Below n v → Below n w
+acts_below n v w fit number cookie queue h =
+    let before = h.number in
+    let held = h.cookie in
+    record { queue = fit; number = omega (arith, number, queue, before); cookie = omega (arith, cookie, queue, held) }
+
+-- nothing of these changes
+abbrev Same : Target → Target → Type 0
+Same v w = record { number : w.number ≡ v.number; cookie : w.cookie ≡ v.cookie; queue : w.queue ≡ v.queue }
+
+same_below : (n : ℕ) (v w : Target) → Same v w → Below n v → Below n w
+same_below n v w s h =
+    record {
+      queue = subst (Every RequestFits) (sym s.queue) h.queue;
+      number = rw (s.number, s.queue) h.number;
+      cookie = rw (s.cookie, s.queue) h.cookie;
+    }
+
+pub more_below : (n : ℕ) (v : Target) → Below n v → Below (suc n) v
+more_below n v h =
+    let number = h.number in
+    let cookie = h.cookie in
+    record { queue = h.queue; number = omega (arith, number); cookie = omega (arith, cookie) }
+
+turn_more : (v : Target) (es fs : List Entry) → turn v (es ++ fs) ≡ turn (turn v es) fs
+turn_more v [] fs = refl
+turn_more v (e ∷ es) fs = turn_more (after v e) es fs
+
+-- ---- an execution
+
+its_own : (v : Target) (at : At) (r : RequestOf) (number : TxnOf) (locks : List Lock) → not (is_request_of (names_deed v at r number locks) r) ≡ false
+its_own v at r number locks = rw (self r.who.client, self r.who.life, self r.xid.0) refl
+
+-- a deed's locks are shown, and it is answered
+abbrev Shown : ℕ → Target → Target → Type 0
+Shown m w u =
+    record {
+      cookie : u.cookie ≤ m;
+      number : u.number ≡ w.number;
+      queue : length u.queue ≤ length w.queue;
+      fits : Every RequestFits w.queue → Every RequestFits u.queue;
+    }
+
+shown : (d : Deed) (m : ℕ) (locks : List Lock) (w : Target) → AllUpto m locks → w.cookie ≤ m → Shown m w (turn w (grant_lines d locks ++ replies d ∷ []))
+shown d m [] w all low = record { cookie = low; number = refl; queue = omega arith; fits = λ f. f }
+shown d m (l ∷ locks) w all low =
+    let next : Target = after w (Grant l (Some d)) in
+    let h = shown d m locks next all.1 (max_upto w.cookie l.cookie.0 m low all.0) in
+    let more = h.queue in
+    let less : length next.queue ≤ length w.queue = filter_le (λ q. not (is_request_of d q)) w.queue in
+    record {
+      cookie = h.cookie;
+      number = h.number;
+      queue = omega (arith, more, less);
+      fits = λ f. h.fits (every_filter RequestFits (λ q. not (is_request_of d q)) w.queue f);
+    }
+
+executes_below : (n : ℕ) (v : Target) (at : At) (r : RequestOf) (b : Bool) → In r v.queue → IsShort r.op → Below n v → Below n (turn v (row_executes v at r b))
+executes_below n v at r true i short h =
+    let d : Deed = names_deed v at r (next_number v) [] in
+    let w : Target = turn v (row_executes v at r true) in
+    let one : w.number ≤ v.number + 1 = omega arith in
+    let same : w.cookie ≤ v.cookie + 33 = omega arith in
+    acts_below n v w (every_filter RequestFits (λ q. not (is_request_of d q)) v.queue h.queue) one same (filter_out (λ q. not (is_request_of d q)) r v.queue i (its_own v at r (next_number v) [])) h
+executes_below n v at r false i short h =
+    let locks : List Lock = locks_for v r in
+    let d : Deed = names_deed v at r none locks in
+    let u : Target = after v (Act d) in
+    let w : Target = turn v (row_executes v at r false) in
+    let few = grants_few v.setting.osts v.contents.tree none r.who r.op short in
+    let all : AllUpto (v.cookie + 33) locks = locks_upto v.cookie r.who (grants v.setting.osts v.contents.tree (asked r none)) (v.cookie + 33) (omega (arith, few)) in
+    let s : Shown (v.cookie + 33) u w = shown d (v.cookie + 33) locks u all (greatest_upto v.cookie (v.cookie + 33) locks (omega arith) all) in
+    let out : length u.queue + 1 ≤ length v.queue = filter_out (λ q. not (is_request_of d q)) r v.queue i (its_own v at r none locks) in
+    let less = s.queue in
+    let number : w.number ≤ v.number + 1 = let same = s.number in omega (arith, same) in
+    acts_below n v w (s.fits (every_filter RequestFits (λ q. not (is_request_of d q)) v.queue h.queue)) number s.cookie (omega (arith, out, less)) h
+
+-- ---- requests that wait go on
+
+blocks_same : (v w : Target) (locks : List Lock) → Same w (turn w (blocks v locks))
+blocks_same v w [] = record { number = refl; cookie = refl; queue = refl }
+blocks_same v w (l ∷ locks) =
+    cond_both (is_called l.cookie v.called) (blocks v locks) (Block (called v l) ∷ block_of v l ∷ blocks v locks) (λ (es : List Entry). Same w (turn w es))
+    (λ t. blocks_same v w locks)
+    (λ t. let h = blocks_same v (after (after w (Block (called v l))) (block_of v l)) locks in record { number = h.number; cookie = h.cookie; queue = h.queue })
+
+waits_same : (v : Target) (r : RequestOf) → Same v (turn v (row_waits v r))
+waits_same v r =
+    cond_both (is_read r.op) [] (blocks v (in_way v.granted (written_by v r))) (λ (es : List Entry). Same v (turn v es))
+    (λ t. record { number = refl; cookie = refl; queue = refl }) (λ t. blocks_same v v (in_way v.granted (written_by v r)))
+
+abbrev Goes : ℕ → (Target → List Entry) → Type 0
+Goes n next = (w : Target) → Below n w → Below n (turn w (next w))
+
+follow_below : (n : ℕ) (v : Target) (es : List Entry) (next : Target → List Entry) → Below n (turn (turn v es) (next (turn v es))) → Below n (turn v (follow v es next))
+follow_below n v es next h = subst (Below n) (sym (turn_more v es (next (turn v es)))) h
+
+pass_below : (n : ℕ) (again : Target → List Entry) → Goes n again → (v : Target) (at : At) (stood : Bool) (queue : List RequestOf) → Every (λ (r : RequestOf). In r v.queue) queue → Every RequestFits queue → Below n v → Below n (turn v (row_pass again v at stood queue))
+pass_below n again more v at stood [] i fit h = h
+pass_below n again more v at stood (r ∷ queue) i fit h =
+    let acts = row_executes v at r (does_change v r) in
+    let stood_next = stood || not (is_read r.op) in
+    let next : Target → List Entry = λ w. row_pass again w at stood_next queue in
+    let w : Target = turn v (row_waits v r) in
+    let same = waits_same v r in
+    cond_both (is_ready v stood r) (follow v acts again) (follow v (row_waits v r) next) (λ (es : List Entry). Below n (turn v es))
+    (λ t. follow_below n v acts again (more (turn v acts) (executes_below n v at r (does_change v r) i.0 fit.0 h)))
+    (λ t. follow_below n v (row_waits v r) next
+    (pass_below n again more w at stood_next queue (subst (λ (q : List RequestOf). Every (λ (x : RequestOf). In x q) queue) (sym same.queue) i.1) fit.1 (same_below n v w same h)))
+
+sweep_below : (n more : ℕ) (at : At) → Goes n (row_sweep more at)
+sweep_below n zero at v h = h
+sweep_below n (suc more) at v h = pass_below n (row_sweep more at) (sweep_below n more at) v at false v.queue (all_in v.queue) h.queue h
+
+names_below : (n : ℕ) (at : At) → Goes n (names_go at)
+names_below n at v h = sweep_below n (length v.queue + 1) at v h
+
+-- ---- a message comes
+
+abbrev pub MessageFits : Message → Type 0
+MessageFits (message.Request r) = IsShort r.op
+MessageFits _ = Unit {0}
+
+kept_below : (n : ℕ) (v : Target) (k : Option ReplyTo) → Below n v → Below n (turn v (row_kept v k))
+kept_below n v None h = h
+kept_below n v (Some k) h = record { queue = h.queue; number = h.number; cookie = h.cookie }
+
+length_one : {A : Type 0} (xs : List A) (x : A) → length (xs ++ x ∷ []) ≡ length xs + 1
+length_one [] x = refl
+length_one (y ∷ xs) x = let h = length_one xs x in omega arith
+
+module _ (clients n : ℕ) (v : Target) (s : Serves clients v) (names : v.setting.id ≡ 0) (h : Below n v) where
+  enters_below : (r : RequestOf) → IsShort r.op → Below (suc n) (after v (Enters r))
+  enters_below r short =
+      let one = length_one v.queue r in
+      let number = h.number in
+      let cookie = h.cookie in
+      record {
+        queue = every_more RequestFits v.queue (r ∷ []) h.queue (short, tt);
+        number = omega (arith, one, number);
+        cookie = omega (arith, one, cookie);
+      }
+
+  goes_below : (m : ℕ) (w : Target) (at : At) (other : List Entry) → w.setting.id ≡ 0 → Below m w → Below m (turn w (if is_names w then names_go at w else other))
+  goes_below m w at other e low = subst (λ (k : ℕ). Below m (turn w (if nat_eq k 0 then names_go at w else other))) (sym e) (names_below m at w low)
+
+  request_below : (at : At) (r : RequestOf) → IsShort r.op → Below (suc n) (turn v (row_request v at r))
+  request_below at r short = by (slot_in v.slots r.who r.tag)
+    where
+      number : (k : Option ReplyTo) (above same : Bool) → Below (suc n) (turn v (by_number v at r k above same))
+      number k true same = goes_below (suc n) (after v (Enters r)) at (objects_go (after v (Enters r)) at r r.op) names (enters_below r short)
+      number k false true = more_below n (turn v (row_kept v k)) (kept_below n v k h)
+      number k false false = more_below n v h
+
+      by : (slot : Slot) → Below (suc n) (turn v (slot_of_request v at r slot))
+      by slot = number slot.reply (nat_lt slot.taken r.xid.0) (nat_eq slot.taken r.xid.0)
+
+  cancels_below : (at : At) (o : Option Lock) → Below n (turn v (row_cancels v at o))
+  cancels_below at None = h
+  cancels_below at (Some l) =
+      follow_below n v (releases at l v) (goes_on l at)
+      (subst (λ (gs : List Glimpse). Below n (turn (turn v (Release l ∷ glimpses_end at (glimpses_of l gs) v)) (goes_on l at (turn v (Release l ∷ glimpses_end at (glimpses_of l gs) v))))) (sym s.glimpses)
+      (goes_below n (after v (Release l)) at (queue_goes l.resource (after v (Release l))) names (record { queue = h.queue; number = h.number; cookie = h.cookie })))
+
+  pub comes_below : (at : At) (k : ℕ) (from : Node) (m : Message) → MessageServed clients m → MessageFits m → Below (suc n) (turn v (target.row v at (target.Comes k from m)))
+  comes_below at k from m is fits = subst (λ (es : List Entry). Below (suc n) (turn v es)) (sym (heeded_is clients v at m s is)) (by m is fits)
+    where
+      by : (m : Message) → MessageServed clients m → MessageFits m → Below (suc n) (turn v (heeded v at m))
+      by (message.Request r) is fits = request_below at r fits
+      by (message.Cancel who boot cookie) is fits = more_below n (turn v (row_cancels v at (lock_of who cookie v.granted))) (cancels_below at (lock_of who cookie v.granted))
+      by m is fits = absurd is
+
+pub tick_below : (n : ℕ) (v : Target) → Below n v → Below (suc n) (after v Tick)
+tick_below n v h = more_below n (after v Tick) (record { queue = h.queue; number = h.number; cookie = h.cookie })
+
+-- ---- numbers are left
+
+pub has_numbers : (clients n : ℕ) (v : Target) (es : List Entry) → Serves clients (turn v es) → Below n (turn v es) → n ≤ 65537 → target.overruns v es ≡ false
+has_numbers clients n v es s h few =
+    let w : Target = turn v es in
+    let number = h.number in
+    let cookie = h.cookie in
+    rw (s.boot, passes_not w.number (omega (arith, number, few)), passes_not w.cookie (omega (arith, cookie, few))) refl
+  where
+    passes_not : (k : ℕ) → k ≤ 8589934591 → nat_lt 8589934591 k ≡ false
+    passes_not k low = grind (arith, nat_tests)

@@ -1,0 +1,243 @@
+-- What a client tells from what it knows is what the table answers then: each fact was taught by a reply that it heard, under a
+-- lock that it holds, which is granted still. And the transactions that wrote what the answer rests on are committed, or were seen
+-- in a reply that it heard.
+use Rattle.std.proofs.Common.{◌≡◌, ℕ, zero, suc, ◌≤◌, Bool, true, false, List, [], ◌∷◌, ◌++◌, ◌⊎◌, inl, inr, ⊎_elim, Some, refl, sym, subst, ap, ◌∙◌}
+use Rattle.std.specs.Prelude.{nat_eq, ◌==◌, ◌&&◌, ◌||◌, not, if◌then◌else◌}
+use Rattle.std.specs.List.{list_any}
+use Rattle.std.proofs.lemmas.Bool.{cond_both, and_parts, eqb-true}
+use Rattle.lu_base.specs.declared.ids.At.{At}
+use Rattle.lu_base.specs.declared.ids.Cookie.{Cookie}
+use Rattle.lu_base.specs.declared.ids.Node.{Node}
+use Rattle.lu_base.specs.declared.ids.Node.TheVariants.{Client, Target}
+use Rattle.lu_base.specs.declared.ids.Txn.{Txn as TxnOf}
+use Rattle.lu_base.specs.declared.ids.Who.{Who}
+use Rattle.lu_base.specs.declared.locks.Lock.{Lock}
+use Rattle.lu_msg.specs.declared.answers.Answer.{Answer}
+use Rattle.lu_msg.specs.declared.calls.Call.{Call}
+use Rattle.lu_msg.specs.declared.messages.Message.TheVariants as message
+use Rattle.lu_msg.specs.declared.messages.Reply.{Reply as ReplyTo}
+use Rattle.lu_msg.specs.declared.operations.Op.{Op}
+use Rattle.lu_part.specs.declared.parts.Part.{Part}
+use Rattle.lu_held.specs.declared.locks.HeldLock.{HeldLock}
+use Rattle.lu_machine.specs.Tree.{Tree}
+use Rattle.lu_machine.specs.Footprint.{answer, touches, Apart}
+use Rattle.lu_words.specs.Carried.{Deed, Flight}
+use Rattle.lu_words.specs.Words.{Entry, Heard, Hold, Drop, Life, Learns, Line, line}
+use Rattle.lu_words.specs.Concerns.{concerns, only}
+use Rattle.lu_client_rows.specs.Caches.{held_at}
+use Rattle.lu_client_rows.specs.Facts.{Fact, taught, without_facts, facts_at}
+use Rattle.lu_client_rows.specs.Known.{is_usable}
+use Rattle.lu_covered.specs.Calls.{first_life, operation_of}
+use Rattle.lu_covered.specs.Known.{notes_at, known_answer}
+use Rattle.lu_covered.specs.TargetStates.{tree_at, committed_at, server_of}
+use Rattle.lu_covered.specs.Heads.{Head}
+use Rattle.lu_guards.proofs.Guards.{In, HeardNow, HeardOk, LearnsOk, EntryOk, EntryOf, Grown, GrownOf}
+use Rattle.lu_guards.proofs.Held.{held_is}
+use Rattle.lu_guards.proofs.Lists.{in_append, in_filter}
+use Rattle.lu_guards.proofs.Only.{grown_of}
+use Rattle.lu_guards.proofs.Parts.{tree_is, committed_is}
+use Rattle.lu_facts.proofs.Groups.{turn, Flew, Acted, HoldsAt}
+use Rattle.lu_facts.proofs.Lines.{acted_more}
+use Rattle.lu_facts.proofs.All.{holds_at}
+use Rattle.lu_facts.proofs.KnownPaths.{Usable, Right, known_is_right}
+use Rattle.lu_facts.proofs.Taught.{bound_of, Under, Taught, keeps_taught, first_taught}
+
+-- ---- at one target
+
+pub taught_at : (head : Head) (past : List Line) → GrownOf head past → Taught head.osts past
+taught_at head [] g = first_taught head.osts
+taught_at head (l ∷ past) g = let h = holds_at head past g.2 in keeps_taught head past l.at.stamp l.at.node l.entry g.0 h.phase h.locks (taught_at head past g.2)
+
+pub client_is : (a b : ℕ) → Client a ≡ Client b → a ≡ b
+client_is a b e = cc
+
+-- the client heard that reply to that flight: reads Heard
+abbrev pub HeardBy : List Line → ℕ → Flight → ReplyTo → Type 0
+HeardBy [] c f r = ⊥
+HeardBy (l ∷ past) c f r = elim l.entry [ Heard t g k ↦ ((l.at.node ≡ Client c) × (g ≡ f) × (k ≡ r)) ⊎ HeardBy past c f r | _ ↦ HeardBy past c f r ]
+
+-- it is to what was done for that life and operation
+abbrev pub Answered : List Line → ℕ → Flight → ReplyTo → Deed → Type 0
+Answered past c f r d = record { acted : Acted past d; who : d.reply.who ≡ first_life c; is : record d.reply { committed = r.committed } ≡ r; op : d.op ≡ f.op }
+
+answered_now : (head : Head) (past : List Line) (c : ℕ) (f : Flight) (r : ReplyTo) → HeardOk past c f r → HoldsAt head past → (d : Deed) × Answered past c f r d
+answered_now head past c f r ok h =
+    let m = h.done.sent (Target ok.from) (Client c) (message.Reply r) ok.was in
+    let d = m.0 in
+    let who : d.reply.who ≡ first_life c = ap (λ (v : ReplyTo). v.who) (sym m.2) ∙ ok.who ∙ h.phase.life c in
+    let xid : d.reply.xid.0 ≡ f.xid = ap (λ (v : ReplyTo). v.xid.0) (sym m.2) ∙ sym ok.xid in
+    let k = h.done.flew d m.1 in
+    let client : d.reply.who.client ≡ c = ap (λ (v : Who). v.client) who in
+    let same : f ≡ k.0 = h.numbers.one c f k.0 (h.numbers.flying c f ok.flying) (subst (λ (v : ℕ). Flew past v k.0) client k.1) (sym xid ∙ sym k.2) in
+    (d, record { acted = m.1; who = who; is = sym m.2; op = sym (ap (λ (v : Flight). v.op) same ∙ k.3) })
+
+pub heard_answered : (head : Head) (past : List Line) (c : ℕ) (f : Flight) (r : ReplyTo) → GrownOf head past → HeardBy past c f r → (d : Deed) × Answered past c f r d
+heard_answered head [] c f r g i = absurd i
+heard_answered head (l ∷ past) c f r g i = more (by l.at.node l.entry g.0 i (λ j. heard_answered head past c f r g.2 j))
+  where
+    more : (d : Deed) × Answered past c f r d → (d : Deed) × Answered (l ∷ past) c f r d
+    more k = (k.0, record { acted = acted_more l.at l.entry past k.0 k.1.acted; who = k.1.who; is = k.1.is; op = k.1.op })
+
+    by : (node : Node) (e : Entry) → EntryOf head past (turn l.at.stamp node) node e → HeardBy (line (turn l.at.stamp node) e ∷ past) c f r → (HeardBy past c f r → (d : Deed) × Answered past c f r d) → (d : Deed) × Answered past c f r d
+    by (Client b) (Heard t x k) ok (inl e) ih =
+        let client : b ≡ c = client_is b c e.0 in
+        answered_now head past c f r (subst (λ (v : ℕ). HeardOk past v f r) client (subst (λ (v : Flight). HeardOk past b v r) e.1 (subst (λ (v : ReplyTo). HeardOk past b x v) e.2 ok))) (holds_at head past g.2)
+    by (Client b) (Heard t x k) ok (inr j) ih = ih j
+    by (Target u) (Heard t x k) ok j ih = absurd ok
+    by node e ok j ih = ih j
+
+-- ---- over all targets
+
+-- ---- over all targets: where facts are from
+
+heard_more : (l : Line) (past : List Line) (c : ℕ) (f : Flight) (r : ReplyTo) → HeardBy past c f r → HeardBy (l ∷ past) c f r
+heard_more l past c f r i = by l.entry
+  where
+    by : (e : Entry) → HeardBy (line l.at e ∷ past) c f r
+    by (Heard t g k) = inr i
+    by _ = i
+
+-- a reply that was just heard
+now_heard : (past : List Line) (at : At) (t c : ℕ) (f : Flight) (r : ReplyTo) → HeardNow past at t f r → at.node ≡ Client c → HeardBy past c f r
+now_heard [] at t c f r h q = absurd h
+now_heard (l ∷ past) at t c f r h q = by l.entry h (λ k. now_heard past at t c f r k q)
+  where
+    by : (e : Entry) → HeardNow (line l.at e ∷ past) at t f r → (HeardNow past at t f r → HeardBy past c f r) → HeardBy (line l.at e ∷ past) c f r
+    by (Heard u g k) h ih = inl (ap (λ (v : At). v.node) h.0 ∙ q, h.2, h.3)
+    by (Hold u lock marked size seen) h ih = ih h
+    by _ h ih = absurd h
+
+heard_only : (head : Head) (past : List Line) (c : ℕ) (f : Flight) (r : ReplyTo) → Grown head past → HeardBy past c f r → HeardBy (only 0 past) c f r
+heard_only head [] c f r g i = absurd i
+heard_only head (l ∷ past) c f r g i = by l.at.node l.entry g.0.ok i (λ j. heard_only head past c f r g.1 j)
+  where
+    P : List Line
+    P = only 0 past
+
+    by : (node : Node) (e : Entry) → EntryOk past l.at node e → HeardBy (line (turn l.at.stamp node) e ∷ past) c f r → (HeardBy past c f r → HeardBy P c f r) → HeardBy (if concerns 0 node e then line (turn l.at.stamp node) e ∷ P else P) c f r
+    by (Client b) (Heard t x k) ok (inl e) ih = subst (λ (v : Bool). HeardBy (if v then line (turn l.at.stamp (Client b)) (Heard t x k) ∷ P else P) c f r) (sym (ap (nat_eq 0) ok.0)) (inl e)
+    by (Client b) (Heard t x k) ok (inr j) ih =
+        cond_both (concerns 0 (Client b) (Heard t x k)) (line (turn l.at.stamp (Client b)) (Heard t x k) ∷ P) P (λ (p : List Line). HeardBy p c f r) (λ _. inr (ih j)) (λ _. ih j)
+    by (Target u) (Heard t x k) ok j ih = absurd ok
+    by node e ok j ih = cond_both (concerns 0 node e) (line (turn l.at.stamp node) e ∷ P) P (λ (p : List Line). HeardBy p c f r) (λ _. ih j) (λ _. ih j)
+
+-- a fact that a client knows was taught by a reply that it heard
+abbrev pub Source : List Line → ℕ → Fact → Type 0
+Source past c f = record { flight : Flight; reply : ReplyTo; heard : HeardBy past c flight reply; fact : In f (taught flight.op reply.answer reply.locks) }
+
+pub facts_heard : (head : Head) (past : List Line) (c : ℕ) (f : Fact) → Grown head past → In f (facts_at c past) → Source past c f
+facts_heard head [] c f g i = absurd i
+facts_heard head (l ∷ past) c f g i = more (by l.at.node l.entry g.0.ok i (λ j. facts_heard head past c f g.1 j))
+  where
+    more : Source past c f → Source (l ∷ past) c f
+    more s = record { flight = s.flight; reply = s.reply; heard = heard_more l past c s.flight s.reply s.heard; fact = s.fact }
+
+    kept : (t : ℕ) (lock : Lock) → In f (without_facts t lock (facts_at c past)) → In f (facts_at c past)
+    kept zero lock j = (in_filter (λ (x : Fact). not (x.cookie.0 == lock.cookie.0)) f (facts_at c past) j).0
+    kept (suc t) lock j = j
+
+    learned : (b t : ℕ) (o : Op) (a : Answer) (locks : List Lock) → LearnsOk past (turn l.at.stamp (Client b)) t o a locks → c ≡ b → In f (taught o a locks) → Source past c f
+    learned b t o a locks ok same j =
+        record {
+          flight = ok.flight;
+          reply = ok.reply;
+          heard = now_heard past (turn l.at.stamp (Client b)) t c ok.flight ok.reply ok.heard (ap Client (sym same));
+          fact = subst (λ (v : Op). In f (taught v ok.reply.answer ok.reply.locks)) ok.of_op (subst (λ (v : Answer). In f (taught o v ok.reply.locks)) ok.of_answer (subst (λ (v : List Lock). In f (taught o a v)) ok.of_locks j));
+        }
+
+    by : (node : Node) (e : Entry) → EntryOk past (turn l.at.stamp node) node e → In f (facts_at c (line (turn l.at.stamp node) e ∷ past)) → (In f (facts_at c past) → Source past c f) → Source past c f
+    by (Client b) (Learns t o a locks) ok j ih =
+        cond_both (nat_eq c b) (taught o a locks ++ facts_at c past) (facts_at c past) (λ (fs : List Fact). In f fs → Source past c f)
+        (λ own k. ⊎_elim (λ (m : In f (taught o a locks)). learned b t o a locks ok (eqb-true c b own) m) (λ (m : In f (facts_at c past)). ih m) (in_append f (taught o a locks) (facts_at c past) k))
+        (λ _ k. ih k) j
+    by (Client b) (Drop t lock) ok j ih =
+        cond_both (nat_eq c b) (without_facts t lock (facts_at c past)) (facts_at c past) (λ (fs : List Fact). In f fs → Source past c f) (λ _ k. ih (kept t lock k)) (λ _ k. ih k) j
+    by (Client b) (Life who) ok j ih = absurd ok
+    by (Target u) (Learns t o a locks) ok j ih = absurd ok
+    by (Target u) (Drop t lock) ok j ih = absurd ok
+    by (Target u) (Life who) ok j ih = absurd ok
+    by node e ok j ih = ih j
+
+-- ---- a fact that may be used
+
+pub any_in : {A : Type 0} (f : A → Bool) (xs : List A) → list_any f xs ≡ true → (x : A) × In x xs × (f x ≡ true)
+any_in f [] e = absurd (cc)
+any_in {A} f (x ∷ xs) e = by (f x) refl e (λ q. any_in f xs q)
+  where
+    by : (b : Bool) → f x ≡ b → (b || list_any f xs) ≡ true → (list_any f xs ≡ true → (y : A) × In y xs × (f y ≡ true)) → (y : A) × In y (x ∷ xs) × (f y ≡ true)
+    by true q h ih = (x, inl refl, q)
+    by false q h ih = let r = ih h in (r.0, inr r.1, r.2)
+
+usable_held : (cookie : Cookie) (held : List HeldLock) → is_usable cookie held ≡ true → (h : HeldLock) × In h held × (h.lock.cookie ≡ cookie)
+usable_held cookie held e =
+    let r = any_in (λ (h : HeldLock). h.target.0 == 0 && h.lock.cookie.0 == cookie.0 && not h.marked) held e in
+    let p = and_parts (r.0.target.0 == 0 && r.0.lock.cookie.0 == cookie.0) (not r.0.marked) r.2 in
+    let q = and_parts (r.0.target.0 == 0) (r.0.lock.cookie.0 == cookie.0) p.0 in
+    (r.0, r.1, ap (λ (n : ℕ). record { 0 = n }) (eqb-true r.0.lock.cookie.0 cookie.0 q.1))
+
+-- the deed that taught it, and its lock, which is granted still
+abbrev pub Standing : Head → List Line → ℕ → Fact → Type 0
+Standing head past c f =
+    record {
+      source : Source past c f;
+      deed : Deed;
+      answered : Answered (only 0 past) c source.flight source.reply deed;
+      under : Under head.osts (only 0 past) deed f;
+      granted : In under.lock (server_of head.osts (only 0 past)).granted;
+    }
+
+fact_of : (past : List Line) (c : ℕ) (x : Flight) (r : ReplyTo) (d : Deed) (f : Fact) → Answered past c x r d → In f (taught x.op r.answer r.locks) → In f (taught d.op d.reply.answer d.reply.locks)
+fact_of past c x r d f k i =
+    subst (λ (v : Op). In f (taught v d.reply.answer d.reply.locks)) (sym k.op)
+    (subst (λ (v : ReplyTo). In f (taught x.op v.answer v.locks)) (sym k.is) i)
+
+-- the lock is held, marked or not
+pub held_stands : (head : Head) (past : List Line) (c : ℕ) (f : Fact) → Grown head past → In f (facts_at c past) → (h : HeldLock) → In h (held_at c past) → h.lock.cookie ≡ f.cookie → Standing head past c f
+held_stands head past c f g known h held same_cookie =
+    let story = grown_of head 0 past g in
+    let s = facts_heard head past c f g known in
+    let k = heard_answered head (only 0 past) c s.flight s.reply story (heard_only head past c s.flight s.reply g s.heard) in
+    let d = k.0 in
+    let under = (taught_at head (only 0 past) story).under d f (k.1.acted, fact_of (only 0 past) c s.flight s.reply d f k.1 s.fact) in
+    let locks = (holds_at head (only 0 past) story).locks in
+    let holding = locks.held c h (subst (λ (v : List HeldLock). In h v) (held_is head c past g) held) in
+    let same = (locks.once d holding.deed under.lock h.lock (k.1.acted, under.among) holding.gave (under.cookie ∙ sym same_cookie)).1 in
+    record {
+      source = s;
+      deed = d;
+      answered = k.1;
+      under = under;
+      granted = subst (λ (v : Lock). In v (server_of head.osts (only 0 past)).granted) (sym same) holding.granted;
+    }
+
+pub fact_stands : (head : Head) (past : List Line) (c : ℕ) (f : Fact) → Grown head past → Usable (notes_at c past) f → Standing head past c f
+fact_stands head past c f g u = let h = usable_held f.cookie (held_at c past) u.1 in held_stands head past c f g u.0 h.0 h.1 h.2
+
+-- ---- what is told
+
+module _ (head : Head) (past : List Line) (g : Grown head past) (c : ℕ) (number : TxnOf) (who : Who) (k : Call) (o : Op) (a : Answer) (known : known_answer (notes_at c past) k ≡ Some a) (becomes : operation_of k ≡ Some o) where
+  pub right : Right (tree_at head.osts 0 past) (notes_at c past) head.osts number who o a
+  right =
+      let v = server_of head.osts (only 0 past) in
+      subst (λ (t : Tree). Right t (notes_at c past) head.osts number who o a) (sym (tree_is head.osts 0 past))
+      (known_is_right v.tree (bound_of head.osts (only 0 past)) (notes_at c past) (λ f u. let s = fact_stands head past c f g u in s.under.stands s.granted) (taught_at head (only 0 past) (grown_of head 0 past g)).sound.one head.osts number who k o a known becomes)
+
+  -- it is what the table answers
+  pub known_right : a ≡ answer head.osts (tree_at head.osts 0 past) (record { number = number; who = who; op = o })
+  known_right = right.same
+
+  -- a number that was seen in a reply that the client heard
+  abbrev pub SawBy : ℕ → Type 0
+  SawBy n = record { flight : Flight; reply : ReplyTo; heard : HeardBy past c flight reply; seen : In n reply.seen }
+
+  -- each transaction that wrote what it looks at is committed, or was seen
+  pub known_saw : (p : Part) → In p (touches head.osts (tree_at head.osts 0 past) (record { number = number; who = who; op = o })) → (e : Deed) → Acted (only 0 past) e → Apart e.writes p ⊎ ((e.reply.txn.0 ≤ (committed_at 0 past).0) ⊎ SawBy e.reply.txn.0)
+  known_saw p i e b =
+      let f = right.looks p i in
+      let s = fact_stands head past c f.0 g f.1 in
+      by s (subst (λ (q : Part). Apart e.writes q ⊎ ((e.reply.txn.0 ≤ (server_of head.osts (only 0 past)).committed.0) ⊎ In e.reply.txn.0 s.deed.reply.seen)) (sym f.2) (s.under.saw s.granted e b))
+    where
+      by : {f : Fact} (s : Standing head past c f) → Apart e.writes p ⊎ ((e.reply.txn.0 ≤ (server_of head.osts (only 0 past)).committed.0) ⊎ In e.reply.txn.0 s.deed.reply.seen) → Apart e.writes p ⊎ ((e.reply.txn.0 ≤ (committed_at 0 past).0) ⊎ SawBy e.reply.txn.0)
+      by s (inl q) = inl q
+      by s (inr (inl le)) = inr (inl (subst (λ (m : TxnOf). e.reply.txn.0 ≤ m.0) (sym (committed_is head.osts 0 past)) le))
+      by s (inr (inr j)) = inr (inr (record { flight = s.source.flight; reply = s.source.reply; heard = s.source.heard; seen = subst (λ (ns : List ℕ). In e.reply.txn.0 ns) (ap (λ (v : ReplyTo). v.seen) s.answered.is) j }))

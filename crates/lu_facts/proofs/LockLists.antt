@@ -1,0 +1,206 @@
+-- Lists of locks: which are granted after an act, and which are held after a line.
+use Rattle.std.proofs.Common.{◌≡◌, ℕ, ◌+◌, ◌<◌, ◌≤◌, Bool, true, false, List, [], ◌∷◌, ◌⊎◌, inl, inr, ⊎_elim, refl, sym, subst, ap, ◌∙◌, arith}
+use Rattle.std.specs.Prelude.{nat_eq, nat_lt, max, map, not, ◌&&◌, if◌then◌else◌}
+use Rattle.std.specs.List.{filter}
+use Rattle.std.proofs.lemmas.Bool.{and_parts, and_from, or_parts, or_from, cond_both, eqb-true, eq-eqb}
+use Rattle.lu_base.specs.declared.ids.Cookie.{Cookie}
+use Rattle.lu_base.specs.declared.ids.TargetId.{TargetId}
+use Rattle.lu_base.specs.declared.ids.Who.{Who}
+use Rattle.lu_base.specs.declared.locks.Lock.{Lock}
+use Rattle.lu_base.specs.declared.locks.Mode.TheVariants.{PR}
+use Rattle.lu_part.specs.declared.parts.Want.{Want}
+use Rattle.lu_held.specs.declared.locks.Change.{Change}
+use Rattle.lu_held.specs.declared.locks.Change.TheVariants.{Mark, Unmark, Pin, Unpin}
+use Rattle.lu_held.specs.declared.locks.HeldLock.{HeldLock}
+use Rattle.lu_held.specs.declared.names.LockName.{LockName}
+use Rattle.lu_held.specs.Locks.{is_named, after}
+use Rattle.lu_held.specs.Locks as held
+use Rattle.lu_held.specs.Held.{is_held, changed, without, used}
+use Rattle.lu_target_rows.specs.Locks.{with_lock, with_locks}
+use Rattle.lu_target_rows.specs.Names.{locks_from}
+use Rattle.lu_target_rows.specs.Phase.{greatest_cookie}
+use Rattle.lu_client_rows.specs.Caches.{held_as, with_held, with_brought}
+use Rattle.lu_guards.proofs.Guards.{In, name_of}
+use Rattle.lu_guards.proofs.Lists.{in_append, in_filter}
+
+-- ---- the locks of an act: of one life, for reading, each with a cookie of its own above the greatest one
+
+pub from_high : (cookie : ℕ) (who : Who) (wants : List Want) (l : Lock) → In l (locks_from cookie who wants) → cookie < l.cookie.0
+from_high cookie who [] l i = absurd i
+from_high cookie who (want ∷ wants) l (inl e) = let q : cookie + 1 ≡ l.cookie.0 = ap (λ (k : Lock). k.cookie.0) e in omega arith
+from_high cookie who (want ∷ wants) l (inr i) = let h = from_high (cookie + 1) who wants l i in omega arith
+
+pub from_who : (cookie : ℕ) (who : Who) (wants : List Want) (l : Lock) → In l (locks_from cookie who wants) → l.ask.who ≡ who
+from_who cookie who [] l i = absurd i
+from_who cookie who (want ∷ wants) l (inl e) = ap (λ (k : Lock). k.ask.who) (sym e)
+from_who cookie who (want ∷ wants) l (inr i) = from_who (cookie + 1) who wants l i
+
+pub from_mode : (cookie : ℕ) (who : Who) (wants : List Want) (l : Lock) → In l (locks_from cookie who wants) → l.ask.mode ≡ PR
+from_mode cookie who [] l i = absurd i
+from_mode cookie who (want ∷ wants) l (inl e) = ap (λ (k : Lock). k.ask.mode) (sym e)
+from_mode cookie who (want ∷ wants) l (inr i) = from_mode (cookie + 1) who wants l i
+
+pub from_once : (cookie : ℕ) (who : Who) (wants : List Want) (l k : Lock) → In l (locks_from cookie who wants) → In k (locks_from cookie who wants) → l.cookie.0 ≡ k.cookie.0 → l ≡ k
+from_once cookie who [] l k i j e = absurd i
+from_once cookie who (want ∷ wants) l k (inl p) (inl q) e = sym p ∙ q
+from_once cookie who (want ∷ wants) l k (inl p) (inr j) e =
+    let x : cookie + 1 ≡ l.cookie.0 = ap (λ (v : Lock). v.cookie.0) p in
+    let y = from_high (cookie + 1) who wants k j in
+    absurd (omega arith)
+from_once cookie who (want ∷ wants) l k (inr i) (inl q) e =
+    let x : cookie + 1 ≡ k.cookie.0 = ap (λ (v : Lock). v.cookie.0) q in
+    let y = from_high (cookie + 1) who wants l i in
+    absurd (omega arith)
+from_once cookie who (want ∷ wants) l k (inr i) (inr j) e = from_once (cookie + 1) who wants l k i j e
+
+-- ---- the greatest cookie
+
+pub greatest_low : (n : ℕ) (ls : List Lock) → n ≤ greatest_cookie n ls
+greatest_low n [] = omega arith
+greatest_low n (l ∷ ls) = let h = greatest_low (max n l.cookie.0) ls in omega arith
+
+pub greatest_in : (n : ℕ) (ls : List Lock) (l : Lock) → In l ls → l.cookie.0 ≤ greatest_cookie n ls
+greatest_in n [] l i = absurd i
+greatest_in n (k ∷ ls) l (inl e) = let h = greatest_low (max n k.cookie.0) ls in let q : k.cookie.0 ≡ l.cookie.0 = ap (λ (v : Lock). v.cookie.0) e in omega arith
+greatest_in n (k ∷ ls) l (inr i) = greatest_in (max n k.cookie.0) ls l i
+
+-- ---- granted locks
+
+with_in : (l x : Lock) (ks : List Lock) → In x (with_lock l ks) → (l ≡ x) ⊎ In x ks
+with_in l x [] i = i
+with_in l x (k ∷ ks) i =
+    cond_both (nat_eq l.cookie.0 k.cookie.0) (l ∷ ks) (if nat_lt l.cookie.0 k.cookie.0 then l ∷ k ∷ ks else k ∷ with_lock l ks) (λ (zs : List Lock). In x zs → (l ≡ x) ⊎ In x (k ∷ ks))
+    (λ t j. ⊎_elim (λ (e : l ≡ x). inl e) (λ (m : In x ks). inr (inr m)) j)
+    (λ t. cond_both (nat_lt l.cookie.0 k.cookie.0) (l ∷ k ∷ ks) (k ∷ with_lock l ks) (λ (zs : List Lock). In x zs → (l ≡ x) ⊎ In x (k ∷ ks))
+    (λ u j. j)
+    (λ u j. ⊎_elim
+    (λ (e : k ≡ x). inr (inl e))
+    (λ (m : In x (with_lock l ks)). ⊎_elim (λ (e : l ≡ x). inl e) (λ (n : In x ks). inr (inr n)) (with_in l x ks m))
+    j))
+    i
+
+with_new : (l : Lock) (ks : List Lock) → In l (with_lock l ks)
+with_new l [] = inl refl
+with_new l (k ∷ ks) =
+    cond_both (nat_eq l.cookie.0 k.cookie.0) (l ∷ ks) (if nat_lt l.cookie.0 k.cookie.0 then l ∷ k ∷ ks else k ∷ with_lock l ks) (λ (zs : List Lock). In l zs)
+    (λ t. inl refl)
+    (λ t. cond_both (nat_lt l.cookie.0 k.cookie.0) (l ∷ k ∷ ks) (k ∷ with_lock l ks) (λ (zs : List Lock). In l zs) (λ u. inl refl) (λ u. inr (with_new l ks)))
+
+-- one of that cookie is it
+with_old : (l x : Lock) (ks : List Lock) → (x.cookie.0 ≡ l.cookie.0 → x ≡ l) → In x ks → In x (with_lock l ks)
+with_old l x [] one i = absurd i
+with_old l x (k ∷ ks) one i =
+    cond_both (nat_eq l.cookie.0 k.cookie.0) (l ∷ ks) (if nat_lt l.cookie.0 k.cookie.0 then l ∷ k ∷ ks else k ∷ with_lock l ks) (λ (zs : List Lock). In x zs)
+    (λ t. ⊎_elim (λ (e : k ≡ x). inl (sym (one (ap (λ (v : Lock). v.cookie.0) (sym e) ∙ sym (eqb-true l.cookie.0 k.cookie.0 t))))) (λ (j : In x ks). inr j) i)
+    (λ t. cond_both (nat_lt l.cookie.0 k.cookie.0) (l ∷ k ∷ ks) (k ∷ with_lock l ks) (λ (zs : List Lock). In x zs)
+    (λ u. inr i)
+    (λ u. ⊎_elim (λ (e : k ≡ x). inl e) (λ (j : In x ks). inr (with_old l x ks one j)) i))
+
+pub withs_in : (ls : List Lock) (x : Lock) (ks : List Lock) → In x (with_locks ls ks) → In x ls ⊎ In x ks
+withs_in [] x ks i = inr i
+withs_in (l ∷ ls) x ks i =
+    ⊎_elim
+    (λ (j : In x ls). inl (inr j))
+    (λ (j : In x (with_lock l ks)). ⊎_elim (λ (e : l ≡ x). inl (inl e)) (λ (m : In x ks). inr m) (with_in l x ks j))
+    (withs_in ls x (with_lock l ks) i)
+
+pub withs_old : (ls : List Lock) (x : Lock) (ks : List Lock) → ((y : Lock) → In y ls → x.cookie.0 ≡ y.cookie.0 → x ≡ y) → In x ks → In x (with_locks ls ks)
+withs_old [] x ks one i = i
+withs_old (l ∷ ls) x ks one i = withs_old ls x (with_lock l ks) (λ y j. one y (inr j)) (with_old l x ks (one l (inl refl)) i)
+
+pub withs_new : (ls : List Lock) (x : Lock) (ks : List Lock) → ((y : Lock) → In y ls → x.cookie.0 ≡ y.cookie.0 → x ≡ y) → In x ls → In x (with_locks ls ks)
+withs_new [] x ks one i = absurd i
+withs_new (l ∷ ls) x ks one (inl e) =
+    withs_old ls x (with_lock l ks) (λ y j. one y (inr j)) (with_same (with_new l ks))
+  where
+    with_same : In l (with_lock l ks) → In x (with_lock l ks)
+    with_same i = subst (λ (v : Lock). In v (with_lock l ks)) e i
+withs_new (l ∷ ls) x ks one (inr i) = withs_new ls x (with_lock l ks) (λ y j. one y (inr j)) i
+
+-- ---- held locks by name
+
+pub held_not : (n : LockName) (hs : List HeldLock) → is_held n hs ≡ false → (h : HeldLock) → In h hs → is_named n h ≡ false
+held_not n [] e h i = absurd i
+held_not n (g ∷ hs) e h i =
+    let p = or_parts (is_named n g) (is_held n hs) e in
+    ⊎_elim (λ (q : g ≡ h). ap (is_named n) (sym q) ∙ p.0) (λ (j : In h hs). held_not n hs p.1 h j) i
+
+pub not_held : (n : LockName) (hs : List HeldLock) → ((h : HeldLock) → In h hs → is_named n h ≡ false) → is_held n hs ≡ false
+not_held n [] f = refl
+not_held n (g ∷ hs) f = or_from (is_named n g) (is_held n hs) (f g (inl refl)) (not_held n hs (λ h i. f h (inr i)))
+
+pub is_of_name : (c : Cookie) (h : HeldLock) → h.target.0 ≡ 0 → h.lock.cookie.0 ≡ c.0 → is_named (name_of c) h ≡ true
+is_of_name c h t e = and_from (nat_eq 0 h.target.0) (nat_eq c.0 h.lock.cookie.0) (eq-eqb 0 h.target.0 (sym t)) (eq-eqb c.0 h.lock.cookie.0 (sym e))
+
+pub not_of_name : (c : Cookie) (h : HeldLock) → (h.lock.cookie.0 ≡ c.0 → ⊥) → is_named (name_of c) h ≡ false
+not_of_name c h f = by (is_named (name_of c) h) refl
+  where
+    by : (b : Bool) → is_named (name_of c) h ≡ b → is_named (name_of c) h ≡ false
+    by true e = absurd (f (sym (eqb-true c.0 h.lock.cookie.0 (and_parts (nat_eq 0 h.target.0) (nat_eq c.0 h.lock.cookie.0) e).1)))
+    by false e = e
+
+-- ---- what is held was held: with other pins and marks
+
+abbrev pub Kept : List HeldLock → HeldLock → Type 0
+Kept hs h = (g : HeldLock) × In g hs × (g.target ≡ h.target) × (g.lock ≡ h.lock)
+
+pub kept_same : (hs : List HeldLock) (h : HeldLock) → In h hs → Kept hs h
+kept_same hs h i = (h, i, refl, refl)
+
+pub kept_not : (n : LockName) (old new : List HeldLock) → ((h : HeldLock) → In h new → Kept old h) → is_held n old ≡ false → is_held n new ≡ false
+kept_not n old new k e = not_held n new named
+  where
+    named : (h : HeldLock) → In h new → is_named n h ≡ false
+    named h i =
+        let g = k h i in
+        ap (λ (t : TargetId). nat_eq n.target.0 t.0 && nat_eq n.cookie.0 h.lock.cookie.0) (sym g.2)
+        ∙ ap (λ (l : Lock). nat_eq n.target.0 g.0.target.0 && nat_eq n.cookie.0 l.cookie.0) (sym g.3)
+        ∙ held_not n old e g.0 g.1
+
+in_map : {A B : Type 0} (f : A → B) (y : B) (xs : List A) → In y (map f xs) → (x : A) × In x xs × (f x ≡ y)
+in_map f y [] i = absurd i
+in_map f y (x ∷ xs) (inl e) = (x, inl refl, e)
+in_map f y (x ∷ xs) (inr i) = let r = in_map f y xs i in (r.0, inr r.1, r.2)
+
+after_same : (change : Change) (g : HeldLock) → ((after change g).target ≡ g.target) × ((after change g).lock ≡ g.lock)
+after_same Mark g = (refl, refl)
+after_same Unmark g = (refl, refl)
+after_same Pin g = (refl, refl)
+after_same Unpin g = (refl, refl)
+
+pub changed_kept : (n : LockName) (change : Change) (hs : List HeldLock) (h : HeldLock) → In h (changed n change hs) → Kept hs h
+changed_kept n change hs h i = by (in_map (λ g. if is_named n g then after change g else g) h hs i)
+  where
+    by : (g : HeldLock) × In g hs × ((if is_named n g then after change g else g) ≡ h) → Kept hs h
+    by r = (
+      r.0,
+      r.1,
+      cond_both (is_named n r.0) (after change r.0) r.0 (λ (v : HeldLock). v ≡ h → r.0.target ≡ h.target) (λ t e. sym (after_same change r.0).0 ∙ ap (λ (v : HeldLock). v.target) e) (λ t e. ap (λ (v : HeldLock). v.target) e) r.2,
+      cond_both (is_named n r.0) (after change r.0) r.0 (λ (v : HeldLock). v ≡ h → r.0.lock ≡ h.lock) (λ t e. sym (after_same change r.0).1 ∙ ap (λ (v : HeldLock). v.lock) e) (λ t e. ap (λ (v : HeldLock). v.lock) e) r.2,
+    )
+
+pub used_in : (n : LockName) (hs : List HeldLock) (h : HeldLock) → In h (used n hs) → In h hs
+used_in n hs h i =
+    ⊎_elim
+    (λ (j : In h (filter (is_named n) hs)). (in_filter (is_named n) h hs j).0)
+    (λ (j : In h (without n hs)). (in_filter (λ (g : HeldLock). not (is_named n g)) h hs j).0)
+    (in_append h (filter (is_named n) hs) (without n hs) i)
+
+-- ---- what a reply brings
+
+pub with_held_in : (n : HeldLock) (hs : List HeldLock) (h : HeldLock) → In h (with_held n hs) → (n ≡ h) ⊎ In h hs
+with_held_in n hs h =
+    cond_both (is_held (held.name_of n) hs) (map (λ g. if is_named (held.name_of n) g then n else g) hs) (n ∷ hs) (λ (zs : List HeldLock). In h zs → (n ≡ h) ⊎ In h hs)
+    (λ t i. by (in_map (λ g. if is_named (held.name_of n) g then n else g) h hs i))
+    (λ t i. i)
+  where
+    by : (g : HeldLock) × In g hs × ((if is_named (held.name_of n) g then n else g) ≡ h) → (n ≡ h) ⊎ In h hs
+    by r = cond_both (is_named (held.name_of n) r.0) n r.0 (λ (v : HeldLock). v ≡ h → (n ≡ h) ⊎ In h hs) (λ t e. inl e) (λ t e. inr (subst (λ (v : HeldLock). In v hs) e r.1)) r.2
+
+pub brought_in : (t : ℕ) (ls : List Lock) (hs : List HeldLock) (h : HeldLock) → In h (with_brought t ls hs) → In h hs ⊎ ((l : Lock) × In l ls × (held_as t l false ≡ h))
+brought_in t [] hs h i = inl i
+brought_in t (l ∷ ls) hs h i =
+    ⊎_elim
+    (λ (j : In h (with_held (held_as t l false) hs)). ⊎_elim (λ (e : held_as t l false ≡ h). inr (l, inl refl, e)) (λ (m : In h hs). inl m) (with_held_in (held_as t l false) hs h j))
+    (λ (r : (k : Lock) × In k ls × (held_as t k false ≡ h)). inr (r.0, inr r.1, r.2))
+    (brought_in t ls (with_held (held_as t l false) hs) h i)

@@ -1,0 +1,454 @@
+-- What holds of a client after every line of a covered run: it is in its first life and knows the first boot of each target, which
+-- serves; it has no handle and has changed no object; all that it asks is on names and asked of the metadata target, which alone
+-- sends to it; what it holds is of that target, and no two held locks have one name.
+use Rattle.std.proofs.Common.{◌≡◌, ℕ, suc, ◌+◌, ◌<◌, Bool, true, false, List, [], ◌∷◌, ◌++◌, inl, inr, ⊎_elim, Option, Some, None, refl, sym, subst, ap, ◌∙◌, arith, pos}
+use Rattle.std.specs.Prelude.{nat_eq, ◌&&◌, if◌then◌else◌}
+use Rattle.std.proofs.lemmas.Bool.{eqb-true, and_parts}
+use Rattle.std.proofs.lemmas.Bool.Decides.{nat_tests}
+use Rattle.lu_base.specs.declared.ids.At.{At}
+use Rattle.lu_base.specs.declared.ids.Node.{Node}
+use Rattle.lu_base.specs.declared.ids.Node.TheVariants.{Client, Target}
+use Rattle.lu_base.specs.declared.ids.Who.{Who}
+use Rattle.lu_base.specs.declared.locks.Lock.{Lock}
+use Rattle.lu_part.specs.declared.parts.Want.{Want}
+use Rattle.lu_msg.specs.declared.answers.Answer.{Answer}
+use Rattle.lu_msg.specs.declared.answers.Answer.TheVariants as answer
+use Rattle.lu_msg.specs.declared.calls.Call.{Call}
+use Rattle.lu_msg.specs.declared.calls.Call.TheVariants as call
+use Rattle.lu_msg.specs.declared.messages.Message.{Message}
+use Rattle.lu_msg.specs.declared.messages.Message.TheVariants as message
+use Rattle.lu_msg.specs.declared.messages.Reply.{Reply as ReplyTo}
+use Rattle.lu_msg.specs.declared.operations.Op.{Op}
+use Rattle.lu_msg.specs.declared.operations.Op.TheVariants as op
+use Rattle.lu_held.specs.declared.locks.Change.{Change}
+use Rattle.lu_held.specs.declared.locks.Change.TheVariants as change
+use Rattle.lu_held.specs.declared.locks.HeldLock.{HeldLock}
+use Rattle.lu_held.specs.declared.names.LockName.{LockName}
+use Rattle.lu_held.specs.Locks.{is_named, after}
+use Rattle.lu_held.specs.Held.{changed}
+use Rattle.lu_machine.specs.Fits.{answer_fits}
+use Rattle.lu_words.specs.Carried.{Slot, Queued, Flight, Asking, Asked, Answered, Running}
+use Rattle.lu_words.specs.Words.{Entry, Send, Begin, Heard, Hold, Drop, Told, Life, Queues, Flies, Knows, Serves, Stands, Binds, Unbinds, Pins, Unpins, Marks, Unmarks, Changes, WritesBack, Acks, Act, Txn, Enters, Line, line, is_client}
+use Rattle.lu_words.specs.Concerns.{is_about, only}
+use Rattle.lu_words.specs.Fields.{on, at_client, at_import}
+use Rattle.lu_target_rows.specs.Names.{locks_from}
+use Rattle.lu_client_rows.specs.Caches.{held_as, brought, granted_lock, reads_held, held_after, held_at, reads_patches, patches_after, patches_at}
+use Rattle.lu_client_rows.specs.Calls.{reads_handles, handles_after, handles_at}
+use Rattle.lu_client_rows.specs.Imports as whole
+use Rattle.lu_client_rows.specs.Imports.{Serving, import_at}
+use Rattle.lu_client_rows.specs.Messages.{size_with, heeds}
+use Rattle.lu_client_rows.specs.States.{Client as ClientState}
+use Rattle.lu_covered.specs.Calls.{asks, asks_for, reads_call, call_after, call_at, reads_life, life_after, first_life, life_at, operation_of}
+use Rattle.lu_covered.specs.Covered.{IsCovered, AllCovered}
+use Rattle.lu_covered.specs.Heads.{Head}
+use Rattle.lu_covered.specs.Imports.{rest, without_flight, reads_queue, queue_after, queue_at, reads_flights, flights_after, flights_at, reads_last, last_after, last_at}
+use Rattle.lu_covered.specs.TargetParts.{is_slot_of, entered, answered}
+use Rattle.lu_covered.specs.TargetStates.{slot_of}
+use Rattle.lu_guards.proofs.Guards.{In, Was, EntryOk, EntryOf, SendOf, Grown, GrownOf}
+use Rattle.lu_guards.proofs.Lists.{in_append, in_filter}
+use Rattle.lu_guards.proofs.Parts.{queue_is}
+use Rattle.lu_guards.proofs.ClientLocks.{Once, Differ, once_filter, once_changed, once_used, once_with, once_brought, with_only, brought_only, changed_only, used_only, without_only}
+
+-- ---- operations on names
+
+abbrev pub IsNames : Op → Type 0
+IsNames (op.Open path) = ⊥
+IsNames (op.Close number fid) = ⊥
+IsNames (op.Enqueue resource mode extent) = ⊥
+IsNames (op.Get resource cookie page) = ⊥
+IsNames (op.Put resource cookie offset bytes) = ⊥
+IsNames (op.Cut resource cookie size) = ⊥
+IsNames (op.Size resource) = ⊥
+IsNames _ = Unit {0}
+
+pub some_is : {A : Type 0} (a b : A) → Some a ≡ Some b → a ≡ b
+some_is a b e = cc
+
+pub becomes_names : (c : Call) (o : Op) → operation_of c ≡ Some o → IsNames o
+becomes_names (call.Lookup path) o e = subst IsNames (some_is (op.Lookup path) o e) tt
+becomes_names (call.Stat path) o e = subst IsNames (some_is (op.Stat path) o e) tt
+becomes_names (call.List path) o e = subst IsNames (some_is (op.List path) o e) tt
+becomes_names (call.Layout path) o e = subst IsNames (some_is (op.Layout path) o e) tt
+becomes_names (call.Mkdir path) o e = subst IsNames (some_is (op.Mkdir path) o e) tt
+becomes_names (call.Create path None) o e = subst IsNames (some_is (op.Create path 1048576 (pos 1)) o e) tt
+becomes_names (call.Create path (Some stripes)) o e = subst IsNames (some_is (op.Create path stripes.0 stripes.1) o e) tt
+becomes_names (call.Link old new) o e = subst IsNames (some_is (op.Link old new) o e) tt
+becomes_names (call.Unlink path) o e = subst IsNames (some_is (op.Unlink path) o e) tt
+becomes_names (call.Rmdir path) o e = subst IsNames (some_is (op.Rmdir path) o e) tt
+becomes_names (call.Rename old new) o e = subst IsNames (some_is (op.Rename old new) o e) tt
+becomes_names (call.Chmod path mode) o e = subst IsNames (some_is (op.Chmod path mode) o e) tt
+becomes_names c o e = absurd (cc)
+
+pub ends : {A : Type 0} (xs : List A) → xs ++ [] ≡ xs
+ends [] = refl
+ends (x ∷ xs) = ap (λ ys. x ∷ ys) (ends xs)
+
+-- a reply to one brings its own locks alone, without a size, and nothing else comes of it
+pub brings_its : (o : Op) (r : ReplyTo) → IsNames o → brought o r ≡ r.locks
+brings_its o r n = ap (λ (ls : List Lock). r.locks ++ ls) (none o n) ∙ ends r.locks
+  where
+    none : (o : Op) → IsNames o → granted_lock o r r.answer ≡ []
+    none (op.Enqueue resource mode extent) n = absurd n
+    none o n = refl
+
+pub no_size : (o : Op) (a : Answer) → IsNames o → answer_fits o a ≡ true → size_with a ≡ None
+no_size o (answer.Granted cookie extent size) n fits = absurd (by o n fits)
+  where
+    by : (o : Op) → IsNames o → answer_fits o (answer.Granted cookie extent size) ≡ true → ⊥
+    by (op.Enqueue resource mode asked) n fits = absurd n
+    by o n fits = cc
+no_size o a n fits = refl
+
+pub heeds_nothing : (t : ℕ) (f : Flight) (o : Op) (r : ReplyTo) (a : Answer) (k : ClientState) → IsNames o → heeds t f o r a k ≡ []
+heeds_nothing t f (op.Enqueue resource mode extent) r a k n = absurd n
+heeds_nothing t f (op.Get resource cookie page) r a k n = absurd n
+heeds_nothing t f (op.Put resource cookie offset bytes) r a k n = absurd n
+heeds_nothing t f (op.Cut resource cookie size) r a k n = absurd n
+heeds_nothing t f o r a k n = refl
+
+-- ---- fields that no covered line reads
+
+pub on_other : {A : Type 0} (r : Bool) (new old : A) → on r false new old ≡ old
+on_other true new old = refl
+on_other false new old = refl
+
+unread_client : {A : Type 0} (reads : Entry → Bool) (after : A → Entry → A) (start : A) (c : ℕ) → ((e : Entry) → IsCovered e → reads e ≡ false) → (past : List Line) → AllCovered past → at_client reads after start c past ≡ start
+unread_client reads after start c f [] a = refl
+unread_client reads after start c f (l ∷ past) a =
+    ap (λ (r : Bool). on r (is_client c l.at.node) (after (at_client reads after start c past) l.entry) (at_client reads after start c past)) (f l.entry a.0) ∙ unread_client reads after start c f past a.1
+
+unread_import : {A : Type 0} (reads : Entry → Bool) (after : A → Entry → A) (start : A) (c t : ℕ) → ((e : Entry) → IsCovered e → reads e ≡ false) → (past : List Line) → AllCovered past → at_import reads after start c t past ≡ start
+unread_import reads after start c t f [] a = refl
+unread_import reads after start c t f (l ∷ past) a =
+    ap (λ (r : Bool). on r (is_client c l.at.node && is_about t l.entry) (after (at_import reads after start c t past) l.entry) (at_import reads after start c t past)) (f l.entry a.0) ∙ unread_import reads after start c t f past a.1
+
+pub life_first : (c : ℕ) (past : List Line) → AllCovered past → life_at c past ≡ first_life c
+life_first c past a = unread_client reads_life life_after (first_life c) c by past a
+  where
+    by : (e : Entry) → IsCovered e → reads_life e ≡ false
+    by (Life who) k = absurd k
+    by e k = refl
+
+pub handles_none : (c : ℕ) (past : List Line) → AllCovered past → handles_at c past ≡ []
+handles_none c past a = unread_client reads_handles handles_after [] c by past a
+  where
+    by : (e : Entry) → IsCovered e → reads_handles e ≡ false
+    by (Binds h f) k = absurd k
+    by (Unbinds h) k = absurd k
+    by (Life who) k = absurd k
+    by e k = refl
+
+pub patches_none : (c : ℕ) (past : List Line) → AllCovered past → patches_at c past ≡ []
+patches_none c past a = unread_client reads_patches patches_after [] c by past a
+  where
+    by : (e : Entry) → IsCovered e → reads_patches e ≡ false
+    by (Changes r f) k = absurd k
+    by (WritesBack r f) k = absurd k
+    by (Acks r) k = absurd k
+    by (Life who) k = absurd k
+    by e k = refl
+
+pub boot_first : (c t : ℕ) (past : List Line) → AllCovered past → (import_at c t past).boot ≡ 1
+boot_first c t past a = unread_import whole.reads_known whole.known_after 1 c t by past a
+  where
+    by : (e : Entry) → IsCovered e → whole.reads_known e ≡ false
+    by (Knows u b) k = absurd k
+    by e k = refl
+
+pub all_serve : (c t : ℕ) (past : List Line) → AllCovered past → (import_at c t past).standing ≡ Serving
+all_serve c t past a = unread_import whole.reads_standing whole.standing_after Serving c t by past a
+  where
+    by : (e : Entry) → IsCovered e → whole.reads_standing e ≡ false
+    by (Knows u b) k = absurd k
+    by (Serves u b) k = absurd k
+    by (Life who) k = absurd k
+    by e k = refl
+
+-- ---- fields that both tables read in the same way, but for a new life
+
+import_same : {A : Type 0} (reads more : Entry → Bool) (after next : A → Entry → A) (start : A) (c t : ℕ) → ((e : Entry) → IsCovered e → reads e ≡ more e) → ((a : A) (e : Entry) → IsCovered e → after a e ≡ next a e)
+    → (past : List Line) → AllCovered past → at_import reads after start c t past ≡ at_import more next start c t past
+import_same reads more after next start c t same step [] a = refl
+import_same {A} reads more after next start c t same step (l ∷ past) a =
+    let own = is_client c l.at.node && is_about t l.entry in
+    let X : A = at_import reads after start c t past in
+    let Y : A = at_import more next start c t past in
+    ap (λ (r : Bool). on r own (after X l.entry) X) (same l.entry a.0)
+    ∙ ap (λ (x : A). on (more l.entry) own (after x l.entry) x) (import_same reads more after next start c t same step past a.1)
+    ∙ ap (λ (x : A). on (more l.entry) own x Y) (step Y l.entry a.0)
+
+pub last_same : (c t : ℕ) (past : List Line) → AllCovered past → (import_at c t past).last ≡ last_at c t past
+last_same c t past a = import_same whole.reads_last reads_last whole.last_after last_after 0 c t reads step past a
+  where
+    reads : (e : Entry) → IsCovered e → whole.reads_last e ≡ reads_last e
+    reads (Life who) k = absurd k
+    reads (Flies t f) k = refl
+    reads e k = refl
+
+    step : (n : ℕ) (e : Entry) → IsCovered e → whole.last_after n e ≡ last_after n e
+    step n (Life who) k = absurd k
+    step n (Flies t f) k = refl
+    step n e k = refl
+
+pub queue_same : (c t : ℕ) (past : List Line) → AllCovered past → (import_at c t past).queue ≡ queue_at c t past
+queue_same c t past a = import_same whole.reads_queue reads_queue whole.queue_after queue_after [] c t reads step past a
+  where
+    reads : (e : Entry) → IsCovered e → whole.reads_queue e ≡ reads_queue e
+    reads (Life who) k = absurd k
+    reads (Queues t q) k = refl
+    reads (Flies t f) k = refl
+    reads e k = refl
+
+    step : (q : List Queued) (e : Entry) → IsCovered e → whole.queue_after q e ≡ queue_after q e
+    step qs (Life who) k = absurd k
+    step qs (Queues t q) k = refl
+    step qs (Flies t f) k = refl
+    step qs e k = refl
+
+pub flights_same : (c t : ℕ) (past : List Line) → AllCovered past → (import_at c t past).flights ≡ flights_at c t past
+flights_same c t past a = import_same whole.reads_flights reads_flights whole.flights_after flights_after [] c t reads step past a
+  where
+    reads : (e : Entry) → IsCovered e → whole.reads_flights e ≡ reads_flights e
+    reads (Life who) k = absurd k
+    reads (Heard t f r) k = refl
+    reads (Flies t f) k = refl
+    reads e k = refl
+
+    step : (fs : List Flight) (e : Entry) → IsCovered e → whole.flights_after fs e ≡ flights_after fs e
+    step fs (Life who) k = absurd k
+    step fs (Heard t f r) k = refl
+    step fs (Flies t f) k = refl
+    step fs e k = refl
+
+-- ---- what each line of the client keeps
+
+pub is_own : (c : ℕ) (n : Node) → is_client c n ≡ true → n ≡ Client c
+is_own c (Client d) mine = ap Client (sym (eqb-true c d mine))
+is_own c (Target t) mine = absurd (cc)
+
+client_keeps : {A : Type 0} (P : A → Type 0) (reads : Entry → Bool) (after : A → Entry → A) (start : A) (head : Head) (c : ℕ) → P start
+    → ((past : List Line) (at : At) (e : Entry) (x : A) → EntryOk past at (Client c) e → P x → P (after x e))
+    → (past : List Line) → Grown head past → P (at_client reads after start c past)
+client_keeps P reads after start head c p f [] g = p
+client_keeps {A} P reads after start head c p f (l ∷ past) g = by (reads l.entry) (is_client c l.at.node) refl (client_keeps P reads after start head c p f past g.1)
+  where
+    X : A
+    X = at_client reads after start c past
+
+    by : (r b : Bool) → is_client c l.at.node ≡ b → P X → P (on r b (after X l.entry) X)
+    by false b e q = q
+    by true false e q = q
+    by true true e q = f past l.at l.entry X (subst (λ (n : Node). EntryOk past l.at n l.entry) (is_own c l.at.node e) g.0.ok) q
+
+import_keeps : {A : Type 0} (P : A → Type 0) (reads : Entry → Bool) (after : A → Entry → A) (start : A) (head : Head) (c t : ℕ) → P start
+    → ((past : List Line) (at : At) (e : Entry) (x : A) → Grown head past → EntryOk past at (Client c) e → EntryOf head (only t past) at (Client c) e → is_about t e ≡ true → P x → P (after x e))
+    → (past : List Line) → Grown head past → P (at_import reads after start c t past)
+import_keeps P reads after start head c t p f [] g = p
+import_keeps {A} P reads after start head c t p f (l ∷ past) g = by (reads l.entry) (is_client c l.at.node && is_about t l.entry) refl (import_keeps P reads after start head c t p f past g.1)
+  where
+    X : A
+    X = at_import reads after start c t past
+
+    by : (r b : Bool) → (is_client c l.at.node && is_about t l.entry) ≡ b → P X → P (on r b (after X l.entry) X)
+    by false b e q = q
+    by true false e q = q
+    by true true e q =
+        let own = and_parts (is_client c l.at.node) (is_about t l.entry) e in
+        let node = is_own c l.at.node own.0 in
+        f past l.at l.entry X g.1
+        (subst (λ (n : Node). EntryOk past l.at n l.entry) node g.0.ok)
+        (subst (λ (n : Node). EntryOf head (only t past) l.at n l.entry) node (g.0.of t (rw node own.1)))
+        own.1 q
+
+-- all is asked of the metadata target
+not_zero : (t u : ℕ) → u ≡ 0 → nat_eq (suc t) u ≡ true → ⊥
+not_zero t u z about = let e : suc t ≡ 0 = eqb-true (suc t) u about ∙ z in absurd (cc)
+
+pub other_queue : (head : Head) (c t : ℕ) (past : List Line) → Grown head past → queue_at c (suc t) past ≡ []
+other_queue head c t past g = import_keeps (λ (qs : List Queued). qs ≡ []) reads_queue queue_after [] head c (suc t) refl (λ p at e x h ok of about q. by p at e x ok about q) past g
+  where
+    by : (p : List Line) (at : At) (e : Entry) (x : List Queued) → EntryOk p at (Client c) e → is_about (suc t) e ≡ true → x ≡ [] → queue_after x e ≡ []
+    by p at (Queues u o) x ok about q = absurd (not_zero t u ok.names about)
+    by p at (Flies u f) x ok about q = absurd (not_zero t u ok about)
+    by p at e x ok about q = q
+
+pub other_flights : (head : Head) (c t : ℕ) (past : List Line) → Grown head past → flights_at c (suc t) past ≡ []
+other_flights head c t past g = import_keeps (λ (fs : List Flight). fs ≡ []) reads_flights flights_after [] head c (suc t) refl (λ p at e x h ok of about q. by p at e x ok about q) past g
+  where
+    by : (p : List Line) (at : At) (e : Entry) (x : List Flight) → EntryOk p at (Client c) e → is_about (suc t) e ≡ true → x ≡ [] → flights_after x e ≡ []
+    by p at (Flies u f) x ok about q = absurd (not_zero t u ok about)
+    by p at (Heard u f r) x ok about q = absurd (not_zero t u ok.0 about)
+    by p at e x ok about q = q
+
+-- all that is asked is on names
+in_rest : (q : Queued) (qs : List Queued) → In q (rest qs) → In q qs
+in_rest q [] i = i
+in_rest q (x ∷ qs) i = inr i
+
+pub queue_names : (head : Head) (c t : ℕ) (past : List Line) → Grown head past → (q : Queued) → In q (queue_at c t past) → IsNames q.op
+queue_names head c t past g = import_keeps (λ (qs : List Queued). (q : Queued) → In q qs → IsNames q.op) reads_queue queue_after [] head c t (λ q i. absurd i) (λ p at e x h ok of about k. by p at e x ok k) past g
+  where
+    by : (p : List Line) (at : At) (e : Entry) (x : List Queued) → EntryOk p at (Client c) e → ((q : Queued) → In q x → IsNames q.op) → (q : Queued) → In q (queue_after x e) → IsNames q.op
+    by p at (Queues u o) x ok k q i =
+        ⊎_elim (λ (j : In q x). k q j) (λ (j : In q (o ∷ [])). ⊎_elim (λ (e : o ≡ q). subst (λ (y : Queued). IsNames y.op) e (becomes_names ok.running.call o.op ok.becomes)) (λ (n : ⊥). absurd n) j) (in_append q x (o ∷ []) i)
+    by p at (Flies u f) x ok k q i = k q (in_rest q x i)
+    by p at e x ok k q i = k q i
+
+pub flights_names : (head : Head) (c t : ℕ) (past : List Line) → Grown head past → (f : Flight) → In f (flights_at c t past) → IsNames f.op
+flights_names head c t past g = import_keeps (λ (fs : List Flight). (f : Flight) → In f fs → IsNames f.op) reads_flights flights_after [] head c t (λ f i. absurd i) (λ p at e x h ok of about k. by p at e x h of k) past g
+  where
+    by : (p : List Line) (at : At) (e : Entry) (x : List Flight) → Grown head p → EntryOf head (only t p) at (Client c) e → ((f : Flight) → In f x → IsNames f.op) → (f : Flight) → In f (flights_after x e) → IsNames f.op
+    by p at (Flies u o) x h of k f i =
+        let front : IsNames of.front.op = queue_names head c t p h of.front (subst (λ (qs : List Queued). In of.front qs) (sym (queue_is c t p ∙ of.queue)) (inl refl)) in
+        let flies : IsNames o.op = subst (λ (y : Flight). IsNames y.op) (sym of.is) front in
+        ⊎_elim (λ (j : In f x). k f j) (λ (j : In f (o ∷ [])). ⊎_elim (λ (e : o ≡ f). subst (λ (y : Flight). IsNames y.op) e flies) (λ (n : ⊥). absurd n) j) (in_append f x (o ∷ []) i)
+    by p at (Heard u o r) x h of k f i = k f (without o.xid x i)
+      where
+        without : (xid : ℕ) (fs : List Flight) → In f (without_flight xid fs) → In f fs
+        without xid fs j = (in_filter _ f fs j).0
+    by p at e x h of k f i = k f i
+
+-- calls stand on four slots
+abbrev pub SmallOn : ℕ → Option Running → Type 0
+SmallOn slot None = Unit {0}
+SmallOn slot (Some r) = slot < 4
+
+pub small_on : (head : Head) (c slot : ℕ) (past : List Line) → Grown head past → SmallOn slot (call_at c slot past)
+small_on head c slot past g = client_keeps (SmallOn slot) reads_call (call_after slot) None head c tt step past g
+  where
+    chosen : (b : Bool) (x y : Option Running) → (b ≡ true → SmallOn slot x) → SmallOn slot y → SmallOn slot (if b then x else y)
+    chosen true x y p q = p refl
+    chosen false x y p q = q
+
+    asked : (a : Asking) (x : Option Running) → SmallOn slot x → SmallOn slot (asks a x)
+    asked a None p = tt
+    asked a (Some r) p = p
+
+    for : (s : Option ℕ) (a : Asking) (x : Option Running) → SmallOn slot x → SmallOn slot (asks_for s slot a x)
+    for None a x p = p
+    for (Some s) a x p = chosen (nat_eq s slot) (asks a x) x (λ e. asked a x p) p
+
+    step : (p : List Line) (at : At) (e : Entry) (x : Option Running) → EntryOk p at (Client c) e → SmallOn slot x → SmallOn slot (call_after slot x e)
+    step p at (Begin s r) x k q = chosen (nat_eq s slot) (Some r) x (λ e. subst (λ (u : ℕ). u < 4) (eqb-true s slot e) k.small) q
+    step p at (Queues t o) x k q = for o.slot Asked x q
+    step p at (Heard t f r) x k q = for f.slot (Answered t r) x q
+    step p at (Told s turn a w) x k q = chosen (nat_eq s slot) None x (λ e. tt) q
+    step p at (Stands s r) x k q = absurd k
+    step p at e x k q = q
+
+-- ---- held locks
+
+pub held_zero : (head : Head) (c : ℕ) (past : List Line) → Grown head past → (h : HeldLock) → In h (held_at c past) → h.target.0 ≡ 0
+held_zero head c past g = client_keeps Zero reads_held held_after [] head c (λ h i. absurd i) step past g
+  where
+    Zero : List HeldLock → Type 0
+    Zero hs = (h : HeldLock) → In h hs → h.target.0 ≡ 0
+
+    changes : (n : LockName) (ch : Change) (hs : List HeldLock) → Zero hs → Zero (changed n ch hs)
+    changes n ch hs k g i = let r = changed_only n ch g hs i in subst (λ (x : HeldLock). x.target.0 ≡ 0) r.2 (by ch r.0 (is_named n r.0) (k r.0 r.1))
+      where
+        by : (ch : Change) (h : HeldLock) (b : Bool) → h.target.0 ≡ 0 → (if b then after ch h else h).target.0 ≡ 0
+        by change.Mark h true z = z
+        by change.Unmark h true z = z
+        by change.Pin h true z = z
+        by change.Unpin h true z = z
+        by ch h false z = z
+
+    step : (p : List Line) (at : At) (e : Entry) (x : List HeldLock) → EntryOk p at (Client c) e → Zero x → Zero (held_after x e)
+    step p at (Heard t f r) x ok k h i =
+        ⊎_elim (λ (s : (l : Lock) × (held_as t l false ≡ h)). ap (λ (y : HeldLock). y.target.0) (sym s.1) ∙ ok.0) (λ (j : In h x). k h j) (brought_only t h (brought f.op r) x i)
+    step p at (Hold t l marked size seen) x ok k h i =
+        ⊎_elim (λ (s : held_as t l marked ≡ h). ap (λ (y : HeldLock). y.target.0) (sym s) ∙ ok.names) (λ (j : In h x). k h j) (with_only (held_as t l marked) h x i)
+    step p at (Drop t l) x ok k h i = k h (without_only _ h x i).0
+    step p at (Pins n) x ok k h i = changes n change.Pin x k h i
+    step p at (Unpins n) x ok k h i = changes n change.Unpin x k h (used_only n h (changed n change.Unpin x) i)
+    step p at (Marks n) x ok k h i = changes n change.Mark x k h i
+    step p at (Unmarks t) x ok k h i = absurd ok
+    step p at e x ok k h i = k h i
+
+pub held_once : (head : Head) (c : ℕ) (past : List Line) → Grown head past → Once (held_at c past)
+held_once head c past g = client_keeps Once reads_held held_after [] head c tt step past g
+  where
+    step : (p : List Line) (at : At) (e : Entry) (x : List HeldLock) → EntryOk p at (Client c) e → Once x → Once (held_after x e)
+    step p at (Heard t f r) x ok k = once_brought t (brought f.op r) x k
+    step p at (Hold t l marked size seen) x ok k = once_with (held_as t l marked) x k
+    step p at (Drop t l) x ok k = once_filter _ x k
+    step p at (Pins n) x ok k = once_changed n change.Pin x k
+    step p at (Unpins n) x ok k = once_used n (changed n change.Unpin x) (once_changed n change.Unpin x k)
+    step p at (Marks n) x ok k = once_changed n change.Mark x k
+    step p at (Unmarks t) x ok k = absurd ok
+    step p at e x ok k = k
+
+-- ---- what comes to it
+
+abbrev pub ComesTo : Message → Type 0
+ComesTo (message.Reply r) = Unit {0}
+ComesTo (message.Block who boot cookie) = Unit {0}
+ComesTo _ = ⊥
+
+pub comes_to : (head : Head) (past : List Line) (from : Node) (c : ℕ) (m : Message) → Grown head past → Was past from (Client c) m → (from ≡ Target 0) × ComesTo m
+comes_to head [] from c m g w = absurd w
+comes_to head (l ∷ past) from c m g w = by l.entry w g.0.ok (λ v. comes_to head past from c m g.1 v)
+  where
+    sends : (node : Node) (m : Message) → EntryOk past l.at node (Send (Client c) m) → (node ≡ Target 0) × ComesTo m
+    sends (Target t) (message.Reply r) ok = (ap Target ok.0, tt)
+    sends (Target t) (message.Block who boot cookie) ok = (ap Target ok, tt)
+    sends node m ok = absurd ok
+
+    by : (e : Entry) → Was (line l.at e ∷ past) from (Client c) m → EntryOk past l.at l.at.node e → (Was past from (Client c) m → (from ≡ Target 0) × ComesTo m) → (from ≡ Target 0) × ComesTo m
+    by (Send to x) (inl r) ok more =
+        let s = sends l.at.node m (subst (λ (y : Message). EntryOk past l.at l.at.node (Send (Client c) y)) r.2 (subst (λ (n : Node). EntryOk past l.at l.at.node (Send n x)) r.1 ok)) in
+        (sym r.0 ∙ s.0, s.1)
+    by (Send to x) (inr r) ok more = more r
+    by e r ok more = more r
+
+-- the locks of a reply have different cookies
+above : (n : ℕ) (who : Who) (wants : List Want) (m : Lock) → In m (locks_from n who wants) → n < m.cookie.0
+above n who [] m i = absurd i
+above n who (w ∷ wants) m (inl e) = subst (λ (k : Lock). n < k.cookie.0) e (omega arith)
+above n who (w ∷ wants) m (inr i) = let a = above (n + 1) who wants m i in omega (arith, a)
+
+apart : (a b : ℕ) → a < b → nat_eq a b ≡ false
+apart a b lt = grind (arith, nat_tests)
+
+from_differ : (n : ℕ) (who : Who) (wants : List Want) → Differ (locks_from n who wants)
+from_differ n who [] = tt
+from_differ n who (w ∷ wants) = (λ m i. apart (n + 1) m.cookie.0 (above (n + 1) who wants m i), from_differ (n + 1) who wants)
+
+kept_differ : (head : Head) (who : Who) (tag : ℕ) (past : List Line) → GrownOf head past → (k : ReplyTo) → (slot_of who tag past).reply ≡ Some k → Differ k.locks
+kept_differ head who tag [] g = λ k e. absurd (cc)
+kept_differ head who tag (l ∷ past) g = by l.at.node l.entry g.0 (kept_differ head who tag past g.2)
+  where
+    S : Slot
+    S = slot_of who tag past
+
+    Fine : Slot → Type 0
+    Fine s = (k : ReplyTo) → s.reply ≡ Some k → Differ k.locks
+
+    chosen : (b : Bool) (s : Slot) → Fine s → Fine S → Fine (if b then s else S)
+    chosen true s p q = p
+    chosen false s p q = q
+
+    by : (n : Node) (e : Entry) → EntryOf head past l.at n e → Fine S → Fine (slot_of who tag (line (record { stamp = l.at.stamp; node = n }) e ∷ past))
+    by (Target t) (Enters r) ok f = chosen (is_slot_of who tag r.who r.tag) (entered r) (λ k e. absurd (cc)) f
+    by (Target t) (Act d) ok f =
+        chosen (is_slot_of who tag d.reply.who d.tag) (answered d S)
+        (λ k e. subst (λ (r : ReplyTo). Differ r.locks) (some_is d.reply k e) (subst (λ x. Differ x.reply.locks) (sym ok.is) (from_differ _ _ _))) f
+    by (Target t) (Txn d) ok f =
+        chosen (is_slot_of who tag d.reply.who d.tag) (answered d S)
+        (λ k e. subst (λ (r : ReplyTo). Differ r.locks) (some_is d.reply k e) (subst (λ x. Differ x.reply.locks) (sym ok.is) tt)) f
+    by (Client c) e ok f = f
+    by (Target t) e ok f = f
+
+pub reply_differs : (head : Head) (past : List Line) (from : Node) (c : ℕ) (r : ReplyTo) → GrownOf head past → Was past from (Client c) (message.Reply r) → Differ r.locks
+reply_differs head [] from c r g w = absurd w
+reply_differs head (l ∷ past) from c r g w = by l.entry w g.0 (λ v. reply_differs head past from c r g.2 v)
+  where
+    sends : (node : Node) → SendOf head past node (Client c) (message.Reply r) → Differ r.locks
+    sends (Target t) ok = subst (λ (k : ReplyTo). Differ k.locks) (sym ok.is) (kept_differ head ok.who ok.tag past g.2 ok.kept ok.slot)
+    sends (Client d) ok = absurd ok
+
+    by : (e : Entry) → Was (line l.at e ∷ past) from (Client c) (message.Reply r) → EntryOf head past l.at l.at.node e → (Was past from (Client c) (message.Reply r) → Differ r.locks) → Differ r.locks
+    by (Send to x) (inl q) ok more = sends l.at.node (subst (λ (y : Message). SendOf head past l.at.node (Client c) y) q.2 (subst (λ (n : Node). SendOf head past l.at.node n x) q.1 ok))
+    by (Send to x) (inr q) ok more = more q
+    by e q ok more = more q

@@ -1,0 +1,456 @@
+-- The pass of the metadata target over the requests that wait makes lines that the guards allow: executions with the locks that they
+-- grant, each answered, and the calling back of locks.
+use Rattle.std.proofs.Common.{◌≡◌, ℕ, zero, suc, ◌+◌, ◌<◌, ◌≤◌, Bool, true, false, List, [], ◌∷◌, ◌++◌, Some, ◌⊎◌, inl, inr, refl, sym, subst, ap, ◌∙◌, arith}
+use Rattle.std.specs.Prelude.{◌||◌, not, if◌then◌else◌, length}
+use Rattle.std.specs.List.{list_any}
+use Rattle.std.proofs.lemmas.Bool.{cond_both, cond-true}
+use Rattle.lu_base.specs.declared.ids.At.{At}
+use Rattle.lu_base.specs.declared.ids.Node.TheVariants as node
+use Rattle.lu_base.specs.declared.ids.Stamp.{Stamp}
+use Rattle.lu_base.specs.declared.ids.Txn.{Txn as TxnOf}
+use Rattle.lu_base.specs.declared.locks.Lock.{Lock}
+use Rattle.lu_msg.specs.declared.messages.Request.{Request as RequestOf}
+use Rattle.lu_msg.specs.declared.operations.Op.{Op}
+use Rattle.lu_msg.specs.declared.operations.Op.TheVariants as op
+use Rattle.lu_part.specs.declared.parts.Part.{Part}
+use Rattle.lu_machine.specs.Footprint.{Operation, changes, grants}
+use Rattle.lu_machine.specs.Tree.{Tree}
+use Rattle.lu_machine.proofs.Transactions.{readings_change_nothing}
+use Rattle.lu_words.specs.Carried.{Deed, Slot, Called}
+use Rattle.lu_words.specs.Words.{Entry, Take, Act, Txn, Grant, Block, Line, line, with_turn}
+use Rattle.lu_words.specs.Concerns.{only}
+use Rattle.lu_target_rows.specs.Names as rows
+use Rattle.lu_target_rows.specs.Names.{does_change, guards_part, in_way, is_free, is_read, is_ready, grant_lines, names_deed, names_go, row_acts, row_transacts, row_executes, row_waits, row_pass, row_sweep}
+use Rattle.lu_target_rows.specs.Replies as kept
+use Rattle.lu_target_rows.specs.Replies.{blocks, block_of, called, is_called, replies}
+use Rattle.lu_target_rows.specs.States.{Target, after, follow, turn as turned}
+use Rattle.lu_covered.specs.Deeds.{asked, deed, locks_of, written_by, again}
+use Rattle.lu_covered.specs.Heads.{Head}
+use Rattle.lu_covered.specs.TargetParts.{is_request_of, is_slot_of as is_slot, answered}
+use Rattle.lu_covered.specs.TargetStates.{Server, none, next_number, server_of, slot_of}
+use Rattle.lu_guards.proofs.Guards.{In, Did, Shows, AllShown, Taken, Owes, EntryOk, EntryOf, GrantOk}
+use Rattle.lu_guards.proofs.Lists.{turn, in_filter}
+use Rattle.lu_guards.proofs.LockLists.{Rises, in_above, rises_filter, granted_stands, stands_same, greatest_same, called_beside, called_now, filter_twice}
+use Rattle.lu_guards.proofs.TargetAlike.{Alike, Serving, serving_line}
+use Rattle.lu_guards.proofs.TargetSlots.{is_slot_self}
+use Rattle.lu_guards.proofs.Turns.{Settled, owes_nothing}
+
+-- ---- what the whole state reads is what the guards speak of
+
+module _ (osts t : ℕ) (v : Target) (s : Server) (h : Alike osts t v s) where
+  next_same : kept.next_number v ≡ next_number s
+  next_same = ap (λ (n : ℕ). record { 0 = n }) (rw (h.number, h.first) (omega arith))
+
+  deed_same : (at : At) (r : RequestOf) (number : TxnOf) (locks : List Lock) → names_deed v at r number locks ≡ deed osts s at r number locks
+  deed_same at r number locks = rw (h.osts, h.tree, h.log, h.boot, h.first, h.committed) refl
+
+  locks_same : (r : RequestOf) → rows.locks_for v r ≡ locks_of osts s r
+  locks_same r = rw (h.osts, h.tree, h.cookie) refl
+
+  change_same : (r : RequestOf) → does_change v r ≡ changes osts s.tree (asked r none)
+  change_same r = rw (h.osts, h.tree) refl
+
+  written_same : (r : RequestOf) → rows.written_by v r ≡ written_by osts s r
+  written_same r = rw (h.osts, h.tree, next_same) refl
+
+  way_same : (r : RequestOf) → in_way v.granted (rows.written_by v r) ≡ in_way s.granted (written_by osts s r)
+  way_same r = rw (h.granted, written_same r) refl
+
+  transacts_same : (at : At) (r : RequestOf) → row_executes v at r true ≡ row_transacts (deed osts s at r (next_number s) [])
+  transacts_same at r =
+      ap (λ (n : TxnOf). row_transacts (names_deed v at r n [])) next_same ∙ ap row_transacts (deed_same at r (next_number s) [])
+
+  acts_same : (at : At) (r : RequestOf) → row_executes v at r false ≡ row_acts (deed osts s at r none (locks_of osts s r))
+  acts_same at r =
+      ap (λ (ls : List Lock). row_acts (names_deed v at r none ls)) (locks_same r) ∙ ap row_acts (deed_same at r none (locks_of osts s r))
+
+-- a reading isn't a transaction
+read_stays : (osts : ℕ) (tree : Tree) (a : Operation) → is_read a.op ≡ true → changes osts tree a ≡ false
+read_stays osts tree a = by a.op
+  where
+    by : (o : Op) → is_read o ≡ true → changes osts tree (record a { op = o }) ≡ false
+    by (op.Lookup path) e = readings_change_nothing osts tree (record a { op = op.Lookup path }) tt
+    by (op.Stat path) e = readings_change_nothing osts tree (record a { op = op.Stat path }) tt
+    by (op.List path) e = readings_change_nothing osts tree (record a { op = op.List path }) tt
+    by (op.Layout path) e = readings_change_nothing osts tree (record a { op = op.Layout path }) tt
+    by o e = absurd (cc)
+
+-- what changes names goes on where no lock is in its way
+ready_free : (v : Target) (stood : Bool) (r : RequestOf) → is_ready v stood r ≡ true → does_change v r ≡ true → is_free (in_way v.granted (rows.written_by v r)) ≡ true
+ready_free v stood r ready moves = by (is_read r.op) (does_change v r) refl refl ready
+  where
+    free : Bool
+    free = is_free (in_way v.granted (rows.written_by v r))
+
+    by : (reads m : Bool) → is_read r.op ≡ reads → does_change v r ≡ m → (if reads then not stood else (not m || free)) ≡ true → free ≡ true
+    by true m e f q = let still : does_change v r ≡ false = read_stays v.setting.osts v.contents.tree (asked r none) e in absurd (cc)
+    by false true e f q = q
+    by false false e f q = absurd (cc)
+
+-- ---- the newest line isn't a message that was taken
+
+abbrev NotTaken : List Line → Type 0
+NotTaken [] = Unit {0}
+NotTaken (l ∷ past) = elim l.entry [ Take n from m ↦ ⊥ | _ ↦ Unit {0} ]
+
+not_taken : (past : List Line) → NotTaken past → Taken past → ⊥
+not_taken past n t = subst NotTaken t.newest n
+
+-- ---- lines of a turn of the metadata target, each allowed; at their end nothing is owed
+
+module _ (head : Head) (stamp : Stamp) where
+  abbrev pub here : At
+  here = turn stamp (node.Target 0)
+
+  abbrev pub LineOk : List Line → Entry → Type 0
+  LineOk past e = Owes past here e × EntryOk past here (node.Target 0) e × EntryOf head (only 0 past) here (node.Target 0) e
+
+  abbrev pub Good : List Line → List Entry → Type 0
+  Good past [] = Settled past
+  Good past (e ∷ es) = LineOk past e × Good (line here e ∷ past) es
+
+  pub good_more : (es fs : List Entry) (past : List Line) → Good past es → Good (with_turn here es past) fs → Good past (es ++ fs)
+  good_more [] fs past g k = k
+  good_more (e ∷ es) fs past g k = (g.0, good_more es fs (line here e ∷ past) g.1 k)
+
+  pub good_settled : (es : List Entry) (past : List Line) → Good past es → Settled (with_turn here es past)
+  good_settled [] past g = g
+  good_settled (e ∷ es) past g = good_settled es (line here e ∷ past) g.1
+
+  abbrev pub ServesAt : Target → List Line → Type 0
+  ServesAt v past = Serving head.osts 0 v (only 0 past)
+
+  pub serves_lines : (es : List Entry) (past : List Line) (v : Target) → Good past es → ServesAt v past → ServesAt (turned v es) (with_turn here es past)
+  serves_lines [] past v g h = h
+  serves_lines (e ∷ es) past v g h = serves_lines es (line here e ∷ past) (after v e) g.1 (serving_line head 0 (only 0 past) stamp e v g.0.2 h)
+
+  abbrev server : List Line → Server
+  server past = server_of head.osts (only 0 past)
+
+  -- ---- what was done is answered
+
+  reply_good : (past : List Line) (d : Deed) → Owes past here (replies d) → Did past d → NotTaken past → AllShown past → (slot_of d.reply.who d.tag (only 0 past)).reply ≡ Some d.reply → d.reply ≡ again (server past) d.reply
+      → Good past (replies d ∷ [])
+  reply_good past d owes did new shown slot is = (
+    (
+      owes,
+      (
+        refl,
+        record { who = d.reply.who; tag = d.tag; kept = d.reply; slot = slot; is = refl; now = inl (d, did, refl) },
+        (λ taken. absurd (not_taken past new taken)),
+        shown,
+      ),
+      record { who = d.reply.who; tag = d.tag; kept = d.reply; slot = slot; is = is; to = refl },
+    ),
+    tt,
+  )
+
+  slot_answered : (d : Deed) (slot : Slot) → (if is_slot d.reply.who d.tag d.reply.who d.tag then answered d slot else slot).reply ≡ Some d.reply
+  slot_answered d slot = ap (λ (x : Slot). x.reply) (cond-true (is_slot d.reply.who d.tag d.reply.who d.tag) (answered d slot) slot (is_slot_self d.reply.who d.tag))
+
+  transacts_good : (past : List Line) (r : RequestOf) → Settled past → In r (server past).waiting → changes head.osts (server past).tree (asked r none) ≡ true
+      → is_free (in_way (server past).granted (written_by head.osts (server past) r)) ≡ true → (server past).count < 4294967295
+      → Good past (row_transacts (deed head.osts (server past) here r (next_number (server past)) []))
+  transacts_good past r settled waits moves free numbers =
+      let s = server past in
+      let d = deed head.osts s here r (next_number s) [] in (
+        (owes_nothing past here (Txn d) settled, refl, record { numbers = numbers; request = r; waits = waits; moves = moves; free = free; is = refl }),
+        reply_good (line here (Txn d) ∷ past) d (refl, refl) refl tt
+            (λ e did lock i. absurd (subst (λ (x : Deed). In lock x.reply.locks) (sym did) i))
+            (slot_answered d (slot_of r.who r.tag (only 0 past)))
+            refl,
+      )
+
+  -- ---- the locks of an act, shown line by line
+
+  still_granted : (past : List Line) (k l : Lock) (d : Deed) → GrantOk head.osts past l d → GrantOk head.osts (line here (Grant k (Some d)) ∷ past) l d
+  still_granted past k l d ok = record { did = ok.did; among = ok.among; granted = ok.granted; cookie = ok.cookie; waiting = ok.waiting; slot = ok.slot }
+
+  grants_good : (d : Deed) (locks : List Lock) (past : List Line) (more : List Entry) → Did past d → ((l : Lock) → Owes past here (Grant l (Some d))) → ((l : Lock) → In l locks → GrantOk head.osts (only 0 past) l d)
+      → Good (with_turn here (grant_lines d locks) past) more → Good past (grant_lines d locks ++ more)
+  grants_good d [] past more did owes ok g = g
+  grants_good d (l ∷ locks) past more did owes ok g =
+      let k = ok l (inl refl) in (
+        (owes l, (refl, did, k.among), k),
+        grants_good d locks (line here (Grant l (Some d)) ∷ past) more did owes (λ j i. still_granted (only 0 past) l j d (ok j (inr i))) g,
+      )
+
+  -- what was done stands so while its locks are shown
+  module _ (d : Deed) where
+    shown_did : (locks : List Lock) (past : List Line) → Did past d → Did (with_turn here (grant_lines d locks) past) d
+    shown_did [] past did = did
+    shown_did (l ∷ locks) past did = shown_did locks (line here (Grant l (Some d)) ∷ past) did
+
+    shown_is : (e : Deed) (locks : List Lock) (past : List Line) → (Did past e → d ≡ e) → Did (with_turn here (grant_lines d locks) past) e → d ≡ e
+    shown_is e [] past is did = is did
+    shown_is e (l ∷ locks) past is did = shown_is e locks (line here (Grant l (Some d)) ∷ past) is did
+
+    shown_all : (k : Lock) (locks : List Lock) (past : List Line) → In k locks ⊎ Shows past k → Shows (with_turn here (grant_lines d locks) past) k
+    shown_all k [] past (inl i) = absurd i
+    shown_all k [] past (inr s) = s
+    shown_all k (l ∷ locks) past (inl (inl e)) = shown_all k locks (line here (Grant l (Some d)) ∷ past) (inr (inl e))
+    shown_all k (l ∷ locks) past (inl (inr i)) = shown_all k locks (line here (Grant l (Some d)) ∷ past) (inl i)
+    shown_all k (l ∷ locks) past (inr s) = shown_all k locks (line here (Grant l (Some d)) ∷ past) (inr (inr s))
+
+    shown_owes : (e : Entry) (locks : List Lock) (past : List Line) → Owes past here e → Owes (with_turn here (grant_lines d locks) past) here e
+    shown_owes e [] past owes = owes
+    shown_owes e (l ∷ locks) past owes = shown_owes e locks (line here (Grant l (Some d)) ∷ past) owes
+
+    shown_new : (locks : List Lock) (past : List Line) → NotTaken past → NotTaken (with_turn here (grant_lines d locks) past)
+    shown_new [] past new = new
+    shown_new (l ∷ locks) past new = shown_new locks (line here (Grant l (Some d)) ∷ past) tt
+
+    shown_slot : (locks : List Lock) (past : List Line) → (slot_of d.reply.who d.tag (only 0 past)).reply ≡ Some d.reply → (slot_of d.reply.who d.tag (only 0 (with_turn here (grant_lines d locks) past))).reply ≡ Some d.reply
+    shown_slot [] past slot = slot
+    shown_slot (l ∷ locks) past slot = shown_slot locks (line here (Grant l (Some d)) ∷ past) slot
+
+    shown_again : (locks : List Lock) (past : List Line) → d.reply ≡ again (server past) d.reply → d.reply ≡ again (server (with_turn here (grant_lines d locks) past)) d.reply
+    shown_again [] past is = is
+    shown_again (l ∷ locks) past is = shown_again locks (line here (Grant l (Some d)) ∷ past) is
+
+  acts_good : (past : List Line) (r : RequestOf) → Settled past → In r (server past).waiting → changes head.osts (server past).tree (asked r none) ≡ false
+      → Good past (row_acts (deed head.osts (server past) here r none (locks_of head.osts (server past) r)))
+  acts_good past r settled waits still = (
+    (owes_nothing past here (Act d) settled, refl, record { request = r; waits = waits; still = still; is = refl }),
+    grants_good d d.reply.locks done (replies d ∷ []) refl (λ l. refl) grant_ok (
+        reply_good (with_turn here (grant_lines d d.reply.locks) done) d
+        (shown_owes d (replies d) d.reply.locks done (refl, refl))
+        (shown_did d d.reply.locks done refl)
+        (shown_new d d.reply.locks done tt)
+        (λ e did lock i. shown_all d lock d.reply.locks done (inl (subst (λ (x : Deed). In lock x.reply.locks) (sym (shown_is d e d.reply.locks done (λ q. q) did)) i)))
+        (shown_slot d d.reply.locks done (slot_answered d (slot_of r.who r.tag (only 0 past))))
+        (shown_again d d.reply.locks done refl)
+        ),
+  )
+    where
+      s : Server
+      s = server past
+
+      d : Deed
+      d = deed head.osts s here r none (locks_of head.osts s r)
+
+      done : List Line
+      done = line here (Act d) ∷ past
+
+      grant_ok : (l : Lock) → In l d.reply.locks → GrantOk head.osts (only 0 done) l d
+      grant_ok l i =
+          record {
+            did = refl;
+            among = i;
+            granted = stands_same l (server done).granted (granted_stands s.cookie r.who (grants head.osts s.tree (asked r none)) s.granted l i);
+            cookie = greatest_same s.cookie d.reply.locks l i;
+            waiting = filter_twice (λ q. not (is_request_of d q)) s.waiting;
+            slot = slot_answered d (slot_of r.who r.tag (only 0 past));
+          }
+
+  -- ---- an execution
+
+  executes_good : (past : List Line) (v : Target) (r : RequestOf) (stood : Bool) → Settled past → ServesAt v past → In r v.queue → is_ready v stood r ≡ true → (does_change v r ≡ true → v.number < 8589934591)
+      → Good past (row_executes v here r (does_change v r))
+  executes_good past v r stood settled h waits ready numbers = by (does_change v r) refl
+    where
+      s : Server
+      s = server past
+
+      a : Alike head.osts 0 v s
+      a = h.alike
+
+      in_waiting : In r s.waiting
+      in_waiting = subst (λ (rs : List RequestOf). In r rs) a.queue waits
+
+      by : (b : Bool) → does_change v r ≡ b → Good past (row_executes v here r b)
+      by true e =
+          subst (λ (es : List Entry). Good past es) (sym (transacts_same head.osts 0 v s a here r)) (
+          transacts_good past r settled in_waiting (sym (change_same head.osts 0 v s a r) ∙ e)
+          (subst (λ (ls : List Lock). is_free ls ≡ true) (way_same head.osts 0 v s a r) (ready_free v stood r ready e))
+          (let low = numbers e in let is = a.number in omega (arith, low, is))
+          )
+      by false e =
+          subst (λ (es : List Entry). Good past es) (sym (acts_same head.osts 0 v s a here r)) (
+          acts_good past r settled in_waiting (sym (change_same head.osts 0 v s a r) ∙ e)
+          )
+
+  -- ---- locks are called back
+
+  -- of the state that the row reads, while some of them are called back already
+  blocks_good : (v : Target) (r : RequestOf) (locks : List Lock) (past : List Line) → Settled past → v.boot ≡ (server past).boot → Rises locks
+      → ((l : Lock) → In l locks → In l (server past).granted) → ((l : Lock) → In l locks → is_called l.cookie v.called ≡ is_called l.cookie (server past).called)
+      → In r (server past).waiting → is_read r.op ≡ false → ((l : Lock) → In l locks → list_any (guards_part l) (written_by head.osts (server past) r) ≡ true)
+      → Good past (blocks v locks)
+  blocks_good v r [] past settled boot rises granted same waits modifies for_it = settled
+  blocks_good v r (l ∷ locks) past settled boot rises granted same waits modifies for_it =
+      cond_both (is_called l.cookie v.called) (blocks v locks) (Block c ∷ block_of v l ∷ blocks v locks) (λ (es : List Entry). Good past es)
+      (λ e. blocks_good v r locks past settled boot rises.1 (λ k i. granted k (inr i)) (λ k i. same k (inr i)) waits modifies (λ k i. for_it k (inr i)))
+      (λ e. (
+        (
+          owes_nothing past here (Block c) settled,
+          refl,
+          record {
+            lock = l;
+            granted = granted l (inl refl);
+            of_cookie = refl;
+            of_life = refl;
+            new = sym (same l (inl refl)) ∙ e;
+            request = r;
+            waits = waits;
+            modifies = modifies;
+            for_it = for_it l (inl refl);
+          },
+        ),
+        (
+          (
+            tt,
+            refl,
+            record {
+              lock = l;
+              granted = granted l (inl refl);
+              of_life = refl;
+              of_boot = boot;
+              of_cookie = refl;
+              to = refl;
+              called = called_now l.cookie (server past).called c refl;
+            },
+          ),
+          blocks_good v r locks (line here (block_of v l) ∷ line here (Block c) ∷ past) tt boot rises.1 (λ k i. granted k (inr i))
+              (λ k i. same k (inr i) ∙ sym (called_beside k.cookie (server past).called c (in_above l.cookie.0 locks k rises.0 i)))
+              waits modifies (λ k i. for_it k (inr i)),
+        ),
+      ))
+    where
+      c : Called
+      c = called v l
+
+  waits_good : (past : List Line) (v : Target) (r : RequestOf) → Settled past → ServesAt v past → In r v.queue → Good past (row_waits v r)
+  waits_good past v r settled h waits =
+      cond_both (is_read r.op) [] (blocks v (in_way v.granted (rows.written_by v r))) (λ (es : List Entry). Good past es)
+      (λ e. settled)
+      (λ e.
+      blocks_good v r (in_way v.granted (rows.written_by v r)) past settled (a.boot ∙ sym a.first) (rises_filter way v.granted (subst Rises (sym a.granted) a.rises))
+      (λ l i. subst (λ (ls : List Lock). In l ls) a.granted (in_filter way l v.granted i).0)
+      (λ l i. ap (is_called l.cookie) a.called)
+      (subst (λ (rs : List RequestOf). In r rs) a.queue waits)
+      e
+      (λ l i. subst (λ (ps : List Part). list_any (guards_part l) ps ≡ true) (written_same head.osts 0 v (server past) a r) (in_filter way l v.granted i).1))
+    where
+      a : Alike head.osts 0 v (server past)
+      a = h.alike
+
+      way : Lock → Bool
+      way l = list_any (guards_part l) (rows.written_by v r)
+
+-- ---- what the lines of a pass leave: the list of requests while locks are called back, and numbers
+
+turned_more : (es fs : List Entry) (v : Target) → turned v (es ++ fs) ≡ turned (turned v es) fs
+turned_more [] fs v = refl
+turned_more (e ∷ es) fs v = turned_more es fs (after v e)
+
+abbrev Leaves : Target → Target → Type 0
+Leaves v w = (w.queue ≡ v.queue) × (w.number ≡ v.number)
+
+blocks_leave : (v : Target) (locks : List Lock) (w : Target) → Leaves w (turned w (blocks v locks))
+blocks_leave v [] w = (refl, refl)
+blocks_leave v (l ∷ locks) w =
+    cond_both (is_called l.cookie v.called) (blocks v locks) (Block (called v l) ∷ block_of v l ∷ blocks v locks) (λ (es : List Entry). Leaves w (turned w es))
+    (λ e. blocks_leave v locks w)
+    (λ e. blocks_leave v locks (after w (Block (called v l))))
+
+waits_leave : (v : Target) (r : RequestOf) → Leaves v (turned v (row_waits v r))
+waits_leave v r =
+    cond_both (is_read r.op) [] (blocks v (in_way v.granted (rows.written_by v r))) (λ (es : List Entry). Leaves v (turned v es)) (λ e. (refl, refl)) (λ e. blocks_leave v (in_way v.granted (rows.written_by v r)) v)
+
+grants_number : (d : Deed) (locks : List Lock) (v : Target) → (turned v (grant_lines d locks)).number ≡ v.number
+grants_number d [] v = refl
+grants_number d (l ∷ locks) v = grants_number d locks (after v (Grant l (Some d)))
+
+executes_number : (at : At) (v : Target) (r : RequestOf) (b : Bool) → (turned v (row_executes v at r b)).number ≡ (if b then v.number + 1 else v.number)
+executes_number at v r true = refl
+executes_number at v r false =
+    let d = names_deed v at r none (rows.locks_for v r) in
+    ap (λ (w : Target). w.number) (turned_more (grant_lines d d.reply.locks) (replies d ∷ []) (after v (Act d))) ∙ grants_number d d.reply.locks (after v (Act d))
+
+abbrev Raises : (Target → List Entry) → Type 0
+Raises next = (w : Target) → w.number ≤ (turned w (next w)).number
+
+follow_raises : (v : Target) (es : List Entry) (next : Target → List Entry) → v.number ≤ (turned v es).number → (turned v es).number ≤ (turned (turned v es) (next (turned v es))).number → v.number ≤ (turned v (follow v es next)).number
+follow_raises v es next one two =
+    subst (λ (w : Target). v.number ≤ w.number) (sym (turned_more es (next (turned v es)) v)) (omega (arith, one, two))
+
+pass_raises : (again : Target → List Entry) → Raises again → (at : At) (queue : List RequestOf) (v : Target) (stood : Bool) → v.number ≤ (turned v (row_pass again v at stood queue)).number
+pass_raises again raises at [] v stood = omega arith
+pass_raises again raises at (r ∷ queue) v stood =
+    let es = row_executes v at r (does_change v r) in
+    let bs = row_waits v r in
+    let next = λ (w : Target). row_pass again w at (stood || not (is_read r.op)) queue in
+    cond_both (is_ready v stood r) (follow v es again) (follow v bs next) (λ (fs : List Entry). v.number ≤ (turned v fs).number)
+    (λ e. follow_raises v es again (executed (does_change v r)) (raises (turned v es)))
+    (λ e. follow_raises v bs next (let same = (waits_leave v r).1 in omega (arith, same)) (pass_raises again raises at queue (turned v bs) (stood || not (is_read r.op))))
+  where
+    executed : (b : Bool) → v.number ≤ (turned v (row_executes v at r b)).number
+    executed true = let is = executes_number at v r true in omega (arith, is)
+    executed false = let is = executes_number at v r false in omega (arith, is)
+
+sweep_raises : (more : ℕ) (at : At) → Raises (row_sweep more at)
+sweep_raises zero at w = omega arith
+sweep_raises (suc more) at w = pass_raises (row_sweep more at) (sweep_raises more at) at w.queue w false
+
+-- ---- the pass, and the sweep
+
+-- a turn's numbers aren't used up
+abbrev pub High : Target → List Entry → Type 0
+High v es = (turned v es).number ≤ 8589934591
+
+module _ (head : Head) (stamp : Stamp) where
+  abbrev at : At
+  at = turn stamp (node.Target 0)
+
+  abbrev Goes : (Target → List Entry) → Type 0
+  Goes next = (past : List Line) (v : Target) → Settled past → ServesAt head stamp v past → High v (next v) → Good head stamp past (next v)
+
+  pass_good : (again : Target → List Entry) → Raises again → Goes again → (queue : List RequestOf) (past : List Line) (v : Target) (stood : Bool) → Settled past → ServesAt head stamp v past → ((r : RequestOf) → In r queue → In r v.queue)
+      → High v (row_pass again v at stood queue) → Good head stamp past (row_pass again v at stood queue)
+  pass_good again raises goes [] past v stood settled h sub high = settled
+  pass_good again raises goes (r ∷ queue) past v stood settled h sub high =
+      by (is_ready v stood r) refl high (λ w p s k q m. pass_good again raises goes queue p w (stood || not (is_read r.op)) s k q m)
+    where
+      es : List Entry
+      es = row_executes v at r (does_change v r)
+
+      bs : List Entry
+      bs = row_waits v r
+
+      next : Target → List Entry
+      next w = row_pass again w at (stood || not (is_read r.op)) queue
+
+      waiting : In r v.queue
+      waiting = sub r (inl refl)
+
+      More : Type 0
+      More = (w : Target) (p : List Line) → Settled p → ServesAt head stamp w p → ((q : RequestOf) → In q queue → In q w.queue) → High w (next w) → Good head stamp p (next w)
+
+      -- a transaction's number is at most that at the end
+      low : High (turned v es) (again (turned v es)) → does_change v r ≡ true → v.number < 8589934591
+      low high e =
+          let one : (turned v es).number ≡ v.number + 1 = ap (λ (b : Bool). (turned v (row_executes v at r b)).number) e in
+          let two = raises (turned v es) in
+          omega (arith, high, one, two)
+
+      by : (b : Bool) → is_ready v stood r ≡ b → High v (if b then follow v es again else follow v bs next) → More → Good head stamp past (if b then follow v es again else follow v bs next)
+      by true ready high more =
+          let rest : High (turned v es) (again (turned v es)) = subst (λ (w : Target). w.number ≤ 8589934591) (turned_more es (again (turned v es)) v) high in
+          let done = executes_good head stamp past v r stood settled h waiting ready (low rest) in
+          good_more head stamp es (again (turned v es)) past done
+          (goes (with_turn at es past) (turned v es) (good_settled head stamp es past done) (serves_lines head stamp es past v done h) rest)
+      by false ready high more =
+          let rest : High (turned v bs) (next (turned v bs)) = subst (λ (w : Target). w.number ≤ 8589934591) (turned_more bs (next (turned v bs)) v) high in
+          let done = waits_good head stamp past v r settled h waiting in
+          let leaves = waits_leave v r in
+          good_more head stamp bs (next (turned v bs)) past done
+          (more (turned v bs) (with_turn at bs past) (good_settled head stamp bs past done) (serves_lines head stamp bs past v done h)
+          (λ q i. subst (λ (rs : List RequestOf). In q rs) (sym leaves.0) (sub q (inr i))) rest)
+
+  sweep_good : (more : ℕ) → Goes (row_sweep more at)
+  sweep_good zero past v settled h high = settled
+  sweep_good (suc more) past v settled h high = pass_good (row_sweep more at) (sweep_raises more at) (sweep_good more) v.queue past v false settled h (λ r i. i) high
+
+  pub names_good : Goes (names_go at)
+  names_good past v settled h high = sweep_good (length v.queue + 1) past v settled h high

@@ -1,0 +1,103 @@
+-- The slot of a life and tag at a target of the whole table, entry by entry, is that of the target's story.
+use Rattle.std.proofs.Common.{◌≡◌, ℕ, Bool, true, false, List, [], ◌∷◌, Option, Some, None, refl, sym, subst, ap, ◌∙◌}
+use Rattle.std.specs.Prelude.{nat_eq, if◌then◌else◌}
+use Rattle.std.proofs.lemmas.Bool.{and_parts, eqb-true}
+use Rattle.lu_base.specs.declared.ids.Who.{Who}
+use Rattle.lu_msg.specs.declared.messages.Reply.{Reply as ReplyTo}
+use Rattle.lu_msg.specs.declared.messages.Request.{Request as RequestOf}
+use Rattle.lu_words.specs.Carried.{Deed, Slot, LifeSlot}
+use Rattle.lu_words.specs.Words.{Line, same_life}
+use Rattle.lu_target_rows.specs.Lives.{slot_in, with_slot, slots_entered, slots_answered}
+use Rattle.lu_covered.specs.TargetParts.{is_slot_of as is_slot}
+use Rattle.lu_covered.specs.TargetStates.{slot_of}
+use Rattle.lu_guards.proofs.Lists.{self, life_is}
+
+-- ---- two lives and tags are one, or not
+
+pub is_slot_self : (who : Who) (tag : ℕ) → is_slot who tag who tag ≡ true
+is_slot_self who tag = rw (self who.client, self who.life, self tag) refl
+
+slot_who : (who other : Who) (tag of_tag : ℕ) → is_slot who tag other of_tag ≡ true → (who ≡ other) × (tag ≡ of_tag)
+slot_who who other tag of_tag e =
+    let p = and_parts (same_life who other) (nat_eq tag of_tag) e in (life_is who other p.0, eqb-true tag of_tag p.1)
+
+not_itself : (who : Who) (tag : ℕ) → is_slot who tag who tag ≡ false → ⊥
+not_itself who tag e = let f : true ≡ false = sym (is_slot_self who tag) ∙ e in absurd (cc)
+
+differ : (who other : Who) (tag of_tag : ℕ) → is_slot who tag other of_tag ≡ true → is_slot other of_tag who tag ≡ false → ⊥
+differ who other tag of_tag p q = let k = slot_who who other tag of_tag p in not_itself other of_tag (rw (k.0, k.1) at q)
+
+-- ---- what stands in a slot once it was put there
+
+slot_with : (who : Who) (tag : ℕ) (x : Slot) (slots : List LifeSlot) (w : Who) (u : ℕ) → slot_in (with_slot who tag x slots) w u ≡ (if is_slot who tag w u then x else slot_in slots w u)
+slot_with who tag x [] w u = refl
+slot_with who tag x (s ∷ slots) w u = by (is_slot s.who s.tag who tag) (is_slot s.who s.tag w u) (is_slot who tag w u) refl refl refl (slot_with who tag x slots w u)
+  where
+    Goal : Bool → Bool → Bool → Type 0
+    Goal here mine same =
+        slot_in (if here then record { who = who; tag = tag; slot = x } ∷ slots else s ∷ with_slot who tag x slots) w u ≡ (if same then x else (if mine then s.slot else slot_in slots w u))
+
+    by : (here mine same : Bool) → is_slot s.who s.tag who tag ≡ here → is_slot s.who s.tag w u ≡ mine → is_slot who tag w u ≡ same
+        → slot_in (with_slot who tag x slots) w u ≡ (if is_slot who tag w u then x else slot_in slots w u) → Goal here mine same
+    by true mine true a b c ih = rw c refl
+    by true true false a b c ih =
+        let p = slot_who s.who who s.tag tag a in
+        let q = slot_who s.who w s.tag u b in
+        absurd (not_itself s.who s.tag (rw (sym p.0, sym p.1, sym q.0, sym q.1) at c))
+    by true false false a b c ih = rw c refl
+    by false true true a b c ih =
+        let p = slot_who s.who w s.tag u b in
+        let q = slot_who who w tag u c in
+        absurd (not_itself w u (rw (p.0, p.1, q.0, q.1) at a))
+    by false true false a b c ih = rw b refl
+    by false false true a b c ih = rw (b, ih, c) refl
+    by false false false a b c ih = rw (b, ih, c) refl
+
+-- of two slots that are put there, one by each
+pick : (a : Who) (b : ℕ) (who : Who) (tag : ℕ) (x y old new : Slot) → (who ≡ a → tag ≡ b → x ≡ y) → old ≡ new → (if is_slot a b who tag then x else old) ≡ (if is_slot who tag a b then y else new)
+pick a b who tag x y old new same rest = by (is_slot a b who tag) (is_slot who tag a b) refl refl
+  where
+    by : (m n : Bool) → is_slot a b who tag ≡ m → is_slot who tag a b ≡ n → (if m then x else old) ≡ (if n then y else new)
+    by true true p q = let k = slot_who who a tag b q in same k.0 k.1
+    by true false p q = absurd (differ a who b tag p q)
+    by false true p q = absurd (differ who a tag b q p)
+    by false false p q = rest
+
+-- ---- the slots of a state are those of a story
+
+abbrev pub SlotsAlike : List LifeSlot → List Line → Type 0
+SlotsAlike slots past = (who : Who) (tag : ℕ) → slot_in slots who tag ≡ slot_of who tag past
+
+abbrev with_reply : Option ReplyTo → Slot → Slot
+with_reply reply slot = record { taken = slot.taken; reply = reply }
+
+pub slots_enter : (slots : List LifeSlot) (past : List Line) (r : RequestOf) → SlotsAlike slots past → (who : Who) (tag : ℕ)
+    → slot_in (slots_entered r slots) who tag ≡ (if is_slot who tag r.who r.tag then record { taken = r.xid.0; reply = None } else slot_of who tag past)
+slots_enter slots past r h who tag =
+    let x : Slot = record { taken = r.xid.0; reply = None } in
+    slot_with r.who r.tag x slots who tag ∙ pick r.who r.tag who tag x x (slot_in slots who tag) (slot_of who tag past) (λ p q. refl) (h who tag)
+
+pub slots_answer : (slots : List LifeSlot) (past : List Line) (d : Deed) → SlotsAlike slots past → (who : Who) (tag : ℕ)
+    → slot_in (slots_answered d slots) who tag ≡ (if is_slot who tag d.reply.who d.tag then with_reply (Some d.reply) (slot_of who tag past) else slot_of who tag past)
+slots_answer slots past d h who tag =
+    let x : Slot = with_reply (Some d.reply) (slot_in slots d.reply.who d.tag) in
+    let y : Slot = with_reply (Some d.reply) (slot_of who tag past) in
+    slot_with d.reply.who d.tag x slots who tag
+    ∙ pick d.reply.who d.tag who tag x y (slot_in slots who tag) (slot_of who tag past) (λ p q. ap (with_reply (Some d.reply)) (same p q)) (h who tag)
+  where
+    same : who ≡ d.reply.who → tag ≡ d.tag → slot_in slots d.reply.who d.tag ≡ slot_of who tag past
+    same p q =
+        let of_tag : slot_in slots who d.tag ≡ slot_of who tag past = subst (λ (u : ℕ). slot_in slots who u ≡ slot_of who tag past) q (h who tag) in
+        subst (λ (w : Who). slot_in slots w d.tag ≡ slot_of who tag past) p of_tag
+
+-- a reply that stands there already changes nothing
+pub slots_again : (slots : List LifeSlot) (past : List Line) (d : Deed) → (slot_of d.reply.who d.tag past).reply ≡ Some d.reply → SlotsAlike slots past → SlotsAlike (slots_answered d slots) past
+slots_again slots past d stands h who tag = slots_answer slots past d h who tag ∙ by (is_slot who tag d.reply.who d.tag) refl
+  where
+    by : (b : Bool) → is_slot who tag d.reply.who d.tag ≡ b → (if b then with_reply (Some d.reply) (slot_of who tag past) else slot_of who tag past) ≡ slot_of who tag past
+    by false e = refl
+    by true e =
+        let k = slot_who who d.reply.who tag d.tag e in
+        let of_tag : (slot_of d.reply.who tag past).reply ≡ Some d.reply = subst (λ (u : ℕ). (slot_of d.reply.who u past).reply ≡ Some d.reply) (sym k.1) stands in
+        let own : (slot_of who tag past).reply ≡ Some d.reply = subst (λ (w : Who). (slot_of w tag past).reply ≡ Some d.reply) (sym k.0) of_tag in
+        ap (λ (x : Option ReplyTo). with_reply x (slot_of who tag past)) (sym own)

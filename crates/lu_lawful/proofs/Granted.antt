@@ -1,0 +1,188 @@
+-- The granted locks that a printed past shows: each was given, and each lock that the metadata target has granted is among them,
+-- but for those of what was just done. None waits there.
+use Rattle.std.proofs.Common.{◌≡◌, ℕ, Bool, true, false, List, [], ◌∷◌, ◌⊎◌, inl, inr, ⊎_elim, Some, None, refl, sym, subst, ap}
+use Rattle.std.specs.Prelude.{nat_eq, nat_lt, not, if◌then◌else◌}
+use Rattle.std.proofs.lemmas.Bool.{and_parts, cond_both, cond-true, eqb-true}
+use Rattle.lu_base.specs.declared.ids.Node.{Node}
+use Rattle.lu_base.specs.declared.ids.Node.TheVariants.{Client, Target}
+use Rattle.lu_base.specs.declared.ids.Stamp.{Stamp}
+use Rattle.lu_base.specs.declared.locks.Lock.{Lock}
+use Rattle.lu_msg.specs.declared.messages.Message.TheVariants as message
+use Rattle.lu_machine.specs.Tree.{same_life}
+use Rattle.lu_words.specs.Carried.{Deed}
+use Rattle.lu_words.specs.Words.{Entry, Send, Act, Grant, Wait, Release, Crash, Restore, Evict, Line, line}
+use Rattle.lu_words.specs.Printed.{printed}
+use Rattle.lu_target_rows.specs.Locks.{with_lock, with_locks, without_lock}
+use Rattle.lu_covered.specs.TargetStates.{granted_at}
+use Rattle.lu_covered.specs.Heads.{Head}
+use Rattle.lu_laws.specs.Words.Pasts.{or_else}
+use Rattle.lu_laws.specs.Words.Queues.{has_cookie, without, without_first, granted, waiting}
+use Rattle.lu_laws.specs.Words.Held.{is_given, given}
+use Rattle.lu_guards.proofs.Guards.{In, Did, Shows, EntryOk, Allowed, Grown}
+use Rattle.lu_guards.proofs.Lists.{self, in_filter, in_filtered}
+use Rattle.lu_facts.proofs.Groups.{turn}
+use Rattle.lu_lawful.proofs.Turns.{same_life_self}
+use Rattle.lu_lawful.proofs.Given.{owed, Showed}
+
+-- ---- one more lock
+
+in_with_lock : (k l : Lock) (locks : List Lock) → In l (with_lock k locks) → (k ≡ l) ⊎ In l locks
+in_with_lock k l [] i = i
+in_with_lock k l (x ∷ locks) i =
+    cond_both (nat_eq k.cookie.0 x.cookie.0) (k ∷ locks) (if nat_lt k.cookie.0 x.cookie.0 then k ∷ x ∷ locks else x ∷ with_lock k locks) (λ (ls : List Lock). In l ls → (k ≡ l) ⊎ In l (x ∷ locks))
+    (λ e j. ⊎_elim (λ (q : k ≡ l). inl q) (λ (q : In l locks). inr (inr q)) j)
+    (λ e. cond_both (nat_lt k.cookie.0 x.cookie.0) (k ∷ x ∷ locks) (x ∷ with_lock k locks) (λ (ls : List Lock). In l ls → (k ≡ l) ⊎ In l (x ∷ locks))
+    (λ lt j. j)
+    (λ lt j. ⊎_elim (λ (q : x ≡ l). inr (inl q)) (λ (q : In l (with_lock k locks)). ⊎_elim (λ (r : k ≡ l). inl r) (λ (r : In l locks). inr (inr r)) (in_with_lock k l locks q)) j))
+    i
+
+pub in_with_locks : (more : List Lock) (l : Lock) (locks : List Lock) → In l (with_locks more locks) → In l more ⊎ In l locks
+in_with_locks [] l locks i = inr i
+in_with_locks (k ∷ more) l locks i =
+    ⊎_elim
+    (λ (q : In l more). inl (inr q))
+    (λ (q : In l (with_lock k locks)). ⊎_elim (λ (r : k ≡ l). inl (inl r)) (λ (r : In l locks). inr r) (in_with_lock k l locks q))
+    (in_with_locks more l (with_lock k locks) i)
+
+-- ---- what is granted was shown
+
+pub granted_showed : (head : Head) (past : List Line) (l : Lock) → Grown head past → In l (granted 0 (printed past)) → Showed past l
+granted_showed head [] l g i = absurd i
+granted_showed head (x ∷ past) l g i = by x.at.node x.entry g.0.ok i (granted_showed head past l g.1)
+  where
+    G : List Lock
+    G = granted 0 (printed past)
+
+    by : (node : Node) (e : Entry) → EntryOk past (turn x.at.stamp node) node e → In l (granted 0 (printed (line (turn x.at.stamp node) e ∷ past))) → (In l G → Showed past l) → Showed (line (turn x.at.stamp node) e ∷ past) l
+    by (Client c) (Grant lock asked) ok i h = absurd ok
+    by (Target t) (Grant lock (Some d)) ok i h =
+        cond_both (nat_eq t 0) (lock ∷ G) G (λ (ls : List Lock). In l ls → Showed (line (turn x.at.stamp (Target t)) (Grant lock (Some d)) ∷ past) l)
+        (λ e j. ⊎_elim (λ (q : lock ≡ l). inl (ap Target ok.0, q)) (λ (q : In l G). inr (h q)) j)
+        (λ e j. inr (h j))
+        i
+    by (Target t) (Grant lock asked) ok i h = absurd ok
+    by (Client c) (Release lock) ok i h = absurd ok
+    by (Target t) (Release lock) ok i h = cond_both (nat_eq t 0) (without lock.cookie.0 G) G (λ (ls : List Lock). In l ls → Showed past l) (λ e j. h (in_filter (λ (k : Lock). not (has_cookie lock.cookie.0 k)) l G j).0) (λ e j. h j) i
+    by (Client c) Crash ok i h = absurd ok
+    by (Target t) Crash ok i h = absurd ok
+    by (Client c) (Restore lock) ok i h = absurd ok
+    by (Target t) (Restore lock) ok i h = absurd ok
+    by node e ok i h = h i
+
+-- ---- what the target has granted is
+
+-- a lock of what was just done
+abbrev pub JustGave : List Line → Lock → Type 0
+JustGave past l = (d : Deed) × Did past d × In l d.reply.locks
+
+shows_granted : (head : Head) (past : List Line) (l : Lock) → Grown head past → Shows past l → In l (granted 0 (printed past))
+shows_granted head [] l g s = absurd s
+shows_granted head (x ∷ past) l g s = by x.at.node x.entry g.0.ok s (shows_granted head past l g.1)
+  where
+    G : List Lock
+    G = granted 0 (printed past)
+
+    by : (node : Node) (e : Entry) → EntryOk past (turn x.at.stamp node) node e → Shows (line (turn x.at.stamp node) e ∷ past) l → (Shows past l → In l G) → In l (granted 0 (printed (line (turn x.at.stamp node) e ∷ past)))
+    by (Client c) (Grant lock asked) ok s h = absurd ok
+    by (Target t) (Grant lock (Some d)) ok s h =
+        subst (λ (ls : List Lock). In l ls) (sym (cond-true (nat_eq t 0) (lock ∷ G) G (ap (λ (v : ℕ). nat_eq v 0) ok.0)))
+        (⊎_elim (λ (q : lock ≡ l). inl q) (λ (q : Shows past l). inr (h q)) s)
+    by (Target t) (Grant lock asked) ok s h = absurd ok
+    by node e ok s h = absurd s
+
+abbrev pub AllGranted : List Line → Type 0
+AllGranted past = (l : Lock) → In l (granted_at 0 past) → In l (granted 0 (printed past)) ⊎ JustGave past l
+
+-- where nothing was just done
+settles : (past : List Line) (l : Lock) → ((d : Deed) → Did past d → ⊥) → In l (granted 0 (printed past)) ⊎ JustGave past l → In l (granted 0 (printed past))
+settles past l none (inl i) = i
+settles past l none (inr j) = absurd (none j.0 j.1)
+
+keeps_granted : (head : Head) (past : List Line) (stamp : Stamp) (node : Node) (e : Entry) → Allowed head past (turn stamp node) e → Grown head past → AllGranted past → AllGranted (line (turn stamp node) e ∷ past)
+keeps_granted head past stamp (Client c) (Act d) a g h l i = absurd a.ok
+keeps_granted head past stamp (Target t) (Act d) a g h l i =
+    cond_both (nat_eq 0 t) (with_locks d.reply.locks (granted_at 0 past)) (granted_at 0 past) (λ (ls : List Lock). In l ls → In l (granted 0 (printed past)) ⊎ JustGave (line (turn stamp (Target t)) (Act d) ∷ past) l)
+    (λ e j. ⊎_elim (λ (q : In l d.reply.locks). inr (d, refl, q)) (λ (q : In l (granted_at 0 past)). inl (old q)) (in_with_locks d.reply.locks l (granted_at 0 past) j))
+    (λ e j. inl (old j))
+    i
+  where
+    old : In l (granted_at 0 past) → In l (granted 0 (printed past))
+    old q = settles past l (λ f did. owed past (turn stamp (Target t)) f (Act d) did a.owes) (h l q)
+keeps_granted head past stamp (Client c) (Release lock) a g h l i = absurd a.ok
+keeps_granted head past stamp (Target t) (Release lock) a g h l i =
+    let here : nat_eq t 0 ≡ true = ap (λ (v : ℕ). nat_eq v 0) a.ok.0 in
+    let there : nat_eq 0 t ≡ true = ap (λ (v : ℕ). nat_eq 0 v) a.ok.0 in
+    let j = subst (λ (ls : List Lock). In l ls) (cond-true (nat_eq 0 t) (without_lock lock (granted_at 0 past)) (granted_at 0 past) there) i in
+    let k = in_filter (λ (x : Lock). not (nat_eq x.cookie.0 lock.cookie.0)) l (granted_at 0 past) j in
+    let old = settles past l (λ f did. owed past (turn stamp (Target t)) f (Release lock) did a.owes) (h l k.0) in
+    inl (subst (λ (ls : List Lock). In l ls) (sym (cond-true (nat_eq t 0) (without lock.cookie.0 (granted 0 (printed past))) (granted 0 (printed past)) here)) (in_filtered (λ (x : Lock). not (has_cookie lock.cookie.0 x)) l (granted 0 (printed past)) old k.1))
+keeps_granted head past stamp (Client c) (Grant lock asked) a g h l i = absurd a.ok
+keeps_granted head past stamp (Target t) (Grant lock asked) a g h l i = ⊎_elim
+    (λ (q : In l (granted 0 (printed past))). inl (cond_both (nat_eq t 0) (lock ∷ granted 0 (printed past)) (granted 0 (printed past)) (λ (ls : List Lock). In l ls) (λ e. inr q) (λ e. q)))
+    (λ (q : JustGave past l). inr q)
+    (h l i)
+keeps_granted head past stamp (Target t) (Send (Client c) (message.Reply r)) a g h l i = ⊎_elim (λ (q : In l (granted 0 (printed past))). inl q) (λ (q : JustGave past l). inl (shows_granted head past l g (a.ok.3 q.0 q.1 l q.2))) (h l i)
+keeps_granted head past stamp (Client b) (Send (Client c) (message.Reply r)) a g h l i = absurd a.ok
+keeps_granted head past stamp (Client c) Crash a g h l i = absurd a.ok
+keeps_granted head past stamp (Target t) Crash a g h l i = absurd a.ok
+keeps_granted head past stamp (Client c) (Restore lock) a g h l i = absurd a.ok
+keeps_granted head past stamp (Target t) (Restore lock) a g h l i = absurd a.ok
+keeps_granted head past stamp node e a g h l i = inl (settles past l (λ f did. owed past (turn stamp node) f e did a.owes) (h l i))
+
+pub all_granted : (head : Head) (past : List Line) → Grown head past → AllGranted past
+all_granted head [] g l i = absurd i
+all_granted head (x ∷ past) g l i = keeps_granted head past x.at.stamp x.at.node x.entry g.0 g.1 (all_granted head past g.1) l i
+
+-- ---- the lock under a cookie
+
+-- no two locks that were shown have one cookie
+abbrev pub Unique : List Line → Type 0
+Unique past = (k l : Lock) → Showed past k → Showed past l → k.cookie.0 ≡ l.cookie.0 → k ≡ l
+
+given_before : (head : Head) (past : List Line) (l : Lock) → Grown head past → ((k : Lock) → Showed past k → k.cookie.0 ≡ l.cookie.0 → k ≡ l) → Showed past l → given 0 l.ask.who l.cookie.0 (printed past) ≡ Some l
+given_before head [] l g one s = absurd s
+given_before head (x ∷ past) l g one s = by x.at.node x.entry g.0.ok one s (given_before head past l g.1)
+  where
+    Goal : Node → Entry → Type 0
+    Goal node e = given 0 l.ask.who l.cookie.0 (printed (line (turn x.at.stamp node) e ∷ past)) ≡ Some l
+
+    its_own : is_given 0 l.ask.who l.cookie.0 (Target 0) l ≡ true
+    its_own = rw (self l.cookie.0, same_life_self l.ask.who) refl
+
+    shown : (k : Lock) (b : Bool) → is_given 0 l.ask.who l.cookie.0 (Target 0) k ≡ b → (k.cookie.0 ≡ l.cookie.0 → k ≡ l) → (k ≡ l) ⊎ (given 0 l.ask.who l.cookie.0 (printed past) ≡ Some l)
+        → or_else (if b then Some k else None) (given 0 l.ask.who l.cookie.0 (printed past)) ≡ Some l
+    shown k true e one s = let p = and_parts (has_cookie l.cookie.0 k) (same_life k.ask.who l.ask.who) e in ap (λ (v : Lock). Some v) (one (eqb-true k.cookie.0 l.cookie.0 p.0))
+    shown k false e one (inl q) = let f = subst (λ (v : Lock). is_given 0 l.ask.who l.cookie.0 (Target 0) v ≡ false) q e in let t = its_own in absurd (cc)
+    shown k false e one (inr i) = i
+
+    by : (node : Node) (e : Entry) → EntryOk past (turn x.at.stamp node) node e → ((k : Lock) → Showed (line (turn x.at.stamp node) e ∷ past) k → k.cookie.0 ≡ l.cookie.0 → k ≡ l) → Showed (line (turn x.at.stamp node) e ∷ past) l
+        → (((k : Lock) → Showed past k → k.cookie.0 ≡ l.cookie.0 → k ≡ l) → Showed past l → given 0 l.ask.who l.cookie.0 (printed past) ≡ Some l) → Goal node e
+    by (Client c) (Grant lock asked) ok one s h = absurd ok
+    by (Target t) (Grant lock (Some d)) ok one s h =
+        subst (λ (v : ℕ). Goal (Target v) (Grant lock (Some d))) (sym ok.0)
+        (shown lock (is_given 0 l.ask.who l.cookie.0 (Target 0) lock) refl (one lock (inl (ap Target ok.0, refl)))
+        (⊎_elim (λ (q : (Target t ≡ Target 0) × (lock ≡ l)). inl q.1) (λ (q : Showed past l). inr (h (λ k i. one k (inr i)) q)) s))
+    by (Target t) (Grant lock asked) ok one s h = absurd ok
+    by (Client c) (Restore lock) ok one s h = absurd ok
+    by (Target t) (Restore lock) ok one s h = absurd ok
+    by node e ok one s h = h one s
+
+pub given_is : (head : Head) (past : List Line) (l : Lock) → Grown head past → Unique past → Showed past l → given 0 l.ask.who l.cookie.0 (printed past) ≡ Some l
+given_is head past l g one s = given_before head past l g (λ k i e. one k l i s e) s
+
+-- ---- none waits
+
+pub none_waits : (head : Head) (past : List Line) → Grown head past → waiting 0 (printed past) ≡ []
+none_waits head [] g = refl
+none_waits head (x ∷ past) g = by x.at.node x.entry g.0.ok (none_waits head past g.1)
+  where
+    by : (node : Node) (e : Entry) → EntryOk past (turn x.at.stamp node) node e → waiting 0 (printed past) ≡ [] → waiting 0 (printed (line (turn x.at.stamp node) e ∷ past)) ≡ []
+    by (Client c) (Grant lock asked) ok h = absurd ok
+    by (Target t) (Grant lock asked) ok h = cond_both (nat_eq t 0) (without_first lock.cookie.0 (waiting 0 (printed past))) (waiting 0 (printed past)) (λ (ls : List Lock). ls ≡ []) (λ e. ap (without_first lock.cookie.0) h) (λ e. h)
+    by (Client c) (Wait lock asked) ok h = absurd ok
+    by (Target t) (Wait lock asked) ok h = absurd ok
+    by (Client c) (Evict who cause) ok h = absurd ok
+    by (Target t) (Evict who cause) ok h = absurd ok
+    by (Client c) Crash ok h = absurd ok
+    by (Target t) Crash ok h = absurd ok
+    by node e ok h = h

@@ -1,0 +1,351 @@
+-- What every covered run keeps of locks: what is held came in its turn, what is released was given back in its turn, and what is called
+-- back is granted, wasn't called back before, and guards what a request that waits would write.
+use Rattle.std.proofs.Common.{◌≡◌, ℕ, suc, ◌+◌, ◌<◌, ◌≤◌, Bool, true, false, List, [], ◌∷◌, ◌++◌, inl, inr, ⊎_elim, Option, Some, None, refl, sym, subst, ap, ◌∙◌, arith}
+use Rattle.std.specs.Prelude.{nat_eq, not, max, ◌&&◌, ◌||◌, if◌then◌else◌, unwrap_or, find}
+use Rattle.std.specs.List.{list_any}
+use Rattle.std.proofs.lemmas.Bool.{and_parts, cond_both, cond-true, eqb-true}
+use Rattle.lu_base.specs.declared.ids.At.{At}
+use Rattle.lu_base.specs.declared.ids.Cookie.{Cookie}
+use Rattle.lu_base.specs.declared.ids.Node.{Node}
+use Rattle.lu_base.specs.declared.ids.Node.TheVariants.{Client, Target}
+use Rattle.lu_base.specs.declared.ids.Stamp.{Stamp}
+use Rattle.lu_base.specs.declared.ids.Who.{Who}
+use Rattle.lu_base.specs.declared.locks.Lock.{Lock}
+use Rattle.lu_msg.specs.declared.messages.Message.{Message}
+use Rattle.lu_msg.specs.declared.messages.Message.TheVariants as message
+use Rattle.lu_msg.specs.declared.messages.Reply.{Reply as ReplyTo}
+use Rattle.lu_msg.specs.declared.messages.Request.{Request as RequestOf}
+use Rattle.lu_part.specs.declared.parts.Part.{Part}
+use Rattle.lu_part.specs.declared.parts.Want.{Want}
+use Rattle.lu_machine.specs.Tree.{Tree, same_life}
+use Rattle.lu_machine.specs.Footprint.{writes}
+use Rattle.lu_machine.proofs.Numbers.{number_is_free}
+use Rattle.lu_trace.specs.declared.entries.Line.{Line as PrintedLine}
+use Rattle.lu_words.specs.Carried.{Deed, Called, Flight}
+use Rattle.lu_words.specs.Words.{Entry, Take, Heard, Hold, Act, Block, Release, Boot, Line, line}
+use Rattle.lu_words.specs.Concerns.{only}
+use Rattle.lu_words.specs.Printed.{printed}
+use Rattle.lu_target_rows.specs.Locks.{with_locks, without_lock, called_without}
+use Rattle.lu_target_rows.specs.Names.{locks_from}
+use Rattle.lu_target_rows.specs.Objects.{lock_of}
+use Rattle.lu_target_rows.specs.Phase.{greatest_cookie}
+use Rattle.lu_target_rows.specs.Replies as rows
+use Rattle.lu_covered.specs.TargetStates.{Server, granted_at, cookie_at, called_at, server_of, next_number}
+use Rattle.lu_covered.specs.Deeds.{asked, written_by}
+use Rattle.lu_covered.specs.Heads.{Head}
+use Rattle.lu_laws.specs.Holds.{Holds}
+use Rattle.lu_laws.specs.Words.Pasts.{is_target, or_else, newest}
+use Rattle.lu_laws.specs.Words.Sends.{Sending, taken}
+use Rattle.lu_laws.specs.Words.Boots.{boot, greatest}
+use Rattle.lu_laws.specs.Words.Lives.{who_is}
+use Rattle.lu_laws.specs.Words.Queues.{has_cookie, granted}
+use Rattle.lu_laws.specs.Words.Standing.{contents}
+use Rattle.lu_laws.specs.Order.Held as order
+use Rattle.lu_laws.specs.Order.Held.{grants, brings_from}
+use Rattle.lu_laws.specs.Order.Releases.{is_cancel, has_ended, is_given_back, ReleaseBy, Releases}
+use Rattle.lu_laws.specs.Order.Releases as released
+use Rattle.lu_laws.specs.Order.Blocks.{calls_back, is_called, guards, writes_guarded, is_waited_for, has_cause, BlockBy, Blocks}
+use Rattle.lu_laws.specs.Order.Requests.{unanswered}
+use Rattle.lu_laws.proofs.Tests.{clash, either_left, either_right}
+use Rattle.lu_guards.proofs.Guards.{In, Was, Did, HeardNow, TookNow, BlockOk, Allowed, Grown}
+use Rattle.lu_guards.proofs.Lists.{self, in_filter}
+use Rattle.lu_guards.proofs.Only.{sent_was}
+use Rattle.lu_guards.proofs.Parts.{granted_is, cookie_is, called_is, waiting_is, server_is}
+use Rattle.lu_facts.proofs.Groups.{turn}
+use Rattle.lu_facts.proofs.All.{holds}
+use Rattle.lu_lawful.proofs.Turns.{same_life_self}
+use Rattle.lu_lawful.proofs.Story.{about_it, was_story}
+use Rattle.lu_lawful.proofs.Lines.{Keeps, holds_before, Nothing}
+use Rattle.lu_lawful.proofs.Contents.{boot_is, life_stays, contents_are}
+use Rattle.lu_lawful.proofs.Once.{all_asked}
+use Rattle.lu_lawful.proofs.Given.{owed, Showed}
+use Rattle.lu_lawful.proofs.Granted.{in_with_locks, granted_showed, all_granted, JustGave}
+use Rattle.lu_lawful.proofs.Holding.{heard_now, unique}
+use Rattle.lu_lawful.proofs.OrderlyQuiet.{Says}
+use Rattle.lu_lawful.proofs.OrderlySaid.{takes_it, any_left}
+use Rattle.lu_lawful.proofs.OrderlyAsked.{some_any, all_unanswered}
+
+-- ---- what is held came in this turn
+
+abbrev taking : (from to : Node) → Message → Sending
+taking from to m = record { from = from; to = to; message = m }
+
+-- the reply that was just heard was taken
+heard_taken : (head : Head) (past : List Line) (at : At) (t : ℕ) (f : Flight) (r : ReplyTo) → Grown head past → HeardNow past at t f r → (rest : List Sending) × (taken (printed past) at ≡ taking (Target t) at.node (message.Reply r) ∷ rest)
+heard_taken head [] at t f r g h = absurd h
+heard_taken head (l ∷ past) at t f r g h = by l.at.node l.entry g.0 h (heard_taken head past at t f r g.1)
+  where
+    by : (node : Node) (e : Entry) → Allowed head past (turn l.at.stamp node) e → HeardNow (line (turn l.at.stamp node) e ∷ past) at t f r
+        → (HeardNow past at t f r → (rest : List Sending) × (taken (printed past) at ≡ taking (Target t) at.node (message.Reply r) ∷ rest))
+        → (rest : List Sending) × (taken (printed (line (turn l.at.stamp node) e ∷ past)) at ≡ taking (Target t) at.node (message.Reply r) ∷ rest)
+    by (Client d) (Heard u k s) a q h =
+        let took = takes_it head past (turn l.at.stamp (Client d)) (Target u) (message.Reply s) g.1 a.ok.1 in (
+          took.0,
+          subst (λ (v : At). taken (printed past) v ≡ taking (Target t) v.node (message.Reply r) ∷ took.0) q.0
+              (subst (λ (v : ℕ). taken (printed past) (turn l.at.stamp (Client d)) ≡ taking (Target v) (Client d) (message.Reply r) ∷ took.0) q.1
+              (subst (λ (v : ReplyTo). taken (printed past) (turn l.at.stamp (Client d)) ≡ taking (Target u) (Client d) (message.Reply v) ∷ took.0) q.3 took.1)),
+        )
+    by (Target u) (Heard v k s) a q h = absurd a.ok
+    by node (Hold u lock marked size seen) a q h = h q
+    by node e a q h = absurd q
+
+hold_comes : (head : Head) (past : List Line) (stamp : Stamp) (c t : ℕ) (lock : Lock) (marked : Bool) (size : Option ℕ) (seen : List ℕ) → Allowed head past (turn stamp (Client c)) (Hold t lock marked size seen) → Grown head past
+    → order.HoldBy (printed past) (turn stamp (Client c)) (Client c) t lock.cookie.0
+hold_comes head past stamp c t lock marked size seen a g =
+    let at = turn stamp (Client c) in
+    let W = who_is c (printed past) in
+    let r = a.ok.reply in
+    let i = heard_now head past at c t a.ok.flight r g refl a.ok.heard in
+    let took = heard_taken head past at t a.ok.flight r g a.ok.heard in
+    let mine : r.who ≡ W = i.0.who ∙ ap (λ (v : ℕ). life_of v) (sym (life_stays head c past g)) in
+    let own : same_life r.who W ≡ true = subst (λ (v : Who). same_life r.who v ≡ true) mine (same_life_self r.who) in
+    let among : list_any (λ (l : Lock). nat_eq l.cookie.0 lock.cookie.0) r.locks ≡ true = some_any (λ (l : Lock). nat_eq l.cookie.0 lock.cookie.0) lock r.locks a.ok.among (self lock.cookie.0) in
+    let brought : brings_from t W lock.cookie.0 (taking (Target t) (Client c) (message.Reply r)) ≡ true = rw (self t, own, either_right (grants lock.cookie.0 r.answer) among) refl in
+    subst (λ (v : List Sending). list_any (brings_from t W lock.cookie.0) v ≡ true) (sym took.1) (either_left (list_any (brings_from t W lock.cookie.0) took.0) brought)
+  where
+    life_of : ℕ → Who
+    life_of v = record { client = c; life = v }
+
+held_at : (head : Head) (past : List Line) (l : Line) (later : List PrintedLine) → Allowed head past l.at l.entry → Grown head past → Keeps order.Held past l later
+held_at head past l later a g = by l.at.node l.entry a
+  where
+    by : (node : Node) (e : Entry) → Allowed head past (turn l.at.stamp node) e → Says order.Held past (turn l.at.stamp node) later e
+    by (Client c) (Hold t lock marked size seen) k = hold_comes head past l.at.stamp c t lock marked size seen k g
+    by (Target u) (Hold t lock marked size seen) k = absurd k.ok
+    by _ _ k = tt
+
+pub held : (head : Head) (past : List Line) → Grown head past → Holds order.Held (printed past)
+held head past g = holds_before head order.Held Nothing (λ l past k. k) (λ past l later a g k. held_at head past l later a g) past [] g tt
+
+-- ---- the granted lock of a cookie
+
+found_one : (l : Lock) (ls : List Lock) → ((k : Lock) → In k ls → k.cookie.0 ≡ l.cookie.0 → k ≡ l) → In l ls → find (has_cookie l.cookie.0) ls ≡ Some l
+found_one l [] one i = absurd i
+found_one l (k ∷ ls) one i = by (has_cookie l.cookie.0 k) refl (found_one l ls (λ x j. one x (inr j)))
+  where
+    by : (b : Bool) → has_cookie l.cookie.0 k ≡ b → (In l ls → find (has_cookie l.cookie.0) ls ≡ Some l) → find (has_cookie l.cookie.0) (k ∷ ls) ≡ Some l
+    by true e h = rw e (ap (λ (v : Lock). Some v) (one k (inl refl) (eqb-true k.cookie.0 l.cookie.0 e)))
+    by false e h = rw e (h (⊎_elim (λ (q : k ≡ l). absurd (clash (has_cookie l.cookie.0 k) (ap (λ (v : Lock). has_cookie l.cookie.0 v) q ∙ self l.cookie.0) e)) (λ (j : In l ls). j) i))
+
+-- where nothing was just done, a lock that the target has granted is found by its cookie
+granted_found : (head : Head) (past : List Line) (l : Lock) → Grown head past → ((d : Deed) → Did past d → ⊥) → In l (server_of head.osts (only 0 past)).granted → find (has_cookie l.cookie.0) (granted 0 (printed past)) ≡ Some l
+granted_found head past l g none i =
+    found_one l (granted 0 (printed past)) (λ k j q. unique head past g k l (granted_showed head past k g j) shown q) here
+  where
+    here : In l (granted 0 (printed past))
+    here = ⊎_elim (λ (q : In l (granted 0 (printed past))). q) (λ (q : JustGave past l). absurd (none q.0 q.1)) (all_granted head past g l (subst (λ (v : List Lock). In l v) (sym (granted_is head.osts 0 past)) i))
+
+    shown : Showed past l
+    shown = granted_showed head past l g here
+
+-- ---- what is released was given back in this turn
+
+took_was : (head : Head) (past : List Line) (at : At) (from : Node) (m : Message) → Grown head past → TookNow past at from m → Was past from at.node m
+took_was head [] at from m g t = absurd t
+took_was head (l ∷ past) at from m g t = by l.entry g.0 t
+  where
+    by : (e : Entry) → Allowed head past l.at e → TookNow (line l.at e ∷ past) at from m → Was (line l.at e ∷ past) from at.node m
+    by (Take n sender p) k t =
+        subst (λ (v : At). Was past from v.node m) t.0 (subst (λ (v : Node). Was past v l.at.node m) t.1 (subst (λ (v : Message). Was past sender l.at.node v) t.2 (sent_was past n sender l.at.node p k.ok.sent)))
+    by _ k t = absurd t
+
+in_lock_of : (who : Who) (cookie : Cookie) (l : Lock) (ls : List Lock) → lock_of who cookie ls ≡ Some l → In l ls
+in_lock_of who cookie l [] e = absurd (cc)
+in_lock_of who cookie l (k ∷ ls) e = cond_both (nat_eq k.cookie.0 cookie.0 && same_life k.ask.who who) (Some k) (lock_of who cookie ls) (λ (o : Option Lock). o ≡ Some l → In l (k ∷ ls))
+    (λ t q. inl cc)
+    (λ t q. inr (in_lock_of who cookie l ls q))
+    e
+
+release_given : (head : Head) (past : List Line) (stamp : Stamp) (t : ℕ) (lock : Lock) → Allowed head past (turn stamp (Target t)) (Release lock) → Grown head past → ReleaseBy (printed past) (turn stamp (Target t)) (Target t) lock.cookie.0
+release_given head past stamp t lock a g =
+    let at = turn stamp (Target t) in
+    let back = a.ok.1 in
+    let found = granted_found head past lock g (λ d did. owed past at d (Release lock) did a.owes) (in_lock_of lock.ask.who lock.cookie lock _ (a.of 0 (about_it t a.ok.0)).found) in
+    let was = was_story head past back.from (Target t) (message.Cancel lock.ask.who back.boot lock.cookie) g (took_was head past at back.from (message.Cancel lock.ask.who back.boot lock.cookie) g back.took) in
+    let first : back.boot ≡ boot 0 (printed past) = (((holds head past g).at 0).locks.cancels back.from (Target t) lock.ask.who back.boot lock.cookie was).first ∙ sym (boot_is head past g) in
+    let took = takes_it head past at back.from (message.Cancel lock.ask.who back.boot lock.cookie) g back.took in
+    let its : nat_eq back.boot (boot 0 (printed past)) ≡ true = subst (λ (v : ℕ). nat_eq back.boot v ≡ true) first (self back.boot) in
+    let cancels : is_cancel (boot 0 (printed past)) lock.ask.who lock.cookie.0 (message.Cancel lock.ask.who back.boot lock.cookie) ≡ true = rw (its, same_life_self lock.ask.who, self lock.cookie.0) refl in
+    let given : is_given_back (printed past) at 0 lock.cookie.0 lock.ask.who ≡ true =
+    either_left (has_ended (printed past) at lock.ask.who)
+    (subst (λ (v : List Sending). list_any (λ (s : Sending). is_cancel (boot 0 (printed past)) lock.ask.who lock.cookie.0 s.message) v ≡ true) (sym took.1)
+    (either_left (list_any (λ (s : Sending). is_cancel (boot 0 (printed past)) lock.ask.who lock.cookie.0 s.message) took.0) cancels))
+    in
+    subst (λ (v : ℕ). ReleaseBy (printed past) at (Target v) lock.cookie.0) (sym a.ok.0) (subst (λ (o : Option Lock). released.has_cause (printed past) at 0 lock.cookie.0 o ≡ true) (sym found) given)
+
+releases_at : (head : Head) (past : List Line) (l : Line) (later : List PrintedLine) → Allowed head past l.at l.entry → Grown head past → Keeps Releases past l later
+releases_at head past l later a g = by l.at.node l.entry a
+  where
+    by : (node : Node) (e : Entry) → Allowed head past (turn l.at.stamp node) e → Says Releases past (turn l.at.stamp node) later e
+    by (Client c) (Release lock) k = absurd k.ok
+    by (Target t) (Release lock) k = release_given head past l.at.stamp t lock k g
+    by _ _ k = tt
+
+pub releases : (head : Head) (past : List Line) → Grown head past → Holds Releases (printed past)
+releases head past g = holds_before head Releases Nothing (λ l past k. k) (λ past l later a g k. releases_at head past l later a g) past [] g tt
+
+-- ---- what was called back once
+
+-- a cookie that was called back was given, and its lock is among those called back while it is granted
+abbrev pub CalledOnce : List Line → ℕ → Type 0
+CalledOnce past k = (k ≤ cookie_at 0 past) × ((l : Lock) → In l (granted_at 0 past) → l.cookie.0 ≡ k → rows.is_called l.cookie (called_at 0 past) ≡ true)
+
+abbrev pub AllCalled : List Line → Type 0
+AllCalled past = (k : ℕ) → is_called 0 k (printed past) ≡ true → CalledOnce past k
+
+greatest_above : (n : ℕ) (ls : List Lock) → n ≤ greatest_cookie n ls
+greatest_above n [] = omega arith
+greatest_above n (l ∷ ls) = let le = greatest_above (max n l.cookie.0) ls in omega arith
+
+from_above : (n : ℕ) (who : Who) (ws : List Want) (l : Lock) → In l (locks_from n who ws) → n < l.cookie.0
+from_above n who [] l i = absurd i
+from_above n who (w ∷ ws) l (inl e) = let q : n + 1 ≡ l.cookie.0 = ap (λ (v : Lock). v.cookie.0) e in omega (arith, q)
+from_above n who (w ∷ ws) l (inr i) = let lt = from_above (n + 1) who ws l i in omega arith
+
+any_more : {A : Type 0} (p : A → Bool) (xs ys : List A) → list_any p xs ≡ true → list_any p (xs ++ ys) ≡ true
+any_more p [] ys h = absurd (cc)
+any_more p (x ∷ xs) ys h = by (p x) h (any_more p xs ys)
+  where
+    by : (b : Bool) → (b || list_any p xs) ≡ true → (list_any p xs ≡ true → list_any p (xs ++ ys) ≡ true) → (b || list_any p (xs ++ ys)) ≡ true
+    by true q more = refl
+    by false q more = more q
+
+any_last : {A : Type 0} (p : A → Bool) (xs : List A) (y : A) → p y ≡ true → list_any p (xs ++ y ∷ []) ≡ true
+any_last p [] y e = either_left false e
+any_last p (x ∷ xs) y e = either_right (p x) (any_last p xs y e)
+
+module _ (head : Head) (past : List Line) (g : Grown head past) where
+  low : (l : Lock) → In l (server_of head.osts (only 0 past)).granted → l.cookie.0 ≤ cookie_at 0 past
+  low l i =
+      let h = ((holds head past g).at 0).locks in
+      let d = h.granted l i in
+      let le = h.low d.0 l d.1 in
+      let e = cookie_is head.osts 0 past in
+      omega (arith, le, e)
+
+  called_act : (stamp : Stamp) (t : ℕ) (d : Deed) → Allowed head past (turn stamp (Target t)) (Act d) → AllCalled past → AllCalled (line (turn stamp (Target t)) (Act d) ∷ past)
+  called_act stamp t d a h k e = (
+    cond_both (nat_eq 0 t) (greatest_cookie (cookie_at 0 past) d.reply.locks) (cookie_at 0 past) (λ (v : ℕ). k ≤ v) (λ t. let le = (h k e).0 in let up = greatest_above (cookie_at 0 past) d.reply.locks in omega arith) (λ t. (h k e).0),
+    λ l. cond_both (nat_eq 0 t) (with_locks d.reply.locks (granted_at 0 past)) (granted_at 0 past) (λ (v : List Lock). In l v → l.cookie.0 ≡ k → rows.is_called l.cookie (called_at 0 past) ≡ true)
+        (λ t i q. ⊎_elim (λ (j : In l d.reply.locks). absurd (new l j q)) (λ (j : In l (granted_at 0 past)). (h k e).1 l j q) (in_with_locks d.reply.locks l (granted_at 0 past) i))
+        (λ t i q. (h k e).1 l i q),
+  )
+    where
+      new : (l : Lock) → In l d.reply.locks → l.cookie.0 ≡ k → ⊥
+      new l j q =
+          let ok = a.of 0 (about_it t a.ok) in
+          let v = server_of head.osts (only 0 past) in
+          let lt = from_above v.cookie ok.request.who _ l (subst (λ (ls : List Lock). In l ls) (ap (λ (f : Deed). f.reply.locks) ok.is) j) in
+          let le = (h k e).0 in
+          let same = cookie_is head.osts 0 past in
+          omega (arith, lt, le, same, q)
+
+  called_block : (stamp : Stamp) (t : ℕ) (called : Called) → Allowed head past (turn stamp (Target t)) (Block called) → AllCalled past → AllCalled (line (turn stamp (Target t)) (Block called) ∷ past)
+  called_block stamp t called a h k e = by (is_target 0 (Target t) && nat_eq called.cookie.0 k) refl e
+    where
+      ok : BlockOk head.osts (only 0 past) called
+      ok = a.of 0 (about_it t a.ok)
+
+      here : nat_eq 0 t ≡ true
+      here = about_it t a.ok
+
+      added : (l : Lock) → rows.is_called l.cookie (called_at 0 past ++ called ∷ []) ≡ true → rows.is_called l.cookie (called_at 0 (line (turn stamp (Target t)) (Block called) ∷ past)) ≡ true
+      added l q = subst (λ (v : List Called). rows.is_called l.cookie v ≡ true) (sym (cond-true (nat_eq 0 t) (called_at 0 past ++ called ∷ []) (called_at 0 past) here)) q
+
+      by : (b : Bool) → (is_target 0 (Target t) && nat_eq called.cookie.0 k) ≡ b → unwrap_or (or_else (if b then Some true else None) (newest (calls_back 0 k) (printed past))) false ≡ true → CalledOnce (line (turn stamp (Target t)) (Block called) ∷ past) k
+      by false q f = ((h k f).0, λ l i s. added l (any_more (λ (c : Called). nat_eq c.cookie.0 l.cookie.0) (called_at 0 past) (called ∷ []) ((h k f).1 l i s)))
+      by true q f =
+          let same : called.cookie.0 ≡ k = eqb-true called.cookie.0 k (and_parts (is_target 0 (Target t)) (nat_eq called.cookie.0 k) q).1 in (
+            let le = low ok.lock ok.granted in let of : called.cookie.0 ≡ ok.lock.cookie.0 = ap (λ (v : Cookie). v.0) ok.of_cookie in omega (arith, le, of, same),
+            λ l i s. added l (any_last (λ (c : Called). nat_eq c.cookie.0 l.cookie.0) (called_at 0 past) called (subst (λ (v : ℕ). nat_eq called.cookie.0 v ≡ true) (same ∙ sym s) (self called.cookie.0))),
+          )
+
+  called_release : (stamp : Stamp) (t : ℕ) (lock : Lock) → Allowed head past (turn stamp (Target t)) (Release lock) → AllCalled past → AllCalled (line (turn stamp (Target t)) (Release lock) ∷ past)
+  called_release stamp t lock a h k e = ((h k e).0, still)
+    where
+      here : nat_eq 0 t ≡ true
+      here = about_it t a.ok.0
+
+      still : (l : Lock) → In l (granted_at 0 (line (turn stamp (Target t)) (Release lock) ∷ past)) → l.cookie.0 ≡ k → rows.is_called l.cookie (called_at 0 (line (turn stamp (Target t)) (Release lock) ∷ past)) ≡ true
+      still l i q =
+          let j = in_filter (λ (x : Lock). not (nat_eq x.cookie.0 lock.cookie.0)) l (granted_at 0 past) (subst (λ (v : List Lock). In l v) (cond-true (nat_eq 0 t) (without_lock lock (granted_at 0 past)) (granted_at 0 past) here) i) in
+          subst (λ (v : List Called). rows.is_called l.cookie v ≡ true) (sym (cond-true (nat_eq 0 t) (called_without lock (called_at 0 past)) (called_at 0 past) here))
+          (any_left (λ (c : Called). nat_eq c.cookie.0 l.cookie.0) (λ (c : Called). not (nat_eq c.cookie.0 lock.cookie.0)) (called_at 0 past)
+          (λ c s. subst (λ (v : ℕ). not (nat_eq v lock.cookie.0) ≡ true) (sym (eqb-true c.cookie.0 l.cookie.0 s)) j.1)
+          ((h k e).1 l j.0 q))
+
+keeps_called : (head : Head) (past : List Line) (stamp : Stamp) (node : Node) (e : Entry) → Allowed head past (turn stamp node) e → Grown head past → AllCalled past → AllCalled (line (turn stamp node) e ∷ past)
+keeps_called head past stamp (Client c) (Act d) a g h k e = absurd a.ok
+keeps_called head past stamp (Target t) (Act d) a g h k e = called_act head past g stamp t d a h k e
+keeps_called head past stamp (Client c) (Block called) a g h k e = absurd a.ok
+keeps_called head past stamp (Target t) (Block called) a g h k e = called_block head past g stamp t called a h k e
+keeps_called head past stamp (Client c) (Release lock) a g h k e = absurd a.ok
+keeps_called head past stamp (Target t) (Release lock) a g h k e = called_release head past g stamp t lock a h k e
+keeps_called head past stamp (Client c) (Boot b disk) a g h k e = absurd a.ok
+keeps_called head past stamp (Target t) (Boot b disk) a g h k e = absurd a.ok
+keeps_called head past stamp node _ a g h k e = h k e
+
+pub all_called : (head : Head) (past : List Line) → Grown head past → AllCalled past
+all_called head [] g k e = absurd (cc)
+all_called head (l ∷ past) g k e = keeps_called head past l.at.stamp l.at.node l.entry g.0 g.1 (all_called head past g.1) k e
+
+-- ---- what is called back
+
+block_caused : (head : Head) (past : List Line) (stamp : Stamp) (t : ℕ) (called : Called) → Allowed head past (turn stamp (Target t)) (Block called) → Grown head past → BlockBy head.osts (printed past) (Target t) called.cookie.0
+block_caused head past stamp t called a g =
+    subst (λ (v : ℕ). BlockBy head.osts (printed past) (Target v) called.cookie.0) (sym a.ok)
+    (subst (λ (v : ℕ). BlockBy head.osts (printed past) (Target 0) v) (sym same) (record { new = new (is_called 0 lock.cookie.0 (printed past)) refl; cause = cause }))
+  where
+    v : Server
+    v = server_of head.osts (only 0 past)
+
+    ok : BlockOk head.osts (only 0 past) called
+    ok = a.of 0 (about_it t a.ok)
+
+    lock : Lock
+    lock = ok.lock
+
+    same : called.cookie.0 ≡ lock.cookie.0
+    same = ap (λ (c : Cookie). c.0) ok.of_cookie
+
+    new : (b : Bool) → is_called 0 lock.cookie.0 (printed past) ≡ b → b ≡ false
+    new false e = refl
+    new true e =
+        let before = (all_called head past g lock.cookie.0 e).1 lock (subst (λ (ls : List Lock). In lock ls) (sym (granted_is head.osts 0 past)) ok.granted) refl in
+        absurd (clash (rows.is_called lock.cookie v.called) (subst (λ (cs : List Called). rows.is_called lock.cookie cs ≡ true) (called_is head.osts 0 past) before) ok.new)
+
+    r : RequestOf
+    r = ok.request
+
+    tree : contents head.osts (printed past) ≡ v.tree
+    tree = contents_are head past g (all_asked head past g) ∙ ap (λ (s : Server). s.tree) (server_is head.osts 0 past)
+
+    number : ℕ
+    number = suc (greatest 0 (printed past))
+
+    parts : written_by head.osts v r ≡ writes head.osts v.tree (record { number = record { 0 = number }; who = r.who; op = r.op })
+    parts = (number_is_free head.osts v.tree (asked r (next_number v)) (asked r (record { 0 = number })) refl (inl refl)).writes
+
+    guarded : writes_guarded head.osts (contents head.osts (printed past)) number lock r ≡ true
+    guarded =
+        subst (λ (k : Tree). writes_guarded head.osts k number lock r ≡ true) (sym tree)
+        (subst (λ (ps : List Part). list_any (guards lock) ps ≡ true) parts ok.for_it)
+
+    waited : is_waited_for head.osts (printed past) 0 lock ≡ true
+    waited =
+        some_any (writes_guarded head.osts (contents head.osts (printed past)) number lock) r (unanswered 0 (printed past))
+        (all_unanswered head past g r (subst (λ (v : List RequestOf). In r v) (sym (waiting_is head.osts 0 past)) ok.waits)) guarded
+
+    cause : has_cause head.osts (printed past) 0 (find (has_cookie lock.cookie.0) (granted 0 (printed past))) ≡ true
+    cause = subst (λ (o : Option Lock). has_cause head.osts (printed past) 0 o ≡ true) (sym (granted_found head past lock g (λ d did. owed past (turn stamp (Target t)) d (Block called) did a.owes) ok.granted)) waited
+
+blocks_at : (head : Head) (past : List Line) (l : Line) (later : List PrintedLine) → Allowed head past l.at l.entry → Grown head past → Keeps (Blocks head.osts) past l later
+blocks_at head past l later a g = by l.at.node l.entry a
+  where
+    by : (node : Node) (e : Entry) → Allowed head past (turn l.at.stamp node) e → Says (Blocks head.osts) past (turn l.at.stamp node) later e
+    by (Client c) (Block called) k = absurd k.ok
+    by (Target t) (Block called) k = block_caused head past l.at.stamp t called k g
+    by _ _ k = tt
+
+pub blocks : (head : Head) (past : List Line) → Grown head past → Holds (Blocks head.osts) (printed past)
+blocks head past g = holds_before head (Blocks head.osts) Nothing (λ l past k. k) (λ past l later a g k. blocks_at head past l later a g) past [] g tt

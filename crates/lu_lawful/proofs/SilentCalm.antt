@@ -1,0 +1,213 @@
+-- The call in a slot is the same in a past and in its print, and so is each call that stands calm; it stood calm before each line
+-- of its turn.
+use Rattle.std.proofs.Common.{◌≡◌, ℕ, Bool, true, false, List, [], ◌∷◌, ◌++◌, Option, Some, None, inl, inr, ⊎_elim, refl, sym, subst, ap, ◌∙◌}
+use Rattle.std.specs.Prelude.{nat_eq, not, ◌&&◌, if◌then◌else◌, filter}
+use Rattle.std.specs.Option.{option_map}
+use Rattle.std.proofs.lemmas.Bool.{cond_both, and_parts, eqb-true}
+use Rattle.lu_base.specs.declared.ids.Node.{Node}
+use Rattle.lu_base.specs.declared.ids.Node.TheVariants.{Client, Target}
+use Rattle.lu_msg.specs.declared.calls.Call.{Call}
+use Rattle.lu_machine.specs.Footprint.{Every}
+use Rattle.lu_words.specs.Carried.{Asking, Running}
+use Rattle.lu_words.specs.Words.{Entry, Begin, Heard, Told, Take, Drop, Queues, Stands, Line, line}
+use Rattle.lu_words.specs.Printed.{printed}
+use Rattle.lu_covered.specs.Calls.{first_life, call_at, asks, asks_for}
+use Rattle.lu_covered.specs.Heads.{Head}
+use Rattle.lu_laws.specs.Words.Lives.{life}
+use Rattle.lu_laws.specs.Words.Calls.{call_in}
+use Rattle.lu_laws.specs.Words.Repeats.{rebinds, is_ready, in_other_slot, begun_calm, calm}
+use Rattle.lu_guards.proofs.Lists.{self, in_append, in_filter}
+use Rattle.lu_guards.proofs.Guards.{In, EntryOk, Grown}
+use Rattle.lu_facts.proofs.Groups.{turn}
+use Rattle.lu_lawful.proofs.Contents.{life_stays}
+use Rattle.lu_lawful.proofs.Printed.{flip}
+use Rattle.lu_lawful.proofs.SilentHeld.{gives_up}
+
+-- ---- the call in a slot is the same
+
+abbrev pub called : Option Running → Option Call
+called o = option_map (λ (r : Running). r.call) o
+
+asks_stays : (served : Option ℕ) (slot : ℕ) (asking : Asking) (o : Option Running) → called (asks_for served slot asking o) ≡ called o
+asks_stays None slot asking o = refl
+asks_stays (Some s) slot asking o = cond_both (nat_eq s slot) (asks asking o) o (λ v. called v ≡ called o) (λ t. by o) (λ f. refl)
+  where
+    by : (o : Option Running) → called (asks asking o) ≡ called o
+    by None = refl
+    by (Some r) = refl
+
+began_same : (running : Running) (a : Option Running) (b : Option Call) (t u : Bool) → b ≡ called a → (if t && u then Some running.call else b) ≡ called (if t then (if u then Some running else a) else a)
+began_same running a b true true h = refl
+began_same running a b true false h = h
+began_same running a b false u h = h
+
+told_same : (a : Option Running) (b : Option Call) (t u : Bool) → b ≡ called a → (if t && u then None else b) ≡ called (if t then (if u then None else a) else a)
+told_same a b true true h = refl
+told_same a b true false h = h
+told_same a b false u h = h
+
+pub call_is : (head : Head) (c slot : ℕ) (past : List Line) → Grown head past → call_in c slot (printed past) ≡ called (call_at c slot past)
+call_is head c slot [] g = refl
+call_is head c slot (l ∷ past) g = by l.at.node l.entry g.0.ok (call_is head c slot past g.1)
+  where
+    by : (node : Node) (e : Entry) → EntryOk past (turn l.at.stamp node) node e → call_in c slot (printed past) ≡ called (call_at c slot past)
+        → call_in c slot (printed (line (turn l.at.stamp node) e ∷ past)) ≡ called (call_at c slot (line (turn l.at.stamp node) e ∷ past))
+    by (Client d) (Begin s running) ok h = rw (flip d c) (began_same running (call_at c slot past) (call_in c slot (printed past)) (nat_eq c d) (nat_eq s slot) h)
+    by (Client d) (Told s named given work) ok h = rw (flip d c) (told_same (call_at c slot past) (call_in c slot (printed past)) (nat_eq c d) (nat_eq s slot) h)
+    by (Client d) (Queues t q) ok h = cond_both (nat_eq c d) (asks_for q.slot slot _ (call_at c slot past)) (call_at c slot past) (λ (o : Option Running). call_in c slot (printed past) ≡ called o) (λ b. h ∙ sym (asks_stays q.slot slot _ (call_at c slot past))) (λ b. h)
+    by (Client d) (Heard t f r) ok h = cond_both (nat_eq c d) (asks_for f.slot slot _ (call_at c slot past)) (call_at c slot past) (λ (o : Option Running). call_in c slot (printed past) ≡ called o) (λ b. h ∙ sym (asks_stays f.slot slot _ (call_at c slot past))) (λ b. h)
+    by (Client d) (Stands s running) ok h = absurd ok
+    by (Target t) (Begin s running) ok h = absurd ok
+    by (Target t) (Told s named given work) ok h = absurd ok
+    by (Target t) (Queues u q) ok h = absurd ok
+    by (Target t) (Heard u f r) ok h = absurd ok
+    by (Target t) (Stands s running) ok h = absurd ok
+    by _ _ ok h = h
+
+-- ---- lists
+
+module _ {A : Type 0} {P Q : A → Type 0} (test : A → Bool) (gives : (x : A) → test x ≡ true → P x → Q x) where
+  pub every_filter : (xs : List A) → Every P xs → Every Q (filter test xs)
+  every_filter [] h = tt
+  every_filter (x ∷ xs) h = cond_both (test x) (x ∷ filter test xs) (filter test xs) (λ v. Every Q v) (λ t. (gives x t h.0, every_filter xs h.1)) (λ f. every_filter xs h.1)
+
+module _ {A : Type 0} (P : A → Type 0) where
+  pub every_both : (xs ys : List A) → Every P xs → Every P ys → Every P (xs ++ ys)
+  every_both [] ys h k = k
+  every_both (x ∷ xs) ys h k = (h.0, every_both xs ys h.1 k)
+
+  pub cleared : (b : Bool) (old : List A) → Every P old → Every P (if b then [] else old)
+  cleared true old h = tt
+  cleared false old h = h
+
+  pub every_in : (x : A) (xs : List A) → Every P xs → In x xs → P x
+  every_in x [] h i = absurd i
+  every_in x (y ∷ xs) h (inl e) = subst P e h.0
+  every_in x (y ∷ xs) h (inr i) = every_in x xs h.1 i
+
+  pub in_every : (xs : List A) → ((x : A) → In x xs → P x) → Every P xs
+  in_every [] h = tt
+  in_every (x ∷ xs) h = (h x (inl refl), in_every xs (λ y i. h y (inr i)))
+
+pub every_map : {A : Type 0} (P Q : A → Type 0) (xs : List A) → ((x : A) → P x → Q x) → Every P xs → Every Q xs
+every_map P Q [] f h = tt
+every_map P Q (x ∷ xs) f h = (f x h.0, every_map P Q xs f h.1)
+
+-- ---- each call that stands calm stands in its slot
+
+abbrev pub StandsIn : (ℕ → Option Call) → ℕ × Call → Type 0
+StandsIn in_slot x = in_slot x.0 ≡ Some x.1
+
+other_slot : (a b : ℕ) → not (nat_eq a b) ≡ true → nat_eq b a ≡ false
+other_slot a b e = by (nat_eq a b) (flip b a) e
+  where
+    by : (v : Bool) → nat_eq b a ≡ v → not v ≡ true → nat_eq b a ≡ false
+    by true f e = absurd (cc)
+    by false f e = f
+
+begin_stands : (t ready : Bool) (slot : ℕ) (new : Call) (in_slot : ℕ → Option Call) (old : List (ℕ × Call)) → Every (StandsIn in_slot) old
+    → Every (StandsIn (λ k. if t && nat_eq slot k then Some new else in_slot k)) (if t then begun_calm slot new ready old else old)
+begin_stands false ready slot new in_slot old h = h
+begin_stands true ready slot new in_slot old h =
+    every_both (StandsIn (λ k. if nat_eq slot k then Some new else in_slot k)) (if ready then (slot, new) ∷ [] else []) _ (first ready)
+    (every_filter (λ x. in_other_slot slot x && not (rebinds new x.1))
+    (λ x is s. let p = and_parts (in_other_slot slot x) _ is in let other = other_slot x.0 slot p.0 in ap (λ (b : Bool). if b then Some new else in_slot x.0) other ∙ s) old h)
+  where
+    first : (ready : Bool) → Every (StandsIn (λ k. if nat_eq slot k then Some new else in_slot k)) (if ready then (slot, new) ∷ [] else [])
+    first true = (ap (λ (b : Bool). if b then Some new else in_slot slot) (self slot), tt)
+    first false = tt
+
+told_stands : (t : Bool) (slot : ℕ) (in_slot : ℕ → Option Call) (old : List (ℕ × Call)) → Every (StandsIn in_slot) old
+    → Every (StandsIn (λ k. if t && nat_eq slot k then None else in_slot k)) (if t then filter (in_other_slot slot) old else old)
+told_stands false slot in_slot old h = h
+told_stands true slot in_slot old h = every_filter (in_other_slot slot) (λ x is s. let other = other_slot x.0 slot is in ap (λ (b : Bool). if b then None else in_slot x.0) other ∙ s) old h
+
+pub and_true : (b : Bool) → (b && true) ≡ b
+and_true true = refl
+and_true false = refl
+
+pub calm_stands : (head : Head) (c : ℕ) (past : List Line) → Grown head past → Every (StandsIn (λ k. call_in c k (printed past))) (calm (first_life c) (printed past))
+calm_stands head c [] g = tt
+calm_stands head c (l ∷ past) g = by l.at.node l.entry g.0.ok (calm_stands head c past g.1)
+  where
+    own : life c (printed past) ≡ 1
+    own = life_stays head c past g.1
+
+    by : (node : Node) (e : Entry) → EntryOk past (turn l.at.stamp node) node e → Every (StandsIn (λ k. call_in c k (printed past))) (calm (first_life c) (printed past))
+        → Every (StandsIn (λ k. call_in c k (printed (line (turn l.at.stamp node) e ∷ past)))) (calm (first_life c) (printed (line (turn l.at.stamp node) e ∷ past)))
+    by (Client d) (Begin s running) ok h = rw (own, and_true (nat_eq d c)) (begin_stands (nat_eq d c) (is_ready (first_life c) (printed past)) s running.call (λ k. call_in c k (printed past)) (calm (first_life c) (printed past)) h)
+    by (Client d) (Told s named given work) ok h = rw (own, and_true (nat_eq d c)) (told_stands (nat_eq d c) s (λ k. call_in c k (printed past)) (calm (first_life c) (printed past)) h)
+    by (Client d) (Drop t lock) ok h = cleared (StandsIn (λ k. call_in c k (printed past))) _ (calm (first_life c) (printed past)) h
+    by (Target t) (Begin s running) ok h = absurd ok
+    by (Target t) (Told s named given work) ok h = absurd ok
+    by (Target t) (Drop u lock) ok h = absurd ok
+    by (Client d) (Take n from m) ok h = cleared (StandsIn (λ k. call_in c k (printed past))) _ (calm (first_life c) (printed past)) h
+    by (Target t) (Take n from m) ok h = h
+    by _ _ ok h = h
+
+-- ---- what stands calm in a slot after a line stood calm before it, where the slot had its call, and no lock was given up
+
+module _ {A : Type 0} (x : A) where
+  not_cleared : (b : Bool) (old : List A) → In x (if b then [] else old) → (b ≡ false) × In x old
+  not_cleared true old i = absurd i
+  not_cleared false old i = (refl, i)
+
+pub calm_before : (head : Head) (c slot : ℕ) (running : Running) (l : Line) (past : List Line) → Grown head (l ∷ past) → call_at c slot past ≡ Some running → (x : ℕ × Call) → x.0 ≡ slot
+    → In x (calm (first_life c) (printed (l ∷ past))) → In x (calm (first_life c) (printed past))
+calm_before head c slot running l past g has x at = by l.at.node l.entry g.0.ok
+  where
+    own : life c (printed past) ≡ 1
+    own = life_stays head c past g.1
+
+    P : List (ℕ × Call)
+    P = calm (first_life c) (printed past)
+
+    began : (d s : ℕ) (new : Call) (ready t : Bool) → nat_eq d c ≡ t → call_at d s past ≡ None → In x (if t then begun_calm s new ready P else P) → In x P
+    began d s new ready false e free i = i
+    began d s new ready true e free i =
+        ⊎_elim
+        (λ (j : In x (if ready then (s, new) ∷ [] else [])). absurd (first ready j))
+        (λ (j : In x (filter (λ y. in_other_slot s y && not (rebinds new y.1)) P)). (in_filter (λ y. in_other_slot s y && not (rebinds new y.1)) x P j).0)
+        (in_append x (if ready then (s, new) ∷ [] else []) _ i)
+      where
+        -- the slot isn't free
+        clash : (s, new) ≡ x → ⊥
+        clash q =
+            let same : s ≡ slot = ap (λ (v : ℕ × Call). v.0) q ∙ at in
+            let none : call_at c slot past ≡ None = subst (λ (v : ℕ). call_at v slot past ≡ None) (eqb-true d c e) (subst (λ (v : ℕ). call_at d v past ≡ None) same free) in
+            cc
+
+        first : (ready : Bool) → In x (if ready then (s, new) ∷ [] else []) → ⊥
+        first true (inl q) = clash q
+        first true (inr i) = i
+        first false i = i
+
+    told : (t : Bool) (s : ℕ) → In x (if t then filter (in_other_slot s) P else P) → In x P
+    told true s i = (in_filter (in_other_slot s) x P i).0
+    told false s i = i
+
+    by : (node : Node) (e : Entry) → EntryOk past (turn l.at.stamp node) node e → In x (calm (first_life c) (printed (line (turn l.at.stamp node) e ∷ past))) → In x P
+    by (Client d) (Begin s new) ok i =
+        began d s new.call (is_ready (first_life c) (printed past)) (nat_eq d c) refl ok.free
+        (subst (λ (b : Bool). In x (if b then begun_calm s new.call (is_ready (first_life c) (printed past)) P else P)) (ap (λ (v : ℕ). nat_eq d c && nat_eq v 1) own ∙ and_true (nat_eq d c)) i)
+    by (Client d) (Told s named given work) ok i = told _ s i
+    by (Client d) (Drop t lock) ok i = (not_cleared x _ P i).1
+    by (Client d) (Take n from m) ok i = (not_cleared x _ P i).1
+    by (Target t) (Begin s new) ok i = absurd ok
+    by (Target t) (Told s named given work) ok i = absurd ok
+    by (Target t) (Drop u lock) ok i = absurd ok
+    by (Target t) (Take n from m) ok i = i
+    by _ _ ok i = i
+
+-- and then no lock was given up
+pub calm_gives_none : (head : Head) (c : ℕ) (l : Line) (past : List Line) → Grown head (l ∷ past) → (x : ℕ × Call) → In x (calm (first_life c) (printed (l ∷ past))) → gives_up c l.at.node l.entry ≡ false
+calm_gives_none head c l past g x = by l.at.node l.entry
+  where
+    own : life c (printed past) ≡ 1
+    own = life_stays head c past g.1
+
+    by : (node : Node) (e : Entry) → In x (calm (first_life c) (printed (line (turn l.at.stamp node) e ∷ past))) → gives_up c node e ≡ false
+    by (Client d) (Drop t lock) i =
+        flip c d ∙ sym (and_true (nat_eq d c)) ∙ ap (λ (v : ℕ). nat_eq d c && nat_eq v 1) (sym own) ∙ (not_cleared x _ (calm (first_life c) (printed past)) i).0
+    by (Target t) (Drop u lock) i = refl
+    by _ _ i = refl

@@ -1,0 +1,304 @@
+-- A call that is told what a reply says is known from then on: what the reply told was learned under its locks since it was heard,
+-- and no lock was given up since.
+use Rattle.std.proofs.Common.{◌≡◌, ℕ, Bool, true, List, [], ◌∷◌, ◌++◌, Option, Some, None, inl, inr, ⊎_elim, refl, sym, subst, ap, ◌∙◌}
+use Rattle.std.specs.Prelude.{nat_eq, if◌then◌else◌}
+use Rattle.std.proofs.lemmas.Bool.{cond_both, eqb-true}
+use Rattle.lu_base.specs.declared.ids.At.{At}
+use Rattle.lu_base.specs.declared.ids.Fid.{Fid}
+use Rattle.lu_base.specs.declared.ids.Node.{Node}
+use Rattle.lu_base.specs.declared.ids.Node.TheVariants.{Client, Target}
+use Rattle.lu_base.specs.declared.ids.Stamp.{Stamp}
+use Rattle.lu_base.specs.declared.locks.Lock.{Lock}
+use Rattle.lu_msg.specs.declared.answers.Answer.{Answer}
+use Rattle.lu_msg.specs.declared.answers.Answer.TheVariants as told
+use Rattle.lu_msg.specs.declared.calls.Call.{Call}
+use Rattle.lu_msg.specs.declared.messages.Reply.{Reply as ReplyTo}
+use Rattle.lu_msg.specs.declared.operations.Op.{Op}
+use Rattle.lu_msg.specs.declared.operations.Op.TheVariants as op
+use Rattle.lu_machine.specs.Laws.{IsReading}
+use Rattle.lu_machine.proofs.Transactions.{readings_change_nothing}
+use Rattle.lu_words.specs.Carried.{Deed, Work, Flight, Asking, Answered, Running}
+use Rattle.lu_words.specs.Words.{Entry, Begin, Heard, Hold, Told, Queues, Stands, Learns, Act, Txn as Made, Line, line, is_client}
+use Rattle.lu_words.specs.Concerns.{only}
+use Rattle.lu_words.specs.Printed.{printed}
+use Rattle.lu_client_rows.specs.Caches.{brought, with_brought, held_at}
+use Rattle.lu_client_rows.specs.Facts.{Fact, root, is_one_for_each, name_facts, names_taught, last_of, inode_taught, stat_facts, taught, facts_at}
+use Rattle.lu_covered.specs.Calls.{first_life, call_at, asks, asks_for, operation_of}
+use Rattle.lu_covered.specs.Imports.{flights_at}
+use Rattle.lu_covered.specs.Deeds.{asked}
+use Rattle.lu_covered.specs.Heads.{Head}
+use Rattle.lu_covered.specs.TargetStates.{none, server_of}
+use Rattle.lu_laws.specs.Words.Repeats.{calm}
+use Rattle.lu_guards.proofs.Guards.{In, IsToldAsIs, HeardNow, Learned, EntryOk, ActOk, TxnOk, ToldOk, Allowed, Grown}
+use Rattle.lu_guards.proofs.Lists.{self, in_append, in_left}
+use Rattle.lu_guards.proofs.Parts.{flights_is}
+use Rattle.lu_facts.proofs.Groups.{turn, Acted, CallOf}
+use Rattle.lu_facts.proofs.All.{holds}
+use Rattle.lu_lawful.proofs.Story.{acted_whole}
+use Rattle.lu_lawful.proofs.SilentKnown.{Agrees, AllUsable, IsKnown, Comes, taught_known}
+use Rattle.lu_lawful.proofs.SilentReads.{NoRefusal, reading_comes}
+use Rattle.lu_lawful.proofs.SilentHeld.{Present, bare_at, present_bare, brought_new, held_stays, notes_grow}
+use Rattle.lu_lawful.proofs.SilentCalm.{calm_before, calm_gives_none}
+
+-- ---- what an answer teaches is known under its locks
+
+abbrev Under : List Lock → List Fact → Type 0
+Under locks facts = (f : Fact) → In f facts → (l : Lock) × (In l locks × (f.cookie.0 ≡ l.cookie.0))
+
+under_more : (l : Lock) (locks : List Lock) (facts : List Fact) → Under locks facts → Under (l ∷ locks) facts
+under_more l locks facts h f i = let r = h f i in (r.0, (inr r.1.0, r.1.1))
+
+under_both : (locks : List Lock) (xs ys : List Fact) → Under locks xs → Under locks ys → Under locks (xs ++ ys)
+under_both locks xs ys h k f i = ⊎_elim (λ (j : In f xs). h f j) (λ (j : In f ys). k f j) (in_append f xs ys i)
+
+under_one : (locks : List Lock) (l : Lock) (x : Fact) (facts : List Fact) → In l locks → x.cookie.0 ≡ l.cookie.0 → Under locks facts → Under locks (x ∷ facts)
+under_one locks l x facts among is h f (inl e) = (l, (among, ap (λ (v : Fact). v.cookie.0) (sym e) ∙ is))
+under_one locks l x facts among is h f (inr i) = h f i
+
+names_under : (kind : Fid → Answer) (d : Fid) (names : List (List ℕ)) (locks : List Lock) → Under locks (name_facts kind d names locks)
+names_under kind d [] locks f i = absurd i
+names_under kind d (m ∷ []) [] f i = absurd i
+names_under kind d (m ∷ []) (l ∷ locks) f i = under_one (l ∷ locks) l _ [] (inl refl) refl (λ g j. absurd j) f i
+names_under kind d (m ∷ n ∷ names) [] f i = absurd i
+names_under kind d (m ∷ n ∷ names) (l ∷ locks) f i =
+    under_one (l ∷ locks) l _ (name_facts kind l.resource.fid (n ∷ names) locks) (inl refl) refl
+    (under_more l locks (name_facts kind l.resource.fid (n ∷ names) locks) (names_under kind l.resource.fid (n ∷ names) locks)) f i
+
+path_under : (kind : Fid → Answer) (path : List (List ℕ)) (locks : List Lock) → Under locks (names_taught kind path locks)
+path_under kind path locks = cond_both (is_one_for_each path locks) (name_facts kind root path locks) [] (λ (v : List Fact). Under locks v) (λ t. names_under kind root path locks) (λ t f i. absurd i)
+
+last_in : (l : Lock) (locks : List Lock) → last_of locks ≡ Some l → In l locks
+last_in l [] e = absurd (cc)
+last_in l (k ∷ []) e = inl (cc)
+last_in l (k ∷ j ∷ locks) e = inr (last_in l (j ∷ locks) e)
+
+inode_under : (facts : Lock → List Fact) (locks : List Lock) → ((l : Lock) → In l locks → Under locks (facts l)) → Under locks (inode_taught facts (last_of locks))
+inode_under facts locks h = by (last_of locks) refl
+  where
+    by : (o : Option Lock) → last_of locks ≡ o → Under locks (inode_taught facts o)
+    by None e = λ f i. absurd i
+    by (Some l) e = h l (last_in l locks e)
+
+abbrev one_fact : (Lock → Fact) → Lock → List Fact
+one_fact make l = make l ∷ []
+
+one_under : (make : Lock → Fact) (locks : List Lock) → ((l : Lock) → (make l).cookie.0 ≡ l.cookie.0) → Under locks (inode_taught (one_fact make) (last_of locks))
+one_under make locks is = inode_under (one_fact make) locks (λ l i. under_one locks l (make l) [] i (is l) (λ g j. absurd j))
+
+taught_under : (o : Op) (a : Answer) (locks : List Lock) → Under locks (taught o a locks)
+taught_under (op.Lookup path) (told.Dir fid) locks = path_under told.Dir path locks
+taught_under (op.Lookup path) (told.File fid) locks = path_under told.File path locks
+taught_under (op.Stat path) (told.DirStat fid mode) locks =
+    under_both locks (names_taught told.Dir path locks) _ (path_under told.Dir path locks) (one_under _ locks (λ l. refl))
+taught_under (op.Stat path) (told.FileStat fid mode links layout) locks =
+    under_both locks (names_taught told.File path locks) _ (path_under told.File path locks)
+    (inode_under (stat_facts fid (told.FileStat fid mode links layout) layout) locks (λ l i. under_one locks l _ (_ ∷ []) i refl (under_one locks l _ [] i refl (λ g j. absurd j))))
+taught_under (op.List path) (told.Names names) locks =
+    under_both locks (names_taught told.Dir path locks) _ (path_under told.Dir path locks) (one_under _ locks (λ l. refl))
+taught_under (op.Layout path) (told.Layout layout) locks =
+    under_both locks (names_taught told.File path locks) _ (path_under told.File path locks) (one_under _ locks (λ l. refl))
+taught_under o a locks = λ f i. absurd i
+
+-- ---- the call that a request serves stands in its slot until it is told
+
+abbrev ServedBy : Op → Option Running → Type 0
+ServedBy o v = (r : Running) × ((v ≡ Some r) × (operation_of r.call ≡ Some o))
+
+abbrev Serves : ℕ → ℕ → List Line → Op → Type 0
+Serves c slot past o = ServedBy o (call_at c slot past)
+
+abbrev NotTold : Entry → Type 0
+NotTold (Told slot named given work) = ⊥
+NotTold _ = Unit {0}
+
+asks_serves : (o : Op) (served : Option ℕ) (slot : ℕ) (asking : Asking) (v : Option Running) → ServedBy o v → ServedBy o (asks_for served slot asking v)
+asks_serves o None slot asking v h = h
+asks_serves o (Some s) slot asking v h =
+    cond_both (nat_eq s slot) (asks asking v) v (ServedBy o)
+    (λ t. (record h.0 { asking = asking }, (ap (asks asking) h.1.0, h.1.1)))
+    (λ t. h)
+
+module _ (head : Head) (c slot : ℕ) where
+  serves_still : (past : List Line) (l : Line) (o : Op) → Grown head (l ∷ past) → NotTold l.entry → Serves c slot past o → Serves c slot (l ∷ past) o
+  serves_still past l o g = by l.at.node l.entry g.0.ok
+    where
+      by : (node : Node) (e : Entry) → EntryOk past (turn l.at.stamp node) node e → NotTold e → Serves c slot past o → Serves c slot (line (turn l.at.stamp node) e ∷ past) o
+      by (Client d) (Begin s running) ok nt h =
+          cond_both (nat_eq c d) (if nat_eq s slot then Some running else call_at c slot past) (call_at c slot past) (ServedBy o)
+          (λ t. cond_both (nat_eq s slot) (Some running) (call_at c slot past) (ServedBy o)
+          (λ u. let free : call_at c slot past ≡ None = subst (λ (v : ℕ). call_at v slot past ≡ None) (sym (eqb-true c d t)) (subst (λ (v : ℕ). call_at d v past ≡ None) (eqb-true s slot u) ok.free) in
+          let is = h.1.0 in absurd (cc))
+          (λ u. h))
+          (λ t. h)
+      by (Client d) (Queues t q) ok nt h = cond_both (nat_eq c d) (asks_for q.slot slot _ (call_at c slot past)) (call_at c slot past) (ServedBy o) (λ b. asks_serves o q.slot slot _ (call_at c slot past) h) (λ b. h)
+      by (Client d) (Heard t f r) ok nt h = cond_both (nat_eq c d) (asks_for f.slot slot _ (call_at c slot past)) (call_at c slot past) (ServedBy o) (λ b. asks_serves o f.slot slot _ (call_at c slot past) h) (λ b. h)
+      by (Client d) (Told s named given work) ok nt h = absurd nt
+      by (Client d) (Stands s running) ok nt h = absurd ok
+      by (Target t) (Begin s running) ok nt h = absurd ok
+      by (Target t) (Told s named given work) ok nt h = absurd ok
+      by (Target t) (Queues u q) ok nt h = absurd ok
+      by (Target t) (Heard u f r) ok nt h = absurd ok
+      by (Target t) (Stands s running) ok nt h = absurd ok
+      by _ _ ok nt h = h
+
+  -- ---- a reply that is heard: its request served the call, and its locks are held
+
+  module _ (at : At) (own : at.node ≡ Client c) (t : ℕ) (f : Flight) (r : ReplyTo) (serves : f.slot ≡ Some slot) where
+    abbrev AllHeld : List Line → Type 0
+    AllHeld past = (l : Lock) → In l r.locks → Present l.cookie.0 (held_at c past)
+
+    client_is : (d : ℕ) (here : At) → here.node ≡ Client d → here ≡ at → c ≡ d
+    client_is d here is e = let same : Client c ≡ Client d = sym own ∙ ap (λ (v : At). v.node) (sym e) ∙ is in cc
+
+    heard_serves : (past : List Line) (stamp : Stamp) (d u : ℕ) (g : Flight) (k : ReplyTo) → Allowed head past (turn stamp (Client d)) (Heard u g k) → Grown head past → c ≡ d → g ≡ f → Serves c slot (line (turn stamp (Client d)) (Heard u g k) ∷ past) f.op
+    heard_serves past stamp d u g k a grown same is =
+        let ok = a.of u (self u) in
+        let flies : In g (flights_at d u past) = subst (λ (v : List Flight). In g v) (sym (flights_is d u past)) ok.flying in
+        let call = (holds head past grown).asks.fly_calls d u g flies in
+        let of_slot : CallOf past d (Some slot) f.op = subst (λ (v : Flight). CallOf past d (Some slot) v.op) is (subst (λ (v : Option ℕ). CallOf past d v g.op) (ap (λ (v : Flight). v.slot) is ∙ serves) call) in
+        cond_both (nat_eq c d) (asks_for g.slot slot (Answered u k) (call_at c slot past)) (call_at c slot past) (ServedBy f.op)
+        (λ t. asks_serves f.op g.slot slot (Answered u k) (call_at c slot past) (served of_slot))
+        (λ t. served of_slot)
+      where
+        served : CallOf past d (Some slot) f.op → Serves c slot past f.op
+        served x = subst (λ (v : ℕ). Serves v slot past f.op) (sym same) (x.0, (x.1, x.3))
+
+    -- heard, and then nothing but locks shown
+    heard_now : (past : List Line) → Grown head past → HeardNow past at t f r → Serves c slot past f.op × AllHeld past
+    heard_now [] grown h = absurd h
+    heard_now (l ∷ past) grown h = by l.at.node l.entry grown.0 h (heard_now past grown.1)
+      where
+        by : (node : Node) (e : Entry) → Allowed head past (turn l.at.stamp node) e → HeardNow (line (turn l.at.stamp node) e ∷ past) at t f r → (HeardNow past at t f r → Serves c slot past f.op × AllHeld past)
+            → Serves c slot (line (turn l.at.stamp node) e ∷ past) f.op × AllHeld (line (turn l.at.stamp node) e ∷ past)
+        by (Client d) (Heard u g k) a h ih =
+            let same = client_is d (turn l.at.stamp (Client d)) refl h.0 in (
+              heard_serves past l.at.stamp d u g k a grown.1 same h.2,
+              λ x i. subst (λ (b : Bool). Present x.cookie.0 (if b then with_brought u (brought g.op k) (held_at c past) else held_at c past))
+                  (sym (ap (λ (v : ℕ). nat_eq c v) (sym same) ∙ self c))
+                  (brought_new u x (brought g.op k) (held_at c past) a.ok.0 (in_left x k.locks _ (subst (λ (v : ReplyTo). In x v.locks) (sym h.3) i))),
+            )
+        by (Client d) (Hold u x marked size seen) a h ih =
+            let past_h = ih h in
+            (past_h.0, λ y i. held_stays c past l.at.stamp y.cookie.0 (Client d) (Hold u x marked size seen) a.ok refl (past_h.1 y i))
+        by (Target u) (Heard v g k) a h ih = absurd a.ok
+        by (Target u) (Hold v x marked size seen) a h ih = absurd a.ok
+        by _ _ a h ih = absurd h
+
+    -- ---- what it told is known since, where no lock was given up
+
+    no_locks : (o : Op) (a : Answer) (facts : Fact) → In facts (taught o a []) → ⊥
+    no_locks o a x i = (taught_under o a [] x i).1.0
+
+    all_usable : (past : List Line) (o : Op) (a : Answer) → ((x : Fact) → In x (taught o a r.locks) → In x (facts_at c past)) → AllHeld past → AllUsable (bare_at c past) (taught o a r.locks)
+    all_usable past o a known held x i =
+        let l = taught_under o a r.locks x i in
+        (known x i, present_bare x.cookie (held_at c past) (subst (λ (v : ℕ). Present v (held_at c past)) (sym l.1.1) (held l.0 l.1.0)))
+
+    -- a call stands calm in the slot
+    abbrev IsCalm : List Line → Type 0
+    IsCalm past = (x : ℕ × Call) × (In x (calm (first_life c) (printed past)) × (x.0 ≡ slot))
+
+    abbrev Knows : List Line → Type 0
+    Knows past = AllUsable (bare_at c past) (taught f.op r.answer r.locks)
+
+    learned_still : (l : Line) (past : List Line) → Grown head (l ∷ past) → NotTold l.entry → Serves c slot past f.op × (IsCalm past → Knows past) → Serves c slot (l ∷ past) f.op × (IsCalm (l ∷ past) → Knows (l ∷ past))
+    learned_still l past grown nt h = (
+      serves_still past l f.op grown nt h.0,
+      λ calm_now x i.
+          let before = calm_before head c slot h.0.0 l past grown h.0.1.0 calm_now.0 calm_now.1.1 calm_now.1.0 in
+          notes_grow c past l.at.stamp l.at.node l.entry grown.0.ok (calm_gives_none head c l past grown calm_now.0 calm_now.1.0) x (h.1 (calm_now.0, (before, calm_now.1.1)) x i),
+    )
+
+    learned_now : (past : List Line) → Grown head past → Learned past at t f r → Serves c slot past f.op × (IsCalm past → Knows past)
+    learned_now [] grown h = absurd h
+    learned_now (l ∷ past) grown h = by l.at.node l.entry grown h (learned_now past grown.1)
+      where
+        by : (node : Node) (e : Entry) → Grown head (line (turn l.at.stamp node) e ∷ past) → Learned (line (turn l.at.stamp node) e ∷ past) at t f r → (Learned past at t f r → Serves c slot past f.op × (IsCalm past → Knows past))
+            → Serves c slot (line (turn l.at.stamp node) e ∷ past) f.op × (IsCalm (line (turn l.at.stamp node) e ∷ past) → Knows (line (turn l.at.stamp node) e ∷ past))
+        by (Client d) (Heard u g k) grown h ih =
+            let same = client_is d (turn l.at.stamp (Client d)) refl h.0 in (
+              heard_serves past l.at.stamp d u g k grown.0 grown.1 same h.2,
+              λ calm_now x i. absurd (no_locks f.op r.answer x (subst (λ (v : List Lock). In x (taught f.op r.answer v)) h.4 i)),
+            )
+        by (Client d) (Learns u o a locks) grown h ih =
+            let same = client_is d (turn l.at.stamp (Client d)) refl h.0 in
+            let now = heard_now past grown.1 h.4 in
+            let held : AllHeld (line (turn l.at.stamp (Client d)) (Learns u o a locks) ∷ past) = now.1 in
+            let own : is_client c (Client d) ≡ true = ap (λ (v : ℕ). nat_eq c v) (sym same) ∙ self c in
+            let is : taught f.op r.answer r.locks ≡ taught o a locks = ap (λ (v : Op). taught v r.answer r.locks) (sym h.1) ∙ ap (λ (v : Answer). taught o v r.locks) (sym h.2) ∙ ap (λ (v : List Lock). taught o a v) (sym h.3) in (
+              now.0,
+              λ calm_now. all_usable (line (turn l.at.stamp (Client d)) (Learns u o a locks) ∷ past) f.op r.answer
+                  (λ x i. subst (λ (b : Bool). In x (if b then taught o a locks ++ facts_at c past else facts_at c past)) (sym own) (in_left x (taught o a locks) (facts_at c past) (subst (λ (v : List Fact). In x v) is i)))
+                  held,
+            )
+        by (Target u) (Heard v g k) grown h ih = absurd grown.0.ok
+        by (Target u) (Learns v o a locks) grown h ih = absurd grown.0.ok
+        by (Client d) (Told s named given work) grown h ih = absurd h
+        by (Target u) (Told s named given work) grown h ih = absurd h
+        by node e grown h ih = learned_still (line (turn l.at.stamp node) e) past grown tt (ih h)
+
+-- ---- the locks of what was done
+
+abbrev ComesOf : Deed → Type 0
+ComesOf d = IsReading d.op → NoRefusal d.reply.answer → Comes d.op d.reply.answer d.reply.locks
+
+module _ (osts : ℕ) (past : List Line) (at : At) where
+  act_comes : (d : Deed) → ActOk osts past at d → ComesOf d
+  act_comes d ok =
+      let v = server_of osts past in
+      let r = ok.request in
+      subst ComesOf (sym ok.is) (λ reads fine. reading_comes r.who v.tree v.cookie osts none r.who r.op reads fine)
+
+  txn_comes : (d : Deed) → TxnOk osts past at d → ComesOf d
+  txn_comes d ok =
+      let v = server_of osts past in
+      let r = ok.request in
+      subst ComesOf (sym ok.is) (λ reads fine. let moves = ok.moves in let still = readings_change_nothing osts v.tree (asked r none) reads in absurd (cc))
+
+acted_comes : (head : Head) (past : List Line) (d : Deed) → Grown head past → Acted past d → ComesOf d
+acted_comes head [] d g a = absurd a
+acted_comes head (l ∷ past) d g a = by l.at.node l.entry g.0 a (acted_comes head past d g.1)
+  where
+    of_it : (t : ℕ) → t ≡ 0 → nat_eq 0 t ≡ true
+    of_it t e = ap (λ (v : ℕ). nat_eq 0 v) e
+
+    by : (node : Node) (e : Entry) → Allowed head past (turn l.at.stamp node) e → Acted (line (turn l.at.stamp node) e ∷ past) d → (Acted past d → ComesOf d) → ComesOf d
+    by (Client c) (Act x) k a h = absurd k.ok
+    by (Client c) (Made x) k a h = absurd k.ok
+    by (Target t) (Act x) k a h = ⊎_elim
+        (λ (p : x ≡ d). subst ComesOf p (act_comes head.osts (only 0 past) (turn l.at.stamp (Target t)) x (k.of 0 (of_it t k.ok))))
+        (λ (p : Acted past d). h p)
+        a
+    by (Target t) (Made x) k a h = ⊎_elim
+        (λ (p : x ≡ d). subst ComesOf p (txn_comes head.osts (only 0 past) (turn l.at.stamp (Target t)) x (k.of 0 (of_it t k.ok))))
+        (λ (p : Acted past d). h p)
+        a
+    by _ _ k a h = h a
+
+-- ---- a call that is told by a reply is known
+
+two_runnings : (r s : Running) (v : Option Running) → v ≡ Some r → v ≡ Some s → r ≡ s
+two_runnings r s v a b = cc
+
+pub told_is_known : (head : Head) (c slot : ℕ) (past : List Line) (at : At) (named : At) (given : Answer) (work : Option Work) → Grown head past → Agrees (bare_at c past) → at.node ≡ Client c → (ok : ToldOk past at c slot named given work) → NoRefusal given
+    → (x : ℕ × Call) → In x (calm (first_life c) (printed past)) → x.0 ≡ slot → IsKnown (bare_at c past) ok.running.call
+told_is_known head c slot past at named given work g agrees own ok fine x i is =
+    let learned = learned_now head c slot at own ok.target ok.flight ok.reply ok.serves past g ok.learned in
+    let replied = (holds head past g).replies c slot ok.target ok.running ok.reply ok.call ok.answered in
+    let same : learned.0.0 ≡ ok.running = two_runnings learned.0.0 ok.running (call_at c slot past) learned.0.1.0 ok.call in
+    let becomes : operation_of ok.running.call ≡ Some ok.flight.op = ap (λ (v : Running). operation_of v.call) (sym same) ∙ learned.0.1.1 in
+    let asked_for : replied.deed.op ≡ ok.flight.op = one_op replied.deed.op ok.flight.op (operation_of ok.running.call) replied.op becomes in
+    let comes = acted_comes head past replied.deed g (acted_whole ok.target past replied.deed replied.acted) in
+    let answered : replied.deed.reply.answer ≡ ok.reply.answer = ap (λ (v : ReplyTo). v.answer) replied.is in
+    let locked : replied.deed.reply.locks ≡ ok.reply.locks = ap (λ (v : ReplyTo). v.locks) replied.is in
+    let fine_reply : NoRefusal ok.reply.answer = subst NoRefusal ok.of_answer fine in
+    let comes_now : IsReading ok.flight.op → NoRefusal ok.reply.answer → Comes ok.flight.op ok.reply.answer ok.reply.locks =
+    subst (λ (v : Op). IsReading v → NoRefusal ok.reply.answer → Comes v ok.reply.answer ok.reply.locks) asked_for
+    (subst (λ (v : Answer). IsReading replied.deed.op → NoRefusal v → Comes replied.deed.op v ok.reply.locks) answered
+    (subst (λ (v : List Lock). IsReading replied.deed.op → NoRefusal replied.deed.reply.answer → Comes replied.deed.op replied.deed.reply.answer v) locked comes)) in
+    taught_known (bare_at c past) agrees ok.running.call ok.flight.op becomes ok.reply.answer ok.reply.locks (λ reads. comes_now reads fine_reply)
+    (subst (λ (v : Answer). IsToldAsIs ok.running.call v) ok.of_answer ok.as_is)
+    (learned.1 (x, (i, is)))
+  where
+    one_op : (a b : Op) (v : Option Op) → v ≡ Some a → v ≡ Some b → a ≡ b
+    one_op a b v e f = cc

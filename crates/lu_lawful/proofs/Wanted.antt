@@ -1,0 +1,175 @@
+-- The locks that an act grants are those that its request asks for: over the contents at the act, one on each inode of its path, with
+-- the bits of its row.
+use Rattle.std.proofs.Common.{◌≡◌, ℕ, ◌+◌, ◌<◌, Bool, true, false, List, [], ◌∷◌, ◌⊎◌, inl, inr, ⊎_elim, Option, Some, None, refl, sym, subst, ap, ◌∙◌, arith}
+use Rattle.std.specs.Prelude.{nat_eq, if◌then◌else◌, map, find}
+use Rattle.std.proofs.lemmas.Bool.Decides.{nat_tests}
+use Rattle.lu_base.specs.declared.ids.At.{At}
+use Rattle.lu_base.specs.declared.ids.Node.{Node}
+use Rattle.lu_base.specs.declared.ids.Node.TheVariants.{Client, Target}
+use Rattle.lu_base.specs.declared.ids.Stamp.{Stamp}
+use Rattle.lu_base.specs.declared.ids.Who.{Who}
+use Rattle.lu_base.specs.declared.locks.Ask.{Ask}
+use Rattle.lu_base.specs.declared.locks.Lock.{Lock}
+use Rattle.lu_base.specs.declared.locks.Mode.TheVariants.{PR}
+use Rattle.lu_base.specs.declared.locks.Policy.{Policy}
+use Rattle.lu_base.specs.declared.locks.Policy.TheVariants.{Bits, Range}
+use Rattle.lu_lock.specs.Growth.{granted_ask, grown_policy, opposing}
+use Rattle.lu_msg.specs.declared.operations.Op.{Op}
+use Rattle.lu_part.specs.declared.parts.Want.{Want}
+use Rattle.lu_machine.specs.Tree.{Tree}
+use Rattle.lu_machine.specs.Footprint.{Operation, grants}
+use Rattle.lu_machine.proofs.Made.{Named, named_empty, named_wide}
+use Rattle.lu_words.specs.Carried.{Deed}
+use Rattle.lu_words.specs.Words.{Entry, Act, Txn as Made, Grant, Line, line}
+use Rattle.lu_words.specs.Concerns.{only}
+use Rattle.lu_words.specs.Printed.{printed}
+use Rattle.lu_target_rows.specs.Names.{locks_from}
+use Rattle.lu_covered.specs.Makes.{Path}
+use Rattle.lu_covered.specs.TargetParts.{operation}
+use Rattle.lu_covered.specs.TargetStates.{Server, none, count_at, tree_at, server_of}
+use Rattle.lu_covered.specs.Heads.{Head}
+use Rattle.lu_laws.specs.Words.Pasts.{or_else, same_turn}
+use Rattle.lu_laws.specs.Words.Requests.{asked}
+use Rattle.lu_laws.specs.Words.Asked.{Acting, acting, wanted, wanted_lock, wanted_by, requested, is_for}
+use Rattle.lu_guards.proofs.Guards.{In, Did, Allowed, Grown}
+use Rattle.lu_guards.proofs.Lists.{self}
+use Rattle.lu_guards.proofs.Parts.{server_is}
+use Rattle.lu_facts.proofs.Groups.{turn}
+use Rattle.lu_facts.proofs.Asked.{acted_on_names}
+use Rattle.lu_facts.proofs.Inodes.{Kinds, kinds_empty, kinds_after, EachOnce, grants_once}
+use Rattle.lu_facts.proofs.Named.{named_after}
+use Rattle.lu_lawful.proofs.Turns.{same_turn_self, same_life_self}
+use Rattle.lu_lawful.proofs.Story.{about_it}
+use Rattle.lu_lawful.proofs.Facts.{AskedAt, AllAsked}
+use Rattle.lu_lawful.proofs.Deeds.{txn_is}
+use Rattle.lu_lawful.proofs.Contents.{number_is, contents_are}
+use Rattle.lu_lawful.proofs.Once.{all_asked}
+use Rattle.lu_lawful.proofs.Given.{did_acted}
+
+-- ---- the metadata target's tree
+
+-- whatever paths were made
+abbrev Any : Path → Type 0
+Any path = Unit {0}
+
+-- its numbers, and that no inode is a directory and a file
+abbrev pub IsTree : ℕ → Tree → Type 0
+IsTree count t = Named Any (4294967296 + count) t × Kinds t
+
+tree_txn : (head : Head) (past : List Line) (stamp : Stamp) (d : Deed) → Allowed head past (turn stamp (Target 0)) (Made d) → Grown head past → IsTree (count_at 0 past) (tree_at head.osts 0 past)
+    → IsTree (count_at 0 past + 1) (tree_at head.osts 0 (line (turn stamp (Target 0)) (Made d) ∷ past))
+tree_txn head past stamp d a g h =
+    let is = txn_is head past stamp 0 d a in
+    let number = number_is head past (turn stamp (Target 0)) d g is in
+    let above : 4294967296 + count_at 0 past < d.reply.txn.0 = omega (arith, number) in
+    let on_names = acted_on_names head (line (turn stamp (Target 0)) (Made d) ∷ past) d (a, g) (inl refl) in
+    let named = named_after head.osts (tree_at head.osts 0 past) d.reply.txn d.reply.who Any (4294967296 + count_at 0 past) h.0 above d.op on_names in (
+      subst (λ (n : ℕ). Named Any n (tree_at head.osts 0 (line (turn stamp (Target 0)) (Made d) ∷ past))) number
+          (named_wide _ Any d.reply.txn.0 d.reply.txn.0 (tree_at head.osts 0 (line (turn stamp (Target 0)) (Made d) ∷ past)) (λ path m. tt) (omega arith) named),
+      kinds_after head.osts (tree_at head.osts 0 past) (operation d) (4294967296 + count_at 0 past) h.0.low above h.1,
+    )
+
+pub tree_is : (head : Head) (past : List Line) → Grown head past → IsTree (count_at 0 past) (tree_at head.osts 0 past)
+tree_is head [] g = (named_empty Any 4294967296 (omega arith), kinds_empty)
+tree_is head (l ∷ past) g = by l.at.node l.entry g.0 (tree_is head past g.1)
+  where
+    by : (node : Node) (e : Entry) → Allowed head past (turn l.at.stamp node) e → IsTree (count_at 0 past) (tree_at head.osts 0 past)
+        → IsTree (count_at 0 (line (turn l.at.stamp node) e ∷ past)) (tree_at head.osts 0 (line (turn l.at.stamp node) e ∷ past))
+    by (Client c) (Made d) a h = absurd a.ok
+    by (Target t) (Made d) a h =
+        subst (λ (v : ℕ). IsTree (count_at 0 (line (turn l.at.stamp (Target v)) (Made d) ∷ past)) (tree_at head.osts 0 (line (turn l.at.stamp (Target v)) (Made d) ∷ past))) (sym a.ok)
+        (tree_txn head past l.at.stamp d (subst (λ (v : ℕ). Allowed head past (turn l.at.stamp (Target v)) (Made d)) a.ok a) g.1 h)
+    by node e a h = h
+
+-- ---- the locks of an act
+
+abbrev pub asks : Who → Op → Operation
+asks who o = record { number = record { 0 = 0 }; who = who; op = o }
+
+-- what was just done is a transaction, which grants nothing, or an act of this turn on what was asked for
+pub record IsAct (head : Head) (past : List Line) (d : Deed) : Type 0 where
+  pub cookie : ℕ
+  pub acting : acting d.reply.at (printed past) ≡ Some (record { who = d.reply.who; xid = d.reply.xid.0 })
+  pub asked : AskedAt past d
+  pub locks : d.reply.locks ≡ locks_from cookie d.reply.who (grants head.osts (tree_at head.osts 0 past) (asks d.reply.who d.op))
+
+act_here : (head : Head) (past : List Line) (stamp : Stamp) (t : ℕ) (d : Deed) → Allowed head past (turn stamp (Target t)) (Act d) → Grown head past → AskedAt past d → IsAct head (line (turn stamp (Target t)) (Act d) ∷ past) d
+act_here head past stamp t d a g asked =
+    let ok = a.of 0 (about_it t a.ok) in
+    let at : d.reply.at ≡ turn stamp (Target t) = ap (λ (v : Deed). v.reply.at) ok.is in
+    let who : d.reply.who ≡ ok.request.who = ap (λ (v : Deed). v.reply.who) ok.is in
+    let op : d.op ≡ ok.request.op = ap (λ (v : Deed). v.op) ok.is in
+    record {
+      cookie = (server_of head.osts (only 0 past)).cookie;
+      acting = ap (λ (b : Bool). or_else (if b then Some (record { who = d.reply.who; xid = d.reply.xid.0 }) else None) (acting d.reply.at (printed past))) (subst (λ (v : At). same_turn (turn stamp (Target t)) v ≡ true) (sym at) (same_turn_self (turn stamp (Target t))));
+      asked = asked;
+      locks = ap (λ (v : Deed). v.reply.locks) ok.is
+          ∙ ap (λ (v : Server). locks_from (server_of head.osts (only 0 past)).cookie ok.request.who (grants head.osts v.tree (asks ok.request.who ok.request.op))) (sym (server_is head.osts 0 past))
+          ∙ ap (λ (v : Who). locks_from (server_of head.osts (only 0 past)).cookie v (grants head.osts (tree_at head.osts 0 past) (asks v ok.request.op))) (sym who)
+          ∙ ap (λ (v : Op). locks_from (server_of head.osts (only 0 past)).cookie d.reply.who (grants head.osts (tree_at head.osts 0 past) (asks d.reply.who v))) (sym op);
+    }
+
+did_is : (head : Head) (past : List Line) (d : Deed) → Grown head past → AllAsked past → Did past d → (d.reply.locks ≡ []) ⊎ IsAct head past d
+did_is head [] d g asked i = absurd i
+did_is head (l ∷ past) d g asked i = by l.at.node l.entry g.0 asked i (did_is head past d g.1)
+  where
+    by : (node : Node) (e : Entry) → Allowed head past (turn l.at.stamp node) e → AllAsked (line (turn l.at.stamp node) e ∷ past) → Did (line (turn l.at.stamp node) e ∷ past) d
+        → (AllAsked past → Did past d → (d.reply.locks ≡ []) ⊎ IsAct head past d) → (d.reply.locks ≡ []) ⊎ IsAct head (line (turn l.at.stamp node) e ∷ past) d
+    by (Client c) (Act f) a asked i h = absurd a.ok
+    by (Target t) (Act f) a asked i h = inr (subst (λ (v : Deed). IsAct head (line (turn l.at.stamp (Target t)) (Act f) ∷ past) v) i (act_here head past l.at.stamp t f a g.1 asked.0))
+    by (Client c) (Made f) a asked i h = absurd a.ok
+    by (Target t) (Made f) a asked i h = inl (ap (λ (v : Deed). v.reply.locks) (sym i) ∙ ap (λ (v : Deed). v.reply.locks) (a.of 0 (about_it t a.ok)).is)
+    by (Client c) (Grant lock asks) a asked i h = absurd a.ok
+    by (Target t) (Grant lock asks) a asked i h = ⊎_elim (λ (q : d.reply.locks ≡ []). inl q) (λ (q : IsAct head past d). inr (record { cookie = q.cookie; acting = q.acting; asked = q.asked; locks = q.locks })) (h asked i)
+    by node e a asked i h = absurd i
+
+-- ---- the lock as it was asked for
+
+module _ (who : Who) where
+  -- on which inode it is, and that it is on bits
+  lock_of : (k : ℕ) (ws : List Want) (l : Lock) → In l (locks_from k who ws) → (w : Want) × In w ws × (l ≡ record { cookie = l.cookie; resource = record { fid = w.fid; stripe = 0 }; ask = record { who = who; mode = PR; policy = Bits w.bits } })
+  lock_of k [] l i = absurd i
+  lock_of k (w ∷ ws) l (inl e) =
+      (w, inl refl, subst (λ (v : Lock). v ≡ record { cookie = v.cookie; resource = record { fid = w.fid; stripe = 0 }; ask = record { who = who; mode = PR; policy = Bits w.bits } }) e refl)
+  lock_of k (w ∷ ws) l (inr i) = let r = lock_of (k + 1) ws l i in (r.0, inr r.1, r.2)
+
+  -- it is the first one asked for on that inode
+  found : (k : ℕ) (ws : List Want) (l : Lock) → EachOnce ws → In l (locks_from k who ws) → find (is_for l) (map (wanted_lock l.cookie who) ws) ≡ Some l
+  found k [] l once i = absurd i
+  found k (w ∷ ws) l once (inl e) = subst (λ (v : Lock). find (is_for v) (map (wanted_lock v.cookie who) (w ∷ ws)) ≡ Some v) e (rw (self w.fid.0, same_life_self who) refl)
+  found k (w ∷ ws) l once (inr i) =
+      let r = lock_of (k + 1) ws l i in
+      let fid : l.resource.fid.0 ≡ r.0.fid.0 = ap (λ (v : Lock). v.resource.fid.0) r.2 in
+      let other : nat_eq w.fid.0 l.resource.fid.0 ≡ false = apart w.fid.0 l.resource.fid.0 (λ q. once.0 r.0 r.1 (sym fid ∙ sym q)) in
+      rw other (found (k + 1) ws l once.1 i)
+    where
+      apart : (a b : ℕ) → (a ≡ b → ⊥) → nat_eq a b ≡ false
+      apart a b n = grind (arith, nat_tests, n)
+
+-- a lock on bits doesn't grow
+grown_same : (a : Ask) (bits : ℕ) (granted waiting : List Ask) → a.policy ≡ Bits bits → a ≡ granted_ask a granted waiting
+grown_same a bits granted waiting e = ap (λ (p : Policy). record { who = a.who; mode = a.mode; policy = p }) (by a.policy e)
+  where
+    by : (p : Policy) → p ≡ Bits bits → p ≡ grown_policy p (opposing a.mode granted) (opposing a.mode waiting)
+    by (Bits b) e = refl
+    by (Range x) e = absurd (cc)
+
+-- ---- what was just done asked for each lock that it grants
+
+pub asked_as : (head : Head) (past : List Line) (at : At) (d : Deed) (l : Lock) → Grown head past → Did past d → d.reply.at ≡ at → In l d.reply.locks
+    → (find (is_for l) (requested head.osts 0 (printed past) at l.cookie) ≡ Some l) × ((granted waiting : List Ask) → l.ask ≡ granted_ask l.ask granted waiting)
+asked_as head past at d l g did turn i = ⊎_elim
+    (λ (q : d.reply.locks ≡ []). absurd (subst (λ (ls : List Lock). In l ls) q i))
+    (λ (q : IsAct head past d).
+    let ws = grants head.osts (tree_at head.osts 0 past) (asks d.reply.who d.op) in
+    let j = subst (λ (ls : List Lock). In l ls) q.locks i in
+    let tree = tree_is head past g in
+    let once : EachOnce ws = grants_once head.osts (tree_at head.osts 0 past) none d.reply.who tree.0.one tree.1 d.op (acted_on_names head past d g (did_acted past d did)) in
+    let r = lock_of d.reply.who q.cookie ws l j in (
+      ap (λ (o : Option Acting). find (is_for l) (wanted_by head.osts (printed past) l.cookie o)) (subst (λ (v : At). acting v (printed past) ≡ Some (record { who = d.reply.who; xid = d.reply.xid.0 })) turn q.acting)
+          ∙ ap (λ (o : Option Op). find (is_for l) (map (wanted_lock l.cookie d.reply.who) (wanted head.osts (printed past) d.reply.who o))) q.asked
+          ∙ ap (λ (t : Tree). find (is_for l) (map (wanted_lock l.cookie d.reply.who) (grants head.osts t (asks d.reply.who d.op)))) (contents_are head past g (all_asked head past g))
+          ∙ found d.reply.who q.cookie ws l once j,
+      λ granted waiting. grown_same l.ask r.0.bits granted waiting (ap (λ (v : Lock). v.ask.policy) r.2),
+    ))
+    (did_is head past d g (all_asked head past g) did)

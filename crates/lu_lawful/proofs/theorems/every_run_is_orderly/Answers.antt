@@ -1,5 +1,0 @@
-use Rattle.lu_lawful.proofs.OrderlyWhole.{orderly}
-use Rattle.lu_lawful.proofs.theorems.every_run_is_orderly.Goals as goal
-
-pub returns : goal.returns
-returns c = record { orderly = orderly }

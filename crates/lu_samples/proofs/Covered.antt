@@ -1,0 +1,117 @@
+-- The scenes with locks are covered, so what they come to is lawful.
+use Rattle.std.proofs.Common.{◌≡◌, ℕ, zero, suc, ◌+◌, ◌≤◌, List, [], ◌∷◌, None, inl, refl, lit≤}
+use Rattle.std.specs.Prelude.{codes, All}
+use Rattle.std.proofs.lemmas.List.Elements.{All-nil, All-cons}
+use Rattle.std.proofs.lemmas.List.Sums.{AllPass-from_list_all}
+use Rattle.lu_base.specs.Texts.{is_name_byte, IsName, IsPath}
+use Rattle.lu_scene.specs.declared.scene.Scene.{Scene}
+use Rattle.lu_scene.specs.declared.scene.SceneLine.{SceneLine}
+use Rattle.lu_scene.specs.Grammar.{LineFits}
+use Rattle.lu_table.specs.Heads.{IsHead}
+use Rattle.lu_table.specs.Scenarios.{Config, Next, Goes, Ends, Stops, Fails, head_of, next, start, start_fails, steps, Leads, here, more}
+use Rattle.lu_laws.proofs.Words.{◌then◌}
+use Rattle.lu_laws.specs.Lawful.{Lawful}
+use Rattle.lu_covered_scenes.specs.Covered.{IsCovered, IsCoveredIn}
+use Rattle.lu_covered_scenes.proofs.Runs.{scene_unfailed}
+use Rattle.lu_covered_scenes.proofs.Stated.{scene_lawful}
+use Rattle.lu_samples.proofs.Words.{with_head, after, trace_after, never}
+use Rattle.lu_samples.proofs.Locks.{called_back, waits, known}
+
+is_path : IsPath (codes "a" ∷ [])
+is_path =
+    record {
+      are_names = (lit≤ tt, All-cons IsName (codes "a") [] (record { filled = λ e. absurd cc; bytes = AllPass-from_list_all is_name_byte (codes "a") refl; not_here = λ e. absurd cc; not_above = λ e. absurd cc }) (All-nil IsName));
+      bytes = lit≤ tt;
+    }
+
+is_root : IsPath []
+is_root = record { are_names = (lit≤ tt, All-nil IsName); bytes = lit≤ tt }
+
+is_head : (clients : ℕ) → 1 ≤ clients → clients ≤ 16 → IsHead (head_of (with_head clients 1))
+is_head clients one most =
+    record {
+      clients = one;
+      most_clients = most;
+      osts = lit≤ tt;
+      most_osts = lit≤ tt;
+      expire = lit≤ tt;
+      dirty = lit≤ tt;
+      unused = lit≤ tt;
+      flight = lit≤ tt;
+      most_flight = lit≤ tt;
+    }
+
+-- evidence for each of some lines
+abbrev Each : (SceneLine → Type 0) → List SceneLine → Type 0
+Each P [] = Unit {0}
+Each P (line ∷ lines) = P line × Each P lines
+
+all_of : (P : SceneLine → Type 0) (lines : List SceneLine) → Each P lines → All P lines
+all_of P [] each = All-nil P
+all_of P (line ∷ lines) each = All-cons P line lines each.0 (all_of P lines each.1)
+
+pub called_back_covered : IsCovered called_back
+called_back_covered =
+    record {
+      limits = record {
+        head = is_head 2 (lit≤ tt) (lit≤ tt);
+        lines = all_of (LineFits called_back.head) called_back.lines ((lit≤ tt, lit≤ tt, is_path) then tt then (lit≤ tt, lit≤ tt, is_path) then tt then (lit≤ tt, lit≤ tt, is_path) then tt then tt);
+      };
+      lines = all_of (IsCoveredIn called_back.lines) called_back.lines ((tt, tt) then tt then (tt, tt) then tt then (tt, tt) then tt then tt);
+      time = inl (lit≤ tt);
+    }
+
+pub waits_covered : IsCovered waits
+waits_covered =
+    record {
+      limits = record {
+        head = is_head 3 (lit≤ tt) (lit≤ tt);
+        lines = all_of (LineFits waits.head) waits.lines ((lit≤ tt, lit≤ tt, is_path) then tt then (lit≤ tt, lit≤ tt, is_path) then tt then (lit≤ tt, lit≤ tt, is_path) then tt then (lit≤ tt, lit≤ tt, is_path) then tt then tt);
+      };
+      lines = all_of (IsCoveredIn waits.lines) waits.lines ((tt, tt) then tt then (tt, tt) then tt then (tt, tt) then tt then (tt, tt) then tt then tt);
+      time = inl (lit≤ tt);
+    }
+
+pub known_covered : IsCovered known
+known_covered =
+    record {
+      limits = record {
+        head = is_head 2 (lit≤ tt) (lit≤ tt);
+        lines = all_of (LineFits known.head) known.lines ((lit≤ tt, lit≤ tt, is_path) then tt then (lit≤ tt, lit≤ tt, is_path) then tt then (lit≤ tt, lit≤ tt, is_path) then (lit≤ tt, lit≤ tt, is_root) then (lit≤ tt, lit≤ tt, is_path) then (lit≤ tt, lit≤ tt) then (lit≤ tt, lit≤ tt) then lit≤ tt then tt then tt);
+      };
+      lines = all_of (IsCoveredIn known.lines) known.lines ((tt, tt) then tt then (tt, tt) then tt then (tt, tt) then (tt, tt) then (tt, tt) then tt then tt then tt then tt then tt);
+      time = inl (lit≤ tt);
+    }
+
+-- ---- what a scene comes to in some steps, it leads to
+
+leads_on : (scene : Scene) (n : ℕ) (c : Config) → Leads (head_of scene.head) never (start (head_of scene.head) never scene) c
+    → Leads (head_of scene.head) never (start (head_of scene.head) never scene) (steps (head_of scene.head) never n c)
+leads_on scene zero c so_far = so_far
+leads_on scene (suc n) c so_far = by (leads_on scene n) (next (head_of scene.head) never c) refl
+  where
+    by : ((d : Config) → Leads (head_of scene.head) never (start (head_of scene.head) never scene) d → Leads (head_of scene.head) never (start (head_of scene.head) never scene) (steps (head_of scene.head) never n d))
+        → (x : Next) → next (head_of scene.head) never c ≡ x → Leads (head_of scene.head) never (start (head_of scene.head) never scene) (elim x [ Goes d ↦ steps (head_of scene.head) never n d | _ ↦ c ])
+    by rest (Goes d) is = rest d (more _ c d so_far is)
+    by rest Ends is = so_far
+    by rest Stops is = so_far
+    by rest Fails is = so_far
+
+leads : (scene : Scene) (n : ℕ) → Leads (head_of scene.head) never (start (head_of scene.head) never scene) (after n scene)
+leads scene n = leads_on scene n (start (head_of scene.head) never scene) (here _)
+
+-- ---- so it is lawful: no disk fails in it, since none fails at the start
+
+lawful : (scene : Scene) (n : ℕ) → IsCovered scene → start_fails never 0 (scene.head.osts + 1) ≡ None → Lawful scene.head.osts (trace_after n scene)
+lawful scene n covered starts =
+    let c = after n scene in
+    scene_lawful scene covered never c (leads scene n) (scene_unfailed scene covered never c (leads scene n) starts)
+
+pub called_back_lawful : Lawful 1 (trace_after 20 called_back)
+called_back_lawful = lawful called_back 20 called_back_covered refl
+
+pub waits_lawful : Lawful 1 (trace_after 30 waits)
+waits_lawful = lawful waits 30 waits_covered refl
+
+pub known_lawful : Lawful 1 (trace_after 30 known)
+known_lawful = lawful known 30 known_covered refl
