@@ -11,3 +11,4 @@ pub mod Answers
 pub mod Callbacks
 pub mod Recovering
 pub mod Resuming
+pub use Rattle.lu_call.specs.Ranges

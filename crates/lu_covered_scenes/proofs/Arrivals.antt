@@ -24,16 +24,16 @@ use Rattle.lu_target_rows.specs.Lives.{is_life}
 use Rattle.lu_target_rows.specs.States.{lives_from}
 use Rattle.lu_covered.specs.Calls.{operation_of, first_life}
 use Rattle.lu_covered.specs.Heads.{Head}
-use Rattle.lu_guards.proofs.Guards.{In, Was, EntryOf, LivesAt, Grown}
-use Rattle.lu_guards.proofs.Lists.{self}
-use Rattle.lu_facts.proofs.Groups.{Acted, Flew, HoldsAt}
-use Rattle.lu_facts.proofs.Lines.{flew_whole}
-use Rattle.lu_facts.proofs.Numbers.{client_is}
-use Rattle.lu_facts.proofs.All.{holds}
-use Rattle.lu_facts.proofs.Asked.{AskedBy, flew_asked}
-use Rattle.lu_facts.proofs.Files.{acted_told}
-use Rattle.lu_facts.proofs.OnNames.{IsPlain, op_is}
-use Rattle.lu_facts.proofs.Sides.{sent_only}
+use Rattle.lu_lawful.proofs.Guards.{In, Was, EntryOf, LivesAt, Grown}
+use Rattle.lu_lawful.proofs.Lists.{self}
+use Rattle.lu_lawful.proofs.Groups.{Acted, Flew, HoldsAt}
+use Rattle.lu_lawful.proofs.FactLines.{flew_whole}
+use Rattle.lu_lawful.proofs.Numbers.{client_is}
+use Rattle.lu_lawful.proofs.All.{holds}
+use Rattle.lu_lawful.proofs.Asked.{AskedBy, flew_asked}
+use Rattle.lu_lawful.proofs.Files.{acted_told}
+use Rattle.lu_lawful.proofs.OnNames.{IsPlain, op_is}
+use Rattle.lu_lawful.proofs.Sides.{sent_only}
 use Rattle.lu_covered_scenes.specs.Covered.{IsFile, IsCovered}
 use Rattle.lu_covered_scenes.proofs.Every.{Every}
 use Rattle.lu_covered_scenes.proofs.Clients.{IsReader}

@@ -47,7 +47,7 @@ use Rattle.lu_client_rows.specs.Slots.{begins, goes, goes_at, goes_on, passes, a
 use Rattle.lu_client_rows.specs.Starts.{notes_of, pins, tells_known, starts_known, stats_file, starts_stat, starts, answers, goes_plain}
 use Rattle.lu_client_rows.specs.States.{Client, Limits, Store, follow}
 use Rattle.lu_covered.specs.Calls.{operation_of}
-use Rattle.lu_facts.proofs.OnNames.{IsOnNames, IsPlain}
+use Rattle.lu_lawful.proofs.OnNames.{IsOnNames, IsPlain}
 use Rattle.lu_covered_scenes.proofs.Every.{Every, every_more, every_filter}
 use Rattle.lu_covered_scenes.proofs.Clients.{AskingCalm, RunningCalm, CallCalm, ImportCalm, FactCalm, IsReader, HeldCalm, Calm, LineCalm, AllCalm, follow_calm, on_calm}
 

@@ -27,8 +27,8 @@ use Rattle.lu_client_rows.specs.Imports.{Import, Serving, rest, import_after, im
 use Rattle.lu_client_rows.specs.States.{Client, after, turn, follow}
 use Rattle.lu_covered.specs.Calls.{operation_of}
 use Rattle.lu_covered.specs.Covered.{IsCovered, IsCoveredMessage, IsWithoutWork}
-use Rattle.lu_facts.proofs.OnNames.{IsOnNames, IsPlain}
-use Rattle.lu_guards.proofs.Covers.{EntriesCovered}
+use Rattle.lu_lawful.proofs.OnNames.{IsOnNames, IsPlain}
+use Rattle.lu_lawful.proofs.Covers.{EntriesCovered}
 use Rattle.lu_covered_scenes.proofs.Every.{Every, every_more, every_filter, every_map}
 
 -- ---- what is so of its parts

@@ -14,10 +14,10 @@ use Rattle.lu_scene.specs.declared.scene.SceneLine.TheVariants.{Call, Run, RunSo
 use Rattle.lu_trace.specs.WellFormed.{IsCall}
 use Rattle.lu_covered.specs.Calls.{operation_of}
 use Rattle.lu_covered.specs.Makes.{Path, CallMakes, CallMakesFile, Misses, StatsNoFile}
-use Rattle.lu_facts.proofs.Asked.{Began}
-use Rattle.lu_facts.proofs.Files.{File_in}
-use Rattle.lu_facts.proofs.Finds.{Made_in}
-use Rattle.lu_facts.proofs.Unlocked.{misses_fewer, AllMiss}
+use Rattle.lu_lawful.proofs.Asked.{Began}
+use Rattle.lu_lawful.proofs.Files.{File_in}
+use Rattle.lu_lawful.proofs.Finds.{Made_in}
+use Rattle.lu_lawful.proofs.Unlocked.{misses_fewer, AllMiss}
 use Rattle.lu_table.specs.Scenarios.{head_of, with_stripes}
 use Rattle.lu_words.specs.Words.{Line}
 use Rattle.lu_after.proofs.Runs.{begins_meets}

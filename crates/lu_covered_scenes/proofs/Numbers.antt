@@ -42,10 +42,10 @@ use Rattle.lu_target_rows.specs.Replies.{none, next_number, is_called, called, b
 use Rattle.lu_target_rows.specs.Requests.{by_number, by_slot as slot_of_request, row_request, releases, goes_on, row_cancels}
 use Rattle.lu_target_rows.specs.Rows as target
 use Rattle.lu_target_rows.specs.States.{Target, is_names, after, turn, follow}
-use Rattle.lu_guards.proofs.Guards.{In}
-use Rattle.lu_guards.proofs.Lists.{self}
-use Rattle.lu_facts.proofs.OnNames.{IsOnNames}
-use Rattle.lu_facts.proofs.Readings.{changing_free}
+use Rattle.lu_lawful.proofs.Guards.{In}
+use Rattle.lu_lawful.proofs.Lists.{self}
+use Rattle.lu_lawful.proofs.OnNames.{IsOnNames}
+use Rattle.lu_lawful.proofs.Readings.{changing_free}
 use Rattle.lu_covered_scenes.proofs.Every.{Every, every_more, every_filter}
 use Rattle.lu_covered_scenes.proofs.Targets.{Serves, MessageServed, heeded, heeded_is}
 

@@ -24,8 +24,8 @@ use Rattle.lu_after.specs.InTable.{next_at}
 use Rattle.lu_after.proofs.Clients.{client_first}
 use Rattle.lu_after.proofs.Posts.{sent_at_is}
 use Rattle.lu_after.proofs.Runs.{first_in, left_in, spent_in, client_meets}
-use Rattle.lu_guards.proofs.Turns.{covered_head}
-use Rattle.lu_facts.proofs.Sides.{from_client}
+use Rattle.lu_lawful.proofs.GuardTurns.{covered_head}
+use Rattle.lu_lawful.proofs.Sides.{from_client}
 use Rattle.lu_covered_scenes.specs.Covered.{IsCovered, AllMiss, ticks_of}
 use Rattle.lu_covered_scenes.proofs.Every.{Every}
 use Rattle.lu_covered_scenes.proofs.Arrivals.{client_calm, to_client}

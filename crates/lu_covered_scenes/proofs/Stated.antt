@@ -4,7 +4,7 @@ use Rattle.lu_scene.specs.declared.scene.Scene.{Scene}
 use Rattle.lu_words.specs.Printed.{printed}
 use Rattle.lu_table.specs.Runs.{has_failed}
 use Rattle.lu_table.specs.Scenarios.{Config, Disks, Leads, start, head_of, past_of}
-use Rattle.lu_laws.specs.Lawful.{Lawful}
+use Rattle.lu_lawful.specs.Lawful.{Lawful}
 use Rattle.lu_lawful.proofs.Whole as whole
 use Rattle.lu_covered_scenes.specs.Covered.{IsCovered}
 use Rattle.lu_covered_scenes.proofs.Runs.{scene_run, scene_covered}

@@ -28,8 +28,8 @@ use Rattle.lu_target_rows.specs.Rows as target
 use Rattle.lu_target_rows.specs.States.{Setting, Target, is_names, is_serving, lives_from, after, turn, follow, target_at}
 use Rattle.lu_covered.specs.Covered.{IsCovered, AllCovered, IsCoveredMessage, IsByAct}
 use Rattle.lu_after.proofs.Targets.{target_line, target_left}
-use Rattle.lu_guards.proofs.Covers.{EntriesCovered}
-use Rattle.lu_guards.proofs.TargetAlike.{all_stay}
+use Rattle.lu_lawful.proofs.Covers.{EntriesCovered}
+use Rattle.lu_lawful.proofs.TargetAlike.{all_stay}
 use Rattle.lu_covered_scenes.proofs.Every.{Every, every_more}
 
 -- ---- lines; where time may go on in the turn

@@ -25,15 +25,15 @@ use Rattle.lu_after.specs.InTable.{next_at, InTable}
 use Rattle.lu_after.proofs.Clients.{client_own, client_other}
 use Rattle.lu_after.proofs.Runs.{turned_in, command_meets, target_unfailed}
 use Rattle.lu_after.proofs.Targets.{target_own, target_other}
-use Rattle.lu_guards.proofs.Covers.{EntriesCovered}
-use Rattle.lu_guards.proofs.Guards.{Grown}
-use Rattle.lu_guards.proofs.Lists.{self}
-use Rattle.lu_guards.proofs.Obey.{grown}
-use Rattle.lu_guards.proofs.Parts.{called_is}
-use Rattle.lu_guards.proofs.TargetAlike.{serving}
-use Rattle.lu_guards.proofs.Turns.{covered_head}
-use Rattle.lu_facts.proofs.Asked.{Began}
-use Rattle.lu_facts.proofs.Unlocked.{unlocked, uncalled_other}
+use Rattle.lu_lawful.proofs.Covers.{EntriesCovered}
+use Rattle.lu_lawful.proofs.Guards.{Grown}
+use Rattle.lu_lawful.proofs.Lists.{self}
+use Rattle.lu_lawful.proofs.Obey.{grown}
+use Rattle.lu_lawful.proofs.Parts.{called_is}
+use Rattle.lu_lawful.proofs.TargetAlike.{serving}
+use Rattle.lu_lawful.proofs.GuardTurns.{covered_head}
+use Rattle.lu_lawful.proofs.Asked.{Began}
+use Rattle.lu_lawful.proofs.Unlocked.{unlocked, uncalled_other}
 use Rattle.lu_covered_scenes.specs.Covered as scenes
 use Rattle.lu_covered_scenes.specs.Covered.{IsCovered, ticks_of}
 use Rattle.lu_covered_scenes.proofs.Arrivals.{target_served}

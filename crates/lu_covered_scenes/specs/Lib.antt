@@ -1,1 +1,2 @@
 pub mod Covered
+pub use Rattle.lu_lawful.specs.Fits

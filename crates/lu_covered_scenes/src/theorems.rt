@@ -7,7 +7,7 @@ ghost use Rattle.lu_words.specs.Printed.{printed};
 ghost use Rattle.lu_table.specs.Runs.{has_failed, IsRun};
 ghost use Rattle.lu_table.specs.Scenarios.{Config, Disks, start_fails, Leads, start, head_of, past_of};
 ghost use Rattle.lu_covered.specs.Covered.{AllCovered};
-ghost use Rattle.lu_laws.specs.Lawful.{Lawful};
+ghost use Rattle.lu_lawful.specs.Lawful.{Lawful};
 ghost use Rattle.lu_covered_scenes.specs.Covered.{IsCovered};
 
 /// Whatever a covered scenario comes to, where no call to a disk has failed, is a covered run of the whole table, so its

@@ -33,19 +33,19 @@ use Rattle.lu_covered.specs.Covered.{AllCovered}
 use Rattle.lu_covered.specs.ClientStates.{flights_of}
 use Rattle.lu_table.specs.Heads.{Head}
 use Rattle.lu_table.specs.Runs.{client_of}
-use Rattle.lu_guards.proofs.ClientLines.{IsNames, brings_its, no_size, becomes_names, flights_same, reply_differs}
-use Rattle.lu_guards.proofs.ClientLocks.{Differ, none_any, names_same, with_only}
-use Rattle.lu_guards.proofs.Guards.{In, Was, Grown}
-use Rattle.lu_guards.proofs.Held.{held_is}
-use Rattle.lu_guards.proofs.Only.{grown_of}
-use Rattle.lu_guards.proofs.Parts.{flights_is}
-use Rattle.lu_guards.proofs.Turns.{covered_head}
-use Rattle.lu_facts.proofs.All.{holds}
-use Rattle.lu_facts.proofs.Asked.{flew_asked}
-use Rattle.lu_facts.proofs.Groups.{HoldsAt}
-use Rattle.lu_facts.proofs.Lines.{flew_whole}
-use Rattle.lu_facts.proofs.Sides.{sent_only}
-use Rattle.lu_client_turns.specs.Comings.{are_new, is_short, is_in_file, may_answer, may_fit, may_reply, may_from, may_come}
+use Rattle.lu_covered_scenes.proofs.ClientLines.{IsNames, brings_its, no_size, becomes_names, flights_same, reply_differs}
+use Rattle.lu_covered_scenes.proofs.ClientLocks.{Differ, none_any, names_same, with_only}
+use Rattle.lu_covered_scenes.proofs.Guards.{In, Was, Grown}
+use Rattle.lu_covered_scenes.proofs.Held.{held_is}
+use Rattle.lu_covered_scenes.proofs.Only.{grown_of}
+use Rattle.lu_covered_scenes.proofs.Parts.{flights_is}
+use Rattle.lu_covered_scenes.proofs.GuardTurns.{covered_head}
+use Rattle.lu_covered_scenes.proofs.All.{holds}
+use Rattle.lu_covered_scenes.proofs.Asked.{flew_asked}
+use Rattle.lu_covered_scenes.proofs.Groups.{HoldsAt}
+use Rattle.lu_covered_scenes.proofs.FactLines.{flew_whole}
+use Rattle.lu_covered_scenes.proofs.Sides.{sent_only}
+use Rattle.lu_nodes.specs.Comings.{are_new, is_short, is_in_file, may_answer, may_fit, may_reply, may_from, may_come}
 
 -- ---- locks that come are new
 

@@ -21,13 +21,13 @@ use Rattle.lu_covered.specs.ClientStates.{flights_of}
 use Rattle.lu_covered.specs.Heads.{Head}
 use Rattle.lu_covered.specs.TargetStates.{server_of}
 use Rattle.lu_target_rows.specs.Locks.{same_request}
-use Rattle.lu_guards.proofs.Guards.{In, EntryOf, FliesOk, Grown}
-use Rattle.lu_facts.proofs.Groups.{Flew, Meant, HoldsAt}
-use Rattle.lu_facts.proofs.Lines.{flew_whole}
-use Rattle.lu_facts.proofs.All.{holds}
-use Rattle.lu_facts.proofs.Sides.{sent_only}
-use Rattle.lu_guards.proofs.Lists.{self, life_is}
-use Rattle.lu_facts.proofs.Asked.{AskedBy, flew_asked}
+use Rattle.lu_covered_scenes.proofs.Guards.{In, EntryOf, FliesOk, Grown}
+use Rattle.lu_covered_scenes.proofs.Groups.{Flew, Meant, HoldsAt}
+use Rattle.lu_covered_scenes.proofs.FactLines.{flew_whole}
+use Rattle.lu_covered_scenes.proofs.All.{holds}
+use Rattle.lu_covered_scenes.proofs.Sides.{sent_only}
+use Rattle.lu_covered_scenes.proofs.Lists.{self, life_is}
+use Rattle.lu_covered_scenes.proofs.Asked.{AskedBy, flew_asked}
 
 -- ---- the least free tag isn't above the number of requests in flight
 

@@ -1,3 +1,4 @@
 pub mod Asked
 pub mod Answered
 pub mod Stated
+pub use Rattle.lu_covered_scenes.proofs.Stated as LawfulScenes

@@ -31,11 +31,11 @@ use Rattle.lu_covered.specs.Calls.{operation_of}
 use Rattle.lu_covered.specs.Heads as few
 use Rattle.lu_covered.specs.TargetStates.{server_of}
 use Rattle.lu_words.specs.Concerns.{only}
-use Rattle.lu_guards.proofs.Guards.{In, Grown}
-use Rattle.lu_guards.proofs.TargetAlike.{serving}
-use Rattle.lu_guards.proofs.Turns.{covered_head}
-use Rattle.lu_facts.proofs.Sides.{from_target, from_client}
-use Rattle.lu_facts.proofs.OnNames.{op_is}
+use Rattle.lu_covered_scenes.proofs.Guards.{In, Grown}
+use Rattle.lu_covered_scenes.proofs.TargetAlike.{serving}
+use Rattle.lu_covered_scenes.proofs.GuardTurns.{covered_head}
+use Rattle.lu_covered_scenes.proofs.Sides.{from_target, from_client}
+use Rattle.lu_covered_scenes.proofs.OnNames.{op_is}
 use Rattle.lu_after.proofs.Posts.{sent_at_is}
 use Rattle.lu_covered_scenes.specs.Covered.{IsCovered, ticks_of}
 use Rattle.lu_covered_scenes.proofs.Arrivals.{to_client}

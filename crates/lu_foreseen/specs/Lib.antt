@@ -1,1 +1,2 @@
 pub mod Scenes
+pub use Rattle.lu_covered_scenes.specs.Covered

@@ -37,3 +37,25 @@ pub mod OrderlyAsked
 pub mod OrderlyAgain
 pub mod OrderlyLocks
 pub mod OrderlyWhole
+pub use Rattle.lu_facts.proofs.All
+pub use Rattle.lu_facts.proofs.Asked
+pub use Rattle.lu_facts.proofs.Files
+pub use Rattle.lu_facts.proofs.Finds
+pub use Rattle.lu_facts.proofs.Groups
+pub use Rattle.lu_facts.proofs.Numbers
+pub use Rattle.lu_facts.proofs.OnNames
+pub use Rattle.lu_facts.proofs.Readings
+pub use Rattle.lu_facts.proofs.Sides
+pub use Rattle.lu_facts.proofs.Unlocked
+pub use Rattle.lu_facts.proofs.Lines as FactLines
+pub use Rattle.lu_guards.proofs.Covers
+pub use Rattle.lu_guards.proofs.Guards
+pub use Rattle.lu_guards.proofs.Lists
+pub use Rattle.lu_guards.proofs.Obey
+pub use Rattle.lu_guards.proofs.Parts
+pub use Rattle.lu_guards.proofs.TargetAlike
+pub use Rattle.lu_guards.proofs.Turns as GuardTurns
+pub use Rattle.lu_guards.proofs.ClientLines
+pub use Rattle.lu_guards.proofs.ClientLocks
+pub use Rattle.lu_guards.proofs.Held
+pub use Rattle.lu_guards.proofs.Only

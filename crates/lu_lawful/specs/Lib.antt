@@ -1,2 +1,3 @@
 pub mod Fits
 pub mod Everywhere
+pub use Rattle.lu_laws.specs.Lawful

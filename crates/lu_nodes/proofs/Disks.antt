@@ -5,12 +5,12 @@ use Rattle.std.specs.Option.{option_map}
 use Rattle.std.proofs.lemmas.List.Elements.{All-cons}
 use Rattle.std.proofs.lemmas.Option.{slice_get-get_or, slice_get-map}
 use Rattle.lu_words.specs.Words.{Line}
-use Rattle.lu_target_parts.specs.Journals.{ShowsDisk}
+use Rattle.lu_whole_target.specs.Journals.{ShowsDisk}
 use Rattle.lu_target_rows.specs.Disks.{loaded_on}
 use Rattle.lu_target_rows.specs.States.{Target as TargetOf, empty_disk}
 use Rattle.lu_table.specs.Heads.{Head}
 use Rattle.lu_table.specs.Runs.{target_of}
-use Rattle.lu_window.specs.States.{State}
+use Rattle.lu_whole_target.specs.Windows.{State}
 use Rattle.lu_whole_target.specs.Running.{RunningState, IsOf, IsIn}
 use Rattle.lu_whole_target.specs.Targets.{TargetState}
 use Rattle.lu_nodes.specs.Disks.{HaveDisks, HoldsPast, HoldAll, disk_or_none, disks_of}

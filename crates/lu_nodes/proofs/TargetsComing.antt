@@ -11,7 +11,7 @@ use Rattle.lu_base.specs.declared.ids.Who.{Who}
 use Rattle.lu_msg.specs.declared.commits.Batch.{Batch}
 use Rattle.lu_service.specs.declared.services.Kind.{Kind}
 use Rattle.lu_service.specs.Contents.{Contents}
-use Rattle.lu_store.specs.Commits.{last_boot, most_boots}
+use Rattle.lu_whole_target.specs.StoreCommits.{last_boot, most_boots}
 use Rattle.lu_trace.specs.declared.traces.Step.{Step}
 use Rattle.lu_words.specs.Given.{step_of}
 use Rattle.lu_words.specs.Words.{Entry, Skip, Line, with_turn}
@@ -19,12 +19,12 @@ use Rattle.lu_target_rows.specs.Disks.{failing, row_start}
 use Rattle.lu_target_rows.specs.Recovery.{row_boot}
 use Rattle.lu_target_rows.specs.Rows.{Boots, row, overruns}
 use Rattle.lu_target_rows.specs.States.{Setting, Target as TargetOf, first_batch, lives_from, no_contents, started, turn}
-use Rattle.lu_redo.specs.Shown as redo
-use Rattle.lu_redo.specs.Shown.{AllRepeatable}
-use Rattle.lu_sound.specs.Sound.{IsKindOf}
-use Rattle.lu_turns.specs.declared.booting.Place.{Place}
-use Rattle.lu_turns.specs.Booting.{IsStart, StandsOn}
-use Rattle.lu_turns.specs.Passing.{HasBatches}
+use Rattle.lu_whole_target.specs.Shown as redo
+use Rattle.lu_whole_target.specs.Shown.{AllRepeatable}
+use Rattle.lu_whole_target.specs.Sound.{IsKindOf}
+use Rattle.lu_whole_target.specs.Place.{Place}
+use Rattle.lu_whole_target.specs.Booting.{IsStart, StandsOn}
+use Rattle.lu_whole_target.specs.Passing.{HasBatches}
 use Rattle.lu_table.specs.Heads.{Head}
 use Rattle.lu_table.specs.Runs.{setting_of, target_of}
 use Rattle.lu_whole_target.specs.declared.faults.BootFault.{BootFault}

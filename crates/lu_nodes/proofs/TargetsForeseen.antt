@@ -5,7 +5,7 @@ use Rattle.std.specs.Result.{IsErrAnd}
 use Rattle.lu_base.specs.declared.ids.Node.{Node}
 use Rattle.lu_base.specs.declared.ids.Stamp.{Stamp}
 use Rattle.lu_base.specs.declared.ids.Node.TheVariants.{Target}
-use Rattle.lu_locking.specs.Servers.{most_ticks}
+use Rattle.lu_whole_target.specs.LockServers.{most_ticks}
 use Rattle.lu_msg.specs.declared.messages.Message.{Message}
 use Rattle.lu_msg.specs.declared.messages.Message.TheVariants.{Lock, Replay, Request}
 use Rattle.lu_msg.specs.declared.messages.Request.{Request as RequestOf}
@@ -18,8 +18,8 @@ use Rattle.lu_target_rows.specs.States.{Target as TargetOf, is_serving}
 use Rattle.lu_table.specs.Heads.{Head}
 use Rattle.lu_table.specs.Runs.{target_of}
 use Rattle.lu_trace.specs.declared.traces.Step.{Step}
-use Rattle.lu_turns.specs.Recovering.{Recovers}
-use Rattle.lu_turns.specs.Servers.{Shows}
+use Rattle.lu_whole_target.specs.Recovering.{Recovers}
+use Rattle.lu_whole_target.specs.Servers.{Shows}
 use Rattle.lu_whole_target.specs.declared.faults.StepFault.{StepFault}
 use Rattle.lu_whole_target.specs.declared.faults.StepFault.TheVariants as step_fault
 use Rattle.lu_whole_target.specs.Running.{RunningState, IsIn, MayHeed}

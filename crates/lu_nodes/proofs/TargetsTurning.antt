@@ -17,8 +17,8 @@ use Rattle.lu_target_rows.specs.Disks.{failing}
 use Rattle.lu_target_rows.specs.Recovery.{row_boot}
 use Rattle.lu_target_rows.specs.Rows.{Event, Crashes, Boots, row, when_up, most_numbers, passes, overruns}
 use Rattle.lu_target_rows.specs.States.{Target as TargetOf, after, turn}
-use Rattle.lu_target_parts.specs.Journals.{ShowsBoot, ShowsDisk}
-use Rattle.lu_window.specs.States.{State}
+use Rattle.lu_whole_target.specs.Journals.{ShowsBoot, ShowsDisk}
+use Rattle.lu_whole_target.specs.Windows.{State}
 use Rattle.lu_table.specs.Heads.{Head}
 use Rattle.lu_table.specs.Runs.{setting_of, target_of}
 use Rattle.lu_whole_target.specs.declared.faults.StepFault.{StepFault}

@@ -14,7 +14,7 @@ use Rattle.lu_target_rows.specs.Rows as target
 use Rattle.lu_target_rows.specs.States as rows
 use Rattle.lu_target_rows.specs.States.{is_serving}
 use Rattle.lu_client_turns.specs.Comings.{may_come}
-use Rattle.lu_locking.specs.Servers.{most_ticks}
+use Rattle.lu_whole_target.specs.LockServers.{most_ticks}
 use Rattle.lu_table.specs.Heads.{Head}
 use Rattle.lu_table.specs.Runs.{client_of, target_of, HasNumbers}
 use Rattle.lu_nodes.specs.Shown.{kind_of}

@@ -4,3 +4,5 @@ pub mod Shown
 pub mod Turns
 pub mod Foreseen
 pub mod Disks
+pub use Rattle.lu_client_turns.specs.Comings
+pub use Rattle.lu_client_turns.specs.Ranges

@@ -2,7 +2,7 @@
 
 ghost use Rattle.std.specs.Prelude.{◌≡◌, ◌≢◌, ◌<◌, ℕ, false, [], ◌∷◌, Err, IfOk};
 ghost use Rattle.lu_base.specs.declared.ids.Node.TheVariants as node;
-ghost use Rattle.lu_call.specs.Ranges.{IsCall};
+ghost use Rattle.lu_client_turns.specs.Ranges.{IsCall};
 ghost use Rattle.lu_msg.specs.Limits.{slot_count};
 ghost use Rattle.lu_words.specs.Given.{step_of};
 ghost use Rattle.lu_words.specs.Words.{Busy as BusyLine};

@@ -2,7 +2,7 @@
 
 ghost use Rattle.std.specs.Prelude.{◌≡◌, ◌≢◌, ◌≤◌, ◌<◌, ℕ, false, List, length, Err, IfOk};
 ghost use Rattle.lu_base.specs.declared.ids.Node.TheVariants as node;
-ghost use Rattle.lu_call.specs.Ranges.{IsCall};
+ghost use Rattle.lu_client_turns.specs.Ranges.{IsCall};
 ghost use Rattle.lu_base.specs.declared.ids.Node.{Node as NodeOf};
 ghost use Rattle.lu_client_rows.specs.Rows as client_rows;
 ghost use Rattle.lu_client_rows.specs.Rows.{Begins, Ticks, Dies};

@@ -5,7 +5,7 @@ ghost use Rattle.lu_base.specs.declared.ids.Node.{Node as NodeOf};
 ghost use Rattle.lu_base.specs.declared.ids.Node.TheVariants as node;
 ghost use Rattle.lu_target_rows.specs.Rows.{Comes, Ticks, Commits, Crashes, Boots, Closes};
 ghost use Rattle.lu_target_rows.specs.States.{lives_from};
-ghost use Rattle.lu_store.specs.Commits.{last_boot, most_boots};
+ghost use Rattle.lu_whole_target.specs.StoreCommits.{last_boot, most_boots};
 ghost use Rattle.lu_trace.specs.declared.entries.Entry.{Entry as EntryOf};
 ghost use Rattle.lu_trace.specs.declared.traces.Step.{Step as StepOf};
 ghost use Rattle.lu_table.specs.Heads.{Head as HeadOf};

@@ -20,8 +20,8 @@ use Rattle.lu_laws.specs.Lawful.{Lawful, IsLawful}
 use Rattle.lu_table.specs.Heads.{Head}
 use Rattle.lu_table.specs.Runs.{has_failed}
 use Rattle.lu_table.specs.Scenarios.{Config, Disks, head_of, past_of, Leads, start}
-use Rattle.lu_covered_scenes.specs.Covered.{IsCovered}
-use Rattle.lu_covered_scenes.proofs.Stated.{scene_lawful}
+use Rattle.lu_foreseen.specs.Covered.{IsCovered}
+use Rattle.lu_foreseen.proofs.LawfulScenes.{scene_lawful}
 use Rattle.lu_steps.specs.Steps.{LeadsTo, none_failing}
 use Rattle.lu_steps.proofs.Turning.{none_leads, breaks_next}
 use Rattle.lu_steps.proofs.Due.{ends}

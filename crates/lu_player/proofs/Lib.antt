@@ -7,3 +7,4 @@ mod Telling
 mod Starting
 mod Performing
 mod Ending
+pub use Rattle.lu_foreseen.proofs.Stated as Foreseen

@@ -4,7 +4,7 @@ use Rattle.lu_base.specs.declared.ids.At.{At}
 use Rattle.lu_base.specs.declared.ids.Node.{Node}
 use Rattle.lu_base.specs.declared.ids.Node.TheVariants.{Client, Target}
 use Rattle.lu_base.specs.declared.ids.Stamp.{Stamp}
-use Rattle.lu_call.specs.Ranges.{IsCall, IsSpan}
+use Rattle.lu_nodes.specs.Ranges.{IsCall, IsSpan}
 use Rattle.lu_msg.specs.Limits.{slot_count}
 use Rattle.lu_msg.specs.declared.calls.Call.{Call as CallOf}
 use Rattle.lu_msg.specs.declared.calls.Call.TheVariants as call

@@ -2,7 +2,7 @@
 
 ghost use Rattle.std.specs.Prelude.{◌≡◌, ◌⊎◌, ◌≤◌, ℕ, List, [], length, map, All, Err, None, IfOk, OnOk};
 ghost use Rattle.lu_laws.specs.Lawful.{IsLawful};
-ghost use Rattle.lu_covered_scenes.specs.Covered.{IsCovered};
+ghost use Rattle.lu_foreseen.specs.Covered.{IsCovered};
 ghost use Rattle.lu_foreseen.specs.Scenes.{AllForeseen};
 ghost use Rattle.lu_wire.specs.Wires.{empty_wire};
 ghost use Rattle.lu_scene.specs.declared.scene.Scene.{Scene as SceneOf};

@@ -1,7 +1,7 @@
 //! Whole runs of the program, from the words and the bytes to the exit code and what is written.
 
 ghost use Rattle.std.specs.Prelude.{◌≡◌, [], IfOk};
-ghost use Rattle.lu_player.specs.Played.{AreFresh};
+ghost use Rattle.lu_top.specs.Played.{AreFresh};
 ghost use Rattle.lu_top.specs.Outcomes.{held_by};
 
 use lu_base::{Bytes, Memory, MemorySink, MemorySource, Numbers};

@@ -29,7 +29,7 @@ use Rattle.lu_laws.proofs.Words as trace
 use Rattle.lu_laws.proofs.Words.{turn, who, first, made, request, reply, txn}
 use Rattle.lu_laws.proofs.Words.{heard as heard_of}
 use Rattle.lu_laws.specs.Words.Histories.{machine_of}
-use Rattle.lu_lawful.specs.Fits.{AllStand, SeenStand, ReplyStands, HeardStandsAt, HeardStand, CommitsStand, Fits}
+use Rattle.lu_covered_scenes.specs.Fits.{AllStand, SeenStand, ReplyStands, HeardStandsAt, HeardStand, CommitsStand, Fits}
 use Rattle.lu_samples.proofs.Words.{with_head, after}
 
 -- each in the root, or the second in the first

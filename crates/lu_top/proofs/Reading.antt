@@ -5,7 +5,7 @@ use Rattle.lu_scene.specs.declared.faults.Fault.{Fault}
 use Rattle.lu_scene.specs.declared.faults.SceneFault.{SceneFault}
 use Rattle.lu_scene.specs.declared.faults.SceneFault.TheVariants as faults
 use Rattle.lu_scene.specs.declared.scene.Scene.{Scene}
-use Rattle.lu_table.specs.Limits.{KeepsLimits}
+use Rattle.lu_player.specs.Limits.{KeepsLimits}
 use Rattle.lu_limits.proofs.Read as read
 use Rattle.lu_limits.proofs.Storms as storms
 use Rattle.lu_top.specs.declared.forms.Performance.{Performance}

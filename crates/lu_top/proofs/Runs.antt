@@ -6,7 +6,7 @@ use Rattle.lu_base.specs.declared.ids.TargetId.{TargetId}
 use Rattle.lu_scene.specs.Storms.{storm_of}
 use Rattle.lu_scene.specs.declared.scene.Scene.{Scene}
 use Rattle.lu_summary.specs.Summaries.{summary_text}
-use Rattle.lu_nodes.specs.States.{DiskState}
+use Rattle.lu_player.specs.Nodes.{DiskState}
 use Rattle.lu_player.specs.declared.playing.Played.{Played}
 use Rattle.lu_player.specs.Played.{IsPlayed, SomeRose}
 use Rattle.lu_top.specs.declared.forms.Performance.{Performance}

@@ -9,9 +9,9 @@ use Rattle.lu_scene.specs.Storms.{storm_of}
 use Rattle.lu_scene.specs.declared.scene.Scene.{Scene}
 use Rattle.lu_trace.specs.Traces.{trace_text}
 use Rattle.lu_summary.specs.Summaries.{summary_text}
-use Rattle.lu_laws.specs.Lawful.{IsLawful}
-use Rattle.lu_covered_scenes.specs.Covered.{IsCovered}
-use Rattle.lu_nodes.specs.States.{DiskState}
+use Rattle.lu_player.specs.Lawful.{IsLawful}
+use Rattle.lu_player.specs.Covered.{IsCovered}
+use Rattle.lu_player.specs.Nodes.{DiskState}
 use Rattle.lu_player.specs.declared.playing.Played.{Played}
 use Rattle.lu_player.specs.Played.{IsPlayed, faults_at}
 use Rattle.lu_top.specs.Refusals.{usage_text, read_fault_text, too_long_text, bad_text, bad_trace_text, unforeseen_text}

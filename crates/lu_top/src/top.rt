@@ -13,7 +13,7 @@ ghost use Rattle.lu_reader.specs.Reads.{IsFirstBad};
 ghost use Rattle.lu_verdict.specs.declared.laws.Law.{Law};
 ghost use Rattle.lu_verdict.specs.declared.verdicts.Verdict.{Verdict};
 ghost use Rattle.lu_verdict.specs.declared.verdicts.Verdict.TheVariants.{Lawful, Broken};
-ghost use Rattle.lu_covered_scenes.specs.Covered.{IsCovered};
+ghost use Rattle.lu_player.specs.Covered.{IsCovered};
 ghost use Rattle.lu_player.specs.Played.{AreFresh, AreBack, SomeRose};
 ghost use Rattle.lu_top.specs.declared.forms.Form.{Form as FormOf};
 ghost use Rattle.lu_top.specs.declared.forms.Performance.TheVariants.{Play, Storm};

@@ -42,3 +42,5 @@ pub mod Redoing
 pub mod Backs
 pub mod Standing
 pub mod CarryingOut
+pub use Rattle.lu_target_parts.proofs.Slots
+pub use Rattle.lu_target_parts.proofs.Unread

@@ -15,3 +15,12 @@ pub mod Closing
 pub mod Booting
 pub mod Acting
 pub mod Numbers
+pub use Rattle.lu_redo.specs.Shown
+pub use Rattle.lu_sound.specs.Sound
+pub use Rattle.lu_locking.specs.Servers as LockServers
+pub use Rattle.lu_store.specs.Commits as StoreCommits
+pub use Rattle.lu_store.specs.Stores
+pub use Rattle.lu_target_parts.specs.Journals
+pub use Rattle.lu_target_parts.specs.Lives
+pub use Rattle.lu_target_parts.specs.Unread
+pub use Rattle.lu_window.specs.States as Windows

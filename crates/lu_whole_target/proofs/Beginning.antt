@@ -17,7 +17,7 @@ use Rattle.lu_trace.specs.Turns.{Making}
 use Rattle.lu_target_rows.specs.Disks.{failing, row_start}
 use Rattle.lu_target_rows.specs.Recovery.{row_boot}
 use Rattle.lu_target_rows.specs.States.{Target, turn}
-use Rattle.lu_window.specs.States.{State}
+use Rattle.lu_turns.specs.Windows.{State}
 use Rattle.lu_words.specs.Given.{giving}
 use Rattle.lu_turns.specs.Servers.{ServerState}
 use Rattle.lu_turns.specs.declared.booting.Place.{Place}

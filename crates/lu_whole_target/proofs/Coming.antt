@@ -8,7 +8,7 @@ use Rattle.lu_msg.specs.declared.messages.RequestReplay.{RequestReplay}
 use Rattle.lu_target_rows.specs.Lives.{is_life}
 use Rattle.lu_target_rows.specs.Rows.{lock_again}
 use Rattle.lu_target_rows.specs.States.{Target}
-use Rattle.lu_window.specs.States.{State}
+use Rattle.lu_turns.specs.Windows.{State}
 use Rattle.lu_target_rows.specs.Windows.{Window}
 use Rattle.lu_turns.specs.Servers.{ServerState}
 use Rattle.lu_turns.specs.Recovering.{Gathers, Recovers, MayReplay, MayBring}

@@ -13,7 +13,7 @@ use Rattle.lu_target_rows.specs.Recovery.{row_word}
 use Rattle.lu_target_rows.specs.Replies.{to_life}
 use Rattle.lu_target_rows.specs.Rows.{by_boot, by_slot, heeds, while_serving, while_recovering, of_boot}
 use Rattle.lu_target_rows.specs.States.{Target, is_serving, turn}
-use Rattle.lu_window.specs.States.{State}
+use Rattle.lu_turns.specs.Windows.{State}
 use Rattle.lu_words.specs.Given.{giving}
 use Rattle.lu_turns.specs.Servers.{Shows}
 use Rattle.lu_turns.specs.Recovering.{Gathers, Recovers}

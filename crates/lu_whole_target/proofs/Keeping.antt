@@ -16,7 +16,7 @@ use Rattle.lu_target_rows.specs.Lives.{is_life}
 use Rattle.lu_target_rows.specs.Rows.{heeds, by_boot, lock_again, of_boot, row_closes, while_recovering}
 use Rattle.lu_target_rows.specs.Windows.{Window}
 use Rattle.lu_target_rows.specs.States.{Target, is_serving}
-use Rattle.lu_window.specs.States.{State}
+use Rattle.lu_turns.specs.Windows.{State}
 use Rattle.lu_turns.specs.Servers.{ServerState, DiskFailed, KeepsBatches, Makes}
 use Rattle.lu_turns.specs.Recovering.{Gathers, Recovers, MayReplay, MayBring}
 use Rattle.lu_turns.specs.Passing.{Passes, HasBatches, StopsAt}

@@ -12,8 +12,8 @@ use Rattle.lu_target_rows.specs.Leaving.{row_join, row_tick}
 use Rattle.lu_target_rows.specs.Phase.{first_of}
 use Rattle.lu_target_rows.specs.Rows.{most_numbers, passes, overruns, heeds, row_heeds, while_serving, when_up, Ticks}
 use Rattle.lu_target_rows.specs.States.{Target, turn}
-use Rattle.lu_window.specs.States.{State}
-use Rattle.lu_locking.specs.Servers.{most_ticks}
+use Rattle.lu_turns.specs.Windows.{State}
+use Rattle.lu_turns.specs.LockServers.{most_ticks}
 use Rattle.lu_turns.specs.Numbers.{Overruns}
 use Rattle.lu_turns.specs.Servers.{ServerState, Shows}
 use Rattle.lu_turns.specs.Recovering.{Recovers}

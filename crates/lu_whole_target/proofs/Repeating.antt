@@ -21,10 +21,10 @@ use Rattle.lu_target_rows.specs.Recovery.{row_boot}
 use Rattle.lu_target_rows.specs.Rows.{Event, Comes, Boots, row}
 use Rattle.lu_target_rows.specs.States.{Setting, Target, is_serving, first_batch, started, after, turn}
 use Rattle.lu_target_rows.specs.Windows.{Replayed, Window}
-use Rattle.lu_target_parts.proofs.Slots.{never}
-use Rattle.lu_window.specs.States.{State}
-use Rattle.lu_redo.specs.Shown.{IsRepeatable, AllRepeatable}
-use Rattle.lu_sound.specs.Sound.{IsKindOf}
+use Rattle.lu_turns.proofs.Slots.{never}
+use Rattle.lu_turns.specs.Windows.{State}
+use Rattle.lu_turns.specs.Shown.{IsRepeatable, AllRepeatable}
+use Rattle.lu_turns.specs.Sound.{IsKindOf}
 use Rattle.lu_repeats.specs.Repeats as rows
 use Rattle.lu_repeats.specs.Repeats.{KeepsServing, MayCome, MayMake}
 use Rattle.lu_repeats.proofs.Repeatable.{batches_kept}

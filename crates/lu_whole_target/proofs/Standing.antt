@@ -6,12 +6,12 @@ use Rattle.lu_service.specs.declared.services.Kind.TheVariants.{Mdt, Ost}
 use Rattle.lu_service.specs.Contents.{Contents}
 use Rattle.lu_words.specs.Words.{Entry, Crash}
 use Rattle.lu_target_rows.specs.States.{Target, after, turn}
-use Rattle.lu_target_parts.specs.Journals.{ShowsDisk}
-use Rattle.lu_target_parts.specs.Lives.{OfClients}
-use Rattle.lu_target_parts.proofs.Slots.{never}
-use Rattle.lu_window.specs.States.{State}
-use Rattle.lu_redo.specs.Shown.{AllRepeatable}
-use Rattle.lu_sound.specs.Sound.{IsKindOf}
+use Rattle.lu_turns.specs.Journals.{ShowsDisk}
+use Rattle.lu_turns.specs.Lives.{OfClients}
+use Rattle.lu_turns.proofs.Slots.{never}
+use Rattle.lu_turns.specs.Windows.{State}
+use Rattle.lu_turns.specs.Shown.{AllRepeatable}
+use Rattle.lu_turns.specs.Sound.{IsKindOf}
 use Rattle.lu_turns.specs.declared.booting.Place.{Place}
 use Rattle.lu_turns.specs.Booting.{IsStart}
 use Rattle.lu_turns.specs.Servers.{ServerState}

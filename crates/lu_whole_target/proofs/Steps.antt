@@ -5,7 +5,7 @@ use Rattle.lu_base.specs.declared.ids.At.{At}
 use Rattle.lu_base.specs.declared.ids.Node.{Node}
 use Rattle.lu_base.specs.declared.ids.Stamp.{Stamp}
 use Rattle.lu_msg.specs.declared.messages.Message.{Message}
-use Rattle.lu_locking.specs.Servers.{most_ticks}
+use Rattle.lu_turns.specs.LockServers.{most_ticks}
 use Rattle.lu_trace.specs.declared.traces.Step.{Step}
 use Rattle.lu_trace.specs.Turns.{Making, no_step}
 use Rattle.lu_words.specs.Given.{step_of, giving}
@@ -14,7 +14,7 @@ use Rattle.lu_target_rows.specs.Disks.{failing}
 use Rattle.lu_target_rows.specs.Leaving.{row_tick}
 use Rattle.lu_target_rows.specs.Rows.{Event, Comes, Ticks, overruns, row, row_takes, when_up}
 use Rattle.lu_target_rows.specs.States.{Target}
-use Rattle.lu_window.specs.States.{State}
+use Rattle.lu_turns.specs.Windows.{State}
 use Rattle.lu_turns.specs.declared.faults.TurnFault.{TurnFault}
 use Rattle.lu_turns.specs.declared.faults.TurnFault.TheVariants as fault
 use Rattle.lu_whole_target.specs.declared.faults.StepFault.{StepFault}

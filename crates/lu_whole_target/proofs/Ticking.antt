@@ -6,11 +6,11 @@ use Rattle.lu_trace.specs.Turns.{Making}
 use Rattle.lu_words.specs.Words.{Entry, Tick}
 use Rattle.lu_target_rows.specs.Leaving.{row_tick, ticked}
 use Rattle.lu_target_rows.specs.States.{Target, after, follow, turn}
-use Rattle.lu_target_parts.specs.Unread.{AreTheSame}
-use Rattle.lu_target_parts.proofs.Unread.{window_stays, disk_stays}
-use Rattle.lu_window.specs.States.{State}
-use Rattle.lu_locking.specs.Servers.{ShowsCounts}
-use Rattle.lu_locking.specs.Servers.{ServerState as LockState}
+use Rattle.lu_turns.specs.Unread.{AreTheSame}
+use Rattle.lu_turns.proofs.Unread.{window_stays, disk_stays}
+use Rattle.lu_turns.specs.Windows.{State}
+use Rattle.lu_turns.specs.LockServers.{ShowsCounts}
+use Rattle.lu_turns.specs.LockServers.{ServerState as LockState}
 use Rattle.lu_words.specs.Given.{giving}
 use Rattle.lu_turns.specs.Servers.{ServerState}
 use Rattle.lu_turns.specs.Recovering.{Gathers, Recovers}

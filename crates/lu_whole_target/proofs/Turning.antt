@@ -9,7 +9,7 @@ use Rattle.lu_words.specs.Words.{Entry, Take}
 use Rattle.lu_target_rows.specs.Disks.{failing, batches_of}
 use Rattle.lu_target_rows.specs.Rows.{row_heeds, row_takes}
 use Rattle.lu_target_rows.specs.States.{Target, is_serving, turn}
-use Rattle.lu_window.specs.States.{State}
+use Rattle.lu_turns.specs.Windows.{State}
 use Rattle.lu_words.specs.Given.{giving}
 use Rattle.lu_turns.specs.Servers.{ServerState, Shows, Stands, Makes, Fails, KeepsBatches, DiskFailed}
 use Rattle.lu_turns.specs.Recovering.{Gathers, Recovers, Awaits}

@@ -2,3 +2,14 @@ pub mod Running
 pub mod Faults
 pub mod Targets
 pub mod Repeating
+pub use Rattle.lu_turns.specs.Shown
+pub use Rattle.lu_turns.specs.Sound
+pub use Rattle.lu_turns.specs.LockServers
+pub use Rattle.lu_turns.specs.StoreCommits
+pub use Rattle.lu_turns.specs.Journals
+pub use Rattle.lu_turns.specs.Windows
+pub use Rattle.lu_turns.specs.Booting
+pub use Rattle.lu_turns.specs.Passing
+pub use Rattle.lu_turns.specs.Recovering
+pub use Rattle.lu_turns.specs.Servers
+pub use Rattle.lu_turns.specs.declared.booting.Place

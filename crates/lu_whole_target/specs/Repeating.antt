@@ -6,10 +6,10 @@ use Rattle.lu_service.specs.declared.services.Kind.{Kind}
 use Rattle.lu_service.specs.Contents.{Contents}
 use Rattle.lu_target_rows.specs.Rows.{Event, Comes}
 use Rattle.lu_target_rows.specs.States.{Target, is_serving, no_contents}
-use Rattle.lu_target_parts.specs.Journals.{ShowsDisk}
-use Rattle.lu_target_parts.specs.Lives.{OfClients}
-use Rattle.lu_redo.specs.Shown as redo
-use Rattle.lu_redo.specs.Shown.{AllRepeatable}
+use Rattle.lu_turns.specs.Journals.{ShowsDisk}
+use Rattle.lu_turns.specs.Lives.{OfClients}
+use Rattle.lu_turns.specs.Shown as redo
+use Rattle.lu_turns.specs.Shown.{AllRepeatable}
 use Rattle.lu_repeats.specs.Repeats.{LogRepeats}
 use Rattle.lu_turns.specs.declared.booting.Place.{Place}
 use Rattle.lu_turns.specs.Booting.{StandsOn}

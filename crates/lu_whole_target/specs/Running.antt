@@ -14,8 +14,8 @@ use Rattle.lu_target_rows.specs.Lives.{is_life}
 use Rattle.lu_target_rows.specs.Recovery.{row_boot}
 use Rattle.lu_target_rows.specs.Rows.{heeds, lock_again, overruns}
 use Rattle.lu_target_rows.specs.States.{Target, turn}
-use Rattle.lu_window.specs.States.{State}
-use Rattle.lu_locking.specs.Servers.{most_ticks}
+use Rattle.lu_turns.specs.Windows.{State}
+use Rattle.lu_turns.specs.LockServers.{most_ticks}
 use Rattle.lu_turns.specs.declared.booting.Place.{Place}
 use Rattle.lu_words.specs.Given.{giving}
 use Rattle.lu_turns.specs.Servers.{ServerState, Shows, HasLife, MayTake}

@@ -17,7 +17,7 @@ use Rattle.lu_target_rows.specs.States.{Target, turn}
 use Rattle.lu_turns.specs.declared.booting.Place.{Place}
 use Rattle.lu_turns.specs.declared.faults.TurnFault.{TurnFault}
 use Rattle.lu_turns.specs.declared.faults.TurnFault.TheVariants as fault
-use Rattle.lu_locking.specs.Servers.{most_ticks}
+use Rattle.lu_turns.specs.LockServers.{most_ticks}
 use Rattle.lu_turns.specs.Booting.{StandsOn}
 use Rattle.lu_whole_target.specs.declared.faults.StepFault.{StepFault}
 use Rattle.lu_whole_target.specs.declared.faults.StepFault.TheVariants as step_fault

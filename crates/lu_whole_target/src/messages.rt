@@ -5,7 +5,7 @@ ghost use Rattle.lu_base.specs.declared.ids.Node.{Node as SpecNode};
 ghost use Rattle.lu_msg.specs.declared.messages.Message.TheVariants as message;
 ghost use Rattle.lu_target_rows.specs.Recovery.{row_word};
 ghost use Rattle.lu_target_rows.specs.Rows.{lock_again, of_boot, row_heeds, row_takes};
-ghost use Rattle.lu_store.specs.Stores.{KeepsDisk};
+ghost use Rattle.lu_turns.specs.Stores.{KeepsDisk};
 ghost use Rattle.lu_turns.specs.declared.faults.TurnFault.TheVariants as fault;
 ghost use Rattle.lu_whole_target.specs.Running.{HasSlot, IsUp, MayHeed, Turns, OverrunsIn, StopsIn, KeepsIn};
 

@@ -2,8 +2,8 @@
 
 ghost use Rattle.std.specs.Prelude.{◌≡◌, ◌≢◌, ◌<◌, ℕ, false, [], ◌∷◌, IfOk, IfErr};
 ghost use Rattle.lu_base.specs.Faults.{Rose};
-ghost use Rattle.lu_redo.specs.Shown.{AllRepeatable};
-ghost use Rattle.lu_store.specs.Commits.{last_boot, most_boots};
+ghost use Rattle.lu_turns.specs.Shown.{AllRepeatable};
+ghost use Rattle.lu_turns.specs.StoreCommits.{last_boot, most_boots};
 ghost use Rattle.lu_target_rows.specs.Disks.{row_start};
 ghost use Rattle.lu_target_rows.specs.Recovery.{row_boot};
 ghost use Rattle.lu_target_rows.specs.States.{Setting, Target as SpecTarget, first_batch, lives_from, started, turn as turned};

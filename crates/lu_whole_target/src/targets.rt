@@ -3,8 +3,8 @@
 ghost use Rattle.std.specs.Prelude.{◌≡◌, ◌≢◌, ◌<◌, ◌↔◌, ℕ, IsTrue, [], ◌∷◌, IfOk, IfErr, OnOk, None, Some, Err};
 ghost use Rattle.lu_base.specs.Faults.{Rose};
 ghost use Rattle.lu_base.specs.declared.ids.Node.{Node as SpecNode};
-ghost use Rattle.lu_redo.specs.Shown.{AllRepeatable};
-ghost use Rattle.lu_store.specs.Commits.{last_boot, most_boots};
+ghost use Rattle.lu_turns.specs.Shown.{AllRepeatable};
+ghost use Rattle.lu_turns.specs.StoreCommits.{last_boot, most_boots};
 ghost use Rattle.lu_target_rows.specs.Recovery.{row_boot};
 ghost use Rattle.lu_target_rows.specs.Rows.{Closes, Comes, Commits, Ticks};
 ghost use Rattle.lu_target_rows.specs.States.{Setting, Target as SpecTarget, first_batch, lives_from, started, turn};

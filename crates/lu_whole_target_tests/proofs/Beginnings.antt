@@ -5,7 +5,7 @@ use Rattle.lu_service.specs.Contents.{Contents}
 use Rattle.lu_service.specs.Names.{fresh}
 use Rattle.lu_service.specs.Objects.{bare}
 use Rattle.lu_target_rows.specs.States.{no_contents}
-use Rattle.lu_redo.specs.Shown.{Shows}
+use Rattle.lu_whole_target.specs.Shown.{Shows}
 
 names_at_first : (osts : ℕ) → Shows Mdt osts 1 (fresh osts) no_contents
 names_at_first osts = record { past = []; rising = tt; above = omega arith; last = omega arith; targets = refl; tree = refl; rows = refl }

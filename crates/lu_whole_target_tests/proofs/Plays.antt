@@ -11,11 +11,11 @@ use Rattle.lu_words.specs.Words.{Crash}
 use Rattle.lu_target_rows.specs.Recovery.{row_boot}
 use Rattle.lu_target_rows.specs.Rows.{Event, row}
 use Rattle.lu_target_rows.specs.States.{Setting, Target, no_contents, first_batch, started, after, turn}
-use Rattle.lu_redo.specs.Shown as redo
-use Rattle.lu_redo.specs.Shown.{AllRepeatable}
-use Rattle.lu_sound.specs.Sound.{IsKindOf}
-use Rattle.lu_turns.specs.Booting.{IsStart, StandsOn}
-use Rattle.lu_turns.specs.Passing.{HasBatches}
+use Rattle.lu_whole_target.specs.Shown as redo
+use Rattle.lu_whole_target.specs.Shown.{AllRepeatable}
+use Rattle.lu_whole_target.specs.Sound.{IsKindOf}
+use Rattle.lu_whole_target.specs.Booting.{IsStart, StandsOn}
+use Rattle.lu_whole_target.specs.Passing.{HasBatches}
 use Rattle.lu_whole_target.specs.Repeating.{IsLeft, MayComeTo, MayBoot}
 use Rattle.lu_whole_target.specs.Running.{IsIn, IsUp}
 use Rattle.lu_whole_target.specs.Targets.{TargetState, IsReady, Steps, place_of, turn_of}

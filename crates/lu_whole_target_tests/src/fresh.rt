@@ -1,7 +1,7 @@
 //! New services.
 
 ghost use Rattle.std.specs.Prelude.{◌≡◌, ◌≤◌, IfOk};
-ghost use Rattle.lu_redo.specs.Shown.{Shows};
+ghost use Rattle.lu_whole_target.specs.Shown.{Shows};
 ghost use Rattle.lu_target_rows.specs.States.{no_contents};
 
 use super::faults::PlayFault;

@@ -1,8 +1,8 @@
 //! Playing a conversation: its events come to a target, and what the target prints is put together.
 
 ghost use Rattle.std.specs.Prelude.{◌≡◌, ◌≢◌, [], IfOk, OnOk};
-ghost use Rattle.lu_redo.specs.Shown.{Shows};
-ghost use Rattle.lu_sound.specs.Sound.{IsKindOf};
+ghost use Rattle.lu_whole_target.specs.Shown.{Shows};
+ghost use Rattle.lu_whole_target.specs.Sound.{IsKindOf};
 ghost use Rattle.lu_target_rows.specs.States.{lives_from, no_contents};
 ghost use Rattle.lu_whole_target_tests.specs.Plays.{Plays, Stood};
 ghost use Rattle.lu_whole_target_tests.specs.declared.runs.Run.{Run as SpecRun};

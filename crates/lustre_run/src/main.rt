@@ -3,7 +3,7 @@
 #![tactic(auto)]
 
 ghost use Rattle.std.specs.Prelude.{◌≡◌, [], IfOk};
-ghost use Rattle.lu_player.specs.Played.{AreFresh};
+ghost use Rattle.lu_top.specs.Played.{AreFresh};
 ghost use Rattle.lu_top.specs.Outcomes.{held_by};
 
 use lu_base::{Memory, Numbers, StdSink, StdSource};

@@ -1,7 +1,7 @@
 use Rattle.std.proofs.Common.{sym, subst}
 use Rattle.lu_top.specs.Outcomes.{held_by, IsOutcome}
 use Rattle.lu_top.specs.declared.status.Status.{Status}
-use Rattle.lu_foreseen.proofs.Stated.{all_foreseen}
+use Rattle.lu_player.proofs.Foreseen.{all_foreseen}
 use Rattle.lu_top.proofs.Runs.{done_of}
 use Rattle.lu_top.proofs.performing.perform.Goals as goal
 

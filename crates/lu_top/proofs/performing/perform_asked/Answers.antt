@@ -1,6 +1,6 @@
 use Rattle.std.proofs.Common.{sym, subst}
 use Rattle.lu_scene.specs.declared.scene.Scene.{Scene}
-use Rattle.lu_covered_scenes.specs.Covered.{IsCovered}
+use Rattle.lu_player.specs.Covered.{IsCovered}
 use Rattle.lu_player.specs.Played.{SomeRose}
 use Rattle.lu_top.specs.Outcomes.{held_by, Tells}
 use Rattle.lu_top.specs.declared.status.Status.{Status}
