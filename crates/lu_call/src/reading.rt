@@ -58,7 +58,8 @@ impl CallState {
     ) -> Result<Bytes, Memory>
         requires span { IsSpan offset count }
         ensures bytes { IfOk result (λ bytes. bytes ≡ content work.now.layout work.now.fid store.now.store offset
-            (min count (file_size work.now.layout (stripes work.now.layout) work.now.used.items store.now.store - offset))) }
+            (min count (file_size work.now.layout (stripes work.now.layout) work.now.used.items store.now.store -
+            offset))) }
     {
         let size = store.file_size(&work.layout, &work.used);
         let count = until_end(offset, count, size);

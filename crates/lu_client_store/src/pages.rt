@@ -28,7 +28,8 @@ pub(crate) fn reaches_end(lock: &Lock) -> bool
 
 /// Whether a byte of an object is there: known, or changed by the client.
 fn is_there(known: Option<&Places<u8>>, patch: Option<&Patch>, at: u64) -> bool
-    ensures { result ≡ is_there (unwrap_or (option_copied known.entry) []) (unwrap_or (option_copied patch.entry) clean).dirty at }
+    ensures { result ≡ is_there (unwrap_or (option_copied known.entry) [])
+        (unwrap_or (option_copied patch.entry) clean).dirty at }
 {
     if let Some(places) = known {
         if places.at(at).is_some() {
@@ -50,7 +51,8 @@ fn first_missing(
 ) -> Option<u64>
     requires fits { first + count ≤ 2 ^ 63 }
     ensures missing { result
-        ≡ first_missing (unwrap_or (option_copied known.entry) []) (unwrap_or (option_copied patch.entry) clean).dirty first count }
+        ≡ first_missing (unwrap_or (option_copied known.entry) [])
+        (unwrap_or (option_copied patch.entry) clean).dirty first count }
 {
     for k in 0..count {
         if !is_there(known, patch, first + k) {

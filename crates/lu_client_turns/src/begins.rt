@@ -149,7 +149,8 @@ impl Client {
     ) -> Result<(), Memory>
         requires slot { slot < slot_count }
         requires range { IsCall call }
-        ensures makes { OnOk result (Makes (λ k. Begin slot (begun turn.old.at call (option_map row_file file) Plain) ∷ [])
+        ensures makes { OnOk result (Makes (λ k. Begin slot (begun turn.old.at call (option_map row_file file) Plain)
+            ∷ [])
             self.old self.new turn.old turn.new) }
     {
         let copied = call.copy(self.alloc)?;

@@ -86,7 +86,8 @@ impl Client {
     ) -> Result<(), Memory>
         requires target { target < length self.old.client.imports }
         requires may { may_grant target grant.now self.old.client ≡ true }
-        ensures makes { OnOk result (Makes (λ k. granted target grant.now k (is_present grant.now.who grant.now.boot target k))
+        ensures makes { OnOk result (Makes (λ k. granted target grant.now k
+            (is_present grant.now.who grant.now.boot target k))
             self.old self.new turn.old turn.new) }
     {
         if !self.is_present(target, grant.who, grant.boot) {
@@ -111,7 +112,8 @@ impl Client {
         grant: &GrantNotice,
     ) -> Result<(), Memory>
         requires target { target < length self.old.client.imports }
-        requires waits { is_waiter (named (record { 0 = target }) grant.now.cookie) (call_on slot self.old.client.calls) ≡ true }
+        requires waits { is_waiter (named (record { 0 = target }) grant.now.cookie)
+            (call_on slot self.old.client.calls) ≡ true }
         requires absent { is_held (named (record { 0 = target }) grant.now.cookie) self.old.client.store.held ≡ false }
         requires short { grant.now.size ≤ 2 ^ 40 }
         ensures makes { OnOk result (Makes (λ k. on_slot (lock_granted target grant.now) (Some slot) k)
@@ -144,7 +146,8 @@ impl Client {
         came: &CameLock,
         size: u64,
     ) -> Result<(), Memory>
-        requires absent { is_held (named (record { 0 = target }) came.now.lock.cookie) self.old.client.store.held ≡ false }
+        requires absent { is_held (named (record { 0 = target }) came.now.lock.cookie) self.old.client.store.held
+            ≡ false }
         requires short { size ≤ 2 ^ 40 }
         ensures held { OnOk result ((seen : _) → self.new ≡ with_store (stored_after (stored_of self.old)
             (Hold target came.now.lock came.now.marked (Some size) seen)) self.old) }
@@ -166,7 +169,8 @@ impl Client {
     fn note_granted(&mut self, target: u16, committed: Txn, seen: &Numbers) -> Result<(), Memory>
         requires target { target < length self.old.client.imports }
         ensures noted { OnOk result ((lock : LockOf) (marked : Bool) (size : Option ℕ) → self.new ≡ with_imports
-            (imports_turn self.old.client.imports (Hold target lock marked size seen.now ∷ Settles target committed.0 ∷ []))
+            (imports_turn self.old.client.imports (Hold target lock marked size seen.now ∷ Settles target committed.0
+            ∷ []))
             self.old) }
     {
         let import = &mut self.imports[target as usize];

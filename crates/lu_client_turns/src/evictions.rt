@@ -65,7 +65,8 @@ impl Client {
 
     /// Each call that isn't told is told EIO, slot by slot.
     fn end_calls(&mut self, turn: &mut Turn) -> Result<(), Memory>
-        ensures makes { OnOk result (Makes (λ k. ends_calls turn.old.at 0 k.calls) self.old self.new turn.old turn.new) }
+        ensures makes { OnOk result (Makes (λ k. ends_calls turn.old.at 0 k.calls)
+            self.old self.new turn.old turn.new) }
     {
         for slot in 0..self.call_slots() {
             self.end_call(turn, slot)?;
@@ -89,7 +90,8 @@ impl Client {
 
     /// Each held lock goes, by target and then by cookie.
     fn drop_locks(&mut self, turn: &mut Turn) -> Result<(), Memory>
-        ensures makes { OnOk result (Makes (λ k. drops_all (in_order k.store.held)) self.old self.new turn.old turn.new) }
+        ensures makes { OnOk result (Makes (λ k. drops_all
+            (in_order k.store.held)) self.old self.new turn.old turn.new) }
     {
         let locks = self.store.in_order(self.alloc)?;
         for held in &locks {

@@ -36,7 +36,8 @@ impl Client {
         who: Who,
         question: Question,
     ) -> Result<(), Memory>
-        ensures makes { OnOk result (Makes (λ k. asked turn.old.at target (question_of question) k (same_life who k.who))
+        ensures makes { OnOk result (Makes (λ k. asked turn.old.at target (question_of question) k
+            (same_life who k.who))
             self.now self.now turn.old turn.new) }
     {
         if !self.is_life(who) {

@@ -80,7 +80,8 @@ impl Client {
     pub(crate) fn hear(&mut self, turn: &mut Turn, target: u16, reply: &Reply) -> Result<(), Memory>
         requires target { target < length self.old.client.imports }
         requires may { may_reply target reply.now self.old.client ≡ true }
-        ensures makes { OnOk result (Makes (λ k. replied target reply.now k (is_present reply.now.who reply.now.boot target k))
+        ensures makes { OnOk result (Makes (λ k. replied target reply.now k
+            (is_present reply.now.who reply.now.boot target k))
             self.old self.new turn.old turn.new) }
     {
         let Some(asked) = self.find_asked(target, reply)? else {
@@ -125,7 +126,8 @@ impl Client {
         requires may { may_reply target reply.now self.old.client ≡ true }
         requires asked { option_map asked_of (answered target reply.now self.old.client) ≡ Some asked.now }
         requires fits { answer_fits asked.now.op reply.now.answer ≡ true }
-        ensures makes { OnOk result (Makes (λ k. replied target reply.now k (is_present reply.now.who reply.now.boot target k))
+        ensures makes { OnOk result (Makes (λ k. replied target reply.now k
+            (is_present reply.now.who reply.now.boot target k))
             self.old self.new turn.old turn.new) }
     {
         let locks = brought(self.alloc, &asked.op, reply)?;

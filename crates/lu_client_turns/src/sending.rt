@@ -79,7 +79,8 @@ impl Client {
     /// An operation waits to be sent to a target. After want of memory nothing has changed.
     pub(crate) fn queue(&mut self, target: u16, slot: Option<u8>, op: Op) -> Result<(), Memory>
         ensures queued { OnOk result (self.new
-            ≡ with_imports (imports_after self.old.client.imports (Queues target (record { slot = slot; op = op }))) self.old) }
+            ≡ with_imports (imports_after self.old.client.imports
+            (Queues target (record { slot = slot; op = op }))) self.old) }
     {
         let Some(import) = self.imports.get_mut(target as usize) else {
             drop(op);

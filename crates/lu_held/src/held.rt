@@ -529,7 +529,8 @@ fn locks_in_order(
     names: &BTreeSet<LockName>,
     uses: &LruCache<LockName, HeldLock>,
 ) -> Result<Vec<HeldLock>, AllocError>
-    ensures { IfOk result (λ locks. locks.items ≡ filter_map (λ name. lookup (same_name name) uses.now.entries) names.now.keys) }
+    ensures { IfOk result (λ locks. locks.items
+        ≡ filter_map (λ name. lookup (same_name name) uses.now.entries) names.now.keys) }
 {
     names
         .iter()
@@ -560,7 +561,8 @@ fn granted_among(
     wanted: Wanted,
 ) -> Result<Vec<Lock>, AllocError>
     ensures { IfOk result (λ locks. locks.items
-        ≡ filter_map (λ name. option_map lock_of (asked wanted uses.now.entries name)) (names_for wanted names.now.keys)) }
+        ≡ filter_map (λ name. option_map lock_of (asked wanted uses.now.entries name))
+        (names_for wanted names.now.keys)) }
 {
     names_for(names, wanted)
         .filter_map(|name| Some(asked(uses, name, wanted)?.lock))

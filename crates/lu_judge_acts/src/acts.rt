@@ -192,7 +192,8 @@ impl<'a> Acts<'a> {
     /// Whether the call acted in the turn that is named, where that is another one than this.
     fn acted_elsewhere(&self, at: At, who: Who, begun: &Begun<'a>, turn: At) -> bool
         ensures acted { (past : Past) → ShowsActs self.now past → Ordered past → Follows past at
-            → IsTrue result ↔ (same_turn turn at ≡ false → ActsFor (is_lost (whole_of self.now)) (whole_of self.now) past
+            → IsTrue result ↔ (same_turn turn at ≡ false
+            → ActsFor (is_lost (whole_of self.now)) (whole_of self.now) past
             who (begun_of begun.now) turn (heard_in past at) (operation (begun_of begun.now))) }
     {
         same_turn(turn, at) || self.acted_for(at, who, begun, turn)
@@ -235,7 +236,8 @@ impl<'a> Acts<'a> {
     /// Whether the call may be told this answer in this turn, where that turn is named.
     fn may_tell(&self, at: At, who: Who, begun: &Begun<'a>, turn: At, answer: &Answer) -> bool
         ensures may { (past : Past) → ShowsActs self.now past → Ordered past → Follows past at
-            → IsTrue result ↔ ToldAt (is_gone (whole_of self.now)) (is_lost (whole_of self.now)) (whole_of self.now) past
+            → IsTrue result ↔ ToldAt (is_gone (whole_of self.now)) (is_lost (whole_of self.now))
+            (whole_of self.now) past
             at who (begun_of begun.now) turn answer.now }
     {
         if !is_bad_rightly(begun.bad, answer) {
@@ -253,7 +255,8 @@ impl<'a> Acts<'a> {
     /// Whether the call that stands in the slot may be told so.
     fn may_be_told(&self, at: At, slot: u8, turn: At, answer: &Answer) -> bool
         ensures may { (past : Past) → ShowsActs self.now past → Ordered past → Follows past at
-            → IsTrue result ↔ ToldBy (is_gone (whole_of self.now)) (is_lost (whole_of self.now)) (whole_of self.now) past
+            → IsTrue result ↔ ToldBy (is_gone (whole_of self.now)) (is_lost (whole_of self.now))
+            (whole_of self.now) past
             at at.node slot turn answer.now }
     {
         let Node::Client(client) = at.node else {
@@ -295,7 +298,8 @@ impl<'a> Acts<'a> {
     /// Whether the message may be sent.
     fn may_send(&self, to: Node, message: &Message) -> bool
         ensures may { (past : Past) → ShowsActs self.now past → (at : AtOf) (number : ℕ)
-            → IsTrue result ↔ SendsAt past (record { at = at; entry = Entry.Send number to message.now }) to message.now }
+            → IsTrue result ↔ SendsAt past (record { at = at; entry = Entry.Send number to message.now }) to
+            message.now }
     {
         match to {
             Node::Client(_) => true,
@@ -311,7 +315,8 @@ impl<'a> Acts<'a> {
     /// Whether the entry may stand in this turn, before these later lines.
     fn passes(&self, at: At, entry: &Entry, later: &'a [Line]) -> bool
         ensures passes { (past : Past) → ShowsActs self.now past → Ordered past → Follows past at → InOrder at later.now
-            → IsTrue result ↔ ActsAt (is_gone (whole_of self.now)) (is_lost (whole_of self.now)) (whole_of self.now) past
+            → IsTrue result ↔ ActsAt (is_gone (whole_of self.now)) (is_lost (whole_of self.now))
+            (whole_of self.now) past
             (record { at = at; entry = entry.now }) later.now entry.now }
     {
         match entry {

@@ -77,7 +77,8 @@ fn see_file(
     requires built { IsSome history.now.machine }
     ensures seen { OnOk result ((past : Past) → ShowsHistory history.now past → (f : Fid) (s n : ℕ)
         → last_in sightings.new f s n
-        ≡ seen_after (machine_cut history.now.osts past) place (watch.fid.0 == f.0 && nat_lt s watch.count) f s n (last_in sightings.old f s n)) }
+        ≡ seen_after (machine_cut history.now.osts past) place (watch.fid.0 == f.0 && nat_lt s watch.count) f s n
+        (last_in sightings.old f s n)) }
 {
     let mut stripe = 0;
     while stripe < watch.count {
@@ -98,7 +99,8 @@ fn see_files(
     requires built { IsSome history.now.machine }
     ensures seen { OnOk result ((past : Past) → ShowsHistory history.now past → (f : Fid) (s n : ℕ)
         → last_in sightings.new f s n
-        ≡ seen_after (machine_cut history.now.osts past) place (logged (values standing.now) f s) f s n (last_in sightings.old f s n)) }
+        ≡ seen_after (machine_cut history.now.osts past) place (logged (values standing.now) f s) f s n
+        (last_in sightings.old f s n)) }
 {
     for watch in standing.values() {
         see_file(sightings, history, *watch, place)?;
@@ -201,7 +203,8 @@ fn watch_call<'a>(
     ensures watched { OnOk result ((past : Past) → ShowsTables tables.now past → (c s : ℕ)
         → watch_at standing.new c s
         ≡ (if client == c && slot == s
-        then watch_begun counts.now (begun_place client slot past) (watch_at standing.old c s) (open_call client slot past)
+        then watch_begun counts.now (begun_place client slot past) (watch_at standing.old c s)
+        (open_call client slot past)
         else watch_at standing.old c s)) }
 {
     let Some(begun) = tables.calls.call(client, slot) else {
@@ -275,7 +278,8 @@ impl<'a> Pass<'a> {
     fn ends(&self) -> bool
         requires some { 0 < self.now.place }
         requires within { self.now.place ≤ length self.now.lines.now }
-        ensures ends { result ≡ ends (before self.now.lines.now self.now.place) (drop self.now.place self.now.lines.now) }
+        ensures ends { result ≡ ends (before self.now.lines.now self.now.place)
+            (drop self.now.place self.now.lines.now) }
     {
         if self.place == self.lines.len() {
             return true;
@@ -287,9 +291,11 @@ impl<'a> Pass<'a> {
     fn end_turn(&mut self) -> Result<Option<usize>, Memory>
         requires stepped { Stepped self.old }
         requires some { 0 < self.old.place }
-        requires ended { ends (before self.old.lines.now self.old.place) (drop self.old.place self.old.lines.now) ≡ true }
+        requires ended { ends (before self.old.lines.now self.old.place) (drop self.old.place self.old.lines.now)
+            ≡ true }
         ensures none { IfOk result (λ first. IfNone first (Shown self.new)) }
-        ensures some { IfOk result (λ first. IfSome first (λ place. IsFirst (law_of self.new) self.new.lines.now (Some place))) }
+        ensures some { IfOk result (λ first. IfSome first (λ place. IsFirst (law_of self.new) self.new.lines.now
+            (Some place))) }
         ensures place { OnOk result (self.new.place ≡ self.old.place) }
         ensures lines { OnOk result (self.new.lines ≡ self.old.lines) }
         ensures osts { OnOk result (self.new.history.osts ≡ self.old.history.osts) }

@@ -67,7 +67,8 @@ impl<'a, K: Eq + Hash + Drop> Lists<'a, K> {
     /// Takes the life's lock of that cookie at the target out of the list of the key.
     pub(crate) fn remove(&mut self, key: &K, who: Who, target: u16, cookie: Cookie)
         ensures removed { (k : K) → listed K.eq self.new k
-            ≡ (if K.eq key.now k then filter (λ h. not (is_held_by who target cookie.0 h)) (listed K.eq self.old key.now)
+            ≡ (if K.eq key.now k then filter (λ h. not (is_held_by who target cookie.0 h))
+            (listed K.eq self.old key.now)
             else listed K.eq self.old k) }
     {
         if let Some(list) = self.lists.get_mut(key) {

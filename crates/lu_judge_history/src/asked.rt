@@ -34,7 +34,8 @@ fn data<'a>(begun: &Begun<'a>) -> Option<Asked<'a>>
 
 /// The operation on names that the call is, if it is one.
 fn names<'a>(alloc: Global, begun: &Begun<'a>) -> Result<Option<Asked<'a>>, Memory>
-    ensures deed { IfOk result (λ asked. option_map deed_asked asked ≡ option_map deed.Names (operation (begun_of begun.now))) }
+    ensures deed { IfOk result (λ asked. option_map deed_asked asked
+        ≡ option_map deed.Names (operation (begun_of begun.now))) }
     ensures within { IfOk result AreWithin }
 {
     match operation(alloc, begun)? {
@@ -46,7 +47,8 @@ fn names<'a>(alloc: Global, begun: &Begun<'a>) -> Result<Option<Asked<'a>>, Memo
 /// What a call that was begun asks of the machine: a call on bytes and a `flush` name the file of their handle, a
 /// `glimpse` asks nothing, and any other is an operation on names.
 pub(crate) fn asked_by<'a>(alloc: Global, begun: &Begun<'a>) -> Result<Option<Asked<'a>>, Memory>
-    ensures deed { IfOk result (λ asked. option_map deed_asked asked ≡ deed_on (begun_of begun.now) begun.now.call.now) }
+    ensures deed { IfOk result (λ asked. option_map deed_asked asked
+        ≡ deed_on (begun_of begun.now) begun.now.call.now) }
     ensures within { IfOk result (λ asked. IsWithin begun.now.call.now → AreWithin asked) }
 {
     match begun.call {

@@ -89,7 +89,8 @@ impl<'a> History<'a> {
     /// where the metadata target executed it in the turn that is named.
     fn is_told_there(&self, at: At, who: Who, turn: At, answer: &Answer) -> bool
         ensures { (past : Past) → Shown self.now past → Ordered past → Follows past at
-            → IsTrue result ↔ (heard_answer (is_gone (whole_of self.now)) (is_lost (whole_of self.now)) self.now.osts past turn who (heard_in past at)
+            → IsTrue result ↔ (heard_answer (is_gone (whole_of self.now))
+            (is_lost (whole_of self.now)) self.now.osts past turn who (heard_in past at)
             ≡ Some answer.now) }
     {
         match self.ledger.present.heard(at) {

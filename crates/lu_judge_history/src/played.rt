@@ -70,7 +70,8 @@ impl Played {
     /// A request is executed without a transaction.
     fn act(&mut self, ledger: &Ledger<'_>, at: At, who: Who, xid: Xid) -> Result<(), Memory>
         requires own { at.node ≡ Node.Target 0 }
-        ensures shows { OnOk result ((osts : ℕ) (out : SpecWho → Bool) (lost : ℕ → ℕ → Bool) (past : Past) (answer : SpecAnswer)
+        ensures shows { OnOk result ((osts : ℕ) (out : SpecWho → Bool) (lost : ℕ → ℕ → Bool) (past : Past)
+            (answer : SpecAnswer)
             → ShowsLedger ledger.now past → ShowsPlayed osts out lost self.old past
             → ShowsPlayed osts out lost self.new (record { at = at; entry = Entry.Act who xid answer } ∷ past)) }
     {
@@ -89,9 +90,11 @@ impl Played {
         xid: Xid,
     ) -> Result<(), Memory>
         requires own { at.node ≡ Node.Target 0 }
-        ensures shows { OnOk result ((osts : ℕ) (out : SpecWho → Bool) (lost : ℕ → ℕ → Bool) (past : Past) (seen : List ℕ) (answer : SpecAnswer)
+        ensures shows { OnOk result ((osts : ℕ) (out : SpecWho → Bool) (lost : ℕ → ℕ → Bool) (past : Past)
+            (seen : List ℕ) (answer : SpecAnswer)
             → lost 0 txn.0 ≡ false → ShowsLedger ledger.now past → ShowsPlayed osts out lost self.old past
-            → ShowsPlayed osts out lost self.new (record { at = at; entry = Entry.Txn txn who xid seen answer } ∷ past)) }
+            → ShowsPlayed osts out lost self.new (record { at = at; entry = Entry.Txn txn who xid seen answer }
+            ∷ past)) }
     {
         let op = ledger.requests.asked(0, who, xid);
         let answer = perform_names(self.alloc, &mut self.machine, who, txn, op)?;
@@ -108,10 +111,15 @@ impl Played {
         xid: Xid,
     ) -> Result<(), Memory>
         requires other { 0 < target }
-        ensures shows { OnOk result ((osts : ℕ) (whole past : Past) (lost : ℕ → ℕ → Bool) (at : SpecAt) (txn : SpecTxn) (seen : List ℕ) (answer : SpecAnswer)
+        ensures shows { OnOk result ((osts : ℕ) (whole past : Past) (lost : ℕ → ℕ → Bool) (at : SpecAt) (txn : SpecTxn)
+            (seen : List ℕ) (answer : SpecAnswer)
             → at.node ≡ Node.Target target → lost target txn.0 ≡ false → ShowsGone gone.now whole → Limited past
             → ShowsLedger ledger.now past → ShowsPlayed osts (is_gone whole) lost self.old past
-            → ShowsPlayed osts (is_gone whole) lost self.new (record { at = at; entry = Entry.Txn txn who xid seen answer } ∷ past)) }
+            → ShowsPlayed osts (is_gone whole) lost self.new (record {
+              at = at;
+              entry = Entry.Txn txn who xid seen
+                  answer;
+            } ∷ past)) }
     {
         if !gone.has(who) {
             return Ok(());
@@ -166,7 +174,8 @@ impl Played {
         ensures shows { OnOk result ((osts : ℕ) (whole past : Past) (seen : List ℕ) (answer : SpecAnswer)
             → ShowsGone gone.now whole → ShowsLost lost.now whole → Limited past → ShowsLedger ledger.now past
             → ShowsPlayed osts (is_gone whole) (is_lost whole) self.old past
-            → ShowsPlayed osts (is_gone whole) (is_lost whole) self.new (record { at = at; entry = Entry.Txn txn who xid seen answer } ∷ past)) }
+            → ShowsPlayed osts (is_gone whole) (is_lost whole) self.new
+            (record { at = at; entry = Entry.Txn txn who xid seen answer } ∷ past)) }
     {
         if lost.has(target, txn.0) {
             return Ok(());
@@ -235,7 +244,8 @@ impl Played {
     ) -> Result<Option<Answer>, Memory>
         ensures answer { IfOk result (λ told. (osts : ℕ) (out : SpecWho → Bool) (lost : ℕ → ℕ → Bool) (past : Past)
             → ShowsPlayed osts out lost self.now past
-            → told ≡ request_answer osts (machine_of out lost osts past) who number (option_map (λ o. o.now) op.entry)) }
+            → told ≡ request_answer osts (machine_of out lost osts past) who number
+            (option_map (λ o. o.now) op.entry)) }
     {
         answered(self.alloc, &self.machine, who, number, op)
     }
@@ -244,7 +254,8 @@ impl Played {
     pub(crate) fn tells(&self, who: Who, begun: &Begun<'_>, answer: &Answer) -> Result<bool, Memory>
         ensures tells { IfOk result (λ tells. (osts : ℕ) (out : SpecWho → Bool) (lost : ℕ → ℕ → Bool) (past : Past)
             → IsWithin begun.now.call.now → ShowsPlayed osts out lost self.now past
-            → IsTrue tells ↔ (answer_to osts (machine_of out lost osts past) (act_of who none (deed_of (Some (begun_of begun.now))))
+            → IsTrue tells ↔ (answer_to osts (machine_of out lost osts past)
+            (act_of who none (deed_of (Some (begun_of begun.now))))
             ≡ Some answer.now)) }
     {
         let asked = asked_by(self.alloc, begun)?;

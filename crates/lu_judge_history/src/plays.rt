@@ -60,7 +60,8 @@ pub(crate) fn told(
 
 /// The act of a call is performed: under no number an operation on names changes nothing.
 pub(crate) fn perform(alloc: Global, machine: &mut Machine, asked: &Asked<'_>) -> Result<(), Memory>
-    ensures next { OnOk result ((osts : ℕ) (m : Plain) (who : SpecWho) → Shows osts machine.old m → IsAskedWithin asked.now
+    ensures next { OnOk result ((osts : ℕ) (m : Plain) (who : SpecWho) → Shows osts machine.old m
+        → IsAskedWithin asked.now
         → Shows osts machine.new (next osts m (act_asked who asked.now))) }
 {
     match asked {

@@ -156,7 +156,8 @@ impl<'a> LockLists<'a> {
     /// The lock that came to the target in one line before this one is ended. After want of memory nothing is known of the
     /// lists.
     pub(crate) fn end_one(&mut self, target: u16, one: usize) -> Result<(), Memory>
-        ensures ends { OnOk result ((place : ℕ) → one < place → Ends self.old self.new place (λ t a. target == t && one == a.place)) }
+        ensures ends { OnOk result ((place : ℕ) → one < place
+            → Ends self.old self.new place (λ t a. target == t && one == a.place)) }
     {
         self.single.insert((target, one))?;
         Ok(())

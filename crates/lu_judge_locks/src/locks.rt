@@ -104,7 +104,9 @@ impl<'a> Locks<'a> {
 
     /// Whether the lock conflicts with no other held one.
     fn is_alone(&self, target: u16, who: Who, cookie: Cookie, lock: &Lock) -> bool
-        ensures { (past : Past) → Shown self.now past → result ≡ not (is_opposed past target lock.now.resource lock.now.ask (all_but who target cookie.0 (held past))) }
+        ensures { (past : Past) → Shown self.now past
+            → result ≡ not (is_opposed past target lock.now.resource lock.now.ask
+            (all_but who target cookie.0 (held past))) }
     {
         !self.held.is_opposed_but(&self.ledger, target, lock.resource, &lock.ask, who, cookie)
     }

@@ -50,7 +50,8 @@ impl<'a> Cuts<'a> {
     /// Adds a cut to those of the life to the file.
     fn add_to(&mut self, who: Who, fid: Fid, kept: Kept<'a>) -> Result<(), Memory>
         ensures added { OnOk result ((w : SpecWho) (f : SpecFid) → cuts_in self.new w f
-            ≡ (if same_file who fid w f then cuts_in self.old w f ++ mark_of kept.entry ∷ [] else cuts_in self.old w f)) }
+            ≡ (if same_file who fid w f then cuts_in self.old w f
+            ++ mark_of kept.entry ∷ [] else cuts_in self.old w f)) }
     {
         self.by_file
             .entry(((who.client, who.life), fid.0))?
@@ -67,7 +68,8 @@ impl<'a> Cuts<'a> {
         call: &'a Call,
     ) -> Result<(), Memory>
         ensures added { OnOk result ((w : SpecWho) (f : SpecFid) → cuts_in self.new w f
-            ≡ (if same_file who fid w f then adds_cut (mark, call.now) (cuts_in self.old w f) else cuts_in self.old w f)) }
+            ≡ (if same_file who fid w f then adds_cut (mark, call.now) (cuts_in self.old w f)
+            else cuts_in self.old w f)) }
     {
         match call {
             Call::Cut { .. } => self.add_to(who, fid, Kept { mark, call }),

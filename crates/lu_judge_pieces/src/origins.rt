@@ -49,9 +49,11 @@ impl<'a> Done<'a> {
     pub fn add(&mut self, who: Who, fid: Fid, mark: u64, call: &'a Call) -> Result<(), Memory>
         requires within { IsWithin call.now }
         ensures writes { OnOk result ((w : SpecWho) (f : SpecFid) (p : ℕ) → page_in self.new.writes w f p
-            ≡ (if same_file who fid w f then adds_write p (mark, call.now) (page_in self.old.writes w f p) else page_in self.old.writes w f p)) }
+            ≡ (if same_file who fid w f then adds_write p (mark, call.now) (page_in self.old.writes w f p)
+            else page_in self.old.writes w f p)) }
         ensures cuts { OnOk result ((w : SpecWho) (f : SpecFid) → cuts_in self.new.cuts w f
-            ≡ (if same_file who fid w f then adds_cut (mark, call.now) (cuts_in self.old.cuts w f) else cuts_in self.old.cuts w f)) }
+            ≡ (if same_file who fid w f then adds_cut (mark, call.now) (cuts_in self.old.cuts w f)
+            else cuts_in self.old.cuts w f)) }
     {
         self.writes.add(who, fid, mark, call)?;
         self.cuts.add(who, fid, mark, call)

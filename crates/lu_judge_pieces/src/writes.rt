@@ -39,7 +39,8 @@ impl<'a> Writes<'a> {
     /// Adds a write to those that touch the page.
     fn add_to(&mut self, who: Who, fid: Fid, page: u64, kept: Kept<'a>) -> Result<(), Memory>
         ensures added { OnOk result ((w : SpecWho) (f : SpecFid) (p : ℕ) → page_in self.new w f p
-            ≡ (if same_file who fid w f && page == p then page_in self.old w f p ++ mark_of kept.entry ∷ [] else page_in self.old w f p)) }
+            ≡ (if same_file who fid w f && page == p then page_in self.old w f p
+            ++ mark_of kept.entry ∷ [] else page_in self.old w f p)) }
     {
         self.by_page
             .entry((((who.client, who.life), fid.0), page))?
@@ -58,7 +59,8 @@ impl<'a> Writes<'a> {
     ) -> Result<(), Memory>
         requires last { last < u64.MAX }
         ensures added { OnOk result ((w : SpecWho) (f : SpecFid) (p : ℕ) → page_in self.new w f p
-            ≡ (if same_file who fid w f && (nat_le first p && nat_le p last) then page_in self.old w f p ++ mark_of kept.entry ∷ [] else page_in self.old w f p)) }
+            ≡ (if same_file who fid w f && (nat_le first p && nat_le p last) then page_in self.old w f p
+            ++ mark_of kept.entry ∷ [] else page_in self.old w f p)) }
     {
         let mut page = first;
         while page <= last {
@@ -78,7 +80,8 @@ impl<'a> Writes<'a> {
     ) -> Result<(), Memory>
         requires within { IsWithin call.now }
         ensures added { OnOk result ((w : SpecWho) (f : SpecFid) (p : ℕ) → page_in self.new w f p
-            ≡ (if same_file who fid w f then adds_write p (mark, call.now) (page_in self.old w f p) else page_in self.old w f p)) }
+            ≡ (if same_file who fid w f then adds_write p (mark, call.now) (page_in self.old w f p)
+            else page_in self.old w f p)) }
     {
         match call {
             Call::Write { offset, bytes, .. } => {
@@ -92,7 +95,8 @@ impl<'a> Writes<'a> {
 
     /// Whether the life wrote this byte at this position of the file by a write with a mark below the limit.
     pub(crate) fn wrote(&self, who: Who, fid: Fid, limit: u64, position: u64, byte: u8) -> bool
-        ensures { result ≡ list_any (has_mark limit (wrote position byte)) (page_in self.now who fid (position / 4096)) }
+        ensures { result ≡ list_any (has_mark limit (wrote position byte))
+            (page_in self.now who fid (position / 4096)) }
     {
         let key = (((who.client, who.life), fid.0), position / PAGE);
         match self.by_page.get(&key) {

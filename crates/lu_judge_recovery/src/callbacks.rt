@@ -138,7 +138,8 @@ impl Called {
     /// These lives are called back.
     fn call_all(&mut self, stamp: u64, lives: &[Who]) -> Result<(), Memory>
         ensures called { OnOk result ((w : WhoOf) (s : ℕ) → was_called self.new w s
-            ≡ ((list_any (λ (who : WhoOf). same_life who w) lives.now && not (stamp == s)) || was_called self.old w s)) }
+            ≡ ((list_any (λ (who : WhoOf). same_life who w) lives.now && not (stamp == s))
+            || was_called self.old w s)) }
     {
         let mut place = 0;
         while place < lives.len() {

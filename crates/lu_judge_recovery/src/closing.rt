@@ -87,7 +87,8 @@ impl<'b, 'a> Close<'b, 'a> {
         ledger: &'b Ledger<'a>,
         target: u16,
     ) -> Result<Close<'b, 'a>, Memory>
-        ensures knows { IfOk result (λ close. (past : Past) → ShowsLedger ledger.now past → ShowsWindows windows.now past
+        ensures knows { IfOk result (λ close. (past : Past) → ShowsLedger ledger.now past
+            → ShowsWindows windows.now past
             → KnowsClose close target past) }
     {
         Ok(Close {
@@ -109,7 +110,8 @@ impl<'b, 'a> Close<'b, 'a> {
 
     /// Whether the life rests on what is lost.
     fn rests(&self, who: Who) -> bool
-        ensures rests { (t : ℕ) (past : Past) → KnowsClose self.now t past → result ≡ rests_on t past who (lost_at t past) }
+        ensures rests { (t : ℕ) (past : Past) → KnowsClose self.now t past
+            → result ≡ rests_on t past who (lost_at t past) }
     {
         let lost = self.lost.as_slice();
         let mut place = 0;

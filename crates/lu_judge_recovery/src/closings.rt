@@ -169,7 +169,8 @@ impl Closings {
     ) -> Result<(), Memory>
         ensures shows { OnOk result ((failing : FailingOf) (past : Past) → ShowsLedger ledger.now past
             → ShowsWindows windows.now past → ShowsClosings self.old failing (count_of greatest) past
-            → ShowsClosings self.new failing (count_of greatest) (line_at turn.stamp turn.target entries.Close ∷ past)) }
+            → ShowsClosings self.new failing (count_of greatest)
+            (line_at turn.stamp turn.target entries.Close ∷ past)) }
     {
         let closing = Closing::new(self.alloc, windows, ledger, turn.target, greatest)?;
         self.by_turn.insert((turn.stamp, turn.target), closing)?;

@@ -93,7 +93,8 @@ impl<'a> Recovery<'a> {
     fn decided(&self, turn: Turn) -> Option<&Closing>
         ensures decided { (past : Past) (later : List LineOf) → Shown self.now past
             → is_failing self.now.failing turn.stamp turn.target ≡ fails (turn_at turn.stamp turn.target) past later
-            → FitsDecided (option_copied result) (count_of self.now.greatest) turn.target (turn_at turn.stamp turn.target) past later }
+            → FitsDecided (option_copied result) (count_of self.now.greatest) turn.target
+            (turn_at turn.stamp turn.target) past later }
     {
         if self.failing.has(turn) {
             return None;

@@ -122,7 +122,8 @@ impl<'a> Known<'a> {
     /// The life begins a call.
     fn begin(&mut self, who: Who, slot: u8, call: &'a Call, is_ready: bool) -> Result<(), Memory>
         ensures moves { OnOk result ((w : SpecWho) → Alike
-            (after.begun self.old.clock (same_life who w) slot call.now is_ready (marks_of self.old w)) (marks_of self.new w)) }
+            (after.begun self.old.clock (same_life who w) slot call.now is_ready (marks_of self.old w))
+            (marks_of self.new w)) }
         ensures clock { OnOk result (self.new.clock ≡ self.old.clock) }
         ensures ups { OnOk result (self.new.ups ≡ self.old.ups) }
     {
@@ -141,7 +142,8 @@ impl<'a> Known<'a> {
     /// The life is told the answer of a call.
     fn learn(&mut self, who: Who, slot: u8, answer: &Answer) -> Result<(), Memory>
         ensures moves { OnOk result ((w : SpecWho) → Alike
-            (after.learned self.old.clock (same_life who w) answer.now (calm_at (marks_of self.old who) slot) (marks_of self.old w))
+            (after.learned self.old.clock (same_life who w) answer.now (calm_at (marks_of self.old who) slot)
+            (marks_of self.old w))
             (marks_of self.new w)) }
         ensures clock { OnOk result (self.new.clock ≡ self.old.clock) }
         ensures ups { OnOk result (self.new.ups ≡ self.old.ups) }
@@ -163,7 +165,8 @@ impl<'a> Known<'a> {
 
     /// The call in the slot stands no longer.
     fn end(&mut self, who: Who, slot: u8)
-        ensures moves { (w : SpecWho) → Alike (after.ended (same_life who w) slot (marks_of self.old w)) (marks_of self.new w) }
+        ensures moves { (w : SpecWho) → Alike (after.ended (same_life who w) slot (marks_of self.old w))
+            (marks_of self.new w) }
         ensures clock { self.new.clock ≡ self.old.clock }
         ensures ups { self.new.ups ≡ self.old.ups }
     {

@@ -33,7 +33,8 @@ impl<K: Eq + Hash + Drop> Stamps<K> {
 
     /// It happens to the key, at this line. After want of memory nothing is known of the table.
     pub fn set(&mut self, key: K, time: u64) -> Result<(), Memory>
-        ensures set { OnOk result ((k : K) → stamp K.eq self.new k ≡ (if K.eq key k then time else stamp K.eq self.old k)) }
+        ensures set { OnOk result ((k : K) → stamp K.eq self.new k
+            ≡ (if K.eq key k then time else stamp K.eq self.old k)) }
     {
         self.by_key.insert(key, time)?;
         Ok(())

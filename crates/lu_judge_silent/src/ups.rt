@@ -73,7 +73,8 @@ impl Ups {
     /// The life's slot in a boot is ready.
     fn remove(&mut self, who: Who, up: (u16, u32)) -> Result<(), Memory>
         ensures removes { OnOk result ((w : SpecWho) (other : ℕ × ℕ) → is_waiting self.new w other
-            ≡ (if same_life who w && (up.0 == other.0 && up.1 == other.1) then false else is_waiting self.old w other)) }
+            ≡ (if same_life who w && (up.0 == other.0 && up.1 == other.1) then false
+            else is_waiting self.old w other)) }
     {
         let mut boots = self.take_out(who);
         boots.remove(&up);

@@ -42,7 +42,8 @@ pub struct History<'a> {
 fn perform_call(alloc: Global, machine: &mut Machine, fid: Fid, call: &Call) -> Result<(), Memory>
     requires kept { IsCall call.now }
     ensures next { OnOk result ((osts : ℕ) (m : Plain) → 1 ≤ osts → osts ≤ 8
-        → ShowsPlain osts machine.old m → ShowsPlain osts machine.new (changed_bytes m fid (data_change m fid call.now))) }
+        → ShowsPlain osts machine.old m → ShowsPlain osts machine.new
+        (changed_bytes m fid (data_change m fid call.now))) }
 {
     match call {
         Call::Read { .. } => Ok(()),

@@ -83,7 +83,8 @@ impl<'a> Handed<'a> {
 
     /// Notes that the life asked to join, or handed in as much as a word of it says, where this is so.
     fn note_back(&mut self, who: Who, is_back: bool) -> Result<(), Memory>
-        ensures back { OnOk result ((w : Who) → is_back_in self.new w ≡ ((is_back && same_life who w) || is_back_in self.old w)) }
+        ensures back { OnOk result ((w : Who)
+            → is_back_in self.new w ≡ ((is_back && same_life who w) || is_back_in self.old w)) }
         ensures others { OnOk result (self.new ≡ record self.old { back = self.new.back }) }
     {
         if is_back {
@@ -142,7 +143,8 @@ impl<'a> Handed<'a> {
 
     /// Whether the life handed in so many replays and locks.
     fn has_handed(&self, who: Who, replays: u64, locks: u64) -> bool
-        ensures all { result ≡ (nat_le replays (count_of self.now.replays who) && nat_le locks (count_of self.now.cookies who)) }
+        ensures all { result ≡ (nat_le replays (count_of self.now.replays who)
+            && nat_le locks (count_of self.now.cookies who)) }
     {
         replays <= self.replays.count(who) as u64 && locks <= self.cookies.count(who) as u64
     }

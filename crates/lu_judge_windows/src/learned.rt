@@ -123,9 +123,11 @@ impl Learned {
     /// Takes in what a message tells where the life hears the target's reply to its request.
     fn hear_one(&mut self, target: u16, who: Who, xid: Xid, sending: &Sending) -> Result<(), Memory>
         ensures heard { OnOk result ((t : ℕ) (w : Who) (n : ℕ) → heard_in self.new t w n
-            ≡ ((is_of target who t w && is_reply_to (carries n) target who xid.0 (sending_of sending.now)) || heard_in self.old t w n)) }
+            ≡ ((is_of target who t w && is_reply_to (carries n) target who xid.0 (sending_of sending.now))
+            || heard_in self.old t w n)) }
         ensures saw { OnOk result ((t : ℕ) (w : Who) (n : ℕ) → saw_in self.new t w n
-            ≡ ((is_of target who t w && is_reply_to (names n) target who xid.0 (sending_of sending.now)) || saw_in self.old t w n)) }
+            ≡ ((is_of target who t w && is_reply_to (names n) target who xid.0 (sending_of sending.now))
+            || saw_in self.old t w n)) }
     {
         match sending.message {
             Message::Reply(reply) => {
@@ -150,7 +152,8 @@ impl Learned {
     ) -> Result<(), Memory>
         ensures heard { OnOk result (self.new.heard ≡ self.old.heard) }
         ensures saw { OnOk result ((t : ℕ) (w : Who) (n : ℕ) → saw_in self.new t w n
-            ≡ ((is_of target who t w && is_grant_to (lets_see n) target who cookie.0 (sending_of sending.now)) || saw_in self.old t w n)) }
+            ≡ ((is_of target who t w && is_grant_to (lets_see n) target who cookie.0 (sending_of sending.now))
+            || saw_in self.old t w n)) }
     {
         match sending.message {
             Message::Grant(grant) => {
@@ -167,9 +170,11 @@ impl Learned {
     /// The life hears the target's reply to its request, where the turn took these messages.
     fn hear(&mut self, target: u16, who: Who, xid: Xid, taken: &[Sending]) -> Result<(), Memory>
         ensures heard { OnOk result ((t : ℕ) (w : Who) (n : ℕ) → heard_in self.new t w n
-            ≡ ((is_of target who t w && list_any (is_reply_to (carries n) target who xid.0) (map sending_of taken.now)) || heard_in self.old t w n)) }
+            ≡ ((is_of target who t w && list_any (is_reply_to (carries n) target who xid.0) (map sending_of taken.now))
+            || heard_in self.old t w n)) }
         ensures saw { OnOk result ((t : ℕ) (w : Who) (n : ℕ) → saw_in self.new t w n
-            ≡ ((is_of target who t w && list_any (is_reply_to (names n) target who xid.0) (map sending_of taken.now)) || saw_in self.old t w n)) }
+            ≡ ((is_of target who t w && list_any (is_reply_to (names n) target who xid.0) (map sending_of taken.now))
+            || saw_in self.old t w n)) }
     {
         for sending in taken {
             self.hear_one(target, who, xid, sending)?;
@@ -187,7 +192,8 @@ impl Learned {
     ) -> Result<(), Memory>
         ensures heard { OnOk result (self.new.heard ≡ self.old.heard) }
         ensures saw { OnOk result ((t : ℕ) (w : Who) (n : ℕ) → saw_in self.new t w n
-            ≡ ((is_of target who t w && list_any (is_grant_to (lets_see n) target who cookie.0) (map sending_of taken.now)) || saw_in self.old t w n)) }
+            ≡ ((is_of target who t w && list_any (is_grant_to (lets_see n) target who cookie.0)
+            (map sending_of taken.now)) || saw_in self.old t w n)) }
     {
         for sending in taken {
             self.hold_one(target, who, cookie, sending)?;

@@ -44,7 +44,8 @@ impl<'a> Offers<'a> {
 
     /// Whether the life asked to join, or handed in as much as a word of it says.
     pub(crate) fn has_all(&self, target: u16, who: Who) -> bool
-        ensures all { (past : Past) → ShowsOffers self.now past → result ≡ has_all (boot target past) who (handed target past) }
+        ensures all { (past : Past) → ShowsOffers self.now past
+            → result ≡ has_all (boot target past) who (handed target past) }
     {
         match self.by_target.get(&target) {
             Some(here) => here.has_all(who),

@@ -68,7 +68,8 @@ impl<'a> Transactions<'a> {
     /// Puts a transaction at the end of those of the target.
     fn push(&mut self, target: u16, done: Done<'a>) -> Result<(), Memory>
         ensures pushed { OnOk result ((t : ℕ) → transactions_in self.new t
-            ≡ (if target == t then transactions_in self.old target ++ transaction_of done.entry ∷ [] else transactions_in self.old t)) }
+            ≡ (if target == t then transactions_in self.old target
+            ++ transaction_of done.entry ∷ [] else transactions_in self.old t)) }
         ensures same { OnOk result (self.new.numbers ≡ self.old.numbers) }
     {
         match self.in_order.get_mut(&target) {

@@ -118,7 +118,8 @@ impl<'a> Windows<'a> {
 
     /// The lives that joined at the target, the first one first, once for each `joined` line.
     pub fn joined_lives(&self, target: u16) -> &[Who]
-        ensures lives { (past : Past) → ShowsWindows self.now past → reverse result.now ≡ slots.joined_lives target past }
+        ensures lives { (past : Past) → ShowsWindows self.now past
+            → reverse result.now ≡ slots.joined_lives target past }
     {
         self.joins.lives(target)
     }
@@ -141,7 +142,8 @@ impl<'a> Windows<'a> {
 
     /// Whether the life has a slot at the target after one more line of the target.
     fn has_slot_after(&self, ledger: &Ledger, target: u16, entry: &Entry, who: Who) -> bool
-        ensures slot { (past : Past) (at : At) → is_target target at.node ≡ true → ShowsLedger ledger.now past → ShowsWindows self.now past
+        ensures slot { (past : Past) (at : At) → is_target target at.node ≡ true → ShowsLedger ledger.now past
+            → ShowsWindows self.now past
             → result ≡ slots.has_slot target (record { at = at; entry = entry.now } ∷ past) who }
     {
         match entry {
@@ -166,8 +168,10 @@ impl<'a> Windows<'a> {
     /// Whether the life asked to join since the target's last boot, or handed in as much as a word of it says, after
     /// one more line of the target.
     fn has_all_after(&self, ledger: &Ledger, target: u16, entry: &Entry, who: Who) -> bool
-        ensures all { (past : Past) (at : At) → is_target target at.node ≡ true → ShowsLedger ledger.now past → ShowsWindows self.now past
-            → result ≡ handed.has_all (boots.boot target (record { at = at; entry = entry.now } ∷ past)) who (handed.handed target (record { at = at; entry = entry.now } ∷ past)) }
+        ensures all { (past : Past) (at : At) → is_target target at.node ≡ true → ShowsLedger ledger.now past
+            → ShowsWindows self.now past
+            → result ≡ handed.has_all (boots.boot target (record { at = at; entry = entry.now } ∷ past)) who
+            (handed.handed target (record { at = at; entry = entry.now } ∷ past)) }
     {
         match entry {
             Entry::Take(number) => match ledger.sendings.get(*number) {
@@ -206,14 +210,16 @@ impl<'a> Windows<'a> {
     /// The different locks that were handed in since the target's last boot, the first one first.
     pub fn locks_handed(&self, target: u16) -> &[&'a LockReplay]
         ensures locks { (past : Past) → ShowsWindows self.now past
-            → reverse (map (λ r. r.now) result.now) ≡ handed.locks (boots.boot target past) (handed.handed target past) }
+            → reverse (map (λ r. r.now) result.now)
+            ≡ handed.locks (boots.boot target past) (handed.handed target past) }
     {
         self.offers.locks(target)
     }
 
     /// Whether the life heard a reply of the target that carries this number.
     pub fn heard_number(&self, target: u16, who: Who, number: u64) -> bool
-        ensures heard { (past : Past) → ShowsWindows self.now past → result ≡ learned.heard_number target who number past }
+        ensures heard { (past : Past) → ShowsWindows self.now past
+            → result ≡ learned.heard_number target who number past }
     {
         self.learned.heard(target, who, number)
     }
@@ -250,8 +256,10 @@ impl<'a> Windows<'a> {
 
     /// Whether a close loses the transaction after what it lost of older ones.
     fn falls(&self, ledger: &Ledger, target: u16, done: &Done, fate: &Fate) -> bool
-        ensures falls { (past : Past) (ns : List ℕ) → ShowsLedger ledger.now past → ShowsWindows self.now past → IsFate fate.now ns
-            → result ≡ (not (lost.is_replayable target past (transaction_of done.now)) || list_any (lost.is_among ns) done.now.seen.now) }
+        ensures falls { (past : Past) (ns : List ℕ) → ShowsLedger ledger.now past → ShowsWindows self.now past
+            → IsFate fate.now ns
+            → result ≡ (not (lost.is_replayable target past (transaction_of done.now))
+            || list_any (lost.is_among ns) done.now.seen.now) }
     {
         !self.is_replayable(ledger, target, done) || fate.has_any(done.seen)
     }
@@ -264,8 +272,10 @@ impl<'a> Windows<'a> {
         done: &Done,
         fate: &mut Fate,
     ) -> Result<(), Memory>
-        ensures decided { OnOk result ((past : Past) (ns : List ℕ) → ShowsLedger ledger.now past → ShowsWindows self.now past → IsFate fate.old ns
-            → IsFate fate.new (if is_undecided target past (transaction_of done.now) then lost.with_lost (lost.is_replayable target past) (transaction_of done.now) ns else ns)) }
+        ensures decided { OnOk result ((past : Past) (ns : List ℕ) → ShowsLedger ledger.now past
+            → ShowsWindows self.now past → IsFate fate.old ns
+            → IsFate fate.new (if is_undecided target past (transaction_of done.now)
+            then lost.with_lost (lost.is_replayable target past) (transaction_of done.now) ns else ns)) }
     {
         if !self.is_undecided(target, done) {
             return Ok(());
@@ -308,7 +318,8 @@ impl<'a> Windows<'a> {
     /// Adds the transaction's number to what a close keeps that loses these, where it keeps it.
     fn keep(&self, target: u16, done: &Done, fate: &Fate, kept: &mut Numbers) -> Result<(), Memory>
         ensures kept { OnOk result ((past : Past) (ns : List ℕ) → ShowsWindows self.now past → IsFate fate.now ns
-            → kept.new ≡ kept.old ++ (if is_undecided target past (transaction_of done.now) && not (lost.is_among ns done.now.number) then done.now.number ∷ [] else [])) }
+            → kept.new ≡ kept.old ++ (if is_undecided target past (transaction_of done.now)
+            && not (lost.is_among ns done.now.number) then done.now.number ∷ [] else [])) }
     {
         if !self.stays(target, done, fate) {
             return Ok(());
@@ -333,7 +344,10 @@ impl<'a> Windows<'a> {
     /// The target's recovery window closes in its turn of this stamp.
     fn close(&mut self, ledger: &Ledger, target: u16, stamp: Stamp) -> Result<(), Memory>
         ensures losses { OnOk result ((past : Past) → ShowsLedger ledger.now past → ShowsWindows self.old past
-            → ShowsLosses self.new.losses (record { at = record { stamp = stamp; node = Target target }; entry = Close } ∷ past)) }
+            → ShowsLosses self.new.losses (record {
+              at = record { stamp = stamp; node = Target target };
+              entry = Close;
+            } ∷ past)) }
         ensures others { OnOk result (self.new ≡ record self.old { losses = self.new.losses }) }
     {
         if self.losses.has_failed(target, stamp.0) {

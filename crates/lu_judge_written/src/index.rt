@@ -80,7 +80,9 @@ impl Index {
 
     /// Files a place in a bucket, after those that are there.
     fn file(&mut self, bucket: u64, place: usize) -> Result<(), Memory>
-        ensures filed { OnOk result ((b : ℕ) → places_of self.new b ≡ (if bucket == b then places_of self.old b ++ place ∷ [] else places_of self.old b)) }
+        ensures filed { OnOk result ((b : ℕ)
+            → places_of self.new b ≡ (if bucket == b then places_of self.old b
+            ++ place ∷ [] else places_of self.old b)) }
         ensures kept { OnErr result ((b : ℕ) → places_of self.new b ≡ places_of self.old b) }
     {
         let places = self
@@ -93,7 +95,8 @@ impl Index {
 
     /// Files a place in the buckets of a written part.
     fn file_part(&mut self, part: &Part, place: usize) -> Result<(), Memory>
-        ensures filed { OnOk result ((b : ℕ) → has (filing part.now) b ≡ true → has (places_of self.new b) place ≡ true) }
+        ensures filed { OnOk result ((b : ℕ) → has (filing part.now) b ≡ true
+            → has (places_of self.new b) place ≡ true) }
         ensures grows { Grows self.old self.new }
     {
         match part {
@@ -136,7 +139,8 @@ impl Index {
 
     /// Adds the places that are filed in the buckets in which a touched part is looked up.
     fn gather_part(&self, part: &Part, places: &mut Vec<usize>) -> Result<(), Memory>
-        ensures gathered { OnOk result (places.new.items ≡ places.old.items ++ flat_map (places_of self.now) (lookups part.now)) }
+        ensures gathered { OnOk result (places.new.items ≡ places.old.items
+            ++ flat_map (places_of self.now) (lookups part.now)) }
     {
         match part {
             Part::Name(directory, name) => {
@@ -155,7 +159,8 @@ impl Index {
     /// once, rising.
     pub(crate) fn candidates(&self, touched: &Parts) -> Result<Vec<usize>, Memory>
         ensures rising { IfOk result (λ places. IsStrictlyIncreasing places.items) }
-        ensures all { IfOk result (λ places. (place : ℕ) → has (gathered self.now touched.now) place ≡ true → has places.items place ≡ true) }
+        ensures all { IfOk result (λ places. (place : ℕ) → has (gathered self.now touched.now) place ≡ true
+            → has places.items place ≡ true) }
     {
         let mut places = Vec::new(self.alloc);
         for part in touched.as_slice() {

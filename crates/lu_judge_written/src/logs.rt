@@ -62,7 +62,8 @@ fn seen_among(
     touched: &Parts,
     places: &[usize],
 ) -> Result<Vec<u64>, AllocError>
-    ensures { IfOk result (λ numbers. numbers.items ≡ filter_map (seen_at (is_seen above touched.now) all.now) places.now) }
+    ensures { IfOk result (λ numbers. numbers.items
+        ≡ filter_map (seen_at (is_seen above touched.now) all.now) places.now) }
 {
     places
         .iter()

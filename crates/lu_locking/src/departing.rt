@@ -247,7 +247,8 @@ pub(crate) fn all_go_on(
     granted: &[Lock],
     resources: &[Resource],
 ) -> Result<Sequence<QueueStep>, Memory>
-    ensures gone { IfOk result (λ steps. AllHaveGoneOn space.now tick granted.now resources.now calls.old steps calls.new) }
+    ensures gone { IfOk result (λ steps. AllHaveGoneOn space.now tick granted.now resources.now calls.old steps
+        calls.new) }
 {
     let mut steps = Vec::new(alloc);
     for resource in resources {

@@ -36,7 +36,8 @@ pub(crate) fn reminders(
     space: &Lockspace,
     before: &[Asked],
 ) -> Result<Vec<Reminder>, Memory>
-    ensures reminders { IfOk result (λ reminders. reminders.items ≡ filter_map (reminder_of calls.now space.now) before.now) }
+    ensures reminders { IfOk result (λ reminders. reminders.items
+        ≡ filter_map (reminder_of calls.now space.now) before.now) }
 {
     let reminders: Vec<Reminder> = before
         .iter()

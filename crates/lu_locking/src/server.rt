@@ -150,7 +150,8 @@ impl LockServer {
         ask: Ask,
     ) -> Result<(Lock, Placed), LockFault>
         requires ordered { IsOrdered ask.policy }
-        ensures lock { IfOk result (λ both. both.0 ≡ record { cookie = both.0.cookie; resource = resource; ask = ask }) }
+        ensures lock { IfOk result (λ both. both.0
+            ≡ record { cookie = both.0.cookie; resource = resource; ask = ask }) }
         ensures added { IfOk result (λ both. IsAdded resource ask both.0.cookie both.1 self.old self.new) }
         ensures room { IfOk result (λ _. self.old.count < most_cookies) }
         ensures spent { IfErr result (λ fault. ((fault ≡ lock_fault.CookiesSpent) × (self.old.count ≡ most_cookies))
@@ -272,7 +273,8 @@ impl LockServer {
     /// What is outstanding of a lock, from place 0 on: its block first, and then the glimpses in the order in which they
     /// were asked; none past the last.
     pub fn outstanding(&self, cookie: Cookie, at: usize) -> Option<Kind>
-        ensures asked { (v : Target) (l : Lock) → Shows self.now v → l.cookie ≡ cookie → result ≡ slice_get (kinds_asked v l) at }
+        ensures asked { (v : Target) (l : Lock) → Shows self.now v → l.cookie ≡ cookie
+            → result ≡ slice_get (kinds_asked v l) at }
     {
         self.calls.of(cookie, at)
     }
@@ -299,7 +301,8 @@ impl LockServer {
         ensures admitted { IfOk result (λ locks. AreAdmitted who wants.now locks self.old self.new) }
         ensures room { IfOk result (λ _. self.old.count + length wants.now ≤ most_cookies) }
         ensures spent { IfErr result (λ fault.
-            ((fault ≡ lock_fault.CookiesSpent) × (most_cookies < self.old.count + length wants.now) × (self.new ≡ self.old))
+            ((fault ≡ lock_fault.CookiesSpent) × (most_cookies < self.old.count + length wants.now)
+            × (self.new ≡ self.old))
             ⊎ ((fault ≡ lock_fault.Memory) × (self.old.count + length wants.now ≤ most_cookies))) }
     {
         if u64::from(u32::MAX - self.count) < wants.len() as u64 {
@@ -359,7 +362,8 @@ impl LockServer {
 
     /// The lives of the locks that were called back at least `age` ticks ago, by client and life, each once.
     pub fn due(&self, alloc: Global, age: u64) -> Result<Lives, Memory>
-        ensures due { IfOk result (λ lives. (v : Target) → Shows self.now v → v.setting.expire ≡ age → lives ≡ condemned v v.called) }
+        ensures due { IfOk result (λ lives. (v : Target) → Shows self.now v → v.setting.expire ≡ age
+            → lives ≡ condemned v v.called) }
     {
         let cookies = self.calls.due(alloc, self.ticks, age)?;
         let lives = holders(alloc, &self.space, cookies.as_slice())?;
@@ -393,7 +397,8 @@ impl LockServer {
     pub fn restore(&mut self, alloc: Global, locks: &Locks) -> Result<Locks, Memory>
         requires ordered { AreOrdered locks.now }
         ensures stand { IfOk result (λ standing. standing ≡ restored [] locks.now) }
-        ensures shows { OnOk result ((v w : Target) → ShowsCounts self.old v → StandAgain locks.now v w → Shows self.new w) }
+        ensures shows { OnOk result ((v w : Target) → ShowsCounts self.old v → StandAgain locks.now v w
+            → Shows self.new w) }
         ensures kept { OnErr result (self.new ≡ self.old) }
     {
         let (space, standing) = all_stand(alloc, locks.as_slice())?;

@@ -37,7 +37,8 @@ fn stands(alloc: Global, space: &mut Lockspace, lock: Lock) -> Result<bool, Memo
     requires ordered { IsOrdered lock.ask.policy }
     requires quiet { (queue_of lock.resource space.old).waiting ≡ [] }
     ensures stands { IfOk result (λ stands. stands ≡ may_restore (grant_of lock) (queue_of lock.resource space.old)) }
-    ensures added { OnOk result (queue_of lock.resource space.new ≡ with_restored (grant_of lock) (queue_of lock.resource space.old)) }
+    ensures added { OnOk result (queue_of lock.resource space.new
+        ≡ with_restored (grant_of lock) (queue_of lock.resource space.old)) }
     ensures others { KeepsOthers lock.resource space.old space.new }
     ensures lawful { IsSpace space.new }
 {

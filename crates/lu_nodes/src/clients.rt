@@ -76,7 +76,8 @@ impl ClientSeat {
         requires shown { IsClientShown self.old }
         requires slot { slot < slot_count }
         requires range { IsCall call.now }
-        ensures made { IfOk result (ClientMakes (Begins slot (with_stripes call.now)) (Begins slot (with_stripes call.now))
+        ensures made { IfOk result (ClientMakes (Begins slot (with_stripes call.now))
+            (Begins slot (with_stripes call.now))
             stamp self.old self.new) }
     {
         let call = with_stripes(call.copy(self.alloc)?);

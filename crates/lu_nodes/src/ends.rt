@@ -16,7 +16,8 @@ impl<D: Disk + Drop> Nodes<D> {
     pub fn give_back(self, disks: &mut Vec<D>) -> Result<(), Memory>
         requires kept { HaveDisks self }
         ensures given { OnOk result (map (λ d. record { batches = D.batches d; faults = D.faults d }) disks.new.items
-            ≡ map (λ d. record { batches = D.batches d; faults = D.faults d }) disks.old.items ++ reverse (disks_of self)) }
+            ≡ map (λ d. record { batches = D.batches d; faults = D.faults d }) disks.old.items
+            ++ reverse (disks_of self)) }
     {
         give_objects(self.objects, disks)?;
         disks.push(self.names.into_disk())?;

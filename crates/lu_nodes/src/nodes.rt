@@ -156,7 +156,8 @@ impl<D: Disk + Drop> Nodes<D> {
             stamp self.old self.new) }
         ensures failed { (step : StepOf) → result ≡ Err (fault.Disk step)
             → NodesFail target (event_of command) stamp self.old self.new step }
-        ensures foreseen { result ≡ Err fault.Unforeseen → command ≡ Command.Tick → (head : HeadOf) (turns : ℕ) (past : List Line)
+        ensures foreseen { result ≡ Err fault.Unforeseen → command ≡ Command.Tick
+            → (head : HeadOf) (turns : ℕ) (past : List Line)
             → ShowsNodes head turns past self.old → ¬ IsTickForeseen head past stamp target }
     {
         match target.checked_sub(1) {
@@ -171,7 +172,8 @@ impl<D: Disk + Drop> Nodes<D> {
     pub fn hand_over(&mut self, stamp: Stamp, sent: &Sent) -> Result<Step, TurnFault>
         requires shown { AreShown self.old }
         ensures made { IfOk result (λ step. (n : ℕ) → NodesMake sent.now.to
-            (arrives 0 sent.now.from sent.now.message sent.now.to) (arrives n sent.now.from sent.now.message sent.now.to)
+            (arrives 0 sent.now.from sent.now.message sent.now.to)
+            (arrives n sent.now.from sent.now.message sent.now.to)
             stamp self.old self.new step) }
         ensures failed { (step : StepOf) → result ≡ Err (fault.Disk step) → (t : ℕ) → sent.now.to ≡ node.Target t
             → NodesFail t (Comes 0 sent.now.from sent.now.message) stamp self.old self.new step }
@@ -195,7 +197,8 @@ impl<D: Disk + Drop> Nodes<D> {
     ) -> Result<Step, TurnFault>
         requires shown { AreShown self.old }
         ensures made { IfOk result (λ step. (n : ℕ) → NodesMake (node.Client client)
-            (client_rows.Comes 0 from message.now) (client_rows.Comes n from message.now) stamp self.old self.new step) }
+            (client_rows.Comes 0 from message.now) (client_rows.Comes n from message.now) stamp self.old self.new
+            step) }
         ensures failed { (step : StepOf) → result ≢ Err (fault.Disk step) }
         ensures foreseen { result ≡ Err fault.Unforeseen → (head : HeadOf) (turns : ℕ) (past : List Line)
             → ShowsNodes head turns past self.old → client < head.clients → (t : ℕ) → from ≡ node.Target t
@@ -214,8 +217,10 @@ impl<D: Disk + Drop> Nodes<D> {
             (Comes 0 from message.now) (Comes n from message.now) stamp self.old self.new step) }
         ensures failed { (step : StepOf) → result ≡ Err (fault.Disk step) → (from : NodeOf)
             → NodesFail target (Comes 0 from message.now) stamp self.old self.new step }
-        ensures foreseen { result ≡ Err fault.Unforeseen → (head : HeadOf) (turns : ℕ) (past : List Line) (from : NodeOf)
-            → ShowsNodes head turns past self.old → target ≤ head.osts → ¬ TakesSurely head past stamp from message.now target }
+        ensures foreseen { result ≡ Err fault.Unforeseen
+            → (head : HeadOf) (turns : ℕ) (past : List Line) (from : NodeOf)
+            → ShowsNodes head turns past self.old → target ≤ head.osts
+            → ¬ TakesSurely head past stamp from message.now target }
     {
         let Some(place) = target.checked_sub(1) else {
             return self.names.deliver(stamp, message);
@@ -237,7 +242,8 @@ fn obey<S: Fresh, D: Disk + Drop>(
     ensures made { IfOk result (TargetMakes (event_of command) (event_of command) stamp seat.old seat.new) }
     ensures failed { (step : StepOf) → result ≡ Err (fault.Disk step)
         → TargetFails (event_of command) stamp seat.old seat.new step }
-    ensures foreseen { result ≡ Err fault.Unforeseen → command ≡ Command.Tick → (head : HeadOf) (t : ℕ) (past : List Line)
+    ensures foreseen { result ≡ Err fault.Unforeseen → command ≡ Command.Tick
+        → (head : HeadOf) (t : ℕ) (past : List Line)
         → ShowsTarget head past t seat.old → ¬ IsTickForeseen head past stamp t }
 {
     match command {

@@ -54,7 +54,8 @@ impl<D: Disk + Drop> Nodes<D> {
         ensures started { OnOk result ((head : HeadOf) → AreUnstarted head self.old → ShowsNodes head 0 [] self.new) }
         ensures failed { (t : TargetIdOf) (step : StepOf)
             → result ≡ Err (record { target = t; fault = fault.Disk step })
-            → (head : HeadOf) → AreUnstarted head self.old → NodesFailStart head t.0 (record { 0 = 1 }) self.old self.new step }
+            → (head : HeadOf) → AreUnstarted head self.old
+            → NodesFailStart head t.0 (record { 0 = 1 }) self.old self.new step }
         ensures foreseen { (t : TargetIdOf) → result ≢ Err (record { target = t; fault = fault.Unforeseen }) }
     {
         let lives = match first_lives(self.alloc, self.clients.len()) {

@@ -104,7 +104,8 @@ pub fn edit_page<T: Copy + Drop, E: Edit<T>>(
     edit: &E,
 )
     requires pages { PagesFrom 0 pages.old.entries }
-    ensures edited { joined pages.new.entries ≡ edited (in_range (page_extent number) (E.edits edit.now)) (joined pages.old.entries) }
+    ensures edited { joined pages.new.entries
+        ≡ edited (in_range (page_extent number) (E.edits edit.now)) (joined pages.old.entries) }
     ensures pages { PagesFrom 0 pages.new.entries }
 {
     let Some(page) = pages.get_mut(&number) else {
@@ -137,7 +138,8 @@ pub fn put_all<T: Copy + Drop>(pages: &mut BTreeMap<u64, Page<T>>, at: u64, item
     requires pages { PagesFrom 0 pages.old.entries }
     requires some { 0 < length items.now }
     requires fits { at + length items.now ≤ 2 ^ 62 }
-    requires there { (k : ℕ) → at / 4096 ≤ k → k ≤ (at + (length items.now - 1)) / 4096 → IsSome (found_at pages.old.entries k) }
+    requires there { (k : ℕ) → at / 4096 ≤ k → k ≤ (at + (length items.now - 1)) / 4096
+        → IsSome (found_at pages.old.entries k) }
     ensures laid { joined pages.new.entries ≡ laid at items.now (joined pages.old.entries) }
     ensures pages { PagesFrom 0 pages.new.entries }
 {

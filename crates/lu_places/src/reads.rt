@@ -75,7 +75,8 @@ pub fn run<T: Copy + Drop>(
 ) -> Result<Vec<T>, Memory>
     requires pages { PagesFrom 0 pages.now.entries }
     requires fits { from < 2 ^ 62 }
-    ensures run { IfOk result (λ run. run.items ≡ run_at (4096 - from % 4096) (inside extent (joined pages.now.entries)) from) }
+    ensures run { IfOk result (λ run. run.items
+        ≡ run_at (4096 - from % 4096) (inside extent (joined pages.now.entries)) from) }
 {
     match pages.get(&(from / PAGE)) {
         Some(page) => page.run(alloc, extent, from, PAGE - from % PAGE),

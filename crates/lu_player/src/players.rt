@@ -97,7 +97,8 @@ impl<D: Disk + Drop> Player<D> {
     fn begin(&mut self, client: u16, slot: u8, call: &Call) -> Result<Progress, PlayFault>
         requires due { IsNext self.old (CallLine client slot call.now) }
         ensures performs { IfOk result (Performs self.old (CallLine client slot call.now) self.new) }
-        ensures foreseen { result ≡ Err play_fault.Unforeseen → IsLineUnforeseen self.old (CallLine client slot call.now) }
+        ensures foreseen { result ≡ Err play_fault.Unforeseen
+            → IsLineUnforeseen self.old (CallLine client slot call.now) }
     {
         if self.nodes.is_dead(client) {
             return Ok(Progress::Made);

@@ -72,8 +72,10 @@ impl<D: Disk + Drop> Player<D> {
     /// The targets start, and the lines are performed.
     fn play(&mut self, lines: &[SceneLine]) -> Result<Progress, PlayFault>
         requires starting { (scene : SceneOf) × IsStarting scene lines.now self.old }
-        ensures played { IfOk result (λ came. (scene : SceneOf) → IsStarting scene lines.now self.old → Comes scene [] self.new came) }
-        ensures unforeseen { result ≡ Err play_fault.Unforeseen → (scene : SceneOf) → IsStarting scene lines.now self.old
+        ensures played { IfOk result (λ came. (scene : SceneOf) → IsStarting scene lines.now self.old
+            → Comes scene [] self.new came) }
+        ensures unforeseen { result ≡ Err play_fault.Unforeseen → (scene : SceneOf)
+            → IsStarting scene lines.now self.old
             → ¬ AllForeseen scene }
     {
         match self.nodes.start() {

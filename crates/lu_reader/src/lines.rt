@@ -180,7 +180,8 @@ pub fn read_end(alloc: Global, text: &[u8]) -> Result<(End, u16), LineFault>
     ensures read { IfOk result (λ last. words (end_words last.0 ++ osts_words last.1) ≡ text.now) }
     ensures some { IfOk result (λ last. 1 ≤ last.1) }
     ensures few { IfOk result (λ last. last.1 ≤ 8) }
-    ensures none { result ≡ Err LineFault.Unread → (end : End) (osts : ℕ) → 1 ≤ osts → osts ≤ 8 → words (end_words end ++ osts_words osts) ≢ text.now }
+    ensures none { result ≡ Err LineFault.Unread → (end : End) (osts : ℕ) → 1 ≤ osts → osts ≤ 8
+        → words (end_words end ++ osts_words osts) ≢ text.now }
 {
     let parts = split_at_byte(alloc, text, b' ')?;
     end_of(parts.as_slice())

@@ -110,7 +110,8 @@ impl<D: Disk> Store<D> {
         ensures booted { IfOk result (λ store. (v : Target) → ShowsDisk (D.batches disk) v
             → Recovers store (after v (BootEntry (v.disk.boot + 1) v.disk))) }
         ensures room { IfOk result (λ _. last_boot (D.batches disk) < most_boots) }
-        ensures stored { IfOk result (λ store. store.batches ≡ D.batches disk ++ boot_batch (last_boot (D.batches disk) + 1) ∷ []) }
+        ensures stored { IfOk result (λ store. store.batches ≡ D.batches disk
+            ++ boot_batch (last_boot (D.batches disk) + 1) ∷ []) }
         ensures steady { IfOk result (λ store. store.faults ≡ D.faults disk) }
         ensures kept { IfErr result (λ failed. D.batches failed.0 ≡ D.batches disk) }
         ensures cause { IfErr result (λ failed. HasCause (D.faults disk) (D.faults failed.0) (failure failed.1)) }
@@ -207,7 +208,8 @@ impl<D: Disk> Store<D> {
         ensures above { IfOk result (λ number. self.now.journal.newest < number.0) }
         ensures boot { IfOk result (λ number. number.0 < (self.now.journal.boot + 1) * 2 ^ 32) }
         ensures room { IfOk result (λ number. count self.now.journal < most_numbers) }
-        ensures spent { IfErr result (λ fault. (fault ≡ store_fault.NumbersSpent) × (count self.now.journal ≡ most_numbers)) }
+        ensures spent { IfErr result (λ fault. (fault ≡ store_fault.NumbersSpent)
+            × (count self.now.journal ≡ most_numbers)) }
     {
         match self.journal.next() {
             Ok(number) => Ok(number),
@@ -234,7 +236,8 @@ impl<D: Disk> Store<D> {
     /// A request is taken: it is the newest of its life and tag, and isn't answered.
     pub fn enter(&mut self, request: &Request) -> Result<(), Memory>
         requires tag { request.now.tag < tag_count }
-        ensures shows { OnOk result ((v : Target) → Serves self.old v → Serves self.new (after v (Enters request.now))) }
+        ensures shows { OnOk result ((v : Target) → Serves self.old v
+            → Serves self.new (after v (Enters request.now))) }
         ensures entered { OnOk result (HasTaken request.now.who request.now.tag self.new) }
         ensures takes { OnOk result (KeepsTaken self.old self.new) }
         ensures journal { self.new.journal ≡ self.old.journal }
@@ -289,8 +292,10 @@ impl<D: Disk> Store<D> {
         requires tag { tag < tag_count }
         requires above { self.old.journal.newest < reply.txn.0 }
         requires boot { reply.txn.0 < (self.old.journal.boot + 1) * 2 ^ 32 }
-        ensures redone { OnOk result (IsRedone (record { tag = tag; op = op; writes = writes; reply = reply }) self.old self.new) }
-        ensures journal { OnOk result (self.new.journal ≡ appended reply.txn reply.who tag op writes reply self.old.journal) }
+        ensures redone { OnOk result (IsRedone (record { tag = tag; op = op; writes = writes; reply = reply }) self.old
+            self.new) }
+        ensures journal { OnOk result (self.new.journal
+            ≡ appended reply.txn reply.who tag op writes reply self.old.journal) }
         ensures disk { KeepsDisk self.old self.new }
     {
         let who = reply.who;

@@ -42,15 +42,19 @@ pub fn run_command<R: Env + AllocGlobal, S: Source, K: Sink, D: Disk + Drop>(
     requires fresh { AreFresh (held_by D.batches D.faults disks.old.items) }
     // What was written is the trace of a run of the scenario that was read, or the summary of one of the storm; and that
     // trace is lawful where the theorem covers the scenario. Or it is that the trace which was read breaks no law.
-    ensures written { result ≡ Status.Done → (words : List (List ℕ)) × (WroteBy words (S.left source.old) (S.left source.new)
+    ensures written { result ≡ Status.Done
+        → (words : List (List ℕ)) × (WroteBy words (S.left source.old) (S.left source.new)
         (held_by D.batches D.faults disks.new.items) None (Appends (K.holds sink.old) (K.holds sink.new))
-        ⊎ WroteVerdict words (S.left source.old) (S.left source.new) Lawful (Appends (K.holds sink.old) (K.holds sink.new))) }
+        ⊎ WroteVerdict words (S.left source.old) (S.left source.new) Lawful
+        (Appends (K.holds sink.old) (K.holds sink.new))) }
     // Or it is the first law that the trace which was read breaks, and the first line that breaks it.
     ensures unlawful { (law : Law) (line : ℕ) → result ≡ Status.Unlawful law line → (words : List (List ℕ))
-        × WroteVerdict words (S.left source.old) (S.left source.new) (Broken law line) (Appends (K.holds sink.old) (K.holds sink.new)) }
+        × WroteVerdict words (S.left source.old) (S.left source.new) (Broken law line)
+        (Appends (K.holds sink.old) (K.holds sink.new)) }
     ensures unread { result ≡ Status.Usage → source.new ≡ source.old }
     ensures back { HasRun result → (words : List (List ℕ)) × (OfAsked words (S.left source.old) (S.left source.new)
-        (λ scene. AreBack scene (held_by D.batches D.faults disks.old.items) (held_by D.batches D.faults disks.new.items))
+        (λ scene. AreBack scene (held_by D.batches D.faults disks.old.items)
+        (held_by D.batches D.faults disks.new.items))
         ⊎ (Says words Judge × (disks.new ≡ disks.old))) }
     ensures untouched { HasRefused result → disks.new ≡ disks.old }
     ensures told { Tells (K.holds sink.old) (K.holds sink.new) (K.faults sink.old) (K.faults sink.new) result }

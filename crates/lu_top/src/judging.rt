@@ -73,7 +73,8 @@ pub(crate) fn judge_source<S: Source, K: Sink>(
 
     ensures told { Tells (K.holds sink.old) (K.holds sink.new) (K.faults sink.old) (K.faults sink.new) result }
     ensures write_fault_written { result ≡ Status.WriteFault → (verdict : VerdictOf)
-        × WroteVerdictOf (S.left source.old) (S.left source.new) verdict (WrotePrefix (K.holds sink.old) (K.holds sink.new)) }
+        × WroteVerdictOf (S.left source.old) (S.left source.new) verdict
+        (WrotePrefix (K.holds sink.old) (K.holds sink.new)) }
     ensures memory_written { result ≡ Status.Memory → sink.new ≡ sink.old }
 {
     match trace_of(alloc, source) {
@@ -87,11 +88,13 @@ pub(crate) fn judge_source<S: Source, K: Sink>(
 
 /// The trace whose text the source has.
 fn trace_of<S: Source>(alloc: Global, source: &mut S) -> Result<Trace, NoTrace>
-    ensures trace { IfOk result (λ trace. WasRead most_trace_bytes (S.left source.old) (S.left source.new) (λ text. IsTextOf text trace)) }
+    ensures trace { IfOk result (λ trace. WasRead most_trace_bytes (S.left source.old) (S.left source.new)
+        (λ text. IsTextOf text trace)) }
     ensures formed { IfOk result IsWellFormed }
     ensures bad { (line : ℕ) → result ≡ Err (NoTrace.Bad line)
         → WasRead most_trace_bytes (S.left source.old) (S.left source.new) (λ text. IsFirstBad text line) }
-    ensures too_long { result ≡ Err NoTrace.TooLong → CameMore (S.left source.old) (S.left source.new) most_trace_bytes }
+    ensures too_long { result ≡ Err NoTrace.TooLong
+        → CameMore (S.left source.old) (S.left source.new) most_trace_bytes }
     ensures read_fault { result ≡ Err NoTrace.ReadFault → Rose (S.faults source.old) (S.faults source.new) }
     ensures steady { result ≢ Err NoTrace.ReadFault → S.faults source.new ≡ S.faults source.old }
     // Where the source meets no fault, the answer is that of its bytes, unless memory runs out.
@@ -118,7 +121,8 @@ fn trace_of<S: Source>(alloc: Global, source: &mut S) -> Result<Trace, NoTrace>
 /// Judges a trace and writes the verdict on it.
 fn tell_verdict<K: Sink>(alloc: Global, trace: &Trace, sink: &mut K) -> Status
     requires formed { IsWellFormed trace.now }
-    ensures told { IsTold trace.now (K.holds sink.old) (K.holds sink.new) (K.faults sink.old) (K.faults sink.new) result }
+    ensures told { IsTold trace.now (K.holds sink.old) (K.holds sink.new) (K.faults sink.old)
+        (K.faults sink.new) result }
     ensures memory { result ≡ Status.Memory → sink.new ≡ sink.old }
 {
     match verdict_on(alloc, trace) {

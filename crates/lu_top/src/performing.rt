@@ -47,14 +47,17 @@ pub(crate) fn perform_asked<S: Source, K: Sink, D: Disk + Drop>(
     ensures read_fault { result ≡ Status.ReadFault → Rose (S.faults source.old) (S.faults source.new) }
     ensures too_long { result ≡ Status.TooLong → CameMore (S.left source.old) (S.left source.new) most_scene_bytes }
     ensures scene { (line : ℕ) (fault : FaultOf) → result ≡ Status.Scene line fault
-        → WasRead most_scene_bytes (S.left source.old) (S.left source.new) (λ text. IsFirstFault (lines_of text) line fault) }
+        → WasRead most_scene_bytes (S.left source.old) (S.left source.new)
+        (λ text. IsFirstFault (lines_of text) line fault) }
     ensures disk_fault { (t : TargetId) → result ≡ Status.DiskFault t
-        → OfScene performance (S.left source.old) (S.left source.new) (HasFailed (held_by D.batches D.faults disks.new.items) t) }
+        → OfScene performance (S.left source.old) (S.left source.new)
+        (HasFailed (held_by D.batches D.faults disks.new.items) t) }
     ensures write_fault { result ≡ Status.WriteFault → Rose (K.faults sink.old) (K.faults sink.new) }
     ensures source_steady { result ≢ Status.ReadFault → S.faults source.new ≡ S.faults source.old }
     ensures sink_steady { result ≡ Status.Done → K.faults sink.new ≡ K.faults sink.old }
     ensures back { HasRun result → OfScene performance (S.left source.old) (S.left source.new)
-        (λ scene. AreBack scene (held_by D.batches D.faults disks.old.items) (held_by D.batches D.faults disks.new.items)) }
+        (λ scene. AreBack scene (held_by D.batches D.faults disks.old.items)
+        (held_by D.batches D.faults disks.new.items)) }
     ensures untouched { HasRefused result → disks.new ≡ disks.old }
 
     ensures refused { (text : List ℕ) → performance ≡ Performance.Play

@@ -38,8 +38,10 @@ pub(crate) fn scene_of<S: Source>(
 ) -> Result<Scene, Refusal>
     ensures scene { IfOk result (IsSceneBy performance (S.left source.old) (S.left source.new)) }
     ensures bad { (line : ℕ) (fault : FaultOf) → result ≡ Err (Refusal.Bad line fault)
-        → WasRead most_scene_bytes (S.left source.old) (S.left source.new) (λ text. IsFirstFault (lines_of text) line fault) }
-    ensures too_long { result ≡ Err Refusal.TooLong → CameMore (S.left source.old) (S.left source.new) most_scene_bytes }
+        → WasRead most_scene_bytes (S.left source.old) (S.left source.new)
+        (λ text. IsFirstFault (lines_of text) line fault) }
+    ensures too_long { result ≡ Err Refusal.TooLong
+        → CameMore (S.left source.old) (S.left source.new) most_scene_bytes }
     ensures read_fault { result ≡ Err Refusal.ReadFault → Rose (S.faults source.old) (S.faults source.new) }
     ensures steady { result ≢ Err Refusal.ReadFault → S.faults source.new ≡ S.faults source.old }
     // Where the source meets no fault, the answer is that of its bytes, unless memory runs out.
@@ -65,10 +67,13 @@ pub(crate) fn scene_of<S: Source>(
 
 /// The scenario that the source has.
 fn read_from<S: Source>(alloc: Global, source: &mut S) -> Result<Scene, Refusal>
-    ensures scene { IfOk result (λ scene. WasRead most_scene_bytes (S.left source.old) (S.left source.new) (λ text. IsScene text scene)) }
+    ensures scene { IfOk result (λ scene. WasRead most_scene_bytes (S.left source.old) (S.left source.new)
+        (λ text. IsScene text scene)) }
     ensures bad { (line : ℕ) (fault : FaultOf) → result ≡ Err (Refusal.Bad line fault)
-        → WasRead most_scene_bytes (S.left source.old) (S.left source.new) (λ text. IsFirstFault (lines_of text) line fault) }
-    ensures too_long { result ≡ Err Refusal.TooLong → CameMore (S.left source.old) (S.left source.new) most_scene_bytes }
+        → WasRead most_scene_bytes (S.left source.old) (S.left source.new)
+        (λ text. IsFirstFault (lines_of text) line fault) }
+    ensures too_long { result ≡ Err Refusal.TooLong
+        → CameMore (S.left source.old) (S.left source.new) most_scene_bytes }
     ensures read_fault { result ≡ Err Refusal.ReadFault → Rose (S.faults source.old) (S.faults source.new) }
     ensures steady { result ≢ Err Refusal.ReadFault → S.faults source.new ≡ S.faults source.old }
     ensures only { (text : List ℕ) (scene : SceneOf)

@@ -50,7 +50,8 @@ pub fn run<S: Source, K: Sink, D: Disk + Drop>(
         → WroteStorm (K.holds sink.old) (K.holds sink.new) (held_by D.batches D.faults disks.new.items) seed }
     // Or it is the verdict on the trace that was read: that it breaks no law, or the first broken law and the first line that breaks it.
     ensures lawful { result ≡ Status.Done → Says (map string_bytes words.now) Form.Judge
-        → WroteVerdictOf (S.left source.old) (S.left source.new) Lawful (Appends (K.holds sink.old) (K.holds sink.new)) }
+        → WroteVerdictOf (S.left source.old) (S.left source.new) Lawful
+        (Appends (K.holds sink.old) (K.holds sink.new)) }
     ensures unlawful { (law : Law) (line : ℕ) → result ≡ Status.Unlawful law line
         → WroteVerdict (map string_bytes words.now) (S.left source.old) (S.left source.new) (Broken law line)
         (Appends (K.holds sink.old) (K.holds sink.new)) }
@@ -58,12 +59,14 @@ pub fn run<S: Source, K: Sink, D: Disk + Drop>(
     // When each answer comes.
     ensures usage { (result ≡ Status.Usage) ↔ SaysNothing (map string_bytes words.now) }
     ensures unread { result ≡ Status.Usage → source.new ≡ source.old }
-    ensures storm_unread { (seed : ℕ) → Says (map string_bytes words.now) (Form.Perform (Storm seed)) → source.new ≡ source.old }
+    ensures storm_unread { (seed : ℕ) → Says (map string_bytes words.now) (Form.Perform (Storm seed))
+        → source.new ≡ source.old }
     ensures read_fault { result ≡ Status.ReadFault → Rose (S.faults source.old) (S.faults source.new) }
     ensures too_long { result ≡ Status.TooLong → (form : FormOf) × Says (map string_bytes words.now) form
         × CameMore (S.left source.old) (S.left source.new) (most_bytes form) }
     ensures scene { (line : ℕ) (fault : Fault) → result ≡ Status.Scene line fault
-        → WasRead most_scene_bytes (S.left source.old) (S.left source.new) (λ text. IsFirstFault (lines_of text) line fault) }
+        → WasRead most_scene_bytes (S.left source.old) (S.left source.new)
+        (λ text. IsFirstFault (lines_of text) line fault) }
     ensures trace { (line : ℕ) → result ≡ Status.Trace line → Says (map string_bytes words.now) Form.Judge
         × WasRead most_trace_bytes (S.left source.old) (S.left source.new) (λ text. IsFirstBad text line) }
     ensures disk_fault { (t : TargetId) → result ≡ Status.DiskFault t
@@ -73,10 +76,12 @@ pub fn run<S: Source, K: Sink, D: Disk + Drop>(
     // Unless the source failed, its count of faults stays; so does the count of a sink that took all of a trace, a summary or a verdict.
     ensures source_steady { result ≢ Status.ReadFault → S.faults source.new ≡ S.faults source.old }
     ensures sink_steady { result ≡ Status.Done → K.faults sink.new ≡ K.faults sink.old }
-    ensures unlawful_steady { (law : Law) (line : ℕ) → result ≡ Status.Unlawful law line → K.faults sink.new ≡ K.faults sink.old }
+    ensures unlawful_steady { (law : Law) (line : ℕ) → result ≡ Status.Unlawful law line
+        → K.faults sink.new ≡ K.faults sink.old }
     // After a run the disks stand again in their order; where nothing was performed they are as they were.
     ensures back { HasRun result → OfAsked (map string_bytes words.now) (S.left source.old) (S.left source.new)
-        (λ scene. AreBack scene (held_by D.batches D.faults disks.old.items) (held_by D.batches D.faults disks.new.items))
+        (λ scene. AreBack scene (held_by D.batches D.faults disks.old.items)
+        (held_by D.batches D.faults disks.new.items))
         ⊎ (Says (map string_bytes words.now) Form.Judge × (disks.new ≡ disks.old)) }
     ensures untouched { HasRefused result → disks.new ≡ disks.old }
     ensures judge_untouched { Says (map string_bytes words.now) Form.Judge → disks.new ≡ disks.old }
@@ -92,7 +97,8 @@ pub fn run<S: Source, K: Sink, D: Disk + Drop>(
         → IsGiven most_scene_bytes (S.left source.old) (S.faults source.old) (S.faults source.new) text
         → IsScene text scene → IsCovered scene → ¬ Rose (K.faults sink.old) (K.faults sink.new)
         → ¬ SomeRose scene (held_by D.batches D.faults disks.new.items) → IsDone result }
-    ensures storm_performed { (seed : ℕ) → Says (map string_bytes words.now) (Form.Perform (Storm seed)) → IsPerformedStatus result }
+    ensures storm_performed { (seed : ℕ) → Says (map string_bytes words.now) (Form.Perform (Storm seed))
+        → IsPerformedStatus result }
     ensures judge_answers { Says (map string_bytes words.now) Form.Judge → IsOfJudging result }
     ensures refused_trace { (text : List ℕ) → Says (map string_bytes words.now) Form.Judge
         → IsGiven most_trace_bytes (S.left source.old) (S.faults source.old) (S.faults source.new) text
@@ -107,17 +113,21 @@ pub fn run<S: Source, K: Sink, D: Disk + Drop>(
     // What stands in the sink then. A line of a refusal may be cut off by a fault; its status stays.
     ensures told { Tells (K.holds sink.old) (K.holds sink.new) (K.faults sink.old) (K.faults sink.new) result }
     ensures written { result ≡ Status.Done
-        → WroteBy (map string_bytes words.now) (S.left source.old) (S.left source.new) (held_by D.batches D.faults disks.new.items) None
+        → WroteBy (map string_bytes words.now) (S.left source.old) (S.left source.new)
+        (held_by D.batches D.faults disks.new.items) None
         (Appends (K.holds sink.old) (K.holds sink.new))
         ⊎ WroteVerdict (map string_bytes words.now) (S.left source.old) (S.left source.new) Lawful
         (Appends (K.holds sink.old) (K.holds sink.new)) }
     ensures write_fault_written { result ≡ Status.WriteFault
-        → WroteBy (map string_bytes words.now) (S.left source.old) (S.left source.new) (held_by D.batches D.faults disks.new.items) None
+        → WroteBy (map string_bytes words.now) (S.left source.old) (S.left source.new)
+        (held_by D.batches D.faults disks.new.items) None
         (WrotePrefix (K.holds sink.old) (K.holds sink.new))
-        ⊎ ((verdict : Verdict) × WroteVerdict (map string_bytes words.now) (S.left source.old) (S.left source.new) verdict
+        ⊎ ((verdict : Verdict) × WroteVerdict (map string_bytes words.now) (S.left source.old)
+        (S.left source.new) verdict
         (WrotePrefix (K.holds sink.old) (K.holds sink.new))) }
     ensures disk_fault_written { (t : TargetId) → result ≡ Status.DiskFault t
-        → WroteBy (map string_bytes words.now) (S.left source.old) (S.left source.new) (held_by D.batches D.faults disks.new.items) (Some t)
+        → WroteBy (map string_bytes words.now) (S.left source.old) (S.left source.new)
+        (held_by D.batches D.faults disks.new.items) (Some t)
         (WasTold (K.holds sink.old) (K.holds sink.new) (K.faults sink.old) (K.faults sink.new)) }
     ensures memory_written { result ≡ Status.Memory → sink.new ≡ sink.old }
 {

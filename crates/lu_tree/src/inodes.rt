@@ -37,7 +37,11 @@ impl Model for Inodes {
 
     ghost view = { λ a. record { dirs = a.dirs.entries; files = a.files.entries; opens = a.opens.items } };
 
-    ghost invariant = { λ a. IsOrdered (record { dirs = a.dirs.entries; files = a.files.entries; opens = a.opens.items }) };
+    ghost invariant = { λ a. IsOrdered (record {
+      dirs = a.dirs.entries;
+      files = a.files.entries;
+      opens = a.opens.items;
+    }) };
 }
 
 impl Inodes {

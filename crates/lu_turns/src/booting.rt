@@ -114,7 +114,8 @@ impl<S: Service, D: Disk> Server<S, D> {
 /// A begin failed: where the disk did, its turn ends with that line.
 fn begin_fails(turn: &mut Turn, cause: StoreFault) -> BeginFault
     ensures numbers { result ≡ begin.Turn fault.NumbersSpent → cause ≡ store_fault.NumbersSpent }
-    ensures failed { result ≡ begin.Turn fault.Disk → (cause ≡ store_fault.Disk) × (turn.new ≡ giving turn.old (Fail ∷ [])) }
+    ensures failed { result ≡ begin.Turn fault.Disk
+        → (cause ≡ store_fault.Disk) × (turn.new ≡ giving turn.old (Fail ∷ [])) }
     ensures spent { result ≡ begin.BootsSpent → cause ≡ store_fault.BootsSpent }
 {
     match cause {
@@ -128,7 +129,8 @@ fn begin_fails(turn: &mut Turn, cause: StoreFault) -> BeginFault
 /// The disk gave no batches: where it failed, the turn ends with that line.
 fn load_fails(turn: &mut Turn, error: DiskError) -> BeginFault
     ensures numbers { result ≢ begin.Turn fault.NumbersSpent }
-    ensures failed { result ≡ begin.Turn fault.Disk → (error ≡ disk_error.Failed) × (turn.new ≡ giving turn.old (Fail ∷ [])) }
+    ensures failed { result ≡ begin.Turn fault.Disk
+        → (error ≡ disk_error.Failed) × (turn.new ≡ giving turn.old (Fail ∷ [])) }
     ensures boots { result ≢ begin.BootsSpent }
 {
     BeginFault::Turn(fails(turn, StoreFault::from(error)))
@@ -189,7 +191,8 @@ impl<S: Service, D: Disk> Server<S, D> {
             × StopsAt n (StandsOn place S.kind (S.contents service) (D.batches disk)) (λ v. row_boot v turn.old.at)
             turn.old turn.new)) }
         ensures spent { IfErr result (λ failed. failed.1 ≡ begin.BootsSpent → last_boot (D.batches disk) ≡ most_boots) }
-        ensures batches { IfErr result (λ failed. HasBatches (StandsOn place S.kind (S.contents service) (D.batches disk))
+        ensures batches { IfErr result (λ failed. HasBatches
+            (StandsOn place S.kind (S.contents service) (D.batches disk))
             (λ v. row_boot v turn.old.at) (D.batches disk) (D.batches failed.0)) }
     {
         let mut server = Server::boot_over(alloc, place, disk, batches, service, turn)?;

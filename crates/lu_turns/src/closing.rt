@@ -209,14 +209,17 @@ impl<S: Service, D: Disk> Server<S, D> {
 
     /// The kept replays are performed again and are the journal's: their numbers.
     fn stand_again(&mut self, at: At, kept: KeptReplays, gone: &Lives) -> Result<Txns, Memory>
-        requires may { (v : Target) × (joins : List SpecWho) × Decides (map kept_replay kept) gone.now joins self.old v }
+        requires may { (v : Target) × (joins : List SpecWho)
+            × Decides (map kept_replay kept) gone.now joins self.old v }
         ensures numbers { IfOk result (λ numbers. (v : Target) (joins : List SpecWho)
             → Decides (map kept_replay kept) gone.now joins self.old v → numbers ≡ numbers_of (outcome_of v at).kept) }
         ensures redone { OnOk result ((v : Target) (joins : List SpecWho)
-            → Decides (map kept_replay kept) gone.now joins self.old v → Redoes (outcome_of v at).kept self.new.store v) }
+            → Decides (map kept_replay kept) gone.now joins self.old v
+            → Redoes (outcome_of v at).kept self.new.store v) }
         ensures contents { OnOk result ((v : Target) (joins : List SpecWho)
             → Decides (map kept_replay kept) gone.now joins self.old v
-            → redo.Shows self.new.kind v.setting.osts (first_of v.boot) self.new.contents (outcome_of v at).disk.contents) }
+            → redo.Shows self.new.kind v.setting.osts (first_of v.boot) self.new.contents
+            (outcome_of v at).disk.contents) }
         ensures same { self.new ≡ record self.old { store = self.new.store; contents = self.new.contents } }
         ensures disk { KeepsDisk self.old.store self.new.store }
     {
@@ -235,7 +238,8 @@ impl<S: Service, D: Disk> Server<S, D> {
         joins: &Lives,
     ) -> Result<(), TurnFault>
         requires may { (v : Target) × Decides (map kept_replay kept) gone.now joins.now self.old v }
-        ensures kept { OnOk result (IsKept (Decides (map kept_replay kept) gone.now joins.now self.old) gone.now joins.now
+        ensures kept { OnOk result (IsKept (Decides (map kept_replay kept) gone.now joins.now self.old) gone.now
+            joins.now
             self.old self.new turn.old turn.new) }
         ensures numbers { result ≢ Err fault.NumbersSpent }
         ensures failed { result ≡ Err fault.Disk → DiskFailed self.old self.new
@@ -300,7 +304,8 @@ impl<S: Service, D: Disk> Server<S, D> {
     /// Does what the close of a window decided.
     fn carry_out(&mut self, turn: &mut Turn, outcome: Outcome) -> Result<(), TurnFault>
         requires settles { (v : Target) × Settles self.old outcome v }
-        ensures closed { OnOk result (IsClosed (Settles self.old outcome) (row_close turn.old.at) self.new turn.old turn.new) }
+        ensures closed { OnOk result (IsClosed (Settles self.old outcome)
+            (row_close turn.old.at) self.new turn.old turn.new) }
         ensures numbers { result ≢ Err fault.NumbersSpent }
         ensures failed { result ≡ Err fault.Disk → DiskFailed self.old self.new
             × StopsAt 0 (Settles self.old outcome) (row_close turn.old.at) turn.old turn.new }
@@ -324,7 +329,8 @@ impl<S: Service, D: Disk> Server<S, D> {
     /// they saw stands, and the others are lost; lives that aren't back, or met a gap, lose their slots; newer lives join.
     pub fn close(&mut self, turn: &mut Turn, recovery: Recovery) -> Result<(), TurnFault>
         requires gathers { GathersSome self.old recovery }
-        ensures closed { OnOk result (IsClosed (Gathers self.old recovery) (row_close turn.old.at) self.new turn.old turn.new) }
+        ensures closed { OnOk result (IsClosed (Gathers self.old recovery)
+            (row_close turn.old.at) self.new turn.old turn.new) }
         ensures numbers { result ≢ Err fault.NumbersSpent }
         ensures failed { result ≡ Err fault.Disk → DiskFailed self.old self.new
             × StopsAt 0 (Gathers self.old recovery) (row_close turn.old.at) turn.old turn.new }

@@ -25,7 +25,8 @@ use lu_trace::{Entry, Turn};
 
 /// A commit failed: where the disk did, the turn ends with that line.
 pub(crate) fn fails(turn: &mut Turn, cause: StoreFault) -> TurnFault
-    ensures numbers { result ≡ fault.NumbersSpent → (cause ≡ store_fault.NumbersSpent) ⊎ (cause ≡ store_fault.BootsSpent) }
+    ensures numbers { result ≡ fault.NumbersSpent → (cause ≡ store_fault.NumbersSpent)
+        ⊎ (cause ≡ store_fault.BootsSpent) }
     ensures failed { result ≡ fault.Disk → (cause ≡ store_fault.Disk) × (turn.new ≡ giving turn.old (Fail ∷ [])) }
 {
     match cause {
@@ -53,7 +54,8 @@ impl<S: Service, D: Disk> Server<S, D> {
     /// Commits the first `count` of the transactions that aren't on the disk, or all where there is no count.
     pub fn commit(&mut self, turn: &mut Turn, count: Option<u32>) -> Result<(), TurnFault>
         requires stands { Stands self.old }
-        ensures makes { OnOk result (Makes (λ v. row_commits v (first_deeds count v.log)) self.old self.new turn.old turn.new) }
+        ensures makes { OnOk result (Makes (λ v. row_commits v
+            (first_deeds count v.log)) self.old self.new turn.old turn.new) }
         ensures numbers { result ≢ Err fault.NumbersSpent }
         ensures failed { result ≡ Err fault.Disk → DiskFailed self.old self.new
             × Fails (λ v. row_commits v (first_deeds count v.log)) self.old turn.old turn.new }
@@ -77,7 +79,8 @@ impl<S: Service, D: Disk> Server<S, D> {
         requires may { MayMove gone.now come.now self.old.store }
         ensures moved { OnOk result (IsMoved gone.now come.now self.old self.new turn.old turn.new) }
         ensures numbers { result ≢ Err fault.NumbersSpent }
-        ensures failed { result ≡ Err fault.Disk → DiskFailed self.old self.new × (turn.new ≡ giving turn.old (Fail ∷ [])) }
+        ensures failed { result ≡ Err fault.Disk
+            → DiskFailed self.old self.new × (turn.new ≡ giving turn.old (Fail ∷ [])) }
         ensures batches { OnErr result (KeepsMoved gone.now come.now self.old.store self.new.store) }
     {
         let to = match self.store.move_lives(gone, come) {

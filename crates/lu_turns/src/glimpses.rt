@@ -76,7 +76,8 @@ impl<S: Service, D: Disk> Server<S, D> {
         ensures sent { OnOk result ((v : Target) → Tells self.old v
             → turn.new ≡ giving turn.old (row_sizes (answered v turn.old.at request.now (told.Size size)))) }
         ensures answered { OnOk result ((v : Target) → Tells self.old v
-            → IsAnswered request.now.tag (answered v turn.old.at request.now (told.Size size)).reply self.old self.new) }
+            → IsAnswered request.now.tag (answered v turn.old.at request.now
+            (told.Size size)).reply self.old self.new) }
         ensures numbers { result ≢ Err fault.NumbersSpent }
         ensures fault { result ≢ Err fault.Disk }
         ensures disk { KeepsDisk self.old.store self.new.store }
@@ -179,7 +180,8 @@ impl<S: Service, D: Disk> Server<S, D> {
         requires may { MayRefuse request.now self.old }
         requires sizes { AsksSize request.now.op }
         ensures sent { OnOk result ((v : Target) → Tells self.old v
-            → turn.new ≡ giving turn.old (replies (answered v (by_holder report.now) request.now (told.Size size)) ∷ [])) }
+            → turn.new ≡ giving turn.old (replies (answered v (by_holder report.now) request.now (told.Size size))
+            ∷ [])) }
         ensures answered { OnOk result ((v : Target) → Tells self.old v
             → IsAnswered request.now.tag (answered v (by_holder report.now) request.now (told.Size size)).reply
             self.old self.new) }

@@ -25,8 +25,10 @@ impl<S: Service, D: Disk> Server<S, D> {
     pub fn request(&mut self, turn: &mut Turn, request: &Request) -> Result<(), TurnFault>
         requires stands { Stands self.old }
         requires may { MayTake request.now self.old }
-        ensures makes { OnOk result (Makes (λ v. row_request v turn.old.at request.now) self.old self.new turn.old turn.new) }
-        ensures numbers { result ≡ Err fault.NumbersSpent → Overruns (λ v. row_request v turn.old.at request.now) self.old }
+        ensures makes { OnOk result (Makes (λ v. row_request v turn.old.at request.now)
+            self.old self.new turn.old turn.new) }
+        ensures numbers { result ≡ Err fault.NumbersSpent
+            → Overruns (λ v. row_request v turn.old.at request.now) self.old }
         ensures room { OnOk result (HasRoom (λ v. row_request v turn.old.at request.now) self.old) }
         ensures fault { result ≢ Err fault.Disk }
         ensures disk { KeepsDisk self.old.store self.new.store }
@@ -45,8 +47,10 @@ impl<S: Service, D: Disk> Server<S, D> {
         requires may { MayTake request.now self.old }
         requires new { (v : Target) → Shows self.old v
             → (slot_in v.slots request.now.who request.now.tag).taken < request.now.xid.0 }
-        ensures makes { OnOk result (Makes (λ v. row_enters v turn.old.at request.now) self.old self.new turn.old turn.new) }
-        ensures numbers { result ≡ Err fault.NumbersSpent → Overruns (λ v. row_enters v turn.old.at request.now) self.old }
+        ensures makes { OnOk result (Makes (λ v. row_enters v turn.old.at request.now)
+            self.old self.new turn.old turn.new) }
+        ensures numbers { result ≡ Err fault.NumbersSpent
+            → Overruns (λ v. row_enters v turn.old.at request.now) self.old }
         ensures fault { result ≢ Err fault.Disk }
         ensures disk { KeepsDisk self.old.store self.new.store }
     {

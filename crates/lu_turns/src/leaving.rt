@@ -53,7 +53,8 @@ impl<S: Service, D: Disk> Server<S, D> {
         ensures moved { IfOk result (λ steps. (v : Target) → Shows self.old v
             → AreMoved cause gone.now come.now steps v self.old self.new turn.old turn.new) }
         ensures numbers { result ≢ Err fault.NumbersSpent }
-        ensures failed { result ≡ Err fault.Disk → DiskFailed self.old self.new × (turn.new ≡ giving turn.old (Fail ∷ [])) }
+        ensures failed { result ≡ Err fault.Disk
+            → DiskFailed self.old self.new × (turn.new ≡ giving turn.old (Fail ∷ [])) }
         ensures batches { OnErr result ((v : Target) → Shows self.old v
             → KeepsFirst (batch_of v.log gone.now come.now ∷ []) self.old.store self.new.store) }
     {
@@ -68,7 +69,11 @@ impl<S: Service, D: Disk> Server<S, D> {
         ensures forgotten { ShowsForgotten self.old.kind gone.now self.old.contents self.new.contents }
         ensures requests { self.new.requests ≡ filter (λ r. not (is_life r.who gone.now)) self.old.requests }
         ensures left { IfOk result (λ left. IsLeft gone.now left self.old.locks self.new.locks) }
-        ensures same { self.new ≡ record self.old { contents = self.new.contents; requests = self.new.requests; locks = self.new.locks } }
+        ensures same { self.new ≡ record self.old {
+          contents = self.new.contents;
+          requests = self.new.requests;
+          locks = self.new.locks;
+        } }
     {
         forget_all(&mut self.service, gone);
         self.requests.forget(gone);
@@ -107,7 +112,8 @@ impl<S: Service, D: Disk> Server<S, D> {
         requires may { (v : Target) × (locks : List SpecLock) × MayDepart locks departure.now.released self.old v }
         ensures departed { OnOk result ((v : Target) (locks : List SpecLock)
             → MayDepart locks departure.now.released self.old v
-            → MakesPart (Evict departure.now.who cause ∷ evicted v departure.now.who ∷ all_released turn.old.at locks v) v
+            → MakesPart (Evict departure.now.who cause ∷ evicted v departure.now.who
+            ∷ all_released turn.old.at locks v) v
             self.old self.new turn.old turn.new) }
         ensures numbers { result ≢ Err fault.NumbersSpent }
         ensures fault { result ≢ Err fault.Disk }
@@ -209,7 +215,8 @@ impl<S: Service, D: Disk> Server<S, D> {
         requires place { (v : Target) → Shows self.old v → TakesPlace old.now who v.lives }
         ensures makes { OnOk result (Makes (row_admits turn.old.at old.now who) self.old self.new turn.old turn.new) }
         ensures numbers { result ≡ Err fault.NumbersSpent → Overruns (row_admits turn.old.at old.now who) self.old }
-        ensures failed { result ≡ Err fault.Disk → DiskFailed self.old self.new × (turn.new ≡ giving turn.old (Fail ∷ [])) }
+        ensures failed { result ≡ Err fault.Disk
+            → DiskFailed self.old self.new × (turn.new ≡ giving turn.old (Fail ∷ [])) }
         ensures batches { KeepsBatches (row_admits turn.old.at old.now who) self.old self.new }
     {
         let steps = self.move_lives(turn, Cause::Replaced, old, &[who])?;

@@ -133,7 +133,8 @@ impl<S: Service, D: Disk> Server<S, D> {
 
     /// Tells the holders of these locks that they are called back.
     pub(crate) fn say_blocks(&self, turn: &mut Turn, called: Locks) -> Result<(), Memory>
-        ensures told { OnOk result ((v : Target) → v.boot ≡ self.now.boot → turn.new ≡ giving turn.old (blocks_told v called)) }
+        ensures told { OnOk result ((v : Target) → v.boot ≡ self.now.boot
+            → turn.new ≡ giving turn.old (blocks_told v called)) }
     {
         for lock in called.as_slice() {
             turn.note(Entry::Block(lock.cookie))?;
@@ -147,7 +148,8 @@ impl<S: Service, D: Disk> Server<S, D> {
         requires names { self.old.kind ≡ kind.Mdt }
         requires stands { Stands self.old }
         requires waits { IsWaiting request self.old.requests }
-        ensures makes { OnOk result (Makes (λ v. row_executes v turn.old.at request (does_change v request)) self.old self.new turn.old turn.new) }
+        ensures makes { OnOk result (Makes (λ v. row_executes v turn.old.at request
+            (does_change v request)) self.old self.new turn.old turn.new) }
         ensures numbers { result ≡ Err fault.NumbersSpent
             → Overruns (λ v. row_executes v turn.old.at request (does_change v request)) self.old }
         ensures fault { result ≢ Err fault.Disk }
@@ -165,7 +167,8 @@ impl<S: Service, D: Disk> Server<S, D> {
         requires stands { Stands self.old }
         requires waits { IsWaiting request self.old.requests }
         requires still { (v : Target) → Shows self.old v → does_change v request ≡ false }
-        ensures makes { OnOk result (Makes (λ v. row_acts (names_deed v turn.old.at request none (locks_for v request))) self.old self.new turn.old turn.new) }
+        ensures makes { OnOk result (Makes (λ v. row_acts (names_deed v turn.old.at request none
+            (locks_for v request))) self.old self.new turn.old turn.new) }
         ensures numbers { result ≡ Err fault.NumbersSpent
             → Overruns (λ v. row_acts (names_deed v turn.old.at request none (locks_for v request))) self.old }
         ensures fault { result ≢ Err fault.Disk }
@@ -204,7 +207,8 @@ impl<S: Service, D: Disk> Server<S, D> {
         requires stands { Stands self.old }
         requires waits { IsWaiting request self.old.requests }
         requires changes { (v : Target) → Shows self.old v → does_change v request ≡ true }
-        ensures makes { OnOk result (Makes (λ v. row_transacts (names_deed v turn.old.at request (next_number v) [])) self.old self.new turn.old turn.new) }
+        ensures makes { OnOk result (Makes (λ v. row_transacts
+            (names_deed v turn.old.at request (next_number v) [])) self.old self.new turn.old turn.new) }
         ensures numbers { result ≡ Err fault.NumbersSpent
             → Overruns (λ v. row_transacts (names_deed v turn.old.at request (next_number v) [])) self.old }
         ensures fault { result ≢ Err fault.Disk }
@@ -238,7 +242,8 @@ impl<S: Service, D: Disk> Server<S, D> {
 
 /// Adds the line of an act, and the lines of the locks that come with it.
 fn note_act(turn: &mut Turn, alloc: Global, reply: &Reply) -> Result<(), Memory>
-    ensures noted { OnOk result ((d : Deed) → d.reply ≡ reply.now → turn.new ≡ giving turn.old (ActEntry d ∷ grant_lines d d.reply.locks)) }
+    ensures noted { OnOk result ((d : Deed) → d.reply ≡ reply.now
+        → turn.new ≡ giving turn.old (ActEntry d ∷ grant_lines d d.reply.locks)) }
 {
     turn.note(Entry::Act {
         who: reply.who,

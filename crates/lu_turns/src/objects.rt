@@ -102,7 +102,8 @@ impl<S: Service, D: Disk> Server<S, D> {
             (λ v. row_enqueue v turn.old.at request.now (lock_for v request.now resource mode extent))
             self.old self.new turn.old turn.new) }
         ensures numbers { result ≡ Err fault.NumbersSpent
-            → Overruns (λ v. row_enqueue v turn.old.at request.now (lock_for v request.now resource mode extent)) self.old }
+            → Overruns (λ v. row_enqueue v turn.old.at request.now
+            (lock_for v request.now resource mode extent)) self.old }
         ensures fault { result ≢ Err fault.Disk }
         ensures disk { KeepsDisk self.old.store self.new.store }
     {
@@ -283,7 +284,8 @@ impl<S: Service, D: Disk> Server<S, D> {
         requires unasked { IsUnasked request.now self.old }
         ensures makes { OnOk result (Makes (λ v. row_written (written v turn.old.at request.now))
             self.old self.new turn.old turn.new) }
-        ensures numbers { result ≡ Err fault.NumbersSpent → Overruns (λ v. row_written (written v turn.old.at request.now)) self.old }
+        ensures numbers { result ≡ Err fault.NumbersSpent
+            → Overruns (λ v. row_written (written v turn.old.at request.now)) self.old }
         ensures fault { result ≢ Err fault.Disk }
         ensures disk { KeepsDisk self.old.store self.new.store }
     {

@@ -31,7 +31,8 @@ impl<S: Service, D: Disk> Server<S, D> {
     ) -> Result<Option<Recovery>, TurnFault>
         requires awaits { Awaits self.old recovery }
         requires may { MayReplay request.now self.old recovery.window }
-        ensures passes { IfOk result (λ left. Passes (Recovers self.old recovery) (λ v. row_replay v turn.old.at request.now)
+        ensures passes { IfOk result (λ left. Passes (Recovers self.old recovery)
+            (λ v. row_replay v turn.old.at request.now)
             self.new left turn.old turn.new) }
         ensures numbers { result ≢ Err fault.NumbersSpent }
         ensures failed { result ≡ Err fault.Disk → DiskFailed self.old self.new
@@ -92,7 +93,8 @@ impl<S: Service, D: Disk> Server<S, D> {
         ensures numbers { result ≢ Err fault.NumbersSpent }
         ensures failed { result ≡ Err fault.Disk → DiskFailed self.old self.new
             × StopsAt 0 (Recovers self.old recovery)
-            (λ v. row_word v turn.old.at (record { who = who; replays = replays; locks = locks; seen = seen })) turn.old turn.new }
+            (λ v. row_word v turn.old.at (record { who = who; replays = replays; locks = locks; seen = seen }))
+            turn.old turn.new }
         ensures batches { HasBatches (Recovers self.old recovery)
             (λ v. row_word v turn.old.at (record { who = who; replays = replays; locks = locks; seen = seen }))
             self.old.store.batches self.new.store.batches }
@@ -139,7 +141,8 @@ impl<S: Service, D: Disk> Server<S, D> {
         who: Who,
     ) -> Result<Option<Recovery>, TurnFault>
         requires gathers { GathersSome self.old recovery }
-        ensures passes { IfOk result (λ left. Passes (Gathers self.old recovery) (λ v. backs back who ++ settles turn.old.at v)
+        ensures passes { IfOk result (λ left. Passes (Gathers self.old recovery)
+            (λ v. backs back who ++ settles turn.old.at v)
             self.new left turn.old turn.new) }
         ensures numbers { result ≢ Err fault.NumbersSpent }
         ensures failed { result ≡ Err fault.Disk → DiskFailed self.old self.new

@@ -70,7 +70,8 @@ impl Recovery {
         requires life { is_life who self.old.window.lives ≡ true }
         requires unclosed { self.old.closed ≡ false }
         requires only { IsOnlyReplay (replayed who replay) self.old.window.replays }
-        ensures taken { OnOk result (self.new ≡ at_window (took_replay (replayed who replay) self.old.window) self.old) }
+        ensures taken { OnOk result (self.new
+            ≡ at_window (took_replay (replayed who replay) self.old.window) self.old) }
         ensures back { IfOk result (λ back. back ≡ (is_back self.new.window who && not (is_back self.old.window who))) }
         ensures kept { OnErr result (self.new ≡ self.old) }
     {

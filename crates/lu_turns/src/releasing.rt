@@ -33,8 +33,10 @@ impl<S: Service, D: Disk> Server<S, D> {
     /// waited goes on. Nothing is done where no lock of this cookie is granted to it.
     pub fn cancel(&mut self, turn: &mut Turn, who: Who, cookie: Cookie) -> Result<(), TurnFault>
         requires stands { Stands self.old }
-        ensures makes { OnOk result (Makes (λ v. row_cancel v turn.old.at who cookie) self.old self.new turn.old turn.new) }
-        ensures numbers { result ≡ Err fault.NumbersSpent → Overruns (λ v. row_cancel v turn.old.at who cookie) self.old }
+        ensures makes { OnOk result (Makes (λ v. row_cancel v turn.old.at who cookie)
+            self.old self.new turn.old turn.new) }
+        ensures numbers { result ≡ Err fault.NumbersSpent
+            → Overruns (λ v. row_cancel v turn.old.at who cookie) self.old }
         ensures room { OnOk result (HasRoom (λ v. row_cancel v turn.old.at who cookie) self.old) }
         ensures fault { result ≢ Err fault.Disk }
         ensures disk { KeepsDisk self.old.store self.new.store }

@@ -53,7 +53,8 @@ impl<S: Service, D: Disk> Server<S, D> {
     /// The number of the next transaction. `NumbersSpent` exactly where this boot's count stands at 2^32 - 1.
     pub(crate) fn next(&self) -> Result<Txn, TurnFault>
         ensures number { IfOk result (λ number. (v : Target) → Serves self.now.store v → number ≡ next_number v) }
-        ensures value { IfOk result (λ number. number.0 ≡ self.now.store.journal.boot * 2 ^ 32 + count self.now.store.journal + 1) }
+        ensures value { IfOk result (λ number. number.0
+            ≡ self.now.store.journal.boot * 2 ^ 32 + count self.now.store.journal + 1) }
         ensures above { IfOk result (λ number. self.now.store.journal.newest < number.0) }
         ensures boot { IfOk result (λ number. number.0 < (self.now.store.journal.boot + 1) * 2 ^ 32) }
         ensures room { IfOk result (λ number. count self.now.store.journal < most_numbers) }
@@ -127,7 +128,8 @@ impl<S: Service, D: Disk> Server<S, D> {
 
     /// Sends a kept reply again, with the present boot and committed number.
     pub(crate) fn answer_again(&self, turn: &mut Turn, kept: &Reply) -> Result<(), Memory>
-        ensures sent { OnOk result ((v : Target) → Tells self.now v → turn.new ≡ giving turn.old (row_kept v (Some kept.now))) }
+        ensures sent { OnOk result ((v : Target) → Tells self.now v
+            → turn.new ≡ giving turn.old (row_kept v (Some kept.now))) }
     {
         let mut again = kept.copy(self.alloc)?;
         again.boot = self.boot;
@@ -189,7 +191,12 @@ impl<S: Service, D: Disk> Server<S, D> {
         requires tag { request.tag < tag_count }
         requires above { self.old.store.journal.newest < reply.txn.0 }
         requires boot { reply.txn.0 < (self.old.store.journal.boot + 1) * 2 ^ 32 }
-        ensures sent { OnOk result (let d : Deed = record { tag = request.tag; op = request.op; writes = written; reply = reply } in
+        ensures sent { OnOk result (let d : Deed = record {
+          tag = request.tag;
+          op = request.op;
+          writes = written;
+          reply = reply;
+        } in
             turn.new ≡ giving turn.old (TxnEntry d ∷ replies d ∷ [])) }
         ensures appended { OnOk result (IsAppended
             (record { tag = request.tag; op = request.op; writes = written; reply = reply }) self.old self.new) }

@@ -30,7 +30,8 @@ impl<S: Service, D: Disk> Server<S, D> {
     /// is is sent again. While the target recovers it is its line alone.
     pub fn tick(&mut self, turn: &mut Turn) -> Result<(), TurnFault>
         requires stands { Stands self.old }
-        ensures makes { OnOk result (Makes (λ v. follow v (Tick ∷ []) (ticked turn.old.at)) self.old self.new turn.old turn.new) }
+        ensures makes { OnOk result (Makes (λ v. follow v (Tick ∷ [])
+            (ticked turn.old.at)) self.old self.new turn.old turn.new) }
         ensures numbers { result ≡ Err fault.NumbersSpent
             → HasNoTick self.old ⊎ Overruns (λ v. follow v (Tick ∷ []) (ticked turn.old.at)) self.old }
         ensures room { OnOk result (HasRoom (λ v. follow v (Tick ∷ []) (ticked turn.old.at)) self.old) }
@@ -80,7 +81,8 @@ impl<S: Service, D: Disk> Server<S, D> {
         ensures makes { OnOk result (Makes (expels turn.old.at gone.now) self.old self.new turn.old turn.new) }
         ensures some { result ≡ Err fault.Disk → gone.now ≢ [] }
         ensures numbers { result ≡ Err fault.NumbersSpent → Overruns (expels turn.old.at gone.now) self.old }
-        ensures failed { result ≡ Err fault.Disk → DiskFailed self.old self.new × (turn.new ≡ giving turn.old (Fail ∷ [])) }
+        ensures failed { result ≡ Err fault.Disk
+            → DiskFailed self.old self.new × (turn.new ≡ giving turn.old (Fail ∷ [])) }
         ensures batches { KeepsBatches (expels turn.old.at gone.now) self.old self.new }
     {
         if gone.is_empty() {

@@ -136,7 +136,8 @@ impl Model for Journal {
           added = j.added.items;
           dropped = drop j.settled j.removed.items;
           removed = j.removed.items;
-        }) × (j.settled ≤ length j.removed.items) × (length j.removed.items + length j.slots ≤ vec_capacity j.removed) };
+        }) × (j.settled ≤ length j.removed.items)
+        × (length j.removed.items + length j.slots ≤ vec_capacity j.removed) };
 }
 
 impl Journal {

@@ -19,7 +19,8 @@ impl<S: Service, D: Disk> Running<S, D> {
         ensures turns { OnOk result (Turns (λ v. row_tick v turn.old.at) self.old self.new turn.old turn.new) }
         ensures numbers { result ≡ Err fault.NumbersSpent
             → HasNoTickIn self.old ⊎ OverrunsIn (λ v. row_tick v turn.old.at) self.old }
-        ensures failed { result ≡ Err fault.Disk → StopsIn (λ v. row_tick v turn.old.at) self.old self.new turn.old turn.new }
+        ensures failed { result ≡ Err fault.Disk
+            → StopsIn (λ v. row_tick v turn.old.at) self.old self.new turn.old turn.new }
         ensures batches { KeepsIn (λ v. row_tick v turn.old.at) self.old self.new }
     {
         if self.recovery.is_some() {
@@ -34,7 +35,8 @@ impl<S: Service, D: Disk> Running<S, D> {
         requires up { IsUp self.old }
         ensures turns { OnOk result (Turns (λ v. row_commit v count) self.old self.new turn.old turn.new) }
         ensures numbers { result ≢ Err fault.NumbersSpent }
-        ensures failed { result ≡ Err fault.Disk → StopsIn (λ v. row_commit v count) self.old self.new turn.old turn.new }
+        ensures failed { result ≡ Err fault.Disk
+            → StopsIn (λ v. row_commit v count) self.old self.new turn.old turn.new }
         ensures batches { KeepsIn (λ v. row_commit v count) self.old self.new }
     {
         if self.recovery.is_some() {
@@ -48,7 +50,8 @@ impl<S: Service, D: Disk> Running<S, D> {
         requires up { IsUp self.old }
         ensures turns { OnOk result (Turns (λ v. row_closes v turn.old.at) self.old self.new turn.old turn.new) }
         ensures numbers { result ≢ Err fault.NumbersSpent }
-        ensures failed { result ≡ Err fault.Disk → StopsIn (λ v. row_closes v turn.old.at) self.old self.new turn.old turn.new }
+        ensures failed { result ≡ Err fault.Disk
+            → StopsIn (λ v. row_closes v turn.old.at) self.old self.new turn.old turn.new }
         ensures batches { KeepsIn (λ v. row_closes v turn.old.at) self.old self.new }
     {
         match self.recovery.take() {

@@ -39,8 +39,10 @@ impl<S: Service, D: Disk> Running<S, D> {
     fn heed(&mut self, turn: &mut Turn, message: &Message) -> Result<(), TurnFault>
         requires up { IsUp self.old }
         requires may { MayHeed message.now self.old }
-        ensures turns { OnOk result (Turns (λ v. row_heeds v turn.old.at message.now) self.old self.new turn.old turn.new) }
-        ensures numbers { result ≡ Err fault.NumbersSpent → OverrunsIn (λ v. row_heeds v turn.old.at message.now) self.old }
+        ensures turns { OnOk result (Turns (λ v. row_heeds v turn.old.at message.now)
+            self.old self.new turn.old turn.new) }
+        ensures numbers { result ≡ Err fault.NumbersSpent
+            → OverrunsIn (λ v. row_heeds v turn.old.at message.now) self.old }
         ensures failed { result ≡ Err fault.Disk
             → StopsIn (λ v. row_heeds v turn.old.at message.now) self.old self.new turn.old turn.new }
         ensures batches { KeepsIn (λ v. row_heeds v turn.old.at message.now) self.old self.new }
@@ -251,7 +253,8 @@ impl<S: Service, D: Disk> Running<S, D> {
         ensures numbers { result ≢ Err fault.NumbersSpent }
         ensures failed { result ≡ Err fault.Disk
             → StopsIn (λ v. of_boot v boot (row_word v turn.old.at
-            (record { who = who; replays = replays; locks = locks; seen = seen.now }))) self.old self.new turn.old turn.new }
+            (record { who = who; replays = replays; locks = locks; seen = seen.now })))
+            self.old self.new turn.old turn.new }
         ensures batches { KeepsIn (λ v. of_boot v boot (row_word v turn.old.at
             (record { who = who; replays = replays; locks = locks; seen = seen.now }))) self.old self.new }
     {

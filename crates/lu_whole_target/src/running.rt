@@ -52,7 +52,8 @@ impl<S: Service, D: Disk> Running<S, D> {
     ) -> Result<Running<S, D>, (D, BeginFault)>
     where
         S: Drop,
-        requires stands { D.batches disk ≢ [] → (v : SpecTarget) × StandsOn place S.kind (S.contents service) (D.batches disk) v }
+        requires stands { D.batches disk ≢ []
+            → (v : SpecTarget) × StandsOn place S.kind (S.contents service) (D.batches disk) v }
         requires repeatable { AllRepeatable S.kind (D.batches disk) }
         ensures started { IfOk result (λ running. D.batches disk ≡ [] → (setting : Setting) (clients : ℕ)
             → IsStart place S.kind (S.contents service) setting → first.now ≡ lives_from 0 clients
@@ -62,17 +63,20 @@ impl<S: Service, D: Disk> Running<S, D> {
         ensures quiet { IfOk result (λ _. D.batches disk ≡ [] → turn.new ≡ giving turn.old (row_start false)) }
         ensures booted { IfOk result (λ running. D.batches disk ≢ [] → (v : SpecTarget)
             → StandsOn place S.kind (S.contents service) (D.batches disk) v
-            → (turn.new ≡ giving turn.old (row_boot v turn.old.at)) × IsIn running (turned v (row_boot v turn.old.at))) }
+            → (turn.new ≡ giving turn.old (row_boot v turn.old.at))
+            × IsIn running (turned v (row_boot v turn.old.at))) }
         ensures stored { IfOk result (λ running. D.batches disk ≢ []
             → HasBatches (StandsOn place S.kind (S.contents service) (D.batches disk)) (λ v. row_boot v turn.old.at)
             (D.batches disk) running.server.store.batches) }
         ensures room { IfOk result (λ _. D.batches disk ≢ [] → last_boot (D.batches disk) < most_boots) }
-        ensures failed { IfErr result (λ failed. failed.1 ≡ begin.Turn fault.Disk → Rose (D.faults disk) (D.faults failed.0)
+        ensures failed { IfErr result (λ failed. failed.1 ≡ begin.Turn fault.Disk
+            → Rose (D.faults disk) (D.faults failed.0)
             × HasStopped place S.kind (S.contents service) (D.batches disk) turn.old turn.new) }
         ensures spent { IfErr result (λ failed. failed.1 ≡ begin.BootsSpent → last_boot (D.batches disk) ≡ most_boots) }
         ensures numbers { IfErr result (λ failed. failed.1 ≢ begin.Turn fault.NumbersSpent) }
         ensures kept { IfErr result (λ failed. D.batches disk ≡ [] → D.batches failed.0 ≡ []) }
-        ensures batches { IfErr result (λ failed. HasBatches (StandsOn place S.kind (S.contents service) (D.batches disk))
+        ensures batches { IfErr result (λ failed. HasBatches
+            (StandsOn place S.kind (S.contents service) (D.batches disk))
             (λ v. row_boot v turn.old.at) (D.batches disk) (D.batches failed.0)) }
     {
         let mut disk = disk;

@@ -85,7 +85,8 @@ impl<S: Service, D: Disk> Target<S, D> {
         ensures failed { IfErr result (λ failed. (step : SpecStep) → failed.1 ≡ boot_fault.Disk step
             → Rose (D.faults disk) (D.faults failed.0)
             × StopsBoot (place_of id expire) S.kind (S.contents service) (D.batches disk) (turn_of id.0 stamp) step) }
-        ensures spent { IfErr result (λ failed. failed.1 ≡ boot_fault.BootsSpent → last_boot (D.batches disk) ≡ most_boots) }
+        ensures spent { IfErr result (λ failed. failed.1 ≡ boot_fault.BootsSpent
+            → last_boot (D.batches disk) ≡ most_boots) }
         ensures kept { IfErr result (λ failed. D.batches disk ≡ [] → D.batches failed.0 ≡ []) }
         ensures batches { IfErr result (λ failed.
             HasBatches (StandsOn (place_of id expire) S.kind (S.contents service) (D.batches disk))

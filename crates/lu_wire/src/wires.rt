@@ -123,7 +123,8 @@ impl Wire {
     pub fn add_taken(&mut self, at: At, step: Step, number: u64) -> Result<(), Memory>
         requires turns_room { self.old.turns < 65536 }
         requires messages_room { self.old.messages < 131072 }
-        ensures shows { OnOk result ((c : Config) (from : NodeOf) (m : MessageOf) (es : List EntryOf) → ShowsWire self.old c
+        ensures shows { OnOk result ((c : Config) (from : NodeOf) (m : MessageOf) (es : List EntryOf)
+            → ShowsWire self.old c
             → step ≡ step_of at (Take 0 from m ∷ es)
             → ShowsWire self.new (with_turn c (record { at = at; entries = Take number from m ∷ es }))) }
     {
@@ -137,7 +138,8 @@ impl Wire {
     /// Writes lines with the numbers of what they send.
     fn write(&mut self, lines: Vec<Line>) -> Result<(), Memory>
         requires room { self.old.messages < 131072 }
-        ensures lines { OnOk result (self.new.entries ≡ self.old.entries ++ numbered_sends self.old.messages lines.items) }
+        ensures lines { OnOk result (self.new.entries ≡ self.old.entries
+            ++ numbered_sends self.old.messages lines.items) }
         ensures messages { OnOk result (self.new.messages ≡ last_after_all self.old.messages lines.items) }
         ensures links { self.new.links ≡ self.old.links }
         ensures turns { self.new.turns ≡ self.old.turns }
