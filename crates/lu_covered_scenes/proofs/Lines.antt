@@ -10,7 +10,7 @@ use Rattle.lu_msg.specs.declared.operations.Op.TheVariants as op
 use Rattle.lu_scene.specs.Grammar.{LineFits}
 use Rattle.lu_scene.specs.declared.scene.Scene.{Scene}
 use Rattle.lu_scene.specs.declared.scene.SceneLine.{SceneLine}
-use Rattle.lu_scene.specs.declared.scene.SceneLine.TheVariants.{Call, Run, RunSome, Deliver, Lose, Tick, Die}
+use Rattle.lu_scene.specs.declared.scene.SceneLine.TheVariants.{Call, Run, RunSome, Deliver, Lose, Tick, Commit, CommitSome, Crash, Boot, Close, Die}
 use Rattle.lu_trace.specs.WellFormed.{IsCall}
 use Rattle.lu_covered.specs.Calls.{operation_of}
 use Rattle.lu_covered.specs.Makes.{Path, CallMakes, CallMakesFile, Misses, StatsNoFile}
@@ -22,7 +22,7 @@ use Rattle.lu_table.specs.Scenarios.{head_of, with_stripes}
 use Rattle.lu_words.specs.Words.{Line}
 use Rattle.lu_after.proofs.Runs.{begins_meets}
 use Rattle.lu_covered_scenes.specs.Covered as scenes
-use Rattle.lu_covered_scenes.specs.Covered.{IsMade, IsFile, IsOnNames, IsLineCovered, IsCoveredIn, LineMisses, IsCovered}
+use Rattle.lu_covered_scenes.specs.Covered.{IsMade, IsFile, IsOnNames, IsLineCovered, IsCoveredIn, IsNoCommand, LineMisses, IsCovered}
 
 -- ---- calls
 
@@ -67,6 +67,11 @@ Calls [] call = ⊥
 Calls (Call client slot begun ∷ lines) call = (with_stripes begun ≡ call) ⊎ Calls lines call
 Calls (line ∷ lines) call = Calls lines call
 
+-- a command to a target: so the lines aren't without one
+pub record IsCommandTo (lines : List SceneLine) (osts target : ℕ) : Type 0 where
+  pub one : target ≤ osts
+  pub some : All IsNoCommand lines → ⊥
+
 -- what is known of a line of a scenario of these lines, with so many clients and object storage targets
 abbrev pub IsKnown : List SceneLine → (clients osts : ℕ) → SceneLine → Type 0
 IsKnown lines clients osts (Call client slot call) =
@@ -77,6 +82,9 @@ IsKnown lines clients osts (Deliver number) = Unit {0}
 IsKnown lines clients osts (Lose number) = Unit {0}
 IsKnown lines clients osts (Tick (Client client)) = client < clients
 IsKnown lines clients osts (Tick (Target target)) = target ≤ osts
+IsKnown lines clients osts (Commit target) = IsCommandTo lines osts target.0
+IsKnown lines clients osts (CommitSome target count) = IsCommandTo lines osts target.0
+IsKnown lines clients osts (Close target) = IsCommandTo lines osts target.0
 IsKnown lines clients osts (Die client) = client < clients
 IsKnown lines clients osts _ = ⊥
 
@@ -85,17 +93,20 @@ AllKnown scene [] = Unit {0}
 AllKnown scene (line ∷ lines) = IsKnown scene.lines scene.head.clients scene.head.osts line × AllKnown scene lines
 
 module _ (scene : Scene) where
-  one_known : (line : SceneLine) → LineFits scene.head line → IsCoveredIn scene.lines line → ((call : CallOf) → Calls (line ∷ []) call → Calls scene.lines call) → IsKnown scene.lines scene.head.clients scene.head.osts line
-  one_known (Call client slot call) fits is among =
+  one_known : (line : SceneLine) → LineFits scene.head line → IsCoveredIn scene.lines line → (All IsNoCommand scene.lines → IsNoCommand line) → ((call : CallOf) → Calls (line ∷ []) call → Calls scene.lines call) → IsKnown scene.lines scene.head.clients scene.head.osts line
+  one_known (Call client slot call) fits is quiet among =
       record { one = fits.0; small = omega (arith, fits.1); limits = (begins_meets (head_of scene.head) [] client slot call fits.0 refl (omega (arith, fits.1)) fits.2).2; asks = asks call is.0; among = among (with_stripes call) (inl refl) }
-  one_known Run fits is among = tt
-  one_known (RunSome turns) fits is among = tt
-  one_known (Deliver number) fits is among = tt
-  one_known (Lose number) fits is among = tt
-  one_known (Tick (Client client)) fits is among = fits
-  one_known (Tick (Target target)) fits is among = fits
-  one_known (Die client) fits is among = fits
-  one_known _ fits is among = absurd is
+  one_known Run fits is quiet among = tt
+  one_known (RunSome turns) fits is quiet among = tt
+  one_known (Deliver number) fits is quiet among = tt
+  one_known (Lose number) fits is quiet among = tt
+  one_known (Tick (Client client)) fits is quiet among = fits
+  one_known (Tick (Target target)) fits is quiet among = fits
+  one_known (Commit target) fits is quiet among = record { one = fits; some = quiet }
+  one_known (CommitSome target count) fits is quiet among = record { one = fits.0; some = quiet }
+  one_known (Close target) fits is quiet among = record { one = fits; some = quiet }
+  one_known (Die client) fits is quiet among = fits
+  one_known _ fits is quiet among = absurd is
 
   first : (line : SceneLine) (lines : List SceneLine) (call : CallOf) → Calls (line ∷ []) call → Calls (line ∷ lines) call
   first (Call client slot begun) lines call (inl e) = inl e
@@ -106,15 +117,17 @@ module _ (scene : Scene) where
   later (Call client slot begun) lines call i = inr i
   later _ lines call i = i
 
-  all_known : (lines : List SceneLine) → All (LineFits scene.head) lines → All (IsCoveredIn scene.lines) lines → ((call : CallOf) → Calls lines call → Calls scene.lines call) → AllKnown scene lines
-  all_known [] fit are among = tt
-  all_known (line ∷ lines) fit are among = (
-    one_known line (All-head (LineFits scene.head) line lines fit) (All-head (IsCoveredIn scene.lines) line lines are) (λ call i. among call (first line lines call i)),
-    all_known lines (All-tail (LineFits scene.head) line lines fit) (All-tail (IsCoveredIn scene.lines) line lines are) (λ call i. among call (later line lines call i)),
+  all_known : (lines : List SceneLine) → All (LineFits scene.head) lines → All (IsCoveredIn scene.lines) lines → (All IsNoCommand scene.lines → All IsNoCommand lines) → ((call : CallOf) → Calls lines call → Calls scene.lines call) → AllKnown scene lines
+  all_known [] fit are quiet among = tt
+  all_known (line ∷ lines) fit are quiet among = (
+    one_known line (All-head (LineFits scene.head) line lines fit) (All-head (IsCoveredIn scene.lines) line lines are)
+        (λ all. All-head IsNoCommand line lines (quiet all)) (λ call i. among call (first line lines call i)),
+    all_known lines (All-tail (LineFits scene.head) line lines fit) (All-tail (IsCoveredIn scene.lines) line lines are)
+        (λ all. All-tail IsNoCommand line lines (quiet all)) (λ call i. among call (later line lines call i)),
   )
 
   pub lines_known : IsCovered scene → AllKnown scene scene.lines
-  lines_known is = all_known scene.lines is.limits.lines is.lines (λ call i. i)
+  lines_known is = all_known scene.lines is.limits.lines is.lines (λ all. all) (λ call i. i)
 
 -- ---- the calls of lines
 

@@ -30,9 +30,9 @@ use Rattle.lu_machine.proofs.Paths.{Steps, walk_steps}
 use Rattle.lu_part.specs.declared.bits.TheConstants.{UPDATE, LAYOUT}
 use Rattle.lu_part.specs.declared.parts.Want.{Want}
 use Rattle.lu_words.specs.Carried.{Deed, Slot, Glimpse}
-use Rattle.lu_words.specs.Words.{Entry, Tick, Act, Grant, Block, Release, Enters}
+use Rattle.lu_words.specs.Words.{Entry, Tick, Skip, Act, Grant, Block, Release, Commit, Enters}
 use Rattle.lu_target_rows.specs.Glimpses.{glimpses_of, glimpses_end}
-use Rattle.lu_target_rows.specs.Lives.{slot_in}
+use Rattle.lu_target_rows.specs.Lives.{is_life, slot_in}
 use Rattle.lu_target_rows.specs.Locks.{is_request_of}
 use Rattle.lu_target_rows.specs.Names.{asked, does_change, is_read, is_ready, locks_from, locks_for, written_by, in_way, names_deed, grant_lines, row_executes, row_waits, row_pass, row_sweep, names_go}
 use Rattle.lu_target_rows.specs.Objects.{lock_of, objects_go}
@@ -47,7 +47,7 @@ use Rattle.lu_lawful.proofs.Lists.{self}
 use Rattle.lu_lawful.proofs.OnNames.{IsOnNames}
 use Rattle.lu_lawful.proofs.Readings.{changing_free}
 use Rattle.lu_covered_scenes.proofs.Every.{Every, every_more, every_filter}
-use Rattle.lu_covered_scenes.proofs.Targets.{Serves, MessageServed, heeded, heeded_is}
+use Rattle.lu_covered_scenes.proofs.Targets.{Serves, MessageServed, heeded, heeded_is, IsCommanded, passed, committed}
 
 -- ---- how many locks an operation is granted
 
@@ -344,6 +344,16 @@ module _ (clients n : ℕ) (v : Target) (s : Serves clients v) (names : v.settin
 
 pub tick_below : (n : ℕ) (v : Target) → Below n v → Below (suc n) (after v Tick)
 tick_below n v h = more_below n (after v Tick) (record { queue = h.queue; number = h.number; cookie = h.cookie })
+
+-- a command takes none
+commanded_queue : (queue : List RequestOf) → filter (λ (r : RequestOf). not (is_life r.who [])) queue ≡ queue
+commanded_queue [] = refl
+commanded_queue (r ∷ queue) = ap (λ (q : List RequestOf). r ∷ q) (commanded_queue queue)
+
+pub commanded_below : (n : ℕ) (v : Target) (es : List Entry) → IsCommanded es → Below n v → Below (suc n) (turn v es)
+commanded_below n v _ passed h = more_below n (turn v (Skip ∷ [])) (record { queue = h.queue; number = h.number; cookie = h.cookie })
+commanded_below n v _ (committed to batch removed added) h =
+    more_below n (after v (Commit to batch)) (same_below n v (after v (Commit to batch)) (record { number = refl; cookie = refl; queue = rw removed (commanded_queue v.queue) }) h)
 
 -- ---- numbers are left
 

@@ -1,6 +1,6 @@
 -- Whatever a covered scenario comes to, where no disk has failed, is a covered run of the whole table.
 use Rattle.std.proofs.Common.{◌≡◌, ℕ, zero, suc, ◌+◌, ◌<◌, ◌≤◌, Bool, true, false, List, [], ◌∷◌, Option, Some, None, ◌⊎◌, inl, inr, refl, sym, subst, ap, arith}
-use Rattle.std.specs.Prelude.{if◌then◌else◌, length}
+use Rattle.std.specs.Prelude.{if◌then◌else◌, length, All}
 use Rattle.std.proofs.lemmas.Bool.Decides.{nat_tests}
 use Rattle.lu_base.specs.declared.ids.Node.{Node}
 use Rattle.lu_base.specs.declared.ids.Node.TheVariants.{Client, Target}
@@ -17,7 +17,7 @@ use Rattle.lu_client_rows.specs.Rows as client
 use Rattle.lu_client_rows.specs.States.{first_imports}
 use Rattle.lu_target_rows.specs.Rows as target
 use Rattle.lu_table.specs.Heads.{Head}
-use Rattle.lu_table.specs.Runs.{EventAt, lines_of, has_failed, IsRun, Meets, client_of, limits_of}
+use Rattle.lu_table.specs.Runs.{EventAt, lines_of, has_failed, IsRun, Meets, client_of, target_of, limits_of}
 use Rattle.lu_table.specs.Scenarios.{Config, Next, Stops, Fails, Goes, head_of, past_of, is_full, with_turn, left, Disks, start_fails, start_turn, is_down, turn_of, due, arrives, due_alive, comes, runs, next_by, with_stripes, Leads, here, more, start}
 use Rattle.lu_covered.specs.Covered.{AllCovered}
 use Rattle.lu_after.specs.InTable.{next_at}
@@ -26,13 +26,15 @@ use Rattle.lu_after.proofs.Posts.{sent_at_is}
 use Rattle.lu_after.proofs.Runs.{first_in, left_in, spent_in, client_meets}
 use Rattle.lu_lawful.proofs.GuardTurns.{covered_head}
 use Rattle.lu_lawful.proofs.Sides.{from_client}
-use Rattle.lu_covered_scenes.specs.Covered.{IsCovered, AllMiss, ticks_of}
+use Rattle.lu_covered_scenes.specs.Covered.{IsCovered, IsNoCommand, GivesNoCommand, AllMiss, ticks_of}
 use Rattle.lu_covered_scenes.proofs.Every.{Every}
 use Rattle.lu_covered_scenes.proofs.Arrivals.{client_calm, to_client}
 use Rattle.lu_covered_scenes.proofs.Clients.{ImportCalm, Calm}
 use Rattle.lu_covered_scenes.proofs.ClientRows.{EventCalm}
-use Rattle.lu_covered_scenes.proofs.Lines.{Calls, AllKnown, lines_known}
-use Rattle.lu_covered_scenes.proofs.Turns.{Sound, Timely, Makes, made, covered_unfailed, past_grown, client_makes, client_timely, comes_makes, comes_timely, names_due, others_due, tick_makes, names_timely, other_timely}
+use Rattle.lu_covered_scenes.proofs.Lines.{Calls, IsCommandTo, AllKnown, lines_known}
+use Rattle.lu_after.proofs.Runs as after_runs
+use Rattle.lu_covered_scenes.proofs.Targets.{IsCommanded, commit_is, close_is}
+use Rattle.lu_covered_scenes.proofs.Turns.{Sound, Timely, Makes, made, Spared, covered_unfailed, past_grown, target_serves, client_makes, client_timely, comes_makes, comes_timely, names_due, others_due, tick_makes, names_timely, other_timely, command_makes, command_timely}
 
 -- a configuration to which a covered scenario leads
 pub record Follows (scene : Scene) (c : Config) : Type 0 where
@@ -81,27 +83,31 @@ module _ (scene : Scene) (covered : IsCovered scene) (disks : Disks) where
   -- ---- one step: whatever comes next, if the run goes on
 
   abbrev Kept : Next → Type 0
-  Kept next = (d : Config) → next ≡ Goes d → Follows scene d
+  Kept next = (d : Config) → next ≡ Goes d → Spared scene covered (past_of d) → Follows scene d
 
   moved : (c : Config) → Follows scene c → Kept (Goes c)
-  moved c f d e = subst (λ (v : Config). Follows scene v) (goes c d e) f
+  moved c f d e spared = subst (λ (v : Config). Follows scene v) (goes c d e) f
 
   left_moved : (c : Config) (lines : List SceneLine) → Sound scene c → Left c lines → Kept (Goes (left c lines))
   left_moved c lines s l = moved (left c lines) (record { sound = sound_left c lines s; lines = l.known; time = l.time })
 
   -- a turn that its node makes
   turn_follows : (c : Config) (node : Node) (event : EventAt node) → AllKnown scene c.lines → Makes scene covered c node event → Timely scene (ticks_of c.lines) (past_of (made scene covered c node event))
-      → Follows scene (with_turn c (turn_of head disks c node event))
-  turn_follows c node event known m time =
-      subst (λ (es : List Entry). Follows scene (with_turn c (record { at = next_at c node; entries = es }))) (sym (m.same disks)) (record { sound = m.sound; lines = known; time = time })
+      → Spared scene covered (past_of (with_turn c (turn_of head disks c node event))) → Follows scene (with_turn c (turn_of head disks c node event))
+  turn_follows c node event known m time spared =
+      subst (λ (es : List Entry). Follows scene (with_turn c (record { at = next_at c node; entries = es }))) (sym (m.same disks spared)) (record { sound = m.sound; lines = known; time = time })
 
   due_keeps : (c : Config) (node : Node) (event : EventAt node) → AllKnown scene c.lines → (length c.turns < 65536 → Makes scene covered c node event) → Timely scene (ticks_of c.lines) (past_of (made scene covered c node event))
       → Kept (due head disks c node event)
   due_keeps c node event known makes time = by (is_full c) refl
     where
       by : (full : Bool) → is_full c ≡ full → Kept (if full then Stops else Goes (with_turn c (turn_of head disks c node event)))
-      by true e = λ d same. absurd (cc)
-      by false e = moved (with_turn c (turn_of head disks c node event)) (turn_follows c node event known (makes (has_room c e)) time)
+      by true e = λ d same spared. absurd (cc)
+      by false e = λ d same spared.
+          let next = with_turn c (turn_of head disks c node event) in
+          let is = goes next d same in
+          subst (λ (v : Config). Follows scene v) is
+          (turn_follows c node event known (makes (has_room c e)) time (subst (λ (v : Config). Spared scene covered (past_of v)) (sym is) spared))
 
   -- ---- a line of a client
 
@@ -158,8 +164,17 @@ module _ (scene : Scene) (covered : IsCovered scene) (disks : Disks) where
       due_keeps after (Target (suc t)) target.Ticks l.known.1 (λ room. tick_makes scene covered after (suc t) sound (others_due scene covered after (suc t) sound (λ e. absurd (cc))) room l.known.0)
       (other_timely scene covered after (suc t) (ticks_of rest) (grind (arith, nat_tests)) l.time)
 
+  -- ---- a command to a target
+
+  command_keeps : (c : Config) (t : ℕ) (event : target.Event) (rest : List SceneLine) → Sound scene c → Left c rest → IsCommandTo scene.lines head.osts t → after_runs.IsCommand event
+      → IsCommanded (target.row (target_of head t (past_of c)) (next_at c (Target t)) event) → Kept (due head disks (left c rest) (Target t) event)
+  command_keeps c t event rest s l to is commanded =
+      let after = left c rest in
+      due_keeps after (Target t) event l.known (λ room. command_makes scene covered after t event (sound_left c rest s) is commanded to.some room to.one)
+      (command_timely scene covered after t event (ticks_of rest) commanded l.time)
+
   step_keeps : (c : Config) (lines : List SceneLine) → Sound scene c → Left c lines → Kept (next_by head disks c lines)
-  step_keeps c [] s l = λ d e. absurd (cc)
+  step_keeps c [] s l = λ d e spared. absurd (cc)
   step_keeps c (Call who slot call ∷ rest) s l =
       let k = l.known.0 in
       alive_keeps c who (client.Begins slot (with_stripes call)) rest s (rest_left c (Call who slot call) rest l) (k.asks, k.among) (λ up. (record { one = k.one; alive = up }, k.small, k.limits))
@@ -174,16 +189,22 @@ module _ (scene : Scene) (covered : IsCovered scene) (disks : Disks) where
   step_keeps c (Tick (Client who) ∷ rest) s l = alive_keeps c who client.Ticks rest s (rest_left c (Tick (Client who)) rest l) tt (λ up. record { one = l.known.0; alive = up })
   step_keeps c (Tick (Target t) ∷ rest) s l = tick_keeps c t rest s l
   step_keeps c (Die who ∷ rest) s l = alive_keeps c who client.Dies rest s (rest_left c (Die who) rest l) tt (λ up. record { one = l.known.0; alive = up })
-  step_keeps c (Commit t ∷ rest) s l = absurd l.known.0
-  step_keeps c (CommitSome t k ∷ rest) s l = absurd l.known.0
+  step_keeps c (Commit t ∷ rest) s l =
+      command_keeps c t.0 (target.Commits None) rest s (rest_left c (Commit t) rest l) l.known.0 tt
+      (commit_is head.clients (target_of head t.0 (past_of c)) (next_at c (Target t.0)) None (target_serves scene covered c s t.0))
+  step_keeps c (CommitSome t k ∷ rest) s l =
+      command_keeps c t.0 (target.Commits (Some k)) rest s (rest_left c (CommitSome t k) rest l) l.known.0 tt
+      (commit_is head.clients (target_of head t.0 (past_of c)) (next_at c (Target t.0)) (Some k) (target_serves scene covered c s t.0))
   step_keeps c (Crash t ∷ rest) s l = absurd l.known.0
   step_keeps c (Boot t ∷ rest) s l = absurd l.known.0
-  step_keeps c (Close t ∷ rest) s l = absurd l.known.0
+  step_keeps c (Close t ∷ rest) s l =
+      command_keeps c t.0 target.Closes rest s (rest_left c (Close t) rest l) l.known.0 tt
+      (close_is head.clients (target_of head t.0 (past_of c)) (next_at c (Target t.0)) (target_serves scene covered c s t.0))
 
   -- a run goes on only where no disk has failed
-  next_keeps : (c d : Config) (failed : Bool) → (if failed then Fails else next_by head disks c c.lines) ≡ Goes d → Follows scene c → Follows scene d
-  next_keeps c d true e f = absurd (cc)
-  next_keeps c d false e f = step_keeps c c.lines f.sound (record { known = f.lines; time = f.time }) d e
+  next_keeps : (c d : Config) (failed : Bool) → (if failed then Fails else next_by head disks c c.lines) ≡ Goes d → Spared scene covered (past_of d) → Follows scene c → Follows scene d
+  next_keeps c d true e spared f = absurd (cc)
+  next_keeps c d false e spared f = step_keeps c c.lines f.sound (record { known = f.lines; time = f.time }) d e spared
 
   went_on : (c d : Config) (failed : Bool) → (if failed then Fails else next_by head disks c c.lines) ≡ Goes d → failed ≡ false
   went_on c d true e = absurd (cc)
@@ -220,9 +241,9 @@ module _ (scene : Scene) (covered : IsCovered scene) (disks : Disks) where
       }
   start_follows (Some t) unfailed = absurd (cc)
 
-  leads_on : (a c : Config) → Leads head disks a c → Follows scene a → Follows scene c
-  leads_on a _ (here _) f = f
-  leads_on a c (more _ b _ l e) f = next_keeps b c (has_failed (past_of b)) e (leads_on a b l f)
+  leads_on : (a c : Config) → Leads head disks a c → Spared scene covered (past_of c) → Follows scene a → Follows scene c
+  leads_on a _ (here _) spared f = f
+  leads_on a c (more _ b _ l e) spared f = next_keeps b c (has_failed (past_of b)) e spared (leads_on a b l (inl (went_on b c (has_failed (past_of b)) e)) f)
 
   -- nor had one at first
   was_unfailed : (a c : Config) → Leads head disks a c → has_failed (past_of c) ≡ false → has_failed (past_of a) ≡ false
@@ -233,11 +254,11 @@ module _ (scene : Scene) (covered : IsCovered scene) (disks : Disks) where
   pub leads_follow : (c : Config) → Leads head disks (start head disks scene) c → has_failed (past_of c) ≡ false → Follows scene c
   leads_follow c l unfailed =
       let first = start head disks scene in
-      leads_on first c l (start_follows (start_fails disks 0 (head.osts + 1)) (was_unfailed first c l unfailed))
+      leads_on first c l (inl unfailed) (start_follows (start_fails disks 0 (head.osts + 1)) (was_unfailed first c l unfailed))
 
-  pub starts_follow : (c : Config) → Leads head disks (start head disks scene) c → start_fails disks 0 (head.osts + 1) ≡ None → Follows scene c
-  starts_follow c l none =
-      leads_on (start head disks scene) c l (start_follows (start_fails disks 0 (head.osts + 1)) (ap (λ (o : Option ℕ). has_failed (lines_of (start_turn o))) none))
+  pub starts_follow : (c : Config) → GivesNoCommand scene → Leads head disks (start head disks scene) c → start_fails disks 0 (head.osts + 1) ≡ None → Follows scene c
+  starts_follow c quiet l none =
+      leads_on (start head disks scene) c l (inr quiet) (start_follows (start_fails disks 0 (head.osts + 1)) (ap (λ (o : Option ℕ). has_failed (lines_of (start_turn o))) none))
 
 -- ---- as it is stated
 
@@ -249,7 +270,7 @@ pub scene_covered : (scene : Scene) → IsCovered scene → (disks : Disks) (c :
     → AllCovered (past_of c)
 scene_covered scene covered disks c l unfailed = (leads_follow scene covered disks c l unfailed).sound.covered
 
--- where no start fails, none does later: no turn asks a disk
-pub scene_unfailed : (scene : Scene) → IsCovered scene → (disks : Disks) (c : Config) → Leads (head_of scene.head) disks (start (head_of scene.head) disks scene) c
+-- where no start fails and no line gives a command, none does later: no turn asks a disk
+pub scene_unfailed : (scene : Scene) → IsCovered scene → GivesNoCommand scene → (disks : Disks) (c : Config) → Leads (head_of scene.head) disks (start (head_of scene.head) disks scene) c
     → start_fails disks 0 (scene.head.osts + 1) ≡ None → has_failed (past_of c) ≡ false
-scene_unfailed scene covered disks c l none = covered_unfailed (past_of c) (starts_follow scene covered disks c l none).sound.covered
+scene_unfailed scene covered quiet disks c l none = covered_unfailed (past_of c) (starts_follow scene covered disks c quiet l none).sound.covered

@@ -8,26 +8,31 @@ use Rattle.lu_base.specs.declared.ids.At.{At}
 use Rattle.lu_base.specs.declared.ids.Node.{Node}
 use Rattle.lu_base.specs.declared.ids.Who.{Who}
 use Rattle.lu_base.specs.declared.locks.Lock.{Lock}
+use Rattle.lu_msg.specs.declared.calls.Call.{Call as CallOf}
+use Rattle.lu_msg.specs.declared.commits.Batch.{Batch}
 use Rattle.lu_msg.specs.declared.messages.Message.{Message}
 use Rattle.lu_msg.specs.declared.messages.Message.TheVariants as message
 use Rattle.lu_msg.specs.declared.messages.Reply.{Reply as ReplyTo}
 use Rattle.lu_msg.specs.declared.messages.Request.{Request as RequestOf}
 use Rattle.lu_words.specs.Carried.{Deed, Called, Glimpse, Slot}
-use Rattle.lu_words.specs.Words.{Entry, Send, Take, Tick, Skip, Act, Txn, Grant, Block, Release, Commit, Crash, Boot, Close, Asks, Ends, Enters, Line, is_target}
-use Rattle.lu_target_rows.specs.Disks.{calls}
+use Rattle.lu_words.specs.Words.{Entry, Send, Take, Tick, Skip, Act, Txn, Grant, Block, Release, Commit, Crash, Boot, Close, Asks, Ends, Enters, Line, with_turn, is_target}
+use Rattle.lu_target_rows.specs.Disks.{calls, over_disk}
 use Rattle.lu_target_rows.specs.Glimpses.{glimpses_of, glimpses_end}
 use Rattle.lu_target_rows.specs.Leaving.{is_due, condemned, expels, block_again, sends_again, ticked, row_tick}
 use Rattle.lu_target_rows.specs.Lives.{is_life, with_life, slot_in}
 use Rattle.lu_target_rows.specs.Names.{does_change, is_read, is_ready, written_by, in_way, grant_lines, row_executes, row_waits, row_pass, row_sweep, names_go}
 use Rattle.lu_target_rows.specs.Objects.{lock_of, objects_go}
 use Rattle.lu_target_rows.specs.Queues.{queue_goes}
+use Rattle.lu_target_rows.specs.Recovery.{row_close}
 use Rattle.lu_target_rows.specs.Replies.{is_called, called, block_of, blocks, replies, row_kept}
 use Rattle.lu_target_rows.specs.Requests.{by_number, by_slot as slot_of_request, row_request, releases, goes_on, row_cancels, row_cancel}
-use Rattle.lu_target_rows.specs.Rows.{heeds, row_heeds}
+use Rattle.lu_target_rows.specs.Rows.{heeds, row_heeds, first_deeds, row_commits, row_commit, row_closes}
 use Rattle.lu_target_rows.specs.Rows as target
 use Rattle.lu_target_rows.specs.States.{Setting, Target, is_names, is_serving, lives_from, after, turn, follow, target_at}
 use Rattle.lu_covered.specs.Covered.{IsCovered, AllCovered, IsCoveredMessage, IsByAct}
 use Rattle.lu_after.proofs.Targets.{target_line, target_left}
+use Rattle.lu_table.specs.Runs.{has_failed}
+use Rattle.lu_lawful.proofs.Asked.{Began}
 use Rattle.lu_lawful.proofs.Covers.{EntriesCovered}
 use Rattle.lu_lawful.proofs.TargetAlike.{all_stay}
 use Rattle.lu_covered_scenes.proofs.Every.{Every, every_more}
@@ -300,3 +305,52 @@ tick_served v at t = subst (AllServed (Unit {0})) (sym t.is) (tt, sendings_serve
 -- it counts one, and else all is as it was
 pub tick_same : (v : Target) (at : At) → Ticked v at → turn v (target.row v at target.Ticks) ≡ after v Tick
 tick_same v at t = ap (turn v) t.is ∙ sendings_same (after v Tick) t.sends t.all
+
+-- ---- a command: to commit, or to close a window, which a target that serves doesn't have
+
+-- nothing is done, or a batch is committed with which no life comes or goes
+pub data IsCommanded : List Entry → Type 0 where
+  passed : IsCommanded (Skip ∷ [])
+  committed : (to : ℕ) (batch : Batch) → batch.removed ≡ [] → batch.added ≡ [] → IsCommanded (Commit to batch ∷ [])
+
+pub commit_is : (clients : ℕ) (v : Target) (at : At) (count : Option ℕ) → Serves clients v → IsCommanded (target.row v at (target.Commits count))
+commit_is clients v at count s = subst IsCommanded (sym (up ∙ serving)) (by (first_deeds count v.log))
+  where
+    up : target.row v at (target.Commits count) ≡ row_commit v count
+    up = ap (λ (b : Bool). if b then row_commit v count else Skip ∷ []) s.up
+
+    serving : row_commit v count ≡ row_commits v (first_deeds count v.log)
+    serving = ap (λ (b : Bool). if b then row_commits v (first_deeds count v.log) else Skip ∷ []) (serving_is clients v s)
+
+    by : (deeds : List Deed) → IsCommanded (row_commits v deeds)
+    by [] = passed
+    by (d ∷ deeds) = committed _ _ refl refl
+
+pub close_is : (clients : ℕ) (v : Target) (at : At) → Serves clients v → IsCommanded (target.row v at target.Closes)
+close_is clients v at s = subst IsCommanded (sym (up ∙ serving)) passed
+  where
+    up : target.row v at target.Closes ≡ row_closes v at
+    up = ap (λ (b : Bool). if b then row_closes v at else Skip ∷ []) s.up
+
+    serving : row_closes v at ≡ Skip ∷ []
+    serving = ap (λ (b : Bool). if b then Skip ∷ [] else row_close at v) (serving_is clients v s)
+
+pub commanded_covered : (es : List Entry) → IsCommanded es → EntriesCovered es
+commanded_covered _ passed = (tt, tt)
+commanded_covered _ (committed to batch removed added) = ((removed, added), tt)
+
+pub commanded_ticks : (v : Target) (es : List Entry) → IsCommanded es → (turn v es).ticks ≡ v.ticks
+commanded_ticks v _ passed = refl
+commanded_ticks v _ (committed to batch removed added) = refl
+
+-- where the disk hasn't failed it didn't change the turn
+pub commanded_over : (o : Option ℕ) (at : At) (past : List Line) (es : List Entry) → IsCommanded es → has_failed (with_turn at (over_disk o es) past) ≡ false → over_disk o es ≡ es
+commanded_over None at past es k unfailed = refl
+commanded_over (Some n) at past _ passed unfailed = refl
+commanded_over (Some zero) at past _ (committed to batch removed added) unfailed = absurd (cc)
+commanded_over (Some (suc n)) at past _ (committed to batch removed added) unfailed = refl
+
+-- no call begins
+pub commanded_began : (past : List Line) (at : At) (es : List Entry) → IsCommanded es → (call : CallOf) → Began (with_turn at es past) call → Began past call
+commanded_began past at _ passed call i = i
+commanded_began past at _ (committed to batch removed added) call i = i

@@ -1,8 +1,9 @@
--- One more turn of a covered scenario: it may be made, no call to a disk fails in it, its lines are covered, and what was so of each node is
+-- One more turn of a covered scenario: it may be made, its lines are covered where no call to a disk fails in it, and what was so of each node is
 -- so after it.
-use Rattle.std.proofs.Common.{◌≡◌, ℕ, suc, ◌+◌, ◌<◌, ◌≤◌, Bool, true, false, List, [], ◌∷◌, ◌⊎◌, inl, inr, refl, sym, subst, ap, ◌∙◌, arith}
-use Rattle.std.specs.Prelude.{nat_eq, length}
+use Rattle.std.proofs.Common.{◌≡◌, ℕ, zero, suc, ◌+◌, ◌<◌, ◌≤◌, Bool, true, false, List, [], ◌∷◌, ◌⊎◌, inl, inr, ⊎_elim, refl, sym, subst, ap, ◌∙◌, arith}
+use Rattle.std.specs.Prelude.{nat_eq, length, All}
 use Rattle.std.proofs.lemmas.Bool.{eqb-true}
+use Rattle.std.proofs.lemmas.Bool.Decides.{nat_tests}
 use Rattle.lu_base.specs.declared.ids.At.{At}
 use Rattle.lu_base.specs.declared.ids.Node.{Node}
 use Rattle.lu_base.specs.declared.ids.Node.TheVariants as node
@@ -23,7 +24,7 @@ use Rattle.lu_covered.specs.Covered.{IsCovered as IsCoveredLine, AllCovered}
 use Rattle.lu_covered.specs.TargetStates.{called_at}
 use Rattle.lu_after.specs.InTable.{next_at, InTable}
 use Rattle.lu_after.proofs.Clients.{client_own, client_other}
-use Rattle.lu_after.proofs.Runs.{turned_in, command_meets, target_unfailed}
+use Rattle.lu_after.proofs.Runs.{turned_in, IsCommand, command_meets, target_unfailed}
 use Rattle.lu_after.proofs.Targets.{target_own, target_other}
 use Rattle.lu_lawful.proofs.Covers.{EntriesCovered}
 use Rattle.lu_lawful.proofs.Guards.{Grown}
@@ -35,13 +36,13 @@ use Rattle.lu_lawful.proofs.GuardTurns.{covered_head}
 use Rattle.lu_lawful.proofs.Asked.{Began}
 use Rattle.lu_lawful.proofs.Unlocked.{unlocked, uncalled_other}
 use Rattle.lu_covered_scenes.specs.Covered as scenes
-use Rattle.lu_covered_scenes.specs.Covered.{IsCovered, ticks_of}
+use Rattle.lu_covered_scenes.specs.Covered.{IsCovered, IsNoCommand, ticks_of}
 use Rattle.lu_covered_scenes.proofs.Arrivals.{target_served}
 use Rattle.lu_covered_scenes.proofs.Clients.{Calm, AllCalm, turn_calm, lines_covered}
 use Rattle.lu_covered_scenes.proofs.ClientRows.{EventCalm, row_calm}
 use Rattle.lu_covered_scenes.proofs.Lines.{Calls, AllOfLines, all_miss}
-use Rattle.lu_covered_scenes.proofs.Numbers.{Below, MessageFits, comes_below, tick_below, more_below, has_numbers}
-use Rattle.lu_covered_scenes.proofs.Targets.{AllServed, Serves, MessageServed, Ticked, serves, serves_turn, served_covered, served_still, asks_none, comes_served, tick_is, tick_served, tick_same, expires_none, uncalled_none}
+use Rattle.lu_covered_scenes.proofs.Numbers.{Below, MessageFits, comes_below, tick_below, commanded_below, more_below, has_numbers}
+use Rattle.lu_covered_scenes.proofs.Targets.{AllServed, Serves, MessageServed, Ticked, serves, serves_turn, served_covered, served_still, asks_none, comes_served, tick_is, tick_served, tick_same, expires_none, uncalled_none, IsCommanded, commanded_covered, commanded_ticks, commanded_over, commanded_began}
 
 -- ---- what is so of a configuration
 
@@ -119,10 +120,18 @@ module _ (scene : Scene) (covered : IsCovered scene) where
   pub target_serves : (c : Config) → Sound scene c → (t : ℕ) → Serves head.clients (target_of head t (past_of c))
   target_serves c s t = serves (setting_of head t) head.clients (past_of c) s.covered
 
+  -- the lines of the turn over disks that may fail
+  abbrev over : Disks → Config → (n : Node) → EventAt n → List Entry
+  over disks c n event = over_disk (fails_at disks (past_of c) n (lines_at c n event)) (lines_at c n event)
+
+  -- none has failed, or none is asked
+  abbrev pub Spared : List Line → Type 0
+  Spared past = (has_failed past ≡ false) ⊎ All IsNoCommand scene.lines
+
   pub record Makes (c : Config) (n : Node) (event : EventAt n) : Type 0 where
     pub sound : Sound scene (made c n event)
     pub numbers : HasNumbers head (past_of c) (next_at c n) n event
-    pub same : (disks : Disks) → over_disk (fails_at disks (past_of c) n (lines_at c n event)) (lines_at c n event) ≡ lines_at c n event
+    pub same : (disks : Disks) → Spared (with_lines (next_at c n) (over disks c n event) (past_of c)) → over disks c n event ≡ lines_at c n event
 
   -- ---- of a client
 
@@ -139,7 +148,7 @@ module _ (scene : Scene) (covered : IsCovered scene) where
               begun = turn_began (Calls scene.lines) past at es s.begun all;
             };
         numbers = tt;
-        same = λ disks. refl;
+        same = λ disks spared. refl;
       }
     where
       past : List Line
@@ -172,22 +181,24 @@ module _ (scene : Scene) (covered : IsCovered scene) where
 
   -- ---- of a target
 
-  target_makes : (T : Type 0) (c : Config) (t : ℕ) (event : target.Event) → Sound scene c → length c.turns < 65536 → Meets head (past_of c) (node.Target t) event → AllServed T (lines_at c (node.Target t) event)
+  target_makes : (c : Config) (t : ℕ) (event : target.Event) → Sound scene c → length c.turns < 65536 → Meets head (past_of c) (node.Target t) event → EntriesCovered (lines_at c (node.Target t) event)
+      → ((call : CallOf) → Began (with_lines (next_at c (node.Target t)) (lines_at c (node.Target t) event) (past_of c)) call → Began (past_of c) call)
+      → ((disks : Disks) → Spared (with_lines (next_at c (node.Target t)) (over disks c (node.Target t) event) (past_of c)) → over disks c (node.Target t) event ≡ lines_at c (node.Target t) event)
       → Below (suc (length c.turns)) (target_turn (target_of head t (past_of c)) (lines_at c (node.Target t) event))
       → (target_turn (target_of head t (past_of c)) (lines_at c (node.Target t) event)).ticks ≤ suc (length c.turns) → Makes c (node.Target t) event
-  target_makes T c t event s few meets all below ticks =
+  target_makes c t event s few meets are_covered began same below ticks =
       record {
         sound =
             record {
               table = turned_in head c (node.Target t) event s.table (unfailed c s) meets left;
-              covered = all_covered at es past (served_covered T es all) s.covered;
+              covered = all_covered at es past are_covered s.covered;
               calm = λ d. subst Calm (sym (client_other (limits_of head) d past at es refl)) (s.calm d);
               below = λ u. each (λ v. Below (suc (length c.turns)) v) below (λ k. more_below (length c.turns) (target_of head k past) (s.below k)) u;
               ticks = λ u. each (λ v. v.ticks ≤ suc (length c.turns)) ticks (λ k. let low = s.ticks k in omega (arith, low)) u;
-              begun = λ call i. s.begun call (served_began T past at es all call i);
+              begun = λ call i. s.begun call (began call i);
             };
         numbers = left;
-        same = λ disks. not_failing disks past (node.Target t) es (asks_none T es all);
+        same = same;
       }
     where
       past : List Line
@@ -203,7 +214,7 @@ module _ (scene : Scene) (covered : IsCovered scene) where
       v = target_of head t past
 
       left : HasNumbers head past at (node.Target t) event
-      left = has_numbers head.clients (suc (length c.turns)) v es (serves_turn head.clients v es (served_covered T es all) (target_serves c s t)) below (omega (arith, few))
+      left = has_numbers head.clients (suc (length c.turns)) v es (serves_turn head.clients v es are_covered (target_serves c s t)) below (omega (arith, few))
 
       each : (P : Target → Type 0) → P (target_turn v es) → ((u : ℕ) → P (target_of head u past)) → (u : ℕ) → P (target_of head u (with_lines at es past))
       each P own others u = by (nat_eq u t) refl
@@ -213,6 +224,41 @@ module _ (scene : Scene) (covered : IsCovered scene) where
           by true e =
               let same : u ≡ t = eqb-true u t e in
               subst (λ (k : ℕ). P (target_of head k (with_lines at es past))) (sym same) (subst P (sym (target_own (setting_of head t) head.clients past at es (self t))) own)
+
+  -- all its lines are such that no call begins and no disk is asked
+  served_makes : (T : Type 0) (c : Config) (t : ℕ) (event : target.Event) → Sound scene c → length c.turns < 65536 → Meets head (past_of c) (node.Target t) event → AllServed T (lines_at c (node.Target t) event)
+      → Below (suc (length c.turns)) (target_turn (target_of head t (past_of c)) (lines_at c (node.Target t) event))
+      → (target_turn (target_of head t (past_of c)) (lines_at c (node.Target t) event)).ticks ≤ suc (length c.turns) → Makes c (node.Target t) event
+  served_makes T c t event s few meets all below ticks =
+      let es = lines_at c (node.Target t) event in
+      target_makes c t event s few meets (served_covered T es all) (served_began T (past_of c) (next_at c (node.Target t)) es all)
+      (λ disks spared. not_failing disks (past_of c) (node.Target t) es (asks_none T es all)) below ticks
+
+  -- ---- a command
+
+  pub command_makes : (c : Config) (t : ℕ) (event : target.Event) → Sound scene c → IsCommand event → IsCommanded (lines_at c (node.Target t) event) → (All IsNoCommand scene.lines → ⊥)
+      → length c.turns < 65536 → t ≤ head.osts → Makes c (node.Target t) event
+  command_makes c t event s is commanded some few one =
+      let past = past_of c in
+      let at = next_at c (node.Target t) in
+      let es = lines_at c (node.Target t) event in
+      let v = target_of head t past in
+      target_makes c t event s few (command_meets head past t event is one (unfailed c s)) (commanded_covered es commanded) (commanded_began past at es commanded)
+      (λ disks. ⊎_elim (λ (whole : has_failed (with_lines at (over disks c (node.Target t) event) past) ≡ false). commanded_over (fails_at disks past (node.Target t) es) at past es commanded whole)
+      (λ (none : All IsNoCommand scene.lines). absurd (some none)))
+      (commanded_below (length c.turns) v es commanded (s.below t))
+      (let low = s.ticks t in let same = commanded_ticks v es commanded in omega (arith, low, same))
+
+  pub command_timely : (c : Config) (t : ℕ) (event : target.Event) (left : ℕ) → IsCommanded (lines_at c (node.Target t) event) → Timely scene left (past_of c) → Timely scene left (past_of (made c (node.Target t) event))
+  command_timely c zero event left commanded (inl low) =
+      let own = ap (λ (v : Target). v.ticks) (target_own (setting_of head 0) head.clients (past_of c) (next_at c (node.Target 0)) (lines_at c (node.Target 0) event) refl) in
+      let same = commanded_ticks (target_of head 0 (past_of c)) (lines_at c (node.Target 0) event) commanded in
+      inl (omega (arith, low, own, same))
+  command_timely c (suc t) event left commanded (inl low) =
+      let other : nat_eq 0 (suc t) ≡ false = grind (arith, nat_tests) in
+      let same = ap (λ (v : Target). v.ticks) (target_other (setting_of head 0) head.clients (past_of c) (next_at c (node.Target (suc t))) (lines_at c (node.Target (suc t)) event) other) in
+      inl (omega (arith, low, same))
+  command_timely c t event left commanded (inr miss) = inr miss
 
   -- ---- a message comes to the metadata target
 
@@ -235,7 +281,7 @@ module _ (scene : Scene) (covered : IsCovered scene) where
     pub comes_makes : length c.turns < 65536 → Makes c (node.Target 0) heard
     comes_makes few =
         let serves_now = target_serves c s 0 in
-        target_makes ⊥ c 0 heard s few (omega arith, target_unfailed head 0 (past_of c) (unfailed c s), serves_now.up, sent) served
+        served_makes ⊥ c 0 heard s few (omega arith, target_unfailed head 0 (past_of c) (unfailed c s), serves_now.up, sent) served
         (comes_below head.clients (length c.turns) names serves_now refl (s.below 0) (next_at c (node.Target 0)) n from m fits.0 fits.1)
         (let low = s.ticks 0 in let same = still in omega (arith, low, same))
 
@@ -275,7 +321,7 @@ module _ (scene : Scene) (covered : IsCovered scene) where
 
     pub tick_makes : length c.turns < 65536 → t ≤ head.osts → Makes c (node.Target t) target.Ticks
     tick_makes few one =
-        target_makes (Unit {0}) c t target.Ticks s few (command_meets head (past_of c) t target.Ticks tt one (unfailed c s)) (tick_served it (next_at c (node.Target t)) ticked)
+        served_makes (Unit {0}) c t target.Ticks s few (command_meets head (past_of c) t target.Ticks tt one (unfailed c s)) (tick_served it (next_at c (node.Target t)) ticked)
         (subst (Below (suc (length c.turns))) (sym same_after) (tick_below (length c.turns) it (s.below t)))
         (let low = s.ticks t in let same = ap (λ (v : Target). v.ticks) same_after in omega (arith, low, same))
 

@@ -1,5 +1,5 @@
 -- The scenarios whose runs the theorem covers so far: clients begin calls on names, but for `open` and `close`, messages come or are
--- lost, time goes on, clients die. A `stat` must find no file, whose size it would ask for; and the metadata target's time must not go so
+-- lost, time goes on, clients die, targets commit, all of it or some, or are told to close a window that they don't have. A `stat` must find no file, whose size it would ask for; and the metadata target's time must not go so
 -- far that it evicts a client that doesn't give back a lock.
 use Rattle.std.specs.Prelude.{◌<◌, ◌+◌, ℕ, zero, List, [], ◌∷◌, All, ◌⊎◌}
 use Rattle.lu_base.specs.declared.ids.Node.TheVariants.{Target}
@@ -7,7 +7,7 @@ use Rattle.lu_msg.specs.declared.calls.Call.{Call as CallOf}
 use Rattle.lu_msg.specs.declared.calls.Call.TheVariants.{Open, Close as CloseFile, Read, Write, Cut, Flush, Glimpse}
 use Rattle.lu_scene.specs.declared.scene.Scene.{Scene}
 use Rattle.lu_scene.specs.declared.scene.SceneLine.{SceneLine}
-use Rattle.lu_scene.specs.declared.scene.SceneLine.TheVariants.{Call, Run, RunSome, Deliver, Lose, Tick, Die}
+use Rattle.lu_scene.specs.declared.scene.SceneLine.TheVariants.{Call, Run, RunSome, Deliver, Lose, Tick, Commit, CommitSome, Crash, Boot, Close, Die}
 use Rattle.lu_table.specs.Limits.{KeepsLimits}
 use Rattle.lu_covered.specs.Makes.{Path, CallMakes, CallMakesFile, Misses, StatsNoFile}
 
@@ -53,6 +53,9 @@ IsLineCovered Files (RunSome turns) = Unit {0}
 IsLineCovered Files (Deliver number) = Unit {0}
 IsLineCovered Files (Lose number) = Unit {0}
 IsLineCovered Files (Tick node) = Unit {0}
+IsLineCovered Files (Commit target) = Unit {0}
+IsLineCovered Files (CommitSome target count) = Unit {0}
+IsLineCovered Files (Close target) = Unit {0}
 IsLineCovered Files (Die client) = Unit {0}
 IsLineCovered Files _ = ⊥
 
@@ -62,6 +65,21 @@ IsCoveredIn lines line = IsLineCovered (IsFile lines) line
 
 abbrev pub AllLinesCovered : List SceneLine → Type 0
 AllLinesCovered lines = All (IsCoveredIn lines) lines
+
+-- ---- commands to targets
+
+-- a line that gives none
+abbrev pub IsNoCommand : SceneLine → Type 0
+IsNoCommand (Commit target) = ⊥
+IsNoCommand (CommitSome target count) = ⊥
+IsNoCommand (Crash target) = ⊥
+IsNoCommand (Boot target) = ⊥
+IsNoCommand (Close target) = ⊥
+IsNoCommand _ = Unit {0}
+
+-- no line gives one: so no turn asks a disk
+abbrev pub GivesNoCommand : Scene → Type 0
+GivesNoCommand scene = All IsNoCommand scene.lines
 
 -- ---- locks that are called back
 

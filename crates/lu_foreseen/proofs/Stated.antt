@@ -37,7 +37,7 @@ use Rattle.lu_covered_scenes.proofs.GuardTurns.{covered_head}
 use Rattle.lu_covered_scenes.proofs.Sides.{from_target, from_client}
 use Rattle.lu_covered_scenes.proofs.OnNames.{op_is}
 use Rattle.lu_after.proofs.Posts.{sent_at_is}
-use Rattle.lu_covered_scenes.specs.Covered.{IsCovered, ticks_of}
+use Rattle.lu_covered_scenes.specs.Covered.{IsCovered, GivesNoCommand, ticks_of}
 use Rattle.lu_covered_scenes.proofs.Arrivals.{to_client}
 use Rattle.lu_covered_scenes.proofs.Lines.{AllKnown, IsKnown, lines_known, called_fits}
 use Rattle.lu_covered_scenes.proofs.Runs.{Follows, leads_follow}
@@ -75,7 +75,7 @@ all_of P (x ∷ xs) so = All-cons P x xs (so x (inl refl)) (all_of P xs (λ y i.
 has_room : (c : Config) → is_full c ≡ false → length c.turns < 65536
 has_room c free = grind (arith, nat_tests)
 
-module _ (scene : Scene) (covered : IsCovered scene) (disks : Disks) (c : Config) (is : IsOpen scene disks c) where
+module _ (scene : Scene) (covered : IsCovered scene) (quiet : GivesNoCommand scene) (disks : Disks) (c : Config) (is : IsOpen scene disks c) where
   abbrev head : Head
   head = head_of scene.head
 
@@ -151,20 +151,20 @@ module _ (scene : Scene) (covered : IsCovered scene) (disks : Disks) (c : Config
   ticks (suc t) rest e = tick (suc t) (line_known (Tick (Target (suc t))) rest e) (others_due scene covered c (suc t) f.sound (λ q. absurd (cc)))
 
   no_command : (line : SceneLine) → IsKnown scene.lines scene.head.clients scene.head.osts line → IsCommand line → ⊥
-  no_command (Commit t) known is = absurd known
-  no_command (CommitSome t count) known is = absurd known
+  no_command (Commit t) known is = absurd (known.some quiet)
+  no_command (CommitSome t count) known is = absurd (known.some quiet)
   no_command (Crash t) known is = absurd known
   no_command (Boot t) known is = absurd known
-  no_command (Close t) known is = absurd known
+  no_command (Close t) known is = absurd (known.some quiet)
   no_command _ known is = absurd is
 
   commands : (line : SceneLine) (rest : List SceneLine) → c.lines ≡ line ∷ rest → IsCommand line → ⊥
   commands line rest e = no_command line (line_known line rest e)
 
-pub all_foreseen : (scene : Scene) → IsCovered scene → AllForeseen scene
-all_foreseen scene covered =
+pub all_foreseen : (scene : Scene) → IsCovered scene → GivesNoCommand scene → AllForeseen scene
+all_foreseen scene covered quiet =
     record {
-      messages = λ disks c n m open_one e up. messages scene covered disks c open_one n m e up;
-      ticks = λ disks c t rest open_one e. ticks scene covered disks c open_one t rest e;
-      commands = λ disks c line rest open_one e command. commands scene covered disks c open_one line rest e command;
+      messages = λ disks c n m open_one e up. messages scene covered quiet disks c open_one n m e up;
+      ticks = λ disks c t rest open_one e. ticks scene covered quiet disks c open_one t rest e;
+      commands = λ disks c line rest open_one e command. commands scene covered quiet disks c open_one line rest e command;
     }

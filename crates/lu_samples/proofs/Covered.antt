@@ -1,5 +1,5 @@
--- The scenes with locks are covered, so what they come to is lawful.
-use Rattle.std.proofs.Common.{◌≡◌, ℕ, zero, suc, ◌+◌, ◌≤◌, List, [], ◌∷◌, None, inl, refl, lit≤}
+-- The scenes with locks and that with commits are covered, so what they come to is lawful.
+use Rattle.std.proofs.Common.{◌≡◌, ℕ, zero, suc, ◌≤◌, false, List, [], ◌∷◌, inl, refl, lit≤}
 use Rattle.std.specs.Prelude.{codes, All}
 use Rattle.std.proofs.lemmas.List.Elements.{All-nil, All-cons}
 use Rattle.std.proofs.lemmas.List.Sums.{AllPass-from_list_all}
@@ -8,13 +8,14 @@ use Rattle.lu_scene.specs.declared.scene.Scene.{Scene}
 use Rattle.lu_scene.specs.declared.scene.SceneLine.{SceneLine}
 use Rattle.lu_scene.specs.Grammar.{LineFits}
 use Rattle.lu_table.specs.Heads.{IsHead}
-use Rattle.lu_table.specs.Scenarios.{Config, Next, Goes, Ends, Stops, Fails, head_of, next, start, start_fails, steps, Leads, here, more}
+use Rattle.lu_table.specs.Runs.{has_failed}
+use Rattle.lu_table.specs.Scenarios.{Config, Next, Goes, Ends, Stops, Fails, head_of, past_of, next, start, steps, Leads, here, more}
 use Rattle.lu_laws.proofs.Words.{◌then◌}
 use Rattle.lu_laws.specs.Lawful.{Lawful}
 use Rattle.lu_covered_scenes.specs.Covered.{IsCovered, IsCoveredIn}
-use Rattle.lu_covered_scenes.proofs.Runs.{scene_unfailed}
 use Rattle.lu_covered_scenes.proofs.Stated.{scene_lawful}
 use Rattle.lu_samples.proofs.Words.{with_head, after, trace_after, never}
+use Rattle.lu_samples.proofs.Names.{commits}
 use Rattle.lu_samples.proofs.Locks.{called_back, waits, known}
 
 is_path : IsPath (codes "a" ∷ [])
@@ -83,6 +84,17 @@ known_covered =
       time = inl (lit≤ tt);
     }
 
+pub commits_covered : IsCovered commits
+commits_covered =
+    record {
+      limits = record {
+        head = is_head 1 (lit≤ tt) (lit≤ tt);
+        lines = all_of (LineFits commits.head) commits.lines ((lit≤ tt, lit≤ tt, is_path) then (lit≤ tt, lit≤ tt) then lit≤ tt then (lit≤ tt, lit≤ tt) then (lit≤ tt, lit≤ tt) then (lit≤ tt, lit≤ tt, is_path) then (lit≤ tt, lit≤ tt) then (lit≤ tt, lit≤ tt) then (lit≤ tt, lit≤ tt, lit≤ tt) then lit≤ tt then tt);
+      };
+      lines = all_of (IsCoveredIn commits.lines) commits.lines ((tt, tt) then tt then tt then tt then tt then (tt, tt) then tt then tt then tt then tt then tt);
+      time = inl (lit≤ tt);
+    }
+
 -- ---- what a scene comes to in some steps, it leads to
 
 leads_on : (scene : Scene) (n : ℕ) (c : Config) → Leads (head_of scene.head) never (start (head_of scene.head) never scene) c
@@ -100,12 +112,10 @@ leads_on scene (suc n) c so_far = by (leads_on scene n) (next (head_of scene.hea
 leads : (scene : Scene) (n : ℕ) → Leads (head_of scene.head) never (start (head_of scene.head) never scene) (after n scene)
 leads scene n = leads_on scene n (start (head_of scene.head) never scene) (here _)
 
--- ---- so it is lawful: no disk fails in it, since none fails at the start
+-- ---- so it is lawful: no disk fails in it
 
-lawful : (scene : Scene) (n : ℕ) → IsCovered scene → start_fails never 0 (scene.head.osts + 1) ≡ None → Lawful scene.head.osts (trace_after n scene)
-lawful scene n covered starts =
-    let c = after n scene in
-    scene_lawful scene covered never c (leads scene n) (scene_unfailed scene covered never c (leads scene n) starts)
+lawful : (scene : Scene) (n : ℕ) → IsCovered scene → has_failed (past_of (after n scene)) ≡ false → Lawful scene.head.osts (trace_after n scene)
+lawful scene n covered unfailed = scene_lawful scene covered never (after n scene) (leads scene n) unfailed
 
 pub called_back_lawful : Lawful 1 (trace_after 20 called_back)
 called_back_lawful = lawful called_back 20 called_back_covered refl
@@ -115,3 +125,6 @@ waits_lawful = lawful waits 30 waits_covered refl
 
 pub known_lawful : Lawful 1 (trace_after 30 known)
 known_lawful = lawful known 30 known_covered refl
+
+pub commits_lawful : Lawful 1 (trace_after 10 commits)
+commits_lawful = lawful commits 10 commits_covered refl
