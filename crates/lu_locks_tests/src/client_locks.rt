@@ -1,6 +1,6 @@
 //! The locks that a client holds.
 
-use crate::asks::{END, object, over, range};
+use crate::asks::{C0, END, INODE, over, range};
 use lu_base::{Cookie, Lock, Memory, Mode, TargetId};
 use lu_held::Held;
 use std::alloc::Global;
@@ -8,12 +8,94 @@ use std::test::Fail;
 
 const T1: TargetId = TargetId(1);
 
+/// A call on the locks of `t1` on one object. A lock is told by its cookie.
+enum Call {
+    /// No lock is held, of which so many are kept that are neither pinned nor marked.
+    New(u32),
+    /// Holds a lock on a range, without pins and mark.
+    Hold(u64, Mode, u64, u64),
+    Block(u64),
+    Pin(u64),
+    Unpin(u64),
+    Remove(u64),
+    Trim,
+    Unmark,
+    /// The lock that does for a use of a range.
+    Match(Mode, u64, u64),
+    /// The lock that covers an offset, at this place.
+    Covering(u64, usize),
+    /// The lock that is to be given back, at this place.
+    Ready(usize),
+    /// The cookies at this place of three lists: of all locks, of those that are to be given back, and of those of
+    /// the target.
+    Lists(usize),
+}
+
+/// The lock for a use is found: one that reaches the end comes first, then the one of least cookie. The locks that
+/// cover an offset stand in rising cookie, and so do the lists: all locks, those that are to be given back and
+/// aren't pinned, and those of the target. Locks are marked, pinned and trimmed: the next to be given back is a marked
+/// one without pins; the least recently used is trimmed, where more than one is neither pinned nor marked. A row is a
+/// call and what it answers.
+const CALLS: [(Call, &str); 45] = [
+    (Call::New(9), "()"),
+    (Call::Hold(4, Mode::PR, 0, END), "()"),
+    (Call::Hold(2, Mode::PR, 0, 99), "()"),
+    (Call::Hold(3, Mode::PW, 100, 199), "()"),
+    (Call::Hold(5, Mode::PW, 100, END), "()"),
+    (Call::Match(Mode::PR, 5, 9), "Some(Cookie(4))"),
+    (Call::Match(Mode::PW, 5, 9), "None"),
+    (Call::Match(Mode::PW, 150, 160), "Some(Cookie(5))"),
+    (Call::Match(Mode::PR, 150, 160), "Some(Cookie(4))"),
+    (Call::Match(Mode::PR, 50, END), "Some(Cookie(4))"),
+    (Call::Match(Mode::EX, 150, 160), "None"),
+    (Call::Covering(150, 0), "Some(Cookie(3))"),
+    (Call::Covering(150, 1), "Some(Cookie(4))"),
+    (Call::Covering(150, 2), "Some(Cookie(5))"),
+    (Call::Covering(150, 3), "None"),
+    (Call::Covering(99, 0), "Some(Cookie(2))"),
+    (Call::Covering(99, 2), "None"),
+    (Call::Block(5), "true"),
+    (Call::Block(3), "true"),
+    (Call::Block(2), "true"),
+    (Call::Pin(2), "true"),
+    (Call::Remove(4), "true"),
+    (
+        Call::Lists(0),
+        "Some(Cookie(2)) Some(Cookie(3)) Some(Cookie(2))",
+    ),
+    (
+        Call::Lists(1),
+        "Some(Cookie(3)) Some(Cookie(5)) Some(Cookie(3))",
+    ),
+    (Call::Lists(2), "Some(Cookie(5)) None Some(Cookie(5))"),
+    (Call::Lists(3), "None None None"),
+    (Call::New(1), "()"),
+    (Call::Hold(2, Mode::PR, 0, 9), "()"),
+    (Call::Hold(1, Mode::PR, 20, 29), "()"),
+    (Call::Trim, "Some((TargetId(1), Cookie(2)))"),
+    (Call::Ready(0), "Some((TargetId(1), Cookie(2)))"),
+    (Call::Trim, "None"),
+    (Call::Ready(0), "Some((TargetId(1), Cookie(2)))"),
+    (Call::Pin(2), "true"),
+    (Call::Ready(0), "None"),
+    (Call::Unpin(2), "true"),
+    (Call::Ready(0), "Some((TargetId(1), Cookie(2)))"),
+    (Call::Unmark, "()"),
+    (Call::Ready(0), "None"),
+    (Call::Trim, "Some((TargetId(1), Cookie(1)))"),
+    (Call::Ready(0), "Some((TargetId(1), Cookie(1)))"),
+    (Call::Remove(1), "true"),
+    (Call::Ready(0), "None"),
+    (Call::Block(2), "true"),
+    (Call::Ready(0), "Some((TargetId(1), Cookie(2)))"),
+];
+
 /// A lock on the one object.
 fn lock(cookie: u64, mode: Mode, first: u64, last: u64) -> Lock {
     Lock {
         cookie: Cookie(cookie),
-        resource: object(1, 0),
-        ask: over(0, mode, first, last),
+        resource: INODE,
+        ask: over(C0, mode, first, last),
     }
 }
 
@@ -23,144 +105,64 @@ fn hold_anew(held: &mut Held, lock: Lock) -> Result<(), Memory> {
     held.granted(T1, lock)
 }
 
-/// Holds these locks of `t1`.
-fn hold(alloc: Global, unused: u32, locks: &[Lock]) -> Result<Held, Memory> {
-    let mut held = Held::new(alloc, unused)?;
-    for lock in locks {
-        hold_anew(&mut held, *lock)?;
+/// The cookies at this place of three lists.
+fn lists(alloc: Global, held: &Held, place: usize) -> Result<String, Fail> {
+    let all = held.in_order(alloc)?;
+    let ready = held.ready(alloc)?;
+    let granted = held.of_target(alloc, T1)?;
+    let all = all.get(place).map(|held| held.lock.cookie);
+    let ready = ready.get(place).map(|held| held.lock.cookie);
+    let granted = granted.get(place).map(|lock| lock.cookie);
+    Ok(format!(in alloc; "{all:?} {ready:?} {granted:?}")?)
+}
+
+/// What a call that looks at the locks answers.
+fn look(alloc: Global, held: &Held, call: &Call) -> Result<String, Fail> {
+    match *call {
+        Call::Match(mode, first, last) => {
+            let cookie = held.match_lock(T1, INODE, mode, range(first, last));
+            Ok(format!(in alloc; "{cookie:?}")?)
+        }
+        Call::Covering(offset, place) => {
+            let cookie = held
+                .covering(T1, INODE, offset, place)
+                .map(|lock| lock.cookie);
+            Ok(format!(in alloc; "{cookie:?}")?)
+        }
+        Call::Ready(place) => Ok(format!(in alloc; "{:?}", held.ready_to_cancel(place))?),
+        Call::Lists(place) => lists(alloc, held, place),
+        _ => Err(Fail::from("no look")),
     }
-    Ok(held)
 }
 
-/// Four locks on the one object.
-fn four(alloc: Global) -> Result<Held, Memory> {
-    hold(
-        alloc,
-        9,
-        &[
-            lock(4, Mode::PR, 0, END),
-            lock(2, Mode::PR, 0, 99),
-            lock(3, Mode::PW, 100, 199),
-            lock(5, Mode::PW, 100, END),
-        ],
-    )
+/// What a call answers.
+fn answer(alloc: Global, held: &mut Held, call: &Call) -> Result<String, Fail> {
+    match *call {
+        Call::New(unused) => {
+            *held = Held::new(alloc, unused)?;
+            Ok(format!(in alloc; "()")?)
+        }
+        Call::Hold(cookie, mode, first, last) => {
+            let held = hold_anew(held, lock(cookie, mode, first, last))?;
+            Ok(format!(in alloc; "{held:?}")?)
+        }
+        Call::Block(cookie) => Ok(format!(in alloc; "{:?}", held.block(T1, Cookie(cookie)))?),
+        Call::Pin(cookie) => Ok(format!(in alloc; "{:?}", held.pin(T1, Cookie(cookie)))?),
+        Call::Unpin(cookie) => Ok(format!(in alloc; "{:?}", held.unpin(T1, Cookie(cookie)))?),
+        Call::Remove(cookie) => Ok(format!(in alloc; "{:?}", held.remove(T1, Cookie(cookie)))?),
+        Call::Trim => Ok(format!(in alloc; "{:?}", held.trim())?),
+        Call::Unmark => Ok(format!(in alloc; "{:?}", held.unmark(T1))?),
+        _ => look(alloc, held, call),
+    }
 }
 
-/// A lock that reaches the end comes first, then the one of least cookie.
 #[test]
-fn the_lock_for_a_use_is_found(rt: HostRuntime) -> Result<(), Fail> {
-    let held = four(rt.alloc())?;
-    for (mode, first, last, found) in [
-        (Mode::PR, 5, 9, Some(Cookie(4))),
-        (Mode::PW, 5, 9, None),
-        (Mode::PW, 150, 160, Some(Cookie(5))),
-        (Mode::PR, 150, 160, Some(Cookie(4))),
-        (Mode::PR, 50, END, Some(Cookie(4))),
-        (Mode::EX, 150, 160, None),
-    ] {
-        let cookie = held.match_lock(T1, object(1, 0), mode, range(first, last));
-        assert_eq!(rt; cookie, found);
-    }
-    Ok(())
-}
-
-#[test]
-fn the_locks_that_cover_an_offset_in_rising_cookie(rt: HostRuntime) -> Result<(), Fail> {
-    let held = four(rt.alloc())?;
-    for (offset, place, cookie) in [
-        (150, 0, Some(Cookie(3))),
-        (150, 1, Some(Cookie(4))),
-        (150, 2, Some(Cookie(5))),
-        (150, 3, None),
-        (99, 0, Some(Cookie(2))),
-        (99, 2, None),
-    ] {
-        let found = held.covering(T1, object(1, 0), offset, place);
-        assert_eq!(rt; found.map(|lock| lock.cookie), cookie);
-    }
-    Ok(())
-}
-
-/// A call on the locks of `t1`, of the lock of this cookie.
-#[derive(Clone, Copy)]
-enum Step {
-    Block(u64),
-    Pin(u64),
-    Unpin(u64),
-    Remove(u64),
-    Trim,
-    Unmark,
-}
-
-/// Performs it.
-fn perform(held: &mut Held, step: Step) {
-    match step {
-        Step::Block(cookie) => {
-            held.block(T1, Cookie(cookie));
-        }
-        Step::Pin(cookie) => {
-            held.pin(T1, Cookie(cookie));
-        }
-        Step::Unpin(cookie) => {
-            held.unpin(T1, Cookie(cookie));
-        }
-        Step::Remove(cookie) => {
-            held.remove(T1, Cookie(cookie));
-        }
-        Step::Trim => {
-            held.trim();
-        }
-        Step::Unmark => held.unmark(T1),
-    }
-}
-
-/// After each call the lock that is to be given back next: a marked one without pins. The least recently used is
-/// trimmed, where more than one is neither pinned nor marked.
-#[test]
-fn locks_are_marked_pinned_and_trimmed(rt: HostRuntime) -> Result<(), Fail> {
-    let locks: [Lock; 2] = [lock(2, Mode::PR, 0, 9), lock(1, Mode::PR, 20, 29)];
-    let mut held = hold(rt.alloc(), 1, &locks)?;
-    for (step, ready) in [
-        (Step::Trim, Some((T1, Cookie(2)))),
-        (Step::Trim, Some((T1, Cookie(2)))),
-        (Step::Pin(2), None),
-        (Step::Unpin(2), Some((T1, Cookie(2)))),
-        (Step::Unmark, None),
-        (Step::Trim, Some((T1, Cookie(1)))),
-        (Step::Remove(1), None),
-        (Step::Block(2), Some((T1, Cookie(2)))),
-    ] {
-        perform(&mut held, step);
-        assert_eq!(rt; held.ready_to_cancel(0), ready);
-    }
-    Ok(())
-}
-
-/// In rising cookie: all locks, those that are to be given back and aren't pinned, and those of the target.
-#[test]
-fn the_lists_stand_in_rising_cookie(rt: HostRuntime) -> Result<(), Fail> {
-    let mut held = four(rt.alloc())?;
-    for step in [
-        Step::Block(5),
-        Step::Block(3),
-        Step::Block(2),
-        Step::Pin(2),
-        Step::Remove(4),
-    ] {
-        perform(&mut held, step);
-    }
-    let all = held.in_order(rt.alloc())?;
-    let ready = held.ready(rt.alloc())?;
-    let granted = held.of_target(rt.alloc(), T1)?;
-    for (place, cookie, to_cancel) in [
-        (0, Some(Cookie(2)), Some(Cookie(3))),
-        (1, Some(Cookie(3)), Some(Cookie(5))),
-        (2, Some(Cookie(5)), None),
-        (3, None, None),
-    ] {
-        assert_eq!(rt; all.get(place).map(|held| held.lock.cookie), cookie);
-        assert_eq!(rt; ready.get(place).map(|held| held.lock.cookie), to_cancel);
-        assert_eq!(rt; granted.get(place).map(|lock| lock.cookie), cookie);
+fn locks_are_held_found_and_given_back(rt: HostRuntime) -> Result<(), Fail> {
+    let alloc = rt.alloc();
+    let mut held = Held::new(alloc, 0)?;
+    for (call, wanted) in &CALLS {
+        let said = answer(alloc, &mut held, call)?;
+        assert_eq!(rt; said.as_str(), *wanted);
     }
     Ok(())
 }
