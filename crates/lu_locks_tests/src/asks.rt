@@ -3,6 +3,9 @@
 ghost use Rattle.lu_lock.specs.Overlap.{IsOrdered};
 
 use lu_base::{Ask, Extent, Fid, Mode, Policy, Resource, Who};
+use lu_queue::Grant;
+use std::alloc::Global;
+use std::test::Fail;
 
 /// The first life of client 0.
 pub const C0: Who = Who { client: 0, life: 1 };
@@ -60,4 +63,27 @@ pub fn on_bits(who: Who, mode: Mode, bits: u8) -> Ask
         mode,
         policy: Policy::Bits(bits),
     }
+}
+
+/// A grant, behind a space: the lock's cookie, its client and mode, and the range or the bits.
+fn grant_text(alloc: Global, grant: &Grant) -> Result<String, Fail> {
+    let cookie = grant.cookie.0;
+    let client = grant.ask.who.client;
+    let mode = grant.ask.mode;
+    match grant.ask.policy {
+        Policy::Bits(bits) => Ok(format!(in alloc; " {cookie} c{client} {mode:?} {bits}")?),
+        Policy::Range(range) => {
+            let (first, last) = (range.first, range.last);
+            Ok(format!(in alloc; " {cookie} c{client} {mode:?} {first}-{last}")?)
+        }
+    }
+}
+
+/// Grants, each behind a space.
+pub fn grants_text(alloc: Global, grants: &[Grant]) -> Result<String, Fail> {
+    let mut text = String::new(alloc);
+    for grant in grants {
+        text.push_str(grant_text(alloc, grant)?.as_str())?;
+    }
+    Ok(text)
 }

@@ -2,11 +2,11 @@
 
 ghost use Rattle.lu_lock.specs.Overlap.{IsOrdered};
 
-use crate::asks::{C0, C1, C2, END, INODE, OBJECT, OTHER, on_bits, over};
-use lu_base::{Ask, Cookie, Extent, Fid, Lock, Mode, Policy, Resource, Who};
+use crate::asks::{C0, C1, C2, END, INODE, OBJECT, OTHER, grants_text, on_bits, over};
+use lu_base::{Cookie, Extent, Fid, Lock, Mode, Policy, Resource, Who};
 use lu_lockspace::Lockspace;
 use lu_part::{Part, Parts};
-use lu_queue::{Grant, Placed};
+use lu_queue::Placed;
 use std::alloc::Global;
 use std::process::Abort;
 use std::test::Fail;
@@ -207,66 +207,27 @@ const WRITERS: [(Call, &str); 8] = [
     (Call::Bits(8, FOURTH, C2, Mode::PR, 2), "Waiting"),
 ];
 
-/// What client 1 asks for with its readers.
-const OF_ONE: Ask = Ask {
-    who: C1,
-    mode: Mode::PR,
-    policy: Policy::Bits(2),
-};
-
-/// What client 2 asks for with its one.
-const OF_TWO: Ask = Ask {
-    who: C2,
-    mode: Mode::PR,
-    policy: Policy::Bits(2),
-};
-
-/// The lives that end, what is granted then, each a cookie and what was asked, and whether lock 7 is still granted.
-const ENDS: [(&[Who], &[Grant], bool); 5] = [
-    (
-        &[C0],
-        &[
-            Grant {
-                cookie: Cookie(5),
-                ask: OF_ONE,
-            },
-            Grant {
-                cookie: Cookie(6),
-                ask: OF_ONE,
-            },
-            Grant {
-                cookie: Cookie(4),
-                ask: OF_ONE,
-            },
-        ],
-        true,
-    ),
-    (
-        &[C1],
-        &[Grant {
-            cookie: Cookie(8),
-            ask: OF_TWO,
-        }],
-        false,
-    ),
-    (
-        &[C0, C1],
-        &[Grant {
-            cookie: Cookie(8),
-            ask: OF_TWO,
-        }],
-        false,
-    ),
-    (&[C2], &[], true),
-    (&[], &[], true),
+/// The lives that end, what is granted then, and whether lock 7 is still granted.
+const ENDS: [(&[Who], &str, bool); 5] = [
+    (&[C0], " 5 c1 PR 2 6 c1 PR 2 4 c1 PR 2", true),
+    (&[C1], " 8 c2 PR 2", false),
+    (&[C0, C1], " 8 c2 PR 2", false),
+    (&[C2], "", true),
+    (&[], "", true),
 ];
+
+/// What is granted once lives end that have locks on all resources.
+fn ended(alloc: Global, space: &mut Lockspace, lives: &[Who]) -> Result<String, Fail> {
+    let granted = space.cancel_all(alloc, lives)?;
+    grants_text(alloc, granted.as_slice())
+}
 
 #[test]
 fn lives_end_on_all_resources(rt: HostRuntime) -> Result<(), Fail> {
     let alloc = rt.alloc();
     for (lives, grants, stays) in &ENDS {
         let mut space = answered(&rt, alloc, &WRITERS)?;
-        assert_eq!(rt; space.cancel_all(alloc, lives)?.as_slice(), *grants);
+        assert_eq!(rt; ended(alloc, &mut space, lives)?.as_str(), *grants);
         assert_eq!(rt; space.is_granted(Cookie(7)), *stays);
     }
     Ok(())
