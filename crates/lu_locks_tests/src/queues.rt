@@ -95,10 +95,10 @@ fn restored(
     requires { IsOrdered ask.policy }
 {
     let waiting = queue.waiting_locks(alloc)?;
-    if !waiting.is_empty() {
-        return Err(Fail::from("a lock waits"));
+    match waiting.as_slice() {
+        [] => Ok(queue.restore(alloc, Cookie(cookie), ask)),
+        _ => Err(Fail::from("a lock waits")),
     }
-    Ok(queue.restore(alloc, Cookie(cookie), ask))
 }
 
 /// What a call answers.
