@@ -7,4 +7,6 @@
 #[cfg(test)]
 mod services;
 #[cfg(test)]
+mod texts;
+#[cfg(test)]
 mod trees;
