@@ -1,4 +1,4 @@
-//! Worked calls of the vocabulary and of the language of scenarios.
+//! Worked calls of the vocabulary, of the language of scenarios, and of messages on their way.
 //!
 //! The tests stand in a crate of their own, since a crate with tests is proved twice.
 #![tactic(auto)]
@@ -7,6 +7,8 @@
 mod inputs;
 #[cfg(test)]
 mod layouts;
+#[cfg(test)]
+mod links;
 #[cfg(test)]
 mod locks;
 #[cfg(test)]
@@ -19,3 +21,5 @@ mod storms;
 mod texts;
 #[cfg(test)]
 mod traces;
+#[cfg(test)]
+mod wires;

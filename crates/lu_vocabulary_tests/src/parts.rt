@@ -8,14 +8,17 @@ fn bytes(stripe: u16, first: u64, last: u64) -> Part {
     Part::Bytes(Fid(7), stripe, Extent { first, last })
 }
 
+/// A stripe, a first and a last offset, and whether these bytes meet those of the first page of stripe 0.
+const MEETINGS: [(u16, u64, u64, bool); 3] = [
+    (0, 4095, 8191, true),
+    (0, 4096, 8191, false),
+    (1, 0, 4095, false),
+];
+
 #[test]
 fn bytes_meet_where_ranges_of_one_object_share_an_offset(rt: HostRuntime) {
     let held = bytes(0, 0, 4095);
-    for (stripe, first, last, meet) in [
-        (0, 4095, 8191, true),
-        (0, 4096, 8191, false),
-        (1, 0, 4095, false),
-    ] {
+    for (stripe, first, last, meet) in MEETINGS {
         assert!(rt; meets(&held, &bytes(stripe, first, last)) == meet);
     }
 }

@@ -3,8 +3,6 @@
 //! What a wire shows of a run so far is defined in `specs/Wires`.
 #![tactic(auto)]
 
-#[cfg(test)]
-mod tests;
 mod wires;
 
 pub use wires::Wire;
