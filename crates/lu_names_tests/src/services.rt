@@ -91,19 +91,39 @@ const PRINTS: [Print; 3] = [
     ),
 ];
 
+/// The operation touches these parts.
+fn touches(alloc: Global, mdt: &Mdt, op: &Op, wanted: &str) -> Result<bool, Fail>
+    requires { IsNamed op.now }
+{
+    let parts = mdt.touches(alloc, ASKER, op)?;
+    let text = parts_text(alloc, parts.as_slice())?;
+    Ok(text.as_slice() == wanted.as_bytes())
+}
+
+/// It writes these.
+fn writes(alloc: Global, mdt: &Mdt, op: &Op, wanted: &str) -> Result<bool, Fail>
+    requires { IsNamed op.now }
+{
+    let parts = mdt.writes(alloc, ASKER, op)?;
+    let text = parts_text(alloc, parts.as_slice())?;
+    Ok(text.as_slice() == wanted.as_bytes())
+}
+
+/// It grants these locks.
+fn grants(alloc: Global, mdt: &Mdt, op: &Op, wanted: &str) -> Result<bool, Fail>
+    requires { IsNamed op.now }
+{
+    let wants = mdt.grants(alloc, ASKER, op)?;
+    let text = wants_text(alloc, wants.as_slice())?;
+    Ok(text.as_slice() == wanted.as_bytes())
+}
+
 /// The operation touches, writes and grants this, and makes a transaction or doesn't.
 fn prints(rt: &impl Abort, alloc: Global, mdt: &Mdt, print: Print) -> Result<(), Fail> {
     let op = named(alloc, print.0)?;
-    let touched = mdt.touches(alloc, ASKER, &op)?;
-    let text = parts_text(alloc, touched.as_slice())?;
-    assert_eq!(rt; text.as_slice(), print.1.as_bytes(), "{}", print.0);
-    let written = mdt.writes(alloc, ASKER, &op)?;
-    let text = parts_text(alloc, written.as_slice())?;
-    assert_eq!(rt; text.as_slice(), print.2.as_bytes(), "{}", print.0);
-    let granted = mdt.grants(alloc, ASKER, &op)?;
-    let text = wants_text(alloc, granted.as_slice())?;
-    assert_eq!(rt; text.as_slice(), print.3.as_bytes(), "{}", print.0);
-    assert_eq!(rt; mdt.changes(ASKER, &op), print.4, "{}", print.0);
+    let parts = touches(alloc, mdt, &op, print.1)? && writes(alloc, mdt, &op, print.2)?;
+    let same = parts && grants(alloc, mdt, &op, print.3)? && mdt.changes(ASKER, &op) == print.4;
+    assert!(rt; same, "{}", print.0);
     Ok(())
 }
 

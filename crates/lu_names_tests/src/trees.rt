@@ -4,6 +4,7 @@ ghost use Rattle.std.specs.Prelude.{◌<◌, ◌≤◌};
 
 use crate::texts::{ASKER, BOOT, Print, Row, answer, op, parts_text, wants_text};
 use lu_base::Txn;
+use lu_msg::Op;
 use lu_tree::Tree;
 use std::alloc::Global;
 use std::process::Abort;
@@ -302,19 +303,33 @@ const RENAME_PRINTS: [Print; 9] = [
     ("size 0.1/0", "", "", "", false),
 ];
 
+/// The operation touches these parts.
+fn touches(alloc: Global, tree: &Tree, op: &Op, wanted: &str) -> Result<bool, Fail> {
+    let parts = tree.touches(alloc, ASKER, op)?;
+    let text = parts_text(alloc, parts.as_slice())?;
+    Ok(text.as_slice() == wanted.as_bytes())
+}
+
+/// It writes these.
+fn writes(alloc: Global, tree: &Tree, op: &Op, wanted: &str) -> Result<bool, Fail> {
+    let parts = tree.writes(alloc, ASKER, op)?;
+    let text = parts_text(alloc, parts.as_slice())?;
+    Ok(text.as_slice() == wanted.as_bytes())
+}
+
+/// It grants these locks.
+fn grants(alloc: Global, tree: &Tree, op: &Op, wanted: &str) -> Result<bool, Fail> {
+    let wants = tree.grants(alloc, ASKER, op)?;
+    let text = wants_text(alloc, wants.as_slice())?;
+    Ok(text.as_slice() == wanted.as_bytes())
+}
+
 /// The operation touches, writes and grants this, and makes a transaction or doesn't.
 fn prints(rt: &impl Abort, alloc: Global, tree: &Tree, print: Print) -> Result<(), Fail> {
     let op = op(alloc, print.0)?;
-    let touched = tree.touches(alloc, ASKER, &op)?;
-    let text = parts_text(alloc, touched.as_slice())?;
-    assert_eq!(rt; text.as_slice(), print.1.as_bytes(), "{}", print.0);
-    let written = tree.writes(alloc, ASKER, &op)?;
-    let text = parts_text(alloc, written.as_slice())?;
-    assert_eq!(rt; text.as_slice(), print.2.as_bytes(), "{}", print.0);
-    let granted = tree.grants(alloc, ASKER, &op)?;
-    let text = wants_text(alloc, granted.as_slice())?;
-    assert_eq!(rt; text.as_slice(), print.3.as_bytes(), "{}", print.0);
-    assert_eq!(rt; tree.changes(ASKER, &op), print.4, "{}", print.0);
+    let parts = touches(alloc, tree, &op, print.1)? && writes(alloc, tree, &op, print.2)?;
+    let same = parts && grants(alloc, tree, &op, print.3)? && tree.changes(ASKER, &op) == print.4;
+    assert!(rt; same, "{}", print.0);
     Ok(())
 }
 
