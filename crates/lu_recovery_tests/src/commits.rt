@@ -1,162 +1,80 @@
-//! What a journal commits, and what it is over the batches of a disk.
+//! What a journal commits, and what it is over the batches of a disk, played by texts. Beside the lines of a journal
+//! (`steps`) there are:
+//! - `stores PLACE|none`: the batch up to the uncommitted transaction at this place, or up to the last committed one,
+//!   goes to the disk, and is committed in the journal;
+//! - `boot BOOT`, `counts COUNT..`, `replies LIFE.TAG.XID..`, `added LIFE..`, `removed LIFE..`: what that batch holds;
+//! - `reboot`: the journal is that of boot 2 over the disk;
+//! - `begins BOOT`: with nothing to commit the journal's batch begins this boot.
 
-ghost use Rattle.std.specs.Prelude.{◌≡◌, ◌*◌, ◌^◌, ◌<◌, ◌≤◌, true, All};
+ghost use Rattle.std.specs.Prelude.{◌≡◌, ◌*◌, ◌^◌, ◌<◌, ◌≤◌, true, All, IfOk};
 ghost use Rattle.lu_txn.specs.Loads.{AreBelow};
 
-use crate::steps::{A, B, C, D, Step, are_looked_up, first, have_lives, perform_all};
-use lu_base::{Memory, Numbers, Txn, Who};
+use crate::steps::Book;
+use crate::texts::{Fault, Player, is_number, number, play};
+use crate::values::{are_named, is_count, is_named};
+use lu_base::{Memory, Numbers, Txn};
 use lu_disk::{Disk, MemoryDisk};
 use lu_msg::{Batch, KeptReply, Transaction};
 use lu_txn::Journal;
 use std::alloc::Global;
-use std::process::Abort;
 use std::test::Fail;
 
-/// What is done since the last commit, up to which place all is committed then (none where nothing is), and what the
-/// batch must hold: the boot, the counts of its transactions, their replies by life, tag and number, and the lives whose
-/// slots came and went.
-#[derive(Clone, Copy)]
-struct Row {
-    steps: &'static [Step],
-    place: Option<usize>,
-    boot: u32,
-    counts: &'static [u64],
-    replies: &'static [(Who, u8, u64)],
-    added: &'static [Who],
-    removed: &'static [Who],
-}
-
-/// The number up to which all up to this place is committed; the last committed one where there is no such place.
-fn number_at(journal: &Journal, place: Option<usize>) -> Txn
-    ensures order { journal.now.committed ≤ result.0 }
-    ensures given { result.0 ≤ journal.now.newest }
+/// The number of the uncommitted transaction at the place that a word names; of `none` the last committed one.
+fn number_at(journal: &Journal, place: &str) -> Result<Txn, Fault>
+    ensures order { IfOk result (λ to. journal.now.committed ≤ to.0) }
+    ensures given { IfOk result (λ to. to.0 ≤ journal.now.newest) }
 {
-    match journal.uncommitted(place.unwrap_or(usize::MAX)) {
-        Some(number) => number,
-        None => journal.last_committed(),
+    if place == "none" {
+        return Ok(journal.last_committed());
+    }
+    match journal.uncommitted(number::<usize>(place)?) {
+        Some(number) => Ok(number),
+        None => Err(Fault),
     }
 }
 
-/// Whether the transactions of a batch, all of boot 1, have these counts.
-fn have_counts(transactions: &[Transaction], counts: &[u64]) -> bool {
+/// Whether the transactions of a batch have these counts of boot 1.
+fn have_counts(transactions: &[Transaction], counts: &[&str]) -> bool {
     let mut pairs = transactions.iter().zip(counts);
-    transactions.len() == counts.len()
-        && pairs.all(|(made, count)| made.txn.0 % 4_294_967_296 == *count)
+    transactions.len() == counts.len() && pairs.all(|(made, count)| is_count(count, made.txn.0))
 }
 
 /// Whether a reply is kept for this life, tag and number.
-fn is_kept(kept: &KeptReply, wanted: (Who, u8, u64)) -> bool {
-    let (who, tag, xid) = wanted;
-    kept.who == who && kept.tag == tag && kept.reply.xid.0 == xid
+fn is_kept(kept: &KeptReply, wanted: &str) -> bool {
+    let Some((name, numbers)) = wanted.split_once('.') else {
+        return false;
+    };
+    let Some((tag, xid)) = numbers.split_once('.') else {
+        return false;
+    };
+    is_named(name, kept.who)
+        && is_number(tag, u64::from(kept.tag))
+        && is_number(xid, kept.reply.xid.0)
 }
 
 /// Whether replies are kept for these lives, tags and numbers.
-fn are_kept(replies: &[KeptReply], wanted: &[(Who, u8, u64)]) -> bool {
+fn are_kept(replies: &[KeptReply], wanted: &[&str]) -> bool {
     let mut pairs = replies.iter().zip(wanted);
-    replies.len() == wanted.len() && pairs.all(|(kept, wanted)| is_kept(kept, *wanted))
+    replies.len() == wanted.len() && pairs.all(|(kept, wanted)| is_kept(kept, wanted))
 }
 
-/// The batch holds what its row says.
-fn is_right(rt: &impl Abort, batch: &Batch, row: &Row) {
-    assert!(rt; batch.boot == row.boot);
-    assert!(rt; have_counts(batch.transactions.as_slice(), row.counts));
-    assert!(rt; are_kept(batch.replies.as_slice(), row.replies));
-    assert!(rt; batch.added.as_slice() == row.added);
-    assert!(rt; batch.removed.as_slice() == row.removed);
-}
-
-/// The batch of all up to this number goes to the disk, and holds what its row says.
-fn stores(
-    rt: &impl Abort,
-    disk: &mut MemoryDisk,
-    journal: &Journal,
-    to: Txn,
-    row: &Row,
-) -> Result<(), Fail> {
-    let batch = journal.batch(to)?;
-    is_right(rt, &batch, row);
-    disk.commit(&batch)?;
-    Ok(())
-}
-
-/// What the row says is done, and committed.
-fn commits(
-    rt: &impl Abort,
-    alloc: Global,
-    disk: &mut MemoryDisk,
-    journal: &mut Journal,
-    row: &Row,
-) -> Result<(), Fail> {
-    perform_all(alloc, journal, row.steps)?;
-    let to = number_at(journal, row.place);
-    stores(rt, disk, journal, to, row)?;
-    journal.committed(to);
-    assert!(rt; journal.last_committed() == to);
-    Ok(())
-}
-
-/// The disk and the journal after these rows, of which each batch holds what its row says.
-fn after_rows(rt: &impl Abort, alloc: Global, rows: &[Row]) -> Result<(MemoryDisk, Journal), Fail> {
-    let mut disk = MemoryDisk::new(alloc, Numbers::new(alloc));
-    let mut journal = Journal::start(alloc, &[B, A])?;
-    for row in rows {
-        commits(rt, alloc, &mut disk, &mut journal, row)?;
-    }
-    Ok((disk, journal))
-}
-
-/// The journal of the next boot begins above what was committed, with nothing to commit but its boot.
-fn begins(rt: &impl Abort, journal: &Journal) -> Result<(), Fail> {
-    assert!(rt; journal.last_committed() == Txn(first(8)));
-    assert!(rt; journal.next()? == Txn(8_589_934_593));
-    assert!(rt; journal.uncommitted(0).is_none());
-    assert!(rt; journal.batch(journal.last_committed())?.boot == 2);
-    Ok(())
-}
-
-/// The journal of the next boot has what was committed.
-fn has_slots(rt: &impl Abort, journal: &Journal) {
-    have_lives(rt, journal, &[A, C]);
-    let requests = [
-        (A, 0, 1, "old"),
-        (A, 0, 2, "again"),
-        (A, 0, 3, "new"),
-        (A, 1, 9, "again"),
-        (A, 1, 10, "new"),
-        (A, 2, 1, "new"),
-        (A, 3, 9, "again"),
-        (B, 0, 1, "no slot"),
-        (C, 0, 1, "again"),
-        (D, 0, 1, "no slot"),
-    ];
-    are_looked_up(rt, journal, requests.as_slice());
-}
-
-/// A life of this client.
-fn life(client: u16, life: u32) -> Who {
-    Who { client, life }
-}
-
-/// Whether these lives are over.
-fn are_over(rt: &impl Abort, journal: &Journal, lives: &[(Who, bool)]) {
-    for (who, over) in lives {
-        assert!(rt; journal.is_over(*who) == *over);
+/// Whether a batch holds what a line says.
+fn holds(batch: &Batch, kind: &str, words: &[&str]) -> Result<bool, Fault> {
+    match kind {
+        "counts" => Ok(have_counts(batch.transactions.as_slice(), words)),
+        "replies" => Ok(are_kept(batch.replies.as_slice(), words)),
+        "added" => Ok(are_named(words, batch.added.as_slice())),
+        "removed" => Ok(are_named(words, batch.removed.as_slice())),
+        _ => Err(Fault),
     }
 }
 
-/// The lives that went are known.
-fn lives_are_over(rt: &impl Abort, journal: &Journal) {
-    let lives = [
-        (life(0, 1), false),
-        (life(1, 0), true),
-        (life(1, 1), true),
-        (life(1, 2), false),
-        (life(2, 6), true),
-        (life(2, 7), true),
-        (life(2, 8), false),
-        (life(3, 1), false),
-    ];
-    are_over(rt, journal, lives.as_slice());
+/// Whether a batch is of the boot that the words name.
+fn is_of(batch: &Batch, words: &[&str]) -> Result<bool, Fault> {
+    let [boot] = words else {
+        return Err(Fault);
+    };
+    Ok(is_number(boot, u64::from(batch.boot)))
 }
 
 /// Whether these transactions are of boots below this one.
@@ -177,115 +95,187 @@ fn are_below(batches: &[Batch], boot: u32) -> bool
 }
 
 /// The journal of boot 2 over a disk.
-fn booted(alloc: Global, disk: &mut MemoryDisk) -> Result<Journal, Fail> {
+fn booted(alloc: Global, disk: &mut MemoryDisk) -> Result<Journal, Fault> {
     let batches = disk.load()?;
     if !are_below(batches.as_slice(), 2) {
-        return Err(Fail::from(Memory));
+        return Err(Fault);
     }
     Ok(Journal::new(alloc, &batches, 2)?)
 }
 
-/// The next boot finds on this disk what was committed.
-fn next_boot_is_right(rt: &impl Abort, alloc: Global, mut disk: MemoryDisk) -> Result<(), Fail> {
-    let journal = booted(alloc, &mut disk)?;
-    begins(rt, &journal)?;
-    has_slots(rt, &journal);
-    lives_are_over(rt, &journal);
-    Ok(())
+/// A journal, its disk and the last batch that went there.
+#[derive(Drop)]
+struct Store {
+    book: Book,
+    disk: MemoryDisk,
+    batch: Option<Batch>,
 }
+
+impl Store {
+    fn stores(&mut self, words: &[&str]) -> Result<bool, Fault> {
+        let [place] = words else {
+            return Err(Fault);
+        };
+        let to = number_at(&self.book.journal, place)?;
+        let batch = self.book.journal.batch(to)?;
+        self.disk.commit(&batch)?;
+        self.book.journal.committed(to);
+        self.batch = Some(batch);
+        Ok(self.book.journal.last_committed() == to)
+    }
+
+    fn reboot(&mut self) -> Result<bool, Fault> {
+        self.book.journal = booted(self.book.alloc, &mut self.disk)?;
+        Ok(true)
+    }
+
+    fn begins(&self, words: &[&str]) -> Result<bool, Fault> {
+        let batch = self.book.journal.batch(self.book.journal.last_committed())?;
+        is_of(&batch, words)
+    }
+
+    /// Whether the last batch holds what a line says.
+    fn has(&self, kind: &str, words: &[&str]) -> Result<bool, Fault> {
+        match &self.batch {
+            Some(batch) if kind == "boot" => is_of(batch, words),
+            Some(batch) => holds(batch, kind, words),
+            None => Err(Fault),
+        }
+    }
+}
+
+impl Player for Store {
+    fn step(&mut self, kind: &str, words: &[&str]) -> Result<bool, Fault> {
+        match kind {
+            "stores" => self.stores(words),
+            "boot" | "counts" | "replies" | "added" | "removed" => self.has(kind, words),
+            "reboot" => self.reboot(),
+            "begins" => self.begins(words),
+            _ => self.book.step(kind, words),
+        }
+    }
+
+    fn is_done(&self) -> bool {
+        true
+    }
+}
+
+fn played(alloc: Global, text: &str) -> Result<Result<(), usize>, Memory> {
+    let book = Book::new(alloc)?;
+    let disk = MemoryDisk::new(alloc, Numbers::new(alloc));
+    let batch = None;
+    Ok(play(alloc, &mut Store { book, disk, batch }, text))
+}
+
+const BATCHES: &str = "start B A
+stores none
+boot 1
+counts
+replies
+added A B
+removed
+# two of three transactions
+makes A 0 1 a
+makes B 0 1 b
+makes A 0 2 c
+reads A 0 3
+stores 1
+boot 0
+counts 1 2
+replies A.0.1 B.0.1
+added
+removed
+# the third; the reply that was kept later isn't one to it
+stores 0
+boot 0
+counts 3
+replies A.0.2
+added
+removed
+# lives
+drops B
+adds C
+adds A
+drops D
+stores none
+boot 0
+counts
+replies
+added C
+removed B
+# a life that comes and goes
+adds D
+drops D
+stores none
+boot 0
+counts
+replies
+added
+removed D
+# one reply a life and a tag, the last
+makes C 0 1 d
+makes A 3 9 e
+makes A 1 7 f
+makes A 1 8 g
+stores 3
+boot 0
+counts 4 5 6 7
+replies A.1.8 A.3.9 C.0.1
+added
+removed
+# nothing
+stores none
+boot 0
+counts
+replies
+added
+removed
+# one of three; the others are lost
+makes A 1 9 h
+makes A 1 10 i
+makes A 2 1 j
+stores 0
+boot 0
+counts 8
+replies A.1.9
+added
+removed
+over 0 1 no
+over 1 0 yes
+over 1 1 yes
+over 1 2 no
+over 2 6 yes
+over 2 7 yes
+over 2 8 no
+over 3 1 no
+reboot
+last 1 8
+next 2 1
+waits
+begins 2
+lives A C
+looks A 0 1 old
+looks A 0 2 again
+looks A 0 3 new
+looks A 1 9 again
+looks A 1 10 new
+looks A 2 1 new
+looks A 3 9 again
+looks B 0 1 unknown
+looks C 0 1 again
+looks D 0 1 unknown
+over 0 1 no
+over 1 0 yes
+over 1 1 yes
+over 1 2 no
+over 2 6 yes
+over 2 7 yes
+over 2 8 no
+over 3 1 no
+";
 
 #[test]
 fn batches_hold_what_a_boot_finds(rt: HostRuntime) -> Result<(), Fail> {
-    let alloc = rt.alloc();
-    let rows = [
-        Row {
-            steps: &[],
-            place: None,
-            boot: 1,
-            counts: &[],
-            replies: &[],
-            added: &[A, B],
-            removed: &[],
-        },
-        Row {
-            steps: &[
-                Step::Makes(A, 0, 1, b'a'),
-                Step::Makes(B, 0, 1, b'b'),
-                Step::Makes(A, 0, 2, b'c'),
-                Step::Reads(A, 0, 3),
-            ],
-            place: Some(1),
-            boot: 0,
-            counts: &[1, 2],
-            replies: &[(A, 0, 1), (B, 0, 1)],
-            added: &[],
-            removed: &[],
-        },
-        Row {
-            steps: &[],
-            place: Some(0),
-            boot: 0,
-            counts: &[3],
-            replies: &[(A, 0, 2)],
-            added: &[],
-            removed: &[],
-        },
-        Row {
-            steps: &[Step::Drops(B), Step::Adds(C), Step::Adds(A), Step::Drops(D)],
-            place: None,
-            boot: 0,
-            counts: &[],
-            replies: &[],
-            added: &[C],
-            removed: &[B],
-        },
-        Row {
-            steps: &[Step::Adds(D), Step::Drops(D)],
-            place: None,
-            boot: 0,
-            counts: &[],
-            replies: &[],
-            added: &[],
-            removed: &[D],
-        },
-        Row {
-            steps: &[
-                Step::Makes(C, 0, 1, b'd'),
-                Step::Makes(A, 3, 9, b'e'),
-                Step::Makes(A, 1, 7, b'f'),
-                Step::Makes(A, 1, 8, b'g'),
-            ],
-            place: Some(3),
-            boot: 0,
-            counts: &[4, 5, 6, 7],
-            replies: &[(A, 1, 8), (A, 3, 9), (C, 0, 1)],
-            added: &[],
-            removed: &[],
-        },
-        Row {
-            steps: &[],
-            place: None,
-            boot: 0,
-            counts: &[],
-            replies: &[],
-            added: &[],
-            removed: &[],
-        },
-        Row {
-            steps: &[
-                Step::Makes(A, 1, 9, b'h'),
-                Step::Makes(A, 1, 10, b'i'),
-                Step::Makes(A, 2, 1, b'j'),
-            ],
-            place: Some(0),
-            boot: 0,
-            counts: &[8],
-            replies: &[(A, 1, 9)],
-            added: &[],
-            removed: &[],
-        },
-    ];
-    let (disk, before) = after_rows(&rt, alloc, rows.as_slice())?;
-    lives_are_over(&rt, &before);
-    next_boot_is_right(&rt, alloc, disk)
+    assert_eq!(rt; played(rt.alloc(), BATCHES)?, Ok(()));
+    Ok(())
 }

@@ -1,4 +1,4 @@
-//! Disks, journals, imports and what recovery keeps and decides: rows of calls, each with what it must answer.
+//! Disks, journals, imports and what recovery keeps and decides: texts of calls, each with what it must answer.
 //!
 //! The tests stand in a crate of their own, since a crate with tests is proved twice.
 #![tactic(auto)]
@@ -15,5 +15,9 @@ mod journals;
 mod replays;
 #[cfg(test)]
 mod steps;
+#[cfg(test)]
+mod texts;
+#[cfg(test)]
+mod values;
 #[cfg(test)]
 mod windows;

@@ -1,116 +1,127 @@
-//! Replays by number.
+//! Replays by number, played by texts, whose lines are:
+//! - `put CLIENT COUNT new|known SEEN..`: the first life of a client hands in the replay of this count of boot 1, which
+//!   has seen those of the other counts;
+//! - `count CLIENT NUMBER`: so many replays of the client are there;
+//! - `take CLIENT COUNT SEEN..`: the least is this one, and it is taken out as it was put;
+//! - `empty`: there is none to take.
 
-use lu_base::{Memory, Numbers, Path, Txn, Who, Xid};
+use crate::texts::{Fault, Player, number, play};
+use crate::values::{first, first_life, numbers};
+use lu_base::{Path, Txn, Who, Xid};
 use lu_msg::Op;
 use lu_replay::{Replay, Replays};
 use std::alloc::Global;
-use std::process::Abort;
-use std::test::Fail;
 
-/// The number of boot 1 with this count.
-pub fn number(count: u32) -> u64 {
-    4_294_967_296 + count as u64
-}
-
-/// The first life of a client.
-pub fn life(client: u16) -> Who {
-    Who { client, life: 1 }
-}
-
-/// These numbers of boot 1.
-pub fn numbers(alloc: Global, counts: &[u32]) -> Result<Numbers, Memory> {
-    let mut numbers = Numbers::new(alloc);
-    for count in counts {
-        numbers.push(number(*count))?;
-    }
-    Ok(numbers)
-}
-
-/// A replay of this number of boot 1 that has seen others, with one of the eight tags.
-pub fn replay(alloc: Global, count: u32, seen: &[u32]) -> Result<Replay, Memory> {
+/// A replay of this count of boot 1 that has seen others, with one of the eight tags.
+pub fn replay(alloc: Global, count: &str, seen: &[&str]) -> Result<Replay, Fault> {
+    let count = number::<u32>(count)?;
+    let seen = numbers(alloc, seen)?;
     Ok(Replay {
-        number: Txn(number(count)),
-        xid: Xid(count as u64),
+        number: Txn(first(count)),
+        xid: Xid(u64::from(count)),
         tag: (count % 8) as u8,
-        seen: numbers(alloc, seen)?,
+        seen,
         op: Op::Stat(Path::new(alloc)),
     })
 }
 
-/// Replays of these clients and counts are put, each new or not.
-fn puts(
-    rt: &impl Abort,
+/// The replays that were put.
+#[derive(Drop)]
+struct Held {
     alloc: Global,
-    replays: &mut Replays,
-    rows: &[(u16, u32, bool)],
-) -> Result<(), Memory> {
-    for (client, count, new) in rows {
-        let put = replays.put(life(*client), replay(alloc, *count, &[])?)?;
-        assert!(rt; put == *new);
-    }
-    Ok(())
+    replays: Replays,
 }
 
-/// So many replays of these clients are there.
-fn counts(rt: &impl Abort, replays: &Replays, rows: &[(u16, usize)]) {
-    for (client, count) in rows {
-        assert!(rt; replays.count(life(*client)) == *count);
+impl Held {
+    fn put(&mut self, words: &[&str]) -> Result<bool, Fault> {
+        let [client, count, answer, seen @ ..] = words else {
+            return Err(Fault);
+        };
+        let replay = replay(self.alloc, count, seen)?;
+        let new = self.replays.put(first_life(client)?, replay)?;
+        Ok(*answer == if new { "new" } else { "known" })
+    }
+
+    fn count(&self, words: &[&str]) -> Result<bool, Fault> {
+        let [client, count] = words else {
+            return Err(Fault);
+        };
+        Ok(self.replays.count(first_life(client)?) == number::<usize>(count)?)
+    }
+
+    /// Whether the least replay is of this life and has this number.
+    fn is_least(&self, who: Who, number: Txn) -> bool {
+        match self.replays.next_least() {
+            Some((found, least)) => found == who && least == number,
+            None => false,
+        }
+    }
+
+    fn take(&mut self, words: &[&str]) -> Result<bool, Fault> {
+        let [client, count, seen @ ..] = words else {
+            return Err(Fault);
+        };
+        let who = first_life(client)?;
+        let wanted = replay(self.alloc, count, seen)?;
+        let named = self.is_least(who, wanted.number);
+        match self.replays.take_least() {
+            Some((found, replay)) => Ok(named && found == who && replay == wanted),
+            None => Ok(false),
+        }
+    }
+
+    fn is_empty(&mut self) -> bool {
+        self.replays.next_least().is_none() && self.replays.take_least().is_none()
     }
 }
 
-/// Whether a replay is of this client and count.
-fn is_of(found: Option<(Who, Txn)>, client: u16, count: u32) -> bool {
-    match found {
-        Some((who, txn)) => who == life(client) && txn.0 == number(count),
-        None => false,
+impl Player for Held {
+    fn step(&mut self, kind: &str, words: &[&str]) -> Result<bool, Fault> {
+        match kind {
+            "put" => self.put(words),
+            "count" => self.count(words),
+            "take" => self.take(words),
+            "empty" => Ok(self.is_empty()),
+            _ => Err(Fault),
+        }
+    }
+
+    fn is_done(&self) -> bool {
+        true
     }
 }
 
-/// The life and the number of the least replay, which is taken.
-fn taken(replays: &mut Replays) -> Option<(Who, Txn)> {
-    match replays.take_least() {
-        Some((who, replay)) => Some((who, replay.number)),
-        None => None,
-    }
+fn played(alloc: Global, text: &str) -> Result<(), usize> {
+    let replays = Replays::new(alloc);
+    play(alloc, &mut Held { alloc, replays }, text)
 }
 
-/// Replays of these clients and counts are taken one after another, each the least.
-fn takes(rt: &impl Abort, replays: &mut Replays, rows: &[(u16, u32)]) {
-    for (client, count) in rows {
-        assert!(rt; is_of(replays.next_least(), *client, *count));
-        assert!(rt; is_of(taken(replays), *client, *count));
-    }
-}
+const RISING: &str = "put 0 2 new
+put 0 2 known
+put 1 1 new
+put 1 2 new
+put 0 7 new
+count 0 2
+count 1 2
+count 2 0
+take 1 1
+take 0 2
+take 1 2
+take 0 7
+empty
+count 0 0
+";
 
 #[test]
-fn replays_are_taken_in_rising_number(rt: HostRuntime) -> Result<(), Fail> {
-    let alloc = rt.alloc();
-    let mut replays = Replays::new(alloc);
-    let puts_of = [
-        (0, 2, true),
-        (0, 2, false),
-        (1, 1, true),
-        (1, 2, true),
-        (0, 7, true),
-    ];
-    puts(&rt, alloc, &mut replays, puts_of.as_slice())?;
-    counts(&rt, &replays, &[(0, 2), (1, 2), (2, 0)]);
-    takes(&rt, &mut replays, &[(1, 1), (0, 2), (1, 2), (0, 7)]);
-    assert!(rt; replays.next_least().is_none());
-    assert!(rt; taken(&mut replays).is_none());
-    counts(&rt, &replays, &[(0, 0)]);
-    Ok(())
+fn replays_are_taken_in_rising_number(rt: HostRuntime) {
+    assert_eq!(rt; played(rt.alloc(), RISING), Ok(()));
 }
 
+const WHOLE: &str = "put 3 9 new 4 5
+take 3 9 4 5
+";
+
 #[test]
-fn a_replay_comes_out_as_it_came(rt: HostRuntime) -> Result<(), Fail> {
-    let alloc = rt.alloc();
-    let mut replays = Replays::new(alloc);
-    replays.put(life(3), replay(alloc, 9, &[4, 5])?)?;
-    let Some((who, found)) = replays.take_least() else {
-        return Err(Fail::from(Memory));
-    };
-    assert!(rt; who == life(3));
-    assert!(rt; found == replay(alloc, 9, &[4, 5])?);
-    Ok(())
+fn a_replay_comes_out_as_it_came(rt: HostRuntime) {
+    assert_eq!(rt; played(rt.alloc(), WHOLE), Ok(()));
 }

@@ -1,41 +1,34 @@
-//! What is done to a journal, step by step.
+//! A journal, played by the lines of texts, in which lives have the names A to D and numbers are counts of boot 1:
+//! - `start LIFE..`: a journal of boot 1 starts with slots for these lives;
+//! - `makes LIFE TAG XID LETTER`: a request makes a directory of this name in the root;
+//! - `writes LIFE TAG XID`: a request makes a directory, and writes the parts that are touched;
+//! - `reads LIFE TAG XID`: a request is answered without a transaction;
+//! - `adds LIFE`, `drops LIFE`: the life gets a slot, or loses it;
+//! - `commits PLACE`: the uncommitted transaction at this place and those before it are committed;
+//! - `touch PART`: a part is touched (below);
+//! - `sees COUNT..`: what touches the touched parts has seen just these transactions; no part is touched any more;
+//! - `next BOOT COUNT`, `last BOOT COUNT`: the next number, and the last committed one;
+//! - `waits COUNT..`: just these transactions are uncommitted, in this order;
+//! - `looks LIFE TAG XID new|again|old|unknown`: what a request is when it is looked up;
+//! - `whole LIFE TAG XID`: the kept reply comes back whole;
+//! - `lives LIFE..`: just these lives have slots, in this order;
+//! - `refuses LIFE`: neither a reply nor a transaction of the life is taken, since it has no slot;
+//! - `over CLIENT LIFE yes|no`: whether a life is over.
+//!
+//! A part is `name FILE LETTER`, `list FILE`, `attr FILE`, `layout FILE`, `parent FILE` or
+//! `bytes FILE STRIPE FIRST LAST`.
 
-use lu_base::{At, Bytes, Fid, Locks, Memory, Name, Node, Numbers, Path, Stamp, Txn, Who, Xid};
+use crate::texts::{Fault, Player, is_number, is_yes, number};
+use crate::values::{are_counts, first, is_count, is_named, life, lives, named};
+use lu_base::{
+    At, Bytes, Extent, Fid, Locks, Memory, Name, Node, Numbers, Path, Stamp, Txn, Who, Xid,
+};
 use lu_msg::{Answer, Op, Reply};
 use lu_part::{Part, Parts};
 use lu_txn::{Journal, Seen, TxnError};
 use std::alloc::Global;
-use std::process::Abort;
-use std::test::Fail;
 
-pub const A: Who = Who { client: 0, life: 1 };
-
-pub const B: Who = Who { client: 1, life: 1 };
-
-pub const C: Who = Who { client: 1, life: 2 };
-
-pub const D: Who = Who { client: 2, life: 7 };
-
-/// The number of boot 1 and this count.
-pub const fn first(count: u64) -> u64 {
-    4_294_967_296 + count % 4_294_967_296
-}
-
-/// What is done to a journal.
-#[derive(Clone, Copy, Debug)]
-pub enum Step {
-    /// A request of this life, tag and number makes a directory of this name in the root.
-    Makes(Who, u8, u64, u8),
-    /// A request of this life, tag and number is answered without a transaction.
-    Reads(Who, u8, u64),
-    /// The life gets a slot.
-    Adds(Who),
-    /// The life loses its slot.
-    Drops(Who),
-    /// The transaction at this place and those before it are committed.
-    Commits(usize),
-}
-
+/// A reply of boot 1.
 pub fn reply(alloc: Global, who: Who, xid: u64, txn: Txn) -> Reply {
     Reply {
         who,
@@ -53,143 +46,300 @@ pub fn reply(alloc: Global, who: Who, xid: u64, txn: Txn) -> Reply {
     }
 }
 
-pub fn name(alloc: Global, text: &[u8]) -> Result<Name, Memory> {
-    Bytes::from_slice(alloc, text)
+fn name(alloc: Global, letter: &str) -> Result<Name, Memory> {
+    Bytes::from_slice(alloc, letter.as_bytes())
 }
 
-pub fn one(alloc: Global, part: Part) -> Result<Parts, Memory> {
-    let mut parts = Parts::new(alloc);
-    parts.push(part)?;
-    Ok(parts)
-}
-
-pub fn mkdir(alloc: Global, text: &[u8]) -> Result<Op, Memory> {
+pub fn mkdir(alloc: Global, letter: &str) -> Result<Op, Memory> {
     let mut path = Path::new(alloc);
-    path.push(name(alloc, text)?)?;
+    path.push(name(alloc, letter)?)?;
     Ok(Op::Mkdir(path))
 }
 
-/// A request of this life, tag and number makes a directory of this name, and writes these parts.
-pub fn append(
+/// A request's life, tag and number.
+fn request(who: &str, tag: &str, xid: &str) -> Result<(Who, u8, u64), Fault> {
+    let who = named(who)?;
+    let tag = number::<u8>(tag)?;
+    Ok((who, tag % 8, number::<u64>(xid)?))
+}
+
+/// A request makes a directory of this name, and writes these parts.
+fn append(
     alloc: Global,
     journal: &mut Journal,
     request: (Who, u8, u64),
-    letter: u8,
+    letter: &str,
     writes: Parts,
-) -> Result<(), Fail> {
+) -> Result<(), Fault> {
     let (who, tag, xid) = request;
-    let op = mkdir(alloc, &[letter])?;
+    let op = mkdir(alloc, letter)?;
     let number = journal.next()?;
     let answer = reply(alloc, who, xid, number);
     journal.append(number, who, tag % 8, op, writes, answer)?;
     Ok(())
 }
 
-/// A directory of this name is made in the root.
-fn makes(
-    alloc: Global,
-    journal: &mut Journal,
-    request: (Who, u8, u64),
-    letter: u8,
-) -> Result<(), Fail> {
-    let writes = one(alloc, Part::Name(Fid(1), name(alloc, &[letter])?))?;
-    append(alloc, journal, request, letter, writes)
-}
-
-/// Does one step.
-pub fn perform(alloc: Global, journal: &mut Journal, step: Step) -> Result<(), Fail> {
-    match step {
-        Step::Makes(who, tag, xid, letter) => makes(alloc, journal, (who, tag, xid), letter),
-        Step::Reads(who, tag, xid) => {
-            journal.keep(who, tag % 8, reply(alloc, who, xid, Txn(0)))?;
-            Ok(())
-        }
-        Step::Adds(who) => {
-            journal.add_slot(who)?;
-            Ok(())
-        }
-        Step::Drops(who) => {
-            journal.drop_slot(who);
-            Ok(())
-        }
-        Step::Commits(place) => {
-            if let Some(to) = journal.uncommitted(place) {
-                journal.committed(to);
-            }
-            Ok(())
-        }
+fn part(alloc: Global, words: &[&str]) -> Result<Part, Fault> {
+    match words {
+        ["name", fid, letter] => Ok(Part::Name(Fid(number::<u64>(fid)?), name(alloc, letter)?)),
+        ["list", fid] => Ok(Part::List(Fid(number::<u64>(fid)?))),
+        ["attr", fid] => Ok(Part::Attr(Fid(number::<u64>(fid)?))),
+        ["layout", fid] => Ok(Part::Layout(Fid(number::<u64>(fid)?))),
+        ["parent", fid] => Ok(Part::Parent(Fid(number::<u64>(fid)?))),
+        ["bytes", words @ ..] => bytes(words),
+        _ => Err(Fault),
     }
 }
 
-/// Does these steps in order.
-pub fn perform_all(alloc: Global, journal: &mut Journal, steps: &[Step]) -> Result<(), Fail> {
-    for step in steps {
-        perform(alloc, journal, *step)?;
-    }
-    Ok(())
-}
-
-/// A journal that starts with slots for these lives, after these steps.
-pub fn journal_after(alloc: Global, lives: &[Who], steps: &[Step]) -> Result<Journal, Fail> {
-    let mut journal = Journal::start(alloc, lives)?;
-    perform_all(alloc, &mut journal, steps)?;
-    Ok(journal)
+fn bytes(words: &[&str]) -> Result<Part, Fault> {
+    let [fid, stripe, first, last] = words else {
+        return Err(Fault);
+    };
+    let fid = Fid(number::<u64>(fid)?);
+    let stripe = number::<u16>(stripe)?;
+    let first = number::<u64>(first)?;
+    let last = number::<u64>(last)?;
+    Ok(Part::Bytes(fid, stripe, Extent { first, last }))
 }
 
 /// What `look` answers, as a word.
-pub fn looked(journal: &Journal, who: Who, tag: u8, xid: u64) -> &'static str {
+fn looked(journal: &Journal, request: (Who, u8, u64)) -> &'static str {
+    let (who, tag, xid) = request;
     match journal.look(who, tag % 8, Xid(xid)) {
         Ok(Seen::New) => "new",
         Ok(Seen::Again(_)) => "again",
         Ok(Seen::Old) => "old",
-        Err(TxnError::NoSlot) => "no slot",
+        Err(TxnError::NoSlot) => "unknown",
         Err(_) => "other",
     }
 }
 
-/// The numbers seen by what touches this part.
-pub fn seen(alloc: Global, journal: &Journal, part: Part) -> Result<Vec<u64>, Memory> {
-    Ok(journal.seen(&one(alloc, part)?)?.into_vec())
-}
-
-/// Requests of these lives, tags and numbers are answered so when they are looked up.
-pub fn are_looked_up(rt: &impl Abort, journal: &Journal, requests: &[(Who, u8, u64, &str)]) {
-    for (who, tag, xid, answer) in requests {
-        assert!(rt; looked(journal, *who, *tag, *xid) == *answer);
+/// Whether the reply that is kept for a request is this one.
+fn is_kept(journal: &Journal, tag: u8, wanted: &Reply) -> bool {
+    match journal.look(wanted.who, tag % 8, wanted.xid) {
+        Ok(Seen::Again(kept)) => *kept == *wanted,
+        _ => false,
     }
 }
 
-/// Whether the life at this place is this one.
-fn has_life(journal: &Journal, at: usize, life: Who) -> bool {
-    match journal.life(at) {
-        Some(who) => who == life,
-        None => false,
+/// Whether an answer is that the life has no slot.
+fn is_refused(answer: Result<(), TxnError>) -> bool {
+    match answer {
+        Err(TxnError::NoSlot) => true,
+        _ => false,
     }
 }
 
-/// The journal has slots for these lives, in this order, and no other.
-pub fn have_lives(rt: &impl Abort, journal: &Journal, lives: &[Who]) {
-    for (at, life) in lives.iter().enumerate() {
-        assert!(rt; has_life(journal, at, *life));
+/// Whether a number is this one, in two words.
+fn is_pair(boot: &str, count: &str, number: Txn) -> bool {
+    is_number(boot, number.0 >> 32) && is_number(count, number.0 % 4_294_967_296)
+}
+
+/// Whether just these transactions are uncommitted.
+fn are_uncommitted(journal: &Journal, counts: &[&str]) -> bool {
+    for (at, count) in counts.iter().enumerate() {
+        match journal.uncommitted(at) {
+            Some(number) if is_count(count, number.0) => {}
+            _ => return false,
+        }
     }
-    assert!(rt; journal.life(lives.len()).is_none());
+    journal.uncommitted(counts.len()).is_none()
 }
 
-/// Whether these are the numbers of boot 1 with these counts.
-pub fn are_numbers(numbers: &[u64], counts: &[u64]) -> bool {
-    let mut pairs = numbers.iter().zip(counts);
-    numbers.len() == counts.len() && pairs.all(|(number, count)| *number == first(*count))
+/// Whether just these lives have slots.
+fn have_slots(journal: &Journal, names: &[&str]) -> bool {
+    for (at, name) in names.iter().enumerate() {
+        match journal.life(at) {
+            Some(who) if is_named(name, who) => {}
+            _ => return false,
+        }
+    }
+    journal.life(names.len()).is_none()
 }
 
-/// What touches this part has seen the transactions of boot 1 with these counts, and no other.
-pub fn sees(
-    rt: &impl Abort,
-    alloc: Global,
-    journal: &Journal,
-    part: Part,
-    counts: &[u64],
-) -> Result<(), Memory> {
-    let seen = seen(alloc, journal, part)?;
-    assert!(rt; are_numbers(seen.as_slice(), counts));
-    Ok(())
+/// A journal, and the parts that are touched.
+#[derive(Drop)]
+pub struct Book {
+    pub alloc: Global,
+    pub journal: Journal,
+    touched: Parts,
+}
+
+impl Book {
+    /// A journal of boot 1 without slots.
+    pub fn new(alloc: Global) -> Result<Book, Memory> {
+        let journal = Journal::start(alloc, &[])?;
+        let touched = Parts::new(alloc);
+        Ok(Book {
+            alloc,
+            journal,
+            touched,
+        })
+    }
+
+    fn start(&mut self, names: &[&str]) -> Result<bool, Fault> {
+        let lives = lives(self.alloc, names)?;
+        self.journal = Journal::start(self.alloc, lives.as_slice())?;
+        Ok(true)
+    }
+
+    fn makes(&mut self, words: &[&str]) -> Result<bool, Fault> {
+        let [who, tag, xid, letter] = words else {
+            return Err(Fault);
+        };
+        let mut writes = Parts::new(self.alloc);
+        writes.push(Part::Name(Fid(1), name(self.alloc, letter)?))?;
+        let request = request(who, tag, xid)?;
+        append(self.alloc, &mut self.journal, request, letter, writes)?;
+        Ok(true)
+    }
+
+    fn writes(&mut self, words: &[&str]) -> Result<bool, Fault> {
+        let [who, tag, xid] = words else {
+            return Err(Fault);
+        };
+        let writes = std::mem::replace(&mut self.touched, Parts::new(self.alloc));
+        let request = request(who, tag, xid)?;
+        append(self.alloc, &mut self.journal, request, "a", writes)?;
+        Ok(true)
+    }
+
+    fn reads(&mut self, words: &[&str]) -> Result<bool, Fault> {
+        let [who, tag, xid] = words else {
+            return Err(Fault);
+        };
+        let (who, tag, xid) = request(who, tag, xid)?;
+        let reply = reply(self.alloc, who, xid, Txn(0));
+        self.journal.keep(who, tag % 8, reply)?;
+        Ok(true)
+    }
+
+    fn adds(&mut self, words: &[&str]) -> Result<bool, Fault> {
+        let [who] = words else {
+            return Err(Fault);
+        };
+        self.journal.add_slot(named(who)?)?;
+        Ok(true)
+    }
+
+    fn drops(&mut self, words: &[&str]) -> Result<bool, Fault> {
+        let [who] = words else {
+            return Err(Fault);
+        };
+        self.journal.drop_slot(named(who)?);
+        Ok(true)
+    }
+
+    fn commits(&mut self, words: &[&str]) -> Result<bool, Fault> {
+        let [place] = words else {
+            return Err(Fault);
+        };
+        let Some(to) = self.journal.uncommitted(number::<usize>(place)?) else {
+            return Err(Fault);
+        };
+        self.journal.committed(to);
+        Ok(true)
+    }
+
+    fn touch(&mut self, words: &[&str]) -> Result<bool, Fault> {
+        let part = part(self.alloc, words)?;
+        self.touched.push(part)?;
+        Ok(true)
+    }
+
+    fn sees(&mut self, words: &[&str]) -> Result<bool, Fault> {
+        let seen = self.journal.seen(&self.touched)?;
+        self.touched = Parts::new(self.alloc);
+        Ok(are_counts(words, seen.as_slice()))
+    }
+
+    fn is_next(&self, words: &[&str]) -> Result<bool, Fault> {
+        let [boot, count] = words else {
+            return Err(Fault);
+        };
+        Ok(is_pair(boot, count, self.journal.next()?))
+    }
+
+    fn is_last(&self, words: &[&str]) -> Result<bool, Fault> {
+        let [boot, count] = words else {
+            return Err(Fault);
+        };
+        Ok(is_pair(boot, count, self.journal.last_committed()))
+    }
+
+    fn looks(&self, words: &[&str]) -> Result<bool, Fault> {
+        let [who, tag, xid, answer] = words else {
+            return Err(Fault);
+        };
+        let request = request(who, tag, xid)?;
+        Ok(looked(&self.journal, request) == *answer)
+    }
+
+    fn is_whole(&self, words: &[&str]) -> Result<bool, Fault> {
+        let [who, tag, xid] = words else {
+            return Err(Fault);
+        };
+        let (who, tag, xid) = request(who, tag, xid)?;
+        Ok(is_kept(&self.journal, tag, &reply(self.alloc, who, xid, Txn(0))))
+    }
+
+    fn refuses(&mut self, words: &[&str]) -> Result<bool, Fault> {
+        let [who] = words else {
+            return Err(Fault);
+        };
+        let who = named(who)?;
+        let kept = self.journal.keep(who, 0, reply(self.alloc, who, 1, Txn(0)));
+        Ok(is_refused(kept) && self.refuses_to_append(who)?)
+    }
+
+    fn refuses_to_append(&mut self, who: Who) -> Result<bool, Fault> {
+        let op = mkdir(self.alloc, "a")?;
+        let number = self.journal.next()?;
+        let answer = reply(self.alloc, who, 1, number);
+        let writes = Parts::new(self.alloc);
+        Ok(is_refused(self.journal.append(number, who, 0, op, writes, answer)))
+    }
+
+    fn is_over(&self, words: &[&str]) -> Result<bool, Fault> {
+        let [client, life, over] = words else {
+            return Err(Fault);
+        };
+        Ok(self.journal.is_over(self::life(client, life)?) == is_yes(over)?)
+    }
+
+    /// Does what a line says.
+    fn does(&mut self, kind: &str, words: &[&str]) -> Result<bool, Fault> {
+        match kind {
+            "start" => self.start(words),
+            "makes" => self.makes(words),
+            "writes" => self.writes(words),
+            "reads" => self.reads(words),
+            "adds" => self.adds(words),
+            "drops" => self.drops(words),
+            "commits" => self.commits(words),
+            "touch" => self.touch(words),
+            _ => Err(Fault),
+        }
+    }
+}
+
+impl Player for Book {
+    fn step(&mut self, kind: &str, words: &[&str]) -> Result<bool, Fault> {
+        match kind {
+            "sees" => self.sees(words),
+            "next" => self.is_next(words),
+            "last" => self.is_last(words),
+            "waits" => Ok(are_uncommitted(&self.journal, words)),
+            "looks" => self.looks(words),
+            "whole" => self.is_whole(words),
+            "lives" => Ok(have_slots(&self.journal, words)),
+            "refuses" => self.refuses(words),
+            "over" => self.is_over(words),
+            _ => self.does(kind, words),
+        }
+    }
+
+    fn is_done(&self) -> bool {
+        true
+    }
 }
