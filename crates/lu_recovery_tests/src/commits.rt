@@ -24,12 +24,14 @@ fn number_at(journal: &Journal, place: &str) -> Result<Txn, Fault>
     ensures order { IfOk result (λ to. journal.now.committed ≤ to.0) }
     ensures given { IfOk result (λ to. to.0 ≤ journal.now.newest) }
 {
+    let count = journal.uncommitted_count();
     if place == "none" {
         return Ok(journal.last_committed());
     }
-    match journal.uncommitted(number::<usize>(place)?) {
-        Some(number) => Ok(number),
-        None => Err(Fault),
+    let place = number::<usize>(place)?;
+    match journal.uncommitted(place) {
+        Some(number) if place < count => Ok(number),
+        _ => Err(Fault),
     }
 }
 

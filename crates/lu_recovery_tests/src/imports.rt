@@ -303,9 +303,11 @@ impl Caller {
         };
         let standing = standing(word)?;
         let serving = standing == Standing::Serving;
-        Ok(self.import.standing() == standing
-            && is_number(boot, u64::from(self.import.boot()))
-            && self.import.serving() == serving)
+        Ok(
+            self.import.standing() == standing
+                && is_number(boot, u64::from(self.import.boot()))
+                && self.import.serving() == serving,
+        )
     }
 
     fn lives_on(&mut self, words: &[&str]) -> Result<bool, Fault> {

@@ -58,8 +58,7 @@ fn committed(count: &str) -> Result<Txn, Fault> {
 /// Whether the replays of these counts are kept.
 fn are_kept(kept: &[KeptReplay], counts: &[&str]) -> bool {
     let mut pairs = kept.iter().zip(counts);
-    kept.len() == counts.len()
-        && pairs.all(|(kept, count)| is_count(count, kept.replay.number.0))
+    kept.len() == counts.len() && pairs.all(|(kept, count)| is_count(count, kept.replay.number.0))
 }
 
 /// The word for a cause.
