@@ -117,8 +117,7 @@ impl Played {
             → ShowsLedger ledger.now past → ShowsPlayed osts (is_gone whole) lost self.old past
             → ShowsPlayed osts (is_gone whole) lost self.new (record {
               at = at;
-              entry = Entry.Txn txn who xid seen
-                  answer;
+              entry = Entry.Txn txn who xid seen answer;
             } ∷ past)) }
     {
         if !gone.has(who) {
