@@ -1,7 +1,7 @@
 -- The scenes with locks and that with commits are covered, so what they come to is lawful.
 use Rattle.std.proofs.Common.{◌≡◌, ℕ, zero, suc, ◌≤◌, false, List, [], ◌∷◌, inl, refl, lit≤}
 use Rattle.std.specs.Prelude.{codes, All}
-use Rattle.std.proofs.lemmas.List.Elements.{All-nil, All-cons}
+use Rattle.std.proofs.lemmas.List.Elements.{All-nil, All-cons, All-head, All-tail}
 use Rattle.std.proofs.lemmas.List.Sums.{AllPass-from_list_all}
 use Rattle.lu_base.specs.Texts.{is_name_byte, IsName, IsPath}
 use Rattle.lu_scene.specs.declared.scene.Scene.{Scene}
@@ -12,7 +12,8 @@ use Rattle.lu_table.specs.Runs.{has_failed}
 use Rattle.lu_table.specs.Scenarios.{Config, Next, Goes, Ends, Stops, Fails, head_of, past_of, next, start, steps, Leads, here, more}
 use Rattle.lu_laws.proofs.Words.{◌then◌}
 use Rattle.lu_laws.specs.Lawful.{Lawful}
-use Rattle.lu_covered_scenes.specs.Covered.{IsCovered, IsCoveredIn}
+use Rattle.lu_covered_scenes.specs.Covered.{IsCovered, IsCoveredIn, IsNoCommand, GivesNoCommand}
+use Rattle.lu_covered_scenes.proofs.Runs.{scene_unfailed}
 use Rattle.lu_covered_scenes.proofs.Stated.{scene_lawful}
 use Rattle.lu_samples.proofs.Words.{with_head, after, trace_after, never}
 use Rattle.lu_samples.proofs.Names.{commits}
@@ -128,3 +129,25 @@ known_lawful = lawful known 30 known_covered refl
 
 pub commits_lawful : Lawful 1 (trace_after 10 commits)
 commits_lawful = lawful commits 10 commits_covered refl
+
+-- ---- where no line gives a command, no disk fails whichever could
+
+called_back_quiet : GivesNoCommand called_back
+called_back_quiet = all_of IsNoCommand called_back.lines (tt then tt then tt then tt then tt then tt then tt)
+
+pub called_back_unfailed : has_failed (past_of (after 20 called_back)) ≡ false
+called_back_unfailed = scene_unfailed called_back called_back_covered called_back_quiet never (after 20 called_back) (leads called_back 20) refl
+
+-- and `commits` gives some: its third line is a command
+abbrev ThirdGivesNone : List SceneLine → Type 0
+ThirdGivesNone (a ∷ b ∷ c ∷ lines) = IsNoCommand c
+ThirdGivesNone _ = Unit {0}
+
+third : (lines : List SceneLine) → All IsNoCommand lines → ThirdGivesNone lines
+third [] quiet = tt
+third (a ∷ []) quiet = tt
+third (a ∷ b ∷ []) quiet = tt
+third (a ∷ b ∷ c ∷ lines) quiet = All-head IsNoCommand c lines (All-tail IsNoCommand b (c ∷ lines) (All-tail IsNoCommand a (b ∷ c ∷ lines) quiet))
+
+pub commits_command : GivesNoCommand commits → ⊥
+commits_command quiet = third commits.lines quiet
