@@ -1,42 +1,66 @@
--- What a client asks of one target, after a past in which nothing is about another.
-use Rattle.std.specs.Prelude.{ℕ, List, [], ◌∷◌, ◌&&◌, ◌==◌, if◌then◌else◌}
+-- What a client asks of one target, after a past in which nothing is about another. What is asked is a life's: a line counts for the
+-- life that its client is in, and a life that is over stays as it was.
+use Rattle.std.specs.Prelude.{ℕ, Bool, false, List, [], ◌∷◌, ◌&&◌, ◌==◌, if◌then◌else◌}
+use Rattle.lu_base.specs.declared.ids.Node.{Node}
+use Rattle.lu_base.specs.declared.ids.Node.TheVariants.{Client, Target}
 use Rattle.lu_base.specs.declared.ids.Who.{Who}
 use Rattle.lu_words.specs.Carried.{Queued, Flight}
-use Rattle.lu_words.specs.Words.{Heard, Life, Queues, Flies, Knows, Line, is_client}
+use Rattle.lu_words.specs.Words.{Heard, Life, Queues, Flies, Knows, Serves, Line, is_client, same_life}
 use Rattle.lu_covered.specs.Calls.{first_life}
-use Rattle.lu_covered.specs.Imports.{queue_after, flights_after}
+use Rattle.lu_covered.specs.Imports.{Standing, Joining, Serving, interrupted, queue_after, flights_after}
 
-abbrev pub queue_of : ℕ → List Line → List Queued
-queue_of c [] = []
-queue_of c (l ∷ past) =
-    elim l.entry [
-      | Queues t q ↦ if is_client c l.at.node then queue_after (queue_of c past) (Queues t q) else queue_of c past
-      | Flies t f ↦ if is_client c l.at.node then queue_after (queue_of c past) (Flies t f) else queue_of c past
-      | _ ↦ queue_of c past
-    ]
-
-abbrev pub flights_of : ℕ → List Line → List Flight
-flights_of c [] = []
-flights_of c (l ∷ past) =
-    elim l.entry [
-      | Flies t f ↦ if is_client c l.at.node then flights_after (flights_of c past) (Flies t f) else flights_of c past
-      | Heard t f r ↦ if is_client c l.at.node then flights_after (flights_of c past) (Heard t f r) else flights_of c past
-      | _ ↦ flights_of c past
-    ]
-
-abbrev pub last_of : ℕ → List Line → ℕ
-last_of c [] = 0
-last_of c (l ∷ past) = elim l.entry [ Flies t f ↦ if is_client c l.at.node then f.xid else last_of c past | _ ↦ last_of c past ]
-
-abbrev pub known_of : ℕ → List Line → ℕ
-known_of c [] = 1
-known_of c (l ∷ past) = elim l.entry [ Knows t boot ↦ if is_client c l.at.node then boot else known_of c past | _ ↦ known_of c past ]
+-- ---- a client's
 
 abbrev pub life_of : ℕ → List Line → Who
 life_of c [] = first_life c
 life_of c (l ∷ past) = elim l.entry [ Life who ↦ if is_client c l.at.node then who else life_of c past | _ ↦ life_of c past ]
 
+-- the boot of the target that it knows, whatever its life
+abbrev pub known_of : ℕ → List Line → ℕ
+known_of c [] = 1
+known_of c (l ∷ past) = elim l.entry [ Knows t boot ↦ if is_client c l.at.node then boot else known_of c past | _ ↦ known_of c past ]
+
+-- how its present life stands there
+abbrev pub standing_of : ℕ → List Line → Standing
+standing_of c [] = Serving
+standing_of c (l ∷ past) =
+    elim l.entry [
+      | Knows t boot ↦ if is_client c l.at.node then interrupted (standing_of c past) else standing_of c past
+      | Serves t boot ↦ if is_client c l.at.node then Serving else standing_of c past
+      | Life who ↦ if is_client c l.at.node then Joining else standing_of c past
+      | _ ↦ standing_of c past
+    ]
+
+-- ---- a life's
+
+-- a line of that node, after the past, is of that life
+abbrev pub is_own : Who → List Line → Node → Bool
+is_own who past (Client c) = same_life who (life_of c past)
+is_own who past (Target t) = false
+
+abbrev pub queue_of : Who → List Line → List Queued
+queue_of who [] = []
+queue_of who (l ∷ past) =
+    elim l.entry [
+      | Queues t q ↦ if is_own who past l.at.node then queue_after (queue_of who past) (Queues t q) else queue_of who past
+      | Flies t f ↦ if is_own who past l.at.node then queue_after (queue_of who past) (Flies t f) else queue_of who past
+      | _ ↦ queue_of who past
+    ]
+
+abbrev pub flights_of : Who → List Line → List Flight
+flights_of who [] = []
+flights_of who (l ∷ past) =
+    elim l.entry [
+      | Flies t f ↦ if is_own who past l.at.node then flights_after (flights_of who past) (Flies t f) else flights_of who past
+      | Heard t f r ↦ if is_own who past l.at.node then flights_after (flights_of who past) (Heard t f r) else flights_of who past
+      | _ ↦ flights_of who past
+    ]
+
+abbrev pub last_of : Who → List Line → ℕ
+last_of who [] = 0
+last_of who (l ∷ past) = elim l.entry [ Flies t f ↦ if is_own who past l.at.node then f.xid else last_of who past | _ ↦ last_of who past ]
+
 -- the tag that was given to a request number, 0 where it wasn't given
-abbrev pub tag_of : ℕ → ℕ → List Line → ℕ
-tag_of c xid [] = 0
-tag_of c xid (l ∷ past) = elim l.entry [ Flies t f ↦ if is_client c l.at.node && f.xid == xid then f.tag else tag_of c xid past | _ ↦ tag_of c xid past ]
+abbrev pub tag_of : Who → ℕ → List Line → ℕ
+tag_of who xid [] = 0
+tag_of who xid (l ∷ past) = elim l.entry [ Flies t f ↦ if is_own who past l.at.node && f.xid == xid then f.tag else tag_of who xid past | _ ↦ tag_of who xid past ]

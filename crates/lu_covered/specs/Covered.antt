@@ -1,26 +1,31 @@
--- Which runs the theorem covers so far: the calls that begin are on names, but for `open` and `close`, all that is told is told without
--- bytes, and no target evicts, crashes, boots, closes or fails. Whatever messages are lost, repeated or late, whoever dies, whoever waits
--- for a lock, and whatever is committed, is covered.
-use Rattle.std.specs.Prelude.{◌≡◌, List, [], ◌∷◌, Option, Some, None}
+-- Which runs the theorem covers so far: the calls that begin are on names or on bad handles, all that is told is told without bytes, no
+-- close waits for another call on its open, and no target crashes, boots, closes or fails. Whatever messages are lost, repeated or late,
+-- whoever dies, whoever waits for a lock, whatever is committed, and whoever is evicted and joins in a new life, is covered.
+use Rattle.std.specs.Prelude.{◌≡◌, ◌⊎◌, ℕ, false, List, [], ◌∷◌, Option, Some, None}
+use Rattle.lu_base.specs.declared.ids.Node.{Node}
+use Rattle.lu_base.specs.declared.ids.Node.TheVariants.{Client}
 use Rattle.lu_msg.specs.declared.messages.Message.{Message}
 use Rattle.lu_msg.specs.declared.messages.Message.TheVariants as message
 use Rattle.lu_msg.specs.declared.operations.Op.{Op}
-use Rattle.lu_words.specs.Carried.{Deed, Work, Running}
-use Rattle.lu_words.specs.Words.{Entry, Send, Take, Tick, Begin, Busy, Heard, Hold, Drop, Told, Die, Queues, Flies, Pins, Unpins, Marks, Learns, Line}
-use Rattle.lu_words.specs.Words.{Skip, Act, Txn, Grant, Block, Release, Commit, Enters}
-use Rattle.lu_covered.specs.Calls.{operation_of}
+use Rattle.lu_words.specs.Carried.{Deed, HandleFile, Bad, Work, Running}
+use Rattle.lu_words.specs.Words.{Entry, Send, Take, Tick, Begin, Busy, Heard, Hold, Drop, Told, Life, Die, Queues, Flies, Serves, Settles, Binds, Unbinds, Pins, Unpins, Marks, Learns, Line}
+use Rattle.lu_words.specs.Words.{Skip, Act, Txn, Grant, Block, Release, Commit, Evict, Joined, Enters}
+use Rattle.lu_client_rows.specs.Starts.{is_on}
+use Rattle.lu_covered.specs.Calls.{becomes, call_at}
 
--- a call on names, but for `open` and `close`
-pub record IsCoveredCall (r : Running) : Type 0 where
-  pub op : Op
-  pub becomes : operation_of r.call ≡ Some op
+-- a call on names, which asks the metadata target, or is refused since its handle is bad
+abbrev pub IsCoveredCall : Running → Type 0
+IsCoveredCall r = ((o : Op) × (becomes r ≡ Some o)) ⊎ (r.stage ≡ Bad)
 
--- requests, replies, and what is said of locks
+-- requests, replies, what is said of locks, and of lives that leave and come
 abbrev pub IsCoveredMessage : Message → Type 0
 IsCoveredMessage (message.Request r) = Unit {0}
 IsCoveredMessage (message.Reply r) = Unit {0}
 IsCoveredMessage (message.Block who boot cookie) = Unit {0}
 IsCoveredMessage (message.Cancel who boot cookie) = Unit {0}
+IsCoveredMessage (message.Join who boot) = Unit {0}
+IsCoveredMessage (message.Ready who boot committed) = Unit {0}
+IsCoveredMessage (message.Evicted who boot) = Unit {0}
 IsCoveredMessage _ = ⊥
 
 -- a call that is told did nothing with bytes
@@ -43,9 +48,14 @@ IsCovered (Heard target flight reply) = Unit {0}
 IsCovered (Hold target lock marked size seen) = Unit {0}
 IsCovered (Drop target lock) = Unit {0}
 IsCovered (Told slot at answer work) = IsWithoutWork work
+IsCovered (Life who) = Unit {0}
 IsCovered Die = Unit {0}
 IsCovered (Queues target queued) = Unit {0}
 IsCovered (Flies target flight) = Unit {0}
+IsCovered (Serves target boot) = Unit {0}
+IsCovered (Settles target to) = Unit {0}
+IsCovered (Binds handle file) = Unit {0}
+IsCovered (Unbinds handle) = Unit {0}
 IsCovered (Pins name) = Unit {0}
 IsCovered (Unpins name) = Unit {0}
 IsCovered (Marks name) = Unit {0}
@@ -56,10 +66,22 @@ IsCovered (Txn deed) = Unit {0}
 IsCovered (Grant lock asked) = IsByAct asked
 IsCovered (Block called) = Unit {0}
 IsCovered (Release lock) = Unit {0}
-IsCovered (Commit to batch) = (batch.removed ≡ []) × (batch.added ≡ [])
+IsCovered (Commit to batch) = Unit {0}
+IsCovered (Evict who cause) = Unit {0}
+IsCovered (Joined who) = Unit {0}
 IsCovered (Enters request) = Unit {0}
 IsCovered _ = ⊥
 
+-- a call on an open begins where no other call of its client is on that open: so a close never waits. In a run that is so of each close,
+-- since opens have numbers of their own and a close unbinds its handle as it begins
+abbrev pub IsAloneOn : ℕ → List Line → Option HandleFile → Type 0
+IsAloneOn c past None = Unit {0}
+IsAloneOn c past (Some f) = (slot : ℕ) → is_on f.number.0 (call_at c slot past) ≡ false
+
+abbrev pub IsAlone : List Line → Node → Entry → Type 0
+IsAlone past (Client c) (Begin slot r) = IsAloneOn c past r.file
+IsAlone past node e = Unit {0}
+
 abbrev pub AllCovered : List Line → Type 0
 AllCovered [] = Unit {0}
-AllCovered (l ∷ past) = IsCovered l.entry × AllCovered past
+AllCovered (l ∷ past) = IsCovered l.entry × AllCovered past × IsAlone past l.at.node l.entry

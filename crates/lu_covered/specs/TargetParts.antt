@@ -1,17 +1,19 @@
 -- What each part of a target is after one of its entries. Each part has a step of its own, entry by entry, and a test
--- which entries it reads; both have a catch-all last.
+-- which entries it reads; both have a catch-all last. A life leaves with its line `evict`, and then all that it had goes; the rows
+-- take it away with the commit before that line, in the same turn.
 use Rattle.std.specs.Prelude.{ℕ, ◌+◌, Bool, true, false, not, ◌==◌, ◌&&◌, nat_lt, if◌then◌else◌, List, [], ◌∷◌, ◌++◌, filter, Some, None}
 use Rattle.lu_base.specs.declared.ids.Txn.{Txn as TxnOf}
 use Rattle.lu_base.specs.declared.ids.Who.{Who}
 use Rattle.lu_msg.specs.declared.messages.Request.{Request as RequestOf}
 use Rattle.lu_machine.specs.Tree.{Tree}
-use Rattle.lu_machine.specs.Footprint.{Operation, after}
+use Rattle.lu_machine.specs.Footprint.{Operation, after, forget}
 use Rattle.lu_words.specs.Carried.{Deed, Slot}
-use Rattle.lu_words.specs.Words.{Entry, Act, Txn, Commit, Boot, Enters, Block, Release, same_life}
+use Rattle.lu_words.specs.Words.{Entry, Act, Txn, Commit, Boot, Enters, Block, Release, Evict, Joined, same_life}
 use Rattle.lu_base.specs.declared.locks.Lock.{Lock}
 use Rattle.lu_words.specs.Carried.{Called}
 use Rattle.lu_target_rows.specs.Phase.{greatest_cookie}
-use Rattle.lu_target_rows.specs.Locks.{with_locks, without_lock, called_without}
+use Rattle.lu_target_rows.specs.Lives.{is_life, with_life, without_lives}
+use Rattle.lu_target_rows.specs.Locks.{with_locks, without_lock, locks_without, called_without}
 
 -- ---- the boot, and the number up to which all is on the disk
 
@@ -49,10 +51,12 @@ operation d = record { number = d.reply.txn; who = d.reply.who; op = d.op }
 
 abbrev pub reads_tree : Entry → Bool
 reads_tree (Txn d) = true
+reads_tree (Evict who cause) = true
 reads_tree _ = false
 
 abbrev pub tree_after : ℕ → Tree → Entry → Tree
 tree_after osts t (Txn d) = after osts t (operation d)
+tree_after osts t (Evict who cause) = forget t who
 tree_after osts t _ = t
 
 -- ---- the transactions that aren't on the disk, in rising number
@@ -67,6 +71,26 @@ log_after log (Txn d) = log ++ d ∷ []
 log_after log (Commit to batch) = filter (λ d. nat_lt to d.reply.txn.0) log
 log_after log _ = log
 
+-- ---- the lives that have a slot, and those that were evicted
+
+abbrev pub reads_lives : Entry → Bool
+reads_lives (Evict who cause) = true
+reads_lives (Joined who) = true
+reads_lives _ = false
+
+abbrev pub lives_after : List Who → Entry → List Who
+lives_after lives (Evict who cause) = without_lives (who ∷ []) lives
+lives_after lives (Joined who) = with_life who lives
+lives_after lives _ = lives
+
+abbrev pub reads_evicted : Entry → Bool
+reads_evicted (Evict who cause) = true
+reads_evicted _ = false
+
+abbrev pub evicted_after : List Who → Entry → List Who
+evicted_after evicted (Evict who cause) = with_life who evicted
+evicted_after evicted _ = evicted
+
 -- ---- requests that were taken and wait to act, in the order in which they came
 
 abbrev pub is_request_of : Deed → RequestOf → Bool
@@ -79,12 +103,14 @@ abbrev pub reads_waiting : Entry → Bool
 reads_waiting (Enters r) = true
 reads_waiting (Act d) = true
 reads_waiting (Txn d) = true
+reads_waiting (Evict who cause) = true
 reads_waiting _ = false
 
 abbrev pub waiting_after : List RequestOf → Entry → List RequestOf
 waiting_after waiting (Enters r) = waiting ++ r ∷ []
 waiting_after waiting (Act d) = without_request d waiting
 waiting_after waiting (Txn d) = without_request d waiting
+waiting_after waiting (Evict who cause) = filter (λ r. not (is_life r.who (who ∷ []))) waiting
 waiting_after waiting _ = waiting
 
 -- ---- the slot of a life and tag
@@ -119,12 +145,20 @@ slot_after who tag slot _ = slot
 abbrev pub reads_granted : Entry → Bool
 reads_granted (Act d) = true
 reads_granted (Release lock) = true
+reads_granted (Evict who cause) = true
 reads_granted _ = false
 
 abbrev pub granted_after : List Lock → Entry → List Lock
 granted_after locks (Act d) = with_locks d.reply.locks locks
 granted_after locks (Release lock) = without_lock lock locks
+granted_after locks (Evict who cause) = locks_without (who ∷ []) locks
 granted_after locks _ = locks
+
+-- those whose release isn't shown: the locks of a life that leaves go one by one after it
+abbrev pub shown_after : List Lock → Entry → List Lock
+shown_after locks (Act d) = with_locks d.reply.locks locks
+shown_after locks (Release lock) = without_lock lock locks
+shown_after locks _ = locks
 
 -- ---- the greatest cookie
 
@@ -141,9 +175,11 @@ cookie_after n _ = n
 abbrev pub reads_called : Entry → Bool
 reads_called (Block called) = true
 reads_called (Release lock) = true
+reads_called (Evict who cause) = true
 reads_called _ = false
 
 abbrev pub called_after : List Called → Entry → List Called
 called_after cs (Block called) = cs ++ called ∷ []
 called_after cs (Release lock) = called_without lock cs
+called_after cs (Evict who cause) = filter (λ c. not (is_life c.who (who ∷ []))) cs
 called_after cs _ = cs

@@ -8,12 +8,14 @@ use Rattle.lu_machine.specs.Tree.{Tree}
 use Rattle.lu_machine.specs.Footprint.{empty}
 use Rattle.lu_base.specs.declared.locks.Lock.{Lock}
 use Rattle.lu_words.specs.Carried.{Deed, Slot, Called}
-use Rattle.lu_words.specs.Words.{Entry, Act, Txn, Commit, Boot, Enters, Block, Release, Line}
+use Rattle.lu_words.specs.Words.{Entry, Act, Txn, Commit, Boot, Enters, Block, Release, Evict, Line}
 use Rattle.lu_words.specs.Fields.{at_target}
 pub use Rattle.lu_target_rows.specs.Replies.{seen_in}
 use Rattle.lu_covered.specs.TargetParts.{reads_boot, boot_after, reads_count, count_after, reads_committed, committed_after, reads_tree, tree_after, reads_log, log_after, reads_waiting, waiting_after, no_slot, reads_slot, slot_after}
-use Rattle.lu_covered.specs.TargetParts.{reads_granted, granted_after, reads_cookie, cookie_after, reads_called, called_after}
+use Rattle.lu_covered.specs.TargetParts.{reads_lives, lives_after, reads_evicted, evicted_after}
+use Rattle.lu_covered.specs.TargetParts.{reads_granted, granted_after, shown_after, reads_cookie, cookie_after, reads_called, called_after}
 use Rattle.lu_target_rows.specs.Phase.{first_of}
+use Rattle.lu_target_rows.specs.States.{lives_from}
 
 pub record Server : Type 0 where
   pub boot : ℕ
@@ -58,6 +60,13 @@ cookie_at t past = at_target reads_cookie cookie_after (first_of 1) t past
 abbrev pub called_at : ℕ → List Line → List Called
 called_at t past = at_target reads_called called_after [] t past
 
+-- in a run of so many clients
+abbrev pub lives_at : (clients : ℕ) → ℕ → List Line → List Who
+lives_at clients t past = at_target reads_lives lives_after (lives_from 0 clients) t past
+
+abbrev pub evicted_at : ℕ → List Line → List Who
+evicted_at t past = at_target reads_evicted evicted_after [] t past
+
 abbrev pub slot_at : Who → ℕ → ℕ → List Line → Slot
 slot_at who tag t past = at_target reads_slot (slot_after who tag) no_slot t past
 
@@ -92,6 +101,13 @@ server_after osts v (Act d) =
     }
 server_after osts v (Block called) = record v { called = called_after v.called (Block called) }
 server_after osts v (Release lock) = record v { granted = granted_after v.granted (Release lock); called = called_after v.called (Release lock) }
+server_after osts v (Evict who cause) =
+    record v {
+      tree = tree_after osts v.tree (Evict who cause);
+      waiting = waiting_after v.waiting (Evict who cause);
+      granted = granted_after v.granted (Evict who cause);
+      called = called_after v.called (Evict who cause);
+    }
 server_after osts v (Txn d) =
     record v {
       count = count_after v.count (Txn d);
@@ -114,6 +130,18 @@ slot_turn who tag slot (e ∷ es) = slot_turn who tag (slot_after who tag slot e
 abbrev pub server_of : ℕ → List Line → Server
 server_of osts [] = server_start
 server_of osts (l ∷ past) = elim l.at.node [ Client c ↦ server_of osts past | Target t ↦ server_after osts (server_of osts past) l.entry ]
+
+abbrev pub lives_of : (clients : ℕ) → List Line → List Who
+lives_of clients [] = lives_from 0 clients
+lives_of clients (l ∷ past) = elim l.at.node [ Client c ↦ lives_of clients past | Target t ↦ lives_after (lives_of clients past) l.entry ]
+
+abbrev pub evicted_of : List Line → List Who
+evicted_of [] = []
+evicted_of (l ∷ past) = elim l.at.node [ Client c ↦ evicted_of past | Target t ↦ evicted_after (evicted_of past) l.entry ]
+
+abbrev pub shown_of : List Line → List Lock
+shown_of [] = []
+shown_of (l ∷ past) = elim l.at.node [ Client c ↦ shown_of past | Target t ↦ shown_after (shown_of past) l.entry ]
 
 abbrev pub slot_of : Who → ℕ → List Line → Slot
 slot_of who tag [] = no_slot

@@ -1,6 +1,6 @@
-//! What the rows come to in the runs that the theorem covers so far: calls on names, of any number of clients, under
-//! every loss, repeat and delay.
+//! Which runs the theorem covers so far: calls on names and on bad handles, of any number of clients, under every loss,
+//! repeat and delay, with evictions and new lives.
 //!
-//! The definitions stand in `specs/`: `TargetParts`, `TargetStates` and `TargetRows` (the metadata target, for requests that
-//! need no lock), `Calls`, `Makes`, `Imports`, `ClientStates` and `ClientRows` (a client), and `Runs`.
+//! The definitions stand in `specs/`: `Covered` (which runs), `Heads`, `Makes`, `TargetParts`, `TargetStates` and `Deeds`
+//! (a target), `Calls`, `Imports`, `ClientStates` and `Known` (a client).
 #![tactic(auto)]

@@ -1,8 +1,10 @@
--- What comes to a node in a covered run whose calls are those of a covered scenario's lines: to the metadata target requests and cancels of the
--- first lives, to a client of the run replies without a file's attributes, and blocks.
-use Rattle.std.proofs.Common.{◌≡◌, ℕ, ◌+◌, ◌<◌, ◌≤◌, Bool, true, false, List, [], ◌∷◌, Some, None, inl, inr, ⊎_elim, refl, sym, subst, ap, ◌∙◌, zero, suc, arith, pos}
+-- What comes to a node in a covered run whose calls are those of a covered scenario's lines: to the metadata target requests and locks that are
+-- given back, to each target joins, all of the first boot; to a client of the run replies without a file's attributes, blocks, and word that
+-- its life is served or is over. Where no turn may ask a disk, all is of first lives, and none joins.
+use Rattle.std.proofs.Common.{◌≡◌, ℕ, ◌+◌, ◌<◌, ◌≤◌, true, false, List, [], ◌∷◌, Option, Some, None, ◌⊎◌, inl, inr, ⊎_elim, refl, sym, subst, ap, ◌∙◌, zero, suc, arith, pos}
 use Rattle.std.specs.Prelude.{nat_eq}
-use Rattle.std.proofs.lemmas.Bool.{cond_both, eqb-false}
+use Rattle.std.proofs.lemmas.Bool.{cond_both, eqb-true}
+use Rattle.lu_base.specs.declared.ids.At.{At}
 use Rattle.lu_base.specs.declared.ids.Node.{Node}
 use Rattle.lu_base.specs.declared.ids.Node.TheVariants.{Client, Target}
 use Rattle.lu_base.specs.declared.ids.Who.{Who}
@@ -16,79 +18,182 @@ use Rattle.lu_msg.specs.declared.operations.Op.{Op}
 use Rattle.lu_msg.specs.declared.operations.Op.TheVariants as op
 use Rattle.lu_scene.specs.declared.scene.Scene.{Scene}
 use Rattle.lu_trace.specs.WellFormed.{IsCall}
-use Rattle.lu_words.specs.Carried.{Deed, Flight}
-use Rattle.lu_words.specs.Concerns.{concerns, only}
+use Rattle.lu_words.specs.Carried.{Deed, HandleFile, Flight}
+use Rattle.lu_words.specs.Concerns.{only}
 use Rattle.lu_words.specs.Sent.{Sent}
-use Rattle.lu_words.specs.Words.{Entry, Act, Txn, Flies, Line, line}
+use Rattle.lu_words.specs.Words.{Entry, Send, Flies, Life, Evict, Joined, Line, line}
 use Rattle.lu_target_rows.specs.Lives.{is_life}
-use Rattle.lu_target_rows.specs.States.{lives_from}
+use Rattle.lu_target_rows.specs.States.{Target as TargetState, lives_from}
 use Rattle.lu_covered.specs.Calls.{operation_of, first_life}
+use Rattle.lu_covered.specs.ClientStates.{life_of, is_own}
 use Rattle.lu_covered.specs.Heads.{Head}
-use Rattle.lu_lawful.proofs.Guards.{In, Was, EntryOf, LivesAt, Grown}
-use Rattle.lu_lawful.proofs.Lists.{self}
-use Rattle.lu_lawful.proofs.Groups.{Acted, Flew, HoldsAt}
-use Rattle.lu_lawful.proofs.FactLines.{flew_whole}
-use Rattle.lu_lawful.proofs.Numbers.{client_is}
+use Rattle.lu_covered.specs.TargetStates.{lives_of, evicted_of}
+use Rattle.lu_lawful.proofs.Guards.{In, Was, EntryOk, EntryOf, IsOneOf, Newer, Grown, GrownOf}
+use Rattle.lu_lawful.proofs.Lists.{self, own_is}
+use Rattle.lu_lawful.proofs.Only.{sent_was, was_only, grown_of}
+use Rattle.lu_lawful.proofs.Groups.{turn, Acted, Flew, Evicted, HoldsAt}
+use Rattle.lu_lawful.proofs.FactLines.{flew_whole, acted_whole}
 use Rattle.lu_lawful.proofs.All.{holds}
 use Rattle.lu_lawful.proofs.Asked.{AskedBy, flew_asked}
 use Rattle.lu_lawful.proofs.Files.{acted_told}
 use Rattle.lu_lawful.proofs.OnNames.{IsPlain, op_is}
-use Rattle.lu_lawful.proofs.Sides.{sent_only}
-use Rattle.lu_covered_scenes.specs.Covered.{IsFile, IsCovered}
+use Rattle.lu_covered_scenes.specs.Covered.{IsFile, IsCovered, AsksNoDisk}
 use Rattle.lu_covered_scenes.proofs.Every.{Every}
+use Rattle.lu_covered_scenes.proofs.Asking.{Suits, AllSuit, was_suits}
 use Rattle.lu_covered_scenes.proofs.Clients.{IsReader}
 use Rattle.lu_covered_scenes.proofs.ClientRows.{MessageCalm}
-use Rattle.lu_covered_scenes.proofs.Lines.{lines_known, called_fits, AllOfLines, all_files, all_stats}
+use Rattle.lu_covered_scenes.proofs.Lines.{MayAsk, lines_known, called_fits, AllOfLines, all_files, all_stats}
 use Rattle.lu_covered_scenes.proofs.Numbers.{IsShort, MessageFits}
 use Rattle.lu_covered_scenes.proofs.Targets.{MessageServed}
+use Rattle.lu_lawful.proofs.GuardLifeLists.{stands_life, life_left}
+use Rattle.lu_lawful.proofs.LifeLists.{first_among, put_or}
 
--- ---- clients of the run
+-- ---- between whom messages go
 
--- who asked is one
-pub flew_one : (head : Head) (past : List Line) → Grown head past → (c : ℕ) (f : Flight) → Flew past c f → c < head.clients
-flew_one head [] g c f i = absurd i
-flew_one head (l ∷ past) g c f i = by l.at.node l.entry g.0.lives g.0.of (flew_one head past g.1 c f) i
+abbrev pub Goes : (from to : Node) → Message → Type 0
+Goes (Client c) (Target t) (message.Request r) = t ≡ 0
+Goes (Client c) (Target t) (message.Cancel who boot cookie) = t ≡ 0
+Goes (Client c) (Target t) (message.Join who boot) = Unit {0}
+Goes (Target t) (Client c) (message.Reply k) = t ≡ 0
+Goes (Target t) (Client c) (message.Block who boot cookie) = t ≡ 0
+Goes (Target t) (Client c) (message.Ready who boot committed) = Unit {0}
+Goes (Target t) (Client c) (message.Evicted who boot) = Unit {0}
+Goes _ _ _ = ⊥
+
+send_goes : (past : List Line) (at : At) (node to : Node) (m : Message) → EntryOk past at node (Send to m) → Goes node to m
+send_goes past at (Client c) (Target t) (message.Request r) ok = ok
+send_goes past at (Client c) (Target t) (message.Cancel who boot cookie) ok = ok
+send_goes past at (Client c) (Target t) (message.Join who boot) ok = tt
+send_goes past at (Target t) (Client c) (message.Reply k) ok = ok.0
+send_goes past at (Target t) (Client c) (message.Block who boot cookie) ok = ok
+send_goes past at (Target t) (Client c) (message.Ready who boot committed) ok = tt
+send_goes past at (Target t) (Client c) (message.Evicted who boot) ok = tt
+send_goes past at node to m ok = absurd ok
+
+pub was_goes : (head : Head) (past : List Line) (from to : Node) (m : Message) → Grown head past → Was past from to m → Goes from to m
+was_goes head [] from to m g w = absurd w
+was_goes head (l ∷ past) from to m g w = by l.entry g.0.ok w (λ v. was_goes head past from to m g.1 v)
   where
-    by : (node : Node) (e : Entry) → LivesAt head past node → ((t : ℕ) → concerns t node e ≡ true → EntryOf head (only t past) l.at node e) → (Flew past c f → c < head.clients)
-        → Flew (line (record { stamp = l.at.stamp; node = node }) e ∷ past) c f → c < head.clients
-    by (Client d) (Flies t x) a of h i = ⊎_elim (λ (p : (Client d ≡ Client c) × (x ≡ f)). subst (λ v. v < head.clients) (sym (client_is c d p.0)) a.one) h i
-    by (Target t) (Flies u x) a of h i = absurd (of t (self t))
-    by node e a of h i = h i
+    by : (e : Entry) → EntryOk past l.at l.at.node e → Was (line l.at e ∷ past) from to m → (Was past from to m → Goes from to m) → Goes from to m
+    by (Send node k) ok w h = ⊎_elim
+        (λ (p : (l.at.node ≡ from) × (node ≡ to) × (k ≡ m)).
+        subst (λ (v : Node). Goes v to m) p.0 (subst (λ (v : Node). Goes l.at.node v m) p.1 (subst (λ (x : Message). Goes l.at.node node x) p.2 (send_goes past l.at l.at.node node k ok))))
+        h
+        w
+    by e ok w h = h w
 
--- it has a slot
-first_among : (from more c : ℕ) → from ≤ c → c < from + more → is_life (first_life c) (lives_from from more) ≡ true
-first_among from zero c low high = absurd (omega (arith, low, high))
-first_among from (suc more) c low high = by (nat_eq c from) refl (λ e. first_among (from + 1) more c (omega (arith, low, eqb-false c from e)) (omega (arith, high)))
+-- what came to a target is in its story, and what a target sent is in its
+pub came : (head : Head) (past : List Line) (t : ℕ) (from : Node) (m : Message) → Grown head past → Was past from (Target t) m → Was (only t past) from (Target t) m
+came head past t from m g w = by from (was_goes head past from (Target t) m g w) w
   where
-    by : (b : Bool) → nat_eq c from ≡ b → (nat_eq c from ≡ false → is_life (first_life c) (lives_from (from + 1) more) ≡ true) → is_life (first_life c) (lives_from from (suc more)) ≡ true
-    by true e more = rw e refl
-    by false e more = rw e (more e)
+    by : (v : Node) → Goes v (Target t) m → Was past v (Target t) m → Was (only t past) v (Target t) m
+    by (Client c) k w = was_only t past (Client c) (Target t) m (self t) w
+    by (Target u) k w = absurd k
 
--- ---- what was done
+told : (past : List Line) (t : ℕ) (to : Node) (m : Message) → Was past (Target t) to m → Was (only t past) (Target t) to m
+told past t to m w = was_only t past (Target t) to m (self t) w
 
-acted_more : (l : Line) (past : List Line) (d : Deed) → Acted past d → Acted (l ∷ past) d
-acted_more l past d a = by l.entry
-  where
-    by : (e : Entry) → Acted (line l.at e ∷ past) d
-    by (Act x) = inr a
-    by (Txn x) = inr a
-    by _ = a
+-- ---- clients of the run: lives that asked, have a slot or were evicted are of one
 
-acted_either : (l : Line) (past new : List Line) (d : Deed) → (Acted past d → Acted new d) → Acted (l ∷ past) d → Acted (l ∷ new) d
-acted_either l past new d h a = by l.entry a
-  where
-    by : (e : Entry) → Acted (line l.at e ∷ past) d → Acted (line l.at e ∷ new) d
-    by (Act x) a = ⊎_elim (λ (p : x ≡ d). inl p) (λ (p : Acted past d). inr (h p)) a
-    by (Txn x) a = ⊎_elim (λ (p : x ≡ d). inl p) (λ (p : Acted past d). inr (h p)) a
-    by _ a = h a
+among_first : (from more : ℕ) (w : Who) → In w (lives_from from more) → w.client < from + more
+among_first from zero w i = absurd i
+among_first from (suc more) w (inl e) = let is : from ≡ w.client = ap (λ (x : Who). x.client) e in omega (arith, is)
+among_first from (suc more) w (inr i) = let is = among_first (from + 1) more w i in omega (arith, is)
 
-pub acted_whole : (t : ℕ) (past : List Line) (d : Deed) → Acted (only t past) d → Acted past d
-acted_whole t [] d a = a
-acted_whole t (l ∷ past) d a =
-    cond_both (concerns t l.at.node l.entry) (l ∷ only t past) (only t past) (λ (p : List Line). Acted p d → Acted (l ∷ past) d)
-    (λ i b. acted_either l (only t past) past d (acted_whole t past d) b)
-    (λ i b. acted_more l past d (acted_whole t past d b))
-    a
+module _ (head : Head) where
+  -- over what concerns one target
+  life_client : (past : List Line) → GrownOf head past → (c : ℕ) → (life_of c past).client ≡ c
+  life_client [] g c = refl
+  life_client (l ∷ past) g c = by l.at.node l.entry g.0 (life_client past g.3)
+    where
+      by : (node : Node) (e : Entry) → EntryOf head past l.at node e → ((d : ℕ) → (life_of d past).client ≡ d) → (life_of c (line (turn l.at.stamp node) e ∷ past)).client ≡ c
+      by (Client d) (Life who) ok h =
+          cond_both (nat_eq c d) who (life_of c past) (λ (w : Who). w.client ≡ c)
+          (λ t. ap (λ (w : Who). w.client) ok.next ∙ h d ∙ sym (eqb-true c d t)) (λ t. h c)
+      by (Target u) (Life who) ok h = absurd ok
+      by node e ok h = h c
+
+  -- a life of a client of the run
+  abbrev IsOf : Who → Type 0
+  IsOf who = who.client < head.clients
+
+  own_one : (past : List Line) → GrownOf head past → (who : Who) (node : Node) → IsOneOf head node → is_own who past node ≡ true → IsOf who
+  own_one past g who (Client d) one own = subst (λ (n : ℕ). n < head.clients) (sym (ap (λ (w : Who). w.client) (own_is who past d own) ∙ life_client past g d)) one
+  own_one past g who (Target u) one own = absurd (cc)
+
+  pub flew_one : (past : List Line) → GrownOf head past → (who : Who) (f : Flight) → Flew past who f → IsOf who
+  flew_one [] g who f i = absurd i
+  flew_one (l ∷ past) g who f i = by l.entry i (flew_one past g.3 who f)
+    where
+      by : (e : Entry) → Flew (line l.at e ∷ past) who f → (Flew past who f → IsOf who) → IsOf who
+      by (Flies t x) i h = ⊎_elim (λ (p : (is_own who past l.at.node ≡ true) × (x ≡ f)). own_one past g.3 who l.at.node g.2 p.0) h i
+      by e i h = h i
+
+  joins_one : (past : List Line) → GrownOf head past → (from to : Node) (who : Who) (boot : ℕ) → Was past from to (message.Join who boot) → IsOf who
+  joins_one [] g from to who boot w = absurd w
+  joins_one (l ∷ past) g from to who boot w = by l.entry g.0 w (joins_one past g.3 from to who boot)
+    where
+      sends : (node to : Node) → EntryOf head past l.at node (Send to (message.Join who boot)) → IsOneOf head node → IsOf who
+      sends (Client c) (Target t) ok one = subst (λ (n : ℕ). n < head.clients) (sym (ap (λ (w : Who). w.client) ok.of_life ∙ life_client past g.3 c)) one
+      sends (Client c) (Client d) ok one = absurd ok
+      sends (Target t) (Client c) ok one = absurd ok
+      sends (Target t) (Target u) ok one = absurd ok
+
+      by : (e : Entry) → EntryOf head past l.at l.at.node e → Was (line l.at e ∷ past) from to (message.Join who boot) → (Was past from to (message.Join who boot) → IsOf who) → IsOf who
+      by (Send node k) ok w h =
+          ⊎_elim
+          (λ (p : (l.at.node ≡ from) × (node ≡ to) × (k ≡ message.Join who boot)). sends l.at.node node (subst (λ (x : Message). EntryOf head past l.at l.at.node (Send node x)) p.2 ok) g.2)
+          h w
+      by e ok w h = h w
+
+  -- so are those that have a slot, or were evicted
+  abbrev pub AreOf : List Line → Type 0
+  AreOf past = record { lives : (w : Who) → is_life w (lives_of head.clients past) ≡ true → IsOf w; evicted : (w : Who) → Evicted past w → IsOf w }
+
+  pub are_of : (past : List Line) → GrownOf head past → AreOf past
+  are_of [] g = record { lives = λ w i. let low = among_first 0 head.clients w (stands_life w (lives_from 0 head.clients) i) in omega (arith, low); evicted = λ w i. absurd (cc) }
+  are_of (l ∷ past) g = by l.at.node l.entry g.0 (are_of past g.3)
+    where
+      by : (node : Node) (e : Entry) → EntryOf head past l.at node e → AreOf past → AreOf (line (turn l.at.stamp node) e ∷ past)
+      by (Target t) (Evict who cause) ok h =
+          record {
+            lives = λ w i. h.lives w (life_left w who (lives_of head.clients past) i).0;
+            evicted = λ w i. ⊎_elim (λ (e : w ≡ who). subst IsOf (sym e) (h.lives who ok.has)) (h.evicted w) (put_or w who (evicted_of past) i);
+          }
+      by (Target t) (Joined who) ok h =
+          record {
+            lives = λ w i. ⊎_elim (λ (e : w ≡ who). subst IsOf (sym e) (joins_one past g.3 (Client ok.from) (Target t) who ok.boot ok.was)) (h.lives w) (put_or w who (lives_of head.clients past) i);
+            evicted = h.evicted;
+          }
+      by (Client c) e ok h = record { lives = h.lives; evicted = h.evicted }
+      by (Target t) e ok h = record { lives = h.lives; evicted = h.evicted }
+
+-- ---- where no turn may ask a disk each life is the first
+
+module _ (MayAsk : Type 0) (osts : ℕ) (none : MayAsk → ⊥) where
+  life_first : (past : List Line) → AllSuit MayAsk osts past → (c : ℕ) → life_of c past ≡ first_life c
+  life_first [] s c = refl
+  life_first (l ∷ past) s c = by l.entry s.0 (life_first past s.1 c)
+    where
+      by : (e : Entry) → Suits MayAsk osts e → life_of c past ≡ first_life c → life_of c (line l.at e ∷ past) ≡ first_life c
+      by (Life who) suits h = absurd (none suits)
+      by e suits h = h
+
+  own_first : (past : List Line) → AllSuit MayAsk osts past → (who : Who) (node : Node) → is_own who past node ≡ true → who ≡ first_life who.client
+  own_first past s who (Client d) own =
+      let is : who ≡ first_life d = own_is who past d own ∙ life_first past s d in
+      is ∙ ap first_life (sym (ap (λ (w : Who). w.client) is))
+  own_first past s who (Target u) own = absurd (cc)
+
+  pub flew_first : (past : List Line) → AllSuit MayAsk osts past → (who : Who) (f : Flight) → Flew past who f → who ≡ first_life who.client
+  flew_first [] s who f i = absurd i
+  flew_first (l ∷ past) s who f i = by l.entry i (flew_first past s.1 who f)
+    where
+      by : (e : Entry) → Flew (line l.at e ∷ past) who f → (Flew past who f → who ≡ first_life who.client) → who ≡ first_life who.client
+      by (Flies t x) i h = ⊎_elim (λ (p : (is_own who past l.at.node ≡ true) × (x ≡ f)). own_first past s.1 who l.at.node p.0) h i
+      by e i h = h i
+
+-- ---- lists
 
 every_in : {A : Type 0} (P : A → Type 0) (xs : List A) → ((x : A) → In x xs → P x) → Every P xs
 every_in P [] all = tt
@@ -96,85 +201,138 @@ every_in P (x ∷ xs) all = (all x (inl refl), every_in P xs (λ y i. all y (inr
 
 -- ---- the paths of operations
 
-short : (k : Call) (o : Op) → operation_of k ≡ Some o → IsCall k → IsShort o
-short (call.Lookup path) o e fits = subst IsShort (op_is (op.Lookup path) o e) fits.are_names.0
-short (call.Stat path) o e fits = subst IsShort (op_is (op.Stat path) o e) fits.are_names.0
-short (call.List path) o e fits = subst IsShort (op_is (op.List path) o e) fits.are_names.0
-short (call.Layout path) o e fits = subst IsShort (op_is (op.Layout path) o e) fits.are_names.0
-short (call.Mkdir path) o e fits = subst IsShort (op_is (op.Mkdir path) o e) tt
-short (call.Create path None) o e fits = subst IsShort (op_is (op.Create path 1048576 (pos 1)) o e) tt
-short (call.Create path (Some stripes)) o e fits = subst IsShort (op_is (op.Create path stripes.0 stripes.1) o e) tt
-short (call.Link old new) o e fits = subst IsShort (op_is (op.Link old new) o e) tt
-short (call.Unlink path) o e fits = subst IsShort (op_is (op.Unlink path) o e) tt
-short (call.Rmdir path) o e fits = subst IsShort (op_is (op.Rmdir path) o e) tt
-short (call.Rename old new) o e fits = subst IsShort (op_is (op.Rename old new) o e) tt
-short (call.Chmod path mode) o e fits = subst IsShort (op_is (op.Chmod path mode) o e) tt
-short k o e fits = absurd (cc)
+short : (file : Option HandleFile) (k : Call) (o : Op) → operation_of file k ≡ Some o → IsCall k → IsShort o
+short file (call.Lookup path) o e fits = subst IsShort (op_is (op.Lookup path) o e) fits.are_names.0
+short file (call.Stat path) o e fits = subst IsShort (op_is (op.Stat path) o e) fits.are_names.0
+short file (call.List path) o e fits = subst IsShort (op_is (op.List path) o e) fits.are_names.0
+short file (call.Layout path) o e fits = subst IsShort (op_is (op.Layout path) o e) fits.are_names.0
+short file (call.Mkdir path) o e fits = subst IsShort (op_is (op.Mkdir path) o e) tt
+short file (call.Create path None) o e fits = subst IsShort (op_is (op.Create path 1048576 (pos 1)) o e) tt
+short file (call.Create path (Some stripes)) o e fits = subst IsShort (op_is (op.Create path stripes.0 stripes.1) o e) tt
+short file (call.Link old new) o e fits = subst IsShort (op_is (op.Link old new) o e) tt
+short file (call.Unlink path) o e fits = subst IsShort (op_is (op.Unlink path) o e) tt
+short file (call.Rmdir path) o e fits = subst IsShort (op_is (op.Rmdir path) o e) tt
+short file (call.Rename old new) o e fits = subst IsShort (op_is (op.Rename old new) o e) tt
+short file (call.Chmod path mode) o e fits = subst IsShort (op_is (op.Chmod path mode) o e) tt
+short file (call.Open h path) o e fits = subst IsShort (op_is (op.Open path) o e) tt
+short (Some f) (call.Close h) o e fits = subst IsShort (op_is (op.Close f.number f.fid) o e) tt
+short file k o e fits = absurd (cc)
 
-module _ (scene : Scene) (covered : IsCovered scene) (head : Head) (past : List Line) (g : Grown head past) (begun : AllOfLines scene past) where
+module _ (scene : Scene) (covered : IsCovered scene) (head : Head) (osts : ℕ) (past : List Line) (g : Grown head past) (suits : AllSuit (MayAsk scene) osts past) (begun : AllOfLines scene past) where
   -- what was asked has a short path
   asked_short : (o : Op) → AskedBy past o → IsShort o
-  asked_short o a = short a.0 o a.2 (called_fits scene scene.lines (lines_known scene covered) a.0 (begun a.0 a.1))
+  asked_short o a = short a.2 a.0 o a.3 (called_fits scene scene.lines (lines_known scene covered) a.0 (begun a.0 a.1))
 
   -- ---- to a target
 
-  -- it is of a first life of the run
-  pub of_life : (who : Who) (f : Flight) → who ≡ first_life who.client → Flew (only 0 past) who.client f → is_life who (lives_from 0 head.clients) ≡ true
-  of_life who f first flew =
-      let one = flew_one head past g who.client f (flew_whole 0 past who.client f flew) in
-      subst (λ (w : Who). is_life w (lives_from 0 head.clients) ≡ true) (sym first) (first_among 0 head.clients who.client (omega arith) (omega (arith, one)))
+  -- where no turn may ask a disk it is of a life that has a slot
+  has_slot : (v : TargetState) → (AsksNoDisk scene → v.lives ≡ lives_from 0 head.clients) → (who : Who) (f : Flight) → Flew (only 0 past) who f → is_life who v.lives ≡ false → MayAsk scene
+  has_slot v lives who f flew out quiet =
+      let first = flew_first (MayAsk scene) osts (λ may. may quiet) past suits who f (flew_whole 0 past who f flew) in
+      let one = flew_one head (only 0 past) (grown_of head 0 past g) who f flew in
+      let among : is_life who (lives_from 0 head.clients) ≡ true = subst (λ (w : Who). is_life w (lives_from 0 head.clients) ≡ true) (sym first) (first_among 0 head.clients who.client (omega arith) (omega (arith, one))) in
+      let has : is_life who v.lives ≡ true = subst (λ (ws : List Who). is_life who ws ≡ true) (sym (lives quiet)) among in
+      absurd (cc)
 
-  at_names : HoldsAt head (only 0 past)
-  at_names = (holds head past g).at 0
+  at_target : (t : ℕ) → HoldsAt head (only t past)
+  at_target t = (holds head past g).at t
 
-  pub target_served : (n : ℕ) (from : Node) (m : Message) → Sent past n from (Target 0) m → MessageServed head.clients m × MessageFits m
-  target_served n from m sent = by m (sent_only head past n from (Target 0) m g sent)
+  -- what is known of it
+  pub record Arrives (t : ℕ) (v : TargetState) (m : Message) : Type 0 where
+    pub served : MessageServed (MayAsk scene) v m
+    pub fits : MessageFits m
+    pub one : t ≤ osts
+
+  pub target_served : (t : ℕ) (v : TargetState) → v.setting.id ≡ t → (AsksNoDisk scene → v.lives ≡ lives_from 0 head.clients) → (n : ℕ) (from : Node) (m : Message) → Sent past n from (Target t) m → Arrives t v m
+  target_served t v id lives n from m sent = by from m (was_goes head past from (Target t) m g w) w
     where
-      by : (m : Message) → Was (only 0 past) from (Target 0) m → MessageServed head.clients m × MessageFits m
-      by (message.Request r) was =
-          let meant = at_names.done.sent from (Target 0) (message.Request r) was in
-          let same : meant.0.op ≡ r.op = ap (λ (x : RequestOf). x.op) (sym meant.2) in (
-            (ap (λ (x : RequestOf). x.boot) meant.2, of_life r.who meant.0 (ap (λ (x : RequestOf). x.who) meant.2) meant.1),
-            asked_short r.op (subst (AskedBy past) same (flew_asked head past r.who.client meant.0 g (flew_whole 0 past r.who.client meant.0 meant.1))),
-          )
-      by (message.Cancel who boot cookie) was =
-          let back = at_names.locks.cancels from (Target 0) who boot cookie was in
-          let flew = at_names.done.flew back.deed back.gave.0 in (
-            (back.first, subst (λ (w : Who). is_life w (lives_from 0 head.clients) ≡ true) back.of (of_life back.deed.reply.who flew.0 (at_names.done.life back.deed back.gave.0) flew.1)),
-            tt,
-          )
-      by m was = absurd (at_names.done.sent from (Target 0) m was)
+      w : Was past from (Target t) m
+      w = sent_was past n from (Target t) m sent
+
+      by : (from : Node) (m : Message) → Goes from (Target t) m → Was past from (Target t) m → Arrives t v m
+      by (Client c) (message.Request r) names w =
+          let was = subst (λ (u : ℕ). Was (only u past) (Client c) (Target u) (message.Request r)) names (came head past t (Client c) (message.Request r) g w) in
+          let meant = (at_target 0).done.sent (Client c) (Target 0) (message.Request r) was in
+          let same : meant.0.op ≡ r.op = ap (λ (x : RequestOf). x.op) (sym meant.2) in
+          record {
+            served = (id ∙ names, ap (λ (x : RequestOf). x.boot) meant.2, has_slot v lives r.who meant.0 meant.1);
+            fits = asked_short r.op (subst (AskedBy past) same (flew_asked head past r.who meant.0 g (flew_whole 0 past r.who meant.0 meant.1)));
+            one = omega (arith, names);
+          }
+      by (Client c) (message.Cancel who boot cookie) names w =
+          let was = subst (λ (u : ℕ). Was (only u past) (Client c) (Target u) (message.Cancel who boot cookie)) names (came head past t (Client c) (message.Cancel who boot cookie) g w) in
+          let back = (at_target 0).locks.cancels (Client c) (Target 0) who boot cookie was in
+          let flew = (at_target 0).done.flew back.deed back.gave.0 in
+          record {
+            served = (id ∙ names, back.first, has_slot v lives who flew.0 (subst (λ (x : Who). Flew (only 0 past) x flew.0) back.of flew.1));
+            fits = tt;
+            one = omega (arith, names);
+          }
+      by (Client c) (message.Join who boot) goes w =
+          let suits = was_suits (MayAsk scene) osts past (Client c) (Target t) (message.Join who boot) suits w in
+          record { served = (((at_target t).done.sent (Client c) (Target t) (message.Join who boot) (came head past t (Client c) (message.Join who boot) g w)).0, suits.0); fits = tt; one = suits.1 }
+      by from m goes w = absurd goes
 
   -- ---- to a client
 
-  pub client_calm : (n c : ℕ) (from : Node) (m : Message) → Sent past n from (Client c) m → MessageCalm m
-  client_calm n c from m sent = by m (sent_only head past n from (Client c) m g sent)
+  pub client_calm : (n c : ℕ) (from : Node) (m : Message) → Sent past n from (Client c) m → MessageCalm (MayAsk scene) m
+  client_calm n c from m sent = by from m (was_goes head past from (Client c) m g w) w
     where
-      by : (m : Message) → Was (only 0 past) from (Client c) m → MessageCalm m
-      by (message.Reply r) was =
-          let meant = at_names.done.sent from (Client c) (message.Reply r) was in
+      w : Was past from (Client c) m
+      w = sent_was past n from (Client c) m sent
+
+      by : (from : Node) (m : Message) → Goes from (Client c) m → Was past from (Client c) m → MessageCalm (MayAsk scene) m
+      by (Target t) (message.Reply r) names w =
+          let meant = (at_target t).done.sent (Target t) (Client c) (message.Reply r) (told past t (Client c) (message.Reply r) w) in
           let d : Deed = meant.0 in (
-            subst (Every IsReader) (sym (ap (λ (x : ReplyTo). x.locks) meant.2)) (every_in IsReader d.reply.locks (λ l i. at_names.locks.readers d l (meant.1, i))),
-            subst IsPlain (sym (ap (λ (x : ReplyTo). x.answer) meant.2)) (acted_told head past (IsFile scene.lines) g (all_files scene past begun) (all_stats scene covered past begun) d (acted_whole 0 past d meant.1)),
+            subst (Every IsReader) (sym (ap (λ (x : ReplyTo). x.locks) meant.2)) (every_in IsReader d.reply.locks (λ l i. (at_target t).locks.readers d l (meant.1, i))),
+            subst IsPlain (sym (ap (λ (x : ReplyTo). x.answer) meant.2)) (acted_told head past (IsFile scene.lines) g (all_files scene past begun) (all_stats scene covered past begun) d (acted_whole t past d meant.1)),
           )
-      by (message.Block who boot cookie) was = tt
-      by m was = absurd (at_names.done.sent from (Client c) m was)
+      by (Target t) (message.Block who boot cookie) goes w = tt
+      by (Target t) (message.Ready who boot committed) goes w = was_suits (MayAsk scene) osts past (Target t) (Client c) (message.Ready who boot committed) suits w
+      by (Target t) (message.Evicted who boot) goes w = was_suits (MayAsk scene) osts past (Target t) (Client c) (message.Evicted who boot) suits w
+      by from m goes w = absurd goes
 
 -- it is one of the run
+module _ (head : Head) (past : List Line) (g : Grown head past) (t : ℕ) where
+  at_each : HoldsAt head (only t past)
+  at_each = (holds head past g).at t
+
+  story : GrownOf head (only t past)
+  story = grown_of head t past g
+
+  done_one : (d : Deed) → Acted (only t past) d → d.reply.who.client < head.clients
+  done_one d a = let f = at_each.done.flew d a in flew_one head (only t past) story d.reply.who f.0 f.1
+
+  had_one : (who : Who) → (is_life who (lives_of head.clients (only t past)) ≡ true) ⊎ Evicted (only t past) who → who.client < head.clients
+  had_one who (inl has) = (are_of head (only t past) story).lives who has
+  had_one who (inr out) = (are_of head (only t past) story).evicted who out
+
+  sent_one : (c : ℕ) (m : Message) → Goes (Target t) (Client c) m → Was past (Target t) (Client c) m → c < head.clients
+  sent_one c (message.Reply k) goes w =
+      let meant = at_each.done.sent (Target t) (Client c) (message.Reply k) (told past t (Client c) (message.Reply k) w) in
+      subst (λ (n : ℕ). n < head.clients) (sym (meant.3 ∙ ap (λ (r : ReplyTo). r.who.client) meant.2)) (done_one meant.0 meant.1)
+  sent_one c (message.Block who boot cookie) goes w =
+      let called = at_each.locks.blocks (Target t) c who boot cookie (told past t (Client c) (message.Block who boot cookie) w) in
+      subst (λ (n : ℕ). n < head.clients) (ap (λ (w : Who). w.client) called.of ∙ called.to) (done_one called.deed called.gave.0)
+  sent_one c (message.Ready who boot committed) goes w =
+      let was = told past t (Client c) (message.Ready who boot committed) w in
+      let meant = at_each.done.sent (Target t) (Client c) (message.Ready who boot committed) was in
+      subst (λ (n : ℕ). n < head.clients) (sym meant.1) (had_one who (at_each.lives.ready (Target t) (Client c) who boot committed was))
+  sent_one c (message.Evicted who boot) goes w =
+      let was = told past t (Client c) (message.Evicted who boot) w in
+      let meant = at_each.done.sent (Target t) (Client c) (message.Evicted who boot) was in
+      subst (λ (n : ℕ). n < head.clients) (sym meant.1)
+      (⊎_elim (λ (out : Evicted (only t past) who). had_one who (inr out)) (λ (n : Newer head.clients (only t past) who). subst (λ (x : ℕ). x < head.clients) n.client (had_one n.life n.had))
+      (at_each.lives.over (Target t) (Client c) who boot was))
+  sent_one c m goes w = absurd goes
+
 pub to_client : (head : Head) (past : List Line) → Grown head past → (n c : ℕ) (from : Node) (m : Message) → Sent past n from (Client c) m → c < head.clients
-to_client head past g n c from m sent = by m (sent_only head past n from (Client c) m g sent)
+to_client head past g n c from m sent = by from (was_goes head past from (Client c) m g w) w
   where
-    h : HoldsAt head (only 0 past)
-    h = (holds head past g).at 0
+    w : Was past from (Client c) m
+    w = sent_was past n from (Client c) m sent
 
-    done_one : (d : Deed) → Acted (only 0 past) d → d.reply.who.client < head.clients
-    done_one d a = let f = h.done.flew d a in flew_one head past g d.reply.who.client f.0 (flew_whole 0 past d.reply.who.client f.0 f.1)
-
-    by : (m : Message) → Was (only 0 past) from (Client c) m → c < head.clients
-    by (message.Reply k) was =
-        let m = h.done.sent from (Client c) (message.Reply k) was in
-        subst (λ v. v < head.clients) (sym (m.3 ∙ ap (λ (r : ReplyTo). r.who.client) m.2)) (done_one m.0 m.1)
-    by (message.Block who boot cookie) was =
-        let called = h.locks.blocks from c who boot cookie was in
-        subst (λ v. v < head.clients) (ap (λ (w : Who). w.client) (called.of ∙ called.to)) (done_one called.deed called.gave.0)
-    by m was = absurd (h.done.sent from (Client c) m was)
+    by : (from : Node) → Goes from (Client c) m → Was past from (Client c) m → c < head.clients
+    by (Target t) goes w = sent_one head past g t c m goes w
+    by (Client d) goes w = absurd goes

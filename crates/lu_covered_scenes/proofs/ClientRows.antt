@@ -1,6 +1,6 @@
 -- A client's row in a covered scenario: where it stood so before, all its lines are covered, and it stands so after them.
-use Rattle.std.proofs.Common.{◌≡◌, ℕ, zero, suc, ◌+◌, Bool, true, false, List, [], ◌∷◌, ◌++◌, Option, Some, None, refl, sym, subst, ap, ◌∙◌}
-use Rattle.std.specs.Prelude.{nat_eq, nat_lt, ◌&&◌, if◌then◌else◌, filter, drop, reverse}
+use Rattle.std.proofs.Common.{◌≡◌, ℕ, zero, suc, ◌+◌, ◌<◌, ◌≤◌, Bool, true, false, List, [], ◌∷◌, ◌++◌, length, Option, Some, None, ◌⊎◌, inl, inr, refl, sym, subst, ap, ◌∙◌, arith, pos}
+use Rattle.std.specs.Prelude.{nat_eq, nat_lt, ◌&&◌, ◌||◌, if◌then◌else◌, is_some, filter, drop, reverse}
 use Rattle.std.specs.List.{list_any}
 use Rattle.std.proofs.lemmas.Bool.{cond_both}
 use Rattle.lu_base.specs.declared.ids.At.{At}
@@ -28,40 +28,43 @@ use Rattle.lu_held.specs.Names.{is_before}
 use Rattle.lu_machine.specs.Fits.{answer_fits}
 use Rattle.lu_part.specs.declared.parts.Part.{Part}
 use Rattle.lu_part.specs.declared.parts.Part.TheVariants as part
-use Rattle.lu_words.specs.Carried.{Queued, Flight, Asking, Unasked, Asked, Answered, Stage, Running}
-use Rattle.lu_words.specs.Words.{Entry, Send, Take, Tick, Heard, Drop, same_life}
+use Rattle.lu_words.specs.Carried.{HandleFile, Queued, Flight, Asking, Unasked, Asked, Answered, Stage, Plain, Bad, Running}
+use Rattle.lu_words.specs.Words.{Entry, Send, Take, Tick, Heard, Drop, Life, same_life}
 use Rattle.lu_client_rows.specs.Advances.{tells, unpins}
 use Rattle.lu_client_rows.specs.Caches.{brought, granted_lock, patch_at}
-use Rattle.lu_client_rows.specs.Calls.{call_on}
+use Rattle.lu_client_rows.specs.Calls.{call_on, file_of}
 use Rattle.lu_client_rows.specs.Facts.{Fact}
-use Rattle.lu_client_rows.specs.Imports.{Standing, Import, import_of, is_serving}
+use Rattle.lu_client_rows.specs.Imports.{Standing, Joining, Recovering, Serving, Import, import_of, is_serving}
 use Rattle.lu_client_rows.specs.Known.{Notes, Known, KnownFile, Found, same_part, is_usable, lesser, of_least_cookie, fact_on, found_at_path, lookup_known, list_known, layout_known, directory_known, file_with, file_facts, file_at, names_of}
 use Rattle.lu_client_rows.specs.Locks.{marks_of, trims, must_write, gives_up, writes_under, visits_with, visits, visits_all, locks_go, dirty_total, is_called}
-use Rattle.lu_client_rows.specs.Messages.{holds, learns, heeds, hears_flight, hears_fitting, find_flight, hears, replied, waits_for, is_waiter, waiter, cancels_unknown, blocked_waiting, blocked_held, blocked, is_present, size_with, comes_by}
+use Rattle.lu_client_rows.specs.Messages.{holds, learns, heeds, hears_flight, hears_fitting, find_flight, hears, replied, waits_for, is_waiter, waiter, cancels_unknown, blocked_waiting, blocked_held, blocked, is_present, size_with, ready_heard, evicted_heard, comes_by}
 use Rattle.lu_base.specs.declared.locks.Policy.{Policy}
 use Rattle.lu_client_rows.specs.Patches.{Patch}
-use Rattle.lu_client_rows.specs.Recovery.{where_stage, on_calls, ticks, ticks_at}
+use Rattle.lu_client_rows.specs.Recovery.{looks_stage, where_stage, on_calls, ends_calls, drops_all, next_life, joins_all, ticks, ticks_at}
 use Rattle.lu_client_rows.specs.Rows.{Event, Begins, Comes, Ticks, Dies, rests, row_call, row}
 use Rattle.lu_client_rows.specs.Sending.{resends, flies, sends, sends_to, sends_all, has_room, next_flight}
-use Rattle.lu_client_rows.specs.Slots.{begins, goes, goes_at, goes_on, passes, all_slots, slots_go, is_free_close}
-use Rattle.lu_client_rows.specs.Starts.{notes_of, pins, tells_known, starts_known, stats_file, starts_stat, starts, answers, goes_plain}
+use Rattle.lu_client_rows.specs.Slots.{opens, refuses, begins_open, begins_close, begins, goes, goes_at, goes_on, passes, all_slots, slots_go, is_free_close}
+use Rattle.lu_client_rows.specs.Starts.{notes_of, pins, count_on, asks_names, tells_known, starts_known, stats_file, starts_stat, starts_close, starts, answers, goes_plain}
 use Rattle.lu_client_rows.specs.States.{Client, Limits, Store, follow}
-use Rattle.lu_covered.specs.Calls.{operation_of}
+use Rattle.lu_covered.specs.Calls.{becomes, operation_of}
 use Rattle.lu_lawful.proofs.OnNames.{IsOnNames, IsPlain}
+use Rattle.lu_covered_scenes.specs.Covered as scenes
 use Rattle.lu_covered_scenes.proofs.Every.{Every, every_more, every_filter}
-use Rattle.lu_covered_scenes.proofs.Clients.{AskingCalm, RunningCalm, CallCalm, ImportCalm, FactCalm, IsReader, HeldCalm, Calm, LineCalm, AllCalm, follow_calm, on_calm}
+use Rattle.lu_covered_scenes.proofs.Clients.{AskingCalm, RunningCalm, CallCalm, StandsCalm, ImportCalm, FactCalm, IsReader, HeldCalm, Calm, LineCalm, AllCalm, follow_calm, on_calm}
 
 -- what may come to such a client
-abbrev pub MessageCalm : Message → Type 0
-MessageCalm (message.Reply r) = Every IsReader r.locks × IsPlain r.answer
-MessageCalm (message.Block who boot cookie) = Unit {0}
-MessageCalm _ = ⊥
+abbrev pub MessageCalm : Type 0 → Message → Type 0
+MessageCalm MayAsk (message.Reply r) = Every IsReader r.locks × IsPlain r.answer
+MessageCalm MayAsk (message.Block who boot cookie) = Unit {0}
+MessageCalm MayAsk (message.Ready who boot committed) = MayAsk
+MessageCalm MayAsk (message.Evicted who boot) = MayAsk
+MessageCalm MayAsk _ = ⊥
 
-abbrev pub EventCalm : (Call → Type 0) → Event → Type 0
-EventCalm P (Begins slot c) = ((o : Op) × (operation_of c ≡ Some o)) × P c
-EventCalm P (Comes n from m) = MessageCalm m
-EventCalm P Ticks = Unit {0}
-EventCalm P Dies = Unit {0}
+abbrev pub EventCalm : (Call → Type 0) → Type 0 → Event → Type 0
+EventCalm P MayAsk (Begins slot c) = scenes.IsOnNames c × P c
+EventCalm P MayAsk (Comes n from m) = MessageCalm MayAsk m
+EventCalm P MayAsk Ticks = Unit {0}
+EventCalm P MayAsk Dies = Unit {0}
 
 -- ---- what is known of a file: its attributes never are
 
@@ -95,9 +98,9 @@ no_file_at n found _ c = refl
 
 -- ---- the parts of a row
 
-module _ (P : Call → Type 0) where
+module _ (P : Call → Type 0) (MayAsk : Type 0) (osts : ℕ) where
   abbrev All : List Entry → Type 0
-  All es = AllCalm P es
+  All es = AllCalm P MayAsk osts es
 
   pins_calm : (names : List LockName) → All (pins names)
   pins_calm [] = tt
@@ -108,7 +111,7 @@ module _ (P : Call → Type 0) where
   unpins_calm (n ∷ names) = (tt, unpins_calm names)
 
   known_calm : (at : At) (slot : ℕ) (r : Running) (known : Known) → All (tells_known at slot r known)
-  known_calm at slot r known = every_more (LineCalm P) (pins (names_of known.cookies)) _ (pins_calm (names_of known.cookies)) (tt, unpins_calm _)
+  known_calm at slot r known = every_more (LineCalm P MayAsk osts) (pins (names_of known.cookies)) _ (pins_calm (names_of known.cookies)) (tt, unpins_calm _)
 
   starts_known_calm : (at : At) (slot : ℕ) (r : Running) (o : Op) (known : Option Known) → IsOnNames o → All (starts_known at slot r o known)
   starts_known_calm at slot r o None is = (is, tt)
@@ -119,7 +122,12 @@ module _ (P : Call → Type 0) where
   stat_calm at slot path r s n found None c =
       subst (λ (o : Option KnownFile). All (stats_file at slot path r s o)) (sym (no_file_at n found found.inode c)) (tt, tt)
 
-  starts_calm : (at : At) (slot : ℕ) (c : Call) (r : Running) (k : Client) (o : Op) → operation_of c ≡ Some o → Calm k → All (starts at slot c r k)
+  -- a close waits, or asks
+  close_calm : (slot : ℕ) (calls : List (Option Running)) (file : Option HandleFile) → All (starts_close slot calls file)
+  close_calm slot calls None = tt
+  close_calm slot calls (Some f) = cond_both (nat_lt 1 (count_on f.number.0 calls)) [] (asks_names slot (op.Close f.number f.fid)) All (λ t. tt) (λ t. (tt, tt))
+
+  starts_calm : (at : At) (slot : ℕ) (c : Call) (r : Running) (k : Client) (o : Op) → operation_of r.file c ≡ Some o → Calm MayAsk osts k → All (starts at slot c r k)
   starts_calm at slot (call.Lookup path) r k o e h = starts_known_calm at slot r (op.Lookup path) (lookup_known (found_at_path (notes_of k) path)) tt
   starts_calm at slot (call.Stat path) r k o e h =
       stat_calm at slot path r k.store (notes_of k) (found_at_path (notes_of k) path) (directory_known (notes_of k) (found_at_path (notes_of k) path)) h.facts
@@ -133,38 +141,44 @@ module _ (P : Call → Type 0) where
   starts_calm at slot (call.Rmdir path) r k o e h = (tt, tt)
   starts_calm at slot (call.Rename path new) r k o e h = (tt, tt)
   starts_calm at slot (call.Chmod path mode) r k o e h = (tt, tt)
+  starts_calm at slot (call.Open handle path) r k o e h = (tt, tt)
+  starts_calm at slot (call.Close handle) r k o e h = close_calm slot k.calls r.file
   starts_calm at slot c r k o e h = absurd (cc)
 
   -- a call is told its answer
   tells_calm : (slot : ℕ) (r : Running) (at : At) (a : Answer) → All (tells slot r at a None)
   tells_calm slot r at a = (tt, unpins_calm r.pins)
 
-  answers_calm : (at : At) (slot : ℕ) (acted : At) (a : Answer) (c : Call) (r : Running) (k : Client) (o : Op) → operation_of c ≡ Some o → IsPlain a → All (answers at slot acted a c r k)
-  answers_calm at slot acted (told.OpenFile fid number layout) (call.Open h path) r k o e none = absurd (cc)
-  answers_calm at slot acted (told.FileStat fid mode links layout) c r k o e none = absurd none
-  answers_calm at slot acted a c r k o e none = tells_calm slot r acted a
+  answers_calm : (at : At) (slot : ℕ) (acted : At) (a : Answer) (c : Call) (r : Running) (k : Client) → IsPlain a → All (answers at slot acted a c r k)
+  answers_calm at slot acted (told.OpenFile fid number layout) (call.Open h path) r k none = (tt, tells_calm slot r acted (told.Made fid))
+  answers_calm at slot acted (told.FileStat fid mode links layout) c r k none = absurd none
+  answers_calm at slot acted a c r k none = tells_calm slot r acted a
 
-  plain_calm : (at : At) (slot : ℕ) (a : Asking) (r : Running) (k : Client) → RunningCalm r → r.asking ≡ a → Calm k → All (goes_plain at slot a r k)
-  plain_calm at slot Unasked r k c e h = starts_calm at slot r.call r k c.op c.becomes h
-  plain_calm at slot Asked r k c e h = tt
-  plain_calm at slot (Answered t reply) r k c e h =
-      answers_calm at slot reply.at reply.answer r.call r k c.op c.becomes (subst (λ (x : Asking). AskingCalm x) e c.asking)
+  plain_calm : (at : At) (slot : ℕ) (a : Asking) (r : Running) (k : Client) (o : Op) → becomes r ≡ Some o → AskingCalm a → Calm MayAsk osts k → All (goes_plain at slot a r k)
+  plain_calm at slot Unasked r k o is c h = starts_calm at slot r.call r k o is h
+  plain_calm at slot Asked r k o is c h = tt
+  plain_calm at slot (Answered t reply) r k o is c h = answers_calm at slot reply.at reply.answer r.call r k c
 
-  goes_calm : (at : At) (slot : ℕ) (k : Client) → Calm k → All (goes at slot k)
+  -- a call on a bad handle was told
+  stage_calm : (at : At) (slot : ℕ) (r : Running) (k : Client) → Calm MayAsk osts k → AskingCalm r.asking → ((r.stage ≡ Plain) × (o : Op) × (becomes r ≡ Some o)) ⊎ (r.stage ≡ Bad) → All (goes_at at slot r.stage r k)
+  stage_calm at slot r k h asking (inl g) = subst (λ (stage : Stage). All (goes_at at slot stage r k)) (sym g.0) (plain_calm at slot r.asking r k g.1 g.2 asking h)
+  stage_calm at slot r k h asking (inr b) = subst (λ (stage : Stage). All (goes_at at slot stage r k)) (sym b) tt
+
+  goes_calm : (at : At) (slot : ℕ) (k : Client) → Calm MayAsk osts k → All (goes at slot k)
   goes_calm at slot k h = by (call_on slot k.calls) (on_calm slot k.calls h.calls)
     where
       by : (o : Option Running) → CallCalm o → All (goes_on at slot k o)
       by None c = tt
-      by (Some r) c = subst (λ (stage : Stage). All (goes_at at slot stage r k)) (sym c.plain) (plain_calm at slot r.asking r k c refl h)
+      by (Some r) c = stage_calm at slot r k h c.asking c.good
 
-  passes_calm : (at : At) (slots : List ℕ) (k : Client) → Calm k → All (passes at slots k)
+  passes_calm : (at : At) (slots : List ℕ) (k : Client) → Calm MayAsk osts k → All (passes at slots k)
   passes_calm at [] k h = tt
-  passes_calm at (slot ∷ slots) k h = follow_calm P (goes at slot k) (passes at slots) k h (goes_calm at slot k h) (λ j c. passes_calm at slots j c)
+  passes_calm at (slot ∷ slots) k h = follow_calm P MayAsk osts (goes at slot k) (passes at slots) k h (goes_calm at slot k h) (λ j c. passes_calm at slots j c)
 
-  slots_calm : (n : ℕ) (at : At) (k : Client) → Calm k → All (slots_go n at k)
+  slots_calm : (n : ℕ) (at : At) (k : Client) → Calm MayAsk osts k → All (slots_go n at k)
   slots_calm zero at k h = tt
   slots_calm (suc n) at k h =
-      follow_calm P (passes at all_slots k) (λ j. if list_any (is_free_close j.calls) j.calls then slots_go n at j else []) k h (passes_calm at all_slots k h)
+      follow_calm P MayAsk osts (passes at all_slots k) (λ j. if list_any (is_free_close j.calls) j.calls then slots_go n at j else []) k h (passes_calm at all_slots k h)
       (λ j c. cond_both (list_any (is_free_close j.calls) j.calls) (slots_go n at j) [] All (λ t. slots_calm n at j c) (λ t. tt))
 
   -- ---- held locks
@@ -198,12 +212,12 @@ module _ (P : Call → Type 0) where
       subst (λ (b : Bool). All (if b then writes_under h p else gives_up k.who h (import_of h.target.0 k.imports))) (sym (writes_none over h h.lock.ask.mode h.lock.ask.policy p is))
       (gives_calm k.who h (import_of h.target.0 k.imports))
 
-  visits_calm : (over : Bool) (held : List HeldLock) (k : Client) → Every HeldCalm held → Calm k → All (visits_all over held k)
+  visits_calm : (over : Bool) (held : List HeldLock) (k : Client) → Every HeldCalm held → Calm MayAsk osts k → All (visits_all over held k)
   visits_calm over [] k is h = tt
   visits_calm over (g ∷ held) k is h =
-      follow_calm P (visits over g k) (visits_all over held) k h (visit_calm over g (patch_at g.lock.resource k.store.patches) k is.0) (λ j c. visits_calm over held j is.1 c)
+      follow_calm P MayAsk osts (visits over g k) (visits_all over held) k h (visit_calm over g (patch_at g.lock.resource k.store.patches) k is.0) (λ j c. visits_calm over held j is.1 c)
 
-  locks_calm : (limits : Limits) (k : Client) → Calm k → All (locks_go limits k)
+  locks_calm : (limits : Limits) (k : Client) → Calm MayAsk osts k → All (locks_go limits k)
   locks_calm limits k h = visits_calm (nat_lt limits.dirty (dirty_total k.store.patches)) (in_order k.store.held) k (order_calm k.store.held h.held) h
 
   -- ---- sending
@@ -215,18 +229,18 @@ module _ (P : Call → Type 0) where
       let more = sends limits who boot t (last + 1) (flights ++ f ∷ []) queue in
       cond_both (has_room limits t q.op flights) (flies who boot t f more) [] All (λ r. (c.0, (tt, sends_calm limits who boot t (last + 1) (flights ++ f ∷ []) queue c.1))) (λ r. tt)
 
-  all_sent_calm : (limits : Limits) (who : Who) (t : ℕ) (imports : List Import) → Every ImportCalm imports → All (sends_all limits who t imports)
+  all_sent_calm : (limits : Limits) (who : Who) (t : ℕ) (imports : List Import) → Every (ImportCalm MayAsk) imports → All (sends_all limits who t imports)
   all_sent_calm limits who t [] c = tt
   all_sent_calm limits who t (i ∷ imports) c =
-      every_more (LineCalm P) (sends_to limits who t i) (sends_all limits who (t + 1) imports)
+      every_more (LineCalm P MayAsk osts) (sends_to limits who t i) (sends_all limits who (t + 1) imports)
       (cond_both (is_serving i.standing) (sends limits who i.boot t i.last i.flights i.queue) [] All (λ s. sends_calm limits who i.boot t i.last i.flights i.queue c.0.queue) (λ s. tt))
       (all_sent_calm limits who (t + 1) imports c.1)
 
-  rests_calm : (limits : Limits) (at : At) (k : Client) → Calm k → All (rests limits at k)
+  pub rests_calm : (limits : Limits) (at : At) (k : Client) → Calm MayAsk osts k → All (rests limits at k)
   rests_calm limits at k h =
-      follow_calm P (slots_go 5 at k) (λ j. follow (trims limits j) (λ j. follow (locks_go limits j) (λ j. sends_all limits j.who 0 j.imports) j) j) k h (slots_calm 5 at k h)
-      (λ j c. follow_calm P (trims limits j) (λ j. follow (locks_go limits j) (λ j. sends_all limits j.who 0 j.imports) j) j c (trims_calm limits j)
-      (λ i b. follow_calm P (locks_go limits i) (λ j. sends_all limits j.who 0 j.imports) i b (locks_calm limits i b)
+      follow_calm P MayAsk osts (slots_go 5 at k) (λ j. follow (trims limits j) (λ j. follow (locks_go limits j) (λ j. sends_all limits j.who 0 j.imports) j) j) k h (slots_calm 5 at k h)
+      (λ j c. follow_calm P MayAsk osts (trims limits j) (λ j. follow (locks_go limits j) (λ j. sends_all limits j.who 0 j.imports) j) j c (trims_calm limits j)
+      (λ i b. follow_calm P MayAsk osts (locks_go limits i) (λ j. sends_all limits j.who 0 j.imports) i b (locks_calm limits i b)
       (λ g a. all_sent_calm limits g.who 0 g.imports a.imports)))
 
   -- ---- a message comes
@@ -253,11 +267,11 @@ module _ (P : Call → Type 0) where
   no_heeds t f (op.Cut resource cookie size) r a k is = absurd is
   no_heeds t f _ r a k is = refl
 
-  flight_calm : (t : ℕ) (r : ReplyTo) (f : Flight) (k : Client) → IsOnNames f.op → MessageCalm (message.Reply r) → Calm k → All (hears_flight t r f k)
+  flight_calm : (t : ℕ) (r : ReplyTo) (f : Flight) (k : Client) → IsOnNames f.op → MessageCalm MayAsk (message.Reply r) → Calm MayAsk osts k → All (hears_flight t r f k)
   flight_calm t r f k is m h =
       let brings = brings_calm f.op r is m.0 in
-      follow_calm P (Heard t f r ∷ holds t (size_with r.answer) r.seen (brought f.op r) ++ learns t f.op r.answer r.locks) (heeds t f f.op r r.answer) k h
-      ((brings, m.1), every_more (LineCalm P) (holds t (size_with r.answer) r.seen (brought f.op r)) (learns t f.op r.answer r.locks) (holds_calm t (size_with r.answer) r.seen (brought f.op r) brings) (learns_calm t f.op r.answer r.locks m.1))
+      follow_calm P MayAsk osts (Heard t f r ∷ holds t (size_with r.answer) r.seen (brought f.op r) ++ learns t f.op r.answer r.locks) (heeds t f f.op r r.answer) k h
+      ((brings, m.1), every_more (LineCalm P MayAsk osts) (holds t (size_with r.answer) r.seen (brought f.op r)) (learns t f.op r.answer r.locks) (holds_calm t (size_with r.answer) r.seen (brought f.op r) brings) (learns_calm t f.op r.answer r.locks m.1))
       (λ j c. subst All (sym (no_heeds t f f.op r r.answer j is)) tt)
 
   abbrev FlightCalm : Option Flight → Type 0
@@ -268,12 +282,12 @@ module _ (P : Call → Type 0) where
   found_calm xid [] c = tt
   found_calm xid (f ∷ flights) c = cond_both (nat_eq f.xid xid) (Some f) (find_flight xid flights) FlightCalm (λ t. c.0) (λ t. found_calm xid flights c.1)
 
-  flights_calm : (t : ℕ) (imports : List Import) → Every ImportCalm imports → Every (λ (f : Flight). IsOnNames f.op) (import_of t imports).flights
+  flights_calm : (t : ℕ) (imports : List Import) → Every (ImportCalm MayAsk) imports → Every (λ (f : Flight). IsOnNames f.op) (import_of t imports).flights
   flights_calm t [] c = tt
   flights_calm zero (i ∷ imports) c = c.0.flights
   flights_calm (suc t) (i ∷ imports) c = flights_calm t imports c.1
 
-  reply_calm : (t : ℕ) (r : ReplyTo) (k : Client) (present : Bool) → MessageCalm (message.Reply r) → Calm k → All (replied t r k present)
+  reply_calm : (t : ℕ) (r : ReplyTo) (k : Client) (present : Bool) → MessageCalm MayAsk (message.Reply r) → Calm MayAsk osts k → All (replied t r k present)
   reply_calm t r k false m h = tt
   reply_calm t r k true m h = by (find_flight r.xid.0 (import_of t k.imports).flights) (found_calm r.xid.0 (import_of t k.imports).flights (flights_calm t k.imports h.imports))
     where
@@ -285,10 +299,18 @@ module _ (P : Call → Type 0) where
       by None c = tt
       by (Some f) c = fit f c (answer_fits f.op r.answer)
 
+  -- what holds of the stage of a call that asks nothing of objects
+  of_stage : (Q : Stage → Type 0) (r : Running) → RunningCalm r → Q Plain → Q Bad → Q r.stage
+  of_stage Q r c plain bad = by c.good
+    where
+      by : ((r.stage ≡ Plain) × (o : Op) × (becomes r ≡ Some o)) ⊎ (r.stage ≡ Bad) → Q r.stage
+      by (inl g) = subst Q (sym g.0) plain
+      by (inr b) = subst Q (sym b) bad
+
   -- no call waits for a lock
   waits_not : (name : LockName) (o : Option Running) → CallCalm o → is_waiter name o ≡ false
   waits_not name None c = refl
-  waits_not name (Some r) c = ap (waits_for name) c.plain
+  waits_not name (Some r) c = of_stage (λ (stage : Stage). waits_for name stage ≡ false) r c refl refl
 
   no_waiter : (name : LockName) (slot : ℕ) (calls : List (Option Running)) → Every CallCalm calls → waiter name slot calls ≡ None
   no_waiter name slot [] c = refl
@@ -299,7 +321,7 @@ module _ (P : Call → Type 0) where
   unknown_calm who name boot [] = (tt, tt)
   unknown_calm who name boot (f ∷ flights) = tt
 
-  block_calm : (name : LockName) (k : Client) (mine : Bool) → Calm k → All (blocked name k mine)
+  block_calm : (name : LockName) (k : Client) (mine : Bool) → Calm MayAsk osts k → All (blocked name k mine)
   block_calm name k false h = tt
   block_calm name k true h = by (is_held name k.store.held)
     where
@@ -309,14 +331,7 @@ module _ (P : Call → Type 0) where
           subst (λ (o : Option ℕ). All (blocked_waiting name k o)) (sym (no_waiter name 0 k.calls h.calls))
           (unknown_calm k.who name (import_of name.target.0 k.imports).boot (import_of name.target.0 k.imports).flights)
 
-  comes_calm : (at : At) (from : Node) (m : Message) (k : Client) → MessageCalm m → Calm k → All (comes_by at from m k)
-  comes_calm at (FromClient c) m k is h = tt
-  comes_calm at (Target t) (message.Reply r) k is h = reply_calm t r k (is_present r.who r.boot t k) is h
-  comes_calm at (Target t) (message.Block who boot cookie) k is h = block_calm (named (record { 0 = t }) cookie) k (same_life who k.who) h
-  comes_calm at (Target t) m k is h = absurd is
-
-  -- ---- time goes on
-
+  -- what is in flight is sent again, and where the locks are that calls wait for
   resends_calm : (who : Who) (boot t : ℕ) (flights : List Flight) → All (resends who boot t flights)
   resends_calm who boot t [] = tt
   resends_calm who boot t (f ∷ flights) = (tt, resends_calm who boot t flights)
@@ -325,39 +340,113 @@ module _ (P : Call → Type 0) where
   where_calm who boot t slot [] c = tt
   where_calm who boot t slot (None ∷ calls) c = where_calm who boot t (slot + 1) calls c.1
   where_calm who boot t slot (Some r ∷ calls) c =
-      every_more (LineCalm P) (where_stage who boot t slot r r.stage) (on_calls (where_stage who boot t) (slot + 1) calls)
-      (subst (λ (stage : Stage). All (where_stage who boot t slot r stage)) (sym c.0.plain) tt) (where_calm who boot t (slot + 1) calls c.1)
+      every_more (LineCalm P MayAsk osts) (where_stage who boot t slot r r.stage) (on_calls (where_stage who boot t) (slot + 1) calls)
+      (of_stage (λ (stage : Stage). All (where_stage who boot t slot r stage)) r c.0 tt tt) (where_calm who boot t (slot + 1) calls c.1)
 
-  ticks_calm : (t : ℕ) (imports : List Import) (k : Client) → Every ImportCalm imports → Calm k → All (ticks t imports k)
-  ticks_calm t [] k is h = tt
-  ticks_calm t (i ∷ imports) k is h =
-      every_more (LineCalm P) (ticks_at t k i i.standing) (ticks (t + 1) imports k)
-      (subst (λ (s : Standing). All (ticks_at t k i s)) (sym is.0.serves)
-      (every_more (LineCalm P) (resends k.who i.boot t i.flights) (on_calls (where_stage k.who i.boot t) 0 k.calls) (resends_calm k.who i.boot t i.flights) (where_calm k.who i.boot t 0 k.calls h.calls)))
-      (ticks_calm (t + 1) imports k is.1 h)
+  -- a target serves the life: what is in flight is sent again; no call asks for a lock on an object
+  looks_calm : (t slot : ℕ) (calls : List (Option Running)) → Every CallCalm calls → All (on_calls (looks_stage t) slot calls)
+  looks_calm t slot [] c = tt
+  looks_calm t slot (None ∷ calls) c = looks_calm t (slot + 1) calls c.1
+  looks_calm t slot (Some r ∷ calls) c =
+      every_more (LineCalm P MayAsk osts) (looks_stage t slot r r.stage) (on_calls (looks_stage t) (slot + 1) calls)
+      (of_stage (λ (stage : Stage). All (looks_stage t slot r stage)) r c.0 tt tt) (looks_calm t (slot + 1) calls c.1)
+
+  ready_calm : (t boot committed : ℕ) (k : Client) (mine : Bool) → MayAsk → Calm MayAsk osts k → All (ready_heard t boot committed k mine)
+  ready_calm t boot committed k false may h = tt
+  ready_calm t boot committed k true may h =
+      let i = import_of t k.imports in
+      (may, (may, every_more (LineCalm P MayAsk osts) (resends k.who i.boot t i.flights) (on_calls (looks_stage t) 0 k.calls) (resends_calm k.who i.boot t i.flights) (looks_calm t 0 k.calls h.calls)))
+
+  -- the life is over: its calls end, its locks go, and the next one asks to be served
+  ends_calm : (at : At) (slot : ℕ) (calls : List (Option Running)) → All (ends_calls at slot calls)
+  ends_calm at slot [] = tt
+  ends_calm at slot (None ∷ calls) = ends_calm at (slot + 1) calls
+  ends_calm at slot (Some r ∷ calls) = (tt, ends_calm at (slot + 1) calls)
+
+  drops_calm : (held : List HeldLock) → All (drops_all held)
+  drops_calm [] = tt
+  drops_calm (h ∷ held) = (tt, drops_calm held)
+
+  joins_calm : (who : Who) (t : ℕ) (imports : List Import) → t + length imports ≤ osts + 1 → MayAsk → All (joins_all who t imports)
+  joins_calm who t [] few may = tt
+  joins_calm who t (i ∷ imports) few may = ((may, omega (arith, few)), joins_calm who (t + 1) imports (omega (arith, few)) may)
+
+  evicted_calm : (at : At) (k : Client) (mine : Bool) → MayAsk → Calm MayAsk osts k → All (evicted_heard at k mine)
+  evicted_calm at k false may h = tt
+  evicted_calm at k true may h =
+      let few = h.targets in
+      let rest = Life (next_life k.who) ∷ joins_all (next_life k.who) 0 k.imports in
+      every_more (LineCalm P MayAsk osts) (ends_calls at 0 k.calls ++ drops_all (in_order k.store.held)) rest
+      (every_more (LineCalm P MayAsk osts) (ends_calls at 0 k.calls) (drops_all (in_order k.store.held)) (ends_calm at 0 k.calls) (drops_calm (in_order k.store.held)))
+      (may, joins_calm (next_life k.who) 0 k.imports (omega (arith, few)) may)
+
+  comes_calm : (at : At) (from : Node) (m : Message) (k : Client) → MessageCalm MayAsk m → Calm MayAsk osts k → All (comes_by at from m k)
+  comes_calm at (FromClient c) m k is h = tt
+  comes_calm at (Target t) (message.Reply r) k is h = reply_calm t r k (is_present r.who r.boot t k) is h
+  comes_calm at (Target t) (message.Block who boot cookie) k is h = block_calm (named (record { 0 = t }) cookie) k (same_life who k.who) h
+  comes_calm at (Target t) (message.Ready who boot committed) k is h = ready_calm t boot committed.0 k (is_present who boot t k) is h
+  comes_calm at (Target t) (message.Evicted who boot) k is h = evicted_calm at k (same_life who k.who) is h
+  comes_calm at (Target t) m k is h = absurd is
+
+  -- ---- time goes on
+
+  -- where the life isn't served it asks to be
+  tick_calm : (t : ℕ) (k : Client) (i : Import) (s : Standing) → t < osts + 1 → StandsCalm MayAsk s → Calm MayAsk osts k → All (ticks_at t k i s)
+  tick_calm t k i Serving one stands h =
+      every_more (LineCalm P MayAsk osts) (resends k.who i.boot t i.flights) (on_calls (where_stage k.who i.boot t) 0 k.calls) (resends_calm k.who i.boot t i.flights) (where_calm k.who i.boot t 0 k.calls h.calls)
+  tick_calm t k i Joining one stands h = ((stands, omega (arith, one)), tt)
+  tick_calm t k i Recovering one stands h = absurd stands
+
+  ticks_calm : (t : ℕ) (imports : List Import) (k : Client) → t + length imports ≤ osts + 1 → Every (ImportCalm MayAsk) imports → Calm MayAsk osts k → All (ticks t imports k)
+  ticks_calm t [] k few is h = tt
+  ticks_calm t (i ∷ imports) k few is h =
+      every_more (LineCalm P MayAsk osts) (ticks_at t k i i.standing) (ticks (t + 1) imports k)
+      (tick_calm t k i i.standing (omega (arith, few)) is.0.stands h) (ticks_calm (t + 1) imports k (omega (arith, few)) is.1 h)
 
   -- ---- a call begins
 
-  begins_calm : (at : At) (slot : ℕ) (c : Call) (k : Client) (o : Op) → operation_of c ≡ Some o → P c → All (begins at slot c k)
-  begins_calm at slot (call.Open h path) k o e p = absurd (cc)
-  begins_calm at slot (call.Close h) k o e p = absurd (cc)
-  begins_calm at slot (call.Read h x n) k o e p = absurd (cc)
-  begins_calm at slot (call.Write h x bs) k o e p = absurd (cc)
-  begins_calm at slot (call.Cut h n) k o e p = absurd (cc)
-  begins_calm at slot (call.Flush h) k o e p = absurd (cc)
-  begins_calm at slot (call.Glimpse h) k o e p = absurd (cc)
-  begins_calm at slot c k o e p = ((record { plain = refl; op = o; becomes = e; asking = tt }, p), tt)
+  refuses_calm : (at : At) (slot : ℕ) (c : Call) → P c → All (refuses at slot c)
+  refuses_calm at slot c p = ((record { good = inr refl; asking = tt }, p), (tt, tt))
+
+  open_calm : (at : At) (slot h : ℕ) (path : List (List ℕ)) (bad : Bool) → P (call.Open h path) → All (begins_open at slot (call.Open h path) bad)
+  open_calm at slot h path true p = refuses_calm at slot (call.Open h path) p
+  open_calm at slot h path false p = ((record { good = inl (refl, op.Open path, refl); asking = tt }, p), tt)
+
+  begins_close_calm : (at : At) (slot h : ℕ) (file : Option HandleFile) → P (call.Close h) → All (begins_close at slot h file)
+  begins_close_calm at slot h None p = refuses_calm at slot (call.Close h) p
+  begins_close_calm at slot h (Some f) p = ((record { good = inl (refl, op.Close f.number f.fid, refl); asking = tt }, p), (tt, tt))
+
+  pub begins_calm : (at : At) (slot : ℕ) (c : Call) (k : Client) → scenes.IsOnNames c → P c → All (begins at slot c k)
+  begins_calm at slot (call.Open h path) k is p = open_calm at slot h path (is_some (file_of h k.handles) || list_any (opens h) k.calls) p
+  begins_calm at slot (call.Close h) k is p = begins_close_calm at slot h (file_of h k.handles) p
+  begins_calm at slot (call.Read h x n) k is p = absurd is
+  begins_calm at slot (call.Write h x bs) k is p = absurd is
+  begins_calm at slot (call.Cut h n) k is p = absurd is
+  begins_calm at slot (call.Flush h) k is p = absurd is
+  begins_calm at slot (call.Glimpse h) k is p = absurd is
+  begins_calm at slot (call.Create path None) k is p = ((record { good = inl (refl, op.Create path 1048576 (pos 1), refl); asking = tt }, p), tt)
+  begins_calm at slot (call.Create path (Some stripes)) k is p = ((record { good = inl (refl, op.Create path stripes.0 stripes.1, refl); asking = tt }, p), tt)
+  begins_calm at slot (call.Lookup path) k is p = ((record { good = inl (refl, op.Lookup path, refl); asking = tt }, p), tt)
+  begins_calm at slot (call.Stat path) k is p = ((record { good = inl (refl, op.Stat path, refl); asking = tt }, p), tt)
+  begins_calm at slot (call.List path) k is p = ((record { good = inl (refl, op.List path, refl); asking = tt }, p), tt)
+  begins_calm at slot (call.Layout path) k is p = ((record { good = inl (refl, op.Layout path, refl); asking = tt }, p), tt)
+  begins_calm at slot (call.Mkdir path) k is p = ((record { good = inl (refl, op.Mkdir path, refl); asking = tt }, p), tt)
+  begins_calm at slot (call.Link old new) k is p = ((record { good = inl (refl, op.Link old new, refl); asking = tt }, p), tt)
+  begins_calm at slot (call.Unlink path) k is p = ((record { good = inl (refl, op.Unlink path, refl); asking = tt }, p), tt)
+  begins_calm at slot (call.Rmdir path) k is p = ((record { good = inl (refl, op.Rmdir path, refl); asking = tt }, p), tt)
+  begins_calm at slot (call.Rename old new) k is p = ((record { good = inl (refl, op.Rename old new, refl); asking = tt }, p), tt)
+  begins_calm at slot (call.Chmod path mode) k is p = ((record { good = inl (refl, op.Chmod path mode, refl); asking = tt }, p), tt)
 
   -- ---- the row
 
-  pub row_calm : (limits : Limits) (at : At) (event : Event) (k : Client) → EventCalm P event → Calm k → All (row limits at event k)
+  pub row_calm : (limits : Limits) (at : At) (event : Event) (k : Client) → EventCalm P MayAsk event → Calm MayAsk osts k → All (row limits at event k)
   row_calm limits at (Begins slot c) k is h = by (call_on slot k.calls)
     where
       by : (o : Option Running) → All (row_call limits at slot c k o)
-      by None = follow_calm P (begins at slot c k) (rests limits at) k h (begins_calm at slot c k is.0.0 is.0.1 is.1) (λ j i. rests_calm limits at j i)
+      by None = follow_calm P MayAsk osts (begins at slot c k) (rests limits at) k h (begins_calm at slot c k is.0 is.1) (λ j i. rests_calm limits at j i)
       by (Some r) = (tt, tt)
   row_calm limits at (Comes n from m) k is h =
-      follow_calm P (Take n from m ∷ comes_by at from m k) (rests limits at) k h (tt, comes_calm at from m k is h) (λ j i. rests_calm limits at j i)
+      follow_calm P MayAsk osts (Take n from m ∷ comes_by at from m k) (rests limits at) k h (tt, comes_calm at from m k is h) (λ j i. rests_calm limits at j i)
   row_calm limits at Ticks k is h =
-      follow_calm P (Tick ∷ ticks 0 k.imports k) (rests limits at) k h (tt, ticks_calm 0 k.imports k h.imports h) (λ j i. rests_calm limits at j i)
+      follow_calm P MayAsk osts (Tick ∷ ticks 0 k.imports k) (rests limits at) k h (tt, ticks_calm 0 k.imports k (let few = h.targets in omega (arith, few)) h.imports h) (λ j i. rests_calm limits at j i)
   row_calm limits at Dies k is h = (tt, tt)

@@ -1,13 +1,17 @@
 -- A client of a covered scenario, at each line: its calls are on names, its requests too, it holds locks for reading alone, it knows no
--- file's attributes, and each target serves it. Which lines keep that.
-use Rattle.std.proofs.Common.{◌≡◌, ℕ, zero, suc, false, List, [], ◌∷◌, map, Option, Some, None}
+-- file's attributes, and each target serves its life, or it asks to be served. Which lines keep that.
+use Rattle.std.proofs.Common.{◌≡◌, ℕ, zero, suc, ◌+◌, ◌≤◌, false, List, [], ◌∷◌, length, map, Option, Some, None, ◌⊎◌, inl, inr, refl, sym, subst, ap}
 use Rattle.std.specs.Prelude.{nat_eq, not, if◌then◌else◌}
 use Rattle.std.proofs.lemmas.Bool.{cond_both}
+use Rattle.lu_base.specs.declared.ids.Node.{Node}
+use Rattle.lu_base.specs.declared.ids.Node.TheVariants.{Target}
 use Rattle.lu_base.specs.declared.locks.Lock.{Lock}
 use Rattle.lu_base.specs.declared.locks.Mode.TheVariants.{PR}
 use Rattle.lu_msg.specs.declared.answers.Answer.{Answer}
 use Rattle.lu_msg.specs.declared.answers.Answer.TheVariants as told
 use Rattle.lu_msg.specs.declared.calls.Call.{Call}
+use Rattle.lu_msg.specs.declared.messages.Message.{Message}
+use Rattle.lu_msg.specs.declared.messages.Message.TheVariants as message
 use Rattle.lu_msg.specs.declared.operations.Op.{Op}
 use Rattle.lu_msg.specs.declared.operations.Op.TheVariants as op
 use Rattle.lu_base.specs.declared.ids.Fid.{Fid}
@@ -17,19 +21,20 @@ use Rattle.lu_held.specs.declared.locks.Change.{Change}
 use Rattle.lu_held.specs.declared.locks.Change.TheVariants.{Mark, Unmark, Pin, Unpin}
 use Rattle.lu_held.specs.Locks.{name_of, is_named, named, after as changed_by}
 use Rattle.lu_held.specs.Held.{is_held, changed, used, without}
-use Rattle.lu_words.specs.Carried.{Queued, Flight, Asking, Asked, Answered, Plain, Running}
+use Rattle.lu_words.specs.Carried.{Queued, Flight, Asking, Asked, Answered, Plain, Bad, Running}
 use Rattle.lu_words.specs.Concerns.{is_about}
-use Rattle.lu_words.specs.Words.{Entry, Send, Take, Tick, Begin, Busy, Heard, Hold, Drop, Told, Die, Queues, Flies, Pins, Unpins, Marks, Learns}
+use Rattle.lu_words.specs.Words.{Entry, Send, Take, Tick, Begin, Busy, Heard, Hold, Drop, Told, Life, Die, Queues, Flies, Serves, Settles, Binds, Unbinds, Pins, Unpins, Marks, Learns, Commit, Evict, Joined}
 use Rattle.lu_client_rows.specs.Caches.{brought, held_as, with_held, with_brought, held_after}
 use Rattle.lu_client_rows.specs.Calls.{asks, asks_for, call_after, calls_from, call_on}
 use Rattle.lu_client_rows.specs.Facts.{Fact, name_facts, names_taught, inode_taught, is_one_for_each, last_of, taught, without_facts, facts_after}
-use Rattle.lu_client_rows.specs.Imports.{Import, Serving, rest, import_after, imports_from}
+use Rattle.lu_client_rows.specs.Imports.{Standing, Joining, Serving, Import, rest, import_after, imports_from}
 use Rattle.lu_client_rows.specs.States.{Client, after, turn, follow}
-use Rattle.lu_covered.specs.Calls.{operation_of}
-use Rattle.lu_covered.specs.Covered.{IsCovered, IsCoveredMessage, IsWithoutWork}
+use Rattle.lu_covered.specs.Calls.{becomes}
+use Rattle.lu_covered.specs.Covered.{IsCoveredCall, IsCovered, IsWithoutWork}
 use Rattle.lu_lawful.proofs.OnNames.{IsOnNames, IsPlain}
 use Rattle.lu_lawful.proofs.Covers.{EntriesCovered}
-use Rattle.lu_covered_scenes.proofs.Every.{Every, every_more, every_filter, every_map}
+use Rattle.lu_covered_scenes.proofs.Every.{Every, every_more, every_filter, every_map, every_so}
+use Rattle.lu_covered_scenes.proofs.Asking.{Suits}
 
 -- ---- what is so of its parts
 
@@ -37,18 +42,23 @@ abbrev pub AskingCalm : Asking → Type 0
 AskingCalm (Answered target reply) = IsPlain reply.answer
 AskingCalm _ = Unit {0}
 
+-- a call on names, or one on a bad handle
 pub record RunningCalm (r : Running) : Type 0 where
-  pub plain : r.stage ≡ Plain
-  pub op : Op
-  pub becomes : operation_of r.call ≡ Some op
+  pub good : ((r.stage ≡ Plain) × (o : Op) × (becomes r ≡ Some o)) ⊎ (r.stage ≡ Bad)
   pub asking : AskingCalm r.asking
 
 abbrev pub CallCalm : Option Running → Type 0
 CallCalm None = Unit {0}
 CallCalm (Some r) = RunningCalm r
 
-pub record ImportCalm (i : Import) : Type 0 where
-  pub serves : i.standing ≡ Serving
+-- a life is new only where a turn may ask a disk (MayAsk)
+abbrev pub StandsCalm : Type 0 → Standing → Type 0
+StandsCalm MayAsk Serving = Unit {0}
+StandsCalm MayAsk Joining = MayAsk
+StandsCalm MayAsk _ = ⊥
+
+pub record ImportCalm (MayAsk : Type 0) (i : Import) : Type 0 where
+  pub stands : StandsCalm MayAsk i.standing
   pub queue : Every (λ (q : Queued). IsOnNames q.op) i.queue
   pub flights : Every (λ (f : Flight). IsOnNames f.op) i.flights
 
@@ -62,72 +72,114 @@ IsReader l = l.ask.mode ≡ PR
 abbrev pub HeldCalm : HeldLock → Type 0
 HeldCalm h = IsReader h.lock
 
-pub record Calm (k : Client) : Type 0 where
+pub record Calm (MayAsk : Type 0) (osts : ℕ) (k : Client) : Type 0 where
   pub calls : Every CallCalm k.calls
-  pub imports : Every ImportCalm k.imports
+  pub imports : Every (ImportCalm MayAsk) k.imports
+  pub targets : length k.imports ≤ osts + 1
   pub facts : Every FactCalm k.facts
   pub held : Every HeldCalm k.store.held
 
 -- ---- lines that keep it; of each call that begins this holds
 
-abbrev pub LineCalm : (Call → Type 0) → Entry → Type 0
-LineCalm P (Send to m) = IsCoveredMessage m
-LineCalm P (Take n from m) = Unit {0}
-LineCalm P Tick = Unit {0}
-LineCalm P (Begin slot r) = RunningCalm r × P r.call
-LineCalm P (Busy slot) = Unit {0}
-LineCalm P (Heard t f r) = Every IsReader (brought f.op r) × IsPlain r.answer
-LineCalm P (Hold t l marked size seen) = IsReader l
-LineCalm P (Drop t l) = Unit {0}
-LineCalm P (Told slot at answer work) = IsWithoutWork work
-LineCalm P Die = Unit {0}
-LineCalm P (Queues t q) = IsOnNames q.op
-LineCalm P (Flies t f) = IsOnNames f.op
-LineCalm P (Pins name) = Unit {0}
-LineCalm P (Unpins name) = Unit {0}
-LineCalm P (Marks name) = Unit {0}
-LineCalm P (Learns t o a locks) = IsPlain a
-LineCalm P _ = ⊥
+-- what it sends: joins only where a turn may ask a disk, to a target of the run
+abbrev pub SendCalm : Type 0 → ℕ → Node → Message → Type 0
+SendCalm MayAsk osts (Target t) (message.Request r) = Unit {0}
+SendCalm MayAsk osts (Target t) (message.Cancel who boot cookie) = Unit {0}
+SendCalm MayAsk osts (Target t) (message.Join who boot) = MayAsk × (t ≤ osts)
+SendCalm MayAsk osts to m = ⊥
 
-abbrev pub AllCalm : (Call → Type 0) → List Entry → Type 0
-AllCalm P es = Every (LineCalm P) es
+abbrev pub LineCalm : (Call → Type 0) → Type 0 → ℕ → Entry → Type 0
+LineCalm P MayAsk osts (Send to m) = SendCalm MayAsk osts to m
+LineCalm P MayAsk osts (Take n from m) = Unit {0}
+LineCalm P MayAsk osts Tick = Unit {0}
+LineCalm P MayAsk osts (Begin slot r) = RunningCalm r × P r.call
+LineCalm P MayAsk osts (Busy slot) = Unit {0}
+LineCalm P MayAsk osts (Heard t f r) = Every IsReader (brought f.op r) × IsPlain r.answer
+LineCalm P MayAsk osts (Hold t l marked size seen) = IsReader l
+LineCalm P MayAsk osts (Drop t l) = Unit {0}
+LineCalm P MayAsk osts (Told slot at answer work) = IsWithoutWork work
+LineCalm P MayAsk osts (Life who) = MayAsk
+LineCalm P MayAsk osts Die = Unit {0}
+LineCalm P MayAsk osts (Queues t q) = IsOnNames q.op
+LineCalm P MayAsk osts (Flies t f) = IsOnNames f.op
+LineCalm P MayAsk osts (Serves t boot) = MayAsk
+LineCalm P MayAsk osts (Settles t to) = MayAsk
+LineCalm P MayAsk osts (Binds handle file) = Unit {0}
+LineCalm P MayAsk osts (Unbinds handle) = Unit {0}
+LineCalm P MayAsk osts (Pins name) = Unit {0}
+LineCalm P MayAsk osts (Unpins name) = Unit {0}
+LineCalm P MayAsk osts (Marks name) = Unit {0}
+LineCalm P MayAsk osts (Learns t o a locks) = IsPlain a
+LineCalm P MayAsk osts _ = ⊥
 
-module _ (P : Call → Type 0) where
+abbrev pub AllCalm : (Call → Type 0) → Type 0 → ℕ → List Entry → Type 0
+AllCalm P MayAsk osts es = Every (LineCalm P MayAsk osts) es
+
+call_covered : (r : Running) → RunningCalm r → IsCoveredCall r
+call_covered r c = by c.good
+  where
+    by : ((r.stage ≡ Plain) × (o : Op) × (becomes r ≡ Some o)) ⊎ (r.stage ≡ Bad) → IsCoveredCall r
+    by (inl g) = inl (g.1, g.2)
+    by (inr b) = inr b
+
+module _ (P : Call → Type 0) (MayAsk : Type 0) (osts : ℕ) where
   -- they are covered
-  pub line_covered : (e : Entry) → LineCalm P e → IsCovered e
-  line_covered (Send to m) c = c
+  pub line_covered : (e : Entry) → LineCalm P MayAsk osts e → IsCovered e
+  line_covered (Send (Target t) (message.Request r)) c = tt
+  line_covered (Send (Target t) (message.Cancel who boot cookie)) c = tt
+  line_covered (Send (Target t) (message.Join who boot)) c = tt
   line_covered (Take n from m) c = tt
   line_covered Tick c = tt
-  line_covered (Begin slot r) c = record { op = c.0.op; becomes = c.0.becomes }
+  line_covered (Begin slot r) c = call_covered r c.0
   line_covered (Busy slot) c = tt
   line_covered (Heard t f r) c = tt
   line_covered (Hold t l marked size seen) c = tt
   line_covered (Drop t l) c = tt
   line_covered (Told slot at answer work) c = c
+  line_covered (Life who) c = tt
   line_covered Die c = tt
   line_covered (Queues t q) c = tt
   line_covered (Flies t f) c = tt
+  line_covered (Serves t boot) c = tt
+  line_covered (Settles t to) c = tt
+  line_covered (Binds handle file) c = tt
+  line_covered (Unbinds handle) c = tt
   line_covered (Pins name) c = tt
   line_covered (Unpins name) c = tt
   line_covered (Marks name) c = tt
   line_covered (Learns t o a locks) c = tt
   line_covered e c = absurd c
 
-  pub lines_covered : (es : List Entry) → AllCalm P es → EntriesCovered es
+  pub lines_covered : (es : List Entry) → AllCalm P MayAsk osts es → EntriesCovered es
   lines_covered [] c = tt
   lines_covered (e ∷ es) c = (line_covered e c.0, lines_covered es c.1)
+
+  -- and they stand where such lines may
+  pub line_suits : (e : Entry) → LineCalm P MayAsk osts e → Suits MayAsk osts e
+  line_suits (Send (Target t) (message.Request r)) c = tt
+  line_suits (Send (Target t) (message.Cancel who boot cookie)) c = tt
+  line_suits (Send (Target t) (message.Join who boot)) c = c
+  line_suits (Life who) c = c
+  line_suits (Send to m) c = absurd c
+  line_suits (Commit to batch) c = absurd c
+  line_suits (Evict who cause) c = absurd c
+  line_suits (Joined who) c = absurd c
+  line_suits e c = tt
+
+  pub lines_suit : (es : List Entry) → AllCalm P MayAsk osts es → Every (Suits MayAsk osts) es
+  lines_suit es c = every_so (LineCalm P MayAsk osts) (Suits MayAsk osts) es line_suits c
 
   -- ---- calls
 
   asks_calm : (a : Asking) (o : Option Running) → AskingCalm a → CallCalm o → CallCalm (asks a o)
   asks_calm a None k c = tt
-  asks_calm a (Some r) k c = record { plain = c.plain; op = c.op; becomes = c.becomes; asking = k }
+  asks_calm a (Some r) k c = record { good = c.good; asking = k }
 
   for_calm : (served : Option ℕ) (slot : ℕ) (a : Asking) (o : Option Running) → AskingCalm a → CallCalm o → CallCalm (asks_for served slot a o)
   for_calm None slot a o k c = c
   for_calm (Some s) slot a o k c = cond_both (nat_eq s slot) (asks a o) o CallCalm (λ t. asks_calm a o k c) (λ t. c)
 
-  call_calm : (slot : ℕ) (o : Option Running) (e : Entry) → LineCalm P e → CallCalm o → CallCalm (call_after slot o e)
+  call_calm : (slot : ℕ) (o : Option Running) (e : Entry) → LineCalm P MayAsk osts e → CallCalm o → CallCalm (call_after slot o e)
   call_calm slot o (Begin s r) l c = cond_both (nat_eq s slot) (Some r) o CallCalm (λ t. l.0) (λ t. c)
   call_calm slot o (Queues t q) l c = for_calm q.slot slot Asked o tt c
   call_calm slot o (Heard t f r) l c = for_calm f.slot slot (Answered t r) o l.1 c
@@ -139,6 +191,11 @@ module _ (P : Call → Type 0) where
   call_calm slot o (Hold t k marked size seen) l c = c
   call_calm slot o (Drop t k) l c = c
   call_calm slot o Die l c = c
+  call_calm slot o (Serves t boot) l c = c
+  call_calm slot o (Settles t to) l c = c
+  call_calm slot o (Binds handle file) l c = c
+  call_calm slot o (Unbinds handle) l c = c
+  call_calm slot o (Life who) l c = c
   call_calm slot o (Flies t f) l c = c
   call_calm slot o (Pins name) l c = c
   call_calm slot o (Unpins name) l c = c
@@ -146,7 +203,7 @@ module _ (P : Call → Type 0) where
   call_calm slot o (Learns t p a locks) l c = c
   call_calm slot o e l c = absurd l
 
-  calls_calm : (slot : ℕ) (calls : List (Option Running)) (e : Entry) → LineCalm P e → Every CallCalm calls → Every CallCalm (calls_from slot calls e)
+  calls_calm : (slot : ℕ) (calls : List (Option Running)) (e : Entry) → LineCalm P MayAsk osts e → Every CallCalm calls → Every CallCalm (calls_from slot calls e)
   calls_calm slot [] e l c = tt
   calls_calm slot (o ∷ calls) e l c = (call_calm slot o e l c.0, calls_calm (suc slot) calls e l c.1)
 
@@ -156,32 +213,41 @@ module _ (P : Call → Type 0) where
   rest_calm [] c = tt
   rest_calm (q ∷ queue) c = c.1
 
-  import_calm : (i : Import) (e : Entry) → LineCalm P e → ImportCalm i → ImportCalm (import_after i e)
+  import_calm : (i : Import) (e : Entry) → LineCalm P MayAsk osts e → ImportCalm MayAsk i → ImportCalm MayAsk (import_after i e)
   import_calm i (Queues t q) l c =
-      record { serves = c.serves; queue = every_more (λ (q : Queued). IsOnNames q.op) i.queue (q ∷ []) c.queue (l, tt); flights = c.flights }
+      record { stands = c.stands; queue = every_more (λ (q : Queued). IsOnNames q.op) i.queue (q ∷ []) c.queue (l, tt); flights = c.flights }
   import_calm i (Flies t f) l c =
-      record { serves = c.serves; queue = rest_calm i.queue c.queue; flights = every_more (λ (f : Flight). IsOnNames f.op) i.flights (f ∷ []) c.flights (l, tt) }
+      record { stands = c.stands; queue = rest_calm i.queue c.queue; flights = every_more (λ (f : Flight). IsOnNames f.op) i.flights (f ∷ []) c.flights (l, tt) }
   import_calm i (Heard t f r) l c =
-      record { serves = c.serves; queue = c.queue; flights = every_filter (λ (f : Flight). IsOnNames f.op) (λ (g : Flight). not (nat_eq g.xid f.xid)) i.flights c.flights }
-  import_calm i (Send to m) l c = record { serves = c.serves; queue = c.queue; flights = c.flights }
-  import_calm i (Take n from m) l c = record { serves = c.serves; queue = c.queue; flights = c.flights }
-  import_calm i Tick l c = record { serves = c.serves; queue = c.queue; flights = c.flights }
-  import_calm i (Begin slot r) l c = record { serves = c.serves; queue = c.queue; flights = c.flights }
-  import_calm i (Busy slot) l c = record { serves = c.serves; queue = c.queue; flights = c.flights }
-  import_calm i (Hold t k marked size seen) l c = record { serves = c.serves; queue = c.queue; flights = c.flights }
-  import_calm i (Drop t k) l c = record { serves = c.serves; queue = c.queue; flights = c.flights }
-  import_calm i (Told slot at answer work) l c = record { serves = c.serves; queue = c.queue; flights = c.flights }
-  import_calm i Die l c = record { serves = c.serves; queue = c.queue; flights = c.flights }
-  import_calm i (Pins name) l c = record { serves = c.serves; queue = c.queue; flights = c.flights }
-  import_calm i (Unpins name) l c = record { serves = c.serves; queue = c.queue; flights = c.flights }
-  import_calm i (Marks name) l c = record { serves = c.serves; queue = c.queue; flights = c.flights }
-  import_calm i (Learns t p a locks) l c = record { serves = c.serves; queue = c.queue; flights = c.flights }
+      record { stands = c.stands; queue = c.queue; flights = every_filter (λ (f : Flight). IsOnNames f.op) (λ (g : Flight). not (nat_eq g.xid f.xid)) i.flights c.flights }
+  import_calm i (Send to m) l c = record { stands = c.stands; queue = c.queue; flights = c.flights }
+  import_calm i (Take n from m) l c = record { stands = c.stands; queue = c.queue; flights = c.flights }
+  import_calm i Tick l c = record { stands = c.stands; queue = c.queue; flights = c.flights }
+  import_calm i (Begin slot r) l c = record { stands = c.stands; queue = c.queue; flights = c.flights }
+  import_calm i (Busy slot) l c = record { stands = c.stands; queue = c.queue; flights = c.flights }
+  import_calm i (Hold t k marked size seen) l c = record { stands = c.stands; queue = c.queue; flights = c.flights }
+  import_calm i (Drop t k) l c = record { stands = c.stands; queue = c.queue; flights = c.flights }
+  import_calm i (Told slot at answer work) l c = record { stands = c.stands; queue = c.queue; flights = c.flights }
+  import_calm i (Life who) l c = record { stands = l; queue = tt; flights = tt }
+  import_calm i (Serves t boot) l c = record { stands = tt; queue = c.queue; flights = c.flights }
+  import_calm i (Settles t to) l c = record { stands = c.stands; queue = c.queue; flights = c.flights }
+  import_calm i (Binds handle file) l c = record { stands = c.stands; queue = c.queue; flights = c.flights }
+  import_calm i (Unbinds handle) l c = record { stands = c.stands; queue = c.queue; flights = c.flights }
+  import_calm i Die l c = record { stands = c.stands; queue = c.queue; flights = c.flights }
+  import_calm i (Pins name) l c = record { stands = c.stands; queue = c.queue; flights = c.flights }
+  import_calm i (Unpins name) l c = record { stands = c.stands; queue = c.queue; flights = c.flights }
+  import_calm i (Marks name) l c = record { stands = c.stands; queue = c.queue; flights = c.flights }
+  import_calm i (Learns t p a locks) l c = record { stands = c.stands; queue = c.queue; flights = c.flights }
   import_calm i e l c = absurd l
 
-  imports_calm : (t : ℕ) (imports : List Import) (e : Entry) → LineCalm P e → Every ImportCalm imports → Every ImportCalm (imports_from t imports e)
+  imports_calm : (t : ℕ) (imports : List Import) (e : Entry) → LineCalm P MayAsk osts e → Every (ImportCalm MayAsk) imports → Every (ImportCalm MayAsk) (imports_from t imports e)
   imports_calm t [] e l c = tt
   imports_calm t (i ∷ imports) e l c =
-      (cond_both (is_about t e) (import_after i e) i ImportCalm (λ own. import_calm i e l c.0) (λ own. c.0), imports_calm (suc t) imports e l c.1)
+      (cond_both (is_about t e) (import_after i e) i (ImportCalm MayAsk) (λ own. import_calm i e l c.0) (λ own. c.0), imports_calm (suc t) imports e l c.1)
+
+  imports_length : (t : ℕ) (imports : List Import) (e : Entry) → length (imports_from t imports e) ≡ length imports
+  imports_length t [] e = refl
+  imports_length t (i ∷ imports) e = ap suc (imports_length (suc t) imports e)
 
   -- ---- facts
 
@@ -216,7 +282,7 @@ module _ (P : Call → Type 0) where
   without_calm zero l facts c = every_filter FactCalm (λ (f : Fact). not (nat_eq f.cookie.0 l.cookie.0)) facts c
   without_calm (suc t) l facts c = c
 
-  facts_calm : (facts : List Fact) (e : Entry) → LineCalm P e → Every FactCalm facts → Every FactCalm (facts_after facts e)
+  facts_calm : (facts : List Fact) (e : Entry) → LineCalm P MayAsk osts e → Every FactCalm facts → Every FactCalm (facts_after facts e)
   facts_calm facts (Learns t o a locks) l c = every_more FactCalm (taught o a locks) facts (taught_calm o a locks l) c
   facts_calm facts (Drop t k) l c = without_calm t k facts c
   facts_calm facts (Send to m) l c = c
@@ -228,6 +294,11 @@ module _ (P : Call → Type 0) where
   facts_calm facts (Hold t k marked size seen) l c = c
   facts_calm facts (Told slot at answer work) l c = c
   facts_calm facts Die l c = c
+  facts_calm facts (Serves t boot) l c = c
+  facts_calm facts (Settles t to) l c = c
+  facts_calm facts (Binds handle file) l c = c
+  facts_calm facts (Unbinds handle) l c = c
+  facts_calm facts (Life who) l c = tt
   facts_calm facts (Queues t q) l c = c
   facts_calm facts (Flies t f) l c = c
   facts_calm facts (Pins name) l c = c
@@ -260,7 +331,7 @@ module _ (P : Call → Type 0) where
   used_calm : (name : LockName) (held : List HeldLock) → Every HeldCalm held → Every HeldCalm (used name held)
   used_calm name held c = every_more HeldCalm _ (without name held) (every_filter HeldCalm (is_named name) held c) (every_filter HeldCalm (λ h. not (is_named name h)) held c)
 
-  held_calm : (held : List HeldLock) (e : Entry) → LineCalm P e → Every HeldCalm held → Every HeldCalm (held_after held e)
+  held_calm : (held : List HeldLock) (e : Entry) → LineCalm P MayAsk osts e → Every HeldCalm held → Every HeldCalm (held_after held e)
   held_calm held (Heard t f r) l c = brought_calm t (brought f.op r) held l.0 c
   held_calm held (Hold t k marked size seen) l c = with_calm (held_as t k marked) held l c
   held_calm held (Drop t k) l c = every_filter HeldCalm (λ h. not (is_named (named (record { 0 = t }) k.cookie) h)) held c
@@ -274,6 +345,11 @@ module _ (P : Call → Type 0) where
   held_calm held (Busy s) l c = c
   held_calm held (Told slot at answer work) l c = c
   held_calm held Die l c = c
+  held_calm held (Serves t boot) l c = c
+  held_calm held (Settles t to) l c = c
+  held_calm held (Binds handle file) l c = c
+  held_calm held (Unbinds handle) l c = c
+  held_calm held (Life who) l c = c
   held_calm held (Queues t q) l c = c
   held_calm held (Flies t f) l c = c
   held_calm held (Learns t o a locks) l c = c
@@ -281,22 +357,23 @@ module _ (P : Call → Type 0) where
 
   -- ---- the client
 
-  pub after_calm : (k : Client) (e : Entry) → Calm k → LineCalm P e → Calm (after k e)
+  pub after_calm : (k : Client) (e : Entry) → Calm MayAsk osts k → LineCalm P MayAsk osts e → Calm MayAsk osts (after k e)
   after_calm k e c l =
       record {
         calls = calls_calm 0 k.calls e l c.calls;
         imports = imports_calm 0 k.imports e l c.imports;
+        targets = subst (λ (n : ℕ). n ≤ osts + 1) (sym (imports_length 0 k.imports e)) c.targets;
         facts = facts_calm k.facts e l c.facts;
         held = held_calm k.store.held e l c.held;
       }
 
-  pub turn_calm : (k : Client) (es : List Entry) → Calm k → AllCalm P es → Calm (turn k es)
+  pub turn_calm : (k : Client) (es : List Entry) → Calm MayAsk osts k → AllCalm P MayAsk osts es → Calm MayAsk osts (turn k es)
   turn_calm k [] c l = c
   turn_calm k (e ∷ es) c l = turn_calm (after k e) es (after_calm k e c l.0) l.1
 
   -- these lines, and then those of the client as they left it
-  pub follow_calm : (es : List Entry) (next : Client → List Entry) (k : Client) → Calm k → AllCalm P es → ((j : Client) → Calm j → AllCalm P (next j)) → AllCalm P (follow es next k)
-  follow_calm es next k c l more = every_more (LineCalm P) es (next (turn k es)) l (more (turn k es) (turn_calm k es c l))
+  pub follow_calm : (es : List Entry) (next : Client → List Entry) (k : Client) → Calm MayAsk osts k → AllCalm P MayAsk osts es → ((j : Client) → Calm MayAsk osts j → AllCalm P MayAsk osts (next j)) → AllCalm P MayAsk osts (follow es next k)
+  follow_calm es next k c l more = every_more (LineCalm P MayAsk osts) es (next (turn k es)) l (more (turn k es) (turn_calm k es c l))
 
 -- a call on a slot
 pub on_calm : (slot : ℕ) (calls : List (Option Running)) → Every CallCalm calls → CallCalm (call_on slot calls)

@@ -1,10 +1,12 @@
 pub mod Every
+pub mod Asking
 pub mod Clients
 pub mod ClientRows
 pub mod Targets
 pub mod Numbers
 pub mod Lines
 pub mod Arrivals
+pub mod Alone
 pub mod Turns
 pub mod Runs
 pub mod Stated
@@ -12,12 +14,10 @@ pub use Rattle.lu_lawful.proofs.All
 pub use Rattle.lu_lawful.proofs.Asked
 pub use Rattle.lu_lawful.proofs.Groups
 pub use Rattle.lu_lawful.proofs.OnNames
-pub use Rattle.lu_lawful.proofs.Sides
 pub use Rattle.lu_lawful.proofs.FactLines
 pub use Rattle.lu_lawful.proofs.Guards
 pub use Rattle.lu_lawful.proofs.Lists
 pub use Rattle.lu_lawful.proofs.Parts
-pub use Rattle.lu_lawful.proofs.TargetAlike
 pub use Rattle.lu_lawful.proofs.GuardTurns
 pub use Rattle.lu_lawful.proofs.ClientLines
 pub use Rattle.lu_lawful.proofs.ClientLocks

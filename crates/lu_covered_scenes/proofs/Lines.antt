@@ -1,18 +1,15 @@
 -- What is known of the lines of a scenario that is covered, and of its calls.
-use Rattle.std.proofs.Common.{◌≡◌, ℕ, ◌<◌, ◌≤◌, List, [], ◌∷◌, Some, None, ◌⊎◌, inl, inr, refl, sym, subst, arith, pos}
+use Rattle.std.proofs.Common.{◌≡◌, ℕ, ◌<◌, ◌≤◌, List, [], ◌∷◌, None, ◌⊎◌, inl, inr, refl, sym, subst, arith}
 use Rattle.std.specs.Prelude.{All}
 use Rattle.std.proofs.lemmas.List.Elements.{All-head, All-tail}
 use Rattle.lu_base.specs.declared.ids.Node.TheVariants.{Client, Target}
 use Rattle.lu_msg.specs.declared.calls.Call.{Call as CallOf}
 use Rattle.lu_msg.specs.declared.calls.Call.TheVariants as call
-use Rattle.lu_msg.specs.declared.operations.Op.{Op}
-use Rattle.lu_msg.specs.declared.operations.Op.TheVariants as op
 use Rattle.lu_scene.specs.Grammar.{LineFits}
 use Rattle.lu_scene.specs.declared.scene.Scene.{Scene}
 use Rattle.lu_scene.specs.declared.scene.SceneLine.{SceneLine}
-use Rattle.lu_scene.specs.declared.scene.SceneLine.TheVariants.{Call, Run, RunSome, Deliver, Lose, Tick, Commit, CommitSome, Crash, Boot, Close, Die}
+use Rattle.lu_scene.specs.declared.scene.SceneLine.TheVariants.{Call, Run, RunSome, Deliver, Lose, Tick, Commit, CommitSome, Close, Die}
 use Rattle.lu_trace.specs.WellFormed.{IsCall}
-use Rattle.lu_covered.specs.Calls.{operation_of}
 use Rattle.lu_covered.specs.Makes.{Path, CallMakes, CallMakesFile, Misses, StatsNoFile}
 use Rattle.lu_lawful.proofs.Asked.{Began}
 use Rattle.lu_lawful.proofs.Files.{File_in}
@@ -22,25 +19,14 @@ use Rattle.lu_table.specs.Scenarios.{head_of, with_stripes}
 use Rattle.lu_words.specs.Words.{Line}
 use Rattle.lu_after.proofs.Runs.{begins_meets}
 use Rattle.lu_covered_scenes.specs.Covered as scenes
-use Rattle.lu_covered_scenes.specs.Covered.{IsMade, IsFile, IsOnNames, IsLineCovered, IsCoveredIn, IsNoCommand, LineMisses, IsCovered}
+use Rattle.lu_covered_scenes.specs.Covered.{IsMade, IsFile, IsOnNames, IsLineCovered, IsCoveredIn, IsNoCommand, LineMisses, IsCovered, AsksNoDisk}
 
 -- ---- calls
 
--- the operation that a call becomes as it begins, with the stripes that it is given
-asks : (call : CallOf) → IsOnNames call → (o : Op) × (operation_of (with_stripes call) ≡ Some o)
-asks (call.Lookup path) is = (op.Lookup path, refl)
-asks (call.Stat path) is = (op.Stat path, refl)
-asks (call.List path) is = (op.List path, refl)
-asks (call.Layout path) is = (op.Layout path, refl)
-asks (call.Mkdir path) is = (op.Mkdir path, refl)
-asks (call.Create path None) is = (op.Create path 1048576 (pos 1), refl)
-asks (call.Create path (Some stripes)) is = (op.Create path stripes.0 stripes.1, refl)
-asks (call.Link old new) is = (op.Link old new, refl)
-asks (call.Unlink path) is = (op.Unlink path, refl)
-asks (call.Rmdir path) is = (op.Rmdir path, refl)
-asks (call.Rename old new) is = (op.Rename old new, refl)
-asks (call.Chmod path mode) is = (op.Chmod path mode, refl)
-asks _ is = absurd is
+-- a call stays on names with the stripes that it is given
+asks : (call : CallOf) → IsOnNames call → IsOnNames (with_stripes call)
+asks (call.Create path None) is = tt
+asks call is = is
 
 -- the stripes make no other path, and ask for none
 makes_same : (call : CallOf) (path : Path) → CallMakes (with_stripes call) path → CallMakes call path
@@ -59,6 +45,12 @@ stats_same : (Files : Path → Type 0) (call : CallOf) → StatsNoFile Files cal
 stats_same Files (call.Create made None) m = tt
 stats_same Files call m = m
 
+-- ---- disks
+
+-- a turn of what the scenario comes to may ask one
+abbrev pub MayAsk : Scene → Type 0
+MayAsk scene = AsksNoDisk scene → ⊥
+
 -- ---- lines
 
 -- the call of one of these lines begins as that call
@@ -75,7 +67,7 @@ pub record IsCommandTo (lines : List SceneLine) (osts target : ℕ) : Type 0 whe
 -- what is known of a line of a scenario of these lines, with so many clients and object storage targets
 abbrev pub IsKnown : List SceneLine → (clients osts : ℕ) → SceneLine → Type 0
 IsKnown lines clients osts (Call client slot call) =
-    record { one : client < clients; small : slot < 4; limits : IsCall (with_stripes call); asks : (o : Op) × (operation_of (with_stripes call) ≡ Some o); among : Calls lines (with_stripes call) }
+    record { one : client < clients; small : slot < 4; limits : IsCall (with_stripes call); asks : IsOnNames (with_stripes call); among : Calls lines (with_stripes call) }
 IsKnown lines clients osts Run = Unit {0}
 IsKnown lines clients osts (RunSome turns) = Unit {0}
 IsKnown lines clients osts (Deliver number) = Unit {0}

@@ -1,8 +1,8 @@
 -- A target has numbers left in a covered scenario: each request that comes brings at most one transaction, and at most one lock for each
--- name of a path and one more.
+-- name of a path and one more. One that waits brings them when it goes on, or none, where its life leaves.
 use Rattle.std.proofs.Common.{◌≡◌, ℕ, zero, suc, ◌+◌, ◌*◌, ◌≤◌, Bool, true, false, List, [], ◌∷◌, ◌++◌, inl, inr, Option, Some, None, refl, sym, subst, ap, ◌∙◌, arith}
-use Rattle.std.specs.Prelude.{nat_eq, nat_lt, max, not, ◌||◌, if◌then◌else◌, length}
-use Rattle.std.specs.List.{filter}
+use Rattle.std.specs.Prelude.{nat_eq, nat_lt, max, not, ◌&&◌, ◌||◌, if◌then◌else◌, length}
+use Rattle.std.specs.List.{filter, list_any}
 use Rattle.std.proofs.lemmas.Bool.{cond_both}
 use Rattle.std.proofs.Math.Nat.{max-le}
 use Rattle.std.proofs.lemmas.Bool.Decides.{nat_tests}
@@ -10,7 +10,10 @@ use Rattle.lu_base.specs.declared.ids.At.{At}
 use Rattle.lu_base.specs.declared.ids.Node.{Node}
 use Rattle.lu_base.specs.declared.ids.Txn.{Txn as TxnOf}
 use Rattle.lu_base.specs.declared.ids.Who.{Who}
+use Rattle.lu_base.specs.declared.locks.Cause.{Cause}
+use Rattle.lu_base.specs.declared.locks.Cause.TheVariants.{Expired, Replaced}
 use Rattle.lu_base.specs.declared.locks.Lock.{Lock}
+use Rattle.lu_msg.specs.declared.commits.Batch.{Batch}
 use Rattle.lu_msg.specs.declared.answers.Errno.{Errno}
 use Rattle.lu_msg.specs.declared.answers.Answer.TheVariants.{Refused}
 use Rattle.lu_msg.specs.declared.messages.Message.{Message}
@@ -29,25 +32,29 @@ use Rattle.lu_machine.specs.Tree.{Tree}
 use Rattle.lu_machine.proofs.Paths.{Steps, walk_steps}
 use Rattle.lu_part.specs.declared.bits.TheConstants.{UPDATE, LAYOUT}
 use Rattle.lu_part.specs.declared.parts.Want.{Want}
-use Rattle.lu_words.specs.Carried.{Deed, Slot, Glimpse}
-use Rattle.lu_words.specs.Words.{Entry, Tick, Skip, Act, Grant, Block, Release, Commit, Enters}
+use Rattle.lu_words.specs.Carried.{Deed, Called, Slot, Glimpse}
+use Rattle.lu_words.specs.Words.{Entry, Tick, Skip, Act, Grant, Block, Release, Commit, Evict, Joined, Enters}
 use Rattle.lu_target_rows.specs.Glimpses.{glimpses_of, glimpses_end}
+use Rattle.lu_target_rows.specs.Leaving.{last_of as last_committed, commits, evicted, ready, all_released, locks_of, evictions, all_go, condemned, expels, sends_again, ticked, life_of, admits, row_admits, by_life, is_over, row_join}
 use Rattle.lu_target_rows.specs.Lives.{is_life, slot_in}
 use Rattle.lu_target_rows.specs.Locks.{is_request_of}
 use Rattle.lu_target_rows.specs.Names.{asked, does_change, is_read, is_ready, locks_from, locks_for, written_by, in_way, names_deed, grant_lines, row_executes, row_waits, row_pass, row_sweep, names_go}
 use Rattle.lu_target_rows.specs.Objects.{lock_of, objects_go}
 use Rattle.lu_target_rows.specs.Phase.{greatest_cookie}
-use Rattle.lu_target_rows.specs.Queues.{queue_goes}
+use Rattle.lu_target_rows.specs.Queues.{queue_goes, queues_go, resources_of, all_queues_go}
+use Rattle.lu_target_rows.specs.Recovery.{row_wish}
 use Rattle.lu_target_rows.specs.Replies.{none, next_number, is_called, called, block_of, blocks, replies, row_kept}
-use Rattle.lu_target_rows.specs.Requests.{by_number, by_slot as slot_of_request, row_request, releases, goes_on, row_cancels}
+use Rattle.lu_target_rows.specs.Requests.{by_number, by_slot as slot_of_request, row_request, releases, goes_on, row_cancels, row_cancel}
+use Rattle.lu_target_rows.specs.Stored.{batch_of}
+use Rattle.lu_target_rows.specs.Rows.{by_boot, by_slot, heeds, while_serving, row_heeds, first_deeds, row_commits, row_commit}
 use Rattle.lu_target_rows.specs.Rows as target
-use Rattle.lu_target_rows.specs.States.{Target, is_names, after, turn, follow}
+use Rattle.lu_target_rows.specs.States.{Target, is_names, is_serving, after, turn, follow}
 use Rattle.lu_lawful.proofs.Guards.{In}
 use Rattle.lu_lawful.proofs.Lists.{self}
 use Rattle.lu_lawful.proofs.OnNames.{IsOnNames}
 use Rattle.lu_lawful.proofs.Readings.{changing_free}
 use Rattle.lu_covered_scenes.proofs.Every.{Every, every_more, every_filter}
-use Rattle.lu_covered_scenes.proofs.Targets.{Serves, MessageServed, heeded, heeded_is, IsCommanded, passed, committed}
+use Rattle.lu_covered_scenes.proofs.Targets.{AllServed, served_covered, Serves, serves_turn, serving_is, first_boot, releases_served, released_served, evictions_served, expels_served, MessageServed, tick_is, close_is}
 
 -- ---- how many locks an operation is granted
 
@@ -115,6 +122,8 @@ module _ (osts : ℕ) (t : Tree) (number : TxnOf) (who : Who) where
   grants_few (op.Rmdir path) short = free_few (op.Rmdir path) tt (λ r. r)
   grants_few (op.Rename old new) short = free_few (op.Rename old new) tt (λ r. r)
   grants_few (op.Chmod path mode) short = free_few (op.Chmod path mode) tt (λ r. r)
+  grants_few (op.Open path) short = free_few (op.Open path) tt (λ r. r)
+  grants_few (op.Close number fid) short = free_few (op.Close number fid) tt (λ r. r)
   grants_few o short = absurd short
 
 -- ---- lists
@@ -287,6 +296,89 @@ sweep_below n (suc more) at v h = pass_below n (row_sweep more at) (sweep_below 
 names_below : (n : ℕ) (at : At) → Goes n (names_go at)
 names_below n at v h = sweep_below n (length v.queue + 1) at v h
 
+-- ---- lives that leave and lives that come
+
+-- a life that leaves takes its requests along
+commit_below : (n : ℕ) (v : Target) (to : ℕ) (batch : Batch) → Below n v → Below n (after v (Commit to batch))
+commit_below n v to batch h =
+    let less = filter_le (λ (r : RequestOf). not (is_life r.who batch.removed)) v.queue in
+    let number = h.number in
+    let cookie = h.cookie in
+    record {
+      queue = every_filter RequestFits (λ (r : RequestOf). not (is_life r.who batch.removed)) v.queue h.queue;
+      number = omega (arith, less, number);
+      cookie = omega (arith, less, cookie);
+    }
+
+commits_below : (n : ℕ) (v : Target) (deeds : List Deed) (removed added : List Who) → Below n v → Below n (after v (commits v deeds removed added))
+commits_below n v deeds removed added h = commit_below n v (last_committed deeds v.committed) (batch_of deeds removed added) h
+
+-- such lines as may stand in the turn
+abbrev All : List Entry → Type 0
+All es = AllServed ⊥ (Unit {0}) es
+
+abbrev Going : ℕ → (Target → List Entry) → Type 0
+Going n next = (w : Target) → Serves w → Below n w → Below n (turn w (next w))
+
+follow_going : (n : ℕ) (es : List Entry) (next : Target → List Entry) (v : Target) → Serves v → All es → Below n (turn v es) → Going n next → Below n (turn v (follow v es next))
+follow_going n es next v s all h more = follow_below n v es next (more (turn v es) (serves_turn v es (served_covered ⊥ (Unit {0}) es all) s) h)
+
+-- what waited goes on: no lock waits in a queue
+all_go_below : (n : ℕ) (at : At) → Going n (all_go at)
+all_go_below n at v s h =
+    cond_both (is_names v) (names_go at v) (all_queues_go v) (λ (es : List Entry). Below n (turn v es)) (λ t. names_below n at v h)
+    (λ t. subst (λ (locks : List Lock). Below n (turn v (queues_go (resources_of locks) v))) (sym s.waiting) h)
+
+releases_below : (n : ℕ) (at : At) (l : Lock) → Going n (releases at l)
+releases_below n at l v s h =
+    subst (λ (gs : List Glimpse). Below n (turn v (Release l ∷ glimpses_end at (glimpses_of l gs) v))) (sym s.glimpses) (record { queue = h.queue; number = h.number; cookie = h.cookie })
+
+released_below : (n : ℕ) (at : At) (locks : List Lock) → Going n (all_released at locks)
+released_below n at [] v s h = h
+released_below n at (l ∷ locks) v s h =
+    follow_going n (releases at l v) (all_released at locks) v s (releases_served (Unit {0}) at l v s) (releases_below n at l v s h) (λ w r b. released_below n at locks w r b)
+
+evictions_below : (n : ℕ) (at : At) (cause : Cause) (granted : List Lock) (gone : List Who) → Going n (evictions at cause granted gone)
+evictions_below n at cause granted [] v s h = h
+evictions_below n at cause granted (who ∷ gone) v s h =
+    follow_going n (Evict who cause ∷ evicted v who ∷ all_released at (locks_of who granted) v) (evictions at cause granted gone) v s
+    (tt, (tt, released_served (Unit {0}) at (locks_of who granted) v s)) (released_below n at (locks_of who granted) v s h) (λ w r b. evictions_below n at cause granted gone w r b)
+
+expels_below : (n : ℕ) (at : At) (gone : List Who) → Going n (expels at gone)
+expels_below n at [] v s h = h
+expels_below n at (who ∷ gone) v s h =
+    follow_going n (commits v v.log (who ∷ gone) [] ∷ []) (λ w. follow w (evictions at Expired v.granted (who ∷ gone) w) (all_go at)) v s (tt, tt) (commits_below n v v.log (who ∷ gone) [] h)
+    (λ w r b.
+    follow_going n (evictions at Expired v.granted (who ∷ gone) w) (all_go at) w r (evictions_served (Unit {0}) at Expired v.granted (who ∷ gone) w tt r)
+    (evictions_below n at Expired v.granted (who ∷ gone) w r b) (all_go_below n at))
+
+admits_below : (n : ℕ) (at : At) (who : Who) → Going n (admits at who)
+admits_below n at who v s h = follow_going n (Joined who ∷ ready v who ∷ []) (all_go at) v s (tt, (tt, tt)) (record { queue = h.queue; number = h.number; cookie = h.cookie }) (all_go_below n at)
+
+life_below : (n : ℕ) (at : At) (old : List Who) (who : Who) → Going n (row_admits at old who)
+life_below n at old who v s h =
+    follow_going n (commits v v.log old (who ∷ []) ∷ []) (λ w. follow w (evictions at Replaced v.granted old w) (admits at who)) v s (tt, tt) (commits_below n v v.log old (who ∷ []) h)
+    (λ w r b.
+    follow_going n (evictions at Replaced v.granted old w) (admits at who) w r (evictions_served (Unit {0}) at Replaced v.granted old w tt r)
+    (evictions_below n at Replaced v.granted old w r b) (admits_below n at who))
+
+-- what is only sent changes nothing of these
+sent_below : (n : ℕ) (v : Target) (who : Who) → Below n v → Below n (turn v (evicted v who ∷ []))
+sent_below n v who h = record { queue = h.queue; number = h.number; cookie = h.cookie }
+
+by_life_below : (n : ℕ) (at : At) (who : Who) (v : Target) (o : Option Who) → Serves v → Below n v → Below n (turn v (by_life v at who o))
+by_life_below n at who v None s h = life_below n at [] who v s h
+by_life_below n at who v (Some old) s h =
+    cond_both (nat_lt who.life old.life) (evicted v who ∷ []) (if nat_eq who.life old.life then ready v who ∷ [] else row_admits at (old ∷ []) who v) (λ (es : List Entry). Below n (turn v es))
+    (λ t. sent_below n v who h)
+    (λ t. cond_both (nat_eq who.life old.life) (ready v who ∷ []) (row_admits at (old ∷ []) who v) (λ (es : List Entry). Below n (turn v es))
+    (λ b. record { queue = h.queue; number = h.number; cookie = h.cookie }) (λ b. life_below n at (old ∷ []) who v s h))
+
+join_below : (n : ℕ) (at : At) (who : Who) (v : Target) → Serves v → Below n v → Below n (turn v (row_join v at who))
+join_below n at who v s h =
+    cond_both (list_any (is_over who) v.removed) (evicted v who ∷ []) (by_life v at who (life_of who.client v.lives)) (λ (es : List Entry). Below n (turn v es))
+    (λ t. sent_below n v who h) (λ t. by_life_below n at who v (life_of who.client v.lives) s h)
+
 -- ---- a message comes
 
 abbrev pub MessageFits : Message → Type 0
@@ -301,7 +393,7 @@ length_one : {A : Type 0} (xs : List A) (x : A) → length (xs ++ x ∷ []) ≡ 
 length_one [] x = refl
 length_one (y ∷ xs) x = let h = length_one xs x in omega arith
 
-module _ (clients n : ℕ) (v : Target) (s : Serves clients v) (names : v.setting.id ≡ 0) (h : Below n v) where
+module _ (n : ℕ) (v : Target) (s : Serves v) (h : Below n v) where
   enters_below : (r : RequestOf) → IsShort r.op → Below (suc n) (after v (Enters r))
   enters_below r short =
       let one = length_one v.queue r in
@@ -316,8 +408,8 @@ module _ (clients n : ℕ) (v : Target) (s : Serves clients v) (names : v.settin
   goes_below : (m : ℕ) (w : Target) (at : At) (other : List Entry) → w.setting.id ≡ 0 → Below m w → Below m (turn w (if is_names w then names_go at w else other))
   goes_below m w at other e low = subst (λ (k : ℕ). Below m (turn w (if nat_eq k 0 then names_go at w else other))) (sym e) (names_below m at w low)
 
-  request_below : (at : At) (r : RequestOf) → IsShort r.op → Below (suc n) (turn v (row_request v at r))
-  request_below at r short = by (slot_in v.slots r.who r.tag)
+  request_below : (at : At) (r : RequestOf) → v.setting.id ≡ 0 → IsShort r.op → Below (suc n) (turn v (row_request v at r))
+  request_below at r names short = by (slot_in v.slots r.who r.tag)
     where
       number : (k : Option ReplyTo) (above same : Bool) → Below (suc n) (turn v (by_number v at r k above same))
       number k true same = goes_below (suc n) (after v (Enters r)) at (objects_go (after v (Enters r)) at r r.op) names (enters_below r short)
@@ -327,38 +419,86 @@ module _ (clients n : ℕ) (v : Target) (s : Serves clients v) (names : v.settin
       by : (slot : Slot) → Below (suc n) (turn v (slot_of_request v at r slot))
       by slot = number slot.reply (nat_lt slot.taken r.xid.0) (nat_eq slot.taken r.xid.0)
 
-  cancels_below : (at : At) (o : Option Lock) → Below n (turn v (row_cancels v at o))
-  cancels_below at None = h
-  cancels_below at (Some l) =
+  cancels_below : (at : At) (o : Option Lock) → v.setting.id ≡ 0 → Below n (turn v (row_cancels v at o))
+  cancels_below at None names = h
+  cancels_below at (Some l) names =
       follow_below n v (releases at l v) (goes_on l at)
       (subst (λ (gs : List Glimpse). Below n (turn (turn v (Release l ∷ glimpses_end at (glimpses_of l gs) v)) (goes_on l at (turn v (Release l ∷ glimpses_end at (glimpses_of l gs) v))))) (sym s.glimpses)
       (goes_below n (after v (Release l)) at (queue_goes l.resource (after v (Release l))) names (record { queue = h.queue; number = h.number; cookie = h.cookie })))
 
-  pub comes_below : (at : At) (k : ℕ) (from : Node) (m : Message) → MessageServed clients m → MessageFits m → Below (suc n) (turn v (target.row v at (target.Comes k from m)))
-  comes_below at k from m is fits = subst (λ (es : List Entry). Below (suc n) (turn v es)) (sym (heeded_is clients v at m s is)) (by m is fits)
+  -- of the first boot; a life without a slot is told that it is over
+  slot_below : (m : ℕ) (who : Who) (rest : List Entry) (has : Bool) → Below m v → Below m (turn v rest) → Below m (turn v (by_slot v who has rest))
+  slot_below m who rest true low all = all
+  slot_below m who rest false low all = sent_below m v who low
+
+  first_below : (m : ℕ) (who : Who) (boot : ℕ) (rest : List Entry) → boot ≡ 1 → Below m (turn v rest) → Below m (turn v (by_boot v who (nat_lt boot v.boot) rest))
+  first_below m who boot rest first all = subst (λ (older : Bool). Below m (turn v (by_boot v who older rest))) (sym (first_boot v boot s first)) all
+
+  heeds_below : (m : ℕ) (who : Who) (boot : ℕ) (rest : List Entry) → boot ≡ 1 → Below m v → Below m (turn v rest) → Below m (turn v (heeds v who boot (while_serving v rest)))
+  heeds_below m who boot rest first low all =
+      first_below m who boot (by_slot v who (is_life who v.lives) (while_serving v rest)) first
+      (slot_below m who (while_serving v rest) (is_life who v.lives) low (cond_both (is_serving v) rest [] (λ (es : List Entry). Below m (turn v es)) (λ t. all) (λ t. low)))
+
+  pub comes_below : (MayAsk : Type 0) (at : At) (k : ℕ) (from : Node) (m : Message) → MessageServed MayAsk v m → MessageFits m → Below (suc n) (turn v (target.row v at (target.Comes k from m)))
+  comes_below MayAsk at k from m is fits = by m is fits
     where
-      by : (m : Message) → MessageServed clients m → MessageFits m → Below (suc n) (turn v (heeded v at m))
-      by (message.Request r) is fits = request_below at r fits
-      by (message.Cancel who boot cookie) is fits = more_below n (turn v (row_cancels v at (lock_of who cookie v.granted))) (cancels_below at (lock_of who cookie v.granted))
+      by : (m : Message) → MessageServed MayAsk v m → MessageFits m → Below (suc n) (turn v (row_heeds v at m))
+      by (message.Request r) is fits = heeds_below (suc n) r.who r.boot (row_request v at r) is.1 (more_below n v h) (request_below at r is.0 fits)
+      by (message.Cancel who boot cookie) is fits =
+          more_below n (turn v (row_heeds v at (message.Cancel who boot cookie))) (heeds_below n who boot (row_cancel v at who cookie) is.1 h (cancels_below at (lock_of who cookie v.granted) is.0))
+      by (message.Join who boot) is fits =
+          more_below n (turn v (row_heeds v at (message.Join who boot)))
+          (first_below n who boot (if is_serving v then row_join v at who else row_wish v at who) is.0
+          (subst (λ (serves : Bool). Below n (turn v (if serves then row_join v at who else row_wish v at who))) (sym (serving_is v s)) (join_below n at who v s h)))
       by m is fits = absurd is
 
-pub tick_below : (n : ℕ) (v : Target) → Below n v → Below (suc n) (after v Tick)
-tick_below n v h = more_below n (after v Tick) (record { queue = h.queue; number = h.number; cookie = h.cookie })
+-- ---- time goes on
 
--- a command takes none
-commanded_queue : (queue : List RequestOf) → filter (λ (r : RequestOf). not (is_life r.who [])) queue ≡ queue
-commanded_queue [] = refl
-commanded_queue (r ∷ queue) = ap (λ (q : List RequestOf). r ∷ q) (commanded_queue queue)
+-- what is sent again
+again_below : (n : ℕ) (v w : Target) (cs : List Called) (locks : List Lock) → Below n v → Below n (turn v (sends_again w cs [] locks))
+again_below n v w cs [] h = h
+again_below n v w cs (l ∷ locks) h =
+    cond_both (is_called l.cookie cs && is_called l.cookie w.called) (block_of w l ∷ []) [] (λ (es : List Entry). Below n (turn v (es ++ sends_again w cs [] locks)))
+    (λ t. again_below n v w cs locks h) (λ t. again_below n v w cs locks h)
 
-pub commanded_below : (n : ℕ) (v : Target) (es : List Entry) → IsCommanded es → Below n v → Below (suc n) (turn v es)
-commanded_below n v _ passed h = more_below n (turn v (Skip ∷ [])) (record { queue = h.queue; number = h.number; cookie = h.cookie })
-commanded_below n v _ (committed to batch removed added) h =
-    more_below n (after v (Commit to batch)) (same_below n v (after v (Commit to batch)) (record { number = refl; cookie = refl; queue = rw removed (commanded_queue v.queue) }) h)
+pub tick_below : (n : ℕ) (v : Target) (at : At) → Serves v → Below n v → Below (suc n) (turn v (target.row v at target.Ticks))
+tick_below n v at s h = more_below n (turn v (target.row v at target.Ticks)) (subst (λ (es : List Entry). Below n (turn v es)) (sym (tick_is v at s)) goes)
+  where
+    w : Target
+    w = after v Tick
+
+    now : Serves w
+    now = serves_turn v (Tick ∷ []) (tt, tt) s
+
+    goes : Below n (turn w (ticked at w))
+    goes =
+        follow_going n (expels at (condemned w w.called) w) (λ x. sends_again x w.called w.glimpses x.granted) w now (expels_served (Unit {0}) at (condemned w w.called) w (λ who gone e. tt) now)
+        (expels_below n at (condemned w w.called) w now (record { queue = h.queue; number = h.number; cookie = h.cookie }))
+        (λ x r b. subst (λ (gs : List Glimpse). Below n (turn x (sends_again x w.called gs x.granted))) (sym s.glimpses) (again_below n x x w.called x.granted b))
+
+-- ---- a command
+
+pub commit_command_below : (n : ℕ) (v : Target) (at : At) (count : Option ℕ) → Below n v → Below (suc n) (turn v (target.row v at (target.Commits count)))
+commit_command_below n v at count h =
+    more_below n (turn v (target.row v at (target.Commits count)))
+    (cond_both v.up (row_commit v count) (Skip ∷ []) (λ (es : List Entry). Below n (turn v es))
+    (λ t. cond_both (is_serving v) (row_commits v (first_deeds count v.log)) (Skip ∷ []) (λ (es : List Entry). Below n (turn v es)) (λ b. by (first_deeds count v.log)) (λ b. skips)) (λ t. skips))
+  where
+    skips : Below n (turn v (Skip ∷ []))
+    skips = record { queue = h.queue; number = h.number; cookie = h.cookie }
+
+    by : (deeds : List Deed) → Below n (turn v (row_commits v deeds))
+    by [] = skips
+    by (d ∷ deeds) = commits_below n v (d ∷ deeds) [] [] h
+
+pub close_command_below : (n : ℕ) (v : Target) (at : At) → Serves v → Below n v → Below (suc n) (turn v (target.row v at target.Closes))
+close_command_below n v at s h =
+    more_below n (turn v (target.row v at target.Closes)) (subst (λ (es : List Entry). Below n (turn v es)) (sym (close_is v at s)) (record { queue = h.queue; number = h.number; cookie = h.cookie }))
 
 -- ---- numbers are left
 
-pub has_numbers : (clients n : ℕ) (v : Target) (es : List Entry) → Serves clients (turn v es) → Below n (turn v es) → n ≤ 65537 → target.overruns v es ≡ false
-has_numbers clients n v es s h few =
+pub has_numbers : (n : ℕ) (v : Target) (es : List Entry) → Serves (turn v es) → Below n (turn v es) → n ≤ 65537 → target.overruns v es ≡ false
+has_numbers n v es s h few =
     let w : Target = turn v es in
     let number = h.number in
     let cookie = h.cookie in

@@ -1,6 +1,6 @@
 -- Whatever a covered scenario comes to, where no disk has failed, is a covered run of the whole table.
-use Rattle.std.proofs.Common.{◌≡◌, ℕ, zero, suc, ◌+◌, ◌<◌, ◌≤◌, Bool, true, false, List, [], ◌∷◌, Option, Some, None, ◌⊎◌, inl, inr, refl, sym, subst, ap, arith}
-use Rattle.std.specs.Prelude.{if◌then◌else◌, length, All}
+use Rattle.std.proofs.Common.{◌≡◌, ℕ, zero, suc, ◌+◌, ◌<◌, ◌≤◌, Bool, true, false, List, [], ◌∷◌, Option, Some, None, inl, inr, refl, sym, subst, ap, arith}
+use Rattle.std.specs.Prelude.{if◌then◌else◌, length}
 use Rattle.std.proofs.lemmas.Bool.Decides.{nat_tests}
 use Rattle.lu_base.specs.declared.ids.Node.{Node}
 use Rattle.lu_base.specs.declared.ids.Node.TheVariants.{Client, Target}
@@ -17,7 +17,7 @@ use Rattle.lu_client_rows.specs.Rows as client
 use Rattle.lu_client_rows.specs.States.{first_imports}
 use Rattle.lu_target_rows.specs.Rows as target
 use Rattle.lu_table.specs.Heads.{Head}
-use Rattle.lu_table.specs.Runs.{EventAt, lines_of, has_failed, IsRun, Meets, client_of, target_of, limits_of}
+use Rattle.lu_table.specs.Runs.{EventAt, lines_of, has_failed, IsRun, Meets, client_of, limits_of}
 use Rattle.lu_table.specs.Scenarios.{Config, Next, Stops, Fails, Goes, head_of, past_of, is_full, with_turn, left, Disks, start_fails, start_turn, is_down, turn_of, due, arrives, due_alive, comes, runs, next_by, with_stripes, Leads, here, more, start}
 use Rattle.lu_covered.specs.Covered.{AllCovered}
 use Rattle.lu_after.specs.InTable.{next_at}
@@ -25,16 +25,13 @@ use Rattle.lu_after.proofs.Clients.{client_first}
 use Rattle.lu_after.proofs.Posts.{sent_at_is}
 use Rattle.lu_after.proofs.Runs.{first_in, left_in, spent_in, client_meets}
 use Rattle.lu_lawful.proofs.GuardTurns.{covered_head}
-use Rattle.lu_lawful.proofs.Sides.{from_client}
-use Rattle.lu_covered_scenes.specs.Covered.{IsCovered, IsNoCommand, GivesNoCommand, AllMiss, ticks_of}
+use Rattle.lu_covered_scenes.specs.Covered.{IsCovered, EvictsNone, AsksNoDisk, ticks_of}
 use Rattle.lu_covered_scenes.proofs.Every.{Every}
 use Rattle.lu_covered_scenes.proofs.Arrivals.{client_calm, to_client}
 use Rattle.lu_covered_scenes.proofs.Clients.{ImportCalm, Calm}
 use Rattle.lu_covered_scenes.proofs.ClientRows.{EventCalm}
-use Rattle.lu_covered_scenes.proofs.Lines.{Calls, IsCommandTo, AllKnown, lines_known}
-use Rattle.lu_after.proofs.Runs as after_runs
-use Rattle.lu_covered_scenes.proofs.Targets.{IsCommanded, commit_is, close_is}
-use Rattle.lu_covered_scenes.proofs.Turns.{Sound, Timely, Makes, made, Spared, covered_unfailed, past_grown, target_serves, client_makes, client_timely, comes_makes, comes_timely, names_due, others_due, tick_makes, names_timely, other_timely, command_makes, command_timely}
+use Rattle.lu_covered_scenes.proofs.Lines.{MayAsk, Calls, IsCommandTo, AllKnown, lines_known}
+use Rattle.lu_covered_scenes.proofs.Turns.{Sound, IsTimely, Timely, Makes, made, Spared, covered_unfailed, past_grown, client_makes, client_timely, comes_makes, comes_timely, names_due, others_due, tick_makes, names_timely, other_timely, commit_makes, commit_timely, close_makes, close_timely}
 
 -- a configuration to which a covered scenario leads
 pub record Follows (scene : Scene) (c : Config) : Type 0 where
@@ -52,8 +49,11 @@ has_room c free = grind (arith, nat_tests)
 
 -- so many ticks or fewer
 fewer_timely : (scene : Scene) (past : List Line) (few many : ℕ) → few ≤ many → Timely scene many past → Timely scene few past
-fewer_timely scene past few many less (inl low) = inl (omega (arith, less, low))
-fewer_timely scene past few many less (inr miss) = inr miss
+fewer_timely scene past few many less time quiet = by (time quiet)
+  where
+    by : IsTimely scene many past → IsTimely scene few past
+    by (inl low) = inl (omega (arith, less, low))
+    by (inr miss) = inr miss
 
 ticks_rest : (line : SceneLine) (rest : List SceneLine) → ticks_of rest ≤ ticks_of (line ∷ rest)
 ticks_rest (Tick (Target zero)) rest = omega arith
@@ -72,13 +72,13 @@ module _ (scene : Scene) (covered : IsCovered scene) (disks : Disks) where
   rest_left c line rest l = record { known = l.known.1; time = fewer_timely scene (past_of c) (ticks_of rest) (ticks_of (line ∷ rest)) (ticks_rest line rest) l.time }
 
   sound_left : (c : Config) (lines : List SceneLine) → Sound scene c → Sound scene (left c lines)
-  sound_left c lines s = record { table = left_in head c lines s.table; covered = s.covered; calm = s.calm; below = s.below; ticks = s.ticks; begun = s.begun }
+  sound_left c lines s = record { table = left_in head c lines s.table; covered = s.covered; suits = s.suits; calm = s.calm; below = s.below; ticks = s.ticks; begun = s.begun }
 
   abbrev spent : Config → ℕ → List SceneLine → Config
   spent c n lines = record { turns = c.turns; posts = spend c.posts n; lines = lines }
 
   sound_spent : (c : Config) (n : ℕ) (lines : List SceneLine) → Sound scene c → Sound scene (spent c n lines)
-  sound_spent c n lines s = record { table = spent_in head c n lines s.table; covered = s.covered; calm = s.calm; below = s.below; ticks = s.ticks; begun = s.begun }
+  sound_spent c n lines s = record { table = spent_in head c n lines s.table; covered = s.covered; suits = s.suits; calm = s.calm; below = s.below; ticks = s.ticks; begun = s.begun }
 
   -- ---- one step: whatever comes next, if the run goes on
 
@@ -111,7 +111,7 @@ module _ (scene : Scene) (covered : IsCovered scene) (disks : Disks) where
 
   -- ---- a line of a client
 
-  alive_keeps : (c : Config) (who : ℕ) (event : client.Event) (rest : List SceneLine) → Sound scene c → Left c rest → EventCalm (Calls scene.lines) event
+  alive_keeps : (c : Config) (who : ℕ) (event : client.Event) (rest : List SceneLine) → Sound scene c → Left c rest → EventCalm (Calls scene.lines) (MayAsk scene) event
       → (is_dead who (past_of c) ≡ false → Meets head (past_of c) (Client who) event) → Kept (due_alive head disks c who event rest)
   alive_keeps c who event rest s l calm meets = by (is_dead who (past_of c)) refl
     where
@@ -130,12 +130,10 @@ module _ (scene : Scene) (covered : IsCovered scene) (disks : Disks) where
       let g = past_grown scene covered c s in
       due_keeps c (Client who) (client.Comes n from m) known
       (λ room. client_makes scene covered c who (client.Comes n from m) s (client_meets head (past_of c) who n from m (to_client (covered_head head) (past_of c) g n who from m sent) up sent)
-      (client_calm scene covered (covered_head head) (past_of c) g s.begun n who from m sent))
+      (client_calm scene covered (covered_head head) head.osts (past_of c) g s.suits s.begun n who from m sent))
       (client_timely scene covered c who (client.Comes n from m) (ticks_of c.lines) time)
   arrives_keeps c n from m (Target t) s known time sent up =
-      let names : t ≡ 0 = (from_client (covered_head head) (past_of c) n t from m (past_grown scene covered c s) sent).0 in
-      subst (λ (u : ℕ). Sent (past_of c) n from (Target u) m → Kept (due head disks c (Target u) (target.Comes n from m))) (sym names)
-      (λ here. due_keeps c (Target 0) (target.Comes n from m) known (comes_makes scene covered c n from m s here) (comes_timely scene covered c n from m s here (ticks_of c.lines) time)) sent
+      due_keeps c (Target t) (target.Comes n from m) known (comes_makes scene covered c t n from m s sent) (comes_timely scene covered c t n from m s sent (ticks_of c.lines) time)
 
   comes_keeps : (c : Config) (n : ℕ) (o : Option SentMessage) (thrown taken : List SceneLine) → Sound scene c → sent_at c.posts n ≡ o → Left c thrown → Left c taken → Kept (comes head disks c n o thrown taken)
   comes_keeps c n None thrown taken s e if_thrown if_taken = left_moved c thrown s if_thrown
@@ -166,12 +164,17 @@ module _ (scene : Scene) (covered : IsCovered scene) (disks : Disks) where
 
   -- ---- a command to a target
 
-  command_keeps : (c : Config) (t : ℕ) (event : target.Event) (rest : List SceneLine) → Sound scene c → Left c rest → IsCommandTo scene.lines head.osts t → after_runs.IsCommand event
-      → IsCommanded (target.row (target_of head t (past_of c)) (next_at c (Target t)) event) → Kept (due head disks (left c rest) (Target t) event)
-  command_keeps c t event rest s l to is commanded =
+  commit_keeps : (c : Config) (t : ℕ) (count : Option ℕ) (rest : List SceneLine) → Sound scene c → Left c rest → IsCommandTo scene.lines head.osts t → Kept (due head disks (left c rest) (Target t) (target.Commits count))
+  commit_keeps c t count rest s l to =
       let after = left c rest in
-      due_keeps after (Target t) event l.known (λ room. command_makes scene covered after t event (sound_left c rest s) is commanded to.some room to.one)
-      (command_timely scene covered after t event (ticks_of rest) commanded l.time)
+      let sound = sound_left c rest s in
+      due_keeps after (Target t) (target.Commits count) l.known (λ room. commit_makes scene covered after t sound to.some count room to.one) (commit_timely scene covered after t sound to.some count (ticks_of rest) l.time)
+
+  close_keeps : (c : Config) (t : ℕ) (rest : List SceneLine) → Sound scene c → Left c rest → IsCommandTo scene.lines head.osts t → Kept (due head disks (left c rest) (Target t) target.Closes)
+  close_keeps c t rest s l to =
+      let after = left c rest in
+      let sound = sound_left c rest s in
+      due_keeps after (Target t) target.Closes l.known (λ room. close_makes scene covered after t sound to.some room to.one) (close_timely scene covered after t sound to.some (ticks_of rest) l.time)
 
   step_keeps : (c : Config) (lines : List SceneLine) → Sound scene c → Left c lines → Kept (next_by head disks c lines)
   step_keeps c [] s l = λ d e spared. absurd (cc)
@@ -189,17 +192,11 @@ module _ (scene : Scene) (covered : IsCovered scene) (disks : Disks) where
   step_keeps c (Tick (Client who) ∷ rest) s l = alive_keeps c who client.Ticks rest s (rest_left c (Tick (Client who)) rest l) tt (λ up. record { one = l.known.0; alive = up })
   step_keeps c (Tick (Target t) ∷ rest) s l = tick_keeps c t rest s l
   step_keeps c (Die who ∷ rest) s l = alive_keeps c who client.Dies rest s (rest_left c (Die who) rest l) tt (λ up. record { one = l.known.0; alive = up })
-  step_keeps c (Commit t ∷ rest) s l =
-      command_keeps c t.0 (target.Commits None) rest s (rest_left c (Commit t) rest l) l.known.0 tt
-      (commit_is head.clients (target_of head t.0 (past_of c)) (next_at c (Target t.0)) None (target_serves scene covered c s t.0))
-  step_keeps c (CommitSome t k ∷ rest) s l =
-      command_keeps c t.0 (target.Commits (Some k)) rest s (rest_left c (CommitSome t k) rest l) l.known.0 tt
-      (commit_is head.clients (target_of head t.0 (past_of c)) (next_at c (Target t.0)) (Some k) (target_serves scene covered c s t.0))
+  step_keeps c (Commit t ∷ rest) s l = commit_keeps c t.0 None rest s (rest_left c (Commit t) rest l) l.known.0
+  step_keeps c (CommitSome t k ∷ rest) s l = commit_keeps c t.0 (Some k) rest s (rest_left c (CommitSome t k) rest l) l.known.0
   step_keeps c (Crash t ∷ rest) s l = absurd l.known.0
   step_keeps c (Boot t ∷ rest) s l = absurd l.known.0
-  step_keeps c (Close t ∷ rest) s l =
-      command_keeps c t.0 target.Closes rest s (rest_left c (Close t) rest l) l.known.0 tt
-      (close_is head.clients (target_of head t.0 (past_of c)) (next_at c (Target t.0)) (target_serves scene covered c s t.0))
+  step_keeps c (Close t ∷ rest) s l = close_keeps c t.0 rest s (rest_left c (Close t) rest l) l.known.0
 
   -- a run goes on only where no disk has failed
   next_keeps : (c d : Config) (failed : Bool) → (if failed then Fails else next_by head disks c c.lines) ≡ Goes d → Spared scene covered (past_of d) → Follows scene c → Follows scene d
@@ -212,17 +209,25 @@ module _ (scene : Scene) (covered : IsCovered scene) (disks : Disks) where
 
   -- ---- from the start
 
-  imports_calm : (n : ℕ) → Every ImportCalm (first_imports n)
+  imports_calm : (n : ℕ) → Every (ImportCalm (MayAsk scene)) (first_imports n)
   imports_calm zero = tt
-  imports_calm (suc n) = (record { serves = refl; queue = tt; flights = tt }, imports_calm n)
+  imports_calm (suc n) = (record { stands = tt; queue = tt; flights = tt }, imports_calm n)
 
-  calm_first : (who : ℕ) → Calm (client_of head who [])
+  imports_count : (n : ℕ) → length (first_imports n) ≤ n
+  imports_count zero = omega arith
+  imports_count (suc n) = let few = imports_count n in omega (arith, few)
+
+  calm_first : (who : ℕ) → Calm (MayAsk scene) head.osts (client_of head who [])
   calm_first who =
-      subst Calm (sym (client_first (limits_of head) who)) (record { calls = (tt, (tt, (tt, (tt, tt)))); imports = imports_calm ((limits_of head).osts + 1); facts = tt; held = tt })
+      subst (Calm (MayAsk scene) head.osts) (sym (client_first (limits_of head) who))
+      (record { calls = (tt, (tt, (tt, (tt, tt)))); imports = imports_calm ((limits_of head).osts + 1); targets = imports_count ((limits_of head).osts + 1); facts = tt; held = tt })
 
-  first_time : (ticks_of scene.lines < scene.head.expire) ⊎ AllMiss scene.lines → Timely scene (ticks_of scene.lines) []
-  first_time (inl low) = inl (omega (arith, low))
-  first_time (inr miss) = inr miss
+  first_time : Timely scene (ticks_of scene.lines) []
+  first_time quiet = by quiet.evicts
+    where
+      by : EvictsNone scene → IsTimely scene (ticks_of scene.lines) []
+      by (inl low) = inl (omega (arith, low))
+      by (inr miss) = inr miss
 
   start_follows : (o : Option ℕ) → has_failed (lines_of (start_turn o)) ≡ false → Follows scene (record { turns = start_turn o; posts = []; lines = scene.lines })
   start_follows None unfailed =
@@ -231,13 +236,14 @@ module _ (scene : Scene) (covered : IsCovered scene) (disks : Disks) where
             record {
               table = first_in head scene.lines;
               covered = tt;
+              suits = tt;
               calm = calm_first;
               below = λ t. record { queue = tt; number = omega arith; cookie = omega arith };
               ticks = λ t. omega arith;
               begun = λ call i. absurd i;
             };
         lines = lines_known scene covered;
-        time = first_time covered.time;
+        time = first_time;
       }
   start_follows (Some t) unfailed = absurd (cc)
 
@@ -256,7 +262,7 @@ module _ (scene : Scene) (covered : IsCovered scene) (disks : Disks) where
       let first = start head disks scene in
       leads_on first c l (inl unfailed) (start_follows (start_fails disks 0 (head.osts + 1)) (was_unfailed first c l unfailed))
 
-  pub starts_follow : (c : Config) → GivesNoCommand scene → Leads head disks (start head disks scene) c → start_fails disks 0 (head.osts + 1) ≡ None → Follows scene c
+  pub starts_follow : (c : Config) → AsksNoDisk scene → Leads head disks (start head disks scene) c → start_fails disks 0 (head.osts + 1) ≡ None → Follows scene c
   starts_follow c quiet l none =
       leads_on (start head disks scene) c l (inr quiet) (start_follows (start_fails disks 0 (head.osts + 1)) (ap (λ (o : Option ℕ). has_failed (lines_of (start_turn o))) none))
 
@@ -270,7 +276,7 @@ pub scene_covered : (scene : Scene) → IsCovered scene → (disks : Disks) (c :
     → AllCovered (past_of c)
 scene_covered scene covered disks c l unfailed = (leads_follow scene covered disks c l unfailed).sound.covered
 
--- where no start fails and no line gives a command, none does later: no turn asks a disk
-pub scene_unfailed : (scene : Scene) → IsCovered scene → GivesNoCommand scene → (disks : Disks) (c : Config) → Leads (head_of scene.head) disks (start (head_of scene.head) disks scene) c
+-- where no start fails, and no line gives a command and no client is evicted, none does later: no turn asks a disk
+pub scene_unfailed : (scene : Scene) → IsCovered scene → AsksNoDisk scene → (disks : Disks) (c : Config) → Leads (head_of scene.head) disks (start (head_of scene.head) disks scene) c
     → start_fails disks 0 (scene.head.osts + 1) ≡ None → has_failed (past_of c) ≡ false
 scene_unfailed scene covered quiet disks c l none = covered_unfailed (past_of c) (starts_follow scene covered disks c quiet l none).sound.covered

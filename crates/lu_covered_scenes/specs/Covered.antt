@@ -1,10 +1,10 @@
--- The scenarios whose runs the theorem covers so far: clients begin calls on names, but for `open` and `close`, messages come or are
--- lost, time goes on, clients die, targets commit, all of it or some, or are told to close a window that they don't have. A `stat` must find no file, whose size it would ask for; and the metadata target's time must not go so
--- far that it evicts a client that doesn't give back a lock.
+-- The scenarios whose runs the theorem covers so far: clients begin calls on names, opens and closes among them, messages come or are lost, time
+-- goes on, clients die, targets commit, all of it or some, or are told to close a window that they don't have. A `stat` must find no file, whose
+-- size it would ask for. Whoever doesn't give back a lock in time is evicted, and joins in a new life.
 use Rattle.std.specs.Prelude.{◌<◌, ◌+◌, ℕ, zero, List, [], ◌∷◌, All, ◌⊎◌}
 use Rattle.lu_base.specs.declared.ids.Node.TheVariants.{Target}
 use Rattle.lu_msg.specs.declared.calls.Call.{Call as CallOf}
-use Rattle.lu_msg.specs.declared.calls.Call.TheVariants.{Open, Close as CloseFile, Read, Write, Cut, Flush, Glimpse}
+use Rattle.lu_msg.specs.declared.calls.Call.TheVariants.{Read, Write, Cut, Flush, Glimpse}
 use Rattle.lu_scene.specs.declared.scene.Scene.{Scene}
 use Rattle.lu_scene.specs.declared.scene.SceneLine.{SceneLine}
 use Rattle.lu_scene.specs.declared.scene.SceneLine.TheVariants.{Call, Run, RunSome, Deliver, Lose, Tick, Commit, CommitSome, Crash, Boot, Close, Die}
@@ -34,10 +34,8 @@ IsFile (line ∷ lines) path = MakesFile line path ⊎ IsFile lines path
 
 -- ---- which lines are covered
 
--- a call on names, but for `open` and `close`
+-- a call on names
 abbrev pub IsOnNames : CallOf → Type 0
-IsOnNames (Open handle path) = ⊥
-IsOnNames (CloseFile handle) = ⊥
 IsOnNames (Read handle offset size) = ⊥
 IsOnNames (Write handle offset bytes) = ⊥
 IsOnNames (Cut handle size) = ⊥
@@ -66,6 +64,12 @@ IsCoveredIn lines line = IsLineCovered (IsFile lines) line
 abbrev pub AllLinesCovered : List SceneLine → Type 0
 AllLinesCovered lines = All (IsCoveredIn lines) lines
 
+-- ---- scenarios
+
+pub record IsCovered (scene : Scene) : Type 0 where
+  pub limits : KeepsLimits scene
+  pub lines : AllLinesCovered scene.lines
+
 -- ---- commands to targets
 
 -- a line that gives none
@@ -77,10 +81,6 @@ IsNoCommand (Boot target) = ⊥
 IsNoCommand (Close target) = ⊥
 IsNoCommand _ = Unit {0}
 
--- no line gives one: so no turn asks a disk
-abbrev pub GivesNoCommand : Scene → Type 0
-GivesNoCommand scene = All IsNoCommand scene.lines
-
 -- ---- locks that are called back
 
 -- how often the metadata target's time goes on
@@ -89,7 +89,7 @@ ticks_of [] = 0
 ticks_of (Tick (Target zero) ∷ lines) = ticks_of lines + 1
 ticks_of (line ∷ lines) = ticks_of lines
 
--- a line's call asks for no path that is made, if it reads: then it is granted no lock
+-- a line's call asks for no path that is made, if it reads: then it is granted no lock. An `open` or a `close` reads nothing
 abbrev pub LineMisses : (Path → Type 0) → SceneLine → Type 0
 LineMisses Made (Call client slot call) = Misses Made call
 LineMisses Made _ = Unit {0}
@@ -97,10 +97,12 @@ LineMisses Made _ = Unit {0}
 abbrev pub AllMiss : List SceneLine → Type 0
 AllMiss lines = All (LineMisses (IsMade lines)) lines
 
--- ---- scenarios
+-- no lock that is called back expires: the metadata target's time doesn't go on so often, or no lock is granted. So no client is evicted
+abbrev pub EvictsNone : Scene → Type 0
+EvictsNone scene = (ticks_of scene.lines < scene.head.expire) ⊎ AllMiss scene.lines
 
--- No lock that is called back expires: the metadata target's time doesn't go on so often, or no lock is granted.
-pub record IsCovered (scene : Scene) : Type 0 where
-  pub limits : KeepsLimits scene
-  pub lines : AllLinesCovered scene.lines
-  pub time : (ticks_of scene.lines < scene.head.expire) ⊎ AllMiss scene.lines
+-- ---- scenarios in which no turn asks a disk: a target does so for a command, and where it evicts a client
+
+pub record AsksNoDisk (scene : Scene) : Type 0 where
+  pub commands : All IsNoCommand scene.lines
+  pub evicts : EvictsNone scene

@@ -8,11 +8,11 @@ ghost use Rattle.lu_table.specs.Runs.{has_failed, IsRun};
 ghost use Rattle.lu_table.specs.Scenarios.{Config, Disks, start_fails, Leads, start, head_of, past_of};
 ghost use Rattle.lu_covered.specs.Covered.{AllCovered};
 ghost use Rattle.lu_lawful.specs.Lawful.{Lawful};
-ghost use Rattle.lu_covered_scenes.specs.Covered.{IsCovered, GivesNoCommand};
+ghost use Rattle.lu_covered_scenes.specs.Covered.{IsCovered, AsksNoDisk};
 
 /// Whatever a covered scenario comes to, where no call to a disk has failed, is a covered run of the whole table, so its
-/// trace is lawful. And where no line gives a command to a target none has, unless one at a target's start: its turns make
-/// no other.
+/// trace is lawful. And where no line gives a command to a target and no client is evicted none has, unless one at a
+/// target's start: its turns make no other.
 pub fn scenes_are_lawful()
     ensures run { (scene : Scene) → IsCovered scene → let head = head_of scene.head in (disks : Disks) (c : Config)
         → Leads head disks (start head disks scene) c → has_failed (past_of c) ≡ false → IsRun head c.turns }
@@ -21,7 +21,7 @@ pub fn scenes_are_lawful()
     ensures lawful { (scene : Scene) → IsCovered scene → let head = head_of scene.head in (disks : Disks) (c : Config)
         → Leads head disks (start head disks scene) c → has_failed (past_of c) ≡ false
         → Lawful scene.head.osts (printed (past_of c)) }
-    ensures unfailed { (scene : Scene) → IsCovered scene → GivesNoCommand scene
+    ensures unfailed { (scene : Scene) → IsCovered scene → AsksNoDisk scene
         → let head = head_of scene.head in (disks : Disks) (c : Config)
         → Leads head disks (start head disks scene) c → start_fails disks 0 (head.osts + 1) ≡ None
         → has_failed (past_of c) ≡ false }

@@ -1,30 +1,32 @@
 -- What is asked and done was asked by a call that began.
 use Rattle.std.proofs.Common.{◌≡◌, ℕ, List, [], ◌∷◌, Option, Some, None, ◌⊎◌, inl, inr, ⊎_elim, refl, sym, subst, ap, ◌∙◌}
-use Rattle.std.specs.Prelude.{nat_eq, ◌&&◌, ◌++◌, if◌then◌else◌}
+use Rattle.std.specs.Prelude.{nat_eq, true, ◌&&◌, ◌++◌, if◌then◌else◌}
 use Rattle.std.proofs.lemmas.Bool.{cond_both}
 use Rattle.lu_base.specs.declared.ids.Node.{Node}
 use Rattle.lu_base.specs.declared.ids.Node.TheVariants.{Client, Target}
+use Rattle.lu_base.specs.declared.ids.Who.{Who}
 use Rattle.lu_msg.specs.declared.calls.Call.{Call}
 use Rattle.lu_msg.specs.declared.calls.Call.TheVariants as call
 use Rattle.lu_msg.specs.declared.operations.Op.{Op}
 use Rattle.lu_msg.specs.declared.operations.Op.TheVariants as op
 use Rattle.lu_client_rows.specs.Known.{Notes}
-use Rattle.lu_words.specs.Carried.{Deed, Queued, Flight, Asking, Asked as IsOut, Running}
-use Rattle.lu_words.specs.Words.{Entry, Tick, Begin, Told, Stands, Queues, Flies, Heard, Line, line}
+use Rattle.lu_words.specs.Carried.{Deed, HandleFile, Queued, Flight, Asking, Asked as IsOut, Running}
+use Rattle.lu_words.specs.Words.{Entry, Tick, Begin, Told, Life, Stands, Queues, Flies, Heard, Line, line}
 use Rattle.lu_words.specs.Concerns.{only}
 use Rattle.lu_covered.specs.Calls.{asks, asks_for, call_at, operation_of}
 use Rattle.lu_covered.specs.Imports.{rest, queue_at}
 use Rattle.lu_covered.specs.Known.{notes_at, known_answer}
-use Rattle.lu_covered.specs.ClientStates.{queue_of}
+use Rattle.lu_covered.specs.ClientStates.{queue_of, life_of, is_own}
 use Rattle.lu_covered.specs.Heads.{Head}
 use Rattle.lu_guards.proofs.Guards.{In, EntryOk, Allowed, Grown}
 use Rattle.lu_guards.proofs.Lists.{in_append}
-use Rattle.lu_guards.proofs.Parts.{queue_is}
-use Rattle.lu_facts.proofs.Groups.{turn, Flew, Acted, CallOf}
+use Rattle.lu_guards.proofs.Parts.{queue_now}
+use Rattle.lu_facts.proofs.Groups.{turn, Flew, Acted}
 use Rattle.lu_facts.proofs.All.{holds}
 use Rattle.lu_facts.proofs.Lines.{flew_whole}
 use Rattle.lu_facts.proofs.OnNames.{IsOnNames, becomes_on_names}
 use Rattle.lu_facts.proofs.Sides.{acted_only}
+use Rattle.lu_guards.proofs.ClientLines.{in_rest}
 
 -- a call began: reads Begin
 abbrev pub Began : List Line → Call → Type 0
@@ -38,12 +40,12 @@ began_more l past k b = by l.entry
     by (Begin slot running) = inr b
     by _ = b
 
--- a call that began asks that operation
+-- a call that began asks that operation, with the file of its handle
 abbrev pub AskedBy : List Line → Op → Type 0
-AskedBy past o = (k : Call) × Began past k × (operation_of k ≡ Some o)
+AskedBy past o = (k : Call) × Began past k × (file : Option HandleFile) × (operation_of file k ≡ Some o)
 
 asked_more : (l : Line) (past : List Line) (o : Op) → AskedBy past o → AskedBy (l ∷ past) o
-asked_more l past o a = (a.0, began_more l past a.0 a.1, a.2)
+asked_more l past o a = (a.0, began_more l past a.0 a.1, a.2, a.3)
 
 -- ---- calls
 
@@ -91,24 +93,42 @@ began_call head (l ∷ past) g c slot r e = by l.at.node l.entry g.0.ok (began_c
 
 -- ---- what is asked and done
 
-pub served_asked : (head : Head) (past : List Line) → Grown head past → (c : ℕ) (slot : Option ℕ) (o : Op) → CallOf past c slot o → AskedBy past o
-served_asked head past g c None o k = absurd k
-served_asked head past g c (Some slot) o k = (k.0.call, began_call head past g c slot k.0 k.1, k.3)
-
-pub flew_asked : (head : Head) (past : List Line) (c : ℕ) (f : Flight) → Grown head past → Flew past c f → AskedBy past f.op
-flew_asked head [] c f g a = absurd a
-flew_asked head (l ∷ past) c f g a = asked_more l past f.op (by l.at.node l.entry g.0 a (flew_asked head past c f g.1))
+-- what is queued was asked by a call that began
+queued_asked : (head : Head) (past : List Line) → Grown head past → (c t : ℕ) (q : Queued) → In q (queue_at c t past) → AskedBy past q.op
+queued_asked head [] g c t q i = absurd i
+queued_asked head (l ∷ past) g c t q i = asked_more l past q.op (by l.at.node l.entry g.0.ok (queued_asked head past g.1 c t q) i)
   where
-    by : (node : Node) (e : Entry) → Allowed head past (turn l.at.stamp node) e → Flew (line (turn l.at.stamp node) e ∷ past) c f → (Flew past c f → AskedBy past f.op) → AskedBy past f.op
+    by : (node : Node) (e : Entry) → EntryOk past (turn l.at.stamp node) node e → (In q (queue_at c t past) → AskedBy past q.op) → In q (queue_at c t (line (turn l.at.stamp node) e ∷ past)) → AskedBy past q.op
+    by (Client d) (Queues v new) ok h =
+        cond_both (nat_eq c d && nat_eq t v) (queue_at c t past ++ new ∷ []) (queue_at c t past) (λ (qs : List Queued). In q qs → AskedBy past q.op)
+        (λ o i. ⊎_elim
+        (λ (j : In q (queue_at c t past)). h j)
+        (λ (j : In q (new ∷ [])). ⊎_elim (λ (w : new ≡ q). (ok.running.call, began_call head past g.1 d ok.slot ok.running ok.call, ok.running.file, ok.becomes ∙ ap (λ (v : Queued). Some v.op) w)) (λ (w : ⊥). absurd w) j)
+        (in_append q (queue_at c t past) (new ∷ []) i))
+        (λ o. h)
+    by (Client d) (Flies v f) ok h =
+        cond_both (nat_eq c d && nat_eq t v) (rest (queue_at c t past)) (queue_at c t past) (λ (qs : List Queued). In q qs → AskedBy past q.op)
+        (λ o i. h (in_rest q (queue_at c t past) i))
+        (λ o. h)
+    -- a new life begins with nothing queued
+    by (Client d) (Life who) ok h = cond_both (nat_eq c d && true) [] (queue_at c t past) (λ (qs : List Queued). In q qs → AskedBy past q.op) (λ o i. absurd i) (λ o. h)
+    by (Target u) Tick ok h = h
+    by node e ok h = h
+
+pub flew_asked : (head : Head) (past : List Line) (who : Who) (f : Flight) → Grown head past → Flew past who f → AskedBy past f.op
+flew_asked head [] who f g a = absurd a
+flew_asked head (l ∷ past) who f g a = asked_more l past f.op (by l.at.node l.entry g.0 a (flew_asked head past who f g.1))
+  where
+    by : (node : Node) (e : Entry) → Allowed head past (turn l.at.stamp node) e → Flew (line (turn l.at.stamp node) e ∷ past) who f → (Flew past who f → AskedBy past f.op) → AskedBy past f.op
     by (Target u) (Flies t q) k a h = absurd k.ok
     by (Client d) (Flies t q) k a h = ⊎_elim
-        (λ (p : (Client d ≡ Client c) × (q ≡ f)).
+        (λ (p : (is_own who past (Client d) ≡ true) × (q ≡ f)).
         let ok = k.of 0 (ap (λ (v : ℕ). nat_eq 0 v) k.ok) in
-        let i : In ok.front (queue_of d (only 0 past)) = subst (λ (v : List Queued). In ok.front v) (sym ok.queue) (inl refl) in
-        let call = (holds head past g.1).asks.queue_calls d 0 ok.front (subst (λ (v : List Queued). In ok.front v) (sym (queue_is d 0 past)) i) in
+        let i : In ok.front (queue_of (life_of d (only 0 past)) (only 0 past)) = subst (λ (v : List Queued). In ok.front v) (sym ok.queue) (inl refl) in
+        let asked = queued_asked head past g.1 d 0 ok.front (subst (λ (v : List Queued). In ok.front v) (sym (queue_now head d 0 past g.1)) i) in
         let same : ok.front.op ≡ f.op = ap (λ (v : Flight). v.op) (sym ok.is) ∙ ap (λ (v : Flight). v.op) p.1 in
-        subst (AskedBy past) same (served_asked head past g.1 d ok.front.slot ok.front.op call))
-        (λ (p : Flew past c f). h p)
+        subst (AskedBy past) same asked)
+        (λ (p : Flew past who f). h p)
         a
     by _ _ k a h = h a
 
@@ -116,29 +136,26 @@ flew_asked head (l ∷ past) c f g a = asked_more l past f.op (by l.at.node l.en
 pub acted_asked : (head : Head) (past : List Line) (d : Deed) → Grown head past → Acted past d → AskedBy past d.op
 acted_asked head past d g a =
     let flew = ((holds head past g).at 0).done.flew d (acted_only head past d g a) in
-    subst (AskedBy past) flew.3 (flew_asked head past d.reply.who.client flew.0 g (flew_whole 0 past d.reply.who.client flew.0 flew.1))
+    subst (AskedBy past) flew.3 (flew_asked head past d.reply.who flew.0 g (flew_whole 0 past d.reply.who flew.0 flew.1))
 
 -- so it is an operation on names
-pub flew_on_names : (head : Head) (past : List Line) (c : ℕ) (f : Flight) → Grown head past → Flew past c f → IsOnNames f.op
-flew_on_names head past c f g a = let k = flew_asked head past c f g a in becomes_on_names k.0 f.op k.2
+pub flew_on_names : (head : Head) (past : List Line) (who : Who) (f : Flight) → Grown head past → Flew past who f → IsOnNames f.op
+flew_on_names head past who f g a = let k = flew_asked head past who f g a in becomes_on_names k.2 k.0 f.op k.3
 
 pub acted_on_names : (head : Head) (past : List Line) (d : Deed) → Grown head past → Acted past d → IsOnNames d.op
-acted_on_names head past d g a = let k = acted_asked head past d g a in becomes_on_names k.0 d.op k.2
+acted_on_names head past d g a = let k = acted_asked head past d g a in becomes_on_names k.2 k.0 d.op k.3
 
 -- ---- a lookup of the root is known, and so it is never asked
 
-root_known : (n : Notes) (k : Call) → operation_of k ≡ Some (op.Lookup []) → known_answer n k ≡ None → ⊥
-root_known n (call.Lookup path) e none =
+root_known : (n : Notes) (file : Option HandleFile) (k : Call) → operation_of file k ≡ Some (op.Lookup []) → known_answer n k ≡ None → ⊥
+root_known n file (call.Lookup path) e none =
     let nil : path ≡ [] = cc in
     let root : known_answer n (call.Lookup []) ≡ None = subst (λ (p : List (List ℕ)). known_answer n (call.Lookup p) ≡ None) nil none in
     absurd (cc)
-root_known n (call.Create path None) e none = absurd (cc)
-root_known n (call.Create path (Some stripes)) e none = absurd (cc)
-root_known n k e none = absurd (cc)
-
-in_rest : (q : Queued) (queue : List Queued) → In q (rest queue) → In q queue
-in_rest q [] i = absurd i
-in_rest q (p ∷ queue) i = inr i
+root_known n file (call.Create path None) e none = absurd (cc)
+root_known n file (call.Create path (Some stripes)) e none = absurd (cc)
+root_known n (Some f) (call.Close h) e none = absurd (cc)
+root_known n file k e none = absurd (cc)
 
 queued_other : (head : Head) (past : List Line) → Grown head past → (c t : ℕ) (q : Queued) → In q (queue_at c t past) → q.op ≡ op.Lookup [] → ⊥
 queued_other head [] g c t q i = absurd i
@@ -149,33 +166,35 @@ queued_other head (l ∷ past) g c t q i = by l.at.node l.entry g.0.ok (queued_o
         cond_both (nat_eq c d && nat_eq t v) (queue_at c t past ++ new ∷ []) (queue_at c t past) (λ (qs : List Queued). In q qs → q.op ≡ op.Lookup [] → ⊥)
         (λ o i is. ⊎_elim
         (λ (j : In q (queue_at c t past)). h j is)
-        (λ (j : In q (new ∷ [])). ⊎_elim (λ (w : new ≡ q). root_known (notes_at d past) ok.running.call (ok.becomes ∙ ap (λ (v : Queued). Some v.op) w ∙ ap (λ (v : Op). Some v) is) ok.unknown) (λ (w : ⊥). w) j)
+        (λ (j : In q (new ∷ [])). ⊎_elim (λ (w : new ≡ q). root_known (notes_at d past) ok.running.file ok.running.call (ok.becomes ∙ ap (λ (v : Queued). Some v.op) w ∙ ap (λ (v : Op). Some v) is) ok.unknown) (λ (w : ⊥). w) j)
         (in_append q (queue_at c t past) (new ∷ []) i))
         (λ o. h)
     by (Client d) (Flies v f) ok h =
         cond_both (nat_eq c d && nat_eq t v) (rest (queue_at c t past)) (queue_at c t past) (λ (qs : List Queued). In q qs → q.op ≡ op.Lookup [] → ⊥)
         (λ o i. h (in_rest q (queue_at c t past) i))
         (λ o. h)
+    -- a new life begins with nothing queued
+    by (Client d) (Life who) ok h = cond_both (nat_eq c d && true) [] (queue_at c t past) (λ (qs : List Queued). In q qs → q.op ≡ op.Lookup [] → ⊥) (λ o i. absurd i) (λ o. h)
     by (Target u) Tick ok h = h
     by node e ok h = h
 
-pub flew_other : (head : Head) (past : List Line) (c : ℕ) (f : Flight) → Grown head past → Flew past c f → f.op ≡ op.Lookup [] → ⊥
-flew_other head [] c f g a = absurd a
-flew_other head (l ∷ past) c f g a = by l.at.node l.entry g.0 a (flew_other head past c f g.1)
+pub flew_other : (head : Head) (past : List Line) (who : Who) (f : Flight) → Grown head past → Flew past who f → f.op ≡ op.Lookup [] → ⊥
+flew_other head [] who f g a = absurd a
+flew_other head (l ∷ past) who f g a = by l.at.node l.entry g.0 a (flew_other head past who f g.1)
   where
-    by : (node : Node) (e : Entry) → Allowed head past (turn l.at.stamp node) e → Flew (line (turn l.at.stamp node) e ∷ past) c f → (Flew past c f → f.op ≡ op.Lookup [] → ⊥) → f.op ≡ op.Lookup [] → ⊥
+    by : (node : Node) (e : Entry) → Allowed head past (turn l.at.stamp node) e → Flew (line (turn l.at.stamp node) e ∷ past) who f → (Flew past who f → f.op ≡ op.Lookup [] → ⊥) → f.op ≡ op.Lookup [] → ⊥
     by (Target u) (Flies t q) k a h = absurd k.ok
     by (Client d) (Flies t q) k a h = ⊎_elim
-        (λ (p : (Client d ≡ Client c) × (q ≡ f)) is.
+        (λ (p : (is_own who past (Client d) ≡ true) × (q ≡ f)) is.
         let ok = k.of 0 (ap (λ (v : ℕ). nat_eq 0 v) k.ok) in
-        let i : In ok.front (queue_of d (only 0 past)) = subst (λ (v : List Queued). In ok.front v) (sym ok.queue) (inl refl) in
+        let i : In ok.front (queue_of (life_of d (only 0 past)) (only 0 past)) = subst (λ (v : List Queued). In ok.front v) (sym ok.queue) (inl refl) in
         let same : ok.front.op ≡ f.op = ap (λ (v : Flight). v.op) (sym ok.is) ∙ ap (λ (v : Flight). v.op) p.1 in
-        queued_other head past g.1 d 0 ok.front (subst (λ (v : List Queued). In ok.front v) (sym (queue_is d 0 past)) i) (same ∙ is))
-        (λ (p : Flew past c f). h p)
+        queued_other head past g.1 d 0 ok.front (subst (λ (v : List Queued). In ok.front v) (sym (queue_now head d 0 past g.1)) i) (same ∙ is))
+        (λ (p : Flew past who f). h p)
         a
     by _ _ k a h = h a
 
 pub acted_other : (head : Head) (past : List Line) (d : Deed) → Grown head past → Acted past d → d.op ≡ op.Lookup [] → ⊥
 acted_other head past d g a is =
     let flew = ((holds head past g).at 0).done.flew d (acted_only head past d g a) in
-    flew_other head past d.reply.who.client flew.0 g (flew_whole 0 past d.reply.who.client flew.0 flew.1) (flew.3 ∙ is)
+    flew_other head past d.reply.who flew.0 g (flew_whole 0 past d.reply.who flew.0 flew.1) (flew.3 ∙ is)

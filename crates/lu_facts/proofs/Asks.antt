@@ -1,28 +1,60 @@
 -- What a client's calls have asked, at all targets: what is queued and in flight is for calls that wait for it, one
--- for each, each at one target.
-use Rattle.std.proofs.Common.{◌≡◌, ℕ, true, false, List, [], ◌∷◌, ◌++◌, Option, Some, None, ◌⊎◌, inl, inr, ⊎_elim, refl, sym, subst, ap, ◌∙◌, arith}
+-- for each, each at one target. In the turn that ends a life its calls are told first, and then what they asked is forgotten.
+use Rattle.std.proofs.Common.{◌≡◌, ℕ, Bool, true, false, List, [], ◌∷◌, ◌++◌, Option, Some, None, ◌⊎◌, inl, inr, ⊎_elim, refl, sym, subst, ap, ◌∙◌, arith}
 use Rattle.std.specs.Prelude.{nat_eq, not, ◌&&◌}
-use Rattle.std.proofs.lemmas.Bool.{and_parts, cond_both, cond-true, eqb-true, not-true}
+use Rattle.std.proofs.lemmas.Bool.{and_parts, cond_both, cond-true, cond-false, eqb-true, not-true}
 use Rattle.std.proofs.lemmas.Bool.Decides.{nat_tests}
 use Rattle.lu_base.specs.declared.ids.At.{At}
 use Rattle.lu_base.specs.declared.ids.Node.{Node}
 use Rattle.lu_base.specs.declared.ids.Node.TheVariants.{Client, Target}
 use Rattle.lu_base.specs.declared.ids.Stamp.{Stamp}
+use Rattle.lu_base.specs.declared.ids.Who.{Who}
 use Rattle.lu_msg.specs.declared.answers.Answer.{Answer}
 use Rattle.lu_msg.specs.declared.messages.Reply.{Reply as ReplyTo}
 use Rattle.lu_msg.specs.declared.operations.Op.{Op}
-use Rattle.lu_words.specs.Carried.{Unasked, Asked, Answered, Queued, Flight, Work, Running}
-use Rattle.lu_words.specs.Words.{Entry, Tick, Begin, Stands, Queues, Flies, Heard, Told, Line, line}
+use Rattle.lu_words.specs.Carried.{Unasked, Asked, Answered, Queued, Flight, Work, Bad, Running}
+use Rattle.lu_words.specs.Words.{Entry, Tick, Begin, Stands, Queues, Flies, Heard, Told, Life, Line, line}
 use Rattle.lu_words.specs.Concerns.{only}
-use Rattle.lu_covered.specs.Calls.{asks, asks_for, call_after, call_at}
+use Rattle.lu_covered.specs.Calls.{asks, asks_for, call_after, call_at, life_at}
 use Rattle.lu_covered.specs.Imports.{rest, queue_at, without_flight, flights_at}
 use Rattle.lu_covered.specs.Heads.{Head}
-use Rattle.lu_guards.proofs.Guards.{In, QueuesOk, FliesOk, EntryOk}
+use Rattle.lu_guards.proofs.Guards.{In, Noticed, Ending, Closes, QueuesOk, FliesOk, EntryOk, Grown}
 use Rattle.lu_guards.proofs.Lists.{self, in_append, in_filter}
-use Rattle.lu_guards.proofs.Parts.{queue_is, flights_is}
+use Rattle.lu_guards.proofs.Parts.{queue_now, flights_now}
 use Rattle.lu_facts.proofs.Groups.{turn, CallOf, Apart, Asks}
 use Rattle.lu_facts.proofs.Lines.{AtEach}
-use Rattle.lu_facts.proofs.Calls.{call_stays, asks_other}
+use Rattle.lu_facts.proofs.Calls.{call_stays, asks_other, bad_unasked}
+use Rattle.lu_facts.proofs.Endings.{noticed_more, ending_more}
+use Rattle.lu_guards.proofs.ClientLines.{in_rest}
+
+-- ---- where a turn ends a life
+
+-- it does so still after the line
+abbrev Before : (past new : List Line) → Type 0
+Before past new = (c : ℕ) → (Ending new c → ⊥) → Ending past c → ⊥
+
+-- ---- a line that leaves calls, queues and flights
+
+asks_same : (past new : List Line) → Before past new → ((c slot : ℕ) → call_at c slot new ≡ call_at c slot past) → ((c t : ℕ) → queue_at c t new ≡ queue_at c t past) → ((c t : ℕ) → flights_at c t new ≡ flights_at c t past) → Asks past → Asks new
+asks_same past new b calls queues flights h =
+    record {
+      fly_calls = λ c t f o i. call c f.slot f.op (h.fly_calls c t f (b c o) (old_flight c t f i));
+      queue_calls = λ c t q o i. call c q.slot q.op (h.queue_calls c t q (b c o) (old_queued c t q i));
+      fly_one = λ c t u f g o i j. h.fly_one c t u f g (b c o) (old_flight c t f i) (old_flight c u g j);
+      queue_one = λ c t u q g o i j. h.queue_one c t u q g (b c o) (old_queued c t q i) (old_queued c u g j);
+      queue_apart = λ c t o. subst Apart (sym (queues c t)) (h.queue_apart c t (b c o));
+      apart = λ c t u q f o i j. h.apart c t u q f (b c o) (old_queued c t q i) (old_flight c u f j);
+    }
+  where
+    old_flight : (c t : ℕ) (f : Flight) → In f (flights_at c t new) → In f (flights_at c t past)
+    old_flight c t f i = subst (λ (fs : List Flight). In f fs) (flights c t) i
+
+    old_queued : (c t : ℕ) (q : Queued) → In q (queue_at c t new) → In q (queue_at c t past)
+    old_queued c t q i = subst (λ (qs : List Queued). In q qs) (queues c t) i
+
+    call : (c : ℕ) (s : Option ℕ) (o : Op) → CallOf past c s o → CallOf new c s o
+    call c None o k = absurd k
+    call c (Some slot) o k = (k.0, calls c slot ∙ k.1, k.2, k.3)
 
 -- ---- what no call that waits is on
 
@@ -46,15 +78,15 @@ begin_call past stamp d s running n c served o =
     call_of_stays past stamp d (Begin s running) c served o
     (λ slot r is k a e. cond_both (nat_eq s slot) (Some running) (call_at c slot past) (λ v. v ≡ call_at c slot past) (λ t. absurd (clear past d s c slot r n k a e (eqb-true s slot t))) (λ t. refl))
 
-asks_begin : (past : List Line) (stamp : Stamp) (d s : ℕ) (running : Running) → NotAsked past d s → Asks past → Asks (line (turn stamp (Client d)) (Begin s running) ∷ past)
-asks_begin past stamp d s running n h =
+asks_begin : (past : List Line) (stamp : Stamp) (d s : ℕ) (running : Running) → let new = line (turn stamp (Client d)) (Begin s running) ∷ past in Before past new → NotAsked past d s → Asks past → Asks new
+asks_begin past stamp d s running b n h =
     record {
-      fly_calls = λ c t f i. begin_call past stamp d s running n c f.slot f.op (h.fly_calls c t f i);
-      queue_calls = λ c t q i. begin_call past stamp d s running n c q.slot q.op (h.queue_calls c t q i);
-      fly_one = h.fly_one;
-      queue_one = h.queue_one;
-      queue_apart = h.queue_apart;
-      apart = h.apart;
+      fly_calls = λ c t f o i. begin_call past stamp d s running n c f.slot f.op (h.fly_calls c t f (b c o) i);
+      queue_calls = λ c t q o i. begin_call past stamp d s running n c q.slot q.op (h.queue_calls c t q (b c o) i);
+      fly_one = λ c t u f g o. h.fly_one c t u f g (b c o);
+      queue_one = λ c t u q g o. h.queue_one c t u q g (b c o);
+      queue_apart = λ c t o. h.queue_apart c t (b c o);
+      apart = λ c t u q f o. h.apart c t u q f (b c o);
     }
 
 -- ---- a call is told
@@ -64,16 +96,38 @@ told_call past stamp d s named answer work n c served o =
     call_of_stays past stamp d (Told s named answer work) c served o
     (λ slot r is k a e. cond_both (nat_eq s slot) None (call_at c slot past) (λ v. v ≡ call_at c slot past) (λ t. absurd (clear past d s c slot r n k a e (eqb-true s slot t))) (λ t. refl))
 
-asks_told : (past : List Line) (stamp : Stamp) (d s : ℕ) (named : At) (answer : Answer) (work : Option Work) → NotAsked past d s → Asks past → Asks (line (turn stamp (Client d)) (Told s named answer work) ∷ past)
-asks_told past stamp d s named answer work n h =
+asks_told : (past : List Line) (stamp : Stamp) (d s : ℕ) (named : At) (answer : Answer) (work : Option Work) → let new = line (turn stamp (Client d)) (Told s named answer work) ∷ past in Before past new → NotAsked past d s → Asks past → Asks new
+asks_told past stamp d s named answer work b n h =
     record {
-      fly_calls = λ c t f i. told_call past stamp d s named answer work n c f.slot f.op (h.fly_calls c t f i);
-      queue_calls = λ c t q i. told_call past stamp d s named answer work n c q.slot q.op (h.queue_calls c t q i);
-      fly_one = h.fly_one;
-      queue_one = h.queue_one;
-      queue_apart = h.queue_apart;
-      apart = h.apart;
+      fly_calls = λ c t f o i. told_call past stamp d s named answer work n c f.slot f.op (h.fly_calls c t f (b c o) i);
+      queue_calls = λ c t q o i. told_call past stamp d s named answer work n c q.slot q.op (h.queue_calls c t q (b c o) i);
+      fly_one = λ c t u f g o. h.fly_one c t u f g (b c o);
+      queue_one = λ c t u q g o. h.queue_one c t u q g (b c o);
+      queue_apart = λ c t o. h.queue_apart c t (b c o);
+      apart = λ c t u q f o. h.apart c t u q f (b c o);
     }
+
+-- its life ends: what the call asked is forgotten in this turn
+asks_ended : (past : List Line) (stamp : Stamp) (d s : ℕ) (named : At) (answer : Answer) (work : Option Work) → let new = line (turn stamp (Client d)) (Told s named answer work) ∷ past in
+    Before past new → Noticed past (turn stamp (Client d)) (life_at d past) → Asks past → Asks new
+asks_ended past stamp d s named answer work b ends h =
+    record {
+      fly_calls = λ c t f o i. other_call c f.slot f.op o (h.fly_calls c t f (b c o) i);
+      queue_calls = λ c t q o i. other_call c q.slot q.op o (h.queue_calls c t q (b c o) i);
+      fly_one = λ c t u f g o. h.fly_one c t u f g (b c o);
+      queue_one = λ c t u q g o. h.queue_one c t u q g (b c o);
+      queue_apart = λ c t o. h.queue_apart c t (b c o);
+      apart = λ c t u q f o. h.apart c t u q f (b c o);
+    }
+  where
+    told : Line
+    told = line (turn stamp (Client d)) (Told s named answer work)
+
+    ending : (c : ℕ) → c ≡ d → Ending (told ∷ past) c
+    ending c e = (ap Client (sym e), subst (λ v. Noticed (told ∷ past) (turn stamp (Client d)) (life_at v past)) (sym e) (noticed_more told past (turn stamp (Client d)) (life_at d past) ends))
+
+    other_call : (c : ℕ) (served : Option ℕ) (o : Op) → (Ending (told ∷ past) c → ⊥) → CallOf past c served o → CallOf (told ∷ past) c served o
+    other_call c served o out k = call_of_stays past stamp d (Told s named answer work) c served o (λ slot r is w a e. absurd (out (ending c e))) k
 
 -- ---- a target's own line
 
@@ -92,7 +146,7 @@ apart_snoc (p ∷ queue) q a n = (
   apart_snoc queue q a.1 (λ g i. n g (inr i)),
 )
 
-module _ (past : List Line) (stamp : Stamp) (d v : ℕ) (q : Queued) (ok : QueuesOk past d v q) (h : Asks past) where
+module _ (past : List Line) (stamp : Stamp) (d v : ℕ) (q : Queued) (b : Before past (line (turn stamp (Client d)) (Queues v q) ∷ past)) (ok : QueuesOk past d v q) (h : Asks past) where
   abbrev queues : List Line
   queues = line (turn stamp (Client d)) (Queues v q) ∷ past
 
@@ -129,28 +183,28 @@ module _ (past : List Line) (stamp : Stamp) (d v : ℕ) (q : Queued) (ok : Queue
   asks_queues : Asks queues
   asks_queues =
       record {
-        fly_calls = λ c t f i. queue_call c f.slot f.op (h.fly_calls c t f i);
-        queue_calls = λ c t g i. ⊎_elim
+        fly_calls = λ c t f n i. queue_call c f.slot f.op (h.fly_calls c t f (b c n) i);
+        queue_calls = λ c t g n i. ⊎_elim
             (λ (p : (c ≡ d) × (t ≡ v) × (q ≡ g)). subst (λ (w : Queued). CallOf queues c w.slot w.op) p.2 (subst (λ w. CallOf queues w q.slot q.op) (sym p.0) mine))
-            (λ (j : In g (queue_at c t past)). queue_call c g.slot g.op (h.queue_calls c t g j))
+            (λ (j : In g (queue_at c t past)). queue_call c g.slot g.op (h.queue_calls c t g (b c n) j))
             (queue_in c t g i);
-        fly_one = h.fly_one;
-        queue_one = λ c t u g k i j e. ⊎_elim
+        fly_one = λ c t u f g n. h.fly_one c t u f g (b c n);
+        queue_one = λ c t u g k n i j e. ⊎_elim
             (λ (p : (c ≡ d) × (t ≡ v) × (q ≡ g)). ⊎_elim
             (λ (r : (c ≡ d) × (u ≡ v) × (q ≡ k)). p.1 ∙ sym r.1)
-            (λ (y : In k (queue_at c u past)). absurd (fresh c k.slot k.op p.0 (sym e ∙ ap (λ (w : Queued). w.slot) (sym p.2)) (h.queue_calls c u k y)))
+            (λ (y : In k (queue_at c u past)). absurd (fresh c k.slot k.op p.0 (sym e ∙ ap (λ (w : Queued). w.slot) (sym p.2)) (h.queue_calls c u k (b c n) y)))
             (queue_in c u k j))
             (λ (x : In g (queue_at c t past)). ⊎_elim
-            (λ (r : (c ≡ d) × (u ≡ v) × (q ≡ k)). absurd (fresh c g.slot g.op r.0 (e ∙ ap (λ (w : Queued). w.slot) (sym r.2)) (h.queue_calls c t g x)))
-            (λ (y : In k (queue_at c u past)). h.queue_one c t u g k x y e)
+            (λ (r : (c ≡ d) × (u ≡ v) × (q ≡ k)). absurd (fresh c g.slot g.op r.0 (e ∙ ap (λ (w : Queued). w.slot) (sym r.2)) (h.queue_calls c t g (b c n) x)))
+            (λ (y : In k (queue_at c u past)). h.queue_one c t u g k (b c n) x y e)
             (queue_in c u k j))
             (queue_in c t g i);
-        queue_apart = λ c t. cond_both (nat_eq c d && nat_eq t v) (queue_at c t past ++ q ∷ []) (queue_at c t past) Apart
-            (λ o. apart_snoc (queue_at c t past) q (h.queue_apart c t) (λ g i e. fresh c g.slot g.op (own_import c d t v o).0 e (h.queue_calls c t g i)))
-            (λ o. h.queue_apart c t);
-        apart = λ c t u g f i j e. ⊎_elim
-            (λ (p : (c ≡ d) × (t ≡ v) × (q ≡ g)). fresh c f.slot f.op p.0 (sym e ∙ ap (λ (w : Queued). w.slot) (sym p.2)) (h.fly_calls c u f j))
-            (λ (k : In g (queue_at c t past)). h.apart c t u g f k j e)
+        queue_apart = λ c t n. cond_both (nat_eq c d && nat_eq t v) (queue_at c t past ++ q ∷ []) (queue_at c t past) Apart
+            (λ o. apart_snoc (queue_at c t past) q (h.queue_apart c t (b c n)) (λ g i e. fresh c g.slot g.op (own_import c d t v o).0 e (h.queue_calls c t g (b c n) i)))
+            (λ o. h.queue_apart c t (b c n));
+        apart = λ c t u g f n i j e. ⊎_elim
+            (λ (p : (c ≡ d) × (t ≡ v) × (q ≡ g)). fresh c f.slot f.op p.0 (sym e ∙ ap (λ (w : Queued). w.slot) (sym p.2)) (h.fly_calls c u f (b c n) j))
+            (λ (k : In g (queue_at c t past)). h.apart c t u g f (b c n) k j e)
             (queue_in c t g i);
       }
 
@@ -164,18 +218,14 @@ record Front (past : List Line) (d v : ℕ) (f : Flight) : Type 0 where
   slot : f.slot ≡ front.slot
   op : f.op ≡ front.op
 
-front_at : (head : Head) (past : List Line) (d v : ℕ) (f : Flight) → FliesOk head (only v past) d f → Front past d v f
-front_at head past d v f ok = record { front = ok.front; more = ok.more; queue = queue_is d v past ∙ ok.queue; slot = ap (λ (g : Flight). g.slot) ok.is; op = ap (λ (g : Flight). g.op) ok.is }
-
-in_rest : (q : Queued) (queue : List Queued) → In q (rest queue) → In q queue
-in_rest q [] i = absurd i
-in_rest q (p ∷ queue) i = inr i
+front_at : (head : Head) (past : List Line) (d v : ℕ) (f : Flight) → Grown head past → FliesOk head (only v past) d f → Front past d v f
+front_at head past d v f g ok = record { front = ok.front; more = ok.more; queue = queue_now head d v past g ∙ ok.queue; slot = ap (λ (g : Flight). g.slot) ok.is; op = ap (λ (g : Flight). g.op) ok.is }
 
 apart_rest : (queue : List Queued) → Apart queue → Apart (rest queue)
 apart_rest [] a = tt
 apart_rest (q ∷ queue) a = a.1
 
-module _ (past : List Line) (stamp : Stamp) (d v : ℕ) (f : Flight) (ok : Front past d v f) (h : Asks past) where
+module _ (past : List Line) (stamp : Stamp) (d v : ℕ) (f : Flight) (b : Before past (line (turn stamp (Client d)) (Flies v f) ∷ past)) (ok : Front past d v f) (h : Asks past) where
   abbrev flies : List Line
   flies = line (turn stamp (Client d)) (Flies v f) ∷ past
 
@@ -191,68 +241,74 @@ module _ (past : List Line) (stamp : Stamp) (d v : ℕ) (f : Flight) (ok : Front
   front_in : In ok.front (queue_at d v past)
   front_in = subst (λ qs. In ok.front qs) (sym ok.queue) (inl refl)
 
+  here : (c : ℕ) → c ≡ d → (Ending flies c → ⊥) → Ending past d → ⊥
+  here c e n = b d (subst (λ w. Ending flies w → ⊥) e n)
+
   -- the front's slot is no other's
-  front_apart : (c t : ℕ) (q : Queued) → In q (queue_at c t flies) → c ≡ d → q.slot ≡ f.slot → ⊥
-  front_apart c t q i e s =
+  front_apart : (c t : ℕ) (q : Queued) → (Ending flies c → ⊥) → In q (queue_at c t flies) → c ≡ d → q.slot ≡ f.slot → ⊥
+  front_apart c t q n i e s =
       cond_both (nat_eq c d && nat_eq t v) (rest (queue_at c t past)) (queue_at c t past) (λ (qs : List Queued). In q qs → ⊥)
-      (λ o j. later (queue_at d v past) (h.queue_apart d v) ok.queue (subst (λ w. In q (rest (queue_at d w past))) (own_import c d t v o).1 (subst (λ w. In q (rest (queue_at w t past))) e j)))
-      (λ o j. other_import c d t v o e (h.queue_one d t v q ok.front (subst (λ w. In q (queue_at w t past)) e j) front_in (s ∙ ok.slot)))
+      (λ o j. later (queue_at d v past) (h.queue_apart d v (here c e n)) ok.queue (subst (λ w. In q (rest (queue_at d w past))) (own_import c d t v o).1 (subst (λ w. In q (rest (queue_at w t past))) e j)))
+      (λ o j. other_import c d t v o e (h.queue_one d t v q ok.front (here c e n) (subst (λ w. In q (queue_at w t past)) e j) front_in (s ∙ ok.slot)))
       i
     where
       later : (qs : List Queued) → Apart qs → qs ≡ ok.front ∷ ok.more → In q (rest qs) → ⊥
       later qs a z j = let w = subst Apart z a in w.0 q (subst (λ k. In q (rest k)) z j) (s ∙ ok.slot)
 
-  clash : (c t : ℕ) (k : Flight) → In k (flights_at c t past) → c ≡ d → k.slot ≡ f.slot → ⊥
-  clash c t k i e s = h.apart d v t ok.front k front_in (subst (λ w. In k (flights_at w t past)) e i) (sym (s ∙ ok.slot))
+  clash : (c t : ℕ) (k : Flight) → (Ending flies c → ⊥) → In k (flights_at c t past) → c ≡ d → k.slot ≡ f.slot → ⊥
+  clash c t k n i e s = h.apart d v t ok.front k (here c e n) front_in (subst (λ w. In k (flights_at w t past)) e i) (sym (s ∙ ok.slot))
 
-  mine_flies : CallOf flies d f.slot f.op
-  mine_flies = subst (λ (s : Option ℕ). CallOf flies d s f.op) (sym ok.slot) (subst (λ (o : Op). CallOf flies d ok.front.slot o) (sym ok.op) (h.queue_calls d v ok.front front_in))
+  mine_flies : (Ending flies d → ⊥) → CallOf flies d f.slot f.op
+  mine_flies n = subst (λ (s : Option ℕ). CallOf flies d s f.op) (sym ok.slot) (subst (λ (o : Op). CallOf flies d ok.front.slot o) (sym ok.op) (h.queue_calls d v ok.front (b d n) front_in))
 
   asks_flies : Asks flies
   asks_flies =
       record {
-        fly_calls = λ c t g i. ⊎_elim
-            (λ (p : (c ≡ d) × (t ≡ v) × (f ≡ g)). subst (λ (w : Flight). CallOf flies c w.slot w.op) p.2 (subst (λ w. CallOf flies w f.slot f.op) (sym p.0) mine_flies))
-            (λ (j : In g (flights_at c t past)). h.fly_calls c t g j)
+        fly_calls = λ c t g n i. ⊎_elim
+            (λ (p : (c ≡ d) × (t ≡ v) × (f ≡ g)). subst (λ (w : Flight). CallOf flies c w.slot w.op) p.2 (subst (λ w. (Ending flies w → ⊥) → CallOf flies w f.slot f.op) (sym p.0) mine_flies n))
+            (λ (j : In g (flights_at c t past)). h.fly_calls c t g (b c n) j)
             (fly_in c t g i);
-        queue_calls = λ c t q i. h.queue_calls c t q (rest_in c t q i);
-        fly_one = λ c t u g k i j e. ⊎_elim
+        queue_calls = λ c t q n i. h.queue_calls c t q (b c n) (rest_in c t q i);
+        fly_one = λ c t u g k n i j e. ⊎_elim
             (λ (p : (c ≡ d) × (t ≡ v) × (f ≡ g)). ⊎_elim
             (λ (q : (c ≡ d) × (u ≡ v) × (f ≡ k)). (p.1 ∙ sym q.1, ap (λ (w : Flight). w.xid) (sym p.2 ∙ q.2)))
-            (λ (q : In k (flights_at c u past)). absurd (clash c u k q p.0 (sym e ∙ ap (λ (w : Flight). w.slot) (sym p.2))))
+            (λ (q : In k (flights_at c u past)). absurd (clash c u k n q p.0 (sym e ∙ ap (λ (w : Flight). w.slot) (sym p.2))))
             (fly_in c u k j))
             (λ (p : In g (flights_at c t past)). ⊎_elim
-            (λ (q : (c ≡ d) × (u ≡ v) × (f ≡ k)). absurd (clash c t g p q.0 (e ∙ ap (λ (w : Flight). w.slot) (sym q.2))))
-            (λ (q : In k (flights_at c u past)). h.fly_one c t u g k p q e)
+            (λ (q : (c ≡ d) × (u ≡ v) × (f ≡ k)). absurd (clash c t g n p q.0 (e ∙ ap (λ (w : Flight). w.slot) (sym q.2))))
+            (λ (q : In k (flights_at c u past)). h.fly_one c t u g k (b c n) p q e)
             (fly_in c u k j))
             (fly_in c t g i);
-        queue_one = λ c t u q g i j e. h.queue_one c t u q g (rest_in c t q i) (rest_in c u g j) e;
-        queue_apart = λ c t. cond_both (nat_eq c d && nat_eq t v) (rest (queue_at c t past)) (queue_at c t past) Apart (λ o. apart_rest (queue_at c t past) (h.queue_apart c t)) (λ o. h.queue_apart c t);
-        apart = λ c t u q g i j e. ⊎_elim
-            (λ (p : (c ≡ d) × (u ≡ v) × (f ≡ g)). front_apart c t q i p.0 (e ∙ ap (λ (w : Flight). w.slot) (sym p.2)))
-            (λ (k : In g (flights_at c u past)). h.apart c t u q g (rest_in c t q i) k e)
+        queue_one = λ c t u q g n i j e. h.queue_one c t u q g (b c n) (rest_in c t q i) (rest_in c u g j) e;
+        queue_apart = λ c t n. cond_both (nat_eq c d && nat_eq t v) (rest (queue_at c t past)) (queue_at c t past) Apart (λ o. apart_rest (queue_at c t past) (h.queue_apart c t (b c n))) (λ o. h.queue_apart c t (b c n));
+        apart = λ c t u q g n i j e. ⊎_elim
+            (λ (p : (c ≡ d) × (u ≡ v) × (f ≡ g)). front_apart c t q n i p.0 (e ∙ ap (λ (w : Flight). w.slot) (sym p.2)))
+            (λ (k : In g (flights_at c u past)). h.apart c t u q g (b c n) (rest_in c t q i) k e)
             (fly_in c u g j);
       }
 
 -- ---- one less in flight
 
-module _ (past : List Line) (stamp : Stamp) (d v : ℕ) (f : Flight) (r : ReplyTo) (flying : In f (flights_at d v past)) (h : Asks past) where
+module _ (past : List Line) (stamp : Stamp) (d v : ℕ) (f : Flight) (r : ReplyTo) (b : Before past (line (turn stamp (Client d)) (Heard v f r) ∷ past)) (flying : In f (flights_at d v past)) (h : Asks past) where
   abbrev heard : List Line
   heard = line (turn stamp (Client d)) (Heard v f r) ∷ past
 
   less : (c t : ℕ) (g : Flight) → In g (flights_at c t heard) → In g (flights_at c t past)
   less c t g = cond_both (nat_eq c d && nat_eq t v) (without_flight f.xid (flights_at c t past)) (flights_at c t past) (λ (fs : List Flight). In g fs → In g (flights_at c t past)) (λ o i. (in_filter (λ (w : Flight). not (nat_eq w.xid f.xid)) g (flights_at c t past) i).0) (λ o i. i)
 
+  there : (c : ℕ) → c ≡ d → (Ending heard c → ⊥) → Ending past d → ⊥
+  there c e n = b d (subst (λ w. Ending heard w → ⊥) e n)
+
   -- no other is for the call that was answered
-  gone : (c t : ℕ) (g : Flight) → In g (flights_at c t heard) → c ≡ d → g.slot ≡ f.slot → ⊥
-  gone c t g i e s =
+  gone : (c t : ℕ) (g : Flight) → (Ending heard c → ⊥) → In g (flights_at c t heard) → c ≡ d → g.slot ≡ f.slot → ⊥
+  gone c t g n i e s =
       cond_both (nat_eq c d && nat_eq t v) (without_flight f.xid (flights_at c t past)) (flights_at c t past) (λ (fs : List Flight). In g fs → ⊥)
       (λ o j. let k = in_filter (λ (w : Flight). not (nat_eq w.xid f.xid)) g (flights_at c t past) j in let x = (one k.0).1 in let y = not-true (nat_eq g.xid f.xid) k.1 in grind (arith, nat_tests))
       (λ o j. other_import c d t v o e (one j).0)
       i
     where
       one : In g (flights_at c t past) → (t ≡ v) × (g.xid ≡ f.xid)
-      one j = h.fly_one d t v g f (subst (λ w. In g (flights_at w t past)) e j) flying s
+      one j = h.fly_one d t v g f (there c e n) (subst (λ w. In g (flights_at w t past)) e j) flying s
 
   heard_call : (c : ℕ) (s : Option ℕ) (o : Op) → (c ≡ d → s ≡ f.slot → ⊥) → CallOf past c s o → CallOf heard c s o
   heard_call c s o n = call_of_stays past stamp d (Heard v f r) c s o (λ slot q is k a e. asks_other f.slot slot (Answered v r) (call_at c slot past) (λ w. n e (is ∙ sym w)))
@@ -260,26 +316,68 @@ module _ (past : List Line) (stamp : Stamp) (d v : ℕ) (f : Flight) (r : ReplyT
   asks_heard : Asks heard
   asks_heard =
       record {
-        fly_calls = λ c t g i. heard_call c g.slot g.op (λ e s. gone c t g i e s) (h.fly_calls c t g (less c t g i));
-        queue_calls = λ c t q i. heard_call c q.slot q.op (λ e s. h.apart d t v q f (subst (λ w. In q (queue_at w t past)) e i) flying s) (h.queue_calls c t q i);
-        fly_one = λ c t u g k i j. h.fly_one c t u g k (less c t g i) (less c u k j);
-        queue_one = h.queue_one;
-        queue_apart = h.queue_apart;
-        apart = λ c t u q g i j. h.apart c t u q g i (less c u g j);
+        fly_calls = λ c t g n i. heard_call c g.slot g.op (λ e s. gone c t g n i e s) (h.fly_calls c t g (b c n) (less c t g i));
+        queue_calls = λ c t q n i. heard_call c q.slot q.op (λ e s. h.apart d t v q f (there c e n) (subst (λ w. In q (queue_at w t past)) e i) flying s) (h.queue_calls c t q (b c n) i);
+        fly_one = λ c t u g k n i j. h.fly_one c t u g k (b c n) (less c t g i) (less c u k j);
+        queue_one = λ c t u q g n. h.queue_one c t u q g (b c n);
+        queue_apart = λ c t n. h.queue_apart c t (b c n);
+        apart = λ c t u q g n i j. h.apart c t u q g (b c n) i (less c u g j);
+      }
+
+-- ---- a new life has asked nothing
+
+module _ (past : List Line) (stamp : Stamp) (d : ℕ) (new : Who) (closes : Closes past (turn stamp (Client d))) (h : Asks past) where
+  abbrev lives : List Line
+  lives = line (turn stamp (Client d)) (Life new) ∷ past
+
+  -- another client's is as it was
+  other : (c : ℕ) → nat_eq c d && true ≡ false → (Ending lives c → ⊥) → Ending past c → ⊥
+  other c o n k =
+      let q : nat_eq c d ≡ false = by (nat_eq c d) o in
+      n (ending_more past stamp (Client d) (Life new) c closes (sym (cond-false (nat_eq c d) new (life_at c past) q)) k)
+    where
+      by : (t : Bool) → t && true ≡ false → t ≡ false
+      by true e = e
+      by false e = refl
+
+  fly_old : (c t : ℕ) (f : Flight) → (Ending lives c → ⊥) → In f (flights_at c t lives) → In f (flights_at c t past) × (Ending past c → ⊥)
+  fly_old c t f n = cond_both (nat_eq c d && true) [] (flights_at c t past) (λ (fs : List Flight). In f fs → In f (flights_at c t past) × (Ending past c → ⊥)) (λ o i. absurd i) (λ o i. (i, other c o n))
+
+  queue_old : (c t : ℕ) (q : Queued) → (Ending lives c → ⊥) → In q (queue_at c t lives) → In q (queue_at c t past) × (Ending past c → ⊥)
+  queue_old c t q n = cond_both (nat_eq c d && true) [] (queue_at c t past) (λ (qs : List Queued). In q qs → In q (queue_at c t past) × (Ending past c → ⊥)) (λ o i. absurd i) (λ o i. (i, other c o n))
+
+  asks_life : Asks lives
+  asks_life =
+      record {
+        fly_calls = λ c t f n i. let k = fly_old c t f n i in h.fly_calls c t f k.1 k.0;
+        queue_calls = λ c t q n i. let k = queue_old c t q n i in h.queue_calls c t q k.1 k.0;
+        fly_one = λ c t u f g n i j. let k = fly_old c t f n i in h.fly_one c t u f g k.1 k.0 (fly_old c u g n j).0;
+        queue_one = λ c t u q g n i j. let k = queue_old c t q n i in h.queue_one c t u q g k.1 k.0 (queue_old c u g n j).0;
+        queue_apart = λ c t n. cond_both (nat_eq c d && true) [] (queue_at c t past) Apart (λ o. tt) (λ o. h.queue_apart c t (other c o n));
+        apart = λ c t u q f n i j. let k = queue_old c t q n i in h.apart c t u q f k.1 k.0 (fly_old c u f n j).0;
       }
 
 -- ---- each line
 
-pub keeps_asks : (head : Head) (past : List Line) (stamp : Stamp) (node : Node) (e : Entry) → EntryOk past (turn stamp node) node e → AtEach head past (turn stamp node) node e
+bad_of : (past : List Line) (c slot : ℕ) (r q : Running) → call_at c slot past ≡ Some r → call_at c slot past ≡ Some q → q.stage ≡ Bad → r.stage ≡ Bad
+bad_of past c slot r q k w bad = let e : Some q ≡ Some r = sym w ∙ k in let same : q ≡ r = cc in subst (λ (v : Running). v.stage ≡ Bad) same bad
+
+still : (past : List Line) (stamp : Stamp) (node : Node) (e : Entry) → Closes past (turn stamp node) → ((c : ℕ) → life_at c past ≡ life_at c (line (turn stamp node) e ∷ past)) → Before past (line (turn stamp node) e ∷ past)
+still past stamp node e closes same c n k = n (ending_more past stamp node e c closes (same c) k)
+
+pub keeps_asks : (head : Head) (past : List Line) (stamp : Stamp) (node : Node) (e : Entry) → Grown head past → Closes past (turn stamp node) → EntryOk past (turn stamp node) node e → AtEach head past (turn stamp node) node e
     → Asks past → Asks (line (turn stamp node) e ∷ past)
-keeps_asks head past stamp (Client c) (Begin s running) ok of h = asks_begin past stamp c s running (λ r k a. let f = ok.free in absurd (cc)) h
-keeps_asks head past stamp (Client c) (Told s named answer work) (inl ok) of h = asks_told past stamp c s named answer work (λ r k a. let f = ok.answered in let g = ok.call in absurd (cc)) h
-keeps_asks head past stamp (Client c) (Told s named answer work) (inr ok) of h = asks_told past stamp c s named answer work (λ r k a. let f = ok.new in let g = ok.call in absurd (cc)) h
-keeps_asks head past stamp (Client c) (Queues u q) ok of h = asks_queues past stamp c u q ok h
-keeps_asks head past stamp (Client c) (Flies u f) ok of h = asks_flies past stamp c u f (front_at head past c u f (of u (self u))) h
-keeps_asks head past stamp (Client c) (Heard u f r) ok of h =
+keeps_asks head past stamp (Client c) (Begin s running) g x ok of h = asks_begin past stamp c s running (still past stamp (Client c) (Begin s running) x (λ d. refl)) (λ r k a. let f = ok.free in absurd (cc)) h
+keeps_asks head past stamp (Client c) (Told s named answer work) g x (inl ok) of h = asks_told past stamp c s named answer work (still past stamp (Client c) (Told s named answer work) x (λ d. refl)) (λ r k a. let f = ok.answered in let w = ok.call in absurd (cc)) h
+keeps_asks head past stamp (Client c) (Told s named answer work) g x (inr (inl ok)) of h = asks_told past stamp c s named answer work (still past stamp (Client c) (Told s named answer work) x (λ d. refl)) (λ r k a. let f = ok.new in let w = ok.call in absurd (cc)) h
+keeps_asks head past stamp (Client c) (Told s named answer work) g x (inr (inr (inr ok))) of h = asks_told past stamp c s named answer work (still past stamp (Client c) (Told s named answer work) x (λ d. refl)) (λ r k a. let u = bad_unasked head past g c s r k (bad_of past c s r ok.running k ok.call ok.bad) in absurd (cc)) h
+keeps_asks head past stamp (Client c) (Told s named answer work) g x (inr (inr (inl ok))) of h = asks_ended past stamp c s named answer work (still past stamp (Client c) (Told s named answer work) x (λ d. refl)) ok.notice h
+keeps_asks head past stamp (Client c) (Queues u q) g x ok of h = asks_queues past stamp c u q (still past stamp (Client c) (Queues u q) x (λ d. refl)) ok h
+keeps_asks head past stamp (Client c) (Flies u f) g x ok of h = asks_flies past stamp c u f (still past stamp (Client c) (Flies u f) x (λ d. refl)) (front_at head past c u f g (of u (self u))) h
+keeps_asks head past stamp (Client c) (Heard u f r) g x ok of h =
     let k = of u (self u) in
-    asks_heard past stamp c u f r (subst (λ (fs : List Flight). In f fs) (sym (flights_is c u past)) k.flying) h
-keeps_asks head past stamp (Client c) (Stands s running) ok of h = absurd ok
-keeps_asks head past stamp (Target t) Tick ok of h = h
-keeps_asks head past stamp node e ok of h = h
+    asks_heard past stamp c u f r (still past stamp (Client c) (Heard u f r) x (λ d. refl)) (subst (λ (fs : List Flight). In f fs) (sym (flights_now head c u past g)) k.flying) h
+keeps_asks head past stamp (Client c) (Life who) g x ok of h = asks_life past stamp c who x h
+keeps_asks head past stamp (Client c) (Stands s running) g x ok of h = absurd ok
+keeps_asks head past stamp (Target t) Tick g x ok of h = asks_same past (line (turn stamp (Target t)) Tick ∷ past) (still past stamp (Target t) Tick x (λ d. refl)) (λ d s. refl) (λ d u. refl) (λ d u. refl) h
+keeps_asks head past stamp node e g x ok of h = asks_same past (line (turn stamp node) e ∷ past) (still past stamp node e x (λ d. refl)) (λ d s. refl) (λ d u. refl) (λ d u. refl) h

@@ -1,16 +1,18 @@
 -- What a line makes of a call: it stays, begins, or is touched by a request that is queued or heard for it.
-use Rattle.std.proofs.Common.{◌≡◌, ℕ, Bool, true, false, List, ◌∷◌, Option, Some, None, ◌⊎◌, inl, inr, ⊎_elim, refl, sym, subst, ap, ◌∙◌}
+use Rattle.std.proofs.Common.{◌≡◌, ℕ, Bool, true, false, List, [], ◌∷◌, Option, Some, None, ◌⊎◌, inl, inr, ⊎_elim, refl, sym, subst, ap, ◌∙◌}
 use Rattle.std.specs.Prelude.{nat_eq, if◌then◌else◌}
-use Rattle.std.proofs.lemmas.Bool.{cond_both, eqb-true}
+use Rattle.std.proofs.lemmas.Bool.{cond_both, cond-true, eqb-true}
 use Rattle.lu_base.specs.declared.ids.At.{At}
 use Rattle.lu_base.specs.declared.ids.Node.{Node}
 use Rattle.lu_base.specs.declared.ids.Node.TheVariants.{Client, Target}
 use Rattle.lu_base.specs.declared.ids.Stamp.{Stamp}
-use Rattle.lu_words.specs.Carried.{Asking, Unasked, Asked, Answered, Running}
+use Rattle.lu_words.specs.Carried.{Asking, Unasked, Asked, Answered, Stage, Bad, Running}
 use Rattle.lu_words.specs.Words.{Entry, Tick, Begin, Stands, Queues, Heard, Told, Line, line}
 use Rattle.lu_words.specs.Fields.{on}
+use Rattle.lu_covered.specs.Heads.{Head}
 use Rattle.lu_covered.specs.Calls.{begun, asks, asks_for, reads_call, call_after, call_at}
-use Rattle.lu_guards.proofs.Guards.{EntryOk}
+use Rattle.lu_guards.proofs.Guards.{Later, Begins, Starts, Owes, EntryOk, Grown}
+use Rattle.lu_guards.proofs.Lists.{self}
 use Rattle.lu_facts.proofs.Groups.{turn}
 
 -- ---- a call that stays
@@ -34,11 +36,19 @@ Touches node (Queues u q) c slot asking = asking ≡ Asked
 Touches node (Heard u f k) c slot asking = (node ≡ Client c) × (f.slot ≡ Some slot) × (asking ≡ Answered u k)
 Touches node _ c slot asking = ⊥
 
+-- the newest line is the begin of that call
+abbrev pub JustBegan : List Line → ℕ → ℕ → Running → Type 0
+JustBegan [] c slot r = ⊥
+JustBegan (l ∷ past) c slot r = elim l.entry [ Begin s running ↦ (l.at.node ≡ Client c) × (s ≡ slot) × (running ≡ r) | _ ↦ ⊥ ]
+
 -- it has just begun
-pub record Began (past : List Line) (now : At) (c slot : ℕ) (r : Running) : Type 0 where
+pub record Began (past : List Line) (now : At) (e : Entry) (c slot : ℕ) (r : Running) : Type 0 where
+  pub later : Later past now
   pub none : call_at c slot past ≡ None
   pub at : r.at ≡ now
   pub asking : r.asking ≡ Unasked
+  pub begins : Begins c past r
+  pub newest : JustBegan (line now e ∷ past) c slot r
 
 -- a request for it was queued or heard
 pub record Touched (past : List Line) (node : Node) (e : Entry) (c slot : ℕ) (r : Running) : Type 0 where
@@ -46,10 +56,12 @@ pub record Touched (past : List Line) (node : Node) (e : Entry) (c slot : ℕ) (
   pub call : call_at c slot past ≡ Some before
   pub at : before.at ≡ r.at
   pub same : before.call ≡ r.call
+  pub file : before.file ≡ r.file
+  pub stage : before.stage ≡ r.stage
   pub asking : Touches node e c slot r.asking
 
 abbrev pub Came : List Line → At → Node → Entry → ℕ → ℕ → Running → Type 0
-Came past at node e c slot r = (call_at c slot past ≡ Some r) ⊎ (Began past at c slot r ⊎ Touched past node e c slot r)
+Came past at node e c slot r = (call_at c slot past ≡ Some r) ⊎ (Began past at e c slot r ⊎ Touched past node e c slot r)
 
 some_is : (q r : Running) → Some q ≡ Some r → q ≡ r
 some_is q r e = cc
@@ -79,6 +91,8 @@ touched past node e served asking c slot r how a =
       call = a.call;
       at = ap (λ (v : Running). v.at) a.is;
       same = ap (λ (v : Running). v.call) a.is;
+      file = ap (λ (v : Running). v.file) a.is;
+      stage = ap (λ (v : Running). v.stage) a.is;
       asking = subst (λ (v : Running). Touches node e c slot v.asking) a.is (how a.serves);
     }
 
@@ -87,11 +101,14 @@ call_cases past stamp (Client d) (Begin s running) ok c slot r =
     cond_both (nat_eq c d) (if nat_eq s slot then Some running else call_at c slot past) (call_at c slot past) (λ v. v ≡ Some r → Came past (turn stamp (Client d)) (Client d) (Begin s running) c slot r)
     (λ t. cond_both (nat_eq s slot) (Some running) (call_at c slot past) (λ v. v ≡ Some r → Came past (turn stamp (Client d)) (Client d) (Begin s running) c slot r)
     (λ u e.
-    let is : begun (turn stamp (Client d)) running.call ≡ r = sym ok.is ∙ some_is running r e in
+    let is : begun (turn stamp (Client d)) running.call running.file running.stage ≡ r = sym ok.is ∙ some_is running r e in
     inr (inl (record {
+      later = ok.later;
       none = ap (λ v. call_at v slot past) (eqb-true c d t) ∙ ap (λ v. call_at d v past) (sym (eqb-true s slot u)) ∙ ok.free;
       at = ap (λ (v : Running). v.at) (sym is);
       asking = ap (λ (v : Running). v.asking) (sym is);
+      begins = subst (λ v. Begins c past v) (some_is running r e) (subst (λ v. Begins v past running) (sym (eqb-true c d t)) ok.begins);
+      newest = (ap Client (sym (eqb-true c d t)), eqb-true s slot u, some_is running r e);
     })))
     (λ u e. inl e))
     (λ t e. inl e)
@@ -116,3 +133,58 @@ call_cases past stamp (Client d) (Told s named answer work) ok c slot r =
 call_cases past stamp (Client d) (Stands s running) ok c slot r = absurd ok
 call_cases past stamp (Target t) Tick ok c slot r = λ q. inl q
 call_cases past stamp node e ok c slot r = λ q. inl q
+
+-- ---- a call on a bad handle
+
+abbrev IsTold : ℕ → Entry → Type 0
+IsTold slot (Told s turn answer work) = s ≡ slot
+IsTold slot _ = ⊥
+
+-- the next line tells it
+owed : (past : List Line) (at : At) (e : Entry) (c slot : ℕ) (r : Running) → JustBegan past c slot r → r.stage ≡ Bad → Owes past at e → (at.node ≡ Client c) × IsTold slot e
+owed [] at e c slot r j bad o = absurd j
+owed (l ∷ past) at e c slot r j bad o = by l.entry j o
+  where
+    starts : (s : ℕ) (e : Entry) → s ≡ slot → Starts s Bad e → IsTold slot e
+    starts s (Told t turn answer work) is w = w ∙ is
+    starts s e is w = absurd w
+
+    by : (b : Entry) → JustBegan (line l.at b ∷ past) c slot r → Owes (line l.at b ∷ past) at e → (at.node ≡ Client c) × IsTold slot e
+    by (Begin s running) j o = (ap (λ (v : At). v.node) (sym o.0) ∙ j.0, starts s e j.1 (subst (λ (v : Stage). Starts s v e) (ap (λ (v : Running). v.stage) j.2 ∙ bad) o.1))
+    by b j o = absurd j
+
+told_off : (past : List Line) (stamp : Stamp) (node : Node) (e : Entry) (c slot : ℕ) → node ≡ Client c → IsTold slot e → call_at c slot (line (turn stamp node) e ∷ past) ≡ None
+told_off past stamp (Client d) (Told s turn answer work) c slot n t =
+    let same : d ≡ c = cc in
+    cond-true (nat_eq c d) (if nat_eq s slot then None else call_at c slot past) (call_at c slot past) (ap (nat_eq c) same ∙ self c)
+    ∙ cond-true (nat_eq s slot) None (call_at c slot past) (ap (λ v. nat_eq v slot) t ∙ self slot)
+told_off past stamp (Target t) (Told s turn answer work) c slot n w = absurd (cc)
+told_off past stamp node e c slot n w = absurd w
+
+-- so a call on a bad handle stands in no line but its begin
+pub bad_began : (head : Head) (past : List Line) → Grown head past → (c slot : ℕ) (r : Running) → call_at c slot past ≡ Some r → r.stage ≡ Bad → JustBegan past c slot r
+bad_began head [] g c slot r k bad = absurd (cc)
+bad_began head (l ∷ past) g c slot r k bad =
+    ⊎_elim
+    (λ (p : call_at c slot past ≡ Some r). absurd (over r (bad_began head past g.1 c slot r p bad) bad))
+    (λ (p : Began past l.at l.entry c slot r ⊎ Touched past l.at.node l.entry c slot r). ⊎_elim
+    (λ (q : Began past l.at l.entry c slot r). q.newest)
+    (λ (q : Touched past l.at.node l.entry c slot r). absurd (over q.before (bad_began head past g.1 c slot q.before q.call (q.stage ∙ bad)) (q.stage ∙ bad)))
+    p)
+    (call_cases past l.at.stamp l.at.node l.entry g.0.ok c slot r k)
+  where
+    over : (q : Running) → JustBegan past c slot q → q.stage ≡ Bad → ⊥
+    over q j b =
+        let o = owed past l.at l.entry c slot q j b g.0.owes in
+        let none = told_off past l.at.stamp l.at.node l.entry c slot o.0 o.1 in
+        absurd (let w : None ≡ Some r = sym none ∙ k in cc)
+
+pub bad_unasked : (head : Head) (past : List Line) → Grown head past → (c slot : ℕ) (r : Running) → call_at c slot past ≡ Some r → r.stage ≡ Bad → r.asking ≡ Unasked
+bad_unasked head [] g c slot r k bad = absurd (cc)
+bad_unasked head (l ∷ past) g c slot r k bad = by l.at.node l.entry g.0.ok (bad_began head (l ∷ past) g c slot r k bad)
+  where
+    by : (node : Node) (e : Entry) → EntryOk past (turn l.at.stamp node) node e → JustBegan (line (turn l.at.stamp node) e ∷ past) c slot r → r.asking ≡ Unasked
+    by (Client d) (Begin s running) ok j = ap (λ (v : Running). v.asking) (sym j.2) ∙ ap (λ (v : Running). v.asking) ok.is
+    by (Target t) (Begin s running) ok j = absurd ok
+    by (Target t) Tick ok j = absurd j
+    by node e ok j = absurd j

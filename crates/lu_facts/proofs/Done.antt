@@ -10,21 +10,23 @@ use Rattle.lu_base.specs.declared.ids.Stamp.{Stamp}
 use Rattle.lu_base.specs.declared.ids.Txn.{Txn as TxnOf}
 use Rattle.lu_base.specs.declared.ids.Who.{Who}
 use Rattle.lu_base.specs.declared.ids.Xid.{Xid}
+use Rattle.lu_base.specs.declared.locks.Cause.{Cause}
 use Rattle.lu_msg.specs.declared.messages.Message.{Message}
 use Rattle.lu_msg.specs.declared.messages.Message.TheVariants as message
 use Rattle.lu_msg.specs.declared.messages.Reply.{Reply as ReplyTo}
 use Rattle.lu_msg.specs.declared.messages.Request.{Request as RequestOf}
 use Rattle.lu_words.specs.Carried.{Deed, Flight, Slot}
-use Rattle.lu_words.specs.Words.{Entry, Flies, Heard, Send, Act, Txn as Made, Boot, Enters, Line, line, same_life}
+use Rattle.lu_words.specs.Words.{Entry, Flies, Heard, Send, Act, Txn as Made, Boot, Enters, Life, Evict, Line, line, same_life}
 use Rattle.lu_covered.specs.TargetParts.{is_request_of, without_request, entered, answered, is_slot_of}
 use Rattle.lu_covered.specs.TargetStates.{none, server_of, slot_of, next_number}
 use Rattle.lu_covered.specs.Deeds.{deed, locks_of, again}
-use Rattle.lu_covered.specs.Calls.{first_life}
-use Rattle.lu_covered.specs.ClientStates.{known_of, life_of}
+use Rattle.lu_target_rows.specs.Lives.{is_life}
+use Rattle.lu_covered.specs.ClientStates.{known_of, life_of, is_own}
 use Rattle.lu_covered.specs.Heads.{Head}
-use Rattle.lu_guards.proofs.Guards.{In, Was, AskOk, HeardOk, EntersOk, SendOf, EntryOf}
-use Rattle.lu_guards.proofs.Lists.{self, in_append, in_filter, life_is}
-use Rattle.lu_facts.proofs.Groups.{turn, Flew, Acted, Hears, Phase, Numbers, first_request, FlewFor, DoneFor, Meant, Waits, Done}
+use Rattle.lu_guards.proofs.Guards.{In, Was, AskOk, HeardOk, LifeOf, EntersOk, SendOf, EntryOf}
+use Rattle.lu_guards.proofs.Lists.{self, in_append, in_filter, life_is, own_is}
+use Rattle.lu_facts.proofs.Groups.{turn, Flew, Acted, Hears, Phase, Numbers, life_request, FlewFor, DoneFor, Meant, Waits, Done}
+use Rattle.lu_facts.proofs.Phase.{life_rises}
 
 -- ---- slots
 
@@ -43,14 +45,18 @@ slot_same past who other tag of_tag w t = ap (λ (v : Who). slot_of v tag past) 
 -- ---- what only grows
 
 record Grows (past new : List Line) : Type 0 where
-  flew : (c : ℕ) (f : Flight) → Flew past c f → Flew new c f
+  flew : (who : Who) (f : Flight) → Flew past who f → Flew new who f
   acted : (d : Deed) → Acted past d → Acted new d
+  lives : (c : ℕ) → (life_of c past).life ≤ (life_of c new).life
 
 meant_more : (past new : List Line) → Grows past new → (to : Node) (m : Message) → Meant past to m → Meant new to m
-meant_more past new g (Target t) (message.Request r) h = (h.0, g.flew r.who.client h.0 h.1, h.2)
+meant_more past new g (Target t) (message.Request r) h = (h.0, g.flew r.who h.0 h.1, h.2)
 meant_more past new g (Client c) (message.Reply k) h = (h.0, g.acted h.0 h.1, h.2, h.3)
 meant_more past new g (Client c) (message.Block who boot cookie) h = tt
 meant_more past new g (Target t) (message.Cancel who boot cookie) h = tt
+meant_more past new g (Target t) (message.Join who boot) h = let le = h.1 in let rises = g.lives who.client in (h.0, omega arith)
+meant_more past new g (Client c) (message.Ready who boot committed) h = h
+meant_more past new g (Client c) (message.Evicted who boot) h = h
 meant_more past new g (Target t) _ h = absurd h
 meant_more past new g (Client c) _ h = absurd h
 
@@ -59,13 +65,12 @@ module _ (osts : ℕ) (past : List Line) (stamp : Stamp) (c t : ℕ) (f : Flight
   flying = line (turn stamp (Client c)) (Flies t f) ∷ past
 
   flies_grows : Grows past flying
-  flies_grows = record { flew = λ d k i. inr i; acted = λ d a. a }
+  flies_grows = record { flew = λ w k i. inr i; acted = λ d a. a; lives = λ e. omega arith }
 
   done_flies : Done osts flying
   done_flies =
       record {
         flew = λ d a. let k = h.flew d a in (k.0, inr k.1, k.2, k.3, k.4);
-        life = h.life;
         high = h.high;
         kept = h.kept;
         slots = h.slots;
@@ -83,7 +88,7 @@ module _ (past : List Line) (at : At) (to : Node) (m : Message) (meant : Meant p
   sending = line at (Send to m) ∷ past
 
   send_grows : Grows past sending
-  send_grows = record { flew = λ d k i. i; acted = λ d a. a }
+  send_grows = record { flew = λ w k i. i; acted = λ d a. a; lives = λ e. omega arith }
 
   more_sent : (from node : Node) (p : Message) → Was sending from node p → Meant sending node p
   more_sent from node p s =
@@ -94,21 +99,20 @@ module _ (past : List Line) (at : At) (to : Node) (m : Message) (meant : Meant p
 
 done_send : (osts : ℕ) (past : List Line) (stamp : Stamp) (node to : Node) (m : Message) → Meant past to m → Done osts past → Done osts (line (turn stamp node) (Send to m) ∷ past)
 done_send osts past stamp (Client c) to m meant h =
-    record { flew = h.flew; life = h.life; high = h.high; kept = h.kept; slots = h.slots; heard = h.heard; boots = h.boots; waits = h.waits; sent = more_sent past (turn stamp (Client c)) to m meant h.sent; once = h.once }
+    record { flew = h.flew; high = h.high; kept = h.kept; slots = h.slots; heard = h.heard; boots = h.boots; waits = h.waits; sent = more_sent past (turn stamp (Client c)) to m meant h.sent; once = h.once }
 done_send osts past stamp (Target t) to m meant h =
-    record { flew = h.flew; life = h.life; high = h.high; kept = h.kept; slots = h.slots; heard = h.heard; boots = h.boots; waits = h.waits; sent = more_sent past (turn stamp (Target t)) to m meant h.sent; once = h.once }
+    record { flew = h.flew; high = h.high; kept = h.kept; slots = h.slots; heard = h.heard; boots = h.boots; waits = h.waits; sent = more_sent past (turn stamp (Target t)) to m meant h.sent; once = h.once }
 
 asked_meant : (osts : ℕ) (past : List Line) (c t : ℕ) (r : RequestOf) → AskOk past c r → Phase osts past → Numbers past → Meant past (Target t) (message.Request r)
 asked_meant osts past c t r ok p n =
-    let w : life_of c past ≡ first_life c = p.life c in
-    let client : r.who.client ≡ c = ap (λ (v : RequestOf). v.who.client) ok.is ∙ ap (λ (v : Who). v.client) w in (
+    let who : r.who ≡ life_of c past = ap (λ (v : RequestOf). v.who) ok.is in (
       ok.flight,
-      subst (λ v. Flew past v ok.flight) (sym client) (n.flying c ok.flight ok.flying),
-      ok.is ∙ is (life_of c past) (known_of c past) w (p.known c) ∙ ap (λ v. first_request v ok.flight) (sym client),
+      subst (λ v. Flew past v ok.flight) (sym who) (n.flying (life_of c past) ok.flight ok.flying),
+      ok.is ∙ is (life_of c past) r.who (known_of c past) (sym who) (p.known c),
     )
   where
-    is : (who : Who) (boot : ℕ) → who ≡ first_life c → boot ≡ 1 → record { who = who; boot = boot; xid = record { 0 = ok.flight.xid }; tag = ok.flight.tag; op = ok.flight.op } ≡ first_request c ok.flight
-    is who boot w b = rw (w, b) refl
+    is : (mine who : Who) (boot : ℕ) → mine ≡ who → boot ≡ 1 → record { who = mine; boot = boot; xid = record { 0 = ok.flight.xid }; tag = ok.flight.tag; op = ok.flight.op } ≡ life_request who ok.flight
+    is mine who boot w b = rw (w, b) refl
 
 sent_meant : (head : Head) (past : List Line) (node to : Node) (m : Message) → SendOf head past node to m → Phase head.osts past → Numbers past → Done head.osts past → Meant past to m
 sent_meant head past (Client c) (Target t) (message.Request r) ok p n h = asked_meant head.osts past c t r ok p n
@@ -125,11 +129,17 @@ sent_meant head past (Target t) (Client c) (message.Reply k) ok p n h =
     )
 sent_meant head past (Client c) (Target t) (message.Cancel who boot cookie) ok p n h = tt
 sent_meant head past (Target t) (Client c) (message.Block who boot cookie) ok p n h = tt
+sent_meant head past (Client c) (Target t) (message.Join who boot) ok p n h =
+    let mine : who.life ≡ (life_of c past).life = ap (λ (w : Who). w.life) ok.of_life in
+    let same : (life_of who.client past).life ≡ (life_of c past).life = ap (λ v. (life_of v past).life) (ap (λ (w : Who). w.client) ok.of_life ∙ p.client c) in
+    (ok.of_boot ∙ p.known c, omega arith)
+sent_meant head past (Target t) (Client c) (message.Ready who boot committed) ok p n h = (ok.of_boot ∙ p.boot, ok.to)
+sent_meant head past (Target t) (Client c) (message.Evicted who boot) ok p n h = (ok.of_boot ∙ p.boot, ok.to)
 sent_meant head past node to m ok p n h = absurd ok
 
 -- ---- one more request that waits
 
-module _ (osts : ℕ) (past : List Line) (stamp : Stamp) (t : ℕ) (r : RequestOf) (ok : EntersOk past t r) (n : Numbers past) (h : Done osts past) where
+module _ (osts clients : ℕ) (past : List Line) (stamp : Stamp) (t : ℕ) (r : RequestOf) (ok : EntersOk clients past t r) (n : Numbers past) (h : Done osts past) where
   abbrev entering : List Line
   entering = line (turn stamp (Target t)) (Enters r) ∷ past
 
@@ -147,7 +157,7 @@ module _ (osts : ℕ) (past : List Line) (stamp : Stamp) (t : ℕ) (r : RequestO
       let y : d.reply.xid.0 ≡ r.xid.0 = ap (λ (v : Xid). v.0) x in
       let z : r.xid.0 ≡ g.0.xid = ap (λ (v : RequestOf). v.xid.0) g.2 in
       let u = f.2 in
-      let same : f.0 ≡ g.0 = n.one r.who.client f.0 g.0 (subst (λ (v : Who). Flew past v.client f.0) w f.1) g.1 (omega arith) in
+      let same : f.0 ≡ g.0 = n.one r.who f.0 g.0 (subst (λ (v : Who). Flew past v f.0) w f.1) g.1 (omega arith) in
       let tag : d.tag ≡ r.tag = sym f.4 ∙ ap (λ (v : Flight). v.tag) same ∙ ap (λ (v : RequestOf). v.tag) (sym g.2) in
       let e : (slot_of d.reply.who d.tag past).taken ≡ (slot_of r.who r.tag past).taken = ap (λ (s : Slot). s.taken) (slot_same past d.reply.who r.who d.tag r.tag w tag) in
       let le = h.high d a in
@@ -174,9 +184,9 @@ module _ (osts : ℕ) (past : List Line) (stamp : Stamp) (t : ℕ) (r : RequestO
       let tag : w.meant.0.tag ≡ g.0.tag = ap (λ (v : RequestOf). v.tag) (sym w.meant.2) ∙ p.1 ∙ ap (λ (v : RequestOf). v.tag) g.2 in
       let z = w.taken in
       let lt = ok.newer in
-      let heard = n.after q.who.client w.meant.0 g.0 w.meant.1 (subst (λ (v : Who). Flew past v.client g.0) (sym p.0) g.1) tag (omega arith) in
-      let d = h.heard q.who.client w.meant.0.xid heard in
-      w.new d.0 d.1 (d.2 ∙ ap (λ (v : RequestOf). v.who) (sym w.meant.2)) (ap numbered (d.3 ∙ x))
+      let heard = n.after q.who w.meant.0 g.0 w.meant.1 (subst (λ (v : Who). Flew past v g.0) (sym p.0) g.1) tag (omega arith) in
+      let d = h.heard q.who w.meant.0.xid heard in
+      w.new d.0 d.1 d.2 (ap numbered (d.3 ∙ x))
     where
       numbered : ℕ → Xid
       numbered v = record { 0 = v }
@@ -194,7 +204,6 @@ module _ (osts : ℕ) (past : List Line) (stamp : Stamp) (t : ℕ) (r : RequestO
   done_enters =
       record {
         flew = h.flew;
-        life = h.life;
         high = λ d a. raised d.reply.who d.tag d.reply.xid.0 (h.high d a);
         kept = λ who tag k. cond_both (is_slot_of who tag r.who r.tag) (entered r) (slot_of who tag past) (λ (s : Slot). s.reply ≡ Some k → (d : Deed) × Acted past d × (d.reply ≡ k))
             (λ q e. absurd (cc))
@@ -216,14 +225,15 @@ module _ (osts : ℕ) (past : List Line) (stamp : Stamp) (t : ℕ) (r : RequestO
 
 -- what a line that does d is
 record Does (osts : ℕ) (past new : List Line) (d : Deed) : Type 0 where
-  flew : (c : ℕ) (f : Flight) → Flew past c f → Flew new c f
+  flew : (who : Who) (f : Flight) → Flew past who f → Flew new who f
   acted : (e : Deed) → Acted new e → (d ≡ e) ⊎ Acted past e
   more : (e : Deed) → Acted past e → Acted new e
   here : Acted new d
   slot : (who : Who) (tag : ℕ) → slot_of who tag new ≡ (if is_slot_of who tag d.reply.who d.tag then answered d (slot_of who tag past) else slot_of who tag past)
   waiting : (q : RequestOf) → In q (server_of osts new).waiting → In q (without_request d (server_of osts past).waiting)
   sent : (from to : Node) (m : Message) → Was new from to m → Was past from to m
-  hears : (c x : ℕ) → Hears new c x → Hears past c x
+  hears : (who : Who) (x : ℕ) → Hears new who x → Hears past who x
+  lives : (c : ℕ) → (life_of c past).life ≤ (life_of c new).life
   boots : (e : Deed) → e.reply.boot ≡ (server_of osts past).boot → e.reply.boot ≡ (server_of osts new).boot
   fresh : d.reply.boot ≡ (server_of osts new).boot
 
@@ -236,7 +246,7 @@ record Is (r : RequestOf) (d : Deed) : Type 0 where
 
 module _ (osts : ℕ) (past new : List Line) (d : Deed) (does : Does osts past new d) (r : RequestOf) (of : Is r d) (w : Waits past r) (h : Done osts past) where
   grows : Grows past new
-  grows = record { flew = does.flew; acted = does.more }
+  grows = record { flew = does.flew; acted = does.more; lives = does.lives }
 
   taken_is : (who : Who) (tag : ℕ) → (slot_of who tag past).taken ≡ (slot_of who tag new).taken
   taken_is who tag =
@@ -253,14 +263,11 @@ module _ (osts : ℕ) (past new : List Line) (d : Deed) (does : Does osts past n
   mine_flew : FlewFor new d
   mine_flew = (
     w.meant.0,
-    subst (λ (v : Who). Flew new v.client w.meant.0) (sym of.who) (does.flew r.who.client w.meant.0 w.meant.1),
+    subst (λ (v : Who). Flew new v w.meant.0) (sym of.who) (does.flew r.who w.meant.0 w.meant.1),
     ap (λ (v : RequestOf). v.xid.0) (sym w.meant.2) ∙ ap (λ (v : Xid). v.0) (sym of.xid),
     ap (λ (v : RequestOf). v.op) (sym w.meant.2) ∙ sym of.op,
     ap (λ (v : RequestOf). v.tag) (sym w.meant.2) ∙ sym of.tag,
   )
-
-  mine_life : d.reply.who ≡ first_life d.reply.who.client
-  mine_life = of.who ∙ ap (λ (v : RequestOf). v.who) w.meant.2 ∙ ap (λ (v : Who). first_life v.client) (sym of.who)
 
   mine_high : d.reply.xid.0 ≤ (slot_of d.reply.who d.tag new).taken
   mine_high = let e = mine_taken in taken_same d.reply.who d.tag d.reply.xid.0 (omega arith)
@@ -292,8 +299,7 @@ module _ (osts : ℕ) (past new : List Line) (d : Deed) (does : Does osts past n
   done_does : Done osts new
   done_does =
       record {
-        flew = λ e a. ⊎_elim (λ (q : d ≡ e). subst (FlewFor new) q mine_flew) (λ (b : Acted past e). let k = h.flew e b in (k.0, does.flew e.reply.who.client k.0 k.1, k.2, k.3, k.4)) (does.acted e a);
-        life = λ e a. ⊎_elim (λ (q : d ≡ e). subst (λ (v : Deed). v.reply.who ≡ first_life v.reply.who.client) q mine_life) (λ (b : Acted past e). h.life e b) (does.acted e a);
+        flew = λ e a. ⊎_elim (λ (q : d ≡ e). subst (FlewFor new) q mine_flew) (λ (b : Acted past e). let k = h.flew e b in (k.0, does.flew e.reply.who k.0 k.1, k.2, k.3, k.4)) (does.acted e a);
         high = λ e a. ⊎_elim
             (λ (q : d ≡ e). subst (λ (v : Deed). v.reply.xid.0 ≤ (slot_of v.reply.who v.tag new).taken) q mine_high)
             (λ (b : Acted past e). taken_same e.reply.who e.tag e.reply.xid.0 (h.high e b))
@@ -311,7 +317,7 @@ module _ (osts : ℕ) (past new : List Line) (d : Deed) (does : Does osts past n
               ap (λ (v : ReplyTo). v.xid.0) (sym same) ∙ mine_taken ∙ ap (λ (s : Slot). s.taken) (sym (slot_same past who d.reply.who tag d.tag i.0 i.1)),
             ))
             (λ q p. h.slots who tag k p));
-        heard = λ c x q. let g = h.heard c x (does.hears c x q) in (g.0, does.more g.0 g.1, g.2, g.3);
+        heard = λ who x q. let g = h.heard who x (does.hears who x q) in (g.0, does.more g.0 g.1, g.2, g.3);
         boots = λ e a. ⊎_elim (λ (q : d ≡ e). subst (λ (v : Deed). v.reply.boot ≡ (server_of osts new).boot) q does.fresh) (λ (b : Acted past e). does.boots e (h.boots e b)) (does.acted e a);
         waits = keeps_waiting;
         sent = λ from to m s. meant_more past new grows to m (h.sent from to m (does.sent from to m s));
@@ -329,43 +335,74 @@ module _ (osts : ℕ) (past new : List Line) (d : Deed) (does : Does osts past n
 
 -- ---- one more reply heard
 
-heard_done : (osts : ℕ) (past : List Line) (c : ℕ) (f : Flight) (k : ReplyTo) → HeardOk past c f k → Phase osts past → Done osts past → DoneFor past c f.xid
-heard_done osts past c f k ok p h =
+heard_done : (osts : ℕ) (past : List Line) (c : ℕ) (f : Flight) (k : ReplyTo) → HeardOk past c f k → Done osts past → DoneFor past (life_of c past) f.xid
+heard_done osts past c f k ok h =
     let m = h.sent (Target ok.from) (Client c) (message.Reply k) ok.was in
-    (m.0, m.1, ap (λ (v : ReplyTo). v.who) (sym m.2) ∙ ok.who ∙ p.life c, ap (λ (v : ReplyTo). v.xid.0) (sym m.2) ∙ sym ok.xid)
+    (m.0, m.1, ap (λ (v : ReplyTo). v.who) (sym m.2) ∙ ok.who, ap (λ (v : ReplyTo). v.xid.0) (sym m.2) ∙ sym ok.xid)
 
-done_heard : (osts : ℕ) (past : List Line) (stamp : Stamp) (c t : ℕ) (f : Flight) (k : ReplyTo) → HeardOk past c f k → Phase osts past → Done osts past → Done osts (line (turn stamp (Client c)) (Heard t f k) ∷ past)
-done_heard osts past stamp c t f k ok p h =
+done_heard : (osts : ℕ) (past : List Line) (stamp : Stamp) (c t : ℕ) (f : Flight) (k : ReplyTo) → HeardOk past c f k → Done osts past → Done osts (line (turn stamp (Client c)) (Heard t f k) ∷ past)
+done_heard osts past stamp c t f k ok h =
     record {
       flew = h.flew;
-      life = h.life;
       high = h.high;
       kept = h.kept;
       slots = h.slots;
-      heard = λ e x. ⊎_elim
-          (λ (q : (Client c ≡ Client e) × (f.xid ≡ x)).
-          let same : c ≡ e = cc in
-          subst (λ v. DoneFor past e v) q.1 (subst (λ v. DoneFor past v f.xid) same (heard_done osts past c f k ok p h)))
-          (λ (q : Hears past e x). h.heard e x q);
+      heard = λ who x. ⊎_elim
+          (λ (q : (is_own who past (Client c) ≡ true) × (f.xid ≡ x)). subst (λ v. DoneFor past who v) q.1 (subst (λ v. DoneFor past v f.xid) (sym (own_is who past c q.0)) (heard_done osts past c f k ok h)))
+          (λ (q : Hears past who x). h.heard who x q);
       boots = h.boots;
       waits = h.waits;
       sent = h.sent;
       once = h.once;
     }
 
+-- ---- a new life
+
+done_life : (osts : ℕ) (past : List Line) (stamp : Stamp) (c : ℕ) (new : Who) → LifeOf past c new → Done osts past → Done osts (line (turn stamp (Client c)) (Life new) ∷ past)
+done_life osts past stamp c new ok h =
+    record {
+      flew = h.flew;
+      high = h.high;
+      kept = h.kept;
+      slots = h.slots;
+      heard = h.heard;
+      boots = h.boots;
+      waits = h.waits;
+      sent = λ from to m s. meant_more past (line (turn stamp (Client c)) (Life new) ∷ past) (record { flew = λ w f i. i; acted = λ d a. a; lives = life_rises past stamp c new ok }) to m (h.sent from to m s);
+      once = h.once;
+    }
+
+-- ---- a life leaves: what of it waited, waits no more
+
+done_evict : (osts : ℕ) (past : List Line) (stamp : Stamp) (t : ℕ) (who : Who) (cause : Cause) → Done osts past → Done osts (line (turn stamp (Target t)) (Evict who cause) ∷ past)
+done_evict osts past stamp t who cause h =
+    record {
+      flew = h.flew;
+      high = h.high;
+      kept = h.kept;
+      slots = h.slots;
+      heard = h.heard;
+      boots = h.boots;
+      waits = λ r i. let w = h.waits r (in_filter (λ (q : RequestOf). not (is_life q.who (who ∷ []))) r (server_of osts past).waiting i).0 in record { target = w.target; meant = w.meant; taken = w.taken; new = w.new };
+      sent = h.sent;
+      once = h.once;
+    }
+
 act_does : (osts : ℕ) (past : List Line) (stamp : Stamp) (t : ℕ) (d : Deed) → d.reply.boot ≡ (server_of osts past).boot → Does osts past (line (turn stamp (Target t)) (Act d) ∷ past) d
-act_does osts past stamp t d b = record { flew = λ k f i. i; acted = λ e a. a; more = λ e a. inr a; here = inl refl; slot = λ who tag. refl; waiting = λ q i. i; sent = λ from to m s. s; hears = λ c x q. q; boots = λ e q. q; fresh = b }
+act_does osts past stamp t d b = record { flew = λ w f i. i; acted = λ e a. a; more = λ e a. inr a; here = inl refl; slot = λ who tag. refl; waiting = λ q i. i; sent = λ from to m s. s; hears = λ w x q. q; lives = λ c. omega arith; boots = λ e q. q; fresh = b }
 
 txn_does : (osts : ℕ) (past : List Line) (stamp : Stamp) (t : ℕ) (d : Deed) → d.reply.boot ≡ (server_of osts past).boot → Does osts past (line (turn stamp (Target t)) (Made d) ∷ past) d
-txn_does osts past stamp t d b = record { flew = λ k f i. i; acted = λ e a. a; more = λ e a. inr a; here = inl refl; slot = λ who tag. refl; waiting = λ q i. i; sent = λ from to m s. s; hears = λ c x q. q; boots = λ e q. q; fresh = b }
+txn_does osts past stamp t d b = record { flew = λ w f i. i; acted = λ e a. a; more = λ e a. inr a; here = inl refl; slot = λ who tag. refl; waiting = λ q i. i; sent = λ from to m s. s; hears = λ w x q. q; lives = λ c. omega arith; boots = λ e q. q; fresh = b }
 
 pub keeps_done : (head : Head) (past : List Line) (stamp : Stamp) (node : Node) (e : Entry) → EntryOf head past (turn stamp node) node e → Phase head.osts past → Numbers past
     → Done head.osts past → Done head.osts (line (turn stamp node) e ∷ past)
 keeps_done head past stamp (Client c) (Send to m) ok p n h = done_send head.osts past stamp (Client c) to m (sent_meant head past (Client c) to m ok p n h) h
 keeps_done head past stamp (Target t) (Send to m) ok p n h = done_send head.osts past stamp (Target t) to m (sent_meant head past (Target t) to m ok p n h) h
 keeps_done head past stamp (Client c) (Flies t f) ok p n h = done_flies head.osts past stamp c t f h
-keeps_done head past stamp (Client c) (Heard t f k) ok p n h = done_heard head.osts past stamp c t f k ok p h
-keeps_done head past stamp (Target t) (Enters r) ok p n h = done_enters head.osts past stamp t r ok n h
+keeps_done head past stamp (Client c) (Heard t f k) ok p n h = done_heard head.osts past stamp c t f k ok h
+keeps_done head past stamp (Client c) (Life who) ok p n h = done_life head.osts past stamp c who ok h
+keeps_done head past stamp (Target t) (Evict who cause) ok p n h = done_evict head.osts past stamp t who cause h
+keeps_done head past stamp (Target t) (Enters r) ok p n h = done_enters head.osts head.clients past stamp t r ok n h
 keeps_done head past stamp (Target t) (Act d) ok p n h =
     let v = server_of head.osts past in
     let e = deed head.osts v (turn stamp (Target t)) ok.request none (locks_of head.osts v ok.request) in

@@ -26,7 +26,7 @@ use Rattle.lu_machine.specs.Tree.{Tree, Attributes, same_fid, fid_of, child}
 use Rattle.lu_machine.specs.Change.{Change, Leads, Drops, MakesDir, change, changed, written}
 use Rattle.lu_machine.specs.Plan.{Outcome}
 use Rattle.lu_machine.specs.Table.{root, found, made_by}
-use Rattle.lu_machine.specs.Footprint.{Operation, empty, writes, after, outcome_of, inode_of, Every, Apart, Same}
+use Rattle.lu_machine.specs.Footprint.{Operation, empty, writes, after, forget, outcome_of, inode_of, Every, Apart, Same}
 use Rattle.lu_machine.proofs.Effects.{name_after}
 use Rattle.lu_machine.proofs.Leads.{here, other, empty_other, leads_stay}
 use Rattle.lu_machine.proofs.Outcomes.{IsReached, Comes, refused, learns, mkdir, create, link, unlink, rmdir, move, replace_dir, replace_file, chmod, opens, closes}
@@ -318,3 +318,18 @@ sound_empty bound le = record { least = le; low = λ d n c is. absurd (nothing d
     only : (c : Child) → IsReached empty c → c ≡ root
     only c (inl e) = e
     only c (inr p) = absurd (nothing p.0 p.1.0 c p.1.1)
+
+-- ---- a life that leaves takes its opens with it: names, attributes, lists and layouts stay
+
+pub tells_forget : (t : Tree) (who : Who) (bound : ℕ) (f : Fact) → Tells t bound f → Tells (forget t who) bound f
+tells_forget t who bound f k = record { low = k.low; is = by f.part f.answer k.is }
+  where
+    by : (p : Part) (a : Answer) → TellsOf t bound p a → TellsOf (forget t who) bound p a
+    by (part.Name d n) a k = k
+    by (part.List d) a k = k
+    by (part.Attr g) a k = k
+    by (part.Layout g) a k = k
+    by _ a k = absurd k
+
+pub sound_forget : (t : Tree) (who : Who) (bound : ℕ) → IsSound t bound → IsSound (forget t who) bound
+sound_forget t who bound h = h

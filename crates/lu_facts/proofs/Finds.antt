@@ -1,7 +1,7 @@
 -- A reading whose path no call makes finds nothing: what acts was asked by a call that began, and a path leads somewhere only
 -- once a call made it. So a run in which no call makes what another looks for needs no lock.
-use Rattle.std.proofs.Common.{◌≡◌, ℕ, ◌+◌, ◌*◌, List, [], ◌∷◌, Some, None, ◌⊎◌, inl, ⊎_elim, refl, sym, subst, ap, ◌∙◌, arith, pos}
-use Rattle.std.specs.Prelude.{nat_eq}
+use Rattle.std.proofs.Common.{◌≡◌, ℕ, Bool, true, false, ◌+◌, ◌*◌, List, [], ◌∷◌, Option, Some, None, ◌⊎◌, inl, ⊎_elim, refl, sym, subst, ap, ◌∙◌, arith, pos}
+use Rattle.std.specs.Prelude.{nat_eq, if◌then◌else◌}
 use Rattle.lu_base.specs.declared.ids.At.{At}
 use Rattle.lu_base.specs.declared.ids.Node.{Node}
 use Rattle.lu_base.specs.declared.ids.Node.TheVariants.{Client, Target}
@@ -10,10 +10,10 @@ use Rattle.lu_msg.specs.declared.calls.Call.{Call}
 use Rattle.lu_msg.specs.declared.calls.Call.TheVariants as call
 use Rattle.lu_msg.specs.declared.operations.Op.{Op}
 use Rattle.lu_msg.specs.declared.operations.Op.TheVariants as op
-use Rattle.lu_machine.specs.Footprint.{grants, after}
+use Rattle.lu_machine.specs.Footprint.{grants, after, forget}
 use Rattle.lu_machine.proofs.Made.{Named, named_wide, named_empty}
-use Rattle.lu_words.specs.Carried.{Deed}
-use Rattle.lu_words.specs.Words.{Entry, Tick, Txn as Made, Line, line}
+use Rattle.lu_words.specs.Carried.{Deed, HandleFile}
+use Rattle.lu_words.specs.Words.{Entry, Tick, Txn as Made, Evict, Line, line}
 use Rattle.lu_words.specs.Concerns.{only}
 use Rattle.lu_covered.specs.TargetParts.{operation}
 use Rattle.lu_covered.specs.TargetStates.{none, count_at, tree_at, server_of}
@@ -26,6 +26,7 @@ use Rattle.lu_facts.proofs.Groups.{turn, Acted}
 use Rattle.lu_facts.proofs.All.{holds}
 use Rattle.lu_facts.proofs.OnNames.{op_is, becomes_on_names}
 use Rattle.lu_facts.proofs.Asked.{Began, began_more, AskedBy, acted_asked}
+use Rattle.lu_facts.proofs.Grafts.{named_fewer}
 use Rattle.lu_facts.proofs.Named.{Makes, named_after}
 use Rattle.lu_facts.proofs.Readings.{lookup_misses, stat_misses, list_misses, layout_misses, changing_free}
 
@@ -39,23 +40,25 @@ made_more : (l : Line) (past : List Line) (path : Path) → Made_in past path �
 made_more l past path m = (m.0, began_more l past m.0 m.1, m.2)
 
 -- what a call's operation makes the call makes
-call_makes : (k : Call) (o : Op) (path : Path) → operation_of k ≡ Some o → Makes o path → CallMakes k path
-call_makes (call.Mkdir made) o path e m = subst (λ (x : Op). Makes x path) (sym (op_is (op.Mkdir made) o e)) m
-call_makes (call.Create made None) o path e m = subst (λ (x : Op). Makes x path) (sym (op_is (op.Create made 1048576 (pos 1)) o e)) m
-call_makes (call.Create made (Some stripes)) o path e m = subst (λ (x : Op). Makes x path) (sym (op_is (op.Create made stripes.0 stripes.1) o e)) m
-call_makes (call.Link old new) o path e m = subst (λ (x : Op). Makes x path) (sym (op_is (op.Link old new) o e)) m
-call_makes (call.Rename old new) o path e m = subst (λ (x : Op). Makes x path) (sym (op_is (op.Rename old new) o e)) m
-call_makes (call.Lookup made) o path e m = subst (λ (x : Op). Makes x path) (sym (op_is (op.Lookup made) o e)) m
-call_makes (call.Stat made) o path e m = subst (λ (x : Op). Makes x path) (sym (op_is (op.Stat made) o e)) m
-call_makes (call.List made) o path e m = subst (λ (x : Op). Makes x path) (sym (op_is (op.List made) o e)) m
-call_makes (call.Layout made) o path e m = subst (λ (x : Op). Makes x path) (sym (op_is (op.Layout made) o e)) m
-call_makes (call.Unlink made) o path e m = subst (λ (x : Op). Makes x path) (sym (op_is (op.Unlink made) o e)) m
-call_makes (call.Rmdir made) o path e m = subst (λ (x : Op). Makes x path) (sym (op_is (op.Rmdir made) o e)) m
-call_makes (call.Chmod made mode) o path e m = subst (λ (x : Op). Makes x path) (sym (op_is (op.Chmod made mode) o e)) m
-call_makes k o path e m = absurd (cc)
+call_makes : (file : Option HandleFile) (k : Call) (o : Op) (path : Path) → operation_of file k ≡ Some o → Makes o path → CallMakes k path
+call_makes file (call.Mkdir made) o path e m = subst (λ (x : Op). Makes x path) (sym (op_is (op.Mkdir made) o e)) m
+call_makes file (call.Create made None) o path e m = subst (λ (x : Op). Makes x path) (sym (op_is (op.Create made 1048576 (pos 1)) o e)) m
+call_makes file (call.Create made (Some stripes)) o path e m = subst (λ (x : Op). Makes x path) (sym (op_is (op.Create made stripes.0 stripes.1) o e)) m
+call_makes file (call.Link old new) o path e m = subst (λ (x : Op). Makes x path) (sym (op_is (op.Link old new) o e)) m
+call_makes file (call.Rename old new) o path e m = subst (λ (x : Op). Makes x path) (sym (op_is (op.Rename old new) o e)) m
+call_makes file (call.Lookup made) o path e m = subst (λ (x : Op). Makes x path) (sym (op_is (op.Lookup made) o e)) m
+call_makes file (call.Stat made) o path e m = subst (λ (x : Op). Makes x path) (sym (op_is (op.Stat made) o e)) m
+call_makes file (call.List made) o path e m = subst (λ (x : Op). Makes x path) (sym (op_is (op.List made) o e)) m
+call_makes file (call.Layout made) o path e m = subst (λ (x : Op). Makes x path) (sym (op_is (op.Layout made) o e)) m
+call_makes file (call.Unlink made) o path e m = subst (λ (x : Op). Makes x path) (sym (op_is (op.Unlink made) o e)) m
+call_makes file (call.Rmdir made) o path e m = subst (λ (x : Op). Makes x path) (sym (op_is (op.Rmdir made) o e)) m
+call_makes file (call.Chmod made mode) o path e m = subst (λ (x : Op). Makes x path) (sym (op_is (op.Chmod made mode) o e)) m
+call_makes file (call.Open h made) o path e m = subst (λ (x : Op). Makes x path) (sym (op_is (op.Open made) o e)) m
+call_makes (Some f) (call.Close h) o path e m = subst (λ (x : Op). Makes x path) (sym (op_is (op.Close f.number f.fid) o e)) m
+call_makes file k o path e m = absurd (cc)
 
 makes_asked : (past : List Line) (o : Op) (path : Path) → AskedBy past o → Makes o path → Made_in past path
-makes_asked past o path a m = (a.0, a.1, call_makes a.0 o path a.2 m)
+makes_asked past o path a m = (a.0, a.1, call_makes a.2 a.0 o path a.3 m)
 
 -- the number of a transaction
 pub number_is : (head : Head) (past : List Line) → Grown head past → (at : At) (d : Deed) → TxnOk head.osts (only 0 past) at d → d.reply.txn.0 ≡ 4294967296 + (count_at 0 past + 1)
@@ -76,7 +79,7 @@ named head (l ∷ past) g = by l.at.node l.entry g.0 (λ d x. acted_asked head (
         → Named (Made_in past) (4294967296 + (count_at 0 past + 1)) (after head.osts (tree_at head.osts 0 past) (operation d))
     made at d ok a h =
         let n = number_is head past g.1 at d ok in
-        let nm = named_after head.osts (tree_at head.osts 0 past) d.reply.txn d.reply.who (Made_in past) (4294967296 + count_at 0 past) h (omega arith) d.op (becomes_on_names a.0 d.op a.2) in
+        let nm = named_after head.osts (tree_at head.osts 0 past) d.reply.txn d.reply.who (Made_in past) (4294967296 + count_at 0 past) h (omega arith) d.op (becomes_on_names a.2 a.0 d.op a.3) in
         named_wide (λ path. Made_in past path ⊎ Makes d.op path) (Made_in past) d.reply.txn.0 (4294967296 + (count_at 0 past + 1)) (after head.osts (tree_at head.osts 0 past) (operation d))
         (λ path m. ⊎_elim (λ (x : Made_in past path). x) (λ (x : Makes d.op path). makes_asked past d.op path a x) m) (omega arith) nm
 
@@ -86,6 +89,11 @@ named head (l ∷ past) g = by l.at.node l.entry g.0 (λ d x. acted_asked head (
     by (Target t) (Made d) k a h =
         subst (λ (v : ℕ). Named (Made_in past) (4294967296 + count_at 0 (line (turn l.at.stamp (Target v)) (Made d) ∷ past)) (tree_at head.osts 0 (line (turn l.at.stamp (Target v)) (Made d) ∷ past))) (sym k.ok)
         (made (turn l.at.stamp (Target t)) d (k.of 0 (ap (λ (v : ℕ). nat_eq 0 v) k.ok)) (a d (inl refl)) h)
+    by (Target t) (Evict who cause) k a h = by_own (nat_eq 0 t)
+      where
+        by_own : (b : Bool) → Named (Made_in past) (4294967296 + count_at 0 past) (if b then forget (tree_at head.osts 0 past) who else tree_at head.osts 0 past)
+        by_own true = named_fewer (Made_in past) (4294967296 + count_at 0 past) (tree_at head.osts 0 past) (forget (tree_at head.osts 0 past) who) (λ d n c is. is) h
+        by_own false = h
     by (Target t) Tick k a h = wide Tick h
     by _ e k a h = wide e h
 
@@ -94,7 +102,7 @@ named head (l ∷ past) g = by l.at.node l.entry g.0 (λ d x. acted_asked head (
 -- where each call that reads misses what calls make
 pub granted_none : (head : Head) (past : List Line) → Grown head past → (who : Who) (o : Op) → AskedBy past o → ((k : Call) → Began past k → Misses (Made_in past) k)
     → grants head.osts (tree_at head.osts 0 past) (record { number = none; who = who; op = o }) ≡ []
-granted_none head past g who o a misses = by a.0 o a.2 (misses a.0 a.1)
+granted_none head past g who o a misses = by a.2 a.0 o a.3 (misses a.0 a.1)
   where
     bound : ℕ
     bound = 4294967296 + count_at 0 past
@@ -102,17 +110,19 @@ granted_none head past g who o a misses = by a.0 o a.2 (misses a.0 a.1)
     Free : Op → Type 0
     Free o = grants head.osts (tree_at head.osts 0 past) (record { number = none; who = who; op = o }) ≡ []
 
-    by : (k : Call) (o : Op) → operation_of k ≡ Some o → Misses (Made_in past) k → Free o
-    by (call.Lookup path) o e k = subst Free (op_is (op.Lookup path) o e) (lookup_misses head.osts (tree_at head.osts 0 past) none who (Made_in past) bound (named head past g) path k.0 k.1)
-    by (call.Stat path) o e k = subst Free (op_is (op.Stat path) o e) (stat_misses head.osts (tree_at head.osts 0 past) none who (Made_in past) bound (named head past g) path k.0 k.1)
-    by (call.List path) o e k = subst Free (op_is (op.List path) o e) (list_misses head.osts (tree_at head.osts 0 past) none who (Made_in past) bound (named head past g) path k.0 k.1)
-    by (call.Layout path) o e k = subst Free (op_is (op.Layout path) o e) (layout_misses head.osts (tree_at head.osts 0 past) none who (Made_in past) bound (named head past g) path k)
-    by (call.Mkdir path) o e k = subst Free (op_is (op.Mkdir path) o e) (changing_free head.osts (tree_at head.osts 0 past) none who (op.Mkdir path) tt (λ is. is))
-    by (call.Create path None) o e k = subst Free (op_is (op.Create path 1048576 (pos 1)) o e) (changing_free head.osts (tree_at head.osts 0 past) none who (op.Create path 1048576 (pos 1)) tt (λ is. is))
-    by (call.Create path (Some stripes)) o e k = subst Free (op_is (op.Create path stripes.0 stripes.1) o e) (changing_free head.osts (tree_at head.osts 0 past) none who (op.Create path stripes.0 stripes.1) tt (λ is. is))
-    by (call.Link old new) o e k = subst Free (op_is (op.Link old new) o e) (changing_free head.osts (tree_at head.osts 0 past) none who (op.Link old new) tt (λ is. is))
-    by (call.Unlink path) o e k = subst Free (op_is (op.Unlink path) o e) (changing_free head.osts (tree_at head.osts 0 past) none who (op.Unlink path) tt (λ is. is))
-    by (call.Rmdir path) o e k = subst Free (op_is (op.Rmdir path) o e) (changing_free head.osts (tree_at head.osts 0 past) none who (op.Rmdir path) tt (λ is. is))
-    by (call.Rename old new) o e k = subst Free (op_is (op.Rename old new) o e) (changing_free head.osts (tree_at head.osts 0 past) none who (op.Rename old new) tt (λ is. is))
-    by (call.Chmod path mode) o e k = subst Free (op_is (op.Chmod path mode) o e) (changing_free head.osts (tree_at head.osts 0 past) none who (op.Chmod path mode) tt (λ is. is))
-    by k o e misses = absurd (cc)
+    by : (file : Option HandleFile) (k : Call) (o : Op) → operation_of file k ≡ Some o → Misses (Made_in past) k → Free o
+    by file (call.Lookup path) o e k = subst Free (op_is (op.Lookup path) o e) (lookup_misses head.osts (tree_at head.osts 0 past) none who (Made_in past) bound (named head past g) path k.0 k.1)
+    by file (call.Stat path) o e k = subst Free (op_is (op.Stat path) o e) (stat_misses head.osts (tree_at head.osts 0 past) none who (Made_in past) bound (named head past g) path k.0 k.1)
+    by file (call.List path) o e k = subst Free (op_is (op.List path) o e) (list_misses head.osts (tree_at head.osts 0 past) none who (Made_in past) bound (named head past g) path k.0 k.1)
+    by file (call.Layout path) o e k = subst Free (op_is (op.Layout path) o e) (layout_misses head.osts (tree_at head.osts 0 past) none who (Made_in past) bound (named head past g) path k)
+    by file (call.Mkdir path) o e k = subst Free (op_is (op.Mkdir path) o e) (changing_free head.osts (tree_at head.osts 0 past) none who (op.Mkdir path) tt (λ is. is))
+    by file (call.Create path None) o e k = subst Free (op_is (op.Create path 1048576 (pos 1)) o e) (changing_free head.osts (tree_at head.osts 0 past) none who (op.Create path 1048576 (pos 1)) tt (λ is. is))
+    by file (call.Create path (Some stripes)) o e k = subst Free (op_is (op.Create path stripes.0 stripes.1) o e) (changing_free head.osts (tree_at head.osts 0 past) none who (op.Create path stripes.0 stripes.1) tt (λ is. is))
+    by file (call.Link old new) o e k = subst Free (op_is (op.Link old new) o e) (changing_free head.osts (tree_at head.osts 0 past) none who (op.Link old new) tt (λ is. is))
+    by file (call.Unlink path) o e k = subst Free (op_is (op.Unlink path) o e) (changing_free head.osts (tree_at head.osts 0 past) none who (op.Unlink path) tt (λ is. is))
+    by file (call.Rmdir path) o e k = subst Free (op_is (op.Rmdir path) o e) (changing_free head.osts (tree_at head.osts 0 past) none who (op.Rmdir path) tt (λ is. is))
+    by file (call.Rename old new) o e k = subst Free (op_is (op.Rename old new) o e) (changing_free head.osts (tree_at head.osts 0 past) none who (op.Rename old new) tt (λ is. is))
+    by file (call.Chmod path mode) o e k = subst Free (op_is (op.Chmod path mode) o e) (changing_free head.osts (tree_at head.osts 0 past) none who (op.Chmod path mode) tt (λ is. is))
+    by file (call.Open h path) o e k = subst Free (op_is (op.Open path) o e) (changing_free head.osts (tree_at head.osts 0 past) none who (op.Open path) tt (λ is. is))
+    by (Some f) (call.Close h) o e k = subst Free (op_is (op.Close f.number f.fid) o e) (changing_free head.osts (tree_at head.osts 0 past) none who (op.Close f.number f.fid) tt (λ is. is))
+    by file k o e misses = absurd (cc)

@@ -219,4 +219,6 @@ module _ (osts : ℕ) (t : Tree) (number : Txn) (who : Who) (one : (p q : Path) 
   grants_once (op.Rmdir path) is = changing_once (op.Rmdir path) is (λ r. r)
   grants_once (op.Rename old new) is = changing_once (op.Rename old new) is (λ r. r)
   grants_once (op.Chmod path mode) is = changing_once (op.Chmod path mode) is (λ r. r)
+  grants_once (op.Open path) is = changing_once (op.Open path) is (λ r. r)
+  grants_once (op.Close opened fid) is = changing_once (op.Close opened fid) is (λ r. r)
   grants_once _ is = absurd is

@@ -1,7 +1,8 @@
--- What a client tells from what it knows is what the table answers then: each fact was taught by a reply that it heard, under a
--- lock that it holds, which is granted still. And the transactions that wrote what the answer rests on are committed, or were seen
--- in a reply that it heard.
-use Rattle.std.proofs.Common.{◌≡◌, ℕ, zero, suc, ◌≤◌, Bool, true, false, List, [], ◌∷◌, ◌++◌, ◌⊎◌, inl, inr, ⊎_elim, Some, refl, sym, subst, ap, ◌∙◌}
+-- What a client tells from what it knows is what the table answers then: each fact was taught by a reply that its life heard, under a
+-- lock that it holds, which is granted still, unless that life was evicted. And the transactions that wrote what the answer rests on
+-- are committed, or were seen in a reply that its life heard. A life that was evicted and doesn't know it yet tells what was true when
+-- it was evicted.
+use Rattle.std.proofs.Common.{◌≡◌, ℕ, zero, suc, ◌≤◌, Bool, true, false, List, [], ◌∷◌, ◌++◌, ◌⊎◌, inl, inr, ⊎_elim, Option, Some, refl, sym, subst, ap, ◌∙◌}
 use Rattle.std.specs.Prelude.{nat_eq, ◌==◌, ◌&&◌, ◌||◌, not, if◌then◌else◌}
 use Rattle.std.specs.List.{list_any}
 use Rattle.std.proofs.lemmas.Bool.{cond_both, and_parts, eqb-true}
@@ -21,32 +22,34 @@ use Rattle.lu_part.specs.declared.parts.Part.{Part}
 use Rattle.lu_held.specs.declared.locks.HeldLock.{HeldLock}
 use Rattle.lu_machine.specs.Tree.{Tree}
 use Rattle.lu_machine.specs.Footprint.{answer, touches, Apart}
-use Rattle.lu_words.specs.Carried.{Deed, Flight}
+use Rattle.lu_words.specs.Carried.{Deed, HandleFile, Flight}
 use Rattle.lu_words.specs.Words.{Entry, Heard, Hold, Drop, Life, Learns, Line, line}
 use Rattle.lu_words.specs.Concerns.{concerns, only}
 use Rattle.lu_client_rows.specs.Caches.{held_at}
 use Rattle.lu_client_rows.specs.Facts.{Fact, taught, without_facts, facts_at}
 use Rattle.lu_client_rows.specs.Known.{is_usable}
-use Rattle.lu_covered.specs.Calls.{first_life, operation_of}
+use Rattle.lu_covered.specs.Calls.{life_at, operation_of}
 use Rattle.lu_covered.specs.Known.{notes_at, known_answer}
 use Rattle.lu_covered.specs.TargetStates.{tree_at, committed_at, server_of}
+use Rattle.lu_covered.specs.ClientStates.{life_of}
 use Rattle.lu_covered.specs.Heads.{Head}
-use Rattle.lu_guards.proofs.Guards.{In, HeardNow, HeardOk, LearnsOk, EntryOk, EntryOf, Grown, GrownOf}
+use Rattle.lu_guards.proofs.Guards.{In, name_of, HeardNow, HeardOk, LearnsOk, EntryOk, EntryOf, Grown, GrownOf}
 use Rattle.lu_guards.proofs.Held.{held_is}
 use Rattle.lu_guards.proofs.Lists.{in_append, in_filter}
 use Rattle.lu_guards.proofs.Only.{grown_of}
-use Rattle.lu_guards.proofs.Parts.{tree_is, committed_is}
-use Rattle.lu_facts.proofs.Groups.{turn, Flew, Acted, HoldsAt}
+use Rattle.lu_guards.proofs.Parts.{tree_is, committed_is, life_is_of}
+use Rattle.lu_facts.proofs.Groups.{turn, Flew, Acted, Dead, Evicted, HoldsAt}
+use Rattle.lu_facts.proofs.LockLists.{held_not, is_of_name}
 use Rattle.lu_facts.proofs.Lines.{acted_more}
 use Rattle.lu_facts.proofs.All.{holds_at}
-use Rattle.lu_facts.proofs.KnownPaths.{Usable, Right, known_is_right}
-use Rattle.lu_facts.proofs.Taught.{bound_of, Under, Taught, keeps_taught, first_taught}
+use Rattle.lu_facts.proofs.KnownPaths.{Tells, Usable, Right, known_is_right}
+use Rattle.lu_facts.proofs.Taught.{bound_of, tree_for, Under, Taught, tells_for, keeps_taught, first_taught}
 
 -- ---- at one target
 
 pub taught_at : (head : Head) (past : List Line) → GrownOf head past → Taught head.osts past
 taught_at head [] g = first_taught head.osts
-taught_at head (l ∷ past) g = let h = holds_at head past g.2 in keeps_taught head past l.at.stamp l.at.node l.entry g.0 h.phase h.locks (taught_at head past g.2)
+taught_at head (l ∷ past) g = keeps_taught head past l.at.stamp l.at.node l.entry g.0 g.1 (holds_at head past g.3) (taught_at head past g.3)
 
 pub client_is : (a b : ℕ) → Client a ≡ Client b → a ≡ b
 client_is a b e = cc
@@ -56,32 +59,32 @@ abbrev pub HeardBy : List Line → ℕ → Flight → ReplyTo → Type 0
 HeardBy [] c f r = ⊥
 HeardBy (l ∷ past) c f r = elim l.entry [ Heard t g k ↦ ((l.at.node ≡ Client c) × (g ≡ f) × (k ≡ r)) ⊎ HeardBy past c f r | _ ↦ HeardBy past c f r ]
 
--- it is to what was done for that life and operation
+-- it is to what was done for a life of that client, which it names, and that operation
 abbrev pub Answered : List Line → ℕ → Flight → ReplyTo → Deed → Type 0
-Answered past c f r d = record { acted : Acted past d; who : d.reply.who ≡ first_life c; is : record d.reply { committed = r.committed } ≡ r; op : d.op ≡ f.op }
+Answered past c f r d = record { acted : Acted past d; who : d.reply.who ≡ r.who; client : r.who.client ≡ c; is : record d.reply { committed = r.committed } ≡ r; op : d.op ≡ f.op }
 
 answered_now : (head : Head) (past : List Line) (c : ℕ) (f : Flight) (r : ReplyTo) → HeardOk past c f r → HoldsAt head past → (d : Deed) × Answered past c f r d
 answered_now head past c f r ok h =
     let m = h.done.sent (Target ok.from) (Client c) (message.Reply r) ok.was in
     let d = m.0 in
-    let who : d.reply.who ≡ first_life c = ap (λ (v : ReplyTo). v.who) (sym m.2) ∙ ok.who ∙ h.phase.life c in
+    let who : d.reply.who ≡ r.who = ap (λ (v : ReplyTo). v.who) (sym m.2) in
     let xid : d.reply.xid.0 ≡ f.xid = ap (λ (v : ReplyTo). v.xid.0) (sym m.2) ∙ sym ok.xid in
     let k = h.done.flew d m.1 in
-    let client : d.reply.who.client ≡ c = ap (λ (v : Who). v.client) who in
-    let same : f ≡ k.0 = h.numbers.one c f k.0 (h.numbers.flying c f ok.flying) (subst (λ (v : ℕ). Flew past v k.0) client k.1) (sym xid ∙ sym k.2) in
-    (d, record { acted = m.1; who = who; is = sym m.2; op = sym (ap (λ (v : Flight). v.op) same ∙ k.3) })
+    let w : Who = life_of c past in
+    let same : f ≡ k.0 = h.numbers.one w f k.0 (h.numbers.flying w f ok.flying) (subst (λ (v : Who). Flew past v k.0) (who ∙ ok.who) k.1) (sym xid ∙ sym k.2) in
+    (d, record { acted = m.1; who = who; client = sym m.3; is = sym m.2; op = sym (ap (λ (v : Flight). v.op) same ∙ k.3) })
 
 pub heard_answered : (head : Head) (past : List Line) (c : ℕ) (f : Flight) (r : ReplyTo) → GrownOf head past → HeardBy past c f r → (d : Deed) × Answered past c f r d
 heard_answered head [] c f r g i = absurd i
-heard_answered head (l ∷ past) c f r g i = more (by l.at.node l.entry g.0 i (λ j. heard_answered head past c f r g.2 j))
+heard_answered head (l ∷ past) c f r g i = more (by l.at.node l.entry g.0 i (λ j. heard_answered head past c f r g.3 j))
   where
     more : (d : Deed) × Answered past c f r d → (d : Deed) × Answered (l ∷ past) c f r d
-    more k = (k.0, record { acted = acted_more l.at l.entry past k.0 k.1.acted; who = k.1.who; is = k.1.is; op = k.1.op })
+    more k = (k.0, record { acted = acted_more l.at l.entry past k.0 k.1.acted; who = k.1.who; client = k.1.client; is = k.1.is; op = k.1.op })
 
     by : (node : Node) (e : Entry) → EntryOf head past (turn l.at.stamp node) node e → HeardBy (line (turn l.at.stamp node) e ∷ past) c f r → (HeardBy past c f r → (d : Deed) × Answered past c f r d) → (d : Deed) × Answered past c f r d
     by (Client b) (Heard t x k) ok (inl e) ih =
         let client : b ≡ c = client_is b c e.0 in
-        answered_now head past c f r (subst (λ (v : ℕ). HeardOk past v f r) client (subst (λ (v : Flight). HeardOk past b v r) e.1 (subst (λ (v : ReplyTo). HeardOk past b x v) e.2 ok))) (holds_at head past g.2)
+        answered_now head past c f r (subst (λ (v : ℕ). HeardOk past v f r) client (subst (λ (v : Flight). HeardOk past b v r) e.1 (subst (λ (v : ReplyTo). HeardOk past b x v) e.2 ok))) (holds_at head past g.3)
     by (Client b) (Heard t x k) ok (inr j) ih = ih j
     by (Target u) (Heard t x k) ok j ih = absurd ok
     by node e ok j ih = ih j
@@ -152,7 +155,8 @@ facts_heard head (l ∷ past) c f g i = more (by l.at.node l.entry g.0.ok i (λ 
         (λ _ k. ih k) j
     by (Client b) (Drop t lock) ok j ih =
         cond_both (nat_eq c b) (without_facts t lock (facts_at c past)) (facts_at c past) (λ (fs : List Fact). In f fs → Source past c f) (λ _ k. ih (kept t lock k)) (λ _ k. ih k) j
-    by (Client b) (Life who) ok j ih = absurd ok
+    -- a new life knows nothing
+    by (Client b) (Life who) ok j ih = cond_both (nat_eq c b) [] (facts_at c past) (λ (fs : List Fact). In f fs → Source past c f) (λ _ k. absurd k) (λ _ k. ih k) j
     by (Target u) (Learns t o a locks) ok j ih = absurd ok
     by (Target u) (Drop t lock) ok j ih = absurd ok
     by (Target u) (Life who) ok j ih = absurd ok
@@ -175,15 +179,18 @@ usable_held cookie held e =
     let q = and_parts (r.0.target.0 == 0) (r.0.lock.cookie.0 == cookie.0) p.0 in
     (r.0, r.1, ap (λ (n : ℕ). record { 0 = n }) (eqb-true r.0.lock.cookie.0 cookie.0 q.1))
 
--- the deed that taught it, and its lock, which is granted still
+-- the deed that taught it to the present life, and its lock, which is granted still, unless that life was evicted; it is true of the tree
+-- as that life knows it
 abbrev pub Standing : Head → List Line → ℕ → Fact → Type 0
 Standing head past c f =
     record {
       source : Source past c f;
       deed : Deed;
       answered : Answered (only 0 past) c source.flight source.reply deed;
+      whose : deed.reply.who ≡ life_at c past;
       under : Under head.osts (only 0 past) deed f;
-      granted : In under.lock (server_of head.osts (only 0 past)).granted;
+      granted : In under.lock (server_of head.osts (only 0 past)).granted ⊎ Evicted (only 0 past) (life_at c past);
+      tells : Tells (tree_for head.osts (life_at c past) (only 0 past)) (bound_of head.osts (only 0 past)) f;
     }
 
 fact_of : (past : List Line) (c : ℕ) (x : Flight) (r : ReplyTo) (d : Deed) (f : Fact) → Answered past c x r d → In f (taught x.op r.answer r.locks) → In f (taught d.op d.reply.answer d.reply.locks)
@@ -199,45 +206,72 @@ held_stands head past c f g known h held same_cookie =
     let k = heard_answered head (only 0 past) c s.flight s.reply story (heard_only head past c s.flight s.reply g s.heard) in
     let d = k.0 in
     let under = (taught_at head (only 0 past) story).under d f (k.1.acted, fact_of (only 0 past) c s.flight s.reply d f k.1 s.fact) in
-    let locks = (holds_at head (only 0 past) story).locks in
-    let holding = locks.held c h (subst (λ (v : List HeldLock). In h v) (held_is head c past g) held) in
-    let same = (locks.once d holding.deed under.lock h.lock (k.1.acted, under.among) holding.gave (under.cookie ∙ sym same_cookie)).1 in
+    let at = holds_at head (only 0 past) story in
+    let locks = at.locks in
+    let in_story : In h (held_at c (only 0 past)) = subst (λ (v : List HeldLock). In h v) (held_is head c past g) held in
+    let holding = locks.held c h in_story in
+    let same = locks.once d holding.deed under.lock h.lock (k.1.acted, under.among) holding.gave (under.cookie ∙ sym same_cookie) in
+    let life : life_of c (only 0 past) ≡ life_at c past = sym (life_is_of c 0 past) in
+    let whose : d.reply.who ≡ life_at c past = ap (λ (v : Deed). v.reply.who) same.0 ∙ holding.who ∙ life in
+    let client : d.reply.who.client ≡ c = ap (λ (v : Deed). v.reply.who.client) same.0 ∙ ap (λ (v : Who). v.client) holding.who ∙ at.phase.client c in
     record {
       source = s;
       deed = d;
       answered = k.1;
+      whose = whose;
       under = under;
-      granted = subst (λ (v : Lock). In v (server_of head.osts (only 0 past)).granted) (sym same) holding.granted;
+      granted = ⊎_elim
+          (λ (i : In h.lock (server_of head.osts (only 0 past)).granted). inl (subst (λ (v : Lock). In v (server_of head.osts (only 0 past)).granted) (sym same.1) i))
+          (λ (i : Evicted (only 0 past) (life_of c (only 0 past))). inr (subst (λ (v : Who). Evicted (only 0 past) v) life i))
+          holding.granted;
+      tells = ⊎_elim
+          (λ (x : Dead (only 0 past) d under.lock). absurd (held_alive d under.lock c h x client in_story holding.target (ap (λ (v : Lock). v.cookie) (sym same.1))))
+          (λ (x : Tells (tree_for head.osts d.reply.who (only 0 past)) (bound_of head.osts (only 0 past)) f). subst (λ (v : Who). Tells (tree_for head.osts v (only 0 past)) (bound_of head.osts (only 0 past)) f) whose x)
+          (tells_for head.osts (only 0 past) d f locks under k.1.acted);
     }
+  where
+    -- what is held isn't dead
+    held_alive : (d : Deed) (l : Lock) (b : ℕ) (k : HeldLock) → Dead (only 0 past) d l → d.reply.who.client ≡ b → In k (held_at b (only 0 past)) → k.target.0 ≡ 0 → k.lock.cookie ≡ l.cookie → ⊥
+    held_alive d l b k x client i target e =
+        let no = held_not (name_of l.cookie) (held_at d.reply.who.client (only 0 past)) x.1 k (subst (λ (v : ℕ). In k (held_at v (only 0 past))) (sym client) i) in
+        let yes = is_of_name l.cookie k target (ap (λ (v : Cookie). v.0) e) in
+        absurd (cc)
 
 pub fact_stands : (head : Head) (past : List Line) (c : ℕ) (f : Fact) → Grown head past → Usable (notes_at c past) f → Standing head past c f
 fact_stands head past c f g u = let h = usable_held f.cookie (held_at c past) u.1 in held_stands head past c f g u.0 h.0 h.1 h.2
 
 -- ---- what is told
 
-module _ (head : Head) (past : List Line) (g : Grown head past) (c : ℕ) (number : TxnOf) (who : Who) (k : Call) (o : Op) (a : Answer) (known : known_answer (notes_at c past) k ≡ Some a) (becomes : operation_of k ≡ Some o) where
-  pub right : Right (tree_at head.osts 0 past) (notes_at c past) head.osts number who o a
-  right =
-      let v = server_of head.osts (only 0 past) in
-      subst (λ (t : Tree). Right t (notes_at c past) head.osts number who o a) (sym (tree_is head.osts 0 past))
-      (known_is_right v.tree (bound_of head.osts (only 0 past)) (notes_at c past) (λ f u. let s = fact_stands head past c f g u in s.under.stands s.granted) (taught_at head (only 0 past) (grown_of head 0 past g)).sound.one head.osts number who k o a known becomes)
+-- where the present life wasn't evicted, the lock is granted
+still_granted : (head : Head) (past : List Line) (c : ℕ) (f : Fact) → (Evicted (only 0 past) (life_at c past) → ⊥) → (s : Standing head past c f) → In s.under.lock (server_of head.osts (only 0 past)).granted
+still_granted head past c f present s =
+    ⊎_elim (λ (i : In s.under.lock (server_of head.osts (only 0 past)).granted). i) (λ (i : Evicted (only 0 past) (life_at c past)). absurd (present i)) s.granted
 
-  -- it is what the table answers
-  pub known_right : a ≡ answer head.osts (tree_at head.osts 0 past) (record { number = number; who = who; op = o })
-  known_right = right.same
-
-  -- a number that was seen in a reply that the client heard
+module _ (head : Head) (past : List Line) (g : Grown head past) (c : ℕ) (number : TxnOf) (who : Who) (file : Option HandleFile) (k : Call) (o : Op) (a : Answer) (known : known_answer (notes_at c past) k ≡ Some a) (becomes : operation_of file k ≡ Some o) where
+  -- a number that was seen in a reply that the present life heard
   abbrev pub SawBy : ℕ → Type 0
-  SawBy n = record { flight : Flight; reply : ReplyTo; heard : HeardBy past c flight reply; seen : In n reply.seen }
+  SawBy n = record { flight : Flight; reply : ReplyTo; heard : HeardBy past c flight reply; of : reply.who ≡ life_at c past; seen : In n reply.seen }
 
-  -- each transaction that wrote what it looks at is committed, or was seen
-  pub known_saw : (p : Part) → In p (touches head.osts (tree_at head.osts 0 past) (record { number = number; who = who; op = o })) → (e : Deed) → Acted (only 0 past) e → Apart e.writes p ⊎ ((e.reply.txn.0 ≤ (committed_at 0 past).0) ⊎ SawBy e.reply.txn.0)
-  known_saw p i e b =
-      let f = right.looks p i in
-      let s = fact_stands head past c f.0 g f.1 in
-      by s (subst (λ (q : Part). Apart e.writes q ⊎ ((e.reply.txn.0 ≤ (server_of head.osts (only 0 past)).committed.0) ⊎ In e.reply.txn.0 s.deed.reply.seen)) (sym f.2) (s.under.saw s.granted e b))
-    where
-      by : {f : Fact} (s : Standing head past c f) → Apart e.writes p ⊎ ((e.reply.txn.0 ≤ (server_of head.osts (only 0 past)).committed.0) ⊎ In e.reply.txn.0 s.deed.reply.seen) → Apart e.writes p ⊎ ((e.reply.txn.0 ≤ (committed_at 0 past).0) ⊎ SawBy e.reply.txn.0)
-      by s (inl q) = inl q
-      by s (inr (inl le)) = inr (inl (subst (λ (m : TxnOf). e.reply.txn.0 ≤ m.0) (sym (committed_is head.osts 0 past)) le))
-      by s (inr (inr j)) = inr (inr (record { flight = s.source.flight; reply = s.source.reply; heard = s.source.heard; seen = subst (λ (ns : List ℕ). In e.reply.txn.0 ns) (ap (λ (v : ReplyTo). v.seen) s.answered.is) j }))
+  module _ (present : Evicted (only 0 past) (life_at c past) → ⊥) where
+    pub right : Right (tree_at head.osts 0 past) (notes_at c past) head.osts number who o a
+    right =
+        let v = server_of head.osts (only 0 past) in
+        subst (λ (t : Tree). Right t (notes_at c past) head.osts number who o a) (sym (tree_is head.osts 0 past))
+        (known_is_right v.tree (bound_of head.osts (only 0 past)) (notes_at c past) (λ f u. let s = fact_stands head past c f g u in s.under.stands (still_granted head past c f present s))
+        (taught_at head (only 0 past) (grown_of head 0 past g)).sound.one head.osts number who file k o a known becomes)
+
+    -- it is what the table answers
+    pub known_right : a ≡ answer head.osts (tree_at head.osts 0 past) (record { number = number; who = who; op = o })
+    known_right = right.same
+
+    -- each transaction that wrote what it looks at is committed, or was seen
+    pub known_saw : (p : Part) → In p (touches head.osts (tree_at head.osts 0 past) (record { number = number; who = who; op = o })) → (e : Deed) → Acted (only 0 past) e → Apart e.writes p ⊎ ((e.reply.txn.0 ≤ (committed_at 0 past).0) ⊎ SawBy e.reply.txn.0)
+    known_saw p i e b =
+        let f = right.looks p i in
+        let s = fact_stands head past c f.0 g f.1 in
+        by s (subst (λ (q : Part). Apart e.writes q ⊎ ((e.reply.txn.0 ≤ (server_of head.osts (only 0 past)).committed.0) ⊎ In e.reply.txn.0 s.deed.reply.seen)) (sym f.2) (s.under.saw (still_granted head past c f.0 present s) e b))
+      where
+        by : {f : Fact} (s : Standing head past c f) → Apart e.writes p ⊎ ((e.reply.txn.0 ≤ (server_of head.osts (only 0 past)).committed.0) ⊎ In e.reply.txn.0 s.deed.reply.seen) → Apart e.writes p ⊎ ((e.reply.txn.0 ≤ (committed_at 0 past).0) ⊎ SawBy e.reply.txn.0)
+        by s (inl q) = inl q
+        by s (inr (inl le)) = inr (inl (subst (λ (m : TxnOf). e.reply.txn.0 ≤ m.0) (sym (committed_is head.osts 0 past)) le))
+        by s (inr (inr j)) = inr (inr (record { flight = s.source.flight; reply = s.source.reply; heard = s.source.heard; of = sym s.answered.who ∙ s.whose; seen = subst (λ (ns : List ℕ). In e.reply.txn.0 ns) (ap (λ (v : ReplyTo). v.seen) s.answered.is) j }))

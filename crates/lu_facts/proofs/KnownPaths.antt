@@ -28,6 +28,7 @@ use Rattle.lu_machine.proofs.Keys.{Told, name_tells}
 use Rattle.lu_machine.proofs.Outcomes.{IsReached}
 use Rattle.lu_client_rows.specs.Facts.{Fact}
 use Rattle.lu_client_rows.specs.Known.{Notes, Found, same_part, is_usable, lesser, of_least_cookie, fact_on, nothing_found, with_cookie, walked, found_at_path, known_of, known_with, list_at, layout_at, directory_at}
+use Rattle.lu_words.specs.Carried.{HandleFile}
 use Rattle.lu_covered.specs.Calls.{operation_of}
 use Rattle.lu_covered.specs.Known.{told_of, known_answer}
 use Rattle.lu_guards.proofs.Guards.{In}
@@ -124,7 +125,7 @@ looked_first n name f q p ps (inr j) more = more j
 abbrev after_name : Notes → List (List ℕ) → Option Fact → Found
 after_name n names o = elim o [ None ↦ nothing_found | Some f ↦ with_cookie f.cookie (walked n names f.answer) ]
 
--- an answer is what the table gives, and told as it is; and each part that the operation looks at is known
+-- an answer is what the table gives, and told at once; and each part that the operation looks at is known
 abbrev pub Right : Tree → Notes → ℕ → Txn → Who → Op → Answer → Type 0
 Right t n osts number who o a =
     record {
@@ -273,9 +274,9 @@ module _ (t : Tree) (bound : ℕ) (n : Notes) (true_all : (f : Fact) → Usable 
             }))
         by o q h = absurd (cc)
 
-    pub known_is_right : (osts : ℕ) (number : Txn) (who : Who) (k : Call) (o : Op) (a : Answer) → known_answer n k ≡ Some a → operation_of k ≡ Some o → Right t n osts number who o a
-    known_is_right osts number who (call.Lookup path) o a e becomes = subst (λ (x : Op). Right t n osts number who x a) (some_is (op.Lookup path) o becomes) (let r = lookup_right path a e in record { reads = tt; plain = r.plain; same = r.same; looks = r.looks })
-    known_is_right osts number who (call.List path) o a e becomes = subst (λ (x : Op). Right t n osts number who x a) (some_is (op.List path) o becomes) (let r = list_right path a e in record { reads = tt; plain = r.plain; same = r.same; looks = r.looks })
-    known_is_right osts number who (call.Layout path) o a e becomes = subst (λ (x : Op). Right t n osts number who x a) (some_is (op.Layout path) o becomes) (let r = layout_right path a e in record { reads = tt; plain = r.plain; same = r.same; looks = r.looks })
-    known_is_right osts number who (call.Stat path) o a e becomes = subst (λ (x : Op). Right t n osts number who x a) (some_is (op.Stat path) o becomes) (let r = stat_right path a e in record { reads = tt; plain = r.plain; same = r.same; looks = r.looks })
-    known_is_right osts number who k o a e becomes = absurd (cc)
+    pub known_is_right : (osts : ℕ) (number : Txn) (who : Who) (file : Option HandleFile) (k : Call) (o : Op) (a : Answer) → known_answer n k ≡ Some a → operation_of file k ≡ Some o → Right t n osts number who o a
+    known_is_right osts number who file (call.Lookup path) o a e becomes = subst (λ (x : Op). Right t n osts number who x a) (some_is (op.Lookup path) o becomes) (let r = lookup_right path a e in record { reads = tt; plain = r.plain; same = r.same; looks = r.looks })
+    known_is_right osts number who file (call.List path) o a e becomes = subst (λ (x : Op). Right t n osts number who x a) (some_is (op.List path) o becomes) (let r = list_right path a e in record { reads = tt; plain = r.plain; same = r.same; looks = r.looks })
+    known_is_right osts number who file (call.Layout path) o a e becomes = subst (λ (x : Op). Right t n osts number who x a) (some_is (op.Layout path) o becomes) (let r = layout_right path a e in record { reads = tt; plain = r.plain; same = r.same; looks = r.looks })
+    known_is_right osts number who file (call.Stat path) o a e becomes = subst (λ (x : Op). Right t n osts number who x a) (some_is (op.Stat path) o becomes) (let r = stat_right path a e in record { reads = tt; plain = r.plain; same = r.same; looks = r.looks })
+    known_is_right osts number who file k o a e becomes = absurd (cc)

@@ -3,9 +3,14 @@ pub mod Phase
 pub mod Numbers
 pub mod Done
 pub mod LockLists
+pub mod LocksStay
+pub mod LocksSaid
 pub mod Locks
+pub mod LifeLists
+pub mod Lives
 pub mod Lines
 pub mod Calls
+pub mod Endings
 pub mod Asks
 pub mod Times
 pub mod Replies
@@ -19,6 +24,8 @@ pub mod Named
 pub mod Readings
 pub mod Inodes
 pub mod Finds
+pub mod Transactions
+pub mod Opens
 pub mod Files
 pub mod Unlocked
 pub mod Refused

@@ -1,17 +1,20 @@
 -- What a line does, and that each line of a grown past is allowed at each target that it concerns.
-use Rattle.std.proofs.Common.{◌≡◌, ℕ, true, List, [], ◌∷◌, ◌++◌, ◌⊎◌, inl, inr, ⊎_elim, sym, ap, ◌∙◌}
+use Rattle.std.proofs.Common.{◌≡◌, ℕ, Bool, true, false, List, [], ◌∷◌, ◌++◌, ◌⊎◌, inl, inr, ⊎_elim, refl, sym, ap, ◌∙◌}
+use Rattle.std.specs.Prelude.{nat_eq, if◌then◌else◌}
 use Rattle.std.proofs.lemmas.Bool.{cond_both}
 use Rattle.lu_base.specs.declared.ids.At.{At}
 use Rattle.lu_base.specs.declared.ids.Node.{Node}
 use Rattle.lu_base.specs.declared.ids.Node.TheVariants.{Client, Target}
 use Rattle.lu_base.specs.declared.ids.Stamp.{Stamp}
+use Rattle.lu_base.specs.declared.ids.Who.{Who}
 use Rattle.lu_words.specs.Carried.{Deed, Flight}
-use Rattle.lu_words.specs.Words.{Entry, Flies, Act, Txn, Line, line}
+use Rattle.lu_words.specs.Words.{Entry, Life, Flies, Heard, Act, Txn, Line, line, same_life}
 use Rattle.lu_words.specs.Concerns.{concerns, only}
+use Rattle.lu_covered.specs.ClientStates.{life_of, is_own}
 use Rattle.lu_covered.specs.Heads.{Head}
 use Rattle.lu_guards.proofs.Guards.{EntryOk, EntryOf, Grown}
 use Rattle.lu_guards.proofs.Lists.{self}
-use Rattle.lu_facts.proofs.Groups.{turn, Acted, Flew}
+use Rattle.lu_facts.proofs.Groups.{turn, Acted, Flew, Hears}
 
 -- ---- what an entry does
 
@@ -48,6 +51,26 @@ only_more t l past d a =
     (λ q. acted_more l.at l.entry (only t past) d a)
     (λ q. a)
 
+pub acted_whole : (t : ℕ) (past : List Line) (d : Deed) → Acted (only t past) d → Acted past d
+acted_whole t [] d a = a
+acted_whole t (l ∷ past) d a =
+    ⊎_elim
+    (λ (p : DoneBy l.entry d). acted_here l.at l.entry past d p)
+    (λ (p : Acted (only t past) d). acted_more l.at l.entry past d (acted_whole t past d p))
+    (only_acted t l past d a)
+
+-- ---- what was heard
+
+hears_more : (l : Line) (past : List Line) (who : Who) (x : ℕ) → Hears past who x → Hears (l ∷ past) who x
+hears_more l past who x a = by l.entry
+  where
+    by : (e : Entry) → Hears (line l.at e ∷ past) who x
+    by (Heard t f r) = inr a
+    by _ = a
+
+pub hears_only : (l : Line) (past : List Line) (who : Who) (x : ℕ) → Hears (only 0 past) who x → Hears (only 0 (l ∷ past)) who x
+hears_only l past who x a = cond_both (concerns 0 l.at.node l.entry) (l ∷ only 0 past) (only 0 past) (λ (p : List Line). Hears p who x) (λ t. hears_more l (only 0 past) who x a) (λ t. a)
+
 -- ---- what a line is allowed by, at each target that it concerns
 
 abbrev pub AtEach : Head → List Line → At → Node → Entry → Type 0
@@ -71,24 +94,47 @@ grown_before head (l ∷ new) past g = grown_before head new past g.1
 
 -- ---- what was asked: of one target, and of all
 
-flew_more : (l : Line) (past : List Line) (c : ℕ) (f : Flight) → Flew past c f → Flew (l ∷ past) c f
-flew_more l past c f a = by l.entry
+-- a client's life is about all targets
+pub life_only : (c t : ℕ) (past : List Line) → life_of c (only t past) ≡ life_of c past
+life_only c t [] = refl
+life_only c t (l ∷ past) = by l.at.node l.entry (life_only c t past)
   where
-    by : (e : Entry) → Flew (line l.at e ∷ past) c f
+    P : List Line
+    P = only t past
+
+    -- another entry leaves it, whether or not its line concerns the target
+    quiet : (node : Node) (e : Entry) (b : Bool) → life_of c P ≡ life_of c (line (turn l.at.stamp node) e ∷ past) → life_of c (line (turn l.at.stamp node) e ∷ P) ≡ life_of c P
+        → life_of c (if b then line (turn l.at.stamp node) e ∷ P else P) ≡ life_of c (line (turn l.at.stamp node) e ∷ past)
+    quiet node e true ih q = q ∙ ih
+    quiet node e false ih q = ih
+
+    by : (node : Node) (e : Entry) → life_of c P ≡ life_of c past → life_of c (if concerns t node e then line (turn l.at.stamp node) e ∷ P else P) ≡ life_of c (line (turn l.at.stamp node) e ∷ past)
+    by (Client d) (Life who) ih = ap (λ (v : Who). if nat_eq c d then who else v) ih
+    by (Target u) (Life who) ih = quiet (Target u) (Life who) (nat_eq t u) ih refl
+    by node e ih = quiet node e (concerns t node e) ih refl
+
+pub own_only : (who : Who) (t : ℕ) (past : List Line) (node : Node) → is_own who (only t past) node ≡ is_own who past node
+own_only who t past (Client c) = ap (λ v. same_life who v) (life_only c t past)
+own_only who t past (Target u) = refl
+
+flew_more : (l : Line) (past : List Line) (who : Who) (f : Flight) → Flew past who f → Flew (l ∷ past) who f
+flew_more l past who f a = by l.entry
+  where
+    by : (e : Entry) → Flew (line l.at e ∷ past) who f
     by (Flies t g) = inr a
     by _ = a
 
-flew_either : (l : Line) (past new : List Line) (c : ℕ) (f : Flight) → (Flew past c f → Flew new c f) → Flew (l ∷ past) c f → Flew (l ∷ new) c f
-flew_either l past new c f h a = by l.entry a
+flew_either : (l : Line) (past new : List Line) (who : Who) (f : Flight) → is_own who past l.at.node ≡ is_own who new l.at.node → (Flew past who f → Flew new who f) → Flew (l ∷ past) who f → Flew (l ∷ new) who f
+flew_either l past new who f same h a = by l.entry a
   where
-    by : (e : Entry) → Flew (line l.at e ∷ past) c f → Flew (line l.at e ∷ new) c f
-    by (Flies t g) a = ⊎_elim (λ (p : (l.at.node ≡ Client c) × (g ≡ f)). inl p) (λ (p : Flew past c f). inr (h p)) a
+    by : (e : Entry) → Flew (line l.at e ∷ past) who f → Flew (line l.at e ∷ new) who f
+    by (Flies t g) a = ⊎_elim (λ (p : (is_own who past l.at.node ≡ true) × (g ≡ f)). inl (sym same ∙ p.0, p.1)) (λ (p : Flew past who f). inr (h p)) a
     by _ a = h a
 
-pub flew_whole : (t : ℕ) (past : List Line) (c : ℕ) (f : Flight) → Flew (only t past) c f → Flew past c f
-flew_whole t [] c f a = a
-flew_whole t (l ∷ past) c f a =
-    cond_both (concerns t l.at.node l.entry) (l ∷ only t past) (only t past) (λ (p : List Line). Flew p c f → Flew (l ∷ past) c f)
-    (λ i b. flew_either l (only t past) past c f (flew_whole t past c f) b)
-    (λ i b. flew_more l past c f (flew_whole t past c f b))
+pub flew_whole : (t : ℕ) (past : List Line) (who : Who) (f : Flight) → Flew (only t past) who f → Flew past who f
+flew_whole t [] who f a = a
+flew_whole t (l ∷ past) who f a =
+    cond_both (concerns t l.at.node l.entry) (l ∷ only t past) (only t past) (λ (p : List Line). Flew p who f → Flew (l ∷ past) who f)
+    (λ i b. flew_either l (only t past) past who f (own_only who t past l.at.node) (flew_whole t past who f) b)
+    (λ i b. flew_more l past who f (flew_whole t past who f b))
     a

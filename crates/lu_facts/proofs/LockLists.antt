@@ -1,6 +1,6 @@
 -- Lists of locks: which are granted after an act, and which are held after a line.
-use Rattle.std.proofs.Common.{◌≡◌, ℕ, ◌+◌, ◌<◌, ◌≤◌, Bool, true, false, List, [], ◌∷◌, ◌⊎◌, inl, inr, ⊎_elim, refl, sym, subst, ap, ◌∙◌, arith}
-use Rattle.std.specs.Prelude.{nat_eq, nat_lt, max, map, not, ◌&&◌, if◌then◌else◌}
+use Rattle.std.proofs.Common.{◌≡◌, ℕ, ◌+◌, ◌<◌, Bool, true, false, List, [], ◌∷◌, ◌⊎◌, inl, inr, ⊎_elim, refl, sym, subst, ap, ◌∙◌, arith}
+use Rattle.std.specs.Prelude.{nat_eq, nat_lt, map, not, ◌&&◌, ◌||◌, if◌then◌else◌}
 use Rattle.std.specs.List.{filter}
 use Rattle.std.proofs.lemmas.Bool.{and_parts, and_from, or_parts, or_from, cond_both, eqb-true, eq-eqb}
 use Rattle.lu_base.specs.declared.ids.Cookie.{Cookie}
@@ -16,12 +16,14 @@ use Rattle.lu_held.specs.declared.names.LockName.{LockName}
 use Rattle.lu_held.specs.Locks.{is_named, after}
 use Rattle.lu_held.specs.Locks as held
 use Rattle.lu_held.specs.Held.{is_held, changed, without, used}
-use Rattle.lu_target_rows.specs.Locks.{with_lock, with_locks}
+use Rattle.lu_target_rows.specs.Lives.{is_life}
+use Rattle.lu_target_rows.specs.Locks.{with_lock, with_locks, locks_without}
 use Rattle.lu_target_rows.specs.Names.{locks_from}
-use Rattle.lu_target_rows.specs.Phase.{greatest_cookie}
+use Rattle.lu_words.specs.Words.{same_life}
 use Rattle.lu_client_rows.specs.Caches.{held_as, with_held, with_brought}
 use Rattle.lu_guards.proofs.Guards.{In, name_of}
-use Rattle.lu_guards.proofs.Lists.{in_append, in_filter}
+use Rattle.lu_guards.proofs.Lists.{in_append, in_filter, in_filtered, life_is}
+use Rattle.lu_guards.proofs.ClientLocks.{in_map}
 
 -- ---- the locks of an act: of one life, for reading, each with a cookie of its own above the greatest one
 
@@ -52,17 +54,6 @@ from_once cookie who (want ∷ wants) l k (inr i) (inl q) e =
     let y = from_high (cookie + 1) who wants l i in
     absurd (omega arith)
 from_once cookie who (want ∷ wants) l k (inr i) (inr j) e = from_once (cookie + 1) who wants l k i j e
-
--- ---- the greatest cookie
-
-pub greatest_low : (n : ℕ) (ls : List Lock) → n ≤ greatest_cookie n ls
-greatest_low n [] = omega arith
-greatest_low n (l ∷ ls) = let h = greatest_low (max n l.cookie.0) ls in omega arith
-
-pub greatest_in : (n : ℕ) (ls : List Lock) (l : Lock) → In l ls → l.cookie.0 ≤ greatest_cookie n ls
-greatest_in n [] l i = absurd i
-greatest_in n (k ∷ ls) l (inl e) = let h = greatest_low (max n k.cookie.0) ls in let q : k.cookie.0 ≡ l.cookie.0 = ap (λ (v : Lock). v.cookie.0) e in omega arith
-greatest_in n (k ∷ ls) l (inr i) = greatest_in (max n k.cookie.0) ls l i
 
 -- ---- granted locks
 
@@ -117,6 +108,26 @@ withs_new (l ∷ ls) x ks one (inl e) =
     with_same i = subst (λ (v : Lock). In v (with_lock l ks)) e i
 withs_new (l ∷ ls) x ks one (inr i) = withs_new ls x (with_lock l ks) (λ y j. one y (inr j)) i
 
+-- ---- what a life that is evicted leaves
+
+-- one of that life, or of another
+leaving_or : (w who : Who) → (is_life w (who ∷ []) ≡ false) ⊎ (w ≡ who)
+leaving_or w who = by (same_life w who) refl
+  where
+    by : (b : Bool) → same_life w who ≡ b → ((b || false) ≡ false) ⊎ (w ≡ who)
+    by true e = inr (life_is w who e)
+    by false e = inl refl
+
+pub leaves_or : (who : Who) (ls : List Lock) (l : Lock) → In l ls → In l (locks_without (who ∷ []) ls) ⊎ (l.ask.who ≡ who)
+leaves_or who ls l i =
+    ⊎_elim
+    (λ (e : is_life l.ask.who (who ∷ []) ≡ false). inl (in_filtered (λ (k : Lock). not (is_life k.ask.who (who ∷ []))) l ls i (ap not e)))
+    (λ (e : l.ask.who ≡ who). inr e)
+    (leaving_or l.ask.who who)
+
+pub left_in : (who : Who) (ls : List Lock) (l : Lock) → In l (locks_without (who ∷ []) ls) → In l ls
+left_in who ls l i = (in_filter (λ (k : Lock). not (is_life k.ask.who (who ∷ []))) l ls i).0
+
 -- ---- held locks by name
 
 pub held_not : (n : LockName) (hs : List HeldLock) → is_held n hs ≡ false → (h : HeldLock) → In h hs → is_named n h ≡ false
@@ -156,11 +167,6 @@ kept_not n old new k e = not_held n new named
         ap (λ (t : TargetId). nat_eq n.target.0 t.0 && nat_eq n.cookie.0 h.lock.cookie.0) (sym g.2)
         ∙ ap (λ (l : Lock). nat_eq n.target.0 g.0.target.0 && nat_eq n.cookie.0 l.cookie.0) (sym g.3)
         ∙ held_not n old e g.0 g.1
-
-in_map : {A B : Type 0} (f : A → B) (y : B) (xs : List A) → In y (map f xs) → (x : A) × In x xs × (f x ≡ y)
-in_map f y [] i = absurd i
-in_map f y (x ∷ xs) (inl e) = (x, inl refl, e)
-in_map f y (x ∷ xs) (inr i) = let r = in_map f y xs i in (r.0, inr r.1, r.2)
 
 after_same : (change : Change) (g : HeldLock) → ((after change g).target ≡ g.target) × ((after change g).lock ≡ g.lock)
 after_same Mark g = (refl, refl)

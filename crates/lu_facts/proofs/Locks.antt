@@ -1,193 +1,44 @@
 -- Locks at one target: each lock that an act gave is granted, or dead, which means that the reply that brings it was heard and its
--- client holds it no more. What is held came with a reply that was heard, and is granted; what is given back is dead.
-use Rattle.std.proofs.Common.{◌≡◌, ℕ, ◌<◌, ◌≤◌, Bool, true, false, List, [], ◌∷◌, Option, Some, ◌⊎◌, inl, inr, ⊎_elim, refl, sym, subst, ap, ◌∙◌, arith}
-use Rattle.std.specs.Prelude.{nat_eq, not, ◌&&◌}
+-- client holds it no more, or its life was evicted. What is held came with a reply that its life heard, and is granted, unless that
+-- life was evicted; what is given back is dead.
+use Rattle.std.proofs.Common.{◌≡◌, ℕ, ◌<◌, Bool, true, false, List, [], ◌∷◌, Some, ◌⊎◌, inl, inr, ⊎_elim, refl, sym, subst, ap, ◌∙◌, arith}
+use Rattle.std.specs.Prelude.{nat_eq, not, ◌&&◌, if◌then◌else◌}
 use Rattle.std.proofs.lemmas.Bool.{cond_both, eqb-true, eqb-false, not-true}
 use Rattle.lu_base.specs.declared.ids.At.{At}
 use Rattle.lu_base.specs.declared.ids.Cookie.{Cookie}
 use Rattle.lu_base.specs.declared.ids.Node.{Node}
 use Rattle.lu_base.specs.declared.ids.Node.TheVariants.{Client, Target}
 use Rattle.lu_base.specs.declared.ids.Stamp.{Stamp}
-use Rattle.lu_base.specs.declared.ids.TargetId.{TargetId}
 use Rattle.lu_base.specs.declared.ids.Txn.{Txn as TxnOf}
 use Rattle.lu_base.specs.declared.ids.Who.{Who}
+use Rattle.lu_base.specs.declared.locks.Cause.{Cause}
 use Rattle.lu_base.specs.declared.locks.Lock.{Lock}
 use Rattle.lu_base.specs.declared.locks.Mode.TheVariants.{PR}
-use Rattle.lu_msg.specs.declared.messages.Message.{Message}
 use Rattle.lu_msg.specs.declared.messages.Message.TheVariants as message
 use Rattle.lu_msg.specs.declared.messages.Reply.{Reply as ReplyTo}
 use Rattle.lu_msg.specs.declared.operations.Op.{Op}
 use Rattle.lu_msg.specs.declared.operations.Op.TheVariants as op
 use Rattle.lu_machine.specs.Tree.{Tree}
 use Rattle.lu_machine.specs.Footprint.{answer, grants}
-use Rattle.lu_held.specs.declared.locks.Change.TheVariants.{Mark, Pin, Unpin}
 use Rattle.lu_held.specs.declared.locks.HeldLock.{HeldLock}
-use Rattle.lu_held.specs.declared.names.LockName.{LockName}
 use Rattle.lu_held.specs.Locks.{is_named, named}
-use Rattle.lu_held.specs.Held.{is_held, changed, used, without}
+use Rattle.lu_held.specs.Held.{is_held, without}
 use Rattle.lu_words.specs.Carried.{Deed, Flight}
-use Rattle.lu_words.specs.Words.{Entry, Send, Heard, Hold, Drop, Pins, Unpins, Marks, Unmarks, Act, Txn as Made, Release, Line, line, same_life}
+use Rattle.lu_words.specs.Words.{Entry, Send, Heard, Hold, Drop, Life, Pins, Unpins, Marks, Unmarks, Act, Txn as Made, Release, Evict, Line, line, same_life}
 use Rattle.lu_target_rows.specs.Objects.{lock_of}
-use Rattle.lu_client_rows.specs.Caches.{held_as, with_held, with_brought, granted_lock, brought, held_at}
-use Rattle.lu_covered.specs.TargetStates.{Server, none, server_of, next_number}
+use Rattle.lu_client_rows.specs.Caches.{held_as, with_brought, granted_lock, brought, held_at}
+use Rattle.lu_covered.specs.TargetStates.{Server, none, server_of, evicted_of, shown_of, next_number}
 use Rattle.lu_covered.specs.Deeds.{asked}
-use Rattle.lu_covered.specs.Calls.{first_life}
-use Rattle.lu_covered.specs.ClientStates.{flights_of}
+use Rattle.lu_covered.specs.ClientStates.{life_of, is_own}
 use Rattle.lu_covered.specs.Heads.{Head}
-use Rattle.lu_guards.proofs.Guards.{In, Was, name_of, Dropped, HeardOk, HeldOk, DropOk, CancelOk, CallsOk, ActOk, TxnOk, ReleaseOk, SendOf, EntryOf, IsOfFirst}
-use Rattle.lu_guards.proofs.Lists.{in_append, in_filter, in_filtered}
-use Rattle.lu_facts.proofs.Groups.{turn, Flew, Acted, Hears, Phase, Numbers, Done, Gave, Dead, Holding, Called, Gone, GivenBack, Locks}
-use Rattle.lu_facts.proofs.Numbers.{client_is}
-use Rattle.lu_facts.proofs.LockLists.{from_high, from_who, from_mode, from_once, greatest_low, greatest_in, withs_in, withs_old, withs_new, held_not, not_held, is_of_name, not_of_name, Kept, kept_same, kept_not, changed_kept, used_in, with_held_in, brought_in}
-
--- ---- what only grows
-
-record Grows (past new : List Line) : Type 0 where
-  acted : (d : Deed) → Acted past d → Acted new d
-  hears : (c x : ℕ) → Hears past c x → Hears new c x
-
--- what is dead stays so
-abbrev StaysDead : (past new : List Line) → Type 0
-StaysDead past new = (d : Deed) (l : Lock) → Gave past d l → Dead past d l → Dead new d l
-
-called_more : (past new : List Line) → Grows past new → (c : ℕ) (who : Who) (cookie : Cookie) → Called past c who cookie → Called new c who cookie
-called_more past new g c who cookie h = record { deed = h.deed; lock = h.lock; gave = (g.acted h.deed h.gave.0, h.gave.1); is = h.is; of = h.of; to = h.to }
-
-given_more : (past new : List Line) → Grows past new → StaysDead past new → (who : Who) (boot : ℕ) (cookie : Cookie) → GivenBack past who boot cookie → GivenBack new who boot cookie
-given_more past new g dead who boot cookie h =
-    record { deed = h.deed; lock = h.lock; gave = (g.acted h.deed h.gave.0, h.gave.1); is = h.is; of = h.of; dead = dead h.deed h.lock h.gave h.dead; first = h.first }
-
--- ---- lines that neither give nor take locks, and bring none to a client
-
-record Stays (osts : ℕ) (past new : List Line) : Type 0 where
-  grows : Grows past new
-  before : (d : Deed) (l : Lock) → Gave new d l → Gave past d l
-  granted : (server_of osts new).granted ≡ (server_of osts past).granted
-  cookie : (server_of osts new).cookie ≡ (server_of osts past).cookie
-  kept : (c : ℕ) (h : HeldLock) → In h (held_at c new) → Kept (held_at c past) h
-
--- what is said of locks, as it was
-record SaysAsBefore (past new : List Line) : Type 0 where
-  was : (from to : Node) (m : Message) → Was new from to m → Was past from to m
-  gone : (c : ℕ) (cookie : Cookie) → Gone new c cookie → Gone past c cookie
-  acted : (d : Deed) → Acted new d → Acted past d
-
--- or as it is said now
-record Says (past : List Line) : Type 0 where
-  blocks : (from : Node) (c : ℕ) (who : Who) (boot : ℕ) (cookie : Cookie) → Was past from (Client c) (message.Block who boot cookie) → Called past c who cookie
-  cancels : (from to : Node) (who : Who) (boot : ℕ) (cookie : Cookie) → Was past from to (message.Cancel who boot cookie) → GivenBack past who boot cookie
-  gone : (c : ℕ) (cookie : Cookie) → Gone past c cookie → GivenBack past (first_life c) 1 cookie
-  answers : (d : Deed) → Acted past d → (r : ReplyTo) → granted_lock d.op r d.reply.answer ≡ []
-
-module _ (osts : ℕ) (past new : List Line) (s : Stays osts past new) (h : Locks osts past) where
-  stays_dead : StaysDead past new
-  stays_dead d l g x = (
-    s.grows.hears d.reply.who.client d.reply.xid.0 x.0,
-    kept_not (name_of l.cookie) (held_at d.reply.who.client past) (held_at d.reply.who.client new) (s.kept d.reply.who.client) x.1,
-  )
-
-  granted_still : (l : Lock) → In l (server_of osts past).granted → In l (server_of osts new).granted
-  granted_still l i = subst (λ (ls : List Lock). In l ls) (sym s.granted) i
-
-  holding_still : (c : ℕ) (k : HeldLock) → Kept (held_at c past) k → Holding osts new c k
-  holding_still c k o =
-      let r = h.held c o.0 o.1 in
-      record {
-        target = ap (λ t. t.0) (sym o.2) ∙ r.target;
-        deed = r.deed;
-        gave = (s.grows.acted r.deed r.gave.0, subst (λ (l : Lock). In l r.deed.reply.locks) o.3 r.gave.1);
-        who = r.who;
-        heard = s.grows.hears c r.deed.reply.xid.0 r.heard;
-        granted = subst (λ (l : Lock). In l (server_of osts new).granted) o.3 (granted_still o.0.lock r.granted);
-      }
-
-  says_still : SaysAsBefore past new → Says new
-  says_still y =
-      record {
-        blocks = λ from c who boot cookie w. called_more past new s.grows c who cookie (h.blocks from c who boot cookie (y.was from (Client c) (message.Block who boot cookie) w));
-        cancels = λ from to who boot cookie w. given_more past new s.grows stays_dead who boot cookie (h.cancels from to who boot cookie (y.was from to (message.Cancel who boot cookie) w));
-        gone = λ c cookie w. given_more past new s.grows stays_dead (first_life c) 1 cookie (h.gone c cookie (y.gone c cookie w));
-        answers = λ d a. h.answers d (y.acted d a);
-      }
-
-  locks_stay : Says new → Locks osts new
-  locks_stay y =
-      record {
-        whose = λ d l g. h.whose d l (s.before d l g);
-        readers = λ d l g. h.readers d l (s.before d l g);
-        low = λ d l g. subst (λ n. l.cookie.0 ≤ n) (sym s.cookie) (h.low d l (s.before d l g));
-        once = λ d e l k g f q. h.once d e l k (s.before d l g) (s.before e k f) q;
-        granted = λ l i. let r = h.granted l (subst (λ (ls : List Lock). In l ls) s.granted i) in (r.0, (s.grows.acted r.0 r.1.0, r.1.1));
-        held = λ c k i. holding_still c k (s.kept c k i);
-        alive = λ d l g. let o = s.before d l g in ⊎_elim (λ (i : In l (server_of osts past).granted). inl (granted_still l i)) (λ (x : Dead past d l). inr (stays_dead d l o x)) (h.alive d l o);
-        blocks = y.blocks;
-        cancels = y.cancels;
-        gone = y.gone;
-        answers = y.answers;
-      }
-
--- ---- what is held changes its pins and marks, or is shown
-
-module _ (osts : ℕ) (past : List Line) (stamp : Stamp) (c : ℕ) (h : Locks osts past) where
-  pins_held : (name : LockName) (d : ℕ) (k : HeldLock) → In k (held_at d (line (turn stamp (Client c)) (Pins name) ∷ past)) → Kept (held_at d past) k
-  pins_held name d k =
-      cond_both (nat_eq d c) (changed name Pin (held_at d past)) (held_at d past) (λ (hs : List HeldLock). In k hs → Kept (held_at d past) k)
-      (λ t i. changed_kept name Pin (held_at d past) k i)
-      (λ t i. kept_same (held_at d past) k i)
-
-  unpins_held : (name : LockName) (d : ℕ) (k : HeldLock) → In k (held_at d (line (turn stamp (Client c)) (Unpins name) ∷ past)) → Kept (held_at d past) k
-  unpins_held name d k =
-      cond_both (nat_eq d c) (used name (changed name Unpin (held_at d past))) (held_at d past) (λ (hs : List HeldLock). In k hs → Kept (held_at d past) k)
-      (λ t i. changed_kept name Unpin (held_at d past) k (used_in name (changed name Unpin (held_at d past)) k i))
-      (λ t i. kept_same (held_at d past) k i)
-
-  marks_held : (name : LockName) (d : ℕ) (k : HeldLock) → In k (held_at d (line (turn stamp (Client c)) (Marks name) ∷ past)) → Kept (held_at d past) k
-  marks_held name d k =
-      cond_both (nat_eq d c) (changed name Mark (held_at d past)) (held_at d past) (λ (hs : List HeldLock). In k hs → Kept (held_at d past) k)
-      (λ t i. changed_kept name Mark (held_at d past) k i)
-      (λ t i. kept_same (held_at d past) k i)
-
-  locks_pins : (name : LockName) → Locks osts (line (turn stamp (Client c)) (Pins name) ∷ past)
-  locks_pins name =
-      let new : List Line = line (turn stamp (Client c)) (Pins name) ∷ past in
-      let s : Stays osts past new = record { grows = record { acted = λ d a. a; hears = λ d x a. a }; before = λ d l g. g; granted = refl; cookie = refl; kept = pins_held name } in
-      locks_stay osts past new s h (says_still osts past new s h (record { was = λ from to m w. w; gone = λ d cookie w. w; acted = λ d a. a }))
-
-  locks_unpins : (name : LockName) → Locks osts (line (turn stamp (Client c)) (Unpins name) ∷ past)
-  locks_unpins name =
-      let new : List Line = line (turn stamp (Client c)) (Unpins name) ∷ past in
-      let s : Stays osts past new = record { grows = record { acted = λ d a. a; hears = λ d x a. a }; before = λ d l g. g; granted = refl; cookie = refl; kept = unpins_held name } in
-      locks_stay osts past new s h (says_still osts past new s h (record { was = λ from to m w. w; gone = λ d cookie w. w; acted = λ d a. a }))
-
-  locks_marks : (name : LockName) → Locks osts (line (turn stamp (Client c)) (Marks name) ∷ past)
-  locks_marks name =
-      let new : List Line = line (turn stamp (Client c)) (Marks name) ∷ past in
-      let s : Stays osts past new = record { grows = record { acted = λ d a. a; hears = λ d x a. a }; before = λ d l g. g; granted = refl; cookie = refl; kept = marks_held name } in
-      locks_stay osts past new s h (says_still osts past new s h (record { was = λ from to m w. w; gone = λ d cookie w. w; acted = λ d a. a }))
-
-  -- a lock that is shown is held already
-  locks_hold : (t : ℕ) (lock : Lock) (marked : Bool) (size : Option ℕ) (seen : List ℕ) → t ≡ 0 → HeldOk past c lock → Locks osts (line (turn stamp (Client c)) (Hold t lock marked size seen) ∷ past)
-  locks_hold t lock marked size seen first ok =
-      let new : List Line = line (turn stamp (Client c)) (Hold t lock marked size seen) ∷ past in
-      let s : Stays osts past new = record { grows = record { acted = λ d a. a; hears = λ d x a. a }; before = λ d l g. g; granted = refl; cookie = refl; kept = kept } in
-      locks_stay osts past new s h (says_still osts past new s h (record { was = λ from to m w. w; gone = λ d cookie w. w; acted = λ d a. a }))
-    where
-      numbered : ℕ → TargetId
-      numbered n = record { 0 = n }
-
-      kept : (d : ℕ) (k : HeldLock) → In k (held_at d (line (turn stamp (Client c)) (Hold t lock marked size seen) ∷ past)) → Kept (held_at d past) k
-      kept d k =
-          cond_both (nat_eq d c) (with_held (held_as t lock marked) (held_at d past)) (held_at d past) (λ (hs : List HeldLock). In k hs → Kept (held_at d past) k)
-          (λ q i. ⊎_elim
-          (λ (e : held_as t lock marked ≡ k). (
-            held_as 0 lock false,
-            subst (λ v. In (held_as 0 lock false) (held_at v past)) (sym (eqb-true d c q)) ok.held,
-            ap numbered (sym first) ∙ ap (λ (v : HeldLock). v.target) e,
-            ap (λ (v : HeldLock). v.lock) e,
-          ))
-          (λ (j : In k (held_at d past)). kept_same (held_at d past) k j)
-          (with_held_in (held_as t lock marked) (held_at d past) k i))
-          (λ q i. kept_same (held_at d past) k i)
+use Rattle.lu_guards.proofs.Guards.{In, name_of, HeardOk, DropOk, LifeOf, ActOk, TxnOk, BackOk, LeftOk, EntryOf, IsOfFirst}
+use Rattle.lu_guards.proofs.Lists.{in_append, in_filter, in_filtered, own_is, own_self}
+use Rattle.lu_facts.proofs.Groups.{turn, Flew, Acted, Hears, Phase, Numbers, Done, Gave, Dead, Evicted, Holding, Gone, GivenBack, Locks}
+use Rattle.lu_facts.proofs.LockLists.{from_high, from_who, from_mode, from_once, withs_in, withs_old, withs_new, leaves_or, left_in, held_not, not_held, is_of_name, not_of_name, Kept, kept_same, brought_in}
+use Rattle.lu_facts.proofs.LocksStay.{Grows, StaysDead, called_more, given_more, Stays, stays_dead, locks_stay, pins_held, unpins_held, marks_held, shown_held, kept_dead, locks_pins, locks_unpins, locks_marks, locks_hold}
+use Rattle.lu_facts.proofs.LocksSaid.{sent_said, locks_send}
+use Rattle.lu_guards.proofs.LockLists.{greatest_least, greatest_has}
+use Rattle.lu_guards.proofs.LifeLists.{life_put, life_put_more}
 
 -- ---- a held lock is given up: then it is dead
 
@@ -202,7 +53,7 @@ module _ (osts : ℕ) (past : List Line) (stamp : Stamp) (c t : ℕ) (lock : Loc
       (λ q i. kept_same (held_at d past) k i)
 
   drops_stay : Stays osts past dropping
-  drops_stay = record { grows = record { acted = λ d a. a; hears = λ d x a. a }; before = λ d l g. g; granted = refl; cookie = refl; kept = dropped_kept }
+  drops_stay = record { grows = record { acted = λ d a. a; hears = λ d x a. a }; before = λ d l g. g; granted = refl; cookie = refl; shown = refl; evicted = λ who i. i; life = λ d. refl; kept = dropped_kept }
 
   -- none of its name is held
   dropped_none : (d : ℕ) → d ≡ c → is_held (name_of lock.cookie) (held_at d dropping) ≡ false
@@ -212,30 +63,29 @@ module _ (osts : ℕ) (past : List Line) (stamp : Stamp) (c t : ℕ) (lock : Loc
       (λ q i. subst (λ v. is_named (named (record { 0 = v }) lock.cookie) k ≡ false) first (not-true (is_named (named (record { 0 = t }) lock.cookie) k) (in_filter (λ (g : HeldLock). not (is_named (named (record { 0 = t }) lock.cookie) g)) k (held_at d past) i).1))
       (λ q i. absurd (eqb-false d c q e)))
 
-  dropped_back : GivenBack dropping (first_life c) 1 lock.cookie
+  dropped_back : GivenBack dropping (life_of c past) 1 lock.cookie
   dropped_back =
       let r = h.held c ok.holding ok.held in
-      let client : r.deed.reply.who.client ≡ c = ap (λ (w : Who). w.client) r.who in
+      let client : r.deed.reply.who.client ≡ c = ap (λ (w : Who). w.client) r.who ∙ p.client c in
       record {
         deed = r.deed;
         lock = lock;
         gave = (r.gave.0, subst (λ (l : Lock). In l r.deed.reply.locks) ok.is r.gave.1);
         is = refl;
         of = r.who;
-        dead = (subst (λ v. Hears past v r.deed.reply.xid.0) (sym client) r.heard, dropped_none r.deed.reply.who.client client);
+        dead = (subst (λ (w : Who). Hears past w r.deed.reply.xid.0) (sym r.who) r.heard, dropped_none r.deed.reply.who.client client);
         first = refl;
       }
 
   locks_drop : Locks osts dropping
   locks_drop =
-      let y = says_still osts past dropping drops_stay h in
       locks_stay osts past dropping drops_stay h
       (record {
         blocks = λ from d who boot cookie w. called_more past dropping drops_stay.grows d who cookie (h.blocks from d who boot cookie w);
         cancels = λ from to who boot cookie w. given_more past dropping drops_stay.grows (stays_dead osts past dropping drops_stay h) who boot cookie (h.cancels from to who boot cookie w);
-        gone = λ d cookie. ⊎_elim
-            (λ (q : (Client c ≡ Client d) × (lock.cookie ≡ cookie)). subst (λ v. GivenBack dropping (first_life d) 1 v) q.1 (subst (λ v. GivenBack dropping (first_life v) 1 lock.cookie) (sym (client_is d c q.0)) dropped_back))
-            (λ (q : Gone past d cookie). given_more past dropping drops_stay.grows (stays_dead osts past dropping drops_stay h) (first_life d) 1 cookie (h.gone d cookie q));
+        gone = λ who cookie. ⊎_elim
+            (λ (q : (is_own who past (Client c) ≡ true) × (lock.cookie ≡ cookie)). subst (λ v. GivenBack dropping who 1 v) q.1 (subst (λ (w : Who). GivenBack dropping w 1 lock.cookie) (sym (own_is who past c q.0)) dropped_back))
+            (λ (q : Gone past who cookie). given_more past dropping drops_stay.grows (stays_dead osts past dropping drops_stay h) who 1 cookie (h.gone who cookie q));
         answers = λ d a. h.answers d a;
       })
 
@@ -251,11 +101,8 @@ module _ (osts : ℕ) (past : List Line) (stamp : Stamp) (c t : ℕ) (f : Flight
   abbrev of : Deed
   of = made.0
 
-  of_who : of.reply.who ≡ first_life c
-  of_who = ap (λ (v : ReplyTo). v.who) (sym made.2) ∙ ok.who ∙ p.life c
-
-  of_client : of.reply.who.client ≡ c
-  of_client = ap (λ (w : Who). w.client) of_who
+  of_who : of.reply.who ≡ life_of c past
+  of_who = ap (λ (v : ReplyTo). v.who) (sym made.2) ∙ ok.who
 
   of_xid : f.xid ≡ of.reply.xid.0
   of_xid = ok.xid ∙ ap (λ (v : ReplyTo). v.xid.0) made.2
@@ -263,7 +110,7 @@ module _ (osts : ℕ) (past : List Line) (stamp : Stamp) (c t : ℕ) (f : Flight
   of_op : f.op ≡ of.op
   of_op =
       let g = k.flew of made.1 in
-      let same : f ≡ g.0 = n.one c f g.0 (n.flying c f ok.flying) (subst (λ v. Flew past v g.0) of_client g.1) (of_xid ∙ sym g.2) in
+      let same : f ≡ g.0 = n.one (life_of c past) f g.0 (n.flying (life_of c past) f ok.flying) (subst (λ (w : Who). Flew past w g.0) of_who g.1) (of_xid ∙ sym g.2) in
       ap (λ (v : Flight). v.op) same ∙ g.3
 
   none_more : granted_lock f.op r r.answer ≡ []
@@ -276,11 +123,14 @@ module _ (osts : ℕ) (past : List Line) (stamp : Stamp) (c t : ℕ) (f : Flight
       (λ (j : In l (granted_lock f.op r r.answer)). absurd (subst (λ (ls : List Lock). In l ls) none_more j))
       (in_append l r.locks (granted_lock f.op r r.answer) i)
 
-  not_yet : Hears past of.reply.who.client of.reply.xid.0 → ⊥
-  not_yet x = (n.over c f.xid (subst (λ v. Hears past c v) (sym of_xid) (subst (λ v. Hears past v of.reply.xid.0) of_client x))).1 f ok.flying refl
+  not_yet : Hears past of.reply.who of.reply.xid.0 → ⊥
+  not_yet x = (n.over (life_of c past) f.xid (subst (λ v. Hears past (life_of c past) v) (sym of_xid) (subst (λ (w : Who). Hears past w of.reply.xid.0) of_who x))).1 f ok.flying refl
 
-  lives : (l : Lock) → In l of.reply.locks → In l (server_of osts past).granted
-  lives l i = ⊎_elim (λ (j : In l (server_of osts past).granted). j) (λ (x : Dead past of l). absurd (not_yet x.0)) (h.alive of l (made.1, i))
+  lives : (l : Lock) → In l of.reply.locks → In l (server_of osts past).granted ⊎ Evicted past (life_of c past)
+  lives l i = ⊎_elim
+      (λ (j : In l (server_of osts past).granted). inl j)
+      (⊎_elim (λ (x : Dead past of l). absurd (not_yet x.0)) (λ (x : Evicted past of.reply.who). inr (subst (λ (w : Who). Evicted past w) of_who x)))
+      (h.alive of l (made.1, i))
 
   held_now : (d : ℕ) (g : HeldLock) → In g (held_at d hearing) → In g (held_at d past) ⊎ ((d ≡ c) × ((l : Lock) × In l of.reply.locks × (held_as t l false ≡ g)))
   held_now d g =
@@ -310,10 +160,10 @@ module _ (osts : ℕ) (past : List Line) (stamp : Stamp) (c t : ℕ) (f : Flight
       again : (m : Lock) → In m of.reply.locks → m.cookie.0 ≡ l.cookie.0 → ⊥
       again m i e =
           let same : d ≡ of = (h.once d of l m gave (made.1, i) (ap numbered (sym e))).0 in
-          not_yet (subst (λ (v : Deed). Hears past v.reply.who.client v.reply.xid.0) same x.0)
+          not_yet (subst (λ (v : Deed). Hears past v.reply.who v.reply.xid.0) same x.0)
 
   holding_new : (l : Lock) → In l of.reply.locks → Holding osts hearing c (held_as t l false)
-  holding_new l i = record { target = first; deed = of; gave = (made.1, i); who = of_who; heard = inl (refl, of_xid); granted = lives l i }
+  holding_new l i = record { target = first; deed = of; gave = (made.1, i); who = of_who; heard = inl (own_self past c, of_xid); granted = lives l i }
 
   locks_heard : Locks osts hearing
   locks_heard =
@@ -327,10 +177,14 @@ module _ (osts : ℕ) (past : List Line) (stamp : Stamp) (c t : ℕ) (f : Flight
             (λ (j : In g (held_at d past)). let o = h.held d g j in record { target = o.target; deed = o.deed; gave = o.gave; who = o.who; heard = inr o.heard; granted = o.granted })
             (λ (j : (d ≡ c) × ((l : Lock) × In l of.reply.locks × (held_as t l false ≡ g))). subst (λ (v : HeldLock). Holding osts hearing d v) j.1.2 (subst (λ v. Holding osts hearing v (held_as t j.1.0 false)) (sym j.0) (holding_new j.1.0 j.1.1)))
             (held_now d g i);
-        alive = λ d l g. ⊎_elim (λ (i : In l (server_of osts past).granted). inl i) (λ (x : Dead past d l). inr (heard_dead d l g x)) (h.alive d l g);
+        alive = λ d l g. ⊎_elim
+            (λ (i : In l (server_of osts past).granted). inl i)
+            (λ (x : Dead past d l ⊎ Evicted past d.reply.who). inr (⊎_elim (λ (y : Dead past d l). inl (heard_dead d l g y)) (λ (y : Evicted past d.reply.who). inr y) x))
+            (h.alive d l g);
+        shown = h.shown;
         blocks = λ from d who boot cookie w. called_more past hearing hears_more d who cookie (h.blocks from d who boot cookie w);
         cancels = λ from to who boot cookie w. given_more past hearing hears_more heard_dead who boot cookie (h.cancels from to who boot cookie w);
-        gone = λ d cookie w. given_more past hearing hears_more heard_dead (first_life d) 1 cookie (h.gone d cookie w);
+        gone = λ who cookie w. given_more past hearing hears_more heard_dead who 1 cookie (h.gone who cookie w);
         answers = h.answers;
       }
 
@@ -379,6 +233,13 @@ module _ (osts : ℕ) (past : List Line) (stamp : Stamp) (t : ℕ) (d : Deed) (g
   granted_new : (l : Lock) → In l d.reply.locks → In l (server_of osts acting).granted
   granted_new l i = withs_new d.reply.locks l (server_of osts past).granted (λ y j e. g.apart l y i j e) i
 
+  shown_new : (l : Lock) → In l (server_of osts acting).granted → In l (shown_of acting)
+  shown_new l i =
+      ⊎_elim
+      (λ (j : In l d.reply.locks). withs_new d.reply.locks l (shown_of past) (λ y k e. g.apart l y j k e) j)
+      (λ (j : In l (server_of osts past).granted). let r = h.granted l j in withs_old d.reply.locks l (shown_of past) (λ y k e. absurd (older r.0 l y r.1 k e)) (h.shown l j))
+      (withs_in d.reply.locks l (server_of osts past).granted i)
+
   granted_old : (l : Lock) → In l (server_of osts past).granted → In l (server_of osts acting).granted
   granted_old l i = let r = h.granted l i in withs_old d.reply.locks l (server_of osts past).granted (λ y j e. absurd (older r.0 l y r.1 j e)) i
 
@@ -388,8 +249,8 @@ module _ (osts : ℕ) (past : List Line) (stamp : Stamp) (t : ℕ) (d : Deed) (g
         whose = λ e l gave. ⊎_elim (λ (q : (d ≡ e) × In l d.reply.locks). g.who l q.1 ∙ ap (λ (v : Deed). v.reply.who) q.0) (λ (o : Gave past e l). h.whose e l o) (gave_cases e l gave);
         readers = λ e l gave. ⊎_elim (λ (q : (d ≡ e) × In l d.reply.locks). g.mode l q.1) (λ (o : Gave past e l). h.readers e l o) (gave_cases e l gave);
         low = λ e l gave. ⊎_elim
-            (λ (q : (d ≡ e) × In l d.reply.locks). greatest_in (server_of osts past).cookie d.reply.locks l q.1)
-            (λ (o : Gave past e l). let a = h.low e l o in let b = greatest_low (server_of osts past).cookie d.reply.locks in omega arith)
+            (λ (q : (d ≡ e) × In l d.reply.locks). greatest_has (server_of osts past).cookie d.reply.locks l q.1)
+            (λ (o : Gave past e l). let a = h.low e l o in let b = greatest_least (server_of osts past).cookie d.reply.locks in omega arith)
             (gave_cases e l gave);
         once = λ e b l k gave given q. ⊎_elim
             (λ (x : (d ≡ e) × In l d.reply.locks). ⊎_elim
@@ -405,14 +266,15 @@ module _ (osts : ℕ) (past : List Line) (stamp : Stamp) (t : ℕ) (d : Deed) (g
             (λ (j : In l d.reply.locks). (d, (inl refl, j)))
             (λ (j : In l (server_of osts past).granted). let r = h.granted l j in (r.0, (inr r.1.0, r.1.1)))
             (withs_in d.reply.locks l (server_of osts past).granted i);
-        held = λ c k i. let o = h.held c k i in record { target = o.target; deed = o.deed; gave = (inr o.gave.0, o.gave.1); who = o.who; heard = o.heard; granted = granted_old k.lock o.granted };
+        held = λ c k i. let o = h.held c k i in record { target = o.target; deed = o.deed; gave = (inr o.gave.0, o.gave.1); who = o.who; heard = o.heard; granted = ⊎_elim (λ (j : In k.lock (server_of osts past).granted). inl (granted_old k.lock j)) (λ (j : Evicted past (life_of c past)). inr j) o.granted };
         alive = λ e l gave. ⊎_elim
             (λ (q : (d ≡ e) × In l d.reply.locks). inl (granted_new l q.1))
-            (λ (o : Gave past e l). ⊎_elim (λ (i : In l (server_of osts past).granted). inl (granted_old l i)) (λ (x : Dead past e l). inr x) (h.alive e l o))
+            (λ (o : Gave past e l). ⊎_elim (λ (i : In l (server_of osts past).granted). inl (granted_old l i)) (λ (x : Dead past e l ⊎ Evicted past e.reply.who). inr x) (h.alive e l o))
             (gave_cases e l gave);
+        shown = shown_new;
         blocks = λ from c who boot cookie w. called_more past acting act_grows c who cookie (h.blocks from c who boot cookie w);
         cancels = λ from to who boot cookie w. given_more past acting act_grows (λ e l o x. x) who boot cookie (h.cancels from to who boot cookie w);
-        gone = λ c cookie w. given_more past acting act_grows (λ e l o x. x) (first_life c) 1 cookie (h.gone c cookie w);
+        gone = λ who cookie w. given_more past acting act_grows (λ e l o x. x) who 1 cookie (h.gone who cookie w);
         answers = λ e. ⊎_elim (λ (q : d ≡ e) r. subst (λ (v : Deed). granted_lock v.op r v.reply.answer ≡ []) q (g.answers r)) (λ (a : Acted past e) r. h.answers e a r);
       }
 
@@ -424,7 +286,7 @@ locks_txn osts past stamp t d ok h =
     (record {
       blocks = λ from c who boot cookie w. called_more past new grows c who cookie (h.blocks from c who boot cookie w);
       cancels = λ from to who boot cookie w. given_more past new grows (λ e l o x. x) who boot cookie (h.cancels from to who boot cookie w);
-      gone = λ c cookie w. given_more past new grows (λ e l o x. x) (first_life c) 1 cookie (h.gone c cookie w);
+      gone = λ who cookie w. given_more past new grows (λ e l o x. x) who 1 cookie (h.gone who cookie w);
       answers = λ e. ⊎_elim (λ (q : d ≡ e) r. subst (λ (v : Deed). granted_lock v.op r v.reply.answer ≡ []) (sym ok.is ∙ q) (no_lock osts v.tree (next_number v) ok.request.who ok.request.op r)) (λ (a : Acted past e) r. h.answers e a r);
     })
   where
@@ -441,7 +303,7 @@ locks_txn osts past stamp t d ok h =
     none_given e l gave = ⊎_elim (λ (q : d ≡ e). absurd (subst (λ (v : Deed). In l v.reply.locks) (sym q ∙ ok.is) gave.1)) (λ (a : Acted past e). (a, gave.1)) gave.0
 
     stays : Stays osts past new
-    stays = record { grows = grows; before = none_given; granted = refl; cookie = refl; kept = λ c k i. kept_same (held_at c past) k i }
+    stays = record { grows = grows; before = none_given; granted = refl; cookie = refl; shown = refl; evicted = λ who i. i; life = λ c. refl; kept = λ c k i. kept_same (held_at c past) k i }
 
 -- ---- a lock is taken back, which is dead
 
@@ -453,15 +315,55 @@ found_in who cookie (k ∷ ks) l f =
     (λ t e. inr (found_in who cookie ks l e))
     f
 
-module _ (osts : ℕ) (past : List Line) (stamp : Stamp) (t : ℕ) (lock : Lock) (ok : ReleaseOk osts past t lock) (h : Locks osts past) where
+-- what is granted after it, and what is shown so
+module _ (osts : ℕ) (past : List Line) (stamp : Stamp) (t : ℕ) (lock : Lock) (h : Locks osts past) where
   abbrev releasing : List Line
   releasing = line (turn stamp (Target t)) (Release lock) ∷ past
 
+  was_granted : (l : Lock) → In l (server_of osts releasing).granted → In l (server_of osts past).granted
+  was_granted l i = (in_filter (λ (k : Lock). not (nat_eq k.cookie.0 lock.cookie.0)) l (server_of osts past).granted i).0
+
+  shown_released : (l : Lock) → In l (server_of osts releasing).granted → In l (shown_of releasing)
+  shown_released l i =
+      let r = in_filter (λ (k : Lock). not (nat_eq k.cookie.0 lock.cookie.0)) l (server_of osts past).granted i in
+      in_filtered (λ (k : Lock). not (nat_eq k.cookie.0 lock.cookie.0)) l (shown_of past) (h.shown l r.0) r.1
+
+  -- where what isn't granted any more is dead, and isn't held
+  locks_released : ((d : Deed) (l : Lock) → Gave past d l → In l (server_of osts past).granted → In l (server_of osts releasing).granted ⊎ Dead past d l)
+      → ((c : ℕ) (k : HeldLock) → In k (held_at c past) → In k.lock (server_of osts past).granted → In k.lock (server_of osts releasing).granted) → Locks osts releasing
+  locks_released alive held =
+      record {
+        whose = h.whose;
+        readers = h.readers;
+        low = h.low;
+        once = h.once;
+        granted = λ l i. h.granted l (was_granted l i);
+        held = λ c k i. let o = h.held c k i in
+            record {
+              target = o.target;
+              deed = o.deed;
+              gave = o.gave;
+              who = o.who;
+              heard = o.heard;
+              granted = ⊎_elim (λ (j : In k.lock (server_of osts past).granted). inl (held c k i j)) (λ (j : Evicted past (life_of c past)). inr j) o.granted;
+            };
+        alive = λ d l gave. ⊎_elim
+            (λ (i : In l (server_of osts past).granted). ⊎_elim (λ (j : In l (server_of osts releasing).granted). inl j) (λ (x : Dead past d l). inr (inl x)) (alive d l gave i))
+            (λ (x : Dead past d l ⊎ Evicted past d.reply.who). inr x)
+            (h.alive d l gave);
+        shown = shown_released;
+        blocks = h.blocks;
+        cancels = h.cancels;
+        gone = h.gone;
+        answers = h.answers;
+      }
+
+module _ (osts : ℕ) (past : List Line) (stamp : Stamp) (t : ℕ) (lock : Lock) (ok : BackOk osts past t lock) (p : Phase osts past) (h : Locks osts past) where
+  abbrev giving : List Line
+  giving = line (turn stamp (Target t)) (Release lock) ∷ past
+
   abbrev numbered : ℕ → Cookie
   numbered v = record { 0 = v }
-
-  was_given : (d : Deed) × Gave past d lock
-  was_given = h.granted lock (found_in lock.ask.who lock.cookie (server_of osts past).granted lock ok.found)
 
   -- whatever has its cookie is it, and is dead
   is_dead : (d : Deed) (l : Lock) → Gave past d l → l.cookie.0 ≡ lock.cookie.0 → Dead past d l
@@ -470,7 +372,7 @@ module _ (osts : ℕ) (past : List Line) (stamp : Stamp) (t : ℕ) (lock : Lock)
       let same = h.once b.deed d b.lock l b.gave gave (b.is ∙ ap numbered (sym e)) in
       subst (λ (v : Deed). Dead past v l) same.0 (subst (λ (v : Lock). Dead past b.deed v) same.1 b.dead)
 
-  granted_on : (l : Lock) → In l (server_of osts past).granted → (l.cookie.0 ≡ lock.cookie.0 → ⊥) → In l (server_of osts releasing).granted
+  granted_on : (l : Lock) → In l (server_of osts past).granted → (l.cookie.0 ≡ lock.cookie.0 → ⊥) → In l (server_of osts giving).granted
   granted_on l i other = in_filtered (λ (k : Lock). not (nat_eq k.cookie.0 lock.cookie.0)) l (server_of osts past).granted i (by (nat_eq l.cookie.0 lock.cookie.0) refl)
     where
       by : (b : Bool) → nat_eq l.cookie.0 lock.cookie.0 ≡ b → not b ≡ true
@@ -482,134 +384,118 @@ module _ (osts : ℕ) (past : List Line) (stamp : Stamp) (t : ℕ) (lock : Lock)
   held_other c k i e =
       let o = h.held c k i in
       let x = is_dead o.deed k.lock o.gave e in
-      let client : o.deed.reply.who.client ≡ c = ap (λ (w : Who). w.client) o.who in
+      let client : o.deed.reply.who.client ≡ c = ap (λ (w : Who). w.client) o.who ∙ p.client c in
       let no = held_not (name_of k.lock.cookie) (held_at o.deed.reply.who.client past) x.1 k (subst (λ v. In k (held_at v past)) (sym client) i) in
       let yes = is_of_name k.lock.cookie k o.target refl in
       absurd (cc)
 
-  alive_on : (d : Deed) (l : Lock) → Gave past d l → In l (server_of osts past).granted → In l (server_of osts releasing).granted ⊎ Dead past d l
+  alive_on : (d : Deed) (l : Lock) → Gave past d l → In l (server_of osts past).granted → In l (server_of osts giving).granted ⊎ Dead past d l
   alive_on d l gave i = by (nat_eq l.cookie.0 lock.cookie.0) refl
     where
-      by : (b : Bool) → nat_eq l.cookie.0 lock.cookie.0 ≡ b → In l (server_of osts releasing).granted ⊎ Dead past d l
+      by : (b : Bool) → nat_eq l.cookie.0 lock.cookie.0 ≡ b → In l (server_of osts giving).granted ⊎ Dead past d l
       by true e = inr (is_dead d l gave (eqb-true l.cookie.0 lock.cookie.0 e))
       by false e = inl (granted_on l i (eqb-false l.cookie.0 lock.cookie.0 e))
 
-  locks_release : Locks osts releasing
-  locks_release =
+  locks_back : Locks osts giving
+  locks_back = locks_released osts past stamp t lock h alive_on (λ c k i j. granted_on k.lock j (held_other c k i))
+
+-- a lock of a life that left isn't granted any more when its release is shown
+locks_left : (osts : ℕ) (past : List Line) (stamp : Stamp) (t : ℕ) (lock : Lock) → LeftOk osts past lock → Locks osts past → Locks osts (line (turn stamp (Target t)) (Release lock) ∷ past)
+locks_left osts past stamp t lock ok h = locks_released osts past stamp t lock h (λ d l gave i. inl (stays l i)) (λ c k i j. stays k.lock j)
+  where
+    stays : (l : Lock) → In l (server_of osts past).granted → In l (server_of osts (line (turn stamp (Target t)) (Release lock) ∷ past)).granted
+    stays l i = subst (λ (ls : List Lock). In l ls) (sym ok.still) i
+
+-- ---- a life is evicted: its locks are granted no more
+
+module _ (osts : ℕ) (past : List Line) (stamp : Stamp) (t : ℕ) (who : Who) (cause : Cause) (h : Locks osts past) where
+  abbrev evicting : List Line
+  evicting = line (turn stamp (Target t)) (Evict who cause) ∷ past
+
+  evicts_more : (w : Who) → Evicted past w → Evicted evicting w
+  evicts_more w i = life_put_more w who (evicted_of past) i
+
+  -- granted still, or of that life
+  granted_or : (l : Lock) → In l (server_of osts past).granted → In l (server_of osts evicting).granted ⊎ Evicted evicting l.ask.who
+  granted_or l i = ⊎_elim (λ (j : In l (server_of osts evicting).granted). inl j) (λ (e : l.ask.who ≡ who). inr (subst (λ (w : Who). Evicted evicting w) (sym e) (life_put who (evicted_of past)))) (leaves_or who (server_of osts past).granted l i)
+
+  locks_evict : Locks osts evicting
+  locks_evict =
       record {
         whose = h.whose;
         readers = h.readers;
         low = h.low;
         once = h.once;
-        granted = λ l i. h.granted l (in_filter (λ (k : Lock). not (nat_eq k.cookie.0 lock.cookie.0)) l (server_of osts past).granted i).0;
-        held = λ c k i. let o = h.held c k i in record { target = o.target; deed = o.deed; gave = o.gave; who = o.who; heard = o.heard; granted = granted_on k.lock o.granted (held_other c k i) };
-        alive = λ d l gave. ⊎_elim (λ (i : In l (server_of osts past).granted). alive_on d l gave i) (λ (x : Dead past d l). inr x) (h.alive d l gave);
+        granted = λ l i. h.granted l (left_in who (server_of osts past).granted l i);
+        held = λ c k i. let o = h.held c k i in
+            record {
+              target = o.target;
+              deed = o.deed;
+              gave = o.gave;
+              who = o.who;
+              heard = o.heard;
+              granted = ⊎_elim
+                  (λ (j : In k.lock (server_of osts past).granted). ⊎_elim
+                  (λ (x : In k.lock (server_of osts evicting).granted). inl x)
+                  (λ (x : Evicted evicting k.lock.ask.who). inr (subst (λ (w : Who). Evicted evicting w) (h.whose o.deed k.lock o.gave ∙ o.who) x))
+                  (granted_or k.lock j))
+                  (λ (j : Evicted past (life_of c past)). inr (evicts_more (life_of c past) j))
+                  o.granted;
+            };
+        alive = λ d l gave. ⊎_elim
+            (λ (i : In l (server_of osts past).granted). ⊎_elim
+            (λ (x : In l (server_of osts evicting).granted). inl x)
+            (λ (x : Evicted evicting l.ask.who). inr (inr (subst (λ (w : Who). Evicted evicting w) (h.whose d l gave) x)))
+            (granted_or l i))
+            (λ (x : Dead past d l ⊎ Evicted past d.reply.who). inr (⊎_elim (λ (y : Dead past d l). inl y) (λ (y : Evicted past d.reply.who). inr (evicts_more d.reply.who y)) x))
+            (h.alive d l gave);
+        shown = λ l i. h.shown l (left_in who (server_of osts past).granted l i);
         blocks = h.blocks;
         cancels = h.cancels;
         gone = h.gone;
         answers = h.answers;
       }
 
--- ---- a lock is called back, or given back
+-- ---- a new life begins, which holds nothing
 
-dropped_gone : (past : List Line) (c : ℕ) (cookie : Cookie) → Dropped past c cookie → Gone past c cookie
-dropped_gone [] c cookie d = absurd d
-dropped_gone (l ∷ past) c cookie d = by l.entry d
-  where
-    by : (e : Entry) → Dropped (line l.at e ∷ past) c cookie → Gone (line l.at e ∷ past) c cookie
-    by (Drop target lock) d = inl d
-    by _ d = absurd d
+module _ (osts : ℕ) (past : List Line) (stamp : Stamp) (c : ℕ) (who : Who) (ok : LifeOf past c who) (h : Locks osts past) where
+  abbrev beginning : List Line
+  beginning = line (turn stamp (Client c)) (Life who) ∷ past
 
-call_sent : (osts : ℕ) (past : List Line) (c : ℕ) (who : Who) (boot : ℕ) (cookie : Cookie) → CallsOk osts past c who boot cookie → Done osts past → Locks osts past → Called past c who cookie
-call_sent osts past c who boot cookie ok k h =
-    let r = h.granted ok.lock ok.granted in
-    let of : r.0.reply.who ≡ who = sym (h.whose r.0 ok.lock r.1) ∙ sym ok.of_life in
-    record {
-      deed = r.0;
-      lock = ok.lock;
-      gave = r.1;
-      is = sym ok.of_cookie;
-      of = of;
-      to = sym of ∙ k.life r.0 r.1.0 ∙ ap (λ (w : Who). first_life w.client) of ∙ ap first_life (sym ok.to);
-    }
-
-back_sent : (osts : ℕ) (past : List Line) (c : ℕ) (who : Who) (boot : ℕ) (cookie : Cookie) → CancelOk past c who boot cookie → Phase osts past → Numbers past → Done osts past → Locks osts past → GivenBack past who boot cookie
-back_sent osts past c who boot cookie ok p n k h =
-    subst (λ v. GivenBack past who v cookie) (sym (ok.of_boot ∙ p.known c))
-    (⊎_elim
-    (λ (d : Dropped past c cookie). subst (λ (w : Who). GivenBack past w 1 cookie) (sym (ok.of_life ∙ p.life c)) (h.gone c cookie (dropped_gone past c cookie d)))
-    (λ (b : (flights_of c past ≡ []) × ((from boot : ℕ) × Was past (Target from) (Client c) (message.Block who boot cookie))). called b.0 (h.blocks (Target b.1.0) c who b.1.1 cookie b.1.2))
-    ok.cause)
-  where
-    -- with no request in flight its reply was heard
-    called : flights_of c past ≡ [] → Called past c who cookie → GivenBack past who 1 cookie
-    called quiet b =
-        let f = k.flew b.deed b.gave.0 in
-        let client : b.deed.reply.who.client ≡ c = ap (λ (w : Who). w.client) (b.of ∙ b.to) in
-        let x : f.0.xid ≡ b.deed.reply.xid.0 = f.2 in
-        record {
-          deed = b.deed;
-          lock = b.lock;
-          gave = b.gave;
-          is = b.is;
-          of = b.of;
-          dead = (
-            subst (λ v. Hears past b.deed.reply.who.client v) x
-                (⊎_elim
-                (λ (i : In f.0 (flights_of b.deed.reply.who.client past)). absurd (subst (λ (fs : List Flight). In f.0 fs) quiet (subst (λ v. In f.0 (flights_of v past)) client i)))
-                (λ (y : Hears past b.deed.reply.who.client f.0.xid). y)
-                (n.stays b.deed.reply.who.client f.0 f.1)),
-            ap (λ (v : Cookie). is_held (name_of v) (held_at b.deed.reply.who.client past)) b.is ∙ ap (λ v. is_held (name_of cookie) (held_at v past)) client ∙ ok.free,
-          );
-          first = refl;
-        }
-
--- what one message says of locks
-abbrev SaidOf : List Line → Node → Message → Type 0
-SaidOf past (Client c) (message.Block who boot cookie) = Called past c who cookie
-SaidOf past to (message.Cancel who boot cookie) = GivenBack past who boot cookie
-SaidOf past to _ = Unit {0}
-
-sent_said : (head : Head) (past : List Line) (node to : Node) (m : Message) → SendOf head past node to m → Phase head.osts past → Numbers past → Done head.osts past → Locks head.osts past → SaidOf past to m
-sent_said head past (Client c) (Target t) (message.Request r) ok p n k h = tt
-sent_said head past (Client c) (Target t) (message.Cancel who boot cookie) ok p n k h = back_sent head.osts past c who boot cookie ok p n k h
-sent_said head past (Target t) (Client c) (message.Reply r) ok p n k h = tt
-sent_said head past (Target t) (Client c) (message.Block who boot cookie) ok p n k h = call_sent head.osts past c who boot cookie ok k h
-sent_said head past node to m ok p n k h = absurd ok
-
-module _ (osts : ℕ) (past : List Line) (at : At) (to : Node) (m : Message) (said : SaidOf past to m) (h : Locks osts past) where
-  abbrev sending : List Line
-  sending = line at (Send to m) ∷ past
-
-  send_grows : Grows past sending
-  send_grows = record { acted = λ d a. a; hears = λ d x a. a }
-
-  says_more : Says sending
-  says_more =
-      record {
-        blocks = λ from c who boot cookie. ⊎_elim
-            (λ (e : (at.node ≡ from) × (to ≡ Client c) × (m ≡ message.Block who boot cookie)). called_more past sending send_grows c who cookie (subst (λ (v : Message). SaidOf past (Client c) v) e.2 (subst (λ (v : Node). SaidOf past v m) e.1 said)))
-            (λ (w : Was past from (Client c) (message.Block who boot cookie)). called_more past sending send_grows c who cookie (h.blocks from c who boot cookie w));
-        cancels = λ from node who boot cookie. ⊎_elim
-            (λ (e : (at.node ≡ from) × (to ≡ node) × (m ≡ message.Cancel who boot cookie)). given_more past sending send_grows (λ d l g x. x) who boot cookie (back node who boot cookie (subst (λ (v : Message). SaidOf past node v) e.2 (subst (λ (v : Node). SaidOf past v m) e.1 said))))
-            (λ (w : Was past from node (message.Cancel who boot cookie)). given_more past sending send_grows (λ d l g x. x) who boot cookie (h.cancels from node who boot cookie w));
-        gone = λ c cookie w. given_more past sending send_grows (λ d l g x. x) (first_life c) 1 cookie (h.gone c cookie w);
-        answers = λ d a. h.answers d a;
-      }
+  -- of another client
+  held_there : (d : ℕ) (k : HeldLock) → In k (held_at d past) → Holding osts beginning d k
+  held_there d k i = by (nat_eq d c) refl
     where
-      back : (node : Node) (who : Who) (boot : ℕ) (cookie : Cookie) → SaidOf past node (message.Cancel who boot cookie) → GivenBack past who boot cookie
-      back (Client c) who boot cookie b = b
-      back (Target t) who boot cookie b = b
+      by : (b : Bool) → nat_eq d c ≡ b → Holding osts beginning d k
+      by true e = absurd (subst (λ (hs : List HeldLock). In k hs) ok.empty (subst (λ v. In k (held_at v past)) (eqb-true d c e) i))
+      by false e =
+          let o = h.held d k i in
+          let same : life_of d past ≡ life_of d beginning = ap (λ (b : Bool). if b then who else life_of d past) (sym e) in
+          record {
+            target = o.target;
+            deed = o.deed;
+            gave = o.gave;
+            who = o.who ∙ same;
+            heard = subst (λ (w : Who). Hears past w o.deed.reply.xid.0) same o.heard;
+            granted = ⊎_elim (λ (j : In k.lock (server_of osts past).granted). inl j) (λ (j : Evicted past (life_of d past)). inr (subst (λ (w : Who). Evicted past w) same j)) o.granted;
+          }
 
-locks_send : (osts : ℕ) (past : List Line) (stamp : Stamp) (node to : Node) (m : Message) → SaidOf past to m → Locks osts past → Locks osts (line (turn stamp node) (Send to m) ∷ past)
-locks_send osts past stamp (Client c) to m said h =
-    locks_stay osts past (line (turn stamp (Client c)) (Send to m) ∷ past)
-    (record { grows = record { acted = λ d a. a; hears = λ d x a. a }; before = λ d l g. g; granted = refl; cookie = refl; kept = λ d k i. kept_same (held_at d past) k i }) h
-    (says_more osts past (turn stamp (Client c)) to m said h)
-locks_send osts past stamp (Target t) to m said h =
-    locks_stay osts past (line (turn stamp (Target t)) (Send to m) ∷ past)
-    (record { grows = record { acted = λ d a. a; hears = λ d x a. a }; before = λ d l g. g; granted = refl; cookie = refl; kept = λ d k i. kept_same (held_at d past) k i }) h
-    (says_more osts past (turn stamp (Target t)) to m said h)
+  locks_life : Locks osts beginning
+  locks_life =
+      record {
+        whose = h.whose;
+        readers = h.readers;
+        low = h.low;
+        once = h.once;
+        granted = h.granted;
+        held = held_there;
+        alive = h.alive;
+        shown = h.shown;
+        blocks = h.blocks;
+        cancels = h.cancels;
+        gone = h.gone;
+        answers = h.answers;
+      }
 
 -- ---- each line
 
@@ -625,13 +511,29 @@ keeps_locks head past stamp (Client c) (Unpins name) ok first p n k h = locks_un
 keeps_locks head past stamp (Client c) (Marks name) ok first p n k h = locks_marks head.osts past stamp c h name
 keeps_locks head past stamp (Target t) (Act d) ok first p n k h = locks_act head.osts past stamp t d (act_gives head.osts past (turn stamp (Target t)) d ok) h
 keeps_locks head past stamp (Target t) (Made d) ok first p n k h = locks_txn head.osts past stamp t d ok h
-keeps_locks head past stamp (Target t) (Release lock) ok first p n k h = locks_release head.osts past stamp t lock ok h
+keeps_locks head past stamp (Client c) (Life who) ok first p n k h = locks_life head.osts past stamp c who ok h
+keeps_locks head past stamp (Target t) (Release lock) ok first p n k h = ⊎_elim (λ (b : BackOk head.osts past t lock). locks_back head.osts past stamp t lock b p h) (λ (b : LeftOk head.osts past lock). locks_left head.osts past stamp t lock b h) ok
+keeps_locks head past stamp (Target t) (Evict who cause) ok first p n k h = locks_evict head.osts past stamp t who cause h
 keeps_locks head past stamp (Client c) (Unmarks t) ok first p n k h = absurd ok
 keeps_locks head past stamp (Client c) (Act d) ok first p n k h = absurd ok
 keeps_locks head past stamp (Client c) (Made d) ok first p n k h = absurd ok
 keeps_locks head past stamp (Target t) (Heard u f r) ok first p n k h = absurd ok
 keeps_locks head past stamp (Target t) (Drop u lock) ok first p n k h = absurd ok
 keeps_locks head past stamp node e ok first p n k h = h
+
+-- what is dead stays so
+pub keeps_dead : (head : Head) (past : List Line) (stamp : Stamp) (node : Node) (e : Entry) → EntryOf head past (turn stamp node) node e → IsOfFirst e → Phase head.osts past → Numbers past → Done head.osts past
+    → Locks head.osts past → StaysDead past (line (turn stamp node) e ∷ past)
+keeps_dead head past stamp (Client c) (Heard t f r) ok first p n k h = heard_dead head.osts past stamp c t f r first ok p n k h
+keeps_dead head past stamp (Client c) (Hold t lock marked size seen) ok first p n k h = kept_dead past stamp c (Hold t lock marked size seen) (λ d x a. a) (shown_held past stamp c t lock marked size seen first ok.1)
+keeps_dead head past stamp (Client c) (Drop t lock) ok first p n k h = stays_dead head.osts past (line (turn stamp (Client c)) (Drop t lock) ∷ past) (drops_stay head.osts past stamp c t lock ok.0 ok.1 p h) h
+keeps_dead head past stamp (Client c) (Pins name) ok first p n k h = kept_dead past stamp c (Pins name) (λ d x a. a) (pins_held past stamp c name)
+keeps_dead head past stamp (Client c) (Unpins name) ok first p n k h = kept_dead past stamp c (Unpins name) (λ d x a. a) (unpins_held past stamp c name)
+keeps_dead head past stamp (Client c) (Marks name) ok first p n k h = kept_dead past stamp c (Marks name) (λ d x a. a) (marks_held past stamp c name)
+keeps_dead head past stamp (Client c) (Unmarks t) ok first p n k h = absurd ok
+keeps_dead head past stamp (Target t) (Heard u f r) ok first p n k h = absurd ok
+keeps_dead head past stamp (Target t) (Drop u lock) ok first p n k h = absurd ok
+keeps_dead head past stamp node e ok first p n k h = λ d l g x. x
 
 pub locks_start : (osts : ℕ) → Locks osts []
 locks_start osts =
@@ -643,8 +545,9 @@ locks_start osts =
       granted = λ l i. absurd i;
       held = λ c k i. absurd i;
       alive = λ d l g. absurd g.0;
+      shown = λ l i. absurd i;
       blocks = λ from c who boot cookie w. absurd w;
       cancels = λ from to who boot cookie w. absurd w;
-      gone = λ c cookie w. absurd w;
+      gone = λ who cookie w. absurd w;
       answers = λ d a. absurd a;
     }

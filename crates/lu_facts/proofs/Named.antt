@@ -17,10 +17,10 @@ use Rattle.lu_msg.specs.declared.operations.Op.TheVariants as op
 use Rattle.lu_machine.specs.declared.child.Child.{Child}
 use Rattle.lu_machine.specs.declared.child.Child.TheVariants.{Dir, File}
 use Rattle.lu_machine.specs.Tree.{Tree, same_fid, fid_of, child, listing, attributes}
-use Rattle.lu_machine.specs.Change.{Leads, Drops, Parted, MakesDir, MakesFile, SetMode, SetLinks, Leaves, change, changed}
+use Rattle.lu_machine.specs.Change.{Leads, Drops, Parted, MakesDir, MakesFile, SetMode, SetLinks, Leaves, Opens, Closes, change, changed}
 use Rattle.lu_machine.specs.Striping.{new_layout}
 use Rattle.lu_machine.specs.Plan.{Refuse, LookAttr, Outcome, outcome}
-use Rattle.lu_machine.specs.Table.{root, made_by, absent, there, walk, walk_up, to_last, last_of, tells, does, row_lookup, row_stat, row_list, row_layout, row_mkdir, row_create, row_link, row_unlink, row_rmdir, passes, moves, row_replace, row_rename, rename, row_chmod}
+use Rattle.lu_machine.specs.Table.{root, made_by, absent, there, walk, walk_up, to_last, last_of, tells, does, row_lookup, row_stat, row_list, row_layout, row_mkdir, row_create, row_link, row_unlink, row_rmdir, passes, moves, row_replace, row_rename, rename, row_chmod, row_open}
 use Rattle.lu_machine.specs.Footprint.{Operation, after}
 use Rattle.lu_machine.specs.Paths.{leads_to, at_path}
 use Rattle.lu_machine.proofs.Keys.{fid_tells, name_tells}
@@ -272,6 +272,15 @@ module _ (osts : ℕ) (t : Tree) (number : Txn) (who : Who) (Made Files : Path �
       sets c = cond_both ((attributes t c).mode == mode) (tells told.Done []) (does told.Done (SetMode c mode ∷ [])) (λ x. After (op.Chmod path mode) (outcome t x))
           (λ _. stays (op.Chmod path mode)) (λ _. less (op.Chmod path mode) (change t (SetMode c mode)) (λ x m b k. sym (name_after t (SetMode c mode) x m) ∙ k))
 
+  -- ---- open
+
+  open_named : (path : Path) → After (op.Open path) (outcome t (walk root path (λ cs. row_open number who (last_of root cs))))
+  open_named path = walk_steps t (After (op.Open path)) (λ e. stays (op.Open path)) root path (λ cs. row_open number who (last_of root cs)) (λ cs s. opened (last_of root cs))
+    where
+      opened : (c : Child) → After (op.Open path) (outcome t (row_open number who c))
+      opened (Dir d) = stays (op.Open path)
+      opened (File f) = less (op.Open path) (change t (Opens number who f)) (λ x m c k. k)
+
   -- ---- rename
 
   or_true : (b : Bool) → (b || true) ≡ true
@@ -446,6 +455,8 @@ module _ (osts : ℕ) (t : Tree) (number : Txn) (who : Who) (Made Files : Path �
   named_so (op.Rmdir path) is = rmdir_named path
   named_so (op.Rename old path) is = rename_named old path
   named_so (op.Chmod path mode) is = chmod_named path mode
+  named_so (op.Open path) is = open_named path
+  named_so (op.Close opened fid) is = less (op.Close opened fid) (change t (Closes opened who)) (λ x m c k. k)
   named_so _ is = absurd is
 
 -- of paths alone

@@ -1,25 +1,24 @@
--- Request numbers and tags at one target: each request has a number of its own, above all before it, and a tag that
--- no other in flight has; what was heard flies no more, and no more fly than may.
+-- Request numbers and tags at one target: each request of a life has a number of its own, above all before it, and a
+-- tag that no other of that life in flight has; what was heard flies no more, and no more fly than may.
 use Rattle.std.proofs.Common.{◌≡◌, ℕ, zero, suc, ◌+◌, ◌≤◌, Bool, true, false, List, [], ◌∷◌, ◌++◌, ◌⊎◌, inl, inr, ⊎_elim, refl, sym, subst, ap, ◌∙◌, arith}
 use Rattle.std.specs.Prelude.{nat_eq, not, ◌&&◌, if◌then◌else◌, length}
 use Rattle.std.specs.List.{filter}
-use Rattle.std.proofs.lemmas.Bool.{and_parts, cond_both, eqb-true, not-true}
+use Rattle.std.proofs.lemmas.Bool.{and_parts, and_from, cond_both, eqb-true, not-true}
 use Rattle.std.proofs.lemmas.Bool.Decides.{nat_tests}
 use Rattle.lu_base.specs.declared.ids.Node.{Node}
 use Rattle.lu_base.specs.declared.ids.Node.TheVariants.{Client, Target}
 use Rattle.lu_base.specs.declared.ids.Stamp.{Stamp}
+use Rattle.lu_base.specs.declared.ids.Who.{Who}
 use Rattle.lu_msg.specs.declared.messages.Reply.{Reply as ReplyTo}
 use Rattle.lu_words.specs.Carried.{Flight}
-use Rattle.lu_words.specs.Words.{Entry, Flies, Heard, Line, line}
+use Rattle.lu_words.specs.Words.{Entry, Flies, Heard, Life, Line, line, same_life}
 use Rattle.lu_covered.specs.Imports.{without_flight, has_tag, above_tags, free_from, free_tag}
-use Rattle.lu_covered.specs.ClientStates.{flights_of, last_of, tag_of}
+use Rattle.lu_covered.specs.ClientStates.{flights_of, last_of, life_of, tag_of, is_own}
 use Rattle.lu_covered.specs.Heads.{Head}
-use Rattle.lu_guards.proofs.Guards.{In, FliesOk, EntryOf}
-use Rattle.lu_guards.proofs.Lists.{in_append, in_filter, in_filtered, in_left, in_right}
-use Rattle.lu_facts.proofs.Groups.{turn, Flew, Hears, Tagged, Numbers, Room}
-
-pub client_is : (c d : ℕ) → Client d ≡ Client c → c ≡ d
-client_is c d e = cc
+use Rattle.lu_guards.proofs.Guards.{In, FliesOk, LifeOf, EntryOf}
+use Rattle.lu_guards.proofs.Lists.{self, in_append, in_filter, in_filtered, in_left, in_right, own_is}
+use Rattle.lu_facts.proofs.Groups.{turn, Flew, Hears, Phase, Tagged, Numbers, Room}
+use Rattle.lu_facts.proofs.Phase.{life_rises}
 
 -- ---- the free tag
 
@@ -45,157 +44,187 @@ free_new flights f i e = let a = has_in flights f i in let b = free_is (above_ta
 
 -- ---- one more in flight
 
-module _ (head : Head) (past : List Line) (stamp : Stamp) (d t : ℕ) (f : Flight) (ok : FliesOk head past d f) (h : Numbers past) where
+module _ (head : Head) (past : List Line) (stamp : Stamp) (d t : ℕ) (f : Flight) (ok : FliesOk head past d f) (p : Phase head.osts past) (h : Numbers past) where
   abbrev new : List Line
   new = line (turn stamp (Client d)) (Flies t f) ∷ past
 
-  next : f.xid ≡ last_of d past + 1
+  abbrev me : Who
+  me = life_of d past
+
+  next : f.xid ≡ last_of me past + 1
   next = ap (λ (g : Flight). g.xid) ok.is
 
-  last_same : (c : ℕ) → c ≡ d → last_of c past ≡ last_of d past
-  last_same c e = ap (λ v. last_of v past) e
+  last_same : (who : Who) → same_life who me ≡ true → last_of who past ≡ last_of me past
+  last_same who e = ap (λ v. last_of v past) (own_is who past d e)
 
-  higher : (c x : ℕ) → x ≤ last_of c past → x ≤ last_of c new
-  higher c x le = cond_both (nat_eq c d) f.xid (last_of c past) (λ (v : ℕ). x ≤ v) (λ q. let s = last_same c (eqb-true c d q) in let n = next in omega arith) (λ q. le)
+  higher : (who : Who) (x : ℕ) → x ≤ last_of who past → x ≤ last_of who new
+  higher who x le = cond_both (same_life who me) f.xid (last_of who past) (λ (v : ℕ). x ≤ v) (λ q. let s = last_same who q in let n = next in omega arith) (λ q. le)
 
-  older : (c x tag : ℕ) → Tagged past c x tag → Tagged new c x tag
-  older c x tag k =
+  older : (who : Who) (x tag : ℕ) → Tagged past who x tag → Tagged new who x tag
+  older who x tag k =
       record {
-        low = higher c x k.low;
-        tag = cond_both (nat_eq c d && nat_eq f.xid x) f.tag (tag_of c x past) (λ (v : ℕ). v ≡ tag)
-            (λ q. let p = and_parts (nat_eq c d) (nat_eq f.xid x) q in let s = last_same c (eqb-true c d p.0) in let y = eqb-true f.xid x p.1 in let n = next in let l = k.low in absurd (omega arith))
+        low = higher who x k.low;
+        tag = cond_both (same_life who me && nat_eq f.xid x) f.tag (tag_of who x past) (λ (v : ℕ). v ≡ tag)
+            (λ q. let p = and_parts (same_life who me) (nat_eq f.xid x) q in let s = last_same who p.0 in let y = eqb-true f.xid x p.1 in let n = next in let l = k.low in absurd (omega arith))
             (λ q. k.tag);
       }
 
-  mine : (c : ℕ) → c ≡ d → Tagged new c f.xid f.tag
-  mine c e =
+  mine : (who : Who) → same_life who me ≡ true → Tagged new who f.xid f.tag
+  mine who e =
       record {
-        low = cond_both (nat_eq c d) f.xid (last_of c past) (λ (v : ℕ). f.xid ≤ v) (λ q. omega arith) (λ q. absurd (grind (arith, nat_tests)));
-        tag = cond_both (nat_eq c d && nat_eq f.xid f.xid) f.tag (tag_of c f.xid past) (λ (v : ℕ). v ≡ f.tag) (λ q. refl) (λ q. absurd (grind (arith, nat_tests)));
+        low = cond_both (same_life who me) f.xid (last_of who past) (λ (v : ℕ). f.xid ≤ v) (λ q. omega arith) (λ q. absurd (cc));
+        tag = cond_both (same_life who me && nat_eq f.xid f.xid) f.tag (tag_of who f.xid past) (λ (v : ℕ). v ≡ f.tag) (λ q. refl) (λ q. let b = and_from (same_life who me) (nat_eq f.xid f.xid) e (self f.xid) in absurd (cc));
       }
 
   -- it has the newest number
-  above : (c : ℕ) (g : Flight) → c ≡ d → Flew past c g → f.xid ≡ g.xid → ⊥
-  above c g e w x = let l = (h.tagged c g w).low in let s = last_same c e in let n = next in omega arith
+  above : (who : Who) (g : Flight) → same_life who me ≡ true → Flew past who g → f.xid ≡ g.xid → ⊥
+  above who g e w x = let l = (h.tagged who g w).low in let s = last_same who e in let n = next in omega arith
 
-  fly_in : (c : ℕ) (g : Flight) → In g (flights_of c new) → ((c ≡ d) × (f ≡ g)) ⊎ In g (flights_of c past)
-  fly_in c g =
-      cond_both (nat_eq c d) (flights_of c past ++ f ∷ []) (flights_of c past) (λ (fs : List Flight). In g fs → ((c ≡ d) × (f ≡ g)) ⊎ In g (flights_of c past))
-      (λ q i. ⊎_elim (λ (j : In g (flights_of c past)). inr j) (λ (j : In g (f ∷ [])). ⊎_elim (λ (e : f ≡ g). inl (eqb-true c d q, e)) (λ (v : ⊥). absurd v) j) (in_append g (flights_of c past) (f ∷ []) i))
+  fly_in : (who : Who) (g : Flight) → In g (flights_of who new) → ((same_life who me ≡ true) × (f ≡ g)) ⊎ In g (flights_of who past)
+  fly_in who g =
+      cond_both (same_life who me) (flights_of who past ++ f ∷ []) (flights_of who past) (λ (fs : List Flight). In g fs → ((same_life who me ≡ true) × (f ≡ g)) ⊎ In g (flights_of who past))
+      (λ q i. ⊎_elim (λ (j : In g (flights_of who past)). inr j) (λ (j : In g (f ∷ [])). ⊎_elim (λ (e : f ≡ g). inl (q, e)) (λ (v : ⊥). absurd v) j) (in_append g (flights_of who past) (f ∷ []) i))
       (λ q i. inr i)
 
-  flies_on : (c : ℕ) (g : Flight) → In g (flights_of c past) → In g (flights_of c new)
-  flies_on c g i = cond_both (nat_eq c d) (flights_of c past ++ f ∷ []) (flights_of c past) (λ (fs : List Flight). In g fs) (λ q. in_left g (flights_of c past) (f ∷ []) i) (λ q. i)
+  flies_on : (who : Who) (g : Flight) → In g (flights_of who past) → In g (flights_of who new)
+  flies_on who g i = cond_both (same_life who me) (flights_of who past ++ f ∷ []) (flights_of who past) (λ (fs : List Flight). In g fs) (λ q. in_left g (flights_of who past) (f ∷ []) i) (λ q. i)
 
-  flies_now : (c : ℕ) → c ≡ d → In f (flights_of c new)
-  flies_now c e = cond_both (nat_eq c d) (flights_of c past ++ f ∷ []) (flights_of c past) (λ (fs : List Flight). In f fs) (λ q. in_right f (flights_of c past) (f ∷ []) (inl refl)) (λ q. absurd (grind (arith, nat_tests)))
+  flies_now : (who : Who) → same_life who me ≡ true → In f (flights_of who new)
+  flies_now who e = cond_both (same_life who me) (flights_of who past ++ f ∷ []) (flights_of who past) (λ (fs : List Flight). In f fs) (λ q. in_right f (flights_of who past) (f ∷ []) (inl refl)) (λ q. absurd (cc))
 
-  taken : (c : ℕ) (g : Flight) → In g (flights_of c past) → c ≡ d → g.tag ≡ f.tag → ⊥
-  taken c g i e s = free_new (flights_of d past) g (subst (λ v. In g (flights_of v past)) e i) (s ∙ ap (λ (v : Flight). v.tag) ok.is)
+  taken : (who : Who) (g : Flight) → In g (flights_of who past) → same_life who me ≡ true → g.tag ≡ f.tag → ⊥
+  taken who g i e s = free_new (flights_of me past) g (subst (λ v. In g (flights_of v past)) (own_is who past d e) i) (s ∙ ap (λ (v : Flight). v.tag) ok.is)
+
+  -- the life is the client's present one
+  present : (who : Who) → same_life who me ≡ true → who.life ≤ (life_of who.client past).life
+  present who e =
+      let w = own_is who past d e in
+      let c : who.client ≡ d = ap (λ (v : Who). v.client) w ∙ p.client d in
+      let s : who.life ≡ me.life = ap (λ (v : Who). v.life) w in
+      let n : (life_of who.client past).life ≡ me.life = ap (λ v. (life_of v past).life) c in
+      omega arith
 
   numbers_flies : Numbers new
   numbers_flies =
       record {
-        positive = λ c g. ⊎_elim
-            (λ (p : (Client d ≡ Client c) × (f ≡ g)). let y : f.xid ≡ g.xid = ap (λ (k : Flight). k.xid) p.1 in let n = next in omega arith)
-            (λ (p : Flew past c g). h.positive c g p);
-        tagged = λ c g. ⊎_elim
-            (λ (p : (Client d ≡ Client c) × (f ≡ g)). subst (λ (v : Flight). Tagged new c v.xid v.tag) p.1 (mine c (client_is c d p.0)))
-            (λ (p : Flew past c g). older c g.xid g.tag (h.tagged c g p));
-        one = λ c g k. ⊎_elim
-            (λ (p : (Client d ≡ Client c) × (f ≡ g)). ⊎_elim
-            (λ (q : (Client d ≡ Client c) × (f ≡ k)) e. sym p.1 ∙ q.1)
-            (λ (q : Flew past c k) e. absurd (above c k (client_is c d p.0) q (ap (λ (j : Flight). j.xid) p.1 ∙ e))))
-            (λ (p : Flew past c g). ⊎_elim
-            (λ (q : (Client d ≡ Client c) × (f ≡ k)) e. absurd (above c g (client_is c d q.0) p (ap (λ (j : Flight). j.xid) q.1 ∙ sym e)))
-            (λ (q : Flew past c k) e. h.one c g k p q e));
-        flying = λ c g i. ⊎_elim
-            (λ (p : (c ≡ d) × (f ≡ g)). inl (ap Client (sym p.0), p.1))
-            (λ (j : In g (flights_of c past)). inr (h.flying c g j))
-            (fly_in c g i);
-        tags = λ c g k i j e. ⊎_elim
-            (λ (p : (c ≡ d) × (f ≡ g)). ⊎_elim
-            (λ (q : (c ≡ d) × (f ≡ k)). ap (λ (v : Flight). v.xid) (sym p.1 ∙ q.1))
-            (λ (q : In k (flights_of c past)). absurd (taken c k q p.0 (sym e ∙ ap (λ (v : Flight). v.tag) (sym p.1))))
-            (fly_in c k j))
-            (λ (p : In g (flights_of c past)). ⊎_elim
-            (λ (q : (c ≡ d) × (f ≡ k)). absurd (taken c g p q.0 (e ∙ ap (λ (v : Flight). v.tag) (sym q.1))))
-            (λ (q : In k (flights_of c past)). h.tags c g k p q e)
-            (fly_in c k j))
-            (fly_in c g i);
-        over = λ c x p. let old = h.over c x p in (
-          higher c x old.0,
+        positive = λ who g. ⊎_elim
+            (λ (p : (same_life who me ≡ true) × (f ≡ g)). let y : f.xid ≡ g.xid = ap (λ (k : Flight). k.xid) p.1 in let n = next in omega arith)
+            (λ (p : Flew past who g). h.positive who g p);
+        tagged = λ who g. ⊎_elim
+            (λ (p : (same_life who me ≡ true) × (f ≡ g)). subst (λ (v : Flight). Tagged new who v.xid v.tag) p.1 (mine who p.0))
+            (λ (p : Flew past who g). older who g.xid g.tag (h.tagged who g p));
+        one = λ who g k. ⊎_elim
+            (λ (p : (same_life who me ≡ true) × (f ≡ g)). ⊎_elim
+            (λ (q : (same_life who me ≡ true) × (f ≡ k)) e. sym p.1 ∙ q.1)
+            (λ (q : Flew past who k) e. absurd (above who k p.0 q (ap (λ (j : Flight). j.xid) p.1 ∙ e))))
+            (λ (p : Flew past who g). ⊎_elim
+            (λ (q : (same_life who me ≡ true) × (f ≡ k)) e. absurd (above who g q.0 p (ap (λ (j : Flight). j.xid) q.1 ∙ sym e)))
+            (λ (q : Flew past who k) e. h.one who g k p q e));
+        flying = λ who g i. ⊎_elim
+            (λ (p : (same_life who me ≡ true) × (f ≡ g)). inl p)
+            (λ (j : In g (flights_of who past)). inr (h.flying who g j))
+            (fly_in who g i);
+        tags = λ who g k i j e. ⊎_elim
+            (λ (p : (same_life who me ≡ true) × (f ≡ g)). ⊎_elim
+            (λ (q : (same_life who me ≡ true) × (f ≡ k)). ap (λ (v : Flight). v.xid) (sym p.1 ∙ q.1))
+            (λ (q : In k (flights_of who past)). absurd (taken who k q p.0 (sym e ∙ ap (λ (v : Flight). v.tag) (sym p.1))))
+            (fly_in who k j))
+            (λ (p : In g (flights_of who past)). ⊎_elim
+            (λ (q : (same_life who me ≡ true) × (f ≡ k)). absurd (taken who g p q.0 (e ∙ ap (λ (v : Flight). v.tag) (sym q.1))))
+            (λ (q : In k (flights_of who past)). h.tags who g k p q e)
+            (fly_in who k j))
+            (fly_in who g i);
+        over = λ who x p. let old = h.over who x p in (
+          higher who x old.0,
           λ g i e. ⊎_elim
-              (λ (q : (c ≡ d) × (f ≡ g)). let y : f.xid ≡ g.xid = ap (λ (v : Flight). v.xid) q.1 in let s = last_same c q.0 in let n = next in let l = old.0 in omega arith)
-              (λ (j : In g (flights_of c past)). old.1 g j e)
-              (fly_in c g i),
+              (λ (q : (same_life who me ≡ true) × (f ≡ g)). let y : f.xid ≡ g.xid = ap (λ (v : Flight). v.xid) q.1 in let s = last_same who q.0 in let n = next in let l = old.0 in omega arith)
+              (λ (j : In g (flights_of who past)). old.1 g j e)
+              (fly_in who g i),
         );
-        stays = λ c g. ⊎_elim
-            (λ (p : (Client d ≡ Client c) × (f ≡ g)). inl (subst (λ (v : Flight). In v (flights_of c new)) p.1 (flies_now c (client_is c d p.0))))
-            (λ (p : Flew past c g). ⊎_elim (λ (i : In g (flights_of c past)). inl (flies_on c g i)) (λ (q : Hears past c g.xid). inr q) (h.stays c g p));
-        after = λ c g k. ⊎_elim
-            (λ (p : (Client d ≡ Client c) × (f ≡ g)). ⊎_elim
-            (λ (q : (Client d ≡ Client c) × (f ≡ k)) e lt. let y : g.xid ≡ k.xid = ap (λ (v : Flight). v.xid) (sym p.1 ∙ q.1) in absurd (omega arith))
-            (λ (q : Flew past c k) e lt. let y : f.xid ≡ g.xid = ap (λ (v : Flight). v.xid) p.1 in let l = (h.tagged c k q).low in let s = last_same c (client_is c d p.0) in let n = next in absurd (omega arith)))
-            (λ (p : Flew past c g). ⊎_elim
-            (λ (q : (Client d ≡ Client c) × (f ≡ k)) e lt. ⊎_elim
-            (λ (i : In g (flights_of c past)). absurd (taken c g i (client_is c d q.0) (e ∙ ap (λ (v : Flight). v.tag) (sym q.1))))
-            (λ (r : Hears past c g.xid). r)
-            (h.stays c g p))
-            (λ (q : Flew past c k) e lt. h.after c g k p q e lt));
+        stays = λ who g. ⊎_elim
+            (λ (p : (same_life who me ≡ true) × (f ≡ g)). inl (subst (λ (v : Flight). In v (flights_of who new)) p.1 (flies_now who p.0)))
+            (λ (p : Flew past who g). ⊎_elim (λ (i : In g (flights_of who past)). inl (flies_on who g i)) (λ (q : Hears past who g.xid). inr q) (h.stays who g p));
+        after = λ who g k. ⊎_elim
+            (λ (p : (same_life who me ≡ true) × (f ≡ g)). ⊎_elim
+            (λ (q : (same_life who me ≡ true) × (f ≡ k)) e lt. let y : g.xid ≡ k.xid = ap (λ (v : Flight). v.xid) (sym p.1 ∙ q.1) in absurd (omega arith))
+            (λ (q : Flew past who k) e lt. let y : f.xid ≡ g.xid = ap (λ (v : Flight). v.xid) p.1 in let l = (h.tagged who k q).low in let s = last_same who p.0 in let n = next in absurd (omega arith)))
+            (λ (p : Flew past who g). ⊎_elim
+            (λ (q : (same_life who me ≡ true) × (f ≡ k)) e lt. ⊎_elim
+            (λ (i : In g (flights_of who past)). absurd (taken who g i q.0 (e ∙ ap (λ (v : Flight). v.tag) (sym q.1))))
+            (λ (r : Hears past who g.xid). r)
+            (h.stays who g p))
+            (λ (q : Flew past who k) e lt. h.after who g k p q e lt));
+        lived = λ who g. ⊎_elim (λ (p : (same_life who me ≡ true) × (f ≡ g)). present who p.0) (λ (p : Flew past who g). h.lived who g p);
       }
 
 -- ---- one less in flight
 
-heard_less : (past : List Line) (stamp : Stamp) (d t : ℕ) (f : Flight) (r : ReplyTo) (c : ℕ) (g : Flight) → In g (flights_of c (line (turn stamp (Client d)) (Heard t f r) ∷ past)) → In g (flights_of c past)
-heard_less past stamp d t f r c g =
-    cond_both (nat_eq c d) (without_flight f.xid (flights_of c past)) (flights_of c past) (λ (fs : List Flight). In g fs → In g (flights_of c past))
-    (λ q i. (in_filter (λ (k : Flight). not (nat_eq k.xid f.xid)) g (flights_of c past) i).0)
+heard_less : (past : List Line) (stamp : Stamp) (d t : ℕ) (f : Flight) (r : ReplyTo) (who : Who) (g : Flight) → In g (flights_of who (line (turn stamp (Client d)) (Heard t f r) ∷ past)) → In g (flights_of who past)
+heard_less past stamp d t f r who g =
+    cond_both (is_own who past (Client d)) (without_flight f.xid (flights_of who past)) (flights_of who past) (λ (fs : List Flight). In g fs → In g (flights_of who past))
+    (λ q i. (in_filter (λ (k : Flight). not (nat_eq k.xid f.xid)) g (flights_of who past) i).0)
     (λ q i. i)
 
-heard_gone : (past : List Line) (stamp : Stamp) (d t : ℕ) (f : Flight) (r : ReplyTo) (c : ℕ) (g : Flight) → c ≡ d → In g (flights_of c (line (turn stamp (Client d)) (Heard t f r) ∷ past)) → g.xid ≡ f.xid → ⊥
-heard_gone past stamp d t f r c g e =
-    cond_both (nat_eq c d) (without_flight f.xid (flights_of c past)) (flights_of c past) (λ (fs : List Flight). In g fs → g.xid ≡ f.xid → ⊥)
-    (λ q i k. let y = not-true (nat_eq g.xid f.xid) (in_filter (λ (v : Flight). not (nat_eq v.xid f.xid)) g (flights_of c past) i).1 in grind (arith, nat_tests))
-    (λ q i k. absurd (grind (arith, nat_tests)))
+heard_gone : (past : List Line) (stamp : Stamp) (d t : ℕ) (f : Flight) (r : ReplyTo) (who : Who) (g : Flight) → is_own who past (Client d) ≡ true → In g (flights_of who (line (turn stamp (Client d)) (Heard t f r) ∷ past)) → g.xid ≡ f.xid → ⊥
+heard_gone past stamp d t f r who g e =
+    cond_both (is_own who past (Client d)) (without_flight f.xid (flights_of who past)) (flights_of who past) (λ (fs : List Flight). In g fs → g.xid ≡ f.xid → ⊥)
+    (λ q i k. let y = not-true (nat_eq g.xid f.xid) (in_filter (λ (v : Flight). not (nat_eq v.xid f.xid)) g (flights_of who past) i).1 in grind (arith, nat_tests))
+    (λ q i k. absurd (cc))
 
-heard_or_stays : (past : List Line) (stamp : Stamp) (d t : ℕ) (f : Flight) (r : ReplyTo) (c : ℕ) (g : Flight) → let new = line (turn stamp (Client d)) (Heard t f r) ∷ past in In g (flights_of c past) → In g (flights_of c new) ⊎ Hears new c g.xid
-heard_or_stays past stamp d t f r c g i =
-    cond_both (nat_eq c d) (without_flight f.xid (flights_of c past)) (flights_of c past) (λ (fs : List Flight). In g fs ⊎ Hears (line (turn stamp (Client d)) (Heard t f r) ∷ past) c g.xid)
-    (λ q. by (nat_eq g.xid f.xid) refl (eqb-true c d q))
+heard_or_stays : (past : List Line) (stamp : Stamp) (d t : ℕ) (f : Flight) (r : ReplyTo) (who : Who) (g : Flight) → let new = line (turn stamp (Client d)) (Heard t f r) ∷ past in In g (flights_of who past) → In g (flights_of who new) ⊎ Hears new who g.xid
+heard_or_stays past stamp d t f r who g i =
+    cond_both (is_own who past (Client d)) (without_flight f.xid (flights_of who past)) (flights_of who past) (λ (fs : List Flight). In g fs ⊎ Hears (line (turn stamp (Client d)) (Heard t f r) ∷ past) who g.xid)
+    (λ q. by (nat_eq g.xid f.xid) refl q)
     (λ q. inl i)
   where
-    by : (b : Bool) → nat_eq g.xid f.xid ≡ b → c ≡ d → In g (without_flight f.xid (flights_of c past)) ⊎ Hears (line (turn stamp (Client d)) (Heard t f r) ∷ past) c g.xid
-    by true e s = inr (inl (ap Client (sym s), sym (eqb-true g.xid f.xid e)))
-    by false e s = inl (in_filtered (λ (k : Flight). not (nat_eq k.xid f.xid)) g (flights_of c past) i (ap not e))
+    by : (b : Bool) → nat_eq g.xid f.xid ≡ b → is_own who past (Client d) ≡ true → In g (without_flight f.xid (flights_of who past)) ⊎ Hears (line (turn stamp (Client d)) (Heard t f r) ∷ past) who g.xid
+    by true e s = inr (inl (s, sym (eqb-true g.xid f.xid e)))
+    by false e s = inl (in_filtered (λ (k : Flight). not (nat_eq k.xid f.xid)) g (flights_of who past) i (ap not e))
 
-numbers_heard : (past : List Line) (stamp : Stamp) (d t : ℕ) (f : Flight) (r : ReplyTo) → In f (flights_of d past) → Numbers past → Numbers (line (turn stamp (Client d)) (Heard t f r) ∷ past)
+numbers_heard : (past : List Line) (stamp : Stamp) (d t : ℕ) (f : Flight) (r : ReplyTo) → In f (flights_of (life_of d past) past) → Numbers past → Numbers (line (turn stamp (Client d)) (Heard t f r) ∷ past)
 numbers_heard past stamp d t f r flying h =
     record {
       positive = h.positive;
       tagged = h.tagged;
       one = h.one;
-      flying = λ c g i. h.flying c g (heard_less past stamp d t f r c g i);
-      tags = λ c g k i j. h.tags c g k (heard_less past stamp d t f r c g i) (heard_less past stamp d t f r c k j);
-      over = λ c x. ⊎_elim
-          (λ (p : (Client d ≡ Client c) × (f.xid ≡ x)).
-          let e = client_is c d p.0 in
-          let low = (h.tagged d f (h.flying d f flying)).low in
-          let s : last_of c past ≡ last_of d past = ap (λ v. last_of v past) e in
+      flying = λ who g i. h.flying who g (heard_less past stamp d t f r who g i);
+      tags = λ who g k i j. h.tags who g k (heard_less past stamp d t f r who g i) (heard_less past stamp d t f r who k j);
+      over = λ who x. ⊎_elim
+          (λ (p : (is_own who past (Client d) ≡ true) × (f.xid ≡ x)).
+          let low = (h.tagged (life_of d past) f (h.flying (life_of d past) f flying)).low in
+          let s : last_of who past ≡ last_of (life_of d past) past = ap (λ v. last_of v past) (own_is who past d p.0) in
           let y = p.1 in
-          (omega arith, λ g i w. heard_gone past stamp d t f r c g e i (w ∙ sym y)))
-          (λ (p : Hears past c x). let old = h.over c x p in (old.0, λ g i w. old.1 g (heard_less past stamp d t f r c g i) w));
-      stays = λ c g p. ⊎_elim (λ (i : In g (flights_of c past)). heard_or_stays past stamp d t f r c g i) (λ (q : Hears past c g.xid). inr (inr q)) (h.stays c g p);
-      after = λ c g k p q e lt. inr (h.after c g k p q e lt);
+          (omega arith, λ g i w. heard_gone past stamp d t f r who g p.0 i (w ∙ sym y)))
+          (λ (p : Hears past who x). let old = h.over who x p in (old.0, λ g i w. old.1 g (heard_less past stamp d t f r who g i) w));
+      stays = λ who g p. ⊎_elim (λ (i : In g (flights_of who past)). heard_or_stays past stamp d t f r who g i) (λ (q : Hears past who g.xid). inr (inr q)) (h.stays who g p);
+      after = λ who g k p q e lt. inr (h.after who g k p q e lt);
+      lived = h.lived;
+    }
+
+-- ---- a new life
+
+numbers_life : (past : List Line) (stamp : Stamp) (d : ℕ) (new : Who) → LifeOf past d new → Numbers past → Numbers (line (turn stamp (Client d)) (Life new) ∷ past)
+numbers_life past stamp d new ok h =
+    record {
+      positive = h.positive;
+      tagged = h.tagged;
+      one = h.one;
+      flying = h.flying;
+      tags = h.tags;
+      over = h.over;
+      stays = h.stays;
+      after = h.after;
+      lived = λ who f p. let le = h.lived who f p in let rises = life_rises past stamp d new ok who.client in omega arith;
     }
 
 pub keeps_numbers : (head : Head) (past : List Line) (stamp : Stamp) (node : Node) (e : Entry) → EntryOf head past (turn stamp node) node e
-    → Numbers past → Numbers (line (turn stamp node) e ∷ past)
-keeps_numbers head past stamp (Client c) (Flies t f) ok h = numbers_flies head past stamp c t f ok h
-keeps_numbers head past stamp (Client c) (Heard t f r) ok h = numbers_heard past stamp c t f r ok.flying h
-keeps_numbers head past stamp (Target u) (Flies t f) ok h = absurd ok
-keeps_numbers head past stamp (Target u) (Heard t f r) ok h = absurd ok
-keeps_numbers head past stamp node e ok h = h
+    → Phase head.osts past → Numbers past → Numbers (line (turn stamp node) e ∷ past)
+keeps_numbers head past stamp (Client c) (Flies t f) ok p h = numbers_flies head past stamp c t f ok p h
+keeps_numbers head past stamp (Client c) (Heard t f r) ok p h = numbers_heard past stamp c t f r ok.flying h
+keeps_numbers head past stamp (Client c) (Life who) ok p h = numbers_life past stamp c who ok h
+keeps_numbers head past stamp (Target u) (Flies t f) ok p h = absurd ok
+keeps_numbers head past stamp (Target u) (Heard t f r) ok p h = absurd ok
+keeps_numbers head past stamp node e ok p h = h
 
 -- ---- room
 
@@ -209,14 +238,14 @@ length_less g (x ∷ xs) = let h = length_less g xs in cond_both (g x) (x ∷ fi
 
 pub keeps_room : (head : Head) (past : List Line) (stamp : Stamp) (node : Node) (e : Entry) → EntryOf head past (turn stamp node) node e
     → Room head past → Room head (line (turn stamp node) e ∷ past)
-keeps_room head past stamp (Client d) (Flies t f) ok h = λ c.
-    cond_both (nat_eq c d) (flights_of c past ++ f ∷ []) (flights_of c past) (λ (fs : List Flight). length fs ≤ head.flight)
-    (λ q. let s : length (flights_of c past) ≡ length (flights_of d past) = ap (λ v. length (flights_of v past)) (eqb-true c d q) in let r = ok.room in let l = length_snoc (flights_of c past) f in omega arith)
-    (λ q. h c)
-keeps_room head past stamp (Client d) (Heard t f r) ok h = λ c.
-    cond_both (nat_eq c d) (without_flight f.xid (flights_of c past)) (flights_of c past) (λ (fs : List Flight). length fs ≤ head.flight)
-    (λ q. let l = length_less (λ (k : Flight). not (nat_eq k.xid f.xid)) (flights_of c past) in let k = h c in omega arith)
-    (λ q. h c)
+keeps_room head past stamp (Client d) (Flies t f) ok h = λ who.
+    cond_both (is_own who past (Client d)) (flights_of who past ++ f ∷ []) (flights_of who past) (λ (fs : List Flight). length fs ≤ head.flight)
+    (λ q. let s : length (flights_of who past) ≡ length (flights_of (life_of d past) past) = ap (λ v. length (flights_of v past)) (own_is who past d q) in let r = ok.room in let l = length_snoc (flights_of who past) f in omega arith)
+    (λ q. h who)
+keeps_room head past stamp (Client d) (Heard t f r) ok h = λ who.
+    cond_both (is_own who past (Client d)) (without_flight f.xid (flights_of who past)) (flights_of who past) (λ (fs : List Flight). length fs ≤ head.flight)
+    (λ q. let l = length_less (λ (k : Flight). not (nat_eq k.xid f.xid)) (flights_of who past) in let k = h who in omega arith)
+    (λ q. h who)
 keeps_room head past stamp (Target u) (Flies t f) ok h = absurd ok
 keeps_room head past stamp (Target u) (Heard t f r) ok h = absurd ok
 keeps_room head past stamp node e ok h = h

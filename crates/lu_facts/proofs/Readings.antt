@@ -18,7 +18,7 @@ use Rattle.lu_machine.specs.Tree.{Tree, same_fid, fid_of, child, listing, attrib
 use Rattle.lu_machine.specs.Change.{Leads, Drops, Parted, SetMode, SetLinks, Leaves}
 use Rattle.lu_machine.specs.Striping.{new_layout}
 use Rattle.lu_machine.specs.Plan.{Plan, Refuse, LookAttr, Outcome, outcome}
-use Rattle.lu_machine.specs.Table.{root, absent, there, walk, walk_up, to_last, last_of, wants, tells, does, row_lookup, row_stat, row_list, row_layout, row_mkdir, row_create, row_link, row_unlink, row_rmdir, passes, moves, row_replace, row_rename, rename, row_chmod}
+use Rattle.lu_machine.specs.Table.{root, absent, there, walk, walk_up, to_last, last_of, wants, tells, does, row_lookup, row_stat, row_list, row_layout, row_mkdir, row_create, row_link, row_unlink, row_rmdir, passes, moves, row_replace, row_rename, rename, row_chmod, row_open}
 use Rattle.lu_machine.specs.Footprint.{Operation, answer, grants}
 use Rattle.lu_machine.specs.Laws.{IsReading}
 use Rattle.lu_machine.proofs.Made.{Named}
@@ -148,6 +148,10 @@ module _ (osts : ℕ) (t : Tree) (number : Txn) (who : Who) where
   chmod_free : (mode : ℕ) (c : Child) → IsFree (outcome t (row_chmod mode c))
   chmod_free mode c = cond_both ((attributes t c).mode == mode) (tells told.Done []) (does told.Done (SetMode c mode ∷ [])) (λ x. IsFree (outcome t x)) (λ _. refl) (λ _. refl)
 
+  open_free : (c : Child) → IsFree (outcome t (row_open number who c))
+  open_free (Dir d) = refl
+  open_free (File f) = refl
+
   pub changing_free : (o : Op) → IsOnNames o → (IsReading o → ⊥) → grants osts t (act o) ≡ []
   changing_free (op.Lookup path) is changes = absurd (changes tt)
   changing_free (op.Stat path) is changes = absurd (changes tt)
@@ -160,4 +164,6 @@ module _ (osts : ℕ) (t : Tree) (number : Txn) (who : Who) where
   changing_free (op.Rmdir path) is changes = to_last_ends t IsFree refused EBUSY path (λ cs d n. there (row_rmdir d n)) (λ cs d n. there_ends t IsFree refused (row_rmdir d n) (child t d n) (λ c h. rmdir_free d n c))
   changing_free (op.Rename old new) is changes = rename_free old new
   changing_free (op.Chmod path mode) is changes = walk_ends t IsFree refused root path (λ cs. row_chmod mode (last_of root cs)) (λ cs h. chmod_free mode (last_of root cs))
+  changing_free (op.Open path) is changes = walk_ends t IsFree refused root path (λ cs. row_open number who (last_of root cs)) (λ cs h. open_free (last_of root cs))
+  changing_free (op.Close opened fid) is changes = refl
   changing_free _ is changes = absurd is

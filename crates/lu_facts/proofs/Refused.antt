@@ -1,4 +1,4 @@
--- A reading that acts and is granted no lock is refused; so each answer that comes without locks is told as it is.
+-- A reading that acts and is granted no lock is refused; so each answer that comes without locks is told at once.
 use Rattle.std.proofs.Common.{◌≡◌, ℕ, true, List, [], ◌∷◌, ⊎_elim, refl, sym, subst, ap}
 use Rattle.std.specs.Prelude.{nat_eq}
 use Rattle.lu_base.specs.declared.ids.At.{At}

@@ -1,96 +1,110 @@
 -- Who is told what: the reply that answered a call is to what was done for its operation after it began.
-use Rattle.std.proofs.Common.{◌≡◌, ℕ, List, ◌∷◌, Option, Some, ◌⊎◌, ⊎_elim, sym, subst, ap, ◌∙◌, arith}
+use Rattle.std.proofs.Common.{◌≡◌, ℕ, List, ◌∷◌, Option, Some, None, ◌⊎◌, ⊎_elim, refl, sym, subst, ap, ◌∙◌, arith}
+use Rattle.std.specs.Prelude.{nat_eq}
+use Rattle.std.proofs.lemmas.Bool.{cond_both, eqb-true}
 use Rattle.lu_base.specs.declared.ids.At.{At}
 use Rattle.lu_base.specs.declared.ids.Node.{Node}
 use Rattle.lu_base.specs.declared.ids.Node.TheVariants.{Client, Target}
 use Rattle.lu_base.specs.declared.ids.Stamp.{Stamp}
+use Rattle.lu_base.specs.declared.ids.Who.{Who}
+use Rattle.lu_msg.specs.declared.calls.Call.{Call}
 use Rattle.lu_msg.specs.declared.messages.Message.TheVariants as message
 use Rattle.lu_msg.specs.declared.messages.Reply.{Reply as ReplyTo}
 use Rattle.lu_msg.specs.declared.operations.Op.{Op}
-use Rattle.lu_words.specs.Carried.{Deed, Flight, Answered, Running}
-use Rattle.lu_words.specs.Words.{Entry, Queues, Heard, Line, line}
+use Rattle.lu_words.specs.Carried.{Deed, HandleFile, Flight, Answered, Running}
+use Rattle.lu_words.specs.Words.{Entry, Tick, Queues, Heard, Life, Line, line}
 use Rattle.lu_words.specs.Concerns.{only}
-use Rattle.lu_covered.specs.Calls.{call_at, operation_of}
+use Rattle.lu_covered.specs.Calls.{call_at, life_at, operation_of, becomes}
 use Rattle.lu_covered.specs.Imports.{flights_at}
-use Rattle.lu_covered.specs.ClientStates.{flights_of}
+use Rattle.lu_covered.specs.ClientStates.{flights_of, life_of}
 use Rattle.lu_covered.specs.Heads.{Head}
-use Rattle.lu_guards.proofs.Guards.{In, HeardOk, EntryOk}
+use Rattle.lu_guards.proofs.Guards.{In, Ending, HeardOk, EntryOk, Grown}
 use Rattle.lu_guards.proofs.Lists.{self}
-use Rattle.lu_guards.proofs.Parts.{flights_is}
+use Rattle.lu_guards.proofs.Parts.{flights_now, life_is_of}
 use Rattle.lu_facts.proofs.Groups.{turn, Flew, Acted, HoldsAt, CallOf, Asks, Upto, Since, Replied, Replies}
 use Rattle.lu_facts.proofs.Lines.{AtEach, only_more}
 use Rattle.lu_facts.proofs.Calls.{Began, Touches, Touched, call_cases}
+use Rattle.lu_facts.proofs.Endings.{reply_ends_none}
 
-replied_more : (past : List Line) (l : Line) (c : ℕ) (r : Running) (target : ℕ) (reply : ReplyTo) → Replied past c r target reply → Replied (l ∷ past) c r target reply
-replied_more past l c r target reply k = record { deed = k.deed; acted = only_more target l past k.deed k.acted; is = k.is; client = k.client; op = k.op; since = k.since }
+replied_more : (past : List Line) (l : Line) (c : ℕ) (r : Running) (target : ℕ) (reply : ReplyTo) → life_at c (l ∷ past) ≡ life_at c past → Replied past c r target reply → Replied (l ∷ past) c r target reply
+replied_more past l c r target reply same k = record { deed = k.deed; acted = only_more target l past k.deed k.acted; is = k.is; client = k.client ∙ sym same; op = k.op; since = k.since }
 
--- the operation of a deed is that of the flight of its number
-flew_op : (head : Head) (past : List Line) (c : ℕ) (f : Flight) (d : Deed) → HoldsAt head past → In f (flights_of c past) → Acted past d → d.reply.who.client ≡ c → d.reply.xid.0 ≡ f.xid → f.op ≡ d.op
-flew_op head past c f d h i a w x =
+-- where a call isn't told its life goes on
+call_lives : (past : List Line) (stamp : Stamp) (node : Node) (e : Entry) → EntryOk past (turn stamp node) node e → (c slot : ℕ) (r : Running) → call_at c slot (line (turn stamp node) e ∷ past) ≡ Some r → life_at c (line (turn stamp node) e ∷ past) ≡ life_at c past
+call_lives past stamp (Client d) (Life who) ok c slot r k =
+    cond_both (nat_eq c d) who (life_at c past) (λ (w : Who). w ≡ life_at c past)
+    (λ q. let none : call_at c slot past ≡ None = ap (λ v. call_at v slot past) (eqb-true c d q) ∙ ok.idle slot in absurd (cc))
+    (λ q. refl)
+call_lives past stamp (Target t) Tick ok c slot r k = refl
+call_lives past stamp node e ok c slot r k = refl
+
+-- the operation of a deed is that of the flight of its life and number
+flew_op : (head : Head) (past : List Line) (who : Who) (f : Flight) (d : Deed) → HoldsAt head past → In f (flights_of who past) → Acted past d → d.reply.who ≡ who → d.reply.xid.0 ≡ f.xid → f.op ≡ d.op
+flew_op head past who f d h i a w x =
     let g = h.done.flew d a in
     let y = g.2 in
-    let same : f ≡ g.0 = h.numbers.one c f g.0 (h.numbers.flying c f i) (subst (λ v. Flew past v g.0) w g.1) (omega arith) in
+    let same : f ≡ g.0 = h.numbers.one who f g.0 (h.numbers.flying who f i) (subst (λ v. Flew past v g.0) w g.1) (omega arith) in
     ap (λ (v : Flight). v.op) same ∙ g.3
 
-call_op : (past : List Line) (c slot : ℕ) (f : Flight) (r : Running) → CallOf past c f.slot f.op → f.slot ≡ Some slot → call_at c slot past ≡ Some r → operation_of r.call ≡ Some f.op
+call_op : (past : List Line) (c slot : ℕ) (f : Flight) (r : Running) → CallOf past c f.slot f.op → f.slot ≡ Some slot → call_at c slot past ≡ Some r → becomes r ≡ Some f.op
 call_op past c slot f r k s w =
     let q = subst (λ (v : Option ℕ). CallOf past c v f.op) s k in
     let x : Some q.0 ≡ Some r = sym q.1 ∙ w in
     let same : q.0 ≡ r = cc in
-    subst (λ (v : Running). operation_of v.call ≡ Some f.op) same q.3
+    subst (λ (v : Running). becomes v ≡ Some f.op) same q.3
 
 -- the call whose request's reply is heard
-heard_replied : (head : Head) (past : List Line) (d u slot : ℕ) (f : Flight) (k : ReplyTo) (before : Running) → HeardOk (only u past) d f k → HoldsAt head (only u past) → Asks past → Since past
+heard_replied : (head : Head) (past : List Line) (d u slot : ℕ) (f : Flight) (k : ReplyTo) (before : Running) → Grown head past → (Ending past d → ⊥) → HeardOk (only u past) d f k → HoldsAt head (only u past) → Asks past → Since past
     → f.slot ≡ Some slot → call_at d slot past ≡ Some before → Replied past d before u k
-heard_replied head past d u slot f k before ok at asks since s call =
+heard_replied head past d u slot f k before g lives ok at asks since s call =
     let m = at.done.sent (Target ok.from) (Client d) (message.Reply k) ok.was in
-    let flying : In f (flights_at d u past) = subst (λ (fs : List Flight). In f fs) (sym (flights_is d u past)) ok.flying in
-    let w : m.0.reply.who.client ≡ d = ap (λ (v : ReplyTo). v.who.client) (sym m.2) ∙ sym m.3 in
+    let flying : In f (flights_at d u past) = subst (λ (fs : List Flight). In f fs) (sym (flights_now head d u past g)) ok.flying in
+    let mine : m.0.reply.who ≡ life_of d (only u past) = ap (λ (v : ReplyTo). v.who) (sym m.2) ∙ ok.who in
     let x : m.0.reply.xid.0 ≡ f.xid = ap (λ (v : ReplyTo). v.xid.0) (sym m.2) ∙ sym ok.xid in
     record {
       deed = m.0;
       acted = m.1;
       is = sym m.2;
-      client = ok.who ∙ at.phase.life d;
-      op = call_op past d slot f before (asks.fly_calls d u f flying) s call ∙ ap (λ (v : Op). Some v) (flew_op head (only u past) d f m.0 at ok.flying m.1 w x);
-      since = subst (λ (v : ReplyTo). Upto before.at v.at) (sym m.2) (since d u slot f before m.0 flying s call m.1 w x);
+      client = ok.who ∙ sym (life_is_of d u past);
+      op = call_op past d slot f before (asks.fly_calls d u f lives flying) s call ∙ ap (λ (v : Op). Some v) (flew_op head (only u past) (life_of d (only u past)) f m.0 at ok.flying m.1 mine x);
+      since = subst (λ (v : ReplyTo). Upto before.at v.at) (sym m.2) (since d u slot f before m.0 flying s call m.1 (mine ∙ sym (life_is_of d u past)) x);
     }
 
-replied_as : (past : List Line) (c : ℕ) (q r : Running) (t : ℕ) (k : ReplyTo) → q.at ≡ r.at → q.call ≡ r.call → Replied past c q t k → Replied past c r t k
-replied_as past c q r t k a s h =
+replied_as : (past : List Line) (c : ℕ) (q r : Running) (t : ℕ) (k : ReplyTo) → q.at ≡ r.at → q.call ≡ r.call → q.file ≡ r.file → Replied past c q t k → Replied past c r t k
+replied_as past c q r t k a s i h =
     record {
       deed = h.deed;
       acted = h.acted;
       is = h.is;
       client = h.client;
-      op = ap operation_of (sym s) ∙ h.op;
+      op = ap (λ (v : Call). operation_of r.file v) (sym s) ∙ ap (λ (v : Option HandleFile). operation_of v q.call) (sym i) ∙ h.op;
       since = subst (λ (v : At). Upto v k.at) a h.since;
     }
 
-module _ (head : Head) (past : List Line) (at : (t : ℕ) → HoldsAt head (only t past)) (asks : Asks past) (since : Since past) where
-  touched_replied : (stamp : Stamp) (node : Node) (e : Entry) → AtEach head past (turn stamp node) node e → (c slot target : ℕ) (r : Running) (reply : ReplyTo) → (q : Touched past node e c slot r) → Touches node e c slot r.asking
+module _ (head : Head) (past : List Line) (g : Grown head past) (at : (t : ℕ) → HoldsAt head (only t past)) (asks : Asks past) (since : Since past) where
+  touched_replied : (stamp : Stamp) (node : Node) (e : Entry) → EntryOk past (turn stamp node) node e → AtEach head past (turn stamp node) node e → (c slot target : ℕ) (r : Running) (reply : ReplyTo) → (q : Touched past node e c slot r) → Touches node e c slot r.asking
       → r.asking ≡ Answered target reply → Replied past c r target reply
-  touched_replied stamp (Client d) (Heard u f k) of c slot target r reply q (n, s, asking) a =
+  touched_replied stamp (Client d) (Heard u f k) ok of c slot target r reply q (n, s, asking) a =
       let y : Answered u k ≡ Answered target reply = sym asking ∙ a in
       let is_target : u ≡ target = cc in
       let is_reply : k ≡ reply = cc in
       let is_client : d ≡ c = cc in
       subst (λ (v : ℕ). Replied past c r v reply) is_target
       (subst (λ (v : ReplyTo). Replied past c r u v) is_reply
-      (replied_as past c q.before r u k q.at q.same
+      (replied_as past c q.before r u k q.at q.same q.file
       (subst (λ (v : ℕ). Replied past v q.before u k) is_client
-      (heard_replied head past d u slot f k q.before (of u (self u)) (at u) asks since s (subst (λ (v : ℕ). call_at v slot past ≡ Some q.before) (sym is_client) q.call)))))
-  touched_replied stamp (Target v) (Heard u f k) of c slot target r reply q (n, s, asking) a = absurd (cc)
-  touched_replied stamp node (Queues u g) of c slot target r reply q asking a = absurd (cc)
-  touched_replied stamp node e of c slot target r reply q never a = absurd never
+      (heard_replied head past d u slot f k q.before g (reply_ends_none head past (turn stamp (Client d)) (Target u) k d g ok.1) (of u (self u)) (at u) asks since s (subst (λ (v : ℕ). call_at v slot past ≡ Some q.before) (sym is_client) q.call)))))
+  touched_replied stamp (Target v) (Heard u f k) ok of c slot target r reply q (n, s, asking) a = absurd (cc)
+  touched_replied stamp node (Queues u w) ok of c slot target r reply q asking a = absurd (cc)
+  touched_replied stamp node e ok of c slot target r reply q never a = absurd never
 
   pub keeps_replies : (stamp : Stamp) (node : Node) (e : Entry) → EntryOk past (turn stamp node) node e → AtEach head past (turn stamp node) node e → Replies past → Replies (line (turn stamp node) e ∷ past)
   keeps_replies stamp node e ok of h c slot target r reply k a =
-      replied_more past (line (turn stamp node) e) c r target reply
+      replied_more past (line (turn stamp node) e) c r target reply (call_lives past stamp node e ok c slot r k)
       (⊎_elim
       (λ (p : call_at c slot past ≡ Some r). h c slot target r reply p a)
-      (λ (p : Began past (turn stamp node) c slot r ⊎ Touched past node e c slot r). ⊎_elim
-      (λ (q : Began past (turn stamp node) c slot r). let n = q.asking in absurd (cc))
-      (λ (q : Touched past node e c slot r). touched_replied stamp node e of c slot target r reply q q.asking a)
+      (λ (p : Began past (turn stamp node) e c slot r ⊎ Touched past node e c slot r). ⊎_elim
+      (λ (q : Began past (turn stamp node) e c slot r). let n = q.asking in absurd (cc))
+      (λ (q : Touched past node e c slot r). touched_replied stamp node e ok of c slot target r reply q q.asking a)
       p)
       (call_cases past stamp node e ok c slot r k))

@@ -1,13 +1,17 @@
 -- What replies to readings taught is true while the lock is granted under which it is known; and each transaction that wrote what
--- such a fact is of is committed, or the reply has seen it.
+-- such a fact is of is committed, or the reply has seen it. To a life that was evicted all that it knows is true of the tree as it
+-- was then.
 use Rattle.std.proofs.Common.{◌≡◌, ℕ, ◌+◌, ◌*◌, ◌<◌, ◌≤◌, Bool, true, false, List, [], ◌∷◌, ◌++◌, ◌⊎◌, inl, inr, ⊎_elim, refl, sym, subst, ap, ◌∙◌, arith}
-use Rattle.std.specs.Prelude.{◌||◌, not, nat_lt, ◌==◌, filter}
+use Rattle.std.specs.Prelude.{◌||◌, not, nat_lt, ◌==◌, filter, if◌then◌else◌}
 use Rattle.std.specs.List.{list_any}
-use Rattle.std.proofs.lemmas.Bool.{cond_both, ltb-true, ltb-false}
+use Rattle.std.proofs.lemmas.Bool.{cond_both, cond-true, ltb-true, ltb-false}
 use Rattle.lu_base.specs.declared.ids.At.{At}
 use Rattle.lu_base.specs.declared.ids.Node.{Node}
 use Rattle.lu_base.specs.declared.ids.Node.TheVariants.{Client, Target}
 use Rattle.lu_base.specs.declared.ids.Stamp.{Stamp}
+use Rattle.lu_base.specs.declared.ids.Txn.{Txn as TxnOf}
+use Rattle.lu_base.specs.declared.ids.Who.{Who}
+use Rattle.lu_base.specs.declared.locks.Cause.{Cause}
 use Rattle.lu_base.specs.declared.locks.Lock.{Lock}
 use Rattle.lu_msg.specs.declared.answers.Answer.{Answer}
 use Rattle.lu_msg.specs.declared.answers.Answer.TheVariants as told
@@ -17,25 +21,31 @@ use Rattle.lu_msg.specs.declared.operations.Op.{Op}
 use Rattle.lu_msg.specs.declared.operations.Op.TheVariants as op
 use Rattle.lu_part.specs.Meets.{meets}
 use Rattle.lu_part.specs.declared.parts.Part.{Part}
-use Rattle.lu_machine.specs.Footprint.{touches, grants, changes, after, Apart}
+use Rattle.lu_machine.specs.Tree.{Tree}
+use Rattle.lu_machine.specs.Footprint.{empty, touches, grants, changes, after, forget, Apart}
 use Rattle.lu_machine.specs.Seen.{meet}
 use Rattle.lu_machine.proofs.Stated.{unchanged_stay}
 use Rattle.lu_words.specs.Carried.{Deed}
-use Rattle.lu_words.specs.Words.{Entry, Act, Txn as Made, Commit, Release, Line, line}
+use Rattle.lu_words.specs.Words.{Entry, Act, Txn as Made, Commit, Release, Enters, Evict, Line, line}
 use Rattle.lu_client_rows.specs.Facts.{Fact, taught}
-use Rattle.lu_target_rows.specs.Locks.{with_locks, without_lock}
+use Rattle.lu_target_rows.specs.Lives.{is_life}
+use Rattle.lu_target_rows.specs.Locks.{with_locks}
 use Rattle.lu_target_rows.specs.Names.{in_way, is_free}
-use Rattle.lu_covered.specs.TargetParts.{operation}
-use Rattle.lu_covered.specs.TargetStates.{none, server_of, next_number, seen_in}
+use Rattle.lu_covered.specs.TargetParts.{operation, is_request_of, without_request}
+use Rattle.lu_covered.specs.TargetStates.{none, server_of, evicted_of, next_number, seen_in}
 use Rattle.lu_covered.specs.Deeds.{asked, deed, locks_of, written_by}
 use Rattle.lu_covered.specs.Heads.{Head}
-use Rattle.lu_guards.proofs.Guards.{In, CommitOk, EntryOf}
-use Rattle.lu_guards.proofs.Lists.{in_append, in_left, in_right, in_filter, in_filtered}
-use Rattle.lu_facts.proofs.Groups.{turn, Acted, Phase, Locks}
-use Rattle.lu_facts.proofs.LockLists.{from_high, withs_in}
+use Rattle.lu_guards.proofs.Guards.{In, CommitOk, EntersOk, EntryOf, IsOfFirst}
+use Rattle.lu_guards.proofs.Lists.{in_append, in_left, in_right, in_filter, in_filtered, or_left, or_right}
+use Rattle.lu_facts.proofs.Groups.{turn, Acted, Phase, Dead, Evicted, Locks, Lives, HoldsAt}
+use Rattle.lu_facts.proofs.LockLists.{from_high, withs_in, left_in}
+use Rattle.lu_facts.proofs.LocksStay.{StaysDead}
+use Rattle.lu_facts.proofs.Locks.{keeps_dead}
 use Rattle.lu_facts.proofs.KnownPaths.{Tells}
 use Rattle.lu_facts.proofs.TaughtFacts.{Lies, taught_right}
-use Rattle.lu_facts.proofs.FactsStay.{IsSound, sound_empty, sound_after, free_spares, fact_stays, fact_unwritten, tells_wide}
+use Rattle.lu_facts.proofs.FactsStay.{IsSound, sound_empty, sound_after, sound_forget, free_spares, fact_stays, fact_unwritten, tells_wide, tells_forget}
+use Rattle.lu_guards.proofs.LifeLists.{life_put, life_put_more}
+use Rattle.lu_facts.proofs.LifeLists.{put_or}
 
 -- ---- the group
 
@@ -51,7 +61,13 @@ TaughtBy past d f = Acted past d × In f (taught d.op d.reply.answer d.reply.loc
 abbrev pub Saw : ℕ → List Line → Deed → Part → Type 0
 Saw osts past d p = (e : Deed) → Acted past e → Apart e.writes p ⊎ ((e.reply.txn.0 ≤ (server_of osts past).committed.0) ⊎ In e.reply.txn.0 d.reply.seen)
 
--- it lies under one of the locks that came with the reply: while that is granted, it is true
+-- the tree as that life knew it: as it was when the life was evicted, or as it is
+abbrev pub tree_for : ℕ → Who → List Line → Tree
+tree_for osts who [] = empty
+tree_for osts who (l ∷ past) = if is_life who (evicted_of past) then tree_for osts who past else (server_of osts (l ∷ past)).tree
+
+-- it lies under one of the locks that came with the reply: while that is granted, it is true; and where its life was evicted, it was
+-- true then, but if the lock is dead
 abbrev pub Under : ℕ → List Line → Deed → Fact → Type 0
 Under osts past d f =
     record {
@@ -61,6 +77,7 @@ Under osts past d f =
       lies : Lies lock f;
       stands : In lock (server_of osts past).granted → Tells (server_of osts past).tree (bound_of osts past) f;
       saw : In lock (server_of osts past).granted → Saw osts past d f.part;
+      left : Evicted past d.reply.who → Dead past d lock ⊎ Tells (tree_for osts d.reply.who past) (bound_of osts past) f;
     }
 
 abbrev pub Taught : ℕ → List Line → Type 0
@@ -72,7 +89,38 @@ Taught osts past =
       top : (server_of osts past).committed.0 ≤ bound_of osts past;
       logged : (d : Deed) → Acted past d → (d.writes ≡ []) ⊎ (In d (server_of osts past).log ⊎ (d.reply.txn.0 ≤ (server_of osts past).committed.0));
       under : (d : Deed) (f : Fact) → TaughtBy past d f → Under osts past d f;
+      waits : (r : RequestOf) → In r (server_of osts past).waiting → Evicted past r.who → ⊥;
     }
+
+-- ---- the tree as a life knew it
+
+-- it is the target's, if the life wasn't evicted
+pub tree_now : (osts : ℕ) (who : Who) (past : List Line) → is_life who (evicted_of past) ≡ false → tree_for osts who past ≡ (server_of osts past).tree
+tree_now osts who [] e = refl
+tree_now osts who (l ∷ past) e = by (is_life who (evicted_of past)) refl
+  where
+    more : (node : Node) (x : Entry) → is_life who (evicted_of past) ≡ true → is_life who (evicted_of (line (turn l.at.stamp node) x ∷ past)) ≡ true
+    more (Target t) (Evict w cause) q = life_put_more who w (evicted_of past) q
+    more node x q = q
+
+    by : (b : Bool) → is_life who (evicted_of past) ≡ b → (if b then tree_for osts who past else (server_of osts (l ∷ past)).tree) ≡ (server_of osts (l ∷ past)).tree
+    by true q = absurd (let m = more l.at.node l.entry q in cc)
+    by false q = refl
+
+-- and stays as it was from then on
+pub tree_then : (osts : ℕ) (who : Who) (l : Line) (past : List Line) → Evicted past who → tree_for osts who (l ∷ past) ≡ tree_for osts who past
+tree_then osts who l past e = cond-true (is_life who (evicted_of past)) (tree_for osts who past) (server_of osts (l ∷ past)).tree e
+
+-- what was taught is true of it, while the lock isn't dead
+pub tells_for : (osts : ℕ) (past : List Line) (d : Deed) (f : Fact) → Locks osts past → (k : Under osts past d f) → Acted past d → Dead past d k.lock ⊎ Tells (tree_for osts d.reply.who past) (bound_of osts past) f
+tells_for osts past d f ls k a = by (is_life d.reply.who (evicted_of past)) refl
+  where
+    by : (b : Bool) → is_life d.reply.who (evicted_of past) ≡ b → Dead past d k.lock ⊎ Tells (tree_for osts d.reply.who past) (bound_of osts past) f
+    by true e = k.left e
+    by false e = ⊎_elim
+        (λ (i : In k.lock (server_of osts past).granted). inr (subst (λ (t : Tree). Tells t (bound_of osts past) f) (sym (tree_now osts d.reply.who past e)) (k.stands i)))
+        (⊎_elim (λ (x : Dead past d k.lock). inl x) (λ (x : Evicted past d.reply.who). absurd (cc)))
+        (ls.alive d k.lock (a, k.among))
 
 -- ---- lists
 
@@ -85,14 +133,6 @@ meets_or (w ∷ ws) p = by (meets w p) refl (meets_or ws p)
     by true e h = inr refl
     by false e (inl a) = inl (e, a)
     by false e (inr q) = inr q
-
-or_right : (a b : Bool) → b ≡ true → (a || b) ≡ true
-or_right true b e = refl
-or_right false b e = e
-
-or_left : (a b : Bool) → a ≡ true → (a || b) ≡ true
-or_left true b e = refl
-or_left false b e = absurd (cc)
 
 meet_one : (ws ps : List Part) (p : Part) → In p ps → list_any (λ w. meets w p) ws ≡ true → meet ws ps ≡ true
 meet_one ws [] p i e = absurd i
@@ -123,9 +163,12 @@ none_taught (op.List (n ∷ ns)) (told.Names names) f i = i
 none_taught (op.Layout (n ∷ ns)) (told.Layout l) f i = i
 none_taught o a f i = i
 
+fewer_waiting : (d : Deed) (r : RequestOf) (waiting : List RequestOf) → In r (without_request d waiting) → In r waiting
+fewer_waiting d r waiting i = (in_filter (λ (q : RequestOf). not (is_request_of d q)) r waiting i).0
+
 -- ---- an act
 
-module _ (osts : ℕ) (past : List Line) (at : At) (r : RequestOf) (ph : Phase osts past) (ls : Locks osts past) (h : Taught osts past) (still : changes osts (server_of osts past).tree (asked r none) ≡ false) where
+module _ (osts : ℕ) (past : List Line) (at : At) (r : RequestOf) (waited : In r (server_of osts past).waiting) (ls : Locks osts past) (h : Taught osts past) (still : changes osts (server_of osts past).tree (asked r none) ≡ false) where
   abbrev acting : Deed
   acting = deed osts (server_of osts past) at r none (locks_of osts (server_of osts past) r)
 
@@ -156,6 +199,7 @@ module _ (osts : ℕ) (past : List Line) (at : At) (r : RequestOf) (ph : Phase o
             lies = k.under.lies;
             stands = λ _. k.tells;
             saw = λ _ e a. saw k.touched e a;
+            left = λ e. absurd (h.waits r waited e);
           }
         where
           in_log : (touched : List Part) → In f.part touched → (e : Deed) → In e (server_of osts past).log → Apart e.writes f.part ⊎ ((e.reply.txn.0 ≤ (server_of osts past).committed.0) ⊎ In e.reply.txn.0 (seen_in touched (server_of osts past).log))
@@ -178,6 +222,7 @@ module _ (osts : ℕ) (past : List Line) (at : At) (r : RequestOf) (ph : Phase o
         lies = k.lies;
         stands = λ j. k.stands (old_granted d k.lock a k.among j);
         saw = λ j e b. more (k.saw (old_granted d k.lock a k.among j)) e b;
+        left = λ e. subst (λ (u : Tree). Dead past d k.lock ⊎ Tells u (bound_of osts past) f) (sym (tree_then osts d.reply.who (line (turn at.stamp (Target t)) (Act acting)) past e)) (k.left e);
       }
     where
       more : Saw osts past d f.part → (e : Deed) → (acting ≡ e) ⊎ Acted past e → Apart e.writes f.part ⊎ ((e.reply.txn.0 ≤ (server_of osts past).committed.0) ⊎ In e.reply.txn.0 d.reply.seen)
@@ -185,7 +230,7 @@ module _ (osts : ℕ) (past : List Line) (at : At) (r : RequestOf) (ph : Phase o
       more s e (inr b) = s e b
 
   act_taught : (t : ℕ) → Taught osts (acted_past t)
-  act_taught t = record { sound = h.sound; above = h.above; low = h.low; top = h.top; logged = λ d a. logged d a; under = act_under t }
+  act_taught t = record { sound = h.sound; above = h.above; low = h.low; top = h.top; logged = λ d a. logged d a; under = act_under t; waits = λ q i. h.waits q (fewer_waiting acting q (server_of osts past).waiting i) }
     where
       logged : (d : Deed) → (acting ≡ d) ⊎ Acted past d → (d.writes ≡ []) ⊎ (In d (server_of osts past).log ⊎ (d.reply.txn.0 ≤ (server_of osts past).committed.0))
       logged d (inl e) = inl (subst (λ (x : Deed). x.writes ≡ []) e acts_quiet)
@@ -218,6 +263,10 @@ module _ (osts : ℕ) (past : List Line) (at : At) (r : RequestOf) (ph : Phase o
         lies = k.lies;
         stands = λ j. tells_wide (after osts (server_of osts past).tree (operation making)) (bound_of osts past) (4294967296 + ((server_of osts past).count + 1)) f (omega arith)
             (fact_stays osts (server_of osts past).tree (operation making) (bound_of osts past) higher k.lock (free_spares (server_of osts past).granted (written_by osts (server_of osts past) r) k.lock free j) f h.sound.one k.lies (k.stands j));
+        left = λ e. ⊎_elim
+            (λ (x : Dead past d k.lock). inl x)
+            (λ (x : Tells (tree_for osts d.reply.who past) (bound_of osts past) f). inr (subst (λ (u : Tree). Tells u (4294967296 + ((server_of osts past).count + 1)) f) (sym (tree_then osts d.reply.who (line (turn at.stamp (Target t)) (Made making)) past e)) (tells_wide (tree_for osts d.reply.who past) (bound_of osts past) (4294967296 + ((server_of osts past).count + 1)) f (omega arith) x)))
+            (k.left e);
         saw = λ j e b. more (k.saw j) (fact_unwritten osts (server_of osts past).tree (operation making) (bound_of osts past) higher k.lock (free_spares (server_of osts past).granted (written_by osts (server_of osts past) r) k.lock free j) f k.lies (k.stands j)) e b;
       }
     where
@@ -234,6 +283,7 @@ module _ (osts : ℕ) (past : List Line) (at : At) (r : RequestOf) (ph : Phase o
         top = let c = h.top in omega (arith, c);
         logged = λ d a. logged d a;
         under = made_under t;
+        waits = λ q i. h.waits q (fewer_waiting making q (server_of osts past).waiting i);
       }
     where
       of : (d : Deed) → In d ((server_of osts past).log ++ making ∷ []) → (P : Deed → Type 0) → ((d : Deed) → In d (server_of osts past).log → P d) → P making → P d
@@ -251,67 +301,181 @@ module _ (osts : ℕ) (past : List Line) (at : At) (r : RequestOf) (ph : Phase o
       logged d (inl e) = inr (inl (in_right d (server_of osts past).log (making ∷ []) (inl e)))
       logged d (inr a) = old_logged d (h.logged d a)
 
--- ---- a commit, and a lock that is given back
+-- ---- a commit
 
-commit_taught : (osts : ℕ) (past : List Line) (stamp : Stamp) (t to : ℕ) (batch : Batch) → CommitOk osts past to batch → Taught osts past → Taught osts (line (turn stamp (Target t)) (Commit to batch) ∷ past)
-commit_taught osts past stamp t to batch ok h =
-    record {
-      sound = h.sound;
-      above = λ d i. ltb-true to d.reply.txn.0 (in_filter (λ (d : Deed). nat_lt to d.reply.txn.0) d (server_of osts past).log i).1;
-      low = λ d i. h.low d (in_filter (λ (d : Deed). nat_lt to d.reply.txn.0) d (server_of osts past).log i).0;
-      top = let l = h.low ok.last ok.logged in let is = ok.is in omega (arith, l, is);
-      logged = λ d a. logged d (h.logged d a);
-      under = λ d f k. let u = h.under d f k in record { lock = u.lock; among = u.among; cookie = u.cookie; lies = u.lies; stands = u.stands; saw = λ j e a. saw d f e (u.saw j e a) };
-    }
-  where
-    over : (server_of osts past).committed.0 < to
-    over = let l = h.above ok.last ok.logged in let is = ok.is in omega (arith, l, is)
+module _ (osts : ℕ) (past : List Line) (stamp : Stamp) (t to : ℕ) (batch : Batch) (ok : CommitOk osts past to) (h : Taught osts past) where
+  abbrev committing : List Line
+  committing = line (turn stamp (Target t)) (Commit to batch) ∷ past
 
-    saw : (d : Deed) (f : Fact) (e : Deed) → Apart e.writes f.part ⊎ ((e.reply.txn.0 ≤ (server_of osts past).committed.0) ⊎ In e.reply.txn.0 d.reply.seen) → Apart e.writes f.part ⊎ ((e.reply.txn.0 ≤ to) ⊎ In e.reply.txn.0 d.reply.seen)
-    saw d f e (inl a) = inl a
-    saw d f e (inr (inl le)) = inr (inl (let o = over in omega (arith, o, le)))
-    saw d f e (inr (inr i)) = inr (inr i)
+  over : (server_of osts past).committed.0 ≤ to
+  over = ⊎_elim
+      (λ (k : (d : Deed) × In d (server_of osts past).log × (to ≡ d.reply.txn.0)). let l = h.above k.0 k.1 in let is = k.2 in omega (arith, l, is))
+      (λ (is : to ≡ (server_of osts past).committed.0). omega (arith, is))
+      ok.is
 
-    kept : List Deed
-    kept = filter (λ (d : Deed). nat_lt to d.reply.txn.0) (server_of osts past).log
+  top : to ≤ bound_of osts past
+  top = ⊎_elim
+      (λ (k : (d : Deed) × In d (server_of osts past).log × (to ≡ d.reply.txn.0)). let l = h.low k.0 k.1 in let is = k.2 in omega (arith, l, is))
+      (λ (is : to ≡ (server_of osts past).committed.0). let l = h.top in omega (arith, is, l))
+      ok.is
 
-    logged : (d : Deed) → (d.writes ≡ []) ⊎ (In d (server_of osts past).log ⊎ (d.reply.txn.0 ≤ (server_of osts past).committed.0)) → (d.writes ≡ []) ⊎ (In d (filter (λ (d : Deed). nat_lt to d.reply.txn.0) (server_of osts past).log) ⊎ (d.reply.txn.0 ≤ to))
-    logged d (inl q) = inl q
-    logged d (inr (inl i)) = by (nat_lt to d.reply.txn.0) refl
-      where
-        by : (b : Bool) → nat_lt to d.reply.txn.0 ≡ b → (d.writes ≡ []) ⊎ (In d (filter (λ (d : Deed). nat_lt to d.reply.txn.0) (server_of osts past).log) ⊎ (d.reply.txn.0 ≤ to))
-        by true e = inr (inl (in_filtered (λ (d : Deed). nat_lt to d.reply.txn.0) d (server_of osts past).log i e))
-        by false e = inr (inr (ltb-false to d.reply.txn.0 e))
-    logged d (inr (inr le)) = inr (inr (let o = over in omega (arith, o, le)))
+  saw : (d : Deed) (f : Fact) (e : Deed) → Apart e.writes f.part ⊎ ((e.reply.txn.0 ≤ (server_of osts past).committed.0) ⊎ In e.reply.txn.0 d.reply.seen) → Apart e.writes f.part ⊎ ((e.reply.txn.0 ≤ to) ⊎ In e.reply.txn.0 d.reply.seen)
+  saw d f e (inl a) = inl a
+  saw d f e (inr (inl le)) = inr (inl (let o = over in omega (arith, o, le)))
+  saw d f e (inr (inr i)) = inr (inr i)
 
-release_taught : (osts : ℕ) (past : List Line) (stamp : Stamp) (t : ℕ) (l : Lock) → Taught osts past → Taught osts (line (turn stamp (Target t)) (Release l) ∷ past)
-release_taught osts past stamp t l h =
-    record {
-      sound = h.sound;
-      above = h.above;
-      low = h.low;
-      top = h.top;
-      logged = h.logged;
-      under = λ d f k.
-          let u = h.under d f k in
-          record { lock = u.lock; among = u.among; cookie = u.cookie; lies = u.lies; stands = λ j. u.stands (was u.lock j); saw = λ j. u.saw (was u.lock j) };
-    }
-  where
-    was : (m : Lock) → In m (without_lock l (server_of osts past).granted) → In m (server_of osts past).granted
-    was m i = (in_filter (λ (k : Lock). not (k.cookie.0 == l.cookie.0)) m (server_of osts past).granted i).0
+  logged : (d : Deed) → (d.writes ≡ []) ⊎ (In d (server_of osts past).log ⊎ (d.reply.txn.0 ≤ (server_of osts past).committed.0)) → (d.writes ≡ []) ⊎ (In d (filter (λ (d : Deed). nat_lt to d.reply.txn.0) (server_of osts past).log) ⊎ (d.reply.txn.0 ≤ to))
+  logged d (inl q) = inl q
+  logged d (inr (inl i)) = by (nat_lt to d.reply.txn.0) refl
+    where
+      by : (b : Bool) → nat_lt to d.reply.txn.0 ≡ b → (d.writes ≡ []) ⊎ (In d (filter (λ (d : Deed). nat_lt to d.reply.txn.0) (server_of osts past).log) ⊎ (d.reply.txn.0 ≤ to))
+      by true e = inr (inl (in_filtered (λ (d : Deed). nat_lt to d.reply.txn.0) d (server_of osts past).log i e))
+      by false e = inr (inr (ltb-false to d.reply.txn.0 e))
+  logged d (inr (inr le)) = inr (inr (let o = over in omega (arith, o, le)))
+
+  commit_taught : Taught osts committing
+  commit_taught =
+      record {
+        sound = h.sound;
+        above = λ d i. ltb-true to d.reply.txn.0 (in_filter (λ (d : Deed). nat_lt to d.reply.txn.0) d (server_of osts past).log i).1;
+        low = λ d i. h.low d (in_filter (λ (d : Deed). nat_lt to d.reply.txn.0) d (server_of osts past).log i).0;
+        top = top;
+        logged = λ d a. logged d (h.logged d a);
+        under = λ d f k. let u = h.under d f k in
+            record {
+              lock = u.lock;
+              among = u.among;
+              cookie = u.cookie;
+              lies = u.lies;
+              stands = u.stands;
+              saw = λ j e a. saw d f e (u.saw j e a);
+              left = λ e. subst (λ (v : Tree). Dead past d u.lock ⊎ Tells v (bound_of osts past) f) (sym (tree_then osts d.reply.who (line (turn stamp (Target t)) (Commit to batch)) past e)) (u.left e);
+            };
+        waits = h.waits;
+      }
+
+-- ---- an eviction: all that the life knew was true then
+
+module _ (osts : ℕ) (past : List Line) (stamp : Stamp) (t : ℕ) (who : Who) (cause : Cause) (ls : Locks osts past) (h : Taught osts past) where
+  abbrev evicting : List Line
+  evicting = line (turn stamp (Target t)) (Evict who cause) ∷ past
+
+  granted_then : (l : Lock) → In l (server_of osts evicting).granted → In l (server_of osts past).granted
+  granted_then l i = left_in who (server_of osts past).granted l i
+
+  left_now : (d : Deed) (f : Fact) → Acted past d → (k : Under osts past d f) → Dead past d k.lock ⊎ Tells (tree_for osts d.reply.who evicting) (bound_of osts past) f
+  left_now d f a k = by (is_life d.reply.who (evicted_of past)) refl
+    where
+      by : (b : Bool) → is_life d.reply.who (evicted_of past) ≡ b → Dead past d k.lock ⊎ Tells (if b then tree_for osts d.reply.who past else forget (server_of osts past).tree who) (bound_of osts past) f
+      by true e = k.left e
+      by false e = ⊎_elim
+          (λ (i : In k.lock (server_of osts past).granted). inr (tells_forget (server_of osts past).tree who (bound_of osts past) f (k.stands i)))
+          (⊎_elim (λ (x : Dead past d k.lock). inl x) (λ (x : Evicted past d.reply.who). absurd (cc)))
+          (ls.alive d k.lock (a, k.among))
+
+  waits_left : (r : RequestOf) → In r (server_of osts evicting).waiting → Evicted evicting r.who → ⊥
+  waits_left r i e =
+      let k = in_filter (λ (q : RequestOf). not (is_life q.who (who ∷ []))) r (server_of osts past).waiting i in
+      ⊎_elim
+      (λ (q : r.who ≡ who). absurd (let no : not (is_life who (who ∷ [])) ≡ true = subst (λ (w : Who). not (is_life w (who ∷ [])) ≡ true) q k.1 in let yes = life_put who [] in cc))
+      (λ (q : is_life r.who (evicted_of past) ≡ true). h.waits r k.0 q)
+      (put_or r.who who (evicted_of past) e)
+
+  evict_taught : Taught osts evicting
+  evict_taught =
+      record {
+        sound = sound_forget (server_of osts past).tree who (bound_of osts past) h.sound;
+        above = h.above;
+        low = h.low;
+        top = h.top;
+        logged = h.logged;
+        under = λ d f k. let u = h.under d f k in
+            record {
+              lock = u.lock;
+              among = u.among;
+              cookie = u.cookie;
+              lies = u.lies;
+              stands = λ j. tells_forget (server_of osts past).tree who (bound_of osts past) f (u.stands (granted_then u.lock j));
+              saw = λ j. u.saw (granted_then u.lock j);
+              left = λ e. left_now d f k.0 u;
+            };
+        waits = waits_left;
+      }
+
+-- ---- a line that changes no tree
+
+-- it grants nothing and takes no request of a life that was evicted
+record Quiet (osts : ℕ) (past : List Line) (l : Line) : Type 0 where
+  tree : (server_of osts (l ∷ past)).tree ≡ (server_of osts past).tree
+  count : (server_of osts (l ∷ past)).count ≡ (server_of osts past).count
+  committed : (server_of osts (l ∷ past)).committed ≡ (server_of osts past).committed
+  log : (server_of osts (l ∷ past)).log ≡ (server_of osts past).log
+  granted : (k : Lock) → In k (server_of osts (l ∷ past)).granted → In k (server_of osts past).granted
+  waits : (r : RequestOf) → In r (server_of osts (l ∷ past)).waiting → Evicted past r.who → ⊥
+  evicted : (who : Who) → Evicted (l ∷ past) who → Evicted past who
+  acted : (d : Deed) → Acted (l ∷ past) d → Acted past d
+  dead : StaysDead past (l ∷ past)
+
+module _ (osts : ℕ) (past : List Line) (l : Line) (q : Quiet osts past l) (h : Taught osts past) where
+  bound_same : bound_of osts past ≡ bound_of osts (l ∷ past)
+  bound_same = ap (λ (n : ℕ). 4294967296 + n) (sym q.count)
+
+  quiet_under : (d : Deed) (f : Fact) → TaughtBy (l ∷ past) d f → Under osts (l ∷ past) d f
+  quiet_under d f k =
+      let u = h.under d f (q.acted d k.0, k.1) in
+      record {
+        lock = u.lock;
+        among = u.among;
+        cookie = u.cookie;
+        lies = u.lies;
+        stands = λ j. subst (λ (t : Tree). Tells t (bound_of osts (l ∷ past)) f) (sym q.tree) (subst (λ (n : ℕ). Tells (server_of osts past).tree n f) bound_same (u.stands (q.granted u.lock j)));
+        saw = λ j e a. subst (λ (m : TxnOf). Apart e.writes f.part ⊎ ((e.reply.txn.0 ≤ m.0) ⊎ In e.reply.txn.0 d.reply.seen)) (sym q.committed) (u.saw (q.granted u.lock j) e (q.acted e a));
+        left = λ e. ⊎_elim
+            (λ (x : Dead past d u.lock). inl (q.dead d u.lock (q.acted d k.0, u.among) x))
+            (λ (x : Tells (tree_for osts d.reply.who past) (bound_of osts past) f). inr (subst (λ (t : Tree). Tells t (bound_of osts (l ∷ past)) f) (sym (tree_then osts d.reply.who l past (q.evicted d.reply.who e))) (subst (λ (n : ℕ). Tells (tree_for osts d.reply.who past) n f) bound_same x)))
+            (u.left (q.evicted d.reply.who e));
+      }
+
+  quiet_taught : Taught osts (l ∷ past)
+  quiet_taught =
+      record {
+        sound = subst (λ (t : Tree). IsSound t (bound_of osts (l ∷ past))) (sym q.tree) (subst (λ (n : ℕ). IsSound (server_of osts past).tree n) bound_same h.sound);
+        above = λ d i. subst (λ (m : TxnOf). m.0 < d.reply.txn.0) (sym q.committed) (h.above d (subst (λ (ds : List Deed). In d ds) q.log i));
+        low = λ d i. subst (λ (n : ℕ). d.reply.txn.0 ≤ n) bound_same (h.low d (subst (λ (ds : List Deed). In d ds) q.log i));
+        top = subst (λ (m : TxnOf). m.0 ≤ bound_of osts (l ∷ past)) (sym q.committed) (subst (λ (n : ℕ). (server_of osts past).committed.0 ≤ n) bound_same h.top);
+        logged = λ d a. subst (λ (m : TxnOf). (d.writes ≡ []) ⊎ (In d (server_of osts (l ∷ past)).log ⊎ (d.reply.txn.0 ≤ m.0))) (sym q.committed) (subst (λ (ds : List Deed). (d.writes ≡ []) ⊎ (In d ds ⊎ (d.reply.txn.0 ≤ (server_of osts past).committed.0))) (sym q.log) (h.logged d (q.acted d a)));
+        under = quiet_under;
+        waits = λ r i e. q.waits r i (q.evicted r.who e);
+      }
+
+-- a request is taken of a life that has a slot
+enters_waits : (osts clients : ℕ) (past : List Line) (t : ℕ) (r : RequestOf) → EntersOk clients past t r → Lives clients past → Taught osts past → (q : RequestOf) → In q ((server_of osts past).waiting ++ r ∷ []) → Evicted past q.who → ⊥
+enters_waits osts clients past t r ok ls h q i e =
+    ⊎_elim
+    (λ (j : In q (server_of osts past).waiting). h.waits q j e)
+    (λ (j : In q (r ∷ [])). ⊎_elim (λ (s : r ≡ q). let lt = ls.apart r.who r.who ok.has (subst (λ (x : RequestOf). Evicted past x.who) (sym s) e) refl in absurd (omega (arith, lt))) (λ (v : ⊥). absurd v) j)
+    (in_append q (server_of osts past).waiting (r ∷ []) i)
 
 -- ---- all lines
 
-pub keeps_taught : (head : Head) (past : List Line) (stamp : Stamp) (node : Node) (e : Entry) → EntryOf head past (turn stamp node) node e → Phase head.osts past → Locks head.osts past → Taught head.osts past → Taught head.osts (line (turn stamp node) e ∷ past)
-keeps_taught head past stamp (Target t) (Act d) ok p l h =
-    subst (λ (x : Deed). Taught head.osts (line (turn stamp (Target t)) (Act x) ∷ past)) (sym ok.is) (act_taught head.osts past (turn stamp (Target t)) ok.request p l h ok.still t)
-keeps_taught head past stamp (Target t) (Made d) ok p l h =
-    subst (λ (x : Deed). Taught head.osts (line (turn stamp (Target t)) (Made x) ∷ past)) (sym ok.is) (made_taught head.osts past (turn stamp (Target t)) ok.request p h ok.free t)
-keeps_taught head past stamp (Target t) (Commit to batch) ok p l h = commit_taught head.osts past stamp t to batch ok h
-keeps_taught head past stamp (Target t) (Release lock) ok p l h = release_taught head.osts past stamp t lock h
-keeps_taught head past stamp (Client c) (Act d) ok p l h = absurd ok
-keeps_taught head past stamp (Client c) (Made d) ok p l h = absurd ok
-keeps_taught head past stamp node e ok p l h = h
+pub keeps_taught : (head : Head) (past : List Line) (stamp : Stamp) (node : Node) (e : Entry) → EntryOf head past (turn stamp node) node e → IsOfFirst e → HoldsAt head past → Taught head.osts past → Taught head.osts (line (turn stamp node) e ∷ past)
+keeps_taught head past stamp (Target t) (Act d) ok first k h =
+    subst (λ (x : Deed). Taught head.osts (line (turn stamp (Target t)) (Act x) ∷ past)) (sym ok.is) (act_taught head.osts past (turn stamp (Target t)) ok.request ok.waits k.locks h ok.still t)
+keeps_taught head past stamp (Target t) (Made d) ok first k h =
+    subst (λ (x : Deed). Taught head.osts (line (turn stamp (Target t)) (Made x) ∷ past)) (sym ok.is) (made_taught head.osts past (turn stamp (Target t)) ok.request k.phase h ok.free t)
+keeps_taught head past stamp (Target t) (Commit to batch) ok first k h = commit_taught head.osts past stamp t to batch ok h
+keeps_taught head past stamp (Target t) (Evict who cause) ok first k h = evict_taught head.osts past stamp t who cause k.locks h
+keeps_taught head past stamp (Target t) (Enters r) ok first k h =
+    quiet_taught head.osts past (line (turn stamp (Target t)) (Enters r))
+    (record { tree = refl; count = refl; committed = refl; log = refl; granted = λ l i. i; waits = enters_waits head.osts head.clients past t r ok k.lives h; evicted = λ who x. x; acted = λ d a. a; dead = λ d l g x. x }) h
+keeps_taught head past stamp (Target t) (Release lock) ok first k h =
+    quiet_taught head.osts past (line (turn stamp (Target t)) (Release lock))
+    (record { tree = refl; count = refl; committed = refl; log = refl; granted = λ l i. (in_filter (λ (m : Lock). not (m.cookie.0 == lock.cookie.0)) l (server_of head.osts past).granted i).0; waits = h.waits; evicted = λ who x. x; acted = λ d a. a; dead = λ d l g x. x }) h
+keeps_taught head past stamp (Client c) (Act d) ok first k h = absurd ok
+keeps_taught head past stamp (Client c) (Made d) ok first k h = absurd ok
+keeps_taught head past stamp node e ok first k h =
+    quiet_taught head.osts past (line (turn stamp node) e)
+    (record { tree = refl; count = refl; committed = refl; log = refl; granted = λ l i. i; waits = h.waits; evicted = λ who x. x; acted = λ d a. a; dead = keeps_dead head past stamp node e ok first k.phase k.numbers k.done k.locks }) h
 
 pub first_taught : (osts : ℕ) → Taught osts []
 first_taught osts =
@@ -322,4 +486,5 @@ first_taught osts =
       top = omega arith;
       logged = λ d a. absurd a;
       under = λ d f k. absurd k.0;
+      waits = λ r i. absurd i;
     }

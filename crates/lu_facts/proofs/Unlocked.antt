@@ -1,7 +1,7 @@
 -- Where each call that reads misses what calls make, no lock is granted, and so none is called back; nor ever is one by another target than
 -- the metadata target.
 use Rattle.std.proofs.Common.{◌≡◌, ℕ, Bool, true, false, List, [], ◌∷◌, ◌++◌, inl, refl, sym, subst, ap, ◌∙◌}
-use Rattle.std.specs.Prelude.{nat_eq, if◌then◌else◌}
+use Rattle.std.specs.Prelude.{nat_eq, not, if◌then◌else◌, filter}
 use Rattle.std.proofs.lemmas.Bool.{eqb-true}
 use Rattle.lu_base.specs.declared.ids.At.{At}
 use Rattle.lu_base.specs.declared.ids.Node.{Node}
@@ -11,10 +11,11 @@ use Rattle.lu_msg.specs.declared.calls.Call.{Call}
 use Rattle.lu_msg.specs.declared.calls.Call.TheVariants as call
 use Rattle.lu_machine.specs.Footprint.{grants}
 use Rattle.lu_part.specs.declared.parts.Want.{Want}
-use Rattle.lu_words.specs.Carried.{Deed}
-use Rattle.lu_words.specs.Words.{Entry, Act, Block, Release, Tick, Line, line}
+use Rattle.lu_words.specs.Carried.{Deed, Called}
+use Rattle.lu_words.specs.Words.{Entry, Act, Block, Release, Tick, Evict, Line, line}
 use Rattle.lu_words.specs.Concerns.{only}
-use Rattle.lu_target_rows.specs.Locks.{with_locks, without_lock, called_without}
+use Rattle.lu_target_rows.specs.Lives.{is_life}
+use Rattle.lu_target_rows.specs.Locks.{with_locks, without_lock, locks_without, called_without}
 use Rattle.lu_target_rows.specs.Names.{locks_from}
 use Rattle.lu_covered.specs.Deeds.{asked}
 use Rattle.lu_covered.specs.Heads.{Head}
@@ -69,6 +70,7 @@ unlocked head (l ∷ past) g m = by l.at.node l.entry g.0 (λ d a. acted_asked h
     by (Client c) (Act d) k a h = absurd k.ok
     by (Client c) (Block called) k a h = absurd k.ok
     by (Client c) (Release lock) k a h = absurd k.ok
+    by (Client c) (Evict who cause) k a h = absurd k.ok
     by (Target u) (Act d) k a h =
         let none_granted = act_none head past l g.1 m (turn l.at.stamp (Target u)) d (k.of 0 (ap (λ (v : ℕ). nat_eq 0 v) k.ok)) (a d (inl refl)) in
         λ t. (here (nat_eq t u) (with_locks d.reply.locks (granted_at t past)) (granted_at t past) (rw (none_granted, (h t).0) refl) (h t).0, (h t).1)
@@ -83,6 +85,13 @@ unlocked head (l ∷ past) g m = by l.at.node l.entry g.0 (λ d a. acted_asked h
       where
         by_own : (t : ℕ) (b : Bool) → (granted_at t past ≡ []) × (called_at t past ≡ [])
             → ((if b then without_lock lock (granted_at t past) else granted_at t past) ≡ []) × ((if b then called_without lock (called_at t past) else called_at t past) ≡ [])
+        by_own t true p = (rw p.0 refl, rw p.1 refl)
+        by_own t false p = p
+    by (Target u) (Evict who cause) k a h = λ t. by_own t (nat_eq t u) (h t)
+      where
+        by_own : (t : ℕ) (b : Bool) → (granted_at t past ≡ []) × (called_at t past ≡ [])
+            → ((if b then locks_without (who ∷ []) (granted_at t past) else granted_at t past) ≡ [])
+            × ((if b then filter (λ (c : Called). not (is_life c.who (who ∷ []))) (called_at t past) else called_at t past) ≡ [])
         by_own t true p = (rw p.0 refl, rw p.1 refl)
         by_own t false p = p
     by (Target u) Tick k a h = h
@@ -105,6 +114,12 @@ uncalled_other head (l ∷ past) g t other = by l.at.node l.entry g.0 (uncalled_
     by (Target u) (Release lock) k h = by_own (nat_eq t u)
       where
         by_own : (b : Bool) → (if b then called_without lock (called_at t past) else called_at t past) ≡ []
+        by_own true = rw h refl
+        by_own false = h
+    by (Client c) (Evict who cause) k h = absurd k.ok
+    by (Target u) (Evict who cause) k h = by_own (nat_eq t u)
+      where
+        by_own : (b : Bool) → (if b then filter (λ (c : Called). not (is_life c.who (who ∷ []))) (called_at t past) else called_at t past) ≡ []
         by_own true = rw h refl
         by_own false = h
     by (Target u) Tick k h = h

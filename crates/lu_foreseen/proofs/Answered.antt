@@ -1,6 +1,6 @@
--- What is sent to a client in a covered run may come to it: it is a block, or a reply of the metadata target that brings no size, and no
--- lock that is held already.
-use Rattle.std.proofs.Common.{◌≡◌, ℕ, ◌+◌, ◌++◌, Bool, true, false, List, [], ◌∷◌, length, map, Option, Some, None, inl, inr, ⊎_elim, refl, sym, subst, ap, ◌∙◌, add-one, arith}
+-- What is sent to a client in a covered run in which no turn asks a disk may come to it: it is a block, or a reply of the metadata target that
+-- brings no size, and no lock that is held already.
+use Rattle.std.proofs.Common.{◌≡◌, ℕ, ◌+◌, Bool, true, false, List, [], ◌∷◌, length, map, Option, Some, None, inl, inr, ⊎_elim, refl, sym, subst, ap, ◌∙◌, add-one, arith}
 use Rattle.std.proofs.lemmas.Bool.{eqb-true}
 use Rattle.std.proofs.lemmas.Bool.Decides.{nat_tests}
 use Rattle.std.specs.List.{range_with_len}
@@ -9,8 +9,8 @@ use Rattle.lu_base.specs.declared.ids.Cookie.{Cookie}
 use Rattle.lu_base.specs.declared.ids.Node.{Node}
 use Rattle.lu_base.specs.declared.ids.Node.TheVariants as node
 use Rattle.lu_base.specs.declared.ids.TargetId.{TargetId}
+use Rattle.lu_base.specs.declared.ids.Who.{Who}
 use Rattle.lu_base.specs.declared.locks.Lock.{Lock}
-use Rattle.lu_msg.specs.declared.answers.Answer.{Answer}
 use Rattle.lu_msg.specs.declared.messages.Message.{Message}
 use Rattle.lu_msg.specs.declared.messages.Message.TheVariants as message
 use Rattle.lu_msg.specs.declared.messages.Reply.{Reply as ReplyTo}
@@ -27,25 +27,25 @@ use Rattle.lu_words.specs.Sent.{Sent}
 use Rattle.lu_words.specs.Words.{Line}
 use Rattle.lu_client_rows.specs.Caches.{held_at, held_as, with_held, brought}
 use Rattle.lu_client_rows.specs.Imports.{Import, import_of, import_at}
-use Rattle.lu_client_rows.specs.Messages.{find_flight, is_present, size_with}
+use Rattle.lu_client_rows.specs.Messages.{find_flight, is_present}
 use Rattle.lu_client_rows.specs.States.{Client}
-use Rattle.lu_covered.specs.Covered.{AllCovered}
-use Rattle.lu_covered.specs.ClientStates.{flights_of}
+use Rattle.lu_covered.specs.ClientStates.{flights_of, life_of}
 use Rattle.lu_table.specs.Heads.{Head}
 use Rattle.lu_table.specs.Runs.{client_of}
-use Rattle.lu_covered_scenes.proofs.ClientLines.{IsNames, brings_its, no_size, becomes_names, flights_same, reply_differs}
+use Rattle.lu_covered_scenes.proofs.ClientLines.{IsNames, brings_its, no_size, becomes_names, reply_differs}
 use Rattle.lu_covered_scenes.proofs.ClientLocks.{Differ, none_any, names_same, with_only}
 use Rattle.lu_covered_scenes.proofs.Guards.{In, Was, Grown}
 use Rattle.lu_covered_scenes.proofs.Held.{held_is}
-use Rattle.lu_covered_scenes.proofs.Only.{grown_of}
-use Rattle.lu_covered_scenes.proofs.Parts.{flights_is}
+use Rattle.lu_covered_scenes.proofs.Only.{sent_was, was_only, grown_of}
+use Rattle.lu_covered_scenes.proofs.Parts.{flights_is, life_is_of}
 use Rattle.lu_covered_scenes.proofs.GuardTurns.{covered_head}
 use Rattle.lu_covered_scenes.proofs.All.{holds}
 use Rattle.lu_covered_scenes.proofs.Asked.{flew_asked}
 use Rattle.lu_covered_scenes.proofs.Groups.{HoldsAt}
 use Rattle.lu_covered_scenes.proofs.FactLines.{flew_whole}
-use Rattle.lu_covered_scenes.proofs.Sides.{sent_only}
-use Rattle.lu_nodes.specs.Comings.{are_new, is_short, is_in_file, may_answer, may_fit, may_reply, may_from, may_come}
+use Rattle.lu_covered_scenes.proofs.Arrivals.{Goes, was_goes}
+use Rattle.lu_covered_scenes.proofs.Asking.{AllSuit, was_suits}
+use Rattle.lu_nodes.specs.Comings.{are_new, is_in_file, may_answer, may_fit, may_reply, may_from, may_come}
 
 -- ---- locks that come are new
 
@@ -98,7 +98,7 @@ found_in xid (g ∷ flights) f e = by (nat_eq g.xid xid) refl e (found_in xid fl
 first_one : (f : ℕ → Import) (n : ℕ) → map f (range_with_len 0 (n + 1)) ≡ f 0 ∷ map f (range_with_len (0 + 1) n)
 first_one f n = ap (λ (k : ℕ). map f (range_with_len 0 k)) (add-one n)
 
-module _ (head : Head) (past : List Line) (covered : AllCovered past) (g : Grown (covered_head head) past) (c : ℕ) where
+module _ (head : Head) (past : List Line) (g : Grown (covered_head head) past) (c : ℕ) where
   abbrev k : Client
   k = client_of head c past
 
@@ -114,12 +114,17 @@ module _ (head : Head) (past : List Line) (covered : AllCovered past) (g : Grown
   some_imports : nat_lt 0 (length k.imports) ≡ true
   some_imports = ap (λ (is : List Import). nat_lt 0 (length is)) (first_one (λ t. import_at c t past) head.osts) ∙ grind (arith, nat_tests)
 
-  flights_story : (import_of 0 k.imports).flights ≡ flights_of c story
-  flights_story = ap (λ (i : Import). i.flights) import_is ∙ flights_same c 0 past covered ∙ flights_is c 0 past
+  -- the client's life, and what it asks
+  abbrev life : Who
+  life = life_of c story
+
+  flights_story : (import_of 0 k.imports).flights ≡ flights_of life story
+  flights_story =
+      ap (λ (i : Import). i.flights) import_is ∙ flights_is (covered_head head) c 0 past g ∙ ap (λ (who : Who). flights_of who story) (life_is_of c 0 past)
 
   -- ---- a reply to a request that is in flight
 
-  module _ (r : ReplyTo) (was : Was story (node.Target 0) (node.Client c) (message.Reply r)) (f : Flight) (flying : In f (flights_of c story)) (number : f.xid ≡ r.xid.0) where
+  module _ (r : ReplyTo) (was : Was story (node.Target 0) (node.Client c) (message.Reply r)) (f : Flight) (flying : In f (flights_of life story)) (number : f.xid ≡ r.xid.0) where
     -- none of its locks is held: what is held came with a reply that was heard
     unheld : (l : Lock) → In l r.locks → (x : HeldLock) → In x (held_at c past) → x.lock.cookie ≡ l.cookie → ⊥
     unheld l i x j same =
@@ -129,10 +134,10 @@ module _ (head : Head) (past : List Line) (covered : AllCovered past) (g : Grown
         let among : In l d.reply.locks = subst (λ (ls : List Lock). In l ls) (ap (λ (v : ReplyTo). v.locks) meant.2) i in
         let one = (h.locks.once d holding.deed l x.lock (meant.1, among) holding.gave (sym same)).0 in
         let xid : f.xid ≡ holding.deed.reply.xid.0 = number ∙ ap (λ (v : ReplyTo). v.xid.0) meant.2 ∙ ap (λ (v : Deed). v.reply.xid.0) one in
-        (h.numbers.over c holding.deed.reply.xid.0 holding.heard).1 f flying xid
+        (h.numbers.over life holding.deed.reply.xid.0 holding.heard).1 f flying xid
 
     on_names : IsNames f.op
-    on_names = let asked = flew_asked (covered_head head) past c f g (flew_whole 0 past c f (h.numbers.flying c f flying)) in becomes_names asked.0 f.op asked.2
+    on_names = let asked = flew_asked (covered_head head) past life f g (flew_whole 0 past life f (h.numbers.flying life f flying)) in becomes_names asked.2 asked.0 f.op asked.3
 
     locks_new : are_new 0 (brought f.op r) k.store.held ≡ true
     locks_new =
@@ -161,12 +166,26 @@ module _ (head : Head) (past : List Line) (covered : AllCovered past) (g : Grown
 
   -- ---- what is sent to a client
 
-  from_so : (m : Message) → Was story (node.Target 0) (node.Client c) m → may_from 0 m k ≡ true
-  from_so (message.Reply r) was = reply_comes r was
-  from_so (message.Block who boot cookie) was = refl
-  from_so m was = absurd (h.done.sent (node.Target 0) (node.Client c) m was)
+  module _ (MayAsk : Type 0) (none : MayAsk → ⊥) (suits : AllSuit MayAsk head.osts past) where
+    -- it came from the metadata target
+    from_names : (from : Node) (m : Message) → Was past from (node.Client c) m → Goes from (node.Client c) m → from ≡ node.Target 0
+    from_names (node.Target t) (message.Reply r) was goes = ap node.Target goes
+    from_names (node.Target t) (message.Block who boot cookie) was goes = ap node.Target goes
+    from_names (node.Target t) (message.Ready who boot committed) was goes = absurd (none (was_suits MayAsk head.osts past (node.Target t) (node.Client c) (message.Ready who boot committed) suits was))
+    from_names (node.Target t) (message.Evicted who boot) was goes = absurd (none (was_suits MayAsk head.osts past (node.Target t) (node.Client c) (message.Evicted who boot) suits was))
+    from_names from m was goes = absurd goes
 
-  pub comes : (n : ℕ) (from : Node) (m : Message) → from ≡ node.Target 0 → Sent past n from (node.Client c) m → may_come from m k ≡ true
-  comes n from m is sent =
-      let was = subst (λ (v : Node). Was story v (node.Client c) m) is (sent_only (covered_head head) past n from (node.Client c) m g sent) in
-      subst (λ (v : Node). may_come v m k ≡ true) (sym is) (rw (some_imports, from_so m was) refl)
+    from_so : (m : Message) → Was past (node.Target 0) (node.Client c) m → Goes (node.Target 0) (node.Client c) m → may_from 0 m k ≡ true
+    from_so (message.Reply r) was goes = reply_comes r (was_only 0 past (node.Target 0) (node.Client c) (message.Reply r) refl was)
+    from_so (message.Block who boot cookie) was goes = refl
+    from_so (message.Ready who boot committed) was goes = refl
+    from_so (message.Evicted who boot) was goes = absurd (none (was_suits MayAsk head.osts past (node.Target 0) (node.Client c) (message.Evicted who boot) suits was))
+    from_so m was goes = absurd goes
+
+    pub comes : (n : ℕ) (from : Node) (m : Message) → Sent past n from (node.Client c) m → (from ≡ node.Target 0) × (may_come from m k ≡ true)
+    comes n from m sent =
+        let was = sent_was past n from (node.Client c) m sent in
+        let goes = was_goes (covered_head head) past from (node.Client c) m g was in
+        let is = from_names from m was goes in
+        let so = from_so m (subst (λ (v : Node). Was past v (node.Client c) m) is was) (subst (λ (v : Node). Goes v (node.Client c) m) is goes) in
+        (is, subst (λ (v : Node). may_come v m k ≡ true) (sym is) (rw (some_imports, so) refl))

@@ -17,7 +17,7 @@ use Rattle.lu_words.specs.Words.{Entry, Flies, Line, line, same_life}
 use Rattle.lu_words.specs.Concerns.{concerns, only}
 use Rattle.lu_words.specs.Sent.{Sent}
 use Rattle.lu_covered.specs.Imports.{has_tag, free_from, free_tag, above_tags}
-use Rattle.lu_covered.specs.ClientStates.{flights_of}
+use Rattle.lu_covered.specs.ClientStates.{flights_of, life_of, is_own}
 use Rattle.lu_covered.specs.Heads.{Head}
 use Rattle.lu_covered.specs.TargetStates.{server_of}
 use Rattle.lu_target_rows.specs.Locks.{same_request}
@@ -25,7 +25,8 @@ use Rattle.lu_covered_scenes.proofs.Guards.{In, EntryOf, FliesOk, Grown}
 use Rattle.lu_covered_scenes.proofs.Groups.{Flew, Meant, HoldsAt}
 use Rattle.lu_covered_scenes.proofs.FactLines.{flew_whole}
 use Rattle.lu_covered_scenes.proofs.All.{holds}
-use Rattle.lu_covered_scenes.proofs.Sides.{sent_only}
+use Rattle.lu_covered_scenes.proofs.Only.{sent_was}
+use Rattle.lu_covered_scenes.proofs.Arrivals.{came}
 use Rattle.lu_covered_scenes.proofs.Lists.{self, life_is}
 use Rattle.lu_covered_scenes.proofs.Asked.{AskedBy, flew_asked}
 
@@ -60,17 +61,18 @@ free_within flights =
 
 flies_one : (head : Head) (past : List Line) (c t : ℕ) (f : Flight) → FliesOk head (only t past) c f → f.tag < head.flight
 flies_one head past c t f ok =
-    let tag : f.tag ≡ free_tag (flights_of c (only t past)) = ap (λ (v : Flight). v.tag) ok.is in
-    let within = free_within (flights_of c (only t past)) in
+    let flights : List Flight = flights_of (life_of c (only t past)) (only t past) in
+    let tag : f.tag ≡ free_tag flights = ap (λ (v : Flight). v.tag) ok.is in
+    let within = free_within flights in
     let room = ok.room in
     omega arith
 
-flew_one : (head : Head) (past : List Line) → Grown head past → (c : ℕ) (f : Flight) → Flew past c f → f.tag < head.flight
-flew_one head [] g c f i = absurd i
-flew_one head (l ∷ past) g c f i = by l.at.node l.entry g.0.of (flew_one head past g.1 c f) i
+flew_one : (head : Head) (past : List Line) → Grown head past → (who : Who) (f : Flight) → Flew past who f → f.tag < head.flight
+flew_one head [] g who f i = absurd i
+flew_one head (l ∷ past) g who f i = by l.at.node l.entry g.0.of (flew_one head past g.1 who f) i
   where
-    by : (node : Node) (e : Entry) → ((t : ℕ) → concerns t node e ≡ true → EntryOf head (only t past) l.at node e) → (Flew past c f → f.tag < head.flight) → Flew (line (record { stamp = l.at.stamp; node = node }) e ∷ past) c f → f.tag < head.flight
-    by (Client d) (Flies t x) of h i = ⊎_elim (λ (p : (Client d ≡ Client c) × (x ≡ f)). subst (λ (v : Flight). v.tag < head.flight) p.1 (flies_one head past d t x (of t (self t)))) h i
+    by : (node : Node) (e : Entry) → ((t : ℕ) → concerns t node e ≡ true → EntryOf head (only t past) l.at node e) → (Flew past who f → f.tag < head.flight) → Flew (line (record { stamp = l.at.stamp; node = node }) e ∷ past) who f → f.tag < head.flight
+    by (Client d) (Flies t x) of h i = ⊎_elim (λ (p : (is_own who past (Client d) ≡ true) × (x ≡ f)). subst (λ (v : Flight). v.tag < head.flight) p.1 (flies_one head past d t x (of t (self t)))) h i
     by (Target t) (Flies u x) of h i = absurd (of t (self t))
     by node e of h i = h i
 
@@ -81,27 +83,32 @@ pub record Fitting (head : Head) (past : List Line) (r : RequestOf) : Type 0 whe
   pub tag : r.tag < head.flight
   pub asked : AskedBy past r.op
 
-pub request_fits : (head : Head) (past : List Line) → Grown head past → (n : ℕ) (from : Node) (t : ℕ) (r : RequestOf) → Sent past n from (Target t) (message.Request r) → Fitting head past r
-request_fits head past g n from t r s =
-    let m : Meant (only 0 past) (Target t) (message.Request r) = ((holds head past g).at 0).done.sent from (Target t) (message.Request r) (sent_only head past n from (Target t) (message.Request r) g s) in
-    let flew = flew_whole 0 past r.who.client m.0 m.1 in
-    record {
-      tag = subst (λ v. v < head.flight) (ap (λ (v : RequestOf). v.tag) (sym m.2)) (flew_one head past g r.who.client m.0 flew);
-      asked = subst (AskedBy past) (ap (λ (v : RequestOf). v.op) (sym m.2)) (flew_asked head past r.who.client m.0 g flew);
-    }
+module _ (head : Head) (past : List Line) (g : Grown head past) where
+  h : HoldsAt head (only 0 past)
+  h = (holds head past g).at 0
 
--- a request that waits has the tag of each that was sent of its life and number
-pub same_tag : (head : Head) (past : List Line) → Grown head past → (n : ℕ) (from : Node) (t : ℕ) (q r : RequestOf) → In q (server_of head.osts (only 0 past)).waiting → Sent past n from (Target t) (message.Request r) → same_request q r ≡ true → q.tag ≡ r.tag
-same_tag head past g n from t q r waits s e =
-    let p = and_parts (same_life q.who r.who) (nat_eq q.xid.0 r.xid.0) e in
-    let who : q.who ≡ r.who = life_is q.who r.who p.0 in
-    let xid : q.xid.0 ≡ r.xid.0 = eqb-true q.xid.0 r.xid.0 p.1 in
-    let old = (h.done.waits q waits).meant in
-    let new = h.done.sent from (Target t) (message.Request r) (sent_only head past n from (Target t) (message.Request r) g s) in
-    let xids : old.0.xid ≡ new.0.xid = ap (λ (v : RequestOf). v.xid.0) (sym old.2) ∙ xid ∙ ap (λ (v : RequestOf). v.xid.0) new.2 in
-    let flew = subst (λ (w : Who). Flew (only 0 past) w.client old.0) who old.1 in
-    let one = h.numbers.one r.who.client old.0 new.0 flew new.1 xids in
-    ap (λ (v : RequestOf). v.tag) old.2 ∙ ap (λ (f : Flight). f.tag) one ∙ ap (λ (v : RequestOf). v.tag) (sym new.2)
-  where
-    h : HoldsAt head (only 0 past)
-    h = (holds head past g).at 0
+  -- the request that flew
+  meant_by : (n : ℕ) (from : Node) (r : RequestOf) → Sent past n from (Target 0) (message.Request r) → Meant (only 0 past) (Target 0) (message.Request r)
+  meant_by n from r s = h.done.sent from (Target 0) (message.Request r) (came head past 0 from (message.Request r) g (sent_was past n from (Target 0) (message.Request r) s))
+
+  pub request_fits : (n : ℕ) (from : Node) (r : RequestOf) → Sent past n from (Target 0) (message.Request r) → Fitting head past r
+  request_fits n from r s =
+      let m = meant_by n from r s in
+      let flew = flew_whole 0 past r.who m.0 m.1 in
+      record {
+        tag = subst (λ v. v < head.flight) (ap (λ (v : RequestOf). v.tag) (sym m.2)) (flew_one head past g r.who m.0 flew);
+        asked = subst (AskedBy past) (ap (λ (v : RequestOf). v.op) (sym m.2)) (flew_asked head past r.who m.0 g flew);
+      }
+
+  -- a request that waits has the tag of each that was sent of its life and number
+  pub same_tag : (n : ℕ) (from : Node) (q r : RequestOf) → In q (server_of head.osts (only 0 past)).waiting → Sent past n from (Target 0) (message.Request r) → same_request q r ≡ true → q.tag ≡ r.tag
+  same_tag n from q r waits s e =
+      let p = and_parts (same_life q.who r.who) (nat_eq q.xid.0 r.xid.0) e in
+      let who : q.who ≡ r.who = life_is q.who r.who p.0 in
+      let xid : q.xid.0 ≡ r.xid.0 = eqb-true q.xid.0 r.xid.0 p.1 in
+      let old = (h.done.waits q waits).meant in
+      let new = meant_by n from r s in
+      let xids : old.0.xid ≡ new.0.xid = ap (λ (v : RequestOf). v.xid.0) (sym old.2) ∙ xid ∙ ap (λ (v : RequestOf). v.xid.0) new.2 in
+      let flew = subst (λ (w : Who). Flew (only 0 past) w old.0) who old.1 in
+      let one = h.numbers.one r.who old.0 new.0 flew new.1 xids in
+      ap (λ (v : RequestOf). v.tag) old.2 ∙ ap (λ (f : Flight). f.tag) one ∙ ap (λ (v : RequestOf). v.tag) (sym new.2)

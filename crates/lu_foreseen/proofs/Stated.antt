@@ -1,5 +1,5 @@
--- Each covered scenario is foreseen.
-use Rattle.std.proofs.Common.{◌≡◌, ℕ, zero, suc, ◌+◌, ◌<◌, ◌≤◌, true, false, List, [], ◌∷◌, Some, None, length, inl, inr, refl, sym, subst, ◌∙◌, arith}
+-- Each covered scenario in which no turn asks a disk is foreseen.
+use Rattle.std.proofs.Common.{◌≡◌, ℕ, zero, suc, ◌<◌, ◌≤◌, true, false, List, [], ◌∷◌, Option, Some, None, length, inl, inr, refl, sym, subst, arith}
 use Rattle.std.specs.Prelude.{ℤ, pos, negsuc, All}
 use Rattle.std.proofs.lemmas.Bool.Decides.{nat_tests}
 use Rattle.std.proofs.lemmas.List.Elements.{All-nil, All-cons}
@@ -20,10 +20,10 @@ use Rattle.lu_scene.specs.declared.scene.SceneLine.TheVariants.{Tick, Commit, Co
 use Rattle.lu_service.specs.declared.services.Kind.TheVariants.{Mdt}
 use Rattle.lu_service.specs.Takes.{Takes, IsCount as Counts}
 use Rattle.lu_trace.specs.WellFormed.{IsCount, IsCall}
+use Rattle.lu_words.specs.Carried.{HandleFile}
 use Rattle.lu_words.specs.Words.{Line}
 use Rattle.lu_words.specs.Sent.{Sent}
 use Rattle.lu_target_rows.specs.Locks.{same_request}
-use Rattle.lu_target_rows.specs.States.{is_serving}
 use Rattle.lu_table.specs.Heads.{Head}
 use Rattle.lu_table.specs.Runs.{target_of, setting_of}
 use Rattle.lu_table.specs.Scenarios.{Config, Disks, head_of, past_of, is_full, is_down}
@@ -31,15 +31,15 @@ use Rattle.lu_covered.specs.Calls.{operation_of}
 use Rattle.lu_covered.specs.Heads as few
 use Rattle.lu_covered.specs.TargetStates.{server_of}
 use Rattle.lu_words.specs.Concerns.{only}
-use Rattle.lu_covered_scenes.proofs.Guards.{In, Grown}
-use Rattle.lu_covered_scenes.proofs.TargetAlike.{serving}
+use Rattle.lu_covered_scenes.proofs.Guards.{In, Was, Grown}
+use Rattle.lu_covered_scenes.proofs.Only.{sent_was}
 use Rattle.lu_covered_scenes.proofs.GuardTurns.{covered_head}
-use Rattle.lu_covered_scenes.proofs.Sides.{from_target, from_client}
+use Rattle.lu_covered_scenes.proofs.Asking.{was_suits}
 use Rattle.lu_covered_scenes.proofs.OnNames.{op_is}
 use Rattle.lu_after.proofs.Posts.{sent_at_is}
-use Rattle.lu_covered_scenes.specs.Covered.{IsCovered, GivesNoCommand, ticks_of}
-use Rattle.lu_covered_scenes.proofs.Arrivals.{to_client}
-use Rattle.lu_covered_scenes.proofs.Lines.{AllKnown, IsKnown, lines_known, called_fits}
+use Rattle.lu_covered_scenes.specs.Covered.{IsCovered, AsksNoDisk, ticks_of}
+use Rattle.lu_covered_scenes.proofs.Arrivals.{Goes, was_goes, to_client}
+use Rattle.lu_covered_scenes.proofs.Lines.{MayAsk, AllKnown, IsKnown, lines_known, called_fits}
 use Rattle.lu_covered_scenes.proofs.Runs.{Follows, leads_follow}
 use Rattle.lu_covered_scenes.proofs.Targets.{Serves, serving_is}
 use Rattle.lu_covered_scenes.proofs.Turns.{Timely, NoneDue, past_grown, target_serves, comes_makes, names_due, others_due, tick_makes}
@@ -47,26 +47,29 @@ use Rattle.lu_nodes.specs.Foreseen.{MayHave, IsForeseen, IsTickForeseen}
 use Rattle.lu_foreseen.specs.Scenes.{next_stamp, IsOpen, IsCommand, AllForeseen}
 use Rattle.lu_foreseen.proofs.Asked.{Fitting, request_fits, same_tag}
 use Rattle.lu_foreseen.proofs.Answered.{comes}
+use Rattle.lu_foreseen.proofs.Waiting.{waiting_same}
 
 -- what a call that keeps the limits becomes is of the metadata target's service
 count_takes : (count : ℤ) → IsCount count → Counts count
 count_takes (pos n) fits = tt
 count_takes (negsuc n) fits = fits
 
-names_take : (k : Call) (o : Op) → operation_of k ≡ Some o → IsCall k → Takes Mdt o
-names_take (call.Create path None) o e fits = absurd fits
-names_take (call.Create path (Some stripes)) o e fits = subst (Takes Mdt) (op_is (op.Create path stripes.0 stripes.1) o e) (count_takes stripes.1 fits.1.1)
-names_take (call.Lookup path) o e fits = subst (Takes Mdt) (op_is (op.Lookup path) o e) tt
-names_take (call.Stat path) o e fits = subst (Takes Mdt) (op_is (op.Stat path) o e) tt
-names_take (call.List path) o e fits = subst (Takes Mdt) (op_is (op.List path) o e) tt
-names_take (call.Layout path) o e fits = subst (Takes Mdt) (op_is (op.Layout path) o e) tt
-names_take (call.Mkdir path) o e fits = subst (Takes Mdt) (op_is (op.Mkdir path) o e) tt
-names_take (call.Link old new) o e fits = subst (Takes Mdt) (op_is (op.Link old new) o e) tt
-names_take (call.Unlink path) o e fits = subst (Takes Mdt) (op_is (op.Unlink path) o e) tt
-names_take (call.Rmdir path) o e fits = subst (Takes Mdt) (op_is (op.Rmdir path) o e) tt
-names_take (call.Rename old new) o e fits = subst (Takes Mdt) (op_is (op.Rename old new) o e) tt
-names_take (call.Chmod path mode) o e fits = subst (Takes Mdt) (op_is (op.Chmod path mode) o e) tt
-names_take k o e fits = absurd (cc)
+names_take : (file : Option HandleFile) (k : Call) (o : Op) → operation_of file k ≡ Some o → IsCall k → Takes Mdt o
+names_take file (call.Create path None) o e fits = absurd fits
+names_take file (call.Create path (Some stripes)) o e fits = subst (Takes Mdt) (op_is (op.Create path stripes.0 stripes.1) o e) (count_takes stripes.1 fits.1.1)
+names_take file (call.Lookup path) o e fits = subst (Takes Mdt) (op_is (op.Lookup path) o e) tt
+names_take file (call.Stat path) o e fits = subst (Takes Mdt) (op_is (op.Stat path) o e) tt
+names_take file (call.List path) o e fits = subst (Takes Mdt) (op_is (op.List path) o e) tt
+names_take file (call.Layout path) o e fits = subst (Takes Mdt) (op_is (op.Layout path) o e) tt
+names_take file (call.Mkdir path) o e fits = subst (Takes Mdt) (op_is (op.Mkdir path) o e) tt
+names_take file (call.Link old new) o e fits = subst (Takes Mdt) (op_is (op.Link old new) o e) tt
+names_take file (call.Unlink path) o e fits = subst (Takes Mdt) (op_is (op.Unlink path) o e) tt
+names_take file (call.Rmdir path) o e fits = subst (Takes Mdt) (op_is (op.Rmdir path) o e) tt
+names_take file (call.Rename old new) o e fits = subst (Takes Mdt) (op_is (op.Rename old new) o e) tt
+names_take file (call.Chmod path mode) o e fits = subst (Takes Mdt) (op_is (op.Chmod path mode) o e) tt
+names_take file (call.Open h path) o e fits = subst (Takes Mdt) (op_is (op.Open path) o e) tt
+names_take (Some f) (call.Close h) o e fits = subst (Takes Mdt) (op_is (op.Close f.number f.fid) o e) tt
+names_take file k o e fits = absurd (cc)
 
 all_of : {A : Type 0} (P : A → Type 0) (xs : List A) → ((x : A) → In x xs → P x) → All P xs
 all_of P [] so = All-nil P
@@ -75,7 +78,7 @@ all_of P (x ∷ xs) so = All-cons P x xs (so x (inl refl)) (all_of P xs (λ y i.
 has_room : (c : Config) → is_full c ≡ false → length c.turns < 65536
 has_room c free = grind (arith, nat_tests)
 
-module _ (scene : Scene) (covered : IsCovered scene) (quiet : GivesNoCommand scene) (disks : Disks) (c : Config) (is : IsOpen scene disks c) where
+module _ (scene : Scene) (covered : IsCovered scene) (quiet : AsksNoDisk scene) (disks : Disks) (c : Config) (is : IsOpen scene disks c) where
   abbrev head : Head
   head = head_of scene.head
 
@@ -94,23 +97,26 @@ module _ (scene : Scene) (covered : IsCovered scene) (quiet : GivesNoCommand sce
   g : Grown h past
   g = past_grown scene covered c f.sound
 
-  serves_at : (t : ℕ) → Serves head.clients (target_of head t past)
+  serves_at : (t : ℕ) → Serves (target_of head t past)
   serves_at t = target_serves scene covered c f.sound t
+
+  none : MayAsk scene → ⊥
+  none may = may quiet
 
   -- ---- a message to the metadata target
 
   may_have : (n : ℕ) (from : Node) (m : Message) → Sent past n from (Target 0) m → MayHave m (target_of head 0 past)
   may_have n from (message.Request r) sent =
-      let fits : Fitting h past r = request_fits h past g n from 0 r sent in
+      let fits : Fitting h past r = request_fits h past g n from r sent in
       let most = covered.limits.head.most_flight in
       let tag = fits.tag in
       let asked = fits.asked in
       let within = called_fits scene scene.lines (lines_known scene covered) asked.0 (f.sound.begun asked.0 asked.1) in
-      let queue : (target_of head 0 past).queue ≡ (server_of head.osts (only 0 past)).waiting = (serving h head.clients (setting_of head 0) refl past g).alike.queue in (
+      let queue : (target_of head 0 past).queue ≡ (server_of head.osts (only 0 past)).waiting = waiting_same (MayAsk scene) head.osts none h (setting_of head 0) head.clients past g f.sound.suits f.sound.covered in (
         omega arith,
-        names_take asked.0 r.op asked.2 within,
+        names_take asked.2 asked.0 r.op asked.3 within,
         subst (All (λ (q : RequestOf). same_request q r ≡ true → q.tag ≡ r.tag)) (sym queue)
-            (all_of (λ (q : RequestOf). same_request q r ≡ true → q.tag ≡ r.tag) (server_of head.osts (only 0 past)).waiting (λ q i e. same_tag h past g n from 0 q r i sent e)),
+            (all_of (λ (q : RequestOf). same_request q r ≡ true → q.tag ≡ r.tag) (server_of head.osts (only 0 past)).waiting (λ q i e. same_tag h past g n from q r i sent e)),
       )
   may_have n from _ sent = tt
 
@@ -120,7 +126,14 @@ module _ (scene : Scene) (covered : IsCovered scene) (quiet : GivesNoCommand sce
   to_names : (n : ℕ) (m : SentMessage) → Sent past n m.from (Target 0) m.message → IsForeseen head past (next_stamp c) (message_to m.from (Target 0) m)
   to_names n m sent =
       let s = serves_at 0 in
-      (omega arith, s.up, serving_is head.clients (target_of head 0 past) s, may_have n m.from m.message sent, (comes_makes scene covered c n m.from m.message f.sound sent room).numbers)
+      (omega arith, s.up, serving_is (target_of head 0 past) s, may_have n m.from m.message sent, (comes_makes scene covered c 0 n m.from m.message f.sound sent room).numbers)
+
+  -- no life joins, so all goes to the metadata target
+  is_names : (t : ℕ) (from : Node) (m : Message) → Was past from (Target t) m → Goes from (Target t) m → t ≡ 0
+  is_names t (Client d) (message.Request r) was goes = goes
+  is_names t (Client d) (message.Cancel who boot cookie) was goes = goes
+  is_names t (Client d) (message.Join who boot) was goes = absurd (none (was_suits (MayAsk scene) head.osts past (Client d) (Target t) (message.Join who boot) f.sound.suits was).0)
+  is_names t from m was goes = absurd goes
 
   -- ---- all messages
 
@@ -129,10 +142,11 @@ module _ (scene : Scene) (covered : IsCovered scene) (quiet : GivesNoCommand sce
     where
       by : (node : Node) → Sent past n m.from node m.message → IsForeseen head past (next_stamp c) (message_to m.from node m)
       by (Client who) sent =
-          let from = from_target h past n who m.from m.message g sent in
-          (to_client h past g n who m.from m.message sent, (0, from), comes head past f.sound.covered g who n m.from m.message from sent)
+          let came = comes head past g who (MayAsk scene) none f.sound.suits n m.from m.message sent in
+          (to_client h past g n who m.from m.message sent, (0, came.0), came.1)
       by (Target t) sent =
-          let zero_is = (from_client h past n t m.from m.message g sent).0 in
+          let was = sent_was past n m.from (Target t) m.message sent in
+          let zero_is = is_names t m.from m.message was (was_goes h past m.from (Target t) m.message g was) in
           subst (λ (u : ℕ). Sent past n m.from (Target u) m.message → IsForeseen head past (next_stamp c) (message_to m.from (Target u) m)) (sym zero_is) (to_names n m) sent
 
   -- ---- lines
@@ -140,28 +154,28 @@ module _ (scene : Scene) (covered : IsCovered scene) (quiet : GivesNoCommand sce
   line_known : (line : SceneLine) (rest : List SceneLine) → c.lines ≡ line ∷ rest → IsKnown scene.lines scene.head.clients scene.head.osts line
   line_known line rest e = (subst (AllKnown scene) e f.lines).0
 
-  tick : (t : ℕ) → t ≤ head.osts → NoneDue scene covered c t → IsTickForeseen head past (next_stamp c) t
-  tick t one none =
+  tick : (t : ℕ) → t ≤ head.osts → (AsksNoDisk scene → NoneDue scene covered c t) → IsTickForeseen head past (next_stamp c) t
+  tick t one due =
       let low = f.sound.ticks t in
       let few_turns_made = room in
-      (λ all. omega arith, (tick_makes scene covered c t f.sound none room one).numbers)
+      (λ all. omega arith, (tick_makes scene covered c t f.sound due room one).numbers)
 
   ticks : (t : ℕ) (rest : List SceneLine) → c.lines ≡ Tick (Target t) ∷ rest → IsTickForeseen head past (next_stamp c) t
   ticks zero rest e = tick 0 (line_known (Tick (Target 0)) rest e) (names_due scene covered c (ticks_of rest) f.sound (subst (λ (lines : List SceneLine). Timely scene (ticks_of lines) past) e f.time))
   ticks (suc t) rest e = tick (suc t) (line_known (Tick (Target (suc t))) rest e) (others_due scene covered c (suc t) f.sound (λ q. absurd (cc)))
 
   no_command : (line : SceneLine) → IsKnown scene.lines scene.head.clients scene.head.osts line → IsCommand line → ⊥
-  no_command (Commit t) known is = absurd (known.some quiet)
-  no_command (CommitSome t count) known is = absurd (known.some quiet)
+  no_command (Commit t) known is = absurd (known.some quiet.commands)
+  no_command (CommitSome t count) known is = absurd (known.some quiet.commands)
   no_command (Crash t) known is = absurd known
   no_command (Boot t) known is = absurd known
-  no_command (Close t) known is = absurd (known.some quiet)
+  no_command (Close t) known is = absurd (known.some quiet.commands)
   no_command _ known is = absurd is
 
   commands : (line : SceneLine) (rest : List SceneLine) → c.lines ≡ line ∷ rest → IsCommand line → ⊥
   commands line rest e = no_command line (line_known line rest e)
 
-pub all_foreseen : (scene : Scene) → IsCovered scene → GivesNoCommand scene → AllForeseen scene
+pub all_foreseen : (scene : Scene) → IsCovered scene → AsksNoDisk scene → AllForeseen scene
 all_foreseen scene covered quiet =
     record {
       messages = λ disks c n m open_one e up. messages scene covered quiet disks c open_one n m e up;

@@ -2,10 +2,10 @@
 //! scenario.
 
 ghost use Rattle.lu_scene.specs.declared.scene.Scene.{Scene};
-ghost use Rattle.lu_covered_scenes.specs.Covered.{IsCovered, GivesNoCommand};
+ghost use Rattle.lu_covered_scenes.specs.Covered.{IsCovered, AsksNoDisk};
 ghost use Rattle.lu_foreseen.specs.Scenes.{AllForeseen};
 
-/// Each covered scenario is in which no line gives a command to a target.
+/// Each covered scenario is in which no turn asks a disk: no line gives a command to a target, and no client is evicted.
 pub fn covered_scenes_are_foreseen()
-    ensures foreseen { (scene : Scene) → IsCovered scene → GivesNoCommand scene → AllForeseen scene }
+    ensures foreseen { (scene : Scene) → IsCovered scene → AsksNoDisk scene → AllForeseen scene }
 {}

@@ -1,7 +1,8 @@
--- What holds of a client after every line of a covered run: it is in its first life and knows the first boot of each target, which
--- serves; it has no handle and has changed no object; all that it asks is on names and asked of the metadata target, which alone
--- sends to it; what it holds is of that target, and no two held locks have one name.
-use Rattle.std.proofs.Common.{◌≡◌, ℕ, suc, ◌+◌, ◌<◌, Bool, true, false, List, [], ◌∷◌, ◌++◌, inl, inr, ⊎_elim, Option, Some, None, refl, sym, subst, ap, ◌∙◌, arith, pos}
+-- What holds of a client after every line of a covered run: it knows the first boot of each target, and joins there or is served; it
+-- has changed no object; all that it asks is on names and asked of the metadata target, which alone replies to it
+-- and calls locks back; what it holds is of that target, and no two held locks have one name. Where the metadata target doesn't serve
+-- its life, nothing is in flight there and nothing is held.
+use Rattle.std.proofs.Common.{◌≡◌, ℕ, suc, ◌+◌, ◌<◌, Bool, true, false, List, [], ◌∷◌, ◌++◌, ◌⊎◌, inl, inr, ⊎_elim, Option, Some, None, refl, sym, subst, ap, ◌∙◌, arith, pos}
 use Rattle.std.specs.Prelude.{nat_eq, ◌&&◌, if◌then◌else◌}
 use Rattle.std.proofs.lemmas.Bool.{eqb-true, and_parts}
 use Rattle.std.proofs.lemmas.Bool.Decides.{nat_tests}
@@ -27,33 +28,30 @@ use Rattle.lu_held.specs.declared.names.LockName.{LockName}
 use Rattle.lu_held.specs.Locks.{is_named, after}
 use Rattle.lu_held.specs.Held.{changed}
 use Rattle.lu_machine.specs.Fits.{answer_fits}
-use Rattle.lu_words.specs.Carried.{Slot, Queued, Flight, Asking, Asked, Answered, Running}
-use Rattle.lu_words.specs.Words.{Entry, Send, Begin, Heard, Hold, Drop, Told, Life, Queues, Flies, Knows, Serves, Stands, Binds, Unbinds, Pins, Unpins, Marks, Unmarks, Changes, WritesBack, Acks, Act, Txn, Enters, Line, line, is_client}
-use Rattle.lu_words.specs.Concerns.{is_about, only}
+use Rattle.lu_words.specs.Carried.{HandleFile, Slot, Queued, Flight, Asking, Asked, Answered, Running}
+use Rattle.lu_words.specs.Words.{Entry, Send, Begin, Heard, Hold, Drop, Told, Life, Queues, Flies, Knows, Serves, Stands, Pins, Unpins, Marks, Unmarks, Changes, WritesBack, Acks, Act, Txn, Enters, Line, line, is_client}
+use Rattle.lu_words.specs.Concerns.{is_about, concerns, only}
 use Rattle.lu_words.specs.Fields.{on, at_client, at_import}
 use Rattle.lu_target_rows.specs.Names.{locks_from}
 use Rattle.lu_client_rows.specs.Caches.{held_as, brought, granted_lock, reads_held, held_after, held_at, reads_patches, patches_after, patches_at}
-use Rattle.lu_client_rows.specs.Calls.{reads_handles, handles_after, handles_at}
-use Rattle.lu_client_rows.specs.Imports as whole
-use Rattle.lu_client_rows.specs.Imports.{Serving, import_at}
 use Rattle.lu_client_rows.specs.Messages.{size_with, heeds}
 use Rattle.lu_client_rows.specs.States.{Client as ClientState}
-use Rattle.lu_covered.specs.Calls.{asks, asks_for, reads_call, call_after, call_at, reads_life, life_after, first_life, life_at, operation_of}
+use Rattle.lu_covered.specs.Calls.{asks, asks_for, reads_call, call_after, call_at, operation_of}
 use Rattle.lu_covered.specs.Covered.{IsCovered, AllCovered}
 use Rattle.lu_covered.specs.Heads.{Head}
-use Rattle.lu_covered.specs.Imports.{rest, without_flight, reads_queue, queue_after, queue_at, reads_flights, flights_after, flights_at, reads_last, last_after, last_at}
+use Rattle.lu_covered.specs.ClientStates.{flights_of, life_of}
+use Rattle.lu_covered.specs.Imports.{rest, without_flight, reads_queue, queue_after, queue_at, reads_flights, flights_after, flights_at, reads_known, known_after, known_at, Standing, Joining, Serving, reads_standing, standing_after, standing_at}
 use Rattle.lu_covered.specs.TargetParts.{is_slot_of, entered, answered}
 use Rattle.lu_covered.specs.TargetStates.{slot_of}
 use Rattle.lu_guards.proofs.Guards.{In, Was, EntryOk, EntryOf, SendOf, Grown, GrownOf}
 use Rattle.lu_guards.proofs.Lists.{in_append, in_filter}
-use Rattle.lu_guards.proofs.Parts.{queue_is}
+use Rattle.lu_guards.proofs.Parts.{queue_now, flights_now, standing_is}
+use Rattle.lu_guards.proofs.Held.{held_is}
 use Rattle.lu_guards.proofs.ClientLocks.{Once, Differ, once_filter, once_changed, once_used, once_with, once_brought, with_only, brought_only, changed_only, used_only, without_only}
 
 -- ---- operations on names
 
 abbrev pub IsNames : Op → Type 0
-IsNames (op.Open path) = ⊥
-IsNames (op.Close number fid) = ⊥
 IsNames (op.Enqueue resource mode extent) = ⊥
 IsNames (op.Get resource cookie page) = ⊥
 IsNames (op.Put resource cookie offset bytes) = ⊥
@@ -64,20 +62,22 @@ IsNames _ = Unit {0}
 pub some_is : {A : Type 0} (a b : A) → Some a ≡ Some b → a ≡ b
 some_is a b e = cc
 
-pub becomes_names : (c : Call) (o : Op) → operation_of c ≡ Some o → IsNames o
-becomes_names (call.Lookup path) o e = subst IsNames (some_is (op.Lookup path) o e) tt
-becomes_names (call.Stat path) o e = subst IsNames (some_is (op.Stat path) o e) tt
-becomes_names (call.List path) o e = subst IsNames (some_is (op.List path) o e) tt
-becomes_names (call.Layout path) o e = subst IsNames (some_is (op.Layout path) o e) tt
-becomes_names (call.Mkdir path) o e = subst IsNames (some_is (op.Mkdir path) o e) tt
-becomes_names (call.Create path None) o e = subst IsNames (some_is (op.Create path 1048576 (pos 1)) o e) tt
-becomes_names (call.Create path (Some stripes)) o e = subst IsNames (some_is (op.Create path stripes.0 stripes.1) o e) tt
-becomes_names (call.Link old new) o e = subst IsNames (some_is (op.Link old new) o e) tt
-becomes_names (call.Unlink path) o e = subst IsNames (some_is (op.Unlink path) o e) tt
-becomes_names (call.Rmdir path) o e = subst IsNames (some_is (op.Rmdir path) o e) tt
-becomes_names (call.Rename old new) o e = subst IsNames (some_is (op.Rename old new) o e) tt
-becomes_names (call.Chmod path mode) o e = subst IsNames (some_is (op.Chmod path mode) o e) tt
-becomes_names c o e = absurd (cc)
+pub becomes_names : (file : Option HandleFile) (c : Call) (o : Op) → operation_of file c ≡ Some o → IsNames o
+becomes_names file (call.Lookup path) o e = subst IsNames (some_is (op.Lookup path) o e) tt
+becomes_names file (call.Stat path) o e = subst IsNames (some_is (op.Stat path) o e) tt
+becomes_names file (call.List path) o e = subst IsNames (some_is (op.List path) o e) tt
+becomes_names file (call.Layout path) o e = subst IsNames (some_is (op.Layout path) o e) tt
+becomes_names file (call.Mkdir path) o e = subst IsNames (some_is (op.Mkdir path) o e) tt
+becomes_names file (call.Create path None) o e = subst IsNames (some_is (op.Create path 1048576 (pos 1)) o e) tt
+becomes_names file (call.Create path (Some stripes)) o e = subst IsNames (some_is (op.Create path stripes.0 stripes.1) o e) tt
+becomes_names file (call.Link old new) o e = subst IsNames (some_is (op.Link old new) o e) tt
+becomes_names file (call.Unlink path) o e = subst IsNames (some_is (op.Unlink path) o e) tt
+becomes_names file (call.Rmdir path) o e = subst IsNames (some_is (op.Rmdir path) o e) tt
+becomes_names file (call.Rename old new) o e = subst IsNames (some_is (op.Rename old new) o e) tt
+becomes_names file (call.Chmod path mode) o e = subst IsNames (some_is (op.Chmod path mode) o e) tt
+becomes_names file (call.Open h path) o e = subst IsNames (some_is (op.Open path) o e) tt
+becomes_names (Some f) (call.Close h) o e = subst IsNames (some_is (op.Close f.number f.fid) o e) tt
+becomes_names file c o e = absurd (cc)
 
 pub ends : {A : Type 0} (xs : List A) → xs ++ [] ≡ xs
 ends [] = refl
@@ -106,119 +106,40 @@ heeds_nothing t f (op.Put resource cookie offset bytes) r a k n = absurd n
 heeds_nothing t f (op.Cut resource cookie size) r a k n = absurd n
 heeds_nothing t f o r a k n = refl
 
--- ---- fields that no covered line reads
+-- ---- fields that no covered line changes
 
 pub on_other : {A : Type 0} (r : Bool) (new old : A) → on r false new old ≡ old
 on_other true new old = refl
 on_other false new old = refl
 
-unread_client : {A : Type 0} (reads : Entry → Bool) (after : A → Entry → A) (start : A) (c : ℕ) → ((e : Entry) → IsCovered e → reads e ≡ false) → (past : List Line) → AllCovered past → at_client reads after start c past ≡ start
-unread_client reads after start c f [] a = refl
-unread_client reads after start c f (l ∷ past) a =
-    ap (λ (r : Bool). on r (is_client c l.at.node) (after (at_client reads after start c past) l.entry) (at_client reads after start c past)) (f l.entry a.0) ∙ unread_client reads after start c f past a.1
+still_client : {A : Type 0} (reads : Entry → Bool) (after : A → Entry → A) (start : A) (c : ℕ) → ((e : Entry) → IsCovered e → (own : Bool) → on (reads e) own (after start e) start ≡ start)
+    → (past : List Line) → AllCovered past → at_client reads after start c past ≡ start
+still_client reads after start c f [] a = refl
+still_client {A} reads after start c f (l ∷ past) a =
+    ap (λ (x : A). on (reads l.entry) (is_client c l.at.node) (after x l.entry) x) (still_client reads after start c f past a.1) ∙ f l.entry a.0 (is_client c l.at.node)
 
 unread_import : {A : Type 0} (reads : Entry → Bool) (after : A → Entry → A) (start : A) (c t : ℕ) → ((e : Entry) → IsCovered e → reads e ≡ false) → (past : List Line) → AllCovered past → at_import reads after start c t past ≡ start
 unread_import reads after start c t f [] a = refl
 unread_import reads after start c t f (l ∷ past) a =
     ap (λ (r : Bool). on r (is_client c l.at.node && is_about t l.entry) (after (at_import reads after start c t past) l.entry) (at_import reads after start c t past)) (f l.entry a.0) ∙ unread_import reads after start c t f past a.1
 
-pub life_first : (c : ℕ) (past : List Line) → AllCovered past → life_at c past ≡ first_life c
-life_first c past a = unread_client reads_life life_after (first_life c) c by past a
-  where
-    by : (e : Entry) → IsCovered e → reads_life e ≡ false
-    by (Life who) k = absurd k
-    by e k = refl
-
-pub handles_none : (c : ℕ) (past : List Line) → AllCovered past → handles_at c past ≡ []
-handles_none c past a = unread_client reads_handles handles_after [] c by past a
-  where
-    by : (e : Entry) → IsCovered e → reads_handles e ≡ false
-    by (Binds h f) k = absurd k
-    by (Unbinds h) k = absurd k
-    by (Life who) k = absurd k
-    by e k = refl
-
 pub patches_none : (c : ℕ) (past : List Line) → AllCovered past → patches_at c past ≡ []
-patches_none c past a = unread_client reads_patches patches_after [] c by past a
+patches_none c past a = still_client reads_patches patches_after [] c by past a
   where
-    by : (e : Entry) → IsCovered e → reads_patches e ≡ false
-    by (Changes r f) k = absurd k
-    by (WritesBack r f) k = absurd k
-    by (Acks r) k = absurd k
-    by (Life who) k = absurd k
-    by e k = refl
+    by : (e : Entry) → IsCovered e → (own : Bool) → on (reads_patches e) own (patches_after [] e) [] ≡ []
+    by (Changes r f) k own = absurd k
+    by (WritesBack r f) k own = absurd k
+    by (Acks r) k own = absurd k
+    by (Life who) k true = refl
+    by (Life who) k false = refl
+    by e k own = refl
 
-pub boot_first : (c t : ℕ) (past : List Line) → AllCovered past → (import_at c t past).boot ≡ 1
-boot_first c t past a = unread_import whole.reads_known whole.known_after 1 c t by past a
+pub boot_first : (c t : ℕ) (past : List Line) → AllCovered past → known_at c t past ≡ 1
+boot_first c t past a = unread_import reads_known known_after 1 c t by past a
   where
-    by : (e : Entry) → IsCovered e → whole.reads_known e ≡ false
+    by : (e : Entry) → IsCovered e → reads_known e ≡ false
     by (Knows u b) k = absurd k
     by e k = refl
-
-pub all_serve : (c t : ℕ) (past : List Line) → AllCovered past → (import_at c t past).standing ≡ Serving
-all_serve c t past a = unread_import whole.reads_standing whole.standing_after Serving c t by past a
-  where
-    by : (e : Entry) → IsCovered e → whole.reads_standing e ≡ false
-    by (Knows u b) k = absurd k
-    by (Serves u b) k = absurd k
-    by (Life who) k = absurd k
-    by e k = refl
-
--- ---- fields that both tables read in the same way, but for a new life
-
-import_same : {A : Type 0} (reads more : Entry → Bool) (after next : A → Entry → A) (start : A) (c t : ℕ) → ((e : Entry) → IsCovered e → reads e ≡ more e) → ((a : A) (e : Entry) → IsCovered e → after a e ≡ next a e)
-    → (past : List Line) → AllCovered past → at_import reads after start c t past ≡ at_import more next start c t past
-import_same reads more after next start c t same step [] a = refl
-import_same {A} reads more after next start c t same step (l ∷ past) a =
-    let own = is_client c l.at.node && is_about t l.entry in
-    let X : A = at_import reads after start c t past in
-    let Y : A = at_import more next start c t past in
-    ap (λ (r : Bool). on r own (after X l.entry) X) (same l.entry a.0)
-    ∙ ap (λ (x : A). on (more l.entry) own (after x l.entry) x) (import_same reads more after next start c t same step past a.1)
-    ∙ ap (λ (x : A). on (more l.entry) own x Y) (step Y l.entry a.0)
-
-pub last_same : (c t : ℕ) (past : List Line) → AllCovered past → (import_at c t past).last ≡ last_at c t past
-last_same c t past a = import_same whole.reads_last reads_last whole.last_after last_after 0 c t reads step past a
-  where
-    reads : (e : Entry) → IsCovered e → whole.reads_last e ≡ reads_last e
-    reads (Life who) k = absurd k
-    reads (Flies t f) k = refl
-    reads e k = refl
-
-    step : (n : ℕ) (e : Entry) → IsCovered e → whole.last_after n e ≡ last_after n e
-    step n (Life who) k = absurd k
-    step n (Flies t f) k = refl
-    step n e k = refl
-
-pub queue_same : (c t : ℕ) (past : List Line) → AllCovered past → (import_at c t past).queue ≡ queue_at c t past
-queue_same c t past a = import_same whole.reads_queue reads_queue whole.queue_after queue_after [] c t reads step past a
-  where
-    reads : (e : Entry) → IsCovered e → whole.reads_queue e ≡ reads_queue e
-    reads (Life who) k = absurd k
-    reads (Queues t q) k = refl
-    reads (Flies t f) k = refl
-    reads e k = refl
-
-    step : (q : List Queued) (e : Entry) → IsCovered e → whole.queue_after q e ≡ queue_after q e
-    step qs (Life who) k = absurd k
-    step qs (Queues t q) k = refl
-    step qs (Flies t f) k = refl
-    step qs e k = refl
-
-pub flights_same : (c t : ℕ) (past : List Line) → AllCovered past → (import_at c t past).flights ≡ flights_at c t past
-flights_same c t past a = import_same whole.reads_flights reads_flights whole.flights_after flights_after [] c t reads step past a
-  where
-    reads : (e : Entry) → IsCovered e → whole.reads_flights e ≡ reads_flights e
-    reads (Life who) k = absurd k
-    reads (Heard t f r) k = refl
-    reads (Flies t f) k = refl
-    reads e k = refl
-
-    step : (fs : List Flight) (e : Entry) → IsCovered e → whole.flights_after fs e ≡ flights_after fs e
-    step fs (Life who) k = absurd k
-    step fs (Heard t f r) k = refl
-    step fs (Flies t f) k = refl
-    step fs e k = refl
 
 -- ---- what each line of the client keeps
 
@@ -270,6 +191,7 @@ other_queue head c t past g = import_keeps (λ (qs : List Queued). qs ≡ []) re
     by : (p : List Line) (at : At) (e : Entry) (x : List Queued) → EntryOk p at (Client c) e → is_about (suc t) e ≡ true → x ≡ [] → queue_after x e ≡ []
     by p at (Queues u o) x ok about q = absurd (not_zero t u ok.names about)
     by p at (Flies u f) x ok about q = absurd (not_zero t u ok about)
+    by p at (Life who) x ok about q = refl
     by p at e x ok about q = q
 
 pub other_flights : (head : Head) (c t : ℕ) (past : List Line) → Grown head past → flights_at c (suc t) past ≡ []
@@ -278,10 +200,11 @@ other_flights head c t past g = import_keeps (λ (fs : List Flight). fs ≡ []) 
     by : (p : List Line) (at : At) (e : Entry) (x : List Flight) → EntryOk p at (Client c) e → is_about (suc t) e ≡ true → x ≡ [] → flights_after x e ≡ []
     by p at (Flies u f) x ok about q = absurd (not_zero t u ok about)
     by p at (Heard u f r) x ok about q = absurd (not_zero t u ok.0 about)
+    by p at (Life who) x ok about q = refl
     by p at e x ok about q = q
 
 -- all that is asked is on names
-in_rest : (q : Queued) (qs : List Queued) → In q (rest qs) → In q qs
+pub in_rest : (q : Queued) (qs : List Queued) → In q (rest qs) → In q qs
 in_rest q [] i = i
 in_rest q (x ∷ qs) i = inr i
 
@@ -290,8 +213,9 @@ queue_names head c t past g = import_keeps (λ (qs : List Queued). (q : Queued) 
   where
     by : (p : List Line) (at : At) (e : Entry) (x : List Queued) → EntryOk p at (Client c) e → ((q : Queued) → In q x → IsNames q.op) → (q : Queued) → In q (queue_after x e) → IsNames q.op
     by p at (Queues u o) x ok k q i =
-        ⊎_elim (λ (j : In q x). k q j) (λ (j : In q (o ∷ [])). ⊎_elim (λ (e : o ≡ q). subst (λ (y : Queued). IsNames y.op) e (becomes_names ok.running.call o.op ok.becomes)) (λ (n : ⊥). absurd n) j) (in_append q x (o ∷ []) i)
+        ⊎_elim (λ (j : In q x). k q j) (λ (j : In q (o ∷ [])). ⊎_elim (λ (e : o ≡ q). subst (λ (y : Queued). IsNames y.op) e (becomes_names ok.running.file ok.running.call o.op ok.becomes)) (λ (n : ⊥). absurd n) j) (in_append q x (o ∷ []) i)
     by p at (Flies u f) x ok k q i = k q (in_rest q x i)
+    by p at (Life who) x ok k q i = absurd i
     by p at e x ok k q i = k q i
 
 pub flights_names : (head : Head) (c t : ℕ) (past : List Line) → Grown head past → (f : Flight) → In f (flights_at c t past) → IsNames f.op
@@ -299,13 +223,14 @@ flights_names head c t past g = import_keeps (λ (fs : List Flight). (f : Flight
   where
     by : (p : List Line) (at : At) (e : Entry) (x : List Flight) → Grown head p → EntryOf head (only t p) at (Client c) e → ((f : Flight) → In f x → IsNames f.op) → (f : Flight) → In f (flights_after x e) → IsNames f.op
     by p at (Flies u o) x h of k f i =
-        let front : IsNames of.front.op = queue_names head c t p h of.front (subst (λ (qs : List Queued). In of.front qs) (sym (queue_is c t p ∙ of.queue)) (inl refl)) in
+        let front : IsNames of.front.op = queue_names head c t p h of.front (subst (λ (qs : List Queued). In of.front qs) (sym (queue_now head c t p h ∙ of.queue)) (inl refl)) in
         let flies : IsNames o.op = subst (λ (y : Flight). IsNames y.op) (sym of.is) front in
         ⊎_elim (λ (j : In f x). k f j) (λ (j : In f (o ∷ [])). ⊎_elim (λ (e : o ≡ f). subst (λ (y : Flight). IsNames y.op) e flies) (λ (n : ⊥). absurd n) j) (in_append f x (o ∷ []) i)
     by p at (Heard u o r) x h of k f i = k f (without o.xid x i)
       where
         without : (xid : ℕ) (fs : List Flight) → In f (without_flight xid fs) → In f fs
         without xid fs j = (in_filter _ f fs j).0
+    by p at (Life who) x h of k f i = absurd i
     by p at e x h of k f i = k f i
 
 -- calls stand on four slots
@@ -379,26 +304,149 @@ held_once head c past g = client_keeps Once reads_held held_after [] head c tt s
     step p at (Unmarks t) x ok k = absurd ok
     step p at e x ok k = k
 
+-- ---- where the metadata target doesn't serve the life
+
+-- a client joins there, or is served
+pub stands : (head : Head) (c t : ℕ) (past : List Line) → Grown head past → (standing_at c t past ≡ Joining) ⊎ (standing_at c t past ≡ Serving)
+stands head c t past g = import_keeps (λ (s : Standing). (s ≡ Joining) ⊎ (s ≡ Serving)) reads_standing standing_after Serving head c t (inr refl) (λ p at e x h ok of about q. by p at e x ok q) past g
+  where
+    by : (p : List Line) (at : At) (e : Entry) (x : Standing) → EntryOk p at (Client c) e → (x ≡ Joining) ⊎ (x ≡ Serving) → (standing_after x e ≡ Joining) ⊎ (standing_after x e ≡ Serving)
+    by p at (Knows u b) x ok q = absurd ok
+    by p at (Serves u b) x ok q = inr refl
+    by p at (Life who) x ok q = inl refl
+    by p at e x ok q = q
+
+-- nothing flies there
+pub unserved_flights : (head : Head) (c : ℕ) (past : List Line) → Grown head past → (standing_at c 0 past ≡ Serving) ⊎ (flights_at c 0 past ≡ [])
+unserved_flights head c [] g = inl refl
+unserved_flights head c (l ∷ past) g = by l.at.node l.entry g.0.ok g.0.of (unserved_flights head c past g.1)
+  where
+    S : Standing
+    S = standing_at c 0 past
+
+    F : List Flight
+    F = flights_at c 0 past
+
+    Fine : Bool → Bool → Bool → Entry → Type 0
+    Fine rs rf own e = (on rs own (standing_after S e) S ≡ Serving) ⊎ (on rf own (flights_after F e) F ≡ [])
+
+    flying : (f : Flight) → In f (flights_of (life_of c (only 0 past)) (only 0 past)) → (S ≡ Serving) ⊎ (F ≡ []) → S ≡ Serving
+    flying f i (inl s) = s
+    flying f i (inr e) = absurd (subst (λ (fs : List Flight). In f fs) (sym (flights_now head c 0 past g.1) ∙ e) i)
+
+    not_mine : (rs rf : Bool) (e : Entry) → (S ≡ Serving) ⊎ (F ≡ []) → Fine rs rf false e
+    not_mine true true e ih = ih
+    not_mine true false e ih = ih
+    not_mine false true e ih = ih
+    not_mine false false e ih = ih
+
+    Own : Entry → Bool → Type 0
+    Own e own = Fine (reads_standing e) (reads_flights e) own e
+
+    own : (e : Entry) → (is_about 0 e ≡ true → EntryOf head (only 0 past) l.at (Client c) e) → EntryOk past l.at (Client c) e → (b : Bool) → is_about 0 e ≡ b → (S ≡ Serving) ⊎ (F ≡ []) → Own e b
+    own e of ok false q ih = not_mine (reads_standing e) (reads_flights e) e ih
+    own (Knows u b) of ok true q ih = absurd ok
+    own (Serves u b) of ok true q ih = inl refl
+    own (Life who) of ok true q ih = inr refl
+    own (Flies u f) of ok true q ih = let s = of q in inl (standing_is c 0 past ∙ s.serves)
+    own (Heard u f r) of ok true q ih = let s = of q in inl (flying f s.flying ih)
+    own e of ok true q ih = ih
+
+    by : (node : Node) (e : Entry) → EntryOk past l.at node e → ((t : ℕ) → concerns t node e ≡ true → EntryOf head (only t past) l.at node e) → (S ≡ Serving) ⊎ (F ≡ []) → Own e (is_client c node && is_about 0 e)
+    by (Target u) e ok of ih = not_mine (reads_standing e) (reads_flights e) e ih
+    by (Client d) e ok of ih = mine (nat_eq c d) refl
+      where
+        mine : (b : Bool) → nat_eq c d ≡ b → Own e (b && is_about 0 e)
+        mine false q = not_mine (reads_standing e) (reads_flights e) e ih
+        mine true q =
+            let same : d ≡ c = sym (eqb-true c d q) in
+            own e (λ a. subst (λ (u : ℕ). EntryOf head (only 0 past) l.at (Client u) e) same (of 0 a)) (subst (λ (u : ℕ). EntryOk past l.at (Client u) e) same ok) (is_about 0 e) refl ih
+
+-- and nothing is held of it
+pub unserved_held : (head : Head) (c : ℕ) (past : List Line) → Grown head past → (standing_at c 0 past ≡ Serving) ⊎ (held_at c past ≡ [])
+unserved_held head c [] g = inl refl
+unserved_held head c (l ∷ past) g = by l.at.node l.entry g.0.ok g.0.of (unserved_held head c past g.1)
+  where
+    S : Standing
+    S = standing_at c 0 past
+
+    H : List HeldLock
+    H = held_at c past
+
+    Fine : Bool → Bool → Bool → Bool → Entry → Type 0
+    Fine rs rh about own e = (on rs about (standing_after S e) S ≡ Serving) ⊎ (on rh own (held_after H e) H ≡ [])
+
+    flying : (f : Flight) → In f (flights_of (life_of c (only 0 past)) (only 0 past)) → (S ≡ Serving) ⊎ (flights_at c 0 past ≡ []) → S ≡ Serving
+    flying f i (inl s) = s
+    flying f i (inr e) = absurd (subst (λ (fs : List Flight). In f fs) (sym (flights_now head c 0 past g.1) ∙ e) i)
+
+    holding : (h : HeldLock) → In h (held_at c (only 0 past)) → (S ≡ Serving) ⊎ (H ≡ []) → S ≡ Serving
+    holding h i (inl s) = s
+    holding h i (inr e) = absurd (subst (λ (hs : List HeldLock). In h hs) (sym (held_is head c past g.1) ∙ e) i)
+
+    not_mine : (rs rh : Bool) (e : Entry) → (S ≡ Serving) ⊎ (H ≡ []) → Fine rs rh false false e
+    not_mine true true e ih = ih
+    not_mine true false e ih = ih
+    not_mine false true e ih = ih
+    not_mine false false e ih = ih
+
+    served : (about : Bool) → (S ≡ Serving) ⊎ (H ≡ []) → (on true about Serving S ≡ Serving) ⊎ (H ≡ [])
+    served true ih = inl refl
+    served false ih = ih
+
+    less : (e : Entry) → held_after [] e ≡ [] → (S ≡ Serving) ⊎ (H ≡ []) → (S ≡ Serving) ⊎ (held_after H e ≡ [])
+    less e q (inl s) = inl s
+    less e q (inr n) = inr (ap (λ (hs : List HeldLock). held_after hs e) n ∙ q)
+
+    own : (e : Entry) → EntryOk past l.at (Client c) e → (is_about 0 e ≡ true → EntryOf head (only 0 past) l.at (Client c) e) → (S ≡ Serving) ⊎ (H ≡ []) → Fine (reads_standing e) (reads_held e) (is_about 0 e) true e
+    own (Knows u b) ok of ih = absurd ok
+    own (Unmarks u) ok of ih = absurd ok
+    own (Serves u b) ok of ih = served (nat_eq 0 u) ih
+    own (Life who) ok of ih = let s = of refl in inr (held_is head c past g.1 ∙ s.empty)
+    own (Heard u f r) ok of ih = let s = of (ap (nat_eq 0) ok.0) in inl (flying f s.flying (unserved_flights head c past g.1))
+    own (Hold u lock marked size seen) ok of ih = let s = of (ap (nat_eq 0) ok.names) in inl (holding (held_as 0 lock false) s.1.held ih)
+    own (Drop u lock) ok of ih = less (Drop u lock) refl ih
+    own (Pins name) ok of ih = less (Pins name) refl ih
+    own (Unpins name) ok of ih = less (Unpins name) refl ih
+    own (Marks name) ok of ih = less (Marks name) refl ih
+    own e ok of ih = ih
+
+    by : (node : Node) (e : Entry) → EntryOk past l.at node e → ((t : ℕ) → concerns t node e ≡ true → EntryOf head (only t past) l.at node e) → (S ≡ Serving) ⊎ (H ≡ [])
+        → Fine (reads_standing e) (reads_held e) (is_client c node && is_about 0 e) (is_client c node) e
+    by (Target u) e ok of ih = not_mine (reads_standing e) (reads_held e) e ih
+    by (Client d) e ok of ih = mine (nat_eq c d) refl
+      where
+        mine : (b : Bool) → nat_eq c d ≡ b → Fine (reads_standing e) (reads_held e) (b && is_about 0 e) b e
+        mine false q = not_mine (reads_standing e) (reads_held e) e ih
+        mine true q =
+            let same : d ≡ c = sym (eqb-true c d q) in
+            own e (subst (λ (u : ℕ). EntryOk past l.at (Client u) e) same ok) (λ a. subst (λ (u : ℕ). EntryOf head (only 0 past) l.at (Client u) e) same (of 0 a)) ih
+
 -- ---- what comes to it
 
-abbrev pub ComesTo : Message → Type 0
-ComesTo (message.Reply r) = Unit {0}
-ComesTo (message.Block who boot cookie) = Unit {0}
-ComesTo _ = ⊥
+-- replies and calls for locks come from the metadata target
+abbrev pub ComesTo : Node → Message → Type 0
+ComesTo (Target t) (message.Reply r) = t ≡ 0
+ComesTo (Target t) (message.Block who boot cookie) = t ≡ 0
+ComesTo (Target t) (message.Ready who boot committed) = Unit {0}
+ComesTo (Target t) (message.Evicted who boot) = Unit {0}
+ComesTo _ _ = ⊥
 
-pub comes_to : (head : Head) (past : List Line) (from : Node) (c : ℕ) (m : Message) → Grown head past → Was past from (Client c) m → (from ≡ Target 0) × ComesTo m
+pub comes_to : (head : Head) (past : List Line) (from : Node) (c : ℕ) (m : Message) → Grown head past → Was past from (Client c) m → ComesTo from m
 comes_to head [] from c m g w = absurd w
 comes_to head (l ∷ past) from c m g w = by l.entry w g.0.ok (λ v. comes_to head past from c m g.1 v)
   where
-    sends : (node : Node) (m : Message) → EntryOk past l.at node (Send (Client c) m) → (node ≡ Target 0) × ComesTo m
-    sends (Target t) (message.Reply r) ok = (ap Target ok.0, tt)
-    sends (Target t) (message.Block who boot cookie) ok = (ap Target ok, tt)
+    sends : (node : Node) (m : Message) → EntryOk past l.at node (Send (Client c) m) → ComesTo node m
+    sends (Target t) (message.Reply r) ok = ok.0
+    sends (Target t) (message.Block who boot cookie) ok = ok
+    sends (Target t) (message.Ready who boot committed) ok = tt
+    sends (Target t) (message.Evicted who boot) ok = tt
     sends node m ok = absurd ok
 
-    by : (e : Entry) → Was (line l.at e ∷ past) from (Client c) m → EntryOk past l.at l.at.node e → (Was past from (Client c) m → (from ≡ Target 0) × ComesTo m) → (from ≡ Target 0) × ComesTo m
+    by : (e : Entry) → Was (line l.at e ∷ past) from (Client c) m → EntryOk past l.at l.at.node e → (Was past from (Client c) m → ComesTo from m) → ComesTo from m
     by (Send to x) (inl r) ok more =
-        let s = sends l.at.node m (subst (λ (y : Message). EntryOk past l.at l.at.node (Send (Client c) y)) r.2 (subst (λ (n : Node). EntryOk past l.at l.at.node (Send n x)) r.1 ok)) in
-        (sym r.0 ∙ s.0, s.1)
+        subst (λ (n : Node). ComesTo n m) r.0
+        (sends l.at.node m (subst (λ (y : Message). EntryOk past l.at l.at.node (Send (Client c) y)) r.2 (subst (λ (n : Node). EntryOk past l.at l.at.node (Send n x)) r.1 ok)))
     by (Send to x) (inr r) ok more = more r
     by e r ok more = more r
 
@@ -417,7 +465,7 @@ from_differ n who (w ∷ wants) = (λ m i. apart (n + 1) m.cookie.0 (above (n + 
 
 kept_differ : (head : Head) (who : Who) (tag : ℕ) (past : List Line) → GrownOf head past → (k : ReplyTo) → (slot_of who tag past).reply ≡ Some k → Differ k.locks
 kept_differ head who tag [] g = λ k e. absurd (cc)
-kept_differ head who tag (l ∷ past) g = by l.at.node l.entry g.0 (kept_differ head who tag past g.2)
+kept_differ head who tag (l ∷ past) g = by l.at.node l.entry g.0 (kept_differ head who tag past g.3)
   where
     S : Slot
     S = slot_of who tag past
@@ -442,10 +490,10 @@ kept_differ head who tag (l ∷ past) g = by l.at.node l.entry g.0 (kept_differ 
 
 pub reply_differs : (head : Head) (past : List Line) (from : Node) (c : ℕ) (r : ReplyTo) → GrownOf head past → Was past from (Client c) (message.Reply r) → Differ r.locks
 reply_differs head [] from c r g w = absurd w
-reply_differs head (l ∷ past) from c r g w = by l.entry w g.0 (λ v. reply_differs head past from c r g.2 v)
+reply_differs head (l ∷ past) from c r g w = by l.entry w g.0 (λ v. reply_differs head past from c r g.3 v)
   where
     sends : (node : Node) → SendOf head past node (Client c) (message.Reply r) → Differ r.locks
-    sends (Target t) ok = subst (λ (k : ReplyTo). Differ k.locks) (sym ok.is) (kept_differ head ok.who ok.tag past g.2 ok.kept ok.slot)
+    sends (Target t) ok = subst (λ (k : ReplyTo). Differ k.locks) (sym ok.is) (kept_differ head ok.who ok.tag past g.3 ok.kept ok.slot)
     sends (Client d) ok = absurd ok
 
     by : (e : Entry) → Was (line l.at e ∷ past) from (Client c) (message.Reply r) → EntryOf head past l.at l.at.node e → (Was past from (Client c) (message.Reply r) → Differ r.locks) → Differ r.locks

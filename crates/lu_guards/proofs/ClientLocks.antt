@@ -14,7 +14,7 @@ use Rattle.lu_held.specs.Locks.{named, name_of, is_named, after}
 use Rattle.lu_held.specs.Held.{is_held, changed, without, used, put_in, in_order}
 use Rattle.lu_client_rows.specs.Caches.{held_as, with_held, with_brought}
 use Rattle.lu_guards.proofs.Guards.{In}
-use Rattle.lu_guards.proofs.Lists.{self, in_append, in_filter, in_filtered}
+use Rattle.lu_guards.proofs.Lists.{self, in_append, in_filter, in_filtered, or_left, or_right}
 
 -- ---- lists
 
@@ -41,6 +41,11 @@ any_true {A} f (x ∷ xs) e = by (f x) refl e (any_true f xs)
     by : (b : Bool) → f x ≡ b → (b || list_any f xs) ≡ true → (list_any f xs ≡ true → (y : A) × In y xs × (f y ≡ true)) → (y : A) × In y (x ∷ xs) × (f y ≡ true)
     by true t e more = (x, inl refl, t)
     by false t e more = let r = more e in (r.0, inr r.1, r.2)
+
+pub any_passes : {A : Type 0} (f : A → Bool) (x : A) (xs : List A) → In x xs → f x ≡ true → list_any f xs ≡ true
+any_passes f x [] i t = absurd i
+any_passes f x (y ∷ xs) (inl e) t = or_left (f y) (list_any f xs) (ap f e ∙ t)
+any_passes f x (y ∷ xs) (inr i) t = or_right (f y) (list_any f xs) (any_passes f x xs i t)
 
 pub any_false : {A : Type 0} (f : A → Bool) (xs : List A) → list_any f xs ≡ false → (x : A) → In x xs → f x ≡ false
 any_false f [] e x i = absurd i

@@ -1,5 +1,5 @@
 -- What comes at the end of a client's turn: unused locks are marked, marked ones are given up, and what waits is sent. Each line is
--- allowed, and then each call waits for its reply, and no held lock is pinned or marked.
+-- allowed, and then each call waits for its reply, no held lock is pinned or marked, and handles are bound as calls say.
 use Rattle.std.proofs.Common.{◌≡◌, ℕ, zero, suc, ◌+◌, ◌<◌, Bool, true, false, List, [], ◌∷◌, ◌++◌, ◌⊎◌, inl, inr, ⊎_elim, Option, Some, None, refl, sym, subst, ap, ◌∙◌, arith, add-one}
 use Rattle.std.specs.Prelude.{nat_eq, nat_lt, ◌&&◌, ◌||◌, length, if◌then◌else◌, map, filter, reverse, drop}
 use Rattle.std.specs.List.{range_with_len}
@@ -22,33 +22,34 @@ use Rattle.lu_held.specs.declared.names.LockName.{LockName}
 use Rattle.lu_held.specs.Locks.{named, name_of, is_named, is_free, after}
 use Rattle.lu_held.specs.Held.{is_held, without, in_order}
 use Rattle.lu_words.specs.Carried.{Queued, Flight, Asked, Plain, Running}
-use Rattle.lu_words.specs.Words.{Entry, Send, Tick, Drop, Flies, Marks, Line, line, with_turn}
+use Rattle.lu_words.specs.Words.{Entry, Send, Tick, Drop, Flies, Marks, Line, line, with_turn, same_life}
 use Rattle.lu_words.specs.Concerns.{is_about, only}
 use Rattle.lu_words.specs.Fields.{on}
 use Rattle.lu_client_rows.specs.Caches.{reads_held, held_after, held_at, patch_at}
 use Rattle.lu_client_rows.specs.Calls.{reads_death, death_after, is_dead}
-use Rattle.lu_client_rows.specs.Imports.{Import, import_at, import_of}
+use Rattle.lu_client_rows.specs.Imports.{Import, import_at, import_of, is_serving}
 use Rattle.lu_client_rows.specs.Locks.{marks_of, trims, is_called, must_write, gives_up, visits, visits_with, visits_all, locks_go, dirty_total}
 use Rattle.lu_client_rows.specs.Patches.{clean}
 use Rattle.lu_client_rows.specs.Sending.{has_room, next_flight, request_of, sends_request, flies, sends, sends_to, sends_all}
 use Rattle.lu_client_rows.specs.States.{Client as ClientState, follow, turn as turn_of}
-use Rattle.lu_covered.specs.Calls.{reads_call, call_after, call_at, first_life, life_at, operation_of}
-use Rattle.lu_covered.specs.ClientStates.{queue_of, flights_of, last_of, known_of, life_of}
-use Rattle.lu_covered.specs.Covered.{IsCovered, AllCovered}
+use Rattle.lu_covered.specs.Calls.{reads_call, call_after, call_at, life_at, becomes}
+use Rattle.lu_covered.specs.ClientStates.{queue_of, flights_of, last_of, known_of, life_of, standing_of}
+use Rattle.lu_covered.specs.Covered.{IsCovered, IsAlone, AllCovered}
 use Rattle.lu_covered.specs.Heads.{Head, IsAlive}
-use Rattle.lu_covered.specs.Imports.{rest, queue_at, flights_at, last_at}
+use Rattle.lu_covered.specs.Imports.{Standing, Serving, rest, queue_at, flights_at, last_at, known_at, standing_at}
 use Rattle.lu_table.specs.Heads as table
 use Rattle.lu_table.specs.Runs.{limits_of, client_of}
 use Rattle.lu_after.proofs.Clients.{client_own}
-use Rattle.lu_guards.proofs.Guards.{In, Steps, Owes, EntryOk, EntryOf, DropOk, CancelOk, Grown}
+use Rattle.lu_guards.proofs.Guards.{In, Steps, Closes, Owes, EntryOk, EntryOf, DropOk, CancelOk, Grown}
 use Rattle.lu_guards.proofs.Guards as guards
-use Rattle.lu_guards.proofs.Lists.{self, in_append, in_right, in_filter, turn}
-use Rattle.lu_guards.proofs.Parts.{queue_is, flights_is, last_is, known_is, life_is_of}
+use Rattle.lu_guards.proofs.Lists.{self, in_append, in_right, in_filter, turn, life_self, turn_more}
+use Rattle.lu_guards.proofs.Parts.{queue_is, flights_is, last_is, known_is, standing_is, life_is_of}
 use Rattle.lu_guards.proofs.Turns.{covered_head, Settled, owes_nothing}
 use Rattle.lu_guards.proofs.Covers.{covered_turn}
 use Rattle.lu_guards.proofs.Held.{held_is}
 use Rattle.lu_guards.proofs.ClientLocks.{Once, in_drop, own_name, changed_only, without_only, without_other, without_gone, in_ordered, ordered_in, once_ordered}
-use Rattle.lu_guards.proofs.ClientLines.{ends, life_first, patches_none, boot_first, all_serve, last_same, queue_same, flights_same, other_queue, held_zero, held_once}
+use Rattle.lu_guards.proofs.ClientHandles.{Tied}
+use Rattle.lu_guards.proofs.ClientLines.{ends, patches_none, boot_first, other_queue, held_zero, held_once, unserved_held}
 
 -- ---- a client that lives, in its turn, after lines that are allowed
 
@@ -56,36 +57,35 @@ pub record Good (head : table.Head) (c : ℕ) (at : At) (past : List Line) : Typ
   pub grown : Grown (covered_head head) past
   pub covered : AllCovered past
   pub steps : Steps past at
+  pub closes : Closes past at
   pub alive : IsAlive (covered_head head) past c
 
 -- a call that waits for its reply, or none
 abbrev pub Idle : Option Running → Type 0
 Idle None = Unit {0}
-Idle (Some r) = (r.stage ≡ Plain) × (r.pins ≡ []) × ((o : Op) × (operation_of r.call ≡ Some o)) × (r.asking ≡ Asked)
+Idle (Some r) = (r.stage ≡ Plain) × (r.pins ≡ []) × ((o : Op) × (becomes r ≡ Some o)) × (r.asking ≡ Asked)
 
 abbrev pub AllIdle : ℕ → List Line → Type 0
 AllIdle c past = (slot : ℕ) → Idle (call_at c slot past)
 
--- nothing is owed, all calls wait, and no held lock is pinned
+-- nothing is owed, all calls wait, handles are bound as calls say, and no held lock is pinned
 pub record Rested (head : table.Head) (c : ℕ) (at : At) (past : List Line) : Type 0 where
   pub good : Good head c at past
   pub settled : Settled past
   pub idle : AllIdle c past
+  pub handles : Tied c past
   pub free : (x : HeldLock) → In x (held_at c past) → x.pins ≡ 0
 
 -- between its turns no held lock is marked either
 pub record Between (c : ℕ) (past : List Line) : Type 0 where
   pub idle : AllIdle c past
+  pub handles : Tied c past
   pub held : (x : HeldLock) → In x (held_at c past) → (x.marked ≡ false) × (x.pins ≡ 0)
 
 pub record Ended (head : table.Head) (c : ℕ) (at : At) (past : List Line) : Type 0 where
   pub good : Good head c at past
   pub settled : Settled past
   pub between : Between c past
-
-pub turn_more : (at : At) (es fs : List Entry) (past : List Line) → with_turn at (es ++ fs) past ≡ with_turn at fs (with_turn at es past)
-turn_more at [] fs past = refl
-turn_more at (e ∷ es) fs past = turn_more at es fs (line at e ∷ past)
 
 in_reverse : {A : Type 0} (x : A) (xs : List A) → In x (reverse xs) → In x xs
 in_reverse x [] i = i
@@ -105,13 +105,14 @@ module _ (head : table.Head) (c : ℕ) (stamp : Stamp) where
 
   -- ---- one line more
 
-  pub adds : (p : List Line) (e : Entry) → Good head c here p → Owes p here e → EntryOk p here (Client c) e → ((t : ℕ) → is_about t e ≡ true → EntryOf the_head (only t p) here (Client c) e) → IsCovered e → reads_death e ≡ false
+  pub adds : (p : List Line) (e : Entry) → Good head c here p → Owes p here e → EntryOk p here (Client c) e → ((t : ℕ) → is_about t e ≡ true → EntryOf the_head (only t p) here (Client c) e) → IsCovered e → IsAlone p (Client c) e → reads_death e ≡ false
       → Good head c here (line here e ∷ p)
-  adds p e g owes ok of covered lives =
+  adds p e g owes ok of covered alone lives =
       record {
-        grown = (record { steps = g.steps; lives = g.alive; owes = owes; ok = ok; of = of }, g.grown);
-        covered = (covered, g.covered);
+        grown = (record { steps = g.steps; closes = g.closes; lives = g.alive; owes = owes; ok = ok; of = of }, g.grown);
+        covered = (covered, g.covered, alone);
         steps = inl refl;
+        closes = inl refl;
         alive = record { one = g.alive.one; alive = by (reads_death e) lives ∙ g.alive.alive };
       }
     where
@@ -119,9 +120,12 @@ module _ (head : table.Head) (c : ℕ) (stamp : Stamp) where
       by true q = absurd (cc)
       by false q = refl
 
-  -- what is about the metadata target is said in its story
+  -- what is about one target is said in its story
+  pub at_one : (u : ℕ) (P : ℕ → Type 0) → P u → (t : ℕ) → nat_eq t u ≡ true → P t
+  at_one u P q t e = subst P (sym (eqb-true t u e)) q
+
   pub at_zero : (P : ℕ → Type 0) → P 0 → (t : ℕ) → nat_eq t 0 ≡ true → P t
-  at_zero P q t e = subst P (sym (eqb-true t 0 e)) q
+  at_zero P q t e = at_one 0 P q t e
 
   pub call_line : (slot : ℕ) (p : List Line) (e : Entry) → call_at c slot (line here e ∷ p) ≡ call_after slot (call_at c slot p) e
   call_line slot p e = ap (λ (own : Bool). on (reads_call e) own (call_after slot (call_at c slot p) e) (call_at c slot p)) (self c) ∙ by e
@@ -137,11 +141,12 @@ module _ (head : table.Head) (c : ℕ) (stamp : Stamp) where
       by Tick = refl
       by e = refl
 
-  pub life_here : (t : ℕ) (p : List Line) → AllCovered p → life_of c (only t p) ≡ first_life c
-  life_here t p a = sym (life_is_of c t p) ∙ life_first c p a
-
   pub boot_here : (t : ℕ) (p : List Line) → AllCovered p → known_of c (only t p) ≡ 1
   boot_here t p a = sym (known_is c t p) ∙ boot_first c t p a
+
+  -- a request in flight, as its life and the first boot name it
+  pub request_is : (t : ℕ) (p : List Line) (f : Flight) → AllCovered p → request_of (life_at c p) 1 f ≡ guards.request c (only t p) f
+  request_is t p f a = ap (λ (w : Who). request_of w 1 f) (life_is_of c t p) ∙ ap (λ (b : ℕ). request_of (life_of c (only t p)) b f) (sym (boot_here t p a))
 
   -- ---- lines that a part of a row makes, which reads the client where the part begins
 
@@ -163,52 +168,64 @@ module _ (head : table.Head) (c : ℕ) (stamp : Stamp) where
 
   -- ---- what waits at the metadata target is sent
 
-  sends_good : (p : List Line) (last : ℕ) (flights : List Flight) (queue : List Queued) → Ended head c here p → last_of c (only 0 p) ≡ last → flights_of c (only 0 p) ≡ flights → queue_of c (only 0 p) ≡ queue
-      → Ended head c here (with_turn here (sends (limits_of head) (first_life c) 1 0 last flights queue) p)
-  sends_good p last flights [] e l f q = e
-  sends_good p last flights (w ∷ queue) e l f q =
-      by (has_room (limits_of head) 0 w.op flights) refl (λ g fs ls qs. sends_good p2 (last + 1) (flights ++ fl ∷ []) queue (record { good = g; settled = tt; between = record { idle = e.between.idle; held = e.between.held } }) ls fs qs)
+  sends_good : (p : List Line) (who : Who) (last : ℕ) (flights : List Flight) (queue : List Queued) → Ended head c here p → life_of c (only 0 p) ≡ who → standing_of c (only 0 p) ≡ Serving
+      → last_of who (only 0 p) ≡ last → flights_of who (only 0 p) ≡ flights → queue_of who (only 0 p) ≡ queue
+      → Ended head c here (with_turn here (sends (limits_of head) who 1 0 last flights queue) p)
+  sends_good p who last flights [] e w v l f q = e
+  sends_good p who last flights (x ∷ queue) e w v l f q =
+      by (has_room (limits_of head) 0 x.op flights) refl (λ g fs ls qs. sends_good p2 who (last + 1) (flights ++ fl ∷ []) queue (record { good = g; settled = tt; between = record { idle = e.between.idle; handles = e.between.handles; held = e.between.held } }) w v ls fs qs)
     where
       fl : Flight
-      fl = next_flight last flights w
+      fl = next_flight last flights x
 
       p1 : List Line
       p1 = line here (Flies 0 fl) ∷ p
 
       p2 : List Line
-      p2 = line here (sends_request (first_life c) 1 0 fl) ∷ p1
+      p2 = line here (sends_request who 1 0 fl) ∷ p1
 
       more : List Entry
-      more = sends (limits_of head) (first_life c) 1 0 (last + 1) (flights ++ fl ∷ []) queue
+      more = sends (limits_of head) who 1 0 (last + 1) (flights ++ fl ∷ []) queue
 
-      fs : flights_of c (only 0 p1) ≡ flights ++ fl ∷ []
-      fs = cond-true (nat_eq c c) (flights_of c (only 0 p) ++ fl ∷ []) (flights_of c (only 0 p)) (self c) ∙ ap (λ (v : List Flight). v ++ fl ∷ []) f
+      own : same_life who (life_of c (only 0 p)) ≡ true
+      own = ap (same_life who) w ∙ life_self who
 
-      ls : last_of c (only 0 p1) ≡ last + 1
-      ls = cond-true (nat_eq c c) (last + 1) (last_of c (only 0 p)) (self c)
+      fs : flights_of who (only 0 p1) ≡ flights ++ fl ∷ []
+      fs = cond-true (same_life who (life_of c (only 0 p))) (flights_of who (only 0 p) ++ fl ∷ []) (flights_of who (only 0 p)) own ∙ ap (λ (y : List Flight). y ++ fl ∷ []) f
 
-      qs : queue_of c (only 0 p1) ≡ queue
-      qs = cond-true (nat_eq c c) (rest (queue_of c (only 0 p))) (queue_of c (only 0 p)) (self c) ∙ ap rest q
+      ls : last_of who (only 0 p1) ≡ last + 1
+      ls = cond-true (same_life who (life_of c (only 0 p))) (last + 1) (last_of who (only 0 p)) own
+
+      qs : queue_of who (only 0 p1) ≡ queue
+      qs = cond-true (same_life who (life_of c (only 0 p))) (rest (queue_of who (only 0 p))) (queue_of who (only 0 p)) own ∙ ap rest q
 
       flown : nat_lt (length flights) head.flight ≡ true → Good head c here p1
       flown room =
           adds p (Flies 0 fl) e.good (owes_nothing p here (Flies 0 fl) e.settled) refl
-          (at_zero (λ (t : ℕ). guards.FliesOk the_head (only t p) c fl) (record { front = w; more = queue; queue = q; is = rw (l, f) refl; room = subst (λ (v : List Flight). length v < head.flight) (sym f) (ltb-true (length flights) head.flight room) }))
-          tt refl
+          (at_zero (λ (t : ℕ). guards.FliesOk the_head (only t p) c fl) (record {
+            serves = v;
+            front = x;
+            more = queue;
+            queue = ap (λ (y : Who). queue_of y (only 0 p)) w ∙ q;
+            is = rw (w, l, f) refl;
+            room = subst (λ (y : List Flight). length y < head.flight) (sym (ap (λ (z : Who). flights_of z (only 0 p)) w ∙ f)) (ltb-true (length flights) head.flight room);
+          }))
+          tt tt refl
 
       sent : Good head c here p1 → Good head c here p2
       sent g =
-          adds p1 (sends_request (first_life c) 1 0 fl) g (owes_nothing p1 here (sends_request (first_life c) 1 0 fl) tt) refl
-          (at_zero (λ (t : ℕ). guards.AskOk (only t p1) c (request_of (first_life c) 1 fl)) (record {
+          adds p1 (sends_request who 1 0 fl) g (owes_nothing p1 here (sends_request who 1 0 fl) tt) refl
+          (at_zero (λ (t : ℕ). guards.AskOk (only t p1) c (request_of who 1 fl)) (record {
+            serves = v;
             flight = fl;
-            flying = subst (λ (v : List Flight). In fl v) (sym fs) (in_right fl flights (fl ∷ []) (inl refl));
-            is = rw (life_here 0 p1 g.covered, boot_here 0 p1 g.covered) refl;
+            flying = subst (λ (y : List Flight). In fl y) (sym (ap (λ (z : Who). flights_of z (only 0 p1)) w ∙ fs)) (in_right fl flights (fl ∷ []) (inl refl));
+            is = rw (w, boot_here 0 p1 g.covered) refl;
           }))
-          tt refl
+          tt tt refl
 
-      by : (b : Bool) → has_room (limits_of head) 0 w.op flights ≡ b
-          → (Good head c here p2 → flights_of c (only 0 p1) ≡ flights ++ fl ∷ [] → last_of c (only 0 p1) ≡ last + 1 → queue_of c (only 0 p1) ≡ queue → Ended head c here (with_turn here more p2))
-          → Ended head c here (with_turn here (if b then flies (first_life c) 1 0 fl more else []) p)
+      by : (b : Bool) → has_room (limits_of head) 0 x.op flights ≡ b
+          → (Good head c here p2 → flights_of who (only 0 p1) ≡ flights ++ fl ∷ [] → last_of who (only 0 p1) ≡ last + 1 → queue_of who (only 0 p1) ≡ queue → Ended head c here (with_turn here more p2))
+          → Ended head c here (with_turn here (if b then flies who 1 0 fl more else []) p)
       by true room on = on (sent (flown (and_parts (nat_lt (length flights) head.flight) true room).0)) fs ls qs
       by false room on = e
 
@@ -216,11 +233,17 @@ module _ (head : table.Head) (c : ℕ) (stamp : Stamp) where
   sends_nothing : (p : List Line) → Good head c here p → (who : Who) (n t u : ℕ) → t ≡ suc u → sends_all (limits_of head) who t (map (λ v. import_at c v p) (range_with_len t n)) ≡ []
   sends_nothing p g who zero t u e = refl
   sends_nothing p g who (suc n) t u e =
-      let empty : (import_at c t p).queue ≡ [] = queue_same c t p g.covered ∙ subst (λ (v : ℕ). guards_queue v) (sym e) (other_queue the_head c u p g.grown) in
-      rw (all_serve c t p g.covered, empty) (sends_nothing p g who n (t + 1) (suc u) (add-one t ∙ ap suc e))
+      let empty : queue_at c t p ≡ [] = subst (λ (v : ℕ). queue_at c v p ≡ []) (sym e) (other_queue the_head c u p g.grown) in
+      ap (λ (qs : List Queued). (if is_serving (standing_at c t p) then sends (limits_of head) who (known_at c t p) t (last_at c t p) (flights_at c t p) qs else []) ++ more) empty
+      ∙ by (is_serving (standing_at c t p))
+      ∙ sends_nothing p g who n (t + 1) (suc u) (add-one t ∙ ap suc e)
     where
-      guards_queue : ℕ → Type 0
-      guards_queue v = queue_at c v p ≡ []
+      more : List Entry
+      more = sends_all (limits_of head) who (t + 1) (map (λ v. import_at c v p) (range_with_len (t + 1) n))
+
+      by : (b : Bool) → (if b then [] else []) ++ more ≡ more
+      by true = refl
+      by false = refl
 
   -- that of the metadata target is what its story says
   first_import_is : (p : List Line) (n : ℕ) → n ≡ suc head.osts → import_of 0 (map (λ t. import_at c t p) (range_with_len 0 n)) ≡ import_at c 0 p
@@ -230,43 +253,33 @@ module _ (head : table.Head) (c : ℕ) (stamp : Stamp) where
   pub import_zero : (p : List Line) → import_of 0 (client_of head c p).imports ≡ import_at c 0 p
   import_zero p = first_import_is p (head.osts + 1) (add-one head.osts)
 
-  sends_so : (p : List Line) → Good head c here p
-      → sends_all (limits_of head) (client_of head c p).who 0 (client_of head c p).imports ≡ sends (limits_of head) (first_life c) 1 0 (last_at c 0 p) (flights_at c 0 p) (queue_at c 0 p)
+  sends_so : (p : List Line) → Good head c here p → sends_all (limits_of head) (client_of head c p).who 0 (client_of head c p).imports ≡ sends_to (limits_of head) (life_at c p) 0 (import_at c 0 p)
   sends_so p g = by (head.osts + 1) (add-one head.osts)
     where
-      i : Import
-      i = import_at c 0 p
-
-      here_so : sends_to (limits_of head) (life_at c p) 0 i ≡ sends (limits_of head) (first_life c) 1 0 (last_at c 0 p) (flights_at c 0 p) (queue_at c 0 p)
-      here_so =
-          rw (all_serve c 0 p g.covered)
-          (ap (λ (w : Who). sends (limits_of head) w i.boot 0 i.last i.flights i.queue) (life_first c p g.covered)
-          ∙ ap (λ (b : ℕ). sends (limits_of head) (first_life c) b 0 i.last i.flights i.queue) (boot_first c 0 p g.covered)
-          ∙ ap (λ (l : ℕ). sends (limits_of head) (first_life c) 1 0 l i.flights i.queue) (last_same c 0 p g.covered)
-          ∙ ap (λ (fs : List Flight). sends (limits_of head) (first_life c) 1 0 (last_at c 0 p) fs i.queue) (flights_same c 0 p g.covered)
-          ∙ ap (λ (qs : List Queued). sends (limits_of head) (first_life c) 1 0 (last_at c 0 p) (flights_at c 0 p) qs) (queue_same c 0 p g.covered))
-
-      by : (n : ℕ) → n ≡ suc head.osts
-          → sends_all (limits_of head) (life_at c p) 0 (map (λ t. import_at c t p) (range_with_len 0 n)) ≡ sends (limits_of head) (first_life c) 1 0 (last_at c 0 p) (flights_at c 0 p) (queue_at c 0 p)
+      by : (n : ℕ) → n ≡ suc head.osts → sends_all (limits_of head) (life_at c p) 0 (map (λ t. import_at c t p) (range_with_len 0 n)) ≡ sends_to (limits_of head) (life_at c p) 0 (import_at c 0 p)
       by zero e = absurd (cc)
-      by (suc n) e =
-          ap (λ (es : List Entry). sends_to (limits_of head) (life_at c p) 0 i ++ es) (sends_nothing p g (life_at c p) n 1 0 refl)
-          ∙ ends (sends_to (limits_of head) (life_at c p) 0 i)
-          ∙ here_so
+      by (suc n) e = ap (λ (es : List Entry). sends_to (limits_of head) (life_at c p) 0 (import_at c 0 p) ++ es) (sends_nothing p g (life_at c p) n 1 0 refl) ∙ ends (sends_to (limits_of head) (life_at c p) 0 (import_at c 0 p))
 
   all_sent : Keeps (Ended head c here) (Ended head c here) (λ k. sends_all (limits_of head) k.who 0 k.imports)
-  all_sent p e covered =
-      subst (λ (es : List Entry). Ended head c here (with_turn here es p)) (sym (sends_so p e.good))
-      (sends_good p (last_at c 0 p) (flights_at c 0 p) (queue_at c 0 p) e (sym (last_is c 0 p)) (sym (flights_is c 0 p)) (sym (queue_is c 0 p)))
+  all_sent p e covered = subst (λ (es : List Entry). Ended head c here (with_turn here es p)) (sym (sends_so p e.good)) (by (standing_at c 0 p) refl)
+    where
+      by : (s : Standing) → standing_at c 0 p ≡ s
+          → Ended head c here (with_turn here (if is_serving s then sends (limits_of head) (life_at c p) (known_at c 0 p) 0 (last_at c 0 p) (flights_at c 0 p) (queue_at c 0 p) else []) p)
+      by Serving s =
+          subst (λ (b : ℕ). Ended head c here (with_turn here (sends (limits_of head) (life_at c p) b 0 (last_at c 0 p) (flights_at c 0 p) (queue_at c 0 p)) p)) (sym (boot_first c 0 p e.good.covered))
+          (sends_good p (life_at c p) (last_at c 0 p) (flights_at c 0 p) (queue_at c 0 p) e (sym (life_is_of c 0 p)) (sym (standing_is c 0 p) ∙ s)
+          (sym (last_is the_head c 0 p e.good.grown)) (sym (flights_is the_head c 0 p e.good.grown)) (sym (queue_is the_head c 0 p e.good.grown)))
+      by standing s = e
 
   -- ---- unused locks are marked
 
   pub mark_good : (p : List Line) (n : LockName) → Rested head c here p → n.target.0 ≡ 0 → Rested head c here (line here (Marks n) ∷ p)
   mark_good p n r zero_it =
       record {
-        good = adds p (Marks n) r.good (owes_nothing p here (Marks n) r.settled) zero_it (λ t e. tt) tt refl;
+        good = adds p (Marks n) r.good (owes_nothing p here (Marks n) r.settled) zero_it (λ t e. tt) tt tt refl;
         settled = tt;
         idle = r.idle;
+        handles = r.handles;
         free = free;
       }
     where
@@ -299,21 +312,24 @@ module _ (head : table.Head) (c : ℕ) (stamp : Stamp) where
       never false = refl
   no_write h m q = refl
 
-  abbrev given_up : HeldLock → List Entry
-  given_up x = Drop 0 x.lock ∷ Send (Target 0) (message.Cancel (first_life c) 1 x.lock.cookie) ∷ []
+  abbrev given_up : Who → HeldLock → List Entry
+  given_up who x = Drop 0 x.lock ∷ Send (Target 0) (message.Cancel who 1 x.lock.cookie) ∷ []
 
-  visits_so : (p : List Line) (x : HeldLock) → Good head c here p → x.target.0 ≡ 0 → x.pins ≡ 0 → visits false x (client_of head c p) ≡ (if x.marked then given_up x else [])
-  visits_so p x g z free =
+  visits_so : (p : List Line) (x : HeldLock) → Good head c here p → x.target.0 ≡ 0 → x.pins ≡ 0 → standing_at c 0 p ≡ Serving → visits false x (client_of head c p) ≡ (if x.marked then given_up (life_at c p) x else [])
+  visits_so p x g z free serves =
       ap (λ (ps : List _). visits_with false x (patch_at x.lock.resource ps) (client_of head c p)) (patches_none c p g.covered)
       ∙ cond-false (must_write false x x.lock.ask.mode x.lock.ask.policy clean) _ (gives_up (life_at c p) x (import_of x.target.0 (client_of head c p).imports)) (no_write x x.lock.ask.mode x.lock.ask.policy)
-      ∙ ap (λ (w : Who). gives_up w x (import_of x.target.0 (client_of head c p).imports)) (life_first c p g.covered)
-      ∙ ap (λ (t : ℕ). gives_up (first_life c) x (import_of t (client_of head c p).imports)) z
-      ∙ ap (λ (i : Import). gives_up (first_life c) x i) (import_zero p)
-      ∙ rw (free, all_serve c 0 p g.covered, boot_first c 0 p g.covered, z) (by x.marked)
+      ∙ ap (λ (t : ℕ). gives_up (life_at c p) x (import_of t (client_of head c p).imports)) z
+      ∙ ap (λ (i : Import). gives_up (life_at c p) x i) (import_zero p)
+      ∙ rw (free, serves, boot_first c 0 p g.covered, z) (by x.marked)
     where
-      by : (b : Bool) → (if (b && true) && true then given_up x else []) ≡ (if b then given_up x else [])
+      by : (b : Bool) → (if (b && true) && true then given_up (life_at c p) x else []) ≡ (if b then given_up (life_at c p) x else [])
       by true = refl
       by false = refl
+
+  -- where something is held its target serves
+  pub held_serves : (p : List Line) (x : HeldLock) → Good head c here p → In x (held_at c p) → standing_at c 0 p ≡ Serving
+  held_serves p x g i = ⊎_elim (λ (s : standing_at c 0 p ≡ Serving). s) (λ (n : held_at c p ≡ []). absurd (subst (λ (hs : List HeldLock). In x hs) n i)) (unserved_held the_head c p g.grown)
 
   -- these locks are held, and no other held one is marked
   record Visiting (rs : List HeldLock) (p : List Line) : Type 0 where
@@ -324,7 +340,7 @@ module _ (head : table.Head) (c : ℕ) (stamp : Stamp) where
   visited : (p : List Line) (r : HeldLock) (rs : List HeldLock) → Once (r ∷ rs) → Visiting (r ∷ rs) p → Visiting rs (with_turn here (visits false r (client_of head c p)) p)
   visited p r rs once v =
       let z = held_zero the_head c p v.rested.good.grown r (v.held r (inl refl)) in
-      subst (λ (es : List Entry). Visiting rs (with_turn here es p)) (sym (visits_so p r v.rested.good z (v.rested.free r (v.held r (inl refl))))) (by z r.marked refl)
+      subst (λ (es : List Entry). Visiting rs (with_turn here es p)) (sym (visits_so p r v.rested.good z (v.rested.free r (v.held r (inl refl))) (held_serves p r v.rested.good (v.held r (inl refl))))) (by z r.marked refl)
     where
       name : LockName
       name = named (record { 0 = 0 }) r.lock.cookie
@@ -333,29 +349,29 @@ module _ (head : table.Head) (c : ℕ) (stamp : Stamp) where
       p1 = line here (Drop 0 r.lock) ∷ p
 
       p2 : List Line
-      p2 = line here (Send (Target 0) (message.Cancel (first_life c) 1 r.lock.cookie)) ∷ p1
+      p2 = line here (Send (Target 0) (message.Cancel (life_at c p) 1 r.lock.cookie)) ∷ p1
 
       left : held_at c p1 ≡ without name (held_at c p)
       left = held_line p (Drop 0 r.lock)
 
       dropped : r.marked ≡ true → Good head c here p1
       dropped marked =
-          adds p (Drop 0 r.lock) v.rested.good (owes_nothing p here (Drop 0 r.lock) v.rested.settled) refl
-          (at_zero (λ (t : ℕ). (0 ≡ 0) × DropOk (only t p) c r.lock) (refl, record { holding = r; held = subst (λ (hs : List HeldLock). In r hs) (held_is the_head c p v.rested.good.grown) (v.held r (inl refl)); is = refl; marked = marked }))
-          tt refl
+          adds p (Drop 0 r.lock) v.rested.good (owes_nothing p here (Drop 0 r.lock) v.rested.settled) (refl, inl (record { holding = r; held = v.held r (inl refl); is = refl; marked = marked }))
+          (at_zero (λ (t : ℕ). (0 ≡ 0) × DropOk (only t p) c r.lock) (refl, record { holding = r; held = subst (λ (hs : List HeldLock). In r hs) (held_is the_head c p v.rested.good.grown) (v.held r (inl refl)); is = refl }))
+          tt tt refl
 
       cancelled : Good head c here p1 → Good head c here p2
       cancelled g =
-          adds p1 (Send (Target 0) (message.Cancel (first_life c) 1 r.lock.cookie)) g (owes_nothing p1 here (Send (Target 0) (message.Cancel (first_life c) 1 r.lock.cookie)) tt) refl
-          (at_zero (λ (t : ℕ). CancelOk (only t p1) c (first_life c) 1 r.lock.cookie) (record {
-            of_life = sym (life_here 0 p1 g.covered);
+          adds p1 (Send (Target 0) (message.Cancel (life_at c p) 1 r.lock.cookie)) g (owes_nothing p1 here (Send (Target 0) (message.Cancel (life_at c p) 1 r.lock.cookie)) tt) refl
+          (at_zero (λ (t : ℕ). CancelOk (only t p1) c (life_at c p) 1 r.lock.cookie) (record {
+            of_life = life_is_of c 0 p;
             of_boot = sym (boot_here 0 p1 g.covered);
             free = ap (is_held name) (sym (held_is the_head c p1 g.grown) ∙ left) ∙ without_gone name (held_at c p);
             cause = inl (refl, refl);
           }))
-          tt refl
+          tt tt refl
 
-      by : r.target.0 ≡ 0 → (b : Bool) → r.marked ≡ b → Visiting rs (with_turn here (if b then given_up r else []) p)
+      by : r.target.0 ≡ 0 → (b : Bool) → r.marked ≡ b → Visiting rs (with_turn here (if b then given_up (life_at c p) r else []) p)
       by z false e = record { rested = v.rested; held = λ x i. v.held x (inr i); marked = marked }
         where
           marked : (x : HeldLock) → In x (held_at c p) → (x.marked ≡ false) ⊎ In x rs
@@ -366,6 +382,7 @@ module _ (head : table.Head) (c : ℕ) (stamp : Stamp) where
               good = cancelled (dropped e);
               settled = tt;
               idle = v.rested.idle;
+              handles = v.rested.handles;
               free = λ x i. v.rested.free x (was x i).0;
             };
             held = λ x i. subst (λ (hs : List HeldLock). In x hs) (sym left) (without_other name x (held_at c p) (v.held x (inr i)) (ap (λ (n : ℕ). is_named (named (record { 0 = n }) r.lock.cookie) x) (sym z) ∙ once.0 x i));
@@ -386,7 +403,7 @@ module _ (head : table.Head) (c : ℕ) (stamp : Stamp) where
       record {
         good = v.rested.good;
         settled = v.rested.settled;
-        between = record { idle = v.rested.idle; held = λ x i. (⊎_elim (λ (m : x.marked ≡ false). m) (λ (n : ⊥). absurd n) (v.marked x i), v.rested.free x i) };
+        between = record { idle = v.rested.idle; handles = v.rested.handles; held = λ x i. (⊎_elim (λ (m : x.marked ≡ false). m) (λ (n : ⊥). absurd n) (v.marked x i), v.rested.free x i) };
       }
   visits_good (r ∷ rs) once p v =
       let es = visits false r (client_of head c p) in

@@ -21,8 +21,8 @@ use Rattle.lu_held.specs.declared.locks.HeldLock.{HeldLock}
 use Rattle.lu_held.specs.declared.locks.Use.{Use}
 use Rattle.lu_held.specs.declared.names.LockName.{LockName}
 use Rattle.lu_held.specs.Held.{serving}
-use Rattle.lu_words.specs.Carried.{Flight, Stats, Asked, Answered, Work, Plain, Running}
-use Rattle.lu_words.specs.Words.{Entry, Told, Queues, Pins, Unpins, Line, line, with_turn}
+use Rattle.lu_words.specs.Carried.{HandleFile, Flight, Stats, Asked, Answered, Work, Plain, Running}
+use Rattle.lu_words.specs.Words.{Entry, Told, Queues, Binds, Pins, Unpins, Line, line, with_turn}
 use Rattle.lu_client_rows.specs.Advances.{queued_for, tells, unpins, looks, looks_on, acts, takes_up}
 use Rattle.lu_client_rows.specs.Caches.{held_at}
 use Rattle.lu_client_rows.specs.Calls.{call_on, calls_at}
@@ -30,22 +30,23 @@ use Rattle.lu_client_rows.specs.Facts.{facts_at}
 use Rattle.lu_client_rows.specs.Known.{Known, KnownFile, Found, found_at_path, lookup_known, list_known, layout_known, directory_known, file_known, with_name, names_of}
 use Rattle.lu_client_rows.specs.Known as known
 use Rattle.lu_client_rows.specs.Slots.{goes, goes_on, passes, all_slots, is_close, is_free_close, slots_go}
-use Rattle.lu_client_rows.specs.Starts.{looks_at, work_on, pins, with_pins, tells_known, starts_known, stats, stats_file, starts_stat, notes_of, starts, answers}
+use Rattle.lu_client_rows.specs.Starts.{looks_at, work_on, pins, with_pins, tells_known, starts_known, stats, stats_file, starts_stat, starts_close, notes_of, starts, answers}
 use Rattle.lu_client_rows.specs.States.{Client as ClientState, Store, store_turn, turn as turn_of}
-use Rattle.lu_covered.specs.Calls.{begun, call_at, operation_of}
+use Rattle.lu_covered.specs.Calls.{begun, call_at, operation_of, becomes, told_as, opened}
 use Rattle.lu_covered.specs.Covered.{AllCovered}
 use Rattle.lu_covered.specs.Known.{notes_at, told_of, known_answer}
 use Rattle.lu_table.specs.Heads as table
 use Rattle.lu_table.specs.Runs.{limits_of, client_of}
 use Rattle.lu_after.proofs.Clients.{client_own}
 use Rattle.lu_guards.proofs.Guards.{In, Owes, Starts, JustHeard, Learned, IsToldAsIs}
-use Rattle.lu_guards.proofs.Lists.{self, turn}
+use Rattle.lu_guards.proofs.Lists.{self, turn, turn_more}
 use Rattle.lu_guards.proofs.Turns.{Settled, owes_nothing}
 use Rattle.lu_guards.proofs.Covers.{EntriesCovered, covered_turn}
 use Rattle.lu_guards.proofs.ClientLocks.{Pinned, PinnedBut, pin_one, unpin_one}
 use Rattle.lu_guards.proofs.ClientLines.{ends}
+use Rattle.lu_guards.proofs.ClientHandles.{Tied, AloneBut, Lone, binding, told_tied, heard_tied, lone}
 use Rattle.lu_guards.proofs.ClientKnown.{known_pinned}
-use Rattle.lu_guards.proofs.ClientRests.{Good, Idle, AllIdle, Rested, turn_more, adds, call_line, held_line, Keeps}
+use Rattle.lu_guards.proofs.ClientRests.{Good, Idle, AllIdle, Rested, adds, call_line, held_line, Keeps}
 
 -- ---- slots whose calls wait don't move
 
@@ -157,17 +158,17 @@ known_or at slot r o (Some k) e = inr (k, refl, ap (λ (a : At). tells_known a s
 same_op : (slot : ℕ) (o p : Op) → Some o ≡ Some p → Queues 0 (queued_for slot o) ∷ [] ≡ Queues 0 (queued_for slot p) ∷ []
 same_op slot o p e = let q : o ≡ p = cc in ap (λ (x : Op). Queues 0 (queued_for slot x) ∷ []) q
 
-starts_so : (at : At) (slot : ℕ) (c : Call) (r : Running) (k : ClientState) (o : Op) → r.at ≡ at → operation_of c ≡ Some o → EntriesCovered (starts at slot c r k) → Starting slot r o (known_answer (notes_of k) c) (starts at slot c r k)
-starts_so at slot (call.Lookup path) r k o e is covered =
+starts_so : (at : At) (slot : ℕ) (c : Call) (r : Running) (k : ClientState) (o : Op) → r.at ≡ at → operation_of r.file c ≡ Some o → Lone r.file k.calls → EntriesCovered (starts at slot c r k) → Starting slot r o (known_answer (notes_of k) c) (starts at slot c r k)
+starts_so at slot (call.Lookup path) r k o e is alone covered =
     subst (λ (p : Op). Starting slot r p (known_answer (notes_of k) (call.Lookup path)) (starts at slot (call.Lookup path) r k)) (let q : op.Lookup path ≡ o = cc in q)
     (known_or at slot r (op.Lookup path) (lookup_known (found_at_path (notes_of k) path)) e)
-starts_so at slot (call.List path) r k o e is covered =
+starts_so at slot (call.List path) r k o e is alone covered =
     subst (λ (p : Op). Starting slot r p (known_answer (notes_of k) (call.List path)) (starts at slot (call.List path) r k)) (let q : op.List path ≡ o = cc in q)
     (known_or at slot r (op.List path) (list_known (notes_of k) (found_at_path (notes_of k) path)) e)
-starts_so at slot (call.Layout path) r k o e is covered =
+starts_so at slot (call.Layout path) r k o e is alone covered =
     subst (λ (p : Op). Starting slot r p (known_answer (notes_of k) (call.Layout path)) (starts at slot (call.Layout path) r k)) (let q : op.Layout path ≡ o = cc in q)
     (known_or at slot r (op.Layout path) (layout_known (notes_of k) (found_at_path (notes_of k) path)) e)
-starts_so at slot (call.Stat path) r k o e is covered = by (directory_known n found) covered
+starts_so at slot (call.Stat path) r k o e is alone covered = by (directory_known n found) covered
   where
     n : known.Notes
     n = notes_of k
@@ -182,23 +183,29 @@ starts_so at slot (call.Stat path) r k o e is covered = by (directory_known n fo
     by : (d : Option Known) → EntriesCovered (starts_stat at slot path r k.store n found d) → Starting slot r o (told_of d) (starts_stat at slot path r k.store n found d)
     by None covered = inl (refl, file (file_known n found) covered)
     by (Some d) covered = inr (d, refl, ap (λ (a : At). tells_known a slot r d) (sym e))
-starts_so at slot (call.Mkdir path) r k o e is covered = inl (refl, same_op slot (op.Mkdir path) o is)
-starts_so at slot (call.Create path None) r k o e is covered = inl (refl, same_op slot (op.Create path 1048576 (pos 1)) o is)
-starts_so at slot (call.Create path (Some stripes)) r k o e is covered = inl (refl, same_op slot (op.Create path stripes.0 stripes.1) o is)
-starts_so at slot (call.Link old new) r k o e is covered = inl (refl, same_op slot (op.Link old new) o is)
-starts_so at slot (call.Unlink path) r k o e is covered = inl (refl, same_op slot (op.Unlink path) o is)
-starts_so at slot (call.Rmdir path) r k o e is covered = inl (refl, same_op slot (op.Rmdir path) o is)
-starts_so at slot (call.Rename old new) r k o e is covered = inl (refl, same_op slot (op.Rename old new) o is)
-starts_so at slot (call.Chmod path mode) r k o e is covered = inl (refl, same_op slot (op.Chmod path mode) o is)
-starts_so at slot c r k o e is covered = absurd (cc)
+starts_so at slot (call.Mkdir path) r k o e is alone covered = inl (refl, same_op slot (op.Mkdir path) o is)
+starts_so at slot (call.Create path None) r k o e is alone covered = inl (refl, same_op slot (op.Create path 1048576 (pos 1)) o is)
+starts_so at slot (call.Create path (Some stripes)) r k o e is alone covered = inl (refl, same_op slot (op.Create path stripes.0 stripes.1) o is)
+starts_so at slot (call.Link old new) r k o e is alone covered = inl (refl, same_op slot (op.Link old new) o is)
+starts_so at slot (call.Unlink path) r k o e is alone covered = inl (refl, same_op slot (op.Unlink path) o is)
+starts_so at slot (call.Rmdir path) r k o e is alone covered = inl (refl, same_op slot (op.Rmdir path) o is)
+starts_so at slot (call.Rename old new) r k o e is alone covered = inl (refl, same_op slot (op.Rename old new) o is)
+starts_so at slot (call.Chmod path mode) r k o e is alone covered = inl (refl, same_op slot (op.Chmod path mode) o is)
+starts_so at slot (call.Open h path) r k o e is alone covered = inl (refl, same_op slot (op.Open path) o is)
+starts_so at slot (call.Close h) r k o e is alone covered = inl (refl, by r.file is alone)
+  where
+    by : (f : Option HandleFile) → operation_of f (call.Close h) ≡ Some o → Lone f k.calls → starts_close slot k.calls f ≡ Queues 0 (queued_for slot o) ∷ []
+    by None q a = absurd (cc)
+    by (Some f) q a = ap (λ (b : Bool). if b then [] else Queues 0 (queued_for slot (op.Close f.number f.fid)) ∷ []) a ∙ same_op slot (op.Close f.number f.fid) o q
+starts_so at slot c r k o e is alone covered = absurd (cc)
 
 -- what a call is told that asked
-answers_so : (at : At) (slot : ℕ) (acted : At) (a : Answer) (c : Call) (r : Running) (k : ClientState) (o : Op) → operation_of c ≡ Some o → EntriesCovered (answers at slot acted a c r k)
-    → (answers at slot acted a c r k ≡ tells slot r acted a None) × IsToldAsIs c a
-answers_so at slot acted (answer.OpenFile fid number layout) (call.Open h path) r k o is covered = absurd (cc)
-answers_so at slot acted (answer.FileStat fid mode links layout) (call.Stat path) r k o is covered = absurd (stats_uncovered at slot fid layout mode links _ r k.store covered)
-answers_so at slot acted a (call.Stat path) r k o is covered = (refl, tt)
-answers_so at slot acted a c r k o is covered = (refl, tt)
+answers_so : (at : At) (slot : ℕ) (acted : At) (a : Answer) (c : Call) (r : Running) (k : ClientState) → EntriesCovered (answers at slot acted a c r k)
+    → (answers at slot acted a c r k ≡ binding c a ++ tells slot r acted (told_as c a) None) × IsToldAsIs c (told_as c a)
+answers_so at slot acted (answer.OpenFile fid number layout) (call.Open h path) r k covered = (refl, tt)
+answers_so at slot acted (answer.FileStat fid mode links layout) (call.Stat path) r k covered = absurd (stats_uncovered at slot fid layout mode links _ r k.store covered)
+answers_so at slot acted a (call.Stat path) r k covered = (refl, tt)
+answers_so at slot acted a c r k covered = (refl, tt)
 
 -- the names of locks on names
 pub names_zero : (cookies : List Cookie) (n : LockName) → In n (names_of cookies) → n.target.0 ≡ 0
@@ -291,78 +298,84 @@ module _ (head : table.Head) (c : ℕ) (stamp : Stamp) where
   -- ---- a call that has begun
 
   -- it has asked nothing yet, and what it does next is due
-  pub record Begun (slot : ℕ) (wanted : Call) (p : List Line) : Type 0 where
+  pub record Begun (slot : ℕ) (wanted : Call) (file : Option HandleFile) (p : List Line) : Type 0 where
     pub good : Good head c at p
     pub small : slot < 4
-    pub call : call_at c slot p ≡ Some (begun at wanted)
+    pub call : call_at c slot p ≡ Some (begun at wanted file Plain)
     pub others : IdleBut slot p
-    pub due : (e : Entry) → Starts slot e → Owes p at e
+    pub handles : Tied c p
+    pub due : (e : Entry) → Starts slot Plain e → Owes p at e
 
-  pub record HasBegun (slot : ℕ) (wanted : Call) (p : List Line) : Type 0 where
-    pub begun : Begun slot wanted p
+  pub record HasBegun (slot : ℕ) (wanted : Call) (file : Option HandleFile) (p : List Line) : Type 0 where
+    pub begun : Begun slot wanted file p
     pub free : (x : HeldLock) → In x (held_at c p) → x.pins ≡ 0
+    pub alone : AloneBut c slot file p
     pub op : Op
-    pub becomes : operation_of wanted ≡ Some op
+    pub becomes : operation_of file wanted ≡ Some op
 
   -- it asks
-  queue_good : (slot : ℕ) (wanted : Call) (p : List Line) (o : Op) → Begun slot wanted p → operation_of wanted ≡ Some o → ((x : HeldLock) → In x (held_at c p) → x.pins ≡ 0) → known_answer (notes_at c p) wanted ≡ None
+  queue_good : (slot : ℕ) (wanted : Call) (file : Option HandleFile) (p : List Line) (o : Op) → Begun slot wanted file p → operation_of file wanted ≡ Some o → ((x : HeldLock) → In x (held_at c p) → x.pins ≡ 0) → known_answer (notes_at c p) wanted ≡ None
       → Rested head c at (line at (Queues 0 (queued_for slot o)) ∷ p)
-  queue_good slot wanted p o b becomes free unknown =
+  queue_good slot wanted file p o b becomes free unknown =
       record {
-        good = adds head c stamp p e b.good (b.due e refl) (record { names = refl; slot = slot; serves = refl; running = begun at wanted; call = b.call; new = refl; becomes = becomes; unknown = unknown }) (λ t q. tt) tt refl;
+        good = adds head c stamp p e b.good (b.due e refl) (record { names = refl; slot = slot; serves = refl; running = begun at wanted file Plain; call = b.call; new = refl; good = refl; becomes = becomes; unknown = unknown }) (λ t q. tt) tt tt refl;
         settled = tt;
         idle = all_but slot (line at e ∷ p) others (subst Idle (sym asked) (refl, refl, (o, becomes), refl));
+        handles = b.handles;
         free = free;
       }
     where
       e : Entry
       e = Queues 0 (queued_for slot o)
 
-      asked : call_at c slot (line at e ∷ p) ≡ Some (record (begun at wanted) { asking = Asked })
+      asked : call_at c slot (line at e ∷ p) ≡ Some (record (begun at wanted file Plain) { asking = Asked })
       asked = call_line head c stamp slot p e ∙ rw (self slot, b.call) refl
 
       others : IdleBut slot (line at e ∷ p)
       others s n = subst Idle (sym (call_line head c stamp s p e ∙ rw (apart slot s n) refl)) (b.others s n)
 
   -- or it pins the locks under which it knows
-  record Pinning (slot : ℕ) (wanted : Call) (a : Answer) (all left : List LockName) (p : List Line) : Type 0 where
-    begun : Begun slot wanted p
+  record Pinning (slot : ℕ) (wanted : Call) (file : Option HandleFile) (a : Answer) (all left : List LockName) (p : List Line) : Type 0 where
+    begun : Begun slot wanted file p
     known : known_answer (notes_at c p) wanted ≡ Some a
     pinned : PinnedBut left all (held_at c p)
 
-  pin_good : (slot : ℕ) (wanted : Call) (a : Answer) (all left : List LockName) (n : LockName) (p : List Line) → n.target.0 ≡ 0 → Pinning slot wanted a all (n ∷ left) p → Pinning slot wanted a all left (line at (Pins n) ∷ p)
-  pin_good slot wanted a all left n p zero_it r =
+  pin_good : (slot : ℕ) (wanted : Call) (file : Option HandleFile) (a : Answer) (all left : List LockName) (n : LockName) (p : List Line) → n.target.0 ≡ 0 → Pinning slot wanted file a all (n ∷ left) p → Pinning slot wanted file a all left (line at (Pins n) ∷ p)
+  pin_good slot wanted file a all left n p zero_it r =
       let held = held_line head c stamp p (Pins n) in
       record {
         begun = record {
-          good = adds head c stamp p (Pins n) r.begun.good (r.begun.due (Pins n) tt) zero_it (λ t q. tt) tt refl;
+          good = adds head c stamp p (Pins n) r.begun.good (r.begun.due (Pins n) tt) zero_it (λ t q. tt) tt tt refl;
           small = r.begun.small;
           call = r.begun.call;
           others = r.begun.others;
+          handles = r.begun.handles;
           due = λ e s. (refl, r.begun.due e s);
         };
         known = ap (λ (hs : List HeldLock). known_answer (record { facts = facts_at c p; held = hs }) wanted) held ∙ known_pinned (facts_at c p) n (held_at c p) wanted ∙ r.known;
         pinned = subst (PinnedBut left all) (sym held) (pin_one n left all (held_at c p) r.pinned);
       }
 
-  pins_good : (slot : ℕ) (wanted : Call) (a : Answer) (all left : List LockName) (p : List Line) → ((n : LockName) → In n left → n.target.0 ≡ 0) → Pinning slot wanted a all left p → Pinning slot wanted a all [] (with_turn at (pins left) p)
-  pins_good slot wanted a all [] p z r = r
-  pins_good slot wanted a all (n ∷ left) p z r = pins_good slot wanted a all left (line at (Pins n) ∷ p) (λ m i. z m (inr i)) (pin_good slot wanted a all left n p (z n (inl refl)) r)
+  pins_good : (slot : ℕ) (wanted : Call) (file : Option HandleFile) (a : Answer) (all left : List LockName) (p : List Line) → ((n : LockName) → In n left → n.target.0 ≡ 0) → Pinning slot wanted file a all left p → Pinning slot wanted file a all [] (with_turn at (pins left) p)
+  pins_good slot wanted file a all [] p z r = r
+  pins_good slot wanted file a all (n ∷ left) p z r = pins_good slot wanted file a all left (line at (Pins n) ∷ p) (λ m i. z m (inr i)) (pin_good slot wanted file a all left n p (z n (inl refl)) r)
 
   -- a call was told, and unpins them
   record Unpinning (left : List LockName) (p : List Line) : Type 0 where
     good : Good head c at p
     settled : Settled p
     idle : AllIdle c p
+    handles : Tied c p
     pinned : Pinned left (held_at c p)
 
   unpins_good : (left : List LockName) (p : List Line) → ((n : LockName) → In n left → n.target.0 ≡ 0) → Unpinning left p → Rested head c at (with_turn at (unpins left) p)
-  unpins_good [] p z r = record { good = r.good; settled = r.settled; idle = r.idle; free = λ x i. let low : x.pins ≤ 0 = r.pinned x i in omega (arith, low) }
+  unpins_good [] p z r = record { good = r.good; settled = r.settled; idle = r.idle; handles = r.handles; free = λ x i. let low : x.pins ≤ 0 = r.pinned x i in omega (arith, low) }
   unpins_good (n ∷ left) p z r =
       unpins_good left (line at (Unpins n) ∷ p) (λ m i. z m (inr i)) (record {
-        good = adds head c stamp p (Unpins n) r.good (owes_nothing p at (Unpins n) r.settled) (z n (inl refl)) (λ t q. tt) tt refl;
+        good = adds head c stamp p (Unpins n) r.good (owes_nothing p at (Unpins n) r.settled) (z n (inl refl)) (λ t q. tt) tt tt refl;
         settled = tt;
         idle = r.idle;
+        handles = r.handles;
         pinned = subst (Pinned left) (sym (held_line head c stamp p (Unpins n))) (unpin_one n left (held_at c p) r.pinned);
       })
 
@@ -379,13 +392,14 @@ module _ (head : table.Head) (c : ℕ) (stamp : Stamp) where
           let so : call_at c s (line at e ∷ p) ≡ call_at c s p = call_line head c stamp s p e ∙ rw q refl in
           subst Idle (sym so) (others s (λ is. let n : nat_eq slot s ≡ true = ap (nat_eq slot) is ∙ self slot in absurd (cc)))
 
-  tell_good : (slot : ℕ) (wanted : Call) (k : Known) (p : List Line) → Begun slot wanted p → ((x : HeldLock) → In x (held_at c p) → x.pins ≡ 0) → known_answer (notes_at c p) wanted ≡ Some k.answer
-      → Rested head c at (with_turn at (tells_known at slot (begun at wanted) k) p)
-  tell_good slot wanted k p b free is =
+  tell_good : (slot : ℕ) (wanted : Call) (file : Option HandleFile) (k : Known) (p : List Line) → Begun slot wanted file p → ((x : HeldLock) → In x (held_at c p) → x.pins ≡ 0) → known_answer (notes_at c p) wanted ≡ Some k.answer
+      → Rested head c at (with_turn at (tells_known at slot (begun at wanted file Plain) k) p)
+  tell_good slot wanted file k p b free is =
       subst (Rested head c at) (sym (turn_more at (pins names) (e ∷ unpins names) p)) (unpins_good names (line at e ∷ p1) zeros (record {
-        good = adds head c stamp p1 e last.begun.good (last.begun.due e refl) (inr (record { running = begun at wanted; call = last.begun.call; new = refl; begun = refl; known = last.known; of_turn = refl; plain = refl })) (λ t q. tt) tt refl;
+        good = adds head c stamp p1 e last.begun.good (last.begun.due e refl) (inr (inl (record { running = begun at wanted file Plain; call = last.begun.call; new = refl; begun = refl; known = last.known; of_turn = refl; plain = refl }))) (λ t q. tt) tt tt refl;
         settled = tt;
         idle = told_idle slot at k.answer p1 last.begun.others;
+        handles = told_tied c stamp p1 slot at k.answer None (begun at wanted file Plain) last.begun.call refl last.begun.handles;
         pinned = λ x i. let low : x.pins + 0 ≤ _ = last.pinned x i in omega (arith, low);
       }))
     where
@@ -401,26 +415,26 @@ module _ (head : table.Head) (c : ℕ) (stamp : Stamp) where
       p1 : List Line
       p1 = with_turn at (pins names) p
 
-      last : Pinning slot wanted k.answer names [] p1
-      last = pins_good slot wanted k.answer names names p zeros (record { begun = b; known = is; pinned = λ x i. let none = free x i in omega (arith, none) })
+      last : Pinning slot wanted file k.answer names [] p1
+      last = pins_good slot wanted file k.answer names names p zeros (record { begun = b; known = is; pinned = λ x i. let none = free x i in omega (arith, none) })
 
-  pub has_begun : (slot : ℕ) (wanted : Call) → Keeps head c stamp (HasBegun slot wanted) (Rested head c at) (slots_go 5 at)
-  has_begun slot wanted p b covered = slots_moved p slot b.begun.small b.begun.others moves covered
+  pub has_begun : (slot : ℕ) (wanted : Call) (file : Option HandleFile) → Keeps head c stamp (HasBegun slot wanted file) (Rested head c at) (slots_go 5 at)
+  has_begun slot wanted file p b covered = slots_moved p slot b.begun.small b.begun.others moves covered
     where
       k : ClientState
       k = client_of head c p
 
-      goes_so : goes at slot k ≡ starts at slot wanted (begun at wanted) k
+      goes_so : goes at slot k ≡ starts at slot wanted (begun at wanted file Plain) k
       goes_so = ap (λ (x : Option Running). goes_on at slot k x) (on_small c slot p b.begun.small ∙ b.begun.call)
 
       moves : EntriesCovered (goes at slot k) → Rested head c at (with_turn at (goes at slot k) p)
       moves cov =
           subst (λ (es : List Entry). Rested head c at (with_turn at es p)) (sym goes_so)
-          (by (starts at slot wanted (begun at wanted) k) (starts_so at slot wanted (begun at wanted) k b.op refl b.becomes (subst EntriesCovered goes_so cov)))
+          (by (starts at slot wanted (begun at wanted file Plain) k) (starts_so at slot wanted (begun at wanted file Plain) k b.op refl b.becomes (lone c slot file p b.alone) (subst EntriesCovered goes_so cov)))
         where
-          by : (es : List Entry) → Starting slot (begun at wanted) b.op (known_answer (notes_at c p) wanted) es → Rested head c at (with_turn at es p)
-          by es (inl s) = subst (λ (fs : List Entry). Rested head c at (with_turn at fs p)) (sym s.1) (queue_good slot wanted p b.op b.begun b.becomes b.free s.0)
-          by es (inr s) = subst (λ (fs : List Entry). Rested head c at (with_turn at fs p)) (sym s.2) (tell_good slot wanted s.0 p b.begun b.free s.1)
+          by : (es : List Entry) → Starting slot (begun at wanted file Plain) b.op (known_answer (notes_at c p) wanted) es → Rested head c at (with_turn at es p)
+          by es (inl s) = subst (λ (fs : List Entry). Rested head c at (with_turn at fs p)) (sym s.1) (queue_good slot wanted file p b.op b.begun b.becomes b.free s.0)
+          by es (inr s) = subst (λ (fs : List Entry). Rested head c at (with_turn at fs p)) (sym s.2) (tell_good slot wanted file s.0 p b.begun b.free s.1)
 
   -- ---- a call whose reply was heard
 
@@ -430,11 +444,12 @@ module _ (head : table.Head) (c : ℕ) (stamp : Stamp) where
     pub small : slot < 4
     pub call : call_at c slot p ≡ Some r
     pub others : IdleBut slot p
+    pub handles : Tied c p
     pub plain : r.stage ≡ Plain
     pub answered : r.asking ≡ Answered 0 reply
     pub nothing : r.pins ≡ []
     pub op : Op
-    pub becomes : operation_of r.call ≡ Some op
+    pub becomes : becomes r ≡ Some op
     pub serves : f.slot ≡ Some slot
     pub heard : JustHeard p at 0 reply
     pub learned : Learned p at 0 f reply
@@ -446,32 +461,45 @@ module _ (head : table.Head) (c : ℕ) (stamp : Stamp) where
       k : ClientState
       k = client_of head c p
 
-      e : Entry
-      e = Told slot reply.at reply.answer None
-
       goes_so : goes at slot k ≡ answers at slot reply.at reply.answer r.call r k
       goes_so = ap (λ (x : Option Running). goes_on at slot k x) (on_small c slot p b.small ∙ b.call) ∙ rw (b.plain, b.answered) refl
 
-      moves : EntriesCovered (goes at slot k) → Rested head c at (with_turn at (goes at slot k) p)
-      moves cov =
-          let so = answers_so at slot reply.at reply.answer r.call r k b.op b.becomes (subst EntriesCovered goes_so cov) in
-          subst (λ (es : List Entry). Rested head c at (with_turn at es p)) (sym (goes_so ∙ so.0 ∙ ap (λ (names : List LockName). e ∷ unpins names) b.nothing)) (record {
-            good = adds head c stamp p e b.good (owes_nothing p at e b.settled) (inl (record {
+      told : (q : List Line) → Good head c at q → Settled q → call_at c slot q ≡ Some r → IdleBut slot q → JustHeard q at 0 reply → Learned q at 0 f reply → ((x : HeldLock) → In x (held_at c q) → x.pins ≡ 0)
+          → IsToldAsIs r.call (told_as r.call reply.answer) → Tied c (line at (Told slot reply.at (told_as r.call reply.answer) None) ∷ q) → Rested head c at (line at (Told slot reply.at (told_as r.call reply.answer) None) ∷ q)
+      told q good settled call others heard learned free as_is tied =
+          let e = Told slot reply.at (told_as r.call reply.answer) None in
+          record {
+            good = adds head c stamp q e good (owes_nothing q at e settled) (inl (record {
               running = r;
-              call = b.call;
+              call = call;
               target = 0;
               reply = reply;
               answered = b.answered;
-              heard = b.heard;
+              heard = heard;
               flight = f;
               serves = b.serves;
-              learned = b.learned;
+              learned = learned;
               of_turn = refl;
               of_answer = refl;
-              as_is = so.1;
+              as_is = as_is;
               plain = refl;
-            })) (λ t q. tt) tt refl;
+            })) (λ t q. tt) tt tt refl;
             settled = tt;
-            idle = told_idle slot reply.at reply.answer p b.others;
-            free = b.free;
-          })
+            idle = told_idle slot reply.at (told_as r.call reply.answer) q others;
+            handles = tied;
+            free = free;
+          }
+
+      bound : (x : Call) (a : Answer) → IsToldAsIs r.call (told_as r.call reply.answer) → Tied c (line at (Told slot reply.at (told_as r.call reply.answer) None) ∷ with_turn at (binding x a) p)
+          → Rested head c at (with_turn at (binding x a ++ Told slot reply.at (told_as r.call reply.answer) None ∷ []) p)
+      bound (call.Open h path) (answer.OpenFile fid number layout) as_is tied =
+          let x = Binds h (record { fid = fid; number = number; layout = layout }) in
+          told (line at x ∷ p) (adds head c stamp p x b.good (owes_nothing p at x b.settled) tt (λ t q. tt) tt tt refl) tt b.call b.others b.heard b.learned b.free as_is tied
+      bound x a as_is tied = told p b.good b.settled b.call b.others b.heard b.learned b.free as_is tied
+
+      moves : EntriesCovered (goes at slot k) → Rested head c at (with_turn at (goes at slot k) p)
+      moves cov =
+          let so = answers_so at slot reply.at reply.answer r.call r k (subst EntriesCovered goes_so cov) in
+          subst (λ (es : List Entry). Rested head c at (with_turn at es p))
+          (sym (goes_so ∙ so.0 ∙ ap (λ (names : List LockName). binding r.call reply.answer ++ Told slot reply.at (told_as r.call reply.answer) None ∷ unpins names) b.nothing))
+          (bound r.call reply.answer so.1 (heard_tied c stamp p slot reply.at (told_as r.call reply.answer) None r r.call reply.answer b.call refl (ap opened b.answered) b.handles))

@@ -1,6 +1,6 @@
 -- Facts of tests, turns and lists.
-use Rattle.std.proofs.Common.{◌≡◌, ℕ, Bool, true, List, [], ◌∷◌, ◌++◌, ◌⊎◌, inl, inr, ⊎_elim, refl, sym, subst, ap, ◌∙◌, arith}
-use Rattle.std.specs.Prelude.{nat_eq}
+use Rattle.std.proofs.Common.{◌≡◌, ℕ, Bool, true, List, [], ◌∷◌, ◌++◌, ◌⊎◌, inl, inr, ⊎_elim, refl, sym, subst, ap, ◌∙◌, arith, false}
+use Rattle.std.specs.Prelude.{nat_eq, ◌||◌}
 use Rattle.std.specs.List.{filter}
 use Rattle.std.proofs.lemmas.Bool.{cond_both, cond-true, eqb-true, eq-eqb, and_parts}
 use Rattle.std.proofs.lemmas.Bool.Decides.{nat_tests}
@@ -9,11 +9,23 @@ use Rattle.lu_base.specs.declared.ids.Node.{Node}
 use Rattle.lu_base.specs.declared.ids.Node.TheVariants.{Client, Target}
 use Rattle.lu_base.specs.declared.ids.Stamp.{Stamp}
 use Rattle.lu_base.specs.declared.ids.Who.{Who}
-use Rattle.lu_words.specs.Words.{node_before, turn_before, same_life}
+use Rattle.lu_words.specs.Words.{Entry, Line, line, with_turn, node_before, turn_before, same_life}
+use Rattle.lu_covered.specs.ClientStates.{life_of, is_own}
 use Rattle.lu_guards.proofs.Guards.{In}
 
 pub self : (n : ℕ) → nat_eq n n ≡ true
 self n = eq-eqb n n refl
+
+pub or_left : (a b : Bool) → a ≡ true → (a || b) ≡ true
+or_left true b e = refl
+or_left false b e = absurd (cc)
+
+pub or_right : (a b : Bool) → b ≡ true → (a || b) ≡ true
+or_right true b e = refl
+or_right false b e = e
+
+pub or_neither : (a b : Bool) → a ≡ false → b ≡ false → (a || b) ≡ false
+or_neither a b e f = cc
 
 -- ---- lists
 
@@ -49,6 +61,11 @@ in_filtered f x (y ∷ xs) (inr i) t = cond_both (f y) (y ∷ filter f xs) (filt
 abbrev pub turn : Stamp → Node → At
 turn stamp node = record { stamp = stamp; node = node }
 
+-- a turn in two parts
+pub turn_more : (at : At) (es fs : List Entry) (past : List Line) → with_turn at (es ++ fs) past ≡ with_turn at fs (with_turn at es past)
+turn_more at [] fs past = refl
+turn_more at (e ∷ es) fs past = turn_more at es fs (line at e ∷ past)
+
 node_trans : (a b c : Node) → node_before a b ≡ true → node_before b c ≡ true → node_before a c ≡ true
 node_trans (Client a) (Client b) (Client c) p q = grind (arith, nat_tests)
 node_trans (Client a) (Client b) (Target c) p q = refl
@@ -75,3 +92,18 @@ pub life_is : (a b : Who) → same_life a b ≡ true → a ≡ b
 life_is a b t =
     let p = and_parts (nat_eq a.client b.client) (nat_eq a.life b.life) t in
     ap (λ (c : ℕ). who c a.life) (eqb-true a.client b.client p.0) ∙ ap (λ (l : ℕ). who b.client l) (eqb-true a.life b.life p.1)
+
+pub same_who : (a b : Who) → a.client ≡ b.client → a.life ≡ b.life → a ≡ b
+same_who a b e f = life_is a b (grind (arith, nat_tests, e, f))
+
+pub life_self : (a : Who) → same_life a a ≡ true
+life_self a = grind (arith, nat_tests)
+
+-- ---- whose a client's line is
+
+-- of the life that the client is in
+pub own_is : (who : Who) (past : List Line) (c : ℕ) → is_own who past (Client c) ≡ true → who ≡ life_of c past
+own_is who past c t = life_is who (life_of c past) t
+
+pub own_self : (past : List Line) (c : ℕ) → is_own (life_of c past) past (Client c) ≡ true
+own_self past c = life_self (life_of c past)

@@ -85,7 +85,7 @@ above_with n l (k ∷ locks) lt a = by (nat_eq l.cookie.0 k.cookie.0) (nat_lt l.
     by false true h = (lt, a)
     by false false h = (a.0, h)
 
-above_filter : (n : ℕ) (f : Lock → Bool) (locks : List Lock) → AllAbove n locks → AllAbove n (filter f locks)
+pub above_filter : (n : ℕ) (f : Lock → Bool) (locks : List Lock) → AllAbove n locks → AllAbove n (filter f locks)
 above_filter n f [] a = tt
 above_filter n f (l ∷ locks) a = cond_both (f l) (l ∷ filter f locks) (filter f locks) (λ (xs : List Lock). AllAbove n xs) (λ t. (a.0, above_filter n f locks a.1)) (λ t. above_filter n f locks a.1)
 
@@ -114,11 +114,11 @@ granted_stands cookie who (want ∷ wants) old l (inr i) = granted_stands (cooki
 
 -- ---- the greatest cookie is at or above each
 
-greatest_least : (n : ℕ) (locks : List Lock) → n ≤ greatest_cookie n locks
+pub greatest_least : (n : ℕ) (locks : List Lock) → n ≤ greatest_cookie n locks
 greatest_least n [] = omega arith
 greatest_least n (l ∷ locks) = let more = greatest_least (max n l.cookie.0) locks in omega (arith, more)
 
-greatest_has : (n : ℕ) (locks : List Lock) (l : Lock) → In l locks → l.cookie.0 ≤ greatest_cookie n locks
+pub greatest_has : (n : ℕ) (locks : List Lock) (l : Lock) → In l locks → l.cookie.0 ≤ greatest_cookie n locks
 greatest_has n [] l i = absurd i
 greatest_has n (k ∷ locks) l (inl e) =
     subst (λ (x : Lock). x.cookie.0 ≤ greatest_cookie (max n k.cookie.0) locks) e (let more = greatest_least (max n k.cookie.0) locks in omega (arith, more))

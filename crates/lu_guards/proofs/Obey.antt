@@ -1,5 +1,6 @@
--- Each covered run of the table makes lines that are allowed, one after another; after each turn nothing is owed, and between its turns
--- each call of a client waits for its reply, and none of its held locks is pinned or marked.
+-- Each covered run of the table makes lines that are allowed, one after another; after each turn nothing is owed and no life is ending, and
+-- between its turns each call of a client waits for its reply, none of its held locks is pinned or marked, its handles are bound as calls say,
+-- and each target is what its story says.
 use Rattle.std.proofs.Common.{◌≡◌, ℕ, Bool, true, false, List, [], ◌∷◌, inl, inr, None, refl, sym, subst, ap, ◌∙◌}
 use Rattle.std.specs.Prelude.{nat_eq}
 use Rattle.std.proofs.lemmas.Bool.{eqb-true}
@@ -12,6 +13,7 @@ use Rattle.lu_words.specs.Words.{Entry, Line, line, with_turn, is_client}
 use Rattle.lu_words.specs.Fields.{on, at_client}
 use Rattle.lu_target_rows.specs.Disks.{row_start}
 use Rattle.lu_client_rows.specs.Caches.{reads_held, held_after}
+use Rattle.lu_client_rows.specs.Calls.{reads_handles, handles_after, file_of}
 use Rattle.lu_client_rows.specs.Rows as client
 use Rattle.lu_covered.specs.Calls.{reads_call, call_after}
 use Rattle.lu_covered.specs.Covered.{AllCovered}
@@ -19,14 +21,16 @@ use Rattle.lu_covered.specs.Heads.{IsAlive}
 use Rattle.lu_table.specs.Heads as table
 use Rattle.lu_table.specs.Runs as table_runs
 use Rattle.lu_table.specs.Runs.{limits_of, client_of, row, MeetsClient, IsRow, Turn, lines_of, IsRun}
-use Rattle.lu_guards.proofs.Guards.{In, Later, Grown}
+use Rattle.lu_guards.proofs.Guards.{In, Later, Ending, Grown}
 use Rattle.lu_guards.proofs.Lists.{turn}
+use Rattle.lu_guards.proofs.Ends.{closed_row, closed_target}
 use Rattle.lu_guards.proofs.Turns.{covered_head, Settled, settled_after, turn_grows, run_later}
 use Rattle.lu_guards.proofs.Covers.{covered_turn, over_none}
 use Rattle.lu_guards.proofs.ClientLines.{on_other}
+use Rattle.lu_guards.proofs.ClientHandles.{file_other}
 use Rattle.lu_guards.proofs.ClientRests.{Idle, Between}
 use Rattle.lu_guards.proofs.ClientTurns.{client_ok}
-use Rattle.lu_guards.proofs.TargetTurns.{of_target, target_ok}
+use Rattle.lu_guards.proofs.TargetTurns.{of_target, target_ok, ServesBetween, serves_start, serves_client}
 
 -- ---- a turn of another node leaves a client as it is
 
@@ -41,6 +45,7 @@ between_other : (c : ℕ) (at : At) (es : List Entry) (past : List Line) → is_
 between_other c at es past other b =
     record {
       idle = λ slot. subst Idle (sym (field_other reads_call (call_after slot) None c at es past other)) (b.idle slot);
+      handles = λ h. ap (file_of h) (field_other reads_handles handles_after [] c at es past other) ∙ b.handles h ∙ sym (file_other c h at es past other);
       held = subst (λ (hs : List HeldLock). (x : HeldLock) → In x hs → (x.marked ≡ false) × (x.pins ≡ 0)) (sym (field_other reads_held held_after [] c at es past other)) b.held;
     }
 
@@ -50,7 +55,9 @@ between_other c at es past other b =
 pub record Stands (head : table.Head) (past : List Line) : Type 0 where
   pub grown : Grown (covered_head head) past
   pub settled : Settled past
+  pub closed : (c : ℕ) → Ending past c → ⊥
   pub between : (c : ℕ) → Between c past
+  pub serves : (t : ℕ) → ServesBetween head past t
 
 lives : (head : table.Head) (past : List Line) (c : ℕ) (event : client.Event) → MeetsClient head past c event → IsAlive (covered_head head) past c
 lives head past c (client.Begins slot wanted) m = record { one = m.0.one; alive = m.0.alive }
@@ -63,8 +70,14 @@ client_stands : (head : table.Head) (past : List Line) (stamp : Stamp) (c : ℕ)
     → Stands head (with_turn (turn stamp (Client c)) (client.row (limits_of head) (turn stamp (Client c)) event (client_of head c past)) past)
 client_stands head past stamp c event s later meets covered =
     let alive = lives head past c event meets in
-    let closed = client_ok head c stamp past event (record { grown = s.grown; covered = (covered_turn at es past covered).1; settled = s.settled; later = later; alive = alive; between = s.between c }) meets covered in
-    record { grown = closed.grown; settled = closed.settled; between = λ d. by d (nat_eq d c) refl closed.between }
+    let ok = client_ok head c stamp past event (record { grown = s.grown; covered = (covered_turn at es past covered).1; settled = s.settled; later = later; closed = s.closed; alive = alive; between = s.between c }) meets covered in
+    record {
+      grown = ok.grown;
+      settled = ok.settled;
+      closed = closed_row (covered_head head) (limits_of head) past stamp c event (client_of head c past) refl later s.closed ok.grown;
+      between = λ d. by d (nat_eq d c) refl ok.between;
+      serves = λ t. serves_client head past stamp c es t (s.serves t);
+    }
   where
     at : At
     at = turn stamp (Client c)
@@ -87,17 +100,19 @@ row_stands head past stamp (Client c) es s later r covered =
 row_stands head past stamp (Target t) es s later r covered =
     let at = turn stamp (Target t) in
     let fs = of_target head past stamp t r.event r.fails in
-    let ok = target_ok head past stamp t r.event r.fails s.grown s.settled later r.meets r.numbers (subst (λ (gs : List Entry). AllCovered (with_turn at gs past)) r.is covered) in
+    let ok = target_ok head past stamp t r.event r.fails s.grown s.settled s.serves later r.meets r.numbers (subst (λ (gs : List Entry). AllCovered (with_turn at gs past)) r.is covered) in
     subst (λ (gs : List Entry). Stands head (with_turn at gs past)) (sym r.is) (record {
-      grown = turn_grows (covered_head head) past at fs s.grown later ok;
-      settled = settled_after past at fs ok.paid;
+      grown = turn_grows (covered_head head) past at fs s.grown later s.closed ok.row;
+      settled = settled_after past at fs ok.row.paid;
+      closed = closed_target stamp t fs past s.closed;
       between = λ c. between_other c at fs past refl (s.between c);
+      serves = ok.serves;
     })
 
 -- ---- runs
 
 pub stands : (head : table.Head) (turns : List Turn) → IsRun head turns → AllCovered (lines_of turns) → Stands head (lines_of turns)
-stands head [] run covered = record { grown = tt; settled = tt; between = λ c. record { idle = λ slot. tt; held = λ x i. absurd i } }
+stands head [] run covered = record { grown = tt; settled = tt; closed = λ c k. k; between = λ c. record { idle = λ slot. tt; handles = λ h. refl; held = λ x i. absurd i }; serves = λ t. serves_start head t }
 stands head (t ∷ turns) run covered = by run.1 (stands head turns run.2 (covered_turn t.at t.entries (lines_of turns) covered).1)
   where
     by : table_runs.IsTurn head turns t → Stands head (lines_of turns) → Stands head (lines_of (t ∷ turns))
@@ -115,3 +130,6 @@ settled head turns run covered = (stands head turns run covered).settled
 
 pub between : (head : table.Head) (turns : List Turn) → IsRun head turns → AllCovered (lines_of turns) → (c : ℕ) → Between c (lines_of turns)
 between head turns run covered c = (stands head turns run covered).between c
+
+pub served : (head : table.Head) (turns : List Turn) → IsRun head turns → AllCovered (lines_of turns) → (t : ℕ) → ServesBetween head (lines_of turns) t
+served head turns run covered t = (stands head turns run covered).serves t

@@ -10,7 +10,7 @@ use Rattle.lu_words.specs.Words.{Entry, Send, Heard, Hold, Line, line, with_turn
 use Rattle.lu_words.specs.Concerns.{concerns, only, about}
 use Rattle.lu_words.specs.Sent.{Sent}
 use Rattle.lu_covered.specs.Heads.{Head}
-use Rattle.lu_guards.proofs.Guards.{Was, EntryOk, Grown, IsOfFirst, GrownOf}
+use Rattle.lu_guards.proofs.Guards.{Was, EntryOk, LivesAt, Grown, IsOfFirst, IsOneOf, GrownOf}
 use Rattle.lu_guards.proofs.Lists.{self}
 
 -- ---- a turn
@@ -121,6 +121,14 @@ was_only t (l ∷ past) from to m q w = by l.entry w (λ v. was_only t past from
     by (Send node message) (inr r) f = older (Send node message) (concerns t l.at.node (Send node message)) (λ s. inr s) (f r)
     by e r f = older e (concerns t l.at.node e) (λ s. s) (f r)
 
+-- it was sent, whatever comes
+pub was_more : (l : Line) (past : List Line) (from to : Node) (m : Message) → Was past from to m → Was (l ∷ past) from to m
+was_more l past from to m r = by l.entry
+  where
+    by : (e : Entry) → Was (line l.at e ∷ past) from to m
+    by (Send k x) = inr r
+    by e = r
+
 pub was_back : (t : ℕ) (past : List Line) (from to : Node) (m : Message) → Was (only t past) from to m → Was past from to m
 was_back t [] from to m w = absurd w
 was_back t (l ∷ past) from to m w = by l.entry (concerns t l.at.node l.entry) w (λ v. was_back t past from to m v)
@@ -152,10 +160,14 @@ of_first past at (Target u) (Heard t f r) ok = absurd ok
 of_first past at (Target u) (Hold t lock marked size seen) ok = absurd ok
 of_first past at node e ok = tt
 
+one_of : (head : Head) (past : List Line) (node : Node) → LivesAt head past node → IsOneOf head node
+one_of head past (Client c) alive = alive.one
+one_of head past (Target u) alive = tt
+
 pub grown_of : (head : Head) (t : ℕ) (past : List Line) → Grown head past → GrownOf head (only t past)
 grown_of head t [] g = tt
 grown_of head t (l ∷ past) g = by (concerns t l.at.node l.entry) refl (grown_of head t past g.1)
   where
     by : (b : Bool) → concerns t l.at.node l.entry ≡ b → GrownOf head (only t past) → GrownOf head (if b then l ∷ only t past else only t past)
-    by true q h = (g.0.of t q, of_first past l.at l.at.node l.entry g.0.ok, h)
+    by true q h = (g.0.of t q, of_first past l.at l.at.node l.entry g.0.ok, one_of head past l.at.node g.0.lives, h)
     by false q h = h

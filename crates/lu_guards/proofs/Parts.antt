@@ -1,5 +1,6 @@
 -- A field that the rows read at a node, entry by entry, is that of the story of one target.
-use Rattle.std.proofs.Common.{◌≡◌, ℕ, Bool, true, false, List, [], ◌∷◌, refl, sym, ap, ◌∙◌}
+use Rattle.std.proofs.Common.{◌≡◌, ℕ, ◌+◌, ◌<◌, ◌≤◌, Bool, true, false, List, [], ◌∷◌, refl, sym, subst, ap, ◌∙◌, arith}
+use Rattle.std.proofs.lemmas.Bool.{eqb-true}
 use Rattle.std.specs.Prelude.{nat_eq, ◌&&◌, if◌then◌else◌}
 use Rattle.lu_base.specs.declared.ids.At.{At}
 use Rattle.lu_base.specs.declared.ids.Node.{Node}
@@ -10,16 +11,24 @@ use Rattle.lu_base.specs.declared.ids.Who.{Who}
 use Rattle.lu_msg.specs.declared.messages.Request.{Request as RequestOf}
 use Rattle.lu_machine.specs.Tree.{Tree}
 use Rattle.lu_words.specs.Carried.{Deed, Slot, Called}
-use Rattle.lu_words.specs.Words.{Entry, Heard, Life, Queues, Flies, Knows, Act, Txn, Commit, Boot, Enters, Block, Release, Line, line, is_client, is_target}
+use Rattle.lu_words.specs.Words.{Entry, Heard, Life, Queues, Flies, Knows, Act, Txn, Commit, Boot, Enters, Block, Release, Evict, Joined, Line, line, is_client, is_target}
 use Rattle.lu_words.specs.Concerns.{is_about, concerns, only}
 use Rattle.lu_words.specs.Fields.{on, at_target, at_import}
 use Rattle.lu_base.specs.declared.locks.Lock.{Lock}
-use Rattle.lu_covered.specs.TargetParts.{reads_granted, granted_after, reads_cookie, cookie_after, reads_called, called_after, reads_boot, boot_after, reads_count, count_after, reads_committed, committed_after, reads_tree, tree_after, reads_log, log_after, reads_waiting, waiting_after, no_slot, reads_slot, slot_after}
-use Rattle.lu_covered.specs.TargetStates.{Server, boot_at, count_at, committed_at, tree_at, log_at, waiting_at, granted_at, cookie_at, called_at, slot_at, server_at, server_after, server_of, slot_of}
+use Rattle.lu_covered.specs.TargetParts.{reads_granted, granted_after, reads_cookie, cookie_after, reads_called, called_after, reads_boot, boot_after, reads_count, count_after, reads_committed, committed_after, reads_tree, tree_after, reads_log, log_after, reads_waiting, waiting_after, no_slot, reads_slot, slot_after, reads_lives, lives_after, reads_evicted, evicted_after}
+use Rattle.lu_target_rows.specs.States.{lives_from}
+use Rattle.lu_covered.specs.TargetStates.{Server, boot_at, count_at, committed_at, tree_at, log_at, waiting_at, granted_at, cookie_at, called_at, slot_at, server_at, server_after, server_of, slot_of, lives_at, lives_of, evicted_at, evicted_of}
 use Rattle.lu_covered.specs.Calls.{reads_life, life_after, life_at}
 use Rattle.lu_covered.specs.Imports.{reads_queue, queue_after, queue_at, reads_flights, flights_after, flights_at, reads_last, last_after, last_at, reads_known, known_after, known_at}
-use Rattle.lu_covered.specs.ClientStates.{queue_of, flights_of, last_of, known_of, life_of}
-use Rattle.lu_guards.proofs.Lists.{turn}
+use Rattle.lu_covered.specs.ClientStates.{queue_of, flights_of, last_of, known_of, life_of, standing_of, is_own}
+use Rattle.lu_words.specs.Words.{Serves, same_life}
+use Rattle.lu_covered.specs.Calls.{first_life}
+use Rattle.lu_covered.specs.Imports.{Serving, reads_standing, standing_after, standing_at}
+use Rattle.lu_covered.specs.Heads.{Head}
+use Rattle.lu_client_rows.specs.Recovery.{next_life}
+use Rattle.lu_guards.proofs.Guards.{EntryOf, Grown, GrownOf}
+use Rattle.lu_guards.proofs.Lists.{self, turn, life_is, own_self}
+use Rattle.lu_guards.proofs.Only.{grown_of}
 
 -- ---- a field of a target
 
@@ -64,6 +73,22 @@ slot_is who tag t past = target_is reads_slot (slot_after who tag) no_slot (slot
     stays (Act d) slot q = absurd (cc)
     stays (Txn d) slot q = absurd (cc)
     stays e slot q = refl
+
+-- who has a slot, and who was evicted
+pub lives_is : (clients t : ℕ) (past : List Line) → lives_at clients t past ≡ lives_of clients (only t past)
+lives_is clients t past = target_is reads_lives lives_after (lives_from 0 clients) (lives_of clients) (record { starts = refl; steps = λ s u e p r. refl; stays = λ s u e p r. stays e (lives_of clients p) r; clients = λ s c e p. refl }) t past
+  where
+    stays : (e : Entry) (lives : List Who) → reads_lives e ≡ false → lives ≡ lives_after lives e
+    stays (Evict who cause) lives q = absurd (cc)
+    stays (Joined who) lives q = absurd (cc)
+    stays e lives q = refl
+
+pub evicted_is : (t : ℕ) (past : List Line) → evicted_at t past ≡ evicted_of (only t past)
+evicted_is t past = target_is reads_evicted evicted_after [] evicted_of (record { starts = refl; steps = λ s u e p r. refl; stays = λ s u e p r. stays e (evicted_of p) r; clients = λ s c e p. refl }) t past
+  where
+    stays : (e : Entry) (evicted : List Who) → reads_evicted e ≡ false → evicted ≡ evicted_after evicted e
+    stays (Evict who cause) evicted q = absurd (cc)
+    stays e evicted q = refl
 
 -- ---- a part of a target
 
@@ -113,10 +138,12 @@ tree_part osts = record { steps = steps; stays = stays }
   where
     steps : (v : Server) (e : Entry) → reads_tree e ≡ true → tree_after osts v.tree e ≡ (server_after osts v e).tree
     steps v (Txn d) r = refl
+    steps v (Evict w cause) r = refl
     steps v e r = absurd (cc)
 
     stays : (v : Server) (e : Entry) → reads_tree e ≡ false → v.tree ≡ (server_after osts v e).tree
     stays v (Txn d) r = absurd (cc)
+    stays v (Evict w cause) r = absurd (cc)
     stays v e r = refl
 
 log_part : (osts : ℕ) → ServerPart osts reads_log log_after (λ v. v.log)
@@ -139,12 +166,14 @@ waiting_part osts = record { steps = steps; stays = stays }
     steps v (Enters q) r = refl
     steps v (Act d) r = refl
     steps v (Txn d) r = refl
+    steps v (Evict w cause) r = refl
     steps v e r = absurd (cc)
 
     stays : (v : Server) (e : Entry) → reads_waiting e ≡ false → v.waiting ≡ (server_after osts v e).waiting
     stays v (Enters q) r = absurd (cc)
     stays v (Act d) r = absurd (cc)
     stays v (Txn d) r = absurd (cc)
+    stays v (Evict w cause) r = absurd (cc)
     stays v e r = refl
 
 granted_part : (osts : ℕ) → ServerPart osts reads_granted granted_after (λ v. v.granted)
@@ -153,11 +182,13 @@ granted_part osts = record { steps = steps; stays = stays }
     steps : (v : Server) (e : Entry) → reads_granted e ≡ true → granted_after v.granted e ≡ (server_after osts v e).granted
     steps v (Act d) r = refl
     steps v (Release l) r = refl
+    steps v (Evict w cause) r = refl
     steps v e r = absurd (cc)
 
     stays : (v : Server) (e : Entry) → reads_granted e ≡ false → v.granted ≡ (server_after osts v e).granted
     stays v (Act d) r = absurd (cc)
     stays v (Release l) r = absurd (cc)
+    stays v (Evict w cause) r = absurd (cc)
     stays v e r = refl
 
 cookie_part : (osts : ℕ) → ServerPart osts reads_cookie cookie_after (λ v. v.cookie)
@@ -177,11 +208,13 @@ called_part osts = record { steps = steps; stays = stays }
     steps : (v : Server) (e : Entry) → reads_called e ≡ true → called_after v.called e ≡ (server_after osts v e).called
     steps v (Block c) r = refl
     steps v (Release l) r = refl
+    steps v (Evict w cause) r = refl
     steps v e r = absurd (cc)
 
     stays : (v : Server) (e : Entry) → reads_called e ≡ false → v.called ≡ (server_after osts v e).called
     stays v (Block c) r = absurd (cc)
     stays v (Release l) r = absurd (cc)
+    stays v (Evict w cause) r = absurd (cc)
     stays v e r = refl
 
 pub boot_is : (osts t : ℕ) (past : List Line) → boot_at t past ≡ (server_of osts (only t past)).boot
@@ -261,43 +294,6 @@ import_is {A} c reads after start whole f t (l ∷ past) = by l.at.node (import_
     by (Client d) ih = own (Client d) (reads l.entry) (nat_eq c d) (is_about t l.entry) refl refl ih
     by (Target u) ih = own (Target u) (reads l.entry) false (nat_eq t u) refl refl ih
 
-pub queue_is : (c t : ℕ) (past : List Line) → queue_at c t past ≡ queue_of c (only t past)
-queue_is c t past = import_is c reads_queue queue_after [] (queue_of c) (record { starts = refl; steps = steps; stays = stays }) t past
-  where
-    steps : (at : At) (e : Entry) (p : List Line) → reads_queue e ≡ true → queue_of c (line at e ∷ p) ≡ (if is_client c at.node then queue_after (queue_of c p) e else queue_of c p)
-    steps at (Queues u q) p r = refl
-    steps at (Flies u g) p r = refl
-    steps at e p r = absurd (cc)
-
-    stays : (at : At) (e : Entry) (p : List Line) → reads_queue e ≡ false → queue_of c (line at e ∷ p) ≡ queue_of c p
-    stays at (Queues u q) p r = absurd (cc)
-    stays at (Flies u g) p r = absurd (cc)
-    stays at e p r = refl
-
-pub flights_is : (c t : ℕ) (past : List Line) → flights_at c t past ≡ flights_of c (only t past)
-flights_is c t past = import_is c reads_flights flights_after [] (flights_of c) (record { starts = refl; steps = steps; stays = stays }) t past
-  where
-    steps : (at : At) (e : Entry) (p : List Line) → reads_flights e ≡ true → flights_of c (line at e ∷ p) ≡ (if is_client c at.node then flights_after (flights_of c p) e else flights_of c p)
-    steps at (Flies u g) p r = refl
-    steps at (Heard u g k) p r = refl
-    steps at e p r = absurd (cc)
-
-    stays : (at : At) (e : Entry) (p : List Line) → reads_flights e ≡ false → flights_of c (line at e ∷ p) ≡ flights_of c p
-    stays at (Flies u g) p r = absurd (cc)
-    stays at (Heard u g k) p r = absurd (cc)
-    stays at e p r = refl
-
-pub last_is : (c t : ℕ) (past : List Line) → last_at c t past ≡ last_of c (only t past)
-last_is c t past = import_is c reads_last last_after 0 (last_of c) (record { starts = refl; steps = steps; stays = stays }) t past
-  where
-    steps : (at : At) (e : Entry) (p : List Line) → reads_last e ≡ true → last_of c (line at e ∷ p) ≡ (if is_client c at.node then last_after (last_of c p) e else last_of c p)
-    steps at (Flies u g) p r = refl
-    steps at e p r = absurd (cc)
-
-    stays : (at : At) (e : Entry) (p : List Line) → reads_last e ≡ false → last_of c (line at e ∷ p) ≡ last_of c p
-    stays at (Flies u g) p r = absurd (cc)
-    stays at e p r = refl
-
 pub known_is : (c t : ℕ) (past : List Line) → known_at c t past ≡ known_of c (only t past)
 known_is c t past = import_is c reads_known known_after 1 (known_of c) (record { starts = refl; steps = steps; stays = stays }) t past
   where
@@ -307,6 +303,21 @@ known_is c t past = import_is c reads_known known_after 1 (known_of c) (record {
 
     stays : (at : At) (e : Entry) (p : List Line) → reads_known e ≡ false → known_of c (line at e ∷ p) ≡ known_of c p
     stays at (Knows u b) p r = absurd (cc)
+    stays at e p r = refl
+
+pub standing_is : (c t : ℕ) (past : List Line) → standing_at c t past ≡ standing_of c (only t past)
+standing_is c t past = import_is c reads_standing standing_after Serving (standing_of c) (record { starts = refl; steps = steps; stays = stays }) t past
+  where
+    steps : (at : At) (e : Entry) (p : List Line) → reads_standing e ≡ true → standing_of c (line at e ∷ p) ≡ (if is_client c at.node then standing_after (standing_of c p) e else standing_of c p)
+    steps at (Knows u b) p r = refl
+    steps at (Serves u b) p r = refl
+    steps at (Life who) p r = refl
+    steps at e p r = absurd (cc)
+
+    stays : (at : At) (e : Entry) (p : List Line) → reads_standing e ≡ false → standing_of c (line at e ∷ p) ≡ standing_of c p
+    stays at (Knows u b) p r = absurd (cc)
+    stays at (Serves u b) p r = absurd (cc)
+    stays at (Life who) p r = absurd (cc)
     stays at e p r = refl
 
 -- ---- a client's life, which is about all targets
@@ -334,3 +345,244 @@ life_is_of c t (l ∷ past) = by l.at.node l.entry (life_is_of c t past)
     by (Client d) (Life who) ih = own d who (nat_eq c d) refl ih
     by (Target u) (Life who) ih = quiet (Target u) (Life who) (nat_eq t u) ih refl
     by node e ih = quiet node e (concerns t node e) ih refl
+
+-- ---- lives rise, in the story of one target
+
+-- a new life is the next one
+abbrev pub Rises : List Line → Node → Entry → Type 0
+Rises past (Client c) (Life who) = who ≡ next_life (life_of c past)
+Rises past node _ = Unit {0}
+
+abbrev pub Rise : List Line → Type 0
+Rise [] = Unit {0}
+Rise (l ∷ past) = Rises past l.at.node l.entry × Rise past
+
+pub rise_of : (head : Head) (past : List Line) → GrownOf head past → Rise past
+rise_of head [] g = tt
+rise_of head (l ∷ past) g = (by l.at.node l.entry g.0, rise_of head past g.3)
+  where
+    by : (node : Node) (e : Entry) → EntryOf head past l.at node e → Rises past node e
+    by (Client c) (Life who) ok = ok.next
+    by node e ok = tt
+
+pub life_client : (c : ℕ) (past : List Line) → Rise past → (life_of c past).client ≡ c
+life_client c [] r = refl
+life_client c (l ∷ past) r = by l.at.node l.entry r.0 (life_client c past r.1)
+  where
+    own : (d : ℕ) (who : Who) (b : Bool) → nat_eq c d ≡ b → who ≡ next_life (life_of d past) → (life_of c past).client ≡ c → (if b then who else life_of c past).client ≡ c
+    own d who true e next ih = ap (λ (w : Who). w.client) next ∙ ap (λ (u : ℕ). (life_of u past).client) (sym (eqb-true c d e)) ∙ ih
+    own d who false e next ih = ih
+
+    by : (node : Node) (e : Entry) → Rises past node e → (life_of c past).client ≡ c → (life_of c (line (turn l.at.stamp node) e ∷ past)).client ≡ c
+    by (Client d) (Life who) next ih = own d who (nat_eq c d) refl next ih
+    by (Target u) (Life who) next ih = ih
+    by node e next ih = ih
+
+pub life_up : (c : ℕ) (l : Line) (past : List Line) → Rises past l.at.node l.entry → (life_of c past).life ≤ (life_of c (l ∷ past)).life
+life_up c l past r = by l.at.node l.entry r
+  where
+    own : (d : ℕ) (who : Who) (b : Bool) → nat_eq c d ≡ b → who ≡ next_life (life_of d past) → (life_of c past).life ≤ (if b then who else life_of c past).life
+    own d who true e next =
+        let same : (life_of d past).life ≡ (life_of c past).life = ap (λ (u : ℕ). (life_of u past).life) (sym (eqb-true c d e)) in
+        let more : who.life ≡ (life_of d past).life + 1 = ap (λ (w : Who). w.life) next in
+        omega (arith, same, more)
+    own d who false e next = omega arith
+
+    by : (node : Node) (e : Entry) → Rises past node e → (life_of c past).life ≤ (life_of c (line (turn l.at.stamp node) e ∷ past)).life
+    by (Client d) (Life who) next = own d who (nat_eq c d) refl next
+    by (Target u) (Life who) next = omega arith
+    by node e next = omega arith
+
+-- no line is of a life that hasn't begun
+pub not_own : (who : Who) (past : List Line) (node : Node) → Rise past → (life_of who.client past).life < who.life → is_own who past node ≡ false
+not_own who past (Target t) r lt = refl
+not_own who past (Client d) r lt = by (same_life who (life_of d past)) refl
+  where
+    by : (b : Bool) → same_life who (life_of d past) ≡ b → b ≡ false
+    by false e = refl
+    by true e =
+        let own = life_is who (life_of d past) e in
+        let client : who.client ≡ d = ap (λ (w : Who). w.client) own ∙ life_client d past r in
+        let low : (life_of d past).life < who.life = subst (λ (u : ℕ). (life_of u past).life < who.life) client lt in
+        let same : who.life ≡ (life_of d past).life = ap (λ (w : Who). w.life) own in
+        absurd (omega (arith, low, same))
+
+-- nor of another client's
+pub not_other : (c d : ℕ) (past : List Line) → Rise past → nat_eq c d ≡ false → is_own (life_of c past) past (Client d) ≡ false
+not_other c d past r n = by (same_life (life_of c past) (life_of d past)) refl
+  where
+    by : (b : Bool) → same_life (life_of c past) (life_of d past) ≡ b → b ≡ false
+    by false e = refl
+    by true e =
+        let own = life_is (life_of c past) (life_of d past) e in
+        let same : c ≡ d = sym (life_client c past r) ∙ ap (λ (w : Who). w.client) own ∙ life_client d past r in
+        let q : nat_eq c d ≡ true = ap (nat_eq c) (sym same) ∙ self c in
+        absurd (cc)
+
+-- ---- a field that a client's life has for each target: a new one begins at the start
+
+-- what the whole says of a life, of a past in which nothing is about another target
+record LifeField {A : Type 0} (reads : Entry → Bool) (after : A → Entry → A) (start : A) (whole : Who → List Line → A) : Type 0 where
+  starts : (who : Who) → whole who [] ≡ start
+  steps : (who : Who) (at : At) (e : Entry) (past : List Line) → reads e ≡ true → reads_life e ≡ false → whole who (line at e ∷ past) ≡ (if is_own who past at.node then after (whole who past) e else whole who past)
+  stays : (who : Who) (at : At) (e : Entry) (past : List Line) → reads e ≡ false → whole who (line at e ∷ past) ≡ whole who past
+  keeps : (who next : Who) (at : At) (past : List Line) → whole who (line at (Life next) ∷ past) ≡ whole who past
+  begins : (x : A) (who : Who) → after x (Life who) ≡ start
+  reads_new : (who : Who) → reads (Life who) ≡ true
+
+module _ {A : Type 0} (reads : Entry → Bool) (after : A → Entry → A) (start : A) (whole : Who → List Line → A) (f : LifeField reads after start whole) where
+  -- a line that isn't of that life leaves it
+  other_line : (who : Who) (at : At) (e : Entry) (past : List Line) → is_own who past at.node ≡ false → whole who (line at e ∷ past) ≡ whole who past
+  other_line who at e past o = by e (reads e) refl
+    where
+      by : (e : Entry) (r : Bool) → reads e ≡ r → whole who (line at e ∷ past) ≡ whole who past
+      by (Life next) r q = f.keeps who next at past
+      by e true q = f.steps who at e past q refl ∙ ap (λ (b : Bool). if b then after (whole who past) e else whole who past) o
+      by e false q = f.stays who at e past q
+
+  -- a life that hasn't begun has nothing
+  fresh : (who : Who) (past : List Line) → Rise past → (life_of who.client past).life < who.life → whole who past ≡ start
+  fresh who [] r lt = f.starts who
+  fresh who (l ∷ past) r lt = other_line who l.at l.entry past (not_own who past l.at.node r.1 low) ∙ fresh who past r.1 low
+    where
+      low : (life_of who.client past).life < who.life
+      low = let up = life_up who.client l past r.0 in omega (arith, up, lt)
+
+  life_field_is : (c t : ℕ) (past : List Line) → Rise (only t past) → at_import reads after start c t past ≡ whole (life_of c (only t past)) (only t past)
+  life_field_is c t [] r = sym (f.starts (first_life c))
+  life_field_is c t (l ∷ past) r = by l.at.node l.entry (λ q. life_field_is c t past q) r
+    where
+      P : List Line
+      P = only t past
+
+      G : A
+      G = at_import reads after start c t past
+
+      L : Who
+      L = life_of c P
+
+      X : Node → Entry → Line
+      X node e = line (turn l.at.stamp node) e
+
+      Goal : Node → Entry → Type 0
+      Goal node e =
+          Rise (if concerns t node e then X node e ∷ P else P)
+          → on (reads e) (is_client c node && is_about t e) (after G e) G ≡ whole (life_of c (if concerns t node e then X node e ∷ P else P)) (if concerns t node e then X node e ∷ P else P)
+
+      same : (node : Node) (e : Entry) → is_client c node ≡ false → life_of c (X node e ∷ P) ≡ L
+      same node (Life next) o = ap (λ (b : Bool). if b then next else L) o
+      same node e o = refl
+
+      past_rises : (b : Bool) (x : Line) → Rise (if b then x ∷ P else P) → Rise P
+      past_rises true x r = r.1
+      past_rises false x r = r
+
+      -- a line of another node
+      other : (node : Node) (e : Entry) → is_client c node ≡ false → (Rise P → is_own L P node ≡ false) → (Rise P → G ≡ whole L P) → Goal node e
+      other node e o not ih r =
+          ap (λ (b : Bool). on (reads e) (b && is_about t e) (after G e) G) o
+          ∙ left (reads e)
+          ∙ quiet (concerns t node e) r
+        where
+          left : (b : Bool) → on b false (after G e) G ≡ G
+          left true = refl
+          left false = refl
+
+          quiet : (b : Bool) → Rise (if b then X node e ∷ P else P) → G ≡ whole (life_of c (if b then X node e ∷ P else P)) (if b then X node e ∷ P else P)
+          quiet true r = ih r.1 ∙ sym (ap (λ (who : Who). whole who (X node e ∷ P)) (same node e o) ∙ other_line L (turn l.at.stamp node) e P (not r.1))
+          quiet false r = ih r
+
+      plain : (e : Entry) → reads_life e ≡ false → life_of c (X (Client c) e ∷ P) ≡ L → (Rise P → G ≡ whole L P) → Goal (Client c) e
+      plain e new stays ih r = cases (reads e) (is_about t e) refl r
+        where
+          cases : (v b : Bool) → reads e ≡ v → Rise (if b then X (Client c) e ∷ P else P)
+              → on v (nat_eq c c && b) (after G e) G ≡ whole (life_of c (if b then X (Client c) e ∷ P else P)) (if b then X (Client c) e ∷ P else P)
+          cases true true q r =
+              ap (λ (x : Bool). on true (x && true) (after G e) G) (self c)
+              ∙ ap (λ (a : A). after a e) (ih r.1)
+              ∙ sym (ap (λ (who : Who). whole who (X (Client c) e ∷ P)) stays
+              ∙ f.steps L (turn l.at.stamp (Client c)) e P q new
+              ∙ ap (λ (x : Bool). if x then after (whole L P) e else whole L P) (own_self P c))
+          cases false true q r = ih r.1 ∙ sym (ap (λ (who : Who). whole who (X (Client c) e ∷ P)) stays ∙ f.stays L (turn l.at.stamp (Client c)) e P q)
+          cases true false q r = ap (λ (x : Bool). on true (x && false) (after G e) G) (self c) ∙ ih r
+          cases false false q r = ih r
+
+      mine : (e : Entry) → (Rise P → G ≡ whole L P) → Goal (Client c) e
+      mine (Life next) ih r =
+          let client : next.client ≡ c = ap (λ (w : Who). w.client) r.0 ∙ life_client c P r.1 in
+          let same : (life_of next.client P).life ≡ (life_of c P).life = ap (λ (u : ℕ). (life_of u P).life) client in
+          let more : next.life ≡ (life_of c P).life + 1 = ap (λ (w : Who). w.life) r.0 in
+          ap (λ (x : Bool). on x (nat_eq c c && true) (after G (Life next)) G) (f.reads_new next)
+          ∙ ap (λ (x : Bool). on true (x && true) (after G (Life next)) G) (self c)
+          ∙ f.begins G next
+          ∙ sym (ap (λ (x : Bool). whole (if x then next else L) (X (Client c) (Life next) ∷ P)) (self c)
+          ∙ f.keeps next next (turn l.at.stamp (Client c)) P
+          ∙ fresh next P r.1 (omega (arith, same, more)))
+      mine e ih r = plain e refl refl ih r
+
+      by : (node : Node) (e : Entry) → (Rise P → G ≡ whole L P) → Goal node e
+      by (Target u) e ih = other (Target u) e refl (λ q. refl) ih
+      by (Client d) e ih = own (nat_eq c d) refl
+        where
+          own : (b : Bool) → nat_eq c d ≡ b → Goal (Client d) e
+          own true q = subst (λ (u : ℕ). Goal (Client u) e) (eqb-true c d q) (mine e ih)
+          own false q = other (Client d) e q (λ rises. not_other c d P rises q) ih
+
+queue_field : LifeField reads_queue queue_after [] queue_of
+queue_field = record { starts = λ who. refl; steps = steps; stays = stays; keeps = λ who next at p. refl; begins = λ x who. refl; reads_new = λ who. refl }
+  where
+    steps : (who : Who) (at : At) (e : Entry) (p : List Line) → reads_queue e ≡ true → reads_life e ≡ false → queue_of who (line at e ∷ p) ≡ (if is_own who p at.node then queue_after (queue_of who p) e else queue_of who p)
+    steps who at (Queues u q) p r n = refl
+    steps who at (Flies u g) p r n = refl
+    steps who at (Life w) p r n = absurd (cc)
+    steps who at e p r n = absurd (cc)
+
+    stays : (who : Who) (at : At) (e : Entry) (p : List Line) → reads_queue e ≡ false → queue_of who (line at e ∷ p) ≡ queue_of who p
+    stays who at (Queues u q) p r = absurd (cc)
+    stays who at (Flies u g) p r = absurd (cc)
+    stays who at e p r = refl
+
+flights_field : LifeField reads_flights flights_after [] flights_of
+flights_field = record { starts = λ who. refl; steps = steps; stays = stays; keeps = λ who next at p. refl; begins = λ x who. refl; reads_new = λ who. refl }
+  where
+    steps : (who : Who) (at : At) (e : Entry) (p : List Line) → reads_flights e ≡ true → reads_life e ≡ false → flights_of who (line at e ∷ p) ≡ (if is_own who p at.node then flights_after (flights_of who p) e else flights_of who p)
+    steps who at (Flies u g) p r n = refl
+    steps who at (Heard u g k) p r n = refl
+    steps who at (Life w) p r n = absurd (cc)
+    steps who at e p r n = absurd (cc)
+
+    stays : (who : Who) (at : At) (e : Entry) (p : List Line) → reads_flights e ≡ false → flights_of who (line at e ∷ p) ≡ flights_of who p
+    stays who at (Flies u g) p r = absurd (cc)
+    stays who at (Heard u g k) p r = absurd (cc)
+    stays who at e p r = refl
+
+last_field : LifeField reads_last last_after 0 last_of
+last_field = record { starts = λ who. refl; steps = steps; stays = stays; keeps = λ who next at p. refl; begins = λ x who. refl; reads_new = λ who. refl }
+  where
+    steps : (who : Who) (at : At) (e : Entry) (p : List Line) → reads_last e ≡ true → reads_life e ≡ false → last_of who (line at e ∷ p) ≡ (if is_own who p at.node then last_after (last_of who p) e else last_of who p)
+    steps who at (Flies u g) p r n = refl
+    steps who at (Life w) p r n = absurd (cc)
+    steps who at e p r n = absurd (cc)
+
+    stays : (who : Who) (at : At) (e : Entry) (p : List Line) → reads_last e ≡ false → last_of who (line at e ∷ p) ≡ last_of who p
+    stays who at (Flies u g) p r = absurd (cc)
+    stays who at e p r = refl
+
+-- in the story of a target, and with the client's life by the whole past
+pub queue_now : (head : Head) (c t : ℕ) (past : List Line) → Grown head past → queue_at c t past ≡ queue_of (life_of c (only t past)) (only t past)
+queue_now head c t past g = life_field_is reads_queue queue_after [] queue_of queue_field c t past (rise_of head (only t past) (grown_of head t past g))
+
+pub queue_is : (head : Head) (c t : ℕ) (past : List Line) → Grown head past → queue_at c t past ≡ queue_of (life_at c past) (only t past)
+queue_is head c t past g = queue_now head c t past g ∙ ap (λ (who : Who). queue_of who (only t past)) (sym (life_is_of c t past))
+
+pub flights_now : (head : Head) (c t : ℕ) (past : List Line) → Grown head past → flights_at c t past ≡ flights_of (life_of c (only t past)) (only t past)
+flights_now head c t past g = life_field_is reads_flights flights_after [] flights_of flights_field c t past (rise_of head (only t past) (grown_of head t past g))
+
+pub flights_is : (head : Head) (c t : ℕ) (past : List Line) → Grown head past → flights_at c t past ≡ flights_of (life_at c past) (only t past)
+flights_is head c t past g = flights_now head c t past g ∙ ap (λ (who : Who). flights_of who (only t past)) (sym (life_is_of c t past))
+
+pub last_now : (head : Head) (c t : ℕ) (past : List Line) → Grown head past → last_at c t past ≡ last_of (life_of c (only t past)) (only t past)
+last_now head c t past g = life_field_is reads_last last_after 0 last_of last_field c t past (rise_of head (only t past) (grown_of head t past g))
+
+pub last_is : (head : Head) (c t : ℕ) (past : List Line) → Grown head past → last_at c t past ≡ last_of (life_at c past) (only t past)
+last_is head c t past g = last_now head c t past g ∙ ap (λ (who : Who). last_of who (only t past)) (sym (life_is_of c t past))

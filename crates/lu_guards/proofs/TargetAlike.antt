@@ -1,35 +1,39 @@
--- After every grown past a target of the whole table is what its story says: its first boot serves, and what is granted, called back,
--- waits and was done is what the guards speak of.
-use Rattle.std.proofs.Common.{◌≡◌, ℕ, ◌+◌, Bool, true, false, List, [], ◌∷◌, ◌++◌, Some, refl, sym, subst, ap, ◌∙◌, arith}
-use Rattle.std.specs.Prelude.{nat_eq, nat_lt, max, filter, not, if◌then◌else◌}
-use Rattle.std.proofs.lemmas.Bool.{eqb-true}
-use Rattle.lu_base.specs.declared.ids.At.{At}
+-- Between its turns a target of the whole table is what its story says: its first boot serves, and who has a slot, what is granted,
+-- called back, waits and was done is what the guards speak of. A life that leaves is gone from the target with the commit, and from the
+-- story with its line `evict`; a life that comes is there with the commit, and in the story with its line `joined`. `Window` says how
+-- both go together in between.
+use Rattle.std.proofs.Common.{◌≡◌, ℕ, ◌+◌, Bool, true, false, List, [], ◌∷◌, ◌++◌, Some, refl, sym, ap, ◌∙◌, arith}
+use Rattle.std.specs.Prelude.{nat_eq, nat_lt, max, filter, not, ◌&&◌, ◌||◌}
 use Rattle.lu_base.specs.declared.ids.Node.{Node}
 use Rattle.lu_base.specs.declared.ids.Node.TheVariants as node
 use Rattle.lu_base.specs.declared.ids.Stamp.{Stamp}
 use Rattle.lu_base.specs.declared.ids.Txn.{Txn as TxnOf}
 use Rattle.lu_base.specs.declared.ids.Who.{Who}
+use Rattle.lu_base.specs.declared.locks.Cause.{Cause}
 use Rattle.lu_base.specs.declared.locks.Lock.{Lock}
+use Rattle.lu_msg.specs.declared.messages.Message.{Message}
 use Rattle.lu_msg.specs.declared.operations.Op.{Op}
 use Rattle.lu_msg.specs.declared.operations.Op.TheVariants as op
 use Rattle.lu_msg.specs.declared.commits.Batch.{Batch}
 use Rattle.lu_msg.specs.declared.commits.Transaction.{Transaction}
 use Rattle.lu_msg.specs.declared.messages.Request.{Request as RequestOf}
-use Rattle.lu_machine.specs.Footprint.{changes, after as tree_after}
+use Rattle.lu_machine.specs.Footprint.{changes, forget, after as tree_after}
+use Rattle.lu_machine.specs.Tree.{Tree}
 use Rattle.lu_words.specs.Carried.{Deed, Contents, Called}
-use Rattle.lu_words.specs.Words.{Entry, Send, Take, Tick, Skip, Act, Txn, Grant, Block, Release, Commit, Enters, Line, line, is_target}
-use Rattle.lu_words.specs.Concerns.{concerns, only}
-use Rattle.lu_target_rows.specs.Locks.{with_lock, without_lock, called_without, without_request}
+use Rattle.lu_words.specs.Words.{Entry, Send, Take, Tick, Skip, Act, Txn, Grant, Block, Release, Commit, Enters, Evict, Joined, Line, line, with_turn, same_life}
+use Rattle.lu_target_rows.specs.Locks.{with_lock, with_locks, without_lock, locks_without, called_without, without_request}
+use Rattle.lu_target_rows.specs.Lives.{is_life, with_life, with_lives, without_lives}
 use Rattle.lu_target_rows.specs.States.{Setting, Target, after, target_at}
-use Rattle.lu_target_rows.specs.Stored.{done_by, operation_of, transaction_of}
+use Rattle.lu_target_rows.specs.Stored.{done_by, operation_of, transaction_of, forgotten}
 use Rattle.lu_covered.specs.Deeds.{asked}
 use Rattle.lu_covered.specs.Heads.{Head}
-use Rattle.lu_covered.specs.TargetStates.{Server, none, next_number, server_of, server_after}
-use Rattle.lu_guards.proofs.Guards.{EntryOf, Grown}
+use Rattle.lu_covered.specs.TargetStates.{Server, none, next_number, server_of, server_after, lives_of, evicted_of, shown_of}
+use Rattle.lu_guards.proofs.Guards.{EntryOf}
 use Rattle.lu_guards.proofs.Lists.{turn}
 use Rattle.lu_guards.proofs.LockLists.{Rises, rises_all, rises_filter}
-use Rattle.lu_guards.proofs.TargetSlots.{SlotsAlike, slots_enter, slots_answer, slots_again}
-use Rattle.lu_after.proofs.Targets.{target_line, target_left}
+use Rattle.lu_guards.proofs.LifeLists.{filter_parts, filter_swap}
+use Rattle.lu_guards.proofs.TargetSlots.{SlotsAlike, slots_enter, slots_answer, slots_again, slots_leave}
+use Rattle.lu_guards.proofs.TargetStory.{Story, story_start, story_client, story_commit, story_evict, story_release, story_line}
 
 -- one of the whole table, and what the guards speak of
 abbrev pub Alike : (osts t : ℕ) → Target → Server → Type 0
@@ -54,9 +58,13 @@ Alike osts t v s =
       rises : Rises s.granted;
     }
 
-pub record Serving (osts t : ℕ) (v : Target) (past : List Line) : Type 0 where
-  pub alike : Alike osts t v (server_of osts past)
-  pub slots : SlotsAlike v.slots past
+pub record Serving (head : Head) (t : ℕ) (v : Target) (past : List Line) : Type 0 where
+  pub alike : Alike head.osts t v (server_of head.osts past)
+  pub story : Story head past
+  pub slots : SlotsAlike v.slots v.removed past
+  pub lives : v.lives ≡ lives_of head.clients past
+  pub removed : v.removed ≡ evicted_of past
+  pub shown : shown_of past ≡ (server_of head.osts past).granted
 
 -- ---- one entry of its own
 
@@ -66,11 +74,6 @@ tree_done : (osts : ℕ) (c : Contents) (t : Transaction) (number : TxnOf) (who 
 tree_done osts c t number who (op.Put r cookie at bytes) moves is = absurd (cc)
 tree_done osts c t number who (op.Cut r cookie n) moves is = absurd (cc)
 tree_done osts c t number who o moves is = refl
-
--- where nobody leaves, all stay
-pub all_stay : {A : Type 0} (xs : List A) → filter (λ (x : A). true) xs ≡ xs
-all_stay [] = refl
-all_stay (x ∷ xs) = ap (λ ys. x ∷ ys) (all_stay xs)
 
 module _ (osts t : ℕ) (v : Target) (s : Server) (h : Alike osts t v s) where
   alike_enters : (r : RequestOf) → Alike osts t (after v (Enters r)) (server_after osts s (Enters r))
@@ -209,60 +212,275 @@ module _ (osts t : ℕ) (v : Target) (s : Server) (h : Alike osts t v s) where
         rises = rises_filter (λ k. not (nat_eq k.cookie.0 lock.cookie.0)) s.granted h.rises;
       }
 
-  alike_commit : (to : ℕ) (batch : Batch) → batch.removed ≡ [] → batch.added ≡ [] → Alike osts t (after v (Commit to batch)) (server_after osts s (Commit to batch))
-  alike_commit to batch removed added =
-      record {
-        id = h.id;
-        osts = h.osts;
-        up = h.up;
-        boot = h.boot;
-        closed = h.closed;
-        first = h.first;
-        number = h.number;
-        cookie = h.cookie;
-        tree = rw removed h.tree;
-        log = ap (λ (g : List Deed). filter (λ d. nat_lt to d.reply.txn.0) g) h.log;
-        committed = refl;
-        granted = rw removed (all_stay v.granted ∙ h.granted);
-        waiting = rw h.waiting refl;
-        called = rw removed (all_stay v.called ∙ h.called);
-        queue = rw removed (all_stay v.queue ∙ h.queue);
-        glimpses = rw h.glimpses refl;
-        rises = h.rises;
-      }
+-- but for commits, and lives that leave and come
+abbrev pub IsPlain : Entry → Type 0
+IsPlain (Commit to batch) = ⊥
+IsPlain (Evict who cause) = ⊥
+IsPlain (Joined who) = ⊥
+IsPlain _ = Unit {0}
 
--- a line of its own keeps it so
-pub serving_line : (head : Head) (t : ℕ) (past : List Line) (stamp : Stamp) (e : Entry) (v : Target) → EntryOf head past (turn stamp (node.Target t)) (node.Target t) e → Serving head.osts t v past
-    → Serving head.osts t (after v e) (line (turn stamp (node.Target t)) e ∷ past)
-serving_line head t past stamp (Send to m) v ok h = record { alike = h.alike; slots = h.slots }
-serving_line head t past stamp (Take n from m) v ok h = record { alike = h.alike; slots = h.slots }
-serving_line head t past stamp Tick v ok h = record { alike = h.alike; slots = h.slots }
-serving_line head t past stamp Skip v ok h = record { alike = h.alike; slots = h.slots }
-serving_line head t past stamp (Enters r) v ok h =
-    record { alike = alike_enters head.osts t v (server_of head.osts past) h.alike r; slots = slots_enter v.slots past r h.slots }
-serving_line head t past stamp (Act d) v ok h =
-    record { alike = alike_act head.osts t v (server_of head.osts past) h.alike d; slots = slots_answer v.slots past d h.slots }
-serving_line head t past stamp (Txn d) v ok h =
+abbrev pub AllPlain : List Entry → Type 0
+AllPlain [] = Unit {0}
+AllPlain (e ∷ es) = IsPlain e × AllPlain es
+
+-- such a line of its own keeps it so
+pub serving_line : (head : Head) (t : ℕ) (past : List Line) (stamp : Stamp) (e : Entry) (v : Target) → IsPlain e → EntryOf head past (turn stamp (node.Target t)) (node.Target t) e → Serving head t v past
+    → Serving head t (after v e) (line (turn stamp (node.Target t)) e ∷ past)
+serving_line head t past stamp e v plain ok h = by e plain ok (story_line head t past stamp e ok h.story)
+  where
+    s : Server
+    s = server_of head.osts past
+
+    a : Alike head.osts t v s
+    a = h.alike
+
+    by : (e : Entry) → IsPlain e → EntryOf head past (turn stamp (node.Target t)) (node.Target t) e → Story head (line (turn stamp (node.Target t)) e ∷ past) → Serving head t (after v e) (line (turn stamp (node.Target t)) e ∷ past)
+    by (Send to m) plain ok story = record { alike = a; story = story; slots = h.slots; lives = h.lives; removed = h.removed; shown = h.shown }
+    by (Take n from m) plain ok story = record { alike = a; story = story; slots = h.slots; lives = h.lives; removed = h.removed; shown = h.shown }
+    by Tick plain ok story = record { alike = a; story = story; slots = h.slots; lives = h.lives; removed = h.removed; shown = h.shown }
+    by Skip plain ok story = record { alike = a; story = story; slots = h.slots; lives = h.lives; removed = h.removed; shown = h.shown }
+    by (Enters r) plain ok story =
+        record { alike = alike_enters head.osts t v s a r; story = story; slots = λ who tag live. slots_enter v.slots past r who tag (h.slots who tag live); lives = h.lives; removed = h.removed; shown = h.shown }
+    by (Act d) plain ok story =
+        record {
+          alike = alike_act head.osts t v s a d;
+          story = story;
+          slots = λ who tag live. slots_answer v.slots past d who tag (h.slots who tag live);
+          lives = h.lives;
+          removed = h.removed;
+          shown = ap (with_locks d.reply.locks) h.shown;
+        }
+    by (Txn d) plain ok story =
+        record {
+          alike = alike_txn head.osts t v s a d ok.request ok.moves (ap (λ (x : Deed). x.op) ok.is) (ap (λ (x : Deed). x.reply.txn) ok.is) (ap (λ (x : Deed). x.reply.who) ok.is);
+          story = story;
+          slots = λ who tag live. slots_answer v.slots past d who tag (h.slots who tag live);
+          lives = h.lives;
+          removed = h.removed;
+          shown = h.shown;
+        }
+    by (Grant lock (Some d)) plain ok story =
+        record { alike = alike_grant head.osts t v s a lock d ok.granted ok.cookie ok.waiting; story = story; slots = slots_again v.slots v.removed past d ok.slot h.slots; lives = h.lives; removed = h.removed; shown = h.shown }
+    by (Block called) plain ok story = record { alike = alike_block head.osts t v s a called; story = story; slots = h.slots; lives = h.lives; removed = h.removed; shown = h.shown }
+    by (Release lock) plain ok story = record { alike = alike_release head.osts t v s a lock; story = story; slots = h.slots; lives = h.lives; removed = h.removed; shown = ap (without_lock lock) h.shown }
+    by (Commit to batch) plain ok story = absurd plain
+    by (Evict who cause) plain ok story = absurd plain
+    by (Joined who) plain ok story = absurd plain
+    by e plain ok story = absurd ok
+
+-- ---- from the commit on, until all that leave and come with it did
+
+-- the opens of these lives go, one after another
+abbrev pub tree_without : List Who → Tree → Tree
+tree_without [] t = t
+tree_without (who ∷ gone) t = tree_without gone (forget t who)
+
+forgotten_tree : (gone : List Who) (c : Contents) → (forgotten gone c).tree ≡ tree_without gone c.tree
+forgotten_tree [] c = refl
+forgotten_tree (who ∷ gone) c = forgotten_tree gone (record c { tree = forget c.tree who })
+
+-- the target is without those that leave, and with those that come
+pub record Window (head : Head) (t : ℕ) (gone come : List Who) (v : Target) (past : List Line) : Type 0 where
+  pub id : v.setting.id ≡ t
+  pub osts : v.setting.osts ≡ head.osts
+  pub up : v.up ≡ true
+  pub boot : v.boot ≡ 1
+  pub closed : v.closed ≡ 1
+  pub number : v.number ≡ 4294967296 + (server_of head.osts past).count
+  pub cookie : v.cookie ≡ (server_of head.osts past).cookie
+  pub tree : v.contents.tree ≡ tree_without gone (server_of head.osts past).tree
+  pub log : v.log ≡ (server_of head.osts past).log
+  pub committed : v.committed ≡ (server_of head.osts past).committed.0
+  pub granted : v.granted ≡ locks_without gone (server_of head.osts past).granted
+  pub waiting : v.waiting ≡ []
+  pub called : v.called ≡ filter (λ (c : Called). not (is_life c.who gone)) (server_of head.osts past).called
+  pub queue : v.queue ≡ filter (λ (r : RequestOf). not (is_life r.who gone)) (server_of head.osts past).waiting
+  pub glimpses : v.glimpses ≡ []
+  pub story : Story head past
+  pub slots : SlotsAlike v.slots v.removed past
+  pub lives : v.lives ≡ with_lives come (without_lives gone (lives_of head.clients past))
+  pub removed : v.removed ≡ with_lives gone (evicted_of past)
+
+pub window_commit : (head : Head) (t : ℕ) (past : List Line) (stamp : Stamp) (to : ℕ) (batch : Batch) (v : Target) → Serving head t v past → Window head t batch.removed batch.added (after v (Commit to batch)) (line (turn stamp (node.Target t)) (Commit to batch) ∷ past)
+window_commit head t past stamp to batch v h =
+    let a : Alike head.osts t v (server_of head.osts past) = h.alike in
+    record {
+      id = a.id;
+      osts = a.osts;
+      up = a.up;
+      boot = a.boot;
+      closed = a.closed;
+      number = a.number;
+      cookie = a.cookie;
+      tree = forgotten_tree batch.removed v.contents ∙ ap (tree_without batch.removed) a.tree;
+      log = ap (λ (g : List Deed). filter (λ (d : Deed). nat_lt to d.reply.txn.0) g) a.log;
+      committed = refl;
+      granted = ap (locks_without batch.removed) a.granted;
+      waiting = rw a.waiting refl;
+      called = ap (λ (cs : List Called). filter (λ (c : Called). not (is_life c.who batch.removed)) cs) a.called;
+      queue = ap (λ (rs : List RequestOf). filter (λ (r : RequestOf). not (is_life r.who batch.removed)) rs) a.queue;
+      glimpses = rw a.glimpses refl;
+      story = story_commit head t past stamp h.story to batch;
+      slots = slots_leave batch.removed v.slots v.removed past h.slots;
+      lives = ap (λ (ws : List Who). with_lives batch.added (without_lives batch.removed ws)) h.lives;
+      removed = ap (with_lives batch.removed) h.removed;
+    }
+
+-- the first of those that leave does
+not_or : (a b : Bool) → not (a || b) ≡ (not (a || false) && not b)
+not_or true b = refl
+not_or false b = refl
+
+pub gone_one : {A : Type 0} (f : A → Who) (who : Who) (gone : List Who) (xs : List A)
+    → filter (λ (x : A). not (is_life (f x) (who ∷ gone))) xs ≡ filter (λ (x : A). not (is_life (f x) gone)) (filter (λ (x : A). not (is_life (f x) (who ∷ []))) xs)
+gone_one {A} f who gone xs =
+    filter_parts (λ (x : A). not (is_life (f x) (who ∷ gone))) (λ (x : A). not (is_life (f x) (who ∷ []))) (λ (x : A). not (is_life (f x) gone)) (λ x. not_or (same_life (f x) who) (is_life (f x) gone)) xs
+
+pub window_evict : (head : Head) (t : ℕ) (past : List Line) (stamp : Stamp) (who : Who) (cause : Cause) (gone come : List Who) (v : Target) → Window head t (who ∷ gone) come v past
+    → Window head t gone come v (line (turn stamp (node.Target t)) (Evict who cause) ∷ past)
+window_evict head t past stamp who cause gone come v h =
+    let s : Server = server_of head.osts past in
+    record {
+      id = h.id;
+      osts = h.osts;
+      up = h.up;
+      boot = h.boot;
+      closed = h.closed;
+      number = h.number;
+      cookie = h.cookie;
+      tree = h.tree;
+      log = h.log;
+      committed = h.committed;
+      granted = h.granted ∙ gone_one (λ (l : Lock). l.ask.who) who gone s.granted;
+      waiting = h.waiting;
+      called = h.called ∙ gone_one (λ (c : Called). c.who) who gone s.called;
+      queue = h.queue ∙ gone_one (λ (r : RequestOf). r.who) who gone s.waiting;
+      glimpses = h.glimpses;
+      story = story_evict head t past stamp h.story who cause;
+      slots = h.slots;
+      lives = h.lives ∙ ap (with_lives come) (gone_one (λ (w : Who). w) who gone (lives_of head.clients past));
+      removed = h.removed;
+    }
+
+-- a lock is released
+pub window_release : (head : Head) (t : ℕ) (past : List Line) (stamp : Stamp) (lock : Lock) (gone come : List Who) (v : Target) → Window head t gone come v past
+    → Window head t gone come (after v (Release lock)) (line (turn stamp (node.Target t)) (Release lock) ∷ past)
+window_release head t past stamp lock gone come v h =
+    let s : Server = server_of head.osts past in
+    record {
+      id = h.id;
+      osts = h.osts;
+      up = h.up;
+      boot = h.boot;
+      closed = h.closed;
+      number = h.number;
+      cookie = h.cookie;
+      tree = h.tree;
+      log = h.log;
+      committed = h.committed;
+      granted = ap (without_lock lock) h.granted ∙ filter_swap (λ (k : Lock). not (nat_eq k.cookie.0 lock.cookie.0)) (λ (k : Lock). not (is_life k.ask.who gone)) s.granted;
+      waiting = h.waiting;
+      called = ap (called_without lock) h.called ∙ filter_swap (λ (c : Called). not (nat_eq c.cookie.0 lock.cookie.0)) (λ (c : Called). not (is_life c.who gone)) s.called;
+      queue = h.queue;
+      glimpses = h.glimpses;
+      story = story_release head t past stamp h.story lock;
+      slots = h.slots;
+      lives = h.lives;
+      removed = h.removed;
+    }
+
+-- what is sent changes nothing
+pub window_send : (head : Head) (t : ℕ) (past : List Line) (stamp : Stamp) (to : Node) (m : Message) (gone come : List Who) (v : Target) → Window head t gone come v past
+    → Window head t gone come v (line (turn stamp (node.Target t)) (Send to m) ∷ past)
+window_send head t past stamp to m gone come v h =
+    record {
+      id = h.id;
+      osts = h.osts;
+      up = h.up;
+      boot = h.boot;
+      closed = h.closed;
+      number = h.number;
+      cookie = h.cookie;
+      tree = h.tree;
+      log = h.log;
+      committed = h.committed;
+      granted = h.granted;
+      waiting = h.waiting;
+      called = h.called;
+      queue = h.queue;
+      glimpses = h.glimpses;
+      story = record { first = h.story.first; rises = h.story.rises; logged = h.story.logged; waits = h.story.waits; holds = h.story.holds; calls = h.story.calls; single = h.story.single; apart = h.story.apart };
+      slots = h.slots;
+      lives = h.lives;
+      removed = h.removed;
+    }
+
+-- where nobody leaves, all stay
+pub all_stay : {A : Type 0} (xs : List A) → filter (λ (x : A). true) xs ≡ xs
+all_stay [] = refl
+all_stay (x ∷ xs) = ap (λ ys. x ∷ ys) (all_stay xs)
+
+-- the one that comes is there
+pub window_joined : (head : Head) (t : ℕ) (past : List Line) (stamp : Stamp) (who : Who) (v : Target) → EntryOf head past (turn stamp (node.Target t)) (node.Target t) (Joined who) → Window head t [] (who ∷ []) v past → Window head t [] [] v (line (turn stamp (node.Target t)) (Joined who) ∷ past)
+window_joined head t past stamp who v ok h =
+    record {
+      id = h.id;
+      osts = h.osts;
+      up = h.up;
+      boot = h.boot;
+      closed = h.closed;
+      number = h.number;
+      cookie = h.cookie;
+      tree = h.tree;
+      log = h.log;
+      committed = h.committed;
+      granted = h.granted;
+      waiting = h.waiting;
+      called = h.called;
+      queue = h.queue;
+      glimpses = h.glimpses;
+      story = story_line head t past stamp (Joined who) ok h.story;
+      slots = h.slots;
+      lives = h.lives ∙ ap (with_life who) (all_stay (lives_of head.clients past)) ∙ sym (all_stay (with_life who (lives_of head.clients past)));
+      removed = h.removed;
+    }
+
+-- then the window is closed
+pub window_closed : (head : Head) (t : ℕ) (past : List Line) (v : Target) → shown_of past ≡ (server_of head.osts past).granted → Window head t [] [] v past → Serving head t v past
+window_closed head t past v shown h =
+    let s : Server = server_of head.osts past in
     record {
       alike =
-          alike_txn head.osts t v (server_of head.osts past) h.alike d ok.request ok.moves (ap (λ (x : Deed). x.op) ok.is) (ap (λ (x : Deed). x.reply.txn) ok.is) (ap (λ (x : Deed). x.reply.who) ok.is);
-      slots = slots_answer v.slots past d h.slots;
+          record {
+            id = h.id;
+            osts = h.osts;
+            up = h.up;
+            boot = h.boot;
+            closed = h.closed;
+            first = h.story.first;
+            number = h.number;
+            cookie = h.cookie;
+            tree = h.tree;
+            log = h.log;
+            committed = h.committed;
+            granted = h.granted ∙ all_stay s.granted;
+            waiting = h.waiting;
+            called = h.called ∙ all_stay s.called;
+            queue = h.queue ∙ all_stay s.waiting;
+            glimpses = h.glimpses;
+            rises = h.story.rises;
+          };
+      story = h.story;
+      slots = h.slots;
+      lives = h.lives ∙ all_stay (lives_of head.clients past);
+      removed = h.removed;
+      shown = shown;
     }
-serving_line head t past stamp (Grant lock (Some d)) v ok h =
-    record { alike = alike_grant head.osts t v (server_of head.osts past) h.alike lock d ok.granted ok.cookie ok.waiting; slots = slots_again v.slots past d ok.slot h.slots }
-serving_line head t past stamp (Block called) v ok h = record { alike = alike_block head.osts t v (server_of head.osts past) h.alike called; slots = h.slots }
-serving_line head t past stamp (Release lock) v ok h = record { alike = alike_release head.osts t v (server_of head.osts past) h.alike lock; slots = h.slots }
-serving_line head t past stamp (Commit to batch) v ok h =
-    record {
-      alike = alike_commit head.osts t v (server_of head.osts past) h.alike to batch ok.removed ok.added;
-      slots = λ who tag. let stay = all_stay v.slots in rw (ok.removed, stay) (h.slots who tag);
-    }
-serving_line head t past stamp e v ok h = absurd ok
 
--- ---- every grown past
+-- ---- at the start, and over the turns of other nodes
 
-pub serving : (head : Head) (clients : ℕ) (setting : Setting) → setting.osts ≡ head.osts → (past : List Line) → Grown head past → Serving head.osts setting.id (target_at setting clients past) (only setting.id past)
-serving head clients setting o [] g =
+pub serving_start : (head : Head) (setting : Setting) → setting.osts ≡ head.osts → Serving head setting.id (target_at setting head.clients []) []
+serving_start head setting o =
     record {
       alike =
           record {
@@ -284,46 +502,16 @@ serving head clients setting o [] g =
             glimpses = refl;
             rises = tt;
           };
-      slots = λ who tag. refl;
+      story = story_start head;
+      slots = λ who tag live. refl;
+      lives = refl;
+      removed = refl;
+      shown = refl;
     }
-serving head clients setting o (l ∷ past) g = by l.at.node g.0.of (serving head clients setting o past g.1)
-  where
-    P : List Line
-    P = only setting.id past
 
-    Before : Type 0
-    Before = Serving head.osts setting.id (target_at setting clients past) P
-
-    here : Node → At
-    here n = turn l.at.stamp n
-
-    After : Node → Type 0
-    After n = Serving head.osts setting.id (target_at setting clients (line (here n) l.entry ∷ past)) (only setting.id (line (here n) l.entry ∷ past))
-
-    -- another node's line changes neither
-    other : (n : Node) → is_target setting.id n ≡ false → ((b : Bool) → concerns setting.id n l.entry ≡ b → Serving head.osts setting.id (target_at setting clients past) (if b then line (here n) l.entry ∷ P else P)) → After n
-    other n isnt h = subst (λ (v : Target). Serving head.osts setting.id v (only setting.id (line (here n) l.entry ∷ past))) (sym (target_left setting clients past (here n) l.entry isnt)) (h (concerns setting.id n l.entry) refl)
-
-    by : (n : Node) → ((t : ℕ) → concerns t n l.entry ≡ true → EntryOf head (only t past) (here n) n l.entry) → Before → After n
-    by (node.Client c) of h =
-        other (node.Client c) refl (λ b e. each b)
-      where
-        each : (b : Bool) → Serving head.osts setting.id (target_at setting clients past) (if b then line (here (node.Client c)) l.entry ∷ P else P)
-        each true = record { alike = h.alike; slots = h.slots }
-        each false = h
-    by (node.Target u) of h = at_target (nat_eq setting.id u) refl
-      where
-        at_target : (b : Bool) → nat_eq setting.id u ≡ b → After (node.Target u)
-        at_target false e = other (node.Target u) e (λ b q. not_mine b (sym q ∙ e))
-          where
-            not_mine : (b : Bool) → b ≡ false → Serving head.osts setting.id (target_at setting clients past) (if b then line (here (node.Target u)) l.entry ∷ P else P)
-            not_mine false q = h
-            not_mine true q = absurd (cc)
-        at_target true e =
-            let same : setting.id ≡ u = eqb-true setting.id u e in
-            let ok : EntryOf head P (here (node.Target u)) (node.Target u) l.entry = of setting.id e in
-            subst (λ (v : Target). Serving head.osts setting.id v (only setting.id (line (here (node.Target u)) l.entry ∷ past)))
-            (sym (target_line setting clients past (here (node.Target u)) l.entry e))
-            (subst (λ (b : Bool). Serving head.osts setting.id (after (target_at setting clients past) l.entry) (if b then line (here (node.Target u)) l.entry ∷ P else P)) (sym e)
-            (subst (λ (n : ℕ). EntryOf head P (here (node.Target n)) (node.Target n) l.entry → Serving head.osts setting.id (after (target_at setting clients past) l.entry) (line (here (node.Target n)) l.entry ∷ P)) same
-            (λ k. serving_line head setting.id P l.at.stamp l.entry (target_at setting clients past) k h) ok))
+-- lines of a client change nothing
+pub serving_client : (head : Head) (t : ℕ) (stamp : Stamp) (c : ℕ) (es : List Entry) (past : List Line) (v : Target) → Serving head t v past → Serving head t v (with_turn (turn stamp (node.Client c)) es past)
+serving_client head t stamp c [] past v h = h
+serving_client head t stamp c (e ∷ es) past v h =
+    serving_client head t stamp c es (line (turn stamp (node.Client c)) e ∷ past) v
+    (record { alike = h.alike; story = story_client head past stamp c e h.story; slots = h.slots; lives = h.lives; removed = h.removed; shown = h.shown })

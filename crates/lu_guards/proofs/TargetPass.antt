@@ -28,10 +28,11 @@ use Rattle.lu_covered.specs.Deeds.{asked, deed, locks_of, written_by, again}
 use Rattle.lu_covered.specs.Heads.{Head}
 use Rattle.lu_covered.specs.TargetParts.{is_request_of, is_slot_of as is_slot, answered}
 use Rattle.lu_covered.specs.TargetStates.{Server, none, next_number, server_of, slot_of}
-use Rattle.lu_guards.proofs.Guards.{In, Did, Shows, AllShown, Taken, Owes, EntryOk, EntryOf, GrantOk}
+use Rattle.lu_guards.proofs.Guards.{In, Did, Shows, AllShown, Taken, Owes, GrantOk}
 use Rattle.lu_guards.proofs.Lists.{turn, in_filter}
 use Rattle.lu_guards.proofs.LockLists.{Rises, in_above, rises_filter, granted_stands, stands_same, greatest_same, called_beside, called_now, filter_twice}
-use Rattle.lu_guards.proofs.TargetAlike.{Alike, Serving, serving_line}
+use Rattle.lu_guards.proofs.TargetAlike.{Alike, Serving, AllPlain}
+use Rattle.lu_guards.proofs.TargetGood.{GoodAt, Reaches, serves_lines, reaches_more, turned_more}
 use Rattle.lu_guards.proofs.TargetSlots.{is_slot_self}
 use Rattle.lu_guards.proofs.Turns.{Settled, owes_nothing}
 
@@ -102,27 +103,11 @@ module _ (head : Head) (stamp : Stamp) where
   abbrev pub here : At
   here = turn stamp (node.Target 0)
 
-  abbrev pub LineOk : List Line → Entry → Type 0
-  LineOk past e = Owes past here e × EntryOk past here (node.Target 0) e × EntryOf head (only 0 past) here (node.Target 0) e
-
   abbrev pub Good : List Line → List Entry → Type 0
-  Good past [] = Settled past
-  Good past (e ∷ es) = LineOk past e × Good (line here e ∷ past) es
-
-  pub good_more : (es fs : List Entry) (past : List Line) → Good past es → Good (with_turn here es past) fs → Good past (es ++ fs)
-  good_more [] fs past g k = k
-  good_more (e ∷ es) fs past g k = (g.0, good_more es fs (line here e ∷ past) g.1 k)
-
-  pub good_settled : (es : List Entry) (past : List Line) → Good past es → Settled (with_turn here es past)
-  good_settled [] past g = g
-  good_settled (e ∷ es) past g = good_settled es (line here e ∷ past) g.1
+  Good past es = GoodAt head stamp 0 past (only 0 past) es
 
   abbrev pub ServesAt : Target → List Line → Type 0
-  ServesAt v past = Serving head.osts 0 v (only 0 past)
-
-  pub serves_lines : (es : List Entry) (past : List Line) (v : Target) → Good past es → ServesAt v past → ServesAt (turned v es) (with_turn here es past)
-  serves_lines [] past v g h = h
-  serves_lines (e ∷ es) past v g h = serves_lines es (line here e ∷ past) (after v e) g.1 (serving_line head 0 (only 0 past) stamp e v g.0.2 h)
+  ServesAt v past = Serving head 0 v (only 0 past)
 
   abbrev server : List Line → Server
   server past = server_of head.osts (only 0 past)
@@ -340,10 +325,6 @@ module _ (head : Head) (stamp : Stamp) where
 
 -- ---- what the lines of a pass leave: the list of requests while locks are called back, and numbers
 
-turned_more : (es fs : List Entry) (v : Target) → turned v (es ++ fs) ≡ turned (turned v es) fs
-turned_more [] fs v = refl
-turned_more (e ∷ es) fs v = turned_more es fs (after v e)
-
 abbrev Leaves : Target → Target → Type 0
 Leaves v w = (w.queue ≡ v.queue) × (w.number ≡ v.number)
 
@@ -399,18 +380,51 @@ sweep_raises (suc more) at w = pass_raises (row_sweep more at) (sweep_raises mor
 abbrev pub High : Target → List Entry → Type 0
 High v es = (turned v es).number ≤ 8589934591
 
+-- none of these lines is a commit, or of a life that leaves or comes
+plain_grants : (d : Deed) (locks : List Lock) (more : List Entry) → AllPlain more → AllPlain (grant_lines d locks ++ more)
+plain_grants d [] more p = p
+plain_grants d (l ∷ locks) more p = (tt, plain_grants d locks more p)
+
+plain_executes : (v : Target) (at : At) (r : RequestOf) (b : Bool) → AllPlain (row_executes v at r b)
+plain_executes v at r true = (tt, (tt, tt))
+plain_executes v at r false = let d = names_deed v at r none (rows.locks_for v r) in (tt, plain_grants d d.reply.locks (replies d ∷ []) (tt, tt))
+
+plain_blocks : (v : Target) (locks : List Lock) → AllPlain (blocks v locks)
+plain_blocks v [] = tt
+plain_blocks v (l ∷ locks) =
+    cond_both (is_called l.cookie v.called) (blocks v locks) (Block (called v l) ∷ block_of v l ∷ blocks v locks) (λ (es : List Entry). AllPlain es) (λ e. plain_blocks v locks) (λ e. (tt, (tt, plain_blocks v locks)))
+
+plain_waits : (v : Target) (r : RequestOf) → AllPlain (row_waits v r)
+plain_waits v r = cond_both (is_read r.op) [] (blocks v (in_way v.granted (rows.written_by v r))) (λ (es : List Entry). AllPlain es) (λ e. tt) (λ e. plain_blocks v (in_way v.granted (rows.written_by v r)))
+
 module _ (head : Head) (stamp : Stamp) where
   abbrev at : At
   at = turn stamp (node.Target 0)
 
-  abbrev Goes : (Target → List Entry) → Type 0
-  Goes next = (past : List Line) (v : Target) → Settled past → ServesAt head stamp v past → High v (next v) → Good head stamp past (next v)
+  abbrev Leads : List Line → List Line → Target → List Entry → Type 0
+  Leads past story v es = Reaches head stamp 0 past story v es (Serving head 0)
 
-  pass_good : (again : Target → List Entry) → Raises again → Goes again → (queue : List RequestOf) (past : List Line) (v : Target) (stood : Bool) → Settled past → ServesAt head stamp v past → ((r : RequestOf) → In r queue → In r v.queue)
-      → High v (row_pass again v at stood queue) → Good head stamp past (row_pass again v at stood queue)
-  pass_good again raises goes [] past v stood settled h sub high = settled
-  pass_good again raises goes (r ∷ queue) past v stood settled h sub high =
-      by (is_ready v stood r) refl high (λ w p s k q m. pass_good again raises goes queue p w (stood || not (is_read r.op)) s k q m)
+  abbrev Goes : (Target → List Entry) → Type 0
+  Goes next = (past story : List Line) (v : Target) → story ≡ only 0 past → Settled past → Serving head 0 v story → High v (next v) → Leads past story v (next v)
+
+  executes_leads : (past story : List Line) (v : Target) (r : RequestOf) (stood : Bool) → story ≡ only 0 past → Settled past → Serving head 0 v story → In r v.queue → is_ready v stood r ≡ true → (does_change v r ≡ true → v.number < 8589934591)
+      → Leads past story v (row_executes v at r (does_change v r))
+  executes_leads past story v r stood is settled h waits ready numbers =
+      let own = subst (λ (p : List Line). Serving head 0 v p) is h in
+      let done = executes_good head stamp past v r stood settled own waits ready numbers in
+      subst (λ (p : List Line). Leads past p v (row_executes v at r (does_change v r))) (sym is) (done, serves_lines head stamp 0 (row_executes v at r (does_change v r)) past (only 0 past) v (plain_executes v at r (does_change v r)) done own)
+
+  waits_leads : (past story : List Line) (v : Target) (r : RequestOf) → story ≡ only 0 past → Settled past → Serving head 0 v story → In r v.queue → Leads past story v (row_waits v r)
+  waits_leads past story v r is settled h waits =
+      let own = subst (λ (p : List Line). Serving head 0 v p) is h in
+      let done = waits_good head stamp past v r settled own waits in
+      subst (λ (p : List Line). Leads past p v (row_waits v r)) (sym is) (done, serves_lines head stamp 0 (row_waits v r) past (only 0 past) v (plain_waits v r) done own)
+
+  pass_good : (again : Target → List Entry) → Raises again → Goes again → (queue : List RequestOf) (past story : List Line) (v : Target) (stood : Bool) → story ≡ only 0 past → Settled past → Serving head 0 v story → ((r : RequestOf) → In r queue → In r v.queue)
+      → High v (row_pass again v at stood queue) → Leads past story v (row_pass again v at stood queue)
+  pass_good again raises goes [] past story v stood is settled h sub high = (settled, h)
+  pass_good again raises goes (r ∷ queue) past story v stood is settled h sub high =
+      by (is_ready v stood r) refl high (λ w p q e s k i m. pass_good again raises goes queue p q w (stood || not (is_read r.op)) e s k i m)
     where
       es : List Entry
       es = row_executes v at r (does_change v r)
@@ -425,7 +439,7 @@ module _ (head : Head) (stamp : Stamp) where
       waiting = sub r (inl refl)
 
       More : Type 0
-      More = (w : Target) (p : List Line) → Settled p → ServesAt head stamp w p → ((q : RequestOf) → In q queue → In q w.queue) → High w (next w) → Good head stamp p (next w)
+      More = (w : Target) (p q : List Line) → q ≡ only 0 p → Settled p → Serving head 0 w q → ((x : RequestOf) → In x queue → In x w.queue) → High w (next w) → Leads p q w (next w)
 
       -- a transaction's number is at most that at the end
       low : High (turned v es) (again (turned v es)) → does_change v r ≡ true → v.number < 8589934591
@@ -434,23 +448,23 @@ module _ (head : Head) (stamp : Stamp) where
           let two = raises (turned v es) in
           omega (arith, high, one, two)
 
-      by : (b : Bool) → is_ready v stood r ≡ b → High v (if b then follow v es again else follow v bs next) → More → Good head stamp past (if b then follow v es again else follow v bs next)
+      by : (b : Bool) → is_ready v stood r ≡ b → High v (if b then follow v es again else follow v bs next) → More → Leads past story v (if b then follow v es again else follow v bs next)
       by true ready high more =
           let rest : High (turned v es) (again (turned v es)) = subst (λ (w : Target). w.number ≤ 8589934591) (turned_more es (again (turned v es)) v) high in
-          let done = executes_good head stamp past v r stood settled h waiting ready (low rest) in
-          good_more head stamp es (again (turned v es)) past done
-          (goes (with_turn at es past) (turned v es) (good_settled head stamp es past done) (serves_lines head stamp es past v done h) rest)
+          reaches_more head stamp 0 (Serving head 0) (Serving head 0) es again past story v is
+          (executes_leads past story v r stood is settled h waiting ready (low rest))
+          (λ e s k. goes (with_turn at es past) (with_turn at es story) (turned v es) e s k rest)
       by false ready high more =
           let rest : High (turned v bs) (next (turned v bs)) = subst (λ (w : Target). w.number ≤ 8589934591) (turned_more bs (next (turned v bs)) v) high in
-          let done = waits_good head stamp past v r settled h waiting in
           let leaves = waits_leave v r in
-          good_more head stamp bs (next (turned v bs)) past done
-          (more (turned v bs) (with_turn at bs past) (good_settled head stamp bs past done) (serves_lines head stamp bs past v done h)
+          reaches_more head stamp 0 (Serving head 0) (Serving head 0) bs next past story v is
+          (waits_leads past story v r is settled h waiting)
+          (λ e s k. more (turned v bs) (with_turn at bs past) (with_turn at bs story) e s k
           (λ q i. subst (λ (rs : List RequestOf). In q rs) (sym leaves.0) (sub q (inr i))) rest)
 
   sweep_good : (more : ℕ) → Goes (row_sweep more at)
-  sweep_good zero past v settled h high = settled
-  sweep_good (suc more) past v settled h high = pass_good (row_sweep more at) (sweep_raises more at) (sweep_good more) v.queue past v false settled h (λ r i. i) high
+  sweep_good zero past story v is settled h high = (settled, h)
+  sweep_good (suc more) past story v is settled h high = pass_good (row_sweep more at) (sweep_raises more at) (sweep_good more) v.queue past story v false is settled h (λ r i. i) high
 
   pub names_good : Goes (names_go at)
-  names_good past v settled h high = sweep_good (length v.queue + 1) past v settled h high
+  names_good past story v is settled h high = sweep_good (length v.queue + 1) past story v is settled h high

@@ -1,16 +1,17 @@
--- The slot of a life and tag at a target of the whole table, entry by entry, is that of the target's story.
+-- The slot of a life and tag at a target of the whole table, entry by entry, is that of the target's story, until the life is evicted.
 use Rattle.std.proofs.Common.{◌≡◌, ℕ, Bool, true, false, List, [], ◌∷◌, Option, Some, None, refl, sym, subst, ap, ◌∙◌}
-use Rattle.std.specs.Prelude.{nat_eq, if◌then◌else◌}
-use Rattle.std.proofs.lemmas.Bool.{and_parts, eqb-true}
+use Rattle.std.specs.Prelude.{nat_eq, not, if◌then◌else◌}
+use Rattle.std.proofs.lemmas.Bool.{cond-false, and_parts, or_parts, eqb-true}
 use Rattle.lu_base.specs.declared.ids.Who.{Who}
 use Rattle.lu_msg.specs.declared.messages.Reply.{Reply as ReplyTo}
 use Rattle.lu_msg.specs.declared.messages.Request.{Request as RequestOf}
 use Rattle.lu_words.specs.Carried.{Deed, Slot, LifeSlot}
 use Rattle.lu_words.specs.Words.{Line, same_life}
-use Rattle.lu_target_rows.specs.Lives.{slot_in, with_slot, slots_entered, slots_answered}
+use Rattle.lu_target_rows.specs.Lives.{is_life, with_lives, slot_in, with_slot, slots_without, slots_entered, slots_answered}
 use Rattle.lu_covered.specs.TargetParts.{is_slot_of as is_slot}
 use Rattle.lu_covered.specs.TargetStates.{slot_of}
 use Rattle.lu_guards.proofs.Lists.{self, life_is}
+use Rattle.lu_guards.proofs.LifeLists.{any_lives}
 
 -- ---- two lives and tags are one, or not
 
@@ -63,36 +64,36 @@ pick a b who tag x y old new same rest = by (is_slot a b who tag) (is_slot who t
     by false true p q = absurd (differ who a tag b q p)
     by false false p q = rest
 
--- ---- the slots of a state are those of a story
+-- ---- the slots of a state are those of a story, but for lives that were evicted: the story keeps theirs
 
-abbrev pub SlotsAlike : List LifeSlot → List Line → Type 0
-SlotsAlike slots past = (who : Who) (tag : ℕ) → slot_in slots who tag ≡ slot_of who tag past
+abbrev pub SlotsAlike : List LifeSlot → (removed : List Who) → List Line → Type 0
+SlotsAlike slots removed past = (who : Who) (tag : ℕ) → is_life who removed ≡ false → slot_in slots who tag ≡ slot_of who tag past
 
 abbrev with_reply : Option ReplyTo → Slot → Slot
 with_reply reply slot = record { taken = slot.taken; reply = reply }
 
-pub slots_enter : (slots : List LifeSlot) (past : List Line) (r : RequestOf) → SlotsAlike slots past → (who : Who) (tag : ℕ)
+pub slots_enter : (slots : List LifeSlot) (past : List Line) (r : RequestOf) (who : Who) (tag : ℕ) → slot_in slots who tag ≡ slot_of who tag past
     → slot_in (slots_entered r slots) who tag ≡ (if is_slot who tag r.who r.tag then record { taken = r.xid.0; reply = None } else slot_of who tag past)
-slots_enter slots past r h who tag =
+slots_enter slots past r who tag h =
     let x : Slot = record { taken = r.xid.0; reply = None } in
-    slot_with r.who r.tag x slots who tag ∙ pick r.who r.tag who tag x x (slot_in slots who tag) (slot_of who tag past) (λ p q. refl) (h who tag)
+    slot_with r.who r.tag x slots who tag ∙ pick r.who r.tag who tag x x (slot_in slots who tag) (slot_of who tag past) (λ p q. refl) h
 
-pub slots_answer : (slots : List LifeSlot) (past : List Line) (d : Deed) → SlotsAlike slots past → (who : Who) (tag : ℕ)
+pub slots_answer : (slots : List LifeSlot) (past : List Line) (d : Deed) (who : Who) (tag : ℕ) → slot_in slots who tag ≡ slot_of who tag past
     → slot_in (slots_answered d slots) who tag ≡ (if is_slot who tag d.reply.who d.tag then with_reply (Some d.reply) (slot_of who tag past) else slot_of who tag past)
-slots_answer slots past d h who tag =
+slots_answer slots past d who tag h =
     let x : Slot = with_reply (Some d.reply) (slot_in slots d.reply.who d.tag) in
     let y : Slot = with_reply (Some d.reply) (slot_of who tag past) in
     slot_with d.reply.who d.tag x slots who tag
-    ∙ pick d.reply.who d.tag who tag x y (slot_in slots who tag) (slot_of who tag past) (λ p q. ap (with_reply (Some d.reply)) (same p q)) (h who tag)
+    ∙ pick d.reply.who d.tag who tag x y (slot_in slots who tag) (slot_of who tag past) (λ p q. ap (with_reply (Some d.reply)) (same p q)) h
   where
     same : who ≡ d.reply.who → tag ≡ d.tag → slot_in slots d.reply.who d.tag ≡ slot_of who tag past
     same p q =
-        let of_tag : slot_in slots who d.tag ≡ slot_of who tag past = subst (λ (u : ℕ). slot_in slots who u ≡ slot_of who tag past) q (h who tag) in
+        let of_tag : slot_in slots who d.tag ≡ slot_of who tag past = subst (λ (u : ℕ). slot_in slots who u ≡ slot_of who tag past) q h in
         subst (λ (w : Who). slot_in slots w d.tag ≡ slot_of who tag past) p of_tag
 
 -- a reply that stands there already changes nothing
-pub slots_again : (slots : List LifeSlot) (past : List Line) (d : Deed) → (slot_of d.reply.who d.tag past).reply ≡ Some d.reply → SlotsAlike slots past → SlotsAlike (slots_answered d slots) past
-slots_again slots past d stands h who tag = slots_answer slots past d h who tag ∙ by (is_slot who tag d.reply.who d.tag) refl
+pub slots_again : (slots : List LifeSlot) (removed : List Who) (past : List Line) (d : Deed) → (slot_of d.reply.who d.tag past).reply ≡ Some d.reply → SlotsAlike slots removed past → SlotsAlike (slots_answered d slots) removed past
+slots_again slots removed past d stands h who tag live = slots_answer slots past d who tag (h who tag live) ∙ by (is_slot who tag d.reply.who d.tag) refl
   where
     by : (b : Bool) → is_slot who tag d.reply.who d.tag ≡ b → (if b then with_reply (Some d.reply) (slot_of who tag past) else slot_of who tag past) ≡ slot_of who tag past
     by false e = refl
@@ -101,3 +102,22 @@ slots_again slots past d stands h who tag = slots_answer slots past d h who tag 
         let of_tag : (slot_of d.reply.who tag past).reply ≡ Some d.reply = subst (λ (u : ℕ). (slot_of d.reply.who u past).reply ≡ Some d.reply) (sym k.1) stands in
         let own : (slot_of who tag past).reply ≡ Some d.reply = subst (λ (w : Who). (slot_of w tag past).reply ≡ Some d.reply) (sym k.0) of_tag in
         ap (λ (x : Option ReplyTo). with_reply x (slot_of who tag past)) (sym own)
+
+-- the slots of lives that leave go
+slot_left : (gone : List Who) (slots : List LifeSlot) (who : Who) (tag : ℕ) → is_life who gone ≡ false → slot_in (slots_without gone slots) who tag ≡ slot_in slots who tag
+slot_left gone [] who tag live = refl
+slot_left gone (s ∷ slots) who tag live = by (is_life s.who gone) refl (slot_left gone slots who tag live)
+  where
+    by : (b : Bool) → is_life s.who gone ≡ b → slot_in (slots_without gone slots) who tag ≡ slot_in slots who tag
+        → slot_in (if not b then s ∷ slots_without gone slots else slots_without gone slots) who tag ≡ (if is_slot s.who s.tag who tag then s.slot else slot_in slots who tag)
+    by false e ih = ap (λ (x : Slot). if is_slot s.who s.tag who tag then s.slot else x) ih
+    by true e ih = ih ∙ sym (cond-false (is_slot s.who s.tag who tag) s.slot (slot_in slots who tag) (other (is_slot s.who s.tag who tag) refl))
+      where
+        other : (b : Bool) → is_slot s.who s.tag who tag ≡ b → b ≡ false
+        other false q = refl
+        other true q = let k = slot_who s.who who s.tag tag q in let in_gone : is_life who gone ≡ true = subst (λ (w : Who). is_life w gone ≡ true) k.0 e in absurd (cc)
+
+pub slots_leave : (gone : List Who) (slots : List LifeSlot) (removed : List Who) (past : List Line) → SlotsAlike slots removed past → SlotsAlike (slots_without gone slots) (with_lives gone removed) past
+slots_leave gone slots removed past h who tag live =
+    let p = or_parts (is_life who gone) (is_life who removed) (sym (any_lives (same_life who) gone removed) ∙ live) in
+    slot_left gone slots who tag p.0 ∙ h who tag p.1

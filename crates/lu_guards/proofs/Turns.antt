@@ -3,13 +3,14 @@ use Rattle.std.proofs.Common.{◌≡◌, ℕ, Bool, true, false, List, [], ◌�
 use Rattle.std.specs.Prelude.{if◌then◌else◌}
 use Rattle.std.proofs.lemmas.Bool.{cond-true}
 use Rattle.lu_base.specs.declared.ids.At.{At}
-use Rattle.lu_words.specs.Words.{Entry, Begin, Pins, Act, Txn, Grant, Line, line, with_turn, turn_before}
+use Rattle.lu_words.specs.Words.{Entry, Begin, Unbinds, Pins, Act, Txn, Grant, Line, line, with_turn, turn_before}
 use Rattle.lu_words.specs.Concerns.{concerns, only, about}
 use Rattle.lu_table.specs.Runs.{Turn, lines_of, Follows, IsRun}
 use Rattle.lu_table.specs.Heads as table
 use Rattle.lu_covered.specs.Heads.{Head}
-use Rattle.lu_guards.proofs.Guards.{Later, Steps, EntryOk, EntryOf, Owes, LivesAt, Grown}
+use Rattle.lu_guards.proofs.Guards.{Later, Steps, Ending, Closes, EntryOk, EntryOf, Owes, LivesAt, Grown}
 use Rattle.lu_guards.proofs.Lists.{turn_trans}
+use Rattle.lu_guards.proofs.Ends.{closes_after}
 
 -- the numbers of a run that the theorem knows
 abbrev pub covered_head : table.Head → Head
@@ -22,6 +23,7 @@ Quiet (Act d) = ⊥
 Quiet (Txn d) = ⊥
 Quiet (Grant lock asked) = ⊥
 Quiet (Begin slot running) = ⊥
+Quiet (Unbinds handle) = ⊥
 Quiet (Pins name) = ⊥
 Quiet _ = Unit {0}
 
@@ -38,6 +40,7 @@ owes_nothing (l ∷ past) at e s = by l.entry s
     by (Txn d) q = absurd q
     by (Grant lock asked) q = absurd q
     by (Begin slot running) q = absurd q
+    by (Unbinds handle) q = absurd q
     by (Pins name) q = absurd q
     by _ q = tt
 
@@ -75,9 +78,9 @@ pub record RowOk (head : Head) (past : List Line) (at : At) (es : List Entry) : 
 
 -- ---- a turn on a grown past
 
-grows : (head : Head) (at : At) (es : List Entry) (past : List Line) → Grown head past → Steps past at → AllPaid past at es → AllOk head past at es → ((t : ℕ) → AllOf head (only t past) at (about t at.node es)) → Grown head (with_turn at es past)
-grows head at [] past g s p a b = g
-grows head at (e ∷ es) past g s p a b = grows head at es (line at e ∷ past) (record { steps = s; lives = a.0; owes = p.0; ok = a.1; of = first }, g) (inl refl) p.1 a.2 (λ t. more t (concerns t at.node e) (b t))
+grows : (head : Head) (at : At) (es : List Entry) (past : List Line) → Grown head past → Steps past at → Closes past at → AllPaid past at es → AllOk head past at es → ((t : ℕ) → AllOf head (only t past) at (about t at.node es)) → Grown head (with_turn at es past)
+grows head at [] past g s x p a b = g
+grows head at (e ∷ es) past g s x p a b = grows head at es (line at e ∷ past) (record { steps = s; closes = x; lives = a.0; owes = p.0; ok = a.1; of = first }, g) (inl refl) (inl refl) p.1 a.2 (λ t. more t (concerns t at.node e) (b t))
   where
     first : (t : ℕ) → concerns t at.node e ≡ true → EntryOf head (only t past) at at.node e
     first t q = (subst (λ (fs : List Entry). AllOf head (only t past) at fs) (cond-true (concerns t at.node e) (e ∷ about t at.node es) (about t at.node es) q) (b t)).0
@@ -91,8 +94,8 @@ pub steps_after : (past : List Line) (at : At) → Later past at → Steps past 
 steps_after [] at l = tt
 steps_after (x ∷ past) at l = inr l
 
-pub turn_grows : (head : Head) (past : List Line) (at : At) (es : List Entry) → Grown head past → Later past at → RowOk head past at es → Grown head (with_turn at es past)
-turn_grows head past at es g later r = grows head at es past g (steps_after past at later) r.paid r.ok r.of
+pub turn_grows : (head : Head) (past : List Line) (at : At) (es : List Entry) → Grown head past → Later past at → ((c : ℕ) → Ending past c → ⊥) → RowOk head past at es → Grown head (with_turn at es past)
+turn_grows head past at es g later closed r = grows head at es past g (steps_after past at later) (closes_after past at closed) r.paid r.ok r.of
 
 -- ---- turns of a run stand in order
 

@@ -1,32 +1,25 @@
 -- The law of acts holds of the printed past of every grown one, for all lives that will be out and all numbers
 -- that will be lost, as far as none of a deed that is told is.
 use Rattle.std.proofs.Common.{◌≡◌, ℕ, suc, ◌≤◌, Bool, List, [], ◌∷◌, ◌⊎◌, inl, inr, ⊎_elim, refl, sym, subst, ap, ◌∙◌, arith}
-use Rattle.std.specs.Prelude.{nat_eq, not, ◌&&◌, ◌||◌, Option, Some, None, true, false, if◌then◌else◌}
+use Rattle.std.specs.Prelude.{nat_eq, not, ◌&&◌, ◌||◌, true, false}
 use Rattle.lu_trace.specs.declared.entries.Entry.TheVariants as trace
 use Rattle.std.proofs.lemmas.Bool.{and_parts, cond_both, eqb-true}
 use Rattle.lu_base.specs.declared.ids.At.{At}
 use Rattle.lu_base.specs.declared.ids.Node.{Node}
-use Rattle.lu_base.specs.declared.ids.Node.TheVariants.{Client, Target}
+use Rattle.lu_base.specs.declared.ids.Node.TheVariants.{Target}
 use Rattle.lu_base.specs.declared.ids.Who.{Who}
-use Rattle.lu_msg.specs.declared.messages.Reply.{Reply as ReplyTo}
 use Rattle.lu_machine.specs.Tree.{same_life}
-use Rattle.lu_words.specs.Carried.{Deed, Flight}
-use Rattle.lu_words.specs.Words.{Entry, Heard, Told, Act, Txn as Made, Line, line}
-use Rattle.lu_words.specs.Concerns.{concerns, only}
+use Rattle.lu_words.specs.Carried.{Deed}
+use Rattle.lu_words.specs.Words.{Entry, Act, Txn as Made, Line, line}
 use Rattle.lu_words.specs.Printed.{printed}
-use Rattle.lu_covered.specs.Calls.{first_life}
 use Rattle.lu_covered.specs.Heads.{Head}
 use Rattle.lu_laws.specs.Words.Pasts as pasts
-use Rattle.lu_laws.specs.Words.Lives.{is_by}
-use Rattle.lu_laws.specs.Words.Calls.{heard_in}
-use Rattle.lu_laws.specs.Laws.Acts.{acts_there, acted, made, standing_count, is_number, tells_with, told_with}
+use Rattle.lu_laws.specs.Laws.Acts.{acts_there, acted, made, standing_count}
 use Rattle.lu_lawful.specs.Fits.{ReplyStands}
 use Rattle.lu_guards.proofs.Guards.{Allowed, Grown}
-use Rattle.lu_guards.proofs.Lists.{self, life_is}
-use Rattle.lu_facts.proofs.Groups.{turn, Acted, Hears}
-use Rattle.lu_lawful.proofs.Story.{about_it}
+use Rattle.lu_guards.proofs.Lists.{self, life_is, or_left, or_right}
+use Rattle.lu_facts.proofs.Groups.{Acted}
 use Rattle.lu_lawful.proofs.Once.{NoneFor, act_now, txn_now}
-use Rattle.lu_lawful.proofs.Turns.{same_turn_is}
 
 -- ---- each request acts once in the whole trace
 
@@ -91,17 +84,9 @@ module _ (lost : ℕ → ℕ → Bool) (who : Who) (x : ℕ) where
 
 -- ---- an act of the printed past is one of the full one
 
-either : (a b : Bool) → (a || b) ≡ true → (a ≡ true) ⊎ (b ≡ true)
+pub either : (a b : Bool) → (a || b) ≡ true → (a ≡ true) ⊎ (b ≡ true)
 either true b e = inl refl
 either false b e = inr e
-
-pub or_left : (a b : Bool) → a ≡ true → (a || b) ≡ true
-or_left true b e = refl
-or_left false b e = absurd (cc)
-
-pub or_right : (a b : Bool) → b ≡ true → (a || b) ≡ true
-or_right true b e = refl
-or_right false b e = e
 
 pub act_for : (past : List Line) (named : At) (who : Who) (x : ℕ) → acted (printed past) named who x ≡ true → ActFor past who x
 act_for [] named who x a = absurd (cc)
@@ -158,60 +143,3 @@ acted_in head lost (l ∷ past) g d a s = by l.entry g.0 (λ i. acted_in head lo
     by _ ok h a = h a
 
 -- ---- what was heard
-
-hears_more : (l : Line) (past : List Line) (c x : ℕ) → Hears past c x → Hears (l ∷ past) c x
-hears_more l past c x h = by l.entry
-  where
-    by : (e : Entry) → Hears (line l.at e ∷ past) c x
-    by (Heard t f r) = inr h
-    by _ = h
-
-pub hears_on : (l : Line) (past : List Line) (c x : ℕ) → Hears (only 0 past) c x → Hears (only 0 (l ∷ past)) c x
-hears_on l past c x h = cond_both (concerns 0 l.at.node l.entry) (l ∷ only 0 past) (only 0 past) (λ (p : List Line). Hears p c x) (λ t. hears_more l (only 0 past) c x h) (λ t. h)
-
-heard_hears : (head : Head) (past : List Line) → Grown head past → (at : At) (c x : ℕ) → at.node ≡ Client c → heard_in (printed past) at ≡ Some x → Hears (only 0 past) c x
-heard_hears head [] g at c x n i = absurd (cc)
-heard_hears head (l ∷ past) g at c x n i = by l.at.node l.entry g.0 i (heard_hears head past g.1 at c x n)
-  where
-    here : (d t : ℕ) (f : Flight) (r : ReplyTo) → t ≡ 0 → f.xid ≡ r.xid.0 → turn l.at.stamp (Client d) ≡ at → r.xid.0 ≡ x → Hears (only 0 (line (turn l.at.stamp (Client d)) (Heard t f r) ∷ past)) c x
-    here d t f r z y a e =
-        subst (λ (v : ℕ). Hears (only 0 (line (turn l.at.stamp (Client d)) (Heard v f r) ∷ past)) c x) (sym z) (inl (ap (λ (v : At). v.node) a ∙ n, y ∙ e))
-
-    new : (d t : ℕ) (f : Flight) (r : ReplyTo) (was : Option ℕ) (b : Bool) → t ≡ 0 → f.xid ≡ r.xid.0 → heard_in (printed past) at ≡ was → (pasts.same_turn (turn l.at.stamp (Client d)) at && nat_eq t 0) ≡ b
-        → (heard_in (printed past) at ≡ Some x → Hears (only 0 past) c x) → pasts.or_else was (if b then Some r.xid.0 else None) ≡ Some x → Hears (only 0 (line (turn l.at.stamp (Client d)) (Heard t f r) ∷ past)) c x
-    new d t f r (Some y) b z e w q h i = hears_on (line (turn l.at.stamp (Client d)) (Heard t f r)) past c x (h (w ∙ i))
-    new d t f r None true z e w q h i =
-        let at_is = same_turn_is (turn l.at.stamp (Client d)) at (and_parts (pasts.same_turn (turn l.at.stamp (Client d)) at) _ q).0 in
-        let same : r.xid.0 ≡ x = cc in
-        here d t f r z e at_is same
-    new d t f r None false z e w q h i = absurd (cc)
-
-    by : (node : Node) (e : Entry) → Allowed head past (turn l.at.stamp node) e → heard_in (printed (line (turn l.at.stamp node) e ∷ past)) at ≡ Some x → (heard_in (printed past) at ≡ Some x → Hears (only 0 past) c x)
-        → Hears (only 0 (line (turn l.at.stamp node) e ∷ past)) c x
-    by (Target t) (Heard u f r) k i h = absurd k.ok
-    by (Client d) (Heard t f r) k i h = new d t f r (heard_in (printed past) at) (pasts.same_turn (turn l.at.stamp (Client d)) at && nat_eq t 0) k.ok.0 (k.of 0 (about_it t k.ok.0)).xid refl refl h i
-    by node e k i h = hears_on (line (turn l.at.stamp node) e) past c x (h i)
-
--- what was told of a number was heard
-pub told_hears : (head : Head) (past : List Line) → Grown head past → (c x : ℕ) → told_with (printed past) (first_life c) x ≡ true → Hears (only 0 past) c x
-told_hears head [] g c x i = absurd (cc)
-told_hears head (l ∷ past) g c x i = by l.entry (told_hears head past g.1 c x) i
-  where
-    number_is : (o : Option ℕ) → is_number x o ≡ true → o ≡ Some x
-    number_is None e = absurd (cc)
-    number_is (Some y) e = ap (λ (v : ℕ). Some v) (eqb-true y x e)
-
-    client_is : (n : Node) → pasts.is_client c n ≡ true → n ≡ Client c
-    client_is (Client d) e = ap Client (eqb-true d c e)
-    client_is (Target t) e = absurd (cc)
-
-    by : (e : Entry) → (told_with (printed past) (first_life c) x ≡ true → Hears (only 0 past) c x) → told_with (printed (line l.at e ∷ past)) (first_life c) x ≡ true → Hears (only 0 (line l.at e ∷ past)) c x
-    by (Told slot named given work) h i = hears_on (line l.at (Told slot named given work)) past c x (⊎_elim
-        (λ (p : (is_by (first_life c) (printed past) l.at.node && not (pasts.same_turn named l.at) && is_number x (heard_in (printed past) l.at)) ≡ true).
-        let q = and_parts (is_by (first_life c) (printed past) l.at.node && not (pasts.same_turn named l.at)) _ p in
-        let r = and_parts (is_by (first_life c) (printed past) l.at.node) _ q.0 in
-        let o = and_parts (pasts.is_client c l.at.node) _ r.0 in
-        heard_hears head past g.1 l.at c x (client_is l.at.node o.0) (number_is (heard_in (printed past) l.at) q.1))
-        (λ (p : told_with (printed past) (first_life c) x ≡ true). h p)
-        (either (tells_with (first_life c) x (printed past) (record { at = l.at; entry = trace.Told slot named given })) (told_with (printed past) (first_life c) x) i))
-    by e h i = hears_on (line l.at e) past c x (h i)

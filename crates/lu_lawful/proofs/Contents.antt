@@ -1,23 +1,24 @@
--- What the laws read in the printed past of a run: no target has booted again or lost anything, no
--- life has ended, and the metadata target's contents are its tree.
-use Rattle.std.proofs.Common.{◌≡◌, ℕ, ◌+◌, ◌*◌, ◌/◌, ◌<◌, ◌≤◌, max, Bool, true, false, List, [], ◌∷◌, refl, sym, subst, ap, ◌∙◌, arith}
-use Rattle.std.specs.Prelude.{not, ◌&&◌}
+-- What the laws read in the printed past of a run: no target has booted again or lost anything, and the metadata target's contents
+-- are its tree.
+use Rattle.std.proofs.Common.{◌≡◌, ℕ, ◌+◌, ◌*◌, ◌/◌, ◌<◌, ◌≤◌, max, Bool, true, false, List, [], ◌∷◌, Option, Some, refl, sym, subst, ap, ◌∙◌, arith}
+use Rattle.std.specs.Prelude.{nat_eq, not, ◌&&◌, if◌then◌else◌, unwrap_or}
 use Rattle.std.proofs.lemmas.Bool.{cond-true, lt-ltb}
 use Rattle.lu_base.specs.declared.ids.At.{At}
 use Rattle.lu_base.specs.declared.ids.Node.{Node}
 use Rattle.lu_base.specs.declared.ids.Node.TheVariants.{Client, Target}
 use Rattle.lu_base.specs.declared.ids.Stamp.{Stamp}
-use Rattle.lu_base.specs.declared.ids.Who.{Who}
-use Rattle.lu_machine.specs.Footprint.{after}
+use Rattle.lu_base.specs.declared.ids.Txn.{Txn}
+use Rattle.lu_machine.specs.Footprint.{after, forget}
+use Rattle.lu_machine.specs.Tree.{Tree}
 use Rattle.lu_words.specs.Carried.{Deed}
-use Rattle.lu_words.specs.Words.{Entry, Life, Act, Txn as Made, Commit, Crash, Boot, Close, Evict, Fail, Line, line}
+use Rattle.lu_words.specs.Words.{Entry, Act, Txn as Made, Commit, Crash, Boot, Close, Evict, Fail, Line, line}
 use Rattle.lu_words.specs.Printed.{printed}
 use Rattle.lu_covered.specs.TargetParts.{operation}
 use Rattle.lu_covered.specs.TargetStates.{boot_at, count_at, committed_at, tree_at, server_at}
 use Rattle.lu_covered.specs.Heads.{Head}
-use Rattle.lu_laws.specs.Words.Pasts.{is_target}
-use Rattle.lu_laws.specs.Words.Lives.{life, is_gone}
-use Rattle.lu_laws.specs.Words.Boots.{boot, committed, greatest, is_recovering}
+use Rattle.lu_laws.specs.Words.Pasts.{is_target, or_else}
+use Rattle.lu_laws.specs.Words.Scopes.{only_here, last_at}
+use Rattle.lu_laws.specs.Words.Boots.{boot, committed_to, committed, greatest, is_recovering}
 use Rattle.lu_laws.specs.Words.Lost.{Loss, losses, numbers_of, is_among, is_lost}
 use Rattle.lu_laws.specs.Words.Standing as standing
 use Rattle.lu_laws.specs.Words.Requests.{asked}
@@ -28,32 +29,47 @@ use Rattle.lu_facts.proofs.Groups.{turn}
 use Rattle.lu_facts.proofs.All.{holds}
 use Rattle.lu_lawful.proofs.Facts.{AskedAt, AllAsked}
 use Rattle.lu_lawful.proofs.Deeds.{TxnIs, txn_is}
+use Rattle.lu_lawful.proofs.Printed.{flip}
 
 -- ---- what never happens
 
+abbrev txn : ℕ → Txn
+txn n = record { 0 = n }
+
 module _ (head : Head) where
-  pub boot_is : (past : List Line) → Grown head past → boot 0 (printed past) ≡ 1
-  boot_is [] g = refl
-  boot_is (l ∷ past) g = by l.at.node l.entry g.0.ok (boot_is past g.1)
+  pub boots_are : (t : ℕ) (past : List Line) → Grown head past → boot t (printed past) ≡ 1
+  boots_are t [] g = refl
+  boots_are t (l ∷ past) g = by l.at.node l.entry g.0.ok (boots_are t past g.1)
     where
-      by : (node : Node) (e : Entry) → EntryOk past (turn l.at.stamp node) node e → boot 0 (printed past) ≡ 1 → boot 0 (printed (line (turn l.at.stamp node) e ∷ past)) ≡ 1
+      by : (node : Node) (e : Entry) → EntryOk past (turn l.at.stamp node) node e → boot t (printed past) ≡ 1 → boot t (printed (line (turn l.at.stamp node) e ∷ past)) ≡ 1
       by (Client c) (Boot b disk) ok h = absurd ok
-      by (Target t) (Boot b disk) ok h = absurd ok
+      by (Target u) (Boot b disk) ok h = absurd ok
       by _ _ ok h = h
 
-  -- the committed number is the metadata target's
-  pub committed_is : (past : List Line) → Grown head past → committed 0 (printed past) ≡ (committed_at 0 past).0
-  committed_is [] g = refl
-  committed_is (l ∷ past) g = by l.at.node l.entry g.0.ok (committed_is past g.1)
+  pub boot_is : (past : List Line) → Grown head past → boot 0 (printed past) ≡ 1
+  boot_is past g = boots_are 0 past g
+
+  -- the committed number is the target's
+  pub commits_are : (t : ℕ) (past : List Line) → Grown head past → committed t (printed past) ≡ (committed_at t past).0
+  commits_are t [] g = refl
+  commits_are t (l ∷ past) g = by l.at.node l.entry g.0.ok (commits_are t past g.1)
     where
-      by : (node : Node) (e : Entry) → EntryOk past (turn l.at.stamp node) node e → committed 0 (printed past) ≡ (committed_at 0 past).0
-          → committed 0 (printed (line (turn l.at.stamp node) e ∷ past)) ≡ (committed_at 0 (line (turn l.at.stamp node) e ∷ past)).0
+      by : (node : Node) (e : Entry) → EntryOk past (turn l.at.stamp node) node e → committed t (printed past) ≡ (committed_at t past).0
+          → committed t (printed (line (turn l.at.stamp node) e ∷ past)) ≡ (committed_at t (line (turn l.at.stamp node) e ∷ past)).0
       by (Client c) (Commit to batch) ok h = absurd ok
-      by (Target t) (Commit to batch) ok h =
-          subst (λ (v : ℕ). committed 0 (printed (line (turn l.at.stamp (Target v)) (Commit to batch) ∷ past)) ≡ (committed_at 0 (line (turn l.at.stamp (Target v)) (Commit to batch) ∷ past)).0) (sym ok.0) refl
+      by (Target u) (Commit to batch) ok h = of (nat_eq u t) (nat_eq t u) (last_at committed_to t (printed past)) (flip u t) h
+        where
+          of : (a b : Bool) (o : Option ℕ) → a ≡ b → unwrap_or o 0 ≡ (committed_at t past).0 → unwrap_or (or_else (only_here (Some to) a) o) 0 ≡ (if b then txn to else committed_at t past).0
+          of true true o q h = refl
+          of false false o q h = h
+          of true false o q h = absurd (cc)
+          of false true o q h = absurd (cc)
       by (Client c) (Boot boot disk) ok h = absurd ok
-      by (Target t) (Boot boot disk) ok h = absurd ok
+      by (Target u) (Boot boot disk) ok h = absurd ok
       by _ _ ok h = h
+
+  pub committed_is : (past : List Line) → Grown head past → committed 0 (printed past) ≡ (committed_at 0 past).0
+  committed_is past g = commits_are 0 past g
 
   no_losses : (t : ℕ) (past : List Line) → Grown head past → losses t (printed past) ≡ []
   no_losses t [] g = refl
@@ -81,24 +97,6 @@ module _ (head : Head) where
       by (Target u) (Close outcome) ok h = absurd ok
       by (Client c) Crash ok h = absurd ok
       by (Target u) Crash ok h = absurd ok
-      by _ _ ok h = h
-
-  pub life_stays : (c : ℕ) (past : List Line) → Grown head past → life c (printed past) ≡ 1
-  life_stays c [] g = refl
-  life_stays c (l ∷ past) g = by l.at.node l.entry g.0.ok (life_stays c past g.1)
-    where
-      by : (node : Node) (e : Entry) → EntryOk past (turn l.at.stamp node) node e → life c (printed past) ≡ 1 → life c (printed (line (turn l.at.stamp node) e ∷ past)) ≡ 1
-      by (Client d) (Life who) ok h = absurd ok
-      by (Target t) (Life who) ok h = absurd ok
-      by _ _ ok h = h
-
-  pub none_gone : (past : List Line) (who : Who) → Grown head past → is_gone (printed past) who ≡ false
-  none_gone [] who g = refl
-  none_gone (l ∷ past) who g = by l.at.node l.entry g.0.ok (none_gone past who g.1)
-    where
-      by : (node : Node) (e : Entry) → EntryOk past (turn l.at.stamp node) node e → is_gone (printed past) who ≡ false → is_gone (printed (line (turn l.at.stamp node) e ∷ past)) who ≡ false
-      by (Client c) (Evict other cause) ok h = absurd ok
-      by (Target t) (Evict other cause) ok h = absurd ok
       by _ _ ok h = h
 
 -- ---- numbers: a boot has fewer than 2 ^ 32 of them
@@ -161,7 +159,9 @@ module _ (head : Head) (lost : ℕ → Bool) (none : (n : ℕ) → lost n ≡ fa
           subst (λ (v : ℕ). standing.tree_of head.osts lost (printed (line (turn l.at.stamp (Target v)) (Made d) ∷ past)) ≡ tree_at head.osts 0 (line (turn l.at.stamp (Target v)) (Made d) ∷ past)) (sym k.ok)
           (stands_made past l.at.stamp d g.1 (subst (λ (v : ℕ). TxnIs head.osts (server_at head.osts 0 past) (turn l.at.stamp (Target v)) d) k.ok is) a.0 h)
       at (Client c) (Evict who cause) k a h = absurd k.ok
-      at (Target t) (Evict who cause) k a h = absurd k.ok
+      at (Target t) (Evict who cause) k a h =
+          ap (λ (b : Bool). if b then forget (standing.tree_of head.osts lost (printed past)) who else standing.tree_of head.osts lost (printed past)) (flip t 0)
+          ∙ ap (λ (v : Tree). if nat_eq 0 t then forget v who else v) h
       at _ _ k a h = h
 
 -- the contents are the target's tree

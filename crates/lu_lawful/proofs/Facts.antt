@@ -1,21 +1,25 @@
 -- What the laws rest on, line by line: the operation of each deed is that of the first request sent with its
--- number; and what is told is the answer of a deed that is heard in that turn, or what the client knew when its call began.
+-- number; and what is told is the answer of a deed that is heard in that turn, or what the client knew when its call began, or
+-- that the life is over, or that the call's handle is bad.
 use Rattle.std.proofs.Common.{◌≡◌, ℕ, true, false, List, [], ◌∷◌, Some, ◌⊎◌}
 use Rattle.lu_base.specs.declared.ids.At.{At}
 use Rattle.lu_base.specs.declared.ids.Node.{Node}
 use Rattle.lu_base.specs.declared.ids.Node.TheVariants.{Client, Target}
 use Rattle.lu_msg.specs.declared.answers.Answer.{Answer}
+use Rattle.lu_msg.specs.declared.answers.Answer.TheVariants as told
+use Rattle.lu_msg.specs.declared.answers.Errno.TheVariants.{EBADF, EIO}
 use Rattle.lu_msg.specs.declared.messages.Reply.{Reply as ReplyTo}
-use Rattle.lu_words.specs.Carried.{Deed, Flight, Running}
+use Rattle.lu_words.specs.Carried.{Deed, Flight, Bad, Running}
 use Rattle.lu_words.specs.Words.{Entry, Told, Act, Txn as Made, Line, line}
 use Rattle.lu_words.specs.Printed.{printed}
-use Rattle.lu_covered.specs.Calls.{first_life, call_at}
+use Rattle.lu_covered.specs.Calls.{call_at, life_at}
 use Rattle.lu_covered.specs.Known.{notes_at, known_answer}
 use Rattle.lu_laws.specs.Words.Pasts.{same_turn}
 use Rattle.lu_laws.specs.Words.Calls.{heard_in}
 use Rattle.lu_laws.specs.Words.Requests.{asked}
+use Rattle.lu_guards.proofs.Guards.{Noticed}
 use Rattle.lu_facts.proofs.Groups.{Acted}
-use Rattle.lu_facts.proofs.OnNames.{IsPlain}
+use Rattle.lu_facts.proofs.OnNames.{IsPlain, told_so}
 use Rattle.lu_facts.proofs.Known.{HeardBy}
 
 abbrev pub AskedAt : List Line → Deed → Type 0
@@ -31,16 +35,16 @@ AnswersAt past at c named given =
     record {
       deed : Deed;
       acted : Acted past deed;
-      who : deed.reply.who ≡ first_life c;
+      who : deed.reply.who ≡ life_at c past;
       turn : deed.reply.at ≡ named;
-      answer : deed.reply.answer ≡ given;
+      answer : told_so deed.reply.answer ≡ given;
       heard : heard_in (printed past) at ≡ Some deed.reply.xid.0;
       other : same_turn named at ≡ false;
       flight : Flight;
       reply : ReplyTo;
       hears : HeardBy past c flight reply;
       is : record deed.reply { committed = reply.committed } ≡ reply;
-      plain : IsPlain given;
+      plain : IsPlain deed.reply.answer;
     }
 
 -- of a call whose answer its client knew: it began in this turn
@@ -55,8 +59,33 @@ KnewAt past at c slot named given =
       own : same_turn named at ≡ true;
     }
 
+-- of a call that its life doesn't outlive: this turn took the notice of its eviction
+abbrev pub EndsAt : List Line → At → (c slot : ℕ) → At → Answer → Type 0
+EndsAt past at c slot named given =
+    record {
+      running : Running;
+      call : call_at c slot past ≡ Some running;
+      notice : Noticed past at (life_at c past);
+      answer : given ≡ told.Refused EIO;
+      turn : named ≡ at;
+      own : same_turn named at ≡ true;
+    }
+
+-- of a call that began on a bad handle in this turn
+abbrev pub BadAt : List Line → At → (c slot : ℕ) → At → Answer → Type 0
+BadAt past at c slot named given =
+    record {
+      running : Running;
+      call : call_at c slot past ≡ Some running;
+      bad : running.stage ≡ Bad;
+      begun : running.at ≡ at;
+      answer : given ≡ told.Refused EBADF;
+      turn : named ≡ at;
+      own : same_turn named at ≡ true;
+    }
+
 abbrev pub TellsAt : List Line → At → Node → (slot : ℕ) → At → Answer → Type 0
-TellsAt past at (Client c) slot named given = AnswersAt past at c named given ⊎ KnewAt past at c slot named given
+TellsAt past at (Client c) slot named given = AnswersAt past at c named given ⊎ KnewAt past at c slot named given ⊎ EndsAt past at c slot named given ⊎ BadAt past at c slot named given
 TellsAt past at (Target t) slot named given = Unit {0}
 
 abbrev pub AllTold : List Line → Type 0

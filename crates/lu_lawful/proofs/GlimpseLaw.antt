@@ -1,5 +1,5 @@
--- The law of glimpses: so far nobody is told sizes, since what is told is the answer of an operation on names.
-use Rattle.std.proofs.Common.{◌≡◌, ℕ, Bool, false, List, [], ◌∷◌, ⊎_elim, subst}
+-- The law of glimpses: so far nobody is told sizes, since what is told is the answer of an operation on names, or EIO.
+use Rattle.std.proofs.Common.{◌≡◌, ℕ, Bool, false, List, [], ◌∷◌, ⊎_elim, refl, sym, subst}
 use Rattle.lu_base.specs.declared.ids.At.{At}
 use Rattle.lu_base.specs.declared.ids.Node.{Node}
 use Rattle.lu_base.specs.declared.ids.Node.TheVariants.{Client, Target}
@@ -18,8 +18,8 @@ use Rattle.lu_laws.specs.Laws.Glimpse.{GlimpseAt, GlimpseOf, Glimpse}
 use Rattle.lu_guards.proofs.Guards.{Allowed, Grown}
 use Rattle.lu_facts.proofs.Groups.{turn}
 use Rattle.lu_lawful.proofs.Lines.{Keeps, holds_before}
-use Rattle.lu_lawful.proofs.Facts.{AnswersAt, KnewAt, TellsAt, AllTold, told_earlier}
-use Rattle.lu_lawful.proofs.Fine.{are_sizes, deed_fine, known_fine}
+use Rattle.lu_lawful.proofs.Facts.{AnswersAt, KnewAt, EndsAt, BadAt, TellsAt, AllTold, told_earlier}
+use Rattle.lu_lawful.proofs.Fine.{are_sizes, deed_fine, so_fine, known_fine}
 use Rattle.lu_lawful.proofs.ToldLaw.{all_told}
 
 module _ (head : Head) (out : Who → Bool) where
@@ -30,8 +30,12 @@ module _ (head : Head) (out : Who → Bool) where
 
   told_none : (past : List Line) (at : At) (c slot : ℕ) (named : At) (given : Answer) → Grown head past → TellsAt past at (Client c) slot named given → are_sizes given ≡ false
   told_none past at c slot named given g tells = ⊎_elim
-      (λ (a : AnswersAt past at c named given). subst (λ (v : Answer). are_sizes v ≡ false) a.answer (deed_fine head past a.deed g a.acted).2)
+      (λ (a : AnswersAt past at c named given). subst (λ (v : Answer). are_sizes v ≡ false) a.answer (so_fine a.deed.reply.answer (deed_fine head past a.deed g a.acted)).2)
+      (⊎_elim
       (λ (k : KnewAt past at c slot named given). (known_fine head past c k.running.call given g k.known).2)
+      (⊎_elim
+      (λ (k : EndsAt past at c slot named given). subst (λ (v : Answer). are_sizes v ≡ false) (sym k.answer) refl)
+      (λ (k : BadAt past at c slot named given). subst (λ (v : Answer). are_sizes v ≡ false) (sym k.answer) refl)))
       tells
 
   glimpse_at : (past : List Line) (l : Line) (later : List PrintedLine) → Allowed head past l.at l.entry → Grown head past → AllTold (l ∷ past) → Keeps (GlimpseOf out head.osts) past l later

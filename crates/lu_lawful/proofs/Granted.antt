@@ -1,6 +1,6 @@
--- The granted locks that a printed past shows: each was given, and each lock that the metadata target has granted is among them,
--- but for those of what was just done. None waits there.
-use Rattle.std.proofs.Common.{◌≡◌, ℕ, Bool, true, false, List, [], ◌∷◌, ◌⊎◌, inl, inr, ⊎_elim, Some, None, refl, sym, subst, ap}
+-- The granted locks that a printed past shows: each was given, and each lock that the metadata target has granted and whose release it
+-- hasn't shown is among them, but for those of what was just done. None waits there.
+use Rattle.std.proofs.Common.{◌≡◌, ℕ, Bool, true, false, List, [], ◌∷◌, ◌⊎◌, inl, inr, ⊎_elim, Some, None, refl, sym, subst, ap, ◌∙◌}
 use Rattle.std.specs.Prelude.{nat_eq, nat_lt, not, if◌then◌else◌}
 use Rattle.std.proofs.lemmas.Bool.{and_parts, cond_both, cond-true, eqb-true}
 use Rattle.lu_base.specs.declared.ids.Node.{Node}
@@ -10,13 +10,14 @@ use Rattle.lu_base.specs.declared.locks.Lock.{Lock}
 use Rattle.lu_msg.specs.declared.messages.Message.TheVariants as message
 use Rattle.lu_machine.specs.Tree.{same_life}
 use Rattle.lu_words.specs.Carried.{Deed}
-use Rattle.lu_words.specs.Words.{Entry, Send, Act, Grant, Wait, Release, Crash, Restore, Evict, Line, line}
+use Rattle.lu_words.specs.Words.{Entry, Send, Act, Grant, Wait, Release, Crash, Restore, Evict, Line, line, is_target}
+use Rattle.lu_words.specs.Concerns.{concerns, only}
 use Rattle.lu_words.specs.Printed.{printed}
 use Rattle.lu_target_rows.specs.Locks.{with_lock, with_locks, without_lock}
-use Rattle.lu_covered.specs.TargetStates.{granted_at}
+use Rattle.lu_covered.specs.TargetStates.{shown_of}
 use Rattle.lu_covered.specs.Heads.{Head}
 use Rattle.lu_laws.specs.Words.Pasts.{or_else}
-use Rattle.lu_laws.specs.Words.Queues.{has_cookie, without, without_first, granted, waiting}
+use Rattle.lu_laws.specs.Words.Queues.{has_cookie, without, of_others, without_first, granted, waiting}
 use Rattle.lu_laws.specs.Words.Held.{is_given, given}
 use Rattle.lu_guards.proofs.Guards.{In, Did, Shows, EntryOk, Allowed, Grown}
 use Rattle.lu_guards.proofs.Lists.{self, in_filter, in_filtered}
@@ -90,8 +91,42 @@ shows_granted head (x ∷ past) l g s = by x.at.node x.entry g.0.ok s (shows_gra
     by (Target t) (Grant lock asked) ok s h = absurd ok
     by node e ok s h = absurd s
 
+-- those that the metadata target has granted and whose release isn't shown, over the whole past
+abbrev pub shown_at : List Line → List Lock
+shown_at [] = []
+shown_at (l ∷ past) =
+    elim l.entry [
+      | Act d ↦ if is_target 0 l.at.node then with_locks d.reply.locks (shown_at past) else shown_at past
+      | Release lock ↦ if is_target 0 l.at.node then without_lock lock (shown_at past) else shown_at past
+      | _ ↦ shown_at past
+    ]
+
+pub shown_is : (past : List Line) → shown_at past ≡ shown_of (only 0 past)
+shown_is [] = refl
+shown_is (l ∷ past) = by l.at.node l.entry (shown_is past)
+  where
+    P : List Line
+    P = only 0 past
+
+    quiet : (node : Node) (e : Entry) (b : Bool) → shown_of (line (turn l.at.stamp node) e ∷ P) ≡ shown_of P → shown_at past ≡ shown_of P → shown_at past ≡ shown_of (if b then line (turn l.at.stamp node) e ∷ P else P)
+    quiet node e true q h = h ∙ sym q
+    quiet node e false q h = h
+
+    own : (t : ℕ) (e : Entry) (f : List Lock → List Lock) (b : Bool) → shown_of (line (turn l.at.stamp (Target t)) e ∷ P) ≡ f (shown_of P) → shown_at past ≡ shown_of P
+        → (if b then f (shown_at past) else shown_at past) ≡ shown_of (if b then line (turn l.at.stamp (Target t)) e ∷ P else P)
+    own t e f true q h = ap f h ∙ sym q
+    own t e f false q h = h
+
+    by : (node : Node) (e : Entry) → shown_at past ≡ shown_of P → shown_at (line (turn l.at.stamp node) e ∷ past) ≡ shown_of (if concerns 0 node e then line (turn l.at.stamp node) e ∷ P else P)
+    by (Client c) (Act d) h = h
+    by (Target t) (Act d) h = own t (Act d) (with_locks d.reply.locks) (nat_eq 0 t) refl h
+    by (Client c) (Release lock) h = h
+    by (Target t) (Release lock) h = own t (Release lock) (without_lock lock) (nat_eq 0 t) refl h
+    by (Client c) e h = quiet (Client c) e (concerns 0 (Client c) e) refl h
+    by (Target t) e h = quiet (Target t) e (concerns 0 (Target t) e) refl h
+
 abbrev pub AllGranted : List Line → Type 0
-AllGranted past = (l : Lock) → In l (granted_at 0 past) → In l (granted 0 (printed past)) ⊎ JustGave past l
+AllGranted past = (l : Lock) → In l (shown_at past) → In l (granted 0 (printed past)) ⊎ JustGave past l
 
 -- where nothing was just done
 settles : (past : List Line) (l : Lock) → ((d : Deed) → Did past d → ⊥) → In l (granted 0 (printed past)) ⊎ JustGave past l → In l (granted 0 (printed past))
@@ -101,19 +136,19 @@ settles past l none (inr j) = absurd (none j.0 j.1)
 keeps_granted : (head : Head) (past : List Line) (stamp : Stamp) (node : Node) (e : Entry) → Allowed head past (turn stamp node) e → Grown head past → AllGranted past → AllGranted (line (turn stamp node) e ∷ past)
 keeps_granted head past stamp (Client c) (Act d) a g h l i = absurd a.ok
 keeps_granted head past stamp (Target t) (Act d) a g h l i =
-    cond_both (nat_eq 0 t) (with_locks d.reply.locks (granted_at 0 past)) (granted_at 0 past) (λ (ls : List Lock). In l ls → In l (granted 0 (printed past)) ⊎ JustGave (line (turn stamp (Target t)) (Act d) ∷ past) l)
-    (λ e j. ⊎_elim (λ (q : In l d.reply.locks). inr (d, refl, q)) (λ (q : In l (granted_at 0 past)). inl (old q)) (in_with_locks d.reply.locks l (granted_at 0 past) j))
+    cond_both (nat_eq 0 t) (with_locks d.reply.locks (shown_at past)) (shown_at past) (λ (ls : List Lock). In l ls → In l (granted 0 (printed past)) ⊎ JustGave (line (turn stamp (Target t)) (Act d) ∷ past) l)
+    (λ e j. ⊎_elim (λ (q : In l d.reply.locks). inr (d, refl, q)) (λ (q : In l (shown_at past)). inl (old q)) (in_with_locks d.reply.locks l (shown_at past) j))
     (λ e j. inl (old j))
     i
   where
-    old : In l (granted_at 0 past) → In l (granted 0 (printed past))
+    old : In l (shown_at past) → In l (granted 0 (printed past))
     old q = settles past l (λ f did. owed past (turn stamp (Target t)) f (Act d) did a.owes) (h l q)
 keeps_granted head past stamp (Client c) (Release lock) a g h l i = absurd a.ok
 keeps_granted head past stamp (Target t) (Release lock) a g h l i =
     let here : nat_eq t 0 ≡ true = ap (λ (v : ℕ). nat_eq v 0) a.ok.0 in
     let there : nat_eq 0 t ≡ true = ap (λ (v : ℕ). nat_eq 0 v) a.ok.0 in
-    let j = subst (λ (ls : List Lock). In l ls) (cond-true (nat_eq 0 t) (without_lock lock (granted_at 0 past)) (granted_at 0 past) there) i in
-    let k = in_filter (λ (x : Lock). not (nat_eq x.cookie.0 lock.cookie.0)) l (granted_at 0 past) j in
+    let j = subst (λ (ls : List Lock). In l ls) (cond-true (nat_eq 0 t) (without_lock lock (shown_at past)) (shown_at past) there) i in
+    let k = in_filter (λ (x : Lock). not (nat_eq x.cookie.0 lock.cookie.0)) l (shown_at past) j in
     let old = settles past l (λ f did. owed past (turn stamp (Target t)) f (Release lock) did a.owes) (h l k.0) in
     inl (subst (λ (ls : List Lock). In l ls) (sym (cond-true (nat_eq t 0) (without lock.cookie.0 (granted 0 (printed past))) (granted 0 (printed past)) here)) (in_filtered (λ (x : Lock). not (has_cookie lock.cookie.0 x)) l (granted 0 (printed past)) old k.1))
 keeps_granted head past stamp (Client c) (Grant lock asked) a g h l i = absurd a.ok
@@ -129,9 +164,12 @@ keeps_granted head past stamp (Client c) (Restore lock) a g h l i = absurd a.ok
 keeps_granted head past stamp (Target t) (Restore lock) a g h l i = absurd a.ok
 keeps_granted head past stamp node e a g h l i = inl (settles past l (λ f did. owed past (turn stamp node) f e did a.owes) (h l i))
 
-pub all_granted : (head : Head) (past : List Line) → Grown head past → AllGranted past
-all_granted head [] g l i = absurd i
-all_granted head (x ∷ past) g l i = keeps_granted head past x.at.stamp x.at.node x.entry g.0 g.1 (all_granted head past g.1) l i
+granted_so_far : (head : Head) (past : List Line) → Grown head past → AllGranted past
+granted_so_far head [] g l i = absurd i
+granted_so_far head (x ∷ past) g l i = keeps_granted head past x.at.stamp x.at.node x.entry g.0 g.1 (granted_so_far head past g.1) l i
+
+pub all_granted : (head : Head) (past : List Line) → Grown head past → (l : Lock) → In l (shown_of (only 0 past)) → In l (granted 0 (printed past)) ⊎ JustGave past l
+all_granted head past g l i = granted_so_far head past g l (subst (λ (ls : List Lock). In l ls) (sym (shown_is past)) i)
 
 -- ---- the lock under a cookie
 
@@ -182,7 +220,7 @@ none_waits head (x ∷ past) g = by x.at.node x.entry g.0.ok (none_waits head pa
     by (Client c) (Wait lock asked) ok h = absurd ok
     by (Target t) (Wait lock asked) ok h = absurd ok
     by (Client c) (Evict who cause) ok h = absurd ok
-    by (Target t) (Evict who cause) ok h = absurd ok
+    by (Target t) (Evict who cause) ok h = cond_both (nat_eq t 0) (of_others who (waiting 0 (printed past))) (waiting 0 (printed past)) (λ (ls : List Lock). ls ≡ []) (λ e. ap (of_others who) h) (λ e. h)
     by (Client c) Crash ok h = absurd ok
     by (Target t) Crash ok h = absurd ok
     by node e ok h = h

@@ -1,10 +1,12 @@
 -- The law of history: with the lost transactions taken out, the plain machine answers what clients were told, and
--- refuses no transaction that stands.
-use Rattle.std.proofs.Common.{◌≡◌, ℕ, ◌+◌, ◌<◌, ◌≤◌, Bool, true, false, List, [], ◌∷◌, ◌++◌, ◌⊎◌, Option, Some, None, inl, inr, refl, sym, subst, ap, ◌∙◌, arith}
-use Rattle.std.specs.Prelude.{not, ◌&&◌, ◌||◌, nat_lt, if◌then◌else◌, filter}
+-- refuses no transaction that stands. It has more opens than the contents, which lose those of a life that leaves; no part that is looked
+-- at holds opens.
+use Rattle.std.proofs.Common.{◌≡◌, ℕ, zero, suc, ◌+◌, ◌<◌, ◌≤◌, Bool, true, false, List, [], ◌∷◌, ◌++◌, ◌⊎◌, Option, Some, None, inl, inr, refl, sym, subst, ap, ◌∙◌, arith}
+use Rattle.std.specs.Prelude.{nat_eq, not, ◌&&◌, ◌||◌, nat_lt, if◌then◌else◌, filter}
 use Rattle.std.specs.List.{list_any}
 use Rattle.std.specs.Option.{option_map}
 use Rattle.std.proofs.lemmas.Bool.{cond_both, and_parts, eqb-true, ltb-false}
+use Rattle.std.proofs.lemmas.Bool.Decides.{nat_tests}
 use Rattle.lu_base.specs.declared.ids.At.{At}
 use Rattle.lu_base.specs.declared.ids.Node.{Node}
 use Rattle.lu_base.specs.declared.ids.Node.TheVariants.{Client, Target}
@@ -14,37 +16,42 @@ use Rattle.lu_base.specs.declared.ids.Who.{Who}
 use Rattle.lu_msg.specs.declared.answers.Answer.{Answer}
 use Rattle.lu_msg.specs.declared.answers.Answer.TheVariants as told
 use Rattle.lu_msg.specs.declared.answers.Errno.{Errno}
+use Rattle.lu_msg.specs.declared.answers.Errno.TheVariants.{EIO}
 use Rattle.lu_msg.specs.declared.calls.Call.{Call}
 use Rattle.lu_msg.specs.declared.calls.Call.TheVariants as call
 use Rattle.lu_msg.specs.declared.messages.Reply.{Reply as ReplyTo}
 use Rattle.lu_msg.specs.declared.operations.Op.{Op}
 use Rattle.lu_part.specs.Meets.{meets}
 use Rattle.lu_part.specs.declared.parts.Part.{Part}
+use Rattle.lu_part.specs.declared.parts.Part.TheVariants as part
 use Rattle.lu_trace.specs.declared.entries.Line.{Line as PrintedLine}
 use Rattle.lu_machine.specs.declared.acts.Act.{Act as ActOf}
 use Rattle.lu_machine.specs.declared.acts.Deed.{Deed as DeedOf}
 use Rattle.lu_machine.specs.declared.acts.Deed.TheVariants.{Names}
 use Rattle.lu_machine.specs.Tree.{Tree, same_life}
-use Rattle.lu_machine.specs.Footprint.{Operation, empty, answer, touches, writes, changes, after, Every, Apart}
+use Rattle.lu_machine.specs.Footprint.{Operation, empty, answer, touches, writes, changes, after, forget, Every, Apart, Same}
 use Rattle.lu_machine.specs.Removal as removal
-use Rattle.lu_machine.specs.Removal.{Item, Acts, pick}
+use Rattle.lu_machine.specs.Removal.{Item, Acts, Forgets, pick}
 use Rattle.lu_machine.specs.Seen.{meet, seen, SawKept, AllSawKept}
 use Rattle.lu_machine.specs.Laws.{Alike}
 use Rattle.lu_machine.specs.Machine.{Machine, names_answer}
-use Rattle.lu_machine.proofs.Stated.{refusals_stay}
+use Rattle.lu_machine.proofs.Fits.{answers_fit}
+use Rattle.lu_machine.proofs.Footprints.{every_one}
+use Rattle.lu_machine.proofs.Stated.{refusals_stay, touched_decide, new_from_old}
 use Rattle.lu_machine.proofs.Removal.{earlier_are_older}
 use Rattle.lu_machine.proofs.Seen.{removal_by_seen}
 use Rattle.lu_machine.proofs.Transactions.{readings_change_nothing, machine_is_table}
-use Rattle.lu_words.specs.Carried.{Deed, Work, Running}
-use Rattle.lu_words.specs.Words.{Entry, Heard, Told, Act, Txn as Made, Commit, Line, line}
+use Rattle.lu_words.specs.Carried.{Deed, Work, Running, HandleFile}
+use Rattle.lu_words.specs.Words.{Entry, Heard, Told, Act, Txn as Made, Commit, Evict, Line, line}
+use Rattle.lu_words.specs.Concerns.{only}
 use Rattle.lu_words.specs.Printed.{printed}
-use Rattle.lu_covered.specs.Calls.{first_life, call_at, operation_of}
+use Rattle.lu_covered.specs.Calls.{life_at, call_at, operation_of, becomes}
 use Rattle.lu_covered.specs.Known.{notes_at, known_answer}
 use Rattle.lu_covered.specs.TargetParts.{operation}
 use Rattle.lu_covered.specs.TargetStates.{count_at, committed_at, tree_at, log_at, server_at, seen_in}
 use Rattle.lu_covered.specs.Heads.{Head}
 use Rattle.lu_laws.specs.Words.Pasts.{same_turn, is_target}
-use Rattle.lu_laws.specs.Words.Lives.{who_is}
+use Rattle.lu_laws.specs.Words.Lives.{who_is, is_evicted, is_gone}
 use Rattle.lu_laws.specs.Words.Requests.{asked}
 use Rattle.lu_laws.specs.Words.Calls.{Begun, open_call}
 use Rattle.lu_laws.specs.Words.Calls.{operation as operation_in}
@@ -54,26 +61,28 @@ use Rattle.lu_laws.proofs.Leaves.{acts_leave}
 use Rattle.lu_laws.proofs.Tests.{both, settled}
 use Rattle.lu_laws.specs.Laws.History.{is_accepted, heard_answer, right_answer, ToldOn, ToldAt, HistoryOf}
 use Rattle.lu_laws.specs.Laws.History as law
-use Rattle.lu_lawful.specs.Fits.{AllStand, SeenStand, ReplyStands, HeardStandsAt, HeardStand, CommitsStand, Fits}
+use Rattle.lu_lawful.specs.Fits.{AllStand, SeenStand, ReplyStands, HeardStandsAt, HeardStand, CommitStandsAt, CommitsStand, EvictedOut, Fits}
 use Rattle.lu_guards.proofs.Guards.{In, Allowed, Grown}
 use Rattle.lu_guards.proofs.Lists.{life_is}
-use Rattle.lu_facts.proofs.Groups.{turn, Acted}
-use Rattle.lu_facts.proofs.OnNames.{IsPlain}
+use Rattle.lu_facts.proofs.Groups.{turn, Acted, Evicted}
+use Rattle.lu_facts.proofs.OnNames.{IsPlain, told_so, reading_told}
 use Rattle.lu_facts.proofs.Refused.{acted_plain}
 use Rattle.lu_facts.proofs.Sides.{acted_only}
 use Rattle.lu_facts.proofs.Known.{any_in, right, SawBy, known_saw}
 use Rattle.lu_lawful.proofs.Lines.{Keeps, holds_before}
+use Rattle.lu_lawful.proofs.Turns.{same_life_self}
 use Rattle.lu_lawful.proofs.ActsLaw.{own_line}
 use Rattle.lu_lawful.proofs.Once.{NoneFor, act_now, txn_now}
 use Rattle.lu_lawful.proofs.Facts.{AskedAt, AllAsked, AnswersAt, KnewAt, TellsAt, AllTold, told_earlier}
-use Rattle.lu_lawful.proofs.Contents.{life_stays, number_is, asked_before}
+use Rattle.lu_lawful.proofs.Contents.{number_is, asked_before}
 use Rattle.lu_lawful.proofs.SeenNumbers.{one, seen_snoc}
 use Rattle.lu_lawful.proofs.Deeds.{ActIs, TxnIs, act_is, txn_is}
 use Rattle.lu_lawful.proofs.Plain.{told_plain}
 use Rattle.lu_lawful.proofs.Fine.{known_operation}
-use Rattle.lu_lawful.proofs.Printed.{open_is}
+use Rattle.lu_lawful.proofs.Printed.{present_is, evicted_is}
 use Rattle.lu_lawful.proofs.Story.{about_it}
-use Rattle.lu_lawful.proofs.ToldLaw.{heard_stands, same_stands, same_operation}
+use Rattle.lu_lawful.proofs.ToldLaw.{heard_stands, same_stands}
+use Rattle.lu_lawful.proofs.Handles.{meant_is}
 
 commits_before : (lost : ℕ → ℕ → Bool) (l : Line) (past : List Line) → CommitsStand lost (l ∷ past) → CommitsStand lost past
 commits_before lost l past = by l.entry
@@ -83,8 +92,12 @@ commits_before lost l past = by l.entry
     by _ c = c
 
 pub fits_before : (out : Who → Bool) (lost : ℕ → ℕ → Bool) (l : Line) (past : List Line) → Fits out lost (l ∷ past) → Fits out lost past
-fits_before out lost l past f = record { root = f.root; seen = seen_before l.entry f.seen; heard = heard_before l.entry f.heard; committed = commits_before lost l past f.committed }
+fits_before out lost l past f = record { root = f.root; seen = seen_before l.entry f.seen; heard = heard_before l.entry f.heard; committed = commits_before lost l past f.committed; gone = gone_before l.entry f.gone }
   where
+    gone_before : (e : Entry) → EvictedOut out (line l.at e ∷ past) → EvictedOut out past
+    gone_before (Evict who cause) k = k.1
+    gone_before _ k = k
+
     seen_before : (e : Entry) → SeenStand lost (line l.at e ∷ past) → SeenStand lost past
     seen_before (Made d) s = s.1
     seen_before _ s = s
@@ -93,11 +106,20 @@ fits_before out lost l past f = record { root = f.root; seen = seen_before l.ent
     heard_before (Heard target flight reply) t = t.1
     heard_before _ t = t
 
+not_first : (t : ℕ) → nat_eq 0 (suc t) ≡ false
+not_first t = grind (arith, nat_tests)
+
 -- ---- the past as items of the removal law
+
+-- a life that leaves the metadata target takes its opens with it
+abbrev forgets : Node → Who → List Item → List Item
+forgets (Target zero) who is = Forgets who ∷ is
+forgets (Target (suc t)) who is = is
+forgets (Client c) who is = is
 
 abbrev items : List Line → List Item
 items [] = []
-items (l ∷ past) = elim l.entry [ Made d ↦ Acts (operation d) ∷ items past | _ ↦ items past ]
+items (l ∷ past) = elim l.entry [ Made d ↦ Acts (operation d) ∷ items past | Evict who cause ↦ forgets l.at.node who (items past) | _ ↦ items past ]
 
 abbrev whole : ℕ → List Item → Tree
 whole osts is = removal.contents osts empty is
@@ -110,7 +132,42 @@ whole_is head (l ∷ past) g = by l.at.node l.entry g.0 (whole_is head past g.1)
     by (Client c) (Made d) k h = absurd k.ok
     by (Target t) (Made d) k h =
         subst (λ (v : ℕ). after head.osts (whole head.osts (items past)) (operation d) ≡ tree_at head.osts 0 (line (turn l.at.stamp (Target v)) (Made d) ∷ past)) (sym k.ok) (ap (λ t. after head.osts t (operation d)) h)
+    by (Client c) (Evict who cause) k h = absurd k.ok
+    by (Target zero) (Evict who cause) k h = ap (λ (v : Tree). forget v who) h
+    by (Target (suc t)) (Evict who cause) k h = h ∙ sym (ap (λ (b : Bool). if b then forget (tree_at head.osts 0 past) who else tree_at head.osts 0 past) (not_first t))
     by _ _ k h = h
+
+-- ---- trees that hold the same: opens are in no part
+
+same_trans : (t u v : Tree) (p : Part) → Same t u p → Same u v p → Same t v p
+same_trans t u v (part.Name d n) a b = a ∙ b
+same_trans t u v (part.List d) a b = a ∙ b
+same_trans t u v (part.Attr f) a b = (a.0 ∙ b.0, a.1 ∙ b.1)
+same_trans t u v (part.Layout f) a b = a ∙ b
+same_trans t u v (part.Parent f) a b = tt
+same_trans t u v (part.Bytes f stripe extent) a b = tt
+
+same_self : (t : Tree) (p : Part) → Same t t p
+same_self t (part.Name d n) = refl
+same_self t (part.List d) = refl
+same_self t (part.Attr f) = (refl, refl)
+same_self t (part.Layout f) = refl
+same_self t (part.Parent f) = tt
+same_self t (part.Bytes f stripe extent) = tt
+
+same_forgot : (t : Tree) (who : Who) (p : Part) → Same t (forget t who) p
+same_forgot t who (part.Name d n) = refl
+same_forgot t who (part.List d) = refl
+same_forgot t who (part.Attr f) = (refl, refl)
+same_forgot t who (part.Layout f) = refl
+same_forgot t who (part.Parent f) = tt
+same_forgot t who (part.Bytes f stripe extent) = tt
+
+same_as : (t u v : Tree) (p : Part) → t ≡ u → Same u v p → Same t v p
+same_as t u v p e = subst (λ (w : Tree). Same w v p) (sym e)
+
+alike_trans : (osts : ℕ) (t u v : Tree) (o : Operation) → Alike osts t u o → Alike osts u v o → Alike osts t v o
+alike_trans osts t u v o a b = record { answer = a.answer ∙ b.answer; touches = a.touches ∙ b.touches; writes = a.writes ∙ b.writes; grants = a.grants ∙ b.grants; changes = a.changes ∙ b.changes }
 
 stand_parts : (lost : ℕ → ℕ → Bool) (ms ns : List ℕ) → AllStand lost (ms ++ ns) → AllStand lost ms × AllStand lost ns
 stand_parts lost [] ns s = (tt, s)
@@ -162,8 +219,11 @@ module _ (head : Head) (lost : ℕ → ℕ → Bool) where
           → (CommitsStand lost past → AllStand lost (seen_in touched (log_at 0 past)) → KeptSeen (items past) touched) → KeptSeen (items (line (turn l.at.stamp node) e ∷ past)) touched
       by (Client c) (Made d) k f s h = absurd k.ok
       by (Client c) (Commit to batch) k f s h = absurd k.ok
-      by (Target t) (Commit to batch) k f s h =
-          h f.1 (stood touched to (log_at 0 past) f.0 (subst (λ (v : ℕ). AllStand lost (seen_in touched (log_at 0 (line (turn l.at.stamp (Target v)) (Commit to batch) ∷ past)))) k.ok.0 s))
+      by (Target zero) (Commit to batch) k f s h = h f.1 (stood touched to (log_at 0 past) f.0 s)
+      by (Target (suc t)) (Commit to batch) k f s h = h f.1 (subst (λ (b : Bool). AllStand lost (seen_in touched (if b then filter (λ d. nat_lt to d.reply.txn.0) (log_at 0 past) else log_at 0 past))) (not_first t) s)
+      by (Client c) (Evict who cause) k f s h = absurd k.ok
+      by (Target zero) (Evict who cause) k f s h = h f s
+      by (Target (suc t)) (Evict who cause) k f s h = h f s
       by (Target t) (Made d) k f s h =
           kept_made touched past (turn l.at.stamp (Target t)) d g.1 (txn_is head past l.at.stamp t d k) (h f) (subst (λ (v : ℕ). AllStand lost (seen_in touched (log_at 0 (line (turn l.at.stamp (Target v)) (Made d) ∷ past)))) k.ok s)
       by _ _ k f s h = h f s
@@ -195,6 +255,9 @@ module _ (head : Head) (lost : ℕ → ℕ → Bool) where
           let n = number_is head past (turn l.at.stamp (Target t)) d g.1 is in
           made (turn l.at.stamp (Target t)) d is (λ m. h d (inl refl) (omega (arith, n)) m) (ih (λ e a. h e (inr a)))
       by node (Act d) k h ih = ih (λ e a. h e (inr a))
+      by (Client c) (Evict who cause) k h ih = absurd k.ok
+      by (Target zero) (Evict who cause) k h ih = ih h
+      by (Target (suc t)) (Evict who cause) k h ih = ih h
       by _ _ k h ih = ih h
 
 stands_again : (b : Bool) → not b ≡ true → b ≡ false
@@ -212,12 +275,15 @@ txn_here head past stamp (Target t) d k = txn_is head past stamp t d k
 
 all_saw : (head : Head) (lost : ℕ → ℕ → Bool) (past : List Line) → Grown head past → CommitsStand lost past → SeenStand lost past → AllSawKept head.osts (whole head.osts) (keep lost) (items past)
 all_saw head lost [] g c s = tt
-all_saw head lost (l ∷ past) g c s = by l.entry g.0 s (all_saw head lost past g.1 (commits_before lost l past c))
+all_saw head lost (l ∷ past) g c s = by l.at.node l.entry g.0 s (all_saw head lost past g.1 (commits_before lost l past c))
   where
-    by : (e : Entry) → Allowed head past l.at e → SeenStand lost (line l.at e ∷ past) → (SeenStand lost past → AllSawKept head.osts (whole head.osts) (keep lost) (items past))
-        → AllSawKept head.osts (whole head.osts) (keep lost) (items (line l.at e ∷ past))
-    by (Made d) k s h = (λ kept. saw_kept head lost past d g.1 (commits_before lost l past c) (txn_here head past l.at.stamp l.at.node d k).saw (s.0 (stands_again (lost 0 d.reply.txn.0) kept)), h s.1)
-    by _ k s h = h s
+    by : (node : Node) (e : Entry) → Allowed head past (turn l.at.stamp node) e → SeenStand lost (line (turn l.at.stamp node) e ∷ past) → (SeenStand lost past → AllSawKept head.osts (whole head.osts) (keep lost) (items past))
+        → AllSawKept head.osts (whole head.osts) (keep lost) (items (line (turn l.at.stamp node) e ∷ past))
+    by node (Made d) k s h = (λ kept. saw_kept head lost past d g.1 (commits_before lost l past c) (txn_here head past l.at.stamp node d k).saw (s.0 (stands_again (lost 0 d.reply.txn.0) kept)), h s.1)
+    by (Client b) (Evict who cause) k s h = absurd k.ok
+    by (Target zero) (Evict who cause) k s h = h s
+    by (Target (suc t)) (Evict who cause) k s h = h s
+    by _ _ k s h = h s
 
 -- ---- numbers that stand
 
@@ -231,38 +297,36 @@ committed_stands : (head : Head) (lost : ℕ → ℕ → Bool) (past : List Line
 committed_stands head lost [] g c n positive le = absurd (omega (arith, positive, le))
 committed_stands head lost (l ∷ past) g c n positive le = by l.at.node l.entry g.0 c le (λ k. committed_stands head lost past g.1 k n positive)
   where
+    txn : ℕ → TxnOf
+    txn m = record { 0 = m }
+
     by : (node : Node) (e : Entry) → Allowed head past (turn l.at.stamp node) e → CommitsStand lost (line (turn l.at.stamp node) e ∷ past) → n ≤ (committed_at 0 (line (turn l.at.stamp node) e ∷ past)).0
         → (CommitsStand lost past → n ≤ (committed_at 0 past).0 → lost 0 n ≡ false) → lost 0 n ≡ false
     by (Client b) (Commit to batch) k c le ih = absurd k.ok
-    by (Target t) (Commit to batch) k c le ih = c.0 n (subst (λ (v : ℕ). n ≤ (committed_at 0 (line (turn l.at.stamp (Target v)) (Commit to batch) ∷ past)).0) k.ok.0 le)
+    by (Target zero) (Commit to batch) k c le ih = c.0 n le
+    by (Target (suc t)) (Commit to batch) k c le ih = ih c.1 (subst (λ (b : Bool). n ≤ (if b then txn to else committed_at 0 past).0) (not_first t) le)
     by _ _ k c le ih = ih c le
 
 -- ---- a call whose answer is known
 
 -- what it asks of the machine
-names_deed : (b : Begun) (o : Op) → operation_of b.call ≡ Some o → deed_on b b.call ≡ Some (Names o)
-names_deed b o e = by b.call e (ap (option_map Names) (same_operation b o e))
+names_deed : (b : Begun) (file : Option HandleFile) (o : Op) → operation_of file b.call ≡ Some o → operation_in b ≡ Some o → deed_on b b.call ≡ Some (Names o)
+names_deed b file o e q = by b.call e (ap (option_map Names) q)
   where
-    by : (k : Call) → operation_of k ≡ Some o → option_map Names (operation_in b) ≡ Some (Names o) → deed_on b k ≡ Some (Names o)
-    by (call.Lookup path) e q = q
-    by (call.Stat path) e q = q
-    by (call.List path) e q = q
-    by (call.Layout path) e q = q
-    by (call.Mkdir path) e q = q
-    by (call.Create path stripes) e q = q
-    by (call.Link old new) e q = q
-    by (call.Unlink path) e q = q
-    by (call.Rmdir path) e q = q
-    by (call.Rename old new) e q = q
-    by (call.Chmod path mode) e q = q
-    by k e q = absurd (cc)
+    by : (k : Call) → operation_of file k ≡ Some o → option_map Names (operation_in b) ≡ Some (Names o) → deed_on b k ≡ Some (Names o)
+    by (call.Read h offset count) e q = absurd (cc)
+    by (call.Write h offset bytes) e q = absurd (cc)
+    by (call.Cut h size) e q = absurd (cc)
+    by (call.Flush h) e q = absurd (cc)
+    by (call.Glimpse h) e q = absurd (cc)
+    by _ e q = q
 
-known_act : (head : Head) (past : List Line) (c slot : ℕ) (r : Running) (o : Op) → Grown head past → call_at c slot past ≡ Some r → operation_of r.call ≡ Some o
+known_act : (head : Head) (past : List Line) (c slot : ℕ) (r : Running) (o : Op) → Grown head past → call_at c slot past ≡ Some r → becomes r ≡ Some o
     → call_act (printed past) c slot ≡ Some (record { who = who_is c (printed past); number = none; deed = Names o })
-known_act head past c slot r o g call becomes =
-    let b = open_is head c slot past r g call in
+known_act head past c slot r o g call is =
+    let b = meant_is head c slot past r g call in
     ap (λ (v : Option Begun). act_of (who_is c (printed past)) none (deed_of v)) b.1
-    ∙ ap (λ (v : Option DeedOf). act_of (who_is c (printed past)) none v) (names_deed b.0 o (ap operation_of b.3 ∙ becomes))
+    ∙ ap (λ (v : Option DeedOf). act_of (who_is c (printed past)) none v) (names_deed b.0 r.file o (ap (operation_of r.file) b.3 ∙ is) (sym b.4 ∙ is))
 
 -- ---- the law's machine
 
@@ -274,15 +338,15 @@ module _ (head : Head) (out : Who → Bool) (lost : ℕ → ℕ → Bool) where
   abbrev standing : List Line → List Item
   standing past = pick (keep lost) (items past)
 
-  -- its last number is passed by the next, and its tree is what the transactions that stand leave
+  -- its last number is passed by the next, and its tree holds what the transactions that stand leave, whatever opens lives took with them
   abbrev Follows : List Line → Type 0
-  Follows past = ((machine past).last ≤ 4294967296 + count_at 0 past) × ((machine past).tree ≡ whole head.osts (standing past))
+  Follows past = ((machine past).last ≤ 4294967296 + count_at 0 past) × ((p : Part) → Same (machine past).tree (whole head.osts (standing past)) p)
 
   -- the same after a transaction whose request asked for o, and which is lost or not
   abbrev FollowsMade : List Line → Deed → Option Op → Bool → Type 0
   FollowsMade past d o t =
       ((after_item head.osts (machine past) (if t then None else names_act d.reply.who d.reply.txn o)).last ≤ 4294967296 + (count_at 0 past + 1))
-      × ((after_item head.osts (machine past) (if t then None else names_act d.reply.who d.reply.txn o)).tree ≡ whole head.osts (if not t then Acts (operation d) ∷ standing past else standing past))
+      × ((p : Part) → Same (after_item head.osts (machine past) (if t then None else names_act d.reply.who d.reply.txn o)).tree (whole head.osts (if not t then Acts (operation d) ∷ standing past else standing past)) p)
 
   follows_made : (past : List Line) (at : At) (d : Deed) → Grown head past → TxnIs head.osts (server_at head.osts 0 past) at d → AskedAt past d → Follows past → Follows (line (turn at.stamp (Target 0)) (Made d) ∷ past)
   follows_made past at d g is asks h = by (lost 0 d.reply.txn.0)
@@ -298,25 +362,37 @@ module _ (head : Head) (out : Who → Bool) (lost : ℕ → ℕ → Bool) where
       by false =
           subst (λ o. FollowsMade past d o false) (sym asks) (
             omega (arith, last, number),
-            (machine_is_table head.osts (machine past) (operation d) (λ c. omega (arith, last, number))).1 ∙ ap (λ t. after head.osts t (operation d)) h.1,
+            λ p. same_as _ (after head.osts (machine past).tree (operation d)) (after head.osts (whole head.osts (standing past)) (operation d)) p
+                (machine_is_table head.osts (machine past) (operation d) (λ c. omega (arith, last, number))).1
+                (new_from_old head.osts (machine past).tree (whole head.osts (standing past)) (operation d) p (every_one (Same (machine past).tree (whole head.osts (standing past))) (touches head.osts (machine past).tree (operation d)) h.1) (h.1 p)),
           )
 
   -- what is told of a call that asked is no item, and a call whose answer was known changes nothing
   follows_told : (past : List Line) (stamp : Stamp) (c slot : ℕ) (named : At) (given : Answer) (work : Option Work) → Grown head past → TellsAt past (turn stamp (Client c)) (Client c) slot named given → Follows past
       → Follows (line (turn stamp (Client c)) (Told slot named given work) ∷ past)
   follows_told past stamp c slot named given work g tells h =
-      subst (λ (m : Machine). (m.last ≤ 4294967296 + count_at 0 past) × (m.tree ≡ whole head.osts (standing past))) (sym (by tells)) h
+      subst (λ (m : Machine). (m.last ≤ 4294967296 + count_at 0 past) × ((p : Part) → Same m.tree (whole head.osts (standing past)) p)) (sym (by tells)) h
     where
+      none_counts : (b : Bool) → (b && false) ≡ false
+      none_counts true = refl
+      none_counts false = refl
+
       by : TellsAt past (turn stamp (Client c)) (Client c) slot named given → after_item head.osts (machine past) (told_item out (printed past) (turn stamp (Client c)) (Client c) slot named given) ≡ machine past
       by (inl asks) = ap (λ (b : Bool). after_item head.osts (machine past) (if b && is_answer given && not (out (who_is c (printed past))) then call_act (printed past) c slot else None)) asks.other
-      by (inr knew) =
+      by (inr (inr (inl ends))) =
+          ap (λ (a : Answer). after_item head.osts (machine past) (if same_turn named (turn stamp (Client c)) && is_answer a && not (out (who_is c (printed past))) then call_act (printed past) c slot else None)) ends.answer
+          ∙ ap (λ (b : Bool). after_item head.osts (machine past) (if b && not (out (who_is c (printed past))) then call_act (printed past) c slot else None)) (none_counts (same_turn named (turn stamp (Client c))))
+      by (inr (inr (inr bad))) =
+          ap (λ (a : Answer). after_item head.osts (machine past) (if same_turn named (turn stamp (Client c)) && is_answer a && not (out (who_is c (printed past))) then call_act (printed past) c slot else None)) bad.answer
+          ∙ ap (λ (b : Bool). after_item head.osts (machine past) (if b && not (out (who_is c (printed past))) then call_act (printed past) c slot else None)) (none_counts (same_turn named (turn stamp (Client c))))
+      by (inr (inl knew)) =
           cond_both (same_turn named (turn stamp (Client c)) && is_answer given && not (out (who_is c (printed past)))) (call_act (printed past) c slot) None (λ (i : Option ActOf). after_item head.osts (machine past) i ≡ machine past)
-          (λ _. let k = known_operation (notes_at c past) knew.running.call given knew.known in
+          (λ _. let k = known_operation (notes_at c past) knew.running.file knew.running.call given knew.known in
           ap (after_item head.osts (machine past)) (known_act head past c slot knew.running k.0 g knew.call k.1) ∙ acts_leave head.osts (machine past) (who_is c (printed past)) k.0)
           (λ _. refl)
 
   follows : (past : List Line) → Grown head past → AllAsked past → AllTold past → Follows past
-  follows [] g a t = (omega arith, refl)
+  follows [] g a t = (omega arith, λ p. same_self empty p)
   follows (l ∷ past) g a t = by l.at.node l.entry g.0 a t (follows past g.1 (asked_before l past a) (told_earlier l past t))
     where
       by : (node : Node) (e : Entry) → Allowed head past (turn l.at.stamp node) e → AllAsked (line (turn l.at.stamp node) e ∷ past) → AllTold (line (turn l.at.stamp node) e ∷ past) → Follows past → Follows (line (turn l.at.stamp node) e ∷ past)
@@ -325,6 +401,9 @@ module _ (head : Head) (out : Who → Bool) (lost : ℕ → ℕ → Bool) where
           subst (λ (v : ℕ). Follows (line (turn l.at.stamp (Target v)) (Made d) ∷ past)) (sym k.ok) (follows_made past (turn l.at.stamp (Target u)) d g.1 (txn_is head past l.at.stamp u d k) a.0 h)
       by (Client c) (Told slot named given work) k a t h = follows_told past l.at.stamp c slot named given work g.1 t.0 h
       by (Target u) (Told slot named given work) k a t h = absurd k.ok
+      by (Client c) (Evict who cause) k a t h = absurd k.ok
+      by (Target zero) (Evict who cause) k a t h = (h.0, λ p. same_trans (machine past).tree (whole head.osts (standing past)) (forget (whole head.osts (standing past)) who) p (h.1 p) (same_forgot (whole head.osts (standing past)) who p))
+      by (Target (suc u)) (Evict who cause) k a t h = h
       by _ _ k a t h = h
 
   -- what saw only what stands comes out of the machine as it came out of the target
@@ -333,20 +412,23 @@ module _ (head : Head) (out : Who → Bool) (lost : ℕ → ℕ → Bool) where
   alike_op past o g a t f saw =
       let root = ap not f.root in
       let older = earlier_are_older head.osts (keep lost) root [] tt in
+      let stays = removal_by_seen head.osts empty (keep lost) root older (items past) (all_saw head lost past g f.committed f.seen) o saw in
+      let holds_all = (follows past g a t).1 in
+      let machine_too = touched_decide head.osts (machine past).tree (whole head.osts (standing past)) o (every_one (Same (machine past).tree (whole head.osts (standing past))) (touches head.osts (machine past).tree o) holds_all) in
       subst (λ (u : Tree). Alike head.osts u (machine past).tree o) (whole_is head past g)
-      (subst (λ (u : Tree). Alike head.osts (whole head.osts (items past)) u o) (sym (follows past g a t).1)
-      (removal_by_seen head.osts empty (keep lost) root older (items past) (all_saw head lost past g f.committed f.seen) o saw))
+      (alike_trans head.osts (whole head.osts (items past)) (whole head.osts (standing past)) (machine past).tree o stays
+      (record { answer = sym machine_too.answer; touches = sym machine_too.touches; writes = sym machine_too.writes; grants = sym machine_too.grants; changes = sym machine_too.changes }))
 
   alike : (past : List Line) (d : Deed) → Grown head past → AllAsked past → AllTold past → Fits out lost past
       → d.reply.seen ≡ seen_in (touches head.osts (tree_at head.osts 0 past) (operation d)) (log_at 0 past) → AllStand lost d.reply.seen → Alike head.osts (tree_at head.osts 0 past) (machine past).tree (operation d)
   alike past d g a t f is s = alike_op past (operation d) g a t f (saw_kept head lost past d g f.committed is s)
 
   answered : (past : List Line) (d : Deed) → Alike head.osts (tree_at head.osts 0 past) (machine past).tree (operation d) → IsPlain (answer head.osts (tree_at head.osts 0 past) (operation d)) → (changes head.osts (tree_at head.osts 0 past) (operation d) ≡ true → (machine past).last < d.reply.txn.0)
-      → names_answer head.osts (machine past) (operation d) ≡ answer head.osts (tree_at head.osts 0 past) (operation d)
+      → names_answer head.osts (machine past) (operation d) ≡ told_so (answer head.osts (tree_at head.osts 0 past) (operation d))
   answered past d same plain above =
       (machine_is_table head.osts (machine past) (operation d) (λ c. above (same.changes ∙ c))).0
       ∙ told_plain (machine past) (answer head.osts (machine past).tree (operation d)) (subst IsPlain same.answer plain)
-      ∙ sym same.answer
+      ∙ ap told_so (sym same.answer)
 
   -- its answer after a past
   abbrev answers : List Line → Option ActOf → Option Answer
@@ -354,18 +436,18 @@ module _ (head : Head) (out : Who → Bool) (lost : ℕ → ℕ → Bool) where
 
   -- to an act, and to a transaction
   act_answers : (past : List Line) (at : At) (d : Deed) → Grown head past → AllAsked past → AllTold past → Fits out lost past → ActIs head.osts (server_at head.osts 0 past) at d → AskedAt past d → IsPlain d.reply.answer → AllStand lost d.reply.seen
-      → answers past (names_act d.reply.who none (asked (printed past) 0 d.reply.who d.reply.xid.0)) ≡ Some d.reply.answer
+      → answers past (names_act d.reply.who none (asked (printed past) 0 d.reply.who d.reply.xid.0)) ≡ Some (told_so d.reply.answer)
   act_answers past at d g a t f is asks plain s =
-      subst (λ o. answers past (names_act d.reply.who none o) ≡ Some d.reply.answer) (sym asks)
-      (subst (λ (n : TxnOf). answers past (names_act d.reply.who n (Some d.op)) ≡ Some d.reply.answer) is.txn
-      (ap (λ (v : Answer). Some v) (answered past d (alike past d g a t f is.saw s) (subst IsPlain is.answered plain) (λ c. absurd (let still = is.still in cc)) ∙ sym is.answered)))
+      subst (λ o. answers past (names_act d.reply.who none o) ≡ Some (told_so d.reply.answer)) (sym asks)
+      (subst (λ (n : TxnOf). answers past (names_act d.reply.who n (Some d.op)) ≡ Some (told_so d.reply.answer)) is.txn
+      (ap (λ (v : Answer). Some v) (answered past d (alike past d g a t f is.saw s) (subst IsPlain is.answered plain) (λ c. absurd (let still = is.still in cc)) ∙ ap told_so (sym is.answered))))
 
   txn_answers : (past : List Line) (at : At) (d : Deed) → Grown head past → AllAsked past → AllTold past → Fits out lost past → TxnIs head.osts (server_at head.osts 0 past) at d → IsPlain d.reply.answer → AllStand lost d.reply.seen
-      → names_answer head.osts (machine past) (operation d) ≡ d.reply.answer
+      → names_answer head.osts (machine past) (operation d) ≡ told_so d.reply.answer
   txn_answers past at d g a t f is plain s =
       let n = number_is head past at d g is in
       let last = (follows past g a t).0 in
-      answered past d (alike past d g a t f is.saw s) (subst IsPlain is.answered plain) (λ c. omega (arith, n, last)) ∙ sym is.answered
+      answered past d (alike past d g a t f is.saw s) (subst IsPlain is.answered plain) (λ c. omega (arith, n, last)) ∙ ap told_so (sym is.answered)
 
   -- a line that executes the request answers, one that doesn't leaves what was
   here_is : (b : Bool) (now old : Option Answer) (given : Answer) → b ≡ true → now ≡ Some given → (if b then now else old) ≡ Some given
@@ -378,7 +460,7 @@ module _ (head : Head) (out : Who → Bool) (lost : ℕ → ℕ → Bool) where
 
   -- what was done was answered where it stands
   answered_there : (past : List Line) (d : Deed) → Grown head past → AllAsked past → AllTold past → Fits out lost past → Acted past d → IsPlain d.reply.answer → ReplyStands lost d.reply
-      → answer_there out lost head.osts (printed past) d.reply.at d.reply.who d.reply.xid.0 ≡ Some d.reply.answer
+      → answer_there out lost head.osts (printed past) d.reply.at d.reply.who d.reply.xid.0 ≡ Some (told_so d.reply.answer)
   answered_there [] d g a t f acted plain s = absurd acted
   answered_there (l ∷ past) d g a t f acted plain s =
       by l.entry g.0 a acted (λ b. answered_there past d g.1 (asked_before l past a) (told_earlier l past t) (fits_before out lost l past f) b plain s)
@@ -397,90 +479,117 @@ module _ (head : Head) (out : Who → Bool) (lost : ℕ → ℕ → Bool) where
           new d i (sym (life_is e.reply.who d.reply.who r.1)) (sym (eqb-true e.reply.xid.0 d.reply.xid.0 q.1))
 
       by : (e : Entry) → Allowed head past l.at e → AllAsked (line l.at e ∷ past) → Acted (line l.at e ∷ past) d
-          → (Acted past d → answer_there out lost head.osts (printed past) d.reply.at d.reply.who d.reply.xid.0 ≡ Some d.reply.answer)
-          → answer_there out lost head.osts (printed (line l.at e ∷ past)) d.reply.at d.reply.who d.reply.xid.0 ≡ Some d.reply.answer
+          → (Acted past d → answer_there out lost head.osts (printed past) d.reply.at d.reply.who d.reply.xid.0 ≡ Some (told_so d.reply.answer))
+          → answer_there out lost head.osts (printed (line l.at e ∷ past)) d.reply.at d.reply.who d.reply.xid.0 ≡ Some (told_so d.reply.answer)
       by (Act e) ok a (inl same) h =
           let now = act_now head past l.at.stamp l.at.node e ok g.1 in
           let stands = subst (λ (v : Deed). AllStand lost v.reply.seen) (sym same) s.1 in
-          let told_so = subst (λ (v : Deed). IsPlain v.reply.answer) (sym same) plain in
-          subst (λ (v : Deed). answer_there out lost head.osts (printed (line l.at (Act e) ∷ past)) v.reply.at v.reply.who v.reply.xid.0 ≡ Some v.reply.answer) same
-          (here_is _ _ _ e.reply.answer (own_line l.at e.reply.at e.reply.who e.reply.xid.0 (sym now.2) now.1)
-          (act_answers past l.at e g.1 a.1 before fits (act_here head past l.at.stamp l.at.node e ok) a.0 told_so stands))
+          let at_once = subst (λ (v : Deed). IsPlain v.reply.answer) (sym same) plain in
+          subst (λ (v : Deed). answer_there out lost head.osts (printed (line l.at (Act e) ∷ past)) v.reply.at v.reply.who v.reply.xid.0 ≡ Some (told_so v.reply.answer)) same
+          (here_is _ _ _ (told_so e.reply.answer) (own_line l.at e.reply.at e.reply.who e.reply.xid.0 (sym now.2) now.1)
+          (act_answers past l.at e g.1 a.1 before fits (act_here head past l.at.stamp l.at.node e ok) a.0 at_once stands))
       by (Act e) ok a (inr i) h =
-          before_is _ _ _ d.reply.answer (same_request e (act_now head past l.at.stamp l.at.node e ok g.1).0.new i) (h i)
+          before_is _ _ _ (told_so d.reply.answer) (same_request e (act_now head past l.at.stamp l.at.node e ok g.1).0.new i) (h i)
       by (Made e) ok a (inl same) h =
           let now = txn_now head past l.at.stamp l.at.node e ok g.1 in
           let stands = subst (λ (v : Deed). ReplyStands lost v.reply) (sym same) s in
-          let told_so = subst (λ (v : Deed). IsPlain v.reply.answer) (sym same) plain in
+          let at_once = subst (λ (v : Deed). IsPlain v.reply.answer) (sym same) plain in
           let own = own_line l.at e.reply.at e.reply.who e.reply.xid.0 (sym now.2) now.1 in
-          subst (λ (v : Deed). answer_there out lost head.osts (printed (line l.at (Made e) ∷ past)) v.reply.at v.reply.who v.reply.xid.0 ≡ Some v.reply.answer) same
-          (here_is _ _ _ e.reply.answer (both own (settled (lost 0 e.reply.txn.0) stands.0))
-          (subst (λ o. answers past (names_act e.reply.who e.reply.txn o) ≡ Some e.reply.answer) (sym a.0)
-          (ap (λ (v : Answer). Some v) (txn_answers past l.at e g.1 a.1 before fits (txn_here head past l.at.stamp l.at.node e ok) told_so stands.1))))
+          subst (λ (v : Deed). answer_there out lost head.osts (printed (line l.at (Made e) ∷ past)) v.reply.at v.reply.who v.reply.xid.0 ≡ Some (told_so v.reply.answer)) same
+          (here_is _ _ _ (told_so e.reply.answer) (both own (settled (lost 0 e.reply.txn.0) stands.0))
+          (subst (λ o. answers past (names_act e.reply.who e.reply.txn o) ≡ Some (told_so e.reply.answer)) (sym a.0)
+          (ap (λ (v : Answer). Some v) (txn_answers past l.at e g.1 a.1 before fits (txn_here head past l.at.stamp l.at.node e ok) at_once stands.1))))
       by (Made e) ok a (inr i) h =
-          before_is _ _ _ d.reply.answer
+          before_is _ _ _ (told_so d.reply.answer)
           (λ p. same_request e (txn_now head past l.at.stamp l.at.node e ok g.1).0.new i (and_parts (acts_as d.reply.at d.reply.who d.reply.xid.0 l.at e.reply.who e.reply.xid.0) (not (lost 0 e.reply.txn.0)) p).0)
           (h i)
       by _ ok a b h = h b
 
   -- ---- the law, line by line
 
-  life_is_first : (past : List Line) (c : ℕ) → Grown head past → who_is c (printed past) ≡ first_life c
-  life_is_first past c g = ap (λ (v : ℕ). record { client = c; life = v }) (life_stays head c past g)
-
   -- what is told is what the machine answers where it acted
   asked_law : (past : List Line) (stamp : Stamp) (c slot : ℕ) (named : At) (given : Answer) → Grown head past → AllAsked past → AllTold past → Fits out lost past
       → AnswersAt past (turn stamp (Client c)) c named given → out (who_is c (printed past)) ≡ false → right_answer out lost head.osts (printed past) (turn stamp (Client c)) c slot named (same_turn named (turn stamp (Client c))) ≡ Some given
   asked_law past stamp c slot named given g a t f tells out_not =
       let d = tells.deed in
-      let life = life_is_first past c g in
-      let stands = same_stands lost d.reply tells.reply tells.is (heard_stands out lost past c tells.flight tells.reply f.heard tells.hears (subst (λ (v : Who). out v ≡ false) life out_not)) in
-      let found = answered_there past d g a t f tells.acted (subst IsPlain (sym tells.answer) tells.plain) stands in
+      let life = present_is head c past g in
+      let whose : tells.reply.who ≡ who_is c (printed past) = ap (λ (v : ReplyTo). v.who) (sym tells.is) ∙ tells.who ∙ sym life in
+      let stands = same_stands lost d.reply tells.reply tells.is (heard_stands out lost past c tells.flight tells.reply f.heard tells.hears (ap out whose ∙ out_not)) in
+      let found = answered_there past d g a t f tells.acted tells.plain stands in
       subst (λ b. right_answer out lost head.osts (printed past) (turn stamp (Client c)) c slot named b ≡ Some given) (sym tells.other)
       (subst (λ (o : Option ℕ). heard_answer out lost head.osts (printed past) named (who_is c (printed past)) o ≡ Some given) (sym tells.heard)
       (subst (λ (v : Answer). answer_there out lost head.osts (printed past) named (who_is c (printed past)) d.reply.xid.0 ≡ Some v) tells.answer
-      (subst (λ (v : At). answer_there out lost head.osts (printed past) v (who_is c (printed past)) d.reply.xid.0 ≡ Some d.reply.answer) tells.turn
-      (subst (λ (v : Who). answer_there out lost head.osts (printed past) d.reply.at v d.reply.xid.0 ≡ Some d.reply.answer) (tells.who ∙ sym life) found))))
+      (subst (λ (v : At). answer_there out lost head.osts (printed past) v (who_is c (printed past)) d.reply.xid.0 ≡ Some (told_so d.reply.answer)) tells.turn
+      (subst (λ (v : Who). answer_there out lost head.osts (printed past) d.reply.at v d.reply.xid.0 ≡ Some (told_so d.reply.answer)) (tells.who ∙ sym life) found))))
+
+  -- a life that isn't out wasn't evicted
+  kept_in : (past : List Line) (who : Who) → EvictedOut out past → out who ≡ false → is_evicted 0 (printed past) who ≡ true → ⊥
+  kept_in [] who k stays e = absurd (cc)
+  kept_in (l ∷ past) who k stays e = by l.entry k e (λ k. kept_in past who k stays)
+    where
+      either : (o : Who) (a b : Bool) → out o ≡ true → ((a && same_life o who) || b) ≡ true → (b ≡ true → ⊥) → ⊥
+      either o a true gone q h = h refl
+      either o true false gone q h = let same = life_is o who (only_left (same_life o who) q) in let goes = ap out (sym same) ∙ gone in absurd (cc)
+        where
+          only_left : (a : Bool) → (a || false) ≡ true → a ≡ true
+          only_left true e = refl
+          only_left false e = absurd (cc)
+      either o false false gone q h = absurd (cc)
+
+      by : (e : Entry) → EvictedOut out (line l.at e ∷ past) → is_evicted 0 (printed (line l.at e ∷ past)) who ≡ true → (EvictedOut out past → is_evicted 0 (printed past) who ≡ true → ⊥) → ⊥
+      by (Evict o cause) k q h = either o (is_target 0 l.at.node) (is_evicted 0 (printed past) who) k.0 q (h k.1)
+      by _ k q h = h k q
+
+  present : (past : List Line) (c : ℕ) → Grown head past → Fits out lost past → out (who_is c (printed past)) ≡ false → Evicted (only 0 past) (life_at c past) → ⊥
+  present past c g f stays gone =
+      kept_in past (life_at c past) f.gone (ap out (sym (present_is head c past g)) ∙ stays) (evicted_is 0 past (life_at c past) ∙ gone)
 
   -- all that it rests on stands: it is committed, or the life heard of it
-  known_stands : (past : List Line) (c : ℕ) (who : Who) (k : Call) (o : Op) (given : Answer) → Grown head past → Fits out lost past → known_answer (notes_at c past) k ≡ Some given → operation_of k ≡ Some o → out (first_life c) ≡ false
+  known_stands : (past : List Line) (c : ℕ) (who : Who) (file : Option HandleFile) (k : Call) (o : Op) (given : Answer) → Grown head past → Fits out lost past → known_answer (notes_at c past) k ≡ Some given → operation_of file k ≡ Some o → out (who_is c (printed past)) ≡ false
       → (e : Deed) → Acted past e → 0 < e.reply.txn.0 → meet e.writes (touches head.osts (tree_at head.osts 0 past) (record { number = none; who = who; op = o })) ≡ true → lost 0 e.reply.txn.0 ≡ false
-  known_stands past c who k o given g f known becomes stays e acted positive m =
+  known_stands past c who file k o given g f known becomes stays e acted positive m =
       let r = any_in (λ (p : Part). list_any (λ w. meets w p) e.writes) (touches head.osts (tree_at head.osts 0 past) (record { number = none; who = who; op = o })) m in
-      by r.0 r.2 (known_saw head past g c none who k o given known becomes r.0 r.1 e (acted_only head past e g acted))
+      by r.0 r.2 (known_saw head past g c none who file k o given known becomes (present past c g f stays) r.0 r.1 e (acted_only head past e g acted))
     where
       clash : (ws : List Part) (p : Part) → Apart ws p → list_any (λ w. meets w p) ws ≡ true → ⊥
       clash [] p h q = absurd (cc)
       clash (w ∷ ws) p h q = clash ws p h.1 (subst (λ (b : Bool). (b || list_any (λ w. meets w p) ws) ≡ true) h.0 q)
 
-      by : (p : Part) → list_any (λ w. meets w p) e.writes ≡ true → Apart e.writes p ⊎ ((e.reply.txn.0 ≤ (committed_at 0 past).0) ⊎ SawBy head past g c none who k o given known becomes e.reply.txn.0) → lost 0 e.reply.txn.0 ≡ false
+      by : (p : Part) → list_any (λ w. meets w p) e.writes ≡ true → Apart e.writes p ⊎ ((e.reply.txn.0 ≤ (committed_at 0 past).0) ⊎ SawBy head past g c none who file k o given known becomes e.reply.txn.0) → lost 0 e.reply.txn.0 ≡ false
       by p q (inl apart) = absurd (clash e.writes p apart q)
       by p q (inr (inl le)) = committed_stands head lost past g f.committed e.reply.txn.0 positive le
-      by p q (inr (inr saw)) = one_stands lost saw.reply.seen e.reply.txn.0 (heard_stands out lost past c saw.flight saw.reply f.heard saw.heard stays).1 saw.seen
+      by p q (inr (inr saw)) = one_stands lost saw.reply.seen e.reply.txn.0 (heard_stands out lost past c saw.flight saw.reply f.heard saw.heard (ap out (saw.of ∙ sym (present_is head c past g)) ∙ stays)).1 saw.seen
 
   -- what is told of what is known is what the machine answers then
   knew_law : (past : List Line) (stamp : Stamp) (c slot : ℕ) (named : At) (given : Answer) → Grown head past → AllAsked past → AllTold past → Fits out lost past
       → KnewAt past (turn stamp (Client c)) c slot named given → out (who_is c (printed past)) ≡ false → right_answer out lost head.osts (printed past) (turn stamp (Client c)) c slot named (same_turn named (turn stamp (Client c))) ≡ Some given
   knew_law past stamp c slot named given g a t f knew out_not =
-      let k = known_operation (notes_at c past) knew.running.call given knew.known in
+      let k = known_operation (notes_at c past) knew.running.file knew.running.call given knew.known in
       let who = who_is c (printed past) in
       let o : Operation = record { number = none; who = who; op = k.0 } in
-      let r = right head past g c none who knew.running.call k.0 given knew.known k.1 in
-      let saw = seen_stands head lost (touches head.osts (tree_at head.osts 0 past) o) past g (known_stands past c who knew.running.call k.0 given g f knew.known k.1 (subst (λ (v : Who). out v ≡ false) (life_is_first past c g) out_not)) in
+      let r = right head past g c none who knew.running.file knew.running.call k.0 given knew.known k.1 (present past c g f out_not) in
+      let saw = seen_stands head lost (touches head.osts (tree_at head.osts 0 past) o) past g (known_stands past c who knew.running.file knew.running.call k.0 given g f knew.known k.1 out_not) in
       let same = alike_op past o g a t f (subst (λ (u : Tree). Every (λ n. keep lost n ≡ true) (seen head.osts (whole head.osts) (items past) (touches head.osts u o))) (sym (whole_is head past g)) saw) in
       let still = readings_change_nothing head.osts (machine past).tree o r.reads in
       subst (λ b. right_answer out lost head.osts (printed past) (turn stamp (Client c)) c slot named b ≡ Some given) (sym knew.own)
       (ap (λ (i : Option ActOf). answer_to head.osts (machine past) i) (known_act head past c slot knew.running k.0 g knew.call k.1)
       ∙ ap (λ (v : Answer). Some v) ((machine_is_table head.osts (machine past) o (λ c. absurd (let s = still in cc))).0
-      ∙ told_plain (machine past) (answer head.osts (machine past).tree o) (subst IsPlain (r.same ∙ same.answer) r.plain) ∙ sym (r.same ∙ same.answer)))
+      ∙ told_plain (machine past) (answer head.osts (machine past).tree o) (subst IsPlain (r.same ∙ same.answer) r.plain)
+      ∙ reading_told k.0 (answer head.osts (machine past).tree o) r.reads (answers_fit head.osts (machine past).tree o) ∙ sym (r.same ∙ same.answer)))
 
   told_law : (past : List Line) (stamp : Stamp) (c slot : ℕ) (named : At) (given : Answer) → Grown head past → AllAsked past → AllTold past → Fits out lost past
       → TellsAt past (turn stamp (Client c)) (Client c) slot named given → ToldAt out lost head.osts (printed past) (turn stamp (Client c)) (Client c) slot named given
   told_law past stamp c slot named given g a t f tells stays counted = on (open_call c slot (printed past)) (by tells)
     where
+      -- that a life is over is no answer of the history, nor that a handle is bad
+      uncounted : given ≡ told.Refused EIO → ⊥
+      uncounted e = let none : is_answer given ≡ false = ap is_answer e in absurd (cc)
+
       by : TellsAt past (turn stamp (Client c)) (Client c) slot named given → right_answer out lost head.osts (printed past) (turn stamp (Client c)) c slot named (same_turn named (turn stamp (Client c))) ≡ Some given
       by (inl asks) = asked_law past stamp c slot named given g a t f asks stays
-      by (inr knew) = knew_law past stamp c slot named given g a t f knew stays
+      by (inr (inl knew)) = knew_law past stamp c slot named given g a t f knew stays
+      by (inr (inr (inl ends))) = absurd (uncounted ends.answer)
+      by (inr (inr (inr bad))) = let none : is_answer given ≡ false = ap is_answer bad.answer in absurd (cc)
 
       on : (o : Option Begun) → right_answer out lost head.osts (printed past) (turn stamp (Client c)) c slot named (same_turn named (turn stamp (Client c))) ≡ Some given → ToldOn out lost head.osts (printed past) (turn stamp (Client c)) c slot o named given
       on None is = tt
@@ -492,9 +601,9 @@ module _ (head : Head) (out : Who → Bool) (lost : ℕ → ℕ → Bool) where
   txn_law past at d g a t f is asks plain s stands =
       let same = txn_answers past at d g a t f is plain (s stands) in
       subst (λ o. is_accepted (answers past (names_act d.reply.who d.reply.txn o)) ≡ true) (sym asks)
-      (ap (λ (v : Answer). is_accepted (Some v)) (same ∙ is.answered) ∙ accepted (answer head.osts (tree_at head.osts 0 past) (operation d)) (λ e r. let still = (refusals_stay head.osts (tree_at head.osts 0 past) (operation d) e r).0 in let moves = is.moves in absurd (cc)))
+      (ap (λ (v : Answer). is_accepted (Some v)) (same ∙ ap told_so is.answered) ∙ accepted (answer head.osts (tree_at head.osts 0 past) (operation d)) (λ e r. let still = (refusals_stay head.osts (tree_at head.osts 0 past) (operation d) e r).0 in let moves = is.moves in absurd (cc)))
     where
-      accepted : (x : Answer) → ((e : Errno) → x ≡ told.Refused e → ⊥) → is_accepted (Some x) ≡ true
+      accepted : (x : Answer) → ((e : Errno) → x ≡ told.Refused e → ⊥) → is_accepted (Some (told_so x)) ≡ true
       accepted (told.Refused e) never = absurd (never e refl)
       accepted _ never = refl
 
@@ -528,10 +637,10 @@ module _ (head : Head) (out : Who → Bool) (lost : ℕ → ℕ → Bool) where
   pub history_law : (past : List Line) → Fits out lost past → Grown head past → AllAsked past → AllTold past → Holds (HistoryOf out lost head.osts) (printed past)
   history_law past f g a t = holds_before head (HistoryOf out lost head.osts) Known known_before history_at past [] g (record { fits = f; asked = a; told = t })
 
--- ---- of a whole trace: no life is gone, and nothing is lost
+-- ---- of a whole trace: whoever was evicted is gone, and nothing is lost
 
-pub none_fit : (out : Who → Bool) (lost : ℕ → ℕ → Bool) → ((n : ℕ) → lost 0 n ≡ false) → (past : List Line) → Fits out lost past
-none_fit out lost none past = record { root = none 1; seen = seen past; heard = hears past; committed = commits past }
+pub none_fit : (out : Who → Bool) (lost : ℕ → ℕ → Bool) → ((n : ℕ) → lost 0 n ≡ false) → (past : List Line) → EvictedOut out past → Fits out lost past
+none_fit out lost none past gone = record { root = none 1; seen = seen past; heard = hears past; committed = commits past; gone = gone }
   where
     all : (ns : List ℕ) → AllStand lost ns
     all [] = tt
@@ -557,10 +666,36 @@ none_fit out lost none past = record { root = none 1; seen = seen past; heard = 
         by (Heard target flight reply) h = (at l.at.node reply, h)
         by _ h = h
 
+    committed : (node : Node) (to : ℕ) → CommitStandsAt lost node to
+    committed (Target zero) to = λ n le. none n
+    committed (Target (suc t)) to = tt
+    committed (Client c) to = tt
+
     commits : (past : List Line) → CommitsStand lost past
     commits [] = tt
     commits (l ∷ past) = by l.entry (commits past)
       where
         by : (e : Entry) → CommitsStand lost past → CommitsStand lost (line l.at e ∷ past)
-        by (Commit to batch) h = ((λ n le. none n), h)
+        by (Commit to batch) h = (committed l.at.node to, h)
         by _ h = h
+
+-- who is gone in a whole trace was evicted in it
+pub gone_out : (head : Head) (past : List Line) → Grown head past → EvictedOut (is_gone (printed past)) past
+gone_out head past g = inside past g (λ who e. e)
+  where
+    inside : (old : List Line) → Grown head old → ((who : Who) → is_gone (printed old) who ≡ true → is_gone (printed past) who ≡ true) → EvictedOut (is_gone (printed past)) old
+    inside [] g h = tt
+    inside (l ∷ old) g h = by l.at.node l.entry g.0 h (inside old g.1)
+      where
+        here : (who : Who) (b : Bool) → ((true && same_life who who) || b) ≡ true
+        here who b = rw (same_life_self who) refl
+
+        more : (a b : Bool) → b ≡ true → (a || b) ≡ true
+        more true b e = refl
+        more false b e = e
+
+        by : (node : Node) (e : Entry) → Allowed head old (turn l.at.stamp node) e → ((who : Who) → is_gone (printed (line (turn l.at.stamp node) e ∷ old)) who ≡ true → is_gone (printed past) who ≡ true)
+            → (((who : Who) → is_gone (printed old) who ≡ true → is_gone (printed past) who ≡ true) → EvictedOut (is_gone (printed past)) old) → EvictedOut (is_gone (printed past)) (line (turn l.at.stamp node) e ∷ old)
+        by (Client c) (Evict who cause) k h ih = absurd k.ok
+        by (Target t) (Evict who cause) k h ih = (h who (here who (is_gone (printed old) who)), ih (λ other e. h other (more (same_life who other) (is_gone (printed old) other) e)))
+        by _ _ k h ih = ih h

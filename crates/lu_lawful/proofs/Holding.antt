@@ -1,8 +1,8 @@
--- The held locks that a printed past shows: each is held by its client's first life, came with a reply that it heard, and is granted
--- still.
-use Rattle.std.proofs.Common.{◌≡◌, ℕ, Bool, true, false, List, [], ◌∷◌, ⊎_elim, Option, Some, refl, sym, subst, ap, ◌∙◌}
+-- The held locks that a printed past shows: each is held by its client's present life, came with a reply that it heard, and is granted
+-- still, unless that life was evicted.
+use Rattle.std.proofs.Common.{◌≡◌, ℕ, Bool, true, false, List, [], ◌∷◌, ◌⊎◌, inl, inr, ⊎_elim, Option, Some, refl, sym, subst, ap, ◌∙◌}
 use Rattle.std.specs.Prelude.{nat_eq, not, if◌then◌else◌}
-use Rattle.std.proofs.lemmas.Bool.{and_parts, cond_both, eqb-true}
+use Rattle.std.proofs.lemmas.Bool.{and_parts, cond_both, cond-false, eqb-true}
 use Rattle.lu_base.specs.declared.ids.At.{At}
 use Rattle.lu_base.specs.declared.ids.Cookie.{Cookie}
 use Rattle.lu_base.specs.declared.ids.Node.{Node}
@@ -22,47 +22,49 @@ use Rattle.lu_held.specs.Locks.{named, is_named}
 use Rattle.lu_held.specs.Held.{changed, used, without}
 use Rattle.lu_machine.specs.Tree.{same_life}
 use Rattle.lu_words.specs.Carried.{Deed, Flight}
-use Rattle.lu_words.specs.Words.{Entry, Tick, Heard, Hold, Drop, Pins, Unpins, Marks, Unmarks, Line, line}
+use Rattle.lu_words.specs.Words.{Entry, Tick, Heard, Hold, Drop, Life, Pins, Unpins, Marks, Unmarks, Line, line}
 use Rattle.lu_words.specs.Concerns.{only}
 use Rattle.lu_words.specs.Printed.{printed}
 use Rattle.lu_client_rows.specs.Caches.{held_as, with_held, with_brought, granted_lock, brought, held_at}
-use Rattle.lu_covered.specs.Calls.{first_life}
+use Rattle.lu_covered.specs.Calls.{life_at}
+use Rattle.lu_covered.specs.ClientStates.{life_of}
 use Rattle.lu_covered.specs.TargetStates.{server_of}
 use Rattle.lu_covered.specs.Heads.{Head}
-use Rattle.lu_laws.specs.Words.Lives.{who_is}
+use Rattle.lu_laws.specs.Words.Lives.{who_is, is_evicted}
 use Rattle.lu_laws.specs.Words.Held.{Held, held, given, is_held_by, all_but, with_lock}
 use Rattle.lu_laws.proofs.Tests.{clash, refuted}
 use Rattle.lu_guards.proofs.Guards.{In, Did, HeardNow, Allowed, Grown}
 use Rattle.lu_guards.proofs.Held.{held_is}
 use Rattle.lu_guards.proofs.Lists.{self, in_append, in_filter}
-use Rattle.lu_facts.proofs.Groups.{turn, Acted, Gave, Locks}
+use Rattle.lu_guards.proofs.Parts.{life_is_of}
+use Rattle.lu_facts.proofs.Groups.{turn, Acted, Gave, Evicted, Locks}
 use Rattle.lu_facts.proofs.All.{holds}
 use Rattle.lu_facts.proofs.Asked.{flew_on_names}
-use Rattle.lu_facts.proofs.Lines.{flew_whole}
+use Rattle.lu_facts.proofs.Lines.{flew_whole, acted_whole}
 use Rattle.lu_facts.proofs.OnNames.{IsOnNames}
 use Rattle.lu_facts.proofs.Sides.{acted_only}
 use Rattle.lu_lawful.proofs.Turns.{same_life_self}
-use Rattle.lu_lawful.proofs.Story.{about_it, acted_whole}
-use Rattle.lu_lawful.proofs.Contents.{life_stays}
+use Rattle.lu_lawful.proofs.Story.{about_it}
+use Rattle.lu_lawful.proofs.Printed.{present_is, evicted_is}
 use Rattle.lu_lawful.proofs.Given.{Showed, all_given, showed_gave}
 use Rattle.lu_lawful.proofs.Granted.{Unique, given_is}
 use Rattle.lu_lawful.proofs.HeldLists.{Has, has_held, has_brought, has_changed, has_used, has_left}
 
 -- ---- what was just heard
 
--- the reply to what was done, of the client's first life
+-- the reply to what was done, of the client's life
 pub record IsHeard (past : List Line) (c : ℕ) (r : ReplyTo) : Type 0 where
   pub deed : Deed
   pub acted : Acted past deed
   pub is : r ≡ record deed.reply { committed = r.committed }
-  pub who : r.who ≡ first_life c
+  pub who : r.who ≡ life_at c past
 
 reply_is_heard : (head : Head) (past : List Line) (stamp : Stamp) (c t : ℕ) (f : Flight) (r : ReplyTo) → Allowed head past (turn stamp (Client c)) (Heard t f r) → Grown head past → IsHeard past c r
 reply_is_heard head past stamp c t f r a g =
     let ok = a.of 0 (about_it t a.ok.0) in
     let h = (holds head past g).at 0 in
     let m = h.done.sent (Target ok.from) (Client c) (message.Reply r) ok.was in
-    record { deed = m.0; acted = acted_whole 0 past m.0 m.1; is = m.2; who = ok.who ∙ h.phase.life c }
+    record { deed = m.0; acted = acted_whole 0 past m.0 m.1; is = m.2; who = ok.who ∙ sym (life_is_of c 0 past) }
 
 -- and nothing was just done
 pub heard_now : (head : Head) (past : List Line) (at : At) (c t : ℕ) (f : Flight) (r : ReplyTo) → Grown head past → at.node ≡ Client c → HeardNow past at t f r → IsHeard past c r × ((d : Deed) → Did past d → ⊥)
@@ -87,19 +89,19 @@ heard_now head (l ∷ past) at c t f r g n h = by l.at.node l.entry g.0 h (heard
 
 -- ---- what is held
 
--- by a client's first life, of the metadata target
+-- by a client's present life, of the metadata target
 pub record HeldIs (past : List Line) (h : Held) : Type 0 where
   pub target : h.target ≡ 0
   pub client : ℕ
-  pub who : h.who ≡ first_life client
+  pub who : h.who ≡ life_at client past
   pub mine : Has h.lock (held_at client past)
 
 abbrev pub AllHeld : List Line → Type 0
 AllHeld past = (h : Held) → In h (held (printed past)) → HeldIs past h
 
 -- it stays where that lock does
-still : (past new : List Line) (h : Held) (k : HeldIs past h) → Has h.lock (held_at k.client new) → HeldIs new h
-still past new h k m = record { target = k.target; client = k.client; who = k.who; mine = m }
+still : (past new : List Line) (h : Held) (k : HeldIs past h) → life_at k.client past ≡ life_at k.client new → Has h.lock (held_at k.client new) → HeldIs new h
+still past new h k same m = record { target = k.target; client = k.client; who = k.who ∙ same; mine = m }
 
 -- no operation on names brings a lock in its answer
 names_bring : (o : Op) (r : ReplyTo) (a : Answer) → IsOnNames o → granted_lock o r a ≡ []
@@ -129,11 +131,15 @@ module _ (head : Head) where
       let k = (locks past g).held c x (subst (λ (hs : List HeldLock). In x hs) (held_is head c past g) i) in
       (k.deed, (acted_whole 0 past k.deed k.gave.0, k.gave.1))
 
-  pub held_granted : (past : List Line) → Grown head past → (h : Held) → HeldIs past h → In h.lock (server_of head.osts (only 0 past)).granted
+  pub held_granted : (past : List Line) → Grown head past → (h : Held) → HeldIs past h → In h.lock (server_of head.osts (only 0 past)).granted ⊎ (is_evicted 0 (printed past) h.who ≡ true)
   held_granted past g h is =
       let x = is.mine in
       let k = (locks past g).held is.client x.0 (subst (λ (hs : List HeldLock). In x.0 hs) (held_is head is.client past g) x.1) in
-      subst (λ (l : Lock). In l (server_of head.osts (only 0 past)).granted) x.2 k.granted
+      let mine : h.who ≡ life_of is.client (only 0 past) = is.who ∙ life_is_of is.client 0 past in
+      ⊎_elim
+      (λ (q : In x.0.lock (server_of head.osts (only 0 past)).granted). inl (subst (λ (l : Lock). In l (server_of head.osts (only 0 past)).granted) x.2 q))
+      (λ (q : Evicted (only 0 past) (life_of is.client (only 0 past))). inr (evicted_is 0 past h.who ∙ subst (λ (w : Who). Evicted (only 0 past) w) (sym mine) q))
+      k.granted
 
   pub gave_reads : (past : List Line) → Grown head past → (d : Deed) (l : Lock) → Gave past d l → l.ask.mode ≡ PR
   gave_reads past g d l i = (locks past g).readers d l (gave_only past g d l i)
@@ -157,12 +163,9 @@ module _ (head : Head) where
       let i = heard_now head past at c t f r g n h in
       let gave = reply_gave past c r l i.0 j in
       let shown : Showed past l = ⊎_elim (λ (q : Did past i.0.deed). absurd (i.1 i.0.deed q)) (λ (q : Showed past l). q) (all_given head past g i.0.deed l gave.0 gave.1) in
-      let whose : l.ask.who ≡ first_life c = gave_whose past g i.0.deed l gave ∙ ap (λ (v : ReplyTo). v.who) (sym i.0.is) ∙ i.0.who in
-      let here : l.ask.who ≡ who_is c (printed past) = whose ∙ ap (λ (v : ℕ). who c v) (sym (life_stays head c past g)) in
+      let whose : l.ask.who ≡ life_at c past = gave_whose past g i.0.deed l gave ∙ ap (λ (v : ReplyTo). v.who) (sym i.0.is) ∙ i.0.who in
+      let here : l.ask.who ≡ who_is c (printed past) = whose ∙ sym (present_is head c past g) in
       (subst (λ (v : Who). given 0 v l.cookie.0 (printed past) ≡ Some l) here (given_is head past l g (unique past g) shown), (i.0.deed, gave))
-    where
-      who : ℕ → ℕ → Who
-      who c v = record { client = c; life = v }
 
   has_gave : (past : List Line) → Grown head past → (c : ℕ) (k : Lock) → Has k (held_at c past) → (d : Deed) × Gave past d k
   has_gave past g c k m = let r = mine_gave past g c m.0 m.1 in (r.0, subst (λ (l : Lock). Gave past r.0 l) m.2 r.1)
@@ -184,7 +187,7 @@ module _ (head : Head) where
       (λ (q : record { who = W; target = t; lock = lock } ≡ h). subst (λ (v : Held). HeldIs new v) q (record { target = a.ok.names; client = d; who = mine_who; mine = at_own past d d lock (with_held (held_as t lock marked)) (λ e m. has_held t lock marked lock (held_at d past) (λ c. refl) m) mine }))
       (λ (q : In h (all_but W t lock.cookie.0 (held (printed past)))).
       let old = k h (in_filter (λ (x : Held). not (is_held_by W t lock.cookie.0 x)) h (held (printed past)) q).0 in
-      still past new h old (at_own past old.client d h.lock (with_held (held_as t lock marked)) (λ e m. has_held t lock marked h.lock (held_at old.client past) (own_same past g old.client now.1.0 lock h.lock now.1.1 m) m) old.mine))
+      still past new h old refl (at_own past old.client d h.lock (with_held (held_as t lock marked)) (λ e m. has_held t lock marked h.lock (held_at old.client past) (own_same past g old.client now.1.0 lock h.lock now.1.1 m) m) old.mine))
       (subst (λ (o : Option Lock). In h (with_lock W t o (held (printed past)))) is i)
     where
       new : List Line
@@ -199,18 +202,15 @@ module _ (head : Head) where
       is : given t W lock.cookie.0 (printed past) ≡ Some lock
       is = subst (λ (v : ℕ). given v (who_is d (printed past)) lock.cookie.0 (printed past) ≡ Some lock) (sym a.ok.names) now.0
 
-      mine_who : W ≡ first_life d
-      mine_who = ap (λ (v : ℕ). life_of d v) (life_stays head d past g)
-        where
-          life_of : ℕ → ℕ → Who
-          life_of c v = record { client = c; life = v }
+      mine_who : W ≡ life_at d past
+      mine_who = present_is head d past g
 
       mine : Has lock (held_at d past)
       mine = (held_as 0 lock false, subst (λ (hs : List HeldLock). In (held_as 0 lock false) hs) (sym (held_is head d past g)) (a.of 0 (about_it t a.ok.names)).1.held, refl)
 
   drops_one : (past : List Line) (stamp : Stamp) (d t : ℕ) (lock : Lock) → Allowed head past (turn stamp (Client d)) (Drop t lock) → Grown head past → AllHeld past → AllHeld (line (turn stamp (Client d)) (Drop t lock) ∷ past)
   drops_one past stamp d t lock a g k h i =
-      still past (line (turn stamp (Client d)) (Drop t lock) ∷ past) h old
+      still past (line (turn stamp (Client d)) (Drop t lock) ∷ past) h old refl
       (at_own past old.client d h.lock (without (named (record { 0 = t }) lock.cookie)) (λ e m. has_left (named (record { 0 = t }) lock.cookie) h.lock (held_at old.client past) (λ x j q. other e x q) m) old.mine)
     where
       W : Who
@@ -222,15 +222,12 @@ module _ (head : Head) where
       old : HeldIs past h
       old = k h f.0
 
-      life_of : ℕ → ℕ → Who
-      life_of c v = record { client = c; life = v }
-
       mine : old.client ≡ d → h.who ≡ W
-      mine e = old.who ∙ ap first_life e ∙ ap (λ (v : ℕ). life_of d v) (sym (life_stays head d past g))
+      mine e = old.who ∙ ap (λ (c : ℕ). life_at c past) e ∙ sym (present_is head d past g)
 
       is_it : old.client ≡ d → h.lock.cookie.0 ≡ lock.cookie.0 → is_held_by W t lock.cookie.0 h ≡ true
       is_it e q =
-          let target : nat_eq h.target t ≡ true = subst (λ (v : ℕ). nat_eq h.target v ≡ true) (old.target ∙ sym a.ok) (self h.target) in
+          let target : nat_eq h.target t ≡ true = subst (λ (v : ℕ). nat_eq h.target v ≡ true) (old.target ∙ sym a.ok.0) (self h.target) in
           let cookie : nat_eq h.lock.cookie.0 lock.cookie.0 ≡ true = subst (λ (v : ℕ). nat_eq h.lock.cookie.0 v ≡ true) q (self h.lock.cookie.0) in
           let who : same_life h.who W ≡ true = subst (λ (v : Who). same_life h.who v ≡ true) (mine e) (same_life_self h.who) in
           rw (target, cookie, who) refl
@@ -248,14 +245,17 @@ module _ (head : Head) where
 
   hears_one : (past : List Line) (stamp : Stamp) (d t : ℕ) (f : Flight) (r : ReplyTo) → Allowed head past (turn stamp (Client d)) (Heard t f r) → Grown head past → AllHeld past → AllHeld (line (turn stamp (Client d)) (Heard t f r) ∷ past)
   hears_one past stamp d t f r a g k h i =
-      still past (line (turn stamp (Client d)) (Heard t f r) ∷ past) h (k h i)
+      still past (line (turn stamp (Client d)) (Heard t f r) ∷ past) h (k h i) refl
       (at_own past (k h i).client d h.lock (with_brought t (brought f.op r)) (λ e m. has_brought t (brought f.op r) h.lock (held_at (k h i).client past) (λ l j q. own_same past g (k h i).client heard.deed l h.lock (brings l j) m q) m) (k h i).mine)
     where
       heard : IsHeard past d r
       heard = reply_is_heard head past stamp d t f r a g
 
       on_names : IsOnNames f.op
-      on_names = flew_on_names head past d f g (flew_whole 0 past d f (((holds head past g).at 0).numbers.flying d f (a.of 0 (about_it t a.ok.0)).flying))
+      on_names = flew_on_names head past w f g (flew_whole 0 past w f (((holds head past g).at 0).numbers.flying w f (a.of 0 (about_it t a.ok.0)).flying))
+        where
+          w : Who
+          w = life_of d (only 0 past)
 
       brings : (l : Lock) → In l (brought f.op r) → Gave past heard.deed l
       brings l j = ⊎_elim
@@ -263,21 +263,37 @@ module _ (head : Head) where
           (λ (q : In l (granted_lock f.op r r.answer)). absurd (subst (λ (ls : List Lock). In l ls) (names_bring f.op r r.answer on_names) q))
           (in_append l r.locks (granted_lock f.op r r.answer) j)
 
+  -- a new life begins when nothing is held
+  lives_one : (past : List Line) (stamp : Stamp) (d : ℕ) (w : Who) → Allowed head past (turn stamp (Client d)) (Life w) → Grown head past → AllHeld past → AllHeld (line (turn stamp (Client d)) (Life w) ∷ past)
+  lives_one past stamp d w a g k h i = by (nat_eq old.client d) refl
+    where
+      old : HeldIs past h
+      old = k h i
+
+      empty : held_at d past ≡ []
+      empty = held_is head d past g ∙ (a.of 0 refl).empty
+
+      by : (b : Bool) → nat_eq old.client d ≡ b → HeldIs (line (turn stamp (Client d)) (Life w) ∷ past) h
+      by true e = absurd (subst (λ (hs : List HeldLock). In old.mine.0 hs) (ap (λ (c : ℕ). held_at c past) (eqb-true old.client d e) ∙ empty) old.mine.1)
+      by false e = still past (line (turn stamp (Client d)) (Life w) ∷ past) h old (sym (cond-false (nat_eq old.client d) w (life_at old.client past) e)) old.mine
+
   keeps_held : (past : List Line) (stamp : Stamp) (node : Node) (e : Entry) → Allowed head past (turn stamp node) e → Grown head past → AllHeld past → AllHeld (line (turn stamp node) e ∷ past)
   keeps_held past stamp (Client d) (Hold t lock marked size seen) a g k h i = holds_one past stamp d t lock marked size seen a g k h i
   keeps_held past stamp (Client d) (Drop t lock) a g k h i = drops_one past stamp d t lock a g k h i
   keeps_held past stamp (Client d) (Heard t f r) a g k h i = hears_one past stamp d t f r a g k h i
   keeps_held past stamp (Client d) (Pins name) a g k h i =
-      let old = k h i in still past (line (turn stamp (Client d)) (Pins name) ∷ past) h old (at_own past old.client d h.lock (changed name Pin) (λ e m. has_changed name Pin h.lock (held_at old.client past) m) old.mine)
+      let old = k h i in still past (line (turn stamp (Client d)) (Pins name) ∷ past) h old refl (at_own past old.client d h.lock (changed name Pin) (λ e m. has_changed name Pin h.lock (held_at old.client past) m) old.mine)
   keeps_held past stamp (Client d) (Unpins name) a g k h i =
       let old = k h i in
-      still past (line (turn stamp (Client d)) (Unpins name) ∷ past) h old
+      still past (line (turn stamp (Client d)) (Unpins name) ∷ past) h old refl
       (at_own past old.client d h.lock (λ hs. used name (changed name Unpin hs)) (λ e m. has_used name h.lock (changed name Unpin (held_at old.client past)) (has_changed name Unpin h.lock (held_at old.client past) m)) old.mine)
   keeps_held past stamp (Client d) (Marks name) a g k h i =
-      let old = k h i in still past (line (turn stamp (Client d)) (Marks name) ∷ past) h old (at_own past old.client d h.lock (changed name Mark) (λ e m. has_changed name Mark h.lock (held_at old.client past) m) old.mine)
+      let old = k h i in still past (line (turn stamp (Client d)) (Marks name) ∷ past) h old refl (at_own past old.client d h.lock (changed name Mark) (λ e m. has_changed name Mark h.lock (held_at old.client past) m) old.mine)
   keeps_held past stamp (Client d) (Unmarks t) a g k h i = absurd a.ok
-  keeps_held past stamp (Target t) Tick a g k h i = let old = k h i in still past (line (turn stamp (Target t)) Tick ∷ past) h old old.mine
-  keeps_held past stamp node e a g k h i = let old = k h i in still past (line (turn stamp node) e ∷ past) h old old.mine
+  keeps_held past stamp (Client d) (Life w) a g k h i = lives_one past stamp d w a g k h i
+  keeps_held past stamp (Target t) (Life w) a g k h i = absurd a.ok
+  keeps_held past stamp (Target t) Tick a g k h i = let old = k h i in still past (line (turn stamp (Target t)) Tick ∷ past) h old refl old.mine
+  keeps_held past stamp node e a g k h i = let old = k h i in still past (line (turn stamp node) e ∷ past) h old refl old.mine
 
   pub all_held : (past : List Line) → Grown head past → AllHeld past
   all_held [] g h i = absurd i

@@ -12,12 +12,17 @@ pub mod Once
 pub mod Plain
 pub mod Fine
 pub mod Flying
+pub mod Notices
 pub mod ActsLaw
+pub mod Hearing
+pub mod Handles
+pub mod BadCalls
 pub mod ToldLaw
 pub mod HistoryLaw
-pub mod RecoveryLaw
 pub mod Given
 pub mod Granted
+pub mod Evictions
+pub mod RecoveryLaw
 pub mod HeldLists
 pub mod Holding
 pub mod Wanted
@@ -32,6 +37,7 @@ pub mod SilentLaw
 pub mod GlimpseLaw
 pub mod Whole
 pub mod OrderlyQuiet
+pub mod OrderlyLives
 pub mod OrderlySaid
 pub mod OrderlyAsked
 pub mod OrderlyAgain
@@ -42,14 +48,18 @@ pub use Rattle.lu_facts.proofs.Asked
 pub use Rattle.lu_facts.proofs.Files
 pub use Rattle.lu_facts.proofs.Finds
 pub use Rattle.lu_facts.proofs.Groups
+pub use Rattle.lu_facts.proofs.LifeLists
 pub use Rattle.lu_facts.proofs.Numbers
+pub use Rattle.lu_facts.proofs.Opens
 pub use Rattle.lu_facts.proofs.OnNames
 pub use Rattle.lu_facts.proofs.Readings
 pub use Rattle.lu_facts.proofs.Sides
 pub use Rattle.lu_facts.proofs.Unlocked
 pub use Rattle.lu_facts.proofs.Lines as FactLines
+pub use Rattle.lu_guards.proofs.ClientHandles
 pub use Rattle.lu_guards.proofs.Covers
 pub use Rattle.lu_guards.proofs.Guards
+pub use Rattle.lu_guards.proofs.LifeLists as GuardLifeLists
 pub use Rattle.lu_guards.proofs.Lists
 pub use Rattle.lu_guards.proofs.Obey
 pub use Rattle.lu_guards.proofs.Parts

@@ -1,6 +1,6 @@
 -- The law of locks holds of the printed past of every grown one: all locks that are granted and held there are for reading, each came as
--- its act asked for it, and what changes names waited until no lock guards what it writes.
-use Rattle.std.proofs.Common.{◌≡◌, ℕ, zero, suc, ◌+◌, Bool, true, false, List, [], ◌∷◌, inl, inr, Option, Some, refl, sym, subst, ap, ◌∙◌}
+-- its act asked for it, and what changes names waited until no lock guards what it writes, but for those of lives that were evicted.
+use Rattle.std.proofs.Common.{◌≡◌, ℕ, zero, suc, ◌+◌, Bool, true, false, List, [], ◌∷◌, inl, inr, ⊎_elim, Option, Some, refl, sym, subst, ap, ◌∙◌}
 use Rattle.std.specs.Prelude.{nat_eq, not, ◌&&◌, ◌||◌, find}
 use Rattle.std.specs.List.{list_any}
 use Rattle.lu_base.specs.declared.ids.At.{At}
@@ -158,10 +158,20 @@ module _ (head : Head) (past : List Line) (g : Grown head past) where
       both true false z w e = refl
       both false y z w e = refl
 
+      -- a life that was evicted opposes nothing
+      over : (x y z w : Bool) → w ≡ true → (x && y && z && not w) ≡ false
+      over true true true w e = ap not e
+      over true true false w e = refl
+      over true false z w e = refl
+      over false y z w e = refl
+
       apart : (part : Part) → In part parts → (h : Held) → HeldIs past h → opposes (printed past) 0 (guard part).0 (exclusive who (guard part).1) h ≡ false
-      apart part i h is =
+      apart part i h is = ⊎_elim
+          (λ (q : In h.lock G).
           both (nat_eq h.target 0) (is_on (guard part).0 h.lock) (conflict (exclusive who (guard part).1) h.lock.ask) (not (is_evicted 0 (printed past) h.who))
-          (ap (λ (b : Bool). is_on (guard part).0 h.lock && b) (meets part h.lock (held_reads head past g h is)) ∙ guards_none h.lock (held_granted head past g h is) part i)
+          (ap (λ (b : Bool). is_on (guard part).0 h.lock && b) (meets part h.lock (held_reads head past g h is)) ∙ guards_none h.lock q part i))
+          (λ (q : is_evicted 0 (printed past) h.who ≡ true). over (nat_eq h.target 0) (is_on (guard part).0 h.lock) (conflict (exclusive who (guard part).1) h.lock.ask) (is_evicted 0 (printed past) h.who) q)
+          (held_granted head past g h is)
 
   txn_ok : (stamp : Stamp) (t : ℕ) (d : Deed) → Allowed head past (turn stamp (Target t)) (Txn d) → AskedAt past d → TxnBy head.osts (printed past) (Target t) d.reply.txn d.reply.who d.reply.xid.0
   txn_ok stamp (suc t) d a asks = tt

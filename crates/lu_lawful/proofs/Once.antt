@@ -12,21 +12,22 @@ use Rattle.lu_msg.specs.declared.messages.Message.TheVariants as message
 use Rattle.lu_msg.specs.declared.messages.Request.{Request as RequestOf}
 use Rattle.lu_msg.specs.declared.operations.Op.{Op}
 use Rattle.lu_words.specs.Carried.{Deed, Flight}
-use Rattle.lu_words.specs.Words.{Entry, Act, Txn as Made, Enters, Line, line}
+use Rattle.lu_words.specs.Words.{Entry, Act, Txn as Made, Evict, Enters, Line, line}
 use Rattle.lu_words.specs.Concerns.{only}
 use Rattle.lu_words.specs.Printed.{printed}
-use Rattle.lu_covered.specs.TargetParts.{is_request_of, without_request}
+use Rattle.lu_target_rows.specs.Lives.{is_life}
+use Rattle.lu_covered.specs.TargetParts.{is_request_of, without_request, waiting_after}
 use Rattle.lu_covered.specs.TargetStates.{server_of, waiting_at}
 use Rattle.lu_covered.specs.Heads.{Head}
 use Rattle.lu_laws.specs.Words.Requests.{first_request}
 use Rattle.lu_guards.proofs.Guards.{In, Was, Allowed, Grown}
 use Rattle.lu_guards.proofs.Lists.{in_append, in_filter}
-use Rattle.lu_guards.proofs.Only.{was_back}
+use Rattle.lu_guards.proofs.Only.{was_back, was_more}
 use Rattle.lu_guards.proofs.Parts.{waiting_is}
 use Rattle.lu_facts.proofs.Groups.{turn, Acted, Flew}
 use Rattle.lu_facts.proofs.All.{holds}
 use Rattle.lu_facts.proofs.Sides.{acted_only}
-use Rattle.lu_lawful.proofs.Story.{about_it, was_more, was_story}
+use Rattle.lu_lawful.proofs.Story.{about_it, was_story}
 use Rattle.lu_lawful.proofs.Printed.{first_sent, sent_first}
 use Rattle.lu_lawful.proofs.Facts.{AskedAt, AllAsked}
 
@@ -50,6 +51,13 @@ waits_asked head (l ∷ past) r g i = by l.at.node l.entry g.0 i (waits_asked he
     by (Client c) (Enters q) k i h = absurd k.ok
     by (Client c) (Act d) k i h = absurd k.ok
     by (Client c) (Made d) k i h = absurd k.ok
+    by (Client c) (Evict who cause) k i h = absurd k.ok
+    by (Target t) (Evict who cause) k i h =
+        let at = line (turn l.at.stamp (Target t)) (Evict who cause) in
+        cond_both (nat_eq 0 t) (waiting_after (waiting_at 0 past) (Evict who cause)) (waiting_at 0 past) (λ (v : List RequestOf). In r v → WasAsked (at ∷ past) r)
+        (λ e j. asked_more at past r (h (in_filter (λ (q : RequestOf). not (is_life q.who (who ∷ []))) r (waiting_at 0 past) j).0))
+        (λ e j. asked_more at past r (h j))
+        i
     by (Target t) (Enters q) k i h =
         let ok = k.of 0 (about_it t k.ok.0) in
         let was = subst (λ (v : ℕ). Was past (Client ok.from) (Target v) (message.Request q)) k.ok.0 (was_back 0 past (Client ok.from) (Target t) (message.Request q) ok.was) in
@@ -118,11 +126,11 @@ first_is head past d g s =
     let first = sent_first past s.1.0 r s.1.1 in
     let is : first_request (printed past) 0 d.reply.who d.reply.xid.0 ≡ Some first.0 = subst (λ (v : Who). first_request (printed past) 0 v d.reply.xid.0 ≡ Some first.0) s.2 (subst (λ v. first_request (printed past) 0 r.who v ≡ Some first.0) y first.1) in
     let k = first_sent past d.reply.who d.reply.xid.0 first.0 is in
-    let m = h.done.sent k.0 (Target 0) (message.Request first.0) (was_story head past k.0 (Target 0) (message.Request first.0) g k.1) in
-    let n = h.done.sent s.1.0 (Target 0) (message.Request r) (was_story head past s.1.0 (Target 0) (message.Request r) g s.1.1) in
+    let m = h.done.sent k.0 (Target 0) (message.Request first.0) (was_story head past k.0 (Target 0) (message.Request first.0) tt g k.1) in
+    let n = h.done.sent s.1.0 (Target 0) (message.Request r) (was_story head past s.1.0 (Target 0) (message.Request r) tt g s.1.1) in
     let mx : m.0.xid ≡ first.0.xid.0 = ap (λ (j : RequestOf). j.xid.0) (sym m.2) in
     let nx : n.0.xid ≡ r.xid.0 = ap (λ (j : RequestOf). j.xid.0) (sym n.2) in
-    let same : m.0 ≡ n.0 = h.numbers.one d.reply.who.client m.0 n.0 (subst (λ (j : Who). Flew (only 0 past) j.client m.0) k.2 m.1) (subst (λ (j : Who). Flew (only 0 past) j.client n.0) s.2 n.1) (mx ∙ k.3 ∙ sym y ∙ sym nx) in
+    let same : m.0 ≡ n.0 = h.numbers.one d.reply.who m.0 n.0 (subst (λ (j : Who). Flew (only 0 past) j m.0) k.2 m.1) (subst (λ (j : Who). Flew (only 0 past) j n.0) s.2 n.1) (mx ∙ k.3 ∙ sym y ∙ sym nx) in
     (first.0, is, ap (λ (j : RequestOf). j.op) m.2 ∙ ap (λ (j : Flight). j.op) same ∙ ap (λ (j : RequestOf). j.op) (sym n.2) ∙ s.4)
 
 pub asked_is : (head : Head) (past : List Line) (d : Deed) → Grown head past → SentFor past d → AskedAt past d

@@ -32,10 +32,10 @@ use Rattle.lu_facts.proofs.Groups.{turn, Acted}
 use Rattle.lu_facts.proofs.All.{holds}
 use Rattle.lu_facts.proofs.Sides.{acted_only}
 use Rattle.lu_lawful.proofs.Turns.{same_turn_self, same_life_self}
-use Rattle.lu_lawful.proofs.Story.{acted_whole}
 use Rattle.lu_lawful.proofs.Lines.{Keeps, holds_before}
 use Rattle.lu_lawful.proofs.OrderlyQuiet.{Says}
 use Rattle.lu_lawful.proofs.OrderlySaid.{takes_it}
+use Rattle.lu_facts.proofs.Lines.{acted_whole}
 
 -- ---- the last reply to each request
 
@@ -109,11 +109,17 @@ keeps_answered head past stamp (Target t) (Send (Client c) (message.Reply k)) a 
     (λ d i. inr (sends_reply head past stamp c k (subst (λ (v : ℕ). Allowed head past (turn stamp (Target v)) (Send (Client c) (message.Reply k))) a.ok.0 a) g h d i)) d i
 keeps_answered head past stamp (Target t) (Send (Client c) (message.Block who boot cookie)) a g h d i =
     ⊎_elim (λ (did : Did past d). absurd (did_owes past (turn stamp (Target t)) d (Send (Client c) (message.Block who boot cookie)) did a.owes)) (λ (last : IsLast past d). inr last) (h d i)
+keeps_answered head past stamp (Target t) (Send (Client c) (message.Ready who boot number)) a g h d i =
+    ⊎_elim (λ (did : Did past d). absurd (did_owes past (turn stamp (Target t)) d (Send (Client c) (message.Ready who boot number)) did a.owes)) (λ (last : IsLast past d). inr last) (h d i)
+keeps_answered head past stamp (Target t) (Send (Client c) (message.Evicted who boot)) a g h d i =
+    ⊎_elim (λ (did : Did past d). absurd (did_owes past (turn stamp (Target t)) d (Send (Client c) (message.Evicted who boot)) did a.owes)) (λ (last : IsLast past d). inr last) (h d i)
 keeps_answered head past stamp (Target t) (Send to m) a g h d i = absurd a.ok
 keeps_answered head past stamp (Client c) (Send (Target t) (message.Request r)) a g h d i =
     ⊎_elim (λ (did : Did past d). absurd (did_owes past (turn stamp (Client c)) d (Send (Target t) (message.Request r)) did a.owes)) (λ (last : IsLast past d). inr last) (h d i)
 keeps_answered head past stamp (Client c) (Send (Target t) (message.Cancel who boot cookie)) a g h d i =
     ⊎_elim (λ (did : Did past d). absurd (did_owes past (turn stamp (Client c)) d (Send (Target t) (message.Cancel who boot cookie)) did a.owes)) (λ (last : IsLast past d). inr last) (h d i)
+keeps_answered head past stamp (Client c) (Send (Target t) (message.Join who boot)) a g h d i =
+    ⊎_elim (λ (did : Did past d). absurd (did_owes past (turn stamp (Client c)) d (Send (Target t) (message.Join who boot)) did a.owes)) (λ (last : IsLast past d). inr last) (h d i)
 keeps_answered head past stamp (Client c) (Send to m) a g h d i = absurd a.ok
 keeps_answered head past stamp (Client c) (Act e) a g h d i = absurd a.ok
 keeps_answered head past stamp (Client c) (Made e) a g h d i = absurd a.ok
@@ -198,6 +204,8 @@ repeated_at head past l later a g = by l.at.node l.entry a
     by : (node : Node) (e : Entry) → Allowed head past (turn l.at.stamp node) e → Says Repeated past (turn l.at.stamp node) later e
     by (Target t) (Send (Client c) (message.Reply k)) a = reply_again head past l.at.stamp t c k a g
     by (Target t) (Send (Client c) (message.Block who boot cookie)) a = tt
+    by (Target t) (Send (Client c) (message.Ready who boot number)) a = tt
+    by (Target t) (Send (Client c) (message.Evicted who boot)) a = tt
     by (Target t) (Send to m) a = absurd a.ok
     by (Client c) (Send to m) a = tt
     by _ _ a = tt

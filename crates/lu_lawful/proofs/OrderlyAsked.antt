@@ -1,7 +1,6 @@
 -- What every covered run keeps of requests: what acts was asked for since its target serves, and isn't answered yet.
 use Rattle.std.proofs.Common.{◌≡◌, ℕ, Bool, true, false, List, [], ◌∷◌, ◌++◌, Option, Some, inl, inr, ⊎_elim, refl, sym, subst, ap, ◌∙◌}
-use Rattle.std.specs.Prelude.{nat_eq, not, if◌then◌else◌}
-use Rattle.std.specs.List.{list_any}
+use Rattle.std.specs.Prelude.{nat_eq, not, ◌||◌, if◌then◌else◌, filter}
 use Rattle.std.specs.Option.{option_map}
 use Rattle.std.proofs.lemmas.Bool.{and_parts, cond_both, cond-true, eqb-true}
 use Rattle.lu_base.specs.declared.ids.At.{At}
@@ -20,6 +19,7 @@ use Rattle.lu_words.specs.Carried.{Deed}
 use Rattle.lu_words.specs.Words.{Entry, Send, Take, Act, Txn as Made, Boot, Close, Evict, Enters, Line, line}
 use Rattle.lu_words.specs.Concerns.{only}
 use Rattle.lu_words.specs.Printed.{printed}
+use Rattle.lu_target_rows.specs.Lives.{is_life}
 use Rattle.lu_covered.specs.TargetParts.{is_request_of, without_request}
 use Rattle.lu_covered.specs.TargetStates.{waiting_at, server_of}
 use Rattle.lu_covered.specs.Heads.{Head}
@@ -28,8 +28,8 @@ use Rattle.lu_laws.specs.Words.Pasts.{is_target}
 use Rattle.lu_laws.specs.Words.Sends.{Sending, message_of}
 use Rattle.lu_laws.specs.Words.Boots.{boot}
 use Rattle.lu_laws.specs.Order.Handed.{comes_to}
-use Rattle.lu_laws.specs.Order.Requests.{is_request, with_request, without_answered, unanswered, has_request, Requests}
-use Rattle.lu_laws.proofs.Tests.{either_left, either_right, settled}
+use Rattle.lu_laws.specs.Order.Requests.{is_request, with_request, without_answered, without_life, unanswered, has_request, Requests}
+use Rattle.lu_laws.proofs.Tests.{settled}
 use Rattle.lu_guards.proofs.Guards.{In, TookNow, ReplyOk, Allowed, Grown}
 use Rattle.lu_guards.proofs.Lists.{self, in_append, in_filter, in_filtered, life_is}
 use Rattle.lu_guards.proofs.Parts.{waiting_is}
@@ -39,8 +39,9 @@ use Rattle.lu_lawful.proofs.Turns.{same_life_self}
 use Rattle.lu_lawful.proofs.Story.{about_it}
 use Rattle.lu_lawful.proofs.Lines.{Keeps, holds_before}
 use Rattle.lu_lawful.proofs.Contents.{boot_is}
-use Rattle.lu_lawful.proofs.Printed.{sending_is}
+use Rattle.lu_lawful.proofs.Printed.{flip, sending_is}
 use Rattle.lu_lawful.proofs.OrderlyQuiet.{Says}
+use Rattle.lu_guards.proofs.ClientLocks.{any_passes}
 
 -- a request is taken and not answered
 abbrev Unanswered : List Line → RequestOf → Type 0
@@ -52,11 +53,6 @@ AllUnanswered past = (r : RequestOf) → In r (waiting_at 0 past) → Unanswered
 
 its_own : (r : RequestOf) → is_request r.who r.xid.0 r ≡ true
 its_own r = rw (same_life_self r.who, self r.xid.0) refl
-
-pub some_any : {A : Type 0} (p : A → Bool) (x : A) (xs : List A) → In x xs → p x ≡ true → list_any p xs ≡ true
-some_any p x [] i t = absurd i
-some_any p x (y ∷ xs) (inl e) t = either_left (list_any p xs) (ap p e ∙ t)
-some_any p x (y ∷ xs) (inr i) t = either_right (p y) (some_any p x xs i t)
 
 -- ---- a message is taken
 
@@ -128,6 +124,10 @@ keeps_unanswered head past stamp (Target t) (Send (Client c) (message.Reply k)) 
     (λ e. h r i)
 keeps_unanswered head past stamp (Target t) (Send (Client c) (message.Block who b cookie)) a g h r i =
     cond_both (is_target 0 (Target t)) (unanswered 0 (printed past)) (unanswered 0 (printed past)) (λ (v : List RequestOf). In r v) (λ e. h r i) (λ e. h r i)
+keeps_unanswered head past stamp (Target t) (Send (Client c) (message.Ready who b number)) a g h r i =
+    cond_both (is_target 0 (Target t)) (unanswered 0 (printed past)) (unanswered 0 (printed past)) (λ (v : List RequestOf). In r v) (λ e. h r i) (λ e. h r i)
+keeps_unanswered head past stamp (Target t) (Send (Client c) (message.Evicted who b)) a g h r i =
+    cond_both (is_target 0 (Target t)) (unanswered 0 (printed past)) (unanswered 0 (printed past)) (λ (v : List RequestOf). In r v) (λ e. h r i) (λ e. h r i)
 keeps_unanswered head past stamp (Target t) (Send to m) a g h r i = absurd a.ok
 keeps_unanswered head past stamp (Client c) (Enters q) a g h r i = absurd a.ok
 keeps_unanswered head past stamp (Target t) (Enters q) a g h r i =
@@ -147,7 +147,28 @@ keeps_unanswered head past stamp (Target t) (Boot b disk) a g h r i = absurd a.o
 keeps_unanswered head past stamp (Client c) (Close outcome) a g h r i = absurd a.ok
 keeps_unanswered head past stamp (Target t) (Close outcome) a g h r i = absurd a.ok
 keeps_unanswered head past stamp (Client c) (Evict who cause) a g h r i = absurd a.ok
-keeps_unanswered head past stamp (Target t) (Evict who cause) a g h r i = absurd a.ok
+keeps_unanswered head past stamp (Target t) (Evict who cause) a g h r i =
+    cond_both (nat_eq 0 t) (filter (λ (q : RequestOf). not (is_life q.who (who ∷ []))) (waiting_at 0 past)) (waiting_at 0 past) (λ (v : List RequestOf). In r v → Unanswered (line (turn stamp (Target t)) (Evict who cause) ∷ past) r)
+    (λ e j. let k = in_filter (λ (q : RequestOf). not (is_life q.who (who ∷ []))) r (waiting_at 0 past) j in without k.0 (other k.1))
+    (λ e j. apart e (h r j))
+    i
+  where
+    -- it is another life's
+    other : not (is_life r.who (who ∷ [])) ≡ true → not (same_life r.who who) ≡ true
+    other e = settled (same_life r.who who) (by (same_life r.who who) e)
+      where
+        by : (b : Bool) → not (b || false) ≡ true → b ≡ false
+        by true e = absurd (cc)
+        by false e = refl
+
+    without : In r (waiting_at 0 past) → not (same_life r.who who) ≡ true → Unanswered (line (turn stamp (Target t)) (Evict who cause) ∷ past) r
+    without w differs =
+        cond_both (is_target 0 (Target t)) (without_life who (unanswered 0 (printed past))) (unanswered 0 (printed past)) (λ (v : List RequestOf). In r v)
+        (λ e. in_filtered (λ (q : RequestOf). not (same_life q.who who)) r (unanswered 0 (printed past)) (h r w) differs)
+        (λ e. h r w)
+
+    apart : nat_eq 0 t ≡ false → Unanswered past r → Unanswered (line (turn stamp (Target t)) (Evict who cause) ∷ past) r
+    apart e u = subst (λ (b : Bool). In r (if b then without_life who (unanswered 0 (printed past)) else unanswered 0 (printed past))) (sym (flip t 0 ∙ e)) u
 keeps_unanswered head past stamp _ _ a g h r i = h r i
 
 pub all_unanswered : (head : Head) (past : List Line) → Grown head past → AllUnanswered past
@@ -162,7 +183,7 @@ acts_asked head past t d r g z i w x =
     subst (λ (v : ℕ). has_request (printed past) (Target v) d.reply.who d.reply.xid.0 ≡ true) (sym z)
     (subst (λ (v : Who). has_request (printed past) (Target 0) v d.reply.xid.0 ≡ true) w
     (subst (λ (v : Xid). has_request (printed past) (Target 0) r.who v.0 ≡ true) x
-    (some_any (is_request r.who r.xid.0) r (unanswered 0 (printed past)) (all_unanswered head past g r (subst (λ (v : List RequestOf). In r v) (sym (waiting_is head.osts 0 past)) i)) (its_own r))))
+    (any_passes (is_request r.who r.xid.0) r (unanswered 0 (printed past)) (all_unanswered head past g r (subst (λ (v : List RequestOf). In r v) (sym (waiting_is head.osts 0 past)) i)) (its_own r))))
 
 requests_at : (head : Head) (past : List Line) (l : Line) (later : List PrintedLine) → Allowed head past l.at l.entry → Grown head past → Keeps Requests past l later
 requests_at head past l later a g = by l.at.node l.entry a

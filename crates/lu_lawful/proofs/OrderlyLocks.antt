@@ -1,7 +1,7 @@
--- What every covered run keeps of locks: what is held came in its turn, what is released was given back in its turn, and what is called
--- back is granted, wasn't called back before, and guards what a request that waits would write.
+-- What every covered run keeps of locks: what is held came in its turn, what is released was given back in its turn or its life was
+-- evicted there, and what is called back is granted, wasn't called back before, and guards what a request that waits would write.
 use Rattle.std.proofs.Common.{◌≡◌, ℕ, suc, ◌+◌, ◌<◌, ◌≤◌, Bool, true, false, List, [], ◌∷◌, ◌++◌, inl, inr, ⊎_elim, Option, Some, None, refl, sym, subst, ap, ◌∙◌, arith}
-use Rattle.std.specs.Prelude.{nat_eq, not, max, ◌&&◌, ◌||◌, if◌then◌else◌, unwrap_or, find}
+use Rattle.std.specs.Prelude.{nat_eq, not, max, ◌&&◌, if◌then◌else◌, unwrap_or, filter, find}
 use Rattle.std.specs.List.{list_any}
 use Rattle.std.proofs.lemmas.Bool.{and_parts, cond_both, cond-true, eqb-true}
 use Rattle.lu_base.specs.declared.ids.At.{At}
@@ -10,6 +10,7 @@ use Rattle.lu_base.specs.declared.ids.Node.{Node}
 use Rattle.lu_base.specs.declared.ids.Node.TheVariants.{Client, Target}
 use Rattle.lu_base.specs.declared.ids.Stamp.{Stamp}
 use Rattle.lu_base.specs.declared.ids.Who.{Who}
+use Rattle.lu_base.specs.declared.locks.Cause.{Cause}
 use Rattle.lu_base.specs.declared.locks.Lock.{Lock}
 use Rattle.lu_msg.specs.declared.messages.Message.{Message}
 use Rattle.lu_msg.specs.declared.messages.Message.TheVariants as message
@@ -22,19 +23,20 @@ use Rattle.lu_machine.specs.Footprint.{writes}
 use Rattle.lu_machine.proofs.Numbers.{number_is_free}
 use Rattle.lu_trace.specs.declared.entries.Line.{Line as PrintedLine}
 use Rattle.lu_words.specs.Carried.{Deed, Called, Flight}
-use Rattle.lu_words.specs.Words.{Entry, Take, Heard, Hold, Act, Block, Release, Boot, Line, line}
+use Rattle.lu_words.specs.Words.{Entry, Take, Heard, Hold, Act, Block, Release, Boot, Evict, Line, line}
 use Rattle.lu_words.specs.Concerns.{only}
 use Rattle.lu_words.specs.Printed.{printed}
-use Rattle.lu_target_rows.specs.Locks.{with_locks, without_lock, called_without}
+use Rattle.lu_target_rows.specs.Lives.{is_life}
+use Rattle.lu_target_rows.specs.Locks.{with_locks, without_lock, locks_without, called_without}
 use Rattle.lu_target_rows.specs.Names.{locks_from}
 use Rattle.lu_target_rows.specs.Objects.{lock_of}
 use Rattle.lu_target_rows.specs.Phase.{greatest_cookie}
 use Rattle.lu_target_rows.specs.Replies as rows
-use Rattle.lu_covered.specs.TargetStates.{Server, granted_at, cookie_at, called_at, server_of, next_number}
+use Rattle.lu_covered.specs.TargetStates.{Server, granted_at, cookie_at, called_at, server_of, shown_of, next_number}
 use Rattle.lu_covered.specs.Deeds.{asked, written_by}
 use Rattle.lu_covered.specs.Heads.{Head}
 use Rattle.lu_laws.specs.Holds.{Holds}
-use Rattle.lu_laws.specs.Words.Pasts.{is_target, or_else, newest}
+use Rattle.lu_laws.specs.Words.Pasts.{is_target, same_turn, or_else, newest}
 use Rattle.lu_laws.specs.Words.Sends.{Sending, taken}
 use Rattle.lu_laws.specs.Words.Boots.{boot, greatest}
 use Rattle.lu_laws.specs.Words.Lives.{who_is}
@@ -47,23 +49,26 @@ use Rattle.lu_laws.specs.Order.Releases as released
 use Rattle.lu_laws.specs.Order.Blocks.{calls_back, is_called, guards, writes_guarded, is_waited_for, has_cause, BlockBy, Blocks}
 use Rattle.lu_laws.specs.Order.Requests.{unanswered}
 use Rattle.lu_laws.proofs.Tests.{clash, either_left, either_right}
-use Rattle.lu_guards.proofs.Guards.{In, Was, Did, HeardNow, TookNow, BlockOk, Allowed, Grown}
-use Rattle.lu_guards.proofs.Lists.{self, in_filter}
+use Rattle.lu_guards.proofs.Guards.{In, Was, Did, HeardNow, TookNow, TookBack, InTurn, IsEvict, BlockOk, BackOk, LeftOk, Allowed, Grown}
+use Rattle.lu_guards.proofs.Lists.{self, in_left, in_right, in_filter, in_filtered}
 use Rattle.lu_guards.proofs.Only.{sent_was}
 use Rattle.lu_guards.proofs.Parts.{granted_is, cookie_is, called_is, waiting_is, server_is}
 use Rattle.lu_facts.proofs.Groups.{turn}
 use Rattle.lu_facts.proofs.All.{holds}
-use Rattle.lu_lawful.proofs.Turns.{same_life_self}
+use Rattle.lu_lawful.proofs.Turns.{same_turn_self, same_life_self}
 use Rattle.lu_lawful.proofs.Story.{about_it, was_story}
 use Rattle.lu_lawful.proofs.Lines.{Keeps, holds_before, Nothing}
-use Rattle.lu_lawful.proofs.Contents.{boot_is, life_stays, contents_are}
+use Rattle.lu_lawful.proofs.Printed.{present_is}
+use Rattle.lu_lawful.proofs.Contents.{boot_is, contents_are}
 use Rattle.lu_lawful.proofs.Once.{all_asked}
 use Rattle.lu_lawful.proofs.Given.{owed, Showed}
 use Rattle.lu_lawful.proofs.Granted.{in_with_locks, granted_showed, all_granted, JustGave}
+use Rattle.lu_lawful.proofs.Evictions.{in_whole}
 use Rattle.lu_lawful.proofs.Holding.{heard_now, unique}
 use Rattle.lu_lawful.proofs.OrderlyQuiet.{Says}
-use Rattle.lu_lawful.proofs.OrderlySaid.{takes_it, any_left}
-use Rattle.lu_lawful.proofs.OrderlyAsked.{some_any, all_unanswered}
+use Rattle.lu_lawful.proofs.OrderlySaid.{takes_it}
+use Rattle.lu_lawful.proofs.OrderlyAsked.{all_unanswered}
+use Rattle.lu_guards.proofs.ClientLocks.{any_passes}
 
 -- ---- what is held came in this turn
 
@@ -97,14 +102,11 @@ hold_comes head past stamp c t lock marked size seen a g =
     let r = a.ok.reply in
     let i = heard_now head past at c t a.ok.flight r g refl a.ok.heard in
     let took = heard_taken head past at t a.ok.flight r g a.ok.heard in
-    let mine : r.who ≡ W = i.0.who ∙ ap (λ (v : ℕ). life_of v) (sym (life_stays head c past g)) in
+    let mine : r.who ≡ W = i.0.who ∙ sym (present_is head c past g) in
     let own : same_life r.who W ≡ true = subst (λ (v : Who). same_life r.who v ≡ true) mine (same_life_self r.who) in
-    let among : list_any (λ (l : Lock). nat_eq l.cookie.0 lock.cookie.0) r.locks ≡ true = some_any (λ (l : Lock). nat_eq l.cookie.0 lock.cookie.0) lock r.locks a.ok.among (self lock.cookie.0) in
+    let among : list_any (λ (l : Lock). nat_eq l.cookie.0 lock.cookie.0) r.locks ≡ true = any_passes (λ (l : Lock). nat_eq l.cookie.0 lock.cookie.0) lock r.locks a.ok.among (self lock.cookie.0) in
     let brought : brings_from t W lock.cookie.0 (taking (Target t) (Client c) (message.Reply r)) ≡ true = rw (self t, own, either_right (grants lock.cookie.0 r.answer) among) refl in
     subst (λ (v : List Sending). list_any (brings_from t W lock.cookie.0) v ≡ true) (sym took.1) (either_left (list_any (brings_from t W lock.cookie.0) took.0) brought)
-  where
-    life_of : ℕ → Who
-    life_of v = record { client = c; life = v }
 
 held_at : (head : Head) (past : List Line) (l : Line) (later : List PrintedLine) → Allowed head past l.at l.entry → Grown head past → Keeps order.Held past l later
 held_at head past l later a g = by l.at.node l.entry a
@@ -127,13 +129,13 @@ found_one l (k ∷ ls) one i = by (has_cookie l.cookie.0 k) refl (found_one l ls
     by true e h = rw e (ap (λ (v : Lock). Some v) (one k (inl refl) (eqb-true k.cookie.0 l.cookie.0 e)))
     by false e h = rw e (h (⊎_elim (λ (q : k ≡ l). absurd (clash (has_cookie l.cookie.0 k) (ap (λ (v : Lock). has_cookie l.cookie.0 v) q ∙ self l.cookie.0) e)) (λ (j : In l ls). j) i))
 
--- where nothing was just done, a lock that the target has granted is found by its cookie
-granted_found : (head : Head) (past : List Line) (l : Lock) → Grown head past → ((d : Deed) → Did past d → ⊥) → In l (server_of head.osts (only 0 past)).granted → find (has_cookie l.cookie.0) (granted 0 (printed past)) ≡ Some l
+-- where nothing was just done, a granted lock whose release isn't shown is found by its cookie
+granted_found : (head : Head) (past : List Line) (l : Lock) → Grown head past → ((d : Deed) → Did past d → ⊥) → In l (shown_of (only 0 past)) → find (has_cookie l.cookie.0) (granted 0 (printed past)) ≡ Some l
 granted_found head past l g none i =
     found_one l (granted 0 (printed past)) (λ k j q. unique head past g k l (granted_showed head past k g j) shown q) here
   where
     here : In l (granted 0 (printed past))
-    here = ⊎_elim (λ (q : In l (granted 0 (printed past))). q) (λ (q : JustGave past l). absurd (none q.0 q.1)) (all_granted head past g l (subst (λ (v : List Lock). In l v) (sym (granted_is head.osts 0 past)) i))
+    here = ⊎_elim (λ (q : In l (granted 0 (printed past))). q) (λ (q : JustGave past l). absurd (none q.0 q.1)) (all_granted head past g l i)
 
     shown : Showed past l
     shown = granted_showed head past l g here
@@ -156,22 +158,51 @@ in_lock_of who cookie l (k ∷ ls) e = cond_both (nat_eq k.cookie.0 cookie.0 && 
     (λ t q. inr (in_lock_of who cookie l ls q))
     e
 
-release_given : (head : Head) (past : List Line) (stamp : Stamp) (t : ℕ) (lock : Lock) → Allowed head past (turn stamp (Target t)) (Release lock) → Grown head past → ReleaseBy (printed past) (turn stamp (Target t)) (Target t) lock.cookie.0
-release_given head past stamp t lock a g =
-    let at = turn stamp (Target t) in
-    let back = a.ok.1 in
-    let found = granted_found head past lock g (λ d did. owed past at d (Release lock) did a.owes) (in_lock_of lock.ask.who lock.cookie lock _ (a.of 0 (about_it t a.ok.0)).found) in
-    let was = was_story head past back.from (Target t) (message.Cancel lock.ask.who back.boot lock.cookie) g (took_was head past at back.from (message.Cancel lock.ask.who back.boot lock.cookie) g back.took) in
-    let first : back.boot ≡ boot 0 (printed past) = (((holds head past g).at 0).locks.cancels back.from (Target t) lock.ask.who back.boot lock.cookie was).first ∙ sym (boot_is head past g) in
-    let took = takes_it head past at back.from (message.Cancel lock.ask.who back.boot lock.cookie) g back.took in
-    let its : nat_eq back.boot (boot 0 (printed past)) ≡ true = subst (λ (v : ℕ). nat_eq back.boot v ≡ true) first (self back.boot) in
-    let cancels : is_cancel (boot 0 (printed past)) lock.ask.who lock.cookie.0 (message.Cancel lock.ask.who back.boot lock.cookie) ≡ true = rw (its, same_life_self lock.ask.who, self lock.cookie.0) refl in
-    let given : is_given_back (printed past) at 0 lock.cookie.0 lock.ask.who ≡ true =
-    either_left (has_ended (printed past) at lock.ask.who)
-    (subst (λ (v : List Sending). list_any (λ (s : Sending). is_cancel (boot 0 (printed past)) lock.ask.who lock.cookie.0 s.message) v ≡ true) (sym took.1)
-    (either_left (list_any (λ (s : Sending). is_cancel (boot 0 (printed past)) lock.ask.who lock.cookie.0 s.message) took.0) cancels))
-    in
-    subst (λ (v : ℕ). ReleaseBy (printed past) at (Target v) lock.cookie.0) (sym a.ok.0) (subst (λ (o : Option Lock). released.has_cause (printed past) at 0 lock.cookie.0 o ≡ true) (sym found) given)
+-- this turn evicted its life
+evict_in : (past : List Line) (at : At) (who : Who) → InTurn (IsEvict who) past at → has_ended (printed past) at who ≡ true
+evict_in [] at who i = absurd i
+evict_in (l ∷ past) at who i = by l.entry i (evict_in past at who)
+  where
+    by : (e : Entry) → InTurn (IsEvict who) (line l.at e ∷ past) at → (InTurn (IsEvict who) past at → has_ended (printed past) at who ≡ true) → has_ended (printed (line l.at e ∷ past)) at who ≡ true
+    by (Evict other cause) (inl p) h =
+        either_left (has_ended (printed past) at who)
+        (rw (subst (λ (v : At). same_turn l.at v ≡ true) p.0 (same_turn_self l.at), subst (λ (w : Who). same_life other w ≡ true) p.1 (same_life_self other)) refl)
+    by (Evict other cause) (inr q) h = either_right (same_turn l.at at && same_life other who) (h q)
+    by _ (inl p) h = absurd p.1
+    by _ (inr q) h = h q
+
+module _ (head : Head) (past : List Line) (stamp : Stamp) (t : ℕ) (lock : Lock) (a : Allowed head past (turn stamp (Target t)) (Release lock)) (g : Grown head past) where
+  abbrev here : At
+  here = turn stamp (Target t)
+
+  release_shown : In lock (shown_of (only 0 past))
+  release_shown = ⊎_elim
+      (λ (b : BackOk head.osts (only 0 past) t lock). ((holds head past g).at 0).locks.shown lock (in_lock_of lock.ask.who lock.cookie lock _ b.found))
+      (λ (b : LeftOk head.osts (only 0 past) lock). b.shown)
+      (a.of 0 (about_it t a.ok.0))
+
+  took_back : TookBack past here lock → is_given_back (printed past) here 0 lock.cookie.0 lock.ask.who ≡ true
+  took_back back =
+      let was = was_story head past back.from (Target t) (message.Cancel lock.ask.who back.boot lock.cookie) tt g (took_was head past here back.from (message.Cancel lock.ask.who back.boot lock.cookie) g back.took) in
+      let first : back.boot ≡ boot 0 (printed past) = (((holds head past g).at 0).locks.cancels back.from (Target t) lock.ask.who back.boot lock.cookie was).first ∙ sym (boot_is head past g) in
+      let took = takes_it head past here back.from (message.Cancel lock.ask.who back.boot lock.cookie) g back.took in
+      let its : nat_eq back.boot (boot 0 (printed past)) ≡ true = subst (λ (v : ℕ). nat_eq back.boot v ≡ true) first (self back.boot) in
+      let cancels : is_cancel (boot 0 (printed past)) lock.ask.who lock.cookie.0 (message.Cancel lock.ask.who back.boot lock.cookie) ≡ true = rw (its, same_life_self lock.ask.who, self lock.cookie.0) refl in
+      either_left (has_ended (printed past) here lock.ask.who)
+      (subst (λ (v : List Sending). list_any (λ (s : Sending). is_cancel (boot 0 (printed past)) lock.ask.who lock.cookie.0 s.message) v ≡ true) (sym took.1)
+      (either_left (list_any (λ (s : Sending). is_cancel (boot 0 (printed past)) lock.ask.who lock.cookie.0 s.message) took.0) cancels))
+
+  release_given : ReleaseBy (printed past) here (Target t) lock.cookie.0
+  release_given =
+      let found = granted_found head past lock g (λ d did. owed past here d (Release lock) did a.owes) release_shown in
+      let given : is_given_back (printed past) here 0 lock.cookie.0 lock.ask.who ≡ true = ⊎_elim
+      (λ (back : TookBack past here lock). took_back back)
+      (λ (i : InTurn (IsEvict lock.ask.who) (only t past) here).
+      either_right (list_any (λ (s : Sending). is_cancel (boot 0 (printed past)) lock.ask.who lock.cookie.0 s.message) (taken (printed past) here))
+      (evict_in past here lock.ask.who (in_whole (IsEvict lock.ask.who) t past here i)))
+      a.ok.1
+      in
+      subst (λ (v : ℕ). ReleaseBy (printed past) here (Target v) lock.cookie.0) (sym a.ok.0) (subst (λ (o : Option Lock). released.has_cause (printed past) here 0 lock.cookie.0 o ≡ true) (sym found) given)
 
 releases_at : (head : Head) (past : List Line) (l : Line) (later : List PrintedLine) → Allowed head past l.at l.entry → Grown head past → Keeps Releases past l later
 releases_at head past l later a g = by l.at.node l.entry a
@@ -186,9 +217,16 @@ releases head past g = holds_before head Releases Nothing (λ l past k. k) (λ p
 
 -- ---- what was called back once
 
+abbrev cookie_of : ℕ → Cookie
+cookie_of n = record { 0 = n }
+
+-- the lock is among those called back, as one of its life
+abbrev pub Among : Lock → List Called → Type 0
+Among l cs = (c : Called) × In c cs × (c.cookie.0 ≡ l.cookie.0) × (c.who ≡ l.ask.who)
+
 -- a cookie that was called back was given, and its lock is among those called back while it is granted
 abbrev pub CalledOnce : List Line → ℕ → Type 0
-CalledOnce past k = (k ≤ cookie_at 0 past) × ((l : Lock) → In l (granted_at 0 past) → l.cookie.0 ≡ k → rows.is_called l.cookie (called_at 0 past) ≡ true)
+CalledOnce past k = (k ≤ cookie_at 0 past) × ((l : Lock) → In l (granted_at 0 past) → l.cookie.0 ≡ k → Among l (called_at 0 past))
 
 abbrev pub AllCalled : List Line → Type 0
 AllCalled past = (k : ℕ) → is_called 0 k (printed past) ≡ true → CalledOnce past k
@@ -202,18 +240,6 @@ from_above n who [] l i = absurd i
 from_above n who (w ∷ ws) l (inl e) = let q : n + 1 ≡ l.cookie.0 = ap (λ (v : Lock). v.cookie.0) e in omega (arith, q)
 from_above n who (w ∷ ws) l (inr i) = let lt = from_above (n + 1) who ws l i in omega arith
 
-any_more : {A : Type 0} (p : A → Bool) (xs ys : List A) → list_any p xs ≡ true → list_any p (xs ++ ys) ≡ true
-any_more p [] ys h = absurd (cc)
-any_more p (x ∷ xs) ys h = by (p x) h (any_more p xs ys)
-  where
-    by : (b : Bool) → (b || list_any p xs) ≡ true → (list_any p xs ≡ true → list_any p (xs ++ ys) ≡ true) → (b || list_any p (xs ++ ys)) ≡ true
-    by true q more = refl
-    by false q more = more q
-
-any_last : {A : Type 0} (p : A → Bool) (xs : List A) (y : A) → p y ≡ true → list_any p (xs ++ y ∷ []) ≡ true
-any_last p [] y e = either_left false e
-any_last p (x ∷ xs) y e = either_right (p x) (any_last p xs y e)
-
 module _ (head : Head) (past : List Line) (g : Grown head past) where
   low : (l : Lock) → In l (server_of head.osts (only 0 past)).granted → l.cookie.0 ≤ cookie_at 0 past
   low l i =
@@ -223,10 +249,18 @@ module _ (head : Head) (past : List Line) (g : Grown head past) where
       let e = cookie_is head.osts 0 past in
       omega (arith, le, e)
 
+  -- two granted locks of one cookie are one
+  granted_one : (k l : Lock) → In k (server_of head.osts (only 0 past)).granted → In l (server_of head.osts (only 0 past)).granted → k.cookie.0 ≡ l.cookie.0 → k ≡ l
+  granted_one k l i j q =
+      let h = ((holds head past g).at 0).locks in
+      let d = h.granted k i in
+      let e = h.granted l j in
+      (h.once d.0 e.0 k l d.1 e.1 (ap cookie_of q)).1
+
   called_act : (stamp : Stamp) (t : ℕ) (d : Deed) → Allowed head past (turn stamp (Target t)) (Act d) → AllCalled past → AllCalled (line (turn stamp (Target t)) (Act d) ∷ past)
   called_act stamp t d a h k e = (
     cond_both (nat_eq 0 t) (greatest_cookie (cookie_at 0 past) d.reply.locks) (cookie_at 0 past) (λ (v : ℕ). k ≤ v) (λ t. let le = (h k e).0 in let up = greatest_above (cookie_at 0 past) d.reply.locks in omega arith) (λ t. (h k e).0),
-    λ l. cond_both (nat_eq 0 t) (with_locks d.reply.locks (granted_at 0 past)) (granted_at 0 past) (λ (v : List Lock). In l v → l.cookie.0 ≡ k → rows.is_called l.cookie (called_at 0 past) ≡ true)
+    λ l. cond_both (nat_eq 0 t) (with_locks d.reply.locks (granted_at 0 past)) (granted_at 0 past) (λ (v : List Lock). In l v → l.cookie.0 ≡ k → Among l (called_at 0 past))
         (λ t i q. ⊎_elim (λ (j : In l d.reply.locks). absurd (new l j q)) (λ (j : In l (granted_at 0 past)). (h k e).1 l j q) (in_with_locks d.reply.locks l (granted_at 0 past) i))
         (λ t i q. (h k e).1 l i q),
   )
@@ -249,15 +283,18 @@ module _ (head : Head) (past : List Line) (g : Grown head past) where
       here : nat_eq 0 t ≡ true
       here = about_it t a.ok
 
-      added : (l : Lock) → rows.is_called l.cookie (called_at 0 past ++ called ∷ []) ≡ true → rows.is_called l.cookie (called_at 0 (line (turn stamp (Target t)) (Block called) ∷ past)) ≡ true
-      added l q = subst (λ (v : List Called). rows.is_called l.cookie v ≡ true) (sym (cond-true (nat_eq 0 t) (called_at 0 past ++ called ∷ []) (called_at 0 past) here)) q
+      added : (l : Lock) → Among l (called_at 0 past ++ called ∷ []) → Among l (called_at 0 (line (turn stamp (Target t)) (Block called) ∷ past))
+      added l q = subst (λ (v : List Called). Among l v) (sym (cond-true (nat_eq 0 t) (called_at 0 past ++ called ∷ []) (called_at 0 past) here)) q
 
       by : (b : Bool) → (is_target 0 (Target t) && nat_eq called.cookie.0 k) ≡ b → unwrap_or (or_else (if b then Some true else None) (newest (calls_back 0 k) (printed past))) false ≡ true → CalledOnce (line (turn stamp (Target t)) (Block called) ∷ past) k
-      by false q f = ((h k f).0, λ l i s. added l (any_more (λ (c : Called). nat_eq c.cookie.0 l.cookie.0) (called_at 0 past) (called ∷ []) ((h k f).1 l i s)))
+      by false q f = ((h k f).0, λ l i s. let m = (h k f).1 l i s in added l (m.0, in_left m.0 (called_at 0 past) (called ∷ []) m.1, m.2, m.3))
       by true q f =
-          let same : called.cookie.0 ≡ k = eqb-true called.cookie.0 k (and_parts (is_target 0 (Target t)) (nat_eq called.cookie.0 k) q).1 in (
-            let le = low ok.lock ok.granted in let of : called.cookie.0 ≡ ok.lock.cookie.0 = ap (λ (v : Cookie). v.0) ok.of_cookie in omega (arith, le, of, same),
-            λ l i s. added l (any_last (λ (c : Called). nat_eq c.cookie.0 l.cookie.0) (called_at 0 past) called (subst (λ (v : ℕ). nat_eq called.cookie.0 v ≡ true) (same ∙ sym s) (self called.cookie.0))),
+          let same : called.cookie.0 ≡ k = eqb-true called.cookie.0 k (and_parts (is_target 0 (Target t)) (nat_eq called.cookie.0 k) q).1 in
+          let of : called.cookie.0 ≡ ok.lock.cookie.0 = ap (λ (v : Cookie). v.0) ok.of_cookie in (
+            let le = low ok.lock ok.granted in omega (arith, le, of, same),
+            λ l i s.
+                let one : ok.lock ≡ l = granted_one ok.lock l ok.granted (subst (λ (v : List Lock). In l v) (granted_is head.osts 0 past) i) (sym of ∙ same ∙ sym s) in
+                added l (called, in_right called (called_at 0 past) (called ∷ []) (inl refl), same ∙ sym s, ok.of_life ∙ ap (λ (v : Lock). v.ask.who) one),
           )
 
   called_release : (stamp : Stamp) (t : ℕ) (lock : Lock) → Allowed head past (turn stamp (Target t)) (Release lock) → AllCalled past → AllCalled (line (turn stamp (Target t)) (Release lock) ∷ past)
@@ -266,13 +303,30 @@ module _ (head : Head) (past : List Line) (g : Grown head past) where
       here : nat_eq 0 t ≡ true
       here = about_it t a.ok.0
 
-      still : (l : Lock) → In l (granted_at 0 (line (turn stamp (Target t)) (Release lock) ∷ past)) → l.cookie.0 ≡ k → rows.is_called l.cookie (called_at 0 (line (turn stamp (Target t)) (Release lock) ∷ past)) ≡ true
+      still : (l : Lock) → In l (granted_at 0 (line (turn stamp (Target t)) (Release lock) ∷ past)) → l.cookie.0 ≡ k → Among l (called_at 0 (line (turn stamp (Target t)) (Release lock) ∷ past))
       still l i q =
           let j = in_filter (λ (x : Lock). not (nat_eq x.cookie.0 lock.cookie.0)) l (granted_at 0 past) (subst (λ (v : List Lock). In l v) (cond-true (nat_eq 0 t) (without_lock lock (granted_at 0 past)) (granted_at 0 past) here) i) in
-          subst (λ (v : List Called). rows.is_called l.cookie v ≡ true) (sym (cond-true (nat_eq 0 t) (called_without lock (called_at 0 past)) (called_at 0 past) here))
-          (any_left (λ (c : Called). nat_eq c.cookie.0 l.cookie.0) (λ (c : Called). not (nat_eq c.cookie.0 lock.cookie.0)) (called_at 0 past)
-          (λ c s. subst (λ (v : ℕ). not (nat_eq v lock.cookie.0) ≡ true) (sym (eqb-true c.cookie.0 l.cookie.0 s)) j.1)
-          ((h k e).1 l j.0 q))
+          let m = (h k e).1 l j.0 q in
+          subst (λ (v : List Called). Among l v) (sym (cond-true (nat_eq 0 t) (called_without lock (called_at 0 past)) (called_at 0 past) here))
+          (m.0, in_filtered (λ (c : Called). not (nat_eq c.cookie.0 lock.cookie.0)) m.0 (called_at 0 past) m.1 (subst (λ (v : ℕ). not (nat_eq v lock.cookie.0) ≡ true) (sym m.2) j.1), m.2, m.3)
+
+  -- what a life was called back for goes with its locks
+  called_evict : (stamp : Stamp) (t : ℕ) (who : Who) (cause : Cause) → AllCalled past → AllCalled (line (turn stamp (Target t)) (Evict who cause) ∷ past)
+  called_evict stamp t who cause h k e = (
+    (h k e).0,
+    λ l. gone l (nat_eq 0 t) ((h k e).1 l),
+  )
+    where
+      its : Who → Bool
+      its w = not (is_life w (who ∷ []))
+
+      gone : (l : Lock) (b : Bool) → (In l (granted_at 0 past) → l.cookie.0 ≡ k → Among l (called_at 0 past)) → In l (if b then locks_without (who ∷ []) (granted_at 0 past) else granted_at 0 past) → l.cookie.0 ≡ k
+          → Among l (if b then filter (λ (c : Called). its c.who) (called_at 0 past) else called_at 0 past)
+      gone l false m i q = m i q
+      gone l true m i q =
+          let j = in_filter (λ (x : Lock). its x.ask.who) l (granted_at 0 past) i in
+          let r = m j.0 q in
+          (r.0, in_filtered (λ (c : Called). its c.who) r.0 (called_at 0 past) r.1 (ap its r.3 ∙ j.1), r.2, r.3)
 
 keeps_called : (head : Head) (past : List Line) (stamp : Stamp) (node : Node) (e : Entry) → Allowed head past (turn stamp node) e → Grown head past → AllCalled past → AllCalled (line (turn stamp node) e ∷ past)
 keeps_called head past stamp (Client c) (Act d) a g h k e = absurd a.ok
@@ -281,6 +335,8 @@ keeps_called head past stamp (Client c) (Block called) a g h k e = absurd a.ok
 keeps_called head past stamp (Target t) (Block called) a g h k e = called_block head past g stamp t called a h k e
 keeps_called head past stamp (Client c) (Release lock) a g h k e = absurd a.ok
 keeps_called head past stamp (Target t) (Release lock) a g h k e = called_release head past g stamp t lock a h k e
+keeps_called head past stamp (Client c) (Evict who cause) a g h k e = absurd a.ok
+keeps_called head past stamp (Target t) (Evict who cause) a g h k e = called_evict head past g stamp t who cause h k e
 keeps_called head past stamp (Client c) (Boot b disk) a g h k e = absurd a.ok
 keeps_called head past stamp (Target t) (Boot b disk) a g h k e = absurd a.ok
 keeps_called head past stamp node _ a g h k e = h k e
@@ -311,7 +367,8 @@ block_caused head past stamp t called a g =
     new : (b : Bool) → is_called 0 lock.cookie.0 (printed past) ≡ b → b ≡ false
     new false e = refl
     new true e =
-        let before = (all_called head past g lock.cookie.0 e).1 lock (subst (λ (ls : List Lock). In lock ls) (sym (granted_is head.osts 0 past)) ok.granted) refl in
+        let m = (all_called head past g lock.cookie.0 e).1 lock (subst (λ (ls : List Lock). In lock ls) (sym (granted_is head.osts 0 past)) ok.granted) refl in
+        let before : rows.is_called lock.cookie (called_at 0 past) ≡ true = any_passes (λ (c : Called). nat_eq c.cookie.0 lock.cookie.0) m.0 (called_at 0 past) m.1 (subst (λ (n : ℕ). nat_eq m.0.cookie.0 n ≡ true) m.2 (self m.0.cookie.0)) in
         absurd (clash (rows.is_called lock.cookie v.called) (subst (λ (cs : List Called). rows.is_called lock.cookie cs ≡ true) (called_is head.osts 0 past) before) ok.new)
 
     r : RequestOf
@@ -333,11 +390,11 @@ block_caused head past stamp t called a g =
 
     waited : is_waited_for head.osts (printed past) 0 lock ≡ true
     waited =
-        some_any (writes_guarded head.osts (contents head.osts (printed past)) number lock) r (unanswered 0 (printed past))
+        any_passes (writes_guarded head.osts (contents head.osts (printed past)) number lock) r (unanswered 0 (printed past))
         (all_unanswered head past g r (subst (λ (v : List RequestOf). In r v) (sym (waiting_is head.osts 0 past)) ok.waits)) guarded
 
     cause : has_cause head.osts (printed past) 0 (find (has_cookie lock.cookie.0) (granted 0 (printed past))) ≡ true
-    cause = subst (λ (o : Option Lock). has_cause head.osts (printed past) 0 o ≡ true) (sym (granted_found head past lock g (λ d did. owed past (turn stamp (Target t)) d (Block called) did a.owes) ok.granted)) waited
+    cause = subst (λ (o : Option Lock). has_cause head.osts (printed past) 0 o ≡ true) (sym (granted_found head past lock g (λ d did. owed past (turn stamp (Target t)) d (Block called) did a.owes) (((holds head past g).at 0).locks.shown lock ok.granted))) waited
 
 blocks_at : (head : Head) (past : List Line) (l : Line) (later : List PrintedLine) → Allowed head past l.at l.entry → Grown head past → Keeps (Blocks head.osts) past l later
 blocks_at head past l later a g = by l.at.node l.entry a

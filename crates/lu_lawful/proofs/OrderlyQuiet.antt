@@ -5,7 +5,7 @@ use Rattle.lu_base.specs.declared.ids.At.{At}
 use Rattle.lu_base.specs.declared.ids.Node.{Node}
 use Rattle.lu_base.specs.declared.ids.Node.TheVariants.{Client, Target}
 use Rattle.lu_trace.specs.declared.entries.Line.{Line as PrintedLine}
-use Rattle.lu_words.specs.Words.{Entry, Life, Act, Txn as Made, Grant, Wait, Block, Release, Crash, Boot, Close, Kept as Keeps_, Restore, Joined as Joins, Line, line}
+use Rattle.lu_words.specs.Words.{Entry, Act, Txn as Made, Grant, Wait, Block, Release, Crash, Boot, Close, Kept as Keeps_, Restore, Line, line}
 use Rattle.lu_words.specs.Sent.{count_sent}
 use Rattle.lu_words.specs.Printed.{printed_entry, printed}
 use Rattle.lu_covered.specs.Heads.{Head}
@@ -14,11 +14,9 @@ use Rattle.lu_laws.specs.Words.Pasts.{Past, newest}
 use Rattle.lu_laws.specs.Order.Phases.{Phase, Serves, turns_to, is_serving, serves}
 use Rattle.lu_laws.specs.Order.Serving.{Serving}
 use Rattle.lu_laws.specs.Order.Boots.{Boots}
-use Rattle.lu_laws.specs.Order.Lives.{Lives}
 use Rattle.lu_laws.specs.Order.Closes.{Closes}
 use Rattle.lu_laws.specs.Order.Kept.{Kept}
 use Rattle.lu_laws.specs.Order.Restored.{Restored}
-use Rattle.lu_laws.specs.Order.Joined.{Joined}
 use Rattle.lu_laws.specs.Order.Waits.{Waits}
 use Rattle.lu_guards.proofs.Guards.{EntryOk, Allowed, Grown}
 use Rattle.lu_facts.proofs.Groups.{turn}
@@ -76,11 +74,6 @@ boots_at past at later (Client c) Crash ok = absurd ok
 boots_at past at later (Target t) Crash ok = absurd ok
 boots_at past at later _ _ ok = tt
 
-lives_at : (past : List Line) (at : At) (later : List PrintedLine) (node : Node) (e : Entry) → EntryOk past (turn at.stamp node) node e → Says Lives past (turn at.stamp node) later e
-lives_at past at later (Client c) (Life who) ok = absurd ok
-lives_at past at later (Target t) (Life who) ok = absurd ok
-lives_at past at later _ _ ok = tt
-
 closes_at : (past : List Line) (at : At) (later : List PrintedLine) (node : Node) (e : Entry) → EntryOk past (turn at.stamp node) node e → Says Closes past (turn at.stamp node) later e
 closes_at past at later (Client c) (Close outcome) ok = absurd ok
 closes_at past at later (Target t) (Close outcome) ok = absurd ok
@@ -96,11 +89,6 @@ restored_at past at later (Client c) (Restore lock) ok = absurd ok
 restored_at past at later (Target t) (Restore lock) ok = absurd ok
 restored_at past at later _ _ ok = tt
 
-joined_at : (past : List Line) (at : At) (later : List PrintedLine) (node : Node) (e : Entry) → EntryOk past (turn at.stamp node) node e → Says Joined past (turn at.stamp node) later e
-joined_at past at later (Client c) (Joins who) ok = absurd ok
-joined_at past at later (Target t) (Joins who) ok = absurd ok
-joined_at past at later _ _ ok = tt
-
 waits_at : (past : List Line) (at : At) (later : List PrintedLine) (node : Node) (e : Entry) → EntryOk past (turn at.stamp node) node e → Says Waits past (turn at.stamp node) later e
 waits_at past at later (Client c) (Wait lock asked) ok = absurd ok
 waits_at past at later (Target t) (Wait lock asked) ok = absurd ok
@@ -115,9 +103,6 @@ module _ (head : Head) (past : List Line) (g : Grown head past) where
   pub boots : Holds Boots (printed past)
   boots = kept_by_each head Boots boots_at past g
 
-  pub lives : Holds Lives (printed past)
-  lives = kept_by_each head Lives lives_at past g
-
   pub closes : Holds Closes (printed past)
   closes = kept_by_each head Closes closes_at past g
 
@@ -126,9 +111,6 @@ module _ (head : Head) (past : List Line) (g : Grown head past) where
 
   pub restored : Holds Restored (printed past)
   restored = kept_by_each head Restored restored_at past g
-
-  pub joined : Holds Joined (printed past)
-  joined = kept_by_each head Joined joined_at past g
 
   pub waits : Holds Waits (printed past)
   waits = kept_by_each head Waits waits_at past g

@@ -1,6 +1,6 @@
 -- What every covered run keeps of what is said: messages carry the boot and the committed number of their target, what is
 -- heard was in flight, and what acts has the answer of the contents.
-use Rattle.std.proofs.Common.{◌≡◌, ℕ, Bool, true, false, List, [], ◌∷◌, Option, Some, None, ◌⊎◌, inl, inr, ⊎_elim, refl, sym, subst, ap, ◌∙◌, arith}
+use Rattle.std.proofs.Common.{◌≡◌, ℕ, Bool, true, false, List, [], ◌∷◌, Option, Some, None, inl, ⊎_elim, refl, sym, subst, ap, ◌∙◌, arith}
 use Rattle.std.specs.Prelude.{nat_eq, not, ◌&&◌, ◌||◌, if◌then◌else◌, is_some, filter}
 use Rattle.std.specs.List.{list_any}
 use Rattle.std.proofs.lemmas.Bool.Decides.{nat_tests}
@@ -26,7 +26,7 @@ use Rattle.lu_words.specs.Concerns.{only}
 use Rattle.lu_words.specs.Printed.{printed}
 use Rattle.lu_covered.specs.TargetParts.{operation}
 use Rattle.lu_covered.specs.TargetStates.{committed_at, server_at}
-use Rattle.lu_covered.specs.Calls.{first_life}
+use Rattle.lu_covered.specs.ClientStates.{flights_of, is_own}
 use Rattle.lu_covered.specs.Heads.{Head}
 use Rattle.lu_laws.specs.Holds.{Holds}
 use Rattle.lu_laws.specs.Words.Pasts.{same_turn, or_else}
@@ -36,22 +36,23 @@ use Rattle.lu_laws.specs.Words.Requests.{asked, is_of, has_heard, has_number, wi
 use Rattle.lu_laws.specs.Order.Messages.{MessageAt, Messages}
 use Rattle.lu_laws.specs.Order.Heard.{HeardAt, Heard}
 use Rattle.lu_laws.specs.Order.Answers.{none, AnswerOf, AnswerBy, Answers}
-use Rattle.lu_guards.proofs.Guards.{Was, TookNow, Allowed, Grown}
+use Rattle.lu_guards.proofs.Guards.{In, Was, TookNow, Allowed, Grown}
 use Rattle.lu_guards.proofs.Lists.{self}
-use Rattle.lu_guards.proofs.Parts.{committed_is as server_committed}
+use Rattle.lu_guards.proofs.Parts.{committed_is as server_committed, life_is_of}
 use Rattle.lu_facts.proofs.Groups.{turn, Hears}
 use Rattle.lu_facts.proofs.All.{holds}
 use Rattle.lu_lawful.proofs.Turns.{same_turn_self, same_life_self}
-use Rattle.lu_lawful.proofs.Story.{about_it, acted_whole}
+use Rattle.lu_lawful.proofs.Story.{about_it}
 use Rattle.lu_lawful.proofs.Once.{acted_sent}
-use Rattle.lu_lawful.proofs.ActsLaw.{hears_on}
+use Rattle.lu_lawful.proofs.ActsLaw.{either}
 use Rattle.lu_laws.proofs.Tests.{settled, either_left, either_right}
 use Rattle.lu_lawful.proofs.Lines.{Keeps, holds_before, Nothing}
 use Rattle.lu_lawful.proofs.Facts.{AskedAt, AllAsked}
-use Rattle.lu_lawful.proofs.Contents.{boot_is, committed_is, life_stays, contents_are, asked_before}
+use Rattle.lu_lawful.proofs.Contents.{boots_are, boot_is, commits_are, committed_is, contents_are, asked_before}
 use Rattle.lu_lawful.proofs.Deeds.{ActIs, TxnIs, act_is, txn_is}
-use Rattle.lu_lawful.proofs.Printed.{sending_is}
+use Rattle.lu_lawful.proofs.Printed.{present_is, own_by, own_story, sending_is}
 use Rattle.lu_lawful.proofs.OrderlyQuiet.{Says}
+use Rattle.lu_facts.proofs.Lines.{acted_whole, hears_only}
 
 -- ---- what messages carry
 
@@ -70,6 +71,24 @@ block_carries head past stamp t c who boot cookie a g =
     let phase = ((holds head past g).at 0).phase in
     subst (λ (v : ℕ). MessageAt (printed past) v (message.Block who boot cookie)) (sym a.ok) (record { present = ap (λ (v : ℕ). Some v) (ok.of_boot ∙ phase.boot ∙ sym (boot_is head past g)); number = tt })
 
+-- at every target
+notice_carries : (head : Head) (past : List Line) (stamp : Stamp) (t c : ℕ) (who : Who) (boot : ℕ) → Allowed head past (turn stamp (Target t)) (Send (Client c) (message.Evicted who boot)) → Grown head past
+    → MessageAt (printed past) t (message.Evicted who boot)
+notice_carries head past stamp t c who boot a g =
+    let ok = a.of t (self t) in
+    let phase = ((holds head past g).at t).phase in
+    record { present = ap (λ (v : ℕ). Some v) (ok.of_boot ∙ phase.boot ∙ sym (boots_are head t past g)); number = tt }
+
+ready_carries : (head : Head) (past : List Line) (stamp : Stamp) (t c : ℕ) (who : Who) (boot : ℕ) (number : TxnOf) → Allowed head past (turn stamp (Target t)) (Send (Client c) (message.Ready who boot number)) → Grown head past
+    → MessageAt (printed past) t (message.Ready who boot number)
+ready_carries head past stamp t c who boot number a g =
+    let ok = a.of t (self t) in
+    let phase = ((holds head past g).at t).phase in
+    record {
+      present = ap (λ (v : ℕ). Some v) (ok.of_boot ∙ phase.boot ∙ sym (boots_are head t past g));
+      number = ap (λ (v : TxnOf). v.0) (ok.of_committed ∙ sym (server_committed head.osts t past)) ∙ sym (commits_are head t past g);
+    }
+
 messages_at : (head : Head) (past : List Line) (l : Line) (later : List PrintedLine) → Allowed head past l.at l.entry → Grown head past → Keeps Messages past l later
 messages_at head past l later a g = by l.at.node l.entry a
   where
@@ -77,6 +96,8 @@ messages_at head past l later a g = by l.at.node l.entry a
     by (Client c) (Send to m) k = tt
     by (Target t) (Send (Client c) (message.Reply r)) k = reply_carries head past l.at.stamp t c r k g
     by (Target t) (Send (Client c) (message.Block who boot cookie)) k = block_carries head past l.at.stamp t c who boot cookie k g
+    by (Target t) (Send (Client c) (message.Ready who boot number)) k = ready_carries head past l.at.stamp t c who boot number k g
+    by (Target t) (Send (Client c) (message.Evicted who boot)) k = notice_carries head past l.at.stamp t c who boot k g
     by (Target t) (Send (Client c) m) k = absurd k.ok
     by (Target t) (Send (Target u) m) k = absurd k.ok
     by _ _ k = tt
@@ -118,9 +139,9 @@ any_left p q (x ∷ xs) stay h = by (p x) refl h (any_left p q xs stay)
     by true e h left = subst (λ ys. list_any p ys ≡ true) (sym (cond-true (q x) (x ∷ filter q xs) (filter q xs) (stay x e))) (either_left (list_any p (filter q xs)) e)
     by false e h left = cond_both (q x) (x ∷ filter q xs) (filter q xs) (λ ys. list_any p ys ≡ true) (λ t. either_right (p x) (left h)) (λ t. left h)
 
--- a number is in flight, or its reply was heard
-abbrev FlownOr : List Line → ℕ → ℕ → Type 0
-FlownOr past c x = (has_number x (in_flight 0 (first_life c) (printed past)) || has_heard 0 (first_life c) x (printed past)) ≡ true
+-- a life's number is in flight, or its reply was heard
+abbrev FlownOr : List Line → Who → ℕ → Type 0
+FlownOr past who x = (has_number x (in_flight 0 who (printed past)) || has_heard 0 who x (printed past)) ≡ true
 
 module _ (flight : List RequestOf) (heard : Bool) (x : ℕ) where
   or_more : (a b : Bool) → (b || heard) ≡ true → ((a || b) || heard) ≡ true
@@ -151,59 +172,55 @@ module _ (flight : List RequestOf) (heard : Bool) (x : ℕ) where
       by true n h = either_left heard (any_left (λ (r : RequestOf). nat_eq r.xid.0 x) (λ (r : RequestOf). not (nat_eq r.xid.0 y)) flight other n)
       by false n h = either_right (has_number x (without_number y flight)) h
 
-sent_flies : (past : List Line) (c : ℕ) (r : RequestOf) (from : Node) → r.who ≡ first_life c → Was past from (Target 0) (message.Request r) → FlownOr past c r.xid.0
-sent_flies [] c r from w s = absurd s
-sent_flies (l ∷ past) c r from w s = by l.entry s (sent_flies past c r from w)
+sent_flies : (past : List Line) (who : Who) (r : RequestOf) (from : Node) → r.who ≡ who → Was past from (Target 0) (message.Request r) → FlownOr past who r.xid.0
+sent_flies [] who r from w s = absurd s
+sent_flies (l ∷ past) who r from w s = by l.entry s (sent_flies past who r from w)
   where
-    sends : (to : Node) (m : Message) → FlownOr past c r.xid.0 → FlownOr (line l.at (Send to m) ∷ past) c r.xid.0
-    sends to (message.Request q) h = asked_more (in_flight 0 (first_life c) (printed past)) (has_heard 0 (first_life c) r.xid.0 (printed past)) r.xid.0 _ q h
+    sends : (to : Node) (m : Message) → FlownOr past who r.xid.0 → FlownOr (line l.at (Send to m) ∷ past) who r.xid.0
+    sends to (message.Request q) h = asked_more (in_flight 0 who (printed past)) (has_heard 0 who r.xid.0 (printed past)) r.xid.0 _ q h
     sends to _ h = h
 
-    now : FlownOr (line l.at (Send (Target 0) (message.Request r)) ∷ past) c r.xid.0
+    now : FlownOr (line l.at (Send (Target 0) (message.Request r)) ∷ past) who r.xid.0
     now =
-        let flight = in_flight 0 (first_life c) (printed past) in
-        let heard = has_heard 0 (first_life c) r.xid.0 (printed past) in
-        let mine : is_of 0 (first_life c) (Target 0) r ≡ true = subst (λ (v : Who). same_life r.who v ≡ true) w (same_life_self r.who) in
-        asked_now flight heard r.xid.0 r refl (is_of 0 (first_life c) (Target 0) r) (has_number r.xid.0 flight) mine refl heard
+        let flight = in_flight 0 who (printed past) in
+        let heard = has_heard 0 who r.xid.0 (printed past) in
+        let mine : is_of 0 who (Target 0) r ≡ true = subst (λ (v : Who). same_life r.who v ≡ true) w (same_life_self r.who) in
+        asked_now flight heard r.xid.0 r refl (is_of 0 who (Target 0) r) (has_number r.xid.0 flight) mine refl heard
 
-    by : (e : Entry) → Was (line l.at e ∷ past) from (Target 0) (message.Request r) → (Was past from (Target 0) (message.Request r) → FlownOr past c r.xid.0) → FlownOr (line l.at e ∷ past) c r.xid.0
+    by : (e : Entry) → Was (line l.at e ∷ past) from (Target 0) (message.Request r) → (Was past from (Target 0) (message.Request r) → FlownOr past who r.xid.0) → FlownOr (line l.at e ∷ past) who r.xid.0
     by (Send to m) s h = ⊎_elim
         (λ (p : (l.at.node ≡ from) × (to ≡ Target 0) × (m ≡ message.Request r)).
-        subst (λ (v : Message). FlownOr (line l.at (Send to v) ∷ past) c r.xid.0) (sym p.2)
-        (subst (λ (v : Node). FlownOr (line l.at (Send v (message.Request r)) ∷ past) c r.xid.0) (sym p.1) now))
+        subst (λ (v : Message). FlownOr (line l.at (Send to v) ∷ past) who r.xid.0) (sym p.2)
+        (subst (λ (v : Node). FlownOr (line l.at (Send v (message.Request r)) ∷ past) who r.xid.0) (sym p.1) now))
         (λ (p : Was past from (Target 0) (message.Request r)). sends to m (h p))
         s
     by (Hears_ t f k) s h =
-        heard_more (in_flight 0 (first_life c) (printed past)) (has_heard 0 (first_life c) r.xid.0 (printed past)) r.xid.0 k.xid.0
-        (is_by (first_life c) (printed past) l.at.node && nat_eq t 0) (nat_eq k.xid.0 r.xid.0) refl (h s)
+        heard_more (in_flight 0 who (printed past)) (has_heard 0 who r.xid.0 (printed past)) r.xid.0 k.xid.0
+        (is_by who (printed past) l.at.node && nat_eq t 0) (nat_eq k.xid.0 r.xid.0) refl (h s)
     by _ s h = h s
 
--- what a life heard, its client heard
-life_heard : (head : Head) (past : List Line) → Grown head past → (c x : ℕ) → has_heard 0 (first_life c) x (printed past) ≡ true → Hears (only 0 past) c x
-life_heard head [] g c x i = absurd (cc)
-life_heard head (l ∷ past) g c x i = by l.at.node l.entry g.0 i (life_heard head past g.1 c x)
+-- what a life heard by the laws, it heard
+life_heard : (head : Head) (past : List Line) → Grown head past → (who : Who) (x : ℕ) → has_heard 0 who x (printed past) ≡ true → Hears (only 0 past) who x
+life_heard head [] g who x i = absurd (cc)
+life_heard head (l ∷ past) g who x i = by l.at.node l.entry g.0 i (life_heard head past g.1 who x)
   where
-    here : (d t : ℕ) (f : Flight) (r : ReplyTo) → Allowed head past (turn l.at.stamp (Client d)) (Hears_ t f r) → (is_by (first_life c) (printed past) (Client d) && nat_eq t 0 && nat_eq r.xid.0 x) ≡ true
-        → Hears (only 0 (line (turn l.at.stamp (Client d)) (Hears_ t f r) ∷ past)) c x
+    here : (d t : ℕ) (f : Flight) (r : ReplyTo) → Allowed head past (turn l.at.stamp (Client d)) (Hears_ t f r) → (is_by who (printed past) (Client d) && nat_eq t 0 && nat_eq r.xid.0 x) ≡ true
+        → Hears (only 0 (line (turn l.at.stamp (Client d)) (Hears_ t f r) ∷ past)) who x
     here d t f r k p =
-        let a = and_parts (is_by (first_life c) (printed past) (Client d) && nat_eq t 0) _ p in
-        let b = and_parts (is_by (first_life c) (printed past) (Client d)) _ a.0 in
-        let o = and_parts (nat_eq d c) _ b.0 in
+        let a = and_parts (is_by who (printed past) (Client d) && nat_eq t 0) _ p in
+        let b = and_parts (is_by who (printed past) (Client d)) _ a.0 in
+        let own : is_own who (only 0 past) (Client d) ≡ true = sym (own_by head who past (Client d) g.1 ∙ own_story 0 who past (Client d)) ∙ b.0 in
         let y = (k.of 0 (about_it t k.ok.0)).xid in
-        subst (λ (v : ℕ). Hears (only 0 (line (turn l.at.stamp (Client d)) (Hears_ v f r) ∷ past)) c x) (sym k.ok.0) (inl (ap Client (eqb-true d c o.0), y ∙ eqb-true r.xid.0 x a.1))
+        subst (λ (v : ℕ). Hears (only 0 (line (turn l.at.stamp (Client d)) (Hears_ v f r) ∷ past)) who x) (sym k.ok.0) (inl (own, y ∙ eqb-true r.xid.0 x a.1))
 
-    by : (node : Node) (e : Entry) → Allowed head past (turn l.at.stamp node) e → has_heard 0 (first_life c) x (printed (line (turn l.at.stamp node) e ∷ past)) ≡ true → (has_heard 0 (first_life c) x (printed past) ≡ true → Hears (only 0 past) c x)
-        → Hears (only 0 (line (turn l.at.stamp node) e ∷ past)) c x
+    by : (node : Node) (e : Entry) → Allowed head past (turn l.at.stamp node) e → has_heard 0 who x (printed (line (turn l.at.stamp node) e ∷ past)) ≡ true → (has_heard 0 who x (printed past) ≡ true → Hears (only 0 past) who x)
+        → Hears (only 0 (line (turn l.at.stamp node) e ∷ past)) who x
     by (Target t) (Hears_ u f r) k i h = absurd k.ok
     by (Client d) (Hears_ t f r) k i h = ⊎_elim
-        (λ (p : (is_by (first_life c) (printed past) (Client d) && nat_eq t 0 && nat_eq r.xid.0 x) ≡ true). here d t f r k p)
-        (λ (p : has_heard 0 (first_life c) x (printed past) ≡ true). hears_on (line (turn l.at.stamp (Client d)) (Hears_ t f r)) past c x (h p))
-        (either (is_by (first_life c) (printed past) (Client d) && nat_eq t 0 && nat_eq r.xid.0 x) (has_heard 0 (first_life c) x (printed past)) i)
-      where
-        either : (a b : Bool) → (a || b) ≡ true → (a ≡ true) ⊎ (b ≡ true)
-        either true b e = inl refl
-        either false b e = inr e
-    by node e k i h = hears_on (line (turn l.at.stamp node) e) past c x (h i)
+        (λ (p : (is_by who (printed past) (Client d) && nat_eq t 0 && nat_eq r.xid.0 x) ≡ true). here d t f r k p)
+        (λ (p : has_heard 0 who x (printed past) ≡ true). hears_only (line (turn l.at.stamp (Client d)) (Hears_ t f r)) past who x (h p))
+        (either (is_by who (printed past) (Client d) && nat_eq t 0 && nat_eq r.xid.0 x) (has_heard 0 who x (printed past)) i)
+    by node e k i h = hears_only (line (turn l.at.stamp node) e) past who x (h i)
 
 reply_heard : (head : Head) (past : List Line) (stamp : Stamp) (c t : ℕ) (f : Flight) (r : ReplyTo) → Allowed head past (turn stamp (Client c)) (Hears_ t f r) → Grown head past
     → HeardAt (printed past) (turn stamp (Client c)) (who_is c (printed past)) t r.xid.0
@@ -211,19 +228,19 @@ reply_heard head past stamp c t f r a g =
     let at = turn stamp (Client c) in
     let ok = a.of 0 (about_it t a.ok.0) in
     let h = (holds head past g).at 0 in
-    let mine : r.who ≡ first_life c = ok.who ∙ h.phase.life c in
+    let mine : r.who ≡ who_is c (printed past) = ok.who ∙ sym (life_is_of c 0 past) ∙ sym (present_is head c past g) in
     let took = takes_it head past at (Target t) (message.Reply r) g a.ok.1 in
-    let fits : as_reply t (first_life c) r.xid.0 (Target t) (message.Reply r) ≡ Some r = by (same_life r.who (first_life c)) (subst (λ (v : Who). same_life r.who v ≡ true) mine (same_life_self r.who)) in
+    let fits : as_reply t r.who r.xid.0 (Target t) (message.Reply r) ≡ Some r = by (same_life r.who r.who) (same_life_self r.who) in
     let m = h.done.sent (Target ok.from) (Client c) (message.Reply r) ok.was in
     let sent = acted_sent head past m.0 g (acted_whole 0 past m.0 m.1) in
-    let who : sent.0.who ≡ first_life c = sent.2 ∙ ap (λ (v : ReplyTo). v.who) (sym m.2) ∙ mine in
+    let who : sent.0.who ≡ r.who = sent.2 ∙ ap (λ (v : ReplyTo). v.who) (sym m.2) in
     let x : sent.0.xid.0 ≡ r.xid.0 = ap (λ (v : Xid). v.0) sent.3 ∙ ap (λ (v : ReplyTo). v.xid.0) (sym m.2) in
-    let flown = subst (λ (v : ℕ). FlownOr past c v) x (sent_flies past c sent.0 sent.1.0 who sent.1.1) in
-    let unheard : has_heard 0 (first_life c) r.xid.0 (printed past) ≡ true → ⊥ = λ e. (h.numbers.over c r.xid.0 (life_heard head past g c r.xid.0 e)).1 f ok.flying ok.xid in
-    subst (λ (v : ℕ). HeardAt (printed past) at (record { client = c; life = v }) t r.xid.0) (sym (life_stays head c past g))
+    let flown = subst (λ (v : ℕ). FlownOr past r.who v) x (sent_flies past r.who sent.0 sent.1.0 who sent.1.1) in
+    let unheard : has_heard 0 r.who r.xid.0 (printed past) ≡ true → ⊥ = λ e. (h.numbers.over r.who r.xid.0 (life_heard head past g r.who r.xid.0 e)).1 f (subst (λ (v : Who). In f (flights_of v (only 0 past))) (sym ok.who) ok.flying) ok.xid in
+    subst (λ (v : Who). HeardAt (printed past) at v t r.xid.0) mine
     (record {
-      reply = ap (λ (v : List Sending). is_some (first_fit (λ s. as_reply t (first_life c) r.xid.0 s.from s.message) v)) took.1 ∙ ap (λ (o : Option ReplyTo). is_some (or_else o (first_fit (λ s. as_reply t (first_life c) r.xid.0 s.from s.message) took.0))) fits;
-      flies = subst (λ (v : ℕ). has_number r.xid.0 (in_flight v (first_life c) (printed past)) ≡ true) (sym a.ok.0) (in_flight_then (has_number r.xid.0 (in_flight 0 (first_life c) (printed past))) (has_heard 0 (first_life c) r.xid.0 (printed past)) flown unheard);
+      reply = ap (λ (v : List Sending). is_some (first_fit (λ s. as_reply t r.who r.xid.0 s.from s.message) v)) took.1 ∙ ap (λ (o : Option ReplyTo). is_some (or_else o (first_fit (λ s. as_reply t r.who r.xid.0 s.from s.message) took.0))) fits;
+      flies = subst (λ (v : ℕ). has_number r.xid.0 (in_flight v r.who (printed past)) ≡ true) (sym a.ok.0) (in_flight_then (has_number r.xid.0 (in_flight 0 r.who (printed past))) (has_heard 0 r.who r.xid.0 (printed past)) flown unheard);
     })
   where
     by : (b : Bool) → b ≡ true → (if nat_eq t t && (b && nat_eq r.xid.0 r.xid.0) then Some r else None) ≡ Some r

@@ -6,6 +6,7 @@ use Rattle.lu_guards.proofs.Turns.{covered_head}
 use Rattle.lu_guards.proofs.Obey.{grown}
 use Rattle.lu_lawful.proofs.Once.{all_asked}
 use Rattle.lu_lawful.proofs.OrderlyQuiet as quiet
+use Rattle.lu_lawful.proofs.OrderlyLives as lives
 use Rattle.lu_lawful.proofs.OrderlySaid as said
 use Rattle.lu_lawful.proofs.OrderlyAsked as asked
 use Rattle.lu_lawful.proofs.OrderlyAgain as again
@@ -21,7 +22,7 @@ orderly all turns is run covered =
       requests = asked.requests head past g;
       boots = quiet.boots head past g;
       messages = said.messages head past g;
-      lives = quiet.lives head past g;
+      lives = lives.lives head past g;
       held = locks.held head past g;
       heard = said.heard head past g;
       repeated = again.repeated head past g;
@@ -29,7 +30,7 @@ orderly all turns is run covered =
       closes = quiet.closes head past g;
       kept = quiet.kept head past g;
       restored = quiet.restored head past g;
-      joined = quiet.joined head past g;
+      joined = lives.joined head past g;
       waits = quiet.waits head past g;
       releases = locks.releases head past g;
       blocks = locks.blocks head past g;

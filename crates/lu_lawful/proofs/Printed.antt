@@ -4,32 +4,40 @@ use Rattle.std.specs.Prelude.{nat_eq, ◌&&◌, ◌||◌, ◌≤◌, if◌then�
 use Rattle.std.specs.Option.{option_map}
 use Rattle.std.proofs.lemmas.Bool.{and_parts, cond_both, eqb-true}
 use Rattle.std.proofs.lemmas.Bool.Decides.{nat_tests}
+use Rattle.lu_base.specs.declared.ids.At.{At}
 use Rattle.lu_base.specs.declared.ids.Node.{Node}
+use Rattle.lu_base.specs.declared.ids.Stamp.{Stamp}
 use Rattle.lu_base.specs.declared.ids.Node.TheVariants.{Client, Target}
 use Rattle.lu_base.specs.declared.ids.Who.{Who}
+use Rattle.lu_base.specs.declared.locks.Cause.{Cause}
 use Rattle.lu_msg.specs.declared.messages.Message.{Message}
 use Rattle.lu_msg.specs.declared.messages.Message.TheVariants as message
 use Rattle.lu_msg.specs.declared.messages.Request.{Request as RequestOf}
 use Rattle.lu_msg.specs.declared.calls.Call.{Call}
-use Rattle.lu_msg.specs.declared.calls.Call.TheVariants as call
-use Rattle.lu_msg.specs.declared.operations.Op.{Op}
 use Rattle.lu_trace.specs.declared.entries.Entry.{Entry as PrintedEntry}
 use Rattle.lu_trace.specs.declared.entries.Entry.TheVariants as trace
 use Rattle.lu_words.specs.Carried.{Asking, Asked, Answered, Running}
-use Rattle.lu_words.specs.Words.{Entry, Begin, Send, Heard, Told, Queues, Stands, Die, Line, line, is_client}
+use Rattle.lu_words.specs.Words.{Entry, Begin, Send, Take, Heard, Told, Life, Queues, Stands, Die, Evict, Line, line, is_client, same_life}
+use Rattle.lu_words.specs.Concerns.{concerns, only}
 use Rattle.lu_words.specs.Sent.{count_sent, Sent}
 use Rattle.lu_words.specs.Printed.{printed}
-use Rattle.lu_covered.specs.Calls.{asks, asks_for, call_at, is_dead, operation_of}
+use Rattle.lu_target_rows.specs.Lives.{is_life, with_life}
+use Rattle.lu_covered.specs.Calls.{asks, asks_for, call_at, is_dead, life_at}
+use Rattle.lu_covered.specs.ClientStates.{life_of, is_own}
+use Rattle.lu_covered.specs.TargetStates.{evicted_of}
 use Rattle.lu_covered.specs.Heads.{Head}
-use Rattle.lu_laws.specs.Words.Pasts.{has_died}
+use Rattle.lu_laws.specs.Words.Pasts.{same_turn, has_died}
 use Rattle.lu_laws.specs.Words.Pasts as pasts
-use Rattle.lu_laws.specs.Words.Sends.{Sending, sends, sending, goes_to, is_sent_to}
+use Rattle.lu_laws.specs.Words.Sends.{Sending, sends, sending, goes_to, is_sent_to, with_taken, taken}
+use Rattle.lu_laws.specs.Words.Lives.{life, who_is, is_by, is_evicted, is_gone}
 use Rattle.lu_laws.specs.Words.Calls.{open_call}
 use Rattle.lu_laws.specs.Words.Calls as calls
 use Rattle.lu_laws.specs.Words.Requests.{is_of, first_request}
-use Rattle.lu_guards.proofs.Guards.{Was, Allowed, Grown}
-use Rattle.lu_guards.proofs.Lists.{self, life_is}
+use Rattle.lu_guards.proofs.Guards.{In, Was, Took, EntryOk, Allowed, Grown}
+use Rattle.lu_guards.proofs.Lists.{self, life_is, who, or_right}
+use Rattle.lu_guards.proofs.Parts.{life_is_of}
 use Rattle.lu_facts.proofs.Groups.{turn}
+use Rattle.lu_guards.proofs.LifeLists.{any_with}
 
 pub flip : (a b : ℕ) → nat_eq a b ≡ nat_eq b a
 flip a b = grind (arith, nat_tests)
@@ -85,8 +93,56 @@ same_node_self : (a : Node) → pasts.same_node a a ≡ true
 same_node_self (Client c) = self c
 same_node_self (Target t) = self t
 
+turn_self : (a : At) → same_turn a a ≡ true
+turn_self a = rw (self a.stamp.0, same_node_self a.node) refl
+
 pub sent_to : (past : List Line) (n : ℕ) (from to : Node) (m : Message) → Sent past n from to m → is_sent_to (printed past) n to ≡ true
 sent_to past n from to m s = ap (goes_to to) (sending_is past n from to m s) ∙ same_node_self to
+
+-- ---- what a turn took
+
+-- the story of one target's is the whole past's
+pub took_whole : (t : ℕ) (past : List Line) (at : At) (from : Node) (m : Message) → Took (only t past) at from m → Took past at from m
+took_whole t [] at from m k = k
+took_whole t (l ∷ past) at from m k = cond_both (concerns t l.at.node l.entry) (l ∷ only t past) (only t past) (λ (p : List Line). Took p at from m → Took (l ∷ past) at from m)
+    (λ e q. by l.entry (took_whole t past at from m) q)
+    (λ e q. more l.entry (took_whole t past at from m q))
+    k
+  where
+    by : (e : Entry) → (Took (only t past) at from m → Took past at from m) → Took (line l.at e ∷ only t past) at from m → Took (line l.at e ∷ past) at from m
+    by (Take n sender k) h (inl p) = inl p
+    by (Take n sender k) h (inr q) = inr (h q)
+    by _ h q = h q
+
+    more : (e : Entry) → Took past at from m → Took (line l.at e ∷ past) at from m
+    more (Take n sender k) q = inr q
+    more _ q = q
+
+-- it is among what the turn took, by the laws
+pub took_taken : (head : Head) (past : List Line) (at : At) (from : Node) (m : Message) → Grown head past → Took past at from m → In (record { from = from; to = at.node; message = m }) (taken (printed past) at)
+took_taken head [] at from m g k = absurd k
+took_taken head (l ∷ past) at from m g k = by l.entry g.0 k (took_taken head past at from m g.1)
+  where
+    S : Sending
+    S = record { from = from; to = at.node; message = m }
+
+    old : List Sending
+    old = taken (printed past) at
+
+    more : (o : Option Sending) → In S old → In S (with_taken o old)
+    more None i = i
+    more (Some s) i = inr i
+
+    here : (n : ℕ) (sender : Node) (k : Message) → l.at ≡ at → sending (printed past) n ≡ on_way sender l.at.node k → sender ≡ from → k ≡ m → In S (if same_turn l.at at then with_taken (sending (printed past) n) old else old)
+    here n sender k e q f r =
+        let own : same_turn l.at at ≡ true = subst (λ (v : At). same_turn l.at v ≡ true) e (turn_self l.at) in
+        let is : sending (printed past) n ≡ Some S = q ∙ ap (λ (v : Node). on_way v l.at.node k) f ∙ ap (λ (v : At). on_way from v.node k) e ∙ ap (λ (v : Message). on_way from at.node v) r in
+        subst (λ (ss : List Sending). In S ss) (sym (ap (λ (b : Bool). if b then with_taken (sending (printed past) n) old else old) own ∙ ap (λ (o : Option Sending). with_taken o old) is)) (inl refl)
+
+    by : (e : Entry) → Allowed head past l.at e → Took (line l.at e ∷ past) at from m → (Took past at from m → In S old) → In S (taken (printed (line l.at e ∷ past)) at)
+    by (Take n sender k) ok (inl p) h = here n sender k p.0 (sending_is past n sender l.at.node k ok.ok.sent) p.1 p.2
+    by (Take n sender k) ok (inr q) h = cond_both (same_turn l.at at) (with_taken (sending (printed past) n) old) old (λ (ss : List Sending). In S ss) (λ t. more (sending (printed past) n) (h q)) (λ t. h q)
+    by _ ok q h = h q
 
 or_cond : (a b : Bool) → (a || b) ≡ (if a then true else b)
 or_cond true b = refl
@@ -100,80 +156,211 @@ died_is c (l ∷ past) = by l.entry (died_is c past)
     by Die h = ap (λ (b : Bool). b || has_died c (printed past)) (flip_client c l.at.node) ∙ or_cond (is_client c l.at.node) (has_died c (printed past)) ∙ ap (λ (b : Bool). if is_client c l.at.node then true else b) h
     by _ h = h
 
+-- ---- lives
+
+-- a client's life after the past, by the rows
+pub life_now : (c : ℕ) (past : List Line) → life_at c past ≡ life_of c past
+life_now c [] = refl
+life_now c (l ∷ past) = by l.entry (life_now c past)
+  where
+    by : (e : Entry) → life_at c past ≡ life_of c past → life_at c (line l.at e ∷ past) ≡ life_of c (line l.at e ∷ past)
+    by (Life w) h = ap (λ (v : Who). if is_client c l.at.node then w else v) h
+    by _ h = h
+
+-- its number, by the laws
+pub life_number : (c : ℕ) (past : List Line) → life c (printed past) ≡ (life_at c past).life
+life_number c [] = refl
+life_number c (l ∷ past) = by l.entry (life_number c past)
+  where
+    of : (b : Bool) (w v : Who) (n : ℕ) → n ≡ v.life → (if b then w.life else n) ≡ (if b then w else v).life
+    of true w v n h = refl
+    of false w v n h = h
+
+    by : (e : Entry) → life c (printed past) ≡ (life_at c past).life → life c (printed (line l.at e ∷ past)) ≡ (life_at c (line l.at e ∷ past)).life
+    by (Life w) h = ap (λ (b : Bool). if b then w.life else life c (printed past)) (flip_client c l.at.node) ∙ of (is_client c l.at.node) w (life_at c past) (life c (printed past)) h
+    by _ h = h
+
+-- it is of that client
+pub its_client : (head : Head) (c : ℕ) (past : List Line) → Grown head past → (life_at c past).client ≡ c
+its_client head c [] g = refl
+its_client head c (l ∷ past) g = by l.at.node l.entry g.0.ok (λ d. its_client head d past g.1)
+  where
+    by : (node : Node) (e : Entry) → EntryOk past (turn l.at.stamp node) node e → ((d : ℕ) → (life_at d past).client ≡ d) → (life_at c (line (turn l.at.stamp node) e ∷ past)).client ≡ c
+    by (Client d) (Life w) ok h = cond_both (nat_eq c d) w (life_at c past) (λ (v : Who). v.client ≡ c) (λ t. ap (λ (v : Who). v.client) ok.next ∙ h d ∙ sym (eqb-true c d t)) (λ t. h c)
+    by (Target t) (Life w) ok h = absurd ok
+    by _ _ ok h = h c
+
+-- the client with its present life, by the laws
+pub present_is : (head : Head) (c : ℕ) (past : List Line) → Grown head past → who_is c (printed past) ≡ life_at c past
+present_is head c past g = ap (λ (n : ℕ). who c n) (life_number c past) ∙ ap (λ (n : ℕ). who n (life_at c past).life) (sym (its_client head c past g))
+
+-- a line after the past, at this node, is that life's
+pub own_by : (head : Head) (w : Who) (past : List Line) (node : Node) → Grown head past → is_by w (printed past) node ≡ is_own w past node
+own_by head w past (Target t) g = refl
+own_by head w past (Client c) g = by (nat_eq c w.client) refl
+  where
+    v : Who
+    v = life_of c past
+
+    client : v.client ≡ c
+    client = ap (λ (x : Who). x.client) (sym (life_now c past)) ∙ its_client head c past g
+
+    by : (b : Bool) → nat_eq c w.client ≡ b → (b && nat_eq (life w.client (printed past)) w.life) ≡ (nat_eq w.client v.client && nat_eq w.life v.life)
+    by true e =
+        let same : w.client ≡ c = sym (eqb-true c w.client e) in
+        let number : life w.client (printed past) ≡ v.life = ap (λ (n : ℕ). life n (printed past)) same ∙ life_number c past ∙ ap (λ (x : Who). x.life) (life_now c past) in
+        let here : nat_eq w.client v.client ≡ true = ap (λ (n : ℕ). nat_eq w.client n) client ∙ flip w.client c ∙ e in
+        ap (λ (n : ℕ). nat_eq n w.life) number ∙ flip v.life w.life ∙ sym (ap (λ (b : Bool). b && nat_eq w.life v.life) here)
+    by false e =
+        let here : nat_eq w.client v.client ≡ false = ap (λ (n : ℕ). nat_eq w.client n) client ∙ flip w.client c ∙ e in
+        sym (ap (λ (b : Bool). b && nat_eq w.life v.life) here)
+
+-- and so it is in the story of each target
+pub own_story : (t : ℕ) (w : Who) (past : List Line) (node : Node) → is_own w past node ≡ is_own w (only t past) node
+own_story t w past (Target u) = refl
+own_story t w past (Client c) = ap (λ (v : Who). same_life w v) (sym (life_now c past) ∙ life_is_of c t past)
+
+-- ---- evictions
+
+pub flip_life : (a b : Who) → same_life a b ≡ same_life b a
+flip_life a b = rw (flip a.client b.client, flip a.life b.life) refl
+
+pub is_life_with : (w o : Who) (lives : List Who) → is_life w (with_life o lives) ≡ (same_life w o || is_life w lives)
+is_life_with w o lives = any_with (same_life w) o lives
+
+pub evicted_is : (t : ℕ) (past : List Line) (w : Who) → is_evicted t (printed past) w ≡ is_life w (evicted_of (only t past))
+evicted_is t [] w = refl
+evicted_is t (l ∷ past) w = by l.at.node l.entry (evicted_is t past w)
+  where
+    P : List Line
+    P = only t past
+
+    quiet : (node : Node) (e : Entry) (b : Bool) → evicted_of (line (turn l.at.stamp node) e ∷ P) ≡ evicted_of P → is_evicted t (printed past) w ≡ is_life w (evicted_of P)
+        → is_evicted t (printed past) w ≡ is_life w (evicted_of (if b then line (turn l.at.stamp node) e ∷ P else P))
+    quiet node e true q h = h ∙ sym (ap (λ (v : List Who). is_life w v) q)
+    quiet node e false q h = h
+
+    own : (o : Who) (a b : Bool) (lives : Bool) → a ≡ b → lives ≡ is_life w (evicted_of P)
+        → ((a && same_life o w) || lives) ≡ is_life w (if b then with_life o (evicted_of P) else evicted_of P)
+    own o true true lives q h = ap (λ (x : Bool). x || lives) (flip_life o w) ∙ ap (λ (x : Bool). same_life w o || x) h ∙ sym (is_life_with w o (evicted_of P))
+    own o false false lives q h = h
+    own o true false lives q h = absurd (cc)
+    own o false true lives q h = absurd (cc)
+
+    moved : (u : ℕ) (o : Who) (k : Cause) (b : Bool) → evicted_of (if b then line (turn l.at.stamp (Target u)) (Evict o k) ∷ P else P) ≡ (if b then with_life o (evicted_of P) else evicted_of P)
+    moved u o k true = refl
+    moved u o k false = refl
+
+    by : (node : Node) (e : Entry) → is_evicted t (printed past) w ≡ is_life w (evicted_of P)
+        → is_evicted t (printed (line (turn l.at.stamp node) e ∷ past)) w ≡ is_life w (evicted_of (if concerns t node e then line (turn l.at.stamp node) e ∷ P else P))
+    by (Client c) (Evict o k) h = quiet (Client c) (Evict o k) (concerns t (Client c) (Evict o k)) refl h
+    by (Target u) (Evict o k) h = own o (nat_eq u t) (nat_eq t u) (is_evicted t (printed past) w) (flip u t) h ∙ sym (ap (λ (v : List Who). is_life w v) (moved u o k (nat_eq t u)))
+    by (Client c) e h = quiet (Client c) e (concerns t (Client c) e) refl h
+    by (Target u) e h = quiet (Target u) e (concerns t (Target u) e) refl h
+
+-- who is gone was evicted by some target
+pub gone_evicted : (past : List Line) (w : Who) → is_gone (printed past) w ≡ true → (t : ℕ) × (is_evicted t (printed past) w ≡ true)
+gone_evicted [] w e = absurd (cc)
+gone_evicted (l ∷ past) w e = by l.at.node l.entry e (gone_evicted past w)
+  where
+    new : (u : ℕ) (a b : Bool) → (a || b) ≡ true → (b ≡ true → (t : ℕ) × (is_evicted t (printed past) w ≡ true)) → (t : ℕ) × (((nat_eq u t && a) || is_evicted t (printed past) w) ≡ true)
+    new u true b q h = (u, ap (λ (x : Bool). (x && true) || is_evicted u (printed past) w) (self u))
+    new u false b q h = let r = h q in (r.0, or_right (nat_eq u r.0 && false) (is_evicted r.0 (printed past) w) r.1)
+
+    by : (node : Node) (e : Entry) → is_gone (printed (line (turn l.at.stamp node) e ∷ past)) w ≡ true → (is_gone (printed past) w ≡ true → (t : ℕ) × (is_evicted t (printed past) w ≡ true))
+        → (t : ℕ) × (is_evicted t (printed (line (turn l.at.stamp node) e ∷ past)) w ≡ true)
+    by (Client c) (Evict o k) q h = h q
+    by (Target u) (Evict o k) q h = new u (same_life o w) (is_gone (printed past) w) q h
+    by _ _ q h = h q
+
+pub evicted_gone : (t : ℕ) (past : List Line) (w : Who) → is_evicted t (printed past) w ≡ true → is_gone (printed past) w ≡ true
+evicted_gone t [] w e = absurd (cc)
+evicted_gone t (l ∷ past) w e = by l.at.node l.entry e (evicted_gone t past w)
+  where
+    new : (a b c d : Bool) → ((a && b) || c) ≡ true → (c ≡ true → d ≡ true) → (b || d) ≡ true
+    new a true c d q h = refl
+    new true false c d q h = h q
+    new false false c d q h = h q
+
+    by : (node : Node) (e : Entry) → is_evicted t (printed (line (turn l.at.stamp node) e ∷ past)) w ≡ true → (is_evicted t (printed past) w ≡ true → is_gone (printed past) w ≡ true)
+        → is_gone (printed (line (turn l.at.stamp node) e ∷ past)) w ≡ true
+    by (Client c) (Evict o k) q h = h q
+    by (Target u) (Evict o k) q h = new (nat_eq u t) (same_life o w) (is_evicted t (printed past) w) (is_gone (printed past) w) q h
+    by _ _ q h = h q
+
 -- ---- calls
 
+-- what holds of each call as it begins, and doesn't turn on what it asked, holds of the call in a slot and the one that stands there by
+-- the laws
+module _ (R : Running → calls.Begun → Type 0) (stays : (asking : Asking) (a : Running) (b : calls.Begun) → R a b → R (record a { asking = asking }) b) where
+  abbrev pub OfBoth : Option Running → Option calls.Begun → Type 0
+  OfBoth None None = Unit {0}
+  OfBoth (Some a) (Some b) = R a b
+  OfBoth _ _ = ⊥
+
+  same_asks : (asking : Asking) (a : Option Running) (b : Option calls.Begun) → OfBoth a b → OfBoth (asks asking a) b
+  same_asks asking None b s = s
+  same_asks asking (Some a) None s = s
+  same_asks asking (Some a) (Some b) s = stays asking a b s
+
+  same_asks_for : (served : Option ℕ) (slot : ℕ) (asking : Asking) (a : Option Running) (b : Option calls.Begun) → OfBoth a b → OfBoth (asks_for served slot asking a) b
+  same_asks_for None slot asking a b s = s
+  same_asks_for (Some k) slot asking a b s = cond_both (nat_eq k slot) (asks asking a) a (λ (o : Option Running). OfBoth o b) (λ t. same_asks asking a b s) (λ t. s)
+
+  same_began : (running : Running) (call : calls.Begun) (a : Option Running) (b : Option calls.Begun) (t u : Bool) → (t ≡ true → R running call) → OfBoth a b
+      → OfBoth (if t then (if u then Some running else a) else a) (if t && u then Some call else b)
+  same_began running call a b true true n s = n refl
+  same_began running call a b true false n s = s
+  same_began running call a b false u n s = s
+
+  same_told : (a : Option Running) (b : Option calls.Begun) (t u : Bool) → OfBoth a b → OfBoth (if t then (if u then None else a) else a) (if t && u then None else b)
+  same_told a b true true s = tt
+  same_told a b true false s = s
+  same_told a b false u s = s
+
+  module _ (head : Head) (c slot : ℕ)
+      (begins : (past : List Line) (stamp : Stamp) (s : ℕ) (running : Running) → Grown head past → Allowed head past (turn stamp (Client c)) (Begin s running) → R running (calls.begun c (printed past) (turn stamp (Client c)) running.call)) where
+    pub both_calls : (past : List Line) → Grown head past → OfBoth (call_at c slot past) (open_call c slot (printed past))
+    both_calls [] g = tt
+    both_calls (l ∷ past) g = by l.at.node l.entry g.0 (both_calls past g.1)
+      where
+        a : Option Running
+        a = call_at c slot past
+
+        b : Option calls.Begun
+        b = open_call c slot (printed past)
+
+        by : (node : Node) (e : Entry) → Allowed head past (turn l.at.stamp node) e → OfBoth (call_at c slot past) (open_call c slot (printed past))
+            → OfBoth (call_at c slot (line (turn l.at.stamp node) e ∷ past)) (open_call c slot (printed (line (turn l.at.stamp node) e ∷ past)))
+        by (Client d) (Begin s running) k h =
+            rw (flip d c)
+            (same_began running (calls.begun c (printed past) (turn l.at.stamp (Client d)) running.call) (call_at c slot past) (open_call c slot (printed past)) (nat_eq c d) (nat_eq s slot)
+            (λ t. subst (λ (v : ℕ). Allowed head past (turn l.at.stamp (Client v)) (Begin s running) → R running (calls.begun c (printed past) (turn l.at.stamp (Client v)) running.call)) (eqb-true c d t) (begins past l.at.stamp s running g.1) k)
+            h)
+        by (Client d) (Told s at answer work) k h = rw (flip d c) (same_told (call_at c slot past) (open_call c slot (printed past)) (nat_eq c d) (nat_eq s slot) h)
+        by (Client d) (Queues t q) k h = cond_both (nat_eq c d) (asks_for q.slot slot Asked (call_at c slot past)) (call_at c slot past) (λ (o : Option Running). OfBoth o (open_call c slot (printed past)))
+            (λ t. same_asks_for q.slot slot Asked (call_at c slot past) (open_call c slot (printed past)) h)
+            (λ t. h)
+        by (Client d) (Heard t f r) k h = cond_both (nat_eq c d) (asks_for f.slot slot (Answered t r) (call_at c slot past)) (call_at c slot past) (λ (o : Option Running). OfBoth o (open_call c slot (printed past)))
+            (λ u. same_asks_for f.slot slot (Answered t r) (call_at c slot past) (open_call c slot (printed past)) h)
+            (λ u. h)
+        by (Client d) (Stands s running) k h = absurd k.ok
+        by (Target t) (Begin s running) k h = absurd k.ok
+        by (Target t) (Told s at answer work) k h = absurd k.ok
+        by (Target t) (Queues u q) k h = absurd k.ok
+        by (Target t) (Heard u f r) k h = absurd k.ok
+        by (Target t) (Stands s running) k h = absurd k.ok
+        by _ _ k h = h
+
 -- the call in a slot is the same
+abbrev pub IsSame : Running → calls.Begun → Type 0
+IsSame a b = (a.at ≡ b.at) × (a.call ≡ b.call)
+
 abbrev pub SameCall : Option Running → Option calls.Begun → Type 0
-SameCall None None = Unit {0}
-SameCall (Some a) (Some b) = (a.at ≡ b.at) × (a.call ≡ b.call) × ((o : Op) → operation_of a.call ≡ Some o → b.bad ≡ false)
-SameCall _ _ = ⊥
-
--- a call that covered runs know names no handle
-pub good_call : (c : ℕ) (past : pasts.Past) (x : Call) (o : Op) → operation_of x ≡ Some o → calls.is_bad c past x ≡ false
-good_call c past (call.Lookup path) o e = refl
-good_call c past (call.Stat path) o e = refl
-good_call c past (call.List path) o e = refl
-good_call c past (call.Layout path) o e = refl
-good_call c past (call.Mkdir path) o e = refl
-good_call c past (call.Create path None) o e = refl
-good_call c past (call.Create path (Some stripes)) o e = refl
-good_call c past (call.Link old new) o e = refl
-good_call c past (call.Unlink path) o e = refl
-good_call c past (call.Rmdir path) o e = refl
-good_call c past (call.Rename old new) o e = refl
-good_call c past (call.Chmod path mode) o e = refl
-good_call c past _ o e = absurd (cc)
-
--- whatever it has asked
-same_asks : (asking : Asking) (a : Option Running) (b : Option calls.Begun) → SameCall a b → SameCall (asks asking a) b
-same_asks asking None b s = s
-same_asks asking (Some a) None s = s
-same_asks asking (Some a) (Some b) s = s
-
-same_asks_for : (served : Option ℕ) (slot : ℕ) (asking : Asking) (a : Option Running) (b : Option calls.Begun) → SameCall a b → SameCall (asks_for served slot asking a) b
-same_asks_for None slot asking a b s = s
-same_asks_for (Some k) slot asking a b s = cond_both (nat_eq k slot) (asks asking a) a (λ (o : Option Running). SameCall o b) (λ t. same_asks asking a b s) (λ t. s)
-
-same_began : (running : Running) (call : calls.Begun) (a : Option Running) (b : Option calls.Begun) (t u : Bool) → SameCall (Some running) (Some call) → SameCall a b
-    → SameCall (if t then (if u then Some running else a) else a) (if t && u then Some call else b)
-same_began running call a b true true n s = n
-same_began running call a b true false n s = s
-same_began running call a b false u n s = s
-
-same_told : (a : Option Running) (b : Option calls.Begun) (t u : Bool) → SameCall a b → SameCall (if t then (if u then None else a) else a) (if t && u then None else b)
-same_told a b true true s = tt
-same_told a b true false s = s
-same_told a b false u s = s
+SameCall = OfBoth IsSame (λ asking a b s. s)
 
 pub same_call : (head : Head) (c slot : ℕ) (past : List Line) → Grown head past → SameCall (call_at c slot past) (open_call c slot (printed past))
-same_call head c slot [] g = tt
-same_call head c slot (l ∷ past) g = by l.at.node l.entry g.0 (same_call head c slot past g.1)
-  where
-    a : Option Running
-    a = call_at c slot past
-
-    b : Option calls.Begun
-    b = open_call c slot (printed past)
-
-    by : (node : Node) (e : Entry) → Allowed head past (turn l.at.stamp node) e → SameCall (call_at c slot past) (open_call c slot (printed past))
-        → SameCall (call_at c slot (line (turn l.at.stamp node) e ∷ past)) (open_call c slot (printed (line (turn l.at.stamp node) e ∷ past)))
-    by (Client d) (Begin s running) k h =
-        rw (flip d c)
-        (same_began running (calls.begun c (printed past) (turn l.at.stamp (Client d)) running.call) (call_at c slot past) (open_call c slot (printed past)) (nat_eq c d) (nat_eq s slot) (ap (λ (r : Running). r.at) k.ok.is, refl, λ o e. good_call c (printed past) running.call o e) h)
-    by (Client d) (Told s at answer work) k h = rw (flip d c) (same_told (call_at c slot past) (open_call c slot (printed past)) (nat_eq c d) (nat_eq s slot) h)
-    by (Client d) (Queues t q) k h = cond_both (nat_eq c d) (asks_for q.slot slot Asked (call_at c slot past)) (call_at c slot past) (λ (o : Option Running). SameCall o (open_call c slot (printed past)))
-        (λ t. same_asks_for q.slot slot Asked (call_at c slot past) (open_call c slot (printed past)) h)
-        (λ t. h)
-    by (Client d) (Heard t f r) k h = cond_both (nat_eq c d) (asks_for f.slot slot (Answered t r) (call_at c slot past)) (call_at c slot past) (λ (o : Option Running). SameCall o (open_call c slot (printed past)))
-        (λ u. same_asks_for f.slot slot (Answered t r) (call_at c slot past) (open_call c slot (printed past)) h)
-        (λ u. h)
-    by (Client d) (Stands s running) k h = absurd k.ok
-    by (Target t) (Begin s running) k h = absurd k.ok
-    by (Target t) (Told s at answer work) k h = absurd k.ok
-    by (Target t) (Queues u q) k h = absurd k.ok
-    by (Target t) (Heard u f r) k h = absurd k.ok
-    by (Target t) (Stands s running) k h = absurd k.ok
-    by _ _ k h = h
+same_call head c slot past g = both_calls IsSame (λ asking a b s. s) head c slot (λ past stamp s running g k. (ap (λ (r : Running). r.at) k.ok.is, refl)) past g
 
 -- the call alone
 call_alone : (c slot : ℕ) (past : pasts.Past) → calls.call_in c slot past ≡ option_map (λ (b : calls.Begun). b.call) (open_call c slot past)
@@ -197,6 +384,16 @@ call_alone c slot (l ∷ past) = by l.entry (call_alone c slot past)
     by (trace.Told other at answer) h = tells (pasts.is_client c l.at.node && nat_eq other slot) (calls.call_in c slot past) (open_call c slot past) h
     by _ h = h
 
+-- and so it is the one that stands in the slot
+pub calls_are : (head : Head) (c slot : ℕ) (past : List Line) → Grown head past → calls.call_in c slot (printed past) ≡ option_map (λ (r : Running). r.call) (call_at c slot past)
+calls_are head c slot past g = call_alone c slot (printed past) ∙ by (call_at c slot past) (open_call c slot (printed past)) (same_call head c slot past g)
+  where
+    by : (a : Option Running) (b : Option calls.Begun) → SameCall a b → option_map (λ (b : calls.Begun). b.call) b ≡ option_map (λ (r : Running). r.call) a
+    by None None s = refl
+    by (Some a) (Some b) s = ap (λ (v : Call). Some v) (sym s.1)
+    by None (Some b) s = absurd s
+    by (Some a) None s = absurd s
+
 pub free_is : (head : Head) (c slot : ℕ) (past : List Line) → Grown head past → call_at c slot past ≡ None → is_some (calls.call_in c slot (printed past)) ≡ false
 free_is head c slot past g free = ap (λ (o : Option Call). is_some o) (call_alone c slot (printed past)) ∙ by (call_at c slot past) (open_call c slot (printed past)) free (same_call head c slot past g)
   where
@@ -206,14 +403,14 @@ free_is head c slot past g free = ap (λ (o : Option Call). is_some o) (call_alo
     by (Some a) b e s = absurd (cc)
 
 pub open_is : (head : Head) (c slot : ℕ) (past : List Line) (running : Running) → Grown head past → call_at c slot past ≡ Some running
-    → (b : calls.Begun) × (open_call c slot (printed past) ≡ Some b) × (b.at ≡ running.at) × (b.call ≡ running.call) × ((o : Op) → operation_of running.call ≡ Some o → b.bad ≡ false)
+    → (b : calls.Begun) × (open_call c slot (printed past) ≡ Some b) × (b.at ≡ running.at) × (b.call ≡ running.call)
 open_is head c slot past running g is = by (call_at c slot past) (open_call c slot (printed past)) refl is (same_call head c slot past g)
   where
     by : (a : Option Running) (b : Option calls.Begun) → open_call c slot (printed past) ≡ b → a ≡ Some running → SameCall a b
-        → (b : calls.Begun) × (open_call c slot (printed past) ≡ Some b) × (b.at ≡ running.at) × (b.call ≡ running.call) × ((o : Op) → operation_of running.call ≡ Some o → b.bad ≡ false)
+        → (b : calls.Begun) × (open_call c slot (printed past) ≡ Some b) × (b.at ≡ running.at) × (b.call ≡ running.call)
     by None b q e s = absurd (cc)
     by (Some a) None q e s = absurd s
-    by (Some a) (Some b) q e s = let same : a ≡ running = cc in (b, q, sym s.0 ∙ ap (λ (v : Running). v.at) same, sym s.1 ∙ ap (λ (v : Running). v.call) same, λ o p. s.2 o (ap (λ (v : Running). operation_of v.call) same ∙ p))
+    by (Some a) (Some b) q e s = let same : a ≡ running = cc in (b, q, sym s.0 ∙ ap (λ (v : Running). v.at) same, sym s.1 ∙ ap (λ (v : Running). v.call) same)
 
 pub open_is_some : (head : Head) (c slot : ℕ) (past : List Line) (running : Running) → Grown head past → call_at c slot past ≡ Some running → is_some (calls.call_in c slot (printed past)) ≡ true
 open_is_some head c slot past running g is = let o = open_is head c slot past running g is in ap (λ (v : Option Call). is_some v) (call_alone c slot (printed past)) ∙ ap (λ (v : Option calls.Begun). is_some (option_map (λ (b : calls.Begun). b.call) v)) o.1

@@ -1,6 +1,6 @@
 -- The law of recovery: transactions have rising numbers of their boot and the seen numbers, and a reply that is
--- sent in the turn that it names carries those of its deed.
-use Rattle.std.proofs.Common.{◌≡◌, ℕ, ◌+◌, ◌/◌, Bool, true, false, List, [], ◌∷◌, Option, Some, None, ◌⊎◌, inl, inr, ⊎_elim, refl, sym, subst, ap, ◌∙◌, arith}
+-- sent in the turn that it names carries those of its deed. What is committed stands, and no window is ever open.
+use Rattle.std.proofs.Common.{◌≡◌, ℕ, zero, suc, ◌+◌, ◌/◌, Bool, true, false, List, [], ◌∷◌, Option, Some, None, ◌⊎◌, inl, inr, ⊎_elim, refl, sym, subst, ap, ◌∙◌, arith}
 use Rattle.std.specs.Prelude.{nat_eq, not, ◌&&◌, ◌||◌, if◌then◌else◌}
 use Rattle.std.specs.Bool.{then_some}
 use Rattle.std.specs.List.{list_any}
@@ -11,7 +11,6 @@ use Rattle.lu_base.specs.declared.ids.Node.{Node}
 use Rattle.lu_base.specs.declared.ids.Node.TheVariants.{Client, Target}
 use Rattle.lu_base.specs.declared.ids.Txn.{Txn}
 use Rattle.lu_base.specs.declared.ids.Who.{Who}
-use Rattle.lu_msg.specs.declared.commits.Batch.{Batch}
 use Rattle.lu_msg.specs.declared.messages.Message.{Message}
 use Rattle.lu_msg.specs.declared.messages.Message.TheVariants as message
 use Rattle.lu_msg.specs.declared.messages.Reply.{Reply as ReplyTo}
@@ -26,7 +25,7 @@ use Rattle.lu_words.specs.Concerns.{only}
 use Rattle.lu_words.specs.Sent.{count_sent}
 use Rattle.lu_words.specs.Printed.{printed_entry, printed}
 use Rattle.lu_covered.specs.TargetParts.{operation}
-use Rattle.lu_covered.specs.TargetStates.{tree_at, log_at, slot_of, count_at, server_at, seen_in}
+use Rattle.lu_covered.specs.TargetStates.{tree_at, log_at, slot_of, count_at, committed_at, server_at, seen_in}
 use Rattle.lu_covered.specs.Heads.{Head}
 use Rattle.lu_laws.specs.Words.Pasts.{same_turn, or_else}
 use Rattle.lu_laws.specs.Words.Scopes.{only_here}
@@ -35,24 +34,26 @@ use Rattle.lu_laws.specs.Words.Requests.{asked}
 use Rattle.lu_laws.specs.Words.Clients.{clients}
 use Rattle.lu_laws.specs.Words.Boots.{is_recovering}
 use Rattle.lu_laws.specs.Words.Handed.{is_back}
-use Rattle.lu_laws.specs.Words.Lost.{Transaction, transactions}
+use Rattle.lu_laws.specs.Words.Lost.{Transaction, transactions, is_lost}
 use Rattle.lu_laws.specs.Words.Seen.{touches_of, seen_by}
 use Rattle.lu_laws.specs.Holds.{Holds}
 use Rattle.lu_laws.specs.Laws.Recovery as law
 use Rattle.lu_laws.specs.Laws.Recovery.{request_sees, TransactionAt, answers_size, is_size_for, is_executed, other_than, reply_seen, ReplyAt, BringsBack, TakenAt, CommitAt, stands, RecoveryAt, RecoveryOf, Recovery}
-use Rattle.lu_guards.proofs.Guards.{Later, Steps, Did, Taken, RepliesNow, CommitOk, Allowed, Grown}
+use Rattle.lu_laws.proofs.Tests.{either_left, either_right}
+use Rattle.lu_guards.proofs.Guards.{In, Later, Steps, Did, Taken, RepliesNow, CommitOk, Allowed, Grown}
 use Rattle.lu_guards.proofs.Lists.{self, turn_trans, turn_irreflexive, life_is}
 use Rattle.lu_facts.proofs.Groups.{turn, Acted}
 use Rattle.lu_facts.proofs.All.{holds}
 use Rattle.lu_lawful.proofs.Turns.{later_before, same_turn_is, same_turn_self, same_life_self}
-use Rattle.lu_lawful.proofs.Story.{about_it, acted_whole}
-use Rattle.lu_lawful.proofs.Committed.{commits, logs}
+use Rattle.lu_lawful.proofs.Committed.{is_made, commits, logs, elsewhere}
+use Rattle.lu_lawful.proofs.Evictions.{evict_law}
 use Rattle.lu_lawful.proofs.Lines.{OfPrinted, Keeps, holds_before}
 use Rattle.lu_lawful.proofs.Once.{NoneFor, act_now, txn_now}
 use Rattle.lu_lawful.proofs.Facts.{AskedAt, AllAsked}
-use Rattle.lu_lawful.proofs.Contents.{boot_is, committed_is, none_lost, not_recovering, number_is, number_in_boot, below_next, asked_before, contents_are}
+use Rattle.lu_lawful.proofs.Contents.{boot_is, commits_are, committed_is, none_lost, not_recovering, number_is, number_in_boot, below_next, asked_before, contents_are}
 use Rattle.lu_lawful.proofs.SeenNumbers.{seen_is}
 use Rattle.lu_lawful.proofs.Deeds.{TxnIs, act_is, txn_is}
+use Rattle.lu_facts.proofs.Lines.{acted_whole}
 
 -- ---- turns
 
@@ -78,6 +79,9 @@ not_size head past stamp (Client c) (Target t) (message.Request r) who x k = ref
 not_size head past stamp (Client c) (Target t) (message.Cancel other boot cookie) who x k = refl
 not_size head past stamp (Target t) (Client c) (message.Reply r) who x k = refl
 not_size head past stamp (Target t) (Client c) (message.Block other boot cookie) who x k = refl
+not_size head past stamp (Client c) (Target t) (message.Join other boot) who x k = refl
+not_size head past stamp (Target t) (Client c) (message.Ready other boot committed) who x k = refl
+not_size head past stamp (Target t) (Client c) (message.Evicted other boot) who x k = refl
 not_size head past stamp (Client c) (Target t) m who x k = absurd k.ok
 not_size head past stamp (Client c) (Client d) m who x k = absurd k.ok
 not_size head past stamp (Target t) (Client c) m who x k = absurd k.ok
@@ -228,23 +232,41 @@ txn_law head past at d g a asks is =
 
 -- ---- commits
 
-either_right : (a b : Bool) → b ≡ true → (a || b) ≡ true
-either_right true b e = refl
-either_right false b e = e
-
-commit_law : (head : Head) (past : List Line) (to : ℕ) (batch : Batch) → Grown head past → CommitOk head.osts (only 0 past) to batch → CommitAt 0 (printed past) to
-commit_law head past to batch g ok =
-    let c = commits head.osts past to batch ok in
+commit_law : (head : Head) (past : List Line) (t to : ℕ) → Grown head past → CommitOk head.osts (only t past) to → CommitAt t (printed past) to
+commit_law head past zero to g ok =
     let h = logs head past g in
-    let is = c.2 in
-    let above = h.above c.0 c.1 in
     let m = committed_is head past g in
-    let made : list_any (λ (x : Transaction). nat_eq x.number to) (transactions 0 (printed past)) ≡ true =
-    subst (λ (n : ℕ). list_any (λ (x : Transaction). nat_eq x.number n) (transactions 0 (printed past)) ≡ true) (sym is) (h.made c.0 c.1) in
+    ⊎_elim
+    (λ (p : (last : Deed) × In last (log_at 0 past) × (to ≡ last.reply.txn.0)).
+    let is = p.2 in
+    let above = h.above p.0 p.1 in
     record {
-      standing = either_right (nat_eq to 0) (stands 0 (printed past) to) (rw (made, none_lost head past 0 to g) refl);
+      standing = made (subst (λ (n : ℕ). is_made past n ≡ true) (sym is) (either_right (nat_eq p.0.reply.txn.0 0) (h.made p.0 p.1)));
       least = omega (arith, m, above, is);
-    }
+    })
+    (λ (p : to ≡ (committed_at 0 past).0).
+    record {
+      standing = made (subst (λ (n : ℕ). is_made past n ≡ true) (sym p) h.stands);
+      least = omega (arith, m, p);
+    })
+    (commits head.osts 0 past to ok)
+  where
+    both : (a b c : Bool) → c ≡ false → (a || b) ≡ true → (a || (b && not c)) ≡ true
+    both true b c n e = refl
+    both false b c n e = rw (e, n) refl
+
+    made : is_made past to ≡ true → (nat_eq to 0 || stands 0 (printed past) to) ≡ true
+    made e = both (nat_eq to 0) (list_any (λ (x : Transaction). nat_eq x.number to) (transactions 0 (printed past))) (is_lost (printed past) 0 to) (none_lost head past 0 to g) e
+commit_law head past (suc t) to g ok =
+    let none = elsewhere head (suc t) past g (λ e. absurd (cc)) in
+    let m = commits_are head (suc t) past g in
+    let start : (committed_at (suc t) past).0 ≡ 0 = none.1 in
+    let is : to ≡ 0 = ⊎_elim
+    (λ (p : (last : Deed) × In last (log_at (suc t) past) × (to ≡ last.reply.txn.0)). absurd (subst (λ (v : List Deed). In p.0 v) none.0 p.1))
+    (λ (p : to ≡ (committed_at (suc t) past).0). p ∙ start)
+    (commits head.osts (suc t) past to ok)
+    in
+    record { standing = either_left (stands (suc t) (printed past) to) (ap (λ (n : ℕ). nat_eq n 0) is); least = omega (arith, m, start) }
 
 -- ---- no life comes back, for no window is ever open
 
@@ -273,20 +295,21 @@ recovery_at clients head past l later k g a = by l.at.node l.entry k a
     by (Target t) (Send (Client c) (message.Reply r)) k a =
         subst (λ (v : ℕ). ReplyAt head.osts v (printed past) (turn l.at.stamp (Target t)) r) (sym k.ok.0) (reply_law head past (turn l.at.stamp (Target t)) r g a k.steps (subst (λ (v : ℕ). RepliesNow past v r) k.ok.0 k.ok.1))
     by (Target t) (Send (Client c) (message.Block who boot cookie)) k a = tt
+    by (Target t) (Send (Client c) (message.Ready who boot committed)) k a = tt
+    by (Target t) (Send (Client c) (message.Evicted who boot)) k a = tt
     by (Target t) (Send (Client c) m) k a = absurd k.ok
     by (Target t) (Send (Target u) m) k a = absurd k.ok
     by (Target t) (Take n from m) k a = never_taken head past (record { at = turn l.at.stamp (Target t); entry = entry.Take n }) later t (message_of (printed past) n) g
     by (Client c) (Made d) k a = absurd k.ok
     by (Target t) (Made d) k a =
         subst (λ (v : ℕ). TransactionAt v (printed past) d.reply.txn.0 d.reply.seen (request_sees head.osts v (printed past) d.reply.txn d.reply.who d.reply.xid.0 d.reply.answer)) (sym k.ok) (txn_law head past (turn l.at.stamp (Target t)) d g a.1 a.0 (txn_is head past l.at.stamp t d k))
-    by (Target t) (Commit to batch) k a =
-        subst (λ (v : ℕ). CommitAt v (printed past) to) (sym k.ok.0) (commit_law head past to batch g (k.of 0 (about_it t k.ok.0)))
+    by (Target t) (Commit to batch) k a = commit_law head past t to g (k.of t (self t))
     by (Target t) (Back who) k a = absurd k.ok
     by (Target t) (Close outcome) k a = absurd k.ok
     by (Target t) (Kept n) k a = absurd k.ok
     by (Target t) (Restore lock) k a = absurd k.ok
-    by (Target t) (Evict who cause) k a = absurd k.ok
-    by (Target t) (Joined who) k a = absurd k.ok
+    by (Target t) (Evict who cause) k a = evict_law head past (turn l.at.stamp (Target t)) later t who cause g (k.of t (self t))
+    by (Target t) (Joined who) k a = never_back head past (record { at = turn l.at.stamp (Target t); entry = entry.Joined who }) later t who g
     by _ _ k a = tt
 
 pub recovery_law : (head : Head) (past : List Line) → Grown head past → AllAsked past → Holds (Recovery head.osts (printed past)) (printed past)

@@ -1,11 +1,12 @@
 -- The numbers that the law sees in the printed past of a run are those that the metadata target sees in its log.
-use Rattle.std.proofs.Common.{◌≡◌, ℕ, ◌≤◌, Bool, true, false, List, [], ◌∷◌, ◌++◌, reverse, inl, inr, refl, sym, subst, ap, ◌∙◌, arith}
-use Rattle.std.specs.Prelude.{nat_lt, ◌&&◌, if◌then◌else◌, map, filter}
+use Rattle.std.proofs.Common.{◌≡◌, ℕ, ◌≤◌, Bool, true, false, List, [], ◌∷◌, ◌++◌, reverse, inl, inr, ⊎_elim, refl, sym, subst, ap, ◌∙◌, arith}
+use Rattle.std.specs.Prelude.{nat_eq, nat_lt, ◌&&◌, if◌then◌else◌, map, filter}
 use Rattle.std.proofs.lemmas.Bool.{cond-true, lt-ltb, ltb-true}
 use Rattle.std.proofs.lemmas.Grind.{reverse_onto}
 use Rattle.lu_base.specs.declared.ids.Node.{Node}
 use Rattle.lu_base.specs.declared.ids.Node.TheVariants.{Client, Target}
 use Rattle.lu_base.specs.declared.ids.Stamp.{Stamp}
+use Rattle.lu_base.specs.declared.ids.Txn.{Txn}
 use Rattle.lu_part.specs.declared.parts.Part.{Part}
 use Rattle.lu_machine.specs.Tree.{Tree}
 use Rattle.lu_machine.specs.Footprint.{writes}
@@ -23,7 +24,6 @@ use Rattle.lu_laws.specs.Words.Seen.{writes_of, Written, written, is_seen, seen_
 use Rattle.lu_guards.proofs.Guards.{In, Allowed, Grown}
 use Rattle.lu_facts.proofs.Groups.{turn}
 use Rattle.lu_lawful.proofs.Facts.{AskedAt, AllAsked}
-use Rattle.lu_lawful.proofs.Story.{about_it}
 use Rattle.lu_lawful.proofs.Committed.{commits, logs}
 use Rattle.lu_lawful.proofs.Deeds.{TxnIs, txn_is}
 use Rattle.lu_lawful.proofs.Contents.{committed_is, none_lost, asked_before, contents_are}
@@ -162,12 +162,28 @@ module _ (head : Head) (above : ℕ) (lost : ℕ → Bool) (none : (n : ℕ) →
           subst (λ (v : ℕ). IsSeen (line (turn l.at.stamp (Target v)) (Made d) ∷ past)) (sym k.ok)
           (seen_made past l.at.stamp d g.1 a.1 (subst (λ (v : ℕ). TxnIs head.osts (server_at head.osts 0 past) (turn l.at.stamp (Target v)) d) k.ok is) a.0 (h le))
       at (Client c) (Commit to batch) k a le h = absurd k.ok
-      at (Target t) (Commit to batch) k a le h =
-          let c = commits head.osts past to batch (k.of 0 (about_it t k.ok.0)) in
-          let over_it = (logs head past g.1).above c.0 c.1 in
-          let is = c.2 in
-          subst (λ (v : ℕ). (committed_at 0 (line (turn l.at.stamp (Target v)) (Commit to batch) ∷ past)).0 ≤ above → IsSeen (line (turn l.at.stamp (Target v)) (Commit to batch) ∷ past)) (sym k.ok.0)
-          (λ le. seen_commit past to le (h (omega (arith, over_it, is, le)))) le
+      at (Target t) (Commit to batch) k a le h = of (nat_eq 0 t) refl
+        where
+          new : List Line
+          new = line (turn l.at.stamp (Target t)) (Commit to batch) ∷ past
+
+          later : Bool → List Deed
+          later b = if b then filter (λ x. nat_lt to x.reply.txn.0) (log_at 0 past) else log_at 0 past
+
+          low : Bool → Txn
+          low b = if b then record { 0 = to } else committed_at 0 past
+
+          of : (b : Bool) → nat_eq 0 t ≡ b → law_seen past ≡ seen_in touched (filter over (later (nat_eq 0 t)))
+          of false e = h (subst (λ (b : Bool). (low b).0 ≤ above) e le) ∙ ap (λ (b : Bool). seen_in touched (filter over (later b))) (sym e)
+          of true e =
+              let up : to ≤ above = subst (λ (b : Bool). (low b).0 ≤ above) e le in
+              let known = logs head past g.1 in
+              let below : (committed_at 0 past).0 ≤ to = ⊎_elim
+              (λ (p : (last : Deed) × In last (log_at 0 past) × (to ≡ last.reply.txn.0)). let lt = known.above p.0 p.1 in let is = p.2 in omega (arith, lt, is))
+              (λ (p : to ≡ (committed_at 0 past).0). omega (arith, p))
+              (commits head.osts 0 past to (k.of 0 e))
+              in
+              seen_commit past to up (h (omega (arith, up, below))) ∙ ap (λ (b : Bool). seen_in touched (filter over (later b))) (sym e)
       at (Client c) (Boot boot disk) k a le h = absurd k.ok
       at (Target t) (Boot boot disk) k a le h = absurd k.ok
       at _ _ k a le h = h le

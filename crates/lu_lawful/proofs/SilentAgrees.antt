@@ -1,4 +1,5 @@
--- Of one name all facts of a client whose locks it holds, marked or not, tell the same: each is true of the tree.
+-- Of one name all facts of a client whose locks it holds, marked or not, tell the same: each is true of one tree, as its life
+-- knows it: where that was evicted, as it was then.
 use Rattle.std.proofs.Common.{◌≡◌, ℕ, true, List, Some, sym, subst, ap, ◌∙◌}
 use Rattle.lu_base.specs.declared.ids.Fid.{Fid}
 use Rattle.lu_part.specs.declared.parts.Part.{Part}
@@ -11,11 +12,11 @@ use Rattle.lu_words.specs.Concerns.{only}
 use Rattle.lu_client_rows.specs.Caches.{held_at}
 use Rattle.lu_client_rows.specs.Facts.{Fact}
 use Rattle.lu_client_rows.specs.Known.{same_part}
+use Rattle.lu_covered.specs.Calls.{life_at}
 use Rattle.lu_covered.specs.Heads.{Head}
-use Rattle.lu_covered.specs.TargetStates.{server_of}
 use Rattle.lu_guards.proofs.Guards.{Grown}
 use Rattle.lu_facts.proofs.KnownPaths.{Tells, TellsName, TellsOf, part_is}
-use Rattle.lu_facts.proofs.Taught.{bound_of}
+use Rattle.lu_facts.proofs.Taught.{bound_of, tree_for}
 use Rattle.lu_facts.proofs.Known.{held_stands}
 use Rattle.lu_lawful.proofs.SilentKnown.{Usable, Agrees}
 use Rattle.lu_lawful.proofs.SilentHeld.{bare_at, bare_present}
@@ -28,16 +29,17 @@ one_child : (a b : Child) → Some a ≡ Some b → a ≡ b
 one_child a b e = cc
 
 module _ (head : Head) (c : ℕ) (past : List Line) (g : Grown head past) where
-  is_true : (f : Fact) → Usable (bare_at c past) f → Tells (server_of head.osts (only 0 past)).tree (bound_of head.osts (only 0 past)) f
-  is_true f u =
-      let h = bare_present f.cookie (held_at c past) u.1 in
-      let s = held_stands head past c f g u.0 h.0 h.1.0 (ap (λ (n : ℕ). record { 0 = n }) h.1.1.1) in
-      s.under.stands s.granted
+  abbrev tree : Tree
+  tree = tree_for head.osts (life_at c past) (only 0 past)
+
+  abbrev bound : ℕ
+  bound = bound_of head.osts (only 0 past)
+
+  is_true : (f : Fact) → Usable (bare_at c past) f → Tells tree bound f
+  is_true f u = let h = bare_present f.cookie (held_at c past) u.1 in (held_stands head past c f g u.0 h.0 h.1.0 (ap (λ (n : ℕ). record { 0 = n }) h.1.1.1)).tells
 
   pub agrees : Agrees (bare_at c past)
   agrees d m f k u v p q =
-      let t = (server_of head.osts (only 0 past)).tree in
-      let bound = bound_of head.osts (only 0 past) in
-      let a = on_name t bound d m f (is_true f u) p in
-      let b = on_name t bound d m k (is_true k v) q in
+      let a = on_name tree bound d m f (is_true f u) p in
+      let b = on_name tree bound d m k (is_true k v) q in
       a.is ∙ ap found (one_child a.to b.to (sym a.leads ∙ b.leads)) ∙ sym b.is

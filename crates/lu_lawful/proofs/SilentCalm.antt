@@ -1,27 +1,30 @@
--- The call in a slot is the same in a past and in its print, and so is each call that stands calm; it stood calm before each line
--- of its turn.
-use Rattle.std.proofs.Common.{◌≡◌, ℕ, Bool, true, false, List, [], ◌∷◌, ◌++◌, Option, Some, None, inl, inr, ⊎_elim, refl, sym, subst, ap, ◌∙◌}
+-- The call in a slot is the same in a past and in its print, and so is each call that stands calm for a client's present life; it
+-- stood calm before each line of its turn. For a new life nothing stands calm or is known yet.
+use Rattle.std.proofs.Common.{◌≡◌, ℕ, ◌<◌, Bool, true, false, List, [], ◌∷◌, ◌++◌, Option, Some, None, inl, inr, ⊎_elim, refl, sym, subst, ap, ◌∙◌, arith}
 use Rattle.std.specs.Prelude.{nat_eq, not, ◌&&◌, if◌then◌else◌, filter}
 use Rattle.std.specs.Option.{option_map}
 use Rattle.std.proofs.lemmas.Bool.{cond_both, and_parts, eqb-true}
+use Rattle.std.proofs.lemmas.Bool.Decides.{nat_tests}
+use Rattle.lu_base.specs.declared.ids.At.{At}
 use Rattle.lu_base.specs.declared.ids.Node.{Node}
 use Rattle.lu_base.specs.declared.ids.Node.TheVariants.{Client, Target}
+use Rattle.lu_base.specs.declared.ids.Who.{Who}
 use Rattle.lu_msg.specs.declared.calls.Call.{Call}
 use Rattle.lu_machine.specs.Footprint.{Every}
 use Rattle.lu_words.specs.Carried.{Asking, Running}
-use Rattle.lu_words.specs.Words.{Entry, Begin, Heard, Told, Take, Drop, Queues, Stands, Line, line}
+use Rattle.lu_words.specs.Words.{Entry, Begin, Heard, Told, Take, Drop, Life, Queues, Stands, Line, line}
 use Rattle.lu_words.specs.Printed.{printed}
-use Rattle.lu_covered.specs.Calls.{first_life, call_at, asks, asks_for}
+use Rattle.lu_covered.specs.Calls.{call_at, asks, asks_for}
 use Rattle.lu_covered.specs.Heads.{Head}
-use Rattle.lu_laws.specs.Words.Lives.{life}
+use Rattle.lu_laws.specs.Words.Lives.{life, who_is}
 use Rattle.lu_laws.specs.Words.Calls.{call_in}
-use Rattle.lu_laws.specs.Words.Repeats.{rebinds, is_ready, in_other_slot, begun_calm, calm}
+use Rattle.lu_laws.specs.Words.Repeats.{rebinds, is_ready, in_other_slot, begun_calm, calm, known}
 use Rattle.lu_guards.proofs.Lists.{self, in_append, in_filter}
-use Rattle.lu_guards.proofs.Guards.{In, EntryOk, Grown}
+use Rattle.lu_guards.proofs.Guards.{In, EntryOk, LifeOk, Grown}
 use Rattle.lu_facts.proofs.Groups.{turn}
-use Rattle.lu_lawful.proofs.Contents.{life_stays}
 use Rattle.lu_lawful.proofs.Printed.{flip}
 use Rattle.lu_lawful.proofs.SilentHeld.{gives_up}
+use Rattle.lu_lawful.proofs.Handles.{rises}
 
 -- ---- the call in a slot is the same
 
@@ -93,6 +96,51 @@ pub every_map : {A : Type 0} (P Q : A → Type 0) (xs : List A) → ((x : A) →
 every_map P Q [] f h = tt
 every_map P Q (x ∷ xs) f h = (f x h.0, every_map P Q xs f h.1)
 
+-- ---- a life that is newer than the present one has no lines yet
+
+module _ (head : Head) (who : Who) where
+  abbrev IsNew : List Line → Type 0
+  IsNew past = (calm who (printed past) ≡ []) × (known who (printed past) ≡ [])
+
+  other : {A : Type 0} (past : List Line) (b : Bool) (more old : List A) → life who.client (printed past) < who.life → old ≡ [] → (if b && nat_eq (life who.client (printed past)) who.life then more else old) ≡ []
+  other past b more old lt h =
+      let off : nat_eq (life who.client (printed past)) who.life ≡ false = grind (arith, nat_tests, lt) in
+      by b (nat_eq (life who.client (printed past)) who.life) off
+    where
+      by : (b v : Bool) → v ≡ false → (if b && v then more else old) ≡ []
+      by true v e = ap (λ (x : Bool). if x then more else old) e ∙ h
+      by false v e = h
+
+  cleared_too : {A : Type 0} (b : Bool) (old : List A) → old ≡ [] → (if b then [] else old) ≡ []
+  cleared_too true old h = refl
+  cleared_too false old h = h
+
+  pub nothing_yet : (past : List Line) → Grown head past → life who.client (printed past) < who.life → IsNew past
+  nothing_yet [] g lt = (refl, refl)
+  nothing_yet (l ∷ past) g lt = by l.at.node l.entry g.0.ok lt (λ less. nothing_yet past g.1 less)
+    where
+      by : (node : Node) (e : Entry) → EntryOk past (turn l.at.stamp node) node e → life who.client (printed (line (turn l.at.stamp node) e ∷ past)) < who.life
+          → (life who.client (printed past) < who.life → IsNew past) → IsNew (line (turn l.at.stamp node) e ∷ past)
+      by (Client d) (Life w) ok lt ih =
+          cond_both (nat_eq d who.client) w.life (life who.client (printed past)) (λ (v : ℕ). v < who.life → IsNew past)
+          (λ t less. let up = rises who.client d w past (turn l.at.stamp (Client d)) ok t in ih (omega arith))
+          (λ t less. ih less) lt
+      by (Client d) (Begin s running) ok lt ih = let h = ih lt in (other past (nat_eq d who.client) _ _ lt h.0, other past (nat_eq d who.client) _ _ lt h.1)
+      by (Client d) (Told s named given work) ok lt ih = let h = ih lt in (other past (nat_eq d who.client) _ _ lt h.0, other past (nat_eq d who.client) _ _ lt h.1)
+      by (Client d) (Drop t lock) ok lt ih = let h = ih lt in (cleared_too _ _ h.0, cleared_too _ _ h.1)
+      by (Client d) (Take n from m) ok lt ih = let h = ih lt in (cleared_too _ _ h.0, cleared_too _ _ h.1)
+      by (Target t) (Life w) ok lt ih = absurd ok
+      by (Target t) (Begin s running) ok lt ih = absurd ok
+      by (Target t) (Told s named given work) ok lt ih = absurd ok
+      by (Target t) (Drop u lock) ok lt ih = absurd ok
+      by (Target t) (Take n from m) ok lt ih = ih lt
+      by _ _ ok lt ih = ih lt
+
+-- the life that a client begins is
+pub begun_anew : (head : Head) (c d : ℕ) (w : Who) (past : List Line) (at : At) → Grown head past → LifeOk past at d w → nat_eq d c ≡ true
+    → (calm (record { client = c; life = w.life }) (printed past) ≡ []) × (known (record { client = c; life = w.life }) (printed past) ≡ [])
+begun_anew head c d w past at g ok own = nothing_yet head (record { client = c; life = w.life }) past g (rises c d w past at ok own)
+
 -- ---- each call that stands calm stands in its slot
 
 abbrev pub StandsIn : (ℕ → Option Call) → ℕ × Call → Type 0
@@ -126,26 +174,31 @@ pub and_true : (b : Bool) → (b && true) ≡ b
 and_true true = refl
 and_true false = refl
 
-pub calm_stands : (head : Head) (c : ℕ) (past : List Line) → Grown head past → Every (StandsIn (λ k. call_in c k (printed past))) (calm (first_life c) (printed past))
+pub calm_stands : (head : Head) (c : ℕ) (past : List Line) → Grown head past → Every (StandsIn (λ k. call_in c k (printed past))) (calm (who_is c (printed past)) (printed past))
 calm_stands head c [] g = tt
 calm_stands head c (l ∷ past) g = by l.at.node l.entry g.0.ok (calm_stands head c past g.1)
   where
-    own : life c (printed past) ≡ 1
-    own = life_stays head c past g.1
+    own : nat_eq (life c (printed past)) (life c (printed past)) ≡ true
+    own = self (life c (printed past))
 
-    by : (node : Node) (e : Entry) → EntryOk past (turn l.at.stamp node) node e → Every (StandsIn (λ k. call_in c k (printed past))) (calm (first_life c) (printed past))
-        → Every (StandsIn (λ k. call_in c k (printed (line (turn l.at.stamp node) e ∷ past)))) (calm (first_life c) (printed (line (turn l.at.stamp node) e ∷ past)))
-    by (Client d) (Begin s running) ok h = rw (own, and_true (nat_eq d c)) (begin_stands (nat_eq d c) (is_ready (first_life c) (printed past)) s running.call (λ k. call_in c k (printed past)) (calm (first_life c) (printed past)) h)
-    by (Client d) (Told s named given work) ok h = rw (own, and_true (nat_eq d c)) (told_stands (nat_eq d c) s (λ k. call_in c k (printed past)) (calm (first_life c) (printed past)) h)
-    by (Client d) (Drop t lock) ok h = cleared (StandsIn (λ k. call_in c k (printed past))) _ (calm (first_life c) (printed past)) h
+    by : (node : Node) (e : Entry) → EntryOk past (turn l.at.stamp node) node e → Every (StandsIn (λ k. call_in c k (printed past))) (calm (who_is c (printed past)) (printed past))
+        → Every (StandsIn (λ k. call_in c k (printed (line (turn l.at.stamp node) e ∷ past)))) (calm (who_is c (printed (line (turn l.at.stamp node) e ∷ past))) (printed (line (turn l.at.stamp node) e ∷ past)))
+    by (Client d) (Begin s running) ok h = rw (own, and_true (nat_eq d c)) (begin_stands (nat_eq d c) (is_ready (who_is c (printed past)) (printed past)) s running.call (λ k. call_in c k (printed past)) (calm (who_is c (printed past)) (printed past)) h)
+    by (Client d) (Told s named given work) ok h = rw (own, and_true (nat_eq d c)) (told_stands (nat_eq d c) s (λ k. call_in c k (printed past)) (calm (who_is c (printed past)) (printed past)) h)
+    by (Client d) (Life w) ok h =
+        cond_both (nat_eq d c) w.life (life c (printed past)) (λ (v : ℕ). Every (StandsIn (λ k. call_in c k (printed past))) (calm (record { client = c; life = v }) (printed past)))
+        (λ t. subst (λ (v : List (ℕ × Call)). Every (StandsIn (λ k. call_in c k (printed past))) v) (sym (begun_anew head c d w past (turn l.at.stamp (Client d)) g.1 ok t).0) tt)
+        (λ t. h)
+    by (Target t) (Life w) ok h = absurd ok
+    by (Client d) (Drop t lock) ok h = cleared (StandsIn (λ k. call_in c k (printed past))) _ (calm (who_is c (printed past)) (printed past)) h
     by (Target t) (Begin s running) ok h = absurd ok
     by (Target t) (Told s named given work) ok h = absurd ok
     by (Target t) (Drop u lock) ok h = absurd ok
-    by (Client d) (Take n from m) ok h = cleared (StandsIn (λ k. call_in c k (printed past))) _ (calm (first_life c) (printed past)) h
+    by (Client d) (Take n from m) ok h = cleared (StandsIn (λ k. call_in c k (printed past))) _ (calm (who_is c (printed past)) (printed past)) h
     by (Target t) (Take n from m) ok h = h
     by _ _ ok h = h
 
--- ---- what stands calm in a slot after a line stood calm before it, where the slot had its call, and no lock was given up
+-- ---- what stands calm in a slot after a line stood calm before it, where the slot had its call, and no lock or life was given up
 
 module _ {A : Type 0} (x : A) where
   not_cleared : (b : Bool) (old : List A) → In x (if b then [] else old) → (b ≡ false) × In x old
@@ -153,14 +206,14 @@ module _ {A : Type 0} (x : A) where
   not_cleared false old i = (refl, i)
 
 pub calm_before : (head : Head) (c slot : ℕ) (running : Running) (l : Line) (past : List Line) → Grown head (l ∷ past) → call_at c slot past ≡ Some running → (x : ℕ × Call) → x.0 ≡ slot
-    → In x (calm (first_life c) (printed (l ∷ past))) → In x (calm (first_life c) (printed past))
+    → In x (calm (who_is c (printed (l ∷ past))) (printed (l ∷ past))) → In x (calm (who_is c (printed past)) (printed past))
 calm_before head c slot running l past g has x at = by l.at.node l.entry g.0.ok
   where
-    own : life c (printed past) ≡ 1
-    own = life_stays head c past g.1
+    own : nat_eq (life c (printed past)) (life c (printed past)) ≡ true
+    own = self (life c (printed past))
 
     P : List (ℕ × Call)
-    P = calm (first_life c) (printed past)
+    P = calm (who_is c (printed past)) (printed past)
 
     began : (d s : ℕ) (new : Call) (ready t : Bool) → nat_eq d c ≡ t → call_at d s past ≡ None → In x (if t then begun_calm s new ready P else P) → In x P
     began d s new ready false e free i = i
@@ -186,11 +239,16 @@ calm_before head c slot running l past g has x at = by l.at.node l.entry g.0.ok
     told true s i = (in_filter (in_other_slot s) x P i).0
     told false s i = i
 
-    by : (node : Node) (e : Entry) → EntryOk past (turn l.at.stamp node) node e → In x (calm (first_life c) (printed (line (turn l.at.stamp node) e ∷ past))) → In x P
+    by : (node : Node) (e : Entry) → EntryOk past (turn l.at.stamp node) node e → In x (calm (who_is c (printed (line (turn l.at.stamp node) e ∷ past))) (printed (line (turn l.at.stamp node) e ∷ past))) → In x P
     by (Client d) (Begin s new) ok i =
-        began d s new.call (is_ready (first_life c) (printed past)) (nat_eq d c) refl ok.free
-        (subst (λ (b : Bool). In x (if b then begun_calm s new.call (is_ready (first_life c) (printed past)) P else P)) (ap (λ (v : ℕ). nat_eq d c && nat_eq v 1) own ∙ and_true (nat_eq d c)) i)
+        began d s new.call (is_ready (who_is c (printed past)) (printed past)) (nat_eq d c) refl ok.free
+        (subst (λ (b : Bool). In x (if b then begun_calm s new.call (is_ready (who_is c (printed past)) (printed past)) P else P)) (ap (λ (v : Bool). nat_eq d c && v) own ∙ and_true (nat_eq d c)) i)
     by (Client d) (Told s named given work) ok i = told _ s i
+    by (Client d) (Life w) ok i =
+        cond_both (nat_eq d c) w.life (life c (printed past)) (λ (v : ℕ). In x (calm (record { client = c; life = v }) (printed past)) → In x P)
+        (λ t j. absurd (subst (λ (v : List (ℕ × Call)). In x v) (begun_anew head c d w past (turn l.at.stamp (Client d)) g.1 ok t).0 j))
+        (λ t j. j) i
+    by (Target t) (Life w) ok i = absurd ok
     by (Client d) (Drop t lock) ok i = (not_cleared x _ P i).1
     by (Client d) (Take n from m) ok i = (not_cleared x _ P i).1
     by (Target t) (Begin s new) ok i = absurd ok
@@ -199,15 +257,20 @@ calm_before head c slot running l past g has x at = by l.at.node l.entry g.0.ok
     by (Target t) (Take n from m) ok i = i
     by _ _ ok i = i
 
--- and then no lock was given up
-pub calm_gives_none : (head : Head) (c : ℕ) (l : Line) (past : List Line) → Grown head (l ∷ past) → (x : ℕ × Call) → In x (calm (first_life c) (printed (l ∷ past))) → gives_up c l.at.node l.entry ≡ false
-calm_gives_none head c l past g x = by l.at.node l.entry
+-- and then no lock or life was given up
+pub calm_gives_none : (head : Head) (c : ℕ) (l : Line) (past : List Line) → Grown head (l ∷ past) → (x : ℕ × Call) → In x (calm (who_is c (printed (l ∷ past))) (printed (l ∷ past))) → gives_up c l.at.node l.entry ≡ false
+calm_gives_none head c l past g x = by l.at.node l.entry g.0.ok
   where
-    own : life c (printed past) ≡ 1
-    own = life_stays head c past g.1
+    own : nat_eq (life c (printed past)) (life c (printed past)) ≡ true
+    own = self (life c (printed past))
 
-    by : (node : Node) (e : Entry) → In x (calm (first_life c) (printed (line (turn l.at.stamp node) e ∷ past))) → gives_up c node e ≡ false
-    by (Client d) (Drop t lock) i =
-        flip c d ∙ sym (and_true (nat_eq d c)) ∙ ap (λ (v : ℕ). nat_eq d c && nat_eq v 1) (sym own) ∙ (not_cleared x _ (calm (first_life c) (printed past)) i).0
-    by (Target t) (Drop u lock) i = refl
-    by _ _ i = refl
+    by : (node : Node) (e : Entry) → EntryOk past (turn l.at.stamp node) node e → In x (calm (who_is c (printed (line (turn l.at.stamp node) e ∷ past))) (printed (line (turn l.at.stamp node) e ∷ past))) → gives_up c node e ≡ false
+    by (Client d) (Drop t lock) ok i =
+        flip c d ∙ sym (and_true (nat_eq d c)) ∙ ap (λ (v : Bool). nat_eq d c && v) (sym own) ∙ (not_cleared x _ (calm (who_is c (printed past)) (printed past)) i).0
+    by (Client d) (Life w) ok i =
+        cond_both (nat_eq d c) w.life (life c (printed past)) (λ (v : ℕ). In x (calm (record { client = c; life = v }) (printed past)) → nat_eq c d ≡ false)
+        (λ t j. absurd (subst (λ (v : List (ℕ × Call)). In x v) (begun_anew head c d w past (turn l.at.stamp (Client d)) g.1 ok t).0 j))
+        (λ t j. flip c d ∙ t) i
+    by (Target t) (Drop u lock) ok i = refl
+    by (Target t) (Life w) ok i = refl
+    by _ _ ok i = refl

@@ -1,4 +1,4 @@
--- What a client holds and knows, the marks of its locks taken away, only grows until it gives up a lock.
+-- What a client holds and knows, the marks of its locks taken away, only grows until it gives up a lock or begins a new life.
 use Rattle.std.proofs.Common.{◌≡◌, ℕ, Bool, true, false, List, [], ◌∷◌, ◌++◌, inl, inr, refl, sym, subst, ap, ◌∙◌}
 use Rattle.std.specs.Prelude.{nat_eq, not, ◌==◌, ◌&&◌, ◌||◌, if◌then◌else◌, map, filter}
 use Rattle.std.specs.List.{list_any}
@@ -181,9 +181,9 @@ brought_new t l (k ∷ locks) held z (inr i) = brought_new t l locks (with_held 
 
 -- ---- what a line makes of them
 
--- the client gives up a lock
+-- the client gives up a lock, or its life
 abbrev pub gives_up : ℕ → Node → Entry → Bool
-gives_up c node e = elim e [ Drop t l ↦ is_client c node | _ ↦ false ]
+gives_up c node e = elim e [ Drop t l ↦ is_client c node | Life who ↦ is_client c node | _ ↦ false ]
 
 module _ (c : ℕ) (past : List Line) (stamp : Stamp) where
   pub held_stays : (k : ℕ) (node : Node) (e : Entry) → EntryOk past (turn stamp node) node e → gives_up c node e ≡ false → Present k (held_at c past) → Present k (held_at c (line (turn stamp node) e ∷ past))
@@ -207,13 +207,13 @@ module _ (c : ℕ) (past : List Line) (stamp : Stamp) where
   facts_stay : (x : Fact) (node : Node) (e : Entry) → EntryOk past (turn stamp node) node e → gives_up c node e ≡ false → In x (facts_at c past) → In x (facts_at c (line (turn stamp node) e ∷ past))
   facts_stay x (Client d) (Learns t o a locks) ok stays i = cond_both (nat_eq c d) (taught o a locks ++ facts_at c past) (facts_at c past) (λ (v : List Fact). In x v) (λ q. in_right x (taught o a locks) (facts_at c past) i) (λ q. i)
   facts_stay x (Client d) (Drop t l) ok stays i = subst (λ (b : Bool). In x (if b then without_facts t l (facts_at c past) else facts_at c past)) (sym stays) i
-  facts_stay x (Client d) (Life who) ok stays i = absurd ok
+  facts_stay x (Client d) (Life who) ok stays i = subst (λ (b : Bool). In x (if b then [] else facts_at c past)) (sym stays) i
   facts_stay x (Target t) (Learns u o a locks) ok stays i = absurd ok
   facts_stay x (Target t) (Drop u l) ok stays i = absurd ok
   facts_stay x (Target t) (Life who) ok stays i = absurd ok
   facts_stay x _ _ ok stays i = i
 
-  -- a line gives a client more, unless a lock is given up
+  -- a line gives a client more, unless a lock or the life is given up
   pub notes_grow : (node : Node) (e : Entry) → EntryOk past (turn stamp node) node e → gives_up c node e ≡ false → Grows (bare_at c past) (bare_at c (line (turn stamp node) e ∷ past))
   notes_grow node e ok stays =
       grows_bare (facts_at c past) (facts_at c (line (turn stamp node) e ∷ past)) (held_at c past) (held_at c (line (turn stamp node) e ∷ past))

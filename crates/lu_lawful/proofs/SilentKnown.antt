@@ -18,7 +18,8 @@ use Rattle.lu_machine.proofs.Keys.{name_tells}
 use Rattle.lu_client_rows.specs.Facts.{Fact, fact, root, is_one_for_each, name_facts, names_taught, last_of, inode_taught, taught}
 use Rattle.lu_client_rows.specs.Known.{Notes, same_part, is_usable, lesser, of_least_cookie, fact_on, with_cookie, nothing_found, walked, found_at_path, Found, known_of, known_with, list_at, layout_at, directory_at}
 use Rattle.lu_machine.specs.Laws.{IsReading}
-use Rattle.lu_covered.specs.Calls.{operation_of}
+use Rattle.lu_words.specs.Carried.{HandleFile}
+use Rattle.lu_covered.specs.Calls.{operation_of, told_as}
 use Rattle.lu_covered.specs.Makes.{Path}
 use Rattle.lu_covered.specs.Known.{told_of, known_answer}
 use Rattle.lu_guards.proofs.Guards.{In, IsToldAsIs}
@@ -304,17 +305,17 @@ module _ (n : Notes) (agrees : Agrees n) where
   taught_layout (m ∷ path) a locks h u = absurd h
 
   -- the call that asked it
-  pub taught_known : (c : Call) (o : Op) → operation_of c ≡ Some o → (a : Answer) (locks : List Lock) → (IsReading o → Comes o a locks) → IsToldAsIs c a → AllUsable n (taught o a locks) → IsKnown n c
-  taught_known (call.Lookup path) o e a locks h as_is u =
+  pub taught_known : (file : Option HandleFile) (c : Call) (o : Op) → operation_of file c ≡ Some o → (a : Answer) (locks : List Lock) → (IsReading o → Comes o a locks) → IsToldAsIs c (told_as c a) → AllUsable n (taught o a locks) → IsKnown n c
+  taught_known file (call.Lookup path) o e a locks h as_is u =
       let same : op.Lookup path ≡ o = cc in
       taught_lookup path a locks (subst (λ (v : Op). IsReading v → Comes v a locks) (sym same) h tt) (subst (λ (v : Op). AllUsable n (taught v a locks)) (sym same) u)
-  taught_known (call.Stat path) o e a locks h as_is u =
+  taught_known file (call.Stat path) o e a locks h as_is u =
       let same : op.Stat path ≡ o = cc in
       taught_stat path a locks (subst (λ (v : Op). IsReading v → Comes v a locks) (sym same) h tt) as_is (subst (λ (v : Op). AllUsable n (taught v a locks)) (sym same) u)
-  taught_known (call.List path) o e a locks h as_is u =
+  taught_known file (call.List path) o e a locks h as_is u =
       let same : op.List path ≡ o = cc in
       taught_list path a locks (subst (λ (v : Op). IsReading v → Comes v a locks) (sym same) h tt) (subst (λ (v : Op). AllUsable n (taught v a locks)) (sym same) u)
-  taught_known (call.Layout path) o e a locks h as_is u =
+  taught_known file (call.Layout path) o e a locks h as_is u =
       let same : op.Layout path ≡ o = cc in
       taught_layout path a locks (subst (λ (v : Op). IsReading v → Comes v a locks) (sym same) h tt) (subst (λ (v : Op). AllUsable n (taught v a locks)) (sym same) u)
-  taught_known _ o e a locks h as_is u = tt
+  taught_known file _ o e a locks h as_is u = tt

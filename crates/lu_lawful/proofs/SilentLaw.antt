@@ -7,10 +7,10 @@ use Rattle.std.proofs.lemmas.Bool.{cond_both, cond-true, and_parts, eqb-true}
 use Rattle.lu_base.specs.declared.ids.At.{At}
 use Rattle.lu_base.specs.declared.ids.Node.{Node}
 use Rattle.lu_base.specs.declared.ids.Node.TheVariants.{Client, Target}
-use Rattle.lu_base.specs.declared.ids.Who.{Who}
 use Rattle.lu_msg.specs.declared.answers.Answer.{Answer}
 use Rattle.lu_msg.specs.declared.answers.Answer.TheVariants as told
 use Rattle.lu_msg.specs.declared.answers.Errno.{Errno}
+use Rattle.lu_msg.specs.declared.answers.Errno.TheVariants.{EBADF, EIO}
 use Rattle.lu_msg.specs.declared.calls.Call.{Call}
 use Rattle.lu_msg.specs.declared.calls.Call.TheVariants as call
 use Rattle.lu_msg.specs.declared.operations.Op.{Op}
@@ -19,39 +19,37 @@ use Rattle.lu_held.specs.declared.locks.Change.TheVariants as lock
 use Rattle.lu_held.specs.declared.names.LockName.{LockName}
 use Rattle.lu_held.specs.Locks.{is_named, after}
 use Rattle.lu_held.specs.Held.{changed}
-use Rattle.lu_trace.specs.declared.entries.Entry.{Entry as PrintedEntry}
 use Rattle.lu_trace.specs.declared.entries.Entry.TheVariants as entry
 use Rattle.lu_trace.specs.declared.entries.Line.{Line as PrintedLine}
 use Rattle.lu_machine.specs.Footprint.{Every}
 use Rattle.lu_machine.specs.Name.{same_name}
 use Rattle.lu_machine.proofs.Keys.{name_tells}
-use Rattle.lu_words.specs.Carried.{Work, Queued, Running}
-use Rattle.lu_words.specs.Words.{Entry, Begin, Told, Take, Drop, Queues, Pins, Line, line}
+use Rattle.lu_words.specs.Carried.{Work, Queued, Running, HandleFile, Stage, Plain, Bad}
+use Rattle.lu_words.specs.Words.{Entry, Begin, Told, Take, Drop, Life, Queues, Pins, Unbinds, Line, line}
 use Rattle.lu_words.specs.Sent.{count_sent}
 use Rattle.lu_words.specs.Printed.{printed_entry, printed}
 use Rattle.lu_client_rows.specs.Caches.{held_at}
 use Rattle.lu_client_rows.specs.Facts.{facts_at}
 use Rattle.lu_client_rows.specs.Known.{Notes}
-use Rattle.lu_covered.specs.Calls.{first_life, call_at, operation_of}
+use Rattle.lu_covered.specs.Calls.{call_at, operation_of}
 use Rattle.lu_covered.specs.Heads.{Head}
 use Rattle.lu_covered.specs.Known.{notes_at, known_answer}
-use Rattle.lu_laws.specs.Holds.{HoldsBefore, Holds}
+use Rattle.lu_laws.specs.Holds.{Holds}
 use Rattle.lu_laws.specs.Laws.Silent.{is_told_silently, SilentAt, Silent}
 use Rattle.lu_laws.specs.Words.Calls.{call_in}
 use Rattle.lu_laws.specs.Words.Held.{held, has_write_lock}
-use Rattle.lu_laws.specs.Words.Lives.{life}
+use Rattle.lu_laws.specs.Words.Lives.{life, who_is}
 use Rattle.lu_laws.specs.Words.Pasts.{same_turn}
 use Rattle.lu_laws.specs.Words.Repeats.{same_path, same_reading, is_error, calm, told_calm, known, is_repeat}
-use Rattle.lu_guards.proofs.Guards.{In, Starts, Owes, QueuesOk, ToldOk, KnownOk, Grown}
-use Rattle.lu_guards.proofs.Lists.{self, in_filter, who as who_of}
+use Rattle.lu_guards.proofs.Guards.{In, Begins, Starts, Owes, QueuesOk, ToldOk, KnownOk, EndsOk, BadOk, Allowed, Grown}
+use Rattle.lu_guards.proofs.Lists.{self, in_filter}
 use Rattle.lu_guards.proofs.Turns.{Settled}
 use Rattle.lu_facts.proofs.Groups.{turn}
-use Rattle.lu_lawful.proofs.Contents.{life_stays}
 use Rattle.lu_lawful.proofs.Printed.{flip}
-use Rattle.lu_lawful.proofs.Lines.{OfPrinted, Keeps}
+use Rattle.lu_lawful.proofs.Lines.{OfPrinted, Keeps, shown, holds_due, Nothing}
 use Rattle.lu_lawful.proofs.SilentKnown.{Agrees, Grows, IsKnown, IsReadingCall, known_more, known_told, told_known}
 use Rattle.lu_lawful.proofs.SilentHeld.{bare_at, gives_up, Unmarked, of_any, map_in, grows_to_bare, grows_from_bare, notes_grow}
-use Rattle.lu_lawful.proofs.SilentCalm.{called, call_is, calm_stands, StandsIn, and_true, every_filter, every_both, every_in, in_every, every_map}
+use Rattle.lu_lawful.proofs.SilentCalm.{called, call_is, begun_anew, calm_stands, StandsIn, and_true, every_filter, every_both, every_in, in_every, every_map}
 use Rattle.lu_lawful.proofs.SilentTaught.{told_is_known}
 use Rattle.lu_lawful.proofs.SilentAgrees.{agrees}
 
@@ -63,37 +61,43 @@ KnownAt c past k = IsKnown (bare_at c past) k
 no_refusal : (given : Answer) → is_error given ≡ false → (e : Errno) → given ≡ told.Refused e → ⊥
 no_refusal given fine e is = let error : is_error given ≡ true = ap is_error is in absurd (cc)
 
+-- the call in the slot may be told
+abbrev MayTell : List Line → At → ℕ → ℕ → At → Answer → Option Work → Type 0
+MayTell past at c slot named given work = ToldOk past at c slot named given work ⊎ KnownOk past at c slot named given work ⊎ EndsOk past at c slot named given work ⊎ BadOk past at c slot named given work
+
 module _ (head : Head) (c : ℕ) where
-  -- a line that gives up no lock keeps it
+  -- a line that gives up no lock and no life keeps it
   still : (past : List Line) (l : Line) → Grown head (l ∷ past) → gives_up c l.at.node l.entry ≡ false → (k : Call) → KnownAt c past k → KnownAt c (l ∷ past) k
   still past l g stays k h = known_more (bare_at c past) (bare_at c (l ∷ past)) (notes_grow c past l.at.stamp l.at.node l.entry g.0.ok stays) (agrees head c (l ∷ past) g) k h
 
   -- the call that is told
-  told_one : (past : List Line) (at : At) (slot : ℕ) (named : At) (given : Answer) (work : Option Work) → Grown head past → at.node ≡ Client c → ToldOk past at c slot named given work ⊎ KnownOk past at c slot named given work → is_error given ≡ false
-      → (x : ℕ × Call) → In x (calm (first_life c) (printed past)) → x.0 ≡ slot → KnownAt c past x.1
+  told_one : (past : List Line) (at : At) (slot : ℕ) (named : At) (given : Answer) (work : Option Work) → Grown head past → at.node ≡ Client c → MayTell past at c slot named given work → is_error given ≡ false
+      → (x : ℕ × Call) → In x (calm (who_is c (printed past)) (printed past)) → x.0 ≡ slot → KnownAt c past x.1
   told_one past at slot named given work g own ok fine x i is = by ok
     where
       -- it is the call in the slot
       the_call : (r : Running) → call_at c slot past ≡ Some r → r.call ≡ x.1
       the_call r e =
-          let stands : call_in c x.0 (printed past) ≡ Some x.1 = every_in (StandsIn (λ k. call_in c k (printed past))) x (calm (first_life c) (printed past)) (calm_stands head c past g) i in
+          let stands : call_in c x.0 (printed past) ≡ Some x.1 = every_in (StandsIn (λ k. call_in c k (printed past))) x (calm (who_is c (printed past)) (printed past)) (calm_stands head c past g) i in
           let here : call_in c slot (printed past) ≡ Some r.call = call_is head c slot past g ∙ ap called e in
           let there : call_in c slot (printed past) ≡ Some x.1 = subst (λ (v : ℕ). call_in c v (printed past) ≡ Some x.1) is stands in
           cc
 
-      by : ToldOk past at c slot named given work ⊎ KnownOk past at c slot named given work → KnownAt c past x.1
+      by : MayTell past at c slot named given work → KnownAt c past x.1
       by (inl a) = subst (λ (v : Call). KnownAt c past v) (the_call a.running a.call) (told_is_known head c slot past at named given work g (agrees head c past g) own a (no_refusal given fine) x i is)
-      by (inr a) =
+      by (inr (inl a)) =
           subst (λ (v : Call). KnownAt c past v) (the_call a.running a.call)
           (known_more (notes_at c past) (bare_at c past) (grows_to_bare (facts_at c past) (held_at c past)) (agrees head c past g) a.running.call (told_known (notes_at c past) given a.running.call a.known))
+      by (inr (inr (inl a))) = absurd (no_refusal given fine EIO a.of_answer)
+      by (inr (inr (inr a))) = absurd (no_refusal given fine EBADF a.of_answer)
 
   -- all that is told calm in the slot
-  told_all : (past : List Line) (at : At) (slot : ℕ) (named : At) (given : Answer) (work : Option Work) → Grown head past → at.node ≡ Client c → ToldOk past at c slot named given work ⊎ KnownOk past at c slot named given work
-      → Every (KnownAt c past) (told_calm slot given (calm (first_life c) (printed past)))
+  told_all : (past : List Line) (at : At) (slot : ℕ) (named : At) (given : Answer) (work : Option Work) → Grown head past → at.node ≡ Client c → MayTell past at c slot named given work
+      → Every (KnownAt c past) (told_calm slot given (calm (who_is c (printed past)) (printed past)))
   told_all past at slot named given work g own ok = by (is_error given) refl
     where
       P : List (ℕ × Call)
-      P = calm (first_life c) (printed past)
+      P = calm (who_is c (printed past)) (printed past)
 
       by : (b : Bool) → is_error given ≡ b → Every (KnownAt c past) (if b then [] else map (λ s. s.1) (filter (λ s. s.0 == slot) P))
       by true e = tt
@@ -116,37 +120,43 @@ module _ (head : Head) (c : ℕ) where
   more_known past true more old h k = every_both (KnownAt c past) more old (h refl) k
   more_known past false more old h k = k
 
-  pub known_is_known : (past : List Line) → Grown head past → Every (KnownAt c past) (known (first_life c) (printed past))
+  pub known_is_known : (past : List Line) → Grown head past → Every (KnownAt c past) (known (who_is c (printed past)) (printed past))
   known_is_known [] g = tt
   known_is_known (l ∷ past) g = by l.at.node l.entry g (known_is_known past g.1)
     where
-      own : life c (printed past) ≡ 1
-      own = life_stays head c past g.1
+      own : nat_eq (life c (printed past)) (life c (printed past)) ≡ true
+      own = self (life c (printed past))
 
       P : List Call
-      P = known (first_life c) (printed past)
+      P = known (who_is c (printed past)) (printed past)
 
       after_line : (node : Node) (e : Entry) → Grown head (line (turn l.at.stamp node) e ∷ past) → gives_up c node e ≡ false → (xs : List Call) → Every (KnownAt c past) xs → Every (KnownAt c (line (turn l.at.stamp node) e ∷ past)) xs
       after_line node e g stays xs h = every_map (KnownAt c past) (KnownAt c (line (turn l.at.stamp node) e ∷ past)) xs (λ k q. still past (line (turn l.at.stamp node) e) g stays k q) h
 
-      by : (node : Node) (e : Entry) → Grown head (line (turn l.at.stamp node) e ∷ past) → Every (KnownAt c past) P → Every (KnownAt c (line (turn l.at.stamp node) e ∷ past)) (known (first_life c) (printed (line (turn l.at.stamp node) e ∷ past)))
+      by : (node : Node) (e : Entry) → Grown head (line (turn l.at.stamp node) e ∷ past) → Every (KnownAt c past) P → Every (KnownAt c (line (turn l.at.stamp node) e ∷ past)) (known (who_is c (printed (line (turn l.at.stamp node) e ∷ past))) (printed (line (turn l.at.stamp node) e ∷ past)))
       by (Client d) (Begin s running) g h = begun_known (line (turn l.at.stamp (Client d)) (Begin s running) ∷ past) _ _ P (after_line (Client d) (Begin s running) g refl P h)
       by (Client d) (Told s named given work) g h =
           rw (own, and_true (nat_eq d c))
-          (more_known (line (turn l.at.stamp (Client d)) (Told s named given work) ∷ past) (nat_eq d c) (told_calm s given (calm (first_life c) (printed past))) P
+          (more_known (line (turn l.at.stamp (Client d)) (Told s named given work) ∷ past) (nat_eq d c) (told_calm s given (calm (who_is c (printed past)) (printed past))) P
           (λ t.
           let same : d ≡ c = eqb-true d c t in
-          after_line (Client d) (Told s named given work) g refl (told_calm s given (calm (first_life c) (printed past)))
+          after_line (Client d) (Told s named given work) g refl (told_calm s given (calm (who_is c (printed past)) (printed past)))
           (told_all past (turn l.at.stamp (Client d)) s named given work g.1 (ap Client same)
-          (subst (λ (v : ℕ). ToldOk past (turn l.at.stamp (Client d)) v s named given work ⊎ KnownOk past (turn l.at.stamp (Client d)) v s named given work) same g.0.ok)))
+          (subst (λ (v : ℕ). MayTell past (turn l.at.stamp (Client d)) v s named given work) same g.0.ok)))
           (after_line (Client d) (Told s named given work) g refl P h))
       by (Client d) (Drop t x) g h =
           rw (own, and_true (nat_eq d c))
           (gone (line (turn l.at.stamp (Client d)) (Drop t x) ∷ past) (nat_eq d c) P (λ f. after_line (Client d) (Drop t x) g (flip c d ∙ f) P h))
       by (Client d) (Take n from m) g h = gone (line (turn l.at.stamp (Client d)) (Take n from m) ∷ past) _ P (λ f. after_line (Client d) (Take n from m) g refl P h)
+      by (Client d) (Life w) g h =
+          cond_both (nat_eq d c) w.life (life c (printed past))
+          (λ (v : ℕ). Every (KnownAt c (line (turn l.at.stamp (Client d)) (Life w) ∷ past)) (known (record { client = c; life = v }) (printed past)))
+          (λ t. subst (λ (v : List Call). Every (KnownAt c (line (turn l.at.stamp (Client d)) (Life w) ∷ past)) v) (sym (begun_anew head c d w past (turn l.at.stamp (Client d)) g.1 g.0.ok t).1) tt)
+          (λ f. after_line (Client d) (Life w) g (flip c d ∙ f) P h)
       by (Target u) (Begin s running) g h = absurd g.0.ok
       by (Target u) (Told s named given work) g h = absurd g.0.ok
       by (Target u) (Drop v x) g h = absurd g.0.ok
+      by (Target u) (Life w) g h = absurd g.0.ok
       by (Target u) (Take n from m) g h = after_line (Target u) (Take n from m) g refl P h
       by node e g h = after_line node e g refl P h
 
@@ -162,24 +172,29 @@ same_paths (n ∷ ns) (m ∷ ms) e = let p = and_parts (same_name n m) (same_pat
 same_paths [] (m ∷ ms) e = absurd (cc)
 same_paths (n ∷ ns) [] e = absurd (cc)
 
-repeats : (n : Notes) (a k : Call) (o : Op) → operation_of a ≡ Some o → same_reading a k ≡ true → IsKnown n k → IsReadingCall a × IsKnown n a
-repeats n (call.Lookup p) (call.Lookup q) o e s h = (tt, subst (λ (v : List (List ℕ)). IsKnown n (call.Lookup v)) (sym (same_paths p q s)) h)
-repeats n (call.Stat p) (call.Stat q) o e s h = (tt, subst (λ (v : List (List ℕ)). IsKnown n (call.Stat v)) (sym (same_paths p q s)) h)
-repeats n (call.List p) (call.List q) o e s h = (tt, subst (λ (v : List (List ℕ)). IsKnown n (call.List v)) (sym (same_paths p q s)) h)
-repeats n (call.Layout p) (call.Layout q) o e s h = (tt, subst (λ (v : List (List ℕ)). IsKnown n (call.Layout v)) (sym (same_paths p q s)) h)
-repeats n (call.Read h offset count) k o e s is = absurd (cc)
-repeats n _ _ o e s h = absurd (cc)
+repeats : (n : Notes) (file : Option HandleFile) (a k : Call) (o : Op) → operation_of file a ≡ Some o → same_reading a k ≡ true → IsKnown n k → IsReadingCall a × IsKnown n a
+repeats n file (call.Lookup p) (call.Lookup q) o e s h = (tt, subst (λ (v : List (List ℕ)). IsKnown n (call.Lookup v)) (sym (same_paths p q s)) h)
+repeats n file (call.Stat p) (call.Stat q) o e s h = (tt, subst (λ (v : List (List ℕ)). IsKnown n (call.Stat v)) (sym (same_paths p q s)) h)
+repeats n file (call.List p) (call.List q) o e s h = (tt, subst (λ (v : List (List ℕ)). IsKnown n (call.List v)) (sym (same_paths p q s)) h)
+repeats n file (call.Layout p) (call.Layout q) o e s h = (tt, subst (λ (v : List (List ℕ)). IsKnown n (call.Layout v)) (sym (same_paths p q s)) h)
+repeats n file (call.Read h offset count) k o e s is = absurd (cc)
+repeats n file _ _ o e s h = absurd (cc)
 
 -- ---- what a call that begins owes
 
 module _ (head : Head) where
-  -- where the newest line began a call that is known, but for pins, it is told in the lines to come before anything is sent
+  -- where the newest line began a call that is known, or one on a bad handle, but for what it pins and unbinds, it is told in the lines to
+  -- come before anything is sent
+  abbrev IsDue : ℕ → List Line → Running → Type 0
+  IsDue c past running = (running.stage ≡ Bad) ⊎ (IsReadingCall running.call × KnownAt c past running.call)
+
   abbrev Due : List Line → List PrintedLine → Type 0
   Due [] later = Unit {0}
   Due (l ∷ past) later =
       elim l.entry [
-        | Begin slot running ↦ (c : ℕ) → l.at.node ≡ Client c → IsReadingCall running.call → KnownAt c past running.call → is_told_silently slot l.at later ≡ true
+        | Begin slot running ↦ (c : ℕ) → l.at.node ≡ Client c → IsDue c past running → is_told_silently slot l.at later ≡ true
         | Pins name ↦ Due past later
+        | Unbinds handle ↦ Due past later
         | _ ↦ Unit {0}
       ]
 
@@ -190,6 +205,7 @@ module _ (head : Head) where
       by : (e : Entry) → Settled (line l.at e ∷ past) → Due (line l.at e ∷ past) []
       by (Begin slot running) s = absurd s
       by (Pins name) s = absurd s
+      by (Unbinds handle) s = absurd s
       by _ s = tt
 
   turn_self : (a b : At) → a ≡ b → same_turn b a ≡ true
@@ -199,27 +215,46 @@ module _ (head : Head) where
       by (Client c) = ap (λ (v : Bool). v && nat_eq c c) (self a.stamp.0) ∙ self c
       by (Target t) = ap (λ (v : Bool). v && nat_eq t t) (self a.stamp.0) ∙ self t
 
-  told_due : (at : At) (s : ℕ) (named : At) (given : Answer) (work : Option Work) (later : List PrintedLine) (past : List Line) → Owes past at (Told s named given work)
-      → Due past (record { at = at; entry = entry.Told s named given } ∷ later)
-  told_due at s named given work later [] o = tt
-  told_due at s named given work later (l ∷ past) o = by l.entry o (told_due at s named given work later past)
-    where
-      by : (e : Entry) → Owes (line l.at e ∷ past) at (Told s named given work) → (Owes past at (Told s named given work) → Due past (record { at = at; entry = entry.Told s named given } ∷ later))
-          → Due (line l.at e ∷ past) (record { at = at; entry = entry.Told s named given } ∷ later)
-      by (Begin slot running) o more = λ c own reads h.
-          cond-true (same_turn at l.at && nat_eq s slot) true (is_told_silently slot l.at later) (ap (λ (b : Bool). b && nat_eq s slot) (turn_self l.at at o.0) ∙ ap (λ (v : ℕ). nat_eq v slot) o.1 ∙ self slot)
-      by (Pins name) o more = more o.1
-      by _ o more = tt
+  -- what a call that has begun may be followed by
+  begun_starts : (c : ℕ) (past : List Line) (r : Running) (slot : ℕ) (e : Entry) → Begins c past r → Starts slot r.stage e → ((r.stage ≡ Bad) × Starts slot Bad e) ⊎ ((r.stage ≡ Plain) × Starts slot Plain e)
+  begun_starts c past r slot e (inl p) s = inr (p.1, subst (λ (v : Stage). Starts slot v e) p.1 s)
+  begun_starts c past r slot e (inr p) s = inl (p.1, subst (λ (v : Stage). Starts slot v e) p.1 s)
 
-  -- nothing else may follow, but pins and a request
-  other_due : (at : At) (e : Entry) → ((slot : ℕ) → Starts slot e → ⊥) → (later : List PrintedLine) (past : List Line) → Owes past at e → Due past later
-  other_due at e never later [] o = tt
-  other_due at e never later (l ∷ past) o = by l.entry o (other_due at e never later past)
+  told_due : (at : At) (s : ℕ) (named : At) (given : Answer) (work : Option Work) (later : List PrintedLine) (past : List Line) → Grown head past → Owes past at (Told s named given work)
+      → Due past (record { at = at; entry = entry.Told s named given } ∷ later)
+  told_due at s named given work later [] g o = tt
+  told_due at s named given work later (l ∷ past) g o = by l.at.node l.entry g.0 o (told_due at s named given work later past g.1)
     where
-      by : (x : Entry) → Owes (line l.at x ∷ past) at e → (Owes past at e → Due past later) → Due (line l.at x ∷ past) later
-      by (Begin slot running) o more = absurd (never slot o.1)
-      by (Pins name) o more = more o.1
-      by _ o more = tt
+      same_slot : (slot : ℕ) (r : Running) → ((r.stage ≡ Bad) × (s ≡ slot)) ⊎ ((r.stage ≡ Plain) × (s ≡ slot)) → s ≡ slot
+      same_slot slot r (inl p) = p.1
+      same_slot slot r (inr p) = p.1
+
+      by : (node : Node) (e : Entry) → Allowed head past (turn l.at.stamp node) e → Owes (line (turn l.at.stamp node) e ∷ past) at (Told s named given work) → (Owes past at (Told s named given work) → Due past (record { at = at; entry = entry.Told s named given } ∷ later))
+          → Due (line (turn l.at.stamp node) e ∷ past) (record { at = at; entry = entry.Told s named given } ∷ later)
+      by (Client d) (Begin slot running) k o more = λ c own due.
+          let here = turn l.at.stamp (Client d) in
+          let same : s ≡ slot = same_slot slot running (begun_starts d past running slot (Told s named given work) k.ok.begins o.1) in
+          cond-true (same_turn at here && nat_eq s slot) true (is_told_silently slot here later) (ap (λ (b : Bool). b && nat_eq s slot) (turn_self here at o.0) ∙ ap (λ (v : ℕ). nat_eq v slot) same ∙ self slot)
+      by (Target t) (Begin slot running) k o more = absurd k.ok
+      by _ (Pins name) k o more = more o.1
+      by _ (Unbinds handle) k o more = more o.1
+      by _ _ k o more = tt
+
+  -- nothing else may follow, but what it pins and unbinds, and a request
+  other_due : (at : At) (e : Entry) → ((slot : ℕ) → Starts slot Plain e → ⊥) → ((slot : ℕ) → Starts slot Bad e → ⊥) → (later : List PrintedLine) (past : List Line) → Grown head past → Owes past at e → Due past later
+  other_due at e never nor later [] g o = tt
+  other_due at e never nor later (l ∷ past) g o = by l.at.node l.entry g.0 o (other_due at e never nor later past g.1)
+    where
+      none : (slot : ℕ) (r : Running) → ((r.stage ≡ Bad) × Starts slot Bad e) ⊎ ((r.stage ≡ Plain) × Starts slot Plain e) → ⊥
+      none slot r (inl p) = nor slot p.1
+      none slot r (inr p) = never slot p.1
+
+      by : (node : Node) (x : Entry) → Allowed head past (turn l.at.stamp node) x → Owes (line (turn l.at.stamp node) x ∷ past) at e → (Owes past at e → Due past later) → Due (line (turn l.at.stamp node) x ∷ past) later
+      by (Client d) (Begin slot running) k o more = absurd (none slot running (begun_starts d past running slot e k.ok.begins o.1))
+      by (Target t) (Begin slot running) k o more = absurd k.ok
+      by _ (Pins name) k o more = more o.1
+      by _ (Unbinds handle) k o more = more o.1
+      by _ _ k o more = tt
 
   -- and nothing is asked for a call that is known
   agrees_too : (n k : Notes) → Grows n k → Agrees k → Agrees n
@@ -259,59 +294,59 @@ module _ (head : Head) where
             → ((k : Call) → KnownAt c (line (turn l.at.stamp node) e ∷ past) k → KnownAt c now k) → (Unmarked (held_at c (line (turn l.at.stamp node) e ∷ past)) → Unmarked (held_at c now)) → Owes (line (turn l.at.stamp node) e ∷ past) at (Queues t q)
             → (((slot : ℕ) → call_at c slot now ≡ call_at c slot past) → ((k : Call) → KnownAt c past k → KnownAt c now k) → (Unmarked (held_at c past) → Unmarked (held_at c now)) → Owes past at (Queues t q) → Due past later)
             → Due (line (turn l.at.stamp node) e ∷ past) later
-        by (Client d) (Begin slot running) g calls knows calm o more = λ b is reads h.
-            let same_b : b ≡ c = one_client b (turn l.at.stamp (Client d)) is o.0 in
-            let same_d : d ≡ c = one_client d (turn l.at.stamp (Client d)) refl o.0 in
-            let stands : call_at c slot now ≡ Some running =
-            calls slot ∙ ap (λ (v : Bool). if v then (if nat_eq slot slot then Some running else call_at c slot past) else call_at c slot past) (ap (λ (v : ℕ). nat_eq c v) same_d ∙ self c)
-            ∙ ap (λ (v : Bool). if v then Some running else call_at c slot past) (self slot) in
-            let unmarked : Unmarked (held_at c past) = subst (λ (v : ℕ). Unmarked (held_at v past)) same_d g.0.ok.calm in
-            absurd (never_asked slot running o.1 stands (calm unmarked) reads (knows running.call (subst (λ (v : ℕ). KnownAt v past running.call) same_b h)))
+        by (Client d) (Begin slot running) g calls knows calm o more = λ b is due.
+            asked b (one_client b (turn l.at.stamp (Client d)) is o.0) (begun_starts d past running slot (Queues t q) g.0.ok.begins o.1) due
+          where
+            same_d : d ≡ c
+            same_d = one_client d (turn l.at.stamp (Client d)) refl o.0
+
+            stands : call_at c slot now ≡ Some running
+            stands =
+                calls slot ∙ ap (λ (v : Bool). if v then (if nat_eq slot slot then Some running else call_at c slot past) else call_at c slot past) (ap (λ (v : ℕ). nat_eq c v) same_d ∙ self c)
+                ∙ ap (λ (v : Bool). if v then Some running else call_at c slot past) (self slot)
+
+            asked : (b : ℕ) → b ≡ c → ((running.stage ≡ Bad) × Starts slot Bad (Queues t q)) ⊎ ((running.stage ≡ Plain) × Starts slot Plain (Queues t q)) → IsDue b past running → is_told_silently slot (turn l.at.stamp (Client d)) later ≡ true
+            asked b same_b (inl p) due = absurd p.1
+            asked b same_b (inr p) (inl bad) = absurd (let plain = p.0 in cc)
+            asked b same_b (inr p) (inr h) =
+                absurd (never_asked slot running p.1 stands (calm (subst (λ (v : ℕ). Unmarked (held_at v past)) same_d g.0.ok.calm)) h.0 (knows running.call (subst (λ (v : ℕ). KnownAt v past running.call) same_b h.1)))
         by (Client d) (Pins name) g calls knows calm o more =
             more calls (λ k h. knows k (still head c past (line (turn l.at.stamp (Client d)) (Pins name)) g refl k h))
             (λ u. calm (cond_both (nat_eq c d) (changed name lock.Pin (held_at c past)) (held_at c past) (λ (v : List HeldLock). Unmarked v) (λ s. pinned_calm name (held_at c past) u) (λ s. u))) o.1
         by (Target u) (Begin slot running) g calls knows calm o more = absurd g.0.ok
+        by (Client d) (Unbinds handle) g calls knows calm o more = more calls (λ k h. knows k (still head c past (line (turn l.at.stamp (Client d)) (Unbinds handle)) g refl k h)) calm o.1
         by (Target u) (Pins name) g calls knows calm o more = absurd g.0.ok
+        by (Target u) (Unbinds handle) g calls knows calm o more = absurd g.0.ok
         by _ _ g calls knows calm o more = tt
 
   -- ---- line by line
-
-  abbrev shown : At → Option PrintedEntry → List PrintedLine → List PrintedLine
-  shown at None later = later
-  shown at (Some e) later = record { at = at; entry = e } ∷ later
 
   due_before : (past : List Line) (l : Line) (later : List PrintedLine) → Grown head (l ∷ past) → Due (l ∷ past) later → Due past (shown l.at (printed_entry (count_sent past + 1) l.entry) later)
   due_before past l later g d = by l.at.node l.entry g d
     where
       by : (node : Node) (e : Entry) → Grown head (line (turn l.at.stamp node) e ∷ past) → Due (line (turn l.at.stamp node) e ∷ past) later → Due past (shown (turn l.at.stamp node) (printed_entry (count_sent past + 1) e) later)
       by node (Pins name) g d = d
-      by node (Told s named given work) g d = told_due (turn l.at.stamp node) s named given work later past g.0.owes
+      by node (Unbinds handle) g d = d
+      by node (Told s named given work) g d = told_due (turn l.at.stamp node) s named given work later past g.1 g.0.owes
       by (Client c) (Queues t q) g d = queues_due c (turn l.at.stamp (Client c)) refl t q past g.1 g.0.ok later past g.1 (λ slot. refl) (λ k h. h) (λ u. u) g.0.owes
       by (Target u) (Queues t q) g d = absurd g.0.ok
-      by node e g d = other_due (turn l.at.stamp node) e (λ slot s. s) _ past g.0.owes
+      by node e g d = other_due (turn l.at.stamp node) e (λ slot s. s) (λ slot s. s) _ past g.1 g.0.owes
 
-  silent_at : (past : List Line) (l : Line) (later : List PrintedLine) → Grown head (l ∷ past) → Due (l ∷ past) later → Keeps Silent past l later
-  silent_at past l later g d = by l.at.node l.entry g d
+  silent_at : (past : List Line) (l : Line) (later : List PrintedLine) → Allowed head past l.at l.entry → Grown head past → Due (l ∷ past) later → Keeps Silent past l later
+  silent_at past l later k g d = by l.at.node l.entry k d
     where
-      by : (node : Node) (e : Entry) → Grown head (line (turn l.at.stamp node) e ∷ past) → Due (line (turn l.at.stamp node) e ∷ past) later → OfPrinted (SilentAt (printed past) (turn l.at.stamp node) later) (printed_entry (count_sent past + 1) e)
-      by (Client c) (Begin slot running) g d = λ is.
-          let first : is_repeat (first_life c) (printed past) running.call ≡ true = subst (λ (w : Who). is_repeat w (printed past) running.call ≡ true) (ap (λ (v : ℕ). who_of c v) (life_stays head c past g.1)) is in
-          let some = and_parts (list_any (same_reading running.call) (known (first_life c) (printed past))) (not (has_write_lock (first_life c) (held (printed past)))) first in
-          let one = of_any (same_reading running.call) (known (first_life c) (printed past)) some.0 in
-          let knows = every_in (KnownAt c past) one.0 (known (first_life c) (printed past)) (known_is_known head c past g.1) one.1.0 in
-          let r = repeats (bare_at c past) running.call one.0 g.0.ok.op g.0.ok.becomes one.1.1 knows in
-          d c refl r.0 r.1
-      by (Target t) (Begin slot running) g d = tt
-      by _ _ g d = tt
-
-  silent_before : (past : List Line) (later : List PrintedLine) → Grown head past → Due past later → HoldsBefore Silent later (printed past)
-  silent_before [] later g d = tt
-  silent_before (l ∷ past) later g d = by (printed_entry (count_sent past + 1) l.entry) (silent_at past l later g d) (silent_before past (shown l.at (printed_entry (count_sent past + 1) l.entry) later) g.1 (due_before past l later g d))
-    where
-      by : (o : Option PrintedEntry) → OfPrinted (λ e. Silent (printed past) (record { at = l.at; entry = e }) later) o → HoldsBefore Silent (shown l.at o later) (printed past)
-          → HoldsBefore Silent later (elim o [ None ↦ printed past | Some e ↦ record { at = l.at; entry = e } ∷ printed past ])
-      by None p h = h
-      by (Some e) p h = (p, h)
+      by : (node : Node) (e : Entry) → Allowed head past (turn l.at.stamp node) e → Due (line (turn l.at.stamp node) e ∷ past) later → OfPrinted (SilentAt (printed past) (turn l.at.stamp node) later) (printed_entry (count_sent past + 1) e)
+      by (Client c) (Begin slot running) k d = begins k.ok.begins
+        where
+          begins : Begins c past running → is_repeat (who_is c (printed past)) (printed past) running.call ≡ true → is_told_silently slot (turn l.at.stamp (Client c)) later ≡ true
+          begins (inr bad) is = d c refl (inl bad.1)
+          begins (inl good) is =
+              let some = and_parts (list_any (same_reading running.call) (known (who_is c (printed past)) (printed past))) (not (has_write_lock (who_is c (printed past)) (held (printed past)))) is in
+              let one = of_any (same_reading running.call) (known (who_is c (printed past)) (printed past)) some.0 in
+              let knows = every_in (KnownAt c past) one.0 (known (who_is c (printed past)) (printed past)) (known_is_known head c past g) one.1.0 in
+              d c refl (inr (repeats (bare_at c past) running.file running.call one.0 good.3.0 good.3.1 one.1.1 knows))
+      by (Target t) (Begin slot running) k d = tt
+      by _ _ k d = tt
 
   pub silent_law : (past : List Line) → Grown head past → Settled past → Holds Silent (printed past)
-  silent_law past g settled = silent_before past [] g (nothing_due past settled)
+  silent_law past g settled = holds_due head Silent Nothing (λ l past k. k) Due due_before (λ past l later a g k d. silent_at past l later a g d) past [] g tt (nothing_due past settled)

@@ -1,5 +1,5 @@
 -- A call that is told what a reply says is known from then on: what the reply told was learned under its locks since it was heard,
--- and no lock was given up since.
+-- and no lock or life was given up since.
 use Rattle.std.proofs.Common.{◌≡◌, ℕ, Bool, true, List, [], ◌∷◌, ◌++◌, Option, Some, None, inl, inr, ⊎_elim, refl, sym, subst, ap, ◌∙◌}
 use Rattle.std.specs.Prelude.{nat_eq, if◌then◌else◌}
 use Rattle.std.proofs.lemmas.Bool.{cond_both, eqb-true}
@@ -8,10 +8,13 @@ use Rattle.lu_base.specs.declared.ids.Fid.{Fid}
 use Rattle.lu_base.specs.declared.ids.Node.{Node}
 use Rattle.lu_base.specs.declared.ids.Node.TheVariants.{Client, Target}
 use Rattle.lu_base.specs.declared.ids.Stamp.{Stamp}
+use Rattle.lu_base.specs.declared.ids.Who.{Who}
 use Rattle.lu_base.specs.declared.locks.Lock.{Lock}
 use Rattle.lu_msg.specs.declared.answers.Answer.{Answer}
 use Rattle.lu_msg.specs.declared.answers.Answer.TheVariants as told
+use Rattle.lu_msg.specs.declared.answers.Errno.{Errno}
 use Rattle.lu_msg.specs.declared.calls.Call.{Call}
+use Rattle.lu_msg.specs.declared.calls.Call.TheVariants as call
 use Rattle.lu_msg.specs.declared.messages.Reply.{Reply as ReplyTo}
 use Rattle.lu_msg.specs.declared.operations.Op.{Op}
 use Rattle.lu_msg.specs.declared.operations.Op.TheVariants as op
@@ -23,22 +26,27 @@ use Rattle.lu_words.specs.Concerns.{only}
 use Rattle.lu_words.specs.Printed.{printed}
 use Rattle.lu_client_rows.specs.Caches.{brought, with_brought, held_at}
 use Rattle.lu_client_rows.specs.Facts.{Fact, root, is_one_for_each, name_facts, names_taught, last_of, inode_taught, stat_facts, taught, facts_at}
-use Rattle.lu_covered.specs.Calls.{first_life, call_at, asks, asks_for, operation_of}
+use Rattle.lu_covered.specs.Calls.{call_at, life_at, asks, asks_for, becomes, told_as}
+use Rattle.lu_covered.specs.ClientStates.{flights_of}
 use Rattle.lu_covered.specs.Imports.{flights_at}
 use Rattle.lu_covered.specs.Deeds.{asked}
 use Rattle.lu_covered.specs.Heads.{Head}
 use Rattle.lu_covered.specs.TargetStates.{none, server_of}
+use Rattle.lu_laws.specs.Words.Lives.{who_is}
 use Rattle.lu_laws.specs.Words.Repeats.{calm}
 use Rattle.lu_guards.proofs.Guards.{In, IsToldAsIs, HeardNow, Learned, EntryOk, ActOk, TxnOk, ToldOk, Allowed, Grown}
 use Rattle.lu_guards.proofs.Lists.{self, in_append, in_left}
-use Rattle.lu_guards.proofs.Parts.{flights_is}
+use Rattle.lu_guards.proofs.Parts.{life_is_of, flights_is}
+use Rattle.lu_facts.proofs.Endings.{reply_ends_none}
 use Rattle.lu_facts.proofs.Groups.{turn, Acted, CallOf}
 use Rattle.lu_facts.proofs.All.{holds}
-use Rattle.lu_lawful.proofs.Story.{acted_whole}
+use Rattle.lu_facts.proofs.Endings.{reply_ends_none}
 use Rattle.lu_lawful.proofs.SilentKnown.{Agrees, AllUsable, IsKnown, Comes, taught_known}
 use Rattle.lu_lawful.proofs.SilentReads.{NoRefusal, reading_comes}
 use Rattle.lu_lawful.proofs.SilentHeld.{Present, bare_at, present_bare, brought_new, held_stays, notes_grow}
 use Rattle.lu_lawful.proofs.SilentCalm.{calm_before, calm_gives_none}
+use Rattle.lu_facts.proofs.Lines.{acted_whole}
+use Rattle.lu_guards.proofs.ClientLines.{some_is}
 
 -- ---- what an answer teaches is known under its locks
 
@@ -102,7 +110,7 @@ taught_under o a locks = λ f i. absurd i
 -- ---- the call that a request serves stands in its slot until it is told
 
 abbrev ServedBy : Op → Option Running → Type 0
-ServedBy o v = (r : Running) × ((v ≡ Some r) × (operation_of r.call ≡ Some o))
+ServedBy o v = (r : Running) × ((v ≡ Some r) × (becomes r ≡ Some o))
 
 abbrev Serves : ℕ → ℕ → List Line → Op → Type 0
 Serves c slot past o = ServedBy o (call_at c slot past)
@@ -153,8 +161,9 @@ module _ (head : Head) (c slot : ℕ) where
     heard_serves : (past : List Line) (stamp : Stamp) (d u : ℕ) (g : Flight) (k : ReplyTo) → Allowed head past (turn stamp (Client d)) (Heard u g k) → Grown head past → c ≡ d → g ≡ f → Serves c slot (line (turn stamp (Client d)) (Heard u g k) ∷ past) f.op
     heard_serves past stamp d u g k a grown same is =
         let ok = a.of u (self u) in
-        let flies : In g (flights_at d u past) = subst (λ (v : List Flight). In g v) (sym (flights_is d u past)) ok.flying in
-        let call = (holds head past grown).asks.fly_calls d u g flies in
+        let flying : In g (flights_of (life_at d past) (only u past)) = subst (λ (v : Who). In g (flights_of v (only u past))) (sym (life_is_of d u past)) ok.flying in
+        let flies : In g (flights_at d u past) = subst (λ (v : List Flight). In g v) (sym (flights_is head d u past grown)) flying in
+        let call = (holds head past grown).asks.fly_calls d u g (reply_ends_none head past (turn stamp (Client d)) (Target u) k d grown a.ok.1) flies in
         let of_slot : CallOf past d (Some slot) f.op = subst (λ (v : Flight). CallOf past d (Some slot) v.op) is (subst (λ (v : Option ℕ). CallOf past d v g.op) (ap (λ (v : Flight). v.slot) is ∙ serves) call) in
         cond_both (nat_eq c d) (asks_for g.slot slot (Answered u k) (call_at c slot past)) (call_at c slot past) (ServedBy f.op)
         (λ t. asks_serves f.op g.slot slot (Answered u k) (call_at c slot past) (served of_slot))
@@ -184,7 +193,7 @@ module _ (head : Head) (c slot : ℕ) where
         by (Target u) (Hold v x marked size seen) a h ih = absurd a.ok
         by _ _ a h ih = absurd h
 
-    -- ---- what it told is known since, where no lock was given up
+    -- ---- what it told is known since, where no lock or life was given up
 
     no_locks : (o : Op) (a : Answer) (facts : Fact) → In facts (taught o a []) → ⊥
     no_locks o a x i = (taught_under o a [] x i).1.0
@@ -196,7 +205,7 @@ module _ (head : Head) (c slot : ℕ) where
 
     -- a call stands calm in the slot
     abbrev IsCalm : List Line → Type 0
-    IsCalm past = (x : ℕ × Call) × (In x (calm (first_life c) (printed past)) × (x.0 ≡ slot))
+    IsCalm past = (x : ℕ × Call) × (In x (calm (who_is c (printed past)) (printed past)) × (x.0 ≡ slot))
 
     abbrev Knows : List Line → Type 0
     Knows past = AllUsable (bare_at c past) (taught f.op r.answer r.locks)
@@ -277,26 +286,28 @@ acted_comes head (l ∷ past) d g a = by l.at.node l.entry g.0 a (acted_comes he
 
 -- ---- a call that is told by a reply is known
 
-two_runnings : (r s : Running) (v : Option Running) → v ≡ Some r → v ≡ Some s → r ≡ s
-two_runnings r s v a b = cc
+-- a refusal is told as it is
+refused_as : (k : Call) (e : Errno) → told_as k (told.Refused e) ≡ told.Refused e
+refused_as (call.Open h path) e = refl
+refused_as _ e = refl
 
 pub told_is_known : (head : Head) (c slot : ℕ) (past : List Line) (at : At) (named : At) (given : Answer) (work : Option Work) → Grown head past → Agrees (bare_at c past) → at.node ≡ Client c → (ok : ToldOk past at c slot named given work) → NoRefusal given
-    → (x : ℕ × Call) → In x (calm (first_life c) (printed past)) → x.0 ≡ slot → IsKnown (bare_at c past) ok.running.call
+    → (x : ℕ × Call) → In x (calm (who_is c (printed past)) (printed past)) → x.0 ≡ slot → IsKnown (bare_at c past) ok.running.call
 told_is_known head c slot past at named given work g agrees own ok fine x i is =
     let learned = learned_now head c slot at own ok.target ok.flight ok.reply ok.serves past g ok.learned in
     let replied = (holds head past g).replies c slot ok.target ok.running ok.reply ok.call ok.answered in
-    let same : learned.0.0 ≡ ok.running = two_runnings learned.0.0 ok.running (call_at c slot past) learned.0.1.0 ok.call in
-    let becomes : operation_of ok.running.call ≡ Some ok.flight.op = ap (λ (v : Running). operation_of v.call) (sym same) ∙ learned.0.1.1 in
-    let asked_for : replied.deed.op ≡ ok.flight.op = one_op replied.deed.op ok.flight.op (operation_of ok.running.call) replied.op becomes in
+    let same : learned.0.0 ≡ ok.running = some_is learned.0.0 ok.running (sym learned.0.1.0 ∙ ok.call) in
+    let asked : becomes ok.running ≡ Some ok.flight.op = ap becomes (sym same) ∙ learned.0.1.1 in
+    let asked_for : replied.deed.op ≡ ok.flight.op = one_op replied.deed.op ok.flight.op (becomes ok.running) replied.op asked in
     let comes = acted_comes head past replied.deed g (acted_whole ok.target past replied.deed replied.acted) in
     let answered : replied.deed.reply.answer ≡ ok.reply.answer = ap (λ (v : ReplyTo). v.answer) replied.is in
     let locked : replied.deed.reply.locks ≡ ok.reply.locks = ap (λ (v : ReplyTo). v.locks) replied.is in
-    let fine_reply : NoRefusal ok.reply.answer = subst NoRefusal ok.of_answer fine in
+    let fine_reply : NoRefusal ok.reply.answer = λ e q. fine e (ok.of_answer ∙ ap (λ (v : Answer). told_as ok.running.call v) q ∙ refused_as ok.running.call e) in
     let comes_now : IsReading ok.flight.op → NoRefusal ok.reply.answer → Comes ok.flight.op ok.reply.answer ok.reply.locks =
     subst (λ (v : Op). IsReading v → NoRefusal ok.reply.answer → Comes v ok.reply.answer ok.reply.locks) asked_for
     (subst (λ (v : Answer). IsReading replied.deed.op → NoRefusal v → Comes replied.deed.op v ok.reply.locks) answered
     (subst (λ (v : List Lock). IsReading replied.deed.op → NoRefusal replied.deed.reply.answer → Comes replied.deed.op replied.deed.reply.answer v) locked comes)) in
-    taught_known (bare_at c past) agrees ok.running.call ok.flight.op becomes ok.reply.answer ok.reply.locks (λ reads. comes_now reads fine_reply)
+    taught_known (bare_at c past) agrees ok.running.file ok.running.call ok.flight.op asked ok.reply.answer ok.reply.locks (λ reads. comes_now reads fine_reply)
     (subst (λ (v : Answer). IsToldAsIs ok.running.call v) ok.of_answer ok.as_is)
     (learned.1 (x, (i, is)))
   where

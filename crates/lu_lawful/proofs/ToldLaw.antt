@@ -1,7 +1,7 @@
--- The law of acts at a told line and at a request's message, and the whole of it.
+-- The law of acts at a call's begin, at a told line and at a request's message, and the whole of it.
 use Rattle.std.proofs.Common.{◌≡◌, ◌≢◌, ℕ, ◌+◌, ◌≤◌, Bool, true, false, List, [], ◌∷◌, Option, Some, None, inl, inr, ⊎_elim, refl, sym, subst, ap, ◌∙◌, arith, pos}
-use Rattle.std.specs.Prelude.{nat_eq, nat_lt, ◌&&◌, ◌||◌, if◌then◌else◌, length}
-use Rattle.std.proofs.lemmas.Bool.Decides.{nat_tests}
+use Rattle.std.specs.Prelude.{not, ◌&&◌, ◌||◌}
+use Rattle.std.proofs.lemmas.Bool.{and_parts, eqb-true}
 use Rattle.lu_base.specs.declared.ids.At.{At}
 use Rattle.lu_base.specs.declared.ids.Stamp.{Stamp}
 use Rattle.lu_base.specs.declared.ids.Node.{Node}
@@ -16,126 +16,125 @@ use Rattle.lu_msg.specs.declared.messages.Reply.{Reply as ReplyTo}
 use Rattle.lu_msg.specs.declared.messages.Request.{Request as RequestOf}
 use Rattle.lu_msg.specs.declared.operations.Op.{Op}
 use Rattle.lu_msg.specs.declared.operations.Op.TheVariants as op
-use Rattle.lu_msg.specs.declared.messages.Message.{Message}
+use Rattle.lu_trace.specs.declared.entries.Entry.TheVariants as trace
 use Rattle.lu_trace.specs.declared.entries.Line.{Line as PrintedLine}
 use Rattle.lu_machine.specs.Fits.{answer_fits}
 use Rattle.lu_machine.specs.Footprint.{Every}
-use Rattle.lu_words.specs.Carried.{Deed, Flight, Work, Running}
-use Rattle.lu_words.specs.Words.{Entry, Begin, Send, Take, Heard, Told, Act, Txn as Made, Line, line, node_before, turn_before}
+use Rattle.lu_words.specs.Carried.{Deed, HandleFile, Flight, Work, Running}
+use Rattle.lu_words.specs.Words.{Entry, Begin, Send, Heard, Told, Act, Txn as Made, Line, line}
 use Rattle.lu_words.specs.Concerns.{only}
 use Rattle.lu_words.specs.Sent.{count_sent}
 use Rattle.lu_words.specs.Printed.{printed_entry, printed}
-use Rattle.lu_covered.specs.Calls.{first_life, call_at, operation_of}
-use Rattle.lu_covered.specs.Imports.{flights_at}
-use Rattle.lu_covered.specs.ClientStates.{flights_of}
+use Rattle.lu_covered.specs.Calls.{life_at, call_at, operation_of, becomes, told_as}
+use Rattle.lu_covered.specs.ClientStates.{flights_of, life_of, is_own}
 use Rattle.lu_covered.specs.Heads.{Head, IsHead}
-use Rattle.lu_laws.specs.Words.Pasts.{UpTo, same_turn, or_else}
-use Rattle.lu_laws.specs.Words.Lives.{who_is}
+use Rattle.lu_laws.specs.Words.Pasts.{UpTo, same_turn}
+use Rattle.lu_laws.specs.Words.Lives.{who_is, is_by}
 use Rattle.lu_laws.specs.Words.Requests.{first_request, asked, in_flight}
 use Rattle.lu_laws.specs.Words.Calls as calls
 use Rattle.lu_laws.specs.Words.Calls.{heard_in, operation}
 use Rattle.lu_laws.specs.Holds.{HoldsBefore}
-use Rattle.lu_laws.specs.Laws.Acts.{acted, made, standing_count, told_with, is_bad_handle, is_end_of_life, is_local, ActsFor, ActsInTime, ToldOn, ToldBy, Pairwise, SameTag, FliesAt, ActsAt, ActsOf}
+use Rattle.lu_laws.specs.Laws.Acts.{acted, made, standing_count, is_number, tells_with, told_with, is_bad_handle, is_end_of_life, is_local, took_notice, ActsFor, ActsInTime, ToldOn, ToldBy, Pairwise, SameTag, FliesAt, ActsAt, ActsOf}
 use Rattle.lu_lawful.specs.Fits.{ReplyStands, HeardStand}
-use Rattle.lu_guards.proofs.Guards.{In, JustHeard, TookNow, Later, Steps, IsToldAsIs, ToldOk, KnownOk, Allowed, Grown}
-use Rattle.lu_guards.proofs.Lists.{self, who as who_of}
-use Rattle.lu_guards.proofs.Parts.{flights_is}
-use Rattle.lu_facts.proofs.Groups.{turn, Upto, Acted, Flew}
+use Rattle.lu_guards.proofs.Guards.{In, JustHeard, Steps, IsToldAsIs, ToldOk, KnownOk, EndsOk, BadOk, EntryOk, Allowed, Grown}
+use Rattle.lu_guards.proofs.Lists.{self, own_is, own_self, or_left, or_right}
+use Rattle.lu_guards.proofs.Turns.{Settled}
+use Rattle.lu_facts.proofs.Groups.{turn, Upto, Acted, Flew, Hears}
 use Rattle.lu_facts.proofs.All.{holds}
 use Rattle.lu_facts.proofs.Sides.{acted_at}
-use Rattle.lu_facts.proofs.OnNames.{IsPlain, op_is, no_open, becomes_on_names}
+use Rattle.lu_facts.proofs.OnNames.{IsPlain, told_so, op_is, told_as_so}
 use Rattle.lu_facts.proofs.Refused.{acted_answered}
-use Rattle.lu_facts.proofs.Known.{HeardBy, client_is}
+use Rattle.lu_facts.proofs.Known.{HeardBy}
 use Rattle.lu_facts.proofs.Times.{reached_on}
-use Rattle.lu_lawful.proofs.Turns.{later_before, upto_is, same_turn_is, same_turn_self, other_node}
-use Rattle.lu_lawful.proofs.Story.{about_it, acted_whole, was_story}
-use Rattle.lu_lawful.proofs.Contents.{life_stays}
-use Rattle.lu_lawful.proofs.Printed.{first_sent, good_call, open_is}
-use Rattle.lu_lawful.proofs.Lines.{OfPrinted, Keeps, holds_before}
+use Rattle.lu_lawful.proofs.Turns.{upto_is, same_turn_self, other_node}
+use Rattle.lu_lawful.proofs.Story.{about_it, was_story}
+use Rattle.lu_lawful.proofs.Printed.{life_now, present_is, own_by, first_sent, open_is}
+use Rattle.lu_lawful.proofs.Lines.{OfPrinted, Keeps, holds_due}
 use Rattle.lu_lawful.proofs.Once.{asked_is, acted_sent}
-use Rattle.lu_lawful.proofs.Fine.{IsFine, deed_fine, known_fine}
+use Rattle.lu_lawful.proofs.Fine.{IsFine, deed_fine, so_fine, known_fine}
 use Rattle.lu_lawful.proofs.Flying.{Flown, flying, ask_flown, Distinct, flyers, keeps_flyers, no_more}
-use Rattle.lu_lawful.proofs.Facts.{AnswersAt, KnewAt, AllTold}
-use Rattle.lu_lawful.proofs.ActsLaw.{ActFor, at_most, act_for, Stands, or_left, or_right, acted_in, told_hears}
+use Rattle.lu_lawful.proofs.Facts.{AnswersAt, KnewAt, EndsAt, BadAt, TellsAt, AllTold}
+use Rattle.lu_lawful.proofs.ActsLaw.{ActFor, at_most, act_for, Stands, acted_in, either}
+use Rattle.lu_lawful.proofs.Hearing.{just_heard}
+use Rattle.lu_lawful.proofs.Handles.{is_bad_stage, begins_bad, meant_is}
+use Rattle.lu_lawful.proofs.BadCalls.{Due, nothing_due, due_before}
+use Rattle.lu_lawful.proofs.Notices.{notice_taken}
+use Rattle.lu_facts.proofs.Lines.{acted_whole, hears_only}
 
 -- ---- what was just heard
 
-lt_self : (n : ℕ) → nat_lt n n ≡ false
-lt_self n = grind (arith, nat_tests)
-
-node_not_before : (a : Node) → node_before a a ≡ false
-node_not_before (Client c) = lt_self c
-node_not_before (Target t) = lt_self t
-
-not_before : (a : At) → turn_before a a ≡ false
-not_before a = rw (self a.stamp.0) (node_not_before a.node)
-
--- an earlier turn is another one
-other_turn : (a b : At) → turn_before a b ≡ true → same_turn a b ≡ false
-other_turn a b e = by (same_turn a b) refl
+-- and so the life heard that it is a reply to
+just_hears : (head : Head) (past : List Line) (at : At) (t : ℕ) (r : ReplyTo) → Grown head past → JustHeard past at t r → Hears (only 0 past) r.who r.xid.0
+just_hears head [] at t r g j = absurd j
+just_hears head (l ∷ past) at t r g j = by l.at.node l.entry g.0 j (just_hears head past at t r g.1)
   where
-    by : (v : Bool) → same_turn a b ≡ v → v ≡ false
-    by true q = let n = not_before a in let e2 = subst (λ (w : At). turn_before a w ≡ true) (sym (same_turn_is a b q)) e in absurd (cc)
-    by false q = refl
-
--- in a turn that is still to come nothing was heard
-unheard : (head : Head) (past : List Line) (at : At) → Grown head past → Later past at → heard_in (printed past) at ≡ None
-unheard head [] at g later = refl
-unheard head (l ∷ past) at g later = by l.entry (unheard head past at g.1 (later_before l past at g.0.steps later))
-  where
-    none_yet : (was : Option ℕ) (b : Bool) (x : ℕ) → was ≡ None → b ≡ false → or_else was (if b then Some x else None) ≡ None
-    none_yet None true x e q = absurd (cc)
-    none_yet None false x e q = refl
-    none_yet (Some y) b x e q = e
-
-    by : (e : Entry) → heard_in (printed past) at ≡ None → heard_in (printed (line l.at e ∷ past)) at ≡ None
-    by (Heard t f r) h = none_yet (heard_in (printed past) at) (same_turn l.at at && nat_eq t 0) r.xid.0 h (ap (λ (b : Bool). b && nat_eq t 0) (other_turn l.at at later))
-    by _ h = h
-
--- nor before the line that takes the turn's message
-unheard_now : (head : Head) (past : List Line) (at : At) (from : Node) (m : Message) → Grown head past → TookNow past at from m → heard_in (printed past) at ≡ None
-unheard_now head [] at from m g t = absurd t
-unheard_now head (l ∷ past) at from m g t = by l.at.node l.entry g.0 t
-  where
-    by : (node : Node) (e : Entry) → Allowed head past (turn l.at.stamp node) e → TookNow (line (turn l.at.stamp node) e ∷ past) at from m → heard_in (printed (line (turn l.at.stamp node) e ∷ past)) at ≡ None
-    by node (Take n sender message) k t = unheard head past at g.1 (subst (λ (v : At). Later past v) t.0 k.ok.later)
-    by node _ k t = absurd t
-
--- it was heard at the metadata target, in this turn
-just_heard : (head : Head) (past : List Line) (at : At) (c t : ℕ) (r : ReplyTo) → Grown head past → at.node ≡ Client c → JustHeard past at t r → (t ≡ 0) × (heard_in (printed past) at ≡ Some r.xid.0)
-just_heard head [] at c t r g n j = absurd j
-just_heard head (l ∷ past) at c t r g n j = by l.at.node l.entry g.0 j (just_heard head past at c t r g.1 n)
-  where
-    first : (here : At) (u x y : ℕ) (was : Option ℕ) → was ≡ None → same_turn here at ≡ true → u ≡ 0 → x ≡ y → or_else was (if same_turn here at && nat_eq u 0 then Some x else None) ≡ Some y
-    first here u x y None e s z same = rw (s, z) (ap (λ (v : ℕ). Some v) same)
-    first here u x y (Some w) e s z same = absurd (cc)
-
-    by : (node : Node) (e : Entry) → Allowed head past (turn l.at.stamp node) e → JustHeard (line (turn l.at.stamp node) e ∷ past) at t r → (JustHeard past at t r → (t ≡ 0) × (heard_in (printed past) at ≡ Some r.xid.0))
-        → (t ≡ 0) × (heard_in (printed (line (turn l.at.stamp node) e ∷ past)) at ≡ Some r.xid.0)
+    by : (node : Node) (e : Entry) → Allowed head past (turn l.at.stamp node) e → JustHeard (line (turn l.at.stamp node) e ∷ past) at t r → (JustHeard past at t r → Hears (only 0 past) r.who r.xid.0) → Hears (only 0 (line (turn l.at.stamp node) e ∷ past)) r.who r.xid.0
     by (Target u) (Heard v f q) k j h = absurd k.ok
     by (Client d) (Heard v f q) k j h =
-        let none = unheard_now head past (turn l.at.stamp (Client d)) (Target v) (message.Reply q) g.1 k.ok.1 in (
-          sym j.1 ∙ k.ok.0,
-          first (turn l.at.stamp (Client d)) v q.xid.0 r.xid.0 (heard_in (printed past) at) (subst (λ (w : At). heard_in (printed past) w ≡ None) j.0 none) (subst (λ (w : At). same_turn w at ≡ true) (sym j.0) (same_turn_self at)) k.ok.0 (ap (λ (w : ReplyTo). w.xid.0) j.2),
-        )
+        let ok = k.of 0 (about_it v k.ok.0) in
+        let mine : life_of d (only 0 past) ≡ r.who = sym ok.who ∙ ap (λ (w : ReplyTo). w.who) j.2 in
+        subst (λ (w : ℕ). Hears (only 0 (line (turn l.at.stamp (Client d)) (Heard w f q) ∷ past)) r.who r.xid.0) (sym k.ok.0)
+        (inl (subst (λ (w : Who). is_own w (only 0 past) (Client d) ≡ true) mine (own_self (only 0 past) d), ok.xid ∙ ap (λ (w : ReplyTo). w.xid.0) j.2))
     by (Client d) (Told slot named given work) k j h = absurd j
     by (Target u) (Told slot named given work) k j h = absurd j
-    by _ _ k j h = h j
+    by node e k j h = hears_only (line (turn l.at.stamp node) e) past r.who r.xid.0 (h j)
 
--- and no client was told of that number before
-untold : (head : Head) (past : List Line) (at : At) (c t : ℕ) (r : ReplyTo) → Grown head past → at.node ≡ Client c → JustHeard past at t r → told_with (printed past) (first_life c) r.xid.0 ≡ true → ⊥
-untold head [] at c t r g n j i = absurd j
-untold head (l ∷ past) at c t r g n j i = by l.at.node l.entry g.0 j i (untold head past at c t r g.1 n)
+-- what a life was told of a number, it heard
+told_hears : (head : Head) (past : List Line) (who : Who) (x : ℕ) → Grown head past → told_with (printed past) who x ≡ true → Hears (only 0 past) who x
+told_hears head [] who x g i = absurd (cc)
+told_hears head (l ∷ past) who x g i = by l.at.node l.entry g.0 i (told_hears head past who x g.1)
   where
-    by : (node : Node) (e : Entry) → Allowed head past (turn l.at.stamp node) e → JustHeard (line (turn l.at.stamp node) e ∷ past) at t r → told_with (printed (line (turn l.at.stamp node) e ∷ past)) (first_life c) r.xid.0 ≡ true
-        → (JustHeard past at t r → told_with (printed past) (first_life c) r.xid.0 ≡ true → ⊥) → ⊥
+    number_is : (o : Option ℕ) (y : ℕ) → o ≡ Some y → is_number x o ≡ true → y ≡ x
+    number_is None y e n = absurd (cc)
+    number_is (Some z) y e n = let same : z ≡ y = cc in sym same ∙ eqb-true z x n
+
+    -- here another turn is named, so a reply was heard
+    here : (c slot : ℕ) (named : At) (given : Answer) (work : Option Work) → EntryOk past (turn l.at.stamp (Client c)) (Client c) (Told slot named given work)
+        → (is_by who (printed past) (Client c) && not (same_turn named (turn l.at.stamp (Client c))) && is_number x (heard_in (printed past) (turn l.at.stamp (Client c)))) ≡ true → Hears (only 0 past) who x
+    here c slot named given work ok p =
+        let q = and_parts (is_by who (printed past) (Client c) && not (same_turn named (turn l.at.stamp (Client c)))) _ p in
+        let own = and_parts (is_by who (printed past) (Client c)) _ q.0 in
+        by ok own.0 own.1 q.1
+      where
+        at : At
+        at = turn l.at.stamp (Client c)
+
+        other : not (same_turn named at) ≡ true → named ≡ at → ⊥
+        other differs e = let yes : same_turn named at ≡ true = subst (λ (v : At). same_turn v at ≡ true) (sym e) (same_turn_self at) in absurd (cc)
+
+        by : EntryOk past at (Client c) (Told slot named given work) → is_by who (printed past) (Client c) ≡ true → not (same_turn named at) ≡ true → is_number x (heard_in (printed past) at) ≡ true → Hears (only 0 past) who x
+        by (inl heard) own differs number =
+            let is = (holds head past g.1).replies c slot heard.target heard.running heard.reply heard.call heard.answered in
+            let mine : who ≡ life_of c past = own_is who past c (sym (own_by head who past (Client c) g.1) ∙ own) in
+            let whose : heard.reply.who ≡ who = is.client ∙ life_now c past ∙ sym mine in
+            let same = number_is (heard_in (printed past) at) heard.reply.xid.0 (just_heard head past at c heard.target heard.reply g.1 refl heard.heard).1 number in
+            subst (λ (w : Who). Hears (only 0 past) w x) whose (subst (λ (y : ℕ). Hears (only 0 past) heard.reply.who y) same (just_hears head past at heard.target heard.reply g.1 heard.heard))
+        by (inr (inl known)) own differs number = absurd (other differs known.of_turn)
+        by (inr (inr (inl ends))) own differs number = absurd (other differs ends.of_turn)
+        by (inr (inr (inr bad))) own differs number = absurd (other differs bad.of_turn)
+
+    by : (node : Node) (e : Entry) → Allowed head past (turn l.at.stamp node) e → told_with (printed (line (turn l.at.stamp node) e ∷ past)) who x ≡ true → (told_with (printed past) who x ≡ true → Hears (only 0 past) who x)
+        → Hears (only 0 (line (turn l.at.stamp node) e ∷ past)) who x
+    by (Target u) (Told slot named given work) k i h = absurd k.ok
+    by (Client c) (Told slot named given work) k i h = hears_only (line (turn l.at.stamp (Client c)) (Told slot named given work)) past who x (⊎_elim
+        (λ (p : (is_by who (printed past) (Client c) && not (same_turn named (turn l.at.stamp (Client c))) && is_number x (heard_in (printed past) (turn l.at.stamp (Client c)))) ≡ true). here c slot named given work k.ok p)
+        (λ (p : told_with (printed past) who x ≡ true). h p)
+        (either (tells_with who x (printed past) (record { at = turn l.at.stamp (Client c); entry = trace.Told slot named given })) (told_with (printed past) who x) i))
+    by node e k i h = hears_only (line (turn l.at.stamp node) e) past who x (h i)
+
+-- and its life was told nothing of that number before
+untold : (head : Head) (past : List Line) (at : At) (t : ℕ) (r : ReplyTo) → Grown head past → JustHeard past at t r → told_with (printed past) r.who r.xid.0 ≡ true → ⊥
+untold head [] at t r g j i = absurd j
+untold head (l ∷ past) at t r g j i = by l.at.node l.entry g.0 j i (untold head past at t r g.1)
+  where
+    by : (node : Node) (e : Entry) → Allowed head past (turn l.at.stamp node) e → JustHeard (line (turn l.at.stamp node) e ∷ past) at t r → told_with (printed (line (turn l.at.stamp node) e ∷ past)) r.who r.xid.0 ≡ true
+        → (JustHeard past at t r → told_with (printed past) r.who r.xid.0 ≡ true → ⊥) → ⊥
     by (Target u) (Heard v f q) k j i h = absurd k.ok
     by (Client d) (Heard v f q) k j i h =
-        let own : Client d ≡ Client c = ap (λ (w : At). w.node) j.0 ∙ n in
-        let same : d ≡ c = cc in
         let ok = k.of 0 (about_it v k.ok.0) in
+        let mine : life_of d (only 0 past) ≡ r.who = sym ok.who ∙ ap (λ (w : ReplyTo). w.who) j.2 in
         let x : f.xid ≡ r.xid.0 = ok.xid ∙ ap (λ (w : ReplyTo). w.xid.0) j.2 in
-        (((holds head past g.1).at 0).numbers.over c r.xid.0 (told_hears head past g.1 c r.xid.0 i)).1 f (subst (λ (w : ℕ). In f (flights_of w (only 0 past))) same ok.flying) x
+        (((holds head past g.1).at 0).numbers.over r.who r.xid.0 (told_hears head past r.who r.xid.0 g.1 i)).1 f (subst (λ (w : Who). In f (flights_of w (only 0 past))) mine ok.flying) x
     by (Client d) (Told slot named given work) k j i h = absurd j
     by (Target u) (Told slot named given work) k j i h = absurd j
     by _ _ k j i h = h j i
@@ -155,12 +154,12 @@ just_heard_by (l ∷ past) at c t r j n = by l.entry j (λ i. just_heard_by past
     by _ j h = h j
 
 -- what stands of what was heard
-pub heard_stands : (out : Who → Bool) (lost : ℕ → ℕ → Bool) (past : List Line) (c : ℕ) (f : Flight) (r : ReplyTo) → HeardStand out lost past → HeardBy past c f r → out (first_life c) ≡ false → ReplyStands lost r
+pub heard_stands : (out : Who → Bool) (lost : ℕ → ℕ → Bool) (past : List Line) (c : ℕ) (f : Flight) (r : ReplyTo) → HeardStand out lost past → HeardBy past c f r → out r.who ≡ false → ReplyStands lost r
 heard_stands out lost [] c f r s i o = absurd i
 heard_stands out lost (l ∷ past) c f r s i o = by l.at.node l.entry s i (λ s j. heard_stands out lost past c f r s j o)
   where
     by : (node : Node) (e : Entry) → HeardStand out lost (line (turn l.at.stamp node) e ∷ past) → HeardBy (line (turn l.at.stamp node) e ∷ past) c f r → (HeardStand out lost past → HeardBy past c f r → ReplyStands lost r) → ReplyStands lost r
-    by (Client d) (Heard v g q) s (inl e) h = let same : d ≡ c = client_is d c e.0 in subst (ReplyStands lost) e.2 (s.0 (subst (λ (w : ℕ). out (first_life w) ≡ false) (sym same) o))
+    by (Client d) (Heard v g q) s (inl e) h = subst (ReplyStands lost) e.2 (s.0 (ap (λ (w : ReplyTo). out w.who) e.2 ∙ o))
     by (Client d) (Heard v g q) s (inr j) h = h s.1 j
     by (Target u) (Heard v g q) s (inl e) h = absurd (cc (e.0))
     by (Target u) (Heard v g q) s (inr j) h = h s.1 j
@@ -170,50 +169,52 @@ heard_stands out lost (l ∷ past) c f r s i o = by l.at.node l.entry s i (λ s 
 pub same_stands : (lost : ℕ → ℕ → Bool) (k r : ReplyTo) → record k { committed = r.committed } ≡ r → ReplyStands lost r → ReplyStands lost k
 same_stands lost k r e s = subst (ReplyStands lost) (sym e) s
 
--- what is told as it is
-told_as_plain : (k : Call) (o : Op) (a : Answer) → operation_of k ≡ Some o → answer_fits o a ≡ true → IsToldAsIs k a → IsPlain a
-told_as_plain k o (answer.FileStat fid mode links layout) e fits as_is = by k e as_is
+-- what is told at once
+told_as_plain : (file : Option HandleFile) (k : Call) (o : Op) (a : Answer) → operation_of file k ≡ Some o → answer_fits o a ≡ true → IsToldAsIs k (told_as k a) → IsPlain a
+told_as_plain file k o (answer.FileStat fid mode links layout) e fits as_is = by file k e as_is
   where
     of : (p : Op) → Some p ≡ Some o → answer_fits p (answer.FileStat fid mode links layout) ≡ true
     of p e = subst (λ (v : Op). answer_fits v (answer.FileStat fid mode links layout) ≡ true) (sym (op_is p o e)) fits
 
-    by : (k : Call) → operation_of k ≡ Some o → IsToldAsIs k (answer.FileStat fid mode links layout) → ⊥
-    by (call.Stat path) e as_is = as_is
-    by (call.Lookup path) e as_is = let f = of (op.Lookup path) e in absurd (cc)
-    by (call.List path) e as_is = let f = of (op.List path) e in absurd (cc)
-    by (call.Layout path) e as_is = let f = of (op.Layout path) e in absurd (cc)
-    by (call.Mkdir path) e as_is = let f = of (op.Mkdir path) e in absurd (cc)
-    by (call.Create path None) e as_is = let f = of (op.Create path 1048576 (pos 1)) e in absurd (cc)
-    by (call.Create path (Some stripes)) e as_is = let f = of (op.Create path stripes.0 stripes.1) e in absurd (cc)
-    by (call.Link old new) e as_is = let f = of (op.Link old new) e in absurd (cc)
-    by (call.Unlink path) e as_is = let f = of (op.Unlink path) e in absurd (cc)
-    by (call.Rmdir path) e as_is = let f = of (op.Rmdir path) e in absurd (cc)
-    by (call.Rename old new) e as_is = let f = of (op.Rename old new) e in absurd (cc)
-    by (call.Chmod path mode) e as_is = let f = of (op.Chmod path mode) e in absurd (cc)
-    by k e as_is = absurd (cc)
-told_as_plain k o (answer.OpenFile fid number layout) e fits as_is = no_open o fid number layout (becomes_on_names k o e) fits
-told_as_plain k o a e fits as_is = tt
+    by : (file : Option HandleFile) (k : Call) → operation_of file k ≡ Some o → IsToldAsIs k (told_as k (answer.FileStat fid mode links layout)) → ⊥
+    by file (call.Stat path) e as_is = as_is
+    by file (call.Lookup path) e as_is = let f = of (op.Lookup path) e in absurd (cc)
+    by file (call.List path) e as_is = let f = of (op.List path) e in absurd (cc)
+    by file (call.Layout path) e as_is = let f = of (op.Layout path) e in absurd (cc)
+    by file (call.Mkdir path) e as_is = let f = of (op.Mkdir path) e in absurd (cc)
+    by file (call.Create path None) e as_is = let f = of (op.Create path 1048576 (pos 1)) e in absurd (cc)
+    by file (call.Create path (Some stripes)) e as_is = let f = of (op.Create path stripes.0 stripes.1) e in absurd (cc)
+    by file (call.Link old new) e as_is = let f = of (op.Link old new) e in absurd (cc)
+    by file (call.Unlink path) e as_is = let f = of (op.Unlink path) e in absurd (cc)
+    by file (call.Rmdir path) e as_is = let f = of (op.Rmdir path) e in absurd (cc)
+    by file (call.Rename old new) e as_is = let f = of (op.Rename old new) e in absurd (cc)
+    by file (call.Chmod path mode) e as_is = let f = of (op.Chmod path mode) e in absurd (cc)
+    by file (call.Open h path) e as_is = let f = of (op.Open path) e in absurd (cc)
+    by (Some x) (call.Close h) e as_is = let f = of (op.Close x.number x.fid) e in absurd (cc)
+    by file k e as_is = absurd (cc)
+told_as_plain file k o a e fits as_is = tt
 
 -- ---- what a told line tells
 
 pub record Tells (past : List Line) (at : At) (c slot : ℕ) (named : At) (given : Answer) : Type 0 where
   pub deed : Deed
   pub acted : Acted past deed
-  pub who : deed.reply.who ≡ first_life c
+  pub who : deed.reply.who ≡ life_at c past
   pub turn_is : deed.reply.at ≡ named
-  pub answer : deed.reply.answer ≡ given
+  pub answer : told_so deed.reply.answer ≡ given
   pub heard : heard_in (printed past) at ≡ Some deed.reply.xid.0
   pub begun : Running
   pub call : call_at c slot past ≡ Some begun
-  pub becomes : operation_of begun.call ≡ Some deed.op
+  pub becomes : becomes begun ≡ Some deed.op
   pub after : Upto begun.at named
   pub until : Upto named at
-  pub untold : told_with (printed past) (first_life c) deed.reply.xid.0 ≡ false
+  pub untold : told_with (printed past) (life_at c past) deed.reply.xid.0 ≡ false
   pub flight : Flight
   pub reply : ReplyTo
   pub hears : HeardBy past c flight reply
+  pub whose : reply.who ≡ life_at c past
   pub is : record deed.reply { committed = reply.committed } ≡ reply
-  pub plain : IsPlain given
+  pub plain : IsPlain deed.reply.answer
 
 told_tells : (head : Head) (past : List Line) (stamp : Stamp) (c slot : ℕ) (named : At) (given : Answer) (work : Option Work) → Steps past (turn stamp (Client c)) → ToldOk past (turn stamp (Client c)) c slot named given work → Grown head past
     → Tells past (turn stamp (Client c)) c slot named given
@@ -226,13 +227,15 @@ told_tells head past stamp c slot named given work steps ok g =
     let heard = just_heard head past at c ok.target ok.reply g refl ok.heard in
     let x : ok.reply.xid.0 ≡ d.reply.xid.0 = ap (λ (v : ReplyTo). v.xid.0) (sym is.is) in
     let heard_by = just_heard_by past at c ok.target ok.reply ok.heard refl in
-    let fits = subst (λ (v : Answer). answer_fits d.op v ≡ true) (ap (λ (v : ReplyTo). v.answer) is.is ∙ sym ok.of_answer) (acted_answered head past d g acted).0 in
+    let fits = (acted_answered head past d g acted).0 in
+    let same : ok.reply.answer ≡ d.reply.answer = ap (λ (v : ReplyTo). v.answer) (sym is.is) in
+    let given_is : given ≡ told_as ok.running.call d.reply.answer = ok.of_answer ∙ ap (λ (v : Answer). told_as ok.running.call v) same in
     record {
       deed = d;
       acted = acted;
       who = ap (λ (v : ReplyTo). v.who) is.is ∙ is.client;
       turn_is = ap (λ (v : ReplyTo). v.at) is.is ∙ sym ok.of_turn;
-      answer = ap (λ (v : ReplyTo). v.answer) is.is ∙ sym ok.of_answer;
+      answer = sym (given_is ∙ told_as_so ok.running.file ok.running.call d.op d.reply.answer is.op fits);
       heard = heard.1 ∙ ap (λ (v : ℕ). Some v) x;
       begun = ok.running;
       call = ok.call;
@@ -242,9 +245,10 @@ told_tells head past stamp c slot named given work steps ok g =
       flight = heard_by.0;
       reply = ok.reply;
       hears = heard_by.1;
+      whose = is.client;
       is = is.is;
-      plain = told_as_plain ok.running.call d.op given is.op fits ok.as_is;
-      untold = never (told_with (printed past) (first_life c) d.reply.xid.0) (λ t. untold head past at c ok.target ok.reply g refl ok.heard (subst (λ (v : ℕ). told_with (printed past) (first_life c) v ≡ true) (sym x) t));
+      plain = told_as_plain ok.running.file ok.running.call d.op d.reply.answer is.op fits (subst (λ (v : Answer). IsToldAsIs ok.running.call v) given_is ok.as_is);
+      untold = never (told_with (printed past) (life_at c past) d.reply.xid.0) (λ t. untold head past at ok.target ok.reply g ok.heard (subst (λ (v : Who). told_with (printed past) v ok.reply.xid.0 ≡ true) (sym is.client) (subst (λ (v : ℕ). told_with (printed past) (life_at c past) v ≡ true) (sym x) t)));
     }
 
 -- ---- every told line
@@ -252,6 +256,22 @@ told_tells head past stamp c slot named given work steps ok g =
 knew : (past : List Line) (at : At) (c slot : ℕ) (named : At) (given : Answer) (work : Option Work) → KnownOk past at c slot named given work → KnewAt past at c slot named given
 knew past at c slot named given work ok =
     record { running = ok.running; call = ok.call; begun = ok.begun; known = ok.known; turn = ok.of_turn; own = subst (λ (v : At). same_turn v at ≡ true) (sym ok.of_turn) (same_turn_self at) }
+
+ends : (past : List Line) (at : At) (c slot : ℕ) (named : At) (given : Answer) (work : Option Work) → EndsOk past at c slot named given work → EndsAt past at c slot named given
+ends past at c slot named given work ok =
+    record { running = ok.running; call = ok.call; notice = ok.notice; answer = ok.of_answer; turn = ok.of_turn; own = subst (λ (v : At). same_turn v at ≡ true) (sym ok.of_turn) (same_turn_self at) }
+
+bad : (past : List Line) (at : At) (c slot : ℕ) (named : At) (given : Answer) (work : Option Work) → BadOk past at c slot named given work → BadAt past at c slot named given
+bad past at c slot named given work ok =
+    record {
+      running = ok.running;
+      call = ok.call;
+      bad = ok.bad;
+      begun = ok.begun;
+      answer = ok.of_answer;
+      turn = ok.of_turn;
+      own = subst (λ (v : At). same_turn v at ≡ true) (sym ok.of_turn) (same_turn_self at);
+    }
 
 pub all_told : (head : Head) (past : List Line) → Grown head past → AllTold past
 all_told head [] g = tt
@@ -276,54 +296,23 @@ all_told head (l ∷ past) g = by l.at.node l.entry g.0 (all_told head past g.1)
           plain = t.plain;
         }
 
+    tells : (c slot : ℕ) (named : At) (given : Answer) (work : Option Work) → Steps past (turn l.at.stamp (Client c)) → EntryOk past (turn l.at.stamp (Client c)) (Client c) (Told slot named given work) → TellsAt past (turn l.at.stamp (Client c)) (Client c) slot named given
+    tells c slot named given work steps (inl ok) = inl (answered c slot named given work steps ok)
+    tells c slot named given work steps (inr (inl ok)) = inr (inl (knew past (turn l.at.stamp (Client c)) c slot named given work ok))
+    tells c slot named given work steps (inr (inr (inl ok))) = inr (inr (inl (ends past (turn l.at.stamp (Client c)) c slot named given work ok)))
+    tells c slot named given work steps (inr (inr (inr ok))) = inr (inr (inr (bad past (turn l.at.stamp (Client c)) c slot named given work ok)))
+
     by : (node : Node) (e : Entry) → Allowed head past (turn l.at.stamp node) e → AllTold past → AllTold (line (turn l.at.stamp node) e ∷ past)
-    by (Client c) (Told slot named given work) k h = (
-      ⊎_elim
-          (λ (ok : ToldOk past (turn l.at.stamp (Client c)) c slot named given work). inl (answered c slot named given work k.steps ok))
-          (λ (ok : KnownOk past (turn l.at.stamp (Client c)) c slot named given work). inr (knew past (turn l.at.stamp (Client c)) c slot named given work ok))
-          k.ok,
-      h,
-    )
+    by (Client c) (Told slot named given work) k h = (tells c slot named given work k.steps k.ok, h)
     by (Target t) (Told slot named given work) k h = absurd k.ok
     by _ _ k h = h
 
 -- ---- calls
 
-not_local : (x : Call) (o : Op) → operation_of x ≡ Some o → is_local x ≡ false
-not_local (call.Lookup path) o e = refl
-not_local (call.Stat path) o e = refl
-not_local (call.List path) o e = refl
-not_local (call.Layout path) o e = refl
-not_local (call.Mkdir path) o e = refl
-not_local (call.Create path None) o e = refl
-not_local (call.Create path (Some stripes)) o e = refl
-not_local (call.Link old new) o e = refl
-not_local (call.Unlink path) o e = refl
-not_local (call.Rmdir path) o e = refl
-not_local (call.Rename old new) o e = refl
-not_local (call.Chmod path mode) o e = refl
-not_local _ o e = absurd (cc)
-
-pub same_operation : (b : calls.Begun) (o : Op) → operation_of b.call ≡ Some o → operation b ≡ Some o
-same_operation b o = by b.call
-  where
-    by : (x : Call) → operation_of x ≡ Some o → calls.operation_on x b.bound ≡ Some o
-    by (call.Lookup path) e = e
-    by (call.Stat path) e = e
-    by (call.List path) e = e
-    by (call.Layout path) e = e
-    by (call.Mkdir path) e = e
-    by (call.Create path None) e = e
-    by (call.Create path (Some stripes)) e = e
-    by (call.Link old new) e = e
-    by (call.Unlink path) e = e
-    by (call.Rmdir path) e = e
-    by (call.Rename old new) e = e
-    by (call.Chmod path mode) e = e
-    by _ e = absurd (cc)
-
-who_one : (head : Head) (c : ℕ) (past : List Line) → Grown head past → who_is c (printed past) ≡ first_life c
-who_one head c past g = ap (λ (l : ℕ). who_of c l) (life_stays head c past g)
+not_local : (file : Option HandleFile) (x : Call) (o : Op) → operation_of file x ≡ Some o → is_local x ≡ false
+not_local file (call.Flush h) o e = absurd (cc)
+not_local file (call.Glimpse h) o e = absurd (cc)
+not_local file _ o e = refl
 
 own_no : (a b c : Bool) → a ≡ false → b ≡ false → c ≡ false → (a || b || c) ≡ true → ⊥
 own_no true b c p q r e = absurd (cc)
@@ -331,12 +320,12 @@ own_no false true c p q r e = absurd (cc)
 own_no false false true p q r e = absurd (cc)
 own_no false false false p q r e = absurd (cc)
 
-moved_asked : (past : List Line) (d : Deed) (c x : ℕ) (o : Op) → d.reply.who ≡ first_life c → d.reply.xid.0 ≡ x → d.op ≡ o → asked (printed past) 0 d.reply.who d.reply.xid.0 ≡ Some d.op → asked (printed past) 0 (first_life c) x ≡ Some o
-moved_asked past d c x o w y p a = subst (λ (v : Who). asked (printed past) 0 v x ≡ Some o) w (subst (λ v. asked (printed past) 0 d.reply.who v ≡ Some o) y (a ∙ ap (λ (v : Op). Some v) p))
+moved_asked : (past : List Line) (d : Deed) (who : Who) (x : ℕ) (o : Op) → d.reply.who ≡ who → d.reply.xid.0 ≡ x → d.op ≡ o → asked (printed past) 0 d.reply.who d.reply.xid.0 ≡ Some d.op → asked (printed past) 0 who x ≡ Some o
+moved_asked past d who x o w y p a = subst (λ (v : Who). asked (printed past) 0 v x ≡ Some o) w (subst (λ v. asked (printed past) 0 d.reply.who v ≡ Some o) y (a ∙ ap (λ (v : Op). Some v) p))
 
-moved_acted : (lost : ℕ → ℕ → Bool) (past : List Line) (d : Deed) (c x : ℕ) (named : At) → d.reply.who ≡ first_life c → d.reply.at ≡ named → d.reply.xid.0 ≡ x
-    → Stands lost past d → (acted (printed past) named (first_life c) x || made lost (printed past) named (first_life c) x) ≡ true
-moved_acted lost past d c x named w n y a =
+moved_acted : (lost : ℕ → ℕ → Bool) (past : List Line) (d : Deed) (who : Who) (x : ℕ) (named : At) → d.reply.who ≡ who → d.reply.at ≡ named → d.reply.xid.0 ≡ x
+    → Stands lost past d → (acted (printed past) named who x || made lost (printed past) named who x) ≡ true
+moved_acted lost past d who x named w n y a =
     subst (λ (v : Who). (acted (printed past) named v x || made lost (printed past) named v x) ≡ true) w
     (subst (λ (v : At). (acted (printed past) v d.reply.who x || made lost (printed past) v d.reply.who x) ≡ true) n
     (subst (λ v. (acted (printed past) d.reply.at d.reply.who v || made lost (printed past) d.reply.at d.reply.who v) ≡ true) y
@@ -350,23 +339,22 @@ module _ (head : Head) (out : Who → Bool) (lost : ℕ → ℕ → Bool) (whole
   Inside past = (who : Who) (x : ℕ) → ActFor past who x → ActFor whole who x
 
   in_time : (past : List Line) (at : At) (c slot : ℕ) (named : At) (given : Answer) → Grown head past → Grown head whole → Inside past
-      → (t : Tells past at c slot named given) → ReplyStands lost t.deed.reply → (b : calls.Begun) → b.at ≡ t.begun.at → b.call ≡ t.begun.call → ActsInTime lost (printed whole) (printed past) at (first_life c) b named
-  in_time past at c slot named given g w i t s b at_is call_is =
+      → (t : Tells past at c slot named given) → ReplyStands lost t.deed.reply → (b : calls.Begun) → b.at ≡ t.begun.at → operation b ≡ Some t.deed.op → ActsInTime lost (printed whole) (printed past) at (life_at c past) b named
+  in_time past at c slot named given g w i t s b at_is op_is =
       let d = t.deed in
       let x = d.reply.xid.0 in
       let is = asked_is head past d g (acted_sent head past d g t.acted) in
       let there = acted_in head lost past g d t.acted s in
-      let op_is = same_operation b d.op (ap operation_of call_is ∙ t.becomes) in
       record {
         after = subst (λ (v : At). UpTo v named) (sym at_is) (upto_is t.begun.at named t.after);
         before = upto_is named at t.until;
-        acts = λ other. subst (λ (o : Option ℕ). ActsFor lost (printed whole) (printed past) (first_life c) b named o (operation b)) (sym t.heard)
-            (subst (λ (o : Option Op). ActsFor lost (printed whole) (printed past) (first_life c) b named (Some x) o) (sym op_is)
+        acts = λ other. subst (λ (o : Option ℕ). ActsFor lost (printed whole) (printed past) (life_at c past) b named o (operation b)) (sym t.heard)
+            (subst (λ (o : Option Op). ActsFor lost (printed whole) (printed past) (life_at c past) b named (Some x) o) (sym op_is)
             (record {
-              request = moved_asked past d c x d.op t.who refl refl is;
-              executed = moved_acted lost past d c x named t.who t.turn_is refl there;
+              request = moved_asked past d (life_at c past) x d.op t.who refl refl is;
+              executed = moved_acted lost past d (life_at c past) x named t.who t.turn_is refl there;
               untold = t.untold;
-              alone = λ a. (at_most lost (first_life c) x head whole w).1 (i (first_life c) x (act_for past named (first_life c) x a));
+              alone = λ a. (at_most lost (life_at c past) x head whole w).1 (i (life_at c past) x (act_for past named (life_at c past) x a));
             }));
       }
 
@@ -376,17 +364,17 @@ module _ (head : Head) (out : Who → Bool) (lost : ℕ → ℕ → Bool) (whole
   asked_law past stamp c slot named given work steps ok g w i s =
       let at = turn stamp (Client c) in
       let t = told_tells head past stamp c slot named given work steps ok g in
-      let o = open_is head c slot past t.begun g t.call in
+      let o = meant_is head c slot past t.begun g t.call in
       let b = o.0 in
-      let becomes = ap operation_of o.3 ∙ t.becomes in
-      let fine = subst IsFine t.answer (deed_fine head past t.deed g t.acted) in
+      let asks_it : operation_of t.begun.file b.call ≡ Some t.deed.op = ap (λ (v : Call). operation_of t.begun.file v) o.3 ∙ t.becomes in
+      let fine = subst IsFine t.answer (so_fine t.deed.reply.answer (deed_fine head past t.deed g t.acted)) in
       subst (λ (v : Option calls.Begun). ToldOn out lost (printed whole) (printed past) at (who_is c (printed past)) v named given) (sym o.1)
       (record {
         handle = λ e. let f = fine.0 in absurd (cc);
         evicted = λ e. let f = fine.1 in absurd (cc);
-        own = λ e. absurd (own_no (is_local b.call) (is_bad_handle given) (is_end_of_life given) (not_local b.call t.deed.op becomes) fine.0 fine.1 e);
-        acts = λ e. subst (λ (v : Who). ActsInTime lost (printed whole) (printed past) at v b named) (sym (who_one head c past g))
-            (in_time past at c slot named given g w i t (same_stands lost t.deed.reply t.reply t.is (heard_stands out lost past c t.flight t.reply s t.hears (ap out (sym (who_one head c past g)) ∙ e))) b o.2 o.3);
+        own = λ e. absurd (own_no (is_local b.call) (is_bad_handle given) (is_end_of_life given) (not_local t.begun.file b.call t.deed.op asks_it) fine.0 fine.1 e);
+        acts = λ e. subst (λ (v : Who). ActsInTime lost (printed whole) (printed past) at v b named) (sym (present_is head c past g))
+            (in_time past at c slot named given g w i t (same_stands lost t.deed.reply t.reply t.is (heard_stands out lost past c t.flight t.reply s t.hears (ap out (t.whose ∙ sym (present_is head c past g)) ∙ e))) b o.2 (sym o.4 ∙ t.becomes));
       })
 
   -- of a call whose answer was known: its turn is the one in which it began and is told
@@ -410,12 +398,55 @@ module _ (head : Head) (out : Who → Bool) (lost : ℕ → ℕ → Bool) (whole
         };
       })
 
+  -- of a call that its life doesn't outlive: the target that told the client so had evicted it
+  ends_law : (past : List Line) (stamp : Stamp) (c slot : ℕ) (named : At) (given : Answer) (work : Option Work) → Steps past (turn stamp (Client c)) → EndsOk past (turn stamp (Client c)) c slot named given work → Grown head past
+      → ToldBy out lost (printed whole) (printed past) (turn stamp (Client c)) (Client c) slot named given
+  ends_law past stamp c slot named given work steps ok g =
+      let at = turn stamp (Client c) in
+      let o = open_is head c slot past ok.running g ok.call in
+      let own : same_turn named at ≡ true = subst (λ (v : At). same_turn v at ≡ true) (sym ok.of_turn) (same_turn_self at) in
+      let began : Upto ok.running.at at = reached_on past at ok.running.at steps ((holds head past g).reaches.begun c slot ok.running ok.call) in
+      subst (λ (v : Option calls.Begun). ToldOn out lost (printed whole) (printed past) at (who_is c (printed past)) v named given) (sym o.1)
+      (record {
+        handle = λ e. let f : is_bad_handle given ≡ false = ap is_bad_handle ok.of_answer in absurd (cc);
+        evicted = λ e. subst (λ (v : Who). took_notice (printed past) at v ≡ true) (sym (present_is head c past g)) (notice_taken head past at c g refl ok.notice);
+        own = λ e. own;
+        acts = λ e. record {
+          after = subst (λ (v : At). UpTo v named) (sym o.2) (subst (λ (v : At). UpTo ok.running.at v) (sym ok.of_turn) (upto_is ok.running.at at began));
+          before = subst (λ (v : At). UpTo v at) (sym ok.of_turn) (upto_is at at (inl refl));
+          acts = λ other. absurd (cc);
+        };
+      })
+
+  -- of a call on a bad handle: it began as one, in this turn
+  bad_law : (past : List Line) (stamp : Stamp) (c slot : ℕ) (named : At) (given : Answer) (work : Option Work) → BadOk past (turn stamp (Client c)) c slot named given work → Grown head past
+      → ToldBy out lost (printed whole) (printed past) (turn stamp (Client c)) (Client c) slot named given
+  bad_law past stamp c slot named given work ok g =
+      let at = turn stamp (Client c) in
+      let o = meant_is head c slot past ok.running g ok.call in
+      let own : same_turn named at ≡ true = subst (λ (v : At). same_turn v at ≡ true) (sym ok.of_turn) (same_turn_self at) in
+      let now : UpTo at at = upto_is at at (inl refl) in
+      subst (λ (v : Option calls.Begun). ToldOn out lost (printed whole) (printed past) at (who_is c (printed past)) v named given) (sym o.1)
+      (record {
+        handle = λ e. sym o.5 ∙ ap is_bad_stage ok.bad;
+        evicted = λ e. let f : is_end_of_life given ≡ false = ap is_end_of_life ok.of_answer in absurd (cc);
+        own = λ e. own;
+        acts = λ e. record {
+          after = subst (λ (v : At). UpTo v named) (sym (o.2 ∙ ok.begun)) (subst (λ (v : At). UpTo at v) (sym ok.of_turn) now);
+          before = subst (λ (v : At). UpTo v at) (sym ok.of_turn) now;
+          acts = λ other. absurd (cc);
+        };
+      })
+
   told_law : (past : List Line) (stamp : Stamp) (c slot : ℕ) (named : At) (given : Answer) (work : Option Work) → Allowed head past (turn stamp (Client c)) (Told slot named given work) → Grown head past → Grown head whole → Inside past
       → HeardStand out lost past → ToldBy out lost (printed whole) (printed past) (turn stamp (Client c)) (Client c) slot named given
-  told_law past stamp c slot named given work k g w i s = ⊎_elim
-      (λ (ok : ToldOk past (turn stamp (Client c)) c slot named given work). asked_law past stamp c slot named given work k.steps ok g w i s)
-      (λ (ok : KnownOk past (turn stamp (Client c)) c slot named given work). knew_law past stamp c slot named given work ok g)
-      k.ok
+  told_law past stamp c slot named given work k g w i s = by k.ok
+    where
+      by : EntryOk past (turn stamp (Client c)) (Client c) (Told slot named given work) → ToldBy out lost (printed whole) (printed past) (turn stamp (Client c)) (Client c) slot named given
+      by (inl ok) = asked_law past stamp c slot named given work k.steps ok g w i s
+      by (inr (inl ok)) = knew_law past stamp c slot named given work ok g
+      by (inr (inr (inl ok))) = ends_law past stamp c slot named given work k.steps ok g
+      by (inr (inr (inr ok))) = bad_law past stamp c slot named given work ok g
 
 -- ---- the law at a request's message
 
@@ -423,34 +454,30 @@ every_in : {A : Type 0} (P : A → Type 0) (xs : List A) → ((x : A) → In x x
 every_in P [] h = tt
 every_in P (x ∷ xs) h = (h x (inl refl), every_in P xs (λ y i. h y (inr i)))
 
-tags_differ : (head : Head) (past : List Line) (c : ℕ) → Grown head past → (rs : List RequestOf) → Distinct rs → ((r : RequestOf) → In r rs → Flown past c r) → Pairwise (λ one other. one.tag ≢ other.tag) rs
-tags_differ head past c g [] d f = tt
-tags_differ head past c g (r ∷ rs) d f = (
+tags_differ : (head : Head) (past : List Line) (who : Who) → Grown head past → (rs : List RequestOf) → Distinct rs → ((r : RequestOf) → In r rs → Flown past who r) → Pairwise (λ one other. one.tag ≢ other.tag) rs
+tags_differ head past who g [] d f = tt
+tags_differ head past who g (r ∷ rs) d f = (
   every_in (λ (q : RequestOf). r.tag ≢ q.tag) rs (λ q i e.
       let a = f r (inl refl) in
       let b = f q (inr i) in
       let t : a.0.tag ≡ b.0.tag = ap (λ (v : RequestOf). v.tag) (sym a.2) ∙ e ∙ ap (λ (v : RequestOf). v.tag) b.2 in
-      let x = ((holds head past g).at 0).numbers.tags c a.0 b.0 (story a.0 a.1) (story b.0 b.1) t in
+      let x = ((holds head past g).at 0).numbers.tags who a.0 b.0 a.1 b.1 t in
       d.0 q i (ap (λ (v : RequestOf). v.xid.0) b.2 ∙ sym x ∙ ap (λ (v : RequestOf). v.xid.0) (sym a.2))),
-  tags_differ head past c g rs d.1 (λ q i. f q (inr i)),
+  tags_differ head past who g rs d.1 (λ q i. f q (inr i)),
 )
-  where
-    story : (k : Flight) → In k (flights_at c 0 past) → In k (flights_of c (only 0 past))
-    story k i = subst (λ (v : List Flight). In k v) (flights_is c 0 past) i
 
-one_tag : (head : Head) (past : List Line) (c : ℕ) (r : RequestOf) → Grown head past → Flown past c r → SameTag (first_request (printed past) 0 r.who r.xid.0) r.tag
-one_tag head past c r g flown = by (first_request (printed past) 0 r.who r.xid.0) refl
+one_tag : (head : Head) (past : List Line) (who : Who) (r : RequestOf) → Grown head past → Flown past who r → SameTag (first_request (printed past) 0 r.who r.xid.0) r.tag
+one_tag head past who r g flown = by (first_request (printed past) 0 r.who r.xid.0) refl
   where
     by : (o : Option RequestOf) → first_request (printed past) 0 r.who r.xid.0 ≡ o → SameTag o r.tag
     by None e = tt
     by (Some k) e =
         let h = (holds head past g).at 0 in
         let s = first_sent past r.who r.xid.0 k e in
-        let m = h.done.sent s.0 (Target 0) (message.Request k) (was_story head past s.0 (Target 0) (message.Request k) g s.1) in
-        let w : k.who.client ≡ c = ap (λ (v : Who). v.client) s.2 ∙ ap (λ (v : RequestOf). v.who.client) flown.2 in
+        let m = h.done.sent s.0 (Target 0) (message.Request k) (was_story head past s.0 (Target 0) (message.Request k) tt g s.1) in
+        let w : k.who ≡ who = s.2 ∙ ap (λ (v : RequestOf). v.who) flown.2 in
         let x : m.0.xid ≡ flown.0.xid = ap (λ (v : RequestOf). v.xid.0) (sym m.2) ∙ s.3 ∙ ap (λ (v : RequestOf). v.xid.0) flown.2 in
-        let flies = h.numbers.flying c flown.0 (subst (λ (v : List Flight). In flown.0 v) (flights_is c 0 past) flown.1) in
-        let same : m.0 ≡ flown.0 = h.numbers.one c m.0 flown.0 (subst (λ v. Flew (only 0 past) v m.0) w m.1) flies x in
+        let same : m.0 ≡ flown.0 = h.numbers.one who m.0 flown.0 (subst (λ v. Flew (only 0 past) v m.0) w m.1) (h.numbers.flying who flown.0 flown.1) x in
         ap (λ (v : RequestOf). v.tag) m.2 ∙ ap (λ (v : Flight). v.tag) same ∙ ap (λ (v : RequestOf). v.tag) (sym flown.2)
 
 abbrev asking : List Line → Stamp → ℕ → RequestOf → List Line
@@ -460,17 +487,17 @@ sends_law : (head : Head) (past : List Line) (stamp : Stamp) (c : ℕ) (r : Requ
     → FliesAt (printed past) 0 r (in_flight 0 r.who (printed (asking past stamp c r)))
 sends_law head past stamp c r is k g =
     let new = asking past stamp c r in
+    let who = life_of c (only 0 past) in
     let flown = ask_flown head past c r g (k.of 0 (self 0)) in
-    let fs = keeps_flyers head past stamp (Client c) (Send (Target 0) (message.Request r)) k g (flyers head past g) c in
+    let fs = keeps_flyers head past stamp (Client c) (Send (Target 0) (message.Request r)) k g (flyers head past g) who in
     subst (λ (v : Who). FliesAt (printed past) 0 r (in_flight 0 v (printed new))) (sym (ap (λ (v : RequestOf). v.who) flown.2))
     (record {
-      most = let m = no_more (flying c new) (flights_at c 0 past) fs.1 (λ q i. let j = fs.0 q i in (j.0, j.1, ap (λ (v : RequestOf). v.xid.0) (sym j.2))) in
-          let room = ((holds head past g).at 0).room c in
-          let same = ap (λ (v : List Flight). length v) (flights_is c 0 past) in
+      most = let m = no_more (flying who new) (flights_of who (only 0 past)) fs.1 (λ q i. let j = fs.0 q i in (j.0, j.1, ap (λ (v : RequestOf). v.xid.0) (sym j.2))) in
+          let room = ((holds head past g).at 0).room who in
           let eight = is.most_flight in omega arith;
-      tags = tags_differ head past c g (flying c new) fs.1 (λ q i. fs.0 q i);
+      tags = tags_differ head past who g (flying who new) fs.1 (λ q i. fs.0 q i);
       objects = λ z. absurd (omega arith);
-      one_tag = one_tag head past c r g flown;
+      one_tag = one_tag head past who r g flown;
     })
 
 -- ---- the law
@@ -497,8 +524,8 @@ module _ (head : Head) (is : IsHead head) (out : Who → Bool) (lost : ℕ → �
   earlier : (l : Line) (past : List Line) → Known (l ∷ past) → Known past
   earlier l past k = (inside_before past l k.0, heard_before past l k.1)
 
-  acts_at : (past : List Line) (l : Line) (later : List PrintedLine) → Allowed head past l.at l.entry → Grown head past → Known (l ∷ past) → Keeps (ActsOf out lost (printed whole)) past l later
-  acts_at past l later k g known = by l.at.node l.entry k known.1
+  acts_at : (past : List Line) (l : Line) (later : List PrintedLine) → Allowed head past l.at l.entry → Grown head past → Known (l ∷ past) → Due (l ∷ past) later → Keeps (ActsOf out lost (printed whole)) past l later
+  acts_at past l later k g known due = by l.at.node l.entry k known.1 due
     where
       Flies : ℕ → ℕ → RequestOf → Type 0
       Flies c t r = FliesAt (printed past) t r (in_flight t r.who (printed (line (turn l.at.stamp (Client c)) (Send (Target t) (message.Request r)) ∷ past)))
@@ -506,21 +533,22 @@ module _ (head : Head) (is : IsHead head) (out : Who → Bool) (lost : ℕ → �
       sent : (c t : ℕ) (r : RequestOf) → t ≡ 0 → Allowed head past (turn l.at.stamp (Client c)) (Send (Target t) (message.Request r)) → Flies c t r
       sent c t r z k = subst (λ (v : ℕ). Flies c v r) (sym z) (sends_law head past l.at.stamp c r is (subst (λ (v : ℕ). Allowed head past (turn l.at.stamp (Client c)) (Send (Target v) (message.Request r))) z k) g)
 
-      by : (node : Node) (e : Entry) → Allowed head past (turn l.at.stamp node) e → HeardStand out lost (line (turn l.at.stamp node) e ∷ past)
+      by : (node : Node) (e : Entry) → Allowed head past (turn l.at.stamp node) e → HeardStand out lost (line (turn l.at.stamp node) e ∷ past) → Due (line (turn l.at.stamp node) e ∷ past) later
           → OfPrinted (λ x. ActsAt out lost (printed whole) (printed past) (record { at = turn l.at.stamp node; entry = x }) later x) (printed_entry (count_sent past + 1) e)
-      by (Client c) (Begin slot running) k s = λ bad. let good = good_call c (printed past) running.call k.ok.op k.ok.becomes in absurd (cc)
-      by (Target t) (Begin slot running) k s = absurd k.ok
-      by (Client c) (Told slot named given work) k s = told_law head out lost whole past l.at.stamp c slot named given work k g all_grown (inside_before past l known.0) s
-      by (Target t) (Told slot named given work) k s = absurd k.ok
-      by (Client c) (Send (Target t) (message.Request r)) k s = sent c t r k.ok k
-      by (Client c) (Send (Target t) (message.Cancel who boot cookie)) k s = tt
-      by (Client c) (Send (Target t) m) k s = absurd k.ok
-      by (Client c) (Send (Client d) m) k s = absurd k.ok
-      by (Target t) (Send (Client c) m) k s = tt
-      by (Target t) (Send (Target u) m) k s = absurd k.ok
-      by (Target t) (Made d) k s = λ z. subst (λ v. standing_count lost v d.reply.who d.reply.xid.0 (printed whole) ≤ 1) (sym k.ok) (at_most lost d.reply.who d.reply.xid.0 head whole all_grown).0
-      by (Client c) (Made d) k s = absurd k.ok
-      by _ _ k s = tt
+      by (Client c) (Begin slot running) k s due = λ bad. due (begins_bad head c slot past l.at.stamp running g k bad)
+      by (Target t) (Begin slot running) k s due = absurd k.ok
+      by (Client c) (Told slot named given work) k s due = told_law head out lost whole past l.at.stamp c slot named given work k g all_grown (inside_before past l known.0) s
+      by (Target t) (Told slot named given work) k s due = absurd k.ok
+      by (Client c) (Send (Target t) (message.Request r)) k s due = sent c t r k.ok k
+      by (Client c) (Send (Target t) (message.Cancel who boot cookie)) k s due = tt
+      by (Client c) (Send (Target t) (message.Join who boot)) k s due = tt
+      by (Client c) (Send (Target t) m) k s due = absurd k.ok
+      by (Client c) (Send (Client d) m) k s due = absurd k.ok
+      by (Target t) (Send (Client c) m) k s due = tt
+      by (Target t) (Send (Target u) m) k s due = absurd k.ok
+      by (Target t) (Made d) k s due = λ z. subst (λ v. standing_count lost v d.reply.who d.reply.xid.0 (printed whole) ≤ 1) (sym k.ok) (at_most lost d.reply.who d.reply.xid.0 head whole all_grown).0
+      by (Client c) (Made d) k s due = absurd k.ok
+      by _ _ k s due = tt
 
-  pub acts_law : (past : List Line) → Grown head past → Inside head out lost whole past → HeardStand out lost past → HoldsBefore (ActsOf out lost (printed whole)) [] (printed past)
-  acts_law past g i s = holds_before head (ActsOf out lost (printed whole)) Known earlier acts_at past [] g (i, s)
+  pub acts_law : (past : List Line) → Grown head past → Settled past → Inside head out lost whole past → HeardStand out lost past → HoldsBefore (ActsOf out lost (printed whole)) [] (printed past)
+  acts_law past g settled i s = holds_due head (ActsOf out lost (printed whole)) Known earlier Due (due_before head) acts_at past [] g (i, s) (nothing_due past settled)

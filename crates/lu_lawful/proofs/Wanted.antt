@@ -2,6 +2,7 @@
 -- the bits of its row.
 use Rattle.std.proofs.Common.{◌≡◌, ℕ, ◌+◌, ◌<◌, Bool, true, false, List, [], ◌∷◌, ◌⊎◌, inl, inr, ⊎_elim, Option, Some, None, refl, sym, subst, ap, ◌∙◌, arith}
 use Rattle.std.specs.Prelude.{nat_eq, if◌then◌else◌, map, find}
+use Rattle.std.proofs.lemmas.Bool.{cond_both}
 use Rattle.std.proofs.lemmas.Bool.Decides.{nat_tests}
 use Rattle.lu_base.specs.declared.ids.At.{At}
 use Rattle.lu_base.specs.declared.ids.Node.{Node}
@@ -17,10 +18,10 @@ use Rattle.lu_lock.specs.Growth.{granted_ask, grown_policy, opposing}
 use Rattle.lu_msg.specs.declared.operations.Op.{Op}
 use Rattle.lu_part.specs.declared.parts.Want.{Want}
 use Rattle.lu_machine.specs.Tree.{Tree}
-use Rattle.lu_machine.specs.Footprint.{Operation, grants}
+use Rattle.lu_machine.specs.Footprint.{Operation, forget, grants}
 use Rattle.lu_machine.proofs.Made.{Named, named_empty, named_wide}
 use Rattle.lu_words.specs.Carried.{Deed}
-use Rattle.lu_words.specs.Words.{Entry, Act, Txn as Made, Grant, Line, line}
+use Rattle.lu_words.specs.Words.{Entry, Act, Txn as Made, Grant, Evict, Line, line}
 use Rattle.lu_words.specs.Concerns.{only}
 use Rattle.lu_words.specs.Printed.{printed}
 use Rattle.lu_target_rows.specs.Names.{locks_from}
@@ -69,12 +70,19 @@ tree_txn head past stamp d a g h =
       kinds_after head.osts (tree_at head.osts 0 past) (operation d) (4294967296 + count_at 0 past) h.0.low above h.1,
     )
 
+-- an eviction takes opens alone
+tree_forgets : (count : ℕ) (t : Tree) (who : Who) → IsTree count t → IsTree count (forget t who)
+tree_forgets count t who h = (record { made = λ path c e. h.0.made path c e; one = h.0.one; low = h.0.low; least = h.0.least }, h.1)
+
 pub tree_is : (head : Head) (past : List Line) → Grown head past → IsTree (count_at 0 past) (tree_at head.osts 0 past)
 tree_is head [] g = (named_empty Any 4294967296 (omega arith), kinds_empty)
 tree_is head (l ∷ past) g = by l.at.node l.entry g.0 (tree_is head past g.1)
   where
     by : (node : Node) (e : Entry) → Allowed head past (turn l.at.stamp node) e → IsTree (count_at 0 past) (tree_at head.osts 0 past)
         → IsTree (count_at 0 (line (turn l.at.stamp node) e ∷ past)) (tree_at head.osts 0 (line (turn l.at.stamp node) e ∷ past))
+    by (Client c) (Evict who cause) a h = absurd a.ok
+    by (Target t) (Evict who cause) a h =
+        cond_both (nat_eq 0 t) (forget (tree_at head.osts 0 past) who) (tree_at head.osts 0 past) (λ (v : Tree). IsTree (count_at 0 past) v) (λ e. tree_forgets (count_at 0 past) (tree_at head.osts 0 past) who h) (λ e. h)
     by (Client c) (Made d) a h = absurd a.ok
     by (Target t) (Made d) a h =
         subst (λ (v : ℕ). IsTree (count_at 0 (line (turn l.at.stamp (Target v)) (Made d) ∷ past)) (tree_at head.osts 0 (line (turn l.at.stamp (Target v)) (Made d) ∷ past))) (sym a.ok)

@@ -19,7 +19,7 @@ use Rattle.lu_lawful.proofs.LocksLaw.{locks_law}
 use Rattle.lu_lawful.proofs.SilentLaw.{silent_law}
 use Rattle.lu_lawful.proofs.ToldLaw.{all_told, acts_law}
 use Rattle.lu_lawful.proofs.RecoveryLaw.{recovery_law}
-use Rattle.lu_lawful.proofs.HistoryLaw.{none_fit, history_law}
+use Rattle.lu_lawful.proofs.HistoryLaw.{none_fit, gone_out, history_law}
 use Rattle.lu_lawful.proofs.GlimpseLaw.{glimpse_law}
 
 head_is : (head : table.Head) → table.IsHead head → IsHead (covered_head head)
@@ -31,7 +31,7 @@ pub acts_of : OfAllThatFit (λ out lost osts whole. Holds (ActsOf out lost whole
 acts_of head turns is run covered out lost fits =
     let past = lines_of turns in
     let g = grown head turns run covered in
-    acts_law (covered_head head) (head_is head is) out lost past g past g (λ who x a. a) fits.heard
+    acts_law (covered_head head) (head_is head is) out lost past g past g (settled head turns run covered) (λ who x a. a) fits.heard
 
 pub history_of : OfAllThatFit (λ out lost osts whole. Holds (HistoryOf out lost osts) whole)
 history_of head turns is run covered out lost fits =
@@ -46,7 +46,7 @@ lawful head turns is run covered =
     let few = covered_head head in
     let g = grown head turns run covered in
     let asked = all_asked few past g in
-    let fits = none_fit (is_gone (printed past)) (is_lost (printed past)) (λ n. none_lost few past 0 n g) past in
+    let fits = none_fit (is_gone (printed past)) (is_lost (printed past)) (λ n. none_lost few past 0 n g) past (gone_out few past g) in
     record {
       messages = messages_law few past g;
       locks = locks_law few past g;

@@ -1,13 +1,12 @@
 -- Which lives may be out at the end of a trace, and which of the metadata target's numbers lost, so far as a past
--- goes: what stands saw only what stands, what a life that isn't out heard stands with all that it saw, and what is
--- committed stands. A life that stays at a recovery is one of these; so far no life is out and no number lost.
-use Rattle.std.specs.Prelude.{◌≡◌, ◌≤◌, ℕ, Bool, false, List, [], ◌∷◌}
+-- goes: what stands saw only what stands, what a life that isn't out heard stands with all that it saw, what is
+-- committed stands, and who was evicted is out. A life that stays at a recovery is one of these; so far no number is lost.
+use Rattle.std.specs.Prelude.{◌≡◌, ◌≤◌, ℕ, zero, suc, Bool, true, false, List, [], ◌∷◌}
 use Rattle.lu_base.specs.declared.ids.Node.{Node}
 use Rattle.lu_base.specs.declared.ids.Node.TheVariants.{Client, Target}
 use Rattle.lu_base.specs.declared.ids.Who.{Who}
 use Rattle.lu_msg.specs.declared.messages.Reply.{Reply as ReplyTo}
-use Rattle.lu_words.specs.Words.{Heard, Txn as Made, Commit, Line}
-use Rattle.lu_covered.specs.Calls.{first_life}
+use Rattle.lu_words.specs.Words.{Heard, Txn as Made, Commit, Evict, Line}
 
 -- these numbers aren't lost
 abbrev pub AllStand : (ℕ → ℕ → Bool) → List ℕ → Type 0
@@ -25,7 +24,7 @@ ReplyStands lost r = (lost 0 r.txn.0 ≡ false) × AllStand lost r.seen
 
 -- a life that isn't out heard that reply
 abbrev pub HeardStandsAt : (Who → Bool) → (ℕ → ℕ → Bool) → Node → ReplyTo → Type 0
-HeardStandsAt out lost (Client c) r = out (first_life c) ≡ false → ReplyStands lost r
+HeardStandsAt out lost (Client c) r = out r.who ≡ false → ReplyStands lost r
 HeardStandsAt out lost (Target t) r = Unit {0}
 
 -- what a life that isn't out heard is of a deed that stands
@@ -33,10 +32,20 @@ abbrev pub HeardStand : (Who → Bool) → (ℕ → ℕ → Bool) → List Line 
 HeardStand out lost [] = Unit {0}
 HeardStand out lost (l ∷ past) = elim l.entry [ Heard target flight reply ↦ HeardStandsAt out lost l.at.node reply × HeardStand out lost past | _ ↦ HeardStand out lost past ]
 
--- nothing up to a committed number is lost
+-- nothing up to a number that the metadata target committed is lost
+abbrev pub CommitStandsAt : (ℕ → ℕ → Bool) → Node → ℕ → Type 0
+CommitStandsAt lost (Target zero) to = (n : ℕ) → n ≤ to → lost 0 n ≡ false
+CommitStandsAt lost (Target (suc t)) to = Unit {0}
+CommitStandsAt lost (Client c) to = Unit {0}
+
 abbrev pub CommitsStand : (ℕ → ℕ → Bool) → List Line → Type 0
 CommitsStand lost [] = Unit {0}
-CommitsStand lost (l ∷ past) = elim l.entry [ Commit to batch ↦ ((n : ℕ) → n ≤ to → lost 0 n ≡ false) × CommitsStand lost past | _ ↦ CommitsStand lost past ]
+CommitsStand lost (l ∷ past) = elim l.entry [ Commit to batch ↦ CommitStandsAt lost l.at.node to × CommitsStand lost past | _ ↦ CommitsStand lost past ]
+
+-- a life that a target evicted is out
+abbrev pub EvictedOut : (Who → Bool) → List Line → Type 0
+EvictedOut out [] = Unit {0}
+EvictedOut out (l ∷ past) = elim l.entry [ Evict who cause ↦ (out who ≡ true) × EvictedOut out past | _ ↦ EvictedOut out past ]
 
 -- lives and numbers that may be out and lost after a past; the root's number, 1, is no transaction's
 pub record Fits (out : Who → Bool) (lost : ℕ → ℕ → Bool) (past : List Line) : Type 0 where
@@ -44,3 +53,4 @@ pub record Fits (out : Who → Bool) (lost : ℕ → ℕ → Bool) (past : List 
   pub seen : SeenStand lost past
   pub heard : HeardStand out lost past
   pub committed : CommitsStand lost past
+  pub gone : EvictedOut out past

@@ -19,10 +19,11 @@ ghost use Rattle.lu_laws.specs.Orderly.{Orderly};
 ghost use Rattle.lu_lawful.specs.Everywhere.{OfEveryRun, OfAllThatFit};
 
 /// Every run of the whole table whose lines are covered prints a lawful trace, whatever the network loses, repeats or
-/// reorders: for every number of clients, of object storage targets and of requests in flight, and every schedule.
+/// reorders, and whoever is evicted and joins in a new life: for every number of clients, of object storage targets and of
+/// requests in flight, and every schedule.
 ///
 /// Of the law of acts and that of history more is shown: they hold for all lives that will be out and all
-/// numbers that will be lost at the end of the trace, so far as these fit the run.
+/// numbers that will be lost at the end of the trace, so far as these fit the run; whoever was evicted is out.
 pub fn covered_runs_are_lawful()
     ensures messages { OfEveryRun (λ osts whole. Holds Messages whole) }
     ensures locks { OfEveryRun (λ osts whole. Holds (Locks osts) whole) }
@@ -40,8 +41,10 @@ pub fn covered_runs_are_lawful()
 /// The printed trace of every covered run has no line without its cause, as far as `Orderly` says: what acts was asked for
 /// and has the answer of the contents, what a target sends carries its boot and what it has committed, what is heard was
 /// in flight, a reply that is sent again is as it was, what is held came in its turn, what is released was given back in
-/// its turn, and what is called back guards what a request that waits would write. No covered run has the other lines that
-/// it speaks of: boots, new lives, and what a recovery hands out.
+/// its turn or was an evicted life's, what is called back guards what a request that waits would write, a new life is the
+/// client's next one and follows the notice that the old one is over, and who joins asked for it in that turn and is newer
+/// than the last one there, which was evicted. No covered run has the other lines that it speaks of: boots, and what a
+/// recovery hands out.
 pub fn covered_runs_are_orderly()
     ensures orderly { OfEveryRun (λ osts whole. Orderly osts whole) }
 {}

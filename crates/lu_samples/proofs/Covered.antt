@@ -1,5 +1,6 @@
--- The scenes with locks and that with commits are covered, so what they come to is lawful.
-use Rattle.std.proofs.Common.{◌≡◌, ℕ, zero, suc, ◌≤◌, false, List, [], ◌∷◌, inl, refl, lit≤}
+-- The scenes with locks, that with a file that is opened, that with commits and that in which a client is evicted are covered, so what they come
+-- to is lawful.
+use Rattle.std.proofs.Common.{◌≡◌, ℕ, zero, suc, ◌≤◌, false, List, [], ◌∷◌, inl, inr, refl, arith, lit≤}
 use Rattle.std.specs.Prelude.{codes, All}
 use Rattle.std.proofs.lemmas.List.Elements.{All-nil, All-cons, All-head, All-tail}
 use Rattle.std.proofs.lemmas.List.Sums.{AllPass-from_list_all}
@@ -12,17 +13,26 @@ use Rattle.lu_table.specs.Runs.{has_failed}
 use Rattle.lu_table.specs.Scenarios.{Config, Next, Goes, Ends, Stops, Fails, head_of, past_of, next, start, steps, Leads, here, more}
 use Rattle.lu_laws.proofs.Words.{◌then◌}
 use Rattle.lu_laws.specs.Lawful.{Lawful}
-use Rattle.lu_covered_scenes.specs.Covered.{IsCovered, IsCoveredIn, IsNoCommand, GivesNoCommand}
+use Rattle.lu_covered_scenes.specs.Covered.{IsMade, IsCovered, IsCoveredIn, IsNoCommand, LineMisses, EvictsNone, AsksNoDisk}
 use Rattle.lu_covered_scenes.proofs.Runs.{scene_unfailed}
 use Rattle.lu_covered_scenes.proofs.Stated.{scene_lawful}
 use Rattle.lu_samples.proofs.Words.{with_head, after, trace_after, never}
 use Rattle.lu_samples.proofs.Names.{commits}
+use Rattle.lu_samples.proofs.Handles.{opened}
+use Rattle.lu_samples.proofs.Lives.{expires}
 use Rattle.lu_samples.proofs.Locks.{called_back, waits, known}
 
 is_path : IsPath (codes "a" ∷ [])
 is_path =
     record {
       are_names = (lit≤ tt, All-cons IsName (codes "a") [] (record { filled = λ e. absurd cc; bytes = AllPass-from_list_all is_name_byte (codes "a") refl; not_here = λ e. absurd cc; not_above = λ e. absurd cc }) (All-nil IsName));
+      bytes = lit≤ tt;
+    }
+
+is_path_b : IsPath (codes "b" ∷ [])
+is_path_b =
+    record {
+      are_names = (lit≤ tt, All-cons IsName (codes "b") [] (record { filled = λ e. absurd cc; bytes = AllPass-from_list_all is_name_byte (codes "b") refl; not_here = λ e. absurd cc; not_above = λ e. absurd cc }) (All-nil IsName));
       bytes = lit≤ tt;
     }
 
@@ -34,6 +44,21 @@ is_head clients one most =
     record {
       clients = one;
       most_clients = most;
+      osts = lit≤ tt;
+      most_osts = lit≤ tt;
+      expire = lit≤ tt;
+      dirty = lit≤ tt;
+      unused = lit≤ tt;
+      flight = lit≤ tt;
+      most_flight = lit≤ tt;
+    }
+
+-- where a lock that is called back expires after two ticks
+is_short : IsHead (head_of (record (with_head 2 1) { expire = 2 }))
+is_short =
+    record {
+      clients = lit≤ tt;
+      most_clients = lit≤ tt;
       osts = lit≤ tt;
       most_osts = lit≤ tt;
       expire = lit≤ tt;
@@ -60,7 +85,6 @@ called_back_covered =
         lines = all_of (LineFits called_back.head) called_back.lines ((lit≤ tt, lit≤ tt, is_path) then tt then (lit≤ tt, lit≤ tt, is_path) then tt then (lit≤ tt, lit≤ tt, is_path) then tt then tt);
       };
       lines = all_of (IsCoveredIn called_back.lines) called_back.lines ((tt, tt) then tt then (tt, tt) then tt then (tt, tt) then tt then tt);
-      time = inl (lit≤ tt);
     }
 
 pub waits_covered : IsCovered waits
@@ -71,7 +95,6 @@ waits_covered =
         lines = all_of (LineFits waits.head) waits.lines ((lit≤ tt, lit≤ tt, is_path) then tt then (lit≤ tt, lit≤ tt, is_path) then tt then (lit≤ tt, lit≤ tt, is_path) then tt then (lit≤ tt, lit≤ tt, is_path) then tt then tt);
       };
       lines = all_of (IsCoveredIn waits.lines) waits.lines ((tt, tt) then tt then (tt, tt) then tt then (tt, tt) then tt then (tt, tt) then tt then tt);
-      time = inl (lit≤ tt);
     }
 
 pub known_covered : IsCovered known
@@ -82,7 +105,6 @@ known_covered =
         lines = all_of (LineFits known.head) known.lines ((lit≤ tt, lit≤ tt, is_path) then tt then (lit≤ tt, lit≤ tt, is_path) then tt then (lit≤ tt, lit≤ tt, is_path) then (lit≤ tt, lit≤ tt, is_root) then (lit≤ tt, lit≤ tt, is_path) then (lit≤ tt, lit≤ tt) then (lit≤ tt, lit≤ tt) then lit≤ tt then tt then tt);
       };
       lines = all_of (IsCoveredIn known.lines) known.lines ((tt, tt) then tt then (tt, tt) then tt then (tt, tt) then (tt, tt) then (tt, tt) then tt then tt then tt then tt then tt);
-      time = inl (lit≤ tt);
     }
 
 pub commits_covered : IsCovered commits
@@ -93,7 +115,26 @@ commits_covered =
         lines = all_of (LineFits commits.head) commits.lines ((lit≤ tt, lit≤ tt, is_path) then (lit≤ tt, lit≤ tt) then lit≤ tt then (lit≤ tt, lit≤ tt) then (lit≤ tt, lit≤ tt) then (lit≤ tt, lit≤ tt, is_path) then (lit≤ tt, lit≤ tt) then (lit≤ tt, lit≤ tt) then (lit≤ tt, lit≤ tt, lit≤ tt) then lit≤ tt then tt);
       };
       lines = all_of (IsCoveredIn commits.lines) commits.lines ((tt, tt) then tt then tt then tt then tt then (tt, tt) then tt then tt then tt then tt then tt);
-      time = inl (lit≤ tt);
+    }
+
+pub opened_covered : IsCovered opened
+opened_covered =
+    record {
+      limits = record {
+        head = is_head 1 (lit≤ tt) (lit≤ tt);
+        lines = all_of (LineFits opened.head) opened.lines ((lit≤ tt, lit≤ tt, (is_path, tt)) then tt then (lit≤ tt, lit≤ tt, (lit≤ tt, is_path)) then tt then (lit≤ tt, lit≤ tt, (lit≤ tt, is_path)) then (lit≤ tt, lit≤ tt, is_path) then tt then (lit≤ tt, lit≤ tt, lit≤ tt) then tt then (lit≤ tt, lit≤ tt, lit≤ tt) then tt);
+      };
+      lines = all_of (IsCoveredIn opened.lines) opened.lines ((tt, tt) then tt then (tt, tt) then tt then (tt, tt) then (tt, tt) then tt then (tt, tt) then tt then (tt, tt) then tt);
+    }
+
+pub expires_covered : IsCovered expires
+expires_covered =
+    record {
+      limits = record {
+        head = is_short;
+        lines = all_of (LineFits expires.head) expires.lines ((lit≤ tt, lit≤ tt, is_path) then tt then (lit≤ tt, lit≤ tt, is_path) then tt then (lit≤ tt, lit≤ tt, is_path) then (lit≤ tt, lit≤ tt) then (lit≤ tt, lit≤ tt, is_path_b) then (lit≤ tt, lit≤ tt) then (lit≤ tt, lit≤ tt) then lit≤ tt then (lit≤ tt, lit≤ tt) then lit≤ tt then tt then (lit≤ tt, lit≤ tt, is_path) then tt then tt);
+      };
+      lines = all_of (IsCoveredIn expires.lines) expires.lines ((tt, tt) then tt then (tt, tt) then tt then (tt, tt) then tt then (tt, tt) then tt then tt then tt then tt then tt then tt then (tt, tt) then tt then tt);
     }
 
 -- ---- what a scene comes to in some steps, it leads to
@@ -130,10 +171,16 @@ known_lawful = lawful known 30 known_covered refl
 pub commits_lawful : Lawful 1 (trace_after 10 commits)
 commits_lawful = lawful commits 10 commits_covered refl
 
--- ---- where no line gives a command, no disk fails whichever could
+pub opened_lawful : Lawful 1 (trace_after 30 opened)
+opened_lawful = lawful opened 30 opened_covered refl
 
-called_back_quiet : GivesNoCommand called_back
-called_back_quiet = all_of IsNoCommand called_back.lines (tt then tt then tt then tt then tt then tt then tt)
+pub expires_lawful : Lawful 1 (trace_after 50 expires)
+expires_lawful = lawful expires 50 expires_covered refl
+
+-- ---- where no line gives a command and no client is evicted, no disk fails whichever could
+
+called_back_quiet : AsksNoDisk called_back
+called_back_quiet = record { commands = all_of IsNoCommand called_back.lines (tt then tt then tt then tt then tt then tt then tt); evicts = inl (lit≤ tt) }
 
 pub called_back_unfailed : has_failed (past_of (after 20 called_back)) ≡ false
 called_back_unfailed = scene_unfailed called_back called_back_covered called_back_quiet never (after 20 called_back) (leads called_back 20) refl
@@ -149,5 +196,22 @@ third (a ∷ []) quiet = tt
 third (a ∷ b ∷ []) quiet = tt
 third (a ∷ b ∷ c ∷ lines) quiet = All-head IsNoCommand c lines (All-tail IsNoCommand b (c ∷ lines) (All-tail IsNoCommand a (b ∷ c ∷ lines) quiet))
 
-pub commits_command : GivesNoCommand commits → ⊥
-commits_command quiet = third commits.lines quiet
+pub commits_command : AsksNoDisk commits → ⊥
+commits_command quiet = third commits.lines quiet.commands
+
+-- in `expires` a client is evicted: it ticks as often as locks have time, and a line reads what another makes
+abbrev ThirdMisses : List SceneLine → Type 0
+ThirdMisses (a ∷ b ∷ c ∷ lines) = LineMisses (IsMade expires.lines) c
+ThirdMisses _ = Unit {0}
+
+third_misses : (lines : List SceneLine) → All (LineMisses (IsMade expires.lines)) lines → ThirdMisses lines
+third_misses [] miss = tt
+third_misses (a ∷ []) miss = tt
+third_misses (a ∷ b ∷ []) miss = tt
+third_misses (a ∷ b ∷ c ∷ lines) miss =
+    let P = LineMisses (IsMade expires.lines) in
+    All-head P c lines (All-tail P b (c ∷ lines) (All-tail P a (b ∷ c ∷ lines) miss))
+
+pub expires_evicts : EvictsNone expires → ⊥
+expires_evicts (inl low) = absurd (omega (arith, low))
+expires_evicts (inr miss) = (third_misses expires.lines miss).1 (inl refl)

@@ -20,16 +20,15 @@ use Rattle.lu_msg.specs.declared.operations.Op.TheVariants as op
 use Rattle.lu_scene.specs.declared.scene.Scene.{Scene}
 use Rattle.lu_scene.specs.declared.scene.SceneLine.TheVariants.{Call, Run}
 use Rattle.lu_words.specs.Printed.{printed}
-use Rattle.lu_words.specs.Words.{Entry, Heard, Txn as Made, Commit, Line, line}
+use Rattle.lu_words.specs.Words.{Entry, Heard, Txn as Made, Commit, Evict, Line, line}
 use Rattle.lu_table.specs.Scenarios.{past_of}
-use Rattle.lu_covered.specs.Calls.{first_life}
 use Rattle.lu_trace.specs.declared.entries.Entry.TheVariants as entry
 use Rattle.lu_laws.specs.Words.Pasts.{Past}
 use Rattle.lu_laws.proofs.Words as trace
 use Rattle.lu_laws.proofs.Words.{turn, who, first, made, request, reply, txn}
 use Rattle.lu_laws.proofs.Words.{heard as heard_of}
 use Rattle.lu_laws.specs.Words.Histories.{machine_of}
-use Rattle.lu_covered_scenes.specs.Fits.{AllStand, SeenStand, ReplyStands, HeardStandsAt, HeardStand, CommitsStand, Fits}
+use Rattle.lu_covered_scenes.specs.Fits.{AllStand, SeenStand, ReplyStands, HeardStandsAt, HeardStand, CommitsStand, EvictedOut, Fits}
 use Rattle.lu_samples.proofs.Words.{with_head, after}
 
 -- each in the root, or the second in the first
@@ -49,7 +48,7 @@ out w = w.client == 0
 abbrev pub lost : ℕ → ℕ → Bool
 lost t n = t == 0 && n == first 1
 
--- ---- whether a past without commits fits, as a test
+-- ---- whether a past without commits and evictions fits, as a test
 
 abbrev all_stand : List ℕ → Bool
 all_stand ns = list_all (λ n. not (lost 0 n)) ns
@@ -58,18 +57,23 @@ abbrev seen_passes : List Line → Bool
 seen_passes [] = true
 seen_passes (l ∷ past) = elim l.entry [ Made d ↦ (lost 0 d.reply.txn.0 || all_stand d.reply.seen) && seen_passes past | _ ↦ seen_passes past ]
 
-abbrev is_out : Node → Bool
-is_out (Client c) = out (first_life c)
-is_out (Target t) = true
+-- by the life that the reply names
+abbrev is_out : Node → Who → Bool
+is_out (Client c) w = out w
+is_out (Target t) w = true
 
 abbrev heard_passes : List Line → Bool
 heard_passes [] = true
 heard_passes (l ∷ past) =
-    elim l.entry [ Heard target flight reply ↦ (is_out l.at.node || (not (lost 0 reply.txn.0) && all_stand reply.seen)) && heard_passes past | _ ↦ heard_passes past ]
+    elim l.entry [ Heard target flight reply ↦ (is_out l.at.node reply.who || (not (lost 0 reply.txn.0) && all_stand reply.seen)) && heard_passes past | _ ↦ heard_passes past ]
 
 abbrev commits_nothing : List Line → Bool
 commits_nothing [] = true
 commits_nothing (l ∷ past) = elim l.entry [ Commit to batch ↦ false | _ ↦ commits_nothing past ]
+
+abbrev evicts_nobody : List Line → Bool
+evicts_nobody [] = true
+evicts_nobody (l ∷ past) = elim l.entry [ Evict w cause ↦ false | _ ↦ evicts_nobody past ]
 
 not_lost : (b : Bool) → not b ≡ true → b ≡ false
 not_lost false is = refl
@@ -97,9 +101,9 @@ heard : (past : List Line) → heard_passes past ≡ true → HeardStand out los
 heard [] is = tt
 heard (l ∷ past) is = by (heard past) l.entry is
   where
-    one : (node : Node) (r : ReplyTo) → is_out node || (not (lost 0 r.txn.0) && all_stand r.seen) ≡ true → HeardStandsAt out lost node r
+    one : (node : Node) (r : ReplyTo) → is_out node r.who || (not (lost 0 r.txn.0) && all_stand r.seen) ≡ true → HeardStandsAt out lost node r
     one (Target t) r is = tt
-    one (Client c) r is = λ stays. here (out (first_life c)) stays is
+    one (Client c) r is = λ stays. here (out r.who) stays is
       where
         here : (b : Bool) → b ≡ false → b || (not (lost 0 r.txn.0) && all_stand r.seen) ≡ true → ReplyStands lost r
         here true stays is = absurd (cc)
@@ -107,7 +111,7 @@ heard (l ∷ past) is = by (heard past) l.entry is
 
     by : (heard_passes past ≡ true → HeardStand out lost past) → (x : Entry) → heard_passes (line l.at x ∷ past) ≡ true → HeardStand out lost (line l.at x ∷ past)
     by rest (Heard target flight reply) is =
-        let both = and_parts (is_out l.at.node || (not (lost 0 reply.txn.0) && all_stand reply.seen)) (heard_passes past) is in
+        let both = and_parts (is_out l.at.node reply.who || (not (lost 0 reply.txn.0) && all_stand reply.seen)) (heard_passes past) is in
         (one l.at.node reply both.0, rest both.1)
     by rest _ is = rest is
 
@@ -119,10 +123,18 @@ committed (l ∷ past) is = by (committed past) l.entry is
     by rest (Commit to batch) is = absurd (cc)
     by rest _ is = rest is
 
+gone : (past : List Line) → evicts_nobody past ≡ true → EvictedOut out past
+gone [] is = tt
+gone (l ∷ past) is = by (gone past) l.entry is
+  where
+    by : (evicts_nobody past ≡ true → EvictedOut out past) → (x : Entry) → evicts_nobody (line l.at x ∷ past) ≡ true → EvictedOut out (line l.at x ∷ past)
+    by rest (Evict w cause) is = absurd (cc)
+    by rest _ is = rest is
+
 -- ---- the pair fits
 
 pub fits : Fits out lost beside
-fits = record { root = refl; seen = seen beside refl; heard = heard beside refl; committed = committed beside refl }
+fits = record { root = refl; seen = seen beside refl; heard = heard beside refl; committed = committed beside refl; gone = gone beside refl }
 
 -- ---- the machine of that history: the second directory is there, the first one isn't
 

@@ -2,6 +2,8 @@ pub mod Words
 pub mod Flying
 pub mod Names
 pub mod Locks
+pub mod Lives
+pub mod Handles
 pub mod Covered
 pub mod Fits
 pub mod Unfit

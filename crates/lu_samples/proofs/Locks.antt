@@ -10,6 +10,7 @@ use Rattle.lu_base.specs.declared.locks.Mode.TheVariants.{PR}
 use Rattle.lu_base.specs.declared.locks.Policy.TheVariants.{Bits}
 use Rattle.lu_msg.specs.declared.answers.Answer.{Answer}
 use Rattle.lu_msg.specs.declared.answers.Answer.TheVariants as answer
+use Rattle.lu_msg.specs.declared.answers.Errno.TheVariants.{ENOENT}
 use Rattle.lu_msg.specs.declared.calls.Call.TheVariants as call
 use Rattle.lu_msg.specs.declared.messages.Message.{Message}
 use Rattle.lu_msg.specs.declared.messages.Message.TheVariants as message
@@ -24,34 +25,34 @@ use Rattle.lu_laws.proofs.Words as trace
 use Rattle.lu_laws.proofs.Words.{turn, who, first, made, request, reply, heard, txn, act}
 use Rattle.lu_samples.proofs.Words.{with_head, trace_after}
 
-abbrev a : List (List ℕ)
+abbrev pub a : List (List ℕ)
 a = codes "a" ∷ []
 
-abbrev mkdir : Op
+abbrev pub mkdir : Op
 mkdir = op.Mkdir a
 
-abbrev lookup : Op
+abbrev pub lookup : Op
 lookup = op.Lookup a
 
-abbrev rmdir : Op
+abbrev pub rmdir : Op
 rmdir = op.Rmdir a
 
-abbrev zero_target : TargetId
+abbrev pub zero_target : TargetId
 zero_target = record { 0 = 0 }
 
-abbrev cookie : ℕ → Cookie
+abbrev pub cookie : ℕ → Cookie
 cookie count = record { 0 = first count }
 
-abbrev dir : ℕ → Answer
+abbrev pub dir : ℕ → Answer
 dir count = answer.Dir (record { 0 = first count })
 
 -- a client's lock on the name of the first directory
-abbrev lock : (count c : ℕ) → Lock
+abbrev pub lock : (count c : ℕ) → Lock
 lock count c =
     record { cookie = cookie count; resource = record { fid = record { 0 = first 1 }; stripe = 0 }; ask = record { who = who c; mode = PR; policy = Bits 1 } }
 
 -- a reply that brings locks
-abbrev brings : ℕ → ℕ → List ℕ → At → List Lock → Answer → Message
+abbrev pub brings : ℕ → ℕ → List ℕ → At → List Lock → Answer → Message
 brings c xid seen at locks told =
     message.Reply (record {
       who = who c;
@@ -65,7 +66,7 @@ brings c xid seen at locks told =
       answer = told;
     })
 
-abbrev block : (c count : ℕ) → Message
+abbrev pub block : (c count : ℕ) → Message
 block c count = message.Block (who c) 1 (cookie count)
 
 abbrev cancel : (c count : ℕ) → Message
@@ -201,3 +202,61 @@ known_past =
 
 pub known_run : trace_after 30 known ≡ known_past
 known_run = refl
+
+-- ---- a reading request that comes while one that changes names waits, waits behind it
+
+abbrev pub behind : Scene
+behind =
+    record {
+      head = with_head 3 1;
+      lines =
+          Call 0 0 (call.Mkdir a) ∷ Run ∷ Call 1 0 (call.Lookup a) ∷ Run ∷ Call 0 0 (call.Rmdir a) ∷ Deliver 5 ∷ Call 2 0 (call.Lookup a) ∷ Deliver 7 ∷ Run ∷ [];
+    }
+
+abbrev pub behind_past : Past
+behind_past =
+    trace.client 14 2 (entry.Told 0 (turn 12 (Target 0)) (answer.Refused ENOENT))
+    ∷ trace.client 14 2 (heard 0 1)
+    ∷ trace.client 14 2 (entry.Take 10)
+    ∷ trace.client 13 0 (entry.Told 0 (turn 12 (Target 0)) answer.Done)
+    ∷ trace.client 13 0 (heard 0 2)
+    ∷ trace.client 13 0 (entry.Take 9)
+    ∷ trace.target 12 0 (entry.Send 10 (Client 2) (reply 2 1 0 (first 1 ∷ first 2 ∷ []) (turn 12 (Target 0)) (answer.Refused ENOENT)))
+    ∷ trace.target 12 0 (act 2 1 (answer.Refused ENOENT))
+    ∷ trace.target 12 0 (entry.Send 9 (Client 0) (reply 0 2 (first 2) (first 1 ∷ []) (turn 12 (Target 0)) answer.Done))
+    ∷ trace.target 12 0 (txn (first 2) 0 2 (first 1 ∷ []) answer.Done)
+    ∷ trace.target 12 0 (entry.Release (cookie 1))
+    ∷ trace.target 12 0 (entry.Take 8)
+    ∷ trace.client 11 1 (entry.Send 8 (Target 0) (cancel 1 1))
+    ∷ trace.client 11 1 (entry.Drop zero_target (cookie 1))
+    ∷ trace.client 11 1 (entry.Take 6)
+    ∷ trace.target 10 0 (entry.Take 7)
+    ∷ trace.client 9 2 (entry.Send 7 (Target 0) (request 2 1 0 lookup))
+    ∷ trace.client 9 2 (entry.Begin 0 (call.Lookup a))
+    ∷ trace.target 8 0 (entry.Send 6 (Client 1) (block 1 1))
+    ∷ trace.target 8 0 (entry.Block (cookie 1))
+    ∷ trace.target 8 0 (entry.Take 5)
+    ∷ trace.client 7 0 (entry.Send 5 (Target 0) (request 0 2 0 rmdir))
+    ∷ trace.client 7 0 (entry.Begin 0 (call.Rmdir a))
+    ∷ trace.client 6 1 (entry.Told 0 (turn 5 (Target 0)) (dir 1))
+    ∷ trace.client 6 1 (entry.Hold zero_target (cookie 1))
+    ∷ trace.client 6 1 (heard 0 1)
+    ∷ trace.client 6 1 (entry.Take 4)
+    ∷ trace.target 5 0 (entry.Send 4 (Client 1) (brings 1 1 (first 1 ∷ []) (turn 5 (Target 0)) (lock 1 1 ∷ []) (dir 1)))
+    ∷ trace.target 5 0 (entry.Grant (lock 1 1))
+    ∷ trace.target 5 0 (act 1 1 (dir 1))
+    ∷ trace.target 5 0 (entry.Take 3)
+    ∷ trace.client 4 1 (entry.Send 3 (Target 0) (request 1 1 0 lookup))
+    ∷ trace.client 4 1 (entry.Begin 0 (call.Lookup a))
+    ∷ trace.client 3 0 (entry.Told 0 (turn 2 (Target 0)) (made 1))
+    ∷ trace.client 3 0 (heard 0 1)
+    ∷ trace.client 3 0 (entry.Take 2)
+    ∷ trace.target 2 0 (entry.Send 2 (Client 0) (reply 0 1 (first 1) [] (turn 2 (Target 0)) (made 1)))
+    ∷ trace.target 2 0 (txn (first 1) 0 1 [] (made 1))
+    ∷ trace.target 2 0 (entry.Take 1)
+    ∷ trace.client 1 0 (entry.Send 1 (Target 0) (request 0 1 0 mkdir))
+    ∷ trace.client 1 0 (entry.Begin 0 (call.Mkdir a))
+    ∷ []
+
+pub behind_run : trace_after 30 behind ≡ behind_past
+behind_run = refl

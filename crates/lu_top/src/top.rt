@@ -13,7 +13,7 @@ ghost use Rattle.lu_reader.specs.Reads.{IsFirstBad};
 ghost use Rattle.lu_verdict.specs.declared.laws.Law.{Law};
 ghost use Rattle.lu_verdict.specs.declared.verdicts.Verdict.{Verdict};
 ghost use Rattle.lu_verdict.specs.declared.verdicts.Verdict.TheVariants.{Lawful, Broken};
-ghost use Rattle.lu_player.specs.Covered.{IsCovered, GivesNoCommand};
+ghost use Rattle.lu_player.specs.Covered.{IsCovered, AsksNoDisk};
 ghost use Rattle.lu_player.specs.Played.{AreFresh, AreBack, SomeRose};
 ghost use Rattle.lu_top.specs.declared.forms.Form.{Form as FormOf};
 ghost use Rattle.lu_top.specs.declared.forms.Performance.TheVariants.{Play, Storm};
@@ -95,7 +95,7 @@ pub fn run<S: Source, K: Sink, D: Disk + Drop>(
         → IsScene text scene → IsPerformedStatus result }
     ensures done { (text : List ℕ) (scene : Scene) → Says (map string_bytes words.now) (Form.Perform Play)
         → IsGiven most_scene_bytes (S.left source.old) (S.faults source.old) (S.faults source.new) text
-        → IsScene text scene → IsCovered scene → GivesNoCommand scene → ¬ Rose (K.faults sink.old) (K.faults sink.new)
+        → IsScene text scene → IsCovered scene → AsksNoDisk scene → ¬ Rose (K.faults sink.old) (K.faults sink.new)
         → ¬ SomeRose scene (held_by D.batches D.faults disks.new.items) → IsDone result }
     ensures storm_performed { (seed : ℕ) → Says (map string_bytes words.now) (Form.Perform (Storm seed))
         → IsPerformedStatus result }

@@ -1,0 +1,46 @@
+-- Lists of lives by the test that the facts speak of: what stands in one once a life came or went, that none which is over is as new as
+-- one that isn't, and the lives of the start.
+use Rattle.std.proofs.Common.{◌≡◌, ℕ, zero, suc, ◌+◌, ◌<◌, ◌≤◌, Bool, true, false, List, [], ◌∷◌, ◌⊎◌, inl, inr, refl, subst, arith}
+use Rattle.std.specs.Prelude.{nat_eq, ◌||◌}
+use Rattle.std.specs.List.{list_any}
+use Rattle.std.proofs.lemmas.Bool.{eqb-false}
+use Rattle.std.proofs.lemmas.Bool.Decides.{nat_tests}
+use Rattle.lu_base.specs.declared.ids.Who.{Who}
+use Rattle.lu_words.specs.Words.{same_life}
+use Rattle.lu_target_rows.specs.Leaving.{is_over}
+use Rattle.lu_target_rows.specs.Lives.{is_life, with_life, without_lives}
+use Rattle.lu_target_rows.specs.States.{lives_from}
+use Rattle.lu_covered.specs.Calls.{first_life}
+use Rattle.lu_guards.proofs.Lists.{life_is, life_self}
+use Rattle.lu_guards.proofs.ClientLocks.{any_false}
+use Rattle.lu_guards.proofs.LifeLists.{stands_life, life_put_or, life_stays}
+
+-- what stands there once one came is it, or stood there
+pub put_or : (x who : Who) (lives : List Who) → is_life x (with_life who lives) ≡ true → (x ≡ who) ⊎ (is_life x lives ≡ true)
+put_or x who lives t = by (same_life x who) refl (life_put_or x who lives t)
+  where
+    by : (b : Bool) → same_life x who ≡ b → (b || is_life x lives) ≡ true → (x ≡ who) ⊎ (is_life x lives ≡ true)
+    by true e t = inl (life_is x who e)
+    by false e t = inr t
+
+-- what stood there is the one that goes, or stays
+pub goes_or : (x who : Who) (lives : List Who) → is_life x lives ≡ true → (x ≡ who) ⊎ (is_life x (without_lives (who ∷ []) lives) ≡ true)
+goes_or x who lives t = by (same_life x who) refl
+  where
+    by : (b : Bool) → same_life x who ≡ b → (x ≡ who) ⊎ (is_life x (without_lives (who ∷ []) lives) ≡ true)
+    by true e = inl (life_is x who e)
+    by false e = inr (life_stays x who lives (λ s. let same : same_life x who ≡ true = subst (λ (v : Who). same_life x v ≡ true) s (life_self x) in absurd (cc)) t)
+
+-- where a life is over none of its client is as new
+pub older_than : (who : Who) (lives : List Who) → list_any (is_over who) lives ≡ false → (x : Who) → is_life x lives ≡ true → x.client ≡ who.client → x.life < who.life
+older_than who lives n x t e = let f = any_false (is_over who) lives n x (stands_life x lives t) in grind (arith, nat_tests)
+
+-- ---- the lives of the start
+
+pub first_among : (from more c : ℕ) → from ≤ c → c < from + more → is_life (first_life c) (lives_from from more) ≡ true
+first_among from zero c low high = absurd (omega (arith, low, high))
+first_among from (suc more) c low high = by (nat_eq c from) refl (λ e. first_among (from + 1) more c (omega (arith, low, eqb-false c from e)) (omega (arith, high)))
+  where
+    by : (b : Bool) → nat_eq c from ≡ b → (nat_eq c from ≡ false → is_life (first_life c) (lives_from (from + 1) more) ≡ true) → is_life (first_life c) (lives_from from (suc more)) ≡ true
+    by true e more = rw e refl
+    by false e more = rw e (more e)

@@ -1,0 +1,248 @@
+-- The turns of a client in a covered run in which a user makes a call: it begins, and is told at once where its handle is bad; or it finds
+-- its slot busy.
+use Rattle.std.proofs.Common.{◌≡◌, ℕ, ◌<◌, Bool, true, false, List, [], ◌∷◌, ◌++◌, ◌⊎◌, inl, inr, ⊎_elim, Option, Some, None, refl, sym, subst, ap, ◌∙◌}
+use Rattle.std.specs.Prelude.{nat_eq, ◌||◌, not, is_some}
+use Rattle.std.proofs.lemmas.Bool.{eqb-true}
+use Rattle.lu_base.specs.declared.ids.At.{At}
+use Rattle.lu_base.specs.declared.ids.Node.TheVariants.{Client}
+use Rattle.lu_base.specs.declared.ids.Stamp.{Stamp}
+use Rattle.lu_trace.specs.WellFormed.{IsCall}
+use Rattle.lu_msg.specs.declared.answers.Answer.TheVariants as answer
+use Rattle.lu_msg.specs.declared.answers.Errno.TheVariants.{EBADF}
+use Rattle.lu_msg.specs.declared.calls.Call.{Call}
+use Rattle.lu_msg.specs.declared.calls.Call.TheVariants as call
+use Rattle.lu_msg.specs.declared.operations.Op.{Op}
+use Rattle.lu_msg.specs.declared.operations.Op.TheVariants as op
+use Rattle.lu_words.specs.Carried.{HandleFile, Plain, Bad, Running}
+use Rattle.lu_words.specs.Words.{Entry, Begin, Busy, Told, Unbinds, Line, line, with_turn}
+use Rattle.lu_client_rows.specs.Calls.{handles_at, file_of}
+use Rattle.lu_client_rows.specs.Rows.{rests, row_call}
+use Rattle.lu_client_rows.specs.Slots.{begins, begins_on, begins_close, begins_open}
+use Rattle.lu_client_rows.specs.Starts.{is_on}
+use Rattle.lu_client_rows.specs.States.{Client as ClientState, follow, turn as turn_of}
+use Rattle.lu_covered.specs.Calls.{begun, call_at, operation_of, file_at, is_opening, is_bad, file_for}
+use Rattle.lu_covered.specs.Covered.{IsCoveredCall, IsAloneOn, AllCovered}
+use Rattle.lu_table.specs.Heads as table
+use Rattle.lu_table.specs.Runs.{limits_of, client_of}
+use Rattle.lu_guards.proofs.Guards.{In, Was, Later, Ending, HeardNow, JustHeard, Learned, TookNow, Noticed, Grown}
+use Rattle.lu_guards.proofs.Guards as guards
+use Rattle.lu_guards.proofs.Lists.{self, turn}
+use Rattle.lu_guards.proofs.Turns.{owes_nothing}
+use Rattle.lu_guards.proofs.Covers.{EntriesCovered, covered_turn}
+use Rattle.lu_guards.proofs.ClientHandles.{Tied, AloneBut, unbinding, closes_nothing, closes_unbound, begun_tied, closed_tied, told_tied}
+use Rattle.lu_guards.proofs.ClientRests.{Good, Idle, AllIdle, Rested, Ended, adds, call_line, followed}
+use Rattle.lu_guards.proofs.ClientSlots.{covered_left, slots_still, HasBegun, has_begun}
+use Rattle.lu_guards.proofs.ClientStarts.{Starts, starts_good, rests_from}
+
+-- ---- which calls begin
+
+-- a covered one is on a bad handle, and is told so; or on a good one or on none
+abbrev Beginning : ℕ → List Line → At → ℕ → Call → List Entry → Type 0
+Beginning c p at slot x es =
+    ((is_bad c p x ≡ true) × (es ≡ Begin slot (begun at x None Bad) ∷ Told slot at (answer.Refused EBADF) None ∷ []))
+    ⊎ ((is_bad c p x ≡ false) × ((o : Op) × (operation_of (file_for c p x) x ≡ Some o)) × (es ≡ Begin slot (begun at x (file_for c p x) Plain) ∷ unbinding x))
+
+module _ (head : table.Head) (c : ℕ) (at : At) (slot : ℕ) (p : List Line) (tied : Tied c p) where
+  abbrev Of : Call → List Entry → Type 0
+  Of x es = Beginning c p at slot x es
+
+  -- one on bytes is covered on a bad handle alone
+  on_file : (x : Call) (h : ℕ) → ((f : Option HandleFile) → operation_of f x ≡ None) → is_bad c p x ≡ not (is_some (file_at c h p)) → EntriesCovered (begins_on at slot x (file_of h (handles_at c p))) → Of x (begins_on at slot x (file_of h (handles_at c p)))
+  on_file x h none is covered =
+      subst (λ (f : Option HandleFile). Of x (begins_on at slot x f)) (sym (tied h)) (by (file_at c h p) refl (subst (λ (f : Option HandleFile). EntriesCovered (begins_on at slot x f)) (tied h) covered))
+    where
+      by : (f : Option HandleFile) → file_at c h p ≡ f → EntriesCovered (begins_on at slot x f) → Of x (begins_on at slot x f)
+      by None e k = inl (is ∙ ap (λ (f : Option HandleFile). not (is_some f)) e, refl)
+      by (Some f) e k = absurd (⊎_elim (λ (q : (o : Op) × (operation_of (Some f) x ≡ Some o)). let n : operation_of (Some f) x ≡ None = none (Some f) in let b = q.1 in cc) (λ (q : Plain ≡ Bad). cc) k.0)
+
+  -- one on none
+  plain : (x : Call) → is_bad c p x ≡ false → file_for c p x ≡ None → unbinding x ≡ [] → IsCoveredCall (begun at x None Plain) → Of x (Begin slot (begun at x None Plain) ∷ [])
+  plain x good file still k =
+      inr (
+        good,
+        ⊎_elim (λ (q : (o : Op) × (operation_of None x ≡ Some o)). (q.0, ap (λ (f : Option HandleFile). operation_of f x) file ∙ q.1)) (λ (q : Plain ≡ Bad). absurd (cc)) k,
+        ap (λ (f : Option HandleFile). Begin slot (begun at x f Plain) ∷ []) (sym file) ∙ ap (λ (es : List Entry). Begin slot (begun at x (file_for c p x) Plain) ∷ es) (sym still),
+      )
+
+  begins_so : (x : Call) → EntriesCovered (begins at slot x (client_of head c p)) → Of x (begins at slot x (client_of head c p))
+  begins_so (call.Open h path) k =
+      subst (λ (b : Bool). Of (call.Open h path) (begins_open at slot (call.Open h path) b)) (sym (ap (λ (f : Option HandleFile). is_some f || is_opening c h p) (tied h))) (by (is_bad c p (call.Open h path)) refl)
+    where
+      by : (b : Bool) → is_bad c p (call.Open h path) ≡ b → Of (call.Open h path) (begins_open at slot (call.Open h path) b)
+      by true e = inl (e, refl)
+      by false e = inr (e, (op.Open path, refl), refl)
+  begins_so (call.Close h) k = subst (λ (f : Option HandleFile). Of (call.Close h) (begins_close at slot h f)) (sym (tied h)) (by (file_at c h p) refl)
+    where
+      by : (f : Option HandleFile) → file_at c h p ≡ f → Of (call.Close h) (begins_close at slot h f)
+      by None e = inl (ap (λ (f : Option HandleFile). not (is_some f)) e, refl)
+      by (Some f) e =
+          inr (
+            ap (λ (g : Option HandleFile). not (is_some g)) e,
+            (op.Close f.number f.fid, ap (λ (g : Option HandleFile). operation_of g (call.Close h)) e),
+            ap (λ (g : Option HandleFile). Begin slot (begun at (call.Close h) g Plain) ∷ Unbinds h ∷ []) (sym e),
+          )
+  begins_so (call.Read h x n) k = on_file (call.Read h x n) h (λ f. refl) refl k
+  begins_so (call.Write h x bs) k = on_file (call.Write h x bs) h (λ f. refl) refl k
+  begins_so (call.Cut h n) k = on_file (call.Cut h n) h (λ f. refl) refl k
+  begins_so (call.Flush h) k = on_file (call.Flush h) h (λ f. refl) refl k
+  begins_so (call.Glimpse h) k = on_file (call.Glimpse h) h (λ f. refl) refl k
+  begins_so x k = plain x refl refl refl k.0
+
+module _ (head : table.Head) (c : ℕ) (stamp : Stamp) where
+  abbrev at : At
+  at = turn stamp (Client c)
+
+  -- ---- a call begins, or finds its slot busy
+
+  busy_ends : (p : List Line) (slot : ℕ) → Starts head c stamp p → Ended head c at (line at (Busy slot) ∷ p)
+  busy_ends p slot s =
+      record {
+        good = adds head c stamp p (Busy slot) (starts_good head c stamp p s) (owes_nothing p at (Busy slot) s.settled) s.later (λ t e. tt) tt tt refl;
+        settled = tt;
+        between = record { idle = s.between.idle; handles = s.between.handles; held = s.between.held };
+      }
+
+  -- a call on another slot is what it was
+  begin_other : (p : List Line) (slot : ℕ) (r : Running) (u : ℕ) → (u ≡ slot → ⊥) → call_at c u (line at (Begin slot r) ∷ p) ≡ call_at c u p
+  begin_other p slot r u n = by (nat_eq slot u) refl
+    where
+      by : (b : Bool) → nat_eq slot u ≡ b → call_at c u (line at (Begin slot r) ∷ p) ≡ call_at c u p
+      by true q = absurd (n (sym (eqb-true slot u q)))
+      by false q = call_line head c stamp u p (Begin slot r) ∙ rw q refl
+
+  begin_good : (p : List Line) (slot : ℕ) (r : Running) → Starts head c stamp p → slot < 4 → IsCall r.call → call_at c slot p ≡ None → r ≡ begun at r.call r.file r.stage → guards.Begins c p r → IsCoveredCall r → IsAloneOn c p r.file
+      → Good head c at (line at (Begin slot r) ∷ p)
+  begin_good p slot r s small limits empty is begins covered alone =
+      adds head c stamp p (Begin slot r) (starts_good head c stamp p s) (owes_nothing p at (Begin slot r) s.settled)
+      (record { later = s.later; small = small; free = empty; is = is; limits = limits; begins = begins; calm = λ h i. (s.between.held h i).0 }) (λ t q. tt)
+      covered alone refl
+
+  -- one on a bad handle is told so
+  begin_bad : (p : List Line) (slot : ℕ) (wanted : Call) → Starts head c stamp p → slot < 4 → IsCall wanted → call_at c slot p ≡ None → is_bad c p wanted ≡ true
+      → Rested head c at (line at (Told slot at (answer.Refused EBADF) None) ∷ line at (Begin slot (begun at wanted None Bad)) ∷ p)
+  begin_bad p slot wanted s small limits empty bad =
+      record {
+        good =
+            adds head c stamp p1 e (begin_good p slot r s small limits empty refl (inr (bad, refl, refl)) (inr refl) tt) (refl, refl)
+            (inr (inr (inr (record { running = r; call = stands; bad = refl; begun = refl; of_turn = refl; of_answer = refl; plain = refl })))) (λ t q. tt) tt tt refl;
+        settled = tt;
+        idle = idle;
+        handles = told_tied c stamp p1 slot at (answer.Refused EBADF) None r stands refl (begun_tied c stamp p slot r (closes_unbound c p wanted bad) s.between.handles);
+        free = λ x i. (s.between.held x i).1;
+      }
+    where
+      r : Running
+      r = begun at wanted None Bad
+
+      p1 : List Line
+      p1 = line at (Begin slot r) ∷ p
+
+      e : Entry
+      e = Told slot at (answer.Refused EBADF) None
+
+      stands : call_at c slot p1 ≡ Some r
+      stands = call_line head c stamp slot p (Begin slot r) ∙ rw (self slot) refl
+
+      idle : AllIdle c (line at e ∷ p1)
+      idle u = by (nat_eq slot u) refl
+        where
+          by : (b : Bool) → nat_eq slot u ≡ b → Idle (call_at c u (line at e ∷ p1))
+          by true q = let so : call_at c u (line at e ∷ p1) ≡ None = call_line head c stamp u p1 e ∙ rw q refl in subst Idle (sym so) tt
+          by false q =
+              let so : call_at c u (line at e ∷ p1) ≡ call_at c u p1 = call_line head c stamp u p1 e ∙ rw q refl in
+              let n : u ≡ slot → ⊥ = λ same. let t : nat_eq slot u ≡ true = ap (nat_eq slot) same ∙ self slot in absurd (cc) in
+              subst Idle (sym (so ∙ begin_other p slot r u n)) (s.between.idle u)
+
+  -- one on a good handle, or on none, is to ask; a close unbinds its handle first
+  begin_starts : (p : List Line) (slot : ℕ) (wanted : Call) (file : Option HandleFile) (o : Op) → Starts head c stamp p → slot < 4 → IsCall wanted → call_at c slot p ≡ None → is_bad c p wanted ≡ false → file ≡ file_for c p wanted
+      → operation_of file wanted ≡ Some o → IsAloneOn c p file → HasBegun head c stamp slot wanted file (with_turn at (Begin slot (begun at wanted file Plain) ∷ unbinding wanted) p)
+  begin_starts p slot wanted file o s small limits empty fine of_file becomes alone = by wanted refl
+    where
+      r : Running
+      r = begun at wanted file Plain
+
+      p1 : List Line
+      p1 = line at (Begin slot r) ∷ p
+
+      good : Good head c at p1
+      good = begin_good p slot r s small limits empty refl (inl (fine, refl, of_file, (o, becomes))) (inl (o, becomes)) alone
+
+      stands : call_at c slot p1 ≡ Some r
+      stands = call_line head c stamp slot p (Begin slot r) ∙ rw (self slot) refl
+
+      others : (u : ℕ) → (u ≡ slot → ⊥) → Idle (call_at c u p1)
+      others u n = subst Idle (sym (begin_other p slot r u n)) (s.between.idle u)
+
+      lone : (f : Option HandleFile) → IsAloneOn c p f → AloneBut c slot f p1
+      lone None a = tt
+      lone (Some f) a = λ u n. ap (is_on f.number.0) (begin_other p slot r u n) ∙ a u
+
+      lone_after : (h : ℕ) (f : Option HandleFile) → IsAloneOn c p f → AloneBut c slot f (line at (Unbinds h) ∷ p1)
+      lone_after h None a = tt
+      lone_after h (Some f) a = λ u n. ap (is_on f.number.0) (begin_other p slot r u n) ∙ a u
+
+      by : (x : Call) → wanted ≡ x → HasBegun head c stamp slot wanted file (with_turn at (unbinding x) p1)
+      by (call.Close h) e =
+          record {
+            begun = record {
+              good = adds head c stamp p1 (Unbinds h) good (refl, tt) tt (λ t q. tt) tt tt refl;
+              small = small;
+              call = stands;
+              others = others;
+              handles = closed_tied c stamp p slot r h e s.between.handles;
+              due = λ x q. (refl, (refl, q));
+            };
+            free = λ x i. (s.between.held x i).1;
+            alone = lone_after h file alone;
+            op = o;
+            becomes = becomes;
+          }
+      by x e =
+          record {
+            begun = record {
+              good = good;
+              small = small;
+              call = stands;
+              others = others;
+              handles = begun_tied c stamp p slot r (λ h. closes_nothing h wanted (file_at c h p) (ap unbinding e)) s.between.handles;
+              due = λ x q. (refl, q);
+            };
+            free = λ x i. (s.between.held x i).1;
+            alone = lone file alone;
+            op = o;
+            becomes = becomes;
+          }
+
+  pub call_ends : (p : List Line) (slot : ℕ) (wanted : Call) → Starts head c stamp p → slot < 4 → IsCall wanted → (x : Option Running) → call_at c slot p ≡ x
+      → AllCovered (with_turn at (row_call (limits_of head) at slot wanted (client_of head c p) x) p) → Ended head c at (with_turn at (row_call (limits_of head) at slot wanted (client_of head c p) x) p)
+  call_ends p slot wanted s small limits (Some r) e covered = busy_ends p slot s
+  call_ends p slot wanted s small limits None e covered =
+      by (begins at slot wanted k) (begins_so head c at slot p s.between.handles wanted (covered_left es more (covered_turn at (es ++ more) p covered).0)) covered
+    where
+      k : ClientState
+      k = client_of head c p
+
+      es : List Entry
+      es = begins at slot wanted k
+
+      after : ClientState → List Entry
+      after = rests (limits_of head) at
+
+      more : List Entry
+      more = after (turn_of k es)
+
+      by : (fs : List Entry) → Beginning c p at slot wanted fs → AllCovered (with_turn at (follow fs after k) p) → Ended head c at (with_turn at (follow fs after k) p)
+      by fs (inl bad) cov =
+          let gs = Begin slot (begun at wanted None Bad) ∷ Told slot at (answer.Refused EBADF) None ∷ [] in
+          let p1 = with_turn at gs p in
+          let all : with_turn at (follow fs after k) p ≡ with_turn at (after (client_of head c p1)) p1 = ap (λ (xs : List Entry). with_turn at (follow xs after k) p) bad.1 ∙ followed head c stamp gs after p in
+          subst (Ended head c at) (sym all) (rests_from head c stamp (Rested head c at) (slots_still head c stamp) p1 (begin_bad p slot wanted s small limits e bad.0) (subst AllCovered all cov))
+      by fs (inr good) cov =
+          let file = file_for c p wanted in
+          let gs = Begin slot (begun at wanted file Plain) ∷ unbinding wanted in
+          let p1 = with_turn at gs p in
+          let same : with_turn at (follow fs after k) p ≡ with_turn at (follow gs after k) p = ap (λ (xs : List Entry). with_turn at (follow xs after k) p) good.2 in
+          let all : with_turn at (follow fs after k) p ≡ with_turn at (after (client_of head c p1)) p1 = same ∙ followed head c stamp gs after p in
+          let alone : IsAloneOn c p file = (covered_turn at (follow gs after k) p (subst AllCovered same cov)).2.0 in
+          subst (Ended head c at) (sym all)
+          (rests_from head c stamp (HasBegun head c stamp slot wanted file) (has_begun head c stamp slot wanted file) p1 (begin_starts p slot wanted file good.1.0 s small limits e good.0 refl good.1.1 alone) (subst AllCovered all cov))

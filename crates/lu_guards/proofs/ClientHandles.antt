@@ -1,0 +1,217 @@
+-- The handles of a client: between its turns its rows have each handle bound to the file that its calls say. The rows unbind just after
+-- a close begins, and bind just before an open is told.
+use Rattle.std.proofs.Common.{◌≡◌, ℕ, zero, suc, Bool, true, false, List, [], ◌∷◌, Option, Some, None, refl, sym, ap, ◌∙◌}
+use Rattle.std.specs.Prelude.{nat_eq, nat_lt, not, if◌then◌else◌, is_some, length, filter}
+use Rattle.std.proofs.lemmas.Bool.{cond_both, cond-false, eqb-true}
+use Rattle.lu_base.specs.declared.ids.At.{At}
+use Rattle.lu_base.specs.declared.ids.Node.TheVariants.{Client}
+use Rattle.lu_base.specs.declared.ids.Stamp.{Stamp}
+use Rattle.lu_base.specs.declared.ids.Who.{Who}
+use Rattle.lu_msg.specs.declared.answers.Answer.{Answer}
+use Rattle.lu_msg.specs.declared.answers.Answer.TheVariants as answer
+use Rattle.lu_msg.specs.declared.calls.Call.{Call}
+use Rattle.lu_msg.specs.declared.calls.Call.TheVariants as call
+use Rattle.lu_words.specs.Carried.{HandleFile, Work, Running}
+use Rattle.lu_words.specs.Words.{Entry, Tick, Begin, Told, Life, Binds, Unbinds, Line, line, with_turn, is_client}
+use Rattle.lu_words.specs.Fields.{on}
+use Rattle.lu_client_rows.specs.Calls.{Bound, unbound, reads_handles, handles_after, handles_at, file_of, call_on, calls_at}
+use Rattle.lu_client_rows.specs.Starts.{is_on, count_on}
+use Rattle.lu_covered.specs.Calls.{call_at, opened, opened_by, binds, told_file, begun_file, file_at, is_bad}
+use Rattle.lu_guards.proofs.Lists.{self, turn}
+
+-- its rows have each handle bound to that file
+abbrev pub Tied : ℕ → List Line → Type 0
+Tied c past = (h : ℕ) → file_of h (handles_at c past) ≡ file_at c h past
+
+-- ---- lists of bound handles
+
+same_both : {A : Type 0} (b : Bool) (x : A) → (if b then x else x) ≡ x
+same_both true x = refl
+same_both false x = refl
+
+unbound_is : (h g : ℕ) (hs : List Bound) → file_of h (unbound g hs) ≡ (if nat_eq g h then None else file_of h hs)
+unbound_is h g [] = sym (same_both (nat_eq g h) None)
+unbound_is h g (b ∷ hs) = by (nat_eq b.handle g) (nat_eq g h) (nat_eq b.handle h) refl refl refl (unbound_is h g hs)
+  where
+    U : List Bound
+    U = unbound g hs
+
+    by : (bg gh bh : Bool) → nat_eq b.handle g ≡ bg → nat_eq g h ≡ gh → nat_eq b.handle h ≡ bh → file_of h U ≡ (if nat_eq g h then None else file_of h hs)
+        → file_of h (if not bg then b ∷ U else U) ≡ (if gh then None else (if bh then Some b.file else file_of h hs))
+    by true true bh e f i ih = ih ∙ ap (λ (x : Bool). if x then None else file_of h hs) f
+    by true false true e f i ih =
+        let q : nat_eq g h ≡ true = ap (λ (n : ℕ). nat_eq n h) (sym (eqb-true b.handle g e)) ∙ i in
+        absurd (cc)
+    by true false false e f i ih = ih ∙ ap (λ (x : Bool). if x then None else file_of h hs) f
+    by false true true e f i ih =
+        let q : nat_eq b.handle g ≡ true = ap (λ (n : ℕ). nat_eq b.handle n) (eqb-true g h f) ∙ i in
+        absurd (cc)
+    by false true false e f i ih = ap (λ (x : Bool). if x then Some b.file else file_of h U) i ∙ ih ∙ ap (λ (x : Bool). if x then None else file_of h hs) f
+    by false false true e f i ih = ap (λ (x : Bool). if x then Some b.file else file_of h U) i
+    by false false false e f i ih = ap (λ (x : Bool). if x then Some b.file else file_of h U) i ∙ ih ∙ ap (λ (x : Bool). if x then None else file_of h hs) f
+
+-- ---- what calls say of handles
+
+-- what the rows do just after a call begins
+abbrev pub unbinding : Call → List Entry
+unbinding (call.Close h) = Unbinds h ∷ []
+unbinding x = []
+
+-- and just before it is told
+abbrev pub binding : Call → Answer → List Entry
+binding (call.Open h path) (answer.OpenFile fid number layout) = Binds h (record { fid = fid; number = number; layout = layout }) ∷ []
+binding x a = []
+
+-- a call that is told, as a call and what it opened
+abbrev called_file : ℕ → Call → Option HandleFile → Option HandleFile → Option HandleFile
+called_file h (call.Open other path) file old = if nat_eq other h then binds file old else old
+called_file h x file old = old
+
+told_called : (h : ℕ) (r : Running) (old : Option HandleFile) → told_file h (Some r) old ≡ called_file h r.call (opened r.asking) old
+told_called h r old = by r.call
+  where
+    by : (x : Call) → (elim x [ call.Open other path ↦ if nat_eq other h then binds (opened r.asking) old else old | _ ↦ old ]) ≡ called_file h x (opened r.asking) old
+    by (call.Open other path) = refl
+    by x = refl
+
+-- one that opened nothing
+none_called : (h : ℕ) (x : Call) (old : Option HandleFile) → called_file h x None old ≡ old
+none_called h (call.Open other path) old = same_both (nat_eq other h) old
+none_called h x old = refl
+
+-- a call begins that closes nothing, or nothing that is bound
+pub closes_nothing : (h : ℕ) (x : Call) (old : Option HandleFile) → unbinding x ≡ [] → begun_file h x old ≡ old
+closes_nothing h (call.Close g) old e = absurd (cc)
+closes_nothing h x old e = refl
+
+pub none_there : (f : Option HandleFile) → not (is_some f) ≡ true → f ≡ None
+none_there None e = refl
+none_there (Some f) e = absurd (cc)
+
+pub closes_unbound : (c : ℕ) (p : List Line) (x : Call) → is_bad c p x ≡ true → (h : ℕ) → begun_file h x (file_at c h p) ≡ file_at c h p
+closes_unbound c p (call.Close g) bad h = cond_both (nat_eq g h) None (file_at c h p) (λ (f : Option HandleFile). f ≡ file_at c h p) (λ t. sym (ap (λ (u : ℕ). file_at c u p) (sym (eqb-true g h t)) ∙ none_there (file_at c g p) bad)) (λ t. refl)
+closes_unbound c p x bad h = refl
+
+-- ---- lines of the client
+
+module _ (c : ℕ) (stamp : Stamp) where
+  abbrev here : At
+  here = turn stamp (Client c)
+
+  handles_line : (p : List Line) (e : Entry) → handles_at c (line here e ∷ p) ≡ handles_after (handles_at c p) e
+  handles_line p e = ap (λ (own : Bool). on (reads_handles e) own (handles_after (handles_at c p) e) (handles_at c p)) (self c) ∙ by e
+    where
+      by : (e : Entry) → on (reads_handles e) true (handles_after (handles_at c p) e) (handles_at c p) ≡ handles_after (handles_at c p) e
+      by Tick = refl
+      by e = refl
+
+  begun_line : (p : List Line) (slot : ℕ) (r : Running) (h : ℕ) → file_at c h (line here (Begin slot r) ∷ p) ≡ begun_file h r.call (file_at c h p)
+  begun_line p slot r h = ap (λ (own : Bool). if own then begun_file h r.call (file_at c h p) else file_at c h p) (self c)
+
+  told_line : (p : List Line) (slot : ℕ) (t : At) (a : Answer) (w : Option Work) (h : ℕ) → file_at c h (line here (Told slot t a w) ∷ p) ≡ told_file h (call_at c slot p) (file_at c h p)
+  told_line p slot t a w h = ap (λ (own : Bool). if own then told_file h (call_at c slot p) (file_at c h p) else file_at c h p) (self c)
+
+  pub begun_tied : (p : List Line) (slot : ℕ) (r : Running) → ((h : ℕ) → begun_file h r.call (file_at c h p) ≡ file_at c h p) → Tied c p → Tied c (line here (Begin slot r) ∷ p)
+  begun_tied p slot r still tied h = tied h ∙ sym (begun_line p slot r h ∙ still h)
+
+  pub closed_tied : (p : List Line) (slot : ℕ) (r : Running) (g : ℕ) → r.call ≡ call.Close g → Tied c p → Tied c (line here (Unbinds g) ∷ line here (Begin slot r) ∷ p)
+  closed_tied p slot r g is tied h =
+      ap (file_of h) (handles_line (line here (Begin slot r) ∷ p) (Unbinds g))
+      ∙ unbound_is h g (handles_at c p)
+      ∙ ap (λ (f : Option HandleFile). if nat_eq g h then None else f) (tied h)
+      ∙ sym (begun_line p slot r h ∙ ap (λ (x : Call). begun_file h x (file_at c h p)) is)
+
+  -- a call is told whose request wasn't answered
+  pub told_tied : (p : List Line) (slot : ℕ) (t : At) (a : Answer) (w : Option Work) (r : Running) → call_at c slot p ≡ Some r → opened r.asking ≡ None → Tied c p → Tied c (line here (Told slot t a w) ∷ p)
+  told_tied p slot t a w r is none tied h =
+      tied h
+      ∙ sym (told_line p slot t a w h
+      ∙ ap (λ (x : Option Running). told_file h x (file_at c h p)) is
+      ∙ told_called h r (file_at c h p)
+      ∙ ap (λ (f : Option HandleFile). called_file h r.call f (file_at c h p)) none
+      ∙ none_called h r.call (file_at c h p))
+
+  -- or one that was answered so
+  pub heard_tied : (p : List Line) (slot : ℕ) (t : At) (given : Answer) (w : Option Work) (r : Running) (x : Call) (a : Answer) → call_at c slot p ≡ Some r → r.call ≡ x → opened r.asking ≡ opened_by a → Tied c p
+      → Tied c (line here (Told slot t given w) ∷ with_turn here (binding x a) p)
+  heard_tied p slot t given w r x a is of_call of_answer tied h = by x a said
+    where
+      old : Option HandleFile
+      old = file_at c h p
+
+      said : told_file h (call_at c slot p) old ≡ called_file h x (opened_by a) old
+      said =
+          ap (λ (y : Option Running). told_file h y old) is ∙ told_called h r old ∙ ap (λ (y : Call). called_file h y (opened r.asking) old) of_call
+          ∙ ap (λ (f : Option HandleFile). called_file h x f old) of_answer
+
+      Goal : Call → Answer → Type 0
+      Goal x a = file_of h (handles_at c (line here (Told slot t given w) ∷ with_turn here (binding x a) p)) ≡ file_at c h (line here (Told slot t given w) ∷ with_turn here (binding x a) p)
+
+      quiet : (f : Option HandleFile) → told_file h (call_at c slot p) old ≡ f → f ≡ old → file_of h (handles_at c p) ≡ file_at c h (line here (Told slot t given w) ∷ p)
+      quiet f e still = tied h ∙ sym (told_line p slot t given w h ∙ e ∙ still)
+
+      by : (x : Call) (a : Answer) → told_file h (call_at c slot p) old ≡ called_file h x (opened_by a) old → Goal x a
+      by (call.Open g path) (answer.OpenFile fid number layout) e =
+          let file : HandleFile = record { fid = fid; number = number; layout = layout } in
+          ap (file_of h) (handles_line p (Binds g file))
+          ∙ ap (λ (f : Option HandleFile). if nat_eq g h then Some file else f) (tied h)
+          ∙ sym (told_line (line here (Binds g file) ∷ p) slot t given w h ∙ e)
+      by (call.Open g path) a e = quiet (called_file h (call.Open g path) (opened_by a) old) e (none_called h (call.Open g path) old)
+      by x a e = quiet (called_file h x (opened_by a) old) e refl
+
+  -- a new life has none
+  pub new_tied : (p : List Line) (who : Who) → Tied c (line here (Life who) ∷ p)
+  new_tied p who h = ap (file_of h) (handles_line p (Life who)) ∙ sym (ap (λ (own : Bool). if own then None else file_at c h p) (self c))
+
+-- a turn of another node leaves them
+pub file_other : (c h : ℕ) (at : At) (es : List Entry) (past : List Line) → is_client c at.node ≡ false → file_at c h (with_turn at es past) ≡ file_at c h past
+file_other c h at [] past other = refl
+file_other c h at (e ∷ es) past other = file_other c h at es (line at e ∷ past) other ∙ by e
+  where
+    old : Option HandleFile
+    old = file_at c h past
+
+    by : (e : Entry) → file_at c h (line at e ∷ past) ≡ file_at c h past
+    by (Begin slot r) = ap (λ (own : Bool). if own then begun_file h r.call old else old) other
+    by (Told slot t a w) = ap (λ (own : Bool). if own then told_file h (call_at c slot past) old else old) other
+    by (Life who) = ap (λ (own : Bool). if own then None else old) other
+    by e = refl
+
+-- ---- a call that is alone on its open
+
+-- no other call of the client is on that open
+abbrev pub AloneBut : ℕ → ℕ → Option HandleFile → List Line → Type 0
+AloneBut c slot None p = Unit {0}
+AloneBut c slot (Some f) p = (s : ℕ) → (s ≡ slot → ⊥) → is_on f.number.0 (call_at c s p) ≡ false
+
+-- so a close of it doesn't wait
+abbrev pub Lone : Option HandleFile → List (Option Running) → Type 0
+Lone None calls = Unit {0}
+Lone (Some f) calls = nat_lt 1 (count_on f.number.0 calls) ≡ false
+
+none_on : (n : ℕ) (calls : List (Option Running)) → ((s : ℕ) → is_on n (call_on s calls) ≡ false) → filter (is_on n) calls ≡ []
+none_on n [] f = refl
+none_on n (x ∷ calls) f = cond-false (is_on n x) (x ∷ filter (is_on n) calls) (filter (is_on n) calls) (f 0) ∙ none_on n calls (λ s. f (suc s))
+
+count_one : (n slot : ℕ) (calls : List (Option Running)) → ((s : ℕ) → (s ≡ slot → ⊥) → is_on n (call_on s calls) ≡ false) → nat_lt 1 (count_on n calls) ≡ false
+count_one n slot [] f = refl
+count_one n zero (x ∷ calls) f =
+    ap (λ (ys : List (Option Running)). nat_lt 1 (length (if is_on n x then x ∷ ys else ys))) (none_on n calls (λ s. f (suc s) (λ e. absurd (cc)))) ∙ by (is_on n x)
+  where
+    by : (b : Bool) → nat_lt 1 (length (if b then x ∷ [] else [])) ≡ false
+    by true = refl
+    by false = refl
+count_one n (suc slot) (x ∷ calls) f =
+    ap (λ (b : Bool). nat_lt 1 (length (if b then x ∷ filter (is_on n) calls else filter (is_on n) calls))) (f 0 (λ e. absurd (cc)))
+    ∙ count_one n slot calls (λ s other. f (suc s) (λ e. other (let q : s ≡ slot = cc in q)))
+
+pub lone : (c slot : ℕ) (file : Option HandleFile) (p : List Line) → AloneBut c slot file p → Lone file (calls_at c p)
+lone c slot None p a = tt
+lone c slot (Some f) p a = count_one f.number.0 slot (calls_at c p) on
+  where
+    on : (s : ℕ) → (s ≡ slot → ⊥) → is_on f.number.0 (call_on s (calls_at c p)) ≡ false
+    on zero n = a 0 n
+    on (suc zero) n = a 1 n
+    on (suc (suc zero)) n = a 2 n
+    on (suc (suc (suc zero))) n = a 3 n
+    on (suc (suc (suc (suc s)))) n = refl

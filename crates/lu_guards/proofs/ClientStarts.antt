@@ -1,0 +1,95 @@
+-- Where the turns of a client in a covered run start, and what their events come to: nothing moves, or a call whose reply was heard is to be
+-- told; then the turn ends as it should. A message that is taken changes nothing by itself, and no call waits for a lock.
+use Rattle.std.proofs.Common.{◌≡◌, ℕ, suc, ◌+◌, List, [], ◌∷◌, ◌⊎◌, inl, inr, Option, Some, None, refl}
+use Rattle.lu_base.specs.declared.ids.At.{At}
+use Rattle.lu_base.specs.declared.ids.Node.TheVariants.{Client, Target}
+use Rattle.lu_base.specs.declared.ids.Stamp.{Stamp}
+use Rattle.lu_base.specs.declared.ids.Who.{Who}
+use Rattle.lu_msg.specs.declared.messages.Message.{Message}
+use Rattle.lu_msg.specs.declared.messages.Reply.{Reply as ReplyTo}
+use Rattle.lu_held.specs.declared.names.LockName.{LockName}
+use Rattle.lu_words.specs.Carried.{Flight, Running}
+use Rattle.lu_words.specs.Words.{Take, Line, line}
+use Rattle.lu_words.specs.Sent.{Sent}
+use Rattle.lu_client_rows.specs.Calls.{call_on}
+use Rattle.lu_client_rows.specs.Messages.{waiter}
+use Rattle.lu_client_rows.specs.Recovery.{on_calls, looks_stage, where_stage}
+use Rattle.lu_client_rows.specs.Rows.{rests}
+use Rattle.lu_client_rows.specs.Sending.{request_of, sends_request, resends}
+use Rattle.lu_client_rows.specs.Slots.{slots_go}
+use Rattle.lu_client_rows.specs.Locks.{trims, locks_go}
+use Rattle.lu_client_rows.specs.Sending as sending
+use Rattle.lu_client_rows.specs.States.{follow}
+use Rattle.lu_covered.specs.Covered.{AllCovered}
+use Rattle.lu_covered.specs.Heads.{IsAlive}
+use Rattle.lu_table.specs.Heads as table
+use Rattle.lu_table.specs.Runs.{limits_of}
+use Rattle.lu_guards.proofs.Guards.{Later, Ending, Grown}
+use Rattle.lu_guards.proofs.Lists.{turn}
+use Rattle.lu_guards.proofs.Ends.{closes_after}
+use Rattle.lu_guards.proofs.Turns.{Settled, owes_nothing, steps_after}
+use Rattle.lu_guards.proofs.ClientRests.{Good, Idle, Rested, Between, Ended, the_head, adds, Keeps, keeps_more, ended}
+use Rattle.lu_guards.proofs.ClientSlots.{slots_still, HasHeard, has_heard}
+
+-- ---- calls that wait for no lock
+
+pub nowhere : (who : Who) (boot t n : ℕ) (calls : List (Option Running)) → ((slot : ℕ) → Idle (call_on slot calls)) → on_calls (where_stage who boot t) n calls ≡ []
+nowhere who boot t n [] idle = refl
+nowhere who boot t n (None ∷ calls) idle = nowhere who boot t (n + 1) calls (λ slot. idle (suc slot))
+nowhere who boot t n (Some r ∷ calls) idle = rw (idle 0).0 (nowhere who boot t (n + 1) calls (λ slot. idle (suc slot)))
+
+pub no_looks : (t n : ℕ) (calls : List (Option Running)) → ((slot : ℕ) → Idle (call_on slot calls)) → on_calls (looks_stage t) n calls ≡ []
+no_looks t n [] idle = refl
+no_looks t n (None ∷ calls) idle = no_looks t (n + 1) calls (λ slot. idle (suc slot))
+no_looks t n (Some r ∷ calls) idle = rw (idle 0).0 (no_looks t (n + 1) calls (λ slot. idle (suc slot)))
+
+pub no_waiter : (name : LockName) (n : ℕ) (calls : List (Option Running)) → ((slot : ℕ) → Idle (call_on slot calls)) → waiter name n calls ≡ None
+no_waiter name n [] idle = refl
+no_waiter name n (None ∷ calls) idle = no_waiter name (n + 1) calls (λ slot. idle (suc slot))
+no_waiter name n (Some r ∷ calls) idle = rw (idle 0).0 (no_waiter name (n + 1) calls (λ slot. idle (suc slot)))
+
+module _ (head : table.Head) (c : ℕ) (stamp : Stamp) where
+  abbrev at : At
+  at = turn stamp (Client c)
+
+  -- the client lives, between its turns, and this one is later than all before
+  pub record Starts (p : List Line) : Type 0 where
+    pub grown : Grown (the_head head c stamp) p
+    pub covered : AllCovered p
+    pub settled : Settled p
+    pub later : Later p at
+    pub closed : (d : ℕ) → Ending p d → ⊥
+    pub alive : IsAlive (the_head head c stamp) p c
+    pub between : Between c p
+
+  pub starts_good : (p : List Line) → Starts p → Good head c at p
+  starts_good p s = record { grown = s.grown; covered = s.covered; steps = steps_after p at s.later; closes = closes_after p at s.closed; alive = s.alive }
+
+  -- ---- after the event
+
+  pub rests_from : (P : List Line → Type 0) → Keeps head c stamp P (Rested head c at) (slots_go 5 at) → Keeps head c stamp P (Ended head c at) (rests (limits_of head) at)
+  rests_from P k =
+      keeps_more head c stamp P (Rested head c at) (Ended head c at) (slots_go 5 at)
+      (λ k. follow (trims (limits_of head) k) (λ k. follow (locks_go (limits_of head) k) (λ k. sending.sends_all (limits_of head) k.who 0 k.imports) k) k) k (ended head c stamp)
+
+  -- nothing moves, or a call whose reply was heard
+  pub record HeardOf (p : List Line) : Type 0 where
+    pub slot : ℕ
+    pub running : Running
+    pub flight : Flight
+    pub reply : ReplyTo
+    pub heard : HasHeard head c stamp slot running flight reply p
+
+  abbrev pub After : List Line → Type 0
+  After p = Rested head c at p ⊎ HeardOf p
+
+  pub after_ends : Keeps head c stamp After (Ended head c at) (rests (limits_of head) at)
+  after_ends p (inl r) covered = rests_from (Rested head c at) (slots_still head c stamp) p r covered
+  after_ends p (inr h) covered = rests_from (HasHeard head c stamp h.slot h.running h.flight h.reply) (has_heard head c stamp h.slot h.running h.flight h.reply) p h.heard covered
+
+  -- a message that is taken changes nothing by itself
+  pub took_good : (p : List Line) (n t : ℕ) (m : Message) → Starts p → Sent p n (Target t) (Client c) m → Good head c at (line at (Take n (Target t) m) ∷ p)
+  took_good p n t m s sent = adds head c stamp p (Take n (Target t) m) (starts_good p s) (owes_nothing p at (Take n (Target t) m) s.settled) (record { sent = sent; later = s.later }) (λ u e. tt) tt tt refl
+
+  pub took_rested : (p : List Line) (n t : ℕ) (m : Message) → Starts p → Sent p n (Target t) (Client c) m → Rested head c at (line at (Take n (Target t) m) ∷ p)
+  took_rested p n t m s sent = record { good = took_good p n t m s sent; settled = tt; idle = s.between.idle; handles = s.between.handles; free = λ x i. (s.between.held x i).1 }

@@ -1,0 +1,105 @@
+-- Notices that a life is over: what a turn took is among what the laws say that it took, and a present life that is told so was
+-- evicted by the target that tells it.
+use Rattle.std.proofs.Common.{◌≡◌, ℕ, Bool, true, List, [], ◌∷◌, ◌≤◌, Option, Some, None, ⊎_elim, refl, sym, subst, ap, ◌∙◌, arith}
+use Rattle.std.specs.List.{list_any}
+use Rattle.std.proofs.lemmas.Bool.{cond_both, cond-true}
+use Rattle.lu_base.specs.declared.ids.At.{At}
+use Rattle.lu_base.specs.declared.ids.Node.{Node}
+use Rattle.lu_base.specs.declared.ids.Node.TheVariants.{Client, Target}
+use Rattle.lu_base.specs.declared.ids.Who.{Who}
+use Rattle.lu_msg.specs.declared.messages.Message.{Message}
+use Rattle.lu_msg.specs.declared.messages.Message.TheVariants as message
+use Rattle.lu_words.specs.Words.{Entry, Take, Line, line}
+use Rattle.lu_words.specs.Concerns.{only}
+use Rattle.lu_words.specs.Printed.{printed}
+use Rattle.lu_covered.specs.Calls.{life_at}
+use Rattle.lu_covered.specs.ClientStates.{life_of}
+use Rattle.lu_covered.specs.Heads.{Head}
+use Rattle.lu_laws.specs.Words.Pasts.{same_turn}
+use Rattle.lu_laws.specs.Words.Sends.{Sending, sending, with_taken, taken}
+use Rattle.lu_laws.specs.Laws.Acts.{is_notice, took_notice}
+use Rattle.lu_laws.proofs.Tests.{either_left, either_right}
+use Rattle.lu_guards.proofs.Guards.{Was, Took, Noticed, Newer, Allowed, Grown}
+use Rattle.lu_guards.proofs.Lists.{self, life_self}
+use Rattle.lu_guards.proofs.Only.{sent_was, was_only, was_more}
+use Rattle.lu_guards.proofs.Parts.{life_is_of}
+use Rattle.lu_facts.proofs.Groups.{Evicted, HoldsAt}
+use Rattle.lu_facts.proofs.All.{holds}
+use Rattle.lu_lawful.proofs.Turns.{same_turn_self}
+use Rattle.lu_lawful.proofs.Printed.{sending_is, evicted_is}
+
+abbrev pub on_way : (from to : Node) → Message → Sending
+on_way from to m = record { from = from; to = to; message = m }
+
+-- ---- what a turn took
+
+-- what it took passes a test that the message passes
+pub took_any : (head : Head) (past : List Line) (at : At) (from : Node) (m : Message) (p : Sending → Bool) → Grown head past → Took past at from m → p (on_way from at.node m) ≡ true → list_any p (taken (printed past) at) ≡ true
+took_any head [] at from m p g t is = absurd t
+took_any head (l ∷ past) at from m p g t is = by l.entry g.0 t (λ k. took_any head past at from m p g.1 k is)
+  where
+    more : (o : Option Sending) → list_any p (taken (printed past) at) ≡ true → list_any p (with_taken o (taken (printed past) at)) ≡ true
+    more None h = h
+    more (Some s) h = either_right (p s) h
+
+    by : (e : Entry) → Allowed head past l.at e → Took (line l.at e ∷ past) at from m → (Took past at from m → list_any p (taken (printed past) at) ≡ true) → list_any p (taken (printed (line l.at e ∷ past)) at) ≡ true
+    by (Take n sender msg) k t h = ⊎_elim
+        (λ (q : (l.at ≡ at) × (sender ≡ from) × (msg ≡ m)).
+        let now : same_turn l.at at ≡ true = subst (λ (v : At). same_turn l.at v ≡ true) q.0 (same_turn_self l.at) in
+        let here : p (on_way sender l.at.node msg) ≡ true =
+        ap (λ (v : Node). p (on_way v l.at.node msg)) q.1 ∙ ap (λ (v : At). p (on_way from v.node msg)) q.0 ∙ ap (λ (v : Message). p (on_way from at.node v)) q.2 ∙ is
+        in
+        subst (λ (v : List Sending). list_any p v ≡ true)
+        (sym (cond-true (same_turn l.at at) (with_taken (sending (printed past) n) (taken (printed past) at)) (taken (printed past) at) now ∙ ap (λ (o : Option Sending). with_taken o (taken (printed past) at)) (sending_is past n sender l.at.node msg k.ok.sent)))
+        (either_left (list_any p (taken (printed past) at)) here))
+        (λ (q : Took past at from m).
+        cond_both (same_turn l.at at) (with_taken (sending (printed past) n) (taken (printed past) at)) (taken (printed past) at) (λ (v : List Sending). list_any p v ≡ true) (λ b. more (sending (printed past) n) (h q)) (λ b. h q))
+        t
+    by _ k t h = h t
+
+-- what it took was sent to it
+pub took_was : (head : Head) (past : List Line) (at : At) (from : Node) (m : Message) → Grown head past → Took past at from m → Was past from at.node m
+took_was head [] at from m g t = absurd t
+took_was head (l ∷ past) at from m g t = was_more l past from at.node m (by l.entry g.0 t (λ k. took_was head past at from m g.1 k))
+  where
+    by : (e : Entry) → Allowed head past l.at e → Took (line l.at e ∷ past) at from m → (Took past at from m → Was past from at.node m) → Was past from at.node m
+    by (Take n sender msg) k t h = ⊎_elim
+        (λ (q : (l.at ≡ at) × (sender ≡ from) × (msg ≡ m)).
+        subst (λ (v : Node). Was past v at.node m) q.1 (subst (λ (v : At). Was past sender v.node m) q.0 (subst (λ (v : Message). Was past sender l.at.node v) q.2 (sent_was past n sender l.at.node msg k.ok.sent))))
+        h
+        t
+    by _ k t h = h t
+
+-- ---- notices
+
+-- the target that tells a client that its present life is over evicted it
+pub notice_evicted : (head : Head) (past : List Line) (at : At) (c : ℕ) → Grown head past → at.node ≡ Client c → (n : Noticed past at (life_at c past)) → Evicted (only n.target past) (life_at c past)
+notice_evicted head past at c g node n = ⊎_elim (λ (e : Evicted story who). e) (λ (newer : Newer head.clients story who). absurd (too_new newer)) (h.lives.over (Target n.target) (Client c) who n.boot was)
+  where
+    who : Who
+    who = life_at c past
+
+    story : List Line
+    story = only n.target past
+
+    h : HoldsAt head story
+    h = (holds head past g).at n.target
+
+    was : Was story (Target n.target) (Client c) (message.Evicted who n.boot)
+    was = was_only n.target past (Target n.target) (Client c) (message.Evicted who n.boot) (self n.target) (subst (λ (v : Node). Was past (Target n.target) v (message.Evicted who n.boot)) node (took_was head past at (Target n.target) (message.Evicted who n.boot) g n.took))
+
+    too_new : Newer head.clients story who → ⊥
+    too_new newer =
+        let mine : who ≡ life_of c story = life_is_of c n.target past in
+        let client : newer.life.client ≡ c = newer.client ∙ ap (λ (v : Who). v.client) mine ∙ h.phase.client c in
+        let low = subst (λ (v : ℕ). newer.life.life ≤ (life_of v story).life) client (h.lives.low newer.life newer.had) in
+        let same : (life_of c story).life ≡ who.life = ap (λ (v : Who). v.life) (sym mine) in
+        let less = newer.newer in
+        omega (arith, low, same, less)
+
+-- and so it is a notice for the law
+pub notice_taken : (head : Head) (past : List Line) (at : At) (c : ℕ) → Grown head past → at.node ≡ Client c → Noticed past at (life_at c past) → took_notice (printed past) at (life_at c past) ≡ true
+notice_taken head past at c g node n =
+    let who = life_at c past in
+    took_any head past at (Target n.target) (message.Evicted who n.boot) (λ (s : Sending). is_notice (printed past) who s.from s.message) g n.took
+    (rw (life_self who, evicted_is n.target past who ∙ notice_evicted head past at c g node n) refl)
