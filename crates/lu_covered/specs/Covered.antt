@@ -1,6 +1,7 @@
 -- Which runs the theorem covers so far: the calls that begin are on names or on bad handles, all that is told is told without bytes, no
--- close waits for another call on its open, and no target crashes, boots, closes or fails. Whatever messages are lost, repeated or late,
--- whoever dies, whoever waits for a lock, whatever is committed, and whoever is evicted and joins in a new life, is covered.
+-- close waits for another call on its open, and no target closes a recovery window or fails; targets may crash, boot and recover. Whatever
+-- messages are lost, repeated or late, whoever dies, whoever waits for a lock, whatever is committed, and whoever is evicted and joins in a
+-- new life, is covered.
 use Rattle.std.specs.Prelude.{◌≡◌, ◌⊎◌, ℕ, false, List, [], ◌∷◌, Option, Some, None}
 use Rattle.lu_base.specs.declared.ids.Node.{Node}
 use Rattle.lu_base.specs.declared.ids.Node.TheVariants.{Client}
@@ -8,8 +9,8 @@ use Rattle.lu_msg.specs.declared.messages.Message.{Message}
 use Rattle.lu_msg.specs.declared.messages.Message.TheVariants as message
 use Rattle.lu_msg.specs.declared.operations.Op.{Op}
 use Rattle.lu_words.specs.Carried.{Deed, HandleFile, Bad, Work, Running}
-use Rattle.lu_words.specs.Words.{Entry, Send, Take, Tick, Begin, Busy, Heard, Hold, Drop, Told, Life, Die, Queues, Flies, Serves, Settles, Binds, Unbinds, Pins, Unpins, Marks, Learns, Line}
-use Rattle.lu_words.specs.Words.{Skip, Act, Txn, Grant, Block, Release, Commit, Evict, Joined, Enters}
+use Rattle.lu_words.specs.Words.{Entry, Send, Take, Tick, Begin, Busy, Heard, Hold, Drop, Told, Life, Die, Queues, Flies, Knows, Serves, Settles, Binds, Unbinds, Pins, Unpins, Marks, Unmarks, Learns, Line}
+use Rattle.lu_words.specs.Words.{Skip, Act, Txn, Grant, Block, Release, Commit, Crash, Boot, Back, Evict, Joined, Enters, Stores, Brings, Says, Wishes}
 use Rattle.lu_client_rows.specs.Starts.{is_on}
 use Rattle.lu_covered.specs.Calls.{becomes, call_at}
 
@@ -24,6 +25,10 @@ IsCoveredMessage (message.Reply r) = Unit {0}
 IsCoveredMessage (message.Block who boot cookie) = Unit {0}
 IsCoveredMessage (message.Cancel who boot cookie) = Unit {0}
 IsCoveredMessage (message.Join who boot) = Unit {0}
+IsCoveredMessage (message.Up boot) = Unit {0}
+IsCoveredMessage (message.Replay r) = Unit {0}
+IsCoveredMessage (message.Lock r) = Unit {0}
+IsCoveredMessage (message.Word who boot replays locks seen) = Unit {0}
 IsCoveredMessage (message.Ready who boot committed) = Unit {0}
 IsCoveredMessage (message.Evicted who boot) = Unit {0}
 IsCoveredMessage _ = ⊥
@@ -52,7 +57,9 @@ IsCovered (Life who) = Unit {0}
 IsCovered Die = Unit {0}
 IsCovered (Queues target queued) = Unit {0}
 IsCovered (Flies target flight) = Unit {0}
+IsCovered (Knows target boot) = Unit {0}
 IsCovered (Serves target boot) = Unit {0}
+IsCovered (Unmarks target) = Unit {0}
 IsCovered (Settles target to) = Unit {0}
 IsCovered (Binds handle file) = Unit {0}
 IsCovered (Unbinds handle) = Unit {0}
@@ -67,6 +74,13 @@ IsCovered (Grant lock asked) = IsByAct asked
 IsCovered (Block called) = Unit {0}
 IsCovered (Release lock) = Unit {0}
 IsCovered (Commit to batch) = Unit {0}
+IsCovered Crash = Unit {0}
+IsCovered (Boot boot disk) = Unit {0}
+IsCovered (Back who) = Unit {0}
+IsCovered (Stores replay) = Unit {0}
+IsCovered (Brings lock) = Unit {0}
+IsCovered (Says said) = Unit {0}
+IsCovered (Wishes who) = Unit {0}
 IsCovered (Evict who cause) = Unit {0}
 IsCovered (Joined who) = Unit {0}
 IsCovered (Enters request) = Unit {0}

@@ -5,7 +5,7 @@ use Rattle.lu_words.specs.Carried.{Queued, Flight}
 use Rattle.lu_words.specs.Words.{Line}
 use Rattle.lu_words.specs.Fields.{at_import}
 pub use Rattle.lu_client_rows.specs.Imports.{rest, without_flight, reads_known, known_after, has_tag, above_tags, free_from, free_tag}
-pub use Rattle.lu_client_rows.specs.Imports.{Standing, Joining, Recovering, Serving, interrupted, reads_standing, standing_after, reads_last, last_after, reads_queue, queue_after, reads_flights, flights_after}
+pub use Rattle.lu_client_rows.specs.Imports.{Kept, nothing_kept, reads_kept, kept_after, Standing, Joining, Recovering, Serving, interrupted, reads_standing, standing_after, reads_last, last_after, reads_queue, queue_after, reads_flights, flights_after}
 
 -- the queue, its front first
 abbrev pub queue_at : ℕ → ℕ → List Line → List Queued
@@ -26,3 +26,7 @@ known_at c t past = at_import reads_known known_after 1 c t past
 -- how the client stands there
 abbrev pub standing_at : ℕ → ℕ → List Line → Standing
 standing_at c t past = at_import reads_standing standing_after Serving c t past
+
+-- what the client has to tell it in a recovery
+abbrev pub kept_at : ℕ → ℕ → List Line → Kept
+kept_at c t past = at_import reads_kept kept_after nothing_kept c t past

@@ -8,10 +8,10 @@ use Rattle.lu_msg.specs.declared.messages.Request.{Request as RequestOf}
 use Rattle.lu_machine.specs.Tree.{Tree}
 use Rattle.lu_machine.specs.Footprint.{Operation, after, forget}
 use Rattle.lu_words.specs.Carried.{Deed, Slot}
-use Rattle.lu_words.specs.Words.{Entry, Act, Txn, Commit, Boot, Enters, Block, Release, Evict, Joined, same_life}
+use Rattle.lu_words.specs.Words.{Entry, Act, Txn, Commit, Crash, Boot, Enters, Block, Release, Evict, Joined, same_life}
 use Rattle.lu_base.specs.declared.locks.Lock.{Lock}
 use Rattle.lu_words.specs.Carried.{Called}
-use Rattle.lu_target_rows.specs.Phase.{greatest_cookie}
+use Rattle.lu_target_rows.specs.Phase.{first_of, greatest_cookie}
 use Rattle.lu_target_rows.specs.Lives.{is_life, with_life, without_lives}
 use Rattle.lu_target_rows.specs.Locks.{with_locks, without_lock, locks_without, called_without}
 
@@ -37,10 +37,12 @@ committed_after m _ = m
 
 abbrev pub reads_count : Entry → Bool
 reads_count (Txn d) = true
+reads_count (Boot boot disk) = true
 reads_count _ = false
 
 abbrev pub count_after : ℕ → Entry → ℕ
 count_after n (Txn d) = n + 1
+count_after n (Boot boot disk) = 0
 count_after n _ = n
 
 -- ---- the tree of the metadata target
@@ -154,20 +156,23 @@ granted_after locks (Release lock) = without_lock lock locks
 granted_after locks (Evict who cause) = locks_without (who ∷ []) locks
 granted_after locks _ = locks
 
--- those whose release isn't shown: the locks of a life that leaves go one by one after it
+-- those whose release isn't shown, since the last crash: the locks of a life that leaves go one by one after it
 abbrev pub shown_after : List Lock → Entry → List Lock
 shown_after locks (Act d) = with_locks d.reply.locks locks
 shown_after locks (Release lock) = without_lock lock locks
+shown_after locks Crash = []
 shown_after locks _ = locks
 
 -- ---- the greatest cookie
 
 abbrev pub reads_cookie : Entry → Bool
 reads_cookie (Act d) = true
+reads_cookie (Boot boot disk) = true
 reads_cookie _ = false
 
 abbrev pub cookie_after : ℕ → Entry → ℕ
 cookie_after n (Act d) = greatest_cookie n d.reply.locks
+cookie_after n (Boot boot disk) = first_of boot
 cookie_after n _ = n
 
 -- ---- locks that were called back

@@ -1,5 +1,5 @@
 -- A target as its rows read it: its parts together, after a past of all targets and after one of its own alone.
-use Rattle.std.specs.Prelude.{ℕ, ◌+◌, ◌*◌, List, [], ◌∷◌}
+use Rattle.std.specs.Prelude.{ℕ, ◌+◌, ◌*◌, Bool, true, List, [], ◌∷◌}
 use Rattle.lu_base.specs.declared.ids.Node.TheVariants.{Client, Target}
 use Rattle.lu_base.specs.declared.ids.Txn.{Txn as TxnOf}
 use Rattle.lu_base.specs.declared.ids.Who.{Who}
@@ -7,7 +7,7 @@ use Rattle.lu_msg.specs.declared.messages.Request.{Request as RequestOf}
 use Rattle.lu_machine.specs.Tree.{Tree}
 use Rattle.lu_machine.specs.Footprint.{empty}
 use Rattle.lu_base.specs.declared.locks.Lock.{Lock}
-use Rattle.lu_words.specs.Carried.{Deed, Slot, Called}
+use Rattle.lu_words.specs.Carried.{Deed, Slot, Called, Said}
 use Rattle.lu_words.specs.Words.{Entry, Act, Txn, Commit, Boot, Enters, Block, Release, Evict, Line}
 use Rattle.lu_words.specs.Fields.{at_target}
 pub use Rattle.lu_target_rows.specs.Replies.{seen_in}
@@ -16,6 +16,9 @@ use Rattle.lu_covered.specs.TargetParts.{reads_lives, lives_after, reads_evicted
 use Rattle.lu_covered.specs.TargetParts.{reads_granted, granted_after, shown_after, reads_cookie, cookie_after, reads_called, called_after}
 use Rattle.lu_target_rows.specs.Phase.{first_of}
 use Rattle.lu_target_rows.specs.States.{lives_from}
+use Rattle.lu_target_rows.specs.Phase.{up_after, closed_after}
+use Rattle.lu_target_rows.specs.Kept.{replays_after, brought_after, words_after, wishes_after}
+use Rattle.lu_target_rows.specs.Windows.{Replayed, Window}
 
 pub record Server : Type 0 where
   pub boot : ℕ
@@ -90,7 +93,7 @@ abbrev pub server_start : Server
 server_start = record { boot = 1; count = 0; committed = none; tree = empty; log = []; waiting = []; granted = []; cookie = first_of 1; called = [] }
 
 abbrev pub server_after : ℕ → Server → Entry → Server
-server_after osts v (Boot boot disk) = record v { boot = boot }
+server_after osts v (Boot boot disk) = record v { boot = boot; count = count_after v.count (Boot boot disk); cookie = cookie_after v.cookie (Boot boot disk) }
 server_after osts v (Commit to batch) = record v { committed = record { 0 = to }; log = log_after v.log (Commit to batch) }
 server_after osts v (Enters r) = record v { waiting = waiting_after v.waiting (Enters r) }
 server_after osts v (Act d) =
@@ -138,6 +141,43 @@ lives_of clients (l ∷ past) = elim l.at.node [ Client c ↦ lives_of clients p
 abbrev pub evicted_of : List Line → List Who
 evicted_of [] = []
 evicted_of (l ∷ past) = elim l.at.node [ Client c ↦ evicted_of past | Target t ↦ evicted_after (evicted_of past) l.entry ]
+
+-- the boot of the last close: while it is the present one the target serves
+abbrev pub closed_of : List Line → ℕ
+closed_of [] = 1
+closed_of (l ∷ past) = elim l.at.node [ Client c ↦ closed_of past | Target t ↦ closed_after (closed_of past) l.entry ]
+
+abbrev pub up_of : List Line → Bool
+up_of [] = true
+up_of (l ∷ past) = elim l.at.node [ Client c ↦ up_of past | Target t ↦ up_after (up_of past) l.entry ]
+
+-- what it has taken since its boot of the lives that come back
+abbrev pub replays_of : List Line → List Replayed
+replays_of [] = []
+replays_of (l ∷ past) = elim l.at.node [ Client c ↦ replays_of past | Target t ↦ replays_after (replays_of past) l.entry ]
+
+abbrev pub brought_of : List Line → List Lock
+brought_of [] = []
+brought_of (l ∷ past) = elim l.at.node [ Client c ↦ brought_of past | Target t ↦ brought_after (brought_of past) l.entry ]
+
+abbrev pub words_of : List Line → List Said
+words_of [] = []
+words_of (l ∷ past) = elim l.at.node [ Client c ↦ words_of past | Target t ↦ words_after (words_of past) l.entry ]
+
+abbrev pub wishes_of : List Line → List Who
+wishes_of [] = []
+wishes_of (l ∷ past) = elim l.at.node [ Client c ↦ wishes_of past | Target t ↦ wishes_after (wishes_of past) l.entry ]
+
+abbrev pub window_of : (osts clients : ℕ) → List Line → Window
+window_of osts clients past =
+    record {
+      lives = lives_of clients past;
+      committed = (server_of osts past).committed.0;
+      replays = replays_of past;
+      brought = brought_of past;
+      words = words_of past;
+      wishes = wishes_of past;
+    }
 
 abbrev pub shown_of : List Line → List Lock
 shown_of [] = []

@@ -19,7 +19,7 @@ use Rattle.lu_covered.specs.Heads.{Head}
 use Rattle.lu_lawful.proofs.ClientHandles.{Tied}
 use Rattle.lu_lawful.proofs.Covers.{EntriesAlone}
 use Rattle.lu_lawful.proofs.Groups.{turn}
-use Rattle.lu_lawful.proofs.Guards.{Grown}
+use Rattle.lu_lawful.proofs.Grown.{Grown}
 use Rattle.lu_lawful.proofs.Opens.{opens_hold, bound_alone}
 use Rattle.lu_covered_scenes.specs.Covered as scenes
 use Rattle.lu_covered_scenes.proofs.Clients.{Calm, LineCalm, AllCalm, turn_calm}

@@ -1,5 +1,5 @@
 -- What comes to a node in a covered run whose calls are those of a covered scenario's lines: to the metadata target requests and locks that are
--- given back, to each target joins, all of the first boot; to a client of the run replies without a file's attributes, blocks, and word that
+-- given back, to each target joins, none of an older boot; to a client of the run replies without a file's attributes, blocks, and word that
 -- its life is served or is over. Where no turn may ask a disk, all is of first lives, and none joins.
 use Rattle.std.proofs.Common.{◌≡◌, ℕ, ◌+◌, ◌<◌, ◌≤◌, true, false, List, [], ◌∷◌, Option, Some, None, ◌⊎◌, inl, inr, ⊎_elim, refl, sym, subst, ap, ◌∙◌, zero, suc, arith, pos}
 use Rattle.std.specs.Prelude.{nat_eq}
@@ -28,7 +28,9 @@ use Rattle.lu_covered.specs.Calls.{operation_of, first_life}
 use Rattle.lu_covered.specs.ClientStates.{life_of, is_own}
 use Rattle.lu_covered.specs.Heads.{Head}
 use Rattle.lu_covered.specs.TargetStates.{lives_of, evicted_of}
-use Rattle.lu_lawful.proofs.Guards.{In, Was, EntryOk, EntryOf, IsOneOf, Newer, Grown, GrownOf}
+use Rattle.lu_lawful.proofs.Guards.{In, Was, EntryOk}
+use Rattle.lu_lawful.proofs.StoryGuards.{EntryOf, Newer}
+use Rattle.lu_lawful.proofs.Grown.{IsOneOf, Grown, GrownOf}
 use Rattle.lu_lawful.proofs.Lists.{self, own_is}
 use Rattle.lu_lawful.proofs.Only.{sent_was, was_only, grown_of}
 use Rattle.lu_lawful.proofs.Groups.{turn, Acted, Flew, Evicted, HoldsAt}
@@ -60,35 +62,58 @@ Goes (Target t) (Client c) (message.Ready who boot committed) = Unit {0}
 Goes (Target t) (Client c) (message.Evicted who boot) = Unit {0}
 Goes _ _ _ = ⊥
 
-send_goes : (past : List Line) (at : At) (node to : Node) (m : Message) → EntryOk past at node (Send to m) → Goes node to m
-send_goes past at (Client c) (Target t) (message.Request r) ok = ok
-send_goes past at (Client c) (Target t) (message.Cancel who boot cookie) ok = ok
-send_goes past at (Client c) (Target t) (message.Join who boot) ok = tt
-send_goes past at (Target t) (Client c) (message.Reply k) ok = ok.0
-send_goes past at (Target t) (Client c) (message.Block who boot cookie) ok = ok
-send_goes past at (Target t) (Client c) (message.Ready who boot committed) ok = tt
-send_goes past at (Target t) (Client c) (message.Evicted who boot) ok = tt
-send_goes past at node to m ok = absurd ok
+-- no target boots, so nobody tells of that
+module _ (MayAsk : Type 0) (osts : ℕ) where
+  send_goes : (past : List Line) (at : At) (node to : Node) (m : Message) → EntryOk past at node (Send to m) → Suits MayAsk osts (Send to m) → Goes node to m
+  send_goes past at (Client c) (Target t) (message.Request r) ok s = ok
+  send_goes past at (Client c) (Target t) (message.Cancel who boot cookie) ok s = ok
+  send_goes past at (Client c) (Target t) (message.Join who boot) ok s = tt
+  send_goes past at (Client c) (Target t) (message.Replay r) ok s = absurd s
+  send_goes past at (Client c) (Target t) (message.Lock r) ok s = absurd s
+  send_goes past at (Client c) (Target t) (message.Word who boot replays locks seen) ok s = absurd s
+  send_goes past at (Target t) (Client c) (message.Up boot) ok s = absurd s
+  send_goes past at (Target t) (Client c) (message.Reply k) ok s = ok.0
+  send_goes past at (Target t) (Client c) (message.Block who boot cookie) ok s = ok
+  send_goes past at (Target t) (Client c) (message.Ready who boot committed) ok s = tt
+  send_goes past at (Target t) (Client c) (message.Evicted who boot) ok s = tt
+  send_goes past at node to m ok s = absurd ok
 
-pub was_goes : (head : Head) (past : List Line) (from to : Node) (m : Message) → Grown head past → Was past from to m → Goes from to m
-was_goes head [] from to m g w = absurd w
-was_goes head (l ∷ past) from to m g w = by l.entry g.0.ok w (λ v. was_goes head past from to m g.1 v)
+  pub was_goes : (head : Head) (past : List Line) (from to : Node) (m : Message) → Grown head past → AllSuit MayAsk osts past → Was past from to m → Goes from to m
+  was_goes head [] from to m g s w = absurd w
+  was_goes head (l ∷ past) from to m g s w = by l.entry g.0.ok s.0 w (λ v. was_goes head past from to m g.1 s.1 v)
+    where
+      by : (e : Entry) → EntryOk past l.at l.at.node e → Suits MayAsk osts e → Was (line l.at e ∷ past) from to m → (Was past from to m → Goes from to m) → Goes from to m
+      by (Send node k) ok suits w h = ⊎_elim
+          (λ (p : (l.at.node ≡ from) × (node ≡ to) × (k ≡ m)).
+          subst (λ (v : Node). Goes v to m) p.0 (subst (λ (v : Node). Goes l.at.node v m) p.1 (subst (λ (x : Message). Goes l.at.node node x) p.2 (send_goes past l.at l.at.node node k ok suits))))
+          h
+          w
+      by e ok suits w h = h w
+
+-- a client sends to targets alone
+sent_to : (past : List Line) (at : At) (node : Node) (t : ℕ) (m : Message) → EntryOk past at node (Send (Target t) m) → (c : ℕ) × (node ≡ Client c)
+sent_to past at (Client c) t m ok = (c, refl)
+sent_to past at (Target u) t m ok = absurd ok
+
+by_client : (head : Head) (past : List Line) (t : ℕ) (from : Node) (m : Message) → Grown head past → Was past from (Target t) m → (c : ℕ) × (from ≡ Client c)
+by_client head [] t from m g w = absurd w
+by_client head (l ∷ past) t from m g w = by l.entry g.0.ok w (by_client head past t from m g.1)
   where
-    by : (e : Entry) → EntryOk past l.at l.at.node e → Was (line l.at e ∷ past) from to m → (Was past from to m → Goes from to m) → Goes from to m
+    by : (e : Entry) → EntryOk past l.at l.at.node e → Was (line l.at e ∷ past) from (Target t) m → (Was past from (Target t) m → (c : ℕ) × (from ≡ Client c)) → (c : ℕ) × (from ≡ Client c)
     by (Send node k) ok w h = ⊎_elim
-        (λ (p : (l.at.node ≡ from) × (node ≡ to) × (k ≡ m)).
-        subst (λ (v : Node). Goes v to m) p.0 (subst (λ (v : Node). Goes l.at.node v m) p.1 (subst (λ (x : Message). Goes l.at.node node x) p.2 (send_goes past l.at l.at.node node k ok))))
+        (λ (p : (l.at.node ≡ from) × (node ≡ Target t) × (k ≡ m)).
+        let one = sent_to past l.at l.at.node t k (subst (λ (v : Node). EntryOk past l.at l.at.node (Send v k)) p.1 ok) in
+        (one.0, sym p.0 ∙ one.1))
         h
         w
     by e ok w h = h w
 
 -- what came to a target is in its story, and what a target sent is in its
 pub came : (head : Head) (past : List Line) (t : ℕ) (from : Node) (m : Message) → Grown head past → Was past from (Target t) m → Was (only t past) from (Target t) m
-came head past t from m g w = by from (was_goes head past from (Target t) m g w) w
-  where
-    by : (v : Node) → Goes v (Target t) m → Was past v (Target t) m → Was (only t past) v (Target t) m
-    by (Client c) k w = was_only t past (Client c) (Target t) m (self t) w
-    by (Target u) k w = absurd k
+came head past t from m g w =
+    let one = by_client head past t from m g w in
+    subst (λ (v : Node). Was (only t past) v (Target t) m) (sym one.1)
+    (was_only t past (Client one.0) (Target t) m (self t) (subst (λ (v : Node). Was past v (Target t) m) one.1 w))
 
 told : (past : List Line) (t : ℕ) (to : Node) (m : Message) → Was past (Target t) to m → Was (only t past) (Target t) to m
 told past t to m w = was_only t past (Target t) to m (self t) w
@@ -244,7 +269,7 @@ module _ (scene : Scene) (covered : IsCovered scene) (head : Head) (osts : ℕ) 
     pub one : t ≤ osts
 
   pub target_served : (t : ℕ) (v : TargetState) → v.setting.id ≡ t → (AsksNoDisk scene → v.lives ≡ lives_from 0 head.clients) → (n : ℕ) (from : Node) (m : Message) → Sent past n from (Target t) m → Arrives t v m
-  target_served t v id lives n from m sent = by from m (was_goes head past from (Target t) m g w) w
+  target_served t v id lives n from m sent = by from m (was_goes (MayAsk scene) osts head past from (Target t) m g suits w) w
     where
       w : Was past from (Target t) m
       w = sent_was past n from (Target t) m sent
@@ -255,7 +280,7 @@ module _ (scene : Scene) (covered : IsCovered scene) (head : Head) (osts : ℕ) 
           let meant = (at_target 0).done.sent (Client c) (Target 0) (message.Request r) was in
           let same : meant.0.op ≡ r.op = ap (λ (x : RequestOf). x.op) (sym meant.2) in
           record {
-            served = (id ∙ names, ap (λ (x : RequestOf). x.boot) meant.2, has_slot v lives r.who meant.0 meant.1);
+            served = (id ∙ names, ((at_target 0).boots (Client c) (Target 0) (message.Request r) was).0, has_slot v lives r.who meant.0 meant.1);
             fits = asked_short r.op (subst (AskedBy past) same (flew_asked head past r.who meant.0 g (flew_whole 0 past r.who meant.0 meant.1)));
             one = omega (arith, names);
           }
@@ -264,19 +289,19 @@ module _ (scene : Scene) (covered : IsCovered scene) (head : Head) (osts : ℕ) 
           let back = (at_target 0).locks.cancels (Client c) (Target 0) who boot cookie was in
           let flew = (at_target 0).done.flew back.deed back.gave.0 in
           record {
-            served = (id ∙ names, back.first, has_slot v lives who flew.0 (subst (λ (x : Who). Flew (only 0 past) x flew.0) back.of flew.1));
+            served = (id ∙ names, ((at_target 0).boots (Client c) (Target 0) (message.Cancel who boot cookie) was).0, has_slot v lives who flew.0 (subst (λ (x : Who). Flew (only 0 past) x flew.0) back.of flew.1));
             fits = tt;
             one = omega (arith, names);
           }
       by (Client c) (message.Join who boot) goes w =
           let suits = was_suits (MayAsk scene) osts past (Client c) (Target t) (message.Join who boot) suits w in
-          record { served = (((at_target t).done.sent (Client c) (Target t) (message.Join who boot) (came head past t (Client c) (message.Join who boot) g w)).0, suits.0); fits = tt; one = suits.1 }
+          record { served = (((at_target t).boots (Client c) (Target t) (message.Join who boot) (came head past t (Client c) (message.Join who boot) g w)).0, suits.0); fits = tt; one = suits.1 }
       by from m goes w = absurd goes
 
   -- ---- to a client
 
   pub client_calm : (n c : ℕ) (from : Node) (m : Message) → Sent past n from (Client c) m → MessageCalm (MayAsk scene) m
-  client_calm n c from m sent = by from m (was_goes head past from (Client c) m g w) w
+  client_calm n c from m sent = by from m (was_goes (MayAsk scene) osts head past from (Client c) m g suits w) w
     where
       w : Was past from (Client c) m
       w = sent_was past n from (Client c) m sent
@@ -322,13 +347,13 @@ module _ (head : Head) (past : List Line) (g : Grown head past) (t : ℕ) where
   sent_one c (message.Evicted who boot) goes w =
       let was = told past t (Client c) (message.Evicted who boot) w in
       let meant = at_each.done.sent (Target t) (Client c) (message.Evicted who boot) was in
-      subst (λ (n : ℕ). n < head.clients) (sym meant.1)
+      subst (λ (n : ℕ). n < head.clients) (sym meant)
       (⊎_elim (λ (out : Evicted (only t past) who). had_one who (inr out)) (λ (n : Newer head.clients (only t past) who). subst (λ (x : ℕ). x < head.clients) n.client (had_one n.life n.had))
       (at_each.lives.over (Target t) (Client c) who boot was))
   sent_one c m goes w = absurd goes
 
-pub to_client : (head : Head) (past : List Line) → Grown head past → (n c : ℕ) (from : Node) (m : Message) → Sent past n from (Client c) m → c < head.clients
-to_client head past g n c from m sent = by from (was_goes head past from (Client c) m g w) w
+pub to_client : (MayAsk : Type 0) (osts : ℕ) (head : Head) (past : List Line) → Grown head past → AllSuit MayAsk osts past → (n c : ℕ) (from : Node) (m : Message) → Sent past n from (Client c) m → c < head.clients
+to_client MayAsk osts head past g suits n c from m sent = by from (was_goes MayAsk osts head past from (Client c) m g suits w) w
   where
     w : Was past from (Client c) m
     w = sent_was past n from (Client c) m sent

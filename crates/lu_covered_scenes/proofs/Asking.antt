@@ -1,22 +1,27 @@
 -- Lines that stand only where a turn may ask a disk: those of commits, of lives that leave or come, and of who is told so. And a join goes to a
--- target of the run.
+-- target of the run. No target boots, so nobody is told that one is up again, and nothing is told to one that recovers.
 use Rattle.std.proofs.Common.{◌≡◌, ℕ, ◌≤◌, List, [], ◌∷◌, ⊎_elim, subst}
 use Rattle.lu_base.specs.declared.ids.At.{At}
 use Rattle.lu_base.specs.declared.ids.Node.{Node}
-use Rattle.lu_base.specs.declared.ids.Node.TheVariants.{Target}
+use Rattle.lu_base.specs.declared.ids.Node.TheVariants.{Client, Target}
 use Rattle.lu_msg.specs.declared.messages.Message.{Message}
 use Rattle.lu_msg.specs.declared.messages.Message.TheVariants as message
-use Rattle.lu_words.specs.Words.{Entry, Send, Life, Commit, Evict, Joined, Line, line, with_turn}
+use Rattle.lu_words.specs.Words.{Entry, Send, Life, Commit, Boot, Evict, Joined, Line, line, with_turn}
 use Rattle.lu_lawful.proofs.Guards.{Was}
 use Rattle.lu_covered_scenes.proofs.Every.{Every}
 
 -- MayAsk: a turn may ask a disk
 abbrev pub Suits : Type 0 → ℕ → Entry → Type 0
 Suits MayAsk osts (Send (Target t) (message.Join who boot)) = MayAsk × (t ≤ osts)
+Suits MayAsk osts (Send (Target t) (message.Replay r)) = ⊥
+Suits MayAsk osts (Send (Target t) (message.Lock r)) = ⊥
+Suits MayAsk osts (Send (Target t) (message.Word who boot replays locks seen)) = ⊥
+Suits MayAsk osts (Send (Client c) (message.Up boot)) = ⊥
 Suits MayAsk osts (Send to (message.Ready who boot committed)) = MayAsk
 Suits MayAsk osts (Send to (message.Evicted who boot)) = MayAsk
 Suits MayAsk osts (Life who) = MayAsk
 Suits MayAsk osts (Commit to batch) = MayAsk
+Suits MayAsk osts (Boot boot disk) = ⊥
 Suits MayAsk osts (Evict who cause) = MayAsk
 Suits MayAsk osts (Joined who) = MayAsk
 Suits MayAsk osts _ = Unit {0}

@@ -23,7 +23,7 @@ use Rattle.lu_held.specs.Locks.{name_of, is_named, named, after as changed_by}
 use Rattle.lu_held.specs.Held.{is_held, changed, used, without}
 use Rattle.lu_words.specs.Carried.{Queued, Flight, Asking, Asked, Answered, Plain, Bad, Running}
 use Rattle.lu_words.specs.Concerns.{is_about}
-use Rattle.lu_words.specs.Words.{Entry, Send, Take, Tick, Begin, Busy, Heard, Hold, Drop, Told, Life, Die, Queues, Flies, Serves, Settles, Binds, Unbinds, Pins, Unpins, Marks, Learns, Commit, Evict, Joined}
+use Rattle.lu_words.specs.Words.{Entry, Send, Take, Tick, Begin, Busy, Heard, Hold, Drop, Told, Life, Die, Queues, Flies, Serves, Settles, Binds, Unbinds, Pins, Unpins, Marks, Learns, Commit, Boot, Evict, Joined}
 use Rattle.lu_client_rows.specs.Caches.{brought, held_as, with_held, with_brought, held_after}
 use Rattle.lu_client_rows.specs.Calls.{asks, asks_for, call_after, calls_from, call_on}
 use Rattle.lu_client_rows.specs.Facts.{Fact, name_facts, names_taught, inode_taught, is_one_for_each, last_of, taught, without_facts, facts_after}
@@ -162,6 +162,7 @@ module _ (P : Call → Type 0) (MayAsk : Type 0) (osts : ℕ) where
   line_suits (Life who) c = c
   line_suits (Send to m) c = absurd c
   line_suits (Commit to batch) c = absurd c
+  line_suits (Boot boot disk) c = absurd c
   line_suits (Evict who cause) c = absurd c
   line_suits (Joined who) c = absurd c
   line_suits e c = tt

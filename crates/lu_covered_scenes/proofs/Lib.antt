@@ -16,6 +16,8 @@ pub use Rattle.lu_lawful.proofs.Groups
 pub use Rattle.lu_lawful.proofs.OnNames
 pub use Rattle.lu_lawful.proofs.FactLines
 pub use Rattle.lu_lawful.proofs.Guards
+pub use Rattle.lu_lawful.proofs.StoryGuards
+pub use Rattle.lu_lawful.proofs.Grown
 pub use Rattle.lu_lawful.proofs.Lists
 pub use Rattle.lu_lawful.proofs.Parts
 pub use Rattle.lu_lawful.proofs.GuardTurns

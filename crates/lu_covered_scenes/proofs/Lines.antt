@@ -8,7 +8,7 @@ use Rattle.lu_msg.specs.declared.calls.Call.TheVariants as call
 use Rattle.lu_scene.specs.Grammar.{LineFits}
 use Rattle.lu_scene.specs.declared.scene.Scene.{Scene}
 use Rattle.lu_scene.specs.declared.scene.SceneLine.{SceneLine}
-use Rattle.lu_scene.specs.declared.scene.SceneLine.TheVariants.{Call, Run, RunSome, Deliver, Lose, Tick, Commit, CommitSome, Close, Die}
+use Rattle.lu_scene.specs.declared.scene.SceneLine.TheVariants.{Call, Run, RunSome, Deliver, Lose, Tick, Commit, CommitSome, Crash, Close, Die}
 use Rattle.lu_trace.specs.WellFormed.{IsCall}
 use Rattle.lu_covered.specs.Makes.{Path, CallMakes, CallMakesFile, Misses, StatsNoFile}
 use Rattle.lu_lawful.proofs.Asked.{Began}
@@ -76,6 +76,7 @@ IsKnown lines clients osts (Tick (Client client)) = client < clients
 IsKnown lines clients osts (Tick (Target target)) = target ≤ osts
 IsKnown lines clients osts (Commit target) = IsCommandTo lines osts target.0
 IsKnown lines clients osts (CommitSome target count) = IsCommandTo lines osts target.0
+IsKnown lines clients osts (Crash target) = IsCommandTo lines osts target.0
 IsKnown lines clients osts (Close target) = IsCommandTo lines osts target.0
 IsKnown lines clients osts (Die client) = client < clients
 IsKnown lines clients osts _ = ⊥
@@ -96,6 +97,7 @@ module _ (scene : Scene) where
   one_known (Tick (Target target)) fits is quiet among = fits
   one_known (Commit target) fits is quiet among = record { one = fits; some = quiet }
   one_known (CommitSome target count) fits is quiet among = record { one = fits.0; some = quiet }
+  one_known (Crash target) fits is quiet among = record { one = fits; some = quiet }
   one_known (Close target) fits is quiet among = record { one = fits; some = quiet }
   one_known (Die client) fits is quiet among = fits
   one_known _ fits is quiet among = absurd is

@@ -33,7 +33,7 @@ use Rattle.lu_machine.proofs.Paths.{Steps, walk_steps}
 use Rattle.lu_part.specs.declared.bits.TheConstants.{UPDATE, LAYOUT}
 use Rattle.lu_part.specs.declared.parts.Want.{Want}
 use Rattle.lu_words.specs.Carried.{Deed, Called, Slot, Glimpse}
-use Rattle.lu_words.specs.Words.{Entry, Tick, Skip, Act, Grant, Block, Release, Commit, Evict, Joined, Enters}
+use Rattle.lu_words.specs.Words.{Entry, Tick, Skip, Act, Grant, Block, Release, Commit, Crash, Evict, Joined, Enters}
 use Rattle.lu_target_rows.specs.Glimpses.{glimpses_of, glimpses_end}
 use Rattle.lu_target_rows.specs.Leaving.{last_of as last_committed, commits, evicted, ready, all_released, locks_of, evictions, all_go, condemned, expels, sends_again, ticked, life_of, admits, row_admits, by_life, is_over, row_join}
 use Rattle.lu_target_rows.specs.Lives.{is_life, slot_in}
@@ -54,7 +54,7 @@ use Rattle.lu_lawful.proofs.Lists.{self}
 use Rattle.lu_lawful.proofs.OnNames.{IsOnNames}
 use Rattle.lu_lawful.proofs.Readings.{changing_free}
 use Rattle.lu_covered_scenes.proofs.Every.{Every, every_more, every_filter}
-use Rattle.lu_covered_scenes.proofs.Targets.{AllServed, served_covered, Serves, serves_turn, serving_is, first_boot, releases_served, released_served, evictions_served, expels_served, MessageServed, tick_is, close_is}
+use Rattle.lu_covered_scenes.proofs.Targets.{AllServed, Serves, serves_turn, serving_is, first_boot, releases_served, released_served, evictions_served, expels_served, MessageServed, of_tick, close_is}
 
 -- ---- how many locks an operation is granted
 
@@ -321,7 +321,7 @@ abbrev Going : ℕ → (Target → List Entry) → Type 0
 Going n next = (w : Target) → Serves w → Below n w → Below n (turn w (next w))
 
 follow_going : (n : ℕ) (es : List Entry) (next : Target → List Entry) (v : Target) → Serves v → All es → Below n (turn v es) → Going n next → Below n (turn v (follow v es next))
-follow_going n es next v s all h more = follow_below n v es next (more (turn v es) (serves_turn v es (served_covered ⊥ (Unit {0}) es all) s) h)
+follow_going n es next v s all h more = follow_below n v es next (more (turn v es) (serves_turn ⊥ (Unit {0}) v es all s) h)
 
 -- what waited goes on: no lock waits in a queue
 all_go_below : (n : ℕ) (at : At) → Going n (all_go at)
@@ -431,10 +431,10 @@ module _ (n : ℕ) (v : Target) (s : Serves v) (h : Below n v) where
   slot_below m who rest true low all = all
   slot_below m who rest false low all = sent_below m v who low
 
-  first_below : (m : ℕ) (who : Who) (boot : ℕ) (rest : List Entry) → boot ≡ 1 → Below m (turn v rest) → Below m (turn v (by_boot v who (nat_lt boot v.boot) rest))
+  first_below : (m : ℕ) (who : Who) (boot : ℕ) (rest : List Entry) → 1 ≤ boot → Below m (turn v rest) → Below m (turn v (by_boot v who (nat_lt boot v.boot) rest))
   first_below m who boot rest first all = subst (λ (older : Bool). Below m (turn v (by_boot v who older rest))) (sym (first_boot v boot s first)) all
 
-  heeds_below : (m : ℕ) (who : Who) (boot : ℕ) (rest : List Entry) → boot ≡ 1 → Below m v → Below m (turn v rest) → Below m (turn v (heeds v who boot (while_serving v rest)))
+  heeds_below : (m : ℕ) (who : Who) (boot : ℕ) (rest : List Entry) → 1 ≤ boot → Below m v → Below m (turn v rest) → Below m (turn v (heeds v who boot (while_serving v rest)))
   heeds_below m who boot rest first low all =
       first_below m who boot (by_slot v who (is_life who v.lives) (while_serving v rest)) first
       (slot_below m who (while_serving v rest) (is_life who v.lives) low (cond_both (is_serving v) rest [] (λ (es : List Entry). Below m (turn v es)) (λ t. all) (λ t. low)))
@@ -462,13 +462,14 @@ again_below n v w cs (l ∷ locks) h =
     (λ t. again_below n v w cs locks h) (λ t. again_below n v w cs locks h)
 
 pub tick_below : (n : ℕ) (v : Target) (at : At) → Serves v → Below n v → Below (suc n) (turn v (target.row v at target.Ticks))
-tick_below n v at s h = more_below n (turn v (target.row v at target.Ticks)) (subst (λ (es : List Entry). Below n (turn v es)) (sym (tick_is v at s)) goes)
+tick_below n v at s h =
+    more_below n (turn v (target.row v at target.Ticks)) (of_tick v at (λ (es : List Entry). Below n (turn v es)) s goes (record { queue = h.queue; number = h.number; cookie = h.cookie }))
   where
     w : Target
     w = after v Tick
 
     now : Serves w
-    now = serves_turn v (Tick ∷ []) (tt, tt) s
+    now = serves_turn (Unit {0}) (Unit {0}) v (Tick ∷ []) (tt, tt) s
 
     goes : Below n (turn w (ticked at w))
     goes =
@@ -494,6 +495,14 @@ commit_command_below n v at count h =
 pub close_command_below : (n : ℕ) (v : Target) (at : At) → Serves v → Below n v → Below (suc n) (turn v (target.row v at target.Closes))
 close_command_below n v at s h =
     more_below n (turn v (target.row v at target.Closes)) (subst (λ (es : List Entry). Below n (turn v es)) (sym (close_is v at s)) (record { queue = h.queue; number = h.number; cookie = h.cookie }))
+
+pub crash_command_below : (n : ℕ) (v : Target) (at : At) → Below n v → Below (suc n) (turn v (target.row v at target.Crashes))
+crash_command_below n v at h =
+    more_below n (turn v (target.row v at target.Crashes))
+    (cond_both v.up (Crash ∷ []) (Skip ∷ []) (λ (es : List Entry). Below n (turn v es)) (λ t. crashed) (λ t. record { queue = h.queue; number = h.number; cookie = h.cookie }))
+  where
+    crashed : Below n (turn v (Crash ∷ []))
+    crashed = record { queue = h.queue; number = h.number; cookie = h.cookie }
 
 -- ---- numbers are left
 

@@ -1,6 +1,6 @@
 -- Whatever a covered scenario comes to, where no disk has failed, is a covered run of the whole table.
 use Rattle.std.proofs.Common.{◌≡◌, ℕ, zero, suc, ◌+◌, ◌<◌, ◌≤◌, Bool, true, false, List, [], ◌∷◌, Option, Some, None, inl, inr, refl, sym, subst, ap, arith}
-use Rattle.std.specs.Prelude.{if◌then◌else◌, length}
+use Rattle.std.specs.Prelude.{not, if◌then◌else◌, length}
 use Rattle.std.proofs.lemmas.Bool.Decides.{nat_tests}
 use Rattle.lu_base.specs.declared.ids.Node.{Node}
 use Rattle.lu_base.specs.declared.ids.Node.TheVariants.{Client, Target}
@@ -17,7 +17,7 @@ use Rattle.lu_client_rows.specs.Rows as client
 use Rattle.lu_client_rows.specs.States.{first_imports}
 use Rattle.lu_target_rows.specs.Rows as target
 use Rattle.lu_table.specs.Heads.{Head}
-use Rattle.lu_table.specs.Runs.{EventAt, lines_of, has_failed, IsRun, Meets, client_of, limits_of}
+use Rattle.lu_table.specs.Runs.{EventAt, lines_of, has_failed, IsRun, Meets, client_of, target_of, limits_of}
 use Rattle.lu_table.specs.Scenarios.{Config, Next, Stops, Fails, Goes, head_of, past_of, is_full, with_turn, left, Disks, start_fails, start_turn, is_down, turn_of, due, arrives, due_alive, comes, runs, next_by, with_stripes, Leads, here, more, start}
 use Rattle.lu_covered.specs.Covered.{AllCovered}
 use Rattle.lu_after.specs.InTable.{next_at}
@@ -31,7 +31,7 @@ use Rattle.lu_covered_scenes.proofs.Arrivals.{client_calm, to_client}
 use Rattle.lu_covered_scenes.proofs.Clients.{ImportCalm, Calm}
 use Rattle.lu_covered_scenes.proofs.ClientRows.{EventCalm}
 use Rattle.lu_covered_scenes.proofs.Lines.{MayAsk, Calls, IsCommandTo, AllKnown, lines_known}
-use Rattle.lu_covered_scenes.proofs.Turns.{Sound, IsTimely, Timely, Makes, made, Spared, covered_unfailed, past_grown, client_makes, client_timely, comes_makes, comes_timely, names_due, others_due, tick_makes, names_timely, other_timely, commit_makes, commit_timely, close_makes, close_timely}
+use Rattle.lu_covered_scenes.proofs.Turns.{Sound, IsTimely, Timely, Makes, made, Spared, covered_unfailed, past_grown, client_makes, client_timely, comes_makes, comes_timely, names_due, others_due, tick_makes, names_timely, other_timely, commit_makes, commit_timely, crash_makes, crash_timely, close_makes, close_timely}
 
 -- a configuration to which a covered scenario leads
 pub record Follows (scene : Scene) (c : Config) : Type 0 where
@@ -58,6 +58,11 @@ fewer_timely scene past few many less time quiet = by (time quiet)
 ticks_rest : (line : SceneLine) (rest : List SceneLine) → ticks_of rest ≤ ticks_of (line ∷ rest)
 ticks_rest (Tick (Target zero)) rest = omega arith
 ticks_rest line rest = omega arith
+
+-- a target that isn't down
+pub so_up : (up : Bool) → not up ≡ false → up ≡ true
+so_up true e = refl
+so_up false e = absurd (cc)
 
 module _ (scene : Scene) (covered : IsCovered scene) (disks : Disks) where
   abbrev head : Head
@@ -129,11 +134,11 @@ module _ (scene : Scene) (covered : IsCovered scene) (disks : Disks) where
   arrives_keeps c n from m (Client who) s known time sent up =
       let g = past_grown scene covered c s in
       due_keeps c (Client who) (client.Comes n from m) known
-      (λ room. client_makes scene covered c who (client.Comes n from m) s (client_meets head (past_of c) who n from m (to_client (covered_head head) (past_of c) g n who from m sent) up sent)
+      (λ room. client_makes scene covered c who (client.Comes n from m) s (client_meets head (past_of c) who n from m (to_client (MayAsk scene) head.osts (covered_head head) (past_of c) g s.suits n who from m sent) up sent)
       (client_calm scene covered (covered_head head) head.osts (past_of c) g s.suits s.begun n who from m sent))
       (client_timely scene covered c who (client.Comes n from m) (ticks_of c.lines) time)
   arrives_keeps c n from m (Target t) s known time sent up =
-      due_keeps c (Target t) (target.Comes n from m) known (comes_makes scene covered c t n from m s sent) (comes_timely scene covered c t n from m s sent (ticks_of c.lines) time)
+      due_keeps c (Target t) (target.Comes n from m) known (comes_makes scene covered c t n from m s sent (so_up (target_of head t (past_of c)).up up)) (comes_timely scene covered c t n from m s sent (ticks_of c.lines) time)
 
   comes_keeps : (c : Config) (n : ℕ) (o : Option SentMessage) (thrown taken : List SceneLine) → Sound scene c → sent_at c.posts n ≡ o → Left c thrown → Left c taken → Kept (comes head disks c n o thrown taken)
   comes_keeps c n None thrown taken s e if_thrown if_taken = left_moved c thrown s if_thrown
@@ -170,6 +175,12 @@ module _ (scene : Scene) (covered : IsCovered scene) (disks : Disks) where
       let sound = sound_left c rest s in
       due_keeps after (Target t) (target.Commits count) l.known (λ room. commit_makes scene covered after t sound to.some count room to.one) (commit_timely scene covered after t sound to.some count (ticks_of rest) l.time)
 
+  crash_keeps : (c : Config) (t : ℕ) (rest : List SceneLine) → Sound scene c → Left c rest → IsCommandTo scene.lines head.osts t → Kept (due head disks (left c rest) (Target t) target.Crashes)
+  crash_keeps c t rest s l to =
+      let after = left c rest in
+      let sound = sound_left c rest s in
+      due_keeps after (Target t) target.Crashes l.known (λ room. crash_makes scene covered after t sound to.some room to.one) (crash_timely scene covered after t sound to.some (ticks_of rest) l.time)
+
   close_keeps : (c : Config) (t : ℕ) (rest : List SceneLine) → Sound scene c → Left c rest → IsCommandTo scene.lines head.osts t → Kept (due head disks (left c rest) (Target t) target.Closes)
   close_keeps c t rest s l to =
       let after = left c rest in
@@ -194,7 +205,7 @@ module _ (scene : Scene) (covered : IsCovered scene) (disks : Disks) where
   step_keeps c (Die who ∷ rest) s l = alive_keeps c who client.Dies rest s (rest_left c (Die who) rest l) tt (λ up. record { one = l.known.0; alive = up })
   step_keeps c (Commit t ∷ rest) s l = commit_keeps c t.0 None rest s (rest_left c (Commit t) rest l) l.known.0
   step_keeps c (CommitSome t k ∷ rest) s l = commit_keeps c t.0 (Some k) rest s (rest_left c (CommitSome t k) rest l) l.known.0
-  step_keeps c (Crash t ∷ rest) s l = absurd l.known.0
+  step_keeps c (Crash t ∷ rest) s l = crash_keeps c t.0 rest s (rest_left c (Crash t) rest l) l.known.0
   step_keeps c (Boot t ∷ rest) s l = absurd l.known.0
   step_keeps c (Close t ∷ rest) s l = close_keeps c t.0 rest s (rest_left c (Close t) rest l) l.known.0
 

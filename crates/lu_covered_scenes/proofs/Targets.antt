@@ -1,13 +1,14 @@
--- A target's row in a covered scenario: where it serves in its first boot all its lines are covered, and none but a tick counts one. It asks a
--- disk for a command, for a join, and for a tick of which a lock that was called back expires.
-use Rattle.std.proofs.Common.{◌≡◌, ℕ, zero, suc, ◌+◌, ◌<◌, Bool, true, false, List, [], ◌∷◌, ◌++◌, Option, Some, None, refl, sym, subst, ap, ◌∙◌, arith}
+-- A target's row in a covered scenario: it is in its first boot, and serves while it is up. All its lines are covered, and none but a tick
+-- counts one. It asks a disk for a command, for a join, and for a tick of which a lock that was called back expires. Where it is down it
+-- passes all over.
+use Rattle.std.proofs.Common.{◌≡◌, ℕ, zero, suc, ◌+◌, ◌<◌, ◌≤◌, Bool, true, false, List, [], ◌∷◌, ◌++◌, Option, Some, None, refl, sym, subst, ap, ◌∙◌, arith}
 use Rattle.std.specs.Prelude.{nat_eq, nat_le, nat_lt, not, ◌&&◌, ◌||◌, if◌then◌else◌, length}
 use Rattle.std.specs.List.{list_any}
 use Rattle.std.proofs.lemmas.Bool.{cond_both}
 use Rattle.std.proofs.lemmas.Bool.Decides.{nat_tests}
 use Rattle.lu_base.specs.declared.ids.At.{At}
 use Rattle.lu_base.specs.declared.ids.Node.{Node}
-use Rattle.lu_base.specs.declared.ids.Node.TheVariants.{Target as ToTarget}
+use Rattle.lu_base.specs.declared.ids.Node.TheVariants.{Client as ToClient, Target as ToTarget}
 use Rattle.lu_base.specs.declared.ids.Who.{Who}
 use Rattle.lu_base.specs.declared.locks.Cause.{Cause}
 use Rattle.lu_base.specs.declared.locks.Cause.TheVariants.{Expired, Replaced}
@@ -65,6 +66,7 @@ LineServed Ticks MayAsk (Grant lock asked) = IsByAct asked
 LineServed Ticks MayAsk (Block called) = Unit {0}
 LineServed Ticks MayAsk (Release lock) = Unit {0}
 LineServed Ticks MayAsk (Commit to batch) = MayAsk
+LineServed Ticks MayAsk Crash = Unit {0}
 LineServed Ticks MayAsk (Evict who cause) = MayAsk
 LineServed Ticks MayAsk (Joined who) = MayAsk
 LineServed Ticks MayAsk (Enters r) = Unit {0}
@@ -89,6 +91,7 @@ module _ (Ticks MayAsk : Type 0) where
   line_covered (Block called) s = tt
   line_covered (Release lock) s = tt
   line_covered (Commit to batch) s = tt
+  line_covered Crash s = tt
   line_covered (Evict who cause) s = tt
   line_covered (Joined who) s = tt
   line_covered (Enters r) s = tt
@@ -101,10 +104,15 @@ module _ (Ticks MayAsk : Type 0) where
   -- and they stand where such lines may
   line_suits : (osts : ℕ) (e : Entry) → LineServed Ticks MayAsk e → Suits MayAsk osts e
   line_suits osts (Send (ToTarget t) (message.Join who boot)) s = absurd s
+  line_suits osts (Send (ToTarget t) (message.Replay r)) s = absurd s
+  line_suits osts (Send (ToTarget t) (message.Lock r)) s = absurd s
+  line_suits osts (Send (ToTarget t) (message.Word who boot replays locks seen)) s = absurd s
+  line_suits osts (Send (ToClient c) (message.Up boot)) s = absurd s
   line_suits osts (Send to (message.Ready who boot committed)) s = s
   line_suits osts (Send to (message.Evicted who boot)) s = s
   line_suits osts (Life who) s = absurd s
   line_suits osts (Commit to batch) s = s
+  line_suits osts (Boot boot disk) s = absurd s
   line_suits osts (Evict who cause) s = s
   line_suits osts (Joined who) s = s
   line_suits osts e s = tt
@@ -144,49 +152,51 @@ over_unfailed (Some n) at past es unfailed = by (nat_lt n (calls es)) refl
     by true e = let low : n < calls es = grind (arith, nat_tests) in let failed = failing_fails at es n past low in absurd (cc)
     by false e = failing_past es n (grind (arith, nat_tests))
 
--- ---- a target that serves in its first boot
+-- ---- a target in its first boot, in which it serves while it is up
 
 pub record Serves (v : Target) : Type 0 where
-  pub up : v.up ≡ true
   pub boot : v.boot ≡ 1
   pub closed : v.closed ≡ 1
   pub glimpses : v.glimpses ≡ []
   pub waiting : v.waiting ≡ []
 
-serves_line : (v : Target) (e : Entry) → IsCovered e → Serves v → Serves (after v e)
-serves_line v (Commit to batch) c s = record { up = s.up; boot = s.boot; closed = s.closed; glimpses = rw s.glimpses refl; waiting = rw s.waiting refl }
-serves_line v (Grant lock asked) c s = record { up = s.up; boot = s.boot; closed = s.closed; glimpses = s.glimpses; waiting = rw s.waiting refl }
-serves_line v Crash c s = absurd c
-serves_line v (Boot boot disk) c s = absurd c
-serves_line v (Close o) c s = absurd c
-serves_line v (Asks g) c s = absurd c
-serves_line v (Ends g) c s = absurd c
-serves_line v (Wait lock asked) c s = absurd c
-serves_line v e c s = record { up = s.up; boot = s.boot; closed = s.closed; glimpses = s.glimpses; waiting = s.waiting }
+serves_line : (MayAsk : Type 0) (osts : ℕ) (v : Target) (e : Entry) → Suits MayAsk osts e → IsCovered e → Serves v → Serves (after v e)
+serves_line MayAsk osts v (Commit to batch) suits c s = record { boot = s.boot; closed = s.closed; glimpses = rw s.glimpses refl; waiting = rw s.waiting refl }
+serves_line MayAsk osts v (Grant lock asked) suits c s = record { boot = s.boot; closed = s.closed; glimpses = s.glimpses; waiting = rw s.waiting refl }
+serves_line MayAsk osts v (Boot boot disk) suits c s = absurd suits
+serves_line MayAsk osts v (Close o) suits c s = absurd c
+serves_line MayAsk osts v (Asks g) suits c s = absurd c
+serves_line MayAsk osts v (Ends g) suits c s = absurd c
+serves_line MayAsk osts v (Wait lock asked) suits c s = absurd c
+serves_line MayAsk osts v e suits c s = record { boot = s.boot; closed = s.closed; glimpses = s.glimpses; waiting = s.waiting }
 
-pub serves_turn : (v : Target) (es : List Entry) → EntriesCovered es → Serves v → Serves (turn v es)
-serves_turn v [] c s = s
-serves_turn v (e ∷ es) c s = serves_turn (after v e) es c.1 (serves_line v e c.0 s)
+pub serves_turn : (Ticks MayAsk : Type 0) (v : Target) (es : List Entry) → AllServed Ticks MayAsk es → Serves v → Serves (turn v es)
+serves_turn Ticks MayAsk v [] all s = s
+serves_turn Ticks MayAsk v (e ∷ es) all s =
+    serves_turn Ticks MayAsk (after v e) es all.1 (serves_line MayAsk 0 v e (line_suits Ticks MayAsk 0 e all.0) (line_covered Ticks MayAsk e all.0) s)
 
-pub serves : (setting : Setting) (clients : ℕ) (past : List Line) → AllCovered past → Serves (target_at setting clients past)
-serves setting clients [] c = record { up = refl; boot = refl; closed = refl; glimpses = refl; waiting = refl }
-serves setting clients (l ∷ past) c = by (is_target setting.id l.at.node) refl (serves setting clients past c.1)
+pub serves : (MayAsk : Type 0) (osts : ℕ) (setting : Setting) (clients : ℕ) (past : List Line) → AllSuit MayAsk osts past → AllCovered past → Serves (target_at setting clients past)
+serves MayAsk osts setting clients [] suits c = record { boot = refl; closed = refl; glimpses = refl; waiting = refl }
+serves MayAsk osts setting clients (l ∷ past) suits c = by (is_target setting.id l.at.node) refl (serves MayAsk osts setting clients past suits.1 c.1)
   where
     by : (b : Bool) → is_target setting.id l.at.node ≡ b → Serves (target_at setting clients past) → Serves (target_at setting clients (l ∷ past))
-    by true mine s = subst Serves (sym (target_line setting clients past l.at l.entry mine)) (serves_line (target_at setting clients past) l.entry c.0 s)
+    by true mine s = subst Serves (sym (target_line setting clients past l.at l.entry mine)) (serves_line MayAsk osts (target_at setting clients past) l.entry suits.0 c.0 s)
     by false other s = subst Serves (sym (target_left setting clients past l.at l.entry other)) s
 
 pub serving_is : (v : Target) → Serves v → is_serving v ≡ true
 serving_is v s = rw (s.boot, s.closed) refl
 
--- what is of the first boot is of no older one
-pub first_boot : (v : Target) (boot : ℕ) → Serves v → boot ≡ 1 → nat_lt boot v.boot ≡ false
-first_boot v boot s first = rw (first, s.boot) refl
+-- nothing is of an older boot
+pub first_boot : (v : Target) (boot : ℕ) → Serves v → 1 ≤ boot → nat_lt boot v.boot ≡ false
+first_boot v boot s low = rw s.boot (not_below boot low)
+  where
+    not_below : (n : ℕ) → 1 ≤ n → nat_lt n 1 ≡ false
+    not_below n low = grind (arith, nat_tests)
 
 -- where no turn may ask a disk, life 1 of each client has a slot, as at first
 lives_line : (MayAsk : Type 0) (osts : ℕ) → (MayAsk → ⊥) → (v : Target) (e : Entry) → Suits MayAsk osts e → IsCovered e → (after v e).lives ≡ v.lives
 lives_line MayAsk osts none v (Commit to batch) s c = absurd (none s)
-lives_line MayAsk osts none v (Boot boot disk) s c = absurd c
+lives_line MayAsk osts none v (Boot boot disk) s c = absurd s
 lives_line MayAsk osts none v (Close o) s c = absurd c
 lives_line MayAsk osts none v e s c = refl
 
@@ -211,6 +221,7 @@ called_same MayAsk osts none setting clients (l ∷ past) s c = by l.entry s.0 c
     by (Release lock) suits is h = ap (λ (cs : List Called). if own then called_without lock cs else cs) h
     by (Commit to batch) suits is h = absurd (none suits)
     by (Evict who cause) suits is h = absurd (none suits)
+    by (Boot boot disk) suits is h = absurd suits
     by (Close o) suits is h = absurd is
     by e suits is h = h
 
@@ -222,7 +233,7 @@ module _ (MayAsk : Type 0) where
 
   -- these lines, and then those of the target as they left it
   follow_served : (es : List Entry) (next : Target → List Entry) (v : Target) → Serves v → All es → ((w : Target) → Serves w → All (next w)) → All (follow v es next)
-  follow_served es next v s all more = every_more (LineServed ⊥ MayAsk) es (next (turn v es)) all (more (turn v es) (serves_turn v es (served_covered ⊥ MayAsk es all) s))
+  follow_served es next v s all more = every_more (LineServed ⊥ MayAsk) es (next (turn v es)) all (more (turn v es) (serves_turn ⊥ MayAsk v es all s))
 
   grants_served : (d : Deed) (locks : List Lock) → All (grant_lines d locks ++ replies d ∷ [])
   grants_served d [] = (tt, tt)
@@ -316,10 +327,10 @@ module _ (MayAsk : Type 0) where
     slot_served who rest true e may all = all
     slot_served who rest false e may all = (may e, tt)
 
-    first_served : (who : Who) (boot : ℕ) (rest : List Entry) → boot ≡ 1 → All rest → All (by_boot v who (nat_lt boot v.boot) rest)
+    first_served : (who : Who) (boot : ℕ) (rest : List Entry) → 1 ≤ boot → All rest → All (by_boot v who (nat_lt boot v.boot) rest)
     first_served who boot rest first all = subst (λ (older : Bool). All (by_boot v who older rest)) (sym (first_boot v boot s first)) all
 
-    heeds_served : (who : Who) (boot : ℕ) (rest : List Entry) → boot ≡ 1 → (is_life who v.lives ≡ false → MayAsk) → All rest → All (heeds v who boot rest)
+    heeds_served : (who : Who) (boot : ℕ) (rest : List Entry) → 1 ≤ boot → (is_life who v.lives ≡ false → MayAsk) → All rest → All (heeds v who boot rest)
     heeds_served who boot rest first may all = first_served who boot (by_slot v who (is_life who v.lives) rest) first (slot_served who rest (is_life who v.lives) refl may all)
 
     while_served : (rest : List Entry) → All rest → All (while_serving v rest)
@@ -351,9 +362,9 @@ module _ (MayAsk : Type 0) where
 
 -- which messages may come: requests and locks that are given back come to the metadata target alone, joins to each
 abbrev pub MessageServed : Type 0 → Target → Message → Type 0
-MessageServed MayAsk v (message.Request r) = (v.setting.id ≡ 0) × (r.boot ≡ 1) × (is_life r.who v.lives ≡ false → MayAsk)
-MessageServed MayAsk v (message.Cancel who boot cookie) = (v.setting.id ≡ 0) × (boot ≡ 1) × (is_life who v.lives ≡ false → MayAsk)
-MessageServed MayAsk v (message.Join who boot) = (boot ≡ 1) × MayAsk
+MessageServed MayAsk v (message.Request r) = (v.setting.id ≡ 0) × (1 ≤ r.boot) × (is_life r.who v.lives ≡ false → MayAsk)
+MessageServed MayAsk v (message.Cancel who boot cookie) = (v.setting.id ≡ 0) × (1 ≤ boot) × (is_life who v.lives ≡ false → MayAsk)
+MessageServed MayAsk v (message.Join who boot) = (1 ≤ boot) × MayAsk
 MessageServed MayAsk v _ = ⊥
 
 pub comes_served : (MayAsk : Type 0) (v : Target) (at : At) (n : ℕ) (from : Node) (m : Message) → Serves v → MessageServed MayAsk v m → AllServed ⊥ MayAsk (target.row v at (target.Comes n from m))
@@ -397,20 +408,32 @@ again_served MayAsk w cs (l ∷ locks) =
 abbrev pub Expires : Type 0 → Target → Type 0
 Expires MayAsk v = (who : Who) (gone : List Who) → condemned (after v Tick) v.called ≡ who ∷ gone → MayAsk
 
-pub tick_is : (v : Target) (at : At) → Serves v → target.row v at target.Ticks ≡ Tick ∷ ticked at (after v Tick)
-tick_is v at s = up ∙ serving
-  where
-    up : target.row v at target.Ticks ≡ row_tick v at
-    up = ap (λ (b : Bool). if b then row_tick v at else Skip ∷ []) s.up
+-- where it is down, it passes over a tick, and a command
+pub down_is : (v : Target) (rest : List Entry) → v.up ≡ false → target.when_up v rest ≡ Skip ∷ []
+down_is v rest down = ap (λ (b : Bool). if b then rest else Skip ∷ []) down
 
+up_is : (v : Target) (rest : List Entry) → v.up ≡ true → target.when_up v rest ≡ rest
+up_is v rest up = ap (λ (b : Bool). if b then rest else Skip ∷ []) up
+
+pub tick_is : (v : Target) (at : At) → v.up ≡ true → Serves v → target.row v at target.Ticks ≡ Tick ∷ ticked at (after v Tick)
+tick_is v at up s = up_is v (row_tick v at) up ∙ serving
+  where
     serving : row_tick v at ≡ Tick ∷ ticked at (after v Tick)
     serving = ap (λ (b : Bool). if b then follow v (Tick ∷ []) (ticked at) else Tick ∷ []) (serving_is v s)
+
+-- what holds of the row of a tick
+pub of_tick : (v : Target) (at : At) (P : List Entry → Type 0) → Serves v → P (Tick ∷ ticked at (after v Tick)) → P (Skip ∷ []) → P (target.row v at target.Ticks)
+of_tick v at P s goes skips = by v.up refl
+  where
+    by : (b : Bool) → v.up ≡ b → P (target.row v at target.Ticks)
+    by true up = subst P (sym (tick_is v at up s)) goes
+    by false down = subst P (sym (down_is v (row_tick v at) down)) skips
 
 module _ (MayAsk : Type 0) (v : Target) (at : At) (s : Serves v) (may : Expires MayAsk v) where
   ticked_served : AllServed ⊥ MayAsk (ticked at (after v Tick))
   ticked_served =
       let w : Target = after v Tick in
-      let now = serves_line v Tick tt s in
+      let now = serves_line MayAsk 0 v Tick tt tt s in
       follow_served MayAsk (expels at (condemned w w.called) w) (λ x. sends_again x w.called w.glimpses x.granted) w now (expels_served MayAsk at (condemned w w.called) w may now)
       (λ x r. subst (λ (gs : List Glimpse). AllServed ⊥ MayAsk (sends_again x w.called gs x.granted)) (sym s.glimpses) (again_served MayAsk x w.called x.granted))
 
@@ -421,14 +444,16 @@ module _ (MayAsk : Type 0) (v : Target) (at : At) (s : Serves v) (may : Expires 
 
   pub tick_served : AllServed (Unit {0}) MayAsk (target.row v at target.Ticks)
   tick_served =
-      subst (AllServed (Unit {0}) MayAsk) (sym (tick_is v at s))
-      (tt, every_so (LineServed ⊥ MayAsk) (LineServed (Unit {0}) MayAsk) (ticked at (after v Tick)) line_ticked ticked_served)
+      of_tick v at (AllServed (Unit {0}) MayAsk) s
+      (tt, every_so (LineServed ⊥ MayAsk) (LineServed (Unit {0}) MayAsk) (ticked at (after v Tick)) line_ticked ticked_served) (tt, tt)
 
-  -- it counts one
-  pub tick_counts : (turn v (target.row v at target.Ticks)).ticks ≡ v.ticks + 1
-  tick_counts = ap (λ (es : List Entry). (turn v es).ticks) (tick_is v at s) ∙ served_still MayAsk (after v Tick) (ticked at (after v Tick)) ticked_served
+  -- it counts one, or none where the target is down
+  pub tick_counts : (turn v (target.row v at target.Ticks)).ticks ≤ v.ticks + 1
+  tick_counts =
+      of_tick v at (λ (es : List Entry). (turn v es).ticks ≤ v.ticks + 1) s
+      (let same = served_still MayAsk (after v Tick) (ticked at (after v Tick)) ticked_served in omega (arith, same)) (omega arith)
 
--- ---- a command: to commit, or to close a window, which a target that serves doesn't have
+-- ---- a command: to commit, to close a window, which a target in its first boot doesn't have, or to crash
 
 pub commit_served : (MayAsk : Type 0) (v : Target) (at : At) (count : Option ℕ) → MayAsk → Serves v → AllServed ⊥ MayAsk (target.row v at (target.Commits count))
 commit_served MayAsk v at count may s =
@@ -440,13 +465,13 @@ commit_served MayAsk v at count may s =
     by (d ∷ deeds) = (may, tt)
 
 pub close_is : (v : Target) (at : At) → Serves v → target.row v at target.Closes ≡ Skip ∷ []
-close_is v at s = up ∙ serving
+close_is v at s = cond_both v.up (row_closes v at) (Skip ∷ []) (λ (es : List Entry). es ≡ Skip ∷ []) (λ t. serving) (λ t. refl)
   where
-    up : target.row v at target.Closes ≡ row_closes v at
-    up = ap (λ (b : Bool). if b then row_closes v at else Skip ∷ []) s.up
-
     serving : row_closes v at ≡ Skip ∷ []
     serving = ap (λ (b : Bool). if b then Skip ∷ [] else row_close at v) (serving_is v s)
 
 pub close_served : (MayAsk : Type 0) (v : Target) (at : At) → Serves v → AllServed ⊥ MayAsk (target.row v at target.Closes)
 close_served MayAsk v at s = subst (AllServed ⊥ MayAsk) (sym (close_is v at s)) (tt, tt)
+
+pub crash_served : (MayAsk : Type 0) (v : Target) (at : At) → AllServed ⊥ MayAsk (target.row v at target.Crashes)
+crash_served MayAsk v at = cond_both v.up (Crash ∷ []) (Skip ∷ []) (AllServed ⊥ MayAsk) (λ t. (tt, tt)) (λ t. (tt, tt))

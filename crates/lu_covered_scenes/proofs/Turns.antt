@@ -29,7 +29,7 @@ use Rattle.lu_after.proofs.Runs.{turned_in, IsCommand, command_meets, target_unf
 use Rattle.lu_after.proofs.Targets.{target_own, target_other}
 use Rattle.lu_lawful.proofs.ClientHandles.{Tied}
 use Rattle.lu_lawful.proofs.Covers.{EntriesCovered, EntriesAlone}
-use Rattle.lu_lawful.proofs.Guards.{Grown}
+use Rattle.lu_lawful.proofs.Grown.{Grown}
 use Rattle.lu_lawful.proofs.Lists.{self}
 use Rattle.lu_lawful.proofs.Obey.{grown, between}
 use Rattle.lu_lawful.proofs.GuardTurns.{covered_head}
@@ -43,8 +43,8 @@ use Rattle.lu_covered_scenes.proofs.Asking.{AllSuit, turn_suits}
 use Rattle.lu_covered_scenes.proofs.Clients.{Calm, AllCalm, turn_calm, lines_covered, lines_suit}
 use Rattle.lu_covered_scenes.proofs.ClientRows.{EventCalm, row_calm}
 use Rattle.lu_covered_scenes.proofs.Lines.{MayAsk, Calls, AllOfLines, all_miss}
-use Rattle.lu_covered_scenes.proofs.Numbers.{Below, comes_below, tick_below, commit_command_below, close_command_below, more_below, has_numbers}
-use Rattle.lu_covered_scenes.proofs.Targets.{AllServed, Serves, Expires, serves, serves_turn, served_covered, served_suit, served_began, served_still, asks_none, over_unfailed, first_lives, called_same, comes_served, tick_served, tick_counts, expires_none, uncalled_none, commit_served, close_served}
+use Rattle.lu_covered_scenes.proofs.Numbers.{Below, comes_below, tick_below, commit_command_below, crash_command_below, close_command_below, more_below, has_numbers}
+use Rattle.lu_covered_scenes.proofs.Targets.{AllServed, Serves, Expires, serves, serves_turn, served_covered, served_suit, served_began, served_still, asks_none, over_unfailed, first_lives, called_same, comes_served, tick_served, tick_counts, expires_none, uncalled_none, commit_served, crash_served, close_served}
 
 -- ---- what is so of a configuration
 
@@ -127,7 +127,7 @@ module _ (scene : Scene) (covered : IsCovered scene) where
   unfailed c s = covered_unfailed (past_of c) s.covered
 
   pub target_serves : (c : Config) → Sound scene c → (t : ℕ) → Serves (target_of head t (past_of c))
-  target_serves c s t = serves (setting_of head t) head.clients (past_of c) s.covered
+  target_serves c s t = serves (MayAsk scene) head.osts (setting_of head t) head.clients (past_of c) s.suits s.covered
 
   -- where no turn asks a disk
   lives_stay : (c : Config) → Sound scene c → (t : ℕ) → AsksNoDisk scene → (target_of head t (past_of c)).lives ≡ lives_from 0 head.clients
@@ -238,7 +238,7 @@ module _ (scene : Scene) (covered : IsCovered scene) where
       are_covered = served_covered T (MayAsk scene) es all
 
       left : HasNumbers head past at (node.Target t) event
-      left = has_numbers (suc (length c.turns)) v es (serves_turn v es are_covered (target_serves c s t)) below (omega (arith, few))
+      left = has_numbers (suc (length c.turns)) v es (serves_turn T (MayAsk scene) v es all (target_serves c s t)) below (omega (arith, few))
 
       each : (P : Target → Type 0) → P (target_turn v es) → ((u : ℕ) → P (target_of head u past)) → (u : ℕ) → P (target_of head u (with_lines at es past))
       each P own others u = by (nat_eq u t) refl
@@ -292,6 +292,16 @@ module _ (scene : Scene) (covered : IsCovered scene) where
     pub commit_timely : (count : Option ℕ) (left : ℕ) → Timely scene left (past_of c) → Timely scene left (past_of (made c (node.Target t) (target.Commits count)))
     commit_timely count left time = target_timely c t (target.Commits count) left (commits count) time
 
+    crashes : AllServed ⊥ (MayAsk scene) (lines_at c (node.Target t) target.Crashes)
+    crashes = crash_served (MayAsk scene) (target_of head t (past_of c)) (next_at c (node.Target t))
+
+    pub crash_makes : length c.turns < 65536 → t ≤ head.osts → Makes c (node.Target t) target.Crashes
+    crash_makes few one =
+        commands_makes c t target.Crashes s tt crashes (crash_command_below (length c.turns) (target_of head t (past_of c)) (next_at c (node.Target t)) (s.below t)) few one
+
+    pub crash_timely : (left : ℕ) → Timely scene left (past_of c) → Timely scene left (past_of (made c (node.Target t) target.Crashes))
+    crash_timely left time = target_timely c t target.Crashes left crashes time
+
     pub close_makes : length c.turns < 65536 → t ≤ head.osts → Makes c (node.Target t) target.Closes
     close_makes few one =
         commands_makes c t target.Closes s tt closes (close_command_below (length c.turns) (target_of head t (past_of c)) (next_at c (node.Target t)) (target_serves c s t) (s.below t)) few one
@@ -314,10 +324,11 @@ module _ (scene : Scene) (covered : IsCovered scene) where
     served : AllServed ⊥ (MayAsk scene) (lines_at c (node.Target t) heard)
     served = comes_served (MayAsk scene) its (next_at c (node.Target t)) n from m (target_serves c s t) arrives.served
 
-    pub comes_makes : length c.turns < 65536 → Makes c (node.Target t) heard
-    comes_makes few =
+    -- where it is up
+    pub comes_makes : its.up ≡ true → length c.turns < 65536 → Makes c (node.Target t) heard
+    comes_makes up few =
         let serves_now = target_serves c s t in
-        served_makes ⊥ c t heard s few (arrives.one, target_unfailed head t (past_of c) (unfailed c s), serves_now.up, sent) served
+        served_makes ⊥ c t heard s few (arrives.one, target_unfailed head t (past_of c) (unfailed c s), up, sent) served
         (comes_below (length c.turns) its serves_now (s.below t) (MayAsk scene) (next_at c (node.Target t)) n from m arrives.served arrives.fits)
         (let low = s.ticks t in let same = served_still (MayAsk scene) its (lines_at c (node.Target t) heard) served in omega (arith, low, same))
 
@@ -356,7 +367,7 @@ module _ (scene : Scene) (covered : IsCovered scene) where
     expires : Expires (MayAsk scene) it
     expires who gone e quiet = let due = none quiet in absurd (cc)
 
-    counts : (target_turn it (lines_at c (node.Target t) target.Ticks)).ticks ≡ it.ticks + 1
+    counts : (target_turn it (lines_at c (node.Target t) target.Ticks)).ticks ≤ it.ticks + 1
     counts = tick_counts (MayAsk scene) it (next_at c (node.Target t)) (target_serves c s t) expires
 
     pub tick_makes : length c.turns < 65536 → t ≤ head.osts → Makes c (node.Target t) target.Ticks

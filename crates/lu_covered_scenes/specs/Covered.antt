@@ -1,6 +1,6 @@
 -- The scenarios whose runs the theorem covers so far: clients begin calls on names, opens and closes among them, messages come or are lost, time
--- goes on, clients die, targets commit, all of it or some, or are told to close a window that they don't have. A `stat` must find no file, whose
--- size it would ask for. Whoever doesn't give back a lock in time is evicted, and joins in a new life.
+-- goes on, clients die, targets commit, all of it or some, or are told to close a window that they don't have, or crash, and stay down. A `stat`
+-- must find no file, whose size it would ask for. Whoever doesn't give back a lock in time is evicted, and joins in a new life.
 use Rattle.std.specs.Prelude.{◌<◌, ◌+◌, ℕ, zero, List, [], ◌∷◌, All, ◌⊎◌}
 use Rattle.lu_base.specs.declared.ids.Node.TheVariants.{Target}
 use Rattle.lu_msg.specs.declared.calls.Call.{Call as CallOf}
@@ -53,6 +53,7 @@ IsLineCovered Files (Lose number) = Unit {0}
 IsLineCovered Files (Tick node) = Unit {0}
 IsLineCovered Files (Commit target) = Unit {0}
 IsLineCovered Files (CommitSome target count) = Unit {0}
+IsLineCovered Files (Crash target) = Unit {0}
 IsLineCovered Files (Close target) = Unit {0}
 IsLineCovered Files (Die client) = Unit {0}
 IsLineCovered Files _ = ⊥
@@ -101,7 +102,8 @@ AllMiss lines = All (LineMisses (IsMade lines)) lines
 abbrev pub EvictsNone : Scene → Type 0
 EvictsNone scene = (ticks_of scene.lines < scene.head.expire) ⊎ AllMiss scene.lines
 
--- ---- scenarios in which no turn asks a disk: a target does so for a command, and where it evicts a client
+-- ---- scenarios in which no turn asks a disk: a target does so for a command, but for a `crash`, and where it evicts a client. A `crash` is a
+-- command all the same, so in these scenarios each target stays up
 
 pub record AsksNoDisk (scene : Scene) : Type 0 where
   pub commands : All IsNoCommand scene.lines

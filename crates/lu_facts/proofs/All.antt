@@ -5,10 +5,12 @@ use Rattle.lu_base.specs.declared.ids.Stamp.{Stamp}
 use Rattle.lu_words.specs.Words.{Entry, Line, line}
 use Rattle.lu_words.specs.Concerns.{only}
 use Rattle.lu_covered.specs.Heads.{Head}
-use Rattle.lu_guards.proofs.Guards.{EntryOf, IsOfFirst, IsOneOf, Allowed, Grown, GrownOf}
+use Rattle.lu_guards.proofs.StoryGuards.{EntryOf}
+use Rattle.lu_guards.proofs.Grown.{IsOfFirst, IsOneOf, Allowed, Grown, GrownOf}
 use Rattle.lu_guards.proofs.Only.{grown_of}
 use Rattle.lu_facts.proofs.Groups.{turn, Done, Locks, HoldsAt, Reaches, Holds}
 use Rattle.lu_facts.proofs.Phase.{keeps_phase}
+use Rattle.lu_facts.proofs.Boots.{keeps_boots}
 use Rattle.lu_facts.proofs.Numbers.{keeps_numbers, keeps_room}
 use Rattle.lu_facts.proofs.Done.{keeps_done}
 use Rattle.lu_facts.proofs.Locks.{locks_start, keeps_locks}
@@ -24,18 +26,19 @@ step_at head past stamp node e ok first one h =
     let done : Done head.osts (line (turn stamp node) e ∷ past) = keeps_done head past stamp node e ok h.phase h.numbers h.done in
     let locks : Locks head.osts (line (turn stamp node) e ∷ past) = keeps_locks head past stamp node e ok first h.phase h.numbers h.done h.locks in
     record {
-      phase = keeps_phase head past stamp node e ok h.phase;
+      phase = keeps_phase head past stamp node e ok h.done h.boots h.phase;
       numbers = keeps_numbers head past stamp node e ok h.phase h.numbers;
       room = keeps_room head past stamp node e ok h.room;
       done = done;
       locks = locks;
       lives = keeps_lives head past stamp node e ok one h.done done locks h.lives;
+      boots = keeps_boots head past stamp node e ok h.phase h.boots;
     }
 
 first_at : (head : Head) → HoldsAt head []
 first_at head =
     record {
-      phase = record { boot = refl; known = λ c. refl; client = λ c. refl; positive = λ c. omega arith };
+      phase = record { closed = refl; low = omega arith; count = omega arith; least = λ c. omega arith; known = λ c. omega arith; served = λ c s. refl; client = λ c. refl; positive = λ c. omega arith };
       numbers = record {
         positive = λ who f i. absurd i;
         tagged = λ who f i. absurd i;
@@ -61,6 +64,7 @@ first_at head =
       };
       locks = locks_start head.osts;
       lives = lives_start head.clients;
+      boots = λ from to m w. absurd w;
     }
 
 pub holds_at : (head : Head) (past : List Line) → GrownOf head past → HoldsAt head past

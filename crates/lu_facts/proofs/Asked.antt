@@ -18,7 +18,8 @@ use Rattle.lu_covered.specs.Imports.{rest, queue_at}
 use Rattle.lu_covered.specs.Known.{notes_at, known_answer}
 use Rattle.lu_covered.specs.ClientStates.{queue_of, life_of, is_own}
 use Rattle.lu_covered.specs.Heads.{Head}
-use Rattle.lu_guards.proofs.Guards.{In, EntryOk, Allowed, Grown}
+use Rattle.lu_guards.proofs.Guards.{In, EntryOk}
+use Rattle.lu_guards.proofs.Grown.{Allowed, Grown}
 use Rattle.lu_guards.proofs.Lists.{in_append}
 use Rattle.lu_guards.proofs.Parts.{queue_now}
 use Rattle.lu_facts.proofs.Groups.{turn, Flew, Acted}

@@ -18,7 +18,9 @@ use Rattle.lu_words.specs.Concerns.{only}
 use Rattle.lu_covered.specs.Calls.{asks, asks_for, call_after, call_at, life_at}
 use Rattle.lu_covered.specs.Imports.{rest, queue_at, without_flight, flights_at}
 use Rattle.lu_covered.specs.Heads.{Head}
-use Rattle.lu_guards.proofs.Guards.{In, Noticed, Ending, Closes, QueuesOk, FliesOk, EntryOk, Grown}
+use Rattle.lu_guards.proofs.Guards.{In, Noticed, Ending, Closes, QueuesOk, EntryOk}
+use Rattle.lu_guards.proofs.StoryGuards.{FliesOk}
+use Rattle.lu_guards.proofs.Grown.{Grown}
 use Rattle.lu_guards.proofs.Lists.{self, in_append, in_filter}
 use Rattle.lu_guards.proofs.Parts.{queue_now, flights_now}
 use Rattle.lu_facts.proofs.Groups.{turn, CallOf, Apart, Asks}

@@ -11,7 +11,8 @@ use Rattle.lu_words.specs.Words.{Entry, Tick, Begin, Stands, Queues, Heard, Told
 use Rattle.lu_words.specs.Fields.{on}
 use Rattle.lu_covered.specs.Heads.{Head}
 use Rattle.lu_covered.specs.Calls.{begun, asks, asks_for, reads_call, call_after, call_at}
-use Rattle.lu_guards.proofs.Guards.{Later, Begins, Starts, Owes, EntryOk, Grown}
+use Rattle.lu_guards.proofs.Guards.{Later, Begins, Starts, Owes, EntryOk}
+use Rattle.lu_guards.proofs.Grown.{Grown}
 use Rattle.lu_guards.proofs.Lists.{self}
 use Rattle.lu_facts.proofs.Groups.{turn}
 

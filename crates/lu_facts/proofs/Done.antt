@@ -23,10 +23,11 @@ use Rattle.lu_covered.specs.Deeds.{deed, locks_of, again}
 use Rattle.lu_target_rows.specs.Lives.{is_life}
 use Rattle.lu_covered.specs.ClientStates.{known_of, life_of, is_own}
 use Rattle.lu_covered.specs.Heads.{Head}
-use Rattle.lu_guards.proofs.Guards.{In, Was, AskOk, HeardOk, LifeOf, EntersOk, SendOf, EntryOf}
+use Rattle.lu_guards.proofs.Guards.{In, Was}
+use Rattle.lu_guards.proofs.StoryGuards.{AskOk, HeardOk, LifeOf, EntersOk, SendOf, EntryOf}
 use Rattle.lu_guards.proofs.Lists.{self, in_append, in_filter, life_is, own_is}
 use Rattle.lu_facts.proofs.Groups.{turn, Flew, Acted, Hears, Phase, Numbers, life_request, FlewFor, DoneFor, Meant, Waits, Done}
-use Rattle.lu_facts.proofs.Phase.{life_rises}
+use Rattle.lu_facts.proofs.Phase.{serves_first, life_rises}
 
 -- ---- slots
 
@@ -54,9 +55,13 @@ meant_more past new g (Target t) (message.Request r) h = (h.0, g.flew r.who h.0 
 meant_more past new g (Client c) (message.Reply k) h = (h.0, g.acted h.0 h.1, h.2, h.3)
 meant_more past new g (Client c) (message.Block who boot cookie) h = tt
 meant_more past new g (Target t) (message.Cancel who boot cookie) h = tt
-meant_more past new g (Target t) (message.Join who boot) h = let le = h.1 in let rises = g.lives who.client in (h.0, omega arith)
+meant_more past new g (Target t) (message.Join who boot) h = let rises = g.lives who.client in omega arith
+meant_more past new g (Target t) (message.Replay r) h = tt
+meant_more past new g (Target t) (message.Lock r) h = tt
+meant_more past new g (Target t) (message.Word who boot replays locks seen) h = tt
 meant_more past new g (Client c) (message.Ready who boot committed) h = h
 meant_more past new g (Client c) (message.Evicted who boot) h = h
+meant_more past new g (Client c) (message.Up boot) h = tt
 meant_more past new g (Target t) _ h = absurd h
 meant_more past new g (Client c) _ h = absurd h
 
@@ -108,7 +113,7 @@ asked_meant osts past c t r ok p n =
     let who : r.who ≡ life_of c past = ap (λ (v : RequestOf). v.who) ok.is in (
       ok.flight,
       subst (λ v. Flew past v ok.flight) (sym who) (n.flying (life_of c past) ok.flight ok.flying),
-      ok.is ∙ is (life_of c past) r.who (known_of c past) (sym who) (p.known c),
+      ok.is ∙ is (life_of c past) r.who (known_of c past) (sym who) (p.served c ok.serves),
     )
   where
     is : (mine who : Who) (boot : ℕ) → mine ≡ who → boot ≡ 1 → record { who = mine; boot = boot; xid = record { 0 = ok.flight.xid }; tag = ok.flight.tag; op = ok.flight.op } ≡ life_request who ok.flight
@@ -123,7 +128,7 @@ sent_meant head past (Target t) (Client c) (message.Reply k) ok p n h =
       q.1,
       ok.is
           ∙ ap (λ (x : ReplyTo). again v x) (sym q.2)
-          ∙ ap (λ b. record q.0.reply { boot = b; committed = v.committed }) (sym (h.boots q.0 q.1))
+          ∙ ap (λ b. record q.0.reply { boot = b; committed = v.committed }) (serves_first head.osts past p ok.serves ∙ sym (h.boots q.0 q.1))
           ∙ ap (λ (n : TxnOf). record q.0.reply { committed = n }) (sym (ap (λ (x : ReplyTo). x.committed) ok.is)),
       ok.to,
     )
@@ -132,14 +137,18 @@ sent_meant head past (Target t) (Client c) (message.Block who boot cookie) ok p 
 sent_meant head past (Client c) (Target t) (message.Join who boot) ok p n h =
     let mine : who.life ≡ (life_of c past).life = ap (λ (w : Who). w.life) ok.of_life in
     let same : (life_of who.client past).life ≡ (life_of c past).life = ap (λ v. (life_of v past).life) (ap (λ (w : Who). w.client) ok.of_life ∙ p.client c) in
-    (ok.of_boot ∙ p.known c, omega arith)
-sent_meant head past (Target t) (Client c) (message.Ready who boot committed) ok p n h = (ok.of_boot ∙ p.boot, ok.to)
-sent_meant head past (Target t) (Client c) (message.Evicted who boot) ok p n h = (ok.of_boot ∙ p.boot, ok.to)
+    omega arith
+sent_meant head past (Target t) (Client c) (message.Ready who boot committed) ok p n h = (ok.of_boot ∙ serves_first head.osts past p ok.serves, ok.to)
+sent_meant head past (Target t) (Client c) (message.Evicted who boot) ok p n h = ok.to
+sent_meant head past (Client c) (Target t) (message.Replay r) ok p n h = tt
+sent_meant head past (Client c) (Target t) (message.Lock r) ok p n h = tt
+sent_meant head past (Client c) (Target t) (message.Word who boot replays locks seen) ok p n h = tt
+sent_meant head past (Target t) (Client c) (message.Up boot) ok p n h = tt
 sent_meant head past node to m ok p n h = absurd ok
 
 -- ---- one more request that waits
 
-module _ (osts clients : ℕ) (past : List Line) (stamp : Stamp) (t : ℕ) (r : RequestOf) (ok : EntersOk clients past t r) (n : Numbers past) (h : Done osts past) where
+module _ (osts clients : ℕ) (past : List Line) (stamp : Stamp) (t : ℕ) (r : RequestOf) (ok : EntersOk osts clients past t r) (n : Numbers past) (h : Done osts past) where
   abbrev entering : List Line
   entering = line (turn stamp (Target t)) (Enters r) ∷ past
 
@@ -234,8 +243,7 @@ record Does (osts : ℕ) (past new : List Line) (d : Deed) : Type 0 where
   sent : (from to : Node) (m : Message) → Was new from to m → Was past from to m
   hears : (who : Who) (x : ℕ) → Hears new who x → Hears past who x
   lives : (c : ℕ) → (life_of c past).life ≤ (life_of c new).life
-  boots : (e : Deed) → e.reply.boot ≡ (server_of osts past).boot → e.reply.boot ≡ (server_of osts new).boot
-  fresh : d.reply.boot ≡ (server_of osts new).boot
+  first : d.reply.boot ≡ 1
 
 -- it is of that request
 record Is (r : RequestOf) (d : Deed) : Type 0 where
@@ -318,7 +326,7 @@ module _ (osts : ℕ) (past new : List Line) (d : Deed) (does : Does osts past n
             ))
             (λ q p. h.slots who tag k p));
         heard = λ who x q. let g = h.heard who x (does.hears who x q) in (g.0, does.more g.0 g.1, g.2, g.3);
-        boots = λ e a. ⊎_elim (λ (q : d ≡ e). subst (λ (v : Deed). v.reply.boot ≡ (server_of osts new).boot) q does.fresh) (λ (b : Acted past e). does.boots e (h.boots e b)) (does.acted e a);
+        boots = λ e a. ⊎_elim (λ (q : d ≡ e). subst (λ (v : Deed). v.reply.boot ≡ 1) q does.first) (λ (b : Acted past e). h.boots e b) (does.acted e a);
         waits = keeps_waiting;
         sent = λ from to m s. meant_more past new grows to m (h.sent from to m (does.sent from to m s));
         once = λ e g a b y x. ⊎_elim
@@ -339,6 +347,15 @@ heard_done : (osts : ℕ) (past : List Line) (c : ℕ) (f : Flight) (k : ReplyTo
 heard_done osts past c f k ok h =
     let m = h.sent (Target ok.from) (Client c) (message.Reply k) ok.was in
     (m.0, m.1, ap (λ (v : ReplyTo). v.who) (sym m.2) ∙ ok.who, ap (λ (v : ReplyTo). v.xid.0) (sym m.2) ∙ sym ok.xid)
+
+-- what is heard is of the first boot, which the client knows
+pub heard_first : (osts : ℕ) (past : List Line) (c : ℕ) (f : Flight) (k : ReplyTo) → HeardOk past c f k → Done osts past → k.boot ≡ 1
+heard_first osts past c f k ok h =
+    let m = h.sent (Target ok.from) (Client c) (message.Reply k) ok.was in
+    ap (λ (v : ReplyTo). v.boot) m.2 ∙ h.boots m.0 m.1
+
+pub heard_known : (osts : ℕ) (past : List Line) (c : ℕ) (f : Flight) (k : ReplyTo) → HeardOk past c f k → Done osts past → known_of c past ≡ 1
+heard_known osts past c f k ok h = sym ok.boot ∙ heard_first osts past c f k ok h
 
 done_heard : (osts : ℕ) (past : List Line) (stamp : Stamp) (c t : ℕ) (f : Flight) (k : ReplyTo) → HeardOk past c f k → Done osts past → Done osts (line (turn stamp (Client c)) (Heard t f k) ∷ past)
 done_heard osts past stamp c t f k ok h =
@@ -388,11 +405,11 @@ done_evict osts past stamp t who cause h =
       once = h.once;
     }
 
-act_does : (osts : ℕ) (past : List Line) (stamp : Stamp) (t : ℕ) (d : Deed) → d.reply.boot ≡ (server_of osts past).boot → Does osts past (line (turn stamp (Target t)) (Act d) ∷ past) d
-act_does osts past stamp t d b = record { flew = λ w f i. i; acted = λ e a. a; more = λ e a. inr a; here = inl refl; slot = λ who tag. refl; waiting = λ q i. i; sent = λ from to m s. s; hears = λ w x q. q; lives = λ c. omega arith; boots = λ e q. q; fresh = b }
+act_does : (osts : ℕ) (past : List Line) (stamp : Stamp) (t : ℕ) (d : Deed) → d.reply.boot ≡ 1 → Does osts past (line (turn stamp (Target t)) (Act d) ∷ past) d
+act_does osts past stamp t d b = record { flew = λ w f i. i; acted = λ e a. a; more = λ e a. inr a; here = inl refl; slot = λ who tag. refl; waiting = λ q i. i; sent = λ from to m s. s; hears = λ w x q. q; lives = λ c. omega arith; first = b }
 
-txn_does : (osts : ℕ) (past : List Line) (stamp : Stamp) (t : ℕ) (d : Deed) → d.reply.boot ≡ (server_of osts past).boot → Does osts past (line (turn stamp (Target t)) (Made d) ∷ past) d
-txn_does osts past stamp t d b = record { flew = λ w f i. i; acted = λ e a. a; more = λ e a. inr a; here = inl refl; slot = λ who tag. refl; waiting = λ q i. i; sent = λ from to m s. s; hears = λ w x q. q; lives = λ c. omega arith; boots = λ e q. q; fresh = b }
+txn_does : (osts : ℕ) (past : List Line) (stamp : Stamp) (t : ℕ) (d : Deed) → d.reply.boot ≡ 1 → Does osts past (line (turn stamp (Target t)) (Made d) ∷ past) d
+txn_does osts past stamp t d b = record { flew = λ w f i. i; acted = λ e a. a; more = λ e a. inr a; here = inl refl; slot = λ who tag. refl; waiting = λ q i. i; sent = λ from to m s. s; hears = λ w x q. q; lives = λ c. omega arith; first = b }
 
 pub keeps_done : (head : Head) (past : List Line) (stamp : Stamp) (node : Node) (e : Entry) → EntryOf head past (turn stamp node) node e → Phase head.osts past → Numbers past
     → Done head.osts past → Done head.osts (line (turn stamp node) e ∷ past)
@@ -407,15 +424,15 @@ keeps_done head past stamp (Target t) (Act d) ok p n h =
     let v = server_of head.osts past in
     let e = deed head.osts v (turn stamp (Target t)) ok.request none (locks_of head.osts v ok.request) in
     subst (λ (d : Deed). Done head.osts (line (turn stamp (Target t)) (Act d) ∷ past)) (sym ok.is)
-    (done_does head.osts past (line (turn stamp (Target t)) (Act e) ∷ past) e (act_does head.osts past stamp t e refl) ok.request (record { who = refl; xid = refl; tag = refl; op = refl }) (h.waits ok.request ok.waits) h)
+    (done_does head.osts past (line (turn stamp (Target t)) (Act e) ∷ past) e (act_does head.osts past stamp t e (serves_first head.osts past p ok.serves)) ok.request (record { who = refl; xid = refl; tag = refl; op = refl }) (h.waits ok.request ok.waits) h)
 keeps_done head past stamp (Target t) (Made d) ok p n h =
     let v = server_of head.osts past in
     let e = deed head.osts v (turn stamp (Target t)) ok.request (next_number v) [] in
     subst (λ (d : Deed). Done head.osts (line (turn stamp (Target t)) (Made d) ∷ past)) (sym ok.is)
-    (done_does head.osts past (line (turn stamp (Target t)) (Made e) ∷ past) e (txn_does head.osts past stamp t e refl) ok.request (record { who = refl; xid = refl; tag = refl; op = refl }) (h.waits ok.request ok.waits) h)
+    (done_does head.osts past (line (turn stamp (Target t)) (Made e) ∷ past) e (txn_does head.osts past stamp t e (serves_first head.osts past p ok.serves)) ok.request (record { who = refl; xid = refl; tag = refl; op = refl }) (h.waits ok.request ok.waits) h)
 keeps_done head past stamp (Client c) (Act d) ok p n h = absurd ok
 keeps_done head past stamp (Client c) (Made d) ok p n h = absurd ok
 keeps_done head past stamp (Target t) (Flies u f) ok p n h = absurd ok
 keeps_done head past stamp (Target t) (Heard u f k) ok p n h = absurd ok
-keeps_done head past stamp (Target t) (Boot boot disk) ok p n h = absurd ok
+keeps_done head past stamp (Target t) (Boot boot disk) ok p n h = h
 keeps_done head past stamp node e ok p n h = h

@@ -10,7 +10,8 @@ use Rattle.lu_msg.specs.declared.messages.Reply.{Reply as ReplyTo}
 use Rattle.lu_words.specs.Words.{Entry, Take, Line, line, turn_before}
 use Rattle.lu_covered.specs.Calls.{life_at}
 use Rattle.lu_covered.specs.Heads.{Head}
-use Rattle.lu_guards.proofs.Guards.{Took, TookNow, Noticed, Later, Ending, Closes, EntryOk, Grown}
+use Rattle.lu_guards.proofs.Guards.{Took, TookNow, Noticed, Later, Ending, Closes, EntryOk}
+use Rattle.lu_guards.proofs.Grown.{Grown}
 use Rattle.lu_guards.proofs.Lists.{turn_irreflexive}
 use Rattle.lu_facts.proofs.Groups.{turn}
 use Rattle.lu_guards.proofs.Ends.{took_more, none_took}

@@ -1,6 +1,6 @@
 -- A path that leads to a file was made by a call that makes such; so where no call asks for the attributes of such a path, each reply is
 -- told at once.
-use Rattle.std.proofs.Common.{◌≡◌, ℕ, Bool, true, false, ◌+◌, List, [], ◌∷◌, Option, Some, None, ◌⊎◌, inl, inr, ⊎_elim, refl, sym, subst, ap, ◌∙◌, arith, pos}
+use Rattle.std.proofs.Common.{◌≡◌, ℕ, Bool, true, false, List, [], ◌∷◌, Option, Some, None, ◌⊎◌, inl, inr, ⊎_elim, refl, sym, subst, ap, ◌∙◌, arith, pos}
 use Rattle.std.specs.Prelude.{nat_eq, if◌then◌else◌}
 use Rattle.lu_base.specs.declared.ids.At.{At}
 use Rattle.lu_base.specs.declared.ids.Node.{Node}
@@ -25,19 +25,20 @@ use Rattle.lu_words.specs.Carried.{Deed, HandleFile}
 use Rattle.lu_words.specs.Words.{Entry, Tick, Act, Txn as Made, Evict, Line, line}
 use Rattle.lu_words.specs.Concerns.{only}
 use Rattle.lu_covered.specs.TargetParts.{operation}
-use Rattle.lu_covered.specs.TargetStates.{none, count_at, tree_at, server_of, next_number}
+use Rattle.lu_covered.specs.TargetStates.{none, tree_at, server_of, next_number}
 use Rattle.lu_covered.specs.Calls.{operation_of}
 use Rattle.lu_covered.specs.Deeds.{asked}
 use Rattle.lu_covered.specs.Makes.{Path, CallMakesFile, StatsNoFile}
 use Rattle.lu_covered.specs.Heads.{Head}
-use Rattle.lu_guards.proofs.Guards.{ActOk, TxnOk, Allowed, Grown}
+use Rattle.lu_guards.proofs.StoryGuards.{ActOk, TxnOk}
+use Rattle.lu_guards.proofs.Grown.{Allowed, Grown}
 use Rattle.lu_guards.proofs.Parts.{tree_is}
 use Rattle.lu_facts.proofs.Groups.{turn, Acted}
 use Rattle.lu_facts.proofs.OnNames.{IsPlain, op_is, becomes_on_names, other_plain}
 use Rattle.lu_facts.proofs.Asked.{Began, began_more, AskedBy, acted_asked}
 use Rattle.lu_facts.proofs.Ways.{leads_still}
 use Rattle.lu_facts.proofs.Named.{FileBy, Filed, named_so}
-use Rattle.lu_facts.proofs.Finds.{Made_in, number_is, named}
+use Rattle.lu_facts.proofs.Finds.{Made_in, numbers_at, number_next, named}
 
 -- ---- the tree
 
@@ -85,8 +86,8 @@ filed head (l ∷ past) g = by l.at.node l.entry g.0 (λ d x. acted_asked head (
 
     made : (at : At) (d : Deed) → TxnOk head.osts (only 0 past) at d → AskedBy past d.op → Filed (File_in past) (tree_at head.osts 0 past) → Filed (File_in past) (after head.osts (tree_at head.osts 0 past) (operation d))
     made at d ok a h =
-        let n = number_is head past g.1 at d ok in
-        let so = named_so head.osts (tree_at head.osts 0 past) d.reply.txn d.reply.who (Made_in past) (File_in past) (4294967296 + count_at 0 past) (named head past g.1) h (omega arith) d.op (becomes_on_names a.2 a.0 d.op a.3) in
+        let n = number_next head past g.1 at d ok in
+        let so = named_so head.osts (tree_at head.osts 0 past) d.reply.txn d.reply.who (Made_in past) (File_in past) (numbers_at past) (named head past g.1) h (omega (arith, n)) d.op (becomes_on_names a.2 a.0 d.op a.3) in
         λ path f led. ⊎_elim (λ (x : File_in past path). x) (λ (x : FileBy d.op path). files_asked past d.op path a x) (so.1 path f led)
 
     by : (node : Node) (e : Entry) → Allowed head past (turn l.at.stamp node) e → ((d : Deed) → Acted (line l.at e ∷ past) d → AskedBy (line l.at e ∷ past) d.op) → Filed (File_in past) (tree_at head.osts 0 past)

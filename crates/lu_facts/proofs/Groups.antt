@@ -19,16 +19,17 @@ use Rattle.lu_msg.specs.declared.operations.Op.{Op}
 use Rattle.lu_words.specs.Carried.{Deed, Queued, Flight, Asked, Answered, Running}
 use Rattle.lu_words.specs.Words.{Flies, Heard, Drop, Act, Txn as Made, Line, turn_before}
 use Rattle.lu_words.specs.Concerns.{only}
-use Rattle.lu_covered.specs.TargetStates.{server_of, slot_of, lives_of, evicted_of, shown_of}
+use Rattle.lu_covered.specs.TargetStates.{server_of, slot_of, lives_of, evicted_of, shown_of, closed_of, up_of}
 use Rattle.lu_covered.specs.Calls.{first_life, call_at, becomes, life_at}
-use Rattle.lu_covered.specs.Imports.{Serving, queue_at, flights_at}
+use Rattle.lu_covered.specs.Imports.{Joining, Serving, queue_at, flights_at}
 use Rattle.lu_covered.specs.ClientStates.{flights_of, last_of, known_of, life_of, tag_of, standing_of, is_own}
 use Rattle.lu_covered.specs.Heads.{Head}
 use Rattle.lu_held.specs.declared.locks.HeldLock.{HeldLock}
 use Rattle.lu_held.specs.Held.{is_held}
 use Rattle.lu_target_rows.specs.Lives.{is_life}
 use Rattle.lu_client_rows.specs.Caches.{granted_lock, held_at}
-use Rattle.lu_guards.proofs.Guards.{In, Was, name_of, Newer, Ending}
+use Rattle.lu_guards.proofs.Guards.{In, Was, name_of, Ending}
+use Rattle.lu_guards.proofs.StoryGuards.{Newer, SaidBy, IsServing}
 
 abbrev pub turn : Stamp → Node → At
 turn stamp node = record { stamp = stamp; node = node }
@@ -52,12 +53,17 @@ Hears (l ∷ past) who x = elim l.entry [ Heard t f r ↦ ((is_own who past l.at
 
 -- ---- at one target
 
--- the first boot; of each client a life of its own, above 0
+-- no window was closed yet, so what a target serves, and what a client that it serves knows, is the first boot; no client knows a boot that
+-- isn't there yet; a boot has numbers left; of each client a life of its own, above 0
 abbrev pub Phase : ℕ → List Line → Type 0
 Phase osts past =
     record {
-      boot : (server_of osts past).boot ≡ 1;
-      known : (c : ℕ) → known_of c past ≡ 1;
+      closed : closed_of past ≡ 1;
+      low : 1 ≤ (server_of osts past).boot;
+      count : (server_of osts past).count ≤ 4294967295;
+      least : (c : ℕ) → 1 ≤ known_of c past;
+      known : (c : ℕ) → known_of c past ≤ (server_of osts past).boot;
+      served : (c : ℕ) → standing_of c past ≡ Serving → known_of c past ≡ 1;
       client : (c : ℕ) → (life_of c past).client ≡ c;
       positive : (c : ℕ) → 1 ≤ (life_of c past).life;
     }
@@ -103,9 +109,13 @@ Meant past (Target t) (message.Request r) = (f : Flight) × Flew past r.who f ×
 Meant past (Client c) (message.Reply k) = (d : Deed) × Acted past d × (k ≡ record d.reply { committed = k.committed }) × (c ≡ k.who.client)
 Meant past (Client c) (message.Block who boot cookie) = Unit {0}
 Meant past (Target t) (message.Cancel who boot cookie) = Unit {0}
-Meant past (Target t) (message.Join who boot) = (boot ≡ 1) × (who.life ≤ (life_of who.client past).life)
+Meant past (Target t) (message.Join who boot) = who.life ≤ (life_of who.client past).life
+Meant past (Target t) (message.Replay r) = Unit {0}
+Meant past (Target t) (message.Lock r) = Unit {0}
+Meant past (Target t) (message.Word who boot replays locks seen) = Unit {0}
 Meant past (Client c) (message.Ready who boot committed) = (boot ≡ 1) × (c ≡ who.client)
-Meant past (Client c) (message.Evicted who boot) = (boot ≡ 1) × (c ≡ who.client)
+Meant past (Client c) (message.Evicted who boot) = c ≡ who.client
+Meant past (Client c) (message.Up boot) = Unit {0}
 Meant past _ _ = ⊥
 
 -- a request that waits to act was sent, and hasn't acted
@@ -126,7 +136,7 @@ Done osts past =
       kept : (who : Who) (tag : ℕ) (k : ReplyTo) → (slot_of who tag past).reply ≡ Some k → (d : Deed) × Acted past d × (d.reply ≡ k);
       slots : (who : Who) (tag : ℕ) (k : ReplyTo) → (slot_of who tag past).reply ≡ Some k → (k.who ≡ who) × (k.xid.0 ≡ (slot_of who tag past).taken);
       heard : (who : Who) (x : ℕ) → Hears past who x → DoneFor past who x;
-      boots : (d : Deed) → Acted past d → d.reply.boot ≡ (server_of osts past).boot;
+      boots : (d : Deed) → Acted past d → d.reply.boot ≡ 1;
       waits : (r : RequestOf) → In r (server_of osts past).waiting → Waits past r;
       sent : (from to : Node) (m : Message) → Was past from to m → Meant past to m;
       once : (d e : Deed) → Acted past d → Acted past e → d.reply.who ≡ e.reply.who → d.reply.xid ≡ e.reply.xid → d ≡ e;
@@ -161,31 +171,31 @@ abbrev pub Called : List Line → ℕ → Who → Cookie → Type 0
 Called past c who cookie = record { deed : Deed; lock : Lock; gave : Gave past deed lock; is : lock.cookie ≡ cookie; of : deed.reply.who ≡ who; to : who.client ≡ c }
 
 -- a lock that is given back was given to that life, and is dead
-abbrev pub GivenBack : List Line → Who → ℕ → Cookie → Type 0
-GivenBack past who boot cookie =
-    record { deed : Deed; lock : Lock; gave : Gave past deed lock; is : lock.cookie ≡ cookie; of : deed.reply.who ≡ who; dead : Dead past deed lock; first : boot ≡ 1 }
+abbrev pub GivenBack : List Line → Who → Cookie → Type 0
+GivenBack past who cookie =
+    record { deed : Deed; lock : Lock; gave : Gave past deed lock; is : lock.cookie ≡ cookie; of : deed.reply.who ≡ who; dead : Dead past deed lock }
 
 -- the life gave up that lock once: reads Drop
 abbrev pub Gone : List Line → Who → Cookie → Type 0
 Gone [] who cookie = ⊥
 Gone (l ∷ past) who cookie = elim l.entry [ Drop target lock ↦ ((is_own who past l.at.node ≡ true) × (lock.cookie ≡ cookie)) ⊎ Gone past who cookie | _ ↦ Gone past who cookie ]
 
--- each lock that was given is granted, or is dead, or its life was evicted; so is what is held, and what isn't heard yet; what is granted
--- is shown so; no answer of what was done is itself a lock
+-- each lock that was given is granted, or is dead, or its life was evicted; so is what is held, and what isn't heard yet; while the target
+-- serves no cookie is above the greatest, and while it is up too what is granted is shown so; no answer of what was done is itself a lock
 abbrev pub Locks : ℕ → List Line → Type 0
 Locks osts past =
     record {
       whose : (d : Deed) (l : Lock) → Gave past d l → l.ask.who ≡ d.reply.who;
       readers : (d : Deed) (l : Lock) → Gave past d l → l.ask.mode ≡ PR;
-      low : (d : Deed) (l : Lock) → Gave past d l → l.cookie.0 ≤ (server_of osts past).cookie;
+      low : IsServing osts past → (d : Deed) (l : Lock) → Gave past d l → l.cookie.0 ≤ (server_of osts past).cookie;
       once : (d e : Deed) (l k : Lock) → Gave past d l → Gave past e k → l.cookie ≡ k.cookie → (d ≡ e) × (l ≡ k);
       granted : (l : Lock) → In l (server_of osts past).granted → (d : Deed) × Gave past d l;
       held : (c : ℕ) (h : HeldLock) → In h (held_at c past) → Holding osts past c h;
       alive : (d : Deed) (l : Lock) → Gave past d l → In l (server_of osts past).granted ⊎ Dead past d l ⊎ Evicted past d.reply.who;
-      shown : (l : Lock) → In l (server_of osts past).granted → In l (shown_of past);
+      shown : IsServing osts past → up_of past ≡ true → (l : Lock) → In l (server_of osts past).granted → In l (shown_of past);
       blocks : (from : Node) (c : ℕ) (who : Who) (boot : ℕ) (cookie : Cookie) → Was past from (Client c) (message.Block who boot cookie) → Called past c who cookie;
-      cancels : (from to : Node) (who : Who) (boot : ℕ) (cookie : Cookie) → Was past from to (message.Cancel who boot cookie) → GivenBack past who boot cookie;
-      gone : (who : Who) (cookie : Cookie) → Gone past who cookie → GivenBack past who 1 cookie;
+      cancels : (from to : Node) (who : Who) (boot : ℕ) (cookie : Cookie) → Was past from to (message.Cancel who boot cookie) → GivenBack past who cookie;
+      gone : (who : Who) (cookie : Cookie) → Gone past who cookie → GivenBack past who cookie;
       answers : (d : Deed) → Acted past d → (r : ReplyTo) → granted_lock d.op r d.reply.answer ≡ [];
     }
 
@@ -202,14 +212,31 @@ Lives clients past =
       one : (w x : Who) → is_life w (lives_of clients past) ≡ true → is_life x (lives_of clients past) ≡ true → w.client ≡ x.client → w ≡ x;
       apart : (w x : Who) → is_life w (lives_of clients past) ≡ true → Evicted past x → w.client ≡ x.client → x.life < w.life;
       first : (c : ℕ) → c < clients → Had clients past (first_life c);
-      served : (c : ℕ) → c < clients → standing_of c past ≡ Serving → Had clients past (life_of c past);
+      served : (c : ℕ) → c < clients → (standing_of c past ≡ Joining → ⊥) → Had clients past (life_of c past);
       flew : (who : Who) (f : Flight) → Flew past who f → Had clients past who;
       acted : (d : Deed) → Acted past d → Had clients past d.reply.who;
-      asked : (from to : Node) (r : RequestOf) → Was past from to (message.Request r) → Had clients past r.who;
-      back : (from to : Node) (who : Who) (boot : ℕ) (cookie : Cookie) → Was past from to (message.Cancel who boot cookie) → Had clients past who;
+      spoke : (from to : Node) (who : Who) (m : Message) → Was past from to m → SaidBy who m → Had clients past who;
       ready : (from to : Node) (who : Who) (boot : ℕ) (committed : Txn) → Was past from to (message.Ready who boot committed) → Had clients past who;
       over : (from to : Node) (who : Who) (boot : ℕ) → Was past from to (message.Evicted who boot) → Evicted past who ⊎ Newer clients past who;
     }
+
+-- a message's boot is one that the target has had
+abbrev pub BootIn : ℕ → Message → Type 0
+BootIn most (message.Request r) = (1 ≤ r.boot) × (r.boot ≤ most)
+BootIn most (message.Reply r) = (1 ≤ r.boot) × (r.boot ≤ most)
+BootIn most (message.Block who boot cookie) = (1 ≤ boot) × (boot ≤ most)
+BootIn most (message.Cancel who boot cookie) = (1 ≤ boot) × (boot ≤ most)
+BootIn most (message.Join who boot) = (1 ≤ boot) × (boot ≤ most)
+BootIn most (message.Up boot) = (1 ≤ boot) × (boot ≤ most)
+BootIn most (message.Ready who boot committed) = (1 ≤ boot) × (boot ≤ most)
+BootIn most (message.Evicted who boot) = (1 ≤ boot) × (boot ≤ most)
+BootIn most (message.Replay r) = (1 ≤ r.boot) × (r.boot ≤ most)
+BootIn most (message.Lock r) = (1 ≤ r.boot) × (r.boot ≤ most)
+BootIn most (message.Word who boot replays locks seen) = (1 ≤ boot) × (boot ≤ most)
+BootIn most _ = Unit {0}
+
+abbrev pub Boots : ℕ → List Line → Type 0
+Boots osts past = (from to : Node) (m : Message) → Was past from to m → BootIn (server_of osts past).boot m
 
 -- all groups of one target, over what concerns it
 pub record HoldsAt (head : Head) (past : List Line) : Type 0 where
@@ -219,6 +246,7 @@ pub record HoldsAt (head : Head) (past : List Line) : Type 0 where
   pub done : Done head.osts past
   pub locks : Locks head.osts past
   pub lives : Lives head.clients past
+  pub boots : Boots head.osts past
 
 -- ---- over all targets: what calls have asked
 

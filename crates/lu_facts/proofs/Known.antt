@@ -33,7 +33,9 @@ use Rattle.lu_covered.specs.Known.{notes_at, known_answer}
 use Rattle.lu_covered.specs.TargetStates.{tree_at, committed_at, server_of}
 use Rattle.lu_covered.specs.ClientStates.{life_of}
 use Rattle.lu_covered.specs.Heads.{Head}
-use Rattle.lu_guards.proofs.Guards.{In, name_of, HeardNow, HeardOk, LearnsOk, EntryOk, EntryOf, Grown, GrownOf}
+use Rattle.lu_guards.proofs.Guards.{In, name_of, HeardNow, LearnsOk, EntryOk}
+use Rattle.lu_guards.proofs.StoryGuards.{HeardOk, EntryOf}
+use Rattle.lu_guards.proofs.Grown.{Grown, GrownOf}
 use Rattle.lu_guards.proofs.Held.{held_is}
 use Rattle.lu_guards.proofs.Lists.{in_append, in_filter}
 use Rattle.lu_guards.proofs.Only.{grown_of}

@@ -1,5 +1,6 @@
 pub mod Groups
 pub mod Phase
+pub mod Boots
 pub mod Numbers
 pub mod Done
 pub mod LockLists

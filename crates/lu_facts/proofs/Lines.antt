@@ -12,7 +12,9 @@ use Rattle.lu_words.specs.Words.{Entry, Life, Flies, Heard, Act, Txn, Line, line
 use Rattle.lu_words.specs.Concerns.{concerns, only}
 use Rattle.lu_covered.specs.ClientStates.{life_of, is_own}
 use Rattle.lu_covered.specs.Heads.{Head}
-use Rattle.lu_guards.proofs.Guards.{EntryOk, EntryOf, Grown}
+use Rattle.lu_guards.proofs.Guards.{EntryOk}
+use Rattle.lu_guards.proofs.StoryGuards.{EntryOf}
+use Rattle.lu_guards.proofs.Grown.{Grown}
 use Rattle.lu_guards.proofs.Lists.{self}
 use Rattle.lu_facts.proofs.Groups.{turn, Acted, Flew, Hears}
 

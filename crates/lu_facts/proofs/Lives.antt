@@ -3,7 +3,6 @@
 use Rattle.std.proofs.Common.{◌≡◌, ℕ, ◌<◌, ◌≤◌, Bool, true, false, List, [], ◌∷◌, ◌⊎◌, inl, inr, ⊎_elim, refl, sym, subst, ap, ◌∙◌, arith}
 use Rattle.std.specs.Prelude.{nat_eq, if◌then◌else◌}
 use Rattle.std.proofs.lemmas.Bool.{cond_both, eqb-true}
-use Rattle.lu_base.specs.declared.ids.Cookie.{Cookie}
 use Rattle.lu_base.specs.declared.ids.Node.{Node}
 use Rattle.lu_base.specs.declared.ids.Node.TheVariants.{Client, Target}
 use Rattle.lu_base.specs.declared.ids.Stamp.{Stamp}
@@ -16,11 +15,13 @@ use Rattle.lu_words.specs.Carried.{Deed, Flight}
 use Rattle.lu_words.specs.Words.{Entry, Send, Flies, Knows, Serves, Life, Act, Txn as Made, Evict, Joined, Line, line, same_life}
 use Rattle.lu_target_rows.specs.Lives.{is_life}
 use Rattle.lu_covered.specs.Calls.{first_life}
-use Rattle.lu_covered.specs.Imports.{Standing, Joining, Serving}
+use Rattle.lu_covered.specs.Imports.{Standing, Joining, Recovering, Serving, interrupted}
 use Rattle.lu_covered.specs.TargetStates.{lives_of, evicted_of}
 use Rattle.lu_covered.specs.ClientStates.{life_of, standing_of, is_own}
 use Rattle.lu_covered.specs.Heads.{Head}
-use Rattle.lu_guards.proofs.Guards.{Was, Newer, Spoke, FliesOk, LifeOf, ServesOk, EvictOk, JoinedOk, SendOf, EntryOf, IsOneOf}
+use Rattle.lu_guards.proofs.Guards.{Was}
+use Rattle.lu_guards.proofs.StoryGuards.{Newer, SaidBy, Spoke, TellsOk, FliesOk, LifeOf, ServesOk, EvictOk, JoinedOk, SendOf, EntryOf}
+use Rattle.lu_guards.proofs.Grown.{IsOneOf}
 use Rattle.lu_guards.proofs.Lists.{life_self, own_is, same_who}
 use Rattle.lu_facts.proofs.Groups.{turn, Flew, Done, Locks, Evicted, Had, Lives}
 use Rattle.lu_facts.proofs.Phase.{life_rises}
@@ -42,11 +43,22 @@ lives_start clients =
       served = λ c lt s. inl (first_among 0 clients c (omega arith) (omega (arith, lt)));
       flew = λ who f a. absurd a;
       acted = λ d a. absurd a;
-      asked = λ from to r w. absurd w;
-      back = λ from to who boot cookie w. absurd w;
+      spoke = λ from to who m w. absurd w;
       ready = λ from to who boot committed w. absurd w;
       over = λ from to who boot w. absurd w;
     }
+
+-- ---- who isn't joining
+
+serves_joins : (s : Standing) → s ≡ Serving → s ≡ Joining → ⊥
+serves_joins s e j = let both : Serving ≡ Joining = sym e ∙ j in absurd (cc)
+
+recovers_joins : (s : Standing) → s ≡ Recovering → s ≡ Joining → ⊥
+recovers_joins s e j = let both : Recovering ≡ Joining = sym e ∙ j in absurd (cc)
+
+interrupted_joins : (s : Standing) → (interrupted s ≡ Joining → ⊥) → s ≡ Joining → ⊥
+interrupted_joins Joining n e = n refl
+interrupted_joins s n e = absurd (cc)
 
 -- ---- one more request in flight
 
@@ -59,11 +71,10 @@ lives_flies head past stamp c t f ok lt h =
       first = h.first;
       served = h.served;
       flew = λ who g. ⊎_elim
-          (λ (p : (is_own who past (Client c) ≡ true) × (f ≡ g)). subst (Had head.clients past) (sym (own_is who past c p.0)) (h.served c lt ok.serves))
+          (λ (p : (is_own who past (Client c) ≡ true) × (f ≡ g)). subst (Had head.clients past) (sym (own_is who past c p.0)) (h.served c lt (serves_joins (standing_of c past) ok.serves)))
           (λ (p : Flew past who g). h.flew who g p);
       acted = h.acted;
-      asked = h.asked;
-      back = h.back;
+      spoke = h.spoke;
       ready = h.ready;
       over = h.over;
     }
@@ -77,13 +88,31 @@ lives_serves clients past stamp c t boot ok h =
       one = h.one;
       apart = h.apart;
       first = h.first;
-      served = λ d lt. cond_both (nat_eq d c) Serving (standing_of d past) (λ (s : Standing). s ≡ Serving → Had clients past (life_of d past))
+      served = λ d lt. cond_both (nat_eq d c) Serving (standing_of d past) (λ (s : Standing). (s ≡ Joining → ⊥) → Had clients past (life_of d past))
           (λ q s. subst (λ v. Had clients past (life_of v past)) (sym (eqb-true d c q)) (h.ready (Target t) (Client c) (life_of c past) boot ok.committed ok.was))
           (λ q s. h.served d lt s);
       flew = h.flew;
       acted = h.acted;
-      asked = h.asked;
-      back = h.back;
+      spoke = h.spoke;
+      ready = h.ready;
+      over = h.over;
+    }
+
+-- ---- a client is told a newer boot, under which its life recovers if it doesn't join
+
+lives_knows : (clients : ℕ) (past : List Line) (stamp : Stamp) (c t boot : ℕ) → Lives clients past → Lives clients (line (turn stamp (Client c)) (Knows t boot) ∷ past)
+lives_knows clients past stamp c t boot h =
+    record {
+      low = h.low;
+      one = h.one;
+      apart = h.apart;
+      first = h.first;
+      served = λ d lt. cond_both (nat_eq d c) (interrupted (standing_of d past)) (standing_of d past) (λ (s : Standing). (s ≡ Joining → ⊥) → Had clients past (life_of d past))
+          (λ q n. h.served d lt (interrupted_joins (standing_of d past) n))
+          (λ q n. h.served d lt n);
+      flew = h.flew;
+      acted = h.acted;
+      spoke = h.spoke;
       ready = h.ready;
       over = h.over;
     }
@@ -100,14 +129,13 @@ lives_life clients past stamp c new ok h =
       served = λ d lt. by d lt (nat_eq d c);
       flew = h.flew;
       acted = h.acted;
-      asked = h.asked;
-      back = h.back;
+      spoke = h.spoke;
       ready = h.ready;
       over = h.over;
     }
   where
-    by : (d : ℕ) → d < clients → (b : Bool) → (if b then Joining else standing_of d past) ≡ Serving → Had clients past (if b then new else life_of d past)
-    by d lt true s = absurd (cc)
+    by : (d : ℕ) → d < clients → (b : Bool) → ((if b then Joining else standing_of d past) ≡ Joining → ⊥) → Had clients past (if b then new else life_of d past)
+    by d lt true s = absurd (s refl)
     by d lt false s = h.served d lt s
 
 -- ---- what was done is of a life that flew
@@ -122,8 +150,7 @@ lives_act osts clients past stamp t d k h =
       served = h.served;
       flew = h.flew;
       acted = λ e a. let f = k.flew e a in h.flew e.reply.who f.0 f.1;
-      asked = h.asked;
-      back = h.back;
+      spoke = h.spoke;
       ready = h.ready;
       over = h.over;
     }
@@ -138,8 +165,7 @@ lives_txn osts clients past stamp t d k h =
       served = h.served;
       flew = h.flew;
       acted = λ e a. let f = k.flew e a in h.flew e.reply.who f.0 f.1;
-      asked = h.asked;
-      back = h.back;
+      spoke = h.spoke;
       ready = h.ready;
       over = h.over;
     }
@@ -199,8 +225,7 @@ module _ (head : Head) (past : List Line) (stamp : Stamp) (t : ℕ) (who : Who) 
         served = λ c lt s. had_still (life_of c past) (h.served c lt s);
         flew = λ x f a. had_still x (h.flew x f a);
         acted = λ d a. had_still d.reply.who (h.acted d a);
-        asked = λ from to r w. had_still r.who (h.asked from to r w);
-        back = λ from to x boot cookie w. had_still x (h.back from to x boot cookie w);
+        spoke = λ from to x m w s. had_still x (h.spoke from to x m w s);
         ready = λ from to x boot committed w. had_still x (h.ready from to x boot committed w);
         over = λ from to x boot w. over_more head.clients past evicts had_still evicted_still x (h.over from to x boot w);
       }
@@ -230,7 +255,7 @@ module _ (head : Head) (past : List Line) (stamp : Stamp) (t : ℕ) (who : Who) 
       record {
         low = λ w. ⊎_elim
             (λ (e : is_life w (lives_of head.clients joins) ≡ true). ⊎_elim
-            (λ (s : w ≡ who). subst (λ (v : Who). v.life ≤ (life_of v.client past).life) (sym s) (k.sent (Client ok.from) (Target t) (message.Join who ok.boot) ok.was).1)
+            (λ (s : w ≡ who). subst (λ (v : Who). v.life ≤ (life_of v.client past).life) (sym s) (k.sent (Client ok.from) (Target t) (message.Join who ok.boot) ok.was))
             (λ (i : is_life w (lives_of head.clients past) ≡ true). h.low w (inl i))
             (has_now w e))
             (λ (e : Evicted past w). h.low w (inr e));
@@ -252,8 +277,7 @@ module _ (head : Head) (past : List Line) (stamp : Stamp) (t : ℕ) (who : Who) 
         served = λ c lt s. has_still (life_of c past) (h.served c lt s);
         flew = λ x f a. has_still x (h.flew x f a);
         acted = λ d a. has_still d.reply.who (h.acted d a);
-        asked = λ from to r w. has_still r.who (h.asked from to r w);
-        back = λ from to x boot cookie w. has_still x (h.back from to x boot cookie w);
+        spoke = λ from to x m w s. has_still x (h.spoke from to x m w s);
         ready = λ from to x boot committed w. has_still x (h.ready from to x boot committed w);
         over = λ from to x boot w. over_more head.clients past joins has_still (λ y e. e) x (h.over from to x boot w);
       }
@@ -264,9 +288,30 @@ module _ (head : Head) (past : List Line) (stamp : Stamp) (t : ℕ) (who : Who) 
 abbrev Says : ℕ → List Line → Message → Type 0
 Says clients past (message.Request r) = Had clients past r.who
 Says clients past (message.Cancel who boot cookie) = Had clients past who
+Says clients past (message.Replay r) = Had clients past r.who
+Says clients past (message.Lock r) = Had clients past r.who
+Says clients past (message.Word who boot replays locks seen) = Had clients past who
 Says clients past (message.Ready who boot committed) = Had clients past who
 Says clients past (message.Evicted who boot) = Evicted past who ⊎ Newer clients past who
 Says clients past _ = Unit {0}
+
+says_had : (clients : ℕ) (past : List Line) (who : Who) (m : Message) → Says clients past m → SaidBy who m → Had clients past who
+says_had clients past who (message.Request r) h s = subst (Had clients past) s h
+says_had clients past who (message.Cancel other boot cookie) h s = subst (Had clients past) s h
+says_had clients past who (message.Replay r) h s = subst (Had clients past) s h
+says_had clients past who (message.Lock r) h s = subst (Had clients past) s h
+says_had clients past who (message.Word other boot replays locks seen) h s = subst (Had clients past) s h
+says_had clients past who m h s = absurd s
+
+says_old : (clients : ℕ) (past : List Line) (h : Lives clients past) (from into : Node) (m : Message) → Was past from into m → Says clients past m
+says_old clients past h from into (message.Request r) w = h.spoke from into r.who (message.Request r) w refl
+says_old clients past h from into (message.Cancel who boot cookie) w = h.spoke from into who (message.Cancel who boot cookie) w refl
+says_old clients past h from into (message.Replay r) w = h.spoke from into r.who (message.Replay r) w refl
+says_old clients past h from into (message.Lock r) w = h.spoke from into r.who (message.Lock r) w refl
+says_old clients past h from into (message.Word who boot replays locks seen) w = h.spoke from into who (message.Word who boot replays locks seen) w refl
+says_old clients past h from into (message.Ready who boot committed) w = h.ready from into who boot committed w
+says_old clients past h from into (message.Evicted who boot) w = h.over from into who boot w
+says_old clients past h from into m w = tt
 
 module _ (clients : ℕ) (past : List Line) (stamp : Stamp) (node to : Node) (m : Message) (says : Says clients past m) (h : Lives clients past) where
   sends : (from into : Node) (p : Message) → (Was past from into p → Says clients past p) → Was (line (turn stamp node) (Send to m) ∷ past) from into p → Says clients past p
@@ -282,8 +327,7 @@ lives_send clients past stamp (Client c) to m says h =
       served = h.served;
       flew = h.flew;
       acted = h.acted;
-      asked = λ from into r. sends clients past stamp (Client c) to m says h from into (message.Request r) (h.asked from into r);
-      back = λ from into who boot cookie. sends clients past stamp (Client c) to m says h from into (message.Cancel who boot cookie) (h.back from into who boot cookie);
+      spoke = λ from into who p w s. says_had clients past who p (sends clients past stamp (Client c) to m says h from into p (λ v. says_old clients past h from into p v) w) s;
       ready = λ from into who boot committed. sends clients past stamp (Client c) to m says h from into (message.Ready who boot committed) (h.ready from into who boot committed);
       over = λ from into who boot. sends clients past stamp (Client c) to m says h from into (message.Evicted who boot) (h.over from into who boot);
     }
@@ -296,29 +340,33 @@ lives_send clients past stamp (Target t) to m says h =
       served = h.served;
       flew = h.flew;
       acted = h.acted;
-      asked = λ from into r. sends clients past stamp (Target t) to m says h from into (message.Request r) (h.asked from into r);
-      back = λ from into who boot cookie. sends clients past stamp (Target t) to m says h from into (message.Cancel who boot cookie) (h.back from into who boot cookie);
+      spoke = λ from into who p w s. says_had clients past who p (sends clients past stamp (Target t) to m says h from into p (λ v. says_old clients past h from into p v) w) s;
       ready = λ from into who boot committed. sends clients past stamp (Target t) to m says h from into (message.Ready who boot committed) (h.ready from into who boot committed);
       over = λ from into who boot. sends clients past stamp (Target t) to m says h from into (message.Evicted who boot) (h.over from into who boot);
     }
 
 -- who spoke and has no slot was evicted
 spoke_evicted : (clients : ℕ) (past : List Line) (t : ℕ) (who : Who) → is_life who (lives_of clients past) ≡ false → Spoke past t who → Lives clients past → Evicted past who
-spoke_evicted clients past t who none spoke h = gone (⊎_elim
-    (λ (p : (from : ℕ) × (r : RequestOf) × Was past (Client from) (Target t) (message.Request r) × (r.who ≡ who)). subst (Had clients past) p.3 (h.asked (Client p.0) (Target t) p.1 p.2))
-    (λ (p : (from : ℕ) × (boot : ℕ) × (cookie : Cookie) × Was past (Client from) (Target t) (message.Cancel who boot cookie)). h.back (Client p.0) (Target t) who p.1 p.2 p.3)
-    spoke)
+spoke_evicted clients past t who none spoke h = gone (h.spoke (Client spoke.0) (Target t) who spoke.1 spoke.2 spoke.3)
   where
     gone : Had clients past who → Evicted past who
     gone (inl t) = absurd (cc)
     gone (inr e) = e
 
+-- who recovers isn't joining
+told_had : (head : Head) (past : List Line) (c : ℕ) → c < head.clients → (who : Who) (boot : ℕ) → TellsOk past c who boot → Lives head.clients past → Had head.clients past who
+told_had head past c one who boot ok h = subst (Had head.clients past) (sym ok.of_life) (h.served c one (recovers_joins (standing_of c past) ok.recovers))
+
 sent_says : (head : Head) (past : List Line) (stamp : Stamp) (node to : Node) (m : Message) → SendOf head past node to m → IsOneOf head node → Locks head.osts (line (turn stamp node) (Send to m) ∷ past) → Lives head.clients past → Says head.clients past m
-sent_says head past stamp (Client c) (Target t) (message.Request r) ok one k h = subst (Had head.clients past) (sym (ap (λ (v : RequestOf). v.who) ok.is)) (h.served c one ok.serves)
+sent_says head past stamp (Client c) (Target t) (message.Request r) ok one k h = subst (Had head.clients past) (sym (ap (λ (v : RequestOf). v.who) ok.is)) (h.served c one (serves_joins (standing_of c past) ok.serves))
 sent_says head past stamp (Client c) (Target t) (message.Cancel who boot cookie) ok one k h =
     let g = k.cancels (Client c) (Target t) who boot cookie (inl (refl, refl, refl)) in
     subst (Had head.clients past) g.of (h.acted g.deed g.gave.0)
 sent_says head past stamp (Client c) (Target t) (message.Join who boot) ok one k h = tt
+sent_says head past stamp (Client c) (Target t) (message.Replay r) ok one k h = told_had head past c one r.who r.boot ok h
+sent_says head past stamp (Client c) (Target t) (message.Lock r) ok one k h = told_had head past c one r.who r.boot ok h
+sent_says head past stamp (Client c) (Target t) (message.Word who boot replays locks seen) ok one k h = told_had head past c one who boot ok h
+sent_says head past stamp (Target t) (Client c) (message.Up boot) ok one k h = tt
 sent_says head past stamp (Target t) (Client c) (message.Reply r) ok one k h = tt
 sent_says head past stamp (Target t) (Client c) (message.Block who boot cookie) ok one k h = tt
 sent_says head past stamp (Target t) (Client c) (message.Ready who boot committed) ok one k h = inl ok.has
@@ -339,7 +387,7 @@ keeps_lives head past stamp (Target t) (Send to m) ok one d n k h = lives_send h
 keeps_lives head past stamp (Client c) (Flies t f) ok one d n k h = lives_flies head past stamp c t f ok one h
 keeps_lives head past stamp (Client c) (Serves t boot) ok one d n k h = lives_serves head.clients past stamp c t boot ok h
 keeps_lives head past stamp (Client c) (Life who) ok one d n k h = lives_life head.clients past stamp c who ok h
-keeps_lives head past stamp (Client c) (Knows t boot) ok one d n k h = absurd ok
+keeps_lives head past stamp (Client c) (Knows t boot) ok one d n k h = lives_knows head.clients past stamp c t boot h
 keeps_lives head past stamp (Client c) (Act e) ok one d n k h = absurd ok
 keeps_lives head past stamp (Client c) (Made e) ok one d n k h = absurd ok
 keeps_lives head past stamp (Target t) (Act e) ok one d n k h = lives_act head.osts head.clients past stamp t e n h

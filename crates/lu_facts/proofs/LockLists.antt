@@ -15,7 +15,7 @@ use Rattle.lu_held.specs.declared.locks.HeldLock.{HeldLock}
 use Rattle.lu_held.specs.declared.names.LockName.{LockName}
 use Rattle.lu_held.specs.Locks.{is_named, after}
 use Rattle.lu_held.specs.Locks as held
-use Rattle.lu_held.specs.Held.{is_held, changed, without, used}
+use Rattle.lu_held.specs.Held.{is_held, changed, without, used, unmarked}
 use Rattle.lu_target_rows.specs.Lives.{is_life}
 use Rattle.lu_target_rows.specs.Locks.{with_lock, with_locks, locks_without}
 use Rattle.lu_target_rows.specs.Names.{locks_from}
@@ -183,6 +183,17 @@ changed_kept n change hs h i = by (in_map (λ g. if is_named n g then after chan
       r.1,
       cond_both (is_named n r.0) (after change r.0) r.0 (λ (v : HeldLock). v ≡ h → r.0.target ≡ h.target) (λ t e. sym (after_same change r.0).0 ∙ ap (λ (v : HeldLock). v.target) e) (λ t e. ap (λ (v : HeldLock). v.target) e) r.2,
       cond_both (is_named n r.0) (after change r.0) r.0 (λ (v : HeldLock). v ≡ h → r.0.lock ≡ h.lock) (λ t e. sym (after_same change r.0).1 ∙ ap (λ (v : HeldLock). v.lock) e) (λ t e. ap (λ (v : HeldLock). v.lock) e) r.2,
+    )
+
+pub unmarked_kept : (target : TargetId) (hs : List HeldLock) (h : HeldLock) → In h (unmarked target hs) → Kept hs h
+unmarked_kept target hs h i = by (in_map (λ g. if nat_eq g.target.0 target.0 then after Unmark g else g) h hs i)
+  where
+    by : (g : HeldLock) × In g hs × ((if nat_eq g.target.0 target.0 then after Unmark g else g) ≡ h) → Kept hs h
+    by r = (
+      r.0,
+      r.1,
+      cond_both (nat_eq r.0.target.0 target.0) (after Unmark r.0) r.0 (λ (v : HeldLock). v ≡ h → r.0.target ≡ h.target) (λ t e. ap (λ (v : HeldLock). v.target) e) (λ t e. ap (λ (v : HeldLock). v.target) e) r.2,
+      cond_both (nat_eq r.0.target.0 target.0) (after Unmark r.0) r.0 (λ (v : HeldLock). v ≡ h → r.0.lock ≡ h.lock) (λ t e. ap (λ (v : HeldLock). v.lock) e) (λ t e. ap (λ (v : HeldLock). v.lock) e) r.2,
     )
 
 pub used_in : (n : LockName) (hs : List HeldLock) (h : HeldLock) → In h (used n hs) → In h hs

@@ -1,6 +1,6 @@
 -- Locks at one target: each lock that an act gave is granted, or dead, which means that the reply that brings it was heard and its
 -- client holds it no more, or its life was evicted. What is held came with a reply that its life heard, and is granted, unless that
--- life was evicted; what is given back is dead.
+-- life was evicted; what is given back is dead. A crash takes nothing of this away, but what is granted isn't shown after it.
 use Rattle.std.proofs.Common.{◌≡◌, ℕ, ◌<◌, Bool, true, false, List, [], ◌∷◌, Some, ◌⊎◌, inl, inr, ⊎_elim, refl, sym, subst, ap, ◌∙◌, arith}
 use Rattle.std.specs.Prelude.{nat_eq, not, ◌&&◌, if◌then◌else◌}
 use Rattle.std.proofs.lemmas.Bool.{cond_both, eqb-true, eqb-false, not-true}
@@ -23,19 +23,21 @@ use Rattle.lu_machine.specs.Footprint.{answer, grants}
 use Rattle.lu_held.specs.declared.locks.HeldLock.{HeldLock}
 use Rattle.lu_held.specs.Locks.{is_named, named}
 use Rattle.lu_held.specs.Held.{is_held, without}
-use Rattle.lu_words.specs.Carried.{Deed, Flight}
-use Rattle.lu_words.specs.Words.{Entry, Send, Heard, Hold, Drop, Life, Pins, Unpins, Marks, Unmarks, Act, Txn as Made, Release, Evict, Line, line, same_life}
+use Rattle.lu_words.specs.Carried.{Deed, Flight, Disk}
+use Rattle.lu_words.specs.Words.{Entry, Send, Heard, Hold, Drop, Life, Pins, Unpins, Marks, Unmarks, Act, Txn as Made, Release, Evict, Crash, Boot, Close, Line, line, same_life}
 use Rattle.lu_target_rows.specs.Objects.{lock_of}
 use Rattle.lu_client_rows.specs.Caches.{held_as, with_brought, granted_lock, brought, held_at}
-use Rattle.lu_covered.specs.TargetStates.{Server, none, server_of, evicted_of, shown_of, next_number}
+use Rattle.lu_covered.specs.TargetStates.{Server, none, server_of, evicted_of, shown_of, up_of, next_number}
 use Rattle.lu_covered.specs.Deeds.{asked}
 use Rattle.lu_covered.specs.ClientStates.{life_of, is_own}
 use Rattle.lu_covered.specs.Heads.{Head}
-use Rattle.lu_guards.proofs.Guards.{In, name_of, HeardOk, DropOk, LifeOf, ActOk, TxnOk, BackOk, LeftOk, EntryOf, IsOfFirst}
+use Rattle.lu_guards.proofs.Guards.{In, name_of}
+use Rattle.lu_guards.proofs.StoryGuards.{HeardOk, DropOk, LifeOf, ActOk, TxnOk, BackOk, LeftOk, BootOk, IsServing, EntryOf}
+use Rattle.lu_guards.proofs.Grown.{IsOfFirst}
 use Rattle.lu_guards.proofs.Lists.{in_append, in_filter, in_filtered, own_is, own_self}
 use Rattle.lu_facts.proofs.Groups.{turn, Flew, Acted, Hears, Phase, Numbers, Done, Gave, Dead, Evicted, Holding, Gone, GivenBack, Locks}
 use Rattle.lu_facts.proofs.LockLists.{from_high, from_who, from_mode, from_once, withs_in, withs_old, withs_new, leaves_or, left_in, held_not, not_held, is_of_name, not_of_name, Kept, kept_same, brought_in}
-use Rattle.lu_facts.proofs.LocksStay.{Grows, StaysDead, called_more, given_more, Stays, stays_dead, locks_stay, pins_held, unpins_held, marks_held, shown_held, kept_dead, locks_pins, locks_unpins, locks_marks, locks_hold}
+use Rattle.lu_facts.proofs.LocksStay.{Grows, StaysDead, called_more, given_more, Stays, stays_dead, locks_stay, pins_held, unpins_held, marks_held, unmarks_held, shown_held, kept_dead, locks_pins, locks_unpins, locks_marks, locks_unmarks, locks_hold}
 use Rattle.lu_facts.proofs.LocksSaid.{sent_said, locks_send}
 use Rattle.lu_guards.proofs.LockLists.{greatest_least, greatest_has}
 use Rattle.lu_guards.proofs.LifeLists.{life_put, life_put_more}
@@ -53,7 +55,7 @@ module _ (osts : ℕ) (past : List Line) (stamp : Stamp) (c t : ℕ) (lock : Loc
       (λ q i. kept_same (held_at d past) k i)
 
   drops_stay : Stays osts past dropping
-  drops_stay = record { grows = record { acted = λ d a. a; hears = λ d x a. a }; before = λ d l g. g; granted = refl; cookie = refl; shown = refl; evicted = λ who i. i; life = λ d. refl; kept = dropped_kept }
+  drops_stay = record { grows = record { acted = λ d a. a; hears = λ d x a. a }; before = λ d l g. g; granted = refl; cookie = refl; shown = refl; serves = λ s. s; up = refl; evicted = λ who i. i; life = λ d. refl; kept = dropped_kept }
 
   -- none of its name is held
   dropped_none : (d : ℕ) → d ≡ c → is_held (name_of lock.cookie) (held_at d dropping) ≡ false
@@ -63,7 +65,7 @@ module _ (osts : ℕ) (past : List Line) (stamp : Stamp) (c t : ℕ) (lock : Loc
       (λ q i. subst (λ v. is_named (named (record { 0 = v }) lock.cookie) k ≡ false) first (not-true (is_named (named (record { 0 = t }) lock.cookie) k) (in_filter (λ (g : HeldLock). not (is_named (named (record { 0 = t }) lock.cookie) g)) k (held_at d past) i).1))
       (λ q i. absurd (eqb-false d c q e)))
 
-  dropped_back : GivenBack dropping (life_of c past) 1 lock.cookie
+  dropped_back : GivenBack dropping (life_of c past) lock.cookie
   dropped_back =
       let r = h.held c ok.holding ok.held in
       let client : r.deed.reply.who.client ≡ c = ap (λ (w : Who). w.client) r.who ∙ p.client c in
@@ -74,7 +76,6 @@ module _ (osts : ℕ) (past : List Line) (stamp : Stamp) (c t : ℕ) (lock : Loc
         is = refl;
         of = r.who;
         dead = (subst (λ (w : Who). Hears past w r.deed.reply.xid.0) (sym r.who) r.heard, dropped_none r.deed.reply.who.client client);
-        first = refl;
       }
 
   locks_drop : Locks osts dropping
@@ -82,10 +83,10 @@ module _ (osts : ℕ) (past : List Line) (stamp : Stamp) (c t : ℕ) (lock : Loc
       locks_stay osts past dropping drops_stay h
       (record {
         blocks = λ from d who boot cookie w. called_more past dropping drops_stay.grows d who cookie (h.blocks from d who boot cookie w);
-        cancels = λ from to who boot cookie w. given_more past dropping drops_stay.grows (stays_dead osts past dropping drops_stay h) who boot cookie (h.cancels from to who boot cookie w);
+        cancels = λ from to who boot cookie w. given_more past dropping drops_stay.grows (stays_dead osts past dropping drops_stay h) who cookie (h.cancels from to who boot cookie w);
         gone = λ who cookie. ⊎_elim
-            (λ (q : (is_own who past (Client c) ≡ true) × (lock.cookie ≡ cookie)). subst (λ v. GivenBack dropping who 1 v) q.1 (subst (λ (w : Who). GivenBack dropping w 1 lock.cookie) (sym (own_is who past c q.0)) dropped_back))
-            (λ (q : Gone past who cookie). given_more past dropping drops_stay.grows (stays_dead osts past dropping drops_stay h) who 1 cookie (h.gone who cookie q));
+            (λ (q : (is_own who past (Client c) ≡ true) × (lock.cookie ≡ cookie)). subst (λ v. GivenBack dropping who v) q.1 (subst (λ (w : Who). GivenBack dropping w lock.cookie) (sym (own_is who past c q.0)) dropped_back))
+            (λ (q : Gone past who cookie). given_more past dropping drops_stay.grows (stays_dead osts past dropping drops_stay h) who cookie (h.gone who cookie q));
         answers = λ d a. h.answers d a;
       })
 
@@ -183,8 +184,8 @@ module _ (osts : ℕ) (past : List Line) (stamp : Stamp) (c t : ℕ) (f : Flight
             (h.alive d l g);
         shown = h.shown;
         blocks = λ from d who boot cookie w. called_more past hearing hears_more d who cookie (h.blocks from d who boot cookie w);
-        cancels = λ from to who boot cookie w. given_more past hearing hears_more heard_dead who boot cookie (h.cancels from to who boot cookie w);
-        gone = λ who cookie w. given_more past hearing hears_more heard_dead who 1 cookie (h.gone who cookie w);
+        cancels = λ from to who boot cookie w. given_more past hearing hears_more heard_dead who cookie (h.cancels from to who boot cookie w);
+        gone = λ who cookie w. given_more past hearing hears_more heard_dead who cookie (h.gone who cookie w);
         answers = h.answers;
       }
 
@@ -216,7 +217,7 @@ act_gives osts past at d ok =
       answers = λ k. no_lock osts v.tree none r.who r.op k;
     })
 
-module _ (osts : ℕ) (past : List Line) (stamp : Stamp) (t : ℕ) (d : Deed) (g : Gives osts past d) (h : Locks osts past) where
+module _ (osts : ℕ) (past : List Line) (stamp : Stamp) (t : ℕ) (d : Deed) (g : Gives osts past d) (serves : IsServing osts past) (h : Locks osts past) where
   abbrev acting : List Line
   acting = line (turn stamp (Target t)) (Act d) ∷ past
 
@@ -225,7 +226,7 @@ module _ (osts : ℕ) (past : List Line) (stamp : Stamp) (t : ℕ) (d : Deed) (g
 
   -- what was given before
   older : (e : Deed) (l k : Lock) → Gave past e l → In k d.reply.locks → l.cookie.0 ≡ k.cookie.0 → ⊥
-  older e l k gave i q = let a = h.low e l gave in let b = g.high k i in omega arith
+  older e l k gave i q = let a = h.low serves e l gave in let b = g.high k i in omega arith
 
   gave_cases : (e : Deed) (l : Lock) → Gave acting e l → ((d ≡ e) × In l d.reply.locks) ⊎ Gave past e l
   gave_cases e l gave = ⊎_elim (λ (q : d ≡ e). inl (q, subst (λ (v : Deed). In l v.reply.locks) (sym q) gave.1)) (λ (a : Acted past e). inr (a, gave.1)) gave.0
@@ -233,11 +234,11 @@ module _ (osts : ℕ) (past : List Line) (stamp : Stamp) (t : ℕ) (d : Deed) (g
   granted_new : (l : Lock) → In l d.reply.locks → In l (server_of osts acting).granted
   granted_new l i = withs_new d.reply.locks l (server_of osts past).granted (λ y j e. g.apart l y i j e) i
 
-  shown_new : (l : Lock) → In l (server_of osts acting).granted → In l (shown_of acting)
-  shown_new l i =
+  shown_new : up_of past ≡ true → (l : Lock) → In l (server_of osts acting).granted → In l (shown_of acting)
+  shown_new u l i =
       ⊎_elim
       (λ (j : In l d.reply.locks). withs_new d.reply.locks l (shown_of past) (λ y k e. g.apart l y j k e) j)
-      (λ (j : In l (server_of osts past).granted). let r = h.granted l j in withs_old d.reply.locks l (shown_of past) (λ y k e. absurd (older r.0 l y r.1 k e)) (h.shown l j))
+      (λ (j : In l (server_of osts past).granted). let r = h.granted l j in withs_old d.reply.locks l (shown_of past) (λ y k e. absurd (older r.0 l y r.1 k e)) (h.shown serves u l j))
       (withs_in d.reply.locks l (server_of osts past).granted i)
 
   granted_old : (l : Lock) → In l (server_of osts past).granted → In l (server_of osts acting).granted
@@ -248,9 +249,9 @@ module _ (osts : ℕ) (past : List Line) (stamp : Stamp) (t : ℕ) (d : Deed) (g
       record {
         whose = λ e l gave. ⊎_elim (λ (q : (d ≡ e) × In l d.reply.locks). g.who l q.1 ∙ ap (λ (v : Deed). v.reply.who) q.0) (λ (o : Gave past e l). h.whose e l o) (gave_cases e l gave);
         readers = λ e l gave. ⊎_elim (λ (q : (d ≡ e) × In l d.reply.locks). g.mode l q.1) (λ (o : Gave past e l). h.readers e l o) (gave_cases e l gave);
-        low = λ e l gave. ⊎_elim
+        low = λ v e l gave. ⊎_elim
             (λ (q : (d ≡ e) × In l d.reply.locks). greatest_has (server_of osts past).cookie d.reply.locks l q.1)
-            (λ (o : Gave past e l). let a = h.low e l o in let b = greatest_least (server_of osts past).cookie d.reply.locks in omega arith)
+            (λ (o : Gave past e l). let a = h.low serves e l o in let b = greatest_least (server_of osts past).cookie d.reply.locks in omega arith)
             (gave_cases e l gave);
         once = λ e b l k gave given q. ⊎_elim
             (λ (x : (d ≡ e) × In l d.reply.locks). ⊎_elim
@@ -271,10 +272,10 @@ module _ (osts : ℕ) (past : List Line) (stamp : Stamp) (t : ℕ) (d : Deed) (g
             (λ (q : (d ≡ e) × In l d.reply.locks). inl (granted_new l q.1))
             (λ (o : Gave past e l). ⊎_elim (λ (i : In l (server_of osts past).granted). inl (granted_old l i)) (λ (x : Dead past e l ⊎ Evicted past e.reply.who). inr x) (h.alive e l o))
             (gave_cases e l gave);
-        shown = shown_new;
+        shown = λ v u. shown_new u;
         blocks = λ from c who boot cookie w. called_more past acting act_grows c who cookie (h.blocks from c who boot cookie w);
-        cancels = λ from to who boot cookie w. given_more past acting act_grows (λ e l o x. x) who boot cookie (h.cancels from to who boot cookie w);
-        gone = λ who cookie w. given_more past acting act_grows (λ e l o x. x) who 1 cookie (h.gone who cookie w);
+        cancels = λ from to who boot cookie w. given_more past acting act_grows (λ e l o x. x) who cookie (h.cancels from to who boot cookie w);
+        gone = λ who cookie w. given_more past acting act_grows (λ e l o x. x) who cookie (h.gone who cookie w);
         answers = λ e. ⊎_elim (λ (q : d ≡ e) r. subst (λ (v : Deed). granted_lock v.op r v.reply.answer ≡ []) q (g.answers r)) (λ (a : Acted past e) r. h.answers e a r);
       }
 
@@ -285,8 +286,8 @@ locks_txn osts past stamp t d ok h =
     locks_stay osts past new stays h
     (record {
       blocks = λ from c who boot cookie w. called_more past new grows c who cookie (h.blocks from c who boot cookie w);
-      cancels = λ from to who boot cookie w. given_more past new grows (λ e l o x. x) who boot cookie (h.cancels from to who boot cookie w);
-      gone = λ who cookie w. given_more past new grows (λ e l o x. x) who 1 cookie (h.gone who cookie w);
+      cancels = λ from to who boot cookie w. given_more past new grows (λ e l o x. x) who cookie (h.cancels from to who boot cookie w);
+      gone = λ who cookie w. given_more past new grows (λ e l o x. x) who cookie (h.gone who cookie w);
       answers = λ e. ⊎_elim (λ (q : d ≡ e) r. subst (λ (v : Deed). granted_lock v.op r v.reply.answer ≡ []) (sym ok.is ∙ q) (no_lock osts v.tree (next_number v) ok.request.who ok.request.op r)) (λ (a : Acted past e) r. h.answers e a r);
     })
   where
@@ -303,7 +304,7 @@ locks_txn osts past stamp t d ok h =
     none_given e l gave = ⊎_elim (λ (q : d ≡ e). absurd (subst (λ (v : Deed). In l v.reply.locks) (sym q ∙ ok.is) gave.1)) (λ (a : Acted past e). (a, gave.1)) gave.0
 
     stays : Stays osts past new
-    stays = record { grows = grows; before = none_given; granted = refl; cookie = refl; shown = refl; evicted = λ who i. i; life = λ c. refl; kept = λ c k i. kept_same (held_at c past) k i }
+    stays = record { grows = grows; before = none_given; granted = refl; cookie = refl; shown = refl; serves = λ s. s; up = refl; evicted = λ who i. i; life = λ c. refl; kept = λ c k i. kept_same (held_at c past) k i }
 
 -- ---- a lock is taken back, which is dead
 
@@ -323,10 +324,10 @@ module _ (osts : ℕ) (past : List Line) (stamp : Stamp) (t : ℕ) (lock : Lock)
   was_granted : (l : Lock) → In l (server_of osts releasing).granted → In l (server_of osts past).granted
   was_granted l i = (in_filter (λ (k : Lock). not (nat_eq k.cookie.0 lock.cookie.0)) l (server_of osts past).granted i).0
 
-  shown_released : (l : Lock) → In l (server_of osts releasing).granted → In l (shown_of releasing)
-  shown_released l i =
+  shown_released : IsServing osts past → up_of past ≡ true → (l : Lock) → In l (server_of osts releasing).granted → In l (shown_of releasing)
+  shown_released v u l i =
       let r = in_filter (λ (k : Lock). not (nat_eq k.cookie.0 lock.cookie.0)) l (server_of osts past).granted i in
-      in_filtered (λ (k : Lock). not (nat_eq k.cookie.0 lock.cookie.0)) l (shown_of past) (h.shown l r.0) r.1
+      in_filtered (λ (k : Lock). not (nat_eq k.cookie.0 lock.cookie.0)) l (shown_of past) (h.shown v u l r.0) r.1
 
   -- where what isn't granted any more is dead, and isn't held
   locks_released : ((d : Deed) (l : Lock) → Gave past d l → In l (server_of osts past).granted → In l (server_of osts releasing).granted ⊎ Dead past d l)
@@ -449,7 +450,7 @@ module _ (osts : ℕ) (past : List Line) (stamp : Stamp) (t : ℕ) (who : Who) (
             (granted_or l i))
             (λ (x : Dead past d l ⊎ Evicted past d.reply.who). inr (⊎_elim (λ (y : Dead past d l). inl y) (λ (y : Evicted past d.reply.who). inr (evicts_more d.reply.who y)) x))
             (h.alive d l gave);
-        shown = λ l i. h.shown l (left_in who (server_of osts past).granted l i);
+        shown = λ v u l i. h.shown v u l (left_in who (server_of osts past).granted l i);
         blocks = h.blocks;
         cancels = h.cancels;
         gone = h.gone;
@@ -497,6 +498,45 @@ module _ (osts : ℕ) (past : List Line) (stamp : Stamp) (c : ℕ) (who : Who) (
         answers = h.answers;
       }
 
+-- ---- a crash and a boot: what is granted stands, but isn't shown any more; and from a boot on nothing is served
+
+locks_crash : (osts : ℕ) (past : List Line) (stamp : Stamp) (t : ℕ) → Locks osts past → Locks osts (line (turn stamp (Target t)) Crash ∷ past)
+locks_crash osts past stamp t h =
+    record {
+      whose = h.whose;
+      readers = h.readers;
+      low = λ v d l g. let up = v.up in absurd (cc);
+      once = h.once;
+      granted = h.granted;
+      held = h.held;
+      alive = h.alive;
+      shown = λ v u l i. absurd (cc);
+      blocks = h.blocks;
+      cancels = h.cancels;
+      gone = h.gone;
+      answers = h.answers;
+    }
+
+locks_boot : (osts : ℕ) (past : List Line) (stamp : Stamp) (t boot : ℕ) (disk : Disk) → BootOk osts past boot → Phase osts past → Locks osts past → Locks osts (line (turn stamp (Target t)) (Boot boot disk) ∷ past)
+locks_boot osts past stamp t boot disk ok p h =
+    record {
+      whose = h.whose;
+      readers = h.readers;
+      low = λ v d l g. absurd (unserved v);
+      once = h.once;
+      granted = h.granted;
+      held = h.held;
+      alive = h.alive;
+      shown = λ v u l i. absurd (unserved v);
+      blocks = h.blocks;
+      cancels = h.cancels;
+      gone = h.gone;
+      answers = h.answers;
+    }
+  where
+    unserved : IsServing osts (line (turn stamp (Target t)) (Boot boot disk) ∷ past) → ⊥
+    unserved v = let closed = v.closed in let c = p.closed in let n = ok.next in let low = p.low in omega (arith, closed, c, n, low)
+
 -- ---- each line
 
 pub keeps_locks : (head : Head) (past : List Line) (stamp : Stamp) (node : Node) (e : Entry) → EntryOf head past (turn stamp node) node e → IsOfFirst e → Phase head.osts past → Numbers past → Done head.osts past
@@ -509,12 +549,15 @@ keeps_locks head past stamp (Client c) (Drop t lock) ok first p n k h = locks_dr
 keeps_locks head past stamp (Client c) (Pins name) ok first p n k h = locks_pins head.osts past stamp c h name
 keeps_locks head past stamp (Client c) (Unpins name) ok first p n k h = locks_unpins head.osts past stamp c h name
 keeps_locks head past stamp (Client c) (Marks name) ok first p n k h = locks_marks head.osts past stamp c h name
-keeps_locks head past stamp (Target t) (Act d) ok first p n k h = locks_act head.osts past stamp t d (act_gives head.osts past (turn stamp (Target t)) d ok) h
+keeps_locks head past stamp (Target t) (Act d) ok first p n k h = locks_act head.osts past stamp t d (act_gives head.osts past (turn stamp (Target t)) d ok) ok.serves h
 keeps_locks head past stamp (Target t) (Made d) ok first p n k h = locks_txn head.osts past stamp t d ok h
 keeps_locks head past stamp (Client c) (Life who) ok first p n k h = locks_life head.osts past stamp c who ok h
-keeps_locks head past stamp (Target t) (Release lock) ok first p n k h = ⊎_elim (λ (b : BackOk head.osts past t lock). locks_back head.osts past stamp t lock b p h) (λ (b : LeftOk head.osts past lock). locks_left head.osts past stamp t lock b h) ok
+keeps_locks head past stamp (Target t) (Release lock) ok first p n k h = ⊎_elim (λ (b : BackOk head.osts past t lock). locks_back head.osts past stamp t lock b p h) (λ (b : LeftOk head.osts past lock). locks_left head.osts past stamp t lock b h) ok.1
 keeps_locks head past stamp (Target t) (Evict who cause) ok first p n k h = locks_evict head.osts past stamp t who cause h
-keeps_locks head past stamp (Client c) (Unmarks t) ok first p n k h = absurd ok
+keeps_locks head past stamp (Target t) Crash ok first p n k h = locks_crash head.osts past stamp t h
+keeps_locks head past stamp (Target t) (Boot boot disk) ok first p n k h = locks_boot head.osts past stamp t boot disk ok p h
+keeps_locks head past stamp (Client c) (Unmarks t) ok first p n k h = locks_unmarks head.osts past stamp c h t
+keeps_locks head past stamp (Target t) (Close close) ok first p n k h = absurd ok
 keeps_locks head past stamp (Client c) (Act d) ok first p n k h = absurd ok
 keeps_locks head past stamp (Client c) (Made d) ok first p n k h = absurd ok
 keeps_locks head past stamp (Target t) (Heard u f r) ok first p n k h = absurd ok
@@ -530,7 +573,7 @@ keeps_dead head past stamp (Client c) (Drop t lock) ok first p n k h = stays_dea
 keeps_dead head past stamp (Client c) (Pins name) ok first p n k h = kept_dead past stamp c (Pins name) (λ d x a. a) (pins_held past stamp c name)
 keeps_dead head past stamp (Client c) (Unpins name) ok first p n k h = kept_dead past stamp c (Unpins name) (λ d x a. a) (unpins_held past stamp c name)
 keeps_dead head past stamp (Client c) (Marks name) ok first p n k h = kept_dead past stamp c (Marks name) (λ d x a. a) (marks_held past stamp c name)
-keeps_dead head past stamp (Client c) (Unmarks t) ok first p n k h = absurd ok
+keeps_dead head past stamp (Client c) (Unmarks t) ok first p n k h = kept_dead past stamp c (Unmarks t) (λ d x a. a) (unmarks_held past stamp c t)
 keeps_dead head past stamp (Target t) (Heard u f r) ok first p n k h = absurd ok
 keeps_dead head past stamp (Target t) (Drop u lock) ok first p n k h = absurd ok
 keeps_dead head past stamp node e ok first p n k h = λ d l g x. x
@@ -540,12 +583,12 @@ locks_start osts =
     record {
       whose = λ d l g. absurd g.0;
       readers = λ d l g. absurd g.0;
-      low = λ d l g. absurd g.0;
+      low = λ v d l g. absurd g.0;
       once = λ d e l k g. absurd g.0;
       granted = λ l i. absurd i;
       held = λ c k i. absurd i;
       alive = λ d l g. absurd g.0;
-      shown = λ l i. absurd i;
+      shown = λ v u l i. absurd i;
       blocks = λ from c who boot cookie w. absurd w;
       cancels = λ from to who boot cookie w. absurd w;
       gone = λ who cookie w. absurd w;

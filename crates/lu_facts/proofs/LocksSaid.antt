@@ -14,7 +14,8 @@ use Rattle.lu_words.specs.Words.{Entry, Send, Drop, Line, line}
 use Rattle.lu_client_rows.specs.Caches.{held_at}
 use Rattle.lu_covered.specs.ClientStates.{flights_of, life_of, is_own}
 use Rattle.lu_covered.specs.Heads.{Head}
-use Rattle.lu_guards.proofs.Guards.{In, Was, name_of, Dropped, CancelOk, CallsOk, SendOf}
+use Rattle.lu_guards.proofs.Guards.{In, Was, name_of, Dropped}
+use Rattle.lu_guards.proofs.StoryGuards.{CancelOk, CallsOk, SendOf}
 use Rattle.lu_guards.proofs.Lists.{own_self}
 use Rattle.lu_facts.proofs.Groups.{turn, Hears, Phase, Numbers, Done, Called, Gone, GivenBack, Locks}
 use Rattle.lu_facts.proofs.LockLists.{kept_same}
@@ -43,16 +44,15 @@ call_sent osts past c who boot cookie ok k h =
       to = sym ok.to;
     }
 
-back_sent : (osts : ℕ) (past : List Line) (c : ℕ) (who : Who) (boot : ℕ) (cookie : Cookie) → CancelOk past c who boot cookie → Phase osts past → Numbers past → Done osts past → Locks osts past → GivenBack past who boot cookie
+back_sent : (osts : ℕ) (past : List Line) (c : ℕ) (who : Who) (boot : ℕ) (cookie : Cookie) → CancelOk past c who boot cookie → Phase osts past → Numbers past → Done osts past → Locks osts past → GivenBack past who cookie
 back_sent osts past c who boot cookie ok p n k h =
-    subst (λ v. GivenBack past who v cookie) (sym (ok.of_boot ∙ p.known c))
-    (⊎_elim
-    (λ (d : Dropped past c cookie). subst (λ (w : Who). GivenBack past w 1 cookie) (sym ok.of_life) (h.gone (life_of c past) cookie (dropped_gone past c cookie d)))
+    ⊎_elim
+    (λ (d : Dropped past c cookie). subst (λ (w : Who). GivenBack past w cookie) (sym ok.of_life) (h.gone (life_of c past) cookie (dropped_gone past c cookie d)))
     (λ (b : (flights_of (life_of c past) past ≡ []) × ((from boot : ℕ) × Was past (Target from) (Client c) (message.Block who boot cookie))). called b.0 (h.blocks (Target b.1.0) c who b.1.1 cookie b.1.2))
-    ok.cause)
+    ok.cause
   where
     -- with no request in flight its reply was heard
-    called : flights_of (life_of c past) past ≡ [] → Called past c who cookie → GivenBack past who 1 cookie
+    called : flights_of (life_of c past) past ≡ [] → Called past c who cookie → GivenBack past who cookie
     called quiet b =
         let f = k.flew b.deed b.gave.0 in
         let client : b.deed.reply.who.client ≡ c = ap (λ (w : Who). w.client) b.of ∙ b.to in
@@ -71,13 +71,12 @@ back_sent osts past c who boot cookie ok p n k h =
                 (n.stays b.deed.reply.who f.0 f.1)),
             ap (λ (v : Cookie). is_held (name_of v) (held_at b.deed.reply.who.client past)) b.is ∙ ap (λ v. is_held (name_of cookie) (held_at v past)) client ∙ ok.free,
           );
-          first = refl;
         }
 
 -- what one message says of locks
 abbrev pub SaidOf : List Line → Node → Message → Type 0
 SaidOf past (Client c) (message.Block who boot cookie) = Called past c who cookie
-SaidOf past to (message.Cancel who boot cookie) = GivenBack past who boot cookie
+SaidOf past to (message.Cancel who boot cookie) = GivenBack past who cookie
 SaidOf past to _ = Unit {0}
 
 pub sent_said : (head : Head) (past : List Line) (node to : Node) (m : Message) → SendOf head past node to m → Phase head.osts past → Numbers past → Done head.osts past → Locks head.osts past → SaidOf past to m
@@ -88,6 +87,10 @@ sent_said head past (Target t) (Client c) (message.Reply r) ok p n k h = tt
 sent_said head past (Target t) (Client c) (message.Block who boot cookie) ok p n k h = call_sent head.osts past c who boot cookie ok k h
 sent_said head past (Target t) (Client c) (message.Ready who boot committed) ok p n k h = tt
 sent_said head past (Target t) (Client c) (message.Evicted who boot) ok p n k h = tt
+sent_said head past (Client c) (Target t) (message.Replay r) ok p n k h = tt
+sent_said head past (Client c) (Target t) (message.Lock r) ok p n k h = tt
+sent_said head past (Client c) (Target t) (message.Word who boot replays locks seen) ok p n k h = tt
+sent_said head past (Target t) (Client c) (message.Up boot) ok p n k h = tt
 sent_said head past node to m ok p n k h = absurd ok
 
 module _ (osts : ℕ) (past : List Line) (at : At) (to : Node) (m : Message) (said : SaidOf past to m) (h : Locks osts past) where
@@ -104,22 +107,22 @@ module _ (osts : ℕ) (past : List Line) (at : At) (to : Node) (m : Message) (sa
             (λ (e : (at.node ≡ from) × (to ≡ Client c) × (m ≡ message.Block who boot cookie)). called_more past sending send_grows c who cookie (subst (λ (v : Message). SaidOf past (Client c) v) e.2 (subst (λ (v : Node). SaidOf past v m) e.1 said)))
             (λ (w : Was past from (Client c) (message.Block who boot cookie)). called_more past sending send_grows c who cookie (h.blocks from c who boot cookie w));
         cancels = λ from node who boot cookie. ⊎_elim
-            (λ (e : (at.node ≡ from) × (to ≡ node) × (m ≡ message.Cancel who boot cookie)). given_more past sending send_grows (λ d l g x. x) who boot cookie (back node who boot cookie (subst (λ (v : Message). SaidOf past node v) e.2 (subst (λ (v : Node). SaidOf past v m) e.1 said))))
-            (λ (w : Was past from node (message.Cancel who boot cookie)). given_more past sending send_grows (λ d l g x. x) who boot cookie (h.cancels from node who boot cookie w));
-        gone = λ who cookie w. given_more past sending send_grows (λ d l g x. x) who 1 cookie (h.gone who cookie w);
+            (λ (e : (at.node ≡ from) × (to ≡ node) × (m ≡ message.Cancel who boot cookie)). given_more past sending send_grows (λ d l g x. x) who cookie (back node who boot cookie (subst (λ (v : Message). SaidOf past node v) e.2 (subst (λ (v : Node). SaidOf past v m) e.1 said))))
+            (λ (w : Was past from node (message.Cancel who boot cookie)). given_more past sending send_grows (λ d l g x. x) who cookie (h.cancels from node who boot cookie w));
+        gone = λ who cookie w. given_more past sending send_grows (λ d l g x. x) who cookie (h.gone who cookie w);
         answers = λ d a. h.answers d a;
       }
     where
-      back : (node : Node) (who : Who) (boot : ℕ) (cookie : Cookie) → SaidOf past node (message.Cancel who boot cookie) → GivenBack past who boot cookie
+      back : (node : Node) (who : Who) (boot : ℕ) (cookie : Cookie) → SaidOf past node (message.Cancel who boot cookie) → GivenBack past who cookie
       back (Client c) who boot cookie b = b
       back (Target t) who boot cookie b = b
 
 pub locks_send : (osts : ℕ) (past : List Line) (stamp : Stamp) (node to : Node) (m : Message) → SaidOf past to m → Locks osts past → Locks osts (line (turn stamp node) (Send to m) ∷ past)
 locks_send osts past stamp (Client c) to m said h =
     locks_stay osts past (line (turn stamp (Client c)) (Send to m) ∷ past)
-    (record { grows = record { acted = λ d a. a; hears = λ d x a. a }; before = λ d l g. g; granted = refl; cookie = refl; shown = refl; evicted = λ who i. i; life = λ d. refl; kept = λ d k i. kept_same (held_at d past) k i }) h
+    (record { grows = record { acted = λ d a. a; hears = λ d x a. a }; before = λ d l g. g; granted = refl; cookie = refl; shown = refl; serves = λ s. s; up = refl; evicted = λ who i. i; life = λ d. refl; kept = λ d k i. kept_same (held_at d past) k i }) h
     (says_more osts past (turn stamp (Client c)) to m said h)
 locks_send osts past stamp (Target t) to m said h =
     locks_stay osts past (line (turn stamp (Target t)) (Send to m) ∷ past)
-    (record { grows = record { acted = λ d a. a; hears = λ d x a. a }; before = λ d l g. g; granted = refl; cookie = refl; shown = refl; evicted = λ who i. i; life = λ d. refl; kept = λ d k i. kept_same (held_at d past) k i }) h
+    (record { grows = record { acted = λ d a. a; hears = λ d x a. a }; before = λ d l g. g; granted = refl; cookie = refl; shown = refl; serves = λ s. s; up = refl; evicted = λ who i. i; life = λ d. refl; kept = λ d k i. kept_same (held_at d past) k i }) h
     (says_more osts past (turn stamp (Target t)) to m said h)

@@ -16,15 +16,16 @@ use Rattle.lu_msg.specs.declared.messages.Reply.{Reply as ReplyTo}
 use Rattle.lu_held.specs.declared.locks.Change.TheVariants.{Mark, Pin, Unpin}
 use Rattle.lu_held.specs.declared.locks.HeldLock.{HeldLock}
 use Rattle.lu_held.specs.declared.names.LockName.{LockName}
-use Rattle.lu_held.specs.Held.{changed, used}
+use Rattle.lu_held.specs.Held.{changed, used, unmarked}
 use Rattle.lu_words.specs.Carried.{Deed}
-use Rattle.lu_words.specs.Words.{Entry, Hold, Pins, Unpins, Marks, Line, line}
+use Rattle.lu_words.specs.Words.{Entry, Hold, Pins, Unpins, Marks, Unmarks, Line, line}
 use Rattle.lu_client_rows.specs.Caches.{held_as, with_held, granted_lock, held_at}
-use Rattle.lu_covered.specs.TargetStates.{server_of, shown_of}
+use Rattle.lu_covered.specs.TargetStates.{server_of, shown_of, up_of}
 use Rattle.lu_covered.specs.ClientStates.{life_of}
-use Rattle.lu_guards.proofs.Guards.{In, Was, name_of, HeldOk}
+use Rattle.lu_guards.proofs.Guards.{In, Was, name_of}
+use Rattle.lu_guards.proofs.StoryGuards.{HeldOk, IsServing}
 use Rattle.lu_facts.proofs.Groups.{turn, Acted, Hears, Gave, Dead, Evicted, Holding, Called, Gone, GivenBack, Locks}
-use Rattle.lu_facts.proofs.LockLists.{Kept, kept_same, kept_not, changed_kept, used_in, with_held_in}
+use Rattle.lu_facts.proofs.LockLists.{Kept, kept_same, kept_not, changed_kept, unmarked_kept, used_in, with_held_in}
 
 -- ---- what only grows
 
@@ -39,9 +40,9 @@ StaysDead past new = (d : Deed) (l : Lock) → Gave past d l → Dead past d l �
 pub called_more : (past new : List Line) → Grows past new → (c : ℕ) (who : Who) (cookie : Cookie) → Called past c who cookie → Called new c who cookie
 called_more past new g c who cookie h = record { deed = h.deed; lock = h.lock; gave = (g.acted h.deed h.gave.0, h.gave.1); is = h.is; of = h.of; to = h.to }
 
-pub given_more : (past new : List Line) → Grows past new → StaysDead past new → (who : Who) (boot : ℕ) (cookie : Cookie) → GivenBack past who boot cookie → GivenBack new who boot cookie
-given_more past new g dead who boot cookie h =
-    record { deed = h.deed; lock = h.lock; gave = (g.acted h.deed h.gave.0, h.gave.1); is = h.is; of = h.of; dead = dead h.deed h.lock h.gave h.dead; first = h.first }
+pub given_more : (past new : List Line) → Grows past new → StaysDead past new → (who : Who) (cookie : Cookie) → GivenBack past who cookie → GivenBack new who cookie
+given_more past new g dead who cookie h =
+    record { deed = h.deed; lock = h.lock; gave = (g.acted h.deed h.gave.0, h.gave.1); is = h.is; of = h.of; dead = dead h.deed h.lock h.gave h.dead }
 
 -- ---- lines that neither give nor take locks, and bring none to a client
 
@@ -51,6 +52,8 @@ pub record Stays (osts : ℕ) (past new : List Line) : Type 0 where
   pub granted : (server_of osts new).granted ≡ (server_of osts past).granted
   pub cookie : (server_of osts new).cookie ≡ (server_of osts past).cookie
   pub shown : shown_of new ≡ shown_of past
+  pub serves : IsServing osts new → IsServing osts past
+  pub up : up_of new ≡ up_of past
   pub evicted : (who : Who) → Evicted past who → Evicted new who
   pub life : (c : ℕ) → life_of c new ≡ life_of c past
   pub kept : (c : ℕ) (h : HeldLock) → In h (held_at c new) → Kept (held_at c past) h
@@ -64,8 +67,8 @@ pub record SaysAsBefore (past new : List Line) : Type 0 where
 -- or as it is said now
 pub record Says (past : List Line) : Type 0 where
   pub blocks : (from : Node) (c : ℕ) (who : Who) (boot : ℕ) (cookie : Cookie) → Was past from (Client c) (message.Block who boot cookie) → Called past c who cookie
-  pub cancels : (from to : Node) (who : Who) (boot : ℕ) (cookie : Cookie) → Was past from to (message.Cancel who boot cookie) → GivenBack past who boot cookie
-  pub gone : (who : Who) (cookie : Cookie) → Gone past who cookie → GivenBack past who 1 cookie
+  pub cancels : (from to : Node) (who : Who) (boot : ℕ) (cookie : Cookie) → Was past from to (message.Cancel who boot cookie) → GivenBack past who cookie
+  pub gone : (who : Who) (cookie : Cookie) → Gone past who cookie → GivenBack past who cookie
   pub answers : (d : Deed) → Acted past d → (r : ReplyTo) → granted_lock d.op r d.reply.answer ≡ []
 
 module _ (osts : ℕ) (past new : List Line) (s : Stays osts past new) (h : Locks osts past) where
@@ -97,8 +100,8 @@ module _ (osts : ℕ) (past new : List Line) (s : Stays osts past new) (h : Lock
   says_still y =
       record {
         blocks = λ from c who boot cookie w. called_more past new s.grows c who cookie (h.blocks from c who boot cookie (y.was from (Client c) (message.Block who boot cookie) w));
-        cancels = λ from to who boot cookie w. given_more past new s.grows stays_dead who boot cookie (h.cancels from to who boot cookie (y.was from to (message.Cancel who boot cookie) w));
-        gone = λ who cookie w. given_more past new s.grows stays_dead who 1 cookie (h.gone who cookie (y.gone who cookie w));
+        cancels = λ from to who boot cookie w. given_more past new s.grows stays_dead who cookie (h.cancels from to who boot cookie (y.was from to (message.Cancel who boot cookie) w));
+        gone = λ who cookie w. given_more past new s.grows stays_dead who cookie (h.gone who cookie (y.gone who cookie w));
         answers = λ d a. h.answers d (y.acted d a);
       }
 
@@ -107,7 +110,7 @@ module _ (osts : ℕ) (past new : List Line) (s : Stays osts past new) (h : Lock
       record {
         whose = λ d l g. h.whose d l (s.before d l g);
         readers = λ d l g. h.readers d l (s.before d l g);
-        low = λ d l g. subst (λ n. l.cookie.0 ≤ n) (sym s.cookie) (h.low d l (s.before d l g));
+        low = λ v d l g. subst (λ n. l.cookie.0 ≤ n) (sym s.cookie) (h.low (s.serves v) d l (s.before d l g));
         once = λ d e l k g f q. h.once d e l k (s.before d l g) (s.before e k f) q;
         granted = λ l i. let r = h.granted l (subst (λ (ls : List Lock). In l ls) s.granted i) in (r.0, (s.grows.acted r.0 r.1.0, r.1.1));
         held = λ c k i. holding_still c k (s.kept c k i);
@@ -115,7 +118,7 @@ module _ (osts : ℕ) (past new : List Line) (s : Stays osts past new) (h : Lock
             (λ (i : In l (server_of osts past).granted). inl (granted_still l i))
             (λ (x : Dead past d l ⊎ Evicted past d.reply.who). inr (⊎_elim (λ (y : Dead past d l). inl (stays_dead d l o y)) (λ (y : Evicted past d.reply.who). inr (s.evicted d.reply.who y)) x))
             (h.alive d l o);
-        shown = λ l i. subst (λ (ls : List Lock). In l ls) (sym s.shown) (h.shown l (subst (λ (ls : List Lock). In l ls) s.granted i));
+        shown = λ v u l i. subst (λ (ls : List Lock). In l ls) (sym s.shown) (h.shown (s.serves v) (sym s.up ∙ u) l (subst (λ (ls : List Lock). In l ls) s.granted i));
         blocks = y.blocks;
         cancels = y.cancels;
         gone = y.gone;
@@ -146,6 +149,12 @@ module _ (past : List Line) (stamp : Stamp) (c : ℕ) where
   abbrev target_of : ℕ → TargetId
   target_of n = record { 0 = n }
 
+  pub unmarks_held : (t d : ℕ) (k : HeldLock) → In k (held_at d (line (turn stamp (Client c)) (Unmarks t) ∷ past)) → Kept (held_at d past) k
+  unmarks_held t d k =
+      cond_both (nat_eq d c) (unmarked (target_of t) (held_at d past)) (held_at d past) (λ (hs : List HeldLock). In k hs → Kept (held_at d past) k)
+      (λ q i. unmarked_kept (target_of t) (held_at d past) k i)
+      (λ q i. kept_same (held_at d past) k i)
+
   pub shown_held : (t : ℕ) (lock : Lock) (marked : Bool) (size : Option ℕ) (seen : List ℕ) → t ≡ 0 → HeldOk past c lock → (d : ℕ) (k : HeldLock) → In k (held_at d (line (turn stamp (Client c)) (Hold t lock marked size seen) ∷ past)) → Kept (held_at d past) k
   shown_held t lock marked size seen first ok d k =
       cond_both (nat_eq d c) (with_held (held_as t lock marked) (held_at d past)) (held_at d past) (λ (hs : List HeldLock). In k hs → Kept (held_at d past) k)
@@ -171,24 +180,30 @@ module _ (osts : ℕ) (past : List Line) (stamp : Stamp) (c : ℕ) (h : Locks os
   pub locks_pins : (name : LockName) → Locks osts (line (turn stamp (Client c)) (Pins name) ∷ past)
   locks_pins name =
       let new : List Line = line (turn stamp (Client c)) (Pins name) ∷ past in
-      let s : Stays osts past new = record { grows = record { acted = λ d a. a; hears = λ d x a. a }; before = λ d l g. g; granted = refl; cookie = refl; shown = refl; evicted = λ who i. i; life = λ d. refl; kept = pins_held past stamp c name } in
+      let s : Stays osts past new = record { grows = record { acted = λ d a. a; hears = λ d x a. a }; before = λ d l g. g; granted = refl; cookie = refl; shown = refl; serves = λ s. s; up = refl; evicted = λ who i. i; life = λ d. refl; kept = pins_held past stamp c name } in
       locks_stay osts past new s h (says_still osts past new s h (record { was = λ from to m w. w; gone = λ d cookie w. w; acted = λ d a. a }))
 
   pub locks_unpins : (name : LockName) → Locks osts (line (turn stamp (Client c)) (Unpins name) ∷ past)
   locks_unpins name =
       let new : List Line = line (turn stamp (Client c)) (Unpins name) ∷ past in
-      let s : Stays osts past new = record { grows = record { acted = λ d a. a; hears = λ d x a. a }; before = λ d l g. g; granted = refl; cookie = refl; shown = refl; evicted = λ who i. i; life = λ d. refl; kept = unpins_held past stamp c name } in
+      let s : Stays osts past new = record { grows = record { acted = λ d a. a; hears = λ d x a. a }; before = λ d l g. g; granted = refl; cookie = refl; shown = refl; serves = λ s. s; up = refl; evicted = λ who i. i; life = λ d. refl; kept = unpins_held past stamp c name } in
       locks_stay osts past new s h (says_still osts past new s h (record { was = λ from to m w. w; gone = λ d cookie w. w; acted = λ d a. a }))
 
   pub locks_marks : (name : LockName) → Locks osts (line (turn stamp (Client c)) (Marks name) ∷ past)
   locks_marks name =
       let new : List Line = line (turn stamp (Client c)) (Marks name) ∷ past in
-      let s : Stays osts past new = record { grows = record { acted = λ d a. a; hears = λ d x a. a }; before = λ d l g. g; granted = refl; cookie = refl; shown = refl; evicted = λ who i. i; life = λ d. refl; kept = marks_held past stamp c name } in
+      let s : Stays osts past new = record { grows = record { acted = λ d a. a; hears = λ d x a. a }; before = λ d l g. g; granted = refl; cookie = refl; shown = refl; serves = λ s. s; up = refl; evicted = λ who i. i; life = λ d. refl; kept = marks_held past stamp c name } in
+      locks_stay osts past new s h (says_still osts past new s h (record { was = λ from to m w. w; gone = λ d cookie w. w; acted = λ d a. a }))
+
+  pub locks_unmarks : (t : ℕ) → Locks osts (line (turn stamp (Client c)) (Unmarks t) ∷ past)
+  locks_unmarks t =
+      let new : List Line = line (turn stamp (Client c)) (Unmarks t) ∷ past in
+      let s : Stays osts past new = record { grows = record { acted = λ d a. a; hears = λ d x a. a }; before = λ d l g. g; granted = refl; cookie = refl; shown = refl; serves = λ s. s; up = refl; evicted = λ who i. i; life = λ d. refl; kept = unmarks_held past stamp c t } in
       locks_stay osts past new s h (says_still osts past new s h (record { was = λ from to m w. w; gone = λ d cookie w. w; acted = λ d a. a }))
 
   -- a lock that is shown is held already
   pub locks_hold : (t : ℕ) (lock : Lock) (marked : Bool) (size : Option ℕ) (seen : List ℕ) → t ≡ 0 → HeldOk past c lock → Locks osts (line (turn stamp (Client c)) (Hold t lock marked size seen) ∷ past)
   locks_hold t lock marked size seen first ok =
       let new : List Line = line (turn stamp (Client c)) (Hold t lock marked size seen) ∷ past in
-      let s : Stays osts past new = record { grows = record { acted = λ d a. a; hears = λ d x a. a }; before = λ d l g. g; granted = refl; cookie = refl; shown = refl; evicted = λ who i. i; life = λ d. refl; kept = shown_held past stamp c t lock marked size seen first ok } in
+      let s : Stays osts past new = record { grows = record { acted = λ d a. a; hears = λ d x a. a }; before = λ d l g. g; granted = refl; cookie = refl; shown = refl; serves = λ s. s; up = refl; evicted = λ who i. i; life = λ d. refl; kept = shown_held past stamp c t lock marked size seen first ok } in
       locks_stay osts past new s h (says_still osts past new s h (record { was = λ from to m w. w; gone = λ d cookie w. w; acted = λ d a. a }))

@@ -15,7 +15,8 @@ use Rattle.lu_words.specs.Words.{Entry, Flies, Heard, Life, Line, line, same_lif
 use Rattle.lu_covered.specs.Imports.{without_flight, has_tag, above_tags, free_from, free_tag}
 use Rattle.lu_covered.specs.ClientStates.{flights_of, last_of, life_of, tag_of, is_own}
 use Rattle.lu_covered.specs.Heads.{Head}
-use Rattle.lu_guards.proofs.Guards.{In, FliesOk, LifeOf, EntryOf}
+use Rattle.lu_guards.proofs.Guards.{In}
+use Rattle.lu_guards.proofs.StoryGuards.{FliesOk, LifeOf, EntryOf}
 use Rattle.lu_guards.proofs.Lists.{self, in_append, in_filter, in_filtered, in_left, in_right, own_is}
 use Rattle.lu_facts.proofs.Groups.{turn, Flew, Hears, Phase, Tagged, Numbers, Room}
 use Rattle.lu_facts.proofs.Phase.{life_rises}

@@ -25,7 +25,9 @@ use Rattle.lu_covered.specs.Calls.{asks, asks_for, call_at, life_at, opened_by, 
 use Rattle.lu_covered.specs.Covered.{IsAloneOn}
 use Rattle.lu_covered.specs.ClientStates.{flights_of, is_own}
 use Rattle.lu_covered.specs.Heads.{Head}
-use Rattle.lu_guards.proofs.Guards.{In, Begins, BeginOk, HeardOk, EntryOk, Grown}
+use Rattle.lu_guards.proofs.Guards.{In, Begins, BeginOk, EntryOk}
+use Rattle.lu_guards.proofs.StoryGuards.{HeardOk}
+use Rattle.lu_guards.proofs.Grown.{Grown}
 use Rattle.lu_guards.proofs.Lists.{self, own_self}
 use Rattle.lu_guards.proofs.Parts.{life_is_of}
 use Rattle.lu_facts.proofs.Groups.{turn, Acted, Hears}

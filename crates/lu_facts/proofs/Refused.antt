@@ -19,7 +19,8 @@ use Rattle.lu_words.specs.Concerns.{only}
 use Rattle.lu_covered.specs.TargetStates.{none, server_of, next_number}
 use Rattle.lu_covered.specs.Deeds.{asked}
 use Rattle.lu_covered.specs.Heads.{Head}
-use Rattle.lu_guards.proofs.Guards.{ActOk, TxnOk, Allowed, Grown}
+use Rattle.lu_guards.proofs.StoryGuards.{ActOk, TxnOk}
+use Rattle.lu_guards.proofs.Grown.{Allowed, Grown}
 use Rattle.lu_facts.proofs.Groups.{turn, Acted}
 use Rattle.lu_facts.proofs.OnNames.{IsRefusal, IsPlain, is_plain}
 use Rattle.lu_facts.proofs.Readings.{reading_refused}

@@ -18,7 +18,9 @@ use Rattle.lu_covered.specs.Calls.{call_at, life_at, operation_of, becomes}
 use Rattle.lu_covered.specs.Imports.{flights_at}
 use Rattle.lu_covered.specs.ClientStates.{flights_of, life_of}
 use Rattle.lu_covered.specs.Heads.{Head}
-use Rattle.lu_guards.proofs.Guards.{In, Ending, HeardOk, EntryOk, Grown}
+use Rattle.lu_guards.proofs.Guards.{In, Ending, EntryOk}
+use Rattle.lu_guards.proofs.StoryGuards.{HeardOk}
+use Rattle.lu_guards.proofs.Grown.{Grown}
 use Rattle.lu_guards.proofs.Lists.{self}
 use Rattle.lu_guards.proofs.Parts.{flights_now, life_is_of}
 use Rattle.lu_facts.proofs.Groups.{turn, Flew, Acted, HoldsAt, CallOf, Asks, Upto, Since, Replied, Replies}

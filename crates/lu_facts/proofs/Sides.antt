@@ -1,5 +1,5 @@
 -- Where things are done, and between whom messages go: all is done by the metadata target, so it is in that target's
--- story; messages go from clients to targets and back, and but for those of lives to the metadata target and back.
+-- story; messages go from clients to targets and back, and but for those of lives and boots to the metadata target and back.
 use Rattle.std.proofs.Common.{◌≡◌, ℕ, Bool, true, List, [], ◌∷◌, ⊎_elim, refl, sym, subst, ap, ◌∙◌}
 use Rattle.std.specs.Prelude.{nat_eq, if◌then◌else◌}
 use Rattle.lu_base.specs.declared.ids.At.{At}
@@ -12,7 +12,8 @@ use Rattle.lu_words.specs.Words.{Entry, Send, Line, line}
 use Rattle.lu_words.specs.Concerns.{concerns, only}
 use Rattle.lu_words.specs.Sent.{Sent}
 use Rattle.lu_covered.specs.Heads.{Head}
-use Rattle.lu_guards.proofs.Guards.{Was, EntryOk, Grown}
+use Rattle.lu_guards.proofs.Guards.{Was, EntryOk}
+use Rattle.lu_guards.proofs.Grown.{Grown}
 use Rattle.lu_guards.proofs.Lists.{self}
 use Rattle.lu_guards.proofs.Only.{sent_was, was_only}
 use Rattle.lu_facts.proofs.Groups.{Acted}
@@ -40,9 +41,14 @@ acted_only head (l ∷ past) d g a =
 
 -- ---- what was sent
 
--- messages that only the metadata target has part in; joins, and what is told of lives, go to each target and come from each
+-- messages that only the metadata target has part in; joins, what is told of lives, and what is told of a boot and after it, go to each
+-- target and come from each
 abbrev pub OfMetadata : Message → Type 0
 OfMetadata (message.Join who boot) = ⊥
+OfMetadata (message.Up boot) = ⊥
+OfMetadata (message.Replay r) = ⊥
+OfMetadata (message.Lock r) = ⊥
+OfMetadata (message.Word who boot replays locks seen) = ⊥
 OfMetadata (message.Ready who boot committed) = ⊥
 OfMetadata (message.Evicted who boot) = ⊥
 OfMetadata m = Unit {0}
@@ -66,6 +72,10 @@ send_sides past at (Client c) (Target t) (message.Cancel who boot cookie) ok of 
 send_sides past at (Target t) (Client c) (message.Block who boot cookie) ok of = ok
 send_sides past at (Client c) (Target t) (message.Join who boot) ok of = absurd of
 send_sides past at (Target t) (Client c) (message.Ready who boot committed) ok of = absurd of
+send_sides past at (Client c) (Target t) (message.Replay r) ok of = absurd of
+send_sides past at (Client c) (Target t) (message.Lock r) ok of = absurd of
+send_sides past at (Client c) (Target t) (message.Word who boot replays locks seen) ok of = absurd of
+send_sides past at (Target t) (Client c) (message.Up boot) ok of = absurd of
 send_sides past at (Target t) (Client c) (message.Evicted who boot) ok of = absurd of
 send_sides past at node to m ok of = absurd ok
 

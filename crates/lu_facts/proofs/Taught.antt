@@ -26,7 +26,7 @@ use Rattle.lu_machine.specs.Footprint.{empty, touches, grants, changes, after, f
 use Rattle.lu_machine.specs.Seen.{meet}
 use Rattle.lu_machine.proofs.Stated.{unchanged_stay}
 use Rattle.lu_words.specs.Carried.{Deed}
-use Rattle.lu_words.specs.Words.{Entry, Act, Txn as Made, Commit, Release, Enters, Evict, Line, line}
+use Rattle.lu_words.specs.Words.{Entry, Act, Txn as Made, Commit, Release, Enters, Evict, Boot, Line, line}
 use Rattle.lu_client_rows.specs.Facts.{Fact, taught}
 use Rattle.lu_target_rows.specs.Lives.{is_life}
 use Rattle.lu_target_rows.specs.Locks.{with_locks}
@@ -35,9 +35,11 @@ use Rattle.lu_covered.specs.TargetParts.{operation, is_request_of, without_reque
 use Rattle.lu_covered.specs.TargetStates.{none, server_of, evicted_of, next_number, seen_in}
 use Rattle.lu_covered.specs.Deeds.{asked, deed, locks_of, written_by}
 use Rattle.lu_covered.specs.Heads.{Head}
-use Rattle.lu_guards.proofs.Guards.{In, CommitOk, EntersOk, EntryOf, IsOfFirst}
+use Rattle.lu_guards.proofs.Guards.{In}
+use Rattle.lu_guards.proofs.StoryGuards.{CommitOk, EntersOk, IsServing, EntryOf}
+use Rattle.lu_guards.proofs.Grown.{IsOfFirst}
 use Rattle.lu_guards.proofs.Lists.{in_append, in_left, in_right, in_filter, in_filtered, or_left, or_right}
-use Rattle.lu_facts.proofs.Groups.{turn, Acted, Phase, Dead, Evicted, Locks, Lives, HoldsAt}
+use Rattle.lu_facts.proofs.Groups.{turn, Acted, Dead, Evicted, Locks, Lives, HoldsAt}
 use Rattle.lu_facts.proofs.LockLists.{from_high, withs_in, left_in}
 use Rattle.lu_facts.proofs.LocksStay.{StaysDead}
 use Rattle.lu_facts.proofs.Locks.{keeps_dead}
@@ -49,9 +51,9 @@ use Rattle.lu_facts.proofs.LifeLists.{put_or}
 
 -- ---- the group
 
--- numbers so far, in the first boot
+-- numbers so far
 abbrev pub bound_of : ℕ → List Line → ℕ
-bound_of osts past = 4294967296 + (server_of osts past).count
+bound_of osts past = (server_of osts past).boot * 4294967296 + (server_of osts past).count
 
 -- that reply taught it
 abbrev pub TaughtBy : List Line → Deed → Fact → Type 0
@@ -168,7 +170,7 @@ fewer_waiting d r waiting i = (in_filter (λ (q : RequestOf). not (is_request_of
 
 -- ---- an act
 
-module _ (osts : ℕ) (past : List Line) (at : At) (r : RequestOf) (waited : In r (server_of osts past).waiting) (ls : Locks osts past) (h : Taught osts past) (still : changes osts (server_of osts past).tree (asked r none) ≡ false) where
+module _ (osts : ℕ) (past : List Line) (at : At) (r : RequestOf) (waited : In r (server_of osts past).waiting) (serves : IsServing osts past) (ls : Locks osts past) (h : Taught osts past) (still : changes osts (server_of osts past).tree (asked r none) ≡ false) where
   abbrev acting : Deed
   acting = deed osts (server_of osts past) at r none (locks_of osts (server_of osts past) r)
 
@@ -182,7 +184,7 @@ module _ (osts : ℕ) (past : List Line) (at : At) (r : RequestOf) (waited : In 
   old_granted : (d : Deed) (l : Lock) → Acted past d → In l d.reply.locks → In l (with_locks acting.reply.locks (server_of osts past).granted) → In l (server_of osts past).granted
   old_granted d l a i j =
       ⊎_elim
-      (λ (k : In l acting.reply.locks). absurd (let le = ls.low d l (a, i) in let lt = from_high (server_of osts past).cookie r.who (grants osts (server_of osts past).tree (asked r none)) l k in omega (arith, le, lt)))
+      (λ (k : In l acting.reply.locks). absurd (let le = ls.low serves d l (a, i) in let lt = from_high (server_of osts past).cookie r.who (grants osts (server_of osts past).tree (asked r none)) l k in omega (arith, le, lt)))
       (λ (k : In l (server_of osts past).granted). k)
       (withs_in acting.reply.locks l (server_of osts past).granted j)
 
@@ -238,7 +240,7 @@ module _ (osts : ℕ) (past : List Line) (at : At) (r : RequestOf) (waited : In 
 
 -- ---- a transaction
 
-module _ (osts : ℕ) (past : List Line) (at : At) (r : RequestOf) (ph : Phase osts past) (h : Taught osts past)
+module _ (osts : ℕ) (past : List Line) (at : At) (r : RequestOf) (h : Taught osts past)
     (free : is_free (in_way (server_of osts past).granted (written_by osts (server_of osts past) r)) ≡ true) where
   abbrev making : Deed
   making = deed osts (server_of osts past) at r (next_number (server_of osts past)) []
@@ -246,8 +248,8 @@ module _ (osts : ℕ) (past : List Line) (at : At) (r : RequestOf) (ph : Phase o
   abbrev made_past : (t : ℕ) → List Line
   made_past t = line (turn at.stamp (Target t)) (Made making) ∷ past
 
-  number_is : making.reply.txn.0 ≡ 4294967296 + ((server_of osts past).count + 1)
-  number_is = ap (λ (k : ℕ). k * 4294967296 + ((server_of osts past).count + 1)) ph.boot
+  number_is : making.reply.txn.0 ≡ (server_of osts past).boot * 4294967296 + ((server_of osts past).count + 1)
+  number_is = refl
 
   higher : bound_of osts past < making.reply.txn.0
   higher = let n = number_is in omega (arith, n)
@@ -261,11 +263,11 @@ module _ (osts : ℕ) (past : List Line) (at : At) (r : RequestOf) (ph : Phase o
         among = k.among;
         cookie = k.cookie;
         lies = k.lies;
-        stands = λ j. tells_wide (after osts (server_of osts past).tree (operation making)) (bound_of osts past) (4294967296 + ((server_of osts past).count + 1)) f (omega arith)
+        stands = λ j. tells_wide (after osts (server_of osts past).tree (operation making)) (bound_of osts past) ((server_of osts past).boot * 4294967296 + ((server_of osts past).count + 1)) f (omega arith)
             (fact_stays osts (server_of osts past).tree (operation making) (bound_of osts past) higher k.lock (free_spares (server_of osts past).granted (written_by osts (server_of osts past) r) k.lock free j) f h.sound.one k.lies (k.stands j));
         left = λ e. ⊎_elim
             (λ (x : Dead past d k.lock). inl x)
-            (λ (x : Tells (tree_for osts d.reply.who past) (bound_of osts past) f). inr (subst (λ (u : Tree). Tells u (4294967296 + ((server_of osts past).count + 1)) f) (sym (tree_then osts d.reply.who (line (turn at.stamp (Target t)) (Made making)) past e)) (tells_wide (tree_for osts d.reply.who past) (bound_of osts past) (4294967296 + ((server_of osts past).count + 1)) f (omega arith) x)))
+            (λ (x : Tells (tree_for osts d.reply.who past) (bound_of osts past) f). inr (subst (λ (u : Tree). Tells u ((server_of osts past).boot * 4294967296 + ((server_of osts past).count + 1)) f) (sym (tree_then osts d.reply.who (line (turn at.stamp (Target t)) (Made making)) past e)) (tells_wide (tree_for osts d.reply.who past) (bound_of osts past) ((server_of osts past).boot * 4294967296 + ((server_of osts past).count + 1)) f (omega arith) x)))
             (k.left e);
         saw = λ j e b. more (k.saw j) (fact_unwritten osts (server_of osts past).tree (operation making) (bound_of osts past) higher k.lock (free_spares (server_of osts past).granted (written_by osts (server_of osts past) r) k.lock free j) f k.lies (k.stands j)) e b;
       }
@@ -279,7 +281,7 @@ module _ (osts : ℕ) (past : List Line) (at : At) (r : RequestOf) (ph : Phase o
       record {
         sound = subst (IsSound (after osts (server_of osts past).tree (operation making))) number_is (sound_after osts (server_of osts past).tree (operation making) (bound_of osts past) higher h.sound);
         above = λ d i. of d i (λ d. (server_of osts past).committed.0 < d.reply.txn.0) h.above (let c = h.top in let n = number_is in omega (arith, c, n));
-        low = λ d i. of d i (λ d. d.reply.txn.0 ≤ 4294967296 + ((server_of osts past).count + 1)) (λ d j. let k = h.low d j in omega (arith, k)) (let n = number_is in omega (arith, n));
+        low = λ d i. of d i (λ d. d.reply.txn.0 ≤ (server_of osts past).boot * 4294967296 + ((server_of osts past).count + 1)) (λ d j. let k = h.low d j in omega (arith, k)) (let n = number_is in omega (arith, n));
         top = let c = h.top in omega (arith, c);
         logged = λ d a. logged d a;
         under = made_under t;
@@ -404,10 +406,16 @@ module _ (osts : ℕ) (past : List Line) (stamp : Stamp) (t : ℕ) (who : Who) (
 
 -- ---- a line that changes no tree
 
+at_most : (n : ℕ) → n ≤ n
+at_most n = omega arith
+
+sound_wide : (t : Tree) (bound wide : ℕ) → bound ≤ wide → IsSound t bound → IsSound t wide
+sound_wide t bound wide le h = record { least = let x = h.least in omega (arith, x, le); low = λ d n c e. let x = h.low d n c e in omega (arith, x, le); one = h.one }
+
 -- it grants nothing and takes no request of a life that was evicted
 record Quiet (osts : ℕ) (past : List Line) (l : Line) : Type 0 where
   tree : (server_of osts (l ∷ past)).tree ≡ (server_of osts past).tree
-  count : (server_of osts (l ∷ past)).count ≡ (server_of osts past).count
+  bound : bound_of osts past ≤ bound_of osts (l ∷ past)
   committed : (server_of osts (l ∷ past)).committed ≡ (server_of osts past).committed
   log : (server_of osts (l ∷ past)).log ≡ (server_of osts past).log
   granted : (k : Lock) → In k (server_of osts (l ∷ past)).granted → In k (server_of osts past).granted
@@ -417,9 +425,6 @@ record Quiet (osts : ℕ) (past : List Line) (l : Line) : Type 0 where
   dead : StaysDead past (l ∷ past)
 
 module _ (osts : ℕ) (past : List Line) (l : Line) (q : Quiet osts past l) (h : Taught osts past) where
-  bound_same : bound_of osts past ≡ bound_of osts (l ∷ past)
-  bound_same = ap (λ (n : ℕ). 4294967296 + n) (sym q.count)
-
   quiet_under : (d : Deed) (f : Fact) → TaughtBy (l ∷ past) d f → Under osts (l ∷ past) d f
   quiet_under d f k =
       let u = h.under d f (q.acted d k.0, k.1) in
@@ -428,28 +433,28 @@ module _ (osts : ℕ) (past : List Line) (l : Line) (q : Quiet osts past l) (h :
         among = u.among;
         cookie = u.cookie;
         lies = u.lies;
-        stands = λ j. subst (λ (t : Tree). Tells t (bound_of osts (l ∷ past)) f) (sym q.tree) (subst (λ (n : ℕ). Tells (server_of osts past).tree n f) bound_same (u.stands (q.granted u.lock j)));
+        stands = λ j. subst (λ (t : Tree). Tells t (bound_of osts (l ∷ past)) f) (sym q.tree) (tells_wide (server_of osts past).tree (bound_of osts past) (bound_of osts (l ∷ past)) f q.bound (u.stands (q.granted u.lock j)));
         saw = λ j e a. subst (λ (m : TxnOf). Apart e.writes f.part ⊎ ((e.reply.txn.0 ≤ m.0) ⊎ In e.reply.txn.0 d.reply.seen)) (sym q.committed) (u.saw (q.granted u.lock j) e (q.acted e a));
         left = λ e. ⊎_elim
             (λ (x : Dead past d u.lock). inl (q.dead d u.lock (q.acted d k.0, u.among) x))
-            (λ (x : Tells (tree_for osts d.reply.who past) (bound_of osts past) f). inr (subst (λ (t : Tree). Tells t (bound_of osts (l ∷ past)) f) (sym (tree_then osts d.reply.who l past (q.evicted d.reply.who e))) (subst (λ (n : ℕ). Tells (tree_for osts d.reply.who past) n f) bound_same x)))
+            (λ (x : Tells (tree_for osts d.reply.who past) (bound_of osts past) f). inr (subst (λ (t : Tree). Tells t (bound_of osts (l ∷ past)) f) (sym (tree_then osts d.reply.who l past (q.evicted d.reply.who e))) (tells_wide (tree_for osts d.reply.who past) (bound_of osts past) (bound_of osts (l ∷ past)) f q.bound x)))
             (u.left (q.evicted d.reply.who e));
       }
 
   quiet_taught : Taught osts (l ∷ past)
   quiet_taught =
       record {
-        sound = subst (λ (t : Tree). IsSound t (bound_of osts (l ∷ past))) (sym q.tree) (subst (λ (n : ℕ). IsSound (server_of osts past).tree n) bound_same h.sound);
+        sound = subst (λ (t : Tree). IsSound t (bound_of osts (l ∷ past))) (sym q.tree) (sound_wide (server_of osts past).tree (bound_of osts past) (bound_of osts (l ∷ past)) q.bound h.sound);
         above = λ d i. subst (λ (m : TxnOf). m.0 < d.reply.txn.0) (sym q.committed) (h.above d (subst (λ (ds : List Deed). In d ds) q.log i));
-        low = λ d i. subst (λ (n : ℕ). d.reply.txn.0 ≤ n) bound_same (h.low d (subst (λ (ds : List Deed). In d ds) q.log i));
-        top = subst (λ (m : TxnOf). m.0 ≤ bound_of osts (l ∷ past)) (sym q.committed) (subst (λ (n : ℕ). (server_of osts past).committed.0 ≤ n) bound_same h.top);
+        low = λ d i. let le = h.low d (subst (λ (ds : List Deed). In d ds) q.log i) in let up = q.bound in omega (arith, le, up);
+        top = subst (λ (m : TxnOf). m.0 ≤ bound_of osts (l ∷ past)) (sym q.committed) (let le = h.top in let up = q.bound in omega (arith, le, up));
         logged = λ d a. subst (λ (m : TxnOf). (d.writes ≡ []) ⊎ (In d (server_of osts (l ∷ past)).log ⊎ (d.reply.txn.0 ≤ m.0))) (sym q.committed) (subst (λ (ds : List Deed). (d.writes ≡ []) ⊎ (In d ds ⊎ (d.reply.txn.0 ≤ (server_of osts past).committed.0))) (sym q.log) (h.logged d (q.acted d a)));
         under = quiet_under;
         waits = λ r i e. q.waits r i (q.evicted r.who e);
       }
 
 -- a request is taken of a life that has a slot
-enters_waits : (osts clients : ℕ) (past : List Line) (t : ℕ) (r : RequestOf) → EntersOk clients past t r → Lives clients past → Taught osts past → (q : RequestOf) → In q ((server_of osts past).waiting ++ r ∷ []) → Evicted past q.who → ⊥
+enters_waits : (osts clients : ℕ) (past : List Line) (t : ℕ) (r : RequestOf) → EntersOk osts clients past t r → Lives clients past → Taught osts past → (q : RequestOf) → In q ((server_of osts past).waiting ++ r ∷ []) → Evicted past q.who → ⊥
 enters_waits osts clients past t r ok ls h q i e =
     ⊎_elim
     (λ (j : In q (server_of osts past).waiting). h.waits q j e)
@@ -460,22 +465,25 @@ enters_waits osts clients past t r ok ls h q i e =
 
 pub keeps_taught : (head : Head) (past : List Line) (stamp : Stamp) (node : Node) (e : Entry) → EntryOf head past (turn stamp node) node e → IsOfFirst e → HoldsAt head past → Taught head.osts past → Taught head.osts (line (turn stamp node) e ∷ past)
 keeps_taught head past stamp (Target t) (Act d) ok first k h =
-    subst (λ (x : Deed). Taught head.osts (line (turn stamp (Target t)) (Act x) ∷ past)) (sym ok.is) (act_taught head.osts past (turn stamp (Target t)) ok.request ok.waits k.locks h ok.still t)
+    subst (λ (x : Deed). Taught head.osts (line (turn stamp (Target t)) (Act x) ∷ past)) (sym ok.is) (act_taught head.osts past (turn stamp (Target t)) ok.request ok.waits ok.serves k.locks h ok.still t)
 keeps_taught head past stamp (Target t) (Made d) ok first k h =
-    subst (λ (x : Deed). Taught head.osts (line (turn stamp (Target t)) (Made x) ∷ past)) (sym ok.is) (made_taught head.osts past (turn stamp (Target t)) ok.request k.phase h ok.free t)
+    subst (λ (x : Deed). Taught head.osts (line (turn stamp (Target t)) (Made x) ∷ past)) (sym ok.is) (made_taught head.osts past (turn stamp (Target t)) ok.request h ok.free t)
 keeps_taught head past stamp (Target t) (Commit to batch) ok first k h = commit_taught head.osts past stamp t to batch ok h
 keeps_taught head past stamp (Target t) (Evict who cause) ok first k h = evict_taught head.osts past stamp t who cause k.locks h
 keeps_taught head past stamp (Target t) (Enters r) ok first k h =
     quiet_taught head.osts past (line (turn stamp (Target t)) (Enters r))
-    (record { tree = refl; count = refl; committed = refl; log = refl; granted = λ l i. i; waits = enters_waits head.osts head.clients past t r ok k.lives h; evicted = λ who x. x; acted = λ d a. a; dead = λ d l g x. x }) h
+    (record { tree = refl; bound = at_most (bound_of head.osts past); committed = refl; log = refl; granted = λ l i. i; waits = enters_waits head.osts head.clients past t r ok k.lives h; evicted = λ who x. x; acted = λ d a. a; dead = λ d l g x. x }) h
 keeps_taught head past stamp (Target t) (Release lock) ok first k h =
     quiet_taught head.osts past (line (turn stamp (Target t)) (Release lock))
-    (record { tree = refl; count = refl; committed = refl; log = refl; granted = λ l i. (in_filter (λ (m : Lock). not (m.cookie.0 == lock.cookie.0)) l (server_of head.osts past).granted i).0; waits = h.waits; evicted = λ who x. x; acted = λ d a. a; dead = λ d l g x. x }) h
+    (record { tree = refl; bound = at_most (bound_of head.osts past); committed = refl; log = refl; granted = λ l i. (in_filter (λ (m : Lock). not (m.cookie.0 == lock.cookie.0)) l (server_of head.osts past).granted i).0; waits = h.waits; evicted = λ who x. x; acted = λ d a. a; dead = λ d l g x. x }) h
+keeps_taught head past stamp (Target t) (Boot boot disk) ok first k h =
+    quiet_taught head.osts past (line (turn stamp (Target t)) (Boot boot disk))
+    (record { tree = refl; bound = let n = ok.next in let c = k.phase.count in omega (arith, n, c); committed = refl; log = refl; granted = λ l i. i; waits = h.waits; evicted = λ who x. x; acted = λ d a. a; dead = λ d l g x. x }) h
 keeps_taught head past stamp (Client c) (Act d) ok first k h = absurd ok
 keeps_taught head past stamp (Client c) (Made d) ok first k h = absurd ok
 keeps_taught head past stamp node e ok first k h =
     quiet_taught head.osts past (line (turn stamp node) e)
-    (record { tree = refl; count = refl; committed = refl; log = refl; granted = λ l i. i; waits = h.waits; evicted = λ who x. x; acted = λ d a. a; dead = keeps_dead head past stamp node e ok first k.phase k.numbers k.done k.locks }) h
+    (record { tree = refl; bound = at_most (bound_of head.osts past); committed = refl; log = refl; granted = λ l i. i; waits = h.waits; evicted = λ who x. x; acted = λ d a. a; dead = keeps_dead head past stamp node e ok first k.phase k.numbers k.done k.locks }) h
 
 pub first_taught : (osts : ℕ) → Taught osts []
 first_taught osts =

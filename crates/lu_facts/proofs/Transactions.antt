@@ -1,6 +1,6 @@
 -- Numbers of transactions: they rise, so no two deeds have one; and a file that is open is told with the number of the transaction that opened it.
-use Rattle.std.proofs.Common.{◌≡◌, ℕ, ◌+◌, ◌≤◌, Bool, true, false, List, [], ◌∷◌, ◌⊎◌, inl, inr, ⊎_elim, refl, sym, subst, ap, ◌∙◌, arith}
-use Rattle.std.specs.Prelude.{nat_eq, if◌then◌else◌}
+use Rattle.std.proofs.Common.{◌≡◌, ℕ, ◌+◌, ◌≤◌, true, List, [], ◌∷◌, ◌⊎◌, inl, inr, ⊎_elim, refl, sym, subst, ap, ◌∙◌, arith}
+use Rattle.std.specs.Prelude.{nat_eq}
 use Rattle.std.proofs.lemmas.Bool.{eq-eqb}
 use Rattle.lu_base.specs.declared.ids.At.{At}
 use Rattle.lu_base.specs.declared.ids.Fid.{Fid}
@@ -24,38 +24,22 @@ use Rattle.lu_machine.proofs.Walks.{walk_ends}
 use Rattle.lu_words.specs.Carried.{Deed}
 use Rattle.lu_words.specs.Words.{Entry, Tick, Act, Txn as Made, Line, line}
 use Rattle.lu_words.specs.Concerns.{only}
-use Rattle.lu_covered.specs.TargetStates.{none, next_number, count_at, server_of}
+use Rattle.lu_covered.specs.TargetStates.{none, next_number, server_of}
 use Rattle.lu_covered.specs.Deeds.{asked}
 use Rattle.lu_covered.specs.Heads.{Head}
-use Rattle.lu_guards.proofs.Guards.{ActOk, TxnOk, Allowed, Grown}
+use Rattle.lu_guards.proofs.StoryGuards.{ActOk, TxnOk}
+use Rattle.lu_guards.proofs.Grown.{Allowed, Grown}
 use Rattle.lu_facts.proofs.Groups.{turn, Acted}
 use Rattle.lu_facts.proofs.Lines.{DoneBy, acted_line}
 use Rattle.lu_facts.proofs.OnNames.{IsOnNames, open_op}
 use Rattle.lu_facts.proofs.Asked.{acted_on_names}
-use Rattle.lu_facts.proofs.Finds.{number_is}
+use Rattle.lu_facts.proofs.Finds.{numbers_at, number_next, numbers_up}
 
 -- ---- they rise
 
--- the highest number so far
-abbrev top : List Line → ℕ
-top past = 4294967296 + count_at 0 past
-
-top_up : (l : Line) (past : List Line) → count_at 0 past ≤ count_at 0 (l ∷ past)
-top_up l past = by l.at.node l.entry
-  where
-    by : (node : Node) (e : Entry) → count_at 0 past ≤ count_at 0 (line (turn l.at.stamp node) e ∷ past)
-    by (Target t) (Made d) = own (nat_eq 0 t)
-      where
-        own : (b : Bool) → count_at 0 past ≤ (if b then count_at 0 past + 1 else count_at 0 past)
-        own true = omega arith
-        own false = omega arith
-    by (Client c) (Made d) = omega arith
-    by (Target t) Tick = omega arith
-    by node e = omega arith
-
 -- what is done is no transaction, or has the next number
 abbrev Numbered : List Line → Line → Deed → Type 0
-Numbered past l d = (d.reply.txn.0 ≡ 0) ⊎ ((d.reply.txn.0 ≡ top past + 1) × (top (l ∷ past) ≡ top past + 1))
+Numbered past l d = (d.reply.txn.0 ≡ 0) ⊎ ((d.reply.txn.0 ≡ numbers_at past + 1) × (numbers_at (l ∷ past) ≡ numbers_at past + 1))
 
 numbered : (head : Head) (past : List Line) (l : Line) (d : Deed) → Grown head past → Allowed head past l.at l.entry → DoneBy l.entry d → Numbered past l d
 numbered head past l d g a done = by l.at.node l.entry a done
@@ -68,20 +52,20 @@ numbered head past l d g a done = by l.at.node l.entry a done
         inl (ap (λ (y : Deed). y.reply.txn.0) (sym q ∙ ok.is))
     by (Target t) (Made x) k q =
         let ok = k.of 0 (ap (λ (v : ℕ). nat_eq 0 v) k.ok) in
-        let n = number_is head past g (turn l.at.stamp (Target t)) x ok in
+        let n = number_next head past g (turn l.at.stamp (Target t)) x ok in
         let same : d.reply.txn.0 ≡ x.reply.txn.0 = ap (λ (y : Deed). y.reply.txn.0) (sym q) in
-        inr ((omega (arith, n, same)), subst (λ (v : ℕ). top (line (turn l.at.stamp (Target v)) (Made x) ∷ past) ≡ top past + 1) (sym k.ok) (omega arith))
+        inr ((omega (arith, n, same)), subst (λ (v : ℕ). numbers_at (line (turn l.at.stamp (Target v)) (Made x) ∷ past) ≡ numbers_at past + 1) (sym k.ok) (omega arith))
     by (Target t) Tick k q = absurd q
     by node e k q = absurd q
 
-low_number : (head : Head) (past : List Line) (d : Deed) → Grown head past → Acted past d → d.reply.txn.0 ≤ top past
+low_number : (head : Head) (past : List Line) (d : Deed) → Grown head past → Acted past d → d.reply.txn.0 ≤ numbers_at past
 low_number head [] d g a = absurd a
 low_number head (l ∷ past) d g a =
-    let up = top_up l past in
+    let up = numbers_up head l past g.1 g.0 in
     ⊎_elim
     (λ (p : DoneBy l.entry d). ⊎_elim
     (λ (n : d.reply.txn.0 ≡ 0). omega (arith, n))
-    (λ (n : (d.reply.txn.0 ≡ top past + 1) × (top (l ∷ past) ≡ top past + 1)). let x = n.0 in let y = n.1 in omega (arith, x, y))
+    (λ (n : (d.reply.txn.0 ≡ numbers_at past + 1) × (numbers_at (l ∷ past) ≡ numbers_at past + 1)). let x = n.0 in let y = n.1 in omega (arith, x, y))
     (numbered head past l d g.1 g.0 p))
     (λ (p : Acted past d). let low = low_number head past d g.1 p in omega (arith, low, up))
     (acted_line l.at l.entry past d a)
@@ -92,7 +76,7 @@ apart_now head past l d e g a p q some same =
     let low = low_number head past e g q in
     ⊎_elim
     (λ (n : d.reply.txn.0 ≡ 0). omega (arith, n, some))
-    (λ (n : (d.reply.txn.0 ≡ top past + 1) × (top (l ∷ past) ≡ top past + 1)). let x = n.0 in omega (arith, x, low, same))
+    (λ (n : (d.reply.txn.0 ≡ numbers_at past + 1) × (numbers_at (l ∷ past) ≡ numbers_at past + 1)). let x = n.0 in omega (arith, x, low, same))
     (numbered head past l d g a p)
 
 done_once : (e : Entry) (a b : Deed) → DoneBy e a → DoneBy e b → a ≡ b
@@ -157,7 +141,7 @@ opened_number head (l ∷ past) d f n layout g a h = by l.at.node l.entry g.0 a 
         let told_so : answer head.osts v.tree (asked ok.request (next_number v)) ≡ told.OpenFile f n layout = ap (λ (y : Deed). y.reply.answer) (sym ok.is) ∙ h in
         let k = table_opened head.osts v.tree (asked ok.request (next_number v)) f n layout (subst IsOnNames (ap (λ (y : Deed). y.op) ok.is) is) told_so in
         let number : d.reply.txn ≡ next_number v = ap (λ (y : Deed). y.reply.txn) ok.is in
-        let high = number_is head past g.1 at d ok in
+        let high = number_next head past g.1 at d ok in
         (k.0 ∙ sym number, omega (arith, high))
 
     by : (node : Node) (e : Entry) → Allowed head past (turn l.at.stamp node) e → Acted (line (turn l.at.stamp node) e ∷ past) d → IsOnNames d.op → (Acted past d → d.reply.answer ≡ told.OpenFile f n layout → (n ≡ d.reply.txn) × (1 ≤ d.reply.txn.0))

@@ -21,7 +21,9 @@ use Rattle.lu_covered.specs.Deeds.{asked}
 use Rattle.lu_covered.specs.Heads.{Head}
 use Rattle.lu_covered.specs.Makes.{Path, Misses}
 use Rattle.lu_covered.specs.TargetStates.{none, granted_at, called_at, server_of}
-use Rattle.lu_guards.proofs.Guards.{In, ActOk, Allowed, Grown}
+use Rattle.lu_guards.proofs.Guards.{In}
+use Rattle.lu_guards.proofs.StoryGuards.{ActOk}
+use Rattle.lu_guards.proofs.Grown.{Allowed, Grown}
 use Rattle.lu_guards.proofs.Lists.{self}
 use Rattle.lu_guards.proofs.Parts.{granted_is, tree_is}
 use Rattle.lu_facts.proofs.Groups.{turn, Acted}

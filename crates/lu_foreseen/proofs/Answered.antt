@@ -34,7 +34,8 @@ use Rattle.lu_table.specs.Heads.{Head}
 use Rattle.lu_table.specs.Runs.{client_of}
 use Rattle.lu_covered_scenes.proofs.ClientLines.{IsNames, brings_its, no_size, becomes_names, reply_differs}
 use Rattle.lu_covered_scenes.proofs.ClientLocks.{Differ, none_any, names_same, with_only}
-use Rattle.lu_covered_scenes.proofs.Guards.{In, Was, Grown}
+use Rattle.lu_covered_scenes.proofs.Guards.{In, Was}
+use Rattle.lu_covered_scenes.proofs.Grown.{Grown}
 use Rattle.lu_covered_scenes.proofs.Held.{held_is}
 use Rattle.lu_covered_scenes.proofs.Only.{sent_was, was_only, grown_of}
 use Rattle.lu_covered_scenes.proofs.Parts.{flights_is, life_is_of}
@@ -185,7 +186,7 @@ module _ (head : Head) (past : List Line) (g : Grown (covered_head head) past) (
     pub comes : (n : ℕ) (from : Node) (m : Message) → Sent past n from (node.Client c) m → (from ≡ node.Target 0) × (may_come from m k ≡ true)
     comes n from m sent =
         let was = sent_was past n from (node.Client c) m sent in
-        let goes = was_goes (covered_head head) past from (node.Client c) m g was in
+        let goes = was_goes MayAsk head.osts (covered_head head) past from (node.Client c) m g suits was in
         let is = from_names from m was goes in
         let so = from_so m (subst (λ (v : Node). Was past v (node.Client c) m) is was) (subst (λ (v : Node). Goes v (node.Client c) m) is goes) in
         (is, subst (λ (v : Node). may_come v m k ≡ true) (sym is) (rw (some_imports, so) refl))

@@ -21,7 +21,9 @@ use Rattle.lu_covered.specs.ClientStates.{flights_of, life_of, is_own}
 use Rattle.lu_covered.specs.Heads.{Head}
 use Rattle.lu_covered.specs.TargetStates.{server_of}
 use Rattle.lu_target_rows.specs.Locks.{same_request}
-use Rattle.lu_covered_scenes.proofs.Guards.{In, EntryOf, FliesOk, Grown}
+use Rattle.lu_covered_scenes.proofs.Guards.{In}
+use Rattle.lu_covered_scenes.proofs.StoryGuards.{EntryOf, FliesOk}
+use Rattle.lu_covered_scenes.proofs.Grown.{Grown}
 use Rattle.lu_covered_scenes.proofs.Groups.{Flew, Meant, HoldsAt}
 use Rattle.lu_covered_scenes.proofs.FactLines.{flew_whole}
 use Rattle.lu_covered_scenes.proofs.All.{holds}

@@ -31,7 +31,8 @@ use Rattle.lu_covered.specs.Calls.{operation_of}
 use Rattle.lu_covered.specs.Heads as few
 use Rattle.lu_covered.specs.TargetStates.{server_of}
 use Rattle.lu_words.specs.Concerns.{only}
-use Rattle.lu_covered_scenes.proofs.Guards.{In, Was, Grown}
+use Rattle.lu_covered_scenes.proofs.Guards.{In, Was}
+use Rattle.lu_covered_scenes.proofs.Grown.{Grown}
 use Rattle.lu_covered_scenes.proofs.Only.{sent_was}
 use Rattle.lu_covered_scenes.proofs.GuardTurns.{covered_head}
 use Rattle.lu_covered_scenes.proofs.Asking.{was_suits}
@@ -40,7 +41,7 @@ use Rattle.lu_after.proofs.Posts.{sent_at_is}
 use Rattle.lu_covered_scenes.specs.Covered.{IsCovered, AsksNoDisk, ticks_of}
 use Rattle.lu_covered_scenes.proofs.Arrivals.{Goes, was_goes, to_client}
 use Rattle.lu_covered_scenes.proofs.Lines.{MayAsk, AllKnown, IsKnown, lines_known, called_fits}
-use Rattle.lu_covered_scenes.proofs.Runs.{Follows, leads_follow}
+use Rattle.lu_covered_scenes.proofs.Runs.{Follows, so_up, leads_follow}
 use Rattle.lu_covered_scenes.proofs.Targets.{Serves, serving_is}
 use Rattle.lu_covered_scenes.proofs.Turns.{Timely, NoneDue, past_grown, target_serves, comes_makes, names_due, others_due, tick_makes}
 use Rattle.lu_nodes.specs.Foreseen.{MayHave, IsForeseen, IsTickForeseen}
@@ -123,10 +124,9 @@ module _ (scene : Scene) (covered : IsCovered scene) (quiet : AsksNoDisk scene) 
   abbrev message_to : Node → Node → SentMessage → SentMessage
   message_to from to m = record { number = m.number; stamp = m.stamp; from = from; to = to; message = m.message }
 
-  to_names : (n : ℕ) (m : SentMessage) → Sent past n m.from (Target 0) m.message → IsForeseen head past (next_stamp c) (message_to m.from (Target 0) m)
-  to_names n m sent =
-      let s = serves_at 0 in
-      (omega arith, s.up, serving_is (target_of head 0 past) s, may_have n m.from m.message sent, (comes_makes scene covered c 0 n m.from m.message f.sound sent room).numbers)
+  to_names : (n : ℕ) (m : SentMessage) → (target_of head 0 past).up ≡ true → Sent past n m.from (Target 0) m.message → IsForeseen head past (next_stamp c) (message_to m.from (Target 0) m)
+  to_names n m up sent =
+      (omega arith, up, serving_is (target_of head 0 past) (serves_at 0), may_have n m.from m.message sent, (comes_makes scene covered c 0 n m.from m.message f.sound sent up room).numbers)
 
   -- no life joins, so all goes to the metadata target
   is_names : (t : ℕ) (from : Node) (m : Message) → Was past from (Target t) m → Goes from (Target t) m → t ≡ 0
@@ -138,16 +138,17 @@ module _ (scene : Scene) (covered : IsCovered scene) (quiet : AsksNoDisk scene) 
   -- ---- all messages
 
   messages : (n : ℕ) (m : SentMessage) → sent_at c.posts n ≡ Some m → is_down head disks m.to past ≡ false → IsForeseen head past (next_stamp c) m
-  messages n m e up = by m.to (sent_at_is past c.posts n m f.sound.table.posts e)
+  messages n m e up = by m.to up (sent_at_is past c.posts n m f.sound.table.posts e)
     where
-      by : (node : Node) → Sent past n m.from node m.message → IsForeseen head past (next_stamp c) (message_to m.from node m)
-      by (Client who) sent =
+      by : (node : Node) → is_down head disks node past ≡ false → Sent past n m.from node m.message → IsForeseen head past (next_stamp c) (message_to m.from node m)
+      by (Client who) up sent =
           let came = comes head past g who (MayAsk scene) none f.sound.suits n m.from m.message sent in
-          (to_client h past g n who m.from m.message sent, (0, came.0), came.1)
-      by (Target t) sent =
+          (to_client (MayAsk scene) head.osts h past g f.sound.suits n who m.from m.message sent, (0, came.0), came.1)
+      by (Target t) up sent =
           let was = sent_was past n m.from (Target t) m.message sent in
-          let zero_is = is_names t m.from m.message was (was_goes h past m.from (Target t) m.message g was) in
-          subst (λ (u : ℕ). Sent past n m.from (Target u) m.message → IsForeseen head past (next_stamp c) (message_to m.from (Target u) m)) (sym zero_is) (to_names n m) sent
+          let zero_is = is_names t m.from m.message was (was_goes (MayAsk scene) head.osts h past m.from (Target t) m.message g f.sound.suits was) in
+          subst (λ (u : ℕ). (target_of head u past).up ≡ true → Sent past n m.from (Target u) m.message → IsForeseen head past (next_stamp c) (message_to m.from (Target u) m)) (sym zero_is) (to_names n m)
+          (so_up (target_of head t past).up up) sent
 
   -- ---- lines
 
@@ -167,7 +168,7 @@ module _ (scene : Scene) (covered : IsCovered scene) (quiet : AsksNoDisk scene) 
   no_command : (line : SceneLine) → IsKnown scene.lines scene.head.clients scene.head.osts line → IsCommand line → ⊥
   no_command (Commit t) known is = absurd (known.some quiet.commands)
   no_command (CommitSome t count) known is = absurd (known.some quiet.commands)
-  no_command (Crash t) known is = absurd known
+  no_command (Crash t) known is = absurd (known.some quiet.commands)
   no_command (Boot t) known is = absurd known
   no_command (Close t) known is = absurd (known.some quiet.commands)
   no_command _ known is = absurd is

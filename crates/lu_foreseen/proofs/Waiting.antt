@@ -14,7 +14,8 @@ use Rattle.lu_covered.specs.Covered.{IsCovered, AllCovered}
 use Rattle.lu_covered.specs.Heads.{Head}
 use Rattle.lu_covered.specs.TargetStates.{server_of, server_after}
 use Rattle.lu_after.proofs.Targets.{target_line, target_left}
-use Rattle.lu_covered_scenes.proofs.Guards.{EntryOf, Grown}
+use Rattle.lu_covered_scenes.proofs.StoryGuards.{EntryOf}
+use Rattle.lu_covered_scenes.proofs.Grown.{Grown}
 use Rattle.lu_covered_scenes.proofs.Groups.{turn}
 use Rattle.lu_covered_scenes.proofs.Asking.{Suits, AllSuit}
 

@@ -24,7 +24,6 @@ use Rattle.lu_covered.specs.Calls.{begun, call_at, operation_of, file_at, is_ope
 use Rattle.lu_covered.specs.Covered.{IsCoveredCall, IsAloneOn, AllCovered}
 use Rattle.lu_table.specs.Heads as table
 use Rattle.lu_table.specs.Runs.{limits_of, client_of}
-use Rattle.lu_guards.proofs.Guards.{In, Was, Later, Ending, HeardNow, JustHeard, Learned, TookNow, Noticed, Grown}
 use Rattle.lu_guards.proofs.Guards as guards
 use Rattle.lu_guards.proofs.Lists.{self, turn}
 use Rattle.lu_guards.proofs.Turns.{owes_nothing}
@@ -99,7 +98,7 @@ module _ (head : table.Head) (c : ℕ) (stamp : Stamp) where
       record {
         good = adds head c stamp p (Busy slot) (starts_good head c stamp p s) (owes_nothing p at (Busy slot) s.settled) s.later (λ t e. tt) tt tt refl;
         settled = tt;
-        between = record { idle = s.between.idle; handles = s.between.handles; held = s.between.held };
+        between = record { idle = s.between.idle; handles = s.between.handles; held = s.between.held; calm = s.between.calm };
       }
 
   -- a call on another slot is what it was
@@ -114,7 +113,7 @@ module _ (head : table.Head) (c : ℕ) (stamp : Stamp) where
       → Good head c at (line at (Begin slot r) ∷ p)
   begin_good p slot r s small limits empty is begins covered alone =
       adds head c stamp p (Begin slot r) (starts_good head c stamp p s) (owes_nothing p at (Begin slot r) s.settled)
-      (record { later = s.later; small = small; free = empty; is = is; limits = limits; begins = begins; calm = λ h i. (s.between.held h i).0 }) (λ t q. tt)
+      (record { later = s.later; small = small; free = empty; is = is; limits = limits; begins = begins; calm = s.between.calm }) (λ t q. tt)
       covered alone refl
 
   -- one on a bad handle is told so
@@ -128,7 +127,7 @@ module _ (head : table.Head) (c : ℕ) (stamp : Stamp) where
         settled = tt;
         idle = idle;
         handles = told_tied c stamp p1 slot at (answer.Refused EBADF) None r stands refl (begun_tied c stamp p slot r (closes_unbound c p wanted bad) s.between.handles);
-        free = λ x i. (s.between.held x i).1;
+        free = λ x i. s.between.held x i;
       }
     where
       r : Running
@@ -192,7 +191,7 @@ module _ (head : table.Head) (c : ℕ) (stamp : Stamp) where
               handles = closed_tied c stamp p slot r h e s.between.handles;
               due = λ x q. (refl, (refl, q));
             };
-            free = λ x i. (s.between.held x i).1;
+            free = λ x i. s.between.held x i;
             alone = lone_after h file alone;
             op = o;
             becomes = becomes;
@@ -207,7 +206,7 @@ module _ (head : table.Head) (c : ℕ) (stamp : Stamp) where
               handles = begun_tied c stamp p slot r (λ h. closes_nothing h wanted (file_at c h p) (ap unbinding e)) s.between.handles;
               due = λ x q. (refl, q);
             };
-            free = λ x i. (s.between.held x i).1;
+            free = λ x i. s.between.held x i;
             alone = lone file alone;
             op = o;
             becomes = becomes;

@@ -24,19 +24,19 @@ use Rattle.lu_client_rows.specs.Messages.{evicted_heard, comes_by}
 use Rattle.lu_client_rows.specs.Recovery.{joins_all, next_life, ends_call, ends_calls, drops_all}
 use Rattle.lu_client_rows.specs.States.{Client as ClientState}
 use Rattle.lu_covered.specs.Calls.{call_at, life_at}
-use Rattle.lu_covered.specs.Covered.{AllCovered}
-use Rattle.lu_covered.specs.Imports.{Joining, standing_at}
+use Rattle.lu_covered.specs.Imports.{Joining, known_at, standing_at}
 use Rattle.lu_table.specs.Heads as table
 use Rattle.lu_table.specs.Runs.{client_of}
-use Rattle.lu_guards.proofs.Guards.{In, Was, Later, Ending, HeardNow, JustHeard, Learned, TookNow, Noticed, Grown}
-use Rattle.lu_guards.proofs.Guards as guards
+use Rattle.lu_guards.proofs.Guards.{In, Noticed}
+use Rattle.lu_guards.proofs.Grown.{Grown}
+use Rattle.lu_guards.proofs.StoryGuards as story_guards
 use Rattle.lu_guards.proofs.Lists.{self, life_is, turn, turn_more}
 use Rattle.lu_guards.proofs.Parts.{life_is_of}
 use Rattle.lu_guards.proofs.Turns.{Settled, owes_nothing}
-use Rattle.lu_guards.proofs.Held.{held_is, none_held}
+use Rattle.lu_guards.proofs.Held.{held_is, held_zero, none_held}
 use Rattle.lu_guards.proofs.ClientLocks.{Once, own_name, without_only, without_other, in_ordered, ordered_in, once_ordered}
 use Rattle.lu_guards.proofs.ClientHandles.{new_tied}
-use Rattle.lu_guards.proofs.ClientLines.{SmallOn, small_on, held_zero, held_once}
+use Rattle.lu_guards.proofs.ClientLines.{SmallOn, small_on, held_once}
 use Rattle.lu_guards.proofs.ClientRests.{Good, Idle, Rested, the_head, adds, at_zero, call_line, held_line}
 use Rattle.lu_guards.proofs.ClientStarts.{Starts, After, took_rested}
 use Rattle.lu_guards.proofs.ClientResends.{Still, joins_good}
@@ -47,26 +47,27 @@ module _ (head : table.Head) (c : ℕ) (stamp : Stamp) where
 
   -- ---- its life is over
 
-  -- of one that leaves: this turn took the notice
-  record Leaving (who : Who) (p : List Line) : Type 0 where
+  -- of one that leaves: this turn took the notice; start: where the turn began
+  record Leaving (who : Who) (start p : List Line) : Type 0 where
     good : Good head c at p
     settled : Settled p
     life : life_at c p ≡ who
+    known : (t : ℕ) → known_at c t p ≡ known_at c t start
     notice : Noticed p at who
 
   -- a call on one slot is told so, if there is one
-  record EndedOn (who : Who) (slot : ℕ) (p q : List Line) : Type 0 where
-    leaving : Leaving who q
+  record EndedOn (who : Who) (start : List Line) (slot : ℕ) (p q : List Line) : Type 0 where
+    leaving : Leaving who start q
     calls : (s : ℕ) → call_at c s q ≡ (if nat_eq slot s then None else call_at c s p)
     held : held_at c q ≡ held_at c p
 
-  end_one : (who : Who) (slot : ℕ) (x : Option Running) (p : List Line) → Leaving who p → call_at c slot p ≡ x → EndedOn who slot p (with_turn at (ends_call at slot x) p)
-  end_one who slot None p l is = record { leaving = l; calls = λ s. by s (nat_eq slot s) refl; held = refl }
+  end_one : (who : Who) (start : List Line) (slot : ℕ) (x : Option Running) (p : List Line) → Leaving who start p → call_at c slot p ≡ x → EndedOn who start slot p (with_turn at (ends_call at slot x) p)
+  end_one who start slot None p l is = record { leaving = l; calls = λ s. by s (nat_eq slot s) refl; held = refl }
     where
       by : (s : ℕ) (b : Bool) → nat_eq slot s ≡ b → call_at c s p ≡ (if b then None else call_at c s p)
       by s true e = ap (λ (u : ℕ). call_at c u p) (sym (eqb-true slot s e)) ∙ is
       by s false e = refl
-  end_one who slot (Some r) p l is =
+  end_one who start slot (Some r) p l is =
       let e = Told slot at (answer.Refused EIO) None in
       record {
         leaving = record {
@@ -75,6 +76,7 @@ module _ (head : table.Head) (c : ℕ) (stamp : Stamp) where
               (inr (inr (inl (record { running = r; call = is; notice = subst (λ (w : Who). Noticed p at w) (sym l.life) l.notice; of_turn = refl; of_answer = refl; plain = refl })))) (λ t q. tt) tt tt refl;
           settled = tt;
           life = l.life;
+          known = l.known;
           notice = record { target = l.notice.target; boot = l.notice.boot; took = l.notice.took };
         };
         calls = λ s. call_line head c stamp s p e;
@@ -82,8 +84,8 @@ module _ (head : table.Head) (c : ℕ) (stamp : Stamp) where
       }
 
   -- all calls were told
-  record Told4 (who : Who) (before p : List Line) : Type 0 where
-    leaving : Leaving who p
+  record Told4 (who : Who) (start before p : List Line) : Type 0 where
+    leaving : Leaving who start p
     none : (slot : ℕ) → call_at c slot p ≡ None
     held : held_at c p ≡ held_at c before
 
@@ -94,8 +96,8 @@ module _ (head : table.Head) (c : ℕ) (stamp : Stamp) where
       by None b = refl
       by (Some r) b = absurd (omega (arith, b))
 
-  end_all : (who : Who) (p : List Line) → Leaving who p → Told4 who p (with_turn at (ends_calls at 0 (calls_at c p)) p)
-  end_all who p l = subst (Told4 who p) (sym all) (record { leaving = s3.leaving; none = none; held = s3.held ∙ s2.held ∙ s1.held ∙ s0.held })
+  end_all : (who : Who) (start p : List Line) → Leaving who start p → Told4 who start p (with_turn at (ends_calls at 0 (calls_at c p)) p)
+  end_all who start p l = subst (Told4 who start p) (sym all) (record { leaving = s3.leaving; none = none; held = s3.held ∙ s2.held ∙ s1.held ∙ s0.held })
     where
       e0 : List Entry
       e0 = ends_call at 0 (call_at c 0 p)
@@ -124,17 +126,17 @@ module _ (head : table.Head) (c : ℕ) (stamp : Stamp) where
       all : with_turn at (ends_calls at 0 (calls_at c p)) p ≡ p4
       all = turn_more at e0 (e1 ++ (e2 ++ (e3 ++ []))) p ∙ turn_more at e1 (e2 ++ (e3 ++ [])) p1 ∙ turn_more at e2 (e3 ++ []) p2 ∙ turn_more at e3 [] p3
 
-      s0 : EndedOn who 0 p p1
-      s0 = end_one who 0 (call_at c 0 p) p l refl
+      s0 : EndedOn who start 0 p p1
+      s0 = end_one who start 0 (call_at c 0 p) p l refl
 
-      s1 : EndedOn who 1 p1 p2
-      s1 = end_one who 1 (call_at c 1 p) p1 s0.leaving (s0.calls 1)
+      s1 : EndedOn who start 1 p1 p2
+      s1 = end_one who start 1 (call_at c 1 p) p1 s0.leaving (s0.calls 1)
 
-      s2 : EndedOn who 2 p2 p3
-      s2 = end_one who 2 (call_at c 2 p) p2 s1.leaving (s1.calls 2 ∙ s0.calls 2)
+      s2 : EndedOn who start 2 p2 p3
+      s2 = end_one who start 2 (call_at c 2 p) p2 s1.leaving (s1.calls 2 ∙ s0.calls 2)
 
-      s3 : EndedOn who 3 p3 p4
-      s3 = end_one who 3 (call_at c 3 p) p3 s2.leaving (s2.calls 3 ∙ s1.calls 3 ∙ s0.calls 3)
+      s3 : EndedOn who start 3 p3 p4
+      s3 = end_one who start 3 (call_at c 3 p) p3 s2.leaving (s2.calls 3 ∙ s1.calls 3 ∙ s0.calls 3)
 
       none : (slot : ℕ) → call_at c slot p4 ≡ None
       none zero = s3.calls 0 ∙ s2.calls 0 ∙ s1.calls 0 ∙ s0.calls 0
@@ -144,8 +146,8 @@ module _ (head : table.Head) (c : ℕ) (stamp : Stamp) where
       none (suc (suc (suc (suc n)))) = no_more p4 n s3.leaving.good.grown
 
   -- all locks were dropped
-  record Bare (who : Who) (p : List Line) : Type 0 where
-    leaving : Leaving who p
+  record Bare (who : Who) (start p : List Line) : Type 0 where
+    leaving : Leaving who start p
     none : (slot : ℕ) → call_at c slot p ≡ None
     empty : held_at c p ≡ []
 
@@ -153,11 +155,11 @@ module _ (head : table.Head) (c : ℕ) (stamp : Stamp) where
   nothing_in [] f = refl
   nothing_in (h ∷ hs) f = absurd (f h (inl refl))
 
-  drops_good : (who : Who) (hs : List HeldLock) (p : List Line) → Once hs → Leaving who p → ((slot : ℕ) → call_at c slot p ≡ None) → ((x : HeldLock) → In x hs → In x (held_at c p)) → ((x : HeldLock) → In x (held_at c p) → In x hs)
-      → Bare who (with_turn at (drops_all hs) p)
-  drops_good who [] p once l none i back = record { leaving = l; none = none; empty = nothing_in (held_at c p) back }
-  drops_good who (h ∷ hs) p once l none i back =
-      subst (λ (t : ℕ). Bare who (with_turn at (drops_all hs) (line at (Drop t h.lock) ∷ p))) (sym z) (drops_good who hs p1 once.1 dropped none there only_there)
+  drops_good : (who : Who) (start : List Line) (hs : List HeldLock) (p : List Line) → Once hs → Leaving who start p → ((slot : ℕ) → call_at c slot p ≡ None) → ((x : HeldLock) → In x hs → In x (held_at c p)) → ((x : HeldLock) → In x (held_at c p) → In x hs)
+      → Bare who start (with_turn at (drops_all hs) p)
+  drops_good who start [] p once l none i back = record { leaving = l; none = none; empty = nothing_in (held_at c p) back }
+  drops_good who start (h ∷ hs) p once l none i back =
+      subst (λ (t : ℕ). Bare who start (with_turn at (drops_all hs) (line at (Drop t h.lock) ∷ p))) (sym z) (drops_good who start hs p1 once.1 dropped none there only_there)
     where
       z : h.target.0 ≡ 0
       z = held_zero (the_head head c stamp) c p l.good.grown h (i h (inl refl))
@@ -171,17 +173,18 @@ module _ (head : table.Head) (c : ℕ) (stamp : Stamp) where
       left : held_at c p1 ≡ without name (held_at c p)
       left = held_line head c stamp p (Drop 0 h.lock)
 
-      dropped : Leaving who p1
+      dropped : Leaving who start p1
       dropped =
           record {
             good =
                 adds head c stamp p (Drop 0 h.lock) l.good (owes_nothing p at (Drop 0 h.lock) l.settled) (refl, inr (subst (λ (w : Who). Noticed p at w) (sym l.life) l.notice))
-                (at_zero head c stamp (λ (t : ℕ). (0 ≡ 0) × guards.DropOk (only t p) c h.lock) (
+                (at_zero head c stamp (λ (t : ℕ). (0 ≡ 0) × story_guards.DropOk (only t p) c h.lock) (
                   refl,
                   record { holding = h; held = subst (λ (gs : List HeldLock). In h gs) (held_is (the_head head c stamp) c p l.good.grown) (i h (inl refl)); is = refl },
                 )) tt tt refl;
             settled = tt;
             life = l.life;
+            known = l.known;
             notice = record { target = l.notice.target; boot = l.notice.boot; took = l.notice.took };
           }
 
@@ -201,8 +204,8 @@ module _ (head : table.Head) (c : ℕ) (stamp : Stamp) where
               cc
 
   -- then a new life begins, and asks each target to serve it
-  begins_anew : (who : Who) (start p : List Line) → AllCovered start → Bare who p → Rested head c at (with_turn at (Life (next_life who) ∷ joins_all (next_life who) 0 (client_of head c start).imports) p)
-  begins_anew who start p covered b = (joins_good head c stamp (next_life who) start p1 (head.osts + 1) 0 p1 covered still joining).rested
+  begins_anew : (who : Who) (start p : List Line) → Bare who start p → Rested head c at (with_turn at (Life (next_life who) ∷ joins_all (next_life who) 0 (client_of head c start).imports) p)
+  begins_anew who start p b = (joins_good head c stamp (next_life who) start p1 (head.osts + 1) 0 p1 (λ u. sym (b.leaving.known u)) still joining).rested
     where
       e : Entry
       e = Life (next_life who)
@@ -225,8 +228,12 @@ module _ (head : table.Head) (c : ℕ) (stamp : Stamp) where
           record {
             rested = record { good = good; settled = tt; idle = λ slot. subst Idle (sym (b.none slot)) tt; handles = new_tied c stamp p (next_life who); free = λ x i. absurd (subst (λ (hs : List HeldLock). In x hs) b.empty i) };
             life = ap (λ (own : Bool). if own then next_life who else life_at c p) (self c);
+            known = λ t. refl;
             standing = λ t. refl;
             flights = λ t. refl;
+            kept = λ t. refl;
+            held = refl;
+            took = λ from m k. k;
           }
 
       joining : (u : ℕ) → standing_at c u p1 ≡ Joining
@@ -249,16 +256,16 @@ module _ (head : table.Head) (c : ℕ) (stamp : Stamp) where
       by false e = inl took
       by true e =
           let own : who ≡ life_at c p = life_is who k.who e in
-          let leaving : Leaving (life_at c p) p1 = record { good = took.good; settled = tt; life = refl; notice = record { target = t; boot = boot; took = inl (refl, refl, ap (λ (w : Who). message.Evicted w boot) own) } } in
-          let told = end_all (life_at c p) p1 leaving in
+          let leaving : Leaving (life_at c p) p p1 = record { good = took.good; settled = tt; life = refl; known = λ u. refl; notice = record { target = t; boot = boot; took = inl (refl, refl, ap (λ (w : Who). message.Evicted w boot) own) } } in
+          let told = end_all (life_at c p) p p1 leaving in
           let es = ends_calls at 0 k.calls in
           let hs = in_order (held_at c p) in
           let ds = drops_all hs in
           let more = Life (next_life k.who) ∷ joins_all (next_life k.who) 0 k.imports in
           let p2 = with_turn at es p1 in
           let p3 = with_turn at ds p2 in
-          let bare : Bare (life_at c p) p3 =
-          drops_good (life_at c p) hs p2 (once_ordered (held_at c p) (held_once (the_head head c stamp) c p s.grown)) told.leaving told.none
+          let bare : Bare (life_at c p) p p3 =
+          drops_good (life_at c p) p hs p2 (once_ordered (held_at c p) (held_once (the_head head c stamp) c p s.grown)) told.leaving told.none
           (λ x i. subst (λ (gs : List HeldLock). In x gs) (sym told.held) (in_ordered x (held_at c p) i))
           (λ x i. ordered_in x (held_at c p) (subst (λ (gs : List HeldLock). In x gs) told.held i)) in
-          inl (subst (Rested head c at) (sym (turn_more at (es ++ ds) more p1 ∙ ap (with_turn at more) (turn_more at es ds p1))) (begins_anew (life_at c p) p p3 s.covered bare))
+          inl (subst (Rested head c at) (sym (turn_more at (es ++ ds) more p1 ∙ ap (with_turn at more) (turn_more at es ds p1))) (begins_anew (life_at c p) p p3 bare))

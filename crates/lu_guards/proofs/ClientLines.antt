@@ -1,8 +1,6 @@
--- What holds of a client after every line of a covered run: it knows the first boot of each target, and joins there or is served; it
--- has changed no object; all that it asks is on names and asked of the metadata target, which alone replies to it
--- and calls locks back; what it holds is of that target, and no two held locks have one name. Where the metadata target doesn't serve
--- its life, nothing is in flight there and nothing is held.
-use Rattle.std.proofs.Common.{◌≡◌, ℕ, suc, ◌+◌, ◌<◌, Bool, true, false, List, [], ◌∷◌, ◌++◌, ◌⊎◌, inl, inr, ⊎_elim, Option, Some, None, refl, sym, subst, ap, ◌∙◌, arith, pos}
+-- What holds of a client after every line of a covered run: it has changed no object; all that it asks is on names and asked of the
+-- metadata target, which alone replies to it and calls locks back; and no two held locks have one name.
+use Rattle.std.proofs.Common.{◌≡◌, ℕ, suc, ◌+◌, ◌<◌, Bool, true, false, List, [], ◌∷◌, ◌++◌, inl, inr, ⊎_elim, Option, Some, None, refl, sym, subst, ap, ◌∙◌, arith, pos}
 use Rattle.std.specs.Prelude.{nat_eq, ◌&&◌, if◌then◌else◌}
 use Rattle.std.proofs.lemmas.Bool.{eqb-true, and_parts}
 use Rattle.std.proofs.lemmas.Bool.Decides.{nat_tests}
@@ -21,16 +19,14 @@ use Rattle.lu_msg.specs.declared.messages.Message.TheVariants as message
 use Rattle.lu_msg.specs.declared.messages.Reply.{Reply as ReplyTo}
 use Rattle.lu_msg.specs.declared.operations.Op.{Op}
 use Rattle.lu_msg.specs.declared.operations.Op.TheVariants as op
-use Rattle.lu_held.specs.declared.locks.Change.{Change}
 use Rattle.lu_held.specs.declared.locks.Change.TheVariants as change
 use Rattle.lu_held.specs.declared.locks.HeldLock.{HeldLock}
-use Rattle.lu_held.specs.declared.names.LockName.{LockName}
-use Rattle.lu_held.specs.Locks.{is_named, after}
+use Rattle.lu_held.specs.Locks.{after}
 use Rattle.lu_held.specs.Held.{changed}
 use Rattle.lu_machine.specs.Fits.{answer_fits}
 use Rattle.lu_words.specs.Carried.{HandleFile, Slot, Queued, Flight, Asking, Asked, Answered, Running}
-use Rattle.lu_words.specs.Words.{Entry, Send, Begin, Heard, Hold, Drop, Told, Life, Queues, Flies, Knows, Serves, Stands, Pins, Unpins, Marks, Unmarks, Changes, WritesBack, Acks, Act, Txn, Enters, Line, line, is_client}
-use Rattle.lu_words.specs.Concerns.{is_about, concerns, only}
+use Rattle.lu_words.specs.Words.{Entry, Send, Begin, Heard, Hold, Drop, Told, Life, Queues, Flies, Stands, Pins, Unpins, Marks, Unmarks, Changes, WritesBack, Acks, Act, Txn, Enters, Line, line, is_client}
+use Rattle.lu_words.specs.Concerns.{is_about, only}
 use Rattle.lu_words.specs.Fields.{on, at_client, at_import}
 use Rattle.lu_target_rows.specs.Names.{locks_from}
 use Rattle.lu_client_rows.specs.Caches.{held_as, brought, granted_lock, reads_held, held_after, held_at, reads_patches, patches_after, patches_at}
@@ -39,15 +35,16 @@ use Rattle.lu_client_rows.specs.States.{Client as ClientState}
 use Rattle.lu_covered.specs.Calls.{asks, asks_for, reads_call, call_after, call_at, operation_of}
 use Rattle.lu_covered.specs.Covered.{IsCovered, AllCovered}
 use Rattle.lu_covered.specs.Heads.{Head}
-use Rattle.lu_covered.specs.ClientStates.{flights_of, life_of}
-use Rattle.lu_covered.specs.Imports.{rest, without_flight, reads_queue, queue_after, queue_at, reads_flights, flights_after, flights_at, reads_known, known_after, known_at, Standing, Joining, Serving, reads_standing, standing_after, standing_at}
+use Rattle.lu_covered.specs.Imports.{rest, without_flight, reads_queue, queue_after, queue_at, reads_flights, flights_after, flights_at}
 use Rattle.lu_covered.specs.TargetParts.{is_slot_of, entered, answered}
 use Rattle.lu_covered.specs.TargetStates.{slot_of}
-use Rattle.lu_guards.proofs.Guards.{In, Was, EntryOk, EntryOf, SendOf, Grown, GrownOf}
+use Rattle.lu_guards.proofs.Guards.{In, Was, EntryOk}
+use Rattle.lu_guards.proofs.StoryGuards.{EntryOf, SendOf}
+use Rattle.lu_guards.proofs.Grown.{Grown, GrownOf}
 use Rattle.lu_guards.proofs.Lists.{in_append, in_filter}
-use Rattle.lu_guards.proofs.Parts.{queue_now, flights_now, standing_is}
-use Rattle.lu_guards.proofs.Held.{held_is}
-use Rattle.lu_guards.proofs.ClientLocks.{Once, Differ, once_filter, once_changed, once_used, once_with, once_brought, with_only, brought_only, changed_only, used_only, without_only}
+use Rattle.lu_guards.proofs.Parts.{queue_now}
+use Rattle.lu_guards.proofs.Held.{is_own, client_keeps}
+use Rattle.lu_guards.proofs.ClientLocks.{Once, Differ, once_filter, once_changed, once_used, once_unmarked, once_with, once_brought}
 
 -- ---- operations on names
 
@@ -118,11 +115,6 @@ still_client reads after start c f [] a = refl
 still_client {A} reads after start c f (l ∷ past) a =
     ap (λ (x : A). on (reads l.entry) (is_client c l.at.node) (after x l.entry) x) (still_client reads after start c f past a.1) ∙ f l.entry a.0 (is_client c l.at.node)
 
-unread_import : {A : Type 0} (reads : Entry → Bool) (after : A → Entry → A) (start : A) (c t : ℕ) → ((e : Entry) → IsCovered e → reads e ≡ false) → (past : List Line) → AllCovered past → at_import reads after start c t past ≡ start
-unread_import reads after start c t f [] a = refl
-unread_import reads after start c t f (l ∷ past) a =
-    ap (λ (r : Bool). on r (is_client c l.at.node && is_about t l.entry) (after (at_import reads after start c t past) l.entry) (at_import reads after start c t past)) (f l.entry a.0) ∙ unread_import reads after start c t f past a.1
-
 pub patches_none : (c : ℕ) (past : List Line) → AllCovered past → patches_at c past ≡ []
 patches_none c past a = still_client reads_patches patches_after [] c by past a
   where
@@ -134,32 +126,7 @@ patches_none c past a = still_client reads_patches patches_after [] c by past a
     by (Life who) k false = refl
     by e k own = refl
 
-pub boot_first : (c t : ℕ) (past : List Line) → AllCovered past → known_at c t past ≡ 1
-boot_first c t past a = unread_import reads_known known_after 1 c t by past a
-  where
-    by : (e : Entry) → IsCovered e → reads_known e ≡ false
-    by (Knows u b) k = absurd k
-    by e k = refl
-
 -- ---- what each line of the client keeps
-
-pub is_own : (c : ℕ) (n : Node) → is_client c n ≡ true → n ≡ Client c
-is_own c (Client d) mine = ap Client (sym (eqb-true c d mine))
-is_own c (Target t) mine = absurd (cc)
-
-client_keeps : {A : Type 0} (P : A → Type 0) (reads : Entry → Bool) (after : A → Entry → A) (start : A) (head : Head) (c : ℕ) → P start
-    → ((past : List Line) (at : At) (e : Entry) (x : A) → EntryOk past at (Client c) e → P x → P (after x e))
-    → (past : List Line) → Grown head past → P (at_client reads after start c past)
-client_keeps P reads after start head c p f [] g = p
-client_keeps {A} P reads after start head c p f (l ∷ past) g = by (reads l.entry) (is_client c l.at.node) refl (client_keeps P reads after start head c p f past g.1)
-  where
-    X : A
-    X = at_client reads after start c past
-
-    by : (r b : Bool) → is_client c l.at.node ≡ b → P X → P (on r b (after X l.entry) X)
-    by false b e q = q
-    by true false e q = q
-    by true true e q = f past l.at l.entry X (subst (λ (n : Node). EntryOk past l.at n l.entry) (is_own c l.at.node e) g.0.ok) q
 
 import_keeps : {A : Type 0} (P : A → Type 0) (reads : Entry → Bool) (after : A → Entry → A) (start : A) (head : Head) (c t : ℕ) → P start
     → ((past : List Line) (at : At) (e : Entry) (x : A) → Grown head past → EntryOk past at (Client c) e → EntryOf head (only t past) at (Client c) e → is_about t e ≡ true → P x → P (after x e))
@@ -263,34 +230,6 @@ small_on head c slot past g = client_keeps (SmallOn slot) reads_call (call_after
 
 -- ---- held locks
 
-pub held_zero : (head : Head) (c : ℕ) (past : List Line) → Grown head past → (h : HeldLock) → In h (held_at c past) → h.target.0 ≡ 0
-held_zero head c past g = client_keeps Zero reads_held held_after [] head c (λ h i. absurd i) step past g
-  where
-    Zero : List HeldLock → Type 0
-    Zero hs = (h : HeldLock) → In h hs → h.target.0 ≡ 0
-
-    changes : (n : LockName) (ch : Change) (hs : List HeldLock) → Zero hs → Zero (changed n ch hs)
-    changes n ch hs k g i = let r = changed_only n ch g hs i in subst (λ (x : HeldLock). x.target.0 ≡ 0) r.2 (by ch r.0 (is_named n r.0) (k r.0 r.1))
-      where
-        by : (ch : Change) (h : HeldLock) (b : Bool) → h.target.0 ≡ 0 → (if b then after ch h else h).target.0 ≡ 0
-        by change.Mark h true z = z
-        by change.Unmark h true z = z
-        by change.Pin h true z = z
-        by change.Unpin h true z = z
-        by ch h false z = z
-
-    step : (p : List Line) (at : At) (e : Entry) (x : List HeldLock) → EntryOk p at (Client c) e → Zero x → Zero (held_after x e)
-    step p at (Heard t f r) x ok k h i =
-        ⊎_elim (λ (s : (l : Lock) × (held_as t l false ≡ h)). ap (λ (y : HeldLock). y.target.0) (sym s.1) ∙ ok.0) (λ (j : In h x). k h j) (brought_only t h (brought f.op r) x i)
-    step p at (Hold t l marked size seen) x ok k h i =
-        ⊎_elim (λ (s : held_as t l marked ≡ h). ap (λ (y : HeldLock). y.target.0) (sym s) ∙ ok.names) (λ (j : In h x). k h j) (with_only (held_as t l marked) h x i)
-    step p at (Drop t l) x ok k h i = k h (without_only _ h x i).0
-    step p at (Pins n) x ok k h i = changes n change.Pin x k h i
-    step p at (Unpins n) x ok k h i = changes n change.Unpin x k h (used_only n h (changed n change.Unpin x) i)
-    step p at (Marks n) x ok k h i = changes n change.Mark x k h i
-    step p at (Unmarks t) x ok k h i = absurd ok
-    step p at e x ok k h i = k h i
-
 pub held_once : (head : Head) (c : ℕ) (past : List Line) → Grown head past → Once (held_at c past)
 held_once head c past g = client_keeps Once reads_held held_after [] head c tt step past g
   where
@@ -301,126 +240,8 @@ held_once head c past g = client_keeps Once reads_held held_after [] head c tt s
     step p at (Pins n) x ok k = once_changed n change.Pin x k
     step p at (Unpins n) x ok k = once_used n (changed n change.Unpin x) (once_changed n change.Unpin x k)
     step p at (Marks n) x ok k = once_changed n change.Mark x k
-    step p at (Unmarks t) x ok k = absurd ok
+    step p at (Unmarks t) x ok k = once_unmarked t x k
     step p at e x ok k = k
-
--- ---- where the metadata target doesn't serve the life
-
--- a client joins there, or is served
-pub stands : (head : Head) (c t : ℕ) (past : List Line) → Grown head past → (standing_at c t past ≡ Joining) ⊎ (standing_at c t past ≡ Serving)
-stands head c t past g = import_keeps (λ (s : Standing). (s ≡ Joining) ⊎ (s ≡ Serving)) reads_standing standing_after Serving head c t (inr refl) (λ p at e x h ok of about q. by p at e x ok q) past g
-  where
-    by : (p : List Line) (at : At) (e : Entry) (x : Standing) → EntryOk p at (Client c) e → (x ≡ Joining) ⊎ (x ≡ Serving) → (standing_after x e ≡ Joining) ⊎ (standing_after x e ≡ Serving)
-    by p at (Knows u b) x ok q = absurd ok
-    by p at (Serves u b) x ok q = inr refl
-    by p at (Life who) x ok q = inl refl
-    by p at e x ok q = q
-
--- nothing flies there
-pub unserved_flights : (head : Head) (c : ℕ) (past : List Line) → Grown head past → (standing_at c 0 past ≡ Serving) ⊎ (flights_at c 0 past ≡ [])
-unserved_flights head c [] g = inl refl
-unserved_flights head c (l ∷ past) g = by l.at.node l.entry g.0.ok g.0.of (unserved_flights head c past g.1)
-  where
-    S : Standing
-    S = standing_at c 0 past
-
-    F : List Flight
-    F = flights_at c 0 past
-
-    Fine : Bool → Bool → Bool → Entry → Type 0
-    Fine rs rf own e = (on rs own (standing_after S e) S ≡ Serving) ⊎ (on rf own (flights_after F e) F ≡ [])
-
-    flying : (f : Flight) → In f (flights_of (life_of c (only 0 past)) (only 0 past)) → (S ≡ Serving) ⊎ (F ≡ []) → S ≡ Serving
-    flying f i (inl s) = s
-    flying f i (inr e) = absurd (subst (λ (fs : List Flight). In f fs) (sym (flights_now head c 0 past g.1) ∙ e) i)
-
-    not_mine : (rs rf : Bool) (e : Entry) → (S ≡ Serving) ⊎ (F ≡ []) → Fine rs rf false e
-    not_mine true true e ih = ih
-    not_mine true false e ih = ih
-    not_mine false true e ih = ih
-    not_mine false false e ih = ih
-
-    Own : Entry → Bool → Type 0
-    Own e own = Fine (reads_standing e) (reads_flights e) own e
-
-    own : (e : Entry) → (is_about 0 e ≡ true → EntryOf head (only 0 past) l.at (Client c) e) → EntryOk past l.at (Client c) e → (b : Bool) → is_about 0 e ≡ b → (S ≡ Serving) ⊎ (F ≡ []) → Own e b
-    own e of ok false q ih = not_mine (reads_standing e) (reads_flights e) e ih
-    own (Knows u b) of ok true q ih = absurd ok
-    own (Serves u b) of ok true q ih = inl refl
-    own (Life who) of ok true q ih = inr refl
-    own (Flies u f) of ok true q ih = let s = of q in inl (standing_is c 0 past ∙ s.serves)
-    own (Heard u f r) of ok true q ih = let s = of q in inl (flying f s.flying ih)
-    own e of ok true q ih = ih
-
-    by : (node : Node) (e : Entry) → EntryOk past l.at node e → ((t : ℕ) → concerns t node e ≡ true → EntryOf head (only t past) l.at node e) → (S ≡ Serving) ⊎ (F ≡ []) → Own e (is_client c node && is_about 0 e)
-    by (Target u) e ok of ih = not_mine (reads_standing e) (reads_flights e) e ih
-    by (Client d) e ok of ih = mine (nat_eq c d) refl
-      where
-        mine : (b : Bool) → nat_eq c d ≡ b → Own e (b && is_about 0 e)
-        mine false q = not_mine (reads_standing e) (reads_flights e) e ih
-        mine true q =
-            let same : d ≡ c = sym (eqb-true c d q) in
-            own e (λ a. subst (λ (u : ℕ). EntryOf head (only 0 past) l.at (Client u) e) same (of 0 a)) (subst (λ (u : ℕ). EntryOk past l.at (Client u) e) same ok) (is_about 0 e) refl ih
-
--- and nothing is held of it
-pub unserved_held : (head : Head) (c : ℕ) (past : List Line) → Grown head past → (standing_at c 0 past ≡ Serving) ⊎ (held_at c past ≡ [])
-unserved_held head c [] g = inl refl
-unserved_held head c (l ∷ past) g = by l.at.node l.entry g.0.ok g.0.of (unserved_held head c past g.1)
-  where
-    S : Standing
-    S = standing_at c 0 past
-
-    H : List HeldLock
-    H = held_at c past
-
-    Fine : Bool → Bool → Bool → Bool → Entry → Type 0
-    Fine rs rh about own e = (on rs about (standing_after S e) S ≡ Serving) ⊎ (on rh own (held_after H e) H ≡ [])
-
-    flying : (f : Flight) → In f (flights_of (life_of c (only 0 past)) (only 0 past)) → (S ≡ Serving) ⊎ (flights_at c 0 past ≡ []) → S ≡ Serving
-    flying f i (inl s) = s
-    flying f i (inr e) = absurd (subst (λ (fs : List Flight). In f fs) (sym (flights_now head c 0 past g.1) ∙ e) i)
-
-    holding : (h : HeldLock) → In h (held_at c (only 0 past)) → (S ≡ Serving) ⊎ (H ≡ []) → S ≡ Serving
-    holding h i (inl s) = s
-    holding h i (inr e) = absurd (subst (λ (hs : List HeldLock). In h hs) (sym (held_is head c past g.1) ∙ e) i)
-
-    not_mine : (rs rh : Bool) (e : Entry) → (S ≡ Serving) ⊎ (H ≡ []) → Fine rs rh false false e
-    not_mine true true e ih = ih
-    not_mine true false e ih = ih
-    not_mine false true e ih = ih
-    not_mine false false e ih = ih
-
-    served : (about : Bool) → (S ≡ Serving) ⊎ (H ≡ []) → (on true about Serving S ≡ Serving) ⊎ (H ≡ [])
-    served true ih = inl refl
-    served false ih = ih
-
-    less : (e : Entry) → held_after [] e ≡ [] → (S ≡ Serving) ⊎ (H ≡ []) → (S ≡ Serving) ⊎ (held_after H e ≡ [])
-    less e q (inl s) = inl s
-    less e q (inr n) = inr (ap (λ (hs : List HeldLock). held_after hs e) n ∙ q)
-
-    own : (e : Entry) → EntryOk past l.at (Client c) e → (is_about 0 e ≡ true → EntryOf head (only 0 past) l.at (Client c) e) → (S ≡ Serving) ⊎ (H ≡ []) → Fine (reads_standing e) (reads_held e) (is_about 0 e) true e
-    own (Knows u b) ok of ih = absurd ok
-    own (Unmarks u) ok of ih = absurd ok
-    own (Serves u b) ok of ih = served (nat_eq 0 u) ih
-    own (Life who) ok of ih = let s = of refl in inr (held_is head c past g.1 ∙ s.empty)
-    own (Heard u f r) ok of ih = let s = of (ap (nat_eq 0) ok.0) in inl (flying f s.flying (unserved_flights head c past g.1))
-    own (Hold u lock marked size seen) ok of ih = let s = of (ap (nat_eq 0) ok.names) in inl (holding (held_as 0 lock false) s.1.held ih)
-    own (Drop u lock) ok of ih = less (Drop u lock) refl ih
-    own (Pins name) ok of ih = less (Pins name) refl ih
-    own (Unpins name) ok of ih = less (Unpins name) refl ih
-    own (Marks name) ok of ih = less (Marks name) refl ih
-    own e ok of ih = ih
-
-    by : (node : Node) (e : Entry) → EntryOk past l.at node e → ((t : ℕ) → concerns t node e ≡ true → EntryOf head (only t past) l.at node e) → (S ≡ Serving) ⊎ (H ≡ [])
-        → Fine (reads_standing e) (reads_held e) (is_client c node && is_about 0 e) (is_client c node) e
-    by (Target u) e ok of ih = not_mine (reads_standing e) (reads_held e) e ih
-    by (Client d) e ok of ih = mine (nat_eq c d) refl
-      where
-        mine : (b : Bool) → nat_eq c d ≡ b → Fine (reads_standing e) (reads_held e) (b && is_about 0 e) b e
-        mine false q = not_mine (reads_standing e) (reads_held e) e ih
-        mine true q =
-            let same : d ≡ c = sym (eqb-true c d q) in
-            own e (subst (λ (u : ℕ). EntryOk past l.at (Client u) e) same ok) (λ a. subst (λ (u : ℕ). EntryOf head (only 0 past) l.at (Client u) e) same (of 0 a)) ih
 
 -- ---- what comes to it
 
@@ -430,6 +251,7 @@ ComesTo (Target t) (message.Reply r) = t ≡ 0
 ComesTo (Target t) (message.Block who boot cookie) = t ≡ 0
 ComesTo (Target t) (message.Ready who boot committed) = Unit {0}
 ComesTo (Target t) (message.Evicted who boot) = Unit {0}
+ComesTo (Target t) (message.Up boot) = Unit {0}
 ComesTo _ _ = ⊥
 
 pub comes_to : (head : Head) (past : List Line) (from : Node) (c : ℕ) (m : Message) → Grown head past → Was past from (Client c) m → ComesTo from m
@@ -441,6 +263,7 @@ comes_to head (l ∷ past) from c m g w = by l.entry w g.0.ok (λ v. comes_to he
     sends (Target t) (message.Block who boot cookie) ok = ok
     sends (Target t) (message.Ready who boot committed) ok = tt
     sends (Target t) (message.Evicted who boot) ok = tt
+    sends (Target t) (message.Up boot) ok = tt
     sends node m ok = absurd ok
 
     by : (e : Entry) → Was (line l.at e ∷ past) from (Client c) m → EntryOk past l.at l.at.node e → (Was past from (Client c) m → ComesTo from m) → ComesTo from m

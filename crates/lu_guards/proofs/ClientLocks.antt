@@ -1,6 +1,6 @@
 -- Lists of held locks: no two have one name; and what is left of them by a change, a use, a lock that comes and one that goes.
 use Rattle.std.proofs.Common.{◌≡◌, ℕ, zero, suc, ◌+◌, ◌-◌, ◌≤◌, Bool, true, false, List, [], ◌∷◌, ◌++◌, ◌⊎◌, inl, inr, ⊎_elim, refl, sym, subst, ap, ◌∙◌, arith}
-use Rattle.std.specs.Prelude.{nat_eq, ◌||◌, not, min, if◌then◌else◌, map, filter, drop}
+use Rattle.std.specs.Prelude.{nat_eq, ◌||◌, not, min, if◌then◌else◌, length, map, filter, drop}
 use Rattle.std.specs.List.{list_any}
 use Rattle.std.proofs.lemmas.Bool.{and_parts, cond-true, cond-false, eqb-true}
 use Rattle.std.proofs.lemmas.Bool.Decides.{nat_tests}
@@ -11,7 +11,7 @@ use Rattle.lu_held.specs.declared.locks.HeldLock.{HeldLock}
 use Rattle.lu_held.specs.declared.names.LockName.{LockName}
 use Rattle.lu_held.specs.Names.{same_name, is_before}
 use Rattle.lu_held.specs.Locks.{named, name_of, is_named, after}
-use Rattle.lu_held.specs.Held.{is_held, changed, without, used, put_in, in_order}
+use Rattle.lu_held.specs.Held.{is_held, changed, without, used, unmarked, put_in, in_order}
 use Rattle.lu_client_rows.specs.Caches.{held_as, with_held, with_brought}
 use Rattle.lu_guards.proofs.Guards.{In}
 use Rattle.lu_guards.proofs.Lists.{self, in_append, in_filter, in_filtered, or_left, or_right}
@@ -224,6 +224,21 @@ without_other n g hs i e = in_filtered (λ held. not (is_named n held)) g hs i (
 pub without_gone : (n : LockName) (hs : List HeldLock) → is_held n (without n hs) ≡ false
 without_gone n hs = none_any (is_named n) (without n hs) (λ g i. (without_only n g hs i).1)
 
+-- marks that go at one target
+
+pub unmarked_only : (t : ℕ) (g : HeldLock) (hs : List HeldLock) → In g (unmarked (record { 0 = t }) hs) → (h : HeldLock) × In h hs × ((if nat_eq h.target.0 t then after change.Unmark h else h) ≡ g)
+unmarked_only t g hs i = in_map (λ held. if nat_eq held.target.0 t then after change.Unmark held else held) g hs i
+
+pub once_unmarked : (t : ℕ) (hs : List HeldLock) → Once hs → Once (unmarked (record { 0 = t }) hs)
+once_unmarked t hs o = once_map (λ held. if nat_eq held.target.0 t then after change.Unmark held else held) same hs o
+  where
+    by : (b : Bool) (h : HeldLock) → name_of (if b then after change.Unmark h else h) ≡ name_of h
+    by true h = refl
+    by false h = refl
+
+    same : (h : HeldLock) → name_of (if nat_eq h.target.0 t then after change.Unmark h else h) ≡ name_of h
+    same h = by (nat_eq h.target.0 t) h
+
 -- ---- in order
 
 in_put : (h g : HeldLock) (hs : List HeldLock) → In g (put_in h hs) → (h ≡ g) ⊎ In g hs
@@ -268,6 +283,50 @@ pub ordered_in : (g : HeldLock) (hs : List HeldLock) → In g hs → In g (in_or
 ordered_in g [] i = i
 ordered_in g (h ∷ hs) (inl e) = put_there h g (in_order hs) (inl e)
 ordered_in g (h ∷ hs) (inr i) = put_there h g (in_order hs) (inr (ordered_in g hs i))
+
+-- as many of a kind as before
+count_put : (f : HeldLock → Bool) (h : HeldLock) (hs : List HeldLock) → length (filter f (put_in h hs)) ≡ length (filter f (h ∷ hs))
+count_put f h [] = refl
+count_put f h (g ∷ hs) = by (is_before (name_of g) (name_of h)) (count_put f h hs)
+  where
+    here : (a b : Bool) → length (if b then g ∷ (if a then h ∷ filter f hs else filter f hs) else (if a then h ∷ filter f hs else filter f hs)) ≡ length (if a then h ∷ (if b then g ∷ filter f hs else filter f hs) else (if b then g ∷ filter f hs else filter f hs))
+    here true true = refl
+    here true false = refl
+    here false true = refl
+    here false false = refl
+
+    more : (b : Bool) (xs ys : List HeldLock) → length xs ≡ length ys → length (if b then g ∷ xs else xs) ≡ length (if b then g ∷ ys else ys)
+    more true xs ys e = ap suc e
+    more false xs ys e = e
+
+    by : (b : Bool) → length (filter f (put_in h hs)) ≡ length (filter f (h ∷ hs)) → length (filter f (if b then g ∷ put_in h hs else h ∷ g ∷ hs)) ≡ length (filter f (h ∷ g ∷ hs))
+    by true e = more (f g) (filter f (put_in h hs)) (filter f (h ∷ hs)) e ∙ here (f h) (f g)
+    by false e = refl
+
+pub count_ordered : (f : HeldLock → Bool) (hs : List HeldLock) → length (filter f (in_order hs)) ≡ length (filter f hs)
+count_ordered f [] = refl
+count_ordered f (h ∷ hs) = count_put f h (in_order hs) ∙ by (f h) (count_ordered f hs)
+  where
+    by : (b : Bool) → length (filter f (in_order hs)) ≡ length (filter f hs) → length (if b then h ∷ filter f (in_order hs) else filter f (in_order hs)) ≡ length (if b then h ∷ filter f hs else filter f hs)
+    by true e = ap suc e
+    by false e = e
+
+-- and without their marks, as many of a target
+pub count_unmarked : (t u : ℕ) (hs : List HeldLock) → length (filter (λ (h : HeldLock). nat_eq h.target.0 t) (unmarked (record { 0 = u }) hs)) ≡ length (filter (λ (h : HeldLock). nat_eq h.target.0 t) hs)
+count_unmarked t u [] = refl
+count_unmarked t u (h ∷ hs) = by (nat_eq h.target.0 u) (count_unmarked t u hs)
+  where
+    of_target : HeldLock → Bool
+    of_target x = nat_eq x.target.0 t
+
+    more : (b : Bool) (x y : HeldLock) (xs ys : List HeldLock) → length xs ≡ length ys → length (if b then x ∷ xs else xs) ≡ length (if b then y ∷ ys else ys)
+    more true x y xs ys e = ap suc e
+    more false x y xs ys e = e
+
+    by : (b : Bool) → length (filter of_target (unmarked (record { 0 = u }) hs)) ≡ length (filter of_target hs)
+        → length (filter of_target ((if b then after change.Unmark h else h) ∷ unmarked (record { 0 = u }) hs)) ≡ length (filter of_target (h ∷ hs))
+    by true e = more (of_target h) (after change.Unmark h) h (filter of_target (unmarked (record { 0 = u }) hs)) (filter of_target hs) e
+    by false e = more (of_target h) h h (filter of_target (unmarked (record { 0 = u }) hs)) (filter of_target hs) e
 
 pub once_ordered : (hs : List HeldLock) → Once hs → Once (in_order hs)
 once_ordered [] o = tt

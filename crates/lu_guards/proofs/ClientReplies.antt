@@ -30,8 +30,9 @@ use Rattle.lu_covered.specs.ClientStates.{flights_of, life_of}
 use Rattle.lu_covered.specs.Imports.{flights_at}
 use Rattle.lu_table.specs.Heads as table
 use Rattle.lu_table.specs.Runs.{client_of}
-use Rattle.lu_guards.proofs.Guards.{In, Was, Later, Ending, HeardNow, JustHeard, Learned, TookNow, Noticed, Grown}
-use Rattle.lu_guards.proofs.Guards as guards
+use Rattle.lu_guards.proofs.Guards.{In, Was, HeardNow, JustHeard, Learned}
+use Rattle.lu_guards.proofs.Grown.{Grown}
+use Rattle.lu_guards.proofs.StoryGuards as story_guards
 use Rattle.lu_guards.proofs.Lists.{self, life_is, turn, turn_more}
 use Rattle.lu_guards.proofs.Only.{told_by_target, grown_of}
 use Rattle.lu_guards.proofs.Parts.{flights_now, known_is, life_is_of}
@@ -79,7 +80,7 @@ module _ (head : table.Head) (c : ℕ) (stamp : Stamp) where
         good =
             adds head c stamp p e s.good (owes_nothing p at e s.settled)
             (record { names = refl; flight = f; reply = r; heard = s.now; among = s.among l (inl refl); unmarked = refl; unsized = refl; saw = refl })
-            (at_zero head c stamp (λ (t : ℕ). (false ≡ false) × guards.HeldOk (only t p) c l) (
+            (at_zero head c stamp (λ (t : ℕ). (false ≡ false) × story_guards.HeldOk (only t p) c l) (
               refl,
               record {
                 at = at;
@@ -193,7 +194,7 @@ module _ (head : table.Head) (c : ℕ) (stamp : Stamp) where
     heard_good : Good head c at p2
     heard_good =
         adds head c stamp p1 (Heard 0 f r) (took_good head c stamp p n 0 (message.Reply r) s found.sent) (owes_nothing p1 at (Heard 0 f r) tt) (refl, (refl, refl, refl))
-        (at_zero head c stamp (λ (t : ℕ). guards.HeardOk (only t p1) c f r) (record {
+        (at_zero head c stamp (λ (t : ℕ). story_guards.HeardOk (only t p1) c f r) (record {
           from = 0;
           was = was;
           flying = subst (λ (fs : List Flight). In f fs) (flights_now (the_head head c stamp) c 0 p s.grown) found.flying;
@@ -221,7 +222,7 @@ module _ (head : table.Head) (c : ℕ) (stamp : Stamp) where
           calls = λ slot. call_line head c stamp slot p1 (Heard 0 f r);
           handles = s.between.handles;
           free =
-              λ x i. ⊎_elim (λ (q : (l : Lock) × (held_as 0 l false ≡ x)). ap (λ (y : HeldLock). y.pins) (sym q.1)) (λ (j : In x (held_at c p)). (s.between.held x j).1)
+              λ x i. ⊎_elim (λ (q : (l : Lock) × (held_as 0 l false ≡ x)). ap (λ (y : HeldLock). y.pins) (sym q.1)) (λ (j : In x (held_at c p)). s.between.held x j)
               (brought_only 0 x r.locks (held_at c p) (subst (λ (hs : List HeldLock). In x hs) brought_so i));
         }
 
@@ -232,7 +233,7 @@ module _ (head : table.Head) (c : ℕ) (stamp : Stamp) where
           good =
               adds head c stamp p3 x last.good (owes_nothing p3 at x last.settled)
               (record { names = refl; flight = f; reply = r; heard = last.now; of_op = refl; of_answer = refl; of_locks = sym e })
-              (at_zero head c stamp (λ (t : ℕ). guards.KnowsOk (only t p3) f.op r.answer (l ∷ ls)) (record { at = at; flight = f; reply = r; heard = last.now_only; of_op = refl; of_answer = refl; of_locks = sym e }))
+              (at_zero head c stamp (λ (t : ℕ). story_guards.KnowsOk (only t p3) f.op r.answer (l ∷ ls)) (record { at = at; flight = f; reply = r; heard = last.now_only; of_op = refl; of_answer = refl; of_locks = sym e }))
               tt tt refl;
           settled = tt;
           just = last.just;
@@ -334,7 +335,7 @@ module _ (head : table.Head) (c : ℕ) (stamp : Stamp) where
           inl (record {
             good =
                 adds head c stamp p1 x took.good (owes_nothing p1 at x tt) refl
-                (at_zero head c stamp (λ (t : ℕ). guards.CancelOk (only t p1) c (life_at c p) (import_of 0 k.imports).boot cookie) (record {
+                (at_zero head c stamp (λ (t : ℕ). story_guards.CancelOk (only t p1) c (life_at c p) (import_of 0 k.imports).boot cookie) (record {
                   of_life = life_is_of c 0 p;
                   of_boot = ap (λ (i : Import). i.boot) (import_zero head c stamp p) ∙ known_is c 0 p;
                   free = ap (is_held name) (sym (held_is (the_head head c stamp) c p s.grown)) ∙ free;

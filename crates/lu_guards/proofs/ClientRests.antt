@@ -1,6 +1,7 @@
--- What comes at the end of a client's turn: unused locks are marked, marked ones are given up, and what waits is sent. Each line is
--- allowed, and then each call waits for its reply, no held lock is pinned or marked, and handles are bound as calls say.
-use Rattle.std.proofs.Common.{◌≡◌, ℕ, zero, suc, ◌+◌, ◌<◌, Bool, true, false, List, [], ◌∷◌, ◌++◌, ◌⊎◌, inl, inr, ⊎_elim, Option, Some, None, refl, sym, subst, ap, ◌∙◌, arith, add-one}
+-- What comes at the end of a client's turn: unused locks are marked, and where the metadata target serves the life, marked ones are
+-- given up and what waits is sent. Each line is allowed, and then each call waits for its reply, no held lock is pinned, none is marked
+-- where that target serves, and handles are bound as calls say.
+use Rattle.std.proofs.Common.{◌≡◌, ℕ, zero, suc, ◌+◌, ◌<◌, ◌≤◌, Bool, true, false, List, [], ◌∷◌, ◌++◌, ◌⊎◌, inl, inr, ⊎_elim, Option, Some, None, refl, sym, subst, ap, ◌∙◌, arith, add-one}
 use Rattle.std.specs.Prelude.{nat_eq, nat_lt, ◌&&◌, ◌||◌, length, if◌then◌else◌, map, filter, reverse, drop}
 use Rattle.std.specs.List.{range_with_len}
 use Rattle.std.proofs.lemmas.Bool.{and_parts, cond-true, cond-false, eqb-true, ltb-true}
@@ -36,20 +37,23 @@ use Rattle.lu_covered.specs.Calls.{reads_call, call_after, call_at, life_at, bec
 use Rattle.lu_covered.specs.ClientStates.{queue_of, flights_of, last_of, known_of, life_of, standing_of}
 use Rattle.lu_covered.specs.Covered.{IsCovered, IsAlone, AllCovered}
 use Rattle.lu_covered.specs.Heads.{Head, IsAlive}
-use Rattle.lu_covered.specs.Imports.{Standing, Serving, rest, queue_at, flights_at, last_at, known_at, standing_at}
+use Rattle.lu_covered.specs.Imports.{Standing, Joining, Recovering, Serving, rest, queue_at, flights_at, last_at, known_at, standing_at}
 use Rattle.lu_table.specs.Heads as table
 use Rattle.lu_table.specs.Runs.{limits_of, client_of}
 use Rattle.lu_after.proofs.Clients.{client_own}
-use Rattle.lu_guards.proofs.Guards.{In, Steps, Closes, Owes, EntryOk, EntryOf, DropOk, CancelOk, Grown}
+use Rattle.lu_guards.proofs.Guards.{In, Steps, Closes, Owes, EntryOk}
+use Rattle.lu_guards.proofs.StoryGuards.{EntryOf, DropOk, CancelOk}
+use Rattle.lu_guards.proofs.Grown.{Noted, Grown}
 use Rattle.lu_guards.proofs.Guards as guards
+use Rattle.lu_guards.proofs.StoryGuards as story_guards
 use Rattle.lu_guards.proofs.Lists.{self, in_append, in_right, in_filter, turn, life_self, turn_more}
 use Rattle.lu_guards.proofs.Parts.{queue_is, flights_is, last_is, known_is, standing_is, life_is_of}
-use Rattle.lu_guards.proofs.Turns.{covered_head, Settled, owes_nothing}
+use Rattle.lu_guards.proofs.Turns.{covered_head, Settled, owes_nothing, backs_none, marks_none, noted_client}
 use Rattle.lu_guards.proofs.Covers.{covered_turn}
-use Rattle.lu_guards.proofs.Held.{held_is}
+use Rattle.lu_guards.proofs.Held.{held_is, held_zero}
 use Rattle.lu_guards.proofs.ClientLocks.{Once, in_drop, own_name, changed_only, without_only, without_other, without_gone, in_ordered, ordered_in, once_ordered}
 use Rattle.lu_guards.proofs.ClientHandles.{Tied}
-use Rattle.lu_guards.proofs.ClientLines.{ends, patches_none, boot_first, other_queue, held_zero, held_once, unserved_held}
+use Rattle.lu_guards.proofs.ClientLines.{ends, patches_none, other_queue, held_once}
 
 -- ---- a client that lives, in its turn, after lines that are allowed
 
@@ -58,6 +62,7 @@ pub record Good (head : table.Head) (c : ℕ) (at : At) (past : List Line) : Typ
   pub covered : AllCovered past
   pub steps : Steps past at
   pub closes : Closes past at
+  pub noted : Noted (covered_head head) past
   pub alive : IsAlive (covered_head head) past c
 
 -- a call that waits for its reply, or none
@@ -76,11 +81,12 @@ pub record Rested (head : table.Head) (c : ℕ) (at : At) (past : List Line) : T
   pub handles : Tied c past
   pub free : (x : HeldLock) → In x (held_at c past) → x.pins ≡ 0
 
--- between its turns no held lock is marked either
+-- between its turns no held lock is marked either, where the metadata target serves the life
 pub record Between (c : ℕ) (past : List Line) : Type 0 where
   pub idle : AllIdle c past
   pub handles : Tied c past
-  pub held : (x : HeldLock) → In x (held_at c past) → (x.marked ≡ false) × (x.pins ≡ 0)
+  pub held : (x : HeldLock) → In x (held_at c past) → x.pins ≡ 0
+  pub calm : standing_at c 0 past ≡ Serving → (x : HeldLock) → In x (held_at c past) → x.marked ≡ false
 
 pub record Ended (head : table.Head) (c : ℕ) (at : At) (past : List Line) : Type 0 where
   pub good : Good head c at past
@@ -109,10 +115,11 @@ module _ (head : table.Head) (c : ℕ) (stamp : Stamp) where
       → Good head c here (line here e ∷ p)
   adds p e g owes ok of covered alone lives =
       record {
-        grown = (record { steps = g.steps; closes = g.closes; lives = g.alive; owes = owes; ok = ok; of = of }, g.grown);
+        grown = (record { steps = g.steps; closes = g.closes; backs = backs_none the_head p here e g.noted; marks = marks_none the_head p here e g.noted; lives = g.alive; owes = owes; ok = ok; of = of }, g.grown);
         covered = (covered, g.covered, alone);
         steps = inl refl;
         closes = inl refl;
+        noted = noted_client the_head p stamp c e ok g.noted;
         alive = record { one = g.alive.one; alive = by (reads_death e) lives ∙ g.alive.alive };
       }
     where
@@ -141,12 +148,9 @@ module _ (head : table.Head) (c : ℕ) (stamp : Stamp) where
       by Tick = refl
       by e = refl
 
-  pub boot_here : (t : ℕ) (p : List Line) → AllCovered p → known_of c (only t p) ≡ 1
-  boot_here t p a = sym (known_is c t p) ∙ boot_first c t p a
-
-  -- a request in flight, as its life and the first boot name it
-  pub request_is : (t : ℕ) (p : List Line) (f : Flight) → AllCovered p → request_of (life_at c p) 1 f ≡ guards.request c (only t p) f
-  request_is t p f a = ap (λ (w : Who). request_of w 1 f) (life_is_of c t p) ∙ ap (λ (b : ℕ). request_of (life_of c (only t p)) b f) (sym (boot_here t p a))
+  -- a request in flight, as its life and the boot that it knows name it
+  pub request_is : (t : ℕ) (p : List Line) (f : Flight) → request_of (life_at c p) (known_at c t p) f ≡ guards.request c (only t p) f
+  request_is t p f = ap (λ (w : Who). request_of w (known_at c t p) f) (life_is_of c t p) ∙ ap (λ (b : ℕ). request_of (life_of c (only t p)) b f) (known_is c t p)
 
   -- ---- lines that a part of a row makes, which reads the client where the part begins
 
@@ -168,12 +172,12 @@ module _ (head : table.Head) (c : ℕ) (stamp : Stamp) where
 
   -- ---- what waits at the metadata target is sent
 
-  sends_good : (p : List Line) (who : Who) (last : ℕ) (flights : List Flight) (queue : List Queued) → Ended head c here p → life_of c (only 0 p) ≡ who → standing_of c (only 0 p) ≡ Serving
+  sends_good : (p : List Line) (who : Who) (boot last : ℕ) (flights : List Flight) (queue : List Queued) → Ended head c here p → life_of c (only 0 p) ≡ who → standing_of c (only 0 p) ≡ Serving → known_of c (only 0 p) ≡ boot
       → last_of who (only 0 p) ≡ last → flights_of who (only 0 p) ≡ flights → queue_of who (only 0 p) ≡ queue
-      → Ended head c here (with_turn here (sends (limits_of head) who 1 0 last flights queue) p)
-  sends_good p who last flights [] e w v l f q = e
-  sends_good p who last flights (x ∷ queue) e w v l f q =
-      by (has_room (limits_of head) 0 x.op flights) refl (λ g fs ls qs. sends_good p2 who (last + 1) (flights ++ fl ∷ []) queue (record { good = g; settled = tt; between = record { idle = e.between.idle; handles = e.between.handles; held = e.between.held } }) w v ls fs qs)
+      → Ended head c here (with_turn here (sends (limits_of head) who boot 0 last flights queue) p)
+  sends_good p who boot last flights [] e w v k l f q = e
+  sends_good p who boot last flights (x ∷ queue) e w v k l f q =
+      by (has_room (limits_of head) 0 x.op flights) refl (λ g fs ls qs. sends_good p2 who boot (last + 1) (flights ++ fl ∷ []) queue (record { good = g; settled = tt; between = record { idle = e.between.idle; handles = e.between.handles; held = e.between.held; calm = e.between.calm } }) w v k ls fs qs)
     where
       fl : Flight
       fl = next_flight last flights x
@@ -182,10 +186,10 @@ module _ (head : table.Head) (c : ℕ) (stamp : Stamp) where
       p1 = line here (Flies 0 fl) ∷ p
 
       p2 : List Line
-      p2 = line here (sends_request who 1 0 fl) ∷ p1
+      p2 = line here (sends_request who boot 0 fl) ∷ p1
 
       more : List Entry
-      more = sends (limits_of head) who 1 0 (last + 1) (flights ++ fl ∷ []) queue
+      more = sends (limits_of head) who boot 0 (last + 1) (flights ++ fl ∷ []) queue
 
       own : same_life who (life_of c (only 0 p)) ≡ true
       own = ap (same_life who) w ∙ life_self who
@@ -202,7 +206,7 @@ module _ (head : table.Head) (c : ℕ) (stamp : Stamp) where
       flown : nat_lt (length flights) head.flight ≡ true → Good head c here p1
       flown room =
           adds p (Flies 0 fl) e.good (owes_nothing p here (Flies 0 fl) e.settled) refl
-          (at_zero (λ (t : ℕ). guards.FliesOk the_head (only t p) c fl) (record {
+          (at_zero (λ (t : ℕ). story_guards.FliesOk the_head (only t p) c fl) (record {
             serves = v;
             front = x;
             more = queue;
@@ -214,18 +218,18 @@ module _ (head : table.Head) (c : ℕ) (stamp : Stamp) where
 
       sent : Good head c here p1 → Good head c here p2
       sent g =
-          adds p1 (sends_request who 1 0 fl) g (owes_nothing p1 here (sends_request who 1 0 fl) tt) refl
-          (at_zero (λ (t : ℕ). guards.AskOk (only t p1) c (request_of who 1 fl)) (record {
+          adds p1 (sends_request who boot 0 fl) g (owes_nothing p1 here (sends_request who boot 0 fl) tt) refl
+          (at_zero (λ (t : ℕ). story_guards.AskOk (only t p1) c (request_of who boot fl)) (record {
             serves = v;
             flight = fl;
             flying = subst (λ (y : List Flight). In fl y) (sym (ap (λ (z : Who). flights_of z (only 0 p1)) w ∙ fs)) (in_right fl flights (fl ∷ []) (inl refl));
-            is = rw (w, boot_here 0 p1 g.covered) refl;
+            is = rw (w, k) refl;
           }))
           tt tt refl
 
       by : (b : Bool) → has_room (limits_of head) 0 x.op flights ≡ b
           → (Good head c here p2 → flights_of who (only 0 p1) ≡ flights ++ fl ∷ [] → last_of who (only 0 p1) ≡ last + 1 → queue_of who (only 0 p1) ≡ queue → Ended head c here (with_turn here more p2))
-          → Ended head c here (with_turn here (if b then flies who 1 0 fl more else []) p)
+          → Ended head c here (with_turn here (if b then flies who boot 0 fl more else []) p)
       by true room on = on (sent (flown (and_parts (nat_lt (length flights) head.flight) true room).0)) fs ls qs
       by false room on = e
 
@@ -253,6 +257,15 @@ module _ (head : table.Head) (c : ℕ) (stamp : Stamp) where
   pub import_zero : (p : List Line) → import_of 0 (client_of head c p).imports ≡ import_at c 0 p
   import_zero p = first_import_is p (head.osts + 1) (add-one head.osts)
 
+  -- and so is that of each target that there is
+  import_from : (p : List Line) (n from t : ℕ) → t < n → import_of t (map (λ u. import_at c u p) (range_with_len from n)) ≡ import_at c (from + t) p
+  import_from p zero from t lt = absurd (omega (arith, lt))
+  import_from p (suc n) from zero lt = ap (λ (u : ℕ). import_at c u p) (let e : from ≡ from + 0 = omega arith in e)
+  import_from p (suc n) from (suc t) lt = import_from p n (from + 1) t (omega (arith, lt)) ∙ ap (λ (u : ℕ). import_at c u p) (let e : from + 1 + t ≡ from + suc t = omega arith in e)
+
+  pub import_there : (p : List Line) (t : ℕ) → t ≤ head.osts → import_of t (client_of head c p).imports ≡ import_at c t p
+  import_there p t le = import_from p (head.osts + 1) 0 t (omega (arith, le)) ∙ ap (λ (u : ℕ). import_at c u p) (let e : 0 + t ≡ t = omega arith in e)
+
   sends_so : (p : List Line) → Good head c here p → sends_all (limits_of head) (client_of head c p).who 0 (client_of head c p).imports ≡ sends_to (limits_of head) (life_at c p) 0 (import_at c 0 p)
   sends_so p g = by (head.osts + 1) (add-one head.osts)
     where
@@ -266,9 +279,8 @@ module _ (head : table.Head) (c : ℕ) (stamp : Stamp) where
       by : (s : Standing) → standing_at c 0 p ≡ s
           → Ended head c here (with_turn here (if is_serving s then sends (limits_of head) (life_at c p) (known_at c 0 p) 0 (last_at c 0 p) (flights_at c 0 p) (queue_at c 0 p) else []) p)
       by Serving s =
-          subst (λ (b : ℕ). Ended head c here (with_turn here (sends (limits_of head) (life_at c p) b 0 (last_at c 0 p) (flights_at c 0 p) (queue_at c 0 p)) p)) (sym (boot_first c 0 p e.good.covered))
-          (sends_good p (life_at c p) (last_at c 0 p) (flights_at c 0 p) (queue_at c 0 p) e (sym (life_is_of c 0 p)) (sym (standing_is c 0 p) ∙ s)
-          (sym (last_is the_head c 0 p e.good.grown)) (sym (flights_is the_head c 0 p e.good.grown)) (sym (queue_is the_head c 0 p e.good.grown)))
+          sends_good p (life_at c p) (known_at c 0 p) (last_at c 0 p) (flights_at c 0 p) (queue_at c 0 p) e (sym (life_is_of c 0 p)) (sym (standing_is c 0 p) ∙ s) (sym (known_is c 0 p))
+          (sym (last_is the_head c 0 p e.good.grown)) (sym (flights_is the_head c 0 p e.good.grown)) (sym (queue_is the_head c 0 p e.good.grown))
       by standing s = e
 
   -- ---- unused locks are marked
@@ -312,35 +324,32 @@ module _ (head : table.Head) (c : ℕ) (stamp : Stamp) where
       never false = refl
   no_write h m q = refl
 
-  abbrev given_up : Who → HeldLock → List Entry
-  given_up who x = Drop 0 x.lock ∷ Send (Target 0) (message.Cancel who 1 x.lock.cookie) ∷ []
+  abbrev given_up : Who → ℕ → HeldLock → List Entry
+  given_up who boot x = Drop 0 x.lock ∷ Send (Target 0) (message.Cancel who boot x.lock.cookie) ∷ []
 
-  visits_so : (p : List Line) (x : HeldLock) → Good head c here p → x.target.0 ≡ 0 → x.pins ≡ 0 → standing_at c 0 p ≡ Serving → visits false x (client_of head c p) ≡ (if x.marked then given_up (life_at c p) x else [])
-  visits_so p x g z free serves =
+  visits_so : (p : List Line) (x : HeldLock) → Good head c here p → x.target.0 ≡ 0 → x.pins ≡ 0
+      → visits false x (client_of head c p) ≡ (if x.marked && is_serving (standing_at c 0 p) then given_up (life_at c p) (known_at c 0 p) x else [])
+  visits_so p x g z free =
       ap (λ (ps : List _). visits_with false x (patch_at x.lock.resource ps) (client_of head c p)) (patches_none c p g.covered)
       ∙ cond-false (must_write false x x.lock.ask.mode x.lock.ask.policy clean) _ (gives_up (life_at c p) x (import_of x.target.0 (client_of head c p).imports)) (no_write x x.lock.ask.mode x.lock.ask.policy)
       ∙ ap (λ (t : ℕ). gives_up (life_at c p) x (import_of t (client_of head c p).imports)) z
       ∙ ap (λ (i : Import). gives_up (life_at c p) x i) (import_zero p)
-      ∙ rw (free, serves, boot_first c 0 p g.covered, z) (by x.marked)
+      ∙ rw (free, z) (by x.marked (is_serving (standing_at c 0 p)))
     where
-      by : (b : Bool) → (if (b && true) && true then given_up (life_at c p) x else []) ≡ (if b then given_up (life_at c p) x else [])
-      by true = refl
-      by false = refl
+      by : (b served : Bool) → (if (b && true) && served then given_up (life_at c p) (known_at c 0 p) x else []) ≡ (if b && served then given_up (life_at c p) (known_at c 0 p) x else [])
+      by true served = refl
+      by false served = refl
 
-  -- where something is held its target serves
-  pub held_serves : (p : List Line) (x : HeldLock) → Good head c here p → In x (held_at c p) → standing_at c 0 p ≡ Serving
-  held_serves p x g i = ⊎_elim (λ (s : standing_at c 0 p ≡ Serving). s) (λ (n : held_at c p ≡ []). absurd (subst (λ (hs : List HeldLock). In x hs) n i)) (unserved_held the_head c p g.grown)
-
-  -- these locks are held, and no other held one is marked
+  -- these locks are held, and where the target serves no other held one is marked
   record Visiting (rs : List HeldLock) (p : List Line) : Type 0 where
     rested : Rested head c here p
     held : (x : HeldLock) → In x rs → In x (held_at c p)
-    marked : (x : HeldLock) → In x (held_at c p) → (x.marked ≡ false) ⊎ In x rs
+    marked : standing_at c 0 p ≡ Serving → (x : HeldLock) → In x (held_at c p) → (x.marked ≡ false) ⊎ In x rs
 
   visited : (p : List Line) (r : HeldLock) (rs : List HeldLock) → Once (r ∷ rs) → Visiting (r ∷ rs) p → Visiting rs (with_turn here (visits false r (client_of head c p)) p)
   visited p r rs once v =
       let z = held_zero the_head c p v.rested.good.grown r (v.held r (inl refl)) in
-      subst (λ (es : List Entry). Visiting rs (with_turn here es p)) (sym (visits_so p r v.rested.good z (v.rested.free r (v.held r (inl refl))) (held_serves p r v.rested.good (v.held r (inl refl))))) (by z r.marked refl)
+      subst (λ (es : List Entry). Visiting rs (with_turn here es p)) (sym (visits_so p r v.rested.good z (v.rested.free r (v.held r (inl refl))))) (by_standing z (standing_at c 0 p) refl)
     where
       name : LockName
       name = named (record { 0 = 0 }) r.lock.cookie
@@ -349,44 +358,44 @@ module _ (head : table.Head) (c : ℕ) (stamp : Stamp) where
       p1 = line here (Drop 0 r.lock) ∷ p
 
       p2 : List Line
-      p2 = line here (Send (Target 0) (message.Cancel (life_at c p) 1 r.lock.cookie)) ∷ p1
+      p2 = line here (Send (Target 0) (message.Cancel (life_at c p) (known_at c 0 p) r.lock.cookie)) ∷ p1
 
       left : held_at c p1 ≡ without name (held_at c p)
       left = held_line p (Drop 0 r.lock)
 
-      dropped : r.marked ≡ true → Good head c here p1
-      dropped marked =
-          adds p (Drop 0 r.lock) v.rested.good (owes_nothing p here (Drop 0 r.lock) v.rested.settled) (refl, inl (record { holding = r; held = v.held r (inl refl); is = refl; marked = marked }))
+      dropped : standing_at c 0 p ≡ Serving → r.marked ≡ true → Good head c here p1
+      dropped serves marked =
+          adds p (Drop 0 r.lock) v.rested.good (owes_nothing p here (Drop 0 r.lock) v.rested.settled) (refl, inl (record { holding = r; held = v.held r (inl refl); is = refl; marked = marked; serves = serves }))
           (at_zero (λ (t : ℕ). (0 ≡ 0) × DropOk (only t p) c r.lock) (refl, record { holding = r; held = subst (λ (hs : List HeldLock). In r hs) (held_is the_head c p v.rested.good.grown) (v.held r (inl refl)); is = refl }))
           tt tt refl
 
       cancelled : Good head c here p1 → Good head c here p2
       cancelled g =
-          adds p1 (Send (Target 0) (message.Cancel (life_at c p) 1 r.lock.cookie)) g (owes_nothing p1 here (Send (Target 0) (message.Cancel (life_at c p) 1 r.lock.cookie)) tt) refl
-          (at_zero (λ (t : ℕ). CancelOk (only t p1) c (life_at c p) 1 r.lock.cookie) (record {
+          adds p1 (Send (Target 0) (message.Cancel (life_at c p) (known_at c 0 p) r.lock.cookie)) g (owes_nothing p1 here (Send (Target 0) (message.Cancel (life_at c p) (known_at c 0 p) r.lock.cookie)) tt) refl
+          (at_zero (λ (t : ℕ). CancelOk (only t p1) c (life_at c p) (known_at c 0 p) r.lock.cookie) (record {
             of_life = life_is_of c 0 p;
-            of_boot = sym (boot_here 0 p1 g.covered);
+            of_boot = known_is c 0 p;
             free = ap (is_held name) (sym (held_is the_head c p1 g.grown) ∙ left) ∙ without_gone name (held_at c p);
             cause = inl (refl, refl);
           }))
           tt tt refl
 
-      by : r.target.0 ≡ 0 → (b : Bool) → r.marked ≡ b → Visiting rs (with_turn here (if b then given_up (life_at c p) r else []) p)
-      by z false e = record { rested = v.rested; held = λ x i. v.held x (inr i); marked = marked }
+      by : standing_at c 0 p ≡ Serving → r.target.0 ≡ 0 → (b : Bool) → r.marked ≡ b → Visiting rs (with_turn here (if b && true then given_up (life_at c p) (known_at c 0 p) r else []) p)
+      by serves z false e = record { rested = v.rested; held = λ x i. v.held x (inr i); marked = marked }
         where
-          marked : (x : HeldLock) → In x (held_at c p) → (x.marked ≡ false) ⊎ In x rs
-          marked x i = ⊎_elim (λ (m : x.marked ≡ false). inl m) (λ (j : In x (r ∷ rs)). ⊎_elim (λ (s : r ≡ x). inl (subst (λ (y : HeldLock). y.marked ≡ false) s e)) (λ (k : In x rs). inr k) j) (v.marked x i)
-      by z true e =
+          marked : standing_at c 0 p ≡ Serving → (x : HeldLock) → In x (held_at c p) → (x.marked ≡ false) ⊎ In x rs
+          marked q x i = ⊎_elim (λ (m : x.marked ≡ false). inl m) (λ (j : In x (r ∷ rs)). ⊎_elim (λ (s : r ≡ x). inl (subst (λ (y : HeldLock). y.marked ≡ false) s e)) (λ (k : In x rs). inr k) j) (v.marked q x i)
+      by serves z true e =
           record {
             rested = record {
-              good = cancelled (dropped e);
+              good = cancelled (dropped serves e);
               settled = tt;
               idle = v.rested.idle;
               handles = v.rested.handles;
               free = λ x i. v.rested.free x (was x i).0;
             };
             held = λ x i. subst (λ (hs : List HeldLock). In x hs) (sym left) (without_other name x (held_at c p) (v.held x (inr i)) (ap (λ (n : ℕ). is_named (named (record { 0 = n }) r.lock.cookie) x) (sym z) ∙ once.0 x i));
-            marked = λ x i. ⊎_elim (λ (m : x.marked ≡ false). inl m) (λ (j : In x (r ∷ rs)). ⊎_elim (λ (s : r ≡ x). absurd (other x i s)) (λ (k : In x rs). inr k) j) (v.marked x (was x i).0);
+            marked = λ q x i. ⊎_elim (λ (m : x.marked ≡ false). inl m) (λ (j : In x (r ∷ rs)). ⊎_elim (λ (s : r ≡ x). absurd (other x i s)) (λ (k : In x rs). inr k) j) (v.marked q x (was x i).0);
           }
         where
           was : (x : HeldLock) → In x (held_at c p1) → In x (held_at c p) × (is_named name x ≡ false)
@@ -398,12 +407,22 @@ module _ (head : table.Head) (c : ℕ) (stamp : Stamp) where
               let q : true ≡ false = sym own ∙ ap (is_named name) s ∙ (was x i).1 in
               cc
 
+      -- where the target doesn't serve, it stays
+      stays : (b : Bool) → (standing_at c 0 p ≡ Serving → ⊥) → Visiting rs (with_turn here (if b && false then given_up (life_at c p) (known_at c 0 p) r else []) p)
+      stays true n = record { rested = v.rested; held = λ x i. v.held x (inr i); marked = λ q. absurd (n q) }
+      stays false n = record { rested = v.rested; held = λ x i. v.held x (inr i); marked = λ q. absurd (n q) }
+
+      by_standing : r.target.0 ≡ 0 → (s : Standing) → standing_at c 0 p ≡ s → Visiting rs (with_turn here (if r.marked && is_serving s then given_up (life_at c p) (known_at c 0 p) r else []) p)
+      by_standing z Serving e = by e z r.marked refl
+      by_standing z Joining e = stays r.marked (λ q. let j : Joining ≡ Serving = sym e ∙ q in cc)
+      by_standing z Recovering e = stays r.marked (λ q. let j : Recovering ≡ Serving = sym e ∙ q in cc)
+
   visits_good : (rs : List HeldLock) → Once rs → (p : List Line) → Visiting rs p → Ended head c here (with_turn here (visits_all false rs (client_of head c p)) p)
   visits_good [] once p v =
       record {
         good = v.rested.good;
         settled = v.rested.settled;
-        between = record { idle = v.rested.idle; handles = v.rested.handles; held = λ x i. (⊎_elim (λ (m : x.marked ≡ false). m) (λ (n : ⊥). absurd n) (v.marked x i), v.rested.free x i) };
+        between = record { idle = v.rested.idle; handles = v.rested.handles; held = v.rested.free; calm = λ s x i. ⊎_elim (λ (m : x.marked ≡ false). m) (λ (n : ⊥). absurd n) (v.marked s x i) };
       }
   visits_good (r ∷ rs) once p v =
       let es = visits false r (client_of head c p) in
@@ -414,7 +433,7 @@ module _ (head : table.Head) (c : ℕ) (stamp : Stamp) where
       let held = held_at c p in
       let over : nat_lt head.dirty (dirty_total (client_of head c p).store.patches) ≡ false = ap (λ (ps : List _). nat_lt head.dirty (dirty_total ps)) (patches_none c p r.good.covered) ∙ not_over head.dirty in
       subst (λ (b : Bool). Ended head c here (with_turn here (visits_all b (in_order held) (client_of head c p)) p)) (sym over)
-      (visits_good (in_order held) (once_ordered held (held_once the_head c p r.good.grown)) p (record { rested = r; held = λ x i. in_ordered x held i; marked = λ x i. inr (ordered_in x held i) }))
+      (visits_good (in_order held) (once_ordered held (held_once the_head c p r.good.grown)) p (record { rested = r; held = λ x i. in_ordered x held i; marked = λ s x i. inr (ordered_in x held i) }))
 
   -- ---- all of it, once the calls have gone as far as they can
 

@@ -1,7 +1,9 @@
 -- Where the turns of a client in a covered run start, and what their events come to: nothing moves, or a call whose reply was heard is to be
--- told; then the turn ends as it should. A message that is taken changes nothing by itself, and no call waits for a lock.
-use Rattle.std.proofs.Common.{◌≡◌, ℕ, suc, ◌+◌, List, [], ◌∷◌, ◌⊎◌, inl, inr, Option, Some, None, refl}
+-- told; then the turn ends as it should. No line is of a target that isn't there; a message that is taken changes nothing by itself, and no
+-- call waits for a lock.
+use Rattle.std.proofs.Common.{◌≡◌, ℕ, suc, ◌+◌, ◌≤◌, List, [], ◌∷◌, ◌⊎◌, inl, inr, Option, Some, None, refl, subst}
 use Rattle.lu_base.specs.declared.ids.At.{At}
+use Rattle.lu_base.specs.declared.ids.Node.{Node}
 use Rattle.lu_base.specs.declared.ids.Node.TheVariants.{Client, Target}
 use Rattle.lu_base.specs.declared.ids.Stamp.{Stamp}
 use Rattle.lu_base.specs.declared.ids.Who.{Who}
@@ -9,13 +11,12 @@ use Rattle.lu_msg.specs.declared.messages.Message.{Message}
 use Rattle.lu_msg.specs.declared.messages.Reply.{Reply as ReplyTo}
 use Rattle.lu_held.specs.declared.names.LockName.{LockName}
 use Rattle.lu_words.specs.Carried.{Flight, Running}
-use Rattle.lu_words.specs.Words.{Take, Line, line}
+use Rattle.lu_words.specs.Words.{Entry, Send, Take, Line, line, with_turn}
 use Rattle.lu_words.specs.Sent.{Sent}
 use Rattle.lu_client_rows.specs.Calls.{call_on}
 use Rattle.lu_client_rows.specs.Messages.{waiter}
-use Rattle.lu_client_rows.specs.Recovery.{on_calls, looks_stage, where_stage}
+use Rattle.lu_client_rows.specs.Recovery.{on_calls, forgets_stage, looks_stage, where_stage}
 use Rattle.lu_client_rows.specs.Rows.{rests}
-use Rattle.lu_client_rows.specs.Sending.{request_of, sends_request, resends}
 use Rattle.lu_client_rows.specs.Slots.{slots_go}
 use Rattle.lu_client_rows.specs.Locks.{trims, locks_go}
 use Rattle.lu_client_rows.specs.Sending as sending
@@ -24,12 +25,36 @@ use Rattle.lu_covered.specs.Covered.{AllCovered}
 use Rattle.lu_covered.specs.Heads.{IsAlive}
 use Rattle.lu_table.specs.Heads as table
 use Rattle.lu_table.specs.Runs.{limits_of}
-use Rattle.lu_guards.proofs.Guards.{Later, Ending, Grown}
+use Rattle.lu_guards.proofs.Guards.{Was, Later, Ending}
+use Rattle.lu_guards.proofs.Grown.{Grown, Noted}
 use Rattle.lu_guards.proofs.Lists.{turn}
 use Rattle.lu_guards.proofs.Ends.{closes_after}
 use Rattle.lu_guards.proofs.Turns.{Settled, owes_nothing, steps_after}
 use Rattle.lu_guards.proofs.ClientRests.{Good, Idle, Rested, Between, Ended, the_head, adds, Keeps, keeps_more, ended}
 use Rattle.lu_guards.proofs.ClientSlots.{slots_still, HasHeard, has_heard}
+
+-- ---- no line is of a target that isn't there
+
+abbrev pub IsThere : ℕ → Node → Type 0
+IsThere osts (Client c) = Unit {0}
+IsThere osts (Target t) = t ≤ osts
+
+abbrev pub AllThere : ℕ → List Line → Type 0
+AllThere osts [] = Unit {0}
+AllThere osts (l ∷ past) = IsThere osts l.at.node × AllThere osts past
+
+pub there_turn : (osts : ℕ) (at : At) (es : List Entry) (past : List Line) → IsThere osts at.node → AllThere osts past → AllThere osts (with_turn at es past)
+there_turn osts at [] past h a = a
+there_turn osts at (e ∷ es) past h a = there_turn osts at es (line at e ∷ past) h (h, a)
+
+pub was_there : (osts t : ℕ) (to : Node) (m : Message) (past : List Line) → AllThere osts past → Was past (Target t) to m → t ≤ osts
+was_there osts t to m [] a w = absurd w
+was_there osts t to m (l ∷ past) a w = by l.entry w (λ v. was_there osts t to m past a.1 v)
+  where
+    by : (e : Entry) → Was (line l.at e ∷ past) (Target t) to m → (Was past (Target t) to m → t ≤ osts) → t ≤ osts
+    by (Send node x) (inl r) more = subst (IsThere osts) r.0 a.0
+    by (Send node x) (inr r) more = more r
+    by e w more = more w
 
 -- ---- calls that wait for no lock
 
@@ -37,6 +62,11 @@ pub nowhere : (who : Who) (boot t n : ℕ) (calls : List (Option Running)) → (
 nowhere who boot t n [] idle = refl
 nowhere who boot t n (None ∷ calls) idle = nowhere who boot t (n + 1) calls (λ slot. idle (suc slot))
 nowhere who boot t n (Some r ∷ calls) idle = rw (idle 0).0 (nowhere who boot t (n + 1) calls (λ slot. idle (suc slot)))
+
+pub no_forgets : (t n : ℕ) (calls : List (Option Running)) → ((slot : ℕ) → Idle (call_on slot calls)) → on_calls (forgets_stage t) n calls ≡ []
+no_forgets t n [] idle = refl
+no_forgets t n (None ∷ calls) idle = no_forgets t (n + 1) calls (λ slot. idle (suc slot))
+no_forgets t n (Some r ∷ calls) idle = rw (idle 0).0 (no_forgets t (n + 1) calls (λ slot. idle (suc slot)))
 
 pub no_looks : (t n : ℕ) (calls : List (Option Running)) → ((slot : ℕ) → Idle (call_on slot calls)) → on_calls (looks_stage t) n calls ≡ []
 no_looks t n [] idle = refl
@@ -59,11 +89,13 @@ module _ (head : table.Head) (c : ℕ) (stamp : Stamp) where
     pub settled : Settled p
     pub later : Later p at
     pub closed : (d : ℕ) → Ending p d → ⊥
+    pub noted : Noted (the_head head c stamp) p
+    pub there : AllThere head.osts p
     pub alive : IsAlive (the_head head c stamp) p c
     pub between : Between c p
 
   pub starts_good : (p : List Line) → Starts p → Good head c at p
-  starts_good p s = record { grown = s.grown; covered = s.covered; steps = steps_after p at s.later; closes = closes_after p at s.closed; alive = s.alive }
+  starts_good p s = record { grown = s.grown; covered = s.covered; steps = steps_after p at s.later; closes = closes_after p at s.closed; noted = s.noted; alive = s.alive }
 
   -- ---- after the event
 
@@ -92,4 +124,4 @@ module _ (head : table.Head) (c : ℕ) (stamp : Stamp) where
   took_good p n t m s sent = adds head c stamp p (Take n (Target t) m) (starts_good p s) (owes_nothing p at (Take n (Target t) m) s.settled) (record { sent = sent; later = s.later }) (λ u e. tt) tt tt refl
 
   pub took_rested : (p : List Line) (n t : ℕ) (m : Message) → Starts p → Sent p n (Target t) (Client c) m → Rested head c at (line at (Take n (Target t) m) ∷ p)
-  took_rested p n t m s sent = record { good = took_good p n t m s sent; settled = tt; idle = s.between.idle; handles = s.between.handles; free = λ x i. (s.between.held x i).1 }
+  took_rested p n t m s sent = record { good = took_good p n t m s sent; settled = tt; idle = s.between.idle; handles = s.between.handles; free = λ x i. s.between.held x i }

@@ -1,6 +1,6 @@
 -- The turns of a client in a covered run, event by event: each line is allowed, nothing is owed at the end, and then each call waits for
--- its reply, no held lock is pinned or marked, and handles are bound as calls say.
-use Rattle.std.proofs.Common.{ℕ, List, ◌∷◌, Option, refl, sym, subst}
+-- its reply, no held lock is pinned, none is marked where the metadata target serves the life, and handles are bound as calls say.
+use Rattle.std.proofs.Common.{ℕ, ◌≤◌, List, ◌∷◌, Option, refl, sym, subst}
 use Rattle.lu_base.specs.declared.ids.At.{At}
 use Rattle.lu_base.specs.declared.ids.Node.{Node}
 use Rattle.lu_base.specs.declared.ids.Node.TheVariants.{Client, Target}
@@ -16,17 +16,18 @@ use Rattle.lu_covered.specs.Calls.{call_at}
 use Rattle.lu_covered.specs.Covered.{AllCovered}
 use Rattle.lu_table.specs.Heads as table
 use Rattle.lu_table.specs.Runs.{limits_of, client_of, MeetsClient}
-use Rattle.lu_guards.proofs.Guards.{Grown}
+use Rattle.lu_guards.proofs.Grown.{Grown, Noted}
 use Rattle.lu_guards.proofs.Lists.{turn}
 use Rattle.lu_guards.proofs.Only.{sent_was}
 use Rattle.lu_guards.proofs.Ends.{closes_after}
-use Rattle.lu_guards.proofs.Turns.{Settled, owes_nothing, steps_after}
+use Rattle.lu_guards.proofs.Turns.{Settled, owes_nothing, backs_none, marks_none, noted_client, steps_after}
 use Rattle.lu_guards.proofs.ClientLines.{comes_to}
 use Rattle.lu_guards.proofs.ClientRests.{Between, Ended, the_head, followed}
 use Rattle.lu_guards.proofs.ClientSlots.{on_small}
-use Rattle.lu_guards.proofs.ClientStarts.{Starts, After, after_ends}
+use Rattle.lu_guards.proofs.ClientStarts.{was_there, Starts, After, after_ends}
 use Rattle.lu_guards.proofs.ClientBegins.{call_ends}
 use Rattle.lu_guards.proofs.ClientResends.{tick_ends, ready_after}
+use Rattle.lu_guards.proofs.ClientRecovers.{up_after}
 use Rattle.lu_guards.proofs.ClientReplies.{reply_after, block_after}
 use Rattle.lu_guards.proofs.ClientEndings.{evicted_after}
 
@@ -36,6 +37,10 @@ module _ (head : table.Head) (c : ℕ) (stamp : Stamp) where
 
   -- ---- a message comes
 
+  -- of a target that there is
+  is_there : (p : List Line) (n t : ℕ) (m : Message) → Starts head c stamp p → Sent p n (Target t) (Client c) m → t ≤ head.osts
+  is_there p n t m s sent = was_there head.osts t (Client c) m p s.there (sent_was p n (Target t) (Client c) m sent)
+
   comes_after : (p : List Line) (n t : ℕ) (m : Message) → Starts head c stamp p → Sent p n (Target t) (Client c) m → After head c stamp (with_turn at (comes_by at (Target t) m (client_of head c p)) (line at (Take n (Target t) m) ∷ p))
   comes_after p n t (message.Reply r) s sent =
       let z = comes_to (the_head head c stamp) p (Target t) c (message.Reply r) s.grown (sent_was p n (Target t) (Client c) (message.Reply r) sent) in
@@ -44,7 +49,8 @@ module _ (head : table.Head) (c : ℕ) (stamp : Stamp) where
       let z = comes_to (the_head head c stamp) p (Target t) c (message.Block who boot cookie) s.grown (sent_was p n (Target t) (Client c) (message.Block who boot cookie) sent) in
       subst (λ (u : ℕ). Sent p n (Target u) (Client c) (message.Block who boot cookie) → After head c stamp (with_turn at (comes_by at (Target u) (message.Block who boot cookie) (client_of head c p)) (line at (Take n (Target u) (message.Block who boot cookie)) ∷ p)))
       (sym z) (λ q. block_after head c stamp p n who boot cookie s q) sent
-  comes_after p n t (message.Ready who boot committed) s sent = ready_after head c stamp p n t who boot committed s sent
+  comes_after p n t (message.Ready who boot committed) s sent = ready_after head c stamp p n t who boot committed s (is_there p n t (message.Ready who boot committed) s sent) sent
+  comes_after p n t (message.Up boot) s sent = up_after head c stamp p n t boot s (is_there p n t (message.Up boot) s sent) sent
   comes_after p n t (message.Evicted who boot) s sent = evicted_after head c stamp p n t who boot s sent
   comes_after p n t m s sent = absurd (comes_to (the_head head c stamp) p (Target t) c m s.grown (sent_was p n (Target t) (Client c) m sent))
 
@@ -63,10 +69,11 @@ module _ (head : table.Head) (c : ℕ) (stamp : Stamp) where
   pub record Closed (p : List Line) : Type 0 where
     pub grown : Grown (the_head head c stamp) p
     pub settled : Settled p
+    pub noted : Noted (the_head head c stamp) p
     pub between : Between c p
 
   closed : (p : List Line) → Ended head c at p → Closed p
-  closed p e = record { grown = e.good.grown; settled = e.settled; between = e.between }
+  closed p e = record { grown = e.good.grown; settled = e.settled; noted = e.good.noted; between = e.between }
 
   pub client_ok : (p : List Line) (event : Event) → Starts head c stamp p → MeetsClient head p c event → AllCovered (with_turn at (row (limits_of head) at event (client_of head c p)) p)
       → Closed (with_turn at (row (limits_of head) at event (client_of head c p)) p)
@@ -78,7 +85,20 @@ module _ (head : table.Head) (c : ℕ) (stamp : Stamp) where
   client_ok p Ticks s meets covered = closed (with_turn at (row_tick (limits_of head) at (client_of head c p)) p) (tick_ends head c stamp p s covered)
   client_ok p Dies s meets covered =
       record {
-        grown = (record { steps = steps_after p at s.later; closes = closes_after p at s.closed; lives = s.alive; owes = owes_nothing p at Die s.settled; ok = s.later; of = λ t e. tt }, s.grown);
+        grown = (
+          record {
+            steps = steps_after p at s.later;
+            closes = closes_after p at s.closed;
+            backs = backs_none (the_head head c stamp) p at Die s.noted;
+            marks = marks_none (the_head head c stamp) p at Die s.noted;
+            lives = s.alive;
+            owes = owes_nothing p at Die s.settled;
+            ok = s.later;
+            of = λ t e. tt;
+          },
+          s.grown,
+        );
         settled = tt;
-        between = record { idle = s.between.idle; handles = s.between.handles; held = s.between.held };
+        noted = noted_client (the_head head c stamp) p stamp c Die s.later s.noted;
+        between = record { idle = s.between.idle; handles = s.between.handles; held = s.between.held; calm = s.between.calm };
       }

@@ -24,7 +24,7 @@ failing_none (Commit to batch ∷ es) zero c = absurd c.0
 failing_none (Commit to batch ∷ es) (suc n) c = ap (λ (xs : List Entry). Commit to batch ∷ xs) (failing_none es n c.1)
 failing_none (Boot boot disk ∷ es) zero c = absurd c.0
 failing_none (Boot boot disk ∷ es) (suc zero) c = absurd c.0
-failing_none (Boot boot disk ∷ es) (suc (suc n)) c = absurd c.0
+failing_none (Boot boot disk ∷ es) (suc (suc n)) c = ap (λ (xs : List Entry). Boot boot disk ∷ xs) (failing_none es n c.1)
 failing_none (e ∷ es) n c = ap (λ (xs : List Entry). e ∷ xs) (failing_none es n c.1)
 
 pub over_none : (fails : Option ℕ) (es : List Entry) → EntriesCovered (over_disk fails es) → over_disk fails es ≡ es

@@ -24,7 +24,8 @@ use Rattle.lu_client_rows.specs.Rows.{Event, Begins, Comes, Ticks, Dies, rests, 
 use Rattle.lu_client_rows.specs.States.{Client as ClientState, Limits, turn as turn_of}
 use Rattle.lu_covered.specs.Calls.{life_at}
 use Rattle.lu_covered.specs.Heads.{Head}
-use Rattle.lu_guards.proofs.Guards.{In, Took, Noticed, Later, Steps, Ending, Closes, LifeOk, EntryOk, Grown}
+use Rattle.lu_guards.proofs.Guards.{In, Took, Noticed, Later, Steps, Ending, Closes, LifeOk, EntryOk}
+use Rattle.lu_guards.proofs.Grown.{Grown}
 use Rattle.lu_guards.proofs.Lists.{self, turn, turn_trans, turn_irreflexive, in_left, in_right, life_self}
 
 -- ---- what was before the turn isn't of it
@@ -51,7 +52,7 @@ took_more l past at from m r = by l.entry
     by e = r
 
 -- what is before the lines of a turn is grown
-grown_under : (head : Head) (at : At) (es : List Entry) (p : List Line) → Grown head (with_turn at es p) → Grown head p
+pub grown_under : (head : Head) (at : At) (es : List Entry) (p : List Line) → Grown head (with_turn at es p) → Grown head p
 grown_under head at [] p g = g
 grown_under head at (e ∷ es) p g = (grown_under head at es (line at e ∷ p) g).1
 

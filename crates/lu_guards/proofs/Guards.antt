@@ -1,16 +1,13 @@
 -- When a line may be added to a past, whatever row makes it: what a single line rests on, over the past just
 -- before it. What it says of one target is said over what concerns that target. What isn't listed never happens.
 use Rattle.std.proofs.Common.{◌≡◌, ℕ, ◌<◌, Bool, true, false, List, [], ◌∷◌, Option, Some, None, ◌⊎◌}
-use Rattle.std.specs.Prelude.{length, max}
+use Rattle.std.specs.Prelude.{length, filter, nat_lt, not, ◌==◌, ◌&&◌, if◌then◌else◌}
 use Rattle.std.specs.List.{list_any}
 use Rattle.lu_base.specs.declared.ids.At.{At}
 use Rattle.lu_base.specs.declared.ids.Cookie.{Cookie}
 use Rattle.lu_base.specs.declared.ids.Node.{Node}
 use Rattle.lu_base.specs.declared.ids.Node.TheVariants.{Client, Target}
-use Rattle.lu_base.specs.declared.ids.Txn.{Txn as TxnOf}
 use Rattle.lu_base.specs.declared.ids.Who.{Who}
-use Rattle.lu_base.specs.declared.locks.Cause.{Cause}
-use Rattle.lu_base.specs.declared.locks.Cause.TheVariants.{Expired, Replaced}
 use Rattle.lu_base.specs.declared.locks.Lock.{Lock}
 use Rattle.lu_msg.specs.declared.answers.Answer.{Answer}
 use Rattle.lu_msg.specs.declared.answers.Answer.TheVariants as answer
@@ -26,30 +23,24 @@ use Rattle.lu_trace.specs.WellFormed.{IsCall}
 use Rattle.lu_held.specs.declared.locks.HeldLock.{HeldLock}
 use Rattle.lu_held.specs.declared.names.LockName.{LockName}
 use Rattle.lu_held.specs.Locks.{named}
-use Rattle.lu_held.specs.Held.{is_held}
-use Rattle.lu_machine.specs.Fits.{answer_fits}
-use Rattle.lu_machine.specs.Footprint.{changes}
-use Rattle.lu_words.specs.Carried.{Deed, Queued, Flight, Unasked, Answered, Work, Stage, Plain, Bad, Running, Called}
-use Rattle.lu_words.specs.Words.{Entry, Begin, Busy, Queues, Flies, Send, Take, Tick, Heard, Hold, Drop, Told, Die, Pins, Unpins, Marks, Learns, Act, Txn, Grant, Block, Release, Enters, Line, line, turn_before, Skip, Commit, Life, Serves, Settles, Evict, Joined, Binds, Unbinds}
-use Rattle.lu_words.specs.Concerns.{concerns, only}
+use Rattle.lu_words.specs.Carried.{Deed, Said, Queued, Flight, Unasked, Answered, Work, Stage, Plain, Bad, Running}
+use Rattle.lu_words.specs.Words.{Entry, Begin, Busy, Queues, Flies, Send, Take, Tick, Heard, Hold, Drop, Told, Die, Pins, Unpins, Marks, Learns, Act, Txn, Grant, Block, Release, Enters, Line, line, turn_before, Skip, Commit, Life, Serves, Settles, Evict, Joined, Binds, Unbinds, Knows, Unmarks, Crash, Boot, Back, Stores, Brings, Says, Wishes}
+use Rattle.lu_words.specs.Concerns.{only}
 use Rattle.lu_words.specs.Sent.{Sent}
-use Rattle.lu_target_rows.specs.Leaving.{is_over, life_of as life_in}
 use Rattle.lu_target_rows.specs.Lives.{is_life}
-use Rattle.lu_target_rows.specs.Locks.{with_lock, without_lock}
-use Rattle.lu_target_rows.specs.Names.{in_way, is_free, is_read, guards_part}
-use Rattle.lu_target_rows.specs.Objects.{lock_of}
-use Rattle.lu_target_rows.specs.Replies.{is_called}
-use Rattle.lu_client_rows.specs.Caches.{held_as, held_at}
-use Rattle.lu_client_rows.specs.Imports.{Joining, Serving}
+use Rattle.lu_target_rows.specs.Kept.{replayed}
+use Rattle.lu_target_rows.specs.Recovery.{cut, empty_word}
+use Rattle.lu_target_rows.specs.Rows.{lock_again}
+use Rattle.lu_target_rows.specs.Windows.{Window, is_replay, is_lock, word_of, is_back}
+use Rattle.lu_client_rows.specs.Caches.{held_at}
+use Rattle.lu_client_rows.specs.Imports.{Serving}
+use Rattle.lu_covered.specs.Imports.{standing_at, kept_at}
 use Rattle.lu_client_rows.specs.Recovery.{next_life}
-use Rattle.lu_client_rows.specs.Sending.{next_flight}
-use Rattle.lu_covered.specs.TargetParts.{without_request}
-use Rattle.lu_covered.specs.TargetStates.{none, server_of, slot_of, lives_of, evicted_of, shown_of, next_number}
-use Rattle.lu_covered.specs.Deeds.{asked, deed, locks_of, written_by, again}
+use Rattle.lu_covered.specs.TargetStates.{server_of, slot_of, closed_of, window_of, boot_at}
+use Rattle.lu_covered.specs.Deeds.{asked}
 use Rattle.lu_covered.specs.Calls.{begun, call_at, becomes, told_as, is_bad, file_for, life_at}
 use Rattle.lu_covered.specs.Known.{notes_at, known_answer}
-use Rattle.lu_covered.specs.ClientStates.{queue_of, flights_of, last_of, known_of, life_of, standing_of}
-use Rattle.lu_covered.specs.Heads.{Head, IsAlive}
+use Rattle.lu_covered.specs.ClientStates.{known_of, life_of}
 
 abbrev pub In : {A : Type 0} → A → List A → Type 0
 In x [] = ⊥
@@ -163,7 +154,7 @@ Begins c past r =
     ((is_bad c past r.call ≡ false) × (r.stage ≡ Plain) × (r.file ≡ file_for c past r.call) × ((o : Op) × (becomes r ≡ Some o)))
     ⊎ ((is_bad c past r.call ≡ true) × (r.stage ≡ Bad) × (r.file ≡ None))
 
--- no held lock is marked between turns
+-- no held lock is marked between turns, while the metadata target serves the life
 pub record BeginOk (past : List Line) (at : At) (c slot : ℕ) (running : Running) : Type 0 where
   pub later : Later past at
   pub small : slot < 4
@@ -171,7 +162,7 @@ pub record BeginOk (past : List Line) (at : At) (c slot : ℕ) (running : Runnin
   pub is : running ≡ begun at running.call running.file running.stage
   pub limits : IsCall running.call
   pub begins : Begins c past running
-  pub calm : (h : HeldLock) → In h (held_at c past) → h.marked ≡ false
+  pub calm : standing_at c 0 past ≡ Serving → (h : HeldLock) → In h (held_at c past) → h.marked ≡ false
 
 -- of a call that has asked nothing yet and isn't known; all is asked of the metadata target
 pub record QueuesOk (past : List Line) (c t : ℕ) (q : Queued) : Type 0 where
@@ -247,10 +238,17 @@ pub record MarkedOk (past : List Line) (c : ℕ) (lock : Lock) : Type 0 where
   pub held : In holding (held_at c past)
   pub is : holding.lock ≡ lock
   pub marked : holding.marked ≡ true
+  pub serves : standing_at c 0 past ≡ Serving
 
 -- a marked lock is given up, or its life is over
 abbrev pub GivesUp : List Line → At → ℕ → Lock → Type 0
 GivesUp past at c lock = MarkedOk past c lock ⊎ Noticed past at (life_at c past)
+
+-- a word counts the replays that the life has for the target, and the locks that it holds of it; not in the turn that ends the life
+pub record WordOk (past : List Line) (at : At) (c t replayed locked : ℕ) : Type 0 where
+  pub replays : replayed ≡ length (kept_at c t past).replays
+  pub locks : locked ≡ length (filter (λ (h : HeldLock). h.target.0 == t) (held_at c past))
+  pub alive : Noticed past at (life_at c past) → ⊥
 
 -- of a lock that came with the reply just heard
 pub record HoldsOk (past : List Line) (at : At) (t : ℕ) (lock : Lock) (marked : Bool) (size : Option ℕ) (seen : List ℕ) : Type 0 where
@@ -319,6 +317,7 @@ pub record RepliesAgain (past : List Line) (at : At) (t : ℕ) (k : ReplyTo) : T
 pub record TookBack (past : List Line) (at : At) (lock : Lock) : Type 0 where
   pub from : Node
   pub boot : ℕ
+  pub current : nat_lt boot (boot_at 0 past) ≡ false
   pub took : TookNow past at from (message.Cancel lock.ask.who boot lock.cookie)
 
 -- a line of that turn is such an entry
@@ -354,6 +353,56 @@ Starts slot stage (Queues t q) = q.slot ≡ Some slot
 Starts slot stage (Told s turn answer work) = s ≡ slot
 Starts slot stage _ = ⊥
 
+-- the window, before a line and after it, doesn't count a life as back, and then it does
+pub record CameBack (osts clients : ℕ) (past : List Line) (l : Line) (who : Who) : Type 0 where
+  pub before : is_back (window_of osts clients past) who ≡ false
+  pub now : is_back (window_of osts clients (l ∷ past)) who ≡ true
+
+-- what is kept in recovery
+abbrev pub IsMark : Entry → Type 0
+IsMark (Stores replay) = Unit {0}
+IsMark (Brings lock) = Unit {0}
+IsMark (Says said) = Unit {0}
+IsMark (Wishes who) = Unit {0}
+IsMark _ = ⊥
+
+-- with the newest line, which keeps something, the life is back
+abbrev pub BackNow : ℕ → ℕ → List Line → Who → Type 0
+BackNow osts clients [] who = ⊥
+BackNow osts clients (l ∷ past) who = IsMark l.entry × CameBack osts clients past l who
+
+-- ---- what a target that recovers keeps: a message of the present boot, of a life with a slot, once
+
+abbrev pub says_first : Option Said → Said → Option Entry
+says_first None said = Some (Says said)
+says_first (Some before) said = None
+
+-- the mark that keeps the message, where it counts; a join of the life with a slot is a word
+abbrev pub mark_of : Window → ℕ → Message → Option Entry
+mark_of v present (message.Replay r) =
+    if r.boot == present && is_life r.who v.lives && not (list_any (is_replay (replayed r)) v.replays) then Some (Stores (cut r)) else None
+mark_of v present (message.Lock r) =
+    if r.boot == present && is_life r.who v.lives && not (list_any (is_lock (lock_again r)) v.brought) then Some (Brings (lock_again r)) else None
+mark_of v present (message.Word who boot replays locks seen) =
+    if boot == present && is_life who v.lives then says_first (word_of who v.words) (record { who = who; replays = replays; locks = locks; seen = seen }) else None
+mark_of v present (message.Join who boot) =
+    if boot == present && is_life who v.lives then says_first (word_of who v.words) (empty_word who) else None
+mark_of v present m = None
+
+abbrev pub mark_at : (osts clients : ℕ) → List Line → Node → Message → Option Entry
+mark_at osts clients past (Client c) m = None
+mark_at osts clients past (Target t) m = if closed_of past == (server_of osts past).boot then None else mark_of (window_of osts clients past) (server_of osts past).boot m
+
+-- where the newest line took it, that mark is due
+abbrev pub due : (osts clients : ℕ) → List Line → Option Entry
+due osts clients [] = None
+due osts clients (l ∷ past) = elim l.entry [ Take n from m ↦ mark_at osts clients past l.at.node m | _ ↦ None ]
+
+-- the newest line is of that turn
+abbrev pub IsTurnOf : List Line → At → Type 0
+IsTurnOf [] at = ⊥
+IsTurnOf (l ∷ past) at = l.at ≡ at
+
 abbrev pub Owes : List Line → At → Entry → Type 0
 Owes [] at e = Unit {0}
 Owes (l ∷ past) at e =
@@ -383,6 +432,8 @@ EntryOk past at (Client c) (Drop t lock) = (t ≡ 0) × GivesUp past at c lock
 EntryOk past at (Client c) (Life who) = LifeOk past at c who
 EntryOk past at (Client c) (Binds handle file) = Unit {0}
 EntryOk past at (Client c) (Unbinds handle) = Unit {0}
+EntryOk past at (Client c) (Knows t boot) = TookNow past at (Target t) (message.Up boot)
+EntryOk past at (Client c) (Unmarks t) = Unit {0}
 EntryOk past at (Client c) (Serves t boot) = Unit {0}
 EntryOk past at (Client c) (Settles t to) = Unit {0}
 EntryOk past at (Client c) (Pins name) = name.target.0 ≡ 0
@@ -391,6 +442,10 @@ EntryOk past at (Client c) (Marks name) = name.target.0 ≡ 0
 EntryOk past at (Client c) (Send (Target t) (message.Request r)) = t ≡ 0
 EntryOk past at (Client c) (Send (Target t) (message.Cancel who boot cookie)) = t ≡ 0
 EntryOk past at (Client c) (Send (Target t) (message.Join who boot)) = Unit {0}
+EntryOk past at (Client c) (Send (Target t) (message.Replay r)) = Unit {0}
+EntryOk past at (Client c) (Send (Target t) (message.Lock r)) = Unit {0}
+EntryOk past at (Client c) (Send (Target t) (message.Word who boot replays locks seen)) = WordOk past at c t replays locks
+EntryOk past at (Target t) (Send (Client c) (message.Up boot)) = Unit {0}
 EntryOk past at (Target t) (Send (Client c) (message.Reply k)) = (t ≡ 0) × RepliesNow past t k × (Taken past → RepliesAgain past at t k) × AllShown past
 EntryOk past at (Target t) (Send (Client c) (message.Block who boot cookie)) = t ≡ 0
 EntryOk past at (Target t) (Send (Client c) (message.Ready who boot committed)) = Unit {0}
@@ -403,306 +458,13 @@ EntryOk past at (Target t) (Block called) = t ≡ 0
 EntryOk past at (Target t) (Release lock) = (t ≡ 0) × (TookBack past at lock ⊎ InTurn (IsEvict lock.ask.who) (only t past) at)
 EntryOk past at (Target t) Skip = Later past at
 EntryOk past at (Target t) (Commit to batch) = Unit {0}
+EntryOk past at (Target t) Crash = Later past at
+EntryOk past at (Target t) (Boot boot disk) = Later past at
+EntryOk past at (Target t) (Back who) = Unit {0}
+EntryOk past at (Target t) (Stores replay) = Unit {0}
+EntryOk past at (Target t) (Brings lock) = Unit {0}
+EntryOk past at (Target t) (Says said) = Unit {0}
+EntryOk past at (Target t) (Wishes who) = Unit {0}
 EntryOk past at (Target t) (Evict who cause) = Unit {0}
 EntryOk past at (Target t) (Joined who) = Unit {0}
 EntryOk past at _ _ = ⊥
-
--- ---- over what concerns one target
-
--- where the target serves the client's life
-pub record FliesOk (head : Head) (past : List Line) (c : ℕ) (f : Flight) : Type 0 where
-  pub serves : standing_of c past ≡ Serving
-  pub front : Queued
-  pub more : List Queued
-  pub queue : queue_of (life_of c past) past ≡ front ∷ more
-  pub is : f ≡ next_flight (last_of (life_of c past) past) (flights_of (life_of c past) past) front
-  pub room : length (flights_of (life_of c past) past) < head.flight
-
-pub record AskOk (past : List Line) (c : ℕ) (r : RequestOf) : Type 0 where
-  pub serves : standing_of c past ≡ Serving
-  pub flight : Flight
-  pub flying : In flight (flights_of (life_of c past) past)
-  pub is : r ≡ request c past flight
-
--- a life that isn't served yet asks to be
-pub record JoinsOk (past : List Line) (c : ℕ) (who : Who) (boot : ℕ) : Type 0 where
-  pub joins : standing_of c past ≡ Joining
-  pub of_life : who ≡ life_of c past
-  pub of_boot : boot ≡ known_of c past
-
-pub record HeardOk (past : List Line) (c : ℕ) (f : Flight) (r : ReplyTo) : Type 0 where
-  pub from : ℕ
-  pub was : Was past (Target from) (Client c) (message.Reply r)
-  pub flying : In f (flights_of (life_of c past) past)
-  pub xid : f.xid ≡ r.xid.0
-  pub who : r.who ≡ life_of c past
-  pub boot : r.boot ≡ known_of c past
-  pub fits : answer_fits f.op r.answer ≡ true
-
--- the lock is held already, since the reply that brought it was heard
-pub record HeldOk (past : List Line) (c : ℕ) (lock : Lock) : Type 0 where
-  pub at : At
-  pub flight : Flight
-  pub reply : ReplyTo
-  pub heard : HeardNow past at 0 flight reply
-  pub among : In lock reply.locks
-  pub held : In (held_as 0 lock false) (held_at c past)
-
-pub record KnowsOk (past : List Line) (op : Op) (answer : Answer) (locks : List Lock) : Type 0 where
-  pub at : At
-  pub flight : Flight
-  pub reply : ReplyTo
-  pub heard : HeardNow past at 0 flight reply
-  pub of_op : op ≡ flight.op
-  pub of_answer : answer ≡ reply.answer
-  pub of_locks : locks ≡ reply.locks
-
--- the lock is held
-pub record DropOk (past : List Line) (c : ℕ) (lock : Lock) : Type 0 where
-  pub holding : HeldLock
-  pub held : In holding (held_at c past)
-  pub is : holding.lock ≡ lock
-
--- a new life begins when nothing of the old one is held
-pub record LifeOf (past : List Line) (c : ℕ) (who : Who) : Type 0 where
-  pub next : who ≡ next_life (life_of c past)
-  pub empty : held_at c past ≡ []
-
--- the target said that it serves the life
-pub record ServesOk (past : List Line) (c t boot : ℕ) : Type 0 where
-  pub committed : TxnOf
-  pub was : Was past (Target t) (Client c) (message.Ready (life_of c past) boot committed)
-  pub of_boot : boot ≡ known_of c past
-
--- the lock was just given up; or it was called back while it wasn't held, and no request is in flight
-pub record CancelOk (past : List Line) (c : ℕ) (who : Who) (boot : ℕ) (cookie : Cookie) : Type 0 where
-  pub of_life : who ≡ life_of c past
-  pub of_boot : boot ≡ known_of c past
-  pub free : is_held (name_of cookie) (held_at c past) ≡ false
-  pub cause : Dropped past c cookie ⊎ ((flights_of (life_of c past) past ≡ []) × ((from b : ℕ) × Was past (Target from) (Client c) (message.Block who b cookie)))
-
--- a reply that is kept for a life and tag
-pub record ReplyOk (osts : ℕ) (past : List Line) (c : ℕ) (k : ReplyTo) : Type 0 where
-  pub who : Who
-  pub tag : ℕ
-  pub kept : ReplyTo
-  pub slot : (slot_of who tag past).reply ≡ Some kept
-  pub is : k ≡ again (server_of osts past) kept
-  pub to : c ≡ k.who.client
-
--- the holder of a granted lock is told to give it back
-pub record CallsOk (osts : ℕ) (past : List Line) (c : ℕ) (who : Who) (boot : ℕ) (cookie : Cookie) : Type 0 where
-  pub lock : Lock
-  pub granted : In lock (server_of osts past).granted
-  pub of_life : who ≡ lock.ask.who
-  pub of_boot : boot ≡ (server_of osts past).boot
-  pub of_cookie : cookie ≡ lock.cookie
-  pub to : c ≡ who.client
-  pub called : is_called cookie (server_of osts past).called ≡ true
-
--- a life that has a slot is told that it is served
-pub record ReadyOk (head : Head) (past : List Line) (c : ℕ) (who : Who) (boot : ℕ) (committed : TxnOf) : Type 0 where
-  pub has : is_life who (lives_of head.clients past) ≡ true
-  pub to : c ≡ who.client
-  pub of_boot : boot ≡ (server_of head.osts past).boot
-  pub of_committed : committed ≡ (server_of head.osts past).committed
-
--- that life sent the target a request, or a lock back
-abbrev pub Spoke : List Line → ℕ → Who → Type 0
-Spoke past t who =
-    ((from : ℕ) × (r : RequestOf) × Was past (Client from) (Target t) (message.Request r) × (r.who ≡ who))
-    ⊎ ((from : ℕ) × (boot : ℕ) × (cookie : Cookie) × Was past (Client from) (Target t) (message.Cancel who boot cookie))
-
--- a newer life of its client has or had a slot
-abbrev pub Newer : ℕ → List Line → Who → Type 0
-Newer clients past who =
-    record {
-      life : Who;
-      client : life.client ≡ who.client;
-      newer : who.life < life.life;
-      had : (is_life life (lives_of clients past) ≡ true) ⊎ (is_life life (evicted_of past) ≡ true);
-    }
-
--- a life that was evicted, or has no slot though it spoke, or is older than one that has or had a slot, is told that it is over
-pub record NoticeOk (head : Head) (past : List Line) (t c : ℕ) (who : Who) (boot : ℕ) : Type 0 where
-  pub to : c ≡ who.client
-  pub of_boot : boot ≡ (server_of head.osts past).boot
-  pub cause : (is_life who (evicted_of past) ≡ true) ⊎ ((is_life who (lives_of head.clients past) ≡ false) × Spoke past t who) ⊎ Newer head.clients past who
-
--- a request of a life with a slot that was sent, of a number above the newest one taken of its life and tag
-pub record EntersOk (clients : ℕ) (past : List Line) (t : ℕ) (r : RequestOf) : Type 0 where
-  pub has : is_life r.who (lives_of clients past) ≡ true
-  pub from : ℕ
-  pub was : Was past (Client from) (Target t) (message.Request r)
-  pub newer : (slot_of r.who r.tag past).taken < r.xid.0
-
-pub record ActOk (osts : ℕ) (past : List Line) (at : At) (d : Deed) : Type 0 where
-  pub request : RequestOf
-  pub waits : In request (server_of osts past).waiting
-  pub still : changes osts (server_of osts past).tree (asked request none) ≡ false
-  pub is : d ≡ deed osts (server_of osts past) at request none (locks_of osts (server_of osts past) request)
-
--- no granted lock guards what it writes
-pub record TxnOk (osts : ℕ) (past : List Line) (at : At) (d : Deed) : Type 0 where
-  pub numbers : (server_of osts past).count < 4294967295
-  pub request : RequestOf
-  pub waits : In request (server_of osts past).waiting
-  pub moves : changes osts (server_of osts past).tree (asked request none) ≡ true
-  pub free : is_free (in_way (server_of osts past).granted (written_by osts (server_of osts past) request)) ≡ true
-  pub is : d ≡ deed osts (server_of osts past) at request (next_number (server_of osts past)) []
-
--- what it shows stands since the act
-pub record GrantOk (osts : ℕ) (past : List Line) (lock : Lock) (d : Deed) : Type 0 where
-  pub did : Did past d
-  pub among : In lock d.reply.locks
-  pub granted : with_lock lock (server_of osts past).granted ≡ (server_of osts past).granted
-  pub cookie : max (server_of osts past).cookie lock.cookie.0 ≡ (server_of osts past).cookie
-  pub waiting : without_request d (server_of osts past).waiting ≡ (server_of osts past).waiting
-  pub slot : (slot_of d.reply.who d.tag past).reply ≡ Some d.reply
-
--- a granted lock that isn't called back, and a request that waits for it: it would write what the lock guards
-pub record BlockOk (osts : ℕ) (past : List Line) (called : Called) : Type 0 where
-  pub lock : Lock
-  pub granted : In lock (server_of osts past).granted
-  pub of_cookie : called.cookie ≡ lock.cookie
-  pub of_life : called.who ≡ lock.ask.who
-  pub new : is_called lock.cookie (server_of osts past).called ≡ false
-  pub request : RequestOf
-  pub waits : In request (server_of osts past).waiting
-  pub modifies : is_read request.op ≡ false
-  pub for_it : list_any (guards_part lock) (written_by osts (server_of osts past) request) ≡ true
-
--- a granted lock whose holder gives it back
-pub record BackOk (osts : ℕ) (past : List Line) (t : ℕ) (lock : Lock) : Type 0 where
-  pub from : ℕ
-  pub boot : ℕ
-  pub was : Was past (Client from) (Target t) (message.Cancel lock.ask.who boot lock.cookie)
-  pub found : lock_of lock.ask.who lock.cookie (server_of osts past).granted ≡ Some lock
-
--- what is shown of a lock of a life that was just evicted: it was granted before, and is no more
-pub record LeftOk (osts : ℕ) (past : List Line) (lock : Lock) : Type 0 where
-  pub evicted : is_life lock.ask.who (evicted_of past) ≡ true
-  pub still : without_lock lock (server_of osts past).granted ≡ (server_of osts past).granted
-  pub shown : In lock (shown_of past)
-
-abbrev pub ReleaseOk : ℕ → List Line → ℕ → Lock → Type 0
-ReleaseOk osts past t lock = BackOk osts past t lock ⊎ LeftOk osts past lock
-
--- the last of the transactions that go to the disk, or none where all are there
-pub record CommitOk (osts : ℕ) (past : List Line) (to : ℕ) : Type 0 where
-  pub is : ((d : Deed) × In d (server_of osts past).log × (to ≡ d.reply.txn.0)) ⊎ (to ≡ (server_of osts past).committed.0)
-
--- before that turn a lock of that life was called back: reads Block
-abbrev pub CalledBefore : List Line → At → Who → Type 0
-CalledBefore [] at who = ⊥
-CalledBefore (l ∷ past) at who =
-    elim l.entry [ Block called ↦ ((called.who ≡ who) × (turn_before l.at at ≡ true)) ⊎ CalledBefore past at who | _ ↦ CalledBefore past at who ]
-
--- the turn took the join of a newer life of the client
-pub record TookNewer (past : List Line) (at : At) (who : Who) : Type 0 where
-  pub from : ℕ
-  pub other : Who
-  pub boot : ℕ
-  pub took : Took past at (Client from) (message.Join other boot)
-  pub client : other.client ≡ who.client
-  pub newer : who.life < other.life
-
-abbrev pub EvictedBy : List Line → At → Who → Cause → Type 0
-EvictedBy past at who Expired = InTurn IsTick past at × CalledBefore past at who
-EvictedBy past at who Replaced = TookNewer past at who
-EvictedBy past at who _ = ⊥
-
--- a life with a slot loses it, once all is committed
-pub record EvictOk (head : Head) (past : List Line) (at : At) (who : Who) (cause : Cause) : Type 0 where
-  pub has : is_life who (lives_of head.clients past) ≡ true
-  pub commits : InTurn IsCommit past at
-  pub logged : (server_of head.osts past).log ≡ []
-  pub caused : EvictedBy past at who cause
-
--- a life that asked for a slot gets one: no life of its client has one, and none that isn't older had one
-pub record JoinedOk (head : Head) (past : List Line) (at : At) (t : ℕ) (who : Who) : Type 0 where
-  pub from : ℕ
-  pub boot : ℕ
-  pub took : Took past at (Client from) (message.Join who boot)
-  pub was : Was past (Client from) (Target t) (message.Join who boot)
-  pub none : life_in who.client (lives_of head.clients past) ≡ None
-  pub newer : list_any (is_over who) (evicted_of past) ≡ false
-
-abbrev pub SendOf : Head → List Line → Node → Node → Message → Type 0
-SendOf head past (Client c) (Target t) (message.Request r) = AskOk past c r
-SendOf head past (Client c) (Target t) (message.Cancel who boot cookie) = CancelOk past c who boot cookie
-SendOf head past (Client c) (Target t) (message.Join who boot) = JoinsOk past c who boot
-SendOf head past (Target t) (Client c) (message.Reply k) = ReplyOk head.osts past c k
-SendOf head past (Target t) (Client c) (message.Block who boot cookie) = CallsOk head.osts past c who boot cookie
-SendOf head past (Target t) (Client c) (message.Ready who boot committed) = ReadyOk head past c who boot committed
-SendOf head past (Target t) (Client c) (message.Evicted who boot) = NoticeOk head past t c who boot
-SendOf head past _ _ _ = ⊥
-
-abbrev pub EntryOf : Head → List Line → At → Node → Entry → Type 0
-EntryOf head past at node (Take n from m) = Unit {0}
-EntryOf head past at node (Send to m) = SendOf head past node to m
-EntryOf head past at node Tick = Unit {0}
-EntryOf head past at (Client c) (Begin slot running) = Unit {0}
-EntryOf head past at (Client c) (Busy slot) = Unit {0}
-EntryOf head past at (Client c) (Queues t q) = Unit {0}
-EntryOf head past at (Client c) (Flies t f) = FliesOk head past c f
-EntryOf head past at (Client c) (Heard t f r) = HeardOk past c f r
-EntryOf head past at (Client c) (Hold t lock marked size seen) = (marked ≡ false) × HeldOk past c lock
-EntryOf head past at (Client c) (Learns t op answer locks) = KnowsOk past op answer locks
-EntryOf head past at (Client c) (Drop t lock) = (t ≡ 0) × DropOk past c lock
-EntryOf head past at (Client c) (Pins name) = Unit {0}
-EntryOf head past at (Client c) (Unpins name) = Unit {0}
-EntryOf head past at (Client c) (Marks name) = Unit {0}
-EntryOf head past at (Client c) (Told slot turn answer work) = Unit {0}
-EntryOf head past at (Client c) (Life who) = LifeOf past c who
-EntryOf head past at (Client c) (Binds handle file) = Unit {0}
-EntryOf head past at (Client c) (Unbinds handle) = Unit {0}
-EntryOf head past at (Client c) (Serves t boot) = ServesOk past c t boot
-EntryOf head past at (Client c) (Settles t to) = Unit {0}
-EntryOf head past at (Client c) Die = Unit {0}
-EntryOf head past at (Target t) (Enters r) = EntersOk head.clients past t r
-EntryOf head past at (Target t) (Act d) = ActOk head.osts past at d
-EntryOf head past at (Target t) (Txn d) = TxnOk head.osts past at d
-EntryOf head past at (Target t) (Grant lock (Some d)) = GrantOk head.osts past lock d
-EntryOf head past at (Target t) (Block called) = BlockOk head.osts past called
-EntryOf head past at (Target t) (Release lock) = ReleaseOk head.osts past t lock
-EntryOf head past at (Target t) Skip = Unit {0}
-EntryOf head past at (Target t) (Commit to batch) = CommitOk head.osts past to
-EntryOf head past at (Target t) (Evict who cause) = EvictOk head past at who cause
-EntryOf head past at (Target t) (Joined who) = JoinedOk head past at t who
-EntryOf head past at _ _ = ⊥
-
--- ---- all lines
-
--- only a living client of the run has lines
-abbrev pub LivesAt : Head → List Line → Node → Type 0
-LivesAt head past (Client c) = IsAlive head past c
-LivesAt head past (Target t) = Unit {0}
-
-pub record Allowed (head : Head) (past : List Line) (at : At) (e : Entry) : Type 0 where
-  pub steps : Steps past at
-  pub closes : Closes past at
-  pub lives : LivesAt head past at.node
-  pub owes : Owes past at e
-  pub ok : EntryOk past at at.node e
-  pub of : (t : ℕ) → concerns t at.node e ≡ true → EntryOf head (only t past) at at.node e
-
-abbrev pub Grown : Head → List Line → Type 0
-Grown head [] = Unit {0}
-Grown head (l ∷ past) = Allowed head past l.at l.entry × Grown head past
-
--- what clients hear and hold comes from the metadata target
-abbrev pub IsOfFirst : Entry → Type 0
-IsOfFirst (Heard t f r) = t ≡ 0
-IsOfFirst (Hold t lock marked size seen) = t ≡ 0
-IsOfFirst _ = Unit {0}
-
--- the node is a target, or one of the run's clients
-abbrev pub IsOneOf : Head → Node → Type 0
-IsOneOf head (Client c) = c < head.clients
-IsOneOf head (Target t) = Unit {0}
-
--- each line of a past of one target is allowed there
-abbrev pub GrownOf : Head → List Line → Type 0
-GrownOf head [] = Unit {0}
-GrownOf head (l ∷ past) = EntryOf head past l.at l.at.node l.entry × IsOfFirst l.entry × IsOneOf head l.at.node × GrownOf head past

@@ -1,5 +1,7 @@
 pub mod Lists
 pub mod Guards
+pub mod StoryGuards
+pub mod Grown
 pub mod Parts
 pub mod Only
 pub mod Ends
@@ -17,6 +19,9 @@ pub mod TargetLeaving
 pub mod TargetWindows
 pub mod TargetJoins
 pub mod TargetTicks
+pub mod Comings
+pub mod Placed
+pub mod TargetRecovers
 pub mod TargetTurns
 pub mod Held
 pub mod ClientLines
@@ -27,6 +32,7 @@ pub mod ClientSlots
 pub mod ClientStarts
 pub mod ClientBegins
 pub mod ClientResends
+pub mod ClientRecovers
 pub mod ClientReplies
 pub mod ClientEndings
 pub mod ClientTurns

@@ -1,10 +1,11 @@
 -- Lists of lives: what stands in one, also once others were put in or taken away; what filters leave; and the locks of lives that
 -- leave one after another.
-use Rattle.std.proofs.Common.{◌≡◌, ℕ, Bool, true, false, List, [], ◌∷◌, Option, Some, None, inl, inr, refl, sym, subst, ap, ◌∙◌, zero, suc, ◌+◌, arith}
+use Rattle.std.proofs.Common.{◌≡◌, ℕ, ◌<◌, Bool, true, false, List, [], ◌∷◌, ◌++◌, Option, Some, None, inl, inr, ⊎_elim, refl, sym, subst, ap, ◌∙◌, zero, suc, ◌+◌, arith}
 use Rattle.std.specs.Prelude.{nat_eq, ◌||◌, ◌&&◌, not, if◌then◌else◌}
 use Rattle.std.specs.List.{filter, list_any}
 use Rattle.std.proofs.lemmas.Bool.{cond_both, cond-true, cond-false, eqb-true, eq-eqb}
 use Rattle.std.proofs.lemmas.Bool.Decides.{nat_tests}
+use Rattle.std.proofs.lemmas.List.{append-nil, append_assoc}
 use Rattle.lu_base.specs.declared.ids.Who.{Who}
 use Rattle.lu_base.specs.declared.locks.Lock.{Lock}
 use Rattle.lu_words.specs.Words.{same_life}
@@ -13,7 +14,7 @@ use Rattle.lu_target_rows.specs.Lives.{is_life, life_before, with_life, with_liv
 use Rattle.lu_target_rows.specs.Locks.{without_lock, locks_without}
 use Rattle.lu_target_rows.specs.States.{lives_from}
 use Rattle.lu_guards.proofs.Guards.{In}
-use Rattle.lu_guards.proofs.Lists.{in_filter, in_filtered, life_is, life_self, or_left, or_right}
+use Rattle.lu_guards.proofs.Lists.{in_append, in_filter, in_filtered, life_is, life_self, or_left, or_right}
 use Rattle.lu_guards.proofs.LockLists.{AllAbove, in_above, above_filter, Rises}
 use Rattle.lu_guards.proofs.ClientLocks.{any_true}
 
@@ -301,3 +302,34 @@ pub others_stay : (w x : Who) (locks : List Lock) → (x ≡ w → ⊥) → lock
 others_stay w x locks ne =
     filter_under (λ (l : Lock). same_life l.ask.who x) (λ (l : Lock). not (is_life l.ask.who (w ∷ [])))
     (λ l t. not_gone l.ask.who w (λ e. ne (sym (life_is l.ask.who x t) ∙ e))) locks
+
+-- ---- the first lives stand as they were put in
+
+-- all of these are of clients below
+abbrev Below : List Who → ℕ → Type 0
+Below lives c = (w : Who) → In w lives → w.client < c
+
+put_last : (who : Who) (lives : List Who) → Below lives who.client → with_life who lives ≡ lives ++ who ∷ []
+put_last who [] below = refl
+put_last who (w ∷ lives) below =
+    let lt : w.client < who.client = below w (inl refl) in
+    let same : same_life who w ≡ false = grind (arith, nat_tests, lt) in
+    let before : life_before who w ≡ false = grind (arith, nat_tests, lt) in
+    cond-false (same_life who w) (w ∷ lives) (if life_before who w then who ∷ w ∷ lives else w ∷ with_life who lives) same
+    ∙ cond-false (life_before who w) (who ∷ w ∷ lives) (w ∷ with_life who lives) before
+    ∙ ap (λ (ws : List Who). w ∷ ws) (put_last who lives (λ x i. below x (inr i)))
+
+all_last : (c n : ℕ) (lives : List Who) → Below lives c → with_lives (lives_from c n) lives ≡ lives ++ lives_from c n
+all_last c zero lives below = sym (append-nil lives)
+all_last c (suc n) lives below =
+    let first : Who = record { client = c; life = 1 } in
+    ap (with_lives (lives_from (c + 1) n)) (put_last first lives below)
+    ∙ all_last (c + 1) n (lives ++ first ∷ []) (λ w i. ⊎_elim (λ (j : In w lives). let lt = below w j in omega (arith, lt)) (λ (j : In w (first ∷ [])). one w j) (in_append w lives (first ∷ []) i))
+    ∙ append_assoc lives (first ∷ []) (lives_from (c + 1) n)
+  where
+    one : (w : Who) → In w (record { client = c; life = 1 } ∷ []) → w.client < c + 1
+    one w (inl e) = let is : c ≡ w.client = ap (λ (x : Who). x.client) e in omega (arith, is)
+    one w (inr j) = absurd j
+
+pub first_lives : (clients : ℕ) → with_lives (lives_from 0 clients) [] ≡ lives_from 0 clients
+first_lives clients = all_last 0 clients [] (λ w i. absurd i)

@@ -1,8 +1,9 @@
--- Each covered run of the table makes lines that are allowed, one after another; after each turn nothing is owed and no life is ending, and
--- between its turns each call of a client waits for its reply, none of its held locks is pinned or marked, its handles are bound as calls say,
--- and each target is what its story says.
-use Rattle.std.proofs.Common.{◌≡◌, ℕ, Bool, true, false, List, [], ◌∷◌, inl, inr, None, refl, sym, subst, ap, ◌∙◌}
-use Rattle.std.specs.Prelude.{nat_eq}
+-- Each covered run of the table makes lines that are allowed, one after another; after each turn nothing is owed, no life is ending, no
+-- target has a message to keep or a life to tell of as back, and between its turns each call of a client waits for its reply, none of its
+-- held locks is pinned, or marked where the metadata target serves it, its handles are bound as calls say, and each target is what its
+-- story says.
+use Rattle.std.proofs.Common.{◌≡◌, ℕ, ◌≤◌, Bool, true, false, List, [], ◌∷◌, inl, inr, None, refl, sym, subst, ap, ◌∙◌}
+use Rattle.std.specs.Prelude.{nat_eq, ◌&&◌}
 use Rattle.std.proofs.lemmas.Bool.{eqb-true}
 use Rattle.lu_base.specs.declared.ids.At.{At}
 use Rattle.lu_base.specs.declared.ids.Node.{Node}
@@ -10,25 +11,30 @@ use Rattle.lu_base.specs.declared.ids.Node.TheVariants.{Client, Target}
 use Rattle.lu_base.specs.declared.ids.Stamp.{Stamp}
 use Rattle.lu_held.specs.declared.locks.HeldLock.{HeldLock}
 use Rattle.lu_words.specs.Words.{Entry, Line, line, with_turn, is_client}
-use Rattle.lu_words.specs.Fields.{on, at_client}
+use Rattle.lu_words.specs.Fields.{on, at_client, at_import}
+use Rattle.lu_words.specs.Concerns.{is_about}
 use Rattle.lu_target_rows.specs.Disks.{row_start}
-use Rattle.lu_client_rows.specs.Caches.{reads_held, held_after}
+use Rattle.lu_client_rows.specs.Caches.{reads_held, held_after, held_at}
 use Rattle.lu_client_rows.specs.Calls.{reads_handles, handles_after, file_of}
 use Rattle.lu_client_rows.specs.Rows as client
+use Rattle.lu_target_rows.specs.Rows as target
 use Rattle.lu_covered.specs.Calls.{reads_call, call_after}
 use Rattle.lu_covered.specs.Covered.{AllCovered}
 use Rattle.lu_covered.specs.Heads.{IsAlive}
+use Rattle.lu_covered.specs.Imports.{Standing, Serving, reads_standing, standing_after, standing_at}
 use Rattle.lu_table.specs.Heads as table
 use Rattle.lu_table.specs.Runs as table_runs
-use Rattle.lu_table.specs.Runs.{limits_of, client_of, row, MeetsClient, IsRow, Turn, lines_of, IsRun}
-use Rattle.lu_guards.proofs.Guards.{In, Later, Ending, Grown}
+use Rattle.lu_table.specs.Runs.{limits_of, client_of, row, MeetsClient, MeetsTarget, IsRow, Turn, lines_of, IsRun}
+use Rattle.lu_guards.proofs.Guards.{In, Later, Ending}
+use Rattle.lu_guards.proofs.Grown.{Noted, Grown}
 use Rattle.lu_guards.proofs.Lists.{turn}
 use Rattle.lu_guards.proofs.Ends.{closed_row, closed_target}
-use Rattle.lu_guards.proofs.Turns.{covered_head, Settled, settled_after, turn_grows, run_later}
+use Rattle.lu_guards.proofs.Turns.{covered_head, Settled, settled_after, noted_after, turn_grows, run_later}
 use Rattle.lu_guards.proofs.Covers.{covered_turn, over_none}
 use Rattle.lu_guards.proofs.ClientLines.{on_other}
 use Rattle.lu_guards.proofs.ClientHandles.{file_other}
 use Rattle.lu_guards.proofs.ClientRests.{Idle, Between}
+use Rattle.lu_guards.proofs.ClientStarts.{AllThere, there_turn}
 use Rattle.lu_guards.proofs.ClientTurns.{client_ok}
 use Rattle.lu_guards.proofs.TargetTurns.{of_target, target_ok, ServesBetween, serves_start, serves_client}
 
@@ -41,12 +47,22 @@ field_other {A} reads after start c at (e ∷ es) past other =
     let X : A = at_client reads after start c past in
     field_other reads after start c at es (line at e ∷ past) other ∙ ap (λ (own : Bool). on (reads e) own (after X e) X) other ∙ on_other (reads e) (after X e) X
 
+import_other : {A : Type 0} (reads : Entry → Bool) (after : A → Entry → A) (start : A) (c t : ℕ) (at : At) (es : List Entry) (past : List Line) → is_client c at.node ≡ false
+    → at_import reads after start c t (with_turn at es past) ≡ at_import reads after start c t past
+import_other reads after start c t at [] past other = refl
+import_other {A} reads after start c t at (e ∷ es) past other =
+    let X : A = at_import reads after start c t past in
+    import_other reads after start c t at es (line at e ∷ past) other ∙ ap (λ (own : Bool). on (reads e) (own && is_about t e) (after X e) X) other ∙ on_other (reads e) (after X e) X
+
 between_other : (c : ℕ) (at : At) (es : List Entry) (past : List Line) → is_client c at.node ≡ false → Between c past → Between c (with_turn at es past)
 between_other c at es past other b =
     record {
       idle = λ slot. subst Idle (sym (field_other reads_call (call_after slot) None c at es past other)) (b.idle slot);
       handles = λ h. ap (file_of h) (field_other reads_handles handles_after [] c at es past other) ∙ b.handles h ∙ sym (file_other c h at es past other);
-      held = subst (λ (hs : List HeldLock). (x : HeldLock) → In x hs → (x.marked ≡ false) × (x.pins ≡ 0)) (sym (field_other reads_held held_after [] c at es past other)) b.held;
+      held = subst (λ (hs : List HeldLock). (x : HeldLock) → In x hs → x.pins ≡ 0) (sym (field_other reads_held held_after [] c at es past other)) b.held;
+      calm =
+          subst (λ (st : Standing). st ≡ Serving → (x : HeldLock) → In x (held_at c (with_turn at es past)) → x.marked ≡ false) (sym (import_other reads_standing standing_after Serving c 0 at es past other))
+          (subst (λ (hs : List HeldLock). standing_at c 0 past ≡ Serving → (x : HeldLock) → In x hs → x.marked ≡ false) (sym (field_other reads_held held_after [] c at es past other)) b.calm);
     }
 
 -- ---- one turn
@@ -56,6 +72,8 @@ pub record Stands (head : table.Head) (past : List Line) : Type 0 where
   pub grown : Grown (covered_head head) past
   pub settled : Settled past
   pub closed : (c : ℕ) → Ending past c → ⊥
+  pub noted : Noted (covered_head head) past
+  pub there : AllThere head.osts past
   pub between : (c : ℕ) → Between c past
   pub serves : (t : ℕ) → ServesBetween head past t
 
@@ -65,16 +83,23 @@ lives head past c (client.Comes n from message) m = record { one = m.0.one; aliv
 lives head past c client.Ticks m = record { one = m.one; alive = m.alive }
 lives head past c client.Dies m = record { one = m.one; alive = m.alive }
 
+-- a target that makes a turn is there
+target_there : (head : table.Head) (past : List Line) (t : ℕ) (event : target.Event) → MeetsTarget head past t event → t ≤ head.osts
+target_there head past t (target.Comes n from m) meets = meets.0
+target_there head past t event meets = meets.0
+
 client_stands : (head : table.Head) (past : List Line) (stamp : Stamp) (c : ℕ) (event : client.Event) → Stands head past → Later past (turn stamp (Client c)) → MeetsClient head past c event
     → AllCovered (with_turn (turn stamp (Client c)) (client.row (limits_of head) (turn stamp (Client c)) event (client_of head c past)) past)
     → Stands head (with_turn (turn stamp (Client c)) (client.row (limits_of head) (turn stamp (Client c)) event (client_of head c past)) past)
 client_stands head past stamp c event s later meets covered =
     let alive = lives head past c event meets in
-    let ok = client_ok head c stamp past event (record { grown = s.grown; covered = (covered_turn at es past covered).1; settled = s.settled; later = later; closed = s.closed; alive = alive; between = s.between c }) meets covered in
+    let ok = client_ok head c stamp past event (record { grown = s.grown; covered = (covered_turn at es past covered).1; settled = s.settled; later = later; closed = s.closed; noted = s.noted; there = s.there; alive = alive; between = s.between c }) meets covered in
     record {
       grown = ok.grown;
       settled = ok.settled;
       closed = closed_row (covered_head head) (limits_of head) past stamp c event (client_of head c past) refl later s.closed ok.grown;
+      noted = ok.noted;
+      there = there_turn head.osts at es past tt s.there;
       between = λ d. by d (nat_eq d c) refl ok.between;
       serves = λ t. serves_client head past stamp c es t (s.serves t);
     }
@@ -100,11 +125,13 @@ row_stands head past stamp (Client c) es s later r covered =
 row_stands head past stamp (Target t) es s later r covered =
     let at = turn stamp (Target t) in
     let fs = of_target head past stamp t r.event r.fails in
-    let ok = target_ok head past stamp t r.event r.fails s.grown s.settled s.serves later r.meets r.numbers (subst (λ (gs : List Entry). AllCovered (with_turn at gs past)) r.is covered) in
+    let ok = target_ok head past stamp t r.event r.fails s.grown s.settled s.noted s.serves later r.meets r.numbers (subst (λ (gs : List Entry). AllCovered (with_turn at gs past)) r.is covered) in
     subst (λ (gs : List Entry). Stands head (with_turn at gs past)) (sym r.is) (record {
       grown = turn_grows (covered_head head) past at fs s.grown later s.closed ok.row;
       settled = settled_after past at fs ok.row.paid;
       closed = closed_target stamp t fs past s.closed;
+      noted = noted_after (covered_head head) past at fs ok.row;
+      there = there_turn head.osts at fs past (target_there head past t r.event r.meets) s.there;
       between = λ c. between_other c at fs past refl (s.between c);
       serves = ok.serves;
     })
@@ -112,7 +139,7 @@ row_stands head past stamp (Target t) es s later r covered =
 -- ---- runs
 
 pub stands : (head : table.Head) (turns : List Turn) → IsRun head turns → AllCovered (lines_of turns) → Stands head (lines_of turns)
-stands head [] run covered = record { grown = tt; settled = tt; closed = λ c k. k; between = λ c. record { idle = λ slot. tt; handles = λ h. refl; held = λ x i. absurd i }; serves = λ t. serves_start head t }
+stands head [] run covered = record { grown = tt; settled = tt; closed = λ c k. k; noted = record { marked = λ t. refl; told = λ t who k. k }; there = tt; between = λ c. record { idle = λ slot. tt; handles = λ h. refl; held = λ x i. absurd i; calm = λ q x i. absurd i }; serves = λ t. serves_start head t }
 stands head (t ∷ turns) run covered = by run.1 (stands head turns run.2 (covered_turn t.at t.entries (lines_of turns) covered).1)
   where
     by : table_runs.IsTurn head turns t → Stands head (lines_of turns) → Stands head (lines_of (t ∷ turns))
@@ -127,6 +154,9 @@ grown head turns run covered = (stands head turns run covered).grown
 
 pub settled : (head : table.Head) (turns : List Turn) → IsRun head turns → AllCovered (lines_of turns) → Settled (lines_of turns)
 settled head turns run covered = (stands head turns run covered).settled
+
+pub noted : (head : table.Head) (turns : List Turn) → IsRun head turns → AllCovered (lines_of turns) → Noted (covered_head head) (lines_of turns)
+noted head turns run covered = (stands head turns run covered).noted
 
 pub between : (head : table.Head) (turns : List Turn) → IsRun head turns → AllCovered (lines_of turns) → (c : ℕ) → Between c (lines_of turns)
 between head turns run covered c = (stands head turns run covered).between c

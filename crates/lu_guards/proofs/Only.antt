@@ -10,7 +10,8 @@ use Rattle.lu_words.specs.Words.{Entry, Send, Heard, Hold, Line, line, with_turn
 use Rattle.lu_words.specs.Concerns.{concerns, only, about}
 use Rattle.lu_words.specs.Sent.{Sent}
 use Rattle.lu_covered.specs.Heads.{Head}
-use Rattle.lu_guards.proofs.Guards.{Was, EntryOk, LivesAt, Grown, IsOfFirst, IsOneOf, GrownOf}
+use Rattle.lu_guards.proofs.Guards.{Was, EntryOk}
+use Rattle.lu_guards.proofs.Grown.{LivesAt, Grown, IsOfFirst, IsOneOf, GrownOf}
 use Rattle.lu_guards.proofs.Lists.{self}
 
 -- ---- a turn

@@ -10,14 +10,17 @@ use Rattle.lu_base.specs.declared.ids.Txn.{Txn as TxnOf}
 use Rattle.lu_base.specs.declared.ids.Who.{Who}
 use Rattle.lu_msg.specs.declared.messages.Request.{Request as RequestOf}
 use Rattle.lu_machine.specs.Tree.{Tree}
-use Rattle.lu_words.specs.Carried.{Deed, Slot, Called}
-use Rattle.lu_words.specs.Words.{Entry, Heard, Life, Queues, Flies, Knows, Act, Txn, Commit, Boot, Enters, Block, Release, Evict, Joined, Line, line, is_client, is_target}
+use Rattle.lu_words.specs.Carried.{Deed, Slot, Called, Said}
+use Rattle.lu_words.specs.Words.{Entry, Heard, Life, Queues, Flies, Knows, Act, Txn, Commit, Crash, Boot, Close, Enters, Block, Release, Evict, Joined, Stores, Brings, Says, Wishes, Line, line, is_client, is_target}
 use Rattle.lu_words.specs.Concerns.{is_about, concerns, only}
 use Rattle.lu_words.specs.Fields.{on, at_target, at_import}
 use Rattle.lu_base.specs.declared.locks.Lock.{Lock}
 use Rattle.lu_covered.specs.TargetParts.{reads_granted, granted_after, reads_cookie, cookie_after, reads_called, called_after, reads_boot, boot_after, reads_count, count_after, reads_committed, committed_after, reads_tree, tree_after, reads_log, log_after, reads_waiting, waiting_after, no_slot, reads_slot, slot_after, reads_lives, lives_after, reads_evicted, evicted_after}
 use Rattle.lu_target_rows.specs.States.{lives_from}
-use Rattle.lu_covered.specs.TargetStates.{Server, boot_at, count_at, committed_at, tree_at, log_at, waiting_at, granted_at, cookie_at, called_at, slot_at, server_at, server_after, server_of, slot_of, lives_at, lives_of, evicted_at, evicted_of}
+use Rattle.lu_target_rows.specs.Phase.{reads_up, up_after, reads_closed, closed_after}
+use Rattle.lu_target_rows.specs.Kept.{reads_replays, replays_after, reads_brought, brought_after, reads_words, words_after, reads_wishes, wishes_after}
+use Rattle.lu_target_rows.specs.Windows.{Replayed}
+use Rattle.lu_covered.specs.TargetStates.{Server, boot_at, count_at, committed_at, tree_at, log_at, waiting_at, granted_at, cookie_at, called_at, slot_at, server_at, server_after, server_of, slot_of, lives_at, lives_of, evicted_at, evicted_of, closed_of, up_of, replays_of, brought_of, words_of, wishes_of}
 use Rattle.lu_covered.specs.Calls.{reads_life, life_after, life_at}
 use Rattle.lu_covered.specs.Imports.{reads_queue, queue_after, queue_at, reads_flights, flights_after, flights_at, reads_last, last_after, last_at, reads_known, known_after, known_at}
 use Rattle.lu_covered.specs.ClientStates.{queue_of, flights_of, last_of, known_of, life_of, standing_of, is_own}
@@ -26,7 +29,8 @@ use Rattle.lu_covered.specs.Calls.{first_life}
 use Rattle.lu_covered.specs.Imports.{Serving, reads_standing, standing_after, standing_at}
 use Rattle.lu_covered.specs.Heads.{Head}
 use Rattle.lu_client_rows.specs.Recovery.{next_life}
-use Rattle.lu_guards.proofs.Guards.{EntryOf, Grown, GrownOf}
+use Rattle.lu_guards.proofs.StoryGuards.{EntryOf}
+use Rattle.lu_guards.proofs.Grown.{Grown, GrownOf}
 use Rattle.lu_guards.proofs.Lists.{self, turn, life_is, own_self}
 use Rattle.lu_guards.proofs.Only.{grown_of}
 
@@ -90,6 +94,59 @@ evicted_is t past = target_is reads_evicted evicted_after [] evicted_of (record 
     stays (Evict who cause) evicted q = absurd (cc)
     stays e evicted q = refl
 
+-- in which boot a target last closed its window, and whether it is up
+pub closed_is : (t : ℕ) (past : List Line) → at_target reads_closed closed_after 1 t past ≡ closed_of (only t past)
+closed_is t past = target_is reads_closed closed_after 1 closed_of (record { starts = refl; steps = λ s u e p r. refl; stays = λ s u e p r. stays e (closed_of p) r; clients = λ s c e p. refl }) t past
+  where
+    stays : (e : Entry) (n : ℕ) → reads_closed e ≡ false → n ≡ closed_after n e
+    stays (Close o) n q = absurd (cc)
+    stays e n q = refl
+
+pub up_is : (t : ℕ) (past : List Line) → at_target reads_up up_after true t past ≡ up_of (only t past)
+up_is t past = target_is reads_up up_after true up_of (record { starts = refl; steps = λ s u e p r. refl; stays = λ s u e p r. stays e (up_of p) r; clients = λ s c e p. refl }) t past
+  where
+    stays : (e : Entry) (up : Bool) → reads_up e ≡ false → up ≡ up_after up e
+    stays Crash up q = absurd (cc)
+    stays (Boot boot disk) up q = absurd (cc)
+    stays e up q = refl
+
+-- what it has taken since its boot of the lives that come back
+pub replays_is : (t : ℕ) (past : List Line) → at_target reads_replays replays_after [] t past ≡ replays_of (only t past)
+replays_is t past = target_is reads_replays replays_after [] replays_of (record { starts = refl; steps = λ s u e p r. refl; stays = λ s u e p r. stays e (replays_of p) r; clients = λ s c e p. refl }) t past
+  where
+    stays : (e : Entry) (kept : List Replayed) → reads_replays e ≡ false → kept ≡ replays_after kept e
+    stays (Stores r) kept q = absurd (cc)
+    stays (Boot boot disk) kept q = absurd (cc)
+    stays (Close o) kept q = absurd (cc)
+    stays e kept q = refl
+
+pub brought_is : (t : ℕ) (past : List Line) → at_target reads_brought brought_after [] t past ≡ brought_of (only t past)
+brought_is t past = target_is reads_brought brought_after [] brought_of (record { starts = refl; steps = λ s u e p r. refl; stays = λ s u e p r. stays e (brought_of p) r; clients = λ s c e p. refl }) t past
+  where
+    stays : (e : Entry) (kept : List Lock) → reads_brought e ≡ false → kept ≡ brought_after kept e
+    stays (Brings lock) kept q = absurd (cc)
+    stays (Boot boot disk) kept q = absurd (cc)
+    stays (Close o) kept q = absurd (cc)
+    stays e kept q = refl
+
+pub words_is : (t : ℕ) (past : List Line) → at_target reads_words words_after [] t past ≡ words_of (only t past)
+words_is t past = target_is reads_words words_after [] words_of (record { starts = refl; steps = λ s u e p r. refl; stays = λ s u e p r. stays e (words_of p) r; clients = λ s c e p. refl }) t past
+  where
+    stays : (e : Entry) (kept : List Said) → reads_words e ≡ false → kept ≡ words_after kept e
+    stays (Says word) kept q = absurd (cc)
+    stays (Boot boot disk) kept q = absurd (cc)
+    stays (Close o) kept q = absurd (cc)
+    stays e kept q = refl
+
+pub wishes_is : (t : ℕ) (past : List Line) → at_target reads_wishes wishes_after [] t past ≡ wishes_of (only t past)
+wishes_is t past = target_is reads_wishes wishes_after [] wishes_of (record { starts = refl; steps = λ s u e p r. refl; stays = λ s u e p r. stays e (wishes_of p) r; clients = λ s c e p. refl }) t past
+  where
+    stays : (e : Entry) (kept : List Who) → reads_wishes e ≡ false → kept ≡ wishes_after kept e
+    stays (Wishes who) kept q = absurd (cc)
+    stays (Boot boot disk) kept q = absurd (cc)
+    stays (Close o) kept q = absurd (cc)
+    stays e kept q = refl
+
 -- ---- a part of a target
 
 record ServerPart {A : Type 0} (osts : ℕ) (reads : Entry → Bool) (after : A → Entry → A) (part : Server → A) : Type 0 where
@@ -116,10 +173,12 @@ count_part osts = record { steps = steps; stays = stays }
   where
     steps : (v : Server) (e : Entry) → reads_count e ≡ true → count_after v.count e ≡ (server_after osts v e).count
     steps v (Txn d) r = refl
+    steps v (Boot b k) r = refl
     steps v e r = absurd (cc)
 
     stays : (v : Server) (e : Entry) → reads_count e ≡ false → v.count ≡ (server_after osts v e).count
     stays v (Txn d) r = absurd (cc)
+    stays v (Boot b k) r = absurd (cc)
     stays v e r = refl
 
 committed_part : (osts : ℕ) → ServerPart osts reads_committed committed_after (λ v. v.committed)
@@ -196,10 +255,12 @@ cookie_part osts = record { steps = steps; stays = stays }
   where
     steps : (v : Server) (e : Entry) → reads_cookie e ≡ true → cookie_after v.cookie e ≡ (server_after osts v e).cookie
     steps v (Act d) r = refl
+    steps v (Boot b k) r = refl
     steps v e r = absurd (cc)
 
     stays : (v : Server) (e : Entry) → reads_cookie e ≡ false → v.cookie ≡ (server_after osts v e).cookie
     stays v (Act d) r = absurd (cc)
+    stays v (Boot b k) r = absurd (cc)
     stays v e r = refl
 
 called_part : (osts : ℕ) → ServerPart osts reads_called called_after (λ v. v.called)

@@ -1,9 +1,11 @@
--- Between its turns a target of the whole table is what its story says: its first boot serves, and who has a slot, what is granted,
+-- Between its turns a target of the whole table that wasn't booted again is what its story says: its first boot serves, and who has a slot, what is granted,
 -- called back, waits and was done is what the guards speak of. A life that leaves is gone from the target with the commit, and from the
 -- story with its line `evict`; a life that comes is there with the commit, and in the story with its line `joined`. `Window` says how
--- both go together in between.
-use Rattle.std.proofs.Common.{◌≡◌, ℕ, ◌+◌, Bool, true, false, List, [], ◌∷◌, ◌++◌, Some, refl, sym, ap, ◌∙◌, arith}
-use Rattle.std.specs.Prelude.{nat_eq, nat_lt, max, filter, not, ◌&&◌, ◌||◌}
+-- both go together in between. What a boot takes from the disk stands there (`OnDisk`).
+use Rattle.std.proofs.Common.{◌≡◌, ℕ, ◌+◌, ◌<◌, Bool, true, false, List, [], ◌∷◌, ◌++◌, Some, inl, inr, refl, sym, subst, ap, ◌∙◌, arith}
+use Rattle.std.specs.Prelude.{nat_eq, nat_lt, max, filter, map, not, ◌&&◌, ◌||◌}
+use Rattle.std.proofs.lemmas.Bool.{cond-true, lt-ltb}
+use Rattle.std.proofs.Math.Nat.{max-zero}
 use Rattle.lu_base.specs.declared.ids.Node.{Node}
 use Rattle.lu_base.specs.declared.ids.Node.TheVariants as node
 use Rattle.lu_base.specs.declared.ids.Stamp.{Stamp}
@@ -20,20 +22,22 @@ use Rattle.lu_msg.specs.declared.messages.Request.{Request as RequestOf}
 use Rattle.lu_machine.specs.Footprint.{changes, forget, after as tree_after}
 use Rattle.lu_machine.specs.Tree.{Tree}
 use Rattle.lu_words.specs.Carried.{Deed, Contents, Called}
-use Rattle.lu_words.specs.Words.{Entry, Send, Take, Tick, Skip, Act, Txn, Grant, Block, Release, Commit, Enters, Evict, Joined, Line, line, with_turn, same_life}
+use Rattle.lu_words.specs.Words.{Entry, Send, Take, Tick, Skip, Act, Txn, Grant, Block, Release, Commit, Crash, Boot, Back, Enters, Evict, Joined, Stores, Brings, Says, Wishes, Line, line, with_turn, same_life}
 use Rattle.lu_target_rows.specs.Locks.{with_lock, with_locks, without_lock, locks_without, called_without, without_request}
 use Rattle.lu_target_rows.specs.Lives.{is_life, with_life, with_lives, without_lives}
 use Rattle.lu_target_rows.specs.States.{Setting, Target, after, target_at}
-use Rattle.lu_target_rows.specs.Stored.{done_by, operation_of, transaction_of, forgotten}
+use Rattle.lu_target_rows.specs.Stored.{done_by, operation_of, transaction_of, forgotten, batch_of, last_number}
+use Rattle.lu_target_rows.specs.Leaving.{commits, last_of}
 use Rattle.lu_covered.specs.Deeds.{asked}
 use Rattle.lu_covered.specs.Heads.{Head}
-use Rattle.lu_covered.specs.TargetStates.{Server, none, next_number, server_of, server_after, lives_of, evicted_of, shown_of}
-use Rattle.lu_guards.proofs.Guards.{EntryOf}
+use Rattle.lu_covered.specs.TargetStates.{Server, none, next_number, server_of, server_after, lives_of, evicted_of, shown_of, closed_of, up_of}
+use Rattle.lu_guards.proofs.Guards.{In}
+use Rattle.lu_guards.proofs.StoryGuards.{EntryOf, IsServing, CommitOk}
 use Rattle.lu_guards.proofs.Lists.{turn}
 use Rattle.lu_guards.proofs.LockLists.{Rises, rises_all, rises_filter}
-use Rattle.lu_guards.proofs.LifeLists.{filter_parts, filter_swap}
+use Rattle.lu_guards.proofs.LifeLists.{filter_parts, filter_swap, first_lives}
 use Rattle.lu_guards.proofs.TargetSlots.{SlotsAlike, slots_enter, slots_answer, slots_again, slots_leave}
-use Rattle.lu_guards.proofs.TargetStory.{Story, story_start, story_client, story_commit, story_evict, story_release, story_line}
+use Rattle.lu_guards.proofs.TargetStory.{Story, IsStill, story_start, story_client, story_commit, story_evict, story_release, story_line}
 
 -- one of the whole table, and what the guards speak of
 abbrev pub Alike : (osts t : ℕ) → Target → Server → Type 0
@@ -58,6 +62,15 @@ Alike osts t v s =
       rises : Rises s.granted;
     }
 
+-- it is up, in the first boot, whose window is closed
+abbrev pub FirstBoot : List Line → Type 0
+FirstBoot past = record { closed : closed_of past ≡ 1; up : up_of past ≡ true }
+
+-- what a boot takes from the disk stands there
+abbrev pub OnDisk : Target → Type 0
+OnDisk v =
+    record { boot : v.disk.boot ≡ v.boot; lives : v.disk.lives ≡ v.lives; removed : v.disk.removed ≡ v.removed; committed : v.disk.committed ≡ v.committed }
+
 pub record Serving (head : Head) (t : ℕ) (v : Target) (past : List Line) : Type 0 where
   pub alike : Alike head.osts t v (server_of head.osts past)
   pub story : Story head past
@@ -65,6 +78,12 @@ pub record Serving (head : Head) (t : ℕ) (v : Target) (past : List Line) : Typ
   pub lives : v.lives ≡ lives_of head.clients past
   pub removed : v.removed ≡ evicted_of past
   pub shown : shown_of past ≡ (server_of head.osts past).granted
+  pub phase : FirstBoot past
+  pub disk : OnDisk v
+
+-- so the guards say that it serves
+pub serving_is : (head : Head) (t : ℕ) (v : Target) (past : List Line) → Serving head t v past → IsServing head.osts past
+serving_is head t v past h = record { closed = h.phase.closed ∙ sym h.story.first; up = h.phase.up }
 
 -- ---- one entry of its own
 
@@ -212,11 +231,13 @@ module _ (osts t : ℕ) (v : Target) (s : Server) (h : Alike osts t v s) where
         rises = rises_filter (λ k. not (nat_eq k.cookie.0 lock.cookie.0)) s.granted h.rises;
       }
 
--- but for commits, and lives that leave and come
+-- but for commits, lives that leave and come, crashes and boots
 abbrev pub IsPlain : Entry → Type 0
 IsPlain (Commit to batch) = ⊥
 IsPlain (Evict who cause) = ⊥
 IsPlain (Joined who) = ⊥
+IsPlain Crash = ⊥
+IsPlain (Boot boot disk) = ⊥
 IsPlain _ = Unit {0}
 
 abbrev pub AllPlain : List Entry → Type 0
@@ -226,8 +247,12 @@ AllPlain (e ∷ es) = IsPlain e × AllPlain es
 -- such a line of its own keeps it so
 pub serving_line : (head : Head) (t : ℕ) (past : List Line) (stamp : Stamp) (e : Entry) (v : Target) → IsPlain e → EntryOf head past (turn stamp (node.Target t)) (node.Target t) e → Serving head t v past
     → Serving head t (after v e) (line (turn stamp (node.Target t)) e ∷ past)
-serving_line head t past stamp e v plain ok h = by e plain ok (story_line head t past stamp e ok h.story)
+serving_line head t past stamp e v plain ok h = by e plain ok (story_line head t past stamp e (still e plain) ok h.story)
   where
+    still : (e : Entry) → IsPlain e → IsStill e
+    still (Boot boot disk) plain = absurd plain
+    still e plain = tt
+
     s : Server
     s = server_of head.osts past
 
@@ -235,12 +260,17 @@ serving_line head t past stamp e v plain ok h = by e plain ok (story_line head t
     a = h.alike
 
     by : (e : Entry) → IsPlain e → EntryOf head past (turn stamp (node.Target t)) (node.Target t) e → Story head (line (turn stamp (node.Target t)) e ∷ past) → Serving head t (after v e) (line (turn stamp (node.Target t)) e ∷ past)
-    by (Send to m) plain ok story = record { alike = a; story = story; slots = h.slots; lives = h.lives; removed = h.removed; shown = h.shown }
-    by (Take n from m) plain ok story = record { alike = a; story = story; slots = h.slots; lives = h.lives; removed = h.removed; shown = h.shown }
-    by Tick plain ok story = record { alike = a; story = story; slots = h.slots; lives = h.lives; removed = h.removed; shown = h.shown }
-    by Skip plain ok story = record { alike = a; story = story; slots = h.slots; lives = h.lives; removed = h.removed; shown = h.shown }
+    by (Send to m) plain ok story = record { alike = a; story = story; slots = h.slots; lives = h.lives; removed = h.removed; shown = h.shown; phase = h.phase; disk = h.disk }
+    by (Take n from m) plain ok story = record { alike = a; story = story; slots = h.slots; lives = h.lives; removed = h.removed; shown = h.shown; phase = h.phase; disk = h.disk }
+    by Tick plain ok story = record { alike = a; story = story; slots = h.slots; lives = h.lives; removed = h.removed; shown = h.shown; phase = h.phase; disk = h.disk }
+    by Skip plain ok story = record { alike = a; story = story; slots = h.slots; lives = h.lives; removed = h.removed; shown = h.shown; phase = h.phase; disk = h.disk }
+    by (Back who) plain ok story = record { alike = a; story = story; slots = h.slots; lives = h.lives; removed = h.removed; shown = h.shown; phase = h.phase; disk = h.disk }
+    by (Stores replay) plain ok story = record { alike = a; story = story; slots = h.slots; lives = h.lives; removed = h.removed; shown = h.shown; phase = h.phase; disk = h.disk }
+    by (Brings lock) plain ok story = record { alike = a; story = story; slots = h.slots; lives = h.lives; removed = h.removed; shown = h.shown; phase = h.phase; disk = h.disk }
+    by (Says said) plain ok story = record { alike = a; story = story; slots = h.slots; lives = h.lives; removed = h.removed; shown = h.shown; phase = h.phase; disk = h.disk }
+    by (Wishes who) plain ok story = record { alike = a; story = story; slots = h.slots; lives = h.lives; removed = h.removed; shown = h.shown; phase = h.phase; disk = h.disk }
     by (Enters r) plain ok story =
-        record { alike = alike_enters head.osts t v s a r; story = story; slots = λ who tag live. slots_enter v.slots past r who tag (h.slots who tag live); lives = h.lives; removed = h.removed; shown = h.shown }
+        record { alike = alike_enters head.osts t v s a r; story = story; slots = λ who tag live. slots_enter v.slots past r who tag (h.slots who tag live); lives = h.lives; removed = h.removed; shown = h.shown; phase = h.phase; disk = h.disk }
     by (Act d) plain ok story =
         record {
           alike = alike_act head.osts t v s a d;
@@ -249,6 +279,8 @@ serving_line head t past stamp e v plain ok h = by e plain ok (story_line head t
           lives = h.lives;
           removed = h.removed;
           shown = ap (with_locks d.reply.locks) h.shown;
+          phase = h.phase;
+          disk = h.disk;
         }
     by (Txn d) plain ok story =
         record {
@@ -258,14 +290,18 @@ serving_line head t past stamp e v plain ok h = by e plain ok (story_line head t
           lives = h.lives;
           removed = h.removed;
           shown = h.shown;
+          phase = h.phase;
+          disk = h.disk;
         }
     by (Grant lock (Some d)) plain ok story =
-        record { alike = alike_grant head.osts t v s a lock d ok.granted ok.cookie ok.waiting; story = story; slots = slots_again v.slots v.removed past d ok.slot h.slots; lives = h.lives; removed = h.removed; shown = h.shown }
-    by (Block called) plain ok story = record { alike = alike_block head.osts t v s a called; story = story; slots = h.slots; lives = h.lives; removed = h.removed; shown = h.shown }
-    by (Release lock) plain ok story = record { alike = alike_release head.osts t v s a lock; story = story; slots = h.slots; lives = h.lives; removed = h.removed; shown = ap (without_lock lock) h.shown }
+        record { alike = alike_grant head.osts t v s a lock d ok.granted ok.cookie ok.waiting; story = story; slots = slots_again v.slots v.removed past d ok.slot h.slots; lives = h.lives; removed = h.removed; shown = h.shown; phase = h.phase; disk = h.disk }
+    by (Block called) plain ok story = record { alike = alike_block head.osts t v s a called; story = story; slots = h.slots; lives = h.lives; removed = h.removed; shown = h.shown; phase = h.phase; disk = h.disk }
+    by (Release lock) plain ok story = record { alike = alike_release head.osts t v s a lock; story = story; slots = h.slots; lives = h.lives; removed = h.removed; shown = ap (without_lock lock) h.shown; phase = h.phase; disk = h.disk }
     by (Commit to batch) plain ok story = absurd plain
     by (Evict who cause) plain ok story = absurd plain
     by (Joined who) plain ok story = absurd plain
+    by Crash plain ok story = absurd plain
+    by (Boot boot disk) plain ok story = absurd plain
     by e plain ok story = absurd ok
 
 -- ---- from the commit on, until all that leave and come with it did
@@ -300,9 +336,32 @@ pub record Window (head : Head) (t : ℕ) (gone come : List Who) (v : Target) (p
   pub slots : SlotsAlike v.slots v.removed past
   pub lives : v.lives ≡ with_lives come (without_lives gone (lives_of head.clients past))
   pub removed : v.removed ≡ with_lives gone (evicted_of past)
+  pub phase : FirstBoot past
+  pub disk : OnDisk v
 
-pub window_commit : (head : Head) (t : ℕ) (past : List Line) (stamp : Stamp) (to : ℕ) (batch : Batch) (v : Target) → Serving head t v past → Window head t batch.removed batch.added (after v (Commit to batch)) (line (turn stamp (node.Target t)) (Commit to batch) ∷ past)
-window_commit head t past stamp to batch v h =
+-- the transactions of a batch are above what is on the disk, so their last one is the last there
+stored_last : (n : ℕ) (deeds : List Deed) (k : ℕ) → ((d : Deed) → In d deeds → n < d.reply.txn.0) → last_number (filter (λ (x : Transaction). nat_lt n x.txn.0) (map {A = Deed} {B = Transaction} transaction_of deeds)) k ≡ last_of deeds k
+stored_last n [] k above = refl
+stored_last n (d ∷ deeds) k above =
+    let rest : List Transaction = filter (λ (x : Transaction). nat_lt n x.txn.0) (map {A = Deed} {B = Transaction} transaction_of deeds) in
+    ap (λ (xs : List Transaction). last_number xs k) (cond-true (nat_lt n d.reply.txn.0) (transaction_of d ∷ rest) rest (lt-ltb n d.reply.txn.0 (above d (inl refl))))
+    ∙ stored_last n deeds d.reply.txn.0 (λ x i. above x (inr i))
+
+disk_commit : (v : Target) (deeds : List Deed) (gone come : List Who) → ((d : Deed) → In d deeds → v.committed < d.reply.txn.0) → OnDisk v → OnDisk (after v (commits v deeds gone come))
+disk_commit v deeds gone come above h =
+    record {
+      boot = max-zero v.disk.boot ∙ h.boot;
+      lives = ap (λ (ws : List Who). with_lives come (without_lives gone ws)) h.lives;
+      removed = ap (with_lives gone) h.removed;
+      committed = ap (λ (n : ℕ). last_number (filter (λ (x : Transaction). nat_lt n x.txn.0) (map {A = Deed} {B = Transaction} transaction_of deeds)) n) h.committed ∙ stored_last v.committed deeds v.committed above;
+    }
+
+-- what is committed are deeds of the log
+pub window_commit : (head : Head) (t : ℕ) (past : List Line) (stamp : Stamp) (deeds : List Deed) (gone come : List Who) (v : Target) → ((d : Deed) → In d deeds → In d (server_of head.osts past).log) → CommitOk head.osts past (last_of deeds v.committed) → Serving head t v past
+    → Window head t gone come (after v (commits v deeds gone come)) (line (turn stamp (node.Target t)) (commits v deeds gone come) ∷ past)
+window_commit head t past stamp deeds gone come v logged ok h =
+    let to : ℕ = last_of deeds v.committed in
+    let batch : Batch = batch_of deeds gone come in
     let a : Alike head.osts t v (server_of head.osts past) = h.alike in
     record {
       id = a.id;
@@ -320,11 +379,16 @@ window_commit head t past stamp to batch v h =
       called = ap (λ (cs : List Called). filter (λ (c : Called). not (is_life c.who batch.removed)) cs) a.called;
       queue = ap (λ (rs : List RequestOf). filter (λ (r : RequestOf). not (is_life r.who batch.removed)) rs) a.queue;
       glimpses = rw a.glimpses refl;
-      story = story_commit head t past stamp h.story to batch;
+      story = story_commit head t past stamp h.story to batch ok;
       slots = slots_leave batch.removed v.slots v.removed past h.slots;
       lives = ap (λ (ws : List Who). with_lives batch.added (without_lives batch.removed ws)) h.lives;
       removed = ap (with_lives batch.removed) h.removed;
+      phase = h.phase;
+      disk = disk_commit v deeds gone come (λ d i. subst (λ (n : ℕ). n < d.reply.txn.0) (sym a.committed) (h.story.above d (logged d i))) h.disk;
     }
+
+pub window_is : (head : Head) (t : ℕ) (gone come : List Who) (v : Target) (past : List Line) → Window head t gone come v past → IsServing head.osts past
+window_is head t gone come v past h = record { closed = h.phase.closed ∙ sym h.story.first; up = h.phase.up }
 
 -- the first of those that leave does
 not_or : (a b : Bool) → not (a || b) ≡ (not (a || false) && not b)
@@ -360,6 +424,8 @@ window_evict head t past stamp who cause gone come v h =
       slots = h.slots;
       lives = h.lives ∙ ap (with_lives come) (gone_one (λ (w : Who). w) who gone (lives_of head.clients past));
       removed = h.removed;
+      phase = h.phase;
+      disk = h.disk;
     }
 
 -- a lock is released
@@ -387,6 +453,8 @@ window_release head t past stamp lock gone come v h =
       slots = h.slots;
       lives = h.lives;
       removed = h.removed;
+      phase = h.phase;
+      disk = h.disk;
     }
 
 -- what is sent changes nothing
@@ -409,10 +477,12 @@ window_send head t past stamp to m gone come v h =
       called = h.called;
       queue = h.queue;
       glimpses = h.glimpses;
-      story = record { first = h.story.first; rises = h.story.rises; logged = h.story.logged; waits = h.story.waits; holds = h.story.holds; calls = h.story.calls; single = h.story.single; apart = h.story.apart };
+      story = record { first = h.story.first; rises = h.story.rises; logged = h.story.logged; waits = h.story.waits; holds = h.story.holds; calls = h.story.calls; single = h.story.single; apart = h.story.apart; above = h.story.above; under = h.story.under };
       slots = h.slots;
       lives = h.lives;
       removed = h.removed;
+      phase = h.phase;
+      disk = h.disk;
     }
 
 -- where nobody leaves, all stay
@@ -439,10 +509,12 @@ window_joined head t past stamp who v ok h =
       called = h.called;
       queue = h.queue;
       glimpses = h.glimpses;
-      story = story_line head t past stamp (Joined who) ok h.story;
+      story = story_line head t past stamp (Joined who) tt ok h.story;
       slots = h.slots;
       lives = h.lives ∙ ap (with_life who) (all_stay (lives_of head.clients past)) ∙ sym (all_stay (with_life who (lives_of head.clients past)));
       removed = h.removed;
+      phase = h.phase;
+      disk = h.disk;
     }
 
 -- then the window is closed
@@ -475,6 +547,8 @@ window_closed head t past v shown h =
       lives = h.lives ∙ all_stay (lives_of head.clients past);
       removed = h.removed;
       shown = shown;
+      phase = h.phase;
+      disk = h.disk;
     }
 
 -- ---- at the start, and over the turns of other nodes
@@ -507,6 +581,8 @@ serving_start head setting o =
       lives = refl;
       removed = refl;
       shown = refl;
+      phase = record { closed = refl; up = refl };
+      disk = record { boot = refl; lives = first_lives head.clients; removed = refl; committed = refl };
     }
 
 -- lines of a client change nothing
@@ -514,4 +590,4 @@ pub serving_client : (head : Head) (t : ℕ) (stamp : Stamp) (c : ℕ) (es : Lis
 serving_client head t stamp c [] past v h = h
 serving_client head t stamp c (e ∷ es) past v h =
     serving_client head t stamp c es (line (turn stamp (node.Client c)) e ∷ past) v
-    (record { alike = h.alike; story = story_client head past stamp c e h.story; slots = h.slots; lives = h.lives; removed = h.removed; shown = h.shown })
+    (record { alike = h.alike; story = story_client head past stamp c e h.story; slots = h.slots; lives = h.lives; removed = h.removed; shown = h.shown; phase = h.phase; disk = h.disk })

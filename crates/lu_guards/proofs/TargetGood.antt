@@ -1,19 +1,22 @@
 -- Lines of a turn of a target, each allowed, at whose end nothing is owed; and what they lead to: the target after them, and its story.
-use Rattle.std.proofs.Common.{◌≡◌, ℕ, Bool, true, false, List, [], ◌∷◌, ◌++◌, refl, sym, subst, ap, ◌∙◌}
+use Rattle.std.proofs.Common.{◌≡◌, ℕ, Bool, true, false, List, [], ◌∷◌, ◌++◌, None, ◌⊎◌, inl, inr, ⊎_elim, refl, sym, subst, ap, ◌∙◌}
 use Rattle.std.specs.Prelude.{nat_eq}
-use Rattle.std.proofs.lemmas.Bool.{eqb-true}
+use Rattle.std.proofs.lemmas.Bool.{cond-true, eqb-true, eq-eqb}
 use Rattle.lu_base.specs.declared.ids.At.{At}
 use Rattle.lu_base.specs.declared.ids.Node.TheVariants as node
 use Rattle.lu_base.specs.declared.ids.Stamp.{Stamp}
-use Rattle.lu_words.specs.Words.{Entry, Line, line, with_turn}
+use Rattle.lu_words.specs.Words.{Entry, Take, Boot, Close, Stores, Brings, Says, Wishes, Line, line, with_turn, turn_before}
 use Rattle.lu_words.specs.Concerns.{only, about}
 use Rattle.lu_target_rows.specs.States.{Target, after, follow, turn as turned}
 use Rattle.lu_covered.specs.Heads.{Head}
-use Rattle.lu_guards.proofs.Guards.{Owes, EntryOk, EntryOf}
-use Rattle.lu_guards.proofs.Lists.{turn, turn_more}
+use Rattle.lu_covered.specs.TargetStates.{server_of, closed_of, up_of, window_of}
+use Rattle.lu_guards.proofs.Guards.{Owes, EntryOk, Later, IsMark, IsTurnOf, mark_of, due}
+use Rattle.lu_guards.proofs.StoryGuards.{EntryOf, IsRecovering}
+use Rattle.lu_guards.proofs.Grown.{Noted}
+use Rattle.lu_guards.proofs.Lists.{turn, turn_irreflexive, turn_more}
 use Rattle.lu_guards.proofs.Only.{turn_only, about_own, about_other}
 use Rattle.lu_guards.proofs.TargetAlike.{Serving, AllPlain, serving_line}
-use Rattle.lu_guards.proofs.Turns.{Settled, AllPaid, AllOk, AllOf, RowOk}
+use Rattle.lu_guards.proofs.Turns.{Settled, AllPaid, AllOk, AllOf, NoBack, AllBacks, AllMarks, RowOk}
 
 pub turned_more : (es fs : List Entry) (v : Target) → turned v (es ++ fs) ≡ turned (turned v es) fs
 turned_more [] fs v = refl
@@ -78,9 +81,67 @@ module _ (head : Head) (stamp : Stamp) (t : ℕ) where
   all_of [] past story g = tt
   all_of (e ∷ es) past story g = (g.0.2, all_of es (line at e ∷ past) (line at e ∷ story) g.1)
 
-  pub good_row : (es : List Entry) (past : List Line) → GoodAt past (only t past) es → RowOk head past at es
-  good_row es past g = record { paid = all_paid es past (only t past) g; ok = all_ok es past (only t past) g; of = λ u. by u (nat_eq u t) refl }
+  -- no life comes back while the target serves: nothing is kept, and it isn't booted
+  later_here : (past : List Line) → Later past at → IsTurnOf past at → ⊥
+  later_here [] later here = absurd here
+  later_here (l ∷ past) later here = turn_irreflexive at (subst (λ (a : At). turn_before a at ≡ true) here later)
+
+  -- the window is closed, whether or not the target is up
+  abbrev IsClosed : ℕ → List Line → Type 0
+  IsClosed osts story = closed_of story ≡ (server_of osts story).boot
+
+  serves_still : (past story : List Line) (e : Entry) → EntryOk past at (node.Target t) e → EntryOf head story at (node.Target t) e → IsClosed head.osts story → (up_of story ≡ true) ⊎ IsTurnOf past at → IsClosed head.osts (line at e ∷ story)
+  serves_still past story (Boot boot disk) ok of serves (inl up) = let down = of.down in absurd (cc)
+  serves_still past story (Boot boot disk) ok of serves (inr here) = absurd (later_here past ok here)
+  serves_still past story (Close o) ok of serves up = absurd ok
+  serves_still past story e ok of serves up = serves
+
+  serves_recovers : (story : List Line) → IsClosed head.osts story → IsRecovering head.osts story → ⊥
+  serves_recovers story serves recovers = let is : nat_eq (closed_of story) (server_of head.osts story).boot ≡ true = eq-eqb (closed_of story) (server_of head.osts story).boot serves in absurd (cc)
+
+  serves_unmarked : (story : List Line) (e : Entry) → EntryOf head story at (node.Target t) e → IsClosed head.osts story → IsMark e → ⊥
+  serves_unmarked story (Stores replay) of serves mark = serves_recovers story serves of.keeps.recovers
+  serves_unmarked story (Brings lock) of serves mark = serves_recovers story serves of.keeps.recovers
+  serves_unmarked story (Says said) of serves mark = ⊎_elim (λ k. serves_recovers story serves k.recovers) (λ k. serves_recovers story serves k.1.recovers) of.keeps
+  serves_unmarked story (Wishes who) of serves mark = serves_recovers story serves of.keeps.recovers
+  serves_unmarked story e of serves mark = mark
+
+  pub serves_backs : (es : List Entry) (past story : List Line) → GoodAt past story es → IsClosed head.osts story → NoBack head story → (up_of story ≡ true) ⊎ IsTurnOf past at → AllBacks head story at es
+  serves_backs [] past story g serves shown up = shown
+  serves_backs (e ∷ es) past story g serves shown up = (
+    λ who k. absurd (shown who k),
+    serves_backs es (line at e ∷ past) (line at e ∷ story) g.1 (serves_still past story e g.0.1 g.0.2 serves up) (λ who k. serves_unmarked story e g.0.2 serves k.0) (inr refl),
+  )
+
+  -- and nothing that it takes is to be kept
+  serves_undue : (story : List Line) (e : Entry) → IsClosed head.osts story → due head.osts head.clients (line at e ∷ story) ≡ None
+  serves_undue story (Take n from m) serves =
+      cond-true (nat_eq (closed_of story) (server_of head.osts story).boot) None (mark_of (window_of head.osts head.clients story) (server_of head.osts story).boot m) (eq-eqb (closed_of story) (server_of head.osts story).boot serves)
+  serves_undue story e serves = refl
+
+  pub serves_marks : (es : List Entry) (past story : List Line) → GoodAt past story es → IsClosed head.osts story → due head.osts head.clients story ≡ None → (up_of story ≡ true) ⊎ IsTurnOf past at → AllMarks head story at es
+  serves_marks [] past story g serves undue up = undue
+  serves_marks (e ∷ es) past story g serves undue up = (
+    λ mark d. absurd (cc),
+    serves_marks es (line at e ∷ past) (line at e ∷ story) g.1 (serves_still past story e g.0.1 g.0.2 serves up) (serves_undue story e serves) (inr refl),
+  )
+
+  pub good_row : (es : List Entry) (past : List Line) → GoodAt past (only t past) es → Noted head past → AllBacks head (only t past) at es → AllMarks head (only t past) at es → RowOk head past at es
+  good_row es past g noted backs marks =
+      record { paid = all_paid es past (only t past) g; ok = all_ok es past (only t past) g; of = λ u. by u (nat_eq u t) refl; backs = λ u. back u (nat_eq u t) refl; marks = λ u. mark u (nat_eq u t) refl }
     where
+      back : (u : ℕ) (b : Bool) → nat_eq u t ≡ b → AllBacks head (only u past) at (about u (node.Target t) es)
+      back u true e =
+          subst (λ (n : ℕ). AllBacks head (only n past) at (about n (node.Target t) es)) (sym (eqb-true u t e))
+          (subst (λ (fs : List Entry). AllBacks head (only t past) at fs) (sym (about_own t es)) backs)
+      back u false e = subst (λ (fs : List Entry). AllBacks head (only u past) at fs) (sym (about_other u t es e)) (noted.told u)
+
+      mark : (u : ℕ) (b : Bool) → nat_eq u t ≡ b → AllMarks head (only u past) at (about u (node.Target t) es)
+      mark u true e =
+          subst (λ (n : ℕ). AllMarks head (only n past) at (about n (node.Target t) es)) (sym (eqb-true u t e))
+          (subst (λ (fs : List Entry). AllMarks head (only t past) at fs) (sym (about_own t es)) marks)
+      mark u false e = subst (λ (fs : List Entry). AllMarks head (only u past) at fs) (sym (about_other u t es e)) (noted.marked u)
+
       by : (u : ℕ) (b : Bool) → nat_eq u t ≡ b → AllOf head (only u past) at (about u (node.Target t) es)
       by u true e =
           subst (λ (n : ℕ). AllOf head (only n past) at (about n (node.Target t) es)) (sym (eqb-true u t e))

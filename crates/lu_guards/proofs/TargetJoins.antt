@@ -13,18 +13,18 @@ use Rattle.lu_base.specs.declared.locks.Lock.{Lock}
 use Rattle.lu_msg.specs.declared.messages.Message.TheVariants as message
 use Rattle.lu_words.specs.Words.{Entry, Line, same_life}
 use Rattle.lu_words.specs.Concerns.{only}
-use Rattle.lu_target_rows.specs.Leaving.{evicted, ready, row_join, by_life, row_admits, is_over, life_of as life_in}
+use Rattle.lu_target_rows.specs.Leaving.{up, evicted, ready, row_join, by_life, row_admits, is_over, life_of as life_in}
 use Rattle.lu_target_rows.specs.Lives.{is_life, without_lives}
 use Rattle.lu_target_rows.specs.Recovery.{row_wish}
 use Rattle.lu_target_rows.specs.Rows.{by_boot, row_heeds}
 use Rattle.lu_target_rows.specs.States.{Target}
 use Rattle.lu_covered.specs.Heads.{Head}
 use Rattle.lu_covered.specs.TargetStates.{server_of, lives_of, evicted_of}
-use Rattle.lu_guards.proofs.Covers.{EntriesCovered}
-use Rattle.lu_guards.proofs.Guards.{In, Was, Took, Spoke, Newer, EvictedBy, NoticeOk, ReadyOk}
+use Rattle.lu_guards.proofs.Guards.{In, Was, Took}
+use Rattle.lu_guards.proofs.StoryGuards.{Spoke, Newer, EvictedBy, NoticeOk, ReadyOk}
 use Rattle.lu_guards.proofs.Lists.{turn, in_filter, life_is, or_neither}
 use Rattle.lu_guards.proofs.LifeLists.{life_stands, any_with, found_life, no_life, gone_not}
-use Rattle.lu_guards.proofs.TargetAlike.{Serving, serving_line, all_stay}
+use Rattle.lu_guards.proofs.TargetAlike.{Serving, serving_is, serving_line, all_stay}
 use Rattle.lu_guards.proofs.TargetGood.{Reaches}
 use Rattle.lu_guards.proofs.TargetPass.{High}
 use Rattle.lu_guards.proofs.TargetWindows.{admits_lead}
@@ -45,10 +45,16 @@ module _ (head : Head) (stamp : Stamp) (t : ℕ) where
       let ok : NoticeOk head story t who.client who v.boot = record { to = refl; of_boot = h.alike.boot ∙ sym h.story.first; cause = cause } in
       (((owes_nothing past at (evicted v who) settled, tt, ok), tt), serving_line head t story stamp (evicted v who) v tt ok h)
 
-  ready_lead : (past story : List Line) (v : Target) (who : Who) → Settled past → Serving head t v story → is_life who (lives_of head.clients story) ≡ true → Reaches head stamp t past story v (ready v who ∷ []) (Serving head t)
+  pub ready_lead : (past story : List Line) (v : Target) (who : Who) → Settled past → Serving head t v story → is_life who (lives_of head.clients story) ≡ true → Reaches head stamp t past story v (ready v who ∷ []) (Serving head t)
   ready_lead past story v who settled h has =
-      let ok : ReadyOk head story who.client who v.boot (record { 0 = v.committed }) = record { has = has; to = refl; of_boot = h.alike.boot ∙ sym h.story.first; of_committed = ap (λ (n : ℕ). record { 0 = n }) h.alike.committed } in
+      let ok : ReadyOk head story who.client who v.boot (record { 0 = v.committed }) = record { serves = serving_is head t v story h; has = has; to = refl; of_boot = h.alike.boot ∙ sym h.story.first; of_committed = ap (λ (n : ℕ). record { 0 = n }) h.alike.committed } in
       (((owes_nothing past at (ready v who) settled, tt, ok), tt), serving_line head t story stamp (ready v who) v tt ok h)
+
+  -- a message of an older boot: which boot it is
+  pub up_lead : (past story : List Line) (v : Target) (who : Who) → Settled past → Serving head t v story → Reaches head stamp t past story v (up v who ∷ []) (Serving head t)
+  up_lead past story v who settled h =
+      let ok : v.boot ≡ (server_of head.osts story).boot = h.alike.boot ∙ sym h.story.first in
+      (((owes_nothing past at (up v who) settled, tt, ok), tt), serving_line head t story stamp (up v who) v tt ok h)
 
   -- ---- the join
 
@@ -129,12 +135,13 @@ module _ (head : Head) (stamp : Stamp) (t : ℕ) where
         by true e high = let w = any_true (is_over who) gone (ap (list_any (is_over who)) (sym h.removed) ∙ e) in over_lead past story v who settled h (over_cause w.0 w.1 w.2)
         by false e high = by_old (life_in who.client v.lives) refl (ap (list_any (is_over who)) (sym h.removed) ∙ e) high
 
-    pub join_lead : EntriesCovered (row_heeds v at (message.Join who boot)) → High v (row_heeds v at (message.Join who boot)) → Leads (row_heeds v at (message.Join who boot))
-    join_lead covered high =
-        let same : row_heeds v at (message.Join who boot) ≡ row_join v at who = boots (nat_lt boot v.boot) (if nat_eq v.closed v.boot then row_join v at who else row_wish v at who) covered ∙ cond-true (nat_eq v.closed v.boot) (row_join v at who) (row_wish v at who) (eq-eqb v.closed v.boot (h.alike.closed ∙ sym h.alike.boot)) in
-        subst Leads (sym same) (join_row (subst (High v) same high))
+    pub join_lead : High v (row_heeds v at (message.Join who boot)) → Leads (row_heeds v at (message.Join who boot))
+    join_lead high = boots (nat_lt boot v.boot) (subst (λ (es : List Entry). High v (by_boot v who (nat_lt boot v.boot) es)) same high)
       where
-        -- one of an older boot would be told so
-        boots : (older : Bool) (rest : List Entry) → EntriesCovered (by_boot v who older rest) → by_boot v who older rest ≡ rest
-        boots true rest k = absurd k.0
-        boots false rest k = refl
+        same : (if nat_eq v.closed v.boot then row_join v at who else row_wish v at who) ≡ row_join v at who
+        same = cond-true (nat_eq v.closed v.boot) (row_join v at who) (row_wish v at who) (eq-eqb v.closed v.boot (h.alike.closed ∙ sym h.alike.boot))
+
+        -- one of an older boot is told so
+        boots : (older : Bool) → High v (by_boot v who older (row_join v at who)) → Leads (by_boot v who older (if nat_eq v.closed v.boot then row_join v at who else row_wish v at who))
+        boots true high = up_lead past story v who settled h
+        boots false high = subst Leads (sym same) (join_row high)

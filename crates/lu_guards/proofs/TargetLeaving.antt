@@ -21,14 +21,14 @@ use Rattle.lu_target_rows.specs.Leaving.{commits, evicted, evictions, all_releas
 use Rattle.lu_target_rows.specs.Lives.{is_life, with_lives, without_lives}
 use Rattle.lu_target_rows.specs.Locks.{without_lock}
 use Rattle.lu_target_rows.specs.States.{Target, after, follow, turn as turned}
-use Rattle.lu_target_rows.specs.Stored.{batch_of}
 use Rattle.lu_covered.specs.Heads.{Head}
 use Rattle.lu_covered.specs.TargetStates.{server_of, lives_of, evicted_of, shown_of}
-use Rattle.lu_guards.proofs.Guards.{In, InTurn, IsEvict, IsCommit, CalledBefore, EvictedBy, CommitOk}
+use Rattle.lu_guards.proofs.Guards.{In, InTurn, IsEvict, IsCommit}
+use Rattle.lu_guards.proofs.StoryGuards.{CalledBefore, EvictedBy, CommitOk, IsServing}
 use Rattle.lu_guards.proofs.Lists.{turn, in_filter, life_is}
 use Rattle.lu_guards.proofs.LifeLists.{Distinct, life_put, life_stays, all_without, all_released_is, left_without, others_stay, in_without}
 use Rattle.lu_guards.proofs.LockLists.{Rises, in_above, rises_filter}
-use Rattle.lu_guards.proofs.TargetAlike.{Serving, Window, window_commit, window_evict, window_release, window_send, gone_one}
+use Rattle.lu_guards.proofs.TargetAlike.{Serving, Window, serving_is, window_is, window_commit, window_evict, window_release, window_send, gone_one}
 use Rattle.lu_guards.proofs.TargetGood.{Reaches, reaches_more, story_turn}
 use Rattle.lu_guards.proofs.TargetStory.{all_logged}
 use Rattle.lu_guards.proofs.Turns.{Settled, owes_nothing}
@@ -55,9 +55,9 @@ last_in : (d : Deed) (deeds : List Deed) (n : ℕ) → (last : Deed) × In last 
 last_in d [] n = (d, inl refl, refl)
 last_in d (e ∷ deeds) n = let r = last_in e deeds d.reply.txn.0 in (r.0, inr r.1, r.2)
 
-pub commit_ok : (osts : ℕ) (past : List Line) (deeds : List Deed) (committed : ℕ) → ((d : Deed) → In d deeds → In d (server_of osts past).log) → committed ≡ (server_of osts past).committed.0 → CommitOk osts past (last_of deeds committed)
-commit_ok osts past [] committed logged is = record { is = inr is }
-commit_ok osts past (d ∷ deeds) committed logged is = let last = last_in d deeds committed in record { is = inl (last.0, logged last.0 last.1, last.2) }
+pub commit_ok : (osts : ℕ) (past : List Line) (deeds : List Deed) (committed : ℕ) → ((d : Deed) → In d deeds → In d (server_of osts past).log) → committed ≡ (server_of osts past).committed.0 → IsServing osts past → CommitOk osts past (last_of deeds committed)
+commit_ok osts past [] committed logged is serves = record { serves = serves; is = inr is }
+commit_ok osts past (d ∷ deeds) committed logged is serves = let last = last_in d deeds committed in record { serves = serves; is = inl (last.0, logged last.0 last.1, last.2) }
 
 -- ---- the releases of a life's locks
 
@@ -210,7 +210,7 @@ module _ (head : Head) (stamp : Stamp) (t : ℕ) (cause : Cause) (old : List Loc
           (
             owes_nothing past at (Release l) settled,
             (d.names, inr (subst (λ (p : List Line). InTurn (IsEvict l.ask.who) p at) is d.turned)),
-            inr (record { evicted = d.evicted; still = d.still; shown = d.shown }),
+            (window_is head t gone come v story h.window, inr (record { evicted = d.evicted; still = d.still; shown = d.shown })),
           ),
           more.0,
         ),
@@ -230,7 +230,7 @@ module _ (head : Head) (stamp : Stamp) (t : ℕ) (cause : Cause) (old : List Loc
           (
             owes_nothing past at (Evict who cause) settled,
             tt,
-            record { has = h.has who (inl refl); commits = h.commits; logged = h.logged; caused = h.caused who (inl refl) },
+            record { serves = window_is head t (who ∷ gone) come v story h.window; has = h.has who (inl refl); commits = h.commits; logged = h.logged; caused = h.caused who (inl refl) },
           ),
           (
             (
@@ -260,8 +260,9 @@ pub leave_start : (head : Head) (stamp : Stamp) (t : ℕ) (cause : Cause) (gone 
 leave_start head stamp t cause gone come K keeps story v h names has distinct caused carried =
     let at : At = turn stamp (node.Target t) in
     let e : Entry = commits v v.log gone come in
+    let logged : (d : Deed) → In d v.log → In d (server_of head.osts story).log = λ d i. subst (λ (log : List Deed). In d log) h.alike.log i in
     record {
-      window = window_commit head t story stamp (last_of v.log v.committed) (batch_of v.log gone come) v h;
+      window = window_commit head t story stamp v.log gone come v logged (commit_ok head.osts story v.log v.committed logged h.alike.committed (serving_is head t v story h)) h;
       shown = h.shown;
       due = λ l i. absurd i;
       rises = tt;

@@ -1,6 +1,6 @@
 -- The pass of the metadata target over the requests that wait makes lines that the guards allow: executions with the locks that they
 -- grant, each answered, and the calling back of locks.
-use Rattle.std.proofs.Common.{◌≡◌, ℕ, zero, suc, ◌+◌, ◌<◌, ◌≤◌, Bool, true, false, List, [], ◌∷◌, ◌++◌, Some, ◌⊎◌, inl, inr, refl, sym, subst, ap, ◌∙◌, arith}
+use Rattle.std.proofs.Common.{◌≡◌, ℕ, zero, suc, ◌+◌, ◌*◌, ◌<◌, ◌≤◌, Bool, true, false, List, [], ◌∷◌, ◌++◌, Some, ◌⊎◌, inl, inr, refl, sym, subst, ap, ◌∙◌, arith}
 use Rattle.std.specs.Prelude.{◌||◌, not, if◌then◌else◌, length}
 use Rattle.std.specs.List.{list_any}
 use Rattle.std.proofs.lemmas.Bool.{cond_both, cond-true}
@@ -28,10 +28,11 @@ use Rattle.lu_covered.specs.Deeds.{asked, deed, locks_of, written_by, again}
 use Rattle.lu_covered.specs.Heads.{Head}
 use Rattle.lu_covered.specs.TargetParts.{is_request_of, is_slot_of as is_slot, answered}
 use Rattle.lu_covered.specs.TargetStates.{Server, none, next_number, server_of, slot_of}
-use Rattle.lu_guards.proofs.Guards.{In, Did, Shows, AllShown, Taken, Owes, GrantOk}
+use Rattle.lu_guards.proofs.Guards.{In, Did, Shows, AllShown, Taken, Owes}
+use Rattle.lu_guards.proofs.StoryGuards.{GrantOk, IsServing}
 use Rattle.lu_guards.proofs.Lists.{turn, in_filter}
 use Rattle.lu_guards.proofs.LockLists.{Rises, in_above, rises_filter, granted_stands, stands_same, greatest_same, called_beside, called_now, filter_twice}
-use Rattle.lu_guards.proofs.TargetAlike.{Alike, Serving, AllPlain}
+use Rattle.lu_guards.proofs.TargetAlike.{Alike, Serving, AllPlain, serving_is}
 use Rattle.lu_guards.proofs.TargetGood.{GoodAt, Reaches, serves_lines, reaches_more, turned_more}
 use Rattle.lu_guards.proofs.TargetSlots.{is_slot_self}
 use Rattle.lu_guards.proofs.Turns.{Settled, owes_nothing}
@@ -114,9 +115,9 @@ module _ (head : Head) (stamp : Stamp) where
 
   -- ---- what was done is answered
 
-  reply_good : (past : List Line) (d : Deed) → Owes past here (replies d) → Did past d → NotTaken past → AllShown past → (slot_of d.reply.who d.tag (only 0 past)).reply ≡ Some d.reply → d.reply ≡ again (server past) d.reply
+  reply_good : (past : List Line) (d : Deed) → IsServing head.osts (only 0 past) → Owes past here (replies d) → Did past d → NotTaken past → AllShown past → (slot_of d.reply.who d.tag (only 0 past)).reply ≡ Some d.reply → d.reply ≡ again (server past) d.reply
       → Good past (replies d ∷ [])
-  reply_good past d owes did new shown slot is = (
+  reply_good past d serves owes did new shown slot is = (
     (
       owes,
       (
@@ -125,7 +126,7 @@ module _ (head : Head) (stamp : Stamp) where
         (λ taken. absurd (not_taken past new taken)),
         shown,
       ),
-      record { who = d.reply.who; tag = d.tag; kept = d.reply; slot = slot; is = is; to = refl },
+      record { serves = serves; who = d.reply.who; tag = d.tag; kept = d.reply; slot = slot; is = is; to = refl },
     ),
     tt,
   )
@@ -133,14 +134,14 @@ module _ (head : Head) (stamp : Stamp) where
   slot_answered : (d : Deed) (slot : Slot) → (if is_slot d.reply.who d.tag d.reply.who d.tag then answered d slot else slot).reply ≡ Some d.reply
   slot_answered d slot = ap (λ (x : Slot). x.reply) (cond-true (is_slot d.reply.who d.tag d.reply.who d.tag) (answered d slot) slot (is_slot_self d.reply.who d.tag))
 
-  transacts_good : (past : List Line) (r : RequestOf) → Settled past → In r (server past).waiting → changes head.osts (server past).tree (asked r none) ≡ true
+  transacts_good : (past : List Line) (r : RequestOf) → IsServing head.osts (only 0 past) → Settled past → In r (server past).waiting → changes head.osts (server past).tree (asked r none) ≡ true
       → is_free (in_way (server past).granted (written_by head.osts (server past) r)) ≡ true → (server past).count < 4294967295
       → Good past (row_transacts (deed head.osts (server past) here r (next_number (server past)) []))
-  transacts_good past r settled waits moves free numbers =
+  transacts_good past r serves settled waits moves free numbers =
       let s = server past in
       let d = deed head.osts s here r (next_number s) [] in (
-        (owes_nothing past here (Txn d) settled, refl, record { numbers = numbers; request = r; waits = waits; moves = moves; free = free; is = refl }),
-        reply_good (line here (Txn d) ∷ past) d (refl, refl) refl tt
+        (owes_nothing past here (Txn d) settled, refl, record { serves = serves; numbers = numbers; request = r; waits = waits; moves = moves; free = free; is = refl }),
+        reply_good (line here (Txn d) ∷ past) d serves (refl, refl) refl tt
             (λ e did lock i. absurd (subst (λ (x : Deed). In lock x.reply.locks) (sym did) i))
             (slot_answered d (slot_of r.who r.tag (only 0 past)))
             refl,
@@ -189,16 +190,20 @@ module _ (head : Head) (stamp : Stamp) where
     shown_slot [] past slot = slot
     shown_slot (l ∷ locks) past slot = shown_slot locks (line here (Grant l (Some d)) ∷ past) slot
 
+    shown_serves : (locks : List Lock) (past : List Line) → IsServing head.osts (only 0 past) → IsServing head.osts (only 0 (with_turn here (grant_lines d locks) past))
+    shown_serves [] past serves = serves
+    shown_serves (l ∷ locks) past serves = shown_serves locks (line here (Grant l (Some d)) ∷ past) serves
+
     shown_again : (locks : List Lock) (past : List Line) → d.reply ≡ again (server past) d.reply → d.reply ≡ again (server (with_turn here (grant_lines d locks) past)) d.reply
     shown_again [] past is = is
     shown_again (l ∷ locks) past is = shown_again locks (line here (Grant l (Some d)) ∷ past) is
 
-  acts_good : (past : List Line) (r : RequestOf) → Settled past → In r (server past).waiting → changes head.osts (server past).tree (asked r none) ≡ false
+  acts_good : (past : List Line) (r : RequestOf) → IsServing head.osts (only 0 past) → Settled past → In r (server past).waiting → changes head.osts (server past).tree (asked r none) ≡ false
       → Good past (row_acts (deed head.osts (server past) here r none (locks_of head.osts (server past) r)))
-  acts_good past r settled waits still = (
-    (owes_nothing past here (Act d) settled, refl, record { request = r; waits = waits; still = still; is = refl }),
+  acts_good past r serves settled waits still = (
+    (owes_nothing past here (Act d) settled, refl, record { serves = serves; request = r; waits = waits; still = still; is = refl }),
     grants_good d d.reply.locks done (replies d ∷ []) refl (λ l. refl) grant_ok (
-        reply_good (with_turn here (grant_lines d d.reply.locks) done) d
+        reply_good (with_turn here (grant_lines d d.reply.locks) done) d (shown_serves d d.reply.locks done serves)
         (shown_owes d (replies d) d.reply.locks done (refl, refl))
         (shown_did d d.reply.locks done refl)
         (shown_new d d.reply.locks done tt)
@@ -246,31 +251,32 @@ module _ (head : Head) (stamp : Stamp) where
       by : (b : Bool) → does_change v r ≡ b → Good past (row_executes v here r b)
       by true e =
           subst (λ (es : List Entry). Good past es) (sym (transacts_same head.osts 0 v s a here r)) (
-          transacts_good past r settled in_waiting (sym (change_same head.osts 0 v s a r) ∙ e)
+          transacts_good past r (serving_is head 0 v (only 0 past) h) settled in_waiting (sym (change_same head.osts 0 v s a r) ∙ e)
           (subst (λ (ls : List Lock). is_free ls ≡ true) (way_same head.osts 0 v s a r) (ready_free v stood r ready e))
           (let low = numbers e in let is = a.number in omega (arith, low, is))
           )
       by false e =
           subst (λ (es : List Entry). Good past es) (sym (acts_same head.osts 0 v s a here r)) (
-          acts_good past r settled in_waiting (sym (change_same head.osts 0 v s a r) ∙ e)
+          acts_good past r (serving_is head 0 v (only 0 past) h) settled in_waiting (sym (change_same head.osts 0 v s a r) ∙ e)
           )
 
   -- ---- locks are called back
 
   -- of the state that the row reads, while some of them are called back already
-  blocks_good : (v : Target) (r : RequestOf) (locks : List Lock) (past : List Line) → Settled past → v.boot ≡ (server past).boot → Rises locks
+  blocks_good : (v : Target) (r : RequestOf) (locks : List Lock) (past : List Line) → IsServing head.osts (only 0 past) → Settled past → v.boot ≡ (server past).boot → Rises locks
       → ((l : Lock) → In l locks → In l (server past).granted) → ((l : Lock) → In l locks → is_called l.cookie v.called ≡ is_called l.cookie (server past).called)
       → In r (server past).waiting → is_read r.op ≡ false → ((l : Lock) → In l locks → list_any (guards_part l) (written_by head.osts (server past) r) ≡ true)
       → Good past (blocks v locks)
-  blocks_good v r [] past settled boot rises granted same waits modifies for_it = settled
-  blocks_good v r (l ∷ locks) past settled boot rises granted same waits modifies for_it =
+  blocks_good v r [] past serves settled boot rises granted same waits modifies for_it = settled
+  blocks_good v r (l ∷ locks) past serves settled boot rises granted same waits modifies for_it =
       cond_both (is_called l.cookie v.called) (blocks v locks) (Block c ∷ block_of v l ∷ blocks v locks) (λ (es : List Entry). Good past es)
-      (λ e. blocks_good v r locks past settled boot rises.1 (λ k i. granted k (inr i)) (λ k i. same k (inr i)) waits modifies (λ k i. for_it k (inr i)))
+      (λ e. blocks_good v r locks past serves settled boot rises.1 (λ k i. granted k (inr i)) (λ k i. same k (inr i)) waits modifies (λ k i. for_it k (inr i)))
       (λ e. (
         (
           owes_nothing past here (Block c) settled,
           refl,
           record {
+            serves = serves;
             lock = l;
             granted = granted l (inl refl);
             of_cookie = refl;
@@ -287,6 +293,7 @@ module _ (head : Head) (stamp : Stamp) where
             tt,
             refl,
             record {
+              serves = serves;
               lock = l;
               granted = granted l (inl refl);
               of_life = refl;
@@ -296,7 +303,7 @@ module _ (head : Head) (stamp : Stamp) where
               called = called_now l.cookie (server past).called c refl;
             },
           ),
-          blocks_good v r locks (line here (block_of v l) ∷ line here (Block c) ∷ past) tt boot rises.1 (λ k i. granted k (inr i))
+          blocks_good v r locks (line here (block_of v l) ∷ line here (Block c) ∷ past) serves tt boot rises.1 (λ k i. granted k (inr i))
               (λ k i. same k (inr i) ∙ sym (called_beside k.cookie (server past).called c (in_above l.cookie.0 locks k rises.0 i)))
               waits modifies (λ k i. for_it k (inr i)),
         ),
@@ -310,7 +317,7 @@ module _ (head : Head) (stamp : Stamp) where
       cond_both (is_read r.op) [] (blocks v (in_way v.granted (rows.written_by v r))) (λ (es : List Entry). Good past es)
       (λ e. settled)
       (λ e.
-      blocks_good v r (in_way v.granted (rows.written_by v r)) past settled (a.boot ∙ sym a.first) (rises_filter way v.granted (subst Rises (sym a.granted) a.rises))
+      blocks_good v r (in_way v.granted (rows.written_by v r)) past (serving_is head 0 v (only 0 past) h) settled (a.boot ∙ sym a.first) (rises_filter way v.granted (subst Rises (sym a.granted) a.rises))
       (λ l i. subst (λ (ls : List Lock). In l ls) a.granted (in_filter way l v.granted i).0)
       (λ l i. ap (is_called l.cookie) a.called)
       (subst (λ (rs : List RequestOf). In r rs) a.queue waits)
@@ -323,13 +330,13 @@ module _ (head : Head) (stamp : Stamp) where
       way : Lock → Bool
       way l = list_any (guards_part l) (rows.written_by v r)
 
--- ---- what the lines of a pass leave: the list of requests while locks are called back, and numbers
+-- ---- what the lines of a pass leave: the list of requests while locks are called back, numbers, and the boot
 
 abbrev Leaves : Target → Target → Type 0
-Leaves v w = (w.queue ≡ v.queue) × (w.number ≡ v.number)
+Leaves v w = (w.queue ≡ v.queue) × (w.number ≡ v.number) × (w.boot ≡ v.boot)
 
 blocks_leave : (v : Target) (locks : List Lock) (w : Target) → Leaves w (turned w (blocks v locks))
-blocks_leave v [] w = (refl, refl)
+blocks_leave v [] w = (refl, refl, refl)
 blocks_leave v (l ∷ locks) w =
     cond_both (is_called l.cookie v.called) (blocks v locks) (Block (called v l) ∷ block_of v l ∷ blocks v locks) (λ (es : List Entry). Leaves w (turned w es))
     (λ e. blocks_leave v locks w)
@@ -337,48 +344,59 @@ blocks_leave v (l ∷ locks) w =
 
 waits_leave : (v : Target) (r : RequestOf) → Leaves v (turned v (row_waits v r))
 waits_leave v r =
-    cond_both (is_read r.op) [] (blocks v (in_way v.granted (rows.written_by v r))) (λ (es : List Entry). Leaves v (turned v es)) (λ e. (refl, refl)) (λ e. blocks_leave v (in_way v.granted (rows.written_by v r)) v)
+    cond_both (is_read r.op) [] (blocks v (in_way v.granted (rows.written_by v r))) (λ (es : List Entry). Leaves v (turned v es)) (λ e. (refl, refl, refl)) (λ e. blocks_leave v (in_way v.granted (rows.written_by v r)) v)
 
-grants_number : (d : Deed) (locks : List Lock) (v : Target) → (turned v (grant_lines d locks)).number ≡ v.number
-grants_number d [] v = refl
+grants_number : (d : Deed) (locks : List Lock) (v : Target) → ((turned v (grant_lines d locks)).number ≡ v.number) × ((turned v (grant_lines d locks)).boot ≡ v.boot)
+grants_number d [] v = (refl, refl)
 grants_number d (l ∷ locks) v = grants_number d locks (after v (Grant l (Some d)))
 
-executes_number : (at : At) (v : Target) (r : RequestOf) (b : Bool) → (turned v (row_executes v at r b)).number ≡ (if b then v.number + 1 else v.number)
-executes_number at v r true = refl
+executes_number : (at : At) (v : Target) (r : RequestOf) (b : Bool) → ((turned v (row_executes v at r b)).number ≡ (if b then v.number + 1 else v.number)) × ((turned v (row_executes v at r b)).boot ≡ v.boot)
+executes_number at v r true = (refl, refl)
 executes_number at v r false =
     let d = names_deed v at r none (rows.locks_for v r) in
-    ap (λ (w : Target). w.number) (turned_more (grant_lines d d.reply.locks) (replies d ∷ []) (after v (Act d))) ∙ grants_number d d.reply.locks (after v (Act d))
+    let more = turned_more (grant_lines d d.reply.locks) (replies d ∷ []) (after v (Act d)) in
+    let left = grants_number d d.reply.locks (after v (Act d)) in (
+      ap (λ (w : Target). w.number) more ∙ left.0,
+      ap (λ (w : Target). w.boot) more ∙ left.1,
+    )
+
+abbrev Raised : Target → Target → Type 0
+Raised v w = (v.number ≤ w.number) × (w.boot ≡ v.boot)
 
 abbrev Raises : (Target → List Entry) → Type 0
-Raises next = (w : Target) → w.number ≤ (turned w (next w)).number
+Raises next = (w : Target) → Raised w (turned w (next w))
 
-follow_raises : (v : Target) (es : List Entry) (next : Target → List Entry) → v.number ≤ (turned v es).number → (turned v es).number ≤ (turned (turned v es) (next (turned v es))).number → v.number ≤ (turned v (follow v es next)).number
+follow_raises : (v : Target) (es : List Entry) (next : Target → List Entry) → Raised v (turned v es) → Raised (turned v es) (turned (turned v es) (next (turned v es))) → Raised v (turned v (follow v es next))
 follow_raises v es next one two =
-    subst (λ (w : Target). v.number ≤ w.number) (sym (turned_more es (next (turned v es)) v)) (omega (arith, one, two))
+    subst (Raised v) (sym (turned_more es (next (turned v es)) v)) (let a = one.0 in let b = two.0 in (omega (arith, a, b), two.1 ∙ one.1))
 
-pass_raises : (again : Target → List Entry) → Raises again → (at : At) (queue : List RequestOf) (v : Target) (stood : Bool) → v.number ≤ (turned v (row_pass again v at stood queue)).number
-pass_raises again raises at [] v stood = omega arith
+pass_raises : (again : Target → List Entry) → Raises again → (at : At) (queue : List RequestOf) (v : Target) (stood : Bool) → Raised v (turned v (row_pass again v at stood queue))
+pass_raises again raises at [] v stood = (omega arith, refl)
 pass_raises again raises at (r ∷ queue) v stood =
     let es = row_executes v at r (does_change v r) in
     let bs = row_waits v r in
     let next = λ (w : Target). row_pass again w at (stood || not (is_read r.op)) queue in
-    cond_both (is_ready v stood r) (follow v es again) (follow v bs next) (λ (fs : List Entry). v.number ≤ (turned v fs).number)
+    cond_both (is_ready v stood r) (follow v es again) (follow v bs next) (λ (fs : List Entry). Raised v (turned v fs))
     (λ e. follow_raises v es again (executed (does_change v r)) (raises (turned v es)))
-    (λ e. follow_raises v bs next (let same = (waits_leave v r).1 in omega (arith, same)) (pass_raises again raises at queue (turned v bs) (stood || not (is_read r.op))))
+    (λ e. follow_raises v bs next (let same = (waits_leave v r).1 in (omega (arith, same), (waits_leave v r).2)) (pass_raises again raises at queue (turned v bs) (stood || not (is_read r.op))))
   where
-    executed : (b : Bool) → v.number ≤ (turned v (row_executes v at r b)).number
-    executed true = let is = executes_number at v r true in omega (arith, is)
-    executed false = let is = executes_number at v r false in omega (arith, is)
+    executed : (b : Bool) → Raised v (turned v (row_executes v at r b))
+    executed true = let is = (executes_number at v r true).0 in (omega (arith, is), (executes_number at v r true).1)
+    executed false = let is = (executes_number at v r false).0 in (omega (arith, is), (executes_number at v r false).1)
 
 sweep_raises : (more : ℕ) (at : At) → Raises (row_sweep more at)
-sweep_raises zero at w = omega arith
+sweep_raises zero at w = (omega arith, refl)
 sweep_raises (suc more) at w = pass_raises (row_sweep more at) (sweep_raises more at) at w.queue w false
 
 -- ---- the pass, and the sweep
 
--- a turn's numbers aren't used up
+-- a boot's numbers aren't used up
+abbrev pub HighAt : Target → Type 0
+HighAt v = v.number ≤ v.boot * 4294967296 + 4294967295
+
+-- by a turn
 abbrev pub High : Target → List Entry → Type 0
-High v es = (turned v es).number ≤ 8589934591
+High v es = HighAt (turned v es)
 
 -- none of these lines is a commit, or of a life that leaves or comes
 plain_grants : (d : Deed) (locks : List Lock) (more : List Entry) → AllPlain more → AllPlain (grant_lines d locks ++ more)
@@ -438,6 +456,9 @@ module _ (head : Head) (stamp : Stamp) where
       waiting : In r v.queue
       waiting = sub r (inl refl)
 
+      first : v.boot ≡ 1
+      first = h.alike.boot
+
       More : Type 0
       More = (w : Target) (p q : List Line) → q ≡ only 0 p → Settled p → Serving head 0 w q → ((x : RequestOf) → In x queue → In x w.queue) → High w (next w) → Leads p q w (next w)
 
@@ -446,16 +467,19 @@ module _ (head : Head) (stamp : Stamp) where
       low high e =
           let one : (turned v es).number ≡ v.number + 1 = ap (λ (b : Bool). (turned v (row_executes v at r b)).number) e in
           let two = raises (turned v es) in
-          omega (arith, high, one, two)
+          let up = two.0 in
+          let boot : (turned (turned v es) (again (turned v es))).boot ≡ 1 = two.1 ∙ (executes_number at v r (does_change v r)).1 ∙ first in
+          let top : (turned (turned v es) (again (turned v es))).number ≤ 1 * 4294967296 + 4294967295 = subst (λ (n : ℕ). (turned (turned v es) (again (turned v es))).number ≤ n * 4294967296 + 4294967295) boot high in
+          omega (arith, top, one, up)
 
       by : (b : Bool) → is_ready v stood r ≡ b → High v (if b then follow v es again else follow v bs next) → More → Leads past story v (if b then follow v es again else follow v bs next)
       by true ready high more =
-          let rest : High (turned v es) (again (turned v es)) = subst (λ (w : Target). w.number ≤ 8589934591) (turned_more es (again (turned v es)) v) high in
+          let rest : High (turned v es) (again (turned v es)) = subst HighAt (turned_more es (again (turned v es)) v) high in
           reaches_more head stamp 0 (Serving head 0) (Serving head 0) es again past story v is
           (executes_leads past story v r stood is settled h waiting ready (low rest))
           (λ e s k. goes (with_turn at es past) (with_turn at es story) (turned v es) e s k rest)
       by false ready high more =
-          let rest : High (turned v bs) (next (turned v bs)) = subst (λ (w : Target). w.number ≤ 8589934591) (turned_more bs (next (turned v bs)) v) high in
+          let rest : High (turned v bs) (next (turned v bs)) = subst HighAt (turned_more bs (next (turned v bs)) v) high in
           let leaves = waits_leave v r in
           reaches_more head stamp 0 (Serving head 0) (Serving head 0) bs next past story v is
           (waits_leads past story v r is settled h waiting)

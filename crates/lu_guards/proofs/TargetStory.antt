@@ -1,9 +1,10 @@
--- What holds in the story of one target after every line that the guards allow: what is granted, called back and waits is of lives
--- that have a slot, one of each client, none of which was evicted; and the log stands in rising number.
-use Rattle.std.proofs.Common.{◌≡◌, ℕ, ◌+◌, ◌≤◌, Bool, true, false, List, [], ◌∷◌, ◌++◌, Some, None, ◌⊎◌, inl, inr, ⊎_elim, refl, sym, subst, ap, ◌∙◌, arith}
+-- What holds in the story of one target after every line that the guards allow, until it is booted again: what is granted, called back
+-- and waits is of lives that have a slot, one of each client, none of which was evicted; and the log stands in rising number, all of it
+-- above what is committed.
+use Rattle.std.proofs.Common.{◌≡◌, ℕ, ◌+◌, ◌<◌, ◌≤◌, Bool, true, false, List, [], ◌∷◌, ◌++◌, Some, None, ◌⊎◌, inl, inr, ⊎_elim, refl, sym, subst, ap, ◌∙◌, arith}
 use Rattle.std.specs.Prelude.{nat_eq, nat_lt, ◌||◌, not, if◌then◌else◌}
 use Rattle.std.specs.List.{filter, list_any}
-use Rattle.std.proofs.lemmas.Bool.{cond_both, cond-false}
+use Rattle.std.proofs.lemmas.Bool.{cond_both, cond-false, ltb-true}
 use Rattle.std.proofs.lemmas.Bool.Decides.{nat_tests}
 use Rattle.lu_base.specs.declared.ids.Node.TheVariants as node
 use Rattle.lu_base.specs.declared.ids.Stamp.{Stamp}
@@ -16,7 +17,7 @@ use Rattle.lu_msg.specs.declared.messages.Request.{Request as RequestOf}
 use Rattle.lu_part.specs.declared.parts.Want.{Want}
 use Rattle.lu_machine.specs.Footprint.{grants}
 use Rattle.lu_words.specs.Carried.{Deed, Called}
-use Rattle.lu_words.specs.Words.{Entry, Send, Take, Tick, Skip, Act, Txn, Grant, Block, Release, Commit, Enters, Evict, Joined, Line, line, same_life}
+use Rattle.lu_words.specs.Words.{Entry, Send, Take, Tick, Skip, Act, Txn, Grant, Block, Release, Commit, Crash, Boot, Back, Enters, Evict, Joined, Stores, Brings, Says, Wishes, Line, line, same_life}
 use Rattle.lu_target_rows.specs.Leaving.{is_over, last_of, life_of as life_in}
 use Rattle.lu_target_rows.specs.Lives.{is_life, with_life, without_lives}
 use Rattle.lu_target_rows.specs.Locks.{with_lock, with_locks}
@@ -25,7 +26,8 @@ use Rattle.lu_covered.specs.Deeds.{asked}
 use Rattle.lu_covered.specs.Heads.{Head}
 use Rattle.lu_covered.specs.TargetParts.{is_request_of}
 use Rattle.lu_covered.specs.TargetStates.{Server, none, next_number, server_of, lives_of, evicted_of}
-use Rattle.lu_guards.proofs.Guards.{In, EntryOf}
+use Rattle.lu_guards.proofs.Guards.{In}
+use Rattle.lu_guards.proofs.StoryGuards.{EntryOf, CommitOk}
 use Rattle.lu_guards.proofs.Lists.{turn, in_append, in_filter, life_is, or_neither, same_who}
 use Rattle.lu_guards.proofs.LifeLists.{stands_life, any_with, over_itself, not_same, life_put_more, life_put_or, life_stays, life_left, gone_not, from_first, none_is}
 use Rattle.lu_guards.proofs.LockLists.{Rises, rises_all, rises_filter}
@@ -44,6 +46,16 @@ logged_less low from (d ∷ log) high le g = (let more = g.0 in omega (arith, le
 logged_append : (low : ℕ) (log : List Deed) (high next : ℕ) (d : Deed) → Logged low log high → high ≤ d.reply.txn.0 → d.reply.txn.0 ≤ next → Logged low (log ++ d ∷ []) next
 logged_append low [] high next d g le top = (omega (arith, g, le), top)
 logged_append low (e ∷ log) high next d g le top = (g.0, logged_append e.reply.txn.0 log high next d g.1 le top)
+
+logged_top : (low : ℕ) (log : List Deed) (high : ℕ) → Logged low log high → low ≤ high
+logged_top low [] high g = g
+logged_top low (d ∷ log) high g = let one = g.0 in let two = logged_top d.reply.txn.0 log high g.1 in omega (arith, one, two)
+
+-- none of it is above the upper one
+logged_under : (low : ℕ) (log : List Deed) (high : ℕ) (d : Deed) → Logged low log high → In d log → d.reply.txn.0 ≤ high
+logged_under low [] high d g i = absurd i
+logged_under low (e ∷ log) high d g (inl q) = let top = logged_top e.reply.txn.0 log high g.1 in let same : e.reply.txn.0 ≡ d.reply.txn.0 = ap (λ (x : Deed). x.reply.txn.0) q in omega (arith, top, same)
+logged_under low (e ∷ log) high d g (inr i) = logged_under e.reply.txn.0 log high d g.1 i
 
 logged_filter : (f : Deed → Bool) (low : ℕ) (log : List Deed) (high : ℕ) → Logged low log high → Logged low (filter f log) high
 logged_filter f low [] high g = g
@@ -127,6 +139,8 @@ pub record Story (head : Head) (past : List Line) : Type 0 where
   pub calls : Belongs (λ (c : Called). c.who) (server_of head.osts past).called (lives_of head.clients past)
   pub single : (a b : Who) → is_life a (lives_of head.clients past) ≡ true → is_life b (lives_of head.clients past) ≡ true → a.client ≡ b.client → a ≡ b
   pub apart : (w : Who) → is_life w (lives_of head.clients past) ≡ true → is_life w (evicted_of past) ≡ false
+  pub above : (d : Deed) → In d (server_of head.osts past).log → (server_of head.osts past).committed.0 < d.reply.txn.0
+  pub under : (server_of head.osts past).committed.0 ≤ 4294967296 + (server_of head.osts past).count
 
 pub story_start : (head : Head) → Story head []
 story_start head =
@@ -139,6 +153,8 @@ story_start head =
       calls = λ x i. absurd i;
       single = λ a b p q e. same_who a b e (first_life a p ∙ sym (first_life b q));
       apart = λ w p. refl;
+      above = λ d i. absurd i;
+      under = omega arith;
     }
   where
     first_life : (a : Who) → is_life a (lives_of head.clients []) ≡ true → a.life ≡ 1
@@ -147,7 +163,7 @@ story_start head =
 -- a client's line changes nothing of it
 pub story_client : (head : Head) (past : List Line) (stamp : Stamp) (c : ℕ) (e : Entry) → Story head past → Story head (line (turn stamp (node.Client c)) e ∷ past)
 story_client head past stamp c e h =
-    record { first = h.first; rises = h.rises; logged = h.logged; waits = h.waits; holds = h.holds; calls = h.calls; single = h.single; apart = h.apart }
+    record { first = h.first; rises = h.rises; logged = h.logged; waits = h.waits; holds = h.holds; calls = h.calls; single = h.single; apart = h.apart; above = h.above; under = h.under }
 
 -- ---- a line of the target
 
@@ -175,6 +191,8 @@ module _ (head : Head) (t : ℕ) (past : List Line) (stamp : Stamp) (h : Story h
         calls = h.calls;
         single = h.single;
         apart = h.apart;
+        above = h.above;
+        under = h.under;
       }
 
   story_act : (d : Deed) (r : RequestOf) (cookie : ℕ) (wants : List Want) → In r s.waiting → d.reply.locks ≡ locks_from cookie r.who wants → Next (Act d)
@@ -188,6 +206,8 @@ module _ (head : Head) (t : ℕ) (past : List Line) (stamp : Stamp) (h : Story h
         calls = h.calls;
         single = h.single;
         apart = h.apart;
+        above = h.above;
+        under = h.under;
       }
     where
       new : (l : Lock) → In l (locks_from cookie r.who wants) → is_life l.ask.who lives ≡ true
@@ -195,7 +215,6 @@ module _ (head : Head) (t : ℕ) (past : List Line) (stamp : Stamp) (h : Story h
 
   story_txn : (d : Deed) → d.reply.txn ≡ next_number s → Next (Txn d)
   story_txn d number =
-      let is : d.reply.txn.0 ≡ 4294967296 + (s.count + 1) = ap (λ (n : TxnOf). n.0) number ∙ rw h.first (omega arith) in
       record {
         first = h.first;
         rises = h.rises;
@@ -205,7 +224,16 @@ module _ (head : Head) (t : ℕ) (past : List Line) (stamp : Stamp) (h : Story h
         calls = h.calls;
         single = h.single;
         apart = h.apart;
+        above = λ x i. ⊎_elim (λ (j : In x s.log). h.above x j) (λ (j : In x (d ∷ [])). new x j) (in_append x s.log (d ∷ []) i);
+        under = let le = h.under in omega (arith, le);
       }
+    where
+      is : d.reply.txn.0 ≡ 4294967296 + (s.count + 1)
+      is = ap (λ (n : TxnOf). n.0) number ∙ rw h.first (omega arith)
+
+      new : (x : Deed) → In x (d ∷ []) → s.committed.0 < x.reply.txn.0
+      new x (inl e) = let same : d.reply.txn.0 ≡ x.reply.txn.0 = ap (λ (y : Deed). y.reply.txn.0) e in let own = is in let le = h.under in omega (arith, same, own, le)
+      new x (inr j) = absurd j
 
   story_block : (called : Called) (lock : Lock) → In lock s.granted → called.who ≡ lock.ask.who → Next (Block called)
   story_block called lock granted own =
@@ -218,6 +246,8 @@ module _ (head : Head) (t : ℕ) (past : List Line) (stamp : Stamp) (h : Story h
         calls = belongs_one (λ (x : Called). x.who) s.called called lives h.calls (subst (λ (w : Who). is_life w lives ≡ true) (sym own) (h.holds lock granted));
         single = h.single;
         apart = h.apart;
+        above = h.above;
+        under = h.under;
       }
 
   pub story_release : (lock : Lock) → Next (Release lock)
@@ -231,10 +261,12 @@ module _ (head : Head) (t : ℕ) (past : List Line) (stamp : Stamp) (h : Story h
         calls = belongs_filter (λ (x : Called). x.who) (λ (k : Called). not (nat_eq k.cookie.0 lock.cookie.0)) s.called lives h.calls;
         single = h.single;
         apart = h.apart;
+        above = h.above;
+        under = h.under;
       }
 
-  pub story_commit : (to : ℕ) (batch : Batch) → Next (Commit to batch)
-  story_commit to batch =
+  pub story_commit : (to : ℕ) (batch : Batch) → CommitOk head.osts past to → Next (Commit to batch)
+  story_commit to batch ok =
       record {
         first = h.first;
         rises = h.rises;
@@ -244,6 +276,8 @@ module _ (head : Head) (t : ℕ) (past : List Line) (stamp : Stamp) (h : Story h
         calls = h.calls;
         single = h.single;
         apart = h.apart;
+        above = λ d i. ltb-true to d.reply.txn.0 (in_filter (λ (x : Deed). nat_lt to x.reply.txn.0) d s.log i).1;
+        under = ⊎_elim (λ (k : (d : Deed) × In d s.log × (to ≡ d.reply.txn.0)). let top = logged_under 0 s.log (4294967296 + s.count) k.0 h.logged k.1 in let is = k.2 in omega (arith, top, is)) (λ (e : to ≡ s.committed.0). let le = h.under in omega (arith, le, e)) ok.is;
       }
 
   pub story_evict : (w : Who) (cause : Cause) → Next (Evict w cause)
@@ -257,6 +291,8 @@ module _ (head : Head) (t : ℕ) (past : List Line) (stamp : Stamp) (h : Story h
         calls = belongs_evict (λ (x : Called). x.who) s.called w lives h.calls;
         single = λ a b p q e. h.single a b (life_left a w lives p).0 (life_left b w lives q).0 e;
         apart = λ x p. let k = life_left x w lives p in any_with (same_life x) w evicted ∙ or_neither (same_life x w) (is_life x evicted) (not_same x w k.1) (h.apart x k.0);
+        above = h.above;
+        under = h.under;
       }
 
   story_joined : (w : Who) → life_in w.client lives ≡ None → list_any (is_over w) evicted ≡ false → Next (Joined w)
@@ -270,6 +306,8 @@ module _ (head : Head) (t : ℕ) (past : List Line) (stamp : Stamp) (h : Story h
         calls = belongs_join (λ (x : Called). x.who) s.called w lives h.calls;
         single = λ a b p q e. one a b (same_life a w) (same_life b w) refl refl (life_put_or a w lives p) (life_put_or b w lives q) e;
         apart = λ x p. out x (same_life x w) refl (life_put_or x w lives p);
+        above = h.above;
+        under = h.under;
       }
     where
       one : (a b : Who) (m n : Bool) → same_life a w ≡ m → same_life b w ≡ n → (m || is_life a lives) ≡ true → (n || is_life b lives) ≡ true → a.client ≡ b.client → a ≡ b
@@ -288,20 +326,32 @@ module _ (head : Head) (t : ℕ) (past : List Line) (stamp : Stamp) (h : Story h
       out x true e p = subst (λ (u : Who). is_life u evicted ≡ false) (sym (life_is x w e)) (own (is_life w evicted) refl)
       out x false e p = h.apart x p
 
-pub story_line : (head : Head) (t : ℕ) (past : List Line) (stamp : Stamp) (e : Entry) → EntryOf head past (turn stamp (node.Target t)) (node.Target t) e → Story head past → Story head (line (turn stamp (node.Target t)) e ∷ past)
-story_line head t past stamp (Send to m) ok h = record { first = h.first; rises = h.rises; logged = h.logged; waits = h.waits; holds = h.holds; calls = h.calls; single = h.single; apart = h.apart }
-story_line head t past stamp (Take n from m) ok h = record { first = h.first; rises = h.rises; logged = h.logged; waits = h.waits; holds = h.holds; calls = h.calls; single = h.single; apart = h.apart }
-story_line head t past stamp Tick ok h = record { first = h.first; rises = h.rises; logged = h.logged; waits = h.waits; holds = h.holds; calls = h.calls; single = h.single; apart = h.apart }
-story_line head t past stamp Skip ok h = record { first = h.first; rises = h.rises; logged = h.logged; waits = h.waits; holds = h.holds; calls = h.calls; single = h.single; apart = h.apart }
-story_line head t past stamp (Grant lock (Some d)) ok h = record { first = h.first; rises = h.rises; logged = h.logged; waits = h.waits; holds = h.holds; calls = h.calls; single = h.single; apart = h.apart }
-story_line head t past stamp (Enters r) ok h = story_enters head t past stamp h r ok.has
-story_line head t past stamp (Act d) ok h =
+-- the boot stays
+abbrev pub IsStill : Entry → Type 0
+IsStill (Boot boot disk) = ⊥
+IsStill _ = Unit {0}
+
+pub story_line : (head : Head) (t : ℕ) (past : List Line) (stamp : Stamp) (e : Entry) → IsStill e → EntryOf head past (turn stamp (node.Target t)) (node.Target t) e → Story head past → Story head (line (turn stamp (node.Target t)) e ∷ past)
+story_line head t past stamp (Send to m) still ok h = record { first = h.first; rises = h.rises; logged = h.logged; waits = h.waits; holds = h.holds; calls = h.calls; single = h.single; apart = h.apart; above = h.above; under = h.under }
+story_line head t past stamp (Take n from m) still ok h = record { first = h.first; rises = h.rises; logged = h.logged; waits = h.waits; holds = h.holds; calls = h.calls; single = h.single; apart = h.apart; above = h.above; under = h.under }
+story_line head t past stamp Tick still ok h = record { first = h.first; rises = h.rises; logged = h.logged; waits = h.waits; holds = h.holds; calls = h.calls; single = h.single; apart = h.apart; above = h.above; under = h.under }
+story_line head t past stamp Skip still ok h = record { first = h.first; rises = h.rises; logged = h.logged; waits = h.waits; holds = h.holds; calls = h.calls; single = h.single; apart = h.apart; above = h.above; under = h.under }
+story_line head t past stamp (Grant lock (Some d)) still ok h = record { first = h.first; rises = h.rises; logged = h.logged; waits = h.waits; holds = h.holds; calls = h.calls; single = h.single; apart = h.apart; above = h.above; under = h.under }
+story_line head t past stamp (Boot boot disk) still ok h = absurd still
+story_line head t past stamp Crash still ok h = record { first = h.first; rises = h.rises; logged = h.logged; waits = h.waits; holds = h.holds; calls = h.calls; single = h.single; apart = h.apart; above = h.above; under = h.under }
+story_line head t past stamp (Back who) still ok h = record { first = h.first; rises = h.rises; logged = h.logged; waits = h.waits; holds = h.holds; calls = h.calls; single = h.single; apart = h.apart; above = h.above; under = h.under }
+story_line head t past stamp (Stores replay) still ok h = record { first = h.first; rises = h.rises; logged = h.logged; waits = h.waits; holds = h.holds; calls = h.calls; single = h.single; apart = h.apart; above = h.above; under = h.under }
+story_line head t past stamp (Brings lock) still ok h = record { first = h.first; rises = h.rises; logged = h.logged; waits = h.waits; holds = h.holds; calls = h.calls; single = h.single; apart = h.apart; above = h.above; under = h.under }
+story_line head t past stamp (Says said) still ok h = record { first = h.first; rises = h.rises; logged = h.logged; waits = h.waits; holds = h.holds; calls = h.calls; single = h.single; apart = h.apart; above = h.above; under = h.under }
+story_line head t past stamp (Wishes who) still ok h = record { first = h.first; rises = h.rises; logged = h.logged; waits = h.waits; holds = h.holds; calls = h.calls; single = h.single; apart = h.apart; above = h.above; under = h.under }
+story_line head t past stamp (Enters r) still ok h = story_enters head t past stamp h r ok.has
+story_line head t past stamp (Act d) still ok h =
     let s : Server = server_of head.osts past in
     story_act head t past stamp h d ok.request s.cookie (grants head.osts s.tree (asked ok.request none)) ok.waits (ap (λ (x : Deed). x.reply.locks) ok.is)
-story_line head t past stamp (Txn d) ok h = story_txn head t past stamp h d (ap (λ (x : Deed). x.reply.txn) ok.is)
-story_line head t past stamp (Block called) ok h = story_block head t past stamp h called ok.lock ok.granted ok.of_life
-story_line head t past stamp (Release lock) ok h = story_release head t past stamp h lock
-story_line head t past stamp (Commit to batch) ok h = story_commit head t past stamp h to batch
-story_line head t past stamp (Evict w cause) ok h = story_evict head t past stamp h w cause
-story_line head t past stamp (Joined w) ok h = story_joined head t past stamp h w ok.none ok.newer
-story_line head t past stamp e ok h = absurd ok
+story_line head t past stamp (Txn d) still ok h = story_txn head t past stamp h d (ap (λ (x : Deed). x.reply.txn) ok.is)
+story_line head t past stamp (Block called) still ok h = story_block head t past stamp h called ok.lock ok.granted ok.of_life
+story_line head t past stamp (Release lock) still ok h = story_release head t past stamp h lock
+story_line head t past stamp (Commit to batch) still ok h = story_commit head t past stamp h to batch ok
+story_line head t past stamp (Evict w cause) still ok h = story_evict head t past stamp h w cause
+story_line head t past stamp (Joined w) still ok h = story_joined head t past stamp h w ok.none ok.newer
+story_line head t past stamp e still ok h = absurd ok

@@ -1,6 +1,6 @@
 -- A tick of the metadata target: lives leave whose locks were called back too long ago, in an earlier turn, and what is called back still
 -- is called back again.
-use Rattle.std.proofs.Common.{◌≡◌, ℕ, ◌≤◌, Bool, true, false, List, [], ◌∷◌, ◌++◌, ◌⊎◌, inl, inr, ⊎_elim, refl, sym, subst, ap, ◌∙◌}
+use Rattle.std.proofs.Common.{◌≡◌, ℕ, ◌+◌, ◌*◌, ◌≤◌, Bool, true, false, List, [], ◌∷◌, ◌++◌, ◌⊎◌, inl, inr, ⊎_elim, refl, sym, subst, ap, ◌∙◌}
 use Rattle.std.specs.Prelude.{nat_eq, ◌&&◌, ◌||◌, not, if◌then◌else◌}
 use Rattle.std.proofs.lemmas.Bool.{cond_both, cond-true, and_parts, eq-eqb}
 use Rattle.lu_base.specs.declared.ids.At.{At}
@@ -19,12 +19,14 @@ use Rattle.lu_target_rows.specs.Rows as target
 use Rattle.lu_target_rows.specs.States.{Target, after, follow, turn as turned}
 use Rattle.lu_covered.specs.Heads.{Head}
 use Rattle.lu_covered.specs.TargetStates.{Server, server_of, server_after, lives_of}
-use Rattle.lu_guards.proofs.Guards.{In, Later, Steps, CalledBefore, Grown}
+use Rattle.lu_guards.proofs.Guards.{In, Later, Steps}
+use Rattle.lu_guards.proofs.StoryGuards.{CalledBefore, IsServing}
+use Rattle.lu_guards.proofs.Grown.{Grown}
 use Rattle.lu_guards.proofs.Lists.{turn, in_append, in_filter, life_is, turn_trans}
 use Rattle.lu_guards.proofs.LifeLists.{InOrder, order_put, order_distinct, life_stands, stands_life, life_put_or}
-use Rattle.lu_guards.proofs.TargetAlike.{Serving, AllPlain, serving_line}
+use Rattle.lu_guards.proofs.TargetAlike.{Serving, AllPlain, serving_is, serving_line}
 use Rattle.lu_guards.proofs.TargetGood.{GoodAt, Reaches, reaches_more, serves_lines, turned_more}
-use Rattle.lu_guards.proofs.TargetPass.{High}
+use Rattle.lu_guards.proofs.TargetPass.{HighAt, High}
 use Rattle.lu_guards.proofs.TargetWindows.{expels_lead}
 use Rattle.lu_guards.proofs.Turns.{Settled, owes_nothing}
 
@@ -103,12 +105,15 @@ condemned_called v (c ∷ cs) w i =
 -- ---- what is called back still
 
 -- where no glimpse waits
-again_number : (v : Target) (before : List Called) (locks : List Lock) (w : Target) → (turned w (sends_again v before [] locks)).number ≡ w.number
-again_number v before [] w = refl
+abbrev Same : Target → Target → Type 0
+Same v w = (v.number ≡ w.number) × (v.boot ≡ w.boot)
+
+again_number : (v : Target) (before : List Called) (locks : List Lock) (w : Target) → Same (turned w (sends_again v before [] locks)) w
+again_number v before [] w = (refl, refl)
 again_number v before (l ∷ locks) w = by (is_called l.cookie before && is_called l.cookie v.called) (again_number v before locks w) (again_number v before locks (after w (block_of v l)))
   where
-    by : (b : Bool) → (turned w (sends_again v before [] locks)).number ≡ w.number → (turned (after w (block_of v l)) (sends_again v before [] locks)).number ≡ w.number
-        → (turned w ((if b then block_of v l ∷ [] else []) ++ sends_again v before [] locks)).number ≡ w.number
+    by : (b : Bool) → Same (turned w (sends_again v before [] locks)) w → Same (turned (after w (block_of v l)) (sends_again v before [] locks)) w
+        → Same (turned w ((if b then block_of v l ∷ [] else []) ++ sends_again v before [] locks)) w
     by true one two = two
     by false one two = one
 
@@ -124,13 +129,13 @@ module _ (head : Head) (stamp : Stamp) where
   abbrev at : At
   at = turn stamp (node.Target 0)
 
-  sends_good : (v : Target) (before : List Called) (locks : List Lock) (past story : List Line) → Settled past → v.boot ≡ (server_of head.osts story).boot → v.called ≡ (server_of head.osts story).called
+  sends_good : (v : Target) (before : List Called) (locks : List Lock) (past story : List Line) → IsServing head.osts story → Settled past → v.boot ≡ (server_of head.osts story).boot → v.called ≡ (server_of head.osts story).called
       → ((l : Lock) → In l locks → In l (server_of head.osts story).granted) → GoodAt head stamp 0 past story (sends_again v before [] locks)
-  sends_good v before [] past story settled boot called granted = settled
-  sends_good v before (l ∷ locks) past story settled boot called granted =
+  sends_good v before [] past story serves settled boot called granted = settled
+  sends_good v before (l ∷ locks) past story serves settled boot called granted =
       by (is_called l.cookie before && is_called l.cookie v.called) refl
-      (λ p. sends_good v before locks (line at (block_of v l) ∷ past) (line at (block_of v l) ∷ story) tt boot called (λ k i. granted k (inr i)))
-      (λ p. sends_good v before locks past story settled boot called (λ k i. granted k (inr i)))
+      (λ p. sends_good v before locks (line at (block_of v l) ∷ past) (line at (block_of v l) ∷ story) serves tt boot called (λ k i. granted k (inr i)))
+      (λ p. sends_good v before locks past story serves settled boot called (λ k i. granted k (inr i)))
     where
       by : (b : Bool) → (is_called l.cookie before && is_called l.cookie v.called) ≡ b → (b ≡ true → GoodAt head stamp 0 (line at (block_of v l) ∷ past) (line at (block_of v l) ∷ story) (sends_again v before [] locks))
           → (b ≡ false → GoodAt head stamp 0 past story (sends_again v before [] locks))
@@ -140,6 +145,7 @@ module _ (head : Head) (stamp : Stamp) where
           owes_nothing past at (block_of v l) settled,
           refl,
           record {
+            serves = serves;
             lock = l;
             granted = granted l (inl refl);
             of_life = refl;
@@ -161,7 +167,7 @@ module _ (head : Head) (stamp : Stamp) where
       (((owes_nothing past at Tick settled, later, tt), tt), ticks)
       (λ e s k. reaches_more head stamp 0 (Serving head 0) (Serving head 0) leave again past1 story1 w e
       (expels_lead head stamp 0 w past1 story1 e s k (λ l i. refl) gone (λ x i. has x (condemned_called w w.called x i)) (order_distinct gone (condemned_order w w.called)) (λ x i. (inl (refl, tt), caused x (condemned_called w w.called x i))) leave_high)
-      (λ f r j. let sent = sends_good (turned w leave) w.called (turned w leave).granted (with_turn at leave past1) (with_turn at leave story1) r (j.alike.boot ∙ sym j.alike.first) j.alike.called (λ l i. subst (λ (ls : List Lock). In l ls) j.alike.granted i) in
+      (λ f r j. let sent = sends_good (turned w leave) w.called (turned w leave).granted (with_turn at leave past1) (with_turn at leave story1) (serving_is head 0 (turned w leave) (with_turn at leave story1) j) r (j.alike.boot ∙ sym j.alike.first) j.alike.called (λ l i. subst (λ (ls : List Lock). In l ls) j.alike.granted i) in
       (sent, serves_lines head stamp 0 (sends_again (turned w leave) w.called [] (turned w leave).granted) (with_turn at leave past1) (with_turn at leave story1) (turned w leave) (again_plain (turned w leave) w.called (turned w leave).granted) sent j)))
       )
     where
@@ -203,5 +209,6 @@ module _ (head : Head) (stamp : Stamp) where
       leave_high : High w leave
       leave_high =
           let whole : High v (Tick ∷ follow w leave again) = subst (High v) is high in
-          let all : (turned w (leave ++ again (turned w leave))).number ≡ (turned w leave).number = ap (λ (x : Target). x.number) (turned_more leave (again (turned w leave)) w) ∙ again_number (turned w leave) w.called (turned w leave).granted (turned w leave) in
-          subst (λ (n : ℕ). n ≤ 8589934591) all whole
+          let rest : HighAt (turned (turned w leave) (again (turned w leave))) = subst HighAt (turned_more leave (again (turned w leave)) w) whole in
+          let all = again_number (turned w leave) w.called (turned w leave).granted (turned w leave) in
+          subst (λ (n : ℕ). n ≤ (turned w leave).boot * 4294967296 + 4294967295) all.0 (subst (λ (b : ℕ). (turned (turned w leave) (again (turned w leave))).number ≤ b * 4294967296 + 4294967295) all.1 rest)

@@ -1,6 +1,6 @@
 -- A commit with which lives leave or one comes, all that follows it, and what waited goes on: allowed lines, after which the target is
 -- again what its story says.
-use Rattle.std.proofs.Common.{◌≡◌, ℕ, ◌≤◌, Bool, true, false, List, [], ◌∷◌, None, refl, sym, subst, ap, ◌∙◌}
+use Rattle.std.proofs.Common.{◌≡◌, ℕ, Bool, true, false, List, [], ◌∷◌, None, refl, sym, subst, ap, ◌∙◌}
 use Rattle.std.specs.Prelude.{nat_eq}
 use Rattle.std.specs.List.{list_any}
 use Rattle.std.proofs.lemmas.Bool.{cond-true, cond-false, eqb-true}
@@ -22,20 +22,21 @@ use Rattle.lu_target_rows.specs.Queues.{all_queues_go, queues_go, resources_of}
 use Rattle.lu_target_rows.specs.States.{Target, after, follow, turn as turned}
 use Rattle.lu_covered.specs.Heads.{Head}
 use Rattle.lu_covered.specs.TargetStates.{server_of, lives_of, evicted_of}
-use Rattle.lu_guards.proofs.Guards.{In, Was, Took, EvictedBy, JoinedOk}
+use Rattle.lu_guards.proofs.Guards.{In, Was, Took}
+use Rattle.lu_guards.proofs.StoryGuards.{EvictedBy, JoinedOk}
 use Rattle.lu_guards.proofs.Lists.{turn}
 use Rattle.lu_guards.proofs.LifeLists.{Distinct, life_put}
-use Rattle.lu_guards.proofs.TargetAlike.{Serving, Window, window_joined, window_send, window_closed, all_stay}
+use Rattle.lu_guards.proofs.TargetAlike.{Serving, Window, serving_is, window_is, window_joined, window_send, window_closed, all_stay}
 use Rattle.lu_guards.proofs.TargetGood.{Reaches, reaches_more, turned_more}
 use Rattle.lu_guards.proofs.TargetLeaving.{Leaving, leave_start, evictions_lead, commit_ok}
-use Rattle.lu_guards.proofs.TargetPass.{High, names_good}
+use Rattle.lu_guards.proofs.TargetPass.{HighAt, High, names_good}
 use Rattle.lu_guards.proofs.Turns.{Settled, owes_nothing}
 use Rattle.lu_guards.proofs.Ends.{took_more}
 use Rattle.lu_guards.proofs.Only.{was_more}
 
 -- numbers that suffice for a turn suffice for its rest
 pub high_rest : (es : List Entry) (next : Target → List Entry) (v : Target) → High v (follow v es next) → High (turned v es) (next (turned v es))
-high_rest es next v high = subst (λ (w : Target). w.number ≤ 8589934591) (turned_more es (next (turned v es)) v) high
+high_rest es next v high = subst HighAt (turned_more es (next (turned v es)) v) high
 
 module _ (head : Head) (stamp : Stamp) where
   abbrev Goes : ℕ → (Target → List Entry) → Type 0
@@ -75,7 +76,7 @@ module _ (head : Head) (stamp : Stamp) where
           (
             owes_nothing past at (commits v v.log gone come) settled,
             tt,
-            commit_ok head.osts story v.log v.committed (λ d i. subst (λ (log : List Deed). In d log) h.alike.log i) h.alike.committed,
+            commit_ok head.osts story v.log v.committed (λ d i. subst (λ (log : List Deed). In d log) h.alike.log i) h.alike.committed (serving_is head t v story h),
           ),
           tt,
         ),
@@ -181,6 +182,7 @@ module _ (head : Head) (stamp : Stamp) where
               let lives : lives_of head.clients story2 ≡ final = sym (all_stay (lives_of head.clients story2)) ∙ j.left in
               let ok : JoinedOk head story2 at t who =
               record {
+                serves = window_is head t [] (who ∷ []) x story2 j.window;
                 from = c;
                 boot = boot;
                 took = j.carried.0;
@@ -197,6 +199,7 @@ module _ (head : Head) (stamp : Stamp) where
                       tt,
                       tt,
                       record {
+                        serves = window_is head t [] [] x (line at (Joined who) ∷ story2) open_window;
                         has = life_put who (lives_of head.clients story2);
                         to = refl;
                         of_boot = open_window.boot ∙ sym open_window.story.first;

@@ -1,15 +1,22 @@
--- A turn whose lines are allowed, one after another, and that ends with nothing owed: put on a grown past it makes a grown one.
-use Rattle.std.proofs.Common.{◌≡◌, ℕ, Bool, true, false, List, [], ◌∷◌, ◌++◌, inl, inr, refl, subst}
+-- A turn whose lines are allowed, one after another, and that ends with nothing owed, nothing that a target has to keep, and no life
+-- back unshown: put on a grown past it makes a grown one.
+use Rattle.std.proofs.Common.{◌≡◌, ℕ, Bool, true, false, List, [], ◌∷◌, ◌++◌, Some, None, inl, inr, refl, sym, subst}
 use Rattle.std.specs.Prelude.{if◌then◌else◌}
 use Rattle.std.proofs.lemmas.Bool.{cond-true}
 use Rattle.lu_base.specs.declared.ids.At.{At}
-use Rattle.lu_words.specs.Words.{Entry, Begin, Unbinds, Pins, Act, Txn, Grant, Line, line, with_turn, turn_before}
-use Rattle.lu_words.specs.Concerns.{concerns, only, about}
+use Rattle.lu_base.specs.declared.ids.Node.TheVariants.{Client}
+use Rattle.lu_base.specs.declared.ids.Stamp.{Stamp}
+use Rattle.lu_base.specs.declared.ids.Who.{Who}
+use Rattle.lu_words.specs.Words.{Entry, Take, Begin, Unbinds, Pins, Act, Txn, Grant, Back, Stores, Brings, Says, Wishes, Line, line, with_turn, turn_before}
+use Rattle.lu_words.specs.Concerns.{is_about, concerns, only, about}
 use Rattle.lu_table.specs.Runs.{Turn, lines_of, Follows, IsRun}
 use Rattle.lu_table.specs.Heads as table
 use Rattle.lu_covered.specs.Heads.{Head}
-use Rattle.lu_guards.proofs.Guards.{Later, Steps, Ending, Closes, EntryOk, EntryOf, Owes, LivesAt, Grown}
-use Rattle.lu_guards.proofs.Lists.{turn_trans}
+use Rattle.lu_guards.proofs.Guards.{Later, Steps, Ending, Closes, EntryOk, Owes, IsMark, BackNow, due, IsTurnOf}
+use Rattle.lu_guards.proofs.StoryGuards.{EntryOf}
+use Rattle.lu_guards.proofs.Grown.{LivesAt, Noted, Grown}
+use Rattle.lu_guards.proofs.Lists.{turn, turn_trans}
+use Rattle.lu_guards.proofs.Only.{turn_only}
 use Rattle.lu_guards.proofs.Ends.{closes_after}
 
 -- the numbers of a run that the theorem knows
@@ -53,6 +60,77 @@ pub settled_after : (past : List Line) (at : At) (es : List Entry) → AllPaid p
 settled_after past at [] p = p
 settled_after past at (e ∷ es) p = settled_after (line at e ∷ past) at es p.1
 
+-- ---- no life is back unshown
+
+-- in the story of one target
+abbrev pub NoBack : Head → List Line → Type 0
+NoBack head past = (who : Who) → BackNow head.osts head.clients past who → ⊥
+
+-- of each
+abbrev pub NoBacks : Head → List Line → Type 0
+NoBacks head past = (t : ℕ) → NoBack head (only t past)
+
+-- a line after which a life is back is followed by that one's, in the turn, and at its end none is back unshown
+abbrev pub AllBacks : Head → List Line → At → List Entry → Type 0
+AllBacks head past at [] = NoBack head past
+AllBacks head past at (e ∷ es) = ((who : Who) → BackNow head.osts head.clients past who → (e ≡ Back who) × IsTurnOf past at) × AllBacks head (line at e ∷ past) at es
+
+shown_one : (head : Head) (past : List Line) (at : At) (es : List Entry) → AllBacks head past at es → NoBack head (with_turn at es past)
+shown_one head past at [] b = b
+shown_one head past at (e ∷ es) b = shown_one head (line at e ∷ past) at es b.1
+
+pub shown_after : (head : Head) (past : List Line) (at : At) (es : List Entry) → ((t : ℕ) → AllBacks head (only t past) at (about t at.node es)) → NoBacks head (with_turn at es past)
+shown_after head past at es b t = subst (λ (p : List Line). NoBack head p) (sym (turn_only t at es past)) (shown_one head (only t past) at (about t at.node es) (b t))
+
+-- ---- what a target has to keep is kept
+
+-- a line that takes it is followed by its mark, in the turn, and at its end none is due
+abbrev pub AllMarks : Head → List Line → At → List Entry → Type 0
+AllMarks head past at [] = due head.osts head.clients past ≡ None
+AllMarks head past at (e ∷ es) = ((mark : Entry) → due head.osts head.clients past ≡ Some mark → (e ≡ mark) × IsTurnOf past at) × AllMarks head (line at e ∷ past) at es
+
+kept_one : (head : Head) (past : List Line) (at : At) (es : List Entry) → AllMarks head past at es → due head.osts head.clients (with_turn at es past) ≡ None
+kept_one head past at [] m = m
+kept_one head past at (e ∷ es) m = kept_one head (line at e ∷ past) at es m.1
+
+pub kept_after : (head : Head) (past : List Line) (at : At) (es : List Entry) → ((t : ℕ) → AllMarks head (only t past) at (about t at.node es)) → (t : ℕ) → due head.osts head.clients (only t (with_turn at es past)) ≡ None
+kept_after head past at es m t = subst (λ (p : List Line). due head.osts head.clients p ≡ None) (sym (turn_only t at es past)) (kept_one head (only t past) at (about t at.node es) (m t))
+
+-- ---- where nothing is due and none is back unshown
+
+-- any line may come next
+pub backs_none : (head : Head) (past : List Line) (at : At) (e : Entry) → Noted head past → (t : ℕ) (who : Who) → concerns t at.node e ≡ true → BackNow head.osts head.clients (only t past) who → (e ≡ Back who) × IsTurnOf (only t past) at
+backs_none head past at e n t who q k = absurd (n.told t who k)
+
+pub marks_none : (head : Head) (past : List Line) (at : At) (e : Entry) → Noted head past → (t : ℕ) (mark : Entry) → concerns t at.node e ≡ true → due head.osts head.clients (only t past) ≡ Some mark → (e ≡ mark) × IsTurnOf (only t past) at
+marks_none head past at e n t mark q d = absurd (let none : due head.osts head.clients (only t past) ≡ None = n.marked t in cc)
+
+-- and a client's line leaves it so
+pub noted_client : (head : Head) (past : List Line) (stamp : Stamp) (c : ℕ) (e : Entry) → EntryOk past (turn stamp (Client c)) (Client c) e → Noted head past → Noted head (line (turn stamp (Client c)) e ∷ past)
+noted_client head past stamp c e ok n = record { marked = λ t. marked t (is_about t e); told = λ t who. told t who (is_about t e) }
+  where
+    here : At
+    here = turn stamp (Client c)
+
+    none_due : (x : Entry) (p : List Line) → due head.osts head.clients (line here x ∷ p) ≡ None
+    none_due (Take k from m) p = refl
+    none_due x p = refl
+
+    no_mark : (x : Entry) → EntryOk past here (Client c) x → IsMark x → ⊥
+    no_mark (Stores r) ok k = absurd ok
+    no_mark (Brings l) ok k = absurd ok
+    no_mark (Says said) ok k = absurd ok
+    no_mark (Wishes who) ok k = absurd ok
+    no_mark x ok k = k
+
+    marked : (t : ℕ) (b : Bool) → due head.osts head.clients (if b then line here e ∷ only t past else only t past) ≡ None
+    marked t true = none_due e (only t past)
+    marked t false = n.marked t
+
+    told : (t : ℕ) (who : Who) (b : Bool) → BackNow head.osts head.clients (if b then line here e ∷ only t past else only t past) who → ⊥
+    told t who true k = no_mark e ok k.0
+    told t who false k = n.told t who k
+
 -- ---- all is allowed: over the whole past, and over what concerns one target
 
 abbrev pub AllOk : Head → List Line → At → List Entry → Type 0
@@ -75,15 +153,38 @@ pub record RowOk (head : Head) (past : List Line) (at : At) (es : List Entry) : 
   pub paid : AllPaid past at es
   pub ok : AllOk head past at es
   pub of : (t : ℕ) → AllOf head (only t past) at (about t at.node es)
+  pub backs : (t : ℕ) → AllBacks head (only t past) at (about t at.node es)
+  pub marks : (t : ℕ) → AllMarks head (only t past) at (about t at.node es)
+
+-- after such a turn
+pub noted_after : (head : Head) (past : List Line) (at : At) (es : List Entry) → RowOk head past at es → Noted head (with_turn at es past)
+noted_after head past at es r = record { marked = kept_after head past at es r.marks; told = shown_after head past at es r.backs }
 
 -- ---- a turn on a grown past
 
-grows : (head : Head) (at : At) (es : List Entry) (past : List Line) → Grown head past → Steps past at → Closes past at → AllPaid past at es → AllOk head past at es → ((t : ℕ) → AllOf head (only t past) at (about t at.node es)) → Grown head (with_turn at es past)
-grows head at [] past g s x p a b = g
-grows head at (e ∷ es) past g s x p a b = grows head at es (line at e ∷ past) (record { steps = s; closes = x; lives = a.0; owes = p.0; ok = a.1; of = first }, g) (inl refl) (inl refl) p.1 a.2 (λ t. more t (concerns t at.node e) (b t))
+grows : (head : Head) (at : At) (es : List Entry) (past : List Line) → Grown head past → Steps past at → Closes past at → AllPaid past at es → AllOk head past at es → ((t : ℕ) → AllOf head (only t past) at (about t at.node es))
+    → ((t : ℕ) → AllBacks head (only t past) at (about t at.node es)) → ((t : ℕ) → AllMarks head (only t past) at (about t at.node es)) → Grown head (with_turn at es past)
+grows head at [] past g s x p a b k m = g
+grows head at (e ∷ es) past g s x p a b k m =
+    grows head at es (line at e ∷ past) (record { steps = s; closes = x; backs = λ t who q. back t q who; marks = λ t mark q. mark_of t q mark; lives = a.0; owes = p.0; ok = a.1; of = first }, g) (inl refl) (inl refl) p.1 a.2 (λ t. more t (concerns t at.node e) (b t))
+    (λ t. backs t (concerns t at.node e) (k t)) (λ t. marks t (concerns t at.node e) (m t))
   where
     first : (t : ℕ) → concerns t at.node e ≡ true → EntryOf head (only t past) at at.node e
     first t q = (subst (λ (fs : List Entry). AllOf head (only t past) at fs) (cond-true (concerns t at.node e) (e ∷ about t at.node es) (about t at.node es) q) (b t)).0
+
+    back : (t : ℕ) → concerns t at.node e ≡ true → (who : Who) → BackNow head.osts head.clients (only t past) who → (e ≡ Back who) × IsTurnOf (only t past) at
+    back t q = (subst (λ (fs : List Entry). AllBacks head (only t past) at fs) (cond-true (concerns t at.node e) (e ∷ about t at.node es) (about t at.node es) q) (k t)).0
+
+    mark_of : (t : ℕ) → concerns t at.node e ≡ true → (mark : Entry) → due head.osts head.clients (only t past) ≡ Some mark → (e ≡ mark) × IsTurnOf (only t past) at
+    mark_of t q = (subst (λ (fs : List Entry). AllMarks head (only t past) at fs) (cond-true (concerns t at.node e) (e ∷ about t at.node es) (about t at.node es) q) (m t)).0
+
+    marks : (t : ℕ) (c : Bool) → AllMarks head (only t past) at (if c then e ∷ about t at.node es else about t at.node es) → AllMarks head (if c then line at e ∷ only t past else only t past) at (about t at.node es)
+    marks t true h = h.1
+    marks t false h = h
+
+    backs : (t : ℕ) (c : Bool) → AllBacks head (only t past) at (if c then e ∷ about t at.node es else about t at.node es) → AllBacks head (if c then line at e ∷ only t past else only t past) at (about t at.node es)
+    backs t true h = h.1
+    backs t false h = h
 
     more : (t : ℕ) (c : Bool) → AllOf head (only t past) at (if c then e ∷ about t at.node es else about t at.node es) → AllOf head (if c then line at e ∷ only t past else only t past) at (about t at.node es)
     more t true h = h.1
@@ -95,7 +196,7 @@ steps_after [] at l = tt
 steps_after (x ∷ past) at l = inr l
 
 pub turn_grows : (head : Head) (past : List Line) (at : At) (es : List Entry) → Grown head past → Later past at → ((c : ℕ) → Ending past c → ⊥) → RowOk head past at es → Grown head (with_turn at es past)
-turn_grows head past at es g later closed r = grows head at es past g (steps_after past at later) (closes_after past at closed) r.paid r.ok r.of
+turn_grows head past at es g later closed r = grows head at es past g (steps_after past at later) (closes_after past at closed) r.paid r.ok r.of r.backs r.marks
 
 -- ---- turns of a run stand in order
 

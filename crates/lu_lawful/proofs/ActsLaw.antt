@@ -16,7 +16,7 @@ use Rattle.lu_covered.specs.Heads.{Head}
 use Rattle.lu_laws.specs.Words.Pasts as pasts
 use Rattle.lu_laws.specs.Laws.Acts.{acts_there, acted, made, standing_count}
 use Rattle.lu_lawful.specs.Fits.{ReplyStands}
-use Rattle.lu_guards.proofs.Guards.{Allowed, Grown}
+use Rattle.lu_guards.proofs.Grown.{Allowed, Grown}
 use Rattle.lu_guards.proofs.Lists.{self, life_is, or_left, or_right}
 use Rattle.lu_facts.proofs.Groups.{Acted}
 use Rattle.lu_lawful.proofs.Once.{NoneFor, act_now, txn_now}

@@ -22,7 +22,8 @@ use Rattle.lu_covered.specs.Heads.{Head}
 use Rattle.lu_laws.specs.Words.Later.{told_later}
 use Rattle.lu_laws.specs.Words.Pasts.{same_turn}
 use Rattle.lu_laws.specs.Laws.Acts.{tells_bad}
-use Rattle.lu_guards.proofs.Guards.{Begins, BeginOk, Starts, Owes, EntryOk, Grown}
+use Rattle.lu_guards.proofs.Guards.{Begins, BeginOk, Starts, Owes, EntryOk}
+use Rattle.lu_guards.proofs.Grown.{Grown}
 use Rattle.lu_guards.proofs.Lists.{self}
 use Rattle.lu_guards.proofs.Turns.{Settled}
 use Rattle.lu_facts.proofs.Groups.{turn}

@@ -1,6 +1,6 @@
 -- What isn't committed lies above the committed number, and all lies up to the newest one; what is committed is a transaction, or nothing
 -- is. At other targets than that of metadata nothing ever is.
-use Rattle.std.proofs.Common.{◌≡◌, ℕ, ◌+◌, ◌<◌, ◌≤◌, Bool, true, false, List, [], ◌∷◌, ◌++◌, ◌⊎◌, inl, inr, ⊎_elim, refl, sym, subst, ap, ◌∙◌, arith}
+use Rattle.std.proofs.Common.{◌*◌, ◌≡◌, ℕ, ◌+◌, ◌<◌, ◌≤◌, Bool, true, false, List, [], ◌∷◌, ◌++◌, ◌⊎◌, inl, inr, ⊎_elim, refl, sym, subst, ap, ◌∙◌, arith}
 use Rattle.std.specs.Prelude.{nat_eq, nat_lt, ◌||◌, filter}
 use Rattle.std.specs.List.{list_any}
 use Rattle.std.proofs.lemmas.Bool.{cond_both, cond-false, eqb-true, ltb-true}
@@ -10,17 +10,20 @@ use Rattle.lu_base.specs.declared.ids.Stamp.{Stamp}
 use Rattle.lu_base.specs.declared.ids.Txn.{Txn}
 use Rattle.lu_msg.specs.declared.commits.Batch.{Batch}
 use Rattle.lu_words.specs.Carried.{Deed}
-use Rattle.lu_words.specs.Words.{Entry, Txn as Made, Commit, Line, line}
+use Rattle.lu_words.specs.Words.{Entry, Txn as Made, Commit, Boot, Line, line}
 use Rattle.lu_words.specs.Concerns.{only}
 use Rattle.lu_words.specs.Printed.{printed}
-use Rattle.lu_covered.specs.TargetStates.{count_at, committed_at, log_at, server_of}
+use Rattle.lu_covered.specs.TargetStates.{boot_at, count_at, committed_at, log_at, server_of}
 use Rattle.lu_covered.specs.Heads.{Head}
 use Rattle.lu_laws.specs.Words.Lost.{Transaction, transactions}
 use Rattle.lu_laws.proofs.Tests.{either_right}
-use Rattle.lu_guards.proofs.Guards.{In, CommitOk, Allowed, Grown}
+use Rattle.lu_guards.proofs.Guards.{In}
+use Rattle.lu_guards.proofs.StoryGuards.{CommitOk}
+use Rattle.lu_guards.proofs.Grown.{Allowed, Grown}
 use Rattle.lu_guards.proofs.Lists.{self, in_append, in_filter}
 use Rattle.lu_guards.proofs.Parts.{committed_is, log_is}
 use Rattle.lu_facts.proofs.Groups.{turn}
+use Rattle.lu_facts.proofs.Finds.{numbers_at, numbers_up}
 use Rattle.lu_lawful.proofs.Contents.{number_is}
 use Rattle.lu_lawful.proofs.Deeds.{txn_is}
 
@@ -34,8 +37,8 @@ is_made past n = nat_eq n 0 || list_any (λ (x : Transaction). nat_eq x.number n
 -- of the metadata target after a past
 pub record Logs (past : List Line) : Type 0 where
   pub above : (d : Deed) → In d (log_at 0 past) → (committed_at 0 past).0 < d.reply.txn.0
-  pub low : (d : Deed) → In d (log_at 0 past) → d.reply.txn.0 ≤ 4294967296 + count_at 0 past
-  pub committed : (committed_at 0 past).0 ≤ 4294967296 + count_at 0 past
+  pub low : (d : Deed) → In d (log_at 0 past) → d.reply.txn.0 ≤ numbers_at past
+  pub committed : (committed_at 0 past).0 ≤ numbers_at past
   pub made : (d : Deed) → In d (log_at 0 past) → list_any (λ (x : Transaction). nat_eq x.number d.reply.txn.0) (transactions 0 (printed past)) ≡ true
   pub stands : is_made past (committed_at 0 past).0 ≡ true
 
@@ -43,11 +46,11 @@ or_true : (b : Bool) → (b || true) ≡ true
 or_true true = refl
 or_true false = refl
 
-logs_made : (past : List Line) (stamp : Stamp) (d : Deed) → d.reply.txn.0 ≡ 4294967296 + (count_at 0 past + 1) → Logs past → Logs (line (turn stamp (Target 0)) (Made d) ∷ past)
+logs_made : (past : List Line) (stamp : Stamp) (d : Deed) → d.reply.txn.0 ≡ numbers_at past + 1 → Logs past → Logs (line (turn stamp (Target 0)) (Made d) ∷ past)
 logs_made past stamp d n h =
     record {
       above = λ e i. of e i (λ e. (committed_at 0 past).0 < e.reply.txn.0) h.above (let c = h.committed in omega (arith, n, c));
-      low = λ e i. of e i (λ e. e.reply.txn.0 ≤ 4294967296 + (count_at 0 past + 1)) (λ e j. let k = h.low e j in omega (arith, k)) (omega (arith, n));
+      low = λ e i. of e i (λ e. e.reply.txn.0 ≤ boot_at 0 past * 4294967296 + (count_at 0 past + 1)) (λ e j. let k = h.low e j in omega (arith, k)) (omega (arith, n));
       committed = let c = h.committed in omega (arith, c);
       made = λ e i. of e i (λ e. list_any (λ (x : Transaction). nat_eq x.number e.reply.txn.0) (transactions 0 (printed (line (turn stamp (Target 0)) (Made d) ∷ past))) ≡ true)
           (λ e j. ap (λ (b : Bool). nat_eq d.reply.txn.0 e.reply.txn.0 || b) (h.made e j) ∙ or_true (nat_eq d.reply.txn.0 e.reply.txn.0))
@@ -67,7 +70,7 @@ logs_made past stamp d n h =
         (λ (j : In e (d ∷ [])). ⊎_elim (λ (s : d ≡ e). subst P s now) (λ (v : ⊥). absurd v) j)
         (in_append e (log_at 0 past) (d ∷ []) i)
 
-logs_commit : (past : List Line) (stamp : Stamp) (to : ℕ) (batch : Batch) → to ≤ 4294967296 + count_at 0 past → is_made past to ≡ true → Logs past → Logs (line (turn stamp (Target 0)) (Commit to batch) ∷ past)
+logs_commit : (past : List Line) (stamp : Stamp) (to : ℕ) (batch : Batch) → to ≤ numbers_at past → is_made past to ≡ true → Logs past → Logs (line (turn stamp (Target 0)) (Commit to batch) ∷ past)
 logs_commit past stamp to batch low stands h =
     record {
       above = λ e j. ltb-true to e.reply.txn.0 (in_filter (is_above to) e (log_at 0 past) j).1;
@@ -83,7 +86,7 @@ logs_other past stamp t to batch other h =
     record {
       above = λ e j. subst (λ (v : Txn). v.0 < e.reply.txn.0) (sym committed) (h.above e (old e j));
       low = λ e j. h.low e (old e j);
-      committed = subst (λ (v : Txn). v.0 ≤ 4294967296 + count_at 0 past) (sym committed) h.committed;
+      committed = subst (λ (v : Txn). v.0 ≤ numbers_at past) (sym committed) h.committed;
       made = λ e j. h.made e (old e j);
       stands = subst (λ (v : Txn). is_made past v.0 ≡ true) (sym committed) h.stands;
     }
@@ -124,6 +127,9 @@ logs head (l ∷ past) g = by l.at.node l.entry g.0 (logs head past g.1)
             (subst (λ (n : ℕ). is_made past n ≡ true) (sym p.2) (either_right (nat_eq p.0.reply.txn.0 0) (h.made p.0 p.1))) h)
             (λ (p : to ≡ (committed_at 0 past).0). logs_commit past l.at.stamp to batch (let low = h.committed in omega (arith, low, p)) (subst (λ (n : ℕ). is_made past n ≡ true) (sym p) h.stands) h)
             (commits head.osts 0 past to (k.of 0 e)))
+    by (Target t) (Boot b disk) k h =
+        let up = numbers_up head (line (turn l.at.stamp (Target t)) (Boot b disk)) past g.1 k in
+        record { above = h.above; low = λ d i. (let low = h.low d i in omega (arith, low, up)); committed = (let low = h.committed in omega (arith, low, up)); made = h.made; stands = h.stands }
     by _ _ k h = record { above = h.above; low = h.low; committed = h.committed; made = h.made; stands = h.stands }
 
 -- ---- at the other targets

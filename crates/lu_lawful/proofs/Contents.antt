@@ -1,5 +1,4 @@
--- What the laws read in the printed past of a run: no target has booted again or lost anything, and the metadata target's contents
--- are its tree.
+-- What the laws read in the printed past of a run: no target has lost anything, and the metadata target's contents are its tree.
 use Rattle.std.proofs.Common.{◌≡◌, ℕ, ◌+◌, ◌*◌, ◌/◌, ◌<◌, ◌≤◌, max, Bool, true, false, List, [], ◌∷◌, Option, Some, refl, sym, subst, ap, ◌∙◌, arith}
 use Rattle.std.specs.Prelude.{nat_eq, not, ◌&&◌, if◌then◌else◌, unwrap_or}
 use Rattle.std.proofs.lemmas.Bool.{cond-true, lt-ltb}
@@ -11,22 +10,22 @@ use Rattle.lu_base.specs.declared.ids.Txn.{Txn}
 use Rattle.lu_machine.specs.Footprint.{after, forget}
 use Rattle.lu_machine.specs.Tree.{Tree}
 use Rattle.lu_words.specs.Carried.{Deed}
-use Rattle.lu_words.specs.Words.{Entry, Act, Txn as Made, Commit, Crash, Boot, Close, Evict, Fail, Line, line}
+use Rattle.lu_words.specs.Words.{Entry, Act, Txn as Made, Commit, Boot, Close, Evict, Fail, Line, line}
 use Rattle.lu_words.specs.Printed.{printed}
 use Rattle.lu_covered.specs.TargetParts.{operation}
-use Rattle.lu_covered.specs.TargetStates.{boot_at, count_at, committed_at, tree_at, server_at}
+use Rattle.lu_covered.specs.TargetStates.{committed_at, tree_at, server_at}
 use Rattle.lu_covered.specs.Heads.{Head}
 use Rattle.lu_laws.specs.Words.Pasts.{is_target, or_else}
 use Rattle.lu_laws.specs.Words.Scopes.{only_here, last_at}
-use Rattle.lu_laws.specs.Words.Boots.{boot, committed_to, committed, greatest, is_recovering}
+use Rattle.lu_laws.specs.Words.Boots.{boot, committed_to, committed, greatest}
 use Rattle.lu_laws.specs.Words.Lost.{Loss, losses, numbers_of, is_among, is_lost}
 use Rattle.lu_laws.specs.Words.Standing as standing
 use Rattle.lu_laws.specs.Words.Requests.{asked}
 use Rattle.lu_laws.specs.Words.Standing.{executed, contents}
-use Rattle.lu_guards.proofs.Guards.{EntryOk, Allowed, Grown}
-use Rattle.lu_guards.proofs.Parts as parts
+use Rattle.lu_guards.proofs.Guards.{EntryOk}
+use Rattle.lu_guards.proofs.Grown.{Allowed, Grown}
 use Rattle.lu_facts.proofs.Groups.{turn}
-use Rattle.lu_facts.proofs.All.{holds}
+use Rattle.lu_facts.proofs.Finds.{numbers_at, numbers_up}
 use Rattle.lu_lawful.proofs.Facts.{AskedAt, AllAsked}
 use Rattle.lu_lawful.proofs.Deeds.{TxnIs, txn_is}
 use Rattle.lu_lawful.proofs.Printed.{flip}
@@ -37,18 +36,6 @@ abbrev txn : ℕ → Txn
 txn n = record { 0 = n }
 
 module _ (head : Head) where
-  pub boots_are : (t : ℕ) (past : List Line) → Grown head past → boot t (printed past) ≡ 1
-  boots_are t [] g = refl
-  boots_are t (l ∷ past) g = by l.at.node l.entry g.0.ok (boots_are t past g.1)
-    where
-      by : (node : Node) (e : Entry) → EntryOk past (turn l.at.stamp node) node e → boot t (printed past) ≡ 1 → boot t (printed (line (turn l.at.stamp node) e ∷ past)) ≡ 1
-      by (Client c) (Boot b disk) ok h = absurd ok
-      by (Target u) (Boot b disk) ok h = absurd ok
-      by _ _ ok h = h
-
-  pub boot_is : (past : List Line) → Grown head past → boot 0 (printed past) ≡ 1
-  boot_is past g = boots_are 0 past g
-
   -- the committed number is the target's
   pub commits_are : (t : ℕ) (past : List Line) → Grown head past → committed t (printed past) ≡ (committed_at t past).0
   commits_are t [] g = refl
@@ -64,8 +51,6 @@ module _ (head : Head) where
           of false false o q h = h
           of true false o q h = absurd (cc)
           of false true o q h = absurd (cc)
-      by (Client c) (Boot boot disk) ok h = absurd ok
-      by (Target u) (Boot boot disk) ok h = absurd ok
       by _ _ ok h = h
 
   pub committed_is : (past : List Line) → Grown head past → committed 0 (printed past) ≡ (committed_at 0 past).0
@@ -85,43 +70,28 @@ module _ (head : Head) where
   pub none_lost : (past : List Line) (t n : ℕ) → Grown head past → is_lost (printed past) t n ≡ false
   none_lost past t n g = ap (λ (ls : List Loss). is_among (numbers_of ls) n) (no_losses t past g)
 
-  -- no window is ever open
-  pub not_recovering : (t : ℕ) (past : List Line) → Grown head past → is_recovering t (printed past) ≡ false
-  not_recovering t [] g = refl
-  not_recovering t (l ∷ past) g = by l.at.node l.entry g.0.ok (not_recovering t past g.1)
-    where
-      by : (node : Node) (e : Entry) → EntryOk past (turn l.at.stamp node) node e → is_recovering t (printed past) ≡ false → is_recovering t (printed (line (turn l.at.stamp node) e ∷ past)) ≡ false
-      by (Client c) (Boot b disk) ok h = absurd ok
-      by (Target u) (Boot b disk) ok h = absurd ok
-      by (Client c) (Close outcome) ok h = absurd ok
-      by (Target u) (Close outcome) ok h = absurd ok
-      by (Client c) Crash ok h = absurd ok
-      by (Target u) Crash ok h = absurd ok
-      by _ _ ok h = h
-
 -- ---- numbers: a boot has fewer than 2 ^ 32 of them
 
--- a transaction's number
-pub number_is : (head : Head) (past : List Line) (at : At) (d : Deed) → Grown head past → TxnIs head.osts (server_at head.osts 0 past) at d → d.reply.txn.0 ≡ 4294967296 + (count_at 0 past + 1)
-number_is head past at d g is =
-    let boot : boot_at 0 past ≡ 1 = parts.boot_is head.osts 0 past ∙ ((holds head past g).at 0).phase.boot in
-    is.number ∙ ap (λ (b : ℕ). b * 4294967296 + (count_at 0 past + 1)) boot
+-- a transaction's number is the next one
+pub number_is : (head : Head) (past : List Line) (at : At) (d : Deed) → Grown head past → TxnIs head.osts (server_at head.osts 0 past) at d → d.reply.txn.0 ≡ numbers_at past + 1
+number_is head past at d g is = let n = is.number in omega (arith, n)
 
-pub number_in_boot : (n : ℕ) → n < 4294967296 → (4294967296 + n) / 4294967296 ≡ 1
-number_in_boot n lt = omega arith
+pub number_in_boot : (boot n : ℕ) → n < 4294967296 → (boot * 4294967296 + n) / 4294967296 ≡ boot
+number_in_boot boot n lt = omega arith
 
-pub below_next : (head : Head) (past : List Line) → Grown head past → greatest 0 (printed past) ≤ 4294967296 + count_at 0 past
+pub below_next : (head : Head) (past : List Line) → Grown head past → greatest 0 (printed past) ≤ numbers_at past
 below_next head [] g = omega arith
-below_next head (l ∷ past) g = at l.at.node l.entry g.0 (below_next head past g.1)
+below_next head (l ∷ past) g = at l.at.node l.entry g.0 (below_next head past g.1) (numbers_up head l past g.1 g.0)
   where
-    at : (node : Node) (e : Entry) → Allowed head past (turn l.at.stamp node) e → greatest 0 (printed past) ≤ 4294967296 + count_at 0 past
-        → greatest 0 (printed (line (turn l.at.stamp node) e ∷ past)) ≤ 4294967296 + count_at 0 (line (turn l.at.stamp node) e ∷ past)
-    at (Client c) (Made d) k h = absurd k.ok
-    at (Target t) (Made d) k h =
+    at : (node : Node) (e : Entry) → Allowed head past (turn l.at.stamp node) e → greatest 0 (printed past) ≤ numbers_at past → numbers_at past ≤ numbers_at (line (turn l.at.stamp node) e ∷ past)
+        → greatest 0 (printed (line (turn l.at.stamp node) e ∷ past)) ≤ numbers_at (line (turn l.at.stamp node) e ∷ past)
+    at (Client c) (Made d) k h up = absurd k.ok
+    at (Target t) (Made d) k h up =
         let n = number_is head past (turn l.at.stamp (Target t)) d g.1 (txn_is head past l.at.stamp t d k) in
-        subst (λ (v : ℕ). greatest 0 (printed (line (turn l.at.stamp (Target v)) (Made d) ∷ past)) ≤ 4294967296 + count_at 0 (line (turn l.at.stamp (Target v)) (Made d) ∷ past)) (sym k.ok)
-        (omega arith)
-    at _ _ k h = h
+        subst (λ (v : ℕ). greatest 0 (printed (line (turn l.at.stamp (Target v)) (Made d) ∷ past)) ≤ numbers_at (line (turn l.at.stamp (Target v)) (Made d) ∷ past)) (sym k.ok)
+        (omega (arith, n, h))
+    at (Target t) (Boot b disk) k h up = omega (arith, h, up)
+    at _ _ k h up = h
 
 -- ---- contents
 
@@ -133,8 +103,13 @@ asked_before l past = at l.entry
     at (Made d) a = a.1
     at _ a = a
 
-pub next_is : (head : Head) (past : List Line) (n : ℕ) → Grown head past → n ≡ 4294967296 + (count_at 0 past + 1) → standing.is_next 0 (printed past) n ≡ true
-next_is head past n g e = let le = below_next head past g in lt-ltb (max 1 (greatest 0 (printed past))) n (omega arith)
+-- the root's number is no transaction's
+numbers_first : (head : Head) (past : List Line) → Grown head past → 1 ≤ numbers_at past
+numbers_first head [] g = omega arith
+numbers_first head (l ∷ past) g = let low = numbers_first head past g.1 in let up = numbers_up head l past g.1 g.0 in omega (arith, low, up)
+
+pub next_is : (head : Head) (past : List Line) (n : ℕ) → Grown head past → n ≡ numbers_at past + 1 → standing.is_next 0 (printed past) n ≡ true
+next_is head past n g e = let le = below_next head past g in let first = numbers_first head past g in lt-ltb (max 1 (greatest 0 (printed past))) n (omega (arith, le, e, first))
 
 module _ (head : Head) (lost : ℕ → Bool) (none : (n : ℕ) → lost n ≡ false) where
   stands_made : (past : List Line) (stamp : Stamp) (d : Deed) → Grown head past → TxnIs head.osts (server_at head.osts 0 past) (turn stamp (Target 0)) d → AskedAt past d → standing.tree_of head.osts lost (printed past) ≡ tree_at head.osts 0 past

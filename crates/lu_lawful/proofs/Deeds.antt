@@ -13,7 +13,8 @@ use Rattle.lu_covered.specs.TargetParts.{operation}
 use Rattle.lu_covered.specs.TargetStates.{Server, none, server_at, server_of, next_number, seen_in}
 use Rattle.lu_covered.specs.Deeds.{asked}
 use Rattle.lu_covered.specs.Heads.{Head}
-use Rattle.lu_guards.proofs.Guards.{Allowed, ActOk, TxnOk}
+use Rattle.lu_guards.proofs.StoryGuards.{ActOk, TxnOk}
+use Rattle.lu_guards.proofs.Grown.{Allowed}
 use Rattle.lu_guards.proofs.Parts.{server_is}
 use Rattle.lu_facts.proofs.Groups.{turn}
 use Rattle.lu_lawful.proofs.Story.{about_it}

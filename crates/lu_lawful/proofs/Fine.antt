@@ -23,7 +23,8 @@ use Rattle.lu_covered.specs.Calls.{operation_of}
 use Rattle.lu_covered.specs.Known.{notes_at, told_of, known_answer}
 use Rattle.lu_covered.specs.Heads.{Head}
 use Rattle.lu_laws.specs.Laws.Acts.{is_bad_handle, is_end_of_life}
-use Rattle.lu_guards.proofs.Guards.{In, Grown}
+use Rattle.lu_guards.proofs.Guards.{In}
+use Rattle.lu_guards.proofs.Grown.{Grown}
 use Rattle.lu_guards.proofs.Lists.{in_append, in_filter}
 use Rattle.lu_facts.proofs.Groups.{Acted}
 use Rattle.lu_facts.proofs.KnownPaths.{some_is, fact_is}

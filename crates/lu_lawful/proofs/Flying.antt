@@ -20,7 +20,9 @@ use Rattle.lu_covered.specs.Heads.{Head}
 use Rattle.lu_laws.specs.Words.Pasts as pasts
 use Rattle.lu_laws.specs.Words.Lives.{is_by}
 use Rattle.lu_laws.specs.Words.Requests.{is_of, has_number, without_number, has_heard, in_flight}
-use Rattle.lu_guards.proofs.Guards.{In, AskOk, Allowed, Grown}
+use Rattle.lu_guards.proofs.Guards.{In}
+use Rattle.lu_guards.proofs.StoryGuards.{AskOk}
+use Rattle.lu_guards.proofs.Grown.{Allowed, Grown}
 use Rattle.lu_guards.proofs.Lists.{in_left, in_filter, life_is}
 use Rattle.lu_facts.proofs.Groups.{turn, life_request}
 use Rattle.lu_facts.proofs.All.{holds}
@@ -58,7 +60,7 @@ distinct_filter g (r ∷ rs) d =
 pub ask_flown : (head : Head) (past : List Line) (c : ℕ) (r : RequestOf) → Grown head past → AskOk (only 0 past) c r → Flown past (life_of c (only 0 past)) r
 ask_flown head past c r g ok =
     let phase = ((holds head past g).at 0).phase in
-    (ok.flight, ok.flying, ok.is ∙ ap (λ (b : ℕ). message (life_of c (only 0 past)) b) (phase.known c))
+    (ok.flight, ok.flying, ok.is ∙ ap (λ (b : ℕ). message (life_of c (only 0 past)) b) (phase.served c ok.serves))
   where
     message : Who → ℕ → RequestOf
     message w b = record { who = w; boot = b; xid = record { 0 = ok.flight.xid }; tag = ok.flight.tag; op = ok.flight.op }
@@ -146,12 +148,16 @@ pub keeps_flyers : (head : Head) (past : List Line) (stamp : Stamp) (node : Node
 keeps_flyers head past stamp (Client c) (Send (Target t) (message.Request r)) k g h = flyers_asks past stamp c t r (life_of c (only 0 past)) (ask_flown head past c r g (k.of 0 (about_it t k.ok))) h
 keeps_flyers head past stamp (Client c) (Send (Target t) (message.Cancel other boot cookie)) k g h = flyers_on (line (turn stamp (Client c)) (Send (Target t) (message.Cancel other boot cookie))) past (λ who. refl) (λ who. refl) h
 keeps_flyers head past stamp (Client c) (Send (Target t) (message.Join other boot)) k g h = flyers_on (line (turn stamp (Client c)) (Send (Target t) (message.Join other boot))) past (λ who. refl) (λ who. refl) h
+keeps_flyers head past stamp (Client c) (Send (Target t) (message.Replay r)) k g h = flyers_on (line (turn stamp (Client c)) (Send (Target t) (message.Replay r))) past (λ who. refl) (λ who. refl) h
+keeps_flyers head past stamp (Client c) (Send (Target t) (message.Lock r)) k g h = flyers_on (line (turn stamp (Client c)) (Send (Target t) (message.Lock r))) past (λ who. refl) (λ who. refl) h
+keeps_flyers head past stamp (Client c) (Send (Target t) (message.Word other boot replays locks seen)) k g h = flyers_on (line (turn stamp (Client c)) (Send (Target t) (message.Word other boot replays locks seen))) past (λ who. refl) (λ who. refl) h
 keeps_flyers head past stamp (Client c) (Send (Client d) m) k g h = absurd k.ok
 keeps_flyers head past stamp (Client c) (Send (Target t) m) k g h = absurd k.ok
 keeps_flyers head past stamp (Target t) (Send (Client c) (message.Reply r)) k g h = flyers_on (line (turn stamp (Target t)) (Send (Client c) (message.Reply r))) past (λ who. refl) (λ who. refl) h
 keeps_flyers head past stamp (Target t) (Send (Client c) (message.Block other boot cookie)) k g h = flyers_on (line (turn stamp (Target t)) (Send (Client c) (message.Block other boot cookie))) past (λ who. refl) (λ who. refl) h
 keeps_flyers head past stamp (Target t) (Send (Client c) (message.Ready other boot committed)) k g h = flyers_on (line (turn stamp (Target t)) (Send (Client c) (message.Ready other boot committed))) past (λ who. refl) (λ who. refl) h
 keeps_flyers head past stamp (Target t) (Send (Client c) (message.Evicted other boot)) k g h = flyers_on (line (turn stamp (Target t)) (Send (Client c) (message.Evicted other boot))) past (λ who. refl) (λ who. refl) h
+keeps_flyers head past stamp (Target t) (Send (Client c) (message.Up boot)) k g h = flyers_on (line (turn stamp (Target t)) (Send (Client c) (message.Up boot))) past (λ who. refl) (λ who. refl) h
 keeps_flyers head past stamp (Target t) (Send (Client c) m) k g h = absurd k.ok
 keeps_flyers head past stamp (Target t) (Send (Target u) m) k g h = absurd k.ok
 keeps_flyers head past stamp (Client c) (Flies u f) k g h = subst (λ (v : ℕ). Flyers (line (turn stamp (Client c)) (Flies v f) ∷ past)) (sym k.ok) (flyers_flies past stamp c f h)

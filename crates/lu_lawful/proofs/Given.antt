@@ -10,7 +10,8 @@ use Rattle.lu_msg.specs.declared.messages.Message.TheVariants as message
 use Rattle.lu_words.specs.Carried.{Deed}
 use Rattle.lu_words.specs.Words.{Entry, Send, Act, Txn as Made, Grant, Line, line}
 use Rattle.lu_covered.specs.Heads.{Head}
-use Rattle.lu_guards.proofs.Guards.{In, Did, Shows, Answers, Owes, EntryOk, Allowed, Grown}
+use Rattle.lu_guards.proofs.Guards.{In, Did, Shows, Answers, Owes, EntryOk}
+use Rattle.lu_guards.proofs.Grown.{Allowed, Grown}
 use Rattle.lu_facts.proofs.Groups.{turn, Acted, Gave}
 
 -- ---- what was just done

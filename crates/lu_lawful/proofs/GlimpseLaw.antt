@@ -15,7 +15,7 @@ use Rattle.lu_laws.specs.Words.Pasts.{Past}
 use Rattle.lu_laws.specs.Words.Lives.{is_gone}
 use Rattle.lu_laws.specs.Holds.{Holds}
 use Rattle.lu_laws.specs.Laws.Glimpse.{GlimpseAt, GlimpseOf, Glimpse}
-use Rattle.lu_guards.proofs.Guards.{Allowed, Grown}
+use Rattle.lu_guards.proofs.Grown.{Allowed, Grown}
 use Rattle.lu_facts.proofs.Groups.{turn}
 use Rattle.lu_lawful.proofs.Lines.{Keeps, holds_before}
 use Rattle.lu_lawful.proofs.Facts.{AnswersAt, KnewAt, EndsAt, BadAt, TellsAt, AllTold, told_earlier}

@@ -2,7 +2,7 @@
 -- hasn't shown is among them, but for those of what was just done. None waits there.
 use Rattle.std.proofs.Common.{◌≡◌, ℕ, Bool, true, false, List, [], ◌∷◌, ◌⊎◌, inl, inr, ⊎_elim, Some, None, refl, sym, subst, ap, ◌∙◌}
 use Rattle.std.specs.Prelude.{nat_eq, nat_lt, not, if◌then◌else◌}
-use Rattle.std.proofs.lemmas.Bool.{and_parts, cond_both, cond-true, eqb-true}
+use Rattle.std.proofs.lemmas.Bool.{and_parts, cond_both, cond-true, cond-false, eqb-true}
 use Rattle.lu_base.specs.declared.ids.Node.{Node}
 use Rattle.lu_base.specs.declared.ids.Node.TheVariants.{Client, Target}
 use Rattle.lu_base.specs.declared.ids.Stamp.{Stamp}
@@ -19,10 +19,12 @@ use Rattle.lu_covered.specs.Heads.{Head}
 use Rattle.lu_laws.specs.Words.Pasts.{or_else}
 use Rattle.lu_laws.specs.Words.Queues.{has_cookie, without, of_others, without_first, granted, waiting}
 use Rattle.lu_laws.specs.Words.Held.{is_given, given}
-use Rattle.lu_guards.proofs.Guards.{In, Did, Shows, EntryOk, Allowed, Grown}
+use Rattle.lu_guards.proofs.Guards.{In, Did, Shows, EntryOk}
+use Rattle.lu_guards.proofs.Grown.{Allowed, Grown}
 use Rattle.lu_guards.proofs.Lists.{self, in_filter, in_filtered}
 use Rattle.lu_facts.proofs.Groups.{turn}
 use Rattle.lu_lawful.proofs.Turns.{same_life_self}
+use Rattle.lu_lawful.proofs.Printed.{flip}
 use Rattle.lu_lawful.proofs.Given.{owed, Showed}
 
 -- ---- one more lock
@@ -65,7 +67,7 @@ granted_showed head (x ∷ past) l g i = by x.at.node x.entry g.0.ok i (granted_
     by (Client c) (Release lock) ok i h = absurd ok
     by (Target t) (Release lock) ok i h = cond_both (nat_eq t 0) (without lock.cookie.0 G) G (λ (ls : List Lock). In l ls → Showed past l) (λ e j. h (in_filter (λ (k : Lock). not (has_cookie lock.cookie.0 k)) l G j).0) (λ e j. h j) i
     by (Client c) Crash ok i h = absurd ok
-    by (Target t) Crash ok i h = absurd ok
+    by (Target t) Crash ok i h = cond_both (nat_eq t 0) [] G (λ (ls : List Lock). In l ls → Showed past l) (λ e j. absurd j) (λ e j. h j) i
     by (Client c) (Restore lock) ok i h = absurd ok
     by (Target t) (Restore lock) ok i h = absurd ok
     by node e ok i h = h i
@@ -98,6 +100,7 @@ shown_at (l ∷ past) =
     elim l.entry [
       | Act d ↦ if is_target 0 l.at.node then with_locks d.reply.locks (shown_at past) else shown_at past
       | Release lock ↦ if is_target 0 l.at.node then without_lock lock (shown_at past) else shown_at past
+      | Crash ↦ if is_target 0 l.at.node then [] else shown_at past
       | _ ↦ shown_at past
     ]
 
@@ -122,6 +125,8 @@ shown_is (l ∷ past) = by l.at.node l.entry (shown_is past)
     by (Target t) (Act d) h = own t (Act d) (with_locks d.reply.locks) (nat_eq 0 t) refl h
     by (Client c) (Release lock) h = h
     by (Target t) (Release lock) h = own t (Release lock) (without_lock lock) (nat_eq 0 t) refl h
+    by (Client c) Crash h = h
+    by (Target t) Crash h = own t Crash (λ (ls : List Lock). []) (nat_eq 0 t) refl h
     by (Client c) e h = quiet (Client c) e (concerns 0 (Client c) e) refl h
     by (Target t) e h = quiet (Target t) e (concerns 0 (Target t) e) refl h
 
@@ -159,7 +164,11 @@ keeps_granted head past stamp (Target t) (Grant lock asked) a g h l i = ⊎_elim
 keeps_granted head past stamp (Target t) (Send (Client c) (message.Reply r)) a g h l i = ⊎_elim (λ (q : In l (granted 0 (printed past))). inl q) (λ (q : JustGave past l). inl (shows_granted head past l g (a.ok.3 q.0 q.1 l q.2))) (h l i)
 keeps_granted head past stamp (Client b) (Send (Client c) (message.Reply r)) a g h l i = absurd a.ok
 keeps_granted head past stamp (Client c) Crash a g h l i = absurd a.ok
-keeps_granted head past stamp (Target t) Crash a g h l i = absurd a.ok
+keeps_granted head past stamp (Target t) Crash a g h l i =
+    cond_both (nat_eq 0 t) [] (shown_at past) (λ (ls : List Lock). In l ls → In l (granted 0 (printed (line (turn stamp (Target t)) Crash ∷ past))) ⊎ JustGave (line (turn stamp (Target t)) Crash ∷ past) l)
+    (λ e j. absurd j)
+    (λ e j. inl (subst (λ (ls : List Lock). In l ls) (sym (cond-false (nat_eq t 0) [] (granted 0 (printed past)) (flip t 0 ∙ e))) (settles past l (λ f did. owed past (turn stamp (Target t)) f Crash did a.owes) (h l j))))
+    i
 keeps_granted head past stamp (Client c) (Restore lock) a g h l i = absurd a.ok
 keeps_granted head past stamp (Target t) (Restore lock) a g h l i = absurd a.ok
 keeps_granted head past stamp node e a g h l i = inl (settles past l (λ f did. owed past (turn stamp node) f e did a.owes) (h l i))
@@ -222,5 +231,5 @@ none_waits head (x ∷ past) g = by x.at.node x.entry g.0.ok (none_waits head pa
     by (Client c) (Evict who cause) ok h = absurd ok
     by (Target t) (Evict who cause) ok h = cond_both (nat_eq t 0) (of_others who (waiting 0 (printed past))) (waiting 0 (printed past)) (λ (ls : List Lock). ls ≡ []) (λ e. ap (of_others who) h) (λ e. h)
     by (Client c) Crash ok h = absurd ok
-    by (Target t) Crash ok h = absurd ok
+    by (Target t) Crash ok h = cond_both (nat_eq t 0) [] (waiting 0 (printed past)) (λ (ls : List Lock). ls ≡ []) (λ e. refl) (λ e. h)
     by node e ok h = h

@@ -34,7 +34,8 @@ use Rattle.lu_laws.specs.Words.Pasts as pasts
 use Rattle.lu_laws.specs.Words.Pasts.{or_else}
 use Rattle.lu_laws.specs.Words.Calls as calls
 use Rattle.lu_laws.specs.Words.Calls.{Binding, bound, binding, told_binding, begun_binding, number_in, number_heard, heard_in, open_call, operation}
-use Rattle.lu_guards.proofs.Guards.{Later, Ending, Closes, Begins, LifeOk, ToldOk, EntryOk, Allowed, Grown}
+use Rattle.lu_guards.proofs.Guards.{Later, Ending, Closes, Begins, LifeOk, ToldOk, EntryOk}
+use Rattle.lu_guards.proofs.Grown.{Allowed, Grown}
 use Rattle.lu_guards.proofs.Lists.{self, life_is}
 use Rattle.lu_facts.proofs.Groups.{turn, Acted}
 use Rattle.lu_facts.proofs.All.{holds}

@@ -13,7 +13,8 @@ use Rattle.lu_words.specs.Printed.{printed}
 use Rattle.lu_covered.specs.Heads.{Head}
 use Rattle.lu_laws.specs.Words.Pasts.{same_turn, or_else}
 use Rattle.lu_laws.specs.Words.Calls.{heard_in}
-use Rattle.lu_guards.proofs.Guards.{JustHeard, TookNow, Later, Allowed, Grown}
+use Rattle.lu_guards.proofs.Guards.{JustHeard, TookNow, Later}
+use Rattle.lu_guards.proofs.Grown.{Allowed, Grown}
 use Rattle.lu_guards.proofs.Lists.{self}
 use Rattle.lu_facts.proofs.Groups.{turn}
 use Rattle.lu_lawful.proofs.Turns.{later_before, same_turn_is, same_turn_self}

@@ -2,13 +2,14 @@
 use Rattle.std.proofs.Common.{◌≡◌, ℕ, Bool, true, false, List, [], ◌∷◌, inl, inr, refl, ap, ◌∙◌}
 use Rattle.std.specs.Prelude.{nat_eq, not, map, if◌then◌else◌}
 use Rattle.std.proofs.lemmas.Bool.{and_parts, cond_both, eqb-true}
+use Rattle.lu_base.specs.declared.ids.TargetId.{TargetId}
 use Rattle.lu_base.specs.declared.locks.Lock.{Lock}
 use Rattle.lu_held.specs.declared.names.LockName.{LockName}
 use Rattle.lu_held.specs.declared.locks.HeldLock.{HeldLock}
 use Rattle.lu_held.specs.declared.locks.Change.{Change}
 use Rattle.lu_held.specs.declared.locks.Change.TheVariants.{Mark, Unmark, Pin, Unpin}
 use Rattle.lu_held.specs.Locks.{name_of, is_named, after}
-use Rattle.lu_held.specs.Held.{is_held, changed, used, without}
+use Rattle.lu_held.specs.Held.{is_held, changed, used, unmarked, without}
 use Rattle.lu_client_rows.specs.Caches.{held_as, with_held, with_brought}
 use Rattle.lu_guards.proofs.Guards.{In}
 use Rattle.lu_guards.proofs.Lists.{in_left, in_right, in_filtered}
@@ -62,6 +63,12 @@ has_changed name change k hs (g, i, e) = (f g, in_mapped f g hs i, cond_both (is
   where
     f : HeldLock → HeldLock
     f h = if is_named name h then after change h else h
+
+pub has_unmarked : (target : TargetId) (k : Lock) (hs : List HeldLock) → Has k hs → Has k (unmarked target hs)
+has_unmarked target k hs (g, i, e) = (f g, in_mapped f g hs i, cond_both (nat_eq g.target.0 target.0) (after Unmark g) g (λ (x : HeldLock). x.lock ≡ k) (λ t. same_lock Unmark g ∙ e) (λ t. e))
+  where
+    f : HeldLock → HeldLock
+    f h = if nat_eq h.target.0 target.0 then after Unmark h else h
 
 pub has_used : (name : LockName) (k : Lock) (hs : List HeldLock) → Has k hs → Has k (used name hs)
 has_used name k hs (g, i, e) = (g, by (is_named name g) refl, e)

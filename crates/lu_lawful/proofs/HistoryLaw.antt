@@ -1,7 +1,7 @@
 -- The law of history: with the lost transactions taken out, the plain machine answers what clients were told, and
 -- refuses no transaction that stands. It has more opens than the contents, which lose those of a life that leaves; no part that is looked
 -- at holds opens.
-use Rattle.std.proofs.Common.{◌≡◌, ℕ, zero, suc, ◌+◌, ◌<◌, ◌≤◌, Bool, true, false, List, [], ◌∷◌, ◌++◌, ◌⊎◌, Option, Some, None, inl, inr, refl, sym, subst, ap, ◌∙◌, arith}
+use Rattle.std.proofs.Common.{◌*◌, ◌≡◌, ℕ, zero, suc, ◌+◌, ◌<◌, ◌≤◌, Bool, true, false, List, [], ◌∷◌, ◌++◌, ◌⊎◌, Option, Some, None, inl, inr, refl, sym, subst, ap, ◌∙◌, arith}
 use Rattle.std.specs.Prelude.{nat_eq, not, ◌&&◌, ◌||◌, nat_lt, if◌then◌else◌, filter}
 use Rattle.std.specs.List.{list_any}
 use Rattle.std.specs.Option.{option_map}
@@ -42,13 +42,13 @@ use Rattle.lu_machine.proofs.Removal.{earlier_are_older}
 use Rattle.lu_machine.proofs.Seen.{removal_by_seen}
 use Rattle.lu_machine.proofs.Transactions.{readings_change_nothing, machine_is_table}
 use Rattle.lu_words.specs.Carried.{Deed, Work, Running, HandleFile}
-use Rattle.lu_words.specs.Words.{Entry, Heard, Told, Act, Txn as Made, Commit, Evict, Line, line}
+use Rattle.lu_words.specs.Words.{Entry, Heard, Told, Act, Txn as Made, Commit, Boot, Evict, Line, line}
 use Rattle.lu_words.specs.Concerns.{only}
 use Rattle.lu_words.specs.Printed.{printed}
 use Rattle.lu_covered.specs.Calls.{life_at, call_at, operation_of, becomes}
 use Rattle.lu_covered.specs.Known.{notes_at, known_answer}
 use Rattle.lu_covered.specs.TargetParts.{operation}
-use Rattle.lu_covered.specs.TargetStates.{count_at, committed_at, tree_at, log_at, server_at, seen_in}
+use Rattle.lu_covered.specs.TargetStates.{boot_at, count_at, committed_at, tree_at, log_at, server_at, seen_in}
 use Rattle.lu_covered.specs.Heads.{Head}
 use Rattle.lu_laws.specs.Words.Pasts.{same_turn, is_target}
 use Rattle.lu_laws.specs.Words.Lives.{who_is, is_evicted, is_gone}
@@ -62,8 +62,10 @@ use Rattle.lu_laws.proofs.Tests.{both, settled}
 use Rattle.lu_laws.specs.Laws.History.{is_accepted, heard_answer, right_answer, ToldOn, ToldAt, HistoryOf}
 use Rattle.lu_laws.specs.Laws.History as law
 use Rattle.lu_lawful.specs.Fits.{AllStand, SeenStand, ReplyStands, HeardStandsAt, HeardStand, CommitStandsAt, CommitsStand, EvictedOut, Fits}
-use Rattle.lu_guards.proofs.Guards.{In, Allowed, Grown}
+use Rattle.lu_guards.proofs.Guards.{In}
+use Rattle.lu_guards.proofs.Grown.{Allowed, Grown}
 use Rattle.lu_guards.proofs.Lists.{life_is}
+use Rattle.lu_facts.proofs.Finds.{numbers_at, numbers_up}
 use Rattle.lu_facts.proofs.Groups.{turn, Acted, Evicted}
 use Rattle.lu_facts.proofs.OnNames.{IsPlain, told_so, reading_told}
 use Rattle.lu_facts.proofs.Refused.{acted_plain}
@@ -340,21 +342,21 @@ module _ (head : Head) (out : Who → Bool) (lost : ℕ → ℕ → Bool) where
 
   -- its last number is passed by the next, and its tree holds what the transactions that stand leave, whatever opens lives took with them
   abbrev Follows : List Line → Type 0
-  Follows past = ((machine past).last ≤ 4294967296 + count_at 0 past) × ((p : Part) → Same (machine past).tree (whole head.osts (standing past)) p)
+  Follows past = ((machine past).last ≤ numbers_at past) × ((p : Part) → Same (machine past).tree (whole head.osts (standing past)) p)
 
   -- the same after a transaction whose request asked for o, and which is lost or not
   abbrev FollowsMade : List Line → Deed → Option Op → Bool → Type 0
   FollowsMade past d o t =
-      ((after_item head.osts (machine past) (if t then None else names_act d.reply.who d.reply.txn o)).last ≤ 4294967296 + (count_at 0 past + 1))
+      ((after_item head.osts (machine past) (if t then None else names_act d.reply.who d.reply.txn o)).last ≤ boot_at 0 past * 4294967296 + (count_at 0 past + 1))
       × ((p : Part) → Same (after_item head.osts (machine past) (if t then None else names_act d.reply.who d.reply.txn o)).tree (whole head.osts (if not t then Acts (operation d) ∷ standing past else standing past)) p)
 
   follows_made : (past : List Line) (at : At) (d : Deed) → Grown head past → TxnIs head.osts (server_at head.osts 0 past) at d → AskedAt past d → Follows past → Follows (line (turn at.stamp (Target 0)) (Made d) ∷ past)
   follows_made past at d g is asks h = by (lost 0 d.reply.txn.0)
     where
-      number : d.reply.txn.0 ≡ 4294967296 + (count_at 0 past + 1)
+      number : d.reply.txn.0 ≡ numbers_at past + 1
       number = number_is head past at d g is
 
-      last : (machine past).last ≤ 4294967296 + count_at 0 past
+      last : (machine past).last ≤ numbers_at past
       last = h.0
 
       by : (t : Bool) → FollowsMade past d (asked (printed past) 0 d.reply.who d.reply.xid.0) t
@@ -371,7 +373,7 @@ module _ (head : Head) (out : Who → Bool) (lost : ℕ → ℕ → Bool) where
   follows_told : (past : List Line) (stamp : Stamp) (c slot : ℕ) (named : At) (given : Answer) (work : Option Work) → Grown head past → TellsAt past (turn stamp (Client c)) (Client c) slot named given → Follows past
       → Follows (line (turn stamp (Client c)) (Told slot named given work) ∷ past)
   follows_told past stamp c slot named given work g tells h =
-      subst (λ (m : Machine). (m.last ≤ 4294967296 + count_at 0 past) × ((p : Part) → Same m.tree (whole head.osts (standing past)) p)) (sym (by tells)) h
+      subst (λ (m : Machine). (m.last ≤ numbers_at past) × ((p : Part) → Same m.tree (whole head.osts (standing past)) p)) (sym (by tells)) h
     where
       none_counts : (b : Bool) → (b && false) ≡ false
       none_counts true = refl
@@ -404,6 +406,7 @@ module _ (head : Head) (out : Who → Bool) (lost : ℕ → ℕ → Bool) where
       by (Client c) (Evict who cause) k a t h = absurd k.ok
       by (Target zero) (Evict who cause) k a t h = (h.0, λ p. same_trans (machine past).tree (whole head.osts (standing past)) (forget (whole head.osts (standing past)) who) p (h.1 p) (same_forgot (whole head.osts (standing past)) who p))
       by (Target (suc u)) (Evict who cause) k a t h = h
+      by (Target u) (Boot b disk) k a t h = let last = h.0 in let up = numbers_up head (line (turn l.at.stamp (Target u)) (Boot b disk)) past g.1 k in (omega (arith, last, up), h.1)
       by _ _ k a t h = h
 
   -- what saw only what stands comes out of the machine as it came out of the target

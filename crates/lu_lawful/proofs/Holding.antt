@@ -19,7 +19,7 @@ use Rattle.lu_msg.specs.declared.operations.Op.TheVariants as op
 use Rattle.lu_held.specs.declared.locks.HeldLock.{HeldLock}
 use Rattle.lu_held.specs.declared.locks.Change.TheVariants.{Mark, Pin, Unpin}
 use Rattle.lu_held.specs.Locks.{named, is_named}
-use Rattle.lu_held.specs.Held.{changed, used, without}
+use Rattle.lu_held.specs.Held.{changed, used, unmarked, without}
 use Rattle.lu_machine.specs.Tree.{same_life}
 use Rattle.lu_words.specs.Carried.{Deed, Flight}
 use Rattle.lu_words.specs.Words.{Entry, Tick, Heard, Hold, Drop, Life, Pins, Unpins, Marks, Unmarks, Line, line}
@@ -33,7 +33,8 @@ use Rattle.lu_covered.specs.Heads.{Head}
 use Rattle.lu_laws.specs.Words.Lives.{who_is, is_evicted}
 use Rattle.lu_laws.specs.Words.Held.{Held, held, given, is_held_by, all_but, with_lock}
 use Rattle.lu_laws.proofs.Tests.{clash, refuted}
-use Rattle.lu_guards.proofs.Guards.{In, Did, HeardNow, Allowed, Grown}
+use Rattle.lu_guards.proofs.Guards.{In, Did, HeardNow}
+use Rattle.lu_guards.proofs.Grown.{Allowed, Grown}
 use Rattle.lu_guards.proofs.Held.{held_is}
 use Rattle.lu_guards.proofs.Lists.{self, in_append, in_filter}
 use Rattle.lu_guards.proofs.Parts.{life_is_of}
@@ -48,7 +49,7 @@ use Rattle.lu_lawful.proofs.Story.{about_it}
 use Rattle.lu_lawful.proofs.Printed.{present_is, evicted_is}
 use Rattle.lu_lawful.proofs.Given.{Showed, all_given, showed_gave}
 use Rattle.lu_lawful.proofs.Granted.{Unique, given_is}
-use Rattle.lu_lawful.proofs.HeldLists.{Has, has_held, has_brought, has_changed, has_used, has_left}
+use Rattle.lu_lawful.proofs.HeldLists.{Has, has_held, has_brought, has_changed, has_unmarked, has_used, has_left}
 
 -- ---- what was just heard
 
@@ -289,7 +290,8 @@ module _ (head : Head) where
       (at_own past old.client d h.lock (λ hs. used name (changed name Unpin hs)) (λ e m. has_used name h.lock (changed name Unpin (held_at old.client past)) (has_changed name Unpin h.lock (held_at old.client past) m)) old.mine)
   keeps_held past stamp (Client d) (Marks name) a g k h i =
       let old = k h i in still past (line (turn stamp (Client d)) (Marks name) ∷ past) h old refl (at_own past old.client d h.lock (changed name Mark) (λ e m. has_changed name Mark h.lock (held_at old.client past) m) old.mine)
-  keeps_held past stamp (Client d) (Unmarks t) a g k h i = absurd a.ok
+  keeps_held past stamp (Client d) (Unmarks t) a g k h i =
+      let old = k h i in still past (line (turn stamp (Client d)) (Unmarks t) ∷ past) h old refl (at_own past old.client d h.lock (unmarked (record { 0 = t })) (λ e m. has_unmarked (record { 0 = t }) h.lock (held_at old.client past) m) old.mine)
   keeps_held past stamp (Client d) (Life w) a g k h i = lives_one past stamp d w a g k h i
   keeps_held past stamp (Target t) (Life w) a g k h i = absurd a.ok
   keeps_held past stamp (Target t) Tick a g k h i = let old = k h i in still past (line (turn stamp (Target t)) Tick ∷ past) h old refl old.mine

@@ -5,6 +5,11 @@ pub mod Printed
 pub mod MessagesLaw
 pub mod Facts
 pub mod Deeds
+pub mod Slots
+pub mod Handed
+pub mod Taking
+pub mod Backs
+pub mod OneWord
 pub mod Contents
 pub mod Committed
 pub mod SeenNumbers
@@ -33,6 +38,7 @@ pub mod SilentHeld
 pub mod SilentCalm
 pub mod SilentTaught
 pub mod SilentAgrees
+pub mod SilentServed
 pub mod SilentLaw
 pub mod GlimpseLaw
 pub mod Whole
@@ -59,6 +65,8 @@ pub use Rattle.lu_facts.proofs.Lines as FactLines
 pub use Rattle.lu_guards.proofs.ClientHandles
 pub use Rattle.lu_guards.proofs.Covers
 pub use Rattle.lu_guards.proofs.Guards
+pub use Rattle.lu_guards.proofs.StoryGuards
+pub use Rattle.lu_guards.proofs.Grown
 pub use Rattle.lu_guards.proofs.LifeLists as GuardLifeLists
 pub use Rattle.lu_guards.proofs.Lists
 pub use Rattle.lu_guards.proofs.Obey

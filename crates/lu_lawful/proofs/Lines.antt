@@ -9,7 +9,7 @@ use Rattle.lu_words.specs.Printed.{printed_entry, printed}
 use Rattle.lu_covered.specs.Heads.{Head}
 use Rattle.lu_laws.specs.Words.Pasts.{Past}
 use Rattle.lu_laws.specs.Holds.{HoldsBefore}
-use Rattle.lu_guards.proofs.Guards.{Allowed, Grown}
+use Rattle.lu_guards.proofs.Grown.{Allowed, Grown}
 
 -- of what is printed of a line, if anything
 abbrev pub OfPrinted : (PrintedEntry → Type 0) → Option PrintedEntry → Type 0

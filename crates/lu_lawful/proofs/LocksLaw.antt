@@ -42,7 +42,8 @@ use Rattle.lu_laws.specs.Words.Asked.{requested, is_for, asked_for}
 use Rattle.lu_laws.specs.Words.Held.{Held, held, is_held_by, all_but, opposes, is_opposed}
 use Rattle.lu_laws.specs.Holds.{Holds}
 use Rattle.lu_laws.specs.Laws.Locks.{HoldsGiven, HoldBy, IsAsked, GrantBy, exclusive, AreUnguarded, TxnBy, LocksAt, Locks}
-use Rattle.lu_guards.proofs.Guards.{In, Did, Allowed, Grown}
+use Rattle.lu_guards.proofs.Guards.{In, Did}
+use Rattle.lu_guards.proofs.Grown.{Allowed, Grown}
 use Rattle.lu_guards.proofs.Lists.{in_filter, in_filtered}
 use Rattle.lu_guards.proofs.Parts.{server_is}
 use Rattle.lu_facts.proofs.Groups.{turn}

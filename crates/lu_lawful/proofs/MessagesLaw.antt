@@ -11,7 +11,8 @@ use Rattle.lu_words.specs.Printed.{printed_entry, printed}
 use Rattle.lu_covered.specs.Heads.{Head}
 use Rattle.lu_laws.specs.Laws.Messages.{Follows, Lives, Passes, MessagesAt, Messages}
 use Rattle.lu_laws.specs.Holds.{Holds}
-use Rattle.lu_guards.proofs.Guards.{Steps, ToldOk, KnownOk, EndsOk, BadOk, LivesAt, Allowed, Grown}
+use Rattle.lu_guards.proofs.Guards.{Steps, ToldOk, KnownOk, EndsOk, BadOk}
+use Rattle.lu_guards.proofs.Grown.{LivesAt, Allowed, Grown}
 use Rattle.lu_facts.proofs.Groups.{turn}
 use Rattle.lu_lawful.proofs.Turns.{steps_trans, upto_is}
 use Rattle.lu_lawful.proofs.Printed.{sends_is, sent_to, died_is, free_is, open_is_some}

@@ -19,7 +19,9 @@ use Rattle.lu_laws.specs.Words.Pasts.{same_turn}
 use Rattle.lu_laws.specs.Words.Sends.{Sending, sending, with_taken, taken}
 use Rattle.lu_laws.specs.Laws.Acts.{is_notice, took_notice}
 use Rattle.lu_laws.proofs.Tests.{either_left, either_right}
-use Rattle.lu_guards.proofs.Guards.{Was, Took, Noticed, Newer, Allowed, Grown}
+use Rattle.lu_guards.proofs.Guards.{Was, Took, Noticed}
+use Rattle.lu_guards.proofs.StoryGuards.{Newer}
+use Rattle.lu_guards.proofs.Grown.{Allowed, Grown}
 use Rattle.lu_guards.proofs.Lists.{self, life_self}
 use Rattle.lu_guards.proofs.Only.{sent_was, was_only, was_more}
 use Rattle.lu_guards.proofs.Parts.{life_is_of}

@@ -20,7 +20,8 @@ use Rattle.lu_covered.specs.TargetParts.{is_request_of, without_request, waiting
 use Rattle.lu_covered.specs.TargetStates.{server_of, waiting_at}
 use Rattle.lu_covered.specs.Heads.{Head}
 use Rattle.lu_laws.specs.Words.Requests.{first_request}
-use Rattle.lu_guards.proofs.Guards.{In, Was, Allowed, Grown}
+use Rattle.lu_guards.proofs.Guards.{In, Was}
+use Rattle.lu_guards.proofs.Grown.{Allowed, Grown}
 use Rattle.lu_guards.proofs.Lists.{in_append, in_filter}
 use Rattle.lu_guards.proofs.Only.{was_back, was_more}
 use Rattle.lu_guards.proofs.Parts.{waiting_is}

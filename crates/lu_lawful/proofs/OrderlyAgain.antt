@@ -26,7 +26,9 @@ use Rattle.lu_laws.specs.Words.Sends.{Sending, taken}
 use Rattle.lu_laws.specs.Laws.Recovery.{is_size_for, is_executed}
 use Rattle.lu_laws.specs.Order.Repeated.{last_reply, asks, SameReply, Repeats, RepeatedAt, RepeatedBy, Repeated}
 use Rattle.lu_laws.proofs.Tests.{either_left}
-use Rattle.lu_guards.proofs.Guards.{Did, TookNow, Taken, RepliesAgain, ReplyOk, Answers, Owes, Allowed, Grown}
+use Rattle.lu_guards.proofs.Guards.{Did, TookNow, Taken, RepliesAgain, Answers, Owes}
+use Rattle.lu_guards.proofs.StoryGuards.{ReplyOk}
+use Rattle.lu_guards.proofs.Grown.{Allowed, Grown}
 use Rattle.lu_guards.proofs.Lists.{self, life_is}
 use Rattle.lu_facts.proofs.Groups.{turn, Acted}
 use Rattle.lu_facts.proofs.All.{holds}
@@ -113,6 +115,8 @@ keeps_answered head past stamp (Target t) (Send (Client c) (message.Ready who bo
     ⊎_elim (λ (did : Did past d). absurd (did_owes past (turn stamp (Target t)) d (Send (Client c) (message.Ready who boot number)) did a.owes)) (λ (last : IsLast past d). inr last) (h d i)
 keeps_answered head past stamp (Target t) (Send (Client c) (message.Evicted who boot)) a g h d i =
     ⊎_elim (λ (did : Did past d). absurd (did_owes past (turn stamp (Target t)) d (Send (Client c) (message.Evicted who boot)) did a.owes)) (λ (last : IsLast past d). inr last) (h d i)
+keeps_answered head past stamp (Target t) (Send (Client c) (message.Up boot)) a g h d i =
+    ⊎_elim (λ (did : Did past d). absurd (did_owes past (turn stamp (Target t)) d (Send (Client c) (message.Up boot)) did a.owes)) (λ (last : IsLast past d). inr last) (h d i)
 keeps_answered head past stamp (Target t) (Send to m) a g h d i = absurd a.ok
 keeps_answered head past stamp (Client c) (Send (Target t) (message.Request r)) a g h d i =
     ⊎_elim (λ (did : Did past d). absurd (did_owes past (turn stamp (Client c)) d (Send (Target t) (message.Request r)) did a.owes)) (λ (last : IsLast past d). inr last) (h d i)
@@ -120,6 +124,12 @@ keeps_answered head past stamp (Client c) (Send (Target t) (message.Cancel who b
     ⊎_elim (λ (did : Did past d). absurd (did_owes past (turn stamp (Client c)) d (Send (Target t) (message.Cancel who boot cookie)) did a.owes)) (λ (last : IsLast past d). inr last) (h d i)
 keeps_answered head past stamp (Client c) (Send (Target t) (message.Join who boot)) a g h d i =
     ⊎_elim (λ (did : Did past d). absurd (did_owes past (turn stamp (Client c)) d (Send (Target t) (message.Join who boot)) did a.owes)) (λ (last : IsLast past d). inr last) (h d i)
+keeps_answered head past stamp (Client c) (Send (Target t) (message.Replay r)) a g h d i =
+    ⊎_elim (λ (did : Did past d). absurd (did_owes past (turn stamp (Client c)) d (Send (Target t) (message.Replay r)) did a.owes)) (λ (last : IsLast past d). inr last) (h d i)
+keeps_answered head past stamp (Client c) (Send (Target t) (message.Lock r)) a g h d i =
+    ⊎_elim (λ (did : Did past d). absurd (did_owes past (turn stamp (Client c)) d (Send (Target t) (message.Lock r)) did a.owes)) (λ (last : IsLast past d). inr last) (h d i)
+keeps_answered head past stamp (Client c) (Send (Target t) (message.Word who boot replays locks seen)) a g h d i =
+    ⊎_elim (λ (did : Did past d). absurd (did_owes past (turn stamp (Client c)) d (Send (Target t) (message.Word who boot replays locks seen)) did a.owes)) (λ (last : IsLast past d). inr last) (h d i)
 keeps_answered head past stamp (Client c) (Send to m) a g h d i = absurd a.ok
 keeps_answered head past stamp (Client c) (Act e) a g h d i = absurd a.ok
 keeps_answered head past stamp (Client c) (Made e) a g h d i = absurd a.ok
@@ -206,6 +216,7 @@ repeated_at head past l later a g = by l.at.node l.entry a
     by (Target t) (Send (Client c) (message.Block who boot cookie)) a = tt
     by (Target t) (Send (Client c) (message.Ready who boot number)) a = tt
     by (Target t) (Send (Client c) (message.Evicted who boot)) a = tt
+    by (Target t) (Send (Client c) (message.Up boot)) a = tt
     by (Target t) (Send to m) a = absurd a.ok
     by (Client c) (Send to m) a = tt
     by _ _ a = tt

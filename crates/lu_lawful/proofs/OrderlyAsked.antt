@@ -1,5 +1,5 @@
 -- What every covered run keeps of requests: what acts was asked for since its target serves, and isn't answered yet.
-use Rattle.std.proofs.Common.{◌≡◌, ℕ, Bool, true, false, List, [], ◌∷◌, ◌++◌, Option, Some, inl, inr, ⊎_elim, refl, sym, subst, ap, ◌∙◌}
+use Rattle.std.proofs.Common.{◌≡◌, ℕ, Bool, true, false, List, [], ◌∷◌, ◌++◌, Option, Some, inl, inr, ⊎_elim, refl, sym, subst, ap, ◌∙◌, arith}
 use Rattle.std.specs.Prelude.{nat_eq, not, ◌||◌, if◌then◌else◌, filter}
 use Rattle.std.specs.Option.{option_map}
 use Rattle.std.proofs.lemmas.Bool.{and_parts, cond_both, cond-true, eqb-true}
@@ -15,9 +15,9 @@ use Rattle.lu_msg.specs.declared.messages.Reply.{Reply as ReplyTo}
 use Rattle.lu_msg.specs.declared.messages.Request.{Request as RequestOf}
 use Rattle.lu_trace.specs.declared.entries.Line.{Line as PrintedLine}
 use Rattle.lu_machine.specs.Tree.{same_life}
-use Rattle.lu_words.specs.Carried.{Deed}
-use Rattle.lu_words.specs.Words.{Entry, Send, Take, Act, Txn as Made, Boot, Close, Evict, Enters, Line, line}
-use Rattle.lu_words.specs.Concerns.{only}
+use Rattle.lu_words.specs.Carried.{Deed, Disk}
+use Rattle.lu_words.specs.Words.{Entry, Send, Take, Act, Txn as Made, Crash, Boot, Close, Evict, Enters, Line, line}
+use Rattle.lu_words.specs.Concerns.{concerns, only}
 use Rattle.lu_words.specs.Printed.{printed}
 use Rattle.lu_target_rows.specs.Lives.{is_life}
 use Rattle.lu_covered.specs.TargetParts.{is_request_of, without_request}
@@ -30,16 +30,19 @@ use Rattle.lu_laws.specs.Words.Boots.{boot}
 use Rattle.lu_laws.specs.Order.Handed.{comes_to}
 use Rattle.lu_laws.specs.Order.Requests.{is_request, with_request, without_answered, without_life, unanswered, has_request, Requests}
 use Rattle.lu_laws.proofs.Tests.{settled}
-use Rattle.lu_guards.proofs.Guards.{In, TookNow, ReplyOk, Allowed, Grown}
+use Rattle.lu_guards.proofs.Guards.{In, TookNow}
+use Rattle.lu_guards.proofs.StoryGuards.{IsServing, ReplyOk, BootOk}
+use Rattle.lu_guards.proofs.Grown.{Allowed, Grown}
 use Rattle.lu_guards.proofs.Lists.{self, in_append, in_filter, in_filtered, life_is}
 use Rattle.lu_guards.proofs.Parts.{waiting_is}
-use Rattle.lu_facts.proofs.Groups.{turn}
+use Rattle.lu_facts.proofs.Groups.{turn, Phase}
+use Rattle.lu_facts.proofs.Phase.{serves_first}
 use Rattle.lu_facts.proofs.All.{holds}
 use Rattle.lu_lawful.proofs.Turns.{same_life_self}
 use Rattle.lu_lawful.proofs.Story.{about_it}
 use Rattle.lu_lawful.proofs.Lines.{Keeps, holds_before}
-use Rattle.lu_lawful.proofs.Contents.{boot_is}
 use Rattle.lu_lawful.proofs.Printed.{flip, sending_is}
+use Rattle.lu_lawful.proofs.Taking.{boot_of}
 use Rattle.lu_lawful.proofs.OrderlyQuiet.{Says}
 use Rattle.lu_guards.proofs.ClientLocks.{any_passes}
 
@@ -50,6 +53,25 @@ Unanswered past r = In r (unanswered 0 (printed past))
 -- what waits is
 abbrev pub AllUnanswered : List Line → Type 0
 AllUnanswered past = (r : RequestOf) → In r (waiting_at 0 past) → Unanswered past r
+
+-- ---- the target serves before a line after which it does
+
+boot_unserved : (head : Head) (past : List Line) (stamp : Stamp) (t b : ℕ) (disk : Disk) → BootOk head.osts past b → Phase head.osts past → IsServing head.osts (line (turn stamp (Target t)) (Boot b disk) ∷ past) → ⊥
+boot_unserved head past stamp t b disk ok p s = let closed = s.closed in let first = p.closed in let next = ok.next in let low = p.low in omega (arith, closed, first, next, low)
+
+served_before : (head : Head) (past : List Line) (stamp : Stamp) (node : Node) (e : Entry) → Allowed head past (turn stamp node) e → Grown head past → IsServing head.osts (only 0 (line (turn stamp node) e ∷ past)) → IsServing head.osts (only 0 past)
+served_before head past stamp node e a g s =
+    cond_both (concerns 0 node e) (line (turn stamp node) e ∷ only 0 past) (only 0 past) (λ (p : List Line). IsServing head.osts p → IsServing head.osts (only 0 past))
+    (λ q v. by node e a q v) (λ q v. v) s
+  where
+    by : (node : Node) (e : Entry) → Allowed head past (turn stamp node) e → concerns 0 node e ≡ true → IsServing head.osts (line (turn stamp node) e ∷ only 0 past) → IsServing head.osts (only 0 past)
+    by (Target u) Crash a q v = let up = v.up in absurd (cc)
+    by (Target u) (Boot b disk) a q v = absurd (boot_unserved head (only 0 past) stamp u b disk (a.of 0 q) ((holds head past g).at 0).phase v)
+    by (Target u) (Close outcome) a q v = absurd a.ok
+    by (Client c) Crash a q v = absurd a.ok
+    by (Client c) (Boot b disk) a q v = absurd a.ok
+    by (Client c) (Close outcome) a q v = absurd a.ok
+    by _ _ a q v = v
 
 its_own : (r : RequestOf) → is_request r.who r.xid.0 r ≡ true
 its_own r = rw (same_life_self r.who, self r.xid.0) refl
@@ -64,20 +86,20 @@ with_it : (r : RequestOf) (b : ℕ) (rs : List RequestOf) → r.boot ≡ b → I
 with_it r b rs e = subst (λ (v : List RequestOf). In r v) (sym (cond-true (nat_eq r.boot b) (r ∷ rs) rs (subst (λ (v : ℕ). nat_eq r.boot v ≡ true) e (self r.boot)))) (inl refl)
 
 -- the request that the newest line took
-took_it : (head : Head) (past : List Line) (at : At) (from : Node) (r : RequestOf) → Grown head past → at.node ≡ Target 0 → r.boot ≡ 1 → TookNow past at from (message.Request r) → Unanswered past r
+took_it : (head : Head) (past : List Line) (at : At) (from : Node) (r : RequestOf) → Grown head past → at.node ≡ Target 0 → r.boot ≡ boot 0 (printed past) → TookNow past at from (message.Request r) → Unanswered past r
 took_it head [] at from r g n b t = absurd t
-took_it head (l ∷ past) at from r g n b t = by l.entry g.0 t
+took_it head (l ∷ past) at from r g n b t = by l.entry g.0 b t
   where
-    by : (e : Entry) → Allowed head past l.at e → TookNow (line l.at e ∷ past) at from (message.Request r) → Unanswered (line l.at e ∷ past) r
-    by (Take k sender m) a t =
+    by : (e : Entry) → Allowed head past l.at e → r.boot ≡ boot 0 (printed (line l.at e ∷ past)) → TookNow (line l.at e ∷ past) at from (message.Request r) → Unanswered (line l.at e ∷ past) r
+    by (Take k sender m) a b t =
         let here : l.at.node ≡ Target 0 = ap (λ (v : At). v.node) t.0 ∙ n in
         let is : message_of (printed past) k ≡ Some m = ap (λ (o : Option Sending). option_map (λ (s : Sending). s.message) o) (sending_is past k sender l.at.node m a.ok.sent) in
         let comes : comes_to 0 (printed past) l.at.node k ≡ Some (message.Request r) =
         ap (λ (v : Node). comes_to 0 (printed past) v k) here ∙ is ∙ ap (λ (v : Message). Some v) t.2
         in
         subst (λ (o : Option Message). In r (with_request o (boot 0 (printed past)) (unanswered 0 (printed past)))) (sym comes)
-        (with_it r (boot 0 (printed past)) (unanswered 0 (printed past)) (b ∙ sym (boot_is head past g.1)))
-    by _ a t = absurd t
+        (with_it r (boot 0 (printed past)) (unanswered 0 (printed past)) b)
+    by _ a b t = absurd t
 
 -- ---- a reply is sent
 
@@ -111,43 +133,51 @@ acted_fewer past at e d false r h i = h r i
 entered : (head : Head) (past : List Line) (stamp : Stamp) (t : ℕ) (q : RequestOf) → Allowed head past (turn stamp (Target t)) (Enters q) → Grown head past → Unanswered past q
 entered head past stamp t q a g =
     let ok = a.of 0 (about_it t a.ok.0) in
-    let m = ((holds head past g).at 0).done.sent (Client ok.from) (Target t) (message.Request q) ok.was in
-    took_it head past (turn stamp (Target t)) a.ok.1.0 q g (ap Target a.ok.0) (ap (λ (v : RequestOf). v.boot) m.2) a.ok.1.1
+    let h = (holds head past g).at 0 in
+    let m = h.done.sent (Client ok.from) (Target t) (message.Request q) ok.was in
+    let first : boot 0 (printed past) ≡ 1 = boot_of head 0 past g ∙ serves_first head.osts (only 0 past) h.phase ok.serves in
+    took_it head past (turn stamp (Target t)) a.ok.1.0 q g (ap Target a.ok.0) (ap (λ (v : RequestOf). v.boot) m.2 ∙ sym first) a.ok.1.1
 
-keeps_unanswered : (head : Head) (past : List Line) (stamp : Stamp) (node : Node) (e : Entry) → Allowed head past (turn stamp node) e → Grown head past → AllUnanswered past → AllUnanswered (line (turn stamp node) e ∷ past)
-keeps_unanswered head past stamp node (Take n from m) a g h r i = with_more r (comes_to 0 (printed past) node n) (boot 0 (printed past)) (unanswered 0 (printed past)) (h r i)
-keeps_unanswered head past stamp (Client c) (Send to m) a g h r i = h r i
-keeps_unanswered head past stamp (Target t) (Send (Client c) (message.Reply k)) a g h r i =
+keeps_unanswered : (head : Head) (past : List Line) (stamp : Stamp) (node : Node) (e : Entry) → Allowed head past (turn stamp node) e → Grown head past → IsServing head.osts (only 0 (line (turn stamp node) e ∷ past)) → AllUnanswered past → AllUnanswered (line (turn stamp node) e ∷ past)
+keeps_unanswered head past stamp node (Take n from m) a g s h r i = with_more r (comes_to 0 (printed past) node n) (boot 0 (printed past)) (unanswered 0 (printed past)) (h r i)
+keeps_unanswered head past stamp (Client c) (Send to m) a g s h r i = h r i
+keeps_unanswered head past stamp (Target t) (Send (Client c) (message.Reply k)) a g s h r i =
     let ok = a.of 0 (about_it t a.ok.0) in
     cond_both (is_target 0 (Target t)) (without_answered (message.Reply k) (unanswered 0 (printed past))) (unanswered 0 (printed past)) (λ (v : List RequestOf). In r v)
     (λ e. in_filtered (λ (q : RequestOf). not (is_request k.who k.xid.0 q)) r (unanswered 0 (printed past)) (h r i) (stays head past c k r g ok i))
     (λ e. h r i)
-keeps_unanswered head past stamp (Target t) (Send (Client c) (message.Block who b cookie)) a g h r i =
+keeps_unanswered head past stamp (Target t) (Send (Client c) (message.Block who b cookie)) a g s h r i =
     cond_both (is_target 0 (Target t)) (unanswered 0 (printed past)) (unanswered 0 (printed past)) (λ (v : List RequestOf). In r v) (λ e. h r i) (λ e. h r i)
-keeps_unanswered head past stamp (Target t) (Send (Client c) (message.Ready who b number)) a g h r i =
+keeps_unanswered head past stamp (Target t) (Send (Client c) (message.Ready who b number)) a g s h r i =
     cond_both (is_target 0 (Target t)) (unanswered 0 (printed past)) (unanswered 0 (printed past)) (λ (v : List RequestOf). In r v) (λ e. h r i) (λ e. h r i)
-keeps_unanswered head past stamp (Target t) (Send (Client c) (message.Evicted who b)) a g h r i =
+keeps_unanswered head past stamp (Target t) (Send (Client c) (message.Evicted who b)) a g s h r i =
     cond_both (is_target 0 (Target t)) (unanswered 0 (printed past)) (unanswered 0 (printed past)) (λ (v : List RequestOf). In r v) (λ e. h r i) (λ e. h r i)
-keeps_unanswered head past stamp (Target t) (Send to m) a g h r i = absurd a.ok
-keeps_unanswered head past stamp (Client c) (Enters q) a g h r i = absurd a.ok
-keeps_unanswered head past stamp (Target t) (Enters q) a g h r i =
+keeps_unanswered head past stamp (Target t) (Send (Client c) (message.Up b)) a g s h r i =
+    cond_both (is_target 0 (Target t)) (unanswered 0 (printed past)) (unanswered 0 (printed past)) (λ (v : List RequestOf). In r v) (λ e. h r i) (λ e. h r i)
+keeps_unanswered head past stamp (Target t) (Send to m) a g s h r i = absurd a.ok
+keeps_unanswered head past stamp (Client c) (Enters q) a g s h r i = absurd a.ok
+keeps_unanswered head past stamp (Target t) (Enters q) a g s h r i =
     cond_both (nat_eq 0 t) (waiting_at 0 past ++ q ∷ []) (waiting_at 0 past) (λ (v : List RequestOf). In r v → Unanswered past r)
     (λ e j. ⊎_elim
     (λ (w : In r (waiting_at 0 past)). h r w)
-    (λ (w : In r (q ∷ [])). ⊎_elim (λ (s : q ≡ r). subst (λ (v : RequestOf). Unanswered past v) s (entered head past stamp t q a g)) (λ (v : ⊥). absurd v) w)
+    (λ (w : In r (q ∷ [])). ⊎_elim (λ (o : q ≡ r). subst (λ (v : RequestOf). Unanswered past v) o (entered head past stamp t q a g)) (λ (v : ⊥). absurd v) w)
     (in_append r (waiting_at 0 past) (q ∷ []) j))
     (λ e j. h r j)
     i
-keeps_unanswered head past stamp (Client c) (Act d) a g h r i = absurd a.ok
-keeps_unanswered head past stamp (Client c) (Made d) a g h r i = absurd a.ok
-keeps_unanswered head past stamp (Target t) (Act d) a g h r i = acted_fewer past (turn stamp (Target t)) (Act d) d (nat_eq 0 t) r h i
-keeps_unanswered head past stamp (Target t) (Made d) a g h r i = acted_fewer past (turn stamp (Target t)) (Made d) d (nat_eq 0 t) r h i
-keeps_unanswered head past stamp (Client c) (Boot b disk) a g h r i = absurd a.ok
-keeps_unanswered head past stamp (Target t) (Boot b disk) a g h r i = absurd a.ok
-keeps_unanswered head past stamp (Client c) (Close outcome) a g h r i = absurd a.ok
-keeps_unanswered head past stamp (Target t) (Close outcome) a g h r i = absurd a.ok
-keeps_unanswered head past stamp (Client c) (Evict who cause) a g h r i = absurd a.ok
-keeps_unanswered head past stamp (Target t) (Evict who cause) a g h r i =
+keeps_unanswered head past stamp (Client c) (Act d) a g s h r i = absurd a.ok
+keeps_unanswered head past stamp (Client c) (Made d) a g s h r i = absurd a.ok
+keeps_unanswered head past stamp (Target t) (Act d) a g s h r i = acted_fewer past (turn stamp (Target t)) (Act d) d (nat_eq 0 t) r h i
+keeps_unanswered head past stamp (Target t) (Made d) a g s h r i = acted_fewer past (turn stamp (Target t)) (Made d) d (nat_eq 0 t) r h i
+keeps_unanswered head past stamp (Client c) (Boot b disk) a g s h r i = absurd a.ok
+keeps_unanswered head past stamp (Target t) (Boot b disk) a g s h r i = booted (nat_eq 0 t) refl s
+  where
+    booted : (v : Bool) → nat_eq 0 t ≡ v → IsServing head.osts (if v then line (turn stamp (Target t)) (Boot b disk) ∷ only 0 past else only 0 past) → In r (if nat_eq t 0 then [] else unanswered 0 (printed past))
+    booted true e v = absurd (boot_unserved head (only 0 past) stamp t b disk (a.of 0 e) ((holds head past g).at 0).phase v)
+    booted false e v = subst (λ (x : Bool). In r (if x then [] else unanswered 0 (printed past))) (sym (flip t 0 ∙ e)) (h r i)
+keeps_unanswered head past stamp (Client c) (Close outcome) a g s h r i = absurd a.ok
+keeps_unanswered head past stamp (Target t) (Close outcome) a g s h r i = absurd a.ok
+keeps_unanswered head past stamp (Client c) (Evict who cause) a g s h r i = absurd a.ok
+keeps_unanswered head past stamp (Target t) (Evict who cause) a g s h r i =
     cond_both (nat_eq 0 t) (filter (λ (q : RequestOf). not (is_life q.who (who ∷ []))) (waiting_at 0 past)) (waiting_at 0 past) (λ (v : List RequestOf). In r v → Unanswered (line (turn stamp (Target t)) (Evict who cause) ∷ past) r)
     (λ e j. let k = in_filter (λ (q : RequestOf). not (is_life q.who (who ∷ []))) r (waiting_at 0 past) j in without k.0 (other k.1))
     (λ e j. apart e (h r j))
@@ -169,21 +199,23 @@ keeps_unanswered head past stamp (Target t) (Evict who cause) a g h r i =
 
     apart : nat_eq 0 t ≡ false → Unanswered past r → Unanswered (line (turn stamp (Target t)) (Evict who cause) ∷ past) r
     apart e u = subst (λ (b : Bool). In r (if b then without_life who (unanswered 0 (printed past)) else unanswered 0 (printed past))) (sym (flip t 0 ∙ e)) u
-keeps_unanswered head past stamp _ _ a g h r i = h r i
+keeps_unanswered head past stamp _ _ a g s h r i = h r i
 
-pub all_unanswered : (head : Head) (past : List Line) → Grown head past → AllUnanswered past
-all_unanswered head [] g r i = absurd i
-all_unanswered head (l ∷ past) g r i = keeps_unanswered head past l.at.stamp l.at.node l.entry g.0 g.1 (all_unanswered head past g.1) r i
+-- while the target serves
+pub all_unanswered : (head : Head) (past : List Line) → Grown head past → IsServing head.osts (only 0 past) → AllUnanswered past
+all_unanswered head [] g s r i = absurd i
+all_unanswered head (l ∷ past) g s r i =
+    keeps_unanswered head past l.at.stamp l.at.node l.entry g.0 g.1 s (all_unanswered head past g.1 (served_before head past l.at.stamp l.at.node l.entry g.0 g.1 s)) r i
 
 -- ---- the condition
 
-acts_asked : (head : Head) (past : List Line) (t : ℕ) (d : Deed) (r : RequestOf) → Grown head past → t ≡ 0 → In r (server_of head.osts (only 0 past)).waiting → r.who ≡ d.reply.who → r.xid ≡ d.reply.xid
+acts_asked : (head : Head) (past : List Line) (t : ℕ) (d : Deed) (r : RequestOf) → Grown head past → IsServing head.osts (only 0 past) → t ≡ 0 → In r (server_of head.osts (only 0 past)).waiting → r.who ≡ d.reply.who → r.xid ≡ d.reply.xid
     → has_request (printed past) (Target t) d.reply.who d.reply.xid.0 ≡ true
-acts_asked head past t d r g z i w x =
+acts_asked head past t d r g serves z i w x =
     subst (λ (v : ℕ). has_request (printed past) (Target v) d.reply.who d.reply.xid.0 ≡ true) (sym z)
     (subst (λ (v : Who). has_request (printed past) (Target 0) v d.reply.xid.0 ≡ true) w
     (subst (λ (v : Xid). has_request (printed past) (Target 0) r.who v.0 ≡ true) x
-    (any_passes (is_request r.who r.xid.0) r (unanswered 0 (printed past)) (all_unanswered head past g r (subst (λ (v : List RequestOf). In r v) (sym (waiting_is head.osts 0 past)) i)) (its_own r))))
+    (any_passes (is_request r.who r.xid.0) r (unanswered 0 (printed past)) (all_unanswered head past g serves r (subst (λ (v : List RequestOf). In r v) (sym (waiting_is head.osts 0 past)) i)) (its_own r))))
 
 requests_at : (head : Head) (past : List Line) (l : Line) (later : List PrintedLine) → Allowed head past l.at l.entry → Grown head past → Keeps Requests past l later
 requests_at head past l later a g = by l.at.node l.entry a
@@ -193,10 +225,10 @@ requests_at head past l later a g = by l.at.node l.entry a
     by (Client c) (Made d) k = absurd k.ok
     by (Target t) (Act d) k =
         let ok = k.of 0 (about_it t k.ok) in
-        acts_asked head past t d ok.request g k.ok ok.waits (ap (λ (v : Deed). v.reply.who) (sym ok.is)) (ap (λ (v : Deed). v.reply.xid) (sym ok.is))
+        acts_asked head past t d ok.request g ok.serves k.ok ok.waits (ap (λ (v : Deed). v.reply.who) (sym ok.is)) (ap (λ (v : Deed). v.reply.xid) (sym ok.is))
     by (Target t) (Made d) k =
         let ok = k.of 0 (about_it t k.ok) in
-        acts_asked head past t d ok.request g k.ok ok.waits (ap (λ (v : Deed). v.reply.who) (sym ok.is)) (ap (λ (v : Deed). v.reply.xid) (sym ok.is))
+        acts_asked head past t d ok.request g ok.serves k.ok ok.waits (ap (λ (v : Deed). v.reply.who) (sym ok.is)) (ap (λ (v : Deed). v.reply.xid) (sym ok.is))
     by _ _ k = tt
 
 pub requests : (head : Head) (past : List Line) → Grown head past → Holds Requests (printed past)

@@ -1,10 +1,10 @@
 -- What every covered run keeps of lives: a new life is the client's next one, its turn took the notice that the old one is over,
 -- and no call is open; and a life that joins asked for it in this turn, is newer than the last one of its client that joined, and that
 -- one was evicted.
-use Rattle.std.proofs.Common.{◌≡◌, ℕ, ◌+◌, ◌<◌, Bool, true, false, List, [], ◌∷◌, Option, Some, None, ◌⊎◌, inl, inr, ⊎_elim, refl, sym, subst, ap, ◌∙◌, arith}
+use Rattle.std.proofs.Common.{◌≡◌, ℕ, ◌+◌, ◌<◌, Bool, true, false, List, [], ◌∷◌, Option, Some, None, inl, ⊎_elim, refl, sym, subst, ap, ◌∙◌, arith}
 use Rattle.std.specs.Prelude.{nat_eq, ◌&&◌, ◌||◌, if◌then◌else◌, is_some, unwrap_or, map}
 use Rattle.std.specs.List.{list_any}
-use Rattle.std.proofs.lemmas.Bool.{cond_both, cond-true, eqb-true}
+use Rattle.std.proofs.lemmas.Bool.{cond-true, eqb-true}
 use Rattle.lu_base.specs.declared.ids.At.{At}
 use Rattle.lu_base.specs.declared.ids.Node.{Node}
 use Rattle.lu_base.specs.declared.ids.Node.TheVariants.{Client, Target}
@@ -14,10 +14,10 @@ use Rattle.lu_msg.specs.declared.messages.Message.{Message}
 use Rattle.lu_msg.specs.declared.messages.Message.TheVariants as message
 use Rattle.lu_trace.specs.declared.entries.Line.{Line as PrintedLine}
 use Rattle.lu_words.specs.Carried.{Running}
-use Rattle.lu_words.specs.Words.{Entry, Send, Life, Close, Evict, Joined as Joins, Line, line, same_life}
-use Rattle.lu_words.specs.Concerns.{concerns, only}
+use Rattle.lu_words.specs.Words.{Entry, Send, Life, Close, Joined as Joins, Line, line, same_life}
+use Rattle.lu_words.specs.Concerns.{only}
 use Rattle.lu_words.specs.Printed.{printed}
-use Rattle.lu_target_rows.specs.Lives.{is_life, with_life, without_lives}
+use Rattle.lu_target_rows.specs.Lives.{is_life}
 use Rattle.lu_covered.specs.Calls.{call_at, life_at}
 use Rattle.lu_covered.specs.TargetStates.{lives_of, evicted_of}
 use Rattle.lu_covered.specs.Heads.{Head}
@@ -29,18 +29,22 @@ use Rattle.lu_laws.specs.Words.Calls.{Begun, open_call}
 use Rattle.lu_laws.specs.Order.Handed.{has_closed}
 use Rattle.lu_laws.specs.Order.Lives.{is_notice, LifeAt, Lives}
 use Rattle.lu_laws.specs.Order.Joined.{is_join, counted, joins_as, last_life, JoinedAt, Joined}
-use Rattle.lu_guards.proofs.Guards.{Was, LifeOk, JoinedOk, EntryOk, Allowed, Grown}
+use Rattle.lu_guards.proofs.Guards.{Was, LifeOk, EntryOk}
+use Rattle.lu_guards.proofs.StoryGuards.{JoinedOk}
+use Rattle.lu_guards.proofs.Grown.{Allowed, Grown}
 use Rattle.lu_guards.proofs.Lists.{self, life_self}
 use Rattle.lu_guards.proofs.Only.{was_back}
 use Rattle.lu_facts.proofs.Groups.{turn, Evicted, Had}
 use Rattle.lu_facts.proofs.All.{holds}
-use Rattle.lu_facts.proofs.LifeLists.{older_than, goes_or}
+use Rattle.lu_facts.proofs.Phase.{serves_first}
+use Rattle.lu_facts.proofs.LifeLists.{older_than}
 use Rattle.lu_lawful.proofs.Lines.{Keeps, holds_before, Nothing}
-use Rattle.lu_lawful.proofs.Contents.{boots_are}
+use Rattle.lu_lawful.proofs.Taking.{boot_of}
 use Rattle.lu_lawful.proofs.Printed.{flip, life_number, its_client, present_is, evicted_is, SameCall, same_call, took_whole}
+use Rattle.lu_lawful.proofs.Slots.{had_only}
 use Rattle.lu_lawful.proofs.Notices.{took_any}
 use Rattle.lu_lawful.proofs.OrderlyQuiet.{Says}
-use Rattle.lu_guards.proofs.LifeLists.{stands_life, life_put, life_put_more, none_is}
+use Rattle.lu_guards.proofs.LifeLists.{stands_life, life_put, none_is}
 
 -- ---- a new life
 
@@ -121,34 +125,12 @@ join_of head (l ∷ past) c t who b g w = by l.at.node l.entry g.0 w (join_of he
 abbrev last : ℕ → ℕ → List Line → Who
 last t c past = record { client = c; life = last_life t c (printed past) }
 
--- who has or had a slot keeps or had it
-had_on : (clients t : ℕ) (l : Line) (past : List Line) (w : Who) → Had clients (only t past) w → Had clients (only t (l ∷ past)) w
-had_on clients t l past w h = cond_both (concerns t l.at.node l.entry) (l ∷ only t past) (only t past) (λ (p : List Line). Had clients p w) (λ b. by l.at.node l.entry h) (λ b. h)
-  where
-    P : List Line
-    P = only t past
-
-    left : (who : Who) → is_life w (lives_of clients P) ≡ true → (is_life w (without_lives (who ∷ []) (lives_of clients P)) ≡ true) ⊎ (is_life w (with_life who (evicted_of P)) ≡ true)
-    left who i =
-        ⊎_elim
-        (λ (e : w ≡ who). inr (subst (λ (v : Who). is_life v (with_life who (evicted_of P)) ≡ true) (sym e) (life_put who (evicted_of P))))
-        (λ (stays : is_life w (without_lives (who ∷ []) (lives_of clients P)) ≡ true). inl stays)
-        (goes_or w who (lives_of clients P) i)
-
-    by : (node : Node) (e : Entry) → Had clients P w → Had clients (line (turn l.at.stamp node) e ∷ P) w
-    by (Target u) (Evict who cause) (inl i) = left who i
-    by (Target u) (Evict who cause) (inr i) = inr (life_put_more w who (evicted_of P) i)
-    by (Target u) (Joins who) (inl i) = inl (life_put_more w who (lives_of clients P) i)
-    by (Target u) (Joins who) (inr i) = inr i
-    by (Client c) e h = h
-    by (Target u) e h = h
-
 last_had : (head : Head) (t c : ℕ) (past : List Line) → Grown head past → c < head.clients → Had head.clients (only t past) (last t c past)
 last_had head t c [] g lt = ((holds head [] g).at t).lives.first c lt
 last_had head t c (l ∷ past) g lt = by l.at.node l.entry (last_had head t c past g.1 lt)
   where
     on : (node : Node) (e : Entry) → last t c (line (turn l.at.stamp node) e ∷ past) ≡ last t c past → Had head.clients (only t past) (last t c past) → Had head.clients (only t (line (turn l.at.stamp node) e ∷ past)) (last t c (line (turn l.at.stamp node) e ∷ past))
-    on node e same h = subst (λ (v : Who). Had head.clients (only t (line (turn l.at.stamp node) e ∷ past)) v) (sym same) (had_on head.clients t (line (turn l.at.stamp node) e) past (last t c past) h)
+    on node e same h = subst (λ (v : Who). Had head.clients (only t (line (turn l.at.stamp node) e ∷ past)) v) (sym same) (had_only head.clients t (last t c past) (line (turn l.at.stamp node) e) past h)
 
     joined : (u : ℕ) (who : Who) (a b : Bool) → nat_eq u t ≡ a → nat_eq who.client c ≡ b → Had head.clients (only t past) (last t c past)
         → Had head.clients (only t (line (turn l.at.stamp (Target u)) (Joins who) ∷ past)) (record { client = c; life = unwrap_or (or_else (if a && b then Some who.life else None) (newest (joins_as t c) (printed past))) 1 })
@@ -157,8 +139,8 @@ last_had head t c (l ∷ past) g lt = by l.at.node l.entry (last_had head t c pa
         subst (λ (v : Who). Had head.clients (only t (line (turn l.at.stamp (Target u)) (Joins who) ∷ past)) v) same
         (subst (λ (v : List Line). Had head.clients v who) (sym (cond-true (nat_eq t u) (line (turn l.at.stamp (Target u)) (Joins who) ∷ only t past) (only t past) (flip t u ∙ e)))
         (inl (life_put who (lives_of head.clients (only t past)))))
-    joined u who true false e f h = had_on head.clients t (line (turn l.at.stamp (Target u)) (Joins who)) past (last t c past) h
-    joined u who false b e f h = had_on head.clients t (line (turn l.at.stamp (Target u)) (Joins who)) past (last t c past) h
+    joined u who true false e f h = had_only head.clients t (last t c past) (line (turn l.at.stamp (Target u)) (Joins who)) past h
+    joined u who false b e f h = had_only head.clients t (last t c past) (line (turn l.at.stamp (Target u)) (Joins who)) past h
 
     by : (node : Node) (e : Entry) → Had head.clients (only t past) (last t c past) → Had head.clients (only t (line (turn l.at.stamp node) e ∷ past)) (last t c (line (turn l.at.stamp node) e ∷ past))
     by (Client d) (Joins who) h = on (Client d) (Joins who) refl h
@@ -171,8 +153,12 @@ joins_at head past stamp t who ok g =
     let h = (holds head past g).at t in
     let lives = lives_of head.clients (only t past) in
     let its = join_of head past ok.from t who ok.boot g (was_back t past (Client ok.from) (Target t) (message.Join who ok.boot) ok.was) in
-    let one = h.done.sent (Client ok.from) (Target t) (message.Join who ok.boot) ok.was in
-    let known : ok.boot ≡ boot t (printed past) = one.0 ∙ sym (boots_are head t past g) in
+    let had = h.boots (Client ok.from) (Target t) (message.Join who ok.boot) ok.was in
+    let low = had.0 in
+    let high = had.1 in
+    let first = serves_first head.osts (only t past) h.phase ok.serves in
+    let is = boot_of head t past g in
+    let known : ok.boot ≡ boot t (printed past) = omega (arith, low, high, first, is) in
     let before = last t who.client past in
     let gone : Evicted (only t past) before = ⊎_elim
     (λ (i : is_life before lives ≡ true). absurd (none_is who.client lives ok.none before (stands_life before lives i) refl))

@@ -4,6 +4,7 @@ use Rattle.std.proofs.Common.{◌≡◌, ℕ, suc, ◌+◌, ◌<◌, ◌≤◌, 
 use Rattle.std.specs.Prelude.{nat_eq, not, max, ◌&&◌, if◌then◌else◌, unwrap_or, filter, find}
 use Rattle.std.specs.List.{list_any}
 use Rattle.std.proofs.lemmas.Bool.{and_parts, cond_both, cond-true, eqb-true}
+use Rattle.std.proofs.lemmas.Bool.Decides.{nat_tests}
 use Rattle.lu_base.specs.declared.ids.At.{At}
 use Rattle.lu_base.specs.declared.ids.Cookie.{Cookie}
 use Rattle.lu_base.specs.declared.ids.Node.{Node}
@@ -30,7 +31,7 @@ use Rattle.lu_target_rows.specs.Lives.{is_life}
 use Rattle.lu_target_rows.specs.Locks.{with_locks, without_lock, locks_without, called_without}
 use Rattle.lu_target_rows.specs.Names.{locks_from}
 use Rattle.lu_target_rows.specs.Objects.{lock_of}
-use Rattle.lu_target_rows.specs.Phase.{greatest_cookie}
+use Rattle.lu_target_rows.specs.Phase.{first_of, greatest_cookie}
 use Rattle.lu_target_rows.specs.Replies as rows
 use Rattle.lu_covered.specs.TargetStates.{Server, granted_at, cookie_at, called_at, server_of, shown_of, next_number}
 use Rattle.lu_covered.specs.Deeds.{asked, written_by}
@@ -49,17 +50,20 @@ use Rattle.lu_laws.specs.Order.Releases as released
 use Rattle.lu_laws.specs.Order.Blocks.{calls_back, is_called, guards, writes_guarded, is_waited_for, has_cause, BlockBy, Blocks}
 use Rattle.lu_laws.specs.Order.Requests.{unanswered}
 use Rattle.lu_laws.proofs.Tests.{clash, either_left, either_right}
-use Rattle.lu_guards.proofs.Guards.{In, Was, Did, HeardNow, TookNow, TookBack, InTurn, IsEvict, BlockOk, BackOk, LeftOk, Allowed, Grown}
+use Rattle.lu_guards.proofs.Guards.{In, Was, Did, HeardNow, TookNow, TookBack, InTurn, IsEvict}
+use Rattle.lu_guards.proofs.StoryGuards.{IsServing, BlockOk, BackOk, LeftOk}
+use Rattle.lu_guards.proofs.Grown.{Allowed, Grown}
 use Rattle.lu_guards.proofs.Lists.{self, in_left, in_right, in_filter, in_filtered}
 use Rattle.lu_guards.proofs.Only.{sent_was}
-use Rattle.lu_guards.proofs.Parts.{granted_is, cookie_is, called_is, waiting_is, server_is}
+use Rattle.lu_guards.proofs.Parts.{boot_is as server_boot, granted_is, cookie_is, called_is, waiting_is, server_is}
 use Rattle.lu_facts.proofs.Groups.{turn}
 use Rattle.lu_facts.proofs.All.{holds}
 use Rattle.lu_lawful.proofs.Turns.{same_turn_self, same_life_self}
 use Rattle.lu_lawful.proofs.Story.{about_it, was_story}
 use Rattle.lu_lawful.proofs.Lines.{Keeps, holds_before, Nothing}
-use Rattle.lu_lawful.proofs.Printed.{present_is}
-use Rattle.lu_lawful.proofs.Contents.{boot_is, contents_are}
+use Rattle.lu_lawful.proofs.Printed.{flip, present_is}
+use Rattle.lu_lawful.proofs.Taking.{boot_of}
+use Rattle.lu_lawful.proofs.Contents.{contents_are}
 use Rattle.lu_lawful.proofs.Once.{all_asked}
 use Rattle.lu_lawful.proofs.Given.{owed, Showed}
 use Rattle.lu_lawful.proofs.Granted.{in_with_locks, granted_showed, all_granted, JustGave}
@@ -176,15 +180,21 @@ module _ (head : Head) (past : List Line) (stamp : Stamp) (t : ℕ) (lock : Lock
   here = turn stamp (Target t)
 
   release_shown : In lock (shown_of (only 0 past))
-  release_shown = ⊎_elim
-      (λ (b : BackOk head.osts (only 0 past) t lock). ((holds head past g).at 0).locks.shown lock (in_lock_of lock.ask.who lock.cookie lock _ b.found))
+  release_shown =
+      let ok = a.of 0 (about_it t a.ok.0) in
+      ⊎_elim
+      (λ (b : BackOk head.osts (only 0 past) t lock). ((holds head past g).at 0).locks.shown ok.0 ok.0.up lock (in_lock_of lock.ask.who lock.cookie lock _ b.found))
       (λ (b : LeftOk head.osts (only 0 past) lock). b.shown)
-      (a.of 0 (about_it t a.ok.0))
+      ok.1
 
   took_back : TookBack past here lock → is_given_back (printed past) here 0 lock.cookie.0 lock.ask.who ≡ true
   took_back back =
       let was = was_story head past back.from (Target t) (message.Cancel lock.ask.who back.boot lock.cookie) tt g (took_was head past here back.from (message.Cancel lock.ask.who back.boot lock.cookie) g back.took) in
-      let first : back.boot ≡ boot 0 (printed past) = (((holds head past g).at 0).locks.cancels back.from (Target t) lock.ask.who back.boot lock.cookie was).first ∙ sym (boot_is head past g) in
+      let high = (((holds head past g).at 0).boots back.from (Target t) (message.Cancel lock.ask.who back.boot lock.cookie) was).1 in
+      let now = server_boot head.osts 0 past in
+      let current = back.current in
+      let is = boot_of head 0 past g in
+      let first : back.boot ≡ boot 0 (printed past) = grind (arith, nat_tests, high, now, current, is) in
       let took = takes_it head past here back.from (message.Cancel lock.ask.who back.boot lock.cookie) g back.took in
       let its : nat_eq back.boot (boot 0 (printed past)) ≡ true = subst (λ (v : ℕ). nat_eq back.boot v ≡ true) first (self back.boot) in
       let cancels : is_cancel (boot 0 (printed past)) lock.ask.who lock.cookie.0 (message.Cancel lock.ask.who back.boot lock.cookie) ≡ true = rw (its, same_life_self lock.ask.who, self lock.cookie.0) refl in
@@ -241,11 +251,11 @@ from_above n who (w ∷ ws) l (inl e) = let q : n + 1 ≡ l.cookie.0 = ap (λ (v
 from_above n who (w ∷ ws) l (inr i) = let lt = from_above (n + 1) who ws l i in omega arith
 
 module _ (head : Head) (past : List Line) (g : Grown head past) where
-  low : (l : Lock) → In l (server_of head.osts (only 0 past)).granted → l.cookie.0 ≤ cookie_at 0 past
-  low l i =
+  low : IsServing head.osts (only 0 past) → (l : Lock) → In l (server_of head.osts (only 0 past)).granted → l.cookie.0 ≤ cookie_at 0 past
+  low serves l i =
       let h = ((holds head past g).at 0).locks in
       let d = h.granted l i in
-      let le = h.low d.0 l d.1 in
+      let le = h.low serves d.0 l d.1 in
       let e = cookie_is head.osts 0 past in
       omega (arith, le, e)
 
@@ -291,7 +301,7 @@ module _ (head : Head) (past : List Line) (g : Grown head past) where
       by true q f =
           let same : called.cookie.0 ≡ k = eqb-true called.cookie.0 k (and_parts (is_target 0 (Target t)) (nat_eq called.cookie.0 k) q).1 in
           let of : called.cookie.0 ≡ ok.lock.cookie.0 = ap (λ (v : Cookie). v.0) ok.of_cookie in (
-            let le = low ok.lock ok.granted in omega (arith, le, of, same),
+            let le = low ok.serves ok.lock ok.granted in omega (arith, le, of, same),
             λ l i s.
                 let one : ok.lock ≡ l = granted_one ok.lock l ok.granted (subst (λ (v : List Lock). In l v) (granted_is head.osts 0 past) i) (sym of ∙ same ∙ sym s) in
                 added l (called, in_right called (called_at 0 past) (called ∷ []) (inl refl), same ∙ sym s, ok.of_life ∙ ap (λ (v : Lock). v.ask.who) one),
@@ -338,7 +348,13 @@ keeps_called head past stamp (Target t) (Release lock) a g h k e = called_releas
 keeps_called head past stamp (Client c) (Evict who cause) a g h k e = absurd a.ok
 keeps_called head past stamp (Target t) (Evict who cause) a g h k e = called_evict head past g stamp t who cause h k e
 keeps_called head past stamp (Client c) (Boot b disk) a g h k e = absurd a.ok
-keeps_called head past stamp (Target t) (Boot b disk) a g h k e = absurd a.ok
+keeps_called head past stamp (Target t) (Boot b disk) a g h k e = booted (nat_eq t 0) (nat_eq 0 t) (flip t 0) e
+  where
+    booted : (v w : Bool) → v ≡ w → unwrap_or (or_else (if v then Some false else None) (newest (calls_back 0 k) (printed past))) false ≡ true
+        → (k ≤ (if w then first_of b else cookie_at 0 past)) × ((l : Lock) → In l (granted_at 0 past) → l.cookie.0 ≡ k → Among l (called_at 0 past))
+    booted true w q x = absurd (cc)
+    booted false true q x = absurd (cc)
+    booted false false q x = h k x
 keeps_called head past stamp node _ a g h k e = h k e
 
 pub all_called : (head : Head) (past : List Line) → Grown head past → AllCalled past
@@ -391,10 +407,10 @@ block_caused head past stamp t called a g =
     waited : is_waited_for head.osts (printed past) 0 lock ≡ true
     waited =
         any_passes (writes_guarded head.osts (contents head.osts (printed past)) number lock) r (unanswered 0 (printed past))
-        (all_unanswered head past g r (subst (λ (v : List RequestOf). In r v) (sym (waiting_is head.osts 0 past)) ok.waits)) guarded
+        (all_unanswered head past g ok.serves r (subst (λ (v : List RequestOf). In r v) (sym (waiting_is head.osts 0 past)) ok.waits)) guarded
 
     cause : has_cause head.osts (printed past) 0 (find (has_cookie lock.cookie.0) (granted 0 (printed past))) ≡ true
-    cause = subst (λ (o : Option Lock). has_cause head.osts (printed past) 0 o ≡ true) (sym (granted_found head past lock g (λ d did. owed past (turn stamp (Target t)) d (Block called) did a.owes) (((holds head past g).at 0).locks.shown lock ok.granted))) waited
+    cause = subst (λ (o : Option Lock). has_cause head.osts (printed past) 0 o ≡ true) (sym (granted_found head past lock g (λ d did. owed past (turn stamp (Target t)) d (Block called) did a.owes) (((holds head past g).at 0).locks.shown ok.serves ok.serves.up lock ok.granted))) waited
 
 blocks_at : (head : Head) (past : List Line) (l : Line) (later : List PrintedLine) → Allowed head past l.at l.entry → Grown head past → Keeps (Blocks head.osts) past l later
 blocks_at head past l later a g = by l.at.node l.entry a

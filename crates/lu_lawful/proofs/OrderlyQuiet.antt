@@ -1,78 +1,160 @@
--- What every run keeps of lines that no covered run has, and that its targets serve.
-use Rattle.std.proofs.Common.{◌≡◌, ℕ, ◌+◌, true, List, [], ◌∷◌, Option, None, refl, ap}
-use Rattle.std.specs.Prelude.{unwrap_or}
+-- What every run keeps of crashes and boots, that what only a serving target does stands where it serves, and of lines that no covered run
+-- has.
+use Rattle.std.proofs.Common.{◌≡◌, ℕ, ◌+◌, Bool, true, false, List, [], ◌∷◌, Option, Some, None, refl, sym, ap, ◌∙◌, arith}
+use Rattle.std.specs.Prelude.{nat_eq, if◌then◌else◌, unwrap_or}
+use Rattle.std.proofs.lemmas.Bool.{eq-eqb}
+use Rattle.std.proofs.lemmas.Bool.Decides.{nat_tests}
 use Rattle.lu_base.specs.declared.ids.At.{At}
 use Rattle.lu_base.specs.declared.ids.Node.{Node}
 use Rattle.lu_base.specs.declared.ids.Node.TheVariants.{Client, Target}
 use Rattle.lu_trace.specs.declared.entries.Line.{Line as PrintedLine}
+use Rattle.lu_words.specs.Carried.{Deed}
 use Rattle.lu_words.specs.Words.{Entry, Act, Txn as Made, Grant, Wait, Block, Release, Crash, Boot, Close, Kept as Keeps_, Restore, Line, line}
+use Rattle.lu_words.specs.Concerns.{concerns, only}
 use Rattle.lu_words.specs.Sent.{count_sent}
 use Rattle.lu_words.specs.Printed.{printed_entry, printed}
 use Rattle.lu_covered.specs.Heads.{Head}
+use Rattle.lu_covered.specs.TargetStates.{server_of, closed_of, up_of}
 use Rattle.lu_laws.specs.Holds.{Holds}
-use Rattle.lu_laws.specs.Words.Pasts.{Past, newest}
-use Rattle.lu_laws.specs.Order.Phases.{Phase, Serves, turns_to, is_serving, serves}
+use Rattle.lu_laws.specs.Words.Pasts.{Past, or_else, newest}
+use Rattle.lu_laws.specs.Order.Phases.{Phase, IsDown, Recovers, Serves, turns_to, phase, is_serving, is_down, serves}
 use Rattle.lu_laws.specs.Order.Serving.{Serving}
 use Rattle.lu_laws.specs.Order.Boots.{Boots}
 use Rattle.lu_laws.specs.Order.Closes.{Closes}
 use Rattle.lu_laws.specs.Order.Kept.{Kept}
 use Rattle.lu_laws.specs.Order.Restored.{Restored}
 use Rattle.lu_laws.specs.Order.Waits.{Waits}
-use Rattle.lu_guards.proofs.Guards.{EntryOk, Allowed, Grown}
+use Rattle.lu_guards.proofs.Guards.{Did, EntryOk}
+use Rattle.lu_guards.proofs.StoryGuards.{IsServing, EntryOf}
+use Rattle.lu_guards.proofs.Grown.{Allowed, Grown, GrownOf}
+use Rattle.lu_guards.proofs.Lists.{self}
+use Rattle.lu_guards.proofs.Only.{grown_of}
 use Rattle.lu_facts.proofs.Groups.{turn}
+use Rattle.lu_facts.proofs.All.{holds}
+use Rattle.lu_lawful.proofs.Printed.{flip}
+use Rattle.lu_lawful.proofs.Taking.{boot_of}
 use Rattle.lu_lawful.proofs.Lines.{OfPrinted, Keeps, holds_before, Nothing}
 
 -- what a condition says of what is printed of an entry
 abbrev pub Says : (Past → PrintedLine → List PrintedLine → Type 0) → List Line → At → List PrintedLine → Entry → Type 0
 Says law past at later e = OfPrinted (λ p. law (printed past) (record { at = at; entry = p }) later) (printed_entry (count_sent past + 1) e)
 
--- ---- every target serves
+-- ---- whether a target is down, recovers or serves
 
-phase_stays : (head : Head) (t : ℕ) (past : List Line) → Grown head past → newest (turns_to t) (printed past) ≡ None
-phase_stays head t [] g = refl
-phase_stays head t (l ∷ past) g = by l.at.node l.entry g.0.ok (phase_stays head t past g.1)
+abbrev stands_as : (up serves : Bool) → Phase
+stands_as false serves = IsDown
+stands_as true true = Serves
+stands_as true false = Recovers
+
+abbrev stands : ℕ → List Line → Phase
+stands osts past = stands_as (up_of past) (nat_eq (closed_of past) (server_of osts past).boot)
+
+either_way : {A : Type 0} (f : List Line → A) (l : Line) (past : List Line) (b : Bool) → f (l ∷ past) ≡ f past → f (if b then l ∷ past else past) ≡ f past
+either_way f l past true e = e
+either_way f l past false e = refl
+
+phase_is : (head : Head) (t : ℕ) (past : List Line) → Grown head past → phase t (printed past) ≡ stands head.osts (only t past)
+phase_is head t [] g = refl
+phase_is head t (l ∷ past) g = by l.at.node l.entry g.0.ok g.0.of (phase_is head t past g.1)
   where
-    by : (node : Node) (e : Entry) → EntryOk past (turn l.at.stamp node) node e → newest (turns_to t) (printed past) ≡ None → newest (turns_to t) (printed (line (turn l.at.stamp node) e ∷ past)) ≡ None
-    by (Client c) Crash ok h = absurd ok
-    by (Target u) Crash ok h = absurd ok
-    by (Client c) (Boot b disk) ok h = absurd ok
-    by (Target u) (Boot b disk) ok h = absurd ok
-    by (Client c) (Close outcome) ok h = absurd ok
-    by (Target u) (Close outcome) ok h = absurd ok
-    by _ _ ok h = h
+    P : List Line
+    P = only t past
 
-it_serves : (head : Head) (t : ℕ) (past : List Line) → Grown head past → serves (printed past) (Target t) ≡ true
-it_serves head t past g = ap (λ (o : Option Phase). is_serving (unwrap_or o Serves)) (phase_stays head t past g)
+    now : List Line → Phase
+    now p = stands head.osts p
+
+    own : (u : ℕ) (x : Entry) (f : Phase) (a b : Bool) (o : Option Phase) → a ≡ b → (b ≡ true → now (line (turn l.at.stamp (Target u)) x ∷ P) ≡ f) → unwrap_or o Serves ≡ now P
+        → unwrap_or (or_else (if a then Some f else None) o) Serves ≡ now (if b then line (turn l.at.stamp (Target u)) x ∷ P else P)
+    own u x f true true o q is h = sym (is refl)
+    own u x f false false o q is h = h
+    own u x f true false o q is h = absurd (cc)
+    own u x f false true o q is h = absurd (cc)
+
+    -- a boot after the first one isn't served
+    recovers : (b : ℕ) → b ≡ (server_of head.osts P).boot + 1 → stands_as true (nat_eq (closed_of P) b) ≡ Recovers
+    recovers b e =
+        let p = ((holds head past g.1).at t).phase in
+        let closed = p.closed in
+        let low = p.low in
+        let other : nat_eq (closed_of P) b ≡ false = grind (arith, nat_tests, closed, low, e) in
+        ap (stands_as true) other
+
+    by : (node : Node) (e : Entry) → EntryOk past (turn l.at.stamp node) node e → ((u : ℕ) → concerns u node e ≡ true → EntryOf head (only u past) (turn l.at.stamp node) node e) → phase t (printed past) ≡ now P
+        → phase t (printed (line (turn l.at.stamp node) e ∷ past)) ≡ now (only t (line (turn l.at.stamp node) e ∷ past))
+    by (Target u) Crash ok of h = own u Crash IsDown (nat_eq u t) (nat_eq t u) (newest (turns_to t) (printed past)) (flip u t) (λ b. refl) h
+    by (Target u) (Boot b disk) ok of h = own u (Boot b disk) Recovers (nat_eq u t) (nat_eq t u) (newest (turns_to t) (printed past)) (flip u t) (λ q. recovers b (of t q).next) h
+    by (Target u) (Close outcome) ok of h = absurd ok
+    by (Client c) Crash ok of h = absurd ok
+    by (Client c) (Boot b disk) ok of h = absurd ok
+    by (Client c) (Close outcome) ok of h = absurd ok
+    by (Client c) e ok of h = h ∙ sym (either_way now (line (turn l.at.stamp (Client c)) e) P (concerns t (Client c) e) refl)
+    by (Target u) e ok of h = h ∙ sym (either_way now (line (turn l.at.stamp (Target u)) e) P (concerns t (Target u) e) refl)
+
+it_serves : (head : Head) (t : ℕ) (past : List Line) → Grown head past → IsServing head.osts (only t past) → serves (printed past) (Target t) ≡ true
+it_serves head t past g s = ap is_serving (phase_is head t past g ∙ ap (λ (b : Bool). stands_as b (nat_eq (closed_of (only t past)) (server_of head.osts (only t past)).boot)) s.up ∙ ap (stands_as true) (eq-eqb (closed_of (only t past)) (server_of head.osts (only t past)).boot s.closed))
+
+-- a lock is granted as the target acts
+did_serves : (head : Head) (past : List Line) (d : Deed) → GrownOf head past → Did past d → IsServing head.osts past
+did_serves head [] d g i = absurd i
+did_serves head (l ∷ past) d g i = by l.at.node l.entry g.0 i (did_serves head past d g.3)
+  where
+    by : (node : Node) (e : Entry) → EntryOf head past (turn l.at.stamp node) node e → Did (line (turn l.at.stamp node) e ∷ past) d → (Did past d → IsServing head.osts past) → IsServing head.osts (line (turn l.at.stamp node) e ∷ past)
+    by (Target t) (Act x) ok i h = ok.serves
+    by (Target t) (Made x) ok i h = ok.serves
+    by (Target t) (Grant lock asked) ok i h = h i
+    by (Client c) (Act x) ok i h = absurd ok
+    by (Client c) (Made x) ok i h = absurd ok
+    by (Client c) (Grant lock asked) ok i h = absurd ok
+    by _ _ ok i h = absurd i
 
 serving_at : (head : Head) (past : List Line) (l : Line) (later : List PrintedLine) → Allowed head past l.at l.entry → Grown head past → Keeps Serving past l later
-serving_at head past l later a g = by l.at.node l.entry a.ok
+serving_at head past l later a g = by l.at.node l.entry a
   where
-    by : (node : Node) (e : Entry) → EntryOk past (turn l.at.stamp node) node e → Says Serving past (turn l.at.stamp node) later e
-    by (Client c) (Act d) ok = absurd ok
-    by (Target t) (Act d) ok = it_serves head t past g
-    by (Client c) (Made d) ok = absurd ok
-    by (Target t) (Made d) ok = it_serves head t past g
-    by (Client c) (Grant lock asked) ok = absurd ok
-    by (Target t) (Grant lock asked) ok = it_serves head t past g
-    by (Client c) (Wait lock asked) ok = absurd ok
-    by (Target t) (Wait lock asked) ok = absurd ok
-    by (Client c) (Block called) ok = absurd ok
-    by (Target t) (Block called) ok = it_serves head t past g
-    by (Client c) (Release lock) ok = absurd ok
-    by (Target t) (Release lock) ok = it_serves head t past g
-    by _ _ ok = tt
+    by : (node : Node) (e : Entry) → Allowed head past (turn l.at.stamp node) e → Says Serving past (turn l.at.stamp node) later e
+    by (Client c) (Act d) k = absurd k.ok
+    by (Target t) (Act d) k = it_serves head t past g (k.of t (self t)).serves
+    by (Client c) (Made d) k = absurd k.ok
+    by (Target t) (Made d) k = it_serves head t past g (k.of t (self t)).serves
+    by (Client c) (Grant lock asked) k = absurd k.ok
+    by (Target t) (Grant lock None) k = absurd k.ok
+    by (Target t) (Grant lock (Some d)) k = it_serves head t past g (did_serves head (only t past) d (grown_of head t past g) (k.of t (self t)).did)
+    by (Client c) (Wait lock asked) k = absurd k.ok
+    by (Target t) (Wait lock asked) k = absurd k.ok
+    by (Client c) (Block called) k = absurd k.ok
+    by (Target t) (Block called) k = it_serves head t past g (k.of t (self t)).serves
+    by (Client c) (Release lock) k = absurd k.ok
+    by (Target t) (Release lock) k = it_serves head t past g (k.of t (self t)).0
+    by _ _ k = tt
 
 pub serving : (head : Head) (past : List Line) → Grown head past → Holds Serving (printed past)
 serving head past g = holds_before head Serving Nothing (λ l past k. k) (λ past l later a g k. serving_at head past l later a g) past [] g tt
 
--- ---- lines that don't come
+-- ---- crashes and boots
 
-boots_at : (past : List Line) (at : At) (later : List PrintedLine) (node : Node) (e : Entry) → EntryOk past (turn at.stamp node) node e → Says Boots past (turn at.stamp node) later e
-boots_at past at later (Client c) (Boot b disk) ok = absurd ok
-boots_at past at later (Target t) (Boot b disk) ok = absurd ok
-boots_at past at later (Client c) Crash ok = absurd ok
-boots_at past at later (Target t) Crash ok = absurd ok
-boots_at past at later _ _ ok = tt
+boots_at : (head : Head) (past : List Line) (l : Line) (later : List PrintedLine) → Allowed head past l.at l.entry → Grown head past → Keeps Boots past l later
+boots_at head past l later a g = by l.at.node l.entry a
+  where
+    by : (node : Node) (e : Entry) → Allowed head past (turn l.at.stamp node) e → Says Boots past (turn l.at.stamp node) later e
+    by (Client c) (Boot b disk) k = absurd k.ok
+    by (Target t) (Boot b disk) k =
+        let ok = k.of t (self t) in
+        let is = boot_of head t past g in
+        let next = ok.next in
+        record {
+          down = ap is_down (phase_is head t past g ∙ ap (λ (up : Bool). stands_as up (nat_eq (closed_of (only t past)) (server_of head.osts (only t past)).boot)) ok.down);
+          next = omega (arith, is, next);
+        }
+    by (Client c) Crash k = absurd k.ok
+    by (Target t) Crash k =
+        ap is_down (phase_is head t past g ∙ ap (λ (up : Bool). stands_as up (nat_eq (closed_of (only t past)) (server_of head.osts (only t past)).boot)) (k.of t (self t)))
+        ∙ up_now (nat_eq (closed_of (only t past)) (server_of head.osts (only t past)).boot)
+      where
+        up_now : (b : Bool) → is_down (stands_as true b) ≡ false
+        up_now true = refl
+        up_now false = refl
+    by _ _ k = tt
+
+-- ---- lines that don't come
 
 closes_at : (past : List Line) (at : At) (later : List PrintedLine) (node : Node) (e : Entry) → EntryOk past (turn at.stamp node) node e → Says Closes past (turn at.stamp node) later e
 closes_at past at later (Client c) (Close outcome) ok = absurd ok
@@ -101,7 +183,7 @@ module _ (head : Head) (law : Past → PrintedLine → List PrintedLine → Type
 
 module _ (head : Head) (past : List Line) (g : Grown head past) where
   pub boots : Holds Boots (printed past)
-  boots = kept_by_each head Boots boots_at past g
+  boots = holds_before head Boots Nothing (λ l past k. k) (λ past l later a g k. boots_at head past l later a g) past [] g tt
 
   pub closes : Holds Closes (printed past)
   closes = kept_by_each head Closes closes_at past g

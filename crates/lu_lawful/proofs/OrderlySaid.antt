@@ -25,7 +25,7 @@ use Rattle.lu_words.specs.Words.{Entry, Send, Take, Heard as Hears_, Act, Txn as
 use Rattle.lu_words.specs.Concerns.{only}
 use Rattle.lu_words.specs.Printed.{printed}
 use Rattle.lu_covered.specs.TargetParts.{operation}
-use Rattle.lu_covered.specs.TargetStates.{committed_at, server_at}
+use Rattle.lu_covered.specs.TargetStates.{server_at}
 use Rattle.lu_covered.specs.ClientStates.{flights_of, is_own}
 use Rattle.lu_covered.specs.Heads.{Head}
 use Rattle.lu_laws.specs.Holds.{Holds}
@@ -36,7 +36,8 @@ use Rattle.lu_laws.specs.Words.Requests.{asked, is_of, has_heard, has_number, wi
 use Rattle.lu_laws.specs.Order.Messages.{MessageAt, Messages}
 use Rattle.lu_laws.specs.Order.Heard.{HeardAt, Heard}
 use Rattle.lu_laws.specs.Order.Answers.{none, AnswerOf, AnswerBy, Answers}
-use Rattle.lu_guards.proofs.Guards.{In, Was, TookNow, Allowed, Grown}
+use Rattle.lu_guards.proofs.Guards.{In, Was, TookNow}
+use Rattle.lu_guards.proofs.Grown.{Allowed, Grown}
 use Rattle.lu_guards.proofs.Lists.{self}
 use Rattle.lu_guards.proofs.Parts.{committed_is as server_committed, life_is_of}
 use Rattle.lu_facts.proofs.Groups.{turn, Hears}
@@ -48,9 +49,10 @@ use Rattle.lu_lawful.proofs.ActsLaw.{either}
 use Rattle.lu_laws.proofs.Tests.{settled, either_left, either_right}
 use Rattle.lu_lawful.proofs.Lines.{Keeps, holds_before, Nothing}
 use Rattle.lu_lawful.proofs.Facts.{AskedAt, AllAsked}
-use Rattle.lu_lawful.proofs.Contents.{boots_are, boot_is, commits_are, committed_is, contents_are, asked_before}
+use Rattle.lu_lawful.proofs.Contents.{commits_are, contents_are, asked_before}
 use Rattle.lu_lawful.proofs.Deeds.{ActIs, TxnIs, act_is, txn_is}
 use Rattle.lu_lawful.proofs.Printed.{present_is, own_by, own_story, sending_is}
+use Rattle.lu_lawful.proofs.Taking.{boot_of}
 use Rattle.lu_lawful.proofs.OrderlyQuiet.{Says}
 use Rattle.lu_facts.proofs.Lines.{acted_whole, hears_only}
 
@@ -58,34 +60,29 @@ use Rattle.lu_facts.proofs.Lines.{acted_whole, hears_only}
 
 reply_carries : (head : Head) (past : List Line) (stamp : Stamp) (t c : ℕ) (r : ReplyTo) → Allowed head past (turn stamp (Target t)) (Send (Client c) (message.Reply r)) → Grown head past → MessageAt (printed past) t (message.Reply r)
 reply_carries head past stamp t c r a g =
-    let ok = a.of 0 (about_it t a.ok.0) in
-    let phase = ((holds head past g).at 0).phase in
-    let b : r.boot ≡ 1 = ap (λ (v : ReplyTo). v.boot) ok.is ∙ phase.boot in
-    let n : r.committed.0 ≡ (committed_at 0 past).0 = ap (λ (v : ReplyTo). v.committed.0) ok.is ∙ ap (λ (v : TxnOf). v.0) (sym (server_committed head.osts 0 past)) in
-    subst (λ (v : ℕ). MessageAt (printed past) v (message.Reply r)) (sym a.ok.0) (record { present = ap (λ (v : ℕ). Some v) (b ∙ sym (boot_is head past g)); number = n ∙ sym (committed_is head past g) })
+    let ok = a.of t (self t) in
+    record {
+      present = ap (λ (v : ℕ). Some v) (ap (λ (v : ReplyTo). v.boot) ok.is ∙ sym (boot_of head t past g));
+      number = ap (λ (v : ReplyTo). v.committed.0) ok.is ∙ ap (λ (v : TxnOf). v.0) (sym (server_committed head.osts t past)) ∙ sym (commits_are head t past g);
+    }
 
 block_carries : (head : Head) (past : List Line) (stamp : Stamp) (t c : ℕ) (who : Who) (boot : ℕ) (cookie : Cookie) → Allowed head past (turn stamp (Target t)) (Send (Client c) (message.Block who boot cookie)) → Grown head past
     → MessageAt (printed past) t (message.Block who boot cookie)
-block_carries head past stamp t c who boot cookie a g =
-    let ok = a.of 0 (about_it t a.ok) in
-    let phase = ((holds head past g).at 0).phase in
-    subst (λ (v : ℕ). MessageAt (printed past) v (message.Block who boot cookie)) (sym a.ok) (record { present = ap (λ (v : ℕ). Some v) (ok.of_boot ∙ phase.boot ∙ sym (boot_is head past g)); number = tt })
+block_carries head past stamp t c who boot cookie a g = record { present = ap (λ (v : ℕ). Some v) ((a.of t (self t)).of_boot ∙ sym (boot_of head t past g)); number = tt }
 
--- at every target
 notice_carries : (head : Head) (past : List Line) (stamp : Stamp) (t c : ℕ) (who : Who) (boot : ℕ) → Allowed head past (turn stamp (Target t)) (Send (Client c) (message.Evicted who boot)) → Grown head past
     → MessageAt (printed past) t (message.Evicted who boot)
-notice_carries head past stamp t c who boot a g =
-    let ok = a.of t (self t) in
-    let phase = ((holds head past g).at t).phase in
-    record { present = ap (λ (v : ℕ). Some v) (ok.of_boot ∙ phase.boot ∙ sym (boots_are head t past g)); number = tt }
+notice_carries head past stamp t c who boot a g = record { present = ap (λ (v : ℕ). Some v) ((a.of t (self t)).of_boot ∙ sym (boot_of head t past g)); number = tt }
+
+up_carries : (head : Head) (past : List Line) (stamp : Stamp) (t c boot : ℕ) → Allowed head past (turn stamp (Target t)) (Send (Client c) (message.Up boot)) → Grown head past → MessageAt (printed past) t (message.Up boot)
+up_carries head past stamp t c boot a g = record { present = ap (λ (v : ℕ). Some v) (a.of t (self t) ∙ sym (boot_of head t past g)); number = tt }
 
 ready_carries : (head : Head) (past : List Line) (stamp : Stamp) (t c : ℕ) (who : Who) (boot : ℕ) (number : TxnOf) → Allowed head past (turn stamp (Target t)) (Send (Client c) (message.Ready who boot number)) → Grown head past
     → MessageAt (printed past) t (message.Ready who boot number)
 ready_carries head past stamp t c who boot number a g =
     let ok = a.of t (self t) in
-    let phase = ((holds head past g).at t).phase in
     record {
-      present = ap (λ (v : ℕ). Some v) (ok.of_boot ∙ phase.boot ∙ sym (boots_are head t past g));
+      present = ap (λ (v : ℕ). Some v) (ok.of_boot ∙ sym (boot_of head t past g));
       number = ap (λ (v : TxnOf). v.0) (ok.of_committed ∙ sym (server_committed head.osts t past)) ∙ sym (commits_are head t past g);
     }
 
@@ -98,6 +95,7 @@ messages_at head past l later a g = by l.at.node l.entry a
     by (Target t) (Send (Client c) (message.Block who boot cookie)) k = block_carries head past l.at.stamp t c who boot cookie k g
     by (Target t) (Send (Client c) (message.Ready who boot number)) k = ready_carries head past l.at.stamp t c who boot number k g
     by (Target t) (Send (Client c) (message.Evicted who boot)) k = notice_carries head past l.at.stamp t c who boot k g
+    by (Target t) (Send (Client c) (message.Up boot)) k = up_carries head past l.at.stamp t c boot k g
     by (Target t) (Send (Client c) m) k = absurd k.ok
     by (Target t) (Send (Target u) m) k = absurd k.ok
     by _ _ k = tt

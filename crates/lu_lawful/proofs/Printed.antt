@@ -33,7 +33,8 @@ use Rattle.lu_laws.specs.Words.Lives.{life, who_is, is_by, is_evicted, is_gone}
 use Rattle.lu_laws.specs.Words.Calls.{open_call}
 use Rattle.lu_laws.specs.Words.Calls as calls
 use Rattle.lu_laws.specs.Words.Requests.{is_of, first_request}
-use Rattle.lu_guards.proofs.Guards.{In, Was, Took, EntryOk, Allowed, Grown}
+use Rattle.lu_guards.proofs.Guards.{In, Was, Took, EntryOk}
+use Rattle.lu_guards.proofs.Grown.{Allowed, Grown}
 use Rattle.lu_guards.proofs.Lists.{self, life_is, who, or_right}
 use Rattle.lu_guards.proofs.Parts.{life_is_of}
 use Rattle.lu_facts.proofs.Groups.{turn}

@@ -1,10 +1,10 @@
 -- The law of recovery: transactions have rising numbers of their boot and the seen numbers, and a reply that is
--- sent in the turn that it names carries those of its deed. What is committed stands, and no window is ever open.
+-- sent in the turn that it names carries those of its deed. What is committed stands, and a life that comes back has its line.
 use Rattle.std.proofs.Common.{◌≡◌, ℕ, zero, suc, ◌+◌, ◌/◌, Bool, true, false, List, [], ◌∷◌, Option, Some, None, ◌⊎◌, inl, inr, ⊎_elim, refl, sym, subst, ap, ◌∙◌, arith}
 use Rattle.std.specs.Prelude.{nat_eq, not, ◌&&◌, ◌||◌, if◌then◌else◌}
 use Rattle.std.specs.Bool.{then_some}
 use Rattle.std.specs.List.{list_any}
-use Rattle.std.proofs.lemmas.Bool.{and_parts, cond_both, eqb-true, true≢false}
+use Rattle.std.proofs.lemmas.Bool.{and_parts, cond_both, eqb-true}
 use Rattle.lu_base.specs.declared.ids.At.{At}
 use Rattle.lu_base.specs.declared.ids.Stamp.{Stamp}
 use Rattle.lu_base.specs.declared.ids.Node.{Node}
@@ -25,32 +25,41 @@ use Rattle.lu_words.specs.Concerns.{only}
 use Rattle.lu_words.specs.Sent.{count_sent}
 use Rattle.lu_words.specs.Printed.{printed_entry, printed}
 use Rattle.lu_covered.specs.TargetParts.{operation}
-use Rattle.lu_covered.specs.TargetStates.{tree_at, log_at, slot_of, count_at, committed_at, server_at, seen_in}
+use Rattle.lu_covered.specs.TargetStates.{boot_at, tree_at, log_at, slot_of, count_at, committed_at, server_at, seen_in}
 use Rattle.lu_covered.specs.Heads.{Head}
 use Rattle.lu_laws.specs.Words.Pasts.{same_turn, or_else}
 use Rattle.lu_laws.specs.Words.Scopes.{only_here}
-use Rattle.lu_laws.specs.Words.Sends.{Sending, sending, message_of, with_taken, taken}
+use Rattle.lu_laws.specs.Words.Sends.{Sending, sending, with_taken, taken}
 use Rattle.lu_laws.specs.Words.Requests.{asked}
 use Rattle.lu_laws.specs.Words.Clients.{clients}
 use Rattle.lu_laws.specs.Words.Boots.{is_recovering}
 use Rattle.lu_laws.specs.Words.Handed.{is_back}
 use Rattle.lu_laws.specs.Words.Lost.{Transaction, transactions, is_lost}
 use Rattle.lu_laws.specs.Words.Seen.{touches_of, seen_by}
-use Rattle.lu_laws.specs.Holds.{Holds}
+use Rattle.lu_laws.specs.Holds.{HoldsBefore, Holds}
 use Rattle.lu_laws.specs.Laws.Recovery as law
 use Rattle.lu_laws.specs.Laws.Recovery.{request_sees, TransactionAt, answers_size, is_size_for, is_executed, other_than, reply_seen, ReplyAt, BringsBack, TakenAt, CommitAt, stands, RecoveryAt, RecoveryOf, Recovery}
 use Rattle.lu_laws.proofs.Tests.{either_left, either_right}
-use Rattle.lu_guards.proofs.Guards.{In, Later, Steps, Did, Taken, RepliesNow, CommitOk, Allowed, Grown}
+use Rattle.lu_guards.proofs.Guards.{In, Later, Steps, Did, Taken, RepliesNow}
+use Rattle.lu_guards.proofs.StoryGuards.{CommitOk, IsServing}
+use Rattle.lu_guards.proofs.Grown.{Noted, Allowed, Grown}
+use Rattle.lu_guards.proofs.Parts as parts
+use Rattle.lu_guards.proofs.Only.{grown_of}
 use Rattle.lu_guards.proofs.Lists.{self, turn_trans, turn_irreflexive, life_is}
 use Rattle.lu_facts.proofs.Groups.{turn, Acted}
 use Rattle.lu_facts.proofs.All.{holds}
+use Rattle.lu_facts.proofs.Phase.{serves_first}
 use Rattle.lu_lawful.proofs.Turns.{later_before, same_turn_is, same_turn_self, same_life_self}
 use Rattle.lu_lawful.proofs.Committed.{is_made, commits, logs, elsewhere}
 use Rattle.lu_lawful.proofs.Evictions.{evict_law}
-use Rattle.lu_lawful.proofs.Lines.{OfPrinted, Keeps, holds_before}
+use Rattle.lu_lawful.proofs.Printed.{sending_is}
+use Rattle.lu_lawful.proofs.Taking.{boot_of, recovering_is, opens}
+use Rattle.lu_lawful.proofs.Backs.{OneTold, Follows, follows_none, after_line, follows_before, brings_back, back_at}
+use Rattle.lu_lawful.proofs.OneWord.{one_told}
+use Rattle.lu_lawful.proofs.Lines.{OfPrinted, Keeps}
 use Rattle.lu_lawful.proofs.Once.{NoneFor, act_now, txn_now}
 use Rattle.lu_lawful.proofs.Facts.{AskedAt, AllAsked}
-use Rattle.lu_lawful.proofs.Contents.{boot_is, commits_are, committed_is, none_lost, not_recovering, number_is, number_in_boot, below_next, asked_before, contents_are}
+use Rattle.lu_lawful.proofs.Contents.{commits_are, committed_is, none_lost, number_is, number_in_boot, below_next, asked_before, contents_are}
 use Rattle.lu_lawful.proofs.SeenNumbers.{seen_is}
 use Rattle.lu_lawful.proofs.Deeds.{TxnIs, act_is, txn_is}
 use Rattle.lu_facts.proofs.Lines.{acted_whole}
@@ -82,6 +91,10 @@ not_size head past stamp (Target t) (Client c) (message.Block other boot cookie)
 not_size head past stamp (Client c) (Target t) (message.Join other boot) who x k = refl
 not_size head past stamp (Target t) (Client c) (message.Ready other boot committed) who x k = refl
 not_size head past stamp (Target t) (Client c) (message.Evicted other boot) who x k = refl
+not_size head past stamp (Target t) (Client c) (message.Up boot) who x k = refl
+not_size head past stamp (Client c) (Target t) (message.Replay r) who x k = refl
+not_size head past stamp (Client c) (Target t) (message.Lock r) who x k = refl
+not_size head past stamp (Client c) (Target t) (message.Word other boot replays locks seen) who x k = refl
 not_size head past stamp (Client c) (Target t) m who x k = absurd k.ok
 not_size head past stamp (Client c) (Client d) m who x k = absurd k.ok
 not_size head past stamp (Target t) (Client c) m who x k = absurd k.ok
@@ -225,8 +238,8 @@ txn_law head past at d g a asks is =
     let le = below_next head past g in
     let few = is.few in
     record {
-      above = omega arith;
-      in_boot = ap (λ (v : ℕ). v / 4294967296) n ∙ number_in_boot (count_at 0 past + 1) (omega arith) ∙ sym (boot_is head past g);
+      above = omega (arith, n, le);
+      in_boot = ap (λ (v : ℕ). v / 4294967296) is.number ∙ number_in_boot (boot_at 0 past) (count_at 0 past + 1) (omega (arith, few)) ∙ parts.boot_is head.osts 0 past ∙ sym (boot_of head 0 past g);
       sees = is.saw ∙ sym (law_seen_is head past d g a asks);
     }
 
@@ -268,50 +281,69 @@ commit_law head past (suc t) to g ok =
     in
     record { standing = either_left (stands (suc t) (printed past) to) (ap (λ (n : ℕ). nat_eq n 0) is); least = omega (arith, m, start) }
 
--- ---- no life comes back, for no window is ever open
+-- ---- who is back
 
-never_back : (head : Head) (past : List Line) (l : PrintedLine) (later : List PrintedLine) (t : ℕ) (who : Who) → Grown head past → BringsBack t (printed past) l later who
-never_back head past l later t who g e =
+-- no life comes back where the target serves, for no window is open
+never_back : (head : Head) (past : List Line) (l : PrintedLine) (later : List PrintedLine) (t : ℕ) (who : Who) → Grown head past → IsServing head.osts (only t past) → BringsBack t (printed past) l later who
+never_back head past l later t who g v e =
     let p = and_parts (is_recovering t (printed past) && is_back t (l ∷ printed past) who) (not (is_back t (printed past) who)) e in
     let q = and_parts (is_recovering t (printed past)) (is_back t (l ∷ printed past) who) p.0 in
-    absurd (true≢false (sym q.0 ∙ not_recovering head t past g))
+    let again = (opens head (only t past) (grown_of head t past g)).booted (sym (recovering_is head t past g) ∙ q.0) in
+    let first = serves_first head.osts (only t past) ((holds head past g).at t).phase v in
+    absurd (omega (arith, again, first))
 
-never_taken : (head : Head) (past : List Line) (l : PrintedLine) (later : List PrintedLine) (t : ℕ) (m : Option Message) → Grown head past → TakenAt t (printed past) l later m
-never_taken head past l later t (Some (message.Replay r)) g = never_back head past l later t r.who g
-never_taken head past l later t (Some (message.Lock r)) g = never_back head past l later t r.who g
-never_taken head past l later t (Some (message.Word who boot replays locks seen)) g = never_back head past l later t who g
-never_taken head past l later t (Some (message.Join who boot)) g = never_back head past l later t who g
-never_taken head past l later t _ g = tt
+taken_law : (head : Head) (past : List Line) (stamp : Stamp) (t n : ℕ) (from : Node) (m : Message) (later : List PrintedLine) → Grown head (line (turn stamp (Target t)) (Take n from m) ∷ past) → OneTold head t (line (turn stamp (Target t)) (Take n from m) ∷ past)
+    → Follows head (line (turn stamp (Target t)) (Take n from m) ∷ past) later → TakenAt t (printed past) (record { at = turn stamp (Target t); entry = entry.Take n }) later (Some m)
+taken_law head past stamp t n from (message.Replay r) later g one f = brings_back head past stamp t n from (message.Replay r) later r.who g one f
+taken_law head past stamp t n from (message.Lock r) later g one f = brings_back head past stamp t n from (message.Lock r) later r.who g one f
+taken_law head past stamp t n from (message.Word who boot replays locks seen) later g one f = brings_back head past stamp t n from (message.Word who boot replays locks seen) later who g one f
+taken_law head past stamp t n from (message.Join who boot) later g one f = brings_back head past stamp t n from (message.Join who boot) later who g one f
+taken_law head past stamp t n from m later g one f = tt
 
 -- ---- the law
 
 -- a trace of however many clients: they are asked for at a close alone
-recovery_at : (clients : ℕ) (head : Head) (past : List Line) (l : Line) (later : List PrintedLine) → Allowed head past l.at l.entry → Grown head past → AllAsked (l ∷ past) → Keeps (RecoveryOf clients head.osts) past l later
-recovery_at clients head past l later k g a = by l.at.node l.entry k a
+recovery_at : (clients : ℕ) (head : Head) (past : List Line) (l : Line) (later : List PrintedLine) → Allowed head past l.at l.entry → Grown head past → AllAsked (l ∷ past) → Follows head (l ∷ past) later → Keeps (RecoveryOf clients head.osts) past l later
+recovery_at clients head past l later k g a f = by l.at.node l.entry k a f
   where
-    by : (node : Node) (e : Entry) → Allowed head past (turn l.at.stamp node) e → AllAsked (line (turn l.at.stamp node) e ∷ past)
+    by : (node : Node) (e : Entry) → Allowed head past (turn l.at.stamp node) e → AllAsked (line (turn l.at.stamp node) e ∷ past) → Follows head (line (turn l.at.stamp node) e ∷ past) later
         → OfPrinted (λ (e : PrintedEntry). RecoveryAt clients head.osts (printed past) (record { at = turn l.at.stamp node; entry = e }) later e) (printed_entry (count_sent past + 1) e)
-    by (Client c) (Send to m) k a = tt
-    by (Target t) (Send (Client c) (message.Reply r)) k a =
+    by (Client c) (Send to m) k a f = tt
+    by (Target t) (Send (Client c) (message.Reply r)) k a f =
         subst (λ (v : ℕ). ReplyAt head.osts v (printed past) (turn l.at.stamp (Target t)) r) (sym k.ok.0) (reply_law head past (turn l.at.stamp (Target t)) r g a k.steps (subst (λ (v : ℕ). RepliesNow past v r) k.ok.0 k.ok.1))
-    by (Target t) (Send (Client c) (message.Block who boot cookie)) k a = tt
-    by (Target t) (Send (Client c) (message.Ready who boot committed)) k a = tt
-    by (Target t) (Send (Client c) (message.Evicted who boot)) k a = tt
-    by (Target t) (Send (Client c) m) k a = absurd k.ok
-    by (Target t) (Send (Target u) m) k a = absurd k.ok
-    by (Target t) (Take n from m) k a = never_taken head past (record { at = turn l.at.stamp (Target t); entry = entry.Take n }) later t (message_of (printed past) n) g
-    by (Client c) (Made d) k a = absurd k.ok
-    by (Target t) (Made d) k a =
+    by (Target t) (Send (Client c) (message.Block who boot cookie)) k a f = tt
+    by (Target t) (Send (Client c) (message.Ready who boot committed)) k a f = tt
+    by (Target t) (Send (Client c) (message.Up boot)) k a f = tt
+    by (Target t) (Send (Client c) (message.Evicted who boot)) k a f = tt
+    by (Target t) (Send (Client c) m) k a f = absurd k.ok
+    by (Target t) (Send (Target u) m) k a f = absurd k.ok
+    by (Target t) (Take n from m) k a f =
+        subst (λ (o : Option Message). TakenAt t (printed past) (record { at = turn l.at.stamp (Target t); entry = entry.Take n }) later o)
+        (sym (ap (λ (o : Option Sending). elim o [ None ↦ None | Some s ↦ Some s.message ]) (sending_is past n from (Target t) m k.ok.sent)))
+        (taken_law head past l.at.stamp t n from m later (k, g) (one_told head t (line (turn l.at.stamp (Target t)) (Take n from m) ∷ past) (k, g)) f)
+    by (Client c) (Made d) k a f = absurd k.ok
+    by (Target t) (Made d) k a f =
         subst (λ (v : ℕ). TransactionAt v (printed past) d.reply.txn.0 d.reply.seen (request_sees head.osts v (printed past) d.reply.txn d.reply.who d.reply.xid.0 d.reply.answer)) (sym k.ok) (txn_law head past (turn l.at.stamp (Target t)) d g a.1 a.0 (txn_is head past l.at.stamp t d k))
-    by (Target t) (Commit to batch) k a = commit_law head past t to g (k.of t (self t))
-    by (Target t) (Back who) k a = absurd k.ok
-    by (Target t) (Close outcome) k a = absurd k.ok
-    by (Target t) (Kept n) k a = absurd k.ok
-    by (Target t) (Restore lock) k a = absurd k.ok
-    by (Target t) (Evict who cause) k a = evict_law head past (turn l.at.stamp (Target t)) later t who cause g (k.of t (self t))
-    by (Target t) (Joined who) k a = never_back head past (record { at = turn l.at.stamp (Target t); entry = entry.Joined who }) later t who g
-    by _ _ k a = tt
+    by (Target t) (Commit to batch) k a f = commit_law head past t to g (k.of t (self t))
+    by (Target t) (Back who) k a f = let ok = k.of t (self t) in back_at head past l.at.stamp t who g (λ p q. one_told head t p q) ok.0 ok.1
+    by (Target t) (Close outcome) k a f = absurd k.ok
+    by (Target t) (Kept n) k a f = absurd k.ok
+    by (Target t) (Restore lock) k a f = absurd k.ok
+    by (Target t) (Evict who cause) k a f = evict_law head past (turn l.at.stamp (Target t)) later t who cause g (k.of t (self t))
+    by (Target t) (Joined who) k a f = never_back head past (record { at = turn l.at.stamp (Target t); entry = entry.Joined who }) later t who g (k.of t (self t)).serves
+    by _ _ k a f = tt
 
-pub recovery_law : (head : Head) (past : List Line) → Grown head past → AllAsked past → Holds (Recovery head.osts (printed past)) (printed past)
-recovery_law head past g a =
-    holds_before head (RecoveryOf (clients (printed past)) head.osts) AllAsked asked_before (λ past' l later k g a. recovery_at (clients (printed past)) head past' l later k g a) past [] g a
+-- what follows each line stands among the later ones
+recovery_before : (clients : ℕ) (head : Head) (past : List Line) (later : List PrintedLine) → Grown head past → AllAsked past → Follows head past later → HoldsBefore (RecoveryOf clients head.osts) later (printed past)
+recovery_before clients head [] later g a f = tt
+recovery_before clients head (l ∷ past) later g a f =
+    by (printed_entry (count_sent past + 1) l.entry) (recovery_at clients head past l later g.0 g.1 a f) (recovery_before clients head past (after_line l (printed_entry (count_sent past + 1) l.entry) later) g.1 (asked_before l past a) (follows_before head l past later g.0 f))
+  where
+    by : (o : Option PrintedEntry) → OfPrinted (λ e. RecoveryOf clients head.osts (printed past) (record { at = l.at; entry = e }) later) o → HoldsBefore (RecoveryOf clients head.osts) (after_line l o later) (printed past)
+        → HoldsBefore (RecoveryOf clients head.osts) later (elim o [ None ↦ printed past | Some e ↦ record { at = l.at; entry = e } ∷ printed past ])
+    by None p h = h
+    by (Some e) p h = (p, h)
+
+-- where nothing is due at the end
+pub recovery_law : (head : Head) (past : List Line) → Grown head past → Noted head past → AllAsked past → Holds (Recovery head.osts (printed past)) (printed past)
+recovery_law head past g n a = recovery_before (clients (printed past)) head past [] g a (follows_none head past n)

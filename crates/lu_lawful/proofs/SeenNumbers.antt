@@ -12,7 +12,7 @@ use Rattle.lu_machine.specs.Tree.{Tree}
 use Rattle.lu_machine.specs.Footprint.{writes}
 use Rattle.lu_machine.specs.Seen.{meet}
 use Rattle.lu_words.specs.Carried.{Deed}
-use Rattle.lu_words.specs.Words.{Entry, Txn as Made, Commit, Boot, Line, line}
+use Rattle.lu_words.specs.Words.{Entry, Txn as Made, Commit, Line, line}
 use Rattle.lu_words.specs.Printed.{printed}
 use Rattle.lu_covered.specs.TargetParts.{operation}
 use Rattle.lu_covered.specs.TargetStates.{committed_at, log_at, server_at, seen_in}
@@ -21,7 +21,8 @@ use Rattle.lu_laws.specs.Words.Requests.{asked}
 use Rattle.lu_laws.specs.Words.Boots.{committed}
 use Rattle.lu_laws.specs.Words.Lost.{is_lost}
 use Rattle.lu_laws.specs.Words.Seen.{writes_of, Written, written, is_seen, seen_of, seen_by}
-use Rattle.lu_guards.proofs.Guards.{In, Allowed, Grown}
+use Rattle.lu_guards.proofs.Guards.{In}
+use Rattle.lu_guards.proofs.Grown.{Allowed, Grown}
 use Rattle.lu_facts.proofs.Groups.{turn}
 use Rattle.lu_lawful.proofs.Facts.{AskedAt, AllAsked}
 use Rattle.lu_lawful.proofs.Committed.{commits, logs}
@@ -184,8 +185,6 @@ module _ (head : Head) (above : ℕ) (lost : ℕ → Bool) (none : (n : ℕ) →
               (commits head.osts 0 past to (k.of 0 e))
               in
               seen_commit past to up (h (omega (arith, up, below))) ∙ ap (λ (b : Bool). seen_in touched (filter over (later b))) (sym e)
-      at (Client c) (Boot boot disk) k a le h = absurd k.ok
-      at (Target t) (Boot boot disk) k a le h = absurd k.ok
       at _ _ k a le h = h le
 
 -- what is seen

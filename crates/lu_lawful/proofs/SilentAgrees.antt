@@ -14,7 +14,7 @@ use Rattle.lu_client_rows.specs.Facts.{Fact}
 use Rattle.lu_client_rows.specs.Known.{same_part}
 use Rattle.lu_covered.specs.Calls.{life_at}
 use Rattle.lu_covered.specs.Heads.{Head}
-use Rattle.lu_guards.proofs.Guards.{Grown}
+use Rattle.lu_guards.proofs.Grown.{Grown}
 use Rattle.lu_facts.proofs.KnownPaths.{Tells, TellsName, TellsOf, part_is}
 use Rattle.lu_facts.proofs.Taught.{bound_of, tree_for}
 use Rattle.lu_facts.proofs.Known.{held_stands}

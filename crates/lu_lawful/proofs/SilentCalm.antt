@@ -20,7 +20,8 @@ use Rattle.lu_laws.specs.Words.Lives.{life, who_is}
 use Rattle.lu_laws.specs.Words.Calls.{call_in}
 use Rattle.lu_laws.specs.Words.Repeats.{rebinds, is_ready, in_other_slot, begun_calm, calm, known}
 use Rattle.lu_guards.proofs.Lists.{self, in_append, in_filter}
-use Rattle.lu_guards.proofs.Guards.{In, EntryOk, LifeOk, Grown}
+use Rattle.lu_guards.proofs.Guards.{In, EntryOk, LifeOk}
+use Rattle.lu_guards.proofs.Grown.{Grown}
 use Rattle.lu_facts.proofs.Groups.{turn}
 use Rattle.lu_lawful.proofs.Printed.{flip}
 use Rattle.lu_lawful.proofs.SilentHeld.{gives_up}

@@ -13,7 +13,7 @@ use Rattle.lu_held.specs.declared.locks.Change.TheVariants as lock
 use Rattle.lu_held.specs.declared.locks.HeldLock.{HeldLock}
 use Rattle.lu_held.specs.declared.names.LockName.{LockName}
 use Rattle.lu_held.specs.Locks.{named, name_of, is_named, after}
-use Rattle.lu_held.specs.Held.{is_held, changed, used, without}
+use Rattle.lu_held.specs.Held.{is_held, changed, used, without, unmarked}
 use Rattle.lu_words.specs.Words.{Entry, Heard, Hold, Drop, Life, Pins, Unpins, Marks, Unmarks, Learns, Line, line, is_client}
 use Rattle.lu_client_rows.specs.Caches.{held_as, with_held, brought, with_brought, held_at}
 use Rattle.lu_client_rows.specs.Facts.{Fact, taught, without_facts, facts_at}
@@ -143,6 +143,15 @@ changed_present k name change held p = (
   ),
 )
 
+unmarked_present : (k t : ℕ) (held : List HeldLock) → Present k held → Present k (unmarked (record { 0 = t }) held)
+unmarked_present k t held p = (
+  if p.0.target.0 == t then after lock.Unmark p.0 else p.0,
+  (
+    in_map (λ (h : HeldLock). if h.target.0 == t then after lock.Unmark h else h) p.0 held p.1.0,
+    cond_both (p.0.target.0 == t) (after lock.Unmark p.0) p.0 (λ (v : HeldLock). IsIt k v) (λ e. after_it k lock.Unmark p.0 p.1.1) (λ f. p.1.1),
+  ),
+)
+
 used_present : (k : ℕ) (name : LockName) (held : List HeldLock) → Present k held → Present k (used name held)
 used_present k name held p = (p.0, (by (is_named name p.0) refl, p.1.1))
   where
@@ -194,7 +203,7 @@ module _ (c : ℕ) (past : List Line) (stamp : Stamp) where
   held_stays k (Client d) (Unpins name) ok stays p = cond_both (nat_eq c d) (used name (changed name lock.Unpin (held_at c past))) (held_at c past) (λ (v : List HeldLock). Present k v)
       (λ o. used_present k name (changed name lock.Unpin (held_at c past)) (changed_present k name lock.Unpin (held_at c past) p)) (λ o. p)
   held_stays k (Client d) (Marks name) ok stays p = cond_both (nat_eq c d) (changed name lock.Mark (held_at c past)) (held_at c past) (λ (v : List HeldLock). Present k v) (λ o. changed_present k name lock.Mark (held_at c past) p) (λ o. p)
-  held_stays k (Client d) (Unmarks t) ok stays p = absurd ok
+  held_stays k (Client d) (Unmarks t) ok stays p = cond_both (nat_eq c d) (unmarked (record { 0 = t }) (held_at c past)) (held_at c past) (λ (v : List HeldLock). Present k v) (λ o. unmarked_present k t (held_at c past) p) (λ o. p)
   held_stays k (Target t) (Heard u f r) ok stays p = absurd ok
   held_stays k (Target t) (Hold u l marked size seen) ok stays p = absurd ok
   held_stays k (Target t) (Drop u l) ok stays p = absurd ok

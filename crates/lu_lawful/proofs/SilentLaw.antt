@@ -41,7 +41,8 @@ use Rattle.lu_laws.specs.Words.Held.{held, has_write_lock}
 use Rattle.lu_laws.specs.Words.Lives.{life, who_is}
 use Rattle.lu_laws.specs.Words.Pasts.{same_turn}
 use Rattle.lu_laws.specs.Words.Repeats.{same_path, same_reading, is_error, calm, told_calm, known, is_repeat}
-use Rattle.lu_guards.proofs.Guards.{In, Begins, Starts, Owes, QueuesOk, ToldOk, KnownOk, EndsOk, BadOk, Allowed, Grown}
+use Rattle.lu_guards.proofs.Guards.{In, Begins, Starts, Owes, QueuesOk, ToldOk, KnownOk, EndsOk, BadOk}
+use Rattle.lu_guards.proofs.Grown.{Allowed, Grown}
 use Rattle.lu_guards.proofs.Lists.{self, in_filter}
 use Rattle.lu_guards.proofs.Turns.{Settled}
 use Rattle.lu_facts.proofs.Groups.{turn}
@@ -52,6 +53,7 @@ use Rattle.lu_lawful.proofs.SilentHeld.{bare_at, gives_up, Unmarked, of_any, map
 use Rattle.lu_lawful.proofs.SilentCalm.{called, call_is, begun_anew, calm_stands, StandsIn, and_true, every_filter, every_both, every_in, in_every, every_map}
 use Rattle.lu_lawful.proofs.SilentTaught.{told_is_known}
 use Rattle.lu_lawful.proofs.SilentAgrees.{agrees}
+use Rattle.lu_lawful.proofs.SilentServed.{repeats_unmarked}
 
 -- ---- each call whose answer is known is known by facts
 
@@ -183,10 +185,10 @@ repeats n file _ _ o e s h = absurd (cc)
 -- ---- what a call that begins owes
 
 module _ (head : Head) where
-  -- where the newest line began a call that is known, or one on a bad handle, but for what it pins and unbinds, it is told in the lines to
+  -- where the newest line began a call that is known while no lock is marked, or one on a bad handle, but for what it pins and unbinds, it is told in the lines to
   -- come before anything is sent
   abbrev IsDue : ℕ → List Line → Running → Type 0
-  IsDue c past running = (running.stage ≡ Bad) ⊎ (IsReadingCall running.call × KnownAt c past running.call)
+  IsDue c past running = (running.stage ≡ Bad) ⊎ (IsReadingCall running.call × KnownAt c past running.call × Unmarked (held_at c past))
 
   abbrev Due : List Line → List PrintedLine → Type 0
   Due [] later = Unit {0}
@@ -309,7 +311,7 @@ module _ (head : Head) where
             asked b same_b (inl p) due = absurd p.1
             asked b same_b (inr p) (inl bad) = absurd (let plain = p.0 in cc)
             asked b same_b (inr p) (inr h) =
-                absurd (never_asked slot running p.1 stands (calm (subst (λ (v : ℕ). Unmarked (held_at v past)) same_d g.0.ok.calm)) h.0 (knows running.call (subst (λ (v : ℕ). KnownAt v past running.call) same_b h.1)))
+                absurd (never_asked slot running p.1 stands (calm (subst (λ (v : ℕ). Unmarked (held_at v past)) same_b h.2)) h.0 (knows running.call (subst (λ (v : ℕ). KnownAt v past running.call) same_b h.1)))
         by (Client d) (Pins name) g calls knows calm o more =
             more calls (λ k h. knows k (still head c past (line (turn l.at.stamp (Client d)) (Pins name)) g refl k h))
             (λ u. calm (cond_both (nat_eq c d) (changed name lock.Pin (held_at c past)) (held_at c past) (λ (v : List HeldLock). Unmarked v) (λ s. pinned_calm name (held_at c past) u) (λ s. u))) o.1
@@ -344,7 +346,8 @@ module _ (head : Head) where
               let some = and_parts (list_any (same_reading running.call) (known (who_is c (printed past)) (printed past))) (not (has_write_lock (who_is c (printed past)) (held (printed past)))) is in
               let one = of_any (same_reading running.call) (known (who_is c (printed past)) (printed past)) some.0 in
               let knows = every_in (KnownAt c past) one.0 (known (who_is c (printed past)) (printed past)) (known_is_known head c past g) one.1.0 in
-              d c refl (inr (repeats (bare_at c past) running.file running.call one.0 good.3.0 good.3.1 one.1.1 knows))
+              let reads = repeats (bare_at c past) running.file running.call one.0 good.3.0 good.3.1 one.1.1 knows in
+              d c refl (inr (reads.0, reads.1, repeats_unmarked head c past g one.0 one.1.0 k.ok.calm))
       by (Target t) (Begin slot running) k d = tt
       by _ _ k d = tt
 

@@ -34,7 +34,9 @@ use Rattle.lu_covered.specs.Heads.{Head}
 use Rattle.lu_covered.specs.TargetStates.{none, server_of}
 use Rattle.lu_laws.specs.Words.Lives.{who_is}
 use Rattle.lu_laws.specs.Words.Repeats.{calm}
-use Rattle.lu_guards.proofs.Guards.{In, IsToldAsIs, HeardNow, Learned, EntryOk, ActOk, TxnOk, ToldOk, Allowed, Grown}
+use Rattle.lu_guards.proofs.Guards.{In, IsToldAsIs, HeardNow, Learned, EntryOk, ToldOk}
+use Rattle.lu_guards.proofs.StoryGuards.{ActOk, TxnOk}
+use Rattle.lu_guards.proofs.Grown.{Allowed, Grown}
 use Rattle.lu_guards.proofs.Lists.{self, in_append, in_left}
 use Rattle.lu_guards.proofs.Parts.{life_is_of, flights_is}
 use Rattle.lu_facts.proofs.Endings.{reply_ends_none}

@@ -7,7 +7,8 @@ use Rattle.lu_msg.specs.declared.messages.Message.{Message}
 use Rattle.lu_words.specs.Words.{Line}
 use Rattle.lu_words.specs.Concerns.{only}
 use Rattle.lu_covered.specs.Heads.{Head}
-use Rattle.lu_guards.proofs.Guards.{Was, Grown}
+use Rattle.lu_guards.proofs.Guards.{Was}
+use Rattle.lu_guards.proofs.Grown.{Grown}
 use Rattle.lu_facts.proofs.Sides.{OfMetadata, was_first}
 
 -- a line of the metadata target is about it

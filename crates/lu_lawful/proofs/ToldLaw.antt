@@ -36,7 +36,8 @@ use Rattle.lu_laws.specs.Words.Calls.{heard_in, operation}
 use Rattle.lu_laws.specs.Holds.{HoldsBefore}
 use Rattle.lu_laws.specs.Laws.Acts.{acted, made, standing_count, is_number, tells_with, told_with, is_bad_handle, is_end_of_life, is_local, took_notice, ActsFor, ActsInTime, ToldOn, ToldBy, Pairwise, SameTag, FliesAt, ActsAt, ActsOf}
 use Rattle.lu_lawful.specs.Fits.{ReplyStands, HeardStand}
-use Rattle.lu_guards.proofs.Guards.{In, JustHeard, Steps, IsToldAsIs, ToldOk, KnownOk, EndsOk, BadOk, EntryOk, Allowed, Grown}
+use Rattle.lu_guards.proofs.Guards.{In, JustHeard, Steps, IsToldAsIs, ToldOk, KnownOk, EndsOk, BadOk, EntryOk}
+use Rattle.lu_guards.proofs.Grown.{Allowed, Grown}
 use Rattle.lu_guards.proofs.Lists.{self, own_is, own_self, or_left, or_right}
 use Rattle.lu_guards.proofs.Turns.{Settled}
 use Rattle.lu_facts.proofs.Groups.{turn, Upto, Acted, Flew, Hears}
@@ -542,6 +543,9 @@ module _ (head : Head) (is : IsHead head) (out : Who → Bool) (lost : ℕ → �
       by (Client c) (Send (Target t) (message.Request r)) k s due = sent c t r k.ok k
       by (Client c) (Send (Target t) (message.Cancel who boot cookie)) k s due = tt
       by (Client c) (Send (Target t) (message.Join who boot)) k s due = tt
+      by (Client c) (Send (Target t) (message.Replay r)) k s due = tt
+      by (Client c) (Send (Target t) (message.Lock r)) k s due = tt
+      by (Client c) (Send (Target t) (message.Word who boot replays locks seen)) k s due = tt
       by (Client c) (Send (Target t) m) k s due = absurd k.ok
       by (Client c) (Send (Client d) m) k s due = absurd k.ok
       by (Target t) (Send (Client c) m) k s due = tt

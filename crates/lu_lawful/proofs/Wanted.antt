@@ -1,6 +1,6 @@
 -- The locks that an act grants are those that its request asks for: over the contents at the act, one on each inode of its path, with
 -- the bits of its row.
-use Rattle.std.proofs.Common.{◌≡◌, ℕ, ◌+◌, ◌<◌, Bool, true, false, List, [], ◌∷◌, ◌⊎◌, inl, inr, ⊎_elim, Option, Some, None, refl, sym, subst, ap, ◌∙◌, arith}
+use Rattle.std.proofs.Common.{◌≤◌, ◌≡◌, ℕ, ◌+◌, ◌<◌, Bool, true, false, List, [], ◌∷◌, ◌⊎◌, inl, inr, ⊎_elim, Option, Some, None, refl, sym, subst, ap, ◌∙◌, arith}
 use Rattle.std.specs.Prelude.{nat_eq, if◌then◌else◌, map, find}
 use Rattle.std.proofs.lemmas.Bool.{cond_both}
 use Rattle.std.proofs.lemmas.Bool.Decides.{nat_tests}
@@ -21,23 +21,25 @@ use Rattle.lu_machine.specs.Tree.{Tree}
 use Rattle.lu_machine.specs.Footprint.{Operation, forget, grants}
 use Rattle.lu_machine.proofs.Made.{Named, named_empty, named_wide}
 use Rattle.lu_words.specs.Carried.{Deed}
-use Rattle.lu_words.specs.Words.{Entry, Act, Txn as Made, Grant, Evict, Line, line}
+use Rattle.lu_words.specs.Words.{Entry, Act, Txn as Made, Grant, Boot, Evict, Line, line}
 use Rattle.lu_words.specs.Concerns.{only}
 use Rattle.lu_words.specs.Printed.{printed}
 use Rattle.lu_target_rows.specs.Names.{locks_from}
 use Rattle.lu_covered.specs.Makes.{Path}
 use Rattle.lu_covered.specs.TargetParts.{operation}
-use Rattle.lu_covered.specs.TargetStates.{Server, none, count_at, tree_at, server_of}
+use Rattle.lu_covered.specs.TargetStates.{Server, none, tree_at, server_of}
 use Rattle.lu_covered.specs.Heads.{Head}
 use Rattle.lu_laws.specs.Words.Pasts.{or_else, same_turn}
 use Rattle.lu_laws.specs.Words.Requests.{asked}
 use Rattle.lu_laws.specs.Words.Asked.{Acting, acting, wanted, wanted_lock, wanted_by, requested, is_for}
-use Rattle.lu_guards.proofs.Guards.{In, Did, Allowed, Grown}
+use Rattle.lu_guards.proofs.Guards.{In, Did}
+use Rattle.lu_guards.proofs.Grown.{Allowed, Grown}
 use Rattle.lu_guards.proofs.Lists.{self}
 use Rattle.lu_guards.proofs.Parts.{server_is}
 use Rattle.lu_facts.proofs.Groups.{turn}
 use Rattle.lu_facts.proofs.Asked.{acted_on_names}
 use Rattle.lu_facts.proofs.Inodes.{Kinds, kinds_empty, kinds_after, EachOnce, grants_once}
+use Rattle.lu_facts.proofs.Finds.{numbers_at, numbers_up}
 use Rattle.lu_facts.proofs.Named.{named_after}
 use Rattle.lu_lawful.proofs.Turns.{same_turn_self, same_life_self}
 use Rattle.lu_lawful.proofs.Story.{about_it}
@@ -55,38 +57,41 @@ Any path = Unit {0}
 
 -- its numbers, and that no inode is a directory and a file
 abbrev pub IsTree : ℕ → Tree → Type 0
-IsTree count t = Named Any (4294967296 + count) t × Kinds t
+IsTree high t = Named Any high t × Kinds t
 
-tree_txn : (head : Head) (past : List Line) (stamp : Stamp) (d : Deed) → Allowed head past (turn stamp (Target 0)) (Made d) → Grown head past → IsTree (count_at 0 past) (tree_at head.osts 0 past)
-    → IsTree (count_at 0 past + 1) (tree_at head.osts 0 (line (turn stamp (Target 0)) (Made d) ∷ past))
+tree_txn : (head : Head) (past : List Line) (stamp : Stamp) (d : Deed) → Allowed head past (turn stamp (Target 0)) (Made d) → Grown head past → IsTree (numbers_at past) (tree_at head.osts 0 past)
+    → IsTree (numbers_at (line (turn stamp (Target 0)) (Made d) ∷ past)) (tree_at head.osts 0 (line (turn stamp (Target 0)) (Made d) ∷ past))
 tree_txn head past stamp d a g h =
     let is = txn_is head past stamp 0 d a in
     let number = number_is head past (turn stamp (Target 0)) d g is in
-    let above : 4294967296 + count_at 0 past < d.reply.txn.0 = omega (arith, number) in
+    let above : numbers_at past < d.reply.txn.0 = omega (arith, number) in
     let on_names = acted_on_names head (line (turn stamp (Target 0)) (Made d) ∷ past) d (a, g) (inl refl) in
-    let named = named_after head.osts (tree_at head.osts 0 past) d.reply.txn d.reply.who Any (4294967296 + count_at 0 past) h.0 above d.op on_names in (
-      subst (λ (n : ℕ). Named Any n (tree_at head.osts 0 (line (turn stamp (Target 0)) (Made d) ∷ past))) number
-          (named_wide _ Any d.reply.txn.0 d.reply.txn.0 (tree_at head.osts 0 (line (turn stamp (Target 0)) (Made d) ∷ past)) (λ path m. tt) (omega arith) named),
-      kinds_after head.osts (tree_at head.osts 0 past) (operation d) (4294967296 + count_at 0 past) h.0.low above h.1,
+    let named = named_after head.osts (tree_at head.osts 0 past) d.reply.txn d.reply.who Any (numbers_at past) h.0 above d.op on_names in (
+      named_wide _ Any d.reply.txn.0 (numbers_at (line (turn stamp (Target 0)) (Made d) ∷ past)) (tree_at head.osts 0 (line (turn stamp (Target 0)) (Made d) ∷ past)) (λ path m. tt) (omega (arith, number)) named,
+      kinds_after head.osts (tree_at head.osts 0 past) (operation d) (numbers_at past) h.0.low above h.1,
     )
 
 -- an eviction takes opens alone
-tree_forgets : (count : ℕ) (t : Tree) (who : Who) → IsTree count t → IsTree count (forget t who)
-tree_forgets count t who h = (record { made = λ path c e. h.0.made path c e; one = h.0.one; low = h.0.low; least = h.0.least }, h.1)
+tree_forgets : (high : ℕ) (t : Tree) (who : Who) → IsTree high t → IsTree high (forget t who)
+tree_forgets high t who h = (record { made = λ path c e. h.0.made path c e; one = h.0.one; low = h.0.low; least = h.0.least }, h.1)
 
-pub tree_is : (head : Head) (past : List Line) → Grown head past → IsTree (count_at 0 past) (tree_at head.osts 0 past)
-tree_is head [] g = (named_empty Any 4294967296 (omega arith), kinds_empty)
+tree_wide : (low high : ℕ) (t : Tree) → low ≤ high → IsTree low t → IsTree high t
+tree_wide low high t le h = (named_wide Any Any low high t (λ path m. m) le h.0, h.1)
+
+pub tree_is : (head : Head) (past : List Line) → Grown head past → IsTree (numbers_at past) (tree_at head.osts 0 past)
+tree_is head [] g = (named_empty Any (numbers_at []) (omega arith), kinds_empty)
 tree_is head (l ∷ past) g = by l.at.node l.entry g.0 (tree_is head past g.1)
   where
-    by : (node : Node) (e : Entry) → Allowed head past (turn l.at.stamp node) e → IsTree (count_at 0 past) (tree_at head.osts 0 past)
-        → IsTree (count_at 0 (line (turn l.at.stamp node) e ∷ past)) (tree_at head.osts 0 (line (turn l.at.stamp node) e ∷ past))
+    by : (node : Node) (e : Entry) → Allowed head past (turn l.at.stamp node) e → IsTree (numbers_at past) (tree_at head.osts 0 past)
+        → IsTree (numbers_at (line (turn l.at.stamp node) e ∷ past)) (tree_at head.osts 0 (line (turn l.at.stamp node) e ∷ past))
     by (Client c) (Evict who cause) a h = absurd a.ok
     by (Target t) (Evict who cause) a h =
-        cond_both (nat_eq 0 t) (forget (tree_at head.osts 0 past) who) (tree_at head.osts 0 past) (λ (v : Tree). IsTree (count_at 0 past) v) (λ e. tree_forgets (count_at 0 past) (tree_at head.osts 0 past) who h) (λ e. h)
+        cond_both (nat_eq 0 t) (forget (tree_at head.osts 0 past) who) (tree_at head.osts 0 past) (λ (v : Tree). IsTree (numbers_at past) v) (λ e. tree_forgets (numbers_at past) (tree_at head.osts 0 past) who h) (λ e. h)
     by (Client c) (Made d) a h = absurd a.ok
     by (Target t) (Made d) a h =
-        subst (λ (v : ℕ). IsTree (count_at 0 (line (turn l.at.stamp (Target v)) (Made d) ∷ past)) (tree_at head.osts 0 (line (turn l.at.stamp (Target v)) (Made d) ∷ past))) (sym a.ok)
+        subst (λ (v : ℕ). IsTree (numbers_at (line (turn l.at.stamp (Target v)) (Made d) ∷ past)) (tree_at head.osts 0 (line (turn l.at.stamp (Target v)) (Made d) ∷ past))) (sym a.ok)
         (tree_txn head past l.at.stamp d (subst (λ (v : ℕ). Allowed head past (turn l.at.stamp (Target v)) (Made d)) a.ok a) g.1 h)
+    by (Target t) (Boot b disk) a h = tree_wide (numbers_at past) (numbers_at (line (turn l.at.stamp (Target t)) (Boot b disk) ∷ past)) (tree_at head.osts 0 past) (numbers_up head (line (turn l.at.stamp (Target t)) (Boot b disk)) past g.1 a) h
     by node e a h = h
 
 -- ---- the locks of an act

@@ -11,7 +11,7 @@ use Rattle.lu_laws.specs.Laws.History.{HistoryOf}
 use Rattle.lu_laws.specs.Lawful.{Lawful}
 use Rattle.lu_lawful.specs.Everywhere.{OfEveryRun, OfAllThatFit}
 use Rattle.lu_guards.proofs.Turns.{covered_head}
-use Rattle.lu_guards.proofs.Obey.{grown, settled}
+use Rattle.lu_guards.proofs.Obey.{grown, noted, settled}
 use Rattle.lu_lawful.proofs.Contents.{none_lost}
 use Rattle.lu_lawful.proofs.Once.{all_asked}
 use Rattle.lu_lawful.proofs.MessagesLaw.{messages_law}
@@ -52,7 +52,7 @@ lawful head turns is run covered =
       locks = locks_law few past g;
       silent = silent_law few past g (settled head turns run covered);
       acts = acts_of head turns is run covered (is_gone (printed past)) (is_lost (printed past)) fits;
-      recovery = recovery_law few past g asked;
+      recovery = recovery_law few past g (noted head turns run covered) asked;
       history = history_of head turns is run covered (is_gone (printed past)) (is_lost (printed past)) fits;
       glimpse = glimpse_law few past g;
     }

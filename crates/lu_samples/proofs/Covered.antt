@@ -1,5 +1,5 @@
--- The scenes with locks, that with a file that is opened, that with commits and that in which a client is evicted are covered, so what they come
--- to is lawful.
+-- The scenes with locks, that with a file that is opened, that with commits, that in which a client is evicted and that in which a target crashes
+-- are covered, so what they come to is lawful.
 use Rattle.std.proofs.Common.{◌≡◌, ℕ, zero, suc, ◌≤◌, false, List, [], ◌∷◌, inl, inr, refl, arith, lit≤}
 use Rattle.std.specs.Prelude.{codes, All}
 use Rattle.std.proofs.lemmas.List.Elements.{All-nil, All-cons, All-head, All-tail}
@@ -20,6 +20,7 @@ use Rattle.lu_samples.proofs.Words.{with_head, after, trace_after, never}
 use Rattle.lu_samples.proofs.Names.{commits}
 use Rattle.lu_samples.proofs.Handles.{opened}
 use Rattle.lu_samples.proofs.Lives.{expires}
+use Rattle.lu_samples.proofs.Crashes.{crashed}
 use Rattle.lu_samples.proofs.Locks.{called_back, waits, known}
 
 is_path : IsPath (codes "a" ∷ [])
@@ -137,6 +138,16 @@ expires_covered =
       lines = all_of (IsCoveredIn expires.lines) expires.lines ((tt, tt) then tt then (tt, tt) then tt then (tt, tt) then tt then (tt, tt) then tt then tt then tt then tt then tt then tt then (tt, tt) then tt then tt);
     }
 
+pub crashed_covered : IsCovered crashed
+crashed_covered =
+    record {
+      limits = record {
+        head = is_head 1 (lit≤ tt) (lit≤ tt);
+        lines = all_of (LineFits crashed.head) crashed.lines ((lit≤ tt, lit≤ tt, is_path) then tt then lit≤ tt then (lit≤ tt, lit≤ tt, is_path) then tt then (lit≤ tt, lit≤ tt) then lit≤ tt then lit≤ tt then lit≤ tt then tt then lit≤ tt then lit≤ tt then tt);
+      };
+      lines = all_of (IsCoveredIn crashed.lines) crashed.lines ((tt, tt) then tt then tt then (tt, tt) then tt then tt then tt then tt then tt then tt then tt then tt then tt);
+    }
+
 -- ---- what a scene comes to in some steps, it leads to
 
 leads_on : (scene : Scene) (n : ℕ) (c : Config) → Leads (head_of scene.head) never (start (head_of scene.head) never scene) c
@@ -177,6 +188,9 @@ opened_lawful = lawful opened 30 opened_covered refl
 pub expires_lawful : Lawful 1 (trace_after 50 expires)
 expires_lawful = lawful expires 50 expires_covered refl
 
+pub crashed_lawful : Lawful 1 (trace_after 20 crashed)
+crashed_lawful = lawful crashed 20 crashed_covered refl
+
 -- ---- where no line gives a command and no client is evicted, no disk fails whichever could
 
 called_back_quiet : AsksNoDisk called_back
@@ -185,7 +199,7 @@ called_back_quiet = record { commands = all_of IsNoCommand called_back.lines (tt
 pub called_back_unfailed : has_failed (past_of (after 20 called_back)) ≡ false
 called_back_unfailed = scene_unfailed called_back called_back_covered called_back_quiet never (after 20 called_back) (leads called_back 20) refl
 
--- and `commits` gives some: its third line is a command
+-- and `commits` gives some, and so does `crashed`: its third line is a command
 abbrev ThirdGivesNone : List SceneLine → Type 0
 ThirdGivesNone (a ∷ b ∷ c ∷ lines) = IsNoCommand c
 ThirdGivesNone _ = Unit {0}
@@ -198,6 +212,9 @@ third (a ∷ b ∷ c ∷ lines) quiet = All-head IsNoCommand c lines (All-tail I
 
 pub commits_command : AsksNoDisk commits → ⊥
 commits_command quiet = third commits.lines quiet.commands
+
+pub crashed_command : AsksNoDisk crashed → ⊥
+crashed_command quiet = third crashed.lines quiet.commands
 
 -- in `expires` a client is evicted: it ticks as often as locks have time, and a line reads what another makes
 abbrev ThirdMisses : List SceneLine → Type 0

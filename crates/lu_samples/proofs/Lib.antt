@@ -4,6 +4,7 @@ pub mod Names
 pub mod Locks
 pub mod Lives
 pub mod Handles
+pub mod Crashes
 pub mod Covered
 pub mod Fits
 pub mod Unfit

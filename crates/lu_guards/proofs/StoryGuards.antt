@@ -1,0 +1,404 @@
+-- When a line may be added to a past, by what concerns one target: what it rests on there, over the story of that target just before it.
+use Rattle.std.proofs.Common.{◌≡◌, ℕ, ◌+◌, ◌<◌, true, false, List, [], ◌∷◌, Some, None, ◌⊎◌}
+use Rattle.std.specs.Prelude.{length, max, ◌==◌}
+use Rattle.std.specs.List.{list_any}
+use Rattle.lu_base.specs.declared.ids.At.{At}
+use Rattle.lu_base.specs.declared.ids.Cookie.{Cookie}
+use Rattle.lu_base.specs.declared.ids.Node.{Node}
+use Rattle.lu_base.specs.declared.ids.Node.TheVariants.{Client, Target}
+use Rattle.lu_base.specs.declared.ids.Txn.{Txn as TxnOf}
+use Rattle.lu_base.specs.declared.ids.Who.{Who}
+use Rattle.lu_base.specs.declared.locks.Cause.{Cause}
+use Rattle.lu_base.specs.declared.locks.Cause.TheVariants.{Expired, Replaced}
+use Rattle.lu_base.specs.declared.locks.Lock.{Lock}
+use Rattle.lu_msg.specs.declared.answers.Answer.{Answer}
+use Rattle.lu_msg.specs.declared.messages.Message.{Message}
+use Rattle.lu_msg.specs.declared.messages.Message.TheVariants as message
+use Rattle.lu_msg.specs.declared.messages.LockReplay.{LockReplay}
+use Rattle.lu_msg.specs.declared.messages.RequestReplay.{RequestReplay}
+use Rattle.lu_msg.specs.declared.messages.Reply.{Reply as ReplyTo}
+use Rattle.lu_msg.specs.declared.messages.Request.{Request as RequestOf}
+use Rattle.lu_msg.specs.declared.operations.Op.{Op}
+use Rattle.lu_held.specs.declared.locks.HeldLock.{HeldLock}
+use Rattle.lu_held.specs.Held.{is_held}
+use Rattle.lu_machine.specs.Fits.{answer_fits}
+use Rattle.lu_machine.specs.Footprint.{changes}
+use Rattle.lu_words.specs.Carried.{Deed, Said, Queued, Flight, Called}
+use Rattle.lu_words.specs.Words.{Entry, Begin, Busy, Queues, Flies, Send, Take, Tick, Heard, Hold, Drop, Told, Die, Pins, Unpins, Marks, Learns, Act, Txn, Grant, Block, Release, Enters, Line, turn_before, Skip, Commit, Life, Serves, Settles, Evict, Joined, Binds, Unbinds, Knows, Unmarks, Crash, Boot, Back, Stores, Brings, Says, Wishes}
+use Rattle.lu_target_rows.specs.Leaving.{is_over, life_of as life_in}
+use Rattle.lu_target_rows.specs.Lives.{is_life}
+use Rattle.lu_target_rows.specs.Locks.{with_lock, without_lock}
+use Rattle.lu_target_rows.specs.Names.{in_way, is_free, is_read, guards_part}
+use Rattle.lu_target_rows.specs.Objects.{lock_of}
+use Rattle.lu_target_rows.specs.Replies.{is_called}
+use Rattle.lu_target_rows.specs.Kept.{replayed}
+use Rattle.lu_target_rows.specs.Recovery.{cut, empty_word}
+use Rattle.lu_target_rows.specs.Rows.{lock_again}
+use Rattle.lu_target_rows.specs.Windows.{is_replay, is_lock, word_of, is_newest}
+use Rattle.lu_client_rows.specs.Caches.{held_as, held_at}
+use Rattle.lu_client_rows.specs.Imports.{Joining, Recovering, Serving}
+use Rattle.lu_client_rows.specs.Recovery.{next_life}
+use Rattle.lu_client_rows.specs.Sending.{next_flight}
+use Rattle.lu_covered.specs.TargetParts.{without_request}
+use Rattle.lu_covered.specs.TargetStates.{none, server_of, slot_of, lives_of, evicted_of, shown_of, closed_of, up_of, replays_of, brought_of, words_of, wishes_of, next_number}
+use Rattle.lu_covered.specs.Deeds.{asked, deed, locks_of, written_by, again}
+use Rattle.lu_covered.specs.ClientStates.{queue_of, flights_of, last_of, known_of, life_of, standing_of}
+use Rattle.lu_covered.specs.Heads.{Head}
+use Rattle.lu_guards.proofs.Guards.{In, Was, HeardNow, TookNow, Took, Dropped, request, name_of, Did, InTurn, IsCommit, IsTick, BackNow, IsTurnOf}
+
+-- the target serves: it is up, and its recovery window is closed
+abbrev pub IsServing : ℕ → List Line → Type 0
+IsServing osts past = record { closed : closed_of past ≡ (server_of osts past).boot; up : up_of past ≡ true }
+
+-- it recovers: it was booted, and its window isn't closed yet
+abbrev pub IsRecovering : ℕ → List Line → Type 0
+IsRecovering osts past = (closed_of past == (server_of osts past).boot) ≡ false
+
+-- where the target serves the client's life
+pub record FliesOk (head : Head) (past : List Line) (c : ℕ) (f : Flight) : Type 0 where
+  pub serves : standing_of c past ≡ Serving
+  pub front : Queued
+  pub more : List Queued
+  pub queue : queue_of (life_of c past) past ≡ front ∷ more
+  pub is : f ≡ next_flight (last_of (life_of c past) past) (flights_of (life_of c past) past) front
+  pub room : length (flights_of (life_of c past) past) < head.flight
+
+pub record AskOk (past : List Line) (c : ℕ) (r : RequestOf) : Type 0 where
+  pub serves : standing_of c past ≡ Serving
+  pub flight : Flight
+  pub flying : In flight (flights_of (life_of c past) past)
+  pub is : r ≡ request c past flight
+
+-- a life that isn't served yet asks to be
+pub record JoinsOk (past : List Line) (c : ℕ) (who : Who) (boot : ℕ) : Type 0 where
+  pub joins : standing_of c past ≡ Joining
+  pub of_life : who ≡ life_of c past
+  pub of_boot : boot ≡ known_of c past
+
+pub record HeardOk (past : List Line) (c : ℕ) (f : Flight) (r : ReplyTo) : Type 0 where
+  pub from : ℕ
+  pub was : Was past (Target from) (Client c) (message.Reply r)
+  pub flying : In f (flights_of (life_of c past) past)
+  pub xid : f.xid ≡ r.xid.0
+  pub who : r.who ≡ life_of c past
+  pub boot : r.boot ≡ known_of c past
+  pub fits : answer_fits f.op r.answer ≡ true
+
+-- the lock is held already, since the reply that brought it was heard
+pub record HeldOk (past : List Line) (c : ℕ) (lock : Lock) : Type 0 where
+  pub at : At
+  pub flight : Flight
+  pub reply : ReplyTo
+  pub heard : HeardNow past at 0 flight reply
+  pub among : In lock reply.locks
+  pub held : In (held_as 0 lock false) (held_at c past)
+
+pub record KnowsOk (past : List Line) (op : Op) (answer : Answer) (locks : List Lock) : Type 0 where
+  pub at : At
+  pub flight : Flight
+  pub reply : ReplyTo
+  pub heard : HeardNow past at 0 flight reply
+  pub of_op : op ≡ flight.op
+  pub of_answer : answer ≡ reply.answer
+  pub of_locks : locks ≡ reply.locks
+
+-- the lock is held
+pub record DropOk (past : List Line) (c : ℕ) (lock : Lock) : Type 0 where
+  pub holding : HeldLock
+  pub held : In holding (held_at c past)
+  pub is : holding.lock ≡ lock
+
+-- a new life begins when nothing of the old one is held
+pub record LifeOf (past : List Line) (c : ℕ) (who : Who) : Type 0 where
+  pub next : who ≡ next_life (life_of c past)
+  pub empty : held_at c past ≡ []
+
+-- a target that was booted again tells a newer boot than the client knows
+pub record BootKnownOk (past : List Line) (c t boot : ℕ) : Type 0 where
+  pub newer : known_of c past < boot
+  pub was : Was past (Target t) (Client c) (message.Up boot)
+
+-- what a life tells a target that recovers, of the boot that it knows
+pub record TellsOk (past : List Line) (c : ℕ) (who : Who) (boot : ℕ) : Type 0 where
+  pub recovers : standing_of c past ≡ Recovering
+  pub of_life : who ≡ life_of c past
+  pub of_boot : boot ≡ known_of c past
+
+-- the target said that it serves the life
+pub record ServesOk (past : List Line) (c t boot : ℕ) : Type 0 where
+  pub committed : TxnOf
+  pub was : Was past (Target t) (Client c) (message.Ready (life_of c past) boot committed)
+  pub of_boot : boot ≡ known_of c past
+
+-- the lock was just given up; or it was called back while it wasn't held, and no request is in flight
+pub record CancelOk (past : List Line) (c : ℕ) (who : Who) (boot : ℕ) (cookie : Cookie) : Type 0 where
+  pub of_life : who ≡ life_of c past
+  pub of_boot : boot ≡ known_of c past
+  pub free : is_held (name_of cookie) (held_at c past) ≡ false
+  pub cause : Dropped past c cookie ⊎ ((flights_of (life_of c past) past ≡ []) × ((from b : ℕ) × Was past (Target from) (Client c) (message.Block who b cookie)))
+
+-- a reply that is kept for a life and tag
+pub record ReplyOk (osts : ℕ) (past : List Line) (c : ℕ) (k : ReplyTo) : Type 0 where
+  pub serves : IsServing osts past
+  pub who : Who
+  pub tag : ℕ
+  pub kept : ReplyTo
+  pub slot : (slot_of who tag past).reply ≡ Some kept
+  pub is : k ≡ again (server_of osts past) kept
+  pub to : c ≡ k.who.client
+
+-- the holder of a granted lock is told to give it back
+pub record CallsOk (osts : ℕ) (past : List Line) (c : ℕ) (who : Who) (boot : ℕ) (cookie : Cookie) : Type 0 where
+  pub serves : IsServing osts past
+  pub lock : Lock
+  pub granted : In lock (server_of osts past).granted
+  pub of_life : who ≡ lock.ask.who
+  pub of_boot : boot ≡ (server_of osts past).boot
+  pub of_cookie : cookie ≡ lock.cookie
+  pub to : c ≡ who.client
+  pub called : is_called cookie (server_of osts past).called ≡ true
+
+-- a life that has a slot is told that it is served
+pub record ReadyOk (head : Head) (past : List Line) (c : ℕ) (who : Who) (boot : ℕ) (committed : TxnOf) : Type 0 where
+  pub serves : IsServing head.osts past
+  pub has : is_life who (lives_of head.clients past) ≡ true
+  pub to : c ≡ who.client
+  pub of_boot : boot ≡ (server_of head.osts past).boot
+  pub of_committed : committed ≡ (server_of head.osts past).committed
+
+-- that life's: a request, a lock back, or what it tells in a recovery
+abbrev pub SaidBy : Who → Message → Type 0
+SaidBy who (message.Request r) = r.who ≡ who
+SaidBy who (message.Cancel other boot cookie) = other ≡ who
+SaidBy who (message.Replay r) = r.who ≡ who
+SaidBy who (message.Lock r) = r.who ≡ who
+SaidBy who (message.Word other boot replays locks seen) = other ≡ who
+SaidBy who _ = ⊥
+
+-- that life sent the target such a message
+abbrev pub Spoke : List Line → ℕ → Who → Type 0
+Spoke past t who = (from : ℕ) × (m : Message) × Was past (Client from) (Target t) m × SaidBy who m
+
+-- a newer life of its client has or had a slot
+abbrev pub Newer : ℕ → List Line → Who → Type 0
+Newer clients past who =
+    record {
+      life : Who;
+      client : life.client ≡ who.client;
+      newer : who.life < life.life;
+      had : (is_life life (lives_of clients past) ≡ true) ⊎ (is_life life (evicted_of past) ≡ true);
+    }
+
+-- a life that was evicted, or has no slot though it spoke, or is older than one that has or had a slot, is told that it is over
+pub record NoticeOk (head : Head) (past : List Line) (t c : ℕ) (who : Who) (boot : ℕ) : Type 0 where
+  pub to : c ≡ who.client
+  pub of_boot : boot ≡ (server_of head.osts past).boot
+  pub cause : (is_life who (evicted_of past) ≡ true) ⊎ ((is_life who (lives_of head.clients past) ≡ false) × Spoke past t who) ⊎ Newer head.clients past who
+
+-- a request of a life with a slot that was sent, of a number above the newest one taken of its life and tag
+pub record EntersOk (osts clients : ℕ) (past : List Line) (t : ℕ) (r : RequestOf) : Type 0 where
+  pub serves : IsServing osts past
+  pub has : is_life r.who (lives_of clients past) ≡ true
+  pub from : ℕ
+  pub was : Was past (Client from) (Target t) (message.Request r)
+  pub newer : (slot_of r.who r.tag past).taken < r.xid.0
+
+pub record ActOk (osts : ℕ) (past : List Line) (at : At) (d : Deed) : Type 0 where
+  pub serves : IsServing osts past
+  pub request : RequestOf
+  pub waits : In request (server_of osts past).waiting
+  pub still : changes osts (server_of osts past).tree (asked request none) ≡ false
+  pub is : d ≡ deed osts (server_of osts past) at request none (locks_of osts (server_of osts past) request)
+
+-- no granted lock guards what it writes
+pub record TxnOk (osts : ℕ) (past : List Line) (at : At) (d : Deed) : Type 0 where
+  pub serves : IsServing osts past
+  pub numbers : (server_of osts past).count < 4294967295
+  pub request : RequestOf
+  pub waits : In request (server_of osts past).waiting
+  pub moves : changes osts (server_of osts past).tree (asked request none) ≡ true
+  pub free : is_free (in_way (server_of osts past).granted (written_by osts (server_of osts past) request)) ≡ true
+  pub is : d ≡ deed osts (server_of osts past) at request (next_number (server_of osts past)) []
+
+-- what it shows stands since the act
+pub record GrantOk (osts : ℕ) (past : List Line) (lock : Lock) (d : Deed) : Type 0 where
+  pub did : Did past d
+  pub among : In lock d.reply.locks
+  pub granted : with_lock lock (server_of osts past).granted ≡ (server_of osts past).granted
+  pub cookie : max (server_of osts past).cookie lock.cookie.0 ≡ (server_of osts past).cookie
+  pub waiting : without_request d (server_of osts past).waiting ≡ (server_of osts past).waiting
+  pub slot : (slot_of d.reply.who d.tag past).reply ≡ Some d.reply
+
+-- a granted lock that isn't called back, and a request that waits for it: it would write what the lock guards
+pub record BlockOk (osts : ℕ) (past : List Line) (called : Called) : Type 0 where
+  pub serves : IsServing osts past
+  pub lock : Lock
+  pub granted : In lock (server_of osts past).granted
+  pub of_cookie : called.cookie ≡ lock.cookie
+  pub of_life : called.who ≡ lock.ask.who
+  pub new : is_called lock.cookie (server_of osts past).called ≡ false
+  pub request : RequestOf
+  pub waits : In request (server_of osts past).waiting
+  pub modifies : is_read request.op ≡ false
+  pub for_it : list_any (guards_part lock) (written_by osts (server_of osts past) request) ≡ true
+
+-- a granted lock whose holder gives it back
+pub record BackOk (osts : ℕ) (past : List Line) (t : ℕ) (lock : Lock) : Type 0 where
+  pub from : ℕ
+  pub boot : ℕ
+  pub was : Was past (Client from) (Target t) (message.Cancel lock.ask.who boot lock.cookie)
+  pub found : lock_of lock.ask.who lock.cookie (server_of osts past).granted ≡ Some lock
+
+-- what is shown of a lock of a life that was just evicted: it was granted before, and is no more
+pub record LeftOk (osts : ℕ) (past : List Line) (lock : Lock) : Type 0 where
+  pub evicted : is_life lock.ask.who (evicted_of past) ≡ true
+  pub still : without_lock lock (server_of osts past).granted ≡ (server_of osts past).granted
+  pub shown : In lock (shown_of past)
+
+abbrev pub ReleaseOk : ℕ → List Line → ℕ → Lock → Type 0
+ReleaseOk osts past t lock = IsServing osts past × (BackOk osts past t lock ⊎ LeftOk osts past lock)
+
+-- the last of the transactions that go to the disk, or none where all are there
+pub record CommitOk (osts : ℕ) (past : List Line) (to : ℕ) : Type 0 where
+  pub serves : IsServing osts past
+  pub is : ((d : Deed) × In d (server_of osts past).log × (to ≡ d.reply.txn.0)) ⊎ (to ≡ (server_of osts past).committed.0)
+
+-- before that turn a lock of that life was called back: reads Block
+abbrev pub CalledBefore : List Line → At → Who → Type 0
+CalledBefore [] at who = ⊥
+CalledBefore (l ∷ past) at who =
+    elim l.entry [ Block called ↦ ((called.who ≡ who) × (turn_before l.at at ≡ true)) ⊎ CalledBefore past at who | _ ↦ CalledBefore past at who ]
+
+-- the turn took the join of a newer life of the client
+pub record TookNewer (past : List Line) (at : At) (who : Who) : Type 0 where
+  pub from : ℕ
+  pub other : Who
+  pub boot : ℕ
+  pub took : Took past at (Client from) (message.Join other boot)
+  pub client : other.client ≡ who.client
+  pub newer : who.life < other.life
+
+abbrev pub EvictedBy : List Line → At → Who → Cause → Type 0
+EvictedBy past at who Expired = InTurn IsTick past at × CalledBefore past at who
+EvictedBy past at who Replaced = TookNewer past at who
+EvictedBy past at who _ = ⊥
+
+-- a life with a slot loses it, once all is committed
+pub record EvictOk (head : Head) (past : List Line) (at : At) (who : Who) (cause : Cause) : Type 0 where
+  pub serves : IsServing head.osts past
+  pub has : is_life who (lives_of head.clients past) ≡ true
+  pub commits : InTurn IsCommit past at
+  pub logged : (server_of head.osts past).log ≡ []
+  pub caused : EvictedBy past at who cause
+
+-- a life that asked for a slot gets one: no life of its client has one, and none that isn't older had one
+pub record JoinedOk (head : Head) (past : List Line) (at : At) (t : ℕ) (who : Who) : Type 0 where
+  pub serves : IsServing head.osts past
+  pub from : ℕ
+  pub boot : ℕ
+  pub took : Took past at (Client from) (message.Join who boot)
+  pub was : Was past (Client from) (Target t) (message.Join who boot)
+  pub none : life_in who.client (lives_of head.clients past) ≡ None
+  pub newer : list_any (is_over who) (evicted_of past) ≡ false
+
+-- a target that is up goes down, and one that is down comes up in the next boot
+pub record BootOk (osts : ℕ) (past : List Line) (boot : ℕ) : Type 0 where
+  pub down : up_of past ≡ false
+  pub next : boot ≡ (server_of osts past).boot + 1
+
+-- what is kept in recovery came in this turn, under the present boot, of a life with a slot, and wasn't kept before
+pub record KeepsOk (head : Head) (past : List Line) (at : At) (from : Node) (m : Message) (who : Who) (boot : ℕ) : Type 0 where
+  pub recovers : IsRecovering head.osts past
+  pub up : up_of past ≡ true
+  pub took : TookNow past at from m
+  pub of_boot : boot ≡ (server_of head.osts past).boot
+  pub has : is_life who (lives_of head.clients past) ≡ true
+
+pub record StoresOk (head : Head) (past : List Line) (at : At) (replay : RequestReplay) : Type 0 where
+  pub from : Node
+  pub given : RequestReplay
+  pub keeps : KeepsOk head past at from (message.Replay given) given.who given.boot
+  pub is : replay ≡ cut given
+  pub new : list_any (is_replay (replayed given)) (replays_of past) ≡ false
+
+pub record BringsOk (head : Head) (past : List Line) (at : At) (lock : Lock) : Type 0 where
+  pub from : Node
+  pub given : LockReplay
+  pub keeps : KeepsOk head past at from (message.Lock given) given.who given.boot
+  pub is : lock ≡ lock_again given
+  pub new : list_any (is_lock lock) (brought_of past) ≡ false
+
+-- a word, or the join of a life with a slot, which has nothing to tell
+pub record SaysOk (head : Head) (past : List Line) (at : At) (said : Said) : Type 0 where
+  pub from : Node
+  pub boot : ℕ
+  pub keeps : KeepsOk head past at from (message.Word said.who boot said.replays said.locks said.seen) said.who boot
+      ⊎ ((said ≡ empty_word said.who) × KeepsOk head past at from (message.Join said.who boot) said.who boot)
+  pub new : word_of said.who (words_of past) ≡ None
+
+-- the join of a newer life than the one with a slot, the newest of its client so far
+pub record WishesOk (head : Head) (past : List Line) (at : At) (who : Who) : Type 0 where
+  pub from : Node
+  pub boot : ℕ
+  pub old : Who
+  pub keeps : KeepsOk head past at from (message.Join who boot) old boot
+  pub client : old.client ≡ who.client
+  pub newer : old.life < who.life
+  pub newest : is_newest who (wishes_of past) ≡ true
+
+abbrev pub SendOf : Head → List Line → Node → Node → Message → Type 0
+SendOf head past (Client c) (Target t) (message.Request r) = AskOk past c r
+SendOf head past (Client c) (Target t) (message.Cancel who boot cookie) = CancelOk past c who boot cookie
+SendOf head past (Client c) (Target t) (message.Join who boot) = JoinsOk past c who boot
+SendOf head past (Client c) (Target t) (message.Replay r) = TellsOk past c r.who r.boot
+SendOf head past (Client c) (Target t) (message.Lock r) = TellsOk past c r.who r.boot
+SendOf head past (Client c) (Target t) (message.Word who boot replays locks seen) = TellsOk past c who boot
+SendOf head past (Target t) (Client c) (message.Up boot) = boot ≡ (server_of head.osts past).boot
+SendOf head past (Target t) (Client c) (message.Reply k) = ReplyOk head.osts past c k
+SendOf head past (Target t) (Client c) (message.Block who boot cookie) = CallsOk head.osts past c who boot cookie
+SendOf head past (Target t) (Client c) (message.Ready who boot committed) = ReadyOk head past c who boot committed
+SendOf head past (Target t) (Client c) (message.Evicted who boot) = NoticeOk head past t c who boot
+SendOf head past _ _ _ = ⊥
+
+abbrev pub EntryOf : Head → List Line → At → Node → Entry → Type 0
+EntryOf head past at node (Take n from m) = Unit {0}
+EntryOf head past at node (Send to m) = SendOf head past node to m
+EntryOf head past at node Tick = Unit {0}
+EntryOf head past at (Client c) (Begin slot running) = Unit {0}
+EntryOf head past at (Client c) (Busy slot) = Unit {0}
+EntryOf head past at (Client c) (Queues t q) = Unit {0}
+EntryOf head past at (Client c) (Flies t f) = FliesOk head past c f
+EntryOf head past at (Client c) (Heard t f r) = HeardOk past c f r
+EntryOf head past at (Client c) (Hold t lock marked size seen) = (marked ≡ false) × HeldOk past c lock
+EntryOf head past at (Client c) (Learns t op answer locks) = KnowsOk past op answer locks
+EntryOf head past at (Client c) (Drop t lock) = (t ≡ 0) × DropOk past c lock
+EntryOf head past at (Client c) (Pins name) = Unit {0}
+EntryOf head past at (Client c) (Unpins name) = Unit {0}
+EntryOf head past at (Client c) (Marks name) = Unit {0}
+EntryOf head past at (Client c) (Told slot turn answer work) = Unit {0}
+EntryOf head past at (Client c) (Life who) = LifeOf past c who
+EntryOf head past at (Client c) (Binds handle file) = Unit {0}
+EntryOf head past at (Client c) (Unbinds handle) = Unit {0}
+EntryOf head past at (Client c) (Knows t boot) = BootKnownOk past c t boot
+EntryOf head past at (Client c) (Unmarks t) = Unit {0}
+EntryOf head past at (Client c) (Serves t boot) = ServesOk past c t boot
+EntryOf head past at (Client c) (Settles t to) = standing_of c past ≡ Serving
+EntryOf head past at (Client c) Die = Unit {0}
+EntryOf head past at (Target t) (Enters r) = EntersOk head.osts head.clients past t r
+EntryOf head past at (Target t) (Act d) = ActOk head.osts past at d
+EntryOf head past at (Target t) (Txn d) = TxnOk head.osts past at d
+EntryOf head past at (Target t) (Grant lock (Some d)) = GrantOk head.osts past lock d
+EntryOf head past at (Target t) (Block called) = BlockOk head.osts past called
+EntryOf head past at (Target t) (Release lock) = ReleaseOk head.osts past t lock
+EntryOf head past at (Target t) Skip = Unit {0}
+EntryOf head past at (Target t) (Commit to batch) = CommitOk head.osts past to
+EntryOf head past at (Target t) Crash = up_of past ≡ true
+EntryOf head past at (Target t) (Boot boot disk) = BootOk head.osts past boot
+EntryOf head past at (Target t) (Back who) = BackNow head.osts head.clients past who × IsTurnOf past at
+EntryOf head past at (Target t) (Stores replay) = StoresOk head past at replay
+EntryOf head past at (Target t) (Brings lock) = BringsOk head past at lock
+EntryOf head past at (Target t) (Says said) = SaysOk head past at said
+EntryOf head past at (Target t) (Wishes who) = WishesOk head past at who
+EntryOf head past at (Target t) (Evict who cause) = EvictOk head past at who cause
+EntryOf head past at (Target t) (Joined who) = JoinedOk head past at t who
+EntryOf head past at _ _ = ⊥
