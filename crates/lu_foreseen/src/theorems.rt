@@ -5,8 +5,8 @@ ghost use Rattle.lu_scene.specs.declared.scene.Scene.{Scene};
 ghost use Rattle.lu_covered_scenes.specs.Covered.{IsCovered, AsksNoDisk};
 ghost use Rattle.lu_foreseen.specs.Scenes.{AllForeseen};
 
-/// Each covered scenario is in which no turn asks a disk: no line gives a command to a target, and the lines
-/// show that no client is evicted.
+/// Each covered scenario that asks no disk is: no line gives a command to a target, and the lines show that no client
+/// is evicted.
 pub fn covered_scenes_are_foreseen()
     ensures foreseen { (scene : Scene) → IsCovered scene → AsksNoDisk scene → AllForeseen scene }
 {}
