@@ -5,9 +5,9 @@ use Rattle.lu_base.specs.declared.ids.Node.{Node}
 use Rattle.lu_base.specs.declared.ids.Node.TheVariants.{Client, Target}
 use Rattle.lu_base.specs.declared.ids.Who.{Who}
 use Rattle.lu_words.specs.Carried.{Queued, Flight}
-use Rattle.lu_words.specs.Words.{Heard, Life, Queues, Flies, Knows, Serves, Line, is_client, same_life}
+use Rattle.lu_words.specs.Words.{Heard, Hold, Life, Queues, Flies, Knows, Serves, Settles, Line, is_client, same_life}
 use Rattle.lu_covered.specs.Calls.{first_life}
-use Rattle.lu_covered.specs.Imports.{Standing, Joining, Serving, interrupted, queue_after, flights_after}
+use Rattle.lu_covered.specs.Imports.{Kept, nothing_kept, kept_after, Standing, Joining, Serving, interrupted, queue_after, flights_after}
 
 -- ---- a client's
 
@@ -64,3 +64,15 @@ last_of who (l ∷ past) = elim l.entry [ Flies t f ↦ if is_own who past l.at.
 abbrev pub tag_of : Who → ℕ → List Line → ℕ
 tag_of who xid [] = 0
 tag_of who xid (l ∷ past) = elim l.entry [ Flies t f ↦ if is_own who past l.at.node && f.xid == xid then f.tag else tag_of who xid past | _ ↦ tag_of who xid past ]
+
+-- what it has to tell in a recovery. It begins with what the life before it was told of as committed
+abbrev pub kept_of : Who → List Line → Kept
+kept_of who [] = nothing_kept
+kept_of who (l ∷ past) =
+    elim l.entry [
+      | Heard t f r ↦ if is_own who past l.at.node then kept_after (kept_of who past) (Heard t f r) else kept_of who past
+      | Hold t lock marked size seen ↦ if is_own who past l.at.node then kept_after (kept_of who past) (Hold t lock marked size seen) else kept_of who past
+      | Settles t to ↦ if is_own who past l.at.node then kept_after (kept_of who past) (Settles t to) else kept_of who past
+      | Life new ↦ if is_client who.client l.at.node && same_life who new then record nothing_kept { committed = (kept_of (life_of who.client past) past).committed } else kept_of who past
+      | _ ↦ kept_of who past
+    ]

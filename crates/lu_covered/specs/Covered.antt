@@ -1,7 +1,7 @@
 -- Which runs the theorem covers so far: the calls that begin are on names or on bad handles, all that is told is told without bytes, no
--- close waits for another call on its open, and no target closes a recovery window or fails; targets may crash, boot and recover. Whatever
--- messages are lost, repeated or late, whoever dies, whoever waits for a lock, whatever is committed, and whoever is evicted and joins in a
--- new life, is covered.
+-- close of an open waits for another call on it, and no disk fails. Targets may crash, boot, recover and close their recovery windows.
+-- Whatever messages are lost, repeated or late, whoever dies, whoever waits for a lock, whatever is committed, and whoever is evicted and
+-- joins in a new life, is covered.
 use Rattle.std.specs.Prelude.{◌≡◌, ◌⊎◌, ℕ, false, List, [], ◌∷◌, Option, Some, None}
 use Rattle.lu_base.specs.declared.ids.Node.{Node}
 use Rattle.lu_base.specs.declared.ids.Node.TheVariants.{Client}
@@ -10,7 +10,7 @@ use Rattle.lu_msg.specs.declared.messages.Message.TheVariants as message
 use Rattle.lu_msg.specs.declared.operations.Op.{Op}
 use Rattle.lu_words.specs.Carried.{Deed, HandleFile, Bad, Work, Running}
 use Rattle.lu_words.specs.Words.{Entry, Send, Take, Tick, Begin, Busy, Heard, Hold, Drop, Told, Life, Die, Queues, Flies, Knows, Serves, Settles, Binds, Unbinds, Pins, Unpins, Marks, Unmarks, Learns, Line}
-use Rattle.lu_words.specs.Words.{Skip, Act, Txn, Grant, Block, Release, Commit, Crash, Boot, Back, Evict, Joined, Enters, Stores, Brings, Says, Wishes}
+use Rattle.lu_words.specs.Words.{Skip, Act, Txn, Grant, Block, Release, Commit, Crash, Boot, Back, Close, Kept, Restore, Evict, Joined, Enters, Stores, Brings, Says, Wishes}
 use Rattle.lu_client_rows.specs.Starts.{is_on}
 use Rattle.lu_covered.specs.Calls.{becomes, call_at}
 
@@ -81,6 +81,9 @@ IsCovered (Stores replay) = Unit {0}
 IsCovered (Brings lock) = Unit {0}
 IsCovered (Says said) = Unit {0}
 IsCovered (Wishes who) = Unit {0}
+IsCovered (Close outcome) = Unit {0}
+IsCovered (Kept number) = Unit {0}
+IsCovered (Restore lock) = Unit {0}
 IsCovered (Evict who cause) = Unit {0}
 IsCovered (Joined who) = Unit {0}
 IsCovered (Enters request) = Unit {0}

@@ -1,5 +1,6 @@
 pub mod TargetParts
 pub mod TargetStates
+pub mod TargetCloses
 pub mod Deeds
 pub mod Calls
 pub mod Known

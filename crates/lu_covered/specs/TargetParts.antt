@@ -1,6 +1,7 @@
 -- What each part of a target is after one of its entries. Each part has a step of its own, entry by entry, and a test
 -- which entries it reads; both have a catch-all last. A life leaves with its line `evict`, and then all that it had goes; the rows
--- take it away with the commit before that line, in the same turn.
+-- take it away with the commit before that line, in the same turn. At a close all is as its outcome says, and the lines that show
+-- it leave that as it is.
 use Rattle.std.specs.Prelude.{ℕ, ◌+◌, Bool, true, false, not, ◌==◌, ◌&&◌, nat_lt, if◌then◌else◌, List, [], ◌∷◌, ◌++◌, filter, Some, None}
 use Rattle.lu_base.specs.declared.ids.Txn.{Txn as TxnOf}
 use Rattle.lu_base.specs.declared.ids.Who.{Who}
@@ -8,12 +9,12 @@ use Rattle.lu_msg.specs.declared.messages.Request.{Request as RequestOf}
 use Rattle.lu_machine.specs.Tree.{Tree}
 use Rattle.lu_machine.specs.Footprint.{Operation, after, forget}
 use Rattle.lu_words.specs.Carried.{Deed, Slot}
-use Rattle.lu_words.specs.Words.{Entry, Act, Txn, Commit, Crash, Boot, Enters, Block, Release, Evict, Joined, same_life}
+use Rattle.lu_words.specs.Words.{Entry, Act, Txn, Commit, Crash, Boot, Close, Restore, Enters, Block, Release, Evict, Joined, same_life}
 use Rattle.lu_base.specs.declared.locks.Lock.{Lock}
 use Rattle.lu_words.specs.Carried.{Called}
 use Rattle.lu_target_rows.specs.Phase.{first_of, greatest_cookie}
-use Rattle.lu_target_rows.specs.Lives.{is_life, with_life, without_lives}
-use Rattle.lu_target_rows.specs.Locks.{with_locks, without_lock, locks_without, called_without}
+use Rattle.lu_target_rows.specs.Lives.{is_life, with_life, without_lives, slot_in}
+use Rattle.lu_target_rows.specs.Locks.{with_lock, with_locks, without_lock, locks_without, called_without}
 
 -- ---- the boot, and the number up to which all is on the disk
 
@@ -27,10 +28,12 @@ boot_after n _ = n
 
 abbrev pub reads_committed : Entry → Bool
 reads_committed (Commit to batch) = true
+reads_committed (Close o) = true
 reads_committed _ = false
 
 abbrev pub committed_after : TxnOf → Entry → TxnOf
 committed_after m (Commit to batch) = record { 0 = to }
+committed_after m (Close o) = record { 0 = o.disk.committed }
 committed_after m _ = m
 
 -- ---- how many transactions this boot has made
@@ -54,11 +57,13 @@ operation d = record { number = d.reply.txn; who = d.reply.who; op = d.op }
 abbrev pub reads_tree : Entry → Bool
 reads_tree (Txn d) = true
 reads_tree (Evict who cause) = true
+reads_tree (Close o) = true
 reads_tree _ = false
 
 abbrev pub tree_after : ℕ → Tree → Entry → Tree
 tree_after osts t (Txn d) = after osts t (operation d)
 tree_after osts t (Evict who cause) = forget t who
+tree_after osts t (Close o) = o.disk.contents.tree
 tree_after osts t _ = t
 
 -- ---- the transactions that aren't on the disk, in rising number
@@ -66,11 +71,13 @@ tree_after osts t _ = t
 abbrev pub reads_log : Entry → Bool
 reads_log (Txn d) = true
 reads_log (Commit to batch) = true
+reads_log (Close o) = true
 reads_log _ = false
 
 abbrev pub log_after : List Deed → Entry → List Deed
 log_after log (Txn d) = log ++ d ∷ []
 log_after log (Commit to batch) = filter (λ d. nat_lt to d.reply.txn.0) log
+log_after log (Close o) = []
 log_after log _ = log
 
 -- ---- the lives that have a slot, and those that were evicted
@@ -78,19 +85,23 @@ log_after log _ = log
 abbrev pub reads_lives : Entry → Bool
 reads_lives (Evict who cause) = true
 reads_lives (Joined who) = true
+reads_lives (Close o) = true
 reads_lives _ = false
 
 abbrev pub lives_after : List Who → Entry → List Who
 lives_after lives (Evict who cause) = without_lives (who ∷ []) lives
 lives_after lives (Joined who) = with_life who lives
+lives_after lives (Close o) = o.disk.lives
 lives_after lives _ = lives
 
 abbrev pub reads_evicted : Entry → Bool
 reads_evicted (Evict who cause) = true
+reads_evicted (Close o) = true
 reads_evicted _ = false
 
 abbrev pub evicted_after : List Who → Entry → List Who
 evicted_after evicted (Evict who cause) = with_life who evicted
+evicted_after evicted (Close o) = o.disk.removed
 evicted_after evicted _ = evicted
 
 -- ---- requests that were taken and wait to act, in the order in which they came
@@ -106,6 +117,7 @@ reads_waiting (Enters r) = true
 reads_waiting (Act d) = true
 reads_waiting (Txn d) = true
 reads_waiting (Evict who cause) = true
+reads_waiting (Close o) = true
 reads_waiting _ = false
 
 abbrev pub waiting_after : List RequestOf → Entry → List RequestOf
@@ -113,6 +125,7 @@ waiting_after waiting (Enters r) = waiting ++ r ∷ []
 waiting_after waiting (Act d) = without_request d waiting
 waiting_after waiting (Txn d) = without_request d waiting
 waiting_after waiting (Evict who cause) = filter (λ r. not (is_life r.who (who ∷ []))) waiting
+waiting_after waiting (Close o) = []
 waiting_after waiting _ = waiting
 
 -- ---- the slot of a life and tag
@@ -134,12 +147,14 @@ abbrev pub reads_slot : Entry → Bool
 reads_slot (Enters r) = true
 reads_slot (Act d) = true
 reads_slot (Txn d) = true
+reads_slot (Close o) = true
 reads_slot _ = false
 
 abbrev pub slot_after : Who → ℕ → Slot → Entry → Slot
 slot_after who tag slot (Enters r) = if is_slot_of who tag r.who r.tag then entered r else slot
 slot_after who tag slot (Act d) = if is_slot_of who tag d.reply.who d.tag then answered d slot else slot
 slot_after who tag slot (Txn d) = if is_slot_of who tag d.reply.who d.tag then answered d slot else slot
+slot_after who tag slot (Close o) = slot_in o.disk.slots who tag
 slot_after who tag slot _ = slot
 
 -- ---- granted locks, in rising cookie: those of an act come with it, and the lines that follow show them
@@ -148,19 +163,24 @@ abbrev pub reads_granted : Entry → Bool
 reads_granted (Act d) = true
 reads_granted (Release lock) = true
 reads_granted (Evict who cause) = true
+reads_granted (Close o) = true
 reads_granted _ = false
 
 abbrev pub granted_after : List Lock → Entry → List Lock
 granted_after locks (Act d) = with_locks d.reply.locks locks
 granted_after locks (Release lock) = without_lock lock locks
 granted_after locks (Evict who cause) = locks_without (who ∷ []) locks
+granted_after locks (Close o) = o.locks
 granted_after locks _ = locks
 
--- those whose release isn't shown, since the last crash: the locks of a life that leaves go one by one after it
+-- those that a line has shown since the last crash or close, and whose release isn't shown: the locks of a life that leaves go one
+-- by one after it, and those that a close restores come one by one
 abbrev pub shown_after : List Lock → Entry → List Lock
 shown_after locks (Act d) = with_locks d.reply.locks locks
 shown_after locks (Release lock) = without_lock lock locks
 shown_after locks Crash = []
+shown_after locks (Close o) = []
+shown_after locks (Restore lock) = with_lock lock locks
 shown_after locks _ = locks
 
 -- ---- the greatest cookie
@@ -181,10 +201,12 @@ abbrev pub reads_called : Entry → Bool
 reads_called (Block called) = true
 reads_called (Release lock) = true
 reads_called (Evict who cause) = true
+reads_called (Close o) = true
 reads_called _ = false
 
 abbrev pub called_after : List Called → Entry → List Called
 called_after cs (Block called) = cs ++ called ∷ []
 called_after cs (Release lock) = called_without lock cs
 called_after cs (Evict who cause) = filter (λ c. not (is_life c.who (who ∷ []))) cs
+called_after cs (Close o) = []
 called_after cs _ = cs

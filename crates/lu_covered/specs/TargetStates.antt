@@ -8,7 +8,7 @@ use Rattle.lu_machine.specs.Tree.{Tree}
 use Rattle.lu_machine.specs.Footprint.{empty}
 use Rattle.lu_base.specs.declared.locks.Lock.{Lock}
 use Rattle.lu_words.specs.Carried.{Deed, Slot, Called, Said}
-use Rattle.lu_words.specs.Words.{Entry, Act, Txn, Commit, Boot, Enters, Block, Release, Evict, Line}
+use Rattle.lu_words.specs.Words.{Entry, Act, Txn, Commit, Boot, Close, Enters, Block, Release, Evict, Line}
 use Rattle.lu_words.specs.Fields.{at_target}
 pub use Rattle.lu_target_rows.specs.Replies.{seen_in}
 use Rattle.lu_covered.specs.TargetParts.{reads_boot, boot_after, reads_count, count_after, reads_committed, committed_after, reads_tree, tree_after, reads_log, log_after, reads_waiting, waiting_after, no_slot, reads_slot, slot_after}
@@ -95,6 +95,15 @@ server_start = record { boot = 1; count = 0; committed = none; tree = empty; log
 abbrev pub server_after : ℕ → Server → Entry → Server
 server_after osts v (Boot boot disk) = record v { boot = boot; count = count_after v.count (Boot boot disk); cookie = cookie_after v.cookie (Boot boot disk) }
 server_after osts v (Commit to batch) = record v { committed = record { 0 = to }; log = log_after v.log (Commit to batch) }
+server_after osts v (Close o) =
+    record v {
+      committed = committed_after v.committed (Close o);
+      tree = tree_after osts v.tree (Close o);
+      log = [];
+      waiting = [];
+      granted = o.locks;
+      called = [];
+    }
 server_after osts v (Enters r) = record v { waiting = waiting_after v.waiting (Enters r) }
 server_after osts v (Act d) =
     record v {

@@ -73,7 +73,7 @@ module _ (MayAsk : Type 0) (osts : ℕ) (stamp : Stamp) (c : ℕ) where
     begins_alone slot (call.Glimpse x) is = absurd is
     begins_alone slot wanted is = (tt, tt)
 
-    pub row_alone : (P : Call → Type 0) (event : Event) → EventCalm P MayAsk event → EntriesAlone at (row limits at event k) past
+    pub row_alone : (P : Call → Type 0) (event : Event) → EventCalm P MayAsk osts event → EntriesAlone at (row limits at event k) past
     row_alone P (Begins slot wanted) is = by (call_on slot k.calls)
       where
         after : Client

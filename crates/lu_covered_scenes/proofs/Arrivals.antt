@@ -1,13 +1,16 @@
 -- What comes to a node in a covered run whose calls are those of a covered scenario's lines: to the metadata target requests and locks that are
--- given back, to each target joins, none of an older boot; to a client of the run replies without a file's attributes, blocks, and word that
--- its life is served or is over. Where no turn may ask a disk, all is of first lives, and none joins.
-use Rattle.std.proofs.Common.{◌≡◌, ℕ, ◌+◌, ◌<◌, ◌≤◌, true, false, List, [], ◌∷◌, Option, Some, None, ◌⊎◌, inl, inr, ⊎_elim, refl, sym, subst, ap, ◌∙◌, zero, suc, arith, pos}
-use Rattle.std.specs.Prelude.{nat_eq}
+-- given back, to each target joins, and what lives that come back tell one that recovers; to a client of the run replies without a file's
+-- attributes, blocks, and word that a target is up again, and that its life is served or is over. Where no turn may ask a disk, all is of first
+-- lives and of the first boot, and nobody joins or comes back.
+use Rattle.std.proofs.Common.{◌≡◌, ℕ, ◌+◌, ◌<◌, ◌≤◌, Bool, true, false, List, [], ◌∷◌, Option, Some, None, ◌⊎◌, inl, inr, ⊎_elim, refl, sym, subst, ap, ◌∙◌, zero, suc, arith, pos}
+use Rattle.std.specs.Prelude.{nat_eq, nat_lt, if◌then◌else◌}
 use Rattle.std.proofs.lemmas.Bool.{cond_both, eqb-true}
+use Rattle.std.proofs.lemmas.Bool.Decides.{nat_tests}
 use Rattle.lu_base.specs.declared.ids.At.{At}
 use Rattle.lu_base.specs.declared.ids.Node.{Node}
 use Rattle.lu_base.specs.declared.ids.Node.TheVariants.{Client, Target}
 use Rattle.lu_base.specs.declared.ids.Who.{Who}
+use Rattle.lu_base.specs.declared.locks.Cause.{Cause}
 use Rattle.lu_msg.specs.declared.calls.Call.{Call}
 use Rattle.lu_msg.specs.declared.calls.Call.TheVariants as call
 use Rattle.lu_msg.specs.declared.messages.Message.{Message}
@@ -18,22 +21,25 @@ use Rattle.lu_msg.specs.declared.operations.Op.{Op}
 use Rattle.lu_msg.specs.declared.operations.Op.TheVariants as op
 use Rattle.lu_scene.specs.declared.scene.Scene.{Scene}
 use Rattle.lu_trace.specs.WellFormed.{IsCall}
-use Rattle.lu_words.specs.Carried.{Deed, HandleFile, Flight}
+use Rattle.lu_words.specs.Carried.{Deed, HandleFile, Flight, Outcome}
 use Rattle.lu_words.specs.Concerns.{only}
 use Rattle.lu_words.specs.Sent.{Sent}
-use Rattle.lu_words.specs.Words.{Entry, Send, Flies, Life, Evict, Joined, Line, line}
-use Rattle.lu_target_rows.specs.Lives.{is_life}
+use Rattle.lu_words.specs.Words.{Entry, Send, Flies, Life, Boot, Close, Evict, Joined, Wishes, Line, line}
+use Rattle.lu_target_rows.specs.Lives.{is_life, without_lives, lives_of as lives_in}
+use Rattle.lu_target_rows.specs.Outcomes as recovered
+use Rattle.lu_target_rows.specs.Windows.{Window, with_wish, kept_numbers, gone_from}
 use Rattle.lu_target_rows.specs.States.{Target as TargetState, lives_from}
 use Rattle.lu_covered.specs.Calls.{operation_of, first_life}
 use Rattle.lu_covered.specs.ClientStates.{life_of, is_own}
 use Rattle.lu_covered.specs.Heads.{Head}
-use Rattle.lu_covered.specs.TargetStates.{lives_of, evicted_of}
+use Rattle.lu_covered.specs.TargetCloses.{disk_of, recovering_of, outcome_of}
+use Rattle.lu_covered.specs.TargetStates.{lives_of, evicted_of, wishes_of}
 use Rattle.lu_lawful.proofs.Guards.{In, Was, EntryOk}
-use Rattle.lu_lawful.proofs.StoryGuards.{EntryOf, Newer}
+use Rattle.lu_lawful.proofs.StoryGuards.{EntryOf, Newer, SaidBy, EvictOk, LeavesOk, JoinedOk, ComesOk, CloseOk, WishesOk}
 use Rattle.lu_lawful.proofs.Grown.{IsOneOf, Grown, GrownOf}
 use Rattle.lu_lawful.proofs.Lists.{self, own_is}
 use Rattle.lu_lawful.proofs.Only.{sent_was, was_only, grown_of}
-use Rattle.lu_lawful.proofs.Groups.{turn, Acted, Flew, Evicted, HoldsAt}
+use Rattle.lu_lawful.proofs.Groups.{turn, Acted, Flew, Evicted, Had, HoldsAt}
 use Rattle.lu_lawful.proofs.FactLines.{flew_whole, acted_whole}
 use Rattle.lu_lawful.proofs.All.{holds}
 use Rattle.lu_lawful.proofs.Asked.{AskedBy, flew_asked}
@@ -41,13 +47,14 @@ use Rattle.lu_lawful.proofs.Files.{acted_told}
 use Rattle.lu_lawful.proofs.OnNames.{IsPlain, op_is}
 use Rattle.lu_covered_scenes.specs.Covered.{IsFile, IsCovered, AsksNoDisk}
 use Rattle.lu_covered_scenes.proofs.Every.{Every}
-use Rattle.lu_covered_scenes.proofs.Asking.{Suits, AllSuit, was_suits}
+use Rattle.lu_covered_scenes.proofs.Asking.{IsOf, Suits, AllSuit, was_suits}
 use Rattle.lu_covered_scenes.proofs.Clients.{IsReader}
 use Rattle.lu_covered_scenes.proofs.ClientRows.{MessageCalm}
 use Rattle.lu_covered_scenes.proofs.Lines.{MayAsk, lines_known, called_fits, AllOfLines, all_files, all_stats}
 use Rattle.lu_covered_scenes.proofs.Numbers.{IsShort, MessageFits}
 use Rattle.lu_covered_scenes.proofs.Targets.{MessageServed}
-use Rattle.lu_lawful.proofs.GuardLifeLists.{stands_life, life_left}
+use Rattle.lu_lawful.proofs.GuardLifeLists.{stands_life, life_stands, life_left}
+use Rattle.lu_lawful.proofs.CloseLists.{puts_or, left_all, gone_had}
 use Rattle.lu_lawful.proofs.LifeLists.{first_among, put_or}
 
 -- ---- between whom messages go
@@ -56,39 +63,41 @@ abbrev pub Goes : (from to : Node) → Message → Type 0
 Goes (Client c) (Target t) (message.Request r) = t ≡ 0
 Goes (Client c) (Target t) (message.Cancel who boot cookie) = t ≡ 0
 Goes (Client c) (Target t) (message.Join who boot) = Unit {0}
+Goes (Client c) (Target t) (message.Replay r) = Unit {0}
+Goes (Client c) (Target t) (message.Lock r) = Unit {0}
+Goes (Client c) (Target t) (message.Word who boot replays locks seen) = Unit {0}
+Goes (Target t) (Client c) (message.Up boot) = Unit {0}
 Goes (Target t) (Client c) (message.Reply k) = t ≡ 0
 Goes (Target t) (Client c) (message.Block who boot cookie) = t ≡ 0
 Goes (Target t) (Client c) (message.Ready who boot committed) = Unit {0}
 Goes (Target t) (Client c) (message.Evicted who boot) = Unit {0}
 Goes _ _ _ = ⊥
 
--- no target boots, so nobody tells of that
-module _ (MayAsk : Type 0) (osts : ℕ) where
-  send_goes : (past : List Line) (at : At) (node to : Node) (m : Message) → EntryOk past at node (Send to m) → Suits MayAsk osts (Send to m) → Goes node to m
-  send_goes past at (Client c) (Target t) (message.Request r) ok s = ok
-  send_goes past at (Client c) (Target t) (message.Cancel who boot cookie) ok s = ok
-  send_goes past at (Client c) (Target t) (message.Join who boot) ok s = tt
-  send_goes past at (Client c) (Target t) (message.Replay r) ok s = absurd s
-  send_goes past at (Client c) (Target t) (message.Lock r) ok s = absurd s
-  send_goes past at (Client c) (Target t) (message.Word who boot replays locks seen) ok s = absurd s
-  send_goes past at (Target t) (Client c) (message.Up boot) ok s = absurd s
-  send_goes past at (Target t) (Client c) (message.Reply k) ok s = ok.0
-  send_goes past at (Target t) (Client c) (message.Block who boot cookie) ok s = ok
-  send_goes past at (Target t) (Client c) (message.Ready who boot committed) ok s = tt
-  send_goes past at (Target t) (Client c) (message.Evicted who boot) ok s = tt
-  send_goes past at node to m ok s = absurd ok
+send_goes : (past : List Line) (at : At) (node to : Node) (m : Message) → EntryOk past at node (Send to m) → Goes node to m
+send_goes past at (Client c) (Target t) (message.Request r) ok = ok
+send_goes past at (Client c) (Target t) (message.Cancel who boot cookie) ok = ok
+send_goes past at (Client c) (Target t) (message.Join who boot) ok = tt
+send_goes past at (Client c) (Target t) (message.Replay r) ok = tt
+send_goes past at (Client c) (Target t) (message.Lock r) ok = tt
+send_goes past at (Client c) (Target t) (message.Word who boot replays locks seen) ok = tt
+send_goes past at (Target t) (Client c) (message.Up boot) ok = tt
+send_goes past at (Target t) (Client c) (message.Reply k) ok = ok.0
+send_goes past at (Target t) (Client c) (message.Block who boot cookie) ok = ok
+send_goes past at (Target t) (Client c) (message.Ready who boot committed) ok = tt
+send_goes past at (Target t) (Client c) (message.Evicted who boot) ok = tt
+send_goes past at node to m ok = absurd ok
 
-  pub was_goes : (head : Head) (past : List Line) (from to : Node) (m : Message) → Grown head past → AllSuit MayAsk osts past → Was past from to m → Goes from to m
-  was_goes head [] from to m g s w = absurd w
-  was_goes head (l ∷ past) from to m g s w = by l.entry g.0.ok s.0 w (λ v. was_goes head past from to m g.1 s.1 v)
-    where
-      by : (e : Entry) → EntryOk past l.at l.at.node e → Suits MayAsk osts e → Was (line l.at e ∷ past) from to m → (Was past from to m → Goes from to m) → Goes from to m
-      by (Send node k) ok suits w h = ⊎_elim
-          (λ (p : (l.at.node ≡ from) × (node ≡ to) × (k ≡ m)).
-          subst (λ (v : Node). Goes v to m) p.0 (subst (λ (v : Node). Goes l.at.node v m) p.1 (subst (λ (x : Message). Goes l.at.node node x) p.2 (send_goes past l.at l.at.node node k ok suits))))
-          h
-          w
-      by e ok suits w h = h w
+pub was_goes : (head : Head) (past : List Line) (from to : Node) (m : Message) → Grown head past → Was past from to m → Goes from to m
+was_goes head [] from to m g w = absurd w
+was_goes head (l ∷ past) from to m g w = by l.entry g.0.ok w (λ v. was_goes head past from to m g.1 v)
+  where
+    by : (e : Entry) → EntryOk past l.at l.at.node e → Was (line l.at e ∷ past) from to m → (Was past from to m → Goes from to m) → Goes from to m
+    by (Send node k) ok w h = ⊎_elim
+        (λ (p : (l.at.node ≡ from) × (node ≡ to) × (k ≡ m)).
+        subst (λ (v : Node). Goes v to m) p.0 (subst (λ (v : Node). Goes l.at.node v m) p.1 (subst (λ (x : Message). Goes l.at.node node x) p.2 (send_goes past l.at l.at.node node k ok))))
+        h
+        w
+    by e ok w h = h w
 
 -- a client sends to targets alone
 sent_to : (past : List Line) (at : At) (node : Node) (t : ℕ) (m : Message) → EntryOk past at node (Send (Target t) m) → (c : ℕ) × (node ≡ Client c)
@@ -118,6 +127,24 @@ came head past t from m g w =
 told : (past : List Line) (t : ℕ) (to : Node) (m : Message) → Was past (Target t) to m → Was (only t past) (Target t) to m
 told past t to m w = was_only t past (Target t) to m (self t) w
 
+-- ---- lists
+
+-- who wishes to join is it, or did so before
+wished : (w who : Who) (wishes : List Who) → In w (with_wish who wishes) → (who ≡ w) ⊎ In w wishes
+wished w who [] i = i
+wished w who (v ∷ wishes) i = first (nat_eq who.client v.client) (nat_lt who.client v.client) (wished w who wishes) i
+  where
+    later : (In w (with_wish who wishes) → (who ≡ w) ⊎ In w wishes) → (v ≡ w) ⊎ In w (with_wish who wishes) → (who ≡ w) ⊎ (v ≡ w) ⊎ In w wishes
+    later more (inl e) = inr (inl e)
+    later more (inr n) = ⊎_elim (λ (e : who ≡ w). inl e) (λ (o : In w wishes). inr (inr o)) (more n)
+
+    first : (same before : Bool) → (In w (with_wish who wishes) → (who ≡ w) ⊎ In w wishes) → In w (if same then who ∷ wishes else (if before then who ∷ v ∷ wishes else v ∷ with_wish who wishes))
+        → (who ≡ w) ⊎ (v ≡ w) ⊎ In w wishes
+    first true before more (inl e) = inl e
+    first true before more (inr n) = inr (inr n)
+    first false true more i = i
+    first false false more i = later more i
+
 -- ---- clients of the run: lives that asked, have a slot or were evicted are of one
 
 among_first : (from more : ℕ) (w : Who) → In w (lives_from from more) → w.client < from + more
@@ -138,87 +165,130 @@ module _ (head : Head) where
       by (Target u) (Life who) ok h = absurd ok
       by node e ok h = h c
 
-  -- a life of a client of the run
-  abbrev IsOf : Who → Type 0
-  IsOf who = who.client < head.clients
-
-  own_one : (past : List Line) → GrownOf head past → (who : Who) (node : Node) → IsOneOf head node → is_own who past node ≡ true → IsOf who
+  own_one : (past : List Line) → GrownOf head past → (who : Who) (node : Node) → IsOneOf head node → is_own who past node ≡ true → IsOf head.clients who
   own_one past g who (Client d) one own = subst (λ (n : ℕ). n < head.clients) (sym (ap (λ (w : Who). w.client) (own_is who past d own) ∙ life_client past g d)) one
   own_one past g who (Target u) one own = absurd (cc)
 
-  pub flew_one : (past : List Line) → GrownOf head past → (who : Who) (f : Flight) → Flew past who f → IsOf who
+  pub flew_one : (past : List Line) → GrownOf head past → (who : Who) (f : Flight) → Flew past who f → IsOf head.clients who
   flew_one [] g who f i = absurd i
   flew_one (l ∷ past) g who f i = by l.entry i (flew_one past g.3 who f)
     where
-      by : (e : Entry) → Flew (line l.at e ∷ past) who f → (Flew past who f → IsOf who) → IsOf who
-      by (Flies t x) i h = ⊎_elim (λ (p : (is_own who past l.at.node ≡ true) × (x ≡ f)). own_one past g.3 who l.at.node g.2 p.0) h i
+      by : (e : Entry) → Flew (line l.at e ∷ past) who f → (Flew past who f → IsOf head.clients who) → IsOf head.clients who
+      by (Flies t x) i h = ⊎_elim (λ (p : (is_own who past l.at.node ≡ true) × (x ≡ f)). own_one past g.3 who l.at.node g.2.one p.0) h i
       by e i h = h i
 
-  joins_one : (past : List Line) → GrownOf head past → (from to : Node) (who : Who) (boot : ℕ) → Was past from to (message.Join who boot) → IsOf who
+  joins_one : (past : List Line) → GrownOf head past → (from to : Node) (who : Who) (boot : ℕ) → Was past from to (message.Join who boot) → IsOf head.clients who
   joins_one [] g from to who boot w = absurd w
   joins_one (l ∷ past) g from to who boot w = by l.entry g.0 w (joins_one past g.3 from to who boot)
     where
-      sends : (node to : Node) → EntryOf head past l.at node (Send to (message.Join who boot)) → IsOneOf head node → IsOf who
+      sends : (node to : Node) → EntryOf head past l.at node (Send to (message.Join who boot)) → IsOneOf head node → IsOf head.clients who
       sends (Client c) (Target t) ok one = subst (λ (n : ℕ). n < head.clients) (sym (ap (λ (w : Who). w.client) ok.of_life ∙ life_client past g.3 c)) one
       sends (Client c) (Client d) ok one = absurd ok
       sends (Target t) (Client c) ok one = absurd ok
       sends (Target t) (Target u) ok one = absurd ok
 
-      by : (e : Entry) → EntryOf head past l.at l.at.node e → Was (line l.at e ∷ past) from to (message.Join who boot) → (Was past from to (message.Join who boot) → IsOf who) → IsOf who
+      by : (e : Entry) → EntryOf head past l.at l.at.node e → Was (line l.at e ∷ past) from to (message.Join who boot) → (Was past from to (message.Join who boot) → IsOf head.clients who) → IsOf head.clients who
       by (Send node k) ok w h =
           ⊎_elim
-          (λ (p : (l.at.node ≡ from) × (node ≡ to) × (k ≡ message.Join who boot)). sends l.at.node node (subst (λ (x : Message). EntryOf head past l.at l.at.node (Send node x)) p.2 ok) g.2)
+          (λ (p : (l.at.node ≡ from) × (node ≡ to) × (k ≡ message.Join who boot)). sends l.at.node node (subst (λ (x : Message). EntryOf head past l.at l.at.node (Send node x)) p.2 ok) g.2.one)
           h w
       by e ok w h = h w
 
-  -- so are those that have a slot, or were evicted
+  -- so are those that have a slot, or were evicted, or wish to join
   abbrev pub AreOf : List Line → Type 0
-  AreOf past = record { lives : (w : Who) → is_life w (lives_of head.clients past) ≡ true → IsOf w; evicted : (w : Who) → Evicted past w → IsOf w }
+  AreOf past =
+      record {
+        lives : (w : Who) → is_life w (lives_of head.clients past) ≡ true → IsOf head.clients w;
+        evicted : (w : Who) → Evicted past w → IsOf head.clients w;
+        wishes : (w : Who) → In w (wishes_of past) → IsOf head.clients w;
+      }
+
+  -- a close gives slots to those that wished to join, and evicts lives that had one
+  close_lives : (past : List Line) (at : At) (o : Outcome) → CloseOk head past at o → AreOf past → (w : Who) → is_life w o.disk.lives ≡ true → IsOf head.clients w
+  close_lives past at o ok h w =
+      subst (λ (o : Outcome). is_life w o.disk.lives ≡ true → IsOf head.clients w) (sym ok.is)
+      (λ i.
+      let gone : List Who = lives_in (outcome_of head.osts head.clients at past).gone in
+      let disk : List Who = (disk_of head.osts head.clients past).lives in
+      ⊎_elim (λ (n : In w (wishes_of past)). h.wishes w n)
+      (λ (e : is_life w (without_lives gone disk) ≡ true). h.lives w (subst (λ (ws : List Who). is_life w ws ≡ true) ok.of_lives (left_all w gone disk e).0))
+      (puts_or w (wishes_of past) (without_lives gone disk) i))
+
+  close_evicted : (past : List Line) (at : At) (o : Outcome) → CloseOk head past at o → AreOf past → (w : Who) → is_life w o.disk.removed ≡ true → IsOf head.clients w
+  close_evicted past at o ok h w =
+      subst (λ (o : Outcome). is_life w o.disk.removed ≡ true → IsOf head.clients w) (sym ok.is)
+      (λ i.
+      let v : Window = recovered.window_of (recovering_of head.osts head.clients past) in
+      let gone : List Who = lives_in (gone_from v (kept_numbers v) (lives_of head.clients past)) in
+      let disk : List Who = (disk_of head.osts head.clients past).removed in
+      ⊎_elim (λ (n : In w gone). h.lives w (gone_had v (kept_numbers v) (lives_of head.clients past) w (life_stands w gone n)))
+      (λ (e : is_life w disk ≡ true). h.evicted w (subst (λ (ws : List Who). is_life w ws ≡ true) ok.of_removed e)) (puts_or w gone disk i))
+
+  -- who wishes to join has a life with a slot
+  wish_of_one : (past : List Line) (at : At) (t : ℕ) (who : Who) → WishesOk head past at t who → AreOf past → IsOf head.clients who
+  wish_of_one past at t who ok h = subst (λ (n : ℕ). n < head.clients) ok.client (h.lives ok.old ok.keeps.has)
 
   pub are_of : (past : List Line) → GrownOf head past → AreOf past
-  are_of [] g = record { lives = λ w i. let low = among_first 0 head.clients w (stands_life w (lives_from 0 head.clients) i) in omega (arith, low); evicted = λ w i. absurd (cc) }
+  are_of [] g =
+      record { lives = λ w i. let low = among_first 0 head.clients w (stands_life w (lives_from 0 head.clients) i) in omega (arith, low); evicted = λ w i. absurd (cc); wishes = λ w i. absurd i }
   are_of (l ∷ past) g = by l.at.node l.entry g.0 (are_of past g.3)
     where
+      leaves : (who : Who) (cause : Cause) → EvictOk head past l.at who cause ⊎ LeavesOk head past l.at who cause → AreOf past → IsOf head.clients who
+      leaves who cause (inl ok) h = h.lives who ok.has
+      leaves who cause (inr ok) h = h.evicted who ok.evicted
+
+      joins : (t : ℕ) (who : Who) → JoinedOk head past l.at t who ⊎ ComesOk head past l.at t who → AreOf past → IsOf head.clients who
+      joins t who (inl ok) h = joins_one past g.3 (Client ok.from) (Target t) who ok.boot ok.was
+      joins t who (inr ok) h = h.lives who ok.has
+
       by : (node : Node) (e : Entry) → EntryOf head past l.at node e → AreOf past → AreOf (line (turn l.at.stamp node) e ∷ past)
       by (Target t) (Evict who cause) ok h =
           record {
             lives = λ w i. h.lives w (life_left w who (lives_of head.clients past) i).0;
-            evicted = λ w i. ⊎_elim (λ (e : w ≡ who). subst IsOf (sym e) (h.lives who ok.has)) (h.evicted w) (put_or w who (evicted_of past) i);
+            evicted = λ w i. ⊎_elim (λ (e : w ≡ who). subst (IsOf head.clients) (sym e) (leaves who cause ok h)) (h.evicted w) (put_or w who (evicted_of past) i);
+            wishes = h.wishes;
           }
       by (Target t) (Joined who) ok h =
           record {
-            lives = λ w i. ⊎_elim (λ (e : w ≡ who). subst IsOf (sym e) (joins_one past g.3 (Client ok.from) (Target t) who ok.boot ok.was)) (h.lives w) (put_or w who (lives_of head.clients past) i);
+            lives = λ w i. ⊎_elim (λ (e : w ≡ who). subst (IsOf head.clients) (sym e) (joins t who ok h)) (h.lives w) (put_or w who (lives_of head.clients past) i);
             evicted = h.evicted;
+            wishes = h.wishes;
           }
-      by (Client c) e ok h = record { lives = h.lives; evicted = h.evicted }
-      by (Target t) e ok h = record { lives = h.lives; evicted = h.evicted }
+      by (Target t) (Wishes who) ok h =
+          record {
+            lives = h.lives;
+            evicted = h.evicted;
+            wishes = λ w i. ⊎_elim (λ (e : who ≡ w). subst (IsOf head.clients) e (wish_of_one past l.at t who ok h)) (h.wishes w) (wished w who (wishes_of past) i);
+          }
+      by (Target t) (Close o) ok h = record { lives = close_lives past l.at o ok h; evicted = close_evicted past l.at o ok h; wishes = λ w i. absurd i }
+      by (Target t) (Boot boot disk) ok h = record { lives = h.lives; evicted = h.evicted; wishes = λ w i. absurd i }
+      by (Client c) e ok h = record { lives = h.lives; evicted = h.evicted; wishes = h.wishes }
+      by (Target t) e ok h = record { lives = h.lives; evicted = h.evicted; wishes = h.wishes }
 
 -- ---- where no turn may ask a disk each life is the first
 
-module _ (MayAsk : Type 0) (osts : ℕ) (none : MayAsk → ⊥) where
-  life_first : (past : List Line) → AllSuit MayAsk osts past → (c : ℕ) → life_of c past ≡ first_life c
+module _ (MayAsk : Type 0) (osts clients : ℕ) (none : MayAsk → ⊥) where
+  life_first : (past : List Line) → AllSuit MayAsk osts clients past → (c : ℕ) → life_of c past ≡ first_life c
   life_first [] s c = refl
   life_first (l ∷ past) s c = by l.entry s.0 (life_first past s.1 c)
     where
-      by : (e : Entry) → Suits MayAsk osts e → life_of c past ≡ first_life c → life_of c (line l.at e ∷ past) ≡ first_life c
+      by : (e : Entry) → Suits MayAsk osts clients e → life_of c past ≡ first_life c → life_of c (line l.at e ∷ past) ≡ first_life c
       by (Life who) suits h = absurd (none suits)
       by e suits h = h
 
-  own_first : (past : List Line) → AllSuit MayAsk osts past → (who : Who) (node : Node) → is_own who past node ≡ true → who ≡ first_life who.client
+  own_first : (past : List Line) → AllSuit MayAsk osts clients past → (who : Who) (node : Node) → is_own who past node ≡ true → who ≡ first_life who.client
   own_first past s who (Client d) own =
       let is : who ≡ first_life d = own_is who past d own ∙ life_first past s d in
       is ∙ ap first_life (sym (ap (λ (w : Who). w.client) is))
   own_first past s who (Target u) own = absurd (cc)
 
-  pub flew_first : (past : List Line) → AllSuit MayAsk osts past → (who : Who) (f : Flight) → Flew past who f → who ≡ first_life who.client
+  pub flew_first : (past : List Line) → AllSuit MayAsk osts clients past → (who : Who) (f : Flight) → Flew past who f → who ≡ first_life who.client
   flew_first [] s who f i = absurd i
   flew_first (l ∷ past) s who f i = by l.entry i (flew_first past s.1 who f)
     where
       by : (e : Entry) → Flew (line l.at e ∷ past) who f → (Flew past who f → who ≡ first_life who.client) → who ≡ first_life who.client
       by (Flies t x) i h = ⊎_elim (λ (p : (is_own who past l.at.node ≡ true) × (x ≡ f)). own_first past s.1 who l.at.node p.0) h i
       by e i h = h i
-
--- ---- lists
 
 every_in : {A : Type 0} (P : A → Type 0) (xs : List A) → ((x : A) → In x xs → P x) → Every P xs
 every_in P [] all = tt
@@ -243,7 +313,7 @@ short file (call.Open h path) o e fits = subst IsShort (op_is (op.Open path) o e
 short (Some f) (call.Close h) o e fits = subst IsShort (op_is (op.Close f.number f.fid) o e) tt
 short file k o e fits = absurd (cc)
 
-module _ (scene : Scene) (covered : IsCovered scene) (head : Head) (osts : ℕ) (past : List Line) (g : Grown head past) (suits : AllSuit (MayAsk scene) osts past) (begun : AllOfLines scene past) where
+module _ (scene : Scene) (covered : IsCovered scene) (head : Head) (osts : ℕ) (past : List Line) (g : Grown head past) (suits : AllSuit (MayAsk scene) osts head.clients past) (begun : AllOfLines scene past) where
   -- what was asked has a short path
   asked_short : (o : Op) → AskedBy past o → IsShort o
   asked_short o a = short a.2 a.0 o a.3 (called_fits scene scene.lines (lines_known scene covered) a.0 (begun a.0 a.1))
@@ -253,7 +323,7 @@ module _ (scene : Scene) (covered : IsCovered scene) (head : Head) (osts : ℕ) 
   -- where no turn may ask a disk it is of a life that has a slot
   has_slot : (v : TargetState) → (AsksNoDisk scene → v.lives ≡ lives_from 0 head.clients) → (who : Who) (f : Flight) → Flew (only 0 past) who f → is_life who v.lives ≡ false → MayAsk scene
   has_slot v lives who f flew out quiet =
-      let first = flew_first (MayAsk scene) osts (λ may. may quiet) past suits who f (flew_whole 0 past who f flew) in
+      let first = flew_first (MayAsk scene) osts head.clients (λ may. may quiet) past suits who f (flew_whole 0 past who f flew) in
       let one = flew_one head (only 0 past) (grown_of head 0 past g) who f flew in
       let among : is_life who (lives_from 0 head.clients) ≡ true = subst (λ (w : Who). is_life w (lives_from 0 head.clients) ≡ true) (sym first) (first_among 0 head.clients who.client (omega arith) (omega (arith, one))) in
       let has : is_life who v.lives ≡ true = subst (λ (ws : List Who). is_life who ws ≡ true) (sym (lives quiet)) among in
@@ -262,60 +332,105 @@ module _ (scene : Scene) (covered : IsCovered scene) (head : Head) (osts : ℕ) 
   at_target : (t : ℕ) → HoldsAt head (only t past)
   at_target t = (holds head past g).at t
 
+  had_here : (t : ℕ) (who : Who) → Had head.clients (only t past) who → IsOf head.clients who
+  had_here t who (inl has) = (are_of head (only t past) (grown_of head t past g)).lives who has
+  had_here t who (inr out) = (are_of head (only t past) (grown_of head t past g)).evicted who out
+
   -- what is known of it
   pub record Arrives (t : ℕ) (v : TargetState) (m : Message) : Type 0 where
-    pub served : MessageServed (MayAsk scene) v m
+    pub served : MessageServed (MayAsk scene) head.clients v m
     pub fits : MessageFits m
     pub one : t ≤ osts
 
-  pub target_served : (t : ℕ) (v : TargetState) → v.setting.id ≡ t → (AsksNoDisk scene → v.lives ≡ lives_from 0 head.clients) → (n : ℕ) (from : Node) (m : Message) → Sent past n from (Target t) m → Arrives t v m
-  target_served t v id lives n from m sent = by from m (was_goes (MayAsk scene) osts head past from (Target t) m g suits w) w
+  pub target_served : (t : ℕ) (v : TargetState) → v.setting.id ≡ t → (AsksNoDisk scene → v.lives ≡ lives_from 0 head.clients) → (AsksNoDisk scene → v.boot ≡ 1)
+      → (n : ℕ) (from : Node) (m : Message) → Sent past n from (Target t) m → Arrives t v m
+  target_served t v id lives boots n from m sent = by from m (was_goes head past from (Target t) m g w) w
     where
       w : Was past from (Target t) m
       w = sent_was past n from (Target t) m sent
 
+      -- where no turn may ask a disk it isn't of an older boot
+      present : (boot : ℕ) → 1 ≤ boot → nat_lt boot v.boot ≡ true → MayAsk scene
+      present boot low older quiet = let first = boots quiet in absurd (grind (arith, nat_tests))
+
+      -- one life told it
+      spoken : (from : Node) (m : Message) (who : Who) → SaidBy who m → Was (only t past) from (Target t) m → IsOf head.clients who
+      spoken from m who by w = had_here t who ((at_target t).lives.spoke from (Target t) who m w by)
+
+      tells : (c : ℕ) (m : Message) → (MayAsk scene × (t ≤ osts) → MessageServed (MayAsk scene) head.clients v m) → MessageFits m → MayAsk scene × (t ≤ osts) → Arrives t v m
+      tells c m served fits suits = record { served = served suits; fits = fits; one = suits.1 }
+
       by : (from : Node) (m : Message) → Goes from (Target t) m → Was past from (Target t) m → Arrives t v m
       by (Client c) (message.Request r) names w =
-          let was = subst (λ (u : ℕ). Was (only u past) (Client c) (Target u) (message.Request r)) names (came head past t (Client c) (message.Request r) g w) in
+          let mine = came head past t (Client c) (message.Request r) g w in
+          let was = subst (λ (u : ℕ). Was (only u past) (Client c) (Target u) (message.Request r)) names mine in
           let meant = (at_target 0).done.sent (Client c) (Target 0) (message.Request r) was in
           let same : meant.0.op ≡ r.op = ap (λ (x : RequestOf). x.op) (sym meant.2) in
           record {
-            served = (id ∙ names, ((at_target 0).boots (Client c) (Target 0) (message.Request r) was).0, has_slot v lives r.who meant.0 meant.1);
+            served = (
+              id ∙ names,
+              record {
+                of = spoken (Client c) (message.Request r) r.who refl mine;
+                older = present r.boot ((at_target 0).boots (Client c) (Target 0) (message.Request r) was).0;
+                without = has_slot v lives r.who meant.0 meant.1;
+              },
+            );
             fits = asked_short r.op (subst (AskedBy past) same (flew_asked head past r.who meant.0 g (flew_whole 0 past r.who meant.0 meant.1)));
             one = omega (arith, names);
           }
       by (Client c) (message.Cancel who boot cookie) names w =
-          let was = subst (λ (u : ℕ). Was (only u past) (Client c) (Target u) (message.Cancel who boot cookie)) names (came head past t (Client c) (message.Cancel who boot cookie) g w) in
+          let mine = came head past t (Client c) (message.Cancel who boot cookie) g w in
+          let was = subst (λ (u : ℕ). Was (only u past) (Client c) (Target u) (message.Cancel who boot cookie)) names mine in
           let back = (at_target 0).locks.cancels (Client c) (Target 0) who boot cookie was in
           let flew = (at_target 0).done.flew back.deed back.gave.0 in
           record {
-            served = (id ∙ names, ((at_target 0).boots (Client c) (Target 0) (message.Cancel who boot cookie) was).0, has_slot v lives who flew.0 (subst (λ (x : Who). Flew (only 0 past) x flew.0) back.of flew.1));
+            served = (
+              id ∙ names,
+              record {
+                of = spoken (Client c) (message.Cancel who boot cookie) who refl mine;
+                older = present boot ((at_target 0).boots (Client c) (Target 0) (message.Cancel who boot cookie) was).0;
+                without = has_slot v lives who flew.0 (subst (λ (x : Who). Flew (only 0 past) x flew.0) back.of flew.1);
+              },
+            );
             fits = tt;
             one = omega (arith, names);
           }
       by (Client c) (message.Join who boot) goes w =
-          let suits = was_suits (MayAsk scene) osts past (Client c) (Target t) (message.Join who boot) suits w in
-          record { served = (((at_target t).boots (Client c) (Target t) (message.Join who boot) (came head past t (Client c) (message.Join who boot) g w)).0, suits.0); fits = tt; one = suits.1 }
+          let mine = came head past t (Client c) (message.Join who boot) g w in
+          tells c (message.Join who boot) (λ s. (s.0, (at_target t).lives.joins (Client c) (Target t) who boot mine)) tt (was_suits (MayAsk scene) osts head.clients past (Client c) (Target t) (message.Join who boot) suits w).0
+      by (Client c) (message.Replay r) goes w =
+          let mine = came head past t (Client c) (message.Replay r) g w in
+          tells c (message.Replay r) (λ s. (s.0, spoken (Client c) (message.Replay r) r.who refl mine)) tt (was_suits (MayAsk scene) osts head.clients past (Client c) (Target t) (message.Replay r) suits w).0
+      by (Client c) (message.Lock r) goes w =
+          let mine = came head past t (Client c) (message.Lock r) g w in
+          tells c (message.Lock r) (λ s. (s.0, spoken (Client c) (message.Lock r) r.who refl mine)) tt (was_suits (MayAsk scene) osts head.clients past (Client c) (Target t) (message.Lock r) suits w).0
+      by (Client c) (message.Word who boot replays locks seen) goes w =
+          let mine = came head past t (Client c) (message.Word who boot replays locks seen) g w in
+          tells c (message.Word who boot replays locks seen) (λ s. (s.0, spoken (Client c) (message.Word who boot replays locks seen) who refl mine)) tt
+          (was_suits (MayAsk scene) osts head.clients past (Client c) (Target t) (message.Word who boot replays locks seen) suits w).0
       by from m goes w = absurd goes
 
   -- ---- to a client
 
-  pub client_calm : (n c : ℕ) (from : Node) (m : Message) → Sent past n from (Client c) m → MessageCalm (MayAsk scene) m
-  client_calm n c from m sent = by from m (was_goes (MayAsk scene) osts head past from (Client c) m g suits w) w
+  pub client_calm : (n c : ℕ) (from : Node) (m : Message) → Sent past n from (Client c) m → MessageCalm (MayAsk scene) osts from m
+  client_calm n c from m sent = by from m (was_goes head past from (Client c) m g w) w
     where
       w : Was past from (Client c) m
       w = sent_was past n from (Client c) m sent
 
-      by : (from : Node) (m : Message) → Goes from (Client c) m → Was past from (Client c) m → MessageCalm (MayAsk scene) m
+      by : (from : Node) (m : Message) → Goes from (Client c) m → Was past from (Client c) m → MessageCalm (MayAsk scene) osts from m
       by (Target t) (message.Reply r) names w =
           let meant = (at_target t).done.sent (Target t) (Client c) (message.Reply r) (told past t (Client c) (message.Reply r) w) in
-          let d : Deed = meant.0 in (
-            subst (Every IsReader) (sym (ap (λ (x : ReplyTo). x.locks) meant.2)) (every_in IsReader d.reply.locks (λ l i. (at_target t).locks.readers d l (meant.1, i))),
-            subst IsPlain (sym (ap (λ (x : ReplyTo). x.answer) meant.2)) (acted_told head past (IsFile scene.lines) g (all_files scene past begun) (all_stats scene covered past begun) d (acted_whole t past d meant.1)),
+          let d : Deed = meant.deed in (
+            subst (Every IsReader) (sym (ap (λ (x : ReplyTo). x.locks) meant.is)) (every_in IsReader d.reply.locks (λ l i. (at_target t).locks.readers d l (meant.acted, i))),
+            subst IsPlain (sym (ap (λ (x : ReplyTo). x.answer) meant.is)) (acted_told head past (IsFile scene.lines) g (all_files scene past begun) (all_stats scene covered past begun) d (acted_whole t past d meant.acted)),
           )
       by (Target t) (message.Block who boot cookie) goes w = tt
-      by (Target t) (message.Ready who boot committed) goes w = was_suits (MayAsk scene) osts past (Target t) (Client c) (message.Ready who boot committed) suits w
-      by (Target t) (message.Evicted who boot) goes w = was_suits (MayAsk scene) osts past (Target t) (Client c) (message.Evicted who boot) suits w
+      by (Target t) (message.Up boot) goes w =
+          let suits = was_suits (MayAsk scene) osts head.clients past (Target t) (Client c) (message.Up boot) suits w in
+          (suits.0.0, suits.1)
+      by (Target t) (message.Ready who boot committed) goes w = (was_suits (MayAsk scene) osts head.clients past (Target t) (Client c) (message.Ready who boot committed) suits w).0
+      by (Target t) (message.Evicted who boot) goes w = (was_suits (MayAsk scene) osts head.clients past (Target t) (Client c) (message.Evicted who boot) suits w).0
       by from m goes w = absurd goes
 
 -- it is one of the run
@@ -333,31 +448,32 @@ module _ (head : Head) (past : List Line) (g : Grown head past) (t : ℕ) where
   had_one who (inl has) = (are_of head (only t past) story).lives who has
   had_one who (inr out) = (are_of head (only t past) story).evicted who out
 
-  sent_one : (c : ℕ) (m : Message) → Goes (Target t) (Client c) m → Was past (Target t) (Client c) m → c < head.clients
-  sent_one c (message.Reply k) goes w =
+  sent_one : (MayAsk : Type 0) (osts c : ℕ) (m : Message) → Goes (Target t) (Client c) m → Suits MayAsk osts head.clients (Send (Client c) m) → Was past (Target t) (Client c) m → c < head.clients
+  sent_one MayAsk osts c (message.Up boot) goes suits w = suits.1
+  sent_one MayAsk osts c (message.Reply k) goes suits w =
       let meant = at_each.done.sent (Target t) (Client c) (message.Reply k) (told past t (Client c) (message.Reply k) w) in
-      subst (λ (n : ℕ). n < head.clients) (sym (meant.3 ∙ ap (λ (r : ReplyTo). r.who.client) meant.2)) (done_one meant.0 meant.1)
-  sent_one c (message.Block who boot cookie) goes w =
+      subst (λ (n : ℕ). n < head.clients) (sym (meant.to ∙ ap (λ (r : ReplyTo). r.who.client) meant.is)) (done_one meant.deed meant.acted)
+  sent_one MayAsk osts c (message.Block who boot cookie) goes suits w =
       let called = at_each.locks.blocks (Target t) c who boot cookie (told past t (Client c) (message.Block who boot cookie) w) in
       subst (λ (n : ℕ). n < head.clients) (ap (λ (w : Who). w.client) called.of ∙ called.to) (done_one called.deed called.gave.0)
-  sent_one c (message.Ready who boot committed) goes w =
+  sent_one MayAsk osts c (message.Ready who boot committed) goes suits w =
       let was = told past t (Client c) (message.Ready who boot committed) w in
       let meant = at_each.done.sent (Target t) (Client c) (message.Ready who boot committed) was in
       subst (λ (n : ℕ). n < head.clients) (sym meant.1) (had_one who (at_each.lives.ready (Target t) (Client c) who boot committed was))
-  sent_one c (message.Evicted who boot) goes w =
+  sent_one MayAsk osts c (message.Evicted who boot) goes suits w =
       let was = told past t (Client c) (message.Evicted who boot) w in
       let meant = at_each.done.sent (Target t) (Client c) (message.Evicted who boot) was in
       subst (λ (n : ℕ). n < head.clients) (sym meant)
       (⊎_elim (λ (out : Evicted (only t past) who). had_one who (inr out)) (λ (n : Newer head.clients (only t past) who). subst (λ (x : ℕ). x < head.clients) n.client (had_one n.life n.had))
       (at_each.lives.over (Target t) (Client c) who boot was))
-  sent_one c m goes w = absurd goes
+  sent_one MayAsk osts c m goes suits w = absurd goes
 
-pub to_client : (MayAsk : Type 0) (osts : ℕ) (head : Head) (past : List Line) → Grown head past → AllSuit MayAsk osts past → (n c : ℕ) (from : Node) (m : Message) → Sent past n from (Client c) m → c < head.clients
-to_client MayAsk osts head past g suits n c from m sent = by from (was_goes MayAsk osts head past from (Client c) m g suits w) w
+pub to_client : (MayAsk : Type 0) (osts : ℕ) (head : Head) (past : List Line) → Grown head past → AllSuit MayAsk osts head.clients past → (n c : ℕ) (from : Node) (m : Message) → Sent past n from (Client c) m → c < head.clients
+to_client MayAsk osts head past g suits n c from m sent = by from (was_goes head past from (Client c) m g w) w
   where
     w : Was past from (Client c) m
     w = sent_was past n from (Client c) m sent
 
     by : (from : Node) → Goes from (Client c) m → Was past from (Client c) m → c < head.clients
-    by (Target t) goes w = sent_one head past g t c m goes w
+    by (Target t) goes w = sent_one head past g t MayAsk osts c m goes (was_suits MayAsk osts head.clients past (Target t) (Client c) m suits w).0 w
     by (Client d) goes w = absurd goes

@@ -1,47 +1,66 @@
--- Lines that stand only where a turn may ask a disk: those of commits, of lives that leave or come, and of who is told so. And a join goes to a
--- target of the run. No target boots, so nobody is told that one is up again, and nothing is told to one that recovers.
-use Rattle.std.proofs.Common.{◌≡◌, ℕ, ◌≤◌, List, [], ◌∷◌, ⊎_elim, subst}
+-- Lines that stand only where a turn may ask a disk: those of commits, of lives that leave or come, of boots and of what follows one, and of
+-- who is told so. What is told to a target of a life that joins or comes back goes to a target of the run; and the lives that come there, and
+-- those that are told of a boot, are of clients of the run.
+use Rattle.std.proofs.Common.{◌≡◌, ℕ, ◌<◌, ◌≤◌, List, [], ◌∷◌, ⊎_elim, subst}
 use Rattle.lu_base.specs.declared.ids.At.{At}
 use Rattle.lu_base.specs.declared.ids.Node.{Node}
 use Rattle.lu_base.specs.declared.ids.Node.TheVariants.{Client, Target}
+use Rattle.lu_base.specs.declared.ids.Who.{Who}
 use Rattle.lu_msg.specs.declared.messages.Message.{Message}
 use Rattle.lu_msg.specs.declared.messages.Message.TheVariants as message
-use Rattle.lu_words.specs.Words.{Entry, Send, Life, Commit, Boot, Evict, Joined, Line, line, with_turn}
+use Rattle.lu_words.specs.Words.{Entry, Send, Life, Commit, Boot, Close, Evict, Joined, Wishes, Line, line, with_turn}
 use Rattle.lu_lawful.proofs.Guards.{Was}
 use Rattle.lu_covered_scenes.proofs.Every.{Every}
 
+-- a life of one of so many clients
+abbrev pub IsOf : ℕ → Who → Type 0
+IsOf clients who = who.client < clients
+
+abbrev pub AllOf : ℕ → List Who → Type 0
+AllOf clients lives = Every (IsOf clients) lives
+
 -- MayAsk: a turn may ask a disk
-abbrev pub Suits : Type 0 → ℕ → Entry → Type 0
-Suits MayAsk osts (Send (Target t) (message.Join who boot)) = MayAsk × (t ≤ osts)
-Suits MayAsk osts (Send (Target t) (message.Replay r)) = ⊥
-Suits MayAsk osts (Send (Target t) (message.Lock r)) = ⊥
-Suits MayAsk osts (Send (Target t) (message.Word who boot replays locks seen)) = ⊥
-Suits MayAsk osts (Send (Client c) (message.Up boot)) = ⊥
-Suits MayAsk osts (Send to (message.Ready who boot committed)) = MayAsk
-Suits MayAsk osts (Send to (message.Evicted who boot)) = MayAsk
-Suits MayAsk osts (Life who) = MayAsk
-Suits MayAsk osts (Commit to batch) = MayAsk
-Suits MayAsk osts (Boot boot disk) = ⊥
-Suits MayAsk osts (Evict who cause) = MayAsk
-Suits MayAsk osts (Joined who) = MayAsk
-Suits MayAsk osts _ = Unit {0}
+abbrev pub Suits : Type 0 → (osts clients : ℕ) → Entry → Type 0
+Suits MayAsk osts clients (Send (Target t) (message.Join who boot)) = MayAsk × (t ≤ osts)
+Suits MayAsk osts clients (Send (Target t) (message.Replay r)) = MayAsk × (t ≤ osts)
+Suits MayAsk osts clients (Send (Target t) (message.Lock r)) = MayAsk × (t ≤ osts)
+Suits MayAsk osts clients (Send (Target t) (message.Word who boot replays locks seen)) = MayAsk × (t ≤ osts)
+Suits MayAsk osts clients (Send (Client c) (message.Up boot)) = MayAsk × (c < clients)
+Suits MayAsk osts clients (Send to (message.Ready who boot committed)) = MayAsk
+Suits MayAsk osts clients (Send to (message.Evicted who boot)) = MayAsk
+Suits MayAsk osts clients (Life who) = MayAsk
+Suits MayAsk osts clients (Commit to batch) = MayAsk × AllOf clients batch.added
+Suits MayAsk osts clients (Boot boot disk) = MayAsk × AllOf clients disk.lives
+Suits MayAsk osts clients (Close o) = MayAsk × AllOf clients o.disk.lives
+Suits MayAsk osts clients (Wishes who) = IsOf clients who
+Suits MayAsk osts clients (Evict who cause) = MayAsk
+Suits MayAsk osts clients (Joined who) = MayAsk
+Suits MayAsk osts clients _ = Unit {0}
 
-abbrev pub AllSuit : Type 0 → ℕ → List Line → Type 0
-AllSuit MayAsk osts [] = Unit {0}
-AllSuit MayAsk osts (l ∷ past) = Suits MayAsk osts l.entry × AllSuit MayAsk osts past
+-- a target of the run
+abbrev pub IsNode : ℕ → Node → Type 0
+IsNode osts (Client c) = Unit {0}
+IsNode osts (Target t) = t ≤ osts
 
-module _ (MayAsk : Type 0) (osts : ℕ) where
-  pub turn_suits : (past : List Line) (at : At) (es : List Entry) → Every (Suits MayAsk osts) es → AllSuit MayAsk osts past → AllSuit MayAsk osts (with_turn at es past)
-  turn_suits past at [] s before = before
-  turn_suits past at (e ∷ es) s before = turn_suits (line at e ∷ past) at es s.1 (s.0, before)
+abbrev pub AllSuit : Type 0 → (osts clients : ℕ) → List Line → Type 0
+AllSuit MayAsk osts clients [] = Unit {0}
+AllSuit MayAsk osts clients (l ∷ past) = Suits MayAsk osts clients l.entry × AllSuit MayAsk osts clients past × IsNode osts l.at.node
 
-  pub was_suits : (past : List Line) (from to : Node) (m : Message) → AllSuit MayAsk osts past → Was past from to m → Suits MayAsk osts (Send to m)
+module _ (MayAsk : Type 0) (osts clients : ℕ) where
+  pub turn_suits : (past : List Line) (at : At) (es : List Entry) → IsNode osts at.node → Every (Suits MayAsk osts clients) es → AllSuit MayAsk osts clients past → AllSuit MayAsk osts clients (with_turn at es past)
+  turn_suits past at [] one s before = before
+  turn_suits past at (e ∷ es) one s before = turn_suits (line at e ∷ past) at es one s.1 (s.0, before, one)
+
+  pub was_suits : (past : List Line) (from to : Node) (m : Message) → AllSuit MayAsk osts clients past → Was past from to m → Suits MayAsk osts clients (Send to m) × IsNode osts from
   was_suits [] from to m s w = absurd w
   was_suits (l ∷ past) from to m s w = by l.entry s.0 w (was_suits past from to m s.1)
     where
-      by : (e : Entry) → Suits MayAsk osts e → Was (line l.at e ∷ past) from to m → (Was past from to m → Suits MayAsk osts (Send to m)) → Suits MayAsk osts (Send to m)
+      by : (e : Entry) → Suits MayAsk osts clients e → Was (line l.at e ∷ past) from to m → (Was past from to m → Suits MayAsk osts clients (Send to m) × IsNode osts from) → Suits MayAsk osts clients (Send to m) × IsNode osts from
       by (Send node k) suits w more =
           ⊎_elim
-          (λ (p : (l.at.node ≡ from) × (node ≡ to) × (k ≡ m)). subst (λ (v : Node). Suits MayAsk osts (Send v m)) p.1 (subst (λ (v : Message). Suits MayAsk osts (Send node v)) p.2 suits))
+          (λ (p : (l.at.node ≡ from) × (node ≡ to) × (k ≡ m)). (
+            subst (λ (v : Node). Suits MayAsk osts clients (Send v m)) p.1 (subst (λ (v : Message). Suits MayAsk osts clients (Send node v)) p.2 suits),
+            subst (IsNode osts) p.0 s.2,
+          ))
           more w
       by e suits w more = more w

@@ -29,18 +29,18 @@ use Rattle.lu_machine.specs.Fits.{answer_fits}
 use Rattle.lu_part.specs.declared.parts.Part.{Part}
 use Rattle.lu_part.specs.declared.parts.Part.TheVariants as part
 use Rattle.lu_words.specs.Carried.{HandleFile, Queued, Flight, Asking, Unasked, Asked, Answered, Stage, Plain, Bad, Running}
-use Rattle.lu_words.specs.Words.{Entry, Send, Take, Tick, Heard, Drop, Life, same_life}
+use Rattle.lu_words.specs.Words.{Entry, Send, Take, Tick, Heard, Drop, Life, Knows, same_life}
 use Rattle.lu_client_rows.specs.Advances.{tells, unpins}
 use Rattle.lu_client_rows.specs.Caches.{brought, granted_lock, patch_at}
 use Rattle.lu_client_rows.specs.Calls.{call_on, file_of}
 use Rattle.lu_client_rows.specs.Facts.{Fact}
-use Rattle.lu_client_rows.specs.Imports.{Standing, Joining, Recovering, Serving, Import, import_of, is_serving}
+use Rattle.lu_client_rows.specs.Imports.{Standing, Joining, Recovering, Serving, Replay, Import, import_of, is_serving}
 use Rattle.lu_client_rows.specs.Known.{Notes, Known, KnownFile, Found, same_part, is_usable, lesser, of_least_cookie, fact_on, found_at_path, lookup_known, list_known, layout_known, directory_known, file_with, file_facts, file_at, names_of}
 use Rattle.lu_client_rows.specs.Locks.{marks_of, trims, must_write, gives_up, writes_under, visits_with, visits, visits_all, locks_go, dirty_total, is_called}
-use Rattle.lu_client_rows.specs.Messages.{holds, learns, heeds, hears_flight, hears_fitting, find_flight, hears, replied, waits_for, is_waiter, waiter, cancels_unknown, blocked_waiting, blocked_held, blocked, is_present, size_with, ready_heard, evicted_heard, comes_by}
+use Rattle.lu_client_rows.specs.Messages.{holds, learns, heeds, hears_flight, hears_fitting, find_flight, hears, replied, waits_for, is_waiter, waiter, cancels_unknown, blocked_waiting, blocked_held, blocked, is_present, size_with, up_heard, ready_heard, evicted_heard, comes_by}
 use Rattle.lu_base.specs.declared.locks.Policy.{Policy}
 use Rattle.lu_client_rows.specs.Patches.{Patch}
-use Rattle.lu_client_rows.specs.Recovery.{looks_stage, where_stage, on_calls, ends_calls, drops_all, next_life, joins_all, ticks, ticks_at}
+use Rattle.lu_client_rows.specs.Recovery.{replays, lock_replays, held_of, word, recovers, forgets_stage, looks_stage, where_stage, on_calls, comes_up, ends_calls, drops_all, next_life, joins_all, ticks, ticks_at}
 use Rattle.lu_client_rows.specs.Rows.{Event, Begins, Comes, Ticks, Dies, rests, row_call, row}
 use Rattle.lu_client_rows.specs.Sending.{resends, flies, sends, sends_to, sends_all, has_room, next_flight}
 use Rattle.lu_client_rows.specs.Slots.{opens, refuses, begins_open, begins_close, begins, goes, goes_at, goes_on, passes, all_slots, slots_go, is_free_close}
@@ -50,21 +50,26 @@ use Rattle.lu_covered.specs.Calls.{becomes, operation_of}
 use Rattle.lu_lawful.proofs.OnNames.{IsOnNames, IsPlain}
 use Rattle.lu_covered_scenes.specs.Covered as scenes
 use Rattle.lu_covered_scenes.proofs.Every.{Every, every_more, every_filter}
+use Rattle.lu_covered_scenes.proofs.Asking.{IsNode}
 use Rattle.lu_covered_scenes.proofs.Clients.{AskingCalm, RunningCalm, CallCalm, StandsCalm, ImportCalm, FactCalm, IsReader, HeldCalm, Calm, LineCalm, AllCalm, follow_calm, on_calm}
 
 -- what may come to such a client
-abbrev pub MessageCalm : Type 0 → Message → Type 0
-MessageCalm MayAsk (message.Reply r) = Every IsReader r.locks × IsPlain r.answer
-MessageCalm MayAsk (message.Block who boot cookie) = Unit {0}
-MessageCalm MayAsk (message.Ready who boot committed) = MayAsk
-MessageCalm MayAsk (message.Evicted who boot) = MayAsk
-MessageCalm MayAsk _ = ⊥
+abbrev pub ReplyCalm : ReplyTo → Type 0
+ReplyCalm r = Every IsReader r.locks × IsPlain r.answer
 
-abbrev pub EventCalm : (Call → Type 0) → Type 0 → Event → Type 0
-EventCalm P MayAsk (Begins slot c) = scenes.IsOnNames c × P c
-EventCalm P MayAsk (Comes n from m) = MessageCalm MayAsk m
-EventCalm P MayAsk Ticks = Unit {0}
-EventCalm P MayAsk Dies = Unit {0}
+abbrev pub MessageCalm : Type 0 → (osts : ℕ) → Node → Message → Type 0
+MessageCalm MayAsk osts from (message.Reply r) = ReplyCalm r
+MessageCalm MayAsk osts from (message.Block who boot cookie) = Unit {0}
+MessageCalm MayAsk osts from (message.Up boot) = MayAsk × IsNode osts from
+MessageCalm MayAsk osts from (message.Ready who boot committed) = MayAsk
+MessageCalm MayAsk osts from (message.Evicted who boot) = MayAsk
+MessageCalm MayAsk osts from _ = ⊥
+
+abbrev pub EventCalm : (Call → Type 0) → Type 0 → (osts : ℕ) → Event → Type 0
+EventCalm P MayAsk osts (Begins slot c) = scenes.IsOnNames c × P c
+EventCalm P MayAsk osts (Comes n from m) = MessageCalm MayAsk osts from m
+EventCalm P MayAsk osts Ticks = Unit {0}
+EventCalm P MayAsk osts Dies = Unit {0}
 
 -- ---- what is known of a file: its attributes never are
 
@@ -267,7 +272,7 @@ module _ (P : Call → Type 0) (MayAsk : Type 0) (osts : ℕ) where
   no_heeds t f (op.Cut resource cookie size) r a k is = absurd is
   no_heeds t f _ r a k is = refl
 
-  flight_calm : (t : ℕ) (r : ReplyTo) (f : Flight) (k : Client) → IsOnNames f.op → MessageCalm MayAsk (message.Reply r) → Calm MayAsk osts k → All (hears_flight t r f k)
+  flight_calm : (t : ℕ) (r : ReplyTo) (f : Flight) (k : Client) → IsOnNames f.op → ReplyCalm r → Calm MayAsk osts k → All (hears_flight t r f k)
   flight_calm t r f k is m h =
       let brings = brings_calm f.op r is m.0 in
       follow_calm P MayAsk osts (Heard t f r ∷ holds t (size_with r.answer) r.seen (brought f.op r) ++ learns t f.op r.answer r.locks) (heeds t f f.op r r.answer) k h
@@ -287,7 +292,7 @@ module _ (P : Call → Type 0) (MayAsk : Type 0) (osts : ℕ) where
   flights_calm zero (i ∷ imports) c = c.0.flights
   flights_calm (suc t) (i ∷ imports) c = flights_calm t imports c.1
 
-  reply_calm : (t : ℕ) (r : ReplyTo) (k : Client) (present : Bool) → MessageCalm MayAsk (message.Reply r) → Calm MayAsk osts k → All (replied t r k present)
+  reply_calm : (t : ℕ) (r : ReplyTo) (k : Client) (present : Bool) → ReplyCalm r → Calm MayAsk osts k → All (replied t r k present)
   reply_calm t r k false m h = tt
   reply_calm t r k true m h = by (find_flight r.xid.0 (import_of t k.imports).flights) (found_calm r.xid.0 (import_of t k.imports).flights (flights_calm t k.imports h.imports))
     where
@@ -357,6 +362,44 @@ module _ (P : Call → Type 0) (MayAsk : Type 0) (osts : ℕ) where
       let i = import_of t k.imports in
       (may, (may, every_more (LineCalm P MayAsk osts) (resends k.who i.boot t i.flights) (on_calls (looks_stage t) 0 k.calls) (resends_calm k.who i.boot t i.flights) (looks_calm t 0 k.calls h.calls)))
 
+  -- a target is up again: the life tells it what it has, or asks to be served; no call waits for a lock there
+  forgets_calm : (t slot : ℕ) (calls : List (Option Running)) → Every CallCalm calls → All (on_calls (forgets_stage t) slot calls)
+  forgets_calm t slot [] c = tt
+  forgets_calm t slot (None ∷ calls) c = forgets_calm t (slot + 1) calls c.1
+  forgets_calm t slot (Some r ∷ calls) c =
+      every_more (LineCalm P MayAsk osts) (forgets_stage t slot r r.stage) (on_calls (forgets_stage t) (slot + 1) calls)
+      (of_stage (λ (stage : Stage). All (forgets_stage t slot r stage)) r c.0 tt tt) (forgets_calm t (slot + 1) calls c.1)
+
+  replays_calm : (who : Who) (boot t : ℕ) (rs : List Replay) → MayAsk → t ≤ osts → All (replays who boot t rs)
+  replays_calm who boot t [] may one = tt
+  replays_calm who boot t (r ∷ rs) may one = ((may, one), replays_calm who boot t rs may one)
+
+  locks_told_calm : (who : Who) (boot t : ℕ) (held : List HeldLock) → MayAsk → t ≤ osts → All (lock_replays who boot t held)
+  locks_told_calm who boot t [] may one = tt
+  locks_told_calm who boot t (h ∷ held) may one = ((may, one), locks_told_calm who boot t held may one)
+
+  recovers_calm : (t : ℕ) (k : Client) (i : Import) → MayAsk → t ≤ osts → All (recovers t k i)
+  recovers_calm t k i may one =
+      let held : List HeldLock = held_of t k.store.held in
+      let last : List Entry = word k.who i.boot t (length i.kept.replays) (length held) i.kept.seen ∷ [] in
+      let first : List Entry = replays k.who i.boot t i.kept.replays in
+      every_more (LineCalm P MayAsk osts) (first ++ lock_replays k.who i.boot t held) last
+      (every_more (LineCalm P MayAsk osts) first (lock_replays k.who i.boot t held) (replays_calm k.who i.boot t i.kept.replays may one) (locks_told_calm k.who i.boot t held may one))
+      ((may, one), tt)
+
+  comes_up_calm : (t : ℕ) (k : Client) (i : Import) (s : Standing) → MayAsk → t ≤ osts → Calm MayAsk osts k → All (comes_up t k i s)
+  comes_up_calm t k i Joining may one h = ((may, one), tt)
+  comes_up_calm t k i Recovering may one h =
+      (tt, every_more (LineCalm P MayAsk osts) (on_calls (forgets_stage t) 0 k.calls) (recovers t k i) (forgets_calm t 0 k.calls h.calls) (recovers_calm t k i may one))
+  comes_up_calm t k i Serving may one h =
+      (tt, every_more (LineCalm P MayAsk osts) (on_calls (forgets_stage t) 0 k.calls) (recovers t k i) (forgets_calm t 0 k.calls h.calls) (recovers_calm t k i may one))
+
+  up_calm : (t boot : ℕ) (k : Client) (newer : Bool) → MayAsk → t ≤ osts → Calm MayAsk osts k → All (up_heard t boot k newer)
+  up_calm t boot k false may one h = tt
+  up_calm t boot k true may one h =
+      follow_calm P MayAsk osts (Knows t boot ∷ []) (λ j. comes_up t j (import_of t j.imports) (import_of t j.imports).standing) k h (may, tt)
+      (λ j c. comes_up_calm t j (import_of t j.imports) (import_of t j.imports).standing may one c)
+
   -- the life is over: its calls end, its locks go, and the next one asks to be served
   ends_calm : (at : At) (slot : ℕ) (calls : List (Option Running)) → All (ends_calls at slot calls)
   ends_calm at slot [] = tt
@@ -380,22 +423,23 @@ module _ (P : Call → Type 0) (MayAsk : Type 0) (osts : ℕ) where
       (every_more (LineCalm P MayAsk osts) (ends_calls at 0 k.calls) (drops_all (in_order k.store.held)) (ends_calm at 0 k.calls) (drops_calm (in_order k.store.held)))
       (may, joins_calm (next_life k.who) 0 k.imports (omega (arith, few)) may)
 
-  comes_calm : (at : At) (from : Node) (m : Message) (k : Client) → MessageCalm MayAsk m → Calm MayAsk osts k → All (comes_by at from m k)
+  comes_calm : (at : At) (from : Node) (m : Message) (k : Client) → MessageCalm MayAsk osts from m → Calm MayAsk osts k → All (comes_by at from m k)
   comes_calm at (FromClient c) m k is h = tt
   comes_calm at (Target t) (message.Reply r) k is h = reply_calm t r k (is_present r.who r.boot t k) is h
   comes_calm at (Target t) (message.Block who boot cookie) k is h = block_calm (named (record { 0 = t }) cookie) k (same_life who k.who) h
+  comes_calm at (Target t) (message.Up boot) k is h = up_calm t boot k (nat_lt (import_of t k.imports).boot boot) is.0 is.1 h
   comes_calm at (Target t) (message.Ready who boot committed) k is h = ready_calm t boot committed.0 k (is_present who boot t k) is h
   comes_calm at (Target t) (message.Evicted who boot) k is h = evicted_calm at k (same_life who k.who) is h
   comes_calm at (Target t) m k is h = absurd is
 
   -- ---- time goes on
 
-  -- where the life isn't served it asks to be
+  -- where the life isn't served it asks to be, or tells what it has
   tick_calm : (t : ℕ) (k : Client) (i : Import) (s : Standing) → t < osts + 1 → StandsCalm MayAsk s → Calm MayAsk osts k → All (ticks_at t k i s)
   tick_calm t k i Serving one stands h =
       every_more (LineCalm P MayAsk osts) (resends k.who i.boot t i.flights) (on_calls (where_stage k.who i.boot t) 0 k.calls) (resends_calm k.who i.boot t i.flights) (where_calm k.who i.boot t 0 k.calls h.calls)
   tick_calm t k i Joining one stands h = ((stands, omega (arith, one)), tt)
-  tick_calm t k i Recovering one stands h = absurd stands
+  tick_calm t k i Recovering one stands h = recovers_calm t k i stands (omega (arith, one))
 
   ticks_calm : (t : ℕ) (imports : List Import) (k : Client) → t + length imports ≤ osts + 1 → Every (ImportCalm MayAsk) imports → Calm MayAsk osts k → All (ticks t imports k)
   ticks_calm t [] k few is h = tt
@@ -439,7 +483,7 @@ module _ (P : Call → Type 0) (MayAsk : Type 0) (osts : ℕ) where
 
   -- ---- the row
 
-  pub row_calm : (limits : Limits) (at : At) (event : Event) (k : Client) → EventCalm P MayAsk event → Calm MayAsk osts k → All (row limits at event k)
+  pub row_calm : (limits : Limits) (at : At) (event : Event) (k : Client) → EventCalm P MayAsk osts event → Calm MayAsk osts k → All (row limits at event k)
   row_calm limits at (Begins slot c) k is h = by (call_on slot k.calls)
     where
       by : (o : Option Running) → All (row_call limits at slot c k o)

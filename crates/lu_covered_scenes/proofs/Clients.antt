@@ -1,5 +1,5 @@
 -- A client of a covered scenario, at each line: its calls are on names, its requests too, it holds locks for reading alone, it knows no
--- file's attributes, and each target serves its life, or it asks to be served. Which lines keep that.
+-- file's attributes, and each target serves its life, unless a turn may ask a disk. Which lines keep that.
 use Rattle.std.proofs.Common.{◌≡◌, ℕ, zero, suc, ◌+◌, ◌≤◌, false, List, [], ◌∷◌, length, map, Option, Some, None, ◌⊎◌, inl, inr, refl, sym, subst, ap}
 use Rattle.std.specs.Prelude.{nat_eq, not, if◌then◌else◌}
 use Rattle.std.proofs.lemmas.Bool.{cond_both}
@@ -15,19 +15,20 @@ use Rattle.lu_msg.specs.declared.messages.Message.TheVariants as message
 use Rattle.lu_msg.specs.declared.operations.Op.{Op}
 use Rattle.lu_msg.specs.declared.operations.Op.TheVariants as op
 use Rattle.lu_base.specs.declared.ids.Fid.{Fid}
+use Rattle.lu_base.specs.declared.ids.TargetId.{TargetId}
 use Rattle.lu_held.specs.declared.names.LockName.{LockName}
 use Rattle.lu_held.specs.declared.locks.HeldLock.{HeldLock}
 use Rattle.lu_held.specs.declared.locks.Change.{Change}
 use Rattle.lu_held.specs.declared.locks.Change.TheVariants.{Mark, Unmark, Pin, Unpin}
 use Rattle.lu_held.specs.Locks.{name_of, is_named, named, after as changed_by}
-use Rattle.lu_held.specs.Held.{is_held, changed, used, without}
+use Rattle.lu_held.specs.Held.{is_held, changed, used, without, unmarked}
 use Rattle.lu_words.specs.Carried.{Queued, Flight, Asking, Asked, Answered, Plain, Bad, Running}
 use Rattle.lu_words.specs.Concerns.{is_about}
-use Rattle.lu_words.specs.Words.{Entry, Send, Take, Tick, Begin, Busy, Heard, Hold, Drop, Told, Life, Die, Queues, Flies, Serves, Settles, Binds, Unbinds, Pins, Unpins, Marks, Learns, Commit, Boot, Evict, Joined}
+use Rattle.lu_words.specs.Words.{Entry, Send, Take, Tick, Begin, Busy, Heard, Hold, Drop, Told, Life, Die, Queues, Flies, Knows, Serves, Settles, Binds, Unbinds, Pins, Unpins, Marks, Unmarks, Learns, Commit, Boot, Close, Evict, Joined, Wishes}
 use Rattle.lu_client_rows.specs.Caches.{brought, held_as, with_held, with_brought, held_after}
 use Rattle.lu_client_rows.specs.Calls.{asks, asks_for, call_after, calls_from, call_on}
 use Rattle.lu_client_rows.specs.Facts.{Fact, name_facts, names_taught, inode_taught, is_one_for_each, last_of, taught, without_facts, facts_after}
-use Rattle.lu_client_rows.specs.Imports.{Standing, Joining, Serving, Import, rest, import_after, imports_from}
+use Rattle.lu_client_rows.specs.Imports.{Standing, Joining, Recovering, Serving, interrupted, Import, rest, import_after, imports_from}
 use Rattle.lu_client_rows.specs.States.{Client, after, turn, follow}
 use Rattle.lu_covered.specs.Calls.{becomes}
 use Rattle.lu_covered.specs.Covered.{IsCoveredCall, IsCovered, IsWithoutWork}
@@ -51,11 +52,11 @@ abbrev pub CallCalm : Option Running → Type 0
 CallCalm None = Unit {0}
 CallCalm (Some r) = RunningCalm r
 
--- a life is new only where a turn may ask a disk (MayAsk)
+-- a life is new, or a target is up again, only where a turn may ask a disk (MayAsk)
 abbrev pub StandsCalm : Type 0 → Standing → Type 0
 StandsCalm MayAsk Serving = Unit {0}
 StandsCalm MayAsk Joining = MayAsk
-StandsCalm MayAsk _ = ⊥
+StandsCalm MayAsk Recovering = MayAsk
 
 pub record ImportCalm (MayAsk : Type 0) (i : Import) : Type 0 where
   pub stands : StandsCalm MayAsk i.standing
@@ -81,11 +82,14 @@ pub record Calm (MayAsk : Type 0) (osts : ℕ) (k : Client) : Type 0 where
 
 -- ---- lines that keep it; of each call that begins this holds
 
--- what it sends: joins only where a turn may ask a disk, to a target of the run
+-- what it sends: what a life that joins or comes back tells a target only where a turn may ask a disk, to a target of the run
 abbrev pub SendCalm : Type 0 → ℕ → Node → Message → Type 0
 SendCalm MayAsk osts (Target t) (message.Request r) = Unit {0}
 SendCalm MayAsk osts (Target t) (message.Cancel who boot cookie) = Unit {0}
 SendCalm MayAsk osts (Target t) (message.Join who boot) = MayAsk × (t ≤ osts)
+SendCalm MayAsk osts (Target t) (message.Replay r) = MayAsk × (t ≤ osts)
+SendCalm MayAsk osts (Target t) (message.Lock r) = MayAsk × (t ≤ osts)
+SendCalm MayAsk osts (Target t) (message.Word who boot replays locks seen) = MayAsk × (t ≤ osts)
 SendCalm MayAsk osts to m = ⊥
 
 abbrev pub LineCalm : (Call → Type 0) → Type 0 → ℕ → Entry → Type 0
@@ -102,6 +106,7 @@ LineCalm P MayAsk osts (Life who) = MayAsk
 LineCalm P MayAsk osts Die = Unit {0}
 LineCalm P MayAsk osts (Queues t q) = IsOnNames q.op
 LineCalm P MayAsk osts (Flies t f) = IsOnNames f.op
+LineCalm P MayAsk osts (Knows t boot) = MayAsk
 LineCalm P MayAsk osts (Serves t boot) = MayAsk
 LineCalm P MayAsk osts (Settles t to) = MayAsk
 LineCalm P MayAsk osts (Binds handle file) = Unit {0}
@@ -109,6 +114,7 @@ LineCalm P MayAsk osts (Unbinds handle) = Unit {0}
 LineCalm P MayAsk osts (Pins name) = Unit {0}
 LineCalm P MayAsk osts (Unpins name) = Unit {0}
 LineCalm P MayAsk osts (Marks name) = Unit {0}
+LineCalm P MayAsk osts (Unmarks t) = Unit {0}
 LineCalm P MayAsk osts (Learns t o a locks) = IsPlain a
 LineCalm P MayAsk osts _ = ⊥
 
@@ -128,6 +134,9 @@ module _ (P : Call → Type 0) (MayAsk : Type 0) (osts : ℕ) where
   line_covered (Send (Target t) (message.Request r)) c = tt
   line_covered (Send (Target t) (message.Cancel who boot cookie)) c = tt
   line_covered (Send (Target t) (message.Join who boot)) c = tt
+  line_covered (Send (Target t) (message.Replay r)) c = tt
+  line_covered (Send (Target t) (message.Lock r)) c = tt
+  line_covered (Send (Target t) (message.Word who boot replays locks seen)) c = tt
   line_covered (Take n from m) c = tt
   line_covered Tick c = tt
   line_covered (Begin slot r) c = call_covered r c.0
@@ -140,6 +149,7 @@ module _ (P : Call → Type 0) (MayAsk : Type 0) (osts : ℕ) where
   line_covered Die c = tt
   line_covered (Queues t q) c = tt
   line_covered (Flies t f) c = tt
+  line_covered (Knows t boot) c = tt
   line_covered (Serves t boot) c = tt
   line_covered (Settles t to) c = tt
   line_covered (Binds handle file) c = tt
@@ -147,6 +157,7 @@ module _ (P : Call → Type 0) (MayAsk : Type 0) (osts : ℕ) where
   line_covered (Pins name) c = tt
   line_covered (Unpins name) c = tt
   line_covered (Marks name) c = tt
+  line_covered (Unmarks t) c = tt
   line_covered (Learns t o a locks) c = tt
   line_covered e c = absurd c
 
@@ -155,20 +166,25 @@ module _ (P : Call → Type 0) (MayAsk : Type 0) (osts : ℕ) where
   lines_covered (e ∷ es) c = (line_covered e c.0, lines_covered es c.1)
 
   -- and they stand where such lines may
-  pub line_suits : (e : Entry) → LineCalm P MayAsk osts e → Suits MayAsk osts e
-  line_suits (Send (Target t) (message.Request r)) c = tt
-  line_suits (Send (Target t) (message.Cancel who boot cookie)) c = tt
-  line_suits (Send (Target t) (message.Join who boot)) c = c
-  line_suits (Life who) c = c
-  line_suits (Send to m) c = absurd c
-  line_suits (Commit to batch) c = absurd c
-  line_suits (Boot boot disk) c = absurd c
-  line_suits (Evict who cause) c = absurd c
-  line_suits (Joined who) c = absurd c
-  line_suits e c = tt
+  pub line_suits : (clients : ℕ) (e : Entry) → LineCalm P MayAsk osts e → Suits MayAsk osts clients e
+  line_suits clients (Send (Target t) (message.Request r)) c = tt
+  line_suits clients (Send (Target t) (message.Cancel who boot cookie)) c = tt
+  line_suits clients (Send (Target t) (message.Join who boot)) c = c
+  line_suits clients (Send (Target t) (message.Replay r)) c = c
+  line_suits clients (Send (Target t) (message.Lock r)) c = c
+  line_suits clients (Send (Target t) (message.Word who boot replays locks seen)) c = c
+  line_suits clients (Life who) c = c
+  line_suits clients (Send to m) c = absurd c
+  line_suits clients (Commit to batch) c = absurd c
+  line_suits clients (Boot boot disk) c = absurd c
+  line_suits clients (Close o) c = absurd c
+  line_suits clients (Wishes who) c = absurd c
+  line_suits clients (Evict who cause) c = absurd c
+  line_suits clients (Joined who) c = absurd c
+  line_suits clients e c = tt
 
-  pub lines_suit : (es : List Entry) → AllCalm P MayAsk osts es → Every (Suits MayAsk osts) es
-  lines_suit es c = every_so (LineCalm P MayAsk osts) (Suits MayAsk osts) es line_suits c
+  pub lines_suit : (clients : ℕ) (es : List Entry) → AllCalm P MayAsk osts es → Every (Suits MayAsk osts clients) es
+  lines_suit clients es c = every_so (LineCalm P MayAsk osts) (Suits MayAsk osts clients) es (line_suits clients) c
 
   -- ---- calls
 
@@ -192,6 +208,7 @@ module _ (P : Call → Type 0) (MayAsk : Type 0) (osts : ℕ) where
   call_calm slot o (Hold t k marked size seen) l c = c
   call_calm slot o (Drop t k) l c = c
   call_calm slot o Die l c = c
+  call_calm slot o (Knows t boot) l c = c
   call_calm slot o (Serves t boot) l c = c
   call_calm slot o (Settles t to) l c = c
   call_calm slot o (Binds handle file) l c = c
@@ -201,6 +218,7 @@ module _ (P : Call → Type 0) (MayAsk : Type 0) (osts : ℕ) where
   call_calm slot o (Pins name) l c = c
   call_calm slot o (Unpins name) l c = c
   call_calm slot o (Marks name) l c = c
+  call_calm slot o (Unmarks t) l c = c
   call_calm slot o (Learns t p a locks) l c = c
   call_calm slot o e l c = absurd l
 
@@ -213,6 +231,12 @@ module _ (P : Call → Type 0) (MayAsk : Type 0) (osts : ℕ) where
   rest_calm : (queue : List Queued) → Every (λ (q : Queued). IsOnNames q.op) queue → Every (λ (q : Queued). IsOnNames q.op) (rest queue)
   rest_calm [] c = tt
   rest_calm (q ∷ queue) c = c.1
+
+  -- one that is up again isn't heard to serve
+  stands_calm : (s : Standing) → MayAsk → StandsCalm MayAsk (interrupted s)
+  stands_calm Joining may = may
+  stands_calm Recovering may = may
+  stands_calm Serving may = may
 
   import_calm : (i : Import) (e : Entry) → LineCalm P MayAsk osts e → ImportCalm MayAsk i → ImportCalm MayAsk (import_after i e)
   import_calm i (Queues t q) l c =
@@ -230,6 +254,7 @@ module _ (P : Call → Type 0) (MayAsk : Type 0) (osts : ℕ) where
   import_calm i (Drop t k) l c = record { stands = c.stands; queue = c.queue; flights = c.flights }
   import_calm i (Told slot at answer work) l c = record { stands = c.stands; queue = c.queue; flights = c.flights }
   import_calm i (Life who) l c = record { stands = l; queue = tt; flights = tt }
+  import_calm i (Knows t boot) l c = record { stands = stands_calm i.standing l; queue = c.queue; flights = c.flights }
   import_calm i (Serves t boot) l c = record { stands = tt; queue = c.queue; flights = c.flights }
   import_calm i (Settles t to) l c = record { stands = c.stands; queue = c.queue; flights = c.flights }
   import_calm i (Binds handle file) l c = record { stands = c.stands; queue = c.queue; flights = c.flights }
@@ -238,6 +263,7 @@ module _ (P : Call → Type 0) (MayAsk : Type 0) (osts : ℕ) where
   import_calm i (Pins name) l c = record { stands = c.stands; queue = c.queue; flights = c.flights }
   import_calm i (Unpins name) l c = record { stands = c.stands; queue = c.queue; flights = c.flights }
   import_calm i (Marks name) l c = record { stands = c.stands; queue = c.queue; flights = c.flights }
+  import_calm i (Unmarks t) l c = record { stands = c.stands; queue = c.queue; flights = c.flights }
   import_calm i (Learns t p a locks) l c = record { stands = c.stands; queue = c.queue; flights = c.flights }
   import_calm i e l c = absurd l
 
@@ -295,6 +321,7 @@ module _ (P : Call → Type 0) (MayAsk : Type 0) (osts : ℕ) where
   facts_calm facts (Hold t k marked size seen) l c = c
   facts_calm facts (Told slot at answer work) l c = c
   facts_calm facts Die l c = c
+  facts_calm facts (Knows t boot) l c = c
   facts_calm facts (Serves t boot) l c = c
   facts_calm facts (Settles t to) l c = c
   facts_calm facts (Binds handle file) l c = c
@@ -305,6 +332,7 @@ module _ (P : Call → Type 0) (MayAsk : Type 0) (osts : ℕ) where
   facts_calm facts (Pins name) l c = c
   facts_calm facts (Unpins name) l c = c
   facts_calm facts (Marks name) l c = c
+  facts_calm facts (Unmarks t) l c = c
   facts_calm facts e l c = absurd l
 
   -- ---- held locks
@@ -329,6 +357,11 @@ module _ (P : Call → Type 0) (MayAsk : Type 0) (osts : ℕ) where
   changed_calm name x held c =
       every_map HeldCalm HeldCalm (λ h. if is_named name h then changed_by x h else h) held (λ h k. cond_both (is_named name h) (changed_by x h) h HeldCalm (λ t. by_calm x h k) (λ t. k)) c
 
+  unmarked_calm : (target : TargetId) (held : List HeldLock) → Every HeldCalm held → Every HeldCalm (unmarked target held)
+  unmarked_calm target held c =
+      every_map HeldCalm HeldCalm (λ h. if nat_eq h.target.0 target.0 then changed_by Unmark h else h) held
+      (λ h k. cond_both (nat_eq h.target.0 target.0) (changed_by Unmark h) h HeldCalm (λ t. by_calm Unmark h k) (λ t. k)) c
+
   used_calm : (name : LockName) (held : List HeldLock) → Every HeldCalm held → Every HeldCalm (used name held)
   used_calm name held c = every_more HeldCalm _ (without name held) (every_filter HeldCalm (is_named name) held c) (every_filter HeldCalm (λ h. not (is_named name h)) held c)
 
@@ -339,6 +372,7 @@ module _ (P : Call → Type 0) (MayAsk : Type 0) (osts : ℕ) where
   held_calm held (Pins name) l c = changed_calm name Pin held c
   held_calm held (Unpins name) l c = used_calm name (changed name Unpin held) (changed_calm name Unpin held c)
   held_calm held (Marks name) l c = changed_calm name Mark held c
+  held_calm held (Unmarks t) l c = unmarked_calm (record { 0 = t }) held c
   held_calm held (Send to m) l c = c
   held_calm held (Take n from m) l c = c
   held_calm held Tick l c = c
@@ -346,6 +380,7 @@ module _ (P : Call → Type 0) (MayAsk : Type 0) (osts : ℕ) where
   held_calm held (Busy s) l c = c
   held_calm held (Told slot at answer work) l c = c
   held_calm held Die l c = c
+  held_calm held (Knows t boot) l c = c
   held_calm held (Serves t boot) l c = c
   held_calm held (Settles t to) l c = c
   held_calm held (Binds handle file) l c = c

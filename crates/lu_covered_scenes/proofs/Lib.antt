@@ -2,6 +2,8 @@ pub mod Every
 pub mod Asking
 pub mod Clients
 pub mod ClientRows
+pub mod Served
+pub mod Windows
 pub mod Targets
 pub mod Numbers
 pub mod Lines

@@ -8,7 +8,7 @@ use Rattle.lu_msg.specs.declared.calls.Call.TheVariants as call
 use Rattle.lu_scene.specs.Grammar.{LineFits}
 use Rattle.lu_scene.specs.declared.scene.Scene.{Scene}
 use Rattle.lu_scene.specs.declared.scene.SceneLine.{SceneLine}
-use Rattle.lu_scene.specs.declared.scene.SceneLine.TheVariants.{Call, Run, RunSome, Deliver, Lose, Tick, Commit, CommitSome, Crash, Close, Die}
+use Rattle.lu_scene.specs.declared.scene.SceneLine.TheVariants.{Call, Run, RunSome, Deliver, Lose, Tick, Commit, CommitSome, Crash, Boot, Close, Die}
 use Rattle.lu_trace.specs.WellFormed.{IsCall}
 use Rattle.lu_covered.specs.Makes.{Path, CallMakes, CallMakesFile, Misses, StatsNoFile}
 use Rattle.lu_lawful.proofs.Asked.{Began}
@@ -19,7 +19,7 @@ use Rattle.lu_table.specs.Scenarios.{head_of, with_stripes}
 use Rattle.lu_words.specs.Words.{Line}
 use Rattle.lu_after.proofs.Runs.{begins_meets}
 use Rattle.lu_covered_scenes.specs.Covered as scenes
-use Rattle.lu_covered_scenes.specs.Covered.{IsMade, IsFile, IsOnNames, IsLineCovered, IsCoveredIn, IsNoCommand, LineMisses, IsCovered, AsksNoDisk}
+use Rattle.lu_covered_scenes.specs.Covered.{IsMade, IsFile, IsOnNames, IsCoveredIn, IsNoCommand, LineMisses, IsCovered, AsksNoDisk}
 
 -- ---- calls
 
@@ -77,9 +77,9 @@ IsKnown lines clients osts (Tick (Target target)) = target ≤ osts
 IsKnown lines clients osts (Commit target) = IsCommandTo lines osts target.0
 IsKnown lines clients osts (CommitSome target count) = IsCommandTo lines osts target.0
 IsKnown lines clients osts (Crash target) = IsCommandTo lines osts target.0
+IsKnown lines clients osts (Boot target) = IsCommandTo lines osts target.0
 IsKnown lines clients osts (Close target) = IsCommandTo lines osts target.0
 IsKnown lines clients osts (Die client) = client < clients
-IsKnown lines clients osts _ = ⊥
 
 abbrev pub AllKnown : Scene → List SceneLine → Type 0
 AllKnown scene [] = Unit {0}
@@ -98,9 +98,9 @@ module _ (scene : Scene) where
   one_known (Commit target) fits is quiet among = record { one = fits; some = quiet }
   one_known (CommitSome target count) fits is quiet among = record { one = fits.0; some = quiet }
   one_known (Crash target) fits is quiet among = record { one = fits; some = quiet }
+  one_known (Boot target) fits is quiet among = record { one = fits; some = quiet }
   one_known (Close target) fits is quiet among = record { one = fits; some = quiet }
   one_known (Die client) fits is quiet among = fits
-  one_known _ fits is quiet among = absurd is
 
   first : (line : SceneLine) (lines : List SceneLine) (call : CallOf) → Calls (line ∷ []) call → Calls (line ∷ lines) call
   first (Call client slot begun) lines call (inl e) = inl e

@@ -31,7 +31,7 @@ use Rattle.lu_covered_scenes.proofs.Arrivals.{client_calm, to_client}
 use Rattle.lu_covered_scenes.proofs.Clients.{ImportCalm, Calm}
 use Rattle.lu_covered_scenes.proofs.ClientRows.{EventCalm}
 use Rattle.lu_covered_scenes.proofs.Lines.{MayAsk, Calls, IsCommandTo, AllKnown, lines_known}
-use Rattle.lu_covered_scenes.proofs.Turns.{Sound, IsTimely, Timely, Makes, made, Spared, covered_unfailed, past_grown, client_makes, client_timely, comes_makes, comes_timely, names_due, others_due, tick_makes, names_timely, other_timely, commit_makes, commit_timely, crash_makes, crash_timely, close_makes, close_timely}
+use Rattle.lu_covered_scenes.proofs.Turns.{Sound, IsTimely, Timely, Makes, made, Spared, covered_unfailed, past_grown, client_makes, client_timely, comes_makes, comes_timely, names_due, others_due, tick_makes, names_timely, other_timely, commit_makes, commit_timely, crash_makes, crash_timely, close_makes, close_timely, boot_makes, boot_timely}
 
 -- a configuration to which a covered scenario leads
 pub record Follows (scene : Scene) (c : Config) : Type 0 where
@@ -116,7 +116,7 @@ module _ (scene : Scene) (covered : IsCovered scene) (disks : Disks) where
 
   -- ---- a line of a client
 
-  alive_keeps : (c : Config) (who : ℕ) (event : client.Event) (rest : List SceneLine) → Sound scene c → Left c rest → EventCalm (Calls scene.lines) (MayAsk scene) event
+  alive_keeps : (c : Config) (who : ℕ) (event : client.Event) (rest : List SceneLine) → Sound scene c → Left c rest → EventCalm (Calls scene.lines) (MayAsk scene) head.osts event
       → (is_dead who (past_of c) ≡ false → Meets head (past_of c) (Client who) event) → Kept (due_alive head disks c who event rest)
   alive_keeps c who event rest s l calm meets = by (is_dead who (past_of c)) refl
     where
@@ -187,6 +187,12 @@ module _ (scene : Scene) (covered : IsCovered scene) (disks : Disks) where
       let sound = sound_left c rest s in
       due_keeps after (Target t) target.Closes l.known (λ room. close_makes scene covered after t sound to.some room to.one) (close_timely scene covered after t sound to.some (ticks_of rest) l.time)
 
+  boot_keeps : (c : Config) (t : ℕ) (rest : List SceneLine) → Sound scene c → Left c rest → IsCommandTo scene.lines head.osts t → Kept (due head disks (left c rest) (Target t) target.Boots)
+  boot_keeps c t rest s l to =
+      let after = left c rest in
+      let sound = sound_left c rest s in
+      due_keeps after (Target t) target.Boots l.known (λ room. boot_makes scene covered after t sound to.some room to.one) (boot_timely scene covered after t sound to.some (ticks_of rest) l.time)
+
   step_keeps : (c : Config) (lines : List SceneLine) → Sound scene c → Left c lines → Kept (next_by head disks c lines)
   step_keeps c [] s l = λ d e spared. absurd (cc)
   step_keeps c (Call who slot call ∷ rest) s l =
@@ -206,7 +212,7 @@ module _ (scene : Scene) (covered : IsCovered scene) (disks : Disks) where
   step_keeps c (Commit t ∷ rest) s l = commit_keeps c t.0 None rest s (rest_left c (Commit t) rest l) l.known.0
   step_keeps c (CommitSome t k ∷ rest) s l = commit_keeps c t.0 (Some k) rest s (rest_left c (CommitSome t k) rest l) l.known.0
   step_keeps c (Crash t ∷ rest) s l = crash_keeps c t.0 rest s (rest_left c (Crash t) rest l) l.known.0
-  step_keeps c (Boot t ∷ rest) s l = absurd l.known.0
+  step_keeps c (Boot t ∷ rest) s l = boot_keeps c t.0 rest s (rest_left c (Boot t) rest l) l.known.0
   step_keeps c (Close t ∷ rest) s l = close_keeps c t.0 rest s (rest_left c (Close t) rest l) l.known.0
 
   -- a run goes on only where no disk has failed
@@ -249,7 +255,7 @@ module _ (scene : Scene) (covered : IsCovered scene) (disks : Disks) where
               covered = tt;
               suits = tt;
               calm = calm_first;
-              below = λ t. record { queue = tt; number = omega arith; cookie = omega arith };
+              below = λ t. record { queue = tt; few = omega arith; number = omega arith; cookie = omega arith; boot = omega arith; disk = refl };
               ticks = λ t. omega arith;
               begun = λ call i. absurd i;
             };

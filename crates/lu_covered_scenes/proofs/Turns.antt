@@ -17,7 +17,7 @@ use Rattle.lu_client_rows.specs.Rows as client
 use Rattle.lu_target_rows.specs.Disks.{calls, over_disk}
 use Rattle.lu_target_rows.specs.Leaving.{condemned}
 use Rattle.lu_target_rows.specs.Rows as target
-use Rattle.lu_target_rows.specs.States.{Target, lives_from, after, turn as target_turn}
+use Rattle.lu_target_rows.specs.States.{Target, is_serving, lives_from, after, turn as target_turn}
 use Rattle.lu_table.specs.Heads.{Head}
 use Rattle.lu_table.specs.Runs.{EventAt, has_failed, row_at, Meets, HasNumbers, client_of, target_of, limits_of, setting_of}
 use Rattle.lu_table.specs.Scenarios.{Config, Disks, head_of, past_of, first_failing, fails_at, calls_at, with_turn}
@@ -43,15 +43,16 @@ use Rattle.lu_covered_scenes.proofs.Asking.{AllSuit, turn_suits}
 use Rattle.lu_covered_scenes.proofs.Clients.{Calm, AllCalm, turn_calm, lines_covered, lines_suit}
 use Rattle.lu_covered_scenes.proofs.ClientRows.{EventCalm, row_calm}
 use Rattle.lu_covered_scenes.proofs.Lines.{MayAsk, Calls, AllOfLines, all_miss}
-use Rattle.lu_covered_scenes.proofs.Numbers.{Below, comes_below, tick_below, commit_command_below, crash_command_below, close_command_below, more_below, has_numbers}
-use Rattle.lu_covered_scenes.proofs.Targets.{AllServed, Serves, Expires, serves, serves_turn, served_covered, served_suit, served_began, served_still, asks_none, over_unfailed, first_lives, called_same, comes_served, tick_served, tick_counts, expires_none, uncalled_none, commit_served, crash_served, close_served}
+use Rattle.lu_covered_scenes.proofs.Numbers.{Below, comes_below, tick_below, commit_command_below, crash_command_below, close_command_below, boot_command_below, more_below, has_numbers}
+use Rattle.lu_covered_scenes.proofs.Served.{AllServed, served_covered, served_suit, asks_none, served_began, served_still, over_unfailed, Quiet, stays_quiet, first_lives, first_boot, first_serves, called_same}
+use Rattle.lu_covered_scenes.proofs.Targets.{Expires, comes_served, tick_served, tick_counts, expires_none, uncalled_none, commit_served, crash_served, close_served, boots_served}
 
 -- ---- what is so of a configuration
 
 pub record Sound (scene : Scene) (c : Config) : Type 0 where
   pub table : InTable (head_of scene.head) c
   pub covered : AllCovered (past_of c)
-  pub suits : AllSuit (MayAsk scene) scene.head.osts (past_of c)
+  pub suits : AllSuit (MayAsk scene) scene.head.osts scene.head.clients (past_of c)
   pub calm : (who : ℕ) → Calm (MayAsk scene) scene.head.osts (client_of (head_of scene.head) who (past_of c))
   pub below : (t : ℕ) → Below (length c.turns) (target_of (head_of scene.head) t (past_of c))
   pub ticks : (t : ℕ) → (target_of (head_of scene.head) t (past_of c)).ticks ≤ length c.turns
@@ -126,12 +127,18 @@ module _ (scene : Scene) (covered : IsCovered scene) where
   pub unfailed : (c : Config) → Sound scene c → has_failed (past_of c) ≡ false
   unfailed c s = covered_unfailed (past_of c) s.covered
 
-  pub target_serves : (c : Config) → Sound scene c → (t : ℕ) → Serves (target_of head t (past_of c))
-  target_serves c s t = serves (MayAsk scene) head.osts (setting_of head t) head.clients (past_of c) s.suits s.covered
+  pub target_quiet : (c : Config) → Sound scene c → (t : ℕ) → Quiet head.clients (target_of head t (past_of c))
+  target_quiet c s t = stays_quiet (MayAsk scene) head.osts (setting_of head t) head.clients (past_of c) s.suits s.covered
 
   -- where no turn asks a disk
   lives_stay : (c : Config) → Sound scene c → (t : ℕ) → AsksNoDisk scene → (target_of head t (past_of c)).lives ≡ lives_from 0 head.clients
-  lives_stay c s t quiet = first_lives (MayAsk scene) head.osts (λ may. may quiet) (setting_of head t) head.clients (past_of c) s.suits s.covered
+  lives_stay c s t quiet = first_lives (MayAsk scene) head.osts (λ may. may quiet) (setting_of head t) head.clients (past_of c) s.suits
+
+  boot_stays : (c : Config) → Sound scene c → (t : ℕ) → AsksNoDisk scene → (target_of head t (past_of c)).boot ≡ 1
+  boot_stays c s t quiet = first_boot (MayAsk scene) head.osts (λ may. may quiet) (setting_of head t) head.clients (past_of c) s.suits
+
+  pub serves_still : (c : Config) → Sound scene c → (t : ℕ) → AsksNoDisk scene → is_serving (target_of head t (past_of c)) ≡ true
+  serves_still c s t quiet = first_serves (MayAsk scene) head.osts (λ may. may quiet) (setting_of head t) head.clients (past_of c) s.suits
 
   -- the lines of the turn over disks that may fail
   abbrev over : Disks → Config → (n : Node) → EventAt n → List Entry
@@ -148,14 +155,14 @@ module _ (scene : Scene) (covered : IsCovered scene) where
 
   -- ---- of a client
 
-  pub client_makes : (c : Config) (who : ℕ) (event : client.Event) → Sound scene c → Meets head (past_of c) (node.Client who) event → EventCalm (Calls scene.lines) (MayAsk scene) event → Makes c (node.Client who) event
+  pub client_makes : (c : Config) (who : ℕ) (event : client.Event) → Sound scene c → Meets head (past_of c) (node.Client who) event → EventCalm (Calls scene.lines) (MayAsk scene) head.osts event → Makes c (node.Client who) event
   client_makes c who event s meets may =
       record {
         sound =
             record {
               table = turned_in head c (node.Client who) event s.table (unfailed c s) meets tt;
               covered = all_covered at es past (lines_covered (Calls scene.lines) (MayAsk scene) head.osts es all) alone s.covered;
-              suits = turn_suits (MayAsk scene) head.osts past at es (lines_suit (Calls scene.lines) (MayAsk scene) head.osts es all) s.suits;
+              suits = turn_suits (MayAsk scene) head.osts head.clients past at es tt (lines_suit (Calls scene.lines) (MayAsk scene) head.osts head.clients es all) s.suits;
               calm = λ d. calm d (is_client d (node.Client who)) refl;
               below = λ t. subst (Below (suc (length c.turns))) (sym (others t)) (more_below (length c.turns) (target_of head t past) (s.below t));
               ticks = λ t. let low = s.ticks t in let same = ap (λ (v : Target). v.ticks) (others t) in omega (arith, low, same);
@@ -201,25 +208,25 @@ module _ (scene : Scene) (covered : IsCovered scene) where
 
   -- ---- of a target: in all its lines no call begins, and it asks a disk only where a turn may
 
-  served_makes : (T : Type 0) (c : Config) (t : ℕ) (event : target.Event) → Sound scene c → length c.turns < 65536 → Meets head (past_of c) (node.Target t) event → AllServed T (MayAsk scene) (lines_at c (node.Target t) event)
+  served_makes : (T : Type 0) (c : Config) (t : ℕ) (event : target.Event) → Sound scene c → length c.turns < 65536 → t ≤ head.osts → Meets head (past_of c) (node.Target t) event → AllServed T (MayAsk scene) head.clients (lines_at c (node.Target t) event)
       → Below (suc (length c.turns)) (target_turn (target_of head t (past_of c)) (lines_at c (node.Target t) event))
       → (target_turn (target_of head t (past_of c)) (lines_at c (node.Target t) event)).ticks ≤ suc (length c.turns) → Makes c (node.Target t) event
-  served_makes T c t event s few meets all below ticks =
+  served_makes T c t event s few one meets all below ticks =
       record {
         sound =
             record {
               table = turned_in head c (node.Target t) event s.table (unfailed c s) meets left;
               covered = all_covered at es past are_covered (target_alone at.stamp t es past) s.covered;
-              suits = turn_suits (MayAsk scene) head.osts past at es (served_suit T (MayAsk scene) head.osts es all) s.suits;
+              suits = turn_suits (MayAsk scene) head.osts head.clients past at es one (served_suit T (MayAsk scene) head.clients head.osts es all) s.suits;
               calm = λ d. subst (Calm (MayAsk scene) head.osts) (sym (client_other (limits_of head) d past at es refl)) (s.calm d);
               below = λ u. each (λ v. Below (suc (length c.turns)) v) below (λ k. more_below (length c.turns) (target_of head k past) (s.below k)) u;
               ticks = λ u. each (λ v. v.ticks ≤ suc (length c.turns)) ticks (λ k. let low = s.ticks k in omega (arith, low)) u;
-              begun = λ call i. s.begun call (served_began T (MayAsk scene) past at es all call i);
+              begun = λ call i. s.begun call (served_began T (MayAsk scene) head.clients past at es all call i);
             };
         numbers = left;
         same =
             λ disks. ⊎_elim (λ (whole : has_failed (with_lines at (over disks c (node.Target t) event) past) ≡ false). over_unfailed (fails_at disks past (node.Target t) es) at past es whole)
-            (λ (quiet : AsksNoDisk scene). not_failing disks past (node.Target t) es (asks_none T (MayAsk scene) (λ may. may quiet) es all));
+            (λ (quiet : AsksNoDisk scene). not_failing disks past (node.Target t) es (asks_none T (MayAsk scene) head.clients (λ may. may quiet) es all));
       }
     where
       past : List Line
@@ -235,10 +242,10 @@ module _ (scene : Scene) (covered : IsCovered scene) where
       v = target_of head t past
 
       are_covered : EntriesCovered es
-      are_covered = served_covered T (MayAsk scene) es all
+      are_covered = served_covered T (MayAsk scene) head.clients es all
 
       left : HasNumbers head past at (node.Target t) event
-      left = has_numbers (suc (length c.turns)) v es (serves_turn T (MayAsk scene) v es all (target_serves c s t)) below (omega (arith, few))
+      left = has_numbers (suc (length c.turns)) v es below (omega (arith, few))
 
       each : (P : Target → Type 0) → P (target_turn v es) → ((u : ℕ) → P (target_of head u past)) → (u : ℕ) → P (target_of head u (with_lines at es past))
       each P own others u = by (nat_eq u t) refl
@@ -256,34 +263,34 @@ module _ (scene : Scene) (covered : IsCovered scene) where
       omega (arith, low, same)
 
   -- where its time doesn't go on, or it isn't the metadata target, the metadata target's count stays
-  target_timely : (c : Config) (t : ℕ) (event : target.Event) (left : ℕ) → AllServed ⊥ (MayAsk scene) (lines_at c (node.Target t) event) → Timely scene left (past_of c) → Timely scene left (past_of (made c (node.Target t) event))
+  target_timely : (c : Config) (t : ℕ) (event : target.Event) (left : ℕ) → AllServed ⊥ (MayAsk scene) head.clients (lines_at c (node.Target t) event) → Timely scene left (past_of c) → Timely scene left (past_of (made c (node.Target t) event))
   target_timely c t event left all time quiet = by t all (time quiet)
     where
-      by : (t : ℕ) → AllServed ⊥ (MayAsk scene) (lines_at c (node.Target t) event) → IsTimely scene left (past_of c) → IsTimely scene left (past_of (made c (node.Target t) event))
+      by : (t : ℕ) → AllServed ⊥ (MayAsk scene) head.clients (lines_at c (node.Target t) event) → IsTimely scene left (past_of c) → IsTimely scene left (past_of (made c (node.Target t) event))
       by zero all (inl low) =
           let own = ap (λ (v : Target). v.ticks) (target_own (setting_of head 0) head.clients (past_of c) (next_at c (node.Target 0)) (lines_at c (node.Target 0) event) refl) in
-          let same = served_still (MayAsk scene) (target_of head 0 (past_of c)) (lines_at c (node.Target 0) event) all in
+          let same = served_still (MayAsk scene) head.clients (target_of head 0 (past_of c)) (lines_at c (node.Target 0) event) all in
           inl (omega (arith, low, own, same))
       by (suc t) all (inl low) = inl (other_low c (suc t) event left (grind (arith, nat_tests)) low)
       by t all (inr miss) = inr miss
 
   -- ---- a command
 
-  commands_makes : (c : Config) (t : ℕ) (event : target.Event) → Sound scene c → IsCommand event → AllServed ⊥ (MayAsk scene) (lines_at c (node.Target t) event)
+  commands_makes : (c : Config) (t : ℕ) (event : target.Event) → Sound scene c → IsCommand event → AllServed ⊥ (MayAsk scene) head.clients (lines_at c (node.Target t) event)
       → Below (suc (length c.turns)) (target_turn (target_of head t (past_of c)) (lines_at c (node.Target t) event)) → length c.turns < 65536 → t ≤ head.osts → Makes c (node.Target t) event
   commands_makes c t event s is all below few one =
-      served_makes ⊥ c t event s few (command_meets head (past_of c) t event is one (unfailed c s)) all below
-      (let low = s.ticks t in let same = served_still (MayAsk scene) (target_of head t (past_of c)) (lines_at c (node.Target t) event) all in omega (arith, low, same))
+      served_makes ⊥ c t event s few one (command_meets head (past_of c) t event is one (unfailed c s)) all below
+      (let low = s.ticks t in let same = served_still (MayAsk scene) head.clients (target_of head t (past_of c)) (lines_at c (node.Target t) event) all in omega (arith, low, same))
 
   module _ (c : Config) (t : ℕ) (s : Sound scene c) (some : All IsNoCommand scene.lines → ⊥) where
     may : MayAsk scene
     may quiet = some quiet.commands
 
-    commits : (count : Option ℕ) → AllServed ⊥ (MayAsk scene) (lines_at c (node.Target t) (target.Commits count))
-    commits count = commit_served (MayAsk scene) (target_of head t (past_of c)) (next_at c (node.Target t)) count may (target_serves c s t)
+    commits : (count : Option ℕ) → AllServed ⊥ (MayAsk scene) head.clients (lines_at c (node.Target t) (target.Commits count))
+    commits count = commit_served (MayAsk scene) head.clients (target_of head t (past_of c)) (next_at c (node.Target t)) count may
 
-    closes : AllServed ⊥ (MayAsk scene) (lines_at c (node.Target t) target.Closes)
-    closes = close_served (MayAsk scene) (target_of head t (past_of c)) (next_at c (node.Target t)) (target_serves c s t)
+    closes : AllServed ⊥ (MayAsk scene) head.clients (lines_at c (node.Target t) target.Closes)
+    closes = close_served (MayAsk scene) head.clients (target_of head t (past_of c)) (next_at c (node.Target t)) may (target_quiet c s t)
 
     pub commit_makes : (count : Option ℕ) → length c.turns < 65536 → t ≤ head.osts → Makes c (node.Target t) (target.Commits count)
     commit_makes count few one =
@@ -292,8 +299,8 @@ module _ (scene : Scene) (covered : IsCovered scene) where
     pub commit_timely : (count : Option ℕ) (left : ℕ) → Timely scene left (past_of c) → Timely scene left (past_of (made c (node.Target t) (target.Commits count)))
     commit_timely count left time = target_timely c t (target.Commits count) left (commits count) time
 
-    crashes : AllServed ⊥ (MayAsk scene) (lines_at c (node.Target t) target.Crashes)
-    crashes = crash_served (MayAsk scene) (target_of head t (past_of c)) (next_at c (node.Target t))
+    crashes : AllServed ⊥ (MayAsk scene) head.clients (lines_at c (node.Target t) target.Crashes)
+    crashes = crash_served (MayAsk scene) head.clients (target_of head t (past_of c)) (next_at c (node.Target t))
 
     pub crash_makes : length c.turns < 65536 → t ≤ head.osts → Makes c (node.Target t) target.Crashes
     crash_makes few one =
@@ -304,10 +311,20 @@ module _ (scene : Scene) (covered : IsCovered scene) where
 
     pub close_makes : length c.turns < 65536 → t ≤ head.osts → Makes c (node.Target t) target.Closes
     close_makes few one =
-        commands_makes c t target.Closes s tt closes (close_command_below (length c.turns) (target_of head t (past_of c)) (next_at c (node.Target t)) (target_serves c s t) (s.below t)) few one
+        commands_makes c t target.Closes s tt closes (close_command_below (length c.turns) head.clients (target_of head t (past_of c)) (next_at c (node.Target t)) (target_quiet c s t) (s.below t)) few one
 
     pub close_timely : (left : ℕ) → Timely scene left (past_of c) → Timely scene left (past_of (made c (node.Target t) target.Closes))
     close_timely left time = target_timely c t target.Closes left closes time
+
+    boots : AllServed ⊥ (MayAsk scene) head.clients (lines_at c (node.Target t) target.Boots)
+    boots = boots_served (MayAsk scene) head.clients (target_of head t (past_of c)) (next_at c (node.Target t)) may (target_quiet c s t)
+
+    pub boot_makes : length c.turns < 65536 → t ≤ head.osts → Makes c (node.Target t) target.Boots
+    boot_makes few one =
+        commands_makes c t target.Boots s tt boots (boot_command_below (length c.turns) head.clients (target_of head t (past_of c)) (next_at c (node.Target t)) (target_quiet c s t) (s.below t)) few one
+
+    pub boot_timely : (left : ℕ) → Timely scene left (past_of c) → Timely scene left (past_of (made c (node.Target t) target.Boots))
+    boot_timely left time = target_timely c t target.Boots left boots time
 
   -- ---- a message comes to a target
 
@@ -319,18 +336,17 @@ module _ (scene : Scene) (covered : IsCovered scene) where
     heard = target.Comes n from m
 
     arrives : Arrives scene covered (covered_head head) head.osts (past_of c) (past_grown c s) s.suits s.begun t its m
-    arrives = target_served scene covered (covered_head head) head.osts (past_of c) (past_grown c s) s.suits s.begun t its refl (lives_stay c s t) n from m sent
+    arrives = target_served scene covered (covered_head head) head.osts (past_of c) (past_grown c s) s.suits s.begun t its refl (lives_stay c s t) (boot_stays c s t) n from m sent
 
-    served : AllServed ⊥ (MayAsk scene) (lines_at c (node.Target t) heard)
-    served = comes_served (MayAsk scene) its (next_at c (node.Target t)) n from m (target_serves c s t) arrives.served
+    served : AllServed ⊥ (MayAsk scene) head.clients (lines_at c (node.Target t) heard)
+    served = comes_served (MayAsk scene) head.clients its (next_at c (node.Target t)) n from m (target_quiet c s t) arrives.served
 
     -- where it is up
     pub comes_makes : its.up ≡ true → length c.turns < 65536 → Makes c (node.Target t) heard
     comes_makes up few =
-        let serves_now = target_serves c s t in
-        served_makes ⊥ c t heard s few (arrives.one, target_unfailed head t (past_of c) (unfailed c s), up, sent) served
-        (comes_below (length c.turns) its serves_now (s.below t) (MayAsk scene) (next_at c (node.Target t)) n from m arrives.served arrives.fits)
-        (let low = s.ticks t in let same = served_still (MayAsk scene) its (lines_at c (node.Target t) heard) served in omega (arith, low, same))
+        served_makes ⊥ c t heard s few arrives.one (arrives.one, target_unfailed head t (past_of c) (unfailed c s), up, sent) served
+        (comes_below (length c.turns) head.clients its (target_quiet c s t) (s.below t) (MayAsk scene) (next_at c (node.Target t)) n from m arrives.served arrives.fits)
+        (let low = s.ticks t in let same = served_still (MayAsk scene) head.clients its (lines_at c (node.Target t) heard) served in omega (arith, low, same))
 
     pub comes_timely : (left : ℕ) → Timely scene left (past_of c) → Timely scene left (past_of (made c (node.Target t) heard))
     comes_timely left time = target_timely c t heard left served time
@@ -347,7 +363,7 @@ module _ (scene : Scene) (covered : IsCovered scene) where
 
   -- where no turn asks a disk none does
   uncalled : (c : Config) → Sound scene c → AsksNoDisk scene → (t : ℕ) → called_at t (past_of c) ≡ [] → (target_of head t (past_of c)).called ≡ []
-  uncalled c s quiet t none = called_same (MayAsk scene) head.osts (λ may. may quiet) (setting_of head t) head.clients (past_of c) s.suits s.covered ∙ none
+  uncalled c s quiet t none = called_same (MayAsk scene) head.osts (λ may. may quiet) (setting_of head t) head.clients (past_of c) s.suits ∙ none
 
   pub names_due : (c : Config) (left : ℕ) → Sound scene c → Timely scene (left + 1) (past_of c) → AsksNoDisk scene → NoneDue c 0
   names_due c left s time quiet = by (time quiet)
@@ -368,13 +384,13 @@ module _ (scene : Scene) (covered : IsCovered scene) where
     expires who gone e quiet = let due = none quiet in absurd (cc)
 
     counts : (target_turn it (lines_at c (node.Target t) target.Ticks)).ticks ≤ it.ticks + 1
-    counts = tick_counts (MayAsk scene) it (next_at c (node.Target t)) (target_serves c s t) expires
+    counts = tick_counts (MayAsk scene) head.clients it (next_at c (node.Target t)) (target_quiet c s t) expires
 
     pub tick_makes : length c.turns < 65536 → t ≤ head.osts → Makes c (node.Target t) target.Ticks
     tick_makes few one =
-        served_makes (Unit {0}) c t target.Ticks s few (command_meets head (past_of c) t target.Ticks tt one (unfailed c s))
-        (tick_served (MayAsk scene) it (next_at c (node.Target t)) (target_serves c s t) expires)
-        (tick_below (length c.turns) it (next_at c (node.Target t)) (target_serves c s t) (s.below t))
+        served_makes (Unit {0}) c t target.Ticks s few one (command_meets head (past_of c) t target.Ticks tt one (unfailed c s))
+        (tick_served (MayAsk scene) head.clients it (next_at c (node.Target t)) (target_quiet c s t) expires)
+        (tick_below (length c.turns) head.clients it (next_at c (node.Target t)) (target_quiet c s t) (s.below t))
         (let low = s.ticks t in let same = counts in omega (arith, low, same))
 
   -- at the metadata target one tick less is left

@@ -1,6 +1,7 @@
 -- The scenarios whose runs the theorem covers so far: clients begin calls on names, opens and closes among them, messages come or are lost, time
--- goes on, clients die, targets commit, all of it or some, or are told to close a window that they don't have, or crash, and stay down. A `stat`
--- must find no file, whose size it would ask for. Whoever doesn't give back a lock in time is evicted, and joins in a new life.
+-- goes on, clients die, and targets are given all commands: they commit, all of it or some, crash, boot, recover and close their windows, when
+-- they are told to or once every life is back. A `stat` must find no file, whose size it would ask for. Whoever doesn't give back a lock in
+-- time, or doesn't come back in a window, is evicted, and joins in a new life.
 use Rattle.std.specs.Prelude.{◌<◌, ◌+◌, ℕ, zero, List, [], ◌∷◌, All, ◌⊎◌}
 use Rattle.lu_base.specs.declared.ids.Node.TheVariants.{Target}
 use Rattle.lu_msg.specs.declared.calls.Call.{Call as CallOf}
@@ -54,9 +55,9 @@ IsLineCovered Files (Tick node) = Unit {0}
 IsLineCovered Files (Commit target) = Unit {0}
 IsLineCovered Files (CommitSome target count) = Unit {0}
 IsLineCovered Files (Crash target) = Unit {0}
+IsLineCovered Files (Boot target) = Unit {0}
 IsLineCovered Files (Close target) = Unit {0}
 IsLineCovered Files (Die client) = Unit {0}
-IsLineCovered Files _ = ⊥
 
 -- these are all lines of a scenario, and one that is covered among them
 abbrev pub IsCoveredIn : List SceneLine → SceneLine → Type 0

@@ -11,8 +11,9 @@ ghost use Rattle.lu_lawful.specs.Lawful.{Lawful};
 ghost use Rattle.lu_covered_scenes.specs.Covered.{IsCovered, AsksNoDisk};
 
 /// Whatever a covered scenario comes to, where no call to a disk has failed, is a covered run of the whole table, so its
-/// trace is lawful. And where no line gives a command to a target and the lines show that no client is evicted none
-/// has, unless one at a target's start: its turns make no other.
+/// trace is lawful: also where targets crash, boot, recover and close their windows. And where no line gives a command
+/// to a target and the lines show that no client is evicted no call has failed, unless one at a target's start: its
+/// turns make no other.
 pub fn scenes_are_lawful()
     ensures run { (scene : Scene) → IsCovered scene → let head = head_of scene.head in (disks : Disks) (c : Config)
         → Leads head disks (start head disks scene) c → has_failed (past_of c) ≡ false → IsRun head c.turns }

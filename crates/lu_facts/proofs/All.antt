@@ -1,70 +1,65 @@
 -- All groups, over every grown past.
-use Rattle.std.proofs.Common.{ℕ, List, [], ◌∷◌, refl, arith}
+use Rattle.std.proofs.Common.{ℕ, List, [], ◌∷◌}
 use Rattle.lu_base.specs.declared.ids.Node.{Node}
 use Rattle.lu_base.specs.declared.ids.Stamp.{Stamp}
 use Rattle.lu_words.specs.Words.{Entry, Line, line}
 use Rattle.lu_words.specs.Concerns.{only}
 use Rattle.lu_covered.specs.Heads.{Head}
 use Rattle.lu_guards.proofs.StoryGuards.{EntryOf}
-use Rattle.lu_guards.proofs.Grown.{IsOfFirst, IsOneOf, Allowed, Grown, GrownOf}
+use Rattle.lu_guards.proofs.Grown.{IsOfFirst, IsPlaced, Allowed, Grown, GrownOf}
 use Rattle.lu_guards.proofs.Only.{grown_of}
 use Rattle.lu_facts.proofs.Groups.{turn, Done, Locks, HoldsAt, Reaches, Holds}
-use Rattle.lu_facts.proofs.Phase.{keeps_phase}
-use Rattle.lu_facts.proofs.Boots.{keeps_boots}
-use Rattle.lu_facts.proofs.Numbers.{keeps_numbers, keeps_room}
-use Rattle.lu_facts.proofs.Done.{keeps_done}
+use Rattle.lu_facts.proofs.Phase.{phase_start, keeps_phase}
+use Rattle.lu_facts.proofs.Boots.{boots_start, keeps_boots}
+use Rattle.lu_facts.proofs.Numbers.{numbers_start, keeps_numbers, room_start, keeps_room}
+use Rattle.lu_facts.proofs.Done.{done_start, keeps_done}
+use Rattle.lu_facts.proofs.DiskSlots.{disk_start, keeps_disk, comes_start, keeps_comes}
 use Rattle.lu_facts.proofs.Locks.{locks_start, keeps_locks}
 use Rattle.lu_facts.proofs.Lives.{lives_start, keeps_lives}
+use Rattle.lu_facts.proofs.Keeps.{keeps_start, keeps_keeps}
+use Rattle.lu_facts.proofs.Recovers.{recovers_start, keeps_recovers}
+use Rattle.lu_facts.proofs.HistoryLines.{history_start}
+use Rattle.lu_facts.proofs.History.{keeps_history}
 use Rattle.lu_facts.proofs.Asks.{keeps_asks}
 use Rattle.lu_facts.proofs.Times.{keeps_reaches, keeps_since}
 use Rattle.lu_facts.proofs.Replies.{keeps_replies}
 
 -- ---- at one target
 
-step_at : (head : Head) (past : List Line) (stamp : Stamp) (node : Node) (e : Entry) → EntryOf head past (turn stamp node) node e → IsOfFirst e → IsOneOf head node → HoldsAt head past → HoldsAt head (line (turn stamp node) e ∷ past)
-step_at head past stamp node e ok first one h =
-    let done : Done head.osts (line (turn stamp node) e ∷ past) = keeps_done head past stamp node e ok h.phase h.numbers h.done in
-    let locks : Locks head.osts (line (turn stamp node) e ∷ past) = keeps_locks head past stamp node e ok first h.phase h.numbers h.done h.locks in
+step_at : (head : Head) (past : List Line) (stamp : Stamp) (node : Node) (e : Entry) → EntryOf head past (turn stamp node) node e → IsOfFirst e → IsPlaced head past (line (turn stamp node) e) → HoldsAt head past → HoldsAt head (line (turn stamp node) e ∷ past)
+step_at head past stamp node e ok first placed h =
+    let done : Done head.osts head.clients (line (turn stamp node) e ∷ past) = keeps_done head past stamp node e ok h in
+    let locks : Locks head.osts head.clients (line (turn stamp node) e ∷ past) = keeps_locks head past stamp node e ok first placed h in
     record {
-      phase = keeps_phase head past stamp node e ok h.done h.boots h.phase;
-      numbers = keeps_numbers head past stamp node e ok h.phase h.numbers;
-      room = keeps_room head past stamp node e ok h.room;
+      phase = keeps_phase head past stamp node e ok h;
+      numbers = keeps_numbers head past stamp node e ok h;
+      room = keeps_room head past stamp node e ok h;
       done = done;
       locks = locks;
-      lives = keeps_lives head past stamp node e ok one h.done done locks h.lives;
-      boots = keeps_boots head past stamp node e ok h.phase h.boots;
+      lives = keeps_lives head past stamp node e ok placed h done locks;
+      boots = keeps_boots head past stamp node e ok h;
+      keeps = keeps_keeps head past stamp node e ok h done;
+      recovers = keeps_recovers head past stamp node e ok h;
+      history = keeps_history head past stamp node e ok first placed h;
+      disk = keeps_disk head past stamp node e ok placed h;
+      comes = keeps_comes head past stamp node e ok placed h;
     }
 
 first_at : (head : Head) → HoldsAt head []
 first_at head =
     record {
-      phase = record { closed = refl; low = omega arith; count = omega arith; least = λ c. omega arith; known = λ c. omega arith; served = λ c s. refl; client = λ c. refl; positive = λ c. omega arith };
-      numbers = record {
-        positive = λ who f i. absurd i;
-        tagged = λ who f i. absurd i;
-        one = λ who f g i. absurd i;
-        flying = λ who f i. absurd i;
-        tags = λ who f g i. absurd i;
-        over = λ who x i. absurd i;
-        stays = λ who f i. absurd i;
-        after = λ who f g i. absurd i;
-        lived = λ who f i. absurd i;
-      };
-      room = λ who. omega arith;
-      done = record {
-        flew = λ d a. absurd a;
-        high = λ d a. absurd a;
-        kept = λ who tag k e. absurd (cc);
-        slots = λ who tag k e. absurd (cc);
-        heard = λ who x i. absurd i;
-        boots = λ d a. absurd a;
-        waits = λ r i. absurd i;
-        sent = λ from to m s. absurd s;
-        once = λ d e a. absurd a;
-      };
-      locks = locks_start head.osts;
+      phase = phase_start head.osts;
+      numbers = numbers_start;
+      room = room_start head;
+      done = done_start head.osts head.clients;
+      locks = locks_start head.osts head.clients;
       lives = lives_start head.clients;
-      boots = λ from to m w. absurd w;
+      boots = boots_start head.osts;
+      keeps = keeps_start head.osts;
+      recovers = recovers_start head.osts head.clients;
+      history = history_start head.osts head.clients;
+      disk = disk_start head.osts head.clients;
+      comes = comes_start head.osts head.clients;
     }
 
 pub holds_at : (head : Head) (past : List Line) → GrownOf head past → HoldsAt head past

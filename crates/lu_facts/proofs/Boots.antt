@@ -1,5 +1,5 @@
 -- A message's boot is one that its target has had: what a client sends is of the boot that it knows, and what a target sends of its own.
-use Rattle.std.proofs.Common.{◌≡◌, ℕ, ◌≤◌, List, ◌∷◌, ◌⊎◌, ⊎_elim, subst, ap, arith}
+use Rattle.std.proofs.Common.{◌≡◌, ℕ, ◌≤◌, List, [], ◌∷◌, ◌⊎◌, ⊎_elim, subst, ap, arith}
 use Rattle.lu_base.specs.declared.ids.Node.{Node}
 use Rattle.lu_base.specs.declared.ids.Node.TheVariants.{Client, Target}
 use Rattle.lu_base.specs.declared.ids.Stamp.{Stamp}
@@ -13,7 +13,7 @@ use Rattle.lu_covered.specs.ClientStates.{known_of}
 use Rattle.lu_covered.specs.Heads.{Head}
 use Rattle.lu_guards.proofs.Guards.{Was}
 use Rattle.lu_guards.proofs.StoryGuards.{SendOf, EntryOf}
-use Rattle.lu_facts.proofs.Groups.{turn, Phase, BootIn, Boots}
+use Rattle.lu_facts.proofs.Groups.{turn, Phase, BootIn, Boots, HoldsAt}
 
 in_more : (most more : ℕ) → most ≤ more → (m : Message) → BootIn most m → BootIn more m
 in_more most more le (message.Request r) h = let x = h.1 in (h.0, omega arith)
@@ -43,10 +43,10 @@ sent_in : (head : Head) (past : List Line) (node to : Node) (m : Message) → Se
 sent_in head past (Client c) (Target t) (message.Request r) ok p = known_had head.osts past c r.boot (ap (λ (v : RequestOf). v.boot) ok.is) p
 sent_in head past (Client c) (Target t) (message.Cancel who boot cookie) ok p = known_had head.osts past c boot ok.of_boot p
 sent_in head past (Client c) (Target t) (message.Join who boot) ok p = known_had head.osts past c boot ok.of_boot p
-sent_in head past (Client c) (Target t) (message.Replay r) ok p = known_had head.osts past c r.boot ok.of_boot p
-sent_in head past (Client c) (Target t) (message.Lock r) ok p = known_had head.osts past c r.boot ok.of_boot p
-sent_in head past (Client c) (Target t) (message.Word who boot replays locks seen) ok p = known_had head.osts past c boot ok.of_boot p
-sent_in head past (Target t) (Client c) (message.Up boot) ok p = own_had head.osts past boot ok p
+sent_in head past (Client c) (Target t) (message.Replay r) ok p = known_had head.osts past c r.boot ok.tells.of_boot p
+sent_in head past (Client c) (Target t) (message.Lock r) ok p = known_had head.osts past c r.boot ok.tells.of_boot p
+sent_in head past (Client c) (Target t) (message.Word who boot replays locks seen) ok p = known_had head.osts past c boot ok.tells.of_boot p
+sent_in head past (Target t) (Client c) (message.Up boot) ok p = own_had head.osts past boot ok.of_boot p
 sent_in head past (Target t) (Client c) (message.Reply k) ok p = own_had head.osts past k.boot (ap (λ (v : ReplyTo). v.boot) ok.is) p
 sent_in head past (Target t) (Client c) (message.Block who boot cookie) ok p = own_had head.osts past boot ok.of_boot p
 sent_in head past (Target t) (Client c) (message.Ready who boot committed) ok p = own_had head.osts past boot ok.of_boot p
@@ -58,9 +58,11 @@ more_in : (most : ℕ) (past : List Line) (node to : Node) (m : Message) → Boo
     → (from into : Node) (p : Message) → ((node ≡ from) × (to ≡ into) × (m ≡ p)) ⊎ Was past from into p → BootIn most p
 more_in most past node to m now old from into p = ⊎_elim (λ (q : (node ≡ from) × (to ≡ into) × (m ≡ p)). subst (BootIn most) q.2 now) (λ (w : Was past from into p). old from into p w)
 
-pub keeps_boots : (head : Head) (past : List Line) (stamp : Stamp) (node : Node) (e : Entry) → EntryOf head past (turn stamp node) node e → Phase head.osts past
-    → Boots head.osts past → Boots head.osts (line (turn stamp node) e ∷ past)
-keeps_boots head past stamp (Client c) (Send to m) ok p h = more_in (server_of head.osts past).boot past (Client c) to m (sent_in head past (Client c) to m ok p) h
-keeps_boots head past stamp (Target t) (Send to m) ok p h = more_in (server_of head.osts past).boot past (Target t) to m (sent_in head past (Target t) to m ok p) h
-keeps_boots head past stamp (Target t) (Boot boot disk) ok p h = λ from to m w. in_more (server_of head.osts past).boot boot (let n = ok.next in omega arith) m (h from to m w)
-keeps_boots head past stamp node e ok p h = h
+pub boots_start : (osts : ℕ) → Boots osts []
+boots_start osts from to m w = absurd w
+
+pub keeps_boots : (head : Head) (past : List Line) (stamp : Stamp) (node : Node) (e : Entry) → EntryOf head past (turn stamp node) node e → HoldsAt head past → Boots head.osts (line (turn stamp node) e ∷ past)
+keeps_boots head past stamp (Client c) (Send to m) ok h = more_in (server_of head.osts past).boot past (Client c) to m (sent_in head past (Client c) to m ok h.phase) h.boots
+keeps_boots head past stamp (Target t) (Send to m) ok h = more_in (server_of head.osts past).boot past (Target t) to m (sent_in head past (Target t) to m ok h.phase) h.boots
+keeps_boots head past stamp (Target t) (Boot boot disk) ok h = λ from to m w. in_more (server_of head.osts past).boot boot (let n = ok.next in omega arith) m (h.boots from to m w)
+keeps_boots head past stamp node e ok h = h.boots

@@ -179,6 +179,13 @@ module _ (osts : ℕ) (t : Tree) (a : Operation) (bound : ℕ) (new : bound < a.
     tells_on (part.Layout f) b kinds le lies k = k ∙ ap told.Layout (others (part.Layout f) le (apart_by (part.Layout f) f LAYOUT lies (record { is = refl; inode = tt })))
     tells_on _ b kinds le lies k = absurd k
 
+    -- a name that leads to what the lock is on isn't written, and leads there still; the root stands for good
+    pub place_stays : (c : Child) → OneKind t → (fid_of c ≡ fid_of root) ⊎ Guards l (fid_of c) LOOKUP → (d : Fid) (n : List ℕ) → child t d n ≡ Some c → d.0 ≤ bound → (c ≡ root) ⊎ ((child next d n ≡ Some c) × Apart (writes osts t a) (part.Name d n))
+    place_stays c kinds (inl e) d n leads le = inl (kinds c root (inr (d, (n, leads))) (inl refl) e)
+    place_stays c kinds (inr g) d n leads le =
+        let apart = apart_by (part.Parent (fid_of c)) (fid_of c) LOOKUP g (record { is = refl; inode = tt }) in
+        inr (leads_on d n c le leads apart, unwritten t a.number a.who d n c leads (outcome_of osts t a) (comes osts t a) apart)
+
     pub fact_stays : (f : Fact) → OneKind t → Lies l f → Tells t bound f → Tells next bound f
     fact_stays f kinds lies k = record { low = k.low; is = tells_on f.part f.answer kinds k.low lies k.is }
 
@@ -319,17 +326,42 @@ sound_empty bound le = record { least = le; low = λ d n c is. absurd (nothing d
     only c (inl e) = e
     only c (inr p) = absurd (nothing p.0 p.1.0 c p.1.1)
 
--- ---- a life that leaves takes its opens with it: names, attributes, lists and layouts stay
+-- ---- a fact is true of each tree that holds the same there, and where what its attributes are of stands
 
-pub tells_forget : (t : Tree) (who : Who) (bound : ℕ) (f : Fact) → Tells t bound f → Tells (forget t who) bound f
-tells_forget t who bound f k = record { low = k.low; is = by f.part f.answer k.is }
+abbrev pub Placed : Tree → Tree → ℕ → Part → Type 0
+Placed t u bound (part.Attr f) = (c : Child) → fid_of c ≡ f → IsPlaced t bound c → IsPlaced u bound c
+Placed t u bound _ = Unit {0}
+
+pub tells_same : (t u : Tree) (bound : ℕ) (f : Fact) → Same t u f.part → Placed t u bound f.part → Tells t bound f → Tells u bound f
+tells_same t u bound f same placed k = record { low = k.low; is = by f.part f.answer same placed k.is }
   where
-    by : (p : Part) (a : Answer) → TellsOf t bound p a → TellsOf (forget t who) bound p a
-    by (part.Name d n) a k = k
-    by (part.List d) a k = k
-    by (part.Attr g) a k = k
-    by (part.Layout g) a k = k
-    by _ a k = absurd k
+    attr : (g : Fid) (a : Answer) → Same t u (part.Attr g) → ((c : Child) → fid_of c ≡ g → IsPlaced t bound c → IsPlaced u bound c) → TellsAttr t bound g a → TellsAttr u bound g a
+    attr g a s p (inl k) = inl (k.0 ∙ ap (λ (x : Attributes). told.DirStat g x.mode) s.0, p (Dir g) refl k.1)
+    attr g a s p (inr k) = inr (k.0, k.1 ∙ ap (λ (x : Attributes). told.FileStat g x.mode x.links k.0) s.1, p (File g) refl k.2)
 
+    by : (p : Part) (a : Answer) → Same t u p → Placed t u bound p → TellsOf t bound p a → TellsOf u bound p a
+    by (part.Name d n) a s p k = record { to = k.to; leads = sym s ∙ k.leads; is = k.is; short = k.short }
+    by (part.List d) a s p k = k ∙ ap told.Names s
+    by (part.Attr g) a s p k = attr g a s p k
+    by (part.Layout g) a s p k = k ∙ ap told.Layout s
+    by _ a s p k = absurd k
+
+-- all is the same in both
+pub tells_all : (t u : Tree) (bound : ℕ) (f : Fact) → ((p : Part) → Same t u p) → Tells t bound f → Tells u bound f
+tells_all t u bound f same k = tells_same t u bound f (same f.part) (by f.part) k
+  where
+    placed : (c : Child) → IsPlaced t bound c → IsPlaced u bound c
+    placed c (inl e) = inl e
+    placed c (inr p) = inr (p.0, p.1, sym (same (part.Name p.0 p.1)) ∙ p.2, p.3)
+
+    by : (p : Part) → Placed t u bound p
+    by (part.Attr g) = λ c e p. placed c p
+    by (part.Name d n) = tt
+    by (part.List d) = tt
+    by (part.Layout g) = tt
+    by (part.Parent g) = tt
+    by (part.Bytes g stripe extent) = tt
+
+-- a life that leaves takes its opens with it: no name leads elsewhere
 pub sound_forget : (t : Tree) (who : Who) (bound : ℕ) → IsSound t bound → IsSound (forget t who) bound
 sound_forget t who bound h = h

@@ -1,7 +1,7 @@
 -- A path that leads to a file was made by a call that makes such; so where no call asks for the attributes of such a path, each reply is
 -- told at once.
-use Rattle.std.proofs.Common.{◌≡◌, ℕ, Bool, true, false, List, [], ◌∷◌, Option, Some, None, ◌⊎◌, inl, inr, ⊎_elim, refl, sym, subst, ap, ◌∙◌, arith, pos}
-use Rattle.std.specs.Prelude.{nat_eq, if◌then◌else◌}
+use Rattle.std.proofs.Common.{◌≡◌, ◌+◌, ◌*◌, ◌<◌, ℕ, List, [], ◌∷◌, Option, Some, None, ◌⊎◌, inl, inr, ⊎_elim, refl, sym, subst, ap, ◌∙◌, arith, pos}
+use Rattle.std.specs.Prelude.{nat_eq}
 use Rattle.lu_base.specs.declared.ids.At.{At}
 use Rattle.lu_base.specs.declared.ids.Node.{Node}
 use Rattle.lu_base.specs.declared.ids.Node.TheVariants.{Client, Target}
@@ -13,18 +13,19 @@ use Rattle.lu_msg.specs.declared.operations.Op.{Op}
 use Rattle.lu_msg.specs.declared.operations.Op.TheVariants as op
 use Rattle.lu_machine.specs.declared.child.Child.{Child}
 use Rattle.lu_machine.specs.declared.child.Child.TheVariants.{Dir, File}
-use Rattle.lu_machine.specs.Footprint.{after, answer, empty, forget}
+use Rattle.lu_part.specs.declared.parts.Part.TheVariants as part
+use Rattle.lu_machine.specs.Footprint.{Operation, after, answer, empty, forget}
+use Rattle.lu_machine.specs.Removal.{contents}
 use Rattle.lu_machine.specs.Paths.{at_path}
 use Rattle.lu_machine.specs.Plan.{Outcome, outcome}
 use Rattle.lu_machine.specs.Table.{root, last_of, row_stat}
 use Rattle.lu_machine.specs.Tree.{Tree}
 use Rattle.lu_machine.proofs.Fits.{answers_fit}
-use Rattle.lu_machine.proofs.Made.{named_empty}
+use Rattle.lu_machine.proofs.Made.{Named, named_wide, named_empty}
 use Rattle.lu_machine.proofs.Paths.{steps_lead, walk_steps}
 use Rattle.lu_words.specs.Carried.{Deed, HandleFile}
-use Rattle.lu_words.specs.Words.{Entry, Tick, Act, Txn as Made, Evict, Line, line}
+use Rattle.lu_words.specs.Words.{Entry, Act, Txn as Made, Line, line}
 use Rattle.lu_words.specs.Concerns.{only}
-use Rattle.lu_covered.specs.TargetParts.{operation}
 use Rattle.lu_covered.specs.TargetStates.{none, tree_at, server_of, next_number}
 use Rattle.lu_covered.specs.Calls.{operation_of}
 use Rattle.lu_covered.specs.Deeds.{asked}
@@ -33,12 +34,16 @@ use Rattle.lu_covered.specs.Heads.{Head}
 use Rattle.lu_guards.proofs.StoryGuards.{ActOk, TxnOk}
 use Rattle.lu_guards.proofs.Grown.{Allowed, Grown}
 use Rattle.lu_guards.proofs.Parts.{tree_is}
-use Rattle.lu_facts.proofs.Groups.{turn, Acted}
+use Rattle.lu_facts.proofs.Groups.{turn, Acted, items_of, HoldsAt}
+use Rattle.lu_facts.proofs.Lines.{acted_whole}
+use Rattle.lu_facts.proofs.All.{holds}
+use Rattle.lu_facts.proofs.OverItems.{over_now}
+use Rattle.lu_facts.proofs.Grafts.{named_fewer}
 use Rattle.lu_facts.proofs.OnNames.{IsPlain, op_is, becomes_on_names, other_plain}
 use Rattle.lu_facts.proofs.Asked.{Began, began_more, AskedBy, acted_asked}
 use Rattle.lu_facts.proofs.Ways.{leads_still}
 use Rattle.lu_facts.proofs.Named.{FileBy, Filed, named_so}
-use Rattle.lu_facts.proofs.Finds.{Made_in, numbers_at, number_next, named}
+use Rattle.lu_facts.proofs.Finds.{Made_in, named_act}
 
 -- ---- the tree
 
@@ -77,32 +82,36 @@ filed_empty Files path f led = by path ((named_empty (λ p. ⊥) 1 (omega arith)
     by (n ∷ ns) (inl e) led = absurd (cc)
     by (n ∷ ns) (inr none) led = absurd none
 
+-- each transaction that stands was asked by a call
 pub filed : (head : Head) (past : List Line) → Grown head past → Filed (File_in past) (tree_at head.osts 0 past)
-filed head [] g = filed_empty (File_in [])
-filed head (l ∷ past) g = by l.at.node l.entry g.0 (λ d x. acted_asked head (l ∷ past) d g x) (filed head past g.1)
+filed head past g =
+    subst (Filed (File_in past)) (sym (tree_is head.osts 0 past))
+    (λ path f led. left.1 path f (leads_still (contents head.osts empty (items_of head.osts story)) (server_of head.osts story).tree (λ d n c is. at.history.tree (part.Name d n) ∙ is) root path (File f) led))
   where
-    wide : (e : Entry) → Filed (File_in past) (tree_at head.osts 0 past) → Filed (File_in (line l.at e ∷ past)) (tree_at head.osts 0 past)
-    wide e h = λ path f led. file_more (line l.at e) past path (h path f led)
+    story : List Line
+    story = only 0 past
 
-    made : (at : At) (d : Deed) → TxnOk head.osts (only 0 past) at d → AskedBy past d.op → Filed (File_in past) (tree_at head.osts 0 past) → Filed (File_in past) (after head.osts (tree_at head.osts 0 past) (operation d))
-    made at d ok a h =
-        let n = number_next head past g.1 at d ok in
-        let so = named_so head.osts (tree_at head.osts 0 past) d.reply.txn d.reply.who (Made_in past) (File_in past) (numbers_at past) (named head past g.1) h (omega (arith, n)) d.op (becomes_on_names a.2 a.0 d.op a.3) in
-        λ path f led. ⊎_elim (λ (x : File_in past path). x) (λ (x : FileBy d.op path). files_asked past d.op path a x) (so.1 path f led)
+    at : HoldsAt head story
+    at = (holds head past g).at 0
 
-    by : (node : Node) (e : Entry) → Allowed head past (turn l.at.stamp node) e → ((d : Deed) → Acted (line l.at e ∷ past) d → AskedBy (line l.at e ∷ past) d.op) → Filed (File_in past) (tree_at head.osts 0 past)
-        → Filed (File_in (line (turn l.at.stamp node) e ∷ past)) (tree_at head.osts 0 (line (turn l.at.stamp node) e ∷ past))
-    by (Client c) (Made d) k a h = absurd k.ok
-    by (Target t) (Made d) k a h =
-        subst (λ (v : ℕ). Filed (File_in past) (tree_at head.osts 0 (line (turn l.at.stamp (Target v)) (Made d) ∷ past))) (sym k.ok)
-        (made (turn l.at.stamp (Target t)) d (k.of 0 (ap (λ (v : ℕ). nat_eq 0 v) k.ok)) (a d (inl refl)) h)
-    by (Target t) (Evict who cause) k a h = by_own (nat_eq 0 t)
-      where
-        by_own : (b : Bool) → Filed (File_in past) (if b then forget (tree_at head.osts 0 past) who else tree_at head.osts 0 past)
-        by_own true = λ path f led. h path f (leads_still (tree_at head.osts 0 past) (forget (tree_at head.osts 0 past) who) (λ d n c is. is) root path (File f) led)
-        by_own false = h
-    by (Target t) Tick k a h = wide Tick h
-    by _ e k a h = wide e h
+    Both : ℕ → Tree → Type 0
+    Both n t = Named (Made_in past) n t × Filed (File_in past) t
+
+    made : (t : Tree) (a : Operation) (n : ℕ) → AskedBy past a.op → n < a.number.0 → Both n t → Both a.number.0 (after head.osts t a)
+    made t a n b lt h = (
+      named_act head.osts past t a n b lt h.0,
+      λ path f led. ⊎_elim
+          (λ (x : File_in past path). x)
+          (λ (x : FileBy a.op path). files_asked past a.op path b x)
+          ((named_so head.osts t a.number a.who (Made_in past) (File_in past) n h.0 h.1 lt a.op (becomes_on_names b.2 b.0 a.op b.3)).1 path f led),
+    )
+
+    left : Both ((server_of head.osts story).boot * 4294967296 + (server_of head.osts story).count) (contents head.osts empty (items_of head.osts story))
+    left =
+        over_now head story (λ n t. Both n t) (λ n le. (named_empty (Made_in past) n le, filed_empty (File_in past)))
+        (λ is a n ok lt h. made (contents head.osts empty is) a n (subst (AskedBy past) (ap (λ (x : Operation). x.op) ok.operates) (acted_asked head past ok.deed g (acted_whole 0 past ok.deed ok.acted))) lt h)
+        (λ n t who h. (named_fewer (Made_in past) n t (forget t who) (λ d m c is. is) h.0, λ path f led. h.1 path f (leads_still t (forget t who) (λ d m c is. is) root path (File f) led)))
+        (λ n m t le h. (named_wide (Made_in past) (Made_in past) n m t (λ path x. x) le h.0, h.1)) at
 
 -- ---- answers
 

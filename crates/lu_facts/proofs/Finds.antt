@@ -1,6 +1,6 @@
 -- A reading whose path no call makes finds nothing: what acts was asked by a call that began, and a path leads somewhere only
 -- once a call made it. So a run in which no call makes what another looks for needs no lock.
-use Rattle.std.proofs.Common.{◌≡◌, ◌≤◌, ℕ, Bool, true, false, ◌+◌, ◌*◌, List, [], ◌∷◌, Option, Some, None, ◌⊎◌, inl, ⊎_elim, refl, sym, subst, ap, ◌∙◌, arith, pos}
+use Rattle.std.proofs.Common.{◌≡◌, ◌<◌, ◌≤◌, ℕ, Bool, true, false, ◌+◌, ◌*◌, List, [], ◌∷◌, Option, Some, None, ◌⊎◌, ⊎_elim, refl, sym, subst, ap, ◌∙◌, arith, pos}
 use Rattle.std.specs.Prelude.{nat_eq, if◌then◌else◌}
 use Rattle.lu_base.specs.declared.ids.At.{At}
 use Rattle.lu_base.specs.declared.ids.Node.{Node}
@@ -10,22 +10,25 @@ use Rattle.lu_msg.specs.declared.calls.Call.{Call}
 use Rattle.lu_msg.specs.declared.calls.Call.TheVariants as call
 use Rattle.lu_msg.specs.declared.operations.Op.{Op}
 use Rattle.lu_msg.specs.declared.operations.Op.TheVariants as op
-use Rattle.lu_machine.specs.Footprint.{grants, after, forget}
+use Rattle.lu_part.specs.declared.parts.Part.TheVariants as part
+use Rattle.lu_machine.specs.Tree.{Tree}
+use Rattle.lu_machine.specs.Footprint.{Operation, empty, grants, after, forget}
+use Rattle.lu_machine.specs.Removal.{contents}
 use Rattle.lu_machine.proofs.Made.{Named, named_wide, named_empty}
-use Rattle.lu_words.specs.Carried.{Deed, HandleFile}
-use Rattle.lu_words.specs.Words.{Entry, Tick, Txn as Made, Boot, Evict, Line, line}
+use Rattle.lu_words.specs.Carried.{Deed, HandleFile, Disk}
+use Rattle.lu_words.specs.Words.{Entry, Tick, Txn as Made, Boot, Line, line}
 use Rattle.lu_words.specs.Concerns.{only}
-use Rattle.lu_covered.specs.TargetParts.{operation}
-use Rattle.lu_covered.specs.TargetStates.{none, boot_at, count_at, tree_at, server_of}
+use Rattle.lu_covered.specs.TargetStates.{Server, none, boot_at, count_at, tree_at, server_of}
 use Rattle.lu_covered.specs.Calls.{operation_of}
 use Rattle.lu_covered.specs.Makes.{Path, CallMakes, Misses}
 use Rattle.lu_covered.specs.Heads.{Head}
 use Rattle.lu_guards.proofs.StoryGuards.{TxnOk, BootOk}
 use Rattle.lu_guards.proofs.Grown.{Allowed, Grown}
-use Rattle.lu_guards.proofs.Parts.{boot_is, count_is}
-use Rattle.lu_facts.proofs.Groups.{turn, Acted}
-use Rattle.lu_facts.proofs.Phase.{serves_first}
+use Rattle.lu_guards.proofs.Parts.{boot_is, count_is, tree_is}
+use Rattle.lu_facts.proofs.Groups.{turn, items_of, HoldsAt}
+use Rattle.lu_facts.proofs.Lines.{acted_whole}
 use Rattle.lu_facts.proofs.All.{holds}
+use Rattle.lu_facts.proofs.OverItems.{over_now}
 use Rattle.lu_facts.proofs.OnNames.{op_is, becomes_on_names}
 use Rattle.lu_facts.proofs.Asked.{Began, began_more, AskedBy, acted_asked}
 use Rattle.lu_facts.proofs.Grafts.{named_fewer}
@@ -62,14 +65,6 @@ call_makes file k o path e m = absurd (cc)
 makes_asked : (past : List Line) (o : Op) (path : Path) → AskedBy past o → Makes o path → Made_in past path
 makes_asked past o path a m = (a.0, a.1, call_makes a.2 a.0 o path a.3 m)
 
--- the number of a transaction
-pub number_is : (head : Head) (past : List Line) → Grown head past → (at : At) (d : Deed) → TxnOk head.osts (only 0 past) at d → d.reply.txn.0 ≡ 4294967296 + (count_at 0 past + 1)
-number_is head past g at d ok =
-    let b = serves_first head.osts (only 0 past) ((holds head past g).at 0).phase ok.serves in
-    let c = count_is head.osts 0 past in
-    let n : d.reply.txn.0 ≡ (server_of head.osts (only 0 past)).boot * 4294967296 + ((server_of head.osts (only 0 past)).count + 1) = ap (λ (e : Deed). e.reply.txn.0) ok.is in
-    n ∙ ap (λ (k : ℕ). k * 4294967296 + ((server_of head.osts (only 0 past)).count + 1)) b ∙ ap (λ (k : ℕ). 4294967296 + (k + 1)) (sym c)
-
 -- the highest number so far, and the first of a boot where there is none
 abbrev pub numbers_at : List Line → ℕ
 numbers_at past = boot_at 0 past * 4294967296 + count_at 0 past
@@ -77,13 +72,14 @@ numbers_at past = boot_at 0 past * 4294967296 + count_at 0 past
 -- a transaction has the next one
 pub number_next : (head : Head) (past : List Line) → Grown head past → (at : At) (d : Deed) → TxnOk head.osts (only 0 past) at d → d.reply.txn.0 ≡ numbers_at past + 1
 number_next head past g at d ok =
-    let n = number_is head past g at d ok in
-    let b = boot_is head.osts 0 past ∙ serves_first head.osts (only 0 past) ((holds head past g).at 0).phase ok.serves in
-    omega (arith, n, b)
+    let n : d.reply.txn.0 ≡ (server_of head.osts (only 0 past)).boot * 4294967296 + ((server_of head.osts (only 0 past)).count + 1) = ap (λ (e : Deed). e.reply.txn.0) ok.is in
+    let b = boot_is head.osts 0 past in
+    let c = count_is head.osts 0 past in
+    omega (arith, n, b, c)
 
 -- a boot begins above all numbers of the one before
-boots_up : (head : Head) (past : List Line) (boot : ℕ) → Grown head past → BootOk head.osts (only 0 past) boot → numbers_at past ≤ boot * 4294967296
-boots_up head past boot g ok =
+boots_up : (head : Head) (past : List Line) (boot : ℕ) (disk : Disk) → Grown head past → BootOk head (only 0 past) boot disk → numbers_at past ≤ boot * 4294967296
+boots_up head past boot disk g ok =
     let n = ok.next in
     let b = boot_is head.osts 0 past in
     let c = count_is head.osts 0 past in
@@ -103,44 +99,44 @@ numbers_up head l past g a = by l.at.node l.entry a
     by (Target t) (Boot boot disk) k = own (nat_eq 0 t) refl
       where
         own : (b : Bool) → nat_eq 0 t ≡ b → numbers_at past ≤ (if b then boot else boot_at 0 past) * 4294967296 + (if b then 0 else count_at 0 past)
-        own true e = let up = boots_up head past boot g (k.of 0 e) in omega (arith, up)
+        own true e = let up = boots_up head past boot disk g (k.of 0 e) in omega (arith, up)
         own false e = omega arith
     by (Client c) (Made d) k = omega arith
     by (Target t) Tick k = omega arith
     by node e k = omega arith
 
+-- paths that were made before a transaction that was asked are made after it
+pub named_act : (osts : ℕ) (past : List Line) (t : Tree) (a : Operation) (n : ℕ) → AskedBy past a.op → n < a.number.0 → Named (Made_in past) n t → Named (Made_in past) a.number.0 (after osts t a)
+named_act osts past t a n b lt h =
+    named_wide (λ path. Made_in past path ⊎ Makes a.op path) (Made_in past) a.number.0 a.number.0 (after osts t a)
+    (λ path m. ⊎_elim (λ (x : Made_in past path). x) (λ (x : Makes a.op path). makes_asked past a.op path b x) m) (omega arith)
+    (named_after osts t a.number a.who (Made_in past) n h lt a.op (becomes_on_names b.2 b.0 a.op b.3))
+
+-- the paths of the tree were made: each transaction that stands was asked by a call
 pub named : (head : Head) (past : List Line) → Grown head past → Named (Made_in past) (numbers_at past) (tree_at head.osts 0 past)
-named head [] g = named_empty (Made_in []) 4294967296 (omega arith)
-named head (l ∷ past) g = by l.at.node l.entry g.0 (λ d x. acted_asked head (l ∷ past) d g x) (named head past g.1)
+named head past g =
+    subst (λ (t : Tree). Named (Made_in past) (numbers_at past) t) (sym (tree_is head.osts 0 past))
+    (named_wide (Made_in past) (Made_in past) bound (numbers_at past) v.tree (λ path m. m) (let b = boot_is head.osts 0 past in let c = count_is head.osts 0 past in omega (arith, b, c))
+    (named_fewer (Made_in past) bound (contents head.osts empty (items_of head.osts story)) v.tree (λ d n c is. at.history.tree (part.Name d n) ∙ is) left))
   where
-    -- the tree as it was
-    wide : (e : Entry) (high : ℕ) → numbers_at past ≤ high → Named (Made_in past) (numbers_at past) (tree_at head.osts 0 past) → Named (Made_in (line l.at e ∷ past)) high (tree_at head.osts 0 past)
-    wide e high le h = named_wide (Made_in past) (Made_in (line l.at e ∷ past)) (numbers_at past) high (tree_at head.osts 0 past) (λ path m. made_more (line l.at e) past path m) le h
+    story : List Line
+    story = only 0 past
 
-    made : (at : At) (d : Deed) → TxnOk head.osts (only 0 past) at d → AskedBy past d.op → Named (Made_in past) (numbers_at past) (tree_at head.osts 0 past)
-        → Named (Made_in past) (boot_at 0 past * 4294967296 + (count_at 0 past + 1)) (after head.osts (tree_at head.osts 0 past) (operation d))
-    made at d ok a h =
-        let n = number_next head past g.1 at d ok in
-        let nm = named_after head.osts (tree_at head.osts 0 past) d.reply.txn d.reply.who (Made_in past) (numbers_at past) h (omega (arith, n)) d.op (becomes_on_names a.2 a.0 d.op a.3) in
-        named_wide (λ path. Made_in past path ⊎ Makes d.op path) (Made_in past) d.reply.txn.0 (boot_at 0 past * 4294967296 + (count_at 0 past + 1)) (after head.osts (tree_at head.osts 0 past) (operation d))
-        (λ path m. ⊎_elim (λ (x : Made_in past path). x) (λ (x : Makes d.op path). makes_asked past d.op path a x) m) (omega (arith, n)) nm
+    at : HoldsAt head story
+    at = (holds head past g).at 0
 
-    by : (node : Node) (e : Entry) → Allowed head past (turn l.at.stamp node) e → ((d : Deed) → Acted (line l.at e ∷ past) d → AskedBy (line l.at e ∷ past) d.op) → Named (Made_in past) (numbers_at past) (tree_at head.osts 0 past)
-        → Named (Made_in (line (turn l.at.stamp node) e ∷ past)) (numbers_at (line (turn l.at.stamp node) e ∷ past)) (tree_at head.osts 0 (line (turn l.at.stamp node) e ∷ past))
-    by (Client c) (Made d) k a h = absurd k.ok
-    by (Target t) (Made d) k a h =
-        subst (λ (v : ℕ). Named (Made_in past) (numbers_at (line (turn l.at.stamp (Target v)) (Made d) ∷ past)) (tree_at head.osts 0 (line (turn l.at.stamp (Target v)) (Made d) ∷ past))) (sym k.ok)
-        (made (turn l.at.stamp (Target t)) d (k.of 0 (ap (λ (v : ℕ). nat_eq 0 v) k.ok)) (a d (inl refl)) h)
-    by (Target t) (Boot boot disk) k a h =
-        let new : Line = line (turn l.at.stamp (Target t)) (Boot boot disk) in
-        wide (Boot boot disk) (numbers_at (new ∷ past)) (numbers_up head new past g.1 k) h
-    by (Target t) (Evict who cause) k a h = by_own (nat_eq 0 t)
-      where
-        by_own : (b : Bool) → Named (Made_in past) (numbers_at past) (if b then forget (tree_at head.osts 0 past) who else tree_at head.osts 0 past)
-        by_own true = named_fewer (Made_in past) (numbers_at past) (tree_at head.osts 0 past) (forget (tree_at head.osts 0 past) who) (λ d n c is. is) h
-        by_own false = h
-    by (Target t) Tick k a h = wide Tick (numbers_at past) (omega arith) h
-    by _ e k a h = wide e (numbers_at past) (omega arith) h
+    v : Server
+    v = server_of head.osts story
+
+    bound : ℕ
+    bound = v.boot * 4294967296 + v.count
+
+    left : Named (Made_in past) bound (contents head.osts empty (items_of head.osts story))
+    left =
+        over_now head story (λ n t. Named (Made_in past) n t) (λ n le. named_empty (Made_in past) n le)
+        (λ is a n ok lt h. named_act head.osts past (contents head.osts empty is) a n (subst (AskedBy past) (ap (λ (x : Operation). x.op) ok.operates) (acted_asked head past ok.deed g (acted_whole 0 past ok.deed ok.acted))) lt h)
+        (λ n t who h. named_fewer (Made_in past) n t (forget t who) (λ d m c is. is) h)
+        (λ n m t le h. named_wide (Made_in past) (Made_in past) n m t (λ path x. x) le h) at
 
 -- ---- what was asked is granted no lock
 

@@ -1,7 +1,7 @@
 -- The groups of facts: what holds after every line. Those of one target speak of what concerns it; what calls have
 -- asked, when things happened, and who is told what, of the whole past with every target.
-use Rattle.std.proofs.Common.{◌≡◌, ℕ, ◌<◌, ◌≤◌, true, false, List, [], ◌∷◌, Option, Some, None, ◌⊎◌}
-use Rattle.std.specs.Prelude.{length}
+use Rattle.std.proofs.Common.{◌≡◌, ℕ, ◌+◌, ◌<◌, ◌≤◌, true, false, List, [], ◌∷◌, Option, Some, None, ◌⊎◌}
+use Rattle.std.specs.Prelude.{length, not, nat_lt}
 use Rattle.lu_base.specs.declared.ids.At.{At}
 use Rattle.lu_base.specs.declared.ids.Node.{Node}
 use Rattle.lu_base.specs.declared.ids.Node.TheVariants.{Client, Target}
@@ -11,25 +11,39 @@ use Rattle.lu_base.specs.declared.ids.Who.{Who}
 use Rattle.lu_base.specs.declared.ids.Cookie.{Cookie}
 use Rattle.lu_base.specs.declared.locks.Lock.{Lock}
 use Rattle.lu_base.specs.declared.locks.Mode.TheVariants.{PR}
+use Rattle.lu_msg.specs.declared.commits.Batch.{Batch}
 use Rattle.lu_msg.specs.declared.messages.Message.{Message}
 use Rattle.lu_msg.specs.declared.messages.Message.TheVariants as message
 use Rattle.lu_msg.specs.declared.messages.Reply.{Reply as ReplyTo}
 use Rattle.lu_msg.specs.declared.messages.Request.{Request as RequestOf}
 use Rattle.lu_msg.specs.declared.operations.Op.{Op}
-use Rattle.lu_words.specs.Carried.{Deed, Queued, Flight, Asked, Answered, Running}
-use Rattle.lu_words.specs.Words.{Flies, Heard, Drop, Act, Txn as Made, Line, turn_before}
+use Rattle.lu_msg.specs.declared.commits.Batch.{Batch}
+use Rattle.lu_part.specs.declared.parts.Part.{Part}
+use Rattle.lu_machine.specs.Footprint.{Operation, empty, touches, writes, Same}
+use Rattle.lu_machine.specs.Removal.{Item, Acts, Forgets, pick, contents}
+use Rattle.lu_machine.specs.Seen.{seen}
+use Rattle.lu_words.specs.Carried.{Deed, Queued, Flight, Said, Disk, Asked, Answered, Running}
+use Rattle.lu_words.specs.Words.{Entry, Flies, Heard, Drop, Act, Txn as Made, Commit, Close, Evict, Restore, Line, turn_before}
 use Rattle.lu_words.specs.Concerns.{only}
-use Rattle.lu_covered.specs.TargetStates.{server_of, slot_of, lives_of, evicted_of, shown_of, closed_of, up_of}
+use Rattle.lu_covered.specs.TargetParts.{operation}
+use Rattle.lu_covered.specs.TargetStates.{server_of, slot_of, lives_of, evicted_of, shown_of, closed_of, up_of, replays_of, brought_of, words_of, wishes_of}
+use Rattle.lu_covered.specs.TargetCloses.{disk_of, is_lost, loses, but_first, closing_of}
 use Rattle.lu_covered.specs.Calls.{first_life, call_at, becomes, life_at}
 use Rattle.lu_covered.specs.Imports.{Joining, Serving, queue_at, flights_at}
-use Rattle.lu_covered.specs.ClientStates.{flights_of, last_of, known_of, life_of, tag_of, standing_of, is_own}
+use Rattle.lu_covered.specs.ClientStates.{flights_of, last_of, known_of, life_of, tag_of, standing_of, kept_of, is_own}
 use Rattle.lu_covered.specs.Heads.{Head}
 use Rattle.lu_held.specs.declared.locks.HeldLock.{HeldLock}
 use Rattle.lu_held.specs.Held.{is_held}
-use Rattle.lu_target_rows.specs.Lives.{is_life}
+use Rattle.lu_target_rows.specs.Lives.{is_life, slot_in, lives_of as lives_in}
+use Rattle.lu_target_rows.specs.Phase.{first_of}
+use Rattle.lu_target_rows.specs.Stored.{stored}
+use Rattle.lu_target_rows.specs.Windows.{Replayed, cut_seen, word_of, replay_before, brought_before}
 use Rattle.lu_client_rows.specs.Caches.{granted_lock, held_at}
-use Rattle.lu_guards.proofs.Guards.{In, Was, name_of, Ending}
-use Rattle.lu_guards.proofs.StoryGuards.{Newer, SaidBy, IsServing}
+use Rattle.lu_client_rows.specs.Imports.{Replay, replay_of}
+use Rattle.lu_client_rows.specs.Recovery.{lock_replayed, replayed as replayed_by}
+use Rattle.lu_guards.proofs.Guards.{In, Was, HeardNow, name_of, Ending}
+use Rattle.lu_guards.proofs.CloseLists.{OneEach}
+use Rattle.lu_guards.proofs.StoryGuards.{Newer, SaidBy, IsServing, IsRecovering, locks_told}
 
 abbrev pub turn : Stamp → Node → At
 turn stamp node = record { stamp = stamp; node = node }
@@ -51,19 +65,41 @@ abbrev pub Hears : List Line → Who → ℕ → Type 0
 Hears [] who x = ⊥
 Hears (l ∷ past) who x = elim l.entry [ Heard t f r ↦ ((is_own who past l.at.node ≡ true) × (f.xid ≡ x)) ⊎ Hears past who x | _ ↦ Hears past who x ]
 
+-- the life heard that reply to that request: reads Heard
+abbrev pub HeardAs : List Line → Who → Flight → ReplyTo → Type 0
+HeardAs [] who f r = ⊥
+HeardAs (l ∷ past) who f r = elim l.entry [ Heard t g k ↦ ((is_own who past l.at.node ≡ true) × (g ≡ f) × (k ≡ r)) ⊎ HeardAs past who f r | _ ↦ HeardAs past who f r ]
+
 -- ---- at one target
 
--- no window was closed yet, so what a target serves, and what a client that it serves knows, is the first boot; no client knows a boot that
--- isn't there yet; a boot has numbers left; of each client a life of its own, above 0
+-- the life has a slot
+abbrev pub HasSlot : ℕ → List Line → Who → Type 0
+HasSlot clients past who = is_life who (lives_of clients past) ≡ true
+
+-- it is a transaction
+abbrev pub IsMade : Deed → Type 0
+IsMade d = 0 < d.reply.txn.0
+
+-- no close so far lost its number
+abbrev pub Stands : ℕ → List Line → Deed → Type 0
+Stands osts past d = is_lost osts past d.reply.txn.0 ≡ false
+
+-- the slots know of it: it was done in the boot that served last, or is a transaction that stands
+abbrev pub Counts : ℕ → List Line → Deed → Type 0
+Counts osts past d = (d.reply.boot ≡ closed_of past) ⊎ (IsMade d × Stands osts past d)
+
+-- the boot that served last isn't above the present one, nor is that which a client knows that is served; no client knows a boot that isn't
+-- there yet; a boot has numbers left; of each client a life of its own, above 0
 abbrev pub Phase : ℕ → List Line → Type 0
 Phase osts past =
     record {
-      closed : closed_of past ≡ 1;
+      closed : 1 ≤ closed_of past;
+      under : closed_of past ≤ (server_of osts past).boot;
       low : 1 ≤ (server_of osts past).boot;
       count : (server_of osts past).count ≤ 4294967295;
       least : (c : ℕ) → 1 ≤ known_of c past;
       known : (c : ℕ) → known_of c past ≤ (server_of osts past).boot;
-      served : (c : ℕ) → standing_of c past ≡ Serving → known_of c past ≡ 1;
+      served : (c : ℕ) → standing_of c past ≡ Serving → known_of c past ≤ closed_of past;
       client : (c : ℕ) → (life_of c past).client ≡ c;
       positive : (c : ℕ) → 1 ≤ (life_of c past).life;
     }
@@ -91,9 +127,9 @@ Numbers past =
 abbrev pub Room : Head → List Line → Type 0
 Room head past = (who : Who) → length (flights_of who past) ≤ head.flight
 
--- a life's request in flight as a message of the first boot
-abbrev pub life_request : Who → Flight → RequestOf
-life_request who f = record { who = who; boot = 1; xid = record { 0 = f.xid }; tag = f.tag; op = f.op }
+-- a life's request in flight as a message of that boot
+abbrev pub life_request : Who → ℕ → Flight → RequestOf
+life_request who boot f = record { who = who; boot = boot; xid = record { 0 = f.xid }; tag = f.tag; op = f.op }
 
 -- what was done is of a request that flew
 abbrev pub FlewFor : List Line → Deed → Type 0
@@ -103,43 +139,92 @@ FlewFor past d = (f : Flight) × Flew past d.reply.who f × (f.xid ≡ d.reply.x
 abbrev pub DoneFor : List Line → Who → ℕ → Type 0
 DoneFor past who x = (d : Deed) × Acted past d × (d.reply.who ≡ who) × (d.reply.xid.0 ≡ x)
 
--- what was sent is of a request that flew, or of what was done, with the number committed then; it is from the life's client, or to it
-abbrev pub Meant : List Line → Node → Message → Type 0
-Meant past (Target t) (message.Request r) = (f : Flight) × Flew past r.who f × (r ≡ life_request r.who f)
-Meant past (Client c) (message.Reply k) = (d : Deed) × Acted past d × (k ≡ record d.reply { committed = k.committed }) × (c ≡ k.who.client)
-Meant past (Client c) (message.Block who boot cookie) = Unit {0}
-Meant past (Target t) (message.Cancel who boot cookie) = Unit {0}
-Meant past (Target t) (message.Join who boot) = who.life ≤ (life_of who.client past).life
-Meant past (Target t) (message.Replay r) = Unit {0}
-Meant past (Target t) (message.Lock r) = Unit {0}
-Meant past (Target t) (message.Word who boot replays locks seen) = Unit {0}
-Meant past (Client c) (message.Ready who boot committed) = (boot ≡ 1) × (c ≡ who.client)
-Meant past (Client c) (message.Evicted who boot) = c ≡ who.client
-Meant past (Client c) (message.Up boot) = Unit {0}
-Meant past _ _ = ⊥
+-- a request that was sent: of one that flew, while a boot served that isn't below its own
+abbrev pub IsAsking : List Line → RequestOf → Type 0
+IsAsking past r = (f : Flight) × Flew past r.who f × (r ≡ life_request r.who r.boot f) × (r.boot ≤ closed_of past)
 
--- a request that waits to act was sent, and hasn't acted
-abbrev pub Waits : List Line → RequestOf → Type 0
-Waits past r =
+-- A reply that was sent is to what was done, with another boot and the number committed then; and to what counts, while no window closed
+-- since. What grants locks is told in its own boot alone.
+abbrev pub RepliesTo : (osts : ℕ) → List Line → ℕ → ReplyTo → Type 0
+RepliesTo osts past c k =
     record {
-      target : ℕ;
-      meant : Meant past (Target target) (message.Request r);
-      taken : r.xid.0 ≡ (slot_of r.who r.tag past).taken;
-      new : (d : Deed) → Acted past d → d.reply.who ≡ r.who → d.reply.xid ≡ r.xid → ⊥;
+      deed : Deed;
+      acted : Acted past deed;
+      is : k ≡ record deed.reply { boot = k.boot; committed = k.committed };
+      to : c ≡ k.who.client;
+      boot : k.boot ≤ closed_of past;
+      committed : k.committed.0 ≤ (server_of osts past).committed.0;
+      own : (k.boot ≡ deed.reply.boot) ⊎ (deed.reply.locks ≡ []);
+      counts : closed_of past ≤ k.boot → Counts osts past deed;
     }
 
-abbrev pub Done : ℕ → List Line → Type 0
-Done osts past =
+-- what was sent is of a request that flew, or of what was done; it is from the life's client, or to it
+abbrev pub Meant : (osts : ℕ) → List Line → Node → Message → Type 0
+Meant osts past (Target t) (message.Request r) = IsAsking past r
+Meant osts past (Client c) (message.Reply k) = RepliesTo osts past c k
+Meant osts past (Client c) (message.Block who boot cookie) = Unit {0}
+Meant osts past (Target t) (message.Cancel who boot cookie) = Unit {0}
+Meant osts past (Target t) (message.Join who boot) = who.life ≤ (life_of who.client past).life
+Meant osts past (Target t) (message.Replay r) = Unit {0}
+Meant osts past (Target t) (message.Lock r) = Unit {0}
+Meant osts past (Target t) (message.Word who boot replays locks seen) = Unit {0}
+Meant osts past (Client c) (message.Ready who boot committed) = (boot ≤ closed_of past) × (c ≡ who.client) × (committed.0 ≤ (server_of osts past).committed.0)
+Meant osts past (Client c) (message.Evicted who boot) = c ≡ who.client
+Meant osts past (Client c) (message.Up boot) = Unit {0}
+Meant osts past _ _ = ⊥
+
+-- a request that waits to act was sent, under the boot that served last or a later one, its life has a slot, and nothing that counts was
+-- done for it
+abbrev pub Waits : (osts clients : ℕ) → List Line → RequestOf → Type 0
+Waits osts clients past r =
+    record {
+      was : (from : Node) × (t : ℕ) × Was past from (Target t) (message.Request r);
+      asks : IsAsking past r;
+      current : closed_of past ≤ r.boot;
+      has : HasSlot clients past r.who;
+      taken : r.xid.0 ≡ (slot_of r.who r.tag past).taken;
+      new : (d : Deed) → Acted past d → Counts osts past d → d.reply.who ≡ r.who → d.reply.xid ≡ r.xid → ⊥;
+    }
+
+-- a reply that a close made anew is never asked for: the life heard one, and all its requests of that number are of earlier boots
+abbrev pub Rebuilt : List Line → Who → ReplyTo → Type 0
+Rebuilt past who k = Hears past who k.xid.0 × ((from : Node) (t : ℕ) (r : RequestOf) → Was past from (Target t) (message.Request r) → r.who ≡ who → r.xid ≡ k.xid → r.boot < closed_of past)
+
+-- what a slot keeps is the reply to what counts, or one that a close made anew
+abbrev pub KeptFor : ℕ → List Line → Who → ℕ → ReplyTo → Type 0
+KeptFor osts past who tag k = ((d : Deed) × Acted past d × (d.reply ≡ k) × (d.tag ≡ tag) × Counts osts past d) ⊎ Rebuilt past who k
+
+-- that was done last, since the last close: reads Act, Txn and Close
+abbrev pub Newest : List Line → Deed → Type 0
+Newest [] d = ⊥
+Newest (l ∷ past) d = elim l.entry [ Act e ↦ e ≡ d | Made e ↦ e ≡ d | Close o ↦ ⊥ | _ ↦ Newest past d ]
+
+-- what counts was done for that number of the life
+abbrev pub CountsFor : (osts : ℕ) → List Line → Who → ℕ → Type 0
+CountsFor osts past who x = (d : Deed) × Acted past d × Counts osts past d × (d.reply.who ≡ who) × (d.reply.xid.0 ≡ x)
+
+-- A boot's numbers are its own. What counts is known to the slots of the lives that have one, so that each request does one thing at most that counts;
+-- and beside what a life heard of that wasn't evicted stands no other transaction for the same request.
+abbrev pub Done : (osts clients : ℕ) → List Line → Type 0
+Done osts clients past =
     record {
       flew : (d : Deed) → Acted past d → FlewFor past d;
-      high : (d : Deed) → Acted past d → d.reply.xid.0 ≤ (slot_of d.reply.who d.tag past).taken;
-      kept : (who : Who) (tag : ℕ) (k : ReplyTo) → (slot_of who tag past).reply ≡ Some k → (d : Deed) × Acted past d × (d.reply ≡ k);
+      boots : (d : Deed) → Acted past d → (1 ≤ d.reply.boot) × (d.reply.boot ≤ closed_of past);
+      numbers : (d : Deed) → Acted past d → IsMade d → (first_of d.reply.boot < d.reply.txn.0) × (d.reply.txn.0 ≤ first_of d.reply.boot + 4294967295);
+      bare : (d : Deed) → Acted past d → IsMade d → d.reply.locks ≡ [];
+      high : (d : Deed) → Acted past d → HasSlot clients past d.reply.who → Counts osts past d → d.reply.xid.0 ≤ (slot_of d.reply.who d.tag past).taken;
+      kept : (who : Who) (tag : ℕ) (k : ReplyTo) → (slot_of who tag past).reply ≡ Some k → KeptFor osts past who tag k;
       slots : (who : Who) (tag : ℕ) (k : ReplyTo) → (slot_of who tag past).reply ≡ Some k → (k.who ≡ who) × (k.xid.0 ≡ (slot_of who tag past).taken);
       heard : (who : Who) (x : ℕ) → Hears past who x → DoneFor past who x;
-      boots : (d : Deed) → Acted past d → d.reply.boot ≡ 1;
-      waits : (r : RequestOf) → In r (server_of osts past).waiting → Waits past r;
-      sent : (from to : Node) (m : Message) → Was past from to m → Meant past to m;
-      once : (d e : Deed) → Acted past d → Acted past e → d.reply.who ≡ e.reply.who → d.reply.xid ≡ e.reply.xid → d ≡ e;
+      newest : (d : Deed) → Newest past d → d.reply.boot ≡ closed_of past;
+      known : (who : Who) (x : ℕ) → Hears past who x → HasSlot clients past who → (from : Node) (t : ℕ) (r : RequestOf) → Was past from (Target t) (message.Request r) → r.who ≡ who → r.xid.0 ≡ x → closed_of past ≤ r.boot → CountsFor osts past who x;
+      answered : (who : Who) (f : Flight) (r : ReplyTo) → HeardAs past who f r → (d : Deed) × Acted past d × (r ≡ record d.reply { boot = r.boot; committed = r.committed }) × (r.who ≡ who) × (f.xid ≡ d.reply.xid.0) × (f.op ≡ d.op) × (f.tag ≡ d.tag);
+      waits : (r : RequestOf) → In r (server_of osts past).waiting → Waits osts clients past r;
+      sent : (from to : Node) (m : Message) → Was past from to m → Meant osts past to m;
+      once : (d e : Deed) → Acted past d → Acted past e → Counts osts past d → Counts osts past e → d.reply.who ≡ e.reply.who → d.reply.xid ≡ e.reply.xid → d ≡ e;
+      alone : (who : Who) (f : Flight) (r : ReplyTo) (d e : Deed) → HeardAs past who f r → HasSlot clients past who → Acted past d → r ≡ record d.reply { boot = r.boot; committed = r.committed } → Acted past e → IsMade e → Stands osts past e → e.reply.who ≡ who → e.reply.xid ≡ d.reply.xid → e ≡ d;
+      rises : (d e : Deed) → Acted past d → Acted past e → IsMade d → IsMade e → Stands osts past d → Stands osts past e → d.reply.who ≡ e.reply.who → d.tag ≡ e.tag → d.reply.txn.0 < e.reply.txn.0 → d.reply.xid.0 < e.reply.xid.0;
+      single : (d e : Deed) → Acted past d → Acted past e → IsMade d → IsMade e → d.reply.txn ≡ e.reply.txn → d ≡ e;
     }
 
 -- a lock of what was done
@@ -153,6 +238,10 @@ Evicted past who = is_life who (evicted_of past) ≡ true
 -- the reply that brings the lock was heard, and the client doesn't hold it
 abbrev pub Dead : List Line → Deed → Lock → Type 0
 Dead past d l = Hears past d.reply.who d.reply.xid.0 × (is_held (name_of l.cookie) (held_at d.reply.who.client past) ≡ false)
+
+-- a lock of a boot before that which the client of its life knows, which isn't held, and never will be: a reply is heard in the boot that is known alone
+abbrev pub Lapsed : List Line → Deed → Lock → Type 0
+Lapsed past d l = (d.reply.boot < known_of d.reply.who.client past) × (is_held (name_of l.cookie) (held_at d.reply.who.client past) ≡ false)
 
 -- what a client holds came with a reply that its life heard, and is granted still, unless that life was evicted
 abbrev pub Holding : ℕ → List Line → ℕ → HeldLock → Type 0
@@ -180,19 +269,22 @@ abbrev pub Gone : List Line → Who → Cookie → Type 0
 Gone [] who cookie = ⊥
 Gone (l ∷ past) who cookie = elim l.entry [ Drop target lock ↦ ((is_own who past l.at.node ≡ true) × (lock.cookie ≡ cookie)) ⊎ Gone past who cookie | _ ↦ Gone past who cookie ]
 
--- each lock that was given is granted, or is dead, or its life was evicted; so is what is held, and what isn't heard yet; while the target
--- serves no cookie is above the greatest, and while it is up too what is granted is shown so; no answer of what was done is itself a lock
-abbrev pub Locks : ℕ → List Line → Type 0
-Locks osts past =
+-- each lock that was given is granted, or is dead, or its life was evicted, or it lapsed; so is what is held, and what isn't heard yet; a
+-- boot's cookies are its own, while the target serves none is above the greatest, and while it is up too what is granted was shown so, or a close
+-- shows it next; no answer of what was done is itself a lock
+abbrev pub Locks : (osts clients : ℕ) → List Line → Type 0
+Locks osts clients past =
     record {
       whose : (d : Deed) (l : Lock) → Gave past d l → l.ask.who ≡ d.reply.who;
       readers : (d : Deed) (l : Lock) → Gave past d l → l.ask.mode ≡ PR;
+      cookies : (d : Deed) (l : Lock) → Gave past d l → (first_of d.reply.boot < l.cookie.0) × (l.cookie.0 ≤ first_of d.reply.boot + 4294967295);
+      greatest : (first_of (server_of osts past).boot ≤ (server_of osts past).cookie) × ((server_of osts past).cookie ≤ first_of (server_of osts past).boot + 4294967295);
       low : IsServing osts past → (d : Deed) (l : Lock) → Gave past d l → l.cookie.0 ≤ (server_of osts past).cookie;
       once : (d e : Deed) (l k : Lock) → Gave past d l → Gave past e k → l.cookie ≡ k.cookie → (d ≡ e) × (l ≡ k);
       granted : (l : Lock) → In l (server_of osts past).granted → (d : Deed) × Gave past d l;
       held : (c : ℕ) (h : HeldLock) → In h (held_at c past) → Holding osts past c h;
-      alive : (d : Deed) (l : Lock) → Gave past d l → In l (server_of osts past).granted ⊎ Dead past d l ⊎ Evicted past d.reply.who;
-      shown : IsServing osts past → up_of past ≡ true → (l : Lock) → In l (server_of osts past).granted → In l (shown_of past);
+      alive : (d : Deed) (l : Lock) → Gave past d l → In l (server_of osts past).granted ⊎ Dead past d l ⊎ Evicted past d.reply.who ⊎ Lapsed past d l;
+      shown : IsServing osts past → up_of past ≡ true → (l : Lock) → In l (server_of osts past).granted → In l (shown_of past) ⊎ In (Restore l) (closing_of clients past);
       blocks : (from : Node) (c : ℕ) (who : Who) (boot : ℕ) (cookie : Cookie) → Was past from (Client c) (message.Block who boot cookie) → Called past c who cookie;
       cancels : (from to : Node) (who : Who) (boot : ℕ) (cookie : Cookie) → Was past from to (message.Cancel who boot cookie) → GivenBack past who cookie;
       gone : (who : Who) (cookie : Cookie) → Gone past who cookie → GivenBack past who cookie;
@@ -203,11 +295,28 @@ Locks osts past =
 abbrev pub Had : ℕ → List Line → Who → Type 0
 Had clients past who = (is_life who (lives_of clients past) ≡ true) ⊎ Evicted past who
 
+-- what a life tells of itself: the boot that it knows, and its name
+abbrev pub boot_told : Message → ℕ
+boot_told (message.Replay r) = r.boot
+boot_told (message.Lock r) = r.boot
+boot_told (message.Word who boot replays locks seen) = boot
+boot_told (message.Join who boot) = boot
+boot_told _ = 0
+
+abbrev pub who_told : Message → Who
+who_told (message.Replay r) = r.who
+who_told (message.Lock r) = r.who
+who_told (message.Word who boot replays locks seen) = who
+who_told (message.Join who boot) = who
+who_told _ = first_life 0
+
 -- at the target each client has one life at most that has a slot, none is newer than the client's own, and none was evicted; who is served
--- there, and who spoke to it as one that is, has a slot or was evicted; who is told that its life is over was evicted or is an older life
+-- there, and who spoke to it as one that is, has a slot or was evicted; who is told that its life is over was evicted or is an older life; who
+-- has a slot knows the boot that served last, or a later one; a boot that a life told is known to its client; and a life that joins has asked nothing
 abbrev pub Lives : ℕ → List Line → Type 0
 Lives clients past =
     record {
+      knows : (w : Who) → HasSlot clients past w → (w.client < clients) × (closed_of past ≤ known_of w.client past);
       low : (w : Who) → Had clients past w → w.life ≤ (life_of w.client past).life;
       one : (w x : Who) → is_life w (lives_of clients past) ≡ true → is_life x (lives_of clients past) ≡ true → w.client ≡ x.client → w ≡ x;
       apart : (w x : Who) → is_life w (lives_of clients past) ≡ true → Evicted past x → w.client ≡ x.client → x.life < w.life;
@@ -218,6 +327,9 @@ Lives clients past =
       spoke : (from to : Node) (who : Who) (m : Message) → Was past from to m → SaidBy who m → Had clients past who;
       ready : (from to : Node) (who : Who) (boot : ℕ) (committed : Txn) → Was past from to (message.Ready who boot committed) → Had clients past who;
       over : (from to : Node) (who : Who) (boot : ℕ) → Was past from to (message.Evicted who boot) → Evicted past who ⊎ Newer clients past who;
+      knew : (from to : Node) (m : Message) → Was past from to m → boot_told m ≤ known_of (who_told m).client past;
+      joins : (from to : Node) (who : Who) (boot : ℕ) → Was past from to (message.Join who boot) → who.client < clients;
+      silent : (c : ℕ) → standing_of c past ≡ Joining → (f : Flight) → Flew past (life_of c past) f → ⊥;
     }
 
 -- a message's boot is one that the target has had
@@ -238,15 +350,209 @@ BootIn most _ = Unit {0}
 abbrev pub Boots : ℕ → List Line → Type 0
 Boots osts past = (from to : Node) (m : Message) → Was past from to m → BootIn (server_of osts past).boot m
 
+-- ---- lists in order
+
+-- each number is above those before it
+abbrev pub ReplaysRise : List Replay → Type 0
+ReplaysRise [] = Unit {0}
+ReplaysRise (k ∷ ks) = ((j : Replay) → In j ks → k.txn.0 < j.txn.0) × ReplaysRise ks
+
+abbrev pub DeedsRise : List Deed → Type 0
+DeedsRise [] = Unit {0}
+DeedsRise (d ∷ ds) = ((e : Deed) → In e ds → d.reply.txn.0 < e.reply.txn.0) × DeedsRise ds
+
+-- each stands after those before it, by number and then by life, and once
+abbrev pub ReplayedRise : List Replayed → Type 0
+ReplayedRise [] = Unit {0}
+ReplayedRise (r ∷ rs) = ((s : Replayed) → In s rs → replay_before r s ≡ true) × ReplayedRise rs
+
+abbrev pub BroughtRise : List Lock → Type 0
+BroughtRise [] = Unit {0}
+BroughtRise (l ∷ ls) = ((k : Lock) → In k ls → brought_before l k ≡ true) × BroughtRise ls
+
+-- ---- what a life keeps for a recovery
+
+-- What a life keeps of a target: of each reply that it heard the transaction and the seen numbers, but for what it was told of as committed.
+abbrev pub Keeps : ℕ → List Line → Type 0
+Keeps osts past =
+    record {
+      committed : (who : Who) → (kept_of who past).committed ≤ (server_of osts past).committed.0;
+      replay_kept : (who : Who) (f : Flight) (r : ReplyTo) → HeardAs past who f r → 0 < r.txn.0 → (r.txn.0 ≤ (kept_of who past).committed) ⊎ In (replay_of f r) (kept_of who past).replays;
+      kept_replay : (who : Who) (k : Replay) → In k (kept_of who past).replays → (f : Flight) × (r : ReplyTo) × HeardAs past who f r × (k ≡ replay_of f r) × (0 < r.txn.0);
+      seen_kept : (who : Who) (f : Flight) (r : ReplyTo) (n : ℕ) → HeardAs past who f r → In n r.seen → (n ≤ (kept_of who past).committed) ⊎ In n (kept_of who past).seen;
+      kept_seen : (who : Who) (n : ℕ) → In n (kept_of who past).seen → (f : Flight) × (r : ReplyTo) × HeardAs past who f r × In n r.seen;
+      replays_rise : (who : Who) → ReplaysRise (kept_of who past).replays;
+    }
+
+-- ---- what a target takes in a recovery
+
+-- it is that of the life, with what it saw below its own number
+abbrev pub Replays : List Line → Replayed → Type 0
+Replays past r = (k : Replay) × In k (kept_of r.who past).replays × (r ≡ cut_seen (record { who = r.who; number = k.txn.0; xid = k.xid.0; tag = k.tag; seen = k.seen; op = k.op }))
+
+-- a lock that was given to that life, which its client held when it was told the boot, if it is in that life still
+abbrev pub Relocks : List Line → Lock → Type 0
+Relocks past l = ((d : Deed) × Gave past d l × (d.reply.who ≡ l.ask.who)) × (life_of l.ask.who.client past ≡ l.ask.who → In l (locks_told l.ask.who.client past))
+
+-- a word that says what the life keeps, and counts at least what its client held when it was told the boot
+abbrev pub Worded : List Line → Who → (replays locks : ℕ) → List ℕ → Type 0
+Worded past who replays locks seen =
+    (replays ≡ length (kept_of who past).replays) × (seen ≡ (kept_of who past).seen) × (life_of who.client past ≡ who → length (locks_told who.client past) ≤ locks)
+
+-- a life that still joins has nothing
+abbrev pub NothingOf : List Line → Who → Type 0
+NothingOf past who = ((kept_of who past).replays ≡ []) × ((kept_of who past).seen ≡ []) × ((f : Flight) (r : ReplyTo) → HeardAs past who f r → ⊥) × (life_of who.client past ≡ who → locks_told who.client past ≡ [])
+
+-- of the present boot, while it recovers: what lives tell is what they have
+abbrev pub ToldIn : List Line → Message → Type 0
+ToldIn past (message.Replay r) = (k : Replay) × In k (kept_of r.who past).replays × (r ≡ replayed_by r.who r.boot k)
+ToldIn past (message.Lock r) = (l : Lock) × Relocks past l × (l.ask.who ≡ r.who) × (r ≡ lock_replayed r.who r.boot l)
+ToldIn past (message.Word who boot replays locks seen) = Worded past who replays locks seen
+ToldIn past (message.Join who boot) = NothingOf past who
+ToldIn past _ = Unit {0}
+
+-- What a target that recovers has taken is what the lives have: their replays, each once and in rising number, their locks, each once, and
+-- their words; a newer life that wishes to join is its client's, and asked for it. What a client that knows the boot holds it held when it
+-- was told that; and a reply that was just heard is of a boot that served.
+abbrev pub Recovers : (osts clients : ℕ) → List Line → Type 0
+Recovers osts clients past =
+    record {
+      told : (from to : Node) (m : Message) → Was past from to m → IsRecovering osts past → (server_of osts past).boot ≤ boot_told m → HasSlot clients past (who_told m) → ToldIn past m;
+      replays : IsRecovering osts past → (r : Replayed) → In r (replays_of past) → HasSlot clients past r.who × ((server_of osts past).boot ≤ known_of r.who.client past) × Replays past r;
+      replays_rise : ReplayedRise (replays_of past);
+      brought : IsRecovering osts past → (l : Lock) → In l (brought_of past) → HasSlot clients past l.ask.who × ((server_of osts past).boot ≤ known_of l.ask.who.client past) × Relocks past l;
+      brought_rise : BroughtRise (brought_of past);
+      words : IsRecovering osts past → (who : Who) (w : Said) → word_of who (words_of past) ≡ Some w → (w.who ≡ who) × HasSlot clients past who × ((server_of osts past).boot ≤ known_of who.client past) × Worded past who w.replays w.locks w.seen;
+      wishes : IsRecovering osts past → (who : Who) → In who (wishes_of past) → (old : Who) × HasSlot clients past old × (old.client ≡ who.client) × (old.life < who.life) × (who.life ≤ (life_of who.client past).life) × ((server_of osts past).boot ≤ known_of who.client past);
+      wishes_rise : OneEach (wishes_of past);
+      holds : IsRecovering osts past → (c : ℕ) → (server_of osts past).boot ≤ known_of c past → (h : HeldLock) → In h (held_at c past) → In h.lock (locks_told c past);
+      bare : (c : ℕ) → standing_of c past ≡ Joining → locks_told c past ≡ [];
+      hears : (at : At) (c : ℕ) (f : Flight) (r : ReplyTo) → at.node ≡ Client c → HeardNow past at 0 f r → known_of c past ≤ closed_of past;
+    }
+
+-- ---- the history that stands
+
+-- the transactions that stand, and the opens that went with lives, as items of the removal law, the newest first
+abbrev pub forgetting : List Who → List Item → List Item
+forgetting [] items = items
+forgetting (who ∷ gone) items = forgetting gone (Forgets who ∷ items)
+
+abbrev pub items_after : (committed : ℕ) → List Item → Entry → List Item
+items_after committed items (Made d) = Acts (operation d) ∷ items
+items_after committed items (Evict who cause) = Forgets who ∷ items
+items_after committed items (Close o) = forgetting (lives_in o.gone) (pick (λ n. not (loses committed o n)) items)
+items_after committed items _ = items
+
+abbrev pub items_of : (osts : ℕ) → List Line → List Item
+items_of osts [] = []
+items_of osts (l ∷ past) = elim l.at.node [ Client c ↦ items_of osts past | Target t ↦ items_after (server_of osts past).committed.0 (items_of osts past) l.entry ]
+
+-- an act among the items is a transaction that stands, which writes over the items before it what it wrote when it was done; and all of these
+-- that wrote what it touches are committed, or it saw them
+abbrev pub ItemOk : (osts : ℕ) → List Line → List Item → Operation → Type 0
+ItemOk osts past is a =
+    record {
+      deed : Deed;
+      acted : Acted past deed;
+      made : IsMade deed;
+      stands : Stands osts past deed;
+      operates : operation deed ≡ a;
+      wrote : deed.writes ≡ writes osts (contents osts empty is) a;
+      saw : (n : ℕ) → In n (seen osts (contents osts empty) is (touches osts (contents osts empty is) a)) → (n ≤ (server_of osts past).committed.0) ⊎ In n deed.reply.seen;
+    }
+
+abbrev pub AllItems : (osts : ℕ) → List Line → List Item → Type 0
+AllItems osts past [] = Unit {0}
+AllItems osts past (Acts a ∷ is) = ItemOk osts past is a × AllItems osts past is
+AllItems osts past (Forgets who ∷ is) = AllItems osts past is
+
+-- their numbers fall, the newest first
+abbrev pub ItemsFall : List Item → Type 0
+ItemsFall [] = Unit {0}
+ItemsFall (Acts a ∷ is) = ((b : Operation) → In (Acts b) is → b.number.0 < a.number.0) × ItemsFall is
+ItemsFall (Forgets who ∷ is) = ItemsFall is
+
+-- The tree holds what the transactions that stand leave, the disk's what those of them leave that are there; the log has those that
+-- aren't committed, in rising number. What stands saw only what stands, and so did what a life with a slot heard.
+abbrev pub History : (osts clients : ℕ) → List Line → Type 0
+History osts clients past =
+    record {
+      tree : (p : Part) → Same (contents osts empty (items_of osts past)) (server_of osts past).tree p;
+      disk : (p : Part) → Same (contents osts empty (pick (λ n. not (nat_lt (disk_of osts clients past).committed n)) (items_of osts past))) (disk_of osts clients past).contents.tree p;
+      on_disk : (disk_of osts clients past).committed ≤ (server_of osts past).committed.0;
+      log : (d : Deed) → In d (server_of osts past).log → Acted past d × IsMade d × Stands osts past d × ((server_of osts past).committed.0 < d.reply.txn.0);
+      logged : (d : Deed) → Acted past d → IsMade d → Stands osts past d → In d (server_of osts past).log ⊎ (d.reply.txn.0 ≤ (server_of osts past).committed.0);
+      log_rises : DeedsRise (server_of osts past).log;
+      later : (n : ℕ) → first_of (closed_of past) < n → is_lost osts past n ≡ false;
+      top : (server_of osts past).committed.0 ≤ first_of (server_of osts past).boot + (server_of osts past).count;
+      last : (d : Deed) → Acted past d → IsMade d → d.reply.txn.0 ≤ first_of (server_of osts past).boot + (server_of osts past).count;
+      saw : (d : Deed) (n : ℕ) → Acted past d → In n d.reply.seen → ((n ≤ (server_of osts past).committed.0) ⊎ ((e : Deed) × Acted past e × IsMade e × (e.reply.txn.0 ≡ n))) × (IsMade d → n < d.reply.txn.0);
+      stands : (d : Deed) → Acted past d → IsMade d → Stands osts past d → (n : ℕ) → In n d.reply.seen → is_lost osts past n ≡ false;
+      heard : (who : Who) (f : Flight) (r : ReplyTo) → HeardAs past who f r → HasSlot clients past who → (is_lost osts past r.txn.0 ≡ false) × ((n : ℕ) → In n r.seen → is_lost osts past n ≡ false);
+      fresh : (d : Deed) → Acted past d → d.reply.boot ≡ closed_of past → (n : ℕ) → In n d.reply.seen → is_lost osts past n ≡ false;
+      items : AllItems osts past (items_of osts past);
+      items_have : (d : Deed) → Acted past d → IsMade d → Stands osts past d → In (Acts (operation d)) (items_of osts past);
+      items_fall : ItemsFall (items_of osts past);
+      log_of : (d : Deed) → In d (server_of osts past).log → d.reply.boot ≡ closed_of past;
+    }
+
+-- ---- the slots on the disk
+
+-- what a slot keeps on the disk is the reply to a transaction that stands there, or one that a close made anew
+abbrev pub StoredFor : (osts : ℕ) → List Line → (committed : ℕ) → Who → ℕ → ReplyTo → Type 0
+StoredFor osts past committed who tag k = ((d : Deed) × Acted past d × (d.reply ≡ k) × (d.tag ≡ tag) × IsMade d × Stands osts past d × (d.reply.txn.0 ≤ committed)) ⊎ Rebuilt past who k
+
+-- each life that wasn't removed there has the last of its transactions there, by tag; and nothing else is kept there
+abbrev pub OnDisk : (osts : ℕ) → List Line → Disk → Type 0
+OnDisk osts past disk =
+    record {
+      high : (d : Deed) → Acted past d → IsMade d → Stands osts past d → d.reply.txn.0 ≤ disk.committed → is_life d.reply.who disk.removed ≡ false → d.reply.xid.0 ≤ (slot_in disk.slots d.reply.who d.tag).taken;
+      kept : (who : Who) (tag : ℕ) (k : ReplyTo) → (slot_in disk.slots who tag).reply ≡ Some k → StoredFor osts past disk.committed who tag k;
+      slots : (who : Who) (tag : ℕ) (k : ReplyTo) → (slot_in disk.slots who tag).reply ≡ Some k → (k.who ≡ who) × (k.xid.0 ≡ (slot_in disk.slots who tag).taken);
+    }
+
+abbrev pub DiskSlots : (osts clients : ℕ) → List Line → Type 0
+DiskSlots osts clients past = OnDisk osts past (disk_of osts clients past)
+
+-- ---- what comes to the disk
+
+-- the commit of a close, which comes next after it, puts on the disk what the target goes on from; nothing was done since the close
+abbrev pub Coming : (osts clients : ℕ) → List Line → (to : ℕ) → Disk → Type 0
+Coming osts clients past to disk =
+    record {
+      to : to ≡ disk.committed;
+      committed : disk.committed ≡ (server_of osts past).committed.0;
+      tree : disk.contents.tree ≡ (server_of osts past).tree;
+      log : (server_of osts past).log ≡ [];
+      lives : disk.lives ≡ lives_of clients past;
+      removed : disk.removed ≡ evicted_of past;
+      slots : (who : Who) (tag : ℕ) → slot_in disk.slots who tag ≡ slot_of who tag past;
+      none : (d : Deed) → Acted past d → d.reply.boot < closed_of past;
+    }
+
+-- a close shows one commit, first; but for the time until then all that the target has committed is on the disk
+abbrev pub Comes : (osts clients : ℕ) → List Line → Type 0
+Comes osts clients past =
+    record {
+      next : (to : ℕ) (batch : Batch) (more : List Entry) → closing_of clients past ≡ Commit to batch ∷ more → Coming osts clients past to (stored osts batch (disk_of osts clients past));
+      once : (to : ℕ) (batch : Batch) → In (Commit to batch) (but_first (closing_of clients past)) → ⊥;
+      level : ((disk_of osts clients past).committed ≡ (server_of osts past).committed.0) ⊎ ((to : ℕ) × (batch : Batch) × (more : List Entry) × (closing_of clients past ≡ Commit to batch ∷ more));
+    }
+
 -- all groups of one target, over what concerns it
 pub record HoldsAt (head : Head) (past : List Line) : Type 0 where
   pub phase : Phase head.osts past
   pub numbers : Numbers past
   pub room : Room head past
-  pub done : Done head.osts past
-  pub locks : Locks head.osts past
+  pub done : Done head.osts head.clients past
+  pub locks : Locks head.osts head.clients past
   pub lives : Lives head.clients past
   pub boots : Boots head.osts past
+  pub keeps : Keeps head.osts past
+  pub recovers : Recovers head.osts head.clients past
+  pub history : History head.osts head.clients past
+  pub disk : DiskSlots head.osts head.clients past
+  pub comes : Comes head.osts head.clients past
 
 -- ---- over all targets: what calls have asked
 
@@ -297,13 +603,13 @@ Since past =
     (c t slot : ℕ) (f : Flight) (r : Running) (d : Deed) → In f (flights_at c t past) → f.slot ≡ Some slot → call_at c slot past ≡ Some r
     → Acted (only t past) d → d.reply.who ≡ life_at c past → d.reply.xid.0 ≡ f.xid → Upto r.at d.reply.at
 
--- the reply that answered a call is to what was done for its operation after it began
+-- the reply that answered a call is to what was done for its operation after it began, in that boot or an earlier one
 abbrev pub Replied : List Line → ℕ → Running → ℕ → ReplyTo → Type 0
 Replied past c r target reply =
     record {
       deed : Deed;
       acted : Acted (only target past) deed;
-      is : record deed.reply { committed = reply.committed } ≡ reply;
+      is : record deed.reply { boot = reply.boot; committed = reply.committed } ≡ reply;
       client : reply.who ≡ life_at c past;
       op : becomes r ≡ Some deed.op;
       since : Upto r.at reply.at;

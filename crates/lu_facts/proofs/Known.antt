@@ -15,7 +15,6 @@ use Rattle.lu_base.specs.declared.ids.Who.{Who}
 use Rattle.lu_base.specs.declared.locks.Lock.{Lock}
 use Rattle.lu_msg.specs.declared.answers.Answer.{Answer}
 use Rattle.lu_msg.specs.declared.calls.Call.{Call}
-use Rattle.lu_msg.specs.declared.messages.Message.TheVariants as message
 use Rattle.lu_msg.specs.declared.messages.Reply.{Reply as ReplyTo}
 use Rattle.lu_msg.specs.declared.operations.Op.{Op}
 use Rattle.lu_part.specs.declared.parts.Part.{Part}
@@ -40,18 +39,21 @@ use Rattle.lu_guards.proofs.Held.{held_is}
 use Rattle.lu_guards.proofs.Lists.{in_append, in_filter}
 use Rattle.lu_guards.proofs.Only.{grown_of}
 use Rattle.lu_guards.proofs.Parts.{tree_is, committed_is, life_is_of}
-use Rattle.lu_facts.proofs.Groups.{turn, Flew, Acted, Dead, Evicted, HoldsAt}
+use Rattle.lu_facts.proofs.Groups.{turn, Acted, IsMade, Stands, Dead, Evicted, Lapsed, HoldsAt}
 use Rattle.lu_facts.proofs.LockLists.{held_not, is_of_name}
 use Rattle.lu_facts.proofs.Lines.{acted_more}
 use Rattle.lu_facts.proofs.All.{holds_at}
 use Rattle.lu_facts.proofs.KnownPaths.{Tells, Usable, Right, known_is_right}
-use Rattle.lu_facts.proofs.Taught.{bound_of, tree_for, Under, Taught, tells_for, keeps_taught, first_taught}
+use Rattle.lu_facts.proofs.PartsStay.{sound_now}
+use Rattle.lu_facts.proofs.Unheld.{answers, done_op, Unheld, held_heard}
+use Rattle.lu_facts.proofs.Taught.{bound_of, tree_for, Under, Taught, tells_for, first_taught}
+use Rattle.lu_facts.proofs.TaughtClose.{keeps_taught}
 
 -- ---- at one target
 
 pub taught_at : (head : Head) (past : List Line) → GrownOf head past → Taught head.osts past
 taught_at head [] g = first_taught head.osts
-taught_at head (l ∷ past) g = keeps_taught head past l.at.stamp l.at.node l.entry g.0 g.1 (holds_at head past g.3) (taught_at head past g.3)
+taught_at head (l ∷ past) g = keeps_taught head past l.at.stamp l.at.node l.entry g.0 g.1 (holds_at head past g.3) (holds_at head (l ∷ past) g) (held_heard head past g.3 (holds_at head)) (taught_at head past g.3)
 
 pub client_is : (a b : ℕ) → Client a ≡ Client b → a ≡ b
 client_is a b e = cc
@@ -61,20 +63,14 @@ abbrev pub HeardBy : List Line → ℕ → Flight → ReplyTo → Type 0
 HeardBy [] c f r = ⊥
 HeardBy (l ∷ past) c f r = elim l.entry [ Heard t g k ↦ ((l.at.node ≡ Client c) × (g ≡ f) × (k ≡ r)) ⊎ HeardBy past c f r | _ ↦ HeardBy past c f r ]
 
--- it is to what was done for a life of that client, which it names, and that operation
+-- it is to what was done for a life of that client, which it names, and that operation, with another boot and the number committed then
 abbrev pub Answered : List Line → ℕ → Flight → ReplyTo → Deed → Type 0
-Answered past c f r d = record { acted : Acted past d; who : d.reply.who ≡ r.who; client : r.who.client ≡ c; is : record d.reply { committed = r.committed } ≡ r; op : d.op ≡ f.op }
+Answered past c f r d = record { acted : Acted past d; who : d.reply.who ≡ r.who; client : r.who.client ≡ c; is : record d.reply { boot = r.boot; committed = r.committed } ≡ r; op : d.op ≡ f.op }
 
 answered_now : (head : Head) (past : List Line) (c : ℕ) (f : Flight) (r : ReplyTo) → HeardOk past c f r → HoldsAt head past → (d : Deed) × Answered past c f r d
 answered_now head past c f r ok h =
-    let m = h.done.sent (Target ok.from) (Client c) (message.Reply r) ok.was in
-    let d = m.0 in
-    let who : d.reply.who ≡ r.who = ap (λ (v : ReplyTo). v.who) (sym m.2) in
-    let xid : d.reply.xid.0 ≡ f.xid = ap (λ (v : ReplyTo). v.xid.0) (sym m.2) ∙ sym ok.xid in
-    let k = h.done.flew d m.1 in
-    let w : Who = life_of c past in
-    let same : f ≡ k.0 = h.numbers.one w f k.0 (h.numbers.flying w f ok.flying) (subst (λ (v : Who). Flew past v k.0) (who ∙ ok.who) k.1) (sym xid ∙ sym k.2) in
-    (d, record { acted = m.1; who = who; client = sym m.3; is = sym m.2; op = sym (ap (λ (v : Flight). v.op) same ∙ k.3) })
+    let m = answers head past c f r ok h in
+    (m.deed, record { acted = m.acted; who = ap (λ (v : ReplyTo). v.who) (sym m.is); client = sym m.to; is = sym m.is; op = sym (done_op head past c f r ok h) })
 
 pub heard_answered : (head : Head) (past : List Line) (c : ℕ) (f : Flight) (r : ReplyTo) → GrownOf head past → HeardBy past c f r → (d : Deed) × Answered past c f r d
 heard_answered head [] c f r g i = absurd i
@@ -192,6 +188,7 @@ Standing head past c f =
       whose : deed.reply.who ≡ life_at c past;
       under : Under head.osts (only 0 past) deed f;
       granted : In under.lock (server_of head.osts (only 0 past)).granted ⊎ Evicted (only 0 past) (life_at c past);
+      fresh : Unheld (only 0 past) deed under.lock → ⊥;
       tells : Tells (tree_for head.osts (life_at c past) (only 0 past)) (bound_of head.osts (only 0 past)) f;
     }
 
@@ -207,7 +204,7 @@ held_stands head past c f g known h held same_cookie =
     let s = facts_heard head past c f g known in
     let k = heard_answered head (only 0 past) c s.flight s.reply story (heard_only head past c s.flight s.reply g s.heard) in
     let d = k.0 in
-    let under = (taught_at head (only 0 past) story).under d f (k.1.acted, fact_of (only 0 past) c s.flight s.reply d f k.1 s.fact) in
+    let under = taught_at head (only 0 past) story d f (k.1.acted, fact_of (only 0 past) c s.flight s.reply d f k.1 s.fact) in
     let at = holds_at head (only 0 past) story in
     let locks = at.locks in
     let in_story : In h (held_at c (only 0 past)) = subst (λ (v : List HeldLock). In h v) (held_is head c past g) held in
@@ -226,16 +223,14 @@ held_stands head past c f g known h held same_cookie =
           (λ (i : In h.lock (server_of head.osts (only 0 past)).granted). inl (subst (λ (v : Lock). In v (server_of head.osts (only 0 past)).granted) (sym same.1) i))
           (λ (i : Evicted (only 0 past) (life_of c (only 0 past))). inr (subst (λ (v : Who). Evicted (only 0 past) v) life i))
           holding.granted;
-      tells = ⊎_elim
-          (λ (x : Dead (only 0 past) d under.lock). absurd (held_alive d under.lock c h x client in_story holding.target (ap (λ (v : Lock). v.cookie) (sym same.1))))
-          (λ (x : Tells (tree_for head.osts d.reply.who (only 0 past)) (bound_of head.osts (only 0 past)) f). subst (λ (v : Who). Tells (tree_for head.osts v (only 0 past)) (bound_of head.osts (only 0 past)) f) whose x)
-          (tells_for head.osts (only 0 past) d f locks under k.1.acted);
+      fresh = held_now d under.lock c h client in_story holding.target (ap (λ (v : Lock). v.cookie) (sym same.1));
+      tells = subst (λ (v : Who). Tells (tree_for head.osts v (only 0 past)) (bound_of head.osts (only 0 past)) f) whose
+          (tells_for head (only 0 past) at d f under k.1.acted (held_now d under.lock c h client in_story holding.target (ap (λ (v : Lock). v.cookie) (sym same.1))));
     }
   where
-    -- what is held isn't dead
-    held_alive : (d : Deed) (l : Lock) (b : ℕ) (k : HeldLock) → Dead (only 0 past) d l → d.reply.who.client ≡ b → In k (held_at b (only 0 past)) → k.target.0 ≡ 0 → k.lock.cookie ≡ l.cookie → ⊥
-    held_alive d l b k x client i target e =
-        let no = held_not (name_of l.cookie) (held_at d.reply.who.client (only 0 past)) x.1 k (subst (λ (v : ℕ). In k (held_at v (only 0 past))) (sym client) i) in
+    held_now : (d : Deed) (l : Lock) (b : ℕ) (k : HeldLock) → d.reply.who.client ≡ b → In k (held_at b (only 0 past)) → k.target.0 ≡ 0 → k.lock.cookie ≡ l.cookie → Unheld (only 0 past) d l → ⊥
+    held_now d l b k client i target e x =
+        let no = held_not (name_of l.cookie) (held_at d.reply.who.client (only 0 past)) (⊎_elim (λ (y : Dead (only 0 past) d l). y.1) (λ (y : Lapsed (only 0 past) d l). y.1) x) k (subst (λ (v : ℕ). In k (held_at v (only 0 past))) (sym client) i) in
         let yes = is_of_name l.cookie k target (ap (λ (v : Cookie). v.0) e) in
         absurd (cc)
 
@@ -259,19 +254,20 @@ module _ (head : Head) (past : List Line) (g : Grown head past) (c : ℕ) (numbe
     right =
         let v = server_of head.osts (only 0 past) in
         subst (λ (t : Tree). Right t (notes_at c past) head.osts number who o a) (sym (tree_is head.osts 0 past))
-        (known_is_right v.tree (bound_of head.osts (only 0 past)) (notes_at c past) (λ f u. let s = fact_stands head past c f g u in s.under.stands (still_granted head past c f present s))
-        (taught_at head (only 0 past) (grown_of head 0 past g)).sound.one head.osts number who file k o a known becomes)
+        (known_is_right v.tree (bound_of head.osts (only 0 past)) (notes_at c past) (λ f u. let s = fact_stands head past c f g u in (s.under.stands s.fresh (still_granted head past c f present s)).tells)
+        (sound_now head (only 0 past) (holds_at head (only 0 past) (grown_of head 0 past g))).one head.osts number who file k o a known becomes)
 
     -- it is what the table answers
     pub known_right : a ≡ answer head.osts (tree_at head.osts 0 past) (record { number = number; who = who; op = o })
     known_right = right.same
 
-    -- each transaction that wrote what it looks at is committed, or was seen
-    pub known_saw : (p : Part) → In p (touches head.osts (tree_at head.osts 0 past) (record { number = number; who = who; op = o })) → (e : Deed) → Acted (only 0 past) e → Apart e.writes p ⊎ ((e.reply.txn.0 ≤ (committed_at 0 past).0) ⊎ SawBy e.reply.txn.0)
-    known_saw p i e b =
+    -- each transaction that stands and wrote what it looks at is committed, or was seen
+    pub known_saw : (p : Part) → In p (touches head.osts (tree_at head.osts 0 past) (record { number = number; who = who; op = o })) → (e : Deed) → Acted (only 0 past) e → IsMade e → Stands head.osts (only 0 past) e
+        → Apart e.writes p ⊎ ((e.reply.txn.0 ≤ (committed_at 0 past).0) ⊎ SawBy e.reply.txn.0)
+    known_saw p i e b made stands =
         let f = right.looks p i in
         let s = fact_stands head past c f.0 g f.1 in
-        by s (subst (λ (q : Part). Apart e.writes q ⊎ ((e.reply.txn.0 ≤ (server_of head.osts (only 0 past)).committed.0) ⊎ In e.reply.txn.0 s.deed.reply.seen)) (sym f.2) (s.under.saw (still_granted head past c f.0 present s) e b))
+        by s (subst (λ (q : Part). Apart e.writes q ⊎ ((e.reply.txn.0 ≤ (server_of head.osts (only 0 past)).committed.0) ⊎ In e.reply.txn.0 s.deed.reply.seen)) (sym f.2) ((s.under.stands s.fresh (still_granted head past c f.0 present s)).saw e b made stands))
       where
         by : {f : Fact} (s : Standing head past c f) → Apart e.writes p ⊎ ((e.reply.txn.0 ≤ (server_of head.osts (only 0 past)).committed.0) ⊎ In e.reply.txn.0 s.deed.reply.seen) → Apart e.writes p ⊎ ((e.reply.txn.0 ≤ (committed_at 0 past).0) ⊎ SawBy e.reply.txn.0)
         by s (inl q) = inl q

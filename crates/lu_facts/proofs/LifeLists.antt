@@ -1,19 +1,22 @@
--- Lists of lives by the test that the facts speak of: what stands in one once a life came or went, that none which is over is as new as
+-- Lists of lives by the test that the facts speak of: what stands in one once lives came or went, that none which is over is as new as
 -- one that isn't, and the lives of the start.
-use Rattle.std.proofs.Common.{◌≡◌, ℕ, zero, suc, ◌+◌, ◌<◌, ◌≤◌, Bool, true, false, List, [], ◌∷◌, ◌⊎◌, inl, inr, refl, subst, arith}
+use Rattle.std.proofs.Common.{◌≡◌, ℕ, zero, suc, ◌+◌, ◌<◌, ◌≤◌, Bool, true, false, List, [], ◌∷◌, Option, Some, None, ◌⊎◌, inl, inr, refl, sym, ap, ◌∙◌, subst, arith}
 use Rattle.std.specs.Prelude.{nat_eq, ◌||◌}
 use Rattle.std.specs.List.{list_any}
 use Rattle.std.proofs.lemmas.Bool.{eqb-false}
 use Rattle.std.proofs.lemmas.Bool.Decides.{nat_tests}
 use Rattle.lu_base.specs.declared.ids.Who.{Who}
+use Rattle.lu_words.specs.Carried.{Said}
 use Rattle.lu_words.specs.Words.{same_life}
 use Rattle.lu_target_rows.specs.Leaving.{is_over}
 use Rattle.lu_target_rows.specs.Lives.{is_life, with_life, without_lives}
 use Rattle.lu_target_rows.specs.States.{lives_from}
+use Rattle.lu_target_rows.specs.Windows.{Window, word_of, has_all, is_back}
 use Rattle.lu_covered.specs.Calls.{first_life}
+use Rattle.lu_guards.proofs.Guards.{In}
 use Rattle.lu_guards.proofs.Lists.{life_is, life_self}
 use Rattle.lu_guards.proofs.ClientLocks.{any_false}
-use Rattle.lu_guards.proofs.LifeLists.{stands_life, life_put_or, life_stays}
+use Rattle.lu_guards.proofs.LifeLists.{stands_life, life_put_or, life_stays, life_left, any_with}
 
 -- what stands there once one came is it, or stood there
 pub put_or : (x who : Who) (lives : List Who) → is_life x (with_life who lives) ≡ true → (x ≡ who) ⊎ (is_life x lives ≡ true)
@@ -44,3 +47,39 @@ first_among from (suc more) c low high = by (nat_eq c from) refl (λ e. first_am
     by : (b : Bool) → nat_eq c from ≡ b → (nat_eq c from ≡ false → is_life (first_life c) (lives_from (from + 1) more) ≡ true) → is_life (first_life c) (lives_from from (suc more)) ≡ true
     by true e more = rw e refl
     by false e more = rw e (more e)
+
+pub from_low : (w : Who) (client more : ℕ) → In w (lives_from client more) → w.client < client + more
+from_low w client zero i = absurd i
+from_low w client (suc more) (inl e) = let q : client ≡ w.client = ap (λ (u : Who). u.client) e in omega (arith, q)
+from_low w client (suc more) (inr i) = let lt = from_low w (client + 1) more i in omega (arith, lt)
+
+-- a life that is back had a word
+pub back_word : (v : Window) (x : Who) → is_back v x ≡ true → (w : Said) × (word_of x v.words ≡ Some w)
+back_word v x t = by (word_of x v.words) refl t
+  where
+    by : (o : Option Said) → word_of x v.words ≡ o → has_all v x o ≡ true → (w : Said) × (word_of x v.words ≡ Some w)
+    by None e t = absurd (cc)
+    by (Some w) e t = (w, e)
+
+-- ---- what changes nothing
+
+-- one goes that isn't there
+pub goes_none : (x who : Who) (lives : List Who) → is_life who lives ≡ false → is_life x (without_lives (who ∷ []) lives) ≡ is_life x lives
+goes_none x who lives none = by (is_life x lives) (is_life x (without_lives (who ∷ []) lives)) refl refl
+  where
+    other : is_life x lives ≡ true → x ≡ who → ⊥
+    other t e = let there : is_life who lives ≡ true = subst (λ (w : Who). is_life w lives ≡ true) e t in absurd (cc)
+
+    by : (a b : Bool) → is_life x lives ≡ a → is_life x (without_lives (who ∷ []) lives) ≡ b → b ≡ a
+    by true true p q = refl
+    by true false p q = let stays = life_stays x who lives (other p) p in absurd (cc)
+    by false true p q = let left = life_left x who lives q in let had = left.0 in absurd (cc)
+    by false false p q = refl
+
+-- one comes that is there
+pub puts_there : (x who : Who) (lives : List Who) → is_life who lives ≡ true → is_life x (with_life who lives) ≡ is_life x lives
+puts_there x who lives there = any_with (same_life x) who lives ∙ by (same_life x who) refl
+  where
+    by : (b : Bool) → same_life x who ≡ b → (b || is_life x lives) ≡ is_life x lives
+    by true e = sym (subst (λ (w : Who). is_life w lives ≡ true) (sym (life_is x who e)) there)
+    by false e = refl

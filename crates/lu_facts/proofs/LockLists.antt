@@ -70,7 +70,7 @@ with_in l x (k ∷ ks) i =
     j))
     i
 
-with_new : (l : Lock) (ks : List Lock) → In l (with_lock l ks)
+pub with_new : (l : Lock) (ks : List Lock) → In l (with_lock l ks)
 with_new l [] = inl refl
 with_new l (k ∷ ks) =
     cond_both (nat_eq l.cookie.0 k.cookie.0) (l ∷ ks) (if nat_lt l.cookie.0 k.cookie.0 then l ∷ k ∷ ks else k ∷ with_lock l ks) (λ (zs : List Lock). In l zs)
@@ -78,7 +78,7 @@ with_new l (k ∷ ks) =
     (λ t. cond_both (nat_lt l.cookie.0 k.cookie.0) (l ∷ k ∷ ks) (k ∷ with_lock l ks) (λ (zs : List Lock). In l zs) (λ u. inl refl) (λ u. inr (with_new l ks)))
 
 -- one of that cookie is it
-with_old : (l x : Lock) (ks : List Lock) → (x.cookie.0 ≡ l.cookie.0 → x ≡ l) → In x ks → In x (with_lock l ks)
+pub with_old : (l x : Lock) (ks : List Lock) → (x.cookie.0 ≡ l.cookie.0 → x ≡ l) → In x ks → In x (with_lock l ks)
 with_old l x [] one i = absurd i
 with_old l x (k ∷ ks) one i =
     cond_both (nat_eq l.cookie.0 k.cookie.0) (l ∷ ks) (if nat_lt l.cookie.0 k.cookie.0 then l ∷ k ∷ ks else k ∷ with_lock l ks) (λ (zs : List Lock). In x zs)
@@ -143,11 +143,14 @@ not_held n (g ∷ hs) f = or_from (is_named n g) (is_held n hs) (f g (inl refl))
 pub is_of_name : (c : Cookie) (h : HeldLock) → h.target.0 ≡ 0 → h.lock.cookie.0 ≡ c.0 → is_named (name_of c) h ≡ true
 is_of_name c h t e = and_from (nat_eq 0 h.target.0) (nat_eq c.0 h.lock.cookie.0) (eq-eqb 0 h.target.0 (sym t)) (eq-eqb c.0 h.lock.cookie.0 (sym e))
 
+pub of_cookie : (c : Cookie) (h : HeldLock) → is_named (name_of c) h ≡ true → h.lock.cookie.0 ≡ c.0
+of_cookie c h e = sym (eqb-true c.0 h.lock.cookie.0 (and_parts (nat_eq 0 h.target.0) (nat_eq c.0 h.lock.cookie.0) e).1)
+
 pub not_of_name : (c : Cookie) (h : HeldLock) → (h.lock.cookie.0 ≡ c.0 → ⊥) → is_named (name_of c) h ≡ false
 not_of_name c h f = by (is_named (name_of c) h) refl
   where
     by : (b : Bool) → is_named (name_of c) h ≡ b → is_named (name_of c) h ≡ false
-    by true e = absurd (f (sym (eqb-true c.0 h.lock.cookie.0 (and_parts (nat_eq 0 h.target.0) (nat_eq c.0 h.lock.cookie.0) e).1)))
+    by true e = absurd (f (of_cookie c h e))
     by false e = e
 
 -- ---- what is held was held: with other pins and marks

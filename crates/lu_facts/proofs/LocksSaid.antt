@@ -17,9 +17,10 @@ use Rattle.lu_covered.specs.Heads.{Head}
 use Rattle.lu_guards.proofs.Guards.{In, Was, name_of, Dropped}
 use Rattle.lu_guards.proofs.StoryGuards.{CancelOk, CallsOk, SendOf}
 use Rattle.lu_guards.proofs.Lists.{own_self}
-use Rattle.lu_facts.proofs.Groups.{turn, Hears, Phase, Numbers, Done, Called, Gone, GivenBack, Locks}
+use Rattle.lu_guards.proofs.Grown.{ShowsNext}
+use Rattle.lu_facts.proofs.Groups.{turn, Hears, Numbers, Done, Called, Gone, GivenBack, Locks, HoldsAt}
 use Rattle.lu_facts.proofs.LockLists.{kept_same}
-use Rattle.lu_facts.proofs.LocksStay.{Grows, called_more, given_more, Says, locks_stay}
+use Rattle.lu_facts.proofs.LocksStay.{Grows, called_more, given_more, still_closing, Says, locks_stay}
 
 -- ---- a lock is called back, or given back
 
@@ -31,8 +32,8 @@ dropped_gone (l ∷ past) c cookie d = by l.entry d
     by (Drop target lock) d = inl (subst (λ (v : Node). is_own (life_of c past) past v ≡ true) (sym d.0) (own_self past c), d.1)
     by _ d = absurd d
 
-call_sent : (osts : ℕ) (past : List Line) (c : ℕ) (who : Who) (boot : ℕ) (cookie : Cookie) → CallsOk osts past c who boot cookie → Done osts past → Locks osts past → Called past c who cookie
-call_sent osts past c who boot cookie ok k h =
+call_sent : (osts clients : ℕ) (past : List Line) (c : ℕ) (who : Who) (boot : ℕ) (cookie : Cookie) → CallsOk osts past c who boot cookie → Locks osts clients past → Called past c who cookie
+call_sent osts clients past c who boot cookie ok h =
     let r = h.granted ok.lock ok.granted in
     let of : r.0.reply.who ≡ who = sym (h.whose r.0 ok.lock r.1) ∙ sym ok.of_life in
     record {
@@ -44,8 +45,8 @@ call_sent osts past c who boot cookie ok k h =
       to = sym ok.to;
     }
 
-back_sent : (osts : ℕ) (past : List Line) (c : ℕ) (who : Who) (boot : ℕ) (cookie : Cookie) → CancelOk past c who boot cookie → Phase osts past → Numbers past → Done osts past → Locks osts past → GivenBack past who cookie
-back_sent osts past c who boot cookie ok p n k h =
+back_sent : (osts clients : ℕ) (past : List Line) (c : ℕ) (who : Who) (boot : ℕ) (cookie : Cookie) → CancelOk past c who boot cookie → Numbers past → Done osts clients past → Locks osts clients past → GivenBack past who cookie
+back_sent osts clients past c who boot cookie ok n k h =
     ⊎_elim
     (λ (d : Dropped past c cookie). subst (λ (w : Who). GivenBack past w cookie) (sym ok.of_life) (h.gone (life_of c past) cookie (dropped_gone past c cookie d)))
     (λ (b : (flights_of (life_of c past) past ≡ []) × ((from boot : ℕ) × Was past (Target from) (Client c) (message.Block who boot cookie))). called b.0 (h.blocks (Target b.1.0) c who b.1.1 cookie b.1.2))
@@ -79,21 +80,21 @@ SaidOf past (Client c) (message.Block who boot cookie) = Called past c who cooki
 SaidOf past to (message.Cancel who boot cookie) = GivenBack past who cookie
 SaidOf past to _ = Unit {0}
 
-pub sent_said : (head : Head) (past : List Line) (node to : Node) (m : Message) → SendOf head past node to m → Phase head.osts past → Numbers past → Done head.osts past → Locks head.osts past → SaidOf past to m
-sent_said head past (Client c) (Target t) (message.Request r) ok p n k h = tt
-sent_said head past (Client c) (Target t) (message.Cancel who boot cookie) ok p n k h = back_sent head.osts past c who boot cookie ok p n k h
-sent_said head past (Client c) (Target t) (message.Join who boot) ok p n k h = tt
-sent_said head past (Target t) (Client c) (message.Reply r) ok p n k h = tt
-sent_said head past (Target t) (Client c) (message.Block who boot cookie) ok p n k h = call_sent head.osts past c who boot cookie ok k h
-sent_said head past (Target t) (Client c) (message.Ready who boot committed) ok p n k h = tt
-sent_said head past (Target t) (Client c) (message.Evicted who boot) ok p n k h = tt
-sent_said head past (Client c) (Target t) (message.Replay r) ok p n k h = tt
-sent_said head past (Client c) (Target t) (message.Lock r) ok p n k h = tt
-sent_said head past (Client c) (Target t) (message.Word who boot replays locks seen) ok p n k h = tt
-sent_said head past (Target t) (Client c) (message.Up boot) ok p n k h = tt
-sent_said head past node to m ok p n k h = absurd ok
+pub sent_said : (head : Head) (past : List Line) (node to : Node) (m : Message) → SendOf head past node to m → HoldsAt head past → SaidOf past to m
+sent_said head past (Client c) (Target t) (message.Request r) ok h = tt
+sent_said head past (Client c) (Target t) (message.Cancel who boot cookie) ok h = back_sent head.osts head.clients past c who boot cookie ok h.numbers h.done h.locks
+sent_said head past (Client c) (Target t) (message.Join who boot) ok h = tt
+sent_said head past (Target t) (Client c) (message.Reply r) ok h = tt
+sent_said head past (Target t) (Client c) (message.Block who boot cookie) ok h = call_sent head.osts head.clients past c who boot cookie ok h.locks
+sent_said head past (Target t) (Client c) (message.Ready who boot committed) ok h = tt
+sent_said head past (Target t) (Client c) (message.Evicted who boot) ok h = tt
+sent_said head past (Client c) (Target t) (message.Replay r) ok h = tt
+sent_said head past (Client c) (Target t) (message.Lock r) ok h = tt
+sent_said head past (Client c) (Target t) (message.Word who boot replays locks seen) ok h = tt
+sent_said head past (Target t) (Client c) (message.Up boot) ok h = tt
+sent_said head past node to m ok h = absurd ok
 
-module _ (osts : ℕ) (past : List Line) (at : At) (to : Node) (m : Message) (said : SaidOf past to m) (h : Locks osts past) where
+module _ (osts clients : ℕ) (past : List Line) (at : At) (to : Node) (m : Message) (said : SaidOf past to m) (h : Locks osts clients past) where
   abbrev sending : List Line
   sending = line at (Send to m) ∷ past
 
@@ -117,12 +118,43 @@ module _ (osts : ℕ) (past : List Line) (at : At) (to : Node) (m : Message) (sa
       back (Client c) who boot cookie b = b
       back (Target t) who boot cookie b = b
 
-pub locks_send : (osts : ℕ) (past : List Line) (stamp : Stamp) (node to : Node) (m : Message) → SaidOf past to m → Locks osts past → Locks osts (line (turn stamp node) (Send to m) ∷ past)
-locks_send osts past stamp (Client c) to m said h =
-    locks_stay osts past (line (turn stamp (Client c)) (Send to m) ∷ past)
-    (record { grows = record { acted = λ d a. a; hears = λ d x a. a }; before = λ d l g. g; granted = refl; cookie = refl; shown = refl; serves = λ s. s; up = refl; evicted = λ who i. i; life = λ d. refl; kept = λ d k i. kept_same (held_at d past) k i }) h
-    (says_more osts past (turn stamp (Client c)) to m said h)
-locks_send osts past stamp (Target t) to m said h =
-    locks_stay osts past (line (turn stamp (Target t)) (Send to m) ∷ past)
-    (record { grows = record { acted = λ d a. a; hears = λ d x a. a }; before = λ d l g. g; granted = refl; cookie = refl; shown = refl; serves = λ s. s; up = refl; evicted = λ who i. i; life = λ d. refl; kept = λ d k i. kept_same (held_at d past) k i }) h
-    (says_more osts past (turn stamp (Target t)) to m said h)
+pub locks_send : (head : Head) (past : List Line) (stamp : Stamp) (node to : Node) (m : Message) → ShowsNext head past (turn stamp node) (Send to m) → SaidOf past to m → Locks head.osts head.clients past
+    → Locks head.osts head.clients (line (turn stamp node) (Send to m) ∷ past)
+locks_send head past stamp (Client c) to m shows said h =
+    locks_stay head.osts head.clients past (line (turn stamp (Client c)) (Send to m) ∷ past)
+    (record {
+      grows = record { acted = λ d a. a; hears = λ d x a. a };
+      before = λ d l g. g;
+      granted = refl;
+      boot = refl;
+      cookie = refl;
+      shown = refl;
+      known = λ d. refl;
+      closing = λ l i. i;
+      serves = λ s. s;
+      up = refl;
+      evicted = λ who i. i;
+      life = λ d. refl;
+      kept = λ d k i. kept_same (held_at d past) k i;
+    })
+    h
+    (says_more head.osts head.clients past (turn stamp (Client c)) to m said h)
+locks_send head past stamp (Target t) to m shows said h =
+    locks_stay head.osts head.clients past (line (turn stamp (Target t)) (Send to m) ∷ past)
+    (record {
+      grows = record { acted = λ d a. a; hears = λ d x a. a };
+      before = λ d l g. g;
+      granted = refl;
+      boot = refl;
+      cookie = refl;
+      shown = refl;
+      known = λ d. refl;
+      closing = λ l. still_closing head past (turn stamp (Target t)) (Send to m) shows l (λ q. absurd (cc));
+      serves = λ s. s;
+      up = refl;
+      evicted = λ who i. i;
+      life = λ d. refl;
+      kept = λ d k i. kept_same (held_at d past) k i;
+    })
+    h
+    (says_more head.osts head.clients past (turn stamp (Target t)) to m said h)

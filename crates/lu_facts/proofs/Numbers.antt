@@ -18,7 +18,7 @@ use Rattle.lu_covered.specs.Heads.{Head}
 use Rattle.lu_guards.proofs.Guards.{In}
 use Rattle.lu_guards.proofs.StoryGuards.{FliesOk, LifeOf, EntryOf}
 use Rattle.lu_guards.proofs.Lists.{self, in_append, in_filter, in_filtered, in_left, in_right, own_is}
-use Rattle.lu_facts.proofs.Groups.{turn, Flew, Hears, Phase, Tagged, Numbers, Room}
+use Rattle.lu_facts.proofs.Groups.{turn, Flew, Hears, Phase, Tagged, Numbers, Room, HoldsAt}
 use Rattle.lu_facts.proofs.Phase.{life_rises}
 
 -- ---- the free tag
@@ -218,14 +218,27 @@ numbers_life past stamp d new ok h =
       lived = λ who f p. let le = h.lived who f p in let rises = life_rises past stamp d new ok who.client in omega arith;
     }
 
-pub keeps_numbers : (head : Head) (past : List Line) (stamp : Stamp) (node : Node) (e : Entry) → EntryOf head past (turn stamp node) node e
-    → Phase head.osts past → Numbers past → Numbers (line (turn stamp node) e ∷ past)
-keeps_numbers head past stamp (Client c) (Flies t f) ok p h = numbers_flies head past stamp c t f ok p h
-keeps_numbers head past stamp (Client c) (Heard t f r) ok p h = numbers_heard past stamp c t f r ok.flying h
-keeps_numbers head past stamp (Client c) (Life who) ok p h = numbers_life past stamp c who ok h
-keeps_numbers head past stamp (Target u) (Flies t f) ok p h = absurd ok
-keeps_numbers head past stamp (Target u) (Heard t f r) ok p h = absurd ok
-keeps_numbers head past stamp node e ok p h = h
+pub numbers_start : Numbers []
+numbers_start =
+    record {
+      positive = λ who f i. absurd i;
+      tagged = λ who f i. absurd i;
+      one = λ who f g i. absurd i;
+      flying = λ who f i. absurd i;
+      tags = λ who f g i. absurd i;
+      over = λ who x i. absurd i;
+      stays = λ who f i. absurd i;
+      after = λ who f g i. absurd i;
+      lived = λ who f i. absurd i;
+    }
+
+pub keeps_numbers : (head : Head) (past : List Line) (stamp : Stamp) (node : Node) (e : Entry) → EntryOf head past (turn stamp node) node e → HoldsAt head past → Numbers (line (turn stamp node) e ∷ past)
+keeps_numbers head past stamp (Client c) (Flies t f) ok h = numbers_flies head past stamp c t f ok h.phase h.numbers
+keeps_numbers head past stamp (Client c) (Heard t f r) ok h = numbers_heard past stamp c t f r ok.flying h.numbers
+keeps_numbers head past stamp (Client c) (Life who) ok h = numbers_life past stamp c who ok h.numbers
+keeps_numbers head past stamp (Target u) (Flies t f) ok h = absurd ok
+keeps_numbers head past stamp (Target u) (Heard t f r) ok h = absurd ok
+keeps_numbers head past stamp node e ok h = h.numbers
 
 -- ---- room
 
@@ -237,16 +250,18 @@ length_less : (g : Flight → Bool) (xs : List Flight) → length (filter g xs) 
 length_less g [] = omega arith
 length_less g (x ∷ xs) = let h = length_less g xs in cond_both (g x) (x ∷ filter g xs) (filter g xs) (λ (ys : List Flight). length ys ≤ length (x ∷ xs)) (λ t. omega arith) (λ t. omega arith)
 
-pub keeps_room : (head : Head) (past : List Line) (stamp : Stamp) (node : Node) (e : Entry) → EntryOf head past (turn stamp node) node e
-    → Room head past → Room head (line (turn stamp node) e ∷ past)
+pub room_start : (head : Head) → Room head []
+room_start head who = omega arith
+
+pub keeps_room : (head : Head) (past : List Line) (stamp : Stamp) (node : Node) (e : Entry) → EntryOf head past (turn stamp node) node e → HoldsAt head past → Room head (line (turn stamp node) e ∷ past)
 keeps_room head past stamp (Client d) (Flies t f) ok h = λ who.
     cond_both (is_own who past (Client d)) (flights_of who past ++ f ∷ []) (flights_of who past) (λ (fs : List Flight). length fs ≤ head.flight)
     (λ q. let s : length (flights_of who past) ≡ length (flights_of (life_of d past) past) = ap (λ v. length (flights_of v past)) (own_is who past d q) in let r = ok.room in let l = length_snoc (flights_of who past) f in omega arith)
-    (λ q. h who)
+    (λ q. h.room who)
 keeps_room head past stamp (Client d) (Heard t f r) ok h = λ who.
     cond_both (is_own who past (Client d)) (without_flight f.xid (flights_of who past)) (flights_of who past) (λ (fs : List Flight). length fs ≤ head.flight)
-    (λ q. let l = length_less (λ (k : Flight). not (nat_eq k.xid f.xid)) (flights_of who past) in let k = h who in omega arith)
-    (λ q. h who)
+    (λ q. let l = length_less (λ (k : Flight). not (nat_eq k.xid f.xid)) (flights_of who past) in let k = h.room who in omega arith)
+    (λ q. h.room who)
 keeps_room head past stamp (Target u) (Flies t f) ok h = absurd ok
 keeps_room head past stamp (Target u) (Heard t f r) ok h = absurd ok
-keeps_room head past stamp node e ok h = h
+keeps_room head past stamp node e ok h = h.room

@@ -15,7 +15,6 @@ use Rattle.lu_msg.specs.declared.answers.Answer.{Answer}
 use Rattle.lu_msg.specs.declared.answers.Answer.TheVariants as told
 use Rattle.lu_msg.specs.declared.calls.Call.{Call}
 use Rattle.lu_msg.specs.declared.calls.Call.TheVariants as call
-use Rattle.lu_msg.specs.declared.messages.Message.TheVariants as message
 use Rattle.lu_msg.specs.declared.messages.Reply.{Reply as ReplyTo}
 use Rattle.lu_words.specs.Carried.{Deed, HandleFile, Flight, Asking, Asked, Answered, Work, Running}
 use Rattle.lu_words.specs.Words.{Entry, Tick, Begin, Queues, Heard, Told, Life, Stands, Line, line}
@@ -30,10 +29,11 @@ use Rattle.lu_guards.proofs.StoryGuards.{HeardOk}
 use Rattle.lu_guards.proofs.Grown.{Grown}
 use Rattle.lu_guards.proofs.Lists.{self, own_self}
 use Rattle.lu_guards.proofs.Parts.{life_is_of}
-use Rattle.lu_facts.proofs.Groups.{turn, Acted, Hears}
+use Rattle.lu_facts.proofs.Groups.{turn, Acted, Hears, RepliesTo, HoldsAt}
 use Rattle.lu_facts.proofs.Lines.{AtEach, acted_whole, only_more, hears_only}
 use Rattle.lu_facts.proofs.Calls.{Began, Touched, call_cases}
 use Rattle.lu_facts.proofs.All.{holds}
+use Rattle.lu_facts.proofs.Unheld.{answers, done_who, done_xid}
 use Rattle.lu_facts.proofs.Transactions.{one_number, opened_number}
 
 -- ---- the file of a call
@@ -322,22 +322,25 @@ module _ (head : Head) (past : List Line) (g : Grown head past) (opens : Opens p
   abbrev hears : List Line
   hears = line (turn stamp (Client d)) (Heard 0 f r) ∷ past
 
+  abbrev at : HoldsAt head (only 0 past)
+  at = (holds head past g).at 0
+
   -- the deed that is replied to, of the life and number of the flight
-  abbrev replied : (deed : Deed) × Acted (only 0 past) deed × (r ≡ record deed.reply { committed = r.committed }) × (d ≡ r.who.client)
-  replied = ((holds head past g).at 0).done.sent (Target ok.from) (Client d) (message.Reply r) ok.was
+  abbrev replied : RepliesTo head.osts (only 0 past) d r
+  replied = answers head (only 0 past) d f r ok at
 
-  whose : replied.0.reply.who ≡ life_at d past
-  whose = ap (λ (v : ReplyTo). v.who) (sym replied.2) ∙ ok.who ∙ sym (life_is_of d 0 past)
+  whose : replied.deed.reply.who ≡ life_at d past
+  whose = done_who head (only 0 past) d f r ok at ∙ sym (life_is_of d 0 past)
 
-  its : replied.0.reply.xid.0 ≡ f.xid
-  its = ap (λ (v : ReplyTo). v.xid.0) (sym replied.2) ∙ sym ok.xid
+  its : replied.deed.reply.xid.0 ≡ f.xid
+  its = sym (done_xid head (only 0 past) d f r ok at)
 
   module _ (n : ℕ) (has : number_in (opened_by r.answer) ≡ Some n) where
-    numbered : (replied.0.reply.txn.0 ≡ n) × (1 ≤ n)
+    numbered : (replied.deed.reply.txn.0 ≡ n) × (1 ≤ n)
     numbered =
         let k = opened_is r.answer n has in
-        let o = opened_number head past replied.0 k.0 k.1 k.2 g (acted_whole 0 past replied.0 replied.1) (ap (λ (v : ReplyTo). v.answer) (sym replied.2) ∙ k.3) in
-        let same : replied.0.reply.txn.0 ≡ n = ap (λ (v : Txn). v.0) (sym o.0) ∙ k.4 in
+        let o = opened_number head past replied.deed k.0 k.1 k.2 g (acted_whole 0 past replied.deed replied.acted) (ap (λ (v : ReplyTo). v.answer) (sym replied.is) ∙ k.3) in
+        let same : replied.deed.reply.txn.0 ≡ n = ap (λ (v : Txn). v.0) (sym o.0) ∙ k.4 in
         let some = o.1 in
         (same, omega (arith, same, some))
 
@@ -348,15 +351,15 @@ module _ (head : Head) (past : List Line) (g : Grown head past) (opens : Opens p
         let some = numbered.1 in
         let mine = numbered.0 in
         let yours = k.number in
-        let same : replied.0 ≡ k.deed = one_number head past replied.0 k.deed g (acted_whole 0 past replied.0 replied.1) (acted_whole 0 past k.deed k.acted) (omega (arith, mine, some)) (mine ∙ sym yours) in
+        let same : replied.deed ≡ k.deed = one_number head past replied.deed k.deed g (acted_whole 0 past replied.deed replied.acted) (acted_whole 0 past k.deed k.acted) (omega (arith, mine, some)) (mine ∙ sym yours) in
         let x : k.deed.reply.xid.0 ≡ f.xid = ap (λ (v : Deed). v.reply.xid.0) (sym same) ∙ its in
         (((holds head past g).at 0).numbers.over (life_at d past) k.deed.reply.xid.0 k.heard).1 f (subst (λ (w : Who). In f (flights_of w (only 0 past))) (sym (life_is_of d 0 past)) ok.flying) (sym x)
 
     given_now : Given hears d n
     given_now =
         record {
-          deed = replied.0;
-          acted = only_more 0 (line (turn stamp (Client d)) (Heard 0 f r)) past replied.0 replied.1;
+          deed = replied.deed;
+          acted = only_more 0 (line (turn stamp (Client d)) (Heard 0 f r)) past replied.deed replied.acted;
           who = whose;
           heard = inl (subst (λ (w : Who). is_own w (only 0 past) (Client d) ≡ true) (sym (life_is_of d 0 past)) (own_self (only 0 past) d), sym its);
           number = numbered.0;

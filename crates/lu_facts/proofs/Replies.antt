@@ -61,15 +61,15 @@ heard_replied : (head : Head) (past : List Line) (d u slot : ℕ) (f : Flight) (
 heard_replied head past d u slot f k before g lives ok at asks since s call =
     let m = at.done.sent (Target ok.from) (Client d) (message.Reply k) ok.was in
     let flying : In f (flights_at d u past) = subst (λ (fs : List Flight). In f fs) (sym (flights_now head d u past g)) ok.flying in
-    let mine : m.0.reply.who ≡ life_of d (only u past) = ap (λ (v : ReplyTo). v.who) (sym m.2) ∙ ok.who in
-    let x : m.0.reply.xid.0 ≡ f.xid = ap (λ (v : ReplyTo). v.xid.0) (sym m.2) ∙ sym ok.xid in
+    let mine : m.deed.reply.who ≡ life_of d (only u past) = ap (λ (v : ReplyTo). v.who) (sym m.is) ∙ ok.who in
+    let x : m.deed.reply.xid.0 ≡ f.xid = ap (λ (v : ReplyTo). v.xid.0) (sym m.is) ∙ sym ok.xid in
     record {
-      deed = m.0;
-      acted = m.1;
-      is = sym m.2;
+      deed = m.deed;
+      acted = m.acted;
+      is = sym m.is;
       client = ok.who ∙ sym (life_is_of d u past);
-      op = call_op past d slot f before (asks.fly_calls d u f lives flying) s call ∙ ap (λ (v : Op). Some v) (flew_op head (only u past) (life_of d (only u past)) f m.0 at ok.flying m.1 mine x);
-      since = subst (λ (v : ReplyTo). Upto before.at v.at) (sym m.2) (since d u slot f before m.0 flying s call m.1 (mine ∙ sym (life_is_of d u past)) x);
+      op = call_op past d slot f before (asks.fly_calls d u f lives flying) s call ∙ ap (λ (v : Op). Some v) (flew_op head (only u past) (life_of d (only u past)) f m.deed at ok.flying m.acted mine x);
+      since = subst (λ (v : ReplyTo). Upto before.at v.at) (sym m.is) (since d u slot f before m.deed flying s call m.acted (mine ∙ sym (life_is_of d u past)) x);
     }
 
 replied_as : (past : List Line) (c : ℕ) (q r : Running) (t : ℕ) (k : ReplyTo) → q.at ≡ r.at → q.call ≡ r.call → q.file ≡ r.file → Replied past c q t k → Replied past c r t k

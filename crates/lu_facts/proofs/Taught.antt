@@ -1,17 +1,15 @@
--- What replies to readings taught is true while the lock is granted under which it is known; and each transaction that wrote what
--- such a fact is of is committed, or the reply has seen it. To a life that was evicted all that it knows is true of the tree as it
--- was then.
-use Rattle.std.proofs.Common.{◌≡◌, ℕ, ◌+◌, ◌*◌, ◌<◌, ◌≤◌, Bool, true, false, List, [], ◌∷◌, ◌++◌, ◌⊎◌, inl, inr, ⊎_elim, refl, sym, subst, ap, ◌∙◌, arith}
-use Rattle.std.specs.Prelude.{◌||◌, not, nat_lt, ◌==◌, filter, if◌then◌else◌}
-use Rattle.std.specs.List.{list_any}
-use Rattle.std.proofs.lemmas.Bool.{cond_both, cond-true, ltb-true, ltb-false}
+-- What replies to readings taught is true while the lock is granted under which it is known, unless its client doesn't hold that and never will; and each
+-- transaction that stands and wrote what such a fact is of is committed, or the reply has seen it. To a life that was evicted all that it knows is true of
+-- the tree as it was then. Here all lines but those that close a recovery window.
+use Rattle.std.proofs.Common.{◌≡◌, ℕ, ◌+◌, ◌*◌, ◌<◌, ◌≤◌, Bool, true, false, List, [], ◌∷◌, ◌⊎◌, inl, inr, ⊎_elim, refl, sym, subst, ap, ◌∙◌, arith, Some}
+use Rattle.std.specs.Prelude.{not, ◌==◌, if◌then◌else◌}
+use Rattle.std.proofs.lemmas.Bool.{cond-true, cond-false}
 use Rattle.lu_base.specs.declared.ids.At.{At}
+use Rattle.lu_base.specs.declared.ids.Fid.{Fid}
 use Rattle.lu_base.specs.declared.ids.Node.{Node}
 use Rattle.lu_base.specs.declared.ids.Node.TheVariants.{Client, Target}
 use Rattle.lu_base.specs.declared.ids.Stamp.{Stamp}
-use Rattle.lu_base.specs.declared.ids.Txn.{Txn as TxnOf}
 use Rattle.lu_base.specs.declared.ids.Who.{Who}
-use Rattle.lu_base.specs.declared.locks.Cause.{Cause}
 use Rattle.lu_base.specs.declared.locks.Lock.{Lock}
 use Rattle.lu_msg.specs.declared.answers.Answer.{Answer}
 use Rattle.lu_msg.specs.declared.answers.Answer.TheVariants as told
@@ -19,35 +17,36 @@ use Rattle.lu_msg.specs.declared.commits.Batch.{Batch}
 use Rattle.lu_msg.specs.declared.messages.Request.{Request as RequestOf}
 use Rattle.lu_msg.specs.declared.operations.Op.{Op}
 use Rattle.lu_msg.specs.declared.operations.Op.TheVariants as op
-use Rattle.lu_part.specs.Meets.{meets}
+use Rattle.lu_part.specs.declared.bits.TheConstants.{LOOKUP}
 use Rattle.lu_part.specs.declared.parts.Part.{Part}
-use Rattle.lu_machine.specs.Tree.{Tree}
-use Rattle.lu_machine.specs.Footprint.{empty, touches, grants, changes, after, forget, Apart}
-use Rattle.lu_machine.specs.Seen.{meet}
-use Rattle.lu_machine.proofs.Stated.{unchanged_stay}
+use Rattle.lu_part.specs.declared.parts.Part.TheVariants as part
+use Rattle.lu_machine.specs.declared.child.Child.{Child}
+use Rattle.lu_machine.specs.Tree.{Tree, fid_of, child}
+use Rattle.lu_machine.specs.Table.{root}
+use Rattle.lu_machine.specs.Footprint.{Same, empty, touches, grants, after, Apart}
+use Rattle.lu_machine.proofs.Footprints.{same_refl}
 use Rattle.lu_words.specs.Carried.{Deed}
-use Rattle.lu_words.specs.Words.{Entry, Act, Txn as Made, Commit, Release, Enters, Evict, Boot, Line, line}
+use Rattle.lu_words.specs.Words.{Entry, Act, Txn as Made, Commit, Close, Release, Evict, Boot, Line, line}
 use Rattle.lu_client_rows.specs.Facts.{Fact, taught}
 use Rattle.lu_target_rows.specs.Lives.{is_life}
 use Rattle.lu_target_rows.specs.Locks.{with_locks}
 use Rattle.lu_target_rows.specs.Names.{in_way, is_free}
-use Rattle.lu_covered.specs.TargetParts.{operation, is_request_of, without_request}
-use Rattle.lu_covered.specs.TargetStates.{none, server_of, evicted_of, next_number, seen_in}
+use Rattle.lu_covered.specs.TargetParts.{operation}
+use Rattle.lu_covered.specs.TargetStates.{Server, none, server_of, evicted_of, next_number}
+use Rattle.lu_covered.specs.TargetCloses.{is_lost}
 use Rattle.lu_covered.specs.Deeds.{asked, deed, locks_of, written_by}
 use Rattle.lu_covered.specs.Heads.{Head}
 use Rattle.lu_guards.proofs.Guards.{In}
-use Rattle.lu_guards.proofs.StoryGuards.{CommitOk, EntersOk, IsServing, EntryOf}
+use Rattle.lu_guards.proofs.StoryGuards.{CommitOk, IsServing, EntryOf}
 use Rattle.lu_guards.proofs.Grown.{IsOfFirst}
-use Rattle.lu_guards.proofs.Lists.{in_append, in_left, in_right, in_filter, in_filtered, or_left, or_right}
-use Rattle.lu_facts.proofs.Groups.{turn, Acted, Dead, Evicted, Locks, Lives, HoldsAt}
+use Rattle.lu_guards.proofs.Lists.{in_filter}
+use Rattle.lu_facts.proofs.Groups.{turn, Acted, IsMade, Dead, Evicted, Lapsed, HoldsAt}
 use Rattle.lu_facts.proofs.LockLists.{from_high, withs_in, left_in}
-use Rattle.lu_facts.proofs.LocksStay.{StaysDead}
-use Rattle.lu_facts.proofs.Locks.{keeps_dead}
 use Rattle.lu_facts.proofs.KnownPaths.{Tells}
-use Rattle.lu_facts.proofs.TaughtFacts.{Lies, taught_right}
-use Rattle.lu_facts.proofs.FactsStay.{IsSound, sound_empty, sound_after, sound_forget, free_spares, fact_stays, fact_unwritten, tells_wide, tells_forget}
-use Rattle.lu_guards.proofs.LifeLists.{life_put, life_put_more}
-use Rattle.lu_facts.proofs.LifeLists.{put_or}
+use Rattle.lu_facts.proofs.TaughtFacts.{Guards, LiesOn, Lies, SeenPlace, PlaceOf, taught_right}
+use Rattle.lu_facts.proofs.FactsStay.{Spares, IsSound, free_spares, fact_stays, fact_unwritten, place_stays, tells_wide, tells_all}
+use Rattle.lu_facts.proofs.PartsStay.{Closed, OfKept, Saw, act_kept, act_saw, sound_now, same_forgot}
+use Rattle.lu_facts.proofs.Unheld.{Unheld, keeps_unheld}
 
 -- ---- the group
 
@@ -59,17 +58,35 @@ bound_of osts past = (server_of osts past).boot * 4294967296 + (server_of osts p
 abbrev pub TaughtBy : List Line → Deed → Fact → Type 0
 TaughtBy past d f = Acted past d × In f (taught d.op d.reply.answer d.reply.locks)
 
--- nothing that was done wrote what the part is of, but what is committed or was seen
-abbrev pub Saw : ℕ → List Line → Deed → Part → Type 0
-Saw osts past d p = (e : Deed) → Acted past e → Apart e.writes p ⊎ ((e.reply.txn.0 ≤ (server_of osts past).committed.0) ⊎ In e.reply.txn.0 d.reply.seen)
-
 -- the tree as that life knew it: as it was when the life was evicted, or as it is
 abbrev pub tree_for : ℕ → Who → List Line → Tree
 tree_for osts who [] = empty
-tree_for osts who (l ∷ past) = if is_life who (evicted_of past) then tree_for osts who past else (server_of osts (l ∷ past)).tree
+tree_for osts who (l ∷ past) =
+    if is_life who (evicted_of (l ∷ past)) then (if is_life who (evicted_of past) then tree_for osts who past else (server_of osts past).tree)
+    else (server_of osts (l ∷ past)).tree
 
--- it lies under one of the locks that came with the reply: while that is granted, it is true; and where its life was evicted, it was
--- true then, but if the lock is dead
+-- it is the root, or a name leads there that the deed looked at
+abbrev pub Seat : ℕ → List Line → Deed → Child → Type 0
+Seat osts past d c =
+    (c ≡ root) ⊎ ((e : Fid) × (n : List ℕ) × (child (server_of osts past).tree e n ≡ Some c) × (e.0 ≤ bound_of osts past) × Saw osts past d (part.Name e n) × OfKept osts past d (part.Name e n))
+
+-- what attributes are of has its place
+abbrev pub SeatFor : ℕ → List Line → Deed → Part → Type 0
+SeatFor osts past d (part.Attr f) = (c : Child) × (fid_of c ≡ f) × Seat osts past d c
+SeatFor osts past d _ = Unit {0}
+
+-- a fact is true, what stands and wrote what it is of is committed or was seen, and so is what made the inode that it is of
+abbrev pub Rests : ℕ → List Line → Deed → Fact → Type 0
+Rests osts past d f =
+    record {
+      tells : Tells (server_of osts past).tree (bound_of osts past) f;
+      saw : Saw osts past d f.part;
+      kept : OfKept osts past d f.part;
+      seat : SeatFor osts past d f.part;
+    }
+
+-- it lies under one of the locks that came with the reply: while that is granted, it is true; and where its life was evicted, it was true then; but for
+-- a lock that isn't held and never will be
 abbrev pub Under : ℕ → List Line → Deed → Fact → Type 0
 Under osts past d f =
     record {
@@ -77,77 +94,126 @@ Under osts past d f =
       among : In lock d.reply.locks;
       cookie : lock.cookie ≡ f.cookie;
       lies : Lies lock f;
-      stands : In lock (server_of osts past).granted → Tells (server_of osts past).tree (bound_of osts past) f;
-      saw : In lock (server_of osts past).granted → Saw osts past d f.part;
-      left : Evicted past d.reply.who → Dead past d lock ⊎ Tells (tree_for osts d.reply.who past) (bound_of osts past) f;
+      stands : (Unheld past d lock → ⊥) → In lock (server_of osts past).granted → Rests osts past d f;
+      left : (Unheld past d lock → ⊥) → Evicted past d.reply.who → Tells (tree_for osts d.reply.who past) (bound_of osts past) f;
     }
 
 abbrev pub Taught : ℕ → List Line → Type 0
-Taught osts past =
-    record {
-      sound : IsSound (server_of osts past).tree (bound_of osts past);
-      above : (d : Deed) → In d (server_of osts past).log → (server_of osts past).committed.0 < d.reply.txn.0;
-      low : (d : Deed) → In d (server_of osts past).log → d.reply.txn.0 ≤ bound_of osts past;
-      top : (server_of osts past).committed.0 ≤ bound_of osts past;
-      logged : (d : Deed) → Acted past d → (d.writes ≡ []) ⊎ (In d (server_of osts past).log ⊎ (d.reply.txn.0 ≤ (server_of osts past).committed.0));
-      under : (d : Deed) (f : Fact) → TaughtBy past d f → Under osts past d f;
-      waits : (r : RequestOf) → In r (server_of osts past).waiting → Evicted past r.who → ⊥;
-    }
+Taught osts past = (d : Deed) (f : Fact) → TaughtBy past d f → Under osts past d f
 
 -- ---- the tree as a life knew it
 
 -- it is the target's, if the life wasn't evicted
-pub tree_now : (osts : ℕ) (who : Who) (past : List Line) → is_life who (evicted_of past) ≡ false → tree_for osts who past ≡ (server_of osts past).tree
+tree_now : (osts : ℕ) (who : Who) (past : List Line) → is_life who (evicted_of past) ≡ false → tree_for osts who past ≡ (server_of osts past).tree
 tree_now osts who [] e = refl
-tree_now osts who (l ∷ past) e = by (is_life who (evicted_of past)) refl
-  where
-    more : (node : Node) (x : Entry) → is_life who (evicted_of past) ≡ true → is_life who (evicted_of (line (turn l.at.stamp node) x ∷ past)) ≡ true
-    more (Target t) (Evict w cause) q = life_put_more who w (evicted_of past) q
-    more node x q = q
-
-    by : (b : Bool) → is_life who (evicted_of past) ≡ b → (if b then tree_for osts who past else (server_of osts (l ∷ past)).tree) ≡ (server_of osts (l ∷ past)).tree
-    by true q = absurd (let m = more l.at.node l.entry q in cc)
-    by false q = refl
+tree_now osts who (l ∷ past) e = cond-false (is_life who (evicted_of (l ∷ past))) _ (server_of osts (l ∷ past)).tree e
 
 -- and stays as it was from then on
-pub tree_then : (osts : ℕ) (who : Who) (l : Line) (past : List Line) → Evicted past who → tree_for osts who (l ∷ past) ≡ tree_for osts who past
-tree_then osts who l past e = cond-true (is_life who (evicted_of past)) (tree_for osts who past) (server_of osts (l ∷ past)).tree e
+tree_then : (osts : ℕ) (who : Who) (l : Line) (past : List Line) → Evicted past who → Evicted (l ∷ past) who → tree_for osts who (l ∷ past) ≡ tree_for osts who past
+tree_then osts who l past e now = cond-true (is_life who (evicted_of (l ∷ past))) _ (server_of osts (l ∷ past)).tree now ∙ cond-true (is_life who (evicted_of past)) (tree_for osts who past) (server_of osts past).tree e
 
--- what was taught is true of it, while the lock isn't dead
-pub tells_for : (osts : ℕ) (past : List Line) (d : Deed) (f : Fact) → Locks osts past → (k : Under osts past d f) → Acted past d → Dead past d k.lock ⊎ Tells (tree_for osts d.reply.who past) (bound_of osts past) f
-tells_for osts past d f ls k a = by (is_life d.reply.who (evicted_of past)) refl
-  where
-    by : (b : Bool) → is_life d.reply.who (evicted_of past) ≡ b → Dead past d k.lock ⊎ Tells (tree_for osts d.reply.who past) (bound_of osts past) f
-    by true e = k.left e
-    by false e = ⊎_elim
-        (λ (i : In k.lock (server_of osts past).granted). inr (subst (λ (t : Tree). Tells t (bound_of osts past) f) (sym (tree_now osts d.reply.who past e)) (k.stands i)))
-        (⊎_elim (λ (x : Dead past d k.lock). inl x) (λ (x : Evicted past d.reply.who). absurd (cc)))
-        (ls.alive d k.lock (a, k.among))
+-- as it was before the line that evicts the life
+tree_left : (osts : ℕ) (who : Who) (l : Line) (past : List Line) → is_life who (evicted_of past) ≡ false → Evicted (l ∷ past) who → tree_for osts who (l ∷ past) ≡ (server_of osts past).tree
+tree_left osts who l past e now = cond-true (is_life who (evicted_of (l ∷ past))) _ (server_of osts (l ∷ past)).tree now ∙ cond-false (is_life who (evicted_of past)) (tree_for osts who past) (server_of osts past).tree e
 
--- ---- lists
+module _ (head : Head) (past : List Line) (all : HoldsAt head past) (d : Deed) (f : Fact) (k : Under head.osts past d f) (a : Acted past d) (fresh : Unheld past d k.lock → ⊥) where
+  -- the lock of a life that wasn't evicted is granted
+  pub granted_now : is_life d.reply.who (evicted_of past) ≡ false → In k.lock (server_of head.osts past).granted
+  granted_now e = by (all.locks.alive d k.lock (a, k.among))
+    where
+      by : In k.lock (server_of head.osts past).granted ⊎ Dead past d k.lock ⊎ Evicted past d.reply.who ⊎ Lapsed past d k.lock → In k.lock (server_of head.osts past).granted
+      by (inl i) = i
+      by (inr (inl x)) = absurd (fresh (inl x))
+      by (inr (inr (inl x))) = absurd (cc)
+      by (inr (inr (inr x))) = absurd (fresh (inr x))
 
--- a part meets none of these, or one
-meets_or : (ws : List Part) (p : Part) → Apart ws p ⊎ (list_any (λ w. meets w p) ws ≡ true)
-meets_or [] p = inl tt
-meets_or (w ∷ ws) p = by (meets w p) refl (meets_or ws p)
-  where
-    by : (b : Bool) → meets w p ≡ b → Apart ws p ⊎ (list_any (λ w. meets w p) ws ≡ true) → Apart (w ∷ ws) p ⊎ ((b || list_any (λ w. meets w p) ws) ≡ true)
-    by true e h = inr refl
-    by false e (inl a) = inl (e, a)
-    by false e (inr q) = inr q
+  tells_now : is_life d.reply.who (evicted_of past) ≡ false → Tells (server_of head.osts past).tree (bound_of head.osts past) f
+  tells_now e = (k.stands fresh (granted_now e)).tells
 
-meet_one : (ws ps : List Part) (p : Part) → In p ps → list_any (λ w. meets w p) ws ≡ true → meet ws ps ≡ true
-meet_one ws [] p i e = absurd i
-meet_one ws (q ∷ ps) p (inl s) e = or_left (list_any (λ w. meets w q) ws) (meet ws ps) (ap (λ (x : Part). list_any (λ w. meets w x) ws) s ∙ e)
-meet_one ws (q ∷ ps) p (inr i) e = or_right (list_any (λ w. meets w q) ws) (meet ws ps) (meet_one ws ps p i e)
+  -- what was taught is true of the tree that the life knew
+  pub tells_for : Tells (tree_for head.osts d.reply.who past) (bound_of head.osts past) f
+  tells_for = by (is_life d.reply.who (evicted_of past)) refl
+    where
+      by : (b : Bool) → is_life d.reply.who (evicted_of past) ≡ b → Tells (tree_for head.osts d.reply.who past) (bound_of head.osts past) f
+      by true e = k.left fresh e
+      by false e = subst (λ (t : Tree). Tells t (bound_of head.osts past) f) (sym (tree_now head.osts d.reply.who past e)) (tells_now e)
 
--- what is in the log and wrote what is touched is seen
-in_seen : (touched : List Part) (log : List Deed) (e : Deed) → In e log → meet e.writes touched ≡ true → In e.reply.txn.0 (seen_in touched log)
-in_seen touched [] e i m = absurd i
-in_seen touched (d ∷ log) e (inl s) m = cond_both (meet d.writes touched) (d.reply.txn.0 ∷ seen_in touched log) (seen_in touched log) (λ (ns : List ℕ). In e.reply.txn.0 ns) (λ _. inl (ap (λ (x : Deed). x.reply.txn.0) s)) (λ off. absurd (let on : meet d.writes touched ≡ true = ap (λ (x : Deed). meet x.writes touched) s ∙ m in cc))
-in_seen touched (d ∷ log) e (inr i) m =
-    let h = in_seen touched log e i m in
-    cond_both (meet d.writes touched) (d.reply.txn.0 ∷ seen_in touched log) (seen_in touched log) (λ (ns : List ℕ). In e.reply.txn.0 ns) (λ _. inr h) (λ _. h)
+  -- and stays so for one that is evicted by the next line, or was
+  left_then : (l : Line) → Evicted (l ∷ past) d.reply.who → Tells (tree_for head.osts d.reply.who (l ∷ past)) (bound_of head.osts past) f
+  left_then l now = by (is_life d.reply.who (evicted_of past)) refl
+    where
+      by : (b : Bool) → is_life d.reply.who (evicted_of past) ≡ b → Tells (tree_for head.osts d.reply.who (l ∷ past)) (bound_of head.osts past) f
+      by true e = subst (λ (t : Tree). Tells t (bound_of head.osts past) f) (sym (tree_then head.osts d.reply.who l past e now)) (k.left fresh e)
+      by false e = subst (λ (t : Tree). Tells t (bound_of head.osts past) f) (sym (tree_left head.osts d.reply.who l past e now)) (tells_now e)
+
+-- ---- after a line: what was taught before it lies under the same lock
+
+module _ (head : Head) (past : List Line) (stamp : Stamp) (node : Node) (e : Entry) (ok : EntryOf head past (turn stamp node) node e) (first : IsOfFirst e) (all : HoldsAt head past) where
+  pub under_line : bound_of head.osts past ≤ bound_of head.osts (line (turn stamp node) e ∷ past) → (d : Deed) (f : Fact) → Acted past d → (k : Under head.osts past d f)
+      → ((Unheld past d k.lock → ⊥) → In k.lock (server_of head.osts (line (turn stamp node) e ∷ past)).granted → Rests head.osts (line (turn stamp node) e ∷ past) d f) → Under head.osts (line (turn stamp node) e ∷ past) d f
+  under_line up d f a k rests =
+      record {
+        lock = k.lock;
+        among = k.among;
+        cookie = k.cookie;
+        lies = k.lies;
+        stands = λ fresh i. rests (before fresh) i;
+        left = λ fresh x. tells_wide (tree_for head.osts d.reply.who new) (bound_of head.osts past) (bound_of head.osts new) f up (left_then head past all d f k a (before fresh) (line (turn stamp node) e) x);
+      }
+    where
+      new : List Line
+      new = line (turn stamp node) e ∷ past
+
+      before : (Unheld new d k.lock → ⊥) → Unheld past d k.lock → ⊥
+      before fresh u = fresh (keeps_unheld head past stamp node e ok first all d k.lock (a, k.among) u)
+
+-- ---- lines that leave all parts of the tree as they are
+
+pub record Later (osts : ℕ) (past new : List Line) : Type 0 where
+  pub tree : (p : Part) → Same (server_of osts past).tree (server_of osts new).tree p
+  pub bound : bound_of osts past ≤ bound_of osts new
+  pub committed : (server_of osts past).committed.0 ≤ (server_of osts new).committed.0
+  pub acted : (d : Deed) → Acted past d → Acted new d
+  pub made : (d : Deed) → Acted new d → IsMade d → Acted past d
+  pub lost : (n : ℕ) → is_lost osts new n ≡ is_lost osts past n
+
+closed_later : (osts : ℕ) (past new : List Line) → (server_of osts past).committed.0 ≤ (server_of osts new).committed.0 → ((d : Deed) → Acted past d → Acted new d) → ((n : ℕ) → is_lost osts new n ≡ is_lost osts past n)
+    → (keep : ℕ → Bool) → Closed osts new keep → Closed osts past keep
+closed_later osts past new up acted lost keep k = record { root = k.root; low = λ n le. k.low n (omega (arith, le, up)); saw = λ e a m s. k.saw e (acted e a) m (lost e.reply.txn.0 ∙ s) }
+
+module _ (osts : ℕ) (past new : List Line) (l : Later osts past new) (d : Deed) where
+  saw_later : (p : Part) → Saw osts past d p → Saw osts new d p
+  saw_later p s e a m stands = by (s e (l.made e a m) m (sym (l.lost e.reply.txn.0) ∙ stands))
+    where
+      by : Apart e.writes p ⊎ ((e.reply.txn.0 ≤ (server_of osts past).committed.0) ⊎ In e.reply.txn.0 d.reply.seen) → Apart e.writes p ⊎ ((e.reply.txn.0 ≤ (server_of osts new).committed.0) ⊎ In e.reply.txn.0 d.reply.seen)
+      by (inl x) = inl x
+      by (inr (inl le)) = inr (inl (let up = l.committed in omega (arith, le, up)))
+      by (inr (inr i)) = inr (inr i)
+
+  kept_later : (p : Part) → OfKept osts past d p → OfKept osts new d p
+  kept_later p h keep k s = h keep (closed_later osts past new l.committed l.acted l.lost keep k) s
+
+  seat_later : (c : Child) → Seat osts past d c → Seat osts new d c
+  seat_later c (inl e) = inl e
+  seat_later c (inr k) = inr (k.0, k.1, sym (l.tree (part.Name k.0 k.1)) ∙ k.2, let le = k.3 in let up = l.bound in omega (arith, le, up), saw_later (part.Name k.0 k.1) k.4, kept_later (part.Name k.0 k.1) k.5)
+
+  seats_later : (p : Part) → SeatFor osts past d p → SeatFor osts new d p
+  seats_later (part.Attr f) k = (k.0, k.1, seat_later k.0 k.2)
+  seats_later _ k = tt
+
+  pub rests_later : (f : Fact) → Rests osts past d f → Rests osts new d f
+  rests_later f k =
+      record {
+        tells = tells_wide (server_of osts new).tree (bound_of osts past) (bound_of osts new) f l.bound (tells_all (server_of osts past).tree (server_of osts new).tree (bound_of osts past) f l.tree k.tells);
+        saw = saw_later f.part k.saw;
+        kept = kept_later f.part k.kept;
+        seat = seats_later f.part k.seat;
+      }
+
+at_most : (n : ℕ) → n ≤ n
+at_most n = omega arith
+
+-- ---- an act
 
 -- without locks nothing is taught
 none_taught : (o : Op) (a : Answer) (f : Fact) → In f (taught o a []) → ⊥
@@ -165,334 +231,199 @@ none_taught (op.List (n ∷ ns)) (told.Names names) f i = i
 none_taught (op.Layout (n ∷ ns)) (told.Layout l) f i = i
 none_taught o a f i = i
 
-fewer_waiting : (d : Deed) (r : RequestOf) (waiting : List RequestOf) → In r (without_request d waiting) → In r waiting
-fewer_waiting d r waiting i = (in_filter (λ (q : RequestOf). not (is_request_of d q)) r waiting i).0
+module _ (head : Head) (past : List Line) (at : At) (t : ℕ) (r : RequestOf) (waited : In r (server_of head.osts past).waiting) (serves : IsServing head.osts past) (all : HoldsAt head past) where
+  abbrev v : Server
+  v = server_of head.osts past
 
--- ---- an act
-
-module _ (osts : ℕ) (past : List Line) (at : At) (r : RequestOf) (waited : In r (server_of osts past).waiting) (serves : IsServing osts past) (ls : Locks osts past) (h : Taught osts past) (still : changes osts (server_of osts past).tree (asked r none) ≡ false) where
   abbrev acting : Deed
-  acting = deed osts (server_of osts past) at r none (locks_of osts (server_of osts past) r)
+  acting = deed head.osts v at r none (locks_of head.osts v r)
 
-  abbrev acted_past : (t : ℕ) → List Line
-  acted_past t = line (turn at.stamp (Target t)) (Act acting) ∷ past
+  abbrev acted_past : List Line
+  acted_past = line (turn at.stamp (Target t)) (Act acting) ∷ past
 
-  acts_quiet : acting.writes ≡ []
-  acts_quiet = (unchanged_stay osts (server_of osts past).tree (asked r none) still).1
+  act_later : Later head.osts past acted_past
+  act_later =
+      record {
+        tree = λ p. same_refl v.tree p;
+        bound = at_most (bound_of head.osts past);
+        committed = at_most v.committed.0;
+        acted = λ d a. inr a;
+        made = λ d a m. ⊎_elim (λ (e : acting ≡ d). absurd (let zero = ap (λ (x : Deed). x.reply.txn.0) e in omega (arith, zero, m))) (λ (b : Acted past d). b) a;
+        lost = λ n. refl;
+      }
 
   -- a lock of an earlier deed that is granted then was granted before
-  old_granted : (d : Deed) (l : Lock) → Acted past d → In l d.reply.locks → In l (with_locks acting.reply.locks (server_of osts past).granted) → In l (server_of osts past).granted
+  old_granted : (d : Deed) (l : Lock) → Acted past d → In l d.reply.locks → In l (with_locks acting.reply.locks v.granted) → In l v.granted
   old_granted d l a i j =
       ⊎_elim
-      (λ (k : In l acting.reply.locks). absurd (let le = ls.low serves d l (a, i) in let lt = from_high (server_of osts past).cookie r.who (grants osts (server_of osts past).tree (asked r none)) l k in omega (arith, le, lt)))
-      (λ (k : In l (server_of osts past).granted). k)
-      (withs_in acting.reply.locks l (server_of osts past).granted j)
+      (λ (k : In l acting.reply.locks). absurd (let le = all.locks.low serves d l (a, i) in let lt = from_high v.cookie r.who (grants head.osts v.tree (asked r none)) l k in omega (arith, le, lt)))
+      (λ (k : In l v.granted). k)
+      (withs_in acting.reply.locks l v.granted j)
 
-  act_under : (t : ℕ) (d : Deed) (f : Fact) → TaughtBy (acted_past t) d f → Under osts (acted_past t) d f
-  act_under t d f (inl e, i) = subst (λ (x : Deed). Under osts (acted_past t) x f) e (new (subst (λ (x : Deed). In f (taught x.op x.reply.answer x.reply.locks)) (sym e) i))
-    where
-      new : In f (taught r.op acting.reply.answer acting.reply.locks) → Under osts (acted_past t) acting f
-      new i =
-          let k = taught_right (server_of osts past).tree (bound_of osts past) h.sound.least h.sound.low r.who osts none r.op (server_of osts past).cookie f i in
-          record {
-            lock = k.under.lock;
-            among = k.under.among;
-            cookie = k.under.cookie;
-            lies = k.under.lies;
-            stands = λ _. k.tells;
-            saw = λ _ e a. saw k.touched e a;
-            left = λ e. absurd (h.waits r waited e);
-          }
-        where
-          in_log : (touched : List Part) → In f.part touched → (e : Deed) → In e (server_of osts past).log → Apart e.writes f.part ⊎ ((e.reply.txn.0 ≤ (server_of osts past).committed.0) ⊎ In e.reply.txn.0 (seen_in touched (server_of osts past).log))
-          in_log touched i e j = ⊎_elim (λ (a : Apart e.writes f.part). inl a) (λ (m : list_any (λ w. meets w f.part) e.writes ≡ true). inr (inr (in_seen touched (server_of osts past).log e j (meet_one e.writes touched f.part i m)))) (meets_or e.writes f.part)
+  -- a request that waits is of a life that has a slot
+  waits_not : Evicted past r.who → ⊥
+  waits_not x = let lt = all.lives.apart r.who r.who (all.done.waits r waited).has x refl in omega (arith, lt)
 
-          of_old : In f.part (touches osts (server_of osts past).tree (asked r none)) → (e : Deed) → (e.writes ≡ []) ⊎ (In e (server_of osts past).log ⊎ (e.reply.txn.0 ≤ (server_of osts past).committed.0)) → Apart e.writes f.part ⊎ ((e.reply.txn.0 ≤ (server_of osts past).committed.0) ⊎ In e.reply.txn.0 acting.reply.seen)
-          of_old i e (inl q) = inl (subst (λ (ws : List Part). Apart ws f.part) (sym q) tt)
-          of_old i e (inr (inl j)) = in_log (touches osts (server_of osts past).tree (asked r none)) i e j
-          of_old i e (inr (inr le)) = inr (inl le)
+  -- what it looked at
+  seen_now : (p : Part) → In p (touches head.osts v.tree (asked r none)) → Saw head.osts acted_past acting p
+  seen_now p i e a m s = act_saw head.osts head.clients past all.history (asked r none) p i e (act_later.made e a m) m s
 
-          saw : In f.part (touches osts (server_of osts past).tree (asked r none)) → (e : Deed) → (acting ≡ e) ⊎ Acted past e → Apart e.writes f.part ⊎ ((e.reply.txn.0 ≤ (server_of osts past).committed.0) ⊎ In e.reply.txn.0 acting.reply.seen)
-          saw i e (inl q) = inl (subst (λ (x : Deed). Apart x.writes f.part) q (subst (λ (ws : List Part). Apart ws f.part) (sym acts_quiet) tt))
-          saw i e (inr a) = of_old i e (h.logged e a)
-  act_under t d f (inr a, i) =
-      let k = h.under d f (a, i) in
+  kept_now : (p : Part) → In p (touches head.osts v.tree (asked r none)) → OfKept head.osts acted_past acting p
+  kept_now p i keep k s = act_kept head.osts head.clients past all.history (asked r none) keep (closed_later head.osts past acted_past (at_most v.committed.0) (λ d a. inr a) (λ n. refl) keep k) s p i
+
+  seat_now : (c : Child) → SeenPlace v.tree (bound_of head.osts past) (sound_now head past all).least (sound_now head past all).low r.who (touches head.osts v.tree (asked r none)) c → Seat head.osts acted_past acting c
+  seat_now c (inl e) = inl e
+  seat_now c (inr k) = inr (k.0, k.1, k.2, k.3, seen_now (part.Name k.0 k.1) k.4, kept_now (part.Name k.0 k.1) k.4)
+
+  seats_now : (p : Part) → PlaceOf v.tree (bound_of head.osts past) (sound_now head past all).least (sound_now head past all).low r.who (touches head.osts v.tree (asked r none)) p → SeatFor head.osts acted_past acting p
+  seats_now (part.Attr f) k = (k.0, k.1, seat_now k.0 k.2)
+  seats_now _ k = tt
+
+  acting_under : (f : Fact) → In f (taught r.op acting.reply.answer acting.reply.locks) → Under head.osts acted_past acting f
+  acting_under f i =
+      let sound = sound_now head past all in
+      let k = taught_right v.tree (bound_of head.osts past) sound.least sound.low r.who head.osts none r.op v.cookie f i in
       record {
-        lock = k.lock;
-        among = k.among;
-        cookie = k.cookie;
-        lies = k.lies;
-        stands = λ j. k.stands (old_granted d k.lock a k.among j);
-        saw = λ j e b. more (k.saw (old_granted d k.lock a k.among j)) e b;
-        left = λ e. subst (λ (u : Tree). Dead past d k.lock ⊎ Tells u (bound_of osts past) f) (sym (tree_then osts d.reply.who (line (turn at.stamp (Target t)) (Act acting)) past e)) (k.left e);
+        lock = k.under.lock;
+        among = k.under.among;
+        cookie = k.under.cookie;
+        lies = k.under.lies;
+        stands = λ fresh j. record { tells = k.tells; saw = seen_now f.part k.touched; kept = kept_now f.part k.touched; seat = seats_now f.part k.place };
+        left = λ fresh x. absurd (waits_not x);
       }
-    where
-      more : Saw osts past d f.part → (e : Deed) → (acting ≡ e) ⊎ Acted past e → Apart e.writes f.part ⊎ ((e.reply.txn.0 ≤ (server_of osts past).committed.0) ⊎ In e.reply.txn.0 d.reply.seen)
-      more s e (inl q) = inl (subst (λ (x : Deed). Apart x.writes f.part) q (subst (λ (ws : List Part). Apart ws f.part) (sym acts_quiet) tt))
-      more s e (inr b) = s e b
-
-  act_taught : (t : ℕ) → Taught osts (acted_past t)
-  act_taught t = record { sound = h.sound; above = h.above; low = h.low; top = h.top; logged = λ d a. logged d a; under = act_under t; waits = λ q i. h.waits q (fewer_waiting acting q (server_of osts past).waiting i) }
-    where
-      logged : (d : Deed) → (acting ≡ d) ⊎ Acted past d → (d.writes ≡ []) ⊎ (In d (server_of osts past).log ⊎ (d.reply.txn.0 ≤ (server_of osts past).committed.0))
-      logged d (inl e) = inl (subst (λ (x : Deed). x.writes ≡ []) e acts_quiet)
-      logged d (inr a) = h.logged d a
 
 -- ---- a transaction
 
-module _ (osts : ℕ) (past : List Line) (at : At) (r : RequestOf) (h : Taught osts past)
-    (free : is_free (in_way (server_of osts past).granted (written_by osts (server_of osts past) r)) ≡ true) where
+module _ (head : Head) (past : List Line) (at : At) (t : ℕ) (r : RequestOf) (all : HoldsAt head past) (free : is_free (in_way (server_of head.osts past).granted (written_by head.osts (server_of head.osts past) r)) ≡ true) where
+  abbrev w : Server
+  w = server_of head.osts past
+
   abbrev making : Deed
-  making = deed osts (server_of osts past) at r (next_number (server_of osts past)) []
+  making = deed head.osts w at r (next_number w) []
 
-  abbrev made_past : (t : ℕ) → List Line
-  made_past t = line (turn at.stamp (Target t)) (Made making) ∷ past
+  abbrev made_past : List Line
+  made_past = line (turn at.stamp (Target t)) (Made making) ∷ past
 
-  number_is : making.reply.txn.0 ≡ (server_of osts past).boot * 4294967296 + ((server_of osts past).count + 1)
+  number_is : making.reply.txn.0 ≡ w.boot * 4294967296 + (w.count + 1)
   number_is = refl
 
-  higher : bound_of osts past < making.reply.txn.0
+  higher : bound_of head.osts past < making.reply.txn.0
   higher = let n = number_is in omega (arith, n)
 
-  made_under : (t : ℕ) (d : Deed) (f : Fact) → TaughtBy (made_past t) d f → Under osts (made_past t) d f
-  made_under t d f (inl e, i) = absurd (none_taught making.op making.reply.answer f (subst (λ (x : Deed). In f (taught x.op x.reply.answer x.reply.locks)) (sym e) i))
-  made_under t d f (inr a, i) =
-      let k = h.under d f (a, i) in
-      record {
-        lock = k.lock;
-        among = k.among;
-        cookie = k.cookie;
-        lies = k.lies;
-        stands = λ j. tells_wide (after osts (server_of osts past).tree (operation making)) (bound_of osts past) ((server_of osts past).boot * 4294967296 + ((server_of osts past).count + 1)) f (omega arith)
-            (fact_stays osts (server_of osts past).tree (operation making) (bound_of osts past) higher k.lock (free_spares (server_of osts past).granted (written_by osts (server_of osts past) r) k.lock free j) f h.sound.one k.lies (k.stands j));
-        left = λ e. ⊎_elim
-            (λ (x : Dead past d k.lock). inl x)
-            (λ (x : Tells (tree_for osts d.reply.who past) (bound_of osts past) f). inr (subst (λ (u : Tree). Tells u ((server_of osts past).boot * 4294967296 + ((server_of osts past).count + 1)) f) (sym (tree_then osts d.reply.who (line (turn at.stamp (Target t)) (Made making)) past e)) (tells_wide (tree_for osts d.reply.who past) (bound_of osts past) ((server_of osts past).boot * 4294967296 + ((server_of osts past).count + 1)) f (omega arith) x)))
-            (k.left e);
-        saw = λ j e b. more (k.saw j) (fact_unwritten osts (server_of osts past).tree (operation making) (bound_of osts past) higher k.lock (free_spares (server_of osts past).granted (written_by osts (server_of osts past) r) k.lock free j) f k.lies (k.stands j)) e b;
-      }
-    where
-      more : Saw osts past d f.part → Apart making.writes f.part → (e : Deed) → (making ≡ e) ⊎ Acted past e → Apart e.writes f.part ⊎ ((e.reply.txn.0 ≤ (server_of osts past).committed.0) ⊎ In e.reply.txn.0 d.reply.seen)
-      more s apart e (inl q) = inl (subst (λ (x : Deed). Apart x.writes f.part) q apart)
-      more s apart e (inr b) = s e b
+  module _ (d : Deed) (f : Fact) (k : Under head.osts past d f) where
+    saw_made : (p : Part) → Apart making.writes p → Saw head.osts past d p → Saw head.osts made_past d p
+    saw_made p apart s e (inl q) m stands = inl (subst (λ (x : Deed). Apart x.writes p) q apart)
+    saw_made p apart s e (inr a) m stands = s e a m stands
 
-  made_taught : (t : ℕ) → Taught osts (made_past t)
-  made_taught t =
-      record {
-        sound = subst (IsSound (after osts (server_of osts past).tree (operation making))) number_is (sound_after osts (server_of osts past).tree (operation making) (bound_of osts past) higher h.sound);
-        above = λ d i. of d i (λ d. (server_of osts past).committed.0 < d.reply.txn.0) h.above (let c = h.top in let n = number_is in omega (arith, c, n));
-        low = λ d i. of d i (λ d. d.reply.txn.0 ≤ (server_of osts past).boot * 4294967296 + ((server_of osts past).count + 1)) (λ d j. let k = h.low d j in omega (arith, k)) (let n = number_is in omega (arith, n));
-        top = let c = h.top in omega (arith, c);
-        logged = λ d a. logged d a;
-        under = made_under t;
-        waits = λ q i. h.waits q (fewer_waiting making q (server_of osts past).waiting i);
-      }
-    where
-      of : (d : Deed) → In d ((server_of osts past).log ++ making ∷ []) → (P : Deed → Type 0) → ((d : Deed) → In d (server_of osts past).log → P d) → P making → P d
-      of d i P old now = ⊎_elim
-          (λ (j : In d (server_of osts past).log). old d j)
-          (λ (j : In d (making ∷ [])). ⊎_elim (λ (s : making ≡ d). subst P s now) (λ (v : ⊥). absurd v) j)
-          (in_append d (server_of osts past).log (making ∷ []) i)
+    kept_made : (p : Part) → OfKept head.osts past d p → OfKept head.osts made_past d p
+    kept_made p h keep c s = h keep (closed_later head.osts past made_past (at_most w.committed.0) (λ e a. inr a) (λ n. refl) keep c) s
 
-      old_logged : (d : Deed) → (d.writes ≡ []) ⊎ (In d (server_of osts past).log ⊎ (d.reply.txn.0 ≤ (server_of osts past).committed.0)) → (d.writes ≡ []) ⊎ (In d ((server_of osts past).log ++ making ∷ []) ⊎ (d.reply.txn.0 ≤ (server_of osts past).committed.0))
-      old_logged d (inl q) = inl q
-      old_logged d (inr (inl j)) = inr (inl (in_left d (server_of osts past).log (making ∷ []) j))
-      old_logged d (inr (inr le)) = inr (inr le)
+    made_rests : In k.lock w.granted → Rests head.osts past d f → Rests head.osts made_past d f
+    made_rests i q =
+        record {
+          tells = tells_wide (after head.osts w.tree (operation making)) (bound_of head.osts past) (bound_of head.osts made_past) f (omega arith) (fact_stays head.osts w.tree (operation making) (bound_of head.osts past) higher k.lock spares f sound.one k.lies q.tells);
+          saw = saw_made f.part (fact_unwritten head.osts w.tree (operation making) (bound_of head.osts past) higher k.lock spares f k.lies q.tells) q.saw;
+          kept = kept_made f.part q.kept;
+          seat = seats f.part f.answer k.lies q.seat;
+        }
+      where
+        spares : Spares k.lock making.writes
+        spares = free_spares w.granted (written_by head.osts w r) k.lock free i
 
-      logged : (d : Deed) → (making ≡ d) ⊎ Acted past d → (d.writes ≡ []) ⊎ (In d ((server_of osts past).log ++ making ∷ []) ⊎ (d.reply.txn.0 ≤ (server_of osts past).committed.0))
-      logged d (inl e) = inr (inl (in_right d (server_of osts past).log (making ∷ []) (inl e)))
-      logged d (inr a) = old_logged d (h.logged d a)
+        sound : IsSound w.tree (bound_of head.osts past)
+        sound = sound_now head past all
+
+        -- the name is as it was
+        seat : (c : Child) → (fid_of c ≡ fid_of root) ⊎ Guards k.lock (fid_of c) LOOKUP → Seat head.osts past d c → Seat head.osts made_past d c
+        seat c g (inl e) = inl e
+        seat c g (inr x) =
+            ⊎_elim
+            (λ (e : c ≡ root). inl e)
+            (λ (y : (child (after head.osts w.tree (operation making)) x.0 x.1 ≡ Some c) × Apart making.writes (part.Name x.0 x.1)).
+            inr (x.0, x.1, y.0, let le = x.3 in omega (arith, le), saw_made (part.Name x.0 x.1) y.1 x.4, kept_made (part.Name x.0 x.1) x.5))
+            (place_stays head.osts w.tree (operation making) (bound_of head.osts past) higher k.lock spares c sound.one g x.0 x.1 x.2 x.3)
+
+        seats : (p : Part) (a : Answer) → LiesOn k.lock p a → SeatFor head.osts past d p → SeatFor head.osts made_past d p
+        seats (part.Attr g) a lies x = (x.0, x.1, seat x.0 (subst (λ (v : Fid). (v ≡ fid_of root) ⊎ Guards k.lock v LOOKUP) (sym x.1) lies.1) x.2)
+        seats _ a lies x = tt
 
 -- ---- a commit
 
-module _ (osts : ℕ) (past : List Line) (stamp : Stamp) (t to : ℕ) (batch : Batch) (ok : CommitOk osts past to) (h : Taught osts past) where
-  abbrev committing : List Line
-  committing = line (turn stamp (Target t)) (Commit to batch) ∷ past
-
-  over : (server_of osts past).committed.0 ≤ to
-  over = ⊎_elim
-      (λ (k : (d : Deed) × In d (server_of osts past).log × (to ≡ d.reply.txn.0)). let l = h.above k.0 k.1 in let is = k.2 in omega (arith, l, is))
-      (λ (is : to ≡ (server_of osts past).committed.0). omega (arith, is))
-      ok.is
-
-  top : to ≤ bound_of osts past
-  top = ⊎_elim
-      (λ (k : (d : Deed) × In d (server_of osts past).log × (to ≡ d.reply.txn.0)). let l = h.low k.0 k.1 in let is = k.2 in omega (arith, l, is))
-      (λ (is : to ≡ (server_of osts past).committed.0). let l = h.top in omega (arith, is, l))
-      ok.is
-
-  saw : (d : Deed) (f : Fact) (e : Deed) → Apart e.writes f.part ⊎ ((e.reply.txn.0 ≤ (server_of osts past).committed.0) ⊎ In e.reply.txn.0 d.reply.seen) → Apart e.writes f.part ⊎ ((e.reply.txn.0 ≤ to) ⊎ In e.reply.txn.0 d.reply.seen)
-  saw d f e (inl a) = inl a
-  saw d f e (inr (inl le)) = inr (inl (let o = over in omega (arith, o, le)))
-  saw d f e (inr (inr i)) = inr (inr i)
-
-  logged : (d : Deed) → (d.writes ≡ []) ⊎ (In d (server_of osts past).log ⊎ (d.reply.txn.0 ≤ (server_of osts past).committed.0)) → (d.writes ≡ []) ⊎ (In d (filter (λ (d : Deed). nat_lt to d.reply.txn.0) (server_of osts past).log) ⊎ (d.reply.txn.0 ≤ to))
-  logged d (inl q) = inl q
-  logged d (inr (inl i)) = by (nat_lt to d.reply.txn.0) refl
-    where
-      by : (b : Bool) → nat_lt to d.reply.txn.0 ≡ b → (d.writes ≡ []) ⊎ (In d (filter (λ (d : Deed). nat_lt to d.reply.txn.0) (server_of osts past).log) ⊎ (d.reply.txn.0 ≤ to))
-      by true e = inr (inl (in_filtered (λ (d : Deed). nat_lt to d.reply.txn.0) d (server_of osts past).log i e))
-      by false e = inr (inr (ltb-false to d.reply.txn.0 e))
-  logged d (inr (inr le)) = inr (inr (let o = over in omega (arith, o, le)))
-
-  commit_taught : Taught osts committing
-  commit_taught =
-      record {
-        sound = h.sound;
-        above = λ d i. ltb-true to d.reply.txn.0 (in_filter (λ (d : Deed). nat_lt to d.reply.txn.0) d (server_of osts past).log i).1;
-        low = λ d i. h.low d (in_filter (λ (d : Deed). nat_lt to d.reply.txn.0) d (server_of osts past).log i).0;
-        top = top;
-        logged = λ d a. logged d (h.logged d a);
-        under = λ d f k. let u = h.under d f k in
-            record {
-              lock = u.lock;
-              among = u.among;
-              cookie = u.cookie;
-              lies = u.lies;
-              stands = u.stands;
-              saw = λ j e a. saw d f e (u.saw j e a);
-              left = λ e. subst (λ (v : Tree). Dead past d u.lock ⊎ Tells v (bound_of osts past) f) (sym (tree_then osts d.reply.who (line (turn stamp (Target t)) (Commit to batch)) past e)) (u.left e);
-            };
-        waits = h.waits;
-      }
-
--- ---- an eviction: all that the life knew was true then
-
-module _ (osts : ℕ) (past : List Line) (stamp : Stamp) (t : ℕ) (who : Who) (cause : Cause) (ls : Locks osts past) (h : Taught osts past) where
-  abbrev evicting : List Line
-  evicting = line (turn stamp (Target t)) (Evict who cause) ∷ past
-
-  granted_then : (l : Lock) → In l (server_of osts evicting).granted → In l (server_of osts past).granted
-  granted_then l i = left_in who (server_of osts past).granted l i
-
-  left_now : (d : Deed) (f : Fact) → Acted past d → (k : Under osts past d f) → Dead past d k.lock ⊎ Tells (tree_for osts d.reply.who evicting) (bound_of osts past) f
-  left_now d f a k = by (is_life d.reply.who (evicted_of past)) refl
-    where
-      by : (b : Bool) → is_life d.reply.who (evicted_of past) ≡ b → Dead past d k.lock ⊎ Tells (if b then tree_for osts d.reply.who past else forget (server_of osts past).tree who) (bound_of osts past) f
-      by true e = k.left e
-      by false e = ⊎_elim
-          (λ (i : In k.lock (server_of osts past).granted). inr (tells_forget (server_of osts past).tree who (bound_of osts past) f (k.stands i)))
-          (⊎_elim (λ (x : Dead past d k.lock). inl x) (λ (x : Evicted past d.reply.who). absurd (cc)))
-          (ls.alive d k.lock (a, k.among))
-
-  waits_left : (r : RequestOf) → In r (server_of osts evicting).waiting → Evicted evicting r.who → ⊥
-  waits_left r i e =
-      let k = in_filter (λ (q : RequestOf). not (is_life q.who (who ∷ []))) r (server_of osts past).waiting i in
-      ⊎_elim
-      (λ (q : r.who ≡ who). absurd (let no : not (is_life who (who ∷ [])) ≡ true = subst (λ (w : Who). not (is_life w (who ∷ [])) ≡ true) q k.1 in let yes = life_put who [] in cc))
-      (λ (q : is_life r.who (evicted_of past) ≡ true). h.waits r k.0 q)
-      (put_or r.who who (evicted_of past) e)
-
-  evict_taught : Taught osts evicting
-  evict_taught =
-      record {
-        sound = sound_forget (server_of osts past).tree who (bound_of osts past) h.sound;
-        above = h.above;
-        low = h.low;
-        top = h.top;
-        logged = h.logged;
-        under = λ d f k. let u = h.under d f k in
-            record {
-              lock = u.lock;
-              among = u.among;
-              cookie = u.cookie;
-              lies = u.lies;
-              stands = λ j. tells_forget (server_of osts past).tree who (bound_of osts past) f (u.stands (granted_then u.lock j));
-              saw = λ j. u.saw (granted_then u.lock j);
-              left = λ e. left_now d f k.0 u;
-            };
-        waits = waits_left;
-      }
-
--- ---- a line that changes no tree
-
-at_most : (n : ℕ) → n ≤ n
-at_most n = omega arith
-
-sound_wide : (t : Tree) (bound wide : ℕ) → bound ≤ wide → IsSound t bound → IsSound t wide
-sound_wide t bound wide le h = record { least = let x = h.least in omega (arith, x, le); low = λ d n c e. let x = h.low d n c e in omega (arith, x, le); one = h.one }
-
--- it grants nothing and takes no request of a life that was evicted
-record Quiet (osts : ℕ) (past : List Line) (l : Line) : Type 0 where
-  tree : (server_of osts (l ∷ past)).tree ≡ (server_of osts past).tree
-  bound : bound_of osts past ≤ bound_of osts (l ∷ past)
-  committed : (server_of osts (l ∷ past)).committed ≡ (server_of osts past).committed
-  log : (server_of osts (l ∷ past)).log ≡ (server_of osts past).log
-  granted : (k : Lock) → In k (server_of osts (l ∷ past)).granted → In k (server_of osts past).granted
-  waits : (r : RequestOf) → In r (server_of osts (l ∷ past)).waiting → Evicted past r.who → ⊥
-  evicted : (who : Who) → Evicted (l ∷ past) who → Evicted past who
-  acted : (d : Deed) → Acted (l ∷ past) d → Acted past d
-  dead : StaysDead past (l ∷ past)
-
-module _ (osts : ℕ) (past : List Line) (l : Line) (q : Quiet osts past l) (h : Taught osts past) where
-  quiet_under : (d : Deed) (f : Fact) → TaughtBy (l ∷ past) d f → Under osts (l ∷ past) d f
-  quiet_under d f k =
-      let u = h.under d f (q.acted d k.0, k.1) in
-      record {
-        lock = u.lock;
-        among = u.among;
-        cookie = u.cookie;
-        lies = u.lies;
-        stands = λ j. subst (λ (t : Tree). Tells t (bound_of osts (l ∷ past)) f) (sym q.tree) (tells_wide (server_of osts past).tree (bound_of osts past) (bound_of osts (l ∷ past)) f q.bound (u.stands (q.granted u.lock j)));
-        saw = λ j e a. subst (λ (m : TxnOf). Apart e.writes f.part ⊎ ((e.reply.txn.0 ≤ m.0) ⊎ In e.reply.txn.0 d.reply.seen)) (sym q.committed) (u.saw (q.granted u.lock j) e (q.acted e a));
-        left = λ e. ⊎_elim
-            (λ (x : Dead past d u.lock). inl (q.dead d u.lock (q.acted d k.0, u.among) x))
-            (λ (x : Tells (tree_for osts d.reply.who past) (bound_of osts past) f). inr (subst (λ (t : Tree). Tells t (bound_of osts (l ∷ past)) f) (sym (tree_then osts d.reply.who l past (q.evicted d.reply.who e))) (tells_wide (tree_for osts d.reply.who past) (bound_of osts past) (bound_of osts (l ∷ past)) f q.bound x)))
-            (u.left (q.evicted d.reply.who e));
-      }
-
-  quiet_taught : Taught osts (l ∷ past)
-  quiet_taught =
-      record {
-        sound = subst (λ (t : Tree). IsSound t (bound_of osts (l ∷ past))) (sym q.tree) (sound_wide (server_of osts past).tree (bound_of osts past) (bound_of osts (l ∷ past)) q.bound h.sound);
-        above = λ d i. subst (λ (m : TxnOf). m.0 < d.reply.txn.0) (sym q.committed) (h.above d (subst (λ (ds : List Deed). In d ds) q.log i));
-        low = λ d i. let le = h.low d (subst (λ (ds : List Deed). In d ds) q.log i) in let up = q.bound in omega (arith, le, up);
-        top = subst (λ (m : TxnOf). m.0 ≤ bound_of osts (l ∷ past)) (sym q.committed) (let le = h.top in let up = q.bound in omega (arith, le, up));
-        logged = λ d a. subst (λ (m : TxnOf). (d.writes ≡ []) ⊎ (In d (server_of osts (l ∷ past)).log ⊎ (d.reply.txn.0 ≤ m.0))) (sym q.committed) (subst (λ (ds : List Deed). (d.writes ≡ []) ⊎ (In d ds ⊎ (d.reply.txn.0 ≤ (server_of osts past).committed.0))) (sym q.log) (h.logged d (q.acted d a)));
-        under = quiet_under;
-        waits = λ r i e. q.waits r i (q.evicted r.who e);
-      }
-
--- a request is taken of a life that has a slot
-enters_waits : (osts clients : ℕ) (past : List Line) (t : ℕ) (r : RequestOf) → EntersOk osts clients past t r → Lives clients past → Taught osts past → (q : RequestOf) → In q ((server_of osts past).waiting ++ r ∷ []) → Evicted past q.who → ⊥
-enters_waits osts clients past t r ok ls h q i e =
+commit_up : (head : Head) (past : List Line) (at : At) (to : ℕ) (batch : Batch) → CommitOk head past at to batch → HoldsAt head past → (server_of head.osts past).committed.0 ≤ to
+commit_up head past at to batch ok all =
     ⊎_elim
-    (λ (j : In q (server_of osts past).waiting). h.waits q j e)
-    (λ (j : In q (r ∷ [])). ⊎_elim (λ (s : r ≡ q). let lt = ls.apart r.who r.who ok.has (subst (λ (x : RequestOf). Evicted past x.who) (sym s) e) refl in absurd (omega (arith, lt))) (λ (v : ⊥). absurd v) j)
-    (in_append q (server_of osts past).waiting (r ∷ []) i)
+    (λ (k : (d : Deed) × In d (server_of head.osts past).log × (to ≡ d.reply.txn.0)). let l = (all.history.log k.0 k.1).3 in let is = k.2 in omega (arith, l, is))
+    (λ (is : to ≡ (server_of head.osts past).committed.0). omega (arith, is))
+    ok.is
 
--- ---- all lines
+-- ---- all lines but a close
 
-pub keeps_taught : (head : Head) (past : List Line) (stamp : Stamp) (node : Node) (e : Entry) → EntryOf head past (turn stamp node) node e → IsOfFirst e → HoldsAt head past → Taught head.osts past → Taught head.osts (line (turn stamp node) e ∷ past)
-keeps_taught head past stamp (Target t) (Act d) ok first k h =
-    subst (λ (x : Deed). Taught head.osts (line (turn stamp (Target t)) (Act x) ∷ past)) (sym ok.is) (act_taught head.osts past (turn stamp (Target t)) ok.request ok.waits ok.serves k.locks h ok.still t)
-keeps_taught head past stamp (Target t) (Made d) ok first k h =
-    subst (λ (x : Deed). Taught head.osts (line (turn stamp (Target t)) (Made x) ∷ past)) (sym ok.is) (made_taught head.osts past (turn stamp (Target t)) ok.request h ok.free t)
-keeps_taught head past stamp (Target t) (Commit to batch) ok first k h = commit_taught head.osts past stamp t to batch ok h
-keeps_taught head past stamp (Target t) (Evict who cause) ok first k h = evict_taught head.osts past stamp t who cause k.locks h
-keeps_taught head past stamp (Target t) (Enters r) ok first k h =
-    quiet_taught head.osts past (line (turn stamp (Target t)) (Enters r))
-    (record { tree = refl; bound = at_most (bound_of head.osts past); committed = refl; log = refl; granted = λ l i. i; waits = enters_waits head.osts head.clients past t r ok k.lives h; evicted = λ who x. x; acted = λ d a. a; dead = λ d l g x. x }) h
-keeps_taught head past stamp (Target t) (Release lock) ok first k h =
-    quiet_taught head.osts past (line (turn stamp (Target t)) (Release lock))
-    (record { tree = refl; bound = at_most (bound_of head.osts past); committed = refl; log = refl; granted = λ l i. (in_filter (λ (m : Lock). not (m.cookie.0 == lock.cookie.0)) l (server_of head.osts past).granted i).0; waits = h.waits; evicted = λ who x. x; acted = λ d a. a; dead = λ d l g x. x }) h
-keeps_taught head past stamp (Target t) (Boot boot disk) ok first k h =
-    quiet_taught head.osts past (line (turn stamp (Target t)) (Boot boot disk))
-    (record { tree = refl; bound = let n = ok.next in let c = k.phase.count in omega (arith, n, c); committed = refl; log = refl; granted = λ l i. i; waits = h.waits; evicted = λ who x. x; acted = λ d a. a; dead = λ d l g x. x }) h
-keeps_taught head past stamp (Client c) (Act d) ok first k h = absurd ok
-keeps_taught head past stamp (Client c) (Made d) ok first k h = absurd ok
-keeps_taught head past stamp node e ok first k h =
-    quiet_taught head.osts past (line (turn stamp node) e)
-    (record { tree = refl; bound = at_most (bound_of head.osts past); committed = refl; log = refl; granted = λ l i. i; waits = h.waits; evicted = λ who x. x; acted = λ d a. a; dead = keeps_dead head past stamp node e ok first k.phase k.numbers k.done k.locks }) h
+-- what was taught before it stays true where the tree stays and no lock is granted anew
+later_taught : (head : Head) (past : List Line) (stamp : Stamp) (node : Node) (e : Entry) → EntryOf head past (turn stamp node) node e → IsOfFirst e → HoldsAt head past → Later head.osts past (line (turn stamp node) e ∷ past)
+    → ((l : Lock) → In l (server_of head.osts (line (turn stamp node) e ∷ past)).granted → In l (server_of head.osts past).granted) → ((d : Deed) → Acted (line (turn stamp node) e ∷ past) d → Acted past d)
+    → Taught head.osts past → Taught head.osts (line (turn stamp node) e ∷ past)
+later_taught head past stamp node e ok first all later granted acted h d f k =
+    let u = h d f (acted d k.0, k.1) in
+    under_line head past stamp node e ok first all later.bound d f (acted d k.0) u (λ fresh i. rests_later head.osts past (line (turn stamp node) e ∷ past) later d f (u.stands fresh (granted u.lock i)))
+
+abbrev pub NoClose : Entry → Type 0
+NoClose (Close o) = ⊥
+NoClose _ = Unit {0}
+
+module _ (head : Head) (past : List Line) (stamp : Stamp) (all : HoldsAt head past) (h : Taught head.osts past) where
+  act_taught : (t : ℕ) (d : Deed) → EntryOf head past (turn stamp (Target t)) (Target t) (Act d) → Taught head.osts (line (turn stamp (Target t)) (Act d) ∷ past)
+  act_taught t d ok = subst (λ (x : Deed). Taught head.osts (line (turn stamp (Target t)) (Act x) ∷ past)) (sym ok.is) by
+    where
+      new : Deed
+      new = acting head past (turn stamp (Target t)) t ok.request ok.waits ok.serves all
+
+      by : Taught head.osts (line (turn stamp (Target t)) (Act new) ∷ past)
+      by e f (inl q, i) = subst (λ (x : Deed). Under head.osts (line (turn stamp (Target t)) (Act new) ∷ past) x f) q (acting_under head past (turn stamp (Target t)) t ok.request ok.waits ok.serves all f (subst (λ (x : Deed). In f (taught x.op x.reply.answer x.reply.locks)) (sym q) i))
+      by e f (inr a, i) =
+          let u = h e f (a, i) in
+          under_line head past stamp (Target t) (Act new) (subst (λ (x : Deed). EntryOf head past (turn stamp (Target t)) (Target t) (Act x)) ok.is ok) tt all (at_most (bound_of head.osts past)) e f a u
+          (λ fresh j. rests_later head.osts past (line (turn stamp (Target t)) (Act new) ∷ past) (act_later head past (turn stamp (Target t)) t ok.request ok.waits ok.serves all) e f (u.stands fresh (old_granted head past (turn stamp (Target t)) t ok.request ok.waits ok.serves all e u.lock a u.among j)))
+
+  made_taught : (t : ℕ) (d : Deed) → EntryOf head past (turn stamp (Target t)) (Target t) (Made d) → Taught head.osts (line (turn stamp (Target t)) (Made d) ∷ past)
+  made_taught t d ok = subst (λ (x : Deed). Taught head.osts (line (turn stamp (Target t)) (Made x) ∷ past)) (sym ok.is) by
+    where
+      new : Deed
+      new = making head past (turn stamp (Target t)) t ok.request all ok.free
+
+      by : Taught head.osts (line (turn stamp (Target t)) (Made new) ∷ past)
+      by e f (inl q, i) = absurd (none_taught new.op new.reply.answer f (subst (λ (x : Deed). In f (taught x.op x.reply.answer x.reply.locks)) (sym q) i))
+      by e f (inr a, i) =
+          let u = h e f (a, i) in
+          under_line head past stamp (Target t) (Made new) (subst (λ (x : Deed). EntryOf head past (turn stamp (Target t)) (Target t) (Made x)) ok.is ok) tt all (omega arith) e f a u
+          (λ fresh j. made_rests head past (turn stamp (Target t)) t ok.request all ok.free e f u j (u.stands fresh j))
+
+  pub line_taught : (node : Node) (e : Entry) → NoClose e → EntryOf head past (turn stamp node) node e → IsOfFirst e → Taught head.osts (line (turn stamp node) e ∷ past)
+  line_taught (Target t) (Act d) none ok first = act_taught t d ok
+  line_taught (Target t) (Made d) none ok first = made_taught t d ok
+  line_taught (Target t) (Commit to batch) none ok first =
+      later_taught head past stamp (Target t) (Commit to batch) ok first all
+      (record { tree = λ p. same_refl (server_of head.osts past).tree p; bound = at_most (bound_of head.osts past); committed = commit_up head past (turn stamp (Target t)) to batch ok all; acted = λ d a. a; made = λ d a m. a; lost = λ n. refl })
+      (λ l i. i) (λ d a. a) h
+  line_taught (Target t) (Evict who cause) none ok first =
+      later_taught head past stamp (Target t) (Evict who cause) ok first all
+      (record { tree = λ p. same_forgot (server_of head.osts past).tree who p; bound = at_most (bound_of head.osts past); committed = at_most (server_of head.osts past).committed.0; acted = λ d a. a; made = λ d a m. a; lost = λ n. refl })
+      (λ l i. left_in who (server_of head.osts past).granted l i) (λ d a. a) h
+  line_taught (Target t) (Release lock) none ok first =
+      later_taught head past stamp (Target t) (Release lock) ok first all
+      (record { tree = λ p. same_refl (server_of head.osts past).tree p; bound = at_most (bound_of head.osts past); committed = at_most (server_of head.osts past).committed.0; acted = λ d a. a; made = λ d a m. a; lost = λ n. refl })
+      (λ l i. (in_filter (λ (m : Lock). not (m.cookie.0 == lock.cookie.0)) l (server_of head.osts past).granted i).0) (λ d a. a) h
+  line_taught (Target t) (Boot boot disk) none ok first =
+      later_taught head past stamp (Target t) (Boot boot disk) ok first all
+      (record { tree = λ p. same_refl (server_of head.osts past).tree p; bound = let n = ok.next in let c = all.phase.count in omega (arith, n, c); committed = at_most (server_of head.osts past).committed.0; acted = λ d a. a; made = λ d a m. a; lost = λ n. refl })
+      (λ l i. i) (λ d a. a) h
+  line_taught (Target t) (Close o) none ok first = absurd none
+  line_taught (Client c) (Act d) none ok first = absurd ok
+  line_taught (Client c) (Made d) none ok first = absurd ok
+  line_taught (Client c) (Close o) none ok first = absurd ok
+  line_taught node e none ok first =
+      later_taught head past stamp node e ok first all
+      (record { tree = λ p. same_refl (server_of head.osts past).tree p; bound = at_most (bound_of head.osts past); committed = at_most (server_of head.osts past).committed.0; acted = λ d a. a; made = λ d a m. a; lost = λ n. refl })
+      (λ l i. i) (λ d a. a) h
 
 pub first_taught : (osts : ℕ) → Taught osts []
-first_taught osts =
-    record {
-      sound = sound_empty 4294967296 (omega arith);
-      above = λ d i. absurd i;
-      low = λ d i. absurd i;
-      top = omega arith;
-      logged = λ d a. absurd a;
-      under = λ d f k. absurd k.0;
-      waits = λ r i. absurd i;
-    }
+first_taught osts d f k = absurd k.0

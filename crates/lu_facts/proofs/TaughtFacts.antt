@@ -112,11 +112,32 @@ abbrev pub UnderOne : List Lock → Fact → Type 0
 UnderOne locks f = record { lock : Lock; among : In lock locks; cookie : lock.cookie ≡ f.cookie; lies : Lies lock f }
 
 module _ (t : Tree) (bound : ℕ) (least : 1 ≤ bound) (low : (d : Fid) (n : List ℕ) (c : Child) → child t d n ≡ Some c → (fid_of c).0 ≤ bound) (who : Who) where
+  -- what stands there: the root, or what a name leads to that was looked at
+  abbrev pub SeenPlace : List Part → Child → Type 0
+  SeenPlace parts c = (c ≡ root) ⊎ ((d : Fid) × (n : List ℕ) × (child t d n ≡ Some c) × (d.0 ≤ bound) × In (part.Name d n) parts)
+
+  -- what attributes are of is seen in its place
+  abbrev pub PlaceOf : List Part → Part → Type 0
+  PlaceOf parts (part.Attr f) = (c : Child) × (fid_of c ≡ f) × SeenPlace parts c
+  PlaceOf parts _ = Unit {0}
+
   abbrev pub IsTaught : List Part → List Lock → Fact → Type 0
-  IsTaught parts locks f = record { tells : Tells t bound f; under : UnderOne locks f; touched : In f.part parts }
+  IsTaught parts locks f = record { tells : Tells t bound f; under : UnderOne locks f; touched : In f.part parts; place : PlaceOf parts f.part }
+
+  seen_place_more : (parts more : List Part) → ((q : Part) → In q parts → In q more) → (c : Child) → SeenPlace parts c → SeenPlace more c
+  seen_place_more parts more up c (inl e) = inl e
+  seen_place_more parts more up c (inr p) = inr (p.0, p.1, p.2, p.3, up (part.Name p.0 p.1) p.4)
+
+  place_more : (parts more : List Part) → ((q : Part) → In q parts → In q more) → (p : Part) → PlaceOf parts p → PlaceOf more p
+  place_more parts more up (part.Attr f) k = (k.0, k.1, seen_place_more parts more up k.0 k.2)
+  place_more parts more up (part.Name d n) k = tt
+  place_more parts more up (part.List d) k = tt
+  place_more parts more up (part.Layout f) k = tt
+  place_more parts more up (part.Parent f) k = tt
+  place_more parts more up (part.Bytes f stripe extent) k = tt
 
   taught_more : (p : Part) (parts : List Part) (l : Lock) (locks : List Lock) (f : Fact) → IsTaught parts locks f → IsTaught (p ∷ parts) (l ∷ locks) f
-  taught_more p parts l locks f k = record { tells = k.tells; under = record { lock = k.under.lock; among = inr k.under.among; cookie = k.under.cookie; lies = k.under.lies }; touched = inr k.touched }
+  taught_more p parts l locks f k = record { tells = k.tells; under = record { lock = k.under.lock; among = inr k.under.among; cookie = k.under.cookie; lies = k.under.lies }; touched = inr k.touched; place = place_more parts (p ∷ parts) (λ q i. inr i) f.part k.place }
 
   -- of the first name of a path
   name_taught : (more cookie : ℕ) (d : Fid) (n : List ℕ) (c : Child) (bits : ℕ) (a : Answer) (parts : List Part) (locks : List Lock) (f : Fact) → bits_meet bits LOOKUP ≡ true → d.0 ≤ bound → child t d n ≡ Some c → is_too_long n ≡ false
@@ -129,6 +150,7 @@ module _ (t : Tree) (bound : ℕ) (least : 1 ≤ bound) (low : (d : Fid) (n : Li
         tells = record { low = le; is = record { to = c; leads = leads; is = is; short = short } };
         under = record { lock = l; among = inl refl; cookie = refl; lies = (c, is, record { resource = refl; bits = bits; policy = refl; has = has }) };
         touched = inl refl;
+        place = tt;
       })
 
   names_right : (kind : Fid → Answer) (more : ℕ) → bits_meet (LOOKUP + more) LOOKUP ≡ true → (path : List (List ℕ)) (cookie : ℕ) (d : Fid) (cs : List Child) → d.0 ≤ bound → Steps t (Dir d) path cs → Every (λ n. is_too_long n ≡ false) path
@@ -190,6 +212,14 @@ module _ (t : Tree) (bound : ℕ) (least : 1 ≤ bound) (low : (d : Fid) (n : Li
   placed (Dir d) (n ∷ ns) (c ∷ cs) le p s = placed c ns cs (low d n c s.0) (inr (d, n, s.0, le)) s.1
   placed (File f) (n ∷ ns) cs le p s = absurd s
 
+  -- the end of a path is seen in its place
+  place_seen : (parts : List Part) (at : Child) (path : List (List ℕ)) (cs : List Child) → (fid_of at).0 ≤ bound → ((q : Part) → In q (parts_on path cs at) → In q parts) → SeenPlace parts at → Steps t at path cs → SeenPlace parts (last_of at cs)
+  place_seen parts at [] [] le up p s = p
+  place_seen parts at [] (c ∷ cs) le up p s = absurd s
+  place_seen parts (Dir d) (n ∷ ns) [] le up p s = absurd s
+  place_seen parts (Dir d) (n ∷ ns) (c ∷ cs) le up p s = place_seen parts c ns cs (low d n c s.0) (λ q i. up q (inr i)) (inr (d, n, s.0, le, up (part.Name d n) (inl refl))) s.1
+  place_seen parts (File f) (n ∷ ns) cs le up p s = absurd s
+
   -- what an outcome teaches
   abbrev pub Teaches : Op → List Part → Outcome → Type 0
   Teaches o parts r = (cookie : ℕ) (f : Fact) → In f (taught o r.answer (locks_from cookie who r.grants)) → IsTaught parts (locks_from cookie who r.grants) f
@@ -231,7 +261,7 @@ module _ (t : Tree) (bound : ℕ) (least : 1 ≤ bound) (low : (d : Fid) (n : Li
         → (cookie : ℕ) (f : Fact) → In f (name_facts kind facts.root path (locks_from cookie who (wants more cs))) → IsTaught (parts_on path cs root ++ parts) (locks_from cookie who (wants more cs)) f
     names_of kind more has path cs c parts is s short k cookie f i =
         let r = names_right kind more has path cookie facts.root cs least s short (subst (λ (b : Child). kind (fid_of b) ≡ found b) (sym is) k) f i in
-        record { tells = r.tells; under = r.under; touched = in_left f.part (parts_on path cs root) parts r.touched }
+        record { tells = r.tells; under = r.under; touched = in_left f.part (parts_on path cs root) parts r.touched; place = place_more (parts_on path cs root) (parts_on path cs root ++ parts) (λ q j. in_left q (parts_on path cs root) parts j) f.part r.place }
 
     lookup_teaches : (path : List (List ℕ)) (cs : List Child) (c : Child) → last_of root cs ≡ c → Steps t root path cs → Every (λ n. is_too_long n ≡ false) path → Teaches (op.Lookup path) (parts_on path cs root ++ []) (outcome t (row_lookup cs c))
     lookup_teaches path cs (Dir d) is s short cookie f i =
@@ -242,13 +272,16 @@ module _ (t : Tree) (bound : ℕ) (least : 1 ≤ bound) (low : (d : Fid) (n : Li
         (λ _ k. names_of told.File 0 refl path cs (File d) [] is s short refl cookie f k) (λ _ k. absurd k) i
 
     -- a fact under the last lock
-    own_taught : (p : Part) (a : Answer) (parts : List Part) (locks : List Lock) (x : Fid) (bit : ℕ) (l : Last locks x bit) (f : Fact) → (inode_of p).0 ≤ bound → TellsOf t bound p a → LiesOn l.lock p a → In p parts → fact p l.lock a ≡ f → IsTaught parts locks f
-    own_taught p a parts locks x bit l f le tells lies i e =
-        subst (IsTaught parts locks) e (record { tells = record { low = le; is = tells }; under = record { lock = l.lock; among = l.among; cookie = refl; lies = lies }; touched = i })
+    own_taught : (p : Part) (a : Answer) (parts : List Part) (locks : List Lock) (x : Fid) (bit : ℕ) (l : Last locks x bit) (f : Fact) → (inode_of p).0 ≤ bound → TellsOf t bound p a → LiesOn l.lock p a → In p parts → PlaceOf parts p → fact p l.lock a ≡ f → IsTaught parts locks f
+    own_taught p a parts locks x bit l f le tells lies i seen e =
+        subst (IsTaught parts locks) e (record { tells = record { low = le; is = tells }; under = record { lock = l.lock; among = l.among; cookie = refl; lies = lies }; touched = i; place = seen })
 
     -- the end of the path
     end_placed : (path : List (List ℕ)) (cs : List Child) (c : Child) → last_of root cs ≡ c → Steps t root path cs → IsPlaced t bound c × ((fid_of c).0 ≤ bound)
     end_placed path cs c is s = subst (λ (b : Child). IsPlaced t bound b × ((fid_of b).0 ≤ bound)) is (placed root path cs least (inl refl) s)
+
+    end_seen : (path : List (List ℕ)) (cs : List Child) (c : Child) (parts : List Part) → last_of root cs ≡ c → Steps t root path cs → SeenPlace (parts_on path cs root ++ parts) c
+    end_seen path cs c parts is s = subst (SeenPlace (parts_on path cs root ++ parts)) is (place_seen (parts_on path cs root ++ parts) root path cs least (λ q i. in_left q (parts_on path cs root) parts i) (inl refl) s)
 
     stat_teaches : (path : List (List ℕ)) (cs : List Child) (c : Child) → last_of root cs ≡ c → Steps t root path cs → Every (λ n. is_too_long n ≡ false) path → Teaches (op.Stat path) (parts_on path cs root ++ looked t (row_stat cs c)) (outcome t (row_stat cs c))
     stat_teaches path cs (Dir d) is s short cookie f i =
@@ -256,7 +289,7 @@ module _ (t : Tree) (bound : ℕ) (least : 1 ≤ bound) (low : (d : Fid) (n : Li
         let l : Last locks d UPDATE = subst (λ (c : Child). Last (locks_from cookie who (wants UPDATE cs)) (fid_of c) UPDATE) is (last_lock 1 UPDATE refl refl refl cookie cs) in
         let at = end_placed path cs (Dir d) is s in
         either told.Dir path locks (λ l. fact (part.Attr d) l (told.DirStat d (attributes t (Dir d)).mode) ∷ []) l.lock (parts_on path cs root ++ part.Attr d ∷ []) f l.is (names_of told.Dir UPDATE refl path cs (Dir d) (part.Attr d ∷ []) is s short refl cookie)
-        (λ g j. one (λ e. own_taught (part.Attr d) (told.DirStat d (attributes t (Dir d)).mode) (parts_on path cs root ++ part.Attr d ∷ []) locks d UPDATE l g at.1 (inl (refl, at.0)) (l.has, l.place) (in_right (part.Attr d) (parts_on path cs root) (part.Attr d ∷ []) (inl refl)) e) j) i
+        (λ g j. one (λ e. own_taught (part.Attr d) (told.DirStat d (attributes t (Dir d)).mode) (parts_on path cs root ++ part.Attr d ∷ []) locks d UPDATE l g at.1 (inl (refl, at.0)) (l.has, l.place) (in_right (part.Attr d) (parts_on path cs root) (part.Attr d ∷ []) (inl refl)) (Dir d, refl, end_seen path cs (Dir d) (part.Attr d ∷ []) is s) e) j) i
     stat_teaches path cs (File d) is s short cookie f i =
         let locks = locks_from cookie who (wants (UPDATE + LAYOUT) cs) in
         let a = told.FileStat d (attributes t (File d)).mode (attributes t (File d)).links (layout t d) in
@@ -267,8 +300,8 @@ module _ (t : Tree) (bound : ℕ) (least : 1 ≤ bound) (low : (d : Fid) (n : Li
         let at = end_placed path cs (File d) is s in
         either told.File path locks (facts.stat_facts d a (layout t d)) l.lock parts f l.is (names_of told.File (UPDATE + LAYOUT) refl path cs (File d) (part.Attr d ∷ part.Layout d ∷ []) is s short refl cookie)
         (λ g j. two
-        (λ e. own_taught (part.Attr d) a parts locks d UPDATE l g at.1 (inr (layout t d, refl, at.0)) (l.has, l.place) (in_right (part.Attr d) (parts_on path cs root) (part.Attr d ∷ part.Layout d ∷ []) (inl refl)) e)
-        (λ e. own_taught (part.Layout d) (told.Layout (layout t d)) parts locks d LAYOUT k g at.1 refl k.has (in_right (part.Layout d) (parts_on path cs root) (part.Attr d ∷ part.Layout d ∷ []) (inr (inl refl))) (ap (λ (m : Lock). fact (part.Layout d) m (told.Layout (layout t d))) (sym same) ∙ e)) j) i
+        (λ e. own_taught (part.Attr d) a parts locks d UPDATE l g at.1 (inr (layout t d, refl, at.0)) (l.has, l.place) (in_right (part.Attr d) (parts_on path cs root) (part.Attr d ∷ part.Layout d ∷ []) (inl refl)) (File d, refl, end_seen path cs (File d) (part.Attr d ∷ part.Layout d ∷ []) is s) e)
+        (λ e. own_taught (part.Layout d) (told.Layout (layout t d)) parts locks d LAYOUT k g at.1 refl k.has (in_right (part.Layout d) (parts_on path cs root) (part.Attr d ∷ part.Layout d ∷ []) (inr (inl refl))) tt (ap (λ (m : Lock). fact (part.Layout d) m (told.Layout (layout t d))) (sym same) ∙ e)) j) i
 
     list_teaches : (path : List (List ℕ)) (cs : List Child) (c : Child) → last_of root cs ≡ c → Steps t root path cs → Every (λ n. is_too_long n ≡ false) path → Teaches (op.List path) (parts_on path cs root ++ looked t (row_list cs c)) (outcome t (row_list cs c))
     list_teaches path cs (File d) is s short cookie f i = absurd i
@@ -278,7 +311,7 @@ module _ (t : Tree) (bound : ℕ) (least : 1 ≤ bound) (low : (d : Fid) (n : Li
         let l : Last locks d UPDATE = subst (λ (c : Child). Last (locks_from cookie who (wants UPDATE cs)) (fid_of c) UPDATE) is (last_lock 1 UPDATE refl refl refl cookie cs) in
         let at = end_placed path cs (Dir d) is s in
         either told.Dir path locks (λ l. fact (part.List l.resource.fid) l (told.Names (listing t d)) ∷ []) l.lock parts f l.is (names_of told.Dir UPDATE refl path cs (Dir d) (part.List d ∷ []) is s short refl cookie)
-        (λ g j. one (λ e. own_taught (part.List d) (told.Names (listing t d)) parts locks d UPDATE l g at.1 refl l.has (in_right (part.List d) (parts_on path cs root) (part.List d ∷ []) (inl refl))
+        (λ g j. one (λ e. own_taught (part.List d) (told.Names (listing t d)) parts locks d UPDATE l g at.1 refl l.has (in_right (part.List d) (parts_on path cs root) (part.List d ∷ []) (inl refl)) tt
         (ap (λ (x : Fid). fact (part.List x) l.lock (told.Names (listing t d))) (ap (λ (r : Resource). r.fid) (sym l.has.resource)) ∙ e)) j) i
 
     layout_teaches : (path : List (List ℕ)) (cs : List Child) (c : Child) → last_of root cs ≡ c → Steps t root path cs → Every (λ n. is_too_long n ≡ false) path → Teaches (op.Layout path) (parts_on path cs root ++ looked t (row_layout cs c)) (outcome t (row_layout cs c))
@@ -289,7 +322,7 @@ module _ (t : Tree) (bound : ℕ) (least : 1 ≤ bound) (low : (d : Fid) (n : Li
         let l : Last locks d LAYOUT = subst (λ (c : Child). Last (locks_from cookie who (wants LAYOUT cs)) (fid_of c) LAYOUT) is (last_lock 3 LAYOUT refl refl refl cookie cs) in
         let at = end_placed path cs (File d) is s in
         either told.File path locks (λ l. fact (part.Layout l.resource.fid) l (told.Layout (layout t d)) ∷ []) l.lock parts f l.is (names_of told.File LAYOUT refl path cs (File d) (part.Layout d ∷ []) is s short refl cookie)
-        (λ g j. one (λ e. own_taught (part.Layout d) (told.Layout (layout t d)) parts locks d LAYOUT l g at.1 refl l.has (in_right (part.Layout d) (parts_on path cs root) (part.Layout d ∷ []) (inl refl))
+        (λ g j. one (λ e. own_taught (part.Layout d) (told.Layout (layout t d)) parts locks d LAYOUT l g at.1 refl l.has (in_right (part.Layout d) (parts_on path cs root) (part.Layout d ∷ []) (inl refl)) tt
         (ap (λ (x : Fid). fact (part.Layout x) l.lock (told.Layout (layout t d))) (ap (λ (r : Resource). r.fid) (sym l.has.resource)) ∙ e)) j) i
 
     -- each operation: what changes names teaches nothing

@@ -1,32 +1,35 @@
 -- Where each call that reads misses what calls make, no lock is granted, and so none is called back; nor ever is one by another target than
 -- the metadata target.
-use Rattle.std.proofs.Common.{◌≡◌, ℕ, Bool, true, false, List, [], ◌∷◌, ◌++◌, inl, refl, sym, subst, ap, ◌∙◌}
+use Rattle.std.proofs.Common.{◌≡◌, ℕ, Bool, true, false, List, [], ◌∷◌, ◌++◌, inl, inr, refl, sym, subst, ap, ◌∙◌}
 use Rattle.std.specs.Prelude.{nat_eq, not, if◌then◌else◌, filter}
 use Rattle.std.proofs.lemmas.Bool.{eqb-true}
 use Rattle.lu_base.specs.declared.ids.At.{At}
 use Rattle.lu_base.specs.declared.ids.Node.{Node}
 use Rattle.lu_base.specs.declared.ids.Node.TheVariants.{Client, Target}
+use Rattle.lu_base.specs.declared.ids.Stamp.{Stamp}
 use Rattle.lu_base.specs.declared.locks.Lock.{Lock}
 use Rattle.lu_msg.specs.declared.calls.Call.{Call}
 use Rattle.lu_msg.specs.declared.calls.Call.TheVariants as call
 use Rattle.lu_machine.specs.Footprint.{grants}
 use Rattle.lu_part.specs.declared.parts.Want.{Want}
 use Rattle.lu_words.specs.Carried.{Deed, Called}
-use Rattle.lu_words.specs.Words.{Entry, Act, Block, Release, Tick, Evict, Line, line}
+use Rattle.lu_words.specs.Words.{Entry, Act, Txn, Block, Release, Evict, Close, Line, line}
 use Rattle.lu_words.specs.Concerns.{only}
 use Rattle.lu_target_rows.specs.Lives.{is_life}
-use Rattle.lu_target_rows.specs.Locks.{with_locks, without_lock, locks_without, called_without}
+use Rattle.lu_target_rows.specs.Locks.{called_without}
 use Rattle.lu_target_rows.specs.Names.{locks_from}
 use Rattle.lu_covered.specs.Deeds.{asked}
 use Rattle.lu_covered.specs.Heads.{Head}
 use Rattle.lu_covered.specs.Makes.{Path, Misses}
 use Rattle.lu_covered.specs.TargetStates.{none, granted_at, called_at, server_of}
-use Rattle.lu_guards.proofs.Guards.{In}
+use Rattle.lu_guards.proofs.Guards.{In, EntryOk}
 use Rattle.lu_guards.proofs.StoryGuards.{ActOk}
 use Rattle.lu_guards.proofs.Grown.{Allowed, Grown}
 use Rattle.lu_guards.proofs.Lists.{self}
 use Rattle.lu_guards.proofs.Parts.{granted_is, tree_is}
 use Rattle.lu_facts.proofs.Groups.{turn, Acted}
+use Rattle.lu_facts.proofs.Lines.{acted_whole}
+use Rattle.lu_facts.proofs.All.{holds}
 use Rattle.lu_facts.proofs.Asked.{Began, began_more, AskedBy, acted_asked}
 use Rattle.lu_facts.proofs.Finds.{Made_in, granted_none}
 
@@ -55,74 +58,85 @@ act_none head past l g m at d ok a =
     ap (λ t. grants head.osts t (asked ok.request none)) (sym (tree_is head.osts 0 past)) ∙ granted_none head past g ok.request.who ok.request.op (subst (AskedBy past) same a) (all_before l past m) in
     ap (λ (y : Deed). y.reply.locks) ok.is ∙ ap (λ (ws : List Want). locks_from v.cookie ok.request.who ws) free
 
--- ---- so none is granted, or called back
+-- and nothing that was done gave any
+gives_none : (head : Head) (past : List Line) → Grown head past → AllMiss past → (d : Deed) → Acted past d → d.reply.locks ≡ []
+gives_none head [] g m d a = absurd a
+gives_none head (l ∷ past) g m d a = by l.at.node l.entry g.0 (λ x b. acted_asked head (l ∷ past) x g b) a (gives_none head past g.1 (all_before l past m) d)
+  where
+    by : (node : Node) (e : Entry) → Allowed head past (turn l.at.stamp node) e → ((x : Deed) → Acted (line l.at e ∷ past) x → AskedBy (line l.at e ∷ past) x.op) → Acted (line l.at e ∷ past) d → (Acted past d → d.reply.locks ≡ []) → d.reply.locks ≡ []
+    by (Target u) (Act x) k asks (inl q) more =
+        ap (λ (y : Deed). y.reply.locks) (sym q) ∙ act_none head past l g.1 m (turn l.at.stamp (Target u)) x (k.of 0 (ap (λ (v : ℕ). nat_eq 0 v) k.ok)) (asks x (inl refl))
+    by (Target u) (Act x) k asks (inr b) more = more b
+    by (Target u) (Txn x) k asks (inl q) more = ap (λ (y : Deed). y.reply.locks) (sym q) ∙ ap (λ (y : Deed). y.reply.locks) (k.of u (self u)).is
+    by (Target u) (Txn x) k asks (inr b) more = more b
+    by (Client c) (Act x) k asks b more = absurd k.ok
+    by (Client c) (Txn x) k asks b more = absurd k.ok
+    by node e k asks b more = more b
+
+-- ---- so none is granted
+
+none_in : (ls : List Lock) → ((l : Lock) → In l ls → ⊥) → ls ≡ []
+none_in [] empty = refl
+none_in (l ∷ ls) empty = absurd (empty l (inl refl))
+
+none_granted : (head : Head) (past : List Line) → Grown head past → AllMiss past → (t : ℕ) → (server_of head.osts (only t past)).granted ≡ []
+none_granted head past g m t =
+    none_in (server_of head.osts (only t past)).granted
+    (λ l i. let r = ((holds head past g).at t).locks.granted l i in subst (λ (ls : List Lock). In l ls) (gives_none head past g m r.0 (acted_whole t past r.0 r.1.0)) r.1.1)
+
+-- ---- and none is called back
+
+-- while no lock is called back
+still_uncalled : (past : List Line) (stamp : Stamp) (node : Node) (e : Entry) (t : ℕ) → EntryOk past (turn stamp node) node e → ((called : Called) → node ≡ Target t → e ≡ Block called → ⊥) → called_at t past ≡ []
+    → called_at t (line (turn stamp node) e ∷ past) ≡ []
+still_uncalled past stamp (Target u) (Block called) t ok free h = by (nat_eq t u) refl
+  where
+    by : (b : Bool) → nat_eq t u ≡ b → (if b then called_at t past ++ called ∷ [] else called_at t past) ≡ []
+    by true e = absurd (free called (ap Target (sym (eqb-true t u e))) refl)
+    by false e = h
+still_uncalled past stamp (Target u) (Release lock) t ok free h = by (nat_eq t u)
+  where
+    by : (b : Bool) → (if b then called_without lock (called_at t past) else called_at t past) ≡ []
+    by true = rw h refl
+    by false = h
+still_uncalled past stamp (Target u) (Evict who cause) t ok free h = by (nat_eq t u)
+  where
+    by : (b : Bool) → (if b then filter (λ (c : Called). not (is_life c.who (who ∷ []))) (called_at t past) else called_at t past) ≡ []
+    by true = rw h refl
+    by false = h
+still_uncalled past stamp (Target u) (Close o) t ok free h = by (nat_eq t u)
+  where
+    by : (b : Bool) → (if b then [] else called_at t past) ≡ []
+    by true = refl
+    by false = h
+still_uncalled past stamp (Client c) (Block called) t ok free h = absurd ok
+still_uncalled past stamp (Client c) (Release lock) t ok free h = absurd ok
+still_uncalled past stamp (Client c) (Evict who cause) t ok free h = absurd ok
+still_uncalled past stamp (Client c) (Close o) t ok free h = absurd ok
+still_uncalled past stamp node e t ok free h = h
 
 abbrev Free : List Line → Type 0
 Free past = (t : ℕ) → (granted_at t past ≡ []) × (called_at t past ≡ [])
 
-pub unlocked : (head : Head) (past : List Line) → Grown head past → AllMiss past → Free past
-unlocked head [] g m = λ t. (refl, refl)
-unlocked head (l ∷ past) g m = by l.at.node l.entry g.0 (λ d a. acted_asked head (l ∷ past) d g a) (unlocked head past g.1 (all_before l past m))
+uncalled : (head : Head) (past : List Line) → Grown head past → AllMiss past → (t : ℕ) → called_at t past ≡ []
+uncalled head [] g m t = refl
+uncalled head (l ∷ past) g m t = still_uncalled past l.at.stamp l.at.node l.entry t g.0.ok free (uncalled head past g.1 (all_before l past m) t)
   where
-    none_in : (l : Lock) (locks : List Lock) → locks ≡ [] → In l locks → ⊥
-    none_in l [] e i = i
-    none_in l (k ∷ locks) e i = absurd (cc)
+    -- what is called back is granted
+    free : (called : Called) → l.at.node ≡ Target t → l.entry ≡ Block called → ⊥
+    free called n e =
+        let k : Allowed head past (turn l.at.stamp (Target t)) (Block called) = subst (λ (v : Entry). Allowed head past (turn l.at.stamp (Target t)) v) e (subst (λ (v : Node). Allowed head past (turn l.at.stamp v) l.entry) n g.0) in
+        let ok = k.of t (self t) in
+        subst (λ (ls : List Lock). In ok.lock ls) (none_granted head past g.1 (all_before l past m) t) ok.granted
 
-    by : (node : Node) (e : Entry) → Allowed head past (turn l.at.stamp node) e → ((d : Deed) → Acted (line l.at e ∷ past) d → AskedBy (line l.at e ∷ past) d.op) → Free past → Free (line (turn l.at.stamp node) e ∷ past)
-    by (Client c) (Act d) k a h = absurd k.ok
-    by (Client c) (Block called) k a h = absurd k.ok
-    by (Client c) (Release lock) k a h = absurd k.ok
-    by (Client c) (Evict who cause) k a h = absurd k.ok
-    by (Target u) (Act d) k a h =
-        let none_granted = act_none head past l g.1 m (turn l.at.stamp (Target u)) d (k.of 0 (ap (λ (v : ℕ). nat_eq 0 v) k.ok)) (a d (inl refl)) in
-        λ t. (here (nat_eq t u) (with_locks d.reply.locks (granted_at t past)) (granted_at t past) (rw (none_granted, (h t).0) refl) (h t).0, (h t).1)
-      where
-        here : (b : Bool) (x y : List Lock) → x ≡ [] → y ≡ [] → (if b then x else y) ≡ []
-        here true x y p q = p
-        here false x y p q = q
-    by (Target u) (Block called) k a h =
-        let ok = k.of u (self u) in
-        absurd (none_in ok.lock (server_of head.osts (only u past)).granted (sym (granted_is head.osts u past) ∙ (h u).0) ok.granted)
-    by (Target u) (Release lock) k a h = λ t. by_own t (nat_eq t u) (h t)
-      where
-        by_own : (t : ℕ) (b : Bool) → (granted_at t past ≡ []) × (called_at t past ≡ [])
-            → ((if b then without_lock lock (granted_at t past) else granted_at t past) ≡ []) × ((if b then called_without lock (called_at t past) else called_at t past) ≡ [])
-        by_own t true p = (rw p.0 refl, rw p.1 refl)
-        by_own t false p = p
-    by (Target u) (Evict who cause) k a h = λ t. by_own t (nat_eq t u) (h t)
-      where
-        by_own : (t : ℕ) (b : Bool) → (granted_at t past ≡ []) × (called_at t past ≡ [])
-            → ((if b then locks_without (who ∷ []) (granted_at t past) else granted_at t past) ≡ [])
-            × ((if b then filter (λ (c : Called). not (is_life c.who (who ∷ []))) (called_at t past) else called_at t past) ≡ [])
-        by_own t true p = (rw p.0 refl, rw p.1 refl)
-        by_own t false p = p
-    by (Target u) Tick k a h = h
-    by node e k a h = h
+pub unlocked : (head : Head) (past : List Line) → Grown head past → AllMiss past → Free past
+unlocked head past g m = λ t. (granted_is head.osts t past ∙ none_granted head past g m t, uncalled head past g m t)
 
 -- ---- other targets call none back
 
 pub uncalled_other : (head : Head) (past : List Line) → Grown head past → (t : ℕ) → (t ≡ 0 → ⊥) → called_at t past ≡ []
 uncalled_other head [] g t other = refl
-uncalled_other head (l ∷ past) g t other = by l.at.node l.entry g.0 (uncalled_other head past g.1 t other)
-  where
-    by : (node : Node) (e : Entry) → Allowed head past (turn l.at.stamp node) e → called_at t past ≡ [] → called_at t (line (turn l.at.stamp node) e ∷ past) ≡ []
-    by (Client c) (Block called) k h = absurd k.ok
-    by (Client c) (Release lock) k h = absurd k.ok
-    by (Target u) (Block called) k h = by_own (nat_eq t u) refl
-      where
-        by_own : (b : Bool) → nat_eq t u ≡ b → (if b then called_at t past ++ called ∷ [] else called_at t past) ≡ []
-        by_own true e = absurd (other (eqb-true t u e ∙ k.ok))
-        by_own false e = h
-    by (Target u) (Release lock) k h = by_own (nat_eq t u)
-      where
-        by_own : (b : Bool) → (if b then called_without lock (called_at t past) else called_at t past) ≡ []
-        by_own true = rw h refl
-        by_own false = h
-    by (Client c) (Evict who cause) k h = absurd k.ok
-    by (Target u) (Evict who cause) k h = by_own (nat_eq t u)
-      where
-        by_own : (b : Bool) → (if b then filter (λ (c : Called). not (is_life c.who (who ∷ []))) (called_at t past) else called_at t past) ≡ []
-        by_own true = rw h refl
-        by_own false = h
-    by (Target u) Tick k h = h
-    by node e k h = h
+uncalled_other head (l ∷ past) g t other =
+    still_uncalled past l.at.stamp l.at.node l.entry t g.0.ok
+    (λ called n e. other (subst (λ (v : Entry). EntryOk past (turn l.at.stamp (Target t)) (Target t) v) e (subst (λ (v : Node). EntryOk past (turn l.at.stamp v) v l.entry) n g.0.ok)))
+    (uncalled_other head past g.1 t other)

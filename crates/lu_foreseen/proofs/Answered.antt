@@ -130,11 +130,11 @@ module _ (head : Head) (past : List Line) (g : Grown (covered_head head) past) (
     unheld : (l : Lock) → In l r.locks → (x : HeldLock) → In x (held_at c past) → x.lock.cookie ≡ l.cookie → ⊥
     unheld l i x j same =
         let meant = h.done.sent (node.Target 0) (node.Client c) (message.Reply r) was in
-        let d : Deed = meant.0 in
+        let d : Deed = meant.deed in
         let holding = h.locks.held c x (subst (λ (xs : List HeldLock). In x xs) (held_is (covered_head head) c past g) j) in
-        let among : In l d.reply.locks = subst (λ (ls : List Lock). In l ls) (ap (λ (v : ReplyTo). v.locks) meant.2) i in
-        let one = (h.locks.once d holding.deed l x.lock (meant.1, among) holding.gave (sym same)).0 in
-        let xid : f.xid ≡ holding.deed.reply.xid.0 = number ∙ ap (λ (v : ReplyTo). v.xid.0) meant.2 ∙ ap (λ (v : Deed). v.reply.xid.0) one in
+        let among : In l d.reply.locks = subst (λ (ls : List Lock). In l ls) (ap (λ (v : ReplyTo). v.locks) meant.is) i in
+        let one = (h.locks.once d holding.deed l x.lock (meant.acted, among) holding.gave (sym same)).0 in
+        let xid : f.xid ≡ holding.deed.reply.xid.0 = number ∙ ap (λ (v : ReplyTo). v.xid.0) meant.is ∙ ap (λ (v : Deed). v.reply.xid.0) one in
         (h.numbers.over life holding.deed.reply.xid.0 holding.heard).1 f flying xid
 
     on_names : IsNames f.op
@@ -167,26 +167,28 @@ module _ (head : Head) (past : List Line) (g : Grown (covered_head head) past) (
 
   -- ---- what is sent to a client
 
-  module _ (MayAsk : Type 0) (none : MayAsk → ⊥) (suits : AllSuit MayAsk head.osts past) where
+  module _ (MayAsk : Type 0) (none : MayAsk → ⊥) (suits : AllSuit MayAsk head.osts head.clients past) where
     -- it came from the metadata target
     from_names : (from : Node) (m : Message) → Was past from (node.Client c) m → Goes from (node.Client c) m → from ≡ node.Target 0
     from_names (node.Target t) (message.Reply r) was goes = ap node.Target goes
     from_names (node.Target t) (message.Block who boot cookie) was goes = ap node.Target goes
-    from_names (node.Target t) (message.Ready who boot committed) was goes = absurd (none (was_suits MayAsk head.osts past (node.Target t) (node.Client c) (message.Ready who boot committed) suits was))
-    from_names (node.Target t) (message.Evicted who boot) was goes = absurd (none (was_suits MayAsk head.osts past (node.Target t) (node.Client c) (message.Evicted who boot) suits was))
+    from_names (node.Target t) (message.Up boot) was goes = absurd (none (was_suits MayAsk head.osts head.clients past (node.Target t) (node.Client c) (message.Up boot) suits was).0.0)
+    from_names (node.Target t) (message.Ready who boot committed) was goes = absurd (none (was_suits MayAsk head.osts head.clients past (node.Target t) (node.Client c) (message.Ready who boot committed) suits was).0)
+    from_names (node.Target t) (message.Evicted who boot) was goes = absurd (none (was_suits MayAsk head.osts head.clients past (node.Target t) (node.Client c) (message.Evicted who boot) suits was).0)
     from_names from m was goes = absurd goes
 
     from_so : (m : Message) → Was past (node.Target 0) (node.Client c) m → Goes (node.Target 0) (node.Client c) m → may_from 0 m k ≡ true
     from_so (message.Reply r) was goes = reply_comes r (was_only 0 past (node.Target 0) (node.Client c) (message.Reply r) refl was)
     from_so (message.Block who boot cookie) was goes = refl
+    from_so (message.Up boot) was goes = absurd (none (was_suits MayAsk head.osts head.clients past (node.Target 0) (node.Client c) (message.Up boot) suits was).0.0)
     from_so (message.Ready who boot committed) was goes = refl
-    from_so (message.Evicted who boot) was goes = absurd (none (was_suits MayAsk head.osts past (node.Target 0) (node.Client c) (message.Evicted who boot) suits was))
+    from_so (message.Evicted who boot) was goes = absurd (none (was_suits MayAsk head.osts head.clients past (node.Target 0) (node.Client c) (message.Evicted who boot) suits was).0)
     from_so m was goes = absurd goes
 
     pub comes : (n : ℕ) (from : Node) (m : Message) → Sent past n from (node.Client c) m → (from ≡ node.Target 0) × (may_come from m k ≡ true)
     comes n from m sent =
         let was = sent_was past n from (node.Client c) m sent in
-        let goes = was_goes MayAsk head.osts (covered_head head) past from (node.Client c) m g suits was in
+        let goes = was_goes (covered_head head) past from (node.Client c) m g was in
         let is = from_names from m was goes in
         let so = from_so m (subst (λ (v : Node). Was past v (node.Client c) m) is was) (subst (λ (v : Node). Goes v (node.Client c) m) is goes) in
         (is, subst (λ (v : Node). may_come v m k ≡ true) (sym is) (rw (some_imports, so) refl))

@@ -90,7 +90,7 @@ module _ (head : Head) (past : List Line) (g : Grown head past) where
   h = (holds head past g).at 0
 
   -- the request that flew
-  meant_by : (n : ℕ) (from : Node) (r : RequestOf) → Sent past n from (Target 0) (message.Request r) → Meant (only 0 past) (Target 0) (message.Request r)
+  meant_by : (n : ℕ) (from : Node) (r : RequestOf) → Sent past n from (Target 0) (message.Request r) → Meant head.osts (only 0 past) (Target 0) (message.Request r)
   meant_by n from r s = h.done.sent from (Target 0) (message.Request r) (came head past 0 from (message.Request r) g (sent_was past n from (Target 0) (message.Request r) s))
 
   pub request_fits : (n : ℕ) (from : Node) (r : RequestOf) → Sent past n from (Target 0) (message.Request r) → Fitting head past r
@@ -108,7 +108,7 @@ module _ (head : Head) (past : List Line) (g : Grown head past) where
       let p = and_parts (same_life q.who r.who) (nat_eq q.xid.0 r.xid.0) e in
       let who : q.who ≡ r.who = life_is q.who r.who p.0 in
       let xid : q.xid.0 ≡ r.xid.0 = eqb-true q.xid.0 r.xid.0 p.1 in
-      let old = (h.done.waits q waits).meant in
+      let old = (h.done.waits q waits).asks in
       let new = meant_by n from r s in
       let xids : old.0.xid ≡ new.0.xid = ap (λ (v : RequestOf). v.xid.0) (sym old.2) ∙ xid ∙ ap (λ (v : RequestOf). v.xid.0) new.2 in
       let flew = subst (λ (w : Who). Flew (only 0 past) w old.0) who old.1 in

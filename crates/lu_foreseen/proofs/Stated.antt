@@ -21,9 +21,10 @@ use Rattle.lu_service.specs.declared.services.Kind.TheVariants.{Mdt}
 use Rattle.lu_service.specs.Takes.{Takes, IsCount as Counts}
 use Rattle.lu_trace.specs.WellFormed.{IsCount, IsCall}
 use Rattle.lu_words.specs.Carried.{HandleFile}
-use Rattle.lu_words.specs.Words.{Line}
+use Rattle.lu_words.specs.Words.{Send, Line}
 use Rattle.lu_words.specs.Sent.{Sent}
 use Rattle.lu_target_rows.specs.Locks.{same_request}
+use Rattle.lu_target_rows.specs.States.{is_serving}
 use Rattle.lu_table.specs.Heads.{Head}
 use Rattle.lu_table.specs.Runs.{target_of, setting_of}
 use Rattle.lu_table.specs.Scenarios.{Config, Disks, head_of, past_of, is_full, is_down}
@@ -35,15 +36,14 @@ use Rattle.lu_covered_scenes.proofs.Guards.{In, Was}
 use Rattle.lu_covered_scenes.proofs.Grown.{Grown}
 use Rattle.lu_covered_scenes.proofs.Only.{sent_was}
 use Rattle.lu_covered_scenes.proofs.GuardTurns.{covered_head}
-use Rattle.lu_covered_scenes.proofs.Asking.{was_suits}
+use Rattle.lu_covered_scenes.proofs.Asking.{Suits, was_suits}
 use Rattle.lu_covered_scenes.proofs.OnNames.{op_is}
 use Rattle.lu_after.proofs.Posts.{sent_at_is}
 use Rattle.lu_covered_scenes.specs.Covered.{IsCovered, AsksNoDisk, ticks_of}
 use Rattle.lu_covered_scenes.proofs.Arrivals.{Goes, was_goes, to_client}
 use Rattle.lu_covered_scenes.proofs.Lines.{MayAsk, AllKnown, IsKnown, lines_known, called_fits}
 use Rattle.lu_covered_scenes.proofs.Runs.{Follows, so_up, leads_follow}
-use Rattle.lu_covered_scenes.proofs.Targets.{Serves, serving_is}
-use Rattle.lu_covered_scenes.proofs.Turns.{Timely, NoneDue, past_grown, target_serves, comes_makes, names_due, others_due, tick_makes}
+use Rattle.lu_covered_scenes.proofs.Turns.{Timely, NoneDue, past_grown, serves_still, comes_makes, names_due, others_due, tick_makes}
 use Rattle.lu_nodes.specs.Foreseen.{MayHave, IsForeseen, IsTickForeseen}
 use Rattle.lu_foreseen.specs.Scenes.{next_stamp, IsOpen, IsCommand, AllForeseen}
 use Rattle.lu_foreseen.proofs.Asked.{Fitting, request_fits, same_tag}
@@ -98,8 +98,8 @@ module _ (scene : Scene) (covered : IsCovered scene) (quiet : AsksNoDisk scene) 
   g : Grown h past
   g = past_grown scene covered c f.sound
 
-  serves_at : (t : ℕ) → Serves (target_of head t past)
-  serves_at t = target_serves scene covered c f.sound t
+  serves_at : (t : ℕ) → is_serving (target_of head t past) ≡ true
+  serves_at t = serves_still scene covered c f.sound t quiet
 
   none : MayAsk scene → ⊥
   none may = may quiet
@@ -113,7 +113,7 @@ module _ (scene : Scene) (covered : IsCovered scene) (quiet : AsksNoDisk scene) 
       let tag = fits.tag in
       let asked = fits.asked in
       let within = called_fits scene scene.lines (lines_known scene covered) asked.0 (f.sound.begun asked.0 asked.1) in
-      let queue : (target_of head 0 past).queue ≡ (server_of head.osts (only 0 past)).waiting = waiting_same (MayAsk scene) head.osts none h (setting_of head 0) head.clients past g f.sound.suits f.sound.covered in (
+      let queue : (target_of head 0 past).queue ≡ (server_of head.osts (only 0 past)).waiting = waiting_same (MayAsk scene) head.osts head.clients none h (setting_of head 0) past g f.sound.suits f.sound.covered in (
         omega arith,
         names_take asked.2 asked.0 r.op asked.3 within,
         subst (All (λ (q : RequestOf). same_request q r ≡ true → q.tag ≡ r.tag)) (sym queue)
@@ -126,13 +126,20 @@ module _ (scene : Scene) (covered : IsCovered scene) (quiet : AsksNoDisk scene) 
 
   to_names : (n : ℕ) (m : SentMessage) → (target_of head 0 past).up ≡ true → Sent past n m.from (Target 0) m.message → IsForeseen head past (next_stamp c) (message_to m.from (Target 0) m)
   to_names n m up sent =
-      (omega arith, up, serving_is (target_of head 0 past) (serves_at 0), may_have n m.from m.message sent, (comes_makes scene covered c 0 n m.from m.message f.sound sent up room).numbers)
+      (omega arith, up, serves_at 0, may_have n m.from m.message sent, (comes_makes scene covered c 0 n m.from m.message f.sound sent up room).numbers)
 
-  -- no life joins, so all goes to the metadata target
+  -- what was sent stands where no turn may ask a disk
+  suits_so : (from : Node) (t : ℕ) (m : Message) → Was past from (Target t) m → Suits (MayAsk scene) head.osts head.clients (Send (Target t) m)
+  suits_so from t m was = (was_suits (MayAsk scene) head.osts head.clients past from (Target t) m f.sound.suits was).0
+
+  -- no life joins, and none comes back, so all goes to the metadata target
   is_names : (t : ℕ) (from : Node) (m : Message) → Was past from (Target t) m → Goes from (Target t) m → t ≡ 0
   is_names t (Client d) (message.Request r) was goes = goes
   is_names t (Client d) (message.Cancel who boot cookie) was goes = goes
-  is_names t (Client d) (message.Join who boot) was goes = absurd (none (was_suits (MayAsk scene) head.osts past (Client d) (Target t) (message.Join who boot) f.sound.suits was).0)
+  is_names t (Client d) (message.Join who boot) was goes = absurd (none (suits_so (Client d) t (message.Join who boot) was).0)
+  is_names t (Client d) (message.Replay r) was goes = absurd (none (suits_so (Client d) t (message.Replay r) was).0)
+  is_names t (Client d) (message.Lock r) was goes = absurd (none (suits_so (Client d) t (message.Lock r) was).0)
+  is_names t (Client d) (message.Word who boot replays locks seen) was goes = absurd (none (suits_so (Client d) t (message.Word who boot replays locks seen) was).0)
   is_names t from m was goes = absurd goes
 
   -- ---- all messages
@@ -146,7 +153,7 @@ module _ (scene : Scene) (covered : IsCovered scene) (quiet : AsksNoDisk scene) 
           (to_client (MayAsk scene) head.osts h past g f.sound.suits n who m.from m.message sent, (0, came.0), came.1)
       by (Target t) up sent =
           let was = sent_was past n m.from (Target t) m.message sent in
-          let zero_is = is_names t m.from m.message was (was_goes (MayAsk scene) head.osts h past m.from (Target t) m.message g f.sound.suits was) in
+          let zero_is = is_names t m.from m.message was (was_goes h past m.from (Target t) m.message g was) in
           subst (λ (u : ℕ). (target_of head u past).up ≡ true → Sent past n m.from (Target u) m.message → IsForeseen head past (next_stamp c) (message_to m.from (Target u) m)) (sym zero_is) (to_names n m)
           (so_up (target_of head t past).up up) sent
 
@@ -169,7 +176,7 @@ module _ (scene : Scene) (covered : IsCovered scene) (quiet : AsksNoDisk scene) 
   no_command (Commit t) known is = absurd (known.some quiet.commands)
   no_command (CommitSome t count) known is = absurd (known.some quiet.commands)
   no_command (Crash t) known is = absurd (known.some quiet.commands)
-  no_command (Boot t) known is = absurd known
+  no_command (Boot t) known is = absurd (known.some quiet.commands)
   no_command (Close t) known is = absurd (known.some quiet.commands)
   no_command _ known is = absurd is
 

@@ -1,4 +1,4 @@
--- Where no turn asks a disk, the requests that wait at a target are those that the guards speak of: none leaves with its life.
+-- Where no turn asks a disk, the requests that wait at a target are those that the guards speak of: none leaves with its life, and no window closes.
 use Rattle.std.proofs.Common.{◌≡◌, ℕ, Bool, true, false, List, [], ◌∷◌, ◌++◌, Some, None, refl, ap, ◌∙◌}
 use Rattle.std.specs.Prelude.{nat_eq, if◌then◌else◌}
 use Rattle.std.proofs.lemmas.Bool.{cond_both}
@@ -19,8 +19,8 @@ use Rattle.lu_covered_scenes.proofs.Grown.{Grown}
 use Rattle.lu_covered_scenes.proofs.Groups.{turn}
 use Rattle.lu_covered_scenes.proofs.Asking.{Suits, AllSuit}
 
-module _ (MayAsk : Type 0) (osts : ℕ) (none : MayAsk → ⊥) (head : Head) where
-  line_waiting : (past : List Line) (at : At) (t : ℕ) (v : Target) (e : Entry) → Suits MayAsk osts e → IsCovered e → EntryOf head past at (node.Target t) e → v.queue ≡ (server_of head.osts past).waiting
+module _ (MayAsk : Type 0) (osts clients : ℕ) (none : MayAsk → ⊥) (head : Head) where
+  line_waiting : (past : List Line) (at : At) (t : ℕ) (v : Target) (e : Entry) → Suits MayAsk osts clients e → IsCovered e → EntryOf head past at (node.Target t) e → v.queue ≡ (server_of head.osts past).waiting
       → (after v e).queue ≡ (server_after head.osts (server_of head.osts past) e).waiting
   line_waiting past at t v (Enters r) s c ok h = ap (λ (rs : List RequestOf). rs ++ r ∷ []) h
   line_waiting past at t v (Act d) s c ok h = ap (without_request d) h
@@ -29,14 +29,14 @@ module _ (MayAsk : Type 0) (osts : ℕ) (none : MayAsk → ⊥) (head : Head) wh
   line_waiting past at t v (Grant lock None) s c ok h = absurd ok
   line_waiting past at t v (Wait lock asked) s c ok h = absurd c
   line_waiting past at t v (Answers d) s c ok h = absurd c
-  line_waiting past at t v (Commit to batch) s c ok h = absurd (none s)
+  line_waiting past at t v (Commit to batch) s c ok h = absurd (none s.0)
   line_waiting past at t v (Evict who cause) s c ok h = absurd (none s)
-  line_waiting past at t v (Close o) s c ok h = absurd c
+  line_waiting past at t v (Close o) s c ok h = absurd (none s.0)
   line_waiting past at t v e s c ok h = h
 
-  pub waiting_same : (setting : Setting) (clients : ℕ) (past : List Line) → Grown head past → AllSuit MayAsk osts past → AllCovered past → (target_at setting clients past).queue ≡ (server_of head.osts (only setting.id past)).waiting
-  waiting_same setting clients [] g s c = refl
-  waiting_same setting clients (l ∷ past) g s c = by l.at.node g.0.of (waiting_same setting clients past g.1 s.1 c.1)
+  pub waiting_same : (setting : Setting) (past : List Line) → Grown head past → AllSuit MayAsk osts clients past → AllCovered past → (target_at setting clients past).queue ≡ (server_of head.osts (only setting.id past)).waiting
+  waiting_same setting [] g s c = refl
+  waiting_same setting (l ∷ past) g s c = by l.at.node g.0.of (waiting_same setting past g.1 s.1 c.1)
     where
       by : (n : Node) → ((t : ℕ) → concerns t n l.entry ≡ true → EntryOf head (only t past) (turn l.at.stamp n) n l.entry) → (target_at setting clients past).queue ≡ (server_of head.osts (only setting.id past)).waiting
           → (target_at setting clients (line (turn l.at.stamp n) l.entry ∷ past)).queue ≡ (server_of head.osts (only setting.id (line (turn l.at.stamp n) l.entry ∷ past))).waiting

@@ -113,7 +113,7 @@ module _ (head : table.Head) (c : ℕ) (stamp : Stamp) where
       → Good head c at (line at (Begin slot r) ∷ p)
   begin_good p slot r s small limits empty is begins covered alone =
       adds head c stamp p (Begin slot r) (starts_good head c stamp p s) (owes_nothing p at (Begin slot r) s.settled)
-      (record { later = s.later; small = small; free = empty; is = is; limits = limits; begins = begins; calm = s.between.calm }) (λ t q. tt)
+      (record { later = s.later; small = small; free = empty; is = is; limits = limits; begins = begins; calm = s.between.calm; ready = s.ready }) (λ t q. tt)
       covered alone refl
 
   -- one on a bad handle is told so

@@ -24,10 +24,11 @@ use Rattle.lu_held.specs.declared.locks.HeldLock.{HeldLock}
 use Rattle.lu_held.specs.Locks.{after}
 use Rattle.lu_held.specs.Held.{changed}
 use Rattle.lu_machine.specs.Fits.{answer_fits}
-use Rattle.lu_words.specs.Carried.{HandleFile, Slot, Queued, Flight, Asking, Asked, Answered, Running}
-use Rattle.lu_words.specs.Words.{Entry, Send, Begin, Heard, Hold, Drop, Told, Life, Queues, Flies, Stands, Pins, Unpins, Marks, Unmarks, Changes, WritesBack, Acks, Act, Txn, Enters, Line, line, is_client}
+use Rattle.lu_words.specs.Carried.{HandleFile, Outcome, Slot, Queued, Flight, Asking, Asked, Answered, Running}
+use Rattle.lu_words.specs.Words.{Entry, Send, Begin, Heard, Hold, Drop, Told, Life, Queues, Flies, Stands, Pins, Unpins, Marks, Unmarks, Changes, WritesBack, Acks, Act, Txn, Close, Enters, Line, line, is_client}
 use Rattle.lu_words.specs.Concerns.{is_about, only}
 use Rattle.lu_words.specs.Fields.{on, at_client, at_import}
+use Rattle.lu_target_rows.specs.Lives.{slot_in}
 use Rattle.lu_target_rows.specs.Names.{locks_from}
 use Rattle.lu_client_rows.specs.Caches.{held_as, brought, granted_lock, reads_held, held_after, held_at, reads_patches, patches_after, patches_at}
 use Rattle.lu_client_rows.specs.Messages.{size_with, heeds}
@@ -36,6 +37,7 @@ use Rattle.lu_covered.specs.Calls.{asks, asks_for, reads_call, call_after, call_
 use Rattle.lu_covered.specs.Covered.{IsCovered, AllCovered}
 use Rattle.lu_covered.specs.Heads.{Head}
 use Rattle.lu_covered.specs.Imports.{rest, without_flight, reads_queue, queue_after, queue_at, reads_flights, flights_after, flights_at}
+use Rattle.lu_covered.specs.TargetCloses.{outcome_of}
 use Rattle.lu_covered.specs.TargetParts.{is_slot_of, entered, answered}
 use Rattle.lu_covered.specs.TargetStates.{slot_of}
 use Rattle.lu_guards.proofs.Guards.{In, Was, EntryOk}
@@ -44,6 +46,7 @@ use Rattle.lu_guards.proofs.Grown.{Grown, GrownOf}
 use Rattle.lu_guards.proofs.Lists.{in_append, in_filter}
 use Rattle.lu_guards.proofs.Parts.{queue_now}
 use Rattle.lu_guards.proofs.Held.{is_own, client_keeps}
+use Rattle.lu_guards.proofs.ClientDisks.{bare_in, bare_outcome}
 use Rattle.lu_guards.proofs.ClientLocks.{Once, Differ, once_filter, once_changed, once_used, once_unmarked, once_with, once_brought}
 
 -- ---- operations on names
@@ -308,6 +311,7 @@ kept_differ head who tag (l ∷ past) g = by l.at.node l.entry g.0 (kept_differ 
     by (Target t) (Txn d) ok f =
         chosen (is_slot_of who tag d.reply.who d.tag) (answered d S)
         (λ k e. subst (λ (r : ReplyTo). Differ r.locks) (some_is d.reply k e) (subst (λ x. Differ x.reply.locks) (sym ok.is) tt)) f
+    by (Target t) (Close o) ok f = λ k e. subst Differ (sym (bare_in (outcome_of head.osts head.clients l.at past).disk.slots who tag k (bare_outcome head l.at past g.3) (ap (λ (x : Outcome). (slot_in x.disk.slots who tag).reply) (sym ok.is) ∙ e))) tt
     by (Client c) e ok f = f
     by (Target t) e ok f = f
 

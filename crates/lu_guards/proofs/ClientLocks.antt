@@ -284,6 +284,10 @@ ordered_in g [] i = i
 ordered_in g (h ∷ hs) (inl e) = put_there h g (in_order hs) (inl e)
 ordered_in g (h ∷ hs) (inr i) = put_there h g (in_order hs) (inr (ordered_in g hs i))
 
+-- those of a kind
+pub of_ordered : (f : HeldLock → Bool) (g : HeldLock) (hs : List HeldLock) → In g (filter f (in_order hs)) → In g (filter f hs)
+of_ordered f g hs i = let r = in_filter f g (in_order hs) i in in_filtered f g hs (in_ordered g hs r.0) r.1
+
 -- as many of a kind as before
 count_put : (f : HeldLock → Bool) (h : HeldLock) (hs : List HeldLock) → length (filter f (put_in h hs)) ≡ length (filter f (h ∷ hs))
 count_put f h [] = refl
@@ -327,6 +331,27 @@ count_unmarked t u (h ∷ hs) = by (nat_eq h.target.0 u) (count_unmarked t u hs)
         → length (filter of_target ((if b then after change.Unmark h else h) ∷ unmarked (record { 0 = u }) hs)) ≡ length (filter of_target (h ∷ hs))
     by true e = more (of_target h) (after change.Unmark h) h (filter of_target (unmarked (record { 0 = u }) hs)) (filter of_target hs) e
     by false e = more (of_target h) h h (filter of_target (unmarked (record { 0 = u }) hs)) (filter of_target hs) e
+
+-- and of a target the same ones
+pub of_unmarked : (t u : ℕ) (g : HeldLock) (hs : List HeldLock) → In g (filter (λ (h : HeldLock). nat_eq h.target.0 t) hs)
+    → (h : HeldLock) × In h (filter (λ (x : HeldLock). nat_eq x.target.0 t) (unmarked (record { 0 = u }) hs)) × (h.lock ≡ g.lock)
+of_unmarked t u g hs i =
+    let r = in_filter of_target g hs i in
+    (one g, in_filtered of_target (one g) (map one hs) (in_mapped one g hs r.0) (kept (nat_eq g.target.0 u) r.1), same (nat_eq g.target.0 u))
+  where
+    of_target : HeldLock → Bool
+    of_target h = nat_eq h.target.0 t
+
+    one : HeldLock → HeldLock
+    one h = if nat_eq h.target.0 u then after change.Unmark h else h
+
+    kept : (b : Bool) → nat_eq g.target.0 t ≡ true → nat_eq (if b then after change.Unmark g else g).target.0 t ≡ true
+    kept true e = e
+    kept false e = e
+
+    same : (b : Bool) → (if b then after change.Unmark g else g).lock ≡ g.lock
+    same true = refl
+    same false = refl
 
 pub once_ordered : (hs : List HeldLock) → Once hs → Once (in_order hs)
 once_ordered [] o = tt

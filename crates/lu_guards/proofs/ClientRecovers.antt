@@ -33,7 +33,7 @@ use Rattle.lu_guards.proofs.Only.{sent_was, was_only}
 use Rattle.lu_guards.proofs.Parts.{known_is}
 use Rattle.lu_guards.proofs.Ends.{none_took}
 use Rattle.lu_guards.proofs.Turns.{owes_nothing}
-use Rattle.lu_guards.proofs.ClientLocks.{unmarked_only, count_ordered, count_unmarked}
+use Rattle.lu_guards.proofs.ClientLocks.{unmarked_only, of_ordered, count_ordered, of_unmarked, count_unmarked}
 use Rattle.lu_guards.proofs.ClientRests.{Rested, the_head, adds, at_one, held_line, followed, import_there}
 use Rattle.lu_guards.proofs.ClientSlots.{calls_wait}
 use Rattle.lu_guards.proofs.ClientStarts.{Starts, After, took_rested, no_forgets}
@@ -123,8 +123,10 @@ module _ (head : table.Head) (c : ℕ) (stamp : Stamp) where
           } in
           let count : length (held_of t (held_at c p2)) ≡ length (filter of_target (held_at c p3)) =
           count_ordered of_target (held_at c p2) ∙ sym (count_unmarked t t (held_at c p2)) ∙ ap (λ (hs : List HeldLock). length (filter of_target hs)) (sym bare) in
+          let all = λ (h : HeldLock) (i : In h (held_of t (held_at c p2))).
+          subst (λ (hs : List HeldLock). (g : HeldLock) × In g (filter of_target hs) × (g.lock ≡ h.lock)) (sym bare) (of_unmarked t t h (held_at c p2) (of_ordered of_target h (held_at c p2) i)) in
           subst (λ (es : List Entry). Rested head c at (with_turn at (Unmarks t ∷ es ++ recovers t (client_of head c p2) (import_at c t p2)) p2)) (sym (no_forgets t 0 (calls_at c p2) (calls_wait c p2 r.idle)))
-          (all_told head c stamp who p3 t v (held_of t (held_at c p2)) count lasts p3 still).rested
+          (all_told head c stamp who p3 t v (held_of t (held_at c p2)) all count lasts p3 still).rested
 
       came : Rested head c at p2 → (st : Standing) → standing_at c t p1 ≡ st → Rested head c at (with_turn at (comes_up t (client_of head c p2) (import_at c t p2) (standing_at c t p2)) p2)
       came r Joining e = let v = now ∙ ap interrupted e in subst (λ (x : Standing). Rested head c at (with_turn at (comes_up t (client_of head c p2) (import_at c t p2) x) p2)) (sym v) (joining r v)

@@ -80,14 +80,16 @@ module _ (head : table.Head) (c : ℕ) (stamp : Stamp) where
         good =
             adds head c stamp p e s.good (owes_nothing p at e s.settled)
             (record { names = refl; flight = f; reply = r; heard = s.now; among = s.among l (inl refl); unmarked = refl; unsized = refl; saw = refl })
-            (at_zero head c stamp (λ (t : ℕ). (false ≡ false) × story_guards.HeldOk (only t p) c l) (
+            (at_zero head c stamp (λ (t : ℕ). (false ≡ false) × story_guards.HeldOk (only t p) c l r.seen) (
               refl,
               record {
                 at = at;
                 flight = f;
                 reply = r;
+                here = refl;
                 heard = s.now_only;
                 among = s.among l (inl refl);
+                saw = refl;
                 held = subst (λ (hs : List HeldLock). In (held_as 0 l false) hs) (held_is (the_head head c stamp) c p s.good.grown) (s.held l (inl refl));
               },
             )) tt tt refl;

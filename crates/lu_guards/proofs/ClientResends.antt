@@ -1,6 +1,6 @@
 -- What is in flight is sent again, a life that isn't served yet asks to be, and a target that recovers is told what the life has for it: at
 -- each target when time goes on, and at one that says that it serves the life. A new life asks each target.
-use Rattle.std.proofs.Common.{◌≡◌, ℕ, zero, suc, ◌+◌, ◌≤◌, Bool, true, false, List, [], ◌∷◌, ◌++◌, inl, inr, refl, sym, subst, ap, ◌∙◌}
+use Rattle.std.proofs.Common.{◌≡◌, ℕ, zero, suc, ◌+◌, ◌≤◌, Bool, true, false, List, [], ◌∷◌, ◌++◌, inl, inr, ⊎_elim, refl, sym, subst, ap, ◌∙◌}
 use Rattle.std.specs.Prelude.{nat_eq, ◌&&◌, if◌then◌else◌, length, filter, map}
 use Rattle.std.specs.List.{range_with_len}
 use Rattle.std.proofs.lemmas.Bool.{and_parts, eqb-true}
@@ -27,21 +27,23 @@ use Rattle.lu_client_rows.specs.Rows.{rests, row_tick}
 use Rattle.lu_client_rows.specs.Sending.{request_of, sends_request, resends}
 use Rattle.lu_client_rows.specs.States.{Client as ClientState}
 use Rattle.lu_covered.specs.Calls.{life_at}
-use Rattle.lu_covered.specs.ClientStates.{life_of, standing_of}
+use Rattle.lu_covered.specs.ClientStates.{life_of, kept_of}
 use Rattle.lu_covered.specs.Covered.{AllCovered}
-use Rattle.lu_covered.specs.Imports.{Standing, Joining, Recovering, Serving, known_at, standing_at, flights_at, kept_at}
+use Rattle.lu_covered.specs.Imports.{Kept, Standing, Joining, Recovering, Serving, known_at, standing_at, flights_at, kept_at}
 use Rattle.lu_table.specs.Heads as table
 use Rattle.lu_table.specs.Runs.{limits_of, client_of}
-use Rattle.lu_guards.proofs.Guards.{In, Was, Later, Took}
+use Rattle.lu_guards.proofs.Guards.{In, Was, Later, Took, Ending}
 use Rattle.lu_guards.proofs.Grown.{Grown}
 use Rattle.lu_guards.proofs.StoryGuards as story_guards
 use Rattle.lu_guards.proofs.Lists.{self, life_is, turn, turn_more}
 use Rattle.lu_guards.proofs.Only.{sent_was, was_only}
-use Rattle.lu_guards.proofs.Parts.{flights_now, known_is, standing_is, life_is_of}
+use Rattle.lu_guards.proofs.Parts.{flights_now, known_is, standing_is, life_is_of, kept_is}
+use Rattle.lu_guards.proofs.Held.{held_there}
 use Rattle.lu_guards.proofs.Ends.{none_took}
 use Rattle.lu_guards.proofs.Turns.{owes_nothing}
-use Rattle.lu_guards.proofs.ClientLocks.{count_ordered}
+use Rattle.lu_guards.proofs.ClientLocks.{of_ordered, count_ordered}
 use Rattle.lu_guards.proofs.ClientLines.{ends, other_flights}
+use Rattle.lu_guards.proofs.ClientTold.{ending_now, Whole, whole_at}
 use Rattle.lu_guards.proofs.ClientRests.{Good, AllIdle, Rested, Ended, the_head, adds, at_one, at_zero, request_is, followed, import_there}
 use Rattle.lu_guards.proofs.ClientSlots.{calls_wait}
 use Rattle.lu_guards.proofs.ClientStarts.{Starts, starts_good, After, after_ends, took_rested, nowhere, no_looks}
@@ -112,24 +114,48 @@ module _ (head : table.Head) (c : ℕ) (stamp : Stamp) where
     tells : (p : List Line) → Still who before p → story_guards.TellsOk (only t p) c who boot
     tells p s = record { recovers = sym (standing_is c t p) ∙ s.standing t ∙ v; of_life = sym s.life ∙ life_is_of c t p; of_boot = sym (s.known t) ∙ known_is c t p }
 
-    replays_good : (rs : List Replay) (p : List Line) → Still who before p → Still who before (with_turn at (replays who boot t rs) p)
-    replays_good [] p s = s
-    replays_good (r ∷ rs) p s =
+    -- what the life has for it stands in the target's story
+    kept_there : (p : List Line) → Still who before p → kept_at c t before ≡ kept_of who (only t p)
+    kept_there p s = sym (s.kept t) ∙ kept_is (the_head head c stamp) c t p s.rested.good.grown ∙ ap (λ (w : Who). kept_of w (only t p)) s.life
+
+    held_here : (p : List Line) → Still who before p → filter of_target (held_at c before) ≡ held_at c (only t p)
+    held_here p s = ap (λ (hs : List HeldLock). filter of_target hs) (sym s.held) ∙ held_there (the_head head c stamp) c t p s.rested.good.grown
+
+    replays_good : (rs : List Replay) (p : List Line) → ((r : Replay) → In r rs → In r (kept_at c t before).replays) → Still who before p → Still who before (with_turn at (replays who boot t rs) p)
+    replays_good [] p i s = s
+    replays_good (r ∷ rs) p i s =
         let m = message.Replay (replayed who boot r) in
         let e = Send (Target t) m in
-        replays_good rs (line at e ∷ p)
-        (sent_still who before p t m s (adds head c stamp p e s.rested.good (owes_nothing p at e s.rested.settled) tt (at_one head c stamp t (λ (u : ℕ). story_guards.TellsOk (only u p) c who boot) (tells p s)) tt tt refl))
+        replays_good rs (line at e ∷ p) (λ x j. i x (inr j))
+        (sent_still who before p t m s (adds head c stamp p e s.rested.good (owes_nothing p at e s.rested.settled) tt
+        (at_one head c stamp t (λ (u : ℕ). story_guards.ReplaysOk (only u p) c (replayed who boot r)) (record {
+          tells = tells p s;
+          replay = r;
+          kept = subst (λ (k : Kept). In r k.replays) (kept_there p s) (i r (inl refl));
+          is = refl;
+        })) tt tt refl))
 
-    locks_good : (hs : List HeldLock) (p : List Line) → Still who before p → Still who before (with_turn at (lock_replays who boot t hs) p)
-    locks_good [] p s = s
-    locks_good (h ∷ hs) p s =
+    -- the life holds each of these locks of the target
+    abbrev pub AllHeld : List HeldLock → Type 0
+    AllHeld hs = (h : HeldLock) → In h hs → (g : HeldLock) × In g (filter of_target (held_at c before)) × (g.lock ≡ h.lock)
+
+    locks_good : (hs : List HeldLock) (p : List Line) → AllHeld hs → Still who before p → Still who before (with_turn at (lock_replays who boot t hs) p)
+    locks_good [] p a s = s
+    locks_good (h ∷ hs) p a s =
         let m = message.Lock (lock_replayed who boot h.lock) in
         let e = Send (Target t) m in
-        locks_good hs (line at e ∷ p)
-        (sent_still who before p t m s (adds head c stamp p e s.rested.good (owes_nothing p at e s.rested.settled) tt (at_one head c stamp t (λ (u : ℕ). story_guards.TellsOk (only u p) c who boot) (tells p s)) tt tt refl))
+        let g = a h (inl refl) in
+        locks_good hs (line at e ∷ p) (λ x j. a x (inr j))
+        (sent_still who before p t m s (adds head c stamp p e s.rested.good (owes_nothing p at e s.rested.settled) tt
+        (at_one head c stamp t (λ (u : ℕ). story_guards.RelocksOk (only u p) c (lock_replayed who boot h.lock)) (record {
+          tells = tells p s;
+          holding = g.0;
+          held = subst (λ (xs : List HeldLock). In g.0 xs) (held_here p s) g.1;
+          is = ap (lock_replayed who boot) (sym g.2);
+        })) tt tt refl))
 
     -- how many these are, in a turn that doesn't end the life
-    module _ (held : List HeldLock) (count : length held ≡ length (filter of_target (held_at c before))) (lasts : (u b : ℕ) (w : Who) → Took before at (Target u) (message.Evicted w b) → ⊥) where
+    module _ (held : List HeldLock) (all : AllHeld held) (count : length held ≡ length (filter of_target (held_at c before))) (lasts : (u b : ℕ) (w : Who) → Took before at (Target u) (message.Evicted w b) → ⊥) where
       abbrev counts : Message
       counts = message.Word who boot (length (kept_at c t before).replays) (length held) (kept_at c t before).seen
 
@@ -142,7 +168,15 @@ module _ (head : table.Head) (c : ℕ) (stamp : Stamp) where
             locks = count ∙ ap (λ (hs : List HeldLock). length (filter of_target hs)) (sym s.held);
             alive = λ n. lasts n.target n.boot (life_at c p) (s.took (Target n.target) (message.Evicted (life_at c p) n.boot) n.took);
           })
-          (at_one head c stamp t (λ (u : ℕ). story_guards.TellsOk (only u p) c who boot) (tells p s)) tt tt refl)
+          (at_one head c stamp t (λ (u : ℕ). story_guards.WordsOk (only u p) c who boot (length (kept_at c t before).replays) (length held) (kept_at c t before).seen) (record {
+            tells = tells p s;
+            of_replays = ap (λ (k : Kept). length k.replays) (kept_there p s);
+            of_locks = count ∙ ap (λ (hs : List HeldLock). length hs) (held_here p s);
+            whole =
+                ⊎_elim (λ (k : Ending p c). absurd (let n = ending_now c p at s.rested.good.closes k in lasts n.target n.boot (life_at c p) (s.took (Target n.target) (message.Evicted (life_at c p) n.boot) n.took)))
+                (λ (w : Whole c (only t p)). w) (whole_at c (the_head head c stamp) t p s.rested.good.grown (tells p s).recovers);
+            of_seen = ap (λ (k : Kept). k.seen) (kept_there p s);
+          })) tt tt refl)
 
       pub all_told : (p : List Line) → Still who before p → Still who before (with_turn at (tells_all who boot t (kept_at c t before) held) p)
       all_told p s =
@@ -150,7 +184,7 @@ module _ (head : table.Head) (c : ℕ) (stamp : Stamp) where
           let ls = lock_replays who boot t held in
           let last = Send (Target t) counts ∷ [] in
           subst (Still who before) (sym (turn_more at (rs ++ ls) last p ∙ ap (with_turn at last) (turn_more at rs ls p)))
-          (word_good (with_turn at ls (with_turn at rs p)) (locks_good held (with_turn at rs p) (replays_good (kept_at c t before).replays p s)))
+          (word_good (with_turn at ls (with_turn at rs p)) (locks_good held (with_turn at rs p) all (replays_good (kept_at c t before).replays p (λ r i. i) s)))
 
   -- ---- time goes on
 
@@ -162,7 +196,7 @@ module _ (head : table.Head) (c : ℕ) (stamp : Stamp) where
     tick_at : (t : ℕ) (st : Standing) (p : List Line) → standing_at c t before ≡ st → Still (life_at c before) before p → Still (life_at c before) before (with_turn at (ticks_at t (client_of head c before) (import_at c t before) st) p)
     tick_at t Joining p v s = join_good (life_at c before) before p t (known_at c t before) s v refl
     tick_at t Recovering p v s =
-        all_told (life_at c before) before t v (held_of t (held_at c before)) (count_ordered (λ (h : HeldLock). nat_eq h.target.0 t) (held_at c before))
+        all_told (life_at c before) before t v (held_of t (held_at c before)) (λ h i. (h, of_ordered (λ (x : HeldLock). nat_eq x.target.0 t) h (held_at c before) i, refl)) (count_ordered (λ (h : HeldLock). nat_eq h.target.0 t) (held_at c before))
         (λ u b w k. none_took (the_head head c stamp) before at (Target u) (message.Evicted w b) g later k) p s
     tick_at t Serving p v s =
         let who = life_at c before in
@@ -237,6 +271,7 @@ module _ (head : table.Head) (c : ℕ) (stamp : Stamp) where
           let own : who ≡ life_of c (only t p1) = life_is who k.who parts.0 ∙ life_is_of c t p1 in
           let same : boot ≡ known_at c t p = eqb-true boot (import_of t k.imports).boot parts.1 ∙ ap (λ (i : Import). i.boot) there in
           let was : Was (only t p1) (Target t) (Client c) m = was_only t p1 (Target t) (Client c) m (self t) (sent_was p n (Target t) (Client c) m sent) in
+          let still_own : who ≡ life_of c (only t p2) = life_is who k.who parts.0 ∙ life_is_of c t p2 in
           let served : Good head c at p2 =
           adds head c stamp p1 (Serves t boot) took.good (owes_nothing p1 at (Serves t boot) tt) tt
           (at_one head c stamp t (λ (u : ℕ). story_guards.ServesOk (only u p1) c t boot) (record {
@@ -245,7 +280,14 @@ module _ (head : table.Head) (c : ℕ) (stamp : Stamp) where
             of_boot = same ∙ known_is c t p1;
           })) tt tt refl in
           let settled : Good head c at p3 =
-          adds head c stamp p2 (Settles t committed.0) served (owes_nothing p2 at (Settles t committed.0) tt) tt (at_one head c stamp t (λ (u : ℕ). standing_of c (only u p2) ≡ Serving) (sym (standing_is c t p2) ∙ now t refl)) tt tt refl in
+          adds head c stamp p2 (Settles t committed.0) served (owes_nothing p2 at (Settles t committed.0) tt) tt
+          (at_one head c stamp t (λ (u : ℕ). story_guards.SettlesOk (only u p2) c t committed.0) (record {
+            serves = sym (standing_is c t p2) ∙ now t refl;
+            boot = boot;
+            was =
+                was_only t p2 (Target t) (Client c) (message.Ready (life_of c (only t p2)) boot committed) (self t)
+                (subst (λ (w : Who). Was p2 (Target t) (Client c) (message.Ready w boot committed)) still_own (sent_was p n (Target t) (Client c) m sent));
+          })) tt tt refl in
           let still : Still (life_at c p) p3 p3 = record {
             rested = record { good = settled; settled = tt; idle = took.idle; handles = took.handles; free = took.free };
             life = refl;

@@ -48,7 +48,7 @@ use Rattle.lu_guards.proofs.Guards as guards
 use Rattle.lu_guards.proofs.StoryGuards as story_guards
 use Rattle.lu_guards.proofs.Lists.{self, in_append, in_right, in_filter, turn, life_self, turn_more}
 use Rattle.lu_guards.proofs.Parts.{queue_is, flights_is, last_is, known_is, standing_is, life_is_of}
-use Rattle.lu_guards.proofs.Turns.{covered_head, Settled, owes_nothing, backs_none, marks_none, noted_client}
+use Rattle.lu_guards.proofs.Turns.{covered_head, Settled, owes_nothing, backs_none, marks_none, shows_none, noted_client}
 use Rattle.lu_guards.proofs.Covers.{covered_turn}
 use Rattle.lu_guards.proofs.Held.{held_is, held_zero}
 use Rattle.lu_guards.proofs.ClientLocks.{Once, in_drop, own_name, changed_only, without_only, without_other, without_gone, in_ordered, ordered_in, once_ordered}
@@ -115,7 +115,7 @@ module _ (head : table.Head) (c : ℕ) (stamp : Stamp) where
       → Good head c here (line here e ∷ p)
   adds p e g owes ok of covered alone lives =
       record {
-        grown = (record { steps = g.steps; closes = g.closes; backs = backs_none the_head p here e g.noted; marks = marks_none the_head p here e g.noted; lives = g.alive; owes = owes; ok = ok; of = of }, g.grown);
+        grown = (record { steps = g.steps; closes = g.closes; backs = backs_none the_head p here e g.noted; marks = marks_none the_head p here e g.noted; shows = shows_none the_head p here e g.noted; lives = g.alive; owes = owes; ok = ok; of = of }, g.grown);
         covered = (covered, g.covered, alone);
         steps = inl refl;
         closes = inl refl;

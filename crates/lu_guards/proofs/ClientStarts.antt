@@ -1,7 +1,7 @@
 -- Where the turns of a client in a covered run start, and what their events come to: nothing moves, or a call whose reply was heard is to be
 -- told; then the turn ends as it should. No line is of a target that isn't there; a message that is taken changes nothing by itself, and no
 -- call waits for a lock.
-use Rattle.std.proofs.Common.{◌≡◌, ℕ, suc, ◌+◌, ◌≤◌, List, [], ◌∷◌, ◌⊎◌, inl, inr, Option, Some, None, refl, subst}
+use Rattle.std.proofs.Common.{◌≡◌, ℕ, suc, ◌+◌, ◌≤◌, false, List, [], ◌∷◌, ◌⊎◌, inl, inr, Option, Some, None, refl, subst}
 use Rattle.lu_base.specs.declared.ids.At.{At}
 use Rattle.lu_base.specs.declared.ids.Node.{Node}
 use Rattle.lu_base.specs.declared.ids.Node.TheVariants.{Client, Target}
@@ -25,7 +25,7 @@ use Rattle.lu_covered.specs.Covered.{AllCovered}
 use Rattle.lu_covered.specs.Heads.{IsAlive}
 use Rattle.lu_table.specs.Heads as table
 use Rattle.lu_table.specs.Runs.{limits_of}
-use Rattle.lu_guards.proofs.Guards.{Was, Later, Ending}
+use Rattle.lu_guards.proofs.Guards.{Was, Later, Ending, is_welcome}
 use Rattle.lu_guards.proofs.Grown.{Grown, Noted}
 use Rattle.lu_guards.proofs.Lists.{turn}
 use Rattle.lu_guards.proofs.Ends.{closes_after}
@@ -93,6 +93,7 @@ module _ (head : table.Head) (c : ℕ) (stamp : Stamp) where
     pub there : AllThere head.osts p
     pub alive : IsAlive (the_head head c stamp) p c
     pub between : Between c p
+    pub ready : is_welcome c p ≡ false
 
   pub starts_good : (p : List Line) → Starts p → Good head c at p
   starts_good p s = record { grown = s.grown; covered = s.covered; steps = steps_after p at s.later; closes = closes_after p at s.closed; noted = s.noted; alive = s.alive }

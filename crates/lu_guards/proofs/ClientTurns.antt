@@ -20,7 +20,7 @@ use Rattle.lu_guards.proofs.Grown.{Grown, Noted}
 use Rattle.lu_guards.proofs.Lists.{turn}
 use Rattle.lu_guards.proofs.Only.{sent_was}
 use Rattle.lu_guards.proofs.Ends.{closes_after}
-use Rattle.lu_guards.proofs.Turns.{Settled, owes_nothing, backs_none, marks_none, noted_client, steps_after}
+use Rattle.lu_guards.proofs.Turns.{Settled, owes_nothing, backs_none, marks_none, shows_none, noted_client, steps_after}
 use Rattle.lu_guards.proofs.ClientLines.{comes_to}
 use Rattle.lu_guards.proofs.ClientRests.{Between, Ended, the_head, followed}
 use Rattle.lu_guards.proofs.ClientSlots.{on_small}
@@ -91,6 +91,7 @@ module _ (head : table.Head) (c : ℕ) (stamp : Stamp) where
             closes = closes_after p at s.closed;
             backs = backs_none (the_head head c stamp) p at Die s.noted;
             marks = marks_none (the_head head c stamp) p at Die s.noted;
+            shows = shows_none (the_head head c stamp) p at Die s.noted;
             lives = s.alive;
             owes = owes_nothing p at Die s.settled;
             ok = s.later;

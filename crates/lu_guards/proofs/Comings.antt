@@ -51,7 +51,7 @@ boots_of head (l ∷ story) g = by l.at.node l.entry g.0 (boots_of head story g.
         }
     by (node.Target d) (Send to m) ok h =
         record {
-          told = λ u c boot was. ⊎_elim (λ (q : (node.Target d ≡ node.Target u) × (to ≡ node.Client c) × (m ≡ message.Up boot)). let k = sends (node.Target d) to m ok h (node.Client c) (message.Up boot) (node.Target u) q in omega (arith, k)) (λ (w : Was story (node.Target u) (node.Client c) (message.Up boot)). h.told u c boot w) was;
+          told = λ u c boot was. ⊎_elim (λ (q : (node.Target d ≡ node.Target u) × (to ≡ node.Client c) × (m ≡ message.Up boot)). let k = sends (node.Target d) to m ok h (node.Client c) (message.Up boot) (node.Target u) q in let same = k.of_boot in omega (arith, same)) (λ (w : Was story (node.Target u) (node.Client c) (message.Up boot)). h.told u c boot w) was;
           known = h.known;
           asked = λ u c boot who was. ⊎_elim (λ (q : (node.Target d ≡ node.Client c) × (to ≡ node.Target u) × (m ≡ message.Join who boot)). absurd (let e = q.0 in cc)) (λ (w : Was story (node.Client c) (node.Target u) (message.Join who boot)). h.asked u c boot who w) was;
         }

@@ -180,7 +180,7 @@ closed_turn head past stamp c e es g later begins d k =
 -- ---- the rows of a client
 
 -- the first entry is another than a message's
-abbrev Other : List Entry → Type 0
+abbrev pub Other : List Entry → Type 0
 Other [] = ⊥
 Other (Take n from m ∷ es) = ⊥
 Other (e ∷ es) = Unit {0}
@@ -212,11 +212,11 @@ other_begins at slot (call.Flush h) k = other_on at slot (call.Flush h) (file_of
 other_begins at slot (call.Glimpse h) k = other_on at slot (call.Glimpse h) (file_of h k.handles)
 other_begins at slot c k = tt
 
-other_call : (limits : Limits) (at : At) (slot : ℕ) (c : Call) (k : ClientState) (r : Option Running) → Other (row_call limits at slot c k r)
+pub other_call : (limits : Limits) (at : At) (slot : ℕ) (c : Call) (k : ClientState) (r : Option Running) → Other (row_call limits at slot c k r)
 other_call limits at slot c k None = other_more (begins at slot c k) (rests limits at (turn_of k (begins at slot c k))) (other_begins at slot c k)
 other_call limits at slot c k (Some r) = tt
 
-other_first : (e : Entry) (es : List Entry) (n : ℕ) (from : Node) (m : Message) → Other (e ∷ es) → e ≡ Take n from m → ⊥
+pub other_first : (e : Entry) (es : List Entry) (n : ℕ) (from : Node) (m : Message) → Other (e ∷ es) → e ≡ Take n from m → ⊥
 other_first (Take p f k) es n from m o q = o
 other_first e es n from m o q = absurd (cc)
 

@@ -1,7 +1,7 @@
 -- When a line may be added to a past, whatever row makes it: what a single line rests on, over the past just
 -- before it. What it says of one target is said over what concerns that target. What isn't listed never happens.
 use Rattle.std.proofs.Common.{◌≡◌, ℕ, ◌<◌, Bool, true, false, List, [], ◌∷◌, Option, Some, None, ◌⊎◌}
-use Rattle.std.specs.Prelude.{length, filter, nat_lt, not, ◌==◌, ◌&&◌, if◌then◌else◌}
+use Rattle.std.specs.Prelude.{zero, length, filter, nat_lt, not, ◌==◌, ◌&&◌, ◌||◌, if◌then◌else◌}
 use Rattle.std.specs.List.{list_any}
 use Rattle.lu_base.specs.declared.ids.At.{At}
 use Rattle.lu_base.specs.declared.ids.Cookie.{Cookie}
@@ -24,17 +24,18 @@ use Rattle.lu_held.specs.declared.locks.HeldLock.{HeldLock}
 use Rattle.lu_held.specs.declared.names.LockName.{LockName}
 use Rattle.lu_held.specs.Locks.{named}
 use Rattle.lu_words.specs.Carried.{Deed, Said, Queued, Flight, Unasked, Answered, Work, Stage, Plain, Bad, Running}
-use Rattle.lu_words.specs.Words.{Entry, Begin, Busy, Queues, Flies, Send, Take, Tick, Heard, Hold, Drop, Told, Die, Pins, Unpins, Marks, Learns, Act, Txn, Grant, Block, Release, Enters, Line, line, turn_before, Skip, Commit, Life, Serves, Settles, Evict, Joined, Binds, Unbinds, Knows, Unmarks, Crash, Boot, Back, Stores, Brings, Says, Wishes}
+use Rattle.lu_words.specs.Words.{Entry, Begin, Busy, Queues, Flies, Send, Take, Tick, Heard, Hold, Drop, Told, Die, Pins, Unpins, Marks, Learns, Act, Txn, Grant, Block, Release, Enters, Line, line, turn_before, is_client, same_life, Skip, Commit, Life, Serves, Settles, Evict, Joined, Binds, Unbinds, Knows, Unmarks, Crash, Boot, Back, Close, Kept, Restore, Stores, Brings, Says, Wishes}
 use Rattle.lu_words.specs.Concerns.{only}
 use Rattle.lu_words.specs.Sent.{Sent}
 use Rattle.lu_target_rows.specs.Lives.{is_life}
 use Rattle.lu_target_rows.specs.Kept.{replayed}
 use Rattle.lu_target_rows.specs.Recovery.{cut, empty_word}
 use Rattle.lu_target_rows.specs.Rows.{lock_again}
-use Rattle.lu_target_rows.specs.Windows.{Window, is_replay, is_lock, word_of, is_back}
+use Rattle.lu_target_rows.specs.Leaving.{life_of as life_in}
+use Rattle.lu_target_rows.specs.Windows.{Window, is_replay, is_lock, word_of, is_newest, is_back}
 use Rattle.lu_client_rows.specs.Caches.{held_at}
 use Rattle.lu_client_rows.specs.Imports.{Serving}
-use Rattle.lu_covered.specs.Imports.{standing_at, kept_at}
+use Rattle.lu_covered.specs.Imports.{known_at, standing_at, kept_at}
 use Rattle.lu_client_rows.specs.Recovery.{next_life}
 use Rattle.lu_covered.specs.TargetStates.{server_of, slot_of, closed_of, window_of, boot_at}
 use Rattle.lu_covered.specs.Deeds.{asked}
@@ -154,7 +155,22 @@ Begins c past r =
     ((is_bad c past r.call ≡ false) × (r.stage ≡ Plain) × (r.file ≡ file_for c past r.call) × ((o : Op) × (becomes r ≡ Some o)))
     ⊎ ((is_bad c past r.call ≡ true) × (r.stage ≡ Bad) × (r.file ≡ None))
 
--- no held lock is marked between turns, while the metadata target serves the life
+-- the metadata target serves the client's life, in the boot that it knows
+abbrev pub is_ready_for : ℕ → List Line → Node → Message → Bool
+is_ready_for c past (Target zero) (message.Ready who boot committed) = same_life who (life_at c past) && boot == known_at c 0 past
+is_ready_for c past _ _ = false
+
+-- the client took a message that says so, and no line of it does since: reads Take and Serves
+abbrev pub is_welcome : ℕ → List Line → Bool
+is_welcome c [] = false
+is_welcome c (l ∷ past) =
+    elim l.entry [
+      | Take n from m ↦ if is_client c l.at.node then is_ready_for c past from m || is_welcome c past else is_welcome c past
+      | Serves t boot ↦ if is_client c l.at.node && t == 0 then false else is_welcome c past
+      | _ ↦ is_welcome c past
+    ]
+
+-- no held lock is marked between turns, while the metadata target serves the life; and a client that is told that it does stands so by the end of the turn
 pub record BeginOk (past : List Line) (at : At) (c slot : ℕ) (running : Running) : Type 0 where
   pub later : Later past at
   pub small : slot < 4
@@ -163,6 +179,7 @@ pub record BeginOk (past : List Line) (at : At) (c slot : ℕ) (running : Runnin
   pub limits : IsCall running.call
   pub begins : Begins c past running
   pub calm : standing_at c 0 past ≡ Serving → (h : HeldLock) → In h (held_at c past) → h.marked ≡ false
+  pub ready : is_welcome c past ≡ false
 
 -- of a call that has asked nothing yet and isn't known; all is asked of the metadata target
 pub record QueuesOk (past : List Line) (c t : ℕ) (q : Queued) : Type 0 where
@@ -337,6 +354,10 @@ abbrev pub IsTick : Entry → Type 0
 IsTick Tick = Unit {0}
 IsTick _ = ⊥
 
+abbrev pub IsTake : Entry → Type 0
+IsTake (Take n from m) = Unit {0}
+IsTake _ = ⊥
+
 -- what was just done is answered next, in the same turn, once its locks were shown there
 abbrev pub Answers : At → Deed → Entry → Type 0
 Answers at d (Send (Client c) (message.Reply k)) = (k ≡ d.reply) × (d.reply.at ≡ at)
@@ -377,7 +398,15 @@ abbrev pub says_first : Option Said → Said → Option Entry
 says_first None said = Some (Says said)
 says_first (Some before) said = None
 
--- the mark that keeps the message, where it counts; a join of the life with a slot is a word
+-- a newer life than the one with a slot, and than those that wish to join so far
+abbrev pub wish_by : Window → Who → Option Who → Option Entry
+wish_by v who None = None
+wish_by v who (Some old) = if nat_lt old.life who.life && is_newest who v.wishes then Some (Wishes who) else None
+
+abbrev pub wish_mark : Window → ℕ → Who → ℕ → Option Entry
+wish_mark v present who boot = if boot == present then wish_by v who (life_in who.client v.lives) else None
+
+-- the mark that keeps the message, where it counts; a join of the life with a slot is a word, that of a newer one a wish
 abbrev pub mark_of : Window → ℕ → Message → Option Entry
 mark_of v present (message.Replay r) =
     if r.boot == present && is_life r.who v.lives && not (list_any (is_replay (replayed r)) v.replays) then Some (Stores (cut r)) else None
@@ -386,7 +415,7 @@ mark_of v present (message.Lock r) =
 mark_of v present (message.Word who boot replays locks seen) =
     if boot == present && is_life who v.lives then says_first (word_of who v.words) (record { who = who; replays = replays; locks = locks; seen = seen }) else None
 mark_of v present (message.Join who boot) =
-    if boot == present && is_life who v.lives then says_first (word_of who v.words) (empty_word who) else None
+    if boot == present && is_life who v.lives then says_first (word_of who v.words) (empty_word who) else wish_mark v present who boot
 mark_of v present m = None
 
 abbrev pub mark_at : (osts clients : ℕ) → List Line → Node → Message → Option Entry
@@ -467,4 +496,7 @@ EntryOk past at (Target t) (Says said) = Unit {0}
 EntryOk past at (Target t) (Wishes who) = Unit {0}
 EntryOk past at (Target t) (Evict who cause) = Unit {0}
 EntryOk past at (Target t) (Joined who) = Unit {0}
+EntryOk past at (Target t) (Close o) = Unit {0}
+EntryOk past at (Target t) (Kept number) = Unit {0}
+EntryOk past at (Target t) (Restore lock) = Unit {0}
 EntryOk past at _ _ = ⊥

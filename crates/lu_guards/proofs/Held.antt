@@ -1,26 +1,34 @@
 -- What a client holds is of the metadata target; and that, and what it knows of names, stands in the story of that target: each line
 -- that changes it is about it.
-use Rattle.std.proofs.Common.{◌≡◌, ℕ, suc, Bool, true, false, List, [], ◌∷◌, ◌⊎◌, inl, inr, ⊎_elim, refl, sym, subst, ap, ◌∙◌, arith}
-use Rattle.std.specs.Prelude.{nat_eq, if◌then◌else◌}
-use Rattle.std.proofs.lemmas.Bool.{cond-false, eqb-true}
+use Rattle.std.proofs.Common.{◌≡◌, ℕ, zero, suc, Bool, true, false, List, [], ◌∷◌, ◌⊎◌, inl, inr, ⊎_elim, refl, sym, subst, ap, ◌∙◌, arith}
+use Rattle.std.specs.Prelude.{nat_eq, filter, if◌then◌else◌}
+use Rattle.std.proofs.lemmas.Bool.{cond-true, cond-false, eqb-true}
 use Rattle.std.proofs.lemmas.Bool.Decides.{nat_tests}
 use Rattle.lu_base.specs.declared.ids.At.{At}
 use Rattle.lu_base.specs.declared.ids.Node.{Node}
 use Rattle.lu_base.specs.declared.ids.Node.TheVariants.{Client, Target}
 use Rattle.lu_base.specs.declared.locks.Lock.{Lock}
+use Rattle.lu_msg.specs.declared.messages.LockReplay.{LockReplay}
+use Rattle.lu_msg.specs.declared.messages.Message.{Message}
+use Rattle.lu_msg.specs.declared.messages.Message.TheVariants as message
 use Rattle.lu_held.specs.declared.locks.Change.{Change}
 use Rattle.lu_held.specs.declared.locks.Change.TheVariants as change
 use Rattle.lu_held.specs.declared.locks.HeldLock.{HeldLock}
 use Rattle.lu_held.specs.declared.names.LockName.{LockName}
 use Rattle.lu_held.specs.Locks.{is_named, after}
 use Rattle.lu_held.specs.Held.{changed, unmarked}
-use Rattle.lu_words.specs.Words.{Entry, Heard, Hold, Drop, Life, Pins, Unpins, Marks, Unmarks, Learns, Line, line, is_client}
+use Rattle.lu_words.specs.Words.{Entry, Send, Brings, Boot, Close, Heard, Hold, Drop, Life, Pins, Unpins, Marks, Unmarks, Learns, Line, line, is_client}
 use Rattle.lu_words.specs.Concerns.{is_about, concerns, only}
 use Rattle.lu_words.specs.Fields.{on, at_client}
+use Rattle.lu_target_rows.specs.Outcomes.{window_of, restored}
+use Rattle.lu_target_rows.specs.Windows.{staying, settled}
 use Rattle.lu_client_rows.specs.Caches.{held_as, brought, reads_held, held_after, held_at}
 use Rattle.lu_client_rows.specs.Facts.{Fact, reads_facts, facts_after, facts_at}
 use Rattle.lu_covered.specs.Heads.{Head}
-use Rattle.lu_guards.proofs.Guards.{In, EntryOk}
+use Rattle.lu_covered.specs.TargetCloses.{recovering_of, outcome_of}
+use Rattle.lu_covered.specs.TargetStates.{brought_of}
+use Rattle.lu_guards.proofs.Guards.{In, Was, EntryOk}
+use Rattle.lu_guards.proofs.StoryGuards.{SendOf, EntryOf}
 use Rattle.lu_guards.proofs.Grown.{Grown}
 use Rattle.lu_guards.proofs.Lists.{turn}
 use Rattle.lu_guards.proofs.ClientLocks.{with_only, brought_only, changed_only, used_only, unmarked_only, without_only}
@@ -193,6 +201,73 @@ none_held head c t (l ∷ past) g = by l.at.node l.entry g.0.ok (none_held head 
         gone false own ih = ih
     by (Target u) e ok ih = quiet (line (turn l.at.stamp (Target u)) e) (nat_eq (suc t) u) (unread (reads_held e) false (held_after (held_at c P) e) (inr refl)) ih
     by (Client d) e ok ih = quiet (line (turn l.at.stamp (Client d)) e) (is_about (suc t) e) refl ih
+
+not_zero : (t : ℕ) → nat_eq 0 (suc t) ≡ false
+not_zero t = grind (arith, nat_tests)
+
+-- so the held locks of a target are those of its story
+pub held_there : (head : Head) (c t : ℕ) (past : List Line) → Grown head past → filter (λ (h : HeldLock). nat_eq h.target.0 t) (held_at c past) ≡ held_at c (only t past)
+held_there head c zero past g = all_of (held_at c past) (held_zero head c past g) ∙ held_is head c past g
+  where
+    all_of : (hs : List HeldLock) → ((h : HeldLock) → In h hs → h.target.0 ≡ 0) → filter (λ (h : HeldLock). nat_eq h.target.0 0) hs ≡ hs
+    all_of [] z = refl
+    all_of (h ∷ hs) z =
+        cond-true (nat_eq h.target.0 0) (h ∷ filter (λ (x : HeldLock). nat_eq x.target.0 0) hs) (filter (λ (x : HeldLock). nat_eq x.target.0 0) hs) (ap (λ (t : ℕ). nat_eq t 0) (z h (inl refl)))
+        ∙ ap (λ (xs : List HeldLock). h ∷ xs) (all_of hs (λ g i. z g (inr i)))
+held_there head c (suc t) past g = none_of (held_at c past) (held_zero head c past g) ∙ sym (none_held head c t past g)
+  where
+    none_of : (hs : List HeldLock) → ((h : HeldLock) → In h hs → h.target.0 ≡ 0) → filter (λ (h : HeldLock). nat_eq h.target.0 (suc t)) hs ≡ []
+    none_of [] z = refl
+    none_of (h ∷ hs) z =
+        cond-false (nat_eq h.target.0 (suc t)) (h ∷ filter (λ (x : HeldLock). nat_eq x.target.0 (suc t)) hs) (filter (λ (x : HeldLock). nat_eq x.target.0 (suc t)) hs) (ap (λ (u : ℕ). nat_eq u (suc t)) (z h (inl refl)) ∙ not_zero t)
+        ∙ none_of hs (λ g i. z g (inr i))
+
+-- ---- so no life tells another target of a lock, that keeps none in its recovery, and restores none at a close
+
+none_relocked : (head : Head) (t : ℕ) (past : List Line) → Grown head past → (from to : Node) (r : LockReplay) → Was (only (suc t) past) from to (message.Lock r) → ⊥
+none_relocked head t [] g from to r w = w
+none_relocked head t (l ∷ past) g from to r w = by (concerns (suc t) l.at.node l.entry) (g.0.of (suc t)) w (none_relocked head t past g.1 from to r)
+  where
+    P : List Line
+    P = only (suc t) past
+
+    sends : (node k : Node) → SendOf head P node k (message.Lock r) → ⊥
+    sends (Client c) (Target u) ok = subst (λ (hs : List HeldLock). In ok.holding hs) (none_held head c t past g.1) ok.held
+    sends (Client c) (Client d) ok = ok
+    sends (Target u) (Client d) ok = ok
+    sends (Target u) (Target v) ok = ok
+
+    line_sends : (e : Entry) → EntryOf head P l.at l.at.node e → Was (line l.at e ∷ P) from to (message.Lock r) → (Was P from to (message.Lock r) → ⊥) → ⊥
+    line_sends (Send k m) ok (inl q) more = sends l.at.node k (subst (λ (x : Message). SendOf head P l.at.node k x) q.2 ok)
+    line_sends (Send k m) ok (inr q) more = more q
+    line_sends e ok q more = more q
+
+    by : (b : Bool) → (b ≡ true → EntryOf head P l.at l.at.node l.entry) → Was (if b then l ∷ P else P) from to (message.Lock r) → (Was P from to (message.Lock r) → ⊥) → ⊥
+    by true ok q more = line_sends l.entry (ok refl) q more
+    by false ok q more = more q
+
+pub none_brought : (head : Head) (t : ℕ) (past : List Line) → Grown head past → brought_of (only (suc t) past) ≡ []
+none_brought head t [] g = refl
+none_brought head t (l ∷ past) g = by (concerns (suc t) l.at.node l.entry) (g.0.of (suc t)) (none_brought head t past g.1)
+  where
+    P : List Line
+    P = only (suc t) past
+
+    after_line : (node : Node) (e : Entry) → EntryOf head P l.at node e → brought_of P ≡ [] → brought_of (line (turn l.at.stamp node) e ∷ P) ≡ []
+    after_line (Client c) e ok ih = ih
+    after_line (Target u) (Brings lock) ok ih = absurd (none_relocked head t past g.1 ok.from (Target u) ok.given ok.keeps.was)
+    after_line (Target u) (Boot boot disk) ok ih = refl
+    after_line (Target u) (Close o) ok ih = refl
+    after_line (Target u) e ok ih = ih
+
+    by : (b : Bool) → (b ≡ true → EntryOf head P l.at l.at.node l.entry) → brought_of P ≡ [] → brought_of (if b then l ∷ P else P) ≡ []
+    by true ok ih = after_line l.at.node l.entry (ok refl) ih
+    by false ok ih = ih
+
+pub none_restored : (head : Head) (t : ℕ) (past : List Line) (at : At) → Grown head past → (outcome_of head.osts head.clients at (only (suc t) past)).locks ≡ []
+none_restored head t past at g =
+    let v = window_of (recovering_of head.osts head.clients (only (suc t) past)) in
+    ap (λ (ls : List Lock). restored [] (staying (settled v).gone ls)) (none_brought head t past g)
 
 -- ---- the facts
 

@@ -103,7 +103,7 @@ life_left w x ws t =
 
 -- ---- in order, each once
 
-abbrev AllAfter : Who → List Who → Type 0
+abbrev pub AllAfter : Who → List Who → Type 0
 AllAfter w [] = Unit {0}
 AllAfter w (x ∷ ws) = (life_before w x ≡ true) × AllAfter w ws
 
@@ -154,6 +154,49 @@ after_in w x (y ∷ ws) a (inr i) = after_in w x ws a.1 i
 pub order_distinct : (ws : List Who) → InOrder ws → Distinct ws
 order_distinct [] o = tt
 order_distinct (w ∷ ws) o = (λ x i e. before_not_self w (subst (λ (u : Who). life_before w u ≡ true) e (after_in w x ws o.0 i)), order_distinct ws o.1)
+
+after_filter : (w : Who) (f : Who → Bool) (ws : List Who) → AllAfter w ws → AllAfter w (filter f ws)
+after_filter w f [] a = tt
+after_filter w f (x ∷ ws) a = cond_both (f x) (x ∷ filter f ws) (filter f ws) (λ (us : List Who). AllAfter w us) (λ t. (a.0, after_filter w f ws a.1)) (λ t. after_filter w f ws a.1)
+
+pub order_filter : (f : Who → Bool) (ws : List Who) → InOrder ws → InOrder (filter f ws)
+order_filter f [] o = tt
+order_filter f (w ∷ ws) o = cond_both (f w) (w ∷ filter f ws) (filter f ws) (λ (us : List Who). InOrder us) (λ t. (after_filter w f ws o.0, order_filter f ws o.1)) (λ t. order_filter f ws o.1)
+
+pub order_puts : (more ws : List Who) → InOrder ws → InOrder (with_lives more ws)
+order_puts [] ws o = o
+order_puts (w ∷ more) ws o = order_puts more (with_life w ws) (order_put w ws o)
+
+-- one that is there isn't put in again
+pub put_there : (w : Who) (ws : List Who) → InOrder ws → In w ws → with_life w ws ≡ ws
+put_there w [] o i = absurd i
+put_there w (x ∷ ws) o (inl e) =
+    let same : same_life w x ≡ true = subst (λ (u : Who). same_life w u ≡ true) (sym e) (life_self w) in
+    cond-true (same_life w x) (x ∷ ws) (if life_before w x then w ∷ x ∷ ws else x ∷ with_life w ws) same
+put_there w (x ∷ ws) o (inr i) =
+    let less = after_in x w ws o.0 i in
+    let other : same_life w x ≡ false = not_same w x (λ e. before_not_self x (subst (λ (u : Who). life_before x u ≡ true) e less)) in
+    let above : life_before w x ≡ false = not_both (life_before w x) refl less in
+    cond-false (same_life w x) (x ∷ ws) (if life_before w x then w ∷ x ∷ ws else x ∷ with_life w ws) other
+    ∙ cond-false (life_before w x) (w ∷ x ∷ ws) (x ∷ with_life w ws) above
+    ∙ ap (λ (us : List Who). x ∷ us) (put_there w ws o.1 i)
+  where
+    not_both : (b : Bool) → life_before w x ≡ b → life_before x w ≡ true → b ≡ false
+    not_both false e less = refl
+    not_both true e less = absurd (before_not_self w (before_trans w x w e less))
+
+pub puts_there : (more ws : List Who) → InOrder ws → ((w : Who) → In w more → In w ws) → with_lives more ws ≡ ws
+puts_there [] ws o all = refl
+puts_there (w ∷ more) ws o all = ap (with_lives more) (put_there w ws o (all w (inl refl))) ∙ puts_there more ws o (λ x i. all x (inr i))
+
+-- the first lives stand so
+first_after : (w : Who) (client more : ℕ) → w.client < client → AllAfter w (lives_from client more)
+first_after w client zero lt = tt
+first_after w client (suc more) lt = (grind (arith, nat_tests, lt), first_after w (client + 1) more (omega (arith, lt)))
+
+pub order_first : (client more : ℕ) → InOrder (lives_from client more)
+order_first client zero = tt
+order_first client (suc more) = (first_after (record { client = client; life = 1 }) (client + 1) more (omega arith), order_first (client + 1) more)
 
 -- ---- the first life of a client
 

@@ -25,7 +25,7 @@ use Rattle.lu_covered.specs.Imports.{Standing, Serving, reads_standing, standing
 use Rattle.lu_table.specs.Heads as table
 use Rattle.lu_table.specs.Runs as table_runs
 use Rattle.lu_table.specs.Runs.{limits_of, client_of, row, MeetsClient, MeetsTarget, IsRow, Turn, lines_of, IsRun}
-use Rattle.lu_guards.proofs.Guards.{In, Later, Ending}
+use Rattle.lu_guards.proofs.Guards.{In, Later, Ending, is_welcome}
 use Rattle.lu_guards.proofs.Grown.{Noted, Grown}
 use Rattle.lu_guards.proofs.Lists.{turn}
 use Rattle.lu_guards.proofs.Ends.{closed_row, closed_target}
@@ -36,6 +36,7 @@ use Rattle.lu_guards.proofs.ClientHandles.{file_other}
 use Rattle.lu_guards.proofs.ClientRests.{Idle, Between}
 use Rattle.lu_guards.proofs.ClientStarts.{AllThere, there_turn}
 use Rattle.lu_guards.proofs.ClientTurns.{client_ok}
+use Rattle.lu_guards.proofs.ClientReady.{welcome_other, welcome_client}
 use Rattle.lu_guards.proofs.TargetTurns.{of_target, target_ok, ServesBetween, serves_start, serves_client}
 
 -- ---- a turn of another node leaves a client as it is
@@ -76,6 +77,7 @@ pub record Stands (head : table.Head) (past : List Line) : Type 0 where
   pub there : AllThere head.osts past
   pub between : (c : ℕ) → Between c past
   pub serves : (t : ℕ) → ServesBetween head past t
+  pub ready : (c : ℕ) → is_welcome c past ≡ false
 
 lives : (head : table.Head) (past : List Line) (c : ℕ) (event : client.Event) → MeetsClient head past c event → IsAlive (covered_head head) past c
 lives head past c (client.Begins slot wanted) m = record { one = m.0.one; alive = m.0.alive }
@@ -93,7 +95,7 @@ client_stands : (head : table.Head) (past : List Line) (stamp : Stamp) (c : ℕ)
     → Stands head (with_turn (turn stamp (Client c)) (client.row (limits_of head) (turn stamp (Client c)) event (client_of head c past)) past)
 client_stands head past stamp c event s later meets covered =
     let alive = lives head past c event meets in
-    let ok = client_ok head c stamp past event (record { grown = s.grown; covered = (covered_turn at es past covered).1; settled = s.settled; later = later; closed = s.closed; noted = s.noted; there = s.there; alive = alive; between = s.between c }) meets covered in
+    let ok = client_ok head c stamp past event (record { grown = s.grown; covered = (covered_turn at es past covered).1; settled = s.settled; later = later; closed = s.closed; noted = s.noted; there = s.there; alive = alive; between = s.between c; ready = s.ready c }) meets covered in
     record {
       grown = ok.grown;
       settled = ok.settled;
@@ -102,6 +104,7 @@ client_stands head past stamp c event s later meets covered =
       there = there_turn head.osts at es past tt s.there;
       between = λ d. by d (nat_eq d c) refl ok.between;
       serves = λ t. serves_client head past stamp c es t (s.serves t);
+      ready = welcome_client head past stamp c event s.ready later ok.grown;
     }
   where
     at : At
@@ -134,12 +137,13 @@ row_stands head past stamp (Target t) es s later r covered =
       there = there_turn head.osts at fs past (target_there head past t r.event r.meets) s.there;
       between = λ c. between_other c at fs past refl (s.between c);
       serves = ok.serves;
+      ready = λ c. welcome_other c at fs past refl ∙ s.ready c;
     })
 
 -- ---- runs
 
 pub stands : (head : table.Head) (turns : List Turn) → IsRun head turns → AllCovered (lines_of turns) → Stands head (lines_of turns)
-stands head [] run covered = record { grown = tt; settled = tt; closed = λ c k. k; noted = record { marked = λ t. refl; told = λ t who k. k }; there = tt; between = λ c. record { idle = λ slot. tt; handles = λ h. refl; held = λ x i. absurd i; calm = λ q x i. absurd i }; serves = λ t. serves_start head t }
+stands head [] run covered = record { grown = tt; settled = tt; closed = λ c k. k; noted = record { marked = λ t. refl; told = λ t who k. k; shown = λ t. refl }; there = tt; between = λ c. record { idle = λ slot. tt; handles = λ h. refl; held = λ x i. absurd i; calm = λ q x i. absurd i }; serves = λ t. serves_start head t; ready = λ c. refl }
 stands head (t ∷ turns) run covered = by run.1 (stands head turns run.2 (covered_turn t.at t.entries (lines_of turns) covered).1)
   where
     by : table_runs.IsTurn head turns t → Stands head (lines_of turns) → Stands head (lines_of (t ∷ turns))

@@ -170,5 +170,5 @@ grown_of head t [] g = tt
 grown_of head t (l ∷ past) g = by (concerns t l.at.node l.entry) refl (grown_of head t past g.1)
   where
     by : (b : Bool) → concerns t l.at.node l.entry ≡ b → GrownOf head (only t past) → GrownOf head (if b then l ∷ only t past else only t past)
-    by true q h = (g.0.of t q, of_first past l.at l.at.node l.entry g.0.ok, one_of head past l.at.node g.0.lives, h)
+    by true q h = (g.0.of t q, of_first past l.at l.at.node l.entry g.0.ok, record { one = one_of head past l.at.node g.0.lives; shows = g.0.shows t q }, h)
     by false q h = h

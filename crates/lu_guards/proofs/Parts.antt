@@ -1,6 +1,6 @@
 -- A field that the rows read at a node, entry by entry, is that of the story of one target.
 use Rattle.std.proofs.Common.{◌≡◌, ℕ, ◌+◌, ◌<◌, ◌≤◌, Bool, true, false, List, [], ◌∷◌, refl, sym, subst, ap, ◌∙◌, arith}
-use Rattle.std.proofs.lemmas.Bool.{eqb-true}
+use Rattle.std.proofs.lemmas.Bool.{cond-true, cond-false, eqb-true}
 use Rattle.std.specs.Prelude.{nat_eq, ◌&&◌, if◌then◌else◌}
 use Rattle.lu_base.specs.declared.ids.At.{At}
 use Rattle.lu_base.specs.declared.ids.Node.{Node}
@@ -11,7 +11,7 @@ use Rattle.lu_base.specs.declared.ids.Who.{Who}
 use Rattle.lu_msg.specs.declared.messages.Request.{Request as RequestOf}
 use Rattle.lu_machine.specs.Tree.{Tree}
 use Rattle.lu_words.specs.Carried.{Deed, Slot, Called, Said}
-use Rattle.lu_words.specs.Words.{Entry, Heard, Life, Queues, Flies, Knows, Act, Txn, Commit, Crash, Boot, Close, Enters, Block, Release, Evict, Joined, Stores, Brings, Says, Wishes, Line, line, is_client, is_target}
+use Rattle.lu_words.specs.Words.{Entry, Heard, Hold, Settles, Life, Queues, Flies, Knows, Act, Txn, Commit, Crash, Boot, Close, Enters, Block, Release, Evict, Joined, Stores, Brings, Says, Wishes, Line, line, is_client, is_target}
 use Rattle.lu_words.specs.Concerns.{is_about, concerns, only}
 use Rattle.lu_words.specs.Fields.{on, at_target, at_import}
 use Rattle.lu_base.specs.declared.locks.Lock.{Lock}
@@ -22,8 +22,8 @@ use Rattle.lu_target_rows.specs.Kept.{reads_replays, replays_after, reads_brough
 use Rattle.lu_target_rows.specs.Windows.{Replayed}
 use Rattle.lu_covered.specs.TargetStates.{Server, boot_at, count_at, committed_at, tree_at, log_at, waiting_at, granted_at, cookie_at, called_at, slot_at, server_at, server_after, server_of, slot_of, lives_at, lives_of, evicted_at, evicted_of, closed_of, up_of, replays_of, brought_of, words_of, wishes_of}
 use Rattle.lu_covered.specs.Calls.{reads_life, life_after, life_at}
-use Rattle.lu_covered.specs.Imports.{reads_queue, queue_after, queue_at, reads_flights, flights_after, flights_at, reads_last, last_after, last_at, reads_known, known_after, known_at}
-use Rattle.lu_covered.specs.ClientStates.{queue_of, flights_of, last_of, known_of, life_of, standing_of, is_own}
+use Rattle.lu_covered.specs.Imports.{reads_queue, queue_after, queue_at, reads_flights, flights_after, flights_at, reads_last, last_after, last_at, reads_known, known_after, known_at, Kept, nothing_kept, reads_kept, kept_after, kept_at}
+use Rattle.lu_covered.specs.ClientStates.{queue_of, flights_of, last_of, known_of, life_of, standing_of, kept_of, is_own}
 use Rattle.lu_words.specs.Words.{Serves, same_life}
 use Rattle.lu_covered.specs.Calls.{first_life}
 use Rattle.lu_covered.specs.Imports.{Serving, reads_standing, standing_after, standing_at}
@@ -31,7 +31,7 @@ use Rattle.lu_covered.specs.Heads.{Head}
 use Rattle.lu_client_rows.specs.Recovery.{next_life}
 use Rattle.lu_guards.proofs.StoryGuards.{EntryOf}
 use Rattle.lu_guards.proofs.Grown.{Grown, GrownOf}
-use Rattle.lu_guards.proofs.Lists.{self, turn, life_is, own_self}
+use Rattle.lu_guards.proofs.Lists.{self, turn, life_is, life_self, own_self}
 use Rattle.lu_guards.proofs.Only.{grown_of}
 
 -- ---- a field of a target
@@ -76,6 +76,7 @@ slot_is who tag t past = target_is reads_slot (slot_after who tag) no_slot (slot
     stays (Enters r) slot q = absurd (cc)
     stays (Act d) slot q = absurd (cc)
     stays (Txn d) slot q = absurd (cc)
+    stays (Close o) slot q = absurd (cc)
     stays e slot q = refl
 
 -- who has a slot, and who was evicted
@@ -85,6 +86,7 @@ lives_is clients t past = target_is reads_lives lives_after (lives_from 0 client
     stays : (e : Entry) (lives : List Who) → reads_lives e ≡ false → lives ≡ lives_after lives e
     stays (Evict who cause) lives q = absurd (cc)
     stays (Joined who) lives q = absurd (cc)
+    stays (Close o) lives q = absurd (cc)
     stays e lives q = refl
 
 pub evicted_is : (t : ℕ) (past : List Line) → evicted_at t past ≡ evicted_of (only t past)
@@ -92,6 +94,7 @@ evicted_is t past = target_is reads_evicted evicted_after [] evicted_of (record 
   where
     stays : (e : Entry) (evicted : List Who) → reads_evicted e ≡ false → evicted ≡ evicted_after evicted e
     stays (Evict who cause) evicted q = absurd (cc)
+    stays (Close o) evicted q = absurd (cc)
     stays e evicted q = refl
 
 -- in which boot a target last closed its window, and whether it is up
@@ -186,10 +189,12 @@ committed_part osts = record { steps = steps; stays = stays }
   where
     steps : (v : Server) (e : Entry) → reads_committed e ≡ true → committed_after v.committed e ≡ (server_after osts v e).committed
     steps v (Commit to batch) r = refl
+    steps v (Close o) r = refl
     steps v e r = absurd (cc)
 
     stays : (v : Server) (e : Entry) → reads_committed e ≡ false → v.committed ≡ (server_after osts v e).committed
     stays v (Commit to batch) r = absurd (cc)
+    stays v (Close o) r = absurd (cc)
     stays v e r = refl
 
 tree_part : (osts : ℕ) → ServerPart osts reads_tree (tree_after osts) (λ v. v.tree)
@@ -198,11 +203,13 @@ tree_part osts = record { steps = steps; stays = stays }
     steps : (v : Server) (e : Entry) → reads_tree e ≡ true → tree_after osts v.tree e ≡ (server_after osts v e).tree
     steps v (Txn d) r = refl
     steps v (Evict w cause) r = refl
+    steps v (Close o) r = refl
     steps v e r = absurd (cc)
 
     stays : (v : Server) (e : Entry) → reads_tree e ≡ false → v.tree ≡ (server_after osts v e).tree
     stays v (Txn d) r = absurd (cc)
     stays v (Evict w cause) r = absurd (cc)
+    stays v (Close o) r = absurd (cc)
     stays v e r = refl
 
 log_part : (osts : ℕ) → ServerPart osts reads_log log_after (λ v. v.log)
@@ -211,11 +218,13 @@ log_part osts = record { steps = steps; stays = stays }
     steps : (v : Server) (e : Entry) → reads_log e ≡ true → log_after v.log e ≡ (server_after osts v e).log
     steps v (Txn d) r = refl
     steps v (Commit to batch) r = refl
+    steps v (Close o) r = refl
     steps v e r = absurd (cc)
 
     stays : (v : Server) (e : Entry) → reads_log e ≡ false → v.log ≡ (server_after osts v e).log
     stays v (Txn d) r = absurd (cc)
     stays v (Commit to batch) r = absurd (cc)
+    stays v (Close o) r = absurd (cc)
     stays v e r = refl
 
 waiting_part : (osts : ℕ) → ServerPart osts reads_waiting waiting_after (λ v. v.waiting)
@@ -226,6 +235,7 @@ waiting_part osts = record { steps = steps; stays = stays }
     steps v (Act d) r = refl
     steps v (Txn d) r = refl
     steps v (Evict w cause) r = refl
+    steps v (Close o) r = refl
     steps v e r = absurd (cc)
 
     stays : (v : Server) (e : Entry) → reads_waiting e ≡ false → v.waiting ≡ (server_after osts v e).waiting
@@ -233,6 +243,7 @@ waiting_part osts = record { steps = steps; stays = stays }
     stays v (Act d) r = absurd (cc)
     stays v (Txn d) r = absurd (cc)
     stays v (Evict w cause) r = absurd (cc)
+    stays v (Close o) r = absurd (cc)
     stays v e r = refl
 
 granted_part : (osts : ℕ) → ServerPart osts reads_granted granted_after (λ v. v.granted)
@@ -242,12 +253,14 @@ granted_part osts = record { steps = steps; stays = stays }
     steps v (Act d) r = refl
     steps v (Release l) r = refl
     steps v (Evict w cause) r = refl
+    steps v (Close o) r = refl
     steps v e r = absurd (cc)
 
     stays : (v : Server) (e : Entry) → reads_granted e ≡ false → v.granted ≡ (server_after osts v e).granted
     stays v (Act d) r = absurd (cc)
     stays v (Release l) r = absurd (cc)
     stays v (Evict w cause) r = absurd (cc)
+    stays v (Close o) r = absurd (cc)
     stays v e r = refl
 
 cookie_part : (osts : ℕ) → ServerPart osts reads_cookie cookie_after (λ v. v.cookie)
@@ -270,12 +283,14 @@ called_part osts = record { steps = steps; stays = stays }
     steps v (Block c) r = refl
     steps v (Release l) r = refl
     steps v (Evict w cause) r = refl
+    steps v (Close o) r = refl
     steps v e r = absurd (cc)
 
     stays : (v : Server) (e : Entry) → reads_called e ≡ false → v.called ≡ (server_after osts v e).called
     stays v (Block c) r = absurd (cc)
     stays v (Release l) r = absurd (cc)
     stays v (Evict w cause) r = absurd (cc)
+    stays v (Close o) r = absurd (cc)
     stays v e r = refl
 
 pub boot_is : (osts t : ℕ) (past : List Line) → boot_at t past ≡ (server_of osts (only t past)).boot
@@ -487,24 +502,43 @@ record LifeField {A : Type 0} (reads : Entry → Bool) (after : A → Entry → 
   starts : (who : Who) → whole who [] ≡ start
   steps : (who : Who) (at : At) (e : Entry) (past : List Line) → reads e ≡ true → reads_life e ≡ false → whole who (line at e ∷ past) ≡ (if is_own who past at.node then after (whole who past) e else whole who past)
   stays : (who : Who) (at : At) (e : Entry) (past : List Line) → reads e ≡ false → whole who (line at e ∷ past) ≡ whole who past
-  keeps : (who next : Who) (at : At) (past : List Line) → whole who (line at (Life next) ∷ past) ≡ whole who past
-  begins : (x : A) (who : Who) → after x (Life who) ≡ start
+  keeps : (who next : Who) (at : At) (past : List Line) → (is_client who.client at.node && same_life who next) ≡ false → whole who (line at (Life next) ∷ past) ≡ whole who past
+  begins : (who : Who) (at : At) (past : List Line) → (is_client who.client at.node && same_life who who) ≡ true → whole who past ≡ start → whole who (line at (Life who) ∷ past) ≡ after (whole (life_of who.client past) past) (Life who)
   reads_new : (who : Who) → reads (Life who) ≡ true
 
 module _ {A : Type 0} (reads : Entry → Bool) (after : A → Entry → A) (start : A) (whole : Who → List Line → A) (f : LifeField reads after start whole) where
-  -- a line that isn't of that life leaves it
-  other_line : (who : Who) (at : At) (e : Entry) (past : List Line) → is_own who past at.node ≡ false → whole who (line at e ∷ past) ≡ whole who past
-  other_line who at e past o = by e (reads e) refl
+  -- a line doesn't begin that life
+  abbrev Apart : Who → Node → Entry → Type 0
+  Apart who node (Life next) = (is_client who.client node && same_life who next) ≡ false
+  Apart who node _ = Unit {0}
+
+  -- one that isn't of that life, nor begins it, leaves it
+  other_line : (who : Who) (at : At) (e : Entry) (past : List Line) → is_own who past at.node ≡ false → Apart who at.node e → whole who (line at e ∷ past) ≡ whole who past
+  other_line who at e past o a = by e (reads e) refl a
     where
-      by : (e : Entry) (r : Bool) → reads e ≡ r → whole who (line at e ∷ past) ≡ whole who past
-      by (Life next) r q = f.keeps who next at past
-      by e true q = f.steps who at e past q refl ∙ ap (λ (b : Bool). if b then after (whole who past) e else whole who past) o
-      by e false q = f.stays who at e past q
+      by : (e : Entry) (r : Bool) → reads e ≡ r → Apart who at.node e → whole who (line at e ∷ past) ≡ whole who past
+      by (Life next) r q a = f.keeps who next at past a
+      by e true q a = f.steps who at e past q refl ∙ ap (λ (b : Bool). if b then after (whole who past) e else whole who past) o
+      by e false q a = f.stays who at e past q
+
+  -- after a line before that life it hasn't begun
+  apart_new : (who : Who) (l : Line) (past : List Line) → (life_of who.client (l ∷ past)).life < who.life → Apart who l.at.node l.entry
+  apart_new who l past lt = by l.at.node l.entry lt
+    where
+      test : (d : ℕ) (next : Who) (a b : Bool) → same_life who next ≡ b → (if a then next else life_of who.client past).life < who.life → (a && b) ≡ false
+      test d next true true e lt = let same : who.life ≡ next.life = ap (λ (w : Who). w.life) (life_is who next e) in absurd (omega arith)
+      test d next true false e lt = refl
+      test d next false b e lt = refl
+
+      by : (node : Node) (e : Entry) → (life_of who.client (line (turn l.at.stamp node) e ∷ past)).life < who.life → Apart who node e
+      by (Client d) (Life next) lt = test d next (nat_eq who.client d) (same_life who next) refl lt
+      by (Target u) (Life next) lt = refl
+      by node e lt = tt
 
   -- a life that hasn't begun has nothing
   fresh : (who : Who) (past : List Line) → Rise past → (life_of who.client past).life < who.life → whole who past ≡ start
   fresh who [] r lt = f.starts who
-  fresh who (l ∷ past) r lt = other_line who l.at l.entry past (not_own who past l.at.node r.1 low) ∙ fresh who past r.1 low
+  fresh who (l ∷ past) r lt = other_line who l.at l.entry past (not_own who past l.at.node r.1 low) (apart_new who l past lt) ∙ fresh who past r.1 low
     where
       low : (life_of who.client past).life < who.life
       low = let up = life_up who.client l past r.0 in omega (arith, up, lt)
@@ -539,6 +573,11 @@ module _ {A : Type 0} (reads : Entry → Bool) (after : A → Entry → A) (star
       past_rises false x r = r
 
       -- a line of another node
+      -- nor begins this client's life
+      apart : (node : Node) (e : Entry) → is_client c node ≡ false → Rise P → Apart L node e
+      apart node (Life next) o rises = ap (λ (u : ℕ). is_client u node && same_life L next) (life_client c P rises) ∙ ap (λ (b : Bool). b && same_life L next) o
+      apart node e o rises = tt
+
       other : (node : Node) (e : Entry) → is_client c node ≡ false → (Rise P → is_own L P node ≡ false) → (Rise P → G ≡ whole L P) → Goal node e
       other node e o not ih r =
           ap (λ (b : Bool). on (reads e) (b && is_about t e) (after G e) G) o
@@ -550,7 +589,7 @@ module _ {A : Type 0} (reads : Entry → Bool) (after : A → Entry → A) (star
           left false = refl
 
           quiet : (b : Bool) → Rise (if b then X node e ∷ P else P) → G ≡ whole (life_of c (if b then X node e ∷ P else P)) (if b then X node e ∷ P else P)
-          quiet true r = ih r.1 ∙ sym (ap (λ (who : Who). whole who (X node e ∷ P)) (same node e o) ∙ other_line L (turn l.at.stamp node) e P (not r.1))
+          quiet true r = ih r.1 ∙ sym (ap (λ (who : Who). whole who (X node e ∷ P)) (same node e o) ∙ other_line L (turn l.at.stamp node) e P (not r.1) (apart node e o r.1))
           quiet false r = ih r
 
       plain : (e : Entry) → reads_life e ≡ false → life_of c (X (Client c) e ∷ P) ≡ L → (Rise P → G ≡ whole L P) → Goal (Client c) e
@@ -575,10 +614,9 @@ module _ {A : Type 0} (reads : Entry → Bool) (after : A → Entry → A) (star
           let more : next.life ≡ (life_of c P).life + 1 = ap (λ (w : Who). w.life) r.0 in
           ap (λ (x : Bool). on x (nat_eq c c && true) (after G (Life next)) G) (f.reads_new next)
           ∙ ap (λ (x : Bool). on true (x && true) (after G (Life next)) G) (self c)
-          ∙ f.begins G next
+          ∙ ap (λ (a : A). after a (Life next)) (ih r.1 ∙ ap (λ (u : ℕ). whole (life_of u P) P) (sym client))
           ∙ sym (ap (λ (x : Bool). whole (if x then next else L) (X (Client c) (Life next) ∷ P)) (self c)
-          ∙ f.keeps next next (turn l.at.stamp (Client c)) P
-          ∙ fresh next P r.1 (omega (arith, same, more)))
+          ∙ f.begins next (turn l.at.stamp (Client c)) P (ap (λ (u : ℕ). nat_eq u c && same_life next next) client ∙ ap (λ (x : Bool). x && same_life next next) (self c) ∙ life_self next) (fresh next P r.1 (omega (arith, same, more))))
       mine e ih r = plain e refl refl ih r
 
       by : (node : Node) (e : Entry) → (Rise P → G ≡ whole L P) → Goal node e
@@ -590,7 +628,7 @@ module _ {A : Type 0} (reads : Entry → Bool) (after : A → Entry → A) (star
           own false q = other (Client d) e q (λ rises. not_other c d P rises q) ih
 
 queue_field : LifeField reads_queue queue_after [] queue_of
-queue_field = record { starts = λ who. refl; steps = steps; stays = stays; keeps = λ who next at p. refl; begins = λ x who. refl; reads_new = λ who. refl }
+queue_field = record { starts = λ who. refl; steps = steps; stays = stays; keeps = λ who next at p q. refl; begins = λ who at p q n. n; reads_new = λ who. refl }
   where
     steps : (who : Who) (at : At) (e : Entry) (p : List Line) → reads_queue e ≡ true → reads_life e ≡ false → queue_of who (line at e ∷ p) ≡ (if is_own who p at.node then queue_after (queue_of who p) e else queue_of who p)
     steps who at (Queues u q) p r n = refl
@@ -604,7 +642,7 @@ queue_field = record { starts = λ who. refl; steps = steps; stays = stays; keep
     stays who at e p r = refl
 
 flights_field : LifeField reads_flights flights_after [] flights_of
-flights_field = record { starts = λ who. refl; steps = steps; stays = stays; keeps = λ who next at p. refl; begins = λ x who. refl; reads_new = λ who. refl }
+flights_field = record { starts = λ who. refl; steps = steps; stays = stays; keeps = λ who next at p q. refl; begins = λ who at p q n. n; reads_new = λ who. refl }
   where
     steps : (who : Who) (at : At) (e : Entry) (p : List Line) → reads_flights e ≡ true → reads_life e ≡ false → flights_of who (line at e ∷ p) ≡ (if is_own who p at.node then flights_after (flights_of who p) e else flights_of who p)
     steps who at (Flies u g) p r n = refl
@@ -618,7 +656,7 @@ flights_field = record { starts = λ who. refl; steps = steps; stays = stays; ke
     stays who at e p r = refl
 
 last_field : LifeField reads_last last_after 0 last_of
-last_field = record { starts = λ who. refl; steps = steps; stays = stays; keeps = λ who next at p. refl; begins = λ x who. refl; reads_new = λ who. refl }
+last_field = record { starts = λ who. refl; steps = steps; stays = stays; keeps = λ who next at p q. refl; begins = λ who at p q n. n; reads_new = λ who. refl }
   where
     steps : (who : Who) (at : At) (e : Entry) (p : List Line) → reads_last e ≡ true → reads_life e ≡ false → last_of who (line at e ∷ p) ≡ (if is_own who p at.node then last_after (last_of who p) e else last_of who p)
     steps who at (Flies u g) p r n = refl
@@ -628,6 +666,32 @@ last_field = record { starts = λ who. refl; steps = steps; stays = stays; keeps
     stays : (who : Who) (at : At) (e : Entry) (p : List Line) → reads_last e ≡ false → last_of who (line at e ∷ p) ≡ last_of who p
     stays who at (Flies u g) p r = absurd (cc)
     stays who at e p r = refl
+
+kept_field : LifeField reads_kept kept_after nothing_kept kept_of
+kept_field = record { starts = λ who. refl; steps = steps; stays = stays; keeps = keeps; begins = begins; reads_new = λ who. refl }
+  where
+    told : Who → List Line → Kept
+    told who p = record nothing_kept { committed = (kept_of (life_of who.client p) p).committed }
+
+    steps : (who : Who) (at : At) (e : Entry) (p : List Line) → reads_kept e ≡ true → reads_life e ≡ false → kept_of who (line at e ∷ p) ≡ (if is_own who p at.node then kept_after (kept_of who p) e else kept_of who p)
+    steps who at (Heard u g k) p r n = refl
+    steps who at (Hold u lock marked size seen) p r n = refl
+    steps who at (Settles u to) p r n = refl
+    steps who at (Life w) p r n = absurd (cc)
+    steps who at e p r n = absurd (cc)
+
+    stays : (who : Who) (at : At) (e : Entry) (p : List Line) → reads_kept e ≡ false → kept_of who (line at e ∷ p) ≡ kept_of who p
+    stays who at (Heard u g k) p r = absurd (cc)
+    stays who at (Hold u lock marked size seen) p r = absurd (cc)
+    stays who at (Settles u to) p r = absurd (cc)
+    stays who at (Life w) p r = absurd (cc)
+    stays who at e p r = refl
+
+    keeps : (who next : Who) (at : At) (p : List Line) → (is_client who.client at.node && same_life who next) ≡ false → kept_of who (line at (Life next) ∷ p) ≡ kept_of who p
+    keeps who next at p q = cond-false (is_client who.client at.node && same_life who next) (told who p) (kept_of who p) q
+
+    begins : (who : Who) (at : At) (p : List Line) → (is_client who.client at.node && same_life who who) ≡ true → kept_of who p ≡ nothing_kept → kept_of who (line at (Life who) ∷ p) ≡ kept_after (kept_of (life_of who.client p) p) (Life who)
+    begins who at p q n = cond-true (is_client who.client at.node && same_life who who) (told who p) (kept_of who p) q
 
 -- in the story of a target, and with the client's life by the whole past
 pub queue_now : (head : Head) (c t : ℕ) (past : List Line) → Grown head past → queue_at c t past ≡ queue_of (life_of c (only t past)) (only t past)
@@ -647,3 +711,9 @@ last_now head c t past g = life_field_is reads_last last_after 0 last_of last_fi
 
 pub last_is : (head : Head) (c t : ℕ) (past : List Line) → Grown head past → last_at c t past ≡ last_of (life_at c past) (only t past)
 last_is head c t past g = last_now head c t past g ∙ ap (λ (who : Who). last_of who (only t past)) (sym (life_is_of c t past))
+
+pub kept_now : (head : Head) (c t : ℕ) (past : List Line) → Grown head past → kept_at c t past ≡ kept_of (life_of c (only t past)) (only t past)
+kept_now head c t past g = life_field_is reads_kept kept_after nothing_kept kept_of kept_field c t past (rise_of head (only t past) (grown_of head t past g))
+
+pub kept_is : (head : Head) (c t : ℕ) (past : List Line) → Grown head past → kept_at c t past ≡ kept_of (life_at c past) (only t past)
+kept_is head c t past g = kept_now head c t past g ∙ ap (λ (who : Who). kept_of who (only t past)) (sym (life_is_of c t past))

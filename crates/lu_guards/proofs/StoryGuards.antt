@@ -1,6 +1,6 @@
 -- When a line may be added to a past, by what concerns one target: what it rests on there, over the story of that target just before it.
-use Rattle.std.proofs.Common.{◌≡◌, ℕ, ◌+◌, ◌<◌, true, false, List, [], ◌∷◌, Some, None, ◌⊎◌}
-use Rattle.std.specs.Prelude.{length, max, ◌==◌}
+use Rattle.std.proofs.Common.{◌≡◌, ℕ, ◌+◌, ◌<◌, ◌≤◌, true, false, List, [], ◌∷◌, Some, None, ◌⊎◌}
+use Rattle.std.specs.Prelude.{length, map, max, ◌==◌, nat_lt, not, filter, if◌then◌else◌}
 use Rattle.std.specs.List.{list_any}
 use Rattle.lu_base.specs.declared.ids.At.{At}
 use Rattle.lu_base.specs.declared.ids.Cookie.{Cookie}
@@ -19,12 +19,13 @@ use Rattle.lu_msg.specs.declared.messages.RequestReplay.{RequestReplay}
 use Rattle.lu_msg.specs.declared.messages.Reply.{Reply as ReplyTo}
 use Rattle.lu_msg.specs.declared.messages.Request.{Request as RequestOf}
 use Rattle.lu_msg.specs.declared.operations.Op.{Op}
+use Rattle.lu_msg.specs.declared.commits.Batch.{Batch}
 use Rattle.lu_held.specs.declared.locks.HeldLock.{HeldLock}
 use Rattle.lu_held.specs.Held.{is_held}
 use Rattle.lu_machine.specs.Fits.{answer_fits}
 use Rattle.lu_machine.specs.Footprint.{changes}
-use Rattle.lu_words.specs.Carried.{Deed, Said, Queued, Flight, Called}
-use Rattle.lu_words.specs.Words.{Entry, Begin, Busy, Queues, Flies, Send, Take, Tick, Heard, Hold, Drop, Told, Die, Pins, Unpins, Marks, Learns, Act, Txn, Grant, Block, Release, Enters, Line, turn_before, Skip, Commit, Life, Serves, Settles, Evict, Joined, Binds, Unbinds, Knows, Unmarks, Crash, Boot, Back, Stores, Brings, Says, Wishes}
+use Rattle.lu_words.specs.Carried.{Deed, Said, Queued, Flight, Called, Disk, Outcome}
+use Rattle.lu_words.specs.Words.{Entry, Begin, Busy, Queues, Flies, Send, Take, Tick, Heard, Hold, Drop, Told, Die, Pins, Unpins, Marks, Learns, Act, Txn, Grant, Block, Release, Enters, Line, turn_before, is_client, Skip, Commit, Life, Serves, Settles, Evict, Joined, Binds, Unbinds, Knows, Unmarks, Crash, Boot, Back, Close, Kept, Restore, Stores, Brings, Says, Wishes}
 use Rattle.lu_target_rows.specs.Leaving.{is_over, life_of as life_in}
 use Rattle.lu_target_rows.specs.Lives.{is_life}
 use Rattle.lu_target_rows.specs.Locks.{with_lock, without_lock}
@@ -34,17 +35,20 @@ use Rattle.lu_target_rows.specs.Replies.{is_called}
 use Rattle.lu_target_rows.specs.Kept.{replayed}
 use Rattle.lu_target_rows.specs.Recovery.{cut, empty_word}
 use Rattle.lu_target_rows.specs.Rows.{lock_again}
-use Rattle.lu_target_rows.specs.Windows.{is_replay, is_lock, word_of, is_newest}
+use Rattle.lu_target_rows.specs.Phase.{first_of}
+use Rattle.lu_target_rows.specs.Stored.{batch_of}
+use Rattle.lu_target_rows.specs.Windows.{is_replay, is_lock, word_of, is_newest, all_settled}
 use Rattle.lu_client_rows.specs.Caches.{held_as, held_at}
-use Rattle.lu_client_rows.specs.Imports.{Joining, Recovering, Serving}
-use Rattle.lu_client_rows.specs.Recovery.{next_life}
+use Rattle.lu_client_rows.specs.Imports.{Replay, Joining, Recovering, Serving}
+use Rattle.lu_client_rows.specs.Recovery.{next_life, lock_replayed, replayed as replayed_by}
 use Rattle.lu_client_rows.specs.Sending.{next_flight}
-use Rattle.lu_covered.specs.TargetParts.{without_request}
-use Rattle.lu_covered.specs.TargetStates.{none, server_of, slot_of, lives_of, evicted_of, shown_of, closed_of, up_of, replays_of, brought_of, words_of, wishes_of, next_number}
+use Rattle.lu_covered.specs.TargetParts.{without_request, cookie_after}
+use Rattle.lu_covered.specs.TargetStates.{none, server_of, slot_of, lives_of, evicted_of, shown_of, closed_of, up_of, replays_of, brought_of, words_of, wishes_of, window_of, next_number}
+use Rattle.lu_covered.specs.TargetCloses.{disk_of, outcome_of, closing_of}
 use Rattle.lu_covered.specs.Deeds.{asked, deed, locks_of, written_by, again}
-use Rattle.lu_covered.specs.ClientStates.{queue_of, flights_of, last_of, known_of, life_of, standing_of}
+use Rattle.lu_covered.specs.ClientStates.{queue_of, flights_of, last_of, known_of, life_of, standing_of, kept_of}
 use Rattle.lu_covered.specs.Heads.{Head}
-use Rattle.lu_guards.proofs.Guards.{In, Was, HeardNow, TookNow, Took, Dropped, request, name_of, Did, InTurn, IsCommit, IsTick, BackNow, IsTurnOf}
+use Rattle.lu_guards.proofs.Guards.{In, Was, HeardNow, TookNow, Took, Dropped, request, name_of, Did, InTurn, IsCommit, IsTick, IsTake, BackNow, IsTurnOf}
 
 -- the target serves: it is up, and its recovery window is closed
 abbrev pub IsServing : ℕ → List Line → Type 0
@@ -53,6 +57,10 @@ IsServing osts past = record { closed : closed_of past ≡ (server_of osts past)
 -- it recovers: it was booted, and its window isn't closed yet
 abbrev pub IsRecovering : ℕ → List Line → Type 0
 IsRecovering osts past = (closed_of past == (server_of osts past).boot) ≡ false
+
+-- a line that a close has to show is that which comes next, in the turn of the close
+abbrev pub Due : Head → List Line → At → Entry → Type 0
+Due head past at e = (more : List Entry) × (closing_of head.clients past ≡ e ∷ more) × IsTurnOf past at
 
 -- where the target serves the client's life
 pub record FliesOk (head : Head) (past : List Line) (c : ℕ) (f : Flight) : Type 0 where
@@ -85,12 +93,14 @@ pub record HeardOk (past : List Line) (c : ℕ) (f : Flight) (r : ReplyTo) : Typ
   pub fits : answer_fits f.op r.answer ≡ true
 
 -- the lock is held already, since the reply that brought it was heard
-pub record HeldOk (past : List Line) (c : ℕ) (lock : Lock) : Type 0 where
+pub record HeldOk (past : List Line) (c : ℕ) (lock : Lock) (seen : List ℕ) : Type 0 where
   pub at : At
   pub flight : Flight
   pub reply : ReplyTo
+  pub here : at.node ≡ Client c
   pub heard : HeardNow past at 0 flight reply
   pub among : In lock reply.locks
+  pub saw : seen ≡ reply.seen
   pub held : In (held_as 0 lock false) (held_at c past)
 
 pub record KnowsOk (past : List Line) (op : Op) (answer : Answer) (locks : List Lock) : Type 0 where
@@ -118,11 +128,50 @@ pub record BootKnownOk (past : List Line) (c t boot : ℕ) : Type 0 where
   pub newer : known_of c past < boot
   pub was : Was past (Target t) (Client c) (message.Up boot)
 
+-- the locks that the client held when it was last told a boot, where that was in its present life: what it has of locks for a recovery. A life
+-- that is over gives its locks up one by one, before the next one begins
+abbrev pub locks_told : ℕ → List Line → List Lock
+locks_told c [] = []
+locks_told c (l ∷ past) =
+    elim l.entry [
+      | Knows t boot ↦ if is_client c l.at.node then map {A = HeldLock} {B = Lock} (λ h. h.lock) (held_at c past) else locks_told c past
+      | Life who ↦ if is_client c l.at.node then [] else locks_told c past
+      | _ ↦ locks_told c past
+    ]
+
 -- what a life tells a target that recovers, of the boot that it knows
 pub record TellsOk (past : List Line) (c : ℕ) (who : Who) (boot : ℕ) : Type 0 where
   pub recovers : standing_of c past ≡ Recovering
   pub of_life : who ≡ life_of c past
   pub of_boot : boot ≡ known_of c past
+
+-- it tells a transaction that isn't committed as far as it knows, as it has it
+pub record ReplaysOk (past : List Line) (c : ℕ) (r : RequestReplay) : Type 0 where
+  pub tells : TellsOk past c r.who r.boot
+  pub replay : Replay
+  pub kept : In replay (kept_of r.who past).replays
+  pub is : r ≡ replayed_by r.who r.boot replay
+
+-- a lock that it holds
+pub record RelocksOk (past : List Line) (c : ℕ) (r : LockReplay) : Type 0 where
+  pub tells : TellsOk past c r.who r.boot
+  pub holding : HeldLock
+  pub held : In holding (held_at c past)
+  pub is : r ≡ lock_replayed r.who r.boot holding.lock
+
+-- and how many of both there are, with the numbers that it saw; it has given up none since it was told the boot
+pub record WordsOk (past : List Line) (c : ℕ) (who : Who) (boot replays locks : ℕ) (seen : List ℕ) : Type 0 where
+  pub tells : TellsOk past c who boot
+  pub of_replays : replays ≡ length (kept_of who past).replays
+  pub of_locks : locks ≡ length (held_at c past)
+  pub whole : length (locks_told c past) ≤ length (held_at c past)
+  pub of_seen : seen ≡ (kept_of who past).seen
+
+-- the target said that all up to that number is committed
+pub record SettlesOk (past : List Line) (c t to : ℕ) : Type 0 where
+  pub serves : standing_of c past ≡ Serving
+  pub boot : ℕ
+  pub was : Was past (Target t) (Client c) (message.Ready (life_of c past) boot (record { 0 = to }))
 
 -- the target said that it serves the life
 pub record ServesOk (past : List Line) (c t boot : ℕ) : Type 0 where
@@ -137,15 +186,27 @@ pub record CancelOk (past : List Line) (c : ℕ) (who : Who) (boot : ℕ) (cooki
   pub free : is_held (name_of cookie) (held_at c past) ≡ false
   pub cause : Dropped past c cookie ⊎ ((flights_of (life_of c past) past ≡ []) × ((from b : ℕ) × Was past (Target from) (Client c) (message.Block who b cookie)))
 
--- a reply that is kept for a life and tag
-pub record ReplyOk (osts : ℕ) (past : List Line) (c : ℕ) (k : ReplyTo) : Type 0 where
-  pub serves : IsServing osts past
+-- a request of a life with a slot, of the present boot or a later one, and of the newest number taken of its life and tag
+pub record AsksAgain (head : Head) (past : List Line) (t : ℕ) (who : Who) (tag : ℕ) : Type 0 where
+  pub request : RequestOf
+  pub from : ℕ
+  pub was : Was past (Client from) (Target t) (message.Request request)
+  pub of_life : request.who ≡ who
+  pub of_tag : request.tag ≡ tag
+  pub same : (slot_of who tag past).taken ≡ request.xid.0
+  pub current : (server_of head.osts past).boot ≤ request.boot
+  pub has : is_life who (lives_of head.clients past) ≡ true
+
+-- a reply that is kept for a life and tag: to what was just done, or to a request that comes again
+pub record ReplyOk (head : Head) (past : List Line) (t c : ℕ) (k : ReplyTo) : Type 0 where
+  pub serves : IsServing head.osts past
   pub who : Who
   pub tag : ℕ
   pub kept : ReplyTo
   pub slot : (slot_of who tag past).reply ≡ Some kept
-  pub is : k ≡ again (server_of osts past) kept
+  pub is : k ≡ again (server_of head.osts past) kept
   pub to : c ≡ k.who.client
+  pub cause : ((d : Deed) × Did past d × (d.reply ≡ kept)) ⊎ AsksAgain head past t who tag
 
 -- the holder of a granted lock is told to give it back
 pub record CallsOk (osts : ℕ) (past : List Line) (c : ℕ) (who : Who) (boot : ℕ) (cookie : Cookie) : Type 0 where
@@ -179,6 +240,13 @@ SaidBy who _ = ⊥
 abbrev pub Spoke : List Line → ℕ → Who → Type 0
 Spoke past t who = (from : ℕ) × (m : Message) × Was past (Client from) (Target t) m × SaidBy who m
 
+-- a target says which boot it is to a life that has a slot, or spoke to it, or asked to join
+pub record UpOk (head : Head) (past : List Line) (t c boot : ℕ) : Type 0 where
+  pub of_boot : boot ≡ (server_of head.osts past).boot
+  pub who : Who
+  pub to : c ≡ who.client
+  pub cause : (is_life who (lives_of head.clients past) ≡ true) ⊎ Spoke past t who ⊎ ((from asked : ℕ) × Was past (Client from) (Target t) (message.Join who asked))
+
 -- a newer life of its client has or had a slot
 abbrev pub Newer : ℕ → List Line → Who → Type 0
 Newer clients past who =
@@ -201,10 +269,13 @@ pub record EntersOk (osts clients : ℕ) (past : List Line) (t : ℕ) (r : Reque
   pub has : is_life r.who (lives_of clients past) ≡ true
   pub from : ℕ
   pub was : Was past (Client from) (Target t) (message.Request r)
+  pub current : (server_of osts past).boot ≤ r.boot
   pub newer : (slot_of r.who r.tag past).taken < r.xid.0
 
+-- a boot has room for the cookies of the locks that it grants
 pub record ActOk (osts : ℕ) (past : List Line) (at : At) (d : Deed) : Type 0 where
   pub serves : IsServing osts past
+  pub room : cookie_after (server_of osts past).cookie (Act d) ≤ first_of (server_of osts past).boot + 4294967295
   pub request : RequestOf
   pub waits : In request (server_of osts past).waiting
   pub still : changes osts (server_of osts past).tree (asked request none) ≡ false
@@ -258,23 +329,31 @@ pub record LeftOk (osts : ℕ) (past : List Line) (lock : Lock) : Type 0 where
 abbrev pub ReleaseOk : ℕ → List Line → ℕ → Lock → Type 0
 ReleaseOk osts past t lock = IsServing osts past × (BackOk osts past t lock ⊎ LeftOk osts past lock)
 
--- the last of the transactions that go to the disk, or none where all are there
-pub record CommitOk (osts : ℕ) (past : List Line) (to : ℕ) : Type 0 where
-  pub serves : IsServing osts past
-  pub is : ((d : Deed) × In d (server_of osts past).log × (to ≡ d.reply.txn.0)) ⊎ (to ≡ (server_of osts past).committed.0)
+-- the last of the transactions that go to the disk, or none where all are there; the batch has all of them, with lives that leave and
+-- lives that come. Or it is that of a close, which has made all of it already
+pub record CommitOk (head : Head) (past : List Line) (at : At) (to : ℕ) (batch : Batch) : Type 0 where
+  pub serves : IsServing head.osts past
+  pub is : ((d : Deed) × In d (server_of head.osts past).log × (to ≡ d.reply.txn.0)) ⊎ (to ≡ (server_of head.osts past).committed.0)
+  pub of_batch : (batch ≡ batch_of (filter (λ (d : Deed). not (nat_lt to d.reply.txn.0)) (server_of head.osts past).log) batch.removed batch.added) ⊎ Due head past at (Commit to batch)
 
--- before that turn a lock of that life was called back: reads Block
+-- before that turn, and since the last close, a lock of that life was called back: reads Block and Close
 abbrev pub CalledBefore : List Line → At → Who → Type 0
 CalledBefore [] at who = ⊥
 CalledBefore (l ∷ past) at who =
-    elim l.entry [ Block called ↦ ((called.who ≡ who) × (turn_before l.at at ≡ true)) ⊎ CalledBefore past at who | _ ↦ CalledBefore past at who ]
+    elim l.entry [ Block called ↦ ((called.who ≡ who) × (turn_before l.at at ≡ true)) ⊎ CalledBefore past at who | Close o ↦ ⊥ | _ ↦ CalledBefore past at who ]
+
+-- that turn took the message, and no window closed since: reads Take and Close
+abbrev pub TookSince : List Line → At → Node → Message → Type 0
+TookSince [] at from m = ⊥
+TookSince (l ∷ past) at from m =
+    elim l.entry [ Take number sender message ↦ ((l.at ≡ at) × (sender ≡ from) × (message ≡ m)) ⊎ TookSince past at from m | Close o ↦ ⊥ | _ ↦ TookSince past at from m ]
 
 -- the turn took the join of a newer life of the client
 pub record TookNewer (past : List Line) (at : At) (who : Who) : Type 0 where
   pub from : ℕ
   pub other : Who
   pub boot : ℕ
-  pub took : Took past at (Client from) (message.Join other boot)
+  pub took : TookSince past at (Client from) (message.Join other boot)
   pub client : other.client ≡ who.client
   pub newer : who.life < other.life
 
@@ -282,6 +361,13 @@ abbrev pub EvictedBy : List Line → At → Who → Cause → Type 0
 EvictedBy past at who Expired = InTurn IsTick past at × CalledBefore past at who
 EvictedBy past at who Replaced = TookNewer past at who
 EvictedBy past at who _ = ⊥
+
+-- what a close shows of a life that it evicted
+pub record LeavesOk (head : Head) (past : List Line) (at : At) (who : Who) (cause : Cause) : Type 0 where
+  pub due : Due head past at (Evict who cause)
+  pub serves : IsServing head.osts past
+  pub evicted : is_life who (evicted_of past) ≡ true
+  pub gone : is_life who (lives_of head.clients past) ≡ false
 
 -- a life with a slot loses it, once all is committed
 pub record EvictOk (head : Head) (past : List Line) (at : At) (who : Who) (cause : Cause) : Type 0 where
@@ -291,57 +377,85 @@ pub record EvictOk (head : Head) (past : List Line) (at : At) (who : Who) (cause
   pub logged : (server_of head.osts past).log ≡ []
   pub caused : EvictedBy past at who cause
 
--- a life that asked for a slot gets one: no life of its client has one, and none that isn't older had one
+-- a life that asked for a slot, of the present boot, gets one: no life of its client has one, and none that isn't older had one
 pub record JoinedOk (head : Head) (past : List Line) (at : At) (t : ℕ) (who : Who) : Type 0 where
   pub serves : IsServing head.osts past
   pub from : ℕ
   pub boot : ℕ
   pub took : Took past at (Client from) (message.Join who boot)
   pub was : Was past (Client from) (Target t) (message.Join who boot)
+  pub current : (server_of head.osts past).boot ≤ boot
   pub none : life_in who.client (lives_of head.clients past) ≡ None
   pub newer : list_any (is_over who) (evicted_of past) ≡ false
 
--- a target that is up goes down, and one that is down comes up in the next boot
-pub record BootOk (osts : ℕ) (past : List Line) (boot : ℕ) : Type 0 where
+-- what a close shows of a life that it gave a slot, which had asked for it
+pub record ComesOk (head : Head) (past : List Line) (at : At) (t : ℕ) (who : Who) : Type 0 where
+  pub due : Due head past at (Joined who)
+  pub serves : IsServing head.osts past
+  pub has : is_life who (lives_of head.clients past) ≡ true
+  pub from : ℕ
+  pub boot : ℕ
+  pub was : Was past (Client from) (Target t) (message.Join who boot)
+
+-- a target that is up goes down, and one that is down comes up in the next boot, with what stands on its disk
+pub record BootOk (head : Head) (past : List Line) (boot : ℕ) (disk : Disk) : Type 0 where
   pub down : up_of past ≡ false
-  pub next : boot ≡ (server_of osts past).boot + 1
+  pub next : boot ≡ (server_of head.osts past).boot + 1
+  pub of_disk : disk ≡ disk_of head.osts head.clients past
+
+-- a window closes: by what it has taken, and what stands on the disk; in a turn that took a message, once each life is back or left
+pub record CloseOk (head : Head) (past : List Line) (at : At) (o : Outcome) : Type 0 where
+  pub recovers : IsRecovering head.osts past
+  pub up : up_of past ≡ true
+  pub is : o ≡ outcome_of head.osts head.clients at past
+  pub of_lives : (disk_of head.osts head.clients past).lives ≡ lives_of head.clients past
+  pub of_removed : (disk_of head.osts head.clients past).removed ≡ evicted_of past
+  pub of_committed : (disk_of head.osts head.clients past).committed ≡ (server_of head.osts past).committed.0
+  pub settled : InTurn IsTake past at → all_settled (window_of head.osts head.clients past) (lives_of head.clients past) ≡ true
+
+-- what a close shows of a lock that it restored
+pub record RestoreOk (head : Head) (past : List Line) (at : At) (lock : Lock) : Type 0 where
+  pub due : Due head past at (Restore lock)
+  pub serves : IsServing head.osts past
+  pub granted : In lock (server_of head.osts past).granted
 
 -- what is kept in recovery came in this turn, under the present boot, of a life with a slot, and wasn't kept before
-pub record KeepsOk (head : Head) (past : List Line) (at : At) (from : Node) (m : Message) (who : Who) (boot : ℕ) : Type 0 where
+pub record KeepsOk (head : Head) (past : List Line) (at : At) (t : ℕ) (from : Node) (m : Message) (who : Who) (boot : ℕ) : Type 0 where
   pub recovers : IsRecovering head.osts past
   pub up : up_of past ≡ true
   pub took : TookNow past at from m
+  pub was : Was past from (Target t) m
   pub of_boot : boot ≡ (server_of head.osts past).boot
   pub has : is_life who (lives_of head.clients past) ≡ true
 
-pub record StoresOk (head : Head) (past : List Line) (at : At) (replay : RequestReplay) : Type 0 where
+pub record StoresOk (head : Head) (past : List Line) (at : At) (t : ℕ) (replay : RequestReplay) : Type 0 where
   pub from : Node
   pub given : RequestReplay
-  pub keeps : KeepsOk head past at from (message.Replay given) given.who given.boot
+  pub keeps : KeepsOk head past at t from (message.Replay given) given.who given.boot
   pub is : replay ≡ cut given
   pub new : list_any (is_replay (replayed given)) (replays_of past) ≡ false
 
-pub record BringsOk (head : Head) (past : List Line) (at : At) (lock : Lock) : Type 0 where
+pub record BringsOk (head : Head) (past : List Line) (at : At) (t : ℕ) (lock : Lock) : Type 0 where
   pub from : Node
   pub given : LockReplay
-  pub keeps : KeepsOk head past at from (message.Lock given) given.who given.boot
+  pub keeps : KeepsOk head past at t from (message.Lock given) given.who given.boot
   pub is : lock ≡ lock_again given
   pub new : list_any (is_lock lock) (brought_of past) ≡ false
 
 -- a word, or the join of a life with a slot, which has nothing to tell
-pub record SaysOk (head : Head) (past : List Line) (at : At) (said : Said) : Type 0 where
+pub record SaysOk (head : Head) (past : List Line) (at : At) (t : ℕ) (said : Said) : Type 0 where
   pub from : Node
   pub boot : ℕ
-  pub keeps : KeepsOk head past at from (message.Word said.who boot said.replays said.locks said.seen) said.who boot
-      ⊎ ((said ≡ empty_word said.who) × KeepsOk head past at from (message.Join said.who boot) said.who boot)
+  pub keeps : KeepsOk head past at t from (message.Word said.who boot said.replays said.locks said.seen) said.who boot
+      ⊎ ((said ≡ empty_word said.who) × KeepsOk head past at t from (message.Join said.who boot) said.who boot)
   pub new : word_of said.who (words_of past) ≡ None
 
 -- the join of a newer life than the one with a slot, the newest of its client so far
-pub record WishesOk (head : Head) (past : List Line) (at : At) (who : Who) : Type 0 where
+pub record WishesOk (head : Head) (past : List Line) (at : At) (t : ℕ) (who : Who) : Type 0 where
   pub from : Node
   pub boot : ℕ
   pub old : Who
-  pub keeps : KeepsOk head past at from (message.Join who boot) old boot
+  pub keeps : KeepsOk head past at t from (message.Join who boot) old boot
   pub client : old.client ≡ who.client
   pub newer : old.life < who.life
   pub newest : is_newest who (wishes_of past) ≡ true
@@ -350,11 +464,11 @@ abbrev pub SendOf : Head → List Line → Node → Node → Message → Type 0
 SendOf head past (Client c) (Target t) (message.Request r) = AskOk past c r
 SendOf head past (Client c) (Target t) (message.Cancel who boot cookie) = CancelOk past c who boot cookie
 SendOf head past (Client c) (Target t) (message.Join who boot) = JoinsOk past c who boot
-SendOf head past (Client c) (Target t) (message.Replay r) = TellsOk past c r.who r.boot
-SendOf head past (Client c) (Target t) (message.Lock r) = TellsOk past c r.who r.boot
-SendOf head past (Client c) (Target t) (message.Word who boot replays locks seen) = TellsOk past c who boot
-SendOf head past (Target t) (Client c) (message.Up boot) = boot ≡ (server_of head.osts past).boot
-SendOf head past (Target t) (Client c) (message.Reply k) = ReplyOk head.osts past c k
+SendOf head past (Client c) (Target t) (message.Replay r) = ReplaysOk past c r
+SendOf head past (Client c) (Target t) (message.Lock r) = RelocksOk past c r
+SendOf head past (Client c) (Target t) (message.Word who boot replays locks seen) = WordsOk past c who boot replays locks seen
+SendOf head past (Target t) (Client c) (message.Up boot) = UpOk head past t c boot
+SendOf head past (Target t) (Client c) (message.Reply k) = ReplyOk head past t c k
 SendOf head past (Target t) (Client c) (message.Block who boot cookie) = CallsOk head.osts past c who boot cookie
 SendOf head past (Target t) (Client c) (message.Ready who boot committed) = ReadyOk head past c who boot committed
 SendOf head past (Target t) (Client c) (message.Evicted who boot) = NoticeOk head past t c who boot
@@ -369,7 +483,7 @@ EntryOf head past at (Client c) (Busy slot) = Unit {0}
 EntryOf head past at (Client c) (Queues t q) = Unit {0}
 EntryOf head past at (Client c) (Flies t f) = FliesOk head past c f
 EntryOf head past at (Client c) (Heard t f r) = HeardOk past c f r
-EntryOf head past at (Client c) (Hold t lock marked size seen) = (marked ≡ false) × HeldOk past c lock
+EntryOf head past at (Client c) (Hold t lock marked size seen) = (marked ≡ false) × HeldOk past c lock seen
 EntryOf head past at (Client c) (Learns t op answer locks) = KnowsOk past op answer locks
 EntryOf head past at (Client c) (Drop t lock) = (t ≡ 0) × DropOk past c lock
 EntryOf head past at (Client c) (Pins name) = Unit {0}
@@ -382,7 +496,7 @@ EntryOf head past at (Client c) (Unbinds handle) = Unit {0}
 EntryOf head past at (Client c) (Knows t boot) = BootKnownOk past c t boot
 EntryOf head past at (Client c) (Unmarks t) = Unit {0}
 EntryOf head past at (Client c) (Serves t boot) = ServesOk past c t boot
-EntryOf head past at (Client c) (Settles t to) = standing_of c past ≡ Serving
+EntryOf head past at (Client c) (Settles t to) = SettlesOk past c t to
 EntryOf head past at (Client c) Die = Unit {0}
 EntryOf head past at (Target t) (Enters r) = EntersOk head.osts head.clients past t r
 EntryOf head past at (Target t) (Act d) = ActOk head.osts past at d
@@ -391,14 +505,17 @@ EntryOf head past at (Target t) (Grant lock (Some d)) = GrantOk head.osts past l
 EntryOf head past at (Target t) (Block called) = BlockOk head.osts past called
 EntryOf head past at (Target t) (Release lock) = ReleaseOk head.osts past t lock
 EntryOf head past at (Target t) Skip = Unit {0}
-EntryOf head past at (Target t) (Commit to batch) = CommitOk head.osts past to
+EntryOf head past at (Target t) (Commit to batch) = CommitOk head past at to batch
 EntryOf head past at (Target t) Crash = up_of past ≡ true
-EntryOf head past at (Target t) (Boot boot disk) = BootOk head.osts past boot
+EntryOf head past at (Target t) (Boot boot disk) = BootOk head past boot disk
 EntryOf head past at (Target t) (Back who) = BackNow head.osts head.clients past who × IsTurnOf past at
-EntryOf head past at (Target t) (Stores replay) = StoresOk head past at replay
-EntryOf head past at (Target t) (Brings lock) = BringsOk head past at lock
-EntryOf head past at (Target t) (Says said) = SaysOk head past at said
-EntryOf head past at (Target t) (Wishes who) = WishesOk head past at who
-EntryOf head past at (Target t) (Evict who cause) = EvictOk head past at who cause
-EntryOf head past at (Target t) (Joined who) = JoinedOk head past at t who
+EntryOf head past at (Target t) (Stores replay) = StoresOk head past at t replay
+EntryOf head past at (Target t) (Brings lock) = BringsOk head past at t lock
+EntryOf head past at (Target t) (Says said) = SaysOk head past at t said
+EntryOf head past at (Target t) (Wishes who) = WishesOk head past at t who
+EntryOf head past at (Target t) (Evict who cause) = EvictOk head past at who cause ⊎ LeavesOk head past at who cause
+EntryOf head past at (Target t) (Joined who) = JoinedOk head past at t who ⊎ ComesOk head past at t who
+EntryOf head past at (Target t) (Close o) = CloseOk head past at o
+EntryOf head past at (Target t) (Kept number) = Due head past at (Kept number)
+EntryOf head past at (Target t) (Restore lock) = RestoreOk head past at lock
 EntryOf head past at _ _ = ⊥

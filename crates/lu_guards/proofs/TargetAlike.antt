@@ -1,8 +1,8 @@
--- Between its turns a target of the whole table that wasn't booted again is what its story says: its first boot serves, and who has a slot, what is granted,
--- called back, waits and was done is what the guards speak of. A life that leaves is gone from the target with the commit, and from the
+-- Between its turns a target of the whole table that serves is what its story says: who has a slot, what is granted, called back, waits,
+-- was done and stands on the disk is what the guards speak of. A life that leaves is gone from the target with the commit, and from the
 -- story with its line `evict`; a life that comes is there with the commit, and in the story with its line `joined`. `Window` says how
 -- both go together in between. What a boot takes from the disk stands there (`OnDisk`).
-use Rattle.std.proofs.Common.{◌≡◌, ℕ, ◌+◌, ◌<◌, Bool, true, false, List, [], ◌∷◌, ◌++◌, Some, inl, inr, refl, sym, subst, ap, ◌∙◌, arith}
+use Rattle.std.proofs.Common.{◌≡◌, ℕ, ◌<◌, Bool, true, false, List, [], ◌∷◌, ◌++◌, Some, ◌⊎◌, inl, inr, refl, sym, subst, ap, ◌∙◌}
 use Rattle.std.specs.Prelude.{nat_eq, nat_lt, max, filter, map, not, ◌&&◌, ◌||◌}
 use Rattle.std.proofs.lemmas.Bool.{cond-true, lt-ltb}
 use Rattle.std.proofs.Math.Nat.{max-zero}
@@ -22,7 +22,7 @@ use Rattle.lu_msg.specs.declared.messages.Request.{Request as RequestOf}
 use Rattle.lu_machine.specs.Footprint.{changes, forget, after as tree_after}
 use Rattle.lu_machine.specs.Tree.{Tree}
 use Rattle.lu_words.specs.Carried.{Deed, Contents, Called}
-use Rattle.lu_words.specs.Words.{Entry, Send, Take, Tick, Skip, Act, Txn, Grant, Block, Release, Commit, Crash, Boot, Back, Enters, Evict, Joined, Stores, Brings, Says, Wishes, Line, line, with_turn, same_life}
+use Rattle.lu_words.specs.Words.{Entry, Send, Take, Tick, Skip, Act, Txn, Grant, Block, Release, Commit, Crash, Boot, Back, Close, Kept, Restore, Enters, Evict, Joined, Stores, Brings, Says, Wishes, Line, line, with_turn, same_life}
 use Rattle.lu_target_rows.specs.Locks.{with_lock, with_locks, without_lock, locks_without, called_without, without_request}
 use Rattle.lu_target_rows.specs.Lives.{is_life, with_life, with_lives, without_lives}
 use Rattle.lu_target_rows.specs.States.{Setting, Target, after, target_at}
@@ -30,14 +30,15 @@ use Rattle.lu_target_rows.specs.Stored.{done_by, operation_of, transaction_of, f
 use Rattle.lu_target_rows.specs.Leaving.{commits, last_of}
 use Rattle.lu_covered.specs.Deeds.{asked}
 use Rattle.lu_covered.specs.Heads.{Head}
-use Rattle.lu_covered.specs.TargetStates.{Server, none, next_number, server_of, server_after, lives_of, evicted_of, shown_of, closed_of, up_of}
+use Rattle.lu_covered.specs.TargetStates.{Server, none, next_number, server_of, server_after, lives_of, evicted_of, shown_of}
+use Rattle.lu_covered.specs.TargetCloses.{disk_of}
 use Rattle.lu_guards.proofs.Guards.{In}
 use Rattle.lu_guards.proofs.StoryGuards.{EntryOf, IsServing, CommitOk}
 use Rattle.lu_guards.proofs.Lists.{turn}
 use Rattle.lu_guards.proofs.LockLists.{Rises, rises_all, rises_filter}
 use Rattle.lu_guards.proofs.LifeLists.{filter_parts, filter_swap, first_lives}
 use Rattle.lu_guards.proofs.TargetSlots.{SlotsAlike, slots_enter, slots_answer, slots_again, slots_leave}
-use Rattle.lu_guards.proofs.TargetStory.{Story, IsStill, story_start, story_client, story_commit, story_evict, story_release, story_line}
+use Rattle.lu_guards.proofs.TargetStory.{Story, IsStill, numbered, logged_above, story_start, story_client, story_commit, story_evict, story_release, story_still, story_line}
 
 -- one of the whole table, and what the guards speak of
 abbrev pub Alike : (osts t : ℕ) → Target → Server → Type 0
@@ -46,10 +47,9 @@ Alike osts t v s =
       id : v.setting.id ≡ t;
       osts : v.setting.osts ≡ osts;
       up : v.up ≡ true;
-      boot : v.boot ≡ 1;
-      closed : v.closed ≡ 1;
-      first : s.boot ≡ 1;
-      number : v.number ≡ 4294967296 + s.count;
+      boot : v.boot ≡ s.boot;
+      closed : v.closed ≡ v.boot;
+      number : v.number ≡ numbered s;
       cookie : v.cookie ≡ s.cookie;
       tree : v.contents.tree ≡ s.tree;
       log : v.log ≡ s.log;
@@ -61,10 +61,6 @@ Alike osts t v s =
       glimpses : v.glimpses ≡ [];
       rises : Rises s.granted;
     }
-
--- it is up, in the first boot, whose window is closed
-abbrev pub FirstBoot : List Line → Type 0
-FirstBoot past = record { closed : closed_of past ≡ 1; up : up_of past ≡ true }
 
 -- what a boot takes from the disk stands there
 abbrev pub OnDisk : Target → Type 0
@@ -78,12 +74,13 @@ pub record Serving (head : Head) (t : ℕ) (v : Target) (past : List Line) : Typ
   pub lives : v.lives ≡ lives_of head.clients past
   pub removed : v.removed ≡ evicted_of past
   pub shown : shown_of past ≡ (server_of head.osts past).granted
-  pub phase : FirstBoot past
+  pub phase : IsServing head.osts past
   pub disk : OnDisk v
+  pub stored : v.disk ≡ disk_of head.osts head.clients past
 
 -- so the guards say that it serves
 pub serving_is : (head : Head) (t : ℕ) (v : Target) (past : List Line) → Serving head t v past → IsServing head.osts past
-serving_is head t v past h = record { closed = h.phase.closed ∙ sym h.story.first; up = h.phase.up }
+serving_is head t v past h = h.phase
 
 -- ---- one entry of its own
 
@@ -103,7 +100,6 @@ module _ (osts t : ℕ) (v : Target) (s : Server) (h : Alike osts t v s) where
         up = h.up;
         boot = h.boot;
         closed = h.closed;
-        first = h.first;
         number = h.number;
         cookie = h.cookie;
         tree = h.tree;
@@ -125,7 +121,6 @@ module _ (osts t : ℕ) (v : Target) (s : Server) (h : Alike osts t v s) where
         up = h.up;
         boot = h.boot;
         closed = h.closed;
-        first = h.first;
         number = h.number;
         cookie = rw h.cookie refl;
         tree = h.tree;
@@ -147,8 +142,7 @@ module _ (osts t : ℕ) (v : Target) (s : Server) (h : Alike osts t v s) where
         up = h.up;
         boot = h.boot;
         closed = h.closed;
-        first = h.first;
-        number = ap (λ (x : TxnOf). x.0) number ∙ rw h.first (omega arith);
+        number = ap (λ (x : TxnOf). x.0) number;
         cookie = h.cookie;
         tree =
             ap (λ (x : Op). (done_by v.setting.osts (transaction_of d) v.contents x).tree) op_is
@@ -173,7 +167,6 @@ module _ (osts t : ℕ) (v : Target) (s : Server) (h : Alike osts t v s) where
         up = h.up;
         boot = h.boot;
         closed = h.closed;
-        first = h.first;
         number = h.number;
         cookie = ap (λ (n : ℕ). max n lock.cookie.0) h.cookie ∙ cookie;
         tree = h.tree;
@@ -195,7 +188,6 @@ module _ (osts t : ℕ) (v : Target) (s : Server) (h : Alike osts t v s) where
         up = h.up;
         boot = h.boot;
         closed = h.closed;
-        first = h.first;
         number = h.number;
         cookie = h.cookie;
         tree = h.tree;
@@ -217,7 +209,6 @@ module _ (osts t : ℕ) (v : Target) (s : Server) (h : Alike osts t v s) where
         up = h.up;
         boot = h.boot;
         closed = h.closed;
-        first = h.first;
         number = h.number;
         cookie = h.cookie;
         tree = h.tree;
@@ -238,6 +229,9 @@ IsPlain (Evict who cause) = ⊥
 IsPlain (Joined who) = ⊥
 IsPlain Crash = ⊥
 IsPlain (Boot boot disk) = ⊥
+IsPlain (Close o) = ⊥
+IsPlain (Kept number) = ⊥
+IsPlain (Restore lock) = ⊥
 IsPlain _ = Unit {0}
 
 abbrev pub AllPlain : List Entry → Type 0
@@ -250,7 +244,7 @@ pub serving_line : (head : Head) (t : ℕ) (past : List Line) (stamp : Stamp) (e
 serving_line head t past stamp e v plain ok h = by e plain ok (story_line head t past stamp e (still e plain) ok h.story)
   where
     still : (e : Entry) → IsPlain e → IsStill e
-    still (Boot boot disk) plain = absurd plain
+    still (Close o) plain = absurd plain
     still e plain = tt
 
     s : Server
@@ -260,17 +254,17 @@ serving_line head t past stamp e v plain ok h = by e plain ok (story_line head t
     a = h.alike
 
     by : (e : Entry) → IsPlain e → EntryOf head past (turn stamp (node.Target t)) (node.Target t) e → Story head (line (turn stamp (node.Target t)) e ∷ past) → Serving head t (after v e) (line (turn stamp (node.Target t)) e ∷ past)
-    by (Send to m) plain ok story = record { alike = a; story = story; slots = h.slots; lives = h.lives; removed = h.removed; shown = h.shown; phase = h.phase; disk = h.disk }
-    by (Take n from m) plain ok story = record { alike = a; story = story; slots = h.slots; lives = h.lives; removed = h.removed; shown = h.shown; phase = h.phase; disk = h.disk }
-    by Tick plain ok story = record { alike = a; story = story; slots = h.slots; lives = h.lives; removed = h.removed; shown = h.shown; phase = h.phase; disk = h.disk }
-    by Skip plain ok story = record { alike = a; story = story; slots = h.slots; lives = h.lives; removed = h.removed; shown = h.shown; phase = h.phase; disk = h.disk }
-    by (Back who) plain ok story = record { alike = a; story = story; slots = h.slots; lives = h.lives; removed = h.removed; shown = h.shown; phase = h.phase; disk = h.disk }
-    by (Stores replay) plain ok story = record { alike = a; story = story; slots = h.slots; lives = h.lives; removed = h.removed; shown = h.shown; phase = h.phase; disk = h.disk }
-    by (Brings lock) plain ok story = record { alike = a; story = story; slots = h.slots; lives = h.lives; removed = h.removed; shown = h.shown; phase = h.phase; disk = h.disk }
-    by (Says said) plain ok story = record { alike = a; story = story; slots = h.slots; lives = h.lives; removed = h.removed; shown = h.shown; phase = h.phase; disk = h.disk }
-    by (Wishes who) plain ok story = record { alike = a; story = story; slots = h.slots; lives = h.lives; removed = h.removed; shown = h.shown; phase = h.phase; disk = h.disk }
+    by (Send to m) plain ok story = record { alike = a; story = story; slots = h.slots; lives = h.lives; removed = h.removed; shown = h.shown; phase = h.phase; disk = h.disk; stored = h.stored }
+    by (Take n from m) plain ok story = record { alike = a; story = story; slots = h.slots; lives = h.lives; removed = h.removed; shown = h.shown; phase = h.phase; disk = h.disk; stored = h.stored }
+    by Tick plain ok story = record { alike = a; story = story; slots = h.slots; lives = h.lives; removed = h.removed; shown = h.shown; phase = h.phase; disk = h.disk; stored = h.stored }
+    by Skip plain ok story = record { alike = a; story = story; slots = h.slots; lives = h.lives; removed = h.removed; shown = h.shown; phase = h.phase; disk = h.disk; stored = h.stored }
+    by (Back who) plain ok story = record { alike = a; story = story; slots = h.slots; lives = h.lives; removed = h.removed; shown = h.shown; phase = h.phase; disk = h.disk; stored = h.stored }
+    by (Stores replay) plain ok story = record { alike = a; story = story; slots = h.slots; lives = h.lives; removed = h.removed; shown = h.shown; phase = h.phase; disk = h.disk; stored = h.stored }
+    by (Brings lock) plain ok story = record { alike = a; story = story; slots = h.slots; lives = h.lives; removed = h.removed; shown = h.shown; phase = h.phase; disk = h.disk; stored = h.stored }
+    by (Says said) plain ok story = record { alike = a; story = story; slots = h.slots; lives = h.lives; removed = h.removed; shown = h.shown; phase = h.phase; disk = h.disk; stored = h.stored }
+    by (Wishes who) plain ok story = record { alike = a; story = story; slots = h.slots; lives = h.lives; removed = h.removed; shown = h.shown; phase = h.phase; disk = h.disk; stored = h.stored }
     by (Enters r) plain ok story =
-        record { alike = alike_enters head.osts t v s a r; story = story; slots = λ who tag live. slots_enter v.slots past r who tag (h.slots who tag live); lives = h.lives; removed = h.removed; shown = h.shown; phase = h.phase; disk = h.disk }
+        record { alike = alike_enters head.osts t v s a r; story = story; slots = λ who tag live. slots_enter v.slots past r who tag (h.slots who tag live); lives = h.lives; removed = h.removed; shown = h.shown; phase = h.phase; disk = h.disk; stored = h.stored }
     by (Act d) plain ok story =
         record {
           alike = alike_act head.osts t v s a d;
@@ -281,6 +275,7 @@ serving_line head t past stamp e v plain ok h = by e plain ok (story_line head t
           shown = ap (with_locks d.reply.locks) h.shown;
           phase = h.phase;
           disk = h.disk;
+          stored = h.stored;
         }
     by (Txn d) plain ok story =
         record {
@@ -292,16 +287,20 @@ serving_line head t past stamp e v plain ok h = by e plain ok (story_line head t
           shown = h.shown;
           phase = h.phase;
           disk = h.disk;
+          stored = h.stored;
         }
     by (Grant lock (Some d)) plain ok story =
-        record { alike = alike_grant head.osts t v s a lock d ok.granted ok.cookie ok.waiting; story = story; slots = slots_again v.slots v.removed past d ok.slot h.slots; lives = h.lives; removed = h.removed; shown = h.shown; phase = h.phase; disk = h.disk }
-    by (Block called) plain ok story = record { alike = alike_block head.osts t v s a called; story = story; slots = h.slots; lives = h.lives; removed = h.removed; shown = h.shown; phase = h.phase; disk = h.disk }
-    by (Release lock) plain ok story = record { alike = alike_release head.osts t v s a lock; story = story; slots = h.slots; lives = h.lives; removed = h.removed; shown = ap (without_lock lock) h.shown; phase = h.phase; disk = h.disk }
+        record { alike = alike_grant head.osts t v s a lock d ok.granted ok.cookie ok.waiting; story = story; slots = slots_again v.slots v.removed past d ok.slot h.slots; lives = h.lives; removed = h.removed; shown = h.shown; phase = h.phase; disk = h.disk; stored = h.stored }
+    by (Block called) plain ok story = record { alike = alike_block head.osts t v s a called; story = story; slots = h.slots; lives = h.lives; removed = h.removed; shown = h.shown; phase = h.phase; disk = h.disk; stored = h.stored }
+    by (Release lock) plain ok story = record { alike = alike_release head.osts t v s a lock; story = story; slots = h.slots; lives = h.lives; removed = h.removed; shown = ap (without_lock lock) h.shown; phase = h.phase; disk = h.disk; stored = h.stored }
     by (Commit to batch) plain ok story = absurd plain
     by (Evict who cause) plain ok story = absurd plain
     by (Joined who) plain ok story = absurd plain
     by Crash plain ok story = absurd plain
     by (Boot boot disk) plain ok story = absurd plain
+    by (Close o) plain ok story = absurd plain
+    by (Kept number) plain ok story = absurd plain
+    by (Restore lock) plain ok story = absurd plain
     by e plain ok story = absurd ok
 
 -- ---- from the commit on, until all that leave and come with it did
@@ -311,7 +310,7 @@ abbrev pub tree_without : List Who → Tree → Tree
 tree_without [] t = t
 tree_without (who ∷ gone) t = tree_without gone (forget t who)
 
-forgotten_tree : (gone : List Who) (c : Contents) → (forgotten gone c).tree ≡ tree_without gone c.tree
+pub forgotten_tree : (gone : List Who) (c : Contents) → (forgotten gone c).tree ≡ tree_without gone c.tree
 forgotten_tree [] c = refl
 forgotten_tree (who ∷ gone) c = forgotten_tree gone (record c { tree = forget c.tree who })
 
@@ -320,9 +319,9 @@ pub record Window (head : Head) (t : ℕ) (gone come : List Who) (v : Target) (p
   pub id : v.setting.id ≡ t
   pub osts : v.setting.osts ≡ head.osts
   pub up : v.up ≡ true
-  pub boot : v.boot ≡ 1
-  pub closed : v.closed ≡ 1
-  pub number : v.number ≡ 4294967296 + (server_of head.osts past).count
+  pub boot : v.boot ≡ (server_of head.osts past).boot
+  pub closed : v.closed ≡ v.boot
+  pub number : v.number ≡ numbered (server_of head.osts past)
   pub cookie : v.cookie ≡ (server_of head.osts past).cookie
   pub tree : v.contents.tree ≡ tree_without gone (server_of head.osts past).tree
   pub log : v.log ≡ (server_of head.osts past).log
@@ -336,8 +335,9 @@ pub record Window (head : Head) (t : ℕ) (gone come : List Who) (v : Target) (p
   pub slots : SlotsAlike v.slots v.removed past
   pub lives : v.lives ≡ with_lives come (without_lives gone (lives_of head.clients past))
   pub removed : v.removed ≡ with_lives gone (evicted_of past)
-  pub phase : FirstBoot past
+  pub phase : IsServing head.osts past
   pub disk : OnDisk v
+  pub stored : v.disk ≡ disk_of head.osts head.clients past
 
 -- the transactions of a batch are above what is on the disk, so their last one is the last there
 stored_last : (n : ℕ) (deeds : List Deed) (k : ℕ) → ((d : Deed) → In d deeds → n < d.reply.txn.0) → last_number (filter (λ (x : Transaction). nat_lt n x.txn.0) (map {A = Deed} {B = Transaction} transaction_of deeds)) k ≡ last_of deeds k
@@ -357,7 +357,7 @@ disk_commit v deeds gone come above h =
     }
 
 -- what is committed are deeds of the log
-pub window_commit : (head : Head) (t : ℕ) (past : List Line) (stamp : Stamp) (deeds : List Deed) (gone come : List Who) (v : Target) → ((d : Deed) → In d deeds → In d (server_of head.osts past).log) → CommitOk head.osts past (last_of deeds v.committed) → Serving head t v past
+pub window_commit : (head : Head) (t : ℕ) (past : List Line) (stamp : Stamp) (deeds : List Deed) (gone come : List Who) (v : Target) → ((d : Deed) → In d deeds → In d (server_of head.osts past).log) → CommitOk head past (turn stamp (node.Target t)) (last_of deeds v.committed) (batch_of deeds gone come) → Serving head t v past
     → Window head t gone come (after v (commits v deeds gone come)) (line (turn stamp (node.Target t)) (commits v deeds gone come) ∷ past)
 window_commit head t past stamp deeds gone come v logged ok h =
     let to : ℕ = last_of deeds v.committed in
@@ -384,11 +384,12 @@ window_commit head t past stamp deeds gone come v logged ok h =
       lives = ap (λ (ws : List Who). with_lives batch.added (without_lives batch.removed ws)) h.lives;
       removed = ap (with_lives batch.removed) h.removed;
       phase = h.phase;
-      disk = disk_commit v deeds gone come (λ d i. subst (λ (n : ℕ). n < d.reply.txn.0) (sym a.committed) (h.story.above d (logged d i))) h.disk;
+      disk = disk_commit v deeds gone come (λ d i. subst (λ (n : ℕ). n < d.reply.txn.0) (sym a.committed) (logged_above (server_of head.osts past).committed.0 (server_of head.osts past).log (numbered (server_of head.osts past)) d h.story.logged (logged d i))) h.disk;
+      stored = rw (a.osts, h.stored) refl;
     }
 
 pub window_is : (head : Head) (t : ℕ) (gone come : List Who) (v : Target) (past : List Line) → Window head t gone come v past → IsServing head.osts past
-window_is head t gone come v past h = record { closed = h.phase.closed ∙ sym h.story.first; up = h.phase.up }
+window_is head t gone come v past h = h.phase
 
 -- the first of those that leave does
 not_or : (a b : Bool) → not (a || b) ≡ (not (a || false) && not b)
@@ -400,9 +401,9 @@ pub gone_one : {A : Type 0} (f : A → Who) (who : Who) (gone : List Who) (xs : 
 gone_one {A} f who gone xs =
     filter_parts (λ (x : A). not (is_life (f x) (who ∷ gone))) (λ (x : A). not (is_life (f x) (who ∷ []))) (λ (x : A). not (is_life (f x) gone)) (λ x. not_or (same_life (f x) who) (is_life (f x) gone)) xs
 
-pub window_evict : (head : Head) (t : ℕ) (past : List Line) (stamp : Stamp) (who : Who) (cause : Cause) (gone come : List Who) (v : Target) → Window head t (who ∷ gone) come v past
+pub window_evict : (head : Head) (t : ℕ) (past : List Line) (stamp : Stamp) (who : Who) (cause : Cause) (gone come : List Who) (v : Target) → (is_life who (lives_of head.clients past) ≡ true) ⊎ (is_life who (evicted_of past) ≡ true) → Window head t (who ∷ gone) come v past
     → Window head t gone come v (line (turn stamp (node.Target t)) (Evict who cause) ∷ past)
-window_evict head t past stamp who cause gone come v h =
+window_evict head t past stamp who cause gone come v was h =
     let s : Server = server_of head.osts past in
     record {
       id = h.id;
@@ -420,12 +421,13 @@ window_evict head t past stamp who cause gone come v h =
       called = h.called ∙ gone_one (λ (c : Called). c.who) who gone s.called;
       queue = h.queue ∙ gone_one (λ (r : RequestOf). r.who) who gone s.waiting;
       glimpses = h.glimpses;
-      story = story_evict head t past stamp h.story who cause;
+      story = story_evict head t past stamp h.story who cause was;
       slots = h.slots;
       lives = h.lives ∙ ap (with_lives come) (gone_one (λ (w : Who). w) who gone (lives_of head.clients past));
       removed = h.removed;
       phase = h.phase;
       disk = h.disk;
+      stored = h.stored;
     }
 
 -- a lock is released
@@ -455,6 +457,7 @@ window_release head t past stamp lock gone come v h =
       removed = h.removed;
       phase = h.phase;
       disk = h.disk;
+      stored = h.stored;
     }
 
 -- what is sent changes nothing
@@ -477,12 +480,13 @@ window_send head t past stamp to m gone come v h =
       called = h.called;
       queue = h.queue;
       glimpses = h.glimpses;
-      story = record { first = h.story.first; rises = h.story.rises; logged = h.story.logged; waits = h.story.waits; holds = h.story.holds; calls = h.story.calls; single = h.story.single; apart = h.story.apart; above = h.story.above; under = h.story.under };
+      story = story_still head t past stamp h.story (Send to m) refl refl refl;
       slots = h.slots;
       lives = h.lives;
       removed = h.removed;
       phase = h.phase;
       disk = h.disk;
+      stored = h.stored;
     }
 
 -- where nobody leaves, all stay
@@ -490,9 +494,9 @@ pub all_stay : {A : Type 0} (xs : List A) → filter (λ (x : A). true) xs ≡ x
 all_stay [] = refl
 all_stay (x ∷ xs) = ap (λ ys. x ∷ ys) (all_stay xs)
 
--- the one that comes is there
-pub window_joined : (head : Head) (t : ℕ) (past : List Line) (stamp : Stamp) (who : Who) (v : Target) → EntryOf head past (turn stamp (node.Target t)) (node.Target t) (Joined who) → Window head t [] (who ∷ []) v past → Window head t [] [] v (line (turn stamp (node.Target t)) (Joined who) ∷ past)
-window_joined head t past stamp who v ok h =
+-- the first of those that come is there
+pub window_joined : (head : Head) (t : ℕ) (past : List Line) (stamp : Stamp) (who : Who) (come : List Who) (v : Target) → EntryOf head past (turn stamp (node.Target t)) (node.Target t) (Joined who) → Window head t [] (who ∷ come) v past → Window head t [] come v (line (turn stamp (node.Target t)) (Joined who) ∷ past)
+window_joined head t past stamp who come v ok h =
     record {
       id = h.id;
       osts = h.osts;
@@ -511,10 +515,11 @@ window_joined head t past stamp who v ok h =
       glimpses = h.glimpses;
       story = story_line head t past stamp (Joined who) tt ok h.story;
       slots = h.slots;
-      lives = h.lives ∙ ap (with_life who) (all_stay (lives_of head.clients past)) ∙ sym (all_stay (with_life who (lives_of head.clients past)));
+      lives = h.lives ∙ ap (λ (ws : List Who). with_lives come (with_life who ws)) (all_stay (lives_of head.clients past)) ∙ ap (with_lives come) (sym (all_stay (with_life who (lives_of head.clients past))));
       removed = h.removed;
       phase = h.phase;
       disk = h.disk;
+      stored = h.stored;
     }
 
 -- then the window is closed
@@ -529,7 +534,6 @@ window_closed head t past v shown h =
             up = h.up;
             boot = h.boot;
             closed = h.closed;
-            first = h.story.first;
             number = h.number;
             cookie = h.cookie;
             tree = h.tree;
@@ -549,6 +553,7 @@ window_closed head t past v shown h =
       shown = shown;
       phase = h.phase;
       disk = h.disk;
+      stored = h.stored;
     }
 
 -- ---- at the start, and over the turns of other nodes
@@ -563,7 +568,6 @@ serving_start head setting o =
             up = refl;
             boot = refl;
             closed = refl;
-            first = refl;
             number = refl;
             cookie = refl;
             tree = refl;
@@ -583,6 +587,7 @@ serving_start head setting o =
       shown = refl;
       phase = record { closed = refl; up = refl };
       disk = record { boot = refl; lives = first_lives head.clients; removed = refl; committed = refl };
+      stored = refl;
     }
 
 -- lines of a client change nothing
@@ -590,4 +595,4 @@ pub serving_client : (head : Head) (t : ℕ) (stamp : Stamp) (c : ℕ) (es : Lis
 serving_client head t stamp c [] past v h = h
 serving_client head t stamp c (e ∷ es) past v h =
     serving_client head t stamp c es (line (turn stamp (node.Client c)) e ∷ past) v
-    (record { alike = h.alike; story = story_client head past stamp c e h.story; slots = h.slots; lives = h.lives; removed = h.removed; shown = h.shown; phase = h.phase; disk = h.disk })
+    (record { alike = h.alike; story = story_client head past stamp c e h.story; slots = h.slots; lives = h.lives; removed = h.removed; shown = h.shown; phase = h.phase; disk = h.disk; stored = h.stored })

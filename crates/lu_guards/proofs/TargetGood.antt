@@ -9,6 +9,7 @@ use Rattle.lu_words.specs.Words.{Entry, Take, Boot, Close, Stores, Brings, Says,
 use Rattle.lu_words.specs.Concerns.{only, about}
 use Rattle.lu_target_rows.specs.States.{Target, after, follow, turn as turned}
 use Rattle.lu_covered.specs.Heads.{Head}
+use Rattle.lu_covered.specs.TargetCloses.{but_first, closing_of}
 use Rattle.lu_covered.specs.TargetStates.{server_of, closed_of, up_of, window_of}
 use Rattle.lu_guards.proofs.Guards.{Owes, EntryOk, Later, IsMark, IsTurnOf, mark_of, due}
 use Rattle.lu_guards.proofs.StoryGuards.{EntryOf, IsRecovering}
@@ -16,7 +17,7 @@ use Rattle.lu_guards.proofs.Grown.{Noted}
 use Rattle.lu_guards.proofs.Lists.{turn, turn_irreflexive, turn_more}
 use Rattle.lu_guards.proofs.Only.{turn_only, about_own, about_other}
 use Rattle.lu_guards.proofs.TargetAlike.{Serving, AllPlain, serving_line}
-use Rattle.lu_guards.proofs.Turns.{Settled, AllPaid, AllOk, AllOf, NoBack, AllBacks, AllMarks, RowOk}
+use Rattle.lu_guards.proofs.Turns.{Settled, AllPaid, AllOk, AllOf, NoBack, AllBacks, AllMarks, AllShows, RowOk}
 
 pub turned_more : (es fs : List Entry) (v : Target) → turned v (es ++ fs) ≡ turned (turned v es) fs
 turned_more [] fs v = refl
@@ -90,14 +91,14 @@ module _ (head : Head) (stamp : Stamp) (t : ℕ) where
   abbrev IsClosed : ℕ → List Line → Type 0
   IsClosed osts story = closed_of story ≡ (server_of osts story).boot
 
+  serves_recovers : (story : List Line) → IsClosed head.osts story → IsRecovering head.osts story → ⊥
+  serves_recovers story serves recovers = let is : nat_eq (closed_of story) (server_of head.osts story).boot ≡ true = eq-eqb (closed_of story) (server_of head.osts story).boot serves in absurd (cc)
+
   serves_still : (past story : List Line) (e : Entry) → EntryOk past at (node.Target t) e → EntryOf head story at (node.Target t) e → IsClosed head.osts story → (up_of story ≡ true) ⊎ IsTurnOf past at → IsClosed head.osts (line at e ∷ story)
   serves_still past story (Boot boot disk) ok of serves (inl up) = let down = of.down in absurd (cc)
   serves_still past story (Boot boot disk) ok of serves (inr here) = absurd (later_here past ok here)
-  serves_still past story (Close o) ok of serves up = absurd ok
+  serves_still past story (Close o) ok of serves up = absurd (serves_recovers story serves of.recovers)
   serves_still past story e ok of serves up = serves
-
-  serves_recovers : (story : List Line) → IsClosed head.osts story → IsRecovering head.osts story → ⊥
-  serves_recovers story serves recovers = let is : nat_eq (closed_of story) (server_of head.osts story).boot ≡ true = eq-eqb (closed_of story) (server_of head.osts story).boot serves in absurd (cc)
 
   serves_unmarked : (story : List Line) (e : Entry) → EntryOf head story at (node.Target t) e → IsClosed head.osts story → IsMark e → ⊥
   serves_unmarked story (Stores replay) of serves mark = serves_recovers story serves of.keeps.recovers
@@ -126,9 +127,21 @@ module _ (head : Head) (stamp : Stamp) (t : ℕ) where
     serves_marks es (line at e ∷ past) (line at e ∷ story) g.1 (serves_still past story e g.0.1 g.0.2 serves up) (serves_undue story e serves) (inr refl),
   )
 
-  pub good_row : (es : List Entry) (past : List Line) → GoodAt past (only t past) es → Noted head past → AllBacks head (only t past) at es → AllMarks head (only t past) at es → RowOk head past at es
-  good_row es past g noted backs marks =
-      record { paid = all_paid es past (only t past) g; ok = all_ok es past (only t past) g; of = λ u. by u (nat_eq u t) refl; backs = λ u. back u (nat_eq u t) refl; marks = λ u. mark u (nat_eq u t) refl }
+  -- and no window closes, so that nothing of a close is to be shown
+  serves_unclosed : (story : List Line) (e : Entry) → EntryOf head story at (node.Target t) e → IsClosed head.osts story → closing_of head.clients story ≡ [] → closing_of head.clients (line at e ∷ story) ≡ []
+  serves_unclosed story (Close o) of serves shown = absurd (serves_recovers story serves of.recovers)
+  serves_unclosed story e of serves shown = ap but_first shown
+
+  pub serves_shows : (es : List Entry) (past story : List Line) → GoodAt past story es → IsClosed head.osts story → closing_of head.clients story ≡ [] → (up_of story ≡ true) ⊎ IsTurnOf past at → AllShows head story at es
+  serves_shows [] past story g serves shown up = shown
+  serves_shows (e ∷ es) past story g serves shown up = (
+    λ next more is. absurd (cc),
+    serves_shows es (line at e ∷ past) (line at e ∷ story) g.1 (serves_still past story e g.0.1 g.0.2 serves up) (serves_unclosed story e g.0.2 serves shown) (inr refl),
+  )
+
+  pub good_row : (es : List Entry) (past : List Line) → GoodAt past (only t past) es → Noted head past → AllBacks head (only t past) at es → AllMarks head (only t past) at es → AllShows head (only t past) at es → RowOk head past at es
+  good_row es past g noted backs marks shows =
+      record { paid = all_paid es past (only t past) g; ok = all_ok es past (only t past) g; of = λ u. by u (nat_eq u t) refl; backs = λ u. back u (nat_eq u t) refl; marks = λ u. mark u (nat_eq u t) refl; shows = λ u. show u (nat_eq u t) refl }
     where
       back : (u : ℕ) (b : Bool) → nat_eq u t ≡ b → AllBacks head (only u past) at (about u (node.Target t) es)
       back u true e =
@@ -141,6 +154,12 @@ module _ (head : Head) (stamp : Stamp) (t : ℕ) where
           subst (λ (n : ℕ). AllMarks head (only n past) at (about n (node.Target t) es)) (sym (eqb-true u t e))
           (subst (λ (fs : List Entry). AllMarks head (only t past) at fs) (sym (about_own t es)) marks)
       mark u false e = subst (λ (fs : List Entry). AllMarks head (only u past) at fs) (sym (about_other u t es e)) (noted.marked u)
+
+      show : (u : ℕ) (b : Bool) → nat_eq u t ≡ b → AllShows head (only u past) at (about u (node.Target t) es)
+      show u true e =
+          subst (λ (n : ℕ). AllShows head (only n past) at (about n (node.Target t) es)) (sym (eqb-true u t e))
+          (subst (λ (fs : List Entry). AllShows head (only t past) at fs) (sym (about_own t es)) shows)
+      show u false e = subst (λ (fs : List Entry). AllShows head (only u past) at fs) (sym (about_other u t es e)) (noted.shown u)
 
       by : (u : ℕ) (b : Bool) → nat_eq u t ≡ b → AllOf head (only u past) at (about u (node.Target t) es)
       by u true e =

@@ -1,7 +1,7 @@
 -- Lives that leave a target: with one commit of all, and then life by life its line, the notice, and the releases of the locks that it
 -- had. All these lines are allowed, and after them the target is again what its story says.
-use Rattle.std.proofs.Common.{◌≡◌, ℕ, true, List, [], ◌∷◌, inl, inr, refl, sym, subst, ap, ◌∙◌, arith}
-use Rattle.std.specs.Prelude.{◌+◌, nat_lt, not}
+use Rattle.std.proofs.Common.{◌≡◌, ℕ, true, List, [], ◌∷◌, ◌⊎◌, inl, inr, refl, sym, subst, ap, ◌∙◌, arith}
+use Rattle.std.specs.Prelude.{nat_lt, not}
 use Rattle.std.specs.List.{filter}
 use Rattle.lu_base.specs.declared.ids.At.{At}
 use Rattle.lu_base.specs.declared.ids.Node.{Node}
@@ -14,39 +14,63 @@ use Rattle.lu_base.specs.declared.locks.Lock.{Lock}
 use Rattle.lu_msg.specs.declared.messages.Message.{Message}
 use Rattle.lu_msg.specs.declared.messages.Message.TheVariants as message
 use Rattle.lu_words.specs.Carried.{Deed, Glimpse}
-use Rattle.lu_words.specs.Words.{Entry, Send, Block, Release, Evict, Line, line, with_turn, same_life}
+use Rattle.lu_words.specs.Words.{Entry, Take, Send, Boot, Close, Block, Release, Evict, Line, line, with_turn, same_life}
 use Rattle.lu_words.specs.Concerns.{only}
 use Rattle.lu_target_rows.specs.Glimpses.{glimpses_of, glimpses_end}
 use Rattle.lu_target_rows.specs.Leaving.{commits, evicted, evictions, all_released, locks_of, last_of}
 use Rattle.lu_target_rows.specs.Lives.{is_life, with_lives, without_lives}
 use Rattle.lu_target_rows.specs.Locks.{without_lock}
 use Rattle.lu_target_rows.specs.States.{Target, after, follow, turn as turned}
+use Rattle.lu_target_rows.specs.Stored.{batch_of}
 use Rattle.lu_covered.specs.Heads.{Head}
 use Rattle.lu_covered.specs.TargetStates.{server_of, lives_of, evicted_of, shown_of}
-use Rattle.lu_guards.proofs.Guards.{In, InTurn, IsEvict, IsCommit}
-use Rattle.lu_guards.proofs.StoryGuards.{CalledBefore, EvictedBy, CommitOk, IsServing}
+use Rattle.lu_guards.proofs.Guards.{In, Took, InTurn, IsEvict, IsCommit}
+use Rattle.lu_guards.proofs.StoryGuards.{CalledBefore, TookSince, EvictedBy, CommitOk, IsServing}
 use Rattle.lu_guards.proofs.Lists.{turn, in_filter, life_is}
 use Rattle.lu_guards.proofs.LifeLists.{Distinct, life_put, life_stays, all_without, all_released_is, left_without, others_stay, in_without}
 use Rattle.lu_guards.proofs.LockLists.{Rises, in_above, rises_filter}
 use Rattle.lu_guards.proofs.TargetAlike.{Serving, Window, serving_is, window_is, window_commit, window_evict, window_release, window_send, gone_one}
 use Rattle.lu_guards.proofs.TargetGood.{Reaches, reaches_more, story_turn}
-use Rattle.lu_guards.proofs.TargetStory.{all_logged}
+use Rattle.lu_guards.proofs.TargetStory.{Story, Logged, IsFirst, numbered, all_logged, first_in, first_all, first_upto}
 use Rattle.lu_guards.proofs.Turns.{Settled, owes_nothing}
-use Rattle.lu_guards.proofs.Ends.{took_more}
 
 -- ---- what a turn took and did stays, whatever comes
 
-called_more : (l : Line) (past : List Line) (at : At) (who : Who) → CalledBefore past at who → CalledBefore (l ∷ past) at who
-called_more l past at who r = by l.entry
-  where
-    by : (e : Entry) → CalledBefore (line l.at e ∷ past) at who
-    by (Block called) = inr r
-    by e = r
+-- no close
+abbrev pub IsNoClose : Entry → Type 0
+IsNoClose (Close o) = ⊥
+IsNoClose _ = Unit {0}
 
-evicted_more : (l : Line) (past : List Line) (at : At) (who : Who) (cause : Cause) → EvictedBy past at who cause → EvictedBy (l ∷ past) at who cause
-evicted_more l past at who Expired r = (inr r.0, called_more l past at who r.1)
-evicted_more l past at who Replaced r = record { from = r.from; other = r.other; boot = r.boot; took = took_more l past at (node.Client r.from) (message.Join r.other r.boot) r.took; client = r.client; newer = r.newer }
-evicted_more l past at who cause r = absurd r
+called_more : (l : Line) (past : List Line) (at : At) (who : Who) → IsNoClose l.entry → CalledBefore past at who → CalledBefore (l ∷ past) at who
+called_more l past at who n r = by l.entry n
+  where
+    by : (e : Entry) → IsNoClose e → CalledBefore (line l.at e ∷ past) at who
+    by (Block called) n = inr r
+    by (Close o) n = absurd n
+    by e n = r
+
+since_more : (l : Line) (past : List Line) (at : At) (from : Node) (m : Message) → IsNoClose l.entry → TookSince past at from m → TookSince (l ∷ past) at from m
+since_more l past at from m n r = by l.entry n
+  where
+    by : (e : Entry) → IsNoClose e → TookSince (line l.at e ∷ past) at from m
+    by (Take number sender message) n = inr r
+    by (Close o) n = absurd n
+    by e n = r
+
+pub since_took : (past : List Line) (at : At) (from : Node) (m : Message) → TookSince past at from m → Took past at from m
+since_took [] at from m t = absurd t
+since_took (l ∷ past) at from m t = by l.entry t (since_took past at from m)
+  where
+    by : (e : Entry) → TookSince (line l.at e ∷ past) at from m → (TookSince past at from m → Took past at from m) → Took (line l.at e ∷ past) at from m
+    by (Take number sender message) (inl p) h = inl p
+    by (Take number sender message) (inr q) h = inr (h q)
+    by (Close o) t h = absurd t
+    by e t h = h t
+
+evicted_more : (l : Line) (past : List Line) (at : At) (who : Who) (cause : Cause) → IsNoClose l.entry → EvictedBy past at who cause → EvictedBy (l ∷ past) at who cause
+evicted_more l past at who Expired n r = (inr r.0, called_more l past at who n r.1)
+evicted_more l past at who Replaced n r = record { from = r.from; other = r.other; boot = r.boot; took = since_more l past at (node.Client r.from) (message.Join r.other r.boot) n r.took; client = r.client; newer = r.newer }
+evicted_more l past at who cause n r = absurd r
 
 -- ---- a commit of all goes up to the last of the log
 
@@ -55,9 +79,17 @@ last_in : (d : Deed) (deeds : List Deed) (n : ℕ) → (last : Deed) × In last 
 last_in d [] n = (d, inl refl, refl)
 last_in d (e ∷ deeds) n = let r = last_in e deeds d.reply.txn.0 in (r.0, inr r.1, r.2)
 
-pub commit_ok : (osts : ℕ) (past : List Line) (deeds : List Deed) (committed : ℕ) → ((d : Deed) → In d deeds → In d (server_of osts past).log) → committed ≡ (server_of osts past).committed.0 → IsServing osts past → CommitOk osts past (last_of deeds committed)
-commit_ok osts past [] committed logged is serves = record { serves = serves; is = inr is }
-commit_ok osts past (d ∷ deeds) committed logged is serves = let last = last_in d deeds committed in record { serves = serves; is = inl (last.0, logged last.0 last.1, last.2) }
+-- the batch has all of the log up to there
+pub commit_ok : (head : Head) (past : List Line) (at : At) (deeds : List Deed) (removed added : List Who) (committed : ℕ) → Story head past → IsFirst deeds (server_of head.osts past).log → committed ≡ (server_of head.osts past).committed.0 → IsServing head.osts past
+    → CommitOk head past at (last_of deeds committed) (batch_of deeds removed added)
+commit_ok head past at deeds removed added committed h first is serves = record { serves = serves; is = by deeds first; of_batch = inl (ap (λ (ds : List Deed). batch_of ds removed added) (sym upto)) }
+  where
+    by : (ds : List Deed) → IsFirst ds (server_of head.osts past).log → ((d : Deed) × In d (server_of head.osts past).log × (last_of ds committed ≡ d.reply.txn.0)) ⊎ (last_of ds committed ≡ (server_of head.osts past).committed.0)
+    by [] f = inr is
+    by (d ∷ ds) f = let last = last_in d ds committed in inl (last.0, first_in (d ∷ ds) (server_of head.osts past).log last.0 f last.1, last.2)
+
+    upto : filter (λ (d : Deed). not (nat_lt (last_of deeds committed) d.reply.txn.0)) (server_of head.osts past).log ≡ deeds
+    upto = first_upto committed deeds (server_of head.osts past).log (numbered (server_of head.osts past)) (subst (λ (n : ℕ). Logged n (server_of head.osts past).log (numbered (server_of head.osts past))) (sym is) h.logged) first
 
 -- ---- the releases of a life's locks
 
@@ -75,7 +107,7 @@ released_is at (l ∷ locks) v none =
 -- ---- in the middle of it
 
 -- a lock of a life that left, whose release isn't shown
-record Due (head : Head) (t : ℕ) (at : At) (lock : Lock) (story : List Line) : Type 0 where
+record Showing (head : Head) (t : ℕ) (at : At) (lock : Lock) (story : List Line) : Type 0 where
   names : t ≡ 0
   evicted : is_life lock.ask.who (evicted_of story) ≡ true
   turned : InTurn (IsEvict lock.ask.who) story at
@@ -87,7 +119,7 @@ record Due (head : Head) (t : ℕ) (at : At) (lock : Lock) (story : List Line) :
 pub record Leaving (head : Head) (t : ℕ) (at : At) (cause : Cause) (old : List Lock) (come final ended : List Who) (K : List Line → Type 0) (gone : List Who) (locks : List Lock) (v : Target) (story : List Line) : Type 0 where
   pub window : Window head t gone come v story
   pub shown : all_without locks (shown_of story) ≡ (server_of head.osts story).granted
-  due : (l : Lock) → In l locks → Due head t at l story
+  due : (l : Lock) → In l locks → Showing head t at l story
   rises : Rises locks
   names : (l : Lock) → In l (server_of head.osts story).granted → t ≡ 0
   same : (x : Who) → In x gone → locks_of x old ≡ locks_of x (server_of head.osts story).granted
@@ -100,7 +132,15 @@ pub record Leaving (head : Head) (t : ℕ) (at : At) (cause : Cause) (old : List
   pub over : with_lives gone (evicted_of story) ≡ ended
   pub carried : K story
 
-module _ (head : Head) (stamp : Stamp) (t : ℕ) (cause : Cause) (old : List Lock) (come final ended : List Who) (K : List Line → Type 0) (keeps : (l : Line) (story : List Line) → K story → K (l ∷ story)) where
+-- what lines of the turn but a boot keep
+abbrev pub IsNoBoot : Entry → Type 0
+IsNoBoot (Boot boot disk) = ⊥
+IsNoBoot _ = Unit {0}
+
+abbrev pub Carries : ℕ → Stamp → (List Line → Type 0) → Type 0
+Carries t stamp K = (e : Entry) (story : List Line) → IsNoBoot e → K story → K (line (turn stamp (node.Target t)) e ∷ story)
+
+module _ (head : Head) (stamp : Stamp) (t : ℕ) (cause : Cause) (old : List Lock) (come final ended : List Who) (K : List Line → Type 0) (keeps : Carries t stamp K) where
   abbrev at : At
   at = turn stamp (node.Target t)
 
@@ -111,7 +151,7 @@ module _ (head : Head) (stamp : Stamp) (t : ℕ) (cause : Cause) (old : List Loc
   leave_evict : (who : Who) (gone : List Who) (v : Target) (story : List Line) → Leaves (who ∷ gone) [] v story → Leaves gone (locks_of who old) v (line at (Evict who cause) ∷ story)
   leave_evict who gone v story h =
       record {
-        window = window_evict head t story stamp who cause gone come v h.window;
+        window = window_evict head t story stamp who cause gone come v (inl (h.has who (inl refl))) h.window;
         shown = ap (all_without (locks_of who old)) h.shown ∙ ap (λ (ls : List Lock). all_without ls granted) mine ∙ all_released_is who granted h.window.story.rises;
         due = λ l i. due_of l (in_filter (λ (x : Lock). same_life x.ask.who who) l granted (subst (λ (ls : List Lock). In l ls) mine i));
         rises = subst Rises (sym mine) (rises_filter (λ (x : Lock). same_life x.ask.who who) granted h.window.story.rises);
@@ -121,10 +161,10 @@ module _ (head : Head) (stamp : Stamp) (t : ℕ) (cause : Cause) (old : List Loc
         distinct = h.distinct.1;
         commits = inr h.commits;
         logged = h.logged;
-        caused = λ x i. evicted_more (line at (Evict who cause)) story at x cause (h.caused x (inr i));
+        caused = λ x i. evicted_more (line at (Evict who cause)) story at x cause tt (h.caused x (inr i));
         left = sym (gone_one (λ (w : Who). w) who gone (lives_of head.clients story)) ∙ h.left;
         over = h.over;
-        carried = keeps (line at (Evict who cause)) story h.carried;
+        carried = keeps (Evict who cause) story tt h.carried;
       }
     where
       granted : List Lock
@@ -133,7 +173,7 @@ module _ (head : Head) (stamp : Stamp) (t : ℕ) (cause : Cause) (old : List Loc
       mine : locks_of who old ≡ locks_of who granted
       mine = h.same who (inl refl)
 
-      due_of : (l : Lock) → In l granted × (same_life l.ask.who who ≡ true) → Due head t at l (line at (Evict who cause) ∷ story)
+      due_of : (l : Lock) → In l granted × (same_life l.ask.who who ≡ true) → Showing head t at l (line at (Evict who cause) ∷ story)
       due_of l p =
           let own : l.ask.who ≡ who = life_is l.ask.who who p.1 in
           record {
@@ -158,10 +198,10 @@ module _ (head : Head) (stamp : Stamp) (t : ℕ) (cause : Cause) (old : List Loc
         distinct = h.distinct;
         commits = inr h.commits;
         logged = h.logged;
-        caused = λ x i. evicted_more (line at (Send to m)) story at x cause (h.caused x i);
+        caused = λ x i. evicted_more (line at (Send to m)) story at x cause tt (h.caused x i);
         left = h.left;
         over = h.over;
-        carried = keeps (line at (Send to m)) story h.carried;
+        carried = keeps (Send to m) story tt h.carried;
       }
 
   -- a lock is released
@@ -178,10 +218,10 @@ module _ (head : Head) (stamp : Stamp) (t : ℕ) (cause : Cause) (old : List Loc
         distinct = h.distinct;
         commits = inr h.commits;
         logged = h.logged;
-        caused = λ x i. evicted_more (line at (Release lock)) story at x cause (h.caused x i);
+        caused = λ x i. evicted_more (line at (Release lock)) story at x cause tt (h.caused x i);
         left = h.left;
         over = h.over;
-        carried = keeps (line at (Release lock)) story h.carried;
+        carried = keeps (Release lock) story tt h.carried;
       }
     where
       granted : List Lock
@@ -190,7 +230,7 @@ module _ (head : Head) (stamp : Stamp) (t : ℕ) (cause : Cause) (old : List Loc
       still : without_lock lock granted ≡ granted
       still = (h.due lock (inl refl)).still
 
-      later : (k : Lock) → In k locks → Due head t at k story → Due head t at k (line at (Release lock) ∷ story)
+      later : (k : Lock) → In k locks → Showing head t at k story → Showing head t at k (line at (Release lock) ∷ story)
       later k i d =
           record {
             names = d.names;
@@ -230,13 +270,13 @@ module _ (head : Head) (stamp : Stamp) (t : ℕ) (cause : Cause) (old : List Loc
           (
             owes_nothing past at (Evict who cause) settled,
             tt,
-            record { serves = window_is head t (who ∷ gone) come v story h.window; has = h.has who (inl refl); commits = h.commits; logged = h.logged; caused = h.caused who (inl refl) },
+            inl (record { serves = window_is head t (who ∷ gone) come v story h.window; has = h.has who (inl refl); commits = h.commits; logged = h.logged; caused = h.caused who (inl refl) }),
           ),
           (
             (
               tt,
               tt,
-              record { to = refl; of_boot = h.window.boot ∙ sym h.window.story.first; cause = inl (life_put who (evicted_of story)) },
+              record { to = refl; of_boot = h.window.boot; cause = inl (life_put who (evicted_of story)) },
             ),
             more.0,
           ),
@@ -254,15 +294,15 @@ module _ (head : Head) (stamp : Stamp) (t : ℕ) (cause : Cause) (old : List Loc
 
 -- ---- from the commit on
 
-pub leave_start : (head : Head) (stamp : Stamp) (t : ℕ) (cause : Cause) (gone come : List Who) (K : List Line → Type 0) → ((l : Line) (story : List Line) → K story → K (l ∷ story)) → (story : List Line) (v : Target) → Serving head t v story
+pub leave_start : (head : Head) (stamp : Stamp) (t : ℕ) (cause : Cause) (gone come : List Who) (K : List Line → Type 0) → Carries t stamp K → (story : List Line) (v : Target) → Serving head t v story
     → ((l : Lock) → In l (server_of head.osts story).granted → t ≡ 0) → ((x : Who) → In x gone → is_life x (lives_of head.clients story) ≡ true) → Distinct gone → ((x : Who) → In x gone → EvictedBy story (turn stamp (node.Target t)) x cause) → K story
     → Leaving head t (turn stamp (node.Target t)) cause v.granted come (without_lives gone (lives_of head.clients story)) (with_lives gone (evicted_of story)) K gone [] (after v (commits v v.log gone come)) (line (turn stamp (node.Target t)) (commits v v.log gone come) ∷ story)
 leave_start head stamp t cause gone come K keeps story v h names has distinct caused carried =
     let at : At = turn stamp (node.Target t) in
     let e : Entry = commits v v.log gone come in
-    let logged : (d : Deed) → In d v.log → In d (server_of head.osts story).log = λ d i. subst (λ (log : List Deed). In d log) h.alike.log i in
+    let first : IsFirst v.log (server_of head.osts story).log = subst (IsFirst v.log) h.alike.log (first_all v.log) in
     record {
-      window = window_commit head t story stamp v.log gone come v logged (commit_ok head.osts story v.log v.committed logged h.alike.committed (serving_is head t v story h)) h;
+      window = window_commit head t story stamp v.log gone come v (λ d i. first_in v.log (server_of head.osts story).log d first i) (commit_ok head story at v.log gone come v.committed h.story first h.alike.committed (serving_is head t v story h)) h;
       shown = h.shown;
       due = λ l i. absurd i;
       rises = tt;
@@ -273,9 +313,10 @@ leave_start head stamp t cause gone come K keeps story v h names has distinct ca
       commits = inl (refl, tt);
       logged =
           subst (λ (log : List Deed). filter (λ (d : Deed). nat_lt (last_of log v.committed) d.reply.txn.0) (server_of head.osts story).log ≡ []) (sym h.alike.log)
-          (all_logged (server_of head.osts story).log v.committed (4294967296 + (server_of head.osts story).count) h.story.logged);
-      caused = λ x i. evicted_more (line at e) story at x cause (caused x i);
+          (subst (λ (n : ℕ). filter (λ (d : Deed). nat_lt (last_of (server_of head.osts story).log n) d.reply.txn.0) (server_of head.osts story).log ≡ []) (sym h.alike.committed)
+          (all_logged (server_of head.osts story).log (server_of head.osts story).committed.0 (numbered (server_of head.osts story)) h.story.logged));
+      caused = λ x i. evicted_more (line at e) story at x cause tt (caused x i);
       left = refl;
       over = refl;
-      carried = keeps (line at e) story carried;
+      carried = keeps e story tt carried;
     }

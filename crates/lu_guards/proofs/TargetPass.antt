@@ -21,6 +21,7 @@ use Rattle.lu_words.specs.Words.{Entry, Take, Act, Txn, Grant, Block, Line, line
 use Rattle.lu_words.specs.Concerns.{only}
 use Rattle.lu_target_rows.specs.Names as rows
 use Rattle.lu_target_rows.specs.Names.{does_change, guards_part, in_way, is_free, is_read, is_ready, grant_lines, names_deed, names_go, row_acts, row_transacts, row_executes, row_waits, row_pass, row_sweep}
+use Rattle.lu_target_rows.specs.Phase.{greatest_cookie}
 use Rattle.lu_target_rows.specs.Replies as kept
 use Rattle.lu_target_rows.specs.Replies.{blocks, block_of, called, is_called, replies}
 use Rattle.lu_target_rows.specs.States.{Target, after, follow, turn as turned}
@@ -31,7 +32,7 @@ use Rattle.lu_covered.specs.TargetStates.{Server, none, next_number, server_of, 
 use Rattle.lu_guards.proofs.Guards.{In, Did, Shows, AllShown, Taken, Owes}
 use Rattle.lu_guards.proofs.StoryGuards.{GrantOk, IsServing}
 use Rattle.lu_guards.proofs.Lists.{turn, in_filter}
-use Rattle.lu_guards.proofs.LockLists.{Rises, in_above, rises_filter, granted_stands, stands_same, greatest_same, called_beside, called_now, filter_twice}
+use Rattle.lu_guards.proofs.LockLists.{Rises, in_above, rises_filter, granted_stands, stands_same, greatest_least, greatest_same, called_beside, called_now, filter_twice}
 use Rattle.lu_guards.proofs.TargetAlike.{Alike, Serving, AllPlain, serving_is}
 use Rattle.lu_guards.proofs.TargetGood.{GoodAt, Reaches, serves_lines, reaches_more, turned_more}
 use Rattle.lu_guards.proofs.TargetSlots.{is_slot_self}
@@ -41,10 +42,10 @@ use Rattle.lu_guards.proofs.Turns.{Settled, owes_nothing}
 
 module _ (osts t : ℕ) (v : Target) (s : Server) (h : Alike osts t v s) where
   next_same : kept.next_number v ≡ next_number s
-  next_same = ap (λ (n : ℕ). record { 0 = n }) (rw (h.number, h.first) (omega arith))
+  next_same = ap (λ (n : ℕ). record { 0 = n }) (let is = h.number in omega (arith, is))
 
   deed_same : (at : At) (r : RequestOf) (number : TxnOf) (locks : List Lock) → names_deed v at r number locks ≡ deed osts s at r number locks
-  deed_same at r number locks = rw (h.osts, h.tree, h.log, h.boot, h.first, h.committed) refl
+  deed_same at r number locks = rw (h.osts, h.tree, h.log, h.boot, h.committed) refl
 
   locks_same : (r : RequestOf) → rows.locks_for v r ≡ locks_of osts s r
   locks_same r = rw (h.osts, h.tree, h.cookie) refl
@@ -115,9 +116,9 @@ module _ (head : Head) (stamp : Stamp) where
 
   -- ---- what was done is answered
 
-  reply_good : (past : List Line) (d : Deed) → IsServing head.osts (only 0 past) → Owes past here (replies d) → Did past d → NotTaken past → AllShown past → (slot_of d.reply.who d.tag (only 0 past)).reply ≡ Some d.reply → d.reply ≡ again (server past) d.reply
+  reply_good : (past : List Line) (d : Deed) → IsServing head.osts (only 0 past) → Owes past here (replies d) → Did past d → Did (only 0 past) d → NotTaken past → AllShown past → (slot_of d.reply.who d.tag (only 0 past)).reply ≡ Some d.reply → d.reply ≡ again (server past) d.reply
       → Good past (replies d ∷ [])
-  reply_good past d serves owes did new shown slot is = (
+  reply_good past d serves owes did own new shown slot is = (
     (
       owes,
       (
@@ -126,7 +127,7 @@ module _ (head : Head) (stamp : Stamp) where
         (λ taken. absurd (not_taken past new taken)),
         shown,
       ),
-      record { serves = serves; who = d.reply.who; tag = d.tag; kept = d.reply; slot = slot; is = is; to = refl },
+      record { serves = serves; who = d.reply.who; tag = d.tag; kept = d.reply; slot = slot; is = is; to = refl; cause = inl (d, own, refl) },
     ),
     tt,
   )
@@ -141,7 +142,7 @@ module _ (head : Head) (stamp : Stamp) where
       let s = server past in
       let d = deed head.osts s here r (next_number s) [] in (
         (owes_nothing past here (Txn d) settled, refl, record { serves = serves; numbers = numbers; request = r; waits = waits; moves = moves; free = free; is = refl }),
-        reply_good (line here (Txn d) ∷ past) d serves (refl, refl) refl tt
+        reply_good (line here (Txn d) ∷ past) d serves (refl, refl) refl refl tt
             (λ e did lock i. absurd (subst (λ (x : Deed). In lock x.reply.locks) (sym did) i))
             (slot_answered d (slot_of r.who r.tag (only 0 past)))
             refl,
@@ -166,6 +167,10 @@ module _ (head : Head) (stamp : Stamp) where
     shown_did : (locks : List Lock) (past : List Line) → Did past d → Did (with_turn here (grant_lines d locks) past) d
     shown_did [] past did = did
     shown_did (l ∷ locks) past did = shown_did locks (line here (Grant l (Some d)) ∷ past) did
+
+    shown_own : (locks : List Lock) (past : List Line) → Did (only 0 past) d → Did (only 0 (with_turn here (grant_lines d locks) past)) d
+    shown_own [] past did = did
+    shown_own (l ∷ locks) past did = shown_own locks (line here (Grant l (Some d)) ∷ past) did
 
     shown_is : (e : Deed) (locks : List Lock) (past : List Line) → (Did past e → d ≡ e) → Did (with_turn here (grant_lines d locks) past) e → d ≡ e
     shown_is e [] past is did = is did
@@ -198,14 +203,15 @@ module _ (head : Head) (stamp : Stamp) where
     shown_again [] past is = is
     shown_again (l ∷ locks) past is = shown_again locks (line here (Grant l (Some d)) ∷ past) is
 
-  acts_good : (past : List Line) (r : RequestOf) → IsServing head.osts (only 0 past) → Settled past → In r (server past).waiting → changes head.osts (server past).tree (asked r none) ≡ false
+  acts_good : (past : List Line) (r : RequestOf) → IsServing head.osts (only 0 past) → Settled past → In r (server past).waiting → changes head.osts (server past).tree (asked r none) ≡ false → greatest_cookie (server past).cookie (locks_of head.osts (server past) r) ≤ (server past).boot * 4294967296 + 4294967295
       → Good past (row_acts (deed head.osts (server past) here r none (locks_of head.osts (server past) r)))
-  acts_good past r serves settled waits still = (
-    (owes_nothing past here (Act d) settled, refl, record { serves = serves; request = r; waits = waits; still = still; is = refl }),
+  acts_good past r serves settled waits still room = (
+    (owes_nothing past here (Act d) settled, refl, record { serves = serves; room = room; request = r; waits = waits; still = still; is = refl }),
     grants_good d d.reply.locks done (replies d ∷ []) refl (λ l. refl) grant_ok (
         reply_good (with_turn here (grant_lines d d.reply.locks) done) d (shown_serves d d.reply.locks done serves)
         (shown_owes d (replies d) d.reply.locks done (refl, refl))
         (shown_did d d.reply.locks done refl)
+        (shown_own d d.reply.locks done refl)
         (shown_new d d.reply.locks done tt)
         (λ e did lock i. shown_all d lock d.reply.locks done (inl (subst (λ (x : Deed). In lock x.reply.locks) (sym (shown_is d e d.reply.locks done (λ q. q) did)) i)))
         (shown_slot d d.reply.locks done (slot_answered d (slot_of r.who r.tag (only 0 past))))
@@ -235,9 +241,10 @@ module _ (head : Head) (stamp : Stamp) where
 
   -- ---- an execution
 
-  executes_good : (past : List Line) (v : Target) (r : RequestOf) (stood : Bool) → Settled past → ServesAt v past → In r v.queue → is_ready v stood r ≡ true → (does_change v r ≡ true → v.number < 8589934591)
+  executes_good : (past : List Line) (v : Target) (r : RequestOf) (stood : Bool) → Settled past → ServesAt v past → In r v.queue → is_ready v stood r ≡ true → (does_change v r ≡ true → v.number < v.boot * 4294967296 + 4294967295)
+      → (does_change v r ≡ false → greatest_cookie v.cookie (rows.locks_for v r) ≤ v.boot * 4294967296 + 4294967295)
       → Good past (row_executes v here r (does_change v r))
-  executes_good past v r stood settled h waits ready numbers = by (does_change v r) refl
+  executes_good past v r stood settled h waits ready numbers room = by (does_change v r) refl
     where
       s : Server
       s = server past
@@ -253,11 +260,12 @@ module _ (head : Head) (stamp : Stamp) where
           subst (λ (es : List Entry). Good past es) (sym (transacts_same head.osts 0 v s a here r)) (
           transacts_good past r (serving_is head 0 v (only 0 past) h) settled in_waiting (sym (change_same head.osts 0 v s a r) ∙ e)
           (subst (λ (ls : List Lock). is_free ls ≡ true) (way_same head.osts 0 v s a r) (ready_free v stood r ready e))
-          (let low = numbers e in let is = a.number in omega (arith, low, is))
+          (let low = numbers e in let is = a.number in let boot = a.boot in omega (arith, low, is, boot))
           )
       by false e =
           subst (λ (es : List Entry). Good past es) (sym (acts_same head.osts 0 v s a here r)) (
           acts_good past r (serving_is head 0 v (only 0 past) h) settled in_waiting (sym (change_same head.osts 0 v s a r) ∙ e)
+          (let top = room e in let boot = a.boot in let same : greatest_cookie v.cookie (rows.locks_for v r) ≡ greatest_cookie s.cookie (locks_of head.osts s r) = ap (λ (n : ℕ). greatest_cookie n (rows.locks_for v r)) a.cookie ∙ ap (greatest_cookie s.cookie) (locks_same head.osts 0 v s a r) in omega (arith, top, boot, same))
           )
 
   -- ---- locks are called back
@@ -317,7 +325,7 @@ module _ (head : Head) (stamp : Stamp) where
       cond_both (is_read r.op) [] (blocks v (in_way v.granted (rows.written_by v r))) (λ (es : List Entry). Good past es)
       (λ e. settled)
       (λ e.
-      blocks_good v r (in_way v.granted (rows.written_by v r)) past (serving_is head 0 v (only 0 past) h) settled (a.boot ∙ sym a.first) (rises_filter way v.granted (subst Rises (sym a.granted) a.rises))
+      blocks_good v r (in_way v.granted (rows.written_by v r)) past (serving_is head 0 v (only 0 past) h) settled a.boot (rises_filter way v.granted (subst Rises (sym a.granted) a.rises))
       (λ l i. subst (λ (ls : List Lock). In l ls) a.granted (in_filter way l v.granted i).0)
       (λ l i. ap (is_called l.cookie) a.called)
       (subst (λ (rs : List RequestOf). In r rs) a.queue waits)
@@ -333,10 +341,10 @@ module _ (head : Head) (stamp : Stamp) where
 -- ---- what the lines of a pass leave: the list of requests while locks are called back, numbers, and the boot
 
 abbrev Leaves : Target → Target → Type 0
-Leaves v w = (w.queue ≡ v.queue) × (w.number ≡ v.number) × (w.boot ≡ v.boot)
+Leaves v w = (w.queue ≡ v.queue) × (w.number ≡ v.number) × (w.boot ≡ v.boot) × (w.cookie ≡ v.cookie)
 
 blocks_leave : (v : Target) (locks : List Lock) (w : Target) → Leaves w (turned w (blocks v locks))
-blocks_leave v [] w = (refl, refl, refl)
+blocks_leave v [] w = (refl, refl, refl, refl)
 blocks_leave v (l ∷ locks) w =
     cond_both (is_called l.cookie v.called) (blocks v locks) (Block (called v l) ∷ block_of v l ∷ blocks v locks) (λ (es : List Entry). Leaves w (turned w es))
     (λ e. blocks_leave v locks w)
@@ -344,55 +352,65 @@ blocks_leave v (l ∷ locks) w =
 
 waits_leave : (v : Target) (r : RequestOf) → Leaves v (turned v (row_waits v r))
 waits_leave v r =
-    cond_both (is_read r.op) [] (blocks v (in_way v.granted (rows.written_by v r))) (λ (es : List Entry). Leaves v (turned v es)) (λ e. (refl, refl, refl)) (λ e. blocks_leave v (in_way v.granted (rows.written_by v r)) v)
+    cond_both (is_read r.op) [] (blocks v (in_way v.granted (rows.written_by v r))) (λ (es : List Entry). Leaves v (turned v es)) (λ e. (refl, refl, refl, refl)) (λ e. blocks_leave v (in_way v.granted (rows.written_by v r)) v)
 
-grants_number : (d : Deed) (locks : List Lock) (v : Target) → ((turned v (grant_lines d locks)).number ≡ v.number) × ((turned v (grant_lines d locks)).boot ≡ v.boot)
-grants_number d [] v = (refl, refl)
-grants_number d (l ∷ locks) v = grants_number d locks (after v (Grant l (Some d)))
+grants_number : (d : Deed) (locks : List Lock) (v : Target) → ((turned v (grant_lines d locks)).number ≡ v.number) × ((turned v (grant_lines d locks)).boot ≡ v.boot) × (v.cookie ≤ (turned v (grant_lines d locks)).cookie)
+grants_number d [] v = (refl, refl, omega arith)
+grants_number d (l ∷ locks) v =
+    let more = grants_number d locks (after v (Grant l (Some d))) in
+    let up = more.2 in
+    (more.0, more.1, omega (arith, up))
 
 executes_number : (at : At) (v : Target) (r : RequestOf) (b : Bool) → ((turned v (row_executes v at r b)).number ≡ (if b then v.number + 1 else v.number)) × ((turned v (row_executes v at r b)).boot ≡ v.boot)
-executes_number at v r true = (refl, refl)
+    × ((if b then v.cookie else greatest_cookie v.cookie (rows.locks_for v r)) ≤ (turned v (row_executes v at r b)).cookie)
+executes_number at v r true = (refl, refl, omega arith)
 executes_number at v r false =
     let d = names_deed v at r none (rows.locks_for v r) in
     let more = turned_more (grant_lines d d.reply.locks) (replies d ∷ []) (after v (Act d)) in
     let left = grants_number d d.reply.locks (after v (Act d)) in (
       ap (λ (w : Target). w.number) more ∙ left.0,
       ap (λ (w : Target). w.boot) more ∙ left.1,
+      subst (λ (w : Target). greatest_cookie v.cookie (rows.locks_for v r) ≤ w.cookie) (sym more) left.2,
     )
 
 abbrev Raised : Target → Target → Type 0
-Raised v w = (v.number ≤ w.number) × (w.boot ≡ v.boot)
+Raised v w = (v.number ≤ w.number) × (v.cookie ≤ w.cookie) × (w.boot ≡ v.boot)
 
 abbrev Raises : (Target → List Entry) → Type 0
 Raises next = (w : Target) → Raised w (turned w (next w))
 
 follow_raises : (v : Target) (es : List Entry) (next : Target → List Entry) → Raised v (turned v es) → Raised (turned v es) (turned (turned v es) (next (turned v es))) → Raised v (turned v (follow v es next))
 follow_raises v es next one two =
-    subst (Raised v) (sym (turned_more es (next (turned v es)) v)) (let a = one.0 in let b = two.0 in (omega (arith, a, b), two.1 ∙ one.1))
+    subst (Raised v) (sym (turned_more es (next (turned v es)) v)) (let a = one.0 in let b = two.0 in let c = one.1 in let d = two.1 in (omega (arith, a, b), omega (arith, c, d), two.2 ∙ one.2))
 
 pass_raises : (again : Target → List Entry) → Raises again → (at : At) (queue : List RequestOf) (v : Target) (stood : Bool) → Raised v (turned v (row_pass again v at stood queue))
-pass_raises again raises at [] v stood = (omega arith, refl)
+pass_raises again raises at [] v stood = (omega arith, omega arith, refl)
 pass_raises again raises at (r ∷ queue) v stood =
     let es = row_executes v at r (does_change v r) in
     let bs = row_waits v r in
     let next = λ (w : Target). row_pass again w at (stood || not (is_read r.op)) queue in
     cond_both (is_ready v stood r) (follow v es again) (follow v bs next) (λ (fs : List Entry). Raised v (turned v fs))
     (λ e. follow_raises v es again (executed (does_change v r)) (raises (turned v es)))
-    (λ e. follow_raises v bs next (let same = (waits_leave v r).1 in (omega (arith, same), (waits_leave v r).2)) (pass_raises again raises at queue (turned v bs) (stood || not (is_read r.op))))
+    (λ e. follow_raises v bs next (let leaves = waits_leave v r in let same = leaves.1 in let kept = leaves.3 in (omega (arith, same), omega (arith, kept), leaves.2)) (pass_raises again raises at queue (turned v bs) (stood || not (is_read r.op))))
   where
     executed : (b : Bool) → Raised v (turned v (row_executes v at r b))
-    executed true = let is = (executes_number at v r true).0 in (omega (arith, is), (executes_number at v r true).1)
-    executed false = let is = (executes_number at v r false).0 in (omega (arith, is), (executes_number at v r false).1)
+    executed true = let is = executes_number at v r true in let number = is.0 in let cookie = is.2 in (omega (arith, number), omega (arith, cookie), is.1)
+    executed false =
+        let is = executes_number at v r false in
+        let number = is.0 in
+        let cookie = is.2 in
+        let least = greatest_least v.cookie (rows.locks_for v r) in
+        (omega (arith, number), omega (arith, cookie, least), is.1)
 
 sweep_raises : (more : ℕ) (at : At) → Raises (row_sweep more at)
-sweep_raises zero at w = (omega arith, refl)
+sweep_raises zero at w = (omega arith, omega arith, refl)
 sweep_raises (suc more) at w = pass_raises (row_sweep more at) (sweep_raises more at) at w.queue w false
 
 -- ---- the pass, and the sweep
 
--- a boot's numbers aren't used up
+-- a boot's numbers and cookies aren't used up
 abbrev pub HighAt : Target → Type 0
-HighAt v = v.number ≤ v.boot * 4294967296 + 4294967295
+HighAt v = (v.number ≤ v.boot * 4294967296 + 4294967295) × (v.cookie ≤ v.boot * 4294967296 + 4294967295)
 
 -- by a turn
 abbrev pub High : Target → List Entry → Type 0
@@ -425,11 +443,11 @@ module _ (head : Head) (stamp : Stamp) where
   abbrev Goes : (Target → List Entry) → Type 0
   Goes next = (past story : List Line) (v : Target) → story ≡ only 0 past → Settled past → Serving head 0 v story → High v (next v) → Leads past story v (next v)
 
-  executes_leads : (past story : List Line) (v : Target) (r : RequestOf) (stood : Bool) → story ≡ only 0 past → Settled past → Serving head 0 v story → In r v.queue → is_ready v stood r ≡ true → (does_change v r ≡ true → v.number < 8589934591)
-      → Leads past story v (row_executes v at r (does_change v r))
-  executes_leads past story v r stood is settled h waits ready numbers =
+  executes_leads : (past story : List Line) (v : Target) (r : RequestOf) (stood : Bool) → story ≡ only 0 past → Settled past → Serving head 0 v story → In r v.queue → is_ready v stood r ≡ true → (does_change v r ≡ true → v.number < v.boot * 4294967296 + 4294967295)
+      → (does_change v r ≡ false → greatest_cookie v.cookie (rows.locks_for v r) ≤ v.boot * 4294967296 + 4294967295) → Leads past story v (row_executes v at r (does_change v r))
+  executes_leads past story v r stood is settled h waits ready numbers room =
       let own = subst (λ (p : List Line). Serving head 0 v p) is h in
-      let done = executes_good head stamp past v r stood settled own waits ready numbers in
+      let done = executes_good head stamp past v r stood settled own waits ready numbers room in
       subst (λ (p : List Line). Leads past p v (row_executes v at r (does_change v r))) (sym is) (done, serves_lines head stamp 0 (row_executes v at r (does_change v r)) past (only 0 past) v (plain_executes v at r (does_change v r)) done own)
 
   waits_leads : (past story : List Line) (v : Target) (r : RequestOf) → story ≡ only 0 past → Settled past → Serving head 0 v story → In r v.queue → Leads past story v (row_waits v r)
@@ -456,27 +474,37 @@ module _ (head : Head) (stamp : Stamp) where
       waiting : In r v.queue
       waiting = sub r (inl refl)
 
-      first : v.boot ≡ 1
-      first = h.alike.boot
-
       More : Type 0
       More = (w : Target) (p q : List Line) → q ≡ only 0 p → Settled p → Serving head 0 w q → ((x : RequestOf) → In x queue → In x w.queue) → High w (next w) → Leads p q w (next w)
 
-      -- a transaction's number is at most that at the end
-      low : High (turned v es) (again (turned v es)) → does_change v r ≡ true → v.number < 8589934591
-      low high e =
-          let one : (turned v es).number ≡ v.number + 1 = ap (λ (b : Bool). (turned v (row_executes v at r b)).number) e in
-          let two = raises (turned v es) in
-          let up = two.0 in
-          let boot : (turned (turned v es) (again (turned v es))).boot ≡ 1 = two.1 ∙ (executes_number at v r (does_change v r)).1 ∙ first in
-          let top : (turned (turned v es) (again (turned v es))).number ≤ 1 * 4294967296 + 4294967295 = subst (λ (n : ℕ). (turned (turned v es) (again (turned v es))).number ≤ n * 4294967296 + 4294967295) boot high in
-          omega (arith, top, one, up)
+      -- the numbers at the end are of the same boot
+      end : (e : Bool) → HighAt (turned (turned v (row_executes v at r e)) (again (turned v (row_executes v at r e)))) → (turned (turned v (row_executes v at r e)) (again (turned v (row_executes v at r e)))).boot ≡ v.boot
+      end e high = let two = raises (turned v (row_executes v at r e)) in two.2 ∙ (executes_number at v r e).1
+
+      -- a transaction's number is at most that at the end, and so is a cookie
+      low : (e : Bool) → HighAt (turned (turned v (row_executes v at r e)) (again (turned v (row_executes v at r e)))) → e ≡ true → v.number < v.boot * 4294967296 + 4294967295
+      low true high is =
+          let one = (executes_number at v r true).0 in
+          let up = (raises (turned v (row_executes v at r true))).0 in
+          let boot = end true high in
+          let top = high.0 in
+          omega (arith, top, one, up, boot)
+      low false high is = absurd (cc)
+
+      room : (e : Bool) → HighAt (turned (turned v (row_executes v at r e)) (again (turned v (row_executes v at r e)))) → e ≡ false → greatest_cookie v.cookie (rows.locks_for v r) ≤ v.boot * 4294967296 + 4294967295
+      room true high is = absurd (cc)
+      room false high is =
+          let one = (executes_number at v r false).2 in
+          let up = (raises (turned v (row_executes v at r false))).1 in
+          let boot = end false high in
+          let top = high.1 in
+          omega (arith, top, one, up, boot)
 
       by : (b : Bool) → is_ready v stood r ≡ b → High v (if b then follow v es again else follow v bs next) → More → Leads past story v (if b then follow v es again else follow v bs next)
       by true ready high more =
           let rest : High (turned v es) (again (turned v es)) = subst HighAt (turned_more es (again (turned v es)) v) high in
           reaches_more head stamp 0 (Serving head 0) (Serving head 0) es again past story v is
-          (executes_leads past story v r stood is settled h waiting ready (low rest))
+          (executes_leads past story v r stood is settled h waiting ready (low (does_change v r) rest) (room (does_change v r) rest))
           (λ e s k. goes (with_turn at es past) (with_turn at es story) (turned v es) e s k rest)
       by false ready high more =
           let rest : High (turned v bs) (next (turned v bs)) = subst HighAt (turned_more bs (next (turned v bs)) v) high in

@@ -18,7 +18,7 @@ use Rattle.lu_guards.proofs.LifeLists.{any_lives}
 pub is_slot_self : (who : Who) (tag : ℕ) → is_slot who tag who tag ≡ true
 is_slot_self who tag = rw (self who.client, self who.life, self tag) refl
 
-slot_who : (who other : Who) (tag of_tag : ℕ) → is_slot who tag other of_tag ≡ true → (who ≡ other) × (tag ≡ of_tag)
+pub slot_who : (who other : Who) (tag of_tag : ℕ) → is_slot who tag other of_tag ≡ true → (who ≡ other) × (tag ≡ of_tag)
 slot_who who other tag of_tag e =
     let p = and_parts (same_life who other) (nat_eq tag of_tag) e in (life_is who other p.0, eqb-true tag of_tag p.1)
 
@@ -30,7 +30,7 @@ differ who other tag of_tag p q = let k = slot_who who other tag of_tag p in not
 
 -- ---- what stands in a slot once it was put there
 
-slot_with : (who : Who) (tag : ℕ) (x : Slot) (slots : List LifeSlot) (w : Who) (u : ℕ) → slot_in (with_slot who tag x slots) w u ≡ (if is_slot who tag w u then x else slot_in slots w u)
+pub slot_with : (who : Who) (tag : ℕ) (x : Slot) (slots : List LifeSlot) (w : Who) (u : ℕ) → slot_in (with_slot who tag x slots) w u ≡ (if is_slot who tag w u then x else slot_in slots w u)
 slot_with who tag x [] w u = refl
 slot_with who tag x (s ∷ slots) w u = by (is_slot s.who s.tag who tag) (is_slot s.who s.tag w u) (is_slot who tag w u) refl refl refl (slot_with who tag x slots w u)
   where
@@ -104,7 +104,7 @@ slots_again slots removed past d stands h who tag live = slots_answer slots past
         ap (λ (x : Option ReplyTo). with_reply x (slot_of who tag past)) (sym own)
 
 -- the slots of lives that leave go
-slot_left : (gone : List Who) (slots : List LifeSlot) (who : Who) (tag : ℕ) → is_life who gone ≡ false → slot_in (slots_without gone slots) who tag ≡ slot_in slots who tag
+pub slot_left : (gone : List Who) (slots : List LifeSlot) (who : Who) (tag : ℕ) → is_life who gone ≡ false → slot_in (slots_without gone slots) who tag ≡ slot_in slots who tag
 slot_left gone [] who tag live = refl
 slot_left gone (s ∷ slots) who tag live = by (is_life s.who gone) refl (slot_left gone slots who tag live)
   where

@@ -1,10 +1,10 @@
--- What holds in the story of one target after every line that the guards allow, until it is booted again: what is granted, called back
--- and waits is of lives that have a slot, one of each client, none of which was evicted; and the log stands in rising number, all of it
--- above what is committed.
-use Rattle.std.proofs.Common.{◌≡◌, ℕ, ◌+◌, ◌<◌, ◌≤◌, Bool, true, false, List, [], ◌∷◌, ◌++◌, Some, None, ◌⊎◌, inl, inr, ⊎_elim, refl, sym, subst, ap, ◌∙◌, arith}
+-- What holds in the story of one target after every line that the guards allow, but for a close: what is granted, called back and waits
+-- is of lives that have a slot, one of each client, each newer than all of its client that were evicted; and the log stands in rising
+-- number, all of it above what is committed.
+use Rattle.std.proofs.Common.{◌≡◌, ℕ, ◌+◌, ◌*◌, ◌<◌, ◌≤◌, Bool, true, false, List, [], ◌∷◌, ◌++◌, None, ◌⊎◌, inl, inr, ⊎_elim, refl, sym, subst, ap, ◌∙◌, arith}
 use Rattle.std.specs.Prelude.{nat_eq, nat_lt, ◌||◌, not, if◌then◌else◌}
 use Rattle.std.specs.List.{filter, list_any}
-use Rattle.std.proofs.lemmas.Bool.{cond_both, cond-false, ltb-true}
+use Rattle.std.proofs.lemmas.Bool.{cond_both, cond-true, cond-false, ltb-true, lt-ltb}
 use Rattle.std.proofs.lemmas.Bool.Decides.{nat_tests}
 use Rattle.lu_base.specs.declared.ids.Node.TheVariants as node
 use Rattle.lu_base.specs.declared.ids.Stamp.{Stamp}
@@ -16,20 +16,20 @@ use Rattle.lu_msg.specs.declared.commits.Batch.{Batch}
 use Rattle.lu_msg.specs.declared.messages.Request.{Request as RequestOf}
 use Rattle.lu_part.specs.declared.parts.Want.{Want}
 use Rattle.lu_machine.specs.Footprint.{grants}
-use Rattle.lu_words.specs.Carried.{Deed, Called}
-use Rattle.lu_words.specs.Words.{Entry, Send, Take, Tick, Skip, Act, Txn, Grant, Block, Release, Commit, Crash, Boot, Back, Enters, Evict, Joined, Stores, Brings, Says, Wishes, Line, line, same_life}
+use Rattle.lu_words.specs.Carried.{Deed, Called, Disk}
+use Rattle.lu_words.specs.Words.{Entry, Act, Txn, Block, Release, Commit, Boot, Close, Enters, Evict, Joined, Line, line, same_life}
 use Rattle.lu_target_rows.specs.Leaving.{is_over, last_of, life_of as life_in}
 use Rattle.lu_target_rows.specs.Lives.{is_life, with_life, without_lives}
 use Rattle.lu_target_rows.specs.Locks.{with_lock, with_locks}
 use Rattle.lu_target_rows.specs.Names.{locks_from}
 use Rattle.lu_covered.specs.Deeds.{asked}
 use Rattle.lu_covered.specs.Heads.{Head}
-use Rattle.lu_covered.specs.TargetParts.{is_request_of}
-use Rattle.lu_covered.specs.TargetStates.{Server, none, next_number, server_of, lives_of, evicted_of}
+use Rattle.lu_covered.specs.TargetParts.{is_request_of, lives_after, evicted_after}
+use Rattle.lu_covered.specs.TargetStates.{Server, none, next_number, server_of, server_after, lives_of, evicted_of}
 use Rattle.lu_guards.proofs.Guards.{In}
 use Rattle.lu_guards.proofs.StoryGuards.{EntryOf, CommitOk}
-use Rattle.lu_guards.proofs.Lists.{turn, in_append, in_filter, life_is, or_neither, same_who}
-use Rattle.lu_guards.proofs.LifeLists.{stands_life, any_with, over_itself, not_same, life_put_more, life_put_or, life_stays, life_left, gone_not, from_first, none_is}
+use Rattle.lu_guards.proofs.Lists.{turn, in_append, in_filter, life_is, same_who}
+use Rattle.lu_guards.proofs.LifeLists.{InOrder, order_filter, order_put, order_first, stands_life, life_put_more, life_put_or, life_stays, life_left, gone_not, from_first, none_is}
 use Rattle.lu_guards.proofs.LockLists.{Rises, rises_all, rises_filter}
 use Rattle.lu_guards.proofs.ClientLocks.{any_passes}
 
@@ -37,19 +37,29 @@ use Rattle.lu_guards.proofs.ClientLocks.{any_passes}
 
 abbrev pub Logged : ℕ → List Deed → ℕ → Type 0
 Logged low [] high = low ≤ high
-Logged low (d ∷ log) high = (low ≤ d.reply.txn.0) × Logged d.reply.txn.0 log high
+Logged low (d ∷ log) high = (low < d.reply.txn.0) × Logged d.reply.txn.0 log high
 
 logged_less : (low from : ℕ) (log : List Deed) (high : ℕ) → low ≤ from → Logged from log high → Logged low log high
 logged_less low from [] high le g = omega (arith, le, g)
 logged_less low from (d ∷ log) high le g = (let more = g.0 in omega (arith, le, more), g.1)
 
-logged_append : (low : ℕ) (log : List Deed) (high next : ℕ) (d : Deed) → Logged low log high → high ≤ d.reply.txn.0 → d.reply.txn.0 ≤ next → Logged low (log ++ d ∷ []) next
+pub logged_more : (low : ℕ) (log : List Deed) (high next : ℕ) → high ≤ next → Logged low log high → Logged low log next
+logged_more low [] high next le g = omega (arith, le, g)
+logged_more low (d ∷ log) high next le g = (g.0, logged_more d.reply.txn.0 log high next le g.1)
+
+logged_append : (low : ℕ) (log : List Deed) (high next : ℕ) (d : Deed) → Logged low log high → high < d.reply.txn.0 → d.reply.txn.0 ≤ next → Logged low (log ++ d ∷ []) next
 logged_append low [] high next d g le top = (omega (arith, g, le), top)
 logged_append low (e ∷ log) high next d g le top = (g.0, logged_append e.reply.txn.0 log high next d g.1 le top)
 
-logged_top : (low : ℕ) (log : List Deed) (high : ℕ) → Logged low log high → low ≤ high
+pub logged_top : (low : ℕ) (log : List Deed) (high : ℕ) → Logged low log high → low ≤ high
 logged_top low [] high g = g
 logged_top low (d ∷ log) high g = let one = g.0 in let two = logged_top d.reply.txn.0 log high g.1 in omega (arith, one, two)
+
+-- all of it is above the lower one
+pub logged_above : (low : ℕ) (log : List Deed) (high : ℕ) (d : Deed) → Logged low log high → In d log → low < d.reply.txn.0
+logged_above low [] high d g i = absurd i
+logged_above low (e ∷ log) high d g (inl q) = subst (λ (x : Deed). low < x.reply.txn.0) q g.0
+logged_above low (e ∷ log) high d g (inr i) = let one = g.0 in let two = logged_above e.reply.txn.0 log high d g.1 i in omega (arith, one, two)
 
 -- none of it is above the upper one
 logged_under : (low : ℕ) (log : List Deed) (high : ℕ) (d : Deed) → Logged low log high → In d log → d.reply.txn.0 ≤ high
@@ -60,9 +70,19 @@ logged_under low (e ∷ log) high d g (inr i) = logged_under e.reply.txn.0 log h
 logged_filter : (f : Deed → Bool) (low : ℕ) (log : List Deed) (high : ℕ) → Logged low log high → Logged low (filter f log) high
 logged_filter f low [] high g = g
 logged_filter f low (d ∷ log) high g =
+    let le = g.0 in
     cond_both (f d) (d ∷ filter f log) (filter f log) (λ (xs : List Deed). Logged low xs high)
     (λ t. (g.0, logged_filter f d.reply.txn.0 log high g.1))
-    (λ t. logged_filter f low log high (logged_less low d.reply.txn.0 log high g.0 g.1))
+    (λ t. logged_filter f low log high (logged_less low d.reply.txn.0 log high (omega (arith, le)) g.1))
+
+-- what of it is above a number is between that and the upper one
+logged_cut : (to low : ℕ) (log : List Deed) (high : ℕ) → to ≤ high → Logged low log high → Logged to (filter (λ (d : Deed). nat_lt to d.reply.txn.0) log) high
+logged_cut to low [] high le g = le
+logged_cut to low (d ∷ log) high le g =
+    let above : Deed → Bool = λ (x : Deed). nat_lt to x.reply.txn.0 in
+    cond_both (nat_lt to d.reply.txn.0) (d ∷ filter above log) (filter above log) (λ (xs : List Deed). Logged to xs high)
+    (λ t. (ltb-true to d.reply.txn.0 t, logged_filter above d.reply.txn.0 log high g.1))
+    (λ t. logged_cut to d.reply.txn.0 log high le g.1)
 
 last_above : (low : ℕ) (log : List Deed) (high : ℕ) → Logged low log high → low ≤ last_of log low
 last_above low [] high g = omega arith
@@ -78,9 +98,52 @@ none_above to low (d ∷ log) high g le =
     ∙ none_above to d.reply.txn.0 log high g.1 le
 
 -- a commit of all of it leaves nothing
-pub all_logged : (log : List Deed) (committed high : ℕ) → Logged 0 log high → filter (λ (d : Deed). nat_lt (last_of log committed) d.reply.txn.0) log ≡ []
-all_logged [] committed high g = refl
-all_logged (d ∷ log) committed high g = none_above (last_of log d.reply.txn.0) 0 (d ∷ log) high g (omega arith)
+pub all_logged : (log : List Deed) (committed high : ℕ) → Logged committed log high → filter (λ (d : Deed). nat_lt (last_of log committed) d.reply.txn.0) log ≡ []
+all_logged log committed high g = none_above (last_of log committed) committed log high g (omega arith)
+
+-- its first ones
+abbrev pub IsFirst : List Deed → List Deed → Type 0
+IsFirst [] log = Unit {0}
+IsFirst (d ∷ deeds) [] = ⊥
+IsFirst (d ∷ deeds) (e ∷ log) = (e ≡ d) × IsFirst deeds log
+
+pub first_in : (deeds log : List Deed) (d : Deed) → IsFirst deeds log → In d deeds → In d log
+first_in [] log d f i = absurd i
+first_in (x ∷ deeds) [] d f i = absurd f
+first_in (x ∷ deeds) (e ∷ log) d f (inl q) = inl (f.0 ∙ q)
+first_in (x ∷ deeds) (e ∷ log) d f (inr i) = inr (first_in deeds log d f.1 i)
+
+pub first_all : (log : List Deed) → IsFirst log log
+first_all [] = tt
+first_all (d ∷ log) = (refl, first_all log)
+
+last_least : (low : ℕ) (deeds log : List Deed) (high : ℕ) → Logged low log high → IsFirst deeds log → low ≤ last_of deeds low
+last_least low [] log high g f = omega arith
+last_least low (x ∷ deeds) [] high g f = absurd f
+last_least low (x ∷ deeds) (e ∷ log) high g f =
+    let one = g.0 in
+    let same : e.reply.txn.0 ≡ x.reply.txn.0 = ap (λ (d : Deed). d.reply.txn.0) f.0 in
+    let two = last_least x.reply.txn.0 deeds log high (subst (λ (n : ℕ). Logged n log high) same g.1) f.1 in
+    omega (arith, one, two, same)
+
+-- those up to the last of its first ones are these
+pub first_upto : (low : ℕ) (deeds log : List Deed) (high : ℕ) → Logged low log high → IsFirst deeds log → filter (λ (d : Deed). not (nat_lt (last_of deeds low) d.reply.txn.0)) log ≡ deeds
+first_upto low [] [] high g f = refl
+first_upto low [] (e ∷ log) high g f =
+    let one = g.0 in
+    let above : not (nat_lt low e.reply.txn.0) ≡ false = ap not (lt-ltb low e.reply.txn.0 one) in
+    let upto : Deed → Bool = λ (d : Deed). not (nat_lt low d.reply.txn.0) in
+    cond-false (upto e) (e ∷ filter upto log) (filter upto log) above ∙ first_upto low [] log high (logged_less low e.reply.txn.0 log high (omega (arith, one)) g.1) tt
+first_upto low (x ∷ deeds) [] high g f = absurd f
+first_upto low (x ∷ deeds) (e ∷ log) high g f =
+    let same : e.reply.txn.0 ≡ x.reply.txn.0 = ap (λ (d : Deed). d.reply.txn.0) f.0 in
+    let more = subst (λ (n : ℕ). Logged n log high) same g.1 in
+    let least = last_least x.reply.txn.0 deeds log high more f.1 in
+    let to : ℕ = last_of deeds x.reply.txn.0 in
+    let upto : Deed → Bool = λ (d : Deed). not (nat_lt to d.reply.txn.0) in
+    let kept : nat_lt to e.reply.txn.0 ≡ false = grind (arith, nat_tests, least, same) in
+    cond-true (upto e) (e ∷ filter upto log) (filter upto log) (ap not kept)
+    ∙ ap (λ (d : Deed). d ∷ filter upto log) f.0 ∙ ap (λ (ds : List Deed). x ∷ ds) (first_upto x.reply.txn.0 deeds log high more f.1)
 
 -- ---- all of a list is of lives with a slot
 
@@ -123,38 +186,50 @@ in_with_all k [] locks i = inr i
 in_with_all k (l ∷ more) locks i =
     ⊎_elim (λ (j : In k more). inl (inr j)) (λ (j : In k (with_lock l locks)). ⊎_elim (λ (e : l ≡ k). inl (inl e)) (λ (r : In k locks). inr r) (in_with k l locks j)) (in_with_all k more (with_lock l locks) i)
 
-from_who : (k : Lock) (cookie : ℕ) (who : Who) (wants : List Want) → In k (locks_from cookie who wants) → k.ask.who ≡ who
+pub from_who : (k : Lock) (cookie : ℕ) (who : Who) (wants : List Want) → In k (locks_from cookie who wants) → k.ask.who ≡ who
 from_who k cookie who [] i = absurd i
 from_who k cookie who (want ∷ wants) (inl e) = ap (λ (l : Lock). l.ask.who) (sym e)
 from_who k cookie who (want ∷ wants) (inr i) = from_who k (cookie + 1) who wants i
 
 -- ---- the story
 
+-- no number of a transaction is above
+abbrev pub numbered : Server → ℕ
+numbered s = s.boot * 4294967296 + s.count
+
 pub record Story (head : Head) (past : List Line) : Type 0 where
-  pub first : (server_of head.osts past).boot ≡ 1
   pub rises : Rises (server_of head.osts past).granted
-  pub logged : Logged 0 (server_of head.osts past).log (4294967296 + (server_of head.osts past).count)
+  pub counted : (server_of head.osts past).count ≤ 4294967295
+  pub logged : Logged (server_of head.osts past).committed.0 (server_of head.osts past).log (numbered (server_of head.osts past))
   pub waits : Belongs (λ (r : RequestOf). r.who) (server_of head.osts past).waiting (lives_of head.clients past)
   pub holds : Belongs (λ (l : Lock). l.ask.who) (server_of head.osts past).granted (lives_of head.clients past)
   pub calls : Belongs (λ (c : Called). c.who) (server_of head.osts past).called (lives_of head.clients past)
   pub single : (a b : Who) → is_life a (lives_of head.clients past) ≡ true → is_life b (lives_of head.clients past) ≡ true → a.client ≡ b.client → a ≡ b
-  pub apart : (w : Who) → is_life w (lives_of head.clients past) ≡ true → is_life w (evicted_of past) ≡ false
-  pub above : (d : Deed) → In d (server_of head.osts past).log → (server_of head.osts past).committed.0 < d.reply.txn.0
-  pub under : (server_of head.osts past).committed.0 ≤ 4294967296 + (server_of head.osts past).count
+  pub older : (w r : Who) → is_life w (lives_of head.clients past) ≡ true → is_life r (evicted_of past) ≡ true → w.client ≡ r.client → r.life < w.life
+  pub order : InOrder (lives_of head.clients past)
+  pub over : InOrder (evicted_of past)
+
+-- none that has a slot was evicted
+pub story_apart : (head : Head) (past : List Line) → Story head past → (w : Who) → is_life w (lives_of head.clients past) ≡ true → is_life w (evicted_of past) ≡ false
+story_apart head past h w has = by (is_life w (evicted_of past)) refl
+  where
+    by : (b : Bool) → is_life w (evicted_of past) ≡ b → b ≡ false
+    by false e = refl
+    by true e = let lt = h.older w w has e refl in absurd (omega (arith, lt))
 
 pub story_start : (head : Head) → Story head []
 story_start head =
     record {
-      first = refl;
       rises = tt;
+      counted = omega arith;
       logged = omega arith;
       waits = λ x i. absurd i;
       holds = λ x i. absurd i;
       calls = λ x i. absurd i;
       single = λ a b p q e. same_who a b e (first_life a p ∙ sym (first_life b q));
-      apart = λ w p. refl;
-      above = λ d i. absurd i;
-      under = omega arith;
+      older = λ w r p q e. absurd (cc);
+      order = order_first 0 head.clients;
+      over = tt;
     }
   where
     first_life : (a : Who) → is_life a (lives_of head.clients []) ≡ true → a.life ≡ 1
@@ -163,7 +238,7 @@ story_start head =
 -- a client's line changes nothing of it
 pub story_client : (head : Head) (past : List Line) (stamp : Stamp) (c : ℕ) (e : Entry) → Story head past → Story head (line (turn stamp (node.Client c)) e ∷ past)
 story_client head past stamp c e h =
-    record { first = h.first; rises = h.rises; logged = h.logged; waits = h.waits; holds = h.holds; calls = h.calls; single = h.single; apart = h.apart; above = h.above; under = h.under }
+    record { rises = h.rises; counted = h.counted; logged = h.logged; waits = h.waits; holds = h.holds; calls = h.calls; single = h.single; older = h.older; order = h.order; over = h.over }
 
 -- ---- a line of the target
 
@@ -182,132 +257,128 @@ module _ (head : Head) (t : ℕ) (past : List Line) (stamp : Stamp) (h : Story h
 
   story_enters : (r : RequestOf) → is_life r.who lives ≡ true → Next (Enters r)
   story_enters r has =
-      record {
-        first = h.first;
-        rises = h.rises;
-        logged = h.logged;
-        waits = belongs_one (λ (x : RequestOf). x.who) s.waiting r lives h.waits has;
-        holds = h.holds;
-        calls = h.calls;
-        single = h.single;
-        apart = h.apart;
-        above = h.above;
-        under = h.under;
-      }
+      record { rises = h.rises; counted = h.counted; logged = h.logged; waits = belongs_one (λ (x : RequestOf). x.who) s.waiting r lives h.waits has; holds = h.holds; calls = h.calls; single = h.single; older = h.older; order = h.order; over = h.over }
 
   story_act : (d : Deed) (r : RequestOf) (cookie : ℕ) (wants : List Want) → In r s.waiting → d.reply.locks ≡ locks_from cookie r.who wants → Next (Act d)
   story_act d r cookie wants waits is =
       record {
-        first = h.first;
         rises = rises_all d.reply.locks s.granted h.rises;
+        counted = h.counted;
         logged = h.logged;
         waits = belongs_filter (λ (x : RequestOf). x.who) (λ (x : RequestOf). not (is_request_of d x)) s.waiting lives h.waits;
         holds = λ l i. ⊎_elim (λ (j : In l d.reply.locks). new l (subst (λ (ls : List Lock). In l ls) is j)) (λ (j : In l s.granted). h.holds l j) (in_with_all l d.reply.locks s.granted i);
         calls = h.calls;
         single = h.single;
-        apart = h.apart;
-        above = h.above;
-        under = h.under;
+        older = h.older;
+        order = h.order;
+        over = h.over;
       }
     where
       new : (l : Lock) → In l (locks_from cookie r.who wants) → is_life l.ask.who lives ≡ true
       new l j = subst (λ (w : Who). is_life w lives ≡ true) (sym (from_who l cookie r.who wants j)) (h.waits r waits)
 
-  story_txn : (d : Deed) → d.reply.txn ≡ next_number s → Next (Txn d)
-  story_txn d number =
+  story_txn : (d : Deed) → s.count < 4294967295 → d.reply.txn ≡ next_number s → Next (Txn d)
+  story_txn d low number =
       record {
-        first = h.first;
         rises = h.rises;
-        logged = logged_append 0 s.log (4294967296 + s.count) (4294967296 + (s.count + 1)) d h.logged (omega (arith, is)) (omega (arith, is));
+        counted = omega (arith, low);
+        logged = logged_append s.committed.0 s.log (numbered s) (s.boot * 4294967296 + (s.count + 1)) d h.logged (omega (arith, is)) (omega (arith, is));
         waits = belongs_filter (λ (x : RequestOf). x.who) (λ (x : RequestOf). not (is_request_of d x)) s.waiting lives h.waits;
         holds = h.holds;
         calls = h.calls;
         single = h.single;
-        apart = h.apart;
-        above = λ x i. ⊎_elim (λ (j : In x s.log). h.above x j) (λ (j : In x (d ∷ [])). new x j) (in_append x s.log (d ∷ []) i);
-        under = let le = h.under in omega (arith, le);
+        older = h.older;
+        order = h.order;
+        over = h.over;
       }
     where
-      is : d.reply.txn.0 ≡ 4294967296 + (s.count + 1)
-      is = ap (λ (n : TxnOf). n.0) number ∙ rw h.first (omega arith)
-
-      new : (x : Deed) → In x (d ∷ []) → s.committed.0 < x.reply.txn.0
-      new x (inl e) = let same : d.reply.txn.0 ≡ x.reply.txn.0 = ap (λ (y : Deed). y.reply.txn.0) e in let own = is in let le = h.under in omega (arith, same, own, le)
-      new x (inr j) = absurd j
+      is : d.reply.txn.0 ≡ s.boot * 4294967296 + (s.count + 1)
+      is = ap (λ (n : TxnOf). n.0) number
 
   story_block : (called : Called) (lock : Lock) → In lock s.granted → called.who ≡ lock.ask.who → Next (Block called)
   story_block called lock granted own =
       record {
-        first = h.first;
         rises = h.rises;
+        counted = h.counted;
         logged = h.logged;
         waits = h.waits;
         holds = h.holds;
         calls = belongs_one (λ (x : Called). x.who) s.called called lives h.calls (subst (λ (w : Who). is_life w lives ≡ true) (sym own) (h.holds lock granted));
         single = h.single;
-        apart = h.apart;
-        above = h.above;
-        under = h.under;
+        older = h.older;
+        order = h.order;
+        over = h.over;
       }
 
   pub story_release : (lock : Lock) → Next (Release lock)
   story_release lock =
       record {
-        first = h.first;
         rises = rises_filter (λ (k : Lock). not (nat_eq k.cookie.0 lock.cookie.0)) s.granted h.rises;
+        counted = h.counted;
         logged = h.logged;
         waits = h.waits;
         holds = belongs_filter (λ (x : Lock). x.ask.who) (λ (k : Lock). not (nat_eq k.cookie.0 lock.cookie.0)) s.granted lives h.holds;
         calls = belongs_filter (λ (x : Called). x.who) (λ (k : Called). not (nat_eq k.cookie.0 lock.cookie.0)) s.called lives h.calls;
         single = h.single;
-        apart = h.apart;
-        above = h.above;
-        under = h.under;
+        older = h.older;
+        order = h.order;
+        over = h.over;
       }
 
-  pub story_commit : (to : ℕ) (batch : Batch) → CommitOk head.osts past to → Next (Commit to batch)
+  pub story_commit : (to : ℕ) (batch : Batch) → CommitOk head past (turn stamp (node.Target t)) to batch → Next (Commit to batch)
   story_commit to batch ok =
       record {
-        first = h.first;
         rises = h.rises;
-        logged = logged_filter (λ (d : Deed). nat_lt to d.reply.txn.0) 0 s.log (4294967296 + s.count) h.logged;
+        counted = h.counted;
+        logged = logged_cut to s.committed.0 s.log (numbered s) top h.logged;
         waits = h.waits;
         holds = h.holds;
         calls = h.calls;
         single = h.single;
-        apart = h.apart;
-        above = λ d i. ltb-true to d.reply.txn.0 (in_filter (λ (x : Deed). nat_lt to x.reply.txn.0) d s.log i).1;
-        under = ⊎_elim (λ (k : (d : Deed) × In d s.log × (to ≡ d.reply.txn.0)). let top = logged_under 0 s.log (4294967296 + s.count) k.0 h.logged k.1 in let is = k.2 in omega (arith, top, is)) (λ (e : to ≡ s.committed.0). let le = h.under in omega (arith, le, e)) ok.is;
+        older = h.older;
+        order = h.order;
+        over = h.over;
       }
+    where
+      top : to ≤ numbered s
+      top =
+          ⊎_elim (λ (k : (d : Deed) × In d s.log × (to ≡ d.reply.txn.0)). let le = logged_under s.committed.0 s.log (numbered s) k.0 h.logged k.1 in let is = k.2 in omega (arith, le, is))
+          (λ (e : to ≡ s.committed.0). let le = logged_top s.committed.0 s.log (numbered s) h.logged in omega (arith, le, e)) ok.is
 
-  pub story_evict : (w : Who) (cause : Cause) → Next (Evict w cause)
-  story_evict w cause =
+  -- it had a slot, or was evicted already
+  pub story_evict : (w : Who) (cause : Cause) → (is_life w lives ≡ true) ⊎ (is_life w evicted ≡ true) → Next (Evict w cause)
+  story_evict w cause was =
       record {
-        first = h.first;
         rises = rises_filter (λ (k : Lock). not (is_life k.ask.who (w ∷ []))) s.granted h.rises;
+        counted = h.counted;
         logged = h.logged;
         waits = belongs_evict (λ (x : RequestOf). x.who) s.waiting w lives h.waits;
         holds = belongs_evict (λ (x : Lock). x.ask.who) s.granted w lives h.holds;
         calls = belongs_evict (λ (x : Called). x.who) s.called w lives h.calls;
         single = λ a b p q e. h.single a b (life_left a w lives p).0 (life_left b w lives q).0 e;
-        apart = λ x p. let k = life_left x w lives p in any_with (same_life x) w evicted ∙ or_neither (same_life x w) (is_life x evicted) (not_same x w k.1) (h.apart x k.0);
-        above = h.above;
-        under = h.under;
+        older = λ x r p q e. let k = life_left x w lives p in out x r k.0 k.1 e (same_life r w) refl (life_put_or r w evicted q) was;
+        order = order_filter (λ (x : Who). not (is_life x (w ∷ []))) lives h.order;
+        over = order_put w evicted h.over;
       }
+    where
+      out : (x r : Who) → is_life x lives ≡ true → (x ≡ w → ⊥) → x.client ≡ r.client → (b : Bool) → same_life r w ≡ b → (b || is_life r evicted) ≡ true → (is_life w lives ≡ true) ⊎ (is_life w evicted ≡ true) → r.life < x.life
+      out x r has ne same false e q was = h.older x r has q same
+      out x r has ne same true e q (inl had) = absurd (ne (h.single x w has had (same ∙ ap (λ (u : Who). u.client) (life_is r w e))))
+      out x r has ne same true e q (inr had) = h.older x r has (subst (λ (u : Who). is_life u evicted ≡ true) (sym (life_is r w e)) had) same
 
   story_joined : (w : Who) → life_in w.client lives ≡ None → list_any (is_over w) evicted ≡ false → Next (Joined w)
   story_joined w none newer =
       record {
-        first = h.first;
         rises = h.rises;
+        counted = h.counted;
         logged = h.logged;
         waits = belongs_join (λ (x : RequestOf). x.who) s.waiting w lives h.waits;
         holds = belongs_join (λ (x : Lock). x.ask.who) s.granted w lives h.holds;
         calls = belongs_join (λ (x : Called). x.who) s.called w lives h.calls;
         single = λ a b p q e. one a b (same_life a w) (same_life b w) refl refl (life_put_or a w lives p) (life_put_or b w lives q) e;
-        apart = λ x p. out x (same_life x w) refl (life_put_or x w lives p);
-        above = h.above;
-        under = h.under;
+        older = λ x r p q e. out x r (same_life x w) refl (life_put_or x w lives p) q e;
+        order = order_put w lives h.order;
+        over = h.over;
       }
     where
       one : (a b : Who) (m n : Bool) → same_life a w ≡ m → same_life b w ≡ n → (m || is_life a lives) ≡ true → (n || is_life b lives) ≡ true → a.client ≡ b.client → a ≡ b
@@ -316,42 +387,90 @@ module _ (head : Head) (t : ℕ) (past : List Line) (stamp : Stamp) (h : Story h
       one a b false true e f p q same = absurd (none_is w.client lives none a (stands_life a lives p) (same ∙ ap (λ (u : Who). u.client) (life_is b w f)))
       one a b false false e f p q same = h.single a b p q same
 
-      own : (b : Bool) → is_life w evicted ≡ b → b ≡ false
-      own false e = refl
-      own true e =
-          let over : list_any (is_over w) evicted ≡ true = any_passes (is_over w) w evicted (stands_life w evicted e) (over_itself w) in
-          absurd (cc)
+      under : (r : Who) → is_life r evicted ≡ true → w.client ≡ r.client → (b : Bool) → is_over w r ≡ b → r.life < w.life
+      under r q same true e = let over : list_any (is_over w) evicted ≡ true = any_passes (is_over w) r evicted (stands_life r evicted q) e in absurd (cc)
+      under r q same false e = grind (arith, nat_tests, same, e)
 
-      out : (x : Who) (m : Bool) → same_life x w ≡ m → (m || is_life x lives) ≡ true → is_life x evicted ≡ false
-      out x true e p = subst (λ (u : Who). is_life u evicted ≡ false) (sym (life_is x w e)) (own (is_life w evicted) refl)
-      out x false e p = h.apart x p
+      out : (x r : Who) (m : Bool) → same_life x w ≡ m → (m || is_life x lives) ≡ true → is_life r evicted ≡ true → x.client ≡ r.client → r.life < x.life
+      out x r true e p q same =
+          let is : x ≡ w = life_is x w e in
+          subst (λ (u : Who). r.life < u.life) (sym is) (under r q (ap (λ (u : Who). u.client) (sym is) ∙ same) (is_over w r) refl)
+      out x r false e p q same = h.older x r p q same
 
--- the boot stays
+  -- one that has a slot already
+  pub story_comes : (w : Who) → is_life w lives ≡ true → Next (Joined w)
+  story_comes w has =
+      record {
+        rises = h.rises;
+        counted = h.counted;
+        logged = h.logged;
+        waits = belongs_join (λ (x : RequestOf). x.who) s.waiting w lives h.waits;
+        holds = belongs_join (λ (x : Lock). x.ask.who) s.granted w lives h.holds;
+        calls = belongs_join (λ (x : Called). x.who) s.called w lives h.calls;
+        single = λ a b p q e. h.single a b (had a p) (had b q) e;
+        older = λ x r p q e. h.older x r (had x p) q e;
+        order = order_put w lives h.order;
+        over = h.over;
+      }
+    where
+      by : (x : Who) (m : Bool) → same_life x w ≡ m → (m || is_life x lives) ≡ true → is_life x lives ≡ true
+      by x true e p = subst (λ (u : Who). is_life u lives ≡ true) (sym (life_is x w e)) has
+      by x false e p = p
+
+      had : (x : Who) → is_life x (with_life w lives) ≡ true → is_life x lives ≡ true
+      had x p = by x (same_life x w) refl (life_put_or x w lives p)
+
+  -- the next boot's numbers are above those before it
+  pub story_boot : (boot : ℕ) (disk : Disk) → boot ≡ s.boot + 1 → Next (Boot boot disk)
+  story_boot boot disk next =
+      record {
+        rises = h.rises;
+        counted = omega arith;
+        logged = logged_more s.committed.0 s.log (numbered s) (boot * 4294967296 + 0) (let low = h.counted in omega (arith, low, next)) h.logged;
+        waits = h.waits;
+        holds = h.holds;
+        calls = h.calls;
+        single = h.single;
+        older = h.older;
+        order = h.order;
+        over = h.over;
+      }
+
+  -- a line that changes nothing of it
+  pub story_still : (e : Entry) → server_after head.osts s e ≡ s → lives_after lives e ≡ lives → evicted_after evicted e ≡ evicted → Next e
+  story_still e server has gone =
+      record {
+        rises = subst (λ (x : Server). Rises x.granted) (sym server) h.rises;
+        counted = subst (λ (x : Server). x.count ≤ 4294967295) (sym server) h.counted;
+        logged = subst (λ (x : Server). Logged x.committed.0 x.log (numbered x)) (sym server) h.logged;
+        waits = subst (λ (x : Server). Belongs (λ (r : RequestOf). r.who) x.waiting (lives_after lives e)) (sym server) (subst (λ (ws : List Who). Belongs (λ (r : RequestOf). r.who) s.waiting ws) (sym has) h.waits);
+        holds = subst (λ (x : Server). Belongs (λ (l : Lock). l.ask.who) x.granted (lives_after lives e)) (sym server) (subst (λ (ws : List Who). Belongs (λ (l : Lock). l.ask.who) s.granted ws) (sym has) h.holds);
+        calls = subst (λ (x : Server). Belongs (λ (c : Called). c.who) x.called (lives_after lives e)) (sym server) (subst (λ (ws : List Who). Belongs (λ (c : Called). c.who) s.called ws) (sym has) h.calls);
+        single = subst (λ (ws : List Who). (a b : Who) → is_life a ws ≡ true → is_life b ws ≡ true → a.client ≡ b.client → a ≡ b) (sym has) h.single;
+        older = subst (λ (ws : List Who). (w r : Who) → is_life w ws ≡ true → is_life r (evicted_after evicted e) ≡ true → w.client ≡ r.client → r.life < w.life) (sym has)
+            (subst (λ (rs : List Who). (w r : Who) → is_life w lives ≡ true → is_life r rs ≡ true → w.client ≡ r.client → r.life < w.life) (sym gone) h.older);
+        order = subst InOrder (sym has) h.order;
+        over = subst InOrder (sym gone) h.over;
+      }
+
+-- no window closes
 abbrev pub IsStill : Entry → Type 0
-IsStill (Boot boot disk) = ⊥
+IsStill (Close o) = ⊥
 IsStill _ = Unit {0}
 
 pub story_line : (head : Head) (t : ℕ) (past : List Line) (stamp : Stamp) (e : Entry) → IsStill e → EntryOf head past (turn stamp (node.Target t)) (node.Target t) e → Story head past → Story head (line (turn stamp (node.Target t)) e ∷ past)
-story_line head t past stamp (Send to m) still ok h = record { first = h.first; rises = h.rises; logged = h.logged; waits = h.waits; holds = h.holds; calls = h.calls; single = h.single; apart = h.apart; above = h.above; under = h.under }
-story_line head t past stamp (Take n from m) still ok h = record { first = h.first; rises = h.rises; logged = h.logged; waits = h.waits; holds = h.holds; calls = h.calls; single = h.single; apart = h.apart; above = h.above; under = h.under }
-story_line head t past stamp Tick still ok h = record { first = h.first; rises = h.rises; logged = h.logged; waits = h.waits; holds = h.holds; calls = h.calls; single = h.single; apart = h.apart; above = h.above; under = h.under }
-story_line head t past stamp Skip still ok h = record { first = h.first; rises = h.rises; logged = h.logged; waits = h.waits; holds = h.holds; calls = h.calls; single = h.single; apart = h.apart; above = h.above; under = h.under }
-story_line head t past stamp (Grant lock (Some d)) still ok h = record { first = h.first; rises = h.rises; logged = h.logged; waits = h.waits; holds = h.holds; calls = h.calls; single = h.single; apart = h.apart; above = h.above; under = h.under }
-story_line head t past stamp (Boot boot disk) still ok h = absurd still
-story_line head t past stamp Crash still ok h = record { first = h.first; rises = h.rises; logged = h.logged; waits = h.waits; holds = h.holds; calls = h.calls; single = h.single; apart = h.apart; above = h.above; under = h.under }
-story_line head t past stamp (Back who) still ok h = record { first = h.first; rises = h.rises; logged = h.logged; waits = h.waits; holds = h.holds; calls = h.calls; single = h.single; apart = h.apart; above = h.above; under = h.under }
-story_line head t past stamp (Stores replay) still ok h = record { first = h.first; rises = h.rises; logged = h.logged; waits = h.waits; holds = h.holds; calls = h.calls; single = h.single; apart = h.apart; above = h.above; under = h.under }
-story_line head t past stamp (Brings lock) still ok h = record { first = h.first; rises = h.rises; logged = h.logged; waits = h.waits; holds = h.holds; calls = h.calls; single = h.single; apart = h.apart; above = h.above; under = h.under }
-story_line head t past stamp (Says said) still ok h = record { first = h.first; rises = h.rises; logged = h.logged; waits = h.waits; holds = h.holds; calls = h.calls; single = h.single; apart = h.apart; above = h.above; under = h.under }
-story_line head t past stamp (Wishes who) still ok h = record { first = h.first; rises = h.rises; logged = h.logged; waits = h.waits; holds = h.holds; calls = h.calls; single = h.single; apart = h.apart; above = h.above; under = h.under }
+story_line head t past stamp (Close o) still ok h = absurd still
+story_line head t past stamp (Boot boot disk) still ok h = story_boot head t past stamp h boot disk ok.next
 story_line head t past stamp (Enters r) still ok h = story_enters head t past stamp h r ok.has
 story_line head t past stamp (Act d) still ok h =
     let s : Server = server_of head.osts past in
     story_act head t past stamp h d ok.request s.cookie (grants head.osts s.tree (asked ok.request none)) ok.waits (ap (λ (x : Deed). x.reply.locks) ok.is)
-story_line head t past stamp (Txn d) still ok h = story_txn head t past stamp h d (ap (λ (x : Deed). x.reply.txn) ok.is)
+story_line head t past stamp (Txn d) still ok h = story_txn head t past stamp h d ok.numbers (ap (λ (x : Deed). x.reply.txn) ok.is)
 story_line head t past stamp (Block called) still ok h = story_block head t past stamp h called ok.lock ok.granted ok.of_life
 story_line head t past stamp (Release lock) still ok h = story_release head t past stamp h lock
 story_line head t past stamp (Commit to batch) still ok h = story_commit head t past stamp h to batch ok
-story_line head t past stamp (Evict w cause) still ok h = story_evict head t past stamp h w cause
-story_line head t past stamp (Joined w) still ok h = story_joined head t past stamp h w ok.none ok.newer
-story_line head t past stamp e still ok h = absurd ok
+story_line head t past stamp (Evict w cause) still (inl ok) h = story_evict head t past stamp h w cause (inl ok.has)
+story_line head t past stamp (Evict w cause) still (inr ok) h = story_evict head t past stamp h w cause (inr ok.evicted)
+story_line head t past stamp (Joined w) still (inl ok) h = story_joined head t past stamp h w ok.none ok.newer
+story_line head t past stamp (Joined w) still (inr ok) h = story_comes head t past stamp h w ok.has
+story_line head t past stamp e still ok h = story_still head t past stamp h e refl refl refl

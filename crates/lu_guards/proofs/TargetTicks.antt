@@ -1,6 +1,6 @@
 -- A tick of the metadata target: lives leave whose locks were called back too long ago, in an earlier turn, and what is called back still
 -- is called back again.
-use Rattle.std.proofs.Common.{◌≡◌, ℕ, ◌+◌, ◌*◌, ◌≤◌, Bool, true, false, List, [], ◌∷◌, ◌++◌, ◌⊎◌, inl, inr, ⊎_elim, refl, sym, subst, ap, ◌∙◌}
+use Rattle.std.proofs.Common.{◌≡◌, ℕ, Bool, true, false, List, [], ◌∷◌, ◌++◌, ◌⊎◌, inl, inr, ⊎_elim, refl, sym, subst, ap, ◌∙◌, arith}
 use Rattle.std.specs.Prelude.{nat_eq, ◌&&◌, ◌||◌, not, if◌then◌else◌}
 use Rattle.std.proofs.lemmas.Bool.{cond_both, cond-true, and_parts, eq-eqb}
 use Rattle.lu_base.specs.declared.ids.At.{At}
@@ -10,7 +10,7 @@ use Rattle.lu_base.specs.declared.ids.Stamp.{Stamp}
 use Rattle.lu_base.specs.declared.ids.Who.{Who}
 use Rattle.lu_base.specs.declared.locks.Lock.{Lock}
 use Rattle.lu_words.specs.Carried.{Called, Glimpse}
-use Rattle.lu_words.specs.Words.{Entry, Block, Release, Evict, Tick, Skip, Line, line, with_turn, turn_before, same_life}
+use Rattle.lu_words.specs.Words.{Entry, Block, Release, Evict, Close, Tick, Skip, Line, line, with_turn, turn_before, same_life}
 use Rattle.lu_words.specs.Concerns.{concerns, only}
 use Rattle.lu_target_rows.specs.Leaving.{condemned, is_due, expels, sends_again, ticked, row_tick}
 use Rattle.lu_target_rows.specs.Lives.{is_life, with_life}
@@ -20,8 +20,9 @@ use Rattle.lu_target_rows.specs.States.{Target, after, follow, turn as turned}
 use Rattle.lu_covered.specs.Heads.{Head}
 use Rattle.lu_covered.specs.TargetStates.{Server, server_of, server_after, lives_of}
 use Rattle.lu_guards.proofs.Guards.{In, Later, Steps}
-use Rattle.lu_guards.proofs.StoryGuards.{CalledBefore, IsServing}
-use Rattle.lu_guards.proofs.Grown.{Grown}
+use Rattle.lu_guards.proofs.StoryGuards.{CalledBefore, IsServing, EntryOf}
+use Rattle.lu_guards.proofs.Grown.{Grown, GrownOf}
+use Rattle.lu_guards.proofs.Only.{grown_of}
 use Rattle.lu_guards.proofs.Lists.{turn, in_append, in_filter, life_is, turn_trans}
 use Rattle.lu_guards.proofs.LifeLists.{InOrder, order_put, order_distinct, life_stands, stands_life, life_put_or}
 use Rattle.lu_guards.proofs.TargetAlike.{Serving, AllPlain, serving_is, serving_line}
@@ -32,21 +33,18 @@ use Rattle.lu_guards.proofs.Turns.{Settled, owes_nothing}
 
 -- ---- what is called back was called back by a line
 
+-- since the last close
 abbrev Blocked : List Line → Who → Type 0
 Blocked [] who = ⊥
-Blocked (l ∷ past) who = elim l.entry [ Block called ↦ (called.who ≡ who) ⊎ Blocked past who | _ ↦ Blocked past who ]
+Blocked (l ∷ past) who = elim l.entry [ Block called ↦ (called.who ≡ who) ⊎ Blocked past who | Close o ↦ ⊥ | _ ↦ Blocked past who ]
 
-blocked_more : (l : Line) (past : List Line) (who : Who) → Blocked past who → Blocked (l ∷ past) who
-blocked_more l past who r = by l.entry
+called_blocked : (head : Head) (story : List Line) (c : Called) → GrownOf head story → In c (server_of head.osts story).called → Blocked story c.who
+called_blocked head [] c g i = absurd i
+called_blocked head (l ∷ story) c g i = by l.at.node l.entry g.0 i (λ j. called_blocked head story c g.3 j)
   where
-    by : (e : Entry) → Blocked (line l.at e ∷ past) who
-    by (Block called) = inr r
-    by e = r
+    osts : ℕ
+    osts = head.osts
 
-called_blocked : (osts : ℕ) (story : List Line) (c : Called) → In c (server_of osts story).called → Blocked story c.who
-called_blocked osts [] c i = absurd i
-called_blocked osts (l ∷ story) c i = by l.at.node i (λ j. called_blocked osts story c j)
-  where
     s : Server
     s = server_of osts story
 
@@ -58,14 +56,17 @@ called_blocked osts (l ∷ story) c i = by l.at.node i (λ j. called_blocked ost
         one (inr j) = absurd j
     own (Release lock) i ih = ih (in_filter (λ (x : Called). not (nat_eq x.cookie.0 lock.cookie.0)) c s.called i).0
     own (Evict who cause) i ih = ih (in_filter (λ (x : Called). not (is_life x.who (who ∷ []))) c s.called i).0
+    own (Close o) i ih = absurd i
     own e i ih = ih i
 
-    by : (n : Node) → In c (server_of osts (line (turn l.at.stamp n) l.entry ∷ story)).called → (In c s.called → Blocked story c.who) → Blocked (l ∷ story) c.who
-    by (node.Client d) i ih = blocked_more l story c.who (ih i)
-    by (node.Target u) i ih = own l.entry i ih
+    by : (n : Node) (e : Entry) → EntryOf head story (turn l.at.stamp n) n e → In c (server_of osts (line (turn l.at.stamp n) e ∷ story)).called → (In c s.called → Blocked story c.who) → Blocked (line l.at e ∷ story) c.who
+    by (node.Client d) (Block called) ok i ih = absurd ok
+    by (node.Client d) (Close o) ok i ih = absurd ok
+    by (node.Client d) e ok i ih = ih i
+    by (node.Target u) e ok i ih = own e i ih
 
 -- all lines of a past are of earlier turns than one that is later than its newest
-later_back : (past : List Line) (at next : At) → Steps past at → turn_before at next ≡ true → Later past next
+pub later_back : (past : List Line) (at next : At) → Steps past at → turn_before at next ≡ true → Later past next
 later_back [] at next s b = tt
 later_back (l ∷ past) at next (inl e) b = subst (λ (x : At). turn_before x next ≡ true) (sym e) b
 later_back (l ∷ past) at next (inr c) b = turn_trans l.at at next c b
@@ -81,6 +82,8 @@ blocked_before head t (l ∷ past) at who g later b = by l.entry (concerns t l.a
     by (Block called) true (inl e) ih = inl (e, later)
     by (Block called) true (inr r) ih = inr (ih r)
     by (Block called) false r ih = ih r
+    by (Close o) true r ih = absurd r
+    by (Close o) false r ih = ih r
     by e true r ih = ih r
     by e false r ih = ih r
 
@@ -106,10 +109,10 @@ condemned_called v (c ∷ cs) w i =
 
 -- where no glimpse waits
 abbrev Same : Target → Target → Type 0
-Same v w = (v.number ≡ w.number) × (v.boot ≡ w.boot)
+Same v w = (v.number ≡ w.number) × (v.boot ≡ w.boot) × (v.cookie ≡ w.cookie)
 
 again_number : (v : Target) (before : List Called) (locks : List Lock) (w : Target) → Same (turned w (sends_again v before [] locks)) w
-again_number v before [] w = (refl, refl)
+again_number v before [] w = (refl, refl, refl)
 again_number v before (l ∷ locks) w = by (is_called l.cookie before && is_called l.cookie v.called) (again_number v before locks w) (again_number v before locks (after w (block_of v l)))
   where
     by : (b : Bool) → Same (turned w (sends_again v before [] locks)) w → Same (turned (after w (block_of v l)) (sends_again v before [] locks)) w
@@ -167,7 +170,7 @@ module _ (head : Head) (stamp : Stamp) where
       (((owes_nothing past at Tick settled, later, tt), tt), ticks)
       (λ e s k. reaches_more head stamp 0 (Serving head 0) (Serving head 0) leave again past1 story1 w e
       (expels_lead head stamp 0 w past1 story1 e s k (λ l i. refl) gone (λ x i. has x (condemned_called w w.called x i)) (order_distinct gone (condemned_order w w.called)) (λ x i. (inl (refl, tt), caused x (condemned_called w w.called x i))) leave_high)
-      (λ f r j. let sent = sends_good (turned w leave) w.called (turned w leave).granted (with_turn at leave past1) (with_turn at leave story1) (serving_is head 0 (turned w leave) (with_turn at leave story1) j) r (j.alike.boot ∙ sym j.alike.first) j.alike.called (λ l i. subst (λ (ls : List Lock). In l ls) j.alike.granted i) in
+      (λ f r j. let sent = sends_good (turned w leave) w.called (turned w leave).granted (with_turn at leave past1) (with_turn at leave story1) (serving_is head 0 (turned w leave) (with_turn at leave story1) j) r j.alike.boot j.alike.called (λ l i. subst (λ (ls : List Lock). In l ls) j.alike.granted i) in
       (sent, serves_lines head stamp 0 (sends_again (turned w leave) w.called [] (turned w leave).granted) (with_turn at leave past1) (with_turn at leave story1) (turned w leave) (again_plain (turned w leave) w.called (turned w leave).granted) sent j)))
       )
     where
@@ -191,7 +194,7 @@ module _ (head : Head) (stamp : Stamp) where
 
       is : target.row v at target.Ticks ≡ Tick ∷ follow w leave again
       is =
-          cond-true v.up (row_tick v at) (Skip ∷ []) h.alike.up ∙ cond-true (nat_eq v.closed v.boot) (Tick ∷ ticked at w) (Tick ∷ []) (eq-eqb v.closed v.boot (h.alike.closed ∙ sym h.alike.boot))
+          cond-true v.up (row_tick v at) (Skip ∷ []) h.alike.up ∙ cond-true (nat_eq v.closed v.boot) (Tick ∷ ticked at w) (Tick ∷ []) (eq-eqb v.closed v.boot h.alike.closed)
           ∙ ap (λ (gs : List Glimpse). Tick ∷ follow w leave (λ (x : Target). sends_again x w.called gs x.granted)) h.alike.glimpses
 
       ticks : Serving head 0 w story1
@@ -204,11 +207,16 @@ module _ (head : Head) (stamp : Stamp) where
       has x c = subst (λ (u : Who). is_life u (lives_of head.clients story1) ≡ true) c.2 (h.story.calls c.0 (subst (λ (cs : List Called). In c.0 cs) h.alike.called c.1))
 
       caused : (x : Who) → (c : Called) × In c w.called × (c.who ≡ x) → CalledBefore story1 at x
-      caused x c = blocked_before head 0 past at x g later (subst (λ (u : Who). Blocked (only 0 past) u) c.2 (called_blocked head.osts (only 0 past) c.0 (subst (λ (cs : List Called). In c.0 cs) h.alike.called c.1)))
+      caused x c = blocked_before head 0 past at x g later (subst (λ (u : Who). Blocked (only 0 past) u) c.2 (called_blocked head (only 0 past) c.0 (grown_of head 0 past g) (subst (λ (cs : List Called). In c.0 cs) h.alike.called c.1)))
 
       leave_high : High w leave
       leave_high =
           let whole : High v (Tick ∷ follow w leave again) = subst (High v) is high in
           let rest : HighAt (turned (turned w leave) (again (turned w leave))) = subst HighAt (turned_more leave (again (turned w leave)) w) whole in
           let all = again_number (turned w leave) w.called (turned w leave).granted (turned w leave) in
-          subst (λ (n : ℕ). n ≤ (turned w leave).boot * 4294967296 + 4294967295) all.0 (subst (λ (b : ℕ). (turned (turned w leave) (again (turned w leave))).number ≤ b * 4294967296 + 4294967295) all.1 rest)
+          let number = all.0 in
+          let boot = all.1 in
+          let cookie = all.2 in
+          let one = rest.0 in
+          let two = rest.1 in
+          (omega (arith, number, boot, one), omega (arith, cookie, boot, two))

@@ -1,7 +1,7 @@
--- Each turn of a target makes lines that the guards allow, where it is covered, and after it the target is what its story says: it serves, or
--- it crashed (`Matches`). While it serves, at the metadata target a request, a cancel or a join comes, time goes on, the log is committed; at
+-- Each turn of a target makes lines that the guards allow, where no call to its disk fails, and after it the target is what its story says: it
+-- serves, or it crashed (`Matches`). While it serves, at the metadata target a request, a cancel or a join comes, time goes on, the log is committed; at
 -- another target only joins come, it ticks, and is given commands; what is told in a recovery does nothing.
-use Rattle.std.proofs.Common.{◌≡◌, ℕ, zero, suc, ◌+◌, ◌*◌, ◌<◌, Bool, true, false, List, [], ◌∷◌, Option, Some, None, ◌⊎◌, inl, inr, refl, sym, subst, ap, ◌∙◌, arith}
+use Rattle.std.proofs.Common.{◌≡◌, ℕ, zero, suc, ◌+◌, ◌*◌, ◌<◌, Bool, true, false, List, [], ◌∷◌, Option, Some, None, inl, inr, refl, sym, subst, ap, ◌∙◌, arith}
 use Rattle.std.specs.Prelude.{nat_eq, nat_lt, ◌||◌, ◌&&◌, if◌then◌else◌, take}
 use Rattle.std.proofs.lemmas.Bool.{cond_both, cond-true, and_parts, or_parts, eqb-true, eqb-false, eq-eqb, ltb-true, ltb-false}
 use Rattle.lu_base.specs.declared.ids.At.{At}
@@ -16,50 +16,50 @@ use Rattle.lu_msg.specs.declared.messages.Message.TheVariants as message
 use Rattle.lu_msg.specs.declared.messages.Reply.{Reply as ReplyTo}
 use Rattle.lu_msg.specs.declared.messages.Request.{Request as RequestOf}
 use Rattle.lu_words.specs.Carried.{Deed, Slot, Glimpse}
-use Rattle.lu_words.specs.Words.{Entry, Send, Take, Tick, Skip, Crash, Act, Txn, Block, Commit, Boot, Enters, Release, Evict, Line, line, with_turn, same_life}
+use Rattle.lu_words.specs.Words.{Entry, Send, Take, Tick, Skip, Crash, Act, Txn, Block, Commit, Boot, Close, Enters, Release, Evict, Line, line, with_turn, turn_before, same_life}
 use Rattle.lu_words.specs.Concerns.{concerns, only, about}
 use Rattle.lu_words.specs.Sent.{Sent}
 use Rattle.lu_target_rows.specs.Disks.{over_disk}
 use Rattle.lu_target_rows.specs.Glimpses.{glimpses_of, glimpses_end}
-use Rattle.lu_target_rows.specs.Leaving.{commits, ready}
+use Rattle.lu_target_rows.specs.Leaving.{commits, ready, row_tick, ticked}
 use Rattle.lu_target_rows.specs.Lives.{is_life, slot_in}
 use Rattle.lu_target_rows.specs.Names.{names_go}
 use Rattle.lu_target_rows.specs.Objects.{lock_of, objects_go}
 use Rattle.lu_target_rows.specs.Queues.{queue_goes}
-use Rattle.lu_target_rows.specs.Recovery.{row_replay, row_lock, row_word}
+use Rattle.lu_target_rows.specs.Recovery.{row_replay, row_lock, row_word, row_close}
 use Rattle.lu_target_rows.specs.Replies as kept
 use Rattle.lu_target_rows.specs.Replies.{row_kept}
 use Rattle.lu_target_rows.specs.Requests.{by_number, goes_on, releases, row_cancels, row_cancel, row_request}
 use Rattle.lu_target_rows.specs.Rows as target
-use Rattle.lu_target_rows.specs.Rows.{heeds, while_serving, row_heeds, first_deeds, row_commits, row_closes, when_up}
+use Rattle.lu_target_rows.specs.Rows.{heeds, while_serving, row_heeds, first_deeds, row_commits, row_commit, row_closes, when_up}
 use Rattle.lu_target_rows.specs.States.{Target, after, follow, turn as turned}
 use Rattle.lu_table.specs.Heads as table
 use Rattle.lu_table.specs.Runs.{MeetsTarget, HasNumbers, target_of, setting_of}
 use Rattle.lu_covered.specs.Covered.{AllCovered}
 use Rattle.lu_covered.specs.Heads.{Head}
 use Rattle.lu_covered.specs.TargetStates.{Server, boot_at, server_of, server_after, slot_of, lives_of}
-use Rattle.lu_guards.proofs.Guards.{In, Later, Was, EntryOk}
-use Rattle.lu_guards.proofs.StoryGuards.{Spoke, EntersOk, ReplyOk, EntryOf}
+use Rattle.lu_guards.proofs.Guards.{In, InTurn, IsTake, Later, Was, EntryOk}
+use Rattle.lu_guards.proofs.StoryGuards.{Spoke, AsksAgain, EntersOk, ReplyOk, EntryOf}
+use Rattle.lu_words.specs.Carried.{Outcome}
+use Rattle.lu_covered.specs.TargetCloses.{outcome_of}
+use Rattle.lu_guards.proofs.Held.{none_restored}
 use Rattle.lu_guards.proofs.Grown.{Noted, Grown}
-use Rattle.lu_guards.proofs.Lists.{turn, self, life_is}
+use Rattle.lu_guards.proofs.Lists.{turn, turn_irreflexive, self, life_is}
 use Rattle.lu_guards.proofs.Only.{turn_only, about_other, asked_target, grown_of}
 use Rattle.lu_guards.proofs.Parts.{boot_is}
 use Rattle.lu_guards.proofs.Covers.{EntriesCovered, covered_turn, over_none}
 use Rattle.lu_guards.proofs.TargetAlike.{Alike, Serving, serving_is, serving_line, serving_start, serving_client, window_commit, window_closed}
-use Rattle.lu_guards.proofs.TargetGood.{Reaches, good_row, story_turn, serves_backs, serves_marks}
+use Rattle.lu_guards.proofs.TargetGood.{Reaches, good_row, story_turn, serves_backs, serves_marks, serves_shows}
 use Rattle.lu_guards.proofs.TargetJoins.{over_lead, ready_lead, up_lead, join_lead}
 use Rattle.lu_guards.proofs.TargetLeaving.{commit_ok}
 use Rattle.lu_guards.proofs.TargetPass.{ServesAt, High, names_good}
 use Rattle.lu_guards.proofs.Comings.{IsAsked}
-use Rattle.lu_guards.proofs.TargetRecovers.{Crashed, crashed_first, crashed_client, crash_lead, recovers_lead, comes_lead as recovered, Leads as Recovered}
-use Rattle.lu_guards.proofs.TargetTicks.{tick_lead}
-use Rattle.lu_guards.proofs.Turns.{covered_head, Settled, owes_nothing, AllBacks, AllMarks, RowOk}
+use Rattle.lu_guards.proofs.TargetCrashed.{Crashed, Matches, Leads as LeadsTo, crashed_first, crashed_client}
+use Rattle.lu_guards.proofs.TargetRecovers.{crash_lead, recovers_lead, comes_lead as recovered}
+use Rattle.lu_guards.proofs.TargetStory.{IsFirst, story_apart, first_in, first_all}
+use Rattle.lu_guards.proofs.TargetTicks.{later_back, tick_lead}
+use Rattle.lu_guards.proofs.Turns.{covered_head, Settled, owes_nothing, AllBacks, AllMarks, AllShows, RowOk}
 use Rattle.lu_after.proofs.Targets.{target_own, target_other}
-
--- ---- a target serves, or crashed
-
-abbrev pub Matches : Head → ℕ → Target → List Line → Type 0
-Matches head t v past = Serving head t v past ⊎ Crashed head t v past
 
 -- ---- what is sent to a target is asked by a client
 
@@ -101,9 +101,10 @@ asks_of head (l ∷ past) n from t m g s = by l.entry s g.0.ok (λ r. asks_of he
 high_of : (v : Target) (es : List Entry) → target.overruns v es ≡ false → High v es
 high_of v es over =
     let w = turned v es in
-    let passed : target.passes w.boot w.number ≡ false = (or_parts (target.passes w.boot w.number) (target.passes w.boot w.cookie) (or_parts (nat_lt target.most_numbers w.boot) (target.passes w.boot w.number || target.passes w.boot w.cookie) over).1).0 in
-    let low = ltb-false (w.boot * 4294967296 + 4294967295) w.number passed in
-    omega (arith, low)
+    let parts = or_parts (target.passes w.boot w.number) (target.passes w.boot w.cookie) (or_parts (nat_lt target.most_numbers w.boot) (target.passes w.boot w.number || target.passes w.boot w.cookie) over).1 in
+    let number = ltb-false (w.boot * 4294967296 + 4294967295) w.number parts.0 in
+    let cookie = ltb-false (w.boot * 4294967296 + 4294967295) w.cookie parts.1 in
+    (omega (arith, number), omega (arith, cookie))
 
 -- ---- which lock is given back
 
@@ -127,9 +128,9 @@ module _ (head : Head) (stamp : Stamp) (t : ℕ) (past story : List Line) (v : T
   Heeded es = High v es → Reaches head stamp t past story v es (Serving head t)
 
   -- one of an older boot is told so
-  older_lead : (who : Who) (older : Bool) (rest : List Entry) → (older ≡ false → Heeded rest) → Heeded (target.by_boot v who older rest)
-  older_lead who true rest go high = up_lead head stamp t past story v who settled h
-  older_lead who false rest go high = go refl high
+  older_lead : (who : Who) (older : Bool) (rest : List Entry) → Spoke story t who → (older ≡ false → Heeded rest) → Heeded (target.by_boot v who older rest)
+  older_lead who true rest spoke go high = up_lead head stamp t past story v who settled h (inl spoke)
+  older_lead who false rest spoke go high = go refl high
 
   -- a life without a slot is told that it is over
   slot_lead : (who : Who) (rest : List Entry) → Spoke story t who → (is_life who (lives_of head.clients story) ≡ true → Heeded rest) → Heeded (target.by_slot v who (is_life who v.lives) rest)
@@ -140,10 +141,10 @@ module _ (head : Head) (stamp : Stamp) (t : ℕ) (past story : List Line) (v : T
       by false e high = over_lead head stamp t past story v who settled h (inr (inl (ap (is_life who) (sym h.lives) ∙ e, spoke)))
 
   heeds_lead : (who : Who) (boot : ℕ) (rest : List Entry) → Spoke story t who → (nat_lt boot v.boot ≡ false → is_life who (lives_of head.clients story) ≡ true → Heeded rest) → Heeded (heeds v who boot rest)
-  heeds_lead who boot rest spoke go = older_lead who (nat_lt boot v.boot) (target.by_slot v who (is_life who v.lives) rest) (λ e. slot_lead who rest spoke (go e))
+  heeds_lead who boot rest spoke go = older_lead who (nat_lt boot v.boot) (target.by_slot v who (is_life who v.lives) rest) spoke (λ e. slot_lead who rest spoke (go e))
 
   is_serving : nat_eq v.closed v.boot ≡ true
-  is_serving = eq-eqb v.closed v.boot (h.alike.closed ∙ sym h.alike.boot)
+  is_serving = eq-eqb v.closed v.boot h.alike.closed
 
   as_served : (a b : List Entry) → Heeded a → Heeded (if nat_eq v.closed v.boot then a else b)
   as_served a b go = subst Heeded (sym (cond-true (nat_eq v.closed v.boot) a b is_serving)) go
@@ -165,17 +166,16 @@ module _ (head : Head) (stamp : Stamp) (t : ℕ) (past story : List Line) (v : T
       (λ e has. as_served (ready v who ∷ []) rest (λ high. ready_lead head stamp t past story v who settled h has))
   told_lead c m told was = absurd told
 
--- ---- what is committed stands in the log
+-- ---- what is committed are the first deeds of the log
 
-in_take : (n : ℕ) (log : List Deed) (d : Deed) → In d (take n log) → In d log
-in_take zero log d i = absurd i
-in_take (suc n) [] d i = absurd i
-in_take (suc n) (x ∷ log) d (inl e) = inl e
-in_take (suc n) (x ∷ log) d (inr i) = inr (in_take n log d i)
+is_take : (n : ℕ) (log : List Deed) → IsFirst (take n log) log
+is_take zero log = tt
+is_take (suc n) [] = tt
+is_take (suc n) (d ∷ log) = (refl, is_take n log)
 
-in_first : (count : Option ℕ) (log : List Deed) (d : Deed) → In d (first_deeds count log) → In d log
-in_first None log d i = i
-in_first (Some n) log d i = in_take n log d i
+is_first : (count : Option ℕ) (log : List Deed) → IsFirst (first_deeds count log) log
+is_first None log = first_all log
+is_first (Some n) log = is_take n log
 
 -- ---- turns of the metadata target
 
@@ -195,7 +195,7 @@ module _ (head : Head) (stamp : Stamp) where
 
   -- a life with a slot wasn't evicted, so its slots are alike
   slot_same : (v : Target) (past : List Line) (who : Who) (tag : ℕ) → ServesAt head stamp v past → is_life who (lives_of head.clients (only 0 past)) ≡ true → slot_in v.slots who tag ≡ slot_of who tag (only 0 past)
-  slot_same v past who tag h has = h.slots who tag (ap (is_life who) h.removed ∙ h.story.apart who has)
+  slot_same v past who tag h has = h.slots who tag (ap (is_life who) h.removed ∙ story_apart head (only 0 past) h.story who has)
 
   taken : (v : Target) (past : List Line) (n : ℕ) (from : Node) (m : Message) → ServesAt head stamp v past → ServesAt head stamp v (line at (Take n from m) ∷ past)
   taken v past n from m h = serving_line head 0 (only 0 past) stamp (Take n from m) v tt tt h
@@ -203,8 +203,8 @@ module _ (head : Head) (stamp : Stamp) where
   -- ---- a request
 
   enters_lead : (v : Target) (past : List Line) (n c : ℕ) (r : RequestOf) → ServesAt head stamp v past → Was (only 0 past) (node.Client c) (node.Target 0) (message.Request r) → is_life r.who (lives_of head.clients (only 0 past)) ≡ true
-      → nat_lt (slot_in v.slots r.who r.tag).taken r.xid.0 ≡ true → Heeds v (line at (Take n (node.Client c) (message.Request r)) ∷ past) (Enters r ∷ names_go at (after v (Enters r)))
-  enters_lead v past n c r h was has above high =
+      → nat_lt r.boot v.boot ≡ false → nat_lt (slot_in v.slots r.who r.tag).taken r.xid.0 ≡ true → Heeds v (line at (Take n (node.Client c) (message.Request r)) ∷ past) (Enters r ∷ names_go at (after v (Enters r)))
+  enters_lead v past n c r h was has older above high =
       let past1 = line at (Take n (node.Client c) (message.Request r)) ∷ past in
       let ok : EntersOk head.osts head.clients (only 0 past1) 0 r =
       record {
@@ -212,21 +212,25 @@ module _ (head : Head) (stamp : Stamp) where
         has = has;
         from = c;
         was = was;
+        current = let less = ltb-false r.boot v.boot older in let boot = h.alike.boot in omega (arith, less, boot);
         newer = subst (λ (s : Slot). s.taken < r.xid.0) (slot_same v past r.who r.tag h has) (ltb-true (slot_in v.slots r.who r.tag).taken r.xid.0 above);
       } in
       let names = names_good head stamp (line at (Enters r) ∷ past1) (line at (Enters r) ∷ only 0 past1) (after v (Enters r)) refl tt (serving_line head 0 (only 0 past1) stamp (Enters r) v tt ok (taken v past n (node.Client c) (message.Request r) h)) high in
       (((tt, (refl, (node.Client c, (refl, refl, refl))), ok), names.0), names.1)
 
   kept_lead : (v : Target) (past : List Line) (n c : ℕ) (r : RequestOf) (kept : Option ReplyTo) → ServesAt head stamp v past → is_life r.who (lives_of head.clients (only 0 past)) ≡ true → nat_eq (slot_in v.slots r.who r.tag).taken r.xid.0 ≡ true
-      → (slot_in v.slots r.who r.tag).reply ≡ kept → Leads (line at (Take n (node.Client c) (message.Request r)) ∷ past) v (row_kept v kept)
-  kept_lead v past n c r None h has same is = (tt, taken v past n (node.Client c) (message.Request r) h)
-  kept_lead v past n c r (Some k) h has same is =
+      → Was (only 0 past) (node.Client c) (node.Target 0) (message.Request r) → nat_lt r.boot v.boot ≡ false → (slot_in v.slots r.who r.tag).reply ≡ kept → Leads (line at (Take n (node.Client c) (message.Request r)) ∷ past) v (row_kept v kept)
+  kept_lead v past n c r None h has same was older is = (tt, taken v past n (node.Client c) (message.Request r) h)
+  kept_lead v past n c r (Some k) h has same was older is =
       let past1 = line at (Take n (node.Client c) (message.Request r)) ∷ past in
       let alike = slot_same v past r.who r.tag h has in
       let slot : (slot_of r.who r.tag (only 0 past)).reply ≡ Some k = ap (λ (s : Slot). s.reply) (sym alike) ∙ is in
       let newest : (slot_of r.who r.tag (only 0 past)).taken ≡ r.xid.0 = ap (λ (s : Slot). s.taken) (sym alike) ∙ eqb-true (slot_in v.slots r.who r.tag).taken r.xid.0 same in
       let answer = kept.again v k in
-      let ok : ReplyOk head.osts (only 0 past1) k.who.client answer = record { serves = serving_is head 0 v (only 0 past) h; who = r.who; tag = r.tag; kept = k; slot = slot; is = rw (h.alike.boot, h.alike.first, h.alike.committed) refl; to = refl } in (
+      let less = ltb-false r.boot v.boot older in
+      let boot = h.alike.boot in
+      let asks : AsksAgain head (only 0 past1) 0 r.who r.tag = record { request = r; from = c; was = was; of_life = refl; of_tag = refl; same = newest; current = omega (arith, less, boot); has = has } in
+      let ok : ReplyOk head (only 0 past1) 0 k.who.client answer = record { serves = serving_is head 0 v (only 0 past) h; who = r.who; tag = r.tag; kept = k; slot = slot; is = rw (h.alike.boot, h.alike.committed) refl; to = refl; cause = inr asks } in (
         (
           (
             tt,
@@ -254,7 +258,7 @@ module _ (head : Head) (stamp : Stamp) where
       → Heeds v (line at (Take n (node.Client c) (message.Request r)) ∷ past) (row_heeds v at (message.Request r))
   request_lead v past n c r h was =
       heeds_lead head stamp 0 past1 (only 0 past1) v tt served r.who r.boot (while_serving v (row_request v at r)) (c, message.Request r, was, refl)
-      (λ older has. as_served head stamp 0 past1 (only 0 past1) v tt served (row_request v at r) [] (by has (nat_lt slot.taken r.xid.0) (nat_eq slot.taken r.xid.0) refl refl))
+      (λ older has. as_served head stamp 0 past1 (only 0 past1) v tt served (row_request v at r) [] (by older has (nat_lt slot.taken r.xid.0) (nat_eq slot.taken r.xid.0) refl refl))
     where
       past1 : List Line
       past1 = line at (Take n (node.Client c) (message.Request r)) ∷ past
@@ -265,13 +269,13 @@ module _ (head : Head) (stamp : Stamp) where
       slot : Slot
       slot = slot_in v.slots r.who r.tag
 
-      by : is_life r.who (lives_of head.clients (only 0 past)) ≡ true → (above same : Bool) → nat_lt slot.taken r.xid.0 ≡ above → nat_eq slot.taken r.xid.0 ≡ same → Heeds v past1 (by_number v at r slot.reply above same)
-      by has true same e f high =
+      by : nat_lt r.boot v.boot ≡ false → is_life r.who (lives_of head.clients (only 0 past)) ≡ true → (above same : Bool) → nat_lt slot.taken r.xid.0 ≡ above → nat_eq slot.taken r.xid.0 ≡ same → Heeds v past1 (by_number v at r slot.reply above same)
+      by older has true same e f high =
           let w = after v (Enters r) in
           let names : (if nat_eq v.setting.id 0 then names_go at w else objects_go w at r r.op) ≡ names_go at w = cond-true (nat_eq v.setting.id 0) (names_go at w) (objects_go w at r r.op) (rw h.alike.id refl) in
-          subst (λ (es : List Entry). Heeds v past1 (Enters r ∷ es)) (sym names) (enters_lead v past n c r h was has e) high
-      by has false true e f high = kept_lead v past n c r slot.reply h has f refl
-      by has false false e f high = (tt, taken v past n (node.Client c) (message.Request r) h)
+          subst (λ (es : List Entry). Heeds v past1 (Enters r ∷ es)) (sym names) (enters_lead v past n c r h was has older e) high
+      by older has false true e f high = kept_lead v past n c r slot.reply h has f was older refl
+      by older has false false e f high = (tt, taken v past n (node.Client c) (message.Request r) h)
 
   -- ---- a cancel
 
@@ -285,7 +289,7 @@ module _ (head : Head) (stamp : Stamp) where
       past1 = line at (Take n (node.Client c) (message.Cancel who boot cookie)) ∷ past
 
       current : nat_lt boot (boot_at 0 past1) ≡ false
-      current = ap (nat_lt boot) (boot_is head.osts 0 past1 ∙ h.story.first ∙ sym h.alike.boot) ∙ older
+      current = ap (nat_lt boot) (boot_is head.osts 0 past1 ∙ sym h.alike.boot) ∙ older
 
       same : (l.ask.who ≡ who) × (l.cookie ≡ cookie)
       same = lock_found who cookie v.granted l found
@@ -373,13 +377,13 @@ module _ (head : Head) (stamp : Stamp) (t : ℕ) where
   tick_alone : (past story : List Line) (v : Target) → Settled past → Later past here → Serving head t v story → Reaches head stamp t past story v (Tick ∷ []) (Serving head t)
   tick_alone past story v settled later h = (((owes_nothing past here Tick settled, later, tt), tt), serving_line head t story stamp Tick v tt tt h)
 
-  commits_lead : (past story : List Line) (v : Target) (deeds : List Deed) → Settled past → Later past here → Serving head t v story → ((d : Deed) → In d deeds → In d (server_of head.osts story).log) → Reaches head stamp t past story v (row_commits v deeds) (Serving head t)
-  commits_lead past story v [] settled later h logged = skip_lead past story v settled later h
-  commits_lead past story v (d ∷ deeds) settled later h logged =
+  commits_lead : (past story : List Line) (v : Target) (deeds : List Deed) → Settled past → Later past here → Serving head t v story → IsFirst deeds (server_of head.osts story).log → Reaches head stamp t past story v (row_commits v deeds) (Serving head t)
+  commits_lead past story v [] settled later h first = skip_lead past story v settled later h
+  commits_lead past story v (d ∷ deeds) settled later h first =
       let e = commits v (d ∷ deeds) [] [] in
-      let ok = commit_ok head.osts story (d ∷ deeds) v.committed logged h.alike.committed (serving_is head t v story h) in (
+      let ok = commit_ok head story here (d ∷ deeds) [] [] v.committed h.story first h.alike.committed (serving_is head t v story h) in (
         ((owes_nothing past here e settled, tt, ok), tt),
-        window_closed head t (line here e ∷ story) (after v e) h.shown (window_commit head t story stamp (d ∷ deeds) [] [] v logged ok h),
+        window_closed head t (line here e ∷ story) (after v e) h.shown (window_commit head t story stamp (d ∷ deeds) [] [] v (λ x i. first_in (d ∷ deeds) (server_of head.osts story).log x first i) ok h),
       )
 
 -- ---- another target grants nothing, calls nothing back, and has nothing to commit, whoever leaves
@@ -391,28 +395,33 @@ record Idle (s : Server) : Type 0 where
 
 idle : (head : Head) (t : ℕ) (past : List Line) → (t ≡ 0 → ⊥) → Grown head past → Idle (server_of head.osts (only t past))
 idle head t [] other g = record { granted = refl; called = refl; log = refl }
-idle head t (l ∷ past) other g = by l.at.node g.0.ok (idle head t past other g.1)
+idle head t (l ∷ past) other g = by l.at.node g.0.ok (g.0.of t) (idle head t past other g.1)
   where
     P : List Line
     P = only t past
 
     -- its own entry
-    own : (u : ℕ) (e : Entry) → (u ≡ 0 → ⊥) → EntryOk past (turn l.at.stamp (node.Target u)) (node.Target u) e → Idle (server_of head.osts P) → Idle (server_after head.osts (server_of head.osts P) e)
-    own u (Act d) ne ok h = absurd (ne ok)
-    own u (Txn d) ne ok h = absurd (ne ok)
-    own u (Block called) ne ok h = absurd (ne ok)
-    own u (Release lock) ne ok h = absurd (ne ok.0)
-    own u (Commit to batch) ne ok h = record { granted = h.granted; called = h.called; log = rw h.log refl }
-    own u (Evict who cause) ne ok h = record { granted = rw h.granted refl; called = rw h.called refl; log = h.log }
-    own u (Boot boot disk) ne ok h = record { granted = h.granted; called = h.called; log = h.log }
-    own u (Enters r) ne ok h = absurd (ne ok.0)
-    own u e ne ok h = h
+    none : (v : ℕ) (at : At) → (v ≡ 0 → ⊥) → (outcome_of head.osts head.clients at (only v past)).locks ≡ []
+    none zero at ne = absurd (ne refl)
+    none (suc v) at ne = none_restored head v past at g.1
 
-    by : (n : Node) → EntryOk past (turn l.at.stamp n) n l.entry → Idle (server_of head.osts P) → Idle (server_of head.osts (if concerns t n l.entry then line (turn l.at.stamp n) l.entry ∷ P else P))
-    by (node.Client c) ok h = cond_both (concerns t (node.Client c) l.entry) (line (turn l.at.stamp (node.Client c)) l.entry ∷ P) P (λ (p : List Line). Idle (server_of head.osts p)) (λ e. h) (λ e. h)
-    by (node.Target u) ok h =
+    own : (u : ℕ) (e : Entry) → (u ≡ 0 → ⊥) → EntryOk past (turn l.at.stamp (node.Target u)) (node.Target u) e → EntryOf head P l.at (node.Target u) e → Idle (server_of head.osts P) → Idle (server_after head.osts (server_of head.osts P) e)
+    own u (Act d) ne ok of h = absurd (ne ok)
+    own u (Txn d) ne ok of h = absurd (ne ok)
+    own u (Block called) ne ok of h = absurd (ne ok)
+    own u (Release lock) ne ok of h = absurd (ne ok.0)
+    own u (Commit to batch) ne ok of h = record { granted = h.granted; called = h.called; log = rw h.log refl }
+    own u (Evict who cause) ne ok of h = record { granted = rw h.granted refl; called = rw h.called refl; log = h.log }
+    own u (Boot boot disk) ne ok of h = record { granted = h.granted; called = h.called; log = h.log }
+    own u (Enters r) ne ok of h = absurd (ne ok.0)
+    own u (Close o) ne ok of h = record { granted = ap (λ (x : Outcome). x.locks) of.is ∙ none t l.at other; called = refl; log = refl }
+    own u e ne ok of h = h
+
+    by : (n : Node) → EntryOk past (turn l.at.stamp n) n l.entry → (concerns t n l.entry ≡ true → EntryOf head P l.at n l.entry) → Idle (server_of head.osts P) → Idle (server_of head.osts (if concerns t n l.entry then line (turn l.at.stamp n) l.entry ∷ P else P))
+    by (node.Client c) ok of h = cond_both (concerns t (node.Client c) l.entry) (line (turn l.at.stamp (node.Client c)) l.entry ∷ P) P (λ (p : List Line). Idle (server_of head.osts p)) (λ e. h) (λ e. h)
+    by (node.Target u) ok of h =
         cond_both (nat_eq t u) (line (turn l.at.stamp (node.Target u)) l.entry ∷ P) P (λ (p : List Line). Idle (server_of head.osts p))
-        (λ e. own u l.entry (λ z. other (eqb-true t u e ∙ z)) ok h)
+        (λ e. own u l.entry (λ z. other (eqb-true t u e ∙ z)) ok (of e) h)
         (λ e. h)
 
 -- so all locks are of the metadata target
@@ -435,10 +444,10 @@ boots_skip osts t v s here h = rw h.up refl
 
 -- and one that serves has no window to close
 closes_skip : (osts t : ℕ) (v : Target) (s : Server) (here : At) → Alike osts t v s → target.row v here target.Closes ≡ Skip ∷ []
-closes_skip osts t v s here h = rw (h.up, h.boot, h.closed) refl
+closes_skip osts t v s here h = cond-true v.up (row_closes v here) (Skip ∷ []) h.up ∙ (cond-true (nat_eq v.closed v.boot) (Skip ∷ []) (row_close here v) (eq-eqb v.closed v.boot h.closed))
 
 commits_are : (osts t : ℕ) (v : Target) (s : Server) (here : At) (count : Option ℕ) → Alike osts t v s → target.row v here (target.Commits count) ≡ row_commits v (first_deeds count v.log)
-commits_are osts t v s here count h = rw (h.up, h.boot, h.closed) refl
+commits_are osts t v s _ count h = cond-true v.up (row_commit v count) (Skip ∷ []) h.up ∙ (cond-true (nat_eq v.closed v.boot) (row_commits v (first_deeds count v.log)) (Skip ∷ []) (eq-eqb v.closed v.boot h.closed))
 
 first_none : (count : Option ℕ) → first_deeds count [] ≡ []
 first_none None = refl
@@ -497,7 +506,9 @@ module _ (head : table.Head) (past : List Line) (stamp : Stamp) (grown : Grown (
       i = idle (covered_head head) (suc t) past (λ e. absurd (cc)) grown
 
       is : target.row v (turn stamp (node.Target (suc t))) target.Ticks ≡ Tick ∷ []
-      is = rw (h.alike.up, h.alike.boot, h.alike.closed, h.alike.glimpses) (rw (h.alike.called ∙ i.called) (rw (h.alike.granted ∙ i.granted) refl))
+      is =
+          cond-true v.up (row_tick v (turn stamp (node.Target (suc t)))) (Skip ∷ []) h.alike.up ∙ cond-true (nat_eq v.closed v.boot) (Tick ∷ ticked (turn stamp (node.Target (suc t))) (after v Tick)) (Tick ∷ []) (eq-eqb v.closed v.boot h.alike.closed)
+          ∙ rw h.alike.glimpses (rw (h.alike.called ∙ i.called) (rw (h.alike.granted ∙ i.granted) refl))
 
   skips_row : (t : ℕ) (es : List Entry) → Serving (covered_head head) t (target_of head t past) (only t past) → Later past (turn stamp (node.Target t)) → es ≡ Skip ∷ [] → Reaches (covered_head head) stamp t past (only t past) (target_of head t past) es (Serving (covered_head head) t)
   skips_row t es h later is =
@@ -509,13 +520,13 @@ module _ (head : table.Head) (past : List Line) (stamp : Stamp) (grown : Grown (
       let s = server_of head.osts (only t past) in
       subst (λ (es : List Entry). Reaches (covered_head head) stamp t past (only t past) v es (Serving (covered_head head) t)) (sym (commits_are head.osts t v s (turn stamp (node.Target t)) count h.alike)) (
       commits_lead (covered_head head) stamp t past (only t past) v (first_deeds count v.log) settled later h
-      (λ d i. subst (λ (log : List Deed). In d log) h.alike.log (in_first count v.log d i))
+      (subst (IsFirst (first_deeds count v.log)) h.alike.log (is_first count v.log))
       )
 
   -- ---- whether it serves or crashed
 
   abbrev Makes : ℕ → List Entry → Type 0
-  Makes t es = Reaches (covered_head head) stamp t past (only t past) (target_of head t past) es (Matches (covered_head head) t) × AllBacks (covered_head head) (only t past) (turn stamp (node.Target t)) es × AllMarks (covered_head head) (only t past) (turn stamp (node.Target t)) es
+  Makes t es = LeadsTo (covered_head head) stamp t past (only t past) (target_of head t past) es
 
   as_serves : (t : ℕ) (es : List Entry) → Serving (covered_head head) t (target_of head t past) (only t past) → Reaches (covered_head head) stamp t past (only t past) (target_of head t past) es (Serving (covered_head head) t) → Makes t es
   as_serves t es h r =
@@ -523,10 +534,8 @@ module _ (head : table.Head) (past : List Line) (stamp : Stamp) (grown : Grown (
         (r.0, inl r.1),
         serves_backs (covered_head head) stamp t es past (only t past) r.0 serves.closed (noted.told t) (inl h.phase.up),
         serves_marks (covered_head head) stamp t es past (only t past) r.0 serves.closed (noted.marked t) (inl h.phase.up),
+        serves_shows (covered_head head) stamp t es past (only t past) r.0 serves.closed (noted.shown t) (inl h.phase.up),
       )
-
-  as_crashed : (t : ℕ) (es : List Entry) → Recovered (covered_head head) stamp t past (only t past) (target_of head t past) es → Makes t es
-  as_crashed t es r = ((r.0.0, inr r.0.1), r.1, r.2)
 
   serves_row : (t : ℕ) (event : target.Event) → Serving (covered_head head) t (target_of head t past) (only t past) → Later past (turn stamp (node.Target t)) → MeetsTarget head past t event
       → target.overruns (target_of head t past) (target.row (target_of head t past) (turn stamp (node.Target t)) event) ≡ false → Makes t (target.row (target_of head t past) (turn stamp (node.Target t)) event)
@@ -536,7 +545,7 @@ module _ (head : table.Head) (past : List Line) (stamp : Stamp) (grown : Grown (
   serves_row t target.Crashes h later meets over =
       let v = target_of head t past in
       subst (Makes t) (sym (crashes_are head.osts t v (server_of head.osts (only t past)) (turn stamp (node.Target t)) h.alike))
-      (as_crashed t (Crash ∷ []) (crash_lead (covered_head head) stamp t past (only t past) v settled (noted.told t) (noted.marked t) later h.phase.up (crashed_first (covered_head head) t (only t past) stamp v h)))
+      (crash_lead (covered_head head) stamp t past (only t past) v settled (noted.told t, noted.shown t, grown_of (covered_head head) t past grown) (noted.marked t) later h.phase.up (crashed_first (covered_head head) t (only t past) stamp v h))
   serves_row t target.Boots h later meets over =
       let es = target.row (target_of head t past) (turn stamp (node.Target t)) target.Boots in
       as_serves t es h (skips_row t es h later (boots_skip head.osts t (target_of head t past) (server_of head.osts (only t past)) (turn stamp (node.Target t)) h.alike))
@@ -544,14 +553,24 @@ module _ (head : table.Head) (past : List Line) (stamp : Stamp) (grown : Grown (
       let es = target.row (target_of head t past) (turn stamp (node.Target t)) target.Closes in
       as_serves t es h (skips_row t es h later (closes_skip head.osts t (target_of head t past) (server_of head.osts (only t past)) (turn stamp (node.Target t)) h.alike))
 
+  -- no line is of a turn that is later than all
+  fresh : (u : ℕ) (next : At) (p : List Line) → Grown (covered_head head) p → Later p next → InTurn IsTake (only u p) next → ⊥
+  fresh u next [] g later i = i
+  fresh u next (l ∷ p) g later i = by (concerns u l.at.node l.entry) i (fresh u next p g.1 (later_back p l.at next g.0.steps later))
+    where
+      by : (b : Bool) → InTurn IsTake (if b then l ∷ only u p else only u p) next → (InTurn IsTake (only u p) next → ⊥) → ⊥
+      by true (inl k) none = turn_irreflexive next (subst (λ (a : At). turn_before a next ≡ true) k.0 later)
+      by true (inr k) none = none k
+      by false k none = none k
+
   other_row : (t : ℕ) (event : target.Event) → ((n : ℕ) (from : Node) (m : Message) → event ≡ target.Comes n from m → ⊥) → Crashed (covered_head head) t (target_of head t past) (only t past) → Later past (turn stamp (node.Target t))
-      → EntriesCovered (target.row (target_of head t past) (turn stamp (node.Target t)) event) → Makes t (target.row (target_of head t past) (turn stamp (node.Target t)) event)
-  other_row t event other h later covered =
-      as_crashed t (target.row (target_of head t past) (turn stamp (node.Target t)) event) (recovers_lead (covered_head head) stamp t past (only t past) (target_of head t past) event other settled (noted.told t) (noted.marked t) later h covered)
+      → Makes t (target.row (target_of head t past) (turn stamp (node.Target t)) event)
+  other_row t event other h later =
+      recovers_lead (covered_head head) stamp t past (only t past) (target_of head t past) event other settled (noted.told t, noted.shown t, grown_of (covered_head head) t past grown) (noted.marked t) later (fresh t (turn stamp (node.Target t)) past grown later) h
 
   crashed_row : (t : ℕ) (event : target.Event) → Crashed (covered_head head) t (target_of head t past) (only t past) → Later past (turn stamp (node.Target t)) → MeetsTarget head past t event
-      → EntriesCovered (target.row (target_of head t past) (turn stamp (node.Target t)) event) → Makes t (target.row (target_of head t past) (turn stamp (node.Target t)) event)
-  crashed_row t (target.Comes n from m) h later meets covered =
+      → Makes t (target.row (target_of head t past) (turn stamp (node.Target t)) event)
+  crashed_row t (target.Comes n from m) h later meets =
       let asks = asks_of (covered_head head) past n from t m grown meets.3 in
       comes asks.client asks.is asks.asked
     where
@@ -561,22 +580,19 @@ module _ (head : table.Head) (past : List Line) (stamp : Stamp) (grown : Grown (
       comes : (c : ℕ) → from ≡ node.Client c → IsAsked t m → Row from
       comes c is asked =
           let sent : Sent past n (node.Client c) (node.Target t) m = subst (λ (x : Node). Sent past n x (node.Target t) m) is meets.3 in
-          let covers = subst (λ (x : Node). EntriesCovered (target.row (target_of head t past) (turn stamp (node.Target t)) (target.Comes n x m))) is covered in
           subst Row (sym is) (
-          as_crashed t (target.row (target_of head t past) (turn stamp (node.Target t)) (target.Comes n (node.Client c) m))
-          (recovered (covered_head head) stamp t past (only t past) (target_of head t past) n c m settled (noted.told t) (noted.marked t) (grown_of (covered_head head) t past grown) later h meets.2 sent asked (asked_target past n c t m sent) covers)
+          recovered (covered_head head) stamp t past (only t past) (target_of head t past) n c m settled (noted.told t, noted.shown t, grown_of (covered_head head) t past grown) (noted.marked t) later h meets.2 sent asked (asked_target past n c t m sent)
           )
-  crashed_row t target.Ticks h later meets covered = other_row t target.Ticks (λ n from m e. absurd (cc)) h later covered
-  crashed_row t (target.Commits count) h later meets covered = other_row t (target.Commits count) (λ n from m e. absurd (cc)) h later covered
-  crashed_row t target.Crashes h later meets covered = other_row t target.Crashes (λ n from m e. absurd (cc)) h later covered
-  crashed_row t target.Boots h later meets covered = other_row t target.Boots (λ n from m e. absurd (cc)) h later covered
-  crashed_row t target.Closes h later meets covered = other_row t target.Closes (λ n from m e. absurd (cc)) h later covered
+  crashed_row t target.Ticks h later meets = other_row t target.Ticks (λ n from m e. absurd (cc)) h later
+  crashed_row t (target.Commits count) h later meets = other_row t (target.Commits count) (λ n from m e. absurd (cc)) h later
+  crashed_row t target.Crashes h later meets = other_row t target.Crashes (λ n from m e. absurd (cc)) h later
+  crashed_row t target.Boots h later meets = other_row t target.Boots (λ n from m e. absurd (cc)) h later
+  crashed_row t target.Closes h later meets = other_row t target.Closes (λ n from m e. absurd (cc)) h later
 
   target_row : (t : ℕ) (event : target.Event) → Matches (covered_head head) t (target_of head t past) (only t past) → Later past (turn stamp (node.Target t)) → MeetsTarget head past t event
-      → EntriesCovered (target.row (target_of head t past) (turn stamp (node.Target t)) event)
       → target.overruns (target_of head t past) (target.row (target_of head t past) (turn stamp (node.Target t)) event) ≡ false → Makes t (target.row (target_of head t past) (turn stamp (node.Target t)) event)
-  target_row t event (inl h) later meets covered over = serves_row t event h later meets over
-  target_row t event (inr h) later meets covered over = crashed_row t event h later meets covered
+  target_row t event (inl h) later meets over = serves_row t event h later meets over
+  target_row t event (inr h) later meets over = crashed_row t event h later meets
 
 -- ---- between turns
 
@@ -607,8 +623,8 @@ pub record TargetOk (head : table.Head) (past : List Line) (stamp : Stamp) (t : 
   pub serves : (u : ℕ) → ServesBetween head (with_turn (turn stamp (node.Target t)) es past) u
 
 target_turn : (head : table.Head) (past : List Line) (stamp : Stamp) (t : ℕ) (es : List Entry) → ((u : ℕ) → ServesBetween head past u) → Noted (covered_head head) past → Reaches (covered_head head) stamp t past (only t past) (target_of head t past) es (Matches (covered_head head) t)
-    → AllBacks (covered_head head) (only t past) (turn stamp (node.Target t)) es → AllMarks (covered_head head) (only t past) (turn stamp (node.Target t)) es → TargetOk head past stamp t es
-target_turn head past stamp t es serves noted r backs marks = record { row = good_row (covered_head head) stamp t es past r.0 noted backs marks; serves = λ u. by u (nat_eq u t) refl }
+    → AllBacks (covered_head head) (only t past) (turn stamp (node.Target t)) es → AllMarks (covered_head head) (only t past) (turn stamp (node.Target t)) es → AllShows (covered_head head) (only t past) (turn stamp (node.Target t)) es → TargetOk head past stamp t es
+target_turn head past stamp t es serves noted r backs marks shows = record { row = good_row (covered_head head) stamp t es past r.0 noted backs marks shows; serves = λ u. by u (nat_eq u t) refl }
   where
     at : At
     at = turn stamp (node.Target t)
@@ -632,5 +648,5 @@ target_ok head past stamp t event fails grown settled noted serves later meets n
     let es = target.row (target_of head t past) at event in
     let c : EntriesCovered (over_disk fails es) = (covered_turn at (over_disk fails es) past covered).0 in
     let all : over_disk fails es ≡ es = over_none fails es c in
-    let r = target_row head past stamp grown settled noted t event (serves t) later meets (subst EntriesCovered all c) numbers in
-    subst (λ (fs : List Entry). TargetOk head past stamp t fs) (sym all) (target_turn head past stamp t es serves noted r.0 r.1 r.2)
+    let r = target_row head past stamp grown settled noted t event (serves t) later meets numbers in
+    subst (λ (fs : List Entry). TargetOk head past stamp t fs) (sym all) (target_turn head past stamp t es serves noted r.0 r.1 r.2 r.3)

@@ -1,6 +1,6 @@
 -- A commit with which lives leave or one comes, all that follows it, and what waited goes on: allowed lines, after which the target is
 -- again what its story says.
-use Rattle.std.proofs.Common.{◌≡◌, ℕ, Bool, true, false, List, [], ◌∷◌, None, refl, sym, subst, ap, ◌∙◌}
+use Rattle.std.proofs.Common.{◌≡◌, ℕ, ◌≤◌, Bool, true, false, List, [], ◌∷◌, None, inl, refl, sym, subst, ap, ◌∙◌}
 use Rattle.std.specs.Prelude.{nat_eq}
 use Rattle.std.specs.List.{list_any}
 use Rattle.std.proofs.lemmas.Bool.{cond-true, cond-false, eqb-true}
@@ -12,8 +12,7 @@ use Rattle.lu_base.specs.declared.locks.Cause.{Cause}
 use Rattle.lu_base.specs.declared.locks.Cause.TheVariants.{Expired, Replaced}
 use Rattle.lu_base.specs.declared.locks.Lock.{Lock}
 use Rattle.lu_msg.specs.declared.messages.Message.TheVariants as message
-use Rattle.lu_words.specs.Carried.{Deed}
-use Rattle.lu_words.specs.Words.{Entry, Joined, Line, line, with_turn}
+use Rattle.lu_words.specs.Words.{Entry, Boot, Joined, Line, line, with_turn}
 use Rattle.lu_words.specs.Concerns.{only}
 use Rattle.lu_target_rows.specs.Leaving.{commits, ready, evictions, all_go, expels, admits, row_admits, is_over, life_of as life_in}
 use Rattle.lu_target_rows.specs.Lives.{is_life, with_lives, without_lives}
@@ -28,8 +27,9 @@ use Rattle.lu_guards.proofs.Lists.{turn}
 use Rattle.lu_guards.proofs.LifeLists.{Distinct, life_put}
 use Rattle.lu_guards.proofs.TargetAlike.{Serving, Window, serving_is, window_is, window_joined, window_send, window_closed, all_stay}
 use Rattle.lu_guards.proofs.TargetGood.{Reaches, reaches_more, turned_more}
-use Rattle.lu_guards.proofs.TargetLeaving.{Leaving, leave_start, evictions_lead, commit_ok}
+use Rattle.lu_guards.proofs.TargetLeaving.{IsNoBoot, Carries, Leaving, leave_start, evictions_lead, commit_ok}
 use Rattle.lu_guards.proofs.TargetPass.{HighAt, High, names_good}
+use Rattle.lu_guards.proofs.TargetStory.{IsFirst, first_all}
 use Rattle.lu_guards.proofs.Turns.{Settled, owes_nothing}
 use Rattle.lu_guards.proofs.Ends.{took_more}
 use Rattle.lu_guards.proofs.Only.{was_more}
@@ -68,7 +68,7 @@ module _ (head : Head) (stamp : Stamp) where
 
     -- lives whose time is over leave
     module _ (v : Target) (past story : List Line) (is : story ≡ only t past) (settled : Settled past) (h : Serving head t v story) (names : (l : Lock) → In l (server_of head.osts story).granted → t ≡ 0) where
-      commit_lead : (cause : Cause) (gone come : List Who) (K : List Line → Type 0) → ((l : Line) (p : List Line) → K p → K (l ∷ p)) → ((x : Who) → In x gone → is_life x (lives_of head.clients story) ≡ true) → Distinct gone
+      commit_lead : (cause : Cause) (gone come : List Who) (K : List Line → Type 0) → Carries t stamp K → ((x : Who) → In x gone → is_life x (lives_of head.clients story) ≡ true) → Distinct gone
           → ((x : Who) → In x gone → EvictedBy story at x cause) → K story
           → Reaches head stamp t past story v (commits v v.log gone come ∷ []) (λ w p. Leaving head t at cause v.granted come (without_lives gone (lives_of head.clients story)) (with_lives gone (evicted_of story)) K gone [] w p)
       commit_lead cause gone come K keeps has distinct caused carried = (
@@ -76,7 +76,7 @@ module _ (head : Head) (stamp : Stamp) where
           (
             owes_nothing past at (commits v v.log gone come) settled,
             tt,
-            commit_ok head.osts story v.log v.committed (λ d i. subst (λ (log : List Deed). In d log) h.alike.log i) h.alike.committed (serving_is head t v story h),
+            commit_ok head story at v.log gone come v.committed h.story (subst (IsFirst v.log) h.alike.log (first_all v.log)) h.alike.committed (serving_is head t v story h),
           ),
           tt,
         ),
@@ -104,8 +104,8 @@ module _ (head : Head) (stamp : Stamp) where
           Nothing : List Line → Type 0
           Nothing p = Unit {0}
 
-          nothing : (l : Line) (p : List Line) → Nothing p → Nothing (l ∷ p)
-          nothing l p u = tt
+          nothing : Carries t stamp Nothing
+          nothing e p n u = tt
 
           w : Target
           w = after v (commits v v.log all [])
@@ -126,13 +126,13 @@ module _ (head : Head) (stamp : Stamp) where
           Leaves rest x p = Leaving head t at Expired v.granted [] final ended Nothing rest [] x p
 
       -- with its commit a life comes, and the old one of its client leaves
-      pub admits_lead : (c boot : ℕ) (who : Who) (gone : List Who) → Took story at (node.Client c) (message.Join who boot) → Was story (node.Client c) (node.Target t) (message.Join who boot)
+      pub admits_lead : (c boot : ℕ) (who : Who) (gone : List Who) → Took story at (node.Client c) (message.Join who boot) → Was story (node.Client c) (node.Target t) (message.Join who boot) → (server_of head.osts story).boot ≤ boot
           → ((x : Who) → In x gone → is_life x (lives_of head.clients story) ≡ true) → Distinct gone → ((x : Who) → In x gone → EvictedBy story at x Replaced)
           → life_in who.client (without_lives gone (lives_of head.clients story)) ≡ None → list_any (is_over who) (with_lives gone (evicted_of story)) ≡ false → High v (row_admits at gone who v)
           → Reaches head stamp t past story v (row_admits at gone who v) (Serving head t)
-      admits_lead c boot who gone took was has distinct caused none newer high =
+      admits_lead c boot who gone took was current has distinct caused none newer high =
           reaches_more head stamp t (Leaves gone) (Serving head t) (commits v v.log gone (who ∷ []) ∷ []) leave past story v is
-          (commit_lead Replaced gone (who ∷ []) Asked asked has distinct caused (took, was))
+          (commit_lead Replaced gone (who ∷ []) Asked asked has distinct caused (took, was, current))
           (λ e s k. reaches_more head stamp t (Leaves []) (Serving head t) evicts (admits at who) past1 story1 w e (evictions_lead head stamp t Replaced v.granted (who ∷ []) final ended Asked asked gone past1 story1 w e s k)
           (λ f r j. reaches_more head stamp t (Serving head t) (Serving head t) (Joined who ∷ ready x who ∷ []) (all_go at) past2 story2 x f (joins f r j)
           (λ g q i. all_goes t (line at (ready x who) ∷ line at (Joined who) ∷ past2) (line at (ready x who) ∷ line at (Joined who) ∷ story2) x g q i
@@ -145,10 +145,14 @@ module _ (head : Head) (stamp : Stamp) where
           ended = with_lives gone (evicted_of story)
 
           Asked : List Line → Type 0
-          Asked p = Took p at (node.Client c) (message.Join who boot) × Was p (node.Client c) (node.Target t) (message.Join who boot)
+          Asked p = Took p at (node.Client c) (message.Join who boot) × Was p (node.Client c) (node.Target t) (message.Join who boot) × ((server_of head.osts p).boot ≤ boot)
 
-          asked : (l : Line) (p : List Line) → Asked p → Asked (l ∷ p)
-          asked l p k = (took_more l p at (node.Client c) (message.Join who boot) k.0, was_more l p (node.Client c) (node.Target t) (message.Join who boot) k.1)
+          asked : Carries t stamp Asked
+          asked e p n k = (took_more (line at e) p at (node.Client c) (message.Join who boot) k.0, was_more (line at e) p (node.Client c) (node.Target t) (message.Join who boot) k.1, by e n)
+            where
+              by : (e : Entry) → IsNoBoot e → (server_of head.osts (line at e ∷ p)).boot ≤ boot
+              by (Boot b disk) n = absurd n
+              by e n = k.2
 
           w : Target
           w = after v (commits v v.log gone (who ∷ []))
@@ -187,13 +191,14 @@ module _ (head : Head) (stamp : Stamp) where
                 boot = boot;
                 took = j.carried.0;
                 was = j.carried.1;
+                current = j.carried.2;
                 none = ap (life_in who.client) lives ∙ none;
                 newer = ap (list_any (is_over who)) j.over ∙ newer;
               } in
-              let open_window : Window head t [] [] x (line at (Joined who) ∷ story2) = window_joined head t story2 stamp who x ok j.window in
+              let open_window : Window head t [] [] x (line at (Joined who) ∷ story2) = window_joined head t story2 stamp who [] x (inl ok) j.window in
               let sent = window_send head t (line at (Joined who) ∷ story2) stamp (node.Client who.client) (message.Ready who x.boot (record { 0 = x.committed })) [] [] x open_window in (
                 (
-                  (owes_nothing past2 at (Joined who) r, tt, ok),
+                  (owes_nothing past2 at (Joined who) r, tt, inl ok),
                   (
                     (
                       tt,
@@ -202,7 +207,7 @@ module _ (head : Head) (stamp : Stamp) where
                         serves = window_is head t [] [] x (line at (Joined who) ∷ story2) open_window;
                         has = life_put who (lives_of head.clients story2);
                         to = refl;
-                        of_boot = open_window.boot ∙ sym open_window.story.first;
+                        of_boot = open_window.boot;
                         of_committed = ap (λ (n : ℕ). record { 0 = n }) open_window.committed;
                       },
                     ),

@@ -1,20 +1,22 @@
--- A turn whose lines are allowed, one after another, and that ends with nothing owed, nothing that a target has to keep, and no life
--- back unshown: put on a grown past it makes a grown one.
-use Rattle.std.proofs.Common.{◌≡◌, ℕ, Bool, true, false, List, [], ◌∷◌, ◌++◌, Some, None, inl, inr, refl, sym, subst}
+-- A turn whose lines are allowed, one after another, and that ends with nothing owed, nothing that a target has to keep, no life back
+-- unshown, and nothing of a close unshown: put on a grown past it makes a grown one.
+use Rattle.std.proofs.Common.{◌≡◌, ℕ, Bool, true, false, List, [], ◌∷◌, ◌++◌, Some, None, inl, inr, refl, sym, subst, ap}
 use Rattle.std.specs.Prelude.{if◌then◌else◌}
 use Rattle.std.proofs.lemmas.Bool.{cond-true}
 use Rattle.lu_base.specs.declared.ids.At.{At}
-use Rattle.lu_base.specs.declared.ids.Node.TheVariants.{Client}
+use Rattle.lu_base.specs.declared.ids.Node.{Node}
+use Rattle.lu_base.specs.declared.ids.Node.TheVariants.{Client, Target}
 use Rattle.lu_base.specs.declared.ids.Stamp.{Stamp}
 use Rattle.lu_base.specs.declared.ids.Who.{Who}
-use Rattle.lu_words.specs.Words.{Entry, Take, Begin, Unbinds, Pins, Act, Txn, Grant, Back, Stores, Brings, Says, Wishes, Line, line, with_turn, turn_before}
+use Rattle.lu_words.specs.Words.{Entry, Take, Begin, Unbinds, Pins, Act, Txn, Grant, Close, Back, Stores, Brings, Says, Wishes, Line, line, with_turn, turn_before}
 use Rattle.lu_words.specs.Concerns.{is_about, concerns, only, about}
 use Rattle.lu_table.specs.Runs.{Turn, lines_of, Follows, IsRun}
 use Rattle.lu_table.specs.Heads as table
 use Rattle.lu_covered.specs.Heads.{Head}
+use Rattle.lu_covered.specs.TargetCloses.{but_first, closing_of}
 use Rattle.lu_guards.proofs.Guards.{Later, Steps, Ending, Closes, EntryOk, Owes, IsMark, BackNow, due, IsTurnOf}
 use Rattle.lu_guards.proofs.StoryGuards.{EntryOf}
-use Rattle.lu_guards.proofs.Grown.{LivesAt, Noted, Grown}
+use Rattle.lu_guards.proofs.Grown.{ShowsNext, LivesAt, Noted, Grown}
 use Rattle.lu_guards.proofs.Lists.{turn, turn_trans}
 use Rattle.lu_guards.proofs.Only.{turn_only}
 use Rattle.lu_guards.proofs.Ends.{closes_after}
@@ -96,7 +98,46 @@ kept_one head past at (e ∷ es) m = kept_one head (line at e ∷ past) at es m.
 pub kept_after : (head : Head) (past : List Line) (at : At) (es : List Entry) → ((t : ℕ) → AllMarks head (only t past) at (about t at.node es)) → (t : ℕ) → due head.osts head.clients (only t (with_turn at es past)) ≡ None
 kept_after head past at es m t = subst (λ (p : List Line). due head.osts head.clients p ≡ None) (sym (turn_only t at es past)) (kept_one head (only t past) at (about t at.node es) (m t))
 
--- ---- where nothing is due and none is back unshown
+-- ---- what a close has to show is shown
+
+-- while there is something left, a line is the next of it, in the turn, and at its end nothing is left
+abbrev pub AllShows : Head → List Line → At → List Entry → Type 0
+AllShows head past at [] = closing_of head.clients past ≡ []
+AllShows head past at (e ∷ es) = ShowsNext head past at e × AllShows head (line at e ∷ past) at es
+
+closed_one : (head : Head) (past : List Line) (at : At) (es : List Entry) → AllShows head past at es → closing_of head.clients (with_turn at es past) ≡ []
+closed_one head past at [] s = s
+closed_one head past at (e ∷ es) s = closed_one head (line at e ∷ past) at es s.1
+
+pub closed_after : (head : Head) (past : List Line) (at : At) (es : List Entry) → ((t : ℕ) → AllShows head (only t past) at (about t at.node es)) → (t : ℕ) → closing_of head.clients (only t (with_turn at es past)) ≡ []
+closed_after head past at es s t = subst (λ (p : List Line). closing_of head.clients p ≡ []) (sym (turn_only t at es past)) (closed_one head (only t past) at (about t at.node es) (s t))
+
+-- where nothing is left, any line may come next
+pub shows_any : (head : Head) (past : List Line) (at : At) (e : Entry) → closing_of head.clients past ≡ [] → ShowsNext head past at e
+shows_any head past at e none next more q = absurd (cc)
+
+-- and it leaves nothing, where it closes no window
+abbrev pub IsNoClose : Entry → Type 0
+IsNoClose (Close o) = ⊥
+IsNoClose _ = Unit {0}
+
+pub closing_quiet : (clients : ℕ) (past : List Line) (at : At) (e : Entry) → IsNoClose e → closing_of clients past ≡ [] → closing_of clients (line at e ∷ past) ≡ []
+closing_quiet clients past at e quiet none = by at.node e quiet
+  where
+    by : (node : Node) (e : Entry) → IsNoClose e → closing_of clients (line (turn at.stamp node) e ∷ past) ≡ []
+    by (Client c) e q = none
+    by (Target t) (Close o) q = absurd q
+    by (Target t) e q = ap but_first none
+
+abbrev pub NoClose : List Entry → Type 0
+NoClose [] = Unit {0}
+NoClose (e ∷ es) = IsNoClose e × NoClose es
+
+pub shows_quiet : (head : Head) (past : List Line) (at : At) (es : List Entry) → NoClose es → closing_of head.clients past ≡ [] → AllShows head past at es
+shows_quiet head past at [] quiet none = none
+shows_quiet head past at (e ∷ es) quiet none = (shows_any head past at e none, shows_quiet head (line at e ∷ past) at es quiet.1 (closing_quiet head.clients past at e quiet.0 none))
+
+-- ---- where nothing is due, none is back unshown, and a close has nothing to show
 
 -- any line may come next
 pub backs_none : (head : Head) (past : List Line) (at : At) (e : Entry) → Noted head past → (t : ℕ) (who : Who) → concerns t at.node e ≡ true → BackNow head.osts head.clients (only t past) who → (e ≡ Back who) × IsTurnOf (only t past) at
@@ -105,9 +146,12 @@ backs_none head past at e n t who q k = absurd (n.told t who k)
 pub marks_none : (head : Head) (past : List Line) (at : At) (e : Entry) → Noted head past → (t : ℕ) (mark : Entry) → concerns t at.node e ≡ true → due head.osts head.clients (only t past) ≡ Some mark → (e ≡ mark) × IsTurnOf (only t past) at
 marks_none head past at e n t mark q d = absurd (let none : due head.osts head.clients (only t past) ≡ None = n.marked t in cc)
 
+pub shows_none : (head : Head) (past : List Line) (at : At) (e : Entry) → Noted head past → (t : ℕ) → concerns t at.node e ≡ true → ShowsNext head (only t past) at e
+shows_none head past at e n t q = shows_any head (only t past) at e (n.shown t)
+
 -- and a client's line leaves it so
 pub noted_client : (head : Head) (past : List Line) (stamp : Stamp) (c : ℕ) (e : Entry) → EntryOk past (turn stamp (Client c)) (Client c) e → Noted head past → Noted head (line (turn stamp (Client c)) e ∷ past)
-noted_client head past stamp c e ok n = record { marked = λ t. marked t (is_about t e); told = λ t who. told t who (is_about t e) }
+noted_client head past stamp c e ok n = record { marked = λ t. marked t (is_about t e); told = λ t who. told t who (is_about t e); shown = λ t. shown t (is_about t e) }
   where
     here : At
     here = turn stamp (Client c)
@@ -130,6 +174,10 @@ noted_client head past stamp c e ok n = record { marked = λ t. marked t (is_abo
     told : (t : ℕ) (who : Who) (b : Bool) → BackNow head.osts head.clients (if b then line here e ∷ only t past else only t past) who → ⊥
     told t who true k = no_mark e ok k.0
     told t who false k = n.told t who k
+
+    shown : (t : ℕ) (b : Bool) → closing_of head.clients (if b then line here e ∷ only t past else only t past) ≡ []
+    shown t true = n.shown t
+    shown t false = n.shown t
 
 -- ---- all is allowed: over the whole past, and over what concerns one target
 
@@ -155,19 +203,20 @@ pub record RowOk (head : Head) (past : List Line) (at : At) (es : List Entry) : 
   pub of : (t : ℕ) → AllOf head (only t past) at (about t at.node es)
   pub backs : (t : ℕ) → AllBacks head (only t past) at (about t at.node es)
   pub marks : (t : ℕ) → AllMarks head (only t past) at (about t at.node es)
+  pub shows : (t : ℕ) → AllShows head (only t past) at (about t at.node es)
 
 -- after such a turn
 pub noted_after : (head : Head) (past : List Line) (at : At) (es : List Entry) → RowOk head past at es → Noted head (with_turn at es past)
-noted_after head past at es r = record { marked = kept_after head past at es r.marks; told = shown_after head past at es r.backs }
+noted_after head past at es r = record { marked = kept_after head past at es r.marks; told = shown_after head past at es r.backs; shown = closed_after head past at es r.shows }
 
 -- ---- a turn on a grown past
 
 grows : (head : Head) (at : At) (es : List Entry) (past : List Line) → Grown head past → Steps past at → Closes past at → AllPaid past at es → AllOk head past at es → ((t : ℕ) → AllOf head (only t past) at (about t at.node es))
-    → ((t : ℕ) → AllBacks head (only t past) at (about t at.node es)) → ((t : ℕ) → AllMarks head (only t past) at (about t at.node es)) → Grown head (with_turn at es past)
-grows head at [] past g s x p a b k m = g
-grows head at (e ∷ es) past g s x p a b k m =
-    grows head at es (line at e ∷ past) (record { steps = s; closes = x; backs = λ t who q. back t q who; marks = λ t mark q. mark_of t q mark; lives = a.0; owes = p.0; ok = a.1; of = first }, g) (inl refl) (inl refl) p.1 a.2 (λ t. more t (concerns t at.node e) (b t))
-    (λ t. backs t (concerns t at.node e) (k t)) (λ t. marks t (concerns t at.node e) (m t))
+    → ((t : ℕ) → AllBacks head (only t past) at (about t at.node es)) → ((t : ℕ) → AllMarks head (only t past) at (about t at.node es)) → ((t : ℕ) → AllShows head (only t past) at (about t at.node es)) → Grown head (with_turn at es past)
+grows head at [] past g s x p a b k m w = g
+grows head at (e ∷ es) past g s x p a b k m w =
+    grows head at es (line at e ∷ past) (record { steps = s; closes = x; backs = λ t who q. back t q who; marks = λ t mark q. mark_of t q mark; shows = show; lives = a.0; owes = p.0; ok = a.1; of = first }, g) (inl refl) (inl refl) p.1 a.2 (λ t. more t (concerns t at.node e) (b t))
+    (λ t. backs t (concerns t at.node e) (k t)) (λ t. marks t (concerns t at.node e) (m t)) (λ t. shows t (concerns t at.node e) (w t))
   where
     first : (t : ℕ) → concerns t at.node e ≡ true → EntryOf head (only t past) at at.node e
     first t q = (subst (λ (fs : List Entry). AllOf head (only t past) at fs) (cond-true (concerns t at.node e) (e ∷ about t at.node es) (about t at.node es) q) (b t)).0
@@ -177,6 +226,13 @@ grows head at (e ∷ es) past g s x p a b k m =
 
     mark_of : (t : ℕ) → concerns t at.node e ≡ true → (mark : Entry) → due head.osts head.clients (only t past) ≡ Some mark → (e ≡ mark) × IsTurnOf (only t past) at
     mark_of t q = (subst (λ (fs : List Entry). AllMarks head (only t past) at fs) (cond-true (concerns t at.node e) (e ∷ about t at.node es) (about t at.node es) q) (m t)).0
+
+    show : (t : ℕ) → concerns t at.node e ≡ true → ShowsNext head (only t past) at e
+    show t q = (subst (λ (fs : List Entry). AllShows head (only t past) at fs) (cond-true (concerns t at.node e) (e ∷ about t at.node es) (about t at.node es) q) (w t)).0
+
+    shows : (t : ℕ) (c : Bool) → AllShows head (only t past) at (if c then e ∷ about t at.node es else about t at.node es) → AllShows head (if c then line at e ∷ only t past else only t past) at (about t at.node es)
+    shows t true h = h.1
+    shows t false h = h
 
     marks : (t : ℕ) (c : Bool) → AllMarks head (only t past) at (if c then e ∷ about t at.node es else about t at.node es) → AllMarks head (if c then line at e ∷ only t past else only t past) at (about t at.node es)
     marks t true h = h.1
@@ -196,7 +252,7 @@ steps_after [] at l = tt
 steps_after (x ∷ past) at l = inr l
 
 pub turn_grows : (head : Head) (past : List Line) (at : At) (es : List Entry) → Grown head past → Later past at → ((c : ℕ) → Ending past c → ⊥) → RowOk head past at es → Grown head (with_turn at es past)
-turn_grows head past at es g later closed r = grows head at es past g (steps_after past at later) (closes_after past at closed) r.paid r.ok r.of r.backs r.marks
+turn_grows head past at es g later closed r = grows head at es past g (steps_after past at later) (closes_after past at closed) r.paid r.ok r.of r.backs r.marks r.shows
 
 -- ---- turns of a run stand in order
 

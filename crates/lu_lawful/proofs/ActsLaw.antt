@@ -6,11 +6,14 @@ use Rattle.lu_trace.specs.declared.entries.Entry.TheVariants as trace
 use Rattle.std.proofs.lemmas.Bool.{and_parts, cond_both, eqb-true}
 use Rattle.lu_base.specs.declared.ids.At.{At}
 use Rattle.lu_base.specs.declared.ids.Node.{Node}
-use Rattle.lu_base.specs.declared.ids.Node.TheVariants.{Target}
+use Rattle.lu_base.specs.declared.ids.Node.TheVariants.{Client, Target}
+use Rattle.lu_base.specs.declared.ids.Stamp.{Stamp}
+use Rattle.lu_base.specs.declared.ids.Txn.{Txn as TxnOf}
 use Rattle.lu_base.specs.declared.ids.Who.{Who}
 use Rattle.lu_machine.specs.Tree.{same_life}
 use Rattle.lu_words.specs.Carried.{Deed}
 use Rattle.lu_words.specs.Words.{Entry, Act, Txn as Made, Line, line}
+use Rattle.lu_words.specs.Concerns.{only}
 use Rattle.lu_words.specs.Printed.{printed}
 use Rattle.lu_covered.specs.Heads.{Head}
 use Rattle.lu_laws.specs.Words.Pasts as pasts
@@ -18,69 +21,90 @@ use Rattle.lu_laws.specs.Laws.Acts.{acts_there, acted, made, standing_count}
 use Rattle.lu_lawful.specs.Fits.{ReplyStands}
 use Rattle.lu_guards.proofs.Grown.{Allowed, Grown}
 use Rattle.lu_guards.proofs.Lists.{self, life_is, or_left, or_right}
-use Rattle.lu_facts.proofs.Groups.{Acted}
-use Rattle.lu_lawful.proofs.Once.{NoneFor, act_now, txn_now}
+use Rattle.lu_facts.proofs.Groups.{turn, Acted, IsMade, Stands as StandsSoFar}
+use Rattle.lu_facts.proofs.Lines.{acted_more}
+use Rattle.lu_lawful.proofs.Deeds.{act_is, txn_is}
+use Rattle.lu_lawful.proofs.Turns.{same_turn_is}
+use Rattle.lu_lawful.proofs.Lost.{stood_before}
+use Rattle.lu_lawful.proofs.Once.{NoneNow, act_now, txn_now}
 
 -- ---- each request acts once in the whole trace
 
--- an act without a transaction, of that life and number: reads Act
-abbrev pub ActFor : List Line → Who → ℕ → Type 0
-ActFor [] who x = ⊥
-ActFor (l ∷ past) who x = elim l.entry [ Act d ↦ ((d.reply.who ≡ who) × (d.reply.xid.0 ≡ x)) ⊎ ActFor past who x | _ ↦ ActFor past who x ]
+act_zero : (head : Head) (past : List Line) (stamp : Stamp) (node : Node) (d : Deed) → Allowed head past (turn stamp node) (Act d) → d.reply.txn.0 ≡ 0
+act_zero head past stamp (Client c) d k = absurd k.ok
+act_zero head past stamp (Target t) d k = ap (λ (n : TxnOf). n.0) (act_is head past stamp t d k).txn
 
-act_acted : (past : List Line) (who : Who) (x : ℕ) → ActFor past who x → (d : Deed) × Acted past d × (d.reply.who ≡ who) × (d.reply.xid.0 ≡ x)
-act_acted [] who x a = absurd a
-act_acted (l ∷ past) who x a = by l.entry (act_acted past who x) a
+made_now : (head : Head) (past : List Line) (stamp : Stamp) (node : Node) (d : Deed) → Allowed head past (turn stamp node) (Made d) → Grown head past → IsMade d
+made_now head past stamp (Client c) d k g = absurd k.ok
+made_now head past stamp (Target t) d k g = let n = (txn_is head past stamp t d k).number in omega (arith, n)
+
+-- what was done in one turn for one request is one thing
+pub one_turn : (head : Head) (past : List Line) (d e : Deed) → Grown head past → Acted past d → Acted past e → d.reply.at ≡ e.reply.at → d.reply.who ≡ e.reply.who → d.reply.xid.0 ≡ e.reply.xid.0 → d ≡ e
+one_turn head [] d e g a b at who xid = absurd a
+one_turn head (l ∷ past) d e g a b at who xid = by l.entry g.0 a b (λ a b. one_turn head past d e g.1 a b at who xid)
   where
-    by : (e : Entry) → (ActFor past who x → (d : Deed) × Acted past d × (d.reply.who ≡ who) × (d.reply.xid.0 ≡ x)) → ActFor (line l.at e ∷ past) who x → (d : Deed) × Acted (line l.at e ∷ past) d × (d.reply.who ≡ who) × (d.reply.xid.0 ≡ x)
-    by (Act e) h a = ⊎_elim (λ (p : (e.reply.who ≡ who) × (e.reply.xid.0 ≡ x)). (e, inl refl, p.0, p.1)) (λ (p : ActFor past who x). let k = h p in (k.0, inr k.1, k.2, k.3)) a
-    by (Made e) h a = let k = h a in (k.0, inr k.1, k.2, k.3)
-    by _ h a = h a
+    -- one was done now, the other before
+    first : (x : Deed) → x.reply.at ≡ l.at → NoneNow head past l.at x.reply.who x.reply.xid.0 → (x ≡ d) ⊎ Acted past d → (x ≡ e) ⊎ Acted past e → (Acted past d → Acted past e → d ≡ e) → d ≡ e
+    first x now none (inl p) (inl q) ih = sym p ∙ q
+    first x now none (inl p) (inr b) ih = absurd (none e b (sym at ∙ ap (λ (v : Deed). v.reply.at) (sym p) ∙ now) (sym who ∙ ap (λ (v : Deed). v.reply.who) (sym p)) (sym xid ∙ ap (λ (v : Deed). v.reply.xid.0) (sym p)))
+    first x now none (inr a) (inl q) ih = absurd (none d a (at ∙ ap (λ (v : Deed). v.reply.at) (sym q) ∙ now) (who ∙ ap (λ (v : Deed). v.reply.who) (sym q)) (xid ∙ ap (λ (v : Deed). v.reply.xid.0) (sym q)))
+    first x now none (inr a) (inr b) ih = ih a b
+
+    by : (x : Entry) → Allowed head past l.at x → Acted (line l.at x ∷ past) d → Acted (line l.at x ∷ past) e → (Acted past d → Acted past e → d ≡ e) → d ≡ e
+    by (Act x) k a b ih = let now = act_now head past l.at.stamp l.at.node x k g.1 in first x now.2 now.0.now a b ih
+    by (Made x) k a b ih = let now = txn_now head past l.at.stamp l.at.node x k g.1 in first x now.2 now.0.now a b ih
+    by x k a b ih = ih a b
 
 module _ (lost : ℕ → ℕ → Bool) (who : Who) (x : ℕ) where
-  counts : List Line → ℕ
-  counts past = standing_count lost 0 who x (printed past)
+  -- no transaction of the request stands at the end
+  abbrev pub NoneLeft : List Line → Type 0
+  NoneLeft past = (d : Deed) → Acted past d → IsMade d → lost 0 d.reply.txn.0 ≡ false → d.reply.who ≡ who → d.reply.xid.0 ≡ x → ⊥
 
-  -- one more line counts at most once, and not at all where it isn't of that request
-  none_counts : (past : List Line) → NoneFor past who x → standing_count lost 0 who x (printed past) ≡ 0
-  none_counts [] n = refl
-  none_counts (l ∷ past) n = by l.entry (none_counts past) n
+  counted : (l : Line) (d : Deed) → (pasts.is_target 0 l.at.node && same_life d.reply.who who && nat_eq d.reply.xid.0 x && not (lost 0 d.reply.txn.0)) ≡ true → (d.reply.who ≡ who) × (d.reply.xid.0 ≡ x) × (lost 0 d.reply.txn.0 ≡ false)
+  counted l d t =
+      let a = and_parts (pasts.is_target 0 l.at.node && same_life d.reply.who who && nat_eq d.reply.xid.0 x) _ t in
+      let b = and_parts (pasts.is_target 0 l.at.node && same_life d.reply.who who) _ a.0 in
+      let c = and_parts (pasts.is_target 0 l.at.node) _ b.0 in
+      (life_is d.reply.who who c.1, eqb-true d.reply.xid.0 x b.1, stays (lost 0 d.reply.txn.0) a.1)
     where
-      by : (e : Entry) → (NoneFor past who x → standing_count lost 0 who x (printed past) ≡ 0) → NoneFor (line l.at e ∷ past) who x → standing_count lost 0 who x (printed (line l.at e ∷ past)) ≡ 0
-      by (Made d) h n = cond_both (pasts.is_target 0 l.at.node && same_life d.reply.who who && nat_eq d.reply.xid.0 x && not (lost 0 d.reply.txn.0)) (suc (standing_count lost 0 who x (printed past))) (standing_count lost 0 who x (printed past)) (λ (v : ℕ). v ≡ 0)
-          (λ t. let a = and_parts (pasts.is_target 0 l.at.node && same_life d.reply.who who && nat_eq d.reply.xid.0 x) _ t in let b = and_parts (pasts.is_target 0 l.at.node && same_life d.reply.who who) _ a.0 in let c = and_parts (pasts.is_target 0 l.at.node) _ b.0 in absurd (n d (inl refl) (life_is d.reply.who who c.1) (eqb-true d.reply.xid.0 x b.1)))
+      stays : (b : Bool) → not b ≡ true → b ≡ false
+      stays true e = absurd (cc)
+      stays false e = refl
+
+  pub none_counts : (head : Head) (past : List Line) → Grown head past → NoneLeft past → standing_count lost 0 who x (printed past) ≡ 0
+  none_counts head [] g n = refl
+  none_counts head (l ∷ past) g n = by l.at.node l.entry g.0 (none_counts head past g.1) n
+    where
+      by : (node : Node) (e : Entry) → Allowed head past (turn l.at.stamp node) e → (NoneLeft past → standing_count lost 0 who x (printed past) ≡ 0) → NoneLeft (line (turn l.at.stamp node) e ∷ past) → standing_count lost 0 who x (printed (line (turn l.at.stamp node) e ∷ past)) ≡ 0
+      by node (Made d) k h n =
+          let at : Line = line (turn l.at.stamp node) (Made d) in
+          cond_both (pasts.is_target 0 node && same_life d.reply.who who && nat_eq d.reply.xid.0 x && not (lost 0 d.reply.txn.0)) (suc (standing_count lost 0 who x (printed past))) (standing_count lost 0 who x (printed past)) (λ (v : ℕ). v ≡ 0)
+          (λ t. let c = counted at d t in absurd (n d (inl refl) (made_now head past l.at.stamp node d k g.1) c.2 c.0 c.1))
           (λ t. h (λ e a. n e (inr a)))
-      by (Act d) h n = h (λ e a. n e (inr a))
-      by _ h n = h n
+      by node (Act d) k h n = h (λ e a. n e (inr a))
+      by node e k h n = h n
 
-  -- at most one transaction, and none beside an act
-  pub at_most : (head : Head) (past : List Line) → Grown head past → (standing_count lost 0 who x (printed past) ≤ 1) × (ActFor past who x → standing_count lost 0 who x (printed past) ≡ 0)
-  at_most head [] g = (omega arith, λ a. absurd a)
-  at_most head (l ∷ past) g = by l.entry g.0 (at_most head past g.1)
+  -- at most one transaction counts
+  pub at_most : (head : Head) (past : List Line) → Grown head past → ((d : Deed) → Acted past d → IsMade d → lost 0 d.reply.txn.0 ≡ false → StandsSoFar head.osts (only 0 past) d) → standing_count lost 0 who x (printed past) ≤ 1
+  at_most head [] g stands = omega arith
+  at_most head (l ∷ past) g stands = by l.at.node l.entry g.0 stands (at_most head past g.1)
     where
-      by : (e : Entry) → Allowed head past l.at e → (standing_count lost 0 who x (printed past) ≤ 1) × (ActFor past who x → standing_count lost 0 who x (printed past) ≡ 0)
-          → (standing_count lost 0 who x (printed (line l.at e ∷ past)) ≤ 1) × (ActFor (line l.at e ∷ past) who x → standing_count lost 0 who x (printed (line l.at e ∷ past)) ≡ 0)
-      by (Made d) ok h =
-          let now = (txn_now head past l.at.stamp l.at.node d ok g.1).0 in
-          cond_both (pasts.is_target 0 l.at.node && same_life d.reply.who who && nat_eq d.reply.xid.0 x && not (lost 0 d.reply.txn.0)) (suc (standing_count lost 0 who x (printed past))) (standing_count lost 0 who x (printed past)) (λ (v : ℕ). (v ≤ 1) × (ActFor past who x → v ≡ 0))
+      earlier : (node : Node) (e : Entry) → ((d : Deed) → Acted (line (turn l.at.stamp node) e ∷ past) d → IsMade d → lost 0 d.reply.txn.0 ≡ false → StandsSoFar head.osts (only 0 (line (turn l.at.stamp node) e ∷ past)) d) → (d : Deed) → Acted past d → IsMade d → lost 0 d.reply.txn.0 ≡ false → StandsSoFar head.osts (only 0 past) d
+      earlier node e stands d a made stays = stood_before head.osts (line (turn l.at.stamp node) e) past d.reply.txn.0 (stands d (acted_more (turn l.at.stamp node) e past d a) made stays)
+
+      by : (node : Node) (e : Entry) → Allowed head past (turn l.at.stamp node) e → ((d : Deed) → Acted (line (turn l.at.stamp node) e ∷ past) d → IsMade d → lost 0 d.reply.txn.0 ≡ false → StandsSoFar head.osts (only 0 (line (turn l.at.stamp node) e ∷ past)) d)
+          → (((d : Deed) → Acted past d → IsMade d → lost 0 d.reply.txn.0 ≡ false → StandsSoFar head.osts (only 0 past) d) → standing_count lost 0 who x (printed past) ≤ 1) → standing_count lost 0 who x (printed (line (turn l.at.stamp node) e ∷ past)) ≤ 1
+      by node (Made d) ok stands h =
+          let now = (txn_now head past l.at.stamp node d ok g.1).0 in
+          let at : Line = line (turn l.at.stamp node) (Made d) in
+          cond_both (pasts.is_target 0 node && same_life d.reply.who who && nat_eq d.reply.xid.0 x && not (lost 0 d.reply.txn.0)) (suc (standing_count lost 0 who x (printed past))) (standing_count lost 0 who x (printed past)) (λ (v : ℕ). v ≤ 1)
           (λ t.
-          let a = and_parts (pasts.is_target 0 l.at.node && same_life d.reply.who who && nat_eq d.reply.xid.0 x) _ t in
-          let b = and_parts (pasts.is_target 0 l.at.node && same_life d.reply.who who) _ a.0 in
-          let c = and_parts (pasts.is_target 0 l.at.node) _ b.0 in
-          let w = life_is d.reply.who who c.1 in
-          let y = eqb-true d.reply.xid.0 x b.1 in
-          let n : NoneFor past who x = λ e i p q. now.new e i (p ∙ sym w) (q ∙ sym y) in
-          let z = none_counts past n in
-          (omega arith, λ i. let k = act_acted past who x i in absurd (n k.0 k.1 k.2 k.3)))
-          (λ t. h)
-      by (Act d) ok h = (
-        h.0,
-        λ i. ⊎_elim
-            (λ (p : (d.reply.who ≡ who) × (d.reply.xid.0 ≡ x)). none_counts past (λ e j w y. (act_now head past l.at.stamp l.at.node d ok g.1).0.new e j (w ∙ sym p.0) (y ∙ sym p.1)))
-            (λ (p : ActFor past who x). h.1 p)
-            i,
-      )
-      by _ ok h = h
+          let c = counted at d t in
+          let none : NoneLeft past = λ e a made stays p q. now.new e a (inr (made, earlier node (Made d) stands e a made stays)) (p ∙ sym c.0) (q ∙ sym c.1) in
+          let z = none_counts head past g.1 none in
+          omega (arith, z))
+          (λ t. h (earlier node (Made d) stands))
+      by node e ok stands h = h (earlier node e stands)
 
 -- ---- an act of the printed past is one of the full one
 
@@ -88,19 +112,27 @@ pub either : (a b : Bool) → (a || b) ≡ true → (a ≡ true) ⊎ (b ≡ true
 either true b e = inl refl
 either false b e = inr e
 
-pub act_for : (past : List Line) (named : At) (who : Who) (x : ℕ) → acted (printed past) named who x ≡ true → ActFor past who x
-act_for [] named who x a = absurd (cc)
-act_for (l ∷ past) named who x a = by l.entry (act_for past named who x) a
+-- of that life and number in that turn, without a transaction
+abbrev pub ActIn : List Line → At → Who → ℕ → Type 0
+ActIn past named who x = (d : Deed) × Acted past d × (d.reply.txn.0 ≡ 0) × (d.reply.at ≡ named) × (d.reply.who ≡ who) × (d.reply.xid.0 ≡ x)
+
+pub act_in : (head : Head) (past : List Line) (named : At) (who : Who) (x : ℕ) → Grown head past → acted (printed past) named who x ≡ true → ActIn past named who x
+act_in head [] named who x g a = absurd (cc)
+act_in head (l ∷ past) named who x g a = by l.at.node l.entry g.0 (act_in head past named who x g.1) a
   where
-    by : (e : Entry) → (acted (printed past) named who x ≡ true → ActFor past who x) → acted (printed (line l.at e ∷ past)) named who x ≡ true → ActFor (line l.at e ∷ past) who x
-    by (Act d) h a = ⊎_elim
-        (λ (p : (pasts.is_target 0 l.at.node && pasts.same_turn l.at named && same_life d.reply.who who && nat_eq d.reply.xid.0 x) ≡ true).
-        let q = and_parts (pasts.is_target 0 l.at.node && pasts.same_turn l.at named && same_life d.reply.who who) _ p in
-        let r = and_parts (pasts.is_target 0 l.at.node && pasts.same_turn l.at named) _ q.0 in
-        inl (life_is d.reply.who who r.1, eqb-true d.reply.xid.0 x q.1))
-        (λ (p : acted (printed past) named who x ≡ true). inr (h p))
-        (either (acts_there named who x (printed past) (record { at = l.at; entry = trace.Act d.reply.who d.reply.xid d.reply.answer })) (acted (printed past) named who x) a)
-    by _ h a = h a
+    more : (node : Node) (e : Entry) → ActIn past named who x → ActIn (line (turn l.at.stamp node) e ∷ past) named who x
+    more node e i = (i.0, acted_more (turn l.at.stamp node) e past i.0 i.1, i.2, i.3, i.4, i.5)
+
+    by : (node : Node) (e : Entry) → Allowed head past (turn l.at.stamp node) e → (acted (printed past) named who x ≡ true → ActIn past named who x) → acted (printed (line (turn l.at.stamp node) e ∷ past)) named who x ≡ true → ActIn (line (turn l.at.stamp node) e ∷ past) named who x
+    by node (Act d) k h a = ⊎_elim
+        (λ (p : (pasts.is_target 0 node && pasts.same_turn (turn l.at.stamp node) named && same_life d.reply.who who && nat_eq d.reply.xid.0 x) ≡ true).
+        let q = and_parts (pasts.is_target 0 node && pasts.same_turn (turn l.at.stamp node) named && same_life d.reply.who who) _ p in
+        let r = and_parts (pasts.is_target 0 node && pasts.same_turn (turn l.at.stamp node) named) _ q.0 in
+        let s = and_parts (pasts.is_target 0 node) (pasts.same_turn (turn l.at.stamp node) named) r.0 in
+        (d, inl refl, act_zero head past l.at.stamp node d k, (act_now head past l.at.stamp node d k g.1).2 ∙ same_turn_is (turn l.at.stamp node) named s.1, life_is d.reply.who who r.1, eqb-true d.reply.xid.0 x q.1))
+        (λ (p : acted (printed past) named who x ≡ true). more node (Act d) (h p))
+        (either (acts_there named who x (printed past) (record { at = turn l.at.stamp node; entry = trace.Act d.reply.who d.reply.xid d.reply.answer })) (acted (printed past) named who x) a)
+    by node e k h a = more node e (h a)
 
 -- what was done stands in the printed past
 abbrev pub Stands : (ℕ → ℕ → Bool) → List Line → Deed → Type 0

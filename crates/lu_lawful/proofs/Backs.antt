@@ -37,9 +37,10 @@ use Rattle.lu_guards.proofs.Only.{sent_was, grown_of}
 use Rattle.lu_facts.proofs.Groups.{turn}
 use Rattle.lu_facts.proofs.All.{holds}
 use Rattle.lu_lawful.proofs.Turns.{later_before, same_turn_is, same_turn_self}
-use Rattle.lu_lawful.proofs.Slots.{slot_is, life_has}
+use Rattle.lu_lawful.proofs.Lines.{after_line}
+use Rattle.lu_lawful.proofs.CloseSlots.{recovering_none, slot_now, now_slot}
 use Rattle.lu_lawful.proofs.Handed.{replays_with, brought_with, words_with, IsWord, Agrees, OneWord, back_law, law_back, heard_word}
-use Rattle.lu_lawful.proofs.Taking.{taken_of, either_way, handed_is, boot_of, open_of, recovering_is, opens, recovers, booted_again, IsNote, due_note, none_due, due_stores, due_brings, due_says, marked_of, agrees_at}
+use Rattle.lu_lawful.proofs.Taking.{taken_of, either_way, handed_is, boot_of, open_of, recovering_is, opens, recovers, IsNote, due_note, none_due, due_stores, due_brings, due_says, marked_of, agrees_at}
 
 -- ---- what was taken was sent, by one of the run's clients where it is a word
 
@@ -83,7 +84,7 @@ taken_was head t (l ∷ past) m g i = by l.at.node l.entry g.0 i (λ j. taken_wa
     by (Target u) e a i h = rest (Target u) e refl i h
 
 sent_by : (head : Head) (past : List Line) (stamp : Stamp) (node to : Node) (m : Message) → Allowed head past (turn stamp node) (Send to m) → Grown head past → (b : ℕ) (who : Who) (s : Said) → IsWord b who m s → who.client < head.clients
-sent_by head past stamp (Client c) (Target t) (message.Word other boot replays locks seen) k g b who s w = of_client head past c t other who k.lives.one g (k.of t (self t)).of_life w.0
+sent_by head past stamp (Client c) (Target t) (message.Word other boot replays locks seen) k g b who s w = of_client head past c t other who k.lives.one g (k.of t (self t)).tells.of_life w.0
   where
     of_client : (head : Head) (past : List Line) (c t : ℕ) (other who : Who) → c < head.clients → Grown head past → other ≡ life_of c (only t past) → other ≡ who → who.client < head.clients
     of_client head past c t other who lt g e f = subst (λ (n : ℕ). n < head.clients) (sym (((holds head past g).at t).phase.client c) ∙ ap (λ (v : Who). v.client) (sym e ∙ f)) lt
@@ -123,7 +124,7 @@ abbrev pub OneTold : Head → ℕ → List Line → Type 0
 OneTold head t past = IsRecovering head.osts (only t past) → OneWord (server_of head.osts (only t past)).boot (taken_of (only t past))
 
 module _ (head : Head) (t : ℕ) (past : List Line) (g : Grown head past) (r : IsRecovering head.osts (only t past)) (o : Option Entry) (e : due head.osts head.clients (only t past) ≡ o) where
-  agrees : let v = ahead head.osts head.clients (only t past) o in Agrees (server_of head.osts (only t past)).boot (taken_of (only t past)) v.lives v.replays v.brought v.words
+  pub agrees : let v = ahead head.osts head.clients (only t past) o in Agrees (server_of head.osts (only t past)).boot (taken_of (only t past)) v.lives v.replays v.brought v.words
   agrees = subst (λ (d : Option Entry). let v = ahead head.osts head.clients (only t past) d in Agrees (server_of head.osts (only t past)).boot (taken_of (only t past)) v.lives v.replays v.brought v.words) e (agrees_at head (only t past) (grown_of head t past g) (marked_of head t past g) r)
 
   all_is : (who : Who) → has_all (boot t (printed past)) who (handed t (printed past)) ≡ has_all (server_of head.osts (only t past)).boot who (taken_of (only t past))
@@ -132,14 +133,14 @@ module _ (head : Head) (t : ℕ) (past : List Line) (g : Grown head past) (r : I
   pub window_law : (who : Who) → window.is_back (ahead head.osts head.clients (only t past) o) who ≡ true → is_back t (printed past) who ≡ true
   window_law who w =
       let k = back_law (ahead head.osts head.clients (only t past) o) (server_of head.osts (only t past)).boot (taken_of (only t past)) agrees who w in
-      rw (slot_is head t past who g k.0, all_is who ∙ k.1) refl
+      rw (slot_now head t past g (recovering_none head (only t past) (grown_of head t past g) r) who k.0, all_is who ∙ k.1) refl
 
   pub law_window : OneTold head t past → (who : Who) → is_back t (printed past) who ≡ true → window.is_back (ahead head.osts head.clients (only t past) o) who ≡ true
   law_window one who w =
       let v = ahead head.osts head.clients (only t past) o in
       let p = and_parts (has_slot t (printed past) who) (has_all (boot t (printed past)) who (handed t (printed past))) w in
       let all : has_all (server_of head.osts (only t past)).boot who (taken_of (only t past)) ≡ true = sym (all_is who) ∙ p.1 in
-      law_back v (server_of head.osts (only t past)).boot (taken_of (only t past)) agrees (one r) who (life_has head t past who g p.0 (client_of who all)) all
+      law_back v (server_of head.osts (only t past)).boot (taken_of (only t past)) agrees (one r) who (now_slot head t past g (recovering_none head (only t past) (grown_of head t past g) r) who p.0 (client_of who all)) all
     where
       client_of : (who : Who) → has_all (server_of head.osts (only t past)).boot who (taken_of (only t past)) ≡ true → who.client < head.clients
       client_of who all =
@@ -170,11 +171,6 @@ follows_none head past n t who at turned x = absurd (by (only t past) x (n.marke
     by (l ∷ p) (inl y) d b = let e : None ≡ Some y.0 = sym d ∙ y.1 in cc
     by (l ∷ p) (inr y) d b = b y
 
--- the lines after one, once it stands among them
-abbrev pub after_line : Line → Option PrintedEntry → List PrintedLine → List PrintedLine
-after_line l None later = later
-after_line l (Some e) later = record { at = l.at; entry = e } ∷ later
-
 any_after : (f : PrintedEntry → Bool) (at : At) (l : Line) (o : Option PrintedEntry) (later : List PrintedLine) → any_later f at later ≡ true → any_later f at (after_line l o later) ≡ true
 any_after f at l None later e = e
 any_after f at l (Some x) later e = by (f x && same_turn l.at at)
@@ -187,6 +183,7 @@ mark_is : (e : Entry) → IsNote e → IsMark e
 mark_is (Stores replay) n = tt
 mark_is (Brings lock) n = tt
 mark_is (Says said) n = tt
+mark_is (Wishes who) n = tt
 mark_is e n = absurd n
 
 pub follows_before : (head : Head) (l : Line) (past : List Line) (later : List PrintedLine) → Allowed head past l.at l.entry → Follows head (l ∷ past) later → Follows head past (after_line l (printed_entry (count_sent past + 1) l.entry) later)
@@ -353,7 +350,7 @@ module _ (head : Head) (t : ℕ) (who : Who) where
       noted : (u : ℕ) (x : Entry) → Grown head (line (turn l.at.stamp (Target u)) x ∷ past) → due head.osts head.clients P ≡ Some x → IsRecovering head.osts P → up_of P ≡ true
           → IsTurnOf P (turn l.at.stamp (Target u)) → turn l.at.stamp (Target u) ≡ at → CameBack head.osts head.clients P (line (turn l.at.stamp (Target u)) x) who → (came_back t at (printed past) who ≡ true) × (open_of P ≡ true)
       noted u x g d r up w s c =
-          let now : open_of P ≡ true = (opens head P (grown_of head t past g.1)).opened up (booted_again head P (grown_of head t past g.1) r) in
+          let now : open_of P ≡ true = (opens head P (grown_of head t past g.1)).opened up r in
           (came_take past at x g.1 one (subst (λ (v : At). IsTurnOf P v) s w) now d (subst (λ (v : At). CameBack head.osts head.clients P (line v x) who) s c), now)
 
       turned : (p : List Line) (u : ℕ) (from : Node) (m : Message) → TookNow p (turn l.at.stamp (Target u)) from m → IsTurnOf p (turn l.at.stamp (Target u))
@@ -368,7 +365,7 @@ module _ (head : Head) (t : ℕ) (who : Who) where
       by (Target u) (Stores replay) g s b h = own (Target u) (Stores replay) (λ e s b. let ok = g.0.of t e in noted u (Stores replay) g (due_stores head P l.at.stamp u replay ok) ok.keeps.recovers ok.keeps.up (turned P u ok.from _ ok.keeps.took) s b.1) s b h
       by (Target u) (Brings lock) g s b h = own (Target u) (Brings lock) (λ e s b. let ok = g.0.of t e in noted u (Brings lock) g (due_brings head P l.at.stamp u lock ok) ok.keeps.recovers ok.keeps.up (turned P u ok.from _ ok.keeps.took) s b.1) s b h
       by (Target u) (Says said) g s b h = own (Target u) (Says said) (λ e s b. let ok = g.0.of t e in ⊎_elim
-          (λ (k : KeepsOk head P (turn l.at.stamp (Target u)) ok.from (message.Word said.who ok.boot said.replays said.locks said.seen) said.who ok.boot).
+          (λ (k : KeepsOk head P (turn l.at.stamp (Target u)) u ok.from (message.Word said.who ok.boot said.replays said.locks said.seen) said.who ok.boot).
           noted u (Says said) g (due_says head P l.at.stamp u said ok) k.recovers k.up (turned P u ok.from _ k.took) s b.1)
           (λ k. noted u (Says said) g (due_says head P l.at.stamp u said ok) k.1.recovers k.1.up (turned P u ok.from _ k.1.took) s b.1)
           ok.keeps) s b h
@@ -433,7 +430,7 @@ module _ (head : Head) (t : ℕ) (who : Who) where
       kept stamp (Target u) (Stores replay) ok s c i = none_took past at ok.from _ g.1 n (subst (λ (v : At). TookNow P v ok.from (message.Replay ok.given)) s ok.keeps.took)
       kept stamp (Target u) (Brings lock) ok s c i = none_took past at ok.from _ g.1 n (subst (λ (v : At). TookNow P v ok.from (message.Lock ok.given)) s ok.keeps.took)
       kept stamp (Target u) (Says said) ok s c i = ⊎_elim
-          (λ (k : KeepsOk head P (turn stamp (Target u)) ok.from (message.Word said.who ok.boot said.replays said.locks said.seen) said.who ok.boot). none_took past at ok.from _ g.1 n (subst (λ (v : At). TookNow P v ok.from (message.Word said.who ok.boot said.replays said.locks said.seen)) s k.took))
+          (λ (k : KeepsOk head P (turn stamp (Target u)) u ok.from (message.Word said.who ok.boot said.replays said.locks said.seen) said.who ok.boot). none_took past at ok.from _ g.1 n (subst (λ (v : At). TookNow P v ok.from (message.Word said.who ok.boot said.replays said.locks said.seen)) s k.took))
           (λ k. none_took past at ok.from _ g.1 n (subst (λ (v : At). TookNow P v ok.from (message.Join said.who ok.boot)) s k.1.took))
           ok.keeps
       kept stamp (Target u) (Wishes other) ok s c i = absurd (true≢false (sym c.now ∙ c.before))

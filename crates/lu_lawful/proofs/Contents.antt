@@ -1,74 +1,52 @@
--- What the laws read in the printed past of a run: no target has lost anything, and the metadata target's contents are its tree.
+-- The metadata target's contents, as the laws read them in the printed past of a run: they hold what its tree holds. The laws take lost
+-- transactions out of all that was done, the story at each close what that one loses; the opens of lives that leave, which no part holds,
+-- go at other lines.
 use Rattle.std.proofs.Common.{◌≡◌, ℕ, ◌+◌, ◌*◌, ◌/◌, ◌<◌, ◌≤◌, max, Bool, true, false, List, [], ◌∷◌, Option, Some, refl, sym, subst, ap, ◌∙◌, arith}
-use Rattle.std.specs.Prelude.{nat_eq, not, ◌&&◌, if◌then◌else◌, unwrap_or}
-use Rattle.std.proofs.lemmas.Bool.{cond-true, lt-ltb}
+use Rattle.std.specs.Prelude.{nat_eq, not, ◌&&◌, if◌then◌else◌}
+use Rattle.std.proofs.lemmas.Bool.{lt-ltb}
 use Rattle.lu_base.specs.declared.ids.At.{At}
 use Rattle.lu_base.specs.declared.ids.Node.{Node}
 use Rattle.lu_base.specs.declared.ids.Node.TheVariants.{Client, Target}
 use Rattle.lu_base.specs.declared.ids.Stamp.{Stamp}
-use Rattle.lu_base.specs.declared.ids.Txn.{Txn}
-use Rattle.lu_machine.specs.Footprint.{after, forget}
+use Rattle.lu_base.specs.declared.ids.Who.{Who}
+use Rattle.lu_msg.specs.declared.operations.Op.{Op}
+use Rattle.lu_part.specs.declared.parts.Part.{Part}
+use Rattle.lu_machine.specs.Footprint.{Operation, empty, touches, forget, Same}
+use Rattle.lu_machine.specs.Laws.{Alike}
+use Rattle.lu_machine.specs.Removal.{Item, Acts, Forgets, pick}
 use Rattle.lu_machine.specs.Tree.{Tree}
-use Rattle.lu_words.specs.Carried.{Deed}
-use Rattle.lu_words.specs.Words.{Entry, Act, Txn as Made, Commit, Boot, Close, Evict, Fail, Line, line}
+use Rattle.lu_machine.proofs.Footprints.{every_one}
+use Rattle.lu_machine.proofs.Stated.{touched_decide, new_from_old}
+use Rattle.lu_words.specs.Carried.{Deed, Outcome}
+use Rattle.lu_words.specs.Words.{Entry, Act, Txn as Made, Boot, Close, Evict, Line, line}
+use Rattle.lu_words.specs.Concerns.{concerns, only}
 use Rattle.lu_words.specs.Printed.{printed}
+use Rattle.lu_target_rows.specs.Lives.{lives_of as lives_in}
 use Rattle.lu_covered.specs.TargetParts.{operation}
-use Rattle.lu_covered.specs.TargetStates.{committed_at, tree_at, server_at}
+use Rattle.lu_covered.specs.TargetStates.{tree_at, server_at, server_of}
+use Rattle.lu_covered.specs.TargetCloses as story
+use Rattle.lu_covered.specs.TargetCloses.{loses}
 use Rattle.lu_covered.specs.Heads.{Head}
-use Rattle.lu_laws.specs.Words.Pasts.{is_target, or_else}
-use Rattle.lu_laws.specs.Words.Scopes.{only_here, last_at}
-use Rattle.lu_laws.specs.Words.Boots.{boot, committed_to, committed, greatest}
-use Rattle.lu_laws.specs.Words.Lost.{Loss, losses, numbers_of, is_among, is_lost}
+use Rattle.lu_laws.specs.Words.Pasts.{is_target}
+use Rattle.lu_laws.specs.Words.Boots.{greatest}
+use Rattle.lu_laws.specs.Words.Lost.{is_lost}
 use Rattle.lu_laws.specs.Words.Standing as standing
-use Rattle.lu_laws.specs.Words.Requests.{asked}
 use Rattle.lu_laws.specs.Words.Standing.{executed, contents}
-use Rattle.lu_guards.proofs.Guards.{EntryOk}
 use Rattle.lu_guards.proofs.Grown.{Allowed, Grown}
-use Rattle.lu_facts.proofs.Groups.{turn}
+use Rattle.lu_guards.proofs.Lists.{or_right}
+use Rattle.lu_guards.proofs.Parts.{tree_is}
+use Rattle.lu_facts.proofs.Groups.{turn, Acted, IsMade, Stands, ItemOk, AllItems, items_of, forgetting}
+use Rattle.lu_facts.proofs.All.{holds}
 use Rattle.lu_facts.proofs.Finds.{numbers_at, numbers_up}
+use Rattle.lu_lawful.specs.Fits.{WasMade}
 use Rattle.lu_lawful.proofs.Facts.{AskedAt, AllAsked}
 use Rattle.lu_lawful.proofs.Deeds.{TxnIs, txn_is}
 use Rattle.lu_lawful.proofs.Printed.{flip}
-
--- ---- what never happens
-
-abbrev txn : ℕ → Txn
-txn n = record { 0 = n }
-
-module _ (head : Head) where
-  -- the committed number is the target's
-  pub commits_are : (t : ℕ) (past : List Line) → Grown head past → committed t (printed past) ≡ (committed_at t past).0
-  commits_are t [] g = refl
-  commits_are t (l ∷ past) g = by l.at.node l.entry g.0.ok (commits_are t past g.1)
-    where
-      by : (node : Node) (e : Entry) → EntryOk past (turn l.at.stamp node) node e → committed t (printed past) ≡ (committed_at t past).0
-          → committed t (printed (line (turn l.at.stamp node) e ∷ past)) ≡ (committed_at t (line (turn l.at.stamp node) e ∷ past)).0
-      by (Client c) (Commit to batch) ok h = absurd ok
-      by (Target u) (Commit to batch) ok h = of (nat_eq u t) (nat_eq t u) (last_at committed_to t (printed past)) (flip u t) h
-        where
-          of : (a b : Bool) (o : Option ℕ) → a ≡ b → unwrap_or o 0 ≡ (committed_at t past).0 → unwrap_or (or_else (only_here (Some to) a) o) 0 ≡ (if b then txn to else committed_at t past).0
-          of true true o q h = refl
-          of false false o q h = h
-          of true false o q h = absurd (cc)
-          of false true o q h = absurd (cc)
-      by _ _ ok h = h
-
-  pub committed_is : (past : List Line) → Grown head past → committed 0 (printed past) ≡ (committed_at 0 past).0
-  committed_is past g = commits_are 0 past g
-
-  no_losses : (t : ℕ) (past : List Line) → Grown head past → losses t (printed past) ≡ []
-  no_losses t [] g = refl
-  no_losses t (l ∷ past) g = by l.at.node l.entry g.0.ok (no_losses t past g.1)
-    where
-      by : (node : Node) (e : Entry) → EntryOk past (turn l.at.stamp node) node e → losses t (printed past) ≡ [] → losses t (printed (line (turn l.at.stamp node) e ∷ past)) ≡ []
-      by (Client c) (Close outcome) ok h = absurd ok
-      by (Target u) (Close outcome) ok h = absurd ok
-      by (Client c) Fail ok h = absurd ok
-      by (Target u) Fail ok h = absurd ok
-      by _ _ ok h = h
-
-  pub none_lost : (past : List Line) (t n : ℕ) → Grown head past → is_lost (printed past) t n ≡ false
-  none_lost past t n g = ap (λ (ls : List Loss). is_among (numbers_of ls) n) (no_losses t past g)
+use Rattle.lu_lawful.proofs.Taking.{either_way}
+use Rattle.lu_lawful.proofs.Lost.{lost_whole}
+use Rattle.lu_lawful.proofs.Commits.{made_more, listed}
+use Rattle.lu_lawful.proofs.LostNumbers.{lost_is}
+use Rattle.lu_lawful.proofs.HistoryItems.{whole, keep, same_trans, same_back, same_self, same_forgot, same_forgetting, pick_forgetting, pick_again}
 
 -- ---- numbers: a boot has fewer than 2 ^ 32 of them
 
@@ -111,34 +89,130 @@ numbers_first head (l ∷ past) g = let low = numbers_first head past g.1 in let
 pub next_is : (head : Head) (past : List Line) (n : ℕ) → Grown head past → n ≡ numbers_at past + 1 → standing.is_next 0 (printed past) n ≡ true
 next_is head past n g e = let le = below_next head past g in let first = numbers_first head past g in lt-ltb (max 1 (greatest 0 (printed past))) n (omega (arith, le, e, first))
 
-module _ (head : Head) (lost : ℕ → Bool) (none : (n : ℕ) → lost n ≡ false) where
-  stands_made : (past : List Line) (stamp : Stamp) (d : Deed) → Grown head past → TxnIs head.osts (server_at head.osts 0 past) (turn stamp (Target 0)) d → AskedAt past d → standing.tree_of head.osts lost (printed past) ≡ tree_at head.osts 0 past
-      → standing.tree_of head.osts lost (printed (line (turn stamp (Target 0)) (Made d) ∷ past)) ≡ after head.osts (tree_at head.osts 0 past) (operation d)
-  stands_made past stamp d g is asks h =
-      let tree = standing.tree_of head.osts lost (printed past) in
-      let n = d.reply.txn in
-      let next = next_is head past n.0 g (number_is head past (turn stamp (Target 0)) d g is) in
-      cond-true (is_target 0 (Target 0) && not (lost n.0) && standing.is_next 0 (printed past) n.0) (executed head.osts tree n d.reply.who (asked (printed past) 0 d.reply.who d.reply.xid.0)) tree (rw (none n.0, next) refl)
-      ∙ ap (λ o. executed head.osts tree n d.reply.who o) asks
-      ∙ ap (λ t. after head.osts t (operation d)) h
+-- ---- the laws' contents with some numbers lost, and the items of the story without them
 
-  stands : (past : List Line) → Grown head past → AllAsked past → standing.tree_of head.osts lost (printed past) ≡ tree_at head.osts 0 past
-  stands [] g a = refl
-  stands (l ∷ past) g a = at l.at.node l.entry g.0 a (stands past g.1 (asked_before l past a))
+module _ (head : Head) (lost : ℕ → ℕ → Bool) where
+  abbrev items : List Line → List Item
+  items past = items_of head.osts (only 0 past)
+
+  abbrev law_tree : List Line → Tree
+  law_tree past = standing.tree_of head.osts (lost 0) (printed past)
+
+  abbrev OfItems : List Line → List Item → Type 0
+  OfItems past is = (p : Part) → Same (law_tree past) (whole head.osts (pick (keep lost) is)) p
+
+  -- what a close so far lost is lost
+  abbrev Loses : List Line → Type 0
+  Loses past = (n : ℕ) → WasMade past n → story.is_lost head.osts (only 0 past) n ≡ true → lost 0 n ≡ true
+
+  made_step : (past : List Line) (stamp : Stamp) (d : Deed) → Grown head past → TxnIs head.osts (server_at head.osts 0 past) (turn stamp (Target 0)) d → AskedAt past d → OfItems past (items past)
+      → OfItems (line (turn stamp (Target 0)) (Made d) ∷ past) (items (line (turn stamp (Target 0)) (Made d) ∷ past))
+  made_step past stamp d g is asks h = subst (λ (o : Option Op). Goal (lost 0 n) (standing.is_next 0 (printed past) n) o) (sym asks) (subst (λ (b : Bool). Goal (lost 0 n) b (Some d.op)) (sym next) (by (lost 0 n)))
     where
-      at : (node : Node) (e : Entry) → Allowed head past (turn l.at.stamp node) e → AllAsked (line (turn l.at.stamp node) e ∷ past) → standing.tree_of head.osts lost (printed past) ≡ tree_at head.osts 0 past
-          → standing.tree_of head.osts lost (printed (line (turn l.at.stamp node) e ∷ past)) ≡ tree_at head.osts 0 (line (turn l.at.stamp node) e ∷ past)
-      at (Client c) (Made d) k a h = absurd k.ok
-      at (Target t) (Made d) k a h =
-          let is = txn_is head past l.at.stamp t d k in
-          subst (λ (v : ℕ). standing.tree_of head.osts lost (printed (line (turn l.at.stamp (Target v)) (Made d) ∷ past)) ≡ tree_at head.osts 0 (line (turn l.at.stamp (Target v)) (Made d) ∷ past)) (sym k.ok)
-          (stands_made past l.at.stamp d g.1 (subst (λ (v : ℕ). TxnIs head.osts (server_at head.osts 0 past) (turn l.at.stamp (Target v)) d) k.ok is) a.0 h)
-      at (Client c) (Evict who cause) k a h = absurd k.ok
-      at (Target t) (Evict who cause) k a h =
-          ap (λ (b : Bool). if b then forget (standing.tree_of head.osts lost (printed past)) who else standing.tree_of head.osts lost (printed past)) (flip t 0)
-          ∙ ap (λ (v : Tree). if nat_eq 0 t then forget v who else v) h
-      at _ _ k a h = h
+      n : ℕ
+      n = d.reply.txn.0
 
--- the contents are the target's tree
-pub contents_are : (head : Head) (past : List Line) → Grown head past → AllAsked past → contents head.osts (printed past) ≡ tree_at head.osts 0 past
-contents_are head past g a = stands head (is_lost (printed past) 0) (λ n. none_lost head past 0 n g) past g a
+      kept : List Item
+      kept = pick (keep lost) (items past)
+
+      next : standing.is_next 0 (printed past) n ≡ true
+      next = next_is head past n g (number_is head past (turn stamp (Target 0)) d g is)
+
+      Goal : Bool → Bool → Option Op → Type 0
+      Goal gone counts o =
+          (p : Part) → Same (if is_target 0 (Target 0) && (not gone && counts) then executed head.osts (law_tree past) d.reply.txn d.reply.who o else law_tree past)
+          (whole head.osts (if not gone then Acts (operation d) ∷ kept else kept)) p
+
+      by : (gone : Bool) → Goal gone true (Some d.op)
+      by true = h
+      by false = λ p. new_from_old head.osts (law_tree past) (whole head.osts kept) (operation d) p (every_one (Same (law_tree past) (whole head.osts kept)) (touches head.osts (law_tree past) (operation d)) h) (h p)
+
+  -- a close takes out what is lost
+  close_step : (past : List Line) (o : Outcome) → Grown head past → ((d : Deed) → Acted (only 0 past) d → IsMade d → Stands head.osts (only 0 past) d → loses (server_of head.osts (only 0 past)).committed.0 o d.reply.txn.0 ≡ true → lost 0 d.reply.txn.0 ≡ true)
+      → OfItems past (items past) → OfItems past (forgetting (lives_in o.gone) (pick (λ n. not (loses (server_of head.osts (only 0 past)).committed.0 o n)) (items past)))
+  close_step past o g gone h p = subst (λ (is : List Item). Same (law_tree past) (whole head.osts is) p) (sym picked) (same_forgetting head.osts (law_tree past) (lives_in o.gone) (pick (keep lost) (items past)) p (h p))
+    where
+      stays : ℕ → Bool
+      stays n = not (loses (server_of head.osts (only 0 past)).committed.0 o n)
+
+      lost_then : (b : Bool) → not b ≡ false → b ≡ true
+      lost_then true e = refl
+      lost_then false e = absurd (cc)
+
+      picked : pick (keep lost) (forgetting (lives_in o.gone) (pick stays (items past))) ≡ forgetting (lives_in o.gone) (pick (keep lost) (items past))
+      picked =
+          pick_forgetting (keep lost) (lives_in o.gone) (pick stays (items past))
+          ∙ ap (forgetting (lives_in o.gone)) (pick_again head.osts (only 0 past) lost stays (items past) ((holds head past g).at 0).history.items (λ d a made stands e. gone d a made stands (lost_then (loses (server_of head.osts (only 0 past)).committed.0 o d.reply.txn.0) e)))
+
+  evict_step : (t u : Tree) (who : Who) (a b : Bool) → a ≡ b → ((p : Part) → Same t u p) → (p : Part) → Same (if a then forget t who else t) (if b then forget u who else u) p
+  evict_step t u who true true e h p = same_trans (forget t who) t (forget u who) p (same_back t (forget t who) p (same_forgot t who p)) (same_trans t u (forget u who) p (h p) (same_forgot u who p))
+  evict_step t u who false false e h p = h p
+  evict_step t u who true false e h p = absurd (cc)
+  evict_step t u who false true e h p = absurd (cc)
+
+  of_items : (past : List Line) → Grown head past → AllAsked past → Loses past → OfItems past (items past)
+  of_items [] g a f = λ p. same_self empty p
+  of_items (l ∷ past) g a f = at l.at.node l.entry g.0 a f (of_items past g.1 (asked_before l past a) (λ n m e. f n (made_more l past n m) (lost_whole head.osts l past n e)))
+    where
+      P : List Line
+      P = only 0 past
+
+      quiet : (node : Node) (e : Entry) → items_of head.osts (line (turn l.at.stamp node) e ∷ P) ≡ items_of head.osts P → OfItems past (items past) → OfItems past (items (line (turn l.at.stamp node) e ∷ past))
+      quiet node e q h = subst (λ (is : List Item). OfItems past is) (sym (either_way (items_of head.osts) (line (turn l.at.stamp node) e) P (concerns 0 node e) q)) h
+
+      at : (node : Node) (e : Entry) → Allowed head past (turn l.at.stamp node) e → AllAsked (line (turn l.at.stamp node) e ∷ past) → Loses (line (turn l.at.stamp node) e ∷ past) → OfItems past (items past)
+          → OfItems (line (turn l.at.stamp node) e ∷ past) (items (line (turn l.at.stamp node) e ∷ past))
+      at (Client c) (Made d) k a f h = absurd k.ok
+      at (Target t) (Made d) k a f h =
+          let is = txn_is head past l.at.stamp t d k in
+          subst (λ (v : ℕ). OfItems (line (turn l.at.stamp (Target v)) (Made d) ∷ past) (items (line (turn l.at.stamp (Target v)) (Made d) ∷ past))) (sym k.ok)
+          (made_step past l.at.stamp d g.1 (subst (λ (v : ℕ). TxnIs head.osts (server_at head.osts 0 past) (turn l.at.stamp (Target v)) d) k.ok is) a.0 h)
+      at (Client c) (Close o) k a f h = absurd k.ok
+      at (Target t) (Close o) k a f h = of (nat_eq 0 t) f
+        where
+          x : Line
+          x = line (turn l.at.stamp (Target t)) (Close o)
+
+          of : (b : Bool) → ((n : ℕ) → WasMade past n → story.is_lost head.osts (if b then x ∷ P else P) n ≡ true → lost 0 n ≡ true) → OfItems past (items_of head.osts (if b then x ∷ P else P))
+          of false f = h
+          of true f = close_step past o g.1 (λ d b made stands e. f d.reply.txn.0 (listed head 0 past d g.1 b made).made (or_right (story.is_lost head.osts P d.reply.txn.0) (loses (server_of head.osts P).committed.0 o d.reply.txn.0) e)) h
+      at (Client c) (Evict who cause) k a f h = absurd k.ok
+      at (Target t) (Evict who cause) k a f h = of (nat_eq t 0) (nat_eq 0 t) (flip t 0)
+        where
+          x : Line
+          x = line (turn l.at.stamp (Target t)) (Evict who cause)
+
+          of : (a b : Bool) → a ≡ b → (p : Part) → Same (if a then forget (law_tree past) who else law_tree past) (whole head.osts (pick (keep lost) (items_of head.osts (if b then x ∷ P else P)))) p
+          of true true e p = evict_step (law_tree past) (whole head.osts (pick (keep lost) (items past))) who true true refl h p
+          of false false e p = h p
+          of true false e p = absurd (cc)
+          of false true e p = absurd (cc)
+      at (Client c) e k a f h = quiet (Client c) e refl h
+      at (Target t) e k a f h = quiet (Target t) e refl h
+
+-- ---- the contents hold what the target's tree holds
+
+-- no item of the story is lost
+none_taken : (head : Head) (past : List Line) → Grown head past → (is : List Item) → AllItems head.osts (only 0 past) is → pick (keep (is_lost (printed past))) is ≡ is
+none_taken head past g [] all = refl
+none_taken head past g (Forgets who ∷ is) all = ap (λ (js : List Item). Forgets who ∷ js) (none_taken head past g is all)
+none_taken head past g (Acts a ∷ is) all =
+    let ok : ItemOk head.osts (only 0 past) is a = all.0 in
+    let number : a.number.0 ≡ ok.deed.reply.txn.0 = ap (λ (o : Operation). o.number.0) (sym ok.operates) in
+    let stands : is_lost (printed past) 0 a.number.0 ≡ false = ap (is_lost (printed past) 0) number ∙ lost_is head past g ok.deed.reply.txn.0 (listed head 0 past ok.deed g ok.acted ok.made).made ∙ ok.stands in
+    ap (λ (b : Bool). if not b then Acts a ∷ pick (keep (is_lost (printed past))) is else pick (keep (is_lost (printed past))) is) stands ∙ ap (λ (js : List Item). Acts a ∷ js) (none_taken head past g is all.1)
+
+pub contents_same : (head : Head) (past : List Line) → Grown head past → AllAsked past → (p : Part) → Same (contents head.osts (printed past)) (tree_at head.osts 0 past) p
+contents_same head past g a p =
+    let history = ((holds head past g).at 0).history in
+    let taken = none_taken head past g (items_of head.osts (only 0 past)) history.items in
+    subst (λ (t : Tree). Same (contents head.osts (printed past)) t p) (sym (tree_is head.osts 0 past))
+    (same_trans (contents head.osts (printed past)) (whole head.osts (items_of head.osts (only 0 past))) (server_of head.osts (only 0 past)).tree p
+    (subst (λ (is : List Item). Same (contents head.osts (printed past)) (whole head.osts is) p) taken (of_items head (is_lost (printed past)) past g a (λ n made e. lost_is head past g n made ∙ e) p))
+    (history.tree p))
+
+-- so an operation comes out of both alike
+pub contents_alike : (head : Head) (past : List Line) → Grown head past → AllAsked past → (o : Operation) → Alike head.osts (contents head.osts (printed past)) (tree_at head.osts 0 past) o
+contents_alike head past g a o =
+    touched_decide head.osts (contents head.osts (printed past)) (tree_at head.osts 0 past) o
+    (every_one (Same (contents head.osts (printed past)) (tree_at head.osts 0 past)) (touches head.osts (contents head.osts (printed past)) o) (contents_same head past g a))

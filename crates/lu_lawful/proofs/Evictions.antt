@@ -3,7 +3,7 @@
 use Rattle.std.proofs.Common.{◌≡◌, ℕ, Bool, true, false, List, [], ◌∷◌, Option, Some, None, inl, inr, ⊎_elim, refl, sym, subst, ap, ◌∙◌, arith}
 use Rattle.std.specs.Prelude.{nat_eq, not, ◌&&◌, if◌then◌else◌, unwrap_or}
 use Rattle.std.specs.Bool.{then_some}
-use Rattle.std.proofs.lemmas.Bool.{cond_both, eqb-true, eq-eqb, lt-ltb}
+use Rattle.std.proofs.lemmas.Bool.{cond_both, eqb-true, eq-eqb, lt-ltb, true≢false}
 use Rattle.lu_base.specs.declared.ids.At.{At}
 use Rattle.lu_base.specs.declared.ids.Cookie.{Cookie}
 use Rattle.lu_base.specs.declared.ids.Node.{Node}
@@ -13,13 +13,15 @@ use Rattle.lu_base.specs.declared.ids.Who.{Who}
 use Rattle.lu_base.specs.declared.locks.Cause.{Cause}
 use Rattle.lu_base.specs.declared.locks.Cause.TheVariants.{Expired, Replaced}
 use Rattle.lu_base.specs.declared.locks.Lock.{Lock}
+use Rattle.lu_msg.specs.declared.messages.Message.{Message}
 use Rattle.lu_msg.specs.declared.messages.Message.TheVariants as message
 use Rattle.lu_trace.specs.declared.entries.Line.{Line as PrintedLine}
 use Rattle.lu_words.specs.Carried.{Called}
-use Rattle.lu_words.specs.Words.{Entry, Tick, Commit, Block, Boot, Close, Line, line, turn_before, same_life}
+use Rattle.lu_words.specs.Words.{Entry, Take, Tick, Commit, Block, Boot, Close, Evict, Line, line, turn_before, same_life}
 use Rattle.lu_words.specs.Concerns.{concerns, only}
 use Rattle.lu_words.specs.Printed.{printed}
-use Rattle.lu_covered.specs.TargetStates.{server_of}
+use Rattle.lu_covered.specs.TargetStates.{server_of, closed_of}
+use Rattle.lu_covered.specs.TargetCloses.{but_first, closing_of}
 use Rattle.lu_covered.specs.Heads.{Head}
 use Rattle.lu_laws.specs.Words.Pasts.{same_turn, or_else, newest}
 use Rattle.lu_laws.specs.Words.Scopes.{only_here, any_in}
@@ -29,21 +31,22 @@ use Rattle.lu_laws.specs.Words.CalledBack.{is_granted_to, was_called_back}
 use Rattle.lu_laws.specs.Words.Closes.{cause_at, is_finished, closes_in, decided}
 use Rattle.lu_laws.specs.Laws.Recovery.{is_commit, is_tick, joins_after, takes_newer, EvictedBy, EvictedIn, EvictAt}
 use Rattle.lu_laws.proofs.Tests.{either_left, either_right}
-use Rattle.lu_guards.proofs.Guards.{In, InTurn, IsCommit, IsTick}
-use Rattle.lu_guards.proofs.StoryGuards.{CalledBefore, TookNewer, IsServing, EvictOk}
-use Rattle.lu_guards.proofs.Grown.{Allowed, Grown}
+use Rattle.lu_guards.proofs.Guards.{In, Later, IsTurnOf, InTurn, IsCommit, IsTick}
+use Rattle.lu_guards.proofs.StoryGuards.{CalledBefore, TookSince, TookNewer, IsServing, EvictOk}
+use Rattle.lu_guards.proofs.Grown.{ShowsNext, Allowed, Grown, IsPlaced, GrownOf}
 use Rattle.lu_guards.proofs.StoryGuards as story_guards
-use Rattle.lu_guards.proofs.Lists.{life_self}
+use Rattle.lu_guards.proofs.Lists.{self, life_self, turn_irreflexive}
+use Rattle.lu_guards.proofs.Only.{grown_of}
+use Rattle.lu_guards.proofs.TargetLeaving.{since_took}
 use Rattle.lu_facts.proofs.Groups.{turn}
 use Rattle.lu_facts.proofs.All.{holds}
-use Rattle.lu_facts.proofs.Phase.{serves_first}
-use Rattle.lu_lawful.proofs.Turns.{same_turn_self}
+use Rattle.lu_lawful.proofs.Turns.{later_before, same_turn_is, same_turn_self}
 use Rattle.lu_lawful.proofs.Story.{about_it}
 use Rattle.lu_lawful.proofs.Printed.{flip, took_whole, took_taken}
-use Rattle.lu_lawful.proofs.Slots.{slot_is}
-use Rattle.lu_lawful.proofs.Taking.{either_way}
+use Rattle.lu_lawful.proofs.CloseLines.{nothing_left}
+use Rattle.lu_lawful.proofs.CloseSlots.{slot_now}
 use Rattle.lu_lawful.proofs.Given.{owed}
-use Rattle.lu_lawful.proofs.Granted.{all_granted, JustGave}
+use Rattle.lu_lawful.proofs.Granted.{all_granted, granted_shown, JustGave}
 use Rattle.lu_lawful.proofs.Hearing.{other_turn}
 use Rattle.lu_guards.proofs.ClientLocks.{any_passes}
 
@@ -60,7 +63,7 @@ module _ (P : Entry → Type 0) where
 same_turn_of : (a b : At) → a ≡ b → same_turn a b ≡ true
 same_turn_of a b e = subst (λ (v : At). same_turn a v ≡ true) e (same_turn_self a)
 
-commit_in : (past : List Line) (at : At) → InTurn IsCommit past at → any_in is_commit at (printed past) ≡ true
+pub commit_in : (past : List Line) (at : At) → InTurn IsCommit past at → any_in is_commit at (printed past) ≡ true
 commit_in [] at i = absurd i
 commit_in (l ∷ past) at i = by l.entry i (commit_in past at)
   where
@@ -86,7 +89,8 @@ tick_in (l ∷ past) at i = by l.entry i (tick_in past at)
 calls_granted : (head : Head) (past : List Line) (stamp : Stamp) (t : ℕ) (called : Called) → Allowed head past (turn stamp (Target t)) (Block called) → Grown head past → is_granted_to called.who called.cookie.0 (granted 0 (printed past)) ≡ true
 calls_granted head past stamp t called a g =
     let ok = a.of 0 (about_it t a.ok) in
-    let shown = ((holds head past g).at 0).locks.shown ok.serves ok.serves.up ok.lock ok.granted in
+    let none = nothing_left head (only 0 past) (turn stamp (Target t)) (Block called) (λ next more q. a.shows 0 (about_it t a.ok) next more q) (λ v. v) in
+    let shown = granted_shown head past ok.lock g ok.serves none ok.granted in
     let here : In ok.lock (granted 0 (printed past)) = ⊎_elim
     (λ (q : In ok.lock (granted 0 (printed past))). q)
     (λ (q : JustGave past ok.lock). absurd (owed past (turn stamp (Target t)) q.0 (Block called) q.1 a.owes))
@@ -96,10 +100,14 @@ calls_granted head past stamp t called a g =
     let who : same_life ok.lock.ask.who called.who ≡ true = subst (λ (w : Who). same_life ok.lock.ask.who w ≡ true) (sym ok.of_life) (life_self ok.lock.ask.who) in
     any_passes (λ (lock : Lock). has_cookie called.cookie.0 lock && same_life lock.ask.who called.who) ok.lock (granted 0 (printed past)) here (rw (cookie, who) refl)
 
--- in the first boot
-called_back : (head : Head) (t : ℕ) (who : Who) (at : At) (past : List Line) → Grown head past → (server_of head.osts (only t past)).boot ≡ 1 → CalledBefore (only t past) at who → was_called_back t who at (printed past) ≡ true
-called_back head t who at [] g b c = absurd c
-called_back head t who at (l ∷ past) g b c = by l.at.node l.entry g.0 b c (called_back head t who at past g.1)
+-- its boot is the one that served last
+abbrev Served : Head → List Line → Type 0
+Served head past = closed_of past ≡ (server_of head.osts past).boot
+
+-- no boot came since that call, for none ends before its window closes
+called_back : (head : Head) (t : ℕ) (who : Who) (at : At) (past : List Line) → Grown head past → Served head (only t past) → CalledBefore (only t past) at who → was_called_back t who at (printed past) ≡ true
+called_back head t who at [] g s c = absurd c
+called_back head t who at (l ∷ past) g s c = by l.at.node l.entry g.0 s c (called_back head t who at past g.1)
   where
     P : List Line
     P = only t past
@@ -110,6 +118,10 @@ called_back head t who at (l ∷ past) g b c = by l.at.node l.entry g.0 b c (cal
     quiet : (node : Node) (e : Entry) (b : Bool) → (CalledBefore (line (turn l.at.stamp node) e ∷ P) at who → CalledBefore P at who) → CalledBefore (if b then line (turn l.at.stamp node) e ∷ P else P) at who → CalledBefore P at who
     quiet node e true f c = f c
     quiet node e false f c = c
+
+    still : (node : Node) (e : Entry) (b : Bool) → (Served head (line (turn l.at.stamp node) e ∷ P) → Served head P) → Served head (if b then line (turn l.at.stamp node) e ∷ P else P) → Served head P
+    still node e true f s = f s
+    still node e false f s = s
 
     more : (a b : Bool) (rest : Option Bool) → unwrap_or rest false ≡ true → unwrap_or (or_else (only_here (then_some a true) b) rest) false ≡ true
     more true true rest e = refl
@@ -122,21 +134,18 @@ called_back head t who at (l ∷ past) g b c = by l.at.node l.entry g.0 b c (cal
     new false b rest p q = absurd (cc)
 
     Before : Type 0
-    Before = (server_of head.osts P).boot ≡ 1 → CalledBefore P at who → was_called_back t who at (printed past) ≡ true
+    Before = Served head P → CalledBefore P at who → was_called_back t who at (printed past) ≡ true
 
-    first : (node : Node) (e : Entry) → (server_of head.osts (line (turn l.at.stamp node) e ∷ P)).boot ≡ (server_of head.osts P).boot → (server_of head.osts (only t (line (turn l.at.stamp node) e ∷ past))).boot ≡ 1 → (server_of head.osts P).boot ≡ 1
-    first node e q b = sym (either_way (λ p. (server_of head.osts p).boot) (line (turn l.at.stamp node) e) P (concerns t node e) q) ∙ b
-
-    by : (node : Node) (e : Entry) → Allowed head past (turn l.at.stamp node) e → (server_of head.osts (only t (line (turn l.at.stamp node) e ∷ past))).boot ≡ 1 → CalledBefore (if concerns t node e then line (turn l.at.stamp node) e ∷ P else P) at who
+    by : (node : Node) (e : Entry) → Allowed head past (turn l.at.stamp node) e → Served head (only t (line (turn l.at.stamp node) e ∷ past)) → CalledBefore (if concerns t node e then line (turn l.at.stamp node) e ∷ P else P) at who
         → Before → Goal node e
-    by (Client d) (Block called) k b c h = absurd k.ok
-    by (Target u) (Block called) k b c h = of (nat_eq t u) refl c
+    by (Client d) (Block called) k s c h = absurd k.ok
+    by (Target u) (Block called) k s c h = of (nat_eq t u) refl c
       where
         is : Bool
         is = not (same_turn (turn l.at.stamp (Target u)) at) && is_granted_to who called.cookie.0 (granted t (printed past))
 
         old : CalledBefore P at who → Goal (Target u) (Block called)
-        old q = more is (nat_eq u t) _ (h (first (Target u) (Block called) refl b) q)
+        old q = more is (nat_eq u t) _ (h (still (Target u) (Block called) (nat_eq t u) (λ v. v) s) q)
 
         of : (b : Bool) → nat_eq t u ≡ b → CalledBefore (if b then line (turn l.at.stamp (Target u)) (Block called) ∷ P else P) at who → Goal (Target u) (Block called)
         of false e c = old c
@@ -151,48 +160,172 @@ called_back head t who at (l ∷ past) g b c = by l.at.node l.entry g.0 b c (cal
             new is (nat_eq u t) _ (rw (other_turn (turn l.at.stamp (Target u)) at p.1, whose) refl) here)
             (λ (q : CalledBefore P at who). old q)
             c
-    by (Client d) (Boot boot disk) k b c h = absurd k.ok
-    by (Target u) (Boot boot disk) k b c h = of (nat_eq t u) refl b c
+    by (Client d) (Boot boot disk) k s c h = absurd k.ok
+    by (Target u) (Boot boot disk) k s c h = of (nat_eq t u) refl s c
       where
-        new : Line
-        new = line (turn l.at.stamp (Target u)) (Boot boot disk)
+        x : Line
+        x = line (turn l.at.stamp (Target u)) (Boot boot disk)
 
-        off : (x : Bool) (rest : Option Bool) → x ≡ false → unwrap_or rest false ≡ true → unwrap_or (or_else (only_here (Some false) x) rest) false ≡ true
+        off : (b : Bool) (rest : Option Bool) → b ≡ false → unwrap_or rest false ≡ true → unwrap_or (or_else (only_here (Some false) b) rest) false ≡ true
         off true rest e q = absurd (cc)
         off false rest e q = q
 
-        of : (x : Bool) → nat_eq t u ≡ x → (server_of head.osts (if x then new ∷ P else P)).boot ≡ 1 → CalledBefore (if x then new ∷ P else P) at who → Goal (Target u) (Boot boot disk)
-        of false e b c = off (nat_eq u t) _ (flip u t ∙ e) (h b c)
-        of true e b c = absurd (let n = (k.of t e).next in let low = ((holds head past g.1).at t).phase.low in omega (arith, n, low, b))
-    by node e k b c h = h (first node e refl b) (quiet node e (concerns t node e) (λ q. q) c)
+        of : (b : Bool) → nat_eq t u ≡ b → Served head (if b then x ∷ P else P) → CalledBefore (if b then x ∷ P else P) at who → Goal (Target u) (Boot boot disk)
+        of false e s c = off (nat_eq u t) _ (flip u t ∙ e) (h s c)
+        of true e s c = absurd (let n = (k.of t e).next in let under = ((holds head past g.1).at t).phase.under in omega (arith, n, under, s))
+    by (Client d) (Close o) k s c h = absurd k.ok
+    by (Target u) (Close o) k s c h = of (nat_eq t u) s c
+      where
+        x : Line
+        x = line (turn l.at.stamp (Target u)) (Close o)
+
+        of : (b : Bool) → Served head (if b then x ∷ P else P) → CalledBefore (if b then x ∷ P else P) at who → Goal (Target u) (Close o)
+        of false s c = h s c
+        of true s c = absurd c
+    by (Client d) e k s c h = h (still (Client d) e (concerns t (Client d) e) (λ v. v) s) (quiet (Client d) e (concerns t (Client d) e) (λ q. q) c)
+    by (Target u) e k s c h = h (still (Target u) e (concerns t (Target u) e) (λ v. v) s) (quiet (Target u) e (concerns t (Target u) e) (λ q. q) c)
+
+-- ---- no window closed in the turn of such an eviction
+
+abbrev IsClose : Entry → Type 0
+IsClose (Close o) = Unit {0}
+IsClose _ = ⊥
+
+not_now : (head : Head) (P : Entry → Type 0) (past : List Line) (at : At) → Grown head past → Later past at → InTurn P past at → ⊥
+not_now head P [] at g later i = i
+not_now head P (l ∷ past) at g later (inl p) = turn_irreflexive at (subst (λ (v : At). turn_before v at ≡ true) p.0 later)
+not_now head P (l ∷ past) at g later (inr i) = not_now head P past at g.1 (later_before l past at g.0.steps later) i
+
+-- a line of the target that closes nothing, or a line of another node
+module _ (t : ℕ) (past : List Line) (stamp : Stamp) (node : Node) (e : Entry) (at : At) (mine : at.node ≡ Target t) where
+  abbrev Closed : Type 0
+  Closed = InTurn IsClose (line (turn stamp node) e ∷ past) at
+
+  another : concerns t node e ≡ false → (InTurn IsClose past at → ⊥) → Closed → ⊥
+  another c h (inl p) = true≢false (sym (ap (λ (v : Node). concerns t v e) (ap (λ (v : At). v.node) p.0 ∙ mine) ∙ self t) ∙ c)
+  another c h (inr i) = h i
+
+  plain : (IsClose e → ⊥) → (InTurn IsClose past at → ⊥) → Closed → ⊥
+  plain n h (inl p) = n p.1
+  plain n h (inr i) = h i
+
+-- since a life was called back
+never_called : (head : Head) (t : ℕ) (past : List Line) (at : At) (who : Who) → Grown head past → at.node ≡ Target t → CalledBefore (only t past) at who → InTurn IsClose past at → ⊥
+never_called head t [] at who g mine c i = i
+never_called head t (l ∷ past) at who g mine c i = by l.at.node l.entry g.0 c (never_called head t past at who g.1 mine) i
+  where
+    P : List Line
+    P = only t past
+
+    Closes : Node → Entry → Type 0
+    Closes node e = InTurn IsClose (line (turn l.at.stamp node) e ∷ past) at
+
+    of : (node : Node) (e : Entry) (b : Bool) → concerns t node e ≡ b → CalledBefore (if b then line (turn l.at.stamp node) e ∷ P else P) at who → (CalledBefore P at who → InTurn IsClose past at → ⊥)
+        → (CalledBefore (line (turn l.at.stamp node) e ∷ P) at who → Closes node e → ⊥) → Closes node e → ⊥
+    of node e true q c h own = own c
+    of node e false q c h own = another t past l.at.stamp node e at mine q (h c)
+
+    by : (node : Node) (e : Entry) → Allowed head past (turn l.at.stamp node) e → CalledBefore (only t (line (turn l.at.stamp node) e ∷ past)) at who → (CalledBefore P at who → InTurn IsClose past at → ⊥) → Closes node e → ⊥
+    by node (Block called) k c h = of node (Block called) (concerns t node (Block called)) refl c h
+        (λ d. ⊎_elim
+        (λ (p : (called.who ≡ who) × (turn_before (turn l.at.stamp node) at ≡ true)). plain t past l.at.stamp node (Block called) at mine (λ v. v) (not_now head IsClose past at g.1 (later_before (line (turn l.at.stamp node) (Block called)) past at k.steps p.1)))
+        (λ (q : CalledBefore P at who). plain t past l.at.stamp node (Block called) at mine (λ v. v) (h q))
+        d)
+    by node (Close o) k c h = of node (Close o) (concerns t node (Close o)) refl c h (λ d i. d)
+    by node e k c h = of node e (concerns t node e) refl c h (λ d. plain t past l.at.stamp node e at mine (λ v. v) (h d))
+
+-- since it took a message
+never_took : (head : Head) (t : ℕ) (past : List Line) (at : At) (from : Node) (m : Message) → Grown head past → at.node ≡ Target t → TookSince (only t past) at from m → InTurn IsClose past at → ⊥
+never_took head t [] at from m g mine c i = i
+never_took head t (l ∷ past) at from m g mine c i = by l.at.node l.entry g.0 c (never_took head t past at from m g.1 mine) i
+  where
+    P : List Line
+    P = only t past
+
+    Closes : Node → Entry → Type 0
+    Closes node e = InTurn IsClose (line (turn l.at.stamp node) e ∷ past) at
+
+    of : (node : Node) (e : Entry) (b : Bool) → concerns t node e ≡ b → TookSince (if b then line (turn l.at.stamp node) e ∷ P else P) at from m → (TookSince P at from m → InTurn IsClose past at → ⊥)
+        → (TookSince (line (turn l.at.stamp node) e ∷ P) at from m → Closes node e → ⊥) → Closes node e → ⊥
+    of node e true q c h own = own c
+    of node e false q c h own = another t past l.at.stamp node e at mine q (h c)
+
+    by : (node : Node) (e : Entry) → Allowed head past (turn l.at.stamp node) e → TookSince (only t (line (turn l.at.stamp node) e ∷ past)) at from m → (TookSince P at from m → InTurn IsClose past at → ⊥) → Closes node e → ⊥
+    by node (Take n sender k) a c h = of node (Take n sender k) (concerns t node (Take n sender k)) refl c h
+        (λ d. ⊎_elim
+        (λ (p : (turn l.at.stamp node ≡ at) × (sender ≡ from) × (k ≡ m)). plain t past l.at.stamp node (Take n sender k) at mine (λ v. v) (not_now head IsClose past at g.1 (subst (λ (v : At). Later past v) p.0 a.ok.later)))
+        (λ (q : TookSince P at from m). plain t past l.at.stamp node (Take n sender k) at mine (λ v. v) (h q))
+        d)
+    by node (Close o) a c h = of node (Close o) (concerns t node (Close o)) refl c h (λ d i. d)
+    by node e a c h = of node e (concerns t node e) refl c h (λ d. plain t past l.at.stamp node e at mine (λ v. v) (h d))
+
+never_closed : (head : Head) (t : ℕ) (past : List Line) (at : At) (who : Who) (cause : Cause) → Grown head past → at.node ≡ Target t → story_guards.EvictedBy (only t past) at who cause → InTurn IsClose past at → ⊥
+never_closed head t past at who Expired g mine k = never_called head t past at who g mine k.1
+never_closed head t past at who Replaced g mine k = never_took head t past at (Client k.from) (message.Join k.other k.boot) g mine k.took
+never_closed head t past at who cause g mine k = absurd k
+
+-- so no close of the turn has anything to show
+closing_here : (head : Head) (past : List Line) (at : At) (e : Entry) (more : List Entry) → GrownOf head past → closing_of head.clients past ≡ e ∷ more → IsTurnOf past at → InTurn IsClose past at
+closing_here head [] at e more g q s = absurd s
+closing_here head (l ∷ past) at e more g q s = by l.at.node l.entry g.2 s q (λ at e more q s. closing_here head past at e more g.3 q s)
+  where
+    -- one more was left before
+    left : (es : List Entry) → but_first es ≡ e ∷ more → (x : Entry) × (es ≡ x ∷ e ∷ more)
+    left [] q = absurd (cc)
+    left (x ∷ es) q = (x, ap (λ (v : List Entry). x ∷ v) q)
+
+    Before : Type 0
+    Before = (at : At) (e : Entry) (more : List Entry) → closing_of head.clients past ≡ e ∷ more → IsTurnOf past at → InTurn IsClose past at
+
+    earlier : (node : Node) (x y : Entry) (rest : List Entry) → Before → IsPlaced head past (line (turn l.at.stamp node) x) → turn l.at.stamp node ≡ at → closing_of head.clients past ≡ y ∷ rest → InTurn IsClose (line (turn l.at.stamp node) x ∷ past) at
+    earlier node x y rest h placed turned q = inr (subst (λ (v : At). InTurn IsClose past v) turned (h (turn l.at.stamp node) y rest q (placed.shows y rest q).1))
+
+    by : (node : Node) (x : Entry) → IsPlaced head past (line (turn l.at.stamp node) x) → turn l.at.stamp node ≡ at → closing_of head.clients (line (turn l.at.stamp node) x ∷ past) ≡ e ∷ more → Before → InTurn IsClose (line (turn l.at.stamp node) x ∷ past) at
+    by (Target t) (Close o) placed turned q h = inl (turned, tt)
+    by (Client c) x placed turned q h = earlier (Client c) x e more h placed turned q
+    by (Target t) x placed turned q h = let y = left (closing_of head.clients past) q in earlier (Target t) x y.0 (e ∷ more) h placed turned y.1
+
+nothing_shown : (head : Head) (t : ℕ) (past : List Line) (at : At) (e : Entry) → Grown head past → (InTurn IsClose past at → ⊥) → ShowsNext head (only t past) at e → closing_of head.clients (only t past) ≡ []
+nothing_shown head t past at e g never shows = by (closing_of head.clients (only t past)) refl
+  where
+    by : (es : List Entry) → closing_of head.clients (only t past) ≡ es → es ≡ []
+    by [] q = refl
+    by (x ∷ es) q = absurd (never (in_whole IsClose t past at (closing_here head (only t past) at x es (grown_of head t past g) q (shows x es q).1)))
 
 -- ---- an eviction
 
 takes_join : (head : Head) (t : ℕ) (past : List Line) (at : At) (who : Who) → Grown head past → TookNewer (only t past) at who → takes_newer (printed past) at who ≡ true
 takes_join head t past at who g k =
     any_passes (λ (s : Sending). joins_after who s.message) (record { from = Client k.from; to = at.node; message = message.Join k.other k.boot }) (taken (printed past) at)
-    (took_taken head past at (Client k.from) (message.Join k.other k.boot) g (took_whole t past at (Client k.from) (message.Join k.other k.boot) k.took))
+    (took_taken head past at (Client k.from) (message.Join k.other k.boot) g (took_whole t past at (Client k.from) (message.Join k.other k.boot) (since_took (only t past) at (Client k.from) (message.Join k.other k.boot) k.took)))
     (rw (eq-eqb k.other.client who.client k.client, lt-ltb who.life k.other.life k.newer) refl)
 
 evicted_by : (head : Head) (t : ℕ) (past : List Line) (at : At) (who : Who) (cause : Cause) → Grown head past → IsServing head.osts (only t past) → story_guards.EvictedBy (only t past) at who cause → EvictedBy t (printed past) at who cause
-evicted_by head t past at who Expired g v k = record { ticks = tick_in past at (in_whole IsTick t past at k.0); called = called_back head t who at past g (serves_first head.osts (only t past) ((holds head past g).at t).phase v) k.1 }
+evicted_by head t past at who Expired g v k = record { ticks = tick_in past at (in_whole IsTick t past at k.0); called = called_back head t who at past g v.closed k.1 }
 evicted_by head t past at who Replaced g v k = takes_join head t past at who g k
 evicted_by head t past at who cause g v k = absurd k
 
--- no window closes
-none_decides : {A : Type 0} (decides : List PrintedLine → A) (head : Head) (past : List Line) (at : At) → Grown head past → newest (closes_in decides at) (printed past) ≡ None
-none_decides decides head [] at g = refl
-none_decides {A} decides head (l ∷ past) at g = by l.at.node l.entry g.0 (none_decides decides head past at g.1)
+-- no window closed in the turn
+none_decides : {A : Type 0} (decides : List PrintedLine → A) (past : List Line) (at : At) → (InTurn IsClose past at → ⊥) → newest (closes_in decides at) (printed past) ≡ None
+none_decides decides [] at never = refl
+none_decides {A} decides (l ∷ past) at never = by l.entry never (none_decides decides past at (λ i. never (inr i)))
   where
-    by : (node : Node) (e : Entry) → Allowed head past (turn l.at.stamp node) e → newest (closes_in decides at) (printed past) ≡ None → newest (closes_in decides at) (printed (line (turn l.at.stamp node) e ∷ past)) ≡ None
-    by (Client c) (Close outcome) k h = absurd k.ok
-    by (Target u) (Close outcome) k h = absurd k.ok
-    by _ _ k h = h
+    Decides : Entry → Type 0
+    Decides e = newest (closes_in decides at) (printed (line l.at e ∷ past)) ≡ None
 
-pub evict_law : (head : Head) (past : List Line) (at : At) (later : List PrintedLine) (t : ℕ) (who : Who) (cause : Cause) → Grown head past → EvictOk head (only t past) at who cause → EvictAt t (printed past) at later who cause
-evict_law head past at later t who cause g ok =
+    by : (e : Entry) → (InTurn IsClose (line l.at e ∷ past) at → ⊥) → newest (closes_in decides at) (printed past) ≡ None → Decides e
+    by (Close o) n h = of (same_turn l.at at) refl
+      where
+        of : (b : Bool) → same_turn l.at at ≡ b → or_else (then_some b (decides (printed past))) (newest (closes_in decides at) (printed past)) ≡ None
+        of true e = absurd (n (inl (same_turn_is l.at at e, tt)))
+        of false e = h
+    by _ n h = h
+
+pub evict_law : (head : Head) (past : List Line) (at : At) (later : List PrintedLine) (t : ℕ) (who : Who) (cause : Cause) → Grown head past → at.node ≡ Target t → ShowsNext head (only t past) at (Evict who cause) → EvictOk head (only t past) at who cause
+    → EvictAt t (printed past) at later who cause
+evict_law head past at later t who cause g mine shows ok =
     record {
-      slot = slot_is head t past who g ok.has;
+      slot = slot_now head t past g (nothing_shown head t past at (Evict who cause) g never shows) who ok.has;
       commit = commit_in past at (in_whole IsCommit t past at ok.commits);
       caused = subst (λ (o : Option (Option Cause)). EvictedIn t (printed past) at who cause o) (sym none) (evicted_by head t past at who cause g ok.serves ok.caused);
     }
@@ -200,5 +333,8 @@ evict_law head past at later t who cause g ok =
     decides : List PrintedLine → Option Cause
     decides before = cause_at t before who
 
+    never : InTurn IsClose past at → ⊥
+    never = never_closed head t past at who cause g mine ok.caused
+
     none : decided (λ before. cause_at t before who) at (printed past) later ≡ None
-    none = cond_both (is_finished at (printed past) later) (newest (closes_in decides at) (printed past)) None (λ (o : Option (Option Cause)). o ≡ None) (λ e. none_decides decides head past at g) (λ e. refl)
+    none = cond_both (is_finished at (printed past) later) (newest (closes_in decides at) (printed past)) None (λ (o : Option (Option Cause)). o ≡ None) (λ e. none_decides decides past at never) (λ e. refl)

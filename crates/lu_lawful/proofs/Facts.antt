@@ -43,7 +43,7 @@ AnswersAt past at c named given =
       flight : Flight;
       reply : ReplyTo;
       hears : HeardBy past c flight reply;
-      is : record deed.reply { committed = reply.committed } ≡ reply;
+      is : record deed.reply { boot = reply.boot; committed = reply.committed } ≡ reply;
       plain : IsPlain deed.reply.answer;
     }
 

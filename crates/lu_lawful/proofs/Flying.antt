@@ -25,7 +25,6 @@ use Rattle.lu_guards.proofs.StoryGuards.{AskOk}
 use Rattle.lu_guards.proofs.Grown.{Allowed, Grown}
 use Rattle.lu_guards.proofs.Lists.{in_left, in_filter, life_is}
 use Rattle.lu_facts.proofs.Groups.{turn, life_request}
-use Rattle.lu_facts.proofs.All.{holds}
 use Rattle.lu_lawful.proofs.Story.{about_it}
 use Rattle.lu_lawful.proofs.Printed.{own_by, own_story}
 
@@ -35,7 +34,7 @@ flying who past = in_flight 0 who (printed past)
 
 -- a request in flight by the laws is one by the rows
 abbrev pub Flown : List Line → Who → RequestOf → Type 0
-Flown past who r = (f : Flight) × In f (flights_of who (only 0 past)) × (r ≡ life_request who f)
+Flown past who r = (f : Flight) × In f (flights_of who (only 0 past)) × (r ≡ life_request who r.boot f)
 
 abbrev pub Distinct : List RequestOf → Type 0
 Distinct [] = Unit {0}
@@ -57,13 +56,9 @@ distinct_filter g (r ∷ rs) d =
     (λ t. distinct_filter g rs d.1)
 
 -- what a client sends is of its present life, and in flight by the rows
-pub ask_flown : (head : Head) (past : List Line) (c : ℕ) (r : RequestOf) → Grown head past → AskOk (only 0 past) c r → Flown past (life_of c (only 0 past)) r
-ask_flown head past c r g ok =
-    let phase = ((holds head past g).at 0).phase in
-    (ok.flight, ok.flying, ok.is ∙ ap (λ (b : ℕ). message (life_of c (only 0 past)) b) (phase.served c ok.serves))
-  where
-    message : Who → ℕ → RequestOf
-    message w b = record { who = w; boot = b; xid = record { 0 = ok.flight.xid }; tag = ok.flight.tag; op = ok.flight.op }
+pub ask_flown : (past : List Line) (c : ℕ) (r : RequestOf) → AskOk (only 0 past) c r → Flown past (life_of c (only 0 past)) r
+ask_flown past c r ok =
+    (ok.flight, ok.flying, ok.is ∙ ap (λ (b : ℕ). life_request (life_of c (only 0 past)) b ok.flight) (ap (λ (v : RequestOf). v.boot) (sym ok.is)))
 
 -- it stays in flight over a line that leaves the rows' requests, whether or not that line concerns the target
 flown_on : (l : Line) (past : List Line) (who : Who) (r : RequestOf) → flights_of who (l ∷ only 0 past) ≡ flights_of who (only 0 past) → Flown past who r → Flown (l ∷ past) who r
@@ -128,7 +123,7 @@ flyers_heard head past stamp d f r g x h who = (
         and_true true = refl
         and_true false = refl
 
-    by : (q : RequestOf) (t : Bool) → is_own who (only 0 past) (Client d) ≡ t → In q (if t then without_number r.xid.0 (flying who past) else flying who past) → (g : Flight) × In g (if t then without_flight f.xid (flights_of who (only 0 past)) else flights_of who (only 0 past)) × (q ≡ life_request who g)
+    by : (q : RequestOf) (t : Bool) → is_own who (only 0 past) (Client d) ≡ t → In q (if t then without_number r.xid.0 (flying who past) else flying who past) → (g : Flight) × In g (if t then without_flight f.xid (flights_of who (only 0 past)) else flights_of who (only 0 past)) × (q ≡ life_request who q.boot g)
     by q true t i =
         let j = in_filter (λ (v : RequestOf). not (nat_eq v.xid.0 r.xid.0)) q (flying who past) i in
         let k = (h who).0 q j.0 in
@@ -145,7 +140,7 @@ flyers_on l past rows laws h who = (
 )
 
 pub keeps_flyers : (head : Head) (past : List Line) (stamp : Stamp) (node : Node) (e : Entry) → Allowed head past (turn stamp node) e → Grown head past → Flyers past → Flyers (line (turn stamp node) e ∷ past)
-keeps_flyers head past stamp (Client c) (Send (Target t) (message.Request r)) k g h = flyers_asks past stamp c t r (life_of c (only 0 past)) (ask_flown head past c r g (k.of 0 (about_it t k.ok))) h
+keeps_flyers head past stamp (Client c) (Send (Target t) (message.Request r)) k g h = flyers_asks past stamp c t r (life_of c (only 0 past)) (ask_flown past c r (k.of 0 (about_it t k.ok))) h
 keeps_flyers head past stamp (Client c) (Send (Target t) (message.Cancel other boot cookie)) k g h = flyers_on (line (turn stamp (Client c)) (Send (Target t) (message.Cancel other boot cookie))) past (λ who. refl) (λ who. refl) h
 keeps_flyers head past stamp (Client c) (Send (Target t) (message.Join other boot)) k g h = flyers_on (line (turn stamp (Client c)) (Send (Target t) (message.Join other boot))) past (λ who. refl) (λ who. refl) h
 keeps_flyers head past stamp (Client c) (Send (Target t) (message.Replay r)) k g h = flyers_on (line (turn stamp (Client c)) (Send (Target t) (message.Replay r))) past (λ who. refl) (λ who. refl) h

@@ -1,7 +1,7 @@
 -- What a target took since its boot, as the laws count it and as its window keeps it: of each life with a slot as many replays and locks, and
 -- a word where there is one.
 use Rattle.std.proofs.Common.{◌≡◌, ℕ, suc, Bool, true, false, List, [], ◌∷◌, Option, Some, None, ◌⊎◌, inl, inr, ⊎_elim, refl, sym, subst, ap, ◌∙◌, arith}
-use Rattle.std.specs.Prelude.{nat_eq, nat_le, not, ◌&&◌, ◌||◌, if◌then◌else◌, length, filter}
+use Rattle.std.specs.Prelude.{nat_eq, nat_lt, nat_le, not, ◌&&◌, ◌||◌, if◌then◌else◌, length, filter}
 use Rattle.std.specs.List.{list_any}
 use Rattle.std.proofs.lemmas.Bool.{and_parts, eqb-true, eq-eqb, le-leb, true≢false}
 use Rattle.lu_base.specs.declared.ids.Who.{Who}
@@ -11,15 +11,16 @@ use Rattle.lu_msg.specs.declared.messages.Message.TheVariants as message
 use Rattle.lu_msg.specs.declared.messages.LockReplay.{LockReplay}
 use Rattle.lu_msg.specs.declared.messages.RequestReplay.{RequestReplay}
 use Rattle.lu_words.specs.Carried.{Said}
-use Rattle.lu_words.specs.Words.{Entry, Stores, Brings, same_life}
+use Rattle.lu_words.specs.Words.{Entry, Stores, Brings, Wishes, same_life}
 use Rattle.lu_target_rows.specs.Kept.{replayed, replays_after, brought_after, words_after}
 use Rattle.lu_target_rows.specs.Lives.{is_life}
 use Rattle.lu_target_rows.specs.Recovery.{cut, empty_word}
 use Rattle.lu_target_rows.specs.Rows.{lock_again}
-use Rattle.lu_target_rows.specs.Windows.{Replayed, Window, placed, replay_before, brought_before, word_before, is_replay, is_lock, word_of}
+use Rattle.lu_target_rows.specs.Leaving.{life_of as life_in}
+use Rattle.lu_target_rows.specs.Windows.{Replayed, Window, placed, replay_before, brought_before, word_before, is_replay, is_lock, word_of, is_newest}
 use Rattle.lu_target_rows.specs.Windows as window
 use Rattle.lu_laws.specs.Words.Handed.{is_replay_of, replays, is_lock_of, locks, replay_count, lock_count, is_word, has_all}
-use Rattle.lu_guards.proofs.Guards.{In, says_first, mark_of}
+use Rattle.lu_guards.proofs.Guards.{In, says_first, wish_by, wish_mark, mark_of}
 use Rattle.lu_guards.proofs.ClientLocks.{any_true, any_passes}
 use Rattle.lu_guards.proofs.Lists.{life_is, life_self}
 use Rattle.lu_lawful.proofs.Printed.{flip, flip_life}
@@ -276,8 +277,22 @@ module _ (v : Window) (b : ℕ) (handed : List Message) where
       (spoken_step m who boot said refl (λ x s w. (w.0, w.1)) (λ e. (refl, e, refl, refl)) h.spoken (nat_eq boot b) (is_life who v.lives) refl refl (word_of who v.words) refl)
   agrees_take (message.Join who boot) h =
       let m = message.Join who boot in
-      spoken_agrees m (empty_word who) (nat_eq boot b && is_life who v.lives) (word_of who v.words) h.replays_are h.locks_are
-      (spoken_step m who boot (empty_word who) refl (λ x s w. (w.0, w.1)) (λ e. (refl, e, refl, refl)) h.spoken (nat_eq boot b) (is_life who v.lives) refl refl (word_of who v.words) refl)
+      joined m (nat_eq boot b && is_life who v.lives) (says_first (word_of who v.words) (empty_word who))
+      (spoken_agrees m (empty_word who) (nat_eq boot b && is_life who v.lives) (word_of who v.words) h.replays_are h.locks_are
+      (spoken_step m who boot (empty_word who) refl (λ x s w. (w.0, w.1)) (λ e. (refl, e, refl, refl)) h.spoken (nat_eq boot b) (is_life who v.lives) refl refl (word_of who v.words) refl))
+    where
+      wished : (m : Message) → Taking v b handed m None → (t : Bool) (o : Option Who) → Taking v b handed m (if t then wish_by v who o else None)
+      wished m k false o = k
+      wished m k true None = k
+      wished m k true (Some old) = newest (nat_lt old.life who.life && is_newest who v.wishes)
+        where
+          newest : (n : Bool) → Taking v b handed m (if n then Some (Wishes who) else None)
+          newest true = record { replays_are = k.replays_are; locks_are = k.locks_are; spoken = k.spoken }
+          newest false = k
+
+      joined : (m : Message) (t : Bool) (o : Option Entry) → Taking v b handed m (if t then o else None) → Taking v b handed m (if t then o else wish_mark v b who boot)
+      joined m true o k = k
+      joined m false o k = wished m k (nat_eq boot b) (life_in who.client v.lives)
   agrees_take m h = record { replays_are = h.replays_are; locks_are = h.locks_are; spoken = spoken_more b m handed v.lives v.words (λ who s w. absurd w) h.spoken }
 
 -- ---- who is back

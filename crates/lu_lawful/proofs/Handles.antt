@@ -43,6 +43,7 @@ use Rattle.lu_facts.proofs.Calls.{bad_unasked}
 use Rattle.lu_facts.proofs.Endings.{noticed_more, ending_more, later_ends}
 use Rattle.lu_facts.proofs.Refused.{acted_answered}
 use Rattle.lu_facts.proofs.Transactions.{opened_number}
+use Rattle.lu_lawful.proofs.Turns.{same_turn_is}
 use Rattle.lu_lawful.proofs.Printed.{flip, its_client, life_number, present_is, OfBoth, both_calls, calls_are}
 use Rattle.lu_lawful.proofs.Hearing.{just_heard}
 use Rattle.lu_lawful.proofs.ActsLaw.{own_line}
@@ -146,7 +147,8 @@ number_is head (l ∷ past) d g a high = by l.at.node l.entry g.0 a (λ i. numbe
         (λ same.
         let p = and_parts (pasts.is_target 0 (Target t) && pasts.same_turn (turn l.at.stamp (Target t)) d.reply.at && same_life e.reply.who d.reply.who) (nat_eq e.reply.xid.0 d.reply.xid.0) same in
         let q = and_parts (pasts.is_target 0 (Target t) && pasts.same_turn (turn l.at.stamp (Target t)) d.reply.at) (same_life e.reply.who d.reply.who) p.0 in
-        now.0.new d i (sym (life_is e.reply.who d.reply.who q.1)) (sym (eqb-true e.reply.xid.0 d.reply.xid.0 p.1)))
+        let r = and_parts (pasts.is_target 0 (Target t)) (pasts.same_turn (turn l.at.stamp (Target t)) d.reply.at) q.0 in
+        now.0.now d i (sym (same_turn_is (turn l.at.stamp (Target t)) d.reply.at r.1)) (sym (life_is e.reply.who d.reply.who q.1)) (sym (eqb-true e.reply.xid.0 d.reply.xid.0 p.1)))
         (h i)
     by _ _ k a h = h a
 

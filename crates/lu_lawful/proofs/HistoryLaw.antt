@@ -1,11 +1,11 @@
 -- The law of history: with the lost transactions taken out, the plain machine answers what clients were told, and
 -- refuses no transaction that stands. It has more opens than the contents, which lose those of a life that leaves; no part that is looked
 -- at holds opens.
-use Rattle.std.proofs.Common.{◌*◌, ◌≡◌, ℕ, zero, suc, ◌+◌, ◌<◌, ◌≤◌, Bool, true, false, List, [], ◌∷◌, ◌++◌, ◌⊎◌, Option, Some, None, inl, inr, refl, sym, subst, ap, ◌∙◌, arith}
-use Rattle.std.specs.Prelude.{nat_eq, not, ◌&&◌, ◌||◌, nat_lt, if◌then◌else◌, filter}
+use Rattle.std.proofs.Common.{◌*◌, ◌≡◌, ℕ, zero, suc, ◌+◌, ◌<◌, ◌≤◌, Bool, true, false, List, [], ◌∷◌, ◌⊎◌, Option, Some, None, inl, inr, ⊎_elim, refl, sym, subst, ap, ◌∙◌, arith}
+use Rattle.std.specs.Prelude.{nat_eq, not, ◌&&◌, ◌||◌, if◌then◌else◌}
 use Rattle.std.specs.List.{list_any}
 use Rattle.std.specs.Option.{option_map}
-use Rattle.std.proofs.lemmas.Bool.{cond_both, and_parts, eqb-true, ltb-false}
+use Rattle.std.proofs.lemmas.Bool.{cond_both, and_parts, eqb-true}
 use Rattle.std.proofs.lemmas.Bool.Decides.{nat_tests}
 use Rattle.lu_base.specs.declared.ids.At.{At}
 use Rattle.lu_base.specs.declared.ids.Node.{Node}
@@ -23,15 +23,13 @@ use Rattle.lu_msg.specs.declared.messages.Reply.{Reply as ReplyTo}
 use Rattle.lu_msg.specs.declared.operations.Op.{Op}
 use Rattle.lu_part.specs.Meets.{meets}
 use Rattle.lu_part.specs.declared.parts.Part.{Part}
-use Rattle.lu_part.specs.declared.parts.Part.TheVariants as part
 use Rattle.lu_trace.specs.declared.entries.Line.{Line as PrintedLine}
 use Rattle.lu_machine.specs.declared.acts.Act.{Act as ActOf}
 use Rattle.lu_machine.specs.declared.acts.Deed.{Deed as DeedOf}
 use Rattle.lu_machine.specs.declared.acts.Deed.TheVariants.{Names}
 use Rattle.lu_machine.specs.Tree.{Tree, same_life}
-use Rattle.lu_machine.specs.Footprint.{Operation, empty, answer, touches, writes, changes, after, forget, Every, Apart, Same}
-use Rattle.lu_machine.specs.Removal as removal
-use Rattle.lu_machine.specs.Removal.{Item, Acts, Forgets, pick}
+use Rattle.lu_machine.specs.Footprint.{Operation, empty, answer, touches, changes, after, forget, Every, Apart, Same}
+use Rattle.lu_machine.specs.Removal.{Item, Acts, pick}
 use Rattle.lu_machine.specs.Seen.{meet, seen, SawKept, AllSawKept}
 use Rattle.lu_machine.specs.Laws.{Alike}
 use Rattle.lu_machine.specs.Machine.{Machine, names_answer}
@@ -41,14 +39,16 @@ use Rattle.lu_machine.proofs.Stated.{refusals_stay, touched_decide, new_from_old
 use Rattle.lu_machine.proofs.Removal.{earlier_are_older}
 use Rattle.lu_machine.proofs.Seen.{removal_by_seen}
 use Rattle.lu_machine.proofs.Transactions.{readings_change_nothing, machine_is_table}
-use Rattle.lu_words.specs.Carried.{Deed, Work, Running, HandleFile}
-use Rattle.lu_words.specs.Words.{Entry, Heard, Told, Act, Txn as Made, Commit, Boot, Evict, Line, line}
-use Rattle.lu_words.specs.Concerns.{only}
+use Rattle.lu_words.specs.Carried.{Deed, Outcome, Work, Running, HandleFile}
+use Rattle.lu_words.specs.Words.{Entry, Heard, Told, Act, Txn as Made, Commit, Close, Evict, Line, line}
+use Rattle.lu_words.specs.Concerns.{concerns, only}
 use Rattle.lu_words.specs.Printed.{printed}
 use Rattle.lu_covered.specs.Calls.{life_at, call_at, operation_of, becomes}
 use Rattle.lu_covered.specs.Known.{notes_at, known_answer}
 use Rattle.lu_covered.specs.TargetParts.{operation}
-use Rattle.lu_covered.specs.TargetStates.{boot_at, count_at, committed_at, tree_at, log_at, server_at, seen_in}
+use Rattle.lu_covered.specs.TargetStates.{boot_at, count_at, committed_at, tree_at, log_at, server_at, server_of, seen_in}
+use Rattle.lu_covered.specs.TargetCloses.{is_lost, loses, closing_of}
+use Rattle.lu_target_rows.specs.Lives.{lives_of as lives_in}
 use Rattle.lu_covered.specs.Heads.{Head}
 use Rattle.lu_laws.specs.Words.Pasts.{same_turn, is_target}
 use Rattle.lu_laws.specs.Words.Lives.{who_is, is_evicted, is_gone}
@@ -61,40 +61,57 @@ use Rattle.lu_laws.proofs.Leaves.{acts_leave}
 use Rattle.lu_laws.proofs.Tests.{both, settled}
 use Rattle.lu_laws.specs.Laws.History.{is_accepted, heard_answer, right_answer, ToldOn, ToldAt, HistoryOf}
 use Rattle.lu_laws.specs.Laws.History as law
-use Rattle.lu_lawful.specs.Fits.{AllStand, SeenStand, ReplyStands, HeardStandsAt, HeardStand, CommitStandsAt, CommitsStand, EvictedOut, Fits}
+use Rattle.lu_lawful.specs.Fits.{AllStand, SeenStand, ReplyStands, HeardStand, CommitsStand, EvictedOut, WasMade, Fits}
 use Rattle.lu_guards.proofs.Guards.{In}
 use Rattle.lu_guards.proofs.Grown.{Allowed, Grown}
 use Rattle.lu_guards.proofs.Lists.{life_is}
+use Rattle.lu_guards.proofs.Parts.{tree_is, log_is, committed_is}
 use Rattle.lu_facts.proofs.Finds.{numbers_at, numbers_up}
-use Rattle.lu_facts.proofs.Groups.{turn, Acted, Evicted}
+use Rattle.lu_facts.proofs.Groups.{turn, Acted, Evicted, IsMade, Stands, History, items_of, items_after, forgetting}
+use Rattle.lu_facts.proofs.All.{holds}
+use Rattle.lu_facts.proofs.PartsStay.{in_seen}
+use Rattle.lu_facts.proofs.Lines.{acted_whole}
 use Rattle.lu_facts.proofs.OnNames.{IsPlain, told_so, reading_told}
 use Rattle.lu_facts.proofs.Refused.{acted_plain}
 use Rattle.lu_facts.proofs.Sides.{acted_only}
 use Rattle.lu_facts.proofs.Known.{any_in, right, SawBy, known_saw}
+use Rattle.lu_lawful.proofs.Commits.{made_more}
 use Rattle.lu_lawful.proofs.Lines.{Keeps, holds_before}
-use Rattle.lu_lawful.proofs.Turns.{same_life_self}
+use Rattle.lu_lawful.proofs.Turns.{same_life_self, same_turn_is}
 use Rattle.lu_lawful.proofs.ActsLaw.{own_line}
-use Rattle.lu_lawful.proofs.Once.{NoneFor, act_now, txn_now}
+use Rattle.lu_lawful.proofs.Once.{NoneNow, act_now, txn_now}
+use Rattle.lu_lawful.proofs.Lost.{lost_whole, stood_before}
+use Rattle.lu_lawful.proofs.HistoryItems.{whole, keep, same_as, same_trans, same_self, same_forgot, same_forgetting, pick_forgetting, pick_again, seen_stays, all_saw}
 use Rattle.lu_lawful.proofs.Facts.{AskedAt, AllAsked, AnswersAt, KnewAt, TellsAt, AllTold, told_earlier}
 use Rattle.lu_lawful.proofs.Contents.{number_is, asked_before}
-use Rattle.lu_lawful.proofs.SeenNumbers.{one, seen_snoc}
 use Rattle.lu_lawful.proofs.Deeds.{ActIs, TxnIs, act_is, txn_is}
 use Rattle.lu_lawful.proofs.Plain.{told_plain}
 use Rattle.lu_lawful.proofs.Fine.{known_operation}
-use Rattle.lu_lawful.proofs.Printed.{present_is, evicted_is}
+use Rattle.lu_lawful.proofs.Printed.{present_is}
+use Rattle.lu_lawful.proofs.CloseLines.{nothing_left}
+use Rattle.lu_lawful.proofs.CloseSlots.{LeftEvict, evicted_law}
 use Rattle.lu_lawful.proofs.Story.{about_it}
-use Rattle.lu_lawful.proofs.ToldLaw.{heard_stands, same_stands}
+use Rattle.lu_lawful.proofs.ToldLaw.{Lasting, heard_stands, same_stands}
 use Rattle.lu_lawful.proofs.Handles.{meant_is}
 
-commits_before : (lost : ℕ → ℕ → Bool) (l : Line) (past : List Line) → CommitsStand lost (l ∷ past) → CommitsStand lost past
-commits_before lost l past = by l.entry
+commits_before : (osts : ℕ) (lost : ℕ → ℕ → Bool) (l : Line) (past : List Line) → CommitsStand osts lost (l ∷ past) → CommitsStand osts lost past
+commits_before osts lost l past = by l.entry
   where
-    by : (e : Entry) → CommitsStand lost (line l.at e ∷ past) → CommitsStand lost past
+    by : (e : Entry) → CommitsStand osts lost (line l.at e ∷ past) → CommitsStand osts lost past
     by (Commit to batch) c = c.1
+    by (Close o) c = c.1
     by _ c = c
 
-pub fits_before : (out : Who → Bool) (lost : ℕ → ℕ → Bool) (l : Line) (past : List Line) → Fits out lost (l ∷ past) → Fits out lost past
-fits_before out lost l past f = record { root = f.root; seen = seen_before l.entry f.seen; heard = heard_before l.entry f.heard; committed = commits_before lost l past f.committed; gone = gone_before l.entry f.gone }
+pub fits_before : (osts : ℕ) (out : Who → Bool) (lost : ℕ → ℕ → Bool) (l : Line) (past : List Line) → Fits osts out lost (l ∷ past) → Fits osts out lost past
+fits_before osts out lost l past f =
+    record {
+      root = f.root;
+      stays = λ n m e. f.stays n (made_more l past n m) (lost_whole osts l past n e);
+      seen = seen_before l.entry f.seen;
+      heard = heard_before l.entry f.heard;
+      committed = commits_before osts lost l past f.committed;
+      gone = gone_before l.entry f.gone;
+    }
   where
     gone_before : (e : Entry) → EvictedOut out (line l.at e ∷ past) → EvictedOut out past
     gone_before (Evict who cause) k = k.1
@@ -111,156 +128,39 @@ fits_before out lost l past f = record { root = f.root; seen = seen_before l.ent
 not_first : (t : ℕ) → nat_eq 0 (suc t) ≡ false
 not_first t = grind (arith, nat_tests)
 
--- ---- the past as items of the removal law
-
--- a life that leaves the metadata target takes its opens with it
-abbrev forgets : Node → Who → List Item → List Item
-forgets (Target zero) who is = Forgets who ∷ is
-forgets (Target (suc t)) who is = is
-forgets (Client c) who is = is
-
-abbrev items : List Line → List Item
-items [] = []
-items (l ∷ past) = elim l.entry [ Made d ↦ Acts (operation d) ∷ items past | Evict who cause ↦ forgets l.at.node who (items past) | _ ↦ items past ]
-
-abbrev whole : ℕ → List Item → Tree
-whole osts is = removal.contents osts empty is
-
-whole_is : (head : Head) (past : List Line) → Grown head past → whole head.osts (items past) ≡ tree_at head.osts 0 past
-whole_is head [] g = refl
-whole_is head (l ∷ past) g = by l.at.node l.entry g.0 (whole_is head past g.1)
-  where
-    by : (node : Node) (e : Entry) → Allowed head past (turn l.at.stamp node) e → whole head.osts (items past) ≡ tree_at head.osts 0 past → whole head.osts (items (line (turn l.at.stamp node) e ∷ past)) ≡ tree_at head.osts 0 (line (turn l.at.stamp node) e ∷ past)
-    by (Client c) (Made d) k h = absurd k.ok
-    by (Target t) (Made d) k h =
-        subst (λ (v : ℕ). after head.osts (whole head.osts (items past)) (operation d) ≡ tree_at head.osts 0 (line (turn l.at.stamp (Target v)) (Made d) ∷ past)) (sym k.ok) (ap (λ t. after head.osts t (operation d)) h)
-    by (Client c) (Evict who cause) k h = absurd k.ok
-    by (Target zero) (Evict who cause) k h = ap (λ (v : Tree). forget v who) h
-    by (Target (suc t)) (Evict who cause) k h = h ∙ sym (ap (λ (b : Bool). if b then forget (tree_at head.osts 0 past) who else tree_at head.osts 0 past) (not_first t))
-    by _ _ k h = h
-
--- ---- trees that hold the same: opens are in no part
-
-same_trans : (t u v : Tree) (p : Part) → Same t u p → Same u v p → Same t v p
-same_trans t u v (part.Name d n) a b = a ∙ b
-same_trans t u v (part.List d) a b = a ∙ b
-same_trans t u v (part.Attr f) a b = (a.0 ∙ b.0, a.1 ∙ b.1)
-same_trans t u v (part.Layout f) a b = a ∙ b
-same_trans t u v (part.Parent f) a b = tt
-same_trans t u v (part.Bytes f stripe extent) a b = tt
-
-same_self : (t : Tree) (p : Part) → Same t t p
-same_self t (part.Name d n) = refl
-same_self t (part.List d) = refl
-same_self t (part.Attr f) = (refl, refl)
-same_self t (part.Layout f) = refl
-same_self t (part.Parent f) = tt
-same_self t (part.Bytes f stripe extent) = tt
-
-same_forgot : (t : Tree) (who : Who) (p : Part) → Same t (forget t who) p
-same_forgot t who (part.Name d n) = refl
-same_forgot t who (part.List d) = refl
-same_forgot t who (part.Attr f) = (refl, refl)
-same_forgot t who (part.Layout f) = refl
-same_forgot t who (part.Parent f) = tt
-same_forgot t who (part.Bytes f stripe extent) = tt
-
-same_as : (t u v : Tree) (p : Part) → t ≡ u → Same u v p → Same t v p
-same_as t u v p e = subst (λ (w : Tree). Same w v p) (sym e)
-
 alike_trans : (osts : ℕ) (t u v : Tree) (o : Operation) → Alike osts t u o → Alike osts u v o → Alike osts t v o
 alike_trans osts t u v o a b = record { answer = a.answer ∙ b.answer; touches = a.touches ∙ b.touches; writes = a.writes ∙ b.writes; grants = a.grants ∙ b.grants; changes = a.changes ∙ b.changes }
 
-stand_parts : (lost : ℕ → ℕ → Bool) (ms ns : List ℕ) → AllStand lost (ms ++ ns) → AllStand lost ms × AllStand lost ns
-stand_parts lost [] ns s = (tt, s)
-stand_parts lost (m ∷ ms) ns s = let r = stand_parts lost ms ns s.1 in ((s.0, r.0), r.1)
+alike_back : (osts : ℕ) (t u : Tree) (o : Operation) → Alike osts t u o → Alike osts u t o
+alike_back osts t u o a = record { answer = sym a.answer; touches = sym a.touches; writes = sym a.writes; grants = sym a.grants; changes = sym a.changes }
 
-abbrev keep : (ℕ → ℕ → Bool) → ℕ → Bool
-keep lost n = not (lost 0 n)
+-- ---- the items of a past, and what its history says of them
 
-module _ (head : Head) (lost : ℕ → ℕ → Bool) where
-  abbrev KeptSeen : List Item → List Part → Type 0
-  KeptSeen is touched = Every (λ n. keep lost n ≡ true) (seen head.osts (whole head.osts) is touched)
+module _ (head : Head) where
+  abbrev items : List Line → List Item
+  items past = items_of head.osts (only 0 past)
 
-  kept_made : (touched : List Part) (past : List Line) (at : At) (d : Deed) → Grown head past → TxnIs head.osts (server_at head.osts 0 past) at d → (AllStand lost (seen_in touched (log_at 0 past)) → KeptSeen (items past) touched)
-      → AllStand lost (seen_in touched (log_at 0 past ++ d ∷ [])) → KeptSeen (Acts (operation d) ∷ items past) touched
-  kept_made touched past at d g is h s =
-      let n = d.reply.txn.0 in
-      let ns = seen head.osts (whole head.osts) (items past) touched in
-      let parts = stand_parts lost (seen_in touched (log_at 0 past)) (one (meet d.writes touched) n) (subst (AllStand lost) (seen_snoc touched (log_at 0 past) d) s) in
-      subst (λ t. Every (λ n. keep lost n ≡ true) (if meet (writes head.osts t (operation d)) touched then n ∷ ns else ns)) (sym (whole_is head past g))
-      (subst (λ (ws : List Part). Every (λ n. keep lost n ≡ true) (if meet ws touched then n ∷ ns else ns)) is.wrote (at_one (meet d.writes touched) n ns parts.1 (h parts.0)))
+  history : (past : List Line) → Grown head past → History head.osts head.clients (only 0 past)
+  history past g = ((holds head past g).at 0).history
+
+  tree_same : (past : List Line) → Grown head past → (p : Part) → Same (whole head.osts (items past)) (tree_at head.osts 0 past) p
+  tree_same past g p = subst (λ (t : Tree). Same (whole head.osts (items past)) t p) (sym (tree_is head.osts 0 past)) ((history past g).tree p)
+
+  -- so an operation comes out of both alike
+  tree_alike : (past : List Line) (o : Operation) → Grown head past → Alike head.osts (whole head.osts (items past)) (tree_at head.osts 0 past) o
+  tree_alike past o g = touched_decide head.osts (whole head.osts (items past)) (tree_at head.osts 0 past) o (every_one (Same (whole head.osts (items past)) (tree_at head.osts 0 past)) (touches head.osts (whole head.osts (items past)) o) (tree_same past g))
+
+  -- only the metadata target's lines change them
+  items_line : (l : Line) (past : List Line) → items (l ∷ past) ≡ elim l.at.node [ Client c ↦ items past | Target t ↦ if nat_eq 0 t then items_after (server_of head.osts (only 0 past)).committed.0 (items past) l.entry else items past ]
+  items_line l past = by l.at.node
     where
-      at_one : (t : Bool) (n : ℕ) (ns : List ℕ) → AllStand lost (one t n) → Every (λ n. keep lost n ≡ true) ns → Every (λ n. keep lost n ≡ true) (if t then n ∷ ns else ns)
-      at_one true n ns s h = (ap not s.0, h)
-      at_one false n ns s h = h
-
-  -- where what is committed stands, all that was seen stood before the commit too
-  stood : (touched : List Part) (to : ℕ) (log : List Deed) → ((n : ℕ) → n ≤ to → lost 0 n ≡ false) → AllStand lost (seen_in touched (filter (λ d. nat_lt to d.reply.txn.0) log)) → AllStand lost (seen_in touched log)
-  stood touched to [] c s = tt
-  stood touched to (d ∷ log) c s = by (nat_lt to d.reply.txn.0) (meet d.writes touched) refl refl s (stood touched to log c)
-    where
-      rest : List Deed
-      rest = filter (λ x. nat_lt to x.reply.txn.0) log
-
-      low : nat_lt to d.reply.txn.0 ≡ false → lost 0 d.reply.txn.0 ≡ false
-      low e = c d.reply.txn.0 (ltb-false to d.reply.txn.0 e)
-
-      by : (b m : Bool) → nat_lt to d.reply.txn.0 ≡ b → meet d.writes touched ≡ m → AllStand lost (seen_in touched (if b then d ∷ rest else rest)) → (AllStand lost (seen_in touched rest) → AllStand lost (seen_in touched log))
-          → AllStand lost (if m then d.reply.txn.0 ∷ seen_in touched log else seen_in touched log)
-      by true true e f s more = let t = subst (λ (v : Bool). AllStand lost (if v then d.reply.txn.0 ∷ seen_in touched rest else seen_in touched rest)) f s in (t.0, more t.1)
-      by true false e f s more = more (subst (λ (v : Bool). AllStand lost (if v then d.reply.txn.0 ∷ seen_in touched rest else seen_in touched rest)) f s)
-      by false true e f s more = (low e, more s)
-      by false false e f s more = more s
-
-  seen_kept : (touched : List Part) (past : List Line) → Grown head past → CommitsStand lost past → AllStand lost (seen_in touched (log_at 0 past)) → KeptSeen (items past) touched
-  seen_kept touched [] g c s = tt
-  seen_kept touched (l ∷ past) g c s = by l.at.node l.entry g.0 c s (seen_kept touched past g.1)
-    where
-      by : (node : Node) (e : Entry) → Allowed head past (turn l.at.stamp node) e → CommitsStand lost (line (turn l.at.stamp node) e ∷ past) → AllStand lost (seen_in touched (log_at 0 (line (turn l.at.stamp node) e ∷ past)))
-          → (CommitsStand lost past → AllStand lost (seen_in touched (log_at 0 past)) → KeptSeen (items past) touched) → KeptSeen (items (line (turn l.at.stamp node) e ∷ past)) touched
-      by (Client c) (Made d) k f s h = absurd k.ok
-      by (Client c) (Commit to batch) k f s h = absurd k.ok
-      by (Target zero) (Commit to batch) k f s h = h f.1 (stood touched to (log_at 0 past) f.0 s)
-      by (Target (suc t)) (Commit to batch) k f s h = h f.1 (subst (λ (b : Bool). AllStand lost (seen_in touched (if b then filter (λ d. nat_lt to d.reply.txn.0) (log_at 0 past) else log_at 0 past))) (not_first t) s)
-      by (Client c) (Evict who cause) k f s h = absurd k.ok
-      by (Target zero) (Evict who cause) k f s h = h f s
-      by (Target (suc t)) (Evict who cause) k f s h = h f s
-      by (Target t) (Made d) k f s h =
-          kept_made touched past (turn l.at.stamp (Target t)) d g.1 (txn_is head past l.at.stamp t d k) (h f) (subst (λ (v : ℕ). AllStand lost (seen_in touched (log_at 0 (line (turn l.at.stamp (Target v)) (Made d) ∷ past)))) k.ok s)
-      by _ _ k f s h = h f s
-
-  -- what saw only what stands
-  saw_kept : (past : List Line) (d : Deed) → Grown head past → CommitsStand lost past → d.reply.seen ≡ seen_in (touches head.osts (tree_at head.osts 0 past) (operation d)) (log_at 0 past) → AllStand lost d.reply.seen → SawKept head.osts (whole head.osts) (keep lost) (items past) (operation d)
-  saw_kept past d g c is s =
-      subst (λ t. Every (λ n. keep lost n ≡ true) (seen head.osts (whole head.osts) (items past) (touches head.osts t (operation d)))) (sym (whole_is head past g))
-      (seen_kept (touches head.osts (tree_at head.osts 0 past) (operation d)) past g c (subst (AllStand lost) is s))
-
-  -- where each transaction that wrote what is touched stands
-  seen_stands : (touched : List Part) (past : List Line) → Grown head past → ((e : Deed) → Acted past e → 0 < e.reply.txn.0 → meet e.writes touched ≡ true → lost 0 e.reply.txn.0 ≡ false) → KeptSeen (items past) touched
-  seen_stands touched [] g h = tt
-  seen_stands touched (l ∷ past) g h = by l.at.node l.entry g.0 h (λ k. seen_stands touched past g.1 k)
-    where
-      Stand : List Line → Type 0
-      Stand p = (e : Deed) → Acted p e → 0 < e.reply.txn.0 → meet e.writes touched ≡ true → lost 0 e.reply.txn.0 ≡ false
-
-      made : (at : At) (d : Deed) → TxnIs head.osts (server_at head.osts 0 past) at d → (meet d.writes touched ≡ true → lost 0 d.reply.txn.0 ≡ false) → KeptSeen (items past) touched → KeptSeen (Acts (operation d) ∷ items past) touched
-      made at d is own rest =
-          subst (λ (t : Tree). Every (λ n. keep lost n ≡ true) (if meet (writes head.osts t (operation d)) touched then d.reply.txn.0 ∷ seen head.osts (whole head.osts) (items past) touched else seen head.osts (whole head.osts) (items past) touched)) (sym (whole_is head past g.1))
-          (subst (λ (ws : List Part). Every (λ n. keep lost n ≡ true) (if meet ws touched then d.reply.txn.0 ∷ seen head.osts (whole head.osts) (items past) touched else seen head.osts (whole head.osts) (items past) touched)) is.wrote
-          (cond_both (meet d.writes touched) (d.reply.txn.0 ∷ seen head.osts (whole head.osts) (items past) touched) (seen head.osts (whole head.osts) (items past) touched) (λ (ns : List ℕ). Every (λ n. keep lost n ≡ true) ns) (λ m. (ap not (own m), rest)) (λ m. rest)))
-
-      by : (node : Node) (e : Entry) → Allowed head past (turn l.at.stamp node) e → Stand (line (turn l.at.stamp node) e ∷ past) → (Stand past → KeptSeen (items past) touched) → KeptSeen (items (line (turn l.at.stamp node) e ∷ past)) touched
-      by (Client c) (Made d) k h ih = absurd k.ok
-      by (Target t) (Made d) k h ih =
-          let is = txn_is head past l.at.stamp t d k in
-          let n = number_is head past (turn l.at.stamp (Target t)) d g.1 is in
-          made (turn l.at.stamp (Target t)) d is (λ m. h d (inl refl) (omega (arith, n)) m) (ih (λ e a. h e (inr a)))
-      by node (Act d) k h ih = ih (λ e a. h e (inr a))
-      by (Client c) (Evict who cause) k h ih = absurd k.ok
-      by (Target zero) (Evict who cause) k h ih = ih h
-      by (Target (suc t)) (Evict who cause) k h ih = ih h
-      by _ _ k h ih = ih h
+      by : (node : Node) → items (line (turn l.at.stamp node) l.entry ∷ past) ≡ elim node [ Client c ↦ items past | Target t ↦ if nat_eq 0 t then items_after (server_of head.osts (only 0 past)).committed.0 (items past) l.entry else items past ]
+      by (Client c) = cond_both (concerns 0 (Client c) l.entry) (line (turn l.at.stamp (Client c)) l.entry ∷ only 0 past) (only 0 past) (λ (P : List Line). items_of head.osts P ≡ items past) (λ t. refl) (λ t. refl)
+      by (Target t) = own (nat_eq 0 t)
+        where
+          own : (b : Bool) → items_of head.osts (if b then line (turn l.at.stamp (Target t)) l.entry ∷ only 0 past else only 0 past) ≡ (if b then items_after (server_of head.osts (only 0 past)).committed.0 (items past) l.entry else items past)
+          own true = refl
+          own false = refl
 
 stands_again : (b : Bool) → not b ≡ true → b ≡ false
 stands_again true e = absurd (cc)
@@ -275,18 +175,6 @@ txn_here : (head : Head) (past : List Line) (stamp : Stamp) (node : Node) (d : D
 txn_here head past stamp (Client c) d k = absurd k.ok
 txn_here head past stamp (Target t) d k = txn_is head past stamp t d k
 
-all_saw : (head : Head) (lost : ℕ → ℕ → Bool) (past : List Line) → Grown head past → CommitsStand lost past → SeenStand lost past → AllSawKept head.osts (whole head.osts) (keep lost) (items past)
-all_saw head lost [] g c s = tt
-all_saw head lost (l ∷ past) g c s = by l.at.node l.entry g.0 s (all_saw head lost past g.1 (commits_before lost l past c))
-  where
-    by : (node : Node) (e : Entry) → Allowed head past (turn l.at.stamp node) e → SeenStand lost (line (turn l.at.stamp node) e ∷ past) → (SeenStand lost past → AllSawKept head.osts (whole head.osts) (keep lost) (items past))
-        → AllSawKept head.osts (whole head.osts) (keep lost) (items (line (turn l.at.stamp node) e ∷ past))
-    by node (Made d) k s h = (λ kept. saw_kept head lost past d g.1 (commits_before lost l past c) (txn_here head past l.at.stamp node d k).saw (s.0 (stands_again (lost 0 d.reply.txn.0) kept)), h s.1)
-    by (Client b) (Evict who cause) k s h = absurd k.ok
-    by (Target zero) (Evict who cause) k s h = h s
-    by (Target (suc t)) (Evict who cause) k s h = h s
-    by _ _ k s h = h s
-
 -- ---- numbers that stand
 
 pub one_stands : (lost : ℕ → ℕ → Bool) (ns : List ℕ) (n : ℕ) → AllStand lost ns → In n ns → lost 0 n ≡ false
@@ -294,20 +182,115 @@ one_stands lost [] n s i = absurd i
 one_stands lost (m ∷ ns) n s (inl e) = ap (lost 0) (sym e) ∙ s.0
 one_stands lost (m ∷ ns) n s (inr i) = one_stands lost ns n s.1 i
 
--- a number up to the committed one
-committed_stands : (head : Head) (lost : ℕ → ℕ → Bool) (past : List Line) → Grown head past → CommitsStand lost past → (n : ℕ) → 0 < n → n ≤ (committed_at 0 past).0 → lost 0 n ≡ false
-committed_stands head lost [] g c n positive le = absurd (omega (arith, positive, le))
-committed_stands head lost (l ∷ past) g c n positive le = by l.at.node l.entry g.0 c le (λ k. committed_stands head lost past g.1 k n positive)
+-- a transaction that stands, up to the committed number
+committed_stands : (head : Head) (lost : ℕ → ℕ → Bool) (past : List Line) → Grown head past → CommitsStand head.osts lost past → (n : ℕ) → WasMade past n → is_lost head.osts (only 0 past) n ≡ false → n ≤ (committed_at 0 past).0 → lost 0 n ≡ false
+committed_stands head lost [] g c n made stands le = absurd made
+committed_stands head lost (l ∷ past) g c n made stands le = by l.at.node l.entry g.0 c made (stood_before head.osts l past n stands) stands le (committed_stands head lost past g.1)
   where
     txn : ℕ → TxnOf
     txn m = record { 0 = m }
 
-    by : (node : Node) (e : Entry) → Allowed head past (turn l.at.stamp node) e → CommitsStand lost (line (turn l.at.stamp node) e ∷ past) → n ≤ (committed_at 0 (line (turn l.at.stamp node) e ∷ past)).0
-        → (CommitsStand lost past → n ≤ (committed_at 0 past).0 → lost 0 n ≡ false) → lost 0 n ≡ false
-    by (Client b) (Commit to batch) k c le ih = absurd k.ok
-    by (Target zero) (Commit to batch) k c le ih = c.0 n le
-    by (Target (suc t)) (Commit to batch) k c le ih = ih c.1 (subst (λ (b : Bool). n ≤ (if b then txn to else committed_at 0 past).0) (not_first t) le)
-    by _ _ k c le ih = ih c le
+    -- a number is made above the committed one
+    above : (t : ℕ) (d : Deed) → t ≡ 0 → Allowed head past (turn l.at.stamp (Target t)) (Made d) → d.reply.txn.0 ≡ n → n ≤ (committed_at 0 past).0 → ⊥
+    above t d z k is le =
+        let top = ((holds head past g.1).at 0).history.top in
+        let number = ap (λ (x : Deed). x.reply.txn.0) (k.of 0 (about_it t z)).is in
+        let same = ap (λ (m : TxnOf). m.0) (committed_is head.osts 0 past) in
+        absurd (omega (arith, top, number, is, le, same))
+
+    by : (node : Node) (e : Entry) → Allowed head past (turn l.at.stamp node) e → CommitsStand head.osts lost (line (turn l.at.stamp node) e ∷ past) → WasMade (line (turn l.at.stamp node) e ∷ past) n → is_lost head.osts (only 0 past) n ≡ false → is_lost head.osts (only 0 (line (turn l.at.stamp node) e ∷ past)) n ≡ false
+        → n ≤ (committed_at 0 (line (turn l.at.stamp node) e ∷ past)).0 → (CommitsStand head.osts lost past → (n : ℕ) → WasMade past n → is_lost head.osts (only 0 past) n ≡ false → n ≤ (committed_at 0 past).0 → lost 0 n ≡ false) → lost 0 n ≡ false
+    by (Client b) (Commit to batch) k c m s t le ih = absurd k.ok
+    by (Target zero) (Commit to batch) k c m s t le ih = c.0 n m t le
+    by (Target (suc u)) (Commit to batch) k c m s t le ih = ih c.1 n m s (subst (λ (b : Bool). n ≤ (if b then txn to else committed_at 0 past).0) (not_first u) le)
+    by (Client b) (Close o) k c m s t le ih = absurd k.ok
+    by (Target zero) (Close o) k c m s t le ih = c.0 n m t le
+    by (Target (suc u)) (Close o) k c m s t le ih = ih c.1 n m s (subst (λ (b : Bool). n ≤ (if b then txn o.disk.committed else committed_at 0 past).0) (not_first u) le)
+    by (Client b) (Made d) k c m s t le ih = absurd k.ok
+    by (Target u) (Made d) k c (inl is) s t le ih = absurd (above u d k.ok k is le)
+    by (Target u) (Made d) k c (inr m) s t le ih = ih c n m s le
+    by _ _ k c m s t le ih = ih c n m s le
+
+-- a transaction that acted is one of the past
+pub was_made : (head : Head) (past : List Line) (d : Deed) → Grown head past → Acted past d → IsMade d → WasMade past d.reply.txn.0
+was_made head [] d g a made = absurd a
+was_made head (l ∷ past) d g a made = by l.at.node l.entry g.0 a (λ b. was_made head past d g.1 b made)
+  where
+    by : (node : Node) (e : Entry) → Allowed head past (turn l.at.stamp node) e → Acted (line (turn l.at.stamp node) e ∷ past) d → (Acted past d → WasMade past d.reply.txn.0) → WasMade (line (turn l.at.stamp node) e ∷ past) d.reply.txn.0
+    by node (Act e) k (inl same) ih = absurd (let zero : d.reply.txn.0 ≡ 0 = ap (λ (x : Deed). x.reply.txn.0) (sym same) ∙ ap (λ (n : TxnOf). n.0) (act_here head past l.at.stamp node e k).txn in omega (arith, zero, made))
+    by node (Act e) k (inr b) ih = ih b
+    by node (Made e) k (inl same) ih = inl (ap (λ (x : Deed). x.reply.txn.0) same)
+    by node (Made e) k (inr b) ih = inr (ih b)
+    by node e k b ih = ih b
+
+module _ (head : Head) (lost : ℕ → ℕ → Bool) where
+  -- a transaction that isn't lost saw nothing lost
+  seen_of : (past : List Line) (d : Deed) → Grown head past → SeenStand lost past → Acted past d → IsMade d → lost 0 d.reply.txn.0 ≡ false → AllStand lost d.reply.seen
+  seen_of [] d g s a made stays = absurd a
+  seen_of (l ∷ past) d g s a made stays = by l.at.node l.entry g.0 s a (λ t b. seen_of past d g.1 t b made stays)
+    where
+      by : (node : Node) (e : Entry) → Allowed head past (turn l.at.stamp node) e → SeenStand lost (line (turn l.at.stamp node) e ∷ past) → Acted (line (turn l.at.stamp node) e ∷ past) d → (SeenStand lost past → Acted past d → AllStand lost d.reply.seen) → AllStand lost d.reply.seen
+      by node (Act e) k s (inl same) ih = absurd (let zero : d.reply.txn.0 ≡ 0 = ap (λ (x : Deed). x.reply.txn.0) (sym same) ∙ ap (λ (n : TxnOf). n.0) (act_here head past l.at.stamp node e k).txn in omega (arith, zero, made))
+      by node (Act e) k s (inr b) ih = ih s b
+      by node (Made e) k s (inl same) ih = subst (λ (x : Deed). AllStand lost x.reply.seen) same (s.0 (ap (λ (x : Deed). lost 0 x.reply.txn.0) same ∙ stays))
+      by node (Made e) k s (inr b) ih = ih s.1 b
+      by node e k s b ih = ih s b
+
+  committed_in : (past : List Line) → Grown head past → CommitsStand head.osts lost past → (d : Deed) → Acted (only 0 past) d → IsMade d → Stands head.osts (only 0 past) d → d.reply.txn.0 ≤ (server_of head.osts (only 0 past)).committed.0 → lost 0 d.reply.txn.0 ≡ false
+  committed_in past g c d a made stands le = committed_stands head lost past g c d.reply.txn.0 (was_made head past d g (acted_whole 0 past d a) made) stands (subst (λ (m : TxnOf). d.reply.txn.0 ≤ m.0) (sym (committed_is head.osts 0 past)) le)
+
+  -- each item that stays saw only what stays
+  items_saw : (past : List Line) → Grown head past → CommitsStand head.osts lost past → SeenStand lost past → AllSawKept head.osts (whole head.osts) (keep lost) (items head past)
+  items_saw past g c s =
+      all_saw head.osts (only 0 past) lost (items head past) (history head past g).items (committed_in past g c)
+      (λ d a made stays n i. one_stands lost d.reply.seen n (seen_of past d g s (acted_whole 0 past d a) made stays) i)
+
+  -- what saw only what stands
+  saw_kept : (past : List Line) (d : Deed) → Grown head past → CommitsStand head.osts lost past → d.reply.seen ≡ seen_in (touches head.osts (tree_at head.osts 0 past) (operation d)) (log_at 0 past) → AllStand lost d.reply.seen → SawKept head.osts (whole head.osts) (keep lost) (items head past) (operation d)
+  saw_kept past d g c is s =
+      subst (λ (ps : List Part). Every (λ n. keep lost n ≡ true) (seen head.osts (whole head.osts) (items head past) ps)) (sym (tree_alike head past (operation d) g).touches)
+      (seen_stays head.osts (only 0 past) lost touched (items head past) (history head past g).items (λ e a made stands m. by e a made stands m ((history head past g).logged e a made stands)))
+    where
+      touched : List Part
+      touched = touches head.osts (tree_at head.osts 0 past) (operation d)
+
+      by : (e : Deed) → Acted (only 0 past) e → IsMade e → Stands head.osts (only 0 past) e → meet e.writes touched ≡ true → In e (server_of head.osts (only 0 past)).log ⊎ (e.reply.txn.0 ≤ (server_of head.osts (only 0 past)).committed.0) → lost 0 e.reply.txn.0 ≡ false
+      by e a made stands m (inl i) = one_stands lost (seen_in touched (log_at 0 past)) e.reply.txn.0 (subst (AllStand lost) is s) (in_seen touched (log_at 0 past) e (subst (λ (ds : List Deed). In e ds) (sym (log_is head.osts 0 past)) i) m)
+      by e a made stands m (inr le) = committed_in past g c e a made stands le
+
+  -- where each transaction that wrote what is touched stands
+  seen_stands : (touched : List Part) (past : List Line) → Grown head past → ((e : Deed) → Acted past e → 0 < e.reply.txn.0 → Stands head.osts (only 0 past) e → meet e.writes touched ≡ true → lost 0 e.reply.txn.0 ≡ false) → Every (λ n. keep lost n ≡ true) (seen head.osts (whole head.osts) (items head past) touched)
+  seen_stands touched past g h = seen_stays head.osts (only 0 past) lost touched (items head past) (history head past g).items (λ e a made stands m. h e (acted_whole 0 past e a) made stands m)
+
+-- ---- lines that are no items
+
+abbrev NoItem : Entry → Type 0
+NoItem (Made d) = ⊥
+NoItem (Evict who cause) = ⊥
+NoItem (Close o) = ⊥
+NoItem _ = Unit {0}
+
+items_same : (head : Head) (past : List Line) (stamp : Stamp) (node : Node) (e : Entry) → NoItem e → items head (line (turn stamp node) e ∷ past) ≡ items head past
+items_same head past stamp node e still = items_line head (line (turn stamp node) e) past ∙ by node e still
+  where
+    committed : ℕ
+    committed = (server_of head.osts (only 0 past)).committed.0
+
+    by : (node : Node) (e : Entry) → NoItem e → (elim node [ Client c ↦ items head past | Target t ↦ if nat_eq 0 t then items_after committed (items head past) e else items head past ]) ≡ items head past
+    by (Client c) e still = refl
+    by (Target t) (Made d) still = absurd still
+    by (Target t) (Evict who cause) still = absurd still
+    by (Target t) (Close o) still = absurd still
+    by (Target t) e still = cond_both (nat_eq 0 t) (items head past) (items head past) (λ (is : List Item). is ≡ items head past) (λ _. refl) (λ _. refl)
+
+items_other : (head : Head) (past : List Line) (stamp : Stamp) (t : ℕ) (e : Entry) → items head (line (turn stamp (Target (suc t))) e ∷ past) ≡ items head past
+items_other head past stamp t e =
+    items_line head (line (turn stamp (Target (suc t))) e) past
+    ∙ ap (λ (b : Bool). if b then items_after (server_of head.osts (only 0 past)).committed.0 (items head past) e else items head past) (not_first t)
+
+-- where a close has nothing to show, it has no eviction to show
+none_left : (head : Head) (past : List Line) (who : Who) → closing_of head.clients past ≡ [] → LeftEvict head past who → ⊥
+none_left head past who quiet e = subst (λ (es : List Entry). In (Evict who e.0) es) quiet e.1
 
 -- ---- a call whose answer is known
 
@@ -338,7 +321,7 @@ module _ (head : Head) (out : Who → Bool) (lost : ℕ → ℕ → Bool) where
 
   -- the transactions that stand
   abbrev standing : List Line → List Item
-  standing past = pick (keep lost) (items past)
+  standing past = pick (keep lost) (items head past)
 
   -- its last number is passed by the next, and its tree holds what the transactions that stand leave, whatever opens lives took with them
   abbrev Follows : List Line → Type 0
@@ -373,7 +356,8 @@ module _ (head : Head) (out : Who → Bool) (lost : ℕ → ℕ → Bool) where
   follows_told : (past : List Line) (stamp : Stamp) (c slot : ℕ) (named : At) (given : Answer) (work : Option Work) → Grown head past → TellsAt past (turn stamp (Client c)) (Client c) slot named given → Follows past
       → Follows (line (turn stamp (Client c)) (Told slot named given work) ∷ past)
   follows_told past stamp c slot named given work g tells h =
-      subst (λ (m : Machine). (m.last ≤ numbers_at past) × ((p : Part) → Same m.tree (whole head.osts (standing past)) p)) (sym (by tells)) h
+      subst (λ (m : Machine). (m.last ≤ numbers_at past) × ((p : Part) → Same m.tree (whole head.osts (standing (line (turn stamp (Client c)) (Told slot named given work) ∷ past))) p)) (sym (by tells))
+      (subst (λ (is : List Item). ((machine past).last ≤ numbers_at past) × ((p : Part) → Same (machine past).tree (whole head.osts (pick (keep lost) is)) p)) (sym (items_same head past stamp (Client c) (Told slot named given work) tt)) h)
     where
       none_counts : (b : Bool) → (b && false) ≡ false
       none_counts true = refl
@@ -393,36 +377,74 @@ module _ (head : Head) (out : Who → Bool) (lost : ℕ → ℕ → Bool) where
           ap (after_item head.osts (machine past)) (known_act head past c slot knew.running k.0 g knew.call k.1) ∙ acts_leave head.osts (machine past) (who_is c (printed past)) k.0)
           (λ _. refl)
 
-  follows : (past : List Line) → Grown head past → AllAsked past → AllTold past → Follows past
-  follows [] g a t = (omega arith, λ p. same_self empty p)
-  follows (l ∷ past) g a t = by l.at.node l.entry g.0 a t (follows past g.1 (asked_before l past a) (told_earlier l past t))
+  -- a close takes out what is lost at the end too
+  follows_close : (past : List Line) (stamp : Stamp) (o : Outcome) → Grown head past → Fits head.osts out lost (line (turn stamp (Target 0)) (Close o) ∷ past) → Follows past → Follows (line (turn stamp (Target 0)) (Close o) ∷ past)
+  follows_close past stamp o g f h = (
+    h.0,
+    λ p. subst (λ (is : List Item). Same (machine past).tree (whole head.osts is) p) (sym picked) (same_forgetting head.osts (machine past).tree (lives_in o.gone) (standing past) p (h.1 p)),
+  )
     where
-      by : (node : Node) (e : Entry) → Allowed head past (turn l.at.stamp node) e → AllAsked (line (turn l.at.stamp node) e ∷ past) → AllTold (line (turn l.at.stamp node) e ∷ past) → Follows past → Follows (line (turn l.at.stamp node) e ∷ past)
-      by (Client c) (Made d) k a t h = absurd k.ok
-      by (Target u) (Made d) k a t h =
+      committed : ℕ
+      committed = (server_of head.osts (only 0 past)).committed.0
+
+      kept : ℕ → Bool
+      kept n = not (loses committed o n)
+
+      or_second : (a b : Bool) → b ≡ true → (a || b) ≡ true
+      or_second true b e = refl
+      or_second false b e = e
+
+      lost_then : (b : Bool) → not b ≡ false → b ≡ true
+      lost_then true e = refl
+      lost_then false e = absurd (cc)
+
+      loses_it : (d : Deed) → Acted (only 0 past) d → IsMade d → Stands head.osts (only 0 past) d → kept d.reply.txn.0 ≡ false → lost 0 d.reply.txn.0 ≡ true
+      loses_it d a made stands e = f.stays d.reply.txn.0 (was_made head past d g (acted_whole 0 past d a) made) (or_second (is_lost head.osts (only 0 past) d.reply.txn.0) (loses committed o d.reply.txn.0) (lost_then (loses committed o d.reply.txn.0) e))
+
+      picked : pick (keep lost) (forgetting (lives_in o.gone) (pick kept (items head past))) ≡ forgetting (lives_in o.gone) (standing past)
+      picked = pick_forgetting (keep lost) (lives_in o.gone) (pick kept (items head past)) ∙ ap (forgetting (lives_in o.gone)) (pick_again head.osts (only 0 past) lost kept (items head past) (history head past g).items loses_it)
+
+  follows : (past : List Line) → Grown head past → AllAsked past → AllTold past → Fits head.osts out lost past → Follows past
+  follows [] g a t f = (omega arith, λ p. same_self empty p)
+  follows (l ∷ past) g a t f = by l.at.node l.entry g.0 a t f (follows past g.1 (asked_before l past a) (told_earlier l past t) (fits_before head.osts out lost l past f))
+    where
+      -- the items are as they were
+      still : (node : Node) (e : Entry) → Allowed head past (turn l.at.stamp node) e → items head (line (turn l.at.stamp node) e ∷ past) ≡ items head past → Follows past → (numbers_at past ≤ numbers_at (line (turn l.at.stamp node) e ∷ past))
+          → ((machine past).last ≤ numbers_at (line (turn l.at.stamp node) e ∷ past)) × ((p : Part) → Same (machine past).tree (whole head.osts (standing (line (turn l.at.stamp node) e ∷ past))) p)
+      still node e k is h up =
+          let last = h.0 in
+          (omega (arith, last, up), subst (λ (js : List Item). (p : Part) → Same (machine past).tree (whole head.osts (pick (keep lost) js)) p) (sym is) h.1)
+
+      up : (node : Node) (e : Entry) → Allowed head past (turn l.at.stamp node) e → numbers_at past ≤ numbers_at (line (turn l.at.stamp node) e ∷ past)
+      up node e k = numbers_up head (line (turn l.at.stamp node) e) past g.1 k
+
+      by : (node : Node) (e : Entry) → Allowed head past (turn l.at.stamp node) e → AllAsked (line (turn l.at.stamp node) e ∷ past) → AllTold (line (turn l.at.stamp node) e ∷ past) → Fits head.osts out lost (line (turn l.at.stamp node) e ∷ past) → Follows past → Follows (line (turn l.at.stamp node) e ∷ past)
+      by (Client c) (Made d) k a t f h = absurd k.ok
+      by (Target u) (Made d) k a t f h =
           subst (λ (v : ℕ). Follows (line (turn l.at.stamp (Target v)) (Made d) ∷ past)) (sym k.ok) (follows_made past (turn l.at.stamp (Target u)) d g.1 (txn_is head past l.at.stamp u d k) a.0 h)
-      by (Client c) (Told slot named given work) k a t h = follows_told past l.at.stamp c slot named given work g.1 t.0 h
-      by (Target u) (Told slot named given work) k a t h = absurd k.ok
-      by (Client c) (Evict who cause) k a t h = absurd k.ok
-      by (Target zero) (Evict who cause) k a t h = (h.0, λ p. same_trans (machine past).tree (whole head.osts (standing past)) (forget (whole head.osts (standing past)) who) p (h.1 p) (same_forgot (whole head.osts (standing past)) who p))
-      by (Target (suc u)) (Evict who cause) k a t h = h
-      by (Target u) (Boot b disk) k a t h = let last = h.0 in let up = numbers_up head (line (turn l.at.stamp (Target u)) (Boot b disk)) past g.1 k in (omega (arith, last, up), h.1)
-      by _ _ k a t h = h
+      by (Client c) (Told slot named given work) k a t f h = follows_told past l.at.stamp c slot named given work g.1 t.0 h
+      by (Target u) (Told slot named given work) k a t f h = absurd k.ok
+      by (Client c) (Evict who cause) k a t f h = absurd k.ok
+      by (Target zero) (Evict who cause) k a t f h = (h.0, λ p. same_trans (machine past).tree (whole head.osts (standing past)) (forget (whole head.osts (standing past)) who) p (h.1 p) (same_forgot (whole head.osts (standing past)) who p))
+      by (Target (suc u)) (Evict who cause) k a t f h = still (Target (suc u)) (Evict who cause) k (items_other head past l.at.stamp u (Evict who cause)) h (up (Target (suc u)) (Evict who cause) k)
+      by (Client c) (Close o) k a t f h = absurd k.ok
+      by (Target zero) (Close o) k a t f h = follows_close past l.at.stamp o g.1 f h
+      by (Target (suc u)) (Close o) k a t f h = still (Target (suc u)) (Close o) k (items_other head past l.at.stamp u (Close o)) h (up (Target (suc u)) (Close o) k)
+      by node e k a t f h = still node e k (items_same head past l.at.stamp node e tt) h (up node e k)
 
   -- what saw only what stands comes out of the machine as it came out of the target
-  alike_op : (past : List Line) (o : Operation) → Grown head past → AllAsked past → AllTold past → Fits out lost past
-      → SawKept head.osts (whole head.osts) (keep lost) (items past) o → Alike head.osts (tree_at head.osts 0 past) (machine past).tree o
+  alike_op : (past : List Line) (o : Operation) → Grown head past → AllAsked past → AllTold past → Fits head.osts out lost past
+      → SawKept head.osts (whole head.osts) (keep lost) (items head past) o → Alike head.osts (tree_at head.osts 0 past) (machine past).tree o
   alike_op past o g a t f saw =
       let root = ap not f.root in
       let older = earlier_are_older head.osts (keep lost) root [] tt in
-      let stays = removal_by_seen head.osts empty (keep lost) root older (items past) (all_saw head lost past g f.committed f.seen) o saw in
-      let holds_all = (follows past g a t).1 in
+      let stays = removal_by_seen head.osts empty (keep lost) root older (items head past) (items_saw head lost past g f.committed f.seen) o saw in
+      let holds_all = (follows past g a t f).1 in
       let machine_too = touched_decide head.osts (machine past).tree (whole head.osts (standing past)) o (every_one (Same (machine past).tree (whole head.osts (standing past))) (touches head.osts (machine past).tree o) holds_all) in
-      subst (λ (u : Tree). Alike head.osts u (machine past).tree o) (whole_is head past g)
-      (alike_trans head.osts (whole head.osts (items past)) (whole head.osts (standing past)) (machine past).tree o stays
-      (record { answer = sym machine_too.answer; touches = sym machine_too.touches; writes = sym machine_too.writes; grants = sym machine_too.grants; changes = sym machine_too.changes }))
+      alike_trans head.osts (tree_at head.osts 0 past) (whole head.osts (items head past)) (machine past).tree o (alike_back head.osts (whole head.osts (items head past)) (tree_at head.osts 0 past) o (tree_alike head past o g))
+      (alike_trans head.osts (whole head.osts (items head past)) (whole head.osts (standing past)) (machine past).tree o stays (alike_back head.osts (machine past).tree (whole head.osts (standing past)) o machine_too))
 
-  alike : (past : List Line) (d : Deed) → Grown head past → AllAsked past → AllTold past → Fits out lost past
+  alike : (past : List Line) (d : Deed) → Grown head past → AllAsked past → AllTold past → Fits head.osts out lost past
       → d.reply.seen ≡ seen_in (touches head.osts (tree_at head.osts 0 past) (operation d)) (log_at 0 past) → AllStand lost d.reply.seen → Alike head.osts (tree_at head.osts 0 past) (machine past).tree (operation d)
   alike past d g a t f is s = alike_op past (operation d) g a t f (saw_kept head lost past d g f.committed is s)
 
@@ -438,18 +460,18 @@ module _ (head : Head) (out : Who → Bool) (lost : ℕ → ℕ → Bool) where
   answers past act = answer_to head.osts (machine past) act
 
   -- to an act, and to a transaction
-  act_answers : (past : List Line) (at : At) (d : Deed) → Grown head past → AllAsked past → AllTold past → Fits out lost past → ActIs head.osts (server_at head.osts 0 past) at d → AskedAt past d → IsPlain d.reply.answer → AllStand lost d.reply.seen
+  act_answers : (past : List Line) (at : At) (d : Deed) → Grown head past → AllAsked past → AllTold past → Fits head.osts out lost past → ActIs head.osts (server_at head.osts 0 past) at d → AskedAt past d → IsPlain d.reply.answer → AllStand lost d.reply.seen
       → answers past (names_act d.reply.who none (asked (printed past) 0 d.reply.who d.reply.xid.0)) ≡ Some (told_so d.reply.answer)
   act_answers past at d g a t f is asks plain s =
       subst (λ o. answers past (names_act d.reply.who none o) ≡ Some (told_so d.reply.answer)) (sym asks)
       (subst (λ (n : TxnOf). answers past (names_act d.reply.who n (Some d.op)) ≡ Some (told_so d.reply.answer)) is.txn
       (ap (λ (v : Answer). Some v) (answered past d (alike past d g a t f is.saw s) (subst IsPlain is.answered plain) (λ c. absurd (let still = is.still in cc)) ∙ ap told_so (sym is.answered))))
 
-  txn_answers : (past : List Line) (at : At) (d : Deed) → Grown head past → AllAsked past → AllTold past → Fits out lost past → TxnIs head.osts (server_at head.osts 0 past) at d → IsPlain d.reply.answer → AllStand lost d.reply.seen
+  txn_answers : (past : List Line) (at : At) (d : Deed) → Grown head past → AllAsked past → AllTold past → Fits head.osts out lost past → TxnIs head.osts (server_at head.osts 0 past) at d → IsPlain d.reply.answer → AllStand lost d.reply.seen
       → names_answer head.osts (machine past) (operation d) ≡ told_so d.reply.answer
   txn_answers past at d g a t f is plain s =
       let n = number_is head past at d g is in
-      let last = (follows past g a t).0 in
+      let last = (follows past g a t f).0 in
       answered past d (alike past d g a t f is.saw s) (subst IsPlain is.answered plain) (λ c. omega (arith, n, last)) ∙ ap told_so (sym is.answered)
 
   -- a line that executes the request answers, one that doesn't leaves what was
@@ -462,24 +484,25 @@ module _ (head : Head) (out : Who → Bool) (lost : ℕ → ℕ → Bool) where
   before_is false now old given n q = q
 
   -- what was done was answered where it stands
-  answered_there : (past : List Line) (d : Deed) → Grown head past → AllAsked past → AllTold past → Fits out lost past → Acted past d → IsPlain d.reply.answer → ReplyStands lost d.reply
+  answered_there : (past : List Line) (d : Deed) → Grown head past → AllAsked past → AllTold past → Fits head.osts out lost past → Acted past d → IsPlain d.reply.answer → ReplyStands lost d.reply
       → answer_there out lost head.osts (printed past) d.reply.at d.reply.who d.reply.xid.0 ≡ Some (told_so d.reply.answer)
   answered_there [] d g a t f acted plain s = absurd acted
   answered_there (l ∷ past) d g a t f acted plain s =
-      by l.entry g.0 a acted (λ b. answered_there past d g.1 (asked_before l past a) (told_earlier l past t) (fits_before out lost l past f) b plain s)
+      by l.entry g.0 a acted (λ b. answered_there past d g.1 (asked_before l past a) (told_earlier l past t) (fits_before head.osts out lost l past f) b plain s)
     where
       before : AllTold past
       before = told_earlier l past t
 
-      fits : Fits out lost past
-      fits = fits_before out lost l past f
+      fits : Fits head.osts out lost past
+      fits = fits_before head.osts out lost l past f
 
       -- a line like that is of the same request
-      same_request : (e : Deed) → NoneFor past e.reply.who e.reply.xid.0 → Acted past d → acts_as d.reply.at d.reply.who d.reply.xid.0 l.at e.reply.who e.reply.xid.0 ≡ true → ⊥
+      same_request : (e : Deed) → NoneNow head past l.at e.reply.who e.reply.xid.0 → Acted past d → acts_as d.reply.at d.reply.who d.reply.xid.0 l.at e.reply.who e.reply.xid.0 ≡ true → ⊥
       same_request e new i p =
           let q = and_parts (is_target 0 l.at.node && same_turn l.at d.reply.at && same_life e.reply.who d.reply.who) _ p in
           let r = and_parts (is_target 0 l.at.node && same_turn l.at d.reply.at) _ q.0 in
-          new d i (sym (life_is e.reply.who d.reply.who r.1)) (sym (eqb-true e.reply.xid.0 d.reply.xid.0 q.1))
+          let s = and_parts (is_target 0 l.at.node) (same_turn l.at d.reply.at) r.0 in
+          new d i (sym (same_turn_is l.at d.reply.at s.1)) (sym (life_is e.reply.who d.reply.who r.1)) (sym (eqb-true e.reply.xid.0 d.reply.xid.0 q.1))
 
       by : (e : Entry) → Allowed head past l.at e → AllAsked (line l.at e ∷ past) → Acted (line l.at e ∷ past) d
           → (Acted past d → answer_there out lost head.osts (printed past) d.reply.at d.reply.who d.reply.xid.0 ≡ Some (told_so d.reply.answer))
@@ -492,7 +515,7 @@ module _ (head : Head) (out : Who → Bool) (lost : ℕ → ℕ → Bool) where
           (here_is _ _ _ (told_so e.reply.answer) (own_line l.at e.reply.at e.reply.who e.reply.xid.0 (sym now.2) now.1)
           (act_answers past l.at e g.1 a.1 before fits (act_here head past l.at.stamp l.at.node e ok) a.0 at_once stands))
       by (Act e) ok a (inr i) h =
-          before_is _ _ _ (told_so d.reply.answer) (same_request e (act_now head past l.at.stamp l.at.node e ok g.1).0.new i) (h i)
+          before_is _ _ _ (told_so d.reply.answer) (same_request e (act_now head past l.at.stamp l.at.node e ok g.1).0.now i) (h i)
       by (Made e) ok a (inl same) h =
           let now = txn_now head past l.at.stamp l.at.node e ok g.1 in
           let stands = subst (λ (v : Deed). ReplyStands lost v.reply) (sym same) s in
@@ -504,14 +527,14 @@ module _ (head : Head) (out : Who → Bool) (lost : ℕ → ℕ → Bool) where
           (ap (λ (v : Answer). Some v) (txn_answers past l.at e g.1 a.1 before fits (txn_here head past l.at.stamp l.at.node e ok) at_once stands.1))))
       by (Made e) ok a (inr i) h =
           before_is _ _ _ (told_so d.reply.answer)
-          (λ p. same_request e (txn_now head past l.at.stamp l.at.node e ok g.1).0.new i (and_parts (acts_as d.reply.at d.reply.who d.reply.xid.0 l.at e.reply.who e.reply.xid.0) (not (lost 0 e.reply.txn.0)) p).0)
+          (λ p. same_request e (txn_now head past l.at.stamp l.at.node e ok g.1).0.now i (and_parts (acts_as d.reply.at d.reply.who d.reply.xid.0 l.at e.reply.who e.reply.xid.0) (not (lost 0 e.reply.txn.0)) p).0)
           (h i)
       by _ ok a b h = h b
 
   -- ---- the law, line by line
 
   -- what is told is what the machine answers where it acted
-  asked_law : (past : List Line) (stamp : Stamp) (c slot : ℕ) (named : At) (given : Answer) → Grown head past → AllAsked past → AllTold past → Fits out lost past
+  asked_law : (past : List Line) (stamp : Stamp) (c slot : ℕ) (named : At) (given : Answer) → Grown head past → AllAsked past → AllTold past → Fits head.osts out lost past
       → AnswersAt past (turn stamp (Client c)) c named given → out (who_is c (printed past)) ≡ false → right_answer out lost head.osts (printed past) (turn stamp (Client c)) c slot named (same_turn named (turn stamp (Client c))) ≡ Some given
   asked_law past stamp c slot named given g a t f tells out_not =
       let d = tells.deed in
@@ -543,16 +566,20 @@ module _ (head : Head) (out : Who → Bool) (lost : ℕ → ℕ → Bool) where
       by (Evict o cause) k q h = either o (is_target 0 l.at.node) (is_evicted 0 (printed past) who) k.0 q (h k.1)
       by _ k q h = h k q
 
-  present : (past : List Line) (c : ℕ) → Grown head past → Fits out lost past → out (who_is c (printed past)) ≡ false → Evicted (only 0 past) (life_at c past) → ⊥
-  present past c g f stays gone =
-      kept_in past (life_at c past) f.gone (ap out (sym (present_is head c past g)) ∙ stays) (evicted_is 0 past (life_at c past) ∙ gone)
+  -- once a close has shown all
+  pub stays_in : (past : List Line) (who : Who) → Grown head past → EvictedOut out past → closing_of head.clients (only 0 past) ≡ [] → out who ≡ false → Evicted (only 0 past) who → ⊥
+  stays_in past who g f quiet stays gone =
+      ⊎_elim (λ (e : is_evicted 0 (printed past) who ≡ true). kept_in past who f stays e) (λ (e : LeftEvict head (only 0 past) who). none_left head (only 0 past) who quiet e) (evicted_law head 0 past g who gone)
+
+  present : (past : List Line) (c : ℕ) → Grown head past → Fits head.osts out lost past → closing_of head.clients (only 0 past) ≡ [] → out (who_is c (printed past)) ≡ false → Evicted (only 0 past) (life_at c past) → ⊥
+  present past c g f quiet stays gone = stays_in past (life_at c past) g f.gone quiet (ap out (sym (present_is head c past g)) ∙ stays) gone
 
   -- all that it rests on stands: it is committed, or the life heard of it
-  known_stands : (past : List Line) (c : ℕ) (who : Who) (file : Option HandleFile) (k : Call) (o : Op) (given : Answer) → Grown head past → Fits out lost past → known_answer (notes_at c past) k ≡ Some given → operation_of file k ≡ Some o → out (who_is c (printed past)) ≡ false
-      → (e : Deed) → Acted past e → 0 < e.reply.txn.0 → meet e.writes (touches head.osts (tree_at head.osts 0 past) (record { number = none; who = who; op = o })) ≡ true → lost 0 e.reply.txn.0 ≡ false
-  known_stands past c who file k o given g f known becomes stays e acted positive m =
+  known_stands : (past : List Line) (c : ℕ) (who : Who) (file : Option HandleFile) (k : Call) (o : Op) (given : Answer) → Grown head past → Fits head.osts out lost past → closing_of head.clients (only 0 past) ≡ [] → known_answer (notes_at c past) k ≡ Some given → operation_of file k ≡ Some o → out (who_is c (printed past)) ≡ false
+      → (e : Deed) → Acted past e → 0 < e.reply.txn.0 → Stands head.osts (only 0 past) e → meet e.writes (touches head.osts (tree_at head.osts 0 past) (record { number = none; who = who; op = o })) ≡ true → lost 0 e.reply.txn.0 ≡ false
+  known_stands past c who file k o given g f quiet known becomes stays e acted positive standing m =
       let r = any_in (λ (p : Part). list_any (λ w. meets w p) e.writes) (touches head.osts (tree_at head.osts 0 past) (record { number = none; who = who; op = o })) m in
-      by r.0 r.2 (known_saw head past g c none who file k o given known becomes (present past c g f stays) r.0 r.1 e (acted_only head past e g acted))
+      by r.0 r.2 (known_saw head past g c none who file k o given known becomes (present past c g f quiet stays) r.0 r.1 e (acted_only head past e g acted) positive standing)
     where
       clash : (ws : List Part) (p : Part) → Apart ws p → list_any (λ w. meets w p) ws ≡ true → ⊥
       clash [] p h q = absurd (cc)
@@ -560,19 +587,19 @@ module _ (head : Head) (out : Who → Bool) (lost : ℕ → ℕ → Bool) where
 
       by : (p : Part) → list_any (λ w. meets w p) e.writes ≡ true → Apart e.writes p ⊎ ((e.reply.txn.0 ≤ (committed_at 0 past).0) ⊎ SawBy head past g c none who file k o given known becomes e.reply.txn.0) → lost 0 e.reply.txn.0 ≡ false
       by p q (inl apart) = absurd (clash e.writes p apart q)
-      by p q (inr (inl le)) = committed_stands head lost past g f.committed e.reply.txn.0 positive le
+      by p q (inr (inl le)) = committed_stands head lost past g f.committed e.reply.txn.0 (was_made head past e g acted positive) standing le
       by p q (inr (inr saw)) = one_stands lost saw.reply.seen e.reply.txn.0 (heard_stands out lost past c saw.flight saw.reply f.heard saw.heard (ap out (saw.of ∙ sym (present_is head c past g)) ∙ stays)).1 saw.seen
 
   -- what is told of what is known is what the machine answers then
-  knew_law : (past : List Line) (stamp : Stamp) (c slot : ℕ) (named : At) (given : Answer) → Grown head past → AllAsked past → AllTold past → Fits out lost past
+  knew_law : (past : List Line) (stamp : Stamp) (c slot : ℕ) (named : At) (given : Answer) → Grown head past → AllAsked past → AllTold past → Fits head.osts out lost past → closing_of head.clients (only 0 past) ≡ []
       → KnewAt past (turn stamp (Client c)) c slot named given → out (who_is c (printed past)) ≡ false → right_answer out lost head.osts (printed past) (turn stamp (Client c)) c slot named (same_turn named (turn stamp (Client c))) ≡ Some given
-  knew_law past stamp c slot named given g a t f knew out_not =
+  knew_law past stamp c slot named given g a t f quiet knew out_not =
       let k = known_operation (notes_at c past) knew.running.file knew.running.call given knew.known in
       let who = who_is c (printed past) in
       let o : Operation = record { number = none; who = who; op = k.0 } in
-      let r = right head past g c none who knew.running.file knew.running.call k.0 given knew.known k.1 (present past c g f out_not) in
-      let saw = seen_stands head lost (touches head.osts (tree_at head.osts 0 past) o) past g (known_stands past c who knew.running.file knew.running.call k.0 given g f knew.known k.1 out_not) in
-      let same = alike_op past o g a t f (subst (λ (u : Tree). Every (λ n. keep lost n ≡ true) (seen head.osts (whole head.osts) (items past) (touches head.osts u o))) (sym (whole_is head past g)) saw) in
+      let r = right head past g c none who knew.running.file knew.running.call k.0 given knew.known k.1 (present past c g f quiet out_not) in
+      let saw = seen_stands head lost (touches head.osts (tree_at head.osts 0 past) o) past g (known_stands past c who knew.running.file knew.running.call k.0 given g f quiet knew.known k.1 out_not) in
+      let same = alike_op past o g a t f (subst (λ (ps : List Part). Every (λ n. keep lost n ≡ true) (seen head.osts (whole head.osts) (items head past) ps)) (sym (tree_alike head past o g).touches) saw) in
       let still = readings_change_nothing head.osts (machine past).tree o r.reads in
       subst (λ b. right_answer out lost head.osts (printed past) (turn stamp (Client c)) c slot named b ≡ Some given) (sym knew.own)
       (ap (λ (i : Option ActOf). answer_to head.osts (machine past) i) (known_act head past c slot knew.running k.0 g knew.call k.1)
@@ -580,9 +607,9 @@ module _ (head : Head) (out : Who → Bool) (lost : ℕ → ℕ → Bool) where
       ∙ told_plain (machine past) (answer head.osts (machine past).tree o) (subst IsPlain (r.same ∙ same.answer) r.plain)
       ∙ reading_told k.0 (answer head.osts (machine past).tree o) r.reads (answers_fit head.osts (machine past).tree o) ∙ sym (r.same ∙ same.answer)))
 
-  told_law : (past : List Line) (stamp : Stamp) (c slot : ℕ) (named : At) (given : Answer) → Grown head past → AllAsked past → AllTold past → Fits out lost past
+  told_law : (past : List Line) (stamp : Stamp) (c slot : ℕ) (named : At) (given : Answer) → Grown head past → AllAsked past → AllTold past → Fits head.osts out lost past → closing_of head.clients (only 0 past) ≡ []
       → TellsAt past (turn stamp (Client c)) (Client c) slot named given → ToldAt out lost head.osts (printed past) (turn stamp (Client c)) (Client c) slot named given
-  told_law past stamp c slot named given g a t f tells stays counted = on (open_call c slot (printed past)) (by tells)
+  told_law past stamp c slot named given g a t f quiet tells stays counted = on (open_call c slot (printed past)) (by tells)
     where
       -- that a life is over is no answer of the history, nor that a handle is bad
       uncounted : given ≡ told.Refused EIO → ⊥
@@ -590,7 +617,7 @@ module _ (head : Head) (out : Who → Bool) (lost : ℕ → ℕ → Bool) where
 
       by : TellsAt past (turn stamp (Client c)) (Client c) slot named given → right_answer out lost head.osts (printed past) (turn stamp (Client c)) c slot named (same_turn named (turn stamp (Client c))) ≡ Some given
       by (inl asks) = asked_law past stamp c slot named given g a t f asks stays
-      by (inr (inl knew)) = knew_law past stamp c slot named given g a t f knew stays
+      by (inr (inl knew)) = knew_law past stamp c slot named given g a t f quiet knew stays
       by (inr (inr (inl ends))) = absurd (uncounted ends.answer)
       by (inr (inr (inr bad))) = let none : is_answer given ≡ false = ap is_answer bad.answer in absurd (cc)
 
@@ -599,7 +626,7 @@ module _ (head : Head) (out : Who → Bool) (lost : ℕ → ℕ → Bool) where
       on (Some begun) is = λ counts. is
 
   -- what stands isn't refused
-  txn_law : (past : List Line) (at : At) (d : Deed) → Grown head past → AllAsked past → AllTold past → Fits out lost past → TxnIs head.osts (server_at head.osts 0 past) at d → AskedAt past d → IsPlain d.reply.answer
+  txn_law : (past : List Line) (at : At) (d : Deed) → Grown head past → AllAsked past → AllTold past → Fits head.osts out lost past → TxnIs head.osts (server_at head.osts 0 past) at d → AskedAt past d → IsPlain d.reply.answer
       → (lost 0 d.reply.txn.0 ≡ false → AllStand lost d.reply.seen) → law.TxnAt out lost head.osts (printed past) 0 d.reply.txn d.reply.who d.reply.xid.0
   txn_law past at d g a t f is asks plain s stands =
       let same = txn_answers past at d g a t f is plain (s stands) in
@@ -612,16 +639,16 @@ module _ (head : Head) (out : Who → Bool) (lost : ℕ → ℕ → Bool) where
 
   -- what is known of a past
   abbrev Known : List Line → Type 0
-  Known past = record { fits : Fits out lost past; asked : AllAsked past; told : AllTold past }
+  Known past = record { fits : Fits head.osts out lost past; asked : AllAsked past; told : AllTold past }
 
   known_before : (l : Line) (past : List Line) → Known (l ∷ past) → Known past
-  known_before l past k = record { fits = fits_before out lost l past k.fits; asked = asked_before l past k.asked; told = told_earlier l past k.told }
+  known_before l past k = record { fits = fits_before head.osts out lost l past k.fits; asked = asked_before l past k.asked; told = told_earlier l past k.told }
 
   history_at : (past : List Line) (l : Line) (later : List PrintedLine) → Allowed head past l.at l.entry → Grown head past → Known (l ∷ past) → Keeps (HistoryOf out lost head.osts) past l later
   history_at past l later ok g known = by l.at.node l.entry ok (λ b i. acted_plain head (l ∷ past) b (ok, g) i) known.fits.seen known.asked known.told
     where
-      fits : Fits out lost past
-      fits = fits_before out lost l past known.fits
+      fits : Fits head.osts out lost past
+      fits = fits_before head.osts out lost l past known.fits
 
       earlier : AllTold past
       earlier = told_earlier l past known.told
@@ -629,7 +656,7 @@ module _ (head : Head) (out : Who → Bool) (lost : ℕ → ℕ → Bool) where
       by : (node : Node) (e : Entry) → Allowed head past (turn l.at.stamp node) e → ((b : Deed) → Acted (line (turn l.at.stamp node) e ∷ past) b → b.reply.locks ≡ [] → IsPlain b.reply.answer) → SeenStand lost (line (turn l.at.stamp node) e ∷ past)
           → AllAsked (line (turn l.at.stamp node) e ∷ past) → AllTold (line (turn l.at.stamp node) e ∷ past)
           → Keeps (HistoryOf out lost head.osts) past (line (turn l.at.stamp node) e) later
-      by (Client c) (Told slot named given work) k plain s a t = told_law past l.at.stamp c slot named given g a t.1 fits t.0
+      by (Client c) (Told slot named given work) k plain s a t = told_law past l.at.stamp c slot named given g a t.1 fits (nothing_left head (only 0 past) (turn l.at.stamp (Client c)) (Told slot named given work) (k.shows 0 refl) (λ e. e)) t.0
       by (Target u) (Told slot named given work) k plain s a t = absurd k.ok
       by (Client c) (Made d) k plain s a t = absurd k.ok
       by (Target u) (Made d) k plain s a t =
@@ -637,50 +664,21 @@ module _ (head : Head) (out : Who → Bool) (lost : ℕ → ℕ → Bool) where
           (txn_law past (turn l.at.stamp (Target u)) d g a.1 earlier fits (txn_is head past l.at.stamp u d k) a.0 (plain d (inl refl) (ap (λ (v : Deed). v.reply.locks) (k.of 0 (about_it u k.ok)).is)) s.0)
       by _ _ k plain s a t = tt
 
-  pub history_law : (past : List Line) → Fits out lost past → Grown head past → AllAsked past → AllTold past → Holds (HistoryOf out lost head.osts) (printed past)
+  pub history_law : (past : List Line) → Fits head.osts out lost past → Grown head past → AllAsked past → AllTold past → Holds (HistoryOf out lost head.osts) (printed past)
   history_law past f g a t = holds_before head (HistoryOf out lost head.osts) Known known_before history_at past [] g (record { fits = f; asked = a; told = t })
 
--- ---- of a whole trace: whoever was evicted is gone, and nothing is lost
+-- ---- of a whole trace
 
-pub none_fit : (out : Who → Bool) (lost : ℕ → ℕ → Bool) → ((n : ℕ) → lost 0 n ≡ false) → (past : List Line) → EvictedOut out past → Fits out lost past
-none_fit out lost none past gone = record { root = none 1; seen = seen past; heard = hears past; committed = commits past; gone = gone }
+-- so what isn't lost at the end wasn't lost by a close, and who isn't out wasn't evicted
+pub lasting : (head : Head) (out : Who → Bool) (lost : ℕ → ℕ → Bool) (past : List Line) → Grown head past → closing_of head.clients (only 0 past) ≡ [] → Fits head.osts out lost past → Lasting head out lost past
+lasting head out lost past g quiet f = (λ d a made stays. stands d (was_made head past d g a made) stays, λ who stays gone. stays_in head out lost past who g f.gone quiet stays gone)
   where
-    all : (ns : List ℕ) → AllStand lost ns
-    all [] = tt
-    all (n ∷ ns) = (none n, all ns)
-
-    seen : (past : List Line) → SeenStand lost past
-    seen [] = tt
-    seen (l ∷ past) = by l.entry (seen past)
+    stands : (d : Deed) → WasMade past d.reply.txn.0 → lost 0 d.reply.txn.0 ≡ false → Stands head.osts (only 0 past) d
+    stands d made stays = by (is_lost head.osts (only 0 past) d.reply.txn.0) refl
       where
-        by : (e : Entry) → SeenStand lost past → SeenStand lost (line l.at e ∷ past)
-        by (Made d) h = ((λ s. all d.reply.seen), h)
-        by _ h = h
-
-    at : (node : Node) (r : ReplyTo) → HeardStandsAt out lost node r
-    at (Client c) r = λ o. (none r.txn.0, all r.seen)
-    at (Target t) r = tt
-
-    hears : (past : List Line) → HeardStand out lost past
-    hears [] = tt
-    hears (l ∷ past) = by l.entry (hears past)
-      where
-        by : (e : Entry) → HeardStand out lost past → HeardStand out lost (line l.at e ∷ past)
-        by (Heard target flight reply) h = (at l.at.node reply, h)
-        by _ h = h
-
-    committed : (node : Node) (to : ℕ) → CommitStandsAt lost node to
-    committed (Target zero) to = λ n le. none n
-    committed (Target (suc t)) to = tt
-    committed (Client c) to = tt
-
-    commits : (past : List Line) → CommitsStand lost past
-    commits [] = tt
-    commits (l ∷ past) = by l.entry (commits past)
-      where
-        by : (e : Entry) → CommitsStand lost past → CommitsStand lost (line l.at e ∷ past)
-        by (Commit to batch) h = (committed l.at.node to, h)
-        by _ h = h
+        by : (b : Bool) → is_lost head.osts (only 0 past) d.reply.txn.0 ≡ b → b ≡ false
+        by true e = absurd (let gone = f.stays d.reply.txn.0 made e in cc)
+        by false e = refl
 
 -- who is gone in a whole trace was evicted in it
 pub gone_out : (head : Head) (past : List Line) → Grown head past → EvictedOut (is_gone (printed past)) past

@@ -46,7 +46,8 @@ use Rattle.lu_facts.proofs.OnNames.{IsOnNames}
 use Rattle.lu_facts.proofs.Sides.{acted_only}
 use Rattle.lu_lawful.proofs.Turns.{same_life_self}
 use Rattle.lu_lawful.proofs.Story.{about_it}
-use Rattle.lu_lawful.proofs.Printed.{present_is, evicted_is}
+use Rattle.lu_lawful.proofs.Printed.{present_is}
+use Rattle.lu_lawful.proofs.CloseSlots.{NoneLeft, evicted_now}
 use Rattle.lu_lawful.proofs.Given.{Showed, all_given, showed_gave}
 use Rattle.lu_lawful.proofs.Granted.{Unique, given_is}
 use Rattle.lu_lawful.proofs.HeldLists.{Has, has_held, has_brought, has_changed, has_unmarked, has_used, has_left}
@@ -57,15 +58,14 @@ use Rattle.lu_lawful.proofs.HeldLists.{Has, has_held, has_brought, has_changed, 
 pub record IsHeard (past : List Line) (c : ℕ) (r : ReplyTo) : Type 0 where
   pub deed : Deed
   pub acted : Acted past deed
-  pub is : r ≡ record deed.reply { committed = r.committed }
+  pub is : r ≡ record deed.reply { boot = r.boot; committed = r.committed }
   pub who : r.who ≡ life_at c past
 
 reply_is_heard : (head : Head) (past : List Line) (stamp : Stamp) (c t : ℕ) (f : Flight) (r : ReplyTo) → Allowed head past (turn stamp (Client c)) (Heard t f r) → Grown head past → IsHeard past c r
 reply_is_heard head past stamp c t f r a g =
     let ok = a.of 0 (about_it t a.ok.0) in
-    let h = (holds head past g).at 0 in
-    let m = h.done.sent (Target ok.from) (Client c) (message.Reply r) ok.was in
-    record { deed = m.0; acted = acted_whole 0 past m.0 m.1; is = m.2; who = ok.who ∙ sym (life_is_of c 0 past) }
+    let m = ((holds head past g).at 0).done.sent (Target ok.from) (Client c) (message.Reply r) ok.was in
+    record { deed = m.deed; acted = acted_whole 0 past m.deed m.acted; is = m.is; who = ok.who ∙ sym (life_is_of c 0 past) }
 
 -- and nothing was just done
 pub heard_now : (head : Head) (past : List Line) (at : At) (c t : ℕ) (f : Flight) (r : ReplyTo) → Grown head past → at.node ≡ Client c → HeardNow past at t f r → IsHeard past c r × ((d : Deed) → Did past d → ⊥)
@@ -110,7 +110,7 @@ names_bring (op.Enqueue resource mode extent) r a is = absurd is
 names_bring o r a is = refl
 
 module _ (head : Head) where
-  locks : (past : List Line) → Grown head past → Locks head.osts (only 0 past)
+  locks : (past : List Line) → Grown head past → Locks head.osts head.clients (only 0 past)
   locks past g = ((holds head past g).at 0).locks
 
   gave_only : (past : List Line) → Grown head past → (d : Deed) (l : Lock) → Gave past d l → Gave (only 0 past) d l
@@ -132,14 +132,15 @@ module _ (head : Head) where
       let k = (locks past g).held c x (subst (λ (hs : List HeldLock). In x hs) (held_is head c past g) i) in
       (k.deed, (acted_whole 0 past k.deed k.gave.0, k.gave.1))
 
-  pub held_granted : (past : List Line) → Grown head past → (h : Held) → HeldIs past h → In h.lock (server_of head.osts (only 0 past)).granted ⊎ (is_evicted 0 (printed past) h.who ≡ true)
-  held_granted past g h is =
+  -- once a close has none left to show
+  pub held_granted : (past : List Line) → Grown head past → NoneLeft head 0 past → (h : Held) → HeldIs past h → In h.lock (server_of head.osts (only 0 past)).granted ⊎ (is_evicted 0 (printed past) h.who ≡ true)
+  held_granted past g none h is =
       let x = is.mine in
       let k = (locks past g).held is.client x.0 (subst (λ (hs : List HeldLock). In x.0 hs) (held_is head is.client past g) x.1) in
       let mine : h.who ≡ life_of is.client (only 0 past) = is.who ∙ life_is_of is.client 0 past in
       ⊎_elim
       (λ (q : In x.0.lock (server_of head.osts (only 0 past)).granted). inl (subst (λ (l : Lock). In l (server_of head.osts (only 0 past)).granted) x.2 q))
-      (λ (q : Evicted (only 0 past) (life_of is.client (only 0 past))). inr (evicted_is 0 past h.who ∙ subst (λ (w : Who). Evicted (only 0 past) w) (sym mine) q))
+      (λ (q : Evicted (only 0 past) (life_of is.client (only 0 past))). inr (evicted_now head 0 past g none h.who (subst (λ (w : Who). Evicted (only 0 past) w) (sym mine) q)))
       k.granted
 
   pub gave_reads : (past : List Line) → Grown head past → (d : Deed) (l : Lock) → Gave past d l → l.ask.mode ≡ PR

@@ -32,6 +32,11 @@ module _ (head : Head) (law : Past → PrintedLine → List PrintedLine → Type
       by None p h = h later
       by (Some e) p h = (p, h (record { at = l.at; entry = e } ∷ later))
 
+-- the later lines, with what is printed of that one
+abbrev pub after_line : Line → Option PrintedEntry → List PrintedLine → List PrintedLine
+after_line l None later = later
+after_line l (Some e) later = record { at = l.at; entry = e } ∷ later
+
 -- what is printed of a line stands before the later lines
 abbrev pub shown : At → Option PrintedEntry → List PrintedLine → List PrintedLine
 shown at None later = later

@@ -30,7 +30,7 @@ use Rattle.lu_words.specs.Sent.{count_sent}
 use Rattle.lu_words.specs.Printed.{printed_entry, printed}
 use Rattle.lu_target_rows.specs.Names.{guards_part, in_way, is_free}
 use Rattle.lu_covered.specs.TargetParts.{operation}
-use Rattle.lu_covered.specs.TargetStates.{Server, server_of}
+use Rattle.lu_covered.specs.TargetStates.{Server, server_of, tree_at}
 use Rattle.lu_covered.specs.Heads.{Head}
 use Rattle.lu_laws.specs.Words.Pasts.{Past, or_else}
 use Rattle.lu_laws.specs.Words.Lives.{who_is, is_evicted}
@@ -49,7 +49,9 @@ use Rattle.lu_guards.proofs.Parts.{server_is}
 use Rattle.lu_facts.proofs.Groups.{turn}
 use Rattle.lu_lawful.proofs.Lines.{OfPrinted, Keeps, holds_before, Nothing}
 use Rattle.lu_lawful.proofs.Facts.{AskedAt}
-use Rattle.lu_lawful.proofs.Contents.{contents_are}
+use Rattle.lu_lawful.proofs.Contents.{contents_alike}
+use Rattle.lu_lawful.proofs.CloseLines.{nothing_left}
+use Rattle.lu_lawful.proofs.CloseSlots.{NoneLeft}
 use Rattle.lu_lawful.proofs.Once.{all_asked}
 use Rattle.lu_lawful.proofs.Given.{owed, did_acted, showed_gave}
 use Rattle.lu_lawful.proofs.Granted.{granted_showed, none_waits}
@@ -118,8 +120,8 @@ module _ (head : Head) (past : List Line) (g : Grown head past) where
   -- a transaction writes
 
   -- no lock that guards the part is held
-  unguarded : (who : Who) (parts : List Part) → is_free (in_way (server_of head.osts (only 0 past)).granted parts) ≡ true → AreUnguarded (printed past) who parts
-  unguarded who parts free =
+  unguarded : NoneLeft head 0 past → (who : Who) (parts : List Part) → is_free (in_way (server_of head.osts (only 0 past)).granted parts) ≡ true → AreUnguarded (printed past) who parts
+  unguarded left who parts free =
       none_any (λ (part : Part). is_opposed (printed past) 0 (guard part).0 (exclusive who (guard part).1) (held (printed past))) parts
       (λ part i. none_any (opposes (printed past) 0 (guard part).0 (exclusive who (guard part).1)) (held (printed past))
       (λ h j. apart part i h (all_held head past g h j)))
@@ -172,7 +174,7 @@ module _ (head : Head) (past : List Line) (g : Grown head past) where
           both (nat_eq h.target 0) (is_on (guard part).0 h.lock) (conflict (exclusive who (guard part).1) h.lock.ask) (not (is_evicted 0 (printed past) h.who))
           (ap (λ (b : Bool). is_on (guard part).0 h.lock && b) (meets part h.lock (held_reads head past g h is)) ∙ guards_none h.lock q part i))
           (λ (q : is_evicted 0 (printed past) h.who ≡ true). over (nat_eq h.target 0) (is_on (guard part).0 h.lock) (conflict (exclusive who (guard part).1) h.lock.ask) (is_evicted 0 (printed past) h.who) q)
-          (held_granted head past g h is)
+          (held_granted head past g left h is)
 
   txn_ok : (stamp : Stamp) (t : ℕ) (d : Deed) → Allowed head past (turn stamp (Target t)) (Txn d) → AskedAt past d → TxnBy head.osts (printed past) (Target t) d.reply.txn d.reply.who d.reply.xid.0
   txn_ok stamp (suc t) d a asks = tt
@@ -180,9 +182,13 @@ module _ (head : Head) (past : List Line) (g : Grown head past) where
       let ok = a.of 0 refl in
       let v = server_of head.osts (only 0 past) in
       let free : is_free (in_way v.granted (writes head.osts v.tree (operation d))) ≡ true = subst (λ (e : Deed). is_free (in_way v.granted (writes head.osts v.tree (operation e))) ≡ true) (sym ok.is) ok.free in
-      let tree : contents head.osts (printed past) ≡ v.tree = contents_are head past g (all_asked head past g) ∙ ap (λ (s : Server). s.tree) (server_is head.osts 0 past) in
+      let left : NoneLeft head 0 past = nothing_left head (only 0 past) (turn stamp (Target 0)) (Txn d) (a.shows 0 refl) (λ s. s) in
+      let tree : tree_at head.osts 0 past ≡ v.tree = ap (λ (s : Server). s.tree) (server_is head.osts 0 past) in
+      let same : writes head.osts (contents head.osts (printed past)) (operation d) ≡ writes head.osts v.tree (operation d) =
+      (contents_alike head past g (all_asked head past g) (operation d)).writes ∙ ap (λ (k : Tree). writes head.osts k (operation d)) tree
+      in
       subst (λ (o : Option Op). AreUnguarded (printed past) d.reply.who (writes_of head.osts 0 (printed past) d.reply.txn d.reply.who o)) (sym asks)
-      (subst (λ (k : Tree). AreUnguarded (printed past) d.reply.who (writes head.osts k (operation d))) (sym tree) (unguarded d.reply.who (writes head.osts v.tree (operation d)) free))
+      (subst (λ (ps : List Part). AreUnguarded (printed past) d.reply.who ps) (sym same) (unguarded left d.reply.who (writes head.osts v.tree (operation d)) free))
 
 -- ---- the law
 

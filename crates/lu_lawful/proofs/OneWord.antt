@@ -2,7 +2,7 @@
 -- tells nothing. So of the life's words in a boot all count the same replays and locks.
 use Rattle.std.proofs.Common.{◌≡◌, ℕ, suc, ◌+◌, ◌<◌, ◌≤◌, Bool, true, false, List, [], ◌∷◌, ◌++◌, Option, ◌⊎◌, inl, inr, ⊎_elim, refl, sym, subst, ap, ◌∙◌, arith}
 use Rattle.std.specs.Prelude.{nat_eq, not, if◌then◌else◌, length, map, filter}
-use Rattle.std.proofs.lemmas.Bool.{and_parts, cond_both, eqb-true}
+use Rattle.std.proofs.lemmas.Bool.{and_parts, cond_both, eqb-true, eqb-false}
 use Rattle.lu_base.specs.declared.ids.At.{At}
 use Rattle.lu_base.specs.declared.ids.Node.{Node}
 use Rattle.lu_base.specs.declared.ids.Node.TheVariants.{Client, Target}
@@ -19,26 +19,24 @@ use Rattle.lu_held.specs.declared.locks.Change.{Change}
 use Rattle.lu_held.specs.declared.locks.Change.TheVariants.{Mark, Unmark, Pin, Unpin}
 use Rattle.lu_held.specs.Locks.{name_of, is_named, after}
 use Rattle.lu_held.specs.Held.{is_held, changed, used, unmarked, without}
-use Rattle.lu_words.specs.Carried.{Flight, Said}
-use Rattle.lu_words.specs.Words.{Entry, Send, Take, Heard, Hold, Drop, Life, Knows, Serves, Settles, Pins, Unpins, Marks, Unmarks, Line, line}
-use Rattle.lu_words.specs.Concerns.{only}
+use Rattle.lu_words.specs.Carried.{Flight, Said, Outcome}
+use Rattle.lu_words.specs.Words.{Entry, Send, Take, Heard, Hold, Drop, Life, Knows, Serves, Settles, Pins, Unpins, Marks, Unmarks, Close, Line, line}
+use Rattle.lu_words.specs.Concerns.{concerns, only}
 use Rattle.lu_client_rows.specs.Caches.{held_as, with_held, with_brought, brought, held_at}
 use Rattle.lu_covered.specs.Calls.{life_at}
 use Rattle.lu_covered.specs.ClientStates.{known_of, standing_of, life_of}
 use Rattle.lu_covered.specs.Imports.{Joining, Recovering, Serving, kept_at, known_at, standing_at}
-use Rattle.lu_covered.specs.TargetStates.{server_of}
+use Rattle.lu_covered.specs.TargetStates.{server_of, closed_of}
 use Rattle.lu_covered.specs.Heads.{Head}
 use Rattle.lu_guards.proofs.Guards.{Was, HeardNow, Took, Noticed, Ending, Closes, MarkedOk}
+use Rattle.lu_guards.proofs.StoryGuards.{HeardOk, EntryOf}
 use Rattle.lu_guards.proofs.Grown.{Allowed, Grown}
 use Rattle.lu_guards.proofs.Lists.{self}
-use Rattle.lu_guards.proofs.Only.{grown_of}
 use Rattle.lu_guards.proofs.Parts.{known_is, standing_is, life_is_of}
 use Rattle.lu_facts.proofs.Groups.{turn}
 use Rattle.lu_facts.proofs.All.{holds}
-use Rattle.lu_facts.proofs.Done.{heard_known}
 use Rattle.lu_lawful.proofs.Printed.{flip, its_client}
 use Rattle.lu_lawful.proofs.Handed.{IsWord}
-use Rattle.lu_lawful.proofs.Taking.{booted_again}
 use Rattle.lu_lawful.proofs.Backs.{OneTold, taken_was}
 
 -- ---- how many locks are held of a target
@@ -153,11 +151,11 @@ record Still (c t : ℕ) (past new : List Line) : Type 0 where
 abbrev Anew : ℕ → ℕ → List Line → List Line → Type 0
 Anew c t past new = ((life_at c past).life < (life_at c new).life) ⊎ ((life_at c new ≡ life_at c past) × (known_at c t past < known_at c t new))
 
--- the boot is the first
-record First (c t : ℕ) (past new : List Line) : Type 0 where
+-- the boot that it knows was served
+record Served (c t : ℕ) (past new : List Line) : Type 0 where
   life : life_at c new ≡ life_at c past
   known : known_at c t new ≡ known_at c t past
-  one : known_at c t past ≡ 1
+  low : known_at c t past ≤ closed_of (only t past)
 
 -- the life is over
 record Over (c t : ℕ) (past new : List Line) : Type 0 where
@@ -167,7 +165,7 @@ record Over (c t : ℕ) (past new : List Line) : Type 0 where
   ending : Ending new c
 
 abbrev Moves : ℕ → ℕ → List Line → List Line → Type 0
-Moves c t past new = Still c t past new ⊎ Anew c t past new ⊎ First c t past new ⊎ Over c t past new
+Moves c t past new = Still c t past new ⊎ Anew c t past new ⊎ Served c t past new ⊎ Over c t past new
 
 took_more : (l : Line) (past : List Line) (at : At) (from : Node) (m : Message) → Took past at from m → Took (l ∷ past) at from m
 took_more l past at from m k = by l.entry
@@ -179,24 +177,51 @@ took_more l past at from m k = by l.entry
 noticed_more : (l : Line) (past : List Line) (at : At) (who : Who) → Noticed past at who → Noticed (l ∷ past) at who
 noticed_more l past at who n = record { target = n.target; boot = n.boot; took = took_more l past at (Target n.target) (message.Evicted who n.boot) n.took }
 
--- in the turn that brought a lock the client knows the first boot
-heard_first : (head : Head) (past : List Line) (at : At) (c t : ℕ) (f : Flight) (r : ReplyTo) → Grown head past → at.node ≡ Client c → HeardNow past at t f r → known_at c t past ≡ 1
-heard_first head [] at c t f r g n k = absurd k
-heard_first head (l ∷ past) at c t f r g n k = by l.at.node l.entry g k (λ k. heard_first head past at c t f r g.1 n k)
+-- a boot of which a client hears was served
+hears_served : (head : Head) (t : ℕ) (past : List Line) (c : ℕ) (f : Flight) (r : ReplyTo) → Grown head past → HeardOk (only t past) c f r → known_of c (only t past) ≤ closed_of (only t past)
+hears_served head t past c f r g ok = subst (λ (n : ℕ). n ≤ closed_of (only t past)) ok.boot (((holds head past g).at t).done.sent (Target ok.from) (Client c) (message.Reply r) ok.was).boot
+
+at_most : (a b n : ℕ) → a ≡ b → b ≤ n → a ≤ n
+at_most a b n e le = omega (arith, e, le)
+
+-- the boot that served last rises
+closed_up : (head : Head) (t : ℕ) (l : Line) (past : List Line) → Grown head (l ∷ past) → closed_of (only t past) ≤ closed_of (only t (l ∷ past))
+closed_up head t l past g = by (concerns t l.at.node l.entry) refl
   where
-    here : (stamp : Stamp) (u : ℕ) (x : Flight) (y : ReplyTo) → Allowed head past (turn stamp (Client c)) (Heard u x y) → u ≡ t → known_at c t past ≡ 1
+    P : List Line
+    P = only t past
+
+    own : (node : Node) (e : Entry) → EntryOf head P (turn l.at.stamp node) node e → closed_of P ≤ closed_of (line (turn l.at.stamp node) e ∷ P)
+    own (Target u) (Close o) ok = subst (λ (v : Outcome). closed_of P ≤ v.boot) (sym ok.is) ((holds head past g.1).at t).phase.under
+    own (Client c) e ok = omega arith
+    own (Target u) e ok = omega arith
+
+    by : (b : Bool) → concerns t l.at.node l.entry ≡ b → closed_of P ≤ closed_of (if b then l ∷ P else P)
+    by true e = own l.at.node l.entry (g.0.of t e)
+    by false e = omega arith
+
+-- in the turn that brought a lock the client knows a boot that was served
+heard_served : (head : Head) (past : List Line) (at : At) (c t : ℕ) (f : Flight) (r : ReplyTo) → Grown head past → at.node ≡ Client c → HeardNow past at t f r → known_at c t past ≤ closed_of (only t past)
+heard_served head [] at c t f r g n k = absurd k
+heard_served head (l ∷ past) at c t f r g n k = by l.at.node l.entry g k (λ k. heard_served head past at c t f r g.1 n k)
+  where
+    here : (stamp : Stamp) (u : ℕ) (x : Flight) (y : ReplyTo) → Allowed head past (turn stamp (Client c)) (Heard u x y) → u ≡ t → known_at c t past ≤ closed_of (only t past)
     here stamp u x y a e =
         let ok = a.of t (subst (λ (v : ℕ). nat_eq t v ≡ true) (sym e) (self t)) in
-        known_is c t past ∙ heard_known head.osts (only t past) c x y ok ((holds head past g.1).at t).done
+        at_most _ _ _ (known_is c t past) (hears_served head t past c x y g.1 ok)
 
-    by : (node : Node) (e : Entry) → Grown head (line (turn l.at.stamp node) e ∷ past) → HeardNow (line (turn l.at.stamp node) e ∷ past) at t f r → (HeardNow past at t f r → known_at c t past ≡ 1) → known_at c t (line (turn l.at.stamp node) e ∷ past) ≡ 1
+    on : (node : Node) (e : Entry) → Grown head (line (turn l.at.stamp node) e ∷ past) → known_at c t past ≤ closed_of (only t past) → known_at c t past ≤ closed_of (only t (line (turn l.at.stamp node) e ∷ past))
+    on node e g le = let up = closed_up head t (line (turn l.at.stamp node) e) past g in omega (arith, le, up)
+
+    by : (node : Node) (e : Entry) → Grown head (line (turn l.at.stamp node) e ∷ past) → HeardNow (line (turn l.at.stamp node) e ∷ past) at t f r → (HeardNow past at t f r → known_at c t past ≤ closed_of (only t past))
+        → known_at c t (line (turn l.at.stamp node) e ∷ past) ≤ closed_of (only t (line (turn l.at.stamp node) e ∷ past))
     by (Client d) (Heard u x y) g k h =
         let own : Client d ≡ Client c = ap (λ (v : At). v.node) k.0 ∙ n in
         let same : d ≡ c = cc in
-        here l.at.stamp u x y (subst (λ (v : ℕ). Allowed head past (turn l.at.stamp (Client v)) (Heard u x y)) same g.0) k.1
+        on (Client d) (Heard u x y) g (here l.at.stamp u x y (subst (λ (v : ℕ). Allowed head past (turn l.at.stamp (Client v)) (Heard u x y)) same g.0) k.1)
     by (Target d) (Heard u x y) g k h = absurd g.0.ok
-    by (Client d) (Hold u lock marked size seen) g k h = h k
-    by (Target d) (Hold u lock marked size seen) g k h = h k
+    by (Client d) (Hold u lock marked size seen) g k h = on (Client d) (Hold u lock marked size seen) g (h k)
+    by (Target d) (Hold u lock marked size seen) g k h = absurd g.0.ok
     by node e g k h = absurd k
 
 -- a line of the client, about the target or not
@@ -233,8 +258,8 @@ module _ (head : Head) (t c : ℕ) (past : List Line) (stamp : Stamp) (d u : ℕ
       by : (x y : Bool) → nat_eq c d ≡ x → nat_eq t u ≡ y → Moves c t past (l ∷ past)
       by true true p q =
           let ok = a.of t q in
-          let first = ((holds head past g).at t).done.sent (Target u) (Client d) (message.Ready (life_of d (only t past)) b ok.committed) ok.was in
-          inr (inr (inl (record { life = refl; known = refl; one = known_same (eqb-true c d p) ∙ sym ok.of_boot ∙ first.0 })))
+          let low = (((holds head past g).at t).done.sent (Target u) (Client d) (message.Ready (life_of d (only t past)) b ok.committed) ok.was).0 in
+          inr (inr (inl (record { life = refl; known = refl; low = at_most _ _ _ (known_same (eqb-true c d p) ∙ sym ok.of_boot) low })))
       by true false p q = still_other c t l past refl refl (rw (p, q) refl) refl refl
       by false y p q = still_other c t l past refl refl (rw p refl) refl refl
 
@@ -245,7 +270,7 @@ module _ (head : Head) (t c : ℕ) (past : List Line) (stamp : Stamp) (d u : ℕ
       l = line (turn stamp (Client d)) (Settles u b)
 
       by : (x y : Bool) → nat_eq c d ≡ x → nat_eq t u ≡ y → Moves c t past (l ∷ past)
-      by true true p q = inr (inr (inl (record { life = refl; known = refl; one = known_same (eqb-true c d p) ∙ ((holds head past g).at t).phase.served d (a.of t q) })))
+      by true true p q = inr (inr (inl (record { life = refl; known = refl; low = at_most _ _ _ (known_same (eqb-true c d p)) (((holds head past g).at t).phase.served d (a.of t q).serves) })))
       by true false p q = still_other c t l past refl refl refl (rw (p, q) refl) refl
       by false y p q = still_other c t l past refl refl refl (rw p refl) refl
 
@@ -270,7 +295,7 @@ module _ (head : Head) (t c : ℕ) (past : List Line) (stamp : Stamp) (d u : ℕ
       l = line (turn stamp (Client d)) (Heard u f r)
 
       by : (x y : Bool) → nat_eq c d ≡ x → nat_eq t u ≡ y → Moves c t past (l ∷ past)
-      by true true p q = inr (inr (inl (record { life = refl; known = refl; one = known_same (eqb-true c d p) ∙ heard_known head.osts (only t past) d f r (a.of t q) ((holds head past g).at t).done })))
+      by true true p q = inr (inr (inl (record { life = refl; known = refl; low = at_most _ _ _ (known_same (eqb-true c d p)) (hears_served head t past d f r g (a.of t q)) })))
       by true false p q = still_other c t l past refl refl refl (rw (p, q) refl) (rw p (count_brought t u (brought f.op r) (held_at c past) (flip u t ∙ q)))
       by false y p q = still_other c t l past refl refl refl (rw p refl) (rw p refl)
 
@@ -281,7 +306,7 @@ module _ (head : Head) (t c : ℕ) (past : List Line) (stamp : Stamp) (d u : ℕ
       l = line (turn stamp (Client d)) (Hold u lock marked size seen)
 
       by : (x y : Bool) → nat_eq c d ≡ x → nat_eq t u ≡ y → Moves c t past (l ∷ past)
-      by true true p q = inr (inr (inl (record { life = refl; known = refl; one = ap (λ (v : ℕ). known_at c v past) (eqb-true t u q) ∙ heard_first head past (turn stamp (Client d)) c u a.ok.flight a.ok.reply g (ap Client (sym (eqb-true c d p))) a.ok.heard })))
+      by true true p q = inr (inr (inl (record { life = refl; known = refl; low = subst (λ (v : ℕ). known_at c v past ≤ closed_of (only v past)) (sym (eqb-true t u q)) (heard_served head past (turn stamp (Client d)) c u a.ok.flight a.ok.reply g (ap Client (sym (eqb-true c d p))) a.ok.heard) })))
       by true false p q = still_other c t l past refl refl refl (rw (p, q) refl) (rw p (count_with t (held_as u lock marked) (held_at c past) (flip u t ∙ q)))
       by false y p q = still_other c t l past refl refl refl (rw p refl) (rw p refl)
 
@@ -291,15 +316,15 @@ module _ (head : Head) (t c : ℕ) (past : List Line) (stamp : Stamp) (d u : ℕ
       l : Line
       l = line (turn stamp (Client d)) (Drop u lock)
 
-      served : c ≡ d → t ≡ u → standing_at d 0 past ≡ Serving → known_at c t past ≡ 1
+      served : c ≡ d → t ≡ u → standing_at d 0 past ≡ Serving → known_at c t past ≤ closed_of (only t past)
       served e q s =
           let here : t ≡ 0 = q ∙ a.ok.0 in
           let st : standing_of d (only t past) ≡ Serving = ap (λ (v : ℕ). standing_of d (only v past)) here ∙ sym (standing_is d 0 past) ∙ s in
-          known_same e ∙ ((holds head past g).at t).phase.served d st
+          at_most _ _ _ (known_same e) (((holds head past g).at t).phase.served d st)
 
       by : (x y : Bool) → nat_eq c d ≡ x → nat_eq t u ≡ y → Moves c t past (l ∷ past)
       by true true p q = ⊎_elim
-          (λ (k : MarkedOk past d lock). inr (inr (inl (record { life = refl; known = refl; one = served (eqb-true c d p) (eqb-true t u q) k.serves }))))
+          (λ (k : MarkedOk past d lock). inr (inr (inl (record { life = refl; known = refl; low = served (eqb-true c d p) (eqb-true t u q) k.serves }))))
           (λ (k : Noticed past (turn stamp (Client d)) (life_at d past)). inr (inr (inr (record {
             life = refl;
             known = refl;
@@ -347,8 +372,8 @@ Older past t who b = (who.life < (life_at who.client past).life) ⊎ ((who ≡ l
 
 record Tells (t : ℕ) (past : List Line) : Type 0 where
   bound : (from : Node) (m : Message) (who : Who) (b : ℕ) (s : Said) → Was past from (Target t) m → IsWord b who m s → (from ≡ Client who.client) × Older past t who b
-  now : (c : ℕ) (m : Message) (s : Said) → 2 ≤ known_at c t past → Was past (Client c) (Target t) m → IsWord (known_at c t past) (life_at c past) m s → Fits past c t m s
-  one : (who : Who) (b : ℕ) (from into : Node) (m k : Message) (s u : Said) → 2 ≤ b → Was past from (Target t) m → Was past into (Target t) k → IsWord b who m s → IsWord b who k u → (s.replays ≡ u.replays) × (s.locks ≡ u.locks)
+  now : (c : ℕ) (m : Message) (s : Said) → closed_of (only t past) < known_at c t past → Was past (Client c) (Target t) m → IsWord (known_at c t past) (life_at c past) m s → Fits past c t m s
+  one : (who : Who) (b : ℕ) (from into : Node) (m k : Message) (s u : Said) → closed_of (only t past) < b → Was past from (Target t) m → Was past into (Target t) k → IsWord b who m s → IsWord b who k u → (s.replays ≡ u.replays) × (s.locks ≡ u.locks)
 
 older_up : (t : ℕ) (who : Who) (b : ℕ) (past new : List Line) → Moves who.client t past new → Older past t who b → Older new t who b
 older_up t who b past new (inl m) (inl lt) = inl (let e = ap (λ (v : Who). v.life) m.life in omega (arith, lt, e))
@@ -388,7 +413,10 @@ fits_on t c l past m s closes k f = tt
 
 -- the present boot and life were told so before
 module _ (head : Head) (t : ℕ) (l : Line) (past : List Line) (g : Grown head (l ∷ past)) (h : Tells t past) where
-  stays : (c : ℕ) → Moves c t past (l ∷ past) → (m : Message) (s : Said) → 2 ≤ known_at c t (l ∷ past) → Was past (Client c) (Target t) m → IsWord (known_at c t (l ∷ past)) (life_at c (l ∷ past)) m s → Fits (l ∷ past) c t m s
+  up : closed_of (only t past) ≤ closed_of (only t (l ∷ past))
+  up = closed_up head t l past g
+
+  stays : (c : ℕ) → Moves c t past (l ∷ past) → (m : Message) (s : Said) → closed_of (only t (l ∷ past)) < known_at c t (l ∷ past) → Was past (Client c) (Target t) m → IsWord (known_at c t (l ∷ past)) (life_at c (l ∷ past)) m s → Fits (l ∷ past) c t m s
   stays c v m s le was word = by v
     where
       W : Who
@@ -398,7 +426,7 @@ module _ (head : Head) (t : ℕ) (l : Line) (past : List Line) (g : Grown head (
       B = known_at c t (l ∷ past)
 
       before : life_at c (l ∷ past) ≡ life_at c past → known_at c t (l ∷ past) ≡ known_at c t past → Fits past c t m s
-      before e q = h.now c m s (subst (λ (n : ℕ). 2 ≤ n) q le) was (subst (λ (w : Who). IsWord (known_at c t past) w m s) e (subst (λ (n : ℕ). IsWord n W m s) q word))
+      before e q = h.now c m s (let more = up in omega (arith, q, le, more)) was (subst (λ (w : Who). IsWord (known_at c t past) w m s) e (subst (λ (n : ℕ). IsWord n W m s) q word))
 
       older : Older past t W B
       older = (h.bound (Client c) m W B s was word).1
@@ -415,7 +443,7 @@ module _ (head : Head) (t : ℕ) (l : Line) (past : List Line) (g : Grown head (
       by : Moves c t past (l ∷ past) → Fits (l ∷ past) c t m s
       by (inl k) = fits_on t c l past m s g.0.closes (inl k) (before k.life k.known)
       by (inr (inl k)) = absurd (new k older)
-      by (inr (inr (inl k))) = absurd (let e = k.known in let one = k.one in omega (arith, le, e, one))
+      by (inr (inr (inl k))) = absurd (let e = k.known in let low = k.low in let more = up in omega (arith, le, e, low, more))
       by (inr (inr (inr k))) = fits_on t c l past m s g.0.closes (inr k) (before k.life k.known)
 
   -- a line that sends nothing
@@ -424,7 +452,7 @@ module _ (head : Head) (t : ℕ) (l : Line) (past : List Line) (g : Grown head (
       record {
         bound = λ from m who b s was word. let k = h.bound from m who b s (old from (Target t) m was) word in (k.0, older_up t who b past (l ∷ past) (v who.client) k.1);
         now = λ c m s le was word. stays c (v c) m s le (old (Client c) (Target t) m was) word;
-        one = λ who b from into m k s u le x y. h.one who b from into m k s u le (old from (Target t) m x) (old into (Target t) k y);
+        one = λ who b from into m k s u le x y. h.one who b from into m k s u (let more = up in omega (arith, le, more)) (old from (Target t) m x) (old into (Target t) k y);
       }
 
 -- ---- a word is sent
@@ -467,13 +495,13 @@ not_ending (x ∷ past) at c closes alive e = ⊎_elim
 sent_word : (head : Head) (t : ℕ) (past : List Line) (stamp : Stamp) (node : Node) (m : Message) → Allowed head past (turn stamp node) (Send (Target t) m) → Grown head past → (b : ℕ) (who : Who) (s : Said) → IsWord b who m s → SentWord t past node m b who s who.client
 sent_word head t past stamp (Client c) (message.Word other boot replays locks seen) a g b who s w =
     let ok = a.of t (self t) in
-    let life : who ≡ life_at c past = sym w.0 ∙ ok.of_life ∙ sym (life_is_of c t past) in
+    let life : who ≡ life_at c past = sym w.0 ∙ ok.tells.of_life ∙ sym (life_is_of c t past) in
     let client : who.client ≡ c = ap (λ (v : Who). v.client) life ∙ its_client head c past g in
     subst (λ (v : ℕ). SentWord t past (Client c) (message.Word other boot replays locks seen) b who s v) (sym client) (record {
       from = refl;
       life = life;
-      known = sym w.1 ∙ ok.of_boot ∙ sym (known_is c t past);
-      fresh = (standing_is c t past ∙ ok.recovers, w.2 ∙ a.ok.replays, w.3 ∙ a.ok.locks, not_ending past (turn stamp (Client c)) c a.closes a.ok.alive);
+      known = sym w.1 ∙ ok.tells.of_boot ∙ sym (known_is c t past);
+      fresh = (standing_is c t past ∙ ok.tells.recovers, w.2 ∙ a.ok.replays, w.3 ∙ a.ok.locks, not_ending past (turn stamp (Client c)) c a.closes a.ok.alive);
     })
 sent_word head t past stamp (Client c) (message.Join other boot) a g b who s w =
     let ok = a.of t (self t) in
@@ -499,11 +527,14 @@ module _ (head : Head) (t : ℕ) (past : List Line) (stamp : Stamp) (node to : N
   sent k e q b who s w = sent_word head t past stamp node k (subst (λ (v : Node). Allowed head past (turn stamp node) (Send v k)) e (subst (λ (v : Message). Allowed head past (turn stamp node) (Send to v)) q g.0)) g.1 b who s w
 
   -- one before, by the same life of the same boot
-  told : (b : ℕ) (who : Who) (s : Said) (k : Message) → SentWord t past node k b who s who.client → 2 ≤ b → (into : Node) (j : Message) (u : Said) → Was past into (Target t) j → IsWord b who j u → (s.replays ≡ u.replays) × (s.locks ≡ u.locks)
+  told : (b : ℕ) (who : Who) (s : Said) (k : Message) → SentWord t past node k b who s who.client → closed_of (only t past) < b → (into : Node) (j : Message) (u : Said) → Was past into (Target t) j → IsWord b who j u → (s.replays ≡ u.replays) × (s.locks ≡ u.locks)
   told b who s k n le into j u was word =
       let from = (h.bound into j who b u was word).0 in
-      let fits = h.now who.client j u (subst (λ (n : ℕ). 2 ≤ n) n.known le) (subst (λ (v : Node). Was past v (Target t) j) from was) (subst (λ (x : ℕ). IsWord x (life_at who.client past) j u) n.known (subst (λ (w : Who). IsWord b w j u) n.life word)) in
+      let fits = h.now who.client j u (subst (λ (n : ℕ). closed_of (only t past) < n) n.known le) (subst (λ (v : Node). Was past v (Target t) j) from was) (subst (λ (x : ℕ). IsWord x (life_at who.client past) j u) n.known (subst (λ (w : Who). IsWord b w j u) n.life word)) in
       agree past who.client t b who k j s u n.fresh fits word
+
+  now_low : (b : ℕ) → closed_of (only t (line (turn stamp node) (Send to m) ∷ past)) < b → closed_of (only t past) < b
+  now_low b le = let more = closed_up head t (line (turn stamp node) (Send to m)) past g in omega (arith, le, more)
 
   sends : Tells t (line (turn stamp node) (Send to m) ∷ past)
   sends =
@@ -521,11 +552,11 @@ module _ (head : Head) (t : ℕ) (past : List Line) (stamp : Stamp) (node to : N
         one = λ who b from into k j s u le x y v w. ⊎_elim
             (λ (p : (node ≡ from) × (to ≡ Target t) × (m ≡ k)). ⊎_elim
             (λ (q : (node ≡ into) × (to ≡ Target t) × (m ≡ j)). same_word b who j s u (subst (λ (z : Message). IsWord b who z s) (sym p.2 ∙ q.2) v) w)
-            (λ (q : Was past into (Target t) j). told b who s k (sent k p.1 p.2 b who s v) le into j u q w)
+            (λ (q : Was past into (Target t) j). told b who s k (sent k p.1 p.2 b who s v) (now_low b le) into j u q w)
             y)
             (λ (p : Was past from (Target t) k). ⊎_elim
-            (λ (q : (node ≡ into) × (to ≡ Target t) × (m ≡ j)). let r = told b who u j (sent j q.1 q.2 b who u w) le from k s p v in (sym r.0, sym r.1))
-            (λ (q : Was past into (Target t) j). h.one who b from into k j s u le p q v w)
+            (λ (q : (node ≡ into) × (to ≡ Target t) × (m ≡ j)). let r = told b who u j (sent j q.1 q.2 b who u w) (now_low b le) from k s p v in (sym r.0, sym r.1))
+            (λ (q : Was past into (Target t) j). h.one who b from into k j s u (now_low b le) p q v w)
             y)
             x;
       }
@@ -541,7 +572,12 @@ tells head t (l ∷ past) g = by l.at.node l.entry g (tells head t past g.1)
 -- of what a target that recovers took since its boot
 pub one_told : (head : Head) (t : ℕ) (past : List Line) → Grown head past → OneTold head t past
 one_told head t past g r who m k s u i j v w =
-    let again = booted_again head (only t past) (grown_of head t past g) r in
+    let under = ((holds head past g).at t).phase.under in
+    let apart = eqb-false (closed_of (only t past)) (server_of head.osts (only t past)).boot r in
+    let again : closed_of (only t past) < (server_of head.osts (only t past)).boot = above (closed_of (only t past)) (server_of head.osts (only t past)).boot under apart in
     let x = taken_was head t past m g i in
     let y = taken_was head t past k g j in
     (tells head t past g).one who (server_of head.osts (only t past)).boot x.0 y.0 m k s u again x.1 y.1 v w
+  where
+    above : (k n : ℕ) → k ≤ n → (k ≡ n → ⊥) → k < n
+    above k n le ne = grind (arith, ne)

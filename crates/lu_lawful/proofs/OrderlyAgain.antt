@@ -1,9 +1,9 @@
 -- What every covered run keeps of replies that are sent again: they answer a request that was taken again, and are as the
 -- last reply to it was.
-use Rattle.std.proofs.Common.{◌≡◌, ℕ, Bool, true, false, List, [], ◌∷◌, Option, Some, None, ◌⊎◌, inl, inr, ⊎_elim, refl, sym, subst, ap, ◌∙◌}
-use Rattle.std.specs.Prelude.{nat_eq, ◌&&◌, if◌then◌else◌}
+use Rattle.std.proofs.Common.{◌≡◌, ℕ, Bool, true, false, List, [], ◌∷◌, Option, Some, None, ◌⊎◌, inl, inr, ⊎_elim, refl, sym, subst, ap, ◌∙◌, arith}
+use Rattle.std.specs.Prelude.{nat_eq, ◌&&◌, ◌||◌, if◌then◌else◌}
 use Rattle.std.specs.List.{list_any}
-use Rattle.std.proofs.lemmas.Bool.{and_parts, eqb-true}
+use Rattle.std.proofs.lemmas.Bool.{and_parts, eqb-true, eq-eqb, true≢false}
 use Rattle.lu_base.specs.declared.ids.At.{At}
 use Rattle.lu_base.specs.declared.ids.Node.{Node}
 use Rattle.lu_base.specs.declared.ids.Node.TheVariants.{Client, Target}
@@ -15,10 +15,12 @@ use Rattle.lu_msg.specs.declared.messages.Message.TheVariants as message
 use Rattle.lu_msg.specs.declared.messages.Reply.{Reply as ReplyTo}
 use Rattle.lu_trace.specs.declared.entries.Line.{Line as PrintedLine}
 use Rattle.lu_machine.specs.Tree.{same_life}
-use Rattle.lu_words.specs.Carried.{Deed}
-use Rattle.lu_words.specs.Words.{Entry, Send, Take, Act, Txn as Made, Grant, Line, line}
-use Rattle.lu_words.specs.Concerns.{only}
+use Rattle.lu_words.specs.Carried.{Deed, Outcome}
+use Rattle.lu_words.specs.Words.{Entry, Send, Take, Act, Txn as Made, Grant, Close, Line, line}
+use Rattle.lu_words.specs.Concerns.{concerns, only}
 use Rattle.lu_words.specs.Printed.{printed}
+use Rattle.lu_covered.specs.TargetStates.{server_of, closed_of}
+use Rattle.lu_covered.specs.TargetCloses.{is_lost}
 use Rattle.lu_covered.specs.Heads.{Head}
 use Rattle.lu_laws.specs.Holds.{Holds}
 use Rattle.lu_laws.specs.Words.Pasts.{same_turn, or_else}
@@ -27,14 +29,16 @@ use Rattle.lu_laws.specs.Laws.Recovery.{is_size_for, is_executed}
 use Rattle.lu_laws.specs.Order.Repeated.{last_reply, asks, SameReply, Repeats, RepeatedAt, RepeatedBy, Repeated}
 use Rattle.lu_laws.proofs.Tests.{either_left}
 use Rattle.lu_guards.proofs.Guards.{Did, TookNow, Taken, RepliesAgain, Answers, Owes}
-use Rattle.lu_guards.proofs.StoryGuards.{ReplyOk}
+use Rattle.lu_guards.proofs.StoryGuards.{ReplyOk, EntryOf}
 use Rattle.lu_guards.proofs.Grown.{Allowed, Grown}
 use Rattle.lu_guards.proofs.Lists.{self, life_is}
-use Rattle.lu_facts.proofs.Groups.{turn, Acted}
+use Rattle.lu_facts.proofs.Groups.{turn, Acted, Counts, HoldsAt}
 use Rattle.lu_facts.proofs.All.{holds}
 use Rattle.lu_facts.proofs.Sides.{acted_only}
 use Rattle.lu_lawful.proofs.Turns.{same_turn_self, same_life_self}
+use Rattle.lu_lawful.proofs.Story.{about_it}
 use Rattle.lu_lawful.proofs.Lines.{Keeps, holds_before}
+use Rattle.lu_lawful.proofs.KeptReplies.{replied_acted}
 use Rattle.lu_lawful.proofs.OrderlyQuiet.{Says}
 use Rattle.lu_lawful.proofs.OrderlySaid.{takes_it}
 use Rattle.lu_facts.proofs.Lines.{acted_whole}
@@ -45,9 +49,37 @@ use Rattle.lu_facts.proofs.Lines.{acted_whole}
 abbrev IsLast : List Line → Deed → Type 0
 IsLast past d = (k : ReplyTo) × (last_reply 0 d.reply.who d.reply.xid.0 (printed past) ≡ Some k) × SameReply d.reply k
 
--- what was done was answered, but for what was just done
-abbrev pub AllAnswered : List Line → Type 0
-AllAnswered past = (d : Deed) → Acted past d → Did past d ⊎ IsLast past d
+-- it was answered, or was just done
+abbrev pub IsAnswered : List Line → Deed → Type 0
+IsAnswered past d = Did past d ⊎ IsLast past d
+
+-- what was done counts before a line after which it counts
+counts_before : (head : Head) (l : Line) (past : List Line) (d : Deed) → Grown head (l ∷ past) → Acted past d → Counts head.osts (only 0 (l ∷ past)) d → Counts head.osts (only 0 past) d
+counts_before head l past d g i n = by (concerns 0 l.at.node l.entry) refl n
+  where
+    P : List Line
+    P = only 0 past
+
+    h : HoldsAt head P
+    h = (holds head past g.1).at 0
+
+    lost_left : (a b : Bool) → (a || b) ≡ false → a ≡ false
+    lost_left false b e = refl
+    lost_left true b e = absurd (cc)
+
+    on : (node : Node) (e : Entry) → EntryOf head P (turn l.at.stamp node) node e → Counts head.osts (line (turn l.at.stamp node) e ∷ P) d → Counts head.osts P d
+    on (Target u) (Close o) ok (inl q) =
+        let le = (h.done.boots d (acted_only head past d g.1 i)).1 in
+        let under = h.phase.under in
+        let same : o.boot ≡ (server_of head.osts P).boot = ap (λ (v : Outcome). v.boot) ok.is in
+        absurd (true≢false (sym (eq-eqb (closed_of P) (server_of head.osts P).boot (omega (arith, q, le, under, same))) ∙ ok.recovers))
+    on (Target u) (Close o) ok (inr m) = inr (m.0, lost_left (is_lost head.osts P d.reply.txn.0) _ m.1)
+    on (Client c) e ok n = n
+    on (Target u) e ok n = n
+
+    by : (b : Bool) → concerns 0 l.at.node l.entry ≡ b → Counts head.osts (if b then l ∷ P else P) d → Counts head.osts P d
+    by true q n = on l.at.node l.entry (g.0.of 0 q) n
+    by false q n = n
 
 did_owes : (past : List Line) (at : At) (d : Deed) (e : Entry) → Did past d → Owes past at e → Answers at d e
 did_owes [] at d e i o = absurd i
@@ -72,14 +104,15 @@ replied_now past d k true e is = (k, refl, subst (λ (v : ReplyTo). SameReply v 
 replied_now past d k false e is = absurd (cc)
 
 -- a kept reply to the request of a deed is that deed's
-same_deed : (head : Head) (past : List Line) (c : ℕ) (k : ReplyTo) (d : Deed) → Grown head past → ReplyOk head.osts (only 0 past) c k → Acted past d → (same_life k.who d.reply.who && nat_eq k.xid.0 d.reply.xid.0) ≡ true → SameReply d.reply k
-same_deed head past c k d g ok a e =
+same_deed : (head : Head) (past : List Line) (t c : ℕ) (k : ReplyTo) (d : Deed) → Grown head past → ReplyOk head (only 0 past) t c k → Acted past d → Counts head.osts (only 0 past) d → (same_life k.who d.reply.who && nat_eq k.xid.0 d.reply.xid.0) ≡ true → SameReply d.reply k
+same_deed head past t c k d g ok a n e =
     let h = ((holds head past g).at 0).done in
-    let f = h.kept ok.who ok.tag ok.kept ok.slot in
+    let f = replied_acted head 0 past g t c k ok in
     let p = and_parts (same_life k.who d.reply.who) (nat_eq k.xid.0 d.reply.xid.0) e in
     let who : f.0.reply.who ≡ d.reply.who = ap (λ (v : ReplyTo). v.who) f.2 ∙ sym (ap (λ (v : ReplyTo). v.who) ok.is) ∙ life_is k.who d.reply.who p.0 in
     let xid : f.0.reply.xid ≡ d.reply.xid = ap (λ (v : ReplyTo). v.xid) f.2 ∙ sym (ap (λ (v : ReplyTo). v.xid) ok.is) ∙ ap numbered (eqb-true k.xid.0 d.reply.xid.0 p.1) in
-    let same : f.0 ≡ d = h.once f.0 d f.1 (acted_only head past d g a) who xid in
+    let own = acted_only head past d g a in
+    let same : f.0 ≡ d = h.once f.0 d f.1 own f.3 n who xid in
     let kept : d.reply ≡ ok.kept = ap (λ (v : Deed). v.reply) (sym same) ∙ f.2 in
     record {
       number = ap (λ (v : ReplyTo). v.txn) kept ∙ sym (ap (λ (v : ReplyTo). v.txn) ok.is);
@@ -92,61 +125,63 @@ same_deed head past c k d g ok a e =
     numbered : ℕ → Xid
     numbered n = record { 0 = n }
 
-sends_reply : (head : Head) (past : List Line) (stamp : Stamp) (c : ℕ) (k : ReplyTo) → Allowed head past (turn stamp (Target 0)) (Send (Client c) (message.Reply k)) → Grown head past → AllAnswered past → (d : Deed) → Acted past d
+sends_reply : (head : Head) (past : List Line) (stamp : Stamp) (c : ℕ) (k : ReplyTo) → Allowed head past (turn stamp (Target 0)) (Send (Client c) (message.Reply k)) → Grown head past → (d : Deed) → IsAnswered past d → Acted past d → Counts head.osts (only 0 past) d
     → IsLast (line (turn stamp (Target 0)) (Send (Client c) (message.Reply k)) ∷ past) d
-sends_reply head past stamp c k a g h d i = ⊎_elim
+sends_reply head past stamp c k a g d h i n = ⊎_elim
     (λ (did : Did past d).
     let pays = did_owes past (turn stamp (Target 0)) d (Send (Client c) (message.Reply k)) did a.owes in
     let own : (same_life k.who d.reply.who && nat_eq k.xid.0 d.reply.xid.0) ≡ true = subst (λ (v : ReplyTo). (same_life k.who v.who && nat_eq k.xid.0 v.xid.0) ≡ true) pays.0 (its_own k) in
     replied_now past d k (same_life k.who d.reply.who && nat_eq k.xid.0 d.reply.xid.0) own pays.0)
-    (λ (last : IsLast past d). replied past d k (same_life k.who d.reply.who && nat_eq k.xid.0 d.reply.xid.0) (same_deed head past c k d g (a.of 0 refl) i) last)
-    (h d i)
+    (λ (last : IsLast past d). replied past d k (same_life k.who d.reply.who && nat_eq k.xid.0 d.reply.xid.0) (same_deed head past 0 c k d g (a.of 0 refl) i n) last)
+    h
   where
     its_own : (k : ReplyTo) → (same_life k.who k.who && nat_eq k.xid.0 k.xid.0) ≡ true
     its_own k = rw (same_life_self k.who, self k.xid.0) refl
 
-keeps_answered : (head : Head) (past : List Line) (stamp : Stamp) (node : Node) (e : Entry) → Allowed head past (turn stamp node) e → Grown head past → AllAnswered past → AllAnswered (line (turn stamp node) e ∷ past)
-keeps_answered head past stamp (Target t) (Send (Client c) (message.Reply k)) a g h d i =
-    subst (λ (v : ℕ). AllAnswered (line (turn stamp (Target v)) (Send (Client c) (message.Reply k)) ∷ past)) (sym a.ok.0)
-    (λ d i. inr (sends_reply head past stamp c k (subst (λ (v : ℕ). Allowed head past (turn stamp (Target v)) (Send (Client c) (message.Reply k))) a.ok.0 a) g h d i)) d i
-keeps_answered head past stamp (Target t) (Send (Client c) (message.Block who boot cookie)) a g h d i =
-    ⊎_elim (λ (did : Did past d). absurd (did_owes past (turn stamp (Target t)) d (Send (Client c) (message.Block who boot cookie)) did a.owes)) (λ (last : IsLast past d). inr last) (h d i)
-keeps_answered head past stamp (Target t) (Send (Client c) (message.Ready who boot number)) a g h d i =
-    ⊎_elim (λ (did : Did past d). absurd (did_owes past (turn stamp (Target t)) d (Send (Client c) (message.Ready who boot number)) did a.owes)) (λ (last : IsLast past d). inr last) (h d i)
-keeps_answered head past stamp (Target t) (Send (Client c) (message.Evicted who boot)) a g h d i =
-    ⊎_elim (λ (did : Did past d). absurd (did_owes past (turn stamp (Target t)) d (Send (Client c) (message.Evicted who boot)) did a.owes)) (λ (last : IsLast past d). inr last) (h d i)
-keeps_answered head past stamp (Target t) (Send (Client c) (message.Up boot)) a g h d i =
-    ⊎_elim (λ (did : Did past d). absurd (did_owes past (turn stamp (Target t)) d (Send (Client c) (message.Up boot)) did a.owes)) (λ (last : IsLast past d). inr last) (h d i)
-keeps_answered head past stamp (Target t) (Send to m) a g h d i = absurd a.ok
-keeps_answered head past stamp (Client c) (Send (Target t) (message.Request r)) a g h d i =
-    ⊎_elim (λ (did : Did past d). absurd (did_owes past (turn stamp (Client c)) d (Send (Target t) (message.Request r)) did a.owes)) (λ (last : IsLast past d). inr last) (h d i)
-keeps_answered head past stamp (Client c) (Send (Target t) (message.Cancel who boot cookie)) a g h d i =
-    ⊎_elim (λ (did : Did past d). absurd (did_owes past (turn stamp (Client c)) d (Send (Target t) (message.Cancel who boot cookie)) did a.owes)) (λ (last : IsLast past d). inr last) (h d i)
-keeps_answered head past stamp (Client c) (Send (Target t) (message.Join who boot)) a g h d i =
-    ⊎_elim (λ (did : Did past d). absurd (did_owes past (turn stamp (Client c)) d (Send (Target t) (message.Join who boot)) did a.owes)) (λ (last : IsLast past d). inr last) (h d i)
-keeps_answered head past stamp (Client c) (Send (Target t) (message.Replay r)) a g h d i =
-    ⊎_elim (λ (did : Did past d). absurd (did_owes past (turn stamp (Client c)) d (Send (Target t) (message.Replay r)) did a.owes)) (λ (last : IsLast past d). inr last) (h d i)
-keeps_answered head past stamp (Client c) (Send (Target t) (message.Lock r)) a g h d i =
-    ⊎_elim (λ (did : Did past d). absurd (did_owes past (turn stamp (Client c)) d (Send (Target t) (message.Lock r)) did a.owes)) (λ (last : IsLast past d). inr last) (h d i)
-keeps_answered head past stamp (Client c) (Send (Target t) (message.Word who boot replays locks seen)) a g h d i =
-    ⊎_elim (λ (did : Did past d). absurd (did_owes past (turn stamp (Client c)) d (Send (Target t) (message.Word who boot replays locks seen)) did a.owes)) (λ (last : IsLast past d). inr last) (h d i)
-keeps_answered head past stamp (Client c) (Send to m) a g h d i = absurd a.ok
-keeps_answered head past stamp (Client c) (Act e) a g h d i = absurd a.ok
-keeps_answered head past stamp (Client c) (Made e) a g h d i = absurd a.ok
-keeps_answered head past stamp (Target t) (Act e) a g h d i = ⊎_elim
+keeps_answered : (head : Head) (past : List Line) (stamp : Stamp) (node : Node) (e : Entry) → Allowed head past (turn stamp node) e → Grown head past → (d : Deed) → (Acted past d → IsAnswered past d) → (Acted past d → Counts head.osts (only 0 past) d) → Acted (line (turn stamp node) e ∷ past) d → IsAnswered (line (turn stamp node) e ∷ past) d
+keeps_answered head past stamp (Target t) (Send (Client c) (message.Reply k)) a g d h n i =
+    subst (λ (v : ℕ). IsAnswered (line (turn stamp (Target v)) (Send (Client c) (message.Reply k)) ∷ past) d) (sym a.ok.0)
+    (inr (sends_reply head past stamp c k (subst (λ (v : ℕ). Allowed head past (turn stamp (Target v)) (Send (Client c) (message.Reply k))) a.ok.0 a) g d (h i) i (n i)))
+keeps_answered head past stamp (Target t) (Send (Client c) (message.Block who boot cookie)) a g d h n i =
+    ⊎_elim (λ (did : Did past d). absurd (did_owes past (turn stamp (Target t)) d (Send (Client c) (message.Block who boot cookie)) did a.owes)) (λ (last : IsLast past d). inr last) (h i)
+keeps_answered head past stamp (Target t) (Send (Client c) (message.Ready who boot number)) a g d h n i =
+    ⊎_elim (λ (did : Did past d). absurd (did_owes past (turn stamp (Target t)) d (Send (Client c) (message.Ready who boot number)) did a.owes)) (λ (last : IsLast past d). inr last) (h i)
+keeps_answered head past stamp (Target t) (Send (Client c) (message.Evicted who boot)) a g d h n i =
+    ⊎_elim (λ (did : Did past d). absurd (did_owes past (turn stamp (Target t)) d (Send (Client c) (message.Evicted who boot)) did a.owes)) (λ (last : IsLast past d). inr last) (h i)
+keeps_answered head past stamp (Target t) (Send (Client c) (message.Up boot)) a g d h n i =
+    ⊎_elim (λ (did : Did past d). absurd (did_owes past (turn stamp (Target t)) d (Send (Client c) (message.Up boot)) did a.owes)) (λ (last : IsLast past d). inr last) (h i)
+keeps_answered head past stamp (Target t) (Send to m) a g d h n i = absurd a.ok
+keeps_answered head past stamp (Client c) (Send (Target t) (message.Request r)) a g d h n i =
+    ⊎_elim (λ (did : Did past d). absurd (did_owes past (turn stamp (Client c)) d (Send (Target t) (message.Request r)) did a.owes)) (λ (last : IsLast past d). inr last) (h i)
+keeps_answered head past stamp (Client c) (Send (Target t) (message.Cancel who boot cookie)) a g d h n i =
+    ⊎_elim (λ (did : Did past d). absurd (did_owes past (turn stamp (Client c)) d (Send (Target t) (message.Cancel who boot cookie)) did a.owes)) (λ (last : IsLast past d). inr last) (h i)
+keeps_answered head past stamp (Client c) (Send (Target t) (message.Join who boot)) a g d h n i =
+    ⊎_elim (λ (did : Did past d). absurd (did_owes past (turn stamp (Client c)) d (Send (Target t) (message.Join who boot)) did a.owes)) (λ (last : IsLast past d). inr last) (h i)
+keeps_answered head past stamp (Client c) (Send (Target t) (message.Replay r)) a g d h n i =
+    ⊎_elim (λ (did : Did past d). absurd (did_owes past (turn stamp (Client c)) d (Send (Target t) (message.Replay r)) did a.owes)) (λ (last : IsLast past d). inr last) (h i)
+keeps_answered head past stamp (Client c) (Send (Target t) (message.Lock r)) a g d h n i =
+    ⊎_elim (λ (did : Did past d). absurd (did_owes past (turn stamp (Client c)) d (Send (Target t) (message.Lock r)) did a.owes)) (λ (last : IsLast past d). inr last) (h i)
+keeps_answered head past stamp (Client c) (Send (Target t) (message.Word who boot replays locks seen)) a g d h n i =
+    ⊎_elim (λ (did : Did past d). absurd (did_owes past (turn stamp (Client c)) d (Send (Target t) (message.Word who boot replays locks seen)) did a.owes)) (λ (last : IsLast past d). inr last) (h i)
+keeps_answered head past stamp (Client c) (Send to m) a g d h n i = absurd a.ok
+keeps_answered head past stamp (Client c) (Act e) a g d h n i = absurd a.ok
+keeps_answered head past stamp (Client c) (Made e) a g d h n i = absurd a.ok
+keeps_answered head past stamp (Target t) (Act e) a g d h n i = ⊎_elim
     (λ (same : e ≡ d). inl same)
-    (λ (b : Acted past d). ⊎_elim (λ (did : Did past d). absurd (did_owes past (turn stamp (Target t)) d (Act e) did a.owes)) (λ (last : IsLast past d). inr last) (h d b))
+    (λ (b : Acted past d). ⊎_elim (λ (did : Did past d). absurd (did_owes past (turn stamp (Target t)) d (Act e) did a.owes)) (λ (last : IsLast past d). inr last) (h b))
     i
-keeps_answered head past stamp (Target t) (Made e) a g h d i = ⊎_elim
+keeps_answered head past stamp (Target t) (Made e) a g d h n i = ⊎_elim
     (λ (same : e ≡ d). inl same)
-    (λ (b : Acted past d). ⊎_elim (λ (did : Did past d). absurd (did_owes past (turn stamp (Target t)) d (Made e) did a.owes)) (λ (last : IsLast past d). inr last) (h d b))
+    (λ (b : Acted past d). ⊎_elim (λ (did : Did past d). absurd (did_owes past (turn stamp (Target t)) d (Made e) did a.owes)) (λ (last : IsLast past d). inr last) (h b))
     i
-keeps_answered head past stamp node (Grant lock asked) a g h d i = h d i
-keeps_answered head past stamp node e a g h d i = ⊎_elim (λ (did : Did past d). absurd (did_owes past (turn stamp node) d e did a.owes)) (λ (last : IsLast past d). inr last) (h d i)
+keeps_answered head past stamp node (Grant lock asked) a g d h n i = h i
+keeps_answered head past stamp node e a g d h n i = ⊎_elim (λ (did : Did past d). absurd (did_owes past (turn stamp node) d e did a.owes)) (λ (last : IsLast past d). inr last) (h i)
 
-pub all_answered : (head : Head) (past : List Line) → Grown head past → AllAnswered past
-all_answered head [] g d i = absurd i
-all_answered head (l ∷ past) g d i = keeps_answered head past l.at.stamp l.at.node l.entry g.0 g.1 (all_answered head past g.1) d i
+-- what was done and counts was answered, but for what was just done
+pub all_answered : (head : Head) (past : List Line) → Grown head past → (d : Deed) → Acted past d → Counts head.osts (only 0 past) d → IsAnswered past d
+all_answered head [] g d i n = absurd i
+all_answered head (l ∷ past) g d i n =
+    keeps_answered head past l.at.stamp l.at.node l.entry g.0 g.1 d (λ j. all_answered head past g.1 d j (counts_before head l past d g j n)) (λ j. counts_before head l past d g j n) i
 
 -- ---- the condition
 
@@ -159,8 +194,8 @@ took_not_did (l ∷ past) at from m d t i = by l.entry t i
     by _ t i = t
 
 -- the request was taken again
-answers_again : (head : Head) (past : List Line) (at : At) (k : ReplyTo) → Grown head past → RepliesAgain past at 0 k → RepeatedAt (printed past) at 0 k
-answers_again head past at k g ok =
+answers_again : (head : Head) (past : List Line) (at : At) (t c : ℕ) (k : ReplyTo) → Grown head past → ReplyOk head (only 0 past) t c k → RepliesAgain past at 0 k → RepeatedAt (printed past) at 0 k
+answers_again head past at t c k g reply ok =
     let q = ok.request in
     let h = ((holds head past g).at 0).done in
     let slot = h.slots q.who q.tag ok.kept ok.slot in
@@ -168,9 +203,9 @@ answers_again head past at k g ok =
     let xid : q.xid.0 ≡ k.xid.0 = sym ok.same ∙ sym slot.1 ∙ sym (ap (λ (v : ReplyTo). v.xid.0) ok.is) in
     let took = takes_it head past at ok.took.0 (message.Request q) g ok.took.1 in
     let its : (same_life q.who k.who && nat_eq q.xid.0 k.xid.0) ≡ true = subst (λ (v : Who). (same_life q.who v && nat_eq q.xid.0 k.xid.0) ≡ true) who (subst (λ (v : ℕ). (same_life q.who q.who && nat_eq q.xid.0 v) ≡ true) xid own) in
-    let d = h.kept q.who q.tag ok.kept ok.slot in
-    let dwho : d.0.reply.who ≡ k.who = ap (λ (v : ReplyTo). v.who) d.2 ∙ sym (ap (λ (v : ReplyTo). v.who) ok.is) in
-    let dxid : d.0.reply.xid.0 ≡ k.xid.0 = ap (λ (v : ReplyTo). v.xid.0) d.2 ∙ sym (ap (λ (v : ReplyTo). v.xid.0) ok.is) in
+    let d = replied_acted head 0 past g t c k reply in
+    let dwho : d.0.reply.who ≡ k.who = ap (λ (v : ReplyTo). v.who) d.2 ∙ sym (ap (λ (v : ReplyTo). v.who) reply.is) in
+    let dxid : d.0.reply.xid.0 ≡ k.xid.0 = ap (λ (v : ReplyTo). v.xid.0) d.2 ∙ sym (ap (λ (v : ReplyTo). v.xid.0) reply.is) in
     record {
       asked = subst (λ (v : List Sending). list_any (λ s. asks k.who k.xid.0 s.message) v ≡ true) (sym took.1) (either_left (list_any (λ s. asks k.who k.xid.0 s.message) took.0) its);
       same = ⊎_elim
@@ -179,13 +214,13 @@ answers_again head past at k g ok =
           let is : last_reply 0 k.who k.xid.0 (printed past) ≡ Some last.0 = subst (λ (v : Who). last_reply 0 v k.xid.0 (printed past) ≡ Some last.0) dwho (subst (λ (v : ℕ). last_reply 0 d.0.reply.who v (printed past) ≡ Some last.0) dxid last.1) in
           subst (λ (o : Option ReplyTo). Repeats k o) (sym is)
           (record {
-            number = ap (λ (v : ReplyTo). v.txn) (ok.is) ∙ ap (λ (v : ReplyTo). v.txn) (sym d.2) ∙ last.2.number;
-            seen = ap (λ (v : ReplyTo). v.seen) (ok.is) ∙ ap (λ (v : ReplyTo). v.seen) (sym d.2) ∙ last.2.seen;
-            turn = ap (λ (v : ReplyTo). v.at) (ok.is) ∙ ap (λ (v : ReplyTo). v.at) (sym d.2) ∙ last.2.turn;
-            locks = ap (λ (v : ReplyTo). v.locks) (ok.is) ∙ ap (λ (v : ReplyTo). v.locks) (sym d.2) ∙ last.2.locks;
-            answer = ap (λ (v : ReplyTo). v.answer) (ok.is) ∙ ap (λ (v : ReplyTo). v.answer) (sym d.2) ∙ last.2.answer;
+            number = ap (λ (v : ReplyTo). v.txn) reply.is ∙ ap (λ (v : ReplyTo). v.txn) (sym d.2) ∙ last.2.number;
+            seen = ap (λ (v : ReplyTo). v.seen) reply.is ∙ ap (λ (v : ReplyTo). v.seen) (sym d.2) ∙ last.2.seen;
+            turn = ap (λ (v : ReplyTo). v.at) reply.is ∙ ap (λ (v : ReplyTo). v.at) (sym d.2) ∙ last.2.turn;
+            locks = ap (λ (v : ReplyTo). v.locks) reply.is ∙ ap (λ (v : ReplyTo). v.locks) (sym d.2) ∙ last.2.locks;
+            answer = ap (λ (v : ReplyTo). v.answer) reply.is ∙ ap (λ (v : ReplyTo). v.answer) (sym d.2) ∙ last.2.answer;
           }))
-          (all_answered head past g d.0 (acted_whole 0 past d.0 d.1));
+          (all_answered head past g d.0 (acted_whole 0 past d.0 d.1) d.3);
     }
   where
     own : (same_life ok.request.who ok.request.who && nat_eq ok.request.xid.0 ok.request.xid.0) ≡ true
@@ -205,7 +240,7 @@ reply_again head past stamp t c k a g =
     let e = executed_now past at k (ap (λ (v : ReplyTo). v.at) pays.0 ∙ pays.1) in
     absurd (cc))
     (λ (taken : Taken past).
-    subst (λ (v : ℕ). RepeatedAt (printed past) at v k) (sym a.ok.0) (answers_again head past at k g (subst (λ (v : ℕ). RepliesAgain past at v k) a.ok.0 (a.ok.2 taken))))
+    subst (λ (v : ℕ). RepeatedAt (printed past) at v k) (sym a.ok.0) (answers_again head past at t c k g (a.of 0 (about_it t a.ok.0)) (subst (λ (v : ℕ). RepliesAgain past at v k) a.ok.0 (a.ok.2 taken))))
     a.ok.1.now
 
 repeated_at : (head : Head) (past : List Line) (l : Line) (later : List PrintedLine) → Allowed head past l.at l.entry → Grown head past → Keeps Repeated past l later

@@ -15,7 +15,7 @@ use Rattle.lu_msg.specs.declared.messages.Reply.{Reply as ReplyTo}
 use Rattle.lu_msg.specs.declared.messages.Request.{Request as RequestOf}
 use Rattle.lu_trace.specs.declared.entries.Line.{Line as PrintedLine}
 use Rattle.lu_machine.specs.Tree.{same_life}
-use Rattle.lu_words.specs.Carried.{Deed, Disk}
+use Rattle.lu_words.specs.Carried.{Deed, Disk, Outcome}
 use Rattle.lu_words.specs.Words.{Entry, Send, Take, Act, Txn as Made, Crash, Boot, Close, Evict, Enters, Line, line}
 use Rattle.lu_words.specs.Concerns.{concerns, only}
 use Rattle.lu_words.specs.Printed.{printed}
@@ -36,11 +36,11 @@ use Rattle.lu_guards.proofs.Grown.{Allowed, Grown}
 use Rattle.lu_guards.proofs.Lists.{self, in_append, in_filter, in_filtered, life_is}
 use Rattle.lu_guards.proofs.Parts.{waiting_is}
 use Rattle.lu_facts.proofs.Groups.{turn, Phase}
-use Rattle.lu_facts.proofs.Phase.{serves_first}
 use Rattle.lu_facts.proofs.All.{holds}
 use Rattle.lu_lawful.proofs.Turns.{same_life_self}
 use Rattle.lu_lawful.proofs.Story.{about_it}
 use Rattle.lu_lawful.proofs.Lines.{Keeps, holds_before}
+use Rattle.lu_lawful.proofs.KeptReplies.{replied_acted}
 use Rattle.lu_lawful.proofs.Printed.{flip, sending_is}
 use Rattle.lu_lawful.proofs.Taking.{boot_of}
 use Rattle.lu_lawful.proofs.OrderlyQuiet.{Says}
@@ -56,22 +56,25 @@ AllUnanswered past = (r : RequestOf) → In r (waiting_at 0 past) → Unanswered
 
 -- ---- the target serves before a line after which it does
 
-boot_unserved : (head : Head) (past : List Line) (stamp : Stamp) (t b : ℕ) (disk : Disk) → BootOk head.osts past b → Phase head.osts past → IsServing head.osts (line (turn stamp (Target t)) (Boot b disk) ∷ past) → ⊥
-boot_unserved head past stamp t b disk ok p s = let closed = s.closed in let first = p.closed in let next = ok.next in let low = p.low in omega (arith, closed, first, next, low)
+boot_unserved : (head : Head) (past : List Line) (stamp : Stamp) (t b : ℕ) (disk : Disk) → BootOk head past b disk → Phase head.osts past → IsServing head.osts (line (turn stamp (Target t)) (Boot b disk) ∷ past) → ⊥
+boot_unserved head past stamp t b disk ok p s = let closed = s.closed in let under = p.under in let next = ok.next in omega (arith, closed, under, next)
 
-served_before : (head : Head) (past : List Line) (stamp : Stamp) (node : Node) (e : Entry) → Allowed head past (turn stamp node) e → Grown head past → IsServing head.osts (only 0 (line (turn stamp node) e ∷ past)) → IsServing head.osts (only 0 past)
-served_before head past stamp node e a g s =
+abbrev NotClose : Entry → Type 0
+NotClose (Close o) = ⊥
+NotClose _ = Unit {0}
+
+served_before : (head : Head) (past : List Line) (stamp : Stamp) (node : Node) (e : Entry) → NotClose e → Allowed head past (turn stamp node) e → Grown head past → IsServing head.osts (only 0 (line (turn stamp node) e ∷ past)) → IsServing head.osts (only 0 past)
+served_before head past stamp node e n a g s =
     cond_both (concerns 0 node e) (line (turn stamp node) e ∷ only 0 past) (only 0 past) (λ (p : List Line). IsServing head.osts p → IsServing head.osts (only 0 past))
-    (λ q v. by node e a q v) (λ q v. v) s
+    (λ q v. by node e n a q v) (λ q v. v) s
   where
-    by : (node : Node) (e : Entry) → Allowed head past (turn stamp node) e → concerns 0 node e ≡ true → IsServing head.osts (line (turn stamp node) e ∷ only 0 past) → IsServing head.osts (only 0 past)
-    by (Target u) Crash a q v = let up = v.up in absurd (cc)
-    by (Target u) (Boot b disk) a q v = absurd (boot_unserved head (only 0 past) stamp u b disk (a.of 0 q) ((holds head past g).at 0).phase v)
-    by (Target u) (Close outcome) a q v = absurd a.ok
-    by (Client c) Crash a q v = absurd a.ok
-    by (Client c) (Boot b disk) a q v = absurd a.ok
-    by (Client c) (Close outcome) a q v = absurd a.ok
-    by _ _ a q v = v
+    by : (node : Node) (e : Entry) → NotClose e → Allowed head past (turn stamp node) e → concerns 0 node e ≡ true → IsServing head.osts (line (turn stamp node) e ∷ only 0 past) → IsServing head.osts (only 0 past)
+    by (Target u) Crash n a q v = let up = v.up in absurd (cc)
+    by (Target u) (Boot b disk) n a q v = absurd (boot_unserved head (only 0 past) stamp u b disk (a.of 0 q) ((holds head past g).at 0).phase v)
+    by node (Close o) n a q v = absurd n
+    by (Client c) Crash n a q v = absurd a.ok
+    by (Client c) (Boot b disk) n a q v = absurd a.ok
+    by _ _ n a q v = v
 
 its_own : (r : RequestOf) → is_request r.who r.xid.0 r ≡ true
 its_own r = rw (same_life_self r.who, self r.xid.0) refl
@@ -104,8 +107,8 @@ took_it head (l ∷ past) at from r g n b t = by l.entry g.0 b t
 -- ---- a reply is sent
 
 -- what waits isn't what is answered
-stays : (head : Head) (past : List Line) (c : ℕ) (k : ReplyTo) (r : RequestOf) → Grown head past → ReplyOk head.osts (only 0 past) c k → In r (waiting_at 0 past) → not (is_request k.who k.xid.0 r) ≡ true
-stays head past c k r g ok i = settled (is_request k.who k.xid.0 r) (never (is_request k.who k.xid.0 r) other)
+stays : (head : Head) (past : List Line) (t c : ℕ) (k : ReplyTo) (r : RequestOf) → Grown head past → ReplyOk head (only 0 past) t c k → In r (waiting_at 0 past) → not (is_request k.who k.xid.0 r) ≡ true
+stays head past t c k r g ok i = settled (is_request k.who k.xid.0 r) (never (is_request k.who k.xid.0 r) other)
   where
     never : (b : Bool) → (b ≡ true → ⊥) → b ≡ false
     never true n = absurd (n refl)
@@ -117,12 +120,12 @@ stays head past c k r g ok i = settled (is_request k.who k.xid.0 r) (never (is_r
     other : is_request k.who k.xid.0 r ≡ true → ⊥
     other f =
         let h = ((holds head past g).at 0).done in
-        let d = h.kept ok.who ok.tag ok.kept ok.slot in
+        let d = replied_acted head 0 past g t c k ok in
         let waits = h.waits r (subst (λ (v : List RequestOf). In r v) (waiting_is head.osts 0 past) i) in
         let its = and_parts (same_life r.who k.who) (nat_eq r.xid.0 k.xid.0) f in
         let who : d.0.reply.who ≡ r.who = ap (λ (v : ReplyTo). v.who) d.2 ∙ sym (ap (λ (v : ReplyTo). v.who) ok.is) ∙ sym (life_is r.who k.who its.0) in
         let xid : d.0.reply.xid ≡ r.xid = ap (λ (v : ReplyTo). v.xid) d.2 ∙ sym (ap (λ (v : ReplyTo). v.xid) ok.is) ∙ ap numbered (sym (eqb-true r.xid.0 k.xid.0 its.1)) in
-        waits.new d.0 d.1 who xid
+        waits.new d.0 d.1 d.3 who xid
 
 -- ---- each line keeps it
 
@@ -133,10 +136,19 @@ acted_fewer past at e d false r h i = h r i
 entered : (head : Head) (past : List Line) (stamp : Stamp) (t : ℕ) (q : RequestOf) → Allowed head past (turn stamp (Target t)) (Enters q) → Grown head past → Unanswered past q
 entered head past stamp t q a g =
     let ok = a.of 0 (about_it t a.ok.0) in
-    let h = (holds head past g).at 0 in
-    let m = h.done.sent (Client ok.from) (Target t) (message.Request q) ok.was in
-    let first : boot 0 (printed past) ≡ 1 = boot_of head 0 past g ∙ serves_first head.osts (only 0 past) h.phase ok.serves in
-    took_it head past (turn stamp (Target t)) a.ok.1.0 q g (ap Target a.ok.0) (ap (λ (v : RequestOf). v.boot) m.2 ∙ sym first) a.ok.1.1
+    let high = (((holds head past g).at 0).boots (Client ok.from) (Target t) (message.Request q) ok.was).1 in
+    let low = ok.current in
+    let is = boot_of head 0 past g in
+    took_it head past (turn stamp (Target t)) a.ok.1.0 q g (ap Target a.ok.0) (omega (arith, high, low, is)) a.ok.1.1
+
+-- a close leaves nothing that waits
+closes_unanswered : (head : Head) (past : List Line) (stamp : Stamp) (t : ℕ) (o : Outcome) → (IsServing head.osts (only 0 past) → AllUnanswered past) → IsServing head.osts (only 0 (line (turn stamp (Target t)) (Close o) ∷ past))
+    → AllUnanswered (line (turn stamp (Target t)) (Close o) ∷ past)
+closes_unanswered head past stamp t o h s r i = by (nat_eq 0 t) refl s i
+  where
+    by : (v : Bool) → nat_eq 0 t ≡ v → IsServing head.osts (if v then line (turn stamp (Target t)) (Close o) ∷ only 0 past else only 0 past) → In r (if v then [] else waiting_at 0 past) → In r (if nat_eq t 0 then [] else unanswered 0 (printed past))
+    by true e s i = absurd i
+    by false e s i = subst (λ (x : Bool). In r (if x then [] else unanswered 0 (printed past))) (sym (flip t 0 ∙ e)) (h s r i)
 
 keeps_unanswered : (head : Head) (past : List Line) (stamp : Stamp) (node : Node) (e : Entry) → Allowed head past (turn stamp node) e → Grown head past → IsServing head.osts (only 0 (line (turn stamp node) e ∷ past)) → AllUnanswered past → AllUnanswered (line (turn stamp node) e ∷ past)
 keeps_unanswered head past stamp node (Take n from m) a g s h r i = with_more r (comes_to 0 (printed past) node n) (boot 0 (printed past)) (unanswered 0 (printed past)) (h r i)
@@ -144,7 +156,7 @@ keeps_unanswered head past stamp (Client c) (Send to m) a g s h r i = h r i
 keeps_unanswered head past stamp (Target t) (Send (Client c) (message.Reply k)) a g s h r i =
     let ok = a.of 0 (about_it t a.ok.0) in
     cond_both (is_target 0 (Target t)) (without_answered (message.Reply k) (unanswered 0 (printed past))) (unanswered 0 (printed past)) (λ (v : List RequestOf). In r v)
-    (λ e. in_filtered (λ (q : RequestOf). not (is_request k.who k.xid.0 q)) r (unanswered 0 (printed past)) (h r i) (stays head past c k r g ok i))
+    (λ e. in_filtered (λ (q : RequestOf). not (is_request k.who k.xid.0 q)) r (unanswered 0 (printed past)) (h r i) (stays head past t c k r g ok i))
     (λ e. h r i)
 keeps_unanswered head past stamp (Target t) (Send (Client c) (message.Block who b cookie)) a g s h r i =
     cond_both (is_target 0 (Target t)) (unanswered 0 (printed past)) (unanswered 0 (printed past)) (λ (v : List RequestOf). In r v) (λ e. h r i) (λ e. h r i)
@@ -174,8 +186,8 @@ keeps_unanswered head past stamp (Target t) (Boot b disk) a g s h r i = booted (
     booted : (v : Bool) → nat_eq 0 t ≡ v → IsServing head.osts (if v then line (turn stamp (Target t)) (Boot b disk) ∷ only 0 past else only 0 past) → In r (if nat_eq t 0 then [] else unanswered 0 (printed past))
     booted true e v = absurd (boot_unserved head (only 0 past) stamp t b disk (a.of 0 e) ((holds head past g).at 0).phase v)
     booted false e v = subst (λ (x : Bool). In r (if x then [] else unanswered 0 (printed past))) (sym (flip t 0 ∙ e)) (h r i)
-keeps_unanswered head past stamp (Client c) (Close outcome) a g s h r i = absurd a.ok
-keeps_unanswered head past stamp (Target t) (Close outcome) a g s h r i = absurd a.ok
+keeps_unanswered head past stamp (Client c) (Close o) a g s h r i = absurd a.ok
+keeps_unanswered head past stamp (Target t) (Close o) a g s h r i = closes_unanswered head past stamp t o (λ q. h) s r i
 keeps_unanswered head past stamp (Client c) (Evict who cause) a g s h r i = absurd a.ok
 keeps_unanswered head past stamp (Target t) (Evict who cause) a g s h r i =
     cond_both (nat_eq 0 t) (filter (λ (q : RequestOf). not (is_life q.who (who ∷ []))) (waiting_at 0 past)) (waiting_at 0 past) (λ (v : List RequestOf). In r v → Unanswered (line (turn stamp (Target t)) (Evict who cause) ∷ past) r)
@@ -204,8 +216,12 @@ keeps_unanswered head past stamp _ _ a g s h r i = h r i
 -- while the target serves
 pub all_unanswered : (head : Head) (past : List Line) → Grown head past → IsServing head.osts (only 0 past) → AllUnanswered past
 all_unanswered head [] g s r i = absurd i
-all_unanswered head (l ∷ past) g s r i =
-    keeps_unanswered head past l.at.stamp l.at.node l.entry g.0 g.1 s (all_unanswered head past g.1 (served_before head past l.at.stamp l.at.node l.entry g.0 g.1 s)) r i
+all_unanswered head (l ∷ past) g s r i = by l.at.node l.entry g.0 s (all_unanswered head past g.1) r i
+  where
+    by : (node : Node) (e : Entry) → Allowed head past (turn l.at.stamp node) e → IsServing head.osts (only 0 (line (turn l.at.stamp node) e ∷ past)) → (IsServing head.osts (only 0 past) → AllUnanswered past) → AllUnanswered (line (turn l.at.stamp node) e ∷ past)
+    by (Client c) (Close o) a s h = absurd a.ok
+    by (Target t) (Close o) a s h = closes_unanswered head past l.at.stamp t o h s
+    by node e a s h = keeps_unanswered head past l.at.stamp node e a g.1 s (h (served_before head past l.at.stamp node e tt a g.1 s))
 
 -- ---- the condition
 

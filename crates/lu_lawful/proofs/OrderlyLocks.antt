@@ -3,7 +3,7 @@
 use Rattle.std.proofs.Common.{◌≡◌, ℕ, suc, ◌+◌, ◌<◌, ◌≤◌, Bool, true, false, List, [], ◌∷◌, ◌++◌, inl, inr, ⊎_elim, Option, Some, None, refl, sym, subst, ap, ◌∙◌, arith}
 use Rattle.std.specs.Prelude.{nat_eq, not, max, ◌&&◌, if◌then◌else◌, unwrap_or, filter, find}
 use Rattle.std.specs.List.{list_any}
-use Rattle.std.proofs.lemmas.Bool.{and_parts, cond_both, cond-true, eqb-true}
+use Rattle.std.proofs.lemmas.Bool.{and_parts, cond_both, cond-true, eqb-true, eq-eqb, true≢false}
 use Rattle.std.proofs.lemmas.Bool.Decides.{nat_tests}
 use Rattle.lu_base.specs.declared.ids.At.{At}
 use Rattle.lu_base.specs.declared.ids.Cookie.{Cookie}
@@ -19,13 +19,13 @@ use Rattle.lu_msg.specs.declared.messages.Reply.{Reply as ReplyTo}
 use Rattle.lu_msg.specs.declared.messages.Request.{Request as RequestOf}
 use Rattle.lu_part.specs.declared.parts.Part.{Part}
 use Rattle.lu_part.specs.declared.parts.Want.{Want}
-use Rattle.lu_machine.specs.Tree.{Tree, same_life}
-use Rattle.lu_machine.specs.Footprint.{writes}
+use Rattle.lu_machine.specs.Tree.{same_life}
+use Rattle.lu_machine.specs.Footprint.{Operation, writes}
 use Rattle.lu_machine.proofs.Numbers.{number_is_free}
 use Rattle.lu_trace.specs.declared.entries.Line.{Line as PrintedLine}
 use Rattle.lu_words.specs.Carried.{Deed, Called, Flight}
-use Rattle.lu_words.specs.Words.{Entry, Take, Heard, Hold, Act, Block, Release, Boot, Evict, Line, line}
-use Rattle.lu_words.specs.Concerns.{only}
+use Rattle.lu_words.specs.Words.{Entry, Take, Heard, Hold, Act, Block, Release, Boot, Close, Evict, Line, line}
+use Rattle.lu_words.specs.Concerns.{concerns, only}
 use Rattle.lu_words.specs.Printed.{printed}
 use Rattle.lu_target_rows.specs.Lives.{is_life}
 use Rattle.lu_target_rows.specs.Locks.{with_locks, without_lock, locks_without, called_without}
@@ -33,7 +33,7 @@ use Rattle.lu_target_rows.specs.Names.{locks_from}
 use Rattle.lu_target_rows.specs.Objects.{lock_of}
 use Rattle.lu_target_rows.specs.Phase.{first_of, greatest_cookie}
 use Rattle.lu_target_rows.specs.Replies as rows
-use Rattle.lu_covered.specs.TargetStates.{Server, granted_at, cookie_at, called_at, server_of, shown_of, next_number}
+use Rattle.lu_covered.specs.TargetStates.{Server, granted_at, cookie_at, called_at, server_of, closed_of, shown_of, next_number}
 use Rattle.lu_covered.specs.Deeds.{asked, written_by}
 use Rattle.lu_covered.specs.Heads.{Head}
 use Rattle.lu_laws.specs.Holds.{Holds}
@@ -51,7 +51,7 @@ use Rattle.lu_laws.specs.Order.Blocks.{calls_back, is_called, guards, writes_gua
 use Rattle.lu_laws.specs.Order.Requests.{unanswered}
 use Rattle.lu_laws.proofs.Tests.{clash, either_left, either_right}
 use Rattle.lu_guards.proofs.Guards.{In, Was, Did, HeardNow, TookNow, TookBack, InTurn, IsEvict}
-use Rattle.lu_guards.proofs.StoryGuards.{IsServing, BlockOk, BackOk, LeftOk}
+use Rattle.lu_guards.proofs.StoryGuards.{IsServing, IsRecovering, BlockOk, BackOk, LeftOk, EntryOf}
 use Rattle.lu_guards.proofs.Grown.{Allowed, Grown}
 use Rattle.lu_guards.proofs.Lists.{self, in_left, in_right, in_filter, in_filtered}
 use Rattle.lu_guards.proofs.Only.{sent_was}
@@ -62,13 +62,15 @@ use Rattle.lu_lawful.proofs.Turns.{same_turn_self, same_life_self}
 use Rattle.lu_lawful.proofs.Story.{about_it, was_story}
 use Rattle.lu_lawful.proofs.Lines.{Keeps, holds_before, Nothing}
 use Rattle.lu_lawful.proofs.Printed.{flip, present_is}
-use Rattle.lu_lawful.proofs.Taking.{boot_of}
-use Rattle.lu_lawful.proofs.Contents.{contents_are}
+use Rattle.lu_lawful.proofs.Taking.{boot_of, closed_now}
+use Rattle.lu_lawful.proofs.Contents.{contents_alike}
 use Rattle.lu_lawful.proofs.Once.{all_asked}
 use Rattle.lu_lawful.proofs.Given.{owed, Showed}
-use Rattle.lu_lawful.proofs.Granted.{in_with_locks, granted_showed, all_granted, JustGave}
+use Rattle.lu_lawful.proofs.Granted.{in_with_locks, granted_showed, all_granted, granted_shown, JustGave}
 use Rattle.lu_lawful.proofs.Evictions.{in_whole}
 use Rattle.lu_lawful.proofs.Holding.{heard_now, unique}
+use Rattle.lu_lawful.proofs.CloseLines.{nothing_left}
+use Rattle.lu_lawful.proofs.CloseSlots.{NoneLeft}
 use Rattle.lu_lawful.proofs.OrderlyQuiet.{Says}
 use Rattle.lu_lawful.proofs.OrderlySaid.{takes_it}
 use Rattle.lu_lawful.proofs.OrderlyAsked.{all_unanswered}
@@ -179,11 +181,15 @@ module _ (head : Head) (past : List Line) (stamp : Stamp) (t : ℕ) (lock : Lock
   abbrev here : At
   here = turn stamp (Target t)
 
+  -- nothing of a close is left to show
+  release_none : NoneLeft head 0 past
+  release_none = nothing_left head (only 0 past) here (Release lock) (a.shows 0 (about_it t a.ok.0)) (λ s. s)
+
   release_shown : In lock (shown_of (only 0 past))
   release_shown =
       let ok = a.of 0 (about_it t a.ok.0) in
       ⊎_elim
-      (λ (b : BackOk head.osts (only 0 past) t lock). ((holds head past g).at 0).locks.shown ok.0 ok.0.up lock (in_lock_of lock.ask.who lock.cookie lock _ b.found))
+      (λ (b : BackOk head.osts (only 0 past) t lock). granted_shown head past lock g ok.0 release_none (in_lock_of lock.ask.who lock.cookie lock _ b.found))
       (λ (b : LeftOk head.osts (only 0 past) lock). b.shown)
       ok.1
 
@@ -240,6 +246,45 @@ CalledOnce past k = (k ≤ cookie_at 0 past) × ((l : Lock) → In l (granted_at
 
 abbrev pub AllCalled : List Line → Type 0
 AllCalled past = (k : ℕ) → is_called 0 k (printed past) ≡ true → CalledOnce past k
+
+-- while the target recovers none was called back since its boot
+none_called : (head : Head) (past : List Line) → Grown head past → IsRecovering head.osts (only 0 past) → (k : ℕ) → is_called 0 k (printed past) ≡ false
+none_called head [] g r k = refl
+none_called head (l ∷ past) g r k = by (concerns 0 l.at.node l.entry) refl r (λ q. none_called head past g.1 q k)
+  where
+    P : List Line
+    P = only 0 past
+
+    None_ : List Line → Type 0
+    None_ p = is_called 0 k (printed p) ≡ false
+
+    serving : IsServing head.osts P → IsRecovering head.osts P → ⊥
+    serving s q = true≢false (sym (eq-eqb (closed_of P) (server_of head.osts P).boot s.closed) ∙ q)
+
+    booted : (v : Bool) → v ≡ true → unwrap_or (or_else (if v then Some false else None) (newest (calls_back 0 k) (printed past))) false ≡ false
+    booted true e = refl
+    booted false e = absurd (cc)
+
+    on : (node : Node) (e : Entry) → EntryOf head P (turn l.at.stamp node) node e → concerns 0 node e ≡ true → IsRecovering head.osts (line (turn l.at.stamp node) e ∷ P) → (IsRecovering head.osts P → None_ past) → None_ (line (turn l.at.stamp node) e ∷ past)
+    on (Target u) (Block called) ok c r h = absurd (serving ok.serves r)
+    on (Target u) (Boot b disk) ok c r h = booted (nat_eq u 0) (flip u 0 ∙ c)
+    on (Target u) (Close o) ok c r h = absurd (closed_now head P l.at.stamp u o ok r)
+    on (Client d) (Block called) ok c r h = absurd ok
+    on (Client d) (Boot b disk) ok c r h = absurd ok
+    on (Client d) e ok c r h = h r
+    on (Target u) e ok c r h = h r
+
+    off : (node : Node) (e : Entry) → concerns 0 node e ≡ false → None_ past → None_ (line (turn l.at.stamp node) e ∷ past)
+    off (Target u) (Block called) c h = subst (λ (v : Bool). unwrap_or (or_else (if v && nat_eq called.cookie.0 k then Some true else None) (newest (calls_back 0 k) (printed past))) false ≡ false) (sym (flip u 0 ∙ c)) h
+    off (Target u) (Boot b disk) c h = subst (λ (v : Bool). unwrap_or (or_else (if v then Some false else None) (newest (calls_back 0 k) (printed past))) false ≡ false) (sym (flip u 0 ∙ c)) h
+    off (Client d) (Block called) c h = h
+    off (Client d) (Boot b disk) c h = h
+    off (Client d) e c h = h
+    off (Target u) e c h = h
+
+    by : (b : Bool) → concerns 0 l.at.node l.entry ≡ b → IsRecovering head.osts (if b then l ∷ P else P) → (IsRecovering head.osts P → None_ past) → None_ (l ∷ past)
+    by true c r h = on l.at.node l.entry (g.0.of 0 c) c r h
+    by false c r h = off l.at.node l.entry c (h r)
 
 greatest_above : (n : ℕ) (ls : List Lock) → n ≤ greatest_cookie n ls
 greatest_above n [] = omega arith
@@ -355,6 +400,12 @@ keeps_called head past stamp (Target t) (Boot b disk) a g h k e = booted (nat_eq
     booted true w q x = absurd (cc)
     booted false true q x = absurd (cc)
     booted false false q x = h k x
+keeps_called head past stamp (Client c) (Close o) a g h k e = absurd a.ok
+keeps_called head past stamp (Target t) (Close o) a g h k e = by (nat_eq 0 t) refl
+  where
+    by : (v : Bool) → nat_eq 0 t ≡ v → (k ≤ cookie_at 0 past) × ((l : Lock) → In l (if v then o.locks else granted_at 0 past) → l.cookie.0 ≡ k → Among l (if v then [] else called_at 0 past))
+    by true q = absurd (true≢false (sym e ∙ none_called head past g (a.of 0 q).recovers k))
+    by false q = h k e
 keeps_called head past stamp node _ a g h k e = h k e
 
 pub all_called : (head : Head) (past : List Line) → Grown head past → AllCalled past
@@ -390,8 +441,8 @@ block_caused head past stamp t called a g =
     r : RequestOf
     r = ok.request
 
-    tree : contents head.osts (printed past) ≡ v.tree
-    tree = contents_are head past g (all_asked head past g) ∙ ap (λ (s : Server). s.tree) (server_is head.osts 0 past)
+    none : NoneLeft head 0 past
+    none = nothing_left head (only 0 past) (turn stamp (Target t)) (Block called) (a.shows 0 (about_it t a.ok)) (λ s. s)
 
     number : ℕ
     number = suc (greatest 0 (printed past))
@@ -401,8 +452,11 @@ block_caused head past stamp t called a g =
 
     guarded : writes_guarded head.osts (contents head.osts (printed past)) number lock r ≡ true
     guarded =
-        subst (λ (k : Tree). writes_guarded head.osts k number lock r ≡ true) (sym tree)
-        (subst (λ (ps : List Part). list_any (guards lock) ps ≡ true) parts ok.for_it)
+        let o : Operation = record { number = record { 0 = number }; who = r.who; op = r.op } in
+        let same : writes head.osts (contents head.osts (printed past)) o ≡ writes head.osts v.tree o =
+        (contents_alike head past g (all_asked head past g) o).writes ∙ ap (λ (s : Server). writes head.osts s.tree o) (server_is head.osts 0 past)
+        in
+        subst (λ (ps : List Part). list_any (guards lock) ps ≡ true) (parts ∙ sym same) ok.for_it
 
     waited : is_waited_for head.osts (printed past) 0 lock ≡ true
     waited =
@@ -410,7 +464,7 @@ block_caused head past stamp t called a g =
         (all_unanswered head past g ok.serves r (subst (λ (v : List RequestOf). In r v) (sym (waiting_is head.osts 0 past)) ok.waits)) guarded
 
     cause : has_cause head.osts (printed past) 0 (find (has_cookie lock.cookie.0) (granted 0 (printed past))) ≡ true
-    cause = subst (λ (o : Option Lock). has_cause head.osts (printed past) 0 o ≡ true) (sym (granted_found head past lock g (λ d did. owed past (turn stamp (Target t)) d (Block called) did a.owes) (((holds head past g).at 0).locks.shown ok.serves ok.serves.up lock ok.granted))) waited
+    cause = subst (λ (o : Option Lock). has_cause head.osts (printed past) 0 o ≡ true) (sym (granted_found head past lock g (λ d did. owed past (turn stamp (Target t)) d (Block called) did a.owes) (granted_shown head past lock g ok.serves none ok.granted))) waited
 
 blocks_at : (head : Head) (past : List Line) (l : Line) (later : List PrintedLine) → Allowed head past l.at l.entry → Grown head past → Keeps (Blocks head.osts) past l later
 blocks_at head past l later a g = by l.at.node l.entry a

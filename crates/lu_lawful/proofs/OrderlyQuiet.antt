@@ -1,4 +1,4 @@
--- What every run keeps of crashes and boots, that what only a serving target does stands where it serves, and of lines that no covered run
+-- What every run keeps of crashes and boots, that what only a serving target does stands where it serves, and of waits, which no covered run
 -- has.
 use Rattle.std.proofs.Common.{◌≡◌, ℕ, ◌+◌, Bool, true, false, List, [], ◌∷◌, Option, Some, None, refl, sym, ap, ◌∙◌, arith}
 use Rattle.std.specs.Prelude.{nat_eq, if◌then◌else◌, unwrap_or}
@@ -8,8 +8,8 @@ use Rattle.lu_base.specs.declared.ids.At.{At}
 use Rattle.lu_base.specs.declared.ids.Node.{Node}
 use Rattle.lu_base.specs.declared.ids.Node.TheVariants.{Client, Target}
 use Rattle.lu_trace.specs.declared.entries.Line.{Line as PrintedLine}
-use Rattle.lu_words.specs.Carried.{Deed}
-use Rattle.lu_words.specs.Words.{Entry, Act, Txn as Made, Grant, Wait, Block, Release, Crash, Boot, Close, Kept as Keeps_, Restore, Line, line}
+use Rattle.lu_words.specs.Carried.{Deed, Outcome}
+use Rattle.lu_words.specs.Words.{Entry, Act, Txn as Made, Grant, Wait, Block, Release, Crash, Boot, Close, Line, line}
 use Rattle.lu_words.specs.Concerns.{concerns, only}
 use Rattle.lu_words.specs.Sent.{count_sent}
 use Rattle.lu_words.specs.Printed.{printed_entry, printed}
@@ -20,12 +20,9 @@ use Rattle.lu_laws.specs.Words.Pasts.{Past, or_else, newest}
 use Rattle.lu_laws.specs.Order.Phases.{Phase, IsDown, Recovers, Serves, turns_to, phase, is_serving, is_down, serves}
 use Rattle.lu_laws.specs.Order.Serving.{Serving}
 use Rattle.lu_laws.specs.Order.Boots.{Boots}
-use Rattle.lu_laws.specs.Order.Closes.{Closes}
-use Rattle.lu_laws.specs.Order.Kept.{Kept}
-use Rattle.lu_laws.specs.Order.Restored.{Restored}
 use Rattle.lu_laws.specs.Order.Waits.{Waits}
 use Rattle.lu_guards.proofs.Guards.{Did, EntryOk}
-use Rattle.lu_guards.proofs.StoryGuards.{IsServing, EntryOf}
+use Rattle.lu_guards.proofs.StoryGuards.{IsServing, CloseOk, EntryOf}
 use Rattle.lu_guards.proofs.Grown.{Allowed, Grown, GrownOf}
 use Rattle.lu_guards.proofs.Lists.{self}
 use Rattle.lu_guards.proofs.Only.{grown_of}
@@ -74,16 +71,21 @@ phase_is head t (l ∷ past) g = by l.at.node l.entry g.0.ok g.0.of (phase_is he
     recovers : (b : ℕ) → b ≡ (server_of head.osts P).boot + 1 → stands_as true (nat_eq (closed_of P) b) ≡ Recovers
     recovers b e =
         let p = ((holds head past g.1).at t).phase in
-        let closed = p.closed in
-        let low = p.low in
-        let other : nat_eq (closed_of P) b ≡ false = grind (arith, nat_tests, closed, low, e) in
+        let under = p.under in
+        let other : nat_eq (closed_of P) b ≡ false = grind (arith, nat_tests, under, e) in
         ap (stands_as true) other
+
+    -- a close serves the present boot
+    closes : (u : ℕ) (o : Outcome) → CloseOk head P (turn l.at.stamp (Target u)) o → stands_as (up_of P) (nat_eq o.boot (server_of head.osts P).boot) ≡ Serves
+    closes u o ok =
+        ap (λ (b : Bool). stands_as b (nat_eq o.boot (server_of head.osts P).boot)) ok.up
+        ∙ ap (stands_as true) (eq-eqb o.boot (server_of head.osts P).boot (ap (λ (v : Outcome). v.boot) ok.is))
 
     by : (node : Node) (e : Entry) → EntryOk past (turn l.at.stamp node) node e → ((u : ℕ) → concerns u node e ≡ true → EntryOf head (only u past) (turn l.at.stamp node) node e) → phase t (printed past) ≡ now P
         → phase t (printed (line (turn l.at.stamp node) e ∷ past)) ≡ now (only t (line (turn l.at.stamp node) e ∷ past))
     by (Target u) Crash ok of h = own u Crash IsDown (nat_eq u t) (nat_eq t u) (newest (turns_to t) (printed past)) (flip u t) (λ b. refl) h
     by (Target u) (Boot b disk) ok of h = own u (Boot b disk) Recovers (nat_eq u t) (nat_eq t u) (newest (turns_to t) (printed past)) (flip u t) (λ q. recovers b (of t q).next) h
-    by (Target u) (Close outcome) ok of h = absurd ok
+    by (Target u) (Close o) ok of h = own u (Close o) Serves (nat_eq u t) (nat_eq t u) (newest (turns_to t) (printed past)) (flip u t) (λ q. closes u o (of t q)) h
     by (Client c) Crash ok of h = absurd ok
     by (Client c) (Boot b disk) ok of h = absurd ok
     by (Client c) (Close outcome) ok of h = absurd ok
@@ -156,21 +158,6 @@ boots_at head past l later a g = by l.at.node l.entry a
 
 -- ---- lines that don't come
 
-closes_at : (past : List Line) (at : At) (later : List PrintedLine) (node : Node) (e : Entry) → EntryOk past (turn at.stamp node) node e → Says Closes past (turn at.stamp node) later e
-closes_at past at later (Client c) (Close outcome) ok = absurd ok
-closes_at past at later (Target t) (Close outcome) ok = absurd ok
-closes_at past at later _ _ ok = tt
-
-kept_at : (past : List Line) (at : At) (later : List PrintedLine) (node : Node) (e : Entry) → EntryOk past (turn at.stamp node) node e → Says Kept past (turn at.stamp node) later e
-kept_at past at later (Client c) (Keeps_ number) ok = absurd ok
-kept_at past at later (Target t) (Keeps_ number) ok = absurd ok
-kept_at past at later _ _ ok = tt
-
-restored_at : (past : List Line) (at : At) (later : List PrintedLine) (node : Node) (e : Entry) → EntryOk past (turn at.stamp node) node e → Says Restored past (turn at.stamp node) later e
-restored_at past at later (Client c) (Restore lock) ok = absurd ok
-restored_at past at later (Target t) (Restore lock) ok = absurd ok
-restored_at past at later _ _ ok = tt
-
 waits_at : (past : List Line) (at : At) (later : List PrintedLine) (node : Node) (e : Entry) → EntryOk past (turn at.stamp node) node e → Says Waits past (turn at.stamp node) later e
 waits_at past at later (Client c) (Wait lock asked) ok = absurd ok
 waits_at past at later (Target t) (Wait lock asked) ok = absurd ok
@@ -184,15 +171,6 @@ module _ (head : Head) (law : Past → PrintedLine → List PrintedLine → Type
 module _ (head : Head) (past : List Line) (g : Grown head past) where
   pub boots : Holds Boots (printed past)
   boots = holds_before head Boots Nothing (λ l past k. k) (λ past l later a g k. boots_at head past l later a g) past [] g tt
-
-  pub closes : Holds Closes (printed past)
-  closes = kept_by_each head Closes closes_at past g
-
-  pub kept : Holds Kept (printed past)
-  kept = kept_by_each head Kept kept_at past g
-
-  pub restored : Holds Restored (printed past)
-  restored = kept_by_each head Restored restored_at past g
 
   pub waits : Holds Waits (printed past)
   waits = kept_by_each head Waits waits_at past g

@@ -13,24 +13,27 @@ use Rattle.lu_base.specs.declared.ids.Stamp.{Stamp}
 use Rattle.lu_base.specs.declared.ids.Txn.{Txn as TxnOf}
 use Rattle.lu_base.specs.declared.ids.Who.{Who}
 use Rattle.lu_base.specs.declared.ids.Xid.{Xid}
+use Rattle.lu_msg.specs.declared.commits.Batch.{Batch}
 use Rattle.lu_msg.specs.declared.messages.Message.{Message}
 use Rattle.lu_msg.specs.declared.messages.Message.TheVariants as message
 use Rattle.lu_msg.specs.declared.messages.Reply.{Reply as ReplyTo}
 use Rattle.lu_msg.specs.declared.messages.Request.{Request as RequestOf}
 use Rattle.lu_trace.specs.declared.entries.Line.{Line as PrintedLine}
-use Rattle.lu_machine.specs.Tree.{Tree, same_life}
+use Rattle.lu_machine.specs.Tree.{same_life}
 use Rattle.lu_machine.specs.Footprint.{Operation, answer, changes}
 use Rattle.lu_words.specs.Carried.{Deed, Flight}
-use Rattle.lu_words.specs.Words.{Entry, Send, Take, Heard as Hears_, Act, Txn as Made, Line, line}
+use Rattle.lu_words.specs.Words.{Entry, Send, Take, Heard as Hears_, Act, Txn as Made, Commit, Line, line}
 use Rattle.lu_words.specs.Concerns.{only}
 use Rattle.lu_words.specs.Printed.{printed}
 use Rattle.lu_covered.specs.TargetParts.{operation}
-use Rattle.lu_covered.specs.TargetStates.{server_at}
+use Rattle.lu_covered.specs.TargetStates.{server_at, server_of}
+use Rattle.lu_covered.specs.TargetCloses.{disk_of, closing_of}
 use Rattle.lu_covered.specs.ClientStates.{flights_of, is_own}
 use Rattle.lu_covered.specs.Heads.{Head}
 use Rattle.lu_laws.specs.Holds.{Holds}
 use Rattle.lu_laws.specs.Words.Pasts.{same_turn, or_else}
 use Rattle.lu_laws.specs.Words.Sends.{Sending, sending, with_taken, taken, as_reply, first_fit}
+use Rattle.lu_laws.specs.Words.Boots.{committed}
 use Rattle.lu_laws.specs.Words.Lives.{who_is, is_by}
 use Rattle.lu_laws.specs.Words.Requests.{asked, is_of, has_heard, has_number, without_number, in_flight}
 use Rattle.lu_laws.specs.Order.Messages.{MessageAt, Messages}
@@ -39,7 +42,7 @@ use Rattle.lu_laws.specs.Order.Answers.{none, AnswerOf, AnswerBy, Answers}
 use Rattle.lu_guards.proofs.Guards.{In, Was, TookNow}
 use Rattle.lu_guards.proofs.Grown.{Allowed, Grown}
 use Rattle.lu_guards.proofs.Lists.{self}
-use Rattle.lu_guards.proofs.Parts.{committed_is as server_committed, life_is_of}
+use Rattle.lu_guards.proofs.Parts.{life_is_of}
 use Rattle.lu_facts.proofs.Groups.{turn, Hears}
 use Rattle.lu_facts.proofs.All.{holds}
 use Rattle.lu_lawful.proofs.Turns.{same_turn_self, same_life_self}
@@ -49,7 +52,8 @@ use Rattle.lu_lawful.proofs.ActsLaw.{either}
 use Rattle.lu_laws.proofs.Tests.{settled, either_left, either_right}
 use Rattle.lu_lawful.proofs.Lines.{Keeps, holds_before, Nothing}
 use Rattle.lu_lawful.proofs.Facts.{AskedAt, AllAsked}
-use Rattle.lu_lawful.proofs.Contents.{commits_are, contents_are, asked_before}
+use Rattle.lu_lawful.proofs.Commits.{told_committed}
+use Rattle.lu_lawful.proofs.Contents.{contents_alike, asked_before}
 use Rattle.lu_lawful.proofs.Deeds.{ActIs, TxnIs, act_is, txn_is}
 use Rattle.lu_lawful.proofs.Printed.{present_is, own_by, own_story, sending_is}
 use Rattle.lu_lawful.proofs.Taking.{boot_of}
@@ -58,12 +62,24 @@ use Rattle.lu_facts.proofs.Lines.{acted_whole, hears_only}
 
 -- ---- what messages carry
 
+abbrev IsSend : Entry → Type 0
+IsSend (Send to m) = Unit {0}
+IsSend _ = ⊥
+
+-- where a target sends something, its last commit line says what it has committed
+level_at : (head : Head) (past : List Line) (stamp : Stamp) (t : ℕ) (e : Entry) → Allowed head past (turn stamp (Target t)) e → IsSend e → Grown head past → committed t (printed past) ≡ (server_of head.osts (only t past)).committed.0
+level_at head past stamp t e a s g = told_committed head t past g ∙ ⊎_elim
+    (λ (q : (disk_of head.osts head.clients (only t past)).committed ≡ (server_of head.osts (only t past)).committed.0). q)
+    (λ (c : (to : ℕ) × (batch : Batch) × (more : List Entry) × (closing_of head.clients (only t past) ≡ Commit to batch ∷ more)).
+    absurd (subst IsSend (a.shows t (self t) (Commit c.0 c.1) c.2 c.3).0 s))
+    ((holds head past g).at t).comes.level
+
 reply_carries : (head : Head) (past : List Line) (stamp : Stamp) (t c : ℕ) (r : ReplyTo) → Allowed head past (turn stamp (Target t)) (Send (Client c) (message.Reply r)) → Grown head past → MessageAt (printed past) t (message.Reply r)
 reply_carries head past stamp t c r a g =
     let ok = a.of t (self t) in
     record {
       present = ap (λ (v : ℕ). Some v) (ap (λ (v : ReplyTo). v.boot) ok.is ∙ sym (boot_of head t past g));
-      number = ap (λ (v : ReplyTo). v.committed.0) ok.is ∙ ap (λ (v : TxnOf). v.0) (sym (server_committed head.osts t past)) ∙ sym (commits_are head t past g);
+      number = ap (λ (v : ReplyTo). v.committed.0) ok.is ∙ sym (level_at head past stamp t (Send (Client c) (message.Reply r)) a tt g);
     }
 
 block_carries : (head : Head) (past : List Line) (stamp : Stamp) (t c : ℕ) (who : Who) (boot : ℕ) (cookie : Cookie) → Allowed head past (turn stamp (Target t)) (Send (Client c) (message.Block who boot cookie)) → Grown head past
@@ -75,7 +91,7 @@ notice_carries : (head : Head) (past : List Line) (stamp : Stamp) (t c : ℕ) (w
 notice_carries head past stamp t c who boot a g = record { present = ap (λ (v : ℕ). Some v) ((a.of t (self t)).of_boot ∙ sym (boot_of head t past g)); number = tt }
 
 up_carries : (head : Head) (past : List Line) (stamp : Stamp) (t c boot : ℕ) → Allowed head past (turn stamp (Target t)) (Send (Client c) (message.Up boot)) → Grown head past → MessageAt (printed past) t (message.Up boot)
-up_carries head past stamp t c boot a g = record { present = ap (λ (v : ℕ). Some v) (a.of t (self t) ∙ sym (boot_of head t past g)); number = tt }
+up_carries head past stamp t c boot a g = record { present = ap (λ (v : ℕ). Some v) ((a.of t (self t)).of_boot ∙ sym (boot_of head t past g)); number = tt }
 
 ready_carries : (head : Head) (past : List Line) (stamp : Stamp) (t c : ℕ) (who : Who) (boot : ℕ) (number : TxnOf) → Allowed head past (turn stamp (Target t)) (Send (Client c) (message.Ready who boot number)) → Grown head past
     → MessageAt (printed past) t (message.Ready who boot number)
@@ -83,7 +99,7 @@ ready_carries head past stamp t c who boot number a g =
     let ok = a.of t (self t) in
     record {
       present = ap (λ (v : ℕ). Some v) (ok.of_boot ∙ sym (boot_of head t past g));
-      number = ap (λ (v : TxnOf). v.0) (ok.of_committed ∙ sym (server_committed head.osts t past)) ∙ sym (commits_are head t past g);
+      number = ap (λ (v : TxnOf). v.0) ok.of_committed ∙ sym (level_at head past stamp t (Send (Client c) (message.Ready who boot number)) a tt g);
     }
 
 messages_at : (head : Head) (past : List Line) (l : Line) (later : List PrintedLine) → Allowed head past l.at l.entry → Grown head past → Keeps Messages past l later
@@ -230,9 +246,9 @@ reply_heard head past stamp c t f r a g =
     let took = takes_it head past at (Target t) (message.Reply r) g a.ok.1 in
     let fits : as_reply t r.who r.xid.0 (Target t) (message.Reply r) ≡ Some r = by (same_life r.who r.who) (same_life_self r.who) in
     let m = h.done.sent (Target ok.from) (Client c) (message.Reply r) ok.was in
-    let sent = acted_sent head past m.0 g (acted_whole 0 past m.0 m.1) in
-    let who : sent.0.who ≡ r.who = sent.2 ∙ ap (λ (v : ReplyTo). v.who) (sym m.2) in
-    let x : sent.0.xid.0 ≡ r.xid.0 = ap (λ (v : Xid). v.0) sent.3 ∙ ap (λ (v : ReplyTo). v.xid.0) (sym m.2) in
+    let sent = acted_sent head past m.deed g (acted_whole 0 past m.deed m.acted) in
+    let who : sent.0.who ≡ r.who = sent.2 ∙ ap (λ (v : ReplyTo). v.who) (sym m.is) in
+    let x : sent.0.xid.0 ≡ r.xid.0 = ap (λ (v : Xid). v.0) sent.3 ∙ ap (λ (v : ReplyTo). v.xid.0) (sym m.is) in
     let flown = subst (λ (v : ℕ). FlownOr past r.who v) x (sent_flies past r.who sent.0 sent.1.0 who sent.1.1) in
     let unheard : has_heard 0 r.who r.xid.0 (printed past) ≡ true → ⊥ = λ e. (h.numbers.over r.who r.xid.0 (life_heard head past g r.who r.xid.0 e)).1 f (subst (λ (v : Who). In f (flights_of v (only 0 past))) (sym ok.who) ok.flying) ok.xid in
     subst (λ (v : Who). HeardAt (printed past) at v t r.xid.0) mine
@@ -268,22 +284,19 @@ told_of d number = record { number = number; who = d.reply.who; op = d.op }
 
 act_answers : (head : Head) (past : List Line) (at : At) (d : Deed) → Grown head past → AllAsked past → AskedAt past d → ActIs head.osts (server_at head.osts 0 past) at d → AnswerOf head.osts (printed past) none d.reply.who d.reply.answer false (asked (printed past) 0 d.reply.who d.reply.xid.0)
 act_answers head past at d g a asks is =
-    let tree = contents_are head past g a in
+    let alike = contents_alike head past g a (told_of d none) in
     subst (AnswerOf head.osts (printed past) none d.reply.who d.reply.answer false) (sym asks)
     (record {
-      same = is.answered ∙ ap (λ (n : TxnOf). answer head.osts (server_at head.osts 0 past).tree (told_of d n)) is.txn ∙ ap (λ (v : Tree). answer head.osts v (told_of d none)) (sym tree);
-      kind = ap (λ (v : Tree). changes head.osts v (told_of d none)) tree ∙ ap (λ (n : TxnOf). changes head.osts (server_at head.osts 0 past).tree (told_of d n)) (sym is.txn) ∙ is.still;
+      same = is.answered ∙ ap (λ (n : TxnOf). answer head.osts (server_at head.osts 0 past).tree (told_of d n)) is.txn ∙ sym alike.answer;
+      kind = alike.changes ∙ ap (λ (n : TxnOf). changes head.osts (server_at head.osts 0 past).tree (told_of d n)) (sym is.txn) ∙ is.still;
     })
 
 txn_answers : (head : Head) (past : List Line) (at : At) (d : Deed) → Grown head past → AllAsked past → AskedAt past d → TxnIs head.osts (server_at head.osts 0 past) at d
     → AnswerOf head.osts (printed past) d.reply.txn d.reply.who d.reply.answer true (asked (printed past) 0 d.reply.who d.reply.xid.0)
 txn_answers head past at d g a asks is =
-    let tree = contents_are head past g a in
+    let alike = contents_alike head past g a (operation d) in
     subst (AnswerOf head.osts (printed past) d.reply.txn d.reply.who d.reply.answer true) (sym asks)
-    (record {
-      same = is.answered ∙ ap (λ (v : Tree). answer head.osts v (operation d)) (sym tree);
-      kind = ap (λ (v : Tree). changes head.osts v (operation d)) tree ∙ is.moves;
-    })
+    (record { same = is.answered ∙ sym alike.answer; kind = alike.changes ∙ is.moves })
 
 answers_at : (head : Head) (past : List Line) (l : Line) (later : List PrintedLine) → Allowed head past l.at l.entry → Grown head past → AllAsked (l ∷ past) → Keeps (Answers head.osts) past l later
 answers_at head past l later a g asks = by l.at.node l.entry a asks

@@ -3,10 +3,13 @@ use Rattle.lu_table.specs.Runs.{lines_of}
 use Rattle.lu_laws.specs.Orderly.{Orderly}
 use Rattle.lu_lawful.specs.Everywhere.{OfEveryRun}
 use Rattle.lu_guards.proofs.Turns.{covered_head}
-use Rattle.lu_guards.proofs.Obey.{grown}
+use Rattle.lu_guards.proofs.Obey.{grown, noted}
 use Rattle.lu_lawful.proofs.Once.{all_asked}
 use Rattle.lu_lawful.proofs.OrderlyQuiet as quiet
+use Rattle.lu_lawful.proofs.OrderlyHanded as handed
+use Rattle.lu_lawful.proofs.OrderlyCloses as closes
 use Rattle.lu_lawful.proofs.OrderlyLives as lives
+use Rattle.lu_lawful.proofs.OrderlyJoined as joined
 use Rattle.lu_lawful.proofs.OrderlySaid as said
 use Rattle.lu_lawful.proofs.OrderlyAsked as asked
 use Rattle.lu_lawful.proofs.OrderlyAgain as again
@@ -27,10 +30,10 @@ orderly all turns is run covered =
       heard = said.heard head past g;
       repeated = again.repeated head past g;
       answers = said.answers head past g (all_asked head past g);
-      closes = quiet.closes head past g;
-      kept = quiet.kept head past g;
-      restored = quiet.restored head past g;
-      joined = lives.joined head past g;
+      closes = closes.closes head past g (noted all turns run covered);
+      kept = handed.kept head past g;
+      restored = handed.restored_locks head past g;
+      joined = joined.joined head past g;
       waits = quiet.waits head past g;
       releases = locks.releases head past g;
       blocks = locks.blocks head past g;

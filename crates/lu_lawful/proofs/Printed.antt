@@ -9,7 +9,6 @@ use Rattle.lu_base.specs.declared.ids.Node.{Node}
 use Rattle.lu_base.specs.declared.ids.Stamp.{Stamp}
 use Rattle.lu_base.specs.declared.ids.Node.TheVariants.{Client, Target}
 use Rattle.lu_base.specs.declared.ids.Who.{Who}
-use Rattle.lu_base.specs.declared.locks.Cause.{Cause}
 use Rattle.lu_msg.specs.declared.messages.Message.{Message}
 use Rattle.lu_msg.specs.declared.messages.Message.TheVariants as message
 use Rattle.lu_msg.specs.declared.messages.Request.{Request as RequestOf}
@@ -24,7 +23,6 @@ use Rattle.lu_words.specs.Printed.{printed}
 use Rattle.lu_target_rows.specs.Lives.{is_life, with_life}
 use Rattle.lu_covered.specs.Calls.{asks, asks_for, call_at, is_dead, life_at}
 use Rattle.lu_covered.specs.ClientStates.{life_of, is_own}
-use Rattle.lu_covered.specs.TargetStates.{evicted_of}
 use Rattle.lu_covered.specs.Heads.{Head}
 use Rattle.lu_laws.specs.Words.Pasts.{same_turn, has_died}
 use Rattle.lu_laws.specs.Words.Pasts as pasts
@@ -228,36 +226,6 @@ flip_life a b = rw (flip a.client b.client, flip a.life b.life) refl
 
 pub is_life_with : (w o : Who) (lives : List Who) → is_life w (with_life o lives) ≡ (same_life w o || is_life w lives)
 is_life_with w o lives = any_with (same_life w) o lives
-
-pub evicted_is : (t : ℕ) (past : List Line) (w : Who) → is_evicted t (printed past) w ≡ is_life w (evicted_of (only t past))
-evicted_is t [] w = refl
-evicted_is t (l ∷ past) w = by l.at.node l.entry (evicted_is t past w)
-  where
-    P : List Line
-    P = only t past
-
-    quiet : (node : Node) (e : Entry) (b : Bool) → evicted_of (line (turn l.at.stamp node) e ∷ P) ≡ evicted_of P → is_evicted t (printed past) w ≡ is_life w (evicted_of P)
-        → is_evicted t (printed past) w ≡ is_life w (evicted_of (if b then line (turn l.at.stamp node) e ∷ P else P))
-    quiet node e true q h = h ∙ sym (ap (λ (v : List Who). is_life w v) q)
-    quiet node e false q h = h
-
-    own : (o : Who) (a b : Bool) (lives : Bool) → a ≡ b → lives ≡ is_life w (evicted_of P)
-        → ((a && same_life o w) || lives) ≡ is_life w (if b then with_life o (evicted_of P) else evicted_of P)
-    own o true true lives q h = ap (λ (x : Bool). x || lives) (flip_life o w) ∙ ap (λ (x : Bool). same_life w o || x) h ∙ sym (is_life_with w o (evicted_of P))
-    own o false false lives q h = h
-    own o true false lives q h = absurd (cc)
-    own o false true lives q h = absurd (cc)
-
-    moved : (u : ℕ) (o : Who) (k : Cause) (b : Bool) → evicted_of (if b then line (turn l.at.stamp (Target u)) (Evict o k) ∷ P else P) ≡ (if b then with_life o (evicted_of P) else evicted_of P)
-    moved u o k true = refl
-    moved u o k false = refl
-
-    by : (node : Node) (e : Entry) → is_evicted t (printed past) w ≡ is_life w (evicted_of P)
-        → is_evicted t (printed (line (turn l.at.stamp node) e ∷ past)) w ≡ is_life w (evicted_of (if concerns t node e then line (turn l.at.stamp node) e ∷ P else P))
-    by (Client c) (Evict o k) h = quiet (Client c) (Evict o k) (concerns t (Client c) (Evict o k)) refl h
-    by (Target u) (Evict o k) h = own o (nat_eq u t) (nat_eq t u) (is_evicted t (printed past) w) (flip u t) h ∙ sym (ap (λ (v : List Who). is_life w v) (moved u o k (nat_eq t u)))
-    by (Client c) e h = quiet (Client c) e (concerns t (Client c) e) refl h
-    by (Target u) e h = quiet (Target u) e (concerns t (Target u) e) refl h
 
 -- who is gone was evicted by some target
 pub gone_evicted : (past : List Line) (w : Who) → is_gone (printed past) w ≡ true → (t : ℕ) × (is_evicted t (printed past) w ≡ true)

@@ -1,66 +1,74 @@
 -- The law of recovery: transactions have rising numbers of their boot and the seen numbers, and a reply that is
 -- sent in the turn that it names carries those of its deed. What is committed stands, and a life that comes back has its line.
-use Rattle.std.proofs.Common.{◌≡◌, ℕ, zero, suc, ◌+◌, ◌/◌, Bool, true, false, List, [], ◌∷◌, Option, Some, None, ◌⊎◌, inl, inr, ⊎_elim, refl, sym, subst, ap, ◌∙◌, arith}
+use Rattle.std.proofs.Common.{◌≡◌, ℕ, ◌+◌, ◌/◌, ◌≤◌, Bool, true, false, List, [], ◌∷◌, Option, Some, None, ◌⊎◌, inl, inr, ⊎_elim, refl, sym, subst, ap, ◌∙◌, arith}
 use Rattle.std.specs.Prelude.{nat_eq, not, ◌&&◌, ◌||◌, if◌then◌else◌}
 use Rattle.std.specs.Bool.{then_some}
-use Rattle.std.specs.List.{list_any}
-use Rattle.std.proofs.lemmas.Bool.{and_parts, cond_both, eqb-true}
+use Rattle.std.proofs.lemmas.Bool.{and_parts, cond_both, eqb-true, eq-eqb, true≢false}
 use Rattle.lu_base.specs.declared.ids.At.{At}
 use Rattle.lu_base.specs.declared.ids.Stamp.{Stamp}
 use Rattle.lu_base.specs.declared.ids.Node.{Node}
 use Rattle.lu_base.specs.declared.ids.Node.TheVariants.{Client, Target}
 use Rattle.lu_base.specs.declared.ids.Txn.{Txn}
 use Rattle.lu_base.specs.declared.ids.Who.{Who}
+use Rattle.lu_base.specs.declared.ids.Xid.{Xid}
+use Rattle.lu_msg.specs.declared.commits.Batch.{Batch}
 use Rattle.lu_msg.specs.declared.messages.Message.{Message}
 use Rattle.lu_msg.specs.declared.messages.Message.TheVariants as message
 use Rattle.lu_msg.specs.declared.messages.Reply.{Reply as ReplyTo}
+use Rattle.lu_part.specs.declared.parts.Part.{Part}
 use Rattle.lu_trace.specs.declared.entries.Entry.{Entry as PrintedEntry}
 use Rattle.lu_trace.specs.declared.entries.Entry.TheVariants as entry
 use Rattle.lu_trace.specs.declared.entries.Line.{Line as PrintedLine}
-use Rattle.lu_machine.specs.Tree.{Tree, same_life}
+use Rattle.lu_machine.specs.Tree.{same_life}
 use Rattle.lu_machine.specs.Footprint.{touches}
 use Rattle.lu_words.specs.Carried.{Deed}
-use Rattle.lu_words.specs.Words.{Entry, Send, Take, Act, Txn as Made, Grant, Commit, Back, Close, Kept, Restore, Evict, Joined, Line, line, turn_before}
+use Rattle.lu_words.specs.Words.{Entry, Send, Take, Act, Txn as Made, Grant, Commit, Back, Close, Kept, Restore, Evict, Joined, Fail, Line, line, turn_before}
 use Rattle.lu_words.specs.Concerns.{only}
 use Rattle.lu_words.specs.Sent.{count_sent}
 use Rattle.lu_words.specs.Printed.{printed_entry, printed}
 use Rattle.lu_covered.specs.TargetParts.{operation}
-use Rattle.lu_covered.specs.TargetStates.{boot_at, tree_at, log_at, slot_of, count_at, committed_at, server_at, seen_in}
+use Rattle.lu_covered.specs.TargetStates.{boot_at, tree_at, log_at, count_at, server_at, server_of, closed_of, seen_in}
+use Rattle.lu_covered.specs.TargetCloses.{but_first, closing_of}
 use Rattle.lu_covered.specs.Heads.{Head}
 use Rattle.lu_laws.specs.Words.Pasts.{same_turn, or_else}
 use Rattle.lu_laws.specs.Words.Scopes.{only_here}
 use Rattle.lu_laws.specs.Words.Sends.{Sending, sending, with_taken, taken}
 use Rattle.lu_laws.specs.Words.Requests.{asked}
 use Rattle.lu_laws.specs.Words.Clients.{clients}
-use Rattle.lu_laws.specs.Words.Boots.{is_recovering}
+use Rattle.lu_laws.specs.Words.Boots.{committed, is_recovering}
 use Rattle.lu_laws.specs.Words.Handed.{is_back}
-use Rattle.lu_laws.specs.Words.Lost.{Transaction, transactions, is_lost}
 use Rattle.lu_laws.specs.Words.Seen.{touches_of, seen_by}
 use Rattle.lu_laws.specs.Holds.{HoldsBefore, Holds}
 use Rattle.lu_laws.specs.Laws.Recovery as law
-use Rattle.lu_laws.specs.Laws.Recovery.{request_sees, TransactionAt, answers_size, is_size_for, is_executed, other_than, reply_seen, ReplyAt, BringsBack, TakenAt, CommitAt, stands, RecoveryAt, RecoveryOf, Recovery}
-use Rattle.lu_laws.proofs.Tests.{either_left, either_right}
-use Rattle.lu_guards.proofs.Guards.{In, Later, Steps, Did, Taken, RepliesNow}
-use Rattle.lu_guards.proofs.StoryGuards.{CommitOk, IsServing}
+use Rattle.lu_laws.specs.Laws.Recovery.{request_sees, TransactionAt, answers_size, is_size_for, is_executed, other_than, reply_seen, ReplyAt, BringsBack, TakenAt, CommitAt, RecoveryAt, RecoveryOf, Recovery}
+use Rattle.lu_guards.proofs.Guards.{In, Later, Steps, Did, Taken, RepliesNow, EntryOk}
+use Rattle.lu_guards.proofs.StoryGuards.{CommitOk, IsServing, ReplyOk, AsksAgain, EvictOk, LeavesOk, JoinedOk, ComesOk}
 use Rattle.lu_guards.proofs.Grown.{Noted, Allowed, Grown}
 use Rattle.lu_guards.proofs.Parts as parts
 use Rattle.lu_guards.proofs.Only.{grown_of}
 use Rattle.lu_guards.proofs.Lists.{self, turn_trans, turn_irreflexive, life_is}
-use Rattle.lu_facts.proofs.Groups.{turn, Acted}
+use Rattle.lu_facts.proofs.Groups.{turn, Acted, Counts, Rebuilt, History, HoldsAt}
+use Rattle.lu_facts.proofs.DoneGrows.{did_acted}
 use Rattle.lu_facts.proofs.All.{holds}
-use Rattle.lu_facts.proofs.Phase.{serves_first}
 use Rattle.lu_lawful.proofs.Turns.{later_before, same_turn_is, same_turn_self, same_life_self}
-use Rattle.lu_lawful.proofs.Committed.{is_made, commits, logs, elsewhere}
 use Rattle.lu_lawful.proofs.Evictions.{evict_law}
 use Rattle.lu_lawful.proofs.Printed.{sending_is}
-use Rattle.lu_lawful.proofs.Taking.{boot_of, recovering_is, opens}
-use Rattle.lu_lawful.proofs.Backs.{OneTold, Follows, follows_none, after_line, follows_before, brings_back, back_at}
+use Rattle.lu_lawful.proofs.Taking.{either_way, boot_of, recovering_is, recovers}
+use Rattle.lu_lawful.proofs.Backs.{OneTold, Follows, follows_none, follows_before, brings_back, back_at}
 use Rattle.lu_lawful.proofs.OneWord.{one_told}
-use Rattle.lu_lawful.proofs.Lines.{OfPrinted, Keeps}
-use Rattle.lu_lawful.proofs.Once.{NoneFor, act_now, txn_now}
+use Rattle.lu_lawful.proofs.Lines.{OfPrinted, Keeps, after_line}
+use Rattle.lu_lawful.proofs.Once.{NoneNow, act_now, txn_now}
 use Rattle.lu_lawful.proofs.Facts.{AskedAt, AllAsked}
-use Rattle.lu_lawful.proofs.Contents.{commits_are, committed_is, none_lost, number_is, number_in_boot, below_next, asked_before, contents_are}
+use Rattle.lu_lawful.proofs.Contents.{number_is, number_in_boot, below_next, asked_before, contents_alike}
 use Rattle.lu_lawful.proofs.SeenNumbers.{seen_is}
+use Rattle.lu_lawful.proofs.Commits.{MadeStands, made_stands, told_low, told_level, stands_law}
+use Rattle.lu_lawful.proofs.LostNumbers.{lost_is}
+use Rattle.lu_lawful.proofs.NamedClients.{clients_low}
+use Rattle.lu_lawful.proofs.CloseLines.{IsShow, RestStands, rest_none, rest_before, nothing_left}
+use Rattle.lu_lawful.proofs.CloseShows.{Sound, close_at, kept_law}
+use Rattle.lu_lawful.proofs.CloseLocks.{restored_law}
+use Rattle.lu_lawful.proofs.CloseLeaves.{leaves_law}
+use Rattle.lu_lawful.proofs.Story.{about_it}
 use Rattle.lu_lawful.proofs.Deeds.{TxnIs, act_is, txn_is}
 use Rattle.lu_facts.proofs.Lines.{acted_whole}
 
@@ -143,27 +151,37 @@ executed_now head past at k g e = let s = taken_no_size head past k.who k.xid.0 
 abbrev law_seen : ℕ → List Line → Deed → List ℕ
 law_seen osts past d = seen_by osts 0 (printed past) (touches_of osts 0 (printed past) d.reply.txn d.reply.who (asked (printed past) 0 d.reply.who d.reply.xid.0) d.reply.answer)
 
-law_seen_is : (head : Head) (past : List Line) (d : Deed) → Grown head past → AllAsked past → AskedAt past d → law_seen head.osts past d ≡ seen_in (touches head.osts (tree_at head.osts 0 past) (operation d)) (log_at 0 past)
-law_seen_is head past d g a asks =
+law_seen_is : (head : Head) (past : List Line) (d : Deed) → Grown head past → AllAsked past → AskedAt past d → committed 0 (printed past) ≡ (server_of head.osts (only 0 past)).committed.0
+    → law_seen head.osts past d ≡ seen_in (touches head.osts (tree_at head.osts 0 past) (operation d)) (log_at 0 past)
+law_seen_is head past d g a asks level =
     ap (λ o. seen_by head.osts 0 (printed past) (touches_of head.osts 0 (printed past) d.reply.txn d.reply.who o d.reply.answer)) asks
-    ∙ ap (λ (t : Tree). seen_by head.osts 0 (printed past) (touches head.osts t (operation d))) (contents_are head past g a)
-    ∙ seen_is head past (touches head.osts (tree_at head.osts 0 past) (operation d)) g a
+    ∙ ap (λ (ps : List Part). seen_by head.osts 0 (printed past) ps) (contents_alike head past g a (operation d)).touches
+    ∙ seen_is head past (touches head.osts (tree_at head.osts 0 past) (operation d)) g a level
+
+-- where a line comes that shows nothing of a close
+none_left : (head : Head) (past : List Line) (stamp : Stamp) (t : ℕ) (e : Entry) → Allowed head past (turn stamp (Target t)) e → t ≡ 0 → (IsShow e → ⊥) → closing_of head.clients (only 0 past) ≡ []
+none_left head past stamp t e k first n = nothing_left head (only 0 past) (turn stamp (Target t)) e (λ next more q. k.shows 0 (about_it t first) next more q) n
 
 -- ---- replies
 
--- where no transaction is of the request
-none_seen : (past : List Line) (at : At) (who : Who) (x : ℕ) → NoneFor past who x → law.seen_in (printed past) at who x ≡ None
-none_seen [] at who x n = refl
-none_seen (l ∷ past) at who x n = by l.entry n (none_seen past at who x)
+-- where nothing was done for the request in that turn
+none_seen : (head : Head) (past : List Line) (at : At) (who : Who) (x : ℕ) → Grown head past → NoneNow head past at who x → law.seen_in (printed past) at who x ≡ None
+none_seen head [] at who x g n = refl
+none_seen head (l ∷ past) at who x g n = by l.at.node l.entry g.0 n (none_seen head past at who x g.1)
   where
-    by : (e : Entry) → NoneFor (line l.at e ∷ past) who x → (NoneFor past who x → law.seen_in (printed past) at who x ≡ None) → law.seen_in (printed (line l.at e ∷ past)) at who x ≡ None
-    by (Made d) n h = of (same_life d.reply.who who && nat_eq d.reply.xid.0 x) refl
+    by : (node : Node) (e : Entry) → Allowed head past (turn l.at.stamp node) e → NoneNow head (line (turn l.at.stamp node) e ∷ past) at who x → (NoneNow head past at who x → law.seen_in (printed past) at who x ≡ None)
+        → law.seen_in (printed (line (turn l.at.stamp node) e ∷ past)) at who x ≡ None
+    by node (Made d) k n h = of (same_life d.reply.who who && nat_eq d.reply.xid.0 x) (same_turn (turn l.at.stamp node) at) refl refl
       where
-        of : (own : Bool) → (same_life d.reply.who who && nat_eq d.reply.xid.0 x) ≡ own → or_else (only_here (then_some own d.reply.seen) (same_turn l.at at)) (law.seen_in (printed past) at who x) ≡ None
-        of true t = let p = and_parts (same_life d.reply.who who) (nat_eq d.reply.xid.0 x) t in absurd (n d (inl refl) (life_is d.reply.who who p.0) (eqb-true d.reply.xid.0 x p.1))
-        of false t = h (λ e a. n e (inr a))
-    by (Act d) n h = h (λ e a. n e (inr a))
-    by _ n h = h n
+        of : (own now : Bool) → (same_life d.reply.who who && nat_eq d.reply.xid.0 x) ≡ own → same_turn (turn l.at.stamp node) at ≡ now → or_else (only_here (then_some own d.reply.seen) now) (law.seen_in (printed past) at who x) ≡ None
+        of true true t s =
+            let p = and_parts (same_life d.reply.who who) (nat_eq d.reply.xid.0 x) t in
+            let here : d.reply.at ≡ at = (txn_now head past l.at.stamp node d k g.1).2 ∙ same_turn_is (turn l.at.stamp node) at s in
+            absurd (n d (inl refl) here (life_is d.reply.who who p.0) (eqb-true d.reply.xid.0 x p.1))
+        of true false t s = h (λ e a. n e (inr a))
+        of false now t s = h (λ e a. n e (inr a))
+    by node (Act d) k n h = h (λ e a. n e (inr a))
+    by node e k n h = h n
 
 abbrev reply_numbers : ℕ → List Line → ReplyTo → List ℕ
 reply_numbers osts past k = reply_seen osts 0 (printed past) k (law.seen_in (printed past) k.at k.who k.xid.0)
@@ -173,10 +191,13 @@ act_reply head before stamp (Client c) d g a = absurd g.0.ok
 act_reply head before stamp (Target t) d g a =
     let past = line (turn stamp (Target t)) (Act d) ∷ before in
     let is = act_is head before stamp t d g.0 in
-    let never : law.seen_in (printed before) d.reply.at d.reply.who d.reply.xid.0 ≡ None = none_seen before d.reply.at d.reply.who d.reply.xid.0 (act_now head before stamp (Target t) d g.0 g.1).0.new in
+    let now = act_now head before stamp (Target t) d g.0 g.1 in
+    let never : law.seen_in (printed before) d.reply.at d.reply.who d.reply.xid.0 ≡ None = none_seen head before d.reply.at d.reply.who d.reply.xid.0 g.1 (subst (λ (v : At). NoneNow head before v d.reply.who d.reply.xid.0) (sym now.2) now.0.now) in
     let sees = law_seen head.osts past d in
+    let none = none_left head before stamp t (Act d) g.0 g.0.ok (λ v. v) in
+    let level : committed 0 (printed past) ≡ (server_of head.osts (only 0 past)).committed.0 = told_level head 0 past g (either_way (closing_of head.clients) (line (turn stamp (Target t)) (Act d)) (only 0 before) (nat_eq 0 t) (ap but_first none ∙ sym none) ∙ none) in
     is.saw
-    ∙ sym (law_seen_is head past d g a a.0)
+    ∙ sym (law_seen_is head past d g a a.0 level)
     ∙ sym (ap (λ (n : Txn). other_than n.0 sees) is.txn)
     ∙ sym (ap (λ o. reply_seen head.osts 0 (printed past) d.reply o) never)
 
@@ -204,82 +225,95 @@ did_reply head (l ∷ past) d g a i = by l.at.node l.entry g a i (did_reply head
     by node (Grant lock asks) g a i h = h g.1 a i
     by _ _ g a i h = absurd i
 
--- what was done in an earlier turn isn't of this one
-taken_reply : (head : Head) (past : List Line) (at : At) (who : Who) (tag : ℕ) (kept : ReplyTo) → Grown head past → Steps past at → Taken past → (slot_of who tag (only 0 past)).reply ≡ Some kept → kept.at ≡ at → ⊥
-taken_reply head past at who tag kept g steps t slot now =
-    let took = line t.at (Take t.number t.from t.message) in
-    let g2 : Grown head (took ∷ t.before) = subst (Grown head) t.newest g in
-    let s2 : (t.at ≡ at) ⊎ (turn_before t.at at ≡ true) = subst (λ v. Steps v at) t.newest steps in
-    let k = ((holds head past g).at 0).done.kept who tag kept slot in
-    let acted : Acted t.before k.0 = subst (λ (v : List Line). Acted v k.0) t.newest (acted_whole 0 past k.0 k.1) in
-    let b : turn_before kept.at t.at ≡ true = subst (λ (v : ReplyTo). turn_before v.at t.at ≡ true) k.2 (acted_before head t.before t.at k.0 g2.1 g2.0.ok.later acted) in
-    let c : turn_before at t.at ≡ true = subst (λ (v : At). turn_before v t.at ≡ true) now b in
+-- what was done in an earlier turn isn't of this one; and what a close made anew isn't told again, for its request is of an earlier boot
+taken_reply : (head : Head) (past : List Line) (at : At) (c : ℕ) (k : ReplyTo) → Grown head past → Steps past at → Taken past → ReplyOk head (only 0 past) 0 c k → k.at ≡ at → ⊥
+taken_reply head past at c k g steps t ok now =
     ⊎_elim
-    (λ (e : t.at ≡ at). turn_irreflexive at (subst (λ (v : At). turn_before at v ≡ true) e c))
-    (λ (e : turn_before t.at at ≡ true). turn_irreflexive at (turn_trans at t.at at c e))
-    s2
+    (λ (p : (d : Deed) × Did (only 0 past) d × (d.reply ≡ ok.kept)). earlier p.0 (did_acted (only 0 past) p.0 p.1) p.2)
+    (λ (p : AsksAgain head (only 0 past) 0 ok.who ok.tag). ⊎_elim
+    (λ (q : (d : Deed) × Acted (only 0 past) d × (d.reply ≡ ok.kept) × (d.tag ≡ ok.tag) × Counts head.osts (only 0 past) d). earlier q.0 q.1 q.2)
+    (λ (q : Rebuilt (only 0 past) ok.who ok.kept).
+    let xid : p.request.xid ≡ ok.kept.xid = ap (λ (n : ℕ). same_xid n) (sym p.same ∙ sym (h.done.slots ok.who ok.tag ok.kept ok.slot).1) in
+    let lt = q.1 (Client p.from) 0 p.request p.was p.of_life xid in
+    let serves = ok.serves.closed in
+    let current = p.current in
+    omega (arith, lt, serves, current))
+    (h.done.kept ok.who ok.tag ok.kept ok.slot))
+    ok.cause
+  where
+    h : HoldsAt head (only 0 past)
+    h = (holds head past g).at 0
 
-reply_law : (head : Head) (past : List Line) (at : At) (k : ReplyTo) → Grown head past → AllAsked past → Steps past at → RepliesNow past 0 k → ReplyAt head.osts 0 (printed past) at k
-reply_law head past at k g a steps ok =
-    subst (λ (v : ReplyTo). ReplyAt head.osts 0 (printed past) at v) (sym ok.is)
-    (λ e. let now : ok.kept.at ≡ at = executed_now head past at (record ok.kept { boot = k.boot; committed = k.committed }) g e in
+    same_xid : ℕ → Xid
+    same_xid n = record { 0 = n }
+
+    took : Line
+    took = line t.at (Take t.number t.from t.message)
+
+    kept_now : ok.kept.at ≡ at
+    kept_now = sym (ap (λ (r : ReplyTo). r.at) ok.is) ∙ now
+
+    earlier : (d : Deed) → Acted (only 0 past) d → d.reply ≡ ok.kept → ⊥
+    earlier d did same =
+        let g2 : Grown head (took ∷ t.before) = subst (Grown head) t.newest g in
+        let s2 : (t.at ≡ at) ⊎ (turn_before t.at at ≡ true) = subst (λ v. Steps v at) t.newest steps in
+        let acted : Acted t.before d = subst (λ (v : List Line). Acted v d) t.newest (acted_whole 0 past d did) in
+        let b : turn_before at t.at ≡ true = subst (λ (v : At). turn_before v t.at ≡ true) (ap (λ (r : ReplyTo). r.at) same ∙ kept_now) (acted_before head t.before t.at d g2.1 g2.0.ok.later acted) in
+        ⊎_elim
+        (λ (e : t.at ≡ at). turn_irreflexive at (subst (λ (v : At). turn_before at v ≡ true) e b))
+        (λ (e : turn_before t.at at ≡ true). turn_irreflexive at (turn_trans at t.at at b e))
+        s2
+
+reply_law : (head : Head) (past : List Line) (at : At) (c : ℕ) (k : ReplyTo) → Grown head past → AllAsked past → Steps past at → RepliesNow past 0 k → ReplyOk head (only 0 past) 0 c k → ReplyAt head.osts 0 (printed past) at k
+reply_law head past at c k g a steps ok so e =
+    let now : k.at ≡ at = executed_now head past at k g e in
     ⊎_elim
     (λ (f : (d : Deed) × Did past d × (d.reply ≡ ok.kept)).
     let seen : ok.kept.seen ≡ reply_numbers head.osts past ok.kept = subst (λ (v : ReplyTo). v.seen ≡ reply_numbers head.osts past v) f.2 (did_reply head past f.0 g a f.1) in
-    subst (λ (v : At). ok.kept.seen ≡ reply_seen head.osts 0 (printed past) ok.kept (law.seen_in (printed past) v ok.kept.who ok.kept.xid.0)) now seen)
-    (λ (t : Taken past). absurd (taken_reply head past at ok.who ok.tag ok.kept g steps t ok.slot now))
-    ok.now)
+    let kept : ok.kept.at ≡ at = sym (ap (λ (r : ReplyTo). r.at) ok.is) ∙ now in
+    subst (λ (v : ReplyTo). v.seen ≡ reply_seen head.osts 0 (printed past) v (law.seen_in (printed past) at v.who v.xid.0)) (sym ok.is)
+    (subst (λ (v : At). ok.kept.seen ≡ reply_seen head.osts 0 (printed past) ok.kept (law.seen_in (printed past) v ok.kept.who ok.kept.xid.0)) kept seen))
+    (λ (t : Taken past). absurd (taken_reply head past at c k g steps t so now))
+    ok.now
 
 -- ---- transactions
 
-txn_law : (head : Head) (past : List Line) (at : At) (d : Deed) → Grown head past → AllAsked past → AskedAt past d → TxnIs head.osts (server_at head.osts 0 past) at d → TransactionAt 0 (printed past) d.reply.txn.0 d.reply.seen (law_seen head.osts past d)
-txn_law head past at d g a asks is =
+txn_law : (head : Head) (past : List Line) (at : At) (d : Deed) → Grown head past → AllAsked past → AskedAt past d → TxnIs head.osts (server_at head.osts 0 past) at d → closing_of head.clients (only 0 past) ≡ []
+    → TransactionAt 0 (printed past) d.reply.txn.0 d.reply.seen (law_seen head.osts past d)
+txn_law head past at d g a asks is none =
     let n = number_is head past at d g is in
     let le = below_next head past g in
     let few = is.few in
     record {
       above = omega (arith, n, le);
       in_boot = ap (λ (v : ℕ). v / 4294967296) is.number ∙ number_in_boot (boot_at 0 past) (count_at 0 past + 1) (omega (arith, few)) ∙ parts.boot_is head.osts 0 past ∙ sym (boot_of head 0 past g);
-      sees = is.saw ∙ sym (law_seen_is head past d g a asks);
+      sees = is.saw ∙ sym (law_seen_is head past d g a asks (told_level head 0 past g none));
     }
 
 -- ---- commits
 
-commit_law : (head : Head) (past : List Line) (t to : ℕ) → Grown head past → CommitOk head.osts (only t past) to → CommitAt t (printed past) to
-commit_law head past zero to g ok =
-    let h = logs head past g in
-    let m = committed_is head past g in
-    ⊎_elim
-    (λ (p : (last : Deed) × In last (log_at 0 past) × (to ≡ last.reply.txn.0)).
-    let is = p.2 in
-    let above = h.above p.0 p.1 in
-    record {
-      standing = made (subst (λ (n : ℕ). is_made past n ≡ true) (sym is) (either_right (nat_eq p.0.reply.txn.0 0) (h.made p.0 p.1)));
-      least = omega (arith, m, above, is);
-    })
-    (λ (p : to ≡ (committed_at 0 past).0).
-    record {
-      standing = made (subst (λ (n : ℕ). is_made past n ≡ true) (sym p) h.stands);
-      least = omega (arith, m, p);
-    })
-    (commits head.osts 0 past to ok)
+commit_law : (head : Head) (past : List Line) (at : At) (t to : ℕ) (batch : Batch) → Grown head past → CommitOk head (only t past) at to batch → CommitAt t (printed past) to
+commit_law head past at t to batch g ok = record { standing = stands_law head t past to g (lost_is head past g) made; least = least }
   where
-    both : (a b c : Bool) → c ≡ false → (a || b) ≡ true → (a || (b && not c)) ≡ true
-    both true b c n e = refl
-    both false b c n e = rw (e, n) refl
+    P : List Line
+    P = only t past
 
-    made : is_made past to ≡ true → (nat_eq to 0 || stands 0 (printed past) to) ≡ true
-    made e = both (nat_eq to 0) (list_any (λ (x : Transaction). nat_eq x.number to) (transactions 0 (printed past))) (is_lost (printed past) 0 to) (none_lost head past 0 to g) e
-commit_law head past (suc t) to g ok =
-    let none = elsewhere head (suc t) past g (λ e. absurd (cc)) in
-    let m = commits_are head (suc t) past g in
-    let start : (committed_at (suc t) past).0 ≡ 0 = none.1 in
-    let is : to ≡ 0 = ⊎_elim
-    (λ (p : (last : Deed) × In last (log_at (suc t) past) × (to ≡ last.reply.txn.0)). absurd (subst (λ (v : List Deed). In p.0 v) none.0 p.1))
-    (λ (p : to ≡ (committed_at (suc t) past).0). p ∙ start)
-    (commits head.osts (suc t) past to ok)
-    in
-    record { standing = either_left (stands (suc t) (printed past) to) (ap (λ (n : ℕ). nat_eq n 0) is); least = omega (arith, m, start) }
+    history : History head.osts head.clients P
+    history = ((holds head past g).at t).history
+
+    made : MadeStands head.osts P to
+    made = ⊎_elim
+        (λ (p : (d : Deed) × In d (server_of head.osts P).log × (to ≡ d.reply.txn.0)). let r = history.log p.0 p.1 in inr (p.0, r.0, r.1, sym p.2, r.2))
+        (λ (e : to ≡ (server_of head.osts P).committed.0). subst (λ (n : ℕ). MadeStands head.osts P n) (sym e) (made_stands head P (grown_of head t past g)))
+        ok.is
+
+    least : committed t (printed past) ≤ to
+    least =
+        let low = told_low head t past g in
+        ⊎_elim
+        (λ (p : (d : Deed) × In d (server_of head.osts P).log × (to ≡ d.reply.txn.0)). let above = (history.log p.0 p.1).3 in let is = p.2 in omega (arith, low, above, is))
+        (λ (e : to ≡ (server_of head.osts P).committed.0). omega (arith, low, e))
+        ok.is
 
 -- ---- who is back
 
@@ -288,9 +322,8 @@ never_back : (head : Head) (past : List Line) (l : PrintedLine) (later : List Pr
 never_back head past l later t who g v e =
     let p = and_parts (is_recovering t (printed past) && is_back t (l ∷ printed past) who) (not (is_back t (printed past) who)) e in
     let q = and_parts (is_recovering t (printed past)) (is_back t (l ∷ printed past) who) p.0 in
-    let again = (opens head (only t past) (grown_of head t past g)).booted (sym (recovering_is head t past g) ∙ q.0) in
-    let first = serves_first head.osts (only t past) ((holds head past g).at t).phase v in
-    absurd (omega (arith, again, first))
+    let again = recovers head (only t past) (grown_of head t past g) (sym (recovering_is head t past g) ∙ q.0) in
+    absurd (true≢false (sym (eq-eqb (closed_of (only t past)) (server_of head.osts (only t past)).boot v.closed) ∙ again))
 
 taken_law : (head : Head) (past : List Line) (stamp : Stamp) (t n : ℕ) (from : Node) (m : Message) (later : List PrintedLine) → Grown head (line (turn stamp (Target t)) (Take n from m) ∷ past) → OneTold head t (line (turn stamp (Target t)) (Take n from m) ∷ past)
     → Follows head (line (turn stamp (Target t)) (Take n from m) ∷ past) later → TakenAt t (printed past) (record { at = turn stamp (Target t); entry = entry.Take n }) later (Some m)
@@ -302,42 +335,57 @@ taken_law head past stamp t n from m later g one f = tt
 
 -- ---- the law
 
--- a trace of however many clients: they are asked for at a close alone
-recovery_at : (clients : ℕ) (head : Head) (past : List Line) (l : Line) (later : List PrintedLine) → Allowed head past l.at l.entry → Grown head past → AllAsked (l ∷ past) → Follows head (l ∷ past) later → Keeps (RecoveryOf clients head.osts) past l later
-recovery_at clients head past l later k g a f = by l.at.node l.entry k a f
+-- of at most the run's clients; what a close shows stands in the rest of its turn, and no later line says that the disk fails
+recovery_at : (clients : ℕ) (head : Head) (past : List Line) (l : Line) (later : List PrintedLine) → clients ≤ head.clients → Allowed head past l.at l.entry → Grown head past → AllAsked (l ∷ past) → Follows head (l ∷ past) later → RestStands head (l ∷ past) later → ((at : At) → Sound at later)
+    → Keeps (RecoveryOf clients head.osts) past l later
+recovery_at clients head past l later few k g a f rest sound = by l.at.node l.entry k a f rest
   where
-    by : (node : Node) (e : Entry) → Allowed head past (turn l.at.stamp node) e → AllAsked (line (turn l.at.stamp node) e ∷ past) → Follows head (line (turn l.at.stamp node) e ∷ past) later
+    by : (node : Node) (e : Entry) → Allowed head past (turn l.at.stamp node) e → AllAsked (line (turn l.at.stamp node) e ∷ past) → Follows head (line (turn l.at.stamp node) e ∷ past) later → RestStands head (line (turn l.at.stamp node) e ∷ past) later
         → OfPrinted (λ (e : PrintedEntry). RecoveryAt clients head.osts (printed past) (record { at = turn l.at.stamp node; entry = e }) later e) (printed_entry (count_sent past + 1) e)
-    by (Client c) (Send to m) k a f = tt
-    by (Target t) (Send (Client c) (message.Reply r)) k a f =
-        subst (λ (v : ℕ). ReplyAt head.osts v (printed past) (turn l.at.stamp (Target t)) r) (sym k.ok.0) (reply_law head past (turn l.at.stamp (Target t)) r g a k.steps (subst (λ (v : ℕ). RepliesNow past v r) k.ok.0 k.ok.1))
-    by (Target t) (Send (Client c) (message.Block who boot cookie)) k a f = tt
-    by (Target t) (Send (Client c) (message.Ready who boot committed)) k a f = tt
-    by (Target t) (Send (Client c) (message.Up boot)) k a f = tt
-    by (Target t) (Send (Client c) (message.Evicted who boot)) k a f = tt
-    by (Target t) (Send (Client c) m) k a f = absurd k.ok
-    by (Target t) (Send (Target u) m) k a f = absurd k.ok
-    by (Target t) (Take n from m) k a f =
+    by (Client c) (Send to m) k a f rest = tt
+    by (Target t) (Send (Client c) (message.Reply r)) k a f rest =
+        subst (λ (v : ℕ). ReplyAt head.osts v (printed past) (turn l.at.stamp (Target t)) r) (sym k.ok.0)
+        (reply_law head past (turn l.at.stamp (Target t)) c r g a k.steps (subst (λ (v : ℕ). RepliesNow past v r) k.ok.0 k.ok.1) (subst (λ (v : ℕ). ReplyOk head (only 0 past) v c r) k.ok.0 (k.of 0 (about_it t k.ok.0))))
+    by (Target t) (Send (Client c) (message.Block who boot cookie)) k a f rest = tt
+    by (Target t) (Send (Client c) (message.Ready who boot committed)) k a f rest = tt
+    by (Target t) (Send (Client c) (message.Up boot)) k a f rest = tt
+    by (Target t) (Send (Client c) (message.Evicted who boot)) k a f rest = tt
+    by (Target t) (Send (Client c) m) k a f rest = absurd k.ok
+    by (Target t) (Send (Target u) m) k a f rest = absurd k.ok
+    by (Target t) (Take n from m) k a f rest =
         subst (λ (o : Option Message). TakenAt t (printed past) (record { at = turn l.at.stamp (Target t); entry = entry.Take n }) later o)
         (sym (ap (λ (o : Option Sending). elim o [ None ↦ None | Some s ↦ Some s.message ]) (sending_is past n from (Target t) m k.ok.sent)))
         (taken_law head past l.at.stamp t n from m later (k, g) (one_told head t (line (turn l.at.stamp (Target t)) (Take n from m) ∷ past) (k, g)) f)
-    by (Client c) (Made d) k a f = absurd k.ok
-    by (Target t) (Made d) k a f =
-        subst (λ (v : ℕ). TransactionAt v (printed past) d.reply.txn.0 d.reply.seen (request_sees head.osts v (printed past) d.reply.txn d.reply.who d.reply.xid.0 d.reply.answer)) (sym k.ok) (txn_law head past (turn l.at.stamp (Target t)) d g a.1 a.0 (txn_is head past l.at.stamp t d k))
-    by (Target t) (Commit to batch) k a f = commit_law head past t to g (k.of t (self t))
-    by (Target t) (Back who) k a f = let ok = k.of t (self t) in back_at head past l.at.stamp t who g (λ p q. one_told head t p q) ok.0 ok.1
-    by (Target t) (Close outcome) k a f = absurd k.ok
-    by (Target t) (Kept n) k a f = absurd k.ok
-    by (Target t) (Restore lock) k a f = absurd k.ok
-    by (Target t) (Evict who cause) k a f = evict_law head past (turn l.at.stamp (Target t)) later t who cause g (k.of t (self t))
-    by (Target t) (Joined who) k a f = never_back head past (record { at = turn l.at.stamp (Target t); entry = entry.Joined who }) later t who g (k.of t (self t)).serves
-    by _ _ k a f = tt
+    by (Client c) (Made d) k a f rest = absurd k.ok
+    by (Target t) (Made d) k a f rest =
+        subst (λ (v : ℕ). TransactionAt v (printed past) d.reply.txn.0 d.reply.seen (request_sees head.osts v (printed past) d.reply.txn d.reply.who d.reply.xid.0 d.reply.answer)) (sym k.ok) (txn_law head past (turn l.at.stamp (Target t)) d g a.1 a.0 (txn_is head past l.at.stamp t d k) (none_left head past l.at.stamp t (Made d) k k.ok (λ v. v)))
+    by (Target t) (Commit to batch) k a f rest = commit_law head past (turn l.at.stamp (Target t)) t to batch g (k.of t (self t))
+    by (Target t) (Back who) k a f rest = let ok = k.of t (self t) in back_at head past l.at.stamp t who g (λ p q. one_told head t p q) ok.0 ok.1
+    by (Target t) (Close outcome) k a f rest = close_at clients head past l.at.stamp t outcome later k g few rest
+    by (Target t) (Kept n) k a f rest = kept_law head past l.at.stamp t n later k.steps g (k.of t (self t)) (sound (turn l.at.stamp (Target t)))
+    by (Target t) (Restore lock) k a f rest = restored_law head past l.at.stamp t lock later k.steps g (k.of t (self t)).due (sound (turn l.at.stamp (Target t)))
+    by (Target t) (Evict who cause) k a f rest = ⊎_elim
+        (λ (ok : EvictOk head (only t past) (turn l.at.stamp (Target t)) who cause). evict_law head past (turn l.at.stamp (Target t)) later t who cause g refl (k.shows t (self t)) ok)
+        (λ (ok : LeavesOk head (only t past) (turn l.at.stamp (Target t)) who cause). leaves_law head past l.at.stamp t who cause later k.steps g ok.due (sound (turn l.at.stamp (Target t))))
+        (k.of t (self t))
+    by (Target t) (Joined who) k a f rest = never_back head past (record { at = turn l.at.stamp (Target t); entry = entry.Joined who }) later t who g (⊎_elim (λ (j : JoinedOk head (only t past) (turn l.at.stamp (Target t)) t who). j.serves) (λ (j : ComesOk head (only t past) (turn l.at.stamp (Target t)) t who). j.serves) (k.of t (self t)))
+    by _ _ k a f rest = tt
+
+-- no line of a grown past says that the disk fails
+sound_before : (head : Head) (past : List Line) (l : Line) (later : List PrintedLine) → Allowed head past l.at l.entry → ((at : At) → Sound at later) → (at : At) → Sound at (after_line l (printed_entry (count_sent past + 1) l.entry) later)
+sound_before head past l later k s at = by l.at.node l.entry k.ok
+  where
+    by : (node : Node) (e : Entry) → EntryOk past l.at node e → Sound at (after_line (line l.at e) (printed_entry (count_sent past + 1) e) later)
+    by (Client c) Fail ok = absurd ok
+    by (Target t) Fail ok = absurd ok
+    by node e ok = s at
 
 -- what follows each line stands among the later ones
-recovery_before : (clients : ℕ) (head : Head) (past : List Line) (later : List PrintedLine) → Grown head past → AllAsked past → Follows head past later → HoldsBefore (RecoveryOf clients head.osts) later (printed past)
-recovery_before clients head [] later g a f = tt
-recovery_before clients head (l ∷ past) later g a f =
-    by (printed_entry (count_sent past + 1) l.entry) (recovery_at clients head past l later g.0 g.1 a f) (recovery_before clients head past (after_line l (printed_entry (count_sent past + 1) l.entry) later) g.1 (asked_before l past a) (follows_before head l past later g.0 f))
+recovery_before : (clients : ℕ) (head : Head) (past : List Line) (later : List PrintedLine) → clients ≤ head.clients → Grown head past → AllAsked past → Follows head past later → RestStands head past later → ((at : At) → Sound at later) → HoldsBefore (RecoveryOf clients head.osts) later (printed past)
+recovery_before clients head [] later few g a f rest s = tt
+recovery_before clients head (l ∷ past) later few g a f rest s =
+    by (printed_entry (count_sent past + 1) l.entry) (recovery_at clients head past l later few g.0 g.1 a f rest s)
+    (recovery_before clients head past (after_line l (printed_entry (count_sent past + 1) l.entry) later) few g.1 (asked_before l past a) (follows_before head l past later g.0 f) (rest_before head l past later g.0 rest) (sound_before head past l later g.0 s))
   where
     by : (o : Option PrintedEntry) → OfPrinted (λ e. RecoveryOf clients head.osts (printed past) (record { at = l.at; entry = e }) later) o → HoldsBefore (RecoveryOf clients head.osts) (after_line l o later) (printed past)
         → HoldsBefore (RecoveryOf clients head.osts) later (elim o [ None ↦ printed past | Some e ↦ record { at = l.at; entry = e } ∷ printed past ])
@@ -346,4 +394,4 @@ recovery_before clients head (l ∷ past) later g a f =
 
 -- where nothing is due at the end
 pub recovery_law : (head : Head) (past : List Line) → Grown head past → Noted head past → AllAsked past → Holds (Recovery head.osts (printed past)) (printed past)
-recovery_law head past g n a = recovery_before (clients (printed past)) head past [] g a (follows_none head past n)
+recovery_law head past g n a = recovery_before (clients (printed past)) head past [] (clients_low head past g) g a (follows_none head past n) (rest_none head past n) (λ at. refl)

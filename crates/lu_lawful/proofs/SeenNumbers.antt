@@ -1,196 +1,236 @@
--- The numbers that the law sees in the printed past of a run are those that the metadata target sees in its log.
-use Rattle.std.proofs.Common.{◌≡◌, ℕ, ◌≤◌, Bool, true, false, List, [], ◌∷◌, ◌++◌, reverse, inl, inr, ⊎_elim, refl, sym, subst, ap, ◌∙◌, arith}
-use Rattle.std.specs.Prelude.{nat_eq, nat_lt, ◌&&◌, if◌then◌else◌, map, filter}
-use Rattle.std.proofs.lemmas.Bool.{cond-true, lt-ltb, ltb-true}
+-- The numbers that the law sees in the printed past of a run are those that the metadata target sees in its log: of all transactions the law
+-- leaves out the lost ones and the committed ones, and the log has the others, in rising number.
+use Rattle.std.proofs.Common.{◌≡◌, ℕ, ◌<◌, ◌≤◌, Bool, true, false, List, [], ◌∷◌, ◌++◌, reverse, inl, inr, ⊎_elim, refl, sym, subst, ap, ◌∙◌, arith}
+use Rattle.std.specs.Prelude.{nat_lt, not, ◌&&◌, if◌then◌else◌, map, filter}
+use Rattle.std.proofs.lemmas.Bool.{and_parts, lt-ltb, ltb-true}
 use Rattle.std.proofs.lemmas.Grind.{reverse_onto}
 use Rattle.lu_base.specs.declared.ids.Node.{Node}
 use Rattle.lu_base.specs.declared.ids.Node.TheVariants.{Client, Target}
 use Rattle.lu_base.specs.declared.ids.Stamp.{Stamp}
 use Rattle.lu_base.specs.declared.ids.Txn.{Txn}
 use Rattle.lu_part.specs.declared.parts.Part.{Part}
-use Rattle.lu_machine.specs.Tree.{Tree}
-use Rattle.lu_machine.specs.Footprint.{writes}
 use Rattle.lu_machine.specs.Seen.{meet}
 use Rattle.lu_words.specs.Carried.{Deed}
-use Rattle.lu_words.specs.Words.{Entry, Txn as Made, Commit, Line, line}
+use Rattle.lu_words.specs.Words.{Entry, Act, Txn as Made, Line, line}
+use Rattle.lu_words.specs.Concerns.{only}
 use Rattle.lu_words.specs.Printed.{printed}
 use Rattle.lu_covered.specs.TargetParts.{operation}
-use Rattle.lu_covered.specs.TargetStates.{committed_at, log_at, server_at, seen_in}
+use Rattle.lu_covered.specs.TargetStates.{log_at, server_at, server_of, seen_in}
+use Rattle.lu_covered.specs.TargetCloses as story
 use Rattle.lu_covered.specs.Heads.{Head}
-use Rattle.lu_laws.specs.Words.Requests.{asked}
 use Rattle.lu_laws.specs.Words.Boots.{committed}
 use Rattle.lu_laws.specs.Words.Lost.{is_lost}
-use Rattle.lu_laws.specs.Words.Seen.{writes_of, Written, written, is_seen, seen_of, seen_by}
+use Rattle.lu_laws.specs.Words.Seen as law
+use Rattle.lu_laws.specs.Words.Seen.{request_writes, Written, written, is_seen, seen_by}
 use Rattle.lu_guards.proofs.Guards.{In}
 use Rattle.lu_guards.proofs.Grown.{Allowed, Grown}
-use Rattle.lu_facts.proofs.Groups.{turn}
+use Rattle.lu_guards.proofs.Lists.{in_append, in_left, in_right, in_filter, in_filtered}
+use Rattle.lu_guards.proofs.Parts.{log_is}
+use Rattle.lu_facts.proofs.Groups.{turn, Acted, IsMade, DeedsRise, History}
+use Rattle.lu_facts.proofs.All.{holds}
+use Rattle.lu_facts.proofs.Lines.{acted_whole}
+use Rattle.lu_facts.proofs.Sides.{acted_only}
+use Rattle.lu_lawful.specs.Fits.{WasMade}
 use Rattle.lu_lawful.proofs.Facts.{AskedAt, AllAsked}
-use Rattle.lu_lawful.proofs.Committed.{commits, logs}
-use Rattle.lu_lawful.proofs.Deeds.{TxnIs, txn_is}
-use Rattle.lu_lawful.proofs.Contents.{committed_is, none_lost, asked_before, contents_are}
+use Rattle.lu_lawful.proofs.Deeds.{TxnIs, act_is, txn_is}
+use Rattle.lu_lawful.proofs.Story.{about_it}
+use Rattle.lu_lawful.proofs.Commits.{listed}
+use Rattle.lu_lawful.proofs.LostNumbers.{lost_is}
+use Rattle.lu_lawful.proofs.Contents.{asked_before, contents_alike}
 
--- the number, where the test holds
-abbrev pub one : Bool → ℕ → List ℕ
-one t n = if t then n ∷ [] else []
+-- ---- rising lists
 
-pub seen_snoc : (touched : List Part) (log : List Deed) (g : Deed) → seen_in touched (log ++ g ∷ []) ≡ seen_in touched log ++ one (meet g.writes touched) g.reply.txn.0
-seen_snoc touched [] g = refl
-seen_snoc touched (k ∷ log) g = by (meet k.writes touched) (seen_snoc touched log g)
+rises_filter : (f : Deed → Bool) (ds : List Deed) → DeedsRise ds → DeedsRise (filter f ds)
+rises_filter f [] r = tt
+rises_filter f (d ∷ ds) r = by (f d) (rises_filter f ds r.1)
   where
-    by : (t : Bool) → seen_in touched (log ++ g ∷ []) ≡ seen_in touched log ++ one (meet g.writes touched) g.reply.txn.0
-        → (if t then k.reply.txn.0 ∷ seen_in touched (log ++ g ∷ []) else seen_in touched (log ++ g ∷ []))
-        ≡ (if t then k.reply.txn.0 ∷ seen_in touched log else seen_in touched log) ++ one (meet g.writes touched) g.reply.txn.0
-    by true h = ap (λ ns. k.reply.txn.0 ∷ ns) h
-    by false h = h
+    by : (b : Bool) → DeedsRise (filter f ds) → DeedsRise (if b then d ∷ filter f ds else filter f ds)
+    by true more = (λ e i. r.0 e (in_filter f e ds i).0, more)
+    by false more = more
 
--- what the law sees of one more transaction
-module _ (above : ℕ) (lost : ℕ → Bool) (touched : List Part) where
-  kept_snoc : (ws : List Written) (w : Written) → map (λ (x : Written). x.number) (filter (is_seen above lost touched) (ws ++ w ∷ [])) ≡ map (λ (x : Written). x.number) (filter (is_seen above lost touched) ws) ++ one (is_seen above lost touched w) w.number
-  kept_snoc [] w = by (is_seen above lost touched w)
-    where
-      by : (t : Bool) → map (λ (x : Written). x.number) (if t then w ∷ [] else []) ≡ one t w.number
-      by true = refl
-      by false = refl
-  kept_snoc (v ∷ ws) w = by (is_seen above lost touched v) (kept_snoc ws w)
-    where
-      numbers : List Written → List ℕ
-      numbers xs = map (λ (x : Written). x.number) xs
+rises_snoc : (ds : List Deed) (d : Deed) → DeedsRise ds → ((e : Deed) → In e ds → e.reply.txn.0 < d.reply.txn.0) → DeedsRise (ds ++ d ∷ [])
+rises_snoc [] d r below = (λ e i. absurd i, tt)
+rises_snoc (x ∷ ds) d r below = (
+  λ e i. ⊎_elim
+      (λ (j : In e ds). r.0 e j)
+      (λ (j : In e (d ∷ [])). ⊎_elim (λ (q : d ≡ e). subst (λ (v : Deed). x.reply.txn.0 < v.reply.txn.0) q (below x (inl refl))) (λ (v : ⊥). absurd v) j)
+      (in_append e ds (d ∷ []) i),
+  rises_snoc ds d r.1 (λ e i. below e (inr i)),
+)
 
-      by : (t : Bool) → map (λ (x : Written). x.number) (filter (is_seen above lost touched) (ws ++ w ∷ [])) ≡ map (λ (x : Written). x.number) (filter (is_seen above lost touched) ws) ++ one (is_seen above lost touched w) w.number
-          → map (λ (x : Written). x.number) (if t then v ∷ filter (is_seen above lost touched) (ws ++ w ∷ []) else filter (is_seen above lost touched) (ws ++ w ∷ []))
-          ≡ map (λ (x : Written). x.number) (if t then v ∷ filter (is_seen above lost touched) ws else filter (is_seen above lost touched) ws) ++ one (is_seen above lost touched w) w.number
-      by true h = ap (λ ns. v.number ∷ ns) h
-      by false h = h
+-- two that have the same are the same
+same_rising : (xs ys : List Deed) → DeedsRise xs → DeedsRise ys → ((d : Deed) → In d xs → In d ys) → ((d : Deed) → In d ys → In d xs) → xs ≡ ys
+same_rising [] [] r s f g = refl
+same_rising [] (y ∷ ys) r s f g = absurd (g y (inl refl))
+same_rising (x ∷ xs) [] r s f g = absurd (f x (inl refl))
+same_rising (x ∷ xs) (y ∷ ys) r s f g =
+    ap (λ (d : Deed). d ∷ xs) first
+    ∙ ap (λ (ds : List Deed). y ∷ ds) (same_rising xs ys r.1 s.1
+    (λ d i. ⊎_elim (λ (e : y ≡ d). let lt = r.0 d i in let n = ap (λ (v : Deed). v.reply.txn.0) (first ∙ e) in absurd (omega (arith, lt, n))) (λ (j : In d ys). j) (f d (inr i)))
+    (λ d i. ⊎_elim (λ (e : x ≡ d). let lt = s.0 d i in let n = ap (λ (v : Deed). v.reply.txn.0) (sym first ∙ e) in absurd (omega (arith, lt, n))) (λ (j : In d xs). j) (g d (inr i))))
+  where
+    first : x ≡ y
+    first = ⊎_elim
+        (λ (e : y ≡ x). sym e)
+        (λ (i : In x ys). ⊎_elim (λ (e : x ≡ y). e) (λ (j : In y xs). let a = s.0 x i in let b = r.0 y j in absurd (omega (arith, a, b))) (g y (inl refl)))
+        (f x (inl refl))
 
-  seen_one : (w : Written) (ws : List Written) → seen_of above lost touched (w ∷ ws) ≡ seen_of above lost touched ws ++ one (is_seen above lost touched w) w.number
-  seen_one w ws = ap (λ (xs : List Written). map (λ (x : Written). x.number) (filter (is_seen above lost touched) xs)) (reverse_onto ws w []) ∙ kept_snoc (reverse ws) w
+-- ---- all transactions, the oldest first
 
--- ---- lists
+abbrev made_in : List Line → List Deed
+made_in [] = []
+made_in (l ∷ past) = elim l.entry [ Made d ↦ made_in past ++ d ∷ [] | _ ↦ made_in past ]
 
-module _ {A : Type 0} (f : A → Bool) where
-  filter_snoc : (xs : List A) (x : A) → filter f (xs ++ x ∷ []) ≡ filter f xs ++ (if f x then x ∷ [] else [])
-  filter_snoc [] x = refl
-  filter_snoc (y ∷ xs) x = by (f y) (filter_snoc xs x)
-    where
-      more : List A
-      more = if f x then x ∷ [] else []
+in_made : (head : Head) (past : List Line) (d : Deed) → Grown head past → In d (made_in past) → Acted past d × IsMade d
+in_made head [] d g i = absurd i
+in_made head (l ∷ past) d g i = by l.at.node l.entry g.0 i (in_made head past d g.1)
+  where
+    by : (node : Node) (e : Entry) → Allowed head past (turn l.at.stamp node) e → In d (made_in (line (turn l.at.stamp node) e ∷ past)) → (In d (made_in past) → Acted past d × IsMade d) → Acted (line (turn l.at.stamp node) e ∷ past) d × IsMade d
+    by (Client c) (Made x) k i ih = absurd k.ok
+    by (Target t) (Made x) k i ih = ⊎_elim
+        (λ (j : In d (made_in past)). let r = ih j in (inr r.0, r.1))
+        (λ (j : In d (x ∷ [])). ⊎_elim
+        (λ (e : x ≡ d). let n = (txn_is head past l.at.stamp t x k).number in (inl e, subst IsMade e (omega (arith, n))))
+        (λ (v : ⊥). absurd v) j)
+        (in_append d (made_in past) (x ∷ []) i)
+    by node (Act x) k i ih = let r = ih i in (inr r.0, r.1)
+    by node e k i ih = ih i
 
-      by : (b : Bool) → filter f (xs ++ x ∷ []) ≡ filter f xs ++ more → (if b then y ∷ filter f (xs ++ x ∷ []) else filter f (xs ++ x ∷ [])) ≡ (if b then y ∷ filter f xs else filter f xs) ++ more
-      by true h = ap (λ (zs : List A). y ∷ zs) h
-      by false h = h
+made_there : (head : Head) (past : List Line) (d : Deed) → Grown head past → Acted past d → IsMade d → In d (made_in past)
+made_there head [] d g a made = absurd a
+made_there head (l ∷ past) d g a made = by l.at.node l.entry g.0 a (λ b. made_there head past d g.1 b made)
+  where
+    by : (node : Node) (e : Entry) → Allowed head past (turn l.at.stamp node) e → Acted (line (turn l.at.stamp node) e ∷ past) d → (Acted past d → In d (made_in past)) → In d (made_in (line (turn l.at.stamp node) e ∷ past))
+    by node (Made x) k (inl e) ih = in_right d (made_in past) (x ∷ []) (inl e)
+    by node (Made x) k (inr b) ih = in_left d (made_in past) (x ∷ []) (ih b)
+    by (Client c) (Act x) k i ih = absurd k.ok
+    by (Target t) (Act x) k (inl e) ih = absurd (let zero : d.reply.txn.0 ≡ 0 = ap (λ (v : Deed). v.reply.txn.0) (sym e) ∙ ap (λ (n : Txn). n.0) (act_is head past l.at.stamp t x k).txn in omega (arith, zero, made))
+    by (Target t) (Act x) k (inr b) ih = ih b
+    by node e k b ih = ih b
 
-  -- where all pass
-  filter_all : (xs : List A) → ((x : A) → In x xs → f x ≡ true) → filter f xs ≡ xs
-  filter_all [] h = refl
-  filter_all (x ∷ xs) h = cond-true (f x) (x ∷ filter f xs) (filter f xs) (h x (inl refl)) ∙ ap (λ (zs : List A). x ∷ zs) (filter_all xs (λ y i. h y (inr i)))
+made_rises : (head : Head) (past : List Line) → Grown head past → DeedsRise (made_in past)
+made_rises head [] g = tt
+made_rises head (l ∷ past) g = by l.at.node l.entry g.0 (made_rises head past g.1)
+  where
+    by : (node : Node) (e : Entry) → Allowed head past (turn l.at.stamp node) e → DeedsRise (made_in past) → DeedsRise (made_in (line (turn l.at.stamp node) e ∷ past))
+    by (Client c) (Made x) k h = absurd k.ok
+    by (Target t) (Made x) k h =
+        rises_snoc (made_in past) x h
+        (λ e i. let m = in_made head past e g.1 i in
+        let most = ((holds head past g.1).at 0).history.last e (acted_only head past e g.1 m.0) m.1 in
+        let n = ap (λ (v : Deed). v.reply.txn.0) (k.of 0 (about_it t k.ok)).is in
+        omega (arith, most, n))
+    by node e k h = h
 
-  -- where all that pass the one pass the other
-  filter_twice : (g : A → Bool) (xs : List A) → ((x : A) → f x ≡ true → g x ≡ true) → filter f (filter g xs) ≡ filter f xs
-  filter_twice g [] h = refl
-  filter_twice g (x ∷ xs) h = by (g x) (f x) refl refl (filter_twice g xs h)
-    where
-      by : (a b : Bool) → g x ≡ a → f x ≡ b → filter f (filter g xs) ≡ filter f xs → filter f (if a then x ∷ filter g xs else filter g xs) ≡ (if b then x ∷ filter f xs else filter f xs)
-      by true true p q ih = cond-true (f x) (x ∷ filter f (filter g xs)) (filter f (filter g xs)) q ∙ ap (λ (zs : List A). x ∷ zs) ih
-      by true false p q ih = ap (λ (b : Bool). if b then x ∷ filter f (filter g xs) else filter f (filter g xs)) q ∙ ih
-      by false true p q ih = let r = h x q in absurd (cc)
-      by false false p q ih = ih
+-- ---- what they wrote, by the law
 
-nil_right : {A : Type 0} (xs : List A) → xs ++ [] ≡ xs
-nil_right [] = refl
-nil_right (x ∷ xs) = ap (λ ys. x ∷ ys) (nil_right xs)
+abbrev as_written : Deed → Written
+as_written d = record { number = d.reply.txn.0; writes = d.writes }
 
--- ---- the numbers above one that isn't below the committed one
+abbrev all_written : List Deed → List Written
+all_written [] = []
+all_written (d ∷ ds) = as_written d ∷ all_written ds
 
-module _ (head : Head) (above : ℕ) (lost : ℕ → Bool) (none : (n : ℕ) → lost n ≡ false) (touched : List Part) where
-  abbrev law_seen : List Line → List ℕ
-  law_seen past = seen_of above lost touched (written head.osts 0 (printed past))
+written_snoc : (ds : List Deed) (d : Deed) → all_written (ds ++ d ∷ []) ≡ all_written ds ++ as_written d ∷ []
+written_snoc [] d = refl
+written_snoc (x ∷ ds) d = ap (λ (ws : List Written). as_written x ∷ ws) (written_snoc ds d)
 
-  abbrev over : Deed → Bool
-  over d = nat_lt above d.reply.txn.0
+written_is : (head : Head) (past : List Line) → Grown head past → AllAsked past → reverse (written head.osts 0 (printed past)) ≡ all_written (made_in past)
+written_is head [] g a = refl
+written_is head (l ∷ past) g a = by l.at.node l.entry g.0 a (written_is head past g.1 (asked_before l past a))
+  where
+    made : (stamp : Stamp) (d : Deed) → AllAsked past → AskedAt past d → TxnIs head.osts (server_at head.osts 0 past) (turn stamp (Target 0)) d → reverse (written head.osts 0 (printed past)) ≡ all_written (made_in past)
+        → reverse (written head.osts 0 (printed (line (turn stamp (Target 0)) (Made d) ∷ past))) ≡ all_written (made_in past ++ d ∷ [])
+    made stamp d a asks is h =
+        let ws = written head.osts 0 (printed past) in
+        let wrote : request_writes head.osts 0 (printed past) d.reply.txn d.reply.who d.reply.xid.0 ≡ d.writes = ap (λ o. law.writes_of head.osts 0 (printed past) d.reply.txn d.reply.who o) asks ∙ (contents_alike head past g.1 a (operation d)).writes ∙ sym is.wrote in
+        reverse_onto ws (record { number = d.reply.txn.0; writes = request_writes head.osts 0 (printed past) d.reply.txn d.reply.who d.reply.xid.0 }) []
+        ∙ ap (λ (ps : List Part). reverse ws ++ record { number = d.reply.txn.0; writes = ps } ∷ []) wrote
+        ∙ ap (λ (xs : List Written). xs ++ as_written d ∷ []) h
+        ∙ sym (written_snoc (made_in past) d)
 
-  abbrev IsSeen : List Line → Type 0
-  IsSeen past = law_seen past ≡ seen_in touched (filter over (log_at 0 past))
+    by : (node : Node) (e : Entry) → Allowed head past (turn l.at.stamp node) e → AllAsked (line (turn l.at.stamp node) e ∷ past) → reverse (written head.osts 0 (printed past)) ≡ all_written (made_in past)
+        → reverse (written head.osts 0 (printed (line (turn l.at.stamp node) e ∷ past))) ≡ all_written (made_in (line (turn l.at.stamp node) e ∷ past))
+    by (Client c) (Made d) k a h = absurd k.ok
+    by (Target t) (Made d) k a h =
+        let is = txn_is head past l.at.stamp t d k in
+        subst (λ (v : ℕ). reverse (written head.osts 0 (printed (line (turn l.at.stamp (Target v)) (Made d) ∷ past))) ≡ all_written (made_in past ++ d ∷ [])) (sym k.ok)
+        (made l.at.stamp d a.1 a.0 (subst (λ (v : ℕ). TxnIs head.osts (server_at head.osts 0 past) (turn l.at.stamp (Target v)) d) k.ok is) h)
+    by _ _ k a h = h
 
-  seen_made : (past : List Line) (stamp : Stamp) (d : Deed) → Grown head past → AllAsked past → TxnIs head.osts (server_at head.osts 0 past) (turn stamp (Target 0)) d → AskedAt past d → IsSeen past → IsSeen (line (turn stamp (Target 0)) (Made d) ∷ past)
-  seen_made past stamp d g a is asks h = by (over d) refl
-    where
-      n : ℕ
-      n = d.reply.txn.0
+-- ---- what is seen of them
 
-      w : Written
-      w = record { number = n; writes = writes_of head.osts 0 (printed past) d.reply.txn d.reply.who (asked (printed past) 0 d.reply.who d.reply.xid.0) }
+-- by a test that says the same of each
+seen_written : (above : ℕ) (lost : ℕ → Bool) (touched : List Part) (test : Deed → Bool) (ds : List Deed) → ((d : Deed) → In d ds → (nat_lt above d.reply.txn.0 && not (lost d.reply.txn.0)) ≡ test d)
+    → map (λ (w : Written). w.number) (filter (is_seen above lost touched) (all_written ds)) ≡ seen_in touched (filter test ds)
+seen_written above lost touched test [] same = refl
+seen_written above lost touched test (d ∷ ds) same = by (nat_lt above n) (lost n) (test d) (same d (inl refl)) (seen_written above lost touched test ds (λ e i. same e (inr i)))
+  where
+    n : ℕ
+    n = d.reply.txn.0
 
-      wrote : w.writes ≡ d.writes
-      wrote = ap (λ o. writes_of head.osts 0 (printed past) d.reply.txn d.reply.who o) asks ∙ ap (λ (t : Tree). writes head.osts t (operation d)) (contents_are head past g a) ∙ sym is.wrote
+    rest : List Written
+    rest = filter (is_seen above lost touched) (all_written ds)
 
-      more : Bool → List Deed
-      more b = if b then d ∷ [] else []
+    numbers : List Written → List ℕ
+    numbers ws = map (λ (w : Written). w.number) ws
 
-      one_seen : (b : Bool) → over d ≡ b → is_seen above lost touched w ≡ (b && meet d.writes touched)
-      one_seen b e = rw (e, none n, wrote) (by b)
-        where
-          by : (b : Bool) → (b && true && meet d.writes touched) ≡ (b && meet d.writes touched)
-          by true = refl
-          by false = refl
+    push : (m : Bool) (ns : List ℕ) → numbers rest ≡ ns → numbers (if m then as_written d ∷ rest else rest) ≡ (if m then n ∷ ns else ns)
+    push true ns e = ap (λ (ms : List ℕ). n ∷ ms) e
+    push false ns e = e
 
-      shown : (b : Bool) → seen_in touched (filter over (log_at 0 past) ++ more b) ≡ seen_in touched (filter over (log_at 0 past)) ++ one (b && meet d.writes touched) n
-      shown true = seen_snoc touched (filter over (log_at 0 past)) d
-      shown false = ap (seen_in touched) (nil_right (filter over (log_at 0 past))) ∙ sym (nil_right (seen_in touched (filter over (log_at 0 past))))
+    by : (a c b : Bool) → (a && not c) ≡ b → numbers rest ≡ seen_in touched (filter test ds)
+        → numbers (if a && not c && meet d.writes touched then as_written d ∷ rest else rest) ≡ seen_in touched (if b then d ∷ filter test ds else filter test ds)
+    by true false true e h = push (meet d.writes touched) (seen_in touched (filter test ds)) h
+    by true true false e h = h
+    by false c false e h = h
+    by true false false e h = absurd (cc)
+    by true true true e h = absurd (cc)
+    by false c true e h = absurd (cc)
 
-      by : (b : Bool) → over d ≡ b → IsSeen (line (turn stamp (Target 0)) (Made d) ∷ past)
-      by b e =
-          seen_one above lost touched w (written head.osts 0 (printed past))
-          ∙ ap (λ t. law_seen past ++ one t n) (one_seen b e)
-          ∙ ap (λ ms. ms ++ one (b && meet d.writes touched) n) h
-          ∙ sym (shown b)
-          ∙ ap (λ (c : Bool). seen_in touched (filter over (log_at 0 past) ++ more c)) (sym e)
-          ∙ ap (seen_in touched) (sym (filter_snoc over (log_at 0 past) d))
+-- those above the committed number that stand are the log
+log_of_all : (head : Head) (past : List Line) → Grown head past
+    → filter (λ (d : Deed). nat_lt (server_of head.osts (only 0 past)).committed.0 d.reply.txn.0 && not (story.is_lost head.osts (only 0 past) d.reply.txn.0)) (made_in past) ≡ (server_of head.osts (only 0 past)).log
+log_of_all head past g =
+    same_rising (filter stands (made_in past)) (server_of head.osts (only 0 past)).log (rises_filter stands (made_in past) (made_rises head past g)) history.log_rises
+    (λ d i.
+    let p = in_filter stands d (made_in past) i in
+    let m = in_made head past d g p.0 in
+    let q = and_parts (nat_lt committed_so d.reply.txn.0) (not (story.is_lost head.osts (only 0 past) d.reply.txn.0)) p.1 in
+    let lt = ltb-true committed_so d.reply.txn.0 q.0 in
+    ⊎_elim (λ (j : In d (server_of head.osts (only 0 past)).log). j) (λ (le : d.reply.txn.0 ≤ committed_so). absurd (omega (arith, lt, le)))
+    (history.logged d (acted_only head past d g m.0) m.1 (no (story.is_lost head.osts (only 0 past) d.reply.txn.0) q.1)))
+    (λ d i.
+    let r = history.log d i in
+    in_filtered stands d (made_in past) (made_there head past d g (acted_whole 0 past d r.0) r.1) (rw (lt-ltb committed_so d.reply.txn.0 r.3, r.2) refl))
+  where
+    history : History head.osts head.clients (only 0 past)
+    history = ((holds head past g).at 0).history
 
-  -- a commit takes away what isn't over that number
-  seen_commit : (past : List Line) (to : ℕ) → to ≤ above → IsSeen past → law_seen past ≡ seen_in touched (filter over (filter (λ x. nat_lt to x.reply.txn.0) (log_at 0 past)))
-  seen_commit past to le h =
-      h ∙ ap (seen_in touched) (sym (filter_twice over (λ x. nat_lt to x.reply.txn.0) (log_at 0 past) (λ x e. let lt = ltb-true above x.reply.txn.0 e in lt-ltb to x.reply.txn.0 (omega (arith, lt, le)))))
+    committed_so : ℕ
+    committed_so = (server_of head.osts (only 0 past)).committed.0
 
-  seen_so_far : (past : List Line) → Grown head past → AllAsked past → (committed_at 0 past).0 ≤ above → IsSeen past
-  seen_so_far [] g a le = refl
-  seen_so_far (l ∷ past) g a le = at l.at.node l.entry g.0 a le (seen_so_far past g.1 (asked_before l past a))
-    where
-      at : (node : Node) (e : Entry) → Allowed head past (turn l.at.stamp node) e → AllAsked (line (turn l.at.stamp node) e ∷ past) → (committed_at 0 (line (turn l.at.stamp node) e ∷ past)).0 ≤ above
-          → ((committed_at 0 past).0 ≤ above → IsSeen past) → IsSeen (line (turn l.at.stamp node) e ∷ past)
-      at (Client c) (Made d) k a le h = absurd k.ok
-      at (Target t) (Made d) k a le h =
-          let is = txn_is head past l.at.stamp t d k in
-          subst (λ (v : ℕ). IsSeen (line (turn l.at.stamp (Target v)) (Made d) ∷ past)) (sym k.ok)
-          (seen_made past l.at.stamp d g.1 a.1 (subst (λ (v : ℕ). TxnIs head.osts (server_at head.osts 0 past) (turn l.at.stamp (Target v)) d) k.ok is) a.0 (h le))
-      at (Client c) (Commit to batch) k a le h = absurd k.ok
-      at (Target t) (Commit to batch) k a le h = of (nat_eq 0 t) refl
-        where
-          new : List Line
-          new = line (turn l.at.stamp (Target t)) (Commit to batch) ∷ past
+    stands : Deed → Bool
+    stands d = nat_lt committed_so d.reply.txn.0 && not (story.is_lost head.osts (only 0 past) d.reply.txn.0)
 
-          later : Bool → List Deed
-          later b = if b then filter (λ x. nat_lt to x.reply.txn.0) (log_at 0 past) else log_at 0 past
+    no : (b : Bool) → not b ≡ true → b ≡ false
+    no true e = absurd (cc)
+    no false e = refl
 
-          low : Bool → Txn
-          low b = if b then record { 0 = to } else committed_at 0 past
+-- what is seen, where the committed number by the lines is that of the story
+pub seen_is : (head : Head) (past : List Line) (touched : List Part) → Grown head past → AllAsked past → committed 0 (printed past) ≡ (server_of head.osts (only 0 past)).committed.0
+    → seen_by head.osts 0 (printed past) touched ≡ seen_in touched (log_at 0 past)
+seen_is head past touched g a level =
+    ap (λ (ws : List Written). map (λ (w : Written). w.number) (filter (is_seen (committed 0 (printed past)) (is_lost (printed past) 0) touched) ws)) (written_is head past g a)
+    ∙ seen_written (committed 0 (printed past)) (is_lost (printed past) 0) touched stands (made_in past) same
+    ∙ ap (seen_in touched) (log_of_all head past g ∙ sym (log_is head.osts 0 past))
+  where
+    stands : Deed → Bool
+    stands d = nat_lt (server_of head.osts (only 0 past)).committed.0 d.reply.txn.0 && not (story.is_lost head.osts (only 0 past) d.reply.txn.0)
 
-          of : (b : Bool) → nat_eq 0 t ≡ b → law_seen past ≡ seen_in touched (filter over (later (nat_eq 0 t)))
-          of false e = h (subst (λ (b : Bool). (low b).0 ≤ above) e le) ∙ ap (λ (b : Bool). seen_in touched (filter over (later b))) (sym e)
-          of true e =
-              let up : to ≤ above = subst (λ (b : Bool). (low b).0 ≤ above) e le in
-              let known = logs head past g.1 in
-              let below : (committed_at 0 past).0 ≤ to = ⊎_elim
-              (λ (p : (last : Deed) × In last (log_at 0 past) × (to ≡ last.reply.txn.0)). let lt = known.above p.0 p.1 in let is = p.2 in omega (arith, lt, is))
-              (λ (p : to ≡ (committed_at 0 past).0). omega (arith, p))
-              (commits head.osts 0 past to (k.of 0 e))
-              in
-              seen_commit past to up (h (omega (arith, up, below))) ∙ ap (λ (b : Bool). seen_in touched (filter over (later b))) (sym e)
-      at _ _ k a le h = h le
-
--- what is seen
-pub seen_is : (head : Head) (past : List Line) (touched : List Part) → Grown head past → AllAsked past → seen_by head.osts 0 (printed past) touched ≡ seen_in touched (log_at 0 past)
-seen_is head past touched g a =
-    let c = committed_is head past g in
-    let h = logs head past g in
-    seen_so_far head (committed 0 (printed past)) (is_lost (printed past) 0) (λ n. none_lost head past 0 n g) touched past g a (omega (arith, c))
-    ∙ ap (seen_in touched) (filter_all (λ (d : Deed). nat_lt (committed 0 (printed past)) d.reply.txn.0) (log_at 0 past) (λ d i. let lt = h.above d i in lt-ltb (committed 0 (printed past)) d.reply.txn.0 (omega (arith, lt, c))))
+    same : (d : Deed) → In d (made_in past) → (nat_lt (committed 0 (printed past)) d.reply.txn.0 && not (is_lost (printed past) 0 d.reply.txn.0)) ≡ stands d
+    same d i =
+        let m = in_made head past d g i in
+        let made : WasMade past d.reply.txn.0 = (listed head 0 past d g (acted_only head past d g m.0) m.1).made in
+        ap (λ (n : ℕ). nat_lt n d.reply.txn.0 && not (is_lost (printed past) 0 d.reply.txn.0)) level
+        ∙ ap (λ (b : Bool). nat_lt (server_of head.osts (only 0 past)).committed.0 d.reply.txn.0 && not b) (lost_is head past g d.reply.txn.0 made)

@@ -347,7 +347,7 @@ module _ (head : Head) where
               let one = of_any (same_reading running.call) (known (who_is c (printed past)) (printed past)) some.0 in
               let knows = every_in (KnownAt c past) one.0 (known (who_is c (printed past)) (printed past)) (known_is_known head c past g) one.1.0 in
               let reads = repeats (bare_at c past) running.file running.call one.0 good.3.0 good.3.1 one.1.1 knows in
-              d c refl (inr (reads.0, reads.1, repeats_unmarked head c past g one.0 one.1.0 k.ok.calm))
+              d c refl (inr (reads.0, reads.1, repeats_unmarked head c past g one.0 one.1.0 k.ok.calm k.ok.ready))
       by (Target t) (Begin slot running) k d = tt
       by _ _ k d = tt
 

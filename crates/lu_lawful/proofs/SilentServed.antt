@@ -1,13 +1,14 @@
 -- A call that repeats one whose answer is known begins while no held lock is marked. What a life knows goes with the news of a boot that
 -- the metadata target doesn't serve yet, and no call is calm that begins before it serves; and a life that joins there holds nothing.
 use Rattle.std.proofs.Common.{◌≡◌, ℕ, ◌+◌, ◌≤◌, Bool, true, false, List, [], ◌∷◌, ◌++◌, Option, Some, inl, inr, refl, sym, subst, ap, ◌∙◌, arith}
-use Rattle.std.specs.Prelude.{nat_eq, not, ◌==◌, ◌&&◌, if◌then◌else◌, length, filter}
+use Rattle.std.specs.Prelude.{nat_eq, not, ◌==◌, ◌&&◌, ◌||◌, if◌then◌else◌, length, filter}
 use Rattle.std.specs.Option.{option_map}
 use Rattle.std.proofs.lemmas.Bool.{cond_both, cond-true, and_parts, eqb-true}
 use Rattle.std.proofs.lemmas.Bool.Decides.{nat_tests}
 use Rattle.lu_base.specs.declared.ids.At.{At}
 use Rattle.lu_base.specs.declared.ids.Node.{Node}
 use Rattle.lu_base.specs.declared.ids.Node.TheVariants.{Client, Target}
+use Rattle.lu_base.specs.declared.ids.Stamp.{Stamp}
 use Rattle.lu_base.specs.declared.ids.Who.{Who}
 use Rattle.lu_msg.specs.declared.answers.Answer.{Answer}
 use Rattle.lu_msg.specs.declared.calls.Call.{Call}
@@ -22,24 +23,27 @@ use Rattle.lu_words.specs.Words.{Entry, Begin, Take, Heard, Hold, Drop, Told, Li
 use Rattle.lu_words.specs.Concerns.{only}
 use Rattle.lu_words.specs.Printed.{printed}
 use Rattle.lu_client_rows.specs.Caches.{held_as, with_held, brought, with_brought, held_at}
-use Rattle.lu_covered.specs.ClientStates.{life_of, standing_of, flights_of}
+use Rattle.lu_covered.specs.ClientStates.{life_of, known_of, standing_of, flights_of}
+use Rattle.lu_covered.specs.Calls.{life_at}
 use Rattle.lu_covered.specs.Heads.{Head}
-use Rattle.lu_covered.specs.Imports.{Standing, Joining, Recovering, Serving, interrupted, flights_after, standing_at}
+use Rattle.lu_covered.specs.Imports.{Standing, Joining, Recovering, Serving, interrupted, flights_after, standing_at, known_at}
 use Rattle.lu_laws.specs.Words.Pasts.{Past}
 use Rattle.lu_laws.specs.Words.Sends.{Sending, sending, message_of}
 use Rattle.lu_laws.specs.Words.Lives.{life, who_is, is_by}
 use Rattle.lu_laws.specs.Words.Repeats.{disturbs, unready_with, unready_after, unready, is_ready, begun_calm, calm, told_calm, known, is_error}
-use Rattle.lu_guards.proofs.Guards.{In, TookNow}
+use Rattle.lu_guards.proofs.Guards.{In, Was, TookNow, is_ready_for, is_welcome}
 use Rattle.lu_guards.proofs.StoryGuards.{EntryOf}
 use Rattle.lu_guards.proofs.Grown.{Allowed, Grown, GrownOf}
 use Rattle.lu_guards.proofs.Held.{held_is}
-use Rattle.lu_guards.proofs.Lists.{self, in_filter, in_filtered, life_is}
+use Rattle.lu_guards.proofs.Lists.{self, in_filter, in_filtered, life_is, life_self}
+use Rattle.lu_laws.proofs.Tests.{clash}
 use Rattle.lu_guards.proofs.Only.{told_by_target, grown_of}
-use Rattle.lu_guards.proofs.Parts.{standing_is}
+use Rattle.lu_guards.proofs.Parts.{standing_is, known_is, life_is_of}
 use Rattle.lu_facts.proofs.Groups.{turn}
-use Rattle.lu_facts.proofs.All.{holds, holds_at}
+use Rattle.lu_facts.proofs.All.{holds_at}
 use Rattle.lu_lawful.proofs.Printed.{flip, sending_is}
 use Rattle.lu_lawful.proofs.SilentHeld.{Unmarked}
+use Rattle.lu_lawful.proofs.SilentReady.{ready_own}
 
 was_joining : (s : Standing) → interrupted s ≡ Joining → s ≡ Joining
 was_joining Joining e = refl
@@ -130,17 +134,18 @@ module _ (head : Head) (c : ℕ) where
       by (Target u) (Unmarks t) ok s ih = absurd ok
       by _ _ ok s ih = ih s
 
--- ---- a life that recovers knows nothing, and no call of it is calm: it was told a boot after the first one, which no target serves
+-- ---- a life that recovers knows nothing, and no call of it is calm: it was told a boot in which the metadata target doesn't serve it yet
 
-abbrev NewUp : List (ℕ × ℕ) → Type 0
-NewUp ups = (x : ℕ × ℕ) × (In x ups × (2 ≤ x.1))
+not_ready : (up : ℕ × ℕ) (ups : List (ℕ × ℕ)) → In up ups → (length ups == 0) ≡ false
+not_ready up [] i = absurd i
+not_ready up (x ∷ ups) i = grind (arith, nat_tests)
 
-not_ready : (ups : List (ℕ × ℕ)) → NewUp ups → (length ups == 0) ≡ false
-not_ready [] u = absurd u.1.0
-not_ready (x ∷ ups) u = grind (arith, nat_tests)
+abbrev Stopped : Who → Past → ℕ → Type 0
+Stopped who past boot = record { knows : known who past ≡ []; calms : calm who past ≡ []; up : In (0, boot) (unready who past) }
 
-abbrev Stopped : Who → Past → Type 0
-Stopped who past = record { knows : known who past ≡ []; calms : calm who past ≡ []; up : NewUp (unready who past) }
+neither : (a b : Bool) → (a || b) ≡ false → (a ≡ false) × (b ≡ false)
+neither true b e = absurd (cc)
+neither false b e = (refl, e)
 
 module _ {A : Type 0} where
   filtered : (b : Bool) (test : A → Bool) (old : List A) → old ≡ [] → (if b then filter test old else old) ≡ []
@@ -164,33 +169,27 @@ told_none true slot given standing old e h = ap (λ (v : List (ℕ × Call)). to
     by false = h
 told_none false slot given standing old e h = h
 
--- a target is ready in its first boot alone
-abbrev FirstReady : Node → Message → Type 0
-FirstReady (Target t) (message.Ready who boot committed) = boot ≡ 1
-FirstReady _ _ = Unit {0}
+-- it isn't what the metadata target says once it serves in that boot
+abbrev IsOther : ℕ → Node → Message → Type 0
+IsOther b (Target t) (message.Ready who boot committed) = (0 == t && b == boot) ≡ false
+IsOther b _ _ = Unit {0}
 
-up_stays : (from : Node) (m : Message) (old : List (ℕ × ℕ)) → FirstReady from m → NewUp old → NewUp (unready_with from m old)
-up_stays (Target t) (message.Up b) old f u = (u.0, (inr u.1.0, u.1.1))
-up_stays (Target t) (message.Ready who b committed) old f u =
-    (u.0, (in_filtered (λ (x : ℕ × ℕ). not (x.0 == t && x.1 == b)) u.0 old u.1.0 (other (u.0.0 == t) (u.0.1 == b) (let low = u.1.1 in grind (arith, nat_tests, f, low))), u.1.1))
-  where
-    other : (a b : Bool) → b ≡ false → not (a && b) ≡ true
-    other true true e = absurd (cc)
-    other true false e = refl
-    other false b e = refl
-up_stays _ _ old f u = u
+up_stays : (b : ℕ) (from : Node) (m : Message) (old : List (ℕ × ℕ)) → IsOther b from m → In (0, b) old → In (0, b) (unready_with from m old)
+up_stays b (Target t) (message.Up boot) old f i = inr i
+up_stays b (Target t) (message.Ready who boot committed) old f i = in_filtered (λ (x : ℕ × ℕ). not (x.0 == t && x.1 == boot)) (0, b) old i (ap not f)
+up_stays b _ _ old f i = i
 
 module _ (head : Head) (c : ℕ) where
   abbrev StoppedAt : List Line → Type 0
-  StoppedAt past = Stopped (who_is c (printed past)) (printed past)
+  StoppedAt past = Stopped (who_is c (printed past)) (printed past) (known_at c 0 past)
 
   its_own : (past : List Line) → is_by (who_is c (printed past)) (printed past) (Client c) ≡ true
   its_own past = rw (self c, self (life c (printed past))) refl
 
   -- the newest line took the news
-  just_told : (past : List Line) (at : At) (t b : ℕ) → Grown head past → at.node ≡ Client c → TookNow past at (Target t) (message.Up b) → 2 ≤ b → StoppedAt past
-  just_told [] at t b g n took low = absurd took
-  just_told (l ∷ past) at t b g n took low = by l.entry g.0 took
+  just_told : (past : List Line) (at : At) (b : ℕ) → Grown head past → at.node ≡ Client c → TookNow past at (Target 0) (message.Up b) → Stopped (who_is c (printed past)) (printed past) b
+  just_told [] at b g n took = absurd took
+  just_told (l ∷ past) at b g n took = by l.entry g.0 took
     where
       P : Past
       P = printed past
@@ -198,27 +197,45 @@ module _ (head : Head) (c : ℕ) where
       W : Who
       W = who_is c P
 
-      by : (e : Entry) → Allowed head past l.at e → TookNow (line l.at e ∷ past) at (Target t) (message.Up b) → StoppedAt (line l.at e ∷ past)
+      by : (e : Entry) → Allowed head past l.at e → TookNow (line l.at e ∷ past) at (Target 0) (message.Up b) → Stopped (who_is c (printed (line l.at e ∷ past))) (printed (line l.at e ∷ past)) b
       by (Take k sender m) a took =
           let mine : is_by W P l.at.node ≡ true = ap (is_by W P) (ap (λ (v : At). v.node) took.0 ∙ n) ∙ its_own past in
-          let sent : sending P k ≡ Some (record { from = Target t; to = l.at.node; message = message.Up b }) =
-          sending_is past k sender l.at.node m a.ok.sent ∙ ap (λ (v : Node). coming v m) took.1 ∙ ap (λ (v : Message). coming (Target t) v) took.2
+          let sent : sending P k ≡ Some (record { from = Target 0; to = l.at.node; message = message.Up b }) =
+          sending_is past k sender l.at.node m a.ok.sent ∙ ap (λ (v : Node). coming v m) took.1 ∙ ap (λ (v : Message). coming (Target 0) v) took.2
           in
           let says : disturbs (message_of P k) ≡ true = ap (λ (o : Option Sending). disturbs (option_map (λ (s : Sending). s.message) o)) sent in
           let test : (is_by W P l.at.node && disturbs (message_of P k)) ≡ true = rw (mine, says) refl in
           record {
             knows = cond-true (is_by W P l.at.node && disturbs (message_of P k)) [] (known W P) test;
             calms = cond-true (is_by W P l.at.node && disturbs (message_of P k)) [] (calm W P) test;
-            up = subst NewUp (sym (cond-true (is_by W P l.at.node) (unready_after (sending P k) (unready W P)) (unready W P) mine ∙ ap (λ (o : Option Sending). unready_after o (unready W P)) sent)) ((t, b), (inl refl, low));
+            up = subst (λ (ups : List (ℕ × ℕ)). In (0, b) ups) (sym (cond-true (is_by W P l.at.node) (unready_after (sending P k) (unready W P)) (unready W P) mine ∙ ap (λ (o : Option Sending). unready_after o (unready W P)) sent)) (inl refl);
           }
         where
           coming : Node → Message → Option Sending
           coming from m = Some (record { from = from; to = l.at.node; message = m })
       by _ a took = absurd took
 
-  stopped : (past : List Line) → Grown head past → standing_at c 0 past ≡ Recovering → StoppedAt past
-  stopped [] g s = absurd (cc)
-  stopped (l ∷ past) g s = by l.at.node l.entry g.0 s (stopped past g.1)
+  -- what the metadata target says of the boot that the client knows is of its present life
+  other_taken : (past : List Line) (stamp : Stamp) (n : ℕ) (from : Node) (m : Message) → Allowed head past (turn stamp (Client c)) (Take n from m) → Grown head past → standing_at c 0 past ≡ Recovering → is_ready_for c past from m ≡ false → IsOther (known_at c 0 past) from m
+  other_taken past stamp n (Target t) (message.Ready who b committed) a g s w = of (0 == t) (known_at c 0 past == b) refl refl
+    where
+      of : (x y : Bool) → (0 == t) ≡ x → (known_at c 0 past == b) ≡ y → (x && y) ≡ false
+      of true true p q =
+          let zero : t ≡ 0 = sym (eqb-true 0 t p) in
+          let boot : known_at c 0 past ≡ b = eqb-true (known_at c 0 past) b q in
+          let known : known_of c (only 0 past) ≡ b = sym (known_is c 0 past) ∙ boot in
+          let was : Was (only 0 past) (Target 0) (Client c) (message.Ready who b committed) = subst (λ (v : ℕ). Was (only v past) (Target v) (Client c) (message.Ready who b committed)) zero (told_by_target past n t (Client c) (message.Ready who b committed) a.ok.sent) in
+          let own : who ≡ life_at c past = ready_own head c (Target 0) who b committed (only 0 past) (grown_of head 0 past g) (sym (standing_is c 0 past) ∙ s) (omega (arith, known)) was ∙ sym (life_is_of c 0 past) in
+          let welcome : is_ready_for c past (Target 0) (message.Ready who b committed) ≡ true = subst (λ (v : Who). (same_life who v && b == known_at c 0 past) ≡ true) own (subst (λ (v : ℕ). (same_life who who && b == v) ≡ true) (sym boot) (rw (life_self who, self b) refl)) in
+          absurd (clash (is_ready_for c past (Target 0) (message.Ready who b committed)) welcome (subst (λ (v : ℕ). is_ready_for c past (Target v) (message.Ready who b committed) ≡ false) zero w))
+      of true false p q = refl
+      of false y p q = refl
+  other_taken past stamp n (Target t) (message.Up b) a g s w = tt
+  other_taken past stamp n from m a g s w = tt
+
+  stopped : (past : List Line) → Grown head past → standing_at c 0 past ≡ Recovering → is_welcome c past ≡ false → StoppedAt past
+  stopped [] g s w = absurd (cc)
+  stopped (l ∷ past) g s w = by l.at.node l.entry g.0 s w (stopped past g.1)
     where
       S : Standing
       S = standing_at c 0 past
@@ -229,65 +246,80 @@ module _ (head : Head) (c : ℕ) where
       W : Who
       W = who_is c P
 
-      by : (node : Node) (e : Entry) → Allowed head past (turn l.at.stamp node) e → standing_at c 0 (line (turn l.at.stamp node) e ∷ past) ≡ Recovering → (S ≡ Recovering → StoppedAt past) → StoppedAt (line (turn l.at.stamp node) e ∷ past)
-      by (Client d) (Knows t b) a s ih =
-          cond_both (nat_eq c d && nat_eq 0 t) (interrupted S) S (λ (v : Standing). v ≡ Recovering → StoppedAt past)
-          (λ q r.
-          let same : c ≡ d = eqb-true c d (and_parts (nat_eq c d) (nat_eq 0 t) q).0 in
-          let newer = (a.of t (self t)).newer in
-          let least = ((holds head past g.1).at t).phase.least d in
-          just_told past (turn l.at.stamp (Client d)) t b g.1 (ap Client (sym same)) a.ok (omega arith))
-          (λ q r. ih r) s
-      by (Client d) (Serves t b) a s ih = ih (cond_both (nat_eq c d && nat_eq 0 t) Serving S (λ (v : Standing). v ≡ Recovering → S ≡ Recovering) (λ q r. absurd (cc)) (λ q r. r) s)
-      by (Client d) (Life w) a s ih = of (nat_eq c d) (nat_eq d c) (flip c d) s
+      B : ℕ
+      B = known_at c 0 past
+
+      by : (node : Node) (e : Entry) → Allowed head past (turn l.at.stamp node) e → standing_at c 0 (line (turn l.at.stamp node) e ∷ past) ≡ Recovering → is_welcome c (line (turn l.at.stamp node) e ∷ past) ≡ false → (S ≡ Recovering → is_welcome c past ≡ false → StoppedAt past)
+          → StoppedAt (line (turn l.at.stamp node) e ∷ past)
+      by (Client d) (Knows t b) a s w ih = of (nat_eq c d && nat_eq 0 t) refl s
         where
-          of : (x y : Bool) → x ≡ y → (if x && true then Joining else S) ≡ Recovering → Stopped (record { client = c; life = if y then w.life else life c P }) P
+          of : (v : Bool) → (nat_eq c d && nat_eq 0 t) ≡ v → (if v then interrupted S else S) ≡ Recovering → Stopped W P (if v then b else B)
+          of true q r =
+              let p = and_parts (nat_eq c d) (nat_eq 0 t) q in
+              just_told past (turn l.at.stamp (Client d)) b g.1 (ap Client (sym (eqb-true c d p.0))) (subst (λ (v : ℕ). TookNow past (turn l.at.stamp (Client d)) (Target v) (message.Up b)) (sym (eqb-true 0 t p.1)) a.ok)
+          of false q r = ih r w
+      by (Client d) (Serves t b) a s w ih = of (nat_eq c d) (nat_eq 0 t) (nat_eq t 0) (flip 0 t) s w
+        where
+          of : (x y z : Bool) → y ≡ z → (if x && y then Serving else S) ≡ Recovering → (if x && z then false else is_welcome c past) ≡ false → StoppedAt past
+          of true true z e r v = absurd (cc)
+          of true false false e r v = ih r v
+          of true false true e r v = absurd (cc)
+          of false y z e r v = ih r v
+      by (Client d) (Life x) a s w ih = of (nat_eq c d) (nat_eq d c) (flip c d) s
+        where
+          of : (u v : Bool) → u ≡ v → (if u && true then Joining else S) ≡ Recovering → Stopped (record { client = c; life = if v then x.life else life c P }) P B
           of true y e r = absurd (cc)
-          of false false e r = ih r
+          of false false e r = ih r w
           of false true e r = absurd (cc)
-      by (Client d) (Begin slot running) a s ih =
-          let h = ih s in
+      by (Client d) (Begin slot running) a s w ih =
+          let h = ih s w in
           record {
             knows = filtered (is_by W P (Client d)) _ (known W P) h.knows;
-            calms = begun_none (is_by W P (Client d)) slot running.call (is_ready W P) (calm W P) (not_ready (unready W P) h.up) h.calms;
+            calms = begun_none (is_by W P (Client d)) slot running.call (is_ready W P) (calm W P) (not_ready (0, B) (unready W P) h.up) h.calms;
             up = h.up;
           }
-      by (Client d) (Told slot named given work) a s ih =
-          let h = ih s in
+      by (Client d) (Told slot named given work) a s w ih =
+          let h = ih s w in
           record {
             knows = told_none (is_by W P (Client d)) slot given (calm W P) (known W P) h.calms h.knows;
             calms = filtered (is_by W P (Client d)) _ (calm W P) h.calms;
             up = h.up;
           }
-      by (Client d) (Drop t x) a s ih = let h = ih s in record { knows = cleared (is_by W P (Client d)) (known W P) h.knows; calms = cleared (is_by W P (Client d)) (calm W P) h.calms; up = h.up }
-      by (Client d) (Take n from m) a s ih =
-          let h = ih s in
+      by (Client d) (Drop t x) a s w ih = let h = ih s w in record { knows = cleared (is_by W P (Client d)) (known W P) h.knows; calms = cleared (is_by W P (Client d)) (calm W P) h.calms; up = h.up }
+      by (Client d) (Take n from m) a s w ih =
+          let h = ih s (unwelcome (nat_eq c d) w) in
           record {
             knows = cleared (is_by W P (Client d) && disturbs (message_of P n)) (known W P) h.knows;
             calms = cleared (is_by W P (Client d) && disturbs (message_of P n)) (calm W P) h.calms;
-            up = cond_both (is_by W P (Client d)) (unready_after (sending P n) (unready W P)) (unready W P) NewUp
-                (λ q. subst (λ (o : Option Sending). NewUp (unready_after o (unready W P))) (sym (sending_is past n from (Client d) m a.ok.sent)) (up_stays from m (unready W P) (first from m a) h.up))
+            up = cond_both (is_by W P (Client d)) (unready_after (sending P n) (unready W P)) (unready W P) (λ (ups : List (ℕ × ℕ)). In (0, B) ups)
+                (λ q. subst (λ (o : Option Sending). In (0, B) (unready_after o (unready W P))) (sym (sending_is past n from (Client d) m a.ok.sent)) (up_stays B from m (unready W P) (mine (eqb-true d c (and_parts (nat_eq d c) _ q).0)) h.up))
                 (λ q. h.up);
           }
         where
-          first : (from : Node) (m : Message) → Allowed head past (turn l.at.stamp (Client d)) (Take n from m) → FirstReady from m
-          first (Target t) (message.Ready who b committed) a = (((holds head past g.1).at t).done.sent (Target t) (Client d) (message.Ready who b committed) (told_by_target past n t (Client d) (message.Ready who b committed) a.ok.sent)).0
-          first _ _ a = tt
-      by (Target u) (Knows t b) a s ih = absurd a.ok
-      by (Target u) (Serves t b) a s ih = absurd a.ok
-      by (Target u) (Life w) a s ih = absurd a.ok
-      by (Target u) (Begin slot running) a s ih = absurd a.ok
-      by (Target u) (Told slot named given work) a s ih = absurd a.ok
-      by (Target u) (Drop t x) a s ih = absurd a.ok
-      by (Target u) (Take n from m) a s ih = ih s
-      by _ _ a s ih = ih s
+          unwelcome : (b : Bool) → (if b then is_ready_for c past from m || is_welcome c past else is_welcome c past) ≡ false → is_welcome c past ≡ false
+          unwelcome true q = (neither (is_ready_for c past from m) (is_welcome c past) q).1
+          unwelcome false q = q
+
+          mine : d ≡ c → IsOther B from m
+          mine e =
+              let here : nat_eq c d ≡ true = ap (nat_eq c) e ∙ self c in
+              let none = subst (λ (b : Bool). (if b then is_ready_for c past from m || is_welcome c past else is_welcome c past) ≡ false) here w in
+              other_taken past l.at.stamp n from m (subst (λ (v : ℕ). Allowed head past (turn l.at.stamp (Client v)) (Take n from m)) e a) g.1 s (neither (is_ready_for c past from m) (is_welcome c past) none).0
+      by (Target u) (Knows t b) a s w ih = absurd a.ok
+      by (Target u) (Serves t b) a s w ih = absurd a.ok
+      by (Target u) (Life w) a s v ih = absurd a.ok
+      by (Target u) (Begin slot running) a s w ih = absurd a.ok
+      by (Target u) (Told slot named given work) a s w ih = absurd a.ok
+      by (Target u) (Drop t x) a s w ih = absurd a.ok
+      by (Target u) (Take n from m) a s w ih = ih s w
+      by _ _ a s w ih = ih s w
 
   -- ---- so where an answer is known, no held lock is marked as a call begins
 
-  pub repeats_unmarked : (past : List Line) → Grown head past → (k : Call) → In k (known (who_is c (printed past)) (printed past)) → (standing_at c 0 past ≡ Serving → Unmarked (held_at c past)) → Unmarked (held_at c past)
-  repeats_unmarked past g k i calm = by (standing_at c 0 past) refl
+  pub repeats_unmarked : (past : List Line) → Grown head past → (k : Call) → In k (known (who_is c (printed past)) (printed past)) → (standing_at c 0 past ≡ Serving → Unmarked (held_at c past)) → is_welcome c past ≡ false → Unmarked (held_at c past)
+  repeats_unmarked past g k i calm ready = by (standing_at c 0 past) refl
     where
       by : (s : Standing) → standing_at c 0 past ≡ s → Unmarked (held_at c past)
       by Serving e = calm e
       by Joining e = λ h j. absurd (subst (λ (v : List HeldLock). In h v) (held_is head c past g ∙ (joins_bare head c (only 0 past) (grown_of head 0 past g) (sym (standing_is c 0 past) ∙ e)).0) j)
-      by Recovering e = absurd (subst (λ (v : List Call). In k v) (stopped past g e).knows i)
+      by Recovering e = absurd (subst (λ (v : List Call). In k v) (stopped past g e ready).knows i)

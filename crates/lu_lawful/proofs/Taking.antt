@@ -1,8 +1,8 @@
 -- What a target took since its boot, by its story; and that what its window keeps of it, with the mark that is due, is what the laws count.
-use Rattle.std.proofs.Common.{◌≡◌, ℕ, ◌≤◌, Bool, true, false, List, [], ◌∷◌, Option, Some, None, ⊎_elim, refl, sym, subst, ap, ◌∙◌, arith}
-use Rattle.std.specs.Prelude.{nat_eq, not, ◌&&◌, if◌then◌else◌, unwrap_or}
+use Rattle.std.proofs.Common.{◌≡◌, ℕ, ◌<◌, ◌≤◌, Bool, true, false, List, [], ◌∷◌, Option, Some, None, ⊎_elim, refl, sym, subst, ap, ◌∙◌, arith}
+use Rattle.std.specs.Prelude.{nat_eq, nat_lt, not, ◌&&◌, if◌then◌else◌, unwrap_or}
 use Rattle.std.specs.List.{list_any}
-use Rattle.std.proofs.lemmas.Bool.{cond_both, cond-false, eqb-true, eq-eqb, true≢false}
+use Rattle.std.proofs.lemmas.Bool.{cond_both, cond-false, eqb-true, eq-eqb, lt-ltb, true≢false}
 use Rattle.lu_base.specs.declared.ids.At.{At}
 use Rattle.lu_base.specs.declared.ids.Stamp.{Stamp}
 use Rattle.lu_base.specs.declared.ids.Node.{Node}
@@ -12,15 +12,16 @@ use Rattle.lu_base.specs.declared.locks.Lock.{Lock}
 use Rattle.lu_msg.specs.declared.messages.Message.{Message}
 use Rattle.lu_msg.specs.declared.messages.Message.TheVariants as message
 use Rattle.lu_msg.specs.declared.messages.RequestReplay.{RequestReplay}
-use Rattle.lu_words.specs.Carried.{Said}
-use Rattle.lu_words.specs.Words.{Entry, Take, Crash, Boot, Back, Close, Evict, Joined, Stores, Brings, Says, Line, line}
+use Rattle.lu_words.specs.Carried.{Said, Outcome}
+use Rattle.lu_words.specs.Words.{Entry, Take, Crash, Boot, Back, Close, Evict, Joined, Stores, Brings, Says, Wishes, Line, line}
 use Rattle.lu_words.specs.Concerns.{concerns, only}
 use Rattle.lu_words.specs.Printed.{printed}
 use Rattle.lu_target_rows.specs.Lives.{is_life}
 use Rattle.lu_target_rows.specs.Kept.{replayed}
 use Rattle.lu_target_rows.specs.Recovery.{cut, empty_word}
 use Rattle.lu_target_rows.specs.Rows.{lock_again}
-use Rattle.lu_target_rows.specs.Windows.{Window, is_replay, is_lock, word_of}
+use Rattle.lu_target_rows.specs.Leaving.{life_of as life_in}
+use Rattle.lu_target_rows.specs.Windows.{Window, is_replay, is_lock, word_of, is_newest}
 use Rattle.lu_covered.specs.TargetStates.{server_of, lives_of, closed_of, up_of, replays_of, brought_of, words_of, window_of}
 use Rattle.lu_covered.specs.Heads.{Head}
 use Rattle.lu_laws.specs.Words.Pasts.{or_else}
@@ -28,9 +29,10 @@ use Rattle.lu_laws.specs.Words.Scopes.{only_here, last_at}
 use Rattle.lu_laws.specs.Words.Sends.{Sending}
 use Rattle.lu_laws.specs.Words.Boots.{booted_as, boot, opens_window, is_recovering}
 use Rattle.lu_laws.specs.Words.Handed.{with_message, handed}
-use Rattle.lu_guards.proofs.Guards.{IsTurnOf, BackNow, says_first, mark_of, due, EntryOk}
-use Rattle.lu_guards.proofs.StoryGuards.{IsRecovering, IsServing, EntryOf, StoresOk, BringsOk, SaysOk, KeepsOk}
+use Rattle.lu_guards.proofs.Guards.{IsTurnOf, BackNow, says_first, wish_by, wish_mark, mark_of, due, EntryOk}
+use Rattle.lu_guards.proofs.StoryGuards.{IsRecovering, IsServing, EntryOf, EvictOk, LeavesOk, JoinedOk, ComesOk, CloseOk, StoresOk, BringsOk, SaysOk, WishesOk, KeepsOk}
 use Rattle.lu_guards.proofs.Grown.{Grown, GrownOf}
+use Rattle.lu_guards.proofs.LifeLists.{none_is, found_life, life_stands, stands_life}
 use Rattle.lu_facts.proofs.Groups.{turn}
 use Rattle.lu_facts.proofs.All.{holds_at}
 use Rattle.lu_lawful.proofs.Printed.{flip, sending_is}
@@ -103,10 +105,11 @@ boot_of head t (l ∷ past) g = by l.at.node l.entry g.0.ok (boot_of head t past
     by (Client c) e ok h = h ∙ sym (either_way now (line (turn l.at.stamp (Client c)) e) P (concerns t (Client c) e) refl)
     by (Target u) e ok h = h ∙ sym (either_way now (line (turn l.at.stamp (Target u)) e) P (concerns t (Target u) e) refl)
 
--- whether its window is open: it was booted and hasn't crashed since
+-- whether its window is open: it was booted, and hasn't crashed or closed it since
 abbrev pub open_after : Bool → Entry → Bool
 open_after was (Boot boot disk) = true
 open_after was Crash = false
+open_after was (Close o) = false
 open_after was _ = was
 
 abbrev pub open_of : List Line → Bool
@@ -129,53 +132,46 @@ recovering_is head t (l ∷ past) g = by l.at.node l.entry g.0.ok (recovering_is
     by : (node : Node) (e : Entry) → EntryOk past (turn l.at.stamp node) node e → is_recovering t (printed past) ≡ open_of P → is_recovering t (printed (line (turn l.at.stamp node) e ∷ past)) ≡ open_of (only t (line (turn l.at.stamp node) e ∷ past))
     by (Target u) (Boot b disk) ok h = own u true (Boot b disk) (nat_eq u t) (nat_eq t u) (last_at opens_window t (printed past)) (flip u t) refl h
     by (Target u) Crash ok h = own u false Crash (nat_eq u t) (nat_eq t u) (last_at opens_window t (printed past)) (flip u t) refl h
-    by (Target u) (Close o) ok h = absurd ok
+    by (Target u) (Close o) ok h = own u false (Close o) (nat_eq u t) (nat_eq t u) (last_at opens_window t (printed past)) (flip u t) refl h
     by (Client c) (Boot b disk) ok h = absurd ok
     by (Client c) Crash ok h = absurd ok
     by (Client c) (Close o) ok h = absurd ok
     by (Client c) e ok h = h ∙ sym (either_way open_of (line (turn l.at.stamp (Client c)) e) P (concerns t (Client c) e) refl)
     by (Target u) e ok h = h ∙ sym (either_way open_of (line (turn l.at.stamp (Target u)) e) P (concerns t (Target u) e) refl)
 
--- the window is open while a target that was booted again is up
+-- a target that closed its window recovers no more
+pub closed_now : (head : Head) (past : List Line) (stamp : Stamp) (t : ℕ) (o : Outcome) → CloseOk head past (turn stamp (Target t)) o → IsRecovering head.osts (line (turn stamp (Target t)) (Close o) ∷ past) → ⊥
+closed_now head past stamp t o ok r = true≢false (sym (eq-eqb o.boot (server_of head.osts past).boot (ap (λ (v : Outcome). v.boot) ok.is)) ∙ r)
+
+-- the window is open while a target that recovers is up
 pub record Opens (osts : ℕ) (past : List Line) : Type 0 where
-  pub booted : open_of past ≡ true → 2 ≤ (server_of osts past).boot
-  pub opened : up_of past ≡ true → 2 ≤ (server_of osts past).boot → open_of past ≡ true
+  pub recovers : open_of past ≡ true → IsRecovering osts past
+  pub opened : up_of past ≡ true → IsRecovering osts past → open_of past ≡ true
 
 pub opens : (head : Head) (past : List Line) → GrownOf head past → Opens head.osts past
-opens head [] g = record { booted = λ e. absurd (cc); opened = λ u le. absurd (omega arith) }
+opens head [] g = record { recovers = λ e. absurd (cc); opened = λ u r. absurd (cc) }
 opens head (l ∷ past) g = by l.at.node l.entry g.0 (opens head past g.3)
   where
-    low : 1 ≤ (server_of head.osts past).boot
-    low = (holds_at head past g.3).phase.low
+    under : closed_of past ≤ (server_of head.osts past).boot
+    under = (holds_at head past g.3).phase.under
+
+    -- a new boot isn't the one that served last
+    apart : (n k : ℕ) → n < k → nat_eq n k ≡ false
+    apart n k lt = by (nat_eq n k) refl
+      where
+        by : (b : Bool) → nat_eq n k ≡ b → b ≡ false
+        by false q = refl
+        by true q = absurd (let s = eqb-true n k q in omega arith)
 
     by : (node : Node) (e : Entry) → EntryOf head past (turn l.at.stamp node) node e → Opens head.osts past → Opens head.osts (line (turn l.at.stamp node) e ∷ past)
-    by (Target t) (Boot b disk) ok h = record { booted = λ e. (let n = ok.next in omega (arith, n, low)); opened = λ u le. refl }
-    by (Target t) Crash ok h = record { booted = λ e. absurd (cc); opened = λ u le. absurd (cc) }
-    by (Target t) (Close o) ok h = absurd ok
-    by (Client c) e ok h = record { booted = h.booted; opened = h.opened }
-    by (Target t) e ok h = record { booted = h.booted; opened = h.opened }
+    by (Target t) (Boot b disk) ok h = record { recovers = λ e. apart (closed_of past) b (let n = ok.next in omega (arith, n, under)); opened = λ u r. refl }
+    by (Target t) Crash ok h = record { recovers = λ e. absurd (cc); opened = λ u r. absurd (cc) }
+    by (Target t) (Close o) ok h = record { recovers = λ e. absurd (cc); opened = λ u r. absurd (closed_now head past l.at.stamp t o ok r) }
+    by (Client c) e ok h = record { recovers = h.recovers; opened = h.opened }
+    by (Target t) e ok h = record { recovers = h.recovers; opened = h.opened }
 
 pub recovers : (head : Head) (past : List Line) → GrownOf head past → open_of past ≡ true → IsRecovering head.osts past
-recovers head past g e =
-    let le = (opens head past g).booted e in
-    let c = (holds_at head past g).phase.closed in
-    ap (λ (n : ℕ). nat_eq n (server_of head.osts past).boot) c ∙ apart (server_of head.osts past).boot le
-  where
-    apart : (n : ℕ) → 2 ≤ n → nat_eq 1 n ≡ false
-    apart n le = by (nat_eq 1 n) refl
-      where
-        by : (b : Bool) → nat_eq 1 n ≡ b → b ≡ false
-        by false q = refl
-        by true q = absurd (let s = eqb-true 1 n q in omega arith)
-
-pub booted_again : (head : Head) (past : List Line) → GrownOf head past → IsRecovering head.osts past → 2 ≤ (server_of head.osts past).boot
-booted_again head past g r =
-    let low = (holds_at head past g).phase.low in
-    let c = (holds_at head past g).phase.closed in
-    above (server_of head.osts past).boot low (λ e. true≢false (sym (eq-eqb (closed_of past) (server_of head.osts past).boot (c ∙ sym e)) ∙ r))
-  where
-    above : (n : ℕ) → 1 ≤ n → (n ≡ 1 → ⊥) → 2 ≤ n
-    above n le ne = grind (arith, ne)
+recovers head past g e = (opens head past g).recovers e
 
 -- ---- marks
 
@@ -183,6 +179,7 @@ abbrev pub IsNote : Entry → Type 0
 IsNote (Stores replay) = Unit {0}
 IsNote (Brings lock) = Unit {0}
 IsNote (Says said) = Unit {0}
+IsNote (Wishes who) = Unit {0}
 IsNote _ = ⊥
 
 abbrev OfNote : Option Entry → Type 0
@@ -211,10 +208,19 @@ note_of v b (message.Word who boot replays locks seen) = by (nat_eq boot b && is
     by false o = tt
 note_of v b (message.Join who boot) = by (nat_eq boot b && is_life who v.lives) (word_of who v.words)
   where
-    by : (t : Bool) (o : Option Said) → OfNote (if t then says_first o (empty_word who) else None)
+    wish : (t : Bool) (o : Option Who) → OfNote (if t then wish_by v who o else None)
+    wish false o = tt
+    wish true None = tt
+    wish true (Some old) = newest (nat_lt old.life who.life && is_newest who v.wishes)
+      where
+        newest : (n : Bool) → OfNote (if n then Some (Wishes who) else None)
+        newest true = tt
+        newest false = tt
+
+    by : (t : Bool) (o : Option Said) → OfNote (if t then says_first o (empty_word who) else wish_mark v b who boot)
     by true None = tt
     by true (Some w) = tt
-    by false o = tt
+    by false o = wish (nat_eq boot b) (life_in who.client v.lives)
 note_of v b m = tt
 
 due_is : (osts clients : ℕ) (past : List Line) → OfNote (due osts clients past)
@@ -240,22 +246,22 @@ none_due osts clients past e n k = by (due osts clients past) refl
 -- ---- a mark is the one that is due
 
 module _ (head : Head) where
-  pub due_stores : (past : List Line) (stamp : Stamp) (t : ℕ) (replay : RequestReplay) → StoresOk head past (turn stamp (Target t)) replay → due head.osts head.clients past ≡ Some (Stores replay)
+  pub due_stores : (past : List Line) (stamp : Stamp) (t : ℕ) (replay : RequestReplay) → StoresOk head past (turn stamp (Target t)) t replay → due head.osts head.clients past ≡ Some (Stores replay)
   due_stores [] stamp t replay ok = absurd ok.keeps.took
   due_stores (l ∷ past) stamp t replay ok = by l.at.node l.entry ok
     where
-      by : (node : Node) (e : Entry) → StoresOk head (line (turn l.at.stamp node) e ∷ past) (turn stamp (Target t)) replay → due head.osts head.clients (line (turn l.at.stamp node) e ∷ past) ≡ Some (Stores replay)
+      by : (node : Node) (e : Entry) → StoresOk head (line (turn l.at.stamp node) e ∷ past) (turn stamp (Target t)) t replay → due head.osts head.clients (line (turn l.at.stamp node) e ∷ past) ≡ Some (Stores replay)
       by (Client c) (Take n from m) ok = absurd (let e : Client c ≡ Target t = ap (λ (v : At). v.node) ok.keeps.took.0 in cc)
       by (Target u) (Take n from m) ok =
           subst (λ (v : Message). due head.osts head.clients (line (turn l.at.stamp (Target u)) (Take n from v) ∷ past) ≡ Some (Stores replay)) (sym ok.keeps.took.2)
           (rw (ok.keeps.recovers, eq-eqb ok.given.boot (server_of head.osts past).boot ok.keeps.of_boot, ok.keeps.has, ok.new) (ap (λ (v : RequestReplay). Some (Stores v)) (sym ok.is)))
       by _ e ok = absurd ok.keeps.took
 
-  pub due_brings : (past : List Line) (stamp : Stamp) (t : ℕ) (lock : Lock) → BringsOk head past (turn stamp (Target t)) lock → due head.osts head.clients past ≡ Some (Brings lock)
+  pub due_brings : (past : List Line) (stamp : Stamp) (t : ℕ) (lock : Lock) → BringsOk head past (turn stamp (Target t)) t lock → due head.osts head.clients past ≡ Some (Brings lock)
   due_brings [] stamp t lock ok = absurd ok.keeps.took
   due_brings (l ∷ past) stamp t lock ok = by l.at.node l.entry ok
     where
-      by : (node : Node) (e : Entry) → BringsOk head (line (turn l.at.stamp node) e ∷ past) (turn stamp (Target t)) lock → due head.osts head.clients (line (turn l.at.stamp node) e ∷ past) ≡ Some (Brings lock)
+      by : (node : Node) (e : Entry) → BringsOk head (line (turn l.at.stamp node) e ∷ past) (turn stamp (Target t)) t lock → due head.osts head.clients (line (turn l.at.stamp node) e ∷ past) ≡ Some (Brings lock)
       by (Client c) (Take n from m) ok = absurd (let e : Client c ≡ Target t = ap (λ (v : At). v.node) ok.keeps.took.0 in cc)
       by (Target u) (Take n from m) ok =
           let new : list_any (is_lock (lock_again ok.given)) (brought_of past) ≡ false = subst (λ (v : Lock). list_any (is_lock v) (brought_of past) ≡ false) ok.is ok.new in
@@ -263,24 +269,54 @@ module _ (head : Head) where
           (rw (ok.keeps.recovers, eq-eqb ok.given.boot (server_of head.osts past).boot ok.keeps.of_boot, ok.keeps.has, new) (ap (λ (v : Lock). Some (Brings v)) (sym ok.is)))
       by _ e ok = absurd ok.keeps.took
 
-  pub due_says : (past : List Line) (stamp : Stamp) (t : ℕ) (said : Said) → SaysOk head past (turn stamp (Target t)) said → due head.osts head.clients past ≡ Some (Says said)
+  pub due_says : (past : List Line) (stamp : Stamp) (t : ℕ) (said : Said) → SaysOk head past (turn stamp (Target t)) t said → due head.osts head.clients past ≡ Some (Says said)
   due_says [] stamp t said ok = ⊎_elim (λ k. absurd k.took) (λ k. absurd k.1.took) ok.keeps
   due_says (l ∷ past) stamp t said ok = by l.at.node l.entry ok
     where
-      by : (node : Node) (e : Entry) → SaysOk head (line (turn l.at.stamp node) e ∷ past) (turn stamp (Target t)) said → due head.osts head.clients (line (turn l.at.stamp node) e ∷ past) ≡ Some (Says said)
+      by : (node : Node) (e : Entry) → SaysOk head (line (turn l.at.stamp node) e ∷ past) (turn stamp (Target t)) t said → due head.osts head.clients (line (turn l.at.stamp node) e ∷ past) ≡ Some (Says said)
       by (Client c) (Take n from m) ok = absurd (⊎_elim
           (λ k. let e : Client c ≡ Target t = ap (λ (v : At). v.node) k.took.0 in cc)
           (λ k. let e : Client c ≡ Target t = ap (λ (v : At). v.node) k.1.took.0 in cc)
           ok.keeps)
       by (Target u) (Take n from m) ok = ⊎_elim
-          (λ (k : KeepsOk head (line (turn l.at.stamp (Target u)) (Take n from m) ∷ past) (turn stamp (Target t)) ok.from (message.Word said.who ok.boot said.replays said.locks said.seen) said.who ok.boot).
+          (λ (k : KeepsOk head (line (turn l.at.stamp (Target u)) (Take n from m) ∷ past) (turn stamp (Target t)) t ok.from (message.Word said.who ok.boot said.replays said.locks said.seen) said.who ok.boot).
           subst (λ (v : Message). due head.osts head.clients (line (turn l.at.stamp (Target u)) (Take n from v) ∷ past) ≡ Some (Says said)) (sym k.took.2)
           (rw (k.recovers, eq-eqb ok.boot (server_of head.osts past).boot k.of_boot, k.has, ok.new) refl))
-          (λ (k : (said ≡ empty_word said.who) × KeepsOk head (line (turn l.at.stamp (Target u)) (Take n from m) ∷ past) (turn stamp (Target t)) ok.from (message.Join said.who ok.boot) said.who ok.boot).
+          (λ (k : (said ≡ empty_word said.who) × KeepsOk head (line (turn l.at.stamp (Target u)) (Take n from m) ∷ past) (turn stamp (Target t)) t ok.from (message.Join said.who ok.boot) said.who ok.boot).
           subst (λ (v : Message). due head.osts head.clients (line (turn l.at.stamp (Target u)) (Take n from v) ∷ past) ≡ Some (Says said)) (sym k.1.took.2)
           (rw (k.1.recovers, eq-eqb ok.boot (server_of head.osts past).boot k.1.of_boot, k.1.has, ok.new) (ap (λ (v : Said). Some (Says v)) (sym k.0))))
           ok.keeps
       by _ e ok = absurd (⊎_elim (λ k. k.took) (λ k. k.1.took) ok.keeps)
+
+  pub due_wishes : (past : List Line) (stamp : Stamp) (t : ℕ) (who : Who) → GrownOf head past → WishesOk head past (turn stamp (Target t)) t who → due head.osts head.clients past ≡ Some (Wishes who)
+  due_wishes [] stamp t who g ok = absurd ok.keeps.took
+  due_wishes (l ∷ past) stamp t who g ok = by l.at.node l.entry ok
+    where
+      Taken_by : Node → Entry → Type 0
+      Taken_by node e = WishesOk head (line (turn l.at.stamp node) e ∷ past) (turn stamp (Target t)) t who → due head.osts head.clients (line (turn l.at.stamp node) e ∷ past) ≡ Some (Wishes who)
+
+      -- another life of its client has the slot
+      other : (old : Who) → is_life old (lives_of head.clients past) ≡ true → old.client ≡ who.client → old.life < who.life → (is_life who (lives_of head.clients past) ≡ false) × (life_in who.client (lives_of head.clients past) ≡ Some old)
+      other old has client newer = (out (is_life who (lives_of head.clients past)) refl, there (life_in who.client (lives_of head.clients past)) refl)
+        where
+          one : (x y : Who) → is_life x (lives_of head.clients past) ≡ true → is_life y (lives_of head.clients past) ≡ true → x.client ≡ y.client → x ≡ y
+          one = (holds_at head past g.3).lives.one
+
+          out : (b : Bool) → is_life who (lives_of head.clients past) ≡ b → b ≡ false
+          out false e = refl
+          out true e = absurd (let q = ap (λ (w : Who). w.life) (one who old e has (sym client)) in omega (arith, q, newer))
+
+          there : (o : Option Who) → life_in who.client (lives_of head.clients past) ≡ o → o ≡ Some old
+          there None e = absurd (none_is who.client (lives_of head.clients past) e old (stands_life old (lives_of head.clients past) has) client)
+          there (Some x) e = let f = found_life who.client (lives_of head.clients past) x e in ap (λ (w : Who). Some w) (one x old (life_stands x (lives_of head.clients past) f.0) has (f.1 ∙ sym client))
+
+      by : (node : Node) (e : Entry) → Taken_by node e
+      by (Client c) (Take n from m) ok = absurd (let e : Client c ≡ Target t = ap (λ (v : At). v.node) ok.keeps.took.0 in cc)
+      by (Target u) (Take n from m) ok =
+          let o = other ok.old ok.keeps.has ok.client ok.newer in
+          subst (λ (v : Message). due head.osts head.clients (line (turn l.at.stamp (Target u)) (Take n from v) ∷ past) ≡ Some (Wishes who)) (sym ok.keeps.took.2)
+          (rw (ok.keeps.recovers, eq-eqb ok.boot (server_of head.osts past).boot ok.keeps.of_boot, o.0, o.1, lt-ltb ok.old.life who.life ok.newer, ok.newest) refl)
+      by _ e ok = absurd ok.keeps.took
 
 -- ---- what is due follows
 
@@ -333,12 +369,14 @@ agrees_at head (l ∷ past) g k r = by l.at.node l.entry g.0 (λ mark d. (k.0.ma
     by (Target t) (Stores replay) ok k h r = subst (λ (o : Option Entry). AgreesAt head past o) (due_stores head past l.at.stamp t replay ok) (h r)
     by (Target t) (Brings lock) ok k h r = subst (λ (o : Option Entry). AgreesAt head past o) (due_brings head past l.at.stamp t lock ok) (h r)
     by (Target t) (Says said) ok k h r = subst (λ (o : Option Entry). AgreesAt head past o) (due_says head past l.at.stamp t said ok) (h r)
-    by (Target t) (Evict who cause) ok k h r = absurd (serving ok.serves r)
-    by (Target t) (Joined who) ok k h r = absurd (serving ok.serves r)
-    by (Target t) (Close o) ok k h r = absurd ok
+    by (Target t) (Wishes who) ok k h r = subst (λ (o : Option Entry). AgreesAt head past o) (due_wishes head past l.at.stamp t who g.3 ok) (h r)
+    by (Target t) (Evict who cause) ok k h r = absurd (⊎_elim (λ (v : EvictOk head past (turn l.at.stamp (Target t)) who cause). serving v.serves r) (λ (v : LeavesOk head past (turn l.at.stamp (Target t)) who cause). serving v.serves r) ok)
+    by (Target t) (Joined who) ok k h r = absurd (⊎_elim (λ (v : JoinedOk head past (turn l.at.stamp (Target t)) t who). serving v.serves r) (λ (v : ComesOk head past (turn l.at.stamp (Target t)) t who). serving v.serves r) ok)
+    by (Target t) (Close o) ok k h r = absurd (closed_now head past l.at.stamp t o ok r)
     by (Client c) (Take n from m) ok k h r = plain (Take n from m) (λ v. v) k (h r)
     by (Client c) (Stores replay) ok k h r = absurd ok
     by (Client c) (Brings lock) ok k h r = absurd ok
     by (Client c) (Says said) ok k h r = absurd ok
+    by (Client c) (Wishes who) ok k h r = absurd ok
     by (Client c) e ok k h r = plain e (λ v. v) k (h r)
     by (Target t) e ok k h r = plain e (λ v. v) k (h r)

@@ -1,12 +1,13 @@
 -- The law of acts at a call's begin, at a told line and at a request's message, and the whole of it.
 use Rattle.std.proofs.Common.{◌≡◌, ◌≢◌, ℕ, ◌+◌, ◌≤◌, Bool, true, false, List, [], ◌∷◌, Option, Some, None, inl, inr, ⊎_elim, refl, sym, subst, ap, ◌∙◌, arith, pos}
 use Rattle.std.specs.Prelude.{not, ◌&&◌, ◌||◌}
-use Rattle.std.proofs.lemmas.Bool.{and_parts, eqb-true}
+use Rattle.std.proofs.lemmas.Bool.{cond_both, and_parts, eqb-true}
 use Rattle.lu_base.specs.declared.ids.At.{At}
 use Rattle.lu_base.specs.declared.ids.Stamp.{Stamp}
 use Rattle.lu_base.specs.declared.ids.Node.{Node}
 use Rattle.lu_base.specs.declared.ids.Node.TheVariants.{Client, Target}
 use Rattle.lu_base.specs.declared.ids.Who.{Who}
+use Rattle.lu_base.specs.declared.ids.Xid.{Xid}
 use Rattle.lu_msg.specs.declared.answers.Answer.{Answer}
 use Rattle.lu_msg.specs.declared.answers.Answer.TheVariants as answer
 use Rattle.lu_msg.specs.declared.calls.Call.{Call}
@@ -21,8 +22,8 @@ use Rattle.lu_trace.specs.declared.entries.Line.{Line as PrintedLine}
 use Rattle.lu_machine.specs.Fits.{answer_fits}
 use Rattle.lu_machine.specs.Footprint.{Every}
 use Rattle.lu_words.specs.Carried.{Deed, HandleFile, Flight, Work, Running}
-use Rattle.lu_words.specs.Words.{Entry, Begin, Send, Heard, Told, Act, Txn as Made, Line, line}
-use Rattle.lu_words.specs.Concerns.{only}
+use Rattle.lu_words.specs.Words.{Entry, Begin, Send, Heard, Told, Txn as Made, Line, line}
+use Rattle.lu_words.specs.Concerns.{concerns, only}
 use Rattle.lu_words.specs.Sent.{count_sent}
 use Rattle.lu_words.specs.Printed.{printed_entry, printed}
 use Rattle.lu_covered.specs.Calls.{life_at, call_at, operation_of, becomes, told_as}
@@ -40,9 +41,9 @@ use Rattle.lu_guards.proofs.Guards.{In, JustHeard, Steps, IsToldAsIs, ToldOk, Kn
 use Rattle.lu_guards.proofs.Grown.{Allowed, Grown}
 use Rattle.lu_guards.proofs.Lists.{self, own_is, own_self, or_left, or_right}
 use Rattle.lu_guards.proofs.Turns.{Settled}
-use Rattle.lu_facts.proofs.Groups.{turn, Upto, Acted, Flew, Hears}
+use Rattle.lu_facts.proofs.Groups.{turn, Upto, Acted, Flew, Hears, HeardAs, HasSlot, Had, Evicted, IsMade, Stands as StandsSoFar, HoldsAt}
 use Rattle.lu_facts.proofs.All.{holds}
-use Rattle.lu_facts.proofs.Sides.{acted_at}
+use Rattle.lu_facts.proofs.Sides.{acted_at, acted_only}
 use Rattle.lu_facts.proofs.OnNames.{IsPlain, told_so, op_is, told_as_so}
 use Rattle.lu_facts.proofs.Refused.{acted_answered}
 use Rattle.lu_facts.proofs.Known.{HeardBy}
@@ -55,12 +56,12 @@ use Rattle.lu_lawful.proofs.Once.{asked_is, acted_sent}
 use Rattle.lu_lawful.proofs.Fine.{IsFine, deed_fine, so_fine, known_fine}
 use Rattle.lu_lawful.proofs.Flying.{Flown, flying, ask_flown, Distinct, flyers, keeps_flyers, no_more}
 use Rattle.lu_lawful.proofs.Facts.{AnswersAt, KnewAt, EndsAt, BadAt, TellsAt, AllTold}
-use Rattle.lu_lawful.proofs.ActsLaw.{ActFor, at_most, act_for, Stands, acted_in, either}
+use Rattle.lu_lawful.proofs.ActsLaw.{one_turn, NoneLeft, none_counts, at_most, ActIn, act_in, Stands, acted_in, either}
 use Rattle.lu_lawful.proofs.Hearing.{just_heard}
 use Rattle.lu_lawful.proofs.Handles.{is_bad_stage, begins_bad, meant_is}
 use Rattle.lu_lawful.proofs.BadCalls.{Due, nothing_due, due_before}
 use Rattle.lu_lawful.proofs.Notices.{notice_taken}
-use Rattle.lu_facts.proofs.Lines.{acted_whole, hears_only}
+use Rattle.lu_facts.proofs.Lines.{acted_whole, acted_more, hears_only}
 
 -- ---- what was just heard
 
@@ -154,6 +155,31 @@ just_heard_by (l ∷ past) at c t r j n = by l.entry j (λ i. just_heard_by past
     by (Told slot named given work) j h = absurd j
     by _ j h = h j
 
+-- what its life heard it heard as that life
+heard_more : (l : Line) (past : List Line) (who : Who) (f : Flight) (r : ReplyTo) → HeardAs past who f r → HeardAs (l ∷ past) who f r
+heard_more l past who f r h = by l.entry
+  where
+    by : (e : Entry) → HeardAs (line l.at e ∷ past) who f r
+    by (Heard t g k) = inr h
+    by _ = h
+
+pub heard_story : (l : Line) (past : List Line) (who : Who) (f : Flight) (r : ReplyTo) → HeardAs (only 0 past) who f r → HeardAs (only 0 (l ∷ past)) who f r
+heard_story l past who f r h = cond_both (concerns 0 l.at.node l.entry) (l ∷ only 0 past) (only 0 past) (λ (P : List Line). HeardAs P who f r) (λ t. heard_more l (only 0 past) who f r h) (λ t. h)
+
+pub heard_as : (head : Head) (past : List Line) (c : ℕ) (f : Flight) (r : ReplyTo) → Grown head past → HeardBy past c f r → HeardAs (only 0 past) r.who f r
+heard_as head [] c f r g h = absurd h
+heard_as head (l ∷ past) c f r g h = by l.at.node l.entry g.0 h (heard_as head past c f r g.1)
+  where
+    by : (node : Node) (e : Entry) → Allowed head past (turn l.at.stamp node) e → HeardBy (line (turn l.at.stamp node) e ∷ past) c f r → (HeardBy past c f r → HeardAs (only 0 past) r.who f r) → HeardAs (only 0 (line (turn l.at.stamp node) e ∷ past)) r.who f r
+    by (Target u) (Heard v x q) k h ih = absurd k.ok
+    by (Client d) (Heard v x q) k (inl h) ih =
+        let ok = k.of 0 (about_it v k.ok.0) in
+        let mine : life_of d (only 0 past) ≡ r.who = sym ok.who ∙ ap (λ (w : ReplyTo). w.who) h.2 in
+        subst (λ (w : ℕ). HeardAs (only 0 (line (turn l.at.stamp (Client d)) (Heard w x q) ∷ past)) r.who f r) (sym k.ok.0)
+        (inl (subst (λ (w : Who). is_own w (only 0 past) (Client d) ≡ true) mine (own_self (only 0 past) d), h.1, h.2))
+    by (Client d) (Heard v x q) k (inr h) ih = heard_story (line (turn l.at.stamp (Client d)) (Heard v x q)) past r.who f r (ih h)
+    by node e k h ih = heard_story (line (turn l.at.stamp node) e) past r.who f r (ih h)
+
 -- what stands of what was heard
 pub heard_stands : (out : Who → Bool) (lost : ℕ → ℕ → Bool) (past : List Line) (c : ℕ) (f : Flight) (r : ReplyTo) → HeardStand out lost past → HeardBy past c f r → out r.who ≡ false → ReplyStands lost r
 heard_stands out lost [] c f r s i o = absurd i
@@ -167,7 +193,7 @@ heard_stands out lost (l ∷ past) c f r s i o = by l.at.node l.entry s i (λ s 
     by _ _ s j h = h s j
 
 -- a reply but for the committed number
-pub same_stands : (lost : ℕ → ℕ → Bool) (k r : ReplyTo) → record k { committed = r.committed } ≡ r → ReplyStands lost r → ReplyStands lost k
+pub same_stands : (lost : ℕ → ℕ → Bool) (k r : ReplyTo) → record k { boot = r.boot; committed = r.committed } ≡ r → ReplyStands lost r → ReplyStands lost k
 same_stands lost k r e s = subst (ReplyStands lost) (sym e) s
 
 -- what is told at once
@@ -214,7 +240,7 @@ pub record Tells (past : List Line) (at : At) (c slot : ℕ) (named : At) (given
   pub reply : ReplyTo
   pub hears : HeardBy past c flight reply
   pub whose : reply.who ≡ life_at c past
-  pub is : record deed.reply { committed = reply.committed } ≡ reply
+  pub is : record deed.reply { boot = reply.boot; committed = reply.committed } ≡ reply
   pub plain : IsPlain deed.reply.answer
 
 told_tells : (head : Head) (past : List Line) (stamp : Stamp) (c slot : ℕ) (named : At) (given : Answer) (work : Option Work) → Steps past (turn stamp (Client c)) → ToldOk past (turn stamp (Client c)) c slot named given work → Grown head past
@@ -335,13 +361,53 @@ moved_acted lost past d who x named w n y a =
 -- ---- the law at a told line
 
 module _ (head : Head) (out : Who → Bool) (lost : ℕ → ℕ → Bool) (whole : List Line) where
-  -- an act of the past is one of the whole trace
-  abbrev Inside : List Line → Type 0
-  Inside past = (who : Who) (x : ℕ) → ActFor past who x → ActFor whole who x
+  -- what was done and heard in the past is so in the whole trace
+  abbrev pub Inside : List Line → Type 0
+  Inside past = ((d : Deed) → Acted past d → Acted whole d) × ((who : Who) (f : Flight) (r : ReplyTo) → HeardAs (only 0 past) who f r → HeardAs (only 0 whole) who f r)
 
-  in_time : (past : List Line) (at : At) (c slot : ℕ) (named : At) (given : Answer) → Grown head past → Grown head whole → Inside past
-      → (t : Tells past at c slot named given) → ReplyStands lost t.deed.reply → (b : calls.Begun) → b.at ≡ t.begun.at → operation b ≡ Some t.deed.op → ActsInTime lost (printed whole) (printed past) at (life_at c past) b named
-  in_time past at c slot named given g w i t s b at_is op_is =
+  -- no number that stands at the end was lost by a close, and a life that isn't out wasn't evicted
+  abbrev pub Lasting : Type 0
+  Lasting = ((d : Deed) → Acted whole d → IsMade d → lost 0 d.reply.txn.0 ≡ false → StandsSoFar head.osts (only 0 whole) d) × ((who : Who) → out who ≡ false → Evicted (only 0 whole) who → ⊥)
+
+  -- beside an act that was heard stands no transaction of its request
+  alone : (past : List Line) (c : ℕ) (f : Flight) (r : ReplyTo) (d : Deed) (named : At) → Grown head past → Grown head whole → Inside past → Lasting → HeardBy past c f r → Acted past d → r ≡ record d.reply { boot = r.boot; committed = r.committed } → out r.who ≡ false → d.reply.at ≡ named
+      → acted (printed past) named d.reply.who d.reply.xid.0 ≡ true → standing_count lost 0 d.reply.who d.reply.xid.0 (printed whole) ≡ 0
+  alone past c f r d named g w i lasting hears a is stays turn acts = none_counts lost d.reply.who d.reply.xid.0 head whole w none
+    where
+      act : ActIn past named d.reply.who d.reply.xid.0
+      act = act_in head past named d.reply.who d.reply.xid.0 g acts
+
+      -- so it is that act
+      zero : d.reply.txn.0 ≡ 0
+      zero = ap (λ (v : Deed). v.reply.txn.0) (sym (one_turn head past act.0 d g act.1 a (act.3 ∙ sym turn) act.4 act.5)) ∙ act.2
+
+      whose : r.who ≡ d.reply.who
+      whose = ap (λ (v : ReplyTo). v.who) is
+
+      heard : HeardAs (only 0 whole) r.who f r
+      heard = i.1 r.who f r (heard_as head past c f r g hears)
+
+      inside : HoldsAt head (only 0 whole)
+      inside = (holds head whole w).at 0
+
+      has : HasSlot head.clients (only 0 whole) r.who
+      has = ⊎_elim
+          (λ (h : HasSlot head.clients (only 0 whole) r.who). h)
+          (λ (e : Evicted (only 0 whole) r.who). absurd (lasting.1 r.who stays e))
+          (subst (λ (v : Who). Had head.clients (only 0 whole) v) (sym whose) (inside.lives.acted d (acted_only head whole d w (i.0 d a))))
+
+      xid : ℕ → Xid
+      xid n = record { 0 = n }
+
+      none : NoneLeft lost d.reply.who d.reply.xid.0 whole
+      none e b made left who x =
+          let same : e ≡ d = inside.done.alone r.who f r d e heard has (acted_only head whole d w (i.0 d a)) is (acted_only head whole e w b) made (lasting.0 e b made left) (who ∙ sym whose) (ap xid x) in
+          let n : e.reply.txn.0 ≡ 0 = ap (λ (v : Deed). v.reply.txn.0) same ∙ zero in
+          omega (arith, n, made)
+
+  in_time : (past : List Line) (at : At) (c slot : ℕ) (named : At) (given : Answer) → Grown head past → Grown head whole → Inside past → Lasting
+      → (t : Tells past at c slot named given) → out t.reply.who ≡ false → ReplyStands lost t.deed.reply → (b : calls.Begun) → b.at ≡ t.begun.at → operation b ≡ Some t.deed.op → ActsInTime lost (printed whole) (printed past) at (life_at c past) b named
+  in_time past at c slot named given g w i lasting t stays s b at_is op_is =
       let d = t.deed in
       let x = d.reply.xid.0 in
       let is = asked_is head past d g (acted_sent head past d g t.acted) in
@@ -355,14 +421,14 @@ module _ (head : Head) (out : Who → Bool) (lost : ℕ → ℕ → Bool) (whole
               request = moved_asked past d (life_at c past) x d.op t.who refl refl is;
               executed = moved_acted lost past d (life_at c past) x named t.who t.turn_is refl there;
               untold = t.untold;
-              alone = λ a. (at_most lost (life_at c past) x head whole w).1 (i (life_at c past) x (act_for past named (life_at c past) x a));
+              alone = λ a. subst (λ (v : Who). standing_count lost 0 v x (printed whole) ≡ 0) t.who (alone past c t.flight t.reply d named g w i lasting t.hears t.acted (sym t.is) stays t.turn_is (subst (λ (v : Who). acted (printed past) named v x ≡ true) (sym t.who) a));
             }));
       }
 
   -- of a call that asked
-  asked_law : (past : List Line) (stamp : Stamp) (c slot : ℕ) (named : At) (given : Answer) (work : Option Work) → Steps past (turn stamp (Client c)) → ToldOk past (turn stamp (Client c)) c slot named given work → Grown head past → Grown head whole → Inside past
+  asked_law : (past : List Line) (stamp : Stamp) (c slot : ℕ) (named : At) (given : Answer) (work : Option Work) → Steps past (turn stamp (Client c)) → ToldOk past (turn stamp (Client c)) c slot named given work → Grown head past → Grown head whole → Inside past → Lasting
       → HeardStand out lost past → ToldBy out lost (printed whole) (printed past) (turn stamp (Client c)) (Client c) slot named given
-  asked_law past stamp c slot named given work steps ok g w i s =
+  asked_law past stamp c slot named given work steps ok g w i lasting s =
       let at = turn stamp (Client c) in
       let t = told_tells head past stamp c slot named given work steps ok g in
       let o = meant_is head c slot past t.begun g t.call in
@@ -375,7 +441,7 @@ module _ (head : Head) (out : Who → Bool) (lost : ℕ → ℕ → Bool) (whole
         evicted = λ e. let f = fine.1 in absurd (cc);
         own = λ e. absurd (own_no (is_local b.call) (is_bad_handle given) (is_end_of_life given) (not_local t.begun.file b.call t.deed.op asks_it) fine.0 fine.1 e);
         acts = λ e. subst (λ (v : Who). ActsInTime lost (printed whole) (printed past) at v b named) (sym (present_is head c past g))
-            (in_time past at c slot named given g w i t (same_stands lost t.deed.reply t.reply t.is (heard_stands out lost past c t.flight t.reply s t.hears (ap out (t.whose ∙ sym (present_is head c past g)) ∙ e))) b o.2 (sym o.4 ∙ t.becomes));
+            (in_time past at c slot named given g w i lasting t (ap out (t.whose ∙ sym (present_is head c past g)) ∙ e) (same_stands lost t.deed.reply t.reply t.is (heard_stands out lost past c t.flight t.reply s t.hears (ap out (t.whose ∙ sym (present_is head c past g)) ∙ e))) b o.2 (sym o.4 ∙ t.becomes));
       })
 
   -- of a call whose answer was known: its turn is the one in which it began and is told
@@ -439,12 +505,12 @@ module _ (head : Head) (out : Who → Bool) (lost : ℕ → ℕ → Bool) (whole
         };
       })
 
-  told_law : (past : List Line) (stamp : Stamp) (c slot : ℕ) (named : At) (given : Answer) (work : Option Work) → Allowed head past (turn stamp (Client c)) (Told slot named given work) → Grown head past → Grown head whole → Inside past
+  told_law : (past : List Line) (stamp : Stamp) (c slot : ℕ) (named : At) (given : Answer) (work : Option Work) → Allowed head past (turn stamp (Client c)) (Told slot named given work) → Grown head past → Grown head whole → Inside past → Lasting
       → HeardStand out lost past → ToldBy out lost (printed whole) (printed past) (turn stamp (Client c)) (Client c) slot named given
-  told_law past stamp c slot named given work k g w i s = by k.ok
+  told_law past stamp c slot named given work k g w i lasting s = by k.ok
     where
       by : EntryOk past (turn stamp (Client c)) (Client c) (Told slot named given work) → ToldBy out lost (printed whole) (printed past) (turn stamp (Client c)) (Client c) slot named given
-      by (inl ok) = asked_law past stamp c slot named given work k.steps ok g w i s
+      by (inl ok) = asked_law past stamp c slot named given work k.steps ok g w i lasting s
       by (inr (inl ok)) = knew_law past stamp c slot named given work ok g
       by (inr (inr (inl ok))) = ends_law past stamp c slot named given work k.steps ok g
       by (inr (inr (inr ok))) = bad_law past stamp c slot named given work ok g
@@ -489,7 +555,7 @@ sends_law : (head : Head) (past : List Line) (stamp : Stamp) (c : ℕ) (r : Requ
 sends_law head past stamp c r is k g =
     let new = asking past stamp c r in
     let who = life_of c (only 0 past) in
-    let flown = ask_flown head past c r g (k.of 0 (self 0)) in
+    let flown = ask_flown past c r (k.of 0 (self 0)) in
     let fs = keeps_flyers head past stamp (Client c) (Send (Target 0) (message.Request r)) k g (flyers head past g) who in
     subst (λ (v : Who). FliesAt (printed past) 0 r (in_flight 0 v (printed new))) (sym (ap (λ (v : RequestOf). v.who) flown.2))
     (record {
@@ -503,13 +569,9 @@ sends_law head past stamp c r is k g =
 
 -- ---- the law
 
-module _ (head : Head) (is : IsHead head) (out : Who → Bool) (lost : ℕ → ℕ → Bool) (whole : List Line) (all_grown : Grown head whole) where
+module _ (head : Head) (is : IsHead head) (out : Who → Bool) (lost : ℕ → ℕ → Bool) (whole : List Line) (all_grown : Grown head whole) (lasting : Lasting head out lost whole) where
   inside_before : (past : List Line) (l : Line) → Inside head out lost whole (l ∷ past) → Inside head out lost whole past
-  inside_before past l i who x a = i who x (by l.entry)
-    where
-      by : (e : Entry) → ActFor (line l.at e ∷ past) who x
-      by (Act d) = inr a
-      by _ = a
+  inside_before past l i = (λ d a. i.0 d (acted_more l.at l.entry past d a), λ who f r h. i.1 who f r (heard_story l past who f r h))
 
   heard_before : (past : List Line) (l : Line) → HeardStand out lost (l ∷ past) → HeardStand out lost past
   heard_before past l s = by l.entry s
@@ -518,7 +580,7 @@ module _ (head : Head) (is : IsHead head) (out : Who → Bool) (lost : ℕ → �
       by (Heard t f r) s = s.1
       by _ s = s
 
-  -- what is known of a past: its acts are among those of the whole trace, and what was heard stands
+  -- what is known of a past: it is one of the whole trace, and what was heard stands
   abbrev Known : List Line → Type 0
   Known past = Inside head out lost whole past × HeardStand out lost past
 
@@ -538,7 +600,7 @@ module _ (head : Head) (is : IsHead head) (out : Who → Bool) (lost : ℕ → �
           → OfPrinted (λ x. ActsAt out lost (printed whole) (printed past) (record { at = turn l.at.stamp node; entry = x }) later x) (printed_entry (count_sent past + 1) e)
       by (Client c) (Begin slot running) k s due = λ bad. due (begins_bad head c slot past l.at.stamp running g k bad)
       by (Target t) (Begin slot running) k s due = absurd k.ok
-      by (Client c) (Told slot named given work) k s due = told_law head out lost whole past l.at.stamp c slot named given work k g all_grown (inside_before past l known.0) s
+      by (Client c) (Told slot named given work) k s due = told_law head out lost whole past l.at.stamp c slot named given work k g all_grown (inside_before past l known.0) lasting s
       by (Target t) (Told slot named given work) k s due = absurd k.ok
       by (Client c) (Send (Target t) (message.Request r)) k s due = sent c t r k.ok k
       by (Client c) (Send (Target t) (message.Cancel who boot cookie)) k s due = tt
@@ -550,7 +612,7 @@ module _ (head : Head) (is : IsHead head) (out : Who → Bool) (lost : ℕ → �
       by (Client c) (Send (Client d) m) k s due = absurd k.ok
       by (Target t) (Send (Client c) m) k s due = tt
       by (Target t) (Send (Target u) m) k s due = absurd k.ok
-      by (Target t) (Made d) k s due = λ z. subst (λ v. standing_count lost v d.reply.who d.reply.xid.0 (printed whole) ≤ 1) (sym k.ok) (at_most lost d.reply.who d.reply.xid.0 head whole all_grown).0
+      by (Target t) (Made d) k s due = λ z. subst (λ v. standing_count lost v d.reply.who d.reply.xid.0 (printed whole) ≤ 1) (sym k.ok) (at_most lost d.reply.who d.reply.xid.0 head whole all_grown lasting.0)
       by (Client c) (Made d) k s due = absurd k.ok
       by _ _ k s due = tt
 

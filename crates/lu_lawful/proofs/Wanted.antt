@@ -1,10 +1,10 @@
 -- The locks that an act grants are those that its request asks for: over the contents at the act, one on each inode of its path, with
 -- the bits of its row.
-use Rattle.std.proofs.Common.{◌≤◌, ◌≡◌, ℕ, ◌+◌, ◌<◌, Bool, true, false, List, [], ◌∷◌, ◌⊎◌, inl, inr, ⊎_elim, Option, Some, None, refl, sym, subst, ap, ◌∙◌, arith}
+use Rattle.std.proofs.Common.{◌≤◌, ◌≡◌, ℕ, ◌+◌, ◌*◌, ◌<◌, Bool, true, false, List, [], ◌∷◌, ◌⊎◌, inl, inr, ⊎_elim, Option, Some, None, refl, sym, subst, ap, ◌∙◌, arith}
 use Rattle.std.specs.Prelude.{nat_eq, if◌then◌else◌, map, find}
-use Rattle.std.proofs.lemmas.Bool.{cond_both}
 use Rattle.std.proofs.lemmas.Bool.Decides.{nat_tests}
 use Rattle.lu_base.specs.declared.ids.At.{At}
+use Rattle.lu_base.specs.declared.ids.Fid.{Fid}
 use Rattle.lu_base.specs.declared.ids.Node.{Node}
 use Rattle.lu_base.specs.declared.ids.Node.TheVariants.{Client, Target}
 use Rattle.lu_base.specs.declared.ids.Stamp.{Stamp}
@@ -16,17 +16,18 @@ use Rattle.lu_base.specs.declared.locks.Policy.{Policy}
 use Rattle.lu_base.specs.declared.locks.Policy.TheVariants.{Bits, Range}
 use Rattle.lu_lock.specs.Growth.{granted_ask, grown_policy, opposing}
 use Rattle.lu_msg.specs.declared.operations.Op.{Op}
+use Rattle.lu_part.specs.declared.parts.Part.TheVariants as part
 use Rattle.lu_part.specs.declared.parts.Want.{Want}
-use Rattle.lu_machine.specs.Tree.{Tree}
-use Rattle.lu_machine.specs.Footprint.{Operation, forget, grants}
+use Rattle.lu_machine.specs.Tree.{Tree, child}
+use Rattle.lu_machine.specs.Footprint.{Operation, empty, after, forget, grants}
+use Rattle.lu_machine.specs.Removal.{contents}
 use Rattle.lu_machine.proofs.Made.{Named, named_empty, named_wide}
 use Rattle.lu_words.specs.Carried.{Deed}
-use Rattle.lu_words.specs.Words.{Entry, Act, Txn as Made, Grant, Boot, Evict, Line, line}
+use Rattle.lu_words.specs.Words.{Entry, Act, Txn as Made, Grant, Line, line}
 use Rattle.lu_words.specs.Concerns.{only}
 use Rattle.lu_words.specs.Printed.{printed}
 use Rattle.lu_target_rows.specs.Names.{locks_from}
 use Rattle.lu_covered.specs.Makes.{Path}
-use Rattle.lu_covered.specs.TargetParts.{operation}
 use Rattle.lu_covered.specs.TargetStates.{Server, none, tree_at, server_of}
 use Rattle.lu_covered.specs.Heads.{Head}
 use Rattle.lu_laws.specs.Words.Pasts.{or_else, same_turn}
@@ -35,17 +36,21 @@ use Rattle.lu_laws.specs.Words.Asked.{Acting, acting, wanted, wanted_lock, wante
 use Rattle.lu_guards.proofs.Guards.{In, Did}
 use Rattle.lu_guards.proofs.Grown.{Allowed, Grown}
 use Rattle.lu_guards.proofs.Lists.{self}
-use Rattle.lu_guards.proofs.Parts.{server_is}
-use Rattle.lu_facts.proofs.Groups.{turn}
+use Rattle.lu_guards.proofs.Parts.{server_is, boot_is, count_is, tree_is as tree_there}
+use Rattle.lu_facts.proofs.Groups.{turn, items_of, HoldsAt}
 use Rattle.lu_facts.proofs.Asked.{acted_on_names}
 use Rattle.lu_facts.proofs.Inodes.{Kinds, kinds_empty, kinds_after, EachOnce, grants_once}
-use Rattle.lu_facts.proofs.Finds.{numbers_at, numbers_up}
+use Rattle.lu_facts.proofs.All.{holds}
+use Rattle.lu_facts.proofs.Finds.{numbers_at}
+use Rattle.lu_facts.proofs.Grafts.{named_fewer}
+use Rattle.lu_facts.proofs.Lines.{acted_whole}
+use Rattle.lu_facts.proofs.OnNames.{IsOnNames}
+use Rattle.lu_facts.proofs.OverItems.{over_now}
 use Rattle.lu_facts.proofs.Named.{named_after}
 use Rattle.lu_lawful.proofs.Turns.{same_turn_self, same_life_self}
 use Rattle.lu_lawful.proofs.Story.{about_it}
 use Rattle.lu_lawful.proofs.Facts.{AskedAt, AllAsked}
-use Rattle.lu_lawful.proofs.Deeds.{txn_is}
-use Rattle.lu_lawful.proofs.Contents.{number_is, contents_are}
+use Rattle.lu_lawful.proofs.Contents.{contents_alike}
 use Rattle.lu_lawful.proofs.Once.{all_asked}
 use Rattle.lu_lawful.proofs.Given.{did_acted}
 
@@ -59,40 +64,44 @@ Any path = Unit {0}
 abbrev pub IsTree : ℕ → Tree → Type 0
 IsTree high t = Named Any high t × Kinds t
 
-tree_txn : (head : Head) (past : List Line) (stamp : Stamp) (d : Deed) → Allowed head past (turn stamp (Target 0)) (Made d) → Grown head past → IsTree (numbers_at past) (tree_at head.osts 0 past)
-    → IsTree (numbers_at (line (turn stamp (Target 0)) (Made d) ∷ past)) (tree_at head.osts 0 (line (turn stamp (Target 0)) (Made d) ∷ past))
-tree_txn head past stamp d a g h =
-    let is = txn_is head past stamp 0 d a in
-    let number = number_is head past (turn stamp (Target 0)) d g is in
-    let above : numbers_at past < d.reply.txn.0 = omega (arith, number) in
-    let on_names = acted_on_names head (line (turn stamp (Target 0)) (Made d) ∷ past) d (a, g) (inl refl) in
-    let named = named_after head.osts (tree_at head.osts 0 past) d.reply.txn d.reply.who Any (numbers_at past) h.0 above d.op on_names in (
-      named_wide _ Any d.reply.txn.0 (numbers_at (line (turn stamp (Target 0)) (Made d) ∷ past)) (tree_at head.osts 0 (line (turn stamp (Target 0)) (Made d) ∷ past)) (λ path m. tt) (omega (arith, number)) named,
-      kinds_after head.osts (tree_at head.osts 0 past) (operation d) (numbers_at past) h.0.low above h.1,
-    )
+tree_act : (osts : ℕ) (t : Tree) (a : Operation) (n : ℕ) → IsOnNames a.op → n < a.number.0 → IsTree n t → IsTree a.number.0 (after osts t a)
+tree_act osts t a n on_names lt h = (
+  named_wide _ Any a.number.0 a.number.0 (after osts t a) (λ path m. tt) (omega arith) (named_after osts t a.number a.who Any n h.0 lt a.op on_names),
+  kinds_after osts t a n h.0.low lt h.1,
+)
 
--- an eviction takes opens alone
-tree_forgets : (high : ℕ) (t : Tree) (who : Who) → IsTree high t → IsTree high (forget t who)
-tree_forgets high t who h = (record { made = λ path c e. h.0.made path c e; one = h.0.one; low = h.0.low; least = h.0.least }, h.1)
+-- one that holds the same names
+tree_same : (n : ℕ) (t u : Tree) → ((d : Fid) (m : List ℕ) → child t d m ≡ child u d m) → IsTree n t → IsTree n u
+tree_same n t u same h = (named_fewer Any n t u (λ d m c is. same d m ∙ is) h.0, λ d e m k x a b. h.1 d e m k x (same d m ∙ a) (same e k ∙ b))
 
 tree_wide : (low high : ℕ) (t : Tree) → low ≤ high → IsTree low t → IsTree high t
 tree_wide low high t le h = (named_wide Any Any low high t (λ path m. m) le h.0, h.1)
 
+-- the transactions that stand are on names
 pub tree_is : (head : Head) (past : List Line) → Grown head past → IsTree (numbers_at past) (tree_at head.osts 0 past)
-tree_is head [] g = (named_empty Any (numbers_at []) (omega arith), kinds_empty)
-tree_is head (l ∷ past) g = by l.at.node l.entry g.0 (tree_is head past g.1)
+tree_is head past g =
+    subst (λ (t : Tree). IsTree (numbers_at past) t) (sym (tree_there head.osts 0 past))
+    (tree_wide bound (numbers_at past) v.tree (let b = boot_is head.osts 0 past in let c = count_is head.osts 0 past in omega (arith, b, c))
+    (tree_same bound (contents head.osts empty (items_of head.osts story)) v.tree (λ d m. at.history.tree (part.Name d m)) left))
   where
-    by : (node : Node) (e : Entry) → Allowed head past (turn l.at.stamp node) e → IsTree (numbers_at past) (tree_at head.osts 0 past)
-        → IsTree (numbers_at (line (turn l.at.stamp node) e ∷ past)) (tree_at head.osts 0 (line (turn l.at.stamp node) e ∷ past))
-    by (Client c) (Evict who cause) a h = absurd a.ok
-    by (Target t) (Evict who cause) a h =
-        cond_both (nat_eq 0 t) (forget (tree_at head.osts 0 past) who) (tree_at head.osts 0 past) (λ (v : Tree). IsTree (numbers_at past) v) (λ e. tree_forgets (numbers_at past) (tree_at head.osts 0 past) who h) (λ e. h)
-    by (Client c) (Made d) a h = absurd a.ok
-    by (Target t) (Made d) a h =
-        subst (λ (v : ℕ). IsTree (numbers_at (line (turn l.at.stamp (Target v)) (Made d) ∷ past)) (tree_at head.osts 0 (line (turn l.at.stamp (Target v)) (Made d) ∷ past))) (sym a.ok)
-        (tree_txn head past l.at.stamp d (subst (λ (v : ℕ). Allowed head past (turn l.at.stamp (Target v)) (Made d)) a.ok a) g.1 h)
-    by (Target t) (Boot b disk) a h = tree_wide (numbers_at past) (numbers_at (line (turn l.at.stamp (Target t)) (Boot b disk) ∷ past)) (tree_at head.osts 0 past) (numbers_up head (line (turn l.at.stamp (Target t)) (Boot b disk)) past g.1 a) h
-    by node e a h = h
+    story : List Line
+    story = only 0 past
+
+    at : HoldsAt head story
+    at = (holds head past g).at 0
+
+    v : Server
+    v = server_of head.osts story
+
+    bound : ℕ
+    bound = v.boot * 4294967296 + v.count
+
+    left : IsTree bound (contents head.osts empty (items_of head.osts story))
+    left =
+        over_now head story (λ n t. IsTree n t) (λ n le. (named_empty Any n le, kinds_empty))
+        (λ is a n ok lt h. tree_act head.osts (contents head.osts empty is) a n (subst (λ (x : Operation). IsOnNames x.op) ok.operates (acted_on_names head past ok.deed g (acted_whole 0 past ok.deed ok.acted))) lt h)
+        (λ n t who h. tree_same n t (forget t who) (λ d m. refl) h)
+        (λ n m t le h. tree_wide n m t le h) at
 
 -- ---- the locks of an act
 
@@ -181,7 +190,7 @@ asked_as head past at d l g did turn i = ⊎_elim
     let r = lock_of d.reply.who q.cookie ws l j in (
       ap (λ (o : Option Acting). find (is_for l) (wanted_by head.osts (printed past) l.cookie o)) (subst (λ (v : At). acting v (printed past) ≡ Some (record { who = d.reply.who; xid = d.reply.xid.0 })) turn q.acting)
           ∙ ap (λ (o : Option Op). find (is_for l) (map (wanted_lock l.cookie d.reply.who) (wanted head.osts (printed past) d.reply.who o))) q.asked
-          ∙ ap (λ (t : Tree). find (is_for l) (map (wanted_lock l.cookie d.reply.who) (grants head.osts t (asks d.reply.who d.op)))) (contents_are head past g (all_asked head past g))
+          ∙ ap (λ (ws : List Want). find (is_for l) (map (wanted_lock l.cookie d.reply.who) ws)) (contents_alike head past g (all_asked head past g) (asks d.reply.who d.op)).grants
           ∙ found d.reply.who q.cookie ws l once j,
       λ granted waiting. grown_same l.ask r.0.bits granted waiting (ap (λ (v : Lock). v.ask.policy) r.2),
     ))

@@ -16,4 +16,4 @@ OfEveryRun P = (head : Head) (turns : List Turn) → IsHead head → IsRun head 
 abbrev pub OfAllThatFit : ((Who → Bool) → (ℕ → ℕ → Bool) → ℕ → Past → Type 0) → Type 0
 OfAllThatFit P =
     (head : Head) (turns : List Turn) → IsHead head → IsRun head turns → AllCovered (lines_of turns)
-    → (out : Who → Bool) (lost : ℕ → ℕ → Bool) → Fits out lost (lines_of turns) → P out lost head.osts (printed (lines_of turns))
+    → (out : Who → Bool) (lost : ℕ → ℕ → Bool) → Fits head.osts out lost (lines_of turns) → P out lost head.osts (printed (lines_of turns))

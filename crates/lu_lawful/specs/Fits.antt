@@ -1,12 +1,14 @@
 -- Which lives may be out at the end of a trace, and which of the metadata target's numbers lost, so far as a past
 -- goes: what stands saw only what stands, what a life that isn't out heard stands with all that it saw, what is
--- committed stands, and who was evicted is out. A life that stays at a recovery is one of these; so far no number is lost.
-use Rattle.std.specs.Prelude.{◌≡◌, ◌≤◌, ℕ, zero, suc, Bool, true, false, List, [], ◌∷◌}
+-- committed stands, what a close so far lost is lost, and who was evicted is out.
+use Rattle.std.specs.Prelude.{◌≡◌, ◌⊎◌, ◌≤◌, ℕ, zero, suc, Bool, true, false, List, [], ◌∷◌}
 use Rattle.lu_base.specs.declared.ids.Node.{Node}
 use Rattle.lu_base.specs.declared.ids.Node.TheVariants.{Client, Target}
 use Rattle.lu_base.specs.declared.ids.Who.{Who}
 use Rattle.lu_msg.specs.declared.messages.Reply.{Reply as ReplyTo}
-use Rattle.lu_words.specs.Words.{Heard, Txn as Made, Commit, Evict, Line}
+use Rattle.lu_words.specs.Words.{Heard, Txn as Made, Commit, Close, Evict, Line}
+use Rattle.lu_words.specs.Concerns.{only}
+use Rattle.lu_covered.specs.TargetCloses.{is_lost}
 
 -- these numbers aren't lost
 abbrev pub AllStand : (ℕ → ℕ → Bool) → List ℕ → Type 0
@@ -32,15 +34,25 @@ abbrev pub HeardStand : (Who → Bool) → (ℕ → ℕ → Bool) → List Line 
 HeardStand out lost [] = Unit {0}
 HeardStand out lost (l ∷ past) = elim l.entry [ Heard target flight reply ↦ HeardStandsAt out lost l.at.node reply × HeardStand out lost past | _ ↦ HeardStand out lost past ]
 
--- nothing up to a number that the metadata target committed is lost
-abbrev pub CommitStandsAt : (ℕ → ℕ → Bool) → Node → ℕ → Type 0
-CommitStandsAt lost (Target zero) to = (n : ℕ) → n ≤ to → lost 0 n ≡ false
-CommitStandsAt lost (Target (suc t)) to = Unit {0}
-CommitStandsAt lost (Client c) to = Unit {0}
+-- a transaction has that number: reads Txn
+abbrev pub WasMade : List Line → ℕ → Type 0
+WasMade [] n = ⊥
+WasMade (l ∷ past) n = elim l.entry [ Made d ↦ (d.reply.txn.0 ≡ n) ⊎ WasMade past n | _ ↦ WasMade past n ]
 
-abbrev pub CommitsStand : (ℕ → ℕ → Bool) → List Line → Type 0
-CommitsStand lost [] = Unit {0}
-CommitsStand lost (l ∷ past) = elim l.entry [ Commit to batch ↦ CommitStandsAt lost l.at.node to × CommitsStand lost past | _ ↦ CommitsStand lost past ]
+-- of the transactions that stood when the metadata target committed, or closed a window, none up to that number is lost
+abbrev pub CommitStandsAt : ℕ → (ℕ → ℕ → Bool) → List Line → Node → ℕ → Type 0
+CommitStandsAt osts lost past (Target zero) to = (n : ℕ) → WasMade past n → is_lost osts (only 0 past) n ≡ false → n ≤ to → lost 0 n ≡ false
+CommitStandsAt osts lost past (Target (suc t)) to = Unit {0}
+CommitStandsAt osts lost past (Client c) to = Unit {0}
+
+abbrev pub CommitsStand : ℕ → (ℕ → ℕ → Bool) → List Line → Type 0
+CommitsStand osts lost [] = Unit {0}
+CommitsStand osts lost (l ∷ past) =
+    elim l.entry [
+      | Commit to batch ↦ CommitStandsAt osts lost (l ∷ past) l.at.node to × CommitsStand osts lost past
+      | Close o ↦ CommitStandsAt osts lost (l ∷ past) l.at.node o.disk.committed × CommitsStand osts lost past
+      | _ ↦ CommitsStand osts lost past
+    ]
 
 -- a life that a target evicted is out
 abbrev pub EvictedOut : (Who → Bool) → List Line → Type 0
@@ -48,9 +60,10 @@ EvictedOut out [] = Unit {0}
 EvictedOut out (l ∷ past) = elim l.entry [ Evict who cause ↦ (out who ≡ true) × EvictedOut out past | _ ↦ EvictedOut out past ]
 
 -- lives and numbers that may be out and lost after a past; the root's number, 1, is no transaction's
-pub record Fits (out : Who → Bool) (lost : ℕ → ℕ → Bool) (past : List Line) : Type 0 where
+pub record Fits (osts : ℕ) (out : Who → Bool) (lost : ℕ → ℕ → Bool) (past : List Line) : Type 0 where
   pub root : lost 0 1 ≡ false
+  pub stays : (n : ℕ) → WasMade past n → is_lost osts (only 0 past) n ≡ true → lost 0 n ≡ true
   pub seen : SeenStand lost past
   pub heard : HeardStand out lost past
-  pub committed : CommitsStand lost past
+  pub committed : CommitsStand osts lost past
   pub gone : EvictedOut out past

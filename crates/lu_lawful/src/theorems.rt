@@ -19,12 +19,12 @@ ghost use Rattle.lu_laws.specs.Orderly.{Orderly};
 ghost use Rattle.lu_lawful.specs.Everywhere.{OfEveryRun, OfAllThatFit};
 
 /// Every run of the whole table whose lines are covered prints a lawful trace, whatever the network loses, repeats or
-/// reorders, whoever is evicted and joins in a new life, and whichever targets crash and boot again, up to the close of
-/// their recovery windows: for every number of clients, of object storage targets and of requests in flight, and every
-/// schedule.
+/// reorders, whoever is evicted and joins in a new life, and whichever targets crash, boot again, recover and close their
+/// recovery windows: for every number of clients, of object storage targets and of requests in flight, and every schedule.
 ///
 /// Of the law of acts and that of history more is shown: they hold for all lives that will be out and all
-/// numbers that will be lost at the end of the trace, so far as these fit the run; whoever was evicted is out.
+/// numbers that will be lost at the end of the trace, so far as these fit the run; whoever was evicted is out, and what a
+/// close lost is lost.
 pub fn covered_runs_are_lawful()
     ensures messages { OfEveryRun (λ osts whole. Holds Messages whole) }
     ensures locks { OfEveryRun (λ osts whole. Holds (Locks osts) whole) }
@@ -43,10 +43,11 @@ pub fn covered_runs_are_lawful()
 /// and has the answer of the contents, what a target sends carries its boot and what it has committed, what is heard was
 /// in flight, a reply that is sent again is as it was, what is held came in its turn, what is released was given back in
 /// its turn or was an evicted life's, what is called back guards what a request that waits would write, a new life is the
-/// client's next one and follows the notice that the old one is over, and who joins asked for it in that turn and is newer
-/// than the last one there, which was evicted; a crash comes to a target that is up, a boot to one that is down, and it is
-/// the next one; and what only a serving target does stands where it serves. No covered run has the other lines that it
-/// speaks of: what the close of a recovery window hands out.
+/// client's next one and follows the notice that the old one is over, and who joins asked for it in that turn, or at a
+/// close since the boot, and is newer than the last one there, which was evicted; a crash comes to a target that is up, a
+/// boot to one that is down, and it is the next one; what only a serving target does stands where it serves; a close is
+/// followed by the commit of what it keeps; and what it keeps and restores was handed in since the boot. Covered runs have
+/// no `wait` line, of which it speaks too.
 pub fn covered_runs_are_orderly()
     ensures orderly { OfEveryRun (λ osts whole. Orderly osts whole) }
 {}

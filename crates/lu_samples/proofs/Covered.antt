@@ -1,88 +1,37 @@
--- The scenes with locks, that with a file that is opened, that with commits, that in which a client is evicted and that in which a target crashes
--- are covered, so what they come to is lawful.
-use Rattle.std.proofs.Common.{◌≡◌, ℕ, zero, suc, ◌≤◌, false, List, [], ◌∷◌, inl, inr, refl, arith, lit≤}
-use Rattle.std.specs.Prelude.{codes, All}
-use Rattle.std.proofs.lemmas.List.Elements.{All-nil, All-cons, All-head, All-tail}
-use Rattle.std.proofs.lemmas.List.Sums.{AllPass-from_list_all}
-use Rattle.lu_base.specs.Texts.{is_name_byte, IsName, IsPath}
-use Rattle.lu_scene.specs.declared.scene.Scene.{Scene}
+-- The scenes with locks, that with a file that is opened, that with commits, that in which a client is evicted, and those in which a target crashes,
+-- boots and closes a window are covered, so what they come to is lawful.
+use Rattle.std.proofs.Common.{◌≡◌, false, List, [], ◌∷◌, inl, inr, refl, arith, lit≤}
+use Rattle.std.specs.Prelude.{All}
+use Rattle.std.proofs.lemmas.List.Elements.{All-head, All-tail}
 use Rattle.lu_scene.specs.declared.scene.SceneLine.{SceneLine}
 use Rattle.lu_scene.specs.Grammar.{LineFits}
-use Rattle.lu_table.specs.Heads.{IsHead}
 use Rattle.lu_table.specs.Runs.{has_failed}
-use Rattle.lu_table.specs.Scenarios.{Config, Next, Goes, Ends, Stops, Fails, head_of, past_of, next, start, steps, Leads, here, more}
+use Rattle.lu_table.specs.Scenarios.{past_of}
 use Rattle.lu_laws.proofs.Words.{◌then◌}
 use Rattle.lu_laws.specs.Lawful.{Lawful}
 use Rattle.lu_covered_scenes.specs.Covered.{IsMade, IsCovered, IsCoveredIn, IsNoCommand, LineMisses, EvictsNone, AsksNoDisk}
 use Rattle.lu_covered_scenes.proofs.Runs.{scene_unfailed}
-use Rattle.lu_covered_scenes.proofs.Stated.{scene_lawful}
-use Rattle.lu_samples.proofs.Words.{with_head, after, trace_after, never}
+use Rattle.lu_samples.proofs.Words.{after, trace_after, never}
 use Rattle.lu_samples.proofs.Names.{commits}
 use Rattle.lu_samples.proofs.Handles.{opened}
 use Rattle.lu_samples.proofs.Lives.{expires}
 use Rattle.lu_samples.proofs.Crashes.{crashed}
 use Rattle.lu_samples.proofs.Locks.{called_back, waits, known}
-
-is_path : IsPath (codes "a" ∷ [])
-is_path =
-    record {
-      are_names = (lit≤ tt, All-cons IsName (codes "a") [] (record { filled = λ e. absurd cc; bytes = AllPass-from_list_all is_name_byte (codes "a") refl; not_here = λ e. absurd cc; not_above = λ e. absurd cc }) (All-nil IsName));
-      bytes = lit≤ tt;
-    }
-
-is_path_b : IsPath (codes "b" ∷ [])
-is_path_b =
-    record {
-      are_names = (lit≤ tt, All-cons IsName (codes "b") [] (record { filled = λ e. absurd cc; bytes = AllPass-from_list_all is_name_byte (codes "b") refl; not_here = λ e. absurd cc; not_above = λ e. absurd cc }) (All-nil IsName));
-      bytes = lit≤ tt;
-    }
-
-is_root : IsPath []
-is_root = record { are_names = (lit≤ tt, All-nil IsName); bytes = lit≤ tt }
-
-is_head : (clients : ℕ) → 1 ≤ clients → clients ≤ 16 → IsHead (head_of (with_head clients 1))
-is_head clients one most =
-    record {
-      clients = one;
-      most_clients = most;
-      osts = lit≤ tt;
-      most_osts = lit≤ tt;
-      expire = lit≤ tt;
-      dirty = lit≤ tt;
-      unused = lit≤ tt;
-      flight = lit≤ tt;
-      most_flight = lit≤ tt;
-    }
-
--- where a lock that is called back expires after two ticks
-is_short : IsHead (head_of (record (with_head 2 1) { expire = 2 }))
-is_short =
-    record {
-      clients = lit≤ tt;
-      most_clients = lit≤ tt;
-      osts = lit≤ tt;
-      most_osts = lit≤ tt;
-      expire = lit≤ tt;
-      dirty = lit≤ tt;
-      unused = lit≤ tt;
-      flight = lit≤ tt;
-      most_flight = lit≤ tt;
-    }
-
--- evidence for each of some lines
-abbrev Each : (SceneLine → Type 0) → List SceneLine → Type 0
-Each P [] = Unit {0}
-Each P (line ∷ lines) = P line × Each P lines
-
-all_of : (P : SceneLine → Type 0) (lines : List SceneLine) → Each P lines → All P lines
-all_of P [] each = All-nil P
-all_of P (line ∷ lines) each = All-cons P line lines each.0 (all_of P lines each.1)
+use Rattle.lu_samples.proofs.AbsentAndGap.{absent_and_gap}
+use Rattle.lu_samples.proofs.CrashInRecovery.{both_recover, crash_in_recovery}
+use Rattle.lu_samples.proofs.KeepsHeard.{keeps_heard}
+use Rattle.lu_samples.proofs.Restored.{restored}
+use Rattle.lu_samples.proofs.KeptReply.{kept_reply}
+use Rattle.lu_samples.proofs.GapInFlight.{gap_in_flight}
+use Rattle.lu_samples.proofs.JoinsAgain.{joins_again}
+use Rattle.lu_samples.proofs.RepliesLost.{acts_anew, saw_lost}
+use Rattle.lu_samples.proofs.Covering.{is_path, is_path_b, is_path_f, is_path_g, is_path_ab, is_path_ac, is_path_ax, is_root, is_head, is_short, all_of, leads, lawful}
 
 pub called_back_covered : IsCovered called_back
 called_back_covered =
     record {
       limits = record {
-        head = is_head 2 (lit≤ tt) (lit≤ tt);
+        head = is_head 2 1 (lit≤ tt) (lit≤ tt) (lit≤ tt) (lit≤ tt);
         lines = all_of (LineFits called_back.head) called_back.lines ((lit≤ tt, lit≤ tt, is_path) then tt then (lit≤ tt, lit≤ tt, is_path) then tt then (lit≤ tt, lit≤ tt, is_path) then tt then tt);
       };
       lines = all_of (IsCoveredIn called_back.lines) called_back.lines ((tt, tt) then tt then (tt, tt) then tt then (tt, tt) then tt then tt);
@@ -92,7 +41,7 @@ pub waits_covered : IsCovered waits
 waits_covered =
     record {
       limits = record {
-        head = is_head 3 (lit≤ tt) (lit≤ tt);
+        head = is_head 3 1 (lit≤ tt) (lit≤ tt) (lit≤ tt) (lit≤ tt);
         lines = all_of (LineFits waits.head) waits.lines ((lit≤ tt, lit≤ tt, is_path) then tt then (lit≤ tt, lit≤ tt, is_path) then tt then (lit≤ tt, lit≤ tt, is_path) then tt then (lit≤ tt, lit≤ tt, is_path) then tt then tt);
       };
       lines = all_of (IsCoveredIn waits.lines) waits.lines ((tt, tt) then tt then (tt, tt) then tt then (tt, tt) then tt then (tt, tt) then tt then tt);
@@ -102,7 +51,7 @@ pub known_covered : IsCovered known
 known_covered =
     record {
       limits = record {
-        head = is_head 2 (lit≤ tt) (lit≤ tt);
+        head = is_head 2 1 (lit≤ tt) (lit≤ tt) (lit≤ tt) (lit≤ tt);
         lines = all_of (LineFits known.head) known.lines ((lit≤ tt, lit≤ tt, is_path) then tt then (lit≤ tt, lit≤ tt, is_path) then tt then (lit≤ tt, lit≤ tt, is_path) then (lit≤ tt, lit≤ tt, is_root) then (lit≤ tt, lit≤ tt, is_path) then (lit≤ tt, lit≤ tt) then (lit≤ tt, lit≤ tt) then lit≤ tt then tt then tt);
       };
       lines = all_of (IsCoveredIn known.lines) known.lines ((tt, tt) then tt then (tt, tt) then tt then (tt, tt) then (tt, tt) then (tt, tt) then tt then tt then tt then tt then tt);
@@ -112,7 +61,7 @@ pub commits_covered : IsCovered commits
 commits_covered =
     record {
       limits = record {
-        head = is_head 1 (lit≤ tt) (lit≤ tt);
+        head = is_head 1 1 (lit≤ tt) (lit≤ tt) (lit≤ tt) (lit≤ tt);
         lines = all_of (LineFits commits.head) commits.lines ((lit≤ tt, lit≤ tt, is_path) then (lit≤ tt, lit≤ tt) then lit≤ tt then (lit≤ tt, lit≤ tt) then (lit≤ tt, lit≤ tt) then (lit≤ tt, lit≤ tt, is_path) then (lit≤ tt, lit≤ tt) then (lit≤ tt, lit≤ tt) then (lit≤ tt, lit≤ tt, lit≤ tt) then lit≤ tt then tt);
       };
       lines = all_of (IsCoveredIn commits.lines) commits.lines ((tt, tt) then tt then tt then tt then tt then (tt, tt) then tt then tt then tt then tt then tt);
@@ -122,7 +71,7 @@ pub opened_covered : IsCovered opened
 opened_covered =
     record {
       limits = record {
-        head = is_head 1 (lit≤ tt) (lit≤ tt);
+        head = is_head 1 1 (lit≤ tt) (lit≤ tt) (lit≤ tt) (lit≤ tt);
         lines = all_of (LineFits opened.head) opened.lines ((lit≤ tt, lit≤ tt, (is_path, tt)) then tt then (lit≤ tt, lit≤ tt, (lit≤ tt, is_path)) then tt then (lit≤ tt, lit≤ tt, (lit≤ tt, is_path)) then (lit≤ tt, lit≤ tt, is_path) then tt then (lit≤ tt, lit≤ tt, lit≤ tt) then tt then (lit≤ tt, lit≤ tt, lit≤ tt) then tt);
       };
       lines = all_of (IsCoveredIn opened.lines) opened.lines ((tt, tt) then tt then (tt, tt) then tt then (tt, tt) then (tt, tt) then tt then (tt, tt) then tt then (tt, tt) then tt);
@@ -142,33 +91,115 @@ pub crashed_covered : IsCovered crashed
 crashed_covered =
     record {
       limits = record {
-        head = is_head 1 (lit≤ tt) (lit≤ tt);
+        head = is_head 1 1 (lit≤ tt) (lit≤ tt) (lit≤ tt) (lit≤ tt);
         lines = all_of (LineFits crashed.head) crashed.lines ((lit≤ tt, lit≤ tt, is_path) then tt then lit≤ tt then (lit≤ tt, lit≤ tt, is_path) then tt then (lit≤ tt, lit≤ tt) then lit≤ tt then lit≤ tt then lit≤ tt then tt then lit≤ tt then lit≤ tt then tt);
       };
       lines = all_of (IsCoveredIn crashed.lines) crashed.lines ((tt, tt) then tt then tt then (tt, tt) then tt then tt then tt then tt then tt then tt then tt then tt then tt);
     }
 
--- ---- what a scene comes to in some steps, it leads to
+-- ---- scenes with a window that is closed
 
-leads_on : (scene : Scene) (n : ℕ) (c : Config) → Leads (head_of scene.head) never (start (head_of scene.head) never scene) c
-    → Leads (head_of scene.head) never (start (head_of scene.head) never scene) (steps (head_of scene.head) never n c)
-leads_on scene zero c so_far = so_far
-leads_on scene (suc n) c so_far = by (leads_on scene n) (next (head_of scene.head) never c) refl
-  where
-    by : ((d : Config) → Leads (head_of scene.head) never (start (head_of scene.head) never scene) d → Leads (head_of scene.head) never (start (head_of scene.head) never scene) (steps (head_of scene.head) never n d))
-        → (x : Next) → next (head_of scene.head) never c ≡ x → Leads (head_of scene.head) never (start (head_of scene.head) never scene) (elim x [ Goes d ↦ steps (head_of scene.head) never n d | _ ↦ c ])
-    by rest (Goes d) is = rest d (more _ c d so_far is)
-    by rest Ends is = so_far
-    by rest Stops is = so_far
-    by rest Fails is = so_far
+pub absent_and_gap_covered : IsCovered absent_and_gap
+absent_and_gap_covered =
+    record {
+      limits = record {
+        head = is_head 3 1 (lit≤ tt) (lit≤ tt) (lit≤ tt) (lit≤ tt);
+        lines = all_of (LineFits absent_and_gap.head) absent_and_gap.lines ((lit≤ tt, lit≤ tt, is_path) then tt then (lit≤ tt, lit≤ tt, is_path) then (lit≤ tt, lit≤ tt, is_path_b) then tt then lit≤ tt then lit≤ tt then lit≤ tt then tt then lit≤ tt then tt then tt);
+      };
+      lines = all_of (IsCoveredIn absent_and_gap.lines) absent_and_gap.lines ((tt, tt) then tt then (tt, tt) then (tt, tt) then tt then tt then tt then tt then tt then tt then tt then tt);
+    }
 
-leads : (scene : Scene) (n : ℕ) → Leads (head_of scene.head) never (start (head_of scene.head) never scene) (after n scene)
-leads scene n = leads_on scene n (start (head_of scene.head) never scene) (here _)
+pub both_recover_covered : IsCovered both_recover
+both_recover_covered =
+    record {
+      limits = record {
+        head = is_head 2 1 (lit≤ tt) (lit≤ tt) (lit≤ tt) (lit≤ tt);
+        lines = all_of (LineFits both_recover.head) both_recover.lines ((lit≤ tt, lit≤ tt, is_path) then tt then (lit≤ tt, lit≤ tt, is_path_b) then tt then lit≤ tt then lit≤ tt then tt then (lit≤ tt, lit≤ tt, is_root) then tt then tt);
+      };
+      lines = all_of (IsCoveredIn both_recover.lines) both_recover.lines ((tt, tt) then tt then (tt, tt) then tt then tt then tt then tt then (tt, tt) then tt then tt);
+    }
 
--- ---- so it is lawful: no disk fails in it
+pub crash_in_recovery_covered : IsCovered crash_in_recovery
+crash_in_recovery_covered =
+    record {
+      limits = record {
+        head = is_head 2 1 (lit≤ tt) (lit≤ tt) (lit≤ tt) (lit≤ tt);
+        lines = all_of (LineFits crash_in_recovery.head) crash_in_recovery.lines ((lit≤ tt, lit≤ tt, is_path) then tt then (lit≤ tt, lit≤ tt, is_path_b) then tt then lit≤ tt then lit≤ tt then (lit≤ tt, lit≤ tt) then lit≤ tt then lit≤ tt then tt then (lit≤ tt, lit≤ tt, is_root) then tt then tt);
+      };
+      lines = all_of (IsCoveredIn crash_in_recovery.lines) crash_in_recovery.lines ((tt, tt) then tt then (tt, tt) then tt then tt then tt then tt then tt then tt then tt then (tt, tt) then tt then tt);
+    }
 
-lawful : (scene : Scene) (n : ℕ) → IsCovered scene → has_failed (past_of (after n scene)) ≡ false → Lawful scene.head.osts (trace_after n scene)
-lawful scene n covered unfailed = scene_lawful scene covered never (after n scene) (leads scene n) unfailed
+pub keeps_heard_covered : IsCovered keeps_heard
+keeps_heard_covered =
+    record {
+      limits = record {
+        head = is_head 1 2 (lit≤ tt) (lit≤ tt) (lit≤ tt) (lit≤ tt);
+        lines = all_of (LineFits keeps_heard.head) keeps_heard.lines ((lit≤ tt, lit≤ tt, is_path) then (lit≤ tt, lit≤ tt, is_path_b) then (lit≤ tt, lit≤ tt) then (lit≤ tt, lit≤ tt) then (lit≤ tt, lit≤ tt) then (lit≤ tt, lit≤ tt) then lit≤ tt then lit≤ tt then tt then tt);
+      };
+      lines = all_of (IsCoveredIn keeps_heard.lines) keeps_heard.lines ((tt, tt) then (tt, tt) then tt then tt then tt then tt then tt then tt then tt then tt);
+    }
+
+pub restored_covered : IsCovered restored
+restored_covered =
+    record {
+      limits = record {
+        head = is_head 2 4 (lit≤ tt) (lit≤ tt) (lit≤ tt) (lit≤ tt);
+        lines = all_of (LineFits restored.head) restored.lines ((lit≤ tt, lit≤ tt) then lit≤ tt then (lit≤ tt, lit≤ tt, is_path_ac) then lit≤ tt then (lit≤ tt, lit≤ tt, is_root) then (lit≤ tt, lit≤ tt) then (lit≤ tt, lit≤ tt) then (lit≤ tt, lit≤ tt, is_path_ab) then tt then lit≤ tt then lit≤ tt then (lit≤ tt, lit≤ tt) then (lit≤ tt, lit≤ tt, (is_path_g, (lit≤ tt, lit≤ tt))) then (lit≤ tt, lit≤ tt) then (lit≤ tt, lit≤ tt, is_path_ax) then tt then tt);
+      };
+      lines = all_of (IsCoveredIn restored.lines) restored.lines (tt then tt then (tt, tt) then tt then (tt, tt) then tt then tt then (tt, tt) then tt then tt then tt then tt then (tt, tt) then tt then (tt, tt) then tt then tt);
+    }
+
+pub kept_reply_covered : IsCovered kept_reply
+kept_reply_covered =
+    record {
+      limits = record {
+        head = is_head 1 1 (lit≤ tt) (lit≤ tt) (lit≤ tt) (lit≤ tt);
+        lines = all_of (LineFits kept_reply.head) kept_reply.lines ((lit≤ tt, lit≤ tt, is_path) then (lit≤ tt, lit≤ tt) then (lit≤ tt, lit≤ tt) then lit≤ tt then lit≤ tt then lit≤ tt then tt then tt);
+      };
+      lines = all_of (IsCoveredIn kept_reply.lines) kept_reply.lines ((tt, tt) then tt then tt then tt then tt then tt then tt then tt);
+    }
+
+pub gap_in_flight_covered : IsCovered gap_in_flight
+gap_in_flight_covered =
+    record {
+      limits = record {
+        head = is_head 1 2 (lit≤ tt) (lit≤ tt) (lit≤ tt) (lit≤ tt);
+        lines = all_of (LineFits gap_in_flight.head) gap_in_flight.lines ((lit≤ tt, lit≤ tt, is_path) then (lit≤ tt, lit≤ tt, is_path_ab) then (lit≤ tt, lit≤ tt) then (lit≤ tt, lit≤ tt) then (lit≤ tt, lit≤ tt) then (lit≤ tt, lit≤ tt) then lit≤ tt then lit≤ tt then tt then tt);
+      };
+      lines = all_of (IsCoveredIn gap_in_flight.lines) gap_in_flight.lines ((tt, tt) then (tt, tt) then tt then tt then tt then tt then tt then tt then tt then tt);
+    }
+
+pub joins_again_covered : IsCovered joins_again
+joins_again_covered =
+    record {
+      limits = record {
+        head = is_head 3 1 (lit≤ tt) (lit≤ tt) (lit≤ tt) (lit≤ tt);
+        lines = all_of (LineFits joins_again.head) joins_again.lines ((lit≤ tt, lit≤ tt, is_path) then tt then (lit≤ tt, lit≤ tt, is_path) then (lit≤ tt, lit≤ tt, is_path_b) then tt then lit≤ tt then lit≤ tt then lit≤ tt then tt then lit≤ tt then (lit≤ tt, lit≤ tt) then (lit≤ tt, lit≤ tt) then lit≤ tt then lit≤ tt then tt then tt);
+      };
+      lines = all_of (IsCoveredIn joins_again.lines) joins_again.lines ((tt, tt) then tt then (tt, tt) then (tt, tt) then tt then tt then tt then tt then tt then tt then tt then tt then tt then tt then tt then tt);
+    }
+
+pub acts_anew_covered : IsCovered acts_anew
+acts_anew_covered =
+    record {
+      limits = record {
+        head = is_head 1 1 (lit≤ tt) (lit≤ tt) (lit≤ tt) (lit≤ tt);
+        lines = all_of (LineFits acts_anew.head) acts_anew.lines ((lit≤ tt, lit≤ tt, is_path) then (lit≤ tt, lit≤ tt) then (lit≤ tt, lit≤ tt) then lit≤ tt then lit≤ tt then tt then tt);
+      };
+      lines = all_of (IsCoveredIn acts_anew.lines) acts_anew.lines ((tt, tt) then tt then tt then tt then tt then tt then tt);
+    }
+
+pub saw_lost_covered : IsCovered saw_lost
+saw_lost_covered =
+    record {
+      limits = record {
+        head = is_head 2 1 (lit≤ tt) (lit≤ tt) (lit≤ tt) (lit≤ tt);
+        lines = all_of (LineFits saw_lost.head) saw_lost.lines ((lit≤ tt, lit≤ tt, (is_path_f, tt)) then tt then lit≤ tt then (lit≤ tt, lit≤ tt, (is_path_f, lit≤ tt)) then (lit≤ tt, lit≤ tt) then (lit≤ tt, lit≤ tt) then (lit≤ tt, lit≤ tt, (is_path_f, lit≤ tt)) then tt then lit≤ tt then lit≤ tt then tt then tt);
+      };
+      lines = all_of (IsCoveredIn saw_lost.lines) saw_lost.lines ((tt, tt) then tt then tt then (tt, tt) then tt then tt then (tt, tt) then tt then tt then tt then tt then tt);
+    }
+
+-- ---- so what they come to is lawful: no disk fails in it
 
 pub called_back_lawful : Lawful 1 (trace_after 20 called_back)
 called_back_lawful = lawful called_back 20 called_back_covered refl
@@ -190,6 +221,36 @@ expires_lawful = lawful expires 50 expires_covered refl
 
 pub crashed_lawful : Lawful 1 (trace_after 20 crashed)
 crashed_lawful = lawful crashed 20 crashed_covered refl
+
+pub absent_and_gap_lawful : Lawful 1 (trace_after 40 absent_and_gap)
+absent_and_gap_lawful = lawful absent_and_gap 40 absent_and_gap_covered refl
+
+pub both_recover_lawful : Lawful 1 (trace_after 40 both_recover)
+both_recover_lawful = lawful both_recover 40 both_recover_covered refl
+
+pub crash_in_recovery_lawful : Lawful 1 (trace_after 50 crash_in_recovery)
+crash_in_recovery_lawful = lawful crash_in_recovery 50 crash_in_recovery_covered refl
+
+pub keeps_heard_lawful : Lawful 1 (trace_after 30 keeps_heard)
+keeps_heard_lawful = lawful keeps_heard 30 keeps_heard_covered refl
+
+pub restored_lawful : Lawful 1 (trace_after 60 restored)
+restored_lawful = lawful restored 60 restored_covered refl
+
+pub kept_reply_lawful : Lawful 1 (trace_after 30 kept_reply)
+kept_reply_lawful = lawful kept_reply 30 kept_reply_covered refl
+
+pub gap_in_flight_lawful : Lawful 1 (trace_after 40 gap_in_flight)
+gap_in_flight_lawful = lawful gap_in_flight 40 gap_in_flight_covered refl
+
+pub joins_again_lawful : Lawful 1 (trace_after 60 joins_again)
+joins_again_lawful = lawful joins_again 60 joins_again_covered refl
+
+pub acts_anew_lawful : Lawful 1 (trace_after 30 acts_anew)
+acts_anew_lawful = lawful acts_anew 30 acts_anew_covered refl
+
+pub saw_lost_lawful : Lawful 1 (trace_after 40 saw_lost)
+saw_lost_lawful = lawful saw_lost 40 saw_lost_covered refl
 
 -- ---- where no line gives a command and no client is evicted, no disk fails whichever could
 

@@ -20,7 +20,7 @@ use Rattle.lu_msg.specs.declared.operations.Op.TheVariants as op
 use Rattle.lu_scene.specs.declared.scene.Scene.{Scene}
 use Rattle.lu_scene.specs.declared.scene.SceneLine.TheVariants.{Call, Run}
 use Rattle.lu_words.specs.Printed.{printed}
-use Rattle.lu_words.specs.Words.{Entry, Heard, Txn as Made, Commit, Evict, Line, line}
+use Rattle.lu_words.specs.Words.{Entry, Heard, Txn as Made, Commit, Close, Evict, Line, line}
 use Rattle.lu_table.specs.Scenarios.{past_of}
 use Rattle.lu_trace.specs.declared.entries.Entry.TheVariants as entry
 use Rattle.lu_laws.specs.Words.Pasts.{Past}
@@ -48,7 +48,7 @@ out w = w.client == 0
 abbrev pub lost : ℕ → ℕ → Bool
 lost t n = t == 0 && n == first 1
 
--- ---- whether a past without commits and evictions fits, as a test
+-- ---- whether a past without commits, closes and evictions fits, as a test
 
 abbrev all_stand : List ℕ → Bool
 all_stand ns = list_all (λ n. not (lost 0 n)) ns
@@ -69,7 +69,7 @@ heard_passes (l ∷ past) =
 
 abbrev commits_nothing : List Line → Bool
 commits_nothing [] = true
-commits_nothing (l ∷ past) = elim l.entry [ Commit to batch ↦ false | _ ↦ commits_nothing past ]
+commits_nothing (l ∷ past) = elim l.entry [ Commit to batch ↦ false | Close o ↦ false | _ ↦ commits_nothing past ]
 
 abbrev evicts_nobody : List Line → Bool
 evicts_nobody [] = true
@@ -115,12 +115,13 @@ heard (l ∷ past) is = by (heard past) l.entry is
         (one l.at.node reply both.0, rest both.1)
     by rest _ is = rest is
 
-committed : (past : List Line) → commits_nothing past ≡ true → CommitsStand lost past
+committed : (past : List Line) → commits_nothing past ≡ true → CommitsStand 1 lost past
 committed [] is = tt
 committed (l ∷ past) is = by (committed past) l.entry is
   where
-    by : (commits_nothing past ≡ true → CommitsStand lost past) → (x : Entry) → commits_nothing (line l.at x ∷ past) ≡ true → CommitsStand lost (line l.at x ∷ past)
+    by : (commits_nothing past ≡ true → CommitsStand 1 lost past) → (x : Entry) → commits_nothing (line l.at x ∷ past) ≡ true → CommitsStand 1 lost (line l.at x ∷ past)
     by rest (Commit to batch) is = absurd (cc)
+    by rest (Close o) is = absurd (cc)
     by rest _ is = rest is
 
 gone : (past : List Line) → evicts_nobody past ≡ true → EvictedOut out past
@@ -133,8 +134,8 @@ gone (l ∷ past) is = by (gone past) l.entry is
 
 -- ---- the pair fits
 
-pub fits : Fits out lost beside
-fits = record { root = refl; seen = seen beside refl; heard = heard beside refl; committed = committed beside refl; gone = gone beside refl }
+pub fits : Fits 1 out lost beside
+fits = record { root = refl; stays = λ n made gone. absurd (cc); seen = seen beside refl; heard = heard beside refl; committed = committed beside refl; gone = gone beside refl }
 
 -- ---- the machine of that history: the second directory is there, the first one isn't
 
@@ -195,5 +196,5 @@ seen_back (l ∷ past) is = by (seen_back past) l.entry is
 saw_the_lost : seen_passes inside ≡ false
 saw_the_lost = refl
 
-pub unfit : Fits out lost inside → ⊥
+pub unfit : Fits 1 out lost inside → ⊥
 unfit f = let passes : true ≡ false = sym (seen_back inside f.seen) ∙ saw_the_lost in absurd (cc)

@@ -5,6 +5,16 @@ pub mod Locks
 pub mod Lives
 pub mod Handles
 pub mod Crashes
+pub mod Windows
+pub mod AbsentAndGap
+pub mod CrashInRecovery
+pub mod KeepsHeard
+pub mod Restored
+pub mod KeptReply
+pub mod GapInFlight
+pub mod JoinsAgain
+pub mod RepliesLost
+pub mod Covering
 pub mod Covered
 pub mod Fits
 pub mod Unfit

@@ -20,7 +20,7 @@ use Rattle.lu_words.specs.Words.{Entry, Take, Line, with_turn}
 use Rattle.lu_table.specs.Runs.{row}
 use Rattle.lu_table.specs.Scenarios.{head_of, past_of}
 use Rattle.lu_laws.proofs.Words as trace
-use Rattle.lu_laws.proofs.Words.{turn, first, made, reply, request, heard}
+use Rattle.lu_laws.proofs.Words.{turn, first, made, reply, heard}
 use Rattle.lu_samples.proofs.Words.{with_head, after, trace_after}
 
 abbrev mkdir : Op

@@ -1,0 +1,28 @@
+-- The history that stands, at every line.
+use Rattle.std.proofs.Common.{List, ◌∷◌}
+use Rattle.lu_base.specs.declared.ids.Node.{Node}
+use Rattle.lu_base.specs.declared.ids.Node.TheVariants.{Client, Target}
+use Rattle.lu_base.specs.declared.ids.Stamp.{Stamp}
+use Rattle.lu_words.specs.Words.{Entry, Heard, Act, Txn as Made, Commit, Boot, Evict, Joined, Close, Line, line}
+use Rattle.lu_covered.specs.Heads.{Head}
+use Rattle.lu_guards.proofs.StoryGuards.{EntryOf}
+use Rattle.lu_guards.proofs.Grown.{IsOfFirst, IsPlaced}
+use Rattle.lu_facts.proofs.Groups.{turn, History, HoldsAt}
+use Rattle.lu_facts.proofs.HistoryLines.{history_heard, history_act, history_made, history_commit, history_boot, history_evict, history_joined}
+use Rattle.lu_facts.proofs.HistoryClose.{history_close}
+pub use Rattle.lu_facts.proofs.HistoryLines.{history_start}
+
+pub keeps_history : (head : Head) (past : List Line) (stamp : Stamp) (node : Node) (e : Entry) → EntryOf head past (turn stamp node) node e → IsOfFirst e → IsPlaced head past (line (turn stamp node) e) → HoldsAt head past
+    → History head.osts head.clients (line (turn stamp node) e ∷ past)
+keeps_history head past stamp (Client c) (Heard t f r) ok first placed h = history_heard head past stamp c t f r ok h
+keeps_history head past stamp (Client c) (Act d) ok first placed h = absurd ok
+keeps_history head past stamp (Client c) (Made d) ok first placed h = absurd ok
+keeps_history head past stamp (Target t) (Heard target f r) ok first placed h = absurd ok
+keeps_history head past stamp (Target t) (Act d) ok first placed h = history_act head past h stamp t d ok
+keeps_history head past stamp (Target t) (Made d) ok first placed h = history_made head past h stamp t d ok
+keeps_history head past stamp (Target t) (Commit to batch) ok first placed h = history_commit head past h stamp t to batch ok placed.shows
+keeps_history head past stamp (Target t) (Boot boot disk) ok first placed h = history_boot head past h stamp t boot disk ok
+keeps_history head past stamp (Target t) (Evict who cause) ok first placed h = history_evict head past h stamp t who cause
+keeps_history head past stamp (Target t) (Joined who) ok first placed h = history_joined head past h stamp t who ok
+keeps_history head past stamp (Target t) (Close o) ok first placed h = history_close head past stamp t o ok h
+keeps_history head past stamp node e ok first placed h = h.history

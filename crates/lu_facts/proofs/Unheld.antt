@@ -1,0 +1,156 @@
+-- What a client holds came with a reply that its present life heard. And a lock that it doesn't hold it never will, once the reply that brings it was heard
+-- or the client knows a boot after the one that gave it: then that reply isn't heard any more.
+use Rattle.std.proofs.Common.{◌≡◌, ℕ, false, List, [], ◌∷◌, ◌⊎◌, inl, inr, ⊎_elim, refl, sym, subst, ap, ◌∙◌}
+use Rattle.std.specs.Prelude.{nat_eq, not}
+use Rattle.std.proofs.lemmas.Bool.{cond_both, eqb-true}
+use Rattle.lu_base.specs.declared.ids.Node.{Node}
+use Rattle.lu_base.specs.declared.ids.Node.TheVariants.{Client, Target}
+use Rattle.lu_base.specs.declared.ids.Stamp.{Stamp}
+use Rattle.lu_base.specs.declared.ids.Who.{Who}
+use Rattle.lu_base.specs.declared.locks.Lock.{Lock}
+use Rattle.lu_msg.specs.declared.messages.Message.TheVariants as message
+use Rattle.lu_msg.specs.declared.messages.Reply.{Reply as ReplyTo}
+use Rattle.lu_msg.specs.declared.operations.Op.{Op}
+use Rattle.lu_held.specs.declared.locks.HeldLock.{HeldLock}
+use Rattle.lu_held.specs.Locks.{is_named, named}
+use Rattle.lu_held.specs.Held.{without}
+use Rattle.lu_words.specs.Carried.{Deed, Flight}
+use Rattle.lu_words.specs.Words.{Entry, Heard, Hold, Drop, Life, Pins, Unpins, Marks, Unmarks, Line, line}
+use Rattle.lu_client_rows.specs.Caches.{held_as, with_brought, granted_lock, brought, held_at}
+use Rattle.lu_covered.specs.ClientStates.{life_of}
+use Rattle.lu_covered.specs.Heads.{Head}
+use Rattle.lu_guards.proofs.Guards.{In}
+use Rattle.lu_guards.proofs.StoryGuards.{HeardOk, EntryOf}
+use Rattle.lu_guards.proofs.Grown.{IsOfFirst, GrownOf}
+use Rattle.lu_guards.proofs.Lists.{in_append, in_filter, own_self}
+use Rattle.lu_facts.proofs.Groups.{turn, Flew, HeardAs, RepliesTo, Gave, Dead, Lapsed, HoldsAt}
+use Rattle.lu_facts.proofs.LockLists.{Kept, kept_same, brought_in}
+use Rattle.lu_facts.proofs.LocksStay.{pins_held, unpins_held, marks_held, unmarks_held, shown_held}
+use Rattle.lu_facts.proofs.Locks.{keeps_dead, keeps_lapsed}
+
+-- ---- a reply that is heard brings the locks of what was done for it
+
+module _ (head : Head) (past : List Line) (c : ℕ) (f : Flight) (r : ReplyTo) (ok : HeardOk past c f r) (all : HoldsAt head past) where
+  abbrev pub answers : RepliesTo head.osts past c r
+  answers = all.done.sent (Target ok.from) (Client c) (message.Reply r) ok.was
+
+  pub done_who : answers.deed.reply.who ≡ life_of c past
+  done_who = ap (λ (v : ReplyTo). v.who) (sym answers.is) ∙ ok.who
+
+  pub done_xid : f.xid ≡ answers.deed.reply.xid.0
+  done_xid = ok.xid ∙ ap (λ (v : ReplyTo). v.xid.0) answers.is
+
+  pub done_op : f.op ≡ answers.deed.op
+  done_op =
+      let g = all.done.flew answers.deed answers.acted in
+      let same : f ≡ g.0 = all.numbers.one (life_of c past) f g.0 (all.numbers.flying (life_of c past) f ok.flying) (subst (λ (w : Who). Flew past w g.0) done_who g.1) (done_xid ∙ sym g.2) in
+      ap (λ (v : Flight). v.op) same ∙ g.3
+
+  none_more : granted_lock f.op r r.answer ≡ []
+  none_more = ap (λ (o : Op). granted_lock o r r.answer) done_op ∙ ap (λ (v : ReplyTo). granted_lock answers.deed.op r v.answer) answers.is ∙ all.locks.answers answers.deed answers.acted r
+
+  brings : (l : Lock) → In l (brought f.op r) → In l r.locks
+  brings l i =
+      ⊎_elim
+      (λ (j : In l r.locks). j)
+      (λ (j : In l (granted_lock f.op r r.answer)). absurd (subst (λ (ls : List Lock). In l ls) none_more j))
+      (in_append l r.locks (granted_lock f.op r r.answer) i)
+
+-- ---- what is held was held, or comes with the reply that is heard
+
+abbrev pub Comes : (past new : List Line) → ℕ → HeldLock → Type 0
+Comes past new b h = record { flight : Flight; reply : ReplyTo; ok : HeardOk past b flight reply; heard : HeardAs new (life_of b past) flight reply; life : life_of b new ≡ life_of b past; among : In h.lock reply.locks }
+
+module _ (head : Head) (past : List Line) (stamp : Stamp) where
+  abbrev pub Held : (node : Node) (e : Entry) → ℕ → HeldLock → Type 0
+  Held node e b h = In h (held_at b (line (turn stamp node) e ∷ past)) → Kept (held_at b past) h ⊎ Comes past (line (turn stamp node) e ∷ past) b h
+
+  heard_held : (c t : ℕ) (f : Flight) (r : ReplyTo) → t ≡ 0 → HeardOk past c f r → HoldsAt head past → (b : ℕ) (h : HeldLock) → Held (Client c) (Heard t f r) b h
+  heard_held c t f r first ok all b h =
+      cond_both (nat_eq b c) (with_brought t (brought f.op r) (held_at b past)) (held_at b past) (λ (hs : List HeldLock). In h hs → Kept (held_at b past) h ⊎ Comes past (line (turn stamp (Client c)) (Heard t f r) ∷ past) b h)
+      (λ q i. ⊎_elim
+      (λ (j : In h (held_at b past)). inl (kept_same (held_at b past) h j))
+      (λ (k : (l : Lock) × In l (brought f.op r) × (held_as t l false ≡ h)). inr (subst (λ (v : ℕ). Comes past (line (turn stamp (Client c)) (Heard t f r) ∷ past) v h) (sym (eqb-true b c q)) (now k)))
+      (brought_in t (brought f.op r) (held_at b past) h i))
+      (λ q i. inl (kept_same (held_at b past) h i))
+    where
+      now : (l : Lock) × In l (brought f.op r) × (held_as t l false ≡ h) → Comes past (line (turn stamp (Client c)) (Heard t f r) ∷ past) c h
+      now k =
+          record {
+            flight = f;
+            reply = r;
+            ok = ok;
+            heard = inl (own_self past c, refl, refl);
+            life = refl;
+            among = subst (λ (l : Lock). In l r.locks) (ap (λ (x : HeldLock). x.lock) k.2) (brings head past c f r ok all k.0 k.1);
+          }
+
+  dropped_held : (c t : ℕ) (lock : Lock) (b : ℕ) (h : HeldLock) → In h (held_at b (line (turn stamp (Client c)) (Drop t lock) ∷ past)) → Kept (held_at b past) h
+  dropped_held c t lock b h =
+      cond_both (nat_eq b c) (without (named (record { 0 = t }) lock.cookie) (held_at b past)) (held_at b past) (λ (hs : List HeldLock). In h hs → Kept (held_at b past) h)
+      (λ q i. kept_same (held_at b past) h (in_filter (λ (g : HeldLock). not (is_named (named (record { 0 = t }) lock.cookie) g)) h (held_at b past) i).0)
+      (λ q i. kept_same (held_at b past) h i)
+
+  pub held_before : (node : Node) (e : Entry) → EntryOf head past (turn stamp node) node e → IsOfFirst e → HoldsAt head past → (b : ℕ) (h : HeldLock) → Held node e b h
+  held_before (Client c) (Heard t f r) ok first all b h = heard_held c t f r first ok all b h
+  held_before (Client c) (Hold t lock marked size seen) ok first all b h = λ i. inl (shown_held past stamp c t lock marked size seen first ok.1 b h i)
+  held_before (Client c) (Drop t lock) ok first all b h = λ i. inl (dropped_held c t lock b h i)
+  held_before (Client c) (Pins name) ok first all b h = λ i. inl (pins_held past stamp c name b h i)
+  held_before (Client c) (Unpins name) ok first all b h = λ i. inl (unpins_held past stamp c name b h i)
+  held_before (Client c) (Marks name) ok first all b h = λ i. inl (marks_held past stamp c name b h i)
+  held_before (Client c) (Unmarks t) ok first all b h = λ i. inl (unmarks_held past stamp c t b h i)
+  held_before (Target t) (Heard u f r) ok first all b h = absurd ok
+  held_before (Target t) (Hold u lock marked size seen) ok first all b h = absurd ok
+  held_before (Target t) (Drop u lock) ok first all b h = absurd ok
+  held_before node e ok first all b h = λ i. inl (kept_same (held_at b past) h i)
+
+-- ---- what is held was heard
+
+heard_as_more : (l : Line) (past : List Line) (who : Who) (f : Flight) (r : ReplyTo) → HeardAs past who f r → HeardAs (l ∷ past) who f r
+heard_as_more l past who f r i = by l.entry
+  where
+    by : (e : Entry) → HeardAs (line l.at e ∷ past) who f r
+    by (Heard t g k) = inr i
+    by _ = i
+
+abbrev pub HeldHeard : List Line → Type 0
+HeldHeard past = (c : ℕ) (h : HeldLock) → In h (held_at c past) → (f : Flight) × (r : ReplyTo) × HeardAs past (life_of c past) f r × In h.lock r.locks
+
+-- a client that holds something begins no life
+same_life_held : (head : Head) (past : List Line) (stamp : Stamp) (node : Node) (e : Entry) → EntryOf head past (turn stamp node) node e → (c : ℕ) (g : HeldLock) → In g (held_at c past) → life_of c (line (turn stamp node) e ∷ past) ≡ life_of c past
+same_life_held head past stamp (Client b) (Life who) ok c g i =
+    cond_both (nat_eq c b) who (life_of c past) (λ (w : Who). w ≡ life_of c past)
+    (λ q. absurd (subst (λ (hs : List HeldLock). In g hs) (ap (λ (v : ℕ). held_at v past) (eqb-true c b q) ∙ ok.empty) i))
+    (λ q. refl)
+same_life_held head past stamp (Target t) (Life who) ok c g i = absurd ok
+same_life_held head past stamp node e ok c g i = refl
+
+pub held_heard : (head : Head) (past : List Line) → GrownOf head past → ((p : List Line) → GrownOf head p → HoldsAt head p) → HeldHeard past
+held_heard head [] g holds c h i = absurd i
+held_heard head (l ∷ past) g holds c h i = by l.at.node l.entry g.0 g.1 (holds past g.3) (held_heard head past g.3 holds c) i
+  where
+    Now : Node → Entry → Type 0
+    Now node e = (f : Flight) × (r : ReplyTo) × HeardAs (line (turn l.at.stamp node) e ∷ past) (life_of c (line (turn l.at.stamp node) e ∷ past)) f r × In h.lock r.locks
+
+    by : (node : Node) (e : Entry) → EntryOf head past (turn l.at.stamp node) node e → IsOfFirst e → HoldsAt head past
+        → ((k : HeldLock) → In k (held_at c past) → (f : Flight) × (r : ReplyTo) × HeardAs past (life_of c past) f r × In k.lock r.locks) → In h (held_at c (line (turn l.at.stamp node) e ∷ past)) → Now node e
+    by node e ok first all ih i = later (held_before head past l.at.stamp node e ok first all c h i)
+      where
+        new : List Line
+        new = line (turn l.at.stamp node) e ∷ past
+
+        later : Kept (held_at c past) h ⊎ Comes past new c h → Now node e
+        later (inl k) =
+            let o = ih k.0 k.1 in
+            let life = same_life_held head past l.at.stamp node e ok c k.0 k.1 in
+            (o.0, o.1, subst (λ (w : Who). HeardAs new w o.0 o.1) (sym life) (heard_as_more (line (turn l.at.stamp node) e) past (life_of c past) o.0 o.1 o.2), subst (λ (v : Lock). In v o.1.locks) k.3 o.3)
+        later (inr k) = (k.flight, k.reply, subst (λ (w : Who). HeardAs new w k.flight k.reply) (sym k.life) k.heard, k.among)
+
+-- ---- what isn't held, and never will be
+
+abbrev pub Unheld : List Line → Deed → Lock → Type 0
+Unheld past d l = Dead past d l ⊎ Lapsed past d l
+
+pub keeps_unheld : (head : Head) (past : List Line) (stamp : Stamp) (node : Node) (e : Entry) → EntryOf head past (turn stamp node) node e → IsOfFirst e → HoldsAt head past → (d : Deed) (l : Lock) → Gave past d l → Unheld past d l → Unheld (line (turn stamp node) e ∷ past) d l
+keeps_unheld head past stamp node e ok first all d l gave (inl x) = inl (keeps_dead head past stamp node e ok first all d l gave x)
+keeps_unheld head past stamp node e ok first all d l gave (inr x) = inr (keeps_lapsed head past stamp node e ok first all d l gave x)
