@@ -2,8 +2,8 @@
 -- given back, to each target joins, and what lives that come back tell one that recovers; to a client of the run replies without a file's
 -- attributes, blocks, and word that a target is up again, and that its life is served or is over. Where no turn may ask a disk, all is of first
 -- lives and of the first boot, and nobody joins or comes back.
-use Rattle.std.proofs.Common.{◌≡◌, ℕ, ◌+◌, ◌<◌, ◌≤◌, Bool, true, false, List, [], ◌∷◌, Option, Some, None, ◌⊎◌, inl, inr, ⊎_elim, refl, sym, subst, ap, ◌∙◌, zero, suc, arith, pos}
-use Rattle.std.specs.Prelude.{nat_eq, nat_lt, if◌then◌else◌}
+use Rattle.std.proofs.Common.{◌≡◌, ℕ, ◌+◌, ◌<◌, ◌≤◌, true, false, List, [], ◌∷◌, Option, Some, None, ◌⊎◌, inl, inr, ⊎_elim, refl, sym, subst, ap, ◌∙◌, zero, suc, arith, pos}
+use Rattle.std.specs.Prelude.{nat_eq, nat_lt}
 use Rattle.std.proofs.lemmas.Bool.{cond_both, eqb-true}
 use Rattle.std.proofs.lemmas.Bool.Decides.{nat_tests}
 use Rattle.lu_base.specs.declared.ids.At.{At}
@@ -27,7 +27,7 @@ use Rattle.lu_words.specs.Sent.{Sent}
 use Rattle.lu_words.specs.Words.{Entry, Send, Flies, Life, Boot, Close, Evict, Joined, Wishes, Line, line}
 use Rattle.lu_target_rows.specs.Lives.{is_life, without_lives, lives_of as lives_in}
 use Rattle.lu_target_rows.specs.Outcomes as recovered
-use Rattle.lu_target_rows.specs.Windows.{Window, with_wish, kept_numbers, gone_from}
+use Rattle.lu_target_rows.specs.Windows.{Window, kept_numbers, gone_from}
 use Rattle.lu_target_rows.specs.States.{Target as TargetState, lives_from}
 use Rattle.lu_covered.specs.Calls.{operation_of, first_life}
 use Rattle.lu_covered.specs.ClientStates.{life_of, is_own}
@@ -54,8 +54,9 @@ use Rattle.lu_covered_scenes.proofs.Lines.{MayAsk, lines_known, called_fits, All
 use Rattle.lu_covered_scenes.proofs.Numbers.{IsShort, MessageFits}
 use Rattle.lu_covered_scenes.proofs.Targets.{MessageServed}
 use Rattle.lu_lawful.proofs.GuardLifeLists.{stands_life, life_stands, life_left}
-use Rattle.lu_lawful.proofs.CloseLists.{puts_or, left_all, gone_had}
+use Rattle.lu_lawful.proofs.CloseLists.{puts_or, left_all, gone_had, in_wish}
 use Rattle.lu_lawful.proofs.LifeLists.{first_among, put_or}
+use Rattle.lu_lawful.proofs.PartsStay.{in_every}
 
 -- ---- between whom messages go
 
@@ -126,24 +127,6 @@ came head past t from m g w =
 
 told : (past : List Line) (t : ℕ) (to : Node) (m : Message) → Was past (Target t) to m → Was (only t past) (Target t) to m
 told past t to m w = was_only t past (Target t) to m (self t) w
-
--- ---- lists
-
--- who wishes to join is it, or did so before
-wished : (w who : Who) (wishes : List Who) → In w (with_wish who wishes) → (who ≡ w) ⊎ In w wishes
-wished w who [] i = i
-wished w who (v ∷ wishes) i = first (nat_eq who.client v.client) (nat_lt who.client v.client) (wished w who wishes) i
-  where
-    later : (In w (with_wish who wishes) → (who ≡ w) ⊎ In w wishes) → (v ≡ w) ⊎ In w (with_wish who wishes) → (who ≡ w) ⊎ (v ≡ w) ⊎ In w wishes
-    later more (inl e) = inr (inl e)
-    later more (inr n) = ⊎_elim (λ (e : who ≡ w). inl e) (λ (o : In w wishes). inr (inr o)) (more n)
-
-    first : (same before : Bool) → (In w (with_wish who wishes) → (who ≡ w) ⊎ In w wishes) → In w (if same then who ∷ wishes else (if before then who ∷ v ∷ wishes else v ∷ with_wish who wishes))
-        → (who ≡ w) ⊎ (v ≡ w) ⊎ In w wishes
-    first true before more (inl e) = inl e
-    first true before more (inr n) = inr (inr n)
-    first false true more i = i
-    first false false more i = later more i
 
 -- ---- clients of the run: lives that asked, have a slot or were evicted are of one
 
@@ -258,7 +241,7 @@ module _ (head : Head) where
           record {
             lives = h.lives;
             evicted = h.evicted;
-            wishes = λ w i. ⊎_elim (λ (e : who ≡ w). subst (IsOf head.clients) e (wish_of_one past l.at t who ok h)) (h.wishes w) (wished w who (wishes_of past) i);
+            wishes = λ w i. ⊎_elim (λ (e : who ≡ w). subst (IsOf head.clients) e (wish_of_one past l.at t who ok h)) (h.wishes w) (in_wish w who (wishes_of past) i);
           }
       by (Target t) (Close o) ok h = record { lives = close_lives past l.at o ok h; evicted = close_evicted past l.at o ok h; wishes = λ w i. absurd i }
       by (Target t) (Boot boot disk) ok h = record { lives = h.lives; evicted = h.evicted; wishes = λ w i. absurd i }
@@ -289,10 +272,6 @@ module _ (MayAsk : Type 0) (osts clients : ℕ) (none : MayAsk → ⊥) where
       by : (e : Entry) → Flew (line l.at e ∷ past) who f → (Flew past who f → who ≡ first_life who.client) → who ≡ first_life who.client
       by (Flies t x) i h = ⊎_elim (λ (p : (is_own who past l.at.node ≡ true) × (x ≡ f)). own_first past s.1 who l.at.node p.0) h i
       by e i h = h i
-
-every_in : {A : Type 0} (P : A → Type 0) (xs : List A) → ((x : A) → In x xs → P x) → Every P xs
-every_in P [] all = tt
-every_in P (x ∷ xs) all = (all x (inl refl), every_in P xs (λ y i. all y (inr i)))
 
 -- ---- the paths of operations
 
@@ -422,7 +401,7 @@ module _ (scene : Scene) (covered : IsCovered scene) (head : Head) (osts : ℕ) 
       by (Target t) (message.Reply r) names w =
           let meant = (at_target t).done.sent (Target t) (Client c) (message.Reply r) (told past t (Client c) (message.Reply r) w) in
           let d : Deed = meant.deed in (
-            subst (Every IsReader) (sym (ap (λ (x : ReplyTo). x.locks) meant.is)) (every_in IsReader d.reply.locks (λ l i. (at_target t).locks.readers d l (meant.acted, i))),
+            subst (Every IsReader) (sym (ap (λ (x : ReplyTo). x.locks) meant.is)) (in_every IsReader d.reply.locks (λ l i. (at_target t).locks.readers d l (meant.acted, i))),
             subst IsPlain (sym (ap (λ (x : ReplyTo). x.answer) meant.is)) (acted_told head past (IsFile scene.lines) g (all_files scene past begun) (all_stats scene covered past begun) d (acted_whole t past d meant.acted)),
           )
       by (Target t) (message.Block who boot cookie) goes w = tt

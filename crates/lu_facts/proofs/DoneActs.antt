@@ -24,8 +24,9 @@ use Rattle.lu_covered.specs.Heads.{Head}
 use Rattle.lu_guards.proofs.Guards.{In, Was}
 use Rattle.lu_guards.proofs.StoryGuards.{EntersOk, ActOk, TxnOk}
 use Rattle.lu_guards.proofs.Lists.{in_append, in_filter}
+use Rattle.lu_guards.proofs.TargetSlots.{is_slot_self, slot_who}
 use Rattle.lu_facts.proofs.Groups.{turn, Flew, Acted, Hears, HeardAs, HasSlot, IsMade, Stands, Counts, IsAsking, FlewFor, Waits, KeptFor, Newest, Numbers, Done, HoldsAt}
-use Rattle.lu_facts.proofs.DoneGrows.{Grows, asking_more, meant_more, rebuilt_more, kept_more, slot_self, slot_is, slot_same, heard_hears}
+use Rattle.lu_facts.proofs.DoneGrows.{Grows, asking_more, meant_more, rebuilt_more, kept_more, slot_same, heard_hears}
 
 abbrev number : ℕ → Xid
 number n = record { 0 = n }
@@ -48,7 +49,7 @@ module _ (osts clients : ℕ) (past : List Line) (stamp : Stamp) (t : ℕ) (r : 
   raised : (who : Who) (tag x : ℕ) → x ≤ (slot_of who tag past).taken → x ≤ (slot_of who tag entering).taken
   raised who tag x le =
       cond_both (is_slot_of who tag r.who r.tag) (entered r) (slot_of who tag past) (λ (s : Slot). x ≤ s.taken)
-      (λ q. let p = slot_is who r.who tag r.tag q in let e : (slot_of who tag past).taken ≡ (slot_of r.who r.tag past).taken = ap (λ (s : Slot). s.taken) (slot_same past who r.who tag r.tag p.0 p.1) in let lt = ok.newer in omega arith)
+      (λ q. let p = slot_who who r.who tag r.tag q in let e : (slot_of who tag past).taken ≡ (slot_of r.who r.tag past).taken = ap (λ (s : Slot). s.taken) (slot_same past who r.who tag r.tag p.0 p.1) in let lt = ok.newer in omega arith)
       (λ q. le)
 
   -- nothing that counts has its number, since one number has one tag
@@ -73,14 +74,14 @@ module _ (osts clients : ℕ) (past : List Line) (stamp : Stamp) (t : ℕ) (r : 
         asks = asks;
         current = let c = ok.current in let e = ok.serves.closed in omega arith;
         has = ok.has;
-        taken = cond_both (is_slot_of r.who r.tag r.who r.tag) (entered r) (slot_of r.who r.tag past) (λ (s : Slot). r.xid.0 ≡ s.taken) (λ q. refl) (λ q. let s = slot_self r.who r.tag in absurd (cc));
+        taken = cond_both (is_slot_of r.who r.tag r.who r.tag) (entered r) (slot_of r.who r.tag past) (λ (s : Slot). r.xid.0 ≡ s.taken) (λ q. refl) (λ q. let s = is_slot_self r.who r.tag in absurd (cc));
         new = fresh;
       }
 
   -- its tag was free, so no other request with it waits: that would have been heard
   apart : (q : RequestOf) → Waits osts clients past q → is_slot_of q.who q.tag r.who r.tag ≡ true → ⊥
   apart q w e =
-      let p = slot_is q.who r.who q.tag r.tag e in
+      let p = slot_who q.who r.who q.tag r.tag e in
       let g = asks in
       let k = w.asks in
       let same : (slot_of q.who q.tag past).taken ≡ (slot_of r.who r.tag past).taken = ap (λ (s : Slot). s.taken) (slot_same past q.who r.who q.tag r.tag p.0 p.1) in
@@ -229,7 +230,7 @@ module _ (osts clients : ℕ) (past new : List Line) (d : Deed) (does : Does ost
   -- what still waits is another request
   other : (q : RequestOf) → is_request_of d q ≡ false → d.reply.who ≡ q.who → d.reply.xid ≡ q.xid → ⊥
   other q f e x =
-      let t : is_request_of d q ≡ true = subst (λ (v : Who). same_life d.reply.who v && nat_eq d.reply.xid.0 q.xid.0 ≡ true) e (subst (λ (v : Xid). same_life d.reply.who d.reply.who && nat_eq d.reply.xid.0 v.0 ≡ true) x (slot_self d.reply.who d.reply.xid.0)) in
+      let t : is_request_of d q ≡ true = subst (λ (v : Who). same_life d.reply.who v && nat_eq d.reply.xid.0 q.xid.0 ≡ true) e (subst (λ (v : Xid). same_life d.reply.who d.reply.who && nat_eq d.reply.xid.0 v.0 ≡ true) x (is_slot_self d.reply.who d.reply.xid.0)) in
       absurd (cc)
 
   keeps_waiting : (q : RequestOf) → In q (server_of osts new).waiting → Waits osts clients new q
@@ -315,14 +316,14 @@ module _ (osts clients : ℕ) (past new : List Line) (d : Deed) (does : Does ost
             (λ (b : Acted past e). taken_same e.reply.who e.tag e.reply.xid.0 (h.high e b (does.has e.reply.who has) (counts_back e counts)))
             (does.acted e a);
         kept = λ who tag k e. cond_both (is_slot_of who tag d.reply.who d.tag) (answered d (slot_of who tag past)) (slot_of who tag past) (λ (s : Slot). s.reply ≡ Some k → KeptFor osts new who tag k)
-            (λ q p. inl (d, does.here, cc, sym (slot_is who d.reply.who tag d.tag q).1, mine_counts))
+            (λ q p. inl (d, does.here, cc, sym (slot_who who d.reply.who tag d.tag q).1, mine_counts))
             (λ q p. kept_more osts past new who tag k does.more (λ g b. counts_on g) (rebuilt_more past new who k (does.heard who k.xid.0) (λ from t q w y x. does.sent from (Target t) (message.Request q) w) (let c = does.closed in omega arith)) (h.kept who tag k p))
             (ap (λ (s : Slot). s.reply) (sym (does.slot who tag)) ∙ e);
         slots = λ who tag k. subst (λ (s : Slot). s.reply ≡ Some k → (k.who ≡ who) × (k.xid.0 ≡ s.taken)) (sym (does.slot who tag))
             (cond_both (is_slot_of who tag d.reply.who d.tag) (answered d (slot_of who tag past)) (slot_of who tag past) (λ (s : Slot). s.reply ≡ Some k → (k.who ≡ who) × (k.xid.0 ≡ s.taken))
             (λ q p.
             let same : d.reply ≡ k = cc in
-            let i = slot_is who d.reply.who tag d.tag q in (
+            let i = slot_who who d.reply.who tag d.tag q in (
               ap (λ (v : ReplyTo). v.who) (sym same) ∙ sym i.0,
               ap (λ (v : ReplyTo). v.xid.0) (sym same) ∙ mine_taken ∙ ap (λ (s : Slot). s.taken) (sym (slot_same past who d.reply.who tag d.tag i.0 i.1)),
             ))

@@ -1,9 +1,9 @@
 -- What was done and said, as a recovery window closes: what counts is what stands, and each life that stays finds it in its slots; a reply
 -- that is made anew is one that the life heard, and never asks for again.
 use Rattle.std.proofs.Common.{◌≡◌, ℕ, ◌<◌, ◌≤◌, Bool, true, false, List, [], ◌∷◌, Some, ◌⊎◌, inl, inr, ⊎_elim, refl, sym, subst, ap, ◌∙◌, arith}
-use Rattle.std.specs.Prelude.{nat_eq, nat_lt, ◌&&◌, ◌||◌, not}
+use Rattle.std.specs.Prelude.{nat_eq, nat_lt, ◌&&◌, not}
 use Rattle.std.specs.List.{list_any}
-use Rattle.std.proofs.lemmas.Bool.{or_parts, not-true}
+use Rattle.std.proofs.lemmas.Bool.{or_parts, not-true, or_from, or_cases}
 use Rattle.std.proofs.lemmas.Bool.Decides.{nat_tests}
 use Rattle.lu_base.specs.declared.ids.Node.TheVariants.{Target}
 use Rattle.lu_base.specs.declared.ids.Stamp.{Stamp}
@@ -20,7 +20,7 @@ use Rattle.lu_covered.specs.TargetCloses.{disk_of, is_lost, loses, kept_numbers}
 use Rattle.lu_covered.specs.Heads.{Head}
 use Rattle.lu_guards.proofs.Guards.{In}
 use Rattle.lu_guards.proofs.StoryGuards.{CloseOk}
-use Rattle.lu_guards.proofs.Lists.{in_filter, or_neither}
+use Rattle.lu_guards.proofs.Lists.{in_filter}
 use Rattle.lu_guards.proofs.LifeLists.{any_lives, life_stands, stands_life}
 use Rattle.lu_guards.proofs.ClientLocks.{in_map}
 use Rattle.lu_facts.proofs.Groups.{turn, Acted, Hears, HasSlot, Evicted, Had, IsMade, Stands, Counts, Rebuilt, KeptFor, StoredFor, Done, HoldsAt}
@@ -28,10 +28,6 @@ use Rattle.lu_facts.proofs.DoneGrows.{Grows, meant_more, rebuilt_more, heard_hea
 use Rattle.lu_facts.proofs.SlotLists.{OfSlot, last_upto}
 use Rattle.lu_facts.proofs.CloseFacts.{OfDeed, Among, Closing, closing, kept_done, kept_of_deed, filled_high, filled_kept, filled_slots}
 use Rattle.lu_facts.proofs.ExactLists.{has_in}
-
-or_either : (a b : Bool) → (a || b) ≡ true → (a ≡ true) ⊎ (b ≡ true)
-or_either true b e = inl refl
-or_either false b e = inr e
 
 module _ (head : Head) (past : List Line) (stamp : Stamp) (t : ℕ) (o : Outcome) (ok : CloseOk head past (turn stamp (Target t)) o) (h : HoldsAt head past) where
   abbrev pub closes : List Line
@@ -86,7 +82,7 @@ module _ (head : Head) (past : List Line) (stamp : Stamp) (t : ℕ) (o : Outcome
   committed_stands d s low =
       let same = ok.of_committed in
       let out : nat_lt committed d.reply.txn.0 ≡ false = grind (arith, nat_tests, low, same) in
-      or_neither (is_lost head.osts past d.reply.txn.0) (loses committed o d.reply.txn.0) s (rw out refl)
+      or_from (is_lost head.osts past d.reply.txn.0) (loses committed o d.reply.txn.0) s (rw out refl)
 
   -- ---- who has a slot
 
@@ -101,7 +97,7 @@ module _ (head : Head) (past : List Line) (stamp : Stamp) (t : ℕ) (o : Outcome
       (λ (s : is_life w (without_lives (lives_in o.gone) disk.lives) ≡ true).
       let f = in_filter (λ (x : Who). not (is_life x (lives_in o.gone))) w disk.lives (stands_life w (without_lives (lives_in o.gone) disk.lives) s) in
       inr (subst (λ (ws : List Who). is_life w ws ≡ true) ok.of_lives (life_stands w disk.lives f.0), not-true (is_life w (lives_in o.gone)) f.1))
-      (or_either (is_life w o.joins) (is_life w (without_lives (lives_in o.gone) disk.lives))
+      (or_cases (is_life w o.joins) (is_life w (without_lives (lives_in o.gone) disk.lives))
       (sym (any_lives (same_life w) o.joins (without_lives (lives_in o.gone) disk.lives)) ∙ sym (ap (is_life w) lives_are) ∙ has))
 
   -- one that joins had none before

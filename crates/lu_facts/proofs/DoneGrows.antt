@@ -1,7 +1,5 @@
 -- What was done and said, over a line that leaves most of it: what only grows, and what stays of slots, messages and requests that wait.
 use Rattle.std.proofs.Common.{◌≡◌, ℕ, ◌≤◌, true, List, [], ◌∷◌, inl, inr, ⊎_elim, ap, ◌∙◌, arith}
-use Rattle.std.specs.Prelude.{nat_eq}
-use Rattle.std.proofs.lemmas.Bool.{and_parts, and_from, eqb-true}
 use Rattle.lu_base.specs.declared.ids.Node.{Node}
 use Rattle.lu_base.specs.declared.ids.Node.TheVariants.{Client, Target}
 use Rattle.lu_base.specs.declared.ids.Who.{Who}
@@ -10,24 +8,13 @@ use Rattle.lu_msg.specs.declared.messages.Message.TheVariants as message
 use Rattle.lu_msg.specs.declared.messages.Reply.{Reply as ReplyTo}
 use Rattle.lu_msg.specs.declared.messages.Request.{Request as RequestOf}
 use Rattle.lu_words.specs.Carried.{Deed, Flight}
-use Rattle.lu_words.specs.Words.{Entry, Heard, Grant, Act, Txn as Made, Line, line, same_life}
-use Rattle.lu_covered.specs.TargetParts.{is_slot_of}
+use Rattle.lu_words.specs.Words.{Entry, Heard, Grant, Act, Txn as Made, Line, line}
 use Rattle.lu_covered.specs.TargetStates.{server_of, slot_of, closed_of}
 use Rattle.lu_covered.specs.ClientStates.{life_of, is_own}
 use Rattle.lu_guards.proofs.Guards.{Was, Did}
-use Rattle.lu_guards.proofs.Lists.{self, life_is}
 use Rattle.lu_facts.proofs.Groups.{Flew, Acted, Hears, HeardAs, IsAsking, RepliesTo, Meant, Counts, Rebuilt, KeptFor, Newest}
 
 -- ---- slots
-
-pub same_self : (w : Who) → same_life w w ≡ true
-same_self w = and_from (nat_eq w.client w.client) (nat_eq w.life w.life) (self w.client) (self w.life)
-
-pub slot_self : (who : Who) (tag : ℕ) → is_slot_of who tag who tag ≡ true
-slot_self who tag = and_from (same_life who who) (nat_eq tag tag) (same_self who) (self tag)
-
-pub slot_is : (who other : Who) (tag of_tag : ℕ) → is_slot_of who tag other of_tag ≡ true → (who ≡ other) × (tag ≡ of_tag)
-slot_is who other tag of_tag t = let p = and_parts (same_life who other) (nat_eq tag of_tag) t in (life_is who other p.0, eqb-true tag of_tag p.1)
 
 pub slot_same : (past : List Line) (who other : Who) (tag of_tag : ℕ) → who ≡ other → tag ≡ of_tag → slot_of who tag past ≡ slot_of other of_tag past
 slot_same past who other tag of_tag w t = ap (λ (v : Who). slot_of v tag past) w ∙ ap (λ v. slot_of other v past) t

@@ -37,7 +37,8 @@ use Rattle.lu_client_rows.specs.Facts.{Fact}
 use Rattle.lu_target_rows.specs.Names.{guards_part, in_way, is_free}
 use Rattle.lu_guards.proofs.Guards.{In}
 use Rattle.lu_guards.proofs.Lists.{in_filtered}
-use Rattle.lu_facts.proofs.KnownPaths.{some_is, IsPlaced, TellsAttr, TellsOf, Tells, OneKind, placed_reached}
+use Rattle.lu_guards.proofs.ClientLines.{some_is}
+use Rattle.lu_facts.proofs.KnownPaths.{IsPlaced, TellsAttr, TellsOf, Tells, OneKind, placed_reached}
 use Rattle.lu_facts.proofs.TaughtFacts.{Guards, LiesOn, Lies}
 
 -- ---- what a lock guards

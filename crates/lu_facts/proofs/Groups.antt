@@ -5,7 +5,6 @@ use Rattle.std.specs.Prelude.{length, not, nat_lt}
 use Rattle.lu_base.specs.declared.ids.At.{At}
 use Rattle.lu_base.specs.declared.ids.Node.{Node}
 use Rattle.lu_base.specs.declared.ids.Node.TheVariants.{Client, Target}
-use Rattle.lu_base.specs.declared.ids.Stamp.{Stamp}
 use Rattle.lu_base.specs.declared.ids.Txn.{Txn}
 use Rattle.lu_base.specs.declared.ids.Who.{Who}
 use Rattle.lu_base.specs.declared.ids.Cookie.{Cookie}
@@ -41,12 +40,10 @@ use Rattle.lu_target_rows.specs.Windows.{Replayed, cut_seen, word_of, replay_bef
 use Rattle.lu_client_rows.specs.Caches.{granted_lock, held_at}
 use Rattle.lu_client_rows.specs.Imports.{Replay, replay_of}
 use Rattle.lu_client_rows.specs.Recovery.{lock_replayed, replayed as replayed_by}
+pub use Rattle.lu_guards.proofs.Lists.{turn}
 use Rattle.lu_guards.proofs.Guards.{In, Was, HeardNow, name_of, Ending}
 use Rattle.lu_guards.proofs.CloseLists.{OneEach}
 use Rattle.lu_guards.proofs.StoryGuards.{Newer, SaidBy, IsServing, IsRecovering, locks_told}
-
-abbrev pub turn : Stamp → Node → At
-turn stamp node = record { stamp = stamp; node = node }
 
 -- ---- what was asked, done and heard, over any past
 

@@ -2,7 +2,7 @@
 -- what is kept saw only what is kept or committed, so it touches and writes what it did.
 use Rattle.std.proofs.Common.{◌≡◌, ℕ, ◌+◌, ◌<◌, ◌≤◌, Bool, true, false, List, [], ◌∷◌, ◌⊎◌, inl, inr, ⊎_elim, refl, sym, subst, ap, ◌∙◌, arith}
 use Rattle.std.specs.Prelude.{not, nat_lt, nat_eq, ◌&&◌, ◌||◌, map}
-use Rattle.std.proofs.lemmas.Bool.{cond_both, eqb-true, eqb-false, lt-ltb, le-ltb, not-true, not_from_false, and_left, and_right, or_parts, or_cases, cases_lt, both_ways}
+use Rattle.std.proofs.lemmas.Bool.{cond_both, eqb-true, eqb-false, lt-ltb, le-ltb, not-true, not_from_false, and_left, and_right, or_parts, or_cases, cases_lt, both_ways, or_right, or_from}
 use Rattle.lu_base.specs.declared.ids.At.{At}
 use Rattle.lu_base.specs.declared.ids.Node.TheVariants.{Target}
 use Rattle.lu_base.specs.declared.ids.Stamp.{Stamp}
@@ -31,7 +31,7 @@ use Rattle.lu_covered.specs.TargetParts.{operation}
 use Rattle.lu_covered.specs.TargetStates.{server_of, lives_of, evicted_of, closed_of, replays_of, wishes_of, window_of}
 use Rattle.lu_guards.proofs.Guards.{In}
 use Rattle.lu_guards.proofs.StoryGuards.{IsRecovering, CloseOk}
-use Rattle.lu_guards.proofs.Lists.{or_right, or_neither, in_filter, in_filtered}
+use Rattle.lu_guards.proofs.Lists.{in_filter, in_filtered}
 use Rattle.lu_guards.proofs.LifeLists.{stands_life, life_stands, any_lives, filter_all}
 use Rattle.lu_facts.proofs.Groups.{turn, Acted, HeardAs, HasSlot, IsMade, ItemOk, AllItems, forgetting, items_of, History, HoldsAt}
 use Rattle.lu_guards.proofs.ClientLocks.{in_mapped, in_map}
@@ -291,7 +291,7 @@ module _ (head : Head) (past : List Line) (stamp : Stamp) (t : ℕ) (recovers : 
             deed = d;
             acted = g.0.acted;
             made = g.0.made;
-            stands = or_neither (is_lost head.osts past d.reply.txn.0) (loss d.reply.txn.0) g.0.stands stays;
+            stands = or_from (is_lost head.osts past d.reply.txn.0) (loss d.reply.txn.0) g.0.stands stays;
             operates = g.0.operates;
             wrote = g.0.wrote ∙ same.writes;
             saw = λ n i.
@@ -364,7 +364,7 @@ module _ (head : Head) (past : List Line) (stamp : Stamp) (t : ℕ) (recovers : 
         log_rises = tt;
         later = λ n lt.
             let lower = earlier in
-            or_neither (is_lost head.osts past n) (loss n) (g.later n (omega arith))
+            or_from (is_lost head.osts past n) (loss n) (g.later n (omega arith))
             (and_right (nat_lt (server_of head.osts past).committed.0 n) (nat_lt n (first_of made.boot) && not (has_number n (numbers_of made)))
             (and_left (nat_lt n (first_of made.boot)) (not (has_number n (numbers_of made))) (le-ltb n (first_of made.boot) (omega arith))));
         top = close_top;
@@ -375,13 +375,13 @@ module _ (head : Head) (past : List Line) (stamp : Stamp) (t : ℕ) (recovers : 
             (⊎_elim (λ (le : n ≤ (server_of head.osts past).committed.0). inl (omega arith)) (λ (e : (e : Deed) × Acted past e × IsMade e × (e.reply.txn.0 ≡ n)). inr e) r.0, r.1);
         stands = λ d a m s n i.
             let p = or_parts (is_lost head.osts past d.reply.txn.0) (loss d.reply.txn.0) s in
-            or_neither (is_lost head.osts past n) (loss n) (g.stands d a m p.0 n i) (stays_saw d a m p.1 n i);
+            or_from (is_lost head.osts past n) (loss n) (g.stands d a m p.0 n i) (stays_saw d a m p.1 n i);
         heard = λ who f r i has. ⊎_elim
             (λ (j : is_life who made.joins ≡ true). absurd (joins_none who j f r i))
             (λ (s : HasSlot head.clients past who × (is_life who gone ≡ false)).
             let old = g.heard who f r i s.0 in
             let now = stays_is head past recovers h (turn stamp (Target t)) who s.0 s.1 f r i in
-            (or_neither (is_lost head.osts past r.txn.0) (loss r.txn.0) old.0 now.0, λ n j. or_neither (is_lost head.osts past n) (loss n) (old.1 n j) (now.1 n j)))
+            (or_from (is_lost head.osts past r.txn.0) (loss r.txn.0) old.0 now.0, λ n j. or_from (is_lost head.osts past n) (loss n) (old.1 n j) (now.1 n j)))
             (slot_then who has);
         fresh = λ d a b n i. let le = (h.done.boots d a).1 in let lt = earlier in absurd (omega arith);
         items = close_items;

@@ -1,7 +1,7 @@
 -- The history that stands, at each line but a close: a transaction adds an item, an eviction forgets opens, a commit moves what stands to the disk.
 use Rattle.std.proofs.Common.{◌≡◌, ℕ, ◌+◌, ◌<◌, ◌≤◌, Bool, true, false, List, [], ◌∷◌, ◌++◌, ◌⊎◌, inl, inr, ⊎_elim, refl, sym, subst, ap, ◌∙◌, arith}
 use Rattle.std.specs.Prelude.{not, nat_lt, ◌&&◌, if◌then◌else◌, filter, map}
-use Rattle.std.proofs.lemmas.Bool.{cond_both, cond-false, ltb-true, ltb-false, lt-ltb, le-ltb, not-true, not_from_true, not_from_false, and_left, cases_lt}
+use Rattle.std.proofs.lemmas.Bool.{cond_both, cond-false, ltb-true, ltb-false, lt-ltb, le-ltb, not-true, not_from_true, not_from_false, and_left, cases_lt, or_from}
 use Rattle.lu_base.specs.declared.ids.Node.{Node}
 use Rattle.lu_base.specs.declared.ids.Node.TheVariants.{Client, Target}
 use Rattle.lu_base.specs.declared.ids.Stamp.{Stamp}
@@ -34,7 +34,7 @@ use Rattle.lu_covered.specs.ClientStates.{life_of, known_of, is_own}
 use Rattle.lu_covered.specs.Heads.{Head}
 use Rattle.lu_guards.proofs.Guards.{In}
 use Rattle.lu_guards.proofs.StoryGuards.{Due, HeardOk, ActOk, TxnOk, CommitOk, BootOk, JoinedOk, ComesOk}
-use Rattle.lu_guards.proofs.Lists.{or_neither, in_append, in_left, in_right, in_filter, in_filtered, own_is}
+use Rattle.lu_guards.proofs.Lists.{in_append, in_left, in_right, in_filter, in_filtered, own_is}
 use Rattle.lu_guards.proofs.LifeLists.{stands_life, life_left, over_itself, filter_all}
 use Rattle.lu_guards.proofs.ClientLocks.{in_map, in_mapped, any_false}
 use Rattle.lu_guards.proofs.Grown.{ShowsNext}
@@ -113,7 +113,7 @@ none_lost osts (l ∷ past) = by l.at.node l.entry (none_lost osts past)
     by : (node : Node) (e : Entry) → is_lost osts past 0 ≡ false → is_lost osts (line (turn l.at.stamp node) e ∷ past) 0 ≡ false
     by (Client c) e h = h
     by (Target t) (Close o) h =
-        or_neither (is_lost osts past 0) (loses (server_of osts past).committed.0 o 0) h
+        or_from (is_lost osts past 0) (loses (server_of osts past).committed.0 o 0) h
         (and_left (nat_lt (server_of osts past).committed.0 0) (nat_lt 0 (first_of o.boot) && not (has_number 0 (numbers_of o))) (le-ltb (server_of osts past).committed.0 0 (omega arith)))
     by (Target t) e h = h
 

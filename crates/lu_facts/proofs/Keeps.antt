@@ -172,7 +172,7 @@ more_committed osts past new le into out same h =
     for_keeps osts new (λ who. subst (λ (k : Kept). KeepsFor (server_of osts new).committed.0 (HeardAs new who) k) (sym (same who))
     (for_more (server_of osts past).committed.0 (server_of osts new).committed.0 (HeardAs past who) (HeardAs new who) (kept_of who past) le (into who) (out who) (keeps_for osts past h who)))
 
-commits_more : (head : Head) (past : List Line) (at : At) (to : ℕ) (batch : Batch) → CommitOk head past at to batch → HoldsAt head past → (server_of head.osts past).committed.0 ≤ to
+pub commits_more : (head : Head) (past : List Line) (at : At) (to : ℕ) (batch : Batch) → CommitOk head past at to batch → HoldsAt head past → (server_of head.osts past).committed.0 ≤ to
 commits_more head past at to batch ok h =
     ⊎_elim
     (λ (d : (d : Deed) × _ × (to ≡ d.reply.txn.0)). let lt = (h.history.log d.0 d.1).3 in let e = d.2 in omega (arith, lt, e))

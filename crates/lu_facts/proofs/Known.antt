@@ -2,9 +2,8 @@
 -- lock that it holds, which is granted still, unless that life was evicted. And the transactions that wrote what the answer rests on
 -- are committed, or were seen in a reply that its life heard. A life that was evicted and doesn't know it yet tells what was true when
 -- it was evicted.
-use Rattle.std.proofs.Common.{◌≡◌, ℕ, zero, suc, ◌≤◌, Bool, true, false, List, [], ◌∷◌, ◌++◌, ◌⊎◌, inl, inr, ⊎_elim, Option, Some, refl, sym, subst, ap, ◌∙◌}
-use Rattle.std.specs.Prelude.{nat_eq, ◌==◌, ◌&&◌, ◌||◌, not, if◌then◌else◌}
-use Rattle.std.specs.List.{list_any}
+use Rattle.std.proofs.Common.{◌≡◌, ℕ, zero, suc, ◌≤◌, Bool, true, List, [], ◌∷◌, ◌++◌, ◌⊎◌, inl, inr, ⊎_elim, Option, Some, sym, subst, ap, ◌∙◌}
+use Rattle.std.specs.Prelude.{nat_eq, ◌==◌, ◌&&◌, not, if◌then◌else◌}
 use Rattle.std.proofs.lemmas.Bool.{cond_both, and_parts, eqb-true}
 use Rattle.lu_base.specs.declared.ids.At.{At}
 use Rattle.lu_base.specs.declared.ids.Cookie.{Cookie}
@@ -39,6 +38,7 @@ use Rattle.lu_guards.proofs.Held.{held_is}
 use Rattle.lu_guards.proofs.Lists.{in_append, in_filter}
 use Rattle.lu_guards.proofs.Only.{grown_of}
 use Rattle.lu_guards.proofs.Parts.{tree_is, committed_is, life_is_of}
+use Rattle.lu_guards.proofs.ClientLocks.{any_true}
 use Rattle.lu_facts.proofs.Groups.{turn, Acted, IsMade, Stands, Dead, Evicted, Lapsed, HoldsAt}
 use Rattle.lu_facts.proofs.LockLists.{held_not, is_of_name}
 use Rattle.lu_facts.proofs.Lines.{acted_more}
@@ -86,8 +86,6 @@ heard_answered head (l ∷ past) c f r g i = more (by l.at.node l.entry g.0 i (�
     by (Client b) (Heard t x k) ok (inr j) ih = ih j
     by (Target u) (Heard t x k) ok j ih = absurd ok
     by node e ok j ih = ih j
-
--- ---- over all targets
 
 -- ---- over all targets: where facts are from
 
@@ -162,17 +160,9 @@ facts_heard head (l ∷ past) c f g i = more (by l.at.node l.entry g.0.ok i (λ 
 
 -- ---- a fact that may be used
 
-pub any_in : {A : Type 0} (f : A → Bool) (xs : List A) → list_any f xs ≡ true → (x : A) × In x xs × (f x ≡ true)
-any_in f [] e = absurd (cc)
-any_in {A} f (x ∷ xs) e = by (f x) refl e (λ q. any_in f xs q)
-  where
-    by : (b : Bool) → f x ≡ b → (b || list_any f xs) ≡ true → (list_any f xs ≡ true → (y : A) × In y xs × (f y ≡ true)) → (y : A) × In y (x ∷ xs) × (f y ≡ true)
-    by true q h ih = (x, inl refl, q)
-    by false q h ih = let r = ih h in (r.0, inr r.1, r.2)
-
 usable_held : (cookie : Cookie) (held : List HeldLock) → is_usable cookie held ≡ true → (h : HeldLock) × In h held × (h.lock.cookie ≡ cookie)
 usable_held cookie held e =
-    let r = any_in (λ (h : HeldLock). h.target.0 == 0 && h.lock.cookie.0 == cookie.0 && not h.marked) held e in
+    let r = any_true (λ (h : HeldLock). h.target.0 == 0 && h.lock.cookie.0 == cookie.0 && not h.marked) held e in
     let p = and_parts (r.0.target.0 == 0 && r.0.lock.cookie.0 == cookie.0) (not r.0.marked) r.2 in
     let q = and_parts (r.0.target.0 == 0) (r.0.lock.cookie.0 == cookie.0) p.0 in
     (r.0, r.1, ap (λ (n : ℕ). record { 0 = n }) (eqb-true r.0.lock.cookie.0 cookie.0 q.1))

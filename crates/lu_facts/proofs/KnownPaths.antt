@@ -33,6 +33,7 @@ use Rattle.lu_covered.specs.Calls.{operation_of}
 use Rattle.lu_covered.specs.Known.{told_of, known_answer}
 use Rattle.lu_guards.proofs.Guards.{In}
 use Rattle.lu_guards.proofs.Lists.{in_filter}
+use Rattle.lu_guards.proofs.ClientLines.{some_is}
 use Rattle.lu_facts.proofs.OnNames.{IsPlain}
 
 -- ---- what a fact says
@@ -81,9 +82,6 @@ KnownPart n p = (f : Fact) × Usable n f × (p ≡ f.part)
 
 -- ---- the fact on a part
 
-pub some_is : {A : Type 0} (x y : A) → Some x ≡ Some y → x ≡ y
-some_is x y e = cc
-
 same_number : (a b : Fid) → (a.0 == b.0) ≡ true → a ≡ b
 same_number a b e = ap (λ (n : ℕ). record { 0 = n }) (eqb-true a.0 b.0 e)
 
@@ -122,7 +120,7 @@ looked_first n name f q p ps (inl e) more = let k = fact_is name n f q in inl (f
 looked_first n name f q p ps (inr j) more = more j
 
 -- what comes of the names after one
-abbrev after_name : Notes → List (List ℕ) → Option Fact → Found
+abbrev pub after_name : Notes → List (List ℕ) → Option Fact → Found
 after_name n names o = elim o [ None ↦ nothing_found | Some f ↦ with_cookie f.cookie (walked n names f.answer) ]
 
 -- an answer is what the table gives, and told at once; and each part that the operation looks at is known

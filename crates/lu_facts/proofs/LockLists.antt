@@ -1,5 +1,5 @@
 -- Lists of locks: which are granted after an act, and which are held after a line.
-use Rattle.std.proofs.Common.{◌≡◌, ℕ, ◌+◌, ◌<◌, Bool, true, false, List, [], ◌∷◌, ◌⊎◌, inl, inr, ⊎_elim, refl, sym, subst, ap, ◌∙◌, arith}
+use Rattle.std.proofs.Common.{◌≡◌, ℕ, ◌+◌, Bool, true, false, List, [], ◌∷◌, ◌⊎◌, inl, inr, ⊎_elim, refl, sym, subst, ap, ◌∙◌, arith}
 use Rattle.std.specs.Prelude.{nat_eq, nat_lt, map, not, ◌&&◌, ◌||◌, if◌then◌else◌}
 use Rattle.std.specs.List.{filter}
 use Rattle.std.proofs.lemmas.Bool.{and_parts, and_from, or_parts, or_from, cond_both, eqb-true, eq-eqb}
@@ -24,13 +24,9 @@ use Rattle.lu_client_rows.specs.Caches.{held_as, with_held, with_brought}
 use Rattle.lu_guards.proofs.Guards.{In, name_of}
 use Rattle.lu_guards.proofs.Lists.{in_append, in_filter, in_filtered, life_is}
 use Rattle.lu_guards.proofs.ClientLocks.{in_map}
+use Rattle.lu_guards.proofs.ClientLines.{from_high}
 
 -- ---- the locks of an act: of one life, for reading, each with a cookie of its own above the greatest one
-
-pub from_high : (cookie : ℕ) (who : Who) (wants : List Want) (l : Lock) → In l (locks_from cookie who wants) → cookie < l.cookie.0
-from_high cookie who [] l i = absurd i
-from_high cookie who (want ∷ wants) l (inl e) = let q : cookie + 1 ≡ l.cookie.0 = ap (λ (k : Lock). k.cookie.0) e in omega arith
-from_high cookie who (want ∷ wants) l (inr i) = let h = from_high (cookie + 1) who wants l i in omega arith
 
 pub from_who : (cookie : ℕ) (who : Who) (wants : List Want) (l : Lock) → In l (locks_from cookie who wants) → l.ask.who ≡ who
 from_who cookie who [] l i = absurd i
@@ -57,7 +53,7 @@ from_once cookie who (want ∷ wants) l k (inr i) (inr j) e = from_once (cookie 
 
 -- ---- granted locks
 
-with_in : (l x : Lock) (ks : List Lock) → In x (with_lock l ks) → (l ≡ x) ⊎ In x ks
+pub with_in : (l x : Lock) (ks : List Lock) → In x (with_lock l ks) → (l ≡ x) ⊎ In x ks
 with_in l x [] i = i
 with_in l x (k ∷ ks) i =
     cond_both (nat_eq l.cookie.0 k.cookie.0) (l ∷ ks) (if nat_lt l.cookie.0 k.cookie.0 then l ∷ k ∷ ks else k ∷ with_lock l ks) (λ (zs : List Lock). In x zs → (l ≡ x) ⊎ In x (k ∷ ks))

@@ -3,9 +3,8 @@
 -- the lives that stay brought; it shows them one by one.
 use Rattle.std.proofs.Common.{◌≡◌, ℕ, ◌<◌, ◌≤◌, Bool, true, false, List, [], ◌∷◌, ◌++◌, Option, Some, None, ◌⊎◌, inl, inr, ⊎_elim, refl, sym, subst, ap, ◌∙◌, arith}
 use Rattle.std.specs.Prelude.{nat_eq, length, filter, not, nat_le}
-use Rattle.std.proofs.lemmas.Bool.{and_parts, cond-false, eqb-true, eqb-false}
+use Rattle.std.proofs.lemmas.Bool.{and_parts, cond-false, eqb-true, eqb-false, or_left, or_right}
 use Rattle.std.proofs.lemmas.Bool.Decides.{nat_tests}
-use Rattle.lu_base.specs.declared.ids.Cookie.{Cookie}
 use Rattle.lu_base.specs.declared.ids.Node.TheVariants.{Target}
 use Rattle.lu_base.specs.declared.ids.Stamp.{Stamp}
 use Rattle.lu_base.specs.declared.ids.Who.{Who}
@@ -33,12 +32,13 @@ use Rattle.lu_guards.proofs.StoryGuards.{IsRecovering, RestoreOk, locks_told}
 use Rattle.lu_guards.proofs.Grown.{ShowsNext}
 use Rattle.lu_guards.proofs.ClientLocks.{any_true}
 use Rattle.lu_guards.proofs.LifeLists.{any_lives}
-use Rattle.lu_guards.proofs.Lists.{in_filter, in_filtered, in_left, in_right, life_is, or_left, or_right}
+use Rattle.lu_guards.proofs.Lists.{in_filter, in_filtered, in_left, in_right, life_is}
 use Rattle.lu_facts.proofs.Groups.{turn, HasSlot, Gave, Dead, Evicted, Lapsed, Locks, BroughtRise, HoldsAt}
 use Rattle.lu_guards.proofs.CloseLists.{stays_back}
 use Rattle.lu_facts.proofs.LockLists.{of_cookie, with_new, with_old}
 use Rattle.lu_facts.proofs.LocksStay.{one_of_four, still_closing}
 use Rattle.lu_facts.proofs.Pigeons.{Different, different_filter, all_there}
+use Rattle.lu_facts.proofs.LocksHeard.{numbered}
 
 -- ---- a life that is back brought as many locks as its word says
 
@@ -86,9 +86,6 @@ restores_all before (l ∷ ls) b h =
 abbrev cookie_shown : Entry → ℕ
 cookie_shown (Restore l) = l.cookie.0
 cookie_shown e = 0
-
-abbrev numbered : ℕ → Cookie
-numbered v = record { 0 = v }
 
 restore_in : (l : Lock) (ls : List Lock) → In l ls → In (Restore l) (restore_lines ls)
 restore_in l [] i = absurd i

@@ -34,8 +34,9 @@ use Rattle.lu_guards.proofs.Grown.{ShowsNext}
 use Rattle.lu_guards.proofs.Lists.{in_filter, in_filtered}
 use Rattle.lu_guards.proofs.LockLists.{greatest_least, greatest_has}
 use Rattle.lu_guards.proofs.LifeLists.{life_put, life_put_more}
+use Rattle.lu_guards.proofs.ClientLines.{from_high}
 use Rattle.lu_facts.proofs.Groups.{turn, Acted, Phase, Gave, Dead, Evicted, Lapsed, Locks}
-use Rattle.lu_facts.proofs.LockLists.{from_high, from_who, from_mode, from_once, withs_in, withs_old, withs_new, leaves_or, left_in, held_not, is_of_name, kept_same}
+use Rattle.lu_facts.proofs.LockLists.{from_who, from_mode, from_once, withs_in, withs_old, withs_new, leaves_or, left_in, held_not, is_of_name, kept_same}
 use Rattle.lu_facts.proofs.LocksStay.{Grows, one_of_four, called_more, given_more, still_closing, Stays, locks_stay}
 
 -- ---- an act gives locks

@@ -27,7 +27,7 @@ use Rattle.lu_facts.proofs.Groups.{turn, Flew, Hears, RepliesTo, Phase, Dead, Ev
 use Rattle.lu_facts.proofs.LockLists.{held_not, not_held, not_of_name, Kept, kept_same, brought_in}
 use Rattle.lu_facts.proofs.LocksStay.{Grows, one_of_four, StaysDead, StaysLapsed, called_more, given_more, Stays, stays_dead, locks_stay}
 
-abbrev numbered : ℕ → Cookie
+abbrev pub numbered : ℕ → Cookie
 numbered v = record { 0 = v }
 
 -- ---- a held lock is given up: then it is dead

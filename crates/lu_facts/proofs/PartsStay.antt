@@ -3,7 +3,7 @@
 use Rattle.std.proofs.Common.{◌≡◌, ℕ, ◌+◌, ◌≤◌, Bool, true, false, List, [], ◌∷◌, ◌⊎◌, inl, inr, ⊎_elim, Option, Some, None, refl, sym, subst, ap, ◌∙◌, arith}
 use Rattle.std.specs.Prelude.{◌||◌, ◌&&◌, not, nat_eq, nat_lt, if◌then◌else◌}
 use Rattle.std.specs.List.{list_any}
-use Rattle.std.proofs.lemmas.Bool.{cond_both, and_parts, and_from, or_parts}
+use Rattle.std.proofs.lemmas.Bool.{cond_both, and_parts, and_from, or_parts, or_left, or_right, not-true}
 use Rattle.std.proofs.lemmas.Bool.Decides.{nat_tests}
 use Rattle.lu_base.specs.declared.ids.Node.TheVariants.{Target}
 use Rattle.lu_base.specs.declared.ids.Stamp.{Stamp}
@@ -16,7 +16,7 @@ use Rattle.lu_machine.specs.declared.child.Child.TheVariants.{Dir, File}
 use Rattle.lu_machine.specs.Tree.{Tree, fid_of, child, listing, attributes, layout}
 use Rattle.lu_machine.specs.Plan.{Plan, Refuse, Do, LookName, LookList, LookAttr, LookLayout, looked}
 use Rattle.lu_machine.specs.Table.{plan}
-use Rattle.lu_machine.specs.Footprint.{Operation, Same, Every, Apart, inode_of, empty, touches, writes, forget}
+use Rattle.lu_machine.specs.Footprint.{Operation, Same, Every, Apart, inode_of, empty, touches, writes}
 use Rattle.lu_machine.specs.Laws.{Alike, AllKept}
 use Rattle.lu_machine.specs.Removal.{Item, Acts, Forgets, pick, contents, Clear, Free}
 use Rattle.lu_machine.specs.Seen.{meet, seen}
@@ -34,14 +34,14 @@ use Rattle.lu_target_rows.specs.Windows.{has_number}
 use Rattle.lu_covered.specs.TargetCloses.{kept_numbers, is_lost, loses}
 use Rattle.lu_covered.specs.Heads.{Head}
 use Rattle.lu_guards.proofs.Guards.{In}
-use Rattle.lu_guards.proofs.Lists.{or_left, or_right}
 use Rattle.lu_facts.proofs.Groups.{turn, Acted, IsMade, Stands, ItemOk, AllItems, forgetting, items_of, History, HoldsAt}
+use Rattle.lu_facts.proofs.ItemLists.{same_forgot, pick_same, in_seen}
 use Rattle.lu_facts.proofs.OverItems.{item_in, over_now}
 use Rattle.lu_facts.proofs.FactsStay.{IsSound, sound_empty, sound_after, sound_forget}
 
 -- ---- lists
 
-in_every : {A : Type 0} (P : A → Type 0) (xs : List A) → ((x : A) → In x xs → P x) → Every P xs
+pub in_every : {A : Type 0} (P : A → Type 0) (xs : List A) → ((x : A) → In x xs → P x) → Every P xs
 in_every P [] h = tt
 in_every P (x ∷ xs) h = (h x (inl refl), in_every P xs (λ y i. h y (inr i)))
 
@@ -59,14 +59,6 @@ pub meet_one : (ws ps : List Part) (p : Part) → In p ps → list_any (λ w. me
 meet_one ws [] p i e = absurd i
 meet_one ws (q ∷ ps) p (inl s) e = or_left (list_any (λ w. meets w q) ws) (meet ws ps) (ap (λ (x : Part). list_any (λ w. meets w x) ws) s ∙ e)
 meet_one ws (q ∷ ps) p (inr i) e = or_right (list_any (λ w. meets w q) ws) (meet ws ps) (meet_one ws ps p i e)
-
--- what is in the log and wrote what is touched is seen
-pub in_seen : (touched : List Part) (log : List Deed) (e : Deed) → In e log → meet e.writes touched ≡ true → In e.reply.txn.0 (seen_in touched log)
-in_seen touched [] e i m = absurd i
-in_seen touched (d ∷ log) e (inl s) m = cond_both (meet d.writes touched) (d.reply.txn.0 ∷ seen_in touched log) (seen_in touched log) (λ (ns : List ℕ). In e.reply.txn.0 ns) (λ _. inl (ap (λ (x : Deed). x.reply.txn.0) s)) (λ off. absurd (let on : meet d.writes touched ≡ true = ap (λ (x : Deed). meet x.writes touched) s ∙ m in cc))
-in_seen touched (d ∷ log) e (inr i) m =
-    let h = in_seen touched log e i m in
-    cond_both (meet d.writes touched) (d.reply.txn.0 ∷ seen_in touched log) (seen_in touched log) (λ (ns : List ℕ). In e.reply.txn.0 ns) (λ _. inr h) (λ _. h)
 
 -- ---- numbers that are kept
 
@@ -268,25 +260,11 @@ sound_now head past h =
 
 -- ---- a close
 
-pub same_forgot : (t : Tree) (who : Who) (p : Part) → Same t (forget t who) p
-same_forgot t who (part.Name d n) = refl
-same_forgot t who (part.List d) = refl
-same_forgot t who (part.Attr f) = (refl, refl)
-same_forgot t who (part.Layout f) = refl
-same_forgot t who (part.Parent f) = tt
-same_forgot t who (part.Bytes f stripe extent) = tt
-
 same_forgetting : (osts : ℕ) (gone : List Who) (is : List Item) (p : Part) → Same (contents osts empty is) (contents osts empty (forgetting gone is)) p
 same_forgetting osts [] is p = same_refl (contents osts empty is) p
 same_forgetting osts (who ∷ gone) is p =
     same_trans (contents osts empty is) (contents osts empty (Forgets who ∷ is)) (contents osts empty (forgetting gone (Forgets who ∷ is))) p
     (same_forgot (contents osts empty is) who p) (same_forgetting osts gone (Forgets who ∷ is) p)
-
-pick_same : (keep own : ℕ → Bool) (is : List Item) → ((b : Operation) → In (Acts b) is → keep b.number.0 ≡ own b.number.0) → pick keep is ≡ pick own is
-pick_same keep own [] h = refl
-pick_same keep own (Forgets who ∷ is) h = ap (λ (js : List Item). Forgets who ∷ js) (pick_same keep own is (λ b i. h b (inr i)))
-pick_same keep own (Acts a ∷ is) h =
-    ap (λ (b : Bool). if b then Acts a ∷ pick keep is else pick keep is) (h a (inl refl)) ∙ ap (λ (js : List Item). if own a.number.0 then Acts a ∷ js else js) (pick_same keep own is (λ b i. h b (inr i)))
 
 module _ (head : Head) (past : List Line) (stamp : Stamp) (t : ℕ) (o : Outcome) (h : HoldsAt head past) (next : HoldsAt head (line (turn stamp (Target t)) (Close o) ∷ past)) where
   abbrev closing : List Line
@@ -305,11 +283,7 @@ module _ (head : Head) (past : List Line) (stamp : Stamp) (t : ℕ) (o : Outcome
 
   stood : (e : Deed) → Acted past e → IsMade e → Stands head.osts past e → stays e.reply.txn.0 ≡ true → Stands head.osts closing e
   stood e a m s k =
-      ap (λ (b : Bool). b || loses (server_of head.osts past).committed.0 o e.reply.txn.0) s ∙ by (loses (server_of head.osts past).committed.0 o e.reply.txn.0) (sym (ap (λ (b : Bool). b || not (loses (server_of head.osts past).committed.0 o e.reply.txn.0)) (above_one e a m)) ∙ k)
-    where
-      by : (b : Bool) → not b ≡ true → b ≡ false
-      by true q = absurd (cc)
-      by false q = refl
+      ap (λ (b : Bool). b || loses (server_of head.osts past).committed.0 o e.reply.txn.0) s ∙ not-true (loses (server_of head.osts past).committed.0 o e.reply.txn.0) (sym (ap (λ (b : Bool). b || not (loses (server_of head.osts past).committed.0 o e.reply.txn.0)) (above_one e a m)) ∙ k)
 
   -- what is kept after it, and isn't lost by it, is kept before it
   pub closed_both : (keep : ℕ → Bool) → (server_of head.osts past).committed.0 ≤ (server_of head.osts closing).committed.0 → Closed head.osts closing keep → Closed head.osts past (λ n. keep n && stays n)

@@ -2,7 +2,7 @@
 use Rattle.std.proofs.Common.{◌≡◌, ℕ, ◌<◌, ◌≤◌, Bool, true, false, List, [], ◌∷◌, Option, Some, None, ◌⊎◌, inl, inr, ⊎_elim, refl, sym, subst, ap, ◌∙◌, arith}
 use Rattle.std.specs.Prelude.{nat_lt, ◌||◌, ◌&&◌, not, if◌then◌else◌, map}
 use Rattle.std.specs.List.{filter}
-use Rattle.std.proofs.lemmas.Bool.{cond_both, cond-true, and_parts}
+use Rattle.std.proofs.lemmas.Bool.{cond_both, cond-true, and_parts, or_left, or_right, or_cases, and_from}
 use Rattle.std.proofs.lemmas.Bool.Decides.{nat_tests}
 use Rattle.lu_base.specs.declared.ids.Who.{Who}
 use Rattle.lu_msg.specs.declared.commits.KeptReply.{KeptReply}
@@ -14,6 +14,7 @@ use Rattle.lu_target_rows.specs.Stored.{same_kept, kept_before, with_kept, repli
 use Rattle.lu_covered.specs.TargetParts.{is_slot_of}
 use Rattle.lu_guards.proofs.Guards.{In}
 use Rattle.lu_guards.proofs.Lists.{life_is}
+use Rattle.lu_guards.proofs.LifeLists.{before_trans}
 use Rattle.lu_guards.proofs.TargetSlots.{is_slot_self, slot_who, slot_with}
 use Rattle.lu_facts.proofs.Groups.{DeedsRise}
 
@@ -59,40 +60,21 @@ KeptRise (k ∷ ks) = AllAfter k ks × KeptRise ks
 below : (t u x : ℕ) → nat_lt t u ≡ true → nat_lt u x ≡ true → nat_lt t x ≡ true
 below t u x p q = grind (arith, nat_tests)
 
-life_trans : (a b c : Who) → life_before a b ≡ true → life_before b c ≡ true → life_before a c ≡ true
-life_trans a b c p q = grind (arith, nat_tests)
-
-or_cases : (a b : Bool) → (a || b) ≡ true → (a ≡ true) ⊎ (b ≡ true)
-or_cases true b e = inl refl
-or_cases false b e = inr e
-
-or_first : (a b : Bool) → a ≡ true → (a || b) ≡ true
-or_first true b e = refl
-or_first false b e = absurd (cc)
-
-or_second : (a b : Bool) → b ≡ true → (a || b) ≡ true
-or_second true b e = refl
-or_second false b e = e
-
-and_both : (a b : Bool) → a ≡ true → b ≡ true → (a && b) ≡ true
-and_both true b e f = f
-and_both false b e f = absurd (cc)
-
 kept_trans : (a b c : KeptReply) → kept_before a b ≡ true → kept_before b c ≡ true → kept_before a c ≡ true
 kept_trans a b c e f =
     ⊎_elim
     (λ (p : life_before a.who b.who ≡ true). ⊎_elim
-    (λ (q : life_before b.who c.who ≡ true). or_first (life_before a.who c.who) tags (life_trans a.who b.who c.who p q))
-    (λ (q : (same_life b.who c.who && nat_lt b.tag c.tag) ≡ true). or_first (life_before a.who c.who) tags (subst (λ (w : Who). life_before a.who w ≡ true) (life_is b.who c.who (and_parts (same_life b.who c.who) (nat_lt b.tag c.tag) q).0) p))
+    (λ (q : life_before b.who c.who ≡ true). or_left (life_before a.who c.who) tags (before_trans a.who b.who c.who p q))
+    (λ (q : (same_life b.who c.who && nat_lt b.tag c.tag) ≡ true). or_left (life_before a.who c.who) tags (subst (λ (w : Who). life_before a.who w ≡ true) (life_is b.who c.who (and_parts (same_life b.who c.who) (nat_lt b.tag c.tag) q).0) p))
     (or_cases (life_before b.who c.who) (same_life b.who c.who && nat_lt b.tag c.tag) f))
     (λ (p : (same_life a.who b.who && nat_lt a.tag b.tag) ≡ true).
     let one = and_parts (same_life a.who b.who) (nat_lt a.tag b.tag) p in
     let is = life_is a.who b.who one.0 in
     ⊎_elim
-    (λ (q : life_before b.who c.who ≡ true). or_first (life_before a.who c.who) tags (subst (λ (w : Who). life_before w c.who ≡ true) (sym is) q))
+    (λ (q : life_before b.who c.who ≡ true). or_left (life_before a.who c.who) tags (subst (λ (w : Who). life_before w c.who ≡ true) (sym is) q))
     (λ (q : (same_life b.who c.who && nat_lt b.tag c.tag) ≡ true).
     let two = and_parts (same_life b.who c.who) (nat_lt b.tag c.tag) q in
-    or_second (life_before a.who c.who) tags (and_both (same_life a.who c.who) (nat_lt a.tag c.tag) (subst (λ (w : Who). same_life w c.who ≡ true) (sym is) two.0) (below a.tag b.tag c.tag one.1 two.1)))
+    or_right (life_before a.who c.who) tags (and_from (same_life a.who c.who) (nat_lt a.tag c.tag) (subst (λ (w : Who). same_life w c.who ≡ true) (sym is) two.0) (below a.tag b.tag c.tag one.1 two.1)))
     (or_cases (life_before b.who c.who) (same_life b.who c.who && nat_lt b.tag c.tag) f))
     (or_cases (life_before a.who b.who) (same_life a.who b.who && nat_lt a.tag b.tag) e)
   where
@@ -282,6 +264,7 @@ slot_gone gone (s ∷ slots) who tag t = by (is_life s.who gone) refl (slot_gone
 
 -- ---- the last number
 
+-- the last of these numbers is the first one, or of one of them
 pub last_in : (ts : List Transaction) (n : ℕ) → (last_number ts n ≡ n) ⊎ ((t : Transaction) × In t ts × (last_number ts n ≡ t.txn.0))
 last_in [] n = inl refl
 last_in (t ∷ ts) n = ⊎_elim (λ (e : last_number ts t.txn.0 ≡ t.txn.0). inr (t, inl refl, e)) (λ (k : (u : Transaction) × In u ts × (last_number ts t.txn.0 ≡ u.txn.0)). inr (k.0, inr k.1, k.2)) (last_in ts t.txn.0)

@@ -1,7 +1,7 @@
 -- What replies to readings taught is true while the lock is granted under which it is known, unless its client doesn't hold that and never will; and each
 -- transaction that stands and wrote what such a fact is of is committed, or the reply has seen it. To a life that was evicted all that it knows is true of
 -- the tree as it was then. Here all lines but those that close a recovery window.
-use Rattle.std.proofs.Common.{◌≡◌, ℕ, ◌+◌, ◌*◌, ◌<◌, ◌≤◌, Bool, true, false, List, [], ◌∷◌, ◌⊎◌, inl, inr, ⊎_elim, refl, sym, subst, ap, ◌∙◌, arith, Some}
+use Rattle.std.proofs.Common.{◌≡◌, ℕ, ◌+◌, ◌*◌, ◌<◌, ◌≤◌, Bool, true, false, List, [], ◌∷◌, ◌⊎◌, inl, inr, ⊎_elim, refl, sym, subst, ap, ◌∙◌, arith, Some, le_refl}
 use Rattle.std.specs.Prelude.{not, ◌==◌, if◌then◌else◌}
 use Rattle.std.proofs.lemmas.Bool.{cond-true, cond-false}
 use Rattle.lu_base.specs.declared.ids.At.{At}
@@ -13,7 +13,6 @@ use Rattle.lu_base.specs.declared.ids.Who.{Who}
 use Rattle.lu_base.specs.declared.locks.Lock.{Lock}
 use Rattle.lu_msg.specs.declared.answers.Answer.{Answer}
 use Rattle.lu_msg.specs.declared.answers.Answer.TheVariants as told
-use Rattle.lu_msg.specs.declared.commits.Batch.{Batch}
 use Rattle.lu_msg.specs.declared.messages.Request.{Request as RequestOf}
 use Rattle.lu_msg.specs.declared.operations.Op.{Op}
 use Rattle.lu_msg.specs.declared.operations.Op.TheVariants as op
@@ -37,15 +36,19 @@ use Rattle.lu_covered.specs.TargetCloses.{is_lost}
 use Rattle.lu_covered.specs.Deeds.{asked, deed, locks_of, written_by}
 use Rattle.lu_covered.specs.Heads.{Head}
 use Rattle.lu_guards.proofs.Guards.{In}
-use Rattle.lu_guards.proofs.StoryGuards.{CommitOk, IsServing, EntryOf}
+use Rattle.lu_guards.proofs.StoryGuards.{IsServing, EntryOf}
 use Rattle.lu_guards.proofs.Grown.{IsOfFirst}
 use Rattle.lu_guards.proofs.Lists.{in_filter}
+use Rattle.lu_guards.proofs.Turns.{IsNoClose}
+use Rattle.lu_guards.proofs.ClientLines.{from_high}
 use Rattle.lu_facts.proofs.Groups.{turn, Acted, IsMade, Dead, Evicted, Lapsed, HoldsAt}
-use Rattle.lu_facts.proofs.LockLists.{from_high, withs_in, left_in}
+use Rattle.lu_facts.proofs.LockLists.{withs_in, left_in}
+use Rattle.lu_facts.proofs.Keeps.{commits_more}
+use Rattle.lu_facts.proofs.ItemLists.{same_forgot}
 use Rattle.lu_facts.proofs.KnownPaths.{Tells}
 use Rattle.lu_facts.proofs.TaughtFacts.{Guards, LiesOn, Lies, SeenPlace, PlaceOf, taught_right}
 use Rattle.lu_facts.proofs.FactsStay.{Spares, IsSound, free_spares, fact_stays, fact_unwritten, place_stays, tells_wide, tells_all}
-use Rattle.lu_facts.proofs.PartsStay.{Closed, OfKept, Saw, act_kept, act_saw, sound_now, same_forgot}
+use Rattle.lu_facts.proofs.PartsStay.{Closed, OfKept, Saw, act_kept, act_saw, sound_now}
 use Rattle.lu_facts.proofs.Unheld.{Unheld, keeps_unheld}
 
 -- ---- the group
@@ -210,9 +213,6 @@ module _ (osts : ℕ) (past new : List Line) (l : Later osts past new) (d : Deed
         seat = seats_later f.part k.seat;
       }
 
-at_most : (n : ℕ) → n ≤ n
-at_most n = omega arith
-
 -- ---- an act
 
 -- without locks nothing is taught
@@ -245,8 +245,8 @@ module _ (head : Head) (past : List Line) (at : At) (t : ℕ) (r : RequestOf) (w
   act_later =
       record {
         tree = λ p. same_refl v.tree p;
-        bound = at_most (bound_of head.osts past);
-        committed = at_most v.committed.0;
+        bound = le_refl (bound_of head.osts past);
+        committed = le_refl v.committed.0;
         acted = λ d a. inr a;
         made = λ d a m. ⊎_elim (λ (e : acting ≡ d). absurd (let zero = ap (λ (x : Deed). x.reply.txn.0) e in omega (arith, zero, m))) (λ (b : Acted past d). b) a;
         lost = λ n. refl;
@@ -269,7 +269,7 @@ module _ (head : Head) (past : List Line) (at : At) (t : ℕ) (r : RequestOf) (w
   seen_now p i e a m s = act_saw head.osts head.clients past all.history (asked r none) p i e (act_later.made e a m) m s
 
   kept_now : (p : Part) → In p (touches head.osts v.tree (asked r none)) → OfKept head.osts acted_past acting p
-  kept_now p i keep k s = act_kept head.osts head.clients past all.history (asked r none) keep (closed_later head.osts past acted_past (at_most v.committed.0) (λ d a. inr a) (λ n. refl) keep k) s p i
+  kept_now p i keep k s = act_kept head.osts head.clients past all.history (asked r none) keep (closed_later head.osts past acted_past (le_refl v.committed.0) (λ d a. inr a) (λ n. refl) keep k) s p i
 
   seat_now : (c : Child) → SeenPlace v.tree (bound_of head.osts past) (sound_now head past all).least (sound_now head past all).low r.who (touches head.osts v.tree (asked r none)) c → Seat head.osts acted_past acting c
   seat_now c (inl e) = inl e
@@ -316,7 +316,7 @@ module _ (head : Head) (past : List Line) (at : At) (t : ℕ) (r : RequestOf) (a
     saw_made p apart s e (inr a) m stands = s e a m stands
 
     kept_made : (p : Part) → OfKept head.osts past d p → OfKept head.osts made_past d p
-    kept_made p h keep c s = h keep (closed_later head.osts past made_past (at_most w.committed.0) (λ e a. inr a) (λ n. refl) keep c) s
+    kept_made p h keep c s = h keep (closed_later head.osts past made_past (le_refl w.committed.0) (λ e a. inr a) (λ n. refl) keep c) s
 
     made_rests : In k.lock w.granted → Rests head.osts past d f → Rests head.osts made_past d f
     made_rests i q =
@@ -347,15 +347,6 @@ module _ (head : Head) (past : List Line) (at : At) (t : ℕ) (r : RequestOf) (a
         seats (part.Attr g) a lies x = (x.0, x.1, seat x.0 (subst (λ (v : Fid). (v ≡ fid_of root) ⊎ Guards k.lock v LOOKUP) (sym x.1) lies.1) x.2)
         seats _ a lies x = tt
 
--- ---- a commit
-
-commit_up : (head : Head) (past : List Line) (at : At) (to : ℕ) (batch : Batch) → CommitOk head past at to batch → HoldsAt head past → (server_of head.osts past).committed.0 ≤ to
-commit_up head past at to batch ok all =
-    ⊎_elim
-    (λ (k : (d : Deed) × In d (server_of head.osts past).log × (to ≡ d.reply.txn.0)). let l = (all.history.log k.0 k.1).3 in let is = k.2 in omega (arith, l, is))
-    (λ (is : to ≡ (server_of head.osts past).committed.0). omega (arith, is))
-    ok.is
-
 -- ---- all lines but a close
 
 -- what was taught before it stays true where the tree stays and no lock is granted anew
@@ -365,10 +356,6 @@ later_taught : (head : Head) (past : List Line) (stamp : Stamp) (node : Node) (e
 later_taught head past stamp node e ok first all later granted acted h d f k =
     let u = h d f (acted d k.0, k.1) in
     under_line head past stamp node e ok first all later.bound d f (acted d k.0) u (λ fresh i. rests_later head.osts past (line (turn stamp node) e ∷ past) later d f (u.stands fresh (granted u.lock i)))
-
-abbrev pub NoClose : Entry → Type 0
-NoClose (Close o) = ⊥
-NoClose _ = Unit {0}
 
 module _ (head : Head) (past : List Line) (stamp : Stamp) (all : HoldsAt head past) (h : Taught head.osts past) where
   act_taught : (t : ℕ) (d : Deed) → EntryOf head past (turn stamp (Target t)) (Target t) (Act d) → Taught head.osts (line (turn stamp (Target t)) (Act d) ∷ past)
@@ -381,7 +368,7 @@ module _ (head : Head) (past : List Line) (stamp : Stamp) (all : HoldsAt head pa
       by e f (inl q, i) = subst (λ (x : Deed). Under head.osts (line (turn stamp (Target t)) (Act new) ∷ past) x f) q (acting_under head past (turn stamp (Target t)) t ok.request ok.waits ok.serves all f (subst (λ (x : Deed). In f (taught x.op x.reply.answer x.reply.locks)) (sym q) i))
       by e f (inr a, i) =
           let u = h e f (a, i) in
-          under_line head past stamp (Target t) (Act new) (subst (λ (x : Deed). EntryOf head past (turn stamp (Target t)) (Target t) (Act x)) ok.is ok) tt all (at_most (bound_of head.osts past)) e f a u
+          under_line head past stamp (Target t) (Act new) (subst (λ (x : Deed). EntryOf head past (turn stamp (Target t)) (Target t) (Act x)) ok.is ok) tt all (le_refl (bound_of head.osts past)) e f a u
           (λ fresh j. rests_later head.osts past (line (turn stamp (Target t)) (Act new) ∷ past) (act_later head past (turn stamp (Target t)) t ok.request ok.waits ok.serves all) e f (u.stands fresh (old_granted head past (turn stamp (Target t)) t ok.request ok.waits ok.serves all e u.lock a u.among j)))
 
   made_taught : (t : ℕ) (d : Deed) → EntryOf head past (turn stamp (Target t)) (Target t) (Made d) → Taught head.osts (line (turn stamp (Target t)) (Made d) ∷ past)
@@ -397,24 +384,24 @@ module _ (head : Head) (past : List Line) (stamp : Stamp) (all : HoldsAt head pa
           under_line head past stamp (Target t) (Made new) (subst (λ (x : Deed). EntryOf head past (turn stamp (Target t)) (Target t) (Made x)) ok.is ok) tt all (omega arith) e f a u
           (λ fresh j. made_rests head past (turn stamp (Target t)) t ok.request all ok.free e f u j (u.stands fresh j))
 
-  pub line_taught : (node : Node) (e : Entry) → NoClose e → EntryOf head past (turn stamp node) node e → IsOfFirst e → Taught head.osts (line (turn stamp node) e ∷ past)
+  pub line_taught : (node : Node) (e : Entry) → IsNoClose e → EntryOf head past (turn stamp node) node e → IsOfFirst e → Taught head.osts (line (turn stamp node) e ∷ past)
   line_taught (Target t) (Act d) none ok first = act_taught t d ok
   line_taught (Target t) (Made d) none ok first = made_taught t d ok
   line_taught (Target t) (Commit to batch) none ok first =
       later_taught head past stamp (Target t) (Commit to batch) ok first all
-      (record { tree = λ p. same_refl (server_of head.osts past).tree p; bound = at_most (bound_of head.osts past); committed = commit_up head past (turn stamp (Target t)) to batch ok all; acted = λ d a. a; made = λ d a m. a; lost = λ n. refl })
+      (record { tree = λ p. same_refl (server_of head.osts past).tree p; bound = le_refl (bound_of head.osts past); committed = commits_more head past (turn stamp (Target t)) to batch ok all; acted = λ d a. a; made = λ d a m. a; lost = λ n. refl })
       (λ l i. i) (λ d a. a) h
   line_taught (Target t) (Evict who cause) none ok first =
       later_taught head past stamp (Target t) (Evict who cause) ok first all
-      (record { tree = λ p. same_forgot (server_of head.osts past).tree who p; bound = at_most (bound_of head.osts past); committed = at_most (server_of head.osts past).committed.0; acted = λ d a. a; made = λ d a m. a; lost = λ n. refl })
+      (record { tree = λ p. same_forgot (server_of head.osts past).tree who p; bound = le_refl (bound_of head.osts past); committed = le_refl (server_of head.osts past).committed.0; acted = λ d a. a; made = λ d a m. a; lost = λ n. refl })
       (λ l i. left_in who (server_of head.osts past).granted l i) (λ d a. a) h
   line_taught (Target t) (Release lock) none ok first =
       later_taught head past stamp (Target t) (Release lock) ok first all
-      (record { tree = λ p. same_refl (server_of head.osts past).tree p; bound = at_most (bound_of head.osts past); committed = at_most (server_of head.osts past).committed.0; acted = λ d a. a; made = λ d a m. a; lost = λ n. refl })
+      (record { tree = λ p. same_refl (server_of head.osts past).tree p; bound = le_refl (bound_of head.osts past); committed = le_refl (server_of head.osts past).committed.0; acted = λ d a. a; made = λ d a m. a; lost = λ n. refl })
       (λ l i. (in_filter (λ (m : Lock). not (m.cookie.0 == lock.cookie.0)) l (server_of head.osts past).granted i).0) (λ d a. a) h
   line_taught (Target t) (Boot boot disk) none ok first =
       later_taught head past stamp (Target t) (Boot boot disk) ok first all
-      (record { tree = λ p. same_refl (server_of head.osts past).tree p; bound = let n = ok.next in let c = all.phase.count in omega (arith, n, c); committed = at_most (server_of head.osts past).committed.0; acted = λ d a. a; made = λ d a m. a; lost = λ n. refl })
+      (record { tree = λ p. same_refl (server_of head.osts past).tree p; bound = let n = ok.next in let c = all.phase.count in omega (arith, n, c); committed = le_refl (server_of head.osts past).committed.0; acted = λ d a. a; made = λ d a m. a; lost = λ n. refl })
       (λ l i. i) (λ d a. a) h
   line_taught (Target t) (Close o) none ok first = absurd none
   line_taught (Client c) (Act d) none ok first = absurd ok
@@ -422,7 +409,7 @@ module _ (head : Head) (past : List Line) (stamp : Stamp) (all : HoldsAt head pa
   line_taught (Client c) (Close o) none ok first = absurd ok
   line_taught node e none ok first =
       later_taught head past stamp node e ok first all
-      (record { tree = λ p. same_refl (server_of head.osts past).tree p; bound = at_most (bound_of head.osts past); committed = at_most (server_of head.osts past).committed.0; acted = λ d a. a; made = λ d a m. a; lost = λ n. refl })
+      (record { tree = λ p. same_refl (server_of head.osts past).tree p; bound = le_refl (bound_of head.osts past); committed = le_refl (server_of head.osts past).committed.0; acted = λ d a. a; made = λ d a m. a; lost = λ n. refl })
       (λ l i. i) (λ d a. a) h
 
 pub first_taught : (osts : ℕ) → Taught osts []

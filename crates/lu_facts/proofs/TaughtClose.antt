@@ -1,8 +1,8 @@
 -- What replies taught stays true through the close of a recovery window: a lock that stands again is one that its life brought and holds, so the life heard the
 -- reply that came with it; what that saw stands, and nothing that is lost wrote what a fact is of.
-use Rattle.std.proofs.Common.{◌≡◌, ℕ, ◌<◌, ◌≤◌, Bool, true, false, List, [], ◌∷◌, ◌⊎◌, inl, inr, ⊎_elim, refl, sym, subst, ap, ◌∙◌, arith}
+use Rattle.std.proofs.Common.{◌≡◌, ℕ, ◌<◌, ◌≤◌, Bool, true, false, List, [], ◌∷◌, ◌⊎◌, inl, inr, refl, sym, subst, ap, ◌∙◌, arith}
 use Rattle.std.specs.Prelude.{◌&&◌, ◌||◌, not, nat_eq}
-use Rattle.std.proofs.lemmas.Bool.{cond_both, and_parts, and_from, or_parts, eqb-true, eqb-false, not-true}
+use Rattle.std.proofs.lemmas.Bool.{and_parts, and_from, or_parts, eqb-true, eqb-false, not-true}
 use Rattle.lu_base.specs.declared.ids.Cookie.{Cookie}
 use Rattle.lu_base.specs.declared.ids.At.{At}
 use Rattle.lu_base.specs.declared.ids.Node.{Node}
@@ -13,7 +13,6 @@ use Rattle.lu_base.specs.declared.locks.Lock.{Lock}
 use Rattle.lu_msg.specs.declared.messages.Reply.{Reply as ReplyTo}
 use Rattle.lu_part.specs.declared.parts.Part.{Part}
 use Rattle.lu_part.specs.declared.parts.Part.TheVariants as part
-use Rattle.lu_lock.specs.Conflict.{conflicts_with_any}
 use Rattle.lu_held.specs.declared.locks.HeldLock.{HeldLock}
 use Rattle.lu_held.specs.declared.names.LockName.{LockName}
 use Rattle.lu_held.specs.Locks.{is_named}
@@ -26,8 +25,6 @@ use Rattle.lu_words.specs.Words.{Entry, Close, Line, line}
 use Rattle.lu_client_rows.specs.Caches.{held_at}
 use Rattle.lu_client_rows.specs.Facts.{Fact}
 use Rattle.lu_target_rows.specs.Lives.{is_life, lives_of as lives_in, without_lives}
-use Rattle.lu_target_rows.specs.Outcomes.{restored}
-use Rattle.lu_target_rows.specs.Replies.{locks_on, asks_of}
 use Rattle.lu_covered.specs.TargetStates.{server_of, evicted_of, closed_of, brought_of}
 use Rattle.lu_covered.specs.TargetCloses.{disk_of, is_lost, loses, outcome_of}
 use Rattle.lu_covered.specs.ClientStates.{life_of, known_of}
@@ -37,7 +34,7 @@ use Rattle.lu_guards.proofs.StoryGuards.{CloseOk, EntryOf}
 use Rattle.lu_guards.proofs.Grown.{IsOfFirst}
 use Rattle.lu_guards.proofs.Lists.{in_filter}
 use Rattle.lu_facts.proofs.Groups.{turn, Acted, IsMade, Stands, HeardAs, HasSlot, HoldsAt}
-use Rattle.lu_guards.proofs.CloseLists.{puts_more, stays_all}
+use Rattle.lu_guards.proofs.CloseLists.{puts_more, stays_all, in_restored}
 use Rattle.lu_facts.proofs.KnownPaths.{IsPlaced, placed_reached}
 use Rattle.lu_facts.proofs.FactsStay.{Placed, tells_same}
 use Rattle.lu_facts.proofs.PartsStay.{Closed, AllSaw, OfKept, Saw, sound_now, stays, not_lost, closed_both, part_stays}
@@ -46,18 +43,11 @@ use Rattle.lu_facts.proofs.Taught.{bound_of, Seat, SeatFor, Rests, Taught, grant
 
 -- ---- what a close decides of locks and lives
 
-restored_in : (before locks : List Lock) (l : Lock) → In l (restored before locks) → In l locks
-restored_in before [] l i = absurd i
-restored_in before (k ∷ locks) l i =
-    cond_both (conflicts_with_any k.ask (asks_of (locks_on k.resource before))) (restored before locks) (k ∷ restored (k ∷ before) locks) (λ (ls : List Lock). In l ls → In l (k ∷ locks))
-    (λ _ j. inr (restored_in before locks l j))
-    (λ _ j. ⊎_elim (λ (e : k ≡ l). inl e) (λ (m : In l (restored (k ∷ before) locks)). inr (restored_in (k ∷ before) locks l m)) j) i
-
 -- a lock that stands again was brought, by a life that stays
 lock_stood : (osts clients : ℕ) (at : At) (past : List Line) (l : Lock) → In l (outcome_of osts clients at past).locks → In l (brought_of past) × (is_life l.ask.who (lives_in (outcome_of osts clients at past).gone) ≡ false)
 lock_stood osts clients at past l i =
     let gone = lives_in (outcome_of osts clients at past).gone in
-    let r = in_filter (λ (k : Lock). not (is_life k.ask.who gone)) l (brought_of past) (restored_in [] _ l i) in
+    let r = in_filter (λ (k : Lock). not (is_life k.ask.who gone)) l (brought_of past) (in_restored [] _ l i) in
     (r.0, not-true (is_life l.ask.who gone) r.1)
 
 -- a life that stays keeps its slot

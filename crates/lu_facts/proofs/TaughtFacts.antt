@@ -33,7 +33,8 @@ use Rattle.lu_client_rows.specs.Facts.{Fact, fact, is_one_for_each, name_facts, 
 use Rattle.lu_target_rows.specs.Names.{locks_from}
 use Rattle.lu_guards.proofs.Guards.{In}
 use Rattle.lu_guards.proofs.Lists.{in_append, in_left, in_right}
-use Rattle.lu_facts.proofs.KnownPaths.{some_is, IsPlaced, Tells, TellsOf}
+use Rattle.lu_guards.proofs.ClientLines.{some_is}
+use Rattle.lu_facts.proofs.KnownPaths.{IsPlaced, Tells, TellsOf}
 
 -- ---- the lock that a fact lies under
 

@@ -106,7 +106,7 @@ module _ (head : Head) (past : List Line) (stamp : Stamp) where
 
 -- ---- what is held was heard
 
-heard_as_more : (l : Line) (past : List Line) (who : Who) (f : Flight) (r : ReplyTo) → HeardAs past who f r → HeardAs (l ∷ past) who f r
+pub heard_as_more : (l : Line) (past : List Line) (who : Who) (f : Flight) (r : ReplyTo) → HeardAs past who f r → HeardAs (l ∷ past) who f r
 heard_as_more l past who f r i = by l.entry
   where
     by : (e : Entry) → HeardAs (line l.at e ∷ past) who f r

@@ -16,7 +16,7 @@ use Rattle.lu_target_rows.specs.Outcomes.{deed_again, deeds_again}
 use Rattle.lu_target_rows.specs.Outcomes as rows
 use Rattle.lu_target_rows.specs.Recovery.{kept_lines, restore_lines}
 use Rattle.lu_target_rows.specs.States.{Target as TargetOf}
-use Rattle.lu_target_rows.specs.Stored.{transaction_of, done, same_kept, kept_before, with_kept, replies_of, batch_of}
+use Rattle.lu_target_rows.specs.Stored.{transaction_of, done, with_kept, replies_of, batch_of}
 use Rattle.lu_target_rows.specs.Windows.{Replayed, settled}
 use Rattle.lu_covered.specs.Heads.{Head}
 use Rattle.lu_covered.specs.TargetCloses.{disk_of, outcome_of, recovering_of, but_first, closing_of, shows, shows_evicted, shows_ready, shows_joined, staying}
@@ -25,6 +25,7 @@ use Rattle.lu_guards.proofs.Guards.{In}
 use Rattle.lu_guards.proofs.StoryGuards.{Due, EntryOf}
 use Rattle.lu_guards.proofs.Grown.{GrownOf}
 use Rattle.lu_guards.proofs.Lists.{turn, in_append, in_filter}
+use Rattle.lu_guards.proofs.CloseLists.{in_with_kept}
 
 abbrev pub IsBare : ReplyTo → Type 0
 IsBare k = k.locks ≡ []
@@ -40,23 +41,11 @@ BareSlots slots = (s : LifeSlot) → In s slots → (k : ReplyTo) → s.slot.rep
 
 -- ---- batches
 
-with_kept_only : (x k : KeptReply) (kept : List KeptReply) → In k (with_kept x kept) → (x ≡ k) ⊎ In k kept
-with_kept_only x k [] i = i
-with_kept_only x k (y ∷ kept) i = by (same_kept x y) (kept_before x y) i (with_kept_only x k kept)
-  where
-    by : (a b : Bool) → In k (if a then x ∷ kept else (if b then x ∷ y ∷ kept else y ∷ with_kept x kept)) → (In k (with_kept x kept) → (x ≡ k) ⊎ In k kept) → (x ≡ k) ⊎ In k (y ∷ kept)
-    by true b (inl e) more = inl e
-    by true b (inr j) more = inr (inr j)
-    by false true (inl e) more = inl e
-    by false true (inr j) more = inr j
-    by false false (inl e) more = inr (inl e)
-    by false false (inr j) more = ⊎_elim (λ (e : x ≡ k). inl e) (λ (h : In k kept). inr (inr h)) (more j)
-
 pub bare_replies : (ds : List Deed) (kept : List KeptReply) → BareDeeds ds → BareReplies kept → BareReplies (replies_of ds kept)
 bare_replies [] kept b r = r
 bare_replies (d ∷ ds) kept b r =
     bare_replies ds (with_kept x kept) (λ e i. b e (inr i))
-    (λ k i. ⊎_elim (λ (e : x ≡ k). subst (λ (y : KeptReply). IsBare y.reply) e (b d (inl refl))) (λ (j : In k kept). r k j) (with_kept_only x k kept i))
+    (λ k i. ⊎_elim (λ (e : x ≡ k). subst (λ (y : KeptReply). IsBare y.reply) e (b d (inl refl))) (λ (j : In k kept). r k j) (in_with_kept x k kept i))
   where
     x : KeptReply
     x = record { who = d.reply.who; tag = d.tag; reply = d.reply }

@@ -277,17 +277,17 @@ comes_to head (l ∷ past) from c m g w = by l.entry w g.0.ok (λ v. comes_to he
     by e r ok more = more r
 
 -- the locks of a reply have different cookies
-above : (n : ℕ) (who : Who) (wants : List Want) (m : Lock) → In m (locks_from n who wants) → n < m.cookie.0
-above n who [] m i = absurd i
-above n who (w ∷ wants) m (inl e) = subst (λ (k : Lock). n < k.cookie.0) e (omega arith)
-above n who (w ∷ wants) m (inr i) = let a = above (n + 1) who wants m i in omega (arith, a)
+pub from_high : (n : ℕ) (who : Who) (wants : List Want) (m : Lock) → In m (locks_from n who wants) → n < m.cookie.0
+from_high n who [] m i = absurd i
+from_high n who (w ∷ wants) m (inl e) = subst (λ (k : Lock). n < k.cookie.0) e (omega arith)
+from_high n who (w ∷ wants) m (inr i) = let a = from_high (n + 1) who wants m i in omega (arith, a)
 
 apart : (a b : ℕ) → a < b → nat_eq a b ≡ false
 apart a b lt = grind (arith, nat_tests)
 
 from_differ : (n : ℕ) (who : Who) (wants : List Want) → Differ (locks_from n who wants)
 from_differ n who [] = tt
-from_differ n who (w ∷ wants) = (λ m i. apart (n + 1) m.cookie.0 (above (n + 1) who wants m i), from_differ (n + 1) who wants)
+from_differ n who (w ∷ wants) = (λ m i. apart (n + 1) m.cookie.0 (from_high (n + 1) who wants m i), from_differ (n + 1) who wants)
 
 kept_differ : (head : Head) (who : Who) (tag : ℕ) (past : List Line) → GrownOf head past → (k : ReplyTo) → (slot_of who tag past).reply ≡ Some k → Differ k.locks
 kept_differ head who tag [] g = λ k e. absurd (cc)

@@ -2,7 +2,7 @@
 use Rattle.std.proofs.Common.{◌≡◌, ℕ, zero, suc, ◌+◌, ◌-◌, ◌≤◌, Bool, true, false, List, [], ◌∷◌, ◌++◌, ◌⊎◌, inl, inr, ⊎_elim, refl, sym, subst, ap, ◌∙◌, arith}
 use Rattle.std.specs.Prelude.{nat_eq, ◌||◌, not, min, if◌then◌else◌, length, map, filter, drop}
 use Rattle.std.specs.List.{list_any}
-use Rattle.std.proofs.lemmas.Bool.{and_parts, cond-true, cond-false, eqb-true}
+use Rattle.std.proofs.lemmas.Bool.{and_parts, cond-true, cond-false, eqb-true, or_left, or_right, not-true}
 use Rattle.std.proofs.lemmas.Bool.Decides.{nat_tests}
 use Rattle.lu_base.specs.declared.locks.Lock.{Lock}
 use Rattle.lu_held.specs.declared.locks.Change.{Change}
@@ -14,7 +14,7 @@ use Rattle.lu_held.specs.Locks.{named, name_of, is_named, after}
 use Rattle.lu_held.specs.Held.{is_held, changed, without, used, unmarked, put_in, in_order}
 use Rattle.lu_client_rows.specs.Caches.{held_as, with_held, with_brought}
 use Rattle.lu_guards.proofs.Guards.{In}
-use Rattle.lu_guards.proofs.Lists.{self, in_append, in_filter, in_filtered, or_left, or_right}
+use Rattle.lu_guards.proofs.Lists.{self, in_append, in_filter, in_filtered}
 
 -- ---- lists
 
@@ -117,10 +117,6 @@ once_changed n c hs o = once_map (λ held. if is_named n held then after c held 
     same : (h : HeldLock) → name_of (if is_named n h then after c h else h) ≡ name_of h
     same h = by (is_named n h) h
 
-not_true : (b : Bool) → not b ≡ true → b ≡ false
-not_true true e = absurd (cc)
-not_true false e = refl
-
 pub once_used : (n : LockName) (hs : List HeldLock) → Once hs → Once (used n hs)
 once_used n hs o = once_append (filter (is_named n) hs) (without n hs) (once_filter (is_named n) hs o) (once_filter (λ held. not (is_named n held)) hs o) apart
   where
@@ -128,11 +124,11 @@ once_used n hs o = once_append (filter (is_named n) hs) (without n hs) (once_fil
     apart h i g j =
         let p = in_filter (is_named n) h hs i in
         let q = in_filter (λ held. not (is_named n held)) g hs j in
-        ap (λ (m : LockName). is_named m g) (sym (names_same n (name_of h) p.1)) ∙ not_true (is_named n g) q.1
+        ap (λ (m : LockName). is_named m g) (sym (names_same n (name_of h) p.1)) ∙ not-true (is_named n g) q.1
 
 -- ---- a lock that comes
 
-abbrev in_place : HeldLock → HeldLock → HeldLock
+abbrev pub in_place : HeldLock → HeldLock → HeldLock
 in_place h g = if is_named (name_of h) g then h else g
 
 pub once_with : (h : HeldLock) (hs : List HeldLock) → Once hs → Once (with_held h hs)
@@ -216,7 +212,7 @@ used_only n g hs i =
     ⊎_elim (λ (j : In g (filter (is_named n) hs)). (in_filter (is_named n) g hs j).0) (λ (j : In g (without n hs)). (in_filter (λ held. not (is_named n held)) g hs j).0) (in_append g (filter (is_named n) hs) (without n hs) i)
 
 pub without_only : (n : LockName) (g : HeldLock) (hs : List HeldLock) → In g (without n hs) → In g hs × (is_named n g ≡ false)
-without_only n g hs i = let p = in_filter (λ held. not (is_named n held)) g hs i in (p.0, not_true (is_named n g) p.1)
+without_only n g hs i = let p = in_filter (λ held. not (is_named n held)) g hs i in (p.0, not-true (is_named n g) p.1)
 
 pub without_other : (n : LockName) (g : HeldLock) (hs : List HeldLock) → In g hs → is_named n g ≡ false → In g (without n hs)
 without_other n g hs i e = in_filtered (λ held. not (is_named n held)) g hs i (ap not e)

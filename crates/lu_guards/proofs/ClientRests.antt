@@ -93,7 +93,7 @@ pub record Ended (head : table.Head) (c : ℕ) (at : At) (past : List Line) : Ty
   pub settled : Settled past
   pub between : Between c past
 
-in_reverse : {A : Type 0} (x : A) (xs : List A) → In x (reverse xs) → In x xs
+pub in_reverse : {A : Type 0} (x : A) (xs : List A) → In x (reverse xs) → In x xs
 in_reverse x [] i = i
 in_reverse {A} x (y ∷ xs) i =
     ⊎_elim (λ (j : In x (reverse xs)). inr (in_reverse x xs j)) (λ (j : In x (y ∷ [])). ⊎_elim (λ (e : y ≡ x). inl e) (λ (n : ⊥). absurd n) j)

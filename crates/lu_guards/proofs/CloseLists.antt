@@ -3,7 +3,7 @@
 use Rattle.std.proofs.Common.{◌≡◌, ℕ, ◌<◌, ◌≤◌, Bool, true, false, List, [], ◌∷◌, Some, ◌⊎◌, inl, inr, ⊎_elim, refl, sym, subst, ap, ◌∙◌, arith}
 use Rattle.std.specs.Prelude.{nat_eq, nat_lt, ◌||◌, not, if◌then◌else◌}
 use Rattle.std.specs.List.{list_any}
-use Rattle.std.proofs.lemmas.Bool.{cond_both, or_parts, or_right, eq-eqb}
+use Rattle.std.proofs.lemmas.Bool.{cond_both, or_parts, or_right, eq-eqb, or_left, not-true}
 use Rattle.std.proofs.lemmas.Bool.Decides.{nat_tests}
 use Rattle.lu_base.specs.declared.ids.At.{At}
 use Rattle.lu_base.specs.declared.ids.Who.{Who}
@@ -19,7 +19,7 @@ use Rattle.lu_target_rows.specs.States.{Target}
 use Rattle.lu_target_rows.specs.Stored.{transaction_of, done, same_kept, kept_before, with_kept, replies_of, last_number}
 use Rattle.lu_target_rows.specs.Windows.{Window, Replayed, placed, with_brought, brought_before, with_wish, is_back, is_left, has_gap, gone_with, gone_from, kept_of}
 use Rattle.lu_guards.proofs.Guards.{In}
-use Rattle.lu_guards.proofs.Lists.{in_filter, in_filtered, life_is, or_left}
+use Rattle.lu_guards.proofs.Lists.{in_filter, in_filtered, life_is}
 use Rattle.lu_guards.proofs.LifeLists.{life_stands, stands_life, any_lives}
 use Rattle.lu_guards.proofs.LockLists.{AllAbove, Rises, in_above}
 use Rattle.lu_guards.proofs.ClientLocks.{any_false}
@@ -40,10 +40,6 @@ put_each x more lives t = any_lives (same_life x) more lives ∙ or_left (is_lif
 pub puts_more : (x : Who) (more lives : List Who) → is_life x lives ≡ true → is_life x (with_lives more lives) ≡ true
 puts_more x more lives t = any_lives (same_life x) more lives ∙ or_right (is_life x more) (is_life x lives) t
 
-pub not_true : (b : Bool) → not b ≡ true → b ≡ false
-not_true true e = absurd (cc)
-not_true false e = refl
-
 -- what stands there once lives went is none of them
 pub stays_all : (x : Who) (gone lives : List Who) → is_life x lives ≡ true → is_life x gone ≡ false → is_life x (without_lives gone lives) ≡ true
 stays_all x gone lives t n = life_stands x (without_lives gone lives) (in_filtered (λ (w : Who). not (is_life w gone)) x lives (stands_life x lives t) (ap not n))
@@ -51,7 +47,7 @@ stays_all x gone lives t n = life_stands x (without_lives gone lives) (in_filter
 pub left_all : (x : Who) (gone lives : List Who) → is_life x (without_lives gone lives) ≡ true → (is_life x lives ≡ true) × (is_life x gone ≡ false)
 left_all x gone lives t =
     let p = in_filter (λ (w : Who). not (is_life w gone)) x lives (stands_life x (without_lives gone lives) t) in
-    (life_stands x lives p.0, not_true (is_life x gone) p.1)
+    (life_stands x lives p.0, not-true (is_life x gone) p.1)
 
 -- ---- who loses its slot at a close
 
@@ -107,6 +103,7 @@ abbrev pub OneEach : List Who → Type 0
 OneEach [] = Unit {0}
 OneEach (w ∷ ws) = ((x : Who) → In x ws → w.client < x.client) × OneEach ws
 
+-- who wishes to join is it, or did so before
 pub in_wish : (x who : Who) (ws : List Who) → In x (with_wish who ws) → (who ≡ x) ⊎ In x ws
 in_wish x who [] i = i
 in_wish x who (w ∷ ws) i = by (nat_eq who.client w.client) (nat_lt who.client w.client) i (in_wish x who ws)
@@ -174,6 +171,7 @@ rises_brought l (k ∷ locks) r apart = by (brought_before l k) refl (rises_brou
 
 -- ---- what is restored
 
+-- what is restored was brought
 pub in_restored : (before locks : List Lock) (l : Lock) → In l (restored before locks) → In l locks
 in_restored before [] l i = i
 in_restored before (k ∷ locks) l i = by _ (in_restored before locks l) (in_restored (k ∷ before) locks l) i
@@ -210,7 +208,7 @@ last_low n (t ∷ ts) k le each = last_low n ts t.txn.0 (each t (inl refl)) (λ 
 
 -- ---- the replies that a batch has, and the slots that it leaves
 
-in_with_kept : (k x : KeptReply) (ks : List KeptReply) → In x (with_kept k ks) → (k ≡ x) ⊎ In x ks
+pub in_with_kept : (k x : KeptReply) (ks : List KeptReply) → In x (with_kept k ks) → (k ≡ x) ⊎ In x ks
 in_with_kept k x [] i = i
 in_with_kept k x (y ∷ ks) i = by (same_kept k y) (kept_before k y) i (in_with_kept k x ks)
   where

@@ -30,6 +30,7 @@ use Rattle.lu_guards.proofs.Lists.{self, turn, turn_trans, turn_irreflexive, in_
 
 -- ---- what was before the turn isn't of it
 
+-- a turn to come has taken nothing
 pub none_took : (head : Head) (past : List Line) (at : At) (from : Node) (m : Message) → Grown head past → Later past at → Took past at from m → ⊥
 none_took head [] at from m g later took = absurd took
 none_took head (l ∷ past) at from m g later took = by l.entry took (λ k. none_took head past at from m g.1 (before past g.0.steps) k)

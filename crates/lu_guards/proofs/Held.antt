@@ -202,7 +202,7 @@ none_held head c t (l ∷ past) g = by l.at.node l.entry g.0.ok (none_held head 
     by (Target u) e ok ih = quiet (line (turn l.at.stamp (Target u)) e) (nat_eq (suc t) u) (unread (reads_held e) false (held_after (held_at c P) e) (inr refl)) ih
     by (Client d) e ok ih = quiet (line (turn l.at.stamp (Client d)) e) (is_about (suc t) e) refl ih
 
-not_zero : (t : ℕ) → nat_eq 0 (suc t) ≡ false
+pub not_zero : (t : ℕ) → nat_eq 0 (suc t) ≡ false
 not_zero t = grind (arith, nat_tests)
 
 -- so the held locks of a target are those of its story

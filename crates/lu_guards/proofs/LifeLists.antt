@@ -3,7 +3,7 @@
 use Rattle.std.proofs.Common.{◌≡◌, ℕ, ◌<◌, Bool, true, false, List, [], ◌∷◌, ◌++◌, Option, Some, None, inl, inr, ⊎_elim, refl, sym, subst, ap, ◌∙◌, zero, suc, ◌+◌, arith}
 use Rattle.std.specs.Prelude.{nat_eq, ◌||◌, ◌&&◌, not, if◌then◌else◌}
 use Rattle.std.specs.List.{filter, list_any}
-use Rattle.std.proofs.lemmas.Bool.{cond_both, cond-true, cond-false, eqb-true, eq-eqb}
+use Rattle.std.proofs.lemmas.Bool.{cond_both, cond-true, cond-false, eqb-true, eq-eqb, or_left, or_right}
 use Rattle.std.proofs.lemmas.Bool.Decides.{nat_tests}
 use Rattle.std.proofs.lemmas.List.{append-nil, append_assoc}
 use Rattle.lu_base.specs.declared.ids.Who.{Who}
@@ -14,7 +14,7 @@ use Rattle.lu_target_rows.specs.Lives.{is_life, life_before, with_life, with_liv
 use Rattle.lu_target_rows.specs.Locks.{without_lock, locks_without}
 use Rattle.lu_target_rows.specs.States.{lives_from}
 use Rattle.lu_guards.proofs.Guards.{In}
-use Rattle.lu_guards.proofs.Lists.{in_append, in_filter, in_filtered, life_is, life_self, or_left, or_right}
+use Rattle.lu_guards.proofs.Lists.{in_append, in_filter, in_filtered, life_is, life_self}
 use Rattle.lu_guards.proofs.LockLists.{AllAbove, in_above, above_filter, Rises}
 use Rattle.lu_guards.proofs.ClientLocks.{any_true}
 
@@ -111,10 +111,10 @@ abbrev pub InOrder : List Who → Type 0
 InOrder [] = Unit {0}
 InOrder (w ∷ ws) = AllAfter w ws × InOrder ws
 
-before_trans : (a b c : Who) → life_before a b ≡ true → life_before b c ≡ true → life_before a c ≡ true
+pub before_trans : (a b c : Who) → life_before a b ≡ true → life_before b c ≡ true → life_before a c ≡ true
 before_trans a b c p q = grind (arith, nat_tests)
 
-before_not_self : (a : Who) → life_before a a ≡ true → ⊥
+pub before_not_self : (a : Who) → life_before a a ≡ true → ⊥
 before_not_self a p = grind (arith, nat_tests)
 
 before_else : (a b : Who) → same_life a b ≡ false → life_before a b ≡ false → life_before b a ≡ true

@@ -3,7 +3,7 @@
 use Rattle.std.proofs.Common.{◌≡◌, ℕ, ◌<◌, ◌≤◌, true, false, List, [], ◌∷◌, ◌⊎◌, inl, inr, ⊎_elim, refl, sym, subst, ap, ◌∙◌, arith}
 use Rattle.std.specs.Prelude.{nat_eq, nat_lt, not}
 use Rattle.std.specs.List.{filter, list_any}
-use Rattle.std.proofs.lemmas.Bool.{eq-eqb}
+use Rattle.std.proofs.lemmas.Bool.{eq-eqb, not-true}
 use Rattle.std.proofs.lemmas.Bool.Decides.{nat_tests}
 use Rattle.lu_base.specs.declared.ids.At.{At}
 use Rattle.lu_base.specs.declared.ids.Node.{Node}
@@ -28,7 +28,7 @@ use Rattle.lu_guards.proofs.Lists.{turn, in_filter, life_self}
 use Rattle.lu_guards.proofs.LifeLists.{InOrder, order_filter, order_puts, life_stands}
 use Rattle.lu_guards.proofs.LockLists.{Rises, rises_filter}
 use Rattle.lu_guards.proofs.ClientLocks.{in_map, any_passes}
-use Rattle.lu_guards.proofs.CloseLists.{puts_or, puts_more, stays_all, left_all, not_true, gone_had, stays_back, left_not, OneEach, in_wish, each_wish, wish_one, in_placed, rises_brought, in_restored, rises_restored, last_low}
+use Rattle.lu_guards.proofs.CloseLists.{puts_or, puts_more, stays_all, left_all, gone_had, stays_back, left_not, OneEach, in_wish, each_wish, wish_one, in_placed, rises_brought, in_restored, rises_restored, last_low}
 use Rattle.lu_guards.proofs.TargetStory.{Belongs, Story, numbered, logged_top, story_start, story_client, story_line}
 use Rattle.lu_guards.proofs.Given.{Gave, Given, deeds_fine, given_start, given_line}
 
@@ -146,7 +146,7 @@ module _ (head : Head) (t : ℕ) (past : List Line) (stamp : Stamp) (h : Sound h
   pub restored_stays : (l : Lock) → In l x.locks → (is_life l.ask.who lives ≡ true) × (is_life l.ask.who gone ≡ false)
   restored_stays l i =
       let p = in_filter (λ (k : Lock). not (is_life k.ask.who gone)) l (brought_of past) (in_restored [] (filter (λ (k : Lock). not (is_life k.ask.who gone)) (brought_of past)) l i) in
-      (h.taken.belongs l p.0, not_true (is_life l.ask.who gone) p.1)
+      (h.taken.belongs l p.0, not-true (is_life l.ask.who gone) p.1)
 
   pub restored_rises : Rises x.locks
   restored_rises = rises_restored [] (filter (λ (k : Lock). not (is_life k.ask.who gone)) (brought_of past)) (rises_filter (λ (k : Lock). not (is_life k.ask.who gone)) (brought_of past) h.taken.rises)

@@ -35,10 +35,11 @@ use Rattle.lu_covered.specs.TargetCloses.{disk_of}
 use Rattle.lu_guards.proofs.Guards.{In}
 use Rattle.lu_guards.proofs.StoryGuards.{EntryOf, IsServing, CommitOk}
 use Rattle.lu_guards.proofs.Lists.{turn}
+use Rattle.lu_guards.proofs.Turns.{IsNoClose}
 use Rattle.lu_guards.proofs.LockLists.{Rises, rises_all, rises_filter}
 use Rattle.lu_guards.proofs.LifeLists.{filter_parts, filter_swap, first_lives}
 use Rattle.lu_guards.proofs.TargetSlots.{SlotsAlike, slots_enter, slots_answer, slots_again, slots_leave}
-use Rattle.lu_guards.proofs.TargetStory.{Story, IsStill, numbered, logged_above, story_start, story_client, story_commit, story_evict, story_release, story_still, story_line}
+use Rattle.lu_guards.proofs.TargetStory.{Story, numbered, logged_above, story_start, story_client, story_commit, story_evict, story_release, story_still, story_line}
 
 -- one of the whole table, and what the guards speak of
 abbrev pub Alike : (osts t : ℕ) → Target → Server → Type 0
@@ -243,7 +244,7 @@ pub serving_line : (head : Head) (t : ℕ) (past : List Line) (stamp : Stamp) (e
     → Serving head t (after v e) (line (turn stamp (node.Target t)) e ∷ past)
 serving_line head t past stamp e v plain ok h = by e plain ok (story_line head t past stamp e (still e plain) ok h.story)
   where
-    still : (e : Entry) → IsPlain e → IsStill e
+    still : (e : Entry) → IsPlain e → IsNoClose e
     still (Close o) plain = absurd plain
     still e plain = tt
 

@@ -2,7 +2,7 @@
 -- turn, and after them the target serves and is what its story says.
 use Rattle.std.proofs.Common.{◌≡◌, ℕ, ◌<◌, Bool, true, false, List, [], ◌∷◌, ◌++◌, Option, None, inl, inr, refl, sym, subst, ap, ◌∙◌, arith}
 use Rattle.std.specs.Prelude.{nat_eq, nat_lt, not, if◌then◌else◌}
-use Rattle.std.proofs.lemmas.Bool.{cond-false}
+use Rattle.std.proofs.lemmas.Bool.{cond-false, not-true}
 use Rattle.std.proofs.lemmas.Bool.Decides.{nat_tests}
 use Rattle.std.proofs.lemmas.List.{append-nil, append_assoc}
 use Rattle.std.proofs.Math.Nat.{max-zero}
@@ -35,7 +35,7 @@ use Rattle.lu_guards.proofs.StoryGuards.{IsServing, EntryOf, CloseOk, CommitOk}
 use Rattle.lu_guards.proofs.Lists.{turn, in_filter, in_filtered, in_right}
 use Rattle.lu_guards.proofs.LifeLists.{filter_all, not_gone, put_there, puts_there, life_stands, stands_life}
 use Rattle.lu_guards.proofs.LockLists.{Rises, Stands, in_above, rises_filter, stands_same}
-use Rattle.lu_guards.proofs.CloseLists.{put_each, puts_more, stays_all, not_true}
+use Rattle.lu_guards.proofs.CloseLists.{put_each, puts_more, stays_all}
 use Rattle.lu_guards.proofs.TargetSlots.{slots_leave}
 use Rattle.lu_guards.proofs.TargetStory.{Story, story_apart, story_commit, story_still}
 use Rattle.lu_guards.proofs.TargetAlike.{OnDisk, Window, forgotten_tree, window_is, window_evict, window_send, window_joined, window_closed}
@@ -457,7 +457,7 @@ module _ (head : Head) (stamp : Stamp) (t : ℕ) where
     stayed : (w : Who) → In w (staying o v.lives) → is_life w o.disk.lives ≡ true
     stayed w i =
         let p = in_filter (λ (x : Who). not (is_life x gone)) w v.lives i in
-        puts_more w o.joins (without_lives gone v.disk.lives) (stays_all w gone v.disk.lives (ap (is_life w) h.disk.lives ∙ life_stands w v.lives p.0) (not_true (is_life w gone) p.1))
+        puts_more w o.joins (without_lives gone v.disk.lives) (stays_all w gone v.disk.lives (ap (is_life w) h.disk.lives ∙ life_stands w v.lives p.0) (not-true (is_life w gone) p.1))
 
     restored : (l : Lock) → In l o.locks → is_life l.ask.who gone ≡ false
     restored l i = (subst (λ (x : Outcome). In l x.locks → (is_life l.ask.who (lives_of head.clients story) ≡ true) × (is_life l.ask.who (lives_in x.gone) ≡ false)) (sym same) (restored_stays head t story stamp sound l) i).1

@@ -2,7 +2,7 @@
 use Rattle.std.proofs.Common.{◌≡◌, ℕ, ◌<◌, ◌≤◌, Bool, true, false, List, [], ◌∷◌, Option, Some, None, ◌⊎◌, inl, inr, refl, sym, subst, ap, ◌∙◌, arith}
 use Rattle.std.specs.Prelude.{nat_eq, nat_lt, nat_le, not, if◌then◌else◌}
 use Rattle.std.specs.List.{list_any}
-use Rattle.std.proofs.lemmas.Bool.{cond-true, and_parts, eqb-true, eq-eqb, ltb-true}
+use Rattle.std.proofs.lemmas.Bool.{cond-true, and_parts, eqb-true, eq-eqb, ltb-true, or_from}
 use Rattle.std.proofs.lemmas.Bool.Decides.{nat_tests}
 use Rattle.lu_base.specs.declared.ids.At.{At}
 use Rattle.lu_base.specs.declared.ids.Node.TheVariants as node
@@ -22,7 +22,7 @@ use Rattle.lu_covered.specs.Heads.{Head}
 use Rattle.lu_covered.specs.TargetStates.{server_of, lives_of, evicted_of}
 use Rattle.lu_guards.proofs.Guards.{In, Was}
 use Rattle.lu_guards.proofs.StoryGuards.{TookSince, Spoke, Newer, EvictedBy, UpOk, NoticeOk, ReadyOk}
-use Rattle.lu_guards.proofs.Lists.{turn, in_filter, life_is, or_neither}
+use Rattle.lu_guards.proofs.Lists.{turn, in_filter, life_is}
 use Rattle.lu_guards.proofs.LifeLists.{life_stands, any_with, found_life, no_life, gone_not}
 use Rattle.lu_guards.proofs.TargetAlike.{Serving, serving_is, serving_line, all_stay}
 use Rattle.lu_guards.proofs.TargetGood.{Reaches}
@@ -86,7 +86,7 @@ module _ (head : Head) (stamp : Stamp) (t : ℕ) where
     newest current old i same lower equal newer high =
         admits_lead head stamp t v past story is settled h names c boot who (old ∷ []) (since_took story at (node.Client c) (message.Join who boot) took) was current has ((λ x j. absurd j), tt) caused
         (no_life who.client (without_lives (old ∷ []) lives) none)
-        (any_with (is_over who) old gone ∙ or_neither (is_over who old) (list_any (is_over who) gone) under newer)
+        (any_with (is_over who) old gone ∙ or_from (is_over who old) (list_any (is_over who) gone) under newer)
         high
       where
         above : old.life < who.life

@@ -32,14 +32,9 @@ use Rattle.lu_guards.proofs.LockLists.{Rises, in_above, rises_filter}
 use Rattle.lu_guards.proofs.TargetAlike.{Serving, Window, serving_is, window_is, window_commit, window_evict, window_release, window_send, gone_one}
 use Rattle.lu_guards.proofs.TargetGood.{Reaches, reaches_more, story_turn}
 use Rattle.lu_guards.proofs.TargetStory.{Story, Logged, IsFirst, numbered, all_logged, first_in, first_all, first_upto}
-use Rattle.lu_guards.proofs.Turns.{Settled, owes_nothing}
+use Rattle.lu_guards.proofs.Turns.{Settled, owes_nothing, IsNoClose}
 
 -- ---- what a turn took and did stays, whatever comes
-
--- no close
-abbrev pub IsNoClose : Entry → Type 0
-IsNoClose (Close o) = ⊥
-IsNoClose _ = Unit {0}
 
 called_more : (l : Line) (past : List Line) (at : At) (who : Who) → IsNoClose l.entry → CalledBefore past at who → CalledBefore (l ∷ past) at who
 called_more l past at who n r = by l.entry n

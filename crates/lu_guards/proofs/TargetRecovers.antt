@@ -3,7 +3,7 @@
 use Rattle.std.proofs.Common.{◌≡◌, ℕ, ◌+◌, ◌≤◌, Bool, true, false, List, [], ◌∷◌, ◌++◌, Option, Some, None, ◌⊎◌, inl, inr, refl, sym, subst, ap, ◌∙◌, arith}
 use Rattle.std.specs.Prelude.{nat_eq, nat_lt, filter, not, ◌&&◌, if◌then◌else◌}
 use Rattle.std.specs.List.{list_any}
-use Rattle.std.proofs.lemmas.Bool.{cond-true, cond-false, and_parts, eqb-true, eq-eqb, ltb-true, ltb-false}
+use Rattle.std.proofs.lemmas.Bool.{cond-true, cond-false, and_parts, eqb-true, eq-eqb, ltb-true, ltb-false, not-true, and_left, and_right, and_from}
 use Rattle.std.proofs.lemmas.Bool.Decides.{nat_tests}
 use Rattle.lu_base.specs.declared.ids.At.{At}
 use Rattle.lu_base.specs.declared.ids.Node.{Node}
@@ -36,7 +36,6 @@ use Rattle.lu_guards.proofs.StoryGuards.{SaidBy, Spoke, IsRecovering, EntryOf, K
 use Rattle.lu_guards.proofs.Grown.{IsOfFirst, GrownOf}
 use Rattle.lu_guards.proofs.Lists.{turn, life_is}
 use Rattle.lu_guards.proofs.LifeLists.{found_life, life_stands, stands_life, none_is}
-use Rattle.lu_guards.proofs.CloseLists.{not_true}
 use Rattle.lu_guards.proofs.TargetCrashed as crashed
 use Rattle.lu_guards.proofs.TargetCrashed.{Crashed, IsQuiet, Joins, crashed_quiet, crashed_mark, crashed_again, crashed_boot}
 use Rattle.lu_guards.proofs.TargetCloses.{close_lead}
@@ -266,7 +265,7 @@ module _ (head : Head) (stamp : Stamp) (t : ℕ) where
           )
         where
           back_ok : EntryOf head story1 at (node.Target t) (Back who)
-          back_ok = let p = and_parts (is_back (rows.window_of w) who) (not before) q in ((mark, record { before = sym was_is ∙ not_true before p.1; now = sym now_is ∙ p.0 }), refl)
+          back_ok = let p = and_parts (is_back (rows.window_of w) who) (not before) q in ((mark, record { before = sym was_is ∙ not-true before p.1; now = sym now_is ∙ p.0 }), refl)
       by false q =
           let rest = settles_lead past1 story1 w (mark_settled e mark) (λ x k. still x k (comes_back story e who x own k), more.0, more.1) (mark_undue story e mark) next up1 in (
             (((owes_nothing past at e settled, ok, of), rest.0.0), rest.0.1),
@@ -343,14 +342,6 @@ module _ (head : Head) (stamp : Stamp) (t : ℕ) where
     last_not true true d e = e
     last_not true false d e = refl
     last_not false b d e = refl
-
-    one_not : (a b : Bool) → a ≡ false → (a && b) ≡ false
-    one_not true b e = absurd (cc)
-    one_not false b e = refl
-
-    two_not : (a b : Bool) → b ≡ false → (a && b) ≡ false
-    two_not true b e = e
-    two_not false b e = refl
 
     heeds_lead : (who : Who) (boot : ℕ) (m : Message) (rest : List Entry) → Was story (node.Client c) (node.Target t) m → SaidBy who m → (nat_eq boot v.boot ≡ false → Undue story) → (is_life who v.lives ≡ false → Undue story) → (is_life who v.lives ≡ true → Follows rest)
         → Follows (heeds v who boot rest)
@@ -458,16 +449,12 @@ module _ (head : Head) (stamp : Stamp) (t : ℕ) where
         wished : is_life who v.lives ≡ false → due head.osts head.clients story ≡ wish_by (rows.window_of v) who (life_in who.client v.lives)
         wished out =
             dues
-            ∙ cond-false counts (says_first (word_of who v.words) (empty_word who)) (wish_mark (rows.window_of v) v.boot who boot) (two_not (nat_eq boot v.boot) (is_life who v.lives) out)
+            ∙ cond-false counts (says_first (word_of who v.words) (empty_word who)) (wish_mark (rows.window_of v) v.boot who boot) (and_right (nat_eq boot v.boot) (is_life who v.lives) out)
             ∙ cond-true (nat_eq boot v.boot) (wish_by (rows.window_of v) who (life_in who.client v.lives)) None (eq-eqb boot v.boot present)
 
         spoken : is_life who v.lives ≡ true → due head.osts head.clients story ≡ (if counts then says_first (word_of who v.words) (empty_word who) else None)
-        spoken has = dues ∙ there counts (both (nat_eq boot v.boot) (is_life who v.lives) (eq-eqb boot v.boot present) has)
+        spoken has = dues ∙ there counts (and_from (nat_eq boot v.boot) (is_life who v.lives) (eq-eqb boot v.boot present) has)
           where
-            both : (a b : Bool) → a ≡ true → b ≡ true → (a && b) ≡ true
-            both true b e f = f
-            both false b e f = absurd (cc)
-
             there : (b : Bool) → b ≡ true → (if b then says_first (word_of who v.words) (empty_word who) else wish_mark (rows.window_of v) v.boot who boot) ≡ (if b then says_first (word_of who v.words) (empty_word who) else None)
             there true e = refl
             there false e = absurd (cc)
@@ -531,15 +518,15 @@ module _ (head : Head) (stamp : Stamp) (t : ℕ) where
         let rest = of_boot v boot (row_word v at said) in
         let all = if nat_eq v.closed v.boot then ready v who ∷ [] else rest in
         let counts = nat_eq boot v.boot && is_life who v.lives in
-        let apart : nat_eq boot v.boot ≡ false → Undue story = λ e. none_so counts (says_first (word_of who v.words) said) dues (one_not (nat_eq boot v.boot) (is_life who v.lives) e) in
-        heeds_lead who boot (message.Word who boot replays locks seen) all was refl apart (λ e. none_so counts (says_first (word_of who v.words) said) dues (two_not (nat_eq boot v.boot) (is_life who v.lives) e))
+        let apart : nat_eq boot v.boot ≡ false → Undue story = λ e. none_so counts (says_first (word_of who v.words) said) dues (and_left (nat_eq boot v.boot) (is_life who v.lives) e) in
+        heeds_lead who boot (message.Word who boot replays locks seen) all was refl apart (λ e. none_so counts (says_first (word_of who v.words) said) dues (and_right (nat_eq boot v.boot) (is_life who v.lives) e))
         (λ has. along all rest (cond-false (nat_eq v.closed v.boot) (ready v who ∷ []) rest (not_serving story v h u))
         (present_lead boot (row_word v at said) apart (λ present. word_lead said boot (inl (keeps_of (message.Word who boot replays locks seen) who boot took was present has)) dues)))
     heard_lead (message.Join who boot) asked took dues was under =
         let all = if nat_eq v.closed v.boot then row_join v at who else row_wish v at who in
         let counts = nat_eq boot v.boot && is_life who v.lives in
         older_lead who (nat_lt boot v.boot) all (inr (c, boot, was)) (λ e. let apart = older_apart boot e in dues
-        ∙ cond-false counts (says_first (word_of who v.words) (empty_word who)) (wish_mark (rows.window_of v) v.boot who boot) (one_not (nat_eq boot v.boot) (is_life who v.lives) apart)
+        ∙ cond-false counts (says_first (word_of who v.words) (empty_word who)) (wish_mark (rows.window_of v) v.boot who boot) (and_left (nat_eq boot v.boot) (is_life who v.lives) apart)
         ∙ cond-false (nat_eq boot v.boot) (wish_by (rows.window_of v) who (life_in who.client v.lives)) None apart)
         (λ e. along all (row_wish v at who) (cond-false (nat_eq v.closed v.boot) (row_join v at who) (row_wish v at who) (not_serving story v h u))
         (wish_lead who boot took was dues (let le = under who boot was in let same = h.boot in let not_less = ltb-false boot v.boot e in omega (arith, le, same, not_less))))

@@ -29,6 +29,7 @@ use Rattle.lu_covered.specs.TargetStates.{Server, none, next_number, server_of, 
 use Rattle.lu_guards.proofs.Guards.{In}
 use Rattle.lu_guards.proofs.StoryGuards.{EntryOf, CommitOk}
 use Rattle.lu_guards.proofs.Lists.{turn, in_append, in_filter, life_is, same_who}
+use Rattle.lu_guards.proofs.Turns.{IsNoClose}
 use Rattle.lu_guards.proofs.LifeLists.{InOrder, order_filter, order_put, order_first, stands_life, life_put_more, life_put_or, life_stays, life_left, gone_not, from_first, none_is}
 use Rattle.lu_guards.proofs.LockLists.{Rises, rises_all, rises_filter}
 use Rattle.lu_guards.proofs.ClientLocks.{any_passes}
@@ -453,12 +454,7 @@ module _ (head : Head) (t : ℕ) (past : List Line) (stamp : Stamp) (h : Story h
         over = subst InOrder (sym gone) h.over;
       }
 
--- no window closes
-abbrev pub IsStill : Entry → Type 0
-IsStill (Close o) = ⊥
-IsStill _ = Unit {0}
-
-pub story_line : (head : Head) (t : ℕ) (past : List Line) (stamp : Stamp) (e : Entry) → IsStill e → EntryOf head past (turn stamp (node.Target t)) (node.Target t) e → Story head past → Story head (line (turn stamp (node.Target t)) e ∷ past)
+pub story_line : (head : Head) (t : ℕ) (past : List Line) (stamp : Stamp) (e : Entry) → IsNoClose e → EntryOf head past (turn stamp (node.Target t)) (node.Target t) e → Story head past → Story head (line (turn stamp (node.Target t)) e ∷ past)
 story_line head t past stamp (Close o) still ok h = absurd still
 story_line head t past stamp (Boot boot disk) still ok h = story_boot head t past stamp h boot disk ok.next
 story_line head t past stamp (Enters r) still ok h = story_enters head t past stamp h r ok.has

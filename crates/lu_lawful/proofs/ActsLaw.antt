@@ -1,9 +1,9 @@
 -- The law of acts holds of the printed past of every grown one, for all lives that will be out and all numbers
 -- that will be lost, as far as none of a deed that is told is.
 use Rattle.std.proofs.Common.{◌≡◌, ℕ, suc, ◌≤◌, Bool, List, [], ◌∷◌, ◌⊎◌, inl, inr, ⊎_elim, refl, sym, subst, ap, ◌∙◌, arith}
-use Rattle.std.specs.Prelude.{nat_eq, not, ◌&&◌, ◌||◌, true, false}
+use Rattle.std.specs.Prelude.{nat_eq, not, ◌&&◌, true, false}
 use Rattle.lu_trace.specs.declared.entries.Entry.TheVariants as trace
-use Rattle.std.proofs.lemmas.Bool.{and_parts, cond_both, eqb-true}
+use Rattle.std.proofs.lemmas.Bool.{and_parts, cond_both, eqb-true, or_left, or_right, or_cases, not-true}
 use Rattle.lu_base.specs.declared.ids.At.{At}
 use Rattle.lu_base.specs.declared.ids.Node.{Node}
 use Rattle.lu_base.specs.declared.ids.Node.TheVariants.{Client, Target}
@@ -20,7 +20,7 @@ use Rattle.lu_laws.specs.Words.Pasts as pasts
 use Rattle.lu_laws.specs.Laws.Acts.{acts_there, acted, made, standing_count}
 use Rattle.lu_lawful.specs.Fits.{ReplyStands}
 use Rattle.lu_guards.proofs.Grown.{Allowed, Grown}
-use Rattle.lu_guards.proofs.Lists.{self, life_is, or_left, or_right}
+use Rattle.lu_guards.proofs.Lists.{self, life_is}
 use Rattle.lu_facts.proofs.Groups.{turn, Acted, IsMade, Stands as StandsSoFar}
 use Rattle.lu_facts.proofs.Lines.{acted_more}
 use Rattle.lu_lawful.proofs.Deeds.{act_is, txn_is}
@@ -65,11 +65,7 @@ module _ (lost : ℕ → ℕ → Bool) (who : Who) (x : ℕ) where
       let a = and_parts (pasts.is_target 0 l.at.node && same_life d.reply.who who && nat_eq d.reply.xid.0 x) _ t in
       let b = and_parts (pasts.is_target 0 l.at.node && same_life d.reply.who who) _ a.0 in
       let c = and_parts (pasts.is_target 0 l.at.node) _ b.0 in
-      (life_is d.reply.who who c.1, eqb-true d.reply.xid.0 x b.1, stays (lost 0 d.reply.txn.0) a.1)
-    where
-      stays : (b : Bool) → not b ≡ true → b ≡ false
-      stays true e = absurd (cc)
-      stays false e = refl
+      (life_is d.reply.who who c.1, eqb-true d.reply.xid.0 x b.1, not-true (lost 0 d.reply.txn.0) a.1)
 
   pub none_counts : (head : Head) (past : List Line) → Grown head past → NoneLeft past → standing_count lost 0 who x (printed past) ≡ 0
   none_counts head [] g n = refl
@@ -108,10 +104,6 @@ module _ (lost : ℕ → ℕ → Bool) (who : Who) (x : ℕ) where
 
 -- ---- an act of the printed past is one of the full one
 
-pub either : (a b : Bool) → (a || b) ≡ true → (a ≡ true) ⊎ (b ≡ true)
-either true b e = inl refl
-either false b e = inr e
-
 -- of that life and number in that turn, without a transaction
 abbrev pub ActIn : List Line → At → Who → ℕ → Type 0
 ActIn past named who x = (d : Deed) × Acted past d × (d.reply.txn.0 ≡ 0) × (d.reply.at ≡ named) × (d.reply.who ≡ who) × (d.reply.xid.0 ≡ x)
@@ -131,7 +123,7 @@ act_in head (l ∷ past) named who x g a = by l.at.node l.entry g.0 (act_in head
         let s = and_parts (pasts.is_target 0 node) (pasts.same_turn (turn l.at.stamp node) named) r.0 in
         (d, inl refl, act_zero head past l.at.stamp node d k, (act_now head past l.at.stamp node d k g.1).2 ∙ same_turn_is (turn l.at.stamp node) named s.1, life_is d.reply.who who r.1, eqb-true d.reply.xid.0 x q.1))
         (λ (p : acted (printed past) named who x ≡ true). more node (Act d) (h p))
-        (either (acts_there named who x (printed past) (record { at = turn l.at.stamp node; entry = trace.Act d.reply.who d.reply.xid d.reply.answer })) (acted (printed past) named who x) a)
+        (or_cases (acts_there named who x (printed past) (record { at = turn l.at.stamp node; entry = trace.Act d.reply.who d.reply.xid d.reply.answer })) (acted (printed past) named who x) a)
     by node e k h a = more node e (h a)
 
 -- what was done stands in the printed past
@@ -173,5 +165,3 @@ acted_in head lost (l ∷ past) g d a s = by l.entry g.0 (λ i. acted_in head lo
         and_both {a = true} {b = false} p q = refl
         and_both {a = false} {b} p q = absurd (cc)
     by _ ok h a = h a
-
--- ---- what was heard

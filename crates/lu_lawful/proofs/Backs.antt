@@ -1,7 +1,7 @@
 -- Who is back: where the target takes what brings a life back, its line follows in the turn; and such a line stands nowhere else.
 use Rattle.std.proofs.Common.{◌≡◌, ℕ, ◌+◌, ◌<◌, Bool, true, false, List, [], ◌∷◌, Option, Some, None, ◌⊎◌, inl, inr, ⊎_elim, refl, sym, subst, ap, ◌∙◌}
 use Rattle.std.specs.Prelude.{nat_eq, not, ◌&&◌, ◌||◌, if◌then◌else◌}
-use Rattle.std.proofs.lemmas.Bool.{and_parts, eqb-true, true≢false}
+use Rattle.std.proofs.lemmas.Bool.{and_parts, eqb-true, true≢false, not-true, false_from_ne_true}
 use Rattle.lu_base.specs.declared.ids.At.{At}
 use Rattle.lu_base.specs.declared.ids.Stamp.{Stamp}
 use Rattle.lu_base.specs.declared.ids.Node.{Node}
@@ -33,23 +33,16 @@ use Rattle.lu_guards.proofs.StoryGuards.{IsRecovering, EntryOf, KeepsOk}
 use Rattle.lu_guards.proofs.Grown.{Noted, Allowed, Grown}
 use Rattle.lu_guards.proofs.ClientLocks.{any_true}
 use Rattle.lu_guards.proofs.Lists.{self, life_self, turn_irreflexive}
-use Rattle.lu_guards.proofs.Only.{sent_was, grown_of}
+use Rattle.lu_guards.proofs.Only.{sent_was, grown_of, was_more}
 use Rattle.lu_facts.proofs.Groups.{turn}
 use Rattle.lu_facts.proofs.All.{holds}
 use Rattle.lu_lawful.proofs.Turns.{later_before, same_turn_is, same_turn_self}
 use Rattle.lu_lawful.proofs.Lines.{after_line}
 use Rattle.lu_lawful.proofs.CloseSlots.{recovering_none, slot_now, now_slot}
 use Rattle.lu_lawful.proofs.Handed.{replays_with, brought_with, words_with, IsWord, Agrees, OneWord, back_law, law_back, heard_word}
-use Rattle.lu_lawful.proofs.Taking.{taken_of, either_way, handed_is, boot_of, open_of, recovering_is, opens, recovers, IsNote, due_note, none_due, due_stores, due_brings, due_says, marked_of, agrees_at}
+use Rattle.lu_lawful.proofs.Taking.{taken_of, either_way, handed_is, boot_of, open_of, recovering_is, opens, recovers, due_note, none_due, due_stores, due_brings, due_says, marked_of, agrees_at}
 
 -- ---- what was taken was sent, by one of the run's clients where it is a word
-
-was_more : (l : Line) (past : List Line) (from to : Node) (m : Message) → Was past from to m → Was (l ∷ past) from to m
-was_more l past from to m w = by l.entry w
-  where
-    by : (e : Entry) → Was past from to m → Was (line l.at e ∷ past) from to m
-    by (Send node k) w = inr w
-    by _ w = w
 
 pub taken_was : (head : Head) (t : ℕ) (past : List Line) (m : Message) → Grown head past → In m (taken_of (only t past)) → (from : Node) × Was past from (Target t) m
 taken_was head t [] m g i = absurd i
@@ -179,13 +172,6 @@ any_after f at l (Some x) later e = by (f x && same_turn l.at at)
     by true = refl
     by false = e
 
-mark_is : (e : Entry) → IsNote e → IsMark e
-mark_is (Stores replay) n = tt
-mark_is (Brings lock) n = tt
-mark_is (Says said) n = tt
-mark_is (Wishes who) n = tt
-mark_is e n = absurd n
-
 pub follows_before : (head : Head) (l : Line) (past : List Line) (later : List PrintedLine) → Allowed head past l.at l.entry → Follows head (l ∷ past) later → Follows head past (after_line l (printed_entry (count_sent past + 1) l.entry) later)
 follows_before head l past later a f t who at turned x = by (concerns t l.at.node l.entry) refl (f t who)
   where
@@ -209,7 +195,7 @@ follows_before head l past later a f t who at turned x = by (concerns t l.at.nod
         let here : l.at ≡ at = sym k.1 ∙ s in
         let is : line m.at y.0 ≡ l = ap (λ (v : At). line v y.0) k.1 ∙ ap (λ (v : Entry). line l.at v) (sym k.0) in
         any_after (is_back_of who) at l (printed_entry (count_sent past + 1) l.entry) later
-        (h at here (inr (subst (λ (v : Entry). IsMark v) (sym k.0) (mark_is y.0 (due_note head.osts head.clients (m ∷ p) y.0 y.1)), subst (λ (v : Line). CameBack head.osts head.clients (m ∷ p) v who) is y.2)))
+        (h at here (inr (subst (λ (v : Entry). IsMark v) (sym k.0) (due_note head.osts head.clients (m ∷ p) y.0 y.1), subst (λ (v : Line). CameBack head.osts head.clients (m ∷ p) v who) is y.2)))
     own (m ∷ p) s (inr y) d b h = let k = b y in told k.0 (sym k.1 ∙ s)
 
     by : (b : Bool) → concerns t l.at.node l.entry ≡ b → ((at : At) → IsTurnOf (if b then l ∷ P else P) at → Expected head (if b then l ∷ P else P) who → any_later (is_back_of who) at later ≡ true) → any_later (is_back_of who) at new ≡ true
@@ -221,14 +207,6 @@ follows_before head l past later a f t who at turned x = by (concerns t l.at.nod
 left_true : (a b : Bool) → (a && b) ≡ true → a ≡ true
 left_true a b e = (and_parts a b e).0
 
-not_false : (b : Bool) → not b ≡ true → b ≡ false
-not_false true e = absurd (cc)
-not_false false e = refl
-
-not_true : (b : Bool) → (b ≡ true → ⊥) → b ≡ false
-not_true true n = absurd (n refl)
-not_true false n = refl
-
 -- what is taken at a target that recovers
 pub brings_back : (head : Head) (past : List Line) (stamp : Stamp) (t n : ℕ) (from : Node) (m : Message) (later : List PrintedLine) (who : Who) → let l = line (turn stamp (Target t)) (Take n from m) in Grown head (l ∷ past)
     → OneTold head t (l ∷ past) → Follows head (l ∷ past) later → BringsBack t (printed past) (record { at = turn stamp (Target t); entry = trace.Take n }) later who
@@ -239,7 +217,7 @@ brings_back head past stamp t n from m later who g one f e =
     let here : nat_eq t t ≡ true = self t in
     let now : only t (l ∷ past) ≡ l ∷ P = ap (λ (b : Bool). if b then l ∷ P else P) here in
     let none : due head.osts head.clients P ≡ None = none_due head.osts head.clients P (Take n from m) (λ v. v) (λ mark d. (g.0.marks t mark here d).0) in
-    let before : window.is_back (window_of head.osts head.clients P) who ≡ false = not_true (window.is_back (window_of head.osts head.clients P) who) (λ w. true≢false (sym (window_law head t past g.1 r None none who w) ∙ not_false (is_back t (printed past) who) p.1)) in
+    let before : window.is_back (window_of head.osts head.clients P) who ≡ false = false_from_ne_true (window.is_back (window_of head.osts head.clients P) who) (λ w. true≢false (sym (window_law head t past g.1 r None none who w) ∙ not-true (is_back t (printed past) who) p.1)) in
     let rec : IsRecovering head.osts (only t (l ∷ past)) = subst (λ (v : List Line). IsRecovering head.osts v) (sym now) r in
     at now (due head.osts head.clients (l ∷ P)) refl before (λ o d. subst (λ (v : List Line). window.is_back (ahead head.osts head.clients v o) who ≡ true) now (law_window head t (l ∷ past) g rec o (ap (λ (v : List Line). due head.osts head.clients v) now ∙ d) one who q.1))
   where
@@ -308,7 +286,7 @@ module _ (head : Head) (t : ℕ) (who : Who) where
               let none : due head.osts head.clients P ≡ None = none_due head.osts head.clients P (Take n from m) (λ v. v) (λ j q. (g.0.marks t j own q).0) in
               let placed : CameBack head.osts head.clients (k ∷ P) (line k.at mark) who = subst (λ (v : At). CameBack head.osts head.clients (k ∷ P) (line v mark) who) (sym s) c in
               let after : is_back t (printed (k ∷ past)) who ≡ true = window_law head t (k ∷ past) g rec (Some mark) (ap (λ (v : List Line). due head.osts head.clients v) now ∙ d) who (subst (λ (v : List Line). window.is_back (ahead head.osts head.clients v (Some mark)) who ≡ true) (sym now) placed.now) in
-              let before : is_back t (printed past) who ≡ false = not_true (is_back t (printed past) who) (λ q. true≢false (sym (law_window head t past g.1 r None none (one past g.1) who q) ∙ c.before)) in
+              let before : is_back t (printed past) who ≡ false = false_from_ne_true (is_back t (printed past) who) (λ q. true≢false (sym (law_window head t past g.1 r None none (one past g.1) who q) ∙ c.before)) in
               let comes : comes_back t who (printed past) (record { at = k.at; entry = trace.Take n }) ≡ true = rw (recovering_is head t past g.1 ∙ w, after, before) refl in
               let same : same_turn k.at at ≡ true = subst (λ (v : At). same_turn k.at v ≡ true) s (same_turn_self k.at) in
               ap (λ (b : Bool). b && comes_back t who (printed past) (record { at = k.at; entry = trace.Take n }) || came_back t at (printed past) who) same ∙ ap (λ (b : Bool). b || came_back t at (printed past) who) comes
@@ -384,7 +362,7 @@ module _ (head : Head) (t : ℕ) (who : Who) where
   none_later f (l ∷ past) at g w = by (printed_entry (count_sent past + 1) l.entry) (none_later f past at g.1 (later_before l past at g.0.steps w))
     where
       other : same_turn l.at at ≡ false
-      other = not_true (same_turn l.at at) (λ e. turn_irreflexive at (subst (λ (v : At). turn_before v at ≡ true) (same_turn_is l.at at e) w))
+      other = false_from_ne_true (same_turn l.at at) (λ e. turn_irreflexive at (subst (λ (v : At). turn_before v at ≡ true) (same_turn_is l.at at e) w))
 
       by : (o : Option PrintedEntry) → any_in f at (printed past) ≡ false → any_in f at (elim o [ None ↦ printed past | Some e ↦ record { at = l.at; entry = e } ∷ printed past ]) ≡ false
       by None h = h
@@ -401,7 +379,7 @@ module _ (head : Head) (t : ℕ) (who : Who) where
   elsewhere f l past at (Some e) n c h = ap (λ (b : Bool). f e && b || any_in f at (printed past)) other ∙ off (f e) (any_in f at (printed past)) h
     where
       other : same_turn l.at at ≡ false
-      other = not_true (same_turn l.at at) (λ q. let here : l.at.node ≡ Target t = ap (λ (v : At). v.node) (same_turn_is l.at at q) ∙ n in true≢false (sym (ap (λ (v : Node). concerns t v l.entry) here ∙ self t) ∙ c))
+      other = false_from_ne_true (same_turn l.at at) (λ q. let here : l.at.node ≡ Target t = ap (λ (v : At). v.node) (same_turn_is l.at at q) ∙ n in true≢false (sym (ap (λ (v : Node). concerns t v l.entry) here ∙ self t) ∙ c))
 
       off : (a b : Bool) → b ≡ false → (a && false || b) ≡ false
       off true b h = h

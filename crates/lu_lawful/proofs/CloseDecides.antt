@@ -4,7 +4,7 @@ use Rattle.std.proofs.Common.{◌≡◌, ℕ, zero, suc, ◌<◌, ◌≤◌, Boo
 use mathlib.Core.List.{reverse_aux}
 use Rattle.std.specs.Prelude.{nat_eq, not, ◌&&◌, ◌||◌, if◌then◌else◌, map}
 use Rattle.std.specs.Bool.{then_some}
-use Rattle.std.proofs.lemmas.Bool.{and_parts, or_parts, or_cases, not-true, not-false, not_from_false, true≢false}
+use Rattle.std.proofs.lemmas.Bool.{and_parts, or_parts, or_cases, not-true, not-false, not_from_false, true≢false, or_right, or_left}
 use Rattle.lu_base.specs.declared.ids.At.{At}
 use Rattle.lu_base.specs.declared.ids.Node.{Node}
 use Rattle.lu_base.specs.declared.ids.Node.TheVariants.{Target}
@@ -43,14 +43,16 @@ use Rattle.lu_guards.proofs.Guards.{In, InTurn, IsTake}
 use Rattle.lu_guards.proofs.StoryGuards.{CloseOk}
 use Rattle.lu_guards.proofs.Grown.{Allowed, Grown}
 use Rattle.lu_guards.proofs.ClientLocks.{in_map, in_mapped, any_true, any_passes}
-use Rattle.lu_guards.proofs.Lists.{self, in_append, in_filter, in_filtered, life_is, life_self}
+use Rattle.lu_guards.proofs.Lists.{self, in_append, in_filter, in_filtered, life_is, life_self, in_left}
 use Rattle.lu_guards.proofs.LifeLists.{stands_life}
 use Rattle.lu_guards.proofs.Only.{grown_of}
+use Rattle.lu_guards.proofs.ClientRests.{in_reverse}
 use Rattle.lu_facts.proofs.Groups.{turn, Acted, HasSlot, Evicted, IsMade, Stands, HoldsAt}
 use Rattle.lu_facts.proofs.All.{holds}
 use Rattle.lu_facts.proofs.Exact as exact
-use Rattle.lu_facts.proofs.Exact.{IsBack, kept_then, committed_then}
+use Rattle.lu_facts.proofs.Exact.{kept_then, committed_then}
 use Rattle.lu_facts.proofs.ExactLists.{bool_same, has_in}
+use Rattle.lu_facts.proofs.PartsStay.{in_every}
 use Rattle.lu_lawful.proofs.Turns.{same_turn_is}
 use Rattle.lu_lawful.proofs.Taking.{recovering_is, opens}
 use Rattle.lu_lawful.proofs.CloseLines.{PrintsAs, StandFirst, turned, first, any_turned, next_turned, stands_any, stands_first}
@@ -65,16 +67,9 @@ use Rattle.lu_lawful.proofs.LostNumbers.{lost_at as lost_before}
 
 -- ---- lists
 
-pub every_of : {A : Type 0} (P : A → Type 0) (xs : List A) → ((x : A) → In x xs → P x) → Every P xs
-every_of P [] h = tt
-every_of P (x ∷ xs) h = (h x (inl refl), every_of P xs (λ y i. h y (inr i)))
-
 in_onto : {A : Type 0} (x : A) (xs ys : List A) → In x (reverse_aux xs ys) → In x xs ⊎ In x ys
 in_onto x [] ys i = inr i
 in_onto {A} x (y ∷ xs) ys i = ⊎_elim (λ (j : In x xs). inl (inr j)) (λ (j : In x (y ∷ ys)). ⊎_elim (λ (q : y ≡ x). inl (inl q)) (λ (q : In x ys). inr q) j) (in_onto x xs (y ∷ ys) i)
-
-in_reversed : {A : Type 0} (x : A) (xs : List A) → In x (reverse xs) → In x xs
-in_reversed {A} x xs i = ⊎_elim (λ (j : In x xs). j) (λ (j : In {A = A} x []). absurd j) (in_onto x xs [] i)
 
 onto_in : {A : Type 0} (x : A) (xs ys : List A) → In x xs ⊎ In x ys → In x (reverse_aux xs ys)
 onto_in x [] ys (inl i) = absurd i
@@ -167,11 +162,6 @@ kept_among n [] i = absurd i
 kept_among n (d ∷ ds) (inl q) = inl (ap (λ (m : ℕ). Kept (record { 0 = m })) q)
 kept_among n (d ∷ ds) (inr i) = inr (kept_among n ds i)
 
-in_first : {A : Type 0} (x : A) (xs ys : List A) → In x xs → In x (xs ++ ys)
-in_first x [] ys i = absurd i
-in_first x (y ∷ xs) ys (inl q) = inl q
-in_first x (y ∷ xs) ys (inr i) = inr (in_first x xs ys i)
-
 -- ---- a take of the turn
 
 take_in : (head : Head) (t : ℕ) (past : List Line) (at : At) → Grown head past → at.node ≡ Target t → any_in is_take at (printed past) ≡ true → InTurn IsTake (only t past) at
@@ -215,14 +205,10 @@ joined_in : (t : ℕ) (past : Past) (who : Who) → In who (joined_lives t past)
 joined_in t [] who i = absurd i
 joined_in t (l ∷ past) who i = by l.entry i (joined_in t past who)
   where
-    right : (a b : Bool) → b ≡ true → (a || b) ≡ true
-    right true b e = refl
-    right false b e = e
-
     own : (o : Who) (b : Bool) → In who (if b then o ∷ joined_lives t past else joined_lives t past) → (In who (joined_lives t past) → has_joined t past who ≡ true) → ((same_life o who && b) || has_joined t past who) ≡ true
     own o true (inl q) h = ap (λ (b : Bool). (b && true) || has_joined t past who) (subst (λ (w : Who). same_life o w ≡ true) q (life_self o))
-    own o true (inr j) h = right (same_life o who && true) (has_joined t past who) (h j)
-    own o false j h = right (same_life o who && false) (has_joined t past who) (h j)
+    own o true (inr j) h = or_right (same_life o who && true) (has_joined t past who) (h j)
+    own o false j h = or_right (same_life o who && false) (has_joined t past who) (h j)
 
     by : (e : PrintedEntry) → In who (joined_step t (record { at = l.at; entry = e }) (joined_lives t past)) → (In who (joined_lives t past) → has_joined t past who ≡ true) → has_joined t (record { at = l.at; entry = e } ∷ past) who ≡ true
     by (trace.Joined o) i h = own o _ i h
@@ -277,7 +263,7 @@ module _ (clients : ℕ) (head : Head) (t : ℕ) (past : List Line) (stamp : Sta
   kept_shown n i =
       let f = in_filter (λ (m : ℕ). not (is_among lost m)) n _ i in
       let x = in_map (λ (x : Transaction). x.number) n (reverse (undecided (committed t (printed past)) (lost_numbers t (printed past)) (transactions t (printed past)))) f.0 in
-      let y = in_trans (numbers.ds head t past stamp o here k g before) x.0 (subst (λ (xs : List Transaction). In x.0 xs) (numbers.undecided_now head t past stamp o here k g before) (in_reversed x.0 (undecided (committed t (printed past)) (lost_numbers t (printed past)) (transactions t (printed past))) x.1)) in
+      let y = in_trans (numbers.ds head t past stamp o here k g before) x.0 (subst (λ (xs : List Transaction). In x.0 xs) (numbers.undecided_now head t past stamp o here k g before) (in_reverse x.0 (undecided (committed t (printed past)) (lost_numbers t (printed past)) (transactions t (printed past))) x.1)) in
       let d = numbers.in_open head t past stamp o here k g before y.0 y.1 in
       let number : y.0.reply.txn.0 ≡ n = ap (λ (v : Transaction). v.number) y.2 ∙ x.2 in
       let stays : gone y.0.reply.txn.0 ≡ false = sym (lost_open y.0 d.0 d.1 d.2) ∙ ap (is_among lost) number ∙ not-true (is_among lost n) f.1 in
@@ -328,14 +314,6 @@ module _ (clients : ℕ) (head : Head) (t : ℕ) (past : List Line) (stamp : Sta
       at_one : (n : ℕ) → In n lost → (heard_number t who n (printed past) || saw t who n (printed past)) ≡ true → rests_on t (printed past) who lost ≡ true
       at_one n i e = any_passes (λ (m : ℕ). heard_number t who m (printed past) || saw t who m (printed past)) n lost i e
 
-      left : (a b : Bool) → a ≡ true → (a || b) ≡ true
-      left true b e = refl
-      left false b e = absurd (cc)
-
-      right : (a b : Bool) → b ≡ true → (a || b) ≡ true
-      right true b e = refl
-      right false b e = e
-
       stood : (story.is_lost head.osts (only t past) r.1.txn.0 ≡ false) × ((n : ℕ) → In n r.1.seen → story.is_lost head.osts (only t past) n ≡ false)
       stood = h.history.heard who r.0 r.1 r.2 has
 
@@ -346,7 +324,7 @@ module _ (clients : ℕ) (head : Head) (t : ℕ) (past : List Line) (stamp : Sta
           let above = (exact.lost_parts head (only t past) ok.recovers h (turn stamp (Target t)) r.1.txn.0 e).0 in
           let made : IsMade d.0 = omega (arith, above, number) in
           let i : In d.0.reply.txn.0 lost = gone_lost d.0 d.1 made (subst (λ (n : ℕ). story.is_lost head.osts (only t past) n ≡ false) number stood.0) (subst (λ (n : ℕ). gone n ≡ true) number e) in
-          at_one d.0.reply.txn.0 i (left (heard_number t who d.0.reply.txn.0 (printed past)) (saw t who d.0.reply.txn.0 (printed past)) (number_law t who d.0.reply.txn.0 head past g r.0 r.1 r.2 number))
+          at_one d.0.reply.txn.0 i (or_left (heard_number t who d.0.reply.txn.0 (printed past)) (saw t who d.0.reply.txn.0 (printed past)) (number_law t who d.0.reply.txn.0 head past g r.0 r.1 r.2 number))
 
       of_seen : ((n : ℕ) × In n r.1.seen × (gone n ≡ true)) → rests_on t (printed past) who lost ≡ true
       of_seen s =
@@ -356,7 +334,7 @@ module _ (clients : ℕ) (head : Head) (t : ℕ) (past : List Line) (stamp : Sta
           (λ (le : s.0 ≤ (server_of head.osts (only t past)).committed.0). absurd (omega (arith, above, le)))
           (λ (e : (e : Deed) × Acted (only t past) e × IsMade e × (e.reply.txn.0 ≡ s.0)).
           let i : In s.0 lost = subst (λ (n : ℕ). In n lost) e.3 (gone_lost e.0 e.1 e.2 (subst (λ (n : ℕ). story.is_lost head.osts (only t past) n ≡ false) (sym e.3) (stood.1 s.0 s.1)) (subst (λ (n : ℕ). gone n ≡ true) (sym e.3) s.2)) in
-          at_one s.0 i (right (heard_number t who s.0 (printed past)) (saw t who s.0 (printed past)) (saw_law t who s.0 head past g r.0 r.1 r.2 s.1)))
+          at_one s.0 i (or_right (heard_number t who s.0 (printed past)) (saw t who s.0 (printed past)) (saw_law t who s.0 head past g r.0 r.1 r.2 s.1)))
           (h.history.saw d.0 s.0 d.1 (subst (λ (x : ReplyTo). In s.0 x.seen) d.2 s.1)).0
 
   law_rests : (who : Who) → rests_on t (printed past) who lost ≡ true → Rests who
@@ -429,9 +407,9 @@ module _ (clients : ℕ) (head : Head) (t : ℕ) (past : List Line) (stamp : Sta
 
   module _ (later : List PrintedLine) (rest : StandFirst (shows o (lives_of head.clients (only t past))) (turned (turn stamp (Target t)) later)) where
     pub keeps : Every (λ n. will_keep (turn stamp (Target t)) later n ≡ true) (kept_at t (printed past))
-    keeps = every_of (λ n. will_keep (turn stamp (Target t)) later n ≡ true) (kept_at t (printed past)) (λ n i.
+    keeps = in_every (λ n. will_keep (turn stamp (Target t)) later n ≡ true) (kept_at t (printed past)) (λ n i.
         any_turned (is_kept n) (turn stamp (Target t)) later
-        ∙ stands_any (is_kept n) (Kept (record { 0 = n })) (kept_prints n) (shows o (lives_of head.clients (only t past))) (turned (turn stamp (Target t)) later) rest (inr (in_first (Kept (record { 0 = n })) (kept_lines o.kept) _ (kept_shown n i))))
+        ∙ stands_any (is_kept n) (Kept (record { 0 = n })) (kept_prints n) (shows o (lives_of head.clients (only t past))) (turned (turn stamp (Target t)) later) rest (inr (in_left (Kept (record { 0 = n })) (kept_lines o.kept) _ (kept_shown n i))))
 
     evicts_one : (who : Who) → HasSlot head.clients (only t past) who → (c : Option Cause) → cause_at t (printed past) who ≡ c → Evicts (turn stamp (Target t)) later who c
     evicts_one who has None e = tt
@@ -444,7 +422,7 @@ module _ (clients : ℕ) (head : Head) (t : ℕ) (past : List Line) (stamp : Sta
         one x r q = let s : Some x.cause ≡ Some cause = sym r.1 ∙ ap (cause_at t (printed past)) q ∙ e in cc
 
     pub evicts : Every (λ who. Evicts (turn stamp (Target t)) later who (cause_at t (printed past) who)) (slots clients t (printed past))
-    evicts = every_of (λ who. Evicts (turn stamp (Target t)) later who (cause_at t (printed past) who)) (slots clients t (printed past)) (λ who i. evicts_one who (slots_have who i) (cause_at t (printed past) who) refl)
+    evicts = in_every (λ who. Evicts (turn stamp (Target t)) later who (cause_at t (printed past) who)) (slots clients t (printed past)) (λ who i. evicts_one who (slots_have who i) (cause_at t (printed past) who) refl)
 
   -- ---- it comes when it may
 
@@ -452,7 +430,7 @@ module _ (clients : ℕ) (head : Head) (t : ℕ) (past : List Line) (stamp : Sta
   recovering = recovering_is head t past g ∙ (opens head (only t past) (grown_of head t past g)).opened ok.up ok.recovers
 
   pub all_back : any_in is_take (turn stamp (Target t)) (printed past) ≡ true → AllBack clients t (printed past)
-  all_back e = every_of (λ who. (is_back t (printed past) who || has_newer t (printed past) who) ≡ true) (slots clients t (printed past)) (λ who i.
+  all_back e = in_every (λ who. (is_back t (printed past) who || has_newer t (printed past) who) ≡ true) (slots clients t (printed past)) (λ who i.
       let has = slots_have who i in
       ap (λ (b : Bool). b || has_newer t (printed past) who) (back_is who)
       ∙ ap (λ (b : Bool). window.is_back deciding who || b) (newer who has)

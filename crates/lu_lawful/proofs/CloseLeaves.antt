@@ -3,7 +3,6 @@
 use Rattle.std.proofs.Common.{◌≡◌, ℕ, ◌+◌, Bool, true, false, List, [], ◌∷◌, ◌++◌, Option, Some, None, ◌⊎◌, inl, inr, ⊎_elim, refl, sym, subst, ap, ◌∙◌, arith}
 use Rattle.std.specs.Prelude.{nat_eq, not, ◌&&◌, ◌||◌, unwrap_or}
 use Rattle.std.proofs.lemmas.Bool.{and_parts, cond-true}
-use Rattle.std.proofs.lemmas.Bool.Decides.{nat_tests}
 use Rattle.lu_base.specs.declared.ids.At.{At}
 use Rattle.lu_base.specs.declared.ids.Node.TheVariants.{Target}
 use Rattle.lu_base.specs.declared.ids.Stamp.{Stamp}
@@ -33,7 +32,7 @@ use Rattle.lu_guards.proofs.Guards.{In, InTurn, IsCommit, Steps}
 use Rattle.lu_guards.proofs.StoryGuards.{Due, CloseOk}
 use Rattle.lu_guards.proofs.Grown.{Grown}
 use Rattle.lu_guards.proofs.Lists.{self, life_is}
-use Rattle.lu_guards.proofs.LifeLists.{InOrder, AllAfter}
+use Rattle.lu_guards.proofs.LifeLists.{InOrder, AllAfter, before_not_self}
 use Rattle.lu_guards.proofs.Only.{grown_of}
 use Rattle.lu_guards.proofs.Sound.{sound_of}
 use Rattle.lu_facts.proofs.Groups.{turn}
@@ -211,9 +210,6 @@ module _ (t : ℕ) (at : At) (who : Who) where
       by x i m h = absurd i
 
 -- ---- the law
-
-before_not_self : (w : Who) → life_before w w ≡ true → ⊥
-before_not_self w t = grind (arith, nat_tests)
 
 pub leaves_law : (head : Head) (past : List Line) (stamp : Stamp) (t : ℕ) (who : Who) (cause : Cause) (later : List PrintedLine) → Steps past (turn stamp (Target t)) → Grown head past → Due head (only t past) (turn stamp (Target t)) (Evict who cause) → Sound (turn stamp (Target t)) later
     → EvictAt t (printed past) (turn stamp (Target t)) later who cause

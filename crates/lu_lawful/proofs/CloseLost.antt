@@ -4,7 +4,7 @@ use Rattle.std.proofs.Common.{◌≡◌, ℕ, ◌<◌, ◌≤◌, Bool, true, fa
 use Rattle.std.specs.Prelude.{nat_eq, nat_lt, not, ◌||◌, if◌then◌else◌, filter}
 use Rattle.std.specs.List.{list_any}
 use Rattle.std.proofs.lemmas.Bool.Decides.{nat_tests}
-use Rattle.std.proofs.lemmas.Bool.{eqb-true, ltb-true, true≢false}
+use Rattle.std.proofs.lemmas.Bool.{eqb-true, ltb-true, true≢false, false_from_ne_true}
 use Rattle.lu_base.specs.declared.ids.At.{At}
 use Rattle.lu_base.specs.declared.ids.Node.{Node}
 use Rattle.lu_base.specs.declared.ids.Node.TheVariants.{Client, Target}
@@ -144,10 +144,6 @@ among_more (m ∷ ms) ns n = ap (λ (b : Bool). nat_eq n m || b) (among_more ms 
     assoc true b c = refl
     assoc false b c = refl
 
-pub never : (b : Bool) → (b ≡ true → ⊥) → b ≡ false
-never true n = absurd (n refl)
-never false n = refl
-
 -- ---- what one close loses
 
 -- of deeds that a close decides on, the newest first
@@ -272,7 +268,7 @@ module _ (head : Head) (past : List Line) (h : HoldsAt head past) (recovers : Is
               let heard : HeardBy past x = subst (λ (v : Deed). HeardBy past v) same k.1.heard in
               let stand : AllStand (committed_then head past) (kept_then head past) x.reply.seen = subst (λ (v : Deed). AllStand (committed_then head past) (kept_then head past) v.reply.seen) same k.5 in
               out (repl (trans x)) (list_any (is_among L) x.reply.seen) (may x ox.0 ox.1 back heard)
-              (never (list_any (is_among L) x.reply.seen) (λ e. let a = any_true (is_among L) x.reply.seen e in let o = lost_out old a.0 a.2 in
+              (false_from_ne_true (list_any (is_among L) x.reply.seen) (λ e. let a = any_true (is_among L) x.reply.seen e in let o = lost_out old a.0 a.2 in
               ⊎_elim (λ (le : a.0 ≤ committed_then head past). let lt = o.0 in omega (arith, le, lt)) (λ (k : has_number a.0 (kept_then head past) ≡ true). true≢false (sym k ∙ o.1)) (stand a.0 a.1)))
               ∙ sym (is ∙ ap not q)
           decide false q = yes test refl ∙ sym (is ∙ ap not q)
@@ -282,7 +278,7 @@ module _ (head : Head) (past : List Line) (h : HoldsAt head past) (recovers : Is
               split false b p = absurd (cc)
 
               off : (m : ℕ) → list_any (is_among L) x.reply.seen ≡ false → In m x.reply.seen → is_among L m ≡ false
-              off m e j = never (is_among L m) (λ t. true≢false (sym (any_passes (is_among L) m x.reply.seen j t) ∙ e))
+              off m e j = false_from_ne_true (is_among L m) (λ t. true≢false (sym (any_passes (is_among L) m x.reply.seen j t) ∙ e))
 
               yes : (b : Bool) → test ≡ b → b ≡ true
               yes true e = refl
@@ -294,10 +290,10 @@ module _ (head : Head) (past : List Line) (h : HoldsAt head past) (recovers : Is
 
       first : Old → (b : Bool) → test ≡ b → is_among (if b then x.reply.txn.0 ∷ L else L) x.reply.txn.0 ≡ b
       first old true e = ap (λ (b : Bool). b || is_among L x.reply.txn.0) (self x.reply.txn.0)
-      first old false e = never (is_among L x.reply.txn.0) (λ t. let r = lost_some repl ds x.reply.txn.0 t in let less = fall.0 r.0 r.1 in let same = r.2 in omega (arith, less, same))
+      first old false e = false_from_ne_true (is_among L x.reply.txn.0) (λ t. let r = lost_some repl ds x.reply.txn.0 t in let less = fall.0 r.0 r.1 in let same = r.2 in omega (arith, less, same))
 
       rest : (b : Bool) → (e : Deed) → In e ds → is_among (if b then x.reply.txn.0 ∷ L else L) e.reply.txn.0 ≡ is_among L e.reply.txn.0
-      rest true e j = ap (λ (b : Bool). b || is_among L e.reply.txn.0) (never (nat_eq e.reply.txn.0 x.reply.txn.0) (λ t. let same = eqb-true e.reply.txn.0 x.reply.txn.0 t in let less = fall.0 e j in omega (arith, same, less)))
+      rest true e j = ap (λ (b : Bool). b || is_among L e.reply.txn.0) (false_from_ne_true (nat_eq e.reply.txn.0 x.reply.txn.0) (λ t. let same = eqb-true e.reply.txn.0 x.reply.txn.0 t in let less = fall.0 e j in omega (arith, same, less)))
       rest false e j = refl
 
       by : In d (x ∷ ds) → Old → is_among (if test then x.reply.txn.0 ∷ L else L) d.reply.txn.0 ≡ gone d.reply.txn.0

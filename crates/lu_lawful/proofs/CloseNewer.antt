@@ -22,14 +22,14 @@ use Rattle.lu_covered.specs.TargetStates.{server_of, closed_of, wishes_of, windo
 use Rattle.lu_covered.specs.Heads.{Head}
 use Rattle.lu_laws.specs.Words.Boots.{boot}
 use Rattle.lu_laws.specs.Words.Handed.{is_newer, has_newer, handed}
-use Rattle.lu_guards.proofs.Guards.{says_first, wish_by, wish_mark, mark_of, due}
+use Rattle.lu_guards.proofs.Guards.{says_first, wish_by, wish_mark, mark_of, due, IsMark}
 use Rattle.lu_guards.proofs.StoryGuards.{IsRecovering, IsServing, EntryOf, EvictOk, LeavesOk, JoinedOk, ComesOk}
 use Rattle.lu_guards.proofs.Grown.{Grown, GrownOf}
 use Rattle.lu_guards.proofs.LifeLists.{none_is, found_life, life_stands, stands_life}
 use Rattle.lu_guards.proofs.Only.{grown_of}
 use Rattle.lu_facts.proofs.Groups.{turn, HasSlot}
 use Rattle.lu_facts.proofs.All.{holds_at}
-use Rattle.lu_lawful.proofs.Taking.{taken_of, handed_is, boot_of, closed_now, IsNote, none_due, due_stores, due_brings, due_says, due_wishes, Marked, marked_of}
+use Rattle.lu_lawful.proofs.Taking.{taken_of, handed_is, boot_of, closed_now, none_due, due_stores, due_brings, due_says, due_wishes, Marked, marked_of}
 
 -- ---- wishes
 
@@ -187,7 +187,7 @@ newer_at head (l ∷ past) g k r = by l.at.node l.entry g.0 (λ mark d. (k.0.mar
     D : Option Entry
     D = due head.osts head.clients past
 
-    plain : (e : Entry) → (IsNote e → ⊥) → ((mark : Entry) → D ≡ Some mark → e ≡ mark) → NewerAt head past D → NewerAt head past None
+    plain : (e : Entry) → (IsMark e → ⊥) → ((mark : Entry) → D ≡ Some mark → e ≡ mark) → NewerAt head past D → NewerAt head past None
     plain e n k h = subst (λ (o : Option Entry). NewerAt head past o) (none_due head.osts head.clients past e n k) h
 
     serving : IsServing head.osts past → IsRecovering head.osts past → ⊥

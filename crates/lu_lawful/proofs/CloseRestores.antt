@@ -3,7 +3,7 @@ use Rattle.std.proofs.Common.{◌≡◌, ℕ, ◌<◌, ◌≤◌, Bool, true, fa
 use Rattle.std.specs.Prelude.{nat_eq, not, ◌&&◌, if◌then◌else◌, is_none}
 use Rattle.std.specs.Bool.{then_some}
 use Rattle.std.specs.List.{list_any}
-use Rattle.std.proofs.lemmas.Bool.{and_parts, and_from, eqb-true, not_from_false, true≢false}
+use Rattle.std.proofs.lemmas.Bool.{and_parts, and_from, eqb-true, not_from_false, true≢false, not-true}
 use Rattle.lu_base.specs.declared.ids.Cookie.{Cookie}
 use Rattle.lu_base.specs.declared.ids.Node.{Node}
 use Rattle.lu_base.specs.declared.ids.Node.TheVariants.{Client, Target}
@@ -45,13 +45,14 @@ use Rattle.lu_guards.proofs.Only.{grown_of}
 use Rattle.lu_facts.proofs.Groups.{turn, HasSlot, Gave, BroughtRise, HoldsAt}
 use Rattle.lu_facts.proofs.All.{holds}
 use Rattle.lu_facts.proofs.LocksClose.{restores_all}
+use Rattle.lu_facts.proofs.PartsStay.{in_every}
 use Rattle.lu_lawful.proofs.Taking.{handed_is, boot_of, taken_of}
 use Rattle.lu_lawful.proofs.CloseLines.{StandFirst, turned, first, next_turned, stands_first}
 use Rattle.lu_lawful.proofs.CloseSlots.{recovering_none, slot_now, now_slot}
 use Rattle.lu_lawful.proofs.Backs.{taken_was, agrees}
 use Rattle.lu_lawful.proofs.LostNumbers as numbers
 use Rattle.lu_lawful.proofs.LostNumbers.{lost_at as lost_before}
-use Rattle.lu_lawful.proofs.CloseDecides.{every_of, first_pass, first_stop, says_of, prints_says, gone_law, law_gone}
+use Rattle.lu_lawful.proofs.CloseDecides.{first_pass, first_stop, says_of, prints_says, gone_law, law_gone}
 
 -- ---- what was handed in
 
@@ -229,15 +230,11 @@ module _ (clients : ℕ) (head : Head) (t : ℕ) (past : List Line) (stamp : Sta
       let who : lock.ask.who ≡ r.0.who = life_is lock.ask.who r.0.who same.0 in
       let j : In r.0 (locks (boot t (printed past)) (handed t (printed past))) = subst (λ (ms : List Message). In r.0 (locks (boot t (printed past)) ms)) (sym (handed_is head t past g)) (subst (λ (n : ℕ). In r.0 (locks n (taken_of (only t past)))) (sym (boot_of head t past g)) r.1) in
       let slot : has_slot t (printed past) r.0.who ≡ true = subst (λ (w : Who). has_slot t (printed past) w ≡ true) who (slot_now head t past g (recovering_none head (only t past) (grown_of head t past g) ok.recovers) lock.ask.who given.0) in
-      let stays : is_none (cause_at t (printed past) r.0.who) ≡ true = subst (λ (w : Who). is_none (cause_at t (printed past) w) ≡ true) who (no_cause lock.ask.who given.0 (not_true (is_life lock.ask.who (lives_in o.gone)) f.1)) in
+      let stays : is_none (cause_at t (printed past) r.0.who) ≡ true = subst (λ (w : Who). is_none (cause_at t (printed past) w) ≡ true) who (no_cause lock.ask.who given.0 (not-true (is_life lock.ask.who (lives_in o.gone)) f.1)) in
       let is : lock_of r.0 ≡ lock = one_lock (lock_of r.0) lock (brought (lock_of r.0) (restored_lock r.0 j slot).among) (brought lock f.0) (sym (eqb-true lock.cookie.0 r.0.cookie.0 same.1)) in
       subst (λ (v : Lock). In v (restored_at t (printed past))) is
       (in_mapped lock_of r.0 _ (in_filtered (λ (r : LockReplay). stays_at t (printed past) r.who) r.0 (locks (boot t (printed past)) (handed t (printed past))) j (and_from (has_slot t (printed past) r.0.who) (is_none (cause_at t (printed past) r.0.who)) slot stays)))
     where
-      not_true : (b : Bool) → not b ≡ true → b ≡ false
-      not_true true e = absurd (cc)
-      not_true false e = refl
-
       no_cause : (who : Who) → HasSlot head.clients (only t past) who → is_life who (lives_in o.gone) ≡ false → is_none (cause_at t (printed past) who) ≡ true
       no_cause who has out = by (cause_at t (printed past) who) refl
         where
@@ -289,7 +286,7 @@ module _ (clients : ℕ) (head : Head) (t : ℕ) (past : List Line) (stamp : Sta
         mine x j = (in_filter (λ (l : Lock). not (is_life l.ask.who (lives_in o.gone))) x (brought_of (only t past)) (subst (λ (ls : List Lock). In x ls) locks_are j)).0
 
     pub restores : Every (Restores (turn stamp (Target t)) later) (restored_at t (printed past))
-    restores = every_of (Restores (turn stamp (Target t)) later) (restored_at t (printed past)) (λ lock i.
+    restores = in_every (Restores (turn stamp (Target t)) later) (restored_at t (printed past)) (λ lock i.
         let r = in_map lock_of lock _ i in
         let f = in_filter (λ (r : LockReplay). stays_at t (printed past) r.who) r.0 (locks (boot t (printed past)) (handed t (printed past))) r.1 in
         let s = and_parts (has_slot t (printed past) r.0.who) (is_none (cause_at t (printed past) r.0.who)) f.1 in

@@ -51,7 +51,8 @@ pub record Closing (head : Head) (t : ℕ) (past : List Line) (at : At) (left : 
   pub grown : Grown head before
   pub parts : shows outcome (lives_of head.clients (only t before)) ≡ onto done left
 
-not_later : (head : Head) (t : ℕ) (past : List Line) (a : At) → Grown head past → IsTurnOf (only t past) a → Later past a → ⊥
+-- a turn to come isn't that of the target's newest line
+pub not_later : (head : Head) (t : ℕ) (past : List Line) (a : At) → Grown head past → IsTurnOf (only t past) a → Later past a → ⊥
 not_later head t [] a g turned later = turned
 not_later head t (l ∷ past) a g turned later = by (concerns t l.at.node l.entry) turned (λ q. not_later head t past a g.1 q (later_before l past a g.0.steps later))
   where

@@ -3,7 +3,7 @@
 use Rattle.std.proofs.Common.{◌≡◌, ℕ, ◌≤◌, Bool, true, false, List, [], ◌∷◌, Option, Some, ◌⊎◌, inl, inr, ⊎_elim, refl, sym, subst, ap, ◌∙◌, arith}
 use Rattle.std.specs.Prelude.{nat_eq, nat_lt, not, ◌&&◌, ◌||◌, if◌then◌else◌, unwrap_or, map}
 use Rattle.std.specs.List.{list_any}
-use Rattle.std.proofs.lemmas.Bool.{eqb-true}
+use Rattle.std.proofs.lemmas.Bool.{eqb-true, or_right}
 use Rattle.lu_base.specs.declared.ids.Node.{Node}
 use Rattle.lu_base.specs.declared.ids.Node.TheVariants.{Client, Target}
 use Rattle.lu_base.specs.declared.ids.Stamp.{Stamp}
@@ -30,8 +30,9 @@ use Rattle.lu_guards.proofs.Guards.{In}
 use Rattle.lu_guards.proofs.StoryGuards.{EntryOf, CloseOk}
 use Rattle.lu_guards.proofs.ClientLocks.{in_map, in_mapped}
 use Rattle.lu_guards.proofs.Grown.{Allowed, Grown, GrownOf}
-use Rattle.lu_guards.proofs.Lists.{self, or_right, in_filter}
+use Rattle.lu_guards.proofs.Lists.{self, in_filter}
 use Rattle.lu_facts.proofs.Groups.{turn, Acted, IsMade, Stands, HoldsAt}
+use Rattle.lu_facts.proofs.SlotLists.{last_in}
 use Rattle.lu_facts.proofs.All.{holds, holds_at}
 use Rattle.lu_facts.proofs.CloseFacts.{Closing, closing, kept_of_deed}
 use Rattle.lu_facts.proofs.ExactLists.{in_has}
@@ -109,11 +110,6 @@ MadeStands osts past n = (n ≡ 0) ⊎ ((d : Deed) × Acted past d × IsMade d �
 abbrev AllMade : ℕ → List Line → Type 0
 AllMade osts past = MadeStands osts past (server_of osts past).committed.0
 
--- the last of these numbers is the first one, or of one of them
-last_or : (ts : List Stored) (n : ℕ) → (last_number ts n ≡ n) ⊎ ((s : Stored) × In s ts × (last_number ts n ≡ s.txn.0))
-last_or [] n = inl refl
-last_or (s ∷ ts) n = inr (⊎_elim (λ (e : last_number ts s.txn.0 ≡ s.txn.0). (s, inl refl, e)) (λ (p : (x : Stored) × In x ts × (last_number ts s.txn.0 ≡ x.txn.0)). (p.0, inr p.1, p.2)) (last_or ts s.txn.0))
-
 module _ (head : Head) where
   -- a number that is committed, over one more line
   stands_on : (l : Line) (past : List Line) (n : ℕ) → n ≤ (server_of head.osts past).committed.0 → MadeStands head.osts past n → MadeStands head.osts (l ∷ past) n
@@ -123,7 +119,7 @@ module _ (head : Head) where
   closes_made : (past : List Line) (stamp : Stamp) (t : ℕ) (o : Outcome) → CloseOk head past (turn stamp (Target t)) o → HoldsAt head past → AllMade head.osts past → AllMade head.osts (line (turn stamp (Target t)) (Close o) ∷ past)
   closes_made past stamp t o ok h made =
       subst (λ (n : ℕ). MadeStands head.osts (l ∷ past) n) (ap (λ (d : Disk). d.committed) (sym c.disk))
-      (⊎_elim (λ (e : last_number ts disk.committed ≡ disk.committed). subst (λ (n : ℕ). MadeStands head.osts (l ∷ past) n) (sym (e ∙ ok.of_committed)) (stands_on l past (server_of head.osts past).committed.0 (omega arith) made)) kept (last_or ts disk.committed))
+      (⊎_elim (λ (e : last_number ts disk.committed ≡ disk.committed). subst (λ (n : ℕ). MadeStands head.osts (l ∷ past) n) (sym (e ∙ ok.of_committed)) (stands_on l past (server_of head.osts past).committed.0 (omega arith) made)) kept (last_in ts disk.committed))
     where
       l : Line
       l = line (turn stamp (Target t)) (Close o)

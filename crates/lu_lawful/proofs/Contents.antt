@@ -3,7 +3,7 @@
 -- go at other lines.
 use Rattle.std.proofs.Common.{◌≡◌, ℕ, ◌+◌, ◌*◌, ◌/◌, ◌<◌, ◌≤◌, max, Bool, true, false, List, [], ◌∷◌, Option, Some, refl, sym, subst, ap, ◌∙◌, arith}
 use Rattle.std.specs.Prelude.{nat_eq, not, ◌&&◌, if◌then◌else◌}
-use Rattle.std.proofs.lemmas.Bool.{lt-ltb}
+use Rattle.std.proofs.lemmas.Bool.{lt-ltb, or_right}
 use Rattle.lu_base.specs.declared.ids.At.{At}
 use Rattle.lu_base.specs.declared.ids.Node.{Node}
 use Rattle.lu_base.specs.declared.ids.Node.TheVariants.{Client, Target}
@@ -33,9 +33,9 @@ use Rattle.lu_laws.specs.Words.Lost.{is_lost}
 use Rattle.lu_laws.specs.Words.Standing as standing
 use Rattle.lu_laws.specs.Words.Standing.{executed, contents}
 use Rattle.lu_guards.proofs.Grown.{Allowed, Grown}
-use Rattle.lu_guards.proofs.Lists.{or_right}
 use Rattle.lu_guards.proofs.Parts.{tree_is}
 use Rattle.lu_facts.proofs.Groups.{turn, Acted, IsMade, Stands, ItemOk, AllItems, items_of, forgetting}
+use Rattle.lu_facts.proofs.ItemLists.{same_forgot, pick_forgetting}
 use Rattle.lu_facts.proofs.All.{holds}
 use Rattle.lu_facts.proofs.Finds.{numbers_at, numbers_up}
 use Rattle.lu_lawful.specs.Fits.{WasMade}
@@ -46,7 +46,7 @@ use Rattle.lu_lawful.proofs.Taking.{either_way}
 use Rattle.lu_lawful.proofs.Lost.{lost_whole}
 use Rattle.lu_lawful.proofs.Commits.{made_more, listed}
 use Rattle.lu_lawful.proofs.LostNumbers.{lost_is}
-use Rattle.lu_lawful.proofs.HistoryItems.{whole, keep, same_trans, same_back, same_self, same_forgot, same_forgetting, pick_forgetting, pick_again}
+use Rattle.lu_lawful.proofs.HistoryItems.{whole, keep, same_trans, same_back, same_self, same_forgetting, pick_again}
 
 -- ---- numbers: a boot has fewer than 2 ^ 32 of them
 

@@ -18,7 +18,7 @@ use Rattle.lu_machine.specs.Fits.{answer_fits}
 use Rattle.lu_words.specs.Carried.{Deed, HandleFile}
 use Rattle.lu_words.specs.Words.{Entry, Drop, Life, Learns, Line, line, is_client}
 use Rattle.lu_client_rows.specs.Facts.{Fact, fact, root, is_one_for_each, name_facts, names_taught, last_of, inode_taught, stat_facts, taught, without_facts, facts_at}
-use Rattle.lu_client_rows.specs.Known.{fact_on, Found, with_cookie, nothing_found, walked, found_at_path, known_of, known_with, lookup_known, list_at, layout_at, directory_at, Notes}
+use Rattle.lu_client_rows.specs.Known.{fact_on, Found, walked, found_at_path, known_of, known_with, lookup_known, list_at, layout_at, directory_at, Notes}
 use Rattle.lu_covered.specs.Calls.{operation_of}
 use Rattle.lu_covered.specs.Known.{notes_at, told_of, known_answer}
 use Rattle.lu_covered.specs.Heads.{Head}
@@ -26,8 +26,9 @@ use Rattle.lu_laws.specs.Laws.Acts.{is_bad_handle, is_end_of_life}
 use Rattle.lu_guards.proofs.Guards.{In}
 use Rattle.lu_guards.proofs.Grown.{Grown}
 use Rattle.lu_guards.proofs.Lists.{in_append, in_filter}
+use Rattle.lu_guards.proofs.ClientLines.{some_is}
 use Rattle.lu_facts.proofs.Groups.{Acted}
-use Rattle.lu_facts.proofs.KnownPaths.{some_is, fact_is}
+use Rattle.lu_facts.proofs.KnownPaths.{fact_is, after_name}
 use Rattle.lu_facts.proofs.OnNames.{IsOnNames, told_so}
 use Rattle.lu_facts.proofs.Asked.{acted_on_names}
 use Rattle.lu_facts.proofs.Refused.{acted_answered}
@@ -180,10 +181,6 @@ facts_fine c (l ∷ past) = by l.entry (facts_fine c past)
     by (Life who) h = cond_both (is_client c l.at.node) [] (facts_at c past) AllFine (λ b f i. absurd i) (λ b. h)
     by _ h = h
 
--- what comes of the names after one
-abbrev after_one : Notes → List (List ℕ) → Option Fact → Found
-after_one n path o = elim o [ None ↦ nothing_found | Some f ↦ with_cookie f.cookie (walked n path f.answer) ]
-
 module _ (n : Notes) (fine : AllFine n.facts) where
   on_fine : (p : Part) (f : Fact) → fact_on p n ≡ Some f → IsFine f.answer
   on_fine p f e = fine f (fact_is p n f e).0.0
@@ -193,7 +190,7 @@ module _ (n : Notes) (fine : AllFine n.facts) where
   walked_fine (name ∷ path) (told.Dir d) a is e = by (fact_on (part.Name d name) n) (λ f q. on_fine (part.Name d name) f q) (λ b k q. walked_fine path b a k q) e
     where
       by : (o : Option Fact) → ((f : Fact) → o ≡ Some f → IsFine f.answer) → ((b : Answer) → IsFine b → (walked n path b).inode ≡ Some a → IsFine a)
-          → (after_one n path o).inode ≡ Some a → IsFine a
+          → (after_name n path o).inode ≡ Some a → IsFine a
       by None each more e = absurd (cc)
       by (Some f) each more e = more f.answer (each f refl) e
   walked_fine (name ∷ path) _ a is e = absurd (cc)

@@ -1,6 +1,6 @@
 -- The lives that are gone in a whole trace, and the numbers that its closes lost, fit it: what stands at the end saw only what stands, what a
 -- life that isn't gone heard stands, and what is committed stands.
-use Rattle.std.proofs.Common.{◌≡◌, ℕ, zero, suc, ◌≤◌, Bool, true, false, List, [], ◌∷◌, ◌⊎◌, inl, inr, ⊎_elim, refl, sym, subst, ap, ◌∙◌, arith}
+use Rattle.std.proofs.Common.{◌≡◌, ℕ, zero, suc, ◌≤◌, Bool, true, false, List, [], ◌∷◌, ◌⊎◌, inl, inr, ⊎_elim, refl, sym, subst, ap, ◌∙◌, arith, le_refl}
 use Rattle.std.specs.Prelude.{nat_lt, filter, if◌then◌else◌}
 use Rattle.std.proofs.lemmas.Bool.{cond_both, ltb-true}
 use Rattle.lu_base.specs.declared.ids.At.{At}
@@ -37,13 +37,10 @@ last_up n (t ∷ ts) m le =
     cond_both (nat_lt n t.txn.0) (t ∷ filter (λ t. nat_lt n t.txn.0) ts) (filter (λ t. nat_lt n t.txn.0) ts) (λ (us : List Transaction). n ≤ last_number us m)
     (λ e. last_up n ts t.txn.0 (let lt = ltb-true n t.txn.0 e in omega (arith, lt))) (λ e. last_up n ts m le)
 
-at_most : (n : ℕ) → n ≤ n
-at_most n = omega arith
-
 close_up : (head : Head) (past : List Line) (at : At) (o : Outcome) → CloseOk head past at o → (server_of head.osts past).committed.0 ≤ o.disk.committed
 close_up head past at o ok =
     subst (λ (v : Outcome). (server_of head.osts past).committed.0 ≤ v.disk.committed) (sym ok.is)
-    (subst (λ (m : ℕ). m ≤ (outcome_of head.osts head.clients at past).disk.committed) ok.of_committed (last_up (disk_of head.osts head.clients past).committed _ (disk_of head.osts head.clients past).committed (at_most (disk_of head.osts head.clients past).committed)))
+    (subst (λ (m : ℕ). m ≤ (outcome_of head.osts head.clients at past).disk.committed) ok.of_committed (last_up (disk_of head.osts head.clients past).committed _ (disk_of head.osts head.clients past).committed (le_refl (disk_of head.osts head.clients past).committed)))
 
 module _ (head : Head) where
   abbrev number : List Line → ℕ
@@ -51,19 +48,19 @@ module _ (head : Head) where
 
   -- over the story of the metadata target
   story_up : (past : List Line) (stamp : Stamp) (node : Node) (e : Entry) → EntryOf head past (turn stamp node) node e → History head.osts head.clients past → (server_of head.osts past).committed.0 ≤ (server_of head.osts (line (turn stamp node) e ∷ past)).committed.0
-  story_up past stamp (Client c) e ok h = at_most (server_of head.osts past).committed.0
+  story_up past stamp (Client c) e ok h = le_refl (server_of head.osts past).committed.0
   story_up past stamp (Target t) (Commit to batch) ok h =
       ⊎_elim
       (λ (k : (d : Deed) × In d (server_of head.osts past).log × (to ≡ d.reply.txn.0)). let above = (h.log k.0 k.1).3 in let is = k.2 in omega (arith, above, is))
       (λ (is : to ≡ (server_of head.osts past).committed.0). omega (arith, is))
       ok.is
   story_up past stamp (Target t) (Close o) ok h = close_up head past (turn stamp (Target t)) o ok
-  story_up past stamp (Target t) e ok h = at_most (server_of head.osts past).committed.0
+  story_up past stamp (Target t) e ok h = le_refl (server_of head.osts past).committed.0
 
   whole_up : (l : Line) (past : List Line) → Grown head (l ∷ past) → number past ≤ number (l ∷ past)
   whole_up l past g =
       cond_both (concerns 0 l.at.node l.entry) (l ∷ only 0 past) (only 0 past) (λ (P : List Line). number past ≤ (server_of head.osts P).committed.0)
-      (λ t. story_up (only 0 past) l.at.stamp l.at.node l.entry (g.0.of 0 t) ((holds head past g.1).at 0).history) (λ t. at_most (number past))
+      (λ t. story_up (only 0 past) l.at.stamp l.at.node l.entry (g.0.of 0 t) ((holds head past g.1).at 0).history) (λ t. le_refl (number past))
 
 -- ---- whoever is gone, and whatever is lost, at the end
 

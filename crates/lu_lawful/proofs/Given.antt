@@ -13,6 +13,7 @@ use Rattle.lu_covered.specs.Heads.{Head}
 use Rattle.lu_guards.proofs.Guards.{In, Did, Shows, Answers, Owes, EntryOk}
 use Rattle.lu_guards.proofs.Grown.{Allowed, Grown}
 use Rattle.lu_facts.proofs.Groups.{turn, Acted, Gave}
+use Rattle.lu_facts.proofs.DoneGrows.{did_acted}
 
 -- ---- what was just done
 
@@ -26,16 +27,6 @@ owed (l ∷ past) at d e i o = by l.entry i o (owed past at d e)
     by (Made f) i o h = subst (λ (v : Deed). Answers at v e) i o
     by (Grant lock asked) i o h = h i o
     by _ i o h = absurd i
-
-pub did_acted : (past : List Line) (d : Deed) → Did past d → Acted past d
-did_acted [] d i = absurd i
-did_acted (l ∷ past) d i = by l.entry i (did_acted past d)
-  where
-    by : (x : Entry) → Did (line l.at x ∷ past) d → (Did past d → Acted past d) → Acted (line l.at x ∷ past) d
-    by (Act f) i h = inl i
-    by (Made f) i h = inl i
-    by (Grant lock asked) i h = h i
-    by _ i h = absurd i
 
 -- ---- what was shown: reads Grant
 

@@ -1,7 +1,7 @@
 -- The granted locks that a printed past shows: each was given, and each lock that the metadata target has granted and whose release it
 -- hasn't shown is among them, but for those of what was just done. None waits there.
 use Rattle.std.proofs.Common.{◌≡◌, ℕ, Bool, true, false, List, [], ◌∷◌, ◌⊎◌, inl, inr, ⊎_elim, Some, None, refl, sym, subst, ap, ◌∙◌}
-use Rattle.std.specs.Prelude.{nat_eq, nat_lt, not, ◌&&◌, if◌then◌else◌}
+use Rattle.std.specs.Prelude.{nat_eq, not, ◌&&◌, if◌then◌else◌}
 use Rattle.std.proofs.lemmas.Bool.{and_parts, cond_both, cond-true, cond-false, eqb-true}
 use Rattle.lu_base.specs.declared.ids.Node.{Node}
 use Rattle.lu_base.specs.declared.ids.Node.TheVariants.{Client, Target}
@@ -23,34 +23,14 @@ use Rattle.lu_laws.specs.Words.Held.{is_given, given}
 use Rattle.lu_guards.proofs.Guards.{In, Did, Shows, EntryOk}
 use Rattle.lu_guards.proofs.StoryGuards.{IsServing}
 use Rattle.lu_guards.proofs.Grown.{Allowed, Grown}
-use Rattle.lu_guards.proofs.Lists.{self, in_filter, in_filtered}
+use Rattle.lu_guards.proofs.Lists.{self, in_filter, in_filtered, life_self}
 use Rattle.lu_facts.proofs.Groups.{turn}
+use Rattle.lu_facts.proofs.LockLists.{with_in, withs_in}
 use Rattle.lu_facts.proofs.All.{holds}
 use Rattle.lu_facts.proofs.Lines.{acted_whole}
-use Rattle.lu_lawful.proofs.Turns.{same_life_self}
 use Rattle.lu_lawful.proofs.Printed.{flip}
 use Rattle.lu_lawful.proofs.CloseSlots.{NoneLeft}
 use Rattle.lu_lawful.proofs.Given.{owed, Showed, all_given}
-
--- ---- one more lock
-
-in_with_lock : (k l : Lock) (locks : List Lock) → In l (with_lock k locks) → (k ≡ l) ⊎ In l locks
-in_with_lock k l [] i = i
-in_with_lock k l (x ∷ locks) i =
-    cond_both (nat_eq k.cookie.0 x.cookie.0) (k ∷ locks) (if nat_lt k.cookie.0 x.cookie.0 then k ∷ x ∷ locks else x ∷ with_lock k locks) (λ (ls : List Lock). In l ls → (k ≡ l) ⊎ In l (x ∷ locks))
-    (λ e j. ⊎_elim (λ (q : k ≡ l). inl q) (λ (q : In l locks). inr (inr q)) j)
-    (λ e. cond_both (nat_lt k.cookie.0 x.cookie.0) (k ∷ x ∷ locks) (x ∷ with_lock k locks) (λ (ls : List Lock). In l ls → (k ≡ l) ⊎ In l (x ∷ locks))
-    (λ lt j. j)
-    (λ lt j. ⊎_elim (λ (q : x ≡ l). inr (inl q)) (λ (q : In l (with_lock k locks)). ⊎_elim (λ (r : k ≡ l). inl r) (λ (r : In l locks). inr (inr r)) (in_with_lock k l locks q)) j))
-    i
-
-pub in_with_locks : (more : List Lock) (l : Lock) (locks : List Lock) → In l (with_locks more locks) → In l more ⊎ In l locks
-in_with_locks [] l locks i = inr i
-in_with_locks (k ∷ more) l locks i =
-    ⊎_elim
-    (λ (q : In l more). inl (inr q))
-    (λ (q : In l (with_lock k locks)). ⊎_elim (λ (r : k ≡ l). inl (inl r)) (λ (r : In l locks). inr r) (in_with_lock k l locks q))
-    (in_with_locks more l (with_lock k locks) i)
 
 -- ---- what is granted was shown
 
@@ -165,7 +145,7 @@ keeps_granted : (head : Head) (past : List Line) (stamp : Stamp) (node : Node) (
 keeps_granted head past stamp (Client c) (Act d) a g h l i = absurd a.ok
 keeps_granted head past stamp (Target t) (Act d) a g h l i =
     cond_both (nat_eq 0 t) (with_locks d.reply.locks (shown_at past)) (shown_at past) (λ (ls : List Lock). In l ls → In l (granted 0 (printed past)) ⊎ JustGave (line (turn stamp (Target t)) (Act d) ∷ past) l)
-    (λ e j. ⊎_elim (λ (q : In l d.reply.locks). inr (d, refl, q)) (λ (q : In l (shown_at past)). inl (old q)) (in_with_locks d.reply.locks l (shown_at past) j))
+    (λ e j. ⊎_elim (λ (q : In l d.reply.locks). inr (d, refl, q)) (λ (q : In l (shown_at past)). inl (old q)) (withs_in d.reply.locks l (shown_at past) j))
     (λ e j. inl (old j))
     i
   where
@@ -196,7 +176,7 @@ keeps_granted head past stamp (Client c) (Restore lock) a g h l i = absurd a.ok
 keeps_granted head past stamp (Target t) (Restore lock) a g h l i =
     cond_both (nat_eq 0 t) (with_lock lock (shown_at past)) (shown_at past) (λ (ls : List Lock). In l ls → In l (granted 0 (printed (line (turn stamp (Target t)) (Restore lock) ∷ past))) ⊎ JustGave (line (turn stamp (Target t)) (Restore lock) ∷ past) l)
     (λ e j. inl (subst (λ (ls : List Lock). In l ls) (sym (cond-true (nat_eq t 0) (lock ∷ granted 0 (printed past)) (granted 0 (printed past)) (flip t 0 ∙ e)))
-    (⊎_elim (λ (q : lock ≡ l). inl q) (λ (q : In l (shown_at past)). inr (old q)) (in_with_lock lock l (shown_at past) j))))
+    (⊎_elim (λ (q : lock ≡ l). inl q) (λ (q : In l (shown_at past)). inr (old q)) (with_in lock l (shown_at past) j))))
     (λ e j. inl (subst (λ (ls : List Lock). In l ls) (sym (cond-false (nat_eq t 0) (lock ∷ granted 0 (printed past)) (granted 0 (printed past)) (flip t 0 ∙ e))) (old j)))
     i
   where
@@ -238,7 +218,7 @@ given_before head (x ∷ past) l g one s = by x.at.node x.entry g.0 one s (given
     Goal node e = given 0 l.ask.who l.cookie.0 (printed (line (turn x.at.stamp node) e ∷ past)) ≡ Some l
 
     its_own : is_given 0 l.ask.who l.cookie.0 (Target 0) l ≡ true
-    its_own = rw (self l.cookie.0, same_life_self l.ask.who) refl
+    its_own = rw (self l.cookie.0, life_self l.ask.who) refl
 
     shown : (k : Lock) (b : Bool) → is_given 0 l.ask.who l.cookie.0 (Target 0) k ≡ b → (k.cookie.0 ≡ l.cookie.0 → k ≡ l) → (k ≡ l) ⊎ (given 0 l.ask.who l.cookie.0 (printed past) ≡ Some l)
         → or_else (if b then Some k else None) (given 0 l.ask.who l.cookie.0 (printed past)) ≡ Some l

@@ -54,7 +54,7 @@ use Rattle.lu_guards.proofs.ClientHandles.{none_there}
 
 -- ---- a life that hasn't begun has no handles
 
-and_true : (b : Bool) → (b && true) ≡ b
+pub and_true : (b : Bool) → (b && true) ≡ b
 and_true true = refl
 and_true false = refl
 

@@ -13,16 +13,12 @@ use Rattle.lu_held.specs.Held.{is_held, changed, used, unmarked, without}
 use Rattle.lu_client_rows.specs.Caches.{held_as, with_held, with_brought}
 use Rattle.lu_guards.proofs.Guards.{In}
 use Rattle.lu_guards.proofs.Lists.{in_left, in_right, in_filtered}
+use Rattle.lu_guards.proofs.ClientLocks.{in_mapped}
 use Rattle.lu_laws.proofs.Tests.{settled}
 
 -- one of that lock
 abbrev pub Has : Lock → List HeldLock → Type 0
 Has l hs = (x : HeldLock) × In x hs × (x.lock ≡ l)
-
-pub in_mapped : {A B : Type 0} (f : A → B) (x : A) (xs : List A) → In x xs → In (f x) (map f xs)
-in_mapped f x [] i = absurd i
-in_mapped f x (y ∷ xs) (inl e) = inl (ap f e)
-in_mapped f x (y ∷ xs) (inr i) = inr (in_mapped f x xs i)
 
 -- ---- a lock comes
 

@@ -1,6 +1,6 @@
 -- The transactions that stand after a past, as items of the removal law: which of them stay at the end of the trace, and that each of those
 -- saw only what stays.
-use Rattle.std.proofs.Common.{◌≡◌, ℕ, ◌≤◌, Bool, true, false, List, [], ◌∷◌, inl, inr, ⊎_elim, refl, sym, subst, ap, ◌∙◌}
+use Rattle.std.proofs.Common.{◌≡◌, ℕ, ◌≤◌, Bool, true, false, List, [], ◌∷◌, ⊎_elim, refl, sym, subst, ap, ◌∙◌}
 use Rattle.std.specs.Prelude.{not, if◌then◌else◌}
 use Rattle.std.proofs.lemmas.Bool.{cond_both}
 use Rattle.lu_base.specs.declared.ids.Who.{Who}
@@ -17,6 +17,8 @@ use Rattle.lu_covered.specs.TargetParts.{operation}
 use Rattle.lu_covered.specs.TargetStates.{server_of}
 use Rattle.lu_guards.proofs.Guards.{In}
 use Rattle.lu_facts.proofs.Groups.{Acted, IsMade, Stands, ItemOk, AllItems, forgetting}
+use Rattle.lu_facts.proofs.ItemLists.{same_forgot}
+use Rattle.lu_facts.proofs.PartsStay.{in_every}
 
 abbrev pub whole : ℕ → List Item → Tree
 whole osts is = removal.contents osts empty is
@@ -50,14 +52,6 @@ same_self t (part.Layout f) = refl
 same_self t (part.Parent f) = tt
 same_self t (part.Bytes f stripe extent) = tt
 
-pub same_forgot : (t : Tree) (who : Who) (p : Part) → Same t (forget t who) p
-same_forgot t who (part.Name d n) = refl
-same_forgot t who (part.List d) = refl
-same_forgot t who (part.Attr f) = (refl, refl)
-same_forgot t who (part.Layout f) = refl
-same_forgot t who (part.Parent f) = tt
-same_forgot t who (part.Bytes f stripe extent) = tt
-
 pub same_as : (t u v : Tree) (p : Part) → t ≡ u → Same u v p → Same t v p
 same_as t u v p e = subst (λ (w : Tree). Same w v p) (sym e)
 
@@ -65,16 +59,6 @@ same_as t u v p e = subst (λ (w : Tree). Same w v p) (sym e)
 pub same_forgetting : (osts : ℕ) (t : Tree) (gone : List Who) (is : List Item) (p : Part) → Same t (whole osts is) p → Same t (whole osts (forgetting gone is)) p
 same_forgetting osts t [] is p s = s
 same_forgetting osts t (who ∷ gone) is p s = same_forgetting osts t gone (Forgets who ∷ is) p (same_trans t (whole osts is) (forget (whole osts is) who) p s (same_forgot (whole osts is) who p))
-
-pub pick_forgetting : (stays : ℕ → Bool) (gone : List Who) (is : List Item) → pick stays (forgetting gone is) ≡ forgetting gone (pick stays is)
-pick_forgetting stays [] is = refl
-pick_forgetting stays (who ∷ gone) is = pick_forgetting stays gone (Forgets who ∷ is)
-
--- ---- lists
-
-pub every_in : {A : Type 0} (P : A → Type 0) (xs : List A) → ((x : A) → In x xs → P x) → Every P xs
-every_in P [] all = tt
-every_in P (x ∷ xs) all = (all x (inl refl), every_in P xs (λ y i. all y (inr i)))
 
 -- ---- items
 
@@ -145,5 +129,5 @@ module _ (osts : ℕ) (past : List Line) (lost : ℕ → ℕ → Bool) where
       own : keep lost a.number.0 ≡ true → SawKept osts (whole osts) (keep lost) is a
       own kept =
           let stays : Stays ok.deed = ap (lost 0) (sym (number_is ok.deed a ok.operates)) ∙ stays_again (lost 0 a.number.0) kept in
-          every_in (λ n. keep lost n ≡ true) (seen osts (whole osts) is (touches osts (whole osts is) a))
+          in_every (λ n. keep lost n ≡ true) (seen osts (whole osts) is (touches osts (whole osts is) a))
           (λ n i. ap not (⊎_elim (λ (le : n ≤ (server_of osts past).committed.0). let m = seen_made (touches osts (whole osts is) a) n is all.1 i in ap (lost 0) (sym m.4) ∙ committed m.0 m.1 m.2 m.3 (subst (λ (k : ℕ). k ≤ (server_of osts past).committed.0) (sym m.4) le)) (λ (j : In n ok.deed.reply.seen). saw ok.deed ok.acted ok.made stays n j) (ok.saw n i)))

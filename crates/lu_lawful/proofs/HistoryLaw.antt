@@ -6,7 +6,6 @@ use Rattle.std.specs.Prelude.{nat_eq, not, ◌&&◌, ◌||◌, if◌then◌else�
 use Rattle.std.specs.List.{list_any}
 use Rattle.std.specs.Option.{option_map}
 use Rattle.std.proofs.lemmas.Bool.{cond_both, and_parts, eqb-true}
-use Rattle.std.proofs.lemmas.Bool.Decides.{nat_tests}
 use Rattle.lu_base.specs.declared.ids.At.{At}
 use Rattle.lu_base.specs.declared.ids.Node.{Node}
 use Rattle.lu_base.specs.declared.ids.Node.TheVariants.{Client, Target}
@@ -64,24 +63,26 @@ use Rattle.lu_laws.specs.Laws.History as law
 use Rattle.lu_lawful.specs.Fits.{AllStand, SeenStand, ReplyStands, HeardStand, CommitsStand, EvictedOut, WasMade, Fits}
 use Rattle.lu_guards.proofs.Guards.{In}
 use Rattle.lu_guards.proofs.Grown.{Allowed, Grown}
-use Rattle.lu_guards.proofs.Lists.{life_is}
+use Rattle.lu_guards.proofs.Lists.{life_is, life_self}
 use Rattle.lu_guards.proofs.Parts.{tree_is, log_is, committed_is}
+use Rattle.lu_guards.proofs.ClientLocks.{any_true}
+use Rattle.lu_guards.proofs.Held.{not_zero}
 use Rattle.lu_facts.proofs.Finds.{numbers_at, numbers_up}
 use Rattle.lu_facts.proofs.Groups.{turn, Acted, Evicted, IsMade, Stands, History, items_of, items_after, forgetting}
+use Rattle.lu_facts.proofs.ItemLists.{same_forgot, in_seen, pick_forgetting}
 use Rattle.lu_facts.proofs.All.{holds}
-use Rattle.lu_facts.proofs.PartsStay.{in_seen}
 use Rattle.lu_facts.proofs.Lines.{acted_whole}
 use Rattle.lu_facts.proofs.OnNames.{IsPlain, told_so, reading_told}
 use Rattle.lu_facts.proofs.Refused.{acted_plain}
 use Rattle.lu_facts.proofs.Sides.{acted_only}
-use Rattle.lu_facts.proofs.Known.{any_in, right, SawBy, known_saw}
+use Rattle.lu_facts.proofs.Known.{right, SawBy, known_saw}
 use Rattle.lu_lawful.proofs.Commits.{made_more}
 use Rattle.lu_lawful.proofs.Lines.{Keeps, holds_before}
-use Rattle.lu_lawful.proofs.Turns.{same_life_self, same_turn_is}
+use Rattle.lu_lawful.proofs.Turns.{same_turn_is}
 use Rattle.lu_lawful.proofs.ActsLaw.{own_line}
 use Rattle.lu_lawful.proofs.Once.{NoneNow, act_now, txn_now}
 use Rattle.lu_lawful.proofs.Lost.{lost_whole, stood_before}
-use Rattle.lu_lawful.proofs.HistoryItems.{whole, keep, same_as, same_trans, same_self, same_forgot, same_forgetting, pick_forgetting, pick_again, seen_stays, all_saw}
+use Rattle.lu_lawful.proofs.HistoryItems.{whole, keep, same_as, same_trans, same_self, same_forgetting, pick_again, seen_stays, all_saw}
 use Rattle.lu_lawful.proofs.Facts.{AskedAt, AllAsked, AnswersAt, KnewAt, TellsAt, AllTold, told_earlier}
 use Rattle.lu_lawful.proofs.Contents.{number_is, asked_before}
 use Rattle.lu_lawful.proofs.Deeds.{ActIs, TxnIs, act_is, txn_is}
@@ -125,9 +126,6 @@ fits_before osts out lost l past f =
     heard_before (Heard target flight reply) t = t.1
     heard_before _ t = t
 
-not_first : (t : ℕ) → nat_eq 0 (suc t) ≡ false
-not_first t = grind (arith, nat_tests)
-
 alike_trans : (osts : ℕ) (t u v : Tree) (o : Operation) → Alike osts t u o → Alike osts u v o → Alike osts t v o
 alike_trans osts t u v o a b = record { answer = a.answer ∙ b.answer; touches = a.touches ∙ b.touches; writes = a.writes ∙ b.writes; grants = a.grants ∙ b.grants; changes = a.changes ∙ b.changes }
 
@@ -161,10 +159,6 @@ module _ (head : Head) where
           own : (b : Bool) → items_of head.osts (if b then line (turn l.at.stamp (Target t)) l.entry ∷ only 0 past else only 0 past) ≡ (if b then items_after (server_of head.osts (only 0 past)).committed.0 (items past) l.entry else items past)
           own true = refl
           own false = refl
-
-stands_again : (b : Bool) → not b ≡ true → b ≡ false
-stands_again true e = absurd (cc)
-stands_again false e = refl
 
 -- what acted, whatever the node
 act_here : (head : Head) (past : List Line) (stamp : Stamp) (node : Node) (d : Deed) → Allowed head past (turn stamp node) (Act d) → ActIs head.osts (server_at head.osts 0 past) (turn stamp node) d
@@ -202,10 +196,10 @@ committed_stands head lost (l ∷ past) g c n made stands le = by l.at.node l.en
         → n ≤ (committed_at 0 (line (turn l.at.stamp node) e ∷ past)).0 → (CommitsStand head.osts lost past → (n : ℕ) → WasMade past n → is_lost head.osts (only 0 past) n ≡ false → n ≤ (committed_at 0 past).0 → lost 0 n ≡ false) → lost 0 n ≡ false
     by (Client b) (Commit to batch) k c m s t le ih = absurd k.ok
     by (Target zero) (Commit to batch) k c m s t le ih = c.0 n m t le
-    by (Target (suc u)) (Commit to batch) k c m s t le ih = ih c.1 n m s (subst (λ (b : Bool). n ≤ (if b then txn to else committed_at 0 past).0) (not_first u) le)
+    by (Target (suc u)) (Commit to batch) k c m s t le ih = ih c.1 n m s (subst (λ (b : Bool). n ≤ (if b then txn to else committed_at 0 past).0) (not_zero u) le)
     by (Client b) (Close o) k c m s t le ih = absurd k.ok
     by (Target zero) (Close o) k c m s t le ih = c.0 n m t le
-    by (Target (suc u)) (Close o) k c m s t le ih = ih c.1 n m s (subst (λ (b : Bool). n ≤ (if b then txn o.disk.committed else committed_at 0 past).0) (not_first u) le)
+    by (Target (suc u)) (Close o) k c m s t le ih = ih c.1 n m s (subst (λ (b : Bool). n ≤ (if b then txn o.disk.committed else committed_at 0 past).0) (not_zero u) le)
     by (Client b) (Made d) k c m s t le ih = absurd k.ok
     by (Target u) (Made d) k c (inl is) s t le ih = absurd (above u d k.ok k is le)
     by (Target u) (Made d) k c (inr m) s t le ih = ih c n m s le
@@ -286,7 +280,7 @@ items_same head past stamp node e still = items_line head (line (turn stamp node
 items_other : (head : Head) (past : List Line) (stamp : Stamp) (t : ℕ) (e : Entry) → items head (line (turn stamp (Target (suc t))) e ∷ past) ≡ items head past
 items_other head past stamp t e =
     items_line head (line (turn stamp (Target (suc t))) e) past
-    ∙ ap (λ (b : Bool). if b then items_after (server_of head.osts (only 0 past)).committed.0 (items head past) e else items head past) (not_first t)
+    ∙ ap (λ (b : Bool). if b then items_after (server_of head.osts (only 0 past)).committed.0 (items head past) e else items head past) (not_zero t)
 
 -- where a close has nothing to show, it has no eviction to show
 none_left : (head : Head) (past : List Line) (who : Who) → closing_of head.clients past ≡ [] → LeftEvict head past who → ⊥
@@ -578,7 +572,7 @@ module _ (head : Head) (out : Who → Bool) (lost : ℕ → ℕ → Bool) where
   known_stands : (past : List Line) (c : ℕ) (who : Who) (file : Option HandleFile) (k : Call) (o : Op) (given : Answer) → Grown head past → Fits head.osts out lost past → closing_of head.clients (only 0 past) ≡ [] → known_answer (notes_at c past) k ≡ Some given → operation_of file k ≡ Some o → out (who_is c (printed past)) ≡ false
       → (e : Deed) → Acted past e → 0 < e.reply.txn.0 → Stands head.osts (only 0 past) e → meet e.writes (touches head.osts (tree_at head.osts 0 past) (record { number = none; who = who; op = o })) ≡ true → lost 0 e.reply.txn.0 ≡ false
   known_stands past c who file k o given g f quiet known becomes stays e acted positive standing m =
-      let r = any_in (λ (p : Part). list_any (λ w. meets w p) e.writes) (touches head.osts (tree_at head.osts 0 past) (record { number = none; who = who; op = o })) m in
+      let r = any_true (λ (p : Part). list_any (λ w. meets w p) e.writes) (touches head.osts (tree_at head.osts 0 past) (record { number = none; who = who; op = o })) m in
       by r.0 r.2 (known_saw head past g c none who file k o given known becomes (present past c g f quiet stays) r.0 r.1 e (acted_only head past e g acted) positive standing)
     where
       clash : (ws : List Part) (p : Part) → Apart ws p → list_any (λ w. meets w p) ws ≡ true → ⊥
@@ -689,7 +683,7 @@ gone_out head past g = inside past g (λ who e. e)
     inside (l ∷ old) g h = by l.at.node l.entry g.0 h (inside old g.1)
       where
         here : (who : Who) (b : Bool) → ((true && same_life who who) || b) ≡ true
-        here who b = rw (same_life_self who) refl
+        here who b = rw (life_self who) refl
 
         more : (a b : Bool) → b ≡ true → (a || b) ≡ true
         more true b e = refl

@@ -36,7 +36,7 @@ use Rattle.lu_laws.proofs.Tests.{clash, refuted}
 use Rattle.lu_guards.proofs.Guards.{In, Did, HeardNow}
 use Rattle.lu_guards.proofs.Grown.{Allowed, Grown}
 use Rattle.lu_guards.proofs.Held.{held_is}
-use Rattle.lu_guards.proofs.Lists.{self, in_append, in_filter}
+use Rattle.lu_guards.proofs.Lists.{self, in_append, in_filter, life_self}
 use Rattle.lu_guards.proofs.Parts.{life_is_of}
 use Rattle.lu_facts.proofs.Groups.{turn, Acted, Gave, Evicted, Locks}
 use Rattle.lu_facts.proofs.All.{holds}
@@ -44,7 +44,6 @@ use Rattle.lu_facts.proofs.Asked.{flew_on_names}
 use Rattle.lu_facts.proofs.Lines.{flew_whole, acted_whole}
 use Rattle.lu_facts.proofs.OnNames.{IsOnNames}
 use Rattle.lu_facts.proofs.Sides.{acted_only}
-use Rattle.lu_lawful.proofs.Turns.{same_life_self}
 use Rattle.lu_lawful.proofs.Story.{about_it}
 use Rattle.lu_lawful.proofs.Printed.{present_is}
 use Rattle.lu_lawful.proofs.CloseSlots.{NoneLeft, evicted_now}
@@ -231,7 +230,7 @@ module _ (head : Head) where
       is_it e q =
           let target : nat_eq h.target t ≡ true = subst (λ (v : ℕ). nat_eq h.target v ≡ true) (old.target ∙ sym a.ok.0) (self h.target) in
           let cookie : nat_eq h.lock.cookie.0 lock.cookie.0 ≡ true = subst (λ (v : ℕ). nat_eq h.lock.cookie.0 v ≡ true) q (self h.lock.cookie.0) in
-          let who : same_life h.who W ≡ true = subst (λ (v : Who). same_life h.who v ≡ true) (mine e) (same_life_self h.who) in
+          let who : same_life h.who W ≡ true = subst (λ (v : Who). same_life h.who v ≡ true) (mine e) (life_self h.who) in
           rw (target, cookie, who) refl
 
       other : old.client ≡ d → (x : HeldLock) → x.lock ≡ h.lock → is_named (named (record { 0 = t }) lock.cookie) x ≡ false

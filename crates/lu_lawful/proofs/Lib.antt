@@ -78,6 +78,7 @@ pub use Rattle.lu_facts.proofs.LifeLists
 pub use Rattle.lu_facts.proofs.Numbers
 pub use Rattle.lu_facts.proofs.Opens
 pub use Rattle.lu_facts.proofs.OnNames
+pub use Rattle.lu_facts.proofs.PartsStay
 pub use Rattle.lu_facts.proofs.Readings
 pub use Rattle.lu_facts.proofs.Sides
 pub use Rattle.lu_facts.proofs.Unlocked

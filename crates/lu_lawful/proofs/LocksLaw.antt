@@ -46,23 +46,21 @@ use Rattle.lu_guards.proofs.Guards.{In, Did}
 use Rattle.lu_guards.proofs.Grown.{Allowed, Grown}
 use Rattle.lu_guards.proofs.Lists.{in_filter, in_filtered}
 use Rattle.lu_guards.proofs.Parts.{server_is}
+use Rattle.lu_guards.proofs.ClientLocks.{none_any}
 use Rattle.lu_facts.proofs.Groups.{turn}
+use Rattle.lu_facts.proofs.DoneGrows.{did_acted}
 use Rattle.lu_lawful.proofs.Lines.{OfPrinted, Keeps, holds_before, Nothing}
 use Rattle.lu_lawful.proofs.Facts.{AskedAt}
 use Rattle.lu_lawful.proofs.Contents.{contents_alike}
 use Rattle.lu_lawful.proofs.CloseLines.{nothing_left}
 use Rattle.lu_lawful.proofs.CloseSlots.{NoneLeft}
 use Rattle.lu_lawful.proofs.Once.{all_asked}
-use Rattle.lu_lawful.proofs.Given.{owed, did_acted, showed_gave}
+use Rattle.lu_lawful.proofs.Given.{owed, showed_gave}
 use Rattle.lu_lawful.proofs.Granted.{granted_showed, none_waits}
 use Rattle.lu_lawful.proofs.Holding.{HeldIs, all_held, held_granted, held_reads, gave_reads, given_now}
 use Rattle.lu_lawful.proofs.Wanted.{asked_as}
 
 -- ---- locks for reading don't conflict
-
-pub none_any : {A : Type 0} (p : A → Bool) (xs : List A) → ((x : A) → In x xs → p x ≡ false) → list_any p xs ≡ false
-none_any p [] n = refl
-none_any p (x ∷ xs) n = ap (λ (b : Bool). b || list_any p xs) (n x (inl refl)) ∙ none_any p xs (λ y i. n y (inr i))
 
 readers_agree : (a b : Ask) → a.mode ≡ PR → b.mode ≡ PR → conflict a b ≡ false
 readers_agree a b p q = ap (λ (m : Mode). not (compatible m b.mode) && policies_meet a.policy b.policy) p ∙ ap (λ (m : Mode). not (compatible PR m) && policies_meet a.policy b.policy) q

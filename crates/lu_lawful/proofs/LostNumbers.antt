@@ -2,7 +2,7 @@
 use Rattle.std.proofs.Common.{◌≡◌, ℕ, ◌<◌, ◌≤◌, Bool, true, false, List, [], ◌∷◌, None, ◌⊎◌, inl, inr, ⊎_elim, refl, sym, subst, ap, ◌∙◌, arith}
 use Rattle.std.specs.Prelude.{nat_eq, nat_lt, not, ◌&&◌, ◌||◌, if◌then◌else◌, filter}
 use Rattle.std.proofs.lemmas.Bool.Decides.{nat_tests}
-use Rattle.std.proofs.lemmas.Bool.{and_parts, and_from, eqb-true, ltb-true, lt-ltb, not-true, not_from_false}
+use Rattle.std.proofs.lemmas.Bool.{and_parts, and_from, eqb-true, ltb-true, lt-ltb, not-true, not_from_false, false_from_ne_true}
 use Rattle.lu_base.specs.declared.ids.At.{At}
 use Rattle.lu_base.specs.declared.ids.Node.{Node}
 use Rattle.lu_base.specs.declared.ids.Node.TheVariants.{Client, Target}
@@ -37,7 +37,7 @@ use Rattle.lu_lawful.proofs.Backs.{window_law, law_window}
 use Rattle.lu_lawful.proofs.OneWord.{one_told}
 use Rattle.lu_lawful.proofs.CloseHeard.{number_law, law_number}
 use Rattle.lu_lawful.proofs.Commits.{told_committed}
-use Rattle.lu_lawful.proofs.CloseLost.{made_of, trans, all_trans, transactions_are, Fall, made_acted, acted_made, made_fall, fall_filter, among_more, never, lost_some, lost_each}
+use Rattle.lu_lawful.proofs.CloseLost.{made_of, trans, all_trans, transactions_are, Fall, made_acted, acted_made, made_fall, fall_filter, among_more, lost_some, lost_each}
 
 -- no disk fails
 pub none_failed : (head : Head) (past : List Line) (at : At) → Grown head past → any_in is_fail at (printed past) ≡ false
@@ -145,7 +145,7 @@ module _ (head : Head) (t : ℕ) (past : List Line) (stamp : Stamp) (o : Outcome
           (λ e p. inl (open_in e p.0 p.1 p.2 p.3)) d (open_in d a made stands (ltb-true (committed_then head (only t past)) d.reply.txn.0 q))
       by false q =
           let le = upto (committed_then head (only t past)) d.reply.txn.0 q in
-          never (is_among (lost_of (is_replayable t (printed past)) (all_trans ds)) d.reply.txn.0)
+          false_from_ne_true (is_among (lost_of (is_replayable t (printed past)) (all_trans ds)) d.reply.txn.0)
           (λ e. let r = lost_some (is_replayable t (printed past)) ds d.reply.txn.0 e in let up = (in_open r.0 r.1).3 in let same = r.2 in omega (arith, le, up, same))
           ∙ sym (exact.low_stays head (only t past) ok.recovers h (turn stamp (Target t)) d.reply.txn.0 le)
 
@@ -229,7 +229,7 @@ lost_at head t (l ∷ past) g d a made = by l.at.node l.entry g a (lost_at head 
         let fall : Fall (x ∷ made_of P) = subst (λ (p : List Line). Fall (made_of p)) (ap (λ (b : Bool). if b then line (turn l.at.stamp (Target u)) (Made x) ∷ P else P) own) (made_fall head (only t (line (turn l.at.stamp (Target u)) (Made x) ∷ past)) (grown_of head t (line (turn l.at.stamp (Target u)) (Made x) ∷ past) g)) in
         let number = ap (λ (v : Deed). v.reply.txn.0) now.is in
         let serves = now.serves.closed in
-        never (is_lost (printed past) t x.reply.txn.0) (λ e. let r = lost_made head t past g.1 x.reply.txn.0 e in let less = fall.0 r.0 (acted_made head P story_grown r.0 r.1 r.2) in let same = r.3 in omega (arith, less, same))
+        false_from_ne_true (is_lost (printed past) t x.reply.txn.0) (λ e. let r = lost_made head t past g.1 x.reply.txn.0 e in let less = fall.0 r.0 (acted_made head P story_grown r.0 r.1 r.2) in let same = r.3 in omega (arith, less, same))
         ∙ sym (h.history.later x.reply.txn.0 (omega (arith, number, serves)))
 
     close : (u : ℕ) (o : Outcome) → Allowed head past (turn l.at.stamp (Target u)) (Close o) → Acted (only t (line (turn l.at.stamp (Target u)) (Close o) ∷ past)) d → Old → t ≡ u → nat_eq t u ≡ true

@@ -20,7 +20,7 @@ use Rattle.lu_held.specs.declared.locks.Change.TheVariants.{Mark, Unmark, Pin, U
 use Rattle.lu_held.specs.Locks.{name_of, is_named, after}
 use Rattle.lu_held.specs.Held.{is_held, changed, used, unmarked, without}
 use Rattle.lu_words.specs.Carried.{Flight, Said, Outcome}
-use Rattle.lu_words.specs.Words.{Entry, Send, Take, Heard, Hold, Drop, Life, Knows, Serves, Settles, Pins, Unpins, Marks, Unmarks, Close, Line, line}
+use Rattle.lu_words.specs.Words.{Entry, Send, Heard, Hold, Drop, Life, Knows, Serves, Settles, Pins, Unpins, Marks, Unmarks, Close, Line, line}
 use Rattle.lu_words.specs.Concerns.{concerns, only}
 use Rattle.lu_client_rows.specs.Caches.{held_as, with_held, with_brought, brought, held_at}
 use Rattle.lu_covered.specs.Calls.{life_at}
@@ -28,12 +28,13 @@ use Rattle.lu_covered.specs.ClientStates.{known_of, standing_of, life_of}
 use Rattle.lu_covered.specs.Imports.{Joining, Recovering, Serving, kept_at, known_at, standing_at}
 use Rattle.lu_covered.specs.TargetStates.{server_of, closed_of}
 use Rattle.lu_covered.specs.Heads.{Head}
-use Rattle.lu_guards.proofs.Guards.{Was, HeardNow, Took, Noticed, Ending, Closes, MarkedOk}
+use Rattle.lu_guards.proofs.Guards.{Was, HeardNow, Noticed, Ending, Closes, MarkedOk}
 use Rattle.lu_guards.proofs.StoryGuards.{HeardOk, EntryOf}
 use Rattle.lu_guards.proofs.Grown.{Allowed, Grown}
 use Rattle.lu_guards.proofs.Lists.{self}
 use Rattle.lu_guards.proofs.Parts.{known_is, standing_is, life_is_of}
 use Rattle.lu_facts.proofs.Groups.{turn}
+use Rattle.lu_facts.proofs.Endings.{noticed_more}
 use Rattle.lu_facts.proofs.All.{holds}
 use Rattle.lu_lawful.proofs.Printed.{flip, its_client}
 use Rattle.lu_lawful.proofs.Handed.{IsWord}
@@ -166,16 +167,6 @@ record Over (c t : ℕ) (past new : List Line) : Type 0 where
 
 abbrev Moves : ℕ → ℕ → List Line → List Line → Type 0
 Moves c t past new = Still c t past new ⊎ Anew c t past new ⊎ Served c t past new ⊎ Over c t past new
-
-took_more : (l : Line) (past : List Line) (at : At) (from : Node) (m : Message) → Took past at from m → Took (l ∷ past) at from m
-took_more l past at from m k = by l.entry
-  where
-    by : (e : Entry) → Took (line l.at e ∷ past) at from m
-    by (Take n sender message) = inr k
-    by e = k
-
-noticed_more : (l : Line) (past : List Line) (at : At) (who : Who) → Noticed past at who → Noticed (l ∷ past) at who
-noticed_more l past at who n = record { target = n.target; boot = n.boot; took = took_more l past at (Target n.target) (message.Evicted who n.boot) n.took }
 
 -- a boot of which a client hears was served
 hears_served : (head : Head) (t : ℕ) (past : List Line) (c : ℕ) (f : Flight) (r : ReplyTo) → Grown head past → HeardOk (only t past) c f r → known_of c (only t past) ≤ closed_of (only t past)

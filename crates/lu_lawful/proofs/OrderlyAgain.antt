@@ -28,17 +28,18 @@ use Rattle.lu_laws.specs.Words.Sends.{Sending, taken}
 use Rattle.lu_laws.specs.Laws.Recovery.{is_size_for, is_executed}
 use Rattle.lu_laws.specs.Order.Repeated.{last_reply, asks, SameReply, Repeats, RepeatedAt, RepeatedBy, Repeated}
 use Rattle.lu_laws.proofs.Tests.{either_left}
-use Rattle.lu_guards.proofs.Guards.{Did, TookNow, Taken, RepliesAgain, Answers, Owes}
+use Rattle.lu_guards.proofs.Guards.{Did, TookNow, Taken, RepliesAgain}
 use Rattle.lu_guards.proofs.StoryGuards.{ReplyOk, EntryOf}
 use Rattle.lu_guards.proofs.Grown.{Allowed, Grown}
-use Rattle.lu_guards.proofs.Lists.{self, life_is}
+use Rattle.lu_guards.proofs.Lists.{self, life_is, life_self}
 use Rattle.lu_facts.proofs.Groups.{turn, Acted, Counts, HoldsAt}
 use Rattle.lu_facts.proofs.All.{holds}
 use Rattle.lu_facts.proofs.Sides.{acted_only}
-use Rattle.lu_lawful.proofs.Turns.{same_turn_self, same_life_self}
+use Rattle.lu_lawful.proofs.Turns.{same_turn_self}
 use Rattle.lu_lawful.proofs.Story.{about_it}
 use Rattle.lu_lawful.proofs.Lines.{Keeps, holds_before}
 use Rattle.lu_lawful.proofs.KeptReplies.{replied_acted}
+use Rattle.lu_lawful.proofs.Given.{owed}
 use Rattle.lu_lawful.proofs.OrderlyQuiet.{Says}
 use Rattle.lu_lawful.proofs.OrderlySaid.{takes_it}
 use Rattle.lu_facts.proofs.Lines.{acted_whole}
@@ -81,16 +82,6 @@ counts_before head l past d g i n = by (concerns 0 l.at.node l.entry) refl n
     by true q n = on l.at.node l.entry (g.0.of 0 q) n
     by false q n = n
 
-did_owes : (past : List Line) (at : At) (d : Deed) (e : Entry) → Did past d → Owes past at e → Answers at d e
-did_owes [] at d e i o = absurd i
-did_owes (l ∷ past) at d e i o = by l.entry i o (did_owes past at d e)
-  where
-    by : (x : Entry) → Did (line l.at x ∷ past) d → Owes (line l.at x ∷ past) at e → (Did past d → Owes past at e → Answers at d e) → Answers at d e
-    by (Act f) i o h = subst (λ (v : Deed). Answers at v e) i o
-    by (Made f) i o h = subst (λ (v : Deed). Answers at v e) i o
-    by (Grant lock asked) i o h = h i o
-    by _ i o h = absurd i
-
 -- a reply to that request, or to another one
 replied : (past : List Line) (d : Deed) (k : ReplyTo) (b : Bool) → (b ≡ true → SameReply d.reply k) → IsLast past d
     → (j : ReplyTo) × (or_else (if b then Some k else None) (last_reply 0 d.reply.who d.reply.xid.0 (printed past)) ≡ Some j) × SameReply d.reply j
@@ -129,53 +120,53 @@ sends_reply : (head : Head) (past : List Line) (stamp : Stamp) (c : ℕ) (k : Re
     → IsLast (line (turn stamp (Target 0)) (Send (Client c) (message.Reply k)) ∷ past) d
 sends_reply head past stamp c k a g d h i n = ⊎_elim
     (λ (did : Did past d).
-    let pays = did_owes past (turn stamp (Target 0)) d (Send (Client c) (message.Reply k)) did a.owes in
+    let pays = owed past (turn stamp (Target 0)) d (Send (Client c) (message.Reply k)) did a.owes in
     let own : (same_life k.who d.reply.who && nat_eq k.xid.0 d.reply.xid.0) ≡ true = subst (λ (v : ReplyTo). (same_life k.who v.who && nat_eq k.xid.0 v.xid.0) ≡ true) pays.0 (its_own k) in
     replied_now past d k (same_life k.who d.reply.who && nat_eq k.xid.0 d.reply.xid.0) own pays.0)
     (λ (last : IsLast past d). replied past d k (same_life k.who d.reply.who && nat_eq k.xid.0 d.reply.xid.0) (same_deed head past 0 c k d g (a.of 0 refl) i n) last)
     h
   where
     its_own : (k : ReplyTo) → (same_life k.who k.who && nat_eq k.xid.0 k.xid.0) ≡ true
-    its_own k = rw (same_life_self k.who, self k.xid.0) refl
+    its_own k = rw (life_self k.who, self k.xid.0) refl
 
 keeps_answered : (head : Head) (past : List Line) (stamp : Stamp) (node : Node) (e : Entry) → Allowed head past (turn stamp node) e → Grown head past → (d : Deed) → (Acted past d → IsAnswered past d) → (Acted past d → Counts head.osts (only 0 past) d) → Acted (line (turn stamp node) e ∷ past) d → IsAnswered (line (turn stamp node) e ∷ past) d
 keeps_answered head past stamp (Target t) (Send (Client c) (message.Reply k)) a g d h n i =
     subst (λ (v : ℕ). IsAnswered (line (turn stamp (Target v)) (Send (Client c) (message.Reply k)) ∷ past) d) (sym a.ok.0)
     (inr (sends_reply head past stamp c k (subst (λ (v : ℕ). Allowed head past (turn stamp (Target v)) (Send (Client c) (message.Reply k))) a.ok.0 a) g d (h i) i (n i)))
 keeps_answered head past stamp (Target t) (Send (Client c) (message.Block who boot cookie)) a g d h n i =
-    ⊎_elim (λ (did : Did past d). absurd (did_owes past (turn stamp (Target t)) d (Send (Client c) (message.Block who boot cookie)) did a.owes)) (λ (last : IsLast past d). inr last) (h i)
+    ⊎_elim (λ (did : Did past d). absurd (owed past (turn stamp (Target t)) d (Send (Client c) (message.Block who boot cookie)) did a.owes)) (λ (last : IsLast past d). inr last) (h i)
 keeps_answered head past stamp (Target t) (Send (Client c) (message.Ready who boot number)) a g d h n i =
-    ⊎_elim (λ (did : Did past d). absurd (did_owes past (turn stamp (Target t)) d (Send (Client c) (message.Ready who boot number)) did a.owes)) (λ (last : IsLast past d). inr last) (h i)
+    ⊎_elim (λ (did : Did past d). absurd (owed past (turn stamp (Target t)) d (Send (Client c) (message.Ready who boot number)) did a.owes)) (λ (last : IsLast past d). inr last) (h i)
 keeps_answered head past stamp (Target t) (Send (Client c) (message.Evicted who boot)) a g d h n i =
-    ⊎_elim (λ (did : Did past d). absurd (did_owes past (turn stamp (Target t)) d (Send (Client c) (message.Evicted who boot)) did a.owes)) (λ (last : IsLast past d). inr last) (h i)
+    ⊎_elim (λ (did : Did past d). absurd (owed past (turn stamp (Target t)) d (Send (Client c) (message.Evicted who boot)) did a.owes)) (λ (last : IsLast past d). inr last) (h i)
 keeps_answered head past stamp (Target t) (Send (Client c) (message.Up boot)) a g d h n i =
-    ⊎_elim (λ (did : Did past d). absurd (did_owes past (turn stamp (Target t)) d (Send (Client c) (message.Up boot)) did a.owes)) (λ (last : IsLast past d). inr last) (h i)
+    ⊎_elim (λ (did : Did past d). absurd (owed past (turn stamp (Target t)) d (Send (Client c) (message.Up boot)) did a.owes)) (λ (last : IsLast past d). inr last) (h i)
 keeps_answered head past stamp (Target t) (Send to m) a g d h n i = absurd a.ok
 keeps_answered head past stamp (Client c) (Send (Target t) (message.Request r)) a g d h n i =
-    ⊎_elim (λ (did : Did past d). absurd (did_owes past (turn stamp (Client c)) d (Send (Target t) (message.Request r)) did a.owes)) (λ (last : IsLast past d). inr last) (h i)
+    ⊎_elim (λ (did : Did past d). absurd (owed past (turn stamp (Client c)) d (Send (Target t) (message.Request r)) did a.owes)) (λ (last : IsLast past d). inr last) (h i)
 keeps_answered head past stamp (Client c) (Send (Target t) (message.Cancel who boot cookie)) a g d h n i =
-    ⊎_elim (λ (did : Did past d). absurd (did_owes past (turn stamp (Client c)) d (Send (Target t) (message.Cancel who boot cookie)) did a.owes)) (λ (last : IsLast past d). inr last) (h i)
+    ⊎_elim (λ (did : Did past d). absurd (owed past (turn stamp (Client c)) d (Send (Target t) (message.Cancel who boot cookie)) did a.owes)) (λ (last : IsLast past d). inr last) (h i)
 keeps_answered head past stamp (Client c) (Send (Target t) (message.Join who boot)) a g d h n i =
-    ⊎_elim (λ (did : Did past d). absurd (did_owes past (turn stamp (Client c)) d (Send (Target t) (message.Join who boot)) did a.owes)) (λ (last : IsLast past d). inr last) (h i)
+    ⊎_elim (λ (did : Did past d). absurd (owed past (turn stamp (Client c)) d (Send (Target t) (message.Join who boot)) did a.owes)) (λ (last : IsLast past d). inr last) (h i)
 keeps_answered head past stamp (Client c) (Send (Target t) (message.Replay r)) a g d h n i =
-    ⊎_elim (λ (did : Did past d). absurd (did_owes past (turn stamp (Client c)) d (Send (Target t) (message.Replay r)) did a.owes)) (λ (last : IsLast past d). inr last) (h i)
+    ⊎_elim (λ (did : Did past d). absurd (owed past (turn stamp (Client c)) d (Send (Target t) (message.Replay r)) did a.owes)) (λ (last : IsLast past d). inr last) (h i)
 keeps_answered head past stamp (Client c) (Send (Target t) (message.Lock r)) a g d h n i =
-    ⊎_elim (λ (did : Did past d). absurd (did_owes past (turn stamp (Client c)) d (Send (Target t) (message.Lock r)) did a.owes)) (λ (last : IsLast past d). inr last) (h i)
+    ⊎_elim (λ (did : Did past d). absurd (owed past (turn stamp (Client c)) d (Send (Target t) (message.Lock r)) did a.owes)) (λ (last : IsLast past d). inr last) (h i)
 keeps_answered head past stamp (Client c) (Send (Target t) (message.Word who boot replays locks seen)) a g d h n i =
-    ⊎_elim (λ (did : Did past d). absurd (did_owes past (turn stamp (Client c)) d (Send (Target t) (message.Word who boot replays locks seen)) did a.owes)) (λ (last : IsLast past d). inr last) (h i)
+    ⊎_elim (λ (did : Did past d). absurd (owed past (turn stamp (Client c)) d (Send (Target t) (message.Word who boot replays locks seen)) did a.owes)) (λ (last : IsLast past d). inr last) (h i)
 keeps_answered head past stamp (Client c) (Send to m) a g d h n i = absurd a.ok
 keeps_answered head past stamp (Client c) (Act e) a g d h n i = absurd a.ok
 keeps_answered head past stamp (Client c) (Made e) a g d h n i = absurd a.ok
 keeps_answered head past stamp (Target t) (Act e) a g d h n i = ⊎_elim
     (λ (same : e ≡ d). inl same)
-    (λ (b : Acted past d). ⊎_elim (λ (did : Did past d). absurd (did_owes past (turn stamp (Target t)) d (Act e) did a.owes)) (λ (last : IsLast past d). inr last) (h b))
+    (λ (b : Acted past d). ⊎_elim (λ (did : Did past d). absurd (owed past (turn stamp (Target t)) d (Act e) did a.owes)) (λ (last : IsLast past d). inr last) (h b))
     i
 keeps_answered head past stamp (Target t) (Made e) a g d h n i = ⊎_elim
     (λ (same : e ≡ d). inl same)
-    (λ (b : Acted past d). ⊎_elim (λ (did : Did past d). absurd (did_owes past (turn stamp (Target t)) d (Made e) did a.owes)) (λ (last : IsLast past d). inr last) (h b))
+    (λ (b : Acted past d). ⊎_elim (λ (did : Did past d). absurd (owed past (turn stamp (Target t)) d (Made e) did a.owes)) (λ (last : IsLast past d). inr last) (h b))
     i
 keeps_answered head past stamp node (Grant lock asked) a g d h n i = h i
-keeps_answered head past stamp node e a g d h n i = ⊎_elim (λ (did : Did past d). absurd (did_owes past (turn stamp node) d e did a.owes)) (λ (last : IsLast past d). inr last) (h i)
+keeps_answered head past stamp node e a g d h n i = ⊎_elim (λ (did : Did past d). absurd (owed past (turn stamp node) d e did a.owes)) (λ (last : IsLast past d). inr last) (h i)
 
 -- what was done and counts was answered, but for what was just done
 pub all_answered : (head : Head) (past : List Line) → Grown head past → (d : Deed) → Acted past d → Counts head.osts (only 0 past) d → IsAnswered past d
@@ -224,7 +215,7 @@ answers_again head past at t c k g reply ok =
     }
   where
     own : (same_life ok.request.who ok.request.who && nat_eq ok.request.xid.0 ok.request.xid.0) ≡ true
-    own = rw (same_life_self ok.request.who, self ok.request.xid.0) refl
+    own = rw (life_self ok.request.who, self ok.request.xid.0) refl
 
 -- a reply to what was just done is executed in its turn
 executed_now : (past : List Line) (at : At) (k : ReplyTo) → k.at ≡ at → is_executed (printed past) at k ≡ true
@@ -236,7 +227,7 @@ reply_again head past stamp t c k a g =
     let at = turn stamp (Target t) in
     λ not_executed. ⊎_elim
     (λ (f : (d : Deed) × Did past d × (d.reply ≡ a.ok.1.kept)).
-    let pays = did_owes past at f.0 (Send (Client c) (message.Reply k)) f.1 a.owes in
+    let pays = owed past at f.0 (Send (Client c) (message.Reply k)) f.1 a.owes in
     let e = executed_now past at k (ap (λ (v : ReplyTo). v.at) pays.0 ∙ pays.1) in
     absurd (cc))
     (λ (taken : Taken past).

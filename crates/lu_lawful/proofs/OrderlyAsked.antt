@@ -33,11 +33,11 @@ use Rattle.lu_laws.proofs.Tests.{settled}
 use Rattle.lu_guards.proofs.Guards.{In, TookNow}
 use Rattle.lu_guards.proofs.StoryGuards.{IsServing, ReplyOk, BootOk}
 use Rattle.lu_guards.proofs.Grown.{Allowed, Grown}
-use Rattle.lu_guards.proofs.Lists.{self, in_append, in_filter, in_filtered, life_is}
+use Rattle.lu_guards.proofs.Lists.{self, in_append, in_filter, in_filtered, life_is, life_self}
 use Rattle.lu_guards.proofs.Parts.{waiting_is}
+use Rattle.lu_guards.proofs.Turns.{IsNoClose}
 use Rattle.lu_facts.proofs.Groups.{turn, Phase}
 use Rattle.lu_facts.proofs.All.{holds}
-use Rattle.lu_lawful.proofs.Turns.{same_life_self}
 use Rattle.lu_lawful.proofs.Story.{about_it}
 use Rattle.lu_lawful.proofs.Lines.{Keeps, holds_before}
 use Rattle.lu_lawful.proofs.KeptReplies.{replied_acted}
@@ -59,16 +59,12 @@ AllUnanswered past = (r : RequestOf) → In r (waiting_at 0 past) → Unanswered
 boot_unserved : (head : Head) (past : List Line) (stamp : Stamp) (t b : ℕ) (disk : Disk) → BootOk head past b disk → Phase head.osts past → IsServing head.osts (line (turn stamp (Target t)) (Boot b disk) ∷ past) → ⊥
 boot_unserved head past stamp t b disk ok p s = let closed = s.closed in let under = p.under in let next = ok.next in omega (arith, closed, under, next)
 
-abbrev NotClose : Entry → Type 0
-NotClose (Close o) = ⊥
-NotClose _ = Unit {0}
-
-served_before : (head : Head) (past : List Line) (stamp : Stamp) (node : Node) (e : Entry) → NotClose e → Allowed head past (turn stamp node) e → Grown head past → IsServing head.osts (only 0 (line (turn stamp node) e ∷ past)) → IsServing head.osts (only 0 past)
+served_before : (head : Head) (past : List Line) (stamp : Stamp) (node : Node) (e : Entry) → IsNoClose e → Allowed head past (turn stamp node) e → Grown head past → IsServing head.osts (only 0 (line (turn stamp node) e ∷ past)) → IsServing head.osts (only 0 past)
 served_before head past stamp node e n a g s =
     cond_both (concerns 0 node e) (line (turn stamp node) e ∷ only 0 past) (only 0 past) (λ (p : List Line). IsServing head.osts p → IsServing head.osts (only 0 past))
     (λ q v. by node e n a q v) (λ q v. v) s
   where
-    by : (node : Node) (e : Entry) → NotClose e → Allowed head past (turn stamp node) e → concerns 0 node e ≡ true → IsServing head.osts (line (turn stamp node) e ∷ only 0 past) → IsServing head.osts (only 0 past)
+    by : (node : Node) (e : Entry) → IsNoClose e → Allowed head past (turn stamp node) e → concerns 0 node e ≡ true → IsServing head.osts (line (turn stamp node) e ∷ only 0 past) → IsServing head.osts (only 0 past)
     by (Target u) Crash n a q v = let up = v.up in absurd (cc)
     by (Target u) (Boot b disk) n a q v = absurd (boot_unserved head (only 0 past) stamp u b disk (a.of 0 q) ((holds head past g).at 0).phase v)
     by node (Close o) n a q v = absurd n
@@ -77,7 +73,7 @@ served_before head past stamp node e n a g s =
     by _ _ n a q v = v
 
 its_own : (r : RequestOf) → is_request r.who r.xid.0 r ≡ true
-its_own r = rw (same_life_self r.who, self r.xid.0) refl
+its_own r = rw (life_self r.who, self r.xid.0) refl
 
 -- ---- a message is taken
 

@@ -40,10 +40,11 @@ use Rattle.lu_facts.proofs.All.{holds}
 use Rattle.lu_facts.proofs.CloseFacts.{Closing, closing}
 use Rattle.lu_facts.proofs.SlotLists.{NoneFalls}
 use Rattle.lu_facts.proofs.Times.{upto_trans}
-use Rattle.lu_lawful.proofs.Turns.{same_turn_is, same_turn_self, steps_trans, later_before}
+use Rattle.lu_lawful.proofs.Turns.{same_turn_is, same_turn_self, steps_trans}
 use Rattle.lu_lawful.proofs.Lines.{Keeps, after_line, shown, holds_due}
 use Rattle.lu_lawful.proofs.CloseLines.{turned, StandFirst, RestStands, rest_none, rest_before}
 use Rattle.lu_lawful.proofs.Commits.{told_committed}
+use Rattle.lu_lawful.proofs.CloseTurn.{not_later}
 use Rattle.lu_lawful.proofs.OrderlyQuiet.{Says}
 
 -- ---- the later lines stand in the order of their turns
@@ -97,15 +98,6 @@ turn_upto head t (l ∷ past) a b g turned s = by (concerns t l.at.node l.entry)
   where
     by : (c : Bool) → IsTurnOf (if c then l ∷ only t past else only t past) a → (IsTurnOf (only t past) a → Upto a b) → Upto a b
     by true q h = subst (λ (v : At). Upto v b) q s
-    by false q h = h q
-
--- a turn to come isn't that of the target's newest line
-not_later : (head : Head) (t : ℕ) (past : List Line) (a : At) → Grown head past → IsTurnOf (only t past) a → Later past a → ⊥
-not_later head t [] a g turned later = turned
-not_later head t (l ∷ past) a g turned later = by (concerns t l.at.node l.entry) turned (λ q. not_later head t past a g.1 q (later_before l past a g.0.steps later))
-  where
-    by : (c : Bool) → IsTurnOf (if c then l ∷ only t past else only t past) a → (IsTurnOf (only t past) a → ⊥) → ⊥
-    by true q h = turn_irreflexive a (subst (λ (v : At). turn_before v a ≡ true) q later)
     by false q h = h q
 
 -- ---- the numbers that are kept

@@ -1,18 +1,16 @@
 -- What every covered run keeps of what a close shows: a transaction that it keeps was replayed, a lock that it restores was handed in, and a life
 -- that it gives a slot asked to join, each since the target's last boot and under that boot; and all of it stands in the turn of the close.
 use Rattle.std.proofs.Common.{◌≡◌, ℕ, Bool, true, false, List, [], ◌∷◌, Option, Some, None, ◌⊎◌, inl, inr, ⊎_elim, refl, sym, subst, ap, ◌∙◌, arith}
-use Rattle.std.specs.Prelude.{nat_eq, nat_lt, ◌&&◌, if◌then◌else◌}
+use Rattle.std.specs.Prelude.{nat_eq, ◌&&◌, if◌then◌else◌}
 use Rattle.std.specs.List.{list_any}
 use Rattle.std.proofs.lemmas.Bool.{and_parts, eqb-true, eq-eqb}
 use Rattle.lu_base.specs.declared.ids.At.{At}
-use Rattle.lu_base.specs.declared.ids.Cookie.{Cookie}
 use Rattle.lu_base.specs.declared.ids.Node.{Node}
 use Rattle.lu_base.specs.declared.ids.Node.TheVariants.{Client, Target}
 use Rattle.lu_base.specs.declared.ids.Stamp.{Stamp}
 use Rattle.lu_base.specs.declared.ids.Who.{Who}
 use Rattle.lu_base.specs.declared.locks.Cause.{Cause}
 use Rattle.lu_base.specs.declared.locks.Lock.{Lock}
-use Rattle.lu_lock.specs.Conflict.{conflicts_with_any}
 use Rattle.lu_msg.specs.declared.messages.LockReplay.{LockReplay}
 use Rattle.lu_msg.specs.declared.messages.Message.{Message}
 use Rattle.lu_msg.specs.declared.messages.Message.TheVariants as message
@@ -26,8 +24,6 @@ use Rattle.lu_words.specs.Words.{Entry, Send, Take, Boot, Close, Kept as Keeps_,
 use Rattle.lu_words.specs.Concerns.{concerns, only}
 use Rattle.lu_words.specs.Printed.{printed}
 use Rattle.lu_target_rows.specs.Kept.{replayed}
-use Rattle.lu_target_rows.specs.Replies.{locks_on, asks_of}
-use Rattle.lu_target_rows.specs.Outcomes.{restored}
 use Rattle.lu_target_rows.specs.Recovery.{kept_lines, restore_lines}
 use Rattle.lu_target_rows.specs.Windows.{Replayed, placed, replay_before, brought_before, with_wish}
 use Rattle.lu_covered.specs.TargetStates.{server_of, replays_of, brought_of, wishes_of}
@@ -51,9 +47,11 @@ use Rattle.lu_guards.proofs.ClientLocks.{any_passes}
 use Rattle.lu_guards.proofs.Grown.{Allowed, Grown, GrownOf}
 use Rattle.lu_guards.proofs.Lists.{self, in_filter, life_is, life_self}
 use Rattle.lu_guards.proofs.Only.{grown_of, was_only}
+use Rattle.lu_guards.proofs.CloseLists.{in_wish, in_restored}
 use Rattle.lu_facts.proofs.Groups.{turn, HasSlot, HoldsAt}
 use Rattle.lu_facts.proofs.All.{holds}
 use Rattle.lu_facts.proofs.CloseFacts.{closing}
+use Rattle.lu_facts.proofs.LocksHeard.{numbered}
 use Rattle.lu_lawful.proofs.Turns.{same_turn_self}
 use Rattle.lu_lawful.proofs.Lines.{Keeps, holds_before, Nothing}
 use Rattle.lu_lawful.proofs.Taking.{taken_of, handed_is, boot_of}
@@ -134,17 +132,6 @@ in_placed {A} before x y (z ∷ zs) i = by (before y z) i (in_placed before x y 
     by true i h = i
     by false (inl e) h = inr (inl e)
     by false (inr i) h = ⊎_elim (λ (e : y ≡ x). inl e) (λ (j : In x zs). inr (inr j)) (h i)
-
-in_wish : (x w : Who) (ws : List Who) → In x (with_wish w ws) → (w ≡ x) ⊎ In x ws
-in_wish x w [] i = i
-in_wish x w (v ∷ ws) i = by (nat_eq w.client v.client) (nat_lt w.client v.client) i (in_wish x w ws)
-  where
-    by : (a b : Bool) → In x (if a then w ∷ ws else if b then w ∷ v ∷ ws else v ∷ with_wish w ws) → (In x (with_wish w ws) → (w ≡ x) ⊎ In x ws) → (w ≡ x) ⊎ In x (v ∷ ws)
-    by true b (inl e) h = inl e
-    by true b (inr i) h = inr (inr i)
-    by false true i h = i
-    by false false (inl e) h = inr (inl e)
-    by false false (inr i) h = ⊎_elim (λ (e : w ≡ x). inl e) (λ (j : In x ws). inr (inr j)) (h i)
 
 took_among : (past : List Line) (stamp : Stamp) (t : ℕ) (from : Node) (m : Message) → TookNow past (turn stamp (Target t)) from m → In m (taken_of past)
 took_among [] stamp t from m k = absurd k
@@ -249,9 +236,6 @@ found_lock b who cookie l (m ∷ ms) all r i x y z = by m (λ k j. all k (inl j)
     by m is (inl j) h = absurd (cc)
     by m is (inr j) h = h j
 
-abbrev cookie_as : ℕ → Cookie
-cookie_as n = record { 0 = n }
-
 -- what is brought was handed in, and what else was handed in of its life and cookie is the same
 brought_found : (head : Head) (t : ℕ) (past : List Line) → Grown head past → IsRecovering head.osts (only t past) → (l : Lock) → In l (brought_of (only t past))
     → lock_in (server_of head.osts (only t past)).boot l.ask.who l.cookie.0 (taken_of (only t past)) ≡ Some l
@@ -271,7 +255,7 @@ brought_found head t past g rec l i =
         let mine = h.recovers.brought rec l i in
         let told = h.recovers.told was.0 (Target t) (message.Lock r) was.1 rec (omega (arith, present)) (subst (λ (w : Who). HasSlot head.clients (only t past) w) (sym who) mine.0) in
         let lock = told.0 in
-        let same : lock.cookie ≡ l.cookie = ap (λ (v : LockReplay). v.cookie) (sym told.3) ∙ ap cookie_as cookie in
+        let same : lock.cookie ≡ l.cookie = ap (λ (v : LockReplay). v.cookie) (sym told.3) ∙ ap numbered cookie in
         let one = h.locks.once told.1.0.0 mine.2.0.0 lock l told.1.0.1 mine.2.0.1 same in
         ap (λ (v : LockReplay). lock_of v) told.3
         ∙ ap (λ (w : Who). record lock { ask = record lock.ask { who = w } }) (sym told.2)
@@ -313,20 +297,10 @@ joined_in_lines P o (w ∷ ws) of send e (inl q) = subst P q (of w (inl refl))
 joined_in_lines P o (w ∷ ws) of send e (inr (inl q)) = subst P q (send (Client w.client) _)
 joined_in_lines P o (w ∷ ws) of send e (inr (inr i)) = joined_in_lines P o ws (λ k j. of k (inr j)) send e i
 
--- what is restored was brought
-restored_brought : (before ls : List Lock) (l : Lock) → In l (restored before ls) → In l ls
-restored_brought before [] l i = i
-restored_brought before (k ∷ ls) l i = by (conflicts_with_any k.ask (asks_of (locks_on k.resource before))) i (restored_brought before ls l) (restored_brought (k ∷ before) ls l)
-  where
-    by : (c : Bool) → In l (if c then restored before ls else k ∷ restored (k ∷ before) ls) → (In l (restored before ls) → In l ls) → (In l (restored (k ∷ before) ls) → In l ls) → In l (k ∷ ls)
-    by true i f g = inr (f i)
-    by false (inl e) f g = inl e
-    by false (inr i) f g = inr (g i)
-
 lock_brought : (head : Head) (past : List Line) (at : At) (o : Outcome) → CloseOk head past at o → (l : Lock) → In l o.locks → In l (brought_of past)
 lock_brought head past at o ok l i =
     let j : In l (outcome_of head.osts head.clients at past).locks = subst (λ (v : Outcome). In l v.locks) ok.is i in
-    (in_filter _ l (brought_of past) (restored_brought [] _ l j)).0
+    (in_filter _ l (brought_of past) (in_restored [] _ l j)).0
 
 module _ (head : Head) (t : ℕ) (past : List Line) (g : Grown head past) where
   abbrev P : List Line

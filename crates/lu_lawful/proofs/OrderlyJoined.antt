@@ -36,13 +36,14 @@ use Rattle.lu_guards.proofs.StoryGuards.{CloseOk, JoinedOk, ComesOk, EntryOf}
 use Rattle.lu_guards.proofs.ClientLocks.{any_passes}
 use Rattle.lu_guards.proofs.Grown.{Allowed, Grown, GrownOf}
 use Rattle.lu_guards.proofs.LifeLists.{stands_life, life_put, none_is}
-use Rattle.lu_guards.proofs.Lists.{self, life_self, turn_trans, turn_irreflexive}
+use Rattle.lu_guards.proofs.Lists.{self, life_self, turn_trans}
 use Rattle.lu_guards.proofs.Only.{grown_of}
+use Rattle.lu_guards.proofs.Ends.{none_took}
 use Rattle.lu_facts.proofs.Groups.{turn, Had, Evicted, Upto, HoldsAt}
 use Rattle.lu_facts.proofs.All.{holds, holds_at}
 use Rattle.lu_facts.proofs.CloseFacts.{closing}
 use Rattle.lu_facts.proofs.LifeLists.{older_than}
-use Rattle.lu_lawful.proofs.Turns.{steps_trans, later_before}
+use Rattle.lu_lawful.proofs.Turns.{steps_trans}
 use Rattle.lu_lawful.proofs.Lines.{Keeps, holds_before, Nothing}
 use Rattle.lu_lawful.proofs.Taking.{taken_of, boot_of}
 use Rattle.lu_lawful.proofs.Printed.{flip, took_whole}
@@ -58,16 +59,6 @@ later_upto : (past : List Line) (a b : At) → Later past a → Upto a b → Lat
 later_upto [] a b later u = tt
 later_upto (l ∷ past) a b later (inl e) = subst (λ (v : At). turn_before l.at v ≡ true) e later
 later_upto (l ∷ past) a b later (inr e) = turn_trans l.at a b later e
-
--- a turn to come has taken nothing
-untook : (head : Head) (past : List Line) (at : At) (from : Node) (m : Message) → Grown head past → Later past at → Took past at from m → ⊥
-untook head [] at from m g later t = t
-untook head (l ∷ past) at from m g later t = by l.entry t (untook head past at from m g.1 (later_before l past at g.0.steps later))
-  where
-    by : (e : Entry) → Took (line l.at e ∷ past) at from m → (Took past at from m → ⊥) → ⊥
-    by (Take n sender k) (inl p) h = turn_irreflexive at (subst (λ (v : At). turn_before v at ≡ true) p.0 later)
-    by (Take n sender k) (inr q) h = h q
-    by e q h = h q
 
 took_since : (head : Head) (t : ℕ) (past : List Line) (at : At) (from : Node) (m : Message) → Grown head past → Steps past at → at.node ≡ Target t → Took past at from m → In m (taken_of (only t past))
 took_since head t [] at from m g s n k = absurd k
@@ -88,7 +79,7 @@ took_since head t (l ∷ past) at from m g s n k = on l.at.node l.entry (concern
     on (Client d) (Take x sender k) b c ok s (inl p) h = absurd (let e : Client d ≡ Target t = ap (λ (v : At). v.node) p.0 ∙ n in cc)
     on (Client d) (Take x sender k) true c ok s (inr q) h = h q
     on (Client d) (Take x sender k) false c ok s (inr q) h = h q
-    on (Target u) (Boot b disk) true c ok s q h = absurd (untook head past at from m g.1 (later_upto past (turn l.at.stamp (Target u)) at ok s) q)
+    on (Target u) (Boot b disk) true c ok s q h = absurd (none_took head past at from m g.1 (later_upto past (turn l.at.stamp (Target u)) at ok s) q)
     on (Target u) (Boot b disk) false c ok s q h = h q
     on (Client d) e true c ok s q h = h q
     on (Client d) e false c ok s q h = h q

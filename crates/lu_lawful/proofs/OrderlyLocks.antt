@@ -1,7 +1,7 @@
 -- What every covered run keeps of locks: what is held came in its turn, what is released was given back in its turn or its life was
 -- evicted there, and what is called back is granted, wasn't called back before, and guards what a request that waits would write.
-use Rattle.std.proofs.Common.{◌≡◌, ℕ, suc, ◌+◌, ◌<◌, ◌≤◌, Bool, true, false, List, [], ◌∷◌, ◌++◌, inl, inr, ⊎_elim, Option, Some, None, refl, sym, subst, ap, ◌∙◌, arith}
-use Rattle.std.specs.Prelude.{nat_eq, not, max, ◌&&◌, if◌then◌else◌, unwrap_or, filter, find}
+use Rattle.std.proofs.Common.{◌≡◌, ℕ, suc, ◌≤◌, Bool, true, false, List, [], ◌∷◌, ◌++◌, inl, inr, ⊎_elim, Option, Some, None, refl, sym, subst, ap, ◌∙◌, arith}
+use Rattle.std.specs.Prelude.{nat_eq, not, ◌&&◌, if◌then◌else◌, unwrap_or, filter, find}
 use Rattle.std.specs.List.{list_any}
 use Rattle.std.proofs.lemmas.Bool.{and_parts, cond_both, cond-true, eqb-true, eq-eqb, true≢false}
 use Rattle.std.proofs.lemmas.Bool.Decides.{nat_tests}
@@ -18,7 +18,6 @@ use Rattle.lu_msg.specs.declared.messages.Message.TheVariants as message
 use Rattle.lu_msg.specs.declared.messages.Reply.{Reply as ReplyTo}
 use Rattle.lu_msg.specs.declared.messages.Request.{Request as RequestOf}
 use Rattle.lu_part.specs.declared.parts.Part.{Part}
-use Rattle.lu_part.specs.declared.parts.Want.{Want}
 use Rattle.lu_machine.specs.Tree.{same_life}
 use Rattle.lu_machine.specs.Footprint.{Operation, writes}
 use Rattle.lu_machine.proofs.Numbers.{number_is_free}
@@ -29,7 +28,6 @@ use Rattle.lu_words.specs.Concerns.{concerns, only}
 use Rattle.lu_words.specs.Printed.{printed}
 use Rattle.lu_target_rows.specs.Lives.{is_life}
 use Rattle.lu_target_rows.specs.Locks.{with_locks, without_lock, locks_without, called_without}
-use Rattle.lu_target_rows.specs.Names.{locks_from}
 use Rattle.lu_target_rows.specs.Objects.{lock_of}
 use Rattle.lu_target_rows.specs.Phase.{first_of, greatest_cookie}
 use Rattle.lu_target_rows.specs.Replies as rows
@@ -53,12 +51,14 @@ use Rattle.lu_laws.proofs.Tests.{clash, either_left, either_right}
 use Rattle.lu_guards.proofs.Guards.{In, Was, Did, HeardNow, TookNow, TookBack, InTurn, IsEvict}
 use Rattle.lu_guards.proofs.StoryGuards.{IsServing, IsRecovering, BlockOk, BackOk, LeftOk, EntryOf}
 use Rattle.lu_guards.proofs.Grown.{Allowed, Grown}
-use Rattle.lu_guards.proofs.Lists.{self, in_left, in_right, in_filter, in_filtered}
+use Rattle.lu_guards.proofs.Lists.{self, in_left, in_right, in_filter, in_filtered, life_self}
 use Rattle.lu_guards.proofs.Only.{sent_was}
 use Rattle.lu_guards.proofs.Parts.{boot_is as server_boot, granted_is, cookie_is, called_is, waiting_is, server_is}
 use Rattle.lu_facts.proofs.Groups.{turn}
+use Rattle.lu_facts.proofs.LockLists.{withs_in}
+use Rattle.lu_facts.proofs.LocksHeard.{numbered}
 use Rattle.lu_facts.proofs.All.{holds}
-use Rattle.lu_lawful.proofs.Turns.{same_turn_self, same_life_self}
+use Rattle.lu_lawful.proofs.Turns.{same_turn_self}
 use Rattle.lu_lawful.proofs.Story.{about_it, was_story}
 use Rattle.lu_lawful.proofs.Lines.{Keeps, holds_before, Nothing}
 use Rattle.lu_lawful.proofs.Printed.{flip, present_is}
@@ -66,35 +66,35 @@ use Rattle.lu_lawful.proofs.Taking.{boot_of, closed_now}
 use Rattle.lu_lawful.proofs.Contents.{contents_alike}
 use Rattle.lu_lawful.proofs.Once.{all_asked}
 use Rattle.lu_lawful.proofs.Given.{owed, Showed}
-use Rattle.lu_lawful.proofs.Granted.{in_with_locks, granted_showed, all_granted, granted_shown, JustGave}
+use Rattle.lu_lawful.proofs.Granted.{granted_showed, all_granted, granted_shown, JustGave}
 use Rattle.lu_lawful.proofs.Evictions.{in_whole}
 use Rattle.lu_lawful.proofs.Holding.{heard_now, unique}
 use Rattle.lu_lawful.proofs.CloseLines.{nothing_left}
 use Rattle.lu_lawful.proofs.CloseSlots.{NoneLeft}
+use Rattle.lu_lawful.proofs.Notices.{on_way}
 use Rattle.lu_lawful.proofs.OrderlyQuiet.{Says}
 use Rattle.lu_lawful.proofs.OrderlySaid.{takes_it}
 use Rattle.lu_lawful.proofs.OrderlyAsked.{all_unanswered}
 use Rattle.lu_guards.proofs.ClientLocks.{any_passes}
+use Rattle.lu_guards.proofs.LockLists.{greatest_least}
+use Rattle.lu_guards.proofs.ClientLines.{from_high}
 
 -- ---- what is held came in this turn
 
-abbrev taking : (from to : Node) → Message → Sending
-taking from to m = record { from = from; to = to; message = m }
-
 -- the reply that was just heard was taken
-heard_taken : (head : Head) (past : List Line) (at : At) (t : ℕ) (f : Flight) (r : ReplyTo) → Grown head past → HeardNow past at t f r → (rest : List Sending) × (taken (printed past) at ≡ taking (Target t) at.node (message.Reply r) ∷ rest)
+heard_taken : (head : Head) (past : List Line) (at : At) (t : ℕ) (f : Flight) (r : ReplyTo) → Grown head past → HeardNow past at t f r → (rest : List Sending) × (taken (printed past) at ≡ on_way (Target t) at.node (message.Reply r) ∷ rest)
 heard_taken head [] at t f r g h = absurd h
 heard_taken head (l ∷ past) at t f r g h = by l.at.node l.entry g.0 h (heard_taken head past at t f r g.1)
   where
     by : (node : Node) (e : Entry) → Allowed head past (turn l.at.stamp node) e → HeardNow (line (turn l.at.stamp node) e ∷ past) at t f r
-        → (HeardNow past at t f r → (rest : List Sending) × (taken (printed past) at ≡ taking (Target t) at.node (message.Reply r) ∷ rest))
-        → (rest : List Sending) × (taken (printed (line (turn l.at.stamp node) e ∷ past)) at ≡ taking (Target t) at.node (message.Reply r) ∷ rest)
+        → (HeardNow past at t f r → (rest : List Sending) × (taken (printed past) at ≡ on_way (Target t) at.node (message.Reply r) ∷ rest))
+        → (rest : List Sending) × (taken (printed (line (turn l.at.stamp node) e ∷ past)) at ≡ on_way (Target t) at.node (message.Reply r) ∷ rest)
     by (Client d) (Heard u k s) a q h =
         let took = takes_it head past (turn l.at.stamp (Client d)) (Target u) (message.Reply s) g.1 a.ok.1 in (
           took.0,
-          subst (λ (v : At). taken (printed past) v ≡ taking (Target t) v.node (message.Reply r) ∷ took.0) q.0
-              (subst (λ (v : ℕ). taken (printed past) (turn l.at.stamp (Client d)) ≡ taking (Target v) (Client d) (message.Reply r) ∷ took.0) q.1
-              (subst (λ (v : ReplyTo). taken (printed past) (turn l.at.stamp (Client d)) ≡ taking (Target u) (Client d) (message.Reply v) ∷ took.0) q.3 took.1)),
+          subst (λ (v : At). taken (printed past) v ≡ on_way (Target t) v.node (message.Reply r) ∷ took.0) q.0
+              (subst (λ (v : ℕ). taken (printed past) (turn l.at.stamp (Client d)) ≡ on_way (Target v) (Client d) (message.Reply r) ∷ took.0) q.1
+              (subst (λ (v : ReplyTo). taken (printed past) (turn l.at.stamp (Client d)) ≡ on_way (Target u) (Client d) (message.Reply v) ∷ took.0) q.3 took.1)),
         )
     by (Target u) (Heard v k s) a q h = absurd a.ok
     by node (Hold u lock marked size seen) a q h = h q
@@ -109,9 +109,9 @@ hold_comes head past stamp c t lock marked size seen a g =
     let i = heard_now head past at c t a.ok.flight r g refl a.ok.heard in
     let took = heard_taken head past at t a.ok.flight r g a.ok.heard in
     let mine : r.who ≡ W = i.0.who ∙ sym (present_is head c past g) in
-    let own : same_life r.who W ≡ true = subst (λ (v : Who). same_life r.who v ≡ true) mine (same_life_self r.who) in
+    let own : same_life r.who W ≡ true = subst (λ (v : Who). same_life r.who v ≡ true) mine (life_self r.who) in
     let among : list_any (λ (l : Lock). nat_eq l.cookie.0 lock.cookie.0) r.locks ≡ true = any_passes (λ (l : Lock). nat_eq l.cookie.0 lock.cookie.0) lock r.locks a.ok.among (self lock.cookie.0) in
-    let brought : brings_from t W lock.cookie.0 (taking (Target t) (Client c) (message.Reply r)) ≡ true = rw (self t, own, either_right (grants lock.cookie.0 r.answer) among) refl in
+    let brought : brings_from t W lock.cookie.0 (on_way (Target t) (Client c) (message.Reply r)) ≡ true = rw (self t, own, either_right (grants lock.cookie.0 r.answer) among) refl in
     subst (λ (v : List Sending). list_any (brings_from t W lock.cookie.0) v ≡ true) (sym took.1) (either_left (list_any (brings_from t W lock.cookie.0) took.0) brought)
 
 held_at : (head : Head) (past : List Line) (l : Line) (later : List PrintedLine) → Allowed head past l.at l.entry → Grown head past → Keeps order.Held past l later
@@ -172,7 +172,7 @@ evict_in (l ∷ past) at who i = by l.entry i (evict_in past at who)
     by : (e : Entry) → InTurn (IsEvict who) (line l.at e ∷ past) at → (InTurn (IsEvict who) past at → has_ended (printed past) at who ≡ true) → has_ended (printed (line l.at e ∷ past)) at who ≡ true
     by (Evict other cause) (inl p) h =
         either_left (has_ended (printed past) at who)
-        (rw (subst (λ (v : At). same_turn l.at v ≡ true) p.0 (same_turn_self l.at), subst (λ (w : Who). same_life other w ≡ true) p.1 (same_life_self other)) refl)
+        (rw (subst (λ (v : At). same_turn l.at v ≡ true) p.0 (same_turn_self l.at), subst (λ (w : Who). same_life other w ≡ true) p.1 (life_self other)) refl)
     by (Evict other cause) (inr q) h = either_right (same_turn l.at at && same_life other who) (h q)
     by _ (inl p) h = absurd p.1
     by _ (inr q) h = h q
@@ -203,7 +203,7 @@ module _ (head : Head) (past : List Line) (stamp : Stamp) (t : ℕ) (lock : Lock
       let first : back.boot ≡ boot 0 (printed past) = grind (arith, nat_tests, high, now, current, is) in
       let took = takes_it head past here back.from (message.Cancel lock.ask.who back.boot lock.cookie) g back.took in
       let its : nat_eq back.boot (boot 0 (printed past)) ≡ true = subst (λ (v : ℕ). nat_eq back.boot v ≡ true) first (self back.boot) in
-      let cancels : is_cancel (boot 0 (printed past)) lock.ask.who lock.cookie.0 (message.Cancel lock.ask.who back.boot lock.cookie) ≡ true = rw (its, same_life_self lock.ask.who, self lock.cookie.0) refl in
+      let cancels : is_cancel (boot 0 (printed past)) lock.ask.who lock.cookie.0 (message.Cancel lock.ask.who back.boot lock.cookie) ≡ true = rw (its, life_self lock.ask.who, self lock.cookie.0) refl in
       either_left (has_ended (printed past) here lock.ask.who)
       (subst (λ (v : List Sending). list_any (λ (s : Sending). is_cancel (boot 0 (printed past)) lock.ask.who lock.cookie.0 s.message) v ≡ true) (sym took.1)
       (either_left (list_any (λ (s : Sending). is_cancel (boot 0 (printed past)) lock.ask.who lock.cookie.0 s.message) took.0) cancels))
@@ -232,9 +232,6 @@ pub releases : (head : Head) (past : List Line) → Grown head past → Holds Re
 releases head past g = holds_before head Releases Nothing (λ l past k. k) (λ past l later a g k. releases_at head past l later a g) past [] g tt
 
 -- ---- what was called back once
-
-abbrev cookie_of : ℕ → Cookie
-cookie_of n = record { 0 = n }
 
 -- the lock is among those called back, as one of its life
 abbrev pub Among : Lock → List Called → Type 0
@@ -286,15 +283,6 @@ none_called head (l ∷ past) g r k = by (concerns 0 l.at.node l.entry) refl r (
     by true c r h = on l.at.node l.entry (g.0.of 0 c) c r h
     by false c r h = off l.at.node l.entry c (h r)
 
-greatest_above : (n : ℕ) (ls : List Lock) → n ≤ greatest_cookie n ls
-greatest_above n [] = omega arith
-greatest_above n (l ∷ ls) = let le = greatest_above (max n l.cookie.0) ls in omega arith
-
-from_above : (n : ℕ) (who : Who) (ws : List Want) (l : Lock) → In l (locks_from n who ws) → n < l.cookie.0
-from_above n who [] l i = absurd i
-from_above n who (w ∷ ws) l (inl e) = let q : n + 1 ≡ l.cookie.0 = ap (λ (v : Lock). v.cookie.0) e in omega (arith, q)
-from_above n who (w ∷ ws) l (inr i) = let lt = from_above (n + 1) who ws l i in omega arith
-
 module _ (head : Head) (past : List Line) (g : Grown head past) where
   low : IsServing head.osts (only 0 past) → (l : Lock) → In l (server_of head.osts (only 0 past)).granted → l.cookie.0 ≤ cookie_at 0 past
   low serves l i =
@@ -310,13 +298,13 @@ module _ (head : Head) (past : List Line) (g : Grown head past) where
       let h = ((holds head past g).at 0).locks in
       let d = h.granted k i in
       let e = h.granted l j in
-      (h.once d.0 e.0 k l d.1 e.1 (ap cookie_of q)).1
+      (h.once d.0 e.0 k l d.1 e.1 (ap numbered q)).1
 
   called_act : (stamp : Stamp) (t : ℕ) (d : Deed) → Allowed head past (turn stamp (Target t)) (Act d) → AllCalled past → AllCalled (line (turn stamp (Target t)) (Act d) ∷ past)
   called_act stamp t d a h k e = (
-    cond_both (nat_eq 0 t) (greatest_cookie (cookie_at 0 past) d.reply.locks) (cookie_at 0 past) (λ (v : ℕ). k ≤ v) (λ t. let le = (h k e).0 in let up = greatest_above (cookie_at 0 past) d.reply.locks in omega arith) (λ t. (h k e).0),
+    cond_both (nat_eq 0 t) (greatest_cookie (cookie_at 0 past) d.reply.locks) (cookie_at 0 past) (λ (v : ℕ). k ≤ v) (λ t. let le = (h k e).0 in let up = greatest_least (cookie_at 0 past) d.reply.locks in omega arith) (λ t. (h k e).0),
     λ l. cond_both (nat_eq 0 t) (with_locks d.reply.locks (granted_at 0 past)) (granted_at 0 past) (λ (v : List Lock). In l v → l.cookie.0 ≡ k → Among l (called_at 0 past))
-        (λ t i q. ⊎_elim (λ (j : In l d.reply.locks). absurd (new l j q)) (λ (j : In l (granted_at 0 past)). (h k e).1 l j q) (in_with_locks d.reply.locks l (granted_at 0 past) i))
+        (λ t i q. ⊎_elim (λ (j : In l d.reply.locks). absurd (new l j q)) (λ (j : In l (granted_at 0 past)). (h k e).1 l j q) (withs_in d.reply.locks l (granted_at 0 past) i))
         (λ t i q. (h k e).1 l i q),
   )
     where
@@ -324,7 +312,7 @@ module _ (head : Head) (past : List Line) (g : Grown head past) where
       new l j q =
           let ok = a.of 0 (about_it t a.ok) in
           let v = server_of head.osts (only 0 past) in
-          let lt = from_above v.cookie ok.request.who _ l (subst (λ (ls : List Lock). In l ls) (ap (λ (f : Deed). f.reply.locks) ok.is) j) in
+          let lt = from_high v.cookie ok.request.who _ l (subst (λ (ls : List Lock). In l ls) (ap (λ (f : Deed). f.reply.locks) ok.is) j) in
           let le = (h k e).0 in
           let same = cookie_is head.osts 0 past in
           omega (arith, lt, le, same, q)

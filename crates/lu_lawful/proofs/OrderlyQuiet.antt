@@ -29,7 +29,7 @@ use Rattle.lu_guards.proofs.Only.{grown_of}
 use Rattle.lu_facts.proofs.Groups.{turn}
 use Rattle.lu_facts.proofs.All.{holds}
 use Rattle.lu_lawful.proofs.Printed.{flip}
-use Rattle.lu_lawful.proofs.Taking.{boot_of}
+use Rattle.lu_lawful.proofs.Taking.{boot_of, either_way}
 use Rattle.lu_lawful.proofs.Lines.{OfPrinted, Keeps, holds_before, Nothing}
 
 -- what a condition says of what is printed of an entry
@@ -45,10 +45,6 @@ stands_as true false = Recovers
 
 abbrev stands : ℕ → List Line → Phase
 stands osts past = stands_as (up_of past) (nat_eq (closed_of past) (server_of osts past).boot)
-
-either_way : {A : Type 0} (f : List Line → A) (l : Line) (past : List Line) (b : Bool) → f (l ∷ past) ≡ f past → f (if b then l ∷ past else past) ≡ f past
-either_way f l past true e = e
-either_way f l past false e = refl
 
 phase_is : (head : Head) (t : ℕ) (past : List Line) → Grown head past → phase t (printed past) ≡ stands head.osts (only t past)
 phase_is head t [] g = refl

@@ -4,7 +4,7 @@ use Rattle.std.proofs.Common.{◌≡◌, ℕ, Bool, true, false, List, [], ◌�
 use Rattle.std.specs.Prelude.{nat_eq, not, ◌&&◌, ◌||◌, if◌then◌else◌, is_some, filter}
 use Rattle.std.specs.List.{list_any}
 use Rattle.std.proofs.lemmas.Bool.Decides.{nat_tests}
-use Rattle.std.proofs.lemmas.Bool.{and_parts, cond_both, cond-true, eqb-true}
+use Rattle.std.proofs.lemmas.Bool.{and_parts, cond_both, cond-true, eqb-true, or_cases}
 use Rattle.lu_base.specs.declared.ids.At.{At}
 use Rattle.lu_base.specs.declared.ids.Cookie.{Cookie}
 use Rattle.lu_base.specs.declared.ids.Node.{Node}
@@ -41,14 +41,13 @@ use Rattle.lu_laws.specs.Order.Heard.{HeardAt, Heard}
 use Rattle.lu_laws.specs.Order.Answers.{none, AnswerOf, AnswerBy, Answers}
 use Rattle.lu_guards.proofs.Guards.{In, Was, TookNow}
 use Rattle.lu_guards.proofs.Grown.{Allowed, Grown}
-use Rattle.lu_guards.proofs.Lists.{self}
+use Rattle.lu_guards.proofs.Lists.{self, life_self}
 use Rattle.lu_guards.proofs.Parts.{life_is_of}
 use Rattle.lu_facts.proofs.Groups.{turn, Hears}
 use Rattle.lu_facts.proofs.All.{holds}
-use Rattle.lu_lawful.proofs.Turns.{same_turn_self, same_life_self}
+use Rattle.lu_lawful.proofs.Turns.{same_turn_self}
 use Rattle.lu_lawful.proofs.Story.{about_it}
 use Rattle.lu_lawful.proofs.Once.{acted_sent}
-use Rattle.lu_lawful.proofs.ActsLaw.{either}
 use Rattle.lu_laws.proofs.Tests.{settled, either_left, either_right}
 use Rattle.lu_lawful.proofs.Lines.{Keeps, holds_before, Nothing}
 use Rattle.lu_lawful.proofs.Facts.{AskedAt, AllAsked}
@@ -198,7 +197,7 @@ sent_flies (l ∷ past) who r from w s = by l.entry s (sent_flies past who r fro
     now =
         let flight = in_flight 0 who (printed past) in
         let heard = has_heard 0 who r.xid.0 (printed past) in
-        let mine : is_of 0 who (Target 0) r ≡ true = subst (λ (v : Who). same_life r.who v ≡ true) w (same_life_self r.who) in
+        let mine : is_of 0 who (Target 0) r ≡ true = subst (λ (v : Who). same_life r.who v ≡ true) w (life_self r.who) in
         asked_now flight heard r.xid.0 r refl (is_of 0 who (Target 0) r) (has_number r.xid.0 flight) mine refl heard
 
     by : (e : Entry) → Was (line l.at e ∷ past) from (Target 0) (message.Request r) → (Was past from (Target 0) (message.Request r) → FlownOr past who r.xid.0) → FlownOr (line l.at e ∷ past) who r.xid.0
@@ -233,7 +232,7 @@ life_heard head (l ∷ past) g who x i = by l.at.node l.entry g.0 i (life_heard 
     by (Client d) (Hears_ t f r) k i h = ⊎_elim
         (λ (p : (is_by who (printed past) (Client d) && nat_eq t 0 && nat_eq r.xid.0 x) ≡ true). here d t f r k p)
         (λ (p : has_heard 0 who x (printed past) ≡ true). hears_only (line (turn l.at.stamp (Client d)) (Hears_ t f r)) past who x (h p))
-        (either (is_by who (printed past) (Client d) && nat_eq t 0 && nat_eq r.xid.0 x) (has_heard 0 who x (printed past)) i)
+        (or_cases (is_by who (printed past) (Client d) && nat_eq t 0 && nat_eq r.xid.0 x) (has_heard 0 who x (printed past)) i)
     by node e k i h = hears_only (line (turn l.at.stamp node) e) past who x (h i)
 
 reply_heard : (head : Head) (past : List Line) (stamp : Stamp) (c t : ℕ) (f : Flight) (r : ReplyTo) → Allowed head past (turn stamp (Client c)) (Hears_ t f r) → Grown head past
@@ -244,7 +243,7 @@ reply_heard head past stamp c t f r a g =
     let h = (holds head past g).at 0 in
     let mine : r.who ≡ who_is c (printed past) = ok.who ∙ sym (life_is_of c 0 past) ∙ sym (present_is head c past g) in
     let took = takes_it head past at (Target t) (message.Reply r) g a.ok.1 in
-    let fits : as_reply t r.who r.xid.0 (Target t) (message.Reply r) ≡ Some r = by (same_life r.who r.who) (same_life_self r.who) in
+    let fits : as_reply t r.who r.xid.0 (Target t) (message.Reply r) ≡ Some r = by (same_life r.who r.who) (life_self r.who) in
     let m = h.done.sent (Target ok.from) (Client c) (message.Reply r) ok.was in
     let sent = acted_sent head past m.deed g (acted_whole 0 past m.deed m.acted) in
     let who : sent.0.who ≡ r.who = sent.2 ∙ ap (λ (v : ReplyTo). v.who) (sym m.is) in

@@ -2,7 +2,7 @@
 use Rattle.std.proofs.Common.{◌≡◌, ℕ, ◌+◌, Bool, true, false, List, [], ◌∷◌, Option, Some, None, inl, inr, ⊎_elim, refl, sym, subst, ap, ◌∙◌, arith}
 use Rattle.std.specs.Prelude.{nat_eq, ◌&&◌, ◌||◌, ◌≤◌, if◌then◌else◌, is_some}
 use Rattle.std.specs.Option.{option_map}
-use Rattle.std.proofs.lemmas.Bool.{and_parts, cond_both, eqb-true}
+use Rattle.std.proofs.lemmas.Bool.{and_parts, cond_both, eqb-true, or_right}
 use Rattle.std.proofs.lemmas.Bool.Decides.{nat_tests}
 use Rattle.lu_base.specs.declared.ids.At.{At}
 use Rattle.lu_base.specs.declared.ids.Node.{Node}
@@ -33,8 +33,9 @@ use Rattle.lu_laws.specs.Words.Calls as calls
 use Rattle.lu_laws.specs.Words.Requests.{is_of, first_request}
 use Rattle.lu_guards.proofs.Guards.{In, Was, Took, EntryOk}
 use Rattle.lu_guards.proofs.Grown.{Allowed, Grown}
-use Rattle.lu_guards.proofs.Lists.{self, life_is, who, or_right}
+use Rattle.lu_guards.proofs.Lists.{self, life_is, who}
 use Rattle.lu_guards.proofs.Parts.{life_is_of}
+use Rattle.lu_lawful.proofs.Turns.{same_node_self, same_turn_self}
 use Rattle.lu_facts.proofs.Groups.{turn}
 use Rattle.lu_guards.proofs.LifeLists.{any_with}
 
@@ -88,13 +89,6 @@ sending_is (l ∷ past) n from to m s = by l.entry (sending_is past n from to m)
         s
     by _ h s = h s
 
-same_node_self : (a : Node) → pasts.same_node a a ≡ true
-same_node_self (Client c) = self c
-same_node_self (Target t) = self t
-
-turn_self : (a : At) → same_turn a a ≡ true
-turn_self a = rw (self a.stamp.0, same_node_self a.node) refl
-
 pub sent_to : (past : List Line) (n : ℕ) (from to : Node) (m : Message) → Sent past n from to m → is_sent_to (printed past) n to ≡ true
 sent_to past n from to m s = ap (goes_to to) (sending_is past n from to m s) ∙ same_node_self to
 
@@ -134,7 +128,7 @@ took_taken head (l ∷ past) at from m g k = by l.entry g.0 k (took_taken head p
 
     here : (n : ℕ) (sender : Node) (k : Message) → l.at ≡ at → sending (printed past) n ≡ on_way sender l.at.node k → sender ≡ from → k ≡ m → In S (if same_turn l.at at then with_taken (sending (printed past) n) old else old)
     here n sender k e q f r =
-        let own : same_turn l.at at ≡ true = subst (λ (v : At). same_turn l.at v ≡ true) e (turn_self l.at) in
+        let own : same_turn l.at at ≡ true = subst (λ (v : At). same_turn l.at v ≡ true) e (same_turn_self l.at) in
         let is : sending (printed past) n ≡ Some S = q ∙ ap (λ (v : Node). on_way v l.at.node k) f ∙ ap (λ (v : At). on_way from v.node k) e ∙ ap (λ (v : Message). on_way from at.node v) r in
         subst (λ (ss : List Sending). In S ss) (sym (ap (λ (b : Bool). if b then with_taken (sending (printed past) n) old else old) own ∙ ap (λ (o : Option Sending). with_taken o old) is)) (inl refl)
 

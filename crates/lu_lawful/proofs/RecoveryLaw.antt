@@ -46,11 +46,11 @@ use Rattle.lu_guards.proofs.StoryGuards.{CommitOk, IsServing, ReplyOk, AsksAgain
 use Rattle.lu_guards.proofs.Grown.{Noted, Allowed, Grown}
 use Rattle.lu_guards.proofs.Parts as parts
 use Rattle.lu_guards.proofs.Only.{grown_of}
-use Rattle.lu_guards.proofs.Lists.{self, turn_trans, turn_irreflexive, life_is}
+use Rattle.lu_guards.proofs.Lists.{self, turn_trans, turn_irreflexive, life_is, life_self}
 use Rattle.lu_facts.proofs.Groups.{turn, Acted, Counts, Rebuilt, History, HoldsAt}
 use Rattle.lu_facts.proofs.DoneGrows.{did_acted}
 use Rattle.lu_facts.proofs.All.{holds}
-use Rattle.lu_lawful.proofs.Turns.{later_before, same_turn_is, same_turn_self, same_life_self}
+use Rattle.lu_lawful.proofs.Turns.{later_before, same_turn_is, same_turn_self}
 use Rattle.lu_lawful.proofs.Evictions.{evict_law}
 use Rattle.lu_lawful.proofs.Printed.{sending_is}
 use Rattle.lu_lawful.proofs.Taking.{either_way, boot_of, recovering_is, recovers}
@@ -207,7 +207,7 @@ txn_reply head before stamp node d g =
     let past = line at (Made d) ∷ before in
     let w : d.reply.at ≡ at = (txn_now head before stamp node d g.0 g.1).2 in
     let now : same_turn at d.reply.at ≡ true = subst (λ (v : At). same_turn at v ≡ true) (sym w) (same_turn_self at) in
-    let own : (same_life d.reply.who d.reply.who && nat_eq d.reply.xid.0 d.reply.xid.0) ≡ true = rw (same_life_self d.reply.who, self d.reply.xid.0) refl in
+    let own : (same_life d.reply.who d.reply.who && nat_eq d.reply.xid.0 d.reply.xid.0) ≡ true = rw (life_self d.reply.who, self d.reply.xid.0) refl in
     let rest = law.seen_in (printed before) d.reply.at d.reply.who d.reply.xid.0 in
     let here : or_else (only_here (then_some (same_life d.reply.who d.reply.who && nat_eq d.reply.xid.0 d.reply.xid.0) d.reply.seen) (same_turn at d.reply.at)) rest ≡ Some d.reply.seen = rw (own, now) refl in
     sym (ap (λ o. reply_seen head.osts 0 (printed past) d.reply o) here)

@@ -1,6 +1,6 @@
 -- The numbers that the law sees in the printed past of a run are those that the metadata target sees in its log: of all transactions the law
 -- leaves out the lost ones and the committed ones, and the log has the others, in rising number.
-use Rattle.std.proofs.Common.{◌≡◌, ℕ, ◌<◌, ◌≤◌, Bool, true, false, List, [], ◌∷◌, ◌++◌, reverse, inl, inr, ⊎_elim, refl, sym, subst, ap, ◌∙◌, arith}
+use Rattle.std.proofs.Common.{◌≡◌, ℕ, ◌≤◌, Bool, true, false, List, [], ◌∷◌, ◌++◌, reverse, inl, inr, ⊎_elim, refl, sym, subst, ap, ◌∙◌, arith}
 use Rattle.std.specs.Prelude.{nat_lt, not, ◌&&◌, if◌then◌else◌, map, filter}
 use Rattle.std.proofs.lemmas.Bool.{and_parts, lt-ltb, ltb-true}
 use Rattle.std.proofs.lemmas.Grind.{reverse_onto}
@@ -27,6 +27,7 @@ use Rattle.lu_guards.proofs.Grown.{Allowed, Grown}
 use Rattle.lu_guards.proofs.Lists.{in_append, in_left, in_right, in_filter, in_filtered}
 use Rattle.lu_guards.proofs.Parts.{log_is}
 use Rattle.lu_facts.proofs.Groups.{turn, Acted, IsMade, DeedsRise, History}
+use Rattle.lu_facts.proofs.HistoryLines.{rises_last, rises_filter}
 use Rattle.lu_facts.proofs.All.{holds}
 use Rattle.lu_facts.proofs.Lines.{acted_whole}
 use Rattle.lu_facts.proofs.Sides.{acted_only}
@@ -39,24 +40,6 @@ use Rattle.lu_lawful.proofs.LostNumbers.{lost_is}
 use Rattle.lu_lawful.proofs.Contents.{asked_before, contents_alike}
 
 -- ---- rising lists
-
-rises_filter : (f : Deed → Bool) (ds : List Deed) → DeedsRise ds → DeedsRise (filter f ds)
-rises_filter f [] r = tt
-rises_filter f (d ∷ ds) r = by (f d) (rises_filter f ds r.1)
-  where
-    by : (b : Bool) → DeedsRise (filter f ds) → DeedsRise (if b then d ∷ filter f ds else filter f ds)
-    by true more = (λ e i. r.0 e (in_filter f e ds i).0, more)
-    by false more = more
-
-rises_snoc : (ds : List Deed) (d : Deed) → DeedsRise ds → ((e : Deed) → In e ds → e.reply.txn.0 < d.reply.txn.0) → DeedsRise (ds ++ d ∷ [])
-rises_snoc [] d r below = (λ e i. absurd i, tt)
-rises_snoc (x ∷ ds) d r below = (
-  λ e i. ⊎_elim
-      (λ (j : In e ds). r.0 e j)
-      (λ (j : In e (d ∷ [])). ⊎_elim (λ (q : d ≡ e). subst (λ (v : Deed). x.reply.txn.0 < v.reply.txn.0) q (below x (inl refl))) (λ (v : ⊥). absurd v) j)
-      (in_append e ds (d ∷ []) i),
-  rises_snoc ds d r.1 (λ e i. below e (inr i)),
-)
 
 -- two that have the same are the same
 same_rising : (xs ys : List Deed) → DeedsRise xs → DeedsRise ys → ((d : Deed) → In d xs → In d ys) → ((d : Deed) → In d ys → In d xs) → xs ≡ ys
@@ -115,7 +98,7 @@ made_rises head (l ∷ past) g = by l.at.node l.entry g.0 (made_rises head past 
     by : (node : Node) (e : Entry) → Allowed head past (turn l.at.stamp node) e → DeedsRise (made_in past) → DeedsRise (made_in (line (turn l.at.stamp node) e ∷ past))
     by (Client c) (Made x) k h = absurd k.ok
     by (Target t) (Made x) k h =
-        rises_snoc (made_in past) x h
+        rises_last (made_in past) x h
         (λ e i. let m = in_made head past e g.1 i in
         let most = ((holds head past g.1).at 0).history.last e (acted_only head past e g.1 m.0) m.1 in
         let n = ap (λ (v : Deed). v.reply.txn.0) (k.of 0 (about_it t k.ok)).is in

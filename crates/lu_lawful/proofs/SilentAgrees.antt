@@ -15,10 +15,10 @@ use Rattle.lu_client_rows.specs.Known.{same_part}
 use Rattle.lu_covered.specs.Calls.{life_at}
 use Rattle.lu_covered.specs.Heads.{Head}
 use Rattle.lu_guards.proofs.Grown.{Grown}
-use Rattle.lu_facts.proofs.KnownPaths.{Tells, TellsName, TellsOf, part_is}
+use Rattle.lu_facts.proofs.KnownPaths.{Tells, TellsName, TellsOf, part_is, Usable}
 use Rattle.lu_facts.proofs.Taught.{bound_of, tree_for}
 use Rattle.lu_facts.proofs.Known.{held_stands}
-use Rattle.lu_lawful.proofs.SilentKnown.{Usable, Agrees}
+use Rattle.lu_lawful.proofs.SilentKnown.{Agrees}
 use Rattle.lu_lawful.proofs.SilentHeld.{bare_at, bare_present}
 
 -- what a fact on a name tells

@@ -25,7 +25,7 @@ use Rattle.lu_guards.proofs.Grown.{Grown}
 use Rattle.lu_facts.proofs.Groups.{turn}
 use Rattle.lu_lawful.proofs.Printed.{flip}
 use Rattle.lu_lawful.proofs.SilentHeld.{gives_up}
-use Rattle.lu_lawful.proofs.Handles.{rises}
+use Rattle.lu_lawful.proofs.Handles.{rises, and_true}
 
 -- ---- the call in a slot is the same
 
@@ -170,10 +170,6 @@ told_stands : (t : Bool) (slot : ℕ) (in_slot : ℕ → Option Call) (old : Lis
     → Every (StandsIn (λ k. if t && nat_eq slot k then None else in_slot k)) (if t then filter (in_other_slot slot) old else old)
 told_stands false slot in_slot old h = h
 told_stands true slot in_slot old h = every_filter (in_other_slot slot) (λ x is s. let other = other_slot x.0 slot is in ap (λ (b : Bool). if b then None else in_slot x.0) other ∙ s) old h
-
-pub and_true : (b : Bool) → (b && true) ≡ b
-and_true true = refl
-and_true false = refl
 
 pub calm_stands : (head : Head) (c : ℕ) (past : List Line) → Grown head past → Every (StandsIn (λ k. call_in c k (printed past))) (calm (who_is c (printed past)) (printed past))
 calm_stands head c [] g = tt

@@ -2,7 +2,7 @@
 use Rattle.std.proofs.Common.{◌≡◌, ℕ, Bool, true, false, List, [], ◌∷◌, ◌++◌, inl, inr, refl, sym, subst, ap, ◌∙◌}
 use Rattle.std.specs.Prelude.{nat_eq, not, ◌==◌, ◌&&◌, ◌||◌, if◌then◌else◌, map, filter}
 use Rattle.std.specs.List.{list_any}
-use Rattle.std.proofs.lemmas.Bool.{cond_both, and_parts, eqb-true}
+use Rattle.std.proofs.lemmas.Bool.{cond_both, and_parts, eqb-true, and_from}
 use Rattle.lu_base.specs.declared.ids.Cookie.{Cookie}
 use Rattle.lu_base.specs.declared.ids.Node.{Node}
 use Rattle.lu_base.specs.declared.ids.Node.TheVariants.{Client, Target}
@@ -20,6 +20,7 @@ use Rattle.lu_client_rows.specs.Facts.{Fact, taught, without_facts, facts_at}
 use Rattle.lu_client_rows.specs.Known.{Notes, is_usable}
 use Rattle.lu_guards.proofs.Guards.{In, EntryOk}
 use Rattle.lu_guards.proofs.Lists.{self, in_left, in_right, in_filtered}
+use Rattle.lu_guards.proofs.ClientLocks.{in_place}
 use Rattle.lu_facts.proofs.Groups.{turn}
 use Rattle.lu_lawful.proofs.SilentKnown.{Grows}
 
@@ -54,11 +55,6 @@ module _ {A : Type 0} (p : A → Bool) where
       by true q e more = (y, (inl refl, q))
       by false q e more = let r = more e in (r.0, (inr r.1.0, r.1.1))
 
-both : (a b : Bool) → a ≡ true → b ≡ true → (a && b) ≡ true
-both true true e f = refl
-both true false e f = absurd (cc)
-both false b e f = absurd (cc)
-
 -- ---- a lock of the metadata target that is held, marked or not
 
 abbrev pub IsIt : ℕ → HeldLock → Type 0
@@ -82,8 +78,8 @@ serves k h = h.target.0 == 0 && h.lock.cookie.0 == k && not h.marked
 
 it_serves : (k : ℕ) (h : HeldLock) → IsIt k h → h.marked ≡ false → serves k h ≡ true
 it_serves k h is unmarked =
-    both (h.target.0 == 0 && h.lock.cookie.0 == k) (not h.marked)
-    (both (h.target.0 == 0) (h.lock.cookie.0 == k) (ap (λ (v : ℕ). v == 0) is.0) (ap (λ (v : ℕ). v == k) is.1 ∙ self k)) (ap not unmarked)
+    and_from (h.target.0 == 0 && h.lock.cookie.0 == k) (not h.marked)
+    (and_from (h.target.0 == 0) (h.lock.cookie.0 == k) (ap (λ (v : ℕ). v == 0) is.0) (ap (λ (v : ℕ). v == k) is.1 ∙ self k)) (ap not unmarked)
 
 serves_it : (k : ℕ) (h : HeldLock) → serves k h ≡ true → IsIt k h
 serves_it k h e =
@@ -159,22 +155,18 @@ used_present k name held p = (p.0, (by (is_named name p.0) refl, p.1.1))
     by true e = in_left p.0 (filter (is_named name) held) (without name held) (in_filtered (is_named name) p.0 held p.1.0 e)
     by false e = in_right p.0 (filter (is_named name) held) (without name held) (in_filtered (λ (h : HeldLock). not (is_named name h)) p.0 held p.1.0 (ap not e))
 
--- in the place of one of its name
-abbrev put : HeldLock → HeldLock → HeldLock
-put g h = if is_named (name_of g) h then g else h
-
 with_present : (k : ℕ) (g : HeldLock) (held : List HeldLock) → Present k held → Present k (with_held g held)
 with_present k g held p =
-    cond_both (is_held (name_of g) held) (map (put g) held) (g ∷ held) (λ (v : List HeldLock). Present k v)
-    (λ t. (put g p.0, (in_map (put g) p.0 held p.1.0, cond_both (is_named (name_of g) p.0) g p.0 (λ (v : HeldLock). IsIt k v) (λ e. named_it k g p.0 e p.1.1) (λ f. p.1.1))))
+    cond_both (is_held (name_of g) held) (map (in_place g) held) (g ∷ held) (λ (v : List HeldLock). Present k v)
+    (λ t. (in_place g p.0, (in_map (in_place g) p.0 held p.1.0, cond_both (is_named (name_of g) p.0) g p.0 (λ (v : HeldLock). IsIt k v) (λ e. named_it k g p.0 e p.1.1) (λ f. p.1.1))))
     (λ f. (p.0, (inr p.1.0, p.1.1)))
 
 -- one that comes is held
 with_new : (g : HeldLock) (held : List HeldLock) → g.target.0 ≡ 0 → Present g.lock.cookie.0 (with_held g held)
 with_new g held e =
-    cond_both (is_held (name_of g) held) (map (put g) held) (g ∷ held) (λ (v : List HeldLock). Present g.lock.cookie.0 v)
+    cond_both (is_held (name_of g) held) (map (in_place g) held) (g ∷ held) (λ (v : List HeldLock). Present g.lock.cookie.0 v)
     (λ t. let r = of_any (is_named (name_of g)) held t in
-    (put g r.0, (in_map (put g) r.0 held r.1.0, subst (λ (b : Bool). IsIt g.lock.cookie.0 (if b then g else r.0)) (sym r.1.1) (e, refl))))
+    (in_place g r.0, (in_map (in_place g) r.0 held r.1.0, subst (λ (b : Bool). IsIt g.lock.cookie.0 (if b then g else r.0)) (sym r.1.1) (e, refl))))
     (λ f. (g, (inl refl, (e, refl))))
 
 brought_present : (k t : ℕ) (locks : List Lock) (held : List HeldLock) → Present k held → Present k (with_brought t locks held)

@@ -16,19 +16,17 @@ use Rattle.lu_msg.specs.declared.operations.Op.TheVariants as op
 use Rattle.lu_machine.specs.Name.{same_name}
 use Rattle.lu_machine.proofs.Keys.{name_tells}
 use Rattle.lu_client_rows.specs.Facts.{Fact, fact, root, is_one_for_each, name_facts, names_taught, last_of, inode_taught, taught}
-use Rattle.lu_client_rows.specs.Known.{Notes, same_part, is_usable, lesser, of_least_cookie, fact_on, with_cookie, nothing_found, walked, found_at_path, Found, known_of, known_with, list_at, layout_at, directory_at}
+use Rattle.lu_client_rows.specs.Known.{Notes, same_part, is_usable, lesser, of_least_cookie, fact_on, walked, found_at_path, Found, known_of, known_with, list_at, layout_at, directory_at}
 use Rattle.lu_machine.specs.Laws.{IsReading}
 use Rattle.lu_words.specs.Carried.{HandleFile}
 use Rattle.lu_covered.specs.Calls.{operation_of, told_as}
 use Rattle.lu_covered.specs.Makes.{Path}
 use Rattle.lu_covered.specs.Known.{told_of, known_answer}
+use Rattle.lu_facts.proofs.KnownPaths.{Usable, after_name}
 use Rattle.lu_guards.proofs.Guards.{In, IsToldAsIs}
 use Rattle.lu_guards.proofs.Lists.{self, in_left, in_right, in_filter, in_filtered}
 
 -- ---- facts that can be used
-
-abbrev pub Usable : Notes → Fact → Type 0
-Usable n f = In f n.facts × (is_usable f.cookie n.held ≡ true)
 
 -- of one name all that can be used tell the same
 abbrev pub Agrees : Notes → Type 0
@@ -85,20 +83,17 @@ name_there n a d m f u s =
 abbrev pub LeadsTo : Notes → Path → Answer → Type 0
 LeadsTo n path a = (found_at_path n path).inode ≡ Some a
 
-abbrev step : Notes → List (List ℕ) → Option Fact → Found
-step n names o = elim o [ None ↦ nothing_found | Some f ↦ with_cookie f.cookie (walked n names f.answer) ]
-
 walked_more : (n k : Notes) → Grows n k → Agrees k → (names : Path) (a b : Answer) → (walked n names a).inode ≡ Some b → (walked k names a).inode ≡ Some b
 walked_more n k more agrees [] a b e = e
 walked_more n k more agrees (m ∷ names) (told.Dir d) b e = by (fact_on (part.Name d m) n) refl (λ v. walked_more n k more agrees names v b) e
   where
-    by : (o : Option Fact) → fact_on (part.Name d m) n ≡ o → ((v : Answer) → (walked n names v).inode ≡ Some b → (walked k names v).inode ≡ Some b) → (step n names o).inode ≡ Some b
-        → (step k names (fact_on (part.Name d m) k)).inode ≡ Some b
+    by : (o : Option Fact) → fact_on (part.Name d m) n ≡ o → ((v : Answer) → (walked n names v).inode ≡ Some b → (walked k names v).inode ≡ Some b) → (after_name n names o).inode ≡ Some b
+        → (after_name k names (fact_on (part.Name d m) k)).inode ≡ Some b
     by None is rest e = absurd (cc)
     by (Some f) is rest e =
         let u = fact_found (part.Name d m) n f is in
         let g = name_there k agrees d m f (more f u.0) u.1 in
-        subst (λ (o : Option Fact). (step k names o).inode ≡ Some b) (sym g.1.0)
+        subst (λ (o : Option Fact). (after_name k names o).inode ≡ Some b) (sym g.1.0)
         (subst (λ (v : Answer). (walked k names v).inode ≡ Some b) (sym g.1.1) (rest f.answer e))
 walked_more n k more agrees (m ∷ names) a b e = absurd (cc)
 
@@ -217,13 +212,13 @@ taught_walk n agrees kind d (m ∷ names) [] one u l last = absurd (cc)
 taught_walk n agrees kind d (m ∷ []) (k ∷ []) one u l last =
     let same : k ≡ l = cc in
     let g = name_there n agrees d m (fact (part.Name d m) k (kind k.resource.fid)) (u _ (inl refl)) (one_name d m) in
-    subst (λ (o : Option Fact). (step n [] o).inode ≡ Some (kind l.resource.fid)) (sym g.1.0) (ap Some (g.1.1 ∙ ap (λ (v : Lock). kind v.resource.fid) same))
+    subst (λ (o : Option Fact). (after_name n [] o).inode ≡ Some (kind l.resource.fid)) (sym g.1.0) (ap Some (g.1.1 ∙ ap (λ (v : Lock). kind v.resource.fid) same))
 taught_walk n agrees kind d (m ∷ []) (k ∷ j ∷ locks) one u l last = absurd (cc)
 taught_walk n agrees kind d (m ∷ o ∷ names) (k ∷ []) one u l last = absurd (cc)
 taught_walk n agrees kind d (m ∷ o ∷ names) (k ∷ j ∷ locks) one u l last =
     let g = name_there n agrees d m (fact (part.Name d m) k (told.Dir k.resource.fid)) (u _ (inl refl)) (one_name d m) in
     let rest = taught_walk n agrees kind k.resource.fid (o ∷ names) (j ∷ locks) one (λ f i. u f (inr i)) l last in
-    subst (λ (v : Option Fact). (step n (o ∷ names) v).inode ≡ Some (kind l.resource.fid)) (sym g.1.0)
+    subst (λ (v : Option Fact). (after_name n (o ∷ names) v).inode ≡ Some (kind l.resource.fid)) (sym g.1.0)
     (subst (λ (v : Answer). (walked n (o ∷ names) v).inode ≡ Some (kind l.resource.fid)) (sym g.1.1) rest)
 
 -- the last lock is on that inode, and each name of the path has one; `/` has one on the root

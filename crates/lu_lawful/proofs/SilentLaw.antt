@@ -48,9 +48,10 @@ use Rattle.lu_guards.proofs.Turns.{Settled}
 use Rattle.lu_facts.proofs.Groups.{turn}
 use Rattle.lu_lawful.proofs.Printed.{flip}
 use Rattle.lu_lawful.proofs.Lines.{OfPrinted, Keeps, shown, holds_due, Nothing}
+use Rattle.lu_lawful.proofs.Handles.{and_true}
 use Rattle.lu_lawful.proofs.SilentKnown.{Agrees, Grows, IsKnown, IsReadingCall, known_more, known_told, told_known}
 use Rattle.lu_lawful.proofs.SilentHeld.{bare_at, gives_up, Unmarked, of_any, map_in, grows_to_bare, grows_from_bare, notes_grow}
-use Rattle.lu_lawful.proofs.SilentCalm.{called, call_is, begun_anew, calm_stands, StandsIn, and_true, every_filter, every_both, every_in, in_every, every_map}
+use Rattle.lu_lawful.proofs.SilentCalm.{called, call_is, begun_anew, calm_stands, StandsIn, every_filter, every_both, every_in, in_every, every_map}
 use Rattle.lu_lawful.proofs.SilentTaught.{told_is_known}
 use Rattle.lu_lawful.proofs.SilentAgrees.{agrees}
 use Rattle.lu_lawful.proofs.SilentServed.{repeats_unmarked}

@@ -3,7 +3,7 @@
 use Rattle.std.proofs.Common.{◌≡◌, ℕ, ◌+◌, ◌≤◌, Bool, true, false, List, [], ◌∷◌, ◌++◌, Option, Some, inl, inr, refl, sym, subst, ap, ◌∙◌, arith}
 use Rattle.std.specs.Prelude.{nat_eq, not, ◌==◌, ◌&&◌, ◌||◌, if◌then◌else◌, length, filter}
 use Rattle.std.specs.Option.{option_map}
-use Rattle.std.proofs.lemmas.Bool.{cond_both, cond-true, and_parts, eqb-true}
+use Rattle.std.proofs.lemmas.Bool.{cond_both, cond-true, and_parts, eqb-true, or_parts}
 use Rattle.std.proofs.lemmas.Bool.Decides.{nat_tests}
 use Rattle.lu_base.specs.declared.ids.At.{At}
 use Rattle.lu_base.specs.declared.ids.Node.{Node}
@@ -40,15 +40,11 @@ use Rattle.lu_laws.proofs.Tests.{clash}
 use Rattle.lu_guards.proofs.Only.{told_by_target, grown_of}
 use Rattle.lu_guards.proofs.Parts.{standing_is, known_is, life_is_of}
 use Rattle.lu_facts.proofs.Groups.{turn}
+use Rattle.lu_facts.proofs.Lives.{still_joins}
 use Rattle.lu_facts.proofs.All.{holds_at}
 use Rattle.lu_lawful.proofs.Printed.{flip, sending_is}
 use Rattle.lu_lawful.proofs.SilentHeld.{Unmarked}
 use Rattle.lu_lawful.proofs.SilentReady.{ready_own}
-
-was_joining : (s : Standing) → interrupted s ≡ Joining → s ≡ Joining
-was_joining Joining e = refl
-was_joining Recovering e = absurd (cc)
-was_joining Serving e = absurd (cc)
 
 -- ---- a life that joins holds nothing, and nothing of it is in flight
 
@@ -80,7 +76,7 @@ module _ (head : Head) (c : ℕ) where
       its d e = let phase = (holds_at head p g.3).phase in sym (phase.client c) ∙ ap (λ (v : Who). v.client) (life_is W (life_of d p) e) ∙ phase.client d
 
       by : (node : Node) (e : Entry) → EntryOf head p (turn l.at.stamp node) node e → standing_of c (line (turn l.at.stamp node) e ∷ p) ≡ Joining → (S ≡ Joining → Bare p) → Bare (line (turn l.at.stamp node) e ∷ p)
-      by (Client d) (Knows t b) ok s ih = ih (cond_both (nat_eq c d) (interrupted S) S (λ (v : Standing). v ≡ Joining → S ≡ Joining) (λ q r. was_joining S r) (λ q r. r) s)
+      by (Client d) (Knows t b) ok s ih = ih (cond_both (nat_eq c d) (interrupted S) S (λ (v : Standing). v ≡ Joining → S ≡ Joining) (λ q r. still_joins S r) (λ q r. r) s)
       by (Client d) (Serves t b) ok s ih = ih (cond_both (nat_eq c d) Serving S (λ (v : Standing). v ≡ Joining → S ≡ Joining) (λ q r. absurd (cc)) (λ q r. r) s)
       by (Client d) (Life w) ok s ih = of (nat_eq c d) refl s
         where
@@ -142,10 +138,6 @@ not_ready up (x ∷ ups) i = grind (arith, nat_tests)
 
 abbrev Stopped : Who → Past → ℕ → Type 0
 Stopped who past boot = record { knows : known who past ≡ []; calms : calm who past ≡ []; up : In (0, boot) (unready who past) }
-
-neither : (a b : Bool) → (a || b) ≡ false → (a ≡ false) × (b ≡ false)
-neither true b e = absurd (cc)
-neither false b e = (refl, e)
 
 module _ {A : Type 0} where
   filtered : (b : Bool) (test : A → Bool) (old : List A) → old ≡ [] → (if b then filter test old else old) ≡ []
@@ -297,14 +289,14 @@ module _ (head : Head) (c : ℕ) where
           }
         where
           unwelcome : (b : Bool) → (if b then is_ready_for c past from m || is_welcome c past else is_welcome c past) ≡ false → is_welcome c past ≡ false
-          unwelcome true q = (neither (is_ready_for c past from m) (is_welcome c past) q).1
+          unwelcome true q = (or_parts (is_ready_for c past from m) (is_welcome c past) q).1
           unwelcome false q = q
 
           mine : d ≡ c → IsOther B from m
           mine e =
               let here : nat_eq c d ≡ true = ap (nat_eq c) e ∙ self c in
               let none = subst (λ (b : Bool). (if b then is_ready_for c past from m || is_welcome c past else is_welcome c past) ≡ false) here w in
-              other_taken past l.at.stamp n from m (subst (λ (v : ℕ). Allowed head past (turn l.at.stamp (Client v)) (Take n from m)) e a) g.1 s (neither (is_ready_for c past from m) (is_welcome c past) none).0
+              other_taken past l.at.stamp n from m (subst (λ (v : ℕ). Allowed head past (turn l.at.stamp (Client v)) (Take n from m)) e a) g.1 s (or_parts (is_ready_for c past from m) (is_welcome c past) none).0
       by (Target u) (Knows t b) a s w ih = absurd a.ok
       by (Target u) (Serves t b) a s w ih = absurd a.ok
       by (Target u) (Life w) a s v ih = absurd a.ok

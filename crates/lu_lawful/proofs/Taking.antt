@@ -29,7 +29,7 @@ use Rattle.lu_laws.specs.Words.Scopes.{only_here, last_at}
 use Rattle.lu_laws.specs.Words.Sends.{Sending}
 use Rattle.lu_laws.specs.Words.Boots.{booted_as, boot, opens_window, is_recovering}
 use Rattle.lu_laws.specs.Words.Handed.{with_message, handed}
-use Rattle.lu_guards.proofs.Guards.{IsTurnOf, BackNow, says_first, wish_by, wish_mark, mark_of, due, EntryOk}
+use Rattle.lu_guards.proofs.Guards.{IsTurnOf, BackNow, says_first, wish_by, wish_mark, mark_of, due, EntryOk, IsMark}
 use Rattle.lu_guards.proofs.StoryGuards.{IsRecovering, IsServing, EntryOf, EvictOk, LeavesOk, JoinedOk, ComesOk, CloseOk, StoresOk, BringsOk, SaysOk, WishesOk, KeepsOk}
 use Rattle.lu_guards.proofs.Grown.{Grown, GrownOf}
 use Rattle.lu_guards.proofs.LifeLists.{none_is, found_life, life_stands, stands_life}
@@ -175,18 +175,11 @@ recovers head past g e = (opens head past g).recovers e
 
 -- ---- marks
 
-abbrev pub IsNote : Entry → Type 0
-IsNote (Stores replay) = Unit {0}
-IsNote (Brings lock) = Unit {0}
-IsNote (Says said) = Unit {0}
-IsNote (Wishes who) = Unit {0}
-IsNote _ = ⊥
-
 abbrev OfNote : Option Entry → Type 0
 OfNote None = Unit {0}
-OfNote (Some e) = IsNote e
+OfNote (Some e) = IsMark e
 
-of_note : (o : Option Entry) (e : Entry) → o ≡ Some e → OfNote o → IsNote e
+of_note : (o : Option Entry) (e : Entry) → o ≡ Some e → OfNote o → IsMark e
 of_note o e q n = subst (λ (v : Option Entry). OfNote v) q n
 
 note_of : (v : Window) (b : ℕ) (m : Message) → OfNote (mark_of v b m)
@@ -232,16 +225,16 @@ due_is osts clients (l ∷ past) = by l.at.node l.entry
     by (Target t) (Take n from m) = cond_both (nat_eq (closed_of past) (server_of osts past).boot) None (mark_of (window_of osts clients past) (server_of osts past).boot m) OfNote (λ e. tt) (λ e. note_of (window_of osts clients past) (server_of osts past).boot m)
     by _ _ = tt
 
-pub due_note : (osts clients : ℕ) (past : List Line) (e : Entry) → due osts clients past ≡ Some e → IsNote e
+pub due_note : (osts clients : ℕ) (past : List Line) (e : Entry) → due osts clients past ≡ Some e → IsMark e
 due_note osts clients past e q = of_note (due osts clients past) e q (due_is osts clients past)
 
 -- a line that is no mark of what was taken stands where none is due
-pub none_due : (osts clients : ℕ) (past : List Line) (e : Entry) → (IsNote e → ⊥) → ((mark : Entry) → due osts clients past ≡ Some mark → e ≡ mark) → due osts clients past ≡ None
+pub none_due : (osts clients : ℕ) (past : List Line) (e : Entry) → (IsMark e → ⊥) → ((mark : Entry) → due osts clients past ≡ Some mark → e ≡ mark) → due osts clients past ≡ None
 none_due osts clients past e n k = by (due osts clients past) refl
   where
     by : (o : Option Entry) → due osts clients past ≡ o → o ≡ None
     by None q = refl
-    by (Some mark) q = absurd (n (subst (λ (v : Entry). IsNote v) (sym (k mark q)) (due_note osts clients past mark q)))
+    by (Some mark) q = absurd (n (subst (λ (v : Entry). IsMark v) (sym (k mark q)) (due_note osts clients past mark q)))
 
 -- ---- a mark is the one that is due
 
@@ -353,7 +346,7 @@ agrees_at head (l ∷ past) g k r = by l.at.node l.entry g.0 (λ mark d. (k.0.ma
     new node e = line (turn l.at.stamp node) e ∷ past
 
     -- none is due
-    plain : (e : Entry) → (IsNote e → ⊥) → ((mark : Entry) → D ≡ Some mark → e ≡ mark) → AgreesAt head past D → AgreesAt head past None
+    plain : (e : Entry) → (IsMark e → ⊥) → ((mark : Entry) → D ≡ Some mark → e ≡ mark) → AgreesAt head past D → AgreesAt head past None
     plain e n k h = subst (λ (o : Option Entry). AgreesAt head past o) (none_due head.osts head.clients past e n k) h
 
     serving : IsServing head.osts past → IsRecovering head.osts past → ⊥

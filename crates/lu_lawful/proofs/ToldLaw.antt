@@ -1,7 +1,7 @@
 -- The law of acts at a call's begin, at a told line and at a request's message, and the whole of it.
 use Rattle.std.proofs.Common.{◌≡◌, ◌≢◌, ℕ, ◌+◌, ◌≤◌, Bool, true, false, List, [], ◌∷◌, Option, Some, None, inl, inr, ⊎_elim, refl, sym, subst, ap, ◌∙◌, arith, pos}
 use Rattle.std.specs.Prelude.{not, ◌&&◌, ◌||◌}
-use Rattle.std.proofs.lemmas.Bool.{cond_both, and_parts, eqb-true}
+use Rattle.std.proofs.lemmas.Bool.{cond_both, and_parts, eqb-true, or_left, or_right, or_cases, false_from_ne_true}
 use Rattle.lu_base.specs.declared.ids.At.{At}
 use Rattle.lu_base.specs.declared.ids.Stamp.{Stamp}
 use Rattle.lu_base.specs.declared.ids.Node.{Node}
@@ -20,7 +20,6 @@ use Rattle.lu_msg.specs.declared.operations.Op.TheVariants as op
 use Rattle.lu_trace.specs.declared.entries.Entry.TheVariants as trace
 use Rattle.lu_trace.specs.declared.entries.Line.{Line as PrintedLine}
 use Rattle.lu_machine.specs.Fits.{answer_fits}
-use Rattle.lu_machine.specs.Footprint.{Every}
 use Rattle.lu_words.specs.Carried.{Deed, HandleFile, Flight, Work, Running}
 use Rattle.lu_words.specs.Words.{Entry, Begin, Send, Heard, Told, Txn as Made, Line, line}
 use Rattle.lu_words.specs.Concerns.{concerns, only}
@@ -39,7 +38,7 @@ use Rattle.lu_laws.specs.Laws.Acts.{acted, made, standing_count, is_number, tell
 use Rattle.lu_lawful.specs.Fits.{ReplyStands, HeardStand}
 use Rattle.lu_guards.proofs.Guards.{In, JustHeard, Steps, IsToldAsIs, ToldOk, KnownOk, EndsOk, BadOk, EntryOk}
 use Rattle.lu_guards.proofs.Grown.{Allowed, Grown}
-use Rattle.lu_guards.proofs.Lists.{self, own_is, own_self, or_left, or_right}
+use Rattle.lu_guards.proofs.Lists.{self, own_is, own_self}
 use Rattle.lu_guards.proofs.Turns.{Settled}
 use Rattle.lu_facts.proofs.Groups.{turn, Upto, Acted, Flew, Hears, HeardAs, HasSlot, Had, Evicted, IsMade, Stands as StandsSoFar, HoldsAt}
 use Rattle.lu_facts.proofs.All.{holds}
@@ -56,12 +55,14 @@ use Rattle.lu_lawful.proofs.Once.{asked_is, acted_sent}
 use Rattle.lu_lawful.proofs.Fine.{IsFine, deed_fine, so_fine, known_fine}
 use Rattle.lu_lawful.proofs.Flying.{Flown, flying, ask_flown, Distinct, flyers, keeps_flyers, no_more}
 use Rattle.lu_lawful.proofs.Facts.{AnswersAt, KnewAt, EndsAt, BadAt, TellsAt, AllTold}
-use Rattle.lu_lawful.proofs.ActsLaw.{one_turn, NoneLeft, none_counts, at_most, ActIn, act_in, Stands, acted_in, either}
+use Rattle.lu_lawful.proofs.ActsLaw.{one_turn, NoneLeft, none_counts, at_most, ActIn, act_in, Stands, acted_in}
 use Rattle.lu_lawful.proofs.Hearing.{just_heard}
 use Rattle.lu_lawful.proofs.Handles.{is_bad_stage, begins_bad, meant_is}
 use Rattle.lu_lawful.proofs.BadCalls.{Due, nothing_due, due_before}
 use Rattle.lu_lawful.proofs.Notices.{notice_taken}
 use Rattle.lu_facts.proofs.Lines.{acted_whole, acted_more, hears_only}
+use Rattle.lu_facts.proofs.Unheld.{heard_as_more}
+use Rattle.lu_facts.proofs.PartsStay.{in_every}
 
 -- ---- what was just heard
 
@@ -121,7 +122,7 @@ told_hears head (l ∷ past) who x g i = by l.at.node l.entry g.0 i (told_hears 
     by (Client c) (Told slot named given work) k i h = hears_only (line (turn l.at.stamp (Client c)) (Told slot named given work)) past who x (⊎_elim
         (λ (p : (is_by who (printed past) (Client c) && not (same_turn named (turn l.at.stamp (Client c))) && is_number x (heard_in (printed past) (turn l.at.stamp (Client c)))) ≡ true). here c slot named given work k.ok p)
         (λ (p : told_with (printed past) who x ≡ true). h p)
-        (either (tells_with who x (printed past) (record { at = turn l.at.stamp (Client c); entry = trace.Told slot named given })) (told_with (printed past) who x) i))
+        (or_cases (tells_with who x (printed past) (record { at = turn l.at.stamp (Client c); entry = trace.Told slot named given })) (told_with (printed past) who x) i))
     by node e k i h = hears_only (line (turn l.at.stamp node) e) past who x (h i)
 
 -- and its life was told nothing of that number before
@@ -141,10 +142,6 @@ untold head (l ∷ past) at t r g j i = by l.at.node l.entry g.0 j i (untold hea
     by (Target u) (Told slot named given work) k j i h = absurd j
     by _ _ k j i h = h j i
 
-never : (b : Bool) → (b ≡ true → ⊥) → b ≡ false
-never true n = absurd (n refl)
-never false n = refl
-
 -- it was heard by that client
 just_heard_by : (past : List Line) (at : At) (c t : ℕ) (r : ReplyTo) → JustHeard past at t r → at.node ≡ Client c → (f : Flight) × HeardBy past c f r
 just_heard_by [] at c t r j n = absurd j
@@ -156,15 +153,8 @@ just_heard_by (l ∷ past) at c t r j n = by l.entry j (λ i. just_heard_by past
     by _ j h = h j
 
 -- what its life heard it heard as that life
-heard_more : (l : Line) (past : List Line) (who : Who) (f : Flight) (r : ReplyTo) → HeardAs past who f r → HeardAs (l ∷ past) who f r
-heard_more l past who f r h = by l.entry
-  where
-    by : (e : Entry) → HeardAs (line l.at e ∷ past) who f r
-    by (Heard t g k) = inr h
-    by _ = h
-
 pub heard_story : (l : Line) (past : List Line) (who : Who) (f : Flight) (r : ReplyTo) → HeardAs (only 0 past) who f r → HeardAs (only 0 (l ∷ past)) who f r
-heard_story l past who f r h = cond_both (concerns 0 l.at.node l.entry) (l ∷ only 0 past) (only 0 past) (λ (P : List Line). HeardAs P who f r) (λ t. heard_more l (only 0 past) who f r h) (λ t. h)
+heard_story l past who f r h = cond_both (concerns 0 l.at.node l.entry) (l ∷ only 0 past) (only 0 past) (λ (P : List Line). HeardAs P who f r) (λ t. heard_as_more l (only 0 past) who f r h) (λ t. h)
 
 pub heard_as : (head : Head) (past : List Line) (c : ℕ) (f : Flight) (r : ReplyTo) → Grown head past → HeardBy past c f r → HeardAs (only 0 past) r.who f r
 heard_as head [] c f r g h = absurd h
@@ -275,7 +265,7 @@ told_tells head past stamp c slot named given work steps ok g =
       whose = is.client;
       is = is.is;
       plain = told_as_plain ok.running.file ok.running.call d.op d.reply.answer is.op fits (subst (λ (v : Answer). IsToldAsIs ok.running.call v) given_is ok.as_is);
-      untold = never (told_with (printed past) (life_at c past) d.reply.xid.0) (λ t. untold head past at ok.target ok.reply g ok.heard (subst (λ (v : Who). told_with (printed past) v ok.reply.xid.0 ≡ true) (sym is.client) (subst (λ (v : ℕ). told_with (printed past) (life_at c past) v ≡ true) (sym x) t)));
+      untold = false_from_ne_true (told_with (printed past) (life_at c past) d.reply.xid.0) (λ t. untold head past at ok.target ok.reply g ok.heard (subst (λ (v : Who). told_with (printed past) v ok.reply.xid.0 ≡ true) (sym is.client) (subst (λ (v : ℕ). told_with (printed past) (life_at c past) v ≡ true) (sym x) t)));
     }
 
 -- ---- every told line
@@ -517,14 +507,10 @@ module _ (head : Head) (out : Who → Bool) (lost : ℕ → ℕ → Bool) (whole
 
 -- ---- the law at a request's message
 
-every_in : {A : Type 0} (P : A → Type 0) (xs : List A) → ((x : A) → In x xs → P x) → Every P xs
-every_in P [] h = tt
-every_in P (x ∷ xs) h = (h x (inl refl), every_in P xs (λ y i. h y (inr i)))
-
 tags_differ : (head : Head) (past : List Line) (who : Who) → Grown head past → (rs : List RequestOf) → Distinct rs → ((r : RequestOf) → In r rs → Flown past who r) → Pairwise (λ one other. one.tag ≢ other.tag) rs
 tags_differ head past who g [] d f = tt
 tags_differ head past who g (r ∷ rs) d f = (
-  every_in (λ (q : RequestOf). r.tag ≢ q.tag) rs (λ q i e.
+  in_every (λ (q : RequestOf). r.tag ≢ q.tag) rs (λ q i e.
       let a = f r (inl refl) in
       let b = f q (inr i) in
       let t : a.0.tag ≡ b.0.tag = ap (λ (v : RequestOf). v.tag) (sym a.2) ∙ e ∙ ap (λ (v : RequestOf). v.tag) b.2 in

@@ -5,8 +5,6 @@ use Rattle.std.proofs.lemmas.Bool.{and_parts, cond_both, eqb-true, ltb-true}
 use Rattle.lu_base.specs.declared.ids.At.{At}
 use Rattle.lu_base.specs.declared.ids.Node.{Node}
 use Rattle.lu_base.specs.declared.ids.Node.TheVariants.{Client, Target}
-use Rattle.lu_base.specs.declared.ids.Who.{Who}
-use Rattle.lu_machine.specs.Tree.{same_life}
 use Rattle.lu_words.specs.Words.{Line, node_before, turn_before}
 use Rattle.lu_laws.specs.Words.Pasts.{NodeUpTo, UpTo, same_turn, same_node}
 use Rattle.lu_guards.proofs.Guards.{Later, Steps}
@@ -51,7 +49,7 @@ same_node_is (Client c) (Target t) e = absurd (cc)
 same_node_is (Target t) (Client c) e = absurd (cc)
 same_node_is (Target t) (Target u) e = ap Target (eqb-true t u e)
 
-same_node_self : (a : Node) → same_node a a ≡ true
+pub same_node_self : (a : Node) → same_node a a ≡ true
 same_node_self (Client c) = self c
 same_node_self (Target t) = self t
 
@@ -62,9 +60,6 @@ same_turn_is a b e =
 
 pub same_turn_self : (a : At) → same_turn a a ≡ true
 same_turn_self a = rw (self a.stamp.0, same_node_self a.node) refl
-
-pub same_life_self : (w : Who) → same_life w w ≡ true
-same_life_self w = rw (self w.client, self w.life) refl
 
 -- a turn of a target isn't a client's
 pub other_node : (at here : At) (t c : ℕ) → at.node ≡ Target t → here.node ≡ Client c → same_turn at here ≡ false

@@ -35,9 +35,10 @@ use Rattle.lu_laws.specs.Words.Requests.{asked}
 use Rattle.lu_laws.specs.Words.Asked.{Acting, acting, wanted, wanted_lock, wanted_by, requested, is_for}
 use Rattle.lu_guards.proofs.Guards.{In, Did}
 use Rattle.lu_guards.proofs.Grown.{Allowed, Grown}
-use Rattle.lu_guards.proofs.Lists.{self}
+use Rattle.lu_guards.proofs.Lists.{self, life_self}
 use Rattle.lu_guards.proofs.Parts.{server_is, boot_is, count_is, tree_is as tree_there}
 use Rattle.lu_facts.proofs.Groups.{turn, items_of, HoldsAt}
+use Rattle.lu_facts.proofs.DoneGrows.{did_acted}
 use Rattle.lu_facts.proofs.Asked.{acted_on_names}
 use Rattle.lu_facts.proofs.Inodes.{Kinds, kinds_empty, kinds_after, EachOnce, grants_once}
 use Rattle.lu_facts.proofs.All.{holds}
@@ -47,12 +48,11 @@ use Rattle.lu_facts.proofs.Lines.{acted_whole}
 use Rattle.lu_facts.proofs.OnNames.{IsOnNames}
 use Rattle.lu_facts.proofs.OverItems.{over_now}
 use Rattle.lu_facts.proofs.Named.{named_after}
-use Rattle.lu_lawful.proofs.Turns.{same_turn_self, same_life_self}
+use Rattle.lu_lawful.proofs.Turns.{same_turn_self}
 use Rattle.lu_lawful.proofs.Story.{about_it}
 use Rattle.lu_lawful.proofs.Facts.{AskedAt, AllAsked}
 use Rattle.lu_lawful.proofs.Contents.{contents_alike}
 use Rattle.lu_lawful.proofs.Once.{all_asked}
-use Rattle.lu_lawful.proofs.Given.{did_acted}
 
 -- ---- the metadata target's tree
 
@@ -158,7 +158,7 @@ module _ (who : Who) where
   -- it is the first one asked for on that inode
   found : (k : ℕ) (ws : List Want) (l : Lock) → EachOnce ws → In l (locks_from k who ws) → find (is_for l) (map (wanted_lock l.cookie who) ws) ≡ Some l
   found k [] l once i = absurd i
-  found k (w ∷ ws) l once (inl e) = subst (λ (v : Lock). find (is_for v) (map (wanted_lock v.cookie who) (w ∷ ws)) ≡ Some v) e (rw (self w.fid.0, same_life_self who) refl)
+  found k (w ∷ ws) l once (inl e) = subst (λ (v : Lock). find (is_for v) (map (wanted_lock v.cookie who) (w ∷ ws)) ≡ Some v) e (rw (self w.fid.0, life_self who) refl)
   found k (w ∷ ws) l once (inr i) =
       let r = lock_of (k + 1) ws l i in
       let fid : l.resource.fid.0 ≡ r.0.fid.0 = ap (λ (v : Lock). v.resource.fid.0) r.2 in
