@@ -5,7 +5,7 @@ use Rattle.std.proofs.Common.{◌≡◌, ℕ, suc, zero, ◌<◌, ◌≤◌, ◌
 use Rattle.std.specs.Prelude.{nat_eq, nat_lt, if◌then◌else◌, ◌&&◌, not}
 use Rattle.std.proofs.lemmas.Bool.{eqb-true, eqb-false, eq-eqb, ne_eqb, both_ways, ltb-true, ltb-false}
 use Rattle.std.proofs.lemmas.Bool.Decides.{nat_tests}
-use Rattle.lu_object_story.specs.Words.{Lock, Change, Write, Cut, Op, Enqueue, Get, Flush, Size, Request, Call, Entry, Flies as Flew, Heard, Hold, Drop, Forgets, Tells as Told, Grant, Wait, Promote, Acts, Txn, Release, Evict as Evicted, Commit as Committed, Close as Closed, Send as Sends, overlay, within, value, after_at, covers}
+use Rattle.lu_object_story.specs.Words.{Lock, Change, Write, Cut, Op, Enqueue, Get, Flush, Size, Request, Call, Entry, Flies as Flew, Takes, Heard, Hold, Drop, Forgets, Tells as Told, Grant, Wait, Promote, Acts, Txn, Release, Evict as Evicted, Commit as Committed, Close as Closed, Send as Sends, overlay, within, value, after_at, covers}
 use Rattle.lu_object_story.specs.Folds.{object, pending, dirty, known, is_some, over, base, HeldBy}
 use Rattle.lu_object_story.specs.History.{plain, history, size_of, piece_item, told_item}
 use Rattle.lu_object_story.specs.History
@@ -176,6 +176,7 @@ serve_same w out lost u o g r (Flew k) h i q x = x ∙ either (stripe_items w ou
 serve_same w out lost u o g r (Heard k a) h i q x = x ∙ either (stripe_items w out lost i h) q (nat_eq (w.target i) u && nat_eq (w.object i) o)
 serve_same w out lost u o g r (Hold l s sn) h i q x = x ∙ either (stripe_items w out lost i h) q (nat_eq (w.target i) u && nat_eq (w.object i) o)
 serve_same w out lost u o g r (Drop l) h i q x = x ∙ either (stripe_items w out lost i h) q (nat_eq (w.target i) u && nat_eq (w.object i) o)
+serve_same w out lost u o g r (Takes c k ch) h i q x = x ∙ either (stripe_items w out lost i h) q (nat_eq (w.target i) u && nat_eq (w.object i) o)
 serve_same w out lost u o g r (Forgets c) h i q x = x ∙ either (stripe_items w out lost i h) q (nat_eq (w.target i) u && nat_eq (w.object i) o)
 serve_same w out lost u o g r (Told c call) h i q x = x ∙ either (stripe_items w out lost i h) q (nat_eq (w.target i) u && nat_eq (w.object i) o)
 serve_same w out lost u o g r (Grant k l s sn) h i q x = x ∙ either (stripe_items w out lost i h) q (nat_eq (w.target i) u && nat_eq (w.object i) o)
@@ -552,6 +553,7 @@ right_steps w out lost (Own l ∷ h) ok s k = own l (right_steps w out (lost_at 
     serves u q (Heard k a) is x = x
     serves u q (Hold l s sn) is x = x
     serves u q (Drop l) is x = x
+    serves u q (Takes c k ch) is x = x
     serves u q (Forgets c) is x = x
     serves u q (Told c call) is x = x
     serves u q (Grant k l s sn) is x = x

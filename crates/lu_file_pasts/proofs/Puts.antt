@@ -2,7 +2,7 @@
 use Rattle.std.proofs.Common.{◌≡◌, ℕ, suc, ◌+◌, ◌-◌, ◌⊎◌, inl, inr, ⊎_elim, List, [], ◌∷◌, length, Option, Some, None, Bool, true, false, refl, sym, ap, ◌∙◌, subst, arith}
 use Rattle.std.specs.Prelude.{nat_eq, nat_lt, if◌then◌else◌, ◌&&◌}
 use Rattle.std.proofs.lemmas.Bool.{eqb-true, eq-eqb, and_parts}
-use Rattle.lu_object_story.specs.Words.{Change, Write, Cut, Flush, Request, Call, Entry, Flies as Flew, Heard, Hold, Drop, Forgets, Tells as Told, Grant, Wait, Promote, Acts, Txn, Release, Evict as Evicted, Commit as Committed, Close as Closed, Send as Sends, Ask as Asks, Reply as Replies, Give as Gives, Block as Blocks, Cancel as Cancels, overlay}
+use Rattle.lu_object_story.specs.Words.{Change, Write, Cut, Flush, Request, Call, Entry, Takes, Flies as Flew, Heard, Hold, Drop, Forgets, Tells as Told, Grant, Wait, Promote, Acts, Txn, Release, Evict as Evicted, Commit as Committed, Close as Closed, Send as Sends, Ask as Asks, Reply as Replies, Give as Gives, Block as Blocks, Cancel as Cancels, overlay}
 use Rattle.lu_object_story.specs.History.{ToldWrite, ToldCut, Origin, OriginOf, Puts}
 use Rattle.lu_object_story.proofs.Spot.{run_some, run_bounds}
 use Rattle.lu_object_pasts.specs.Words.{Message, Ask, Reply, Give, Block, Cancel, Join, Ready, Line, Knows, Serves, Flies, Lives, Tells, Over, Joins, Queue, Serve, Works, Evict, Commit, Crash, Boot, Close, Send}
@@ -28,6 +28,7 @@ write_back (Told d k) h c q b p i = absurd p
 write_back (Heard k a) h c q b p i = i
 write_back (Hold l s sn) h c q b p i = i
 write_back (Drop l) h c q b p i = i
+write_back (Takes d k ch) h c q b p i = i
 write_back (Forgets d) h c q b p i = i
 write_back (Grant k l s sn) h c q b p i = i
 write_back (Wait k l) h c q b p i = i
@@ -46,6 +47,7 @@ cut_back (Told d k) h c m p i = absurd p
 cut_back (Heard k a) h c m p i = i
 cut_back (Hold l s sn) h c m p i = i
 cut_back (Drop l) h c m p i = i
+cut_back (Takes d k ch) h c m p i = i
 cut_back (Forgets d) h c m p i = i
 cut_back (Grant k l s sn) h c m p i = i
 cut_back (Wait k l) h c m p i = i
@@ -64,6 +66,7 @@ origin_back (Told d k) h r ch p i = absurd p
 origin_back (Heard k a) h r ch p i = i
 origin_back (Hold l s sn) h r ch p i = i
 origin_back (Drop l) h r ch p i = i
+origin_back (Takes c k x) h r ch p i = i
 origin_back (Forgets c) h r ch p i = i
 origin_back (Grant k l s sn) h r ch p i = i
 origin_back (Wait k l) h r ch p i = i
@@ -85,6 +88,7 @@ lives_plain : (past : List Line) (t o c : ℕ) (e : Entry) → LivesOk past t o 
 lives_plain past t o c (Heard r a) ok = tt
 lives_plain past t o c (Hold l s sn) ok = tt
 lives_plain past t o c (Drop l) ok = tt
+lives_plain past t o c (Takes d k ch) ok = tt
 lives_plain past t o c _ ok = absurd ok
 
 served_plain : (past : List Line) (t o : ℕ) (r : Request) (e : Entry) → ServedOk past t o r e → Plain e

@@ -3,7 +3,7 @@ use Rattle.lu_object_pasts.proofs.Only.{kept_from}
 use Rattle.std.proofs.Common.{◌≡◌, ℕ, ◌<◌, ⊎_elim, List, [], ◌∷◌, Option, Some, None, Bool, true, false, refl, sym, ap, ◌∙◌, subst}
 use Rattle.std.specs.Prelude.{nat_eq, not, if◌then◌else◌, ◌&&◌}
 use Rattle.std.proofs.lemmas.Bool.{eqb-true, both_ways, and_parts, or_left, or_right, or_cases}
-use Rattle.lu_object_story.specs.Words.{Lock, Request, Call, Entry, Heard, Hold, Drop, Grant, Wait, Promote, Acts, Txn, Release, Flies as Flew, Forgets, Evict as Evicted, Commit as Committed, Close as Closed, Send as Sends, Ask as Asks, Reply as Replies, Give as Gives, Block as Blocks, Cancel as Cancels}
+use Rattle.lu_object_story.specs.Words.{Lock, Request, Call, Entry, Takes, Heard, Hold, Drop, Grant, Wait, Promote, Acts, Txn, Release, Flies as Flew, Forgets, Evict as Evicted, Commit as Committed, Close as Closed, Send as Sends, Ask as Asks, Reply as Replies, Give as Gives, Block as Blocks, Cancel as Cancels}
 use Rattle.lu_object_story.specs.Folds.{evicted as evicted_in, also, nothing_lost, IsGranted}
 use Rattle.lu_object_story.specs.History.{Item, told_item, piece_item, history, size_of, Right, Puts}
 use Rattle.lu_object_story.specs.Guards.{IsEnd, EndAt}
@@ -97,6 +97,7 @@ lives_same : (out lost : ℕ → Bool) (past : List Line) (t o c : ℕ) (e : Ent
 lives_same out lost past t o c (Heard r a) h ok = refl
 lives_same out lost past t o c (Hold l s sn) h ok = refl
 lives_same out lost past t o c (Drop l) h ok = refl
+lives_same out lost past t o c (Takes d k ch) h ok = refl
 lives_same out lost past t o c _ h ok = absurd ok
 
 serve_same : (out lost : ℕ → Bool) (past : List Line) (t o : ℕ) (r : Request) (e : Entry) (h : List Entry) (is : List Item) → ServedOk past t o r e → history out lost h ≡ is → history out lost (e ∷ h) ≡ served_items out lost e is

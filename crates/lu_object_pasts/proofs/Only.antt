@@ -1,5 +1,5 @@
 -- The projection: of an allowed whole past each object's story is allowed.
-use Rattle.lu_object_story.specs.Guards.{HeardOf}
+use Rattle.lu_object_story.specs.Guards.{HeardOf, TakesOk}
 use Rattle.lu_object_story.specs.Words.{Content, Sized, Uncovered, Tells as Told}
 use Rattle.std.proofs.lemmas.Bool.{or_cases}
 use Rattle.lu_object_pasts.specs.Folds.{SawAnswer, SawIn, Saw, committed}
@@ -7,7 +7,7 @@ use Rattle.std.proofs.Common.{◌<◌}
 use Rattle.std.proofs.Common.{◌≡◌, ℕ, ◌≤◌, ◌⊎◌, inl, inr, ⊎_elim, List, [], ◌∷◌, Option, Some, None, Bool, true, false, refl, sym, ap, ◌∙◌, subst, arith}
 use Rattle.std.specs.Prelude.{max, nat_eq, if◌then◌else◌, ◌&&◌, ◌||◌}
 use Rattle.std.proofs.lemmas.Bool.{eqb-true, eq-eqb, both_ways, and_parts, or_right}
-use Rattle.lu_object_story.specs.Words.{Lock, Change, covers, Request, Answer, Granted, Waiting, Done, Call, Entry, Heard, Hold, Drop, Grant, Wait, Promote, Acts, Txn, Release, Flies as Flew, Forgets, Evict as Evicted, Commit as Committed, Close as Closed, Send as Sends, Ask as Asks, Reply as Replies, Give as Gives, Block as Blocks, Cancel as Cancels}
+use Rattle.lu_object_story.specs.Words.{Lock, Change, covers, Request, Answer, Granted, Waiting, Done, Call, Entry, Takes, Heard, Hold, Drop, Grant, Wait, Promote, Acts, Txn, Release, Flies as Flew, Forgets, Evict as Evicted, Commit as Committed, Close as Closed, Send as Sends, Ask as Asks, Reply as Replies, Give as Gives, Block as Blocks, Cancel as Cancels}
 use Rattle.lu_object_story.specs.Folds.{Was, closed as closed_in, evicted as evicted_in, Answered, WasGranted, IsGranted, IsWaiting, HeldBy, WasDropped, awaits, flight, also}
 use Rattle.lu_object_story.specs.Guards.{Fresh, New, GrantOk, WaitOk, TxnOk, PromoteOk, ActsOk, ToldOk, CloseOk, IsEnd, Sees, KeptFor, Named, Allowed, AllAllowed}
 use Rattle.lu_object_story.proofs.Kept.{kept_outs}
@@ -16,7 +16,7 @@ use Rattle.lu_object_pasts.specs.Folds.{boot, serving, closed, joined, evicted, 
 use Rattle.lu_object_pasts.specs.Only.{live, keep, told, is_at, is_object, sent, put, only}
 use Rattle.lu_object_pasts.specs.Guards.{FreshAt, WaitsAt, ServedOk, WorksOk, FliesOk, LivesOk, SentOk, ClosesOk, LineOk, AllOk}
 use Rattle.lu_object_pasts.proofs.Base.{Base, base_line, no_base, or_false, when}
-use Rattle.lu_object_pasts.proofs.Tied.{at, flies_at, Tied, More, more, keep_at, live_parts, knows_more, knows_own, flies_more, flies_own, lives_more, heard_own, held_own, dropped_own, serve_more, queue_more, served_own, promoted_own, evict_more, evicted_own, close_more, closed_own, same_place}
+use Rattle.lu_object_pasts.proofs.Tied.{at, flies_at, Tied, More, more, keep_at, live_parts, knows_more, knows_own, flies_more, flies_own, lives_more, heard_own, held_own, dropped_own, taken_own, serve_more, queue_more, served_own, promoted_own, evict_more, evicted_own, close_more, closed_own, same_place}
 use Rattle.lu_object_pasts.proofs.Mail.{Mail, mail_line, no_mail}
 
 -- ---- tests
@@ -59,6 +59,7 @@ lives_own : (t o u q d : ℕ) (e : Entry) (past : List Line) (h : List Entry) �
 lives_own t o u q d (Heard r a) past h bs v s l ok w = heard_own t o u q d r a past h bs v s l ok w
 lives_own t o u q d (Hold k s sn) past h bs v x l ok w = held_own t o u q d k s sn past h w
 lives_own t o u q d (Drop k) past h bs v s l ok w = dropped_own t o u q d k past h w
+lives_own t o u q d (Takes c k ch) past h bs v s l ok w = subst (λ (x : ℕ). Tied t o (Lives u q d (Takes x k ch) ∷ past) (Takes x k ch ∷ h)) (sym ok.0) (taken_own t o u q d k ch past h w)
 lives_own t o u q d _ past h bs v s l ok w = absurd ok
 
 -- what waits was sent with the boot of the last close, and isn't answered
@@ -209,6 +210,7 @@ kept_entry out lost d (Heard r a) f = λ o. kept_answer lost a (λ n i. f r.life
 kept_entry out lost d (Hold l z sn) f = λ o n i. f l.life n o (refl, i)
 kept_entry o1 l1 w (Flew k) f = tt
 kept_entry o1 l1 w (Drop l) f = tt
+kept_entry o1 l1 w (Takes c k ch) f = tt
 kept_entry o1 l1 w (Forgets c) f = tt
 kept_entry o1 l1 w (Told c call) f = tt
 kept_entry o1 l1 w (Grant k l s sn) f = tt
@@ -281,6 +283,7 @@ kept_lives : (out lost : ℕ → Bool) (past : List Line) (t o c : ℕ) (e : Ent
 kept_lives out lost past t o c (Heard r a) h ok k rest = (k, rest)
 kept_lives out lost past t o c (Hold l s sn) h ok k rest = (k, rest)
 kept_lives out lost past t o c (Drop l) h ok k rest = rest
+kept_lives out lost past t o c (Takes d j ch) h ok k rest = rest
 kept_lives out lost past t o c _ h ok k rest = absurd ok
 
 kept_serve : (out lost : ℕ → Bool) (past : List Line) (t o : ℕ) (r : Request) (e : Entry) (h : List Entry) → ServedOk past t o r e → KeptFor out lost h → KeptFor out lost (e ∷ h)
@@ -404,6 +407,7 @@ lives_ok t o c (Hold k s sn) past bs ml w l ok =
           ok.3,
     )
 lives_ok t o c (Drop k) past bs ml w l ok = ok.1
+lives_ok t o c (Takes d k ch) past bs ml w l ok = subst (λ (x : ℕ). TakesOk (only t o past) x k ch) (sym ok.0) ok.1
 lives_ok t o c _ past bs ml w l ok = absurd ok
 
 flies_ok : (t o g : ℕ) (r : Request) (past : List Line) → Tied t o past (only t o past) → live t r.life past ≡ true → FliesOk past t o g r → New (only t o past) r
@@ -566,6 +570,7 @@ answered_lives : (past : List Line) (t o d : ℕ) (e : Entry) (h : List Entry) (
 answered_lives past t o d (Heard r b) h c x a ok i = i
 answered_lives past t o d (Hold l s sn) h c x a ok i = i
 answered_lives past t o d (Drop l) h c x a ok i = i
+answered_lives past t o d (Takes e k ch) h c x a ok i = i
 answered_lives past t o d _ h c x a ok i = absurd ok
 
 answered_works : (past : List Line) (t o : ℕ) (e : Entry) (h : List Entry) (c x : ℕ) (a : Answer) → WorksOk past t o e → Answered (e ∷ h) c x a → Answered h c x a

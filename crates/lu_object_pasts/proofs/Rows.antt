@@ -8,7 +8,7 @@ use Rattle.lu_object_pasts.specs.Words.{Line, Lives, Serve, Works}
 use Rattle.lu_object_pasts.specs.Folds.{boot, serving, closed, joined, over, knows, place}
 use Rattle.lu_object_pasts.specs.Only.{live, only}
 use Rattle.lu_object_pasts.specs.Guards.{FreshAt, WaitsAt, ServedOk, AllOk}
-use Rattle.lu_object_pasts.specs.Rows.{ask_of, LifeSteps, rests, tells, asks, asks_again, drops, TargetSteps, stops, promotes, calls_back, frees, answer_of, Row, goes_on, learns, readies, hears, hears_lock, given, unknown, joins_in, ends, executes, queues, repeats, cancels, tells_where, joins, readies_life, works, evicts, commits, crashes, boots, closes, pushed, starts, past_of, Run}
+use Rattle.lu_object_pasts.specs.Rows.{ask_of, LifeSteps, rests, tells, takes, asks, asks_again, drops, TargetSteps, stops, promotes, calls_back, frees, answer_of, Row, goes_on, learns, readies, hears, hears_lock, given, unknown, joins_in, ends, executes, queues, repeats, cancels, tells_where, joins, readies_life, works, evicts, commits, crashes, boots, closes, pushed, starts, past_of, Run}
 use Rattle.lu_object_pasts.proofs.Tied.{flies_at}
 use Rattle.lu_object_pasts.proofs.Only.{whole, served_sent}
 use Rattle.lu_object_pasts.proofs.Mail.{is_at_it}
@@ -26,6 +26,7 @@ own_work t o h e = rw (eq-eqb t t refl, eq-eqb o o refl)
 life_steps : (c : ℕ) {h ls : List Line} → LifeSteps c h ls → over c h ≡ false → AllOk h → AllOk (pushed ls h)
 life_steps c rests v all = all
 life_steps c (tells does ok next) v all = life_steps c next v (ok, all)
+life_steps c (takes t o k ch ok next) v all = life_steps c next v ((λ f. refl, λ live'. (refl, ok live')), all)
 life_steps c (asks t o g x op ok next) v all = life_steps c next v ((v, ok.serves, refl, rw (eq-eqb t t refl, eq-eqb c c refl) (inl refl)), (ok, all))
 life_steps c (asks_again t o g x op s i next) v all = life_steps c next v ((v, s, refl, i), all)
 life_steps c (drops {h = h} t o l e at' ok next) v all = life_steps c next v ((v, λ live'. (o, at', inl (l, subst (λ (k : List Entry). WasDropped k l) (sym (own_life t o c h (Drop l) live')) (inl refl), e, refl))), ((λ f. refl, λ live'. (e, ok live')), all))

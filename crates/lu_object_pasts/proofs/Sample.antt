@@ -6,7 +6,7 @@ use Rattle.std.proofs.Common.{◌≡◌, ℕ, suc, ◌≤◌, inl, inr, ⊎_elim
 use Rattle.std.specs.Prelude.{nat_eq, if◌then◌else◌, ◌&&◌}
 use Rattle.std.proofs.lemmas.Bool.{eqb-true, and_parts}
 use Rattle.std.proofs.lemmas.Bool.Decides.{nat_tests}
-use Rattle.lu_object_story.specs.Words.{Lock, Write, Enqueue, Get, Flush, Request, Granted, Waiting, Content, Done, Call, Did, Saw, Heard, Hold, Drop, Grant, Wait, Promote, Acts, Txn, Release, covers, overlay, value}
+use Rattle.lu_object_story.specs.Words.{Lock, Write, Enqueue, Get, Flush, Request, Granted, Waiting, Content, Done, Call, Did, Saw, Takes, Heard, Hold, Drop, Grant, Wait, Promote, Acts, Txn, Release, covers, overlay, value}
 use Rattle.lu_object_story.specs.Folds.{nothing_lost, is_some, touched, pending, dirty, Changed}
 use Rattle.lu_object_story.specs.History.{Made, Read}
 use Rattle.lu_object_story.specs.Guards.{in_run, ToldOk}
@@ -117,8 +117,11 @@ s16 = Send 1 (Block 1 0 1) ∷ s15
 abbrev pub s17 : List Line
 s17 = Lives 1 5 1 (Heard r2 (Waiting 2)) ∷ s16
 
+abbrev pub taken17 : List Line
+taken17 = Lives 1 5 0 (Takes 0 1 (Write 0 (104 ∷ 105 ∷ []))) ∷ s17
+
 abbrev pub s18 : List Line
-s18 = Flies 1 5 0 r3 ∷ s17
+s18 = Flies 1 5 0 r3 ∷ taken17
 
 abbrev pub s19 : List Line
 s19 = Send 1 (Ask 1 0 5 r3) ∷ s18
@@ -279,8 +282,11 @@ ok16 = ((5, refl, (l1, inl refl, refl, refl)), ok15)
 ok17 : AllOk s17
 ok17 = ((λ e. absurd (cc), λ l. (refl, (0, inl refl), inr (inl (refl, refl)))), ok16)
 
+taken_ok17 : AllOk taken17
+taken_ok17 = ((λ e. refl, λ l. (refl, record { alone = refl; under = record { lock = l1; held = inl refl; life = refl; cookie = refl; mode = λ e. refl; covered = λ p e. wide1 p }; change = (λ p e. refl, λ p b e. e) })), ok17)
+
 ok18 : AllOk s18
-ok18 = (record { goes_on = refl; serves = refl; next = omega arith; one = λ f i. absurd i; op = λ l. (record { lock = l1; held = inl refl; life = refl; cookie = refl; mode = λ e. refl; covered = λ p e. wide1 p }, (refl, λ p b e. e)) }, ok17)
+ok18 = (record { goes_on = refl; serves = refl; next = omega arith; one = λ f i. absurd i; op = λ l. refl }, taken_ok17)
 
 ok19 : AllOk s19
 ok19 = ((refl, refl, refl, inl refl), ok18)
@@ -295,7 +301,7 @@ ok22 : AllOk s22
 ok22 = ((λ e. absurd (cc), λ l. (refl, (0, inl refl), inl (refl, refl))), ok21)
 
 ok23 : AllOk s23
-ok23 = ((λ e. refl, λ l. (refl, record { held = inl refl; clean = λ p e. clean p; free = refl })), ok22)
+ok23 = ((λ e. refl, λ l. (refl, record { held = inl refl; clean = λ p e. clean p; free = refl; untaken = refl })), ok22)
 
 ok24 : AllOk s24
 ok24 = ((refl, λ l. (5, refl, inl (l1, inl refl, refl, refl))), ok23)

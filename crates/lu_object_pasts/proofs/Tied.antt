@@ -2,7 +2,7 @@
 use Rattle.std.proofs.Common.{◌≡◌, ℕ, ◌<◌, ◌≤◌, ◌⊎◌, inl, inr, ⊎_elim, List, [], ◌∷◌, Option, Some, None, Bool, true, false, refl, sym, ap, ◌∙◌, subst, arith}
 use Rattle.std.specs.Prelude.{max, nat_eq, not, if◌then◌else◌, ◌&&◌, ◌||◌}
 use Rattle.std.proofs.lemmas.Bool.{eqb-true, eqb-false, eq-eqb, both_ways, and_parts}
-use Rattle.lu_object_story.specs.Words.{Lock, Request, Answer, Done, Entry, Heard, Hold, Drop, Grant, Wait, Promote, Acts, Txn, Release, Flies as Flew, Forgets, Tells as Told, Evict as Evicted, Commit as Committed, Close as Closed, Send as Sends}
+use Rattle.lu_object_story.specs.Words.{Lock, Change, Request, Answer, Done, Entry, Takes, Heard, Hold, Drop, Grant, Wait, Promote, Acts, Txn, Release, Flies as Flew, Forgets, Tells as Told, Evict as Evicted, Commit as Committed, Close as Closed, Send as Sends}
 use Rattle.lu_object_story.specs.Folds.{closed as closed_in, evicted as evicted_in, asked, top as top_in, Answered, WasGranted, IsWaiting, awaits, flight, brings, also}
 use Rattle.lu_object_story.specs.Guards.{PromoteOk}
 use Rattle.lu_object_pasts.specs.Words.{Reply, Line, Knows, Flies, Lives, Queue, Serve, Works, Evict, Close, Flight, Place}
@@ -267,6 +267,7 @@ lives_more t o u q d e past bs ok v = record {
             other l s = both_ways (nat_eq t u && nat_eq o q && live t d past) v (rw (eq-eqb t u mine.0, eq-eqb o q s, l))
     stays c g r x i y (Hold l s sn) z = i
     stays c g r x i y (Drop l) z = i
+    stays c g r x i y (Takes p k ch) z = i
     stays c g r x i y (Flew p) z = i
     stays c g r x i y (Forgets p) z = i
     stays c g r x i y (Told p a) z = i
@@ -361,6 +362,21 @@ held_own t o u q d k s sn past h w = record {
 
 pub dropped_own : (t o u q d : ℕ) (k : Lock) (past : List Line) (h : List Entry) → Tied t o past h → Tied t o (Lives u q d (Drop k) ∷ past) (Drop k ∷ h)
 dropped_own t o u q d k past h w = record {
+  boots = w.boots;
+  outs = w.outs;
+  asks = w.asks;
+  tops = w.tops;
+  answered = w.answered;
+  dones = w.dones;
+  cookies = w.cookies;
+  waits = w.waits;
+  awaited = w.awaited;
+  flying = λ c f e i z. w.flying c f e (still_flying t u c d past f i) z;
+  flies = λ c r e i. let p = w.flies c r e i in (p.0, flying_still t u c d past (flies_at o p.0 r) p.1);
+}
+
+pub taken_own : (t o u q d : ℕ) (k : ℕ) (ch : Change) (past : List Line) (h : List Entry) → Tied t o past h → Tied t o (Lives u q d (Takes d k ch) ∷ past) (Takes d k ch ∷ h)
+taken_own t o u q d k ch past h w = record {
   boots = w.boots;
   outs = w.outs;
   asks = w.asks;

@@ -4,9 +4,9 @@
 -- Understanding Lustre Filesystem Internals, the lock manager), and seen numbers (this project's profile).
 use Rattle.std.specs.Prelude.{◌≤◌}
 use Rattle.std.specs.Prelude.{◌≡◌, ◌⊎◌, ℕ, ◌<◌, ◌||◌, Bool, true, false, List, [], ◌∷◌, Some, None}
-use Rattle.lu_object_story.specs.Words.{Lock, Change, Flush, Request, Granted, Call, Entry, Heard, Hold, Drop, Grant, Wait, Promote, Acts, Txn, Release, covers, changes}
+use Rattle.lu_object_story.specs.Words.{Lock, Change, Flush, Request, Granted, Call, Entry, Takes, Heard, Hold, Drop, Grant, Wait, Promote, Acts, Txn, Release, covers, changes}
 use Rattle.lu_object_story.specs.Folds.{Answered, HeldBy, IsGranted, WasDropped, awaits}
-use Rattle.lu_object_story.specs.Guards.{GrantedNumber, ToldOk, OpOk, Sees, ActsOk, IsEnd, Named, Asks, Free, PromoteOk, DropOk}
+use Rattle.lu_object_story.specs.Guards.{GrantedNumber, ToldOk, OpOk, Sees, ActsOk, IsEnd, Named, Asks, Free, PromoteOk, DropOk, TakesOk}
 use Rattle.lu_object_pasts.specs.Words.{Message, Ask, Reply, Give, Block, Cancel, Join, Ready, Line, Knows, Serves, Flies, Lives, Tells, Over, Joins, Queue, Serve, Works, Evict, Commit, Crash, Boot, Close, Send, Flight}
 use Rattle.lu_object_pasts.specs.Folds.{boot, serving, closed, joined, evicted, top, object_of, slot, over, knows, serves, last, place, heard_of, flights, In, Queued, Sent, Saw, committed}
 use Rattle.lu_object_pasts.specs.Only.{only, live, is_at}
@@ -61,6 +61,7 @@ LivesOk past t o c (Hold l s sn) = (l.life ≡ c) × (object_of t l.cookie past 
     × (((x : ℕ) × Sent past t (Reply (knows t c past) c x (Granted l s sn)) × (is_at (place t c x past) o ≡ true))
     ⊎ Sent past t (Give (knows t c past) l s sn))
 LivesOk past t o c (Drop l) = (l.life ≡ c) × DropOk (only t o past) l
+LivesOk past t o c (Takes d k ch) = (d ≡ c) × TakesOk (only t o past) c k ch
 LivesOk past t o c _ = ⊥
 
 -- a life begins a request: it isn't over and may ask at the target, the number is above all its earlier ones there, it has

@@ -3,9 +3,9 @@
 -- message that was ever sent may come, again, late or never (Wang et al., Understanding Lustre Filesystem Internals, the
 -- lock manager; Lustre Operations Manual, recovery; this project's profile, for what is one turn).
 use Rattle.std.specs.Prelude.{◌≡◌, ◌⊎◌, ℕ, ◌<◌, ◌≤◌, Bool, true, false, List, [], ◌∷◌, Option, Some}
-use Rattle.lu_object_story.specs.Words.{Lock, Op, Request, Answer, Granted, Waiting, Done, Uncovered, Call, Entry, Heard, Hold, Drop, Grant, Wait, Promote, Acts, Txn, Release, covers}
+use Rattle.lu_object_story.specs.Words.{Lock, Change, Op, Request, Answer, Granted, Waiting, Done, Uncovered, Call, Entry, Takes, Heard, Hold, Drop, Grant, Wait, Promote, Acts, Txn, Release, covers}
 use Rattle.lu_object_story.specs.Folds.{Answered, HeldBy, IsGranted, awaits}
-use Rattle.lu_object_story.specs.Guards.{ToldOk, Sees, IsEnd, Named, PromoteOk, DropOk}
+use Rattle.lu_object_story.specs.Guards.{ToldOk, Sees, IsEnd, Named, PromoteOk, DropOk, TakesOk}
 use Rattle.lu_object_pasts.specs.Words.{Ask, Reply, Give, Block, Cancel, Join, Ready, Line, Knows, Serves, Flies, Lives, Tells, Over, Joins, Queue, Serve, Works, Evict, Commit, Crash, Boot, Close, Send, Flight}
 use Rattle.lu_object_pasts.specs.Folds.{boot, serving, joined, evicted, object_of, over, knows, serves, place, flights, In, Sent, committed}
 use Rattle.lu_object_pasts.specs.Only.{only, live}
@@ -19,13 +19,15 @@ flight_at o g r = record { object = o; tag = g; request = r }
 abbrev pub ask_of : ℕ → ℕ → Op → Request
 ask_of c x op = record { life = c; xid = x; op = op }
 
--- what life c goes on to do in a turn, over the lines so far: it rests; a call is told; it begins a request and sends it;
--- it sends one in flight again; it drops a lock and gives it back
+-- what life c goes on to do in a turn, over the lines so far: it rests; a call is told; a change is taken to be written back; it
+-- begins a request and sends it; it sends one in flight again; it drops a lock and gives it back
 pub data LifeSteps (c : ℕ) : List Line → List Line → Type 0 where
   rests : {h : List Line} → LifeSteps c h []
   tells : {h ls : List Line} (does : ℕ → ℕ → Option Call)
       → ((t o : ℕ) (call : Call) → live t c h ≡ true → does t o ≡ Some call → ToldOk (only t o h) c call)
       → LifeSteps c (Tells c does ∷ h) ls → LifeSteps c h (Tells c does ∷ ls)
+  takes : {h ls : List Line} (t o k : ℕ) (ch : Change) → (live t c h ≡ true → TakesOk (only t o h) c k ch)
+      → LifeSteps c (Lives t o c (Takes c k ch) ∷ h) ls → LifeSteps c h (Lives t o c (Takes c k ch) ∷ ls)
   asks : {h ls : List Line} (t o g x : ℕ) (op : Op) → FliesOk h t o g (ask_of c x op)
       → LifeSteps c (Send t (Ask (knows t c h) g o (ask_of c x op)) ∷ Flies t o g (ask_of c x op) ∷ h) ls
       → LifeSteps c h (Flies t o g (ask_of c x op) ∷ Send t (Ask (knows t c h) g o (ask_of c x op)) ∷ ls)

@@ -21,7 +21,7 @@ pub data Message : Type 0 where
   Ready : (boot : ℕ) (life : ℕ) → Message
 
 -- Of a life: Knows, it learns of a boot; Serves, it takes `Ready`, so it may ask there; Flies, a request is in flight from now
--- on; Lives, what it does with an object (hears, holds, drops); Tells, a call is told, with what it did to each object of each
+-- on; Lives, what it does with an object (takes, hears, holds, drops); Tells, a call is told, with what it did to each object of each
 -- target; Over, it ends. Of a target: Joins, a life gets its slot; Queue, a request is taken and has to wait for its answer (a
 -- glimpse, while a holder is asked); Serve, a request is executed (granted, waits, acts, is a transaction); Works, a waiting
 -- lock is granted or a lock released. Then what concerns all its objects: Evict, a life is evicted; Commit, all transactions up

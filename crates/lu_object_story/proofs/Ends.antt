@@ -8,10 +8,10 @@ use Rattle.lu_object_story.specs.Folds.{also, is_some, Was, closed, evicted, Ans
 use Rattle.lu_object_story.specs.Guards.{UnderNumber, Sees, HeardOf, KeptFor, IsEnd, GrantOk, PromoteOk, TxnOk, ActsOk, SendOk, DropOk, Allowed}
 use Rattle.lu_object_story.proofs.Numbers.{Numbers, fresh_flies, hold_was}
 use Rattle.lu_object_story.proofs.Locks.{Lockings, Alive, same_or_apart, grant_apart, promote_apart}
-use Rattle.lu_object_story.proofs.Spot.{run_in, run_bounds, end_above, end_least, end_other, unchanged, told_touched, Flown}
+use Rattle.lu_object_story.proofs.Spot.{run_in, run_bounds, end_above, end_least, end_other, unchanged, told_touched, FlownBy}
 use Rattle.lu_object_story.proofs.Kept.{sees_same}
-use Rattle.lu_object_story.proofs.Patches.{Patches, Running, Using, at_life}
-use Rattle.lu_object_story.proofs.Facts.{Outs, lives, Free, txn_lost, Facts, one_lock, own_txn, running_touched, same_flight, txn_object}
+use Rattle.lu_object_story.proofs.Patches.{Patches, Running, Using, at_life, flight_hidden, flight_uses, flight_flown}
+use Rattle.lu_object_story.proofs.Facts.{Outs, lives, Free, txn_lost, Facts, one_lock, own_txn, running_touched, txn_object}
 
 -- from position `first` on the object ends at `e`, but for positions where that is hidden
 pub record Bounds (lost : ℕ → Bool) (h : List Entry) (first e : ℕ) (hides : ℕ → Bool) : Type 0 where
@@ -223,7 +223,7 @@ txns out lost h nr r k ch outs stays n lk pt ok w = record {
     under l p g nh cov e =
         let u = ok.under in
         let same = one_lock h l u.lock p lk g u.granted cov (u.covered p e) (u.mode refl) in
-        let m : UnderNumber h r.life k true (changes ch) = subst (λ (o : Op). Using h r.life o) ok.op (pt.uses r.life r flies) in
+        let m : UnderNumber h r.life k true (changes ch) = subst (λ (o : Op). Using h r.life o) ok.op (flight_uses h r.life r pt flies) in
         let is : m.lock ≡ u.lock = lk.unique m.lock u.lock (n.held m.lock m.held) (n.is_granted u.lock u.granted) (m.cookie ∙ sym u.cookie) in
         nh (subst (λ (x : Lock). HeldBy h x) (is ∙ sym same) m.held)
 
@@ -245,7 +245,7 @@ txns out lost h nr r k ch outs stays n lk pt ok w = record {
     mine l p i v cov hid e =
         let is = own_txn h nr r k ch l p n lk ok i (lives out h l.life outs v) cov e in
         both_ways (hides h r.life p) (subst (λ (c : ℕ). hides h c p ≡ false) is hid)
-        (running_touched h r.life k ch p (subst (λ (o : Op). Running h r.life o) ok.op (pt.run r.life r flies)) e)
+        (running_touched h r.life k ch p (subst (λ (o : Op). Running h r.life o) ok.op (flight_hidden h r.life r pt flies)) e)
 
     kept : (l : Lock) (z : ℕ) → HeldBy h l → out l.life ≡ false → l.last ≡ None → Bounds lost h l.first z (hides h l.life)
         → Bounds lost (Txn nr r ∷ h) l.first z (hides h l.life)
@@ -255,7 +255,7 @@ txns out lost h nr r k ch outs stays n lk pt ok w = record {
     }
 
 -- an acknowledged change
-acked_hides : (op : Op) (a : Answer) (q d : Option ℕ) (f : Bool) (p : ℕ) → (f ≡ true → Flown op q d p)
+acked_hides : (op : Op) (a : Answer) (q d : Option ℕ) (f : Bool) (p : ℕ) → (f ≡ true → FlownBy op q d p)
     → touched (cut_acked op a q) (dirty_acked op a f d) p ≡ false
     → (touched q d p ≡ false) ⊎ ((k : ℕ) × (ch : Change) × (op ≡ Flush k ch) × (changes ch p ≡ true))
 acked_hides (Flush k (Write at bs)) (Done m) q d true p fl e = inr (k, Write at bs, refl, (fl refl).0)
@@ -290,7 +290,7 @@ acked_some (Cut n) e p x top is some = ap is_some is ∙ grind (arith, nat_tests
 
 acked_bounds : (lost : ℕ → Bool) (h : List Entry) (c f : ℕ) (op : Op) (a : Answer) (o : Option ℕ) (z : ℕ)
     → ((m : ℕ) → a ≡ Done m → (p : ℕ) → object lost h p ≡ after_op op p (object lost h p))
-    → ((p : ℕ) → flying c h p ≡ true → Flown op (pending c h) (dirty c h p) p) → ((e : ℕ) → o ≡ Some e → Bounds lost h f e (hides h c))
+    → ((p : ℕ) → flying c h p ≡ true → FlownBy op (pending c h) (dirty c h p) p) → ((e : ℕ) → o ≡ Some e → Bounds lost h f e (hides h c))
     → end_acked op a o ≡ Some z
     → Bounds lost h f z (λ p. touched (cut_acked op a (pending c h)) (dirty_acked op a (flying c h p) (dirty c h p)) p)
 acked_bounds lost h c f (Flush k ch) (Done m) (Some e) z done fl old is =
@@ -340,7 +340,7 @@ hears out lost h r a of n pt fs fl was w = record {
         let ans : Answered h l.life r.xid a = subst (λ (d : ℕ). Answered h d r.xid a) (sym is) (n.replies r.life r.xid a was) in
         let b = acked_bounds lost h l.life l.first r.op a (ends l.life l.cookie h) z
         (λ m d p. fs.done l.life p r m v fc (subst (λ (x : Answer). Answered h l.life r.xid x) d ans) (subst (λ (x : Answer). HeardOf lost x) d (of (ap out (sym is) ∙ v))))
-        (λ p f. let o = pt.flown l.life p f in subst (λ (q : Request). Flown q.op (pending l.life h) (dirty l.life h p) p) (same_flight h l.life o.request r o.flies fc) o.flown)
+        (λ p f. flight_flown h l.life p r pt fc f)
         (λ y j. w.kept l y i v last j) e in
         record {
           none = λ p q j k. b.none p q j (subst (λ (x : Bool). touched (if x then cut_acked r.op a (pending l.life h) else pending l.life h) (if x then dirty_acked r.op a (flying l.life h p) (dirty l.life h p) else dirty l.life h p) p ≡ false) t k);

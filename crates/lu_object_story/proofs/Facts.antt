@@ -9,9 +9,9 @@ use Rattle.lu_object_story.specs.Folds.{also, asked, is_some, over, Was, closed,
 use Rattle.lu_object_story.specs.Guards.{UnderNumber, in_run, Fresh, TxnOk, ActsOk, HeardOf, KeptFor, New, DropOk, Allowed}
 use Rattle.lu_object_story.proofs.Numbers.{Numbers, fresh_flies}
 use Rattle.lu_object_story.proofs.Locks.{Lockings, held_granted}
-use Rattle.lu_object_story.proofs.Spot.{run_out, run_same, run_some, in_run_of, unchanged, twice, told_masked, masked_touched, masked_over, cut_under, cut_value, conflict_at, Flown}
+use Rattle.lu_object_story.proofs.Spot.{run_out, run_same, run_some, in_run_of, unchanged, twice, told_masked, masked_touched, masked_over, cut_under, cut_value, conflict_at, FlownBy}
 use Rattle.lu_object_story.proofs.Kept.{sees_same}
-use Rattle.lu_object_story.proofs.Patches.{Patches, Running, Using, at_life}
+use Rattle.lu_object_story.proofs.Patches.{Patches, Running, Using, at_life, flight_hidden, flight_uses, flight_flown}
 
 -- the life holds a lock over the position
 pub record Knows (h : List Entry) (c p : ℕ) : Type 0 where
@@ -145,7 +145,7 @@ txns out lost h nr r k ch outs stays n lk pt ok w = record {
     flies = fresh_flies h r n ok.fresh
 
     running : (c : ℕ) → c ≡ r.life → Running h c (Flush k ch)
-    running c e = subst (λ (op : Op). Running h c op) ok.op (pt.run c r (ap (λ (d : ℕ). flight d h) e ∙ flies))
+    running c e = subst (λ (op : Op). Running h c op) ok.op (flight_hidden h c r pt (ap (λ (d : ℕ). flight d h) e ∙ flies))
 
     known : (c p v : ℕ) → out c ≡ false → KnownOk lost h c p v → (b : Bool) → changes ch p ≡ b → KnownOk lost (Txn nr r ∷ h) c p v
     known c p v live o false e = record {
@@ -179,7 +179,7 @@ txns out lost h nr r k ch outs stays n lk pt ok w = record {
         by : (p v : ℕ) → overlay at vs p None ≡ Some v → (b : Bool) → changes ch p ≡ b → value (object lost (Txn nr r ∷ h) p) ≡ v
         by p v o false x = ap (λ (y : Option ℕ). value y) (txn_object lost h nr r k ch p stays ok.op ∙ unchanged ch p (object lost h p) x) ∙ g'.1 p v o
         by p v o true x =
-            let u : UnderNumber h c j false (in_run at m) = subst (λ (op : Op). Using h c op) e (pt.uses c q f) in
+            let u : UnderNumber h c j false (in_run at m) = subst (λ (op : Op). Using h c op) e (flight_uses h c q pt f) in
             let cov = u.covered p (in_run_of at vs m p g'.0 (run_some at vs p v o)) in
             let mine : c ≡ r.life = sym u.life ∙ own_txn h nr r k ch u.lock p n lk ok u.held (ap (λ (d : ℕ). evicted d h) u.life ∙ lives out h c outs live) cov x in
             let is : q ≡ r = same_flight h c q r f (ap (λ (d : ℕ). flight d h) mine ∙ flies) in
@@ -210,7 +210,7 @@ txns out lost h nr r k ch outs stays n lk pt ok w = record {
             other : (b : Bool) → changes c' p ≡ b → object lost (Txn nr r ∷ h) p ≡ after_at c' p (object lost (Txn nr r ∷ h) p)
             other false z = sym (unchanged c' p (object lost (Txn nr r ∷ h) p) z)
             other true z =
-                let u : UnderNumber h c j true (changes c') = subst (λ (o : Op). Using h c o) e (pt.uses c q f) in
+                let u : UnderNumber h c j true (changes c') = subst (λ (o : Op). Using h c o) e (flight_uses h c q pt f) in
                 let mine : c ≡ r.life = sym u.life ∙ own_txn h nr r k ch u.lock p n lk ok u.held (ap (λ (d : ℕ). evicted d h) u.life ∙ lives out h c outs live) (u.covered p z) y in
                 let is : q ≡ r = same_flight h c q r f (ap (λ (d : ℕ). flight d h) mine ∙ flies) in
                 absurd (ok.fresh.first (Done m) (subst (λ (y : Request). Answered h y.life y.xid (Done m)) is (subst (λ (d : ℕ). Answered h d q.xid (Done m)) (sym (n.flies c q f).0) i)))
@@ -362,7 +362,7 @@ zero_value n p v (Some w) x e z f = (ap (λ (y : Option ℕ). value y) f ∙ gri
 learns : (lost : ℕ → Bool) (h : List Entry) (c p v : ℕ) (op : Op) (a : Answer) → Using h c op
     → ((vs : List ℕ) (t : Option ℕ) (sn : ℕ → Bool) → a ≡ Content vs t sn → Got lost h op vs)
     → ((m : ℕ) → a ≡ Done m → object lost h p ≡ after_op op p (object lost h p))
-    → (flying c h p ≡ true → Flown op (pending c h) (dirty c h p) p) → ((u : ℕ) → known c h p ≡ Some u → KnownOk lost h c p u)
+    → (flying c h p ≡ true → FlownBy op (pending c h) (dirty c h p) p) → ((u : ℕ) → known c h p ≡ Some u → KnownOk lost h c p u)
     → learn op a p (known c h p) ≡ Some v → Learned lost h c p v op a
 learns lost h c p v (Get k at n) (Content vs t sn) u got done fl old e = by (within at vs p) refl
   where
@@ -425,10 +425,10 @@ hears out lost h r a of n pt fl was w = record {
         let fc : flight c h ≡ Some r = ap (λ (d : ℕ). flight d h) is ∙ fl in
         let ans : Answered h c r.xid a = subst (λ (d : ℕ). Answered h d r.xid a) (sym is) (n.replies r.life r.xid a was) in
         let of' : HeardOf lost a = of (ap out (sym is) ∙ live) in
-        let l = learns lost h c p v r.op a (pt.uses c r fc)
+        let l = learns lost h c p v r.op a (flight_uses h c r pt fc)
         (λ vs t sn i. w.got c r vs t sn live fc (subst (λ (b : Answer). Answered h c r.xid b) i ans) (subst (λ (b : Answer). HeardOf lost b) i of'))
         (λ m i. w.done c p r m live fc (subst (λ (b : Answer). Answered h c r.xid b) i ans) (subst (λ (b : Answer). HeardOf lost b) i of'))
-        (λ i. let o = pt.flown c p i in subst (λ (q : Request). Flown q.op (pending c h) (dirty c h p) p) (same_flight h c o.request r o.flies fc) o.flown)
+        (λ i. flight_flown h c p r pt fc i)
         (λ u i. w.known c p u live i) e in
         record { under = known_under h (Heard r a) c p (λ m i. i) l.under; is = rw t l.is }
 

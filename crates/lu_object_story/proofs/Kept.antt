@@ -2,7 +2,7 @@
 use Rattle.std.proofs.Common.{◌≡◌, ℕ, ◌<◌, ◌≤◌, inl, inr, List, [], ◌∷◌, Option, Bool, true, false, refl, sym, ap, ◌∙◌, arith}
 use Rattle.std.specs.Prelude.{nat_lt, if◌then◌else◌, ◌||◌}
 use Rattle.std.proofs.lemmas.Bool.{ltb-true, ltb-false}
-use Rattle.lu_object_story.specs.Words.{Op, Enqueue, Get, Flush, Size, Answer, Granted, Waiting, Content, Done, Sized, Uncovered, Entry, Flies, Heard, Hold, Drop, Forgets, Tells, Grant, Wait, Promote, Acts, Txn, Release, Evict, Commit, Close, Send}
+use Rattle.lu_object_story.specs.Words.{Op, Enqueue, Get, Flush, Size, Answer, Granted, Waiting, Content, Done, Sized, Uncovered, Entry, Takes, Flies, Heard, Hold, Drop, Forgets, Tells, Grant, Wait, Promote, Acts, Txn, Release, Evict, Commit, Close, Send}
 use Rattle.lu_object_story.specs.Folds.{also, nothing_lost, object, committed, op_changes, after_op, Changed}
 use Rattle.lu_object_story.specs.Guards.{HeardOf, KeptFor, Sees}
 use Rattle.lu_object_story.proofs.Spot.{unchanged}
@@ -32,6 +32,7 @@ agree a b (Txn m r ∷ h) p e = by (op_changes r.op p) refl (agree a b h p (λ n
         either : (v : Bool) (x : Option ℕ) → (if v then x else after_op r.op p x) ≡ x
         either true x = refl
         either false x = op_unchanged r.op p x t
+agree a b (Takes c k ch ∷ h) p e = agree a b h p e
 agree a b (Flies r ∷ h) p e = agree a b h p e
 agree a b (Heard r x ∷ h) p e = agree a b h p e
 agree a b (Hold l s sn ∷ h) p e = agree a b h p e

@@ -2,7 +2,7 @@
 use Rattle.std.proofs.Common.{◌≡◌, ℕ, ◌<◌, ◌≤◌, ◌⊎◌, inl, inr, ⊎_elim, List, [], ◌∷◌, Some, None, Bool, true, false, refl, sym, ap, ◌∙◌, subst, arith}
 use Rattle.std.specs.Prelude.{nat_eq, if◌then◌else◌, ◌&&◌, ◌||◌}
 use Rattle.std.proofs.lemmas.Bool.{eqb-true, eqb-false, eq-eqb, both_ways, and_parts, or_right}
-use Rattle.lu_object_story.specs.Words.{Lock, Request, Answer, Granted, Waiting, Done, Message, Ask, Reply, Give, Block, Cancel, Entry, Flies, Heard, Hold, Drop, Forgets, Tells, Grant, Wait, Promote, Acts, Txn, Release, Evict, Commit, Close, Send, conflict}
+use Rattle.lu_object_story.specs.Words.{Lock, Request, Answer, Granted, Waiting, Done, Message, Ask, Reply, Give, Block, Cancel, Entry, Takes, Flies, Heard, Hold, Drop, Forgets, Tells, Grant, Wait, Promote, Acts, Txn, Release, Evict, Commit, Close, Send, conflict}
 use Rattle.lu_object_story.specs.Folds.{Was, closed, evicted, top, Answered, Apart, WasGranted, HeldBy, IsGranted, IsWaiting, asked, flight, brings, awaits, WasDropped}
 use Rattle.lu_object_story.specs.History.{LocksAt}
 use Rattle.lu_object_story.specs.Guards.{GrantOk, WaitOk, PromoteOk, Free, Named, Allowed}
@@ -84,6 +84,7 @@ coming_line h (Hold l s sn) c k n ok low w = w
 coming_line h (Drop l) c k n ok low w = w
 coming_line h (Forgets d) c k n ok low w = w
 coming_line h (Tells d call) c k n ok low w = w
+coming_line h (Takes d j ch) c k n ok low w = w
 coming_line h (Promote l) c k n ok low w = w
 coming_line h (Release j) c k n ok low w = w
 coming_line h (Evict d) c k n ok low w = w
@@ -507,6 +508,19 @@ locks_line h (Evict d) n w ok = still h (Evict d) n ok (record {
   evicts = λ c i. or_right (nat_eq c d) (evicted c h) i;
 }) w
 locks_line h (Flies r) n w ok = still h (Flies r) n ok (record {
+  granted = λ l i. i;
+  kept = λ l i. i;
+  was = λ l i. i;
+  waits = λ l i. i;
+  rises = refl;
+  awaited = λ c k t. inl t;
+  held = λ l i. i;
+  dropped = λ l i. i;
+  cancels = λ b c k i. i;
+  boot = refl;
+  evicts = λ c i. i;
+}) w
+locks_line h (Takes d k ch) n w ok = still h (Takes d k ch) n ok (record {
   granted = λ l i. i;
   kept = λ l i. i;
   was = λ l i. i;

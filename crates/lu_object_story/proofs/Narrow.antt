@@ -11,7 +11,7 @@ use Rattle.lu_object_story.proofs.Numbers.{Numbers, fresh_flies}
 use Rattle.lu_object_story.proofs.Locks.{Lockings, held_granted}
 use Rattle.lu_object_story.proofs.Spot.{run_in, run_last, run_out, run_bounds, run_some, reads_value}
 use Rattle.lu_object_story.proofs.Kept.{sees_same}
-use Rattle.lu_object_story.proofs.Patches.{Patches, Using}
+use Rattle.lu_object_story.proofs.Patches.{Patches, Using, flight_uses}
 use Rattle.lu_object_story.proofs.Facts.{Outs, lives, Free, Facts, one_lock, same_flight}
 use Rattle.lu_object_story.proofs.Views.{Views, covered, tells_in, tells_out, txn_in, txn_out, plain_saw, read_is, size_is}
 
@@ -151,7 +151,7 @@ shows out lost h r vs s sn outs kf n lk pt vw fresh ok fr l i o life cookie e la
     ap is_some (covered out lost h l.life s l outs n lk pt vw o i refl cov) ∙ over_object (pending l.life h) (dirty l.life h s) s (object lost h s) cuts (ap is_some (sees_same out lost h sn (in_run ok.1 ok.2) s n kf ok.6 fr ok.8.0) ∙ ok.8.1)
   where
     u : UnderNumber h r.life ok.0 false (in_run ok.1 ok.2)
-    u = subst (λ (op : Op). Using h r.life op) ok.3 (pt.uses r.life r (fresh_flies h r n fresh))
+    u = subst (λ (op : Op). Using h r.life op) ok.3 (flight_uses h r.life r pt (fresh_flies h r n fresh))
 
     cov : covers l s ≡ true
     cov = subst (λ (x : Lock). covers x s ≡ true) (lk.unique u.lock l (n.held u.lock u.held) (n.held l i) (u.cookie ∙ sym (cookie ok.0 ok.1 ok.2 ok.3))) (u.covered s ok.8.0)
@@ -294,7 +294,7 @@ holds : (out lost : ℕ → Bool) (h : List Entry) (k : Lock) (z : ℕ) (sl : �
 holds out lost h k z sl n lk pt ok w = record {
   coming = λ c r j at m vs t sn o f op a fr l i e cookie u last q cov low. ⊎_elim
       (λ (x : k ≡ l). absurd (
-      let y : UnderNumber h c j false (in_run at m) = subst (λ (op : Op). Using h c op) op (pt.uses c r f) in
+      let y : UnderNumber h c j false (in_run at m) = subst (λ (op : Op). Using h c op) op (flight_uses h c r pt f) in
       let gone = (lk.held y.lock y.held).gone in
       both_ways (awaits k.life k.cookie h) (subst (λ (p : ℕ × ℕ). awaits p.0 p.1 h ≡ false) (λ i'. ((y.life ∙ sym e ∙ ap (λ (b : Lock). b.life) (sym x)) i', (y.cookie ∙ sym cookie ∙ ap (λ (b : Lock). b.cookie) (sym x)) i')) gone) ok.0))
       (λ (x : HeldBy h l). w.coming c r j at m vs t sn o f op a fr l x e cookie u last q cov low) i;

@@ -3,7 +3,7 @@ use Rattle.std.proofs.Common.{◌≡◌, ℕ, ◌<◌, ◌≤◌, ◌⊎◌, inl
 use Rattle.std.specs.Prelude.{nat_eq, if◌then◌else◌}
 use Rattle.std.proofs.lemmas.Bool.{eqb-true}
 use Rattle.std.proofs.lemmas.Bool.Decides.{nat_tests}
-use Rattle.lu_object_story.specs.Words.{Lock, Request, Answer, Granted, Waiting, Content, Done, Sized, Uncovered, Message, Ask, Reply, Give, Block, Cancel, Entry, Flies, Heard, Hold, Drop, Forgets, Tells, Grant, Wait, Promote, Acts, Txn, Release, Evict, Commit, Close, Send}
+use Rattle.lu_object_story.specs.Words.{Lock, Request, Answer, Granted, Waiting, Content, Done, Sized, Uncovered, Message, Ask, Reply, Give, Block, Cancel, Entry, Takes, Flies, Heard, Hold, Drop, Forgets, Tells, Grant, Wait, Promote, Acts, Txn, Release, Evict, Commit, Close, Send}
 use Rattle.lu_object_story.specs.Folds.{Was, closed, top, Answered, WasGranted, HeldBy, IsGranted, IsWaiting, asked, flight, brings, Changed, op_changes}
 use Rattle.lu_object_story.specs.Guards.{Fresh, GrantOk, WaitOk, PromoteOk, ActsOk, SendOk, New, CloseOk, HoldOk, Named, Allowed}
 
@@ -340,6 +340,7 @@ drop_line h l w = record {
 }
 
 pub numbers_line : (h : List Entry) (e : Entry) → Numbers h → Allowed h e → Numbers (e ∷ h)
+numbers_line h (Takes c k ch) w ok = w
 numbers_line h (Flies r) w ok = flies_line h r w ok
 numbers_line h (Heard r a) w ok = heard_line h r a w ok.0 ok.1
 numbers_line h (Hold l s sn) w ok = hold_line h l s sn w ok

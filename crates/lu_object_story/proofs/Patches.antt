@@ -3,12 +3,12 @@ use Rattle.std.proofs.Common.{◌≡◌, ℕ, suc, ◌≤◌, ◌⊎◌, inl, in
 use Rattle.std.specs.Prelude.{nat_eq, nat_lt, if◌then◌else◌, not}
 use Rattle.std.proofs.lemmas.Bool.{eqb-true, eqb-false, eq-eqb, both_ways, and_parts, not-true, or_right}
 use Rattle.std.proofs.lemmas.Bool.Decides.{nat_tests}
-use Rattle.lu_object_story.specs.Words.{Lock, Change, Write, Cut, Op, Enqueue, Get, Flush, Size, Request, Answer, Granted, Waiting, Content, Done, Sized, Uncovered, Did, Entry, Flies, Heard, Hold, Drop, Tells, covers, overlay, within, changes}
-use Rattle.lu_object_story.specs.Folds.{Apart, flight, HeldBy, is_some, cut_by, dirty_by, flying_by, flown_by, cut_acked, dirty_acked, pending, flying, dirty, masked, touched}
-use Rattle.lu_object_story.specs.Guards.{Covers, UnderNumber, in_run, OpOk, New, in_use, DropOk, Allowed}
+use Rattle.lu_object_story.specs.Words.{Lock, Change, Write, Cut, Op, Enqueue, Get, Flush, Size, Request, Answer, Granted, Waiting, Content, Done, Sized, Uncovered, Did, Entry, Takes, Flies, Heard, Hold, Drop, Tells, covers, overlay, within, changes}
+use Rattle.lu_object_story.specs.Folds.{Apart, flight, HeldBy, is_some, cut_by, dirty_by, flying_by, taken_by, flying_heard, WriteBack, taken_heard, taken, cut_acked, dirty_acked, pending, flying, dirty, masked, touched}
+use Rattle.lu_object_story.specs.Guards.{Covers, UnderNumber, in_run, FlushOk, OpOk, TakesOk, New, in_use, taken_under, DropOk, Allowed}
 use Rattle.lu_object_story.proofs.Numbers.{Numbers}
 use Rattle.lu_object_story.proofs.Locks.{Lockings}
-use Rattle.lu_object_story.proofs.Spot.{run_out, run_in, told_masked, told_new, Flown, acked_touched}
+use Rattle.lu_object_story.proofs.Spot.{run_out, run_in, told_masked, told_new, Flown, FlownBy, acked_touched}
 
 -- the life holds a PW lock over the position
 pub record Cover (h : List Entry) (c p : ℕ) : Type 0 where
@@ -41,23 +41,63 @@ Using h c (Get k at n) = UnderNumber h c k false (in_run at n)
 Using h c (Flush k ch) = UnderNumber h c k true (changes ch)
 Using h c _ = Unit {0}
 
--- the life has a request in flight that has the byte of this position as the life has it
-pub record FlownOk (h : List Entry) (c p : ℕ) : Type 0 where
-  pub request : Request
-  pub flies : flight c h ≡ Some request
-  pub flown : Flown request.op (pending c h) (dirty c h p) p
+-- what a life writes back, as the operation of a request
+abbrev pub flush_of : WriteBack → Op
+flush_of w = Flush w.lock w.change
 
--- what is so of patches after each story: where the patch may change something, the life holds a PW lock; a byte that is said to be in
--- flight is that of the request; what a request in flight changes is hidden by the patch, and its lock is held; and a pending cut lies
--- under one lock
+-- the write-back that is under way has the byte of this position as the life has it
+pub record FlownOk (h : List Entry) (c p : ℕ) : Type 0 where
+  pub back : WriteBack
+  pub taken : taken c h ≡ Some back
+  pub flown : Flown back.change (pending c h) (dirty c h p) p
+
+-- what is so of patches after each story: where the patch may change something, the life holds a PW lock; a byte that is said to be under
+-- way is that of the write-back; what a write-back changes is hidden by the patch, and its lock is held, as is that of a get in flight; a
+-- write-back in flight is the one under way; and a pending cut lies under one lock
 abbrev pub Patches : List Entry → Type 0
 Patches h = record {
   cover : (c p : ℕ) → touched (pending c h) (dirty c h p) p ≡ true → Cover h c p;
   flown : (c p : ℕ) → flying c h p ≡ true → FlownOk h c p;
-  run : (c : ℕ) (r : Request) → flight c h ≡ Some r → Running h c r.op;
-  uses : (c : ℕ) (r : Request) → flight c h ≡ Some r → Using h c r.op;
+  run : (c : ℕ) (w : WriteBack) → taken c h ≡ Some w → Running h c (flush_of w);
+  under : (c : ℕ) (w : WriteBack) → taken c h ≡ Some w → Using h c (flush_of w);
+  flush : (c k : ℕ) (ch : Change) (r : Request) → flight c h ≡ Some r → r.op ≡ Flush k ch → taken c h ≡ Some (record { lock = k; change = ch });
+  gets : (c k at n : ℕ) (r : Request) → flight c h ≡ Some r → r.op ≡ Get k at n → UnderNumber h c k false (in_run at n);
   cuts : (c q : ℕ) → pending c h ≡ Some q → CutCover h c q;
 }
+
+-- so of a request in flight: what it writes back is hidden by the patch, and the lock that it names is held
+pub flight_hidden : (h : List Entry) (c : ℕ) (r : Request) → Patches h → flight c h ≡ Some r → Running h c r.op
+flight_hidden h c r w f = by r.op refl
+  where
+    by : (op : Op) → r.op ≡ op → Running h c op
+    by (Flush k ch) e = w.run c (record { lock = k; change = ch }) (w.flush c k ch r f e)
+    by (Get k at n) e = tt
+    by (Enqueue a b t) e = tt
+    by Size e = tt
+
+pub flight_uses : (h : List Entry) (c : ℕ) (r : Request) → Patches h → flight c h ≡ Some r → Using h c r.op
+flight_uses h c r w f = by r.op refl
+  where
+    by : (op : Op) → r.op ≡ op → Using h c op
+    by (Flush k ch) e = w.under c (record { lock = k; change = ch }) (w.flush c k ch r f e)
+    by (Get k at n) e = w.gets c k at n r f e
+    by (Enqueue a b t) e = tt
+    by Size e = tt
+
+pub some_back : (a b : WriteBack) → Some a ≡ Some b → a ≡ b
+some_back a b e = cc
+
+-- and a byte that is under way is what it writes back, if it does
+pub flight_flown : (h : List Entry) (c p : ℕ) (r : Request) → Patches h → flight c h ≡ Some r → flying c h p ≡ true → FlownBy r.op (pending c h) (dirty c h p) p
+flight_flown h c p r w f fly = by r.op refl
+  where
+    by : (op : Op) → r.op ≡ op → FlownBy op (pending c h) (dirty c h p) p
+    by (Flush k ch) e =
+        let o = w.flown c p fly in
+        subst (λ (x : WriteBack). Flown x.change (pending c h) (dirty c h p) p) (some_back o.back (record { lock = k; change = ch }) (sym o.taken ∙ w.flush c k ch r f e)) o.flown
+    by (Get k at n) e = tt
+    by (Enqueue a b t) e = tt
+    by Size e = tt
 
 -- a life's own entry or another's
 pub at_life : (P : ℕ → Bool → Type 0) (c d : ℕ) → P d true → ((c ≡ d → ⊥) → P c false) → P c (nat_eq c d)
@@ -67,26 +107,23 @@ at_life P c d here there = by (nat_eq c d) refl
     by true e = subst (λ (k : ℕ). P k true) (sym (eqb-true c d e)) here
     by false e = there (eqb-false c d e)
 
-told_flown : (op : Op) (ch : Change) (q d : Option ℕ) (f : Bool) (p : ℕ) → flying_by ch p f ≡ true → Flown op q d p
-    → Flown op (cut_by ch q) (dirty_by ch q p d) p
-told_flown (Flush k (Write at bs)) (Write a cs) q d f p e (w, i, b) =
+told_flown : (back ch : Change) (q d : Option ℕ) (f : Bool) (p : ℕ) → flying_by ch p f ≡ true → Flown back q d p
+    → Flown back (cut_by ch q) (dirty_by ch q p d) p
+told_flown (Write at bs) (Write a cs) q d f p e (w, i, b) =
     let t = and_parts (not (within a cs p)) f e in
     (w, run_out a cs p d (not-true (within a cs p) t.0) ∙ i, b)
-told_flown (Flush k (Write at bs)) (Cut n) None d f p e (w, i, b) =
+told_flown (Write at bs) (Cut n) None d f p e (w, i, b) =
     let t = and_parts (nat_lt p n) f e in
     let t0 = t.0 in
     (w, rw t0 i, grind (arith, nat_tests))
-told_flown (Flush k (Write at bs)) (Cut n) (Some q) d f p e (w, i, b) =
+told_flown (Write at bs) (Cut n) (Some q) d f p e (w, i, b) =
     let t = and_parts (nat_lt p n) f e in
     let t0 = t.0 in
     let r = run_in at bs p w in
     let has : d ≡ Some r.0 = i ∙ r.1 None in
     let is : overlay at bs p None ≡ Some r.0 = r.1 None in
     (w, grind (arith, nat_tests), grind (arith, nat_tests))
-told_flown (Flush k (Cut n)) ch q d f p e i = absurd i
-told_flown (Get k at n) ch q d f p e i = absurd i
-told_flown (Enqueue w f' t) ch q d f p e i = absurd i
-told_flown Size ch q d f p e i = absurd i
+told_flown (Cut n) ch q d f p e i = absurd i
 
 told_low : (ch : Change) (q n : ℕ) → q ≤ n → (j : ℕ) × (cut_by ch (Some q) ≡ Some j) × (j ≤ n)
 told_low (Write at bs) q n e = (q, refl, e)
@@ -143,6 +180,17 @@ told_running_other h c d j ch (Get k at n) e r = tt
 told_running_other h c d j ch (Enqueue w f t) e r = tt
 told_running_other h c d j ch Size e r = tt
 
+under_more : (h : List Entry) (e : Entry) (c k : ℕ) (write : Bool) (at : ℕ → Bool) → ((l : Lock) → HeldBy h l → HeldBy (e ∷ h) l) → UnderNumber h c k write at
+    → UnderNumber (e ∷ h) c k write at
+under_more h e c k write at m u = record { lock = u.lock; held = m u.lock u.held; life = u.life; cookie = u.cookie; mode = u.mode; covered = u.covered }
+
+using_more : (h : List Entry) (e : Entry) (c : ℕ) (op : Op) → ((l : Lock) → HeldBy h l → HeldBy (e ∷ h) l) → Using h c op
+    → Using (e ∷ h) c op
+using_more h e c (Get k at n) m u = under_more h e c k false (in_run at n) m u
+using_more h e c (Flush k c') m u = under_more h e c k true (changes c') m u
+using_more h e c (Enqueue a b t) m u = tt
+using_more h e c Size m u = tt
+
 tells : (h : List Entry) (d j : ℕ) (ch : Change) → UnderNumber h d j true (changes ch) → Patches h → Patches (Tells d (Did j ch) ∷ h)
 tells h d j ch ok w = record {
   cover = λ c p. at_life
@@ -153,8 +201,10 @@ tells h d j ch ok w = record {
       (told_new ch (pending d h) (dirty d h p) p t))
       (λ ne t. let o = w.cover c p t in record { lock = o.lock; held = o.held; life = o.life; mode = o.mode; covered = o.covered });
   flown = λ c p. by c p (nat_eq c d) refl;
-  run = λ c r e. run c r e (nat_eq c d) refl;
-  uses = λ c r e. uses c r.op (w.uses c r e);
+  run = λ c b e. run c b e (nat_eq c d) refl;
+  under = λ c b e. using_more h (Tells d (Did j ch)) c (flush_of b) (λ l i. i) (w.under c b e);
+  flush = w.flush;
+  gets = λ c k at n r f e. under_more h (Tells d (Did j ch)) c k false (in_run at n) (λ l i. i) (w.gets c k at n r f e);
   cuts = λ c q e. cuts c q (nat_eq c d) refl e;
 }
   where
@@ -175,36 +225,24 @@ tells h d j ch ok w = record {
     by : (c p : ℕ) (v : Bool) → nat_eq c d ≡ v → (if v then flying_by ch p (flying c h p) else flying c h p) ≡ true
         → FlownOk (Tells d (Did j ch) ∷ h) c p
     by c p true e t = let o = w.flown c p (flying_mine ch p (flying c h p) t) in record {
-      request = o.request;
-      flies = o.flies;
-      flown = rw e (told_flown o.request.op ch (pending c h) (dirty c h p) (flying c h p) p t o.flown);
+      back = o.back;
+      taken = o.taken;
+      flown = rw e (told_flown o.back.change ch (pending c h) (dirty c h p) (flying c h p) p t o.flown);
     }
-    by c p false e t = let o = w.flown c p t in record { request = o.request; flies = o.flies; flown = rw e o.flown }
+    by c p false e t = let o = w.flown c p t in record { back = o.back; taken = o.taken; flown = rw e o.flown }
 
-    run : (c : ℕ) (r : Request) → flight c h ≡ Some r → (v : Bool) → nat_eq c d ≡ v → Running (Tells d (Did j ch) ∷ h) c r.op
-    run c r f true e = subst (λ (k : ℕ). Running (Tells k (Did j ch) ∷ h) c r.op) (eqb-true c d e) (told_running h c j ch r.op (w.run c r f))
-    run c r f false e = told_running_other h c d j ch r.op e (w.run c r f)
-
-    uses : (c : ℕ) (op : Op) → Using h c op → Using (Tells d (Did j ch) ∷ h) c op
-    uses c (Get k at n) u = record { lock = u.lock; held = u.held; life = u.life; cookie = u.cookie; mode = u.mode; covered = u.covered }
-    uses c (Flush k c') u = record { lock = u.lock; held = u.held; life = u.life; cookie = u.cookie; mode = u.mode; covered = u.covered }
-    uses c (Enqueue a b t) u = tt
-    uses c Size u = tt
+    run : (c : ℕ) (b : WriteBack) → taken c h ≡ Some b → (v : Bool) → nat_eq c d ≡ v → Running (Tells d (Did j ch) ∷ h) c (flush_of b)
+    run c b f true e = subst (λ (k : ℕ). Running (Tells k (Did j ch) ∷ h) c (flush_of b)) (eqb-true c d e) (told_running h c j ch (flush_of b) (w.run c b f))
+    run c b f false e = told_running_other h c d j ch (flush_of b) e (w.run c b f)
 
 -- an entry that leaves the patches and what is in flight, and drops no lock
 pub record Quiet (h : List Entry) (e : Entry) : Type 0 where
   pub flight : (c : ℕ) → flight c (e ∷ h) ≡ flight c h
+  pub taken : (c : ℕ) → taken c (e ∷ h) ≡ taken c h
   pub pending : (c : ℕ) → pending c (e ∷ h) ≡ pending c h
   pub dirty : (c p : ℕ) → dirty c (e ∷ h) p ≡ dirty c h p
   pub flying : (c p : ℕ) → flying c (e ∷ h) p ≡ flying c h p
   pub held : (l : Lock) → HeldBy h l → HeldBy (e ∷ h) l
-
-using_more : (h : List Entry) (e : Entry) (c : ℕ) (op : Op) → ((l : Lock) → HeldBy h l → HeldBy (e ∷ h) l) → Using h c op
-    → Using (e ∷ h) c op
-using_more h e c (Get k at n) m u = record { lock = u.lock; held = m u.lock u.held; life = u.life; cookie = u.cookie; mode = u.mode; covered = u.covered }
-using_more h e c (Flush k c') m u = record { lock = u.lock; held = m u.lock u.held; life = u.life; cookie = u.cookie; mode = u.mode; covered = u.covered }
-using_more h e c (Enqueue a b t) m u = tt
-using_more h e c Size m u = tt
 
 running_more : (h : List Entry) (e : Entry) (c : ℕ) (op : Op) → Quiet h e → Running h c op → Running (e ∷ h) c op
 running_more h e c (Get k at n) q u = tt
@@ -216,11 +254,20 @@ running_more h e c Size q u = tt
 quiet : (h : List Entry) (e : Entry) → Quiet h e → Patches h → Patches (e ∷ h)
 quiet h e q w = record {
   cover = λ c p t. let o = w.cover c p (subst (λ (x : Option ℕ × Option ℕ). touched x.0 x.1 p ≡ true) (λ i. (q.pending c i, q.dirty c p i)) t) in record { lock = o.lock; held = q.held o.lock o.held; life = o.life; mode = o.mode; covered = o.covered };
-  flown = λ c p t. let o = w.flown c p (sym (q.flying c p) ∙ t) in record { request = o.request; flies = q.flight c ∙ o.flies; flown = rw (q.pending c, q.dirty c p) o.flown };
-  run = λ c r t. running_more h e c r.op q (w.run c r (sym (q.flight c) ∙ t));
-  uses = λ c r t. using_more h e c r.op q.held (w.uses c r (sym (q.flight c) ∙ t));
+  flown = λ c p t. let o = w.flown c p (sym (q.flying c p) ∙ t) in record { back = o.back; taken = q.taken c ∙ o.taken; flown = rw (q.pending c, q.dirty c p) o.flown };
+  run = λ c b t. running_more h e c (flush_of b) q (w.run c b (sym (q.taken c) ∙ t));
+  under = λ c b t. using_more h e c (flush_of b) q.held (w.under c b (sym (q.taken c) ∙ t));
+  flush = λ c k ch r f o. q.taken c ∙ w.flush c k ch r (sym (q.flight c) ∙ f) o;
+  gets = λ c k at n r f o. under_more h e c k false (in_run at n) q.held (w.gets c k at n r (sym (q.flight c) ∙ f) o);
   cuts = λ c n t. cut_more h e c n q.held (w.cuts c n (sym (q.pending c) ∙ t));
 }
+
+-- what is still under way once an answer is heard was so before
+pub taken_still : (op : Op) (x : Option WriteBack) (b : WriteBack) → taken_heard op x ≡ Some b → x ≡ Some b
+taken_still (Flush k ch) x b t = absurd (cc)
+taken_still (Get k at n) x b t = t
+taken_still (Enqueue g f l) x b t = t
+taken_still Size x b t = t
 
 hears : (h : List Entry) (r : Request) (a : Answer) → flight r.life h ≡ Some r → Patches h → Patches (Heard r a ∷ h)
 hears h r a fl w = record {
@@ -228,9 +275,11 @@ hears h r a fl w = record {
       (λ k b. touched (if b then cut_acked r.op a (pending k h) else pending k h) (if b then dirty_acked r.op a (flying k h p) (dirty k h p) else dirty k h p) p ≡ true → Cover (Heard r a ∷ h) k p) c r.life
       (λ t. cover r.life p (acked_touched r.op a (pending r.life h) (dirty r.life h p) (flying r.life h p) p t))
       (λ ne t. cover c p t);
-  flown = λ c p. flown c p (nat_eq c r.life) refl;
-  run = λ c q. run c q (nat_eq c r.life) refl;
-  uses = λ c q. uses c q (nat_eq c r.life) refl;
+  flown = λ c p. flies c p (nat_eq c r.life) refl;
+  run = λ c b. run c b (nat_eq c r.life) refl;
+  under = λ c b t. using_more h (Heard r a) c (flush_of b) (λ l i. i) (w.under c b (was c b (nat_eq c r.life) refl t));
+  flush = λ c k ch q. flush c k ch q (nat_eq c r.life) refl;
+  gets = λ c k at n q f o. under_more h (Heard r a) c k false (in_run at n) (λ l i. i) (w.gets c k at n q (flew c q (nat_eq c r.life) f) o);
   cuts = λ c q t. cuts c q (nat_eq c r.life) t;
 }
   where
@@ -241,25 +290,53 @@ hears h r a fl w = record {
     cover : (c p : ℕ) → touched (pending c h) (dirty c h p) p ≡ true → Cover (Heard r a ∷ h) c p
     cover c p t = let o = w.cover c p t in record { lock = o.lock; held = o.held; life = o.life; mode = o.mode; covered = o.covered }
 
-    flown : (c p : ℕ) (v : Bool) → nat_eq c r.life ≡ v → (if v then false else flying c h p) ≡ true → FlownOk (Heard r a ∷ h) c p
-    flown c p true e t = absurd (cc)
-    flown c p false e t = let o = w.flown c p t in record { request = o.request; flies = rw e o.flies; flown = rw e o.flown }
+    -- what is still in flight was so, and isn't of this life
+    flew : (c : ℕ) (q : Request) (v : Bool) → (if v then None else flight c h) ≡ Some q → flight c h ≡ Some q
+    flew c q true t = absurd (cc)
+    flew c q false t = t
 
-    run : (c : ℕ) (q : Request) (v : Bool) → nat_eq c r.life ≡ v → (if v then None else flight c h) ≡ Some q
-        → Running (Heard r a ∷ h) c q.op
-    run c q true e t = absurd (cc)
-    run c q false e t = other q.op (w.run c q t)
+    was : (c : ℕ) (b : WriteBack) (v : Bool) → nat_eq c r.life ≡ v → (if v then taken_heard r.op (taken c h) else taken c h) ≡ Some b → taken c h ≡ Some b
+    was c b true e t = taken_still r.op (taken c h) b t
+    was c b false e t = t
+
+    -- an answer to another request than a write-back leaves the patch
+    same_patch : (op : Op) (x : Option WriteBack) (b : WriteBack) (q d : Option ℕ) (f : Bool) → taken_heard op x ≡ Some b → (cut_acked op a q ≡ q) × (dirty_acked op a f d ≡ d)
+    same_patch (Flush k ch) x b q d f t = absurd (cc)
+    same_patch (Get k at n) x b q d f t = (refl, refl)
+    same_patch (Enqueue g s l) x b q d f t = (refl, refl)
+    same_patch Size x b q d f t = (refl, refl)
+
+    flying_still : (op : Op) (f : Bool) → flying_heard op f ≡ true → (f ≡ true) × ((x : Option WriteBack) → taken_heard op x ≡ x)
+    flying_still (Flush k ch) f t = absurd (cc)
+    flying_still (Get k at n) f t = (t, λ x. refl)
+    flying_still (Enqueue g s l) f t = (t, λ x. refl)
+    flying_still Size f t = (t, λ x. refl)
+
+    flies : (c p : ℕ) (v : Bool) → nat_eq c r.life ≡ v → (if v then flying_heard r.op (flying c h p) else flying c h p) ≡ true → FlownOk (Heard r a ∷ h) c p
+    flies c p true e t =
+        let f = flying_still r.op (flying c h p) t in
+        let o = w.flown c p f.0 in
+        let s = same_patch r.op (taken c h) o.back (pending c h) (dirty c h p) (flying c h p) (f.1 (taken c h) ∙ o.taken) in
+        record { back = o.back; taken = rw e (f.1 (taken c h) ∙ o.taken); flown = rw (e, s.0, s.1) o.flown }
+    flies c p false e t = let o = w.flown c p t in record { back = o.back; taken = rw e o.taken; flown = rw e o.flown }
+
+    run : (c : ℕ) (b : WriteBack) (v : Bool) → nat_eq c r.life ≡ v → (if v then taken_heard r.op (taken c h) else taken c h) ≡ Some b
+        → Running (Heard r a ∷ h) c (flush_of b)
+    run c b true e t = mine b.change (w.run c b (taken_still r.op (taken c h) b t))
       where
-        other : (op : Op) → Running h c op → Running (Heard r a ∷ h) c op
-        other (Get k at n) u = tt
-        other (Flush k (Write at bs)) u = λ p i. rw e (u p i)
-        other (Flush k (Cut n)) u = rw e u
-        other (Enqueue a b t) u = tt
-        other Size u = tt
+        mine : (ch : Change) → Running h c (Flush b.lock ch) → Running (Heard r a ∷ h) c (Flush b.lock ch)
+        mine (Write at bs) u = λ p i. let s = same_patch r.op (taken c h) b (pending c h) (dirty c h p) (flying c h p) t in rw (e, s.0, s.1) (u p i)
+        mine (Cut n) u = let s = same_patch r.op (taken c h) b (pending c h) None false t in rw (e, s.0) u
+    run c b false e t = other b.change (w.run c b t)
+      where
+        other : (ch : Change) → Running h c (Flush b.lock ch) → Running (Heard r a ∷ h) c (Flush b.lock ch)
+        other (Write at bs) u = λ p i. rw e (u p i)
+        other (Cut n) u = rw e u
 
-    uses : (c : ℕ) (q : Request) (v : Bool) → nat_eq c r.life ≡ v → (if v then None else flight c h) ≡ Some q → Using (Heard r a ∷ h) c q.op
-    uses c q true e t = absurd (cc)
-    uses c q false e t = using_more h (Heard r a) c q.op (λ l i. i) (w.uses c q t)
+    flush : (c k : ℕ) (ch : Change) (q : Request) (v : Bool) → nat_eq c r.life ≡ v → (if v then None else flight c h) ≡ Some q → q.op ≡ Flush k ch
+        → (if v then taken_heard r.op (taken c h) else taken c h) ≡ Some (record { lock = k; change = ch })
+    flush c k ch q true e f o = absurd (cc)
+    flush c k ch q false e f o = w.flush c k ch q f o
 
 drops : (h : List Entry) (k : Lock) → Numbers h → Lockings h → DropOk h k → Patches h → Patches (Drop k ∷ h)
 drops h k n lk ok w = record {
@@ -276,9 +353,11 @@ drops h k n lk ok w = record {
         mode = o.mode;
         covered = o.covered;
       };
-  flown = λ c p t. let o = w.flown c p t in record { request = o.request; flies = o.flies; flown = o.flown };
-  run = λ c r t. running r.op c (w.run c r t);
-  uses = λ c r t. using r.op c r t refl (w.uses c r t);
+  flown = λ c p t. let o = w.flown c p t in record { back = o.back; taken = o.taken; flown = o.flown };
+  run = λ c b t. runs b.change c b.lock (w.run c b t);
+  under = λ c b t. let u = w.under c b t in record { lock = u.lock; held = (taken_apart c b t u.lock u.held u.life u.cookie, u.held); life = u.life; cookie = u.cookie; mode = u.mode; covered = u.covered };
+  flush = w.flush;
+  gets = λ c j at n r f e. let u = w.gets c j at n r f e in record { lock = u.lock; held = (free c j r f (rw (e, eq-eqb j j refl)) u.lock u.held u.life u.cookie, u.held); life = u.life; cookie = u.cookie; mode = u.mode; covered = u.covered };
   cuts = λ c q t. cuts c q t (w.cuts c q t);
 }
   where
@@ -298,12 +377,9 @@ drops h k n lk ok w = record {
         touched_cut : (d q : ℕ) → pending d h ≡ Some q → touched (pending d h) (dirty d h q) q ≡ true
         touched_cut d q e = rw e (or_right (is_some (dirty d h q)) (nat_lt q (suc (suc q))) (grind (arith, nat_tests)))
 
-    running : (op : Op) (c : ℕ) → Running h c op → Running (Drop k ∷ h) c op
-    running (Get j at n) c u = tt
-    running (Flush j (Write at bs)) c u = u
-    running (Flush j (Cut n)) c u = u
-    running (Enqueue a b t) c u = tt
-    running Size c u = tt
+    runs : (ch : Change) (c j : ℕ) → Running h c (Flush j ch) → Running (Drop k ∷ h) c (Flush j ch)
+    runs (Write at bs) c j u = u
+    runs (Cut n) c j u = u
 
     -- the lock in use is another one
     free : (c j : ℕ) (r : Request) → flight c h ≡ Some r → in_use (Some r) j ≡ true → (l : Lock) → HeldBy h l → l.life ≡ c → l.cookie ≡ j
@@ -316,84 +392,101 @@ drops h k n lk ok w = record {
         mine : c ≡ k.life → j ≡ k.cookie → in_use (flight k.life h) k.cookie ≡ true
         mine p q = subst (λ (y : ℕ × ℕ). in_use (flight y.0 h) y.1 ≡ true) (λ i. (p i, q i)) base
 
-    using : (op : Op) (c : ℕ) (r : Request) → flight c h ≡ Some r → r.op ≡ op → Using h c op → Using (Drop k ∷ h) c op
-    using (Get j at n) c r f e u = record {
-      lock = u.lock;
-      held = (free c j r f (rw (e, eq-eqb j j refl)) u.lock u.held u.life u.cookie, u.held);
-      life = u.life;
-      cookie = u.cookie;
-      mode = u.mode;
-      covered = u.covered;
-    }
-    using (Flush j ch) c r f e u = record {
-      lock = u.lock;
-      held = (free c j r f (rw (e, eq-eqb j j refl)) u.lock u.held u.life u.cookie, u.held);
-      life = u.life;
-      cookie = u.cookie;
-      mode = u.mode;
-      covered = u.covered;
-    }
-    using (Enqueue a b t) c r f e u = tt
-    using Size c r f e u = tt
+    -- and so is that of the write-back under way
+    taken_apart : (c : ℕ) (b : WriteBack) → taken c h ≡ Some b → (l : Lock) → HeldBy h l → l.life ≡ c → l.cookie ≡ b.lock → Apart k l
+    taken_apart c b t l i e x = apart l i (λ s. both_ways (taken_under (taken k.life h) k.cookie) ok.untaken (mine (sym (ap (λ (m : Lock). m.life) s ∙ e)) (sym (ap (λ (m : Lock). m.cookie) s ∙ x))))
+      where
+        base : taken_under (taken c h) b.lock ≡ true
+        base = subst (λ (o : Option WriteBack). taken_under o b.lock ≡ true) (sym t) (eq-eqb b.lock b.lock refl)
 
--- a request is sent
-new_flown : (h : List Entry) (c : ℕ) (op : Op) (p : ℕ) → OpOk h c op → flown_by op p ≡ true → Flown op (pending c h) (dirty c h p) p
-new_flown h c (Flush k (Write at bs)) p ok t =
-    let r = run_in at bs p t in
-    (t, ok.1.1 p r.0 (r.1 None) ∙ sym (r.1 None), rw ok.1.0)
-new_flown h c (Flush k (Cut n)) p ok t = absurd (cc)
-new_flown h c (Get k at n) p ok t = absurd (cc)
-new_flown h c (Enqueue a b l) p ok t = absurd (cc)
-new_flown h c Size p ok t = absurd (cc)
+        mine : c ≡ k.life → b.lock ≡ k.cookie → taken_under (taken k.life h) k.cookie ≡ true
+        mine p q = subst (λ (y : ℕ × ℕ). taken_under (taken y.0 h) y.1 ≡ true) (λ i. (p i, q i)) base
 
-new_running : (h : List Entry) (r : Request) (c : ℕ) (op : Op) → OpOk h c op → Running (Flies r ∷ h) c op
-new_running h r c (Flush k (Write at bs)) ok = λ p i. let b = run_in at bs p i in rw (ok.1.1 p b.0 (b.1 None))
-new_running h r c (Flush k (Cut n)) ok = (n, ok.1, omega arith)
-new_running h r c (Get k at n) ok = tt
-new_running h r c (Enqueue a b l) ok = tt
-new_running h r c Size ok = tt
+-- ---- a change is taken
 
-new_using : (h : List Entry) (r : Request) (c : ℕ) (op : Op) → OpOk h c op → Using (Flies r ∷ h) c op
-new_using h r c (Flush k ch) ok = let u = ok.0 in record { lock = u.lock; held = u.held; life = u.life; cookie = u.cookie; mode = u.mode; covered = u.covered }
-new_using h r c (Get k at n) ok = let u = ok in record { lock = u.lock; held = u.held; life = u.life; cookie = u.cookie; mode = u.mode; covered = u.covered }
-new_using h r c (Enqueue a b l) ok = tt
-new_using h r c Size ok = tt
+taken_flown : (h : List Entry) (c : ℕ) (ch : Change) (p : ℕ) → FlushOk h c ch → taken_by ch p ≡ true → Flown ch (pending c h) (dirty c h p) p
+taken_flown h c (Write at bs) p ok t = let r = run_in at bs p t in (t, ok.1 p r.0 (r.1 None) ∙ sym (r.1 None), ok.0 p t)
+taken_flown h c (Cut n) p ok t = absurd (cc)
 
-running_sent : (h : List Entry) (r : Request) (c : ℕ) (op : Op) → Running h c op → Running (Flies r ∷ h) c op
-running_sent h r c (Flush k (Write at bs)) u = u
-running_sent h r c (Flush k (Cut n)) u = u
-running_sent h r c (Get k at n) u = tt
-running_sent h r c (Enqueue a b l) u = tt
-running_sent h r c Size u = tt
+taken_running : (h : List Entry) (c k : ℕ) (ch : Change) → FlushOk h c ch → Running h c (Flush k ch)
+taken_running h c k (Write at bs) ok = λ p i. let b = run_in at bs p i in rw (ok.1 p b.0 (b.1 None))
+taken_running h c k (Cut n) ok = (n, ok, omega arith)
+
+takes_new : (h : List Entry) (d k : ℕ) (ch : Change) → TakesOk h d k ch → Patches h → Patches (Takes d k ch ∷ h)
+takes_new h d k ch ok w = record {
+  cover = λ c p t. let o = w.cover c p t in record { lock = o.lock; held = o.held; life = o.life; mode = o.mode; covered = o.covered };
+  flown = λ c p. flies c p (nat_eq c d) refl;
+  run = λ c b. run c b (nat_eq c d) refl;
+  under = λ c b. under c b (nat_eq c d) refl;
+  flush = λ c j x r f o. flush c j x (nat_eq c d) refl (w.flush c j x r f o);
+  gets = λ c j at n r f o. under_more h (Takes d k ch) c j false (in_run at n) (λ l i. i) (w.gets c j at n r f o);
+  cuts = λ c q t. cut_more h (Takes d k ch) c q (λ l i. i) (w.cuts c q t);
+}
+  where
+    new : WriteBack
+    new = record { lock = k; change = ch }
+
+    same : (e : Entry) (c j : ℕ) (x : Change) → Running h c (Flush j x) → Running (Takes d k ch ∷ h) c (Flush j x)
+    same e c j (Write at bs) u = u
+    same e c j (Cut n) u = u
+
+    flies : (c p : ℕ) (v : Bool) → nat_eq c d ≡ v → (if v then taken_by ch p else flying c h p) ≡ true → FlownOk (Takes d k ch ∷ h) c p
+    flies c p true e t = record { back = new; taken = rw e; flown = taken_flown h c ch p (subst (λ (x : ℕ). FlushOk h x ch) (sym (eqb-true c d e)) ok.change) t }
+    flies c p false e t = let o = w.flown c p t in record { back = o.back; taken = rw e o.taken; flown = o.flown }
+
+    run : (c : ℕ) (b : WriteBack) (v : Bool) → nat_eq c d ≡ v → (if v then Some new else taken c h) ≡ Some b → Running (Takes d k ch ∷ h) c (flush_of b)
+    run c b true e t =
+        subst (λ (x : WriteBack). Running (Takes d k ch ∷ h) c (flush_of x)) (some_back new b t)
+        (same (Takes d k ch) c k ch (taken_running h c k ch (subst (λ (x : ℕ). FlushOk h x ch) (sym (eqb-true c d e)) ok.change)))
+    run c b false e t = same (Takes d k ch) c b.lock b.change (w.run c b t)
+
+    under : (c : ℕ) (b : WriteBack) (v : Bool) → nat_eq c d ≡ v → (if v then Some new else taken c h) ≡ Some b → Using (Takes d k ch ∷ h) c (flush_of b)
+    under c b true e t =
+        subst (λ (x : WriteBack). Using (Takes d k ch ∷ h) c (flush_of x)) (some_back new b t)
+        (under_more h (Takes d k ch) c k true (changes ch) (λ l i. i) (subst (λ (x : ℕ). UnderNumber h x k true (changes ch)) (sym (eqb-true c d e)) ok.under))
+    under c b false e t = under_more h (Takes d k ch) c b.lock true (changes b.change) (λ l i. i) (w.under c b t)
+
+    -- while none is under way none is in flight
+    flush : (c j : ℕ) (x : Change) (v : Bool) → nat_eq c d ≡ v → taken c h ≡ Some (record { lock = j; change = x }) → (if v then Some new else taken c h) ≡ Some (record { lock = j; change = x })
+    flush c j x true e t = absurd (let alone : taken c h ≡ None = ap (λ (y : ℕ). taken y h) (eqb-true c d e) ∙ ok.alone in cc)
+    flush c j x false e t = t
+
+-- ---- a request is sent
+
+running_sent : (h : List Entry) (r : Request) (c k : ℕ) (ch : Change) → Running h c (Flush k ch) → Running (Flies r ∷ h) c (Flush k ch)
+running_sent h r c k (Write at bs) u = u
+running_sent h r c k (Cut n) u = u
 
 sends_new : (h : List Entry) (r : Request) → New h r → Patches h → Patches (Flies r ∷ h)
 sends_new h r ok w = record {
   cover = λ c p t. let o = w.cover c p t in record { lock = o.lock; held = o.held; life = o.life; mode = o.mode; covered = o.covered };
-  flown = λ c p. flown c p (nat_eq c r.life) refl;
-  run = λ c q. run c q (nat_eq c r.life) refl;
-  uses = λ c q. uses c q (nat_eq c r.life) refl;
+  flown = λ c p t. let o = w.flown c p t in record { back = o.back; taken = o.taken; flown = o.flown };
+  run = λ c b t. running_sent h r c b.lock b.change (w.run c b t);
+  under = λ c b t. under_more h (Flies r) c b.lock true (changes b.change) (λ l i. i) (w.under c b t);
+  flush = λ c k ch q. flush c k ch q (nat_eq c r.life) refl;
+  gets = λ c k at n q f o. under_more h (Flies r) c k false (in_run at n) (λ l i. i) (gets c k at n q (nat_eq c r.life) refl f o);
   cuts = λ c q t. cut_more h (Flies r) c q (λ l i. i) (w.cuts c q t);
 }
   where
-    flown : (c p : ℕ) (v : Bool) → nat_eq c r.life ≡ v → (if v then flown_by r.op p else flying c h p) ≡ true → FlownOk (Flies r ∷ h) c p
-    flown c p true e t =
-        let is = eqb-true c r.life e in
-        record { request = r; flies = rw e; flown = new_flown h c r.op p (subst (λ (d : ℕ). OpOk h d r.op) (sym is) ok.op) t }
-    flown c p false e t = let o = w.flown c p t in record { request = o.request; flies = rw e o.flies; flown = o.flown }
+    -- the request's operation, of the life that sends it
+    asks : (c : ℕ) (q : Request) → nat_eq c r.life ≡ true → Some r ≡ Some q → OpOk h c q.op
+    asks c q e t = let is : r ≡ q = cc in subst (λ (x : Request). OpOk h c x.op) is (subst (λ (d : ℕ). OpOk h d r.op) (sym (eqb-true c r.life e)) ok.op)
 
-    run : (c : ℕ) (q : Request) (v : Bool) → nat_eq c r.life ≡ v → (if v then Some r else flight c h) ≡ Some q
-        → Running (Flies r ∷ h) c q.op
-    run c q true e t = let is : r ≡ q = cc in subst (λ (x : Request). Running (Flies r ∷ h) c x.op) is (new_running h r c r.op (subst (λ (d : ℕ). OpOk h d r.op) (sym (eqb-true c r.life e)) ok.op))
-    run c q false e t = running_sent h r c q.op (w.run c q t)
+    flush : (c k : ℕ) (ch : Change) (q : Request) (v : Bool) → nat_eq c r.life ≡ v → (if v then Some r else flight c h) ≡ Some q → q.op ≡ Flush k ch
+        → taken c h ≡ Some (record { lock = k; change = ch })
+    flush c k ch q true e t o = subst (λ (op : Op). OpOk h c op) o (asks c q e t)
+    flush c k ch q false e t o = w.flush c k ch q t o
 
-    uses : (c : ℕ) (q : Request) (v : Bool) → nat_eq c r.life ≡ v → (if v then Some r else flight c h) ≡ Some q → Using (Flies r ∷ h) c q.op
-    uses c q true e t = let is : r ≡ q = cc in subst (λ (x : Request). Using (Flies r ∷ h) c x.op) is (new_using h r c r.op (subst (λ (d : ℕ). OpOk h d r.op) (sym (eqb-true c r.life e)) ok.op))
-    uses c q false e t = using_more h (Flies r) c q.op (λ l i. i) (w.uses c q t)
+    gets : (c k at n : ℕ) (q : Request) (v : Bool) → nat_eq c r.life ≡ v → (if v then Some r else flight c h) ≡ Some q → q.op ≡ Get k at n
+        → UnderNumber h c k false (in_run at n)
+    gets c k at n q true e t o = subst (λ (op : Op). OpOk h c op) o (asks c q e t)
+    gets c k at n q false e t o = w.gets c k at n q t o
 
 pub patches_line : (h : List Entry) (e : Entry) → Numbers h → Lockings h → Patches h → Allowed h e → Patches (e ∷ h)
 patches_line h (Tells c (Did j ch)) n lk w ok = tells h c j ch ok w
 patches_line h (Heard r a) n lk w ok = hears h r a ok.0 w
 patches_line h (Drop l) n lk w ok = drops h l n lk ok w
+patches_line h (Takes d k ch) n lk w ok = takes_new h d k ch ok w
 patches_line h (Flies r) n lk w ok = sends_new h r ok w
-patches_line h (Hold l s sn) n lk w ok = quiet h (Hold l s sn) (record { flight = λ c. refl; pending = λ c. refl; dirty = λ c p. refl; flying = λ c p. refl; held = λ m i. inr i }) w
-patches_line h _ n lk w ok = quiet h _ (record { flight = λ c. refl; pending = λ c. refl; dirty = λ c p. refl; flying = λ c p. refl; held = λ m i. i }) w
+patches_line h (Hold l s sn) n lk w ok = quiet h (Hold l s sn) (record { flight = λ c. refl; taken = λ c. refl; pending = λ c. refl; dirty = λ c p. refl; flying = λ c p. refl; held = λ m i. inr i }) w
+patches_line h _ n lk w ok = quiet h _ (record { flight = λ c. refl; taken = λ c. refl; pending = λ c. refl; dirty = λ c p. refl; flying = λ c p. refl; held = λ m i. i }) w

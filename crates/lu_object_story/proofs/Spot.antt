@@ -156,17 +156,22 @@ conflict_at l m p a b w =
 
 -- ---- acknowledgements
 
--- the byte is in flight as it is in the patch, and under no pending cut
-abbrev pub Flown : Op → Option ℕ → Option ℕ → ℕ → Type 0
-Flown (Flush k (Write at bs)) q d p = (within at bs p ≡ true) × (d ≡ overlay at bs p None) × (cut_below q p ≡ false)
-Flown _ q d p = ⊥
+-- the byte is in the change that was taken, as it is in the patch, and under no pending cut
+abbrev pub Flown : Change → Option ℕ → Option ℕ → ℕ → Type 0
+Flown (Write at bs) q d p = (within at bs p ≡ true) × (d ≡ overlay at bs p None) × (cut_below q p ≡ false)
+Flown (Cut n) q d p = ⊥
+
+-- so it is in what a request writes back, if it does
+abbrev pub FlownBy : Op → Option ℕ → Option ℕ → ℕ → Type 0
+FlownBy (Flush k ch) q d p = Flown ch q d p
+FlownBy _ q d p = Unit {0}
 
 kept_cut : (q : Option ℕ) (p b : ℕ) → cut_below q p ≡ false → cut_over q p (Some b) ≡ Some b
 kept_cut None p b e = refl
 kept_cut (Some q) p b e = grind (arith, nat_tests)
 
 pub acked_over : (op : Op) (a : Answer) (q d : Option ℕ) (f : Bool) (p : ℕ) (x : Option ℕ) → ((m : ℕ) → a ≡ Done m → x ≡ after_op op p x)
-    → (f ≡ true → Flown op q d p) → over (cut_acked op a q) (dirty_acked op a f d) p x ≡ over q d p x
+    → (f ≡ true → FlownBy op q d p) → over (cut_acked op a q) (dirty_acked op a f d) p x ≡ over q d p x
 acked_over (Flush k (Write at bs)) (Done m) q d true p x done fly =
     let g = fly refl in
     let r = run_in at bs p g.0 in

@@ -8,9 +8,9 @@ use Rattle.lu_object_story.specs.History.{Item, Made, Read, Piece, piece_item, h
 use Rattle.lu_object_story.specs.Guards.{UnderNumber, TxnOk, HeardOf, KeptFor, EndAt, Wide, Allowed}
 use Rattle.lu_object_story.proofs.Numbers.{Numbers, fresh_flies}
 use Rattle.lu_object_story.proofs.Locks.{Lockings, held_granted}
-use Rattle.lu_object_story.proofs.Spot.{run_some, run_bounds, unchanged, told_over, told_changes, told_touched, told_new, untouched_over, acked_over, acked_touched, reads_value, end_none, end_some, over_none, over_some, Flown}
-use Rattle.lu_object_story.proofs.Patches.{Patches, Cover, Running, at_life}
-use Rattle.lu_object_story.proofs.Facts.{Outs, lives, txn_lost, Facts, one_lock, own_txn, running_over, running_touched, same_flight, txn_object}
+use Rattle.lu_object_story.proofs.Spot.{run_some, run_bounds, unchanged, told_over, told_changes, told_touched, told_new, untouched_over, acked_over, acked_touched, reads_value, end_none, end_some, over_none, over_some}
+use Rattle.lu_object_story.proofs.Patches.{Patches, Cover, Running, at_life, flight_hidden, flight_flown}
+use Rattle.lu_object_story.proofs.Facts.{Outs, lives, txn_lost, Facts, one_lock, own_txn, running_over, running_touched, txn_object}
 use Rattle.lu_object_story.proofs.Ends.{Ends, Bounds, hides, covers_on}
 
 -- no life that stays has a patch that may change the position
@@ -148,7 +148,7 @@ txns out lost h nr r k ch s stays n lk pt ok w = record {
 }
   where
     running : (c : ℕ) → c ≡ r.life → Running h c (Flush k ch)
-    running c e = subst (λ (op : Op). Running h c op) ok.op (pt.run c r (ap (λ (d : ℕ). flight d h) e ∙ fresh_flies h r n ok.fresh))
+    running c e = subst (λ (op : Op). Running h c op) ok.op (flight_hidden h c r pt (ap (λ (d : ℕ). flight d h) e ∙ fresh_flies h r n ok.fresh))
 
     -- where the change changes nothing
     same : (p : ℕ) → changes ch p ≡ false → object lost (Txn nr r ∷ h) p ≡ object lost h p
@@ -199,7 +199,7 @@ hears out lost h r a of n pt fs fl was w = record {
     view p o =
         acked_over r.op a (pending r.life h) (dirty r.life h p) (flying r.life h p) p (object lost h p)
         (λ m e. fs.done r.life p r m o fl (subst (λ (b : Answer). Answered h r.life r.xid b) e (n.replies r.life r.xid a was)) (subst (λ (b : Answer). HeardOf lost b) e (of o)))
-        (λ e. let f = pt.flown r.life p e in subst (λ (q : Request). Flown q.op (pending r.life h) (dirty r.life h p) p) (same_flight h r.life f.request r f.flies fl) f.flown)
+        (λ e. flight_flown h r.life p r pt fl e)
 
     others : (p c : ℕ) → Untouched out (Heard r a ∷ h) p → out c ≡ false → nat_eq c r.life ≡ false
         → touched (pending c h) (dirty c h p) p ≡ false

@@ -2,7 +2,7 @@
 use Rattle.std.proofs.Common.{◌≡◌, ℕ, ⊎_elim, List, [], ◌∷◌, Bool, true, false, refl}
 use Rattle.std.specs.Prelude.{if◌then◌else◌, ◌&&◌, ◌||◌, not}
 use Rattle.std.proofs.lemmas.Bool.{both_ways}
-use Rattle.lu_object_story.specs.Words.{Op, Enqueue, Get, Flush, Size, Granted, Waiting, Content, Done, Sized, Uncovered, Did, Saw, Entry, Flies, Heard, Hold, Drop, Forgets, Tells, Grant, Wait, Promote, Acts, Txn, Release, Evict, Commit, Close, Send}
+use Rattle.lu_object_story.specs.Words.{Op, Enqueue, Get, Flush, Size, Granted, Waiting, Content, Done, Sized, Uncovered, Did, Saw, Entry, Takes, Flies, Heard, Hold, Drop, Forgets, Tells, Grant, Wait, Promote, Acts, Txn, Release, Evict, Commit, Close, Send}
 use Rattle.lu_object_story.specs.Folds.{also, nothing_lost, evicted}
 use Rattle.lu_object_story.specs.History.{Made, Read, piece_item, history, Right, History, Locks}
 use Rattle.lu_object_story.specs.Guards.{KeptFor, Allowed, AllAllowed}
@@ -113,7 +113,7 @@ nothing = record {
     cancels = λ b c k i low. absurd i;
     alive = λ l i. absurd i;
   };
-  patches = record { cover = λ c p e. absurd (cc); flown = λ c p e. absurd (cc); run = λ c r e. absurd (cc); uses = λ c r e. absurd (cc); cuts = λ c q e. absurd (cc) };
+  patches = record { cover = λ c p e. absurd (cc); flown = λ c p e. absurd (cc); run = λ c b e. absurd (cc); under = λ c b e. absurd (cc); flush = λ c k ch r e. absurd (cc); gets = λ c k at n r e. absurd (cc); cuts = λ c q e. absurd (cc) };
   later = λ out lost s k. record {
     facts = record { known = λ c p v o e. absurd (cc); got = λ c r vs t sn o f a fr. absurd a; done = λ c p r m o f a z. absurd a };
     ends = record { coming = λ l s sn a v g nh nd last. absurd g; kept = λ l e i v last k. absurd i };
@@ -160,6 +160,7 @@ kept_none (Heard r Uncovered ∷ h) all out s = (λ o. tt, kept_none h all.1 out
 kept_none (Hold k z sn ∷ h) all out s = (λ o n i. refl, kept_none h all.1 out s)
 kept_none (Commit m ∷ h) all out s = (λ n i. refl, kept_none h all.1 out s)
 kept_none (Evict d ∷ h) all out s = kept_none h all.1 out (outs_less out h (Evict d) s)
+kept_none (Takes c k ch ∷ h) all out s = kept_none h all.1 out s
 kept_none (Flies r ∷ h) all out s = kept_none h all.1 out s
 kept_none (Drop l ∷ h) all out s = kept_none h all.1 out s
 kept_none (Forgets c ∷ h) all out s = kept_none h all.1 out s

@@ -1,7 +1,7 @@
 -- What the story so far says, its newest entry first. First what it says of the target, then of the lives: what a life holds, has in
 -- flight, has changed and not yet written back (its patch), and knows of the object.
 use Rattle.std.specs.Prelude.{◌≡◌, ◌⊎◌, ℕ, suc, ◌+◌, max, Bool, true, false, ◌&&◌, ◌||◌, nat_eq, nat_lt, if◌then◌else◌, List, [], ◌∷◌, length, Option, Some, None, not}
-use Rattle.lu_object_story.specs.Words.{Lock, Change, Write, Cut, Op, Get, Flush, Request, Answer, Granted, Waiting, Content, Done, Message, Did, Entry, Flies, Heard, Hold, Drop, Forgets, Tells, Grant, Wait, Promote, Acts, Txn, Release, Evict, Commit, Close, Send, covers, overlay, within, value, cut_at, after_at, end_after, changes}
+use Rattle.lu_object_story.specs.Words.{Lock, Change, Write, Cut, Op, Get, Flush, Request, Answer, Granted, Waiting, Content, Done, Message, Did, Entry, Takes, Flies, Heard, Hold, Drop, Forgets, Tells, Grant, Wait, Promote, Acts, Txn, Release, Evict, Commit, Close, Send, covers, overlay, within, value, cut_at, after_at, end_after, changes}
 
 -- ---- of the target
 
@@ -183,7 +183,7 @@ abbrev pub dirty_by : Change → Option ℕ → ℕ → Option ℕ → Option �
 dirty_by (Write at bs) q p d = overlay at bs p d
 dirty_by (Cut n) q p d = dirty_cut n q p d
 
--- whether a byte is in flight, and unchanged since, once a change is told: not if a write has it, or a cut drops it
+-- whether a byte is under way, and unchanged since, once a change is told: not if a write has it, or a cut drops it
 abbrev pub flying_by : Change → ℕ → Bool → Bool
 flying_by (Write at bs) p f = not (within at bs p) && f
 flying_by (Cut n) p f = nat_lt p n && f
@@ -193,15 +193,20 @@ abbrev pub cut_acked : Op → Answer → Option ℕ → Option ℕ
 cut_acked (Flush k (Cut n)) (Done m) (Some q) = if nat_eq q n then None else Some q
 cut_acked _ _ q = q
 
--- a dirty byte once an answer is heard: gone if it was in flight and not changed since, else it stays
+-- a dirty byte once an answer is heard: gone if it was under way and not changed since it was taken, else it stays
 abbrev pub dirty_acked : Op → Answer → Bool → Option ℕ → Option ℕ
 dirty_acked (Flush k (Write at bs)) (Done m) f d = if f then None else d
 dirty_acked _ _ f d = d
 
--- the request writes back a byte for this position
-abbrev pub flown_by : Op → ℕ → Bool
-flown_by (Flush k (Write at bs)) p = within at bs p
-flown_by _ p = false
+-- a change that is taken to be written back has a byte for this position
+abbrev pub taken_by : Change → ℕ → Bool
+taken_by (Write at bs) p = within at bs p
+taken_by (Cut n) p = false
+
+-- whether a byte was taken and not changed since, once an answer is heard: not if that answers a write-back
+abbrev pub flying_heard : Op → Bool → Bool
+flying_heard (Flush k ch) f = false
+flying_heard _ f = f
 
 -- the size of the cut that a life has told and not yet written back, if there is one: of several the lowest
 abbrev pub pending : ℕ → List Entry → Option ℕ
@@ -210,12 +215,29 @@ pending c (Tells d (Did k ch) ∷ h) = if nat_eq c d then cut_by ch (pending c h
 pending c (Heard r a ∷ h) = if nat_eq c r.life then cut_acked r.op a (pending c h) else pending c h
 pending c (_ ∷ h) = pending c h
 
--- a life's byte at this position is in flight to the target, and wasn't changed since it was sent
+-- What a life writes back: a change, under the lock of that cookie
+pub record WriteBack : Type 0 where
+  pub lock : ℕ
+  pub change : Change
+
+-- what is under way of a write-back, once an answer is heard: nothing, if that answers one
+abbrev pub taken_heard : Op → Option WriteBack → Option WriteBack
+taken_heard (Flush k ch) w = None
+taken_heard _ w = w
+
+-- the write-back that is under way: taken from the patch, and its answer isn't heard. It may wait to be sent
+abbrev pub taken : ℕ → List Entry → Option WriteBack
+taken c [] = None
+taken c (Takes d k ch ∷ h) = if nat_eq c d then Some (record { lock = k; change = ch }) else taken c h
+taken c (Heard r a ∷ h) = if nat_eq c r.life then taken_heard r.op (taken c h) else taken c h
+taken c (_ ∷ h) = taken c h
+
+-- a life's byte at this position is under way to the target, and wasn't changed since it was taken
 abbrev pub flying : ℕ → List Entry → ℕ → Bool
 flying c [] p = false
 flying c (Tells d (Did k ch) ∷ h) p = if nat_eq c d then flying_by ch p (flying c h p) else flying c h p
-flying c (Heard r a ∷ h) p = if nat_eq c r.life then false else flying c h p
-flying c (Flies r ∷ h) p = if nat_eq c r.life then flown_by r.op p else flying c h p
+flying c (Heard r a ∷ h) p = if nat_eq c r.life then flying_heard r.op (flying c h p) else flying c h p
+flying c (Takes d k ch ∷ h) p = if nat_eq c d then taken_by ch p else flying c h p
 flying c (_ ∷ h) p = flying c h p
 
 -- the byte of its own that a life has at this position, told and not yet written back

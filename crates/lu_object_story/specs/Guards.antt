@@ -1,8 +1,8 @@
 -- What each entry rests on, over the story before it. In an allowed story (`AllAllowed`) nothing else ever happens; that something
 -- happens, or an answer ever comes, no rule says. Evictions, commits and news of a boot may come at any time.
 use Rattle.std.specs.Prelude.{◌≡◌, ◌⊎◌, ℕ, suc, ◌<◌, ◌≤◌, ◌+◌, ◌&&◌, ◌||◌, Bool, true, false, nat_eq, nat_lt, List, [], ◌∷◌, Option, Some, None, length, min, ◌-◌}
-use Rattle.lu_object_story.specs.Words.{Lock, Change, Write, Cut, Op, Enqueue, Get, Flush, Size, Request, Answer, Granted, Content, Done, Sized, Uncovered, Message, Ask, Reply, Give, Block, Cancel, Call, Did, Saw, Entry, Flies, Heard, Hold, Drop, Forgets, Tells, Grant, Wait, Promote, Acts, Txn, Release, Evict, Commit, Close, Send, covers, conflict, overlay, value, changes}
-use Rattle.lu_object_story.specs.Folds.{Was, closed, evicted, committed, top, Answered, HeldBy, IsGranted, IsWaiting, object, nothing_lost, also, Changed, asked, flight, awaits, WasDropped, pending, dirty, known, touched, reads_at, is_some, ends, shown, base}
+use Rattle.lu_object_story.specs.Words.{Lock, Change, Write, Cut, Op, Enqueue, Get, Flush, Size, Request, Answer, Granted, Content, Done, Sized, Uncovered, Message, Ask, Reply, Give, Block, Cancel, Call, Did, Saw, Entry, Takes, Flies, Heard, Hold, Drop, Forgets, Tells, Grant, Wait, Promote, Acts, Txn, Release, Evict, Commit, Close, Send, covers, conflict, overlay, within, value, changes}
+use Rattle.lu_object_story.specs.Folds.{Was, closed, evicted, committed, top, Answered, HeldBy, IsGranted, IsWaiting, object, nothing_lost, also, Changed, asked, flight, awaits, WasDropped, WriteBack, taken, pending, dirty, known, cut_below, touched, reads_at, is_some, ends, shown, base}
 
 -- ---- locks
 
@@ -97,19 +97,26 @@ ToldOk h c (Saw at n vs) = Wide h c at n vs ⊎ Narrow h c at n vs
 
 -- ---- requests
 
--- what is written back: dirty bytes, and these only while no cut is pending; or the pending cut (this project's profile)
+-- what is taken to be written back: dirty bytes, and these only while no cut to their positions or a lower one is pending; or the pending cut (this
+-- project's profile)
 abbrev pub FlushOk : List Entry → ℕ → Change → Type 0
 FlushOk h c (Write at bs) =
-    (pending c h ≡ None)
+    ((p : ℕ) → within at bs p ≡ true → cut_below (pending c h) p ≡ false)
     × ((p b : ℕ) → overlay at bs p None ≡ Some b → dirty c h p ≡ Some b)
 FlushOk h c (Cut n) = pending c h ≡ Some n
 
--- a get asks for bytes under a held lock, and a write-back goes under a held PW lock over all that it may change
+-- a change is taken under a held PW lock over all that it may change, and while no other one is under way
+pub record TakesOk (h : List Entry) (c k : ℕ) (ch : Change) : Type 0 where
+  pub alone : taken c h ≡ None
+  pub under : UnderNumber h c k true (changes ch)
+  pub change : FlushOk h c ch
+
+-- a get asks for bytes under a held lock, and a write-back sends what was taken
 abbrev pub OpOk : List Entry → ℕ → Op → Type 0
 OpOk h c (Enqueue w f t) = Unit {0}
 OpOk h c Size = Unit {0}
 OpOk h c (Get k at n) = UnderNumber h c k false (in_run at n)
-OpOk h c (Flush k ch) = UnderNumber h c k true (changes ch) × FlushOk h c ch
+OpOk h c (Flush k ch) = taken c h ≡ Some (record { lock = k; change = ch })
 
 -- a life has one request in flight at a time, and its number is above the earlier ones
 pub record New (h : List Entry) (r : Request) : Type 0 where
@@ -152,6 +159,11 @@ ActsOk h r _ = ⊥
 abbrev pub in_use : Option Request → ℕ → Bool
 in_use None k = false
 in_use (Some r) k = elim r.op [ Get j at n ↦ nat_eq j k | Flush j ch ↦ nat_eq j k | _ ↦ false ]
+
+-- the write-back under way goes under the lock of this cookie
+abbrev pub taken_under : Option WriteBack → ℕ → Bool
+taken_under None k = false
+taken_under (Some w) k = nat_eq w.lock k
 
 -- the object ends at `s`: nothing stands at `s` or later, and a byte stands right before it, unless `s` is 0
 abbrev pub IsEnd : List Entry → ℕ → Type 0
@@ -229,11 +241,12 @@ pub record TxnOk (h : List Entry) (n : ℕ) (r : Request) (k : ℕ) (ch : Change
   pub under : GrantedNumber h r.life k true (changes ch)
 
 -- a lock is dropped only once nothing of the life's patch lies under it, so what it wrote there was written back and that was heard; and
--- while no request in flight names it (Wang et al., Understanding Lustre Filesystem Internals, the lock manager: blocking callbacks)
+-- while no request in flight, and no write-back under way, names it (Wang et al., Understanding Lustre Filesystem Internals, the lock manager: blocking callbacks)
 pub record DropOk (h : List Entry) (l : Lock) : Type 0 where
   pub held : HeldBy h l
   pub clean : (p : ℕ) → covers l p ≡ true → touched (pending l.life h) (dirty l.life h p) p ≡ false
   pub free : in_use (flight l.life h) l.cookie ≡ false
+  pub untaken : taken_under (taken l.life h) l.cookie ≡ false
 
 -- ---- a close
 
@@ -276,6 +289,7 @@ ReleaseOk h k =
 
 -- the entry is allowed after that story
 abbrev pub Allowed : List Entry → Entry → Type 0
+Allowed h (Takes c k ch) = TakesOk h c k ch
 Allowed h (Flies r) = New h r
 Allowed h (Heard r a) = (flight r.life h ≡ Some r) × Was h (Reply (closed h) r.life r.xid a)
 Allowed h (Hold l s sn) = HoldOk h l s sn

@@ -66,7 +66,8 @@ pub data Call : Type 0 where
 
 -- ---- entries
 
--- Of a life. `Flies`: the request is in flight from now on, until its answer is `Heard`. `Hold`: the lock is held from now on, and the
+-- Of a life. `Takes`: the change is taken from the life's patch, to be written back under the lock of that cookie; it waits to be sent,
+-- and what the life changes meanwhile isn't in it. `Flies`: the request is in flight from now on, until its answer is `Heard`. `Hold`: the lock is held from now on, and the
 -- object's size was told with it; `Drop`: no longer. `Forgets`: the life knows a new boot, and awaits no lock that it asked for.
 -- `Tells`: the call is told.
 -- Of the target. `Grant`: the request is answered with the lock; `Wait`: the lock must wait, and `Promote`: it is granted now. `Acts`:
@@ -76,6 +77,7 @@ pub data Call : Type 0 where
 -- recovery: replay, eviction).
 -- Of either. `Send`: the message is sent; it may arrive at any time, more than once, or never.
 pub data Entry : Type 0 where
+  Takes : (life : ℕ) (lock : ℕ) (change : Change) → Entry
   Flies : (request : Request) → Entry
   Heard : (request : Request) (answer : Answer) → Entry
   Hold : (lock : Lock) (size : ℕ) (seen : ℕ → Bool) → Entry
