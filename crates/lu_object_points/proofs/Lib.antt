@@ -1,0 +1,4 @@
+pub mod Runs
+pub mod Patches
+pub mod Objects
+pub mod Locks
