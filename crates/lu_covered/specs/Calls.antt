@@ -8,7 +8,8 @@ use Rattle.lu_msg.specs.declared.operations.Op.{Op}
 use Rattle.lu_msg.specs.declared.operations.Op.TheVariants as op
 use Rattle.lu_msg.specs.declared.answers.Answer.{Answer}
 use Rattle.lu_msg.specs.declared.answers.Answer.TheVariants as answer
-use Rattle.lu_words.specs.Carried.{HandleFile, Answered, Asking, Unasked, Stage, Running}
+use Rattle.lu_held.specs.declared.locks.Use.{Use}
+use Rattle.lu_words.specs.Carried.{HandleFile, Answered, Asking, Unasked, Stage, Plain, Sizes, Running}
 use Rattle.lu_words.specs.Words.{Entry, Begin, Told, Life, Line, is_client}
 use Rattle.lu_client_rows.specs.Slots.{opens}
 pub use Rattle.lu_client_rows.specs.Calls.{asks, asks_for, reads_call, call_after, call_at, calls_at, call_on, calls_from, calls_after, reads_life, life_after, first_life, life_at, reads_death, death_after, is_dead}
@@ -44,6 +45,29 @@ operation_of _ _ = None
 
 abbrev pub becomes : Running → Option Op
 becomes r = operation_of r.file r.call
+
+-- what is asked, and of which target
+pub record Errand : Type 0 where
+  pub target : ℕ
+  pub op : Op
+
+abbrev pub names_errand : Option Op → Option Errand
+names_errand None = None
+names_errand (Some o) = Some (record { target = 0; op = o })
+
+-- how long the first of these objects is
+abbrev pub size_errand : List Use → Option Errand
+size_errand [] = None
+size_errand (wanted ∷ left) = Some (record { target = wanted.target.0; op = op.Size wanted.resource })
+
+abbrev pub errand_at : Stage → Running → Option Errand
+errand_at Plain r = names_errand (becomes r)
+errand_at (Sizes w) r = size_errand w.left
+errand_at _ r = None
+
+-- what a call asks where it stands, if anything
+abbrev pub errand : Running → Option Errand
+errand r = errand_at r.stage r
 
 -- what its user is told of the answer: of an open the file alone
 abbrev pub told_as : Call → Answer → Answer
@@ -102,4 +126,6 @@ is_bad c past _ = false
 -- the file of the handle that a call names
 abbrev pub file_for : ℕ → List Line → Call → Option HandleFile
 file_for c past (call.Close h) = file_at c h past
+file_for c past (call.Flush h) = file_at c h past
+file_for c past (call.Glimpse h) = file_at c h past
 file_for c past _ = None

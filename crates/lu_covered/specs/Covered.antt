@@ -1,22 +1,28 @@
--- Which runs the theorem covers so far: the calls that begin are on names or on bad handles, all that is told is told without bytes, no
--- close of an open waits for another call on it, and no disk fails. Targets may crash, boot, recover and close their recovery windows.
--- Whatever messages are lost, repeated or late, whoever dies, whoever waits for a lock, whatever is committed, and whoever is evicted and
--- joins in a new life, is covered.
-use Rattle.std.specs.Prelude.{◌≡◌, ◌⊎◌, ℕ, false, List, [], ◌∷◌, Option, Some, None}
-use Rattle.lu_base.specs.declared.ids.Node.{Node}
-use Rattle.lu_base.specs.declared.ids.Node.TheVariants.{Client}
+-- Which runs the theorem covers so far: the calls that begin are on names or on bad handles, a `flush` or a `glimpse`; all that is told is
+-- told without bytes; how long an object is is asked of an object storage target alone; and no disk fails. Targets may crash, boot, recover
+-- and close their recovery windows. Whatever messages are lost, repeated or late, whoever dies, whoever waits for a lock, whatever is
+-- committed, and whoever is evicted and joins in a new life, is covered.
+use Rattle.std.specs.Prelude.{◌≡◌, ◌⊎◌, ◌<◌, List, [], ◌∷◌, Option, Some, None}
+use Rattle.lu_msg.specs.declared.calls.Call.{Call}
+use Rattle.lu_msg.specs.declared.calls.Call.TheVariants as call
 use Rattle.lu_msg.specs.declared.messages.Message.{Message}
 use Rattle.lu_msg.specs.declared.messages.Message.TheVariants as message
 use Rattle.lu_msg.specs.declared.operations.Op.{Op}
-use Rattle.lu_words.specs.Carried.{Deed, HandleFile, Bad, Work, Running}
-use Rattle.lu_words.specs.Words.{Entry, Send, Take, Tick, Begin, Busy, Heard, Hold, Drop, Told, Life, Die, Queues, Flies, Knows, Serves, Settles, Binds, Unbinds, Pins, Unpins, Marks, Unmarks, Learns, Line}
+use Rattle.lu_held.specs.declared.locks.Use.{Use}
+use Rattle.lu_words.specs.Carried.{Deed, Kind, Glimpses, Stage, Bad, Sizes, Work, Running}
+use Rattle.lu_words.specs.Words.{Entry, Send, Take, Tick, Begin, Busy, Heard, Hold, Drop, Told, Life, Die, Queues, Flies, Knows, Serves, Settles, Stands, Binds, Unbinds, Pins, Unpins, Marks, Unmarks, Learns, Line}
 use Rattle.lu_words.specs.Words.{Skip, Act, Txn, Grant, Block, Release, Commit, Crash, Boot, Back, Close, Kept, Restore, Evict, Joined, Enters, Stores, Brings, Says, Wishes}
-use Rattle.lu_client_rows.specs.Starts.{is_on}
-use Rattle.lu_covered.specs.Calls.{becomes, call_at}
+use Rattle.lu_covered.specs.Calls.{becomes}
 
--- a call on names, which asks the metadata target, or is refused since its handle is bad
+-- a call that changes no object and reads no bytes of one: it writes back what is changed, or asks how long objects are
+abbrev pub IsOnSizes : Call → Type 0
+IsOnSizes (call.Flush h) = Unit {0}
+IsOnSizes (call.Glimpse h) = Unit {0}
+IsOnSizes _ = ⊥
+
+-- a call on names, which asks the metadata target, or is refused since its handle is bad; or one of those two
 abbrev pub IsCoveredCall : Running → Type 0
-IsCoveredCall r = ((o : Op) × (becomes r ≡ Some o)) ⊎ (r.stage ≡ Bad)
+IsCoveredCall r = ((o : Op) × (becomes r ≡ Some o)) ⊎ (r.stage ≡ Bad) ⊎ IsOnSizes r.call
 
 -- requests, replies, what is said of locks, and of lives that leave and come
 abbrev pub IsCoveredMessage : Message → Type 0
@@ -37,6 +43,19 @@ IsCoveredMessage _ = ⊥
 abbrev pub IsWithoutWork : Option Work → Type 0
 IsWithoutWork None = Unit {0}
 IsWithoutWork (Some work) = ⊥
+
+-- the object storage targets that have them are asked how long objects are
+abbrev pub OnObjects : List Use → Type 0
+OnObjects [] = Unit {0}
+OnObjects (wanted ∷ left) = (0 < wanted.target.0) × OnObjects left
+
+abbrev pub IsGlimpsing : Kind → Type 0
+IsGlimpsing (Glimpses sizes) = Unit {0}
+IsGlimpsing _ = ⊥
+
+abbrev pub IsSizing : Stage → Type 0
+IsSizing (Sizes w) = IsGlimpsing w.kind × OnObjects w.left
+IsSizing _ = ⊥
 
 -- a lock is granted by an act
 abbrev pub IsByAct : Option Deed → Type 0
@@ -61,6 +80,7 @@ IsCovered (Knows target boot) = Unit {0}
 IsCovered (Serves target boot) = Unit {0}
 IsCovered (Unmarks target) = Unit {0}
 IsCovered (Settles target to) = Unit {0}
+IsCovered (Stands slot running) = IsSizing running.stage
 IsCovered (Binds handle file) = Unit {0}
 IsCovered (Unbinds handle) = Unit {0}
 IsCovered (Pins name) = Unit {0}
@@ -89,16 +109,6 @@ IsCovered (Joined who) = Unit {0}
 IsCovered (Enters request) = Unit {0}
 IsCovered _ = ⊥
 
--- a call on an open begins where no other call of its client is on that open: so a close never waits. In a run that is so of each close,
--- since opens have numbers of their own and a close unbinds its handle as it begins
-abbrev pub IsAloneOn : ℕ → List Line → Option HandleFile → Type 0
-IsAloneOn c past None = Unit {0}
-IsAloneOn c past (Some f) = (slot : ℕ) → is_on f.number.0 (call_at c slot past) ≡ false
-
-abbrev pub IsAlone : List Line → Node → Entry → Type 0
-IsAlone past (Client c) (Begin slot r) = IsAloneOn c past r.file
-IsAlone past node e = Unit {0}
-
 abbrev pub AllCovered : List Line → Type 0
 AllCovered [] = Unit {0}
-AllCovered (l ∷ past) = IsCovered l.entry × AllCovered past × IsAlone past l.at.node l.entry
+AllCovered (l ∷ past) = IsCovered l.entry × AllCovered past

@@ -1,12 +1,14 @@
--- What comes of executing a request at the metadata target.
-use Rattle.std.specs.Prelude.{ℕ, List}
+-- What comes of executing a request: at the metadata target, and of a glimpse at another one.
+use Rattle.std.specs.Prelude.{ℕ, List, []}
 use Rattle.lu_base.specs.declared.ids.At.{At}
 use Rattle.lu_base.specs.declared.ids.Txn.{Txn as TxnOf}
 use Rattle.lu_base.specs.declared.locks.Lock.{Lock}
+use Rattle.lu_msg.specs.declared.answers.Answer.TheVariants as told
 use Rattle.lu_msg.specs.declared.messages.Reply.{Reply as ReplyTo}
 use Rattle.lu_msg.specs.declared.messages.Request.{Request as RequestOf}
 use Rattle.lu_part.specs.declared.parts.Part.{Part}
 use Rattle.lu_machine.specs.Footprint.{Operation, answer, grants, touches, writes}
+use Rattle.lu_machine.specs.Objects.{object_touches}
 use Rattle.lu_words.specs.Carried.{Deed}
 use Rattle.lu_target_rows.specs.Names.{locks_from}
 use Rattle.lu_covered.specs.TargetStates.{Server, none, next_number, seen_in}
@@ -46,3 +48,25 @@ written_by osts v r = writes osts v.tree (asked r (next_number v))
 -- a kept reply as it is sent again, with the present boot and committed number
 abbrev pub again : Server → ReplyTo → ReplyTo
 again v k = record k { boot = v.boot; committed = v.committed }
+
+-- ---- a glimpse
+
+-- the target tells that the object has this size
+abbrev pub sized : Server → At → RequestOf → ℕ → Deed
+sized v at r size =
+    record {
+      tag = r.tag;
+      op = r.op;
+      writes = [];
+      reply = record {
+        who = r.who;
+        boot = v.boot;
+        xid = r.xid;
+        txn = none;
+        committed = v.committed;
+        seen = seen_in (object_touches r.op (told.Size size)) v.log;
+        at = at;
+        locks = [];
+        answer = told.Size size;
+      };
+    }

@@ -16,7 +16,7 @@ use Rattle.lu_target_rows.specs.Replies.{to_life}
 use Rattle.lu_target_rows.specs.States.{Target as TargetOf, started, empty_disk, first_batch}
 use Rattle.lu_target_rows.specs.Stored.{stored, disk_after}
 use Rattle.lu_target_rows.specs.Windows.{has_number}
-use Rattle.lu_covered.specs.TargetStates.{server_of, lives_of, evicted_of, replays_of, brought_of, words_of, wishes_of}
+use Rattle.lu_covered.specs.TargetStates.{server_of, lives_of, replays_of, brought_of, words_of, wishes_of}
 
 -- ---- the disk
 

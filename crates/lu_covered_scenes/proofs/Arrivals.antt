@@ -1,8 +1,8 @@
--- What comes to a node in a covered run whose calls are those of a covered scenario's lines: to the metadata target requests and locks that are
--- given back, to each target joins, and what lives that come back tell one that recovers; to a client of the run replies without a file's
--- attributes, blocks, and word that a target is up again, and that its life is served or is over. Where no turn may ask a disk, all is of first
--- lives and of the first boot, and nobody joins or comes back.
-use Rattle.std.proofs.Common.{◌≡◌, ℕ, ◌+◌, ◌<◌, ◌≤◌, true, false, List, [], ◌∷◌, Option, Some, None, ◌⊎◌, inl, inr, ⊎_elim, refl, sym, subst, ap, ◌∙◌, zero, suc, arith, pos}
+-- What comes to a node in a covered run whose calls are those of a covered scenario's lines: to the metadata target requests on names and locks
+-- that are given back, to another one, which has granted no lock, requests for the size of an object, to each target joins, and what lives that
+-- come back tell one that recovers; to a client of the run replies without a file's attributes, blocks, and word that a target is up again, and
+-- that its life is served or is over. Where no turn may ask a disk, all is of first lives and of the first boot, and nobody joins or comes back.
+use Rattle.std.proofs.Common.{◌≡◌, ℕ, ◌+◌, ◌<◌, ◌≤◌, Bool, true, false, List, [], ◌∷◌, Option, Some, None, ◌⊎◌, inl, inr, ⊎_elim, refl, sym, subst, ap, ◌∙◌, zero, suc, arith, pos}
 use Rattle.std.specs.Prelude.{nat_eq, nat_lt}
 use Rattle.std.proofs.lemmas.Bool.{cond_both, eqb-true}
 use Rattle.std.proofs.lemmas.Bool.Decides.{nat_tests}
@@ -10,7 +10,14 @@ use Rattle.lu_base.specs.declared.ids.At.{At}
 use Rattle.lu_base.specs.declared.ids.Node.{Node}
 use Rattle.lu_base.specs.declared.ids.Node.TheVariants.{Client, Target}
 use Rattle.lu_base.specs.declared.ids.Who.{Who}
+use Rattle.lu_base.specs.declared.ids.Fid.{Fid}
+use Rattle.lu_base.specs.declared.ids.Txn.{Txn as TxnOf}
 use Rattle.lu_base.specs.declared.locks.Cause.{Cause}
+use Rattle.lu_base.specs.declared.locks.Lock.{Lock}
+use Rattle.lu_layout.specs.Raid0.{Raid0}
+use Rattle.lu_machine.specs.Fits.{answer_fits}
+use Rattle.lu_msg.specs.declared.answers.Answer.{Answer}
+use Rattle.lu_msg.specs.declared.answers.Answer.TheVariants as answer
 use Rattle.lu_msg.specs.declared.calls.Call.{Call}
 use Rattle.lu_msg.specs.declared.calls.Call.TheVariants as call
 use Rattle.lu_msg.specs.declared.messages.Message.{Message}
@@ -22,37 +29,44 @@ use Rattle.lu_msg.specs.declared.operations.Op.TheVariants as op
 use Rattle.lu_scene.specs.declared.scene.Scene.{Scene}
 use Rattle.lu_trace.specs.WellFormed.{IsCall}
 use Rattle.lu_words.specs.Carried.{Deed, HandleFile, Flight, Outcome}
-use Rattle.lu_words.specs.Concerns.{only}
+use Rattle.lu_words.specs.Concerns.{concerns, only}
 use Rattle.lu_words.specs.Sent.{Sent}
-use Rattle.lu_words.specs.Words.{Entry, Send, Flies, Life, Boot, Close, Evict, Joined, Wishes, Line, line}
+use Rattle.lu_words.specs.Words.{Entry, Send, Flies, Life, Act, Grant, Restore, Release, Commit, Boot, Close, Evict, Joined, Wishes, Line, line, is_target}
 use Rattle.lu_target_rows.specs.Lives.{is_life, without_lives, lives_of as lives_in}
 use Rattle.lu_target_rows.specs.Outcomes as recovered
 use Rattle.lu_target_rows.specs.Windows.{Window, kept_numbers, gone_from}
-use Rattle.lu_target_rows.specs.States.{Target as TargetState, lives_from}
+use Rattle.lu_target_rows.specs.Locks.{with_locks, without_lock, locks_without, granted_after}
+use Rattle.lu_target_rows.specs.States.{Setting, Target as TargetState, lives_from, target_at}
 use Rattle.lu_covered.specs.Calls.{operation_of, first_life}
 use Rattle.lu_covered.specs.ClientStates.{life_of, is_own}
 use Rattle.lu_covered.specs.Heads.{Head}
 use Rattle.lu_covered.specs.TargetCloses.{disk_of, recovering_of, outcome_of}
-use Rattle.lu_covered.specs.TargetStates.{lives_of, evicted_of, wishes_of}
+use Rattle.lu_covered.specs.TargetStates.{lives_of, evicted_of, wishes_of, server_of}
+use Rattle.lu_after.proofs.Targets.{target_line, target_left}
 use Rattle.lu_lawful.proofs.Guards.{In, Was, EntryOk}
-use Rattle.lu_lawful.proofs.StoryGuards.{EntryOf, Newer, SaidBy, EvictOk, LeavesOk, JoinedOk, ComesOk, CloseOk, WishesOk}
+use Rattle.lu_lawful.proofs.StoryGuards.{ActsOk, EntryOf, Newer, SaidBy, EvictOk, LeavesOk, JoinedOk, ComesOk, CloseOk, WishesOk}
 use Rattle.lu_lawful.proofs.Grown.{IsOneOf, Grown, GrownOf}
 use Rattle.lu_lawful.proofs.Lists.{self, own_is}
 use Rattle.lu_lawful.proofs.Only.{sent_was, was_only, grown_of}
 use Rattle.lu_lawful.proofs.Groups.{turn, Acted, Flew, Evicted, Had, HoldsAt}
 use Rattle.lu_lawful.proofs.FactLines.{flew_whole, acted_whole}
 use Rattle.lu_lawful.proofs.All.{holds}
-use Rattle.lu_lawful.proofs.Asked.{AskedBy, flew_asked}
+use Rattle.lu_lawful.proofs.Asked.{AskedBy, flew_asked, acted_on_names}
 use Rattle.lu_lawful.proofs.Files.{acted_told}
-use Rattle.lu_lawful.proofs.OnNames.{IsPlain, op_is}
+use Rattle.lu_lawful.proofs.Layouts.{acted_layout}
+use Rattle.lu_lawful.proofs.OnNames.{IsOnNames, IsPlain, op_is}
+use Rattle.lu_lawful.proofs.Refused.{acted_answered}
+use Rattle.lu_lawful.proofs.Sides.{ActedKind, acted_kind, acted_sized, request_kind}
+use Rattle.lu_lawful.proofs.ClientLines.{IsSize, IsAskedOf}
+use Rattle.lu_lawful.proofs.Held.{none_restored}
 use Rattle.lu_covered_scenes.specs.Covered.{IsFile, IsCovered, AsksNoDisk}
 use Rattle.lu_covered_scenes.proofs.Every.{Every}
 use Rattle.lu_covered_scenes.proofs.Asking.{IsOf, Suits, AllSuit, was_suits}
-use Rattle.lu_covered_scenes.proofs.Clients.{IsReader}
+use Rattle.lu_covered_scenes.proofs.Clients.{OnOsts, AnswerCalm, LockCalm}
 use Rattle.lu_covered_scenes.proofs.ClientRows.{MessageCalm}
 use Rattle.lu_covered_scenes.proofs.Lines.{MayAsk, lines_known, called_fits, AllOfLines, all_files, all_stats}
 use Rattle.lu_covered_scenes.proofs.Numbers.{IsShort, MessageFits}
-use Rattle.lu_covered_scenes.proofs.Targets.{MessageServed}
+use Rattle.lu_covered_scenes.proofs.Targets.{MayBeAsked, MessageServed}
 use Rattle.lu_lawful.proofs.GuardLifeLists.{stands_life, life_stands, life_left}
 use Rattle.lu_lawful.proofs.CloseLists.{puts_or, left_all, gone_had, in_wish}
 use Rattle.lu_lawful.proofs.LifeLists.{first_among, put_or}
@@ -61,28 +75,28 @@ use Rattle.lu_lawful.proofs.PartsStay.{in_every}
 -- ---- between whom messages go
 
 abbrev pub Goes : (from to : Node) → Message → Type 0
-Goes (Client c) (Target t) (message.Request r) = t ≡ 0
+Goes (Client c) (Target t) (message.Request r) = Unit {0}
 Goes (Client c) (Target t) (message.Cancel who boot cookie) = t ≡ 0
 Goes (Client c) (Target t) (message.Join who boot) = Unit {0}
 Goes (Client c) (Target t) (message.Replay r) = Unit {0}
 Goes (Client c) (Target t) (message.Lock r) = Unit {0}
 Goes (Client c) (Target t) (message.Word who boot replays locks seen) = Unit {0}
 Goes (Target t) (Client c) (message.Up boot) = Unit {0}
-Goes (Target t) (Client c) (message.Reply k) = t ≡ 0
+Goes (Target t) (Client c) (message.Reply k) = Unit {0}
 Goes (Target t) (Client c) (message.Block who boot cookie) = t ≡ 0
 Goes (Target t) (Client c) (message.Ready who boot committed) = Unit {0}
 Goes (Target t) (Client c) (message.Evicted who boot) = Unit {0}
 Goes _ _ _ = ⊥
 
 send_goes : (past : List Line) (at : At) (node to : Node) (m : Message) → EntryOk past at node (Send to m) → Goes node to m
-send_goes past at (Client c) (Target t) (message.Request r) ok = ok
+send_goes past at (Client c) (Target t) (message.Request r) ok = tt
 send_goes past at (Client c) (Target t) (message.Cancel who boot cookie) ok = ok
 send_goes past at (Client c) (Target t) (message.Join who boot) ok = tt
 send_goes past at (Client c) (Target t) (message.Replay r) ok = tt
 send_goes past at (Client c) (Target t) (message.Lock r) ok = tt
 send_goes past at (Client c) (Target t) (message.Word who boot replays locks seen) ok = tt
 send_goes past at (Target t) (Client c) (message.Up boot) ok = tt
-send_goes past at (Target t) (Client c) (message.Reply k) ok = ok.0
+send_goes past at (Target t) (Client c) (message.Reply k) ok = tt
 send_goes past at (Target t) (Client c) (message.Block who boot cookie) ok = ok
 send_goes past at (Target t) (Client c) (message.Ready who boot committed) ok = tt
 send_goes past at (Target t) (Client c) (message.Evicted who boot) ok = tt
@@ -292,6 +306,82 @@ short file (call.Open h path) o e fits = subst IsShort (op_is (op.Open path) o e
 short (Some f) (call.Close h) o e fits = subst IsShort (op_is (op.Close f.number f.fid) o e) tt
 short file k o e fits = absurd (cc)
 
+size_short : (o : Op) → IsSize o → IsShort o
+size_short (op.Size resource) is = tt
+size_short o is = absurd is
+
+-- ---- answers
+
+-- no operation on names leaves a size to a lock
+no_lock : (o : Op) → IsOnNames o → answer_fits o answer.Lock ≡ true → ⊥
+no_lock (op.Lookup path) is fits = cc
+no_lock (op.Stat path) is fits = cc
+no_lock (op.List path) is fits = cc
+no_lock (op.Layout path) is fits = cc
+no_lock (op.Mkdir path) is fits = cc
+no_lock (op.Create path size count) is fits = cc
+no_lock (op.Link old new) is fits = cc
+no_lock (op.Unlink path) is fits = cc
+no_lock (op.Rmdir path) is fits = cc
+no_lock (op.Rename old new) is fits = cc
+no_lock (op.Chmod path mode) is fits = cc
+no_lock (op.Open path) is fits = cc
+no_lock (op.Close number fid) is fits = cc
+no_lock o is fits = is
+
+names_answer : (o : Op) (a : Answer) → IsOnNames o → answer_fits o a ≡ true → IsPlain a → ((fid : Fid) (number : TxnOf) (layout : Raid0) → a ≡ answer.OpenFile fid number layout → OnOsts layout) → AnswerCalm a
+names_answer o (answer.FileStat fid mode links layout) is fits plain on = absurd plain
+names_answer o (answer.OpenFile fid number layout) is fits plain on = on fid number layout refl
+names_answer o answer.Lock is fits plain on = absurd (no_lock o is fits)
+names_answer o a is fits plain on = tt
+
+-- ---- a target that isn't the metadata target has granted no lock
+
+pub grants_none : (head : Head) (setting : Setting) (clients : ℕ) (past : List Line) → Grown head past → 0 < setting.id → (target_at setting clients past).granted ≡ []
+grants_none head setting clients [] g high = refl
+grants_none head setting clients (l ∷ past) g high = by l.at.node refl (is_target setting.id l.at.node) refl (grants_none head setting clients past g.1 high)
+  where
+    t : ℕ
+    t = setting.id
+
+    v : TargetState
+    v = target_at setting clients past
+
+    -- none is granted by its story
+    none_here : (lock : Lock) → In lock (server_of head.osts (only t past)).granted → ⊥
+    none_here lock i =
+        let gave = ((holds head past g.1).at t).locks.granted lock i in
+        let told = acted_sized head past t gave.0 high g.1 gave.1.0 in
+        subst (λ (ls : List Lock). In lock ls) told.locks gave.1.1
+
+    none_restored_here : (n : ℕ) → 0 < n → (o : Outcome) → CloseOk head (only n past) l.at o → o.locks ≡ []
+    none_restored_here zero low o ok = absurd (omega (arith, low))
+    none_restored_here (suc n) low o ok = ap (λ (x : Outcome). x.locks) ok.is ∙ none_restored head n past l.at g.1
+
+    acted_none : (d : Deed) → ActsOk head.osts (only t past) l.at t d → d.reply.locks ≡ []
+    acted_none d (inl a) = absurd (let zero = a.0 in omega (arith, zero, high))
+    acted_none d (inr a) = ap (λ (x : Deed). x.reply.locks) a.1.is
+
+    own : (e : Entry) → EntryOk past l.at (Target t) e → EntryOf head (only t past) l.at (Target t) e → v.granted ≡ [] → granted_after v.granted e ≡ []
+    own (Act d) ok of h = ap (λ (ls : List Lock). with_locks ls v.granted) (acted_none d of) ∙ h
+    own (Grant lock None) ok of h = absurd ok
+    own (Grant lock (Some d)) ok of h = absurd (let zero = ok.0 in omega (arith, zero, high))
+    own (Restore lock) ok of h = absurd (none_here lock of.granted)
+    own (Release lock) ok of h = ap (without_lock lock) h
+    own (Commit to batch) ok of h = ap (locks_without batch.removed) h
+    own (Close o) ok of h = none_restored_here t high o of
+    own e ok of h = h
+
+    by : (node : Node) → l.at.node ≡ node → (mine : Bool) → is_target setting.id node ≡ mine → v.granted ≡ [] → (target_at setting clients (l ∷ past)).granted ≡ []
+    by node e false mine h = ap (λ (w : TargetState). w.granted) (target_left setting clients past l.at l.entry (ap (is_target setting.id) e ∙ mine)) ∙ h
+    by (Target u) e true mine h =
+        let same : t ≡ u = eqb-true t u mine in
+        let is : l.at.node ≡ Target t = e ∙ ap Target (sym same) in
+        ap (λ (w : TargetState). w.granted) (target_line setting clients past l.at l.entry (ap (is_target setting.id) e ∙ mine))
+        ∙ own l.entry (subst (λ (n : Node). EntryOk past l.at n l.entry) is g.0.ok)
+        (subst (λ (n : Node). EntryOf head (only t past) l.at n l.entry) is (g.0.of t (ap (λ (n : Node). concerns t n l.entry) is ∙ self t))) h
+    by (Client c) e true mine h = absurd (cc)
+
 module _ (scene : Scene) (covered : IsCovered scene) (head : Head) (osts : ℕ) (past : List Line) (g : Grown head past) (suits : AllSuit (MayAsk scene) osts head.clients past) (begun : AllOfLines scene past) where
   -- what was asked has a short path
   asked_short : (o : Op) → AskedBy past o → IsShort o
@@ -300,10 +390,10 @@ module _ (scene : Scene) (covered : IsCovered scene) (head : Head) (osts : ℕ) 
   -- ---- to a target
 
   -- where no turn may ask a disk it is of a life that has a slot
-  has_slot : (v : TargetState) → (AsksNoDisk scene → v.lives ≡ lives_from 0 head.clients) → (who : Who) (f : Flight) → Flew (only 0 past) who f → is_life who v.lives ≡ false → MayAsk scene
-  has_slot v lives who f flew out quiet =
-      let first = flew_first (MayAsk scene) osts head.clients (λ may. may quiet) past suits who f (flew_whole 0 past who f flew) in
-      let one = flew_one head (only 0 past) (grown_of head 0 past g) who f flew in
+  has_slot : (t : ℕ) (v : TargetState) → (AsksNoDisk scene → v.lives ≡ lives_from 0 head.clients) → (who : Who) (f : Flight) → Flew (only t past) who f → is_life who v.lives ≡ false → MayAsk scene
+  has_slot t v lives who f flew out quiet =
+      let first = flew_first (MayAsk scene) osts head.clients (λ may. may quiet) past suits who f (flew_whole t past who f flew) in
+      let one = flew_one head (only t past) (grown_of head t past g) who f flew in
       let among : is_life who (lives_from 0 head.clients) ≡ true = subst (λ (w : Who). is_life w (lives_from 0 head.clients) ≡ true) (sym first) (first_among 0 head.clients who.client (omega arith) (omega (arith, one))) in
       let has : is_life who v.lives ≡ true = subst (λ (ws : List Who). is_life who ws ≡ true) (sym (lives quiet)) among in
       absurd (cc)
@@ -321,9 +411,9 @@ module _ (scene : Scene) (covered : IsCovered scene) (head : Head) (osts : ℕ) 
     pub fits : MessageFits m
     pub one : t ≤ osts
 
-  pub target_served : (t : ℕ) (v : TargetState) → v.setting.id ≡ t → (AsksNoDisk scene → v.lives ≡ lives_from 0 head.clients) → (AsksNoDisk scene → v.boot ≡ 1)
+  pub target_served : (t : ℕ) (v : TargetState) → v.setting.id ≡ t → (0 < t → v.granted ≡ []) → (AsksNoDisk scene → v.lives ≡ lives_from 0 head.clients) → (AsksNoDisk scene → v.boot ≡ 1)
       → (n : ℕ) (from : Node) (m : Message) → Sent past n from (Target t) m → Arrives t v m
-  target_served t v id lives boots n from m sent = by from m (was_goes head past from (Target t) m g w) w
+  target_served t v id bare lives boots n from m sent = by from m (was_goes head past from (Target t) m g w) w
     where
       w : Was past from (Target t) m
       w = sent_was past n from (Target t) m sent
@@ -340,23 +430,31 @@ module _ (scene : Scene) (covered : IsCovered scene) (head : Head) (osts : ℕ) 
       tells c m served fits suits = record { served = served suits; fits = fits; one = suits.1 }
 
       by : (from : Node) (m : Message) → Goes from (Target t) m → Was past from (Target t) m → Arrives t v m
-      by (Client c) (message.Request r) names w =
+      by (Client c) (message.Request r) goes w =
           let mine = came head past t (Client c) (message.Request r) g w in
-          let was = subst (λ (u : ℕ). Was (only u past) (Client c) (Target u) (message.Request r)) names mine in
-          let meant = (at_target 0).done.sent (Client c) (Target 0) (message.Request r) was in
+          let meant = (at_target t).done.sent (Client c) (Target t) (message.Request r) mine in
           let same : meant.0.op ≡ r.op = ap (λ (x : RequestOf). x.op) (sym meant.2) in
+          let kind : IsAskedOf t r.op = request_kind head past c t r g w in
           record {
             served = (
-              id ∙ names,
+              may kind,
               record {
                 of = spoken (Client c) (message.Request r) r.who refl mine;
-                older = present r.boot ((at_target 0).boots (Client c) (Target 0) (message.Request r) was).0;
-                without = has_slot v lives r.who meant.0 meant.1;
+                older = present r.boot ((at_target t).boots (Client c) (Target t) (message.Request r) mine).0;
+                without = has_slot t v lives r.who meant.0 meant.1;
               },
             );
-            fits = asked_short r.op (subst (AskedBy past) same (flew_asked head past r.who meant.0 g (flew_whole 0 past r.who meant.0 meant.1)));
-            one = omega (arith, names);
+            fits = short_one meant.0 r.who same meant.1 kind;
+            one = (was_suits (MayAsk scene) osts head.clients past (Client c) (Target t) (message.Request r) suits w).0;
           }
+        where
+          may : IsAskedOf t r.op → MayBeAsked v r.op
+          may (inl k) = inl (id ∙ k.0)
+          may (inr k) = inr (subst (λ (n : ℕ). 0 < n) (sym id) k.0, k.1, bare k.0)
+
+          short_one : (f : Flight) (who : Who) → f.op ≡ r.op → Flew (only t past) who f → IsAskedOf t r.op → IsShort r.op
+          short_one f who same flew (inl k) = asked_short r.op (subst (AskedBy past) same (flew_asked head past who f g (subst (λ (n : ℕ). Flew (only n past) who f) k.0 flew)))
+          short_one f who same flew (inr k) = size_short r.op k.1
       by (Client c) (message.Cancel who boot cookie) names w =
           let mine = came head past t (Client c) (message.Cancel who boot cookie) g w in
           let was = subst (λ (u : ℕ). Was (only u past) (Client c) (Target u) (message.Cancel who boot cookie)) names mine in
@@ -368,7 +466,7 @@ module _ (scene : Scene) (covered : IsCovered scene) (head : Head) (osts : ℕ) 
               record {
                 of = spoken (Client c) (message.Cancel who boot cookie) who refl mine;
                 older = present boot ((at_target 0).boots (Client c) (Target 0) (message.Cancel who boot cookie) was).0;
-                without = has_slot v lives who flew.0 (subst (λ (x : Who). Flew (only 0 past) x flew.0) back.of flew.1);
+                without = has_slot 0 v lives who flew.0 (subst (λ (x : Who). Flew (only 0 past) x flew.0) back.of flew.1);
               },
             );
             fits = tt;
@@ -391,6 +489,23 @@ module _ (scene : Scene) (covered : IsCovered scene) (head : Head) (osts : ℕ) 
 
   -- ---- to a client
 
+  -- what a target did
+  deed_calm : (t : ℕ) (d : Deed) → Acted (only t past) d → Every (LockCalm t) d.reply.locks × AnswerCalm d.reply.answer
+  deed_calm t d a = by (acted_kind head past t d g a)
+    where
+      names : (z : t ≡ 0) → Every (LockCalm t) d.reply.locks × AnswerCalm d.reply.answer
+      names z =
+          let first : Acted (only 0 past) d = subst (λ (n : ℕ). Acted (only n past) d) z a in
+          let whole : Acted past d = acted_whole t past d a in (
+            in_every (LockCalm t) d.reply.locks (λ l i. (z, (at_target t).locks.readers d l (a, i))),
+            names_answer d.op d.reply.answer (acted_on_names head past d g first) (acted_answered head past d g whole).0
+                (acted_told head past (IsFile scene.lines) g (all_files scene past begun) (all_stats scene covered past begun) d whole) (acted_layout head past g d whole),
+          )
+
+      by : ActedKind t d → Every (LockCalm t) d.reply.locks × AnswerCalm d.reply.answer
+      by (inl k) = names k.0
+      by (inr k) = (subst (Every (LockCalm t)) (sym k.1.locks) tt, subst AnswerCalm (sym k.1.answer) tt)
+
   pub client_calm : (n c : ℕ) (from : Node) (m : Message) → Sent past n from (Client c) m → MessageCalm (MayAsk scene) osts from m
   client_calm n c from m sent = by from m (was_goes head past from (Client c) m g w) w
     where
@@ -398,11 +513,12 @@ module _ (scene : Scene) (covered : IsCovered scene) (head : Head) (osts : ℕ) 
       w = sent_was past n from (Client c) m sent
 
       by : (from : Node) (m : Message) → Goes from (Client c) m → Was past from (Client c) m → MessageCalm (MayAsk scene) osts from m
-      by (Target t) (message.Reply r) names w =
+      by (Target t) (message.Reply r) goes w =
           let meant = (at_target t).done.sent (Target t) (Client c) (message.Reply r) (told past t (Client c) (message.Reply r) w) in
-          let d : Deed = meant.deed in (
-            subst (Every IsReader) (sym (ap (λ (x : ReplyTo). x.locks) meant.is)) (in_every IsReader d.reply.locks (λ l i. (at_target t).locks.readers d l (meant.acted, i))),
-            subst IsPlain (sym (ap (λ (x : ReplyTo). x.answer) meant.is)) (acted_told head past (IsFile scene.lines) g (all_files scene past begun) (all_stats scene covered past begun) d (acted_whole t past d meant.acted)),
+          let d : Deed = meant.deed in
+          let calm = deed_calm t d meant.acted in (
+            subst (Every (LockCalm t)) (sym (ap (λ (x : ReplyTo). x.locks) meant.is)) calm.0,
+            subst AnswerCalm (sym (ap (λ (x : ReplyTo). x.answer) meant.is)) calm.1,
           )
       by (Target t) (message.Block who boot cookie) goes w = tt
       by (Target t) (message.Up boot) goes w =

@@ -1,6 +1,6 @@
 -- Lines that stand only where a turn may ask a disk: those of commits, of lives that leave or come, of boots and of what follows one, and of
--- who is told so. What is told to a target of a life that joins or comes back goes to a target of the run; and the lives that come there, and
--- those that are told of a boot, are of clients of the run.
+-- who is told so. What is asked of a target, and what it is told of a life that joins or comes back, goes to a target of the run; and the lives
+-- that come there, and those that are told of a boot, are of clients of the run.
 use Rattle.std.proofs.Common.{◌≡◌, ℕ, ◌<◌, ◌≤◌, List, [], ◌∷◌, ⊎_elim, subst}
 use Rattle.lu_base.specs.declared.ids.At.{At}
 use Rattle.lu_base.specs.declared.ids.Node.{Node}
@@ -21,6 +21,7 @@ AllOf clients lives = Every (IsOf clients) lives
 
 -- MayAsk: a turn may ask a disk
 abbrev pub Suits : Type 0 → (osts clients : ℕ) → Entry → Type 0
+Suits MayAsk osts clients (Send (Target t) (message.Request r)) = t ≤ osts
 Suits MayAsk osts clients (Send (Target t) (message.Join who boot)) = MayAsk × (t ≤ osts)
 Suits MayAsk osts clients (Send (Target t) (message.Replay r)) = MayAsk × (t ≤ osts)
 Suits MayAsk osts clients (Send (Target t) (message.Lock r)) = MayAsk × (t ≤ osts)

@@ -1,8 +1,9 @@
 -- A client's row in a covered scenario: where it stood so before, all its lines are covered, and it stands so after them.
 use Rattle.std.proofs.Common.{◌≡◌, ℕ, zero, suc, ◌+◌, ◌<◌, ◌≤◌, Bool, true, false, List, [], ◌∷◌, ◌++◌, length, Option, Some, None, ◌⊎◌, inl, inr, refl, sym, subst, ap, ◌∙◌, arith, pos}
 use Rattle.std.specs.Prelude.{nat_eq, nat_lt, ◌&&◌, ◌||◌, if◌then◌else◌, is_some, filter, drop, reverse}
-use Rattle.std.specs.List.{list_any}
+use Rattle.std.specs.List.{list_any, range_with_len}
 use Rattle.std.proofs.lemmas.Bool.{cond_both}
+use Rattle.std.proofs.lemmas.Bool.Decides.{nat_tests}
 use Rattle.lu_base.specs.declared.ids.At.{At}
 use Rattle.lu_base.specs.declared.ids.Cookie.{Cookie}
 use Rattle.lu_base.specs.declared.ids.Node.{Node}
@@ -11,6 +12,7 @@ use Rattle.lu_base.specs.declared.ids.Who.{Who}
 use Rattle.lu_base.specs.declared.locks.Lock.{Lock}
 use Rattle.lu_base.specs.declared.locks.Mode.{Mode}
 use Rattle.lu_base.specs.declared.locks.Mode.TheVariants.{PR}
+use Rattle.lu_base.specs.declared.locks.Resource.{Resource}
 use Rattle.lu_msg.specs.declared.answers.Answer.{Answer}
 use Rattle.lu_msg.specs.declared.answers.Answer.TheVariants as told
 use Rattle.lu_msg.specs.declared.calls.Call.{Call}
@@ -22,43 +24,52 @@ use Rattle.lu_msg.specs.declared.operations.Op.{Op}
 use Rattle.lu_msg.specs.declared.operations.Op.TheVariants as op
 use Rattle.lu_held.specs.declared.names.LockName.{LockName}
 use Rattle.lu_held.specs.declared.locks.HeldLock.{HeldLock}
-use Rattle.lu_held.specs.Locks.{name_of, is_free, named}
-use Rattle.lu_held.specs.Held.{is_held, put_in, in_order}
+use Rattle.lu_held.specs.declared.locks.Use.{Use}
+use Rattle.lu_held.specs.declared.locks.Wanted.{Wanted}
+use Rattle.lu_held.specs.declared.locks.Wanted.TheVariants.{Serving as Serves, ServingToTheEnd}
+use Rattle.lu_held.specs.Locks.{name_of, is_free, named, matches, serves_use}
+use Rattle.lu_held.specs.Held.{is_held, put_in, in_order, serving}
 use Rattle.lu_held.specs.Names.{is_before}
 use Rattle.lu_machine.specs.Fits.{answer_fits}
 use Rattle.lu_part.specs.declared.parts.Part.{Part}
 use Rattle.lu_part.specs.declared.parts.Part.TheVariants as part
-use Rattle.lu_words.specs.Carried.{HandleFile, Queued, Flight, Asking, Unasked, Asked, Answered, Stage, Plain, Bad, Running}
-use Rattle.lu_words.specs.Words.{Entry, Send, Take, Tick, Heard, Drop, Life, Knows, same_life}
-use Rattle.lu_client_rows.specs.Advances.{tells, unpins}
-use Rattle.lu_client_rows.specs.Caches.{brought, granted_lock, patch_at}
-use Rattle.lu_client_rows.specs.Calls.{call_on, file_of}
+use Rattle.lu_words.specs.Carried.{HandleFile, Queued, Flight, Kind, Glimpses, Work, Asking, Unasked, Asked, Answered, Stage, Plain, Bad, Flushing, Sizes, Running}
+use Rattle.lu_words.specs.Words.{Entry, Send, Take, Tick, Heard, Drop, Life, Stands, Knows, same_life}
+use Rattle.lu_client_rows.specs.Advances.{tells, unpins, at_stage}
+use Rattle.lu_client_rows.specs.Caches.{brought, patch_at}
+use Rattle.lu_client_rows.specs.Calls.{Bound, call_on, file_of}
 use Rattle.lu_client_rows.specs.Facts.{Fact}
+use Rattle.lu_client_rows.specs.Glimpses.{asks_size, glimpses_on, glimpses, glimpse_hears}
 use Rattle.lu_client_rows.specs.Imports.{Standing, Joining, Recovering, Serving, Replay, Import, import_of, is_serving}
 use Rattle.lu_client_rows.specs.Known.{Notes, Known, KnownFile, Found, same_part, is_usable, lesser, of_least_cookie, fact_on, found_at_path, lookup_known, list_known, layout_known, directory_known, file_with, file_facts, file_at, names_of}
 use Rattle.lu_client_rows.specs.Locks.{marks_of, trims, must_write, gives_up, writes_under, visits_with, visits, visits_all, locks_go, dirty_total, is_called}
 use Rattle.lu_client_rows.specs.Messages.{holds, learns, heeds, hears_flight, hears_fitting, find_flight, hears, replied, waits_for, is_waiter, waiter, cancels_unknown, blocked_waiting, blocked_held, blocked, is_present, size_with, up_heard, ready_heard, evicted_heard, comes_by}
 use Rattle.lu_base.specs.declared.locks.Policy.{Policy}
-use Rattle.lu_client_rows.specs.Patches.{Patch}
+use Rattle.lu_client_rows.specs.Looks.{size_under}
+use Rattle.lu_client_rows.specs.Patches.{Patch, in_flight}
 use Rattle.lu_client_rows.specs.Recovery.{replays, lock_replays, held_of, word, recovers, forgets_stage, looks_stage, where_stage, on_calls, comes_up, ends_calls, drops_all, next_life, joins_all, ticks, ticks_at}
 use Rattle.lu_client_rows.specs.Rows.{Event, Begins, Comes, Ticks, Dies, rests, row_call, row}
 use Rattle.lu_client_rows.specs.Sending.{resends, flies, sends, sends_to, sends_all, has_room, next_flight}
-use Rattle.lu_client_rows.specs.Slots.{opens, refuses, begins_open, begins_close, begins, goes, goes_at, goes_on, passes, all_slots, slots_go, is_free_close}
-use Rattle.lu_client_rows.specs.Starts.{notes_of, pins, count_on, asks_names, tells_known, starts_known, stats_file, starts_stat, starts_close, starts, answers, goes_plain}
+use Rattle.lu_client_rows.specs.Slots.{opens, refuses, begins_open, begins_close, begins_on, begins, goes, goes_at, goes_on, passes, all_slots, slots_go, is_free_close}
+use Rattle.lu_client_rows.specs.Starts.{notes_of, pins, count_on, asks_names, tells_known, starts_known, stats_file, starts_stat, starts_close, starts_flush, starts_glimpse, starts, answers, goes_plain, work_on, sizes_heard}
 use Rattle.lu_client_rows.specs.States.{Client, Limits, Store, follow}
-use Rattle.lu_covered.specs.Calls.{becomes, operation_of}
-use Rattle.lu_lawful.proofs.OnNames.{IsOnNames, IsPlain}
+use Rattle.lu_client_rows.specs.Stripes.{stripes, object}
+use Rattle.lu_client_rows.specs.Wants.{wants_rest, wants_of}
+use Rattle.lu_client_rows.specs.WriteBack.{is_clean, flushes, flush_from}
+use Rattle.lu_covered.specs.Calls.{operation_of}
+use Rattle.lu_covered.specs.Covered.{IsOnSizes, OnObjects}
+use Rattle.lu_lawful.proofs.ClientLines.{IsNames, IsAskedOf, asked_simple, brings_its, heeds_nothing}
 use Rattle.lu_covered_scenes.specs.Covered as scenes
-use Rattle.lu_covered_scenes.proofs.Every.{Every, every_more, every_filter}
+use Rattle.lu_covered_scenes.proofs.Every.{Every, every_more, every_filter, every_all}
 use Rattle.lu_covered_scenes.proofs.Asking.{IsNode}
-use Rattle.lu_covered_scenes.proofs.Clients.{AskingCalm, RunningCalm, CallCalm, StandsCalm, ImportCalm, FactCalm, IsReader, HeldCalm, Calm, LineCalm, AllCalm, follow_calm, on_calm}
+use Rattle.lu_covered_scenes.proofs.Clients.{OnOsts, FileCalm, BoundCalm, AnswerCalm, AskingCalm, StageCalm, RunningCalm, CallCalm, StandsCalm, ImportsCalm, FactCalm, LockCalm, HeldCalm, Calm, LineCalm, AllCalm, follow_calm, on_calm}
 
 -- what may come to such a client
-abbrev pub ReplyCalm : ReplyTo → Type 0
-ReplyCalm r = Every IsReader r.locks × IsPlain r.answer
+abbrev pub ReplyCalm : ℕ → ReplyTo → Type 0
+ReplyCalm t r = Every (LockCalm t) r.locks × AnswerCalm r.answer
 
 abbrev pub MessageCalm : Type 0 → (osts : ℕ) → Node → Message → Type 0
-MessageCalm MayAsk osts from (message.Reply r) = ReplyCalm r
+MessageCalm MayAsk osts (Target t) (message.Reply r) = ReplyCalm t r
 MessageCalm MayAsk osts from (message.Block who boot cookie) = Unit {0}
 MessageCalm MayAsk osts from (message.Up boot) = MayAsk × IsNode osts from
 MessageCalm MayAsk osts from (message.Ready who boot committed) = MayAsk
@@ -66,7 +77,7 @@ MessageCalm MayAsk osts from (message.Evicted who boot) = MayAsk
 MessageCalm MayAsk osts from _ = ⊥
 
 abbrev pub EventCalm : (Call → Type 0) → Type 0 → (osts : ℕ) → Event → Type 0
-EventCalm P MayAsk osts (Begins slot c) = scenes.IsOnNames c × P c
+EventCalm P MayAsk osts (Begins slot c) = scenes.IsWithoutBytes c × P c
 EventCalm P MayAsk osts (Comes n from m) = MessageCalm MayAsk osts from m
 EventCalm P MayAsk osts Ticks = Unit {0}
 EventCalm P MayAsk osts Dies = Unit {0}
@@ -88,7 +99,7 @@ fact_so p n f c e =
     least_so (filter (λ (g : Fact). same_part p g.part && is_usable g.cookie n.held) n.facts) f
     (every_filter FactCalm (λ (g : Fact). same_part p g.part && is_usable g.cookie n.held) n.facts c) e
 
-no_file_with : (found : Found) (a l : Cookie) (x y : Answer) → IsPlain x → file_with found a l x y ≡ None
+no_file_with : (found : Found) (a l : Cookie) (x y : Answer) → AnswerCalm x → file_with found a l x y ≡ None
 no_file_with found a l (told.FileStat fid mode links layout) y none = absurd none
 no_file_with found a l x y none = refl
 
@@ -100,6 +111,49 @@ no_file_facts found (Some a) (Some l) c = no_file_with found a.cookie l.cookie a
 no_file_at : (n : Notes) (found : Found) (o : Option Answer) → Every FactCalm n.facts → file_at n found o ≡ None
 no_file_at n found (Some (told.File f)) c = no_file_facts found (fact_on (part.Attr f) n) (fact_on (part.Layout f) n) (λ g is. fact_so (part.Attr f) n g c is)
 no_file_at n found _ c = refl
+
+-- ---- files and their objects
+
+file_calm : (h : ℕ) (handles : List Bound) → Every BoundCalm handles → FileCalm (file_of h handles)
+file_calm h [] c = tt
+file_calm h (b ∷ handles) c = cond_both (nat_eq b.handle h) (Some b.file) (file_of h handles) FileCalm (λ t. c.0) (λ t. file_calm h handles c.1)
+
+rest_objects : (f : HandleFile) (from more : ℕ) → OnOsts f.layout → from + more ≡ length f.layout.targets → OnObjects (wants_rest f.layout f.fid 0 (range_with_len from more))
+rest_objects f from zero on all = tt
+rest_objects f from (suc more) on all = (on from (omega (arith, all)), rest_objects f (from + 1) more on (omega (arith, all)))
+
+-- those of all its stripes are on object storage targets
+wants_objects : (f : HandleFile) → OnOsts f.layout → OnObjects (wants_of f.layout f.fid (Glimpses []))
+wants_objects f on = rest_objects f 0 (length f.layout.targets) on (omega arith)
+
+-- ---- held locks are none on objects
+
+put_calm : (h : HeldLock) (held : List HeldLock) → HeldCalm h → Every HeldCalm held → Every HeldCalm (put_in h held)
+put_calm h [] is c = (is, tt)
+put_calm h (g ∷ held) is c =
+    cond_both (is_before (name_of g) (name_of h)) (g ∷ put_in h held) (h ∷ g ∷ held) (Every HeldCalm) (λ t. (c.0, put_calm h held is c.1)) (λ t. (is, c))
+
+order_calm : (held : List HeldLock) → Every HeldCalm held → Every HeldCalm (in_order held)
+order_calm [] c = tt
+order_calm (h ∷ held) c = put_calm h (in_order held) c.0 (order_calm held c.1)
+
+none_among : (x : Wanted) (held : List HeldLock) → ((h : HeldLock) → HeldCalm h → matches x h ≡ false) → Every HeldCalm held → filter (matches x) held ≡ []
+none_among x [] out c = refl
+none_among x (h ∷ held) out c = ap (λ (b : Bool). if b then h ∷ filter (matches x) held else filter (matches x) held) (out h c.0) ∙ none_among x held out c.1
+
+-- so none does for one
+no_use : (wanted : Use) (h : HeldLock) → 0 < wanted.target.0 → HeldCalm h → serves_use wanted h ≡ false
+no_use wanted h on is =
+    let names = is.0 in
+    let other : nat_eq h.target.0 wanted.target.0 ≡ false = grind (arith, nat_tests) in
+    rw other refl
+
+no_serving : (wanted : Use) (held : List HeldLock) → 0 < wanted.target.0 → Every HeldCalm held → serving wanted held ≡ None
+no_serving wanted held on c =
+    let ordered = order_calm held c in
+    let first : filter (matches (ServingToTheEnd wanted)) (in_order held) ≡ [] = none_among (ServingToTheEnd wanted) (in_order held) (λ h is. rw (no_use wanted h on is) refl) ordered in
+    let other : filter (matches (Serves wanted)) (in_order held) ≡ [] = none_among (Serves wanted) (in_order held) (λ h is. no_use wanted h on is) ordered in
+    rw (first, other) refl
 
 -- ---- the parts of a row
 
@@ -118,19 +172,23 @@ module _ (P : Call → Type 0) (MayAsk : Type 0) (osts : ℕ) where
   known_calm : (at : At) (slot : ℕ) (r : Running) (known : Known) → All (tells_known at slot r known)
   known_calm at slot r known = every_more (LineCalm P MayAsk osts) (pins (names_of known.cookies)) _ (pins_calm (names_of known.cookies)) (tt, unpins_calm _)
 
-  starts_known_calm : (at : At) (slot : ℕ) (r : Running) (o : Op) (known : Option Known) → IsOnNames o → All (starts_known at slot r o known)
-  starts_known_calm at slot r o None is = (is, tt)
+  names_calm : (slot : ℕ) (o : Op) → IsNames o → All (asks_names slot o)
+  names_calm slot o is = (inl (refl, is), tt)
+
+  starts_known_calm : (at : At) (slot : ℕ) (r : Running) (o : Op) (known : Option Known) → IsNames o → All (starts_known at slot r o known)
+  starts_known_calm at slot r o None is = names_calm slot o is
   starts_known_calm at slot r o (Some known) is = known_calm at slot r known
 
   stat_calm : (at : At) (slot : ℕ) (path : List (List ℕ)) (r : Running) (s : Store) (n : Notes) (found : Found) (o : Option Known) → Every FactCalm n.facts → All (starts_stat at slot path r s n found o)
   stat_calm at slot path r s n found (Some known) c = known_calm at slot r known
   stat_calm at slot path r s n found None c =
-      subst (λ (o : Option KnownFile). All (stats_file at slot path r s o)) (sym (no_file_at n found found.inode c)) (tt, tt)
+      let asked : All (asks_names slot (op.Stat path)) = names_calm slot (op.Stat path) tt in
+      subst (λ (o : Option KnownFile). All (stats_file at slot path r s o)) (sym (no_file_at n found found.inode c)) asked
 
   -- a close waits, or asks
   close_calm : (slot : ℕ) (calls : List (Option Running)) (file : Option HandleFile) → All (starts_close slot calls file)
   close_calm slot calls None = tt
-  close_calm slot calls (Some f) = cond_both (nat_lt 1 (count_on f.number.0 calls)) [] (asks_names slot (op.Close f.number f.fid)) All (λ t. tt) (λ t. (tt, tt))
+  close_calm slot calls (Some f) = cond_both (nat_lt 1 (count_on f.number.0 calls)) [] (asks_names slot (op.Close f.number f.fid)) All (λ t. tt) (λ t. names_calm slot (op.Close f.number f.fid) tt)
 
   starts_calm : (at : At) (slot : ℕ) (c : Call) (r : Running) (k : Client) (o : Op) → operation_of r.file c ≡ Some o → Calm MayAsk osts k → All (starts at slot c r k)
   starts_calm at slot (call.Lookup path) r k o e h = starts_known_calm at slot r (op.Lookup path) (lookup_known (found_at_path (notes_of k) path)) tt
@@ -138,15 +196,15 @@ module _ (P : Call → Type 0) (MayAsk : Type 0) (osts : ℕ) where
       stat_calm at slot path r k.store (notes_of k) (found_at_path (notes_of k) path) (directory_known (notes_of k) (found_at_path (notes_of k) path)) h.facts
   starts_calm at slot (call.List path) r k o e h = starts_known_calm at slot r (op.List path) (list_known (notes_of k) (found_at_path (notes_of k) path)) tt
   starts_calm at slot (call.Layout path) r k o e h = starts_known_calm at slot r (op.Layout path) (layout_known (notes_of k) (found_at_path (notes_of k) path)) tt
-  starts_calm at slot (call.Mkdir path) r k o e h = (tt, tt)
-  starts_calm at slot (call.Create path None) r k o e h = (tt, tt)
-  starts_calm at slot (call.Create path (Some numbers)) r k o e h = (tt, tt)
-  starts_calm at slot (call.Link path new) r k o e h = (tt, tt)
-  starts_calm at slot (call.Unlink path) r k o e h = (tt, tt)
-  starts_calm at slot (call.Rmdir path) r k o e h = (tt, tt)
-  starts_calm at slot (call.Rename path new) r k o e h = (tt, tt)
-  starts_calm at slot (call.Chmod path mode) r k o e h = (tt, tt)
-  starts_calm at slot (call.Open handle path) r k o e h = (tt, tt)
+  starts_calm at slot (call.Mkdir path) r k o e h = names_calm slot (op.Mkdir path) tt
+  starts_calm at slot (call.Create path None) r k o e h = names_calm slot (op.Create path 1048576 (pos 1)) tt
+  starts_calm at slot (call.Create path (Some numbers)) r k o e h = names_calm slot (op.Create path numbers.0 numbers.1) tt
+  starts_calm at slot (call.Link path new) r k o e h = names_calm slot (op.Link path new) tt
+  starts_calm at slot (call.Unlink path) r k o e h = names_calm slot (op.Unlink path) tt
+  starts_calm at slot (call.Rmdir path) r k o e h = names_calm slot (op.Rmdir path) tt
+  starts_calm at slot (call.Rename path new) r k o e h = names_calm slot (op.Rename path new) tt
+  starts_calm at slot (call.Chmod path mode) r k o e h = names_calm slot (op.Chmod path mode) tt
+  starts_calm at slot (call.Open handle path) r k o e h = names_calm slot (op.Open path) tt
   starts_calm at slot (call.Close handle) r k o e h = close_calm slot k.calls r.file
   starts_calm at slot c r k o e h = absurd (cc)
 
@@ -154,27 +212,71 @@ module _ (P : Call → Type 0) (MayAsk : Type 0) (osts : ℕ) where
   tells_calm : (slot : ℕ) (r : Running) (at : At) (a : Answer) → All (tells slot r at a None)
   tells_calm slot r at a = (tt, unpins_calm r.pins)
 
-  answers_calm : (at : At) (slot : ℕ) (acted : At) (a : Answer) (c : Call) (r : Running) (k : Client) → IsPlain a → All (answers at slot acted a c r k)
-  answers_calm at slot acted (told.OpenFile fid number layout) (call.Open h path) r k none = (tt, tells_calm slot r acted (told.Made fid))
-  answers_calm at slot acted (told.FileStat fid mode links layout) c r k none = absurd none
-  answers_calm at slot acted a c r k none = tells_calm slot r acted a
+  -- a `flush` has nothing to write back
+  flush_calm : (at : At) (slot : ℕ) (r : Running) (f : HandleFile) (is : List ℕ) (s : Store) → s.patches ≡ [] → All (flush_from at slot r f is s)
+  flush_calm at slot r f [] s clean = tells_calm slot r at told.Done
+  flush_calm at slot r f (i ∷ is) s clean = subst (λ (ps : List (Resource × Patch)). All (by ps)) (sym clean) (flush_calm at slot r f is s clean)
+    where
+      by : List (Resource × Patch) → List Entry
+      by ps =
+          if in_flight (patch_at (object f.fid i) ps) then Stands slot (at_stage r (Flushing i)) ∷ []
+          else if is_clean (patch_at (object f.fid i) ps) then flush_from at slot r f is s
+          else flushes (object f.fid i) (patch_at (object f.fid i) ps) (in_order s.held) ++ Stands slot (at_stage r (Flushing i)) ∷ []
 
-  plain_calm : (at : At) (slot : ℕ) (a : Asking) (r : Running) (k : Client) (o : Op) → becomes r ≡ Some o → AskingCalm a → Calm MayAsk osts k → All (goes_plain at slot a r k)
-  plain_calm at slot Unasked r k o is c h = starts_calm at slot r.call r k o is h
-  plain_calm at slot Asked r k o is c h = tt
-  plain_calm at slot (Answered t reply) r k o is c h = answers_calm at slot reply.at reply.answer r.call r k c
+  -- a `glimpse` asks for the next object, or is told
+  glimpses_calm : (at : At) (slot : ℕ) (left : List Use) (sizes : List ℕ) (r : Running) (w : Work) (s : Store) → RunningCalm r → IsOnSizes r.call → OnObjects left → Every HeldCalm s.held → All (glimpses at slot left sizes r w s)
+  glimpses_calm at slot [] sizes r w s c is on held = tells_calm slot r at (told.Sizes sizes)
+  glimpses_calm at slot (wanted ∷ left) sizes r w s c is on held =
+      subst (λ (o : Option HeldLock). All (glimpses_on (λ h. glimpses at slot left (sizes ++ size_under h.lock s ∷ []) r w s) (asks_size slot wanted left sizes r w) o)) (sym (no_serving wanted s.held on.0 held))
+      ((record { stage = ((tt, on), is); asking = c.asking; file = c.file }, (tt, on)), (inr (on.0, tt), tt))
+
+  size_calm : (at : At) (slot : ℕ) (left : List Use) (sizes : List ℕ) (a : Answer) (r : Running) (w : Work) (s : Store) → AnswerCalm a → RunningCalm r → IsOnSizes r.call → OnObjects left → Every HeldCalm s.held → All (glimpse_hears at slot left sizes a r w s)
+  size_calm at slot (wanted ∷ left) sizes (told.Size size) r w s fine c is on held = glimpses_calm at slot left (sizes ++ size ∷ []) r w s c is on.1 held
+  size_calm at slot left sizes told.Lock r w s fine c is on held = absurd fine
+  size_calm at slot left sizes a r w s fine c is on held = tt
+
+  sizes_calm : (at : At) (slot : ℕ) (asking : Asking) (kind : Kind) (r : Running) (w : Work) (s : Store) → AskingCalm asking → RunningCalm r → IsOnSizes r.call → OnObjects w.left → Every HeldCalm s.held → All (sizes_heard at slot asking kind r w s)
+  sizes_calm at slot (Answered t reply) (Glimpses sizes) r w s fine c is on held = size_calm at slot w.left sizes reply.answer r w s fine c is on held
+  sizes_calm at slot asking kind r w s fine c is on held = tt
+
+  -- both begin so
+  begun_calm : (at : At) (slot : ℕ) (c : Call) (r : Running) (k : Client) → IsOnSizes c → IsOnSizes r.call → RunningCalm r → Calm MayAsk osts k → All (starts at slot c r k)
+  begun_calm at slot (call.Flush handle) r k one is c h = by r.file
+    where
+      by : (file : Option HandleFile) → All (starts_flush at slot r k.store file)
+      by None = tt
+      by (Some f) = flush_calm at slot r f (stripes f.layout) k.store h.patches
+  begun_calm at slot (call.Glimpse handle) r k one is c h = by r.file c.file
+    where
+      by : (file : Option HandleFile) → FileCalm file → All (starts_glimpse at slot r k.store file)
+      by None on = tt
+      by (Some f) on = glimpses_calm at slot (wants_of f.layout f.fid (Glimpses [])) [] r (work_on f.fid f.layout (Glimpses [])) k.store c is (wants_objects f on) h.held
+  begun_calm at slot c r k one is calm h = absurd one
+
+  answers_calm : (at : At) (slot : ℕ) (acted : At) (a : Answer) (c : Call) (r : Running) (k : Client) → AnswerCalm a → All (answers at slot acted a c r k)
+  answers_calm at slot acted (told.OpenFile fid number layout) (call.Open h path) r k fine = (fine, tells_calm slot r acted (told.Made fid))
+  answers_calm at slot acted (told.FileStat fid mode links layout) c r k fine = absurd fine
+  answers_calm at slot acted a c r k fine = tells_calm slot r acted a
+
+  plain_calm : (at : At) (slot : ℕ) (a : Asking) (r : Running) (k : Client) → ((o : Op) × (operation_of r.file r.call ≡ Some o)) ⊎ IsOnSizes r.call → RunningCalm r → AskingCalm a → Calm MayAsk osts k → All (goes_plain at slot a r k)
+  plain_calm at slot Unasked r k (inl o) c fine h = starts_calm at slot r.call r k o.0 o.1 h
+  plain_calm at slot Unasked r k (inr is) c fine h = begun_calm at slot r.call r k is is c h
+  plain_calm at slot Asked r k is c fine h = tt
+  plain_calm at slot (Answered t reply) r k is c fine h = answers_calm at slot reply.at reply.answer r.call r k fine
 
   -- a call on a bad handle was told
-  stage_calm : (at : At) (slot : ℕ) (r : Running) (k : Client) → Calm MayAsk osts k → AskingCalm r.asking → ((r.stage ≡ Plain) × (o : Op) × (becomes r ≡ Some o)) ⊎ (r.stage ≡ Bad) → All (goes_at at slot r.stage r k)
-  stage_calm at slot r k h asking (inl g) = subst (λ (stage : Stage). All (goes_at at slot stage r k)) (sym g.0) (plain_calm at slot r.asking r k g.1 g.2 asking h)
-  stage_calm at slot r k h asking (inr b) = subst (λ (stage : Stage). All (goes_at at slot stage r k)) (sym b) tt
+  stage_calm : (at : At) (slot : ℕ) (stage : Stage) (r : Running) (k : Client) → StageCalm r.file r.call stage → RunningCalm r → Calm MayAsk osts k → All (goes_at at slot stage r k)
+  stage_calm at slot Plain r k is c h = plain_calm at slot r.asking r k is c c.asking h
+  stage_calm at slot Bad r k is c h = tt
+  stage_calm at slot (Sizes w) r k is c h = sizes_calm at slot r.asking w.kind r w k.store c.asking c is.1 is.0.1 h.held
+  stage_calm at slot stage r k is c h = absurd is
 
   goes_calm : (at : At) (slot : ℕ) (k : Client) → Calm MayAsk osts k → All (goes at slot k)
   goes_calm at slot k h = by (call_on slot k.calls) (on_calm slot k.calls h.calls)
     where
       by : (o : Option Running) → CallCalm o → All (goes_on at slot k o)
       by None c = tt
-      by (Some r) c = stage_calm at slot r k h c.asking c.good
+      by (Some r) c = stage_calm at slot r.stage r k c.stage c h
 
   passes_calm : (at : At) (slots : List ℕ) (k : Client) → Calm MayAsk osts k → All (passes at slots k)
   passes_calm at [] k h = tt
@@ -195,15 +297,6 @@ module _ (P : Call → Type 0) (MayAsk : Type 0) (osts : ℕ) where
   trims_calm : (limits : Limits) (k : Client) → All (trims limits k)
   trims_calm limits k = marks_calm (reverse (drop limits.unused (filter is_free k.store.held)))
 
-  put_calm : (h : HeldLock) (held : List HeldLock) → HeldCalm h → Every HeldCalm held → Every HeldCalm (put_in h held)
-  put_calm h [] is c = (is, tt)
-  put_calm h (g ∷ held) is c =
-      cond_both (is_before (name_of g) (name_of h)) (g ∷ put_in h held) (h ∷ g ∷ held) (Every HeldCalm) (λ t. (c.0, put_calm h held is c.1)) (λ t. (is, c))
-
-  order_calm : (held : List HeldLock) → Every HeldCalm held → Every HeldCalm (in_order held)
-  order_calm [] c = tt
-  order_calm (h ∷ held) c = put_calm h (in_order held) c.0 (order_calm held c.1)
-
   -- nothing is written under a lock for reading
   writes_none : (over : Bool) (h : HeldLock) (mode : Mode) (policy : Policy) (p : Patch) → mode ≡ PR → must_write over h mode policy p ≡ false
   writes_none over h mode policy p e = subst (λ (m : Mode). must_write over h m policy p ≡ false) (sym e) refl
@@ -214,7 +307,7 @@ module _ (P : Call → Type 0) (MayAsk : Type 0) (osts : ℕ) where
 
   visit_calm : (over : Bool) (h : HeldLock) (p : Patch) (k : Client) → HeldCalm h → All (visits_with over h p k)
   visit_calm over h p k is =
-      subst (λ (b : Bool). All (if b then writes_under h p else gives_up k.who h (import_of h.target.0 k.imports))) (sym (writes_none over h h.lock.ask.mode h.lock.ask.policy p is))
+      subst (λ (b : Bool). All (if b then writes_under h p else gives_up k.who h (import_of h.target.0 k.imports))) (sym (writes_none over h h.lock.ask.mode h.lock.ask.policy p is.1))
       (gives_calm k.who h (import_of h.target.0 k.imports))
 
   visits_calm : (over : Bool) (held : List HeldLock) (k : Client) → Every HeldCalm held → Calm MayAsk osts k → All (visits_all over held k)
@@ -227,95 +320,90 @@ module _ (P : Call → Type 0) (MayAsk : Type 0) (osts : ℕ) where
 
   -- ---- sending
 
-  sends_calm : (limits : Limits) (who : Who) (boot t last : ℕ) (flights : List Flight) (queue : List Queued) → Every (λ (q : Queued). IsOnNames q.op) queue → All (sends limits who boot t last flights queue)
-  sends_calm limits who boot t last flights [] c = tt
-  sends_calm limits who boot t last flights (q ∷ queue) c =
+  sends_calm : (limits : Limits) (who : Who) (boot t last : ℕ) (flights : List Flight) (queue : List Queued) → t ≤ osts → Every (λ (q : Queued). IsAskedOf t q.op) queue → All (sends limits who boot t last flights queue)
+  sends_calm limits who boot t last flights [] one c = tt
+  sends_calm limits who boot t last flights (q ∷ queue) one c =
       let f = next_flight last flights q in
       let more = sends limits who boot t (last + 1) (flights ++ f ∷ []) queue in
-      cond_both (has_room limits t q.op flights) (flies who boot t f more) [] All (λ r. (c.0, (tt, sends_calm limits who boot t (last + 1) (flights ++ f ∷ []) queue c.1))) (λ r. tt)
+      cond_both (has_room limits t q.op flights) (flies who boot t f more) [] All (λ r. (c.0, (one, sends_calm limits who boot t (last + 1) (flights ++ f ∷ []) queue one c.1))) (λ r. tt)
 
-  all_sent_calm : (limits : Limits) (who : Who) (t : ℕ) (imports : List Import) → Every (ImportCalm MayAsk) imports → All (sends_all limits who t imports)
-  all_sent_calm limits who t [] c = tt
-  all_sent_calm limits who t (i ∷ imports) c =
+  next_one : (t : ℕ) (imports : List Import) → ImportsCalm MayAsk (suc t) imports → ImportsCalm MayAsk (t + 1) imports
+  next_one t imports c = let same : suc t ≡ t + 1 = omega arith in subst (λ (n : ℕ). ImportsCalm MayAsk n imports) same c
+
+  all_sent_calm : (limits : Limits) (who : Who) (t : ℕ) (imports : List Import) → t + length imports ≤ osts + 1 → ImportsCalm MayAsk t imports → All (sends_all limits who t imports)
+  all_sent_calm limits who t [] few c = tt
+  all_sent_calm limits who t (i ∷ imports) few c =
       every_more (LineCalm P MayAsk osts) (sends_to limits who t i) (sends_all limits who (t + 1) imports)
-      (cond_both (is_serving i.standing) (sends limits who i.boot t i.last i.flights i.queue) [] All (λ s. sends_calm limits who i.boot t i.last i.flights i.queue c.0.queue) (λ s. tt))
-      (all_sent_calm limits who (t + 1) imports c.1)
+      (cond_both (is_serving i.standing) (sends limits who i.boot t i.last i.flights i.queue) [] All (λ s. sends_calm limits who i.boot t i.last i.flights i.queue (omega (arith, few)) c.0.queue) (λ s. tt))
+      (all_sent_calm limits who (t + 1) imports (omega (arith, few)) (next_one t imports c.1))
 
   pub rests_calm : (limits : Limits) (at : At) (k : Client) → Calm MayAsk osts k → All (rests limits at k)
   rests_calm limits at k h =
       follow_calm P MayAsk osts (slots_go 5 at k) (λ j. follow (trims limits j) (λ j. follow (locks_go limits j) (λ j. sends_all limits j.who 0 j.imports) j) j) k h (slots_calm 5 at k h)
       (λ j c. follow_calm P MayAsk osts (trims limits j) (λ j. follow (locks_go limits j) (λ j. sends_all limits j.who 0 j.imports) j) j c (trims_calm limits j)
       (λ i b. follow_calm P MayAsk osts (locks_go limits i) (λ j. sends_all limits j.who 0 j.imports) i b (locks_calm limits i b)
-      (λ g a. all_sent_calm limits g.who 0 g.imports a.imports)))
+      (λ g a. let few = a.targets in all_sent_calm limits g.who 0 g.imports (omega (arith, few)) a.imports)))
 
   -- ---- a message comes
 
-  no_grant : (o : Op) (r : ReplyTo) (a : Answer) → IsOnNames o → granted_lock o r a ≡ []
-  no_grant (op.Enqueue resource mode asked) r a is = absurd is
-  no_grant _ r a is = refl
+  brings_calm : (t : ℕ) (o : Op) (r : ReplyTo) → IsAskedOf t o → Every (LockCalm t) r.locks → Every (LockCalm t) (brought o r)
+  brings_calm t o r is c = subst (Every (LockCalm t)) (sym (brings_its o r (asked_simple t o is))) c
 
-  brings_calm : (o : Op) (r : ReplyTo) → IsOnNames o → Every IsReader r.locks → Every IsReader (brought o r)
-  brings_calm o r is c = every_more IsReader r.locks (granted_lock o r r.answer) c (subst (Every IsReader) (sym (no_grant o r r.answer is)) tt)
-
-  holds_calm : (t : ℕ) (size : Option ℕ) (seen : List ℕ) (locks : List Lock) → Every IsReader locks → All (holds t size seen locks)
+  holds_calm : (t : ℕ) (size : Option ℕ) (seen : List ℕ) (locks : List Lock) → Every (LockCalm t) locks → All (holds t size seen locks)
   holds_calm t size seen [] c = tt
   holds_calm t size seen (l ∷ locks) c = (c.0, holds_calm t size seen locks c.1)
 
-  learns_calm : (t : ℕ) (o : Op) (a : Answer) (locks : List Lock) → IsPlain a → All (learns t o a locks)
-  learns_calm t o a [] none = tt
-  learns_calm t o a (l ∷ locks) none = (none, tt)
+  learns_calm : (t : ℕ) (o : Op) (a : Answer) (locks : List Lock) → AnswerCalm a → All (learns t o a locks)
+  learns_calm t o a [] fine = tt
+  learns_calm t o a (l ∷ locks) fine = (fine, tt)
 
-  no_heeds : (t : ℕ) (f : Flight) (o : Op) (r : ReplyTo) (a : Answer) (k : Client) → IsOnNames o → heeds t f o r a k ≡ []
-  no_heeds t f (op.Enqueue resource mode extent) r a k is = absurd is
-  no_heeds t f (op.Get resource cookie page) r a k is = absurd is
-  no_heeds t f (op.Put resource cookie offset bytes) r a k is = absurd is
-  no_heeds t f (op.Cut resource cookie size) r a k is = absurd is
-  no_heeds t f _ r a k is = refl
-
-  flight_calm : (t : ℕ) (r : ReplyTo) (f : Flight) (k : Client) → IsOnNames f.op → ReplyCalm r → Calm MayAsk osts k → All (hears_flight t r f k)
+  flight_calm : (t : ℕ) (r : ReplyTo) (f : Flight) (k : Client) → IsAskedOf t f.op → ReplyCalm t r → Calm MayAsk osts k → All (hears_flight t r f k)
   flight_calm t r f k is m h =
-      let brings = brings_calm f.op r is m.0 in
+      let brings = brings_calm t f.op r is m.0 in
       follow_calm P MayAsk osts (Heard t f r ∷ holds t (size_with r.answer) r.seen (brought f.op r) ++ learns t f.op r.answer r.locks) (heeds t f f.op r r.answer) k h
       ((brings, m.1), every_more (LineCalm P MayAsk osts) (holds t (size_with r.answer) r.seen (brought f.op r)) (learns t f.op r.answer r.locks) (holds_calm t (size_with r.answer) r.seen (brought f.op r) brings) (learns_calm t f.op r.answer r.locks m.1))
-      (λ j c. subst All (sym (no_heeds t f f.op r r.answer j is)) tt)
+      (λ j c. subst All (sym (heeds_nothing t f f.op r r.answer j (asked_simple t f.op is))) tt)
 
-  abbrev FlightCalm : Option Flight → Type 0
-  FlightCalm None = Unit {0}
-  FlightCalm (Some f) = IsOnNames f.op
+  abbrev FlightCalm : ℕ → Option Flight → Type 0
+  FlightCalm t None = Unit {0}
+  FlightCalm t (Some f) = IsAskedOf t f.op
 
-  found_calm : (xid : ℕ) (flights : List Flight) → Every (λ (f : Flight). IsOnNames f.op) flights → FlightCalm (find_flight xid flights)
-  found_calm xid [] c = tt
-  found_calm xid (f ∷ flights) c = cond_both (nat_eq f.xid xid) (Some f) (find_flight xid flights) FlightCalm (λ t. c.0) (λ t. found_calm xid flights c.1)
+  found_calm : (t xid : ℕ) (flights : List Flight) → Every (λ (f : Flight). IsAskedOf t f.op) flights → FlightCalm t (find_flight xid flights)
+  found_calm t xid [] c = tt
+  found_calm t xid (f ∷ flights) c = cond_both (nat_eq f.xid xid) (Some f) (find_flight xid flights) (FlightCalm t) (λ e. c.0) (λ e. found_calm t xid flights c.1)
 
-  flights_calm : (t : ℕ) (imports : List Import) → Every (ImportCalm MayAsk) imports → Every (λ (f : Flight). IsOnNames f.op) (import_of t imports).flights
-  flights_calm t [] c = tt
-  flights_calm zero (i ∷ imports) c = c.0.flights
-  flights_calm (suc t) (i ∷ imports) c = flights_calm t imports c.1
+  -- those of the targets from n on
+  flights_calm : (n t u : ℕ) (imports : List Import) → n + t ≡ u → ImportsCalm MayAsk n imports → Every (λ (f : Flight). IsAskedOf u f.op) (import_of t imports).flights
+  flights_calm n t u [] e c = tt
+  flights_calm n zero u (i ∷ imports) e c = let same : n ≡ u = omega (arith, e) in subst (λ (v : ℕ). Every (λ (f : Flight). IsAskedOf v f.op) i.flights) same c.0.flights
+  flights_calm n (suc t) u (i ∷ imports) e c = flights_calm (suc n) t u imports (omega (arith, e)) c.1
 
-  reply_calm : (t : ℕ) (r : ReplyTo) (k : Client) (present : Bool) → ReplyCalm r → Calm MayAsk osts k → All (replied t r k present)
+  reply_calm : (t : ℕ) (r : ReplyTo) (k : Client) (present : Bool) → ReplyCalm t r → Calm MayAsk osts k → All (replied t r k present)
   reply_calm t r k false m h = tt
-  reply_calm t r k true m h = by (find_flight r.xid.0 (import_of t k.imports).flights) (found_calm r.xid.0 (import_of t k.imports).flights (flights_calm t k.imports h.imports))
+  reply_calm t r k true m h = by (find_flight r.xid.0 (import_of t k.imports).flights) (found_calm t r.xid.0 (import_of t k.imports).flights (flights_calm 0 t t k.imports (omega arith) h.imports))
     where
-      fit : (f : Flight) → IsOnNames f.op → (b : Bool) → All (hears_fitting t r f k b)
+      fit : (f : Flight) → IsAskedOf t f.op → (b : Bool) → All (hears_fitting t r f k b)
       fit f c true = flight_calm t r f k c m h
       fit f c false = tt
 
-      by : (o : Option Flight) → FlightCalm o → All (hears t r k o)
+      by : (o : Option Flight) → FlightCalm t o → All (hears t r k o)
       by None c = tt
       by (Some f) c = fit f c (answer_fits f.op r.answer)
 
-  -- what holds of the stage of a call that asks nothing of objects
-  of_stage : (Q : Stage → Type 0) (r : Running) → RunningCalm r → Q Plain → Q Bad → Q r.stage
-  of_stage Q r c plain bad = by c.good
+  -- what holds of the stage of a call that asks for no lock
+  of_stage : (Q : Stage → Type 0) (r : Running) → RunningCalm r → Q Plain → Q Bad → ((w : Work) → Q (Sizes w)) → Q r.stage
+  of_stage Q r c plain bad sizes = by r.stage c.stage
     where
-      by : ((r.stage ≡ Plain) × (o : Op) × (becomes r ≡ Some o)) ⊎ (r.stage ≡ Bad) → Q r.stage
-      by (inl g) = subst Q (sym g.0) plain
-      by (inr b) = subst Q (sym b) bad
+      by : (stage : Stage) → StageCalm r.file r.call stage → Q stage
+      by Plain is = plain
+      by Bad is = bad
+      by (Sizes w) is = sizes w
+      by stage is = absurd is
 
   -- no call waits for a lock
   waits_not : (name : LockName) (o : Option Running) → CallCalm o → is_waiter name o ≡ false
   waits_not name None c = refl
-  waits_not name (Some r) c = of_stage (λ (stage : Stage). waits_for name stage ≡ false) r c refl refl
+  waits_not name (Some r) c = of_stage (λ (stage : Stage). waits_for name stage ≡ false) r c refl refl (λ w. refl)
 
   no_waiter : (name : LockName) (slot : ℕ) (calls : List (Option Running)) → Every CallCalm calls → waiter name slot calls ≡ None
   no_waiter name slot [] c = refl
@@ -337,16 +425,22 @@ module _ (P : Call → Type 0) (MayAsk : Type 0) (osts : ℕ) where
           (unknown_calm k.who name (import_of name.target.0 k.imports).boot (import_of name.target.0 k.imports).flights)
 
   -- what is in flight is sent again, and where the locks are that calls wait for
-  resends_calm : (who : Who) (boot t : ℕ) (flights : List Flight) → All (resends who boot t flights)
-  resends_calm who boot t [] = tt
-  resends_calm who boot t (f ∷ flights) = (tt, resends_calm who boot t flights)
+  resends_calm : (who : Who) (boot t : ℕ) (flights : List Flight) → Every (λ (f : Flight). t ≤ osts) flights → All (resends who boot t flights)
+  resends_calm who boot t [] one = tt
+  resends_calm who boot t (f ∷ flights) one = (one.0, resends_calm who boot t flights one.1)
+
+  -- nothing is in flight at a target that isn't there
+  flights_there : (n t u : ℕ) (imports : List Import) → n + t ≡ u → n + length imports ≤ osts + 1 → Every (λ (f : Flight). u ≤ osts) (import_of t imports).flights
+  flights_there n t u [] e few = tt
+  flights_there n zero u (i ∷ imports) e few = every_all (λ (f : Flight). u ≤ osts) i.flights (λ f. omega (arith, e, few))
+  flights_there n (suc t) u (i ∷ imports) e few = flights_there (suc n) t u imports (omega (arith, e)) (omega (arith, few))
 
   where_calm : (who : Who) (boot t slot : ℕ) (calls : List (Option Running)) → Every CallCalm calls → All (on_calls (where_stage who boot t) slot calls)
   where_calm who boot t slot [] c = tt
   where_calm who boot t slot (None ∷ calls) c = where_calm who boot t (slot + 1) calls c.1
   where_calm who boot t slot (Some r ∷ calls) c =
       every_more (LineCalm P MayAsk osts) (where_stage who boot t slot r r.stage) (on_calls (where_stage who boot t) (slot + 1) calls)
-      (of_stage (λ (stage : Stage). All (where_stage who boot t slot r stage)) r c.0 tt tt) (where_calm who boot t (slot + 1) calls c.1)
+      (of_stage (λ (stage : Stage). All (where_stage who boot t slot r stage)) r c.0 tt tt (λ w. tt)) (where_calm who boot t (slot + 1) calls c.1)
 
   -- a target serves the life: what is in flight is sent again; no call asks for a lock on an object
   looks_calm : (t slot : ℕ) (calls : List (Option Running)) → Every CallCalm calls → All (on_calls (looks_stage t) slot calls)
@@ -354,13 +448,13 @@ module _ (P : Call → Type 0) (MayAsk : Type 0) (osts : ℕ) where
   looks_calm t slot (None ∷ calls) c = looks_calm t (slot + 1) calls c.1
   looks_calm t slot (Some r ∷ calls) c =
       every_more (LineCalm P MayAsk osts) (looks_stage t slot r r.stage) (on_calls (looks_stage t) (slot + 1) calls)
-      (of_stage (λ (stage : Stage). All (looks_stage t slot r stage)) r c.0 tt tt) (looks_calm t (slot + 1) calls c.1)
+      (of_stage (λ (stage : Stage). All (looks_stage t slot r stage)) r c.0 tt tt (λ w. tt)) (looks_calm t (slot + 1) calls c.1)
 
   ready_calm : (t boot committed : ℕ) (k : Client) (mine : Bool) → MayAsk → Calm MayAsk osts k → All (ready_heard t boot committed k mine)
   ready_calm t boot committed k false may h = tt
   ready_calm t boot committed k true may h =
       let i = import_of t k.imports in
-      (may, (may, every_more (LineCalm P MayAsk osts) (resends k.who i.boot t i.flights) (on_calls (looks_stage t) 0 k.calls) (resends_calm k.who i.boot t i.flights) (looks_calm t 0 k.calls h.calls)))
+      (may, (may, every_more (LineCalm P MayAsk osts) (resends k.who i.boot t i.flights) (on_calls (looks_stage t) 0 k.calls) (resends_calm k.who i.boot t i.flights (let few = h.targets in flights_there 0 t t k.imports (omega arith) (omega (arith, few)))) (looks_calm t 0 k.calls h.calls)))
 
   -- a target is up again: the life tells it what it has, or asks to be served; no call waits for a lock there
   forgets_calm : (t slot : ℕ) (calls : List (Option Running)) → Every CallCalm calls → All (on_calls (forgets_stage t) slot calls)
@@ -368,7 +462,7 @@ module _ (P : Call → Type 0) (MayAsk : Type 0) (osts : ℕ) where
   forgets_calm t slot (None ∷ calls) c = forgets_calm t (slot + 1) calls c.1
   forgets_calm t slot (Some r ∷ calls) c =
       every_more (LineCalm P MayAsk osts) (forgets_stage t slot r r.stage) (on_calls (forgets_stage t) (slot + 1) calls)
-      (of_stage (λ (stage : Stage). All (forgets_stage t slot r stage)) r c.0 tt tt) (forgets_calm t (slot + 1) calls c.1)
+      (of_stage (λ (stage : Stage). All (forgets_stage t slot r stage)) r c.0 tt tt (λ w. tt)) (forgets_calm t (slot + 1) calls c.1)
 
   replays_calm : (who : Who) (boot t : ℕ) (rs : List Replay) → MayAsk → t ≤ osts → All (replays who boot t rs)
   replays_calm who boot t [] may one = tt
@@ -437,49 +531,53 @@ module _ (P : Call → Type 0) (MayAsk : Type 0) (osts : ℕ) where
   -- where the life isn't served it asks to be, or tells what it has
   tick_calm : (t : ℕ) (k : Client) (i : Import) (s : Standing) → t < osts + 1 → StandsCalm MayAsk s → Calm MayAsk osts k → All (ticks_at t k i s)
   tick_calm t k i Serving one stands h =
-      every_more (LineCalm P MayAsk osts) (resends k.who i.boot t i.flights) (on_calls (where_stage k.who i.boot t) 0 k.calls) (resends_calm k.who i.boot t i.flights) (where_calm k.who i.boot t 0 k.calls h.calls)
+      every_more (LineCalm P MayAsk osts) (resends k.who i.boot t i.flights) (on_calls (where_stage k.who i.boot t) 0 k.calls) (resends_calm k.who i.boot t i.flights (every_all (λ (f : Flight). t ≤ osts) i.flights (λ f. omega (arith, one)))) (where_calm k.who i.boot t 0 k.calls h.calls)
   tick_calm t k i Joining one stands h = ((stands, omega (arith, one)), tt)
   tick_calm t k i Recovering one stands h = recovers_calm t k i stands (omega (arith, one))
 
-  ticks_calm : (t : ℕ) (imports : List Import) (k : Client) → t + length imports ≤ osts + 1 → Every (ImportCalm MayAsk) imports → Calm MayAsk osts k → All (ticks t imports k)
+  ticks_calm : (t : ℕ) (imports : List Import) (k : Client) → t + length imports ≤ osts + 1 → ImportsCalm MayAsk t imports → Calm MayAsk osts k → All (ticks t imports k)
   ticks_calm t [] k few is h = tt
   ticks_calm t (i ∷ imports) k few is h =
       every_more (LineCalm P MayAsk osts) (ticks_at t k i i.standing) (ticks (t + 1) imports k)
-      (tick_calm t k i i.standing (omega (arith, few)) is.0.stands h) (ticks_calm (t + 1) imports k (omega (arith, few)) is.1 h)
+      (tick_calm t k i i.standing (omega (arith, few)) is.0.stands h) (ticks_calm (t + 1) imports k (omega (arith, few)) (next_one t imports is.1) h)
 
   -- ---- a call begins
 
   refuses_calm : (at : At) (slot : ℕ) (c : Call) → P c → All (refuses at slot c)
-  refuses_calm at slot c p = ((record { good = inr refl; asking = tt }, p), (tt, tt))
+  refuses_calm at slot c p = ((record { stage = tt; asking = tt; file = tt }, p), (tt, tt))
 
   open_calm : (at : At) (slot h : ℕ) (path : List (List ℕ)) (bad : Bool) → P (call.Open h path) → All (begins_open at slot (call.Open h path) bad)
   open_calm at slot h path true p = refuses_calm at slot (call.Open h path) p
-  open_calm at slot h path false p = ((record { good = inl (refl, op.Open path, refl); asking = tt }, p), tt)
+  open_calm at slot h path false p = ((record { stage = inl (op.Open path, refl); asking = tt; file = tt }, p), tt)
 
-  begins_close_calm : (at : At) (slot h : ℕ) (file : Option HandleFile) → P (call.Close h) → All (begins_close at slot h file)
-  begins_close_calm at slot h None p = refuses_calm at slot (call.Close h) p
-  begins_close_calm at slot h (Some f) p = ((record { good = inl (refl, op.Close f.number f.fid, refl); asking = tt }, p), (tt, tt))
+  begins_close_calm : (at : At) (slot h : ℕ) (file : Option HandleFile) → P (call.Close h) → FileCalm file → All (begins_close at slot h file)
+  begins_close_calm at slot h None p on = refuses_calm at slot (call.Close h) p
+  begins_close_calm at slot h (Some f) p on = ((record { stage = inl (op.Close f.number f.fid, refl); asking = tt; file = on }, p), (tt, tt))
 
-  pub begins_calm : (at : At) (slot : ℕ) (c : Call) (k : Client) → scenes.IsOnNames c → P c → All (begins at slot c k)
-  begins_calm at slot (call.Open h path) k is p = open_calm at slot h path (is_some (file_of h k.handles) || list_any (opens h) k.calls) p
-  begins_calm at slot (call.Close h) k is p = begins_close_calm at slot h (file_of h k.handles) p
-  begins_calm at slot (call.Read h x n) k is p = absurd is
-  begins_calm at slot (call.Write h x bs) k is p = absurd is
-  begins_calm at slot (call.Cut h n) k is p = absurd is
-  begins_calm at slot (call.Flush h) k is p = absurd is
-  begins_calm at slot (call.Glimpse h) k is p = absurd is
-  begins_calm at slot (call.Create path None) k is p = ((record { good = inl (refl, op.Create path 1048576 (pos 1), refl); asking = tt }, p), tt)
-  begins_calm at slot (call.Create path (Some stripes)) k is p = ((record { good = inl (refl, op.Create path stripes.0 stripes.1, refl); asking = tt }, p), tt)
-  begins_calm at slot (call.Lookup path) k is p = ((record { good = inl (refl, op.Lookup path, refl); asking = tt }, p), tt)
-  begins_calm at slot (call.Stat path) k is p = ((record { good = inl (refl, op.Stat path, refl); asking = tt }, p), tt)
-  begins_calm at slot (call.List path) k is p = ((record { good = inl (refl, op.List path, refl); asking = tt }, p), tt)
-  begins_calm at slot (call.Layout path) k is p = ((record { good = inl (refl, op.Layout path, refl); asking = tt }, p), tt)
-  begins_calm at slot (call.Mkdir path) k is p = ((record { good = inl (refl, op.Mkdir path, refl); asking = tt }, p), tt)
-  begins_calm at slot (call.Link old new) k is p = ((record { good = inl (refl, op.Link old new, refl); asking = tt }, p), tt)
-  begins_calm at slot (call.Unlink path) k is p = ((record { good = inl (refl, op.Unlink path, refl); asking = tt }, p), tt)
-  begins_calm at slot (call.Rmdir path) k is p = ((record { good = inl (refl, op.Rmdir path, refl); asking = tt }, p), tt)
-  begins_calm at slot (call.Rename old new) k is p = ((record { good = inl (refl, op.Rename old new, refl); asking = tt }, p), tt)
-  begins_calm at slot (call.Chmod path mode) k is p = ((record { good = inl (refl, op.Chmod path mode, refl); asking = tt }, p), tt)
+  begins_on_calm : (at : At) (slot : ℕ) (c : Call) (file : Option HandleFile) → P c → IsOnSizes c → FileCalm file → All (begins_on at slot c file)
+  begins_on_calm at slot c None p is on = refuses_calm at slot c p
+  begins_on_calm at slot c (Some f) p is on = ((record { stage = inr is; asking = tt; file = on }, p), tt)
+
+  pub begins_calm : (at : At) (slot : ℕ) (c : Call) (k : Client) → scenes.IsWithoutBytes c → P c → Calm MayAsk osts k → All (begins at slot c k)
+  begins_calm at slot (call.Open h path) k is p calm = open_calm at slot h path (is_some (file_of h k.handles) || list_any (opens h) k.calls) p
+  begins_calm at slot (call.Close h) k is p calm = begins_close_calm at slot h (file_of h k.handles) p (file_calm h k.handles calm.handles)
+  begins_calm at slot (call.Flush h) k is p calm = begins_on_calm at slot (call.Flush h) (file_of h k.handles) p tt (file_calm h k.handles calm.handles)
+  begins_calm at slot (call.Glimpse h) k is p calm = begins_on_calm at slot (call.Glimpse h) (file_of h k.handles) p tt (file_calm h k.handles calm.handles)
+  begins_calm at slot (call.Read h x n) k is p calm = absurd is
+  begins_calm at slot (call.Write h x bs) k is p calm = absurd is
+  begins_calm at slot (call.Cut h n) k is p calm = absurd is
+  begins_calm at slot (call.Create path None) k is p calm = ((record { stage = inl (op.Create path 1048576 (pos 1), refl); asking = tt; file = tt }, p), tt)
+  begins_calm at slot (call.Create path (Some stripes)) k is p calm = ((record { stage = inl (op.Create path stripes.0 stripes.1, refl); asking = tt; file = tt }, p), tt)
+  begins_calm at slot (call.Lookup path) k is p calm = ((record { stage = inl (op.Lookup path, refl); asking = tt; file = tt }, p), tt)
+  begins_calm at slot (call.Stat path) k is p calm = ((record { stage = inl (op.Stat path, refl); asking = tt; file = tt }, p), tt)
+  begins_calm at slot (call.List path) k is p calm = ((record { stage = inl (op.List path, refl); asking = tt; file = tt }, p), tt)
+  begins_calm at slot (call.Layout path) k is p calm = ((record { stage = inl (op.Layout path, refl); asking = tt; file = tt }, p), tt)
+  begins_calm at slot (call.Mkdir path) k is p calm = ((record { stage = inl (op.Mkdir path, refl); asking = tt; file = tt }, p), tt)
+  begins_calm at slot (call.Link old new) k is p calm = ((record { stage = inl (op.Link old new, refl); asking = tt; file = tt }, p), tt)
+  begins_calm at slot (call.Unlink path) k is p calm = ((record { stage = inl (op.Unlink path, refl); asking = tt; file = tt }, p), tt)
+  begins_calm at slot (call.Rmdir path) k is p calm = ((record { stage = inl (op.Rmdir path, refl); asking = tt; file = tt }, p), tt)
+  begins_calm at slot (call.Rename old new) k is p calm = ((record { stage = inl (op.Rename old new, refl); asking = tt; file = tt }, p), tt)
+  begins_calm at slot (call.Chmod path mode) k is p calm = ((record { stage = inl (op.Chmod path mode, refl); asking = tt; file = tt }, p), tt)
 
   -- ---- the row
 
@@ -487,7 +585,7 @@ module _ (P : Call → Type 0) (MayAsk : Type 0) (osts : ℕ) where
   row_calm limits at (Begins slot c) k is h = by (call_on slot k.calls)
     where
       by : (o : Option Running) → All (row_call limits at slot c k o)
-      by None = follow_calm P MayAsk osts (begins at slot c k) (rests limits at) k h (begins_calm at slot c k is.0 is.1) (λ j i. rests_calm limits at j i)
+      by None = follow_calm P MayAsk osts (begins at slot c k) (rests limits at) k h (begins_calm at slot c k is.0 is.1 h) (λ j i. rests_calm limits at j i)
       by (Some r) = (tt, tt)
   row_calm limits at (Comes n from m) k is h =
       follow_calm P MayAsk osts (Take n from m ∷ comes_by at from m k) (rests limits at) k h (tt, comes_calm at from m k is h) (λ j i. rests_calm limits at j i)

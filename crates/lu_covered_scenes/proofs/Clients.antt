@@ -1,12 +1,16 @@
--- A client of a covered scenario, at each line: its calls are on names, its requests too, it holds locks for reading alone, it knows no
--- file's attributes, and each target serves its life, unless a turn may ask a disk. Which lines keep that.
-use Rattle.std.proofs.Common.{◌≡◌, ℕ, zero, suc, ◌+◌, ◌≤◌, false, List, [], ◌∷◌, length, map, Option, Some, None, ◌⊎◌, inl, inr, refl, sym, subst, ap}
-use Rattle.std.specs.Prelude.{nat_eq, not, if◌then◌else◌}
-use Rattle.std.proofs.lemmas.Bool.{cond_both}
+-- A client of a covered scenario, at each line: its calls are on names, or a `flush` or a `glimpse`, its requests to the metadata target are on
+-- names too, and it asks another target how long an object is alone; it holds locks for reading alone, of the metadata target, it has changed no
+-- object, it knows no file's attributes, its handles are bound to files on object storage targets, and each target serves its life, unless a
+-- turn may ask a disk. Which lines keep that.
+use Rattle.std.proofs.Common.{◌≡◌, ℕ, zero, suc, ◌+◌, ◌<◌, ◌≤◌, true, false, List, [], ◌∷◌, length, map, Option, Some, None, ◌⊎◌, inl, inr, refl, sym, subst, ap}
+use Rattle.std.specs.Prelude.{nat_eq, not, if◌then◌else◌, slice_index}
+use Rattle.std.proofs.lemmas.Bool.{cond_both, eqb-true}
 use Rattle.lu_base.specs.declared.ids.Node.{Node}
 use Rattle.lu_base.specs.declared.ids.Node.TheVariants.{Target}
 use Rattle.lu_base.specs.declared.locks.Lock.{Lock}
+use Rattle.lu_base.specs.declared.locks.Resource.{Resource}
 use Rattle.lu_base.specs.declared.locks.Mode.TheVariants.{PR}
+use Rattle.lu_layout.specs.Raid0.{Raid0}
 use Rattle.lu_msg.specs.declared.answers.Answer.{Answer}
 use Rattle.lu_msg.specs.declared.answers.Answer.TheVariants as told
 use Rattle.lu_msg.specs.declared.calls.Call.{Call}
@@ -22,31 +26,58 @@ use Rattle.lu_held.specs.declared.locks.Change.{Change}
 use Rattle.lu_held.specs.declared.locks.Change.TheVariants.{Mark, Unmark, Pin, Unpin}
 use Rattle.lu_held.specs.Locks.{name_of, is_named, named, after as changed_by}
 use Rattle.lu_held.specs.Held.{is_held, changed, used, without, unmarked}
-use Rattle.lu_words.specs.Carried.{Queued, Flight, Asking, Asked, Answered, Plain, Bad, Running}
+use Rattle.lu_words.specs.Carried.{HandleFile, Queued, Flight, Asking, Asked, Answered, Stage, Plain, Bad, Sizes, Running}
 use Rattle.lu_words.specs.Concerns.{is_about}
-use Rattle.lu_words.specs.Words.{Entry, Send, Take, Tick, Begin, Busy, Heard, Hold, Drop, Told, Life, Die, Queues, Flies, Knows, Serves, Settles, Binds, Unbinds, Pins, Unpins, Marks, Unmarks, Learns, Commit, Boot, Close, Evict, Joined, Wishes}
-use Rattle.lu_client_rows.specs.Caches.{brought, held_as, with_held, with_brought, held_after}
-use Rattle.lu_client_rows.specs.Calls.{asks, asks_for, call_after, calls_from, call_on}
+use Rattle.lu_words.specs.Words.{Entry, Send, Take, Tick, Begin, Busy, Heard, Hold, Drop, Told, Life, Die, Queues, Flies, Knows, Serves, Settles, Stands, Binds, Unbinds, Pins, Unpins, Marks, Unmarks, Learns, Changes, WritesBack, Acks, Commit, Boot, Close, Evict, Joined, Wishes}
+use Rattle.lu_client_rows.specs.Caches.{brought, held_as, with_held, with_brought, held_after, patches_after}
+use Rattle.lu_client_rows.specs.Calls.{Bound, asks, asks_for, call_after, calls_from, call_on, handles_after}
 use Rattle.lu_client_rows.specs.Facts.{Fact, name_facts, names_taught, inode_taught, is_one_for_each, last_of, taught, without_facts, facts_after}
 use Rattle.lu_client_rows.specs.Imports.{Standing, Joining, Recovering, Serving, interrupted, Import, rest, import_after, imports_from}
+use Rattle.lu_client_rows.specs.Patches.{Patch}
 use Rattle.lu_client_rows.specs.States.{Client, after, turn, follow}
-use Rattle.lu_covered.specs.Calls.{becomes}
-use Rattle.lu_covered.specs.Covered.{IsCoveredCall, IsCovered, IsWithoutWork}
-use Rattle.lu_lawful.proofs.OnNames.{IsOnNames, IsPlain}
+use Rattle.lu_covered.specs.Calls.{operation_of}
+use Rattle.lu_covered.specs.Covered.{IsOnSizes, IsCoveredCall, IsCovered, IsSizing, IsWithoutWork}
+use Rattle.lu_lawful.proofs.ClientLines.{IsAskedOf}
 use Rattle.lu_lawful.proofs.Covers.{EntriesCovered}
 use Rattle.lu_covered_scenes.proofs.Every.{Every, every_more, every_filter, every_map, every_so}
 use Rattle.lu_covered_scenes.proofs.Asking.{Suits}
 
 -- ---- what is so of its parts
 
+-- each stripe is on an object storage target
+abbrev pub OnOsts : Raid0 → Type 0
+OnOsts layout = (stripe : ℕ) → stripe < length layout.targets → 0 < slice_index layout.targets stripe
+
+abbrev pub FileCalm : Option HandleFile → Type 0
+FileCalm None = Unit {0}
+FileCalm (Some f) = OnOsts f.layout
+
+abbrev pub BoundCalm : Bound → Type 0
+BoundCalm b = OnOsts b.file.layout
+
+-- it isn't a file's attributes, which are told with its size, it doesn't leave the size to a lock, and an open tells of a file on object
+-- storage targets
+abbrev pub AnswerCalm : Answer → Type 0
+AnswerCalm (told.FileStat fid mode links layout) = ⊥
+AnswerCalm (told.OpenFile fid number layout) = OnOsts layout
+AnswerCalm told.Lock = ⊥
+AnswerCalm _ = Unit {0}
+
 abbrev pub AskingCalm : Asking → Type 0
-AskingCalm (Answered target reply) = IsPlain reply.answer
+AskingCalm (Answered target reply) = AnswerCalm reply.answer
 AskingCalm _ = Unit {0}
 
--- a call on names, or one on a bad handle
+-- a call on names, a `flush` or a `glimpse`; one on a bad handle; or a `glimpse` that asks object storage targets
+abbrev pub StageCalm : Option HandleFile → Call → Stage → Type 0
+StageCalm file c Plain = ((o : Op) × (operation_of file c ≡ Some o)) ⊎ IsOnSizes c
+StageCalm file c Bad = Unit {0}
+StageCalm file c (Sizes w) = IsSizing (Sizes w) × IsOnSizes c
+StageCalm file c _ = ⊥
+
 pub record RunningCalm (r : Running) : Type 0 where
-  pub good : ((r.stage ≡ Plain) × (o : Op) × (becomes r ≡ Some o)) ⊎ (r.stage ≡ Bad)
+  pub stage : StageCalm r.file r.call r.stage
   pub asking : AskingCalm r.asking
+  pub file : FileCalm r.file
 
 abbrev pub CallCalm : Option Running → Type 0
 CallCalm None = Unit {0}
@@ -58,33 +89,41 @@ StandsCalm MayAsk Serving = Unit {0}
 StandsCalm MayAsk Joining = MayAsk
 StandsCalm MayAsk Recovering = MayAsk
 
-pub record ImportCalm (MayAsk : Type 0) (i : Import) : Type 0 where
+-- that of target t
+pub record ImportCalm (MayAsk : Type 0) (t : ℕ) (i : Import) : Type 0 where
   pub stands : StandsCalm MayAsk i.standing
-  pub queue : Every (λ (q : Queued). IsOnNames q.op) i.queue
-  pub flights : Every (λ (f : Flight). IsOnNames f.op) i.flights
+  pub queue : Every (λ (q : Queued). IsAskedOf t q.op) i.queue
+  pub flights : Every (λ (f : Flight). IsAskedOf t f.op) i.flights
+
+-- those of the targets from this one on
+abbrev pub ImportsCalm : Type 0 → ℕ → List Import → Type 0
+ImportsCalm MayAsk t [] = Unit {0}
+ImportsCalm MayAsk t (i ∷ imports) = ImportCalm MayAsk t i × ImportsCalm MayAsk (suc t) imports
 
 abbrev pub FactCalm : Fact → Type 0
-FactCalm f = IsPlain f.answer
+FactCalm f = AnswerCalm f.answer
 
--- a lock for reading
-abbrev pub IsReader : Lock → Type 0
-IsReader l = l.ask.mode ≡ PR
+-- a lock for reading, of the metadata target
+abbrev pub LockCalm : ℕ → Lock → Type 0
+LockCalm t l = (t ≡ 0) × (l.ask.mode ≡ PR)
 
 abbrev pub HeldCalm : HeldLock → Type 0
-HeldCalm h = IsReader h.lock
+HeldCalm h = LockCalm h.target.0 h.lock
 
 pub record Calm (MayAsk : Type 0) (osts : ℕ) (k : Client) : Type 0 where
+  pub handles : Every BoundCalm k.handles
   pub calls : Every CallCalm k.calls
-  pub imports : Every (ImportCalm MayAsk) k.imports
+  pub imports : ImportsCalm MayAsk 0 k.imports
   pub targets : length k.imports ≤ osts + 1
   pub facts : Every FactCalm k.facts
   pub held : Every HeldCalm k.store.held
+  pub patches : k.store.patches ≡ []
 
 -- ---- lines that keep it; of each call that begins this holds
 
--- what it sends: what a life that joins or comes back tells a target only where a turn may ask a disk, to a target of the run
+-- what it sends: requests to targets of the run; what a life that joins or comes back tells one only where a turn may ask a disk
 abbrev pub SendCalm : Type 0 → ℕ → Node → Message → Type 0
-SendCalm MayAsk osts (Target t) (message.Request r) = Unit {0}
+SendCalm MayAsk osts (Target t) (message.Request r) = t ≤ osts
 SendCalm MayAsk osts (Target t) (message.Cancel who boot cookie) = Unit {0}
 SendCalm MayAsk osts (Target t) (message.Join who boot) = MayAsk × (t ≤ osts)
 SendCalm MayAsk osts (Target t) (message.Replay r) = MayAsk × (t ≤ osts)
@@ -98,35 +137,39 @@ LineCalm P MayAsk osts (Take n from m) = Unit {0}
 LineCalm P MayAsk osts Tick = Unit {0}
 LineCalm P MayAsk osts (Begin slot r) = RunningCalm r × P r.call
 LineCalm P MayAsk osts (Busy slot) = Unit {0}
-LineCalm P MayAsk osts (Heard t f r) = Every IsReader (brought f.op r) × IsPlain r.answer
-LineCalm P MayAsk osts (Hold t l marked size seen) = IsReader l
+LineCalm P MayAsk osts (Heard t f r) = Every (LockCalm t) (brought f.op r) × AnswerCalm r.answer
+LineCalm P MayAsk osts (Hold t l marked size seen) = LockCalm t l
 LineCalm P MayAsk osts (Drop t l) = Unit {0}
 LineCalm P MayAsk osts (Told slot at answer work) = IsWithoutWork work
 LineCalm P MayAsk osts (Life who) = MayAsk
 LineCalm P MayAsk osts Die = Unit {0}
-LineCalm P MayAsk osts (Queues t q) = IsOnNames q.op
-LineCalm P MayAsk osts (Flies t f) = IsOnNames f.op
+LineCalm P MayAsk osts (Queues t q) = IsAskedOf t q.op
+LineCalm P MayAsk osts (Flies t f) = IsAskedOf t f.op
 LineCalm P MayAsk osts (Knows t boot) = MayAsk
 LineCalm P MayAsk osts (Serves t boot) = MayAsk
 LineCalm P MayAsk osts (Settles t to) = MayAsk
-LineCalm P MayAsk osts (Binds handle file) = Unit {0}
+LineCalm P MayAsk osts (Stands slot r) = RunningCalm r × IsSizing r.stage
+LineCalm P MayAsk osts (Binds handle file) = OnOsts file.layout
 LineCalm P MayAsk osts (Unbinds handle) = Unit {0}
 LineCalm P MayAsk osts (Pins name) = Unit {0}
 LineCalm P MayAsk osts (Unpins name) = Unit {0}
 LineCalm P MayAsk osts (Marks name) = Unit {0}
 LineCalm P MayAsk osts (Unmarks t) = Unit {0}
-LineCalm P MayAsk osts (Learns t o a locks) = IsPlain a
+LineCalm P MayAsk osts (Learns t o a locks) = AnswerCalm a
 LineCalm P MayAsk osts _ = ⊥
 
 abbrev pub AllCalm : (Call → Type 0) → Type 0 → ℕ → List Entry → Type 0
 AllCalm P MayAsk osts es = Every (LineCalm P MayAsk osts) es
 
 call_covered : (r : Running) → RunningCalm r → IsCoveredCall r
-call_covered r c = by c.good
+call_covered r c = by r.stage refl c.stage
   where
-    by : ((r.stage ≡ Plain) × (o : Op) × (becomes r ≡ Some o)) ⊎ (r.stage ≡ Bad) → IsCoveredCall r
-    by (inl g) = inl (g.1, g.2)
-    by (inr b) = inr b
+    by : (stage : Stage) → r.stage ≡ stage → StageCalm r.file r.call stage → IsCoveredCall r
+    by Plain e (inl o) = inl o
+    by Plain e (inr is) = inr (inr is)
+    by Bad e is = inr (inl e)
+    by (Sizes w) e is = inr (inr is.1)
+    by stage e is = absurd is
 
 module _ (P : Call → Type 0) (MayAsk : Type 0) (osts : ℕ) where
   -- they are covered
@@ -152,6 +195,7 @@ module _ (P : Call → Type 0) (MayAsk : Type 0) (osts : ℕ) where
   line_covered (Knows t boot) c = tt
   line_covered (Serves t boot) c = tt
   line_covered (Settles t to) c = tt
+  line_covered (Stands slot r) c = c.1
   line_covered (Binds handle file) c = tt
   line_covered (Unbinds handle) c = tt
   line_covered (Pins name) c = tt
@@ -167,7 +211,7 @@ module _ (P : Call → Type 0) (MayAsk : Type 0) (osts : ℕ) where
 
   -- and they stand where such lines may
   pub line_suits : (clients : ℕ) (e : Entry) → LineCalm P MayAsk osts e → Suits MayAsk osts clients e
-  line_suits clients (Send (Target t) (message.Request r)) c = tt
+  line_suits clients (Send (Target t) (message.Request r)) c = c
   line_suits clients (Send (Target t) (message.Cancel who boot cookie)) c = tt
   line_suits clients (Send (Target t) (message.Join who boot)) c = c
   line_suits clients (Send (Target t) (message.Replay r)) c = c
@@ -190,7 +234,7 @@ module _ (P : Call → Type 0) (MayAsk : Type 0) (osts : ℕ) where
 
   asks_calm : (a : Asking) (o : Option Running) → AskingCalm a → CallCalm o → CallCalm (asks a o)
   asks_calm a None k c = tt
-  asks_calm a (Some r) k c = record { good = c.good; asking = k }
+  asks_calm a (Some r) k c = record { stage = c.stage; asking = k; file = c.file }
 
   for_calm : (served : Option ℕ) (slot : ℕ) (a : Asking) (o : Option Running) → AskingCalm a → CallCalm o → CallCalm (asks_for served slot a o)
   for_calm None slot a o k c = c
@@ -198,6 +242,7 @@ module _ (P : Call → Type 0) (MayAsk : Type 0) (osts : ℕ) where
 
   call_calm : (slot : ℕ) (o : Option Running) (e : Entry) → LineCalm P MayAsk osts e → CallCalm o → CallCalm (call_after slot o e)
   call_calm slot o (Begin s r) l c = cond_both (nat_eq s slot) (Some r) o CallCalm (λ t. l.0) (λ t. c)
+  call_calm slot o (Stands s r) l c = cond_both (nat_eq s slot) (Some r) o CallCalm (λ t. l.0) (λ t. c)
   call_calm slot o (Queues t q) l c = for_calm q.slot slot Asked o tt c
   call_calm slot o (Heard t f r) l c = for_calm f.slot slot (Answered t r) o l.1 c
   call_calm slot o (Told s at a w) l c = cond_both (nat_eq s slot) None o CallCalm (λ t. tt) (λ t. c)
@@ -226,11 +271,19 @@ module _ (P : Call → Type 0) (MayAsk : Type 0) (osts : ℕ) where
   calls_calm slot [] e l c = tt
   calls_calm slot (o ∷ calls) e l c = (call_calm slot o e l c.0, calls_calm (suc slot) calls e l c.1)
 
+  -- ---- handles
+
+  handles_calm : (handles : List Bound) (e : Entry) → LineCalm P MayAsk osts e → Every BoundCalm handles → Every BoundCalm (handles_after handles e)
+  handles_calm handles (Binds h f) l c = (l, c)
+  handles_calm handles (Unbinds h) l c = every_filter BoundCalm (λ (b : Bound). not (nat_eq b.handle h)) handles c
+  handles_calm handles (Life who) l c = tt
+  handles_calm handles e l c = c
+
   -- ---- imports
 
-  rest_calm : (queue : List Queued) → Every (λ (q : Queued). IsOnNames q.op) queue → Every (λ (q : Queued). IsOnNames q.op) (rest queue)
-  rest_calm [] c = tt
-  rest_calm (q ∷ queue) c = c.1
+  rest_calm : (t : ℕ) (queue : List Queued) → Every (λ (q : Queued). IsAskedOf t q.op) queue → Every (λ (q : Queued). IsAskedOf t q.op) (rest queue)
+  rest_calm t [] c = tt
+  rest_calm t (q ∷ queue) c = c.1
 
   -- one that is up again isn't heard to serve
   stands_calm : (s : Standing) → MayAsk → StandsCalm MayAsk (interrupted s)
@@ -238,39 +291,26 @@ module _ (P : Call → Type 0) (MayAsk : Type 0) (osts : ℕ) where
   stands_calm Recovering may = may
   stands_calm Serving may = may
 
-  import_calm : (i : Import) (e : Entry) → LineCalm P MayAsk osts e → ImportCalm MayAsk i → ImportCalm MayAsk (import_after i e)
-  import_calm i (Queues t q) l c =
-      record { stands = c.stands; queue = every_more (λ (q : Queued). IsOnNames q.op) i.queue (q ∷ []) c.queue (l, tt); flights = c.flights }
-  import_calm i (Flies t f) l c =
-      record { stands = c.stands; queue = rest_calm i.queue c.queue; flights = every_more (λ (f : Flight). IsOnNames f.op) i.flights (f ∷ []) c.flights (l, tt) }
-  import_calm i (Heard t f r) l c =
-      record { stands = c.stands; queue = c.queue; flights = every_filter (λ (f : Flight). IsOnNames f.op) (λ (g : Flight). not (nat_eq g.xid f.xid)) i.flights c.flights }
-  import_calm i (Send to m) l c = record { stands = c.stands; queue = c.queue; flights = c.flights }
-  import_calm i (Take n from m) l c = record { stands = c.stands; queue = c.queue; flights = c.flights }
-  import_calm i Tick l c = record { stands = c.stands; queue = c.queue; flights = c.flights }
-  import_calm i (Begin slot r) l c = record { stands = c.stands; queue = c.queue; flights = c.flights }
-  import_calm i (Busy slot) l c = record { stands = c.stands; queue = c.queue; flights = c.flights }
-  import_calm i (Hold t k marked size seen) l c = record { stands = c.stands; queue = c.queue; flights = c.flights }
-  import_calm i (Drop t k) l c = record { stands = c.stands; queue = c.queue; flights = c.flights }
-  import_calm i (Told slot at answer work) l c = record { stands = c.stands; queue = c.queue; flights = c.flights }
-  import_calm i (Life who) l c = record { stands = l; queue = tt; flights = tt }
-  import_calm i (Knows t boot) l c = record { stands = stands_calm i.standing l; queue = c.queue; flights = c.flights }
-  import_calm i (Serves t boot) l c = record { stands = tt; queue = c.queue; flights = c.flights }
-  import_calm i (Settles t to) l c = record { stands = c.stands; queue = c.queue; flights = c.flights }
-  import_calm i (Binds handle file) l c = record { stands = c.stands; queue = c.queue; flights = c.flights }
-  import_calm i (Unbinds handle) l c = record { stands = c.stands; queue = c.queue; flights = c.flights }
-  import_calm i Die l c = record { stands = c.stands; queue = c.queue; flights = c.flights }
-  import_calm i (Pins name) l c = record { stands = c.stands; queue = c.queue; flights = c.flights }
-  import_calm i (Unpins name) l c = record { stands = c.stands; queue = c.queue; flights = c.flights }
-  import_calm i (Marks name) l c = record { stands = c.stands; queue = c.queue; flights = c.flights }
-  import_calm i (Unmarks t) l c = record { stands = c.stands; queue = c.queue; flights = c.flights }
-  import_calm i (Learns t p a locks) l c = record { stands = c.stands; queue = c.queue; flights = c.flights }
-  import_calm i e l c = absurd l
+  -- an entry says of which target it is
+  of_own : (t u : ℕ) (o : Op) → nat_eq t u ≡ true → IsAskedOf u o → IsAskedOf t o
+  of_own t u o own is = subst (λ (v : ℕ). IsAskedOf v o) (sym (eqb-true t u own)) is
 
-  imports_calm : (t : ℕ) (imports : List Import) (e : Entry) → LineCalm P MayAsk osts e → Every (ImportCalm MayAsk) imports → Every (ImportCalm MayAsk) (imports_from t imports e)
+  import_calm : (t : ℕ) (i : Import) (e : Entry) → is_about t e ≡ true → LineCalm P MayAsk osts e → ImportCalm MayAsk t i → ImportCalm MayAsk t (import_after i e)
+  import_calm t i (Queues u q) own l c =
+      record { stands = c.stands; queue = every_more (λ (q : Queued). IsAskedOf t q.op) i.queue (q ∷ []) c.queue (of_own t u q.op own l, tt); flights = c.flights }
+  import_calm t i (Flies u f) own l c =
+      record { stands = c.stands; queue = rest_calm t i.queue c.queue; flights = every_more (λ (f : Flight). IsAskedOf t f.op) i.flights (f ∷ []) c.flights (of_own t u f.op own l, tt) }
+  import_calm t i (Heard u f r) own l c =
+      record { stands = c.stands; queue = c.queue; flights = every_filter (λ (f : Flight). IsAskedOf t f.op) (λ (g : Flight). not (nat_eq g.xid f.xid)) i.flights c.flights }
+  import_calm t i (Life who) own l c = record { stands = l; queue = tt; flights = tt }
+  import_calm t i (Knows u boot) own l c = record { stands = stands_calm i.standing l; queue = c.queue; flights = c.flights }
+  import_calm t i (Serves u boot) own l c = record { stands = tt; queue = c.queue; flights = c.flights }
+  import_calm t i e own l c = record { stands = c.stands; queue = c.queue; flights = c.flights }
+
+  imports_calm : (t : ℕ) (imports : List Import) (e : Entry) → LineCalm P MayAsk osts e → ImportsCalm MayAsk t imports → ImportsCalm MayAsk t (imports_from t imports e)
   imports_calm t [] e l c = tt
   imports_calm t (i ∷ imports) e l c =
-      (cond_both (is_about t e) (import_after i e) i (ImportCalm MayAsk) (λ own. import_calm i e l c.0) (λ own. c.0), imports_calm (suc t) imports e l c.1)
+      (cond_both (is_about t e) (import_after i e) i (ImportCalm MayAsk t) (λ own. import_calm t i e own l c.0) (λ own. c.0), imports_calm (suc t) imports e l c.1)
 
   imports_length : (t : ℕ) (imports : List Import) (e : Entry) → length (imports_from t imports e) ≡ length imports
   imports_length t [] e = refl
@@ -278,14 +318,14 @@ module _ (P : Call → Type 0) (MayAsk : Type 0) (osts : ℕ) where
 
   -- ---- facts
 
-  names_calm : (kind : Fid → Answer) → ((f : Fid) → IsPlain (kind f)) → (d : Fid) (path : List (List ℕ)) (locks : List Lock) → Every FactCalm (name_facts kind d path locks)
+  names_calm : (kind : Fid → Answer) → ((f : Fid) → AnswerCalm (kind f)) → (d : Fid) (path : List (List ℕ)) (locks : List Lock) → Every FactCalm (name_facts kind d path locks)
   names_calm kind is d [] locks = tt
   names_calm kind is d (n ∷ []) [] = tt
   names_calm kind is d (n ∷ []) (l ∷ locks) = (is l.resource.fid, tt)
   names_calm kind is d (n ∷ m ∷ names) [] = tt
   names_calm kind is d (n ∷ m ∷ names) (l ∷ locks) = (tt, names_calm kind is l.resource.fid (m ∷ names) locks)
 
-  path_calm : (kind : Fid → Answer) → ((f : Fid) → IsPlain (kind f)) → (path : List (List ℕ)) (locks : List Lock) → Every FactCalm (names_taught kind path locks)
+  path_calm : (kind : Fid → Answer) → ((f : Fid) → AnswerCalm (kind f)) → (path : List (List ℕ)) (locks : List Lock) → Every FactCalm (names_taught kind path locks)
   path_calm kind is path locks =
       cond_both (is_one_for_each path locks) (name_facts kind (record { 0 = 1 }) path locks) [] (Every FactCalm) (λ t. names_calm kind is (record { 0 = 1 }) path locks) (λ t. tt)
 
@@ -293,7 +333,7 @@ module _ (P : Call → Type 0) (MayAsk : Type 0) (osts : ℕ) where
   inode_calm facts is None = tt
   inode_calm facts is (Some l) = is l
 
-  taught_calm : (o : Op) (a : Answer) (locks : List Lock) → IsPlain a → Every FactCalm (taught o a locks)
+  taught_calm : (o : Op) (a : Answer) (locks : List Lock) → AnswerCalm a → Every FactCalm (taught o a locks)
   taught_calm (op.Lookup path) (told.Dir fid) locks none = path_calm told.Dir (λ f. tt) path locks
   taught_calm (op.Lookup path) (told.File fid) locks none = path_calm told.File (λ f. tt) path locks
   taught_calm (op.Stat path) (told.DirStat fid mode) locks none =
@@ -327,6 +367,7 @@ module _ (P : Call → Type 0) (MayAsk : Type 0) (osts : ℕ) where
   facts_calm facts (Binds handle file) l c = c
   facts_calm facts (Unbinds handle) l c = c
   facts_calm facts (Life who) l c = tt
+  facts_calm facts (Stands slot r) l c = c
   facts_calm facts (Queues t q) l c = c
   facts_calm facts (Flies t f) l c = c
   facts_calm facts (Pins name) l c = c
@@ -343,7 +384,7 @@ module _ (P : Call → Type 0) (MayAsk : Type 0) (osts : ℕ) where
       (λ t. every_map HeldCalm HeldCalm (λ g. if is_named (name_of h) g then h else g) held (λ g k. cond_both (is_named (name_of h) g) h g HeldCalm (λ s. is) (λ s. k)) c)
       (λ t. (is, c))
 
-  brought_calm : (t : ℕ) (locks : List Lock) (held : List HeldLock) → Every IsReader locks → Every HeldCalm held → Every HeldCalm (with_brought t locks held)
+  brought_calm : (t : ℕ) (locks : List Lock) (held : List HeldLock) → Every (LockCalm t) locks → Every HeldCalm held → Every HeldCalm (with_brought t locks held)
   brought_calm t [] held is c = c
   brought_calm t (l ∷ locks) held is c = brought_calm t locks (with_held (held_as t l false) held) is.1 (with_calm (held_as t l false) held is.0 c)
 
@@ -386,21 +427,33 @@ module _ (P : Call → Type 0) (MayAsk : Type 0) (osts : ℕ) where
   held_calm held (Binds handle file) l c = c
   held_calm held (Unbinds handle) l c = c
   held_calm held (Life who) l c = c
+  held_calm held (Stands slot r) l c = c
   held_calm held (Queues t q) l c = c
   held_calm held (Flies t f) l c = c
   held_calm held (Learns t o a locks) l c = c
   held_calm held e l c = absurd l
+
+  -- ---- changes of objects
+
+  patches_calm : (patches : List (Resource × Patch)) (e : Entry) → LineCalm P MayAsk osts e → patches ≡ [] → patches_after patches e ≡ []
+  patches_calm patches (Changes r change) l c = absurd l
+  patches_calm patches (WritesBack r flush) l c = absurd l
+  patches_calm patches (Acks r) l c = absurd l
+  patches_calm patches (Life who) l c = refl
+  patches_calm patches e l c = c
 
   -- ---- the client
 
   pub after_calm : (k : Client) (e : Entry) → Calm MayAsk osts k → LineCalm P MayAsk osts e → Calm MayAsk osts (after k e)
   after_calm k e c l =
       record {
+        handles = handles_calm k.handles e l c.handles;
         calls = calls_calm 0 k.calls e l c.calls;
         imports = imports_calm 0 k.imports e l c.imports;
         targets = subst (λ (n : ℕ). n ≤ osts + 1) (sym (imports_length 0 k.imports e)) c.targets;
         facts = facts_calm k.facts e l c.facts;
         held = held_calm k.store.held e l c.held;
+        patches = patches_calm k.store.patches e l c.patches;
       }
 
   pub turn_calm : (k : Client) (es : List Entry) → Calm MayAsk osts k → AllCalm P MayAsk osts es → Calm MayAsk osts (turn k es)

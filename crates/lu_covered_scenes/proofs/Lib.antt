@@ -8,7 +8,6 @@ pub mod Targets
 pub mod Numbers
 pub mod Lines
 pub mod Arrivals
-pub mod Alone
 pub mod Turns
 pub mod Runs
 pub mod Stated
@@ -16,6 +15,7 @@ pub use Rattle.lu_lawful.proofs.All
 pub use Rattle.lu_lawful.proofs.Asked
 pub use Rattle.lu_lawful.proofs.Groups
 pub use Rattle.lu_lawful.proofs.OnNames
+pub use Rattle.lu_lawful.proofs.Sides
 pub use Rattle.lu_lawful.proofs.FactLines
 pub use Rattle.lu_lawful.proofs.Guards
 pub use Rattle.lu_lawful.proofs.StoryGuards

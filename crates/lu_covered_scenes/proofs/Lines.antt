@@ -19,12 +19,12 @@ use Rattle.lu_table.specs.Scenarios.{head_of, with_stripes}
 use Rattle.lu_words.specs.Words.{Line}
 use Rattle.lu_after.proofs.Runs.{begins_meets}
 use Rattle.lu_covered_scenes.specs.Covered as scenes
-use Rattle.lu_covered_scenes.specs.Covered.{IsMade, IsFile, IsOnNames, IsCoveredIn, IsNoCommand, LineMisses, IsCovered, AsksNoDisk}
+use Rattle.lu_covered_scenes.specs.Covered.{IsMade, IsFile, IsWithoutBytes, IsCoveredIn, IsNoCommand, LineMisses, IsCovered, AsksNoDisk}
 
 -- ---- calls
 
--- a call stays on names with the stripes that it is given
-asks : (call : CallOf) → IsOnNames call → IsOnNames (with_stripes call)
+-- a call stays without bytes with the stripes that it is given
+asks : (call : CallOf) → IsWithoutBytes call → IsWithoutBytes (with_stripes call)
 asks (call.Create path None) is = tt
 asks call is = is
 
@@ -67,7 +67,7 @@ pub record IsCommandTo (lines : List SceneLine) (osts target : ℕ) : Type 0 whe
 -- what is known of a line of a scenario of these lines, with so many clients and object storage targets
 abbrev pub IsKnown : List SceneLine → (clients osts : ℕ) → SceneLine → Type 0
 IsKnown lines clients osts (Call client slot call) =
-    record { one : client < clients; small : slot < 4; limits : IsCall (with_stripes call); asks : IsOnNames (with_stripes call); among : Calls lines (with_stripes call) }
+    record { one : client < clients; small : slot < 4; limits : IsCall (with_stripes call); asks : IsWithoutBytes (with_stripes call); among : Calls lines (with_stripes call) }
 IsKnown lines clients osts Run = Unit {0}
 IsKnown lines clients osts (RunSome turns) = Unit {0}
 IsKnown lines clients osts (Deliver number) = Unit {0}

@@ -1,6 +1,6 @@
 -- A target has numbers left in a covered scenario: each request that comes brings at most one transaction, and at most one lock for each
--- name of a path and one more. One that waits brings them when it goes on, or none, where its life leaves or the target recovers. A boot
--- counts anew, and each is a turn.
+-- name of a path and one more; one that asks how long an object is brings neither. One that waits brings them when it goes on, or none, where
+-- its life leaves or the target recovers. A boot counts anew, and each is a turn.
 use Rattle.std.proofs.Common.{◌≡◌, ℕ, zero, suc, ◌+◌, ◌*◌, ◌≤◌, Bool, true, false, List, [], ◌∷◌, ◌++◌, inl, inr, Option, Some, None, refl, sym, subst, ap, ◌∙◌, arith}
 use Rattle.std.specs.Prelude.{nat_eq, nat_lt, max, not, ◌&&◌, ◌||◌, if◌then◌else◌, length}
 use Rattle.std.specs.List.{filter, list_any}
@@ -17,6 +17,7 @@ use Rattle.lu_base.specs.declared.locks.Lock.{Lock}
 use Rattle.lu_msg.specs.declared.commits.Batch.{Batch}
 use Rattle.lu_msg.specs.declared.answers.Errno.{Errno}
 use Rattle.lu_msg.specs.declared.answers.Answer.TheVariants.{Refused}
+use Rattle.lu_msg.specs.declared.answers.Answer.TheVariants as told
 use Rattle.lu_msg.specs.declared.messages.Message.{Message}
 use Rattle.lu_msg.specs.declared.messages.Message.TheVariants as message
 use Rattle.lu_msg.specs.declared.messages.Reply.{Reply as ReplyTo}
@@ -35,21 +36,22 @@ use Rattle.lu_part.specs.declared.bits.TheConstants.{UPDATE, LAYOUT}
 use Rattle.lu_part.specs.declared.parts.Want.{Want}
 use Rattle.lu_words.specs.Carried.{Deed, Called, Slot, Glimpse, Said, Disk}
 use Rattle.lu_words.specs.Words.{Entry, Send, Tick, Skip, Act, Grant, Block, Release, Commit, Crash, Back, Close, Kept, Restore, Evict, Joined, Enters, Stores, Brings, Says, Wishes}
-use Rattle.lu_target_rows.specs.Glimpses.{glimpses_of, glimpses_end}
+use Rattle.lu_target_rows.specs.Glimpses.{answered, row_sizes, highest, row_size, glimpses_of, glimpses_end}
 use Rattle.lu_target_rows.specs.Leaving.{last_of as last_committed, commits, up, evicted, ready, all_released, locks_of, evictions, all_go, condemned, expels, sends_again, ticked, life_of, admits, row_admits, by_life, is_over, row_join}
 use Rattle.lu_target_rows.specs.Lives.{is_life, slot_in}
 use Rattle.lu_target_rows.specs.Locks.{is_request_of}
 use Rattle.lu_target_rows.specs.Names.{asked, does_change, is_read, is_ready, locks_from, locks_for, written_by, in_way, names_deed, grant_lines, row_executes, row_waits, row_pass, row_sweep, names_go}
 use Rattle.lu_target_rows.specs.Objects.{lock_of, objects_go}
 use Rattle.lu_target_rows.specs.Phase.{first_of, greatest_cookie}
-use Rattle.lu_target_rows.specs.Queues.{queue_goes, queues_go, resources_of, all_queues_go}
+use Rattle.lu_target_rows.specs.Queues.{size_of, queue_goes, queues_go, resources_of, all_queues_go}
 use Rattle.lu_target_rows.specs.Recovery.{row_replay, row_lock, row_word, row_wish, up_lines, row_boot, row_close, settles}
-use Rattle.lu_target_rows.specs.Replies.{none, next_number, is_called, called, block_of, blocks, replies, row_kept}
-use Rattle.lu_target_rows.specs.Requests.{by_number, by_slot as slot_of_request, row_request, releases, goes_on, row_cancels, row_cancel}
+use Rattle.lu_target_rows.specs.Replies.{none, next_number, is_called, called, block_of, blocks, replies, row_kept, locks_on}
+use Rattle.lu_target_rows.specs.Requests.{goes, by_number, by_slot as slot_of_request, row_request, releases, goes_on, row_cancels, row_cancel}
 use Rattle.lu_target_rows.specs.Stored.{batch_of}
 use Rattle.lu_target_rows.specs.Rows.{by_boot, by_slot, heeds, while_serving, while_recovering, of_boot, lock_again, row_heeds, first_deeds, row_commits, row_commit, row_closes}
 use Rattle.lu_target_rows.specs.Rows as target
 use Rattle.lu_target_rows.specs.States.{Target, is_names, is_serving, after, turn, follow}
+use Rattle.lu_lawful.proofs.ClientLines.{IsSize}
 use Rattle.lu_lawful.proofs.Guards.{In}
 use Rattle.lu_lawful.proofs.Lists.{self}
 use Rattle.lu_lawful.proofs.OnNames.{IsOnNames}
@@ -58,7 +60,7 @@ use Rattle.lu_covered_scenes.proofs.Every.{Every, every_more, every_filter}
 use Rattle.lu_covered_scenes.proofs.Asking.{IsOf}
 use Rattle.lu_covered_scenes.proofs.Served.{AllServed, Quiet, quiet_turn}
 use Rattle.lu_covered_scenes.proofs.Windows.{IsBack, AllBack, close_back, replay_back, lock_back, word_back, wish_back, boots_back, booted, booted_quiet}
-use Rattle.lu_covered_scenes.proofs.Targets.{releases_served, released_served, evictions_served, expels_served, MessageServed, of_tick}
+use Rattle.lu_covered_scenes.proofs.Targets.{releases_served, released_served, evictions_served, expels_served, MayBeAsked, MessageServed, of_tick}
 
 -- ---- how many locks an operation is granted
 
@@ -68,6 +70,7 @@ IsShort (op.Lookup path) = length path ≤ 32
 IsShort (op.Stat path) = length path ≤ 32
 IsShort (op.List path) = length path ≤ 32
 IsShort (op.Layout path) = length path ≤ 32
+IsShort (op.Size resource) = Unit {0}
 IsShort o = IsOnNames o
 
 steps_length : (t : Tree) (at : Child) (path : List (List ℕ)) (cs : List Child) → Steps t at path cs → length cs ≡ length path
@@ -128,6 +131,7 @@ module _ (osts : ℕ) (t : Tree) (number : TxnOf) (who : Who) where
   grants_few (op.Chmod path mode) short = free_few (op.Chmod path mode) tt (λ r. r)
   grants_few (op.Open path) short = free_few (op.Open path) tt (λ r. r)
   grants_few (op.Close number fid) short = free_few (op.Close number fid) tt (λ r. r)
+  grants_few (op.Size resource) short = omega arith
   grants_few o short = absurd short
 
 -- ---- lists
@@ -500,11 +504,35 @@ module _ (n clients : ℕ) (v : Target) (s : Quiet clients v) (h : Below n v) wh
   goes_below : (m : ℕ) (w : Target) (at : At) (other : List Entry) → w.setting.id ≡ 0 → Below m w → Below m (turn w (if is_names w then names_go at w else other))
   goes_below m w at other e low = subst (λ (k : ℕ). Below m (turn w (if nat_eq k 0 then names_go at w else other))) (sym e) (names_below m at w low)
 
-  request_below : (at : At) (r : RequestOf) → v.setting.id ≡ 0 → IsShort r.op → Below (suc n) (turn v (row_request v at r))
-  request_below at r names short = by (slot_in v.slots r.who r.tag)
+  -- where no lock is granted the size is told, and no number is given
+  sizes_below : (m : ℕ) (w : Target) (at : At) (r : RequestOf) (o : Op) → IsSize o → w.granted ≡ [] → Below m w → Below m (turn w (objects_go w at r o))
+  sizes_below m w at r (op.Size resource) is bare low =
+      let d : Deed = answered w at r (told.Size (size_of w resource)) in
+      subst (λ (locks : List Lock). Below m (turn w (row_size w at r resource (highest (locks_on resource locks))))) (sym bare)
+      (fewer_below m w (turn w (row_sizes d))
+      (record {
+        number = refl;
+        cookie = refl;
+        queue = filter_le (λ (q : RequestOf). not (is_request_of d q)) w.queue;
+        fits = λ f. every_filter RequestFits (λ (q : RequestOf). not (is_request_of d q)) w.queue f;
+        boot = refl;
+        disk = refl;
+      })
+      low)
+  sizes_below m w at r o is bare low = absurd is
+
+  asked_below : (m : ℕ) (w : Target) (at : At) (r : RequestOf) → MayBeAsked w r.op → Below m w → Below m (turn w (goes at r w))
+  asked_below m w at r (inl names) low = goes_below m w at (objects_go w at r r.op) names low
+  asked_below m w at r (inr is) low =
+      let high = is.0 in
+      let other : nat_eq w.setting.id 0 ≡ false = grind (arith, nat_tests) in
+      subst (λ (b : Bool). Below m (turn w (if b then names_go at w else objects_go w at r r.op))) (sym other) (sizes_below m w at r r.op is.1 is.2 low)
+
+  request_below : (at : At) (r : RequestOf) → MayBeAsked v r.op → IsShort r.op → Below (suc n) (turn v (row_request v at r))
+  request_below at r asked short = by (slot_in v.slots r.who r.tag)
     where
       number : (k : Option ReplyTo) (above same : Bool) → Below (suc n) (turn v (by_number v at r k above same))
-      number k true same = goes_below (suc n) (after v (Enters r)) at (objects_go (after v (Enters r)) at r r.op) names (enters_below r short)
+      number k true same = asked_below (suc n) (after v (Enters r)) at r asked (enters_below r short)
       number k false true = more_below n (turn v (row_kept v k)) (kept_below n v k h)
       number k false false = more_below n v h
 

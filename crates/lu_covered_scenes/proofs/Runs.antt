@@ -26,9 +26,8 @@ use Rattle.lu_after.proofs.Posts.{sent_at_is}
 use Rattle.lu_after.proofs.Runs.{first_in, left_in, spent_in, client_meets}
 use Rattle.lu_lawful.proofs.GuardTurns.{covered_head}
 use Rattle.lu_covered_scenes.specs.Covered.{IsCovered, EvictsNone, AsksNoDisk, ticks_of}
-use Rattle.lu_covered_scenes.proofs.Every.{Every}
 use Rattle.lu_covered_scenes.proofs.Arrivals.{client_calm, to_client}
-use Rattle.lu_covered_scenes.proofs.Clients.{ImportCalm, Calm}
+use Rattle.lu_covered_scenes.proofs.Clients.{ImportsCalm, Calm}
 use Rattle.lu_covered_scenes.proofs.ClientRows.{EventCalm}
 use Rattle.lu_covered_scenes.proofs.Lines.{MayAsk, Calls, IsCommandTo, AllKnown, lines_known}
 use Rattle.lu_covered_scenes.proofs.Turns.{Sound, IsTimely, Timely, Makes, made, Spared, covered_unfailed, past_grown, client_makes, client_timely, comes_makes, comes_timely, names_due, others_due, tick_makes, names_timely, other_timely, commit_makes, commit_timely, crash_makes, crash_timely, close_makes, close_timely, boot_makes, boot_timely}
@@ -226,9 +225,9 @@ module _ (scene : Scene) (covered : IsCovered scene) (disks : Disks) where
 
   -- ---- from the start
 
-  imports_calm : (n : ℕ) → Every (ImportCalm (MayAsk scene)) (first_imports n)
-  imports_calm zero = tt
-  imports_calm (suc n) = (record { stands = tt; queue = tt; flights = tt }, imports_calm n)
+  imports_calm : (t n : ℕ) → ImportsCalm (MayAsk scene) t (first_imports n)
+  imports_calm t zero = tt
+  imports_calm t (suc n) = (record { stands = tt; queue = tt; flights = tt }, imports_calm (suc t) n)
 
   imports_count : (n : ℕ) → length (first_imports n) ≤ n
   imports_count zero = omega arith
@@ -237,7 +236,7 @@ module _ (scene : Scene) (covered : IsCovered scene) (disks : Disks) where
   calm_first : (who : ℕ) → Calm (MayAsk scene) head.osts (client_of head who [])
   calm_first who =
       subst (Calm (MayAsk scene) head.osts) (sym (client_first (limits_of head) who))
-      (record { calls = (tt, (tt, (tt, (tt, tt)))); imports = imports_calm ((limits_of head).osts + 1); targets = imports_count ((limits_of head).osts + 1); facts = tt; held = tt })
+      (record { handles = tt; calls = (tt, (tt, (tt, (tt, tt)))); imports = imports_calm 0 ((limits_of head).osts + 1); targets = imports_count ((limits_of head).osts + 1); facts = tt; held = tt; patches = refl })
 
   first_time : Timely scene (ticks_of scene.lines) []
   first_time quiet = by quiet.evicts

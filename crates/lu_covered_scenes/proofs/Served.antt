@@ -138,6 +138,7 @@ module _ (Ticks MayAsk : Type 0) (clients : ℕ) where
 
   -- and they stand where such lines may
   line_suits : (osts : ℕ) (e : Entry) → LineServed Ticks MayAsk clients e → Suits MayAsk osts clients e
+  line_suits osts (Send (ToTarget t) (message.Request r)) s = absurd s
   line_suits osts (Send (ToTarget t) (message.Join who boot)) s = absurd s
   line_suits osts (Send (ToTarget t) (message.Replay r)) s = absurd s
   line_suits osts (Send (ToTarget t) (message.Lock r)) s = absurd s

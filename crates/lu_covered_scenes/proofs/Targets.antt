@@ -1,7 +1,7 @@
 -- A target's row in a covered scenario, for messages, ticks and commands: all its lines are covered, and none but a tick counts one. It asks a
 -- disk for a command, for what a life that joins or comes back tells it, and for a tick of which a lock that was called back expires. Where it
 -- is down it passes all over.
-use Rattle.std.proofs.Common.{◌≡◌, ℕ, zero, suc, ◌+◌, ◌<◌, ◌≤◌, Bool, true, false, List, [], ◌∷◌, ◌++◌, Option, Some, None, refl, sym, subst, ap, ◌∙◌, arith}
+use Rattle.std.proofs.Common.{◌≡◌, ℕ, zero, suc, ◌+◌, ◌<◌, ◌≤◌, Bool, true, false, List, [], ◌∷◌, ◌++◌, Option, Some, None, ◌⊎◌, inl, inr, refl, sym, subst, ap, ◌∙◌, arith}
 use Rattle.std.specs.Prelude.{nat_eq, nat_le, nat_lt, not, ◌&&◌, ◌||◌, if◌then◌else◌, length}
 use Rattle.std.specs.List.{list_any}
 use Rattle.std.proofs.lemmas.Bool.{cond_both}
@@ -16,20 +16,23 @@ use Rattle.lu_msg.specs.declared.messages.Message.{Message}
 use Rattle.lu_msg.specs.declared.messages.Message.TheVariants as message
 use Rattle.lu_msg.specs.declared.messages.Reply.{Reply as ReplyTo}
 use Rattle.lu_msg.specs.declared.messages.Request.{Request as RequestOf}
+use Rattle.lu_msg.specs.declared.operations.Op.{Op}
+use Rattle.lu_msg.specs.declared.operations.Op.TheVariants as op
 use Rattle.lu_words.specs.Carried.{Deed, Called, Glimpse, Slot, Said}
 use Rattle.lu_words.specs.Words.{Entry, Tick, Skip, Block, Release, Evict, Joined, Crash, Enters}
-use Rattle.lu_target_rows.specs.Glimpses.{glimpses_of, glimpses_end}
+use Rattle.lu_target_rows.specs.Glimpses.{glimpses_of, glimpses_end, highest, row_size}
 use Rattle.lu_target_rows.specs.Leaving.{commits, evicted, ready, all_released, locks_of, evictions, all_go, is_due, condemned, expels, block_again, sends_again, ticked, row_tick, life_of, admits, row_admits, by_life, is_over, row_join}
 use Rattle.lu_target_rows.specs.Lives.{is_life, with_life, slot_in}
 use Rattle.lu_target_rows.specs.Names.{does_change, is_read, is_ready, written_by, in_way, grant_lines, row_executes, row_waits, row_pass, row_sweep, names_go}
 use Rattle.lu_target_rows.specs.Objects.{lock_of, objects_go}
 use Rattle.lu_target_rows.specs.Queues.{queue_goes, queues_go, resources_of, all_queues_go}
 use Rattle.lu_target_rows.specs.Recovery.{row_replay, row_lock, row_word, row_wish, row_boot, row_close}
-use Rattle.lu_target_rows.specs.Replies.{is_called, called, block_of, blocks, replies, row_kept}
-use Rattle.lu_target_rows.specs.Requests.{by_number, by_slot as slot_of_request, row_request, releases, goes_on, row_cancels, row_cancel}
+use Rattle.lu_target_rows.specs.Replies.{is_called, called, block_of, blocks, replies, row_kept, locks_on}
+use Rattle.lu_target_rows.specs.Requests.{goes, by_number, by_slot as slot_of_request, row_request, releases, goes_on, row_cancels, row_cancel}
 use Rattle.lu_target_rows.specs.Rows.{by_boot, by_slot, heeds, while_serving, while_recovering, of_boot, lock_again, row_heeds, first_deeds, row_commits, row_commit, row_closes}
 use Rattle.lu_target_rows.specs.Rows as target
 use Rattle.lu_target_rows.specs.States.{Target, is_names, is_serving, after, turn, follow}
+use Rattle.lu_lawful.proofs.ClientLines.{IsSize}
 use Rattle.lu_covered_scenes.proofs.Every.{every_more, every_so}
 use Rattle.lu_covered_scenes.proofs.Asking.{IsOf}
 use Rattle.lu_covered_scenes.proofs.Served.{LineServed, AllServed, Quiet, quiet_turn, served_still}
@@ -43,10 +46,14 @@ pub record Spoken (MayAsk : Type 0) (clients : ℕ) (v : Target) (who : Who) (bo
   pub older : nat_lt boot v.boot ≡ true → MayAsk
   pub without : is_life who v.lives ≡ false → MayAsk
 
--- which messages may come: requests and locks that are given back come to the metadata target alone, the others to each, where a turn may
--- ask a disk
+-- what the metadata target may be asked; and another one, which has granted no lock: how long an object is
+abbrev pub MayBeAsked : Target → Op → Type 0
+MayBeAsked v o = (v.setting.id ≡ 0) ⊎ ((0 < v.setting.id) × IsSize o × (v.granted ≡ []))
+
+-- which messages may come: locks that are given back come to the metadata target alone, requests to each, and so do the others, where a turn
+-- may ask a disk
 abbrev pub MessageServed : Type 0 → (clients : ℕ) → Target → Message → Type 0
-MessageServed MayAsk clients v (message.Request r) = (v.setting.id ≡ 0) × Spoken MayAsk clients v r.who r.boot
+MessageServed MayAsk clients v (message.Request r) = MayBeAsked v r.op × Spoken MayAsk clients v r.who r.boot
 MessageServed MayAsk clients v (message.Cancel who boot cookie) = (v.setting.id ≡ 0) × Spoken MayAsk clients v who boot
 MessageServed MayAsk clients v (message.Join who boot) = MayAsk × IsOf clients who
 MessageServed MayAsk clients v (message.Replay r) = MayAsk × IsOf clients r.who
@@ -95,6 +102,20 @@ module _ (MayAsk : Type 0) (clients : ℕ) where
 
   pub names_served : (at : At) (v : Target) → All (names_go at v)
   names_served at v = sweep_served (length v.queue + 1) at v
+
+  -- a target that has granted no lock tells the size itself
+  sizes_served : (at : At) (v : Target) (r : RequestOf) (o : Op) → IsSize o → v.granted ≡ [] → All (objects_go v at r o)
+  sizes_served at v r (op.Size resource) is none =
+      subst (λ (locks : List Lock). All (row_size v at r resource (highest (locks_on resource locks)))) (sym none) (tt, (tt, tt))
+  sizes_served at v r o is none = absurd is
+
+  -- a request goes on
+  goes_served : (at : At) (v : Target) (r : RequestOf) → MayBeAsked v r.op → All (goes at r v)
+  goes_served at v r (inl names) = subst (λ (n : ℕ). All (if nat_eq n 0 then names_go at v else objects_go v at r r.op)) (sym names) (names_served at v)
+  goes_served at v r (inr is) =
+      let high = is.0 in
+      let other : nat_eq v.setting.id 0 ≡ false = grind (arith, nat_tests) in
+      subst (λ (b : Bool). All (if b then names_go at v else objects_go v at r r.op)) (sym other) (sizes_served at v r r.op is.1 is.2)
 
   -- what waited goes on: no lock waits in a queue
   pub all_go_served : (at : At) (v : Target) → Quiet clients v → All (all_go at v)
@@ -181,14 +202,11 @@ module _ (MayAsk : Type 0) (clients : ℕ) where
         cond_both (is_serving v) (row_join v at who) (row_wish v at who) All (λ t. join_served at who v may one s)
         (λ t. back_served clients ⊥ MayAsk may (row_wish v at who) (wish_back clients v at who s one))
 
-    request_served : (at : At) (r : RequestOf) → v.setting.id ≡ 0 → All (row_request v at r)
-    request_served at r names = by (slot_in v.slots r.who r.tag)
+    request_served : (at : At) (r : RequestOf) → MayBeAsked v r.op → All (row_request v at r)
+    request_served at r asked = by (slot_in v.slots r.who r.tag)
       where
-        goes_so : (w : Target) → w.setting.id ≡ 0 → All (if is_names w then names_go at w else objects_go w at r r.op)
-        goes_so w e = subst (λ (n : ℕ). All (if nat_eq n 0 then names_go at w else objects_go w at r r.op)) (sym e) (names_served at w)
-
         number : (k : Option ReplyTo) (above same : Bool) → All (by_number v at r k above same)
-        number k true same = (tt, goes_so (after v (Enters r)) names)
+        number k true same = (tt, goes_served at (after v (Enters r)) r asked)
         number k false true = kept_served v k
         number k false false = tt
 

@@ -7,7 +7,6 @@ use Rattle.std.proofs.lemmas.Bool.Decides.{nat_tests}
 use Rattle.lu_base.specs.declared.ids.At.{At}
 use Rattle.lu_base.specs.declared.ids.Node.{Node}
 use Rattle.lu_base.specs.declared.ids.Node.TheVariants as node
-use Rattle.lu_base.specs.declared.ids.Stamp.{Stamp}
 use Rattle.lu_msg.specs.declared.calls.Call.{Call as CallOf}
 use Rattle.lu_msg.specs.declared.messages.Message.{Message}
 use Rattle.lu_scene.specs.declared.scene.Scene.{Scene}
@@ -27,18 +26,16 @@ use Rattle.lu_after.specs.InTable.{next_at, InTable}
 use Rattle.lu_after.proofs.Clients.{client_own, client_other}
 use Rattle.lu_after.proofs.Runs.{turned_in, IsCommand, command_meets, target_unfailed}
 use Rattle.lu_after.proofs.Targets.{target_own, target_other}
-use Rattle.lu_lawful.proofs.ClientHandles.{Tied}
-use Rattle.lu_lawful.proofs.Covers.{EntriesCovered, EntriesAlone}
+use Rattle.lu_lawful.proofs.Covers.{EntriesCovered}
 use Rattle.lu_lawful.proofs.Grown.{Grown}
 use Rattle.lu_lawful.proofs.Lists.{self}
-use Rattle.lu_lawful.proofs.Obey.{grown, between}
+use Rattle.lu_lawful.proofs.Obey.{grown}
 use Rattle.lu_lawful.proofs.GuardTurns.{covered_head}
 use Rattle.lu_lawful.proofs.Asked.{Began}
 use Rattle.lu_lawful.proofs.Unlocked.{unlocked, uncalled_other}
 use Rattle.lu_covered_scenes.specs.Covered as scenes
 use Rattle.lu_covered_scenes.specs.Covered.{IsCovered, IsNoCommand, AsksNoDisk}
-use Rattle.lu_covered_scenes.proofs.Alone.{row_alone}
-use Rattle.lu_covered_scenes.proofs.Arrivals.{Arrives, target_served}
+use Rattle.lu_covered_scenes.proofs.Arrivals.{Arrives, grants_none, target_served}
 use Rattle.lu_covered_scenes.proofs.Asking.{AllSuit, turn_suits}
 use Rattle.lu_covered_scenes.proofs.Clients.{Calm, AllCalm, turn_calm, lines_covered, lines_suit}
 use Rattle.lu_covered_scenes.proofs.ClientRows.{EventCalm, row_calm}
@@ -74,14 +71,9 @@ covered_unfailed (l ∷ past) c = by l.entry c.0 (covered_unfailed past c.1)
     by Fail is before = absurd is
     by e is before = before
 
-pub all_covered : (at : At) (es : List Entry) (past : List Line) → EntriesCovered es → EntriesAlone at es past → AllCovered past → AllCovered (with_lines at es past)
-all_covered at [] past c alone before = before
-all_covered at (e ∷ es) past c alone before = all_covered at es (line at e ∷ past) c.1 alone.1 (c.0, before, alone.0)
-
--- a call of a client alone is on an open
-target_alone : (stamp : Stamp) (t : ℕ) (es : List Entry) (past : List Line) → EntriesAlone (record { stamp = stamp; node = node.Target t }) es past
-target_alone stamp t [] past = tt
-target_alone stamp t (e ∷ es) past = (tt, target_alone stamp t es (line (record { stamp = stamp; node = node.Target t }) e ∷ past))
+pub all_covered : (at : At) (es : List Entry) (past : List Line) → EntriesCovered es → AllCovered past → AllCovered (with_lines at es past)
+all_covered at [] past c before = before
+all_covered at (e ∷ es) past c before = all_covered at es (line at e ∷ past) c.1 (c.0, before)
 
 -- ---- calls that begin
 
@@ -120,10 +112,6 @@ module _ (scene : Scene) (covered : IsCovered scene) where
   pub past_grown : (c : Config) → Sound scene c → Grown (covered_head head) (past_of c)
   past_grown c s = grown head c.turns s.table.run s.covered
 
-  -- each handle of a client is bound as its calls say
-  tied : (c : Config) → Sound scene c → (who : ℕ) → Tied who (past_of c)
-  tied c s who = (between head c.turns s.table.run s.covered who).handles
-
   pub unfailed : (c : Config) → Sound scene c → has_failed (past_of c) ≡ false
   unfailed c s = covered_unfailed (past_of c) s.covered
 
@@ -161,7 +149,7 @@ module _ (scene : Scene) (covered : IsCovered scene) where
         sound =
             record {
               table = turned_in head c (node.Client who) event s.table (unfailed c s) meets tt;
-              covered = all_covered at es past (lines_covered (Calls scene.lines) (MayAsk scene) head.osts es all) alone s.covered;
+              covered = all_covered at es past (lines_covered (Calls scene.lines) (MayAsk scene) head.osts es all) s.covered;
               suits = turn_suits (MayAsk scene) head.osts head.clients past at es tt (lines_suit (Calls scene.lines) (MayAsk scene) head.osts head.clients es all) s.suits;
               calm = λ d. calm d (is_client d (node.Client who)) refl;
               below = λ t. subst (Below (suc (length c.turns))) (sym (others t)) (more_below (length c.turns) (target_of head t past) (s.below t));
@@ -183,9 +171,6 @@ module _ (scene : Scene) (covered : IsCovered scene) where
 
       all : AllCalm (Calls scene.lines) (MayAsk scene) head.osts es
       all = row_calm (Calls scene.lines) (MayAsk scene) head.osts (limits_of head) at event (client_of head who past) may (s.calm who)
-
-      alone : EntriesAlone at es past
-      alone = row_alone (MayAsk scene) head.osts at.stamp who (limits_of head) (covered_head head) past (past_grown c s) (tied c s who) (client_of head who past) refl (s.calm who) (Calls scene.lines) event may
 
       others : (t : ℕ) → target_of head t (with_lines at es past) ≡ target_of head t past
       others t = target_other (setting_of head t) head.clients past at es refl
@@ -216,7 +201,7 @@ module _ (scene : Scene) (covered : IsCovered scene) where
         sound =
             record {
               table = turned_in head c (node.Target t) event s.table (unfailed c s) meets left;
-              covered = all_covered at es past are_covered (target_alone at.stamp t es past) s.covered;
+              covered = all_covered at es past are_covered s.covered;
               suits = turn_suits (MayAsk scene) head.osts head.clients past at es one (served_suit T (MayAsk scene) head.clients head.osts es all) s.suits;
               calm = λ d. subst (Calm (MayAsk scene) head.osts) (sym (client_other (limits_of head) d past at es refl)) (s.calm d);
               below = λ u. each (λ v. Below (suc (length c.turns)) v) below (λ k. more_below (length c.turns) (target_of head k past) (s.below k)) u;
@@ -336,7 +321,7 @@ module _ (scene : Scene) (covered : IsCovered scene) where
     heard = target.Comes n from m
 
     arrives : Arrives scene covered (covered_head head) head.osts (past_of c) (past_grown c s) s.suits s.begun t its m
-    arrives = target_served scene covered (covered_head head) head.osts (past_of c) (past_grown c s) s.suits s.begun t its refl (lives_stay c s t) (boot_stays c s t) n from m sent
+    arrives = target_served scene covered (covered_head head) head.osts (past_of c) (past_grown c s) s.suits s.begun t its refl (grants_none (covered_head head) (setting_of head t) head.clients (past_of c) (past_grown c s)) (lives_stay c s t) (boot_stays c s t) n from m sent
 
     served : AllServed ⊥ (MayAsk scene) head.clients (lines_at c (node.Target t) heard)
     served = comes_served (MayAsk scene) head.clients its (next_at c (node.Target t)) n from m (target_quiet c s t) arrives.served

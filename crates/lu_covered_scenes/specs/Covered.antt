@@ -1,11 +1,12 @@
--- The scenarios whose runs the theorem covers so far: clients begin calls on names, opens and closes among them, messages come or are lost, time
--- goes on, clients die, and targets are given all commands: they commit, all of it or some, crash, boot, recover and close their windows, when
--- they are told to or once every life is back. A `stat` must find no file, whose size it would ask for. Whoever doesn't give back a lock in
--- time, or doesn't come back in a window, is evicted, and joins in a new life.
+-- The scenarios whose runs the theorem covers so far: clients begin calls on names, opens and closes among them, and the calls `flush` and
+-- `glimpse`, messages come or are lost, time goes on, clients die, and targets are given all commands: they commit, all of it or some, crash,
+-- boot, recover and close their windows, when they are told to or once every life is back. No call reads or changes bytes, so each object that a
+-- `glimpse` asks for is empty. A `stat` must find no file: for its size it would ask for locks on its objects. Whoever doesn't give back a lock
+-- in time, or doesn't come back in a window, is evicted, and joins in a new life.
 use Rattle.std.specs.Prelude.{◌<◌, ◌+◌, ℕ, zero, List, [], ◌∷◌, All, ◌⊎◌}
 use Rattle.lu_base.specs.declared.ids.Node.TheVariants.{Target}
 use Rattle.lu_msg.specs.declared.calls.Call.{Call as CallOf}
-use Rattle.lu_msg.specs.declared.calls.Call.TheVariants.{Read, Write, Cut, Flush, Glimpse}
+use Rattle.lu_msg.specs.declared.calls.Call.TheVariants.{Read, Write, Cut}
 use Rattle.lu_scene.specs.declared.scene.Scene.{Scene}
 use Rattle.lu_scene.specs.declared.scene.SceneLine.{SceneLine}
 use Rattle.lu_scene.specs.declared.scene.SceneLine.TheVariants.{Call, Run, RunSome, Deliver, Lose, Tick, Commit, CommitSome, Crash, Boot, Close, Die}
@@ -35,18 +36,16 @@ IsFile (line ∷ lines) path = MakesFile line path ⊎ IsFile lines path
 
 -- ---- which lines are covered
 
--- a call on names
-abbrev pub IsOnNames : CallOf → Type 0
-IsOnNames (Read handle offset size) = ⊥
-IsOnNames (Write handle offset bytes) = ⊥
-IsOnNames (Cut handle size) = ⊥
-IsOnNames (Flush handle) = ⊥
-IsOnNames (Glimpse handle) = ⊥
-IsOnNames _ = Unit {0}
+-- a call that neither reads nor changes bytes
+abbrev pub IsWithoutBytes : CallOf → Type 0
+IsWithoutBytes (Read handle offset size) = ⊥
+IsWithoutBytes (Write handle offset bytes) = ⊥
+IsWithoutBytes (Cut handle size) = ⊥
+IsWithoutBytes _ = Unit {0}
 
 -- a line that is covered where these are the paths that may lead to files
 abbrev pub IsLineCovered : (Path → Type 0) → SceneLine → Type 0
-IsLineCovered Files (Call client slot call) = IsOnNames call × StatsNoFile Files call
+IsLineCovered Files (Call client slot call) = IsWithoutBytes call × StatsNoFile Files call
 IsLineCovered Files Run = Unit {0}
 IsLineCovered Files (RunSome turns) = Unit {0}
 IsLineCovered Files (Deliver number) = Unit {0}
@@ -91,7 +90,7 @@ ticks_of [] = 0
 ticks_of (Tick (Target zero) ∷ lines) = ticks_of lines + 1
 ticks_of (line ∷ lines) = ticks_of lines
 
--- a line's call asks for no path that is made, if it reads: then it is granted no lock. An `open` or a `close` reads nothing
+-- a line's call asks for no path that is made, if it reads: then it is granted no lock. An `open` reads nothing, nor does a call on a handle
 abbrev pub LineMisses : (Path → Type 0) → SceneLine → Type 0
 LineMisses Made (Call client slot call) = Misses Made call
 LineMisses Made _ = Unit {0}

@@ -1,7 +1,7 @@
--- What is asked and done was asked by a call that began.
-use Rattle.std.proofs.Common.{◌≡◌, ℕ, List, [], ◌∷◌, Option, Some, None, ◌⊎◌, inl, inr, ⊎_elim, refl, sym, subst, ap, ◌∙◌}
-use Rattle.std.specs.Prelude.{nat_eq, true, ◌&&◌, ◌++◌, if◌then◌else◌}
-use Rattle.std.proofs.lemmas.Bool.{cond_both}
+-- What is asked of the metadata target and done by it was asked by a call that began.
+use Rattle.std.proofs.Common.{◌≡◌, ℕ, List, [], ◌∷◌, Option, Some, None, ◌⊎◌, inl, inr, ⊎_elim, refl, sym, subst, ap, ◌∙◌, arith}
+use Rattle.std.specs.Prelude.{nat_eq, true, ◌&&◌, ◌++◌}
+use Rattle.std.proofs.lemmas.Bool.{and_parts, cond_both, eqb-true}
 use Rattle.lu_base.specs.declared.ids.Node.{Node}
 use Rattle.lu_base.specs.declared.ids.Node.TheVariants.{Client, Target}
 use Rattle.lu_base.specs.declared.ids.Who.{Who}
@@ -10,24 +10,25 @@ use Rattle.lu_msg.specs.declared.calls.Call.TheVariants as call
 use Rattle.lu_msg.specs.declared.operations.Op.{Op}
 use Rattle.lu_msg.specs.declared.operations.Op.TheVariants as op
 use Rattle.lu_client_rows.specs.Known.{Notes}
-use Rattle.lu_words.specs.Carried.{Deed, HandleFile, Queued, Flight, Asking, Asked as IsOut, Running}
-use Rattle.lu_words.specs.Words.{Entry, Tick, Begin, Told, Life, Stands, Queues, Flies, Heard, Line, line}
-use Rattle.lu_words.specs.Concerns.{only}
-use Rattle.lu_covered.specs.Calls.{asks, asks_for, call_at, operation_of}
+use Rattle.lu_words.specs.Carried.{Deed, HandleFile, Queued, Flight, Running}
+use Rattle.lu_words.specs.Words.{Entry, Tick, Begin, Life, Queues, Flies, Line, line}
+use Rattle.lu_words.specs.Concerns.{concerns, only}
+use Rattle.lu_covered.specs.Calls.{call_at, operation_of}
 use Rattle.lu_covered.specs.Imports.{rest, queue_at}
 use Rattle.lu_covered.specs.Known.{notes_at, known_answer}
-use Rattle.lu_covered.specs.ClientStates.{queue_of, life_of, is_own}
+use Rattle.lu_covered.specs.ClientStates.{is_own}
 use Rattle.lu_covered.specs.Heads.{Head}
-use Rattle.lu_guards.proofs.Guards.{In, EntryOk}
+use Rattle.lu_guards.proofs.Guards.{In, NamesAskOk, SizeAskOk, QueuesOk, EntryOk}
 use Rattle.lu_guards.proofs.Grown.{Allowed, Grown}
-use Rattle.lu_guards.proofs.Lists.{in_append}
+use Rattle.lu_guards.proofs.Lists.{self, in_append}
 use Rattle.lu_guards.proofs.Parts.{queue_now}
+use Rattle.lu_guards.proofs.ClientLines.{in_rest, asked_names}
 use Rattle.lu_facts.proofs.Groups.{turn, Flew, Acted}
-use Rattle.lu_facts.proofs.All.{holds}
 use Rattle.lu_facts.proofs.Lines.{flew_whole}
-use Rattle.lu_facts.proofs.OnNames.{IsOnNames, becomes_on_names}
-use Rattle.lu_facts.proofs.Sides.{acted_only}
-use Rattle.lu_guards.proofs.ClientLines.{in_rest}
+use Rattle.lu_facts.proofs.All.{holds}
+use Rattle.lu_facts.proofs.Calls.{JustBegan, Began as CallBegan, Touched, Stood, call_cases}
+use Rattle.lu_facts.proofs.OnNames.{IsOnNames, names_on}
+use Rattle.lu_facts.proofs.Sides.{ActedKind, acted_at, acted_only, flew_kind, acted_kind}
 
 -- a call began: reads Begin
 abbrev pub Began : List Line → Call → Type 0
@@ -50,101 +51,92 @@ asked_more l past o a = (a.0, began_more l past a.0 a.1, a.2, a.3)
 
 -- ---- calls
 
-asks_call : (served : Option ℕ) (slot : ℕ) (asking : Asking) (o : Option Running) (r : Running) → asks_for served slot asking o ≡ Some r → (q : Running) × (o ≡ Some q) × (q.call ≡ r.call)
-asks_call None slot asking o r e = (r, e, refl)
-asks_call (Some s) slot asking o r e = cond_both (nat_eq s slot) (asks asking o) o (λ v. v ≡ Some r → (q : Running) × (o ≡ Some q) × (q.call ≡ r.call)) (λ t g. by o g) (λ t g. (r, g, refl)) e
-  where
-    by : (o : Option Running) → asks asking o ≡ Some r → (q : Running) × (o ≡ Some q) × (q.call ≡ r.call)
-    by None g = absurd (cc)
-    by (Some q) g = let same : record q { asking = asking } ≡ r = cc in (q, refl, ap (λ (v : Running). v.call) same)
-
 -- each call that isn't told began
 pub began_call : (head : Head) (past : List Line) → Grown head past → (c slot : ℕ) (r : Running) → call_at c slot past ≡ Some r → Began past r.call
 began_call head [] g c slot r e = absurd (cc)
-began_call head (l ∷ past) g c slot r e = by l.at.node l.entry g.0.ok (began_call head past g.1 c slot) e
+began_call head (l ∷ past) g c slot r e =
+    ⊎_elim
+    (λ (p : call_at c slot past ≡ Some r). began_more l past r.call (began_call head past g.1 c slot r p))
+    (λ (p : CallBegan past l.at l.entry c slot r ⊎ (Touched past l.at.node l.entry c slot r ⊎ Stood past l.at c slot r)). ⊎_elim
+    (λ (q : CallBegan past l.at l.entry c slot r). now l.entry q.newest)
+    (⊎_elim
+    (λ (q : Touched past l.at.node l.entry c slot r). was q.before.call (began_call head past g.1 c slot q.before q.call) q.same)
+    (λ (q : Stood past l.at c slot r). was q.before.call (began_call head past g.1 c slot q.before q.call) q.same))
+    p)
+    (call_cases past l.at.stamp l.at.node l.entry g.0.ok c slot r e)
   where
-    more : (e : Entry) (k : Call) → Began past k → Began (line l.at e ∷ past) k
-    more e k a = began_more (line l.at e) past k a
+    was : (k : Call) → Began past k → k ≡ r.call → Began (l ∷ past) r.call
+    was k b same = subst (λ (v : Call). Began (l ∷ past) v) same (began_more l past k b)
 
-    asks_now : (e : Entry) (served : Option ℕ) (asking : Asking) → ((q : Running) → call_at c slot past ≡ Some q → Began past q.call) → asks_for served slot asking (call_at c slot past) ≡ Some r → Began (line l.at e ∷ past) r.call
-    asks_now e served asking h is = let k = asks_call served slot asking (call_at c slot past) r is in subst (λ (v : Call). Began (line l.at e ∷ past) v) k.2 (more e k.0.call (h k.0 k.1))
+    now : (e : Entry) → JustBegan (line l.at e ∷ past) c slot r → Began (line l.at e ∷ past) r.call
+    now (Begin s running) j = inl (ap (λ (v : Running). v.call) j.2)
+    now e j = absurd j
 
-    by : (node : Node) (e : Entry) → EntryOk past (turn l.at.stamp node) node e → ((q : Running) → call_at c slot past ≡ Some q → Began past q.call) → call_at c slot (line (turn l.at.stamp node) e ∷ past) ≡ Some r → Began (line l.at e ∷ past) r.call
-    by (Client d) (Begin s running) ok h is =
-        cond_both (nat_eq c d) (if nat_eq s slot then Some running else call_at c slot past) (call_at c slot past) (λ v. v ≡ Some r → Began (line l.at (Begin s running) ∷ past) r.call)
-        (λ t. cond_both (nat_eq s slot) (Some running) (call_at c slot past) (λ v. v ≡ Some r → Began (line l.at (Begin s running) ∷ past) r.call)
-        (λ u q. let same : running ≡ r = cc in subst (λ (v : Running). Began (line l.at (Begin s running) ∷ past) v.call) same (inl refl))
-        (λ u q. more (Begin s running) r.call (h r q)))
-        (λ t q. more (Begin s running) r.call (h r q))
-        is
-    by (Client d) (Queues u q) ok h is =
-        cond_both (nat_eq c d) (asks_for q.slot slot IsOut (call_at c slot past)) (call_at c slot past) (λ v. v ≡ Some r → Began (line l.at (Queues u q) ∷ past) r.call)
-        (λ t. asks_now (Queues u q) q.slot IsOut h) (λ t k. more (Queues u q) r.call (h r k)) is
-    by (Client d) (Heard u f k) ok h is =
-        cond_both (nat_eq c d) (asks_for f.slot slot _ (call_at c slot past)) (call_at c slot past) (λ v. v ≡ Some r → Began (line l.at (Heard u f k) ∷ past) r.call)
-        (λ t. asks_now (Heard u f k) f.slot _ h) (λ t j. more (Heard u f k) r.call (h r j)) is
-    by (Client d) (Told s named answer work) ok h is =
-        cond_both (nat_eq c d) (if nat_eq s slot then None else call_at c slot past) (call_at c slot past) (λ v. v ≡ Some r → Began (line l.at (Told s named answer work) ∷ past) r.call)
-        (λ t. cond_both (nat_eq s slot) None (call_at c slot past) (λ v. v ≡ Some r → Began (line l.at (Told s named answer work) ∷ past) r.call) (λ u q. absurd (cc)) (λ u q. more (Told s named answer work) r.call (h r q)))
-        (λ t q. more (Told s named answer work) r.call (h r q))
-        is
-    by (Client d) (Stands s running) ok h is = absurd ok
-    by (Target t) Tick ok h is = more Tick r.call (h r is)
-    by node e ok h is = more e r.call (h r is)
-
--- ---- what is asked and done
+-- ---- what is asked of the metadata target and done by it
 
 -- what is queued was asked by a call that began
-queued_asked : (head : Head) (past : List Line) → Grown head past → (c t : ℕ) (q : Queued) → In q (queue_at c t past) → AskedBy past q.op
-queued_asked head [] g c t q i = absurd i
-queued_asked head (l ∷ past) g c t q i = asked_more l past q.op (by l.at.node l.entry g.0.ok (queued_asked head past g.1 c t q) i)
+queued_asked : (head : Head) (past : List Line) → Grown head past → (c : ℕ) (q : Queued) → In q (queue_at c 0 past) → AskedBy past q.op
+queued_asked head [] g c q i = absurd i
+queued_asked head (l ∷ past) g c q i = asked_more l past q.op (by l.at.node l.entry g.0.ok (queued_asked head past g.1 c q) i)
   where
-    by : (node : Node) (e : Entry) → EntryOk past (turn l.at.stamp node) node e → (In q (queue_at c t past) → AskedBy past q.op) → In q (queue_at c t (line (turn l.at.stamp node) e ∷ past)) → AskedBy past q.op
+    asks : (d v : ℕ) (o : Op) (r : Running) (s : ℕ) → call_at d s past ≡ Some r → 0 ≡ v → NamesAskOk past d v r o ⊎ SizeAskOk v r o → AskedBy past o
+    asks d v o r s is first (inl a) = (r.call, began_call head past g.1 d s r is, r.file, a.becomes)
+    asks d v o r s is first (inr a) = absurd (let high = a.object in omega (arith, first, high))
+
+    by : (node : Node) (e : Entry) → EntryOk past (turn l.at.stamp node) node e → (In q (queue_at c 0 past) → AskedBy past q.op) → In q (queue_at c 0 (line (turn l.at.stamp node) e ∷ past)) → AskedBy past q.op
     by (Client d) (Queues v new) ok h =
-        cond_both (nat_eq c d && nat_eq t v) (queue_at c t past ++ new ∷ []) (queue_at c t past) (λ (qs : List Queued). In q qs → AskedBy past q.op)
+        cond_both (nat_eq c d && nat_eq 0 v) (queue_at c 0 past ++ new ∷ []) (queue_at c 0 past) (λ (qs : List Queued). In q qs → AskedBy past q.op)
         (λ o i. ⊎_elim
-        (λ (j : In q (queue_at c t past)). h j)
-        (λ (j : In q (new ∷ [])). ⊎_elim (λ (w : new ≡ q). (ok.running.call, began_call head past g.1 d ok.slot ok.running ok.call, ok.running.file, ok.becomes ∙ ap (λ (v : Queued). Some v.op) w)) (λ (w : ⊥). absurd w) j)
-        (in_append q (queue_at c t past) (new ∷ []) i))
+        (λ (j : In q (queue_at c 0 past)). h j)
+        (λ (j : In q (new ∷ [])). ⊎_elim (λ (w : new ≡ q). subst (λ (x : Queued). AskedBy past x.op) w (asks d v new.op ok.running ok.slot ok.call (eqb-true 0 v (and_parts (nat_eq c d) (nat_eq 0 v) o).1) ok.asks)) (λ (w : ⊥). absurd w) j)
+        (in_append q (queue_at c 0 past) (new ∷ []) i))
         (λ o. h)
     by (Client d) (Flies v f) ok h =
-        cond_both (nat_eq c d && nat_eq t v) (rest (queue_at c t past)) (queue_at c t past) (λ (qs : List Queued). In q qs → AskedBy past q.op)
-        (λ o i. h (in_rest q (queue_at c t past) i))
+        cond_both (nat_eq c d && nat_eq 0 v) (rest (queue_at c 0 past)) (queue_at c 0 past) (λ (qs : List Queued). In q qs → AskedBy past q.op)
+        (λ o i. h (in_rest q (queue_at c 0 past) i))
         (λ o. h)
     -- a new life begins with nothing queued
-    by (Client d) (Life who) ok h = cond_both (nat_eq c d && true) [] (queue_at c t past) (λ (qs : List Queued). In q qs → AskedBy past q.op) (λ o i. absurd i) (λ o. h)
+    by (Client d) (Life who) ok h = cond_both (nat_eq c d && true) [] (queue_at c 0 past) (λ (qs : List Queued). In q qs → AskedBy past q.op) (λ o i. absurd i) (λ o. h)
     by (Target u) Tick ok h = h
     by node e ok h = h
 
-pub flew_asked : (head : Head) (past : List Line) (who : Who) (f : Flight) → Grown head past → Flew past who f → AskedBy past f.op
+pub flew_asked : (head : Head) (past : List Line) (who : Who) (f : Flight) → Grown head past → Flew (only 0 past) who f → AskedBy past f.op
 flew_asked head [] who f g a = absurd a
-flew_asked head (l ∷ past) who f g a = asked_more l past f.op (by l.at.node l.entry g.0 a (flew_asked head past who f g.1))
+flew_asked head (l ∷ past) who f g a =
+    asked_more l past f.op
+    (cond_both (concerns 0 l.at.node l.entry) (l ∷ only 0 past) (only 0 past) (λ (p : List Line). Flew p who f → AskedBy past f.op)
+    (λ o b. by l.at.node l.entry g.0 o b (flew_asked head past who f g.1))
+    (λ o b. flew_asked head past who f g.1 b)
+    a)
   where
-    by : (node : Node) (e : Entry) → Allowed head past (turn l.at.stamp node) e → Flew (line (turn l.at.stamp node) e ∷ past) who f → (Flew past who f → AskedBy past f.op) → AskedBy past f.op
-    by (Target u) (Flies t q) k a h = absurd k.ok
-    by (Client d) (Flies t q) k a h = ⊎_elim
-        (λ (p : (is_own who past (Client d) ≡ true) × (q ≡ f)).
-        let ok = k.of 0 (ap (λ (v : ℕ). nat_eq 0 v) k.ok) in
-        let i : In ok.front (queue_of (life_of d (only 0 past)) (only 0 past)) = subst (λ (v : List Queued). In ok.front v) (sym ok.queue) (inl refl) in
-        let asked = queued_asked head past g.1 d 0 ok.front (subst (λ (v : List Queued). In ok.front v) (sym (queue_now head d 0 past g.1)) i) in
-        let same : ok.front.op ≡ f.op = ap (λ (v : Flight). v.op) (sym ok.is) ∙ ap (λ (v : Flight). v.op) p.1 in
-        subst (AskedBy past) same asked)
-        (λ (p : Flew past who f). h p)
+    by : (node : Node) (e : Entry) → Allowed head past (turn l.at.stamp node) e → concerns 0 node e ≡ true → Flew (line (turn l.at.stamp node) e ∷ only 0 past) who f → (Flew (only 0 past) who f → AskedBy past f.op) → AskedBy past f.op
+    by (Target u) (Flies t q) k o a h = absurd k.ok
+    by (Client d) (Flies t q) k o a h = ⊎_elim
+        (λ (p : (is_own who (only 0 past) (Client d) ≡ true) × (q ≡ f)).
+        let ok = k.of 0 o in
+        let first = subst (λ (v : List Queued). In ok.front v) (sym (queue_now head d 0 past g.1 ∙ ok.queue)) (inl refl) in
+        let same = ap (λ (v : Flight). v.op) (sym ok.is) ∙ ap (λ (v : Flight). v.op) p.1 in
+        subst (AskedBy past) same (queued_asked head past g.1 d ok.front first))
+        (λ (p : Flew (only 0 past) who f). h p)
         a
-    by _ _ k a h = h a
+    by _ _ k o a h = h a
 
 -- what was done was asked
-pub acted_asked : (head : Head) (past : List Line) (d : Deed) → Grown head past → Acted past d → AskedBy past d.op
+pub acted_asked : (head : Head) (past : List Line) (d : Deed) → Grown head past → Acted (only 0 past) d → AskedBy past d.op
 acted_asked head past d g a =
-    let flew = ((holds head past g).at 0).done.flew d (acted_only head past d g a) in
-    subst (AskedBy past) flew.3 (flew_asked head past d.reply.who flew.0 g (flew_whole 0 past d.reply.who flew.0 flew.1))
+    let flew = ((holds head past g).at 0).done.flew d a in
+    subst (AskedBy past) flew.3 (flew_asked head past d.reply.who flew.0 g flew.1)
 
 -- so it is an operation on names
-pub flew_on_names : (head : Head) (past : List Line) (who : Who) (f : Flight) → Grown head past → Flew past who f → IsOnNames f.op
-flew_on_names head past who f g a = let k = flew_asked head past who f g a in becomes_on_names k.2 k.0 f.op k.3
+pub flew_on_names : (head : Head) (past : List Line) (who : Who) (f : Flight) → Grown head past → Flew (only 0 past) who f → IsOnNames f.op
+flew_on_names head past who f g a = names_on f.op (asked_names f.op (flew_kind head past 0 who f g a))
 
-pub acted_on_names : (head : Head) (past : List Line) (d : Deed) → Grown head past → Acted past d → IsOnNames d.op
-acted_on_names head past d g a = let k = acted_asked head past d g a in becomes_on_names k.2 k.0 d.op k.3
+pub acted_on_names : (head : Head) (past : List Line) (d : Deed) → Grown head past → Acted (only 0 past) d → IsOnNames d.op
+acted_on_names head past d g a = by (acted_kind head past 0 d g a)
+  where
+    by : ActedKind 0 d → IsOnNames d.op
+    by (inl k) = names_on d.op k.1
+    by (inr k) = absurd (let none = k.0 in omega (arith, none))
 
 -- ---- a lookup of the root is known, and so it is never asked
 
@@ -158,6 +150,13 @@ root_known n file (call.Create path (Some stripes)) e none = absurd (cc)
 root_known n (Some f) (call.Close h) e none = absurd (cc)
 root_known n file k e none = absurd (cc)
 
+queues_other : (past : List Line) (c t : ℕ) (q : Queued) → QueuesOk past c t q → q.op ≡ op.Lookup [] → ⊥
+queues_other past c t q ok is = by ok.asks
+  where
+    by : NamesAskOk past c t ok.running q.op ⊎ SizeAskOk t ok.running q.op → ⊥
+    by (inl a) = root_known (notes_at c past) ok.running.file ok.running.call (a.becomes ∙ ap (λ (o : Op). Some o) is) a.unknown
+    by (inr a) = let both : op.Lookup [] ≡ op.Size a.wanted.resource = sym is ∙ a.of_op in absurd (cc)
+
 queued_other : (head : Head) (past : List Line) → Grown head past → (c t : ℕ) (q : Queued) → In q (queue_at c t past) → q.op ≡ op.Lookup [] → ⊥
 queued_other head [] g c t q i = absurd i
 queued_other head (l ∷ past) g c t q i = by l.at.node l.entry g.0.ok (queued_other head past g.1 c t q) i
@@ -167,7 +166,7 @@ queued_other head (l ∷ past) g c t q i = by l.at.node l.entry g.0.ok (queued_o
         cond_both (nat_eq c d && nat_eq t v) (queue_at c t past ++ new ∷ []) (queue_at c t past) (λ (qs : List Queued). In q qs → q.op ≡ op.Lookup [] → ⊥)
         (λ o i is. ⊎_elim
         (λ (j : In q (queue_at c t past)). h j is)
-        (λ (j : In q (new ∷ [])). ⊎_elim (λ (w : new ≡ q). root_known (notes_at d past) ok.running.file ok.running.call (ok.becomes ∙ ap (λ (v : Queued). Some v.op) w ∙ ap (λ (v : Op). Some v) is) ok.unknown) (λ (w : ⊥). w) j)
+        (λ (j : In q (new ∷ [])). ⊎_elim (λ (w : new ≡ q). queues_other past d v new ok (ap (λ (x : Queued). x.op) w ∙ is)) (λ (w : ⊥). w) j)
         (in_append q (queue_at c t past) (new ∷ []) i))
         (λ o. h)
     by (Client d) (Flies v f) ok h =
@@ -187,15 +186,16 @@ flew_other head (l ∷ past) who f g a = by l.at.node l.entry g.0 a (flew_other 
     by (Target u) (Flies t q) k a h = absurd k.ok
     by (Client d) (Flies t q) k a h = ⊎_elim
         (λ (p : (is_own who past (Client d) ≡ true) × (q ≡ f)) is.
-        let ok = k.of 0 (ap (λ (v : ℕ). nat_eq 0 v) k.ok) in
-        let i : In ok.front (queue_of (life_of d (only 0 past)) (only 0 past)) = subst (λ (v : List Queued). In ok.front v) (sym ok.queue) (inl refl) in
-        let same : ok.front.op ≡ f.op = ap (λ (v : Flight). v.op) (sym ok.is) ∙ ap (λ (v : Flight). v.op) p.1 in
-        queued_other head past g.1 d 0 ok.front (subst (λ (v : List Queued). In ok.front v) (sym (queue_now head d 0 past g.1)) i) (same ∙ is))
+        let ok = k.of t (self t) in
+        let first = subst (λ (v : List Queued). In ok.front v) (sym (queue_now head d t past g.1 ∙ ok.queue)) (inl refl) in
+        let same = ap (λ (v : Flight). v.op) (sym ok.is) ∙ ap (λ (v : Flight). v.op) p.1 in
+        queued_other head past g.1 d t ok.front first (same ∙ is))
         (λ (p : Flew past who f). h p)
         a
     by _ _ k a h = h a
 
 pub acted_other : (head : Head) (past : List Line) (d : Deed) → Grown head past → Acted past d → d.op ≡ op.Lookup [] → ⊥
 acted_other head past d g a is =
-    let flew = ((holds head past g).at 0).done.flew d (acted_only head past d g a) in
-    flew_other head past d.reply.who flew.0 g (flew_whole 0 past d.reply.who flew.0 flew.1) (flew.3 ∙ is)
+    let at = acted_at head past d g a in
+    let flew = ((holds head past g).at at.0).done.flew d (acted_only head past d at.0 g a at.1) in
+    flew_other head past d.reply.who flew.0 g (flew_whole at.0 past d.reply.who flew.0 flew.1) (flew.3 ∙ is)

@@ -1,5 +1,5 @@
 -- What a client's calls have asked, at all targets: what is queued and in flight is for calls that wait for it, one
--- for each, each at one target. In the turn that ends a life its calls are told first, and then what they asked is forgotten.
+-- for each, each at the target that the call asks where it stands. In the turn that ends a life its calls are told first, and then what they asked is forgotten.
 use Rattle.std.proofs.Common.{◌≡◌, ℕ, Bool, true, false, List, [], ◌∷◌, ◌++◌, Option, Some, None, ◌⊎◌, inl, inr, ⊎_elim, refl, sym, subst, ap, ◌∙◌, arith}
 use Rattle.std.specs.Prelude.{nat_eq, not, ◌&&◌}
 use Rattle.std.proofs.lemmas.Bool.{and_parts, cond_both, cond-true, cond-false, eqb-true, not-true}
@@ -10,15 +10,18 @@ use Rattle.lu_base.specs.declared.ids.Node.TheVariants.{Client, Target}
 use Rattle.lu_base.specs.declared.ids.Stamp.{Stamp}
 use Rattle.lu_base.specs.declared.ids.Who.{Who}
 use Rattle.lu_msg.specs.declared.answers.Answer.{Answer}
+use Rattle.lu_msg.specs.declared.calls.Call.{Call}
 use Rattle.lu_msg.specs.declared.messages.Reply.{Reply as ReplyTo}
 use Rattle.lu_msg.specs.declared.operations.Op.{Op}
-use Rattle.lu_words.specs.Carried.{Unasked, Asked, Answered, Queued, Flight, Work, Bad, Running}
+use Rattle.lu_msg.specs.declared.operations.Op.TheVariants as op
+use Rattle.lu_held.specs.declared.locks.Use.{Use}
+use Rattle.lu_words.specs.Carried.{HandleFile, Unasked, Asked, Answered, Queued, Flight, Stage, Plain, Sizes, Work, Running}
 use Rattle.lu_words.specs.Words.{Entry, Tick, Begin, Stands, Queues, Flies, Heard, Told, Life, Line, line}
 use Rattle.lu_words.specs.Concerns.{only}
-use Rattle.lu_covered.specs.Calls.{asks, asks_for, call_after, call_at, life_at}
+use Rattle.lu_covered.specs.Calls.{Errand, names_errand, size_errand, errand_at, errand, operation_of, becomes, asks, asks_for, call_after, call_at, life_at}
 use Rattle.lu_covered.specs.Imports.{rest, queue_at, without_flight, flights_at}
 use Rattle.lu_covered.specs.Heads.{Head}
-use Rattle.lu_guards.proofs.Guards.{In, Noticed, Ending, Closes, QueuesOk, EntryOk}
+use Rattle.lu_guards.proofs.Guards.{In, Noticed, Ending, Closes, NamesAskOk, SizeAskOk, QueuesOk, SizesSoFar, EntryOk}
 use Rattle.lu_guards.proofs.StoryGuards.{FliesOk}
 use Rattle.lu_guards.proofs.Grown.{Grown}
 use Rattle.lu_guards.proofs.Lists.{self, in_append, in_filter}
@@ -40,8 +43,8 @@ Before past new = (c : ℕ) → (Ending new c → ⊥) → Ending past c → ⊥
 asks_same : (past new : List Line) → Before past new → ((c slot : ℕ) → call_at c slot new ≡ call_at c slot past) → ((c t : ℕ) → queue_at c t new ≡ queue_at c t past) → ((c t : ℕ) → flights_at c t new ≡ flights_at c t past) → Asks past → Asks new
 asks_same past new b calls queues flights h =
     record {
-      fly_calls = λ c t f o i. call c f.slot f.op (h.fly_calls c t f (b c o) (old_flight c t f i));
-      queue_calls = λ c t q o i. call c q.slot q.op (h.queue_calls c t q (b c o) (old_queued c t q i));
+      fly_calls = λ c t f o i. call c t f.slot f.op (h.fly_calls c t f (b c o) (old_flight c t f i));
+      queue_calls = λ c t q o i. call c t q.slot q.op (h.queue_calls c t q (b c o) (old_queued c t q i));
       fly_one = λ c t u f g o i j. h.fly_one c t u f g (b c o) (old_flight c t f i) (old_flight c u g j);
       queue_one = λ c t u q g o i j. h.queue_one c t u q g (b c o) (old_queued c t q i) (old_queued c u g j);
       queue_apart = λ c t o. subst Apart (sym (queues c t)) (h.queue_apart c t (b c o));
@@ -54,9 +57,9 @@ asks_same past new b calls queues flights h =
     old_queued : (c t : ℕ) (q : Queued) → In q (queue_at c t new) → In q (queue_at c t past)
     old_queued c t q i = subst (λ (qs : List Queued). In q qs) (queues c t) i
 
-    call : (c : ℕ) (s : Option ℕ) (o : Op) → CallOf past c s o → CallOf new c s o
-    call c None o k = absurd k
-    call c (Some slot) o k = (k.0, calls c slot ∙ k.1, k.2, k.3)
+    call : (c t : ℕ) (s : Option ℕ) (o : Op) → CallOf past c t s o → CallOf new c t s o
+    call c t None o k = absurd k
+    call c t (Some slot) o k = (k.0, calls c slot ∙ k.1, k.2, k.3)
 
 -- ---- what no call that waits is on
 
@@ -67,24 +70,42 @@ clear : (past : List Line) (d s c slot : ℕ) (r : Running) → NotAsked past d 
 clear past d s c slot r n k a e q = n r (subst (λ v. call_at v s past ≡ Some r) e (subst (λ v. call_at c v past ≡ Some r) (sym q) k)) a
 
 -- a call that waits is as it was, where the entry leaves it
-call_of_stays : (past : List Line) (stamp : Stamp) (d : ℕ) (e : Entry) (c : ℕ) (s : Option ℕ) (o : Op)
+call_of_stays : (past : List Line) (stamp : Stamp) (d : ℕ) (e : Entry) (c t : ℕ) (s : Option ℕ) (o : Op)
     → ((slot : ℕ) (r : Running) → s ≡ Some slot → call_at c slot past ≡ Some r → r.asking ≡ Asked → c ≡ d → call_after slot (call_at c slot past) e ≡ call_at c slot past)
-    → CallOf past c s o → CallOf (line (turn stamp (Client d)) e ∷ past) c s o
-call_of_stays past stamp d e c None o f k = absurd k
-call_of_stays past stamp d e c (Some slot) o f k = (k.0, call_stays past stamp d e c slot (f slot k.0 refl k.1 k.2) ∙ k.1, k.2, k.3)
+    → CallOf past c t s o → CallOf (line (turn stamp (Client d)) e ∷ past) c t s o
+call_of_stays past stamp d e c t None o f k = absurd k
+call_of_stays past stamp d e c t (Some slot) o f k = (k.0, call_stays past stamp d e c slot (f slot k.0 refl k.1 k.2) ∙ k.1, k.2, k.3)
 
 -- ---- a call begins
 
-begin_call : (past : List Line) (stamp : Stamp) (d s : ℕ) (running : Running) → NotAsked past d s → (c : ℕ) (served : Option ℕ) (o : Op) → CallOf past c served o → CallOf (line (turn stamp (Client d)) (Begin s running) ∷ past) c served o
-begin_call past stamp d s running n c served o =
-    call_of_stays past stamp d (Begin s running) c served o
+begin_call : (past : List Line) (stamp : Stamp) (d s : ℕ) (running : Running) → NotAsked past d s → (c t : ℕ) (served : Option ℕ) (o : Op) → CallOf past c t served o → CallOf (line (turn stamp (Client d)) (Begin s running) ∷ past) c t served o
+begin_call past stamp d s running n c t served o =
+    call_of_stays past stamp d (Begin s running) c t served o
     (λ slot r is k a e. cond_both (nat_eq s slot) (Some running) (call_at c slot past) (λ v. v ≡ call_at c slot past) (λ t. absurd (clear past d s c slot r n k a e (eqb-true s slot t))) (λ t. refl))
 
 asks_begin : (past : List Line) (stamp : Stamp) (d s : ℕ) (running : Running) → let new = line (turn stamp (Client d)) (Begin s running) ∷ past in Before past new → NotAsked past d s → Asks past → Asks new
 asks_begin past stamp d s running b n h =
     record {
-      fly_calls = λ c t f o i. begin_call past stamp d s running n c f.slot f.op (h.fly_calls c t f (b c o) i);
-      queue_calls = λ c t q o i. begin_call past stamp d s running n c q.slot q.op (h.queue_calls c t q (b c o) i);
+      fly_calls = λ c t f o i. begin_call past stamp d s running n c t f.slot f.op (h.fly_calls c t f (b c o) i);
+      queue_calls = λ c t q o i. begin_call past stamp d s running n c t q.slot q.op (h.queue_calls c t q (b c o) i);
+      fly_one = λ c t u f g o. h.fly_one c t u f g (b c o);
+      queue_one = λ c t u q g o. h.queue_one c t u q g (b c o);
+      queue_apart = λ c t o. h.queue_apart c t (b c o);
+      apart = λ c t u q f o. h.apart c t u q f (b c o);
+    }
+
+-- ---- a call stands further on: it waits for no answer
+
+stands_call : (past : List Line) (stamp : Stamp) (d s : ℕ) (running : Running) → NotAsked past d s → (c t : ℕ) (served : Option ℕ) (o : Op) → CallOf past c t served o → CallOf (line (turn stamp (Client d)) (Stands s running) ∷ past) c t served o
+stands_call past stamp d s running n c t served o =
+    call_of_stays past stamp d (Stands s running) c t served o
+    (λ slot r is k a e. cond_both (nat_eq s slot) (Some running) (call_at c slot past) (λ v. v ≡ call_at c slot past) (λ t. absurd (clear past d s c slot r n k a e (eqb-true s slot t))) (λ t. refl))
+
+asks_stands : (past : List Line) (stamp : Stamp) (d s : ℕ) (running : Running) → let new = line (turn stamp (Client d)) (Stands s running) ∷ past in Before past new → NotAsked past d s → Asks past → Asks new
+asks_stands past stamp d s running b n h =
+    record {
+      fly_calls = λ c t f o i. stands_call past stamp d s running n c t f.slot f.op (h.fly_calls c t f (b c o) i);
+      queue_calls = λ c t q o i. stands_call past stamp d s running n c t q.slot q.op (h.queue_calls c t q (b c o) i);
       fly_one = λ c t u f g o. h.fly_one c t u f g (b c o);
       queue_one = λ c t u q g o. h.queue_one c t u q g (b c o);
       queue_apart = λ c t o. h.queue_apart c t (b c o);
@@ -93,16 +114,17 @@ asks_begin past stamp d s running b n h =
 
 -- ---- a call is told
 
-told_call : (past : List Line) (stamp : Stamp) (d s : ℕ) (named : At) (answer : Answer) (work : Option Work) → NotAsked past d s → (c : ℕ) (served : Option ℕ) (o : Op) → CallOf past c served o → CallOf (line (turn stamp (Client d)) (Told s named answer work) ∷ past) c served o
-told_call past stamp d s named answer work n c served o =
-    call_of_stays past stamp d (Told s named answer work) c served o
+told_call : (past : List Line) (stamp : Stamp) (d s : ℕ) (named : At) (answer : Answer) (work : Option Work) → NotAsked past d s → (c t : ℕ) (served : Option ℕ) (o : Op) → CallOf past c t served o
+    → CallOf (line (turn stamp (Client d)) (Told s named answer work) ∷ past) c t served o
+told_call past stamp d s named answer work n c t served o =
+    call_of_stays past stamp d (Told s named answer work) c t served o
     (λ slot r is k a e. cond_both (nat_eq s slot) None (call_at c slot past) (λ v. v ≡ call_at c slot past) (λ t. absurd (clear past d s c slot r n k a e (eqb-true s slot t))) (λ t. refl))
 
 asks_told : (past : List Line) (stamp : Stamp) (d s : ℕ) (named : At) (answer : Answer) (work : Option Work) → let new = line (turn stamp (Client d)) (Told s named answer work) ∷ past in Before past new → NotAsked past d s → Asks past → Asks new
 asks_told past stamp d s named answer work b n h =
     record {
-      fly_calls = λ c t f o i. told_call past stamp d s named answer work n c f.slot f.op (h.fly_calls c t f (b c o) i);
-      queue_calls = λ c t q o i. told_call past stamp d s named answer work n c q.slot q.op (h.queue_calls c t q (b c o) i);
+      fly_calls = λ c t f o i. told_call past stamp d s named answer work n c t f.slot f.op (h.fly_calls c t f (b c o) i);
+      queue_calls = λ c t q o i. told_call past stamp d s named answer work n c t q.slot q.op (h.queue_calls c t q (b c o) i);
       fly_one = λ c t u f g o. h.fly_one c t u f g (b c o);
       queue_one = λ c t u q g o. h.queue_one c t u q g (b c o);
       queue_apart = λ c t o. h.queue_apart c t (b c o);
@@ -114,8 +136,8 @@ asks_ended : (past : List Line) (stamp : Stamp) (d s : ℕ) (named : At) (answer
     Before past new → Noticed past (turn stamp (Client d)) (life_at d past) → Asks past → Asks new
 asks_ended past stamp d s named answer work b ends h =
     record {
-      fly_calls = λ c t f o i. other_call c f.slot f.op o (h.fly_calls c t f (b c o) i);
-      queue_calls = λ c t q o i. other_call c q.slot q.op o (h.queue_calls c t q (b c o) i);
+      fly_calls = λ c t f o i. other_call c t f.slot f.op o (h.fly_calls c t f (b c o) i);
+      queue_calls = λ c t q o i. other_call c t q.slot q.op o (h.queue_calls c t q (b c o) i);
       fly_one = λ c t u f g o. h.fly_one c t u f g (b c o);
       queue_one = λ c t u q g o. h.queue_one c t u q g (b c o);
       queue_apart = λ c t o. h.queue_apart c t (b c o);
@@ -128,8 +150,8 @@ asks_ended past stamp d s named answer work b ends h =
     ending : (c : ℕ) → c ≡ d → Ending (told ∷ past) c
     ending c e = (ap Client (sym e), subst (λ v. Noticed (told ∷ past) (turn stamp (Client d)) (life_at v past)) (sym e) (noticed_more told past (turn stamp (Client d)) (life_at d past) ends))
 
-    other_call : (c : ℕ) (served : Option ℕ) (o : Op) → (Ending (told ∷ past) c → ⊥) → CallOf past c served o → CallOf (told ∷ past) c served o
-    other_call c served o out k = call_of_stays past stamp d (Told s named answer work) c served o (λ slot r is w a e. absurd (out (ending c e))) k
+    other_call : (c t : ℕ) (served : Option ℕ) (o : Op) → (Ending (told ∷ past) c → ⊥) → CallOf past c t served o → CallOf (told ∷ past) c t served o
+    other_call c t served o out k = call_of_stays past stamp d (Told s named answer work) c t served o (λ slot r is w a e. absurd (out (ending c e))) k
 
 -- ---- a target's own line
 
@@ -138,6 +160,50 @@ own_import c d t v e = let p = and_parts (nat_eq c d) (nat_eq t v) e in (eqb-tru
 
 other_import : (c d t v : ℕ) → nat_eq c d && nat_eq t v ≡ false → c ≡ d → t ≡ v → ⊥
 other_import c d t v e p q = grind (arith, nat_tests)
+
+-- ---- what a call asks
+
+-- it is so of calls that stand alike
+errand_same : (s : Stage) (q r : Running) → q.call ≡ r.call → q.file ≡ r.file → errand_at s q ≡ errand_at s r
+errand_same Plain q r c f = ap (λ (v : Call). names_errand (operation_of q.file v)) c ∙ ap (λ (v : Option HandleFile). names_errand (operation_of v r.call)) f
+errand_same (Sizes w) q r c f = refl
+errand_same _ q r c f = refl
+
+-- a call on names asks the metadata target
+pub plain_errand : (r : Running) (t : ℕ) (o : Op) → r.stage ≡ Plain → errand r ≡ Some (record { target = t; op = o }) → (t ≡ 0) × (becomes r ≡ Some o)
+plain_errand r t o plain e = by (becomes r) refl (sym (ap (λ (v : Stage). errand_at v r) plain) ∙ e)
+  where
+    by : (b : Option Op) → becomes r ≡ b → names_errand b ≡ Some (record { target = t; op = o }) → (t ≡ 0) × (becomes r ≡ Some o)
+    by None is q = absurd (cc)
+    by (Some p) is q =
+        let same : record { target = 0; op = p } ≡ record { target = t; op = o } = cc in
+        (ap (λ (v : Errand). v.target) (sym same), is ∙ ap (λ (v : Errand). Some v.op) same)
+
+-- a glimpse asks for the first object that is left
+pub record OfFirst (w : Work) (t : ℕ) (o : Op) : Type 0 where
+  pub wanted : Use
+  pub left : List Use
+  pub first : w.left ≡ wanted ∷ left
+  pub of_target : t ≡ wanted.target.0
+  pub of_op : o ≡ op.Size wanted.resource
+
+pub sizes_errand : (r : Running) (w : Work) (t : ℕ) (o : Op) → r.stage ≡ Sizes w → errand r ≡ Some (record { target = t; op = o }) → OfFirst w t o
+sizes_errand r w t o sizes e = by w.left refl (sym (ap (λ (v : Stage). errand_at v r) sizes) ∙ e)
+  where
+    by : (left : List Use) → w.left ≡ left → size_errand left ≡ Some (record { target = t; op = o }) → OfFirst w t o
+    by [] is q = absurd (cc)
+    by (wanted ∷ left) is q =
+        let same : record { target = wanted.target.0; op = op.Size wanted.resource } ≡ record { target = t; op = o } = cc in
+        record { wanted = wanted; left = left; first = is; of_target = ap (λ (v : Errand). v.target) (sym same); of_op = ap (λ (v : Errand). v.op) (sym same) }
+
+-- no other call asks
+pub stages_errand : (r : Running) (e : Errand) → errand r ≡ Some e → (r.stage ≡ Plain) ⊎ ((w : Work) × (r.stage ≡ Sizes w))
+stages_errand r e is = by r.stage refl is
+  where
+    by : (s : Stage) → r.stage ≡ s → errand_at s r ≡ Some e → (r.stage ≡ Plain) ⊎ ((w : Work) × (r.stage ≡ Sizes w))
+    by Plain q k = inl q
+    by (Sizes w) q k = inr (w, q)
+    by s q k = absurd (cc)
 
 -- ---- one more in the queue
 
@@ -153,18 +219,21 @@ module _ (past : List Line) (stamp : Stamp) (d v : ℕ) (q : Queued) (b : Before
   queues = line (turn stamp (Client d)) (Queues v q) ∷ past
 
   -- no call that waits is on the slot that it serves
-  fresh : (c : ℕ) (s : Option ℕ) (o : Op) → c ≡ d → s ≡ q.slot → CallOf past c s o → ⊥
-  fresh c None o e x k = absurd k
-  fresh c (Some slot) o e x k =
+  fresh : (c t : ℕ) (s : Option ℕ) (o : Op) → c ≡ d → s ≡ q.slot → CallOf past c t s o → ⊥
+  fresh c t None o e x k = absurd k
+  fresh c t (Some slot) o e x k =
       let y : Some slot ≡ Some ok.slot = x ∙ ok.serves in
       let z : slot ≡ ok.slot = cc in
       let w : Some k.0 ≡ Some ok.running = sym k.1 ∙ ap (λ j. call_at j slot past) e ∙ ap (λ j. call_at d j past) z ∙ ok.call in
       let same : k.0 ≡ ok.running = cc in
-      let n : Unasked ≡ Asked = sym ok.new ∙ ap (λ (r : Running). r.asking) (sym same) ∙ k.2 in
-      absurd (cc)
+      still ok.asks (ap (λ (r : Running). r.asking) (sym same) ∙ k.2)
+    where
+      still : NamesAskOk past d v ok.running q.op ⊎ SizeAskOk v ok.running q.op → ok.running.asking ≡ Asked → ⊥
+      still (inl a) out = let n : Unasked ≡ Asked = sym a.new ∙ out in absurd (cc)
+      still (inr a) out = a.still out
 
-  queue_call : (c : ℕ) (s : Option ℕ) (o : Op) → CallOf past c s o → CallOf queues c s o
-  queue_call c s o k = call_of_stays past stamp d (Queues v q) c s o (λ slot r is w a e. asks_other q.slot slot Asked (call_at c slot past) (λ n. fresh c s o e (is ∙ sym n) k)) k
+  queue_call : (c t : ℕ) (s : Option ℕ) (o : Op) → CallOf past c t s o → CallOf queues c t s o
+  queue_call c t s o k = call_of_stays past stamp d (Queues v q) c t s o (λ slot r is w a e. asks_other q.slot slot Asked (call_at c slot past) (λ n. fresh c t s o e (is ∙ sym n) k)) k
 
   call_new : call_at d ok.slot queues ≡ Some (record ok.running { asking = Asked })
   call_new =
@@ -173,8 +242,17 @@ module _ (past : List Line) (stamp : Stamp) (d v : ℕ) (q : Queued) (b : Before
       ∙ cond-true (nat_eq ok.slot ok.slot) (asks Asked (call_at d ok.slot past)) (call_at d ok.slot past) (self ok.slot)
       ∙ ap (λ (r : Option Running). asks Asked r) ok.call
 
-  mine : CallOf queues d q.slot q.op
-  mine = subst (λ (s : Option ℕ). CallOf queues d s q.op) (sym ok.serves) (record ok.running { asking = Asked }, call_new, refl, ok.becomes)
+  asks_it : errand (record ok.running { asking = Asked }) ≡ Some (record { target = v; op = q.op })
+  asks_it = errand_same ok.running.stage (record ok.running { asking = Asked }) ok.running refl refl ∙ by ok.asks
+    where
+      by : NamesAskOk past d v ok.running q.op ⊎ SizeAskOk v ok.running q.op → errand ok.running ≡ Some (record { target = v; op = q.op })
+      by (inl a) = ap (λ (s : Stage). errand_at s ok.running) a.good ∙ ap names_errand a.becomes ∙ ap (λ (t : ℕ). Some (record { target = t; op = q.op })) (sym a.names)
+      by (inr a) =
+          ap (λ (s : Stage). errand_at s ok.running) a.stage ∙ ap size_errand a.first
+          ∙ ap (λ (t : ℕ). Some (record { target = t; op = op.Size a.wanted.resource })) (sym a.of_target) ∙ ap (λ (o : Op). Some (record { target = v; op = o })) (sym a.of_op)
+
+  mine : CallOf queues d v q.slot q.op
+  mine = subst (λ (s : Option ℕ). CallOf queues d v s q.op) (sym ok.serves) (record ok.running { asking = Asked }, call_new, refl, asks_it)
 
   queue_in : (c t : ℕ) (g : Queued) → In g (queue_at c t queues) → ((c ≡ d) × (t ≡ v) × (q ≡ g)) ⊎ In g (queue_at c t past)
   queue_in c t g =
@@ -185,27 +263,27 @@ module _ (past : List Line) (stamp : Stamp) (d v : ℕ) (q : Queued) (b : Before
   asks_queues : Asks queues
   asks_queues =
       record {
-        fly_calls = λ c t f n i. queue_call c f.slot f.op (h.fly_calls c t f (b c n) i);
+        fly_calls = λ c t f n i. queue_call c t f.slot f.op (h.fly_calls c t f (b c n) i);
         queue_calls = λ c t g n i. ⊎_elim
-            (λ (p : (c ≡ d) × (t ≡ v) × (q ≡ g)). subst (λ (w : Queued). CallOf queues c w.slot w.op) p.2 (subst (λ w. CallOf queues w q.slot q.op) (sym p.0) mine))
-            (λ (j : In g (queue_at c t past)). queue_call c g.slot g.op (h.queue_calls c t g (b c n) j))
+            (λ (p : (c ≡ d) × (t ≡ v) × (q ≡ g)). subst (λ (w : Queued). CallOf queues c t w.slot w.op) p.2 (subst (λ w. CallOf queues c w q.slot q.op) (sym p.1) (subst (λ w. CallOf queues w v q.slot q.op) (sym p.0) mine)))
+            (λ (j : In g (queue_at c t past)). queue_call c t g.slot g.op (h.queue_calls c t g (b c n) j))
             (queue_in c t g i);
         fly_one = λ c t u f g n. h.fly_one c t u f g (b c n);
         queue_one = λ c t u g k n i j e. ⊎_elim
             (λ (p : (c ≡ d) × (t ≡ v) × (q ≡ g)). ⊎_elim
             (λ (r : (c ≡ d) × (u ≡ v) × (q ≡ k)). p.1 ∙ sym r.1)
-            (λ (y : In k (queue_at c u past)). absurd (fresh c k.slot k.op p.0 (sym e ∙ ap (λ (w : Queued). w.slot) (sym p.2)) (h.queue_calls c u k (b c n) y)))
+            (λ (y : In k (queue_at c u past)). absurd (fresh c u k.slot k.op p.0 (sym e ∙ ap (λ (w : Queued). w.slot) (sym p.2)) (h.queue_calls c u k (b c n) y)))
             (queue_in c u k j))
             (λ (x : In g (queue_at c t past)). ⊎_elim
-            (λ (r : (c ≡ d) × (u ≡ v) × (q ≡ k)). absurd (fresh c g.slot g.op r.0 (e ∙ ap (λ (w : Queued). w.slot) (sym r.2)) (h.queue_calls c t g (b c n) x)))
+            (λ (r : (c ≡ d) × (u ≡ v) × (q ≡ k)). absurd (fresh c t g.slot g.op r.0 (e ∙ ap (λ (w : Queued). w.slot) (sym r.2)) (h.queue_calls c t g (b c n) x)))
             (λ (y : In k (queue_at c u past)). h.queue_one c t u g k (b c n) x y e)
             (queue_in c u k j))
             (queue_in c t g i);
         queue_apart = λ c t n. cond_both (nat_eq c d && nat_eq t v) (queue_at c t past ++ q ∷ []) (queue_at c t past) Apart
-            (λ o. apart_snoc (queue_at c t past) q (h.queue_apart c t (b c n)) (λ g i e. fresh c g.slot g.op (own_import c d t v o).0 e (h.queue_calls c t g (b c n) i)))
+            (λ o. apart_snoc (queue_at c t past) q (h.queue_apart c t (b c n)) (λ g i e. fresh c t g.slot g.op (own_import c d t v o).0 e (h.queue_calls c t g (b c n) i)))
             (λ o. h.queue_apart c t (b c n));
         apart = λ c t u g f n i j e. ⊎_elim
-            (λ (p : (c ≡ d) × (t ≡ v) × (q ≡ g)). fresh c f.slot f.op p.0 (sym e ∙ ap (λ (w : Queued). w.slot) (sym p.2)) (h.fly_calls c u f (b c n) j))
+            (λ (p : (c ≡ d) × (t ≡ v) × (q ≡ g)). fresh c u f.slot f.op p.0 (sym e ∙ ap (λ (w : Queued). w.slot) (sym p.2)) (h.fly_calls c u f (b c n) j))
             (λ (k : In g (queue_at c t past)). h.apart c t u g f (b c n) k j e)
             (queue_in c t g i);
       }
@@ -220,7 +298,7 @@ record Front (past : List Line) (d v : ℕ) (f : Flight) : Type 0 where
   slot : f.slot ≡ front.slot
   op : f.op ≡ front.op
 
-front_at : (head : Head) (past : List Line) (d v : ℕ) (f : Flight) → Grown head past → FliesOk head (only v past) d f → Front past d v f
+front_at : (head : Head) (past : List Line) (d v : ℕ) (f : Flight) → Grown head past → FliesOk head (only v past) d v f → Front past d v f
 front_at head past d v f g ok = record { front = ok.front; more = ok.more; queue = queue_now head d v past g ∙ ok.queue; slot = ap (λ (g : Flight). g.slot) ok.is; op = ap (λ (g : Flight). g.op) ok.is }
 
 apart_rest : (queue : List Queued) → Apart queue → Apart (rest queue)
@@ -260,14 +338,16 @@ module _ (past : List Line) (stamp : Stamp) (d v : ℕ) (f : Flight) (b : Before
   clash : (c t : ℕ) (k : Flight) → (Ending flies c → ⊥) → In k (flights_at c t past) → c ≡ d → k.slot ≡ f.slot → ⊥
   clash c t k n i e s = h.apart d v t ok.front k (here c e n) front_in (subst (λ w. In k (flights_at w t past)) e i) (sym (s ∙ ok.slot))
 
-  mine_flies : (Ending flies d → ⊥) → CallOf flies d f.slot f.op
-  mine_flies n = subst (λ (s : Option ℕ). CallOf flies d s f.op) (sym ok.slot) (subst (λ (o : Op). CallOf flies d ok.front.slot o) (sym ok.op) (h.queue_calls d v ok.front (b d n) front_in))
+  mine_flies : (Ending flies d → ⊥) → CallOf flies d v f.slot f.op
+  mine_flies n = subst (λ (s : Option ℕ). CallOf flies d v s f.op) (sym ok.slot) (subst (λ (o : Op). CallOf flies d v ok.front.slot o) (sym ok.op) (h.queue_calls d v ok.front (b d n) front_in))
 
   asks_flies : Asks flies
   asks_flies =
       record {
         fly_calls = λ c t g n i. ⊎_elim
-            (λ (p : (c ≡ d) × (t ≡ v) × (f ≡ g)). subst (λ (w : Flight). CallOf flies c w.slot w.op) p.2 (subst (λ w. (Ending flies w → ⊥) → CallOf flies w f.slot f.op) (sym p.0) mine_flies n))
+            (λ (p : (c ≡ d) × (t ≡ v) × (f ≡ g)).
+            subst (λ (w : Flight). CallOf flies c t w.slot w.op) p.2
+            (subst (λ w. CallOf flies c w f.slot f.op) (sym p.1) (subst (λ w. (Ending flies w → ⊥) → CallOf flies w v f.slot f.op) (sym p.0) mine_flies n)))
             (λ (j : In g (flights_at c t past)). h.fly_calls c t g (b c n) j)
             (fly_in c t g i);
         queue_calls = λ c t q n i. h.queue_calls c t q (b c n) (rest_in c t q i);
@@ -312,14 +392,14 @@ module _ (past : List Line) (stamp : Stamp) (d v : ℕ) (f : Flight) (r : ReplyT
       one : In g (flights_at c t past) → (t ≡ v) × (g.xid ≡ f.xid)
       one j = h.fly_one d t v g f (there c e n) (subst (λ w. In g (flights_at w t past)) e j) flying s
 
-  heard_call : (c : ℕ) (s : Option ℕ) (o : Op) → (c ≡ d → s ≡ f.slot → ⊥) → CallOf past c s o → CallOf heard c s o
-  heard_call c s o n = call_of_stays past stamp d (Heard v f r) c s o (λ slot q is k a e. asks_other f.slot slot (Answered v r) (call_at c slot past) (λ w. n e (is ∙ sym w)))
+  heard_call : (c t : ℕ) (s : Option ℕ) (o : Op) → (c ≡ d → s ≡ f.slot → ⊥) → CallOf past c t s o → CallOf heard c t s o
+  heard_call c t s o n = call_of_stays past stamp d (Heard v f r) c t s o (λ slot q is k a e. asks_other f.slot slot (Answered v r) (call_at c slot past) (λ w. n e (is ∙ sym w)))
 
   asks_heard : Asks heard
   asks_heard =
       record {
-        fly_calls = λ c t g n i. heard_call c g.slot g.op (λ e s. gone c t g n i e s) (h.fly_calls c t g (b c n) (less c t g i));
-        queue_calls = λ c t q n i. heard_call c q.slot q.op (λ e s. h.apart d t v q f (there c e n) (subst (λ w. In q (queue_at w t past)) e i) flying s) (h.queue_calls c t q (b c n) i);
+        fly_calls = λ c t g n i. heard_call c t g.slot g.op (λ e s. gone c t g n i e s) (h.fly_calls c t g (b c n) (less c t g i));
+        queue_calls = λ c t q n i. heard_call c t q.slot q.op (λ e s. h.apart d t v q f (there c e n) (subst (λ w. In q (queue_at w t past)) e i) flying s) (h.queue_calls c t q (b c n) i);
         fly_one = λ c t u g k n i j. h.fly_one c t u g k (b c n) (less c t g i) (less c u k j);
         queue_one = λ c t u q g n. h.queue_one c t u q g (b c n);
         queue_apart = λ c t n. h.queue_apart c t (b c n);
@@ -361,8 +441,35 @@ module _ (past : List Line) (stamp : Stamp) (d : ℕ) (new : Who) (closes : Clos
 
 -- ---- each line
 
-bad_of : (past : List Line) (c slot : ℕ) (r q : Running) → call_at c slot past ≡ Some r → call_at c slot past ≡ Some q → q.stage ≡ Bad → r.stage ≡ Bad
-bad_of past c slot r q k w bad = let e : Some q ≡ Some r = sym w ∙ k in let same : q ≡ r = cc in subst (λ (v : Running). v.stage ≡ Bad) same bad
+-- the call on the slot, where it doesn't wait
+not_asked : (past : List Line) (c slot : ℕ) (q : Running) → call_at c slot past ≡ Some q → (q.asking ≡ Asked → ⊥) → NotAsked past c slot
+not_asked past c slot q w n r k a = let e : Some q ≡ Some r = sym w ∙ k in let same : q ≡ r = cc in n (ap (λ (v : Running). v.asking) same ∙ a)
+
+new_not : (q : Running) → q.asking ≡ Unasked → q.asking ≡ Asked → ⊥
+new_not q new a = absurd (cc)
+
+answered_not : (q : Running) (t : ℕ) (r : ReplyTo) → q.asking ≡ Answered t r → q.asking ≡ Asked → ⊥
+answered_not q t r k a = absurd (cc)
+
+-- a glimpse goes on as it begins, or once it is answered
+sizing_not : (past : List Line) (at : At) (q : Running) (sizes : List ℕ) → SizesSoFar past at q sizes → q.asking ≡ Asked → ⊥
+sizing_not past at q sizes (inl k) = new_not q k.1
+sizing_not past at q sizes (inr k) = answered_not q k.target k.reply k.answered
+
+module _ (head : Head) (past : List Line) (stamp : Stamp) (c s : ℕ) (named : At) (answer : Answer) (work : Option Work) (g : Grown head past) (b : Before past (line (turn stamp (Client c)) (Told s named answer work) ∷ past)) (h : Asks past) where
+  abbrev told : List Line
+  told = line (turn stamp (Client c)) (Told s named answer work) ∷ past
+
+  quiet : (q : Running) → call_at c s past ≡ Some q → (q.asking ≡ Asked → ⊥) → Asks told
+  quiet q is n = asks_told past stamp c s named answer work b (not_asked past c s q is n) h
+
+  keeps_told : EntryOk past (turn stamp (Client c)) (Client c) (Told s named answer work) → Asks told
+  keeps_told (inl ok) = quiet ok.running ok.call (answered_not ok.running ok.target ok.reply ok.answered)
+  keeps_told (inr (inl ok)) = quiet ok.running ok.call (new_not ok.running ok.new)
+  keeps_told (inr (inr (inl ok))) = asks_ended past stamp c s named answer work b ok.notice h
+  keeps_told (inr (inr (inr (inl ok)))) = quiet ok.running ok.call (new_not ok.running (bad_unasked head past g c s ok.running ok.call ok.bad))
+  keeps_told (inr (inr (inr (inr (inl ok))))) = quiet ok.running ok.call (sizing_not past (turn stamp (Client c)) ok.running ok.sizes ok.so_far)
+  keeps_told (inr (inr (inr (inr (inr ok))))) = quiet ok.running ok.call (new_not ok.running ok.new)
 
 still : (past : List Line) (stamp : Stamp) (node : Node) (e : Entry) → Closes past (turn stamp node) → ((c : ℕ) → life_at c past ≡ life_at c (line (turn stamp node) e ∷ past)) → Before past (line (turn stamp node) e ∷ past)
 still past stamp node e closes same c n k = n (ending_more past stamp node e c closes (same c) k)
@@ -370,16 +477,14 @@ still past stamp node e closes same c n k = n (ending_more past stamp node e c c
 pub keeps_asks : (head : Head) (past : List Line) (stamp : Stamp) (node : Node) (e : Entry) → Grown head past → Closes past (turn stamp node) → EntryOk past (turn stamp node) node e → AtEach head past (turn stamp node) node e
     → Asks past → Asks (line (turn stamp node) e ∷ past)
 keeps_asks head past stamp (Client c) (Begin s running) g x ok of h = asks_begin past stamp c s running (still past stamp (Client c) (Begin s running) x (λ d. refl)) (λ r k a. let f = ok.free in absurd (cc)) h
-keeps_asks head past stamp (Client c) (Told s named answer work) g x (inl ok) of h = asks_told past stamp c s named answer work (still past stamp (Client c) (Told s named answer work) x (λ d. refl)) (λ r k a. let f = ok.answered in let w = ok.call in absurd (cc)) h
-keeps_asks head past stamp (Client c) (Told s named answer work) g x (inr (inl ok)) of h = asks_told past stamp c s named answer work (still past stamp (Client c) (Told s named answer work) x (λ d. refl)) (λ r k a. let f = ok.new in let w = ok.call in absurd (cc)) h
-keeps_asks head past stamp (Client c) (Told s named answer work) g x (inr (inr (inr ok))) of h = asks_told past stamp c s named answer work (still past stamp (Client c) (Told s named answer work) x (λ d. refl)) (λ r k a. let u = bad_unasked head past g c s r k (bad_of past c s r ok.running k ok.call ok.bad) in absurd (cc)) h
-keeps_asks head past stamp (Client c) (Told s named answer work) g x (inr (inr (inl ok))) of h = asks_ended past stamp c s named answer work (still past stamp (Client c) (Told s named answer work) x (λ d. refl)) ok.notice h
+keeps_asks head past stamp (Client c) (Told s named answer work) g x ok of h = keeps_told head past stamp c s named answer work g (still past stamp (Client c) (Told s named answer work) x (λ d. refl)) h ok
 keeps_asks head past stamp (Client c) (Queues u q) g x ok of h = asks_queues past stamp c u q (still past stamp (Client c) (Queues u q) x (λ d. refl)) ok h
 keeps_asks head past stamp (Client c) (Flies u f) g x ok of h = asks_flies past stamp c u f (still past stamp (Client c) (Flies u f) x (λ d. refl)) (front_at head past c u f g (of u (self u))) h
 keeps_asks head past stamp (Client c) (Heard u f r) g x ok of h =
     let k = of u (self u) in
     asks_heard past stamp c u f r (still past stamp (Client c) (Heard u f r) x (λ d. refl)) (subst (λ (fs : List Flight). In f fs) (sym (flights_now head c u past g)) k.flying) h
 keeps_asks head past stamp (Client c) (Life who) g x ok of h = asks_life past stamp c who x h
-keeps_asks head past stamp (Client c) (Stands s running) g x ok of h = absurd ok
+keeps_asks head past stamp (Client c) (Stands s running) g x ok of h =
+    asks_stands past stamp c s running (still past stamp (Client c) (Stands s running) x (λ d. refl)) (not_asked past c s ok.running ok.call (sizing_not past (turn stamp (Client c)) ok.running ok.sizes ok.so_far)) h
 keeps_asks head past stamp (Target t) Tick g x ok of h = asks_same past (line (turn stamp (Target t)) Tick ∷ past) (still past stamp (Target t) Tick x (λ d. refl)) (λ d s. refl) (λ d u. refl) (λ d u. refl) h
 keeps_asks head past stamp node e g x ok of h = asks_same past (line (turn stamp node) e ∷ past) (still past stamp node e x (λ d. refl)) (λ d s. refl) (λ d u. refl) (λ d u. refl) h

@@ -1,4 +1,4 @@
--- What a line makes of a call: it stays, begins, or is touched by a request that is queued or heard for it.
+-- What a line makes of a call: it stays, begins, is touched by a request that is queued or heard for it, or stands further on.
 use Rattle.std.proofs.Common.{◌≡◌, ℕ, Bool, true, false, List, [], ◌∷◌, Option, Some, None, ◌⊎◌, inl, inr, ⊎_elim, refl, sym, subst, ap, ◌∙◌}
 use Rattle.std.specs.Prelude.{nat_eq, if◌then◌else◌}
 use Rattle.std.proofs.lemmas.Bool.{cond_both, cond-true, eqb-true}
@@ -6,12 +6,12 @@ use Rattle.lu_base.specs.declared.ids.At.{At}
 use Rattle.lu_base.specs.declared.ids.Node.{Node}
 use Rattle.lu_base.specs.declared.ids.Node.TheVariants.{Client, Target}
 use Rattle.lu_base.specs.declared.ids.Stamp.{Stamp}
-use Rattle.lu_words.specs.Carried.{Asking, Unasked, Asked, Answered, Stage, Bad, Running}
+use Rattle.lu_words.specs.Carried.{Asking, Unasked, Asked, Answered, Stage, Bad, Sizes, Work, Running}
 use Rattle.lu_words.specs.Words.{Entry, Tick, Begin, Stands, Queues, Heard, Told, Line, line}
 use Rattle.lu_words.specs.Fields.{on}
 use Rattle.lu_covered.specs.Heads.{Head}
 use Rattle.lu_covered.specs.Calls.{begun, asks, asks_for, reads_call, call_after, call_at}
-use Rattle.lu_guards.proofs.Guards.{Later, Begins, Starts, Owes, EntryOk}
+use Rattle.lu_guards.proofs.Guards.{Later, Begins, StandsOk, Starts, OwesBegun, Owes, EntryOk}
 use Rattle.lu_guards.proofs.Grown.{Grown}
 use Rattle.lu_guards.proofs.Lists.{self}
 use Rattle.lu_facts.proofs.Groups.{turn}
@@ -61,8 +61,21 @@ pub record Touched (past : List Line) (node : Node) (e : Entry) (c slot : ℕ) (
   pub stage : before.stage ≡ r.stage
   pub asking : Touches node e c slot r.asking
 
+-- it went on to the next object: it has asked nothing since the last answer
+pub record Stood (past : List Line) (now : At) (c slot : ℕ) (r : Running) : Type 0 where
+  pub before : Running
+  pub call : call_at c slot past ≡ Some before
+  pub at : before.at ≡ r.at
+  pub same : before.call ≡ r.call
+  pub file : before.file ≡ r.file
+  pub asking : before.asking ≡ r.asking
+  pub pins : before.pins ≡ r.pins
+  pub work : Work
+  pub stage : r.stage ≡ Sizes work
+  pub stands : StandsOk past now c slot r
+
 abbrev pub Came : List Line → At → Node → Entry → ℕ → ℕ → Running → Type 0
-Came past at node e c slot r = (call_at c slot past ≡ Some r) ⊎ (Began past at e c slot r ⊎ Touched past node e c slot r)
+Came past at node e c slot r = (call_at c slot past ≡ Some r) ⊎ (Began past at e c slot r ⊎ (Touched past node e c slot r ⊎ Stood past at c slot r))
 
 some_is : (q r : Running) → Some q ≡ Some r → q ≡ r
 some_is q r e = cc
@@ -97,6 +110,21 @@ touched past node e served asking c slot r how a =
       asking = subst (λ (v : Running). Touches node e c slot v.asking) a.is (how a.serves);
     }
 
+stood : (past : List Line) (now : At) (c slot : ℕ) (r : Running) → StandsOk past now c slot r → Stood past now c slot r
+stood past now c slot r ok =
+    record {
+      before = ok.running;
+      call = ok.call;
+      at = ap (λ (v : Running). v.at) (sym ok.is);
+      same = ap (λ (v : Running). v.call) (sym ok.is);
+      file = ap (λ (v : Running). v.file) (sym ok.is);
+      asking = ap (λ (v : Running). v.asking) (sym ok.is);
+      pins = ap (λ (v : Running). v.pins) (sym ok.is);
+      work = ok.work;
+      stage = ap (λ (v : Running). v.stage) ok.is;
+      stands = ok;
+    }
+
 pub call_cases : (past : List Line) (stamp : Stamp) (node : Node) (e : Entry) → EntryOk past (turn stamp node) node e → (c slot : ℕ) (r : Running) → call_at c slot (line (turn stamp node) e ∷ past) ≡ Some r → Came past (turn stamp node) node e c slot r
 call_cases past stamp (Client d) (Begin s running) ok c slot r =
     cond_both (nat_eq c d) (if nat_eq s slot then Some running else call_at c slot past) (call_at c slot past) (λ v. v ≡ Some r → Came past (turn stamp (Client d)) (Client d) (Begin s running) c slot r)
@@ -117,21 +145,29 @@ call_cases past stamp (Client d) (Queues u q) ok c slot r =
     cond_both (nat_eq c d) (asks_for q.slot slot Asked (call_at c slot past)) (call_at c slot past) (λ v. v ≡ Some r → Came past (turn stamp (Client d)) (Client d) (Queues u q) c slot r)
     (λ t e. ⊎_elim
     (λ (k : call_at c slot past ≡ Some r). inl k)
-    (λ (k : Asks q.slot slot Asked (call_at c slot past) r). inr (inr (touched past (Client d) (Queues u q) q.slot Asked c slot r (λ n. refl) k)))
+    (λ (k : Asks q.slot slot Asked (call_at c slot past) r). inr (inr (inl (touched past (Client d) (Queues u q) q.slot Asked c slot r (λ n. refl) k))))
     (asks_cases q.slot slot Asked (call_at c slot past) r e))
     (λ t e. inl e)
 call_cases past stamp (Client d) (Heard u f k) ok c slot r =
     cond_both (nat_eq c d) (asks_for f.slot slot (Answered u k) (call_at c slot past)) (call_at c slot past) (λ v. v ≡ Some r → Came past (turn stamp (Client d)) (Client d) (Heard u f k) c slot r)
     (λ t e. ⊎_elim
     (λ (w : call_at c slot past ≡ Some r). inl w)
-    (λ (w : Asks f.slot slot (Answered u k) (call_at c slot past) r). inr (inr (touched past (Client d) (Heard u f k) f.slot (Answered u k) c slot r (λ n. (ap Client (sym (eqb-true c d t)), n, refl)) w)))
+    (λ (w : Asks f.slot slot (Answered u k) (call_at c slot past) r). inr (inr (inl (touched past (Client d) (Heard u f k) f.slot (Answered u k) c slot r (λ n. (ap Client (sym (eqb-true c d t)), n, refl)) w))))
     (asks_cases f.slot slot (Answered u k) (call_at c slot past) r e))
     (λ t e. inl e)
 call_cases past stamp (Client d) (Told s named answer work) ok c slot r =
     cond_both (nat_eq c d) (if nat_eq s slot then None else call_at c slot past) (call_at c slot past) (λ v. v ≡ Some r → Came past (turn stamp (Client d)) (Client d) (Told s named answer work) c slot r)
     (λ t. cond_both (nat_eq s slot) None (call_at c slot past) (λ v. v ≡ Some r → Came past (turn stamp (Client d)) (Client d) (Told s named answer work) c slot r) (λ u e. absurd (cc)) (λ u e. inl e))
     (λ t e. inl e)
-call_cases past stamp (Client d) (Stands s running) ok c slot r = absurd ok
+call_cases past stamp (Client d) (Stands s running) ok c slot r =
+    cond_both (nat_eq c d) (if nat_eq s slot then Some running else call_at c slot past) (call_at c slot past) (λ v. v ≡ Some r → Came past (turn stamp (Client d)) (Client d) (Stands s running) c slot r)
+    (λ t. cond_both (nat_eq s slot) (Some running) (call_at c slot past) (λ v. v ≡ Some r → Came past (turn stamp (Client d)) (Client d) (Stands s running) c slot r)
+    (λ u e. inr (inr (inr (stood past (turn stamp (Client d)) c slot r
+    (subst (λ (v : Running). StandsOk past (turn stamp (Client d)) c slot v) (some_is running r e)
+    (subst (λ v. StandsOk past (turn stamp (Client d)) c v running) (eqb-true s slot u)
+    (subst (λ v. StandsOk past (turn stamp (Client d)) v s running) (sym (eqb-true c d t)) ok)))))))
+    (λ u e. inl e))
+    (λ t e. inl e)
 call_cases past stamp (Target t) Tick ok c slot r = λ q. inl q
 call_cases past stamp node e ok c slot r = λ q. inl q
 
@@ -151,7 +187,9 @@ owed (l ∷ past) at e c slot r j bad o = by l.entry j o
     starts s e is w = absurd w
 
     by : (b : Entry) → JustBegan (line l.at b ∷ past) c slot r → Owes (line l.at b ∷ past) at e → (at.node ≡ Client c) × IsTold slot e
-    by (Begin s running) j o = (ap (λ (v : At). v.node) (sym o.0) ∙ j.0, starts s e j.1 (subst (λ (v : Stage). Starts s v e) (ap (λ (v : Running). v.stage) j.2 ∙ bad) o.1))
+    by (Begin s running) j o =
+        let w = subst (λ (v : Stage). OwesBegun (l.at ≡ at) s v running.call e) (ap (λ (v : Running). v.stage) j.2 ∙ bad) o in
+        (ap (λ (v : At). v.node) (sym w.0) ∙ j.0, starts s e j.1 w.1)
     by b j o = absurd j
 
 told_off : (past : List Line) (stamp : Stamp) (node : Node) (e : Entry) (c slot : ℕ) → node ≡ Client c → IsTold slot e → call_at c slot (line (turn stamp node) e ∷ past) ≡ None
@@ -168,9 +206,11 @@ bad_began head [] g c slot r k bad = absurd (cc)
 bad_began head (l ∷ past) g c slot r k bad =
     ⊎_elim
     (λ (p : call_at c slot past ≡ Some r). absurd (over r (bad_began head past g.1 c slot r p bad) bad))
-    (λ (p : Began past l.at l.entry c slot r ⊎ Touched past l.at.node l.entry c slot r). ⊎_elim
+    (λ (p : Began past l.at l.entry c slot r ⊎ (Touched past l.at.node l.entry c slot r ⊎ Stood past l.at c slot r)). ⊎_elim
     (λ (q : Began past l.at l.entry c slot r). q.newest)
+    (⊎_elim
     (λ (q : Touched past l.at.node l.entry c slot r). absurd (over q.before (bad_began head past g.1 c slot q.before q.call (q.stage ∙ bad)) (q.stage ∙ bad)))
+    (λ (q : Stood past l.at c slot r). absurd (let sizes = q.stage in let plain = bad in cc)))
     p)
     (call_cases past l.at.stamp l.at.node l.entry g.0.ok c slot r k)
   where

@@ -9,6 +9,7 @@ use Rattle.lu_base.specs.declared.ids.At.{At}
 use Rattle.lu_base.specs.declared.ids.Node.{Node}
 use Rattle.lu_base.specs.declared.ids.Node.TheVariants.{Client, Target}
 use Rattle.lu_base.specs.declared.ids.Stamp.{Stamp}
+use Rattle.lu_base.specs.declared.ids.Txn.{Txn}
 use Rattle.lu_base.specs.declared.ids.Who.{Who}
 use Rattle.lu_base.specs.declared.locks.Lock.{Lock}
 use Rattle.lu_msg.specs.declared.commits.Batch.{Batch}
@@ -25,6 +26,7 @@ use Rattle.lu_covered.specs.TargetCloses.{disk_of, shows_evicted, shows_ready, s
 use Rattle.lu_covered.specs.Heads.{Head}
 use Rattle.lu_guards.proofs.Guards.{In, IsCommit}
 use Rattle.lu_guards.proofs.StoryGuards.{Due, SendOf, CommitOk, CloseOk, EntryOf}
+use Rattle.lu_guards.proofs.Acts.{acted}
 use Rattle.lu_guards.proofs.Grown.{ShowsNext, IsPlaced}
 use Rattle.lu_guards.proofs.Lists.{in_append, in_filter, in_filtered}
 use Rattle.lu_guards.proofs.LifeLists.{any_lives}
@@ -233,7 +235,7 @@ keeps_disk head past stamp (Target t) (Act d) ok p h =
     let new : List Line = line (turn stamp (Target t)) (Act d) ∷ past in
     record {
       high = λ g a m s low out. ⊎_elim
-          (λ (q : d ≡ g). let none : d.reply.txn.0 ≡ 0 = ap (λ (v : Deed). v.reply.txn.0) ok.is in let same : d.reply.txn.0 ≡ g.reply.txn.0 = ap (λ (v : Deed). v.reply.txn.0) q in absurd (omega arith))
+          (λ (q : d ≡ g). let none : d.reply.txn.0 ≡ 0 = ap (λ (v : Txn). v.0) (acted head.osts past (turn stamp (Target t)) t d ok).number in let same : d.reply.txn.0 ≡ g.reply.txn.0 = ap (λ (v : Deed). v.reply.txn.0) q in absurd (omega arith))
           (λ (b : Acted past g). h.disk.high g b m s low out)
           a;
       kept = λ who tag k e. stored_more head.osts past new (disk_of head.osts head.clients past).committed who tag k (λ g a. inr a) (λ g s. s) (λ r. r) (h.disk.kept who tag k e);

@@ -16,13 +16,14 @@ use Rattle.lu_words.specs.Carried.{Deed, Flight, Slot}
 use Rattle.lu_words.specs.Words.{Act, Txn as Made, Enters, Line, line, same_life}
 use Rattle.lu_target_rows.specs.Phase.{first_of}
 use Rattle.lu_covered.specs.TargetParts.{is_request_of, without_request, entered, answered, is_slot_of}
-use Rattle.lu_covered.specs.TargetStates.{none, server_of, slot_of, closed_of, next_number}
+use Rattle.lu_covered.specs.TargetStates.{server_of, slot_of, closed_of, next_number}
 use Rattle.lu_covered.specs.TargetCloses.{is_lost}
-use Rattle.lu_covered.specs.Deeds.{deed, locks_of}
+use Rattle.lu_covered.specs.Deeds.{deed}
 use Rattle.lu_covered.specs.ClientStates.{life_of}
 use Rattle.lu_covered.specs.Heads.{Head}
 use Rattle.lu_guards.proofs.Guards.{In, Was}
-use Rattle.lu_guards.proofs.StoryGuards.{EntersOk, ActOk, TxnOk}
+use Rattle.lu_guards.proofs.StoryGuards.{EntersOk, ActsOk, TxnOk}
+use Rattle.lu_guards.proofs.Acts.{acted}
 use Rattle.lu_guards.proofs.Lists.{in_append, in_filter}
 use Rattle.lu_guards.proofs.TargetSlots.{is_slot_self, slot_who}
 use Rattle.lu_facts.proofs.Groups.{turn, Flew, Acted, Hears, HeardAs, HasSlot, IsMade, Stands, Counts, IsAsking, FlewFor, Waits, KeptFor, Newest, Numbers, Done, HoldsAt}
@@ -346,11 +347,11 @@ module _ (osts clients : ℕ) (past new : List Line) (d : Deed) (does : Does ost
 -- ---- the lines
 
 module _ (head : Head) (past : List Line) (stamp : Stamp) (t : ℕ) (h : HoldsAt head past) where
-  pub done_act : (d : Deed) → ActOk head.osts past (turn stamp (Target t)) d → Done head.osts head.clients (line (turn stamp (Target t)) (Act d) ∷ past)
+  pub done_act : (d : Deed) → ActsOk head.osts past (turn stamp (Target t)) t d → Done head.osts head.clients (line (turn stamp (Target t)) (Act d) ∷ past)
   done_act d ok =
-      let e : Deed = deed head.osts (server_of head.osts past) (turn stamp (Target t)) ok.request none (locks_of head.osts (server_of head.osts past) ok.request) in
-      subst (λ (d : Deed). Done head.osts head.clients (line (turn stamp (Target t)) (Act d) ∷ past)) (sym ok.is)
-      (done_does head.osts head.clients past (line (turn stamp (Target t)) (Act e) ∷ past) e
+      let a = acted head.osts past (turn stamp (Target t)) t d ok in
+      let number : d.reply.txn.0 ≡ 0 = ap (λ (v : TxnOf). v.0) a.number in
+      done_does head.osts head.clients past (line (turn stamp (Target t)) (Act d) ∷ past) d
       (record {
         flew = λ w f i. i;
         acted = λ g a. a;
@@ -371,12 +372,12 @@ module _ (head : Head) (past : List Line) (stamp : Stamp) (t : ℕ) (h : HoldsAt
         has = λ w q. q;
         had = λ w q. q;
         low = h.phase.closed;
-        boot = sym ok.serves.closed;
-        numbers = λ (m : 0 < 0). absurd (omega arith);
-        bare = λ (m : 0 < 0). absurd (omega arith);
-        top = λ (m : 0 < 0). absurd (omega arith);
+        boot = a.boot ∙ sym a.serves.closed;
+        numbers = λ m. absurd (omega (arith, m, number));
+        bare = λ m. absurd (omega (arith, m, number));
+        top = λ m. absurd (omega (arith, m, number));
       })
-      ok.request (record { who = refl; xid = refl; tag = refl; op = refl }) (h.done.waits ok.request ok.waits) h.done)
+      a.request (record { who = a.who; xid = a.xid; tag = a.tag; op = a.of_op }) (h.done.waits a.request a.waits) h.done
 
   pub done_txn : (d : Deed) → TxnOk head.osts past (turn stamp (Target t)) d → Done head.osts head.clients (line (turn stamp (Target t)) (Made d) ∷ past)
   done_txn d ok =

@@ -31,15 +31,17 @@ use Rattle.lu_covered.specs.Calls.{operation_of}
 use Rattle.lu_covered.specs.Deeds.{asked}
 use Rattle.lu_covered.specs.Makes.{Path, CallMakesFile, StatsNoFile}
 use Rattle.lu_covered.specs.Heads.{Head}
-use Rattle.lu_guards.proofs.StoryGuards.{ActOk, TxnOk}
+use Rattle.lu_guards.proofs.StoryGuards.{ActOk, ActsOk, TxnOk}
+use Rattle.lu_guards.proofs.Acts.{sized_answer}
 use Rattle.lu_guards.proofs.Grown.{Allowed, Grown}
+use Rattle.lu_guards.proofs.Lists.{self}
 use Rattle.lu_guards.proofs.Parts.{tree_is}
 use Rattle.lu_facts.proofs.Groups.{turn, Acted, items_of, HoldsAt}
-use Rattle.lu_facts.proofs.Lines.{acted_whole}
 use Rattle.lu_facts.proofs.All.{holds}
 use Rattle.lu_facts.proofs.OverItems.{over_now}
 use Rattle.lu_facts.proofs.Grafts.{named_fewer}
 use Rattle.lu_facts.proofs.OnNames.{IsPlain, op_is, becomes_on_names, other_plain}
+use Rattle.lu_facts.proofs.Sides.{acted_only}
 use Rattle.lu_facts.proofs.Asked.{Began, began_more, AskedBy, acted_asked}
 use Rattle.lu_facts.proofs.Ways.{leads_still}
 use Rattle.lu_facts.proofs.Named.{FileBy, Filed, named_so}
@@ -109,7 +111,7 @@ filed head past g =
     left : Both ((server_of head.osts story).boot * 4294967296 + (server_of head.osts story).count) (contents head.osts empty (items_of head.osts story))
     left =
         over_now head story (λ n t. Both n t) (λ n le. (named_empty (Made_in past) n le, filed_empty (File_in past)))
-        (λ is a n ok lt h. made (contents head.osts empty is) a n (subst (AskedBy past) (ap (λ (x : Operation). x.op) ok.operates) (acted_asked head past ok.deed g (acted_whole 0 past ok.deed ok.acted))) lt h)
+        (λ is a n ok lt h. made (contents head.osts empty is) a n (subst (AskedBy past) (ap (λ (x : Operation). x.op) ok.operates) (acted_asked head past ok.deed g ok.acted)) lt h)
         (λ n t who h. (named_fewer (Made_in past) n t (forget t who) (λ d m c is. is) h.0, λ path f led. h.1 path f (leads_still t (forget t who) (λ d m c is. is) root path (File f) led)))
         (λ n m t le h. (named_wide (Made_in past) (Made_in past) n m t (λ path x. x) le h.0, h.1)) at
 
@@ -141,7 +143,7 @@ module _ (osts : ℕ) (t : Tree) (number : Txn) (who : Who) (Files : Path → Ty
 pub acted_told : (head : Head) (past : List Line) (Files : Path → Type 0) → Grown head past → ((path : Path) → File_in past path → Files path) → ((k : Call) → Began past k → StatsNoFile Files k)
     → (d : Deed) → Acted past d → IsPlain d.reply.answer
 acted_told head [] Files g are stats d a = absurd a
-acted_told head (l ∷ past) Files g are stats d a = by l.at.node l.entry g.0 a (λ x b. acted_asked head (l ∷ past) x g b) (acted_told head past Files g.1 (λ path m. are path (file_more l past path m)) (λ k b. stats k (began_more l past k b)) d)
+acted_told head (l ∷ past) Files g are stats d a = by l.at.node l.entry g.0 a (λ x b at. acted_asked head (l ∷ past) x g (acted_only head (l ∷ past) x 0 g b at)) (acted_told head past Files g.1 (λ path m. are path (file_more l past path m)) (λ k b. stats k (began_more l past k b)) d)
   where
     files : Filed Files (server_of head.osts (only 0 past)).tree
     files = subst (Filed Files) (tree_is head.osts 0 past) (λ path f led. are path (file_more l past path (filed head past g.1 path f led)))
@@ -158,15 +160,24 @@ acted_told head (l ∷ past) Files g are stats d a = by l.at.node l.entry g.0 a 
         let same : x.op ≡ ok.request.op = ap (λ (y : Deed). y.op) ok.is in
         subst (λ (y : Deed). IsPlain y.reply.answer) (sym ok.is) (answer_plain head.osts v.tree (next_number v) ok.request.who Files files b.2 b.0 ok.request.op (b.3 ∙ ap (λ (p : Op). Some p) same) (stats b.0 b.1))
 
-    by : (node : Node) (e : Entry) → Allowed head past (turn l.at.stamp node) e → Acted (line l.at e ∷ past) d → ((x : Deed) → Acted (line l.at e ∷ past) x → AskedBy (l ∷ past) x.op) → (Acted past d → IsPlain d.reply.answer) → IsPlain d.reply.answer
+    -- so is the size of an object
+    acts_plain : (t : ℕ) (x : Deed) → ActsOk head.osts (only t past) (turn l.at.stamp (Target t)) t x → (x.reply.at.node ≡ Target 0 → AskedBy (l ∷ past) x.op) → IsPlain x.reply.answer
+    acts_plain t x (inl a) b =
+        act_plain (turn l.at.stamp (Target t)) x (subst (λ (v : ℕ). ActOk head.osts (only v past) (turn l.at.stamp (Target t)) x) a.0 a.1) (b (ap (λ (y : Deed). y.reply.at.node) a.1.is ∙ ap Target a.0))
+    acts_plain t x (inr a) b = subst IsPlain (sym (sized_answer head.osts (only t past) (turn l.at.stamp (Target t)) x a.1)) tt
+
+    by : (node : Node) (e : Entry) → Allowed head past (turn l.at.stamp node) e → Acted (line l.at e ∷ past) d → ((x : Deed) → Acted (line l.at e ∷ past) x → x.reply.at.node ≡ Target 0 → AskedBy (l ∷ past) x.op) → (Acted past d → IsPlain d.reply.answer)
+        → IsPlain d.reply.answer
     by (Client c) (Act x) k a b h = absurd k.ok
     by (Client c) (Made x) k a b h = absurd k.ok
     by (Target t) (Act x) k a b h = ⊎_elim
-        (λ (p : x ≡ d). subst (λ (y : Deed). IsPlain y.reply.answer) p (act_plain (turn l.at.stamp (Target t)) x (k.of 0 (ap (λ (v : ℕ). nat_eq 0 v) k.ok)) (b x (inl refl))))
+        (λ (p : x ≡ d). subst (λ (y : Deed). IsPlain y.reply.answer) p (acts_plain t x (k.of t (self t)) (b x (inl refl))))
         (λ (p : Acted past d). h p)
         a
     by (Target t) (Made x) k a b h = ⊎_elim
-        (λ (p : x ≡ d). subst (λ (y : Deed). IsPlain y.reply.answer) p (txn_plain (turn l.at.stamp (Target t)) x (k.of 0 (ap (λ (v : ℕ). nat_eq 0 v) k.ok)) (b x (inl refl))))
+        (λ (p : x ≡ d).
+        let ok = k.of 0 (ap (λ (v : ℕ). nat_eq 0 v) k.ok) in
+        subst (λ (y : Deed). IsPlain y.reply.answer) p (txn_plain (turn l.at.stamp (Target t)) x ok (b x (inl refl) (ap (λ (y : Deed). y.reply.at.node) ok.is ∙ ap Target k.ok))))
         (λ (p : Acted past d). h p)
         a
     by _ _ k a b h = h a

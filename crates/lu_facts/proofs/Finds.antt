@@ -26,7 +26,6 @@ use Rattle.lu_guards.proofs.StoryGuards.{TxnOk, BootOk}
 use Rattle.lu_guards.proofs.Grown.{Allowed, Grown}
 use Rattle.lu_guards.proofs.Parts.{boot_is, count_is, tree_is}
 use Rattle.lu_facts.proofs.Groups.{turn, items_of, HoldsAt}
-use Rattle.lu_facts.proofs.Lines.{acted_whole}
 use Rattle.lu_facts.proofs.All.{holds}
 use Rattle.lu_facts.proofs.OverItems.{over_now}
 use Rattle.lu_facts.proofs.OnNames.{op_is, becomes_on_names}
@@ -134,7 +133,7 @@ named head past g =
     left : Named (Made_in past) bound (contents head.osts empty (items_of head.osts story))
     left =
         over_now head story (λ n t. Named (Made_in past) n t) (λ n le. named_empty (Made_in past) n le)
-        (λ is a n ok lt h. named_act head.osts past (contents head.osts empty is) a n (subst (AskedBy past) (ap (λ (x : Operation). x.op) ok.operates) (acted_asked head past ok.deed g (acted_whole 0 past ok.deed ok.acted))) lt h)
+        (λ is a n ok lt h. named_act head.osts past (contents head.osts empty is) a n (subst (AskedBy past) (ap (λ (x : Operation). x.op) ok.operates) (acted_asked head past ok.deed g ok.acted)) lt h)
         (λ n t who h. named_fewer (Made_in past) n t (forget t who) (λ d m c is. is) h)
         (λ n m t le h. named_wide (Made_in past) (Made_in past) n m t (λ path x. x) le h) at
 

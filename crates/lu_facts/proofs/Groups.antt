@@ -21,13 +21,13 @@ use Rattle.lu_part.specs.declared.parts.Part.{Part}
 use Rattle.lu_machine.specs.Footprint.{Operation, empty, touches, writes, Same}
 use Rattle.lu_machine.specs.Removal.{Item, Acts, Forgets, pick, contents}
 use Rattle.lu_machine.specs.Seen.{seen}
-use Rattle.lu_words.specs.Carried.{Deed, Queued, Flight, Said, Disk, Asked, Answered, Running}
+use Rattle.lu_words.specs.Carried.{Deed, Queued, Flight, Said, Disk, Asked, Answered, Plain, Sizes, Work, Running}
 use Rattle.lu_words.specs.Words.{Entry, Flies, Heard, Drop, Act, Txn as Made, Commit, Close, Evict, Restore, Line, turn_before}
 use Rattle.lu_words.specs.Concerns.{only}
 use Rattle.lu_covered.specs.TargetParts.{operation}
 use Rattle.lu_covered.specs.TargetStates.{server_of, slot_of, lives_of, evicted_of, shown_of, closed_of, up_of, replays_of, brought_of, words_of, wishes_of}
 use Rattle.lu_covered.specs.TargetCloses.{disk_of, is_lost, loses, but_first, closing_of}
-use Rattle.lu_covered.specs.Calls.{first_life, call_at, becomes, life_at}
+use Rattle.lu_covered.specs.Calls.{first_life, call_at, becomes, errand, life_at}
 use Rattle.lu_covered.specs.Imports.{Joining, Serving, queue_at, flights_at}
 use Rattle.lu_covered.specs.ClientStates.{flights_of, last_of, known_of, life_of, tag_of, standing_of, kept_of, is_own}
 use Rattle.lu_covered.specs.Heads.{Head}
@@ -42,6 +42,7 @@ use Rattle.lu_client_rows.specs.Imports.{Replay, replay_of}
 use Rattle.lu_client_rows.specs.Recovery.{lock_replayed, replayed as replayed_by}
 pub use Rattle.lu_guards.proofs.Lists.{turn}
 use Rattle.lu_guards.proofs.Guards.{In, Was, HeardNow, name_of, Ending}
+use Rattle.lu_guards.proofs.ClientLines.{IsSize}
 use Rattle.lu_guards.proofs.CloseLists.{OneEach}
 use Rattle.lu_guards.proofs.StoryGuards.{Newer, SaidBy, IsServing, IsRecovering, locks_told}
 
@@ -553,10 +554,10 @@ pub record HoldsAt (head : Head) (past : List Line) : Type 0 where
 
 -- ---- over all targets: what calls have asked
 
--- the call on a slot waits for the answer to that operation
-abbrev pub CallOf : List Line → ℕ → Option ℕ → Op → Type 0
-CallOf past c None o = ⊥
-CallOf past c (Some slot) o = (r : Running) × (call_at c slot past ≡ Some r) × (r.asking ≡ Asked) × (becomes r ≡ Some o)
+-- the call on a slot waits for the answer to that operation, of that target: it is what the call asks where it stands
+abbrev pub CallOf : List Line → (c target : ℕ) → Option ℕ → Op → Type 0
+CallOf past c t None o = ⊥
+CallOf past c t (Some slot) o = (r : Running) × (call_at c slot past ≡ Some r) × (r.asking ≡ Asked) × (errand r ≡ Some (record { target = t; op = o }))
 
 -- no two serve one slot
 abbrev pub Apart : List Queued → Type 0
@@ -567,8 +568,8 @@ Apart (q ∷ queue) = ((g : Queued) → In g queue → g.slot ≡ q.slot → ⊥
 abbrev pub Asks : List Line → Type 0
 Asks past =
     record {
-      fly_calls : (c t : ℕ) (f : Flight) → (Ending past c → ⊥) → In f (flights_at c t past) → CallOf past c f.slot f.op;
-      queue_calls : (c t : ℕ) (q : Queued) → (Ending past c → ⊥) → In q (queue_at c t past) → CallOf past c q.slot q.op;
+      fly_calls : (c t : ℕ) (f : Flight) → (Ending past c → ⊥) → In f (flights_at c t past) → CallOf past c t f.slot f.op;
+      queue_calls : (c t : ℕ) (q : Queued) → (Ending past c → ⊥) → In q (queue_at c t past) → CallOf past c t q.slot q.op;
       fly_one : (c t u : ℕ) (f g : Flight) → (Ending past c → ⊥) → In f (flights_at c t past) → In g (flights_at c u past) → f.slot ≡ g.slot → (t ≡ u) × (f.xid ≡ g.xid);
       queue_one : (c t u : ℕ) (q g : Queued) → (Ending past c → ⊥) → In q (queue_at c t past) → In g (queue_at c u past) → q.slot ≡ g.slot → t ≡ u;
       queue_apart : (c t : ℕ) → (Ending past c → ⊥) → Apart (queue_at c t past);
@@ -600,7 +601,12 @@ Since past =
     (c t slot : ℕ) (f : Flight) (r : Running) (d : Deed) → In f (flights_at c t past) → f.slot ≡ Some slot → call_at c slot past ≡ Some r
     → Acted (only t past) d → d.reply.who ≡ life_at c past → d.reply.xid.0 ≡ f.xid → Upto r.at d.reply.at
 
--- the reply that answered a call is to what was done for its operation after it began, in that boot or an earlier one
+-- the answer is to what a call on names becomes, of the metadata target; or to how long an object is, of another target. A glimpse may
+-- have gone on since to the next object
+abbrev pub AnswersFor : Running → (target : ℕ) → Op → Type 0
+AnswersFor r target o = ((r.stage ≡ Plain) × (target ≡ 0) × (becomes r ≡ Some o)) ⊎ ((w : Work) × (r.stage ≡ Sizes w) × (0 < target) × IsSize o)
+
+-- the reply that answered a call is to what was done for what it asked after it began, in that boot or an earlier one
 abbrev pub Replied : List Line → ℕ → Running → ℕ → ReplyTo → Type 0
 Replied past c r target reply =
     record {
@@ -608,7 +614,7 @@ Replied past c r target reply =
       acted : Acted (only target past) deed;
       is : record deed.reply { boot = reply.boot; committed = reply.committed } ≡ reply;
       client : reply.who ≡ life_at c past;
-      op : becomes r ≡ Some deed.op;
+      op : AnswersFor r target deed.op;
       since : Upto r.at reply.at;
     }
 

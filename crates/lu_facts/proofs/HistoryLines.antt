@@ -2,11 +2,14 @@
 use Rattle.std.proofs.Common.{◌≡◌, ℕ, ◌+◌, ◌<◌, ◌≤◌, Bool, true, false, List, [], ◌∷◌, ◌++◌, ◌⊎◌, inl, inr, ⊎_elim, refl, sym, subst, ap, ◌∙◌, arith}
 use Rattle.std.specs.Prelude.{not, nat_lt, ◌&&◌, if◌then◌else◌, filter, map}
 use Rattle.std.proofs.lemmas.Bool.{cond_both, cond-false, ltb-true, ltb-false, lt-ltb, le-ltb, not-true, not_from_true, not_from_false, and_left, cases_lt, or_from}
+use Rattle.lu_base.specs.declared.ids.At.{At}
 use Rattle.lu_base.specs.declared.ids.Node.{Node}
 use Rattle.lu_base.specs.declared.ids.Node.TheVariants.{Client, Target}
 use Rattle.lu_base.specs.declared.ids.Stamp.{Stamp}
+use Rattle.lu_base.specs.declared.ids.Txn.{Txn as TxnOf}
 use Rattle.lu_base.specs.declared.ids.Who.{Who}
 use Rattle.lu_base.specs.declared.locks.Cause.{Cause}
+use Rattle.lu_msg.specs.declared.answers.Answer.TheVariants as told
 use Rattle.lu_msg.specs.declared.commits.Batch.{Batch}
 use Rattle.lu_msg.specs.declared.commits.Transaction.{Transaction}
 use Rattle.lu_msg.specs.declared.messages.Message.TheVariants as message
@@ -14,6 +17,7 @@ use Rattle.lu_msg.specs.declared.messages.Reply.{Reply as ReplyTo}
 use Rattle.lu_part.specs.declared.parts.Part.{Part}
 use Rattle.lu_machine.specs.Tree.{Tree}
 use Rattle.lu_machine.specs.Footprint.{Operation, empty, touches, writes, forget, Same}
+use Rattle.lu_machine.specs.Objects.{object_touches}
 use Rattle.lu_machine.specs.Removal.{Item, Acts, Forgets, pick, contents}
 use Rattle.lu_machine.specs.Seen.{meet, seen}
 use Rattle.lu_machine.proofs.Footprints.{same_refl, same_sym, same_trans}
@@ -33,7 +37,8 @@ use Rattle.lu_covered.specs.Deeds.{asked}
 use Rattle.lu_covered.specs.ClientStates.{life_of, known_of, is_own}
 use Rattle.lu_covered.specs.Heads.{Head}
 use Rattle.lu_guards.proofs.Guards.{In}
-use Rattle.lu_guards.proofs.StoryGuards.{Due, HeardOk, ActOk, TxnOk, CommitOk, BootOk, JoinedOk, ComesOk}
+use Rattle.lu_guards.proofs.StoryGuards.{Due, HeardOk, ActsOk, TxnOk, CommitOk, BootOk, JoinedOk, ComesOk}
+use Rattle.lu_guards.proofs.Acts.{acted}
 use Rattle.lu_guards.proofs.Lists.{in_append, in_left, in_right, in_filter, in_filtered, own_is}
 use Rattle.lu_guards.proofs.LifeLists.{stands_life, life_left, over_itself, filter_all}
 use Rattle.lu_guards.proofs.ClientLocks.{in_map, in_mapped, any_false}
@@ -184,7 +189,12 @@ module _ (head : Head) (past : List Line) (h : HoldsAt head past) where
       let k = h.history.log e.0 e.1 in
       (e.0, k.0, k.1, e.2, subst (λ (m : ℕ). is_lost head.osts past m ≡ false) e.2 k.2)
 
-  pub history_act : (stamp : Stamp) (t : ℕ) (d : Deed) → ActOk head.osts past (turn stamp (Target t)) d → History head.osts head.clients (line (turn stamp (Target t)) (Act d) ∷ past)
+  -- an act of either kind saw what the log has of some parts
+  acts_saw : (at : At) (t : ℕ) (d : Deed) → ActsOk head.osts past at t d → (ps : List Part) × (d.reply.seen ≡ seen_in ps (server_of head.osts past).log)
+  acts_saw at t d (inl a) = (touches head.osts (server_of head.osts past).tree (asked a.1.request none), ap (λ (e : Deed). e.reply.seen) a.1.is)
+  acts_saw at t d (inr a) = (object_touches a.1.request.op (told.Size 0), ap (λ (e : Deed). e.reply.seen) a.1.is)
+
+  pub history_act : (stamp : Stamp) (t : ℕ) (d : Deed) → ActsOk head.osts past (turn stamp (Target t)) t d → History head.osts head.clients (line (turn stamp (Target t)) (Act d) ∷ past)
   history_act stamp t d ok =
       let g = h.history in
       record {
@@ -200,7 +210,7 @@ module _ (head : Head) (past : List Line) (h : HoldsAt head past) where
         saw = λ e n a i. ⊎_elim (λ (q : d ≡ e). saw_new e n q i) (λ (b : Acted past e). let r = g.saw e n b i in (wider n r.0, r.1)) a;
         stands = λ e a m s n i. ⊎_elim (λ (q : d ≡ e). absurd (not_made e q m)) (λ (b : Acted past e). g.stands e b m s n i) a;
         heard = g.heard;
-        fresh = λ e a b n i. ⊎_elim (λ (q : d ≡ e). (log_seen (touches head.osts (server_of head.osts past).tree (asked ok.request none)) n (subst (λ (ns : List ℕ). In n ns) (saw_is e q) i)).4) (λ (k : Acted past e). g.fresh e k b n i) a;
+        fresh = λ e a b n i. ⊎_elim (λ (q : d ≡ e). (log_seen parts n (subst (λ (ns : List ℕ). In n ns) (saw_is e q) i)).4) (λ (k : Acted past e). g.fresh e k b n i) a;
         items = items_grow head.osts past (line (turn stamp (Target t)) (Act d) ∷ past) (λ e a. inr a) (λ n e. e) (omega arith) (items_of head.osts past) g.items;
         items_have = λ e a m s. ⊎_elim (λ (q : d ≡ e). absurd (not_made e q m)) (λ (b : Acted past e). g.items_have e b m s) a;
         items_fall = g.items_fall;
@@ -208,10 +218,13 @@ module _ (head : Head) (past : List Line) (h : HoldsAt head past) where
       }
     where
       not_made : (e : Deed) → d ≡ e → IsMade e → ⊥
-      not_made e q m = let z : e.reply.txn.0 ≡ 0 = ap (λ (y : Deed). y.reply.txn.0) (sym q ∙ ok.is) in omega arith
+      not_made e q m = let z : e.reply.txn.0 ≡ 0 = ap (λ (y : Deed). y.reply.txn.0) (sym q) ∙ ap (λ (v : TxnOf). v.0) (acted head.osts past (turn stamp (Target t)) t d ok).number in omega arith
 
-      saw_is : (e : Deed) → d ≡ e → e.reply.seen ≡ seen_in (touches head.osts (server_of head.osts past).tree (asked ok.request none)) (server_of head.osts past).log
-      saw_is e q = ap (λ (y : Deed). y.reply.seen) (sym q ∙ ok.is)
+      parts : List Part
+      parts = (acts_saw (turn stamp (Target t)) t d ok).0
+
+      saw_is : (e : Deed) → d ≡ e → e.reply.seen ≡ seen_in parts (server_of head.osts past).log
+      saw_is e q = ap (λ (y : Deed). y.reply.seen) (sym q) ∙ (acts_saw (turn stamp (Target t)) t d ok).1
 
       wider : (n : ℕ) → (n ≤ (server_of head.osts past).committed.0) ⊎ ((e : Deed) × Acted past e × IsMade e × (e.reply.txn.0 ≡ n)) → (n ≤ (server_of head.osts past).committed.0) ⊎ ((e : Deed) × ((d ≡ e) ⊎ Acted past e) × IsMade e × (e.reply.txn.0 ≡ n))
       wider n (inl le) = inl le
@@ -219,7 +232,7 @@ module _ (head : Head) (past : List Line) (h : HoldsAt head past) where
 
       saw_new : (e : Deed) (n : ℕ) → d ≡ e → In n e.reply.seen → ((n ≤ (server_of head.osts past).committed.0) ⊎ ((x : Deed) × ((d ≡ x) ⊎ Acted past x) × IsMade x × (x.reply.txn.0 ≡ n))) × (IsMade e → n < e.reply.txn.0)
       saw_new e n q i =
-          let k = log_seen (touches head.osts (server_of head.osts past).tree (asked ok.request none)) n (subst (λ (ns : List ℕ). In n ns) (saw_is e q) i) in
+          let k = log_seen parts n (subst (λ (ns : List ℕ). In n ns) (saw_is e q) i) in
           (inr (k.0, inr k.1, k.2, k.3), λ m. absurd (not_made e q m))
 
   pub history_made : (stamp : Stamp) (t : ℕ) (d : Deed) → TxnOk head.osts past (turn stamp (Target t)) d → History head.osts head.clients (line (turn stamp (Target t)) (Made d) ∷ past)

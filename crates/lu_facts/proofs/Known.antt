@@ -35,7 +35,7 @@ use Rattle.lu_guards.proofs.Guards.{In, name_of, HeardNow, LearnsOk, EntryOk}
 use Rattle.lu_guards.proofs.StoryGuards.{HeardOk, EntryOf}
 use Rattle.lu_guards.proofs.Grown.{Grown, GrownOf}
 use Rattle.lu_guards.proofs.Held.{held_is}
-use Rattle.lu_guards.proofs.Lists.{in_append, in_filter}
+use Rattle.lu_guards.proofs.Lists.{self, in_append, in_filter}
 use Rattle.lu_guards.proofs.Only.{grown_of}
 use Rattle.lu_guards.proofs.Parts.{tree_is, committed_is, life_is_of}
 use Rattle.lu_guards.proofs.ClientLocks.{any_true}
@@ -96,40 +96,45 @@ heard_more l past c f r i = by l.entry
     by (Heard t g k) = inr i
     by _ = i
 
+-- in the story of a target
+heard_story : (t : ℕ) (l : Line) (past : List Line) (c : ℕ) (f : Flight) (r : ReplyTo) → HeardBy (only t past) c f r → HeardBy (only t (l ∷ past)) c f r
+heard_story t l past c f r i = cond_both (concerns t l.at.node l.entry) (l ∷ only t past) (only t past) (λ (p : List Line). HeardBy p c f r) (λ _. heard_more l (only t past) c f r i) (λ _. i)
+
+heard_whole : (t : ℕ) (past : List Line) (c : ℕ) (f : Flight) (r : ReplyTo) → HeardBy (only t past) c f r → HeardBy past c f r
+heard_whole t [] c f r i = i
+heard_whole t (l ∷ past) c f r i =
+    cond_both (concerns t l.at.node l.entry) (l ∷ only t past) (only t past) (λ (p : List Line). HeardBy p c f r → HeardBy (l ∷ past) c f r)
+    (λ _ j. by l.entry j (λ k. heard_whole t past c f r k))
+    (λ _ j. heard_more l past c f r (heard_whole t past c f r j))
+    i
+  where
+    by : (e : Entry) → HeardBy (line l.at e ∷ only t past) c f r → (HeardBy (only t past) c f r → HeardBy past c f r) → HeardBy (line l.at e ∷ past) c f r
+    by (Heard u g k) j h = ⊎_elim (λ (e : (l.at.node ≡ Client c) × (g ≡ f) × (k ≡ r)). inl e) (λ (k : HeardBy (only t past) c f r). inr (h k)) j
+    by _ j h = h j
+
 -- a reply that was just heard
-now_heard : (past : List Line) (at : At) (t c : ℕ) (f : Flight) (r : ReplyTo) → HeardNow past at t f r → at.node ≡ Client c → HeardBy past c f r
+now_heard : (past : List Line) (at : At) (t c : ℕ) (f : Flight) (r : ReplyTo) → HeardNow past at t f r → at.node ≡ Client c → HeardBy (only t past) c f r
 now_heard [] at t c f r h q = absurd h
 now_heard (l ∷ past) at t c f r h q = by l.entry h (λ k. now_heard past at t c f r k q)
   where
-    by : (e : Entry) → HeardNow (line l.at e ∷ past) at t f r → (HeardNow past at t f r → HeardBy past c f r) → HeardBy (line l.at e ∷ past) c f r
-    by (Heard u g k) h ih = inl (ap (λ (v : At). v.node) h.0 ∙ q, h.2, h.3)
-    by (Hold u lock marked size seen) h ih = ih h
+    by : (e : Entry) → HeardNow (line l.at e ∷ past) at t f r → (HeardNow past at t f r → HeardBy (only t past) c f r) → HeardBy (only t (line l.at e ∷ past)) c f r
+    by (Heard u g k) h ih =
+        let node : l.at.node ≡ Client c = ap (λ (v : At). v.node) h.0 ∙ q in
+        subst (λ (b : Bool). HeardBy (if b then line l.at (Heard u g k) ∷ only t past else only t past) c f r)
+        (sym (ap (λ (v : Node). concerns t v (Heard u g k)) node ∙ ap (nat_eq t) h.1 ∙ self t)) (inl (node, h.2, h.3))
+    by (Hold u lock marked size seen) h ih = heard_story t (line l.at (Hold u lock marked size seen)) past c f r (ih h)
     by _ h ih = absurd h
 
-heard_only : (head : Head) (past : List Line) (c : ℕ) (f : Flight) (r : ReplyTo) → Grown head past → HeardBy past c f r → HeardBy (only 0 past) c f r
-heard_only head [] c f r g i = absurd i
-heard_only head (l ∷ past) c f r g i = by l.at.node l.entry g.0.ok i (λ j. heard_only head past c f r g.1 j)
-  where
-    P : List Line
-    P = only 0 past
-
-    by : (node : Node) (e : Entry) → EntryOk past l.at node e → HeardBy (line (turn l.at.stamp node) e ∷ past) c f r → (HeardBy past c f r → HeardBy P c f r) → HeardBy (if concerns 0 node e then line (turn l.at.stamp node) e ∷ P else P) c f r
-    by (Client b) (Heard t x k) ok (inl e) ih = subst (λ (v : Bool). HeardBy (if v then line (turn l.at.stamp (Client b)) (Heard t x k) ∷ P else P) c f r) (sym (ap (nat_eq 0) ok.0)) (inl e)
-    by (Client b) (Heard t x k) ok (inr j) ih =
-        cond_both (concerns 0 (Client b) (Heard t x k)) (line (turn l.at.stamp (Client b)) (Heard t x k) ∷ P) P (λ (p : List Line). HeardBy p c f r) (λ _. inr (ih j)) (λ _. ih j)
-    by (Target u) (Heard t x k) ok j ih = absurd ok
-    by node e ok j ih = cond_both (concerns 0 node e) (line (turn l.at.stamp node) e ∷ P) P (λ (p : List Line). HeardBy p c f r) (λ _. ih j) (λ _. ih j)
-
--- a fact that a client knows was taught by a reply that it heard
+-- a fact that a client knows was taught by a reply that it heard of the metadata target
 abbrev pub Source : List Line → ℕ → Fact → Type 0
-Source past c f = record { flight : Flight; reply : ReplyTo; heard : HeardBy past c flight reply; fact : In f (taught flight.op reply.answer reply.locks) }
+Source past c f = record { flight : Flight; reply : ReplyTo; heard : HeardBy (only 0 past) c flight reply; fact : In f (taught flight.op reply.answer reply.locks) }
 
 pub facts_heard : (head : Head) (past : List Line) (c : ℕ) (f : Fact) → Grown head past → In f (facts_at c past) → Source past c f
 facts_heard head [] c f g i = absurd i
 facts_heard head (l ∷ past) c f g i = more (by l.at.node l.entry g.0.ok i (λ j. facts_heard head past c f g.1 j))
   where
     more : Source past c f → Source (l ∷ past) c f
-    more s = record { flight = s.flight; reply = s.reply; heard = heard_more l past c s.flight s.reply s.heard; fact = s.fact }
+    more s = record { flight = s.flight; reply = s.reply; heard = heard_story 0 l past c s.flight s.reply s.heard; fact = s.fact }
 
     kept : (t : ℕ) (lock : Lock) → In f (without_facts t lock (facts_at c past)) → In f (facts_at c past)
     kept zero lock j = (in_filter (λ (x : Fact). not (x.cookie.0 == lock.cookie.0)) f (facts_at c past) j).0
@@ -140,7 +145,7 @@ facts_heard head (l ∷ past) c f g i = more (by l.at.node l.entry g.0.ok i (λ 
         record {
           flight = ok.flight;
           reply = ok.reply;
-          heard = now_heard past (turn l.at.stamp (Client b)) t c ok.flight ok.reply ok.heard (ap Client (sym same));
+          heard = subst (λ (v : ℕ). HeardBy (only v past) c ok.flight ok.reply) ok.names (now_heard past (turn l.at.stamp (Client b)) t c ok.flight ok.reply ok.heard (ap Client (sym same)));
           fact = subst (λ (v : Op). In f (taught v ok.reply.answer ok.reply.locks)) ok.of_op (subst (λ (v : Answer). In f (taught o v ok.reply.locks)) ok.of_answer (subst (λ (v : List Lock). In f (taught o a v)) ok.of_locks j));
         }
 
@@ -192,7 +197,7 @@ pub held_stands : (head : Head) (past : List Line) (c : ℕ) (f : Fact) → Grow
 held_stands head past c f g known h held same_cookie =
     let story = grown_of head 0 past g in
     let s = facts_heard head past c f g known in
-    let k = heard_answered head (only 0 past) c s.flight s.reply story (heard_only head past c s.flight s.reply g s.heard) in
+    let k = heard_answered head (only 0 past) c s.flight s.reply story s.heard in
     let d = k.0 in
     let under = taught_at head (only 0 past) story d f (k.1.acted, fact_of (only 0 past) c s.flight s.reply d f k.1 s.fact) in
     let at = holds_at head (only 0 past) story in
@@ -262,4 +267,4 @@ module _ (head : Head) (past : List Line) (g : Grown head past) (c : ℕ) (numbe
         by : {f : Fact} (s : Standing head past c f) → Apart e.writes p ⊎ ((e.reply.txn.0 ≤ (server_of head.osts (only 0 past)).committed.0) ⊎ In e.reply.txn.0 s.deed.reply.seen) → Apart e.writes p ⊎ ((e.reply.txn.0 ≤ (committed_at 0 past).0) ⊎ SawBy e.reply.txn.0)
         by s (inl q) = inl q
         by s (inr (inl le)) = inr (inl (subst (λ (m : TxnOf). e.reply.txn.0 ≤ m.0) (sym (committed_is head.osts 0 past)) le))
-        by s (inr (inr j)) = inr (inr (record { flight = s.source.flight; reply = s.source.reply; heard = s.source.heard; of = sym s.answered.who ∙ s.whose; seen = subst (λ (ns : List ℕ). In e.reply.txn.0 ns) (ap (λ (v : ReplyTo). v.seen) s.answered.is) j }))
+        by s (inr (inr j)) = inr (inr (record { flight = s.source.flight; reply = s.source.reply; heard = heard_whole 0 past c s.source.flight s.source.reply s.source.heard; of = sym s.answered.who ∙ s.whose; seen = subst (λ (ns : List ℕ). In e.reply.txn.0 ns) (ap (λ (v : ReplyTo). v.seen) s.answered.is) j }))

@@ -53,8 +53,8 @@ pub mod Readings
 pub mod Inodes
 pub mod Finds
 pub mod Transactions
-pub mod Opens
 pub mod Files
+pub mod Layouts
 pub mod Unlocked
 pub mod Refused
 pub mod KnownPaths

@@ -14,6 +14,7 @@ use Rattle.lu_covered.specs.ClientStates.{life_of, is_own}
 use Rattle.lu_covered.specs.Heads.{Head}
 use Rattle.lu_guards.proofs.Guards.{EntryOk}
 use Rattle.lu_guards.proofs.StoryGuards.{EntryOf}
+use Rattle.lu_guards.proofs.Acts.{acted}
 use Rattle.lu_guards.proofs.Grown.{Grown}
 use Rattle.lu_guards.proofs.Lists.{self}
 use Rattle.lu_facts.proofs.Groups.{turn, Acted, Flew, Hears}
@@ -78,11 +79,11 @@ hears_only l past who x a = cond_both (concerns 0 l.at.node l.entry) (l ∷ only
 abbrev pub AtEach : Head → List Line → At → Node → Entry → Type 0
 AtEach head past at node e = (t : ℕ) → concerns t node e ≡ true → EntryOf head (only t past) at node e
 
--- what is done is done by the metadata target, in this turn
+-- what is done is done by a target, in this turn
 pub done_here : (head : Head) (past : List Line) (stamp : Stamp) (node : Node) (e : Entry) → EntryOk past (turn stamp node) node e → AtEach head past (turn stamp node) node e
-    → (d : Deed) → DoneBy e d → (node ≡ Target 0) × (d.reply.at ≡ turn stamp node)
-done_here head past stamp (Target t) (Act x) ok of d e = let k = of t (self t) in (ap Target ok, ap (λ (v : Deed). v.reply.at) (sym e ∙ k.is))
-done_here head past stamp (Target t) (Txn x) ok of d e = let k = of t (self t) in (ap Target ok, ap (λ (v : Deed). v.reply.at) (sym e ∙ k.is))
+    → (d : Deed) → DoneBy e d → ((t : ℕ) × (node ≡ Target t)) × (d.reply.at ≡ turn stamp node)
+done_here head past stamp (Target t) (Act x) ok of d e = ((t, refl), ap (λ (v : Deed). v.reply.at) (sym e) ∙ (acted head.osts (only t past) (turn stamp (Target t)) t x (of t (self t))).turn)
+done_here head past stamp (Target t) (Txn x) ok of d e = let k = of t (self t) in ((t, refl), ap (λ (v : Deed). v.reply.at) (sym e ∙ k.is))
 done_here head past stamp (Client c) (Act x) ok of d e = absurd ok
 done_here head past stamp (Client c) (Txn x) ok of d e = absurd ok
 done_here head past stamp node e ok of d q = absurd q

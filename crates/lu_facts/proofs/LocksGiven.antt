@@ -12,6 +12,8 @@ use Rattle.lu_base.specs.declared.ids.Who.{Who}
 use Rattle.lu_base.specs.declared.locks.Cause.{Cause}
 use Rattle.lu_base.specs.declared.locks.Lock.{Lock}
 use Rattle.lu_base.specs.declared.locks.Mode.TheVariants.{PR}
+use Rattle.lu_base.specs.declared.locks.Resource.{Resource}
+use Rattle.lu_msg.specs.declared.answers.Answer.TheVariants as told
 use Rattle.lu_msg.specs.declared.messages.Reply.{Reply as ReplyTo}
 use Rattle.lu_msg.specs.declared.operations.Op.{Op}
 use Rattle.lu_msg.specs.declared.operations.Op.TheVariants as op
@@ -29,7 +31,7 @@ use Rattle.lu_covered.specs.Deeds.{asked}
 use Rattle.lu_covered.specs.ClientStates.{life_of}
 use Rattle.lu_covered.specs.Heads.{Head}
 use Rattle.lu_guards.proofs.Guards.{In, name_of}
-use Rattle.lu_guards.proofs.StoryGuards.{ActOk, TxnOk, BackOk, LeftOk, IsServing}
+use Rattle.lu_guards.proofs.StoryGuards.{ActsOk, TxnOk, BackOk, LeftOk, IsServing}
 use Rattle.lu_guards.proofs.Grown.{ShowsNext}
 use Rattle.lu_guards.proofs.Lists.{in_filter, in_filtered}
 use Rattle.lu_guards.proofs.LockLists.{greatest_least, greatest_has}
@@ -39,7 +41,7 @@ use Rattle.lu_facts.proofs.Groups.{turn, Acted, Phase, Gave, Dead, Evicted, Laps
 use Rattle.lu_facts.proofs.LockLists.{from_who, from_mode, from_once, withs_in, withs_old, withs_new, leaves_or, left_in, held_not, is_of_name, kept_same}
 use Rattle.lu_facts.proofs.LocksStay.{Grows, one_of_four, called_more, given_more, still_closing, Stays, locks_stay}
 
--- ---- an act gives locks
+-- ---- an act gives locks, that of a glimpse none
 
 pub record Gives (osts : ℕ) (past : List Line) (d : Deed) : Type 0 where
   who : (l : Lock) → In l d.reply.locks → l.ask.who ≡ d.reply.who
@@ -55,8 +57,26 @@ pub no_lock : (osts : ℕ) (t : Tree) (number : TxnOf) (who : Who) (o : Op) (r :
 no_lock osts t number who (op.Enqueue resource mode extent) r = refl
 no_lock osts t number who o r = refl
 
-pub act_gives : (osts : ℕ) (past : List Line) (at : At) (d : Deed) → ActOk osts past at d → Gives osts past d
-act_gives osts past at d ok =
+-- the size of an object brings no lock
+size_no_lock : (o : Op) (resource : Resource) (size : ℕ) (r : ReplyTo) → o ≡ op.Size resource → granted_lock o r (told.Size size) ≡ []
+size_no_lock o resource size r e = ap (λ (p : Op). granted_lock p r (told.Size size)) e
+
+pub act_gives : (osts : ℕ) (past : List Line) (at : At) (t : ℕ) (d : Deed) → ActsOk osts past at t d → (server_of osts past).cookie ≤ first_of (server_of osts past).boot + 4294967295 → Gives osts past d
+act_gives osts past at t d (inr a) most =
+    let v = server_of osts past in
+    let r = a.1.request in
+    subst (λ (e : Deed). Gives osts past e) (sym a.1.is)
+    (record {
+      who = λ l i. absurd i;
+      mode = λ l i. absurd i;
+      high = λ l i. absurd i;
+      boot = refl;
+      room = most;
+      apart = λ l k i. absurd i;
+      answers = λ k. size_no_lock r.op a.1.resource 0 k a.1.of_op;
+    })
+act_gives osts past at t d (inl a) most =
+    let ok = a.1 in
     let v = server_of osts past in
     let r = ok.request in
     let wants = grants osts v.tree (asked r none) in

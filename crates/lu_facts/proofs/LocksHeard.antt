@@ -95,7 +95,7 @@ module _ (osts clients : ℕ) (past : List Line) (stamp : Stamp) (c t : ℕ) (lo
 
 -- ---- a reply is heard: its locks aren't dead yet
 
-module _ (head : Head) (past : List Line) (stamp : Stamp) (c t : ℕ) (f : Flight) (r : ReplyTo) (first : t ≡ 0) (ok : HeardOk past c f r) (all : HoldsAt head past) where
+module _ (head : Head) (past : List Line) (stamp : Stamp) (c t : ℕ) (f : Flight) (r : ReplyTo) (first : (t ≡ 0) ⊎ (brought f.op r ≡ [])) (ok : HeardOk past c f r) (all : HoldsAt head past) where
   abbrev hearing : List Line
   hearing = line (turn stamp (Client c)) (Heard t f r) ∷ past
 
@@ -127,6 +127,10 @@ module _ (head : Head) (past : List Line) (stamp : Stamp) (c t : ℕ) (f : Fligh
       (λ (j : In l (granted_lock f.op r r.answer)). absurd (subst (λ (ls : List Lock). In l ls) none_more j))
       (in_append l r.locks (granted_lock f.op r r.answer) i)
 
+  -- what is brought is of the metadata target
+  of_first : (l : Lock) → In l (brought f.op r) → t ≡ 0
+  of_first l i = ⊎_elim (λ (z : t ≡ 0). z) (λ (none : brought f.op r ≡ []). absurd (subst (λ (ls : List Lock). In l ls) none i)) first
+
   not_yet : Hears past of.reply.who of.reply.xid.0 → ⊥
   not_yet x = (all.numbers.over (life_of c past) f.xid (subst (λ v. Hears past (life_of c past) v) (sym of_xid) (subst (λ (w : Who). Hears past w of.reply.xid.0) of_who x))).1 f ok.flying refl
 
@@ -147,12 +151,12 @@ module _ (head : Head) (past : List Line) (stamp : Stamp) (c t : ℕ) (f : Fligh
       (λ (x : Lapsed past of l). absurd (not_lapsed l i x.0))
       (all.locks.alive of l (made.acted, i))
 
-  held_now : (d : ℕ) (g : HeldLock) → In g (held_at d hearing) → In g (held_at d past) ⊎ ((d ≡ c) × ((l : Lock) × In l of.reply.locks × (held_as t l false ≡ g)))
+  held_now : (d : ℕ) (g : HeldLock) → In g (held_at d hearing) → In g (held_at d past) ⊎ ((d ≡ c) × ((l : Lock) × In l (brought f.op r) × (held_as t l false ≡ g)))
   held_now d g =
-      cond_both (nat_eq d c) (with_brought t (brought f.op r) (held_at d past)) (held_at d past) (λ (hs : List HeldLock). In g hs → In g (held_at d past) ⊎ ((d ≡ c) × ((l : Lock) × In l of.reply.locks × (held_as t l false ≡ g))))
+      cond_both (nat_eq d c) (with_brought t (brought f.op r) (held_at d past)) (held_at d past) (λ (hs : List HeldLock). In g hs → In g (held_at d past) ⊎ ((d ≡ c) × ((l : Lock) × In l (brought f.op r) × (held_as t l false ≡ g))))
       (λ q i. ⊎_elim
       (λ (j : In g (held_at d past)). inl j)
-      (λ (j : (l : Lock) × In l (brought f.op r) × (held_as t l false ≡ g)). inr (eqb-true d c q, (j.0, comes j.0 j.1, j.2)))
+      (λ (j : (l : Lock) × In l (brought f.op r) × (held_as t l false ≡ g)). inr (eqb-true d c q, j))
       (brought_in t (brought f.op r) (held_at d past) g i))
       (λ q i. inl i)
 
@@ -165,7 +169,7 @@ module _ (head : Head) (past : List Line) (stamp : Stamp) (c t : ℕ) (f : Fligh
     not_held (name_of l.cookie) (held_at d.reply.who.client hearing)
         (λ g i. ⊎_elim
         (λ (j : In g (held_at d.reply.who.client past)). held_not (name_of l.cookie) (held_at d.reply.who.client past) x.1 g j)
-        (λ (j : (d.reply.who.client ≡ c) × ((m : Lock) × In m of.reply.locks × (held_as t m false ≡ g))). not_of_name l.cookie g (λ e. again j.1.0 j.1.1 (ap (λ (v : HeldLock). v.lock.cookie.0) j.1.2 ∙ e)))
+        (λ (j : (d.reply.who.client ≡ c) × ((m : Lock) × In m (brought f.op r) × (held_as t m false ≡ g))). not_of_name l.cookie g (λ e. again j.1.0 (comes j.1.0 j.1.1) (ap (λ (v : HeldLock). v.lock.cookie.0) j.1.2 ∙ e)))
         (held_now d.reply.who.client g i)),
   )
     where
@@ -174,8 +178,8 @@ module _ (head : Head) (past : List Line) (stamp : Stamp) (c t : ℕ) (f : Fligh
           let same : d ≡ of = (all.locks.once d of l m gave (made.acted, i) (ap numbered (sym e))).0 in
           not_yet (subst (λ (v : Deed). Hears past v.reply.who v.reply.xid.0) same x.0)
 
-  holding_new : (l : Lock) → In l of.reply.locks → Holding head.osts hearing c (held_as t l false)
-  holding_new l i = record { target = first; deed = of; gave = (made.acted, i); who = of_who; heard = inl (own_self past c, of_xid); granted = lives l i }
+  holding_new : (l : Lock) → In l (brought f.op r) → Holding head.osts hearing c (held_as t l false)
+  holding_new l i = record { target = of_first l i; deed = of; gave = (made.acted, comes l i); who = of_who; heard = inl (own_self past c, of_xid); granted = lives l (comes l i) }
 
   pub heard_lapsed : StaysLapsed past hearing
   heard_lapsed d l gave x = (
@@ -183,7 +187,7 @@ module _ (head : Head) (past : List Line) (stamp : Stamp) (c t : ℕ) (f : Fligh
     not_held (name_of l.cookie) (held_at d.reply.who.client hearing)
         (λ g i. ⊎_elim
         (λ (j : In g (held_at d.reply.who.client past)). held_not (name_of l.cookie) (held_at d.reply.who.client past) x.1 g j)
-        (λ (j : (d.reply.who.client ≡ c) × ((m : Lock) × In m of.reply.locks × (held_as t m false ≡ g))). not_of_name l.cookie g (λ e. again j.1.0 j.1.1 (ap (λ (v : HeldLock). v.lock.cookie.0) j.1.2 ∙ e)))
+        (λ (j : (d.reply.who.client ≡ c) × ((m : Lock) × In m (brought f.op r) × (held_as t m false ≡ g))). not_of_name l.cookie g (λ e. again j.1.0 (comes j.1.0 j.1.1) (ap (λ (v : HeldLock). v.lock.cookie.0) j.1.2 ∙ e)))
         (held_now d.reply.who.client g i)),
   )
     where
@@ -204,7 +208,7 @@ module _ (head : Head) (past : List Line) (stamp : Stamp) (c t : ℕ) (f : Fligh
         granted = all.locks.granted;
         held = λ d g i. ⊎_elim
             (λ (j : In g (held_at d past)). let o = all.locks.held d g j in record { target = o.target; deed = o.deed; gave = o.gave; who = o.who; heard = inr o.heard; granted = o.granted })
-            (λ (j : (d ≡ c) × ((l : Lock) × In l of.reply.locks × (held_as t l false ≡ g))). subst (λ (v : HeldLock). Holding head.osts hearing d v) j.1.2 (subst (λ v. Holding head.osts hearing v (held_as t j.1.0 false)) (sym j.0) (holding_new j.1.0 j.1.1)))
+            (λ (j : (d ≡ c) × ((l : Lock) × In l (brought f.op r) × (held_as t l false ≡ g))). subst (λ (v : HeldLock). Holding head.osts hearing d v) j.1.2 (subst (λ v. Holding head.osts hearing v (held_as t j.1.0 false)) (sym j.0) (holding_new j.1.0 j.1.1)))
             (held_now d g i);
         alive = λ d l g. one_of_four
             (λ (i : In l (server_of head.osts past).granted). inl i)

@@ -45,7 +45,7 @@ free_new flights f i e = let a = has_in flights f i in let b = free_is (above_ta
 
 -- ---- one more in flight
 
-module _ (head : Head) (past : List Line) (stamp : Stamp) (d t : ℕ) (f : Flight) (ok : FliesOk head past d f) (p : Phase head.osts past) (h : Numbers past) where
+module _ (head : Head) (past : List Line) (stamp : Stamp) (d t : ℕ) (f : Flight) (ok : FliesOk head past d t f) (p : Phase head.osts past) (h : Numbers past) where
   abbrev new : List Line
   new = line (turn stamp (Client d)) (Flies t f) ∷ past
 

@@ -13,6 +13,7 @@ use Rattle.lu_machine.specs.Fits.{answer_fits}
 use Rattle.lu_machine.specs.Laws.{IsReading}
 use Rattle.lu_words.specs.Carried.{HandleFile}
 use Rattle.lu_covered.specs.Calls.{operation_of, told_as}
+use Rattle.lu_guards.proofs.ClientLines.{IsNames}
 
 -- the operations that calls become so far
 abbrev pub IsOnNames : Op → Type 0
@@ -30,6 +31,15 @@ IsOnNames (op.Chmod path mode) = Unit {0}
 IsOnNames (op.Open path) = Unit {0}
 IsOnNames (op.Close number fid) = Unit {0}
 IsOnNames _ = ⊥
+
+-- all that may be asked of the metadata target
+pub names_on : (o : Op) → IsNames o → IsOnNames o
+names_on (op.Enqueue resource mode extent) n = absurd n
+names_on (op.Get resource cookie page) n = absurd n
+names_on (op.Put resource cookie offset bytes) n = absurd n
+names_on (op.Cut resource cookie size) n = absurd n
+names_on (op.Size resource) n = absurd n
+names_on o n = tt
 
 pub op_is : (a b : Op) → Some a ≡ Some b → a ≡ b
 op_is a b e = cc

@@ -29,6 +29,7 @@ use Rattle.lu_guards.proofs.Guards.{In, Was, HeardNow}
 use Rattle.lu_guards.proofs.StoryGuards.{IsServing, IsRecovering, EvictOk, LeavesOk, JoinedOk, ComesOk, BootOk, LifeOf, BootKnownOk, SendOf, EntryOf, locks_told}
 use Rattle.lu_guards.proofs.Lists.{life_is, in_filter}
 use Rattle.lu_guards.proofs.ClientLocks.{in_mapped}
+use Rattle.lu_guards.proofs.Acts.{acted}
 use Rattle.lu_facts.proofs.Groups.{turn, HeardAs, HasSlot, BootIn, boot_told, who_told, ReplayedRise, BroughtRise, ToldIn, Recovers, HoldsAt}
 use Rattle.lu_facts.proofs.LockLists.{Kept, kept_same, changed_kept, unmarked_kept, used_in}
 use Rattle.lu_facts.proofs.Phase.{life_rises}
@@ -492,7 +493,7 @@ keeps_recovers head past stamp (Client c) (Serves t boot) ok h =
     }
 keeps_recovers head past stamp (Client c) (Act d) ok h = absurd ok
 keeps_recovers head past stamp (Client c) (Made d) ok h = absurd ok
-keeps_recovers head past stamp (Target t) (Act d) ok h = recovers_act head.osts head.clients past stamp t ok.serves h.recovers d
+keeps_recovers head past stamp (Target t) (Act d) ok h = recovers_act head.osts head.clients past stamp t (acted head.osts past (turn stamp (Target t)) t d ok).serves h.recovers d
 keeps_recovers head past stamp (Target t) (Made d) ok h = recovers_txn head.osts head.clients past stamp t ok.serves h.recovers d
 keeps_recovers head past stamp (Target t) (Evict who cause) ok h =
     recovers_evict head.osts head.clients past stamp t (⊎_elim (λ (o : EvictOk head past (turn stamp (Target t)) who cause). o.serves) (λ (o : LeavesOk head past (turn stamp (Target t)) who cause). o.serves) ok) h.recovers who cause

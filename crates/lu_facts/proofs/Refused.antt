@@ -1,11 +1,12 @@
 -- A reading that acts and is granted no lock is refused; so each answer that comes without locks is told at once.
-use Rattle.std.proofs.Common.{◌≡◌, ℕ, true, List, [], ◌∷◌, ⊎_elim, refl, sym, subst, ap}
-use Rattle.std.specs.Prelude.{nat_eq}
+use Rattle.std.proofs.Common.{◌≡◌, ℕ, true, List, [], ◌∷◌, inl, inr, ⊎_elim, refl, sym, subst, ap, ◌∙◌}
 use Rattle.lu_base.specs.declared.ids.At.{At}
 use Rattle.lu_base.specs.declared.ids.Node.{Node}
 use Rattle.lu_base.specs.declared.ids.Node.TheVariants.{Client, Target}
 use Rattle.lu_part.specs.declared.parts.Want.{Want}
 use Rattle.lu_base.specs.declared.ids.Who.{Who}
+use Rattle.lu_msg.specs.declared.answers.Answer.{Answer}
+use Rattle.lu_msg.specs.declared.operations.Op.{Op}
 use Rattle.lu_msg.specs.declared.operations.Op.TheVariants as op
 use Rattle.lu_machine.specs.Fits.{answer_fits}
 use Rattle.lu_machine.specs.Footprint.{grants}
@@ -19,12 +20,15 @@ use Rattle.lu_words.specs.Concerns.{only}
 use Rattle.lu_covered.specs.TargetStates.{none, server_of, next_number}
 use Rattle.lu_covered.specs.Deeds.{asked}
 use Rattle.lu_covered.specs.Heads.{Head}
-use Rattle.lu_guards.proofs.StoryGuards.{ActOk, TxnOk}
+use Rattle.lu_guards.proofs.StoryGuards.{ActsOk, TxnOk}
+use Rattle.lu_guards.proofs.Acts.{sized_op, sized_answer}
 use Rattle.lu_guards.proofs.Grown.{Allowed, Grown}
+use Rattle.lu_guards.proofs.Lists.{self}
 use Rattle.lu_facts.proofs.Groups.{turn, Acted}
-use Rattle.lu_facts.proofs.OnNames.{IsRefusal, IsPlain, is_plain}
+use Rattle.lu_facts.proofs.OnNames.{names_on, IsRefusal, IsPlain, is_plain}
 use Rattle.lu_facts.proofs.Readings.{reading_refused}
-use Rattle.lu_facts.proofs.Asked.{acted_other, acted_on_names}
+use Rattle.lu_facts.proofs.Sides.{acted_at, acted_only, ActedKind, acted_kind}
+use Rattle.lu_facts.proofs.Asked.{acted_other}
 
 -- what is known of an answer
 abbrev pub IsAnswered : Deed → Type 0
@@ -35,8 +39,14 @@ no_wants : (cookie : ℕ) (who : Who) (wants : List Want) → locks_from cookie 
 no_wants cookie who [] e = refl
 no_wants cookie who (want ∷ wants) e = absurd (cc)
 
-act_answered : (osts : ℕ) (past : List Line) (at : At) (d : Deed) → ActOk osts past at d → IsAnswered d
-act_answered osts past at d ok =
+act_answered : (osts : ℕ) (past : List Line) (at : At) (t : ℕ) (d : Deed) → ActsOk osts past at t d → IsAnswered d
+act_answered osts past at t d (inr a) =
+    let of_op : d.op ≡ op.Size a.1.resource = sized_op osts past at d a.1 in (
+      ap (λ (o : Op). answer_fits o d.reply.answer) of_op ∙ ap (λ (v : Answer). answer_fits (op.Size a.1.resource) v) (sized_answer osts past at d a.1),
+      λ reads may e. absurd (subst IsReading of_op reads),
+    )
+act_answered osts past at t d (inl a) =
+    let ok = a.1 in
     let v = server_of osts past in
     let r = ok.request in
     subst IsAnswered (sym ok.is) (answers_fit osts v.tree (asked r none), λ reads may e. reading_refused osts v.tree none r.who r.op reads may (no_wants v.cookie r.who (grants osts v.tree (asked r none)) e))
@@ -52,24 +62,30 @@ pub acted_answered : (head : Head) (past : List Line) (d : Deed) → Grown head 
 acted_answered head [] d g a = absurd a
 acted_answered head (l ∷ past) d g a = by l.at.node l.entry g.0 a (acted_answered head past d g.1)
   where
-    of_it : (t : ℕ) → t ≡ 0 → nat_eq 0 t ≡ true
-    of_it t e = ap (λ (v : ℕ). nat_eq 0 v) e
-
     by : (node : Node) (e : Entry) → Allowed head past (turn l.at.stamp node) e → Acted (line (turn l.at.stamp node) e ∷ past) d → (Acted past d → IsAnswered d) → IsAnswered d
     by (Client c) (Act x) k a h = absurd k.ok
     by (Client c) (Made x) k a h = absurd k.ok
     by (Target t) (Act x) k a h = ⊎_elim
-        (λ (p : x ≡ d). subst IsAnswered p (act_answered head.osts (only 0 past) (turn l.at.stamp (Target t)) x (k.of 0 (of_it t k.ok))))
+        (λ (p : x ≡ d). subst IsAnswered p (act_answered head.osts (only t past) (turn l.at.stamp (Target t)) t x (k.of t (self t))))
         (λ (p : Acted past d). h p)
         a
     by (Target t) (Made x) k a h = ⊎_elim
-        (λ (p : x ≡ d). subst IsAnswered p (txn_answered head.osts (only 0 past) (turn l.at.stamp (Target t)) x (k.of 0 (of_it t k.ok))))
+        (λ (p : x ≡ d). subst IsAnswered p (txn_answered head.osts (only t past) (turn l.at.stamp (Target t)) x (k.of t (self t))))
         (λ (p : Acted past d). h p)
         a
     by _ _ k a h = h a
 
+-- of which target it is, and what that one does
+kind_of : (head : Head) (past : List Line) (d : Deed) → Grown head past → Acted past d → (t : ℕ) × ActedKind t d
+kind_of head past d g a = let n = acted_at head past d g a in (n.0, acted_kind head past n.0 d g (acted_only head past d n.0 g a n.1))
+
 pub acted_refused : (head : Head) (past : List Line) (d : Deed) → Grown head past → Acted past d → IsReading d.op → d.reply.locks ≡ [] → IsRefusal d.reply.answer
 acted_refused head past d g a reads e = (acted_answered head past d g a).1 reads (acted_other head past d g a) e
 
+-- the size of an object is told at once too
 pub acted_plain : (head : Head) (past : List Line) (d : Deed) → Grown head past → Acted past d → d.reply.locks ≡ [] → IsPlain d.reply.answer
-acted_plain head past d g a e = is_plain d.op d.reply.answer (acted_on_names head past d g a) (acted_answered head past d g a).0 (λ reads. acted_refused head past d g a reads e)
+acted_plain head past d g a e = let k = kind_of head past d g a in by k.0 k.1
+  where
+    by : (t : ℕ) → ActedKind t d → IsPlain d.reply.answer
+    by t (inl k) = is_plain d.op d.reply.answer (names_on d.op k.1) (acted_answered head past d g a).0 (λ reads. acted_refused head past d g a reads e)
+    by t (inr k) = subst IsPlain (sym k.1.answer) tt

@@ -1,5 +1,5 @@
--- Who is told what: the reply that answered a call is to what was done for its operation after it began.
-use Rattle.std.proofs.Common.{◌≡◌, ℕ, List, ◌∷◌, Option, Some, None, ◌⊎◌, ⊎_elim, refl, sym, subst, ap, ◌∙◌, arith}
+-- Who is told what: the reply that answered a call is to what was done for what it asked after it began.
+use Rattle.std.proofs.Common.{◌≡◌, ℕ, ◌<◌, List, ◌∷◌, Option, Some, None, ◌⊎◌, inl, inr, ⊎_elim, refl, sym, subst, ap, ◌∙◌, arith}
 use Rattle.std.specs.Prelude.{nat_eq}
 use Rattle.std.proofs.lemmas.Bool.{cond_both, eqb-true}
 use Rattle.lu_base.specs.declared.ids.At.{At}
@@ -11,21 +11,24 @@ use Rattle.lu_msg.specs.declared.calls.Call.{Call}
 use Rattle.lu_msg.specs.declared.messages.Message.TheVariants as message
 use Rattle.lu_msg.specs.declared.messages.Reply.{Reply as ReplyTo}
 use Rattle.lu_msg.specs.declared.operations.Op.{Op}
-use Rattle.lu_words.specs.Carried.{Deed, HandleFile, Flight, Answered, Running}
+use Rattle.lu_msg.specs.declared.operations.Op.TheVariants as op
+use Rattle.lu_words.specs.Carried.{Deed, HandleFile, Flight, Answered, Plain, Sizes, Work, Running}
 use Rattle.lu_words.specs.Words.{Entry, Tick, Queues, Heard, Life, Line, line}
 use Rattle.lu_words.specs.Concerns.{only}
-use Rattle.lu_covered.specs.Calls.{call_at, life_at, operation_of, becomes}
+use Rattle.lu_covered.specs.Calls.{errand, call_at, life_at, operation_of}
 use Rattle.lu_covered.specs.Imports.{flights_at}
 use Rattle.lu_covered.specs.ClientStates.{flights_of, life_of}
 use Rattle.lu_covered.specs.Heads.{Head}
-use Rattle.lu_guards.proofs.Guards.{In, Ending, EntryOk}
+use Rattle.lu_guards.proofs.Guards.{In, Ending, SizesSoFar, EntryOk}
 use Rattle.lu_guards.proofs.StoryGuards.{HeardOk}
 use Rattle.lu_guards.proofs.Grown.{Grown}
 use Rattle.lu_guards.proofs.Lists.{self}
+use Rattle.lu_guards.proofs.ClientLines.{IsNames, IsSize, IsAskedOf, flights_asked}
 use Rattle.lu_guards.proofs.Parts.{flights_now, life_is_of}
-use Rattle.lu_facts.proofs.Groups.{turn, Flew, Acted, HoldsAt, CallOf, Asks, Upto, Since, Replied, Replies}
+use Rattle.lu_facts.proofs.Groups.{turn, Flew, Acted, HoldsAt, CallOf, Asks, Upto, Since, AnswersFor, Replied, Replies}
 use Rattle.lu_facts.proofs.Lines.{AtEach, only_more}
-use Rattle.lu_facts.proofs.Calls.{Began, Touches, Touched, call_cases}
+use Rattle.lu_facts.proofs.Asks.{plain_errand, sizes_errand, stages_errand}
+use Rattle.lu_facts.proofs.Calls.{Began, Touches, Touched, Stood, call_cases}
 use Rattle.lu_facts.proofs.Endings.{reply_ends_none}
 
 replied_more : (past : List Line) (l : Line) (c : ℕ) (r : Running) (target : ℕ) (reply : ReplyTo) → life_at c (l ∷ past) ≡ life_at c past → Replied past c r target reply → Replied (l ∷ past) c r target reply
@@ -48,12 +51,28 @@ flew_op head past who f d h i a w x =
     let same : f ≡ g.0 = h.numbers.one who f g.0 (h.numbers.flying who f i) (subst (λ v. Flew past v g.0) w g.1) (omega arith) in
     ap (λ (v : Flight). v.op) same ∙ g.3
 
-call_op : (past : List Line) (c slot : ℕ) (f : Flight) (r : Running) → CallOf past c f.slot f.op → f.slot ≡ Some slot → call_at c slot past ≡ Some r → becomes r ≡ Some f.op
-call_op past c slot f r k s w =
-    let q = subst (λ (v : Option ℕ). CallOf past c v f.op) s k in
+-- what is on names doesn't ask how long an object is
+neither : (o : Op) → IsNames o → IsSize o → ⊥
+neither (op.Size resource) n s = n
+neither o n s = s
+
+-- what a call asked, that waits for the answer
+call_op : (head : Head) (past : List Line) (c t slot : ℕ) (f : Flight) (r : Running) → Grown head past → In f (flights_at c t past) → CallOf past c t f.slot f.op → f.slot ≡ Some slot → call_at c slot past ≡ Some r → AnswersFor r t f.op
+call_op head past c t slot f r g i k s w =
+    let q = subst (λ (v : Option ℕ). CallOf past c t v f.op) s k in
     let x : Some q.0 ≡ Some r = sym q.1 ∙ w in
     let same : q.0 ≡ r = cc in
-    subst (λ (v : Running). becomes v ≡ Some f.op) same q.3
+    subst (λ (v : Running). AnswersFor v t f.op) same (by q.0 q.3 (stages_errand q.0 (record { target = t; op = f.op }) q.3))
+  where
+    sized : IsAskedOf t f.op → IsSize f.op → 0 < t
+    sized (inl a) is = absurd (neither f.op a.1 is)
+    sized (inr a) is = a.0
+
+    by : (v : Running) → errand v ≡ Some (record { target = t; op = f.op }) → (v.stage ≡ Plain) ⊎ ((y : Work) × (v.stage ≡ Sizes y)) → AnswersFor v t f.op
+    by v e (inl plain) = let m = plain_errand v t f.op plain e in inl (plain, m.0, m.1)
+    by v e (inr (y, sizes)) =
+        let is : IsSize f.op = subst IsSize (sym (sizes_errand v y t f.op sizes e).of_op) tt in
+        inr (y, sizes, sized (flights_asked head c t past g f i) is, is)
 
 -- the call whose request's reply is heard
 heard_replied : (head : Head) (past : List Line) (d u slot : ℕ) (f : Flight) (k : ReplyTo) (before : Running) → Grown head past → (Ending past d → ⊥) → HeardOk (only u past) d f k → HoldsAt head (only u past) → Asks past → Since past
@@ -68,20 +87,31 @@ heard_replied head past d u slot f k before g lives ok at asks since s call =
       acted = m.acted;
       is = sym m.is;
       client = ok.who ∙ sym (life_is_of d u past);
-      op = call_op past d slot f before (asks.fly_calls d u f lives flying) s call ∙ ap (λ (v : Op). Some v) (flew_op head (only u past) (life_of d (only u past)) f m.deed at ok.flying m.acted mine x);
+      op = subst (λ (v : Op). AnswersFor before u v) (flew_op head (only u past) (life_of d (only u past)) f m.deed at ok.flying m.acted mine x) (call_op head past d u slot f before g flying (asks.fly_calls d u f lives flying) s call);
       since = subst (λ (v : ReplyTo). Upto before.at v.at) (sym m.is) (since d u slot f before m.deed flying s call m.acted (mine ∙ sym (life_is_of d u past)) x);
     }
 
-replied_as : (past : List Line) (c : ℕ) (q r : Running) (t : ℕ) (k : ReplyTo) → q.at ≡ r.at → q.call ≡ r.call → q.file ≡ r.file → Replied past c q t k → Replied past c r t k
-replied_as past c q r t k a s i h =
+-- a call that asks the same
+replied_as : (past : List Line) (c : ℕ) (q r : Running) (t : ℕ) (k : ReplyTo) → q.at ≡ r.at → ((o : Op) → AnswersFor q t o → AnswersFor r t o) → Replied past c q t k → Replied past c r t k
+replied_as past c q r t k a asked h =
     record {
       deed = h.deed;
       acted = h.acted;
       is = h.is;
       client = h.client;
-      op = ap (λ (v : Call). operation_of r.file v) (sym s) ∙ ap (λ (v : Option HandleFile). operation_of v q.call) (sym i) ∙ h.op;
+      op = asked h.deed.op h.op;
       since = subst (λ (v : At). Upto v k.at) a h.since;
     }
+
+answers_as : (q r : Running) (t : ℕ) → q.call ≡ r.call → q.file ≡ r.file → q.stage ≡ r.stage → (o : Op) → AnswersFor q t o → AnswersFor r t o
+answers_as q r t s i n o (inl a) = inl (sym n ∙ a.0, a.1, ap (λ (v : Call). operation_of r.file v) (sym s) ∙ ap (λ (v : Option HandleFile). operation_of v q.call) (sym i) ∙ a.2)
+answers_as q r t s i n o (inr a) = inr (a.0, sym n ∙ a.1, a.2, a.3)
+
+-- a glimpse that was answered goes on
+answers_on : (past : List Line) (at : At) (q r : Running) (sizes : List ℕ) (w : Work) (t : ℕ) (k : ReplyTo) → SizesSoFar past at q sizes → q.asking ≡ Answered t k → r.stage ≡ Sizes w → (o : Op) → AnswersFor q t o → AnswersFor r t o
+answers_on past at q r sizes w t k (inl new) a is o asked = absurd (let b = new.1 in cc)
+answers_on past at q r sizes w t k (inr heard) a is o (inl asked) = absurd (let b = heard.stage in let plain = asked.0 in cc)
+answers_on past at q r sizes w t k (inr heard) a is o (inr asked) = inr (w, is, asked.2, asked.3)
 
 module _ (head : Head) (past : List Line) (g : Grown head past) (at : (t : ℕ) → HoldsAt head (only t past)) (asks : Asks past) (since : Since past) where
   touched_replied : (stamp : Stamp) (node : Node) (e : Entry) → EntryOk past (turn stamp node) node e → AtEach head past (turn stamp node) node e → (c slot target : ℕ) (r : Running) (reply : ReplyTo) → (q : Touched past node e c slot r) → Touches node e c slot r.asking
@@ -93,20 +123,27 @@ module _ (head : Head) (past : List Line) (g : Grown head past) (at : (t : ℕ) 
       let is_client : d ≡ c = cc in
       subst (λ (v : ℕ). Replied past c r v reply) is_target
       (subst (λ (v : ReplyTo). Replied past c r u v) is_reply
-      (replied_as past c q.before r u k q.at q.same q.file
+      (replied_as past c q.before r u k q.at (answers_as q.before r u q.same q.file q.stage)
       (subst (λ (v : ℕ). Replied past v q.before u k) is_client
       (heard_replied head past d u slot f k q.before g (reply_ends_none head past (turn stamp (Client d)) (Target u) k d g ok.1) (of u (self u)) (at u) asks since s (subst (λ (v : ℕ). call_at v slot past ≡ Some q.before) (sym is_client) q.call)))))
   touched_replied stamp (Target v) (Heard u f k) ok of c slot target r reply q (n, s, asking) a = absurd (cc)
   touched_replied stamp node (Queues u w) ok of c slot target r reply q asking a = absurd (cc)
   touched_replied stamp node e ok of c slot target r reply q never a = absurd never
 
+  stood_replied : (now : At) (c slot target : ℕ) (r : Running) (reply : ReplyTo) → (q : Stood past now c slot r) → Replied past c q.before target reply → q.before.asking ≡ Answered target reply → Replied past c r target reply
+  stood_replied now c slot target r reply q k a =
+      let same : q.before ≡ q.stands.running = (let w : Some q.before ≡ Some q.stands.running = sym q.call ∙ q.stands.call in cc) in
+      replied_as past c q.before r target reply q.at (answers_on past now q.before r q.stands.sizes q.work target reply (subst (λ (v : Running). SizesSoFar past now v q.stands.sizes) (sym same) q.stands.so_far) a q.stage) k
+
   pub keeps_replies : (stamp : Stamp) (node : Node) (e : Entry) → EntryOk past (turn stamp node) node e → AtEach head past (turn stamp node) node e → Replies past → Replies (line (turn stamp node) e ∷ past)
   keeps_replies stamp node e ok of h c slot target r reply k a =
       replied_more past (line (turn stamp node) e) c r target reply (call_lives past stamp node e ok c slot r k)
       (⊎_elim
       (λ (p : call_at c slot past ≡ Some r). h c slot target r reply p a)
-      (λ (p : Began past (turn stamp node) e c slot r ⊎ Touched past node e c slot r). ⊎_elim
+      (λ (p : Began past (turn stamp node) e c slot r ⊎ (Touched past node e c slot r ⊎ Stood past (turn stamp node) c slot r)). ⊎_elim
       (λ (q : Began past (turn stamp node) e c slot r). let n = q.asking in absurd (cc))
+      (⊎_elim
       (λ (q : Touched past node e c slot r). touched_replied stamp node e ok of c slot target r reply q q.asking a)
+      (λ (q : Stood past (turn stamp node) c slot r). stood_replied (turn stamp node) c slot target r reply q (h c slot target q.before reply q.call (q.asking ∙ a)) (q.asking ∙ a)))
       p)
       (call_cases past stamp node e ok c slot r k))

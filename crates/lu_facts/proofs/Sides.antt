@@ -1,83 +1,146 @@
--- Where things are done, and between whom messages go: all is done by the metadata target, so it is in that target's
--- story; messages go from clients to targets and back, and but for those of lives and boots to the metadata target and back.
-use Rattle.std.proofs.Common.{◌≡◌, ℕ, Bool, true, List, [], ◌∷◌, ⊎_elim, refl, sym, subst, ap, ◌∙◌}
-use Rattle.std.specs.Prelude.{nat_eq, if◌then◌else◌}
+-- Where things are done, and between whom messages go: what a target does is in its story, and names it. The metadata target does operations
+-- on names, and another one tells of an object that it has no bytes; that is also what each is asked for. Messages go from clients to targets
+-- and back.
+use Rattle.std.proofs.Common.{◌≡◌, ℕ, ◌<◌, Bool, true, List, [], ◌∷◌, ◌⊎◌, inl, inr, ⊎_elim, refl, sym, subst, ap, ◌∙◌, arith}
+use Rattle.std.specs.Prelude.{if◌then◌else◌}
+use Rattle.std.proofs.lemmas.Bool.{cond_both, eqb-true}
 use Rattle.lu_base.specs.declared.ids.At.{At}
 use Rattle.lu_base.specs.declared.ids.Node.{Node}
 use Rattle.lu_base.specs.declared.ids.Node.TheVariants.{Client, Target}
+use Rattle.lu_base.specs.declared.ids.Who.{Who}
+use Rattle.lu_base.specs.declared.locks.Resource.{Resource}
+use Rattle.lu_msg.specs.declared.answers.Answer.TheVariants as told
 use Rattle.lu_msg.specs.declared.messages.Message.{Message}
 use Rattle.lu_msg.specs.declared.messages.Message.TheVariants as message
-use Rattle.lu_words.specs.Carried.{Deed}
-use Rattle.lu_words.specs.Words.{Entry, Send, Line, line}
+use Rattle.lu_msg.specs.declared.messages.Request.{Request as RequestOf}
+use Rattle.lu_msg.specs.declared.operations.Op.TheVariants as op
+use Rattle.lu_words.specs.Carried.{Deed, Queued, Flight}
+use Rattle.lu_words.specs.Words.{Entry, Send, Flies, Act, Txn as Made, Line, line}
 use Rattle.lu_words.specs.Concerns.{concerns, only}
-use Rattle.lu_words.specs.Sent.{Sent}
+use Rattle.lu_covered.specs.ClientStates.{is_own}
+use Rattle.lu_covered.specs.TargetStates.{none}
 use Rattle.lu_covered.specs.Heads.{Head}
-use Rattle.lu_guards.proofs.Guards.{Was, EntryOk}
-use Rattle.lu_guards.proofs.Grown.{Grown}
+use Rattle.lu_guards.proofs.Guards.{In, Was, EntryOk}
+use Rattle.lu_guards.proofs.StoryGuards.{ActsOk}
+use Rattle.lu_guards.proofs.Grown.{Allowed, Grown}
 use Rattle.lu_guards.proofs.Lists.{self}
-use Rattle.lu_guards.proofs.Only.{sent_was, was_only}
-use Rattle.lu_facts.proofs.Groups.{Acted}
+use Rattle.lu_guards.proofs.Only.{was_only}
+use Rattle.lu_guards.proofs.Parts.{queue_now}
+use Rattle.lu_guards.proofs.ClientLines.{IsNames, IsAskedOf, queue_asked}
+use Rattle.lu_guards.proofs.Comings.{request_asked}
+use Rattle.lu_facts.proofs.Groups.{turn, Flew, Acted}
 use Rattle.lu_facts.proofs.Lines.{DoneBy, acted_line, acted_here, only_more, done_here}
+use Rattle.lu_facts.proofs.All.{holds}
 
 -- ---- what was done
 
-pub acted_at : (head : Head) (past : List Line) (d : Deed) → Grown head past → Acted past d → d.reply.at.node ≡ Target 0
+pub acted_at : (head : Head) (past : List Line) (d : Deed) → Grown head past → Acted past d → (t : ℕ) × (d.reply.at.node ≡ Target t)
 acted_at head [] d g a = absurd a
 acted_at head (l ∷ past) d g a =
     ⊎_elim
-    (λ (p : DoneBy l.entry d). let k = done_here head past l.at.stamp l.at.node l.entry g.0.ok g.0.of d p in ap (λ (v : At). v.node) k.1 ∙ k.0)
+    (λ (p : DoneBy l.entry d). let k = done_here head past l.at.stamp l.at.node l.entry g.0.ok g.0.of d p in (k.0.0, ap (λ (v : At). v.node) k.1 ∙ k.0.1))
     (λ (p : Acted past d). acted_at head past d g.1 p)
     (acted_line l.at l.entry past d a)
 
-pub acted_only : (head : Head) (past : List Line) (d : Deed) → Grown head past → Acted past d → Acted (only 0 past) d
-acted_only head [] d g a = absurd a
-acted_only head (l ∷ past) d g a =
+pub acted_only : (head : Head) (past : List Line) (d : Deed) (t : ℕ) → Grown head past → Acted past d → d.reply.at.node ≡ Target t → Acted (only t past) d
+acted_only head [] d t g a n = absurd a
+acted_only head (l ∷ past) d t g a n =
     ⊎_elim
     (λ (p : DoneBy l.entry d).
     let k = done_here head past l.at.stamp l.at.node l.entry g.0.ok g.0.of d p in
-    subst (λ (b : Bool). Acted (if b then l ∷ only 0 past else only 0 past) d) (sym (ap (λ (v : Node). concerns 0 v l.entry) k.0)) (acted_here l.at l.entry (only 0 past) d p))
-    (λ (p : Acted past d). only_more 0 l past d (acted_only head past d g.1 p))
+    let here : l.at.node ≡ Target t = ap (λ (v : At). v.node) (sym k.1) ∙ n in
+    subst (λ (b : Bool). Acted (if b then l ∷ only t past else only t past) d) (sym (ap (λ (v : Node). concerns t v l.entry) here ∙ self t)) (acted_here l.at l.entry (only t past) d p))
+    (λ (p : Acted past d). only_more t l past d (acted_only head past d t g.1 p n))
     (acted_line l.at l.entry past d a)
 
+-- ---- what may be asked and done
+
+-- what flew to a target may be asked of it
+pub flew_kind : (head : Head) (past : List Line) (t : ℕ) (who : Who) (f : Flight) → Grown head past → Flew (only t past) who f → IsAskedOf t f.op
+flew_kind head [] t who f g a = absurd a
+flew_kind head (l ∷ past) t who f g a =
+    cond_both (concerns t l.at.node l.entry) (l ∷ only t past) (only t past) (λ (p : List Line). Flew p who f → IsAskedOf t f.op)
+    (λ o b. by l.at.node l.entry g.0 o b (flew_kind head past t who f g.1))
+    (λ o b. flew_kind head past t who f g.1 b)
+    a
+  where
+    by : (node : Node) (e : Entry) → Allowed head past (turn l.at.stamp node) e → concerns t node e ≡ true → Flew (line (turn l.at.stamp node) e ∷ only t past) who f → (Flew (only t past) who f → IsAskedOf t f.op) → IsAskedOf t f.op
+    by (Target u) (Flies v q) k o b h = absurd k.ok
+    by (Client d) (Flies v q) k o b h =
+        ⊎_elim
+        (λ (p : (is_own who (only t past) (Client d) ≡ true) × (q ≡ f)).
+        let ok = k.of t o in
+        let same = ap (λ (w : Flight). w.op) (sym ok.is) ∙ ap (λ (w : Flight). w.op) p.1 in
+        let first = subst (λ (qs : List Queued). In ok.front qs) (sym (queue_now head d t past g.1 ∙ ok.queue)) (inl refl) in
+        subst (IsAskedOf t) same (queue_asked head d t past g.1 ok.front first))
+        (λ (p : Flew (only t past) who f). h p)
+        b
+    by _ _ k o b h = h b
+
+-- a target that isn't the metadata target tells of an object that it has no bytes
+pub record ToldSize (d : Deed) : Type 0 where
+  pub resource : Resource
+  pub of_op : d.op ≡ op.Size resource
+  pub answer : d.reply.answer ≡ told.Size 0
+  pub locks : d.reply.locks ≡ []
+  pub number : d.reply.txn ≡ none
+  pub writes : d.writes ≡ []
+
+told_size : (osts : ℕ) (past : List Line) (at : At) (t : ℕ) (d : Deed) → 0 < t → ActsOk osts past at t d → ToldSize d
+told_size osts past at t d high (inl a) = absurd (let zero = a.0 in omega (arith, high, zero))
+told_size osts past at t d high (inr a) =
+    let ok = a.1 in
+    record {
+      resource = ok.resource;
+      of_op = ap (λ (v : Deed). v.op) ok.is ∙ ok.of_op;
+      answer = ap (λ (v : Deed). v.reply.answer) ok.is;
+      locks = ap (λ (v : Deed). v.reply.locks) ok.is;
+      number = ap (λ (v : Deed). v.reply.txn) ok.is;
+      writes = ap (λ (v : Deed). v.writes) ok.is;
+    }
+
+pub acted_sized : (head : Head) (past : List Line) (t : ℕ) (d : Deed) → 0 < t → Grown head past → Acted (only t past) d → ToldSize d
+acted_sized head [] t d high g a = absurd a
+acted_sized head (l ∷ past) t d high g a =
+    cond_both (concerns t l.at.node l.entry) (l ∷ only t past) (only t past) (λ (p : List Line). Acted p d → ToldSize d)
+    (λ o b. by l.at.node l.entry g.0 o b (acted_sized head past t d high g.1))
+    (λ o b. acted_sized head past t d high g.1 b)
+    a
+  where
+    by : (node : Node) (e : Entry) → Allowed head past (turn l.at.stamp node) e → concerns t node e ≡ true → Acted (line (turn l.at.stamp node) e ∷ only t past) d → (Acted (only t past) d → ToldSize d) → ToldSize d
+    by (Client c) (Act x) k o b h = absurd k.ok
+    by (Client c) (Made x) k o b h = absurd k.ok
+    by (Target u) (Act x) k o (inl p) h =
+        let same : t ≡ u = eqb-true t u o in
+        subst ToldSize p (told_size head.osts (only t past) (turn l.at.stamp (Target u)) u x (subst (λ (v : ℕ). 0 < v) same high) (k.of t o))
+    by (Target u) (Act x) k o (inr b) h = h b
+    by (Target u) (Made x) k o b h = absurd (let zero = k.ok in let same = eqb-true t u o in omega (arith, high, zero, same))
+    by _ _ k o b h = h b
+
+-- what a target does
+abbrev pub ActedKind : ℕ → Deed → Type 0
+ActedKind t d = ((t ≡ 0) × IsNames d.op) ⊎ ((0 < t) × ToldSize d)
+
+pub acted_kind : (head : Head) (past : List Line) (t : ℕ) (d : Deed) → Grown head past → Acted (only t past) d → ActedKind t d
+acted_kind head past t d g a =
+    let flew = ((holds head past g).at t).done.flew d a in
+    by (subst (IsAskedOf t) flew.3 (flew_kind head past t d.reply.who flew.0 g flew.1))
+  where
+    by : IsAskedOf t d.op → ActedKind t d
+    by (inl k) = inl k
+    by (inr k) = inr (k.0, acted_sized head past t d k.0 g a)
+
+-- a request may be asked of the target that it is sent to
+pub request_kind : (head : Head) (past : List Line) (c t : ℕ) (r : RequestOf) → Grown head past → Was past (Client c) (Target t) (message.Request r) → IsAskedOf t r.op
+request_kind head past c t r g w = request_asked head past c t r g w
+
 -- ---- what was sent
-
--- messages that only the metadata target has part in; joins, what is told of lives, and what is told of a boot and after it, go to each
--- target and come from each
-abbrev pub OfMetadata : Message → Type 0
-OfMetadata (message.Join who boot) = ⊥
-OfMetadata (message.Up boot) = ⊥
-OfMetadata (message.Replay r) = ⊥
-OfMetadata (message.Lock r) = ⊥
-OfMetadata (message.Word who boot replays locks seen) = ⊥
-OfMetadata (message.Ready who boot committed) = ⊥
-OfMetadata (message.Evicted who boot) = ⊥
-OfMetadata m = Unit {0}
-
--- from a client to the metadata target, or back
-abbrev pub Sides : (from to : Node) → Type 0
-Sides (Client c) (Target t) = t ≡ 0
-Sides (Target t) (Client c) = t ≡ 0
-Sides _ _ = ⊥
 
 -- from a client to a target, or back
 abbrev pub Between : (from to : Node) → Type 0
 Between (Client c) (Target t) = Unit {0}
 Between (Target t) (Client c) = Unit {0}
 Between _ _ = ⊥
-
-send_sides : (past : List Line) (at : At) (node to : Node) (m : Message) → EntryOk past at node (Send to m) → OfMetadata m → Sides node to
-send_sides past at (Client c) (Target t) (message.Request r) ok of = ok
-send_sides past at (Target t) (Client c) (message.Reply k) ok of = ok.0
-send_sides past at (Client c) (Target t) (message.Cancel who boot cookie) ok of = ok
-send_sides past at (Target t) (Client c) (message.Block who boot cookie) ok of = ok
-send_sides past at (Client c) (Target t) (message.Join who boot) ok of = absurd of
-send_sides past at (Target t) (Client c) (message.Ready who boot committed) ok of = absurd of
-send_sides past at (Client c) (Target t) (message.Replay r) ok of = absurd of
-send_sides past at (Client c) (Target t) (message.Lock r) ok of = absurd of
-send_sides past at (Client c) (Target t) (message.Word who boot replays locks seen) ok of = absurd of
-send_sides past at (Target t) (Client c) (message.Up boot) ok of = absurd of
-send_sides past at (Target t) (Client c) (message.Evicted who boot) ok of = absurd of
-send_sides past at node to m ok of = absurd ok
 
 send_between : (past : List Line) (at : At) (node to : Node) (m : Message) → EntryOk past at node (Send to m) → Between node to
 send_between past at (Client c) (Target t) m ok = tt
@@ -97,40 +160,8 @@ was_as S head m sends (l ∷ past) from to g w = by l.entry g.0.ok w (λ v. was_
         w
     by e ok w h = h w
 
-pub was_sides : (head : Head) (past : List Line) (from to : Node) (m : Message) → Grown head past → OfMetadata m → Was past from to m → Sides from to
-was_sides head past from to m g of w = was_as Sides head m (λ p at node k ok. send_sides p at node k m ok of) past from to g w
-
 pub was_between : (head : Head) (past : List Line) (from to : Node) (m : Message) → Grown head past → Was past from to m → Between from to
 was_between head past from to m g w = was_as Between head m (λ p at node k ok. send_between p at node k m ok) past from to g w
-
--- what a client was sent came from a target: from the metadata target, where only that one has part in it
-pub from_target : (head : Head) (past : List Line) (n c : ℕ) (from : Node) (m : Message) → Grown head past → Sent past n from (Client c) m → (t : ℕ) × (from ≡ Target t) × (OfMetadata m → t ≡ 0)
-from_target head past n c from m g s = by from (was_between head past from (Client c) m g (sent_was past n from (Client c) m s)) (λ of. was_sides head past from (Client c) m g of (sent_was past n from (Client c) m s))
-  where
-    by : (v : Node) → Between v (Client c) → (OfMetadata m → Sides v (Client c)) → (t : ℕ) × (v ≡ Target t) × (OfMetadata m → t ≡ 0)
-    by (Client d) k q = absurd k
-    by (Target t) k q = (t, refl, q)
-
--- what a target was sent came from a client; and it is the metadata target, where only that one has part in it
-pub from_client : (head : Head) (past : List Line) (n t : ℕ) (from : Node) (m : Message) → Grown head past → Sent past n from (Target t) m → (OfMetadata m → t ≡ 0) × ((c : ℕ) × (from ≡ Client c))
-from_client head past n t from m g s = by from (was_between head past from (Target t) m g (sent_was past n from (Target t) m s)) (λ of. was_sides head past from (Target t) m g of (sent_was past n from (Target t) m s))
-  where
-    by : (v : Node) → Between v (Target t) → (OfMetadata m → Sides v (Target t)) → (OfMetadata m → t ≡ 0) × ((c : ℕ) × (v ≡ Client c))
-    by (Client d) k q = (q, (d, refl))
-    by (Target u) k q = absurd k
-
--- each such message is in the metadata target's story
-pub was_first : (head : Head) (past : List Line) (from to : Node) (m : Message) → Grown head past → OfMetadata m → Was past from to m → Was (only 0 past) from to m
-was_first head past from to m g of w = was_only 0 past from to m (by from to (was_sides head past from to m g of w)) w
-  where
-    by : (v k : Node) → Sides v k → concerns 0 v (Send k m) ≡ true
-    by (Client d) (Target u) q = ap (λ (t : ℕ). nat_eq 0 t) q
-    by (Target u) (Client d) q = ap (λ (t : ℕ). nat_eq 0 t) q
-    by (Client d) (Client b) q = absurd q
-    by (Target u) (Target b) q = absurd q
-
-pub sent_only : (head : Head) (past : List Line) (n : ℕ) (from to : Node) (m : Message) → Grown head past → OfMetadata m → Sent past n from to m → Was (only 0 past) from to m
-sent_only head past n from to m g of s = was_first head past from to m g of (sent_was past n from to m s)
 
 -- each message is in the story of its target
 abbrev pub side : (from to : Node) → ℕ

@@ -36,7 +36,8 @@ use Rattle.lu_covered.specs.TargetCloses.{is_lost}
 use Rattle.lu_covered.specs.Deeds.{asked, deed, locks_of, written_by}
 use Rattle.lu_covered.specs.Heads.{Head}
 use Rattle.lu_guards.proofs.Guards.{In}
-use Rattle.lu_guards.proofs.StoryGuards.{IsServing, EntryOf}
+use Rattle.lu_guards.proofs.StoryGuards.{IsServing, ActOk, SizedOk, EntryOf}
+use Rattle.lu_guards.proofs.Acts.{sized_bare}
 use Rattle.lu_guards.proofs.Grown.{IsOfFirst}
 use Rattle.lu_guards.proofs.Lists.{in_filter}
 use Rattle.lu_guards.proofs.Turns.{IsNoClose}
@@ -358,8 +359,8 @@ later_taught head past stamp node e ok first all later granted acted h d f k =
     under_line head past stamp node e ok first all later.bound d f (acted d k.0) u (λ fresh i. rests_later head.osts past (line (turn stamp node) e ∷ past) later d f (u.stands fresh (granted u.lock i)))
 
 module _ (head : Head) (past : List Line) (stamp : Stamp) (all : HoldsAt head past) (h : Taught head.osts past) where
-  act_taught : (t : ℕ) (d : Deed) → EntryOf head past (turn stamp (Target t)) (Target t) (Act d) → Taught head.osts (line (turn stamp (Target t)) (Act d) ∷ past)
-  act_taught t d ok = subst (λ (x : Deed). Taught head.osts (line (turn stamp (Target t)) (Act x) ∷ past)) (sym ok.is) by
+  act_taught : (t : ℕ) (d : Deed) → ActOk head.osts past (turn stamp (Target t)) d → EntryOf head past (turn stamp (Target t)) (Target t) (Act d) → Taught head.osts (line (turn stamp (Target t)) (Act d) ∷ past)
+  act_taught t d ok entry = subst (λ (x : Deed). Taught head.osts (line (turn stamp (Target t)) (Act x) ∷ past)) (sym ok.is) by
     where
       new : Deed
       new = acting head past (turn stamp (Target t)) t ok.request ok.waits ok.serves all
@@ -368,8 +369,33 @@ module _ (head : Head) (past : List Line) (stamp : Stamp) (all : HoldsAt head pa
       by e f (inl q, i) = subst (λ (x : Deed). Under head.osts (line (turn stamp (Target t)) (Act new) ∷ past) x f) q (acting_under head past (turn stamp (Target t)) t ok.request ok.waits ok.serves all f (subst (λ (x : Deed). In f (taught x.op x.reply.answer x.reply.locks)) (sym q) i))
       by e f (inr a, i) =
           let u = h e f (a, i) in
-          under_line head past stamp (Target t) (Act new) (subst (λ (x : Deed). EntryOf head past (turn stamp (Target t)) (Target t) (Act x)) ok.is ok) tt all (le_refl (bound_of head.osts past)) e f a u
+          under_line head past stamp (Target t) (Act new) (subst (λ (x : Deed). EntryOf head past (turn stamp (Target t)) (Target t) (Act x)) ok.is entry) tt all (le_refl (bound_of head.osts past)) e f a u
           (λ fresh j. rests_later head.osts past (line (turn stamp (Target t)) (Act new) ∷ past) (act_later head past (turn stamp (Target t)) t ok.request ok.waits ok.serves all) e f (u.stands fresh (old_granted head past (turn stamp (Target t)) t ok.request ok.waits ok.serves all e u.lock a u.among j)))
+
+  -- a glimpse teaches nothing
+  sized_taught : (t : ℕ) (d : Deed) → SizedOk head.osts past (turn stamp (Target t)) d → EntryOf head past (turn stamp (Target t)) (Target t) (Act d) → Taught head.osts (line (turn stamp (Target t)) (Act d) ∷ past)
+  sized_taught t d ok entry = by
+    where
+      bare : d.reply.locks ≡ []
+      bare = sized_bare head.osts past (turn stamp (Target t)) d ok
+
+      later : Later head.osts past (line (turn stamp (Target t)) (Act d) ∷ past)
+      later =
+          record {
+            tree = λ p. same_refl (server_of head.osts past).tree p;
+            bound = le_refl (bound_of head.osts past);
+            committed = le_refl (server_of head.osts past).committed.0;
+            acted = λ e a. inr a;
+            made = λ e a m. ⊎_elim (λ (q : d ≡ e). absurd (let zero : e.reply.txn.0 ≡ 0 = ap (λ (x : Deed). x.reply.txn.0) (sym q ∙ ok.is) in omega (arith, zero, m))) (λ (b : Acted past e). b) a;
+            lost = λ n. refl;
+          }
+
+      by : Taught head.osts (line (turn stamp (Target t)) (Act d) ∷ past)
+      by e f (inl q, i) = absurd (none_taught d.op d.reply.answer f (subst (λ (ls : List Lock). In f (taught d.op d.reply.answer ls)) bare (subst (λ (x : Deed). In f (taught x.op x.reply.answer x.reply.locks)) (sym q) i)))
+      by e f (inr a, i) =
+          let u = h e f (a, i) in
+          under_line head past stamp (Target t) (Act d) entry tt all (le_refl (bound_of head.osts past)) e f a u
+          (λ fresh j. rests_later head.osts past (line (turn stamp (Target t)) (Act d) ∷ past) later e f (u.stands fresh (subst (λ (ls : List Lock). In u.lock (with_locks ls (server_of head.osts past).granted)) bare j)))
 
   made_taught : (t : ℕ) (d : Deed) → EntryOf head past (turn stamp (Target t)) (Target t) (Made d) → Taught head.osts (line (turn stamp (Target t)) (Made d) ∷ past)
   made_taught t d ok = subst (λ (x : Deed). Taught head.osts (line (turn stamp (Target t)) (Made x) ∷ past)) (sym ok.is) by
@@ -385,7 +411,11 @@ module _ (head : Head) (past : List Line) (stamp : Stamp) (all : HoldsAt head pa
           (λ fresh j. made_rests head past (turn stamp (Target t)) t ok.request all ok.free e f u j (u.stands fresh j))
 
   pub line_taught : (node : Node) (e : Entry) → IsNoClose e → EntryOf head past (turn stamp node) node e → IsOfFirst e → Taught head.osts (line (turn stamp node) e ∷ past)
-  line_taught (Target t) (Act d) none ok first = act_taught t d ok
+  line_taught (Target t) (Act d) none ok first =
+      ⊎_elim
+      (λ (a : (t ≡ 0) × ActOk head.osts past (turn stamp (Target t)) d). act_taught t d a.1 ok)
+      (λ (a : (0 < t) × SizedOk head.osts past (turn stamp (Target t)) d). sized_taught t d a.1 ok)
+      ok
   line_taught (Target t) (Made d) none ok first = made_taught t d ok
   line_taught (Target t) (Commit to batch) none ok first =
       later_taught head past stamp (Target t) (Commit to batch) ok first all

@@ -19,7 +19,7 @@ use Rattle.lu_guards.proofs.Lists.{self, in_append, in_filter, turn_trans}
 use Rattle.lu_guards.proofs.Parts.{life_is_of}
 use Rattle.lu_facts.proofs.Groups.{turn, Acted, HoldsAt, CallOf, Asks, Upto, Reached, Reaches, Since}
 use Rattle.lu_facts.proofs.Lines.{AtEach, DoneBy, acted_line, only_acted, done_here}
-use Rattle.lu_facts.proofs.Calls.{Began, Touched, call_cases}
+use Rattle.lu_facts.proofs.Calls.{Began, Touched, Stood, call_cases}
 use Rattle.lu_facts.proofs.Endings.{later_ends}
 
 -- ---- turns
@@ -43,9 +43,11 @@ keeps_reaches head past stamp node e s ok of h =
           (acted_line (turn stamp node) e past d a);
       begun = λ c slot r k. ⊎_elim
           (λ (p : call_at c slot past ≡ Some r). reached_on past (turn stamp node) r.at s (h.begun c slot r p))
-          (λ (p : Began past (turn stamp node) e c slot r ⊎ Touched past node e c slot r). ⊎_elim
+          (λ (p : Began past (turn stamp node) e c slot r ⊎ (Touched past node e c slot r ⊎ Stood past (turn stamp node) c slot r)). ⊎_elim
           (λ (q : Began past (turn stamp node) e c slot r). inl q.at)
+          (⊎_elim
           (λ (q : Touched past node e c slot r). subst (λ (v : At). Upto v (turn stamp node)) q.at (reached_on past (turn stamp node) q.before.at s (h.begun c slot q.before q.call)))
+          (λ (q : Stood past (turn stamp node) c slot r). subst (λ (v : At). Upto v (turn stamp node)) q.at (reached_on past (turn stamp node) q.before.at s (h.begun c slot q.before q.call))))
           p)
           (call_cases past stamp node e ok c slot r k);
     }
@@ -93,9 +95,9 @@ none_acted head past who x h d a w y n =
     omega arith
 
 -- a call that has just begun has nothing in flight
-none_flies : (past : List Line) (c slot : ℕ) (f : Flight) → CallOf past c f.slot f.op → f.slot ≡ Some slot → call_at c slot past ≡ None → ⊥
-none_flies past c slot f k s n =
-    let q = subst (λ (v : Option ℕ). CallOf past c v f.op) s k in
+none_flies : (past : List Line) (c t slot : ℕ) (f : Flight) → CallOf past c t f.slot f.op → f.slot ≡ Some slot → call_at c slot past ≡ None → ⊥
+none_flies past c t slot f k s n =
+    let q = subst (λ (v : Option ℕ). CallOf past c t v f.op) s k in
     let w = q.1 in
     absurd (cc)
 
@@ -112,9 +114,11 @@ module _ (head : Head) (past : List Line) (stamp : Stamp) (node : Node) (e : Ent
       ⊎_elim
       (λ (j : In f (flights_at c t past)). ⊎_elim
       (λ (p : call_at c slot past ≡ Some r). h c t slot f r d j s p a mine x)
-      (λ (p : Began past (turn stamp node) e c slot r ⊎ Touched past node e c slot r). ⊎_elim
-      (λ (q : Began past (turn stamp node) e c slot r). absurd (none_flies past c slot f (asks.fly_calls c t f (later_ends past (turn stamp node) c closes q.later) j) s q.none))
+      (λ (p : Began past (turn stamp node) e c slot r ⊎ (Touched past node e c slot r ⊎ Stood past (turn stamp node) c slot r)). ⊎_elim
+      (λ (q : Began past (turn stamp node) e c slot r). absurd (none_flies past c t slot f (asks.fly_calls c t f (later_ends past (turn stamp node) c closes q.later) j) s q.none))
+      (⊎_elim
       (λ (q : Touched past node e c slot r). subst (λ (v : At). Upto v d.reply.at) q.at (h c t slot f q.before d j s q.call a mine x))
+      (λ (q : Stood past (turn stamp node) c slot r). subst (λ (v : At). Upto v d.reply.at) q.at (h c t slot f q.before d j s q.call a mine x)))
       p)
       (call_cases past stamp node e ok c slot r k))
       (λ (n : f.xid ≡ last_of (life_at c past) (only t past) + 1). absurd (none_acted head (only t past) (life_at c past) f.xid (at t) d a mine x n))

@@ -1,7 +1,6 @@
--- Numbers of transactions: they rise, so no two deeds have one; and a file that is open is told with the number of the transaction that opened it.
-use Rattle.std.proofs.Common.{◌≡◌, ℕ, ◌+◌, ◌≤◌, true, List, [], ◌∷◌, ◌⊎◌, inl, inr, ⊎_elim, refl, sym, subst, ap, ◌∙◌, arith}
+-- A file that is open is told with the number of the transaction that opened it.
+use Rattle.std.proofs.Common.{◌≡◌, ℕ, ◌≤◌, true, List, [], ◌∷◌, inl, inr, ⊎_elim, refl, sym, subst, ap, ◌∙◌, arith}
 use Rattle.std.specs.Prelude.{nat_eq}
-use Rattle.std.proofs.lemmas.Bool.{eq-eqb}
 use Rattle.lu_base.specs.declared.ids.At.{At}
 use Rattle.lu_base.specs.declared.ids.Fid.{Fid}
 use Rattle.lu_base.specs.declared.ids.Node.{Node}
@@ -22,84 +21,20 @@ use Rattle.lu_machine.specs.Fits.{answer_fits}
 use Rattle.lu_machine.proofs.Fits.{answers_fit}
 use Rattle.lu_machine.proofs.Walks.{walk_ends}
 use Rattle.lu_words.specs.Carried.{Deed}
-use Rattle.lu_words.specs.Words.{Entry, Tick, Act, Txn as Made, Line, line}
+use Rattle.lu_words.specs.Words.{Entry, Act, Txn as Made, Line, line}
 use Rattle.lu_words.specs.Concerns.{only}
 use Rattle.lu_covered.specs.TargetStates.{none, next_number, server_of}
 use Rattle.lu_covered.specs.Deeds.{asked}
 use Rattle.lu_covered.specs.Heads.{Head}
-use Rattle.lu_guards.proofs.StoryGuards.{ActOk, TxnOk}
+use Rattle.lu_guards.proofs.StoryGuards.{ActOk, ActsOk, TxnOk}
+use Rattle.lu_guards.proofs.Acts.{sized_answer}
 use Rattle.lu_guards.proofs.Grown.{Allowed, Grown}
+use Rattle.lu_guards.proofs.Lists.{self}
 use Rattle.lu_facts.proofs.Groups.{turn, Acted}
-use Rattle.lu_facts.proofs.Lines.{DoneBy, acted_line}
 use Rattle.lu_facts.proofs.OnNames.{IsOnNames, open_op}
+use Rattle.lu_facts.proofs.Sides.{acted_only}
 use Rattle.lu_facts.proofs.Asked.{acted_on_names}
-use Rattle.lu_facts.proofs.Finds.{numbers_at, number_next, numbers_up}
-
--- ---- they rise
-
--- what is done is no transaction, or has the next number
-abbrev Numbered : List Line → Line → Deed → Type 0
-Numbered past l d = (d.reply.txn.0 ≡ 0) ⊎ ((d.reply.txn.0 ≡ numbers_at past + 1) × (numbers_at (l ∷ past) ≡ numbers_at past + 1))
-
-numbered : (head : Head) (past : List Line) (l : Line) (d : Deed) → Grown head past → Allowed head past l.at l.entry → DoneBy l.entry d → Numbered past l d
-numbered head past l d g a done = by l.at.node l.entry a done
-  where
-    by : (node : Node) (e : Entry) → Allowed head past (turn l.at.stamp node) e → DoneBy e d → Numbered past (line (turn l.at.stamp node) e) d
-    by (Client c) (Act x) k q = absurd k.ok
-    by (Client c) (Made x) k q = absurd k.ok
-    by (Target t) (Act x) k q =
-        let ok = k.of t (eq-eqb t t refl) in
-        inl (ap (λ (y : Deed). y.reply.txn.0) (sym q ∙ ok.is))
-    by (Target t) (Made x) k q =
-        let ok = k.of 0 (ap (λ (v : ℕ). nat_eq 0 v) k.ok) in
-        let n = number_next head past g (turn l.at.stamp (Target t)) x ok in
-        let same : d.reply.txn.0 ≡ x.reply.txn.0 = ap (λ (y : Deed). y.reply.txn.0) (sym q) in
-        inr ((omega (arith, n, same)), subst (λ (v : ℕ). numbers_at (line (turn l.at.stamp (Target v)) (Made x) ∷ past) ≡ numbers_at past + 1) (sym k.ok) (omega arith))
-    by (Target t) Tick k q = absurd q
-    by node e k q = absurd q
-
-low_number : (head : Head) (past : List Line) (d : Deed) → Grown head past → Acted past d → d.reply.txn.0 ≤ numbers_at past
-low_number head [] d g a = absurd a
-low_number head (l ∷ past) d g a =
-    let up = numbers_up head l past g.1 g.0 in
-    ⊎_elim
-    (λ (p : DoneBy l.entry d). ⊎_elim
-    (λ (n : d.reply.txn.0 ≡ 0). omega (arith, n))
-    (λ (n : (d.reply.txn.0 ≡ numbers_at past + 1) × (numbers_at (l ∷ past) ≡ numbers_at past + 1)). let x = n.0 in let y = n.1 in omega (arith, x, y))
-    (numbered head past l d g.1 g.0 p))
-    (λ (p : Acted past d). let low = low_number head past d g.1 p in omega (arith, low, up))
-    (acted_line l.at l.entry past d a)
-
--- what is done now has another number than what was done
-apart_now : (head : Head) (past : List Line) (l : Line) (d e : Deed) → Grown head past → Allowed head past l.at l.entry → DoneBy l.entry d → Acted past e → 1 ≤ d.reply.txn.0 → d.reply.txn.0 ≡ e.reply.txn.0 → ⊥
-apart_now head past l d e g a p q some same =
-    let low = low_number head past e g q in
-    ⊎_elim
-    (λ (n : d.reply.txn.0 ≡ 0). omega (arith, n, some))
-    (λ (n : (d.reply.txn.0 ≡ numbers_at past + 1) × (numbers_at (l ∷ past) ≡ numbers_at past + 1)). let x = n.0 in omega (arith, x, low, same))
-    (numbered head past l d g a p)
-
-done_once : (e : Entry) (a b : Deed) → DoneBy e a → DoneBy e b → a ≡ b
-done_once (Act x) a b p q = sym p ∙ q
-done_once (Made x) a b p q = sym p ∙ q
-done_once x a b p q = absurd p
-
--- deeds with one number, above 0, are one deed
-pub one_number : (head : Head) (past : List Line) (d e : Deed) → Grown head past → Acted past d → Acted past e → 1 ≤ d.reply.txn.0 → d.reply.txn.0 ≡ e.reply.txn.0 → d ≡ e
-one_number head [] d e g a b some same = absurd a
-one_number head (l ∷ past) d e g a b some same =
-    ⊎_elim
-    (λ (p : DoneBy l.entry d). ⊎_elim
-    (λ (q : DoneBy l.entry e). done_once l.entry d e p q)
-    (λ (q : Acted past e). absurd (apart_now head past l d e g.1 g.0 p q some same))
-    (acted_line l.at l.entry past e b))
-    (λ (p : Acted past d). ⊎_elim
-    (λ (q : DoneBy l.entry e). absurd (apart_now head past l e d g.1 g.0 q p (omega (arith, some, same)) (sym same)))
-    (λ (q : Acted past e). one_number head past d e g.1 p q some same)
-    (acted_line l.at l.entry past e b))
-    (acted_line l.at l.entry past d a)
-
--- ---- an open is told with its own number
+use Rattle.lu_facts.proofs.Finds.{number_next}
 
 -- it makes a transaction, and tells its number
 abbrev Opened : Txn → Outcome → Type 0
@@ -124,11 +59,14 @@ table_opened osts t a f n l is h =
 -- each deed that tells of an open file is the transaction of that number
 pub opened_number : (head : Head) (past : List Line) (d : Deed) (f : Fid) (n : Txn) (layout : Raid0) → Grown head past → Acted past d → d.reply.answer ≡ told.OpenFile f n layout → (n ≡ d.reply.txn) × (1 ≤ d.reply.txn.0)
 opened_number head [] d f n layout g a h = absurd a
-opened_number head (l ∷ past) d f n layout g a h = by l.at.node l.entry g.0 a (acted_on_names head (l ∷ past) d g a) (opened_number head past d f n layout g.1)
+opened_number head (l ∷ past) d f n layout g a h = by l.at.node l.entry g.0 a on_names (opened_number head past d f n layout g.1)
   where
-    act : (at : At) → ActOk head.osts (only 0 past) at d → IsOnNames d.op → (n ≡ d.reply.txn) × (1 ≤ d.reply.txn.0)
-    act at ok is =
-        let v = server_of head.osts (only 0 past) in
+    on_names : d.reply.at.node ≡ Target 0 → IsOnNames d.op
+    on_names at = acted_on_names head (l ∷ past) d g (acted_only head (l ∷ past) d 0 g a at)
+
+    act : (at : At) (t : ℕ) → ActOk head.osts (only t past) at d → IsOnNames d.op → (n ≡ d.reply.txn) × (1 ≤ d.reply.txn.0)
+    act at t ok is =
+        let v = server_of head.osts (only t past) in
         let told_so : answer head.osts v.tree (asked ok.request none) ≡ told.OpenFile f n layout = ap (λ (y : Deed). y.reply.answer) (sym ok.is) ∙ h in
         let k = table_opened head.osts v.tree (asked ok.request none) f n layout (subst IsOnNames (ap (λ (y : Deed). y.op) ok.is) is) told_so in
         let still = ok.still in
@@ -144,16 +82,23 @@ opened_number head (l ∷ past) d f n layout g a h = by l.at.node l.entry g.0 a 
         let high = number_next head past g.1 at d ok in
         (k.0 ∙ sym number, omega (arith, high))
 
-    by : (node : Node) (e : Entry) → Allowed head past (turn l.at.stamp node) e → Acted (line (turn l.at.stamp node) e ∷ past) d → IsOnNames d.op → (Acted past d → d.reply.answer ≡ told.OpenFile f n layout → (n ≡ d.reply.txn) × (1 ≤ d.reply.txn.0))
+    -- a glimpse tells of no file
+    acts : (t : ℕ) → ActsOk head.osts (only t past) (turn l.at.stamp (Target t)) t d → (d.reply.at.node ≡ Target 0 → IsOnNames d.op) → (n ≡ d.reply.txn) × (1 ≤ d.reply.txn.0)
+    acts t (inl a) is = act (turn l.at.stamp (Target t)) t a.1 (is (ap (λ (y : Deed). y.reply.at.node) a.1.is ∙ ap Target a.0))
+    acts t (inr a) is = absurd (let size = sized_answer head.osts (only t past) (turn l.at.stamp (Target t)) d a.1 in cc)
+
+    by : (node : Node) (e : Entry) → Allowed head past (turn l.at.stamp node) e → Acted (line (turn l.at.stamp node) e ∷ past) d → (d.reply.at.node ≡ Target 0 → IsOnNames d.op) → (Acted past d → d.reply.answer ≡ told.OpenFile f n layout → (n ≡ d.reply.txn) × (1 ≤ d.reply.txn.0))
         → (n ≡ d.reply.txn) × (1 ≤ d.reply.txn.0)
     by (Client c) (Act x) k a is ih = absurd k.ok
     by (Client c) (Made x) k a is ih = absurd k.ok
     by (Target t) (Act x) k a is ih = ⊎_elim
-        (λ (p : x ≡ d). act (turn l.at.stamp (Target t)) (subst (λ (y : Deed). ActOk head.osts (only 0 past) (turn l.at.stamp (Target t)) y) p (k.of 0 (ap (λ (v : ℕ). nat_eq 0 v) k.ok))) is)
+        (λ (p : x ≡ d). acts t (subst (λ (y : Deed). ActsOk head.osts (only t past) (turn l.at.stamp (Target t)) t y) p (k.of t (self t))) is)
         (λ (p : Acted past d). ih p h)
         a
     by (Target t) (Made x) k a is ih = ⊎_elim
-        (λ (p : x ≡ d). txn (turn l.at.stamp (Target t)) (subst (λ (y : Deed). TxnOk head.osts (only 0 past) (turn l.at.stamp (Target t)) y) p (k.of 0 (ap (λ (v : ℕ). nat_eq 0 v) k.ok))) is)
+        (λ (p : x ≡ d).
+        let ok = subst (λ (y : Deed). TxnOk head.osts (only 0 past) (turn l.at.stamp (Target t)) y) p (k.of 0 (ap (λ (v : ℕ). nat_eq 0 v) k.ok)) in
+        txn (turn l.at.stamp (Target t)) ok (is (ap (λ (y : Deed). y.reply.at.node) ok.is ∙ ap Target k.ok)))
         (λ (p : Acted past d). ih p h)
         a
     by _ _ k a is ih = ih a h

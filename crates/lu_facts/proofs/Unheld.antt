@@ -65,8 +65,8 @@ module _ (head : Head) (past : List Line) (stamp : Stamp) where
   abbrev pub Held : (node : Node) (e : Entry) → ℕ → HeldLock → Type 0
   Held node e b h = In h (held_at b (line (turn stamp node) e ∷ past)) → Kept (held_at b past) h ⊎ Comes past (line (turn stamp node) e ∷ past) b h
 
-  heard_held : (c t : ℕ) (f : Flight) (r : ReplyTo) → t ≡ 0 → HeardOk past c f r → HoldsAt head past → (b : ℕ) (h : HeldLock) → Held (Client c) (Heard t f r) b h
-  heard_held c t f r first ok all b h =
+  heard_held : (c t : ℕ) (f : Flight) (r : ReplyTo) → HeardOk past c f r → HoldsAt head past → (b : ℕ) (h : HeldLock) → Held (Client c) (Heard t f r) b h
+  heard_held c t f r ok all b h =
       cond_both (nat_eq b c) (with_brought t (brought f.op r) (held_at b past)) (held_at b past) (λ (hs : List HeldLock). In h hs → Kept (held_at b past) h ⊎ Comes past (line (turn stamp (Client c)) (Heard t f r) ∷ past) b h)
       (λ q i. ⊎_elim
       (λ (j : In h (held_at b past)). inl (kept_same (held_at b past) h j))
@@ -92,7 +92,7 @@ module _ (head : Head) (past : List Line) (stamp : Stamp) where
       (λ q i. kept_same (held_at b past) h i)
 
   pub held_before : (node : Node) (e : Entry) → EntryOf head past (turn stamp node) node e → IsOfFirst e → HoldsAt head past → (b : ℕ) (h : HeldLock) → Held node e b h
-  held_before (Client c) (Heard t f r) ok first all b h = heard_held c t f r first ok all b h
+  held_before (Client c) (Heard t f r) ok first all b h = heard_held c t f r ok all b h
   held_before (Client c) (Hold t lock marked size seen) ok first all b h = λ i. inl (shown_held past stamp c t lock marked size seen first ok.1 b h i)
   held_before (Client c) (Drop t lock) ok first all b h = λ i. inl (dropped_held c t lock b h i)
   held_before (Client c) (Pins name) ok first all b h = λ i. inl (pins_held past stamp c name b h i)

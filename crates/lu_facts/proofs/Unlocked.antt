@@ -23,13 +23,15 @@ use Rattle.lu_covered.specs.Heads.{Head}
 use Rattle.lu_covered.specs.Makes.{Path, Misses}
 use Rattle.lu_covered.specs.TargetStates.{none, granted_at, called_at, server_of}
 use Rattle.lu_guards.proofs.Guards.{In, EntryOk}
-use Rattle.lu_guards.proofs.StoryGuards.{ActOk}
+use Rattle.lu_guards.proofs.StoryGuards.{ActOk, ActsOk}
+use Rattle.lu_guards.proofs.Acts.{sized_bare}
 use Rattle.lu_guards.proofs.Grown.{Allowed, Grown}
 use Rattle.lu_guards.proofs.Lists.{self}
 use Rattle.lu_guards.proofs.Parts.{granted_is, tree_is}
 use Rattle.lu_facts.proofs.Groups.{turn, Acted}
 use Rattle.lu_facts.proofs.Lines.{acted_whole}
 use Rattle.lu_facts.proofs.All.{holds}
+use Rattle.lu_facts.proofs.Sides.{acted_only}
 use Rattle.lu_facts.proofs.Asked.{Began, began_more, AskedBy, acted_asked}
 use Rattle.lu_facts.proofs.Finds.{Made_in, granted_none}
 
@@ -61,11 +63,17 @@ act_none head past l g m at d ok a =
 -- and nothing that was done gave any
 gives_none : (head : Head) (past : List Line) → Grown head past → AllMiss past → (d : Deed) → Acted past d → d.reply.locks ≡ []
 gives_none head [] g m d a = absurd a
-gives_none head (l ∷ past) g m d a = by l.at.node l.entry g.0 (λ x b. acted_asked head (l ∷ past) x g b) a (gives_none head past g.1 (all_before l past m) d)
+gives_none head (l ∷ past) g m d a = by l.at.node l.entry g.0 (λ x b at. acted_asked head (l ∷ past) x g (acted_only head (l ∷ past) x 0 g b at)) a (gives_none head past g.1 (all_before l past m) d)
   where
-    by : (node : Node) (e : Entry) → Allowed head past (turn l.at.stamp node) e → ((x : Deed) → Acted (line l.at e ∷ past) x → AskedBy (line l.at e ∷ past) x.op) → Acted (line l.at e ∷ past) d → (Acted past d → d.reply.locks ≡ []) → d.reply.locks ≡ []
-    by (Target u) (Act x) k asks (inl q) more =
-        ap (λ (y : Deed). y.reply.locks) (sym q) ∙ act_none head past l g.1 m (turn l.at.stamp (Target u)) x (k.of 0 (ap (λ (v : ℕ). nat_eq 0 v) k.ok)) (asks x (inl refl))
+    -- the metadata target grants none, and another one never does
+    acts : (u : ℕ) (x : Deed) → ActsOk head.osts (only u past) (turn l.at.stamp (Target u)) u x → (x.reply.at.node ≡ Target 0 → AskedBy past x.op) → x.reply.locks ≡ []
+    acts u x (inl a) asks =
+        act_none head past l g.1 m (turn l.at.stamp (Target u)) x (subst (λ (v : ℕ). ActOk head.osts (only v past) (turn l.at.stamp (Target u)) x) a.0 a.1) (asks (ap (λ (y : Deed). y.reply.at.node) a.1.is ∙ ap Target a.0))
+    acts u x (inr a) asks = sized_bare head.osts (only u past) (turn l.at.stamp (Target u)) x a.1
+
+    by : (node : Node) (e : Entry) → Allowed head past (turn l.at.stamp node) e → ((x : Deed) → Acted (line l.at e ∷ past) x → x.reply.at.node ≡ Target 0 → AskedBy (line l.at e ∷ past) x.op) → Acted (line l.at e ∷ past) d → (Acted past d → d.reply.locks ≡ [])
+        → d.reply.locks ≡ []
+    by (Target u) (Act x) k asks (inl q) more = ap (λ (y : Deed). y.reply.locks) (sym q) ∙ acts u x (k.of u (self u)) (asks x (inl refl))
     by (Target u) (Act x) k asks (inr b) more = more b
     by (Target u) (Txn x) k asks (inl q) more = ap (λ (y : Deed). y.reply.locks) (sym q) ∙ ap (λ (y : Deed). y.reply.locks) (k.of u (self u)).is
     by (Target u) (Txn x) k asks (inr b) more = more b

@@ -1,8 +1,9 @@
--- What is sent to a client in a covered run in which no turn asks a disk may come to it: it is a block, or a reply of the metadata target that
--- brings no size, and no lock that is held already.
-use Rattle.std.proofs.Common.{◌≡◌, ℕ, ◌+◌, Bool, true, false, List, [], ◌∷◌, length, map, Option, Some, None, inl, inr, ⊎_elim, refl, sym, subst, ap, ◌∙◌, add-one, arith}
+-- What is sent to a client in a covered run in which no turn asks a disk may come to it: it is a block, or a reply of a target of the run that
+-- brings no size with a lock, and no lock that is held already.
+use Rattle.std.proofs.Common.{◌≡◌, ℕ, zero, suc, ◌+◌, ◌<◌, ◌≤◌, Bool, true, false, List, [], ◌∷◌, length, map, Option, Some, None, inl, inr, ⊎_elim, refl, sym, subst, ap, ◌∙◌, arith}
 use Rattle.std.proofs.lemmas.Bool.{eqb-true}
 use Rattle.std.proofs.lemmas.Bool.Decides.{nat_tests}
+use Rattle.std.proofs.lemmas.List.FromFn.{length-map-range_with_len}
 use Rattle.std.specs.List.{range_with_len}
 use Rattle.std.specs.Prelude.{nat_eq, nat_lt, ◌&&◌, not, if◌then◌else◌}
 use Rattle.lu_base.specs.declared.ids.Cookie.{Cookie}
@@ -32,7 +33,7 @@ use Rattle.lu_client_rows.specs.States.{Client}
 use Rattle.lu_covered.specs.ClientStates.{flights_of, life_of}
 use Rattle.lu_table.specs.Heads.{Head}
 use Rattle.lu_table.specs.Runs.{client_of}
-use Rattle.lu_covered_scenes.proofs.ClientLines.{IsNames, brings_its, no_size, becomes_names, reply_differs}
+use Rattle.lu_covered_scenes.proofs.ClientLines.{IsSimple, IsAskedOf, asked_simple, brings_its, no_size, reply_differs, reply_bare}
 use Rattle.lu_covered_scenes.proofs.ClientLocks.{Differ, none_any, names_same, with_only}
 use Rattle.lu_covered_scenes.proofs.Guards.{In, Was}
 use Rattle.lu_covered_scenes.proofs.Grown.{Grown}
@@ -41,11 +42,11 @@ use Rattle.lu_covered_scenes.proofs.Only.{sent_was, was_only, grown_of}
 use Rattle.lu_covered_scenes.proofs.Parts.{flights_is, life_is_of}
 use Rattle.lu_covered_scenes.proofs.GuardTurns.{covered_head}
 use Rattle.lu_covered_scenes.proofs.All.{holds}
-use Rattle.lu_covered_scenes.proofs.Asked.{flew_asked}
+use Rattle.lu_covered_scenes.proofs.Sides.{flew_kind}
 use Rattle.lu_covered_scenes.proofs.Groups.{HoldsAt}
-use Rattle.lu_covered_scenes.proofs.FactLines.{flew_whole}
+use Rattle.lu_covered_scenes.proofs.Lists.{self}
 use Rattle.lu_covered_scenes.proofs.Arrivals.{Goes, was_goes}
-use Rattle.lu_covered_scenes.proofs.Asking.{AllSuit, was_suits}
+use Rattle.lu_covered_scenes.proofs.Asking.{IsNode, AllSuit, was_suits}
 use Rattle.lu_nodes.specs.Comings.{are_new, is_in_file, may_answer, may_fit, may_reply, may_from, may_come}
 
 -- ---- locks that come are new
@@ -76,9 +77,9 @@ new_so (l ∷ locks) held differ apart =
     (with_only (held_as 0 l false) h held j)) in
     ap (λ (b : Bool). not b && are_new 0 locks (with_held (held_as 0 l false) held)) free ∙ rest
 
--- ---- an operation on names lies in a file
+-- ---- what is asked lies in a file
 
-in_file : (o : Op) → IsNames o → is_in_file o ≡ true
+in_file : (o : Op) → IsSimple o → is_in_file o ≡ true
 in_file (op.Get resource cookie page) is = absurd is
 in_file (op.Put resource cookie offset bytes) is = absurd is
 in_file (op.Cut resource cookie size) is = absurd is
@@ -94,101 +95,110 @@ found_in xid (g ∷ flights) f e = by (nat_eq g.xid xid) refl e (found_in xid fl
     by true q e more = let same : g ≡ f = cc in (inl same, subst (λ (x : Flight). x.xid ≡ xid) same (eqb-true g.xid xid q))
     by false q e more = let m = more e in (inr m.0, m.1)
 
--- ---- the import of the metadata target is the first
+-- ---- the import of each target of the run
 
-first_one : (f : ℕ → Import) (n : ℕ) → map f (range_with_len 0 (n + 1)) ≡ f 0 ∷ map f (range_with_len (0 + 1) n)
-first_one f n = ap (λ (k : ℕ). map f (range_with_len 0 k)) (add-one n)
+import_from : (f : ℕ → Import) (n from t : ℕ) → t < n → import_of t (map f (range_with_len from n)) ≡ f (from + t)
+import_from f zero from t low = absurd (omega (arith, low))
+import_from f (suc n) from zero low = ap f (let same : from ≡ from + 0 = omega arith in same)
+import_from f (suc n) from (suc t) low = import_from f n (from + 1) t (omega (arith, low)) ∙ ap f (let same : from + 1 + t ≡ from + suc t = omega arith in same)
 
 module _ (head : Head) (past : List Line) (g : Grown (covered_head head) past) (c : ℕ) where
   abbrev k : Client
   k = client_of head c past
 
-  abbrev story : List Line
-  story = only 0 past
+  some_imports : (t : ℕ) → t ≤ head.osts → nat_lt t (length k.imports) ≡ true
+  some_imports t one =
+      let all : length k.imports ≡ head.osts + 1 = length-map-range_with_len (λ (u : ℕ). import_at c u past) 0 (head.osts + 1) in
+      rw all (grind (arith, nat_tests))
 
-  h : HoldsAt (covered_head head) story
-  h = (holds (covered_head head) past g).at 0
+  module _ (t : ℕ) (there : t ≤ head.osts) where
+    abbrev story : List Line
+    story = only t past
 
-  import_is : import_of 0 k.imports ≡ import_at c 0 past
-  import_is = ap (import_of 0) (first_one (λ t. import_at c t past) head.osts)
+    h : HoldsAt (covered_head head) story
+    h = (holds (covered_head head) past g).at t
 
-  some_imports : nat_lt 0 (length k.imports) ≡ true
-  some_imports = ap (λ (is : List Import). nat_lt 0 (length is)) (first_one (λ t. import_at c t past) head.osts) ∙ grind (arith, nat_tests)
+    import_is : import_of t k.imports ≡ import_at c t past
+    import_is = import_from (λ (u : ℕ). import_at c u past) (head.osts + 1) 0 t (omega (arith, there)) ∙ ap (λ (u : ℕ). import_at c u past) (let same : 0 + t ≡ t = omega arith in same)
 
-  -- the client's life, and what it asks
-  abbrev life : Who
-  life = life_of c story
+    -- the client's life, and what it asks
+    abbrev life : Who
+    life = life_of c story
 
-  flights_story : (import_of 0 k.imports).flights ≡ flights_of life story
-  flights_story =
-      ap (λ (i : Import). i.flights) import_is ∙ flights_is (covered_head head) c 0 past g ∙ ap (λ (who : Who). flights_of who story) (life_is_of c 0 past)
+    flights_story : (import_of t k.imports).flights ≡ flights_of life story
+    flights_story =
+        ap (λ (i : Import). i.flights) import_is ∙ flights_is (covered_head head) c t past g ∙ ap (λ (who : Who). flights_of who story) (life_is_of c t past)
 
-  -- ---- a reply to a request that is in flight
+    -- ---- a reply to a request that is in flight
 
-  module _ (r : ReplyTo) (was : Was story (node.Target 0) (node.Client c) (message.Reply r)) (f : Flight) (flying : In f (flights_of life story)) (number : f.xid ≡ r.xid.0) where
-    -- none of its locks is held: what is held came with a reply that was heard
-    unheld : (l : Lock) → In l r.locks → (x : HeldLock) → In x (held_at c past) → x.lock.cookie ≡ l.cookie → ⊥
-    unheld l i x j same =
-        let meant = h.done.sent (node.Target 0) (node.Client c) (message.Reply r) was in
-        let d : Deed = meant.deed in
-        let holding = h.locks.held c x (subst (λ (xs : List HeldLock). In x xs) (held_is (covered_head head) c past g) j) in
-        let among : In l d.reply.locks = subst (λ (ls : List Lock). In l ls) (ap (λ (v : ReplyTo). v.locks) meant.is) i in
-        let one = (h.locks.once d holding.deed l x.lock (meant.acted, among) holding.gave (sym same)).0 in
-        let xid : f.xid ≡ holding.deed.reply.xid.0 = number ∙ ap (λ (v : ReplyTo). v.xid.0) meant.is ∙ ap (λ (v : Deed). v.reply.xid.0) one in
-        (h.numbers.over life holding.deed.reply.xid.0 holding.heard).1 f flying xid
+    module _ (r : ReplyTo) (was : Was past (node.Target t) (node.Client c) (message.Reply r)) (f : Flight) (flying : In f (flights_of life story)) (number : f.xid ≡ r.xid.0) where
+      here : Was story (node.Target t) (node.Client c) (message.Reply r)
+      here = was_only t past (node.Target t) (node.Client c) (message.Reply r) (self t) was
 
-    on_names : IsNames f.op
-    on_names = let asked = flew_asked (covered_head head) past life f g (flew_whole 0 past life f (h.numbers.flying life f flying)) in becomes_names asked.2 asked.0 f.op asked.3
+      -- no lock that the metadata target gives is held: what is held came with a reply that was heard
+      unheld : t ≡ 0 → (l : Lock) → In l r.locks → (x : HeldLock) → In x (held_at c past) → x.lock.cookie ≡ l.cookie → ⊥
+      unheld first l i x j same =
+          let meant = h.done.sent (node.Target t) (node.Client c) (message.Reply r) here in
+          let d : Deed = meant.deed in
+          let whole : held_at c past ≡ held_at c story = subst (λ (u : ℕ). held_at c past ≡ held_at c (only u past)) (sym first) (held_is (covered_head head) c past g) in
+          let holding = h.locks.held c x (subst (λ (xs : List HeldLock). In x xs) whole j) in
+          let among : In l d.reply.locks = subst (λ (ls : List Lock). In l ls) (ap (λ (v : ReplyTo). v.locks) meant.is) i in
+          let one = (h.locks.once d holding.deed l x.lock (meant.acted, among) holding.gave (sym same)).0 in
+          let xid : f.xid ≡ holding.deed.reply.xid.0 = number ∙ ap (λ (v : ReplyTo). v.xid.0) meant.is ∙ ap (λ (v : Deed). v.reply.xid.0) one in
+          (h.numbers.over life holding.deed.reply.xid.0 holding.heard).1 f flying xid
 
-    locks_new : are_new 0 (brought f.op r) k.store.held ≡ true
-    locks_new =
-        subst (λ (ls : List Lock). are_new 0 ls k.store.held ≡ true) (sym (brings_its f.op r on_names))
-        (new_so r.locks k.store.held (reply_differs (covered_head head) story (node.Target 0) c r (grown_of (covered_head head) 0 past g) was) (λ l i x j zero_is same. unheld l i x j same))
+      asked : IsAskedOf t f.op
+      asked = flew_kind (covered_head head) past t life f g (h.numbers.flying life f flying)
 
-    answers : answer_fits f.op r.answer ≡ true → may_answer 0 r f k ≡ true
-    answers fits = rw (locks_new, no_size f.op r.answer on_names fits, in_file f.op on_names) refl
+      simple : IsSimple f.op
+      simple = asked_simple t f.op asked
 
-  reply_comes : (r : ReplyTo) → Was story (node.Target 0) (node.Client c) (message.Reply r) → may_reply 0 r k ≡ true
-  reply_comes r was = by (is_present r.who r.boot 0 k)
-    where
-      fit : (o : Option Flight) → find_flight r.xid.0 (import_of 0 k.imports).flights ≡ o → may_fit 0 r k o ≡ true
-      fit None found = refl
-      fit (Some f) found = by_answer (answer_fits f.op r.answer) refl
-        where
-          by_answer : (b : Bool) → answer_fits f.op r.answer ≡ b → (if b then may_answer 0 r f k else true) ≡ true
-          by_answer false e = refl
-          by_answer true e =
-              let i = found_in r.xid.0 (import_of 0 k.imports).flights f found in
-              answers r was f (subst (λ (fs : List Flight). In f fs) flights_story i.0) i.1 e
+      -- another target gives none
+      of_reply : IsAskedOf t f.op → are_new t r.locks k.store.held ≡ true
+      of_reply (inl first) =
+          subst (λ (u : ℕ). are_new u r.locks k.store.held ≡ true) (sym first.0)
+          (new_so r.locks k.store.held (reply_differs (covered_head head) story (node.Target t) c r (grown_of (covered_head head) t past g) here) (λ l i x j zero_is same. unheld first.0 l i x j same))
+      of_reply (inr sizes) = subst (λ (ls : List Lock). are_new t ls k.store.held ≡ true) (sym (reply_bare (covered_head head) t c r past sizes.0 g was)) refl
 
-      by : (b : Bool) → (if b then may_fit 0 r k (find_flight r.xid.0 (import_of 0 k.imports).flights) else true) ≡ true
-      by false = refl
-      by true = fit (find_flight r.xid.0 (import_of 0 k.imports).flights) refl
+      locks_new : are_new t (brought f.op r) k.store.held ≡ true
+      locks_new = subst (λ (ls : List Lock). are_new t ls k.store.held ≡ true) (sym (brings_its f.op r simple)) (of_reply asked)
+
+      answers : answer_fits f.op r.answer ≡ true → may_answer t r f k ≡ true
+      answers fits = rw (locks_new, no_size f.op r.answer simple fits, in_file f.op simple) refl
+
+    reply_comes : (r : ReplyTo) → Was past (node.Target t) (node.Client c) (message.Reply r) → may_reply t r k ≡ true
+    reply_comes r was = by (is_present r.who r.boot t k)
+      where
+        fit : (o : Option Flight) → find_flight r.xid.0 (import_of t k.imports).flights ≡ o → may_fit t r k o ≡ true
+        fit None found = refl
+        fit (Some f) found = by_answer (answer_fits f.op r.answer) refl
+          where
+            by_answer : (b : Bool) → answer_fits f.op r.answer ≡ b → (if b then may_answer t r f k else true) ≡ true
+            by_answer false e = refl
+            by_answer true e =
+                let i = found_in r.xid.0 (import_of t k.imports).flights f found in
+                answers r was f (subst (λ (fs : List Flight). In f fs) flights_story i.0) i.1 e
+
+        by : (b : Bool) → (if b then may_fit t r k (find_flight r.xid.0 (import_of t k.imports).flights) else true) ≡ true
+        by false = refl
+        by true = fit (find_flight r.xid.0 (import_of t k.imports).flights) refl
 
   -- ---- what is sent to a client
 
   module _ (MayAsk : Type 0) (none : MayAsk → ⊥) (suits : AllSuit MayAsk head.osts head.clients past) where
-    -- it came from the metadata target
-    from_names : (from : Node) (m : Message) → Was past from (node.Client c) m → Goes from (node.Client c) m → from ≡ node.Target 0
-    from_names (node.Target t) (message.Reply r) was goes = ap node.Target goes
-    from_names (node.Target t) (message.Block who boot cookie) was goes = ap node.Target goes
-    from_names (node.Target t) (message.Up boot) was goes = absurd (none (was_suits MayAsk head.osts head.clients past (node.Target t) (node.Client c) (message.Up boot) suits was).0.0)
-    from_names (node.Target t) (message.Ready who boot committed) was goes = absurd (none (was_suits MayAsk head.osts head.clients past (node.Target t) (node.Client c) (message.Ready who boot committed) suits was).0)
-    from_names (node.Target t) (message.Evicted who boot) was goes = absurd (none (was_suits MayAsk head.osts head.clients past (node.Target t) (node.Client c) (message.Evicted who boot) suits was).0)
-    from_names from m was goes = absurd goes
+    from_so : (t : ℕ) (m : Message) → t ≤ head.osts → Was past (node.Target t) (node.Client c) m → Goes (node.Target t) (node.Client c) m → may_from t m k ≡ true
+    from_so t (message.Reply r) there was goes = reply_comes t there r was
+    from_so t (message.Block who boot cookie) there was goes = refl
+    from_so t (message.Up boot) there was goes = absurd (none (was_suits MayAsk head.osts head.clients past (node.Target t) (node.Client c) (message.Up boot) suits was).0.0)
+    from_so t (message.Ready who boot committed) there was goes = refl
+    from_so t (message.Evicted who boot) there was goes = absurd (none (was_suits MayAsk head.osts head.clients past (node.Target t) (node.Client c) (message.Evicted who boot) suits was).0)
+    from_so t m there was goes = absurd goes
 
-    from_so : (m : Message) → Was past (node.Target 0) (node.Client c) m → Goes (node.Target 0) (node.Client c) m → may_from 0 m k ≡ true
-    from_so (message.Reply r) was goes = reply_comes r (was_only 0 past (node.Target 0) (node.Client c) (message.Reply r) refl was)
-    from_so (message.Block who boot cookie) was goes = refl
-    from_so (message.Up boot) was goes = absurd (none (was_suits MayAsk head.osts head.clients past (node.Target 0) (node.Client c) (message.Up boot) suits was).0.0)
-    from_so (message.Ready who boot committed) was goes = refl
-    from_so (message.Evicted who boot) was goes = absurd (none (was_suits MayAsk head.osts head.clients past (node.Target 0) (node.Client c) (message.Evicted who boot) suits was).0)
-    from_so m was goes = absurd goes
-
-    pub comes : (n : ℕ) (from : Node) (m : Message) → Sent past n from (node.Client c) m → (from ≡ node.Target 0) × (may_come from m k ≡ true)
+    pub comes : (n : ℕ) (from : Node) (m : Message) → Sent past n from (node.Client c) m → ((t : ℕ) × (from ≡ node.Target t)) × (may_come from m k ≡ true)
     comes n from m sent =
         let was = sent_was past n from (node.Client c) m sent in
-        let goes = was_goes (covered_head head) past from (node.Client c) m g was in
-        let is = from_names from m was goes in
-        let so = from_so m (subst (λ (v : Node). Was past v (node.Client c) m) is was) (subst (λ (v : Node). Goes v (node.Client c) m) is goes) in
-        (is, subst (λ (v : Node). may_come v m k ≡ true) (sym is) (rw (some_imports, so) refl))
+        by from was (was_goes (covered_head head) past from (node.Client c) m g was) (was_suits MayAsk head.osts head.clients past from (node.Client c) m suits was).1
+      where
+        by : (from : Node) → Was past from (node.Client c) m → Goes from (node.Client c) m → IsNode head.osts from → ((t : ℕ) × (from ≡ node.Target t)) × (may_come from m k ≡ true)
+        by (node.Target t) was goes there = ((t, refl), rw (some_imports t there, from_so t m there was goes) refl)
+        by (node.Client d) was goes there = absurd goes

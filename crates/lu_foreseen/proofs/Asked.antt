@@ -1,6 +1,6 @@
--- Which requests there are in a covered run: each has a tag below the number of requests that may be in flight, and asks for the operation
--- of a call that began; and two of one life and number have one tag.
-use Rattle.std.proofs.Common.{◌≡◌, true, false, Bool, ℕ, zero, suc, ◌+◌, ◌<◌, ◌≤◌, List, [], ◌∷◌, length, map, ⊎_elim, refl, sym, subst, ap, ◌∙◌, arith}
+-- Which requests there are in a covered run: each has a tag below the number of requests that may be in flight, and asks the metadata target
+-- for the operation of a call that began, or another target how long an object is; and two to one target, of one life and number, have one tag.
+use Rattle.std.proofs.Common.{◌≡◌, true, false, Bool, ℕ, zero, suc, ◌+◌, ◌<◌, ◌≤◌, List, [], ◌∷◌, length, map, ◌⊎◌, inl, inr, ⊎_elim, refl, sym, subst, ap, ◌∙◌, arith}
 use Rattle.std.specs.Prelude.{if◌then◌else◌, ◌||◌, nat_eq}
 use Rattle.std.proofs.lemmas.Bool.{cases_lt, and_parts, eqb-true}
 use Rattle.std.proofs.lemmas.List.{length-map}
@@ -9,6 +9,7 @@ use Rattle.lu_base.specs.declared.ids.Node.TheVariants.{Client, Target}
 use Rattle.lu_base.specs.declared.ids.Who.{Who}
 use Rattle.lu_msg.specs.declared.messages.Message.TheVariants as message
 use Rattle.lu_msg.specs.declared.messages.Request.{Request as RequestOf}
+use Rattle.lu_msg.specs.declared.operations.Op.{Op}
 use Rattle.lu_import.specs.declared.requests.InFlight.{InFlight}
 use Rattle.lu_import.specs.InFlights.{has_tag as has_tag_in}
 use Rattle.lu_import.proofs.Tags.{taken_below}
@@ -31,6 +32,8 @@ use Rattle.lu_covered_scenes.proofs.Only.{sent_was}
 use Rattle.lu_covered_scenes.proofs.Arrivals.{came}
 use Rattle.lu_covered_scenes.proofs.Lists.{self, life_is}
 use Rattle.lu_covered_scenes.proofs.Asked.{AskedBy, flew_asked}
+use Rattle.lu_covered_scenes.proofs.ClientLines.{IsSize, IsAskedOf}
+use Rattle.lu_covered_scenes.proofs.Sides.{flew_kind}
 
 -- ---- the least free tag isn't above the number of requests in flight
 
@@ -61,7 +64,7 @@ free_within flights =
 
 -- ---- what flew
 
-flies_one : (head : Head) (past : List Line) (c t : ℕ) (f : Flight) → FliesOk head (only t past) c f → f.tag < head.flight
+flies_one : (head : Head) (past : List Line) (c t : ℕ) (f : Flight) → FliesOk head (only t past) c t f → f.tag < head.flight
 flies_one head past c t f ok =
     let flights : List Flight = flights_of (life_of c (only t past)) (only t past) in
     let tag : f.tag ≡ free_tag flights = ap (λ (v : Flight). v.tag) ok.is in
@@ -80,30 +83,43 @@ flew_one head (l ∷ past) g who f i = by l.at.node l.entry g.0.of (flew_one hea
 
 -- ---- requests
 
--- its tag is small, and a call that began asks for its operation
-pub record Fitting (head : Head) (past : List Line) (r : RequestOf) : Type 0 where
-  pub tag : r.tag < head.flight
-  pub asked : AskedBy past r.op
+-- a call that began asks the metadata target for this, or another target is asked how long an object is
+abbrev pub AskedAt : List Line → ℕ → Op → Type 0
+AskedAt past t o = ((t ≡ 0) × AskedBy past o) ⊎ ((0 < t) × IsSize o)
 
-module _ (head : Head) (past : List Line) (g : Grown head past) where
-  h : HoldsAt head (only 0 past)
-  h = (holds head past g).at 0
+-- a request to a target: its tag is small, and its operation is asked there
+pub record Fitting (head : Head) (past : List Line) (t : ℕ) (r : RequestOf) : Type 0 where
+  pub tag : r.tag < head.flight
+  pub asked : AskedAt past t r.op
+
+module _ (head : Head) (past : List Line) (g : Grown head past) (t : ℕ) where
+  h : HoldsAt head (only t past)
+  h = (holds head past g).at t
 
   -- the request that flew
-  meant_by : (n : ℕ) (from : Node) (r : RequestOf) → Sent past n from (Target 0) (message.Request r) → Meant head.osts (only 0 past) (Target 0) (message.Request r)
-  meant_by n from r s = h.done.sent from (Target 0) (message.Request r) (came head past 0 from (message.Request r) g (sent_was past n from (Target 0) (message.Request r) s))
+  meant_by : (n : ℕ) (from : Node) (r : RequestOf) → Sent past n from (Target t) (message.Request r) → Meant head.osts (only t past) (Target t) (message.Request r)
+  meant_by n from r s = h.done.sent from (Target t) (message.Request r) (came head past t from (message.Request r) g (sent_was past n from (Target t) (message.Request r) s))
 
-  pub request_fits : (n : ℕ) (from : Node) (r : RequestOf) → Sent past n from (Target 0) (message.Request r) → Fitting head past r
+  pub request_fits : (n : ℕ) (from : Node) (r : RequestOf) → Sent past n from (Target t) (message.Request r) → Fitting head past t r
   request_fits n from r s =
       let m = meant_by n from r s in
-      let flew = flew_whole 0 past r.who m.0 m.1 in
       record {
-        tag = subst (λ v. v < head.flight) (ap (λ (v : RequestOf). v.tag) (sym m.2)) (flew_one head past g r.who m.0 flew);
-        asked = subst (AskedBy past) (ap (λ (v : RequestOf). v.op) (sym m.2)) (flew_asked head past r.who m.0 g flew);
+        tag = subst (λ v. v < head.flight) (ap (λ (v : RequestOf). v.tag) (sym m.2)) (flew_one head past g r.who m.0 (flew_whole t past r.who m.0 m.1));
+        asked = by (flew_kind head past t r.who m.0 g m.1);
       }
+    where
+      f : Flight
+      f = (meant_by n from r s).0
+
+      same : f.op ≡ r.op
+      same = ap (λ (v : RequestOf). v.op) (sym (meant_by n from r s).2)
+
+      by : IsAskedOf t f.op → AskedAt past t r.op
+      by (inl k) = inl (k.0, subst (AskedBy past) same (flew_asked head past r.who f g (subst (λ (u : ℕ). Flew (only u past) r.who f) k.0 (meant_by n from r s).1)))
+      by (inr k) = inr (k.0, subst IsSize same k.1)
 
   -- a request that waits has the tag of each that was sent of its life and number
-  pub same_tag : (n : ℕ) (from : Node) (q r : RequestOf) → In q (server_of head.osts (only 0 past)).waiting → Sent past n from (Target 0) (message.Request r) → same_request q r ≡ true → q.tag ≡ r.tag
+  pub same_tag : (n : ℕ) (from : Node) (q r : RequestOf) → In q (server_of head.osts (only t past)).waiting → Sent past n from (Target t) (message.Request r) → same_request q r ≡ true → q.tag ≡ r.tag
   same_tag n from q r waits s e =
       let p = and_parts (same_life q.who r.who) (nat_eq q.xid.0 r.xid.0) e in
       let who : q.who ≡ r.who = life_is q.who r.who p.0 in
@@ -111,6 +127,6 @@ module _ (head : Head) (past : List Line) (g : Grown head past) where
       let old = (h.done.waits q waits).asks in
       let new = meant_by n from r s in
       let xids : old.0.xid ≡ new.0.xid = ap (λ (v : RequestOf). v.xid.0) (sym old.2) ∙ xid ∙ ap (λ (v : RequestOf). v.xid.0) new.2 in
-      let flew = subst (λ (w : Who). Flew (only 0 past) w old.0) who old.1 in
+      let flew = subst (λ (w : Who). Flew (only t past) w old.0) who old.1 in
       let one = h.numbers.one r.who old.0 new.0 flew new.1 xids in
       ap (λ (v : RequestOf). v.tag) old.2 ∙ ap (λ (f : Flight). f.tag) one ∙ ap (λ (v : RequestOf). v.tag) (sym new.2)

@@ -17,11 +17,11 @@ use Rattle.lu_net.specs.Posts.{sent_at}
 use Rattle.lu_scene.specs.declared.scene.Scene.{Scene}
 use Rattle.lu_scene.specs.declared.scene.SceneLine.{SceneLine}
 use Rattle.lu_scene.specs.declared.scene.SceneLine.TheVariants.{Tick, Commit, CommitSome, Crash, Boot, Close}
-use Rattle.lu_service.specs.declared.services.Kind.TheVariants.{Mdt}
+use Rattle.lu_service.specs.declared.services.Kind.TheVariants.{Mdt, Ost}
 use Rattle.lu_service.specs.Takes.{Takes, IsCount as Counts}
 use Rattle.lu_trace.specs.WellFormed.{IsCount, IsCall}
 use Rattle.lu_words.specs.Carried.{HandleFile}
-use Rattle.lu_words.specs.Words.{Send, Line}
+use Rattle.lu_words.specs.Words.{Line}
 use Rattle.lu_words.specs.Sent.{Sent}
 use Rattle.lu_target_rows.specs.Locks.{same_request}
 use Rattle.lu_target_rows.specs.States.{is_serving}
@@ -32,21 +32,21 @@ use Rattle.lu_covered.specs.Calls.{operation_of}
 use Rattle.lu_covered.specs.Heads as few
 use Rattle.lu_covered.specs.TargetStates.{server_of}
 use Rattle.lu_words.specs.Concerns.{only}
-use Rattle.lu_covered_scenes.proofs.Guards.{In, Was}
+use Rattle.lu_covered_scenes.proofs.Guards.{In}
 use Rattle.lu_covered_scenes.proofs.Grown.{Grown}
-use Rattle.lu_covered_scenes.proofs.Only.{sent_was}
 use Rattle.lu_covered_scenes.proofs.GuardTurns.{covered_head}
-use Rattle.lu_covered_scenes.proofs.Asking.{Suits, was_suits}
+use Rattle.lu_covered_scenes.proofs.ClientLines.{IsSize}
 use Rattle.lu_covered_scenes.proofs.OnNames.{op_is}
 use Rattle.lu_after.proofs.Posts.{sent_at_is}
 use Rattle.lu_covered_scenes.specs.Covered.{IsCovered, AsksNoDisk, ticks_of}
-use Rattle.lu_covered_scenes.proofs.Arrivals.{Goes, was_goes, to_client}
+use Rattle.lu_covered_scenes.proofs.Arrivals.{to_client}
 use Rattle.lu_covered_scenes.proofs.Lines.{MayAsk, AllKnown, IsKnown, lines_known, called_fits}
 use Rattle.lu_covered_scenes.proofs.Runs.{Follows, so_up, leads_follow}
-use Rattle.lu_covered_scenes.proofs.Turns.{Timely, NoneDue, past_grown, serves_still, comes_makes, names_due, others_due, tick_makes}
+use Rattle.lu_covered_scenes.proofs.Turns.{Timely, NoneDue, past_grown, serves_still, comes_makes, comes_one, names_due, others_due, tick_makes}
 use Rattle.lu_nodes.specs.Foreseen.{MayHave, IsForeseen, IsTickForeseen}
+use Rattle.lu_nodes.specs.Shown.{kind_of}
 use Rattle.lu_foreseen.specs.Scenes.{next_stamp, IsOpen, IsCommand, AllForeseen}
-use Rattle.lu_foreseen.proofs.Asked.{Fitting, request_fits, same_tag}
+use Rattle.lu_foreseen.proofs.Asked.{AskedAt, Fitting, request_fits, same_tag}
 use Rattle.lu_foreseen.proofs.Answered.{comes}
 use Rattle.lu_foreseen.proofs.Waiting.{waiting_same}
 
@@ -71,6 +71,11 @@ names_take file (call.Chmod path mode) o e fits = subst (Takes Mdt) (op_is (op.C
 names_take file (call.Open h path) o e fits = subst (Takes Mdt) (op_is (op.Open path) o e) tt
 names_take (Some f) (call.Close h) o e fits = subst (Takes Mdt) (op_is (op.Close f.number f.fid) o e) tt
 names_take file k o e fits = absurd (cc)
+
+-- an object storage target is asked how long an object is
+size_takes : (o : Op) → IsSize o → Takes Ost o
+size_takes (op.Size resource) is = tt
+size_takes o is = absurd is
 
 all_of : {A : Type 0} (P : A → Type 0) (xs : List A) → ((x : A) → In x xs → P x) → All P xs
 all_of P [] so = All-nil P
@@ -104,43 +109,41 @@ module _ (scene : Scene) (covered : IsCovered scene) (quiet : AsksNoDisk scene) 
   none : MayAsk scene → ⊥
   none may = may quiet
 
-  -- ---- a message to the metadata target
+  -- ---- a message to a target
 
-  may_have : (n : ℕ) (from : Node) (m : Message) → Sent past n from (Target 0) m → MayHave m (target_of head 0 past)
-  may_have n from (message.Request r) sent =
-      let fits : Fitting h past r = request_fits h past g n from r sent in
+  -- what a request asks is of the target's service
+  takes_so : (t : ℕ) (o : Op) → AskedAt past t o → Takes (kind_of t) o
+  takes_so zero o (inl names) =
+      let asked = names.1 in
+      names_take asked.2 asked.0 o asked.3 (called_fits scene scene.lines (lines_known scene covered) asked.0 (f.sound.begun asked.0 asked.1))
+  takes_so zero o (inr sizes) = absurd (let high = sizes.0 in omega (arith, high))
+  takes_so (suc t) o (inl names) = absurd (cc)
+  takes_so (suc t) o (inr sizes) = size_takes o sizes.1
+
+  may_have : (t n : ℕ) (from : Node) (m : Message) → Sent past n from (Target t) m → MayHave m (target_of head t past)
+  may_have t n from (message.Request r) sent =
+      let fits : Fitting h past t r = request_fits h past g t n from r sent in
       let most = covered.limits.head.most_flight in
       let tag = fits.tag in
-      let asked = fits.asked in
-      let within = called_fits scene scene.lines (lines_known scene covered) asked.0 (f.sound.begun asked.0 asked.1) in
-      let queue : (target_of head 0 past).queue ≡ (server_of head.osts (only 0 past)).waiting = waiting_same (MayAsk scene) head.osts head.clients none h (setting_of head 0) past g f.sound.suits f.sound.covered in (
+      let queue : (target_of head t past).queue ≡ (server_of head.osts (only t past)).waiting = waiting_same (MayAsk scene) head.osts head.clients none h (setting_of head t) past g f.sound.suits f.sound.covered in (
         omega arith,
-        names_take asked.2 asked.0 r.op asked.3 within,
+        takes_so t r.op fits.asked,
         subst (All (λ (q : RequestOf). same_request q r ≡ true → q.tag ≡ r.tag)) (sym queue)
-            (all_of (λ (q : RequestOf). same_request q r ≡ true → q.tag ≡ r.tag) (server_of head.osts (only 0 past)).waiting (λ q i e. same_tag h past g n from q r i sent e)),
+            (all_of (λ (q : RequestOf). same_request q r ≡ true → q.tag ≡ r.tag) (server_of head.osts (only t past)).waiting (λ q i e. same_tag h past g t n from q r i sent e)),
       )
-  may_have n from _ sent = tt
+  may_have t n from _ sent = tt
 
   abbrev message_to : Node → Node → SentMessage → SentMessage
   message_to from to m = record { number = m.number; stamp = m.stamp; from = from; to = to; message = m.message }
 
-  to_names : (n : ℕ) (m : SentMessage) → (target_of head 0 past).up ≡ true → Sent past n m.from (Target 0) m.message → IsForeseen head past (next_stamp c) (message_to m.from (Target 0) m)
-  to_names n m up sent =
-      (omega arith, up, serves_at 0, may_have n m.from m.message sent, (comes_makes scene covered c 0 n m.from m.message f.sound sent up room).numbers)
-
-  -- what was sent stands where no turn may ask a disk
-  suits_so : (from : Node) (t : ℕ) (m : Message) → Was past from (Target t) m → Suits (MayAsk scene) head.osts head.clients (Send (Target t) m)
-  suits_so from t m was = (was_suits (MayAsk scene) head.osts head.clients past from (Target t) m f.sound.suits was).0
-
-  -- no life joins, and none comes back, so all goes to the metadata target
-  is_names : (t : ℕ) (from : Node) (m : Message) → Was past from (Target t) m → Goes from (Target t) m → t ≡ 0
-  is_names t (Client d) (message.Request r) was goes = goes
-  is_names t (Client d) (message.Cancel who boot cookie) was goes = goes
-  is_names t (Client d) (message.Join who boot) was goes = absurd (none (suits_so (Client d) t (message.Join who boot) was).0)
-  is_names t (Client d) (message.Replay r) was goes = absurd (none (suits_so (Client d) t (message.Replay r) was).0)
-  is_names t (Client d) (message.Lock r) was goes = absurd (none (suits_so (Client d) t (message.Lock r) was).0)
-  is_names t (Client d) (message.Word who boot replays locks seen) was goes = absurd (none (suits_so (Client d) t (message.Word who boot replays locks seen) was).0)
-  is_names t from m was goes = absurd goes
+  to_target : (t n : ℕ) (m : SentMessage) → (target_of head t past).up ≡ true → Sent past n m.from (Target t) m.message → IsForeseen head past (next_stamp c) (message_to m.from (Target t) m)
+  to_target t n m up sent = (
+    comes_one scene covered c t n m.from m.message f.sound sent,
+    up,
+    serves_at t,
+    may_have t n m.from m.message sent,
+    (comes_makes scene covered c t n m.from m.message f.sound sent up room).numbers,
+  )
 
   -- ---- all messages
 
@@ -150,12 +153,8 @@ module _ (scene : Scene) (covered : IsCovered scene) (quiet : AsksNoDisk scene) 
       by : (node : Node) → is_down head disks node past ≡ false → Sent past n m.from node m.message → IsForeseen head past (next_stamp c) (message_to m.from node m)
       by (Client who) up sent =
           let came = comes head past g who (MayAsk scene) none f.sound.suits n m.from m.message sent in
-          (to_client (MayAsk scene) head.osts h past g f.sound.suits n who m.from m.message sent, (0, came.0), came.1)
-      by (Target t) up sent =
-          let was = sent_was past n m.from (Target t) m.message sent in
-          let zero_is = is_names t m.from m.message was (was_goes h past m.from (Target t) m.message g was) in
-          subst (λ (u : ℕ). (target_of head u past).up ≡ true → Sent past n m.from (Target u) m.message → IsForeseen head past (next_stamp c) (message_to m.from (Target u) m)) (sym zero_is) (to_names n m)
-          (so_up (target_of head t past).up up) sent
+          (to_client (MayAsk scene) head.osts h past g f.sound.suits n who m.from m.message sent, came.0, came.1)
+      by (Target t) up sent = to_target t n m (so_up (target_of head t past).up up) sent
 
   -- ---- lines
 

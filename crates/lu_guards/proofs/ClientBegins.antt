@@ -1,6 +1,6 @@
 -- The turns of a client in a covered run in which a user makes a call: it begins, and is told at once where its handle is bad; or it finds
 -- its slot busy.
-use Rattle.std.proofs.Common.{◌≡◌, ℕ, ◌<◌, Bool, true, false, List, [], ◌∷◌, ◌++◌, ◌⊎◌, inl, inr, ⊎_elim, Option, Some, None, refl, sym, subst, ap, ◌∙◌}
+use Rattle.std.proofs.Common.{◌≡◌, ℕ, ◌<◌, Bool, true, false, List, [], ◌∷◌, ◌++◌, ◌⊎◌, inl, inr, Option, Some, None, refl, sym, subst, ap, ◌∙◌}
 use Rattle.std.specs.Prelude.{nat_eq, ◌||◌, not, is_some}
 use Rattle.std.proofs.lemmas.Bool.{eqb-true}
 use Rattle.lu_base.specs.declared.ids.At.{At}
@@ -15,51 +15,75 @@ use Rattle.lu_msg.specs.declared.operations.Op.{Op}
 use Rattle.lu_msg.specs.declared.operations.Op.TheVariants as op
 use Rattle.lu_words.specs.Carried.{HandleFile, Plain, Bad, Running}
 use Rattle.lu_words.specs.Words.{Entry, Begin, Busy, Told, Unbinds, Line, line, with_turn}
-use Rattle.lu_client_rows.specs.Calls.{handles_at, file_of}
+use Rattle.lu_client_rows.specs.Calls.{calls_at, handles_at, file_of}
 use Rattle.lu_client_rows.specs.Rows.{rests, row_call}
 use Rattle.lu_client_rows.specs.Slots.{begins, begins_on, begins_close, begins_open}
 use Rattle.lu_client_rows.specs.Starts.{is_on}
 use Rattle.lu_client_rows.specs.States.{Client as ClientState, follow, turn as turn_of}
 use Rattle.lu_covered.specs.Calls.{begun, call_at, operation_of, file_at, is_opening, is_bad, file_for}
-use Rattle.lu_covered.specs.Covered.{IsCoveredCall, IsAloneOn, AllCovered}
+use Rattle.lu_covered.specs.Covered.{IsOnSizes, IsCoveredCall, AllCovered}
 use Rattle.lu_table.specs.Heads as table
 use Rattle.lu_table.specs.Runs.{limits_of, client_of}
 use Rattle.lu_guards.proofs.Guards as guards
 use Rattle.lu_guards.proofs.Lists.{self, turn}
 use Rattle.lu_guards.proofs.Turns.{owes_nothing}
 use Rattle.lu_guards.proofs.Covers.{EntriesCovered, covered_turn}
-use Rattle.lu_guards.proofs.ClientHandles.{Tied, AloneBut, unbinding, closes_nothing, closes_unbound, begun_tied, closed_tied, told_tied}
-use Rattle.lu_guards.proofs.ClientRests.{Good, Idle, AllIdle, Rested, Ended, adds, call_line, followed}
-use Rattle.lu_guards.proofs.ClientSlots.{covered_left, slots_still, HasBegun, has_begun}
+use Rattle.lu_guards.proofs.ClientHandles.{Tied, unbinding, closes_nothing, closes_unbound, begun_tied, closed_tied, told_tied, count_more}
+use Rattle.lu_guards.proofs.ClientRests.{Good, Idle, Rested, Ended, idle_same, adds, call_line, followed}
+use Rattle.lu_guards.proofs.ClientSlots.{idle_more, covered_left, slots_still, HasBegun, has_begun}
 use Rattle.lu_guards.proofs.ClientStarts.{Starts, starts_good, rests_from}
 
 -- ---- which calls begin
+
+-- it is on names, or a flush or a glimpse of a file
+abbrev Does : Option HandleFile → Call → Type 0
+Does file x = ((o : Op) × (operation_of file x ≡ Some o)) ⊎ (IsOnSizes x × ((f : HandleFile) × (file ≡ Some f)))
 
 -- a covered one is on a bad handle, and is told so; or on a good one or on none
 abbrev Beginning : ℕ → List Line → At → ℕ → Call → List Entry → Type 0
 Beginning c p at slot x es =
     ((is_bad c p x ≡ true) × (es ≡ Begin slot (begun at x None Bad) ∷ Told slot at (answer.Refused EBADF) None ∷ []))
-    ⊎ ((is_bad c p x ≡ false) × ((o : Op) × (operation_of (file_for c p x) x ≡ Some o)) × (es ≡ Begin slot (begun at x (file_for c p x) Plain) ∷ unbinding x))
+    ⊎ ((is_bad c p x ≡ false) × Does (file_for c p x) x × (es ≡ Begin slot (begun at x (file_for c p x) Plain) ∷ unbinding x))
+
+-- on a good handle or on none any other covered call is on names
+covered_names : (f : Option HandleFile) (x : Call) (at : At) → (IsOnSizes x → ⊥) → IsCoveredCall (begun at x f Plain) → (o : Op) × (operation_of f x ≡ Some o)
+covered_names f x at other (inl q) = q
+covered_names f x at other (inr (inl q)) = absurd (cc)
+covered_names f x at other (inr (inr q)) = absurd (other q)
 
 module _ (head : table.Head) (c : ℕ) (at : At) (slot : ℕ) (p : List Line) (tied : Tied c p) where
   abbrev Of : Call → List Entry → Type 0
   Of x es = Beginning c p at slot x es
 
-  -- one on bytes is covered on a bad handle alone
-  on_file : (x : Call) (h : ℕ) → ((f : Option HandleFile) → operation_of f x ≡ None) → is_bad c p x ≡ not (is_some (file_at c h p)) → EntriesCovered (begins_on at slot x (file_of h (handles_at c p))) → Of x (begins_on at slot x (file_of h (handles_at c p)))
-  on_file x h none is covered =
+  -- one that reads or changes bytes is covered on a bad handle alone
+  on_file : (x : Call) (h : ℕ) → ((f : Option HandleFile) → operation_of f x ≡ None) → (IsOnSizes x → ⊥) → is_bad c p x ≡ not (is_some (file_at c h p)) → EntriesCovered (begins_on at slot x (file_of h (handles_at c p)))
+      → Of x (begins_on at slot x (file_of h (handles_at c p)))
+  on_file x h none other is covered =
       subst (λ (f : Option HandleFile). Of x (begins_on at slot x f)) (sym (tied h)) (by (file_at c h p) refl (subst (λ (f : Option HandleFile). EntriesCovered (begins_on at slot x f)) (tied h) covered))
     where
       by : (f : Option HandleFile) → file_at c h p ≡ f → EntriesCovered (begins_on at slot x f) → Of x (begins_on at slot x f)
       by None e k = inl (is ∙ ap (λ (f : Option HandleFile). not (is_some f)) e, refl)
-      by (Some f) e k = absurd (⊎_elim (λ (q : (o : Op) × (operation_of (Some f) x ≡ Some o)). let n : operation_of (Some f) x ≡ None = none (Some f) in let b = q.1 in cc) (λ (q : Plain ≡ Bad). cc) k.0)
+      by (Some f) e k = absurd (let n : operation_of (Some f) x ≡ None = none (Some f) in let b = (covered_names (Some f) x at other k.0).1 in cc)
+
+  -- a flush or a glimpse is covered on a good one too
+  on_sizes : (x : Call) (h : ℕ) → IsOnSizes x → is_bad c p x ≡ not (is_some (file_at c h p)) → file_for c p x ≡ file_at c h p → unbinding x ≡ [] → Of x (begins_on at slot x (file_of h (handles_at c p)))
+  on_sizes x h sizes is file still = subst (λ (f : Option HandleFile). Of x (begins_on at slot x f)) (sym (tied h)) (by (file_at c h p) refl)
+    where
+      by : (f : Option HandleFile) → file_at c h p ≡ f → Of x (begins_on at slot x f)
+      by None e = inl (is ∙ ap (λ (f : Option HandleFile). not (is_some f)) e, refl)
+      by (Some f) e =
+          inr (
+            is ∙ ap (λ (g : Option HandleFile). not (is_some g)) e,
+            inr (sizes, (f, file ∙ e)),
+            ap (λ (g : Option HandleFile). Begin slot (begun at x g Plain) ∷ []) (sym (file ∙ e)) ∙ ap (λ (es : List Entry). Begin slot (begun at x (file_for c p x) Plain) ∷ es) (sym still),
+          )
 
   -- one on none
-  plain : (x : Call) → is_bad c p x ≡ false → file_for c p x ≡ None → unbinding x ≡ [] → IsCoveredCall (begun at x None Plain) → Of x (Begin slot (begun at x None Plain) ∷ [])
-  plain x good file still k =
+  plain : (x : Call) → is_bad c p x ≡ false → file_for c p x ≡ None → unbinding x ≡ [] → (IsOnSizes x → ⊥) → IsCoveredCall (begun at x None Plain) → Of x (Begin slot (begun at x None Plain) ∷ [])
+  plain x good file still other k =
       inr (
         good,
-        ⊎_elim (λ (q : (o : Op) × (operation_of None x ≡ Some o)). (q.0, ap (λ (f : Option HandleFile). operation_of f x) file ∙ q.1)) (λ (q : Plain ≡ Bad). absurd (cc)) k,
+        inl (subst (λ (f : Option HandleFile). (o : Op) × (operation_of f x ≡ Some o)) (sym file) (covered_names None x at other k)),
         ap (λ (f : Option HandleFile). Begin slot (begun at x f Plain) ∷ []) (sym file) ∙ ap (λ (es : List Entry). Begin slot (begun at x (file_for c p x) Plain) ∷ es) (sym still),
       )
 
@@ -69,7 +93,7 @@ module _ (head : table.Head) (c : ℕ) (at : At) (slot : ℕ) (p : List Line) (t
     where
       by : (b : Bool) → is_bad c p (call.Open h path) ≡ b → Of (call.Open h path) (begins_open at slot (call.Open h path) b)
       by true e = inl (e, refl)
-      by false e = inr (e, (op.Open path, refl), refl)
+      by false e = inr (e, inl (op.Open path, refl), refl)
   begins_so (call.Close h) k = subst (λ (f : Option HandleFile). Of (call.Close h) (begins_close at slot h f)) (sym (tied h)) (by (file_at c h p) refl)
     where
       by : (f : Option HandleFile) → file_at c h p ≡ f → Of (call.Close h) (begins_close at slot h f)
@@ -77,15 +101,15 @@ module _ (head : table.Head) (c : ℕ) (at : At) (slot : ℕ) (p : List Line) (t
       by (Some f) e =
           inr (
             ap (λ (g : Option HandleFile). not (is_some g)) e,
-            (op.Close f.number f.fid, ap (λ (g : Option HandleFile). operation_of g (call.Close h)) e),
+            inl (op.Close f.number f.fid, ap (λ (g : Option HandleFile). operation_of g (call.Close h)) e),
             ap (λ (g : Option HandleFile). Begin slot (begun at (call.Close h) g Plain) ∷ Unbinds h ∷ []) (sym e),
           )
-  begins_so (call.Read h x n) k = on_file (call.Read h x n) h (λ f. refl) refl k
-  begins_so (call.Write h x bs) k = on_file (call.Write h x bs) h (λ f. refl) refl k
-  begins_so (call.Cut h n) k = on_file (call.Cut h n) h (λ f. refl) refl k
-  begins_so (call.Flush h) k = on_file (call.Flush h) h (λ f. refl) refl k
-  begins_so (call.Glimpse h) k = on_file (call.Glimpse h) h (λ f. refl) refl k
-  begins_so x k = plain x refl refl refl k.0
+  begins_so (call.Read h x n) k = on_file (call.Read h x n) h (λ f. refl) (λ n. n) refl k
+  begins_so (call.Write h x bs) k = on_file (call.Write h x bs) h (λ f. refl) (λ n. n) refl k
+  begins_so (call.Cut h n) k = on_file (call.Cut h n) h (λ f. refl) (λ n. n) refl k
+  begins_so (call.Flush h) k = on_sizes (call.Flush h) h tt refl refl refl
+  begins_so (call.Glimpse h) k = on_sizes (call.Glimpse h) h tt refl refl refl
+  begins_so x k = plain x refl refl refl (λ n. n) k.0
 
 module _ (head : table.Head) (c : ℕ) (stamp : Stamp) where
   abbrev at : At
@@ -96,7 +120,7 @@ module _ (head : table.Head) (c : ℕ) (stamp : Stamp) where
   busy_ends : (p : List Line) (slot : ℕ) → Starts head c stamp p → Ended head c at (line at (Busy slot) ∷ p)
   busy_ends p slot s =
       record {
-        good = adds head c stamp p (Busy slot) (starts_good head c stamp p s) (owes_nothing p at (Busy slot) s.settled) s.later (λ t e. tt) tt tt refl;
+        good = adds head c stamp p (Busy slot) (starts_good head c stamp p s) (owes_nothing p at (Busy slot) s.settled) s.later (λ t e. tt) tt refl;
         settled = tt;
         between = record { idle = s.between.idle; handles = s.between.handles; held = s.between.held; calm = s.between.calm };
       }
@@ -109,12 +133,11 @@ module _ (head : table.Head) (c : ℕ) (stamp : Stamp) where
       by true q = absurd (n (sym (eqb-true slot u q)))
       by false q = call_line head c stamp u p (Begin slot r) ∙ rw q refl
 
-  begin_good : (p : List Line) (slot : ℕ) (r : Running) → Starts head c stamp p → slot < 4 → IsCall r.call → call_at c slot p ≡ None → r ≡ begun at r.call r.file r.stage → guards.Begins c p r → IsCoveredCall r → IsAloneOn c p r.file
-      → Good head c at (line at (Begin slot r) ∷ p)
-  begin_good p slot r s small limits empty is begins covered alone =
+  begin_good : (p : List Line) (slot : ℕ) (r : Running) → Starts head c stamp p → slot < 4 → IsCall r.call → call_at c slot p ≡ None → r ≡ begun at r.call r.file r.stage → guards.Begins c p r → IsCoveredCall r → Good head c at (line at (Begin slot r) ∷ p)
+  begin_good p slot r s small limits empty is begins covered =
       adds head c stamp p (Begin slot r) (starts_good head c stamp p s) (owes_nothing p at (Begin slot r) s.settled)
       (record { later = s.later; small = small; free = empty; is = is; limits = limits; begins = begins; calm = s.between.calm; ready = s.ready }) (λ t q. tt)
-      covered alone refl
+      covered refl
 
   -- one on a bad handle is told so
   begin_bad : (p : List Line) (slot : ℕ) (wanted : Call) → Starts head c stamp p → slot < 4 → IsCall wanted → call_at c slot p ≡ None → is_bad c p wanted ≡ true
@@ -122,10 +145,10 @@ module _ (head : table.Head) (c : ℕ) (stamp : Stamp) where
   begin_bad p slot wanted s small limits empty bad =
       record {
         good =
-            adds head c stamp p1 e (begin_good p slot r s small limits empty refl (inr (bad, refl, refl)) (inr refl) tt) (refl, refl)
-            (inr (inr (inr (record { running = r; call = stands; bad = refl; begun = refl; of_turn = refl; of_answer = refl; plain = refl })))) (λ t q. tt) tt tt refl;
+            adds head c stamp p1 e (begin_good p slot r s small limits empty refl (inr (bad, refl, refl)) (inr (inl refl))) (refl, refl)
+            (inr (inr (inr (inl (record { running = r; call = stands; bad = refl; begun = refl; of_turn = refl; of_answer = refl; plain = refl }))))) (λ t q. tt) tt refl;
         settled = tt;
-        idle = idle;
+        idle = idle_same c p (line at e ∷ p1) same s.between.idle;
         handles = told_tied c stamp p1 slot at (answer.Refused EBADF) None r stands refl (begun_tied c stamp p slot r (closes_unbound c p wanted bad) s.between.handles);
         free = λ x i. s.between.held x i;
       }
@@ -142,20 +165,20 @@ module _ (head : table.Head) (c : ℕ) (stamp : Stamp) where
       stands : call_at c slot p1 ≡ Some r
       stands = call_line head c stamp slot p (Begin slot r) ∙ rw (self slot) refl
 
-      idle : AllIdle c (line at e ∷ p1)
-      idle u = by (nat_eq slot u) refl
+      -- no slot has another call than before
+      same : (u : ℕ) → call_at c u (line at e ∷ p1) ≡ call_at c u p
+      same u = by (nat_eq slot u) refl
         where
-          by : (b : Bool) → nat_eq slot u ≡ b → Idle (call_at c u (line at e ∷ p1))
-          by true q = let so : call_at c u (line at e ∷ p1) ≡ None = call_line head c stamp u p1 e ∙ rw q refl in subst Idle (sym so) tt
+          by : (b : Bool) → nat_eq slot u ≡ b → call_at c u (line at e ∷ p1) ≡ call_at c u p
+          by true q = call_line head c stamp u p1 e ∙ rw q refl ∙ sym (ap (λ (v : ℕ). call_at c v p) (sym (eqb-true slot u q)) ∙ empty)
           by false q =
-              let so : call_at c u (line at e ∷ p1) ≡ call_at c u p1 = call_line head c stamp u p1 e ∙ rw q refl in
-              let n : u ≡ slot → ⊥ = λ same. let t : nat_eq slot u ≡ true = ap (nat_eq slot) same ∙ self slot in absurd (cc) in
-              subst Idle (sym (so ∙ begin_other p slot r u n)) (s.between.idle u)
+              let n : u ≡ slot → ⊥ = λ is. let t : nat_eq slot u ≡ true = ap (nat_eq slot) is ∙ self slot in absurd (cc) in
+              call_line head c stamp u p1 e ∙ rw q refl ∙ begin_other p slot r u n
 
-  -- one on a good handle, or on none, is to ask; a close unbinds its handle first
-  begin_starts : (p : List Line) (slot : ℕ) (wanted : Call) (file : Option HandleFile) (o : Op) → Starts head c stamp p → slot < 4 → IsCall wanted → call_at c slot p ≡ None → is_bad c p wanted ≡ false → file ≡ file_for c p wanted
-      → operation_of file wanted ≡ Some o → IsAloneOn c p file → HasBegun head c stamp slot wanted file (with_turn at (Begin slot (begun at wanted file Plain) ∷ unbinding wanted) p)
-  begin_starts p slot wanted file o s small limits empty fine of_file becomes alone = by wanted refl
+  -- one on a good handle, or on none, is to move; a close unbinds its handle first
+  begin_starts : (p : List Line) (slot : ℕ) (wanted : Call) (file : Option HandleFile) → Starts head c stamp p → slot < 4 → IsCall wanted → call_at c slot p ≡ None → is_bad c p wanted ≡ false → file ≡ file_for c p wanted
+      → Does file wanted → HasBegun head c stamp slot wanted file (with_turn at (Begin slot (begun at wanted file Plain) ∷ unbinding wanted) p)
+  begin_starts p slot wanted file s small limits empty fine of_file does = by wanted refl
     where
       r : Running
       r = begun at wanted file Plain
@@ -164,37 +187,46 @@ module _ (head : table.Head) (c : ℕ) (stamp : Stamp) where
       p1 = line at (Begin slot r) ∷ p
 
       good : Good head c at p1
-      good = begin_good p slot r s small limits empty refl (inl (fine, refl, of_file, (o, becomes))) (inl (o, becomes)) alone
+      good = sort does
+        where
+          sort : Does file wanted → Good head c at p1
+          sort (inl q) = begin_good p slot r s small limits empty refl (inl (fine, refl, of_file, inl q)) (inl q)
+          sort (inr q) = begin_good p slot r s small limits empty refl (inl (fine, refl, of_file, inr q.0)) (inr (inr q.0))
 
       stands : call_at c slot p1 ≡ Some r
       stands = call_line head c stamp slot p (Begin slot r) ∙ rw (self slot) refl
 
-      others : (u : ℕ) → (u ≡ slot → ⊥) → Idle (call_at c u p1)
-      others u n = subst Idle (sym (begin_other p slot r u n)) (s.between.idle u)
+      -- what was on an open is on it still
+      on_more : (n u : ℕ) → is_on n (call_at c u p) ≡ true → is_on n (call_at c u p1) ≡ true
+      on_more n u q = by (nat_eq slot u) refl
+        where
+          by : (b : Bool) → nat_eq slot u ≡ b → is_on n (call_at c u p1) ≡ true
+          by true t = absurd (let none : is_on n (call_at c u p) ≡ false = ap (is_on n) (ap (λ (v : ℕ). call_at c v p) (sym (eqb-true slot u t)) ∙ empty) in cc)
+          by false t = ap (is_on n) (begin_other p slot r u (λ is. let t : nat_eq slot u ≡ true = ap (nat_eq slot) is ∙ self slot in absurd (cc))) ∙ q
 
-      lone : (f : Option HandleFile) → IsAloneOn c p f → AloneBut c slot f p1
-      lone None a = tt
-      lone (Some f) a = λ u n. ap (is_on f.number.0) (begin_other p slot r u n) ∙ a u
+      others : (u : ℕ) → (u ≡ slot → ⊥) → Idle (calls_at c p1) (call_at c u p1)
+      others u n = subst (Idle (calls_at c p1)) (sym (begin_other p slot r u n)) (idle_more (calls_at c p) (calls_at c p1) (λ n. count_more c n p p1 (on_more n)) (call_at c u p) (s.between.idle u))
 
-      lone_after : (h : ℕ) (f : Option HandleFile) → IsAloneOn c p f → AloneBut c slot f (line at (Unbinds h) ∷ p1)
-      lone_after h None a = tt
-      lone_after h (Some f) a = λ u n. ap (is_on f.number.0) (begin_other p slot r u n) ∙ a u
+      due : (x : Call) (e : Entry) → guards.Starts slot Plain e → guards.OwesBegun (at ≡ at) slot Plain x e
+      due (call.Close h) e q = tt
+      due (call.Flush h) e q = tt
+      due (call.Glimpse h) e q = tt
+      due x e q = (refl, q)
 
       by : (x : Call) → wanted ≡ x → HasBegun head c stamp slot wanted file (with_turn at (unbinding x) p1)
       by (call.Close h) e =
           record {
             begun = record {
-              good = adds head c stamp p1 (Unbinds h) good (refl, tt) tt (λ t q. tt) tt tt refl;
+              good = adds head c stamp p1 (Unbinds h) good (subst (λ (x : Call). guards.OwesBegun (at ≡ at) slot Plain x (Unbinds h)) (sym e) tt) tt (λ t q. tt) tt refl;
               small = small;
               call = stands;
               others = others;
               handles = closed_tied c stamp p slot r h e s.between.handles;
-              due = λ x q. (refl, (refl, q));
+              due = λ x q. tt;
             };
             free = λ x i. s.between.held x i;
-            alone = lone_after h file alone;
-            op = o;
-            becomes = becomes;
+            quiet = λ q. tt;
+            does = does;
           }
       by x e =
           record {
@@ -204,12 +236,11 @@ module _ (head : table.Head) (c : ℕ) (stamp : Stamp) where
               call = stands;
               others = others;
               handles = begun_tied c stamp p slot r (λ h. closes_nothing h wanted (file_at c h p) (ap unbinding e)) s.between.handles;
-              due = λ x q. (refl, q);
+              due = due wanted;
             };
             free = λ x i. s.between.held x i;
-            alone = lone file alone;
-            op = o;
-            becomes = becomes;
+            quiet = λ q. q;
+            does = does;
           }
 
   pub call_ends : (p : List Line) (slot : ℕ) (wanted : Call) → Starts head c stamp p → slot < 4 → IsCall wanted → (x : Option Running) → call_at c slot p ≡ x
@@ -242,6 +273,5 @@ module _ (head : table.Head) (c : ℕ) (stamp : Stamp) where
           let p1 = with_turn at gs p in
           let same : with_turn at (follow fs after k) p ≡ with_turn at (follow gs after k) p = ap (λ (xs : List Entry). with_turn at (follow xs after k) p) good.2 in
           let all : with_turn at (follow fs after k) p ≡ with_turn at (after (client_of head c p1)) p1 = same ∙ followed head c stamp gs after p in
-          let alone : IsAloneOn c p file = (covered_turn at (follow gs after k) p (subst AllCovered same cov)).2.0 in
           subst (Ended head c at) (sym all)
-          (rests_from head c stamp (HasBegun head c stamp slot wanted file) (has_begun head c stamp slot wanted file) p1 (begin_starts p slot wanted file good.1.0 s small limits e good.0 refl good.1.1 alone) (subst AllCovered all cov))
+          (rests_from head c stamp (HasBegun head c stamp slot wanted file) (has_begun head c stamp slot wanted file) p1 (begin_starts p slot wanted file s small limits e good.0 refl good.1) (subst AllCovered all cov))

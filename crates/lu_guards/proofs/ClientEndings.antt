@@ -73,7 +73,7 @@ module _ (head : table.Head) (c : ℕ) (stamp : Stamp) where
         leaving = record {
           good =
               adds head c stamp p e l.good (owes_nothing p at e l.settled)
-              (inr (inr (inl (record { running = r; call = is; notice = subst (λ (w : Who). Noticed p at w) (sym l.life) l.notice; of_turn = refl; of_answer = refl; plain = refl })))) (λ t q. tt) tt tt refl;
+              (inr (inr (inl (record { running = r; call = is; notice = subst (λ (w : Who). Noticed p at w) (sym l.life) l.notice; of_turn = refl; of_answer = refl; plain = refl })))) (λ t q. tt) tt refl;
           settled = tt;
           life = l.life;
           known = l.known;
@@ -181,7 +181,7 @@ module _ (head : table.Head) (c : ℕ) (stamp : Stamp) where
                 (at_zero head c stamp (λ (t : ℕ). (0 ≡ 0) × story_guards.DropOk (only t p) c h.lock) (
                   refl,
                   record { holding = h; held = subst (λ (gs : List HeldLock). In h gs) (held_is (the_head head c stamp) c p l.good.grown) (i h (inl refl)); is = refl },
-                )) tt tt refl;
+                )) tt refl;
             settled = tt;
             life = l.life;
             known = l.known;
@@ -221,12 +221,12 @@ module _ (head : table.Head) (c : ℕ) (stamp : Stamp) where
       good =
           adds head c stamp p e b.leaving.good (owes_nothing p at e b.leaving.settled)
           (record { notice = subst (λ (w : Who). Noticed p at w) (sym b.leaving.life) b.leaving.notice; next = ap next_life (sym b.leaving.life); idle = b.none })
-          (λ t q. record { next = ap next_life (sym b.leaving.life ∙ life_is_of c t p); empty = empty_only t }) tt tt refl
+          (λ t q. record { next = ap next_life (sym b.leaving.life ∙ life_is_of c t p); empty = empty_only t }) tt refl
 
       still : Still head c stamp (next_life who) p1 p1
       still =
           record {
-            rested = record { good = good; settled = tt; idle = λ slot. subst Idle (sym (b.none slot)) tt; handles = new_tied c stamp p (next_life who); free = λ x i. absurd (subst (λ (hs : List HeldLock). In x hs) b.empty i) };
+            rested = record { good = good; settled = tt; idle = λ slot. subst (Idle (calls_at c p1)) (sym (b.none slot)) tt; handles = new_tied c stamp p (next_life who); free = λ x i. absurd (subst (λ (hs : List HeldLock). In x hs) b.empty i) };
             life = ap (λ (own : Bool). if own then next_life who else life_at c p) (self c);
             known = λ t. refl;
             standing = λ t. refl;

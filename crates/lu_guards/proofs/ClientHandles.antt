@@ -1,7 +1,7 @@
 -- The handles of a client: between its turns its rows have each handle bound to the file that its calls say. The rows unbind just after
--- a close begins, and bind just before an open is told.
-use Rattle.std.proofs.Common.{◌≡◌, ℕ, zero, suc, Bool, true, false, List, [], ◌∷◌, Option, Some, None, refl, sym, ap, ◌∙◌}
-use Rattle.std.specs.Prelude.{nat_eq, nat_lt, not, if◌then◌else◌, is_some, length, filter}
+-- a close begins, and bind just before an open is told. And how many calls are on an open.
+use Rattle.std.proofs.Common.{◌≡◌, ℕ, zero, suc, ◌≤◌, Bool, true, false, List, [], ◌∷◌, Option, Some, None, refl, sym, subst, ap, ◌∙◌, arith}
+use Rattle.std.specs.Prelude.{nat_eq, not, if◌then◌else◌, is_some, length, filter}
 use Rattle.std.proofs.lemmas.Bool.{cond_both, cond-false, eqb-true}
 use Rattle.lu_base.specs.declared.ids.At.{At}
 use Rattle.lu_base.specs.declared.ids.Node.TheVariants.{Client}
@@ -131,6 +131,15 @@ module _ (c : ℕ) (stamp : Stamp) where
       ∙ ap (λ (f : Option HandleFile). called_file h r.call f (file_at c h p)) none
       ∙ none_called h r.call (file_at c h p))
 
+  -- or one that is a glimpse
+  pub glimpse_tied : (p : List Line) (slot : ℕ) (t : At) (a : Answer) (w : Option Work) (r : Running) (g : ℕ) → call_at c slot p ≡ Some r → r.call ≡ call.Glimpse g → Tied c p → Tied c (line here (Told slot t a w) ∷ p)
+  glimpse_tied p slot t a w r g is glimpses tied h =
+      tied h
+      ∙ sym (told_line p slot t a w h
+      ∙ ap (λ (x : Option Running). told_file h x (file_at c h p)) is
+      ∙ told_called h r (file_at c h p)
+      ∙ ap (λ (x : Call). called_file h x (opened r.asking) (file_at c h p)) glimpses)
+
   -- or one that was answered so
   pub heard_tied : (p : List Line) (slot : ℕ) (t : At) (given : Answer) (w : Option Work) (r : Running) (x : Call) (a : Answer) → call_at c slot p ≡ Some r → r.call ≡ x → opened r.asking ≡ opened_by a → Tied c p
       → Tied c (line here (Told slot t given w) ∷ with_turn here (binding x a) p)
@@ -177,41 +186,44 @@ file_other c h at (e ∷ es) past other = file_other c h at es (line at e ∷ pa
     by (Life who) = ap (λ (own : Bool). if own then None else old) other
     by e = refl
 
--- ---- a call that is alone on its open
-
--- no other call of the client is on that open
-abbrev pub AloneBut : ℕ → ℕ → Option HandleFile → List Line → Type 0
-AloneBut c slot None p = Unit {0}
-AloneBut c slot (Some f) p = (s : ℕ) → (s ≡ slot → ⊥) → is_on f.number.0 (call_at c s p) ≡ false
-
--- so a close of it doesn't wait
-abbrev pub Lone : Option HandleFile → List (Option Running) → Type 0
-Lone None calls = Unit {0}
-Lone (Some f) calls = nat_lt 1 (count_on f.number.0 calls) ≡ false
+-- ---- how many calls are on an open
 
 none_on : (n : ℕ) (calls : List (Option Running)) → ((s : ℕ) → is_on n (call_on s calls) ≡ false) → filter (is_on n) calls ≡ []
 none_on n [] f = refl
 none_on n (x ∷ calls) f = cond-false (is_on n x) (x ∷ filter (is_on n) calls) (filter (is_on n) calls) (f 0) ∙ none_on n calls (λ s. f (suc s))
 
-count_one : (n slot : ℕ) (calls : List (Option Running)) → ((s : ℕ) → (s ≡ slot → ⊥) → is_on n (call_on s calls) ≡ false) → nat_lt 1 (count_on n calls) ≡ false
-count_one n slot [] f = refl
-count_one n zero (x ∷ calls) f =
-    ap (λ (ys : List (Option Running)). nat_lt 1 (length (if is_on n x then x ∷ ys else ys))) (none_on n calls (λ s. f (suc s) (λ e. absurd (cc)))) ∙ by (is_on n x)
+-- a call that is on it is counted
+pub count_self : (n s : ℕ) (calls : List (Option Running)) → is_on n (call_on s calls) ≡ true → 1 ≤ count_on n calls
+count_self n s [] e = absurd (cc)
+count_self n zero (x ∷ calls) e = subst (λ (b : Bool). 1 ≤ length (if b then x ∷ filter (is_on n) calls else filter (is_on n) calls)) (sym e) (omega arith)
+count_self n (suc s) (x ∷ calls) e = by (is_on n x) (count_self n s calls e)
   where
-    by : (b : Bool) → nat_lt 1 (length (if b then x ∷ [] else [])) ≡ false
-    by true = refl
-    by false = refl
-count_one n (suc slot) (x ∷ calls) f =
-    ap (λ (b : Bool). nat_lt 1 (length (if b then x ∷ filter (is_on n) calls else filter (is_on n) calls))) (f 0 (λ e. absurd (cc)))
-    ∙ count_one n slot calls (λ s other. f (suc s) (λ e. other (let q : s ≡ slot = cc in q)))
+    by : (b : Bool) → 1 ≤ count_on n calls → 1 ≤ length (if b then x ∷ filter (is_on n) calls else filter (is_on n) calls)
+    by true low = omega arith
+    by false low = low
 
-pub lone : (c slot : ℕ) (file : Option HandleFile) (p : List Line) → AloneBut c slot file p → Lone file (calls_at c p)
-lone c slot None p a = tt
-lone c slot (Some f) p a = count_one f.number.0 slot (calls_at c p) on
+-- where the calls that are on it are on it still, they are as many or more
+count_lists : (n : ℕ) (xs ys : List (Option Running)) → ((s : ℕ) → is_on n (call_on s xs) ≡ true → is_on n (call_on s ys) ≡ true) → count_on n xs ≤ count_on n ys
+count_lists n [] ys f = omega arith
+count_lists n (x ∷ xs) [] f = subst (λ (zs : List (Option Running)). length zs ≤ 0) (sym (none_on n (x ∷ xs) (λ s. by s (is_on n (call_on s (x ∷ xs))) refl))) (omega arith)
   where
-    on : (s : ℕ) → (s ≡ slot → ⊥) → is_on f.number.0 (call_on s (calls_at c p)) ≡ false
-    on zero n = a 0 n
-    on (suc zero) n = a 1 n
-    on (suc (suc zero)) n = a 2 n
-    on (suc (suc (suc zero))) n = a 3 n
-    on (suc (suc (suc (suc s)))) n = refl
+    by : (s : ℕ) (b : Bool) → is_on n (call_on s (x ∷ xs)) ≡ b → b ≡ false
+    by s true e = absurd (let q = f s e in cc)
+    by s false e = refl
+count_lists n (x ∷ xs) (y ∷ ys) f = by (is_on n x) (is_on n y) refl refl (count_lists n xs ys (λ s. f (suc s)))
+  where
+    by : (a b : Bool) → is_on n x ≡ a → is_on n y ≡ b → count_on n xs ≤ count_on n ys → length (if a then x ∷ filter (is_on n) xs else filter (is_on n) xs) ≤ length (if b then y ∷ filter (is_on n) ys else filter (is_on n) ys)
+    by true true p q low = omega (arith, low)
+    by true false p q low = absurd (let r = f 0 p in cc)
+    by false true p q low = omega (arith, low)
+    by false false p q low = low
+
+pub count_more : (c n : ℕ) (p q : List Line) → ((s : ℕ) → is_on n (call_at c s p) ≡ true → is_on n (call_at c s q) ≡ true) → count_on n (calls_at c p) ≤ count_on n (calls_at c q)
+count_more c n p q f = count_lists n (calls_at c p) (calls_at c q) on
+  where
+    on : (s : ℕ) → is_on n (call_on s (calls_at c p)) ≡ true → is_on n (call_on s (calls_at c q)) ≡ true
+    on zero e = f 0 e
+    on (suc zero) e = f 1 e
+    on (suc (suc zero)) e = f 2 e
+    on (suc (suc (suc zero))) e = f 3 e
+    on (suc (suc (suc (suc s)))) e = absurd (cc)

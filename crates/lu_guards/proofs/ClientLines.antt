@@ -1,6 +1,7 @@
--- What holds of a client after every line of a covered run: it has changed no object; all that it asks is on names and asked of the
--- metadata target, which alone replies to it and calls locks back; and no two held locks have one name.
-use Rattle.std.proofs.Common.{◌≡◌, ℕ, suc, ◌+◌, ◌<◌, Bool, true, false, List, [], ◌∷◌, ◌++◌, inl, inr, ⊎_elim, Option, Some, None, refl, sym, subst, ap, ◌∙◌, arith, pos}
+-- What holds of a client after every line of a covered run: it has changed no object; what it asks of the metadata target is on names,
+-- and of another target how long an object is; the replies of such a one bring no lock, and none but the metadata target calls locks
+-- back; and no two held locks have one name.
+use Rattle.std.proofs.Common.{◌≡◌, ℕ, ◌+◌, ◌<◌, Bool, true, false, List, [], ◌∷◌, ◌++◌, ◌⊎◌, inl, inr, ⊎_elim, Option, Some, None, refl, sym, subst, ap, ◌∙◌, arith, pos}
 use Rattle.std.specs.Prelude.{nat_eq, ◌&&◌, if◌then◌else◌}
 use Rattle.std.proofs.lemmas.Bool.{eqb-true, and_parts}
 use Rattle.std.proofs.lemmas.Bool.Decides.{nat_tests}
@@ -24,9 +25,9 @@ use Rattle.lu_held.specs.declared.locks.HeldLock.{HeldLock}
 use Rattle.lu_held.specs.Locks.{after}
 use Rattle.lu_held.specs.Held.{changed}
 use Rattle.lu_machine.specs.Fits.{answer_fits}
-use Rattle.lu_words.specs.Carried.{HandleFile, Outcome, Slot, Queued, Flight, Asking, Asked, Answered, Running}
+use Rattle.lu_words.specs.Carried.{Deed, HandleFile, Outcome, Slot, Queued, Flight, Asking, Asked, Answered, Running}
 use Rattle.lu_words.specs.Words.{Entry, Send, Begin, Heard, Hold, Drop, Told, Life, Queues, Flies, Stands, Pins, Unpins, Marks, Unmarks, Changes, WritesBack, Acks, Act, Txn, Close, Enters, Line, line, is_client}
-use Rattle.lu_words.specs.Concerns.{is_about, only}
+use Rattle.lu_words.specs.Concerns.{is_about, concerns, only}
 use Rattle.lu_words.specs.Fields.{on, at_client, at_import}
 use Rattle.lu_target_rows.specs.Lives.{slot_in}
 use Rattle.lu_target_rows.specs.Names.{locks_from}
@@ -40,13 +41,14 @@ use Rattle.lu_covered.specs.Imports.{rest, without_flight, reads_queue, queue_af
 use Rattle.lu_covered.specs.TargetCloses.{outcome_of}
 use Rattle.lu_covered.specs.TargetParts.{is_slot_of, entered, answered}
 use Rattle.lu_covered.specs.TargetStates.{slot_of}
-use Rattle.lu_guards.proofs.Guards.{In, Was, EntryOk}
-use Rattle.lu_guards.proofs.StoryGuards.{EntryOf, SendOf}
+use Rattle.lu_guards.proofs.Guards.{In, Was, NamesAskOk, SizeAskOk, QueuesOk, EntryOk}
+use Rattle.lu_guards.proofs.StoryGuards.{ActsOk, ReplyOk, EntryOf, SendOf}
 use Rattle.lu_guards.proofs.Grown.{Grown, GrownOf}
-use Rattle.lu_guards.proofs.Lists.{in_append, in_filter}
+use Rattle.lu_guards.proofs.Lists.{self, in_append, in_filter}
 use Rattle.lu_guards.proofs.Parts.{queue_now}
 use Rattle.lu_guards.proofs.Held.{is_own, client_keeps}
-use Rattle.lu_guards.proofs.ClientDisks.{bare_in, bare_outcome}
+use Rattle.lu_guards.proofs.ClientDisks.{IsBare, bare_in, bare_outcome}
+use Rattle.lu_guards.proofs.Only.{grown_of}
 use Rattle.lu_guards.proofs.ClientLocks.{Once, Differ, once_filter, once_changed, once_used, once_unmarked, once_with, once_brought}
 
 -- ---- operations on names
@@ -58,6 +60,46 @@ IsNames (op.Put resource cookie offset bytes) = ⊥
 IsNames (op.Cut resource cookie size) = ⊥
 IsNames (op.Size resource) = ⊥
 IsNames _ = Unit {0}
+
+-- how long an object is
+abbrev pub IsSize : Op → Type 0
+IsSize (op.Size resource) = Unit {0}
+IsSize _ = ⊥
+
+-- an operation of which nothing comes but its answer, and the locks of that
+abbrev pub IsSimple : Op → Type 0
+IsSimple (op.Enqueue resource mode extent) = ⊥
+IsSimple (op.Get resource cookie page) = ⊥
+IsSimple (op.Put resource cookie offset bytes) = ⊥
+IsSimple (op.Cut resource cookie size) = ⊥
+IsSimple _ = Unit {0}
+
+-- what may be asked of a target
+abbrev pub IsAskedOf : ℕ → Op → Type 0
+IsAskedOf t o = ((t ≡ 0) × IsNames o) ⊎ ((0 < t) × IsSize o)
+
+names_simple : (o : Op) → IsNames o → IsSimple o
+names_simple (op.Enqueue resource mode extent) n = n
+names_simple (op.Get resource cookie page) n = n
+names_simple (op.Put resource cookie offset bytes) n = n
+names_simple (op.Cut resource cookie size) n = n
+names_simple o n = tt
+
+size_simple : (o : Op) → IsSize o → IsSimple o
+size_simple (op.Size resource) n = tt
+size_simple (op.Enqueue resource mode extent) n = n
+size_simple (op.Get resource cookie page) n = n
+size_simple (op.Put resource cookie offset bytes) n = n
+size_simple (op.Cut resource cookie size) n = n
+size_simple o n = tt
+
+pub asked_simple : (t : ℕ) (o : Op) → IsAskedOf t o → IsSimple o
+asked_simple t o (inl a) = names_simple o a.1
+asked_simple t o (inr a) = size_simple o a.1
+
+pub asked_names : (o : Op) → IsAskedOf 0 o → IsNames o
+asked_names o (inl a) = a.1
+asked_names o (inr a) = absurd (omega (arith, a.0))
 
 pub some_is : {A : Type 0} (a b : A) → Some a ≡ Some b → a ≡ b
 some_is a b e = cc
@@ -84,22 +126,22 @@ ends [] = refl
 ends (x ∷ xs) = ap (λ ys. x ∷ ys) (ends xs)
 
 -- a reply to one brings its own locks alone, without a size, and nothing else comes of it
-pub brings_its : (o : Op) (r : ReplyTo) → IsNames o → brought o r ≡ r.locks
+pub brings_its : (o : Op) (r : ReplyTo) → IsSimple o → brought o r ≡ r.locks
 brings_its o r n = ap (λ (ls : List Lock). r.locks ++ ls) (none o n) ∙ ends r.locks
   where
-    none : (o : Op) → IsNames o → granted_lock o r r.answer ≡ []
+    none : (o : Op) → IsSimple o → granted_lock o r r.answer ≡ []
     none (op.Enqueue resource mode extent) n = absurd n
     none o n = refl
 
-pub no_size : (o : Op) (a : Answer) → IsNames o → answer_fits o a ≡ true → size_with a ≡ None
+pub no_size : (o : Op) (a : Answer) → IsSimple o → answer_fits o a ≡ true → size_with a ≡ None
 no_size o (answer.Granted cookie extent size) n fits = absurd (by o n fits)
   where
-    by : (o : Op) → IsNames o → answer_fits o (answer.Granted cookie extent size) ≡ true → ⊥
+    by : (o : Op) → IsSimple o → answer_fits o (answer.Granted cookie extent size) ≡ true → ⊥
     by (op.Enqueue resource mode asked) n fits = absurd n
     by o n fits = cc
 no_size o a n fits = refl
 
-pub heeds_nothing : (t : ℕ) (f : Flight) (o : Op) (r : ReplyTo) (a : Answer) (k : ClientState) → IsNames o → heeds t f o r a k ≡ []
+pub heeds_nothing : (t : ℕ) (f : Flight) (o : Op) (r : ReplyTo) (a : Answer) (k : ClientState) → IsSimple o → heeds t f o r a k ≡ []
 heeds_nothing t f (op.Enqueue resource mode extent) r a k n = absurd n
 heeds_nothing t f (op.Get resource cookie page) r a k n = absurd n
 heeds_nothing t f (op.Put resource cookie offset bytes) r a k n = absurd n
@@ -151,51 +193,44 @@ import_keeps {A} P reads after start head c t p f (l ∷ past) g = by (reads l.e
         (subst (λ (n : Node). EntryOf head (only t past) l.at n l.entry) node (g.0.of t (rw node own.1)))
         own.1 q
 
--- all is asked of the metadata target
-not_zero : (t u : ℕ) → u ≡ 0 → nat_eq (suc t) u ≡ true → ⊥
-not_zero t u z about = let e : suc t ≡ 0 = eqb-true (suc t) u about ∙ z in absurd (cc)
-
-pub other_queue : (head : Head) (c t : ℕ) (past : List Line) → Grown head past → queue_at c (suc t) past ≡ []
-other_queue head c t past g = import_keeps (λ (qs : List Queued). qs ≡ []) reads_queue queue_after [] head c (suc t) refl (λ p at e x h ok of about q. by p at e x ok about q) past g
-  where
-    by : (p : List Line) (at : At) (e : Entry) (x : List Queued) → EntryOk p at (Client c) e → is_about (suc t) e ≡ true → x ≡ [] → queue_after x e ≡ []
-    by p at (Queues u o) x ok about q = absurd (not_zero t u ok.names about)
-    by p at (Flies u f) x ok about q = absurd (not_zero t u ok about)
-    by p at (Life who) x ok about q = refl
-    by p at e x ok about q = q
-
-pub other_flights : (head : Head) (c t : ℕ) (past : List Line) → Grown head past → flights_at c (suc t) past ≡ []
-other_flights head c t past g = import_keeps (λ (fs : List Flight). fs ≡ []) reads_flights flights_after [] head c (suc t) refl (λ p at e x h ok of about q. by p at e x ok about q) past g
-  where
-    by : (p : List Line) (at : At) (e : Entry) (x : List Flight) → EntryOk p at (Client c) e → is_about (suc t) e ≡ true → x ≡ [] → flights_after x e ≡ []
-    by p at (Flies u f) x ok about q = absurd (not_zero t u ok about)
-    by p at (Heard u f r) x ok about q = absurd (not_zero t u ok.0 about)
-    by p at (Life who) x ok about q = refl
-    by p at e x ok about q = q
-
--- all that is asked is on names
+-- what is asked of a target
 pub in_rest : (q : Queued) (qs : List Queued) → In q (rest qs) → In q qs
 in_rest q [] i = i
 in_rest q (x ∷ qs) i = inr i
 
-pub queue_names : (head : Head) (c t : ℕ) (past : List Line) → Grown head past → (q : Queued) → In q (queue_at c t past) → IsNames q.op
-queue_names head c t past g = import_keeps (λ (qs : List Queued). (q : Queued) → In q qs → IsNames q.op) reads_queue queue_after [] head c t (λ q i. absurd i) (λ p at e x h ok of about k. by p at e x ok k) past g
-  where
-    by : (p : List Line) (at : At) (e : Entry) (x : List Queued) → EntryOk p at (Client c) e → ((q : Queued) → In q x → IsNames q.op) → (q : Queued) → In q (queue_after x e) → IsNames q.op
-    by p at (Queues u o) x ok k q i =
-        ⊎_elim (λ (j : In q x). k q j) (λ (j : In q (o ∷ [])). ⊎_elim (λ (e : o ≡ q). subst (λ (y : Queued). IsNames y.op) e (becomes_names ok.running.file ok.running.call o.op ok.becomes)) (λ (n : ⊥). absurd n) j) (in_append q x (o ∷ []) i)
-    by p at (Flies u f) x ok k q i = k q (in_rest q x i)
-    by p at (Life who) x ok k q i = absurd i
-    by p at e x ok k q i = k q i
+-- the entry says of which target it is
+of_target : (P : ℕ → Type 0) (t u : ℕ) → nat_eq t u ≡ true → P u → P t
+of_target P t u e p = subst P (sym (eqb-true t u e)) p
 
-pub flights_names : (head : Head) (c t : ℕ) (past : List Line) → Grown head past → (f : Flight) → In f (flights_at c t past) → IsNames f.op
-flights_names head c t past g = import_keeps (λ (fs : List Flight). (f : Flight) → In f fs → IsNames f.op) reads_flights flights_after [] head c t (λ f i. absurd i) (λ p at e x h ok of about k. by p at e x h of k) past g
+queues_asked : (past : List Line) (c u : ℕ) (q : Queued) → QueuesOk past c u q → IsAskedOf u q.op
+queues_asked past c u q ok = by ok.asks
   where
-    by : (p : List Line) (at : At) (e : Entry) (x : List Flight) → Grown head p → EntryOf head (only t p) at (Client c) e → ((f : Flight) → In f x → IsNames f.op) → (f : Flight) → In f (flights_after x e) → IsNames f.op
+    by : NamesAskOk past c u ok.running q.op ⊎ SizeAskOk u ok.running q.op → IsAskedOf u q.op
+    by (inl a) = inl (a.names, becomes_names ok.running.file ok.running.call q.op a.becomes)
+    by (inr a) = inr (a.object, subst IsSize (sym a.of_op) tt)
+
+pub queue_asked : (head : Head) (c t : ℕ) (past : List Line) → Grown head past → (q : Queued) → In q (queue_at c t past) → IsAskedOf t q.op
+queue_asked head c t past g =
+    import_keeps (λ (qs : List Queued). (q : Queued) → In q qs → IsAskedOf t q.op) reads_queue queue_after [] head c t (λ q i. absurd i) (λ p at e x h ok of about k. by p at e x ok about k) past g
+  where
+    by : (p : List Line) (at : At) (e : Entry) (x : List Queued) → EntryOk p at (Client c) e → is_about t e ≡ true → ((q : Queued) → In q x → IsAskedOf t q.op) → (q : Queued) → In q (queue_after x e) → IsAskedOf t q.op
+    by p at (Queues u o) x ok about k q i =
+        ⊎_elim (λ (j : In q x). k q j)
+        (λ (j : In q (o ∷ [])). ⊎_elim (λ (e : o ≡ q). subst (λ (y : Queued). IsAskedOf t y.op) e (of_target (λ (v : ℕ). IsAskedOf v o.op) t u about (queues_asked p c u o ok))) (λ (n : ⊥). absurd n) j)
+        (in_append q x (o ∷ []) i)
+    by p at (Flies u f) x ok about k q i = k q (in_rest q x i)
+    by p at (Life who) x ok about k q i = absurd i
+    by p at e x ok about k q i = k q i
+
+pub flights_asked : (head : Head) (c t : ℕ) (past : List Line) → Grown head past → (f : Flight) → In f (flights_at c t past) → IsAskedOf t f.op
+flights_asked head c t past g =
+    import_keeps (λ (fs : List Flight). (f : Flight) → In f fs → IsAskedOf t f.op) reads_flights flights_after [] head c t (λ f i. absurd i) (λ p at e x h ok of about k. by p at e x h of k) past g
+  where
+    by : (p : List Line) (at : At) (e : Entry) (x : List Flight) → Grown head p → EntryOf head (only t p) at (Client c) e → ((f : Flight) → In f x → IsAskedOf t f.op) → (f : Flight) → In f (flights_after x e) → IsAskedOf t f.op
     by p at (Flies u o) x h of k f i =
-        let front : IsNames of.front.op = queue_names head c t p h of.front (subst (λ (qs : List Queued). In of.front qs) (sym (queue_now head c t p h ∙ of.queue)) (inl refl)) in
-        let flies : IsNames o.op = subst (λ (y : Flight). IsNames y.op) (sym of.is) front in
-        ⊎_elim (λ (j : In f x). k f j) (λ (j : In f (o ∷ [])). ⊎_elim (λ (e : o ≡ f). subst (λ (y : Flight). IsNames y.op) e flies) (λ (n : ⊥). absurd n) j) (in_append f x (o ∷ []) i)
+        let front : IsAskedOf t of.front.op = queue_asked head c t p h of.front (subst (λ (qs : List Queued). In of.front qs) (sym (queue_now head c t p h ∙ of.queue)) (inl refl)) in
+        let flies : IsAskedOf t o.op = subst (λ (y : Flight). IsAskedOf t y.op) (sym of.is) front in
+        ⊎_elim (λ (j : In f x). k f j) (λ (j : In f (o ∷ [])). ⊎_elim (λ (e : o ≡ f). subst (λ (y : Flight). IsAskedOf t y.op) e flies) (λ (n : ⊥). absurd n) j) (in_append f x (o ∷ []) i)
     by p at (Heard u o r) x h of k f i = k f (without o.xid x i)
       where
         without : (xid : ℕ) (fs : List Flight) → In f (without_flight xid fs) → In f fs
@@ -228,7 +263,7 @@ small_on head c slot past g = client_keeps (SmallOn slot) reads_call (call_after
     step p at (Queues t o) x k q = for o.slot Asked x q
     step p at (Heard t f r) x k q = for f.slot (Answered t r) x q
     step p at (Told s turn a w) x k q = chosen (nat_eq s slot) None x (λ e. tt) q
-    step p at (Stands s r) x k q = absurd k
+    step p at (Stands s r) x k q = chosen (nat_eq s slot) (Some r) x (λ e. subst (λ (u : ℕ). u < 4) (eqb-true s slot e) k.small) q
     step p at e x k q = q
 
 -- ---- held locks
@@ -248,9 +283,9 @@ held_once head c past g = client_keeps Once reads_held held_after [] head c tt s
 
 -- ---- what comes to it
 
--- replies and calls for locks come from the metadata target
+-- calls for locks come from the metadata target
 abbrev pub ComesTo : Node → Message → Type 0
-ComesTo (Target t) (message.Reply r) = t ≡ 0
+ComesTo (Target t) (message.Reply r) = Unit {0}
 ComesTo (Target t) (message.Block who boot cookie) = t ≡ 0
 ComesTo (Target t) (message.Ready who boot committed) = Unit {0}
 ComesTo (Target t) (message.Evicted who boot) = Unit {0}
@@ -262,7 +297,7 @@ comes_to head [] from c m g w = absurd w
 comes_to head (l ∷ past) from c m g w = by l.entry w g.0.ok (λ v. comes_to head past from c m g.1 v)
   where
     sends : (node : Node) (m : Message) → EntryOk past l.at node (Send (Client c) m) → ComesTo node m
-    sends (Target t) (message.Reply r) ok = ok.0
+    sends (Target t) (message.Reply r) ok = tt
     sends (Target t) (message.Block who boot cookie) ok = ok
     sends (Target t) (message.Ready who boot committed) ok = tt
     sends (Target t) (message.Evicted who boot) ok = tt
@@ -303,11 +338,15 @@ kept_differ head who tag (l ∷ past) g = by l.at.node l.entry g.0 (kept_differ 
     chosen true s p q = p
     chosen false s p q = q
 
+    acted : (t : ℕ) (d : Deed) → ActsOk head.osts past l.at t d → Differ d.reply.locks
+    acted t d (inl a) = subst (λ (x : Deed). Differ x.reply.locks) (sym a.1.is) (from_differ _ _ _)
+    acted t d (inr a) = subst (λ (x : Deed). Differ x.reply.locks) (sym a.1.is) tt
+
     by : (n : Node) (e : Entry) → EntryOf head past l.at n e → Fine S → Fine (slot_of who tag (line (record { stamp = l.at.stamp; node = n }) e ∷ past))
     by (Target t) (Enters r) ok f = chosen (is_slot_of who tag r.who r.tag) (entered r) (λ k e. absurd (cc)) f
     by (Target t) (Act d) ok f =
         chosen (is_slot_of who tag d.reply.who d.tag) (answered d S)
-        (λ k e. subst (λ (r : ReplyTo). Differ r.locks) (some_is d.reply k e) (subst (λ x. Differ x.reply.locks) (sym ok.is) (from_differ _ _ _))) f
+        (λ k e. subst (λ (r : ReplyTo). Differ r.locks) (some_is d.reply k e) (acted t d ok)) f
     by (Target t) (Txn d) ok f =
         chosen (is_slot_of who tag d.reply.who d.tag) (answered d S)
         (λ k e. subst (λ (r : ReplyTo). Differ r.locks) (some_is d.reply k e) (subst (λ x. Differ x.reply.locks) (sym ok.is) tt)) f
@@ -327,3 +366,60 @@ reply_differs head (l ∷ past) from c r g w = by l.entry w g.0 (λ v. reply_dif
     by (Send to x) (inl q) ok more = sends l.at.node (subst (λ (y : Message). SendOf head past l.at.node (Client c) y) q.2 (subst (λ (n : Node). SendOf head past l.at.node n x) q.1 ok))
     by (Send to x) (inr q) ok more = more q
     by e q ok more = more q
+
+-- a target but the metadata target grants no lock with its replies
+kept_bare : (head : Head) (t : ℕ) (who : Who) (tag : ℕ) (past : List Line) → 0 < t → Grown head past → (k : ReplyTo) → (slot_of who tag (only t past)).reply ≡ Some k → IsBare k
+kept_bare head t who tag [] low g = λ k e. absurd (cc)
+kept_bare head t who tag (l ∷ past) low g = about (concerns t l.at.node l.entry) refl (kept_bare head t who tag past low g.1)
+  where
+    story : List Line
+    story = only t past
+
+    S : Slot
+    S = slot_of who tag story
+
+    Bare : Slot → Type 0
+    Bare s = (k : ReplyTo) → s.reply ≡ Some k → IsBare k
+
+    chosen : (b : Bool) (s : Slot) → Bare s → Bare S → Bare (if b then s else S)
+    chosen true s p q = p
+    chosen false s p q = q
+
+    acted : (u : ℕ) (d : Deed) → 0 < u → ActsOk head.osts story l.at u d → IsBare d.reply
+    acted u d high (inl a) = absurd (let z = a.0 in omega (arith, z, high))
+    acted u d high (inr a) = subst (λ (x : Deed). IsBare x.reply) (sym a.1.is) refl
+
+    by : (n : Node) (e : Entry) → ((u : ℕ) → n ≡ Target u → 0 < u) → EntryOf head story l.at n e → Bare S → Bare (slot_of who tag (line (record { stamp = l.at.stamp; node = n }) e ∷ story))
+    by (Target u) (Enters r) high ok f = chosen (is_slot_of who tag r.who r.tag) (entered r) (λ k e. absurd (cc)) f
+    by (Target u) (Act d) high ok f = chosen (is_slot_of who tag d.reply.who d.tag) (answered d S) (λ k e. subst IsBare (some_is d.reply k e) (acted u d (high u refl) ok)) f
+    by (Target u) (Txn d) high ok f = chosen (is_slot_of who tag d.reply.who d.tag) (answered d S) (λ k e. subst IsBare (some_is d.reply k e) (subst (λ (x : Deed). IsBare x.reply) (sym ok.is) refl)) f
+    by (Target u) (Close o) high ok f = λ k e. bare_in (outcome_of head.osts head.clients l.at story).disk.slots who tag k (bare_outcome head l.at story (grown_of head t past g.1)) (ap (λ (x : Outcome). (slot_in x.disk.slots who tag).reply) (sym ok.is) ∙ e)
+    by (Client c) e high ok f = f
+    by (Target u) e high ok f = f
+
+    high : (n : Node) → concerns t n l.entry ≡ true → (u : ℕ) → n ≡ Target u → 0 < u
+    high (Target v) q u e = let same : t ≡ v = eqb-true t v q in let is : v ≡ u = cc in subst (λ (x : ℕ). 0 < x) (same ∙ is) low
+    high (Client c) q u e = absurd (cc)
+
+    about : (b : Bool) → concerns t l.at.node l.entry ≡ b → Bare S → Bare (slot_of who tag (if b then l ∷ story else story))
+    about true q f = by l.at.node l.entry (high l.at.node q) (g.0.of t q) f
+    about false q f = f
+
+-- replies of another target than the metadata target bring none
+pub reply_bare : (head : Head) (t c : ℕ) (r : ReplyTo) (past : List Line) → 0 < t → Grown head past → Was past (Target t) (Client c) (message.Reply r) → IsBare r
+reply_bare head t c r [] low g w = absurd w
+reply_bare head t c r (l ∷ past) low g w = by l.entry w g.0.of (λ v. reply_bare head t c r past low g.1 v)
+  where
+    by : (e : Entry) → Was (line l.at e ∷ past) (Target t) (Client c) (message.Reply r) → ((u : ℕ) → concerns u l.at.node e ≡ true → EntryOf head (only u past) l.at l.at.node e) → (Was past (Target t) (Client c) (message.Reply r) → IsBare r) → IsBare r
+    by (Send to x) (inl q) of more = bare ok
+      where
+        ok : SendOf head (only t past) (Target t) (Client c) (message.Reply r)
+        ok =
+            subst (λ (y : Message). SendOf head (only t past) (Target t) (Client c) y) q.2
+            (subst (λ (n : Node). SendOf head (only t past) (Target t) n x) q.1
+            (subst (λ (n : Node). SendOf head (only t past) n to x) q.0 (of t (subst (λ (n : Node). concerns t n (Send to x) ≡ true) (sym q.0) (self t)))))
+
+        bare : ReplyOk head (only t past) t c r → IsBare r
+        bare k = subst IsBare (sym k.is) (kept_bare head t k.who k.tag past low g.1 k.kept k.slot)
+    by (Send to x) (inr q) of more = more q
+    by e q of more = more q

@@ -78,7 +78,7 @@ module _ (head : table.Head) (c : ℕ) (stamp : Stamp) where
                 (at_one head c stamp t (λ (u : ℕ). story_guards.BootKnownOk (only u p1) c t boot) (record {
                   newer = subst (λ (b : ℕ). b < boot) (ap (λ (i : Import). i.boot) (import_there head c stamp p t le) ∙ known_is c t p1) (ltb-true (import_of t k.imports).boot boot e);
                   was = was_only t p1 (Target t) (Client c) m (self t) (sent_was p n (Target t) (Client c) m sent);
-                })) tt tt refl;
+                })) tt refl;
             settled = tt;
             idle = took.idle;
             handles = took.handles;
@@ -112,7 +112,7 @@ module _ (head : table.Head) (c : ℕ) (stamp : Stamp) where
       recovering r v =
           let of_target = λ (h : HeldLock). nat_eq h.target.0 t in
           let still : Still head c stamp who p3 p3 = record {
-            rested = record { good = adds head c stamp p2 (Unmarks t) r.good (owes_nothing p2 at (Unmarks t) tt) tt (λ u q. tt) tt tt refl; settled = tt; idle = r.idle; handles = r.handles; free = free r };
+            rested = record { good = adds head c stamp p2 (Unmarks t) r.good (owes_nothing p2 at (Unmarks t) tt) tt (λ u q. tt) tt refl; settled = tt; idle = r.idle; handles = r.handles; free = free r };
             life = refl;
             known = λ u. refl;
             standing = λ u. refl;

@@ -42,9 +42,9 @@ use Rattle.lu_guards.proofs.Held.{held_there}
 use Rattle.lu_guards.proofs.Ends.{none_took}
 use Rattle.lu_guards.proofs.Turns.{owes_nothing}
 use Rattle.lu_guards.proofs.ClientLocks.{of_ordered, count_ordered}
-use Rattle.lu_guards.proofs.ClientLines.{ends, other_flights}
+use Rattle.lu_guards.proofs.ClientLines.{ends}
 use Rattle.lu_guards.proofs.ClientTold.{ending_now, Whole, whole_at}
-use Rattle.lu_guards.proofs.ClientRests.{Good, AllIdle, Rested, Ended, the_head, adds, at_one, at_zero, request_is, followed, import_there}
+use Rattle.lu_guards.proofs.ClientRests.{Good, AllIdle, Rested, Ended, the_head, adds, at_one, request_is, followed, import_there}
 use Rattle.lu_guards.proofs.ClientSlots.{calls_wait}
 use Rattle.lu_guards.proofs.ClientStarts.{Starts, starts_good, After, after_ends, took_rested, nowhere, no_looks}
 
@@ -69,20 +69,20 @@ module _ (head : table.Head) (c : ℕ) (stamp : Stamp) where
   sent_still : (who : Who) (before p : List Line) (t : ℕ) (m : Message) → Still who before p → Good head c at (line at (Send (Target t) m) ∷ p) → Still who before (line at (Send (Target t) m) ∷ p)
   sent_still who before p t m s g = record { rested = record { good = g; settled = tt; idle = s.rested.idle; handles = s.rested.handles; free = s.rested.free }; life = s.life; known = s.known; standing = s.standing; flights = s.flights; kept = s.kept; held = s.held; took = s.took }
 
-  pub again_good : (who : Who) (before p : List Line) (boot : ℕ) (flights : List Flight) → Still who before p → boot ≡ known_at c 0 before → standing_at c 0 before ≡ Serving → ((f : Flight) → In f flights → In f (flights_at c 0 before))
-      → Still who before (with_turn at (resends who boot 0 flights) p)
-  again_good who before p boot [] s b v i = s
-  again_good who before p boot (f ∷ flights) s b v i =
+  pub again_good : (who : Who) (before p : List Line) (t boot : ℕ) (flights : List Flight) → Still who before p → boot ≡ known_at c t before → standing_at c t before ≡ Serving → ((f : Flight) → In f flights → In f (flights_at c t before))
+      → Still who before (with_turn at (resends who boot t flights) p)
+  again_good who before p t boot [] s b v i = s
+  again_good who before p t boot (f ∷ flights) s b v i =
       let g = s.rested.good in
-      let e = sends_request who boot 0 f in
-      again_good who before (line at e ∷ p) boot flights
-      (sent_still who before p 0 (message.Request (request_of who boot f)) s (adds head c stamp p e g (owes_nothing p at e s.rested.settled) refl
-      (at_zero head c stamp (λ (t : ℕ). story_guards.AskOk (only t p) c (request_of who boot f)) (record {
-        serves = sym (standing_is c 0 p) ∙ s.standing 0 ∙ v;
+      let e = sends_request who boot t f in
+      again_good who before (line at e ∷ p) t boot flights
+      (sent_still who before p t (message.Request (request_of who boot f)) s (adds head c stamp p e g (owes_nothing p at e s.rested.settled) tt
+      (at_one head c stamp t (λ (u : ℕ). story_guards.AskOk (only u p) c (request_of who boot f)) (record {
+        serves = sym (standing_is c t p) ∙ s.standing t ∙ v;
         flight = f;
-        flying = subst (λ (fs : List Flight). In f fs) (sym (s.flights 0) ∙ flights_now (the_head head c stamp) c 0 p g.grown) (i f (inl refl));
-        is = ap (λ (w : Who). request_of w boot f) (sym s.life) ∙ ap (λ (n : ℕ). request_of (life_at c p) n f) (b ∙ sym (s.known 0)) ∙ request_is head c stamp 0 p f;
-      })) tt tt refl))
+        flying = subst (λ (fs : List Flight). In f fs) (sym (s.flights t) ∙ flights_now (the_head head c stamp) c t p g.grown) (i f (inl refl));
+        is = ap (λ (w : Who). request_of w boot f) (sym s.life) ∙ ap (λ (n : ℕ). request_of (life_at c p) n f) (b ∙ sym (s.known t)) ∙ request_is head c stamp t p f;
+      })) tt refl))
       b v (λ h j. i h (inr j))
 
   pub join_good : (who : Who) (before p : List Line) (t boot : ℕ) → Still who before p → standing_at c t before ≡ Joining → boot ≡ known_at c t before → Still who before (line at (joins who boot t) ∷ p)
@@ -93,7 +93,7 @@ module _ (head : table.Head) (c : ℕ) (stamp : Stamp) where
         joins = sym (standing_is c t p) ∙ s.standing t ∙ v;
         of_life = sym s.life ∙ life_is_of c t p;
         of_boot = b ∙ sym (s.known t) ∙ known_is c t p;
-      })) tt tt refl)
+      })) tt refl)
 
   -- a new life asks each target; start: where the turn began
   pub joins_good : (who : Who) (start before : List Line) (n t : ℕ) (p : List Line) → ((u : ℕ) → known_at c u start ≡ known_at c u before) → Still who before p → ((u : ℕ) → standing_at c u before ≡ Joining)
@@ -133,7 +133,7 @@ module _ (head : table.Head) (c : ℕ) (stamp : Stamp) where
           replay = r;
           kept = subst (λ (k : Kept). In r k.replays) (kept_there p s) (i r (inl refl));
           is = refl;
-        })) tt tt refl))
+        })) tt refl))
 
     -- the life holds each of these locks of the target
     abbrev pub AllHeld : List HeldLock → Type 0
@@ -152,7 +152,7 @@ module _ (head : table.Head) (c : ℕ) (stamp : Stamp) where
           holding = g.0;
           held = subst (λ (xs : List HeldLock). In g.0 xs) (held_here p s) g.1;
           is = ap (lock_replayed who boot) (sym g.2);
-        })) tt tt refl))
+        })) tt refl))
 
     -- how many these are, in a turn that doesn't end the life
     module _ (held : List HeldLock) (all : AllHeld held) (count : length held ≡ length (filter of_target (held_at c before))) (lasts : (u b : ℕ) (w : Who) → Took before at (Target u) (message.Evicted w b) → ⊥) where
@@ -176,7 +176,7 @@ module _ (head : table.Head) (c : ℕ) (stamp : Stamp) where
                 ⊎_elim (λ (k : Ending p c). absurd (let n = ending_now c p at s.rested.good.closes k in lasts n.target n.boot (life_at c p) (s.took (Target n.target) (message.Evicted (life_at c p) n.boot) n.took)))
                 (λ (w : Whole c (only t p)). w) (whole_at c (the_head head c stamp) t p s.rested.good.grown (tells p s).recovers);
             of_seen = ap (λ (k : Kept). k.seen) (kept_there p s);
-          })) tt tt refl)
+          })) tt refl)
 
       pub all_told : (p : List Line) → Still who before p → Still who before (with_turn at (tells_all who boot t (kept_at c t before) held) p)
       all_told p s =
@@ -189,10 +189,6 @@ module _ (head : table.Head) (c : ℕ) (stamp : Stamp) where
   -- ---- time goes on
 
   module _ (before : List Line) (g : Grown (the_head head c stamp) before) (later : Later before at) (idle : AllIdle c before) where
-    again_at : (t : ℕ) (p : List Line) → Still (life_at c before) before p → standing_at c t before ≡ Serving → Still (life_at c before) before (with_turn at (resends (life_at c before) (known_at c t before) t (flights_at c t before)) p)
-    again_at zero p s v = again_good (life_at c before) before p (known_at c 0 before) (flights_at c 0 before) s refl v (λ f i. i)
-    again_at (suc u) p s v = subst (λ (fs : List Flight). Still (life_at c before) before (with_turn at (resends (life_at c before) (known_at c (suc u) before) (suc u) fs) p)) (sym (other_flights (the_head head c stamp) c u before g)) s
-
     tick_at : (t : ℕ) (st : Standing) (p : List Line) → standing_at c t before ≡ st → Still (life_at c before) before p → Still (life_at c before) before (with_turn at (ticks_at t (client_of head c before) (import_at c t before) st) p)
     tick_at t Joining p v s = join_good (life_at c before) before p t (known_at c t before) s v refl
     tick_at t Recovering p v s =
@@ -204,7 +200,7 @@ module _ (head : table.Head) (c : ℕ) (stamp : Stamp) where
         let flights = flights_at c t before in
         let so : resends who boot t flights ++ on_calls (where_stage who boot t) 0 (calls_at c before) ≡ resends who boot t flights =
         ap (λ (es : List Entry). resends who boot t flights ++ es) (nowhere who boot t 0 (calls_at c before) (calls_wait c before idle)) ∙ ends (resends who boot t flights) in
-        subst (λ (es : List Entry). Still who before (with_turn at es p)) (sym so) (again_at t p s v)
+        subst (λ (es : List Entry). Still who before (with_turn at es p)) (sym so) (again_good who before p t boot flights s refl v (λ f i. i))
 
     ticks_good : (n t : ℕ) (p : List Line) → Still (life_at c before) before p → Still (life_at c before) before (with_turn at (ticks t (map (λ v. import_at c v before) (range_with_len t n)) (client_of head c before)) p)
     ticks_good zero t p s = s
@@ -220,7 +216,7 @@ module _ (head : table.Head) (c : ℕ) (stamp : Stamp) where
       let es = ticks 0 k.imports k in
       let all = followed head c stamp (Tick ∷ es) (rests (limits_of head) at) p in
       let first : Rested head c at (line at Tick ∷ p) = record {
-        good = adds head c stamp p Tick (starts_good head c stamp p s) (owes_nothing p at Tick s.settled) s.later (λ t e. tt) tt tt refl;
+        good = adds head c stamp p Tick (starts_good head c stamp p s) (owes_nothing p at Tick s.settled) s.later (λ t e. tt) tt refl;
         settled = tt;
         idle = s.between.idle;
         handles = s.between.handles;
@@ -257,12 +253,11 @@ module _ (head : table.Head) (c : ℕ) (stamp : Stamp) where
       there : import_of t k.imports ≡ import_at c t p
       there = import_there head c stamp p t le
 
-      now : (u : ℕ) → u ≡ t → standing_at c u p3 ≡ Serving
-      now u e = ap (λ (b : Bool). on true (b && nat_eq u t) Serving (standing_at c u p)) (self c) ∙ ap (λ (x : ℕ). if nat_eq u x then Serving else standing_at c u p) (sym e) ∙ ap (λ (b : Bool). if b then Serving else standing_at c u p) (self u)
+      now : standing_at c t p3 ≡ Serving
+      now = ap (λ (b : Bool). on true (b && nat_eq t t) Serving (standing_at c t p)) (self c) ∙ ap (λ (b : Bool). if b then Serving else standing_at c t p) (self t)
 
-      resumed : (u : ℕ) → u ≡ t → Still (life_at c p) p3 p3 → Rested head c at (with_turn at (resends (life_at c p) (known_at c u p) u (flights_at c u p)) p3)
-      resumed zero e still = (again_good (life_at c p) p3 p3 (known_at c 0 p) (flights_at c 0 p) still refl (now 0 e) (λ f i. i)).rested
-      resumed (suc u) e still = subst (λ (fs : List Flight). Rested head c at (with_turn at (resends (life_at c p) (known_at c (suc u) p) (suc u) fs) p3)) (sym (other_flights (the_head head c stamp) c u p s.grown)) still.rested
+      resumed : Still (life_at c p) p3 p3 → Rested head c at (with_turn at (resends (life_at c p) (known_at c t p) t (flights_at c t p)) p3)
+      resumed still = (again_good (life_at c p) p3 p3 t (known_at c t p) (flights_at c t p) still refl now (λ f i. i)).rested
 
       by : (b : Bool) → is_present who boot t k ≡ b → After head c stamp (with_turn at (ready_heard t boot committed.0 k b) p1)
       by false e = inl took
@@ -278,16 +273,16 @@ module _ (head : table.Head) (c : ℕ) (stamp : Stamp) where
             committed = committed;
             was = subst (λ (w : Who). Was (only t p1) (Target t) (Client c) (message.Ready w boot committed)) own was;
             of_boot = same ∙ known_is c t p1;
-          })) tt tt refl in
+          })) tt refl in
           let settled : Good head c at p3 =
           adds head c stamp p2 (Settles t committed.0) served (owes_nothing p2 at (Settles t committed.0) tt) tt
           (at_one head c stamp t (λ (u : ℕ). story_guards.SettlesOk (only u p2) c t committed.0) (record {
-            serves = sym (standing_is c t p2) ∙ now t refl;
+            serves = sym (standing_is c t p2) ∙ now;
             boot = boot;
             was =
                 was_only t p2 (Target t) (Client c) (message.Ready (life_of c (only t p2)) boot committed) (self t)
                 (subst (λ (w : Who). Was p2 (Target t) (Client c) (message.Ready w boot committed)) still_own (sent_was p n (Target t) (Client c) m sent));
-          })) tt tt refl in
+          })) tt refl in
           let still : Still (life_at c p) p3 p3 = record {
             rested = record { good = settled; settled = tt; idle = took.idle; handles = took.handles; free = took.free };
             life = refl;
@@ -302,4 +297,4 @@ module _ (head : table.Head) (c : ℕ) (stamp : Stamp) where
           ap (λ (i : Import). resumes t k i) there
           ∙ ap (λ (es : List Entry). resends (life_at c p) (known_at c t p) t (flights_at c t p) ++ es) (no_looks t 0 (calls_at c p) (calls_wait c p s.between.idle))
           ∙ ends (resends (life_at c p) (known_at c t p) t (flights_at c t p)) in
-          inl (subst (λ (es : List Entry). Rested head c at (with_turn at es p3)) (sym so) (resumed t refl still))
+          inl (subst (λ (es : List Entry). Rested head c at (with_turn at es p3)) (sym so) (resumed still))

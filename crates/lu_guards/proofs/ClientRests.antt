@@ -1,10 +1,10 @@
--- What comes at the end of a client's turn: unused locks are marked, and where the metadata target serves the life, marked ones are
--- given up and what waits is sent. Each line is allowed, and then each call waits for its reply, no held lock is pinned, none is marked
--- where that target serves, and handles are bound as calls say.
+-- What comes at the end of a client's turn: unused locks are marked, marked ones are given up where the metadata target serves the life,
+-- and to each target that serves it what waits there is sent. Each line is allowed, and then each call waits, for its reply or for other
+-- calls on its open; no held lock is pinned, none is marked where the metadata target serves, and handles are bound as calls say.
 use Rattle.std.proofs.Common.{◌≡◌, ℕ, zero, suc, ◌+◌, ◌<◌, ◌≤◌, Bool, true, false, List, [], ◌∷◌, ◌++◌, ◌⊎◌, inl, inr, ⊎_elim, Option, Some, None, refl, sym, subst, ap, ◌∙◌, arith, add-one}
-use Rattle.std.specs.Prelude.{nat_eq, nat_lt, ◌&&◌, ◌||◌, length, if◌then◌else◌, map, filter, reverse, drop}
+use Rattle.std.specs.Prelude.{nat_eq, nat_lt, not, ◌&&◌, ◌||◌, length, if◌then◌else◌, map, filter, reverse, drop}
 use Rattle.std.specs.List.{range_with_len}
-use Rattle.std.proofs.lemmas.Bool.{and_parts, cond-true, cond-false, eqb-true, ltb-true}
+use Rattle.std.proofs.lemmas.Bool.{and_parts, cond-false, eqb-true, ltb-true}
 use Rattle.std.proofs.lemmas.Bool.Decides.{nat_tests}
 use Rattle.std.proofs.lemmas.Grind.{reverse_onto}
 use Rattle.lu_base.specs.declared.ids.At.{At}
@@ -19,11 +19,13 @@ use Rattle.lu_msg.specs.declared.messages.Message.TheVariants as message
 use Rattle.lu_msg.specs.declared.operations.Op.{Op}
 use Rattle.lu_held.specs.declared.locks.Change.TheVariants as change
 use Rattle.lu_held.specs.declared.locks.HeldLock.{HeldLock}
+use Rattle.lu_held.specs.declared.locks.Use.{Use}
 use Rattle.lu_held.specs.declared.names.LockName.{LockName}
 use Rattle.lu_held.specs.Locks.{named, name_of, is_named, is_free, after}
 use Rattle.lu_held.specs.Held.{is_held, without, in_order}
-use Rattle.lu_words.specs.Carried.{Queued, Flight, Asked, Plain, Running}
-use Rattle.lu_words.specs.Words.{Entry, Send, Tick, Drop, Flies, Marks, Line, line, with_turn, same_life}
+use Rattle.lu_msg.specs.declared.calls.Call.TheVariants as call
+use Rattle.lu_words.specs.Carried.{HandleFile, Glimpses, Work, Queued, Flight, Unasked, Asked, Plain, Sizes, Running}
+use Rattle.lu_words.specs.Words.{Entry, Send, Tick, Drop, Flies, Marks, Line, line, with_turn}
 use Rattle.lu_words.specs.Concerns.{is_about, only}
 use Rattle.lu_words.specs.Fields.{on}
 use Rattle.lu_client_rows.specs.Caches.{reads_held, held_after, held_at, patch_at}
@@ -31,11 +33,12 @@ use Rattle.lu_client_rows.specs.Calls.{reads_death, death_after, is_dead}
 use Rattle.lu_client_rows.specs.Imports.{Import, import_at, import_of, is_serving}
 use Rattle.lu_client_rows.specs.Locks.{marks_of, trims, is_called, must_write, gives_up, visits, visits_with, visits_all, locks_go, dirty_total}
 use Rattle.lu_client_rows.specs.Patches.{clean}
-use Rattle.lu_client_rows.specs.Sending.{has_room, next_flight, request_of, sends_request, flies, sends, sends_to, sends_all}
+use Rattle.lu_client_rows.specs.Sending.{front_waits, has_room, next_flight, request_of, sends_request, flies, sends, sends_to, sends_all}
+use Rattle.lu_client_rows.specs.Starts.{count_on}
 use Rattle.lu_client_rows.specs.States.{Client as ClientState, follow, turn as turn_of}
-use Rattle.lu_covered.specs.Calls.{reads_call, call_after, call_at, life_at, becomes}
-use Rattle.lu_covered.specs.ClientStates.{queue_of, flights_of, last_of, known_of, life_of, standing_of}
-use Rattle.lu_covered.specs.Covered.{IsCovered, IsAlone, AllCovered}
+use Rattle.lu_covered.specs.Calls.{reads_call, call_after, call_at, calls_at, life_at, becomes}
+use Rattle.lu_covered.specs.ClientStates.{flights_of, last_of, life_of}
+use Rattle.lu_covered.specs.Covered.{IsCovered, AllCovered}
 use Rattle.lu_covered.specs.Heads.{Head, IsAlive}
 use Rattle.lu_covered.specs.Imports.{Standing, Joining, Recovering, Serving, rest, queue_at, flights_at, last_at, known_at, standing_at}
 use Rattle.lu_table.specs.Heads as table
@@ -46,14 +49,15 @@ use Rattle.lu_guards.proofs.StoryGuards.{EntryOf, DropOk, CancelOk}
 use Rattle.lu_guards.proofs.Grown.{Noted, Grown}
 use Rattle.lu_guards.proofs.Guards as guards
 use Rattle.lu_guards.proofs.StoryGuards as story_guards
-use Rattle.lu_guards.proofs.Lists.{self, in_append, in_right, in_filter, turn, life_self, turn_more}
-use Rattle.lu_guards.proofs.Parts.{queue_is, flights_is, last_is, known_is, standing_is, life_is_of}
+use Rattle.lu_guards.proofs.Lists.{self, in_append, in_right, in_filter, turn, turn_more}
+use Rattle.lu_guards.proofs.Parts.{queue_now, flights_now, last_now, known_is, standing_is, life_is_of}
 use Rattle.lu_guards.proofs.Turns.{covered_head, Settled, owes_nothing, backs_none, marks_none, shows_none, noted_client}
 use Rattle.lu_guards.proofs.Covers.{covered_turn}
 use Rattle.lu_guards.proofs.Held.{held_is, held_zero}
 use Rattle.lu_guards.proofs.ClientLocks.{Once, in_drop, own_name, changed_only, without_only, without_other, without_gone, in_ordered, ordered_in, once_ordered}
 use Rattle.lu_guards.proofs.ClientHandles.{Tied}
-use Rattle.lu_guards.proofs.ClientLines.{ends, patches_none, other_queue, held_once}
+use Rattle.lu_guards.proofs.ClientLines.{patches_none, held_once}
+use Rattle.lu_guards.proofs.ClientSizes.{OnRanges, IsUnheard}
 
 -- ---- a client that lives, in its turn, after lines that are allowed
 
@@ -65,13 +69,55 @@ pub record Good (head : table.Head) (c : ℕ) (at : At) (past : List Line) : Typ
   pub noted : Noted (covered_head head) past
   pub alive : IsAlive (covered_head head) past c
 
--- a call that waits for its reply, or none
-abbrev pub Idle : Option Running → Type 0
-Idle None = Unit {0}
-Idle (Some r) = (r.stage ≡ Plain) × (r.pins ≡ []) × ((o : Op) × (becomes r ≡ Some o)) × (r.asking ≡ Asked)
+-- a glimpse that asks how long the first of the objects that are left is
+pub record Sizing (r : Running) : Type 0 where
+  pub handle : ℕ
+  pub glimpses : r.call ≡ call.Glimpse handle
+  pub work : Work
+  pub stage : r.stage ≡ Sizes work
+  pub sizes : List ℕ
+  pub kind : work.kind ≡ Glimpses sizes
+  pub wanted : Use
+  pub left : List Use
+  pub first : work.left ≡ wanted ∷ left
+  pub ranges : OnRanges (wanted ∷ left)
+
+-- a call that waits for its reply: it is on names, or a glimpse, which waits on where what it was told is no size
+abbrev pub AwaitsReply : Running → Type 0
+AwaitsReply r = ((r.asking ≡ Asked) × (r.stage ≡ Plain) × ((o : Op) × (becomes r ≡ Some o))) ⊎ (Sizing r × ((r.asking ≡ Asked) ⊎ IsUnheard r.asking))
+
+abbrev pub HasAsked : Running → Type 0
+HasAsked r = (r.pins ≡ []) × AwaitsReply r
+
+-- a close that waits for other calls on its open
+pub record WaitsToClose (calls : List (Option Running)) (r : Running) : Type 0 where
+  pub handle : ℕ
+  pub closes : r.call ≡ call.Close handle
+  pub file : HandleFile
+  pub of_file : r.file ≡ Some file
+  pub plain : r.stage ≡ Plain
+  pub new : r.asking ≡ Unasked
+  pub pins : r.pins ≡ []
+  pub others : nat_lt 1 (count_on file.number.0 calls) ≡ true
+
+-- among these calls, one that nothing moves but a message, or the end of another one
+abbrev pub Idle : List (Option Running) → Option Running → Type 0
+Idle calls None = Unit {0}
+Idle calls (Some r) = HasAsked r ⊎ WaitsToClose calls r
 
 abbrev pub AllIdle : ℕ → List Line → Type 0
-AllIdle c past = (slot : ℕ) → Idle (call_at c slot past)
+AllIdle c past = (slot : ℕ) → Idle (calls_at c past) (call_at c slot past)
+
+-- where each slot has the call that it had, the same calls are idle
+calls_same : (c : ℕ) (p q : List Line) → ((slot : ℕ) → call_at c slot q ≡ call_at c slot p) → calls_at c q ≡ calls_at c p
+calls_same c p q same =
+    ap (λ (x : Option Running). x ∷ call_at c 1 q ∷ call_at c 2 q ∷ call_at c 3 q ∷ []) (same 0)
+    ∙ ap (λ (x : Option Running). call_at c 0 p ∷ x ∷ call_at c 2 q ∷ call_at c 3 q ∷ []) (same 1)
+    ∙ ap (λ (x : Option Running). call_at c 0 p ∷ call_at c 1 p ∷ x ∷ call_at c 3 q ∷ []) (same 2)
+    ∙ ap (λ (x : Option Running). call_at c 0 p ∷ call_at c 1 p ∷ call_at c 2 p ∷ x ∷ []) (same 3)
+
+pub idle_same : (c : ℕ) (p q : List Line) → ((slot : ℕ) → call_at c slot q ≡ call_at c slot p) → AllIdle c p → AllIdle c q
+idle_same c p q same idle slot = subst (λ (calls : List (Option Running)). Idle calls (call_at c slot q)) (sym (calls_same c p q same)) (subst (Idle (calls_at c p)) (sym (same slot)) (idle slot))
 
 -- nothing is owed, all calls wait, handles are bound as calls say, and no held lock is pinned
 pub record Rested (head : table.Head) (c : ℕ) (at : At) (past : List Line) : Type 0 where
@@ -102,6 +148,10 @@ in_reverse {A} x (y ∷ xs) i =
 not_over : (n : ℕ) → nat_lt n 0 ≡ false
 not_over n = grind (arith, nat_tests)
 
+not_so : (b : Bool) → not b ≡ true → b ≡ false
+not_so false e = refl
+not_so true e = absurd (cc)
+
 module _ (head : table.Head) (c : ℕ) (stamp : Stamp) where
   abbrev pub here : At
   here = turn stamp (Client c)
@@ -111,12 +161,12 @@ module _ (head : table.Head) (c : ℕ) (stamp : Stamp) where
 
   -- ---- one line more
 
-  pub adds : (p : List Line) (e : Entry) → Good head c here p → Owes p here e → EntryOk p here (Client c) e → ((t : ℕ) → is_about t e ≡ true → EntryOf the_head (only t p) here (Client c) e) → IsCovered e → IsAlone p (Client c) e → reads_death e ≡ false
+  pub adds : (p : List Line) (e : Entry) → Good head c here p → Owes p here e → EntryOk p here (Client c) e → ((t : ℕ) → is_about t e ≡ true → EntryOf the_head (only t p) here (Client c) e) → IsCovered e → reads_death e ≡ false
       → Good head c here (line here e ∷ p)
-  adds p e g owes ok of covered alone lives =
+  adds p e g owes ok of covered lives =
       record {
         grown = (record { steps = g.steps; closes = g.closes; backs = backs_none the_head p here e g.noted; marks = marks_none the_head p here e g.noted; shows = shows_none the_head p here e g.noted; lives = g.alive; owes = owes; ok = ok; of = of }, g.grown);
-        covered = (covered, g.covered, alone);
+        covered = (covered, g.covered);
         steps = inl refl;
         closes = inl refl;
         noted = noted_client the_head p stamp c e ok g.noted;
@@ -170,86 +220,147 @@ module _ (head : table.Head) (c : ℕ) (stamp : Stamp) where
       let rest = subst AllCovered so covered in
       subst R (sym so) (second p1 (first p start (covered_turn here (g (client_of head c p1)) p1 rest).1) rest)
 
-  -- ---- what waits at the metadata target is sent
+  -- ---- what waits is sent to each target that serves the life
 
-  sends_good : (p : List Line) (who : Who) (boot last : ℕ) (flights : List Flight) (queue : List Queued) → Ended head c here p → life_of c (only 0 p) ≡ who → standing_of c (only 0 p) ≡ Serving → known_of c (only 0 p) ≡ boot
-      → last_of who (only 0 p) ≡ last → flights_of who (only 0 p) ≡ flights → queue_of who (only 0 p) ≡ queue
-      → Ended head c here (with_turn here (sends (limits_of head) who boot 0 last flights queue) p)
-  sends_good p who boot last flights [] e w v k l f q = e
-  sends_good p who boot last flights (x ∷ queue) e w v k l f q =
-      by (has_room (limits_of head) 0 x.op flights) refl (λ g fs ls qs. sends_good p2 who boot (last + 1) (flights ++ fl ∷ []) queue (record { good = g; settled = tt; between = record { idle = e.between.idle; handles = e.between.handles; held = e.between.held; calm = e.between.calm } }) w v k ls fs qs)
+  -- only that is left of the turn; before: where it begins to send; from this target on none has been sent anything yet
+  record Sending (before : List Line) (from : ℕ) (p : List Line) : Type 0 where
+    ended : Ended head c here p
+    life : life_at c p ≡ life_at c before
+    known : (u : ℕ) → known_at c u p ≡ known_at c u before
+    standing : (u : ℕ) → standing_at c u p ≡ standing_at c u before
+    last : (u : ℕ) → from ≤ u → last_at c u p ≡ last_at c u before
+    flights : (u : ℕ) → from ≤ u → flights_at c u p ≡ flights_at c u before
+    queue : (u : ℕ) → from ≤ u → queue_at c u p ≡ queue_at c u before
+
+  -- one that isn't sent anything
+  not_sent : (before : List Line) (t : ℕ) (p : List Line) → Sending before t p → Sending before (t + 1) p
+  not_sent before t p s =
+      record {
+        ended = s.ended;
+        life = s.life;
+        known = s.known;
+        standing = s.standing;
+        last = λ u above. s.last u (omega (arith, above));
+        flights = λ u above. s.flights u (omega (arith, above));
+        queue = λ u above. s.queue u (omega (arith, above));
+      }
+
+  sends_good : (before : List Line) (t : ℕ) (p : List Line) (last : ℕ) (flights : List Flight) (queue : List Queued) → Sending before (t + 1) p → standing_at c t before ≡ Serving
+      → last_at c t p ≡ last → flights_at c t p ≡ flights → queue_at c t p ≡ queue
+      → Sending before (t + 1) (with_turn here (sends (limits_of head) (life_at c before) (known_at c t before) t last flights queue) p)
+  sends_good before t p last flights [] s v l f q = s
+  sends_good before t p last flights (x ∷ queue) s v l f q = by (has_room (limits_of head) t x.op flights) refl (λ next. sends_good before t p2 (last + 1) (flights ++ fl ∷ []) queue next v ls fs qs)
     where
+      who : Who
+      who = life_at c before
+
+      boot : ℕ
+      boot = known_at c t before
+
       fl : Flight
       fl = next_flight last flights x
 
       p1 : List Line
-      p1 = line here (Flies 0 fl) ∷ p
+      p1 = line here (Flies t fl) ∷ p
 
       p2 : List Line
-      p2 = line here (sends_request who boot 0 fl) ∷ p1
+      p2 = line here (sends_request who boot t fl) ∷ p1
 
       more : List Entry
-      more = sends (limits_of head) who boot 0 (last + 1) (flights ++ fl ∷ []) queue
+      more = sends (limits_of head) who boot t (last + 1) (flights ++ fl ∷ []) queue
 
-      own : same_life who (life_of c (only 0 p)) ≡ true
-      own = ap (same_life who) w ∙ life_self who
+      own : (nat_eq c c && nat_eq t t) ≡ true
+      own = rw (self c, self t) refl
 
-      fs : flights_of who (only 0 p1) ≡ flights ++ fl ∷ []
-      fs = cond-true (same_life who (life_of c (only 0 p))) (flights_of who (only 0 p) ++ fl ∷ []) (flights_of who (only 0 p)) own ∙ ap (λ (y : List Flight). y ++ fl ∷ []) f
+      other : (u : ℕ) → t + 1 ≤ u → (nat_eq c c && nat_eq u t) ≡ false
+      other u above = ap (λ (b : Bool). b && nat_eq u t) (self c) ∙ apart u above
+        where
+          apart : (u : ℕ) → t + 1 ≤ u → nat_eq u t ≡ false
+          apart u above = grind (arith, nat_tests, above)
 
-      ls : last_of who (only 0 p1) ≡ last + 1
-      ls = cond-true (same_life who (life_of c (only 0 p))) (last + 1) (last_of who (only 0 p)) own
+      fs : flights_at c t p1 ≡ flights ++ fl ∷ []
+      fs = ap (λ (b : Bool). if b then flights_at c t p ++ fl ∷ [] else flights_at c t p) own ∙ ap (λ (y : List Flight). y ++ fl ∷ []) f
 
-      qs : queue_of who (only 0 p1) ≡ queue
-      qs = cond-true (same_life who (life_of c (only 0 p))) (rest (queue_of who (only 0 p))) (queue_of who (only 0 p)) own ∙ ap rest q
+      ls : last_at c t p1 ≡ last + 1
+      ls = ap (λ (b : Bool). if b then last + 1 else last_at c t p) own
 
-      flown : nat_lt (length flights) head.flight ≡ true → Good head c here p1
-      flown room =
-          adds p (Flies 0 fl) e.good (owes_nothing p here (Flies 0 fl) e.settled) refl
-          (at_zero (λ (t : ℕ). story_guards.FliesOk the_head (only t p) c fl) (record {
-            serves = v;
+      qs : queue_at c t p1 ≡ queue
+      qs = ap (λ (b : Bool). if b then rest (queue_at c t p) else queue_at c t p) own ∙ ap rest q
+
+      g : Good head c here p
+      g = s.ended.good
+
+      last_now_is : last ≡ last_of (life_of c (only t p)) (only t p)
+      last_now_is = sym l ∙ last_now the_head c t p g.grown
+
+      flights_now_are : flights ≡ flights_of (life_of c (only t p)) (only t p)
+      flights_now_are = sym f ∙ flights_now the_head c t p g.grown
+
+      flown : nat_lt (length flights) head.flight ≡ true → not (front_waits t x.op flights) ≡ true → Good head c here p1
+      flown room object =
+          adds p (Flies t fl) g (owes_nothing p here (Flies t fl) s.ended.settled) tt
+          (at_one t (λ (u : ℕ). story_guards.FliesOk the_head (only u p) c t fl) (record {
+            serves = sym (standing_is c t p) ∙ s.standing t ∙ v;
             front = x;
             more = queue;
-            queue = ap (λ (y : Who). queue_of y (only 0 p)) w ∙ q;
-            is = rw (w, l, f) refl;
-            room = subst (λ (y : List Flight). length y < head.flight) (sym (ap (λ (z : Who). flights_of z (only 0 p)) w ∙ f)) (ltb-true (length flights) head.flight room);
+            queue = sym (queue_now the_head c t p g.grown) ∙ q;
+            is = ap (λ (n : ℕ). next_flight n flights x) last_now_is ∙ ap (λ (y : List Flight). next_flight (last_of (life_of c (only t p)) (only t p)) y x) flights_now_are;
+            room = subst (λ (y : List Flight). length y < head.flight) flights_now_are (ltb-true (length flights) head.flight room);
+            object = ap (front_waits t x.op) (sym flights_now_are) ∙ not_so (front_waits t x.op flights) object;
           }))
-          tt tt refl
+          tt refl
 
       sent : Good head c here p1 → Good head c here p2
       sent g =
-          adds p1 (sends_request who boot 0 fl) g (owes_nothing p1 here (sends_request who boot 0 fl) tt) refl
-          (at_zero (λ (t : ℕ). story_guards.AskOk (only t p1) c (request_of who boot fl)) (record {
-            serves = v;
+          adds p1 (sends_request who boot t fl) g (owes_nothing p1 here (sends_request who boot t fl) tt) tt
+          (at_one t (λ (u : ℕ). story_guards.AskOk (only u p1) c (request_of who boot fl)) (record {
+            serves = sym (standing_is c t p1) ∙ s.standing t ∙ v;
             flight = fl;
-            flying = subst (λ (y : List Flight). In fl y) (sym (ap (λ (z : Who). flights_of z (only 0 p1)) w ∙ fs)) (in_right fl flights (fl ∷ []) (inl refl));
-            is = rw (w, k) refl;
+            flying = subst (λ (y : List Flight). In fl y) (sym fs ∙ flights_now the_head c t p1 g.grown) (in_right fl flights (fl ∷ []) (inl refl));
+            is = ap (λ (w : Who). request_of w boot fl) (sym s.life) ∙ ap (λ (n : ℕ). request_of (life_at c p) n fl) (sym (s.known t)) ∙ request_is t p1 fl;
           }))
-          tt tt refl
+          tt refl
 
-      by : (b : Bool) → has_room (limits_of head) 0 x.op flights ≡ b
-          → (Good head c here p2 → flights_of who (only 0 p1) ≡ flights ++ fl ∷ [] → last_of who (only 0 p1) ≡ last + 1 → queue_of who (only 0 p1) ≡ queue → Ended head c here (with_turn here more p2))
-          → Ended head c here (with_turn here (if b then flies who boot 0 fl more else []) p)
-      by true room on = on (sent (flown (and_parts (nat_lt (length flights) head.flight) true room).0)) fs ls qs
-      by false room on = e
+      next : Good head c here p2 → Sending before (t + 1) p2
+      next good =
+          record {
+            ended = record { good = good; settled = tt; between = record { idle = s.ended.between.idle; handles = s.ended.between.handles; held = s.ended.between.held; calm = s.ended.between.calm } };
+            life = s.life;
+            known = s.known;
+            standing = s.standing;
+            last = λ u above. ap (λ (b : Bool). if b then last + 1 else last_at c u p) (other u above) ∙ s.last u above;
+            flights = λ u above. ap (λ (b : Bool). if b then flights_at c u p ++ fl ∷ [] else flights_at c u p) (other u above) ∙ s.flights u above;
+            queue = λ u above. ap (λ (b : Bool). if b then rest (queue_at c u p) else queue_at c u p) (other u above) ∙ s.queue u above;
+          }
 
-  -- the others have nothing that waits
-  sends_nothing : (p : List Line) → Good head c here p → (who : Who) (n t u : ℕ) → t ≡ suc u → sends_all (limits_of head) who t (map (λ v. import_at c v p) (range_with_len t n)) ≡ []
-  sends_nothing p g who zero t u e = refl
-  sends_nothing p g who (suc n) t u e =
-      let empty : queue_at c t p ≡ [] = subst (λ (v : ℕ). queue_at c v p ≡ []) (sym e) (other_queue the_head c u p g.grown) in
-      ap (λ (qs : List Queued). (if is_serving (standing_at c t p) then sends (limits_of head) who (known_at c t p) t (last_at c t p) (flights_at c t p) qs else []) ++ more) empty
-      ∙ by (is_serving (standing_at c t p))
-      ∙ sends_nothing p g who n (t + 1) (suc u) (add-one t ∙ ap suc e)
+      by : (b : Bool) → has_room (limits_of head) t x.op flights ≡ b → (Sending before (t + 1) p2 → Sending before (t + 1) (with_turn here more p2))
+          → Sending before (t + 1) (with_turn here (if b then flies who boot t fl more else []) p)
+      by true room on = let parts = and_parts (nat_lt (length flights) head.flight) (not (front_waits t x.op flights)) room in on (next (sent (flown parts.0 parts.1)))
+      by false room on = s
+
+  sent_to : (before : List Line) (t : ℕ) (p : List Line) → Sending before t p → Sending before (t + 1) (with_turn here (sends_to (limits_of head) (life_at c before) t (import_at c t before)) p)
+  sent_to before t p s = by (standing_at c t before) refl
     where
-      more : List Entry
-      more = sends_all (limits_of head) who (t + 1) (map (λ v. import_at c v p) (range_with_len (t + 1) n))
+      by : (x : Standing) → standing_at c t before ≡ x
+          → Sending before (t + 1) (with_turn here (if is_serving x then sends (limits_of head) (life_at c before) (known_at c t before) t (last_at c t before) (flights_at c t before) (queue_at c t before) else []) p)
+      by Serving v =
+          sends_good before t p (last_at c t before) (flights_at c t before) (queue_at c t before) (not_sent before t p s) v (s.last t (omega arith)) (s.flights t (omega arith)) (s.queue t (omega arith))
+      by standing v = not_sent before t p s
 
-      by : (b : Bool) → (if b then [] else []) ++ more ≡ more
-      by true = refl
-      by false = refl
+  sent_from : (before : List Line) (n t : ℕ) (p : List Line) → Sending before t p → Ended head c here (with_turn here (sends_all (limits_of head) (life_at c before) t (map (λ v. import_at c v before) (range_with_len t n))) p)
+  sent_from before zero t p s = s.ended
+  sent_from before (suc n) t p s =
+      let es = sends_to (limits_of head) (life_at c before) t (import_at c t before) in
+      let more = sends_all (limits_of head) (life_at c before) (t + 1) (map (λ v. import_at c v before) (range_with_len (t + 1) n)) in
+      subst (Ended head c here) (sym (turn_more here es more p)) (sent_from before n (t + 1) (with_turn here es p) (sent_to before t p s))
 
-  -- that of the metadata target is what its story says
+  all_sent : Keeps (Ended head c here) (Ended head c here) (λ k. sends_all (limits_of head) k.who 0 k.imports)
+  all_sent p e covered =
+      sent_from p (head.osts + 1) 0 p (record { ended = e; life = refl; known = λ u. refl; standing = λ u. refl; last = λ u above. refl; flights = λ u above. refl; queue = λ u above. refl })
+
+  -- ---- what the client knows of a target that there is
+
+  -- of the metadata target: what the lines about it say
   first_import_is : (p : List Line) (n : ℕ) → n ≡ suc head.osts → import_of 0 (map (λ t. import_at c t p) (range_with_len 0 n)) ≡ import_at c 0 p
   first_import_is p zero e = absurd (cc)
   first_import_is p (suc n) e = refl
@@ -257,7 +368,7 @@ module _ (head : table.Head) (c : ℕ) (stamp : Stamp) where
   pub import_zero : (p : List Line) → import_of 0 (client_of head c p).imports ≡ import_at c 0 p
   import_zero p = first_import_is p (head.osts + 1) (add-one head.osts)
 
-  -- and so is that of each target that there is
+  -- and of each
   import_from : (p : List Line) (n from t : ℕ) → t < n → import_of t (map (λ u. import_at c u p) (range_with_len from n)) ≡ import_at c (from + t) p
   import_from p zero from t lt = absurd (omega (arith, lt))
   import_from p (suc n) from zero lt = ap (λ (u : ℕ). import_at c u p) (let e : from ≡ from + 0 = omega arith in e)
@@ -266,29 +377,12 @@ module _ (head : table.Head) (c : ℕ) (stamp : Stamp) where
   pub import_there : (p : List Line) (t : ℕ) → t ≤ head.osts → import_of t (client_of head c p).imports ≡ import_at c t p
   import_there p t le = import_from p (head.osts + 1) 0 t (omega (arith, le)) ∙ ap (λ (u : ℕ). import_at c u p) (let e : 0 + t ≡ t = omega arith in e)
 
-  sends_so : (p : List Line) → Good head c here p → sends_all (limits_of head) (client_of head c p).who 0 (client_of head c p).imports ≡ sends_to (limits_of head) (life_at c p) 0 (import_at c 0 p)
-  sends_so p g = by (head.osts + 1) (add-one head.osts)
-    where
-      by : (n : ℕ) → n ≡ suc head.osts → sends_all (limits_of head) (life_at c p) 0 (map (λ t. import_at c t p) (range_with_len 0 n)) ≡ sends_to (limits_of head) (life_at c p) 0 (import_at c 0 p)
-      by zero e = absurd (cc)
-      by (suc n) e = ap (λ (es : List Entry). sends_to (limits_of head) (life_at c p) 0 (import_at c 0 p) ++ es) (sends_nothing p g (life_at c p) n 1 0 refl) ∙ ends (sends_to (limits_of head) (life_at c p) 0 (import_at c 0 p))
-
-  all_sent : Keeps (Ended head c here) (Ended head c here) (λ k. sends_all (limits_of head) k.who 0 k.imports)
-  all_sent p e covered = subst (λ (es : List Entry). Ended head c here (with_turn here es p)) (sym (sends_so p e.good)) (by (standing_at c 0 p) refl)
-    where
-      by : (s : Standing) → standing_at c 0 p ≡ s
-          → Ended head c here (with_turn here (if is_serving s then sends (limits_of head) (life_at c p) (known_at c 0 p) 0 (last_at c 0 p) (flights_at c 0 p) (queue_at c 0 p) else []) p)
-      by Serving s =
-          sends_good p (life_at c p) (known_at c 0 p) (last_at c 0 p) (flights_at c 0 p) (queue_at c 0 p) e (sym (life_is_of c 0 p)) (sym (standing_is c 0 p) ∙ s) (sym (known_is c 0 p))
-          (sym (last_is the_head c 0 p e.good.grown)) (sym (flights_is the_head c 0 p e.good.grown)) (sym (queue_is the_head c 0 p e.good.grown))
-      by standing s = e
-
   -- ---- unused locks are marked
 
   pub mark_good : (p : List Line) (n : LockName) → Rested head c here p → n.target.0 ≡ 0 → Rested head c here (line here (Marks n) ∷ p)
   mark_good p n r zero_it =
       record {
-        good = adds p (Marks n) r.good (owes_nothing p here (Marks n) r.settled) zero_it (λ t e. tt) tt tt refl;
+        good = adds p (Marks n) r.good (owes_nothing p here (Marks n) r.settled) zero_it (λ t e. tt) tt refl;
         settled = tt;
         idle = r.idle;
         handles = r.handles;
@@ -367,7 +461,7 @@ module _ (head : table.Head) (c : ℕ) (stamp : Stamp) where
       dropped serves marked =
           adds p (Drop 0 r.lock) v.rested.good (owes_nothing p here (Drop 0 r.lock) v.rested.settled) (refl, inl (record { holding = r; held = v.held r (inl refl); is = refl; marked = marked; serves = serves }))
           (at_zero (λ (t : ℕ). (0 ≡ 0) × DropOk (only t p) c r.lock) (refl, record { holding = r; held = subst (λ (hs : List HeldLock). In r hs) (held_is the_head c p v.rested.good.grown) (v.held r (inl refl)); is = refl }))
-          tt tt refl
+          tt refl
 
       cancelled : Good head c here p1 → Good head c here p2
       cancelled g =
@@ -378,7 +472,7 @@ module _ (head : table.Head) (c : ℕ) (stamp : Stamp) where
             free = ap (is_held name) (sym (held_is the_head c p1 g.grown) ∙ left) ∙ without_gone name (held_at c p);
             cause = inl (refl, refl);
           }))
-          tt tt refl
+          tt refl
 
       by : standing_at c 0 p ≡ Serving → r.target.0 ≡ 0 → (b : Bool) → r.marked ≡ b → Visiting rs (with_turn here (if b && true then given_up (life_at c p) (known_at c 0 p) r else []) p)
       by serves z false e = record { rested = v.rested; held = λ x i. v.held x (inr i); marked = marked }

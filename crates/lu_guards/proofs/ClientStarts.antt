@@ -1,7 +1,8 @@
 -- Where the turns of a client in a covered run start, and what their events come to: nothing moves, or a call whose reply was heard is to be
--- told; then the turn ends as it should. No line is of a target that isn't there; a message that is taken changes nothing by itself, and no
--- call waits for a lock.
-use Rattle.std.proofs.Common.{◌≡◌, ℕ, suc, ◌+◌, ◌≤◌, false, List, [], ◌∷◌, ◌⊎◌, inl, inr, Option, Some, None, refl, subst}
+-- told, or goes on; then the turn ends as it should. No line is of a target that isn't there; a message that is taken changes nothing by
+-- itself, and no call waits for a lock.
+use Rattle.std.proofs.Common.{◌≡◌, ℕ, suc, ◌+◌, ◌≤◌, Bool, false, List, [], ◌∷◌, ◌++◌, ◌⊎◌, inl, inr, Option, Some, None, refl, subst, ap, ◌∙◌}
+use Rattle.std.specs.Prelude.{if◌then◌else◌}
 use Rattle.lu_base.specs.declared.ids.At.{At}
 use Rattle.lu_base.specs.declared.ids.Node.{Node}
 use Rattle.lu_base.specs.declared.ids.Node.TheVariants.{Client, Target}
@@ -10,11 +11,11 @@ use Rattle.lu_base.specs.declared.ids.Who.{Who}
 use Rattle.lu_msg.specs.declared.messages.Message.{Message}
 use Rattle.lu_msg.specs.declared.messages.Reply.{Reply as ReplyTo}
 use Rattle.lu_held.specs.declared.names.LockName.{LockName}
-use Rattle.lu_words.specs.Carried.{Flight, Running}
+use Rattle.lu_words.specs.Carried.{Flight, Work, Stage, Plain, Sizes, Running}
 use Rattle.lu_words.specs.Words.{Entry, Send, Take, Line, line, with_turn}
 use Rattle.lu_words.specs.Sent.{Sent}
 use Rattle.lu_client_rows.specs.Calls.{call_on}
-use Rattle.lu_client_rows.specs.Messages.{waiter}
+use Rattle.lu_client_rows.specs.Messages.{waits_for, waiter}
 use Rattle.lu_client_rows.specs.Recovery.{on_calls, forgets_stage, looks_stage, where_stage}
 use Rattle.lu_client_rows.specs.Rows.{rests}
 use Rattle.lu_client_rows.specs.Slots.{slots_go}
@@ -30,7 +31,7 @@ use Rattle.lu_guards.proofs.Grown.{Grown, Noted}
 use Rattle.lu_guards.proofs.Lists.{turn}
 use Rattle.lu_guards.proofs.Ends.{closes_after}
 use Rattle.lu_guards.proofs.Turns.{Settled, owes_nothing, steps_after}
-use Rattle.lu_guards.proofs.ClientRests.{Good, Idle, Rested, Between, Ended, the_head, adds, Keeps, keeps_more, ended}
+use Rattle.lu_guards.proofs.ClientRests.{Good, AwaitsReply, Idle, Rested, Between, Ended, the_head, adds, Keeps, keeps_more, ended}
 use Rattle.lu_guards.proofs.ClientSlots.{slots_still, HasHeard, has_heard}
 
 -- ---- no line is of a target that isn't there
@@ -58,25 +59,39 @@ was_there osts t to m (l ∷ past) a w = by l.entry w (λ v. was_there osts t to
 
 -- ---- calls that wait for no lock
 
-pub nowhere : (who : Who) (boot t n : ℕ) (calls : List (Option Running)) → ((slot : ℕ) → Idle (call_on slot calls)) → on_calls (where_stage who boot t) n calls ≡ []
-nowhere who boot t n [] idle = refl
-nowhere who boot t n (None ∷ calls) idle = nowhere who boot t (n + 1) calls (λ slot. idle (suc slot))
-nowhere who boot t n (Some r ∷ calls) idle = rw (idle 0).0 (nowhere who boot t (n + 1) calls (λ slot. idle (suc slot)))
+-- one that waits has no lock to look for, or asks how long an object is
+idle_stage : {A : Type 0} (f : Stage → A) (x : A) → f Plain ≡ x → ((w : Work) → f (Sizes w) ≡ x) → (calls : List (Option Running)) (r : Running) → Idle calls (Some r) → f r.stage ≡ x
+idle_stage f x plain sizes calls r (inl a) = by a.1
+  where
+    by : AwaitsReply r → f r.stage ≡ x
+    by (inl q) = ap f q.1 ∙ plain
+    by (inr q) = ap f q.0.stage ∙ sizes q.0.work
+idle_stage f x plain sizes calls r (inr w) = ap f w.plain ∙ plain
 
-pub no_forgets : (t n : ℕ) (calls : List (Option Running)) → ((slot : ℕ) → Idle (call_on slot calls)) → on_calls (forgets_stage t) n calls ≡ []
-no_forgets t n [] idle = refl
-no_forgets t n (None ∷ calls) idle = no_forgets t (n + 1) calls (λ slot. idle (suc slot))
-no_forgets t n (Some r ∷ calls) idle = rw (idle 0).0 (no_forgets t (n + 1) calls (λ slot. idle (suc slot)))
+all_quiet : (all : List (Option Running)) (stands : ℕ → Running → Stage → List Entry) → ((slot : ℕ) (r : Running) → stands slot r Plain ≡ []) → ((slot : ℕ) (r : Running) (w : Work) → stands slot r (Sizes w) ≡ [])
+    → (n : ℕ) (calls : List (Option Running)) → ((slot : ℕ) → Idle all (call_on slot calls)) → on_calls stands n calls ≡ []
+all_quiet all stands plain sizes n [] idle = refl
+all_quiet all stands plain sizes n (None ∷ calls) idle = all_quiet all stands plain sizes (n + 1) calls (λ slot. idle (suc slot))
+all_quiet all stands plain sizes n (Some r ∷ calls) idle =
+    ap (λ (es : List Entry). es ++ on_calls stands (n + 1) calls) (idle_stage (stands n r) [] (plain n r) (sizes n r) all r (idle 0)) ∙ all_quiet all stands plain sizes (n + 1) calls (λ slot. idle (suc slot))
 
-pub no_looks : (t n : ℕ) (calls : List (Option Running)) → ((slot : ℕ) → Idle (call_on slot calls)) → on_calls (looks_stage t) n calls ≡ []
-no_looks t n [] idle = refl
-no_looks t n (None ∷ calls) idle = no_looks t (n + 1) calls (λ slot. idle (suc slot))
-no_looks t n (Some r ∷ calls) idle = rw (idle 0).0 (no_looks t (n + 1) calls (λ slot. idle (suc slot)))
+pub nowhere : (who : Who) (boot t n : ℕ) (calls : List (Option Running)) → ((slot : ℕ) → Idle calls (call_on slot calls)) → on_calls (where_stage who boot t) n calls ≡ []
+nowhere who boot t n calls idle = all_quiet calls (where_stage who boot t) (λ slot r. refl) (λ slot r w. refl) n calls idle
 
-pub no_waiter : (name : LockName) (n : ℕ) (calls : List (Option Running)) → ((slot : ℕ) → Idle (call_on slot calls)) → waiter name n calls ≡ None
-no_waiter name n [] idle = refl
-no_waiter name n (None ∷ calls) idle = no_waiter name (n + 1) calls (λ slot. idle (suc slot))
-no_waiter name n (Some r ∷ calls) idle = rw (idle 0).0 (no_waiter name (n + 1) calls (λ slot. idle (suc slot)))
+pub no_forgets : (t n : ℕ) (calls : List (Option Running)) → ((slot : ℕ) → Idle calls (call_on slot calls)) → on_calls (forgets_stage t) n calls ≡ []
+no_forgets t n calls idle = all_quiet calls (forgets_stage t) (λ slot r. refl) (λ slot r w. refl) n calls idle
+
+pub no_looks : (t n : ℕ) (calls : List (Option Running)) → ((slot : ℕ) → Idle calls (call_on slot calls)) → on_calls (looks_stage t) n calls ≡ []
+no_looks t n calls idle = all_quiet calls (looks_stage t) (λ slot r. refl) (λ slot r w. refl) n calls idle
+
+none_waits : (all : List (Option Running)) (name : LockName) (n : ℕ) (calls : List (Option Running)) → ((slot : ℕ) → Idle all (call_on slot calls)) → waiter name n calls ≡ None
+none_waits all name n [] idle = refl
+none_waits all name n (None ∷ calls) idle = none_waits all name (n + 1) calls (λ slot. idle (suc slot))
+none_waits all name n (Some r ∷ calls) idle =
+    ap (λ (b : Bool). if b then Some n else waiter name (n + 1) calls) (idle_stage (waits_for name) false refl (λ w. refl) all r (idle 0)) ∙ none_waits all name (n + 1) calls (λ slot. idle (suc slot))
+
+pub no_waiter : (name : LockName) (n : ℕ) (calls : List (Option Running)) → ((slot : ℕ) → Idle calls (call_on slot calls)) → waiter name n calls ≡ None
+no_waiter name n calls idle = none_waits calls name n calls idle
 
 module _ (head : table.Head) (c : ℕ) (stamp : Stamp) where
   abbrev at : At
@@ -108,21 +123,22 @@ module _ (head : table.Head) (c : ℕ) (stamp : Stamp) where
   -- nothing moves, or a call whose reply was heard
   pub record HeardOf (p : List Line) : Type 0 where
     pub slot : ℕ
+    pub target : ℕ
     pub running : Running
     pub flight : Flight
     pub reply : ReplyTo
-    pub heard : HasHeard head c stamp slot running flight reply p
+    pub heard : HasHeard head c stamp slot target running flight reply p
 
   abbrev pub After : List Line → Type 0
   After p = Rested head c at p ⊎ HeardOf p
 
   pub after_ends : Keeps head c stamp After (Ended head c at) (rests (limits_of head) at)
   after_ends p (inl r) covered = rests_from (Rested head c at) (slots_still head c stamp) p r covered
-  after_ends p (inr h) covered = rests_from (HasHeard head c stamp h.slot h.running h.flight h.reply) (has_heard head c stamp h.slot h.running h.flight h.reply) p h.heard covered
+  after_ends p (inr h) covered = rests_from (HasHeard head c stamp h.slot h.target h.running h.flight h.reply) (has_heard head c stamp h.slot h.target h.running h.flight h.reply) p h.heard covered
 
   -- a message that is taken changes nothing by itself
   pub took_good : (p : List Line) (n t : ℕ) (m : Message) → Starts p → Sent p n (Target t) (Client c) m → Good head c at (line at (Take n (Target t) m) ∷ p)
-  took_good p n t m s sent = adds head c stamp p (Take n (Target t) m) (starts_good p s) (owes_nothing p at (Take n (Target t) m) s.settled) (record { sent = sent; later = s.later }) (λ u e. tt) tt tt refl
+  took_good p n t m s sent = adds head c stamp p (Take n (Target t) m) (starts_good p s) (owes_nothing p at (Take n (Target t) m) s.settled) (record { sent = sent; later = s.later }) (λ u e. tt) tt refl
 
   pub took_rested : (p : List Line) (n t : ℕ) (m : Message) → Starts p → Sent p n (Target t) (Client c) m → Rested head c at (line at (Take n (Target t) m) ∷ p)
   took_rested p n t m s sent = record { good = took_good p n t m s sent; settled = tt; idle = s.between.idle; handles = s.between.handles; free = λ x i. s.between.held x i }

@@ -1,5 +1,6 @@
--- The turns of a client in a covered run, event by event: each line is allowed, nothing is owed at the end, and then each call waits for
--- its reply, no held lock is pinned, none is marked where the metadata target serves the life, and handles are bound as calls say.
+-- The turns of a client in a covered run, event by event: each line is allowed, nothing is owed at the end, and then each call waits, for
+-- its reply or for other calls on its open; no held lock is pinned, none is marked where the metadata target serves the life, and handles
+-- are bound as calls say.
 use Rattle.std.proofs.Common.{ℕ, ◌≤◌, List, ◌∷◌, Option, refl, sym, subst}
 use Rattle.lu_base.specs.declared.ids.At.{At}
 use Rattle.lu_base.specs.declared.ids.Node.{Node}
@@ -42,9 +43,7 @@ module _ (head : table.Head) (c : ℕ) (stamp : Stamp) where
   is_there p n t m s sent = was_there head.osts t (Client c) m p s.there (sent_was p n (Target t) (Client c) m sent)
 
   comes_after : (p : List Line) (n t : ℕ) (m : Message) → Starts head c stamp p → Sent p n (Target t) (Client c) m → After head c stamp (with_turn at (comes_by at (Target t) m (client_of head c p)) (line at (Take n (Target t) m) ∷ p))
-  comes_after p n t (message.Reply r) s sent =
-      let z = comes_to (the_head head c stamp) p (Target t) c (message.Reply r) s.grown (sent_was p n (Target t) (Client c) (message.Reply r) sent) in
-      subst (λ (u : ℕ). Sent p n (Target u) (Client c) (message.Reply r) → After head c stamp (with_turn at (comes_by at (Target u) (message.Reply r) (client_of head c p)) (line at (Take n (Target u) (message.Reply r)) ∷ p))) (sym z) (λ q. reply_after head c stamp p n r s q) sent
+  comes_after p n t (message.Reply r) s sent = reply_after head c stamp p n t r s (is_there p n t (message.Reply r) s sent) sent
   comes_after p n t (message.Block who boot cookie) s sent =
       let z = comes_to (the_head head c stamp) p (Target t) c (message.Block who boot cookie) s.grown (sent_was p n (Target t) (Client c) (message.Block who boot cookie) sent) in
       subst (λ (u : ℕ). Sent p n (Target u) (Client c) (message.Block who boot cookie) → After head c stamp (with_turn at (comes_by at (Target u) (message.Block who boot cookie) (client_of head c p)) (line at (Take n (Target u) (message.Block who boot cookie)) ∷ p)))

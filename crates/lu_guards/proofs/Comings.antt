@@ -1,19 +1,28 @@
--- What comes to a target: which messages are sent to it, and that none of a client is of a later boot than its own.
-use Rattle.std.proofs.Common.{◌≡◌, ℕ, ◌+◌, ◌≤◌, Bool, true, false, List, [], ◌∷◌, ⊎_elim, sym, subst, arith}
+-- What comes to a target: which messages are sent to it, what the requests among them ask, and that none of a client is of a later boot
+-- than its own.
+use Rattle.std.proofs.Common.{◌≡◌, ℕ, ◌+◌, ◌<◌, ◌≤◌, Bool, true, false, List, [], ◌∷◌, inl, inr, ⊎_elim, refl, sym, subst, ap, ◌∙◌, arith}
 use Rattle.std.specs.Prelude.{if◌then◌else◌}
+use Rattle.lu_base.specs.declared.ids.At.{At}
 use Rattle.lu_base.specs.declared.ids.Node.{Node}
 use Rattle.lu_base.specs.declared.ids.Node.TheVariants as node
 use Rattle.lu_base.specs.declared.ids.Who.{Who}
 use Rattle.lu_msg.specs.declared.messages.Message.{Message}
 use Rattle.lu_msg.specs.declared.messages.Message.TheVariants as message
-use Rattle.lu_words.specs.Words.{Entry, Send, Knows, Boot, Line, line, is_client}
+use Rattle.lu_msg.specs.declared.messages.Request.{Request as RequestOf}
+use Rattle.lu_msg.specs.declared.operations.Op.{Op}
+use Rattle.lu_words.specs.Carried.{Flight}
+use Rattle.lu_words.specs.Words.{Entry, Send, Knows, Boot, Line, line, is_client, is_target}
+use Rattle.lu_words.specs.Concerns.{concerns, only}
+use Rattle.lu_words.specs.Sent.{Sent}
 use Rattle.lu_covered.specs.Heads.{Head}
 use Rattle.lu_covered.specs.TargetStates.{server_of}
 use Rattle.lu_covered.specs.ClientStates.{known_of}
-use Rattle.lu_guards.proofs.Guards.{Was}
-use Rattle.lu_guards.proofs.StoryGuards.{EntryOf}
-use Rattle.lu_guards.proofs.Grown.{GrownOf}
-use Rattle.lu_guards.proofs.Lists.{turn}
+use Rattle.lu_guards.proofs.Guards.{In, Was, EntryOk}
+use Rattle.lu_guards.proofs.StoryGuards.{AskOk, SendOf, EntryOf}
+use Rattle.lu_guards.proofs.Grown.{Grown, GrownOf}
+use Rattle.lu_guards.proofs.Lists.{turn, self}
+use Rattle.lu_guards.proofs.Parts.{flights_now}
+use Rattle.lu_guards.proofs.ClientLines.{IsNames, IsSize, IsAskedOf, asked_names, flights_asked}
 
 -- ---- no message of a client is of a later boot than the target's
 
@@ -68,13 +77,79 @@ boots_of head (l ∷ story) g = by l.at.node l.entry g.0 (boots_of head story g.
     by (node.Client d) e ok h = record { told = h.told; known = h.known; asked = h.asked }
     by (node.Target d) e ok h = record { told = h.told; known = h.known; asked = h.asked }
 
--- ---- what is sent to a target: requests and cancels of clients, to the metadata target, joins, and what is told in recovery
+-- ---- the requests of clients
+
+-- a flight's operation may be asked of its target
+ask_asked : (head : Head) (past : List Line) (c t : ℕ) (r : RequestOf) → Grown head past → AskOk (only t past) c r → IsAskedOf t r.op
+ask_asked head past c t r g ok =
+    subst (λ (x : RequestOf). IsAskedOf t x.op) (sym ok.is) (flights_asked head c t past g ok.flight (subst (λ (fs : List Flight). In ok.flight fs) (sym (flights_now head c t past g)) ok.flying))
+
+-- what a client sends to a target is allowed in the target's story
+send_of : (head : Head) (past : List Line) (sender to : Node) (x : Message) (c t : ℕ) (m : Message) → sender ≡ node.Client c → to ≡ node.Target t → x ≡ m
+    → ((u : ℕ) → concerns u sender (Send to x) ≡ true → SendOf head (only u past) sender to x) → SendOf head (only t past) (node.Client c) (node.Target t) m
+send_of head past sender to x c t m from_is to_is is of =
+    subst (λ (y : Message). SendOf head (only t past) (node.Client c) (node.Target t) y) is
+    (subst (λ (k : Node). SendOf head (only t past) (node.Client c) k x) to_is
+    (subst (λ (k : Node). SendOf head (only t past) k to x) from_is (of t (ap (λ (k : Node). concerns t k (Send to x)) from_is ∙ ap (is_target t) to_is ∙ self t))))
+
+-- so each request that a client sent asks what may be asked of its target
+pub request_asked : (head : Head) (past : List Line) (c t : ℕ) (r : RequestOf) → Grown head past → Was past (node.Client c) (node.Target t) (message.Request r) → IsAskedOf t r.op
+request_asked head [] c t r g w = absurd w
+request_asked head (l ∷ past) c t r g w = by l.entry w g.0.of (λ v. request_asked head past c t r g.1 v)
+  where
+    by : (e : Entry) → Was (line l.at e ∷ past) (node.Client c) (node.Target t) (message.Request r) → ((u : ℕ) → concerns u l.at.node e ≡ true → EntryOf head (only u past) l.at l.at.node e)
+        → (Was past (node.Client c) (node.Target t) (message.Request r) → IsAskedOf t r.op) → IsAskedOf t r.op
+    by (Send to x) (inl q) of more = ask_asked head past c t r g.1 (send_of head past l.at.node to x c t (message.Request r) q.0 q.1 q.2 of)
+    by (Send to x) (inr q) of more = more q
+    by e q of more = more q
+
+pub asked_size : (t : ℕ) (o : Op) → 0 < t → IsAskedOf t o → IsSize o
+asked_size t o high (inl a) = absurd (let zero = a.0 in omega (arith, zero, high))
+asked_size t o high (inr a) = a.1
+
+-- of the metadata target one on names, of another target how long an object is
+pub request_names : (head : Head) (past : List Line) (c : ℕ) (r : RequestOf) → Grown head past → Was past (node.Client c) (node.Target 0) (message.Request r) → IsNames r.op
+request_names head past c r g w = asked_names r.op (request_asked head past c 0 r g w)
+
+pub request_size : (head : Head) (past : List Line) (c t : ℕ) (r : RequestOf) → 0 < t → Grown head past → Was past (node.Client c) (node.Target t) (message.Request r) → IsSize r.op
+request_size head past c t r high g w = asked_size t r.op high (request_asked head past c t r g w)
+
+-- ---- what clients send to a target: requests, cancels, to the metadata target, joins, and what is told in a recovery
 
 abbrev pub IsAsked : ℕ → Message → Type 0
-IsAsked t (message.Request r) = t ≡ 0
+IsAsked t (message.Request r) = IsAskedOf t r.op
 IsAsked t (message.Cancel who boot cookie) = t ≡ 0
 IsAsked t (message.Join who boot) = Unit {0}
 IsAsked t (message.Replay r) = Unit {0}
 IsAsked t (message.Lock r) = Unit {0}
 IsAsked t (message.Word who boot replays locks seen) = Unit {0}
 IsAsked t _ = ⊥
+
+-- by a client
+pub record Asks (from : Node) (t : ℕ) (m : Message) : Type 0 where
+  pub client : ℕ
+  pub is : from ≡ node.Client client
+  pub asked : IsAsked t m
+
+sends_so : (head : Head) (past : List Line) (at : At) (from : Node) (t : ℕ) (m : Message) → Grown head past → EntryOk past at from (Send (node.Target t) m) → ((c : ℕ) → from ≡ node.Client c → SendOf head (only t past) (node.Client c) (node.Target t) m) → Asks from t m
+sends_so head past at (node.Client c) t (message.Request r) g ok of = record { client = c; is = refl; asked = ask_asked head past c t r g (of c refl) }
+sends_so head past at (node.Client c) t (message.Cancel who boot cookie) g ok of = record { client = c; is = refl; asked = ok }
+sends_so head past at (node.Client c) t (message.Join who boot) g ok of = record { client = c; is = refl; asked = tt }
+sends_so head past at (node.Client c) t (message.Replay r) g ok of = record { client = c; is = refl; asked = tt }
+sends_so head past at (node.Client c) t (message.Lock r) g ok of = record { client = c; is = refl; asked = tt }
+sends_so head past at (node.Client c) t (message.Word who boot replays locks seen) g ok of = record { client = c; is = refl; asked = tt }
+sends_so head past at from t m g ok of = absurd ok
+
+-- what is sent to a target is
+pub asks_of : (head : Head) (past : List Line) (n : ℕ) (from : Node) (t : ℕ) (m : Message) → Grown head past → Sent past n from (node.Target t) m → Asks from t m
+asks_of head [] n from t m g s = absurd s
+asks_of head (l ∷ past) n from t m g s = by l.entry s g.0.ok g.0.of (λ r. asks_of head past n from t m g.1 r)
+  where
+    by : (e : Entry) → Sent (line l.at e ∷ past) n from (node.Target t) m → EntryOk past l.at l.at.node e → ((u : ℕ) → concerns u l.at.node e ≡ true → EntryOf head (only u past) l.at l.at.node e) → (Sent past n from (node.Target t) m → Asks from t m) → Asks from t m
+    by (Send to k) (inl r) ok of f =
+        sends_so head past l.at from t m g.1
+        (subst (λ (x : Message). EntryOk past l.at from (Send (node.Target t) x)) r.3
+        (subst (λ (x : Node). EntryOk past l.at from (Send x k)) r.2 (subst (λ (x : Node). EntryOk past l.at x (Send to k)) r.1 ok)))
+        (λ c e. send_of head past l.at.node to k c t m (r.1 ∙ e) r.2 r.3 of)
+    by (Send to k) (inr r) ok of f = f r
+    by e r ok of f = f r

@@ -1,22 +1,17 @@
--- The entries of a turn that is covered, with the past before each; no call to a disk fails in it.
+-- The entries of a turn that is covered; no call to a disk fails in it.
 use Rattle.std.proofs.Common.{◌≡◌, ℕ, zero, suc, List, [], ◌∷◌, Option, Some, None, refl, ap}
 use Rattle.lu_base.specs.declared.ids.At.{At}
 use Rattle.lu_words.specs.Words.{Entry, Commit, Boot, Line, line, with_turn}
 use Rattle.lu_target_rows.specs.Disks.{failing, over_disk}
-use Rattle.lu_covered.specs.Covered.{IsCovered, IsAlone, AllCovered}
+use Rattle.lu_covered.specs.Covered.{IsCovered, AllCovered}
 
 abbrev pub EntriesCovered : List Entry → Type 0
 EntriesCovered [] = Unit {0}
 EntriesCovered (e ∷ es) = IsCovered e × EntriesCovered es
 
--- a call on an open begins alone on it
-abbrev pub EntriesAlone : At → List Entry → List Line → Type 0
-EntriesAlone at [] past = Unit {0}
-EntriesAlone at (e ∷ es) past = IsAlone past at.node e × EntriesAlone at es (line at e ∷ past)
-
-pub covered_turn : (at : At) (es : List Entry) (past : List Line) → AllCovered (with_turn at es past) → EntriesCovered es × AllCovered past × EntriesAlone at es past
-covered_turn at [] past c = (tt, c, tt)
-covered_turn at (e ∷ es) past c = let p = covered_turn at es (line at e ∷ past) c in ((p.1.0, p.0), p.1.1, (p.1.2, p.2))
+pub covered_turn : (at : At) (es : List Entry) (past : List Line) → AllCovered (with_turn at es past) → EntriesCovered es × AllCovered past
+covered_turn at [] past c = (tt, c)
+covered_turn at (e ∷ es) past c = let p = covered_turn at es (line at e ∷ past) c in ((p.1.0, p.0), p.1.1)
 
 failing_none : (es : List Entry) (n : ℕ) → EntriesCovered (failing es n) → failing es n ≡ es
 failing_none [] n c = refl

@@ -27,7 +27,7 @@ use Rattle.lu_held.specs.declared.locks.Change.TheVariants as change
 use Rattle.lu_held.specs.Held.{changed, used, without, unmarked}
 use Rattle.lu_held.specs.Locks.{is_named, named, after}
 use Rattle.lu_machine.specs.Fits.{answer_fits}
-use Rattle.lu_machine.specs.Footprint.{answer, grants}
+use Rattle.lu_machine.specs.Footprint.{answer}
 use Rattle.lu_machine.specs.Tree.{Tree}
 use Rattle.lu_machine.proofs.Fits.{answers_fit}
 use Rattle.lu_part.specs.declared.parts.Want.{Want}
@@ -41,20 +41,21 @@ use Rattle.lu_target_rows.specs.Kept.{replayed}
 use Rattle.lu_target_rows.specs.Lives.{slots_kept, slots_without, lives_of as lives_in}
 use Rattle.lu_target_rows.specs.Names.{locks_from}
 use Rattle.lu_target_rows.specs.Outcomes as rows
-use Rattle.lu_target_rows.specs.Outcomes.{deed_again, deeds_again, answer_of, redone}
+use Rattle.lu_target_rows.specs.Outcomes.{deed_again, answer_of, redone}
+use Rattle.lu_target_rows.specs.Phase.{greatest_cookie}
 use Rattle.lu_target_rows.specs.Recovery.{commit_of, kept_lines, restore_lines}
 use Rattle.lu_target_rows.specs.Rows.{lock_again}
 use Rattle.lu_target_rows.specs.States.{Target as TargetOf}
 use Rattle.lu_target_rows.specs.Stored.{batch_of, replies_of}
 use Rattle.lu_target_rows.specs.Windows.{Replayed, replay_before, brought_before, settled, kept_numbers}
 use Rattle.lu_covered.specs.ClientStates.{life_of, is_own, kept_of as kept_by}
-use Rattle.lu_covered.specs.Deeds.{asked}
 use Rattle.lu_covered.specs.Heads.{Head}
 use Rattle.lu_covered.specs.TargetCloses.{disk_of, recovering_of, outcome_of, closing_of, but_first, shows, shows_evicted, shows_ready, shows_joined, staying}
 use Rattle.lu_covered.specs.TargetParts.{is_slot_of as is_slot, answered, entered}
 use Rattle.lu_covered.specs.TargetStates.{Server, none, next_number, server_of, slot_of, lives_of, replays_of, brought_of}
 use Rattle.lu_guards.proofs.Guards.{In, Was}
-use Rattle.lu_guards.proofs.StoryGuards.{SendOf, EntryOf, CommitOk, CloseOk, Due}
+use Rattle.lu_guards.proofs.StoryGuards.{ActsOk, SendOf, EntryOf, CommitOk, CloseOk, Due}
+use Rattle.lu_guards.proofs.Acts.{Acted, acted, sized_answer, sized_bare}
 use Rattle.lu_guards.proofs.Lists.{turn, in_append, in_filter}
 use Rattle.lu_guards.proofs.LifeLists.{same_cookie}
 use Rattle.lu_guards.proofs.LockLists.{Rises, in_above, above_from, greatest_least, greatest_has}
@@ -133,7 +134,7 @@ module _ (n : ℕ) (G : Lock → Type 0) (head : Head) where
         brought = λ l i. absurd i;
       }
 
-  in_but : (e : Entry) (es : List Entry) → In e (but_first es) → In e es
+  pub in_but : (e : Entry) (es : List Entry) → In e (but_first es) → In e es
   in_but e [] i = i
   in_but e (x ∷ es) i = inr i
 
@@ -252,7 +253,7 @@ module _ (n : ℕ) (G : Lock → Type 0) (head : Head) where
       (in_append e (restore_lines o.locks) (shows_evicted o o.gone ++ (shows_ready o (staying o lives) ++ shows_joined o o.joins)) j))
       (in_append e (kept_lines o.kept) (restore_lines o.locks ++ (shows_evicted o o.gone ++ (shows_ready o (staying o lives) ++ shows_joined o o.joins))) i)
 
-  shown_commit : (o : Outcome) (lives : List Who) (to : ℕ) (batch : Batch) → In (Commit to batch) (shows o lives) → batch ≡ batch_of o.kept (lives_in o.gone) o.joins
+  pub shown_commit : (o : Outcome) (lives : List Who) (to : ℕ) (batch : Batch) → In (Commit to batch) (shows o lives) → batch ≡ batch_of o.kept (lives_in o.gone) o.joins
   shown_commit o lives to batch (inl e) = of_commit (sym e)
     where
       of_commit : Commit to batch ≡ commit_of o → batch ≡ batch_of o.kept (lives_in o.gone) o.joins
@@ -306,7 +307,7 @@ module _ (n : ℕ) (G : Lock → Type 0) (head : Head) where
   -- ---- line by line
 
   -- what was just done
-  abbrev Own : Entry → Type 0
+  abbrev pub Own : Entry → Type 0
   Own (Act d) = Fine n G d.reply
   Own (Txn d) = Fine n G d.reply
   Own _ = Unit {0}
@@ -702,31 +703,43 @@ given_line head past l ok h = by l.at.node l.entry ok
     by (Target t) (Act d) ok =
         record {
           counted = h.counted;
-          top = ok.room;
+          top = room ok;
           low = λ x g. ⊎_elim (λ (i : In x d.reply.locks). greatest_has s.cookie d.reply.locks x i) (λ (g : Gave past x). let low = h.low x g in let least = greatest_least s.cookie d.reply.locks in omega (arith, low, least)) g;
           once = once;
-          has = has_line n (Gave (line (turn l.at.stamp (Target t)) (Act d) ∷ past)) head past (line (turn l.at.stamp (Target t)) (Act d)) ok fine (has_more n n (Gave past) (Gave (line (turn l.at.stamp (Target t)) (Act d) ∷ past)) head past (omega arith) (λ x g. inr g) h.has);
+          has = has_line n (Gave (line here (Act d) ∷ past)) head past (line here (Act d)) ok fine (has_more n n (Gave past) (Gave (line here (Act d) ∷ past)) head past (omega arith) (λ x g. inr g) h.has);
         }
       where
-        wants : List Want
-        wants = grants head.osts s.tree (asked ok.request none)
+        here : At
+        here = turn l.at.stamp (Target t)
 
-        locks : d.reply.locks ≡ locks_from s.cookie ok.request.who wants
-        locks = ap (λ (x : Deed). x.reply.locks) ok.is
+        a : Acted head.osts past here d
+        a = acted head.osts past here t d ok
 
-        fine : Fine n (Gave (line (turn l.at.stamp (Target t)) (Act d) ∷ past)) d.reply
+        locks : d.reply.locks ≡ locks_from s.cookie a.request.who a.wants
+        locks = a.locks
+
+        -- a glimpse needs no room
+        room : ActsOk head.osts past here t d → greatest_cookie s.cookie d.reply.locks ≤ s.boot * 4294967296 + 4294967295
+        room (inl k) = k.1.room
+        room (inr k) = subst (λ (ls : List Lock). greatest_cookie s.cookie ls ≤ s.boot * 4294967296 + 4294967295) (sym (sized_bare head.osts past here d k.1)) h.top
+
+        answers : ActsOk head.osts past here t d → Ungranted d.reply.answer
+        answers (inl k) = subst (λ (y : Deed). Ungranted y.reply.answer) (sym k.1.is) (ungranted head.osts s.tree none k.1.request.who k.1.request.op)
+        answers (inr k) = subst Ungranted (sym (sized_answer head.osts past here d k.1)) tt
+
+        fine : Fine n (Gave (line here (Act d) ∷ past)) d.reply
         fine =
             record {
-              number = let zero : d.reply.txn.0 ≡ 0 = ap (λ (x : Deed). x.reply.txn.0) ok.is in omega (arith, zero);
-              locks = λ x i. (inl i, from_who x s.cookie ok.request.who wants (subst (λ (ls : List Lock). In x ls) locks i) ∙ ap (λ (y : Deed). y.reply.who) (sym ok.is));
-              answer = subst (λ (y : Deed). Ungranted y.reply.answer) (sym ok.is) (ungranted head.osts s.tree none ok.request.who ok.request.op);
+              number = let zero : d.reply.txn.0 ≡ 0 = ap (λ (x : TxnOf). x.0) a.number in omega (arith, zero);
+              locks = λ x i. (inl i, from_who x s.cookie a.request.who a.wants (subst (λ (ls : List Lock). In x ls) locks i) ∙ sym a.who);
+              answer = answers ok;
             }
 
         above : (x : Lock) → In x d.reply.locks → s.cookie < x.cookie.0
-        above x i = in_above s.cookie (locks_from s.cookie ok.request.who wants) x (above_from s.cookie s.cookie ok.request.who wants (omega arith)) (subst (λ (ls : List Lock). In x ls) locks i)
+        above x i = in_above s.cookie (locks_from s.cookie a.request.who a.wants) x (above_from s.cookie s.cookie a.request.who a.wants (omega arith)) (subst (λ (ls : List Lock). In x ls) locks i)
 
         once : (x y : Lock) → In x d.reply.locks ⊎ Gave past x → In y d.reply.locks ⊎ Gave past y → x.cookie.0 ≡ y.cookie.0 → x ≡ y
-        once x y (inl i) (inl j) e = same_cookie d.reply.locks x y (subst Rises (sym locks) (rises_from s.cookie ok.request.who wants)) i j e
+        once x y (inl i) (inl j) e = same_cookie d.reply.locks x y (subst Rises (sym locks) (rises_from s.cookie a.request.who a.wants)) i j e
         once x y (inl i) (inr g) e = let up = above x i in let low = h.low y g in absurd (omega (arith, up, low, e))
         once x y (inr g) (inl i) e = let up = above y i in let low = h.low x g in absurd (omega (arith, up, low, e))
         once x y (inr g) (inr k) e = h.once x y g k e

@@ -1,6 +1,6 @@
 -- When a line may be added to a past, whatever row makes it: what a single line rests on, over the past just
 -- before it. What it says of one target is said over what concerns that target. What isn't listed never happens.
-use Rattle.std.proofs.Common.{◌≡◌, ℕ, ◌<◌, Bool, true, false, List, [], ◌∷◌, Option, Some, None, ◌⊎◌}
+use Rattle.std.proofs.Common.{◌≡◌, ℕ, ◌<◌, Bool, true, false, List, [], ◌∷◌, ◌++◌, Option, Some, None, ◌⊎◌}
 use Rattle.std.specs.Prelude.{zero, length, filter, nat_lt, not, ◌==◌, ◌&&◌, ◌||◌, if◌then◌else◌}
 use Rattle.std.specs.List.{list_any}
 use Rattle.lu_base.specs.declared.ids.At.{At}
@@ -19,12 +19,14 @@ use Rattle.lu_msg.specs.declared.messages.Message.TheVariants as message
 use Rattle.lu_msg.specs.declared.messages.Reply.{Reply as ReplyTo}
 use Rattle.lu_msg.specs.declared.messages.Request.{Request as RequestOf}
 use Rattle.lu_msg.specs.declared.operations.Op.{Op}
+use Rattle.lu_msg.specs.declared.operations.Op.TheVariants as op
 use Rattle.lu_trace.specs.WellFormed.{IsCall}
 use Rattle.lu_held.specs.declared.locks.HeldLock.{HeldLock}
+use Rattle.lu_held.specs.declared.locks.Use.{Use}
 use Rattle.lu_held.specs.declared.names.LockName.{LockName}
 use Rattle.lu_held.specs.Locks.{named}
-use Rattle.lu_words.specs.Carried.{Deed, Said, Queued, Flight, Unasked, Answered, Work, Stage, Plain, Bad, Running}
-use Rattle.lu_words.specs.Words.{Entry, Begin, Busy, Queues, Flies, Send, Take, Tick, Heard, Hold, Drop, Told, Die, Pins, Unpins, Marks, Learns, Act, Txn, Grant, Block, Release, Enters, Line, line, turn_before, is_client, same_life, Skip, Commit, Life, Serves, Settles, Evict, Joined, Binds, Unbinds, Knows, Unmarks, Crash, Boot, Back, Close, Kept, Restore, Stores, Brings, Says, Wishes}
+use Rattle.lu_words.specs.Carried.{Deed, Said, Queued, Flight, Unasked, Asked, Answered, Glimpses, Work, Stage, Plain, Bad, Sizes, Running}
+use Rattle.lu_words.specs.Words.{Entry, Begin, Busy, Queues, Flies, Stands, Send, Take, Tick, Heard, Hold, Drop, Told, Die, Pins, Unpins, Marks, Learns, Act, Txn, Grant, Block, Release, Enters, Line, line, turn_before, is_client, same_life, Skip, Commit, Life, Serves, Settles, Evict, Joined, Binds, Unbinds, Knows, Unmarks, Crash, Boot, Back, Close, Kept, Restore, Stores, Brings, Says, Wishes}
 use Rattle.lu_words.specs.Concerns.{only}
 use Rattle.lu_words.specs.Sent.{Sent}
 use Rattle.lu_target_rows.specs.Lives.{is_life}
@@ -33,13 +35,14 @@ use Rattle.lu_target_rows.specs.Recovery.{cut, empty_word}
 use Rattle.lu_target_rows.specs.Rows.{lock_again}
 use Rattle.lu_target_rows.specs.Leaving.{life_of as life_in}
 use Rattle.lu_target_rows.specs.Windows.{Window, is_replay, is_lock, word_of, is_newest, is_back}
-use Rattle.lu_client_rows.specs.Caches.{held_at}
+use Rattle.lu_client_rows.specs.Caches.{brought, held_at}
 use Rattle.lu_client_rows.specs.Imports.{Serving}
 use Rattle.lu_covered.specs.Imports.{known_at, standing_at, kept_at}
 use Rattle.lu_client_rows.specs.Recovery.{next_life}
 use Rattle.lu_covered.specs.TargetStates.{server_of, slot_of, closed_of, window_of, boot_at}
 use Rattle.lu_covered.specs.Deeds.{asked}
 use Rattle.lu_covered.specs.Calls.{begun, call_at, becomes, told_as, is_bad, file_for, life_at}
+use Rattle.lu_covered.specs.Covered.{IsOnSizes}
 use Rattle.lu_covered.specs.Known.{notes_at, known_answer}
 use Rattle.lu_covered.specs.ClientStates.{known_of, life_of}
 
@@ -152,7 +155,7 @@ pub record TakeOk (past : List Line) (at : At) (n : ℕ) (from : Node) (m : Mess
 -- a call on a good handle, with the file of that, if any; or one on a bad handle
 abbrev pub Begins : ℕ → List Line → Running → Type 0
 Begins c past r =
-    ((is_bad c past r.call ≡ false) × (r.stage ≡ Plain) × (r.file ≡ file_for c past r.call) × ((o : Op) × (becomes r ≡ Some o)))
+    ((is_bad c past r.call ≡ false) × (r.stage ≡ Plain) × (r.file ≡ file_for c past r.call) × (((o : Op) × (becomes r ≡ Some o)) ⊎ IsOnSizes r.call))
     ⊎ ((is_bad c past r.call ≡ true) × (r.stage ≡ Bad) × (r.file ≡ None))
 
 -- the metadata target serves the client's life, in the boot that it knows
@@ -181,27 +184,81 @@ pub record BeginOk (past : List Line) (at : At) (c slot : ℕ) (running : Runnin
   pub calm : standing_at c 0 past ≡ Serving → (h : HeldLock) → In h (held_at c past) → h.marked ≡ false
   pub ready : is_welcome c past ≡ false
 
--- of a call that has asked nothing yet and isn't known; all is asked of the metadata target
-pub record QueuesOk (past : List Line) (c t : ℕ) (q : Queued) : Type 0 where
+-- a call on names that has asked nothing yet and isn't known asks the metadata target
+pub record NamesAskOk (past : List Line) (c t : ℕ) (running : Running) (o : Op) : Type 0 where
+  pub good : running.stage ≡ Plain
+  pub new : running.asking ≡ Unasked
   pub names : t ≡ 0
+  pub becomes : becomes running ≡ Some o
+  pub unknown : known_answer (notes_at c past) running.call ≡ None
+
+-- a glimpse asks the target that has the first of the objects that are left how long that is
+pub record SizeAskOk (t : ℕ) (running : Running) (o : Op) : Type 0 where
+  pub work : Work
+  pub stage : running.stage ≡ Sizes work
+  pub still : running.asking ≡ Asked → ⊥
+  pub wanted : Use
+  pub left : List Use
+  pub first : work.left ≡ wanted ∷ left
+  pub of_target : t ≡ wanted.target.0
+  pub object : 0 < t
+  pub of_op : o ≡ op.Size wanted.resource
+
+pub record QueuesOk (past : List Line) (c t : ℕ) (q : Queued) : Type 0 where
   pub slot : ℕ
   pub serves : q.slot ≡ Some slot
   pub running : Running
   pub call : call_at c slot past ≡ Some running
-  pub new : running.asking ≡ Unasked
-  pub good : running.stage ≡ Plain
-  pub becomes : becomes running ≡ Some q.op
-  pub unknown : known_answer (notes_at c past) running.call ≡ None
+  pub asks : NamesAskOk past c t running q.op ⊎ SizeAskOk t running q.op
+
+abbrev pub IsGlimpse : Running → ℕ → Type 0
+IsGlimpse r handle = r.call ≡ call.Glimpse handle
+
+abbrev pub IsFlush : Running → ℕ → Type 0
+IsFlush r handle = r.call ≡ call.Flush handle
+
+-- the reply just heard told a glimpse how long an object is
+pub record HeardSize (past : List Line) (at : At) (running : Running) (sizes : List ℕ) : Type 0 where
+  pub work : Work
+  pub stage : running.stage ≡ Sizes work
+  pub before : List ℕ
+  pub kind : work.kind ≡ Glimpses before
+  pub target : ℕ
+  pub reply : ReplyTo
+  pub answered : running.asking ≡ Answered target reply
+  pub heard : JustHeard past at target reply
+  pub size : ℕ
+  pub tells : reply.answer ≡ answer.Size size
+  pub more : sizes ≡ before ++ size ∷ []
+
+-- the sizes that a glimpse has: none as it begins, or one more than before
+abbrev pub SizesSoFar : List Line → At → Running → List ℕ → Type 0
+SizesSoFar past at running sizes = ((running.stage ≡ Plain) × (running.asking ≡ Unasked) × (running.at ≡ at) × (sizes ≡ [])) ⊎ HeardSize past at running sizes
+
+-- a glimpse goes on to the next object
+pub record StandsOk (past : List Line) (at : At) (c slot : ℕ) (r : Running) : Type 0 where
+  pub running : Running
+  pub call : call_at c slot past ≡ Some running
+  pub small : slot < 4
+  pub handle : ℕ
+  pub glimpses : IsGlimpse running handle
+  pub work : Work
+  pub is : r ≡ record running { stage = Sizes work }
+  pub sizes : List ℕ
+  pub kind : work.kind ≡ Glimpses sizes
+  pub so_far : SizesSoFar past at running sizes
 
 -- a stat of a file isn't told what the reply says: its size is asked for first
 abbrev pub IsToldAsIs : Call → Answer → Type 0
 IsToldAsIs (call.Stat path) (answer.FileStat fid mode links layout) = ⊥
 IsToldAsIs c a = Unit {0}
 
--- of a call whose request was answered in this turn
+-- of a call on names whose request was answered in this turn
 pub record ToldOk (past : List Line) (at : At) (c slot : ℕ) (turn : At) (answer : Answer) (work : Option Work) : Type 0 where
   pub running : Running
   pub call : call_at c slot past ≡ Some running
+  pub good : running.stage ≡ Plain
+  pub names : (o : Op) × (becomes running ≡ Some o)
   pub target : ℕ
   pub reply : ReplyTo
   pub answered : running.asking ≡ Answered target reply
@@ -232,6 +289,31 @@ pub record BadOk (past : List Line) (at : At) (c slot : ℕ) (turn : At) (told :
   pub begun : running.at ≡ at
   pub of_turn : turn ≡ at
   pub of_answer : told ≡ answer.Refused EBADF
+  pub plain : work ≡ None
+
+-- of a glimpse that has the size of each object; it acts in this turn
+pub record SizesToldOk (past : List Line) (at : At) (c slot : ℕ) (turn : At) (told : Answer) (work : Option Work) : Type 0 where
+  pub running : Running
+  pub call : call_at c slot past ≡ Some running
+  pub handle : ℕ
+  pub glimpses : IsGlimpse running handle
+  pub sizes : List ℕ
+  pub so_far : SizesSoFar past at running sizes
+  pub of_turn : turn ≡ at
+  pub of_answer : told ≡ answer.Sizes sizes
+  pub plain : work ≡ None
+
+-- of a `flush` that began in this turn: nothing is changed that it could write back
+pub record FlushedOk (past : List Line) (at : At) (c slot : ℕ) (turn : At) (told : Answer) (work : Option Work) : Type 0 where
+  pub running : Running
+  pub call : call_at c slot past ≡ Some running
+  pub handle : ℕ
+  pub flushes : IsFlush running handle
+  pub good : running.stage ≡ Plain
+  pub new : running.asking ≡ Unasked
+  pub begun : running.at ≡ at
+  pub of_turn : turn ≡ at
+  pub of_answer : told ≡ answer.Done
   pub plain : work ≡ None
 
 -- of a call that its life doesn't outlive: this turn took the notice of its eviction
@@ -368,7 +450,6 @@ Answers at d _ = ⊥
 abbrev pub Starts : ℕ → Stage → Entry → Type 0
 Starts slot Bad (Told s turn answer work) = s ≡ slot
 Starts slot Bad _ = ⊥
-Starts slot stage (Unbinds handle) = Unit {0}
 Starts slot stage (Pins name) = Unit {0}
 Starts slot stage (Queues t q) = q.slot ≡ Some slot
 Starts slot stage (Told s turn answer work) = s ≡ slot
@@ -427,6 +508,14 @@ abbrev pub due : (osts clients : ℕ) → List Line → Option Entry
 due osts clients [] = None
 due osts clients (l ∷ past) = elim l.entry [ Take n from m ↦ mark_at osts clients past l.at.node m | _ ↦ None ]
 
+-- a call that has just begun; but a `close` may wait for other calls on its open, and what a `flush` or a `glimpse` does next isn't told here
+abbrev pub OwesBegun : (SameTurn : Type 0) → ℕ → Stage → Call → Entry → Type 0
+OwesBegun SameTurn slot Bad c e = SameTurn × Starts slot Bad e
+OwesBegun SameTurn slot stage (call.Close h) e = Unit {0}
+OwesBegun SameTurn slot stage (call.Flush h) e = Unit {0}
+OwesBegun SameTurn slot stage (call.Glimpse h) e = Unit {0}
+OwesBegun SameTurn slot stage c e = SameTurn × Starts slot stage e
+
 -- the newest line is of that turn
 abbrev pub IsTurnOf : List Line → At → Type 0
 IsTurnOf [] at = ⊥
@@ -439,8 +528,7 @@ Owes (l ∷ past) at e =
       | Act d ↦ Answers at d e
       | Txn d ↦ Answers at d e
       | Grant lock asked ↦ Owes past at e
-      | Begin slot running ↦ (l.at ≡ at) × Starts slot running.stage e
-      | Unbinds handle ↦ (l.at ≡ at) × Owes past at e
+      | Begin slot running ↦ OwesBegun (l.at ≡ at) slot running.stage running.call e
       | Pins name ↦ (l.at ≡ at) × Owes past at e
       | _ ↦ Unit {0}
     ]
@@ -452,9 +540,16 @@ EntryOk past at (Client c) (Begin slot running) = BeginOk past at c slot running
 EntryOk past at (Client c) (Busy slot) = Later past at
 EntryOk past at (Client c) Die = Later past at
 EntryOk past at (Client c) (Queues t q) = QueuesOk past c t q
-EntryOk past at (Client c) (Told slot turn answer work) = ToldOk past at c slot turn answer work ⊎ KnownOk past at c slot turn answer work ⊎ EndsOk past at c slot turn answer work ⊎ BadOk past at c slot turn answer work
-EntryOk past at (Client c) (Flies t f) = t ≡ 0
-EntryOk past at (Client c) (Heard t f r) = (t ≡ 0) × TookNow past at (Target t) (message.Reply r)
+EntryOk past at (Client c) (Stands slot running) = StandsOk past at c slot running
+EntryOk past at (Client c) (Told slot turn answer work) =
+    ToldOk past at c slot turn answer work
+    ⊎ KnownOk past at c slot turn answer work
+    ⊎ EndsOk past at c slot turn answer work
+    ⊎ BadOk past at c slot turn answer work
+    ⊎ SizesToldOk past at c slot turn answer work
+    ⊎ FlushedOk past at c slot turn answer work
+EntryOk past at (Client c) (Flies t f) = Unit {0}
+EntryOk past at (Client c) (Heard t f r) = ((t ≡ 0) ⊎ (brought f.op r ≡ [])) × TookNow past at (Target t) (message.Reply r)
 EntryOk past at (Client c) (Hold t lock marked size seen) = HoldsOk past at t lock marked size seen
 EntryOk past at (Client c) (Learns t op answer locks) = LearnsOk past at t op answer locks
 EntryOk past at (Client c) (Drop t lock) = (t ≡ 0) × GivesUp past at c lock
@@ -468,19 +563,19 @@ EntryOk past at (Client c) (Settles t to) = Unit {0}
 EntryOk past at (Client c) (Pins name) = name.target.0 ≡ 0
 EntryOk past at (Client c) (Unpins name) = name.target.0 ≡ 0
 EntryOk past at (Client c) (Marks name) = name.target.0 ≡ 0
-EntryOk past at (Client c) (Send (Target t) (message.Request r)) = t ≡ 0
+EntryOk past at (Client c) (Send (Target t) (message.Request r)) = Unit {0}
 EntryOk past at (Client c) (Send (Target t) (message.Cancel who boot cookie)) = t ≡ 0
 EntryOk past at (Client c) (Send (Target t) (message.Join who boot)) = Unit {0}
 EntryOk past at (Client c) (Send (Target t) (message.Replay r)) = Unit {0}
 EntryOk past at (Client c) (Send (Target t) (message.Lock r)) = Unit {0}
 EntryOk past at (Client c) (Send (Target t) (message.Word who boot replays locks seen)) = WordOk past at c t replays locks
 EntryOk past at (Target t) (Send (Client c) (message.Up boot)) = Unit {0}
-EntryOk past at (Target t) (Send (Client c) (message.Reply k)) = (t ≡ 0) × RepliesNow past t k × (Taken past → RepliesAgain past at t k) × AllShown past
+EntryOk past at (Target t) (Send (Client c) (message.Reply k)) = RepliesNow past t k × (Taken past → RepliesAgain past at t k) × AllShown past
 EntryOk past at (Target t) (Send (Client c) (message.Block who boot cookie)) = t ≡ 0
 EntryOk past at (Target t) (Send (Client c) (message.Ready who boot committed)) = Unit {0}
 EntryOk past at (Target t) (Send (Client c) (message.Evicted who boot)) = Unit {0}
-EntryOk past at (Target t) (Enters r) = (t ≡ 0) × TookRequest past at r
-EntryOk past at (Target t) (Act d) = t ≡ 0
+EntryOk past at (Target t) (Enters r) = TookRequest past at r
+EntryOk past at (Target t) (Act d) = Unit {0}
 EntryOk past at (Target t) (Txn d) = t ≡ 0
 EntryOk past at (Target t) (Grant lock (Some d)) = (t ≡ 0) × Did past d × In lock d.reply.locks
 EntryOk past at (Target t) (Block called) = t ≡ 0

@@ -22,7 +22,7 @@ use Rattle.lu_words.specs.Concerns.{is_about, concerns, only}
 use Rattle.lu_words.specs.Fields.{on, at_client}
 use Rattle.lu_target_rows.specs.Outcomes.{window_of, restored}
 use Rattle.lu_target_rows.specs.Windows.{staying, settled}
-use Rattle.lu_client_rows.specs.Caches.{held_as, brought, reads_held, held_after, held_at}
+use Rattle.lu_client_rows.specs.Caches.{held_as, brought, with_brought, reads_held, held_after, held_at}
 use Rattle.lu_client_rows.specs.Facts.{Fact, reads_facts, facts_after, facts_at}
 use Rattle.lu_covered.specs.Heads.{Head}
 use Rattle.lu_covered.specs.TargetCloses.{recovering_of, outcome_of}
@@ -79,7 +79,8 @@ held_zero head c past g = client_keeps Zero reads_held held_after [] head c (λ 
 
     step : (p : List Line) (at : At) (e : Entry) (x : List HeldLock) → EntryOk p at (Client c) e → Zero x → Zero (held_after x e)
     step p at (Heard t f r) x ok k h i =
-        ⊎_elim (λ (s : (l : Lock) × (held_as t l false ≡ h)). ap (λ (y : HeldLock). y.target.0) (sym s.1) ∙ ok.0) (λ (j : In h x). k h j) (brought_only t h (brought f.op r) x i)
+        ⊎_elim (λ (z : t ≡ 0). ⊎_elim (λ (s : (l : Lock) × (held_as t l false ≡ h)). ap (λ (y : HeldLock). y.target.0) (sym s.1) ∙ z) (λ (j : In h x). k h j) (brought_only t h (brought f.op r) x i))
+        (λ (none : brought f.op r ≡ []). k h (subst (λ (ls : List Lock). In h (with_brought t ls x)) none i)) ok.0
     step p at (Hold t l marked size seen) x ok k h i =
         ⊎_elim (λ (s : held_as t l marked ≡ h). ap (λ (y : HeldLock). y.target.0) (sym s) ∙ ok.names) (λ (j : In h x). k h j) (with_only (held_as t l marked) h x i)
     step p at (Drop t l) x ok k h i = k h (without_only _ h x i).0
@@ -136,7 +137,7 @@ client_is {A} reads after start c t (l ∷ past) a = by l.at.node a.0 (client_is
 
 held_line : (hs : List HeldLock) → ((h : HeldLock) → In h hs → h.target.0 ≡ 0) → (past : List Line) (at : At) (c : ℕ) (node : Node) (e : Entry) → EntryOk past at node e → is_client c node ≡ true → reads_held e ≡ true
     → (is_about 0 e ≡ true) ⊎ (held_after hs e ≡ hs)
-held_line hs z past at c (Client d) (Heard t f r) ok own q = inl (ap (nat_eq 0) ok.0)
+held_line hs z past at c (Client d) (Heard t f r) ok own q = ⊎_elim (λ (first : t ≡ 0). inl (ap (nat_eq 0) first)) (λ (none : brought f.op r ≡ []). inr (ap (λ (ls : List Lock). with_brought t ls hs) none)) ok.0
 held_line hs z past at c (Client d) (Hold t lock marked size seen) ok own q = inl (ap (nat_eq 0) ok.names)
 held_line hs z past at c (Client d) (Drop t lock) ok own q = inl (ap (nat_eq 0) ok.0)
 held_line hs z past at c (Client d) (Pins name) ok own q = inl (ap (nat_eq 0) ok)
@@ -183,7 +184,13 @@ none_held head c t (l ∷ past) g = by l.at.node l.entry g.0.ok (none_held head 
     unread false own a q = refl
 
     by : (node : Node) (e : Entry) → EntryOk past l.at node e → held_at c P ≡ [] → held_at c (if concerns (suc t) node e then line (turn l.at.stamp node) e ∷ P else P) ≡ []
-    by (Client d) (Heard u f r) ok ih = other u (line (turn l.at.stamp (Client d)) (Heard u f r)) ok.0 ih
+    by (Client d) (Heard u f r) ok ih =
+        ⊎_elim (λ (z : u ≡ 0). other u (line (turn l.at.stamp (Client d)) (Heard u f r)) z ih)
+        (λ (none : brought f.op r ≡ []). quiet (line (turn l.at.stamp (Client d)) (Heard u f r)) (nat_eq (suc t) u) (ap (λ (ls : List Lock). if nat_eq c d then with_brought u ls (held_at c P) else held_at c P) none ∙ same (nat_eq c d)) ih) ok.0
+      where
+        same : (own : Bool) → (if own then held_at c P else held_at c P) ≡ held_at c P
+        same true = refl
+        same false = refl
     by (Client d) (Hold u lock marked size seen) ok ih = other u (line (turn l.at.stamp (Client d)) (Hold u lock marked size seen)) ok.names ih
     by (Client d) (Drop u lock) ok ih = other u (line (turn l.at.stamp (Client d)) (Drop u lock)) ok.0 ih
     by (Client d) (Pins name) ok ih = other name.target.0 (line (turn l.at.stamp (Client d)) (Pins name)) ok ih

@@ -1,6 +1,7 @@
 pub mod Lists
 pub mod Guards
 pub mod StoryGuards
+pub mod Acts
 pub mod Grown
 pub mod Parts
 pub mod Only
@@ -19,6 +20,8 @@ pub mod Sound
 pub mod TargetAlike
 pub mod TargetGood
 pub mod TargetPass
+pub mod TargetObjects
+pub mod TargetSizes
 pub mod TargetLeaving
 pub mod TargetWindows
 pub mod TargetJoins
@@ -31,6 +34,7 @@ pub mod TargetRecovers
 pub mod TargetTurns
 pub mod ClientDisks
 pub mod ClientLines
+pub mod ClientSizes
 pub mod ClientHandles
 pub mod ClientRests
 pub mod ClientKnown

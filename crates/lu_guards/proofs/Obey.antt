@@ -1,7 +1,7 @@
 -- Each covered run of the table makes lines that are allowed, one after another; after each turn nothing is owed, no life is ending, no
--- target has a message to keep or a life to tell of as back, and between its turns each call of a client waits for its reply, none of its
--- held locks is pinned, or marked where the metadata target serves it, its handles are bound as calls say, and each target is what its
--- story says.
+-- target has a message to keep or a life to tell of as back, and between its turns each call of a client waits, for its reply or for other
+-- calls on its open; none of its held locks is pinned, or marked where the metadata target serves it, its handles are bound as calls say,
+-- and each target is what its story says.
 use Rattle.std.proofs.Common.{◌≡◌, ℕ, ◌≤◌, Bool, true, false, List, [], ◌∷◌, inl, inr, None, refl, sym, subst, ap, ◌∙◌}
 use Rattle.std.specs.Prelude.{nat_eq, ◌&&◌}
 use Rattle.std.proofs.lemmas.Bool.{eqb-true}
@@ -33,7 +33,7 @@ use Rattle.lu_guards.proofs.Turns.{covered_head, Settled, settled_after, noted_a
 use Rattle.lu_guards.proofs.Covers.{covered_turn, over_none}
 use Rattle.lu_guards.proofs.ClientLines.{on_other}
 use Rattle.lu_guards.proofs.ClientHandles.{file_other}
-use Rattle.lu_guards.proofs.ClientRests.{Idle, Between}
+use Rattle.lu_guards.proofs.ClientRests.{Between, idle_same}
 use Rattle.lu_guards.proofs.ClientStarts.{AllThere, there_turn}
 use Rattle.lu_guards.proofs.ClientTurns.{client_ok}
 use Rattle.lu_guards.proofs.ClientReady.{welcome_other, welcome_client}
@@ -58,7 +58,7 @@ import_other {A} reads after start c t at (e ∷ es) past other =
 between_other : (c : ℕ) (at : At) (es : List Entry) (past : List Line) → is_client c at.node ≡ false → Between c past → Between c (with_turn at es past)
 between_other c at es past other b =
     record {
-      idle = λ slot. subst Idle (sym (field_other reads_call (call_after slot) None c at es past other)) (b.idle slot);
+      idle = idle_same c past (with_turn at es past) (λ slot. field_other reads_call (call_after slot) None c at es past other) b.idle;
       handles = λ h. ap (file_of h) (field_other reads_handles handles_after [] c at es past other) ∙ b.handles h ∙ sym (file_other c h at es past other);
       held = subst (λ (hs : List HeldLock). (x : HeldLock) → In x hs → x.pins ≡ 0) (sym (field_other reads_held held_after [] c at es past other)) b.held;
       calm =

@@ -11,6 +11,7 @@ use Rattle.lu_base.specs.declared.ids.Who.{Who}
 use Rattle.lu_base.specs.declared.locks.Cause.{Cause}
 use Rattle.lu_base.specs.declared.locks.Cause.TheVariants.{Expired, Replaced}
 use Rattle.lu_base.specs.declared.locks.Lock.{Lock}
+use Rattle.lu_base.specs.declared.locks.Resource.{Resource}
 use Rattle.lu_msg.specs.declared.answers.Answer.{Answer}
 use Rattle.lu_msg.specs.declared.messages.Message.{Message}
 use Rattle.lu_msg.specs.declared.messages.Message.TheVariants as message
@@ -19,13 +20,14 @@ use Rattle.lu_msg.specs.declared.messages.RequestReplay.{RequestReplay}
 use Rattle.lu_msg.specs.declared.messages.Reply.{Reply as ReplyTo}
 use Rattle.lu_msg.specs.declared.messages.Request.{Request as RequestOf}
 use Rattle.lu_msg.specs.declared.operations.Op.{Op}
+use Rattle.lu_msg.specs.declared.operations.Op.TheVariants as op
 use Rattle.lu_msg.specs.declared.commits.Batch.{Batch}
 use Rattle.lu_held.specs.declared.locks.HeldLock.{HeldLock}
 use Rattle.lu_held.specs.Held.{is_held}
 use Rattle.lu_machine.specs.Fits.{answer_fits}
 use Rattle.lu_machine.specs.Footprint.{changes}
 use Rattle.lu_words.specs.Carried.{Deed, Said, Queued, Flight, Called, Disk, Outcome}
-use Rattle.lu_words.specs.Words.{Entry, Begin, Busy, Queues, Flies, Send, Take, Tick, Heard, Hold, Drop, Told, Die, Pins, Unpins, Marks, Learns, Act, Txn, Grant, Block, Release, Enters, Line, turn_before, is_client, Skip, Commit, Life, Serves, Settles, Evict, Joined, Binds, Unbinds, Knows, Unmarks, Crash, Boot, Back, Close, Kept, Restore, Stores, Brings, Says, Wishes}
+use Rattle.lu_words.specs.Words.{Entry, Begin, Busy, Queues, Flies, Stands, Send, Take, Tick, Heard, Hold, Drop, Told, Die, Pins, Unpins, Marks, Learns, Act, Txn, Grant, Block, Release, Enters, Line, turn_before, is_client, Skip, Commit, Life, Serves, Settles, Evict, Joined, Binds, Unbinds, Knows, Unmarks, Crash, Boot, Back, Close, Kept, Restore, Stores, Brings, Says, Wishes}
 use Rattle.lu_target_rows.specs.Leaving.{is_over, life_of as life_in}
 use Rattle.lu_target_rows.specs.Lives.{is_life}
 use Rattle.lu_target_rows.specs.Locks.{with_lock, without_lock}
@@ -41,11 +43,11 @@ use Rattle.lu_target_rows.specs.Windows.{is_replay, is_lock, word_of, is_newest,
 use Rattle.lu_client_rows.specs.Caches.{held_as, held_at}
 use Rattle.lu_client_rows.specs.Imports.{Replay, Joining, Recovering, Serving}
 use Rattle.lu_client_rows.specs.Recovery.{next_life, lock_replayed, replayed as replayed_by}
-use Rattle.lu_client_rows.specs.Sending.{next_flight}
+use Rattle.lu_client_rows.specs.Sending.{next_flight, front_waits}
 use Rattle.lu_covered.specs.TargetParts.{without_request, cookie_after}
 use Rattle.lu_covered.specs.TargetStates.{none, server_of, slot_of, lives_of, evicted_of, shown_of, closed_of, up_of, replays_of, brought_of, words_of, wishes_of, window_of, next_number}
 use Rattle.lu_covered.specs.TargetCloses.{disk_of, outcome_of, closing_of}
-use Rattle.lu_covered.specs.Deeds.{asked, deed, locks_of, written_by, again}
+use Rattle.lu_covered.specs.Deeds.{asked, deed, sized, locks_of, written_by, again}
 use Rattle.lu_covered.specs.ClientStates.{queue_of, flights_of, last_of, known_of, life_of, standing_of, kept_of}
 use Rattle.lu_covered.specs.Heads.{Head}
 use Rattle.lu_guards.proofs.Guards.{In, Was, HeardNow, TookNow, Took, Dropped, request, name_of, Did, InTurn, IsCommit, IsTick, IsTake, BackNow, IsTurnOf}
@@ -62,14 +64,15 @@ IsRecovering osts past = (closed_of past == (server_of osts past).boot) ≡ fals
 abbrev pub Due : Head → List Line → At → Entry → Type 0
 Due head past at e = (more : List Entry) × (closing_of head.clients past ≡ e ∷ more) × IsTurnOf past at
 
--- where the target serves the client's life
-pub record FliesOk (head : Head) (past : List Line) (c : ℕ) (f : Flight) : Type 0 where
+-- where the target serves the client's life; at an object storage target no other request on its object is in flight
+pub record FliesOk (head : Head) (past : List Line) (c t : ℕ) (f : Flight) : Type 0 where
   pub serves : standing_of c past ≡ Serving
   pub front : Queued
   pub more : List Queued
   pub queue : queue_of (life_of c past) past ≡ front ∷ more
   pub is : f ≡ next_flight (last_of (life_of c past) past) (flights_of (life_of c past) past) front
   pub room : length (flights_of (life_of c past) past) < head.flight
+  pub object : front_waits t front.op (flights_of (life_of c past) past) ≡ false
 
 pub record AskOk (past : List Line) (c : ℕ) (r : RequestOf) : Type 0 where
   pub serves : standing_of c past ≡ Serving
@@ -281,6 +284,19 @@ pub record ActOk (osts : ℕ) (past : List Line) (at : At) (d : Deed) : Type 0 w
   pub still : changes osts (server_of osts past).tree (asked request none) ≡ false
   pub is : d ≡ deed osts (server_of osts past) at request none (locks_of osts (server_of osts past) request)
 
+-- a glimpse is told the size of an object that nothing was written to
+pub record SizedOk (osts : ℕ) (past : List Line) (at : At) (d : Deed) : Type 0 where
+  pub serves : IsServing osts past
+  pub request : RequestOf
+  pub waits : In request (server_of osts past).waiting
+  pub resource : Resource
+  pub of_op : request.op ≡ op.Size resource
+  pub is : d ≡ sized (server_of osts past) at request 0
+
+-- the metadata target executes operations on names, an object storage target answers glimpses
+abbrev pub ActsOk : ℕ → List Line → At → ℕ → Deed → Type 0
+ActsOk osts past at t d = ((t ≡ 0) × ActOk osts past at d) ⊎ ((0 < t) × SizedOk osts past at d)
+
 -- no granted lock guards what it writes
 pub record TxnOk (osts : ℕ) (past : List Line) (at : At) (d : Deed) : Type 0 where
   pub serves : IsServing osts past
@@ -481,7 +497,8 @@ EntryOf head past at node Tick = Unit {0}
 EntryOf head past at (Client c) (Begin slot running) = Unit {0}
 EntryOf head past at (Client c) (Busy slot) = Unit {0}
 EntryOf head past at (Client c) (Queues t q) = Unit {0}
-EntryOf head past at (Client c) (Flies t f) = FliesOk head past c f
+EntryOf head past at (Client c) (Stands slot running) = Unit {0}
+EntryOf head past at (Client c) (Flies t f) = FliesOk head past c t f
 EntryOf head past at (Client c) (Heard t f r) = HeardOk past c f r
 EntryOf head past at (Client c) (Hold t lock marked size seen) = (marked ≡ false) × HeldOk past c lock seen
 EntryOf head past at (Client c) (Learns t op answer locks) = KnowsOk past op answer locks
@@ -499,7 +516,7 @@ EntryOf head past at (Client c) (Serves t boot) = ServesOk past c t boot
 EntryOf head past at (Client c) (Settles t to) = SettlesOk past c t to
 EntryOf head past at (Client c) Die = Unit {0}
 EntryOf head past at (Target t) (Enters r) = EntersOk head.osts head.clients past t r
-EntryOf head past at (Target t) (Act d) = ActOk head.osts past at d
+EntryOf head past at (Target t) (Act d) = ActsOk head.osts past at t d
 EntryOf head past at (Target t) (Txn d) = TxnOk head.osts past at d
 EntryOf head past at (Target t) (Grant lock (Some d)) = GrantOk head.osts past lock d
 EntryOf head past at (Target t) (Block called) = BlockOk head.osts past called

@@ -1,5 +1,5 @@
 -- The pass of the metadata target over the requests that wait makes lines that the guards allow: executions with the locks that they
--- grant, each answered, and the calling back of locks.
+-- grant, each answered (`answer_good` says so of any target), and the calling back of locks.
 use Rattle.std.proofs.Common.{◌≡◌, ℕ, zero, suc, ◌+◌, ◌*◌, ◌<◌, ◌≤◌, Bool, true, false, List, [], ◌∷◌, ◌++◌, Some, ◌⊎◌, inl, inr, refl, sym, subst, ap, ◌∙◌, arith}
 use Rattle.std.specs.Prelude.{◌||◌, not, if◌then◌else◌, length}
 use Rattle.std.specs.List.{list_any}
@@ -92,12 +92,32 @@ ready_free v stood r ready moves = by (is_read r.op) (does_change v r) refl refl
 
 -- ---- the newest line isn't a message that was taken
 
-abbrev NotTaken : List Line → Type 0
+abbrev pub NotTaken : List Line → Type 0
 NotTaken [] = Unit {0}
 NotTaken (l ∷ past) = elim l.entry [ Take n from m ↦ ⊥ | _ ↦ Unit {0} ]
 
 not_taken : (past : List Line) → NotTaken past → Taken past → ⊥
 not_taken past n t = subst NotTaken t.newest n
+
+-- ---- what was done is answered, at any target
+
+pub slot_answered : (d : Deed) (slot : Slot) → (if is_slot d.reply.who d.tag d.reply.who d.tag then answered d slot else slot).reply ≡ Some d.reply
+slot_answered d slot = ap (λ (x : Slot). x.reply) (cond-true (is_slot d.reply.who d.tag d.reply.who d.tag) (answered d slot) slot (is_slot_self d.reply.who d.tag))
+
+pub answer_good : (head : Head) (stamp : Stamp) (t : ℕ) (past story : List Line) (d : Deed) → story ≡ only t past → IsServing head.osts story → Owes past (turn stamp (node.Target t)) (replies d) → Did past d → Did story d → NotTaken past → AllShown past
+    → (slot_of d.reply.who d.tag story).reply ≡ Some d.reply → d.reply ≡ again (server_of head.osts story) d.reply → GoodAt head stamp t past story (replies d ∷ [])
+answer_good head stamp t past story d of_target serves owes did own new shown slot is = (
+  (
+    owes,
+    (
+      record { who = d.reply.who; tag = d.tag; kept = d.reply; slot = subst (λ (p : List Line). (slot_of d.reply.who d.tag p).reply ≡ Some d.reply) of_target slot; is = refl; now = inl (d, did, refl) },
+      (λ taken. absurd (not_taken past new taken)),
+      shown,
+    ),
+    record { serves = serves; who = d.reply.who; tag = d.tag; kept = d.reply; slot = slot; is = is; to = refl; cause = inl (d, own, refl) },
+  ),
+  tt,
+)
 
 -- ---- lines of a turn of the metadata target, each allowed; at their end nothing is owed
 
@@ -118,22 +138,7 @@ module _ (head : Head) (stamp : Stamp) where
 
   reply_good : (past : List Line) (d : Deed) → IsServing head.osts (only 0 past) → Owes past here (replies d) → Did past d → Did (only 0 past) d → NotTaken past → AllShown past → (slot_of d.reply.who d.tag (only 0 past)).reply ≡ Some d.reply → d.reply ≡ again (server past) d.reply
       → Good past (replies d ∷ [])
-  reply_good past d serves owes did own new shown slot is = (
-    (
-      owes,
-      (
-        refl,
-        record { who = d.reply.who; tag = d.tag; kept = d.reply; slot = slot; is = refl; now = inl (d, did, refl) },
-        (λ taken. absurd (not_taken past new taken)),
-        shown,
-      ),
-      record { serves = serves; who = d.reply.who; tag = d.tag; kept = d.reply; slot = slot; is = is; to = refl; cause = inl (d, own, refl) },
-    ),
-    tt,
-  )
-
-  slot_answered : (d : Deed) (slot : Slot) → (if is_slot d.reply.who d.tag d.reply.who d.tag then answered d slot else slot).reply ≡ Some d.reply
-  slot_answered d slot = ap (λ (x : Slot). x.reply) (cond-true (is_slot d.reply.who d.tag d.reply.who d.tag) (answered d slot) slot (is_slot_self d.reply.who d.tag))
+  reply_good past d serves owes did own new shown slot is = answer_good head stamp 0 past (only 0 past) d refl serves owes did own new shown slot is
 
   transacts_good : (past : List Line) (r : RequestOf) → IsServing head.osts (only 0 past) → Settled past → In r (server past).waiting → changes head.osts (server past).tree (asked r none) ≡ true
       → is_free (in_way (server past).granted (written_by head.osts (server past) r)) ≡ true → (server past).count < 4294967295
@@ -206,7 +211,7 @@ module _ (head : Head) (stamp : Stamp) where
   acts_good : (past : List Line) (r : RequestOf) → IsServing head.osts (only 0 past) → Settled past → In r (server past).waiting → changes head.osts (server past).tree (asked r none) ≡ false → greatest_cookie (server past).cookie (locks_of head.osts (server past) r) ≤ (server past).boot * 4294967296 + 4294967295
       → Good past (row_acts (deed head.osts (server past) here r none (locks_of head.osts (server past) r)))
   acts_good past r serves settled waits still room = (
-    (owes_nothing past here (Act d) settled, refl, record { serves = serves; room = room; request = r; waits = waits; still = still; is = refl }),
+    (owes_nothing past here (Act d) settled, tt, inl (refl, record { serves = serves; room = room; request = r; waits = waits; still = still; is = refl })),
     grants_good d d.reply.locks done (replies d ∷ []) refl (λ l. refl) grant_ok (
         reply_good (with_turn here (grant_lines d d.reply.locks) done) d (shown_serves d d.reply.locks done serves)
         (shown_owes d (replies d) d.reply.locks done (refl, refl))

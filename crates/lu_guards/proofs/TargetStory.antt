@@ -15,19 +15,18 @@ use Rattle.lu_base.specs.declared.locks.Lock.{Lock}
 use Rattle.lu_msg.specs.declared.commits.Batch.{Batch}
 use Rattle.lu_msg.specs.declared.messages.Request.{Request as RequestOf}
 use Rattle.lu_part.specs.declared.parts.Want.{Want}
-use Rattle.lu_machine.specs.Footprint.{grants}
 use Rattle.lu_words.specs.Carried.{Deed, Called, Disk}
 use Rattle.lu_words.specs.Words.{Entry, Act, Txn, Block, Release, Commit, Boot, Close, Enters, Evict, Joined, Line, line, same_life}
 use Rattle.lu_target_rows.specs.Leaving.{is_over, last_of, life_of as life_in}
 use Rattle.lu_target_rows.specs.Lives.{is_life, with_life, without_lives}
 use Rattle.lu_target_rows.specs.Locks.{with_lock, with_locks}
 use Rattle.lu_target_rows.specs.Names.{locks_from}
-use Rattle.lu_covered.specs.Deeds.{asked}
 use Rattle.lu_covered.specs.Heads.{Head}
 use Rattle.lu_covered.specs.TargetParts.{is_request_of, lives_after, evicted_after}
-use Rattle.lu_covered.specs.TargetStates.{Server, none, next_number, server_of, server_after, lives_of, evicted_of}
+use Rattle.lu_covered.specs.TargetStates.{Server, next_number, server_of, server_after, lives_of, evicted_of}
 use Rattle.lu_guards.proofs.Guards.{In}
 use Rattle.lu_guards.proofs.StoryGuards.{EntryOf, CommitOk}
+use Rattle.lu_guards.proofs.Acts.{acted}
 use Rattle.lu_guards.proofs.Lists.{turn, in_append, in_filter, life_is, same_who}
 use Rattle.lu_guards.proofs.Turns.{IsNoClose}
 use Rattle.lu_guards.proofs.LifeLists.{InOrder, order_filter, order_put, order_first, stands_life, life_put_more, life_put_or, life_stays, life_left, gone_not, from_first, none_is}
@@ -459,8 +458,8 @@ story_line head t past stamp (Close o) still ok h = absurd still
 story_line head t past stamp (Boot boot disk) still ok h = story_boot head t past stamp h boot disk ok.next
 story_line head t past stamp (Enters r) still ok h = story_enters head t past stamp h r ok.has
 story_line head t past stamp (Act d) still ok h =
-    let s : Server = server_of head.osts past in
-    story_act head t past stamp h d ok.request s.cookie (grants head.osts s.tree (asked ok.request none)) ok.waits (ap (λ (x : Deed). x.reply.locks) ok.is)
+    let a = acted head.osts past (turn stamp (node.Target t)) t d ok in
+    story_act head t past stamp h d a.request (server_of head.osts past).cookie a.wants a.waits a.locks
 story_line head t past stamp (Txn d) still ok h = story_txn head t past stamp h d ok.numbers (ap (λ (x : Deed). x.reply.txn) ok.is)
 story_line head t past stamp (Block called) still ok h = story_block head t past stamp h called ok.lock ok.granted ok.of_life
 story_line head t past stamp (Release lock) still ok h = story_release head t past stamp h lock

@@ -1,9 +1,10 @@
 -- Each turn of a target makes lines that the guards allow, where no call to its disk fails, and after it the target is what its story says: it
 -- serves, or it crashed (`Matches`). While it serves, at the metadata target a request, a cancel or a join comes, time goes on, the log is committed; at
--- another target only joins come, it ticks, and is given commands; what is told in a recovery does nothing.
-use Rattle.std.proofs.Common.{◌≡◌, ℕ, zero, suc, ◌+◌, ◌*◌, ◌<◌, Bool, true, false, List, [], ◌∷◌, Option, Some, None, inl, inr, refl, sym, subst, ap, ◌∙◌, arith}
+-- another target glimpses and joins come, it ticks, and is given commands; what is told in a recovery does nothing.
+use Rattle.std.proofs.Common.{◌≡◌, ℕ, zero, suc, ◌+◌, ◌*◌, ◌<◌, ◌≤◌, Bool, true, false, List, [], ◌∷◌, Option, Some, None, inl, inr, refl, sym, subst, ap, ◌∙◌, arith}
 use Rattle.std.specs.Prelude.{nat_eq, nat_lt, ◌||◌, ◌&&◌, if◌then◌else◌, take}
-use Rattle.std.proofs.lemmas.Bool.{cond_both, cond-true, and_parts, or_parts, eqb-true, eqb-false, eq-eqb, ltb-true, ltb-false}
+use Rattle.std.proofs.lemmas.Bool.{cond_both, cond-true, cond-false, and_parts, or_parts, eqb-true, eqb-false, eq-eqb, ltb-true, ltb-false}
+use Rattle.std.proofs.lemmas.Bool.Decides.{nat_tests}
 use Rattle.lu_base.specs.declared.ids.At.{At}
 use Rattle.lu_base.specs.declared.ids.Cookie.{Cookie}
 use Rattle.lu_base.specs.declared.ids.Node.{Node}
@@ -11,11 +12,14 @@ use Rattle.lu_base.specs.declared.ids.Node.TheVariants as node
 use Rattle.lu_base.specs.declared.ids.Stamp.{Stamp}
 use Rattle.lu_base.specs.declared.ids.Who.{Who}
 use Rattle.lu_base.specs.declared.locks.Lock.{Lock}
+use Rattle.lu_base.specs.declared.locks.Resource.{Resource}
 use Rattle.lu_msg.specs.declared.messages.Message.{Message}
 use Rattle.lu_msg.specs.declared.messages.Message.TheVariants as message
 use Rattle.lu_msg.specs.declared.messages.Reply.{Reply as ReplyTo}
 use Rattle.lu_msg.specs.declared.messages.Request.{Request as RequestOf}
-use Rattle.lu_words.specs.Carried.{Deed, Slot, Glimpse}
+use Rattle.lu_msg.specs.declared.operations.Op.{Op}
+use Rattle.lu_msg.specs.declared.operations.Op.TheVariants as op
+use Rattle.lu_words.specs.Carried.{Deed, Slot, Glimpse, Outcome}
 use Rattle.lu_words.specs.Words.{Entry, Send, Take, Tick, Skip, Crash, Act, Txn, Block, Commit, Boot, Close, Enters, Release, Evict, Line, line, with_turn, turn_before, same_life}
 use Rattle.lu_words.specs.Concerns.{concerns, only, about}
 use Rattle.lu_words.specs.Sent.{Sent}
@@ -23,37 +27,41 @@ use Rattle.lu_target_rows.specs.Disks.{over_disk}
 use Rattle.lu_target_rows.specs.Glimpses.{glimpses_of, glimpses_end}
 use Rattle.lu_target_rows.specs.Leaving.{commits, ready, row_tick, ticked}
 use Rattle.lu_target_rows.specs.Lives.{is_life, slot_in}
+use Rattle.lu_target_rows.specs.Locks.{with_locks}
 use Rattle.lu_target_rows.specs.Names.{names_go}
 use Rattle.lu_target_rows.specs.Objects.{lock_of, objects_go}
 use Rattle.lu_target_rows.specs.Queues.{queue_goes}
 use Rattle.lu_target_rows.specs.Recovery.{row_replay, row_lock, row_word, row_close}
 use Rattle.lu_target_rows.specs.Replies as kept
 use Rattle.lu_target_rows.specs.Replies.{row_kept}
-use Rattle.lu_target_rows.specs.Requests.{by_number, goes_on, releases, row_cancels, row_cancel, row_request}
+use Rattle.lu_target_rows.specs.Requests.{goes, row_enters, by_number, goes_on, releases, row_cancels, row_cancel, row_request}
 use Rattle.lu_target_rows.specs.Rows as target
-use Rattle.lu_target_rows.specs.Rows.{heeds, while_serving, row_heeds, first_deeds, row_commits, row_commit, row_closes, when_up}
+use Rattle.lu_target_rows.specs.Rows.{heeds, while_serving, row_heeds, first_deeds, row_commits, row_commit, row_closes}
 use Rattle.lu_target_rows.specs.States.{Target, after, follow, turn as turned}
 use Rattle.lu_table.specs.Heads as table
 use Rattle.lu_table.specs.Runs.{MeetsTarget, HasNumbers, target_of, setting_of}
 use Rattle.lu_covered.specs.Covered.{AllCovered}
 use Rattle.lu_covered.specs.Heads.{Head}
 use Rattle.lu_covered.specs.TargetStates.{Server, boot_at, server_of, server_after, slot_of, lives_of}
-use Rattle.lu_guards.proofs.Guards.{In, InTurn, IsTake, Later, Was, EntryOk}
-use Rattle.lu_guards.proofs.StoryGuards.{Spoke, AsksAgain, EntersOk, ReplyOk, EntryOf}
-use Rattle.lu_words.specs.Carried.{Outcome}
+use Rattle.lu_guards.proofs.Guards.{In, InTurn, IsTake, Later, Was, RepliesNow, RepliesAgain, EntryOk}
+use Rattle.lu_guards.proofs.StoryGuards.{Spoke, AsksAgain, EntersOk, ReplyOk, ActsOk, EntryOf}
+use Rattle.lu_guards.proofs.Acts.{acts_sized, sized_bare}
 use Rattle.lu_covered.specs.TargetCloses.{outcome_of}
 use Rattle.lu_guards.proofs.Held.{none_restored}
 use Rattle.lu_guards.proofs.Grown.{Noted, Grown}
-use Rattle.lu_guards.proofs.Lists.{turn, turn_irreflexive, self, life_is}
+use Rattle.lu_guards.proofs.Lists.{turn, turn_irreflexive, self, in_right, life_is}
 use Rattle.lu_guards.proofs.Only.{turn_only, about_other, asked_target, grown_of}
 use Rattle.lu_guards.proofs.Parts.{boot_is}
 use Rattle.lu_guards.proofs.Covers.{EntriesCovered, covered_turn, over_none}
 use Rattle.lu_guards.proofs.TargetAlike.{Alike, Serving, serving_is, serving_line, serving_start, serving_client, window_commit, window_closed}
-use Rattle.lu_guards.proofs.TargetGood.{Reaches, good_row, story_turn, serves_backs, serves_marks, serves_shows}
+use Rattle.lu_guards.proofs.TargetGood.{LineAt, Reaches, good_row, story_turn, serves_backs, serves_marks, serves_shows}
 use Rattle.lu_guards.proofs.TargetJoins.{over_lead, ready_lead, up_lead, join_lead}
 use Rattle.lu_guards.proofs.TargetLeaving.{commit_ok}
 use Rattle.lu_guards.proofs.TargetPass.{ServesAt, High, names_good}
-use Rattle.lu_guards.proofs.Comings.{IsAsked}
+use Rattle.lu_guards.proofs.ClientLines.{IsSize}
+use Rattle.lu_guards.proofs.Comings.{asked_size, IsAsked, asks_of}
+use Rattle.lu_guards.proofs.TargetObjects.{objects_none}
+use Rattle.lu_guards.proofs.TargetSizes.{size_lead}
 use Rattle.lu_guards.proofs.TargetCrashed.{Crashed, Matches, Leads as LeadsTo, crashed_first, crashed_client}
 use Rattle.lu_guards.proofs.TargetRecovers.{crash_lead, recovers_lead, comes_lead as recovered}
 use Rattle.lu_guards.proofs.TargetStory.{IsFirst, story_apart, first_in, first_all}
@@ -61,40 +69,13 @@ use Rattle.lu_guards.proofs.TargetTicks.{later_back, tick_lead}
 use Rattle.lu_guards.proofs.Turns.{covered_head, Settled, owes_nothing, AllBacks, AllMarks, AllShows, RowOk}
 use Rattle.lu_after.proofs.Targets.{target_own, target_other}
 
--- ---- what is sent to a target is asked by a client
+-- ---- what is told in a recovery
 
--- told in a recovery
 abbrev IsTold : Message → Type 0
 IsTold (message.Replay r) = Unit {0}
 IsTold (message.Lock r) = Unit {0}
 IsTold (message.Word who boot replays locks seen) = Unit {0}
 IsTold _ = ⊥
-
-record Asks (from : Node) (t : ℕ) (m : Message) : Type 0 where
-  client : ℕ
-  is : from ≡ node.Client client
-  asked : IsAsked t m
-
-sends_so : (past : List Line) (at : At) (from : Node) (t : ℕ) (m : Message) → EntryOk past at from (Send (node.Target t) m) → Asks from t m
-sends_so past at (node.Client c) t (message.Request r) ok = record { client = c; is = refl; asked = ok }
-sends_so past at (node.Client c) t (message.Cancel who boot cookie) ok = record { client = c; is = refl; asked = ok }
-sends_so past at (node.Client c) t (message.Join who boot) ok = record { client = c; is = refl; asked = tt }
-sends_so past at (node.Client c) t (message.Replay r) ok = record { client = c; is = refl; asked = tt }
-sends_so past at (node.Client c) t (message.Lock r) ok = record { client = c; is = refl; asked = tt }
-sends_so past at (node.Client c) t (message.Word who boot replays locks seen) ok = record { client = c; is = refl; asked = tt }
-sends_so past at from t m ok = absurd ok
-
-asks_of : (head : Head) (past : List Line) (n : ℕ) (from : Node) (t : ℕ) (m : Message) → Grown head past → Sent past n from (node.Target t) m → Asks from t m
-asks_of head [] n from t m g s = absurd s
-asks_of head (l ∷ past) n from t m g s = by l.entry s g.0.ok (λ r. asks_of head past n from t m g.1 r)
-  where
-    by : (e : Entry) → Sent (line l.at e ∷ past) n from (node.Target t) m → EntryOk past l.at l.at.node e → (Sent past n from (node.Target t) m → Asks from t m) → Asks from t m
-    by (Send to k) (inl r) ok f =
-        sends_so past l.at from t m
-        (subst (λ (x : Message). EntryOk past l.at from (Send (node.Target t) x)) r.3
-        (subst (λ (x : Node). EntryOk past l.at from (Send x k)) r.2 (subst (λ (x : Node). EntryOk past l.at x (Send to k)) r.1 ok)))
-    by (Send to k) (inr r) ok f = f r
-    by e r ok f = f r
 
 -- ---- numbers
 
@@ -166,6 +147,107 @@ module _ (head : Head) (stamp : Stamp) (t : ℕ) (past story : List Line) (v : T
       (λ e has. as_served (ready v who ∷ []) rest (λ high. ready_lead head stamp t past story v who settled h has))
   told_lead c m told was = absurd told
 
+-- ---- a request comes, to a target that serves
+
+module _ (head : Head) (stamp : Stamp) (t : ℕ) (past story : List Line) (of_target : story ≡ only t past) (v : Target) (h : Serving head t v story) (n c : ℕ) (r : RequestOf) (was : Was story (node.Client c) (node.Target t) (message.Request r)) where
+  abbrev there : At
+  there = turn stamp (node.Target t)
+
+  abbrev takes : Entry
+  takes = Take n (node.Client c) (message.Request r)
+
+  abbrev past1 : List Line
+  past1 = line there takes ∷ past
+
+  abbrev story1 : List Line
+  story1 = line there takes ∷ story
+
+  abbrev slot : Slot
+  slot = slot_in v.slots r.who r.tag
+
+  of_target1 : story1 ≡ only t past1
+  of_target1 = story_turn head stamp t (takes ∷ []) past story of_target
+
+  served : Serving head t v story1
+  served = serving_line head t story stamp takes v tt tt h
+
+  abbrev Follows : List Entry → Type 0
+  Follows es = High v es → Reaches head stamp t past1 story1 v es (Serving head t)
+
+  -- a life with a slot wasn't evicted, so its slots are alike
+  slot_same : is_life r.who (lives_of head.clients story) ≡ true → slot ≡ slot_of r.who r.tag story
+  slot_same has = h.slots r.who r.tag (ap (is_life r.who) h.removed ∙ story_apart head story h.story r.who has)
+
+  current : nat_lt r.boot v.boot ≡ false → (server_of head.osts story).boot ≤ r.boot
+  current older = let less = ltb-false r.boot v.boot older in let boot = h.alike.boot in omega (arith, less, boot)
+
+  -- one of a new number enters
+  enters_good : nat_lt r.boot v.boot ≡ false → is_life r.who (lives_of head.clients story) ≡ true → nat_lt slot.taken r.xid.0 ≡ true → LineAt head stamp t past1 story1 (Enters r) × Serving head t (after v (Enters r)) (line there (Enters r) ∷ story1)
+  enters_good older has above = ((tt, (node.Client c, (refl, refl, refl)), ok), serving_line head t story1 stamp (Enters r) v tt ok served)
+    where
+      ok : EntersOk head.osts head.clients story1 t r
+      ok =
+          record {
+            serves = serving_is head t v story h;
+            has = has;
+            from = c;
+            was = was;
+            current = current older;
+            newer = subst (λ (s : Slot). s.taken < r.xid.0) (slot_same has) (ltb-true slot.taken r.xid.0 above);
+          }
+
+  -- one of the newest number is answered again
+  kept_lead : (o : Option ReplyTo) → is_life r.who (lives_of head.clients story) ≡ true → nat_eq slot.taken r.xid.0 ≡ true → nat_lt r.boot v.boot ≡ false → slot.reply ≡ o → Reaches head stamp t past1 story1 v (row_kept v o) (Serving head t)
+  kept_lead None has same older is = (tt, served)
+  kept_lead (Some k) has same older is = (((tt, (replies, (λ x. again), (λ d did lock i. absurd did)), ok), tt), serving_line head t story1 stamp (Send (node.Client k.who.client) (message.Reply answer)) v tt ok served)
+    where
+      answer : ReplyTo
+      answer = kept.again v k
+
+      replied : (slot_of r.who r.tag story).reply ≡ Some k
+      replied = ap (λ (s : Slot). s.reply) (sym (slot_same has)) ∙ is
+
+      newest : (slot_of r.who r.tag story).taken ≡ r.xid.0
+      newest = ap (λ (s : Slot). s.taken) (sym (slot_same has)) ∙ eqb-true slot.taken r.xid.0 same
+
+      -- in the whole past too
+      replied1 : (slot_of r.who r.tag (only t past1)).reply ≡ Some k
+      replied1 = subst (λ (p : List Line). (slot_of r.who r.tag p).reply ≡ Some k) of_target1 replied
+
+      newest1 : (slot_of r.who r.tag (only t past1)).taken ≡ r.xid.0
+      newest1 = subst (λ (p : List Line). (slot_of r.who r.tag p).taken ≡ r.xid.0) of_target1 newest
+
+      replies : RepliesNow past1 t answer
+      replies =
+          record {
+            who = r.who;
+            tag = r.tag;
+            kept = k;
+            slot = replied1;
+            is = refl;
+            now = inr (record { at = there; number = n; from = node.Client c; message = message.Request r; before = past; newest = refl });
+          }
+
+      again : RepliesAgain past1 there t answer
+      again = record { request = r; took = (node.Client c, (refl, refl, refl)); kept = k; slot = replied1; is = refl; same = newest1 }
+
+      asks : AsksAgain head story1 t r.who r.tag
+      asks = record { request = r; from = c; was = was; of_life = refl; of_tag = refl; same = newest; current = current older; has = has }
+
+      ok : ReplyOk head story1 t k.who.client answer
+      ok = record { serves = serving_is head t v story h; who = r.who; tag = r.tag; kept = k; slot = replied; is = rw (h.alike.boot, h.alike.committed) refl; to = refl; cause = inr asks }
+
+  -- by its number, where what comes of a new one is given
+  request_lead : (nat_lt r.boot v.boot ≡ false → is_life r.who (lives_of head.clients story) ≡ true → nat_lt slot.taken r.xid.0 ≡ true → Follows (row_enters v there r)) → Follows (row_heeds v there (message.Request r))
+  request_lead enters =
+      heeds_lead head stamp t past1 story1 v tt served r.who r.boot (while_serving v (row_request v there r)) (c, message.Request r, was, refl)
+      (λ older has. as_served head stamp t past1 story1 v tt served (row_request v there r) [] (by older has (nat_lt slot.taken r.xid.0) (nat_eq slot.taken r.xid.0) refl refl))
+    where
+      by : nat_lt r.boot v.boot ≡ false → is_life r.who (lives_of head.clients story) ≡ true → (above same : Bool) → nat_lt slot.taken r.xid.0 ≡ above → nat_eq slot.taken r.xid.0 ≡ same → Follows (by_number v there r slot.reply above same)
+      by older has true same e f = enters older has e
+      by older has false true e f = λ high. kept_lead slot.reply has f older refl
+      by older has false false e f = λ high. (tt, served)
+
 -- ---- what is committed are the first deeds of the log
 
 is_take : (n : ℕ) (log : List Deed) → IsFirst (take n log) log
@@ -193,89 +275,29 @@ module _ (head : Head) (stamp : Stamp) where
   along : (v : Target) (past : List Line) (es fs : List Entry) → es ≡ fs → Heeds v past fs → Heeds v past es
   along v past es fs e h = subst (λ (xs : List Entry). Heeds v past xs) (sym e) h
 
-  -- a life with a slot wasn't evicted, so its slots are alike
-  slot_same : (v : Target) (past : List Line) (who : Who) (tag : ℕ) → ServesAt head stamp v past → is_life who (lives_of head.clients (only 0 past)) ≡ true → slot_in v.slots who tag ≡ slot_of who tag (only 0 past)
-  slot_same v past who tag h has = h.slots who tag (ap (is_life who) h.removed ∙ story_apart head (only 0 past) h.story who has)
-
   taken : (v : Target) (past : List Line) (n : ℕ) (from : Node) (m : Message) → ServesAt head stamp v past → ServesAt head stamp v (line at (Take n from m) ∷ past)
   taken v past n from m h = serving_line head 0 (only 0 past) stamp (Take n from m) v tt tt h
 
   -- ---- a request
 
-  enters_lead : (v : Target) (past : List Line) (n c : ℕ) (r : RequestOf) → ServesAt head stamp v past → Was (only 0 past) (node.Client c) (node.Target 0) (message.Request r) → is_life r.who (lives_of head.clients (only 0 past)) ≡ true
-      → nat_lt r.boot v.boot ≡ false → nat_lt (slot_in v.slots r.who r.tag).taken r.xid.0 ≡ true → Heeds v (line at (Take n (node.Client c) (message.Request r)) ∷ past) (Enters r ∷ names_go at (after v (Enters r)))
-  enters_lead v past n c r h was has older above high =
-      let past1 = line at (Take n (node.Client c) (message.Request r)) ∷ past in
-      let ok : EntersOk head.osts head.clients (only 0 past1) 0 r =
-      record {
-        serves = serving_is head 0 v (only 0 past) h;
-        has = has;
-        from = c;
-        was = was;
-        current = let less = ltb-false r.boot v.boot older in let boot = h.alike.boot in omega (arith, less, boot);
-        newer = subst (λ (s : Slot). s.taken < r.xid.0) (slot_same v past r.who r.tag h has) (ltb-true (slot_in v.slots r.who r.tag).taken r.xid.0 above);
-      } in
-      let names = names_good head stamp (line at (Enters r) ∷ past1) (line at (Enters r) ∷ only 0 past1) (after v (Enters r)) refl tt (serving_line head 0 (only 0 past1) stamp (Enters r) v tt ok (taken v past n (node.Client c) (message.Request r) h)) high in
-      (((tt, (refl, (node.Client c, (refl, refl, refl))), ok), names.0), names.1)
-
-  kept_lead : (v : Target) (past : List Line) (n c : ℕ) (r : RequestOf) (kept : Option ReplyTo) → ServesAt head stamp v past → is_life r.who (lives_of head.clients (only 0 past)) ≡ true → nat_eq (slot_in v.slots r.who r.tag).taken r.xid.0 ≡ true
-      → Was (only 0 past) (node.Client c) (node.Target 0) (message.Request r) → nat_lt r.boot v.boot ≡ false → (slot_in v.slots r.who r.tag).reply ≡ kept → Leads (line at (Take n (node.Client c) (message.Request r)) ∷ past) v (row_kept v kept)
-  kept_lead v past n c r None h has same was older is = (tt, taken v past n (node.Client c) (message.Request r) h)
-  kept_lead v past n c r (Some k) h has same was older is =
-      let past1 = line at (Take n (node.Client c) (message.Request r)) ∷ past in
-      let alike = slot_same v past r.who r.tag h has in
-      let slot : (slot_of r.who r.tag (only 0 past)).reply ≡ Some k = ap (λ (s : Slot). s.reply) (sym alike) ∙ is in
-      let newest : (slot_of r.who r.tag (only 0 past)).taken ≡ r.xid.0 = ap (λ (s : Slot). s.taken) (sym alike) ∙ eqb-true (slot_in v.slots r.who r.tag).taken r.xid.0 same in
-      let answer = kept.again v k in
-      let less = ltb-false r.boot v.boot older in
-      let boot = h.alike.boot in
-      let asks : AsksAgain head (only 0 past1) 0 r.who r.tag = record { request = r; from = c; was = was; of_life = refl; of_tag = refl; same = newest; current = omega (arith, less, boot); has = has } in
-      let ok : ReplyOk head (only 0 past1) 0 k.who.client answer = record { serves = serving_is head 0 v (only 0 past) h; who = r.who; tag = r.tag; kept = k; slot = slot; is = rw (h.alike.boot, h.alike.committed) refl; to = refl; cause = inr asks } in (
-        (
-          (
-            tt,
-            (
-              refl,
-              record {
-                who = r.who;
-                tag = r.tag;
-                kept = k;
-                slot = slot;
-                is = refl;
-                now = inr (record { at = at; number = n; from = node.Client c; message = message.Request r; before = past; newest = refl });
-              },
-              (λ t. record { request = r; took = (node.Client c, (refl, refl, refl)); kept = k; slot = slot; is = refl; same = newest }),
-              (λ d did lock i. absurd did),
-            ),
-            ok,
-          ),
-          tt,
-        ),
-        serving_line head 0 (only 0 past1) stamp (Send (node.Client k.who.client) (message.Reply answer)) v tt ok (taken v past n (node.Client c) (message.Request r) h),
-      )
-
-  request_lead : (v : Target) (past : List Line) (n c : ℕ) (r : RequestOf) → ServesAt head stamp v past → Was (only 0 past) (node.Client c) (node.Target 0) (message.Request r)
+  request_first : (v : Target) (past : List Line) (n c : ℕ) (r : RequestOf) → ServesAt head stamp v past → Was (only 0 past) (node.Client c) (node.Target 0) (message.Request r)
       → Heeds v (line at (Take n (node.Client c) (message.Request r)) ∷ past) (row_heeds v at (message.Request r))
-  request_lead v past n c r h was =
-      heeds_lead head stamp 0 past1 (only 0 past1) v tt served r.who r.boot (while_serving v (row_request v at r)) (c, message.Request r, was, refl)
-      (λ older has. as_served head stamp 0 past1 (only 0 past1) v tt served (row_request v at r) [] (by older has (nat_lt slot.taken r.xid.0) (nat_eq slot.taken r.xid.0) refl refl))
+  request_first v past n c r h was =
+      request_lead head stamp 0 past (only 0 past) refl v h n c r was
+      (λ older has above. along v past1 (row_enters v at r) (Enters r ∷ names_go at w) (ap (λ (es : List Entry). Enters r ∷ es) names)
+      (λ high.
+      let good = enters_good head stamp 0 past (only 0 past) refl v h n c r was older has above in
+      let more = names_good head stamp (line at (Enters r) ∷ past1) (line at (Enters r) ∷ only 0 past1) w refl tt good.1 high in
+      ((good.0, more.0), more.1)))
     where
       past1 : List Line
       past1 = line at (Take n (node.Client c) (message.Request r)) ∷ past
 
-      served : ServesAt head stamp v past1
-      served = taken v past n (node.Client c) (message.Request r) h
+      w : Target
+      w = after v (Enters r)
 
-      slot : Slot
-      slot = slot_in v.slots r.who r.tag
-
-      by : nat_lt r.boot v.boot ≡ false → is_life r.who (lives_of head.clients (only 0 past)) ≡ true → (above same : Bool) → nat_lt slot.taken r.xid.0 ≡ above → nat_eq slot.taken r.xid.0 ≡ same → Heeds v past1 (by_number v at r slot.reply above same)
-      by older has true same e f high =
-          let w = after v (Enters r) in
-          let names : (if nat_eq v.setting.id 0 then names_go at w else objects_go w at r r.op) ≡ names_go at w = cond-true (nat_eq v.setting.id 0) (names_go at w) (objects_go w at r r.op) (rw h.alike.id refl) in
-          subst (λ (es : List Entry). Heeds v past1 (Enters r ∷ es)) (sym names) (enters_lead v past n c r h was has older e) high
-      by older has false true e f high = kept_lead v past n c r slot.reply h has f was older refl
-      by older has false false e f high = (tt, taken v past n (node.Client c) (message.Request r) h)
+      names : (if nat_eq v.setting.id 0 then names_go at w else objects_go w at r r.op) ≡ names_go at w
+      names = cond-true (nat_eq v.setting.id 0) (names_go at w) (objects_go w at r r.op) (rw h.alike.id refl)
 
   -- ---- a cancel
 
@@ -328,7 +350,7 @@ module _ (head : Head) (stamp : Stamp) where
   told_first v past n c m told h was = let past1 = line at (Take n (node.Client c) m) ∷ past in told_lead head stamp 0 past1 (only 0 past1) v tt (taken v past n (node.Client c) m h) c m told was
 
   comes_first : (v : Target) (past : List Line) (n c : ℕ) (m : Message) → IsAsked 0 m → ServesAt head stamp v past → Was (only 0 past) (node.Client c) (node.Target 0) m → Heeds v (line at (Take n (node.Client c) m) ∷ past) (row_heeds v at m)
-  comes_first v past n c (message.Request r) asked h was = request_lead v past n c r h was
+  comes_first v past n c (message.Request r) asked h was = request_first v past n c r h was
   comes_first v past n c (message.Cancel who boot cookie) asked h was = cancel_lead v past n c who boot cookie h was
   comes_first v past n c (message.Join who boot) asked h was =
       let past1 = line at (Take n (node.Client c) (message.Join who boot)) ∷ past in
@@ -349,25 +371,63 @@ module _ (head : Head) (stamp : Stamp) (t : ℕ) where
       → Reaches head stamp t (line here (Take n from m) ∷ past) (line here (Take n from m) ∷ story) v (row_heeds v here m) (Serving head t) → Reaches head stamp t past story v (target.row v here (target.Comes n from m)) (Serving head t)
   comes_lead past story v n from m settled later sent more = (((owes_nothing past here (Take n from m) settled, record { sent = sent; later = later }, tt), more.0), more.1)
 
-  -- at another target joins come, and what is told in a recovery
+  -- at another target glimpses come, joins, and what is told in a recovery
   told_other : (past : List Line) (v : Target) (n c : ℕ) (m : Message) → IsTold m → Serving head t v (only t past) → Was (only t past) (node.Client c) (node.Target t) m
       → High v (row_heeds v here m) → Reaches head stamp t (line here (Take n (node.Client c) m) ∷ past) (line here (Take n (node.Client c) m) ∷ only t past) v (row_heeds v here m) (Serving head t)
   told_other past v n c m told h was high =
       let e : Entry = Take n (node.Client c) m in
       told_lead head stamp t (line here e ∷ past) (line here e ∷ only t past) v tt (serving_line head t (only t past) stamp e v tt tt h) c m told was high
 
-  comes_other : (past : List Line) (v : Target) (n c : ℕ) (m : Message) → (t ≡ 0 → ⊥) → IsAsked t m → Serving head t v (only t past) → ((l : Lock) → In l (server_of head.osts (only t past)).granted → t ≡ 0) → Was (only t past) (node.Client c) (node.Target t) m
+  -- a glimpse is answered at once
+  request_other : (past : List Line) (v : Target) (n c : ℕ) (r : RequestOf) → 0 < t → IsSize r.op → Serving head t v (only t past) → v.contents.objects ≡ [] → (server_of head.osts (only t past)).granted ≡ [] → Was (only t past) (node.Client c) (node.Target t) (message.Request r)
+      → High v (row_heeds v here (message.Request r)) → Reaches head stamp t (line here (Take n (node.Client c) (message.Request r)) ∷ past) (line here (Take n (node.Client c) (message.Request r)) ∷ only t past) v (row_heeds v here (message.Request r)) (Serving head t)
+  request_other past v n c r above size h none free was = request_lead head stamp t past story refl v h n c r was (λ older has newer high. entered older has newer)
+    where
+      story : List Line
+      story = only t past
+
+      w : Target
+      w = after v (Enters r)
+
+      e : Entry
+      e = Take n (node.Client c) (message.Request r)
+
+      past2 : List Line
+      past2 = line here (Enters r) ∷ line here e ∷ past
+
+      story2 : List Line
+      story2 = line here (Enters r) ∷ line here e ∷ story
+
+      asks : (o : Op) → IsSize o → (resource : Resource) × (o ≡ op.Size resource)
+      asks (op.Size resource) is = (resource, refl)
+      asks o is = absurd is
+
+      other : nat_eq v.setting.id 0 ≡ false
+      other = let is = h.alike.id in grind (arith, nat_tests, is, above)
+
+      goes_is : goes here r w ≡ objects_go w here r r.op
+      goes_is = cond-false (nat_eq v.setting.id 0) (names_go here w) (objects_go w here r r.op) other
+
+      entered : nat_lt r.boot v.boot ≡ false → is_life r.who (lives_of head.clients story) ≡ true → nat_lt (slot_in v.slots r.who r.tag).taken r.xid.0 ≡ true → Reaches head stamp t (line here e ∷ past) (line here e ∷ story) v (row_enters v here r) (Serving head t)
+      entered older has newer =
+          let good = enters_good head stamp t past story refl v h n c r was older has newer in
+          let size = asks r.op size in
+          let of_target = story_turn head stamp t (e ∷ Enters r ∷ []) past story refl in
+          let more = size_lead head stamp t past2 story2 w r size.0 above of_target tt good.1 (in_right r (server_of head.osts story).waiting (r ∷ []) (inl refl)) size.1 none free in
+          subst (λ (es : List Entry). Reaches head stamp t (line here e ∷ past) (line here e ∷ story) v (Enters r ∷ es) (Serving head t)) (sym goes_is) ((good.0, more.0), more.1)
+
+  comes_other : (past : List Line) (v : Target) (n c : ℕ) (m : Message) → 0 < t → IsAsked t m → Serving head t v (only t past) → v.contents.objects ≡ [] → (server_of head.osts (only t past)).granted ≡ [] → Was (only t past) (node.Client c) (node.Target t) m
       → High v (row_heeds v here m) → Reaches head stamp t (line here (Take n (node.Client c) m) ∷ past) (line here (Take n (node.Client c) m) ∷ only t past) v (row_heeds v here m) (Serving head t)
-  comes_other past v n c (message.Request r) other asked h names was high = absurd (other asked)
-  comes_other past v n c (message.Cancel who boot cookie) other asked h names was high = absurd (other asked)
-  comes_other past v n c (message.Join who boot) other asked h names was high =
+  comes_other past v n c (message.Request r) above asked h none free was high = request_other past v n c r above (asked_size t r.op above asked) h none free was high
+  comes_other past v n c (message.Cancel who boot cookie) above asked h none free was high = absurd (let zero : t ≡ 0 = asked in omega (arith, zero, above))
+  comes_other past v n c (message.Join who boot) above asked h none free was high =
       let e : Entry = Take n (node.Client c) (message.Join who boot) in
-      join_lead head stamp t (line here e ∷ past) (line here e ∷ only t past) v c boot who (story_turn head stamp t (e ∷ []) past (only t past) refl) tt (serving_line head t (only t past) stamp e v tt tt h) names
+      join_lead head stamp t (line here e ∷ past) (line here e ∷ only t past) v c boot who (story_turn head stamp t (e ∷ []) past (only t past) refl) tt (serving_line head t (only t past) stamp e v tt tt h) (λ l i. absurd (subst (λ (ls : List Lock). In l ls) free i))
       (inl (refl, refl, refl)) was high
-  comes_other past v n c (message.Replay r) other asked h names was high = told_other past v n c (message.Replay r) tt h was high
-  comes_other past v n c (message.Lock r) other asked h names was high = told_other past v n c (message.Lock r) tt h was high
-  comes_other past v n c (message.Word who boot replays locks seen) other asked h names was high = told_other past v n c (message.Word who boot replays locks seen) tt h was high
-  comes_other past v n c m other asked h names was high = absurd asked
+  comes_other past v n c (message.Replay r) above asked h none free was high = told_other past v n c (message.Replay r) tt h was high
+  comes_other past v n c (message.Lock r) above asked h none free was high = told_other past v n c (message.Lock r) tt h was high
+  comes_other past v n c (message.Word who boot replays locks seen) above asked h none free was high = told_other past v n c (message.Word who boot replays locks seen) tt h was high
+  comes_other past v n c m above asked h none free was high = absurd asked
 
   -- ---- commands
 
@@ -388,6 +448,10 @@ module _ (head : Head) (stamp : Stamp) (t : ℕ) where
 
 -- ---- another target grants nothing, calls nothing back, and has nothing to commit, whoever leaves
 
+positive : (t : ℕ) → (t ≡ 0 → ⊥) → 0 < t
+positive zero other = absurd (other refl)
+positive (suc t) other = omega arith
+
 record Idle (s : Server) : Type 0 where
   granted : s.granted ≡ []
   called : s.called ≡ []
@@ -405,15 +469,19 @@ idle head t (l ∷ past) other g = by l.at.node g.0.ok (g.0.of t) (idle head t p
     none zero at ne = absurd (ne refl)
     none (suc v) at ne = none_restored head v past at g.1
 
+    -- a glimpse gets no lock
+    bare : (u : ℕ) (d : Deed) → (u ≡ 0 → ⊥) → ActsOk head.osts P l.at u d → d.reply.locks ≡ []
+    bare u d ne of = sized_bare head.osts P l.at d (acts_sized head.osts P l.at u d (positive u ne) of)
+
     own : (u : ℕ) (e : Entry) → (u ≡ 0 → ⊥) → EntryOk past (turn l.at.stamp (node.Target u)) (node.Target u) e → EntryOf head P l.at (node.Target u) e → Idle (server_of head.osts P) → Idle (server_after head.osts (server_of head.osts P) e)
-    own u (Act d) ne ok of h = absurd (ne ok)
+    own u (Act d) ne ok of h = record { granted = ap (λ (ls : List Lock). with_locks ls (server_of head.osts P).granted) (bare u d ne of) ∙ h.granted; called = h.called; log = h.log }
     own u (Txn d) ne ok of h = absurd (ne ok)
     own u (Block called) ne ok of h = absurd (ne ok)
     own u (Release lock) ne ok of h = absurd (ne ok.0)
     own u (Commit to batch) ne ok of h = record { granted = h.granted; called = h.called; log = rw h.log refl }
     own u (Evict who cause) ne ok of h = record { granted = rw h.granted refl; called = rw h.called refl; log = h.log }
     own u (Boot boot disk) ne ok of h = record { granted = h.granted; called = h.called; log = h.log }
-    own u (Enters r) ne ok of h = absurd (ne ok.0)
+    own u (Enters r) ne ok of h = record { granted = h.granted; called = h.called; log = h.log }
     own u (Close o) ne ok of h = record { granted = ap (λ (x : Outcome). x.locks) of.is ∙ none t l.at other; called = refl; log = refl }
     own u e ne ok of h = h
 
@@ -423,14 +491,6 @@ idle head t (l ∷ past) other g = by l.at.node g.0.ok (g.0.of t) (idle head t p
         cond_both (nat_eq t u) (line (turn l.at.stamp (node.Target u)) l.entry ∷ P) P (λ (p : List Line). Idle (server_of head.osts p))
         (λ e. own u l.entry (λ z. other (eqb-true t u e ∙ z)) ok (of e) h)
         (λ e. h)
-
--- so all locks are of the metadata target
-lock_names : (head : Head) (t : ℕ) (past : List Line) → Grown head past → (l : Lock) → In l (server_of head.osts (only t past)).granted → t ≡ 0
-lock_names head t past g l i = by (nat_eq t 0) refl
-  where
-    by : (b : Bool) → nat_eq t 0 ≡ b → t ≡ 0
-    by true e = eqb-true t 0 e
-    by false e = absurd (subst (λ (ls : List Lock). In l ls) (idle head t past (eqb-false t 0 e) g).granted i)
 
 -- ---- commands that don't fit
 
@@ -490,7 +550,10 @@ module _ (head : table.Head) (past : List Line) (stamp : Stamp) (grown : Grown (
       by : (b : Bool) → nat_eq t 0 ≡ b → (c : ℕ) → IsAsked t m → Was (only t past) (node.Client c) (node.Target t) m
           → Reaches (covered_head head) stamp t (line at (Take n (node.Client c) m) ∷ past) (line at (Take n (node.Client c) m) ∷ only t past) v (row_heeds v at m) (Serving (covered_head head) t)
       by true e c asked was = subst First (sym (eqb-true t 0 e)) first v c asked h was high
-      by false e c asked was = comes_other (covered_head head) stamp t past v n c m (eqb-false t 0 e) asked h (lock_names (covered_head head) t past grown) was high
+      by false e c asked was =
+          let other = eqb-false t 0 e in
+          let above = positive t other in
+          comes_other (covered_head head) stamp t past v n c m above asked h (objects_none (covered_head head) (setting_of head t) head.clients past above grown) (idle (covered_head head) t past other grown).granted was high
 
   ticks_row : (t : ℕ) → Rows t target.Ticks
   ticks_row zero h later meets over =

@@ -8,13 +8,16 @@ use Rattle.lu_base.specs.declared.ids.Node.{Node}
 use Rattle.lu_base.specs.declared.ids.Node.TheVariants.{Client, Target}
 use Rattle.lu_base.specs.declared.ids.Stamp.{Stamp}
 use Rattle.lu_base.specs.declared.ids.Who.{Who}
-use Rattle.lu_words.specs.Words.{Entry, Take, Begin, Unbinds, Pins, Act, Txn, Grant, Close, Back, Stores, Brings, Says, Wishes, Line, line, with_turn, turn_before}
+use Rattle.lu_msg.specs.declared.calls.Call.{Call}
+use Rattle.lu_msg.specs.declared.calls.Call.TheVariants as call
+use Rattle.lu_words.specs.Carried.{Stage, Bad}
+use Rattle.lu_words.specs.Words.{Entry, Take, Begin, Pins, Act, Txn, Grant, Close, Back, Stores, Brings, Says, Wishes, Line, line, with_turn, turn_before}
 use Rattle.lu_words.specs.Concerns.{is_about, concerns, only, about}
 use Rattle.lu_table.specs.Runs.{Turn, lines_of, Follows, IsRun}
 use Rattle.lu_table.specs.Heads as table
 use Rattle.lu_covered.specs.Heads.{Head}
 use Rattle.lu_covered.specs.TargetCloses.{but_first, closing_of}
-use Rattle.lu_guards.proofs.Guards.{Later, Steps, Ending, Closes, EntryOk, Owes, IsMark, BackNow, due, IsTurnOf}
+use Rattle.lu_guards.proofs.Guards.{Later, Steps, Ending, Closes, EntryOk, OwesBegun, Owes, IsMark, BackNow, due, IsTurnOf}
 use Rattle.lu_guards.proofs.StoryGuards.{EntryOf}
 use Rattle.lu_guards.proofs.Grown.{ShowsNext, LivesAt, Noted, Grown}
 use Rattle.lu_guards.proofs.Lists.{turn, turn_trans}
@@ -27,12 +30,19 @@ covered_head head = record { clients = head.clients; osts = head.osts; flight = 
 
 -- ---- nothing is owed
 
+-- where a call that has begun owes nothing
+abbrev pub BeginQuiet : Stage → Call → Type 0
+BeginQuiet Bad c = ⊥
+BeginQuiet stage (call.Close h) = Unit {0}
+BeginQuiet stage (call.Flush h) = Unit {0}
+BeginQuiet stage (call.Glimpse h) = Unit {0}
+BeginQuiet stage c = ⊥
+
 abbrev pub Quiet : Entry → Type 0
 Quiet (Act d) = ⊥
 Quiet (Txn d) = ⊥
 Quiet (Grant lock asked) = ⊥
-Quiet (Begin slot running) = ⊥
-Quiet (Unbinds handle) = ⊥
+Quiet (Begin slot running) = BeginQuiet running.stage running.call
 Quiet (Pins name) = ⊥
 Quiet _ = Unit {0}
 
@@ -44,12 +54,18 @@ pub owes_nothing : (past : List Line) (at : At) (e : Entry) → Settled past →
 owes_nothing [] at e s = tt
 owes_nothing (l ∷ past) at e s = by l.entry s
   where
+    begun : (slot : ℕ) (stage : Stage) (c : Call) → BeginQuiet stage c → OwesBegun (l.at ≡ at) slot stage c e
+    begun slot Bad c q = absurd q
+    begun slot stage (call.Close h) q = tt
+    begun slot stage (call.Flush h) q = tt
+    begun slot stage (call.Glimpse h) q = tt
+    begun slot stage c q = absurd q
+
     by : (x : Entry) → Quiet x → Owes (line l.at x ∷ past) at e
     by (Act d) q = absurd q
     by (Txn d) q = absurd q
     by (Grant lock asked) q = absurd q
-    by (Begin slot running) q = absurd q
-    by (Unbinds handle) q = absurd q
+    by (Begin slot running) q = begun slot running.stage running.call q
     by (Pins name) q = absurd q
     by _ q = tt
 

@@ -23,16 +23,17 @@ use Rattle.lu_guards.proofs.Grown.{Allowed, Grown}
 use Rattle.lu_guards.proofs.Lists.{self, life_is}
 use Rattle.lu_facts.proofs.Groups.{turn, Acted, IsMade, Stands as StandsSoFar}
 use Rattle.lu_facts.proofs.Lines.{acted_more}
-use Rattle.lu_lawful.proofs.Deeds.{act_is, txn_is}
+use Rattle.lu_lawful.proofs.Story.{target_is, made_story}
+use Rattle.lu_lawful.proofs.Deeds.{act_for, txn_is}
 use Rattle.lu_lawful.proofs.Turns.{same_turn_is}
 use Rattle.lu_lawful.proofs.Lost.{stood_before}
-use Rattle.lu_lawful.proofs.Once.{NoneNow, act_now, txn_now}
+use Rattle.lu_lawful.proofs.Once.{NoneFor, NoneNow, act_now, txn_now, txn_first}
 
 -- ---- each request acts once in the whole trace
 
-act_zero : (head : Head) (past : List Line) (stamp : Stamp) (node : Node) (d : Deed) → Allowed head past (turn stamp node) (Act d) → d.reply.txn.0 ≡ 0
+pub act_zero : (head : Head) (past : List Line) (stamp : Stamp) (node : Node) (d : Deed) → Allowed head past (turn stamp node) (Act d) → d.reply.txn.0 ≡ 0
 act_zero head past stamp (Client c) d k = absurd k.ok
-act_zero head past stamp (Target t) d k = ap (λ (n : TxnOf). n.0) (act_is head past stamp t d k).txn
+act_zero head past stamp (Target t) d k = ap (λ (n : TxnOf). n.0) (act_for head past stamp t d k).number
 
 made_now : (head : Head) (past : List Line) (stamp : Stamp) (node : Node) (d : Deed) → Allowed head past (turn stamp node) (Made d) → Grown head past → IsMade d
 made_now head past stamp (Client c) d k g = absurd k.ok
@@ -51,8 +52,8 @@ one_turn head (l ∷ past) d e g a b at who xid = by l.entry g.0 a b (λ a b. on
     first x now none (inr a) (inr b) ih = ih a b
 
     by : (x : Entry) → Allowed head past l.at x → Acted (line l.at x ∷ past) d → Acted (line l.at x ∷ past) e → (Acted past d → Acted past e → d ≡ e) → d ≡ e
-    by (Act x) k a b ih = let now = act_now head past l.at.stamp l.at.node x k g.1 in first x now.2 now.0.now a b ih
-    by (Made x) k a b ih = let now = txn_now head past l.at.stamp l.at.node x k g.1 in first x now.2 now.0.now a b ih
+    by (Act x) k a b ih = let does = act_now head past l.at.stamp l.at.node x k g.1 in first x does.turn does.now a b ih
+    by (Made x) k a b ih = let does = txn_now head past l.at.stamp l.at.node x k g.1 in first x does.turn does.now a b ih
     by x k a b ih = ih a b
 
 module _ (lost : ℕ → ℕ → Bool) (who : Who) (x : ℕ) where
@@ -91,12 +92,14 @@ module _ (lost : ℕ → ℕ → Bool) (who : Who) (x : ℕ) where
       by : (node : Node) (e : Entry) → Allowed head past (turn l.at.stamp node) e → ((d : Deed) → Acted (line (turn l.at.stamp node) e ∷ past) d → IsMade d → lost 0 d.reply.txn.0 ≡ false → StandsSoFar head.osts (only 0 (line (turn l.at.stamp node) e ∷ past)) d)
           → (((d : Deed) → Acted past d → IsMade d → lost 0 d.reply.txn.0 ≡ false → StandsSoFar head.osts (only 0 past) d) → standing_count lost 0 who x (printed past) ≤ 1) → standing_count lost 0 who x (printed (line (turn l.at.stamp node) e ∷ past)) ≤ 1
       by node (Made d) ok stands h =
-          let now = (txn_now head past l.at.stamp node d ok g.1).0 in
+          let does = txn_now head past l.at.stamp node d ok g.1 in
+          let first : does.target ≡ 0 = target_is does.target 0 (sym does.here ∙ txn_first head past l.at.stamp node d ok) in
           let at : Line = line (turn l.at.stamp node) (Made d) in
           cond_both (pasts.is_target 0 node && same_life d.reply.who who && nat_eq d.reply.xid.0 x && not (lost 0 d.reply.txn.0)) (suc (standing_count lost 0 who x (printed past))) (standing_count lost 0 who x (printed past)) (λ (v : ℕ). v ≤ 1)
           (λ t.
           let c = counted at d t in
-          let none : NoneLeft past = λ e a made stays p q. now.new e a (inr (made, earlier node (Made d) stands e a made stays)) (p ∙ sym c.0) (q ∙ sym c.1) in
+          let none : NoneLeft past = λ e a made stays p q.
+          (subst (λ (v : ℕ). NoneFor head past v d.reply.who d.reply.xid.0) first does.new) e (made_story head past e g.1 a made) (inr (made, earlier node (Made d) stands e a made stays)) (p ∙ sym c.0) (q ∙ sym c.1) in
           let z = none_counts head past g.1 none in
           omega (arith, z))
           (λ t. h (earlier node (Made d) stands))
@@ -121,7 +124,7 @@ act_in head (l ∷ past) named who x g a = by l.at.node l.entry g.0 (act_in head
         let q = and_parts (pasts.is_target 0 node && pasts.same_turn (turn l.at.stamp node) named && same_life d.reply.who who) _ p in
         let r = and_parts (pasts.is_target 0 node && pasts.same_turn (turn l.at.stamp node) named) _ q.0 in
         let s = and_parts (pasts.is_target 0 node) (pasts.same_turn (turn l.at.stamp node) named) r.0 in
-        (d, inl refl, act_zero head past l.at.stamp node d k, (act_now head past l.at.stamp node d k g.1).2 ∙ same_turn_is (turn l.at.stamp node) named s.1, life_is d.reply.who who r.1, eqb-true d.reply.xid.0 x q.1))
+        (d, inl refl, act_zero head past l.at.stamp node d k, (act_now head past l.at.stamp node d k g.1).turn ∙ same_turn_is (turn l.at.stamp node) named s.1, life_is d.reply.who who r.1, eqb-true d.reply.xid.0 x q.1))
         (λ (p : acted (printed past) named who x ≡ true). more node (Act d) (h p))
         (or_cases (acts_there named who x (printed past) (record { at = turn l.at.stamp node; entry = trace.Act d.reply.who d.reply.xid d.reply.answer })) (acted (printed past) named who x) a)
     by node e k h a = more node e (h a)
@@ -136,14 +139,17 @@ own_line at turn who x same node =
     (subst (λ (n : Node). (pasts.is_target 0 n && pasts.same_turn (record { stamp = at.stamp; node = n }) (record { stamp = at.stamp; node = n }) && same_life who who && nat_eq x x) ≡ true) (sym node)
     (rw (self at.stamp.0, self who.client, self who.life, self x) refl))
 
-pub acted_in : (head : Head) (lost : ℕ → ℕ → Bool) (past : List Line) → Grown head past → (d : Deed) → Acted past d → ReplyStands lost d.reply → Stands lost past d
-acted_in head lost [] g d a s = absurd a
-acted_in head lost (l ∷ past) g d a s = by l.entry g.0 (λ i. acted_in head lost past g.1 d i s) a
+pub acted_in : (head : Head) (lost : ℕ → ℕ → Bool) (past : List Line) → Grown head past → (d : Deed) → d.reply.at.node ≡ Target 0 → Acted past d → ReplyStands lost d.reply → Stands lost past d
+acted_in head lost [] g d first a s = absurd a
+acted_in head lost (l ∷ past) g d first a s = by l.entry g.0 (λ i. acted_in head lost past g.1 d first i s) a
   where
+    here : (e : Deed) → e.reply.at ≡ l.at → e ≡ d → l.at.node ≡ Target 0
+    here e now p = ap (λ (v : At). v.node) (sym now) ∙ ap (λ (v : Deed). v.reply.at.node) p ∙ first
+
     by : (e : Entry) → Allowed head past l.at e → (Acted past d → Stands lost past d) → Acted (line l.at e ∷ past) d → Stands lost (line l.at e ∷ past) d
     by (Act e) ok h a = ⊎_elim
         (λ (p : e ≡ d). subst (λ (v : Deed). Stands lost (line l.at (Act e) ∷ past) v) p
-        (let k = act_now head past l.at.stamp l.at.node e ok g.1 in inl (or_left _ (acted (printed past) e.reply.at e.reply.who e.reply.xid.0) (own_line l.at e.reply.at e.reply.who e.reply.xid.0 (sym k.2) k.1))))
+        (let k = act_now head past l.at.stamp l.at.node e ok g.1 in inl (or_left _ (acted (printed past) e.reply.at e.reply.who e.reply.xid.0) (own_line l.at e.reply.at e.reply.who e.reply.xid.0 (sym k.turn) (here e k.turn p)))))
         (λ (p : Acted past d). ⊎_elim
         (λ (i : acted (printed past) d.reply.at d.reply.who d.reply.xid.0 ≡ true). inl (or_right _ (acted (printed past) d.reply.at d.reply.who d.reply.xid.0) i))
         (λ (i : made lost (printed past) d.reply.at d.reply.who d.reply.xid.0 ≡ true). inr i)
@@ -153,7 +159,7 @@ acted_in head lost (l ∷ past) g d a s = by l.entry g.0 (λ i. acted_in head lo
         (λ (p : e ≡ d). let k = txn_now head past l.at.stamp l.at.node e ok g.1 in
         let stands : lost 0 e.reply.txn.0 ≡ false = ap (λ (v : Deed). lost 0 v.reply.txn.0) p ∙ s.0 in
         subst (λ (v : Deed). Stands lost (line l.at (Made e) ∷ past) v) p
-        (inr (or_left _ (made lost (printed past) e.reply.at e.reply.who e.reply.xid.0) (and_both (own_line l.at e.reply.at e.reply.who e.reply.xid.0 (sym k.2) k.1) stands))))
+        (inr (or_left _ (made lost (printed past) e.reply.at e.reply.who e.reply.xid.0) (and_both (own_line l.at e.reply.at e.reply.who e.reply.xid.0 (sym k.turn) (here e k.turn p)) stands))))
         (λ (p : Acted past d). ⊎_elim
         (λ (i : acted (printed past) d.reply.at d.reply.who d.reply.xid.0 ≡ true). inl i)
         (λ (i : made lost (printed past) d.reply.at d.reply.who d.reply.xid.0 ≡ true). inr (or_right _ (made lost (printed past) d.reply.at d.reply.who d.reply.xid.0) i))

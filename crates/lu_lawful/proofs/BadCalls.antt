@@ -11,7 +11,7 @@ use Rattle.lu_msg.specs.declared.answers.Errno.TheVariants.{EBADF}
 use Rattle.lu_msg.specs.declared.calls.Call.{Call}
 use Rattle.lu_msg.specs.declared.calls.Call.TheVariants as call
 use Rattle.lu_trace.specs.declared.entries.Line.{Line as PrintedLine}
-use Rattle.lu_words.specs.Carried.{Unasked, Answered, Stage, Bad, Work, Running}
+use Rattle.lu_words.specs.Carried.{Unasked, Answered, Stage, Plain, Bad, Work, Running}
 use Rattle.lu_words.specs.Words.{Entry, Begin, Told, Line, line}
 use Rattle.lu_words.specs.Sent.{count_sent}
 use Rattle.lu_words.specs.Printed.{printed_entry}
@@ -22,13 +22,14 @@ use Rattle.lu_covered.specs.Heads.{Head}
 use Rattle.lu_laws.specs.Words.Later.{told_later}
 use Rattle.lu_laws.specs.Words.Pasts.{same_turn}
 use Rattle.lu_laws.specs.Laws.Acts.{tells_bad}
-use Rattle.lu_guards.proofs.Guards.{Begins, BeginOk, Starts, Owes, EntryOk}
+use Rattle.lu_guards.proofs.Guards.{Begins, BeginOk, Starts, OwesBegun, Owes, EntryOk}
 use Rattle.lu_guards.proofs.Grown.{Grown}
 use Rattle.lu_guards.proofs.Lists.{self}
-use Rattle.lu_guards.proofs.Turns.{Settled}
+use Rattle.lu_guards.proofs.Turns.{BeginQuiet, Settled}
 use Rattle.lu_facts.proofs.Groups.{turn}
 use Rattle.lu_lawful.proofs.Turns.{same_turn_self}
 use Rattle.lu_lawful.proofs.Lines.{shown}
+use Rattle.lu_lawful.proofs.Printed.{far_good}
 use Rattle.lu_guards.proofs.Ends.{none_took}
 use Rattle.lu_guards.proofs.ClientLines.{some_is}
 
@@ -70,7 +71,14 @@ bad_told head past stamp c slot running named given work g ok bad tells = by tel
         let same = some_is a.running running (sym a.call ∙ stands) in
         absurd (bad_unknown (notes_at c (line (turn stamp (Client c)) (Begin slot running) ∷ past)) c past running.call given on_bad (ap (λ (v : Running). known_answer (notes_at c (line (turn stamp (Client c)) (Begin slot running) ∷ past)) v.call) (sym same) ∙ a.known))
     by (inr (inr (inl a))) = absurd (none_took head past (turn stamp (Client c)) (Target a.notice.target) _ g ok.later a.notice.took)
-    by (inr (inr (inr a))) = a.of_answer
+    by (inr (inr (inr (inl a)))) = a.of_answer
+    by (inr (inr (inr (inr (inl a))))) =
+        let same = some_is a.running running (sym a.call ∙ stands) in
+        absurd (far_good (line (turn stamp (Client c)) (Begin slot running) ∷ past) (turn stamp (Client c)) a.running a.sizes a.so_far (ap (λ (v : Running). v.stage) same ∙ bad))
+    by (inr (inr (inr (inr (inr a))))) =
+        let same = some_is a.running running (sym a.call ∙ stands) in
+        let plain : Plain ≡ Bad = sym a.good ∙ ap (λ (v : Running). v.stage) same ∙ bad in
+        absurd (cc)
 
 -- ---- what a call that begins owes
 
@@ -84,7 +92,7 @@ nothing_due [] s = tt
 nothing_due (l ∷ past) s = by l.entry s
   where
     by : (e : Entry) → Settled (line l.at e ∷ past) → Due (line l.at e ∷ past) []
-    by (Begin slot running) s = absurd s
+    by (Begin slot running) s = λ bad. absurd (subst (λ (v : Stage). BeginQuiet v running.call) bad s)
     by _ s = tt
 
 module _ (head : Head) where
@@ -108,6 +116,8 @@ module _ (head : Head) where
     where
       by : (node : Node) (e : Entry) → Grown head (line (turn m.at.stamp node) e ∷ past) → Owes (line (turn m.at.stamp node) e ∷ past) l.at l.entry → EntryOk (line (turn m.at.stamp node) e ∷ past) l.at l.at.node l.entry
           → Due (line (turn m.at.stamp node) e ∷ past) (shown l.at (printed_entry (count_sent (m ∷ past) + 1) l.entry) later)
-      by (Client c) (Begin slot running) g o ok = λ bad. told_next past l.at l.entry c slot running m.at.stamp later g.1 g.0.ok bad o.0 ok (subst (λ (v : Stage). Starts slot v l.entry) bad o.1) (count_sent (m ∷ past) + 1)
+      by (Client c) (Begin slot running) g o ok = λ bad.
+          let w = subst (λ (v : Stage). OwesBegun (turn m.at.stamp (Client c) ≡ l.at) slot v running.call l.entry) bad o in
+          told_next past l.at l.entry c slot running m.at.stamp later g.1 g.0.ok bad w.0 ok w.1 (count_sent (m ∷ past) + 1)
       by (Target t) (Begin slot running) g o ok = absurd g.0.ok
       by _ _ g o ok = tt

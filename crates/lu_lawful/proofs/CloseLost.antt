@@ -8,6 +8,7 @@ use Rattle.std.proofs.lemmas.Bool.{eqb-true, ltb-true, true≢false, false_from_
 use Rattle.lu_base.specs.declared.ids.At.{At}
 use Rattle.lu_base.specs.declared.ids.Node.{Node}
 use Rattle.lu_base.specs.declared.ids.Node.TheVariants.{Client, Target}
+use Rattle.lu_base.specs.declared.ids.Txn.{Txn as TxnOf}
 use Rattle.lu_words.specs.Carried.{Deed}
 use Rattle.lu_words.specs.Words.{Entry, Act, Txn as Made, Line, line}
 use Rattle.lu_words.specs.Concerns.{concerns, only}
@@ -18,6 +19,7 @@ use Rattle.lu_covered.specs.Heads.{Head}
 use Rattle.lu_laws.specs.Words.Lost.{Transaction, transactions, is_among, lost_of}
 use Rattle.lu_guards.proofs.Guards.{In, EntryOk}
 use Rattle.lu_guards.proofs.StoryGuards.{IsRecovering, EntryOf, TxnOk}
+use Rattle.lu_guards.proofs.Acts.{acted}
 use Rattle.lu_guards.proofs.Grown.{Grown, GrownOf}
 use Rattle.lu_guards.proofs.ClientLocks.{any_true, any_passes}
 use Rattle.lu_guards.proofs.Lists.{self, in_filter}
@@ -97,7 +99,7 @@ module _ (head : Head) where
       by : (node : Node) (e : Entry) → EntryOf head past (turn l.at.stamp node) node e → Acted (line (turn l.at.stamp node) e ∷ past) d → (Acted past d → In d (made_of past)) → In d (made_of (line (turn l.at.stamp node) e ∷ past))
       by (Target t) (Made e) ok (inl q) h = inl q
       by (Target t) (Made e) ok (inr b) h = inr (h b)
-      by (Target t) (Act e) ok (inl q) h = absurd (let n = ap (λ (v : Deed). v.reply.txn.0) (sym q ∙ ok.is) in omega (arith, n, made))
+      by (Target t) (Act e) ok (inl q) h = absurd (let n = ap (λ (v : Deed). v.reply.txn.0) (sym q) in let none = ap (λ (v : TxnOf). v.0) (acted head.osts past (turn l.at.stamp (Target t)) t e ok).number in omega (arith, n, none, made))
       by (Target t) (Act e) ok (inr b) h = h b
       by (Client c) (Made e) ok a h = absurd ok
       by (Client c) (Act e) ok a h = absurd ok

@@ -3,10 +3,11 @@
 use Rattle.std.proofs.Common.{◌≡◌, ℕ, ◌≤◌, Bool, true, false, List, [], ◌∷◌, Option, Some, ◌⊎◌, inl, inr, ⊎_elim, refl, sym, subst, ap, ◌∙◌, arith}
 use Rattle.std.specs.Prelude.{nat_eq, nat_lt, not, ◌&&◌, ◌||◌, if◌then◌else◌, unwrap_or, map}
 use Rattle.std.specs.List.{list_any}
-use Rattle.std.proofs.lemmas.Bool.{eqb-true, or_right}
+use Rattle.std.proofs.lemmas.Bool.{or_right}
 use Rattle.lu_base.specs.declared.ids.Node.{Node}
 use Rattle.lu_base.specs.declared.ids.Node.TheVariants.{Client, Target}
 use Rattle.lu_base.specs.declared.ids.Stamp.{Stamp}
+use Rattle.lu_base.specs.declared.ids.Txn.{Txn as TxnOf}
 use Rattle.lu_msg.specs.declared.commits.Batch.{Batch}
 use Rattle.lu_msg.specs.declared.commits.Transaction.{Transaction as Stored}
 use Rattle.lu_words.specs.Carried.{Deed, Disk, Outcome}
@@ -36,8 +37,10 @@ use Rattle.lu_facts.proofs.SlotLists.{last_in}
 use Rattle.lu_facts.proofs.All.{holds, holds_at}
 use Rattle.lu_facts.proofs.CloseFacts.{Closing, closing, kept_of_deed}
 use Rattle.lu_facts.proofs.ExactLists.{in_has}
-use Rattle.lu_facts.proofs.Lines.{acted_more}
+use Rattle.lu_facts.proofs.Lines.{acted_more, acted_whole}
 use Rattle.lu_lawful.specs.Fits.{WasMade}
+use Rattle.lu_lawful.proofs.Story.{target_is, story_at, made_first}
+use Rattle.lu_lawful.proofs.Deeds.{act_for}
 use Rattle.lu_lawful.proofs.Lost.{stays_on}
 use Rattle.lu_lawful.proofs.Printed.{flip}
 use Rattle.lu_lawful.proofs.Taking.{either_way}
@@ -235,38 +238,19 @@ listed head t (l ∷ past) d g a made = by l.at.node l.entry g.0 a (λ b. listed
         of : (b : Bool) → nat_eq t u ≡ b → Acted (if b then x ∷ P else P) d → Listed t (x ∷ past) n
         of false q i = old i
         of true q (inr j) = old j
-        of true q (inl same) = absurd (let zero : n ≡ 0 = ap (λ (y : Deed). y.reply.txn.0) (sym same ∙ (k.of t q).is) in omega (arith, zero, made))
+        of true q (inl same) = absurd (let zero : n ≡ 0 = ap (λ (y : Deed). y.reply.txn.0) (sym same) ∙ ap (λ (v : TxnOf). v.0) (act_for head past l.at.stamp u e k).number in omega (arith, zero, made))
     by node e k i ih = let r = ih (quiet node e (concerns t node e) (λ j. j) i) in record { made = r.made; listed = r.listed }
 
--- only at the metadata target is anything done
-pub acted_first : (head : Head) (t : ℕ) (past : List Line) (d : Deed) → Grown head past → Acted (only t past) d → t ≡ 0
-acted_first head t [] d g a = absurd a
-acted_first head t (l ∷ past) d g a = by l.at.node l.entry g.0 a (acted_first head t past d g.1)
-  where
-    P : List Line
-    P = only t past
-
-    of : (u : ℕ) (e : Entry) (b : Bool) → nat_eq t u ≡ b → u ≡ 0 → Acted (if b then line (turn l.at.stamp (Target u)) e ∷ P else P) d → (Acted P d → t ≡ 0) → t ≡ 0
-    of u e false q first i ih = ih i
-    of u e true q first i ih = eqb-true t u q ∙ first
-
-    quiet : (node : Node) (e : Entry) (b : Bool) → (Acted (line (turn l.at.stamp node) e ∷ P) d → Acted P d) → Acted (if b then line (turn l.at.stamp node) e ∷ P else P) d → Acted P d
-    quiet node e true f i = f i
-    quiet node e false f i = i
-
-    by : (node : Node) (e : Entry) → Allowed head past (turn l.at.stamp node) e → Acted (only t (line (turn l.at.stamp node) e ∷ past)) d → (Acted P d → t ≡ 0) → t ≡ 0
-    by (Client c) (Made e) k i ih = absurd k.ok
-    by (Client c) (Act e) k i ih = absurd k.ok
-    by (Target u) (Made e) k i ih = of u (Made e) (nat_eq t u) refl k.ok i ih
-    by (Target u) (Act e) k i ih = of u (Act e) (nat_eq t u) refl k.ok i ih
-    by node e k i ih = ih (quiet node e (concerns t node e) (λ j. j) i)
+-- only at the metadata target is a transaction made
+pub acted_first : (head : Head) (t : ℕ) (past : List Line) (d : Deed) → Grown head past → Acted (only t past) d → IsMade d → t ≡ 0
+acted_first head t past d g a made = target_is t 0 (sym (story_at head past t d g a) ∙ made_first head past d g (acted_whole t past d a) made)
 
 -- what stands by the story stands by the laws
 pub stands_law : (head : Head) (t : ℕ) (past : List Line) (n : ℕ) → Grown head past → ((m : ℕ) → WasMade past m → law.is_lost (printed past) 0 m ≡ is_lost head.osts (only 0 past) m) → MadeStands head.osts (only t past) n → (nat_eq n 0 || stands t (printed past) n) ≡ true
 stands_law head t past n g same (inl e) = ap (λ (m : ℕ). nat_eq m 0 || stands t (printed past) n) e
 stands_law head t past n g same (inr p) =
     let k = listed head t past p.0 g p.1 p.2 in
-    let first = acted_first head t past p.0 g p.1 in
+    let first = acted_first head t past p.0 g p.1 p.2 in
     let stays : law.is_lost (printed past) t p.0.reply.txn.0 ≡ false =
     subst (λ (v : ℕ). law.is_lost (printed past) v p.0.reply.txn.0 ≡ false) (sym first)
     (same p.0.reply.txn.0 k.made ∙ subst (λ (v : ℕ). is_lost head.osts (only v past) p.0.reply.txn.0 ≡ false) first p.4)

@@ -1,5 +1,5 @@
 -- What a line on which the metadata target acted says of its deed: its turn, its answer, what it saw and wrote, and
--- whether it changes the tree.
+-- whether it changes the tree. Of an act of any target: what both kinds of acts have in common.
 use Rattle.std.proofs.Common.{◌≡◌, ℕ, ◌+◌, ◌*◌, ◌<◌, true, false, List, inl, refl, sym, subst, ◌∙◌}
 use Rattle.lu_base.specs.declared.ids.At.{At}
 use Rattle.lu_base.specs.declared.ids.Node.TheVariants.{Target}
@@ -14,7 +14,9 @@ use Rattle.lu_covered.specs.TargetStates.{Server, none, server_at, server_of, ne
 use Rattle.lu_covered.specs.Deeds.{asked}
 use Rattle.lu_covered.specs.Heads.{Head}
 use Rattle.lu_guards.proofs.StoryGuards.{ActOk, TxnOk}
+use Rattle.lu_guards.proofs.Acts.{Acted, acted, acts_names}
 use Rattle.lu_guards.proofs.Grown.{Allowed}
+use Rattle.lu_guards.proofs.Lists.{self}
 use Rattle.lu_guards.proofs.Parts.{server_is}
 use Rattle.lu_facts.proofs.Groups.{turn}
 use Rattle.lu_lawful.proofs.Story.{about_it}
@@ -55,9 +57,12 @@ txn_of osts past at d ok =
       moves = (number_is_free osts v.tree (asked r (next_number v)) (asked r none) refl (inl refl)).changes ∙ ok.moves;
     })
 
-pub act_is : (head : Head) (past : List Line) (stamp : Stamp) (t : ℕ) (d : Deed) → Allowed head past (turn stamp (Target t)) (Act d) → ActIs head.osts (server_at head.osts 0 past) (turn stamp (Target t)) d
-act_is head past stamp t d k =
-    subst (λ (v : Server). ActIs head.osts v (turn stamp (Target t)) d) (sym (server_is head.osts 0 past)) (act_of head.osts (only 0 past) (turn stamp (Target t)) d (k.of 0 (about_it t k.ok)))
+pub act_is : (head : Head) (past : List Line) (stamp : Stamp) (d : Deed) → Allowed head past (turn stamp (Target 0)) (Act d) → ActIs head.osts (server_at head.osts 0 past) (turn stamp (Target 0)) d
+act_is head past stamp d k =
+    subst (λ (v : Server). ActIs head.osts v (turn stamp (Target 0)) d) (sym (server_is head.osts 0 past)) (act_of head.osts (only 0 past) (turn stamp (Target 0)) d (acts_names head.osts (only 0 past) (turn stamp (Target 0)) d (k.of 0 refl)))
+
+pub act_for : (head : Head) (past : List Line) (stamp : Stamp) (t : ℕ) (d : Deed) → Allowed head past (turn stamp (Target t)) (Act d) → Acted head.osts (only t past) (turn stamp (Target t)) d
+act_for head past stamp t d k = acted head.osts (only t past) (turn stamp (Target t)) t d (k.of t (self t))
 
 pub txn_is : (head : Head) (past : List Line) (stamp : Stamp) (t : ℕ) (d : Deed) → Allowed head past (turn stamp (Target t)) (Made d) → TxnIs head.osts (server_at head.osts 0 past) (turn stamp (Target t)) d
 txn_is head past stamp t d k =

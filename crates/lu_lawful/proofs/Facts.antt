@@ -1,6 +1,6 @@
--- What the laws rest on, line by line: the operation of each deed is that of the first request sent with its
+-- What the laws rest on, line by line: the operation of each deed of the metadata target is that of the first request sent with its
 -- number; and what is told is the answer of a deed that is heard in that turn, or what the client knew when its call began, or
--- that the life is over, or that the call's handle is bad.
+-- that the life is over, or that the call's handle is bad, or of a glimpse sizes, or that a flush is done.
 use Rattle.std.proofs.Common.{◌≡◌, ℕ, true, false, List, [], ◌∷◌, Some, ◌⊎◌}
 use Rattle.lu_base.specs.declared.ids.At.{At}
 use Rattle.lu_base.specs.declared.ids.Node.{Node}
@@ -8,9 +8,11 @@ use Rattle.lu_base.specs.declared.ids.Node.TheVariants.{Client, Target}
 use Rattle.lu_msg.specs.declared.answers.Answer.{Answer}
 use Rattle.lu_msg.specs.declared.answers.Answer.TheVariants as told
 use Rattle.lu_msg.specs.declared.answers.Errno.TheVariants.{EBADF, EIO}
+use Rattle.lu_msg.specs.declared.calls.Call.TheVariants.{Flush, Glimpse}
 use Rattle.lu_msg.specs.declared.messages.Reply.{Reply as ReplyTo}
-use Rattle.lu_words.specs.Carried.{Deed, Flight, Bad, Running}
+use Rattle.lu_words.specs.Carried.{Deed, Flight, Plain, Bad, Running}
 use Rattle.lu_words.specs.Words.{Entry, Told, Act, Txn as Made, Line, line}
+use Rattle.lu_words.specs.Concerns.{only}
 use Rattle.lu_words.specs.Printed.{printed}
 use Rattle.lu_covered.specs.Calls.{call_at, life_at}
 use Rattle.lu_covered.specs.Known.{notes_at, known_answer}
@@ -21,20 +23,21 @@ use Rattle.lu_guards.proofs.Guards.{Noticed}
 use Rattle.lu_facts.proofs.Groups.{Acted}
 use Rattle.lu_facts.proofs.OnNames.{IsPlain, told_so}
 use Rattle.lu_facts.proofs.Known.{HeardBy}
+use Rattle.lu_lawful.proofs.Sized.{AllEmpty}
 
 abbrev pub AskedAt : List Line → Deed → Type 0
 AskedAt past d = asked (printed past) 0 d.reply.who d.reply.xid.0 ≡ Some d.op
 
 abbrev pub AllAsked : List Line → Type 0
 AllAsked [] = Unit {0}
-AllAsked (l ∷ past) = elim l.entry [ Act d ↦ AskedAt past d × AllAsked past | Made d ↦ AskedAt past d × AllAsked past | _ ↦ AllAsked past ]
+AllAsked (l ∷ past) = elim l.entry [ Act d ↦ (l.at.node ≡ Target 0 → AskedAt past d) × AllAsked past | Made d ↦ AskedAt past d × AllAsked past | _ ↦ AllAsked past ]
 
 -- of a call that asked: what acted for it, and the reply that was heard
 abbrev pub AnswersAt : List Line → At → ℕ → At → Answer → Type 0
 AnswersAt past at c named given =
     record {
       deed : Deed;
-      acted : Acted past deed;
+      acted : Acted (only 0 past) deed;
       who : deed.reply.who ≡ life_at c past;
       turn : deed.reply.at ≡ named;
       answer : told_so deed.reply.answer ≡ given;
@@ -42,7 +45,7 @@ AnswersAt past at c named given =
       other : same_turn named at ≡ false;
       flight : Flight;
       reply : ReplyTo;
-      hears : HeardBy past c flight reply;
+      hears : HeardBy (only 0 past) c flight reply;
       is : record deed.reply { boot = reply.boot; committed = reply.committed } ≡ reply;
       plain : IsPlain deed.reply.answer;
     }
@@ -84,8 +87,45 @@ BadAt past at c slot named given =
       own : same_turn named at ≡ true;
     }
 
+-- of a glimpse on a good handle: each object is empty
+abbrev pub SizesAt : List Line → At → (c slot : ℕ) → At → Answer → Type 0
+SizesAt past at c slot named given =
+    record {
+      running : Running;
+      call : call_at c slot past ≡ Some running;
+      handle : ℕ;
+      glimpses : running.call ≡ Glimpse handle;
+      good : running.stage ≡ Bad → ⊥;
+      sizes : List ℕ;
+      empty : AllEmpty sizes;
+      answer : given ≡ told.Sizes sizes;
+      turn : named ≡ at;
+      own : same_turn named at ≡ true;
+    }
+
+-- of a flush that began on a good handle in this turn
+abbrev pub FlushedAt : List Line → At → (c slot : ℕ) → At → Answer → Type 0
+FlushedAt past at c slot named given =
+    record {
+      running : Running;
+      call : call_at c slot past ≡ Some running;
+      handle : ℕ;
+      flushes : running.call ≡ Flush handle;
+      good : running.stage ≡ Plain;
+      begun : running.at ≡ at;
+      answer : given ≡ told.Done;
+      turn : named ≡ at;
+      own : same_turn named at ≡ true;
+    }
+
 abbrev pub TellsAt : List Line → At → Node → (slot : ℕ) → At → Answer → Type 0
-TellsAt past at (Client c) slot named given = AnswersAt past at c named given ⊎ KnewAt past at c slot named given ⊎ EndsAt past at c slot named given ⊎ BadAt past at c slot named given
+TellsAt past at (Client c) slot named given =
+    AnswersAt past at c named given
+    ⊎ KnewAt past at c slot named given
+    ⊎ EndsAt past at c slot named given
+    ⊎ BadAt past at c slot named given
+    ⊎ SizesAt past at c slot named given
+    ⊎ FlushedAt past at c slot named given
 TellsAt past at (Target t) slot named given = Unit {0}
 
 abbrev pub AllTold : List Line → Type 0

@@ -1,5 +1,5 @@
--- What acts is answered neither EBADF nor EIO nor sizes: no operation on names is. Nor is a call whose answer is known: no reply
--- teaches these.
+-- What acts at the metadata target is answered neither EBADF nor EIO nor sizes: no operation on names is. Nor is a call whose answer is
+-- known: no reply teaches these.
 use Rattle.std.proofs.Common.{◌≡◌, ℕ, zero, suc, Bool, true, false, List, [], ◌∷◌, ◌++◌, Option, Some, None, inl, inr, ⊎_elim, refl, subst}
 use Rattle.std.specs.Prelude.{nat_eq, not}
 use Rattle.std.proofs.lemmas.Bool.{cond_both}
@@ -17,6 +17,7 @@ use Rattle.lu_msg.specs.declared.operations.Op.TheVariants as op
 use Rattle.lu_machine.specs.Fits.{answer_fits}
 use Rattle.lu_words.specs.Carried.{Deed, HandleFile}
 use Rattle.lu_words.specs.Words.{Entry, Drop, Life, Learns, Line, line, is_client}
+use Rattle.lu_words.specs.Concerns.{only}
 use Rattle.lu_client_rows.specs.Facts.{Fact, fact, root, is_one_for_each, name_facts, names_taught, last_of, inode_taught, stat_facts, taught, without_facts, facts_at}
 use Rattle.lu_client_rows.specs.Known.{fact_on, Found, walked, found_at_path, known_of, known_with, lookup_known, list_at, layout_at, directory_at, Notes}
 use Rattle.lu_covered.specs.Calls.{operation_of}
@@ -31,6 +32,7 @@ use Rattle.lu_facts.proofs.Groups.{Acted}
 use Rattle.lu_facts.proofs.KnownPaths.{fact_is, after_name}
 use Rattle.lu_facts.proofs.OnNames.{IsOnNames, told_so}
 use Rattle.lu_facts.proofs.Asked.{acted_on_names}
+use Rattle.lu_facts.proofs.Lines.{acted_whole}
 use Rattle.lu_facts.proofs.Refused.{acted_answered}
 
 abbrev pub are_sizes : Answer → Bool
@@ -98,8 +100,8 @@ is_fine o (told.Refused EBADF) is fits = let none = no_bad_handle o is in absurd
 is_fine o (told.Refused EIO) is fits = let none = no_end o is in absurd (cc)
 is_fine o _ is fits = (refl, refl, refl)
 
-pub deed_fine : (head : Head) (past : List Line) (d : Deed) → Grown head past → Acted past d → IsFine d.reply.answer
-deed_fine head past d g a = is_fine d.op d.reply.answer (acted_on_names head past d g a) (acted_answered head past d g a).0
+pub deed_fine : (head : Head) (past : List Line) (d : Deed) → Grown head past → Acted (only 0 past) d → IsFine d.reply.answer
+deed_fine head past d g a = is_fine d.op d.reply.answer (acted_on_names head past d g a) (acted_answered head past d g (acted_whole 0 past d a)).0
 
 -- nor is what is told of it
 pub so_fine : (a : Answer) → IsFine a → IsFine (told_so a)

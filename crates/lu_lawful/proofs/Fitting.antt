@@ -7,8 +7,10 @@ use Rattle.lu_base.specs.declared.ids.At.{At}
 use Rattle.lu_base.specs.declared.ids.Node.{Node}
 use Rattle.lu_base.specs.declared.ids.Node.TheVariants.{Client, Target}
 use Rattle.lu_base.specs.declared.ids.Stamp.{Stamp}
+use Rattle.lu_base.specs.declared.ids.Txn.{Txn as TxnOf}
 use Rattle.lu_base.specs.declared.ids.Who.{Who}
 use Rattle.lu_msg.specs.declared.commits.Transaction.{Transaction}
+use Rattle.lu_msg.specs.declared.messages.Message.TheVariants as message
 use Rattle.lu_msg.specs.declared.messages.Reply.{Reply as ReplyTo}
 use Rattle.lu_words.specs.Carried.{Deed, Flight, Outcome}
 use Rattle.lu_words.specs.Words.{Entry, Heard, Act, Txn as Made, Commit, Close, Line, line}
@@ -20,11 +22,13 @@ use Rattle.lu_covered.specs.Heads.{Head}
 use Rattle.lu_lawful.specs.Fits.{AllStand, SeenStand, HeardStand, CommitsStand, EvictedOut, WasMade, Fits}
 use Rattle.lu_guards.proofs.Guards.{In}
 use Rattle.lu_guards.proofs.StoryGuards.{EntryOf, CloseOk}
+use Rattle.lu_guards.proofs.Only.{grown_of}
+use Rattle.lu_guards.proofs.Lists.{self}
 use Rattle.lu_guards.proofs.Grown.{Allowed, Grown}
 use Rattle.lu_facts.proofs.Groups.{turn, Acted, Evicted, Had, HasSlot, HeardAs, IsMade, History, HoldsAt}
 use Rattle.lu_facts.proofs.All.{holds}
-use Rattle.lu_facts.proofs.Sides.{acted_only}
-use Rattle.lu_lawful.proofs.Story.{about_it}
+use Rattle.lu_lawful.proofs.Story.{about_it, made_story}
+use Rattle.lu_lawful.proofs.Sized.{sized_deed}
 use Rattle.lu_lawful.proofs.Deeds.{txn_is}
 use Rattle.lu_lawful.proofs.Lost.{stays_on}
 use Rattle.lu_lawful.proofs.ToldLaw.{heard_as, heard_story}
@@ -91,11 +95,22 @@ module _ (head : Head) (out : Who → Bool) (lost : ℕ → ℕ → Bool) (whole
       by (Target t) (Made d) k a m ih =
           let number = (txn_is head past l.at.stamp t d k).number in
           let made : IsMade d = omega (arith, number) in (
-            λ e. all_stand d.reply.seen (inside.history.stands d (acted_only head whole d g (a d (inl refl))) made (sym (same d.reply.txn.0 (m d.reply.txn.0 (inl refl))) ∙ e)),
+            λ e. all_stand d.reply.seen (inside.history.stands d (made_story head whole d g (a d (inl refl)) made) made (sym (same d.reply.txn.0 (m d.reply.txn.0 (inl refl))) ∙ e)),
             ih (λ x b. a x (inr b)) (λ n b. m n (inr b)),
           )
       by node (Act d) k a m ih = ih (λ x b. a x (inr b)) m
       by node e k a m ih = ih a m
+
+  -- no transaction has the number 0
+  not_zero : (past : List Line) → Grown head past → WasMade past 0 → ⊥
+  not_zero [] k m = m
+  not_zero (l ∷ past) k m = by l.at.node l.entry k.0 m (not_zero past k.1)
+    where
+      by : (node : Node) (e : Entry) → Allowed head past (turn l.at.stamp node) e → WasMade (line (turn l.at.stamp node) e ∷ past) 0 → (WasMade past 0 → ⊥) → ⊥
+      by (Client c) (Made d) k m ih = k.ok
+      by (Target t) (Made d) k (inl is) ih = let number = (txn_is head past l.at.stamp t d k).number in absurd (omega (arith, number, is))
+      by (Target t) (Made d) k (inr m) ih = ih m
+      by node e k m ih = ih m
 
   abbrev AllHeard : List Line → Type 0
   AllHeard past = (who : Who) (f : Flight) (r : ReplyTo) → HeardAs (only 0 past) who f r → HeardAs (only 0 whole) who f r
@@ -112,11 +127,22 @@ module _ (head : Head) (out : Who → Bool) (lost : ℕ → ℕ → Bool) (whole
   heard (l ∷ past) k a = by l.at.node l.entry k a (heard past k.1 (λ who f r h. a who f r (heard_story l past who f r h)))
     where
       by : (node : Node) (e : Entry) → Grown head (line (turn l.at.stamp node) e ∷ past) → AllHeard (line (turn l.at.stamp node) e ∷ past) → HeardStand out lost past → HeardStand out lost (line (turn l.at.stamp node) e ∷ past)
-      by (Client c) (Heard t f r) k a ih = (
+      by (Client c) (Heard zero f r) k a ih = (
         λ o.
-            let h = a r.who f r (heard_as head (line (turn l.at.stamp (Client c)) (Heard t f r) ∷ past) c f r k (inl (refl, refl, refl))) in
+            let new : List Line = line (turn l.at.stamp (Client c)) (Heard 0 f r) ∷ past in
+            let h = a r.who f r (heard_as head (only 0 new) c f r (grown_of head 0 new k) (inl (refl, refl, refl))) in
             let s = inside.history.heard r.who f r h (has_slot r.who f r h o) in
             (not_lost r.txn.0 s.0, all_stand r.seen s.1),
+        ih,
+      )
+      -- what an object storage target tells has no number, and saw nothing
+      by (Client c) (Heard (suc t) f r) k a ih = (
+        λ o.
+            let ok = k.0.of (suc t) (self (suc t)) in
+            let m = ((holds head past k.1).at (suc t)).done.sent (Target ok.from) (Client c) (message.Reply r) ok.was in
+            let sized = sized_deed head past (suc t) m.deed k.1 (omega arith) m.acted in
+            let number : r.txn.0 ≡ 0 = ap (λ (v : ReplyTo). v.txn.0) m.is ∙ ap (λ (n : TxnOf). n.0) sized.number in
+            (subst (λ (n : ℕ). lost 0 n ≡ false) (sym number) (none 0 (not_zero whole g)), subst (AllStand lost) (sym (ap (λ (v : ReplyTo). v.seen) m.is ∙ sized.unseen)) tt),
         ih,
       )
       by (Target t) (Heard u f r) k a ih = absurd k.0.ok

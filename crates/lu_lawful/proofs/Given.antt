@@ -62,7 +62,7 @@ keeps_given head past stamp node (Act f) a g h d k i j =
 keeps_given head past stamp node (Made f) a g h d k i j =
     ⊎_elim (λ (p : f ≡ d). inl p) (λ (p : Acted past d). ⊎_elim (λ (q : Did past d). absurd (owed past (turn stamp node) d (Made f) q a.owes)) (λ (q : Showed past k). inr q) (h d k p j)) i
 keeps_given head past stamp node (Grant lock asked) a g h d k i j = ⊎_elim (λ (q : Did past d). inl q) (λ (q : Showed past k). inr (inr q)) (h d k i j)
-keeps_given head past stamp (Target t) (Send (Client c) (message.Reply r)) a g h d k i j = ⊎_elim (λ (q : Did past d). inr (shows_showed head past k g (a.ok.3 d q k j))) (λ (q : Showed past k). inr q) (h d k i j)
+keeps_given head past stamp (Target t) (Send (Client c) (message.Reply r)) a g h d k i j = ⊎_elim (λ (q : Did past d). inr (shows_showed head past k g (a.ok.2 d q k j))) (λ (q : Showed past k). inr q) (h d k i j)
 keeps_given head past stamp (Client b) (Send (Client c) (message.Reply r)) a g h d k i j = absurd a.ok
 keeps_given head past stamp node e a g h d k i j = ⊎_elim (λ (q : Did past d). absurd (owed past (turn stamp node) d e q a.owes)) (λ (q : Showed past k). inr q) (h d k i j)
 

@@ -1,55 +1,159 @@
--- The law of glimpses: so far nobody is told sizes, since what is told is the answer of an operation on names, or EIO.
-use Rattle.std.proofs.Common.{◌≡◌, ℕ, Bool, false, List, [], ◌∷◌, ⊎_elim, refl, sym, subst}
+-- The law of glimpses: no item of the history changes bytes, so each object of the plain machine is empty after every turn; and each size
+-- that a glimpse is told is 0.
+use Rattle.std.proofs.Common.{◌≡◌, ℕ, zero, suc, Bool, false, List, [], ◌∷◌, Option, Some, None, inl, inr, refl, sym, subst, ap, ◌∙◌, arith}
+use Rattle.std.specs.Prelude.{nat_eq, ◌+◌, ◌||◌}
+use Rattle.std.specs.List.{list_any}
+use Rattle.std.proofs.lemmas.Bool.{cond_both}
 use Rattle.lu_base.specs.declared.ids.At.{At}
+use Rattle.lu_base.specs.declared.ids.Fid.{Fid}
 use Rattle.lu_base.specs.declared.ids.Node.{Node}
 use Rattle.lu_base.specs.declared.ids.Node.TheVariants.{Client, Target}
+use Rattle.lu_base.specs.declared.ids.Txn.{Txn as TxnOf}
 use Rattle.lu_base.specs.declared.ids.Who.{Who}
 use Rattle.lu_msg.specs.declared.answers.Answer.{Answer}
 use Rattle.lu_msg.specs.declared.answers.Answer.TheVariants as told
+use Rattle.lu_msg.specs.declared.operations.Op.{Op}
+use Rattle.lu_trace.specs.declared.entries.Entry.{Entry as PrintedEntry}
 use Rattle.lu_trace.specs.declared.entries.Entry.TheVariants as trace
 use Rattle.lu_trace.specs.declared.entries.Line.{Line as PrintedLine}
-use Rattle.lu_words.specs.Words.{Entry, Told, Line, line}
-use Rattle.lu_words.specs.Printed.{printed}
+use Rattle.lu_machine.specs.declared.acts.Act.{Act as ActOf}
+use Rattle.lu_machine.specs.Bytes.{FileBytes, object_at}
+use Rattle.lu_machine.specs.Machine.{Machine, bytes_of, object_of}
+use Rattle.lu_machine.specs.Objects.{object_size}
+use Rattle.lu_machine.proofs.Transactions.{flushes_stay}
+use Rattle.lu_words.specs.Words.{Entry, Told, Txn as Made, Line, line}
+use Rattle.lu_words.specs.Sent.{count_sent}
+use Rattle.lu_words.specs.Printed.{printed_entry, printed}
+use Rattle.lu_covered.specs.Covered.{IsOnSizes}
 use Rattle.lu_covered.specs.Heads.{Head}
-use Rattle.lu_laws.specs.Words.Pasts.{Past}
-use Rattle.lu_laws.specs.Words.Lives.{is_gone}
+use Rattle.lu_laws.specs.Words.Pasts.{Past, same_turn}
+use Rattle.lu_laws.specs.Words.Lives.{who_is, is_gone}
+use Rattle.lu_laws.specs.Words.Calls.{Begun, open_call}
+use Rattle.lu_laws.specs.Words.Requests.{asked}
+use Rattle.lu_laws.specs.Words.Histories.{names_act, after_item, told_item, machine_of}
+use Rattle.lu_laws.specs.Words.Glimpses.{to_turn_end, machine_cut, has_size, peeked}
+use Rattle.lu_laws.specs.Words.Lost.{is_lost}
 use Rattle.lu_laws.specs.Holds.{Holds}
-use Rattle.lu_laws.specs.Laws.Glimpse.{GlimpseAt, GlimpseOf, Glimpse}
+use Rattle.lu_laws.specs.Laws.Glimpse as laws
+use Rattle.lu_laws.specs.Laws.Glimpse.{AreSizes, machines, SizesOn, GlimpseAt, GlimpseOf, Glimpse}
 use Rattle.lu_guards.proofs.Grown.{Allowed, Grown}
 use Rattle.lu_facts.proofs.Groups.{turn}
-use Rattle.lu_lawful.proofs.Lines.{Keeps, holds_before}
-use Rattle.lu_lawful.proofs.Facts.{AnswersAt, KnewAt, EndsAt, BadAt, TellsAt, AllTold, told_earlier}
+use Rattle.lu_lawful.proofs.Lines.{Keeps, shown, holds_due}
+use Rattle.lu_lawful.proofs.Facts.{SizesAt, TellsAt, AllTold, told_earlier}
 use Rattle.lu_lawful.proofs.Fine.{are_sizes, deed_fine, so_fine, known_fine}
+use Rattle.lu_lawful.proofs.Handles.{good_stage, file_there, meant_is}
+use Rattle.lu_lawful.proofs.HistoryLaw.{ToldAdds, flush_of, told_adds}
+use Rattle.lu_lawful.proofs.Sized.{AllEmpty}
 use Rattle.lu_lawful.proofs.ToldLaw.{all_told}
 
+-- ---- no file has bytes
+
+abbrev NoBytes : Machine → Type 0
+NoBytes m = (f : Fid) → bytes_of m f ≡ []
+
+-- so each object is empty
+no_object : (m : Machine) (f : Fid) (stripe : ℕ) → NoBytes m → object_size (object_of m f stripe) ≡ 0
+no_object m f stripe none = ap (λ (b : FileBytes). object_size (object_at b stripe)) (none f)
+
+module _ (head : Head) (out : Who → Bool) (lost : ℕ → ℕ → Bool) where
+  abbrev machine : List Line → Machine
+  machine past = machine_of out lost head.osts (printed past)
+
+  names_leave : (m : Machine) (who : Who) (number : TxnOf) (o : Option Op) → NoBytes m → NoBytes (after_item head.osts m (names_act who number o))
+  names_leave m who number None none = none
+  names_leave m who number (Some o) none = none
+
+  adds_none : (m : Machine) (who : Who) (i : Option ActOf) → ToldAdds who i → NoBytes m → NoBytes (after_item head.osts m i)
+  adds_none m who i (inl e) none = subst (λ (x : Option ActOf). NoBytes (after_item head.osts m x)) (sym e) none
+  adds_none m who i (inr (inl k)) none = subst (λ (x : Option ActOf). NoBytes (after_item head.osts m x)) (sym k.1) none
+  adds_none m who i (inr (inr f)) none = subst (λ (x : Option ActOf). NoBytes (after_item head.osts m x)) (sym f.2) (λ g. (flushes_stay head.osts m (flush_of who f.0 f.1) f.0 f.1).bytes g ∙ none g)
+
+  no_bytes : (past : List Line) → Grown head past → AllTold past → NoBytes (machine past)
+  no_bytes [] g t = λ f. refl
+  no_bytes (l ∷ past) g t = by l.at.node l.entry g.0 t (no_bytes past g.1 (told_earlier l past t))
+    where
+      by : (node : Node) (e : Entry) → Allowed head past (turn l.at.stamp node) e → AllTold (line (turn l.at.stamp node) e ∷ past) → NoBytes (machine past) → NoBytes (machine (line (turn l.at.stamp node) e ∷ past))
+      by (Client c) (Made d) k t none = absurd k.ok
+      by (Target zero) (Made d) k t none =
+          cond_both (lost 0 d.reply.txn.0) None (names_act d.reply.who d.reply.txn (asked (printed past) 0 d.reply.who d.reply.xid.0)) (λ (i : Option ActOf). NoBytes (after_item head.osts (machine past) i))
+          (λ _. none) (λ _. names_leave (machine past) d.reply.who d.reply.txn (asked (printed past) 0 d.reply.who d.reply.xid.0) none)
+      by (Target (suc u)) (Made d) k t none = let no = k.ok in absurd (omega (arith, no))
+      by (Client c) (Told slot named given work) k t none =
+          adds_none (machine past) (who_is c (printed past)) (told_item out (printed past) (turn l.at.stamp (Client c)) (Client c) slot named given) (told_adds head out past l.at.stamp c slot named given g.1 t.0) none
+      by (Target u) (Told slot named given work) k t none = absurd k.ok
+      by _ _ k t none = none
+
+-- ---- the trace cut after this turn
+
 module _ (head : Head) (out : Who → Bool) where
+  -- after the lines to come of any turn
+  abbrev Due : List Line → List PrintedLine → Type 0
+  Due past later = (at : At) → NoBytes (machine_cut head.osts (to_turn_end at later (printed past)))
+
+  cut_none : (past : List Line) → Grown head past → NoBytes (machine_cut head.osts (printed past))
+  cut_none past g = no_bytes head (is_gone (printed past)) (is_lost (printed past)) past g (all_told head past g)
+
+  due_before : (past : List Line) (l : Line) (later : List PrintedLine) → Grown head (l ∷ past) → Due (l ∷ past) later → Due past (shown l.at (printed_entry (count_sent past + 1) l.entry) later)
+  due_before past l later g due at = by (printed_entry (count_sent past + 1) l.entry) (due at)
+    where
+      by : (o : Option PrintedEntry) → NoBytes (machine_cut head.osts (to_turn_end at later (elim o [ None ↦ printed past | Some e ↦ record { at = l.at; entry = e } ∷ printed past ]))) → NoBytes (machine_cut head.osts (to_turn_end at (shown l.at o later) (printed past)))
+      by None h = h
+      by (Some e) h =
+          cond_both (same_turn l.at at) (to_turn_end at later (record { at = l.at; entry = e } ∷ printed past)) (printed past) (λ (p : Past). NoBytes (machine_cut head.osts p)) (λ _. h) (λ _. cut_none past g.1)
+
+  -- ---- what is told
+
   -- what isn't sizes says nothing to the law
   quiet : (past : Past) (l : PrintedLine) (later : List PrintedLine) (slot : ℕ) (named : At) (given : Answer) → are_sizes given ≡ false → GlimpseAt out head.osts past l later (trace.Told slot named given)
   quiet past l later slot named (told.Sizes sizes) is = absurd (cc)
   quiet past l later slot named _ is = tt
 
-  told_none : (past : List Line) (at : At) (c slot : ℕ) (named : At) (given : Answer) → Grown head past → TellsAt past at (Client c) slot named given → are_sizes given ≡ false
-  told_none past at c slot named given g tells = ⊎_elim
-      (λ (a : AnswersAt past at c named given). subst (λ (v : Answer). are_sizes v ≡ false) a.answer (so_fine a.deed.reply.answer (deed_fine head past a.deed g a.acted)).2)
-      (⊎_elim
-      (λ (k : KnewAt past at c slot named given). (known_fine head past c k.running.call given g k.known).2)
-      (⊎_elim
-      (λ (k : EndsAt past at c slot named given). subst (λ (v : Answer). are_sizes v ≡ false) (sym k.answer) refl)
-      (λ (k : BadAt past at c slot named given). subst (λ (v : Answer). are_sizes v ≡ false) (sym k.answer) refl)))
-      tells
+  -- each size is that of an empty object, by the first of these machines
+  are_empty : (m : Machine) (ms : List Machine) (past : Past) (c slot : ℕ) (f : Fid) (stripe : ℕ) (sizes : List ℕ) → NoBytes m → AllEmpty sizes → AreSizes (m ∷ ms) past c slot (Some f) stripe sizes
+  are_empty m ms past c slot f stripe [] none empty = tt
+  are_empty m ms past c slot f stripe (n ∷ ns) none empty = (
+    ap (λ (b : Bool). (b || list_any (has_size (Some f) stripe n) ms) || list_any (nat_eq n) (peeked c slot (Some f) stripe past)) (ap (λ (k : ℕ). nat_eq k n) (no_object m f stripe none) ∙ ap (nat_eq 0) empty.0),
+    are_empty m ms past c slot f (suc stripe) ns none empty.1,
+  )
 
-  glimpse_at : (past : List Line) (l : Line) (later : List PrintedLine) → Allowed head past l.at l.entry → Grown head past → AllTold (l ∷ past) → Keeps (GlimpseOf out head.osts) past l later
-  glimpse_at past l later ok g told = by l.at.node l.entry ok told
+  sizes_on : (past : List Line) (l : PrintedLine) (later : List PrintedLine) (c slot : ℕ) (named : At) (given : Answer) → Grown head past → NoBytes (machine_cut head.osts (to_turn_end l.at later (l ∷ printed past))) → (a : SizesAt past l.at c slot named given)
+      → SizesOn out head.osts (printed past) l later c slot a.sizes (open_call c slot (printed past))
+  sizes_on past l later c slot named given g none a =
+      let m = meant_is head c slot past a.running g a.call in
+      let good : m.0.bad ≡ false = sym m.5 ∙ good_stage a.running.stage a.good in
+      let f = file_there c slot (printed past) m.0 m.1 (subst IsOnSizes (sym (m.3 ∙ a.glimpses)) tt) good in
+      subst (λ (o : Option Begun). SizesOn out head.osts (printed past) l later c slot a.sizes o) (sym m.1)
+      (subst (λ (o : Option Fid). AreSizes (machines out head.osts (printed past) l later c slot) (printed past) c slot o 0 a.sizes) (sym f.1)
+      (are_empty (machine_cut head.osts (to_turn_end l.at later (l ∷ printed past))) _ (printed past) c slot f.0 0 a.sizes none a.empty))
+
+  told_law : (past : List Line) (l : PrintedLine) (later : List PrintedLine) (c slot : ℕ) (named : At) (given : Answer) → l.at.node ≡ Client c → Grown head past → NoBytes (machine_cut head.osts (to_turn_end l.at later (l ∷ printed past))) → TellsAt past l.at (Client c) slot named given
+      → GlimpseAt out head.osts (printed past) l later (trace.Told slot named given)
+  told_law past l later c slot named given here g none (inl a) = quiet (printed past) l later slot named given (subst (λ (v : Answer). are_sizes v ≡ false) a.answer (so_fine a.deed.reply.answer (deed_fine head past a.deed g a.acted)).2)
+  told_law past l later c slot named given here g none (inr (inl k)) = quiet (printed past) l later slot named given (known_fine head past c k.running.call given g k.known).2
+  told_law past l later c slot named given here g none (inr (inr (inl k))) = quiet (printed past) l later slot named given (ap are_sizes k.answer)
+  told_law past l later c slot named given here g none (inr (inr (inr (inl k)))) = quiet (printed past) l later slot named given (ap are_sizes k.answer)
+  told_law past l later c slot named given here g none (inr (inr (inr (inr (inl k))))) =
+      subst (λ (v : Answer). GlimpseAt out head.osts (printed past) l later (trace.Told slot named v)) (sym k.answer)
+      (subst (λ (n : Node). SizesBy n) (sym here) (λ stays. sizes_on past l later c slot named given g none k))
     where
-      by : (node : Node) (e : Entry) → Allowed head past (turn l.at.stamp node) e → AllTold (line (turn l.at.stamp node) e ∷ past) → Keeps (GlimpseOf out head.osts) past (line (turn l.at.stamp node) e) later
-      by (Client c) (Told slot named given work) k t =
-          quiet (printed past) (record { at = turn l.at.stamp (Client c); entry = trace.Told slot named given }) later slot named given (told_none past (turn l.at.stamp (Client c)) c slot named given g t.0)
-      by (Target u) (Told slot named given work) k t = absurd k.ok
-      by _ _ k t = tt
+      SizesBy : Node → Type 0
+      SizesBy n = laws.SizesAt out head.osts (printed past) l later n slot k.sizes
+  told_law past l later c slot named given here g none (inr (inr (inr (inr (inr k))))) = quiet (printed past) l later slot named given (ap are_sizes k.answer)
+
+  -- ---- the law
+
+  glimpse_at : (past : List Line) (l : Line) (later : List PrintedLine) → Allowed head past l.at l.entry → Grown head past → AllTold (l ∷ past) → Due (l ∷ past) later → Keeps (GlimpseOf out head.osts) past l later
+  glimpse_at past l later ok g t due = by l.at.node l.entry ok t due
+    where
+      by : (node : Node) (e : Entry) → Allowed head past (turn l.at.stamp node) e → AllTold (line (turn l.at.stamp node) e ∷ past) → Due (line (turn l.at.stamp node) e ∷ past) later → Keeps (GlimpseOf out head.osts) past (line (turn l.at.stamp node) e) later
+      by (Client c) (Told slot named given work) k t due =
+          told_law past (record { at = turn l.at.stamp (Client c); entry = trace.Told slot named given }) later c slot named given refl g (due (turn l.at.stamp (Client c))) t.0
+      by (Target u) (Told slot named given work) k t due = absurd k.ok
+      by _ _ k t due = tt
 
   -- whatever lives are out
   pub glimpse_of : (past : List Line) → Grown head past → Holds (GlimpseOf out head.osts) (printed past)
-  glimpse_of past g = holds_before head (GlimpseOf out head.osts) AllTold told_earlier glimpse_at past [] g (all_told head past g)
+  glimpse_of past g = holds_due head (GlimpseOf out head.osts) AllTold told_earlier Due due_before glimpse_at past [] g (all_told head past g) (λ at. cut_none past g)
 
 pub glimpse_law : (head : Head) (past : List Line) → Grown head past → Holds (Glimpse head.osts (printed past)) (printed past)
 glimpse_law head past g = glimpse_of head (is_gone (printed past)) past g

@@ -20,13 +20,16 @@ use Rattle.lu_msg.specs.declared.calls.Call.TheVariants as call
 use Rattle.lu_msg.specs.declared.messages.Reply.{Reply as ReplyTo}
 use Rattle.lu_msg.specs.declared.operations.Op.{Op}
 use Rattle.lu_msg.specs.declared.operations.Op.TheVariants as op
+use Rattle.lu_trace.specs.declared.entries.Entry.{Entry as PrintedEntry}
+use Rattle.lu_trace.specs.declared.entries.Entry.TheVariants as trace
 use Rattle.lu_machine.specs.Fits.{answer_fits}
 use Rattle.lu_machine.specs.Tree.{same_life}
-use Rattle.lu_words.specs.Carried.{Deed, HandleFile, Asking, Unasked, Stage, Plain, Bad, Work, Running}
+use Rattle.lu_words.specs.Carried.{Deed, HandleFile, Asking, Unasked, Stage, Plain, Bad, Sizes, Work, Running}
 use Rattle.lu_words.specs.Words.{Entry, Begin, Told, Life, Act, Txn as Made, Line, line}
 use Rattle.lu_words.specs.Printed.{printed}
 use Rattle.lu_client_rows.specs.Slots as slots
 use Rattle.lu_covered.specs.Calls.{call_at, life_at, operation_of, becomes, told_as, opened_by, opened, binds, told_file, begun_file, file_at, file_for, is_opening, is_bad}
+use Rattle.lu_covered.specs.Covered.{IsOnSizes}
 use Rattle.lu_covered.specs.Known.{notes_at, known_answer}
 use Rattle.lu_covered.specs.Heads.{Head}
 use Rattle.lu_laws.specs.Words.Lives.{life, is_by}
@@ -34,7 +37,7 @@ use Rattle.lu_laws.specs.Words.Pasts as pasts
 use Rattle.lu_laws.specs.Words.Pasts.{or_else}
 use Rattle.lu_laws.specs.Words.Calls as calls
 use Rattle.lu_laws.specs.Words.Calls.{Binding, bound, binding, told_binding, begun_binding, number_in, number_heard, heard_in, open_call, operation}
-use Rattle.lu_guards.proofs.Guards.{Later, Ending, Closes, Begins, LifeOk, ToldOk, EntryOk}
+use Rattle.lu_guards.proofs.Guards.{JustHeard, Later, Ending, Closes, Begins, LifeOk, ToldOk, EntryOk}
 use Rattle.lu_guards.proofs.Grown.{Allowed, Grown}
 use Rattle.lu_guards.proofs.Lists.{self, life_is}
 use Rattle.lu_facts.proofs.Groups.{turn, Acted}
@@ -46,8 +49,9 @@ use Rattle.lu_facts.proofs.Transactions.{opened_number}
 use Rattle.lu_lawful.proofs.Turns.{same_turn_is}
 use Rattle.lu_lawful.proofs.Printed.{flip, its_client, life_number, present_is, OfBoth, both_calls, calls_are}
 use Rattle.lu_lawful.proofs.Hearing.{just_heard}
+use Rattle.lu_lawful.proofs.Sized.{answers_first}
 use Rattle.lu_lawful.proofs.ActsLaw.{own_line}
-use Rattle.lu_lawful.proofs.Deeds.{act_is}
+use Rattle.lu_lawful.proofs.Deeds.{act_for}
 use Rattle.lu_lawful.proofs.Once.{txn_now}
 use Rattle.lu_facts.proofs.Lines.{acted_whole}
 use Rattle.lu_guards.proofs.ClientHandles.{none_there}
@@ -132,7 +136,7 @@ number_is head (l ∷ past) d g a high = by l.at.node l.entry g.0 a (λ i. numbe
     by (Client c) (Act e) k a h = absurd k.ok
     by (Client c) (Made e) k a h = absurd k.ok
     by (Target t) (Act e) k (inl same) h =
-        let none : e.reply.txn.0 ≡ 0 = ap (λ (v : TxnOf). v.0) (act_is head past l.at.stamp t e k).txn in
+        let none : e.reply.txn.0 ≡ 0 = ap (λ (v : TxnOf). v.0) (act_for head past l.at.stamp t e k).number in
         let zero : d.reply.txn.0 ≡ 0 = ap (λ (v : Deed). v.reply.txn.0) (sym same) ∙ none in
         absurd (omega (arith, high, zero))
     by (Target t) (Act e) k (inr i) h = h i
@@ -140,7 +144,7 @@ number_is head (l ∷ past) d g a high = by l.at.node l.entry g.0 a (λ i. numbe
         let now = txn_now head past l.at.stamp (Target t) e k g.1 in
         subst (λ (v : Deed). number_in (printed (line (turn l.at.stamp (Target t)) (Made e) ∷ past)) v.reply.at v.reply.who v.reply.xid.0 ≡ Some v.reply.txn) same
         (at_once (pasts.is_target 0 (Target t) && pasts.same_turn (turn l.at.stamp (Target t)) e.reply.at && same_life e.reply.who e.reply.who && nat_eq e.reply.xid.0 e.reply.xid.0) e.reply.txn (number_in (printed past) e.reply.at e.reply.who e.reply.xid.0)
-        (own_line (turn l.at.stamp (Target t)) e.reply.at e.reply.who e.reply.xid.0 (sym now.2) now.1))
+        (own_line (turn l.at.stamp (Target t)) e.reply.at e.reply.who e.reply.xid.0 (sym now.turn) (ap Target k.ok)))
     by (Target t) (Made e) k (inr i) h =
         let now = txn_now head past l.at.stamp (Target t) e k g.1 in
         before (pasts.is_target 0 (Target t) && pasts.same_turn (turn l.at.stamp (Target t)) d.reply.at && same_life e.reply.who d.reply.who && nat_eq e.reply.xid.0 d.reply.xid.0) e.reply.txn (number_in (printed past) d.reply.at d.reply.who d.reply.xid.0) (Some d.reply.txn)
@@ -148,7 +152,7 @@ number_is head (l ∷ past) d g a high = by l.at.node l.entry g.0 a (λ i. numbe
         let p = and_parts (pasts.is_target 0 (Target t) && pasts.same_turn (turn l.at.stamp (Target t)) d.reply.at && same_life e.reply.who d.reply.who) (nat_eq e.reply.xid.0 d.reply.xid.0) same in
         let q = and_parts (pasts.is_target 0 (Target t) && pasts.same_turn (turn l.at.stamp (Target t)) d.reply.at) (same_life e.reply.who d.reply.who) p.0 in
         let r = and_parts (pasts.is_target 0 (Target t)) (pasts.same_turn (turn l.at.stamp (Target t)) d.reply.at) q.0 in
-        now.0.now d i (sym (same_turn_is (turn l.at.stamp (Target t)) d.reply.at r.1)) (sym (life_is e.reply.who d.reply.who q.1)) (sym (eqb-true e.reply.xid.0 d.reply.xid.0 p.1)))
+        now.now d i (sym (same_turn_is (turn l.at.stamp (Target t)) d.reply.at r.1)) (sym (life_is e.reply.who d.reply.who q.1)) (sym (eqb-true e.reply.xid.0 d.reply.xid.0 p.1)))
         (h i)
     by _ _ k a h = h a
 
@@ -166,11 +170,12 @@ module _ (head : Head) (c : ℕ) (past : List Line) (stamp : Stamp) (g : Grown h
   its_number slot other path named given work ok f is says =
       let replied = (holds head past g).replies c slot ok.target ok.running ok.reply ok.call ok.answered in
       let d = replied.deed in
+      let just = subst (λ (t : ℕ). JustHeard past at t ok.reply) (answers_first ok.running ok.target d.op replied.op ok.good).0 ok.heard in
       let acted = acted_whole ok.target past d replied.acted in
       let answered : d.reply.answer ≡ told.OpenFile f.fid f.number f.layout = ap (λ (v : ReplyTo). v.answer) replied.is ∙ says in
       let made = opened_number head past d f.fid f.number f.layout g acted answered in
       let x : ok.reply.xid.0 ≡ d.reply.xid.0 = ap (λ (v : ReplyTo). v.xid.0) (sym replied.is) in
-      let heard = (just_heard head past at c ok.target ok.reply g refl ok.heard).1 ∙ ap (λ (v : ℕ). Some v) x in
+      let heard = just_heard head past at c ok.reply g refl just ∙ ap (λ (v : ℕ). Some v) x in
       let who : d.reply.who ≡ life_at c past = ap (λ (v : ReplyTo). v.who) replied.is ∙ replied.client in
       let when : d.reply.at ≡ named = ap (λ (v : ReplyTo). v.at) replied.is ∙ sym ok.of_turn in
       ap (λ (o : Option ℕ). number_heard (printed past) named (life_at c past) o) heard
@@ -185,7 +190,7 @@ module _ (head : Head) (c : ℕ) (past : List Line) (stamp : Stamp) (g : Grown h
       let replied = (holds head past g).replies c slot ok.target ok.running ok.reply ok.call ok.answered in
       let d = replied.deed in
       let fits = (acted_answered head past d g (acted_whole ok.target past d replied.acted)).0 in
-      let becomes_it : Some (op.Open path) ≡ Some d.op = ap (λ (v : Call). operation_of ok.running.file v) (sym is) ∙ replied.op in
+      let becomes_it : Some (op.Open path) ≡ Some d.op = ap (λ (v : Call). operation_of ok.running.file v) (sym is) ∙ (answers_first ok.running ok.target d.op replied.op ok.good).1 in
       let asks_it : d.op ≡ op.Open path = cc in
       let answered : d.reply.answer ≡ told.Made f = ap (λ (v : ReplyTo). v.answer) replied.is ∙ says in
       let both : answer_fits (op.Open path) (told.Made f) ≡ true = ap (λ (v : Op). answer_fits v (told.Made f)) (sym asks_it) ∙ ap (λ (v : Answer). answer_fits d.op v) (sym answered) ∙ fits in
@@ -264,7 +269,9 @@ module _ (head : Head) (c h : ℕ) where
       by (inl a) = inr (of a.running a.call (λ other path is. told_open head c past stamp g slot named given work (binding (life_at c past) h (printed past)) (file_at c h past) same other path a is))
       by (inr (inl a)) = inr (of a.running a.call (λ other path is. let none : known_answer (notes_at c past) (call.Open other path) ≡ Some given = ap (λ (v : Call). known_answer (notes_at c past) v) (sym is) ∙ a.known in absurd (cc)))
       by (inr (inr (inl a))) = inl (refl, noticed_more (line (turn stamp (Client c)) (Told slot named given work)) past (turn stamp (Client c)) (life_at c past) a.notice)
-      by (inr (inr (inr a))) = inr (of a.running a.call (λ other path is. asked_none a.running.asking (bad_unasked head past g c slot a.running a.call a.bad) (told.Refused EBADF) a.of_answer refl))
+      by (inr (inr (inr (inl a)))) = inr (of a.running a.call (λ other path is. asked_none a.running.asking (bad_unasked head past g c slot a.running a.call a.bad) (told.Refused EBADF) a.of_answer refl))
+      by (inr (inr (inr (inr (inl a))))) = inr (of a.running a.call (λ other path is. let no : call.Open other path ≡ call.Glimpse a.handle = sym is ∙ a.glimpses in absurd (cc)))
+      by (inr (inr (inr (inr (inr a))))) = inr (of a.running a.call (λ other path is. let no : call.Open other path ≡ call.Flush a.handle = sym is ∙ a.flushes in absurd (cc)))
 
   tied : (past : List Line) → Grown head past → Ending past c ⊎ IsTied past
   tied [] g = inr refl
@@ -378,6 +385,11 @@ module _ (head : Head) (c : ℕ) (past : List Line) (g : Grown head past) (at : 
   meant_good (call.Close h) file fine is o e = (ap (λ (f : Option HandleFile). operation_of f (call.Close h)) is ∙ closes_it h (file_at c h past) ∙ ap calls.closes (sym (bound_is h)), sym (close_bad h ∙ fine))
   meant_good x file fine is o e = absurd (cc)
 
+  meant_sizes : (x : Call) (file : Option HandleFile) → is_bad c past x ≡ false → IsOnSizes x → IsMeant x file Plain
+  meant_sizes (call.Flush h) file fine sizes = (refl, sym (close_bad h ∙ fine))
+  meant_sizes (call.Glimpse h) file fine sizes = (refl, sym (close_bad h ∙ fine))
+  meant_sizes x file fine sizes = absurd sizes
+
   meant_bad : (x : Call) (file : Option HandleFile) → is_bad c past x ≡ true → file ≡ None → IsMeant x file Bad
   meant_bad (call.Open h path) file bad is = (refl, sym (open_bad h path ∙ bad))
   meant_bad (call.Close h) file bad is = (
@@ -393,9 +405,40 @@ module _ (head : Head) (c : ℕ) (past : List Line) (g : Grown head past) (at : 
 
   meant_begin : (r : Running) → Begins c past r → IsMeant r.call r.file r.stage
   meant_begin r begins = ⊎_elim
-      (λ (p : (is_bad c past r.call ≡ false) × (r.stage ≡ Plain) × (r.file ≡ file_for c past r.call) × ((o : Op) × (becomes r ≡ Some o))). subst (λ (v : Stage). IsMeant r.call r.file v) (sym p.1) (meant_good r.call r.file p.0 p.2 p.3.0 p.3.1))
+      (λ (p : (is_bad c past r.call ≡ false) × (r.stage ≡ Plain) × (r.file ≡ file_for c past r.call) × (((o : Op) × (becomes r ≡ Some o)) ⊎ IsOnSizes r.call)). subst (λ (v : Stage). IsMeant r.call r.file v) (sym p.1)
+      (⊎_elim (λ (q : (o : Op) × (becomes r ≡ Some o)). meant_good r.call r.file p.0 p.2 q.0 q.1) (λ (q : IsOnSizes r.call). meant_sizes r.call r.file p.0 q) p.3))
       (λ (p : (is_bad c past r.call ≡ true) × (r.stage ≡ Bad) × (r.file ≡ None)). subst (λ (v : Stage). IsMeant r.call r.file v) (sym p.1) (meant_bad r.call r.file p.0 p.2))
       begins
+
+-- a call on the sizes of a file is bad by the laws where its handle was bound to nothing
+open_bound : (c slot : ℕ) (past : pasts.Past) (b : calls.Begun) → open_call c slot past ≡ Some b → IsOnSizes b.call → b.bad ≡ not (is_some b.bound)
+open_bound c slot [] b e sizes = absurd (cc)
+open_bound c slot (l ∷ past) b e sizes = by l.entry e (λ q. open_bound c slot past b q sizes)
+  where
+    its_own : (x : Call) → IsOnSizes x → calls.is_bad c past x ≡ not (is_some (calls.bound_by c past (calls.handle_of x)))
+    its_own (call.Flush h) sizes = refl
+    its_own (call.Glimpse h) sizes = refl
+    its_own x sizes = absurd sizes
+
+    begun_is : (x y : calls.Begun) → Some x ≡ Some y → x ≡ y
+    begun_is x y e = cc
+
+    now : (x : Call) → Some (calls.begun c past l.at x) ≡ Some b → b.bad ≡ not (is_some b.bound)
+    now x e = let same = begun_is (calls.begun c past l.at x) b e in subst (λ (v : calls.Begun). v.bad ≡ not (is_some v.bound)) same (its_own x (subst (λ (v : calls.Begun). IsOnSizes v.call) (sym same) sizes))
+
+    by : (x : PrintedEntry) → open_call c slot (record { at = l.at; entry = x } ∷ past) ≡ Some b → (open_call c slot past ≡ Some b → b.bad ≡ not (is_some b.bound)) → b.bad ≡ not (is_some b.bound)
+    by (trace.Begin other x) e ih =
+        cond_both (pasts.is_client c l.at.node && nat_eq other slot) (Some (calls.begun c past l.at x)) (open_call c slot past) (λ (o : Option calls.Begun). o ≡ Some b → b.bad ≡ not (is_some b.bound)) (λ t q. now x q) (λ t q. ih q) e
+    by (trace.Told other at given) e ih = cond_both (pasts.is_client c l.at.node && nat_eq other slot) None (open_call c slot past) (λ (o : Option calls.Begun). o ≡ Some b → b.bad ≡ not (is_some b.bound)) (λ t q. absurd (cc)) (λ t q. ih q) e
+    by _ e ih = ih e
+
+-- so a good one is of a file
+pub file_there : (c slot : ℕ) (past : pasts.Past) (b : calls.Begun) → open_call c slot past ≡ Some b → IsOnSizes b.call → b.bad ≡ false → (f : Fid) × (calls.file_of b ≡ Some f)
+file_there c slot past b e sizes good = by b.bound (sym (open_bound c slot past b e sizes) ∙ good)
+  where
+    by : (o : Option Binding) → not (is_some o) ≡ false → (f : Fid) × (option_map (λ (v : Binding). v.fid) o ≡ Some f)
+    by None q = absurd (cc)
+    by (Some v) q = (v.fid, refl)
 
 -- a call that is bad by the laws as it begins began on a bad handle
 pub begins_bad : (head : Head) (c slot : ℕ) (past : List Line) (stamp : Stamp) (running : Running) → Grown head past → Allowed head past (turn stamp (Client c)) (Begin slot running) → calls.is_bad c (printed past) running.call ≡ true → running.stage ≡ Bad
@@ -410,14 +453,21 @@ begins_bad head c slot past stamp running g k bad = by running.stage ((meant_beg
 abbrev IsMeantBy : Running → calls.Begun → Type 0
 IsMeantBy a b = (a.at ≡ b.at) × (a.call ≡ b.call) × (becomes a ≡ operation b) × (is_bad_stage a.stage ≡ b.bad)
 
+pub good_stage : (s : Stage) → (s ≡ Bad → ⊥) → is_bad_stage s ≡ false
+good_stage Bad good = absurd (good refl)
+good_stage s good = refl
+
+meant_stands : (work : Work) (a : Running) (b : calls.Begun) → (a.stage ≡ Bad → ⊥) → IsMeantBy a b → IsMeantBy (record a { stage = Sizes work }) b
+meant_stands work a b good s = (s.0, s.1, s.2, sym (good_stage a.stage good) ∙ s.3)
+
 -- the call that stands in a slot by the laws: the same, for the metadata target what it becomes, and bad where it began so
 pub meant_is : (head : Head) (c slot : ℕ) (past : List Line) (running : Running) → Grown head past → call_at c slot past ≡ Some running
     → (b : calls.Begun) × (open_call c slot (printed past) ≡ Some b) × (b.at ≡ running.at) × (b.call ≡ running.call) × (becomes running ≡ operation b) × (is_bad_stage running.stage ≡ b.bad)
 meant_is head c slot past running g is =
     by (call_at c slot past) (open_call c slot (printed past)) refl is
-    (both_calls IsMeantBy (λ asking a b s. s) head c slot (λ past stamp s r g k. let m = meant_begin head c past g (turn stamp (Client c)) k.closes k.ok.later r k.ok.begins in (ap (λ (v : Running). v.at) k.ok.is, refl, m.0, m.1)) past g)
+    (both_calls IsMeantBy (λ asking a b s. s) meant_stands head c slot (λ past stamp s r g k. let m = meant_begin head c past g (turn stamp (Client c)) k.closes k.ok.later r k.ok.begins in (ap (λ (v : Running). v.at) k.ok.is, refl, m.0, m.1)) past g)
   where
-    by : (a : Option Running) (b : Option calls.Begun) → open_call c slot (printed past) ≡ b → a ≡ Some running → OfBoth IsMeantBy (λ asking a b s. s) a b
+    by : (a : Option Running) (b : Option calls.Begun) → open_call c slot (printed past) ≡ b → a ≡ Some running → OfBoth IsMeantBy (λ asking a b s. s) meant_stands a b
         → (b : calls.Begun) × (open_call c slot (printed past) ≡ Some b) × (b.at ≡ running.at) × (b.call ≡ running.call) × (becomes running ≡ operation b) × (is_bad_stage running.stage ≡ b.bad)
     by None b q e s = absurd (cc)
     by (Some a) None q e s = absurd s

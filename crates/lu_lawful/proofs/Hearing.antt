@@ -1,5 +1,5 @@
 -- What is heard in a turn, by the laws: of a turn that is still to come nothing, and of the one that took a reply that reply's number.
-use Rattle.std.proofs.Common.{◌≡◌, ℕ, Bool, true, false, List, [], ◌∷◌, Option, Some, None, refl, sym, subst, ap, ◌∙◌, arith}
+use Rattle.std.proofs.Common.{◌≡◌, ℕ, Bool, true, false, List, [], ◌∷◌, Option, Some, None, refl, sym, subst, ap, arith}
 use Rattle.std.specs.Prelude.{nat_eq, nat_lt, ◌&&◌, if◌then◌else◌}
 use Rattle.std.proofs.lemmas.Bool.Decides.{nat_tests}
 use Rattle.lu_base.specs.declared.ids.At.{At}
@@ -61,22 +61,20 @@ unheard_now head (l ∷ past) at from m g t = by l.at.node l.entry g.0 t
     by node _ k t = absurd t
 
 -- it was heard at the metadata target, in this turn
-pub just_heard : (head : Head) (past : List Line) (at : At) (c t : ℕ) (r : ReplyTo) → Grown head past → at.node ≡ Client c → JustHeard past at t r → (t ≡ 0) × (heard_in (printed past) at ≡ Some r.xid.0)
-just_heard head [] at c t r g n j = absurd j
-just_heard head (l ∷ past) at c t r g n j = by l.at.node l.entry g.0 j (just_heard head past at c t r g.1 n)
+pub just_heard : (head : Head) (past : List Line) (at : At) (c : ℕ) (r : ReplyTo) → Grown head past → at.node ≡ Client c → JustHeard past at 0 r → heard_in (printed past) at ≡ Some r.xid.0
+just_heard head [] at c r g n j = absurd j
+just_heard head (l ∷ past) at c r g n j = by l.at.node l.entry g.0 j (just_heard head past at c r g.1 n)
   where
     first : (here : At) (u x y : ℕ) (was : Option ℕ) → was ≡ None → same_turn here at ≡ true → u ≡ 0 → x ≡ y → or_else was (if same_turn here at && nat_eq u 0 then Some x else None) ≡ Some y
     first here u x y None e s z same = rw (s, z) (ap (λ (v : ℕ). Some v) same)
     first here u x y (Some w) e s z same = absurd (cc)
 
-    by : (node : Node) (e : Entry) → Allowed head past (turn l.at.stamp node) e → JustHeard (line (turn l.at.stamp node) e ∷ past) at t r → (JustHeard past at t r → (t ≡ 0) × (heard_in (printed past) at ≡ Some r.xid.0))
-        → (t ≡ 0) × (heard_in (printed (line (turn l.at.stamp node) e ∷ past)) at ≡ Some r.xid.0)
+    by : (node : Node) (e : Entry) → Allowed head past (turn l.at.stamp node) e → JustHeard (line (turn l.at.stamp node) e ∷ past) at 0 r → (JustHeard past at 0 r → heard_in (printed past) at ≡ Some r.xid.0)
+        → heard_in (printed (line (turn l.at.stamp node) e ∷ past)) at ≡ Some r.xid.0
     by (Target u) (Heard v f q) k j h = absurd k.ok
     by (Client d) (Heard v f q) k j h =
-        let none = unheard_now head past (turn l.at.stamp (Client d)) (Target v) (message.Reply q) g.1 k.ok.1 in (
-          sym j.1 ∙ k.ok.0,
-          first (turn l.at.stamp (Client d)) v q.xid.0 r.xid.0 (heard_in (printed past) at) (subst (λ (w : At). heard_in (printed past) w ≡ None) j.0 none) (subst (λ (w : At). same_turn w at ≡ true) (sym j.0) (same_turn_self at)) k.ok.0 (ap (λ (w : ReplyTo). w.xid.0) j.2),
-        )
+        let none = unheard_now head past (turn l.at.stamp (Client d)) (Target v) (message.Reply q) g.1 k.ok.1 in
+        first (turn l.at.stamp (Client d)) v q.xid.0 r.xid.0 (heard_in (printed past) at) (subst (λ (w : At). heard_in (printed past) w ≡ None) j.0 none) (subst (λ (w : At). same_turn w at ≡ true) (sym j.0) (same_turn_self at)) j.1 (ap (λ (w : ReplyTo). w.xid.0) j.2)
     by (Client d) (Told slot named given work) k j h = absurd j
     by (Target u) (Told slot named given work) k j h = absurd j
     by _ _ k j h = h j

@@ -1,12 +1,13 @@
 -- The law of history: with the lost transactions taken out, the plain machine answers what clients were told, and
--- refuses no transaction that stands. It has more opens than the contents, which lose those of a life that leaves; no part that is looked
--- at holds opens.
+-- refuses no transaction that stands. A flush that is told changes nothing of it, and a glimpse is no item. It has more opens than the
+-- contents, which lose those of a life that leaves; no part that is looked at holds opens.
 use Rattle.std.proofs.Common.{◌*◌, ◌≡◌, ℕ, zero, suc, ◌+◌, ◌<◌, ◌≤◌, Bool, true, false, List, [], ◌∷◌, ◌⊎◌, Option, Some, None, inl, inr, ⊎_elim, refl, sym, subst, ap, ◌∙◌, arith}
 use Rattle.std.specs.Prelude.{nat_eq, not, ◌&&◌, ◌||◌, if◌then◌else◌}
 use Rattle.std.specs.List.{list_any}
 use Rattle.std.specs.Option.{option_map}
 use Rattle.std.proofs.lemmas.Bool.{cond_both, and_parts, eqb-true}
 use Rattle.lu_base.specs.declared.ids.At.{At}
+use Rattle.lu_base.specs.declared.ids.Fid.{Fid}
 use Rattle.lu_base.specs.declared.ids.Node.{Node}
 use Rattle.lu_base.specs.declared.ids.Node.TheVariants.{Client, Target}
 use Rattle.lu_base.specs.declared.ids.Stamp.{Stamp}
@@ -25,7 +26,7 @@ use Rattle.lu_part.specs.declared.parts.Part.{Part}
 use Rattle.lu_trace.specs.declared.entries.Line.{Line as PrintedLine}
 use Rattle.lu_machine.specs.declared.acts.Act.{Act as ActOf}
 use Rattle.lu_machine.specs.declared.acts.Deed.{Deed as DeedOf}
-use Rattle.lu_machine.specs.declared.acts.Deed.TheVariants.{Names}
+use Rattle.lu_machine.specs.declared.acts.Deed.TheVariants.{Names, Data}
 use Rattle.lu_machine.specs.Tree.{Tree, same_life}
 use Rattle.lu_machine.specs.Footprint.{Operation, empty, answer, touches, changes, after, forget, Every, Apart, Same}
 use Rattle.lu_machine.specs.Removal.{Item, Acts, pick}
@@ -37,12 +38,13 @@ use Rattle.lu_machine.proofs.Footprints.{every_one}
 use Rattle.lu_machine.proofs.Stated.{refusals_stay, touched_decide, new_from_old}
 use Rattle.lu_machine.proofs.Removal.{earlier_are_older}
 use Rattle.lu_machine.proofs.Seen.{removal_by_seen}
-use Rattle.lu_machine.proofs.Transactions.{readings_change_nothing, machine_is_table}
+use Rattle.lu_machine.proofs.Transactions.{readings_change_nothing, machine_is_table, flushes_stay}
 use Rattle.lu_words.specs.Carried.{Deed, Outcome, Work, Running, HandleFile}
 use Rattle.lu_words.specs.Words.{Entry, Heard, Told, Act, Txn as Made, Commit, Close, Evict, Line, line}
 use Rattle.lu_words.specs.Concerns.{concerns, only}
 use Rattle.lu_words.specs.Printed.{printed}
 use Rattle.lu_covered.specs.Calls.{life_at, call_at, operation_of, becomes}
+use Rattle.lu_covered.specs.Covered.{IsOnSizes}
 use Rattle.lu_covered.specs.Known.{notes_at, known_answer}
 use Rattle.lu_covered.specs.TargetParts.{operation}
 use Rattle.lu_covered.specs.TargetStates.{boot_at, count_at, committed_at, tree_at, log_at, server_at, server_of, seen_in}
@@ -52,9 +54,9 @@ use Rattle.lu_covered.specs.Heads.{Head}
 use Rattle.lu_laws.specs.Words.Pasts.{same_turn, is_target}
 use Rattle.lu_laws.specs.Words.Lives.{who_is, is_evicted, is_gone}
 use Rattle.lu_laws.specs.Words.Requests.{asked}
-use Rattle.lu_laws.specs.Words.Calls.{Begun, open_call}
+use Rattle.lu_laws.specs.Words.Calls.{Begun, open_call, file_of}
 use Rattle.lu_laws.specs.Words.Calls.{operation as operation_in}
-use Rattle.lu_laws.specs.Words.Histories.{none, deed_on, deed_of, act_of, names_act, call_act, acts_as, is_answer, told_item, after_item, machine_of, answer_to, answer_there}
+use Rattle.lu_laws.specs.Words.Histories.{none, data_deed, deed_on, deed_of, act_of, names_act, call_act, acts_as, is_answer, is_counted, told_item, after_item, machine_of, answer_to, answer_there}
 use Rattle.lu_laws.specs.Holds.{Holds}
 use Rattle.lu_laws.proofs.Leaves.{acts_leave}
 use Rattle.lu_laws.proofs.Tests.{both, settled}
@@ -74,26 +76,25 @@ use Rattle.lu_facts.proofs.All.{holds}
 use Rattle.lu_facts.proofs.Lines.{acted_whole}
 use Rattle.lu_facts.proofs.OnNames.{IsPlain, told_so, reading_told}
 use Rattle.lu_facts.proofs.Refused.{acted_plain}
-use Rattle.lu_facts.proofs.Sides.{acted_only}
 use Rattle.lu_facts.proofs.Known.{right, SawBy, known_saw}
 use Rattle.lu_lawful.proofs.Commits.{made_more}
 use Rattle.lu_lawful.proofs.Lines.{Keeps, holds_before}
 use Rattle.lu_lawful.proofs.Turns.{same_turn_is}
-use Rattle.lu_lawful.proofs.ActsLaw.{own_line}
+use Rattle.lu_lawful.proofs.ActsLaw.{act_zero, own_line}
 use Rattle.lu_lawful.proofs.Once.{NoneNow, act_now, txn_now}
 use Rattle.lu_lawful.proofs.Lost.{lost_whole, stood_before}
 use Rattle.lu_lawful.proofs.HistoryItems.{whole, keep, same_as, same_trans, same_self, same_forgetting, pick_again, seen_stays, all_saw}
-use Rattle.lu_lawful.proofs.Facts.{AskedAt, AllAsked, AnswersAt, KnewAt, TellsAt, AllTold, told_earlier}
+use Rattle.lu_lawful.proofs.Facts.{AskedAt, AllAsked, AnswersAt, KnewAt, FlushedAt, TellsAt, AllTold, told_earlier}
 use Rattle.lu_lawful.proofs.Contents.{number_is, asked_before}
 use Rattle.lu_lawful.proofs.Deeds.{ActIs, TxnIs, act_is, txn_is}
 use Rattle.lu_lawful.proofs.Plain.{told_plain}
 use Rattle.lu_lawful.proofs.Fine.{known_operation}
-use Rattle.lu_lawful.proofs.Printed.{present_is}
+use Rattle.lu_lawful.proofs.Printed.{present_is, open_is}
 use Rattle.lu_lawful.proofs.CloseLines.{nothing_left}
 use Rattle.lu_lawful.proofs.CloseSlots.{LeftEvict, evicted_law}
-use Rattle.lu_lawful.proofs.Story.{about_it}
-use Rattle.lu_lawful.proofs.ToldLaw.{Lasting, heard_stands, same_stands}
-use Rattle.lu_lawful.proofs.Handles.{meant_is}
+use Rattle.lu_lawful.proofs.Story.{about_it, target_is, story_at, made_story}
+use Rattle.lu_lawful.proofs.ToldLaw.{Lasting, heard_by_whole, heard_stands, same_stands}
+use Rattle.lu_lawful.proofs.Handles.{is_bad_stage, file_there, meant_is}
 
 commits_before : (osts : ℕ) (lost : ℕ → ℕ → Bool) (l : Line) (past : List Line) → CommitsStand osts lost (l ∷ past) → CommitsStand osts lost past
 commits_before osts lost l past = by l.entry
@@ -160,10 +161,11 @@ module _ (head : Head) where
           own true = refl
           own false = refl
 
--- what acted, whatever the node
-act_here : (head : Head) (past : List Line) (stamp : Stamp) (node : Node) (d : Deed) → Allowed head past (turn stamp node) (Act d) → ActIs head.osts (server_at head.osts 0 past) (turn stamp node) d
-act_here head past stamp (Client c) d k = absurd k.ok
-act_here head past stamp (Target t) d k = act_is head past stamp t d k
+-- what the metadata target did
+act_here : (head : Head) (past : List Line) (stamp : Stamp) (node : Node) (d : Deed) → node ≡ Target 0 → Allowed head past (turn stamp node) (Act d) → ActIs head.osts (server_at head.osts 0 past) (turn stamp node) d
+act_here head past stamp (Client c) d first k = absurd k.ok
+act_here head past stamp (Target t) d first k =
+    subst (λ (v : ℕ). Allowed head past (turn stamp (Target v)) (Act d) → ActIs head.osts (server_at head.osts 0 past) (turn stamp (Target v)) d) (sym (target_is t 0 first)) (act_is head past stamp d) k
 
 txn_here : (head : Head) (past : List Line) (stamp : Stamp) (node : Node) (d : Deed) → Allowed head past (turn stamp node) (Made d) → TxnIs head.osts (server_at head.osts 0 past) (turn stamp node) d
 txn_here head past stamp (Client c) d k = absurd k.ok
@@ -211,7 +213,7 @@ was_made head [] d g a made = absurd a
 was_made head (l ∷ past) d g a made = by l.at.node l.entry g.0 a (λ b. was_made head past d g.1 b made)
   where
     by : (node : Node) (e : Entry) → Allowed head past (turn l.at.stamp node) e → Acted (line (turn l.at.stamp node) e ∷ past) d → (Acted past d → WasMade past d.reply.txn.0) → WasMade (line (turn l.at.stamp node) e ∷ past) d.reply.txn.0
-    by node (Act e) k (inl same) ih = absurd (let zero : d.reply.txn.0 ≡ 0 = ap (λ (x : Deed). x.reply.txn.0) (sym same) ∙ ap (λ (n : TxnOf). n.0) (act_here head past l.at.stamp node e k).txn in omega (arith, zero, made))
+    by node (Act e) k (inl same) ih = absurd (let zero : d.reply.txn.0 ≡ 0 = ap (λ (x : Deed). x.reply.txn.0) (sym same) ∙ act_zero head past l.at.stamp node e k in omega (arith, zero, made))
     by node (Act e) k (inr b) ih = ih b
     by node (Made e) k (inl same) ih = inl (ap (λ (x : Deed). x.reply.txn.0) same)
     by node (Made e) k (inr b) ih = inr (ih b)
@@ -224,7 +226,7 @@ module _ (head : Head) (lost : ℕ → ℕ → Bool) where
   seen_of (l ∷ past) d g s a made stays = by l.at.node l.entry g.0 s a (λ t b. seen_of past d g.1 t b made stays)
     where
       by : (node : Node) (e : Entry) → Allowed head past (turn l.at.stamp node) e → SeenStand lost (line (turn l.at.stamp node) e ∷ past) → Acted (line (turn l.at.stamp node) e ∷ past) d → (SeenStand lost past → Acted past d → AllStand lost d.reply.seen) → AllStand lost d.reply.seen
-      by node (Act e) k s (inl same) ih = absurd (let zero : d.reply.txn.0 ≡ 0 = ap (λ (x : Deed). x.reply.txn.0) (sym same) ∙ ap (λ (n : TxnOf). n.0) (act_here head past l.at.stamp node e k).txn in omega (arith, zero, made))
+      by node (Act e) k s (inl same) ih = absurd (let zero : d.reply.txn.0 ≡ 0 = ap (λ (x : Deed). x.reply.txn.0) (sym same) ∙ act_zero head past l.at.stamp node e k in omega (arith, zero, made))
       by node (Act e) k s (inr b) ih = ih s b
       by node (Made e) k s (inl same) ih = subst (λ (x : Deed). AllStand lost x.reply.seen) same (s.0 (ap (λ (x : Deed). lost 0 x.reply.txn.0) same ∙ stays))
       by node (Made e) k s (inr b) ih = ih s.1 b
@@ -307,6 +309,70 @@ known_act head past c slot r o g call is =
     ap (λ (v : Option Begun). act_of (who_is c (printed past)) none (deed_of v)) b.1
     ∙ ap (λ (v : Option DeedOf). act_of (who_is c (printed past)) none v) (names_deed b.0 r.file o (ap (operation_of r.file) b.3 ∙ is) (sym b.4 ∙ is))
 
+-- ---- what is told as an item of the history
+
+-- a glimpse asks nothing of the machine
+glimpse_act : (head : Head) (past : List Line) (c slot : ℕ) (r : Running) (handle : ℕ) → Grown head past → call_at c slot past ≡ Some r → r.call ≡ call.Glimpse handle → call_act (printed past) c slot ≡ None
+glimpse_act head past c slot r handle g is glimpses =
+    let b = open_is head c slot past r g is in
+    ap (λ (v : Option Begun). act_of (who_is c (printed past)) none (deed_of v)) b.1
+    ∙ ap (λ (v : Call). act_of (who_is c (printed past)) none (deed_on b.0 v)) (b.3 ∙ glimpses)
+
+-- a flush asks of the file of its handle
+abbrev pub flush_of : Who → Fid → ℕ → ActOf
+flush_of who file handle = record { who = who; number = none; deed = Data file (call.Flush handle) }
+
+flush_act : (head : Head) (past : List Line) (c slot : ℕ) (r : Running) (handle : ℕ) (file : Fid) (b : Begun) → open_call c slot (printed past) ≡ Some b → b.call ≡ call.Flush handle → file_of b ≡ Some file → call_act (printed past) c slot ≡ Some (flush_of (who_is c (printed past)) file handle)
+flush_act head past c slot r handle file b is flushes of =
+    let who = who_is c (printed past) in
+    ap (λ (v : Option Begun). act_of who none (deed_of v)) is
+    ∙ ap (λ (v : Call). act_of who none (deed_on b v)) flushes
+    ∙ ap (λ (v : Option Fid). act_of who none (data_deed b.call v)) of
+    ∙ ap (λ (v : Call). act_of who none (Some (Data file v))) flushes
+
+flush_there : (head : Head) (past : List Line) (at : At) (c slot : ℕ) (named : At) (given : Answer) → Grown head past → (a : FlushedAt past at c slot named given) → (file : Fid) × (call_act (printed past) c slot ≡ Some (flush_of (who_is c (printed past)) file a.handle))
+flush_there head past at c slot named given g a =
+    let m = meant_is head c slot past a.running g a.call in
+    let flushes : m.0.call ≡ call.Flush a.handle = m.3 ∙ a.flushes in
+    let good : m.0.bad ≡ false = sym m.5 ∙ ap is_bad_stage a.good in
+    let f = file_there c slot (printed past) m.0 m.1 (subst IsOnSizes (sym flushes) tt) good in
+    (f.0, flush_act head past c slot a.running a.handle f.0 m.0 m.1 flushes f.1)
+
+-- what is told adds nothing, or an operation on names that reads, or a flush
+abbrev pub ToldAdds : Who → Option ActOf → Type 0
+ToldAdds who i = (i ≡ None) ⊎ ((o : Op) × (i ≡ Some (record { who = who; number = none; deed = Names o }))) ⊎ ((file : Fid) × (handle : ℕ) × (i ≡ Some (flush_of who file handle)))
+
+pub told_adds : (head : Head) (out : Who → Bool) (past : List Line) (stamp : Stamp) (c slot : ℕ) (named : At) (given : Answer) → Grown head past → TellsAt past (turn stamp (Client c)) (Client c) slot named given
+    → ToldAdds (who_is c (printed past)) (told_item out (printed past) (turn stamp (Client c)) (Client c) slot named given)
+told_adds head out past stamp c slot named given g tells = by tells
+  where
+    at : At
+    at = turn stamp (Client c)
+
+    who : Who
+    who = who_is c (printed past)
+
+    none_counts : (b : Bool) → (b && false) ≡ false
+    none_counts true = refl
+    none_counts false = refl
+
+    -- where it is an item at all
+    item : ToldAdds who (call_act (printed past) c slot) → ToldAdds who (if same_turn named at && is_answer given && not (out who) then call_act (printed past) c slot else None)
+    item adds = cond_both (same_turn named at && is_answer given && not (out who)) (call_act (printed past) c slot) None (λ (i : Option ActOf). ToldAdds who i) (λ _. adds) (λ _. inl refl)
+
+    uncounted : is_answer given ≡ false → (if same_turn named at && is_answer given && not (out who) then call_act (printed past) c slot else None) ≡ None
+    uncounted e =
+        ap (λ (b : Bool). if same_turn named at && b && not (out who) then call_act (printed past) c slot else None) e
+        ∙ ap (λ (b : Bool). if b && not (out who) then call_act (printed past) c slot else None) (none_counts (same_turn named at))
+
+    by : TellsAt past at (Client c) slot named given → ToldAdds who (told_item out (printed past) at (Client c) slot named given)
+    by (inl asks) = inl (ap (λ (b : Bool). if b && is_answer given && not (out who) then call_act (printed past) c slot else None) asks.other)
+    by (inr (inl knew)) = let k = known_operation (notes_at c past) knew.running.file knew.running.call given knew.known in item (inr (inl (k.0, known_act head past c slot knew.running k.0 g knew.call k.1)))
+    by (inr (inr (inl ends))) = inl (uncounted (ap is_answer ends.answer))
+    by (inr (inr (inr (inl bad)))) = inl (uncounted (ap is_answer bad.answer))
+    by (inr (inr (inr (inr (inl sizes))))) = item (inl (glimpse_act head past c slot sizes.running sizes.handle g sizes.call sizes.glimpses))
+    by (inr (inr (inr (inr (inr flushed))))) = let f = flush_there head past at c slot named given g flushed in item (inr (inr (f.0, flushed.handle, f.1)))
+
 -- ---- the law's machine
 
 module _ (head : Head) (out : Who → Bool) (lost : ℕ → ℕ → Bool) where
@@ -346,30 +412,24 @@ module _ (head : Head) (out : Who → Bool) (lost : ℕ → ℕ → Bool) where
                 (new_from_old head.osts (machine past).tree (whole head.osts (standing past)) (operation d) p (every_one (Same (machine past).tree (whole head.osts (standing past))) (touches head.osts (machine past).tree (operation d)) h.1) (h.1 p)),
           )
 
-  -- what is told of a call that asked is no item, and a call whose answer was known changes nothing
+  -- what is told of a call that asked is no item, and a call whose answer was known changes nothing, nor does a flush
   follows_told : (past : List Line) (stamp : Stamp) (c slot : ℕ) (named : At) (given : Answer) (work : Option Work) → Grown head past → TellsAt past (turn stamp (Client c)) (Client c) slot named given → Follows past
       → Follows (line (turn stamp (Client c)) (Told slot named given work) ∷ past)
   follows_told past stamp c slot named given work g tells h =
-      subst (λ (m : Machine). (m.last ≤ numbers_at past) × ((p : Part) → Same m.tree (whole head.osts (standing (line (turn stamp (Client c)) (Told slot named given work) ∷ past))) p)) (sym (by tells))
-      (subst (λ (is : List Item). ((machine past).last ≤ numbers_at past) × ((p : Part) → Same (machine past).tree (whole head.osts (pick (keep lost) is)) p)) (sym (items_same head past stamp (Client c) (Told slot named given work) tt)) h)
+      let is = by (told_item out (printed past) (turn stamp (Client c)) (Client c) slot named given) (told_adds head out past stamp c slot named given g tells) in
+      let old = subst (λ (is : List Item). ((machine past).last ≤ numbers_at past) × ((p : Part) → Same (machine past).tree (whole head.osts (pick (keep lost) is)) p)) (sym (items_same head past stamp (Client c) (Told slot named given work) tt)) h in (
+        subst (λ (n : ℕ). n ≤ numbers_at past) (sym is.0) old.0,
+        subst (λ (t : Tree). (p : Part) → Same t (whole head.osts (standing (line (turn stamp (Client c)) (Told slot named given work) ∷ past))) p) (sym is.1) old.1,
+      )
     where
-      none_counts : (b : Bool) → (b && false) ≡ false
-      none_counts true = refl
-      none_counts false = refl
-
-      by : TellsAt past (turn stamp (Client c)) (Client c) slot named given → after_item head.osts (machine past) (told_item out (printed past) (turn stamp (Client c)) (Client c) slot named given) ≡ machine past
-      by (inl asks) = ap (λ (b : Bool). after_item head.osts (machine past) (if b && is_answer given && not (out (who_is c (printed past))) then call_act (printed past) c slot else None)) asks.other
-      by (inr (inr (inl ends))) =
-          ap (λ (a : Answer). after_item head.osts (machine past) (if same_turn named (turn stamp (Client c)) && is_answer a && not (out (who_is c (printed past))) then call_act (printed past) c slot else None)) ends.answer
-          ∙ ap (λ (b : Bool). after_item head.osts (machine past) (if b && not (out (who_is c (printed past))) then call_act (printed past) c slot else None)) (none_counts (same_turn named (turn stamp (Client c))))
-      by (inr (inr (inr bad))) =
-          ap (λ (a : Answer). after_item head.osts (machine past) (if same_turn named (turn stamp (Client c)) && is_answer a && not (out (who_is c (printed past))) then call_act (printed past) c slot else None)) bad.answer
-          ∙ ap (λ (b : Bool). after_item head.osts (machine past) (if b && not (out (who_is c (printed past))) then call_act (printed past) c slot else None)) (none_counts (same_turn named (turn stamp (Client c))))
-      by (inr (inl knew)) =
-          cond_both (same_turn named (turn stamp (Client c)) && is_answer given && not (out (who_is c (printed past)))) (call_act (printed past) c slot) None (λ (i : Option ActOf). after_item head.osts (machine past) i ≡ machine past)
-          (λ _. let k = known_operation (notes_at c past) knew.running.file knew.running.call given knew.known in
-          ap (after_item head.osts (machine past)) (known_act head past c slot knew.running k.0 g knew.call k.1) ∙ acts_leave head.osts (machine past) (who_is c (printed past)) k.0)
-          (λ _. refl)
+      by : (i : Option ActOf) → ToldAdds (who_is c (printed past)) i → ((after_item head.osts (machine past) i).last ≡ (machine past).last) × ((after_item head.osts (machine past) i).tree ≡ (machine past).tree)
+      by i (inl none) = (ap (λ (x : Option ActOf). (after_item head.osts (machine past) x).last) none, ap (λ (x : Option ActOf). (after_item head.osts (machine past) x).tree) none)
+      by i (inr (inl k)) =
+          let same = ap (after_item head.osts (machine past)) k.1 ∙ acts_leave head.osts (machine past) (who_is c (printed past)) k.0 in
+          (ap (λ (m : Machine). m.last) same, ap (λ (m : Machine). m.tree) same)
+      by i (inr (inr f)) =
+          let stay = flushes_stay head.osts (machine past) (flush_of (who_is c (printed past)) f.0 f.1) f.0 f.1 in
+          (ap (λ (x : Option ActOf). (after_item head.osts (machine past) x).last) f.2 ∙ stay.last, ap (λ (x : Option ActOf). (after_item head.osts (machine past) x).tree) f.2 ∙ stay.tree)
 
   -- a close takes out what is lost at the end too
   follows_close : (past : List Line) (stamp : Stamp) (o : Outcome) → Grown head past → Fits head.osts out lost (line (turn stamp (Target 0)) (Close o) ∷ past) → Follows past → Follows (line (turn stamp (Target 0)) (Close o) ∷ past)
@@ -478,17 +538,21 @@ module _ (head : Head) (out : Who → Bool) (lost : ℕ → ℕ → Bool) where
   before_is false now old given n q = q
 
   -- what was done was answered where it stands
-  answered_there : (past : List Line) (d : Deed) → Grown head past → AllAsked past → AllTold past → Fits head.osts out lost past → Acted past d → IsPlain d.reply.answer → ReplyStands lost d.reply
+  answered_there : (past : List Line) (d : Deed) → d.reply.at.node ≡ Target 0 → Grown head past → AllAsked past → AllTold past → Fits head.osts out lost past → Acted past d → IsPlain d.reply.answer → ReplyStands lost d.reply
       → answer_there out lost head.osts (printed past) d.reply.at d.reply.who d.reply.xid.0 ≡ Some (told_so d.reply.answer)
-  answered_there [] d g a t f acted plain s = absurd acted
-  answered_there (l ∷ past) d g a t f acted plain s =
-      by l.entry g.0 a acted (λ b. answered_there past d g.1 (asked_before l past a) (told_earlier l past t) (fits_before head.osts out lost l past f) b plain s)
+  answered_there [] d first g a t f acted plain s = absurd acted
+  answered_there (l ∷ past) d first g a t f acted plain s =
+      by l.entry g.0 a acted (λ b. answered_there past d first g.1 (asked_before l past a) (told_earlier l past t) (fits_before head.osts out lost l past f) b plain s)
     where
       before : AllTold past
       before = told_earlier l past t
 
       fits : Fits head.osts out lost past
       fits = fits_before head.osts out lost l past f
+
+      -- this line is the metadata target's, where that did it
+      node_here : (e : Deed) → e.reply.at ≡ l.at → e ≡ d → l.at.node ≡ Target 0
+      node_here e now same = ap (λ (v : At). v.node) (sym now) ∙ ap (λ (v : Deed). v.reply.at.node) same ∙ first
 
       -- a line like that is of the same request
       same_request : (e : Deed) → NoneNow head past l.at e.reply.who e.reply.xid.0 → Acted past d → acts_as d.reply.at d.reply.who d.reply.xid.0 l.at e.reply.who e.reply.xid.0 ≡ true → ⊥
@@ -502,26 +566,27 @@ module _ (head : Head) (out : Who → Bool) (lost : ℕ → ℕ → Bool) where
           → (Acted past d → answer_there out lost head.osts (printed past) d.reply.at d.reply.who d.reply.xid.0 ≡ Some (told_so d.reply.answer))
           → answer_there out lost head.osts (printed (line l.at e ∷ past)) d.reply.at d.reply.who d.reply.xid.0 ≡ Some (told_so d.reply.answer)
       by (Act e) ok a (inl same) h =
-          let now = act_now head past l.at.stamp l.at.node e ok g.1 in
+          let does = act_now head past l.at.stamp l.at.node e ok g.1 in
+          let here = node_here e does.turn same in
           let stands = subst (λ (v : Deed). AllStand lost v.reply.seen) (sym same) s.1 in
           let at_once = subst (λ (v : Deed). IsPlain v.reply.answer) (sym same) plain in
           subst (λ (v : Deed). answer_there out lost head.osts (printed (line l.at (Act e) ∷ past)) v.reply.at v.reply.who v.reply.xid.0 ≡ Some (told_so v.reply.answer)) same
-          (here_is _ _ _ (told_so e.reply.answer) (own_line l.at e.reply.at e.reply.who e.reply.xid.0 (sym now.2) now.1)
-          (act_answers past l.at e g.1 a.1 before fits (act_here head past l.at.stamp l.at.node e ok) a.0 at_once stands))
+          (here_is _ _ _ (told_so e.reply.answer) (own_line l.at e.reply.at e.reply.who e.reply.xid.0 (sym does.turn) here)
+          (act_answers past l.at e g.1 a.1 before fits (act_here head past l.at.stamp l.at.node e here ok) (a.0 here) at_once stands))
       by (Act e) ok a (inr i) h =
-          before_is _ _ _ (told_so d.reply.answer) (same_request e (act_now head past l.at.stamp l.at.node e ok g.1).0.now i) (h i)
+          before_is _ _ _ (told_so d.reply.answer) (same_request e (act_now head past l.at.stamp l.at.node e ok g.1).now i) (h i)
       by (Made e) ok a (inl same) h =
-          let now = txn_now head past l.at.stamp l.at.node e ok g.1 in
+          let does = txn_now head past l.at.stamp l.at.node e ok g.1 in
           let stands = subst (λ (v : Deed). ReplyStands lost v.reply) (sym same) s in
           let at_once = subst (λ (v : Deed). IsPlain v.reply.answer) (sym same) plain in
-          let own = own_line l.at e.reply.at e.reply.who e.reply.xid.0 (sym now.2) now.1 in
+          let own = own_line l.at e.reply.at e.reply.who e.reply.xid.0 (sym does.turn) (node_here e does.turn same) in
           subst (λ (v : Deed). answer_there out lost head.osts (printed (line l.at (Made e) ∷ past)) v.reply.at v.reply.who v.reply.xid.0 ≡ Some (told_so v.reply.answer)) same
           (here_is _ _ _ (told_so e.reply.answer) (both own (settled (lost 0 e.reply.txn.0) stands.0))
           (subst (λ o. answers past (names_act e.reply.who e.reply.txn o) ≡ Some (told_so e.reply.answer)) (sym a.0)
           (ap (λ (v : Answer). Some v) (txn_answers past l.at e g.1 a.1 before fits (txn_here head past l.at.stamp l.at.node e ok) at_once stands.1))))
       by (Made e) ok a (inr i) h =
           before_is _ _ _ (told_so d.reply.answer)
-          (λ p. same_request e (txn_now head past l.at.stamp l.at.node e ok g.1).0.now i (and_parts (acts_as d.reply.at d.reply.who d.reply.xid.0 l.at e.reply.who e.reply.xid.0) (not (lost 0 e.reply.txn.0)) p).0)
+          (λ p. same_request e (txn_now head past l.at.stamp l.at.node e ok g.1).now i (and_parts (acts_as d.reply.at d.reply.who d.reply.xid.0 l.at e.reply.who e.reply.xid.0) (not (lost 0 e.reply.txn.0)) p).0)
           (h i)
       by _ ok a b h = h b
 
@@ -534,8 +599,8 @@ module _ (head : Head) (out : Who → Bool) (lost : ℕ → ℕ → Bool) where
       let d = tells.deed in
       let life = present_is head c past g in
       let whose : tells.reply.who ≡ who_is c (printed past) = ap (λ (v : ReplyTo). v.who) (sym tells.is) ∙ tells.who ∙ sym life in
-      let stands = same_stands lost d.reply tells.reply tells.is (heard_stands out lost past c tells.flight tells.reply f.heard tells.hears (ap out whose ∙ out_not)) in
-      let found = answered_there past d g a t f tells.acted tells.plain stands in
+      let stands = same_stands lost d.reply tells.reply tells.is (heard_stands out lost past c tells.flight tells.reply f.heard (heard_by_whole past c tells.flight tells.reply tells.hears) (ap out whose ∙ out_not)) in
+      let found = answered_there past d (story_at head past 0 d g tells.acted) g a t f (acted_whole 0 past d tells.acted) tells.plain stands in
       subst (λ b. right_answer out lost head.osts (printed past) (turn stamp (Client c)) c slot named b ≡ Some given) (sym tells.other)
       (subst (λ (o : Option ℕ). heard_answer out lost head.osts (printed past) named (who_is c (printed past)) o ≡ Some given) (sym tells.heard)
       (subst (λ (v : Answer). answer_there out lost head.osts (printed past) named (who_is c (printed past)) d.reply.xid.0 ≡ Some v) tells.answer
@@ -573,7 +638,7 @@ module _ (head : Head) (out : Who → Bool) (lost : ℕ → ℕ → Bool) where
       → (e : Deed) → Acted past e → 0 < e.reply.txn.0 → Stands head.osts (only 0 past) e → meet e.writes (touches head.osts (tree_at head.osts 0 past) (record { number = none; who = who; op = o })) ≡ true → lost 0 e.reply.txn.0 ≡ false
   known_stands past c who file k o given g f quiet known becomes stays e acted positive standing m =
       let r = any_true (λ (p : Part). list_any (λ w. meets w p) e.writes) (touches head.osts (tree_at head.osts 0 past) (record { number = none; who = who; op = o })) m in
-      by r.0 r.2 (known_saw head past g c none who file k o given known becomes (present past c g f quiet stays) r.0 r.1 e (acted_only head past e g acted) positive standing)
+      by r.0 r.2 (known_saw head past g c none who file k o given known becomes (present past c g f quiet stays) r.0 r.1 e (made_story head past e g acted positive) positive standing)
     where
       clash : (ws : List Part) (p : Part) → Apart ws p → list_any (λ w. meets w p) ws ≡ true → ⊥
       clash [] p h q = absurd (cc)
@@ -603,21 +668,42 @@ module _ (head : Head) (out : Who → Bool) (lost : ℕ → ℕ → Bool) where
 
   told_law : (past : List Line) (stamp : Stamp) (c slot : ℕ) (named : At) (given : Answer) → Grown head past → AllAsked past → AllTold past → Fits head.osts out lost past → closing_of head.clients (only 0 past) ≡ []
       → TellsAt past (turn stamp (Client c)) (Client c) slot named given → ToldAt out lost head.osts (printed past) (turn stamp (Client c)) (Client c) slot named given
-  told_law past stamp c slot named given g a t f quiet tells stays counted = on (open_call c slot (printed past)) (by tells)
+  told_law past stamp c slot named given g a t f quiet tells stays counted = by tells
     where
+      right_one : Type 0
+      right_one = right_answer out lost head.osts (printed past) (turn stamp (Client c)) c slot named (same_turn named (turn stamp (Client c))) ≡ Some given
+
+      on : (o : Option Begun) → right_one → ToldOn out lost head.osts (printed past) (turn stamp (Client c)) c slot o named given
+      on None is = tt
+      on (Some begun) is = λ counts. is
+
+      begun_is : (x y : Begun) → Some x ≡ Some y → x ≡ y
+      begun_is x y e = cc
+
+      -- a glimpse isn't counted
+      glimpse_on : (o : Option Begun) (b : Begun) (handle : ℕ) → o ≡ Some b → b.call ≡ call.Glimpse handle → ToldOn out lost head.osts (printed past) (turn stamp (Client c)) c slot o named given
+      glimpse_on None b handle e is = absurd (cc)
+      glimpse_on (Some begun) b handle e is = λ counts. let none : is_counted begun.call ≡ false = ap is_counted (ap (λ (v : Begun). v.call) (begun_is begun b e) ∙ is) in absurd (cc)
+
+      flush_right : (k : FlushedAt past (turn stamp (Client c)) c slot named given) → right_one
+      flush_right k =
+          let f = flush_there head past (turn stamp (Client c)) c slot named given g k in
+          subst (λ b. right_answer out lost head.osts (printed past) (turn stamp (Client c)) c slot named b ≡ Some given) (sym k.own)
+          (ap (λ (i : Option ActOf). answer_to head.osts (machine past) i) f.1 ∙ ap (λ (v : Answer). Some v) (sym k.answer))
+
       -- that a life is over is no answer of the history, nor that a handle is bad
       uncounted : given ≡ told.Refused EIO → ⊥
       uncounted e = let none : is_answer given ≡ false = ap is_answer e in absurd (cc)
 
-      by : TellsAt past (turn stamp (Client c)) (Client c) slot named given → right_answer out lost head.osts (printed past) (turn stamp (Client c)) c slot named (same_turn named (turn stamp (Client c))) ≡ Some given
-      by (inl asks) = asked_law past stamp c slot named given g a t f asks stays
-      by (inr (inl knew)) = knew_law past stamp c slot named given g a t f quiet knew stays
+      by : TellsAt past (turn stamp (Client c)) (Client c) slot named given → ToldOn out lost head.osts (printed past) (turn stamp (Client c)) c slot (open_call c slot (printed past)) named given
+      by (inl asks) = on (open_call c slot (printed past)) (asked_law past stamp c slot named given g a t f asks stays)
+      by (inr (inl knew)) = on (open_call c slot (printed past)) (knew_law past stamp c slot named given g a t f quiet knew stays)
       by (inr (inr (inl ends))) = absurd (uncounted ends.answer)
-      by (inr (inr (inr bad))) = let none : is_answer given ≡ false = ap is_answer bad.answer in absurd (cc)
-
-      on : (o : Option Begun) → right_answer out lost head.osts (printed past) (turn stamp (Client c)) c slot named (same_turn named (turn stamp (Client c))) ≡ Some given → ToldOn out lost head.osts (printed past) (turn stamp (Client c)) c slot o named given
-      on None is = tt
-      on (Some begun) is = λ counts. is
+      by (inr (inr (inr (inl bad)))) = let none : is_answer given ≡ false = ap is_answer bad.answer in absurd (cc)
+      by (inr (inr (inr (inr (inl sizes))))) =
+          let b = open_is head c slot past sizes.running g sizes.call in
+          glimpse_on (open_call c slot (printed past)) b.0 sizes.handle b.1 (b.3 ∙ sizes.glimpses)
+      by (inr (inr (inr (inr (inr flushed))))) = on (open_call c slot (printed past)) (flush_right flushed)
 
   -- what stands isn't refused
   txn_law : (past : List Line) (at : At) (d : Deed) → Grown head past → AllAsked past → AllTold past → Fits head.osts out lost past → TxnIs head.osts (server_at head.osts 0 past) at d → AskedAt past d → IsPlain d.reply.answer

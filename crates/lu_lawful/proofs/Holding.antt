@@ -41,10 +41,10 @@ use Rattle.lu_guards.proofs.Parts.{life_is_of}
 use Rattle.lu_facts.proofs.Groups.{turn, Acted, Gave, Evicted, Locks}
 use Rattle.lu_facts.proofs.All.{holds}
 use Rattle.lu_facts.proofs.Asked.{flew_on_names}
-use Rattle.lu_facts.proofs.Lines.{flew_whole, acted_whole}
+use Rattle.lu_facts.proofs.Lines.{acted_whole}
 use Rattle.lu_facts.proofs.OnNames.{IsOnNames}
-use Rattle.lu_facts.proofs.Sides.{acted_only}
 use Rattle.lu_lawful.proofs.Story.{about_it}
+use Rattle.lu_lawful.proofs.Sized.{gave_only}
 use Rattle.lu_lawful.proofs.Printed.{present_is}
 use Rattle.lu_lawful.proofs.CloseSlots.{NoneLeft, evicted_now}
 use Rattle.lu_lawful.proofs.Given.{Showed, all_given, showed_gave}
@@ -62,9 +62,9 @@ pub record IsHeard (past : List Line) (c : ℕ) (r : ReplyTo) : Type 0 where
 
 reply_is_heard : (head : Head) (past : List Line) (stamp : Stamp) (c t : ℕ) (f : Flight) (r : ReplyTo) → Allowed head past (turn stamp (Client c)) (Heard t f r) → Grown head past → IsHeard past c r
 reply_is_heard head past stamp c t f r a g =
-    let ok = a.of 0 (about_it t a.ok.0) in
-    let m = ((holds head past g).at 0).done.sent (Target ok.from) (Client c) (message.Reply r) ok.was in
-    record { deed = m.deed; acted = acted_whole 0 past m.deed m.acted; is = m.is; who = ok.who ∙ sym (life_is_of c 0 past) }
+    let ok = a.of t (self t) in
+    let m = ((holds head past g).at t).done.sent (Target ok.from) (Client c) (message.Reply r) ok.was in
+    record { deed = m.deed; acted = acted_whole t past m.deed m.acted; is = m.is; who = ok.who ∙ sym (life_is_of c t past) }
 
 -- and nothing was just done
 pub heard_now : (head : Head) (past : List Line) (at : At) (c t : ℕ) (f : Flight) (r : ReplyTo) → Grown head past → at.node ≡ Client c → HeardNow past at t f r → IsHeard past c r × ((d : Deed) → Did past d → ⊥)
@@ -112,12 +112,12 @@ module _ (head : Head) where
   locks : (past : List Line) → Grown head past → Locks head.osts head.clients (only 0 past)
   locks past g = ((holds head past g).at 0).locks
 
-  gave_only : (past : List Line) → Grown head past → (d : Deed) (l : Lock) → Gave past d l → Gave (only 0 past) d l
-  gave_only past g d l i = (acted_only head past d g i.0, i.1)
+  gave_story : (past : List Line) → Grown head past → (d : Deed) (l : Lock) → Gave past d l → Gave (only 0 past) d l
+  gave_story past g d l i = (gave_only head past d l g i.0 i.1, i.1)
 
   -- what two acts gave under one cookie is one
   pub gave_one : (past : List Line) → Grown head past → (d e : Deed) (l k : Lock) → Gave past d l → Gave past e k → l.cookie.0 ≡ k.cookie.0 → l ≡ k
-  gave_one past g d e l k i j q = ((locks past g).once d e l k (gave_only past g d l i) (gave_only past g e k j) (ap cookie q)).1
+  gave_one past g d e l k i j q = ((locks past g).once d e l k (gave_story past g d l i) (gave_story past g e k j) (ap cookie q)).1
     where
       cookie : ℕ → Cookie
       cookie n = record { 0 = n }
@@ -143,10 +143,10 @@ module _ (head : Head) where
       k.granted
 
   pub gave_reads : (past : List Line) → Grown head past → (d : Deed) (l : Lock) → Gave past d l → l.ask.mode ≡ PR
-  gave_reads past g d l i = (locks past g).readers d l (gave_only past g d l i)
+  gave_reads past g d l i = (locks past g).readers d l (gave_story past g d l i)
 
   pub gave_whose : (past : List Line) → Grown head past → (d : Deed) (l : Lock) → Gave past d l → l.ask.who ≡ d.reply.who
-  gave_whose past g d l i = (locks past g).whose d l (gave_only past g d l i)
+  gave_whose past g d l i = (locks past g).whose d l (gave_story past g d l i)
 
   pub held_reads : (past : List Line) → Grown head past → (h : Held) → HeldIs past h → h.lock.ask.mode ≡ PR
   held_reads past g h is = let x = is.mine in let k = mine_gave past g is.client x.0 x.1 in subst (λ (l : Lock). l.ask.mode ≡ PR) x.2 (gave_reads past g k.0 x.0.lock k.1)
@@ -252,17 +252,20 @@ module _ (head : Head) where
       heard : IsHeard past d r
       heard = reply_is_heard head past stamp d t f r a g
 
-      on_names : IsOnNames f.op
-      on_names = flew_on_names head past w f g (flew_whole 0 past w f (((holds head past g).at 0).numbers.flying w f (a.of 0 (about_it t a.ok.0)).flying))
+      on_names : t ≡ 0 → IsOnNames f.op
+      on_names z = flew_on_names head past w f g (((holds head past g).at 0).numbers.flying w f (a.of 0 (about_it t z)).flying)
         where
           w : Who
           w = life_of d (only 0 past)
 
       brings : (l : Lock) → In l (brought f.op r) → Gave past heard.deed l
       brings l j = ⊎_elim
+          (λ (z : t ≡ 0). ⊎_elim
           (λ (q : In l r.locks). reply_gave past d r l heard q)
-          (λ (q : In l (granted_lock f.op r r.answer)). absurd (subst (λ (ls : List Lock). In l ls) (names_bring f.op r r.answer on_names) q))
-          (in_append l r.locks (granted_lock f.op r r.answer) j)
+          (λ (q : In l (granted_lock f.op r r.answer)). absurd (subst (λ (ls : List Lock). In l ls) (names_bring f.op r r.answer (on_names z)) q))
+          (in_append l r.locks (granted_lock f.op r r.answer) j))
+          (λ (none : brought f.op r ≡ []). absurd (subst (λ (ls : List Lock). In l ls) none j))
+          a.ok.0
 
   -- a new life begins when nothing is held
   lives_one : (past : List Line) (stamp : Stamp) (d : ℕ) (w : Who) → Allowed head past (turn stamp (Client d)) (Life w) → Grown head past → AllHeld past → AllHeld (line (turn stamp (Client d)) (Life w) ∷ past)

@@ -5,6 +5,7 @@ pub mod Printed
 pub mod MessagesLaw
 pub mod Facts
 pub mod Deeds
+pub mod Sized
 pub mod Handed
 pub mod Taking
 pub mod CloseLines
@@ -74,12 +75,13 @@ pub use Rattle.lu_facts.proofs.Asked
 pub use Rattle.lu_facts.proofs.Files
 pub use Rattle.lu_facts.proofs.Finds
 pub use Rattle.lu_facts.proofs.Groups
+pub use Rattle.lu_facts.proofs.Layouts
 pub use Rattle.lu_facts.proofs.LifeLists
 pub use Rattle.lu_facts.proofs.Numbers
-pub use Rattle.lu_facts.proofs.Opens
 pub use Rattle.lu_facts.proofs.OnNames
 pub use Rattle.lu_facts.proofs.PartsStay
 pub use Rattle.lu_facts.proofs.Readings
+pub use Rattle.lu_facts.proofs.Refused
 pub use Rattle.lu_facts.proofs.Sides
 pub use Rattle.lu_facts.proofs.Unlocked
 pub use Rattle.lu_facts.proofs.Lines as FactLines

@@ -7,6 +7,7 @@ use Rattle.lu_base.specs.declared.ids.At.{At}
 use Rattle.lu_base.specs.declared.ids.Node.{Node}
 use Rattle.lu_base.specs.declared.ids.Node.TheVariants.{Client, Target}
 use Rattle.lu_base.specs.declared.ids.Stamp.{Stamp}
+use Rattle.lu_base.specs.declared.ids.Txn.{Txn as TxnOf}
 use Rattle.lu_msg.specs.declared.messages.Reply.{Reply as ReplyTo}
 use Rattle.lu_words.specs.Carried.{Deed, Outcome}
 use Rattle.lu_words.specs.Words.{Entry, Act, Txn as Made, Close, Fail, Line, line}
@@ -28,7 +29,6 @@ use Rattle.lu_guards.proofs.Lists.{self, in_filter, in_filtered}
 use Rattle.lu_guards.proofs.Only.{grown_of}
 use Rattle.lu_facts.proofs.Groups.{turn, Acted, IsMade, Stands, HoldsAt}
 use Rattle.lu_facts.proofs.All.{holds}
-use Rattle.lu_facts.proofs.Sides.{acted_only}
 use Rattle.lu_facts.proofs.Exact as exact
 use Rattle.lu_facts.proofs.Exact.{IsBack, HeardBy, committed_then}
 use Rattle.lu_lawful.proofs.Printed.{flip}
@@ -37,6 +37,8 @@ use Rattle.lu_lawful.proofs.Backs.{window_law, law_window}
 use Rattle.lu_lawful.proofs.OneWord.{one_told}
 use Rattle.lu_lawful.proofs.CloseHeard.{number_law, law_number}
 use Rattle.lu_lawful.proofs.Commits.{told_committed}
+use Rattle.lu_lawful.proofs.Story.{made_story}
+use Rattle.lu_lawful.proofs.Deeds.{act_for}
 use Rattle.lu_lawful.proofs.CloseLost.{made_of, trans, all_trans, transactions_are, Fall, made_acted, acted_made, made_fall, fall_filter, among_more, lost_some, lost_each}
 
 -- no disk fails
@@ -280,7 +282,7 @@ lost_at head t (l ∷ past) g d a made = by l.at.node l.entry g a (lost_at head 
     by (Target u) (Act x) g a h = of (nat_eq t u) refl a
       where
         zero_txn : nat_eq t u ≡ true → x ≡ d → ⊥
-        zero_txn q e = let z = ap (λ (v : Deed). v.reply.txn.0) (sym e ∙ (g.0.of t q).is) in omega (arith, z, made)
+        zero_txn q e = let z = ap (λ (v : Deed). v.reply.txn.0) (sym e) in let none = ap (λ (v : TxnOf). v.0) (act_for head past l.at.stamp u x g.0).number in omega (arith, z, none, made)
 
         of : (b : Bool) → nat_eq t u ≡ b → Acted (if b then line (turn l.at.stamp (Target u)) (Act x) ∷ P else P) d → is_lost (printed past) t n ≡ story.is_lost head.osts (if b then line (turn l.at.stamp (Target u)) (Act x) ∷ P else P) n
         of false q a = h d a made
@@ -317,4 +319,4 @@ was_acted head (l ∷ past) g n w = by l.at.node l.entry g.0 w (was_acted head p
 
 -- at the metadata target, of what was made so far
 pub lost_is : (head : Head) (past : List Line) → Grown head past → (n : ℕ) → WasMade past n → is_lost (printed past) 0 n ≡ story.is_lost head.osts (only 0 past) n
-lost_is head past g n made = let d = was_acted head past g n made in subst (λ (m : ℕ). is_lost (printed past) 0 m ≡ story.is_lost head.osts (only 0 past) m) d.3 (lost_at head 0 past g d.0 (acted_only head past d.0 g d.1) d.2)
+lost_is head past g n made = let d = was_acted head past g n made in subst (λ (m : ℕ). is_lost (printed past) 0 m ≡ story.is_lost head.osts (only 0 past) m) d.3 (lost_at head 0 past g d.0 (made_story head past d.0 g d.1 d.2) d.2)

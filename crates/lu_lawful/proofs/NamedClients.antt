@@ -24,7 +24,7 @@ use Rattle.lu_covered.specs.TargetStates.{server_of, lives_of, evicted_of, windo
 use Rattle.lu_covered.specs.ClientStates.{life_of}
 use Rattle.lu_covered.specs.Heads.{Head}
 use Rattle.lu_laws.specs.Words.Clients.{node_clients, message_clients, entry_clients, clients}
-use Rattle.lu_guards.proofs.Guards.{In, Was, IsMark, BackNow, EntryOk, ToldOk, KnownOk, EndsOk, BadOk}
+use Rattle.lu_guards.proofs.Guards.{In, Was, IsMark, BackNow, EntryOk, ToldOk, KnownOk, EndsOk, BadOk, SizesToldOk, FlushedOk}
 use Rattle.lu_guards.proofs.StoryGuards.{SaidBy, Spoke, Newer, CloseOk, EvictOk, LeavesOk, JoinedOk, ComesOk, KeepsOk, IsRecovering, EntryOf}
 use Rattle.lu_guards.proofs.Grown.{Allowed, Grown, GrownOf, LivesAt}
 use Rattle.lu_guards.proofs.Lists.{self, life_is}
@@ -35,7 +35,8 @@ use Rattle.lu_facts.proofs.DoneGrows.{did_acted}
 use Rattle.lu_facts.proofs.LifeLists.{put_or, back_word}
 use Rattle.lu_facts.proofs.LivesClose.{out_now}
 use Rattle.lu_facts.proofs.All.{holds}
-use Rattle.lu_lawful.proofs.Once.{act_now, txn_now}
+use Rattle.lu_facts.proofs.Sides.{acted_at}
+use Rattle.lu_lawful.proofs.Deeds.{act_for}
 
 -- ---- who spoke
 
@@ -65,18 +66,7 @@ gave_low head past t d lock g a = subst (Low head) (sym (((holds head past g).at
 
 -- what acts does so at a target
 acted_target : (head : Head) (past : List Line) (d : Deed) → Grown head past → Acted past d → node_clients d.reply.at.node ≡ 0
-acted_target head [] d g a = absurd a
-acted_target head (l ∷ past) d g a = by l.at.node l.entry g.0 a (acted_target head past d g.1)
-  where
-    here : (node : Node) (e : Deed) → (node ≡ Target 0) → e.reply.at ≡ turn l.at.stamp node → e ≡ d → node_clients d.reply.at.node ≡ 0
-    here node e n at same = ap (λ (v : Deed). node_clients v.reply.at.node) (sym same) ∙ ap (λ (v : At). node_clients v.node) at ∙ ap node_clients n
-
-    by : (node : Node) (e : Entry) → Allowed head past (turn l.at.stamp node) e → Acted (line (turn l.at.stamp node) e ∷ past) d → (Acted past d → node_clients d.reply.at.node ≡ 0) → node_clients d.reply.at.node ≡ 0
-    by node (Act e) k (inl same) h = let n = act_now head past l.at.stamp node e k g.1 in here node e n.1 n.2 same
-    by node (Act e) k (inr b) h = h b
-    by node (Made e) k (inl same) h = let n = txn_now head past l.at.stamp node e k g.1 in here node e n.1 n.2 same
-    by node (Made e) k (inr b) h = h b
-    by node e k b h = h b
+acted_target head past d g a = let n = acted_at head past d g a in ap node_clients n.1
 
 -- what clients send, in their own name
 sends_low : (head : Head) (past : List Line) (stamp : Stamp) (c : ℕ) (to : Node) (m : Message) → Allowed head past (turn stamp (Client c)) (Send to m) → Grown head past → (max (node_clients to) (message_clients m) ≤ head.clients) × ((who : Who) → SaidBy who m → Low head who)
@@ -237,7 +227,9 @@ told_low head past at c slot of answer work g lt here ok = ⊎_elim
     (λ (k : KnownOk past at c slot of answer work). own k.of_turn)
     (⊎_elim
     (λ (k : EndsOk past at c slot of answer work). own k.of_turn)
-    (λ (k : BadOk past at c slot of answer work). own k.of_turn)))
+    (⊎_elim
+    (λ (k : BadOk past at c slot of answer work). own k.of_turn)
+    (⊎_elim (λ (k : SizesToldOk past at c slot of answer work). own k.of_turn) (λ (k : FlushedOk past at c slot of answer work). own k.of_turn)))))
     ok
   where
     own : of ≡ at → node_clients of.node ≤ head.clients
@@ -258,7 +250,7 @@ line_low head past stamp (Client c) (Life who) k g n =
     omega (arith, lt, same)
 line_low head past stamp (Target t) (Life who) k g n = absurd k.ok
 line_low head past stamp (Client c) (Act d) k g n = absurd k.ok
-line_low head past stamp (Target t) (Act d) k g n = let ok = k.of t (self t) in let lt = waited_low head past t ok.request d.reply.who g ok.waits (ap (λ (v : Deed). v.reply.who) ok.is) in omega (arith, lt)
+line_low head past stamp (Target t) (Act d) k g n = let ok = act_for head past stamp t d k in let lt = waited_low head past t ok.request d.reply.who g ok.waits ok.who in omega (arith, lt)
 line_low head past stamp (Client c) (Made d) k g n = absurd k.ok
 line_low head past stamp (Target t) (Made d) k g n = let ok = k.of t (self t) in let lt = waited_low head past t ok.request d.reply.who g ok.waits (ap (λ (v : Deed). v.reply.who) ok.is) in omega (arith, lt)
 line_low head past stamp (Client c) (Grant lock asked) k g n = absurd k.ok

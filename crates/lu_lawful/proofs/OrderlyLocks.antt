@@ -50,6 +50,7 @@ use Rattle.lu_laws.specs.Order.Requests.{unanswered}
 use Rattle.lu_laws.proofs.Tests.{clash, either_left, either_right}
 use Rattle.lu_guards.proofs.Guards.{In, Was, Did, HeardNow, TookNow, TookBack, InTurn, IsEvict}
 use Rattle.lu_guards.proofs.StoryGuards.{IsServing, IsRecovering, BlockOk, BackOk, LeftOk, EntryOf}
+use Rattle.lu_guards.proofs.Acts.{acted}
 use Rattle.lu_guards.proofs.Grown.{Allowed, Grown}
 use Rattle.lu_guards.proofs.Lists.{self, in_left, in_right, in_filter, in_filtered, life_self}
 use Rattle.lu_guards.proofs.Only.{sent_was}
@@ -59,7 +60,7 @@ use Rattle.lu_facts.proofs.LockLists.{withs_in}
 use Rattle.lu_facts.proofs.LocksHeard.{numbered}
 use Rattle.lu_facts.proofs.All.{holds}
 use Rattle.lu_lawful.proofs.Turns.{same_turn_self}
-use Rattle.lu_lawful.proofs.Story.{about_it, was_story}
+use Rattle.lu_lawful.proofs.Story.{about_it, was_to}
 use Rattle.lu_lawful.proofs.Lines.{Keeps, holds_before, Nothing}
 use Rattle.lu_lawful.proofs.Printed.{flip, present_is}
 use Rattle.lu_lawful.proofs.Taking.{boot_of, closed_now}
@@ -195,7 +196,7 @@ module _ (head : Head) (past : List Line) (stamp : Stamp) (t : ℕ) (lock : Lock
 
   took_back : TookBack past here lock → is_given_back (printed past) here 0 lock.cookie.0 lock.ask.who ≡ true
   took_back back =
-      let was = was_story head past back.from (Target t) (message.Cancel lock.ask.who back.boot lock.cookie) tt g (took_was head past here back.from (message.Cancel lock.ask.who back.boot lock.cookie) g back.took) in
+      let was = subst (λ (v : ℕ). Was (only v past) back.from (Target t) (message.Cancel lock.ask.who back.boot lock.cookie)) a.ok.0 (was_to head past t back.from (message.Cancel lock.ask.who back.boot lock.cookie) g (took_was head past here back.from (message.Cancel lock.ask.who back.boot lock.cookie) g back.took)) in
       let high = (((holds head past g).at 0).boots back.from (Target t) (message.Cancel lock.ask.who back.boot lock.cookie) was).1 in
       let now = server_boot head.osts 0 past in
       let current = back.current in
@@ -304,15 +305,15 @@ module _ (head : Head) (past : List Line) (g : Grown head past) where
   called_act stamp t d a h k e = (
     cond_both (nat_eq 0 t) (greatest_cookie (cookie_at 0 past) d.reply.locks) (cookie_at 0 past) (λ (v : ℕ). k ≤ v) (λ t. let le = (h k e).0 in let up = greatest_least (cookie_at 0 past) d.reply.locks in omega arith) (λ t. (h k e).0),
     λ l. cond_both (nat_eq 0 t) (with_locks d.reply.locks (granted_at 0 past)) (granted_at 0 past) (λ (v : List Lock). In l v → l.cookie.0 ≡ k → Among l (called_at 0 past))
-        (λ t i q. ⊎_elim (λ (j : In l d.reply.locks). absurd (new l j q)) (λ (j : In l (granted_at 0 past)). (h k e).1 l j q) (withs_in d.reply.locks l (granted_at 0 past) i))
+        (λ own i q. ⊎_elim (λ (j : In l d.reply.locks). absurd (new own l j q)) (λ (j : In l (granted_at 0 past)). (h k e).1 l j q) (withs_in d.reply.locks l (granted_at 0 past) i))
         (λ t i q. (h k e).1 l i q),
   )
     where
-      new : (l : Lock) → In l d.reply.locks → l.cookie.0 ≡ k → ⊥
-      new l j q =
-          let ok = a.of 0 (about_it t a.ok) in
+      new : nat_eq 0 t ≡ true → (l : Lock) → In l d.reply.locks → l.cookie.0 ≡ k → ⊥
+      new own l j q =
+          let ok = acted head.osts (only 0 past) (turn stamp (Target t)) t d (a.of 0 own) in
           let v = server_of head.osts (only 0 past) in
-          let lt = from_high v.cookie ok.request.who _ l (subst (λ (ls : List Lock). In l ls) (ap (λ (f : Deed). f.reply.locks) ok.is) j) in
+          let lt = from_high v.cookie ok.request.who ok.wants l (subst (λ (ls : List Lock). In l ls) ok.locks j) in
           let le = (h k e).0 in
           let same = cookie_is head.osts 0 past in
           omega (arith, lt, le, same, q)
@@ -449,7 +450,7 @@ block_caused head past stamp t called a g =
     waited : is_waited_for head.osts (printed past) 0 lock ≡ true
     waited =
         any_passes (writes_guarded head.osts (contents head.osts (printed past)) number lock) r (unanswered 0 (printed past))
-        (all_unanswered head past g ok.serves r (subst (λ (v : List RequestOf). In r v) (sym (waiting_is head.osts 0 past)) ok.waits)) guarded
+        (all_unanswered 0 head past g ok.serves r (subst (λ (v : List RequestOf). In r v) (sym (waiting_is head.osts 0 past)) ok.waits)) guarded
 
     cause : has_cause head.osts (printed past) 0 (find (has_cookie lock.cookie.0) (granted 0 (printed past))) ≡ true
     cause = subst (λ (o : Option Lock). has_cause head.osts (printed past) 0 o ≡ true) (sym (granted_found head past lock g (λ d did. owed past (turn stamp (Target t)) d (Block called) did a.owes) (granted_shown head past lock g ok.serves none ok.granted))) waited

@@ -23,11 +23,13 @@ use Rattle.lu_laws.specs.Order.Boots.{Boots}
 use Rattle.lu_laws.specs.Order.Waits.{Waits}
 use Rattle.lu_guards.proofs.Guards.{Did, EntryOk}
 use Rattle.lu_guards.proofs.StoryGuards.{IsServing, CloseOk, EntryOf}
+use Rattle.lu_guards.proofs.Acts.{acted}
 use Rattle.lu_guards.proofs.Grown.{Allowed, Grown, GrownOf}
 use Rattle.lu_guards.proofs.Lists.{self}
 use Rattle.lu_guards.proofs.Only.{grown_of}
 use Rattle.lu_facts.proofs.Groups.{turn}
 use Rattle.lu_facts.proofs.All.{holds}
+use Rattle.lu_lawful.proofs.Deeds.{act_for}
 use Rattle.lu_lawful.proofs.Printed.{flip}
 use Rattle.lu_lawful.proofs.Taking.{boot_of, either_way}
 use Rattle.lu_lawful.proofs.Lines.{OfPrinted, Keeps, holds_before, Nothing}
@@ -97,7 +99,7 @@ did_serves head [] d g i = absurd i
 did_serves head (l ∷ past) d g i = by l.at.node l.entry g.0 i (did_serves head past d g.3)
   where
     by : (node : Node) (e : Entry) → EntryOf head past (turn l.at.stamp node) node e → Did (line (turn l.at.stamp node) e ∷ past) d → (Did past d → IsServing head.osts past) → IsServing head.osts (line (turn l.at.stamp node) e ∷ past)
-    by (Target t) (Act x) ok i h = ok.serves
+    by (Target t) (Act x) ok i h = (acted head.osts past (turn l.at.stamp (Target t)) t x ok).serves
     by (Target t) (Made x) ok i h = ok.serves
     by (Target t) (Grant lock asked) ok i h = h i
     by (Client c) (Act x) ok i h = absurd ok
@@ -110,7 +112,7 @@ serving_at head past l later a g = by l.at.node l.entry a
   where
     by : (node : Node) (e : Entry) → Allowed head past (turn l.at.stamp node) e → Says Serving past (turn l.at.stamp node) later e
     by (Client c) (Act d) k = absurd k.ok
-    by (Target t) (Act d) k = it_serves head t past g (k.of t (self t)).serves
+    by (Target t) (Act d) k = it_serves head t past g (act_for head past l.at.stamp t d k).serves
     by (Client c) (Made d) k = absurd k.ok
     by (Target t) (Made d) k = it_serves head t past g (k.of t (self t)).serves
     by (Client c) (Grant lock asked) k = absurd k.ok

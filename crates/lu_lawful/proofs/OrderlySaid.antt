@@ -1,6 +1,6 @@
 -- What every covered run keeps of what is said: messages carry the boot and the committed number of their target, what is
--- heard was in flight, and what acts has the answer of the contents.
-use Rattle.std.proofs.Common.{◌≡◌, ℕ, Bool, true, false, List, [], ◌∷◌, Option, Some, None, inl, ⊎_elim, refl, sym, subst, ap, ◌∙◌, arith}
+-- heard was in flight, and what acts at the metadata target has the answer of the contents.
+use Rattle.std.proofs.Common.{◌≡◌, ℕ, zero, suc, Bool, true, false, List, [], ◌∷◌, Option, Some, None, inl, inr, ⊎_elim, refl, sym, subst, ap, ◌∙◌, arith}
 use Rattle.std.specs.Prelude.{nat_eq, not, ◌&&◌, ◌||◌, if◌then◌else◌, is_some, filter}
 use Rattle.std.specs.List.{list_any}
 use Rattle.std.proofs.lemmas.Bool.Decides.{nat_tests}
@@ -23,7 +23,7 @@ use Rattle.lu_machine.specs.Tree.{same_life}
 use Rattle.lu_machine.specs.Footprint.{Operation, answer, changes}
 use Rattle.lu_words.specs.Carried.{Deed, Flight}
 use Rattle.lu_words.specs.Words.{Entry, Send, Take, Heard as Hears_, Act, Txn as Made, Commit, Line, line}
-use Rattle.lu_words.specs.Concerns.{only}
+use Rattle.lu_words.specs.Concerns.{concerns, only}
 use Rattle.lu_words.specs.Printed.{printed}
 use Rattle.lu_covered.specs.TargetParts.{operation}
 use Rattle.lu_covered.specs.TargetStates.{server_at, server_of}
@@ -46,7 +46,7 @@ use Rattle.lu_guards.proofs.Parts.{life_is_of}
 use Rattle.lu_facts.proofs.Groups.{turn, Hears}
 use Rattle.lu_facts.proofs.All.{holds}
 use Rattle.lu_lawful.proofs.Turns.{same_turn_self}
-use Rattle.lu_lawful.proofs.Story.{about_it}
+use Rattle.lu_lawful.proofs.Story.{story_at}
 use Rattle.lu_lawful.proofs.Once.{acted_sent}
 use Rattle.lu_laws.proofs.Tests.{settled, either_left, either_right}
 use Rattle.lu_lawful.proofs.Lines.{Keeps, holds_before, Nothing}
@@ -54,10 +54,10 @@ use Rattle.lu_lawful.proofs.Facts.{AskedAt, AllAsked}
 use Rattle.lu_lawful.proofs.Commits.{told_committed}
 use Rattle.lu_lawful.proofs.Contents.{contents_alike, asked_before}
 use Rattle.lu_lawful.proofs.Deeds.{ActIs, TxnIs, act_is, txn_is}
-use Rattle.lu_lawful.proofs.Printed.{present_is, own_by, own_story, sending_is}
+use Rattle.lu_lawful.proofs.Printed.{flip, present_is, own_by, own_story, sending_is}
 use Rattle.lu_lawful.proofs.Taking.{boot_of}
 use Rattle.lu_lawful.proofs.OrderlyQuiet.{Says}
-use Rattle.lu_facts.proofs.Lines.{acted_whole, hears_only}
+use Rattle.lu_facts.proofs.Lines.{acted_whole}
 
 -- ---- what messages carry
 
@@ -153,8 +153,8 @@ any_left p q (x ∷ xs) stay h = by (p x) refl h (any_left p q xs stay)
     by false e h left = cond_both (q x) (x ∷ filter q xs) (filter q xs) (λ ys. list_any p ys ≡ true) (λ t. either_right (p x) (left h)) (λ t. left h)
 
 -- a life's number is in flight, or its reply was heard
-abbrev FlownOr : List Line → Who → ℕ → Type 0
-FlownOr past who x = (has_number x (in_flight 0 who (printed past)) || has_heard 0 who x (printed past)) ≡ true
+abbrev FlownOr : ℕ → List Line → Who → ℕ → Type 0
+FlownOr t past who x = (has_number x (in_flight t who (printed past)) || has_heard t who x (printed past)) ≡ true
 
 module _ (flight : List RequestOf) (heard : Bool) (x : ℕ) where
   or_more : (a b : Bool) → (b || heard) ≡ true → ((a || b) || heard) ≡ true
@@ -185,75 +185,86 @@ module _ (flight : List RequestOf) (heard : Bool) (x : ℕ) where
       by true n h = either_left heard (any_left (λ (r : RequestOf). nat_eq r.xid.0 x) (λ (r : RequestOf). not (nat_eq r.xid.0 y)) flight other n)
       by false n h = either_right (has_number x (without_number y flight)) h
 
-sent_flies : (past : List Line) (who : Who) (r : RequestOf) (from : Node) → r.who ≡ who → Was past from (Target 0) (message.Request r) → FlownOr past who r.xid.0
-sent_flies [] who r from w s = absurd s
-sent_flies (l ∷ past) who r from w s = by l.entry s (sent_flies past who r from w)
+sent_flies : (t : ℕ) (past : List Line) (who : Who) (r : RequestOf) (from : Node) → r.who ≡ who → Was past from (Target t) (message.Request r) → FlownOr t past who r.xid.0
+sent_flies t [] who r from w s = absurd s
+sent_flies t (l ∷ past) who r from w s = by l.entry s (sent_flies t past who r from w)
   where
-    sends : (to : Node) (m : Message) → FlownOr past who r.xid.0 → FlownOr (line l.at (Send to m) ∷ past) who r.xid.0
-    sends to (message.Request q) h = asked_more (in_flight 0 who (printed past)) (has_heard 0 who r.xid.0 (printed past)) r.xid.0 _ q h
+    sends : (to : Node) (m : Message) → FlownOr t past who r.xid.0 → FlownOr t (line l.at (Send to m) ∷ past) who r.xid.0
+    sends to (message.Request q) h = asked_more (in_flight t who (printed past)) (has_heard t who r.xid.0 (printed past)) r.xid.0 _ q h
     sends to _ h = h
 
-    now : FlownOr (line l.at (Send (Target 0) (message.Request r)) ∷ past) who r.xid.0
+    now : FlownOr t (line l.at (Send (Target t) (message.Request r)) ∷ past) who r.xid.0
     now =
-        let flight = in_flight 0 who (printed past) in
-        let heard = has_heard 0 who r.xid.0 (printed past) in
-        let mine : is_of 0 who (Target 0) r ≡ true = subst (λ (v : Who). same_life r.who v ≡ true) w (life_self r.who) in
-        asked_now flight heard r.xid.0 r refl (is_of 0 who (Target 0) r) (has_number r.xid.0 flight) mine refl heard
+        let flight = in_flight t who (printed past) in
+        let heard = has_heard t who r.xid.0 (printed past) in
+        let mine : is_of t who (Target t) r ≡ true = subst (λ (v : Who). (nat_eq t t && same_life r.who v) ≡ true) w (rw (self t) (life_self r.who)) in
+        asked_now flight heard r.xid.0 r refl (is_of t who (Target t) r) (has_number r.xid.0 flight) mine refl heard
 
-    by : (e : Entry) → Was (line l.at e ∷ past) from (Target 0) (message.Request r) → (Was past from (Target 0) (message.Request r) → FlownOr past who r.xid.0) → FlownOr (line l.at e ∷ past) who r.xid.0
+    by : (e : Entry) → Was (line l.at e ∷ past) from (Target t) (message.Request r) → (Was past from (Target t) (message.Request r) → FlownOr t past who r.xid.0) → FlownOr t (line l.at e ∷ past) who r.xid.0
     by (Send to m) s h = ⊎_elim
-        (λ (p : (l.at.node ≡ from) × (to ≡ Target 0) × (m ≡ message.Request r)).
-        subst (λ (v : Message). FlownOr (line l.at (Send to v) ∷ past) who r.xid.0) (sym p.2)
-        (subst (λ (v : Node). FlownOr (line l.at (Send v (message.Request r)) ∷ past) who r.xid.0) (sym p.1) now))
-        (λ (p : Was past from (Target 0) (message.Request r)). sends to m (h p))
+        (λ (p : (l.at.node ≡ from) × (to ≡ Target t) × (m ≡ message.Request r)).
+        subst (λ (v : Message). FlownOr t (line l.at (Send to v) ∷ past) who r.xid.0) (sym p.2)
+        (subst (λ (v : Node). FlownOr t (line l.at (Send v (message.Request r)) ∷ past) who r.xid.0) (sym p.1) now))
+        (λ (p : Was past from (Target t) (message.Request r)). sends to m (h p))
         s
-    by (Hears_ t f k) s h =
-        heard_more (in_flight 0 who (printed past)) (has_heard 0 who r.xid.0 (printed past)) r.xid.0 k.xid.0
-        (is_by who (printed past) l.at.node && nat_eq t 0) (nat_eq k.xid.0 r.xid.0) refl (h s)
+    by (Hears_ u f k) s h =
+        heard_more (in_flight t who (printed past)) (has_heard t who r.xid.0 (printed past)) r.xid.0 k.xid.0
+        (is_by who (printed past) l.at.node && nat_eq u t) (nat_eq k.xid.0 r.xid.0) refl (h s)
     by _ s h = h s
 
--- what a life heard by the laws, it heard
-life_heard : (head : Head) (past : List Line) → Grown head past → (who : Who) (x : ℕ) → has_heard 0 who x (printed past) ≡ true → Hears (only 0 past) who x
-life_heard head [] g who x i = absurd (cc)
-life_heard head (l ∷ past) g who x i = by l.at.node l.entry g.0 i (life_heard head past g.1 who x)
+hears_then : (l : Line) (past : List Line) (who : Who) (x : ℕ) → Hears past who x → Hears (l ∷ past) who x
+hears_then l past who x h = by l.entry
   where
-    here : (d t : ℕ) (f : Flight) (r : ReplyTo) → Allowed head past (turn l.at.stamp (Client d)) (Hears_ t f r) → (is_by who (printed past) (Client d) && nat_eq t 0 && nat_eq r.xid.0 x) ≡ true
-        → Hears (only 0 (line (turn l.at.stamp (Client d)) (Hears_ t f r) ∷ past)) who x
-    here d t f r k p =
-        let a = and_parts (is_by who (printed past) (Client d) && nat_eq t 0) _ p in
-        let b = and_parts (is_by who (printed past) (Client d)) _ a.0 in
-        let own : is_own who (only 0 past) (Client d) ≡ true = sym (own_by head who past (Client d) g.1 ∙ own_story 0 who past (Client d)) ∙ b.0 in
-        let y = (k.of 0 (about_it t k.ok.0)).xid in
-        subst (λ (v : ℕ). Hears (only 0 (line (turn l.at.stamp (Client d)) (Hears_ v f r) ∷ past)) who x) (sym k.ok.0) (inl (own, y ∙ eqb-true r.xid.0 x a.1))
+    by : (e : Entry) → Hears (line l.at e ∷ past) who x
+    by (Hears_ t f r) = inr h
+    by _ = h
 
-    by : (node : Node) (e : Entry) → Allowed head past (turn l.at.stamp node) e → has_heard 0 who x (printed (line (turn l.at.stamp node) e ∷ past)) ≡ true → (has_heard 0 who x (printed past) ≡ true → Hears (only 0 past) who x)
-        → Hears (only 0 (line (turn l.at.stamp node) e ∷ past)) who x
-    by (Target t) (Hears_ u f r) k i h = absurd k.ok
-    by (Client d) (Hears_ t f r) k i h = ⊎_elim
-        (λ (p : (is_by who (printed past) (Client d) && nat_eq t 0 && nat_eq r.xid.0 x) ≡ true). here d t f r k p)
-        (λ (p : has_heard 0 who x (printed past) ≡ true). hears_only (line (turn l.at.stamp (Client d)) (Hears_ t f r)) past who x (h p))
-        (or_cases (is_by who (printed past) (Client d) && nat_eq t 0 && nat_eq r.xid.0 x) (has_heard 0 who x (printed past)) i)
-    by node e k i h = hears_only (line (turn l.at.stamp node) e) past who x (h i)
+hears_still : (t : ℕ) (l : Line) (past : List Line) (who : Who) (x : ℕ) → Hears (only t past) who x → Hears (only t (l ∷ past)) who x
+hears_still t l past who x h = cond_both (concerns t l.at.node l.entry) (l ∷ only t past) (only t past) (λ (p : List Line). Hears p who x) (λ o. hears_then l (only t past) who x h) (λ o. h)
+
+-- what a life heard by the laws, it heard
+life_heard : (head : Head) (t : ℕ) (past : List Line) → Grown head past → (who : Who) (x : ℕ) → has_heard t who x (printed past) ≡ true → Hears (only t past) who x
+life_heard head t [] g who x i = absurd (cc)
+life_heard head t (l ∷ past) g who x i = by l.at.node l.entry g.0 i (life_heard head t past g.1 who x)
+  where
+    here : (d u : ℕ) (f : Flight) (r : ReplyTo) → Allowed head past (turn l.at.stamp (Client d)) (Hears_ u f r) → (is_by who (printed past) (Client d) && nat_eq u t && nat_eq r.xid.0 x) ≡ true
+        → Hears (only t (line (turn l.at.stamp (Client d)) (Hears_ u f r) ∷ past)) who x
+    here d u f r k p =
+        let a = and_parts (is_by who (printed past) (Client d) && nat_eq u t) _ p in
+        let b = and_parts (is_by who (printed past) (Client d)) _ a.0 in
+        let own : is_own who (only t past) (Client d) ≡ true = sym (own_by head who past (Client d) g.1 ∙ own_story t who past (Client d)) ∙ b.0 in
+        let there : nat_eq t u ≡ true = flip t u ∙ b.1 in
+        let y = (k.of t there).xid in
+        subst (λ (v : Bool). Hears (if v then line (turn l.at.stamp (Client d)) (Hears_ u f r) ∷ only t past else only t past) who x) (sym there) (inl (own, y ∙ eqb-true r.xid.0 x a.1))
+
+    by : (node : Node) (e : Entry) → Allowed head past (turn l.at.stamp node) e → has_heard t who x (printed (line (turn l.at.stamp node) e ∷ past)) ≡ true → (has_heard t who x (printed past) ≡ true → Hears (only t past) who x)
+        → Hears (only t (line (turn l.at.stamp node) e ∷ past)) who x
+    by (Target v) (Hears_ u f r) k i h = absurd k.ok
+    by (Client d) (Hears_ u f r) k i h = ⊎_elim
+        (λ (p : (is_by who (printed past) (Client d) && nat_eq u t && nat_eq r.xid.0 x) ≡ true). here d u f r k p)
+        (λ (p : has_heard t who x (printed past) ≡ true). hears_still t (line (turn l.at.stamp (Client d)) (Hears_ u f r)) past who x (h p))
+        (or_cases (is_by who (printed past) (Client d) && nat_eq u t && nat_eq r.xid.0 x) (has_heard t who x (printed past)) i)
+    by node e k i h = hears_still t (line (turn l.at.stamp node) e) past who x (h i)
 
 reply_heard : (head : Head) (past : List Line) (stamp : Stamp) (c t : ℕ) (f : Flight) (r : ReplyTo) → Allowed head past (turn stamp (Client c)) (Hears_ t f r) → Grown head past
     → HeardAt (printed past) (turn stamp (Client c)) (who_is c (printed past)) t r.xid.0
 reply_heard head past stamp c t f r a g =
     let at = turn stamp (Client c) in
-    let ok = a.of 0 (about_it t a.ok.0) in
-    let h = (holds head past g).at 0 in
-    let mine : r.who ≡ who_is c (printed past) = ok.who ∙ sym (life_is_of c 0 past) ∙ sym (present_is head c past g) in
+    let ok = a.of t (self t) in
+    let h = (holds head past g).at t in
+    let mine : r.who ≡ who_is c (printed past) = ok.who ∙ sym (life_is_of c t past) ∙ sym (present_is head c past g) in
     let took = takes_it head past at (Target t) (message.Reply r) g a.ok.1 in
     let fits : as_reply t r.who r.xid.0 (Target t) (message.Reply r) ≡ Some r = by (same_life r.who r.who) (life_self r.who) in
     let m = h.done.sent (Target ok.from) (Client c) (message.Reply r) ok.was in
-    let sent = acted_sent head past m.deed g (acted_whole 0 past m.deed m.acted) in
+    let sent = acted_sent head past t m.deed g (story_at head past t m.deed g m.acted) (acted_whole t past m.deed m.acted) in
     let who : sent.0.who ≡ r.who = sent.2 ∙ ap (λ (v : ReplyTo). v.who) (sym m.is) in
     let x : sent.0.xid.0 ≡ r.xid.0 = ap (λ (v : Xid). v.0) sent.3 ∙ ap (λ (v : ReplyTo). v.xid.0) (sym m.is) in
-    let flown = subst (λ (v : ℕ). FlownOr past r.who v) x (sent_flies past r.who sent.0 sent.1.0 who sent.1.1) in
-    let unheard : has_heard 0 r.who r.xid.0 (printed past) ≡ true → ⊥ = λ e. (h.numbers.over r.who r.xid.0 (life_heard head past g r.who r.xid.0 e)).1 f (subst (λ (v : Who). In f (flights_of v (only 0 past))) (sym ok.who) ok.flying) ok.xid in
+    let flown = subst (λ (v : ℕ). FlownOr t past r.who v) x (sent_flies t past r.who sent.0 sent.1.0 who sent.1.1) in
+    let unheard : has_heard t r.who r.xid.0 (printed past) ≡ true → ⊥ = λ e. (h.numbers.over r.who r.xid.0 (life_heard head t past g r.who r.xid.0 e)).1 f (subst (λ (v : Who). In f (flights_of v (only t past))) (sym ok.who) ok.flying) ok.xid in
     subst (λ (v : Who). HeardAt (printed past) at v t r.xid.0) mine
     (record {
       reply = ap (λ (v : List Sending). is_some (first_fit (λ s. as_reply t r.who r.xid.0 s.from s.message) v)) took.1 ∙ ap (λ (o : Option ReplyTo). is_some (or_else o (first_fit (λ s. as_reply t r.who r.xid.0 s.from s.message) took.0))) fits;
-      flies = subst (λ (v : ℕ). has_number r.xid.0 (in_flight v r.who (printed past)) ≡ true) (sym a.ok.0) (in_flight_then (has_number r.xid.0 (in_flight 0 r.who (printed past))) (has_heard 0 r.who r.xid.0 (printed past)) flown unheard);
+      flies = in_flight_then (has_number r.xid.0 (in_flight t r.who (printed past))) (has_heard t r.who r.xid.0 (printed past)) flown unheard;
     })
   where
     by : (b : Bool) → b ≡ true → (if nat_eq t t && (b && nat_eq r.xid.0 r.xid.0) then Some r else None) ≡ Some r
@@ -303,7 +314,8 @@ answers_at head past l later a g asks = by l.at.node l.entry a asks
     by : (node : Node) (e : Entry) → Allowed head past (turn l.at.stamp node) e → AllAsked (line (turn l.at.stamp node) e ∷ past) → Says (Answers head.osts) past (turn l.at.stamp node) later e
     by (Client c) (Act d) k asks = absurd k.ok
     by (Client c) (Made d) k asks = absurd k.ok
-    by (Target t) (Act d) k asks = subst (λ (v : ℕ). AnswerBy head.osts (printed past) (Target v) none d.reply.who d.reply.xid.0 d.reply.answer false) (sym k.ok) (act_answers head past (turn l.at.stamp (Target t)) d g asks.1 asks.0 (act_is head past l.at.stamp t d k))
+    by (Target zero) (Act d) k asks = act_answers head past (turn l.at.stamp (Target 0)) d g asks.1 (asks.0 refl) (act_is head past l.at.stamp d k)
+    by (Target (suc t)) (Act d) k asks = tt
     by (Target t) (Made d) k asks = subst (λ (v : ℕ). AnswerBy head.osts (printed past) (Target v) d.reply.txn d.reply.who d.reply.xid.0 d.reply.answer true) (sym k.ok) (txn_answers head past (turn l.at.stamp (Target t)) d g asks.1 asks.0 (txn_is head past l.at.stamp t d k))
     by _ _ k asks = tt
 

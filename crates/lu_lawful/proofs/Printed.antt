@@ -15,7 +15,7 @@ use Rattle.lu_msg.specs.declared.messages.Request.{Request as RequestOf}
 use Rattle.lu_msg.specs.declared.calls.Call.{Call}
 use Rattle.lu_trace.specs.declared.entries.Entry.{Entry as PrintedEntry}
 use Rattle.lu_trace.specs.declared.entries.Entry.TheVariants as trace
-use Rattle.lu_words.specs.Carried.{Asking, Asked, Answered, Running}
+use Rattle.lu_words.specs.Carried.{Asking, Asked, Answered, Plain, Bad, Sizes, Work, Running}
 use Rattle.lu_words.specs.Words.{Entry, Begin, Send, Take, Heard, Told, Life, Queues, Stands, Die, Evict, Line, line, is_client, same_life}
 use Rattle.lu_words.specs.Concerns.{concerns, only}
 use Rattle.lu_words.specs.Sent.{count_sent, Sent}
@@ -31,7 +31,7 @@ use Rattle.lu_laws.specs.Words.Lives.{life, who_is, is_by, is_evicted, is_gone}
 use Rattle.lu_laws.specs.Words.Calls.{open_call}
 use Rattle.lu_laws.specs.Words.Calls as calls
 use Rattle.lu_laws.specs.Words.Requests.{is_of, first_request}
-use Rattle.lu_guards.proofs.Guards.{In, Was, Took, EntryOk}
+use Rattle.lu_guards.proofs.Guards.{In, Was, Took, SizesSoFar, EntryOk}
 use Rattle.lu_guards.proofs.Grown.{Allowed, Grown}
 use Rattle.lu_guards.proofs.Lists.{self, life_is, who}
 use Rattle.lu_guards.proofs.Parts.{life_is_of}
@@ -253,9 +253,15 @@ evicted_gone t (l ∷ past) w e = by l.at.node l.entry e (evicted_gone t past w)
 
 -- ---- calls
 
--- what holds of each call as it begins, and doesn't turn on what it asked, holds of the call in a slot and the one that stands there by
--- the laws
-module _ (R : Running → calls.Begun → Type 0) (stays : (asking : Asking) (a : Running) (b : calls.Begun) → R a b → R (record a { asking = asking }) b) where
+-- a glimpse that has some sizes isn't on a bad handle
+pub far_good : (past : List Line) (at : At) (r : Running) (sizes : List ℕ) → SizesSoFar past at r sizes → r.stage ≡ Bad → ⊥
+far_good past at r sizes (inl p) bad = let plain : Plain ≡ Bad = sym p.0 ∙ bad in absurd (cc)
+far_good past at r sizes (inr p) bad = let sizing : Sizes p.work ≡ Bad = sym p.stage ∙ bad in absurd (cc)
+
+-- what holds of each call as it begins, and turns neither on what it asked nor on how far a good one has come, holds of the call in a slot
+-- and the one that stands there by the laws
+module _ (R : Running → calls.Begun → Type 0) (stays : (asking : Asking) (a : Running) (b : calls.Begun) → R a b → R (record a { asking = asking }) b)
+    (stands : (work : Work) (a : Running) (b : calls.Begun) → (a.stage ≡ Bad → ⊥) → R a b → R (record a { stage = Sizes work }) b) where
   abbrev pub OfBoth : Option Running → Option calls.Begun → Type 0
   OfBoth None None = Unit {0}
   OfBoth (Some a) (Some b) = R a b
@@ -307,7 +313,18 @@ module _ (R : Running → calls.Begun → Type 0) (stays : (asking : Asking) (a 
         by (Client d) (Heard t f r) k h = cond_both (nat_eq c d) (asks_for f.slot slot (Answered t r) (call_at c slot past)) (call_at c slot past) (λ (o : Option Running). OfBoth o (open_call c slot (printed past)))
             (λ u. same_asks_for f.slot slot (Answered t r) (call_at c slot past) (open_call c slot (printed past)) h)
             (λ u. h)
-        by (Client d) (Stands s running) k h = absurd k.ok
+        by (Client d) (Stands s running) k h =
+            cond_both (nat_eq c d) (if nat_eq s slot then Some running else call_at c slot past) (call_at c slot past) (λ (o : Option Running). OfBoth o (open_call c slot (printed past)))
+            (λ t. cond_both (nat_eq s slot) (Some running) (call_at c slot past) (λ (o : Option Running). OfBoth o (open_call c slot (printed past))) (λ u. stood (open_call c slot (printed past)) (before t u) h) (λ u. h))
+            (λ t. h)
+          where
+            before : nat_eq c d ≡ true → nat_eq s slot ≡ true → call_at c slot past ≡ Some k.ok.running
+            before t u = ap (λ (v : ℕ). call_at v slot past) (eqb-true c d t) ∙ ap (λ (v : ℕ). call_at d v past) (sym (eqb-true s slot u)) ∙ k.ok.call
+
+            stood : (o : Option calls.Begun) → call_at c slot past ≡ Some k.ok.running → OfBoth (call_at c slot past) o → OfBoth (Some running) o
+            stood None is both = absurd (subst (λ (v : Option Running). OfBoth v None) is both)
+            stood (Some b) is both =
+                subst (λ (v : Running). R v b) (sym k.ok.is) (stands k.ok.work k.ok.running b (far_good past (turn l.at.stamp (Client d)) k.ok.running k.ok.sizes k.ok.so_far) (subst (λ (v : Option Running). OfBoth v (Some b)) is both))
         by (Target t) (Begin s running) k h = absurd k.ok
         by (Target t) (Told s at answer work) k h = absurd k.ok
         by (Target t) (Queues u q) k h = absurd k.ok
@@ -320,10 +337,10 @@ abbrev pub IsSame : Running → calls.Begun → Type 0
 IsSame a b = (a.at ≡ b.at) × (a.call ≡ b.call)
 
 abbrev pub SameCall : Option Running → Option calls.Begun → Type 0
-SameCall = OfBoth IsSame (λ asking a b s. s)
+SameCall = OfBoth IsSame (λ asking a b s. s) (λ work a b good s. s)
 
 pub same_call : (head : Head) (c slot : ℕ) (past : List Line) → Grown head past → SameCall (call_at c slot past) (open_call c slot (printed past))
-same_call head c slot past g = both_calls IsSame (λ asking a b s. s) head c slot (λ past stamp s running g k. (ap (λ (r : Running). r.at) k.ok.is, refl)) past g
+same_call head c slot past g = both_calls IsSame (λ asking a b s. s) (λ work a b good s. s) head c slot (λ past stamp s running g k. (ap (λ (r : Running). r.at) k.ok.is, refl)) past g
 
 -- the call alone
 call_alone : (c slot : ℕ) (past : pasts.Past) → calls.call_in c slot past ≡ option_map (λ (b : calls.Begun). b.call) (open_call c slot past)
@@ -380,37 +397,37 @@ open_is_some head c slot past running g is = let o = open_is head c slot past ru
 
 -- ---- requests
 
-abbrev pub IsFirst : List Line → Who → ℕ → RequestOf → Type 0
-IsFirst past who x r = (from : Node) × Was past from (Target 0) (message.Request r) × (r.who ≡ who) × (r.xid.0 ≡ x)
+abbrev pub IsFirst : List Line → ℕ → Who → ℕ → RequestOf → Type 0
+IsFirst past t who x r = (from : Node) × Was past from (Target t) (message.Request r) × (r.who ≡ who) × (r.xid.0 ≡ x)
 
-of_target : (to : Node) → pasts.is_target 0 to ≡ true → to ≡ Target 0
-of_target (Client c) e = absurd (cc)
-of_target (Target t) e = ap Target (eqb-true t 0 e)
+of_target : (t : ℕ) (to : Node) → pasts.is_target t to ≡ true → to ≡ Target t
+of_target t (Client c) e = absurd (cc)
+of_target t (Target u) e = ap Target (eqb-true u t e)
 
 -- the first request of a number was sent
-pub first_sent : (past : List Line) (who : Who) (x : ℕ) (r : RequestOf) → first_request (printed past) 0 who x ≡ Some r → IsFirst past who x r
-first_sent [] who x r e = absurd (cc)
-first_sent (l ∷ past) who x r e = by l.entry (first_sent past who x r) e
+pub first_sent : (past : List Line) (t : ℕ) (who : Who) (x : ℕ) (r : RequestOf) → first_request (printed past) t who x ≡ Some r → IsFirst past t who x r
+first_sent [] t who x r e = absurd (cc)
+first_sent (l ∷ past) t who x r e = by l.entry (first_sent past t who x r) e
   where
-    new : (to : Node) (k : RequestOf) (old : Option RequestOf) (t : Bool) → (is_of 0 who to k && nat_eq k.xid.0 x) ≡ t → (old ≡ Some r → IsFirst past who x r)
-        → pasts.or_else old (if t then Some k else None) ≡ Some r → IsFirst (line l.at (Send to (message.Request k)) ∷ past) who x r
-    new to k (Some o) t is h q = let p = h q in (p.0, inr p.1, p.2, p.3)
+    new : (to : Node) (k : RequestOf) (old : Option RequestOf) (b : Bool) → (is_of t who to k && nat_eq k.xid.0 x) ≡ b → (old ≡ Some r → IsFirst past t who x r)
+        → pasts.or_else old (if b then Some k else None) ≡ Some r → IsFirst (line l.at (Send to (message.Request k)) ∷ past) t who x r
+    new to k (Some o) b is h q = let p = h q in (p.0, inr p.1, p.2, p.3)
     new to k None true is h q =
         let same : k ≡ r = cc in
-        let p = and_parts (is_of 0 who to k) (nat_eq k.xid.0 x) is in
-        let o = and_parts (pasts.is_target 0 to) _ p.0 in
-        (l.at.node, inl (refl, of_target to o.0, ap message.Request same), ap (λ (v : RequestOf). v.who) (sym same) ∙ life_is k.who who o.1, ap (λ (v : RequestOf). v.xid.0) (sym same) ∙ eqb-true k.xid.0 x p.1)
+        let p = and_parts (is_of t who to k) (nat_eq k.xid.0 x) is in
+        let o = and_parts (pasts.is_target t to) _ p.0 in
+        (l.at.node, inl (refl, of_target t to o.0, ap message.Request same), ap (λ (v : RequestOf). v.who) (sym same) ∙ life_is k.who who o.1, ap (λ (v : RequestOf). v.xid.0) (sym same) ∙ eqb-true k.xid.0 x p.1)
     new to k None false is h q = absurd (cc)
 
-    by : (e : Entry) → (first_request (printed past) 0 who x ≡ Some r → IsFirst past who x r) → first_request (printed (line l.at e ∷ past)) 0 who x ≡ Some r → IsFirst (line l.at e ∷ past) who x r
-    by (Send to (message.Request k)) h q = new to k (first_request (printed past) 0 who x) (is_of 0 who to k && nat_eq k.xid.0 x) refl h q
+    by : (e : Entry) → (first_request (printed past) t who x ≡ Some r → IsFirst past t who x r) → first_request (printed (line l.at e ∷ past)) t who x ≡ Some r → IsFirst (line l.at e ∷ past) t who x r
+    by (Send to (message.Request k)) h q = new to k (first_request (printed past) t who x) (is_of t who to k && nat_eq k.xid.0 x) refl h q
     by (Send to m) h q = let p = h q in (p.0, inr p.1, p.2, p.3)
     by _ h q = h q
 
 -- what was sent has a first request
-pub sent_first : (past : List Line) (from : Node) (r : RequestOf) → Was past from (Target 0) (message.Request r) → (k : RequestOf) × (first_request (printed past) 0 r.who r.xid.0 ≡ Some k)
-sent_first [] from r s = absurd s
-sent_first (l ∷ past) from r s = by l.entry (sent_first past from r) s
+pub sent_first : (past : List Line) (t : ℕ) (from : Node) (r : RequestOf) → Was past from (Target t) (message.Request r) → (k : RequestOf) × (first_request (printed past) t r.who r.xid.0 ≡ Some k)
+sent_first [] t from r s = absurd s
+sent_first (l ∷ past) t from r s = by l.entry (sent_first past t from r) s
   where
     or_new : (old : Option RequestOf) (new : RequestOf) → (k : RequestOf) × (pasts.or_else old (Some new) ≡ Some k)
     or_new None new = (new, refl)
@@ -420,20 +437,20 @@ sent_first (l ∷ past) from r s = by l.entry (sent_first past from r) s
     or_old None new k e = absurd (cc)
     or_old (Some o) new k e = (o, refl)
 
-    own : is_of 0 r.who (Target 0) r && nat_eq r.xid.0 r.xid.0 ≡ true
-    own = rw (self r.who.client, self r.who.life, self r.xid.0) refl
+    own : is_of t r.who (Target t) r && nat_eq r.xid.0 r.xid.0 ≡ true
+    own = rw (self t, self r.who.client, self r.who.life, self r.xid.0) refl
 
-    by : (e : Entry) → (Was past from (Target 0) (message.Request r) → (k : RequestOf) × (first_request (printed past) 0 r.who r.xid.0 ≡ Some k)) → Was (line l.at e ∷ past) from (Target 0) (message.Request r)
-        → (k : RequestOf) × (first_request (printed (line l.at e ∷ past)) 0 r.who r.xid.0 ≡ Some k)
+    by : (e : Entry) → (Was past from (Target t) (message.Request r) → (k : RequestOf) × (first_request (printed past) t r.who r.xid.0 ≡ Some k)) → Was (line l.at e ∷ past) from (Target t) (message.Request r)
+        → (k : RequestOf) × (first_request (printed (line l.at e ∷ past)) t r.who r.xid.0 ≡ Some k)
     by (Send to m) h s = ⊎_elim
-        (λ (p : (l.at.node ≡ from) × (to ≡ Target 0) × (m ≡ message.Request r)).
-        subst (λ (v : Message). (k : RequestOf) × (first_request (printed (line l.at (Send to v) ∷ past)) 0 r.who r.xid.0 ≡ Some k)) (sym p.2)
-        (subst (λ (v : Node). (k : RequestOf) × (first_request (printed (line l.at (Send v (message.Request r)) ∷ past)) 0 r.who r.xid.0 ≡ Some k)) (sym p.1)
-        (rw own (or_new (first_request (printed past) 0 r.who r.xid.0) r))))
-        (λ (p : Was past from (Target 0) (message.Request r)). let k = h p in old to m k.0 k.1)
+        (λ (p : (l.at.node ≡ from) × (to ≡ Target t) × (m ≡ message.Request r)).
+        subst (λ (v : Message). (k : RequestOf) × (first_request (printed (line l.at (Send to v) ∷ past)) t r.who r.xid.0 ≡ Some k)) (sym p.2)
+        (subst (λ (v : Node). (k : RequestOf) × (first_request (printed (line l.at (Send v (message.Request r)) ∷ past)) t r.who r.xid.0 ≡ Some k)) (sym p.1)
+        (rw own (or_new (first_request (printed past) t r.who r.xid.0) r))))
+        (λ (p : Was past from (Target t) (message.Request r)). let k = h p in old to m k.0 k.1)
         s
       where
-        old : (to : Node) (m : Message) (k : RequestOf) → first_request (printed past) 0 r.who r.xid.0 ≡ Some k → (j : RequestOf) × (first_request (printed (line l.at (Send to m) ∷ past)) 0 r.who r.xid.0 ≡ Some j)
-        old to (message.Request q) k e = or_old (first_request (printed past) 0 r.who r.xid.0) _ k e
+        old : (to : Node) (m : Message) (k : RequestOf) → first_request (printed past) t r.who r.xid.0 ≡ Some k → (j : RequestOf) × (first_request (printed (line l.at (Send to m) ∷ past)) t r.who r.xid.0 ≡ Some j)
+        old to (message.Request q) k e = or_old (first_request (printed past) t r.who r.xid.0) _ k e
         old to m k e = (k, e)
     by _ h s = h s

@@ -1,9 +1,10 @@
 -- The law of recovery: transactions have rising numbers of their boot and the seen numbers, and a reply that is
 -- sent in the turn that it names carries those of its deed. What is committed stands, and a life that comes back has its line.
-use Rattle.std.proofs.Common.{◌≡◌, ℕ, ◌+◌, ◌/◌, ◌≤◌, Bool, true, false, List, [], ◌∷◌, Option, Some, None, ◌⊎◌, inl, inr, ⊎_elim, refl, sym, subst, ap, ◌∙◌, arith}
+use Rattle.std.proofs.Common.{◌≡◌, ℕ, zero, suc, ◌+◌, ◌/◌, ◌<◌, ◌≤◌, Bool, true, false, List, [], ◌∷◌, Option, Some, None, ◌⊎◌, inl, inr, ⊎_elim, refl, sym, subst, ap, ◌∙◌, arith}
 use Rattle.std.specs.Prelude.{nat_eq, not, ◌&&◌, ◌||◌, if◌then◌else◌}
 use Rattle.std.specs.Bool.{then_some}
 use Rattle.std.proofs.lemmas.Bool.{and_parts, cond_both, eqb-true, eq-eqb, true≢false}
+use Rattle.std.proofs.lemmas.Bool.Decides.{nat_tests}
 use Rattle.lu_base.specs.declared.ids.At.{At}
 use Rattle.lu_base.specs.declared.ids.Stamp.{Stamp}
 use Rattle.lu_base.specs.declared.ids.Node.{Node}
@@ -30,14 +31,15 @@ use Rattle.lu_covered.specs.TargetParts.{operation}
 use Rattle.lu_covered.specs.TargetStates.{boot_at, tree_at, log_at, count_at, server_at, server_of, closed_of, seen_in}
 use Rattle.lu_covered.specs.TargetCloses.{but_first, closing_of}
 use Rattle.lu_covered.specs.Heads.{Head}
-use Rattle.lu_laws.specs.Words.Pasts.{same_turn, or_else}
+use Rattle.lu_laws.specs.Words.Pasts.{same_node, same_turn, or_else}
 use Rattle.lu_laws.specs.Words.Scopes.{only_here}
 use Rattle.lu_laws.specs.Words.Sends.{Sending, sending, with_taken, taken}
+use Rattle.lu_laws.specs.Words.Lost.{is_lost}
 use Rattle.lu_laws.specs.Words.Requests.{asked}
 use Rattle.lu_laws.specs.Words.Clients.{clients}
 use Rattle.lu_laws.specs.Words.Boots.{committed, is_recovering}
 use Rattle.lu_laws.specs.Words.Handed.{is_back}
-use Rattle.lu_laws.specs.Words.Seen.{touches_of, seen_by}
+use Rattle.lu_laws.specs.Words.Seen.{touches_of, Written, written, seen_of, seen_by}
 use Rattle.lu_laws.specs.Holds.{HoldsBefore, Holds}
 use Rattle.lu_laws.specs.Laws.Recovery as law
 use Rattle.lu_laws.specs.Laws.Recovery.{request_sees, TransactionAt, answers_size, is_size_for, is_executed, other_than, reply_seen, ReplyAt, BringsBack, TakenAt, CommitAt, RecoveryAt, RecoveryOf, Recovery}
@@ -68,7 +70,9 @@ use Rattle.lu_lawful.proofs.CloseLines.{IsShow, RestStands, rest_none, rest_befo
 use Rattle.lu_lawful.proofs.CloseShows.{Sound, close_at, kept_law}
 use Rattle.lu_lawful.proofs.CloseLocks.{restored_law}
 use Rattle.lu_lawful.proofs.CloseLeaves.{leaves_law}
-use Rattle.lu_lawful.proofs.Story.{about_it}
+use Rattle.lu_lawful.proofs.Story.{about_it, target_is}
+use Rattle.lu_lawful.proofs.Sized.{sized_deed}
+use Rattle.lu_lawful.proofs.KeptReplies.{replied_acted}
 use Rattle.lu_lawful.proofs.Deeds.{TxnIs, act_is, txn_is}
 use Rattle.lu_facts.proofs.Lines.{acted_whole}
 
@@ -83,9 +87,9 @@ acted_before head (l ∷ past) at d g later a = by l.entry g.0 a (λ b. acted_be
     here e w same = subst (λ (v : Deed). turn_before v.reply.at at ≡ true) same (subst (λ (v : At). turn_before v at ≡ true) (sym w) later)
 
     by : (e : Entry) → Allowed head past l.at e → Acted (line l.at e ∷ past) d → (Acted past d → turn_before d.reply.at at ≡ true) → turn_before d.reply.at at ≡ true
-    by (Act e) k (inl same) h = here e (act_now head past l.at.stamp l.at.node e k g.1).2 same
+    by (Act e) k (inl same) h = here e (act_now head past l.at.stamp l.at.node e k g.1).turn same
     by (Act e) k (inr b) h = h b
-    by (Made e) k (inl same) h = here e (txn_now head past l.at.stamp l.at.node e k g.1).2 same
+    by (Made e) k (inl same) h = here e (txn_now head past l.at.stamp l.at.node e k g.1).turn same
     by (Made e) k (inr b) h = h b
     by _ k b h = h b
 
@@ -176,7 +180,7 @@ none_seen head (l ∷ past) at who x g n = by l.at.node l.entry g.0 n (none_seen
         of : (own now : Bool) → (same_life d.reply.who who && nat_eq d.reply.xid.0 x) ≡ own → same_turn (turn l.at.stamp node) at ≡ now → or_else (only_here (then_some own d.reply.seen) now) (law.seen_in (printed past) at who x) ≡ None
         of true true t s =
             let p = and_parts (same_life d.reply.who who) (nat_eq d.reply.xid.0 x) t in
-            let here : d.reply.at ≡ at = (txn_now head past l.at.stamp node d k g.1).2 ∙ same_turn_is (turn l.at.stamp node) at s in
+            let here : d.reply.at ≡ at = (txn_now head past l.at.stamp node d k g.1).turn ∙ same_turn_is (turn l.at.stamp node) at s in
             absurd (n d (inl refl) here (life_is d.reply.who who p.0) (eqb-true d.reply.xid.0 x p.1))
         of true false t s = h (λ e a. n e (inr a))
         of false now t s = h (λ e a. n e (inr a))
@@ -186,18 +190,17 @@ none_seen head (l ∷ past) at who x g n = by l.at.node l.entry g.0 n (none_seen
 abbrev reply_numbers : ℕ → List Line → ReplyTo → List ℕ
 reply_numbers osts past k = reply_seen osts 0 (printed past) k (law.seen_in (printed past) k.at k.who k.xid.0)
 
-act_reply : (head : Head) (before : List Line) (stamp : Stamp) (node : Node) (d : Deed) → let past = line (turn stamp node) (Act d) ∷ before in Grown head past → AllAsked past → d.reply.seen ≡ reply_numbers head.osts past d.reply
-act_reply head before stamp (Client c) d g a = absurd g.0.ok
-act_reply head before stamp (Target t) d g a =
-    let past = line (turn stamp (Target t)) (Act d) ∷ before in
-    let is = act_is head before stamp t d g.0 in
-    let now = act_now head before stamp (Target t) d g.0 g.1 in
-    let never : law.seen_in (printed before) d.reply.at d.reply.who d.reply.xid.0 ≡ None = none_seen head before d.reply.at d.reply.who d.reply.xid.0 g.1 (subst (λ (v : At). NoneNow head before v d.reply.who d.reply.xid.0) (sym now.2) now.0.now) in
+act_reply : (head : Head) (before : List Line) (stamp : Stamp) (d : Deed) → let past = line (turn stamp (Target 0)) (Act d) ∷ before in Grown head past → AllAsked past → d.reply.seen ≡ reply_numbers head.osts past d.reply
+act_reply head before stamp d g a =
+    let past = line (turn stamp (Target 0)) (Act d) ∷ before in
+    let is = act_is head before stamp d g.0 in
+    let does = act_now head before stamp (Target 0) d g.0 g.1 in
+    let never : law.seen_in (printed before) d.reply.at d.reply.who d.reply.xid.0 ≡ None = none_seen head before d.reply.at d.reply.who d.reply.xid.0 g.1 (subst (λ (v : At). NoneNow head before v d.reply.who d.reply.xid.0) (sym does.turn) does.now) in
     let sees = law_seen head.osts past d in
-    let none = none_left head before stamp t (Act d) g.0 g.0.ok (λ v. v) in
-    let level : committed 0 (printed past) ≡ (server_of head.osts (only 0 past)).committed.0 = told_level head 0 past g (either_way (closing_of head.clients) (line (turn stamp (Target t)) (Act d)) (only 0 before) (nat_eq 0 t) (ap but_first none ∙ sym none) ∙ none) in
+    let none = none_left head before stamp 0 (Act d) g.0 refl (λ v. v) in
+    let level : committed 0 (printed past) ≡ (server_of head.osts (only 0 past)).committed.0 = told_level head 0 past g (either_way (closing_of head.clients) (line (turn stamp (Target 0)) (Act d)) (only 0 before) (nat_eq 0 0) (ap but_first none ∙ sym none) ∙ none) in
     is.saw
-    ∙ sym (law_seen_is head past d g a a.0 level)
+    ∙ sym (law_seen_is head past d g a (a.0 refl) level)
     ∙ sym (ap (λ (n : Txn). other_than n.0 sees) is.txn)
     ∙ sym (ap (λ o. reply_seen head.osts 0 (printed past) d.reply o) never)
 
@@ -205,22 +208,26 @@ txn_reply : (head : Head) (before : List Line) (stamp : Stamp) (node : Node) (d 
 txn_reply head before stamp node d g =
     let at = turn stamp node in
     let past = line at (Made d) ∷ before in
-    let w : d.reply.at ≡ at = (txn_now head before stamp node d g.0 g.1).2 in
+    let w : d.reply.at ≡ at = (txn_now head before stamp node d g.0 g.1).turn in
     let now : same_turn at d.reply.at ≡ true = subst (λ (v : At). same_turn at v ≡ true) (sym w) (same_turn_self at) in
     let own : (same_life d.reply.who d.reply.who && nat_eq d.reply.xid.0 d.reply.xid.0) ≡ true = rw (life_self d.reply.who, self d.reply.xid.0) refl in
     let rest = law.seen_in (printed before) d.reply.at d.reply.who d.reply.xid.0 in
     let here : or_else (only_here (then_some (same_life d.reply.who d.reply.who && nat_eq d.reply.xid.0 d.reply.xid.0) d.reply.seen) (same_turn at d.reply.at)) rest ≡ Some d.reply.seen = rw (own, now) refl in
     sym (ap (λ o. reply_seen head.osts 0 (printed past) d.reply o) here)
 
--- what was just done
-did_reply : (head : Head) (past : List Line) (d : Deed) → Grown head past → AllAsked past → Did past d → d.reply.seen ≡ reply_numbers head.osts past d.reply
-did_reply head [] d g a i = absurd i
-did_reply head (l ∷ past) d g a i = by l.at.node l.entry g a i (did_reply head past d)
+-- what the metadata target just did
+did_reply : (head : Head) (past : List Line) (d : Deed) → d.reply.at.node ≡ Target 0 → Grown head past → AllAsked past → Did past d → d.reply.seen ≡ reply_numbers head.osts past d.reply
+did_reply head [] d first g a i = absurd i
+did_reply head (l ∷ past) d first g a i = by l.at.node l.entry g a i (did_reply head past d first)
   where
     by : (node : Node) (e : Entry) → Grown head (line (turn l.at.stamp node) e ∷ past) → AllAsked (line (turn l.at.stamp node) e ∷ past) → Did (line (turn l.at.stamp node) e ∷ past) d
         → (Grown head past → AllAsked past → Did past d → d.reply.seen ≡ reply_numbers head.osts past d.reply)
         → d.reply.seen ≡ reply_numbers head.osts (line (turn l.at.stamp node) e ∷ past) d.reply
-    by node (Act e) g a i h = subst (λ (v : Deed). v.reply.seen ≡ reply_numbers head.osts (line (turn l.at.stamp node) (Act e) ∷ past) v.reply) i (act_reply head past l.at.stamp node e g a)
+    by (Client c) (Act e) g a i h = absurd g.0.ok
+    by (Target zero) (Act e) g a i h = subst (λ (v : Deed). v.reply.seen ≡ reply_numbers head.osts (line (turn l.at.stamp (Target 0)) (Act e) ∷ past) v.reply) i (act_reply head past l.at.stamp e g a)
+    by (Target (suc t)) (Act e) g a i h =
+        let same : suc t ≡ 0 = target_is (suc t) 0 (sym (ap (λ (v : At). v.node) (act_now head past l.at.stamp (Target (suc t)) e g.0 g.1).turn) ∙ ap (λ (v : Deed). v.reply.at.node) i ∙ first) in
+        absurd (omega (arith, same))
     by node (Made e) g a i h = subst (λ (v : Deed). v.reply.seen ≡ reply_numbers head.osts (line (turn l.at.stamp node) (Made e) ∷ past) v.reply) i (txn_reply head past l.at.stamp node e g)
     by node (Grant lock asks) g a i h = h g.1 a i
     by _ _ g a i h = absurd i
@@ -264,17 +271,65 @@ taken_reply head past at c k g steps t ok now =
         (λ (e : turn_before t.at at ≡ true). turn_irreflexive at (turn_trans at t.at at b e))
         s2
 
-reply_law : (head : Head) (past : List Line) (at : At) (c : ℕ) (k : ReplyTo) → Grown head past → AllAsked past → Steps past at → RepliesNow past 0 k → ReplyOk head (only 0 past) 0 c k → ReplyAt head.osts 0 (printed past) at k
-reply_law head past at c k g a steps ok so e =
+reply_law : (head : Head) (past : List Line) (at : At) (c : ℕ) (k : ReplyTo) → at.node ≡ Target 0 → Grown head past → AllAsked past → Steps past at → RepliesNow past 0 k → ReplyOk head (only 0 past) 0 c k → ReplyAt head.osts 0 (printed past) at k
+reply_law head past at c k here g a steps ok so e =
     let now : k.at ≡ at = executed_now head past at k g e in
     ⊎_elim
     (λ (f : (d : Deed) × Did past d × (d.reply ≡ ok.kept)).
-    let seen : ok.kept.seen ≡ reply_numbers head.osts past ok.kept = subst (λ (v : ReplyTo). v.seen ≡ reply_numbers head.osts past v) f.2 (did_reply head past f.0 g a f.1) in
     let kept : ok.kept.at ≡ at = sym (ap (λ (r : ReplyTo). r.at) ok.is) ∙ now in
+    let first : f.0.reply.at.node ≡ Target 0 = ap (λ (r : ReplyTo). r.at.node) f.2 ∙ ap (λ (v : At). v.node) kept ∙ here in
+    let seen : ok.kept.seen ≡ reply_numbers head.osts past ok.kept = subst (λ (v : ReplyTo). v.seen ≡ reply_numbers head.osts past v) f.2 (did_reply head past f.0 first g a f.1) in
     subst (λ (v : ReplyTo). v.seen ≡ reply_seen head.osts 0 (printed past) v (law.seen_in (printed past) at v.who v.xid.0)) (sym ok.is)
     (subst (λ (v : At). ok.kept.seen ≡ reply_seen head.osts 0 (printed past) ok.kept (law.seen_in (printed past) v ok.kept.who ok.kept.xid.0)) kept seen))
     (λ (t : Taken past). absurd (taken_reply head past at c k g steps t so now))
     ok.now
+
+-- ---- replies of an object storage target: nothing was written there, so nothing is seen
+
+is_other : (t : ℕ) → 0 < t → nat_eq 0 t ≡ false
+is_other t high = grind (arith, nat_tests, high)
+
+none_written : (head : Head) (osts t : ℕ) (past : List Line) → 0 < t → Grown head past → written osts t (printed past) ≡ []
+none_written head osts t [] high g = refl
+none_written head osts t (l ∷ past) high g = by l.at.node l.entry g.0.ok (none_written head osts t past high g.1)
+  where
+    by : (node : Node) (e : Entry) → EntryOk past (turn l.at.stamp node) node e → written osts t (printed past) ≡ [] → written osts t (printed (line (turn l.at.stamp node) e ∷ past)) ≡ []
+    by (Client c) (Made d) ok h = absurd ok
+    by (Target u) (Made d) ok h = cond_both (nat_eq u t) _ (written osts t (printed past)) (λ (ws : List Written). ws ≡ []) (λ e. let same : nat_eq 0 t ≡ true = subst (λ (v : ℕ). nat_eq v t ≡ true) ok e in let other = is_other t high in absurd (cc)) (λ e. h)
+    by _ _ ok h = h
+
+-- nor does a turn of it make a transaction
+none_made_there : (head : Head) (past : List Line) (at : At) (t : ℕ) (who : Who) (x : ℕ) → at.node ≡ Target t → 0 < t → Grown head past → law.seen_in (printed past) at who x ≡ None
+none_made_there head [] at t who x here high g = refl
+none_made_there head (l ∷ past) at t who x here high g = by l.at.node l.entry g.0.ok (none_made_there head past at t who x here high g.1)
+  where
+    off : (o : Option (List ℕ)) (now : Bool) (rest : Option (List ℕ)) → now ≡ false → rest ≡ None → or_else (only_here o now) rest ≡ None
+    off o true rest n h = absurd (cc)
+    off None false rest n h = h
+    off (Some ns) false rest n h = h
+
+    apart : (b : Bool) → (b && nat_eq 0 t) ≡ false
+    apart true = is_other t high
+    apart false = refl
+
+    by : (node : Node) (e : Entry) → EntryOk past (turn l.at.stamp node) node e → law.seen_in (printed past) at who x ≡ None → law.seen_in (printed (line (turn l.at.stamp node) e ∷ past)) at who x ≡ None
+    by (Client c) (Made d) ok h = absurd ok
+    by (Target u) (Made d) ok h =
+        off (then_some (same_life d.reply.who who && nat_eq d.reply.xid.0 x) d.reply.seen) (same_turn (turn l.at.stamp (Target u)) at) (law.seen_in (printed past) at who x)
+        (ap (λ (v : ℕ). same_turn (turn l.at.stamp (Target v)) at) ok ∙ ap (λ (n : Node). nat_eq l.at.stamp.0 at.stamp.0 && same_node (Target 0) n) here ∙ apart (nat_eq l.at.stamp.0 at.stamp.0)) h
+    by _ _ ok h = h
+
+object_reply : (head : Head) (past : List Line) (at : At) (t c : ℕ) (k : ReplyTo) → at.node ≡ Target t → 0 < t → Grown head past → ReplyOk head (only t past) t c k → ReplyAt head.osts t (printed past) at k
+object_reply head past at t c k here high g so e =
+    let d = replied_acted head t past g t c k so in
+    let sized = sized_deed head past t d.0 g high d.1 in
+    let seen : k.seen ≡ [] = ap (λ (r : ReplyTo). r.seen) so.is ∙ ap (λ (r : ReplyTo). r.seen) (sym d.2) ∙ sized.unseen in
+    let number : k.txn.0 ≡ 0 = ap (λ (r : ReplyTo). r.txn.0) so.is ∙ ap (λ (r : ReplyTo). r.txn.0) (sym d.2) ∙ ap (λ (n : Txn). n.0) sized.number in
+    let touched = touches_of head.osts t (printed past) k.txn k.who (asked (printed past) t k.who k.xid.0) k.answer in
+    seen
+    ∙ sym (ap (λ (ws : List Written). seen_of (committed t (printed past)) (is_lost (printed past) t) touched ws) (none_written head head.osts t past high g))
+    ∙ sym (ap (λ (n : ℕ). other_than n (request_sees head.osts t (printed past) k.txn k.who k.xid.0 k.answer)) number)
+    ∙ sym (ap (λ o. reply_seen head.osts t (printed past) k o) (none_made_there head past at t k.who k.xid.0 here high g))
 
 -- ---- transactions
 
@@ -343,9 +398,8 @@ recovery_at clients head past l later few k g a f rest sound = by l.at.node l.en
     by : (node : Node) (e : Entry) → Allowed head past (turn l.at.stamp node) e → AllAsked (line (turn l.at.stamp node) e ∷ past) → Follows head (line (turn l.at.stamp node) e ∷ past) later → RestStands head (line (turn l.at.stamp node) e ∷ past) later
         → OfPrinted (λ (e : PrintedEntry). RecoveryAt clients head.osts (printed past) (record { at = turn l.at.stamp node; entry = e }) later e) (printed_entry (count_sent past + 1) e)
     by (Client c) (Send to m) k a f rest = tt
-    by (Target t) (Send (Client c) (message.Reply r)) k a f rest =
-        subst (λ (v : ℕ). ReplyAt head.osts v (printed past) (turn l.at.stamp (Target t)) r) (sym k.ok.0)
-        (reply_law head past (turn l.at.stamp (Target t)) c r g a k.steps (subst (λ (v : ℕ). RepliesNow past v r) k.ok.0 k.ok.1) (subst (λ (v : ℕ). ReplyOk head (only 0 past) v c r) k.ok.0 (k.of 0 (about_it t k.ok.0))))
+    by (Target zero) (Send (Client c) (message.Reply r)) k a f rest = reply_law head past (turn l.at.stamp (Target 0)) c r refl g a k.steps k.ok.0 (k.of 0 refl)
+    by (Target (suc t)) (Send (Client c) (message.Reply r)) k a f rest = object_reply head past (turn l.at.stamp (Target (suc t))) (suc t) c r refl (omega arith) g (k.of (suc t) (self (suc t)))
     by (Target t) (Send (Client c) (message.Block who boot cookie)) k a f rest = tt
     by (Target t) (Send (Client c) (message.Ready who boot committed)) k a f rest = tt
     by (Target t) (Send (Client c) (message.Up boot)) k a f rest = tt

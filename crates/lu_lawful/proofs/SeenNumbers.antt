@@ -30,11 +30,10 @@ use Rattle.lu_facts.proofs.Groups.{turn, Acted, IsMade, DeedsRise, History}
 use Rattle.lu_facts.proofs.HistoryLines.{rises_last, rises_filter}
 use Rattle.lu_facts.proofs.All.{holds}
 use Rattle.lu_facts.proofs.Lines.{acted_whole}
-use Rattle.lu_facts.proofs.Sides.{acted_only}
 use Rattle.lu_lawful.specs.Fits.{WasMade}
 use Rattle.lu_lawful.proofs.Facts.{AskedAt, AllAsked}
-use Rattle.lu_lawful.proofs.Deeds.{TxnIs, act_is, txn_is}
-use Rattle.lu_lawful.proofs.Story.{about_it}
+use Rattle.lu_lawful.proofs.Deeds.{TxnIs, act_for, txn_is}
+use Rattle.lu_lawful.proofs.Story.{about_it, made_story}
 use Rattle.lu_lawful.proofs.Commits.{listed}
 use Rattle.lu_lawful.proofs.LostNumbers.{lost_is}
 use Rattle.lu_lawful.proofs.Contents.{asked_before, contents_alike}
@@ -87,7 +86,7 @@ made_there head (l ∷ past) d g a made = by l.at.node l.entry g.0 a (λ b. made
     by node (Made x) k (inl e) ih = in_right d (made_in past) (x ∷ []) (inl e)
     by node (Made x) k (inr b) ih = in_left d (made_in past) (x ∷ []) (ih b)
     by (Client c) (Act x) k i ih = absurd k.ok
-    by (Target t) (Act x) k (inl e) ih = absurd (let zero : d.reply.txn.0 ≡ 0 = ap (λ (v : Deed). v.reply.txn.0) (sym e) ∙ ap (λ (n : Txn). n.0) (act_is head past l.at.stamp t x k).txn in omega (arith, zero, made))
+    by (Target t) (Act x) k (inl e) ih = absurd (let zero : d.reply.txn.0 ≡ 0 = ap (λ (v : Deed). v.reply.txn.0) (sym e) ∙ ap (λ (n : Txn). n.0) (act_for head past l.at.stamp t x k).number in omega (arith, zero, made))
     by (Target t) (Act x) k (inr b) ih = ih b
     by node e k b ih = ih b
 
@@ -100,7 +99,7 @@ made_rises head (l ∷ past) g = by l.at.node l.entry g.0 (made_rises head past 
     by (Target t) (Made x) k h =
         rises_last (made_in past) x h
         (λ e i. let m = in_made head past e g.1 i in
-        let most = ((holds head past g.1).at 0).history.last e (acted_only head past e g.1 m.0) m.1 in
+        let most = ((holds head past g.1).at 0).history.last e (made_story head past e g.1 m.0 m.1) m.1 in
         let n = ap (λ (v : Deed). v.reply.txn.0) (k.of 0 (about_it t k.ok)).is in
         omega (arith, most, n))
     by node e k h = h
@@ -182,7 +181,7 @@ log_of_all head past g =
     let q = and_parts (nat_lt committed_so d.reply.txn.0) (not (story.is_lost head.osts (only 0 past) d.reply.txn.0)) p.1 in
     let lt = ltb-true committed_so d.reply.txn.0 q.0 in
     ⊎_elim (λ (j : In d (server_of head.osts (only 0 past)).log). j) (λ (le : d.reply.txn.0 ≤ committed_so). absurd (omega (arith, lt, le)))
-    (history.logged d (acted_only head past d g m.0) m.1 (no (story.is_lost head.osts (only 0 past) d.reply.txn.0) q.1)))
+    (history.logged d (made_story head past d g m.0 m.1) m.1 (no (story.is_lost head.osts (only 0 past) d.reply.txn.0) q.1)))
     (λ d i.
     let r = history.log d i in
     in_filtered stands d (made_in past) (made_there head past d g (acted_whole 0 past d r.0) r.1) (rw (lt-ltb committed_so d.reply.txn.0 r.3, r.2) refl))
@@ -214,6 +213,6 @@ seen_is head past touched g a level =
     same : (d : Deed) → In d (made_in past) → (nat_lt (committed 0 (printed past)) d.reply.txn.0 && not (is_lost (printed past) 0 d.reply.txn.0)) ≡ stands d
     same d i =
         let m = in_made head past d g i in
-        let made : WasMade past d.reply.txn.0 = (listed head 0 past d g (acted_only head past d g m.0) m.1).made in
+        let made : WasMade past d.reply.txn.0 = (listed head 0 past d g (made_story head past d g m.0 m.1) m.1).made in
         ap (λ (n : ℕ). nat_lt n d.reply.txn.0 && not (is_lost (printed past) 0 d.reply.txn.0)) level
         ∙ ap (λ (b : Bool). nat_lt (server_of head.osts (only 0 past)).committed.0 d.reply.txn.0 && not b) (lost_is head past g d.reply.txn.0 made)

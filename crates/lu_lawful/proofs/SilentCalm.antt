@@ -60,7 +60,13 @@ call_is head c slot (l ∷ past) g = by l.at.node l.entry g.0.ok (call_is head c
     by (Client d) (Told s named given work) ok h = rw (flip d c) (told_same (call_at c slot past) (call_in c slot (printed past)) (nat_eq c d) (nat_eq s slot) h)
     by (Client d) (Queues t q) ok h = cond_both (nat_eq c d) (asks_for q.slot slot _ (call_at c slot past)) (call_at c slot past) (λ (o : Option Running). call_in c slot (printed past) ≡ called o) (λ b. h ∙ sym (asks_stays q.slot slot _ (call_at c slot past))) (λ b. h)
     by (Client d) (Heard t f r) ok h = cond_both (nat_eq c d) (asks_for f.slot slot _ (call_at c slot past)) (call_at c slot past) (λ (o : Option Running). call_in c slot (printed past) ≡ called o) (λ b. h ∙ sym (asks_stays f.slot slot _ (call_at c slot past))) (λ b. h)
-    by (Client d) (Stands s running) ok h = absurd ok
+    by (Client d) (Stands s running) ok h =
+        cond_both (nat_eq c d) (if nat_eq s slot then Some running else call_at c slot past) (call_at c slot past) (λ (o : Option Running). call_in c slot (printed past) ≡ called o)
+        (λ t. cond_both (nat_eq s slot) (Some running) (call_at c slot past) (λ (o : Option Running). call_in c slot (printed past) ≡ called o) (λ u. h ∙ ap called (before t u) ∙ ap (λ (v : Running). Some v.call) (sym ok.is)) (λ u. h))
+        (λ t. h)
+      where
+        before : nat_eq c d ≡ true → nat_eq s slot ≡ true → call_at c slot past ≡ Some ok.running
+        before t u = ap (λ (v : ℕ). call_at v slot past) (eqb-true c d t) ∙ ap (λ (v : ℕ). call_at d v past) (sym (eqb-true s slot u)) ∙ ok.call
     by (Target t) (Begin s running) ok h = absurd ok
     by (Target t) (Told s named given work) ok h = absurd ok
     by (Target t) (Queues u q) ok h = absurd ok

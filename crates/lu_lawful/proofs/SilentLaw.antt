@@ -1,6 +1,6 @@
 -- The law of silent repeats holds of the printed past of every grown one that is settled: each call whose answer is known is known
 -- by facts under held locks, so that it is told as it begins.
-use Rattle.std.proofs.Common.{◌≡◌, ℕ, ◌+◌, Bool, true, false, List, [], ◌∷◌, ◌++◌, ◌⊎◌, Option, Some, None, inl, inr, refl, sym, subst, ap, ◌∙◌}
+use Rattle.std.proofs.Common.{◌≡◌, ℕ, ◌+◌, Bool, true, false, List, [], ◌∷◌, ◌++◌, ◌⊎◌, Option, Some, None, inl, inr, ⊎_elim, refl, sym, subst, ap, ◌∙◌}
 use Rattle.std.specs.Prelude.{nat_eq, not, ◌==◌, ◌&&◌, if◌then◌else◌, map, filter}
 use Rattle.std.specs.List.{list_any}
 use Rattle.std.proofs.lemmas.Bool.{cond_both, cond-true, and_parts, eqb-true}
@@ -24,14 +24,15 @@ use Rattle.lu_trace.specs.declared.entries.Line.{Line as PrintedLine}
 use Rattle.lu_machine.specs.Footprint.{Every}
 use Rattle.lu_machine.specs.Name.{same_name}
 use Rattle.lu_machine.proofs.Keys.{name_tells}
-use Rattle.lu_words.specs.Carried.{Work, Queued, Running, HandleFile, Stage, Plain, Bad}
-use Rattle.lu_words.specs.Words.{Entry, Begin, Told, Take, Drop, Life, Queues, Pins, Unbinds, Line, line}
+use Rattle.lu_words.specs.Carried.{Work, Queued, Running, HandleFile, Stage, Plain, Bad, Sizes}
+use Rattle.lu_words.specs.Words.{Entry, Begin, Told, Take, Drop, Life, Queues, Pins, Line, line}
 use Rattle.lu_words.specs.Sent.{count_sent}
 use Rattle.lu_words.specs.Printed.{printed_entry, printed}
 use Rattle.lu_client_rows.specs.Caches.{held_at}
 use Rattle.lu_client_rows.specs.Facts.{facts_at}
 use Rattle.lu_client_rows.specs.Known.{Notes}
-use Rattle.lu_covered.specs.Calls.{call_at, operation_of}
+use Rattle.lu_covered.specs.Calls.{call_at, operation_of, becomes}
+use Rattle.lu_covered.specs.Covered.{IsOnSizes}
 use Rattle.lu_covered.specs.Heads.{Head}
 use Rattle.lu_covered.specs.Known.{notes_at, known_answer}
 use Rattle.lu_laws.specs.Holds.{Holds}
@@ -41,10 +42,10 @@ use Rattle.lu_laws.specs.Words.Held.{held, has_write_lock}
 use Rattle.lu_laws.specs.Words.Lives.{life, who_is}
 use Rattle.lu_laws.specs.Words.Pasts.{same_turn}
 use Rattle.lu_laws.specs.Words.Repeats.{same_path, same_reading, is_error, calm, told_calm, known, is_repeat}
-use Rattle.lu_guards.proofs.Guards.{In, Begins, Starts, Owes, QueuesOk, ToldOk, KnownOk, EndsOk, BadOk}
+use Rattle.lu_guards.proofs.Guards.{In, Begins, Starts, OwesBegun, Owes, NamesAskOk, SizeAskOk, QueuesOk, ToldOk, KnownOk, EndsOk, BadOk, SizesToldOk, FlushedOk}
 use Rattle.lu_guards.proofs.Grown.{Allowed, Grown}
 use Rattle.lu_guards.proofs.Lists.{self, in_filter}
-use Rattle.lu_guards.proofs.Turns.{Settled}
+use Rattle.lu_guards.proofs.Turns.{BeginQuiet, Settled}
 use Rattle.lu_facts.proofs.Groups.{turn}
 use Rattle.lu_lawful.proofs.Printed.{flip}
 use Rattle.lu_lawful.proofs.Lines.{OfPrinted, Keeps, shown, holds_due, Nothing}
@@ -66,7 +67,13 @@ no_refusal given fine e is = let error : is_error given ≡ true = ap is_error i
 
 -- the call in the slot may be told
 abbrev MayTell : List Line → At → ℕ → ℕ → At → Answer → Option Work → Type 0
-MayTell past at c slot named given work = ToldOk past at c slot named given work ⊎ KnownOk past at c slot named given work ⊎ EndsOk past at c slot named given work ⊎ BadOk past at c slot named given work
+MayTell past at c slot named given work =
+    ToldOk past at c slot named given work
+    ⊎ KnownOk past at c slot named given work
+    ⊎ EndsOk past at c slot named given work
+    ⊎ BadOk past at c slot named given work
+    ⊎ SizesToldOk past at c slot named given work
+    ⊎ FlushedOk past at c slot named given work
 
 module _ (head : Head) (c : ℕ) where
   -- a line that gives up no lock and no life keeps it
@@ -92,7 +99,10 @@ module _ (head : Head) (c : ℕ) where
           subst (λ (v : Call). KnownAt c past v) (the_call a.running a.call)
           (known_more (notes_at c past) (bare_at c past) (grows_to_bare (facts_at c past) (held_at c past)) (agrees head c past g) a.running.call (told_known (notes_at c past) given a.running.call a.known))
       by (inr (inr (inl a))) = absurd (no_refusal given fine EIO a.of_answer)
-      by (inr (inr (inr a))) = absurd (no_refusal given fine EBADF a.of_answer)
+      by (inr (inr (inr (inl a)))) = absurd (no_refusal given fine EBADF a.of_answer)
+      -- a glimpse or a flush is no reading
+      by (inr (inr (inr (inr (inl a))))) = subst (λ (v : Call). KnownAt c past v) (the_call a.running a.call) (subst (λ (v : Call). KnownAt c past v) (sym a.glimpses) tt)
+      by (inr (inr (inr (inr (inr a))))) = subst (λ (v : Call). KnownAt c past v) (the_call a.running a.call) (subst (λ (v : Call). KnownAt c past v) (sym a.flushes) tt)
 
   -- all that is told calm in the slot
   told_all : (past : List Line) (at : At) (slot : ℕ) (named : At) (given : Answer) (work : Option Work) → Grown head past → at.node ≡ Client c → MayTell past at c slot named given work
@@ -183,11 +193,16 @@ repeats n file (call.Layout p) (call.Layout q) o e s h = (tt, subst (λ (v : Lis
 repeats n file (call.Read h offset count) k o e s is = absurd (cc)
 repeats n file _ _ o e s h = absurd (cc)
 
+never_repeats : (a k : Call) → IsOnSizes a → same_reading a k ≡ true → ⊥
+never_repeats (call.Flush h) k sizes e = absurd (cc)
+never_repeats (call.Glimpse h) k sizes e = absurd (cc)
+never_repeats a k sizes e = absurd sizes
+
 -- ---- what a call that begins owes
 
 module _ (head : Head) where
-  -- where the newest line began a call that is known while no lock is marked, or one on a bad handle, but for what it pins and unbinds, it is told in the lines to
-  -- come before anything is sent
+  -- where the newest line began a call that is known while no lock is marked, or one on a bad handle, but for what it pins, it is told in the lines to come before
+  -- anything is sent
   abbrev IsDue : ℕ → List Line → Running → Type 0
   IsDue c past running = (running.stage ≡ Bad) ⊎ (IsReadingCall running.call × KnownAt c past running.call × Unmarked (held_at c past))
 
@@ -197,7 +212,6 @@ module _ (head : Head) where
       elim l.entry [
         | Begin slot running ↦ (c : ℕ) → l.at.node ≡ Client c → IsDue c past running → is_told_silently slot l.at later ≡ true
         | Pins name ↦ Due past later
-        | Unbinds handle ↦ Due past later
         | _ ↦ Unit {0}
       ]
 
@@ -205,10 +219,19 @@ module _ (head : Head) where
   nothing_due [] s = tt
   nothing_due (l ∷ past) s = by l.entry s
     where
+      quiet : (stage : Stage) (k : Call) → BeginQuiet stage k → IsReadingCall k → ⊥
+      quiet Bad k q r = q
+      quiet stage (call.Close h) q r = r
+      quiet stage (call.Flush h) q r = r
+      quiet stage (call.Glimpse h) q r = r
+      quiet stage k q r = q
+
       by : (e : Entry) → Settled (line l.at e ∷ past) → Due (line l.at e ∷ past) []
-      by (Begin slot running) s = absurd s
+      by (Begin slot running) s = λ c own due. ⊎_elim
+          (λ (bad : running.stage ≡ Bad). absurd (subst (λ (v : Stage). BeginQuiet v running.call) bad s))
+          (λ (h : IsReadingCall running.call × KnownAt c past running.call × Unmarked (held_at c past)). absurd (quiet running.stage running.call s h.0))
+          due
       by (Pins name) s = absurd s
-      by (Unbinds handle) s = absurd s
       by _ s = tt
 
   turn_self : (a b : At) → a ≡ b → same_turn b a ≡ true
@@ -218,10 +241,21 @@ module _ (head : Head) where
       by (Client c) = ap (λ (v : Bool). v && nat_eq c c) (self a.stamp.0) ∙ self c
       by (Target t) = ap (λ (v : Bool). v && nat_eq t t) (self a.stamp.0) ∙ self t
 
-  -- what a call that has begun may be followed by
-  begun_starts : (c : ℕ) (past : List Line) (r : Running) (slot : ℕ) (e : Entry) → Begins c past r → Starts slot r.stage e → ((r.stage ≡ Bad) × Starts slot Bad e) ⊎ ((r.stage ≡ Plain) × Starts slot Plain e)
-  begun_starts c past r slot e (inl p) s = inr (p.1, subst (λ (v : Stage). Starts slot v e) p.1 s)
-  begun_starts c past r slot e (inr p) s = inl (p.1, subst (λ (v : Stage). Starts slot v e) p.1 s)
+  -- what a call of which something is due may be followed by, in its turn
+  abbrev IsFollowed : Type 0 → Running → ℕ → Entry → Type 0
+  IsFollowed same r slot e = same × (((r.stage ≡ Bad) × Starts slot Bad e) ⊎ ((r.stage ≡ Plain) × Starts slot Plain e))
+
+  reading_owes : (same : Type 0) (k : Call) (slot : ℕ) (e : Entry) → IsReadingCall k → OwesBegun same slot Plain k e → same × Starts slot Plain e
+  reading_owes same (call.Lookup path) slot e reads o = o
+  reading_owes same (call.List path) slot e reads o = o
+  reading_owes same (call.Layout path) slot e reads o = o
+  reading_owes same (call.Stat path) slot e reads o = o
+  reading_owes same k slot e reads o = absurd reads
+
+  begun_starts : (same : Type 0) (c d : ℕ) (past : List Line) (r : Running) (slot : ℕ) (e : Entry) → Begins d past r → IsDue c past r → OwesBegun same slot r.stage r.call e → IsFollowed same r slot e
+  begun_starts same c d past r slot e (inl p) (inl bad) o = let both : Plain ≡ Bad = sym p.1 ∙ bad in absurd (cc)
+  begun_starts same c d past r slot e (inl p) (inr h) o = let s = reading_owes same r.call slot e h.0 (subst (λ (v : Stage). OwesBegun same slot v r.call e) p.1 o) in (s.0, inr (p.1, s.1))
+  begun_starts same c d past r slot e (inr p) due o = let s = subst (λ (v : Stage). OwesBegun same slot v r.call e) p.1 o in (s.0, inl (p.1, s.1))
 
   told_due : (at : At) (s : ℕ) (named : At) (given : Answer) (work : Option Work) (later : List PrintedLine) (past : List Line) → Grown head past → Owes past at (Told s named given work)
       → Due past (record { at = at; entry = entry.Told s named given } ∷ later)
@@ -236,14 +270,14 @@ module _ (head : Head) where
           → Due (line (turn l.at.stamp node) e ∷ past) (record { at = at; entry = entry.Told s named given } ∷ later)
       by (Client d) (Begin slot running) k o more = λ c own due.
           let here = turn l.at.stamp (Client d) in
-          let same : s ≡ slot = same_slot slot running (begun_starts d past running slot (Told s named given work) k.ok.begins o.1) in
-          cond-true (same_turn at here && nat_eq s slot) true (is_told_silently slot here later) (ap (λ (b : Bool). b && nat_eq s slot) (turn_self here at o.0) ∙ ap (λ (v : ℕ). nat_eq v slot) same ∙ self slot)
+          let starts = begun_starts (here ≡ at) c d past running slot (Told s named given work) k.ok.begins due o in
+          let same : s ≡ slot = same_slot slot running starts.1 in
+          cond-true (same_turn at here && nat_eq s slot) true (is_told_silently slot here later) (ap (λ (b : Bool). b && nat_eq s slot) (turn_self here at starts.0) ∙ ap (λ (v : ℕ). nat_eq v slot) same ∙ self slot)
       by (Target t) (Begin slot running) k o more = absurd k.ok
       by _ (Pins name) k o more = more o.1
-      by _ (Unbinds handle) k o more = more o.1
       by _ _ k o more = tt
 
-  -- nothing else may follow, but what it pins and unbinds, and a request
+  -- nothing else may follow, but what it pins, and a request
   other_due : (at : At) (e : Entry) → ((slot : ℕ) → Starts slot Plain e → ⊥) → ((slot : ℕ) → Starts slot Bad e → ⊥) → (later : List PrintedLine) (past : List Line) → Grown head past → Owes past at e → Due past later
   other_due at e never nor later [] g o = tt
   other_due at e never nor later (l ∷ past) g o = by l.at.node l.entry g.0 o (other_due at e never nor later past g.1)
@@ -253,10 +287,9 @@ module _ (head : Head) where
       none slot r (inr p) = never slot p.1
 
       by : (node : Node) (x : Entry) → Allowed head past (turn l.at.stamp node) x → Owes (line (turn l.at.stamp node) x ∷ past) at e → (Owes past at e → Due past later) → Due (line (turn l.at.stamp node) x ∷ past) later
-      by (Client d) (Begin slot running) k o more = absurd (none slot running (begun_starts d past running slot e k.ok.begins o.1))
+      by (Client d) (Begin slot running) k o more = λ c own due. absurd (none slot running (begun_starts (turn l.at.stamp (Client d) ≡ at) c d past running slot e k.ok.begins due o).1)
       by (Target t) (Begin slot running) k o more = absurd k.ok
       by _ (Pins name) k o more = more o.1
-      by _ (Unbinds handle) k o more = more o.1
       by _ _ k o more = tt
 
   -- and nothing is asked for a call that is known
@@ -271,15 +304,20 @@ module _ (head : Head) where
 
   module _ (c : ℕ) (at : At) (own : at.node ≡ Client c) (t : ℕ) (q : Queued) (now : List Line) (grown : Grown head now) (ok : QueuesOk now c t q) (later : List PrintedLine) where
     -- a call that is known when all is calm isn't asked for
-    never_asked : (slot : ℕ) (running : Running) → q.slot ≡ Some slot → call_at c slot now ≡ Some running → Unmarked (held_at c now) → IsReadingCall running.call → KnownAt c now running.call → ⊥
-    never_asked slot running serves is calm reads h =
+    never_asked : (slot : ℕ) (running : Running) → q.slot ≡ Some slot → call_at c slot now ≡ Some running → running.stage ≡ Plain → Unmarked (held_at c now) → IsReadingCall running.call → KnownAt c now running.call → ⊥
+    never_asked slot running serves is plain calm reads h =
         let same : ok.slot ≡ slot = one_slot ok.slot slot q.slot ok.serves serves in
         let there : call_at c slot now ≡ Some ok.running = subst (λ (v : ℕ). call_at c v now ≡ Some ok.running) same ok.call in
         let same_call : ok.running ≡ running = one_running ok.running running (call_at c slot now) there is in
         let notes_agree = agrees_too (notes_at c now) (bare_at c now) (grows_to_bare (facts_at c now) (held_at c now)) (agrees head c now grown) in
         let knows = known_more (bare_at c now) (notes_at c now) (grows_from_bare (facts_at c now) (held_at c now) calm) notes_agree running.call h in
-        known_told (notes_at c now) running.call reads knows (subst (λ (v : Running). known_answer (notes_at c now) v.call ≡ None) same_call ok.unknown)
+        known_told (notes_at c now) running.call reads knows (subst (λ (v : Running). known_answer (notes_at c now) v.call ≡ None) same_call (unknown same_call ok.asks))
       where
+        -- it is no glimpse that goes on
+        unknown : ok.running ≡ running → NamesAskOk now c t ok.running q.op ⊎ SizeAskOk t ok.running q.op → known_answer (notes_at c now) ok.running.call ≡ None
+        unknown same (inl a) = a.unknown
+        unknown same (inr a) = let both : Sizes a.work ≡ Plain = sym a.stage ∙ ap (λ (v : Running). v.stage) same ∙ plain in absurd (cc)
+
         one_slot : (a b : ℕ) (v : Option ℕ) → v ≡ Some a → v ≡ Some b → a ≡ b
         one_slot a b v e f = cc
 
@@ -298,28 +336,25 @@ module _ (head : Head) where
             → (((slot : ℕ) → call_at c slot now ≡ call_at c slot past) → ((k : Call) → KnownAt c past k → KnownAt c now k) → (Unmarked (held_at c past) → Unmarked (held_at c now)) → Owes past at (Queues t q) → Due past later)
             → Due (line (turn l.at.stamp node) e ∷ past) later
         by (Client d) (Begin slot running) g calls knows calm o more = λ b is due.
-            asked b (one_client b (turn l.at.stamp (Client d)) is o.0) (begun_starts d past running slot (Queues t q) g.0.ok.begins o.1) due
+            let starts = begun_starts (turn l.at.stamp (Client d) ≡ at) b d past running slot (Queues t q) g.0.ok.begins due o in
+            asked b starts.0 (one_client b (turn l.at.stamp (Client d)) is starts.0) starts.1 due
           where
-            same_d : d ≡ c
-            same_d = one_client d (turn l.at.stamp (Client d)) refl o.0
-
-            stands : call_at c slot now ≡ Some running
-            stands =
+            stands : turn l.at.stamp (Client d) ≡ at → call_at c slot now ≡ Some running
+            stands now_is =
+                let same_d : d ≡ c = one_client d (turn l.at.stamp (Client d)) refl now_is in
                 calls slot ∙ ap (λ (v : Bool). if v then (if nat_eq slot slot then Some running else call_at c slot past) else call_at c slot past) (ap (λ (v : ℕ). nat_eq c v) same_d ∙ self c)
                 ∙ ap (λ (v : Bool). if v then Some running else call_at c slot past) (self slot)
 
-            asked : (b : ℕ) → b ≡ c → ((running.stage ≡ Bad) × Starts slot Bad (Queues t q)) ⊎ ((running.stage ≡ Plain) × Starts slot Plain (Queues t q)) → IsDue b past running → is_told_silently slot (turn l.at.stamp (Client d)) later ≡ true
-            asked b same_b (inl p) due = absurd p.1
-            asked b same_b (inr p) (inl bad) = absurd (let plain = p.0 in cc)
-            asked b same_b (inr p) (inr h) =
-                absurd (never_asked slot running p.1 stands (calm (subst (λ (v : ℕ). Unmarked (held_at v past)) same_b h.2)) h.0 (knows running.call (subst (λ (v : ℕ). KnownAt v past running.call) same_b h.1)))
+            asked : (b : ℕ) → turn l.at.stamp (Client d) ≡ at → b ≡ c → ((running.stage ≡ Bad) × Starts slot Bad (Queues t q)) ⊎ ((running.stage ≡ Plain) × Starts slot Plain (Queues t q)) → IsDue b past running → is_told_silently slot (turn l.at.stamp (Client d)) later ≡ true
+            asked b now_is same_b (inl p) due = absurd p.1
+            asked b now_is same_b (inr p) (inl bad) = absurd (let plain = p.0 in cc)
+            asked b now_is same_b (inr p) (inr h) =
+                absurd (never_asked slot running p.1 (stands now_is) p.0 (calm (subst (λ (v : ℕ). Unmarked (held_at v past)) same_b h.2)) h.0 (knows running.call (subst (λ (v : ℕ). KnownAt v past running.call) same_b h.1)))
         by (Client d) (Pins name) g calls knows calm o more =
             more calls (λ k h. knows k (still head c past (line (turn l.at.stamp (Client d)) (Pins name)) g refl k h))
             (λ u. calm (cond_both (nat_eq c d) (changed name lock.Pin (held_at c past)) (held_at c past) (λ (v : List HeldLock). Unmarked v) (λ s. pinned_calm name (held_at c past) u) (λ s. u))) o.1
         by (Target u) (Begin slot running) g calls knows calm o more = absurd g.0.ok
-        by (Client d) (Unbinds handle) g calls knows calm o more = more calls (λ k h. knows k (still head c past (line (turn l.at.stamp (Client d)) (Unbinds handle)) g refl k h)) calm o.1
         by (Target u) (Pins name) g calls knows calm o more = absurd g.0.ok
-        by (Target u) (Unbinds handle) g calls knows calm o more = absurd g.0.ok
         by _ _ g calls knows calm o more = tt
 
   -- ---- line by line
@@ -329,7 +364,6 @@ module _ (head : Head) where
     where
       by : (node : Node) (e : Entry) → Grown head (line (turn l.at.stamp node) e ∷ past) → Due (line (turn l.at.stamp node) e ∷ past) later → Due past (shown (turn l.at.stamp node) (printed_entry (count_sent past + 1) e) later)
       by node (Pins name) g d = d
-      by node (Unbinds handle) g d = d
       by node (Told s named given work) g d = told_due (turn l.at.stamp node) s named given work later past g.1 g.0.owes
       by (Client c) (Queues t q) g d = queues_due c (turn l.at.stamp (Client c)) refl t q past g.1 g.0.ok later past g.1 (λ slot. refl) (λ k h. h) (λ u. u) g.0.owes
       by (Target u) (Queues t q) g d = absurd g.0.ok
@@ -347,7 +381,10 @@ module _ (head : Head) where
               let some = and_parts (list_any (same_reading running.call) (known (who_is c (printed past)) (printed past))) (not (has_write_lock (who_is c (printed past)) (held (printed past)))) is in
               let one = of_any (same_reading running.call) (known (who_is c (printed past)) (printed past)) some.0 in
               let knows = every_in (KnownAt c past) one.0 (known (who_is c (printed past)) (printed past)) (known_is_known head c past g) one.1.0 in
-              let reads = repeats (bare_at c past) running.file running.call one.0 good.3.0 good.3.1 one.1.1 knows in
+              let reads = ⊎_elim
+              (λ (q : (o : Op) × (becomes running ≡ Some o)). repeats (bare_at c past) running.file running.call one.0 q.0 q.1 one.1.1 knows)
+              (λ (q : IsOnSizes running.call). absurd (never_repeats running.call one.0 q one.1.1))
+              good.3 in
               d c refl (inr (reads.0, reads.1, repeats_unmarked head c past g one.0 one.1.0 k.ok.calm k.ok.ready))
       by (Target t) (Begin slot running) k d = tt
       by _ _ k d = tt

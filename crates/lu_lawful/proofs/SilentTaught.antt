@@ -20,13 +20,13 @@ use Rattle.lu_msg.specs.declared.operations.Op.{Op}
 use Rattle.lu_msg.specs.declared.operations.Op.TheVariants as op
 use Rattle.lu_machine.specs.Laws.{IsReading}
 use Rattle.lu_machine.proofs.Transactions.{readings_change_nothing}
-use Rattle.lu_words.specs.Carried.{Deed, Work, Flight, Asking, Answered, Running}
+use Rattle.lu_words.specs.Carried.{Deed, Work, Flight, Asking, Answered, Plain, Sizes, Running}
 use Rattle.lu_words.specs.Words.{Entry, Begin, Heard, Hold, Told, Queues, Stands, Learns, Act, Txn as Made, Line, line, is_client}
 use Rattle.lu_words.specs.Concerns.{only}
 use Rattle.lu_words.specs.Printed.{printed}
 use Rattle.lu_client_rows.specs.Caches.{brought, with_brought, held_at}
 use Rattle.lu_client_rows.specs.Facts.{Fact, root, is_one_for_each, name_facts, names_taught, last_of, inode_taught, stat_facts, taught, facts_at}
-use Rattle.lu_covered.specs.Calls.{call_at, life_at, asks, asks_for, becomes, told_as}
+use Rattle.lu_covered.specs.Calls.{call_at, life_at, asks, asks_for, errand, becomes, told_as}
 use Rattle.lu_covered.specs.ClientStates.{flights_of}
 use Rattle.lu_covered.specs.Imports.{flights_at}
 use Rattle.lu_covered.specs.Deeds.{asked}
@@ -35,7 +35,8 @@ use Rattle.lu_covered.specs.TargetStates.{none, server_of}
 use Rattle.lu_laws.specs.Words.Lives.{who_is}
 use Rattle.lu_laws.specs.Words.Repeats.{calm}
 use Rattle.lu_guards.proofs.Guards.{In, IsToldAsIs, HeardNow, Learned, EntryOk, ToldOk}
-use Rattle.lu_guards.proofs.StoryGuards.{ActOk, TxnOk}
+use Rattle.lu_guards.proofs.StoryGuards.{ActOk, SizedOk, ActsOk, TxnOk}
+use Rattle.lu_guards.proofs.Acts.{sized_op}
 use Rattle.lu_guards.proofs.Grown.{Allowed, Grown}
 use Rattle.lu_guards.proofs.Lists.{self, in_append, in_left}
 use Rattle.lu_guards.proofs.Parts.{life_is_of, flights_is}
@@ -48,7 +49,9 @@ use Rattle.lu_lawful.proofs.SilentReads.{NoRefusal, reading_comes}
 use Rattle.lu_lawful.proofs.SilentHeld.{Present, bare_at, present_bare, brought_new, held_stays, notes_grow}
 use Rattle.lu_lawful.proofs.SilentCalm.{calm_before, calm_gives_none}
 use Rattle.lu_facts.proofs.Lines.{acted_whole}
-use Rattle.lu_guards.proofs.ClientLines.{some_is}
+use Rattle.lu_guards.proofs.ClientLines.{IsNames, IsAskedOf, asked_names, flights_asked, some_is}
+use Rattle.lu_facts.proofs.Asks.{plain_errand, sizes_errand, stages_errand}
+use Rattle.lu_lawful.proofs.Sized.{answers_first}
 
 -- ---- what an answer teaches is known under its locks
 
@@ -109,6 +112,13 @@ taught_under (op.Layout path) (told.Layout layout) locks =
     under_both locks (names_taught told.File path locks) _ (path_under told.File path locks) (one_under _ locks (λ l. refl))
 taught_under o a locks = λ f i. absurd i
 
+-- what a call asks of names is what it becomes
+names_errand : (r : Running) (o : Op) → IsNames o → errand r ≡ Some (record { target = 0; op = o }) → becomes r ≡ Some o
+names_errand r o on_names e = ⊎_elim
+    (λ (plain : r.stage ≡ Plain). (plain_errand r 0 o plain e).1)
+    (λ (s : (w : Work) × (r.stage ≡ Sizes w)). let is = (sizes_errand r s.0 0 o s.1 e).of_op in absurd (subst IsNames is on_names))
+    (stages_errand r (record { target = 0; op = o }) e)
+
 -- ---- the call that a request serves stands in its slot until it is told
 
 abbrev ServedBy : Op → Option Running → Type 0
@@ -143,7 +153,16 @@ module _ (head : Head) (c slot : ℕ) where
       by (Client d) (Queues t q) ok nt h = cond_both (nat_eq c d) (asks_for q.slot slot _ (call_at c slot past)) (call_at c slot past) (ServedBy o) (λ b. asks_serves o q.slot slot _ (call_at c slot past) h) (λ b. h)
       by (Client d) (Heard t f r) ok nt h = cond_both (nat_eq c d) (asks_for f.slot slot _ (call_at c slot past)) (call_at c slot past) (ServedBy o) (λ b. asks_serves o f.slot slot _ (call_at c slot past) h) (λ b. h)
       by (Client d) (Told s named given work) ok nt h = absurd nt
-      by (Client d) (Stands s running) ok nt h = absurd ok
+      by (Client d) (Stands s running) ok nt h =
+          cond_both (nat_eq c d) (if nat_eq s slot then Some running else call_at c slot past) (call_at c slot past) (ServedBy o)
+          (λ t. cond_both (nat_eq s slot) (Some running) (call_at c slot past) (ServedBy o) (λ u. (running, (refl, ap becomes ok.is ∙ ap becomes (one_running ok.running h.0 (before t u) h.1.0) ∙ h.1.1))) (λ u. h))
+          (λ t. h)
+        where
+          before : nat_eq c d ≡ true → nat_eq s slot ≡ true → call_at c slot past ≡ Some ok.running
+          before t u = ap (λ (v : ℕ). call_at v slot past) (eqb-true c d t) ∙ ap (λ (v : ℕ). call_at d v past) (sym (eqb-true s slot u)) ∙ ok.call
+
+          one_running : (q r : Running) → call_at c slot past ≡ Some q → call_at c slot past ≡ Some r → q ≡ r
+          one_running q r e f = some_is q r (sym e ∙ f)
       by (Target t) (Begin s running) ok nt h = absurd ok
       by (Target t) (Told s named given work) ok nt h = absurd ok
       by (Target t) (Queues u q) ok nt h = absurd ok
@@ -153,40 +172,43 @@ module _ (head : Head) (c slot : ℕ) where
 
   -- ---- a reply that is heard: its request served the call, and its locks are held
 
-  module _ (at : At) (own : at.node ≡ Client c) (t : ℕ) (f : Flight) (r : ReplyTo) (serves : f.slot ≡ Some slot) where
+  module _ (at : At) (own : at.node ≡ Client c) (f : Flight) (r : ReplyTo) (serves : f.slot ≡ Some slot) where
     abbrev AllHeld : List Line → Type 0
     AllHeld past = (l : Lock) → In l r.locks → Present l.cookie.0 (held_at c past)
 
     client_is : (d : ℕ) (here : At) → here.node ≡ Client d → here ≡ at → c ≡ d
     client_is d here is e = let same : Client c ≡ Client d = sym own ∙ ap (λ (v : At). v.node) (sym e) ∙ is in cc
 
-    heard_serves : (past : List Line) (stamp : Stamp) (d u : ℕ) (g : Flight) (k : ReplyTo) → Allowed head past (turn stamp (Client d)) (Heard u g k) → Grown head past → c ≡ d → g ≡ f → Serves c slot (line (turn stamp (Client d)) (Heard u g k) ∷ past) f.op
-    heard_serves past stamp d u g k a grown same is =
+    heard_serves : (past : List Line) (stamp : Stamp) (d u : ℕ) (g : Flight) (k : ReplyTo) → u ≡ 0 → Allowed head past (turn stamp (Client d)) (Heard u g k) → Grown head past → c ≡ d → g ≡ f → Serves c slot (line (turn stamp (Client d)) (Heard u g k) ∷ past) f.op
+    heard_serves past stamp d u g k first a grown same is =
         let ok = a.of u (self u) in
         let flying : In g (flights_of (life_at d past) (only u past)) = subst (λ (v : Who). In g (flights_of v (only u past))) (sym (life_is_of d u past)) ok.flying in
         let flies : In g (flights_at d u past) = subst (λ (v : List Flight). In g v) (sym (flights_is head d u past grown)) flying in
         let call = (holds head past grown).asks.fly_calls d u g (reply_ends_none head past (turn stamp (Client d)) (Target u) k d grown a.ok.1) flies in
-        let of_slot : CallOf past d (Some slot) f.op = subst (λ (v : Flight). CallOf past d (Some slot) v.op) is (subst (λ (v : Option ℕ). CallOf past d v g.op) (ap (λ (v : Flight). v.slot) is ∙ serves) call) in
+        let of_slot : CallOf past d 0 (Some slot) f.op =
+        subst (λ (v : ℕ). CallOf past d v (Some slot) f.op) first (subst (λ (v : Flight). CallOf past d u (Some slot) v.op) is (subst (λ (v : Option ℕ). CallOf past d u v g.op) (ap (λ (v : Flight). v.slot) is ∙ serves) call))
+        in
+        let on_names : IsNames f.op = asked_names f.op (subst (λ (v : ℕ). IsAskedOf v f.op) first (subst (λ (v : Flight). IsAskedOf u v.op) is (flights_asked head d u past grown g flies))) in
         cond_both (nat_eq c d) (asks_for g.slot slot (Answered u k) (call_at c slot past)) (call_at c slot past) (ServedBy f.op)
-        (λ t. asks_serves f.op g.slot slot (Answered u k) (call_at c slot past) (served of_slot))
-        (λ t. served of_slot)
+        (λ t. asks_serves f.op g.slot slot (Answered u k) (call_at c slot past) (served on_names of_slot))
+        (λ t. served on_names of_slot)
       where
-        served : CallOf past d (Some slot) f.op → Serves c slot past f.op
-        served x = subst (λ (v : ℕ). Serves v slot past f.op) (sym same) (x.0, (x.1, x.3))
+        served : IsNames f.op → CallOf past d 0 (Some slot) f.op → Serves c slot past f.op
+        served on_names x = subst (λ (v : ℕ). Serves v slot past f.op) (sym same) (x.0, (x.1, names_errand x.0 f.op on_names x.3))
 
     -- heard, and then nothing but locks shown
-    heard_now : (past : List Line) → Grown head past → HeardNow past at t f r → Serves c slot past f.op × AllHeld past
+    heard_now : (past : List Line) → Grown head past → HeardNow past at 0 f r → Serves c slot past f.op × AllHeld past
     heard_now [] grown h = absurd h
     heard_now (l ∷ past) grown h = by l.at.node l.entry grown.0 h (heard_now past grown.1)
       where
-        by : (node : Node) (e : Entry) → Allowed head past (turn l.at.stamp node) e → HeardNow (line (turn l.at.stamp node) e ∷ past) at t f r → (HeardNow past at t f r → Serves c slot past f.op × AllHeld past)
+        by : (node : Node) (e : Entry) → Allowed head past (turn l.at.stamp node) e → HeardNow (line (turn l.at.stamp node) e ∷ past) at 0 f r → (HeardNow past at 0 f r → Serves c slot past f.op × AllHeld past)
             → Serves c slot (line (turn l.at.stamp node) e ∷ past) f.op × AllHeld (line (turn l.at.stamp node) e ∷ past)
         by (Client d) (Heard u g k) a h ih =
             let same = client_is d (turn l.at.stamp (Client d)) refl h.0 in (
-              heard_serves past l.at.stamp d u g k a grown.1 same h.2,
+              heard_serves past l.at.stamp d u g k h.1 a grown.1 same h.2,
               λ x i. subst (λ (b : Bool). Present x.cookie.0 (if b then with_brought u (brought g.op k) (held_at c past) else held_at c past))
                   (sym (ap (λ (v : ℕ). nat_eq c v) (sym same) ∙ self c))
-                  (brought_new u x (brought g.op k) (held_at c past) a.ok.0 (in_left x k.locks _ (subst (λ (v : ReplyTo). In x v.locks) (sym h.3) i))),
+                  (brought_new u x (brought g.op k) (held_at c past) h.1 (in_left x k.locks _ (subst (λ (v : ReplyTo). In x v.locks) (sym h.3) i))),
             )
         by (Client d) (Hold u x marked size seen) a h ih =
             let past_h = ih h in
@@ -220,15 +242,15 @@ module _ (head : Head) (c slot : ℕ) where
           notes_grow c past l.at.stamp l.at.node l.entry grown.0.ok (calm_gives_none head c l past grown calm_now.0 calm_now.1.0) x (h.1 (calm_now.0, (before, calm_now.1.1)) x i),
     )
 
-    learned_now : (past : List Line) → Grown head past → Learned past at t f r → Serves c slot past f.op × (IsCalm past → Knows past)
+    learned_now : (past : List Line) → Grown head past → Learned past at 0 f r → Serves c slot past f.op × (IsCalm past → Knows past)
     learned_now [] grown h = absurd h
     learned_now (l ∷ past) grown h = by l.at.node l.entry grown h (learned_now past grown.1)
       where
-        by : (node : Node) (e : Entry) → Grown head (line (turn l.at.stamp node) e ∷ past) → Learned (line (turn l.at.stamp node) e ∷ past) at t f r → (Learned past at t f r → Serves c slot past f.op × (IsCalm past → Knows past))
+        by : (node : Node) (e : Entry) → Grown head (line (turn l.at.stamp node) e ∷ past) → Learned (line (turn l.at.stamp node) e ∷ past) at 0 f r → (Learned past at 0 f r → Serves c slot past f.op × (IsCalm past → Knows past))
             → Serves c slot (line (turn l.at.stamp node) e ∷ past) f.op × (IsCalm (line (turn l.at.stamp node) e ∷ past) → Knows (line (turn l.at.stamp node) e ∷ past))
         by (Client d) (Heard u g k) grown h ih =
             let same = client_is d (turn l.at.stamp (Client d)) refl h.0 in (
-              heard_serves past l.at.stamp d u g k grown.0 grown.1 same h.2,
+              heard_serves past l.at.stamp d u g k h.1 grown.0 grown.1 same h.2,
               λ calm_now x i. absurd (no_locks f.op r.answer x (subst (λ (v : List Lock). In x (taught f.op r.answer v)) h.4 i)),
             )
         by (Client d) (Learns u o a locks) grown h ih =
@@ -270,18 +292,23 @@ acted_comes : (head : Head) (past : List Line) (d : Deed) → Grown head past �
 acted_comes head [] d g a = absurd a
 acted_comes head (l ∷ past) d g a = by l.at.node l.entry g.0 a (acted_comes head past d g.1)
   where
-    of_it : (t : ℕ) → t ≡ 0 → nat_eq 0 t ≡ true
-    of_it t e = ap (λ (v : ℕ). nat_eq 0 v) e
+    -- how long an object is reads no names
+    size_comes : (t : ℕ) (x : Deed) → SizedOk head.osts (only t past) (turn l.at.stamp (Target t)) x → ComesOf x
+    size_comes t x ok = λ reads fine. absurd (subst IsReading (sized_op head.osts (only t past) (turn l.at.stamp (Target t)) x ok) reads)
+
+    acts_come : (t : ℕ) (x : Deed) → ActsOk head.osts (only t past) (turn l.at.stamp (Target t)) t x → ComesOf x
+    acts_come t x (inl a) = act_comes head.osts (only t past) (turn l.at.stamp (Target t)) x a.1
+    acts_come t x (inr a) = size_comes t x a.1
 
     by : (node : Node) (e : Entry) → Allowed head past (turn l.at.stamp node) e → Acted (line (turn l.at.stamp node) e ∷ past) d → (Acted past d → ComesOf d) → ComesOf d
     by (Client c) (Act x) k a h = absurd k.ok
     by (Client c) (Made x) k a h = absurd k.ok
     by (Target t) (Act x) k a h = ⊎_elim
-        (λ (p : x ≡ d). subst ComesOf p (act_comes head.osts (only 0 past) (turn l.at.stamp (Target t)) x (k.of 0 (of_it t k.ok))))
+        (λ (p : x ≡ d). subst ComesOf p (acts_come t x (k.of t (self t))))
         (λ (p : Acted past d). h p)
         a
     by (Target t) (Made x) k a h = ⊎_elim
-        (λ (p : x ≡ d). subst ComesOf p (txn_comes head.osts (only 0 past) (turn l.at.stamp (Target t)) x (k.of 0 (of_it t k.ok))))
+        (λ (p : x ≡ d). subst ComesOf p (txn_comes head.osts (only t past) (turn l.at.stamp (Target t)) x (k.of t (self t))))
         (λ (p : Acted past d). h p)
         a
     by _ _ k a h = h a
@@ -296,11 +323,12 @@ refused_as _ e = refl
 pub told_is_known : (head : Head) (c slot : ℕ) (past : List Line) (at : At) (named : At) (given : Answer) (work : Option Work) → Grown head past → Agrees (bare_at c past) → at.node ≡ Client c → (ok : ToldOk past at c slot named given work) → NoRefusal given
     → (x : ℕ × Call) → In x (calm (who_is c (printed past)) (printed past)) → x.0 ≡ slot → IsKnown (bare_at c past) ok.running.call
 told_is_known head c slot past at named given work g agrees own ok fine x i is =
-    let learned = learned_now head c slot at own ok.target ok.flight ok.reply ok.serves past g ok.learned in
     let replied = (holds head past g).replies c slot ok.target ok.running ok.reply ok.call ok.answered in
+    let first = answers_first ok.running ok.target replied.deed.op replied.op ok.good in
+    let learned = learned_now head c slot at own ok.flight ok.reply ok.serves past g (subst (λ (t : ℕ). Learned past at t ok.flight ok.reply) first.0 ok.learned) in
     let same : learned.0.0 ≡ ok.running = some_is learned.0.0 ok.running (sym learned.0.1.0 ∙ ok.call) in
     let asked : becomes ok.running ≡ Some ok.flight.op = ap becomes (sym same) ∙ learned.0.1.1 in
-    let asked_for : replied.deed.op ≡ ok.flight.op = one_op replied.deed.op ok.flight.op (becomes ok.running) replied.op asked in
+    let asked_for : replied.deed.op ≡ ok.flight.op = one_op replied.deed.op ok.flight.op (becomes ok.running) first.1 asked in
     let comes = acted_comes head past replied.deed g (acted_whole ok.target past replied.deed replied.acted) in
     let answered : replied.deed.reply.answer ≡ ok.reply.answer = ap (λ (v : ReplyTo). v.answer) replied.is in
     let locked : replied.deed.reply.locks ≡ ok.reply.locks = ap (λ (v : ReplyTo). v.locks) replied.is in

@@ -1,15 +1,25 @@
--- The metadata target's story, which is what concerns it: all that was done and sent so far is in it, and what it says
--- was done and asked was.
-use Rattle.std.proofs.Common.{◌≡◌, ℕ, true, List, ap}
+-- The stories of targets, each of which is what concerns one: all that was sent to a target is in its story, what that says was done is of
+-- its turns, and what makes a transaction is in the metadata target's.
+use Rattle.std.proofs.Common.{◌≡◌, ℕ, ◌≤◌, true, List, [], ◌∷◌, inl, inr, ⊎_elim, sym, ap, ◌∙◌, arith}
 use Rattle.std.specs.Prelude.{nat_eq}
+use Rattle.std.proofs.lemmas.Bool.{cond_both, eqb-true}
+use Rattle.lu_base.specs.declared.ids.At.{At}
 use Rattle.lu_base.specs.declared.ids.Node.{Node}
+use Rattle.lu_base.specs.declared.ids.Node.TheVariants.{Client, Target}
+use Rattle.lu_base.specs.declared.ids.Stamp.{Stamp}
+use Rattle.lu_base.specs.declared.ids.Txn.{Txn as TxnOf}
 use Rattle.lu_msg.specs.declared.messages.Message.{Message}
-use Rattle.lu_words.specs.Words.{Line}
-use Rattle.lu_words.specs.Concerns.{only}
+use Rattle.lu_words.specs.Carried.{Deed}
+use Rattle.lu_words.specs.Words.{Entry, Act, Txn as Made, Line, line}
+use Rattle.lu_words.specs.Concerns.{concerns, only}
 use Rattle.lu_covered.specs.Heads.{Head}
-use Rattle.lu_guards.proofs.Guards.{Was}
-use Rattle.lu_guards.proofs.Grown.{Grown}
-use Rattle.lu_facts.proofs.Sides.{OfMetadata, was_first}
+use Rattle.lu_guards.proofs.Guards.{Was, EntryOk}
+use Rattle.lu_guards.proofs.Acts.{acted}
+use Rattle.lu_guards.proofs.Grown.{Allowed, Grown}
+use Rattle.lu_guards.proofs.Lists.{self}
+use Rattle.lu_facts.proofs.Groups.{turn, Acted}
+use Rattle.lu_facts.proofs.Lines.{DoneBy, acted_line, done_here}
+use Rattle.lu_facts.proofs.Sides.{Between, side, was_between, was_side, acted_only}
 
 -- a line of the metadata target is about it
 pub about_it : (t : ℕ) → t ≡ 0 → nat_eq 0 t ≡ true
@@ -17,6 +27,54 @@ about_it t e = ap (λ (v : ℕ). nat_eq 0 v) e
 
 -- ---- what was sent
 
--- requests, replies, and what is said of locks
-pub was_story : (head : Head) (past : List Line) (from to : Node) (m : Message) → OfMetadata m → Grown head past → Was past from to m → Was (only 0 past) from to m
-was_story head past from to m of g w = was_first head past from to m g of w
+pub was_to : (head : Head) (past : List Line) (t : ℕ) (from : Node) (m : Message) → Grown head past → Was past from (Target t) m → Was (only t past) from (Target t) m
+was_to head past t from m g w = by from (was_between head past from (Target t) m g w) (was_side head past from (Target t) m g w)
+  where
+    by : (v : Node) → Between v (Target t) → Was (only (side v (Target t)) past) v (Target t) m → Was (only t past) v (Target t) m
+    by (Client c) b w = w
+    by (Target u) b w = absurd b
+
+-- ---- what was done
+
+pub target_is : (a b : ℕ) → Target a ≡ Target b → a ≡ b
+target_is a b e = cc
+
+-- what is done is done by that target
+done_at : (past : List Line) (stamp : Stamp) (node : Node) (e : Entry) (t : ℕ) (d : Deed) → EntryOk past (turn stamp node) node e → DoneBy e d → concerns t node e ≡ true → node ≡ Target t
+done_at past stamp (Target u) (Act x) t d ok q o = ap Target (sym (eqb-true t u o))
+done_at past stamp (Target u) (Made x) t d ok q o = ap Target (sym (eqb-true t u o))
+done_at past stamp (Client c) (Act x) t d ok q o = absurd ok
+done_at past stamp (Client c) (Made x) t d ok q o = absurd ok
+done_at past stamp node e t d ok q o = absurd q
+
+-- what its story says was done is done in a turn of it
+pub story_at : (head : Head) (past : List Line) (t : ℕ) (d : Deed) → Grown head past → Acted (only t past) d → d.reply.at.node ≡ Target t
+story_at head [] t d g a = absurd a
+story_at head (l ∷ past) t d g a =
+    cond_both (concerns t l.at.node l.entry) (l ∷ only t past) (only t past) (λ (p : List Line). Acted p d → d.reply.at.node ≡ Target t)
+    (λ o b. ⊎_elim
+    (λ (p : DoneBy l.entry d). ap (λ (v : At). v.node) (done_here head past l.at.stamp l.at.node l.entry g.0.ok g.0.of d p).1 ∙ done_at past l.at.stamp l.at.node l.entry t d g.0.ok p o)
+    (λ (p : Acted (only t past) d). story_at head past t d g.1 p)
+    (acted_line l.at l.entry (only t past) d b))
+    (λ o b. story_at head past t d g.1 b)
+    a
+
+-- what makes a transaction is the metadata target's
+pub made_first : (head : Head) (past : List Line) (d : Deed) → Grown head past → Acted past d → 1 ≤ d.reply.txn.0 → d.reply.at.node ≡ Target 0
+made_first head [] d g a high = absurd a
+made_first head (l ∷ past) d g a high = by l.at.node l.entry g.0 a (λ b. made_first head past d g.1 b high)
+  where
+    by : (node : Node) (e : Entry) → Allowed head past (turn l.at.stamp node) e → Acted (line (turn l.at.stamp node) e ∷ past) d → (Acted past d → d.reply.at.node ≡ Target 0) → d.reply.at.node ≡ Target 0
+    by (Client c) (Act e) k a h = absurd k.ok
+    by (Client c) (Made e) k a h = absurd k.ok
+    by (Target t) (Act e) k (inl same) h =
+        let none = (acted head.osts (only t past) (turn l.at.stamp (Target t)) t e (k.of t (self t))).number in
+        let zero : d.reply.txn.0 ≡ 0 = ap (λ (v : Deed). v.reply.txn.0) (sym same) ∙ ap (λ (n : TxnOf). n.0) none in
+        absurd (omega (arith, high, zero))
+    by (Target t) (Act e) k (inr b) h = h b
+    by (Target t) (Made e) k (inl same) h = ap (λ (v : Deed). v.reply.at.node) (sym same) ∙ ap (λ (v : Deed). v.reply.at.node) (k.of 0 (about_it t k.ok)).is ∙ ap Target k.ok
+    by (Target t) (Made e) k (inr b) h = h b
+    by _ _ k a h = h a
+
+pub made_story : (head : Head) (past : List Line) (d : Deed) → Grown head past → Acted past d → 1 ≤ d.reply.txn.0 → Acted (only 0 past) d
+made_story head past d g a high = acted_only head past d 0 g a (made_first head past d g a high)

@@ -1,6 +1,6 @@
 -- The law of acts at a call's begin, at a told line and at a request's message, and the whole of it.
-use Rattle.std.proofs.Common.{◌≡◌, ◌≢◌, ℕ, ◌+◌, ◌≤◌, Bool, true, false, List, [], ◌∷◌, Option, Some, None, inl, inr, ⊎_elim, refl, sym, subst, ap, ◌∙◌, arith, pos}
-use Rattle.std.specs.Prelude.{not, ◌&&◌, ◌||◌}
+use Rattle.std.proofs.Common.{◌≡◌, ◌≢◌, ℕ, ◌+◌, ◌<◌, ◌≤◌, Bool, true, false, List, [], ◌∷◌, Option, Some, None, inl, inr, ⊎_elim, refl, sym, subst, ap, ◌∙◌, arith, pos}
+use Rattle.std.specs.Prelude.{nat_eq, not, ◌&&◌, ◌||◌, if◌then◌else◌}
 use Rattle.std.proofs.lemmas.Bool.{cond_both, and_parts, eqb-true, or_left, or_right, or_cases, false_from_ne_true}
 use Rattle.lu_base.specs.declared.ids.At.{At}
 use Rattle.lu_base.specs.declared.ids.Stamp.{Stamp}
@@ -30,33 +30,36 @@ use Rattle.lu_covered.specs.ClientStates.{flights_of, life_of, is_own}
 use Rattle.lu_covered.specs.Heads.{Head, IsHead}
 use Rattle.lu_laws.specs.Words.Pasts.{UpTo, same_turn}
 use Rattle.lu_laws.specs.Words.Lives.{who_is, is_by}
-use Rattle.lu_laws.specs.Words.Requests.{first_request, asked, in_flight}
+use Rattle.lu_laws.specs.Words.Requests.{first_request, asked, in_flight, object, same_resource, same_object}
 use Rattle.lu_laws.specs.Words.Calls as calls
 use Rattle.lu_laws.specs.Words.Calls.{heard_in, operation}
 use Rattle.lu_laws.specs.Holds.{HoldsBefore}
 use Rattle.lu_laws.specs.Laws.Acts.{acted, made, standing_count, is_number, tells_with, told_with, is_bad_handle, is_end_of_life, is_local, took_notice, ActsFor, ActsInTime, ToldOn, ToldBy, Pairwise, SameTag, FliesAt, ActsAt, ActsOf}
 use Rattle.lu_lawful.specs.Fits.{ReplyStands, HeardStand}
-use Rattle.lu_guards.proofs.Guards.{In, JustHeard, Steps, IsToldAsIs, ToldOk, KnownOk, EndsOk, BadOk, EntryOk}
-use Rattle.lu_guards.proofs.Grown.{Allowed, Grown}
+use Rattle.lu_guards.proofs.Guards.{In, JustHeard, Steps, IsToldAsIs, ToldOk, KnownOk, EndsOk, BadOk, SizesToldOk, FlushedOk, EntryOk}
+use Rattle.lu_guards.proofs.StoryGuards.{EntryOf}
+use Rattle.lu_guards.proofs.Grown.{Allowed, Grown, GrownOf}
 use Rattle.lu_guards.proofs.Lists.{self, own_is, own_self}
+use Rattle.lu_guards.proofs.Only.{grown_of}
 use Rattle.lu_guards.proofs.Turns.{Settled}
 use Rattle.lu_facts.proofs.Groups.{turn, Upto, Acted, Flew, Hears, HeardAs, HasSlot, Had, Evicted, IsMade, Stands as StandsSoFar, HoldsAt}
 use Rattle.lu_facts.proofs.All.{holds}
-use Rattle.lu_facts.proofs.Sides.{acted_at, acted_only}
+use Rattle.lu_facts.proofs.Sides.{acted_only}
 use Rattle.lu_facts.proofs.OnNames.{IsPlain, told_so, op_is, told_as_so}
 use Rattle.lu_facts.proofs.Refused.{acted_answered}
 use Rattle.lu_facts.proofs.Known.{HeardBy}
 use Rattle.lu_facts.proofs.Times.{reached_on}
 use Rattle.lu_lawful.proofs.Turns.{upto_is, same_turn_self, other_node}
-use Rattle.lu_lawful.proofs.Story.{about_it, was_story}
-use Rattle.lu_lawful.proofs.Printed.{life_now, present_is, own_by, first_sent, open_is}
+use Rattle.lu_lawful.proofs.Story.{about_it, was_to, story_at, made_story}
+use Rattle.lu_lawful.proofs.Printed.{life_now, present_is, own_by, first_sent, open_is, far_good}
 use Rattle.lu_lawful.proofs.Lines.{OfPrinted, Keeps, holds_due}
 use Rattle.lu_lawful.proofs.Once.{asked_is, acted_sent}
 use Rattle.lu_lawful.proofs.Fine.{IsFine, deed_fine, so_fine, known_fine}
-use Rattle.lu_lawful.proofs.Flying.{Flown, flying, ask_flown, Distinct, flyers, keeps_flyers, no_more}
-use Rattle.lu_lawful.proofs.Facts.{AnswersAt, KnewAt, EndsAt, BadAt, TellsAt, AllTold}
+use Rattle.lu_lawful.proofs.Flying.{Flown, flying, ask_flown, Distinct, flyers, keeps_flyers, objects_apart, no_more}
+use Rattle.lu_lawful.proofs.Facts.{AnswersAt, KnewAt, EndsAt, BadAt, SizesAt, FlushedAt, TellsAt, AllTold}
 use Rattle.lu_lawful.proofs.ActsLaw.{one_turn, NoneLeft, none_counts, at_most, ActIn, act_in, Stands, acted_in}
 use Rattle.lu_lawful.proofs.Hearing.{just_heard}
+use Rattle.lu_lawful.proofs.Sized.{answers_first, told_empty}
 use Rattle.lu_lawful.proofs.Handles.{is_bad_stage, begins_bad, meant_is}
 use Rattle.lu_lawful.proofs.BadCalls.{Due, nothing_due, due_before}
 use Rattle.lu_lawful.proofs.Notices.{notice_taken}
@@ -67,16 +70,16 @@ use Rattle.lu_facts.proofs.PartsStay.{in_every}
 -- ---- what was just heard
 
 -- and so the life heard that it is a reply to
-just_hears : (head : Head) (past : List Line) (at : At) (t : ℕ) (r : ReplyTo) → Grown head past → JustHeard past at t r → Hears (only 0 past) r.who r.xid.0
-just_hears head [] at t r g j = absurd j
-just_hears head (l ∷ past) at t r g j = by l.at.node l.entry g.0 j (just_hears head past at t r g.1)
+just_hears : (head : Head) (past : List Line) (at : At) (r : ReplyTo) → Grown head past → JustHeard past at 0 r → Hears (only 0 past) r.who r.xid.0
+just_hears head [] at r g j = absurd j
+just_hears head (l ∷ past) at r g j = by l.at.node l.entry g.0 j (just_hears head past at r g.1)
   where
-    by : (node : Node) (e : Entry) → Allowed head past (turn l.at.stamp node) e → JustHeard (line (turn l.at.stamp node) e ∷ past) at t r → (JustHeard past at t r → Hears (only 0 past) r.who r.xid.0) → Hears (only 0 (line (turn l.at.stamp node) e ∷ past)) r.who r.xid.0
+    by : (node : Node) (e : Entry) → Allowed head past (turn l.at.stamp node) e → JustHeard (line (turn l.at.stamp node) e ∷ past) at 0 r → (JustHeard past at 0 r → Hears (only 0 past) r.who r.xid.0) → Hears (only 0 (line (turn l.at.stamp node) e ∷ past)) r.who r.xid.0
     by (Target u) (Heard v f q) k j h = absurd k.ok
     by (Client d) (Heard v f q) k j h =
-        let ok = k.of 0 (about_it v k.ok.0) in
+        let ok = k.of 0 (about_it v j.1) in
         let mine : life_of d (only 0 past) ≡ r.who = sym ok.who ∙ ap (λ (w : ReplyTo). w.who) j.2 in
-        subst (λ (w : ℕ). Hears (only 0 (line (turn l.at.stamp (Client d)) (Heard w f q) ∷ past)) r.who r.xid.0) (sym k.ok.0)
+        subst (λ (w : ℕ). Hears (only 0 (line (turn l.at.stamp (Client d)) (Heard w f q) ∷ past)) r.who r.xid.0) (sym j.1)
         (inl (subst (λ (w : Who). is_own w (only 0 past) (Client d) ≡ true) mine (own_self (only 0 past) d), ok.xid ∙ ap (λ (w : ReplyTo). w.xid.0) j.2))
     by (Client d) (Told slot named given work) k j h = absurd j
     by (Target u) (Told slot named given work) k j h = absurd j
@@ -108,13 +111,17 @@ told_hears head (l ∷ past) who x g i = by l.at.node l.entry g.0 i (told_hears 
         by : EntryOk past at (Client c) (Told slot named given work) → is_by who (printed past) (Client c) ≡ true → not (same_turn named at) ≡ true → is_number x (heard_in (printed past) at) ≡ true → Hears (only 0 past) who x
         by (inl heard) own differs number =
             let is = (holds head past g.1).replies c slot heard.target heard.running heard.reply heard.call heard.answered in
+            let first = answers_first heard.running heard.target is.deed.op is.op heard.good in
+            let just = subst (λ (t : ℕ). JustHeard past at t heard.reply) first.0 heard.heard in
             let mine : who ≡ life_of c past = own_is who past c (sym (own_by head who past (Client c) g.1) ∙ own) in
             let whose : heard.reply.who ≡ who = is.client ∙ life_now c past ∙ sym mine in
-            let same = number_is (heard_in (printed past) at) heard.reply.xid.0 (just_heard head past at c heard.target heard.reply g.1 refl heard.heard).1 number in
-            subst (λ (w : Who). Hears (only 0 past) w x) whose (subst (λ (y : ℕ). Hears (only 0 past) heard.reply.who y) same (just_hears head past at heard.target heard.reply g.1 heard.heard))
+            let same = number_is (heard_in (printed past) at) heard.reply.xid.0 (just_heard head past at c heard.reply g.1 refl just) number in
+            subst (λ (w : Who). Hears (only 0 past) w x) whose (subst (λ (y : ℕ). Hears (only 0 past) heard.reply.who y) same (just_hears head past at heard.reply g.1 just))
         by (inr (inl known)) own differs number = absurd (other differs known.of_turn)
         by (inr (inr (inl ends))) own differs number = absurd (other differs ends.of_turn)
-        by (inr (inr (inr bad))) own differs number = absurd (other differs bad.of_turn)
+        by (inr (inr (inr (inl bad)))) own differs number = absurd (other differs bad.of_turn)
+        by (inr (inr (inr (inr (inl sizes))))) own differs number = absurd (other differs sizes.of_turn)
+        by (inr (inr (inr (inr (inr flushed))))) own differs number = absurd (other differs flushed.of_turn)
 
     by : (node : Node) (e : Entry) → Allowed head past (turn l.at.stamp node) e → told_with (printed (line (turn l.at.stamp node) e ∷ past)) who x ≡ true → (told_with (printed past) who x ≡ true → Hears (only 0 past) who x)
         → Hears (only 0 (line (turn l.at.stamp node) e ∷ past)) who x
@@ -126,15 +133,15 @@ told_hears head (l ∷ past) who x g i = by l.at.node l.entry g.0 i (told_hears 
     by node e k i h = hears_only (line (turn l.at.stamp node) e) past who x (h i)
 
 -- and its life was told nothing of that number before
-untold : (head : Head) (past : List Line) (at : At) (t : ℕ) (r : ReplyTo) → Grown head past → JustHeard past at t r → told_with (printed past) r.who r.xid.0 ≡ true → ⊥
-untold head [] at t r g j i = absurd j
-untold head (l ∷ past) at t r g j i = by l.at.node l.entry g.0 j i (untold head past at t r g.1)
+untold : (head : Head) (past : List Line) (at : At) (r : ReplyTo) → Grown head past → JustHeard past at 0 r → told_with (printed past) r.who r.xid.0 ≡ true → ⊥
+untold head [] at r g j i = absurd j
+untold head (l ∷ past) at r g j i = by l.at.node l.entry g.0 j i (untold head past at r g.1)
   where
-    by : (node : Node) (e : Entry) → Allowed head past (turn l.at.stamp node) e → JustHeard (line (turn l.at.stamp node) e ∷ past) at t r → told_with (printed (line (turn l.at.stamp node) e ∷ past)) r.who r.xid.0 ≡ true
-        → (JustHeard past at t r → told_with (printed past) r.who r.xid.0 ≡ true → ⊥) → ⊥
+    by : (node : Node) (e : Entry) → Allowed head past (turn l.at.stamp node) e → JustHeard (line (turn l.at.stamp node) e ∷ past) at 0 r → told_with (printed (line (turn l.at.stamp node) e ∷ past)) r.who r.xid.0 ≡ true
+        → (JustHeard past at 0 r → told_with (printed past) r.who r.xid.0 ≡ true → ⊥) → ⊥
     by (Target u) (Heard v f q) k j i h = absurd k.ok
     by (Client d) (Heard v f q) k j i h =
-        let ok = k.of 0 (about_it v k.ok.0) in
+        let ok = k.of 0 (about_it v j.1) in
         let mine : life_of d (only 0 past) ≡ r.who = sym ok.who ∙ ap (λ (w : ReplyTo). w.who) j.2 in
         let x : f.xid ≡ r.xid.0 = ok.xid ∙ ap (λ (w : ReplyTo). w.xid.0) j.2 in
         (((holds head past g.1).at 0).numbers.over r.who r.xid.0 (told_hears head past r.who r.xid.0 g.1 i)).1 f (subst (λ (w : Who). In f (flights_of w (only 0 past))) mine ok.flying) x
@@ -142,33 +149,59 @@ untold head (l ∷ past) at t r g j i = by l.at.node l.entry g.0 j i (untold hea
     by (Target u) (Told slot named given work) k j i h = absurd j
     by _ _ k j i h = h j i
 
--- it was heard by that client
-just_heard_by : (past : List Line) (at : At) (c t : ℕ) (r : ReplyTo) → JustHeard past at t r → at.node ≡ Client c → (f : Flight) × HeardBy past c f r
-just_heard_by [] at c t r j n = absurd j
-just_heard_by (l ∷ past) at c t r j n = by l.entry j (λ i. just_heard_by past at c t r i n)
+-- what was heard before was heard
+heard_by_more : (l : Line) (past : List Line) (c : ℕ) (f : Flight) (r : ReplyTo) → HeardBy past c f r → HeardBy (l ∷ past) c f r
+heard_by_more l past c f r h = by l.entry
   where
-    by : (e : Entry) → JustHeard (line l.at e ∷ past) at t r → (JustHeard past at t r → (f : Flight) × HeardBy past c f r) → (f : Flight) × HeardBy (line l.at e ∷ past) c f r
-    by (Heard v f q) j h = (f, inl (ap (λ (w : At). w.node) j.0 ∙ n, refl, j.2))
-    by (Told slot named given work) j h = absurd j
-    by _ j h = h j
+    by : (e : Entry) → HeardBy (line l.at e ∷ past) c f r
+    by (Heard t g k) = inr h
+    by _ = h
+
+heard_by_only : (l : Line) (past : List Line) (c : ℕ) (f : Flight) (r : ReplyTo) → HeardBy (only 0 past) c f r → HeardBy (only 0 (l ∷ past)) c f r
+heard_by_only l past c f r h = cond_both (concerns 0 l.at.node l.entry) (l ∷ only 0 past) (only 0 past) (λ (P : List Line). HeardBy P c f r) (λ t. heard_by_more l (only 0 past) c f r h) (λ t. h)
+
+-- what a target's story says was heard was
+pub heard_by_whole : (past : List Line) (c : ℕ) (f : Flight) (r : ReplyTo) → HeardBy (only 0 past) c f r → HeardBy past c f r
+heard_by_whole [] c f r h = h
+heard_by_whole (l ∷ past) c f r h = cond_both (concerns 0 l.at.node l.entry) (l ∷ only 0 past) (only 0 past) (λ (P : List Line). HeardBy P c f r → HeardBy (l ∷ past) c f r)
+    (λ t h. by l.entry (heard_by_whole past c f r) h)
+    (λ t h. heard_by_more l past c f r (heard_by_whole past c f r h))
+    h
+  where
+    by : (e : Entry) → (HeardBy (only 0 past) c f r → HeardBy past c f r) → HeardBy (line l.at e ∷ only 0 past) c f r → HeardBy (line l.at e ∷ past) c f r
+    by (Heard t g k) ih (inl p) = inl p
+    by (Heard t g k) ih (inr p) = inr (ih p)
+    by _ ih p = ih p
+
+-- it was heard by that client, of the metadata target
+just_heard_by : (past : List Line) (at : At) (c : ℕ) (r : ReplyTo) → JustHeard past at 0 r → at.node ≡ Client c → (f : Flight) × HeardBy (only 0 past) c f r
+just_heard_by [] at c r j n = absurd j
+just_heard_by (l ∷ past) at c r j n = by l.at.node l.entry j (λ i. just_heard_by past at c r i n)
+  where
+    by : (node : Node) (e : Entry) → JustHeard (line (turn l.at.stamp node) e ∷ past) at 0 r → (JustHeard past at 0 r → (f : Flight) × HeardBy (only 0 past) c f r) → (f : Flight) × HeardBy (only 0 (line (turn l.at.stamp node) e ∷ past)) c f r
+    by (Client d) (Heard v f q) j h =
+        (f, subst (λ (b : Bool). HeardBy (if b then line (turn l.at.stamp (Client d)) (Heard v f q) ∷ only 0 past else only 0 past) c f r) (sym (about_it v j.1)) (inl (ap (λ (w : At). w.node) j.0 ∙ n, refl, j.2)))
+    by (Target u) (Heard v f q) j h = let no : Target u ≡ Client c = ap (λ (w : At). w.node) j.0 ∙ n in absurd (cc)
+    by (Client d) (Told slot named given work) j h = absurd j
+    by (Target u) (Told slot named given work) j h = absurd j
+    by node e j h = let k = h j in (k.0, heard_by_only (line (turn l.at.stamp node) e) past c k.0 r k.1)
 
 -- what its life heard it heard as that life
 pub heard_story : (l : Line) (past : List Line) (who : Who) (f : Flight) (r : ReplyTo) → HeardAs (only 0 past) who f r → HeardAs (only 0 (l ∷ past)) who f r
 heard_story l past who f r h = cond_both (concerns 0 l.at.node l.entry) (l ∷ only 0 past) (only 0 past) (λ (P : List Line). HeardAs P who f r) (λ t. heard_as_more l (only 0 past) who f r h) (λ t. h)
 
-pub heard_as : (head : Head) (past : List Line) (c : ℕ) (f : Flight) (r : ReplyTo) → Grown head past → HeardBy past c f r → HeardAs (only 0 past) r.who f r
+-- in a target's story
+pub heard_as : (head : Head) (past : List Line) (c : ℕ) (f : Flight) (r : ReplyTo) → GrownOf head past → HeardBy past c f r → HeardAs past r.who f r
 heard_as head [] c f r g h = absurd h
-heard_as head (l ∷ past) c f r g h = by l.at.node l.entry g.0 h (heard_as head past c f r g.1)
+heard_as head (l ∷ past) c f r g h = by l.at.node l.entry g.0 h (heard_as head past c f r g.3)
   where
-    by : (node : Node) (e : Entry) → Allowed head past (turn l.at.stamp node) e → HeardBy (line (turn l.at.stamp node) e ∷ past) c f r → (HeardBy past c f r → HeardAs (only 0 past) r.who f r) → HeardAs (only 0 (line (turn l.at.stamp node) e ∷ past)) r.who f r
-    by (Target u) (Heard v x q) k h ih = absurd k.ok
-    by (Client d) (Heard v x q) k (inl h) ih =
-        let ok = k.of 0 (about_it v k.ok.0) in
-        let mine : life_of d (only 0 past) ≡ r.who = sym ok.who ∙ ap (λ (w : ReplyTo). w.who) h.2 in
-        subst (λ (w : ℕ). HeardAs (only 0 (line (turn l.at.stamp (Client d)) (Heard w x q) ∷ past)) r.who f r) (sym k.ok.0)
-        (inl (subst (λ (w : Who). is_own w (only 0 past) (Client d) ≡ true) mine (own_self (only 0 past) d), h.1, h.2))
-    by (Client d) (Heard v x q) k (inr h) ih = heard_story (line (turn l.at.stamp (Client d)) (Heard v x q)) past r.who f r (ih h)
-    by node e k h ih = heard_story (line (turn l.at.stamp node) e) past r.who f r (ih h)
+    by : (node : Node) (e : Entry) → EntryOf head past (turn l.at.stamp node) node e → HeardBy (line (turn l.at.stamp node) e ∷ past) c f r → (HeardBy past c f r → HeardAs past r.who f r) → HeardAs (line (turn l.at.stamp node) e ∷ past) r.who f r
+    by (Target u) (Heard v x q) ok h ih = absurd ok
+    by (Client d) (Heard v x q) ok (inl h) ih =
+        let mine : life_of d past ≡ r.who = sym ok.who ∙ ap (λ (w : ReplyTo). w.who) h.2 in
+        inl (subst (λ (w : Who). is_own w past (Client d) ≡ true) mine (own_self past d), h.1, h.2)
+    by (Client d) (Heard v x q) ok (inr h) ih = inr (ih h)
+    by node e ok h ih = heard_as_more (line (turn l.at.stamp node) e) past r.who f r (ih h)
 
 -- what stands of what was heard
 pub heard_stands : (out : Who → Bool) (lost : ℕ → ℕ → Bool) (past : List Line) (c : ℕ) (f : Flight) (r : ReplyTo) → HeardStand out lost past → HeardBy past c f r → out r.who ≡ false → ReplyStands lost r
@@ -215,7 +248,7 @@ told_as_plain file k o a e fits as_is = tt
 
 pub record Tells (past : List Line) (at : At) (c slot : ℕ) (named : At) (given : Answer) : Type 0 where
   pub deed : Deed
-  pub acted : Acted past deed
+  pub acted : Acted (only 0 past) deed
   pub who : deed.reply.who ≡ life_at c past
   pub turn_is : deed.reply.at ≡ named
   pub answer : told_so deed.reply.answer ≡ given
@@ -228,7 +261,7 @@ pub record Tells (past : List Line) (at : At) (c slot : ℕ) (named : At) (given
   pub untold : told_with (printed past) (life_at c past) deed.reply.xid.0 ≡ false
   pub flight : Flight
   pub reply : ReplyTo
-  pub hears : HeardBy past c flight reply
+  pub hears : HeardBy (only 0 past) c flight reply
   pub whose : reply.who ≡ life_at c past
   pub is : record deed.reply { boot = reply.boot; committed = reply.committed } ≡ reply
   pub plain : IsPlain deed.reply.answer
@@ -240,23 +273,26 @@ told_tells head past stamp c slot named given work steps ok g =
     let h = holds head past g in
     let is = h.replies c slot ok.target ok.running ok.reply ok.call ok.answered in
     let d = is.deed in
-    let acted = acted_whole ok.target past d is.acted in
-    let heard = just_heard head past at c ok.target ok.reply g refl ok.heard in
+    let first = answers_first ok.running ok.target d.op is.op ok.good in
+    let just = subst (λ (t : ℕ). JustHeard past at t ok.reply) first.0 ok.heard in
+    let story = subst (λ (t : ℕ). Acted (only t past) d) first.0 is.acted in
+    let acted = acted_whole 0 past d story in
+    let heard = just_heard head past at c ok.reply g refl just in
     let x : ok.reply.xid.0 ≡ d.reply.xid.0 = ap (λ (v : ReplyTo). v.xid.0) (sym is.is) in
-    let heard_by = just_heard_by past at c ok.target ok.reply ok.heard refl in
+    let heard_by = just_heard_by past at c ok.reply just refl in
     let fits = (acted_answered head past d g acted).0 in
     let same : ok.reply.answer ≡ d.reply.answer = ap (λ (v : ReplyTo). v.answer) (sym is.is) in
     let given_is : given ≡ told_as ok.running.call d.reply.answer = ok.of_answer ∙ ap (λ (v : Answer). told_as ok.running.call v) same in
     record {
       deed = d;
-      acted = acted;
+      acted = story;
       who = ap (λ (v : ReplyTo). v.who) is.is ∙ is.client;
       turn_is = ap (λ (v : ReplyTo). v.at) is.is ∙ sym ok.of_turn;
-      answer = sym (given_is ∙ told_as_so ok.running.file ok.running.call d.op d.reply.answer is.op fits);
-      heard = heard.1 ∙ ap (λ (v : ℕ). Some v) x;
+      answer = sym (given_is ∙ told_as_so ok.running.file ok.running.call d.op d.reply.answer first.1 fits);
+      heard = heard ∙ ap (λ (v : ℕ). Some v) x;
       begun = ok.running;
       call = ok.call;
-      becomes = is.op;
+      becomes = first.1;
       after = subst (λ (v : At). Upto ok.running.at v) (sym ok.of_turn) is.since;
       until = subst (λ (v : At). Upto v at) (ap (λ (v : ReplyTo). v.at) is.is ∙ sym ok.of_turn) (reached_on past at d.reply.at steps (h.reaches.acted d acted));
       flight = heard_by.0;
@@ -264,11 +300,40 @@ told_tells head past stamp c slot named given work steps ok g =
       hears = heard_by.1;
       whose = is.client;
       is = is.is;
-      plain = told_as_plain ok.running.file ok.running.call d.op d.reply.answer is.op fits (subst (λ (v : Answer). IsToldAsIs ok.running.call v) given_is ok.as_is);
-      untold = false_from_ne_true (told_with (printed past) (life_at c past) d.reply.xid.0) (λ t. untold head past at ok.target ok.reply g ok.heard (subst (λ (v : Who). told_with (printed past) v ok.reply.xid.0 ≡ true) (sym is.client) (subst (λ (v : ℕ). told_with (printed past) (life_at c past) v ≡ true) (sym x) t)));
+      plain = told_as_plain ok.running.file ok.running.call d.op d.reply.answer first.1 fits (subst (λ (v : Answer). IsToldAsIs ok.running.call v) given_is ok.as_is);
+      untold = false_from_ne_true (told_with (printed past) (life_at c past) d.reply.xid.0) (λ t. untold head past at ok.reply g just (subst (λ (v : Who). told_with (printed past) v ok.reply.xid.0 ≡ true) (sym is.client) (subst (λ (v : ℕ). told_with (printed past) (life_at c past) v ≡ true) (sym x) t)));
     }
 
 -- ---- every told line
+
+sizes : (head : Head) (past : List Line) (at : At) (c slot : ℕ) (named : At) (given : Answer) (work : Option Work) → Grown head past → SizesToldOk past at c slot named given work → SizesAt past at c slot named given
+sizes head past at c slot named given work g ok =
+    record {
+      running = ok.running;
+      call = ok.call;
+      handle = ok.handle;
+      glimpses = ok.glimpses;
+      good = far_good past at ok.running ok.sizes ok.so_far;
+      sizes = ok.sizes;
+      empty = told_empty head past at c slot ok.running ok.sizes g ok.call ok.so_far;
+      answer = ok.of_answer;
+      turn = ok.of_turn;
+      own = subst (λ (v : At). same_turn v at ≡ true) (sym ok.of_turn) (same_turn_self at);
+    }
+
+flushed : (past : List Line) (at : At) (c slot : ℕ) (named : At) (given : Answer) (work : Option Work) → FlushedOk past at c slot named given work → FlushedAt past at c slot named given
+flushed past at c slot named given work ok =
+    record {
+      running = ok.running;
+      call = ok.call;
+      handle = ok.handle;
+      flushes = ok.flushes;
+      good = ok.good;
+      begun = ok.begun;
+      answer = ok.of_answer;
+      turn = ok.of_turn;
+      own = subst (λ (v : At). same_turn v at ≡ true) (sym ok.of_turn) (same_turn_self at);
+    }
 
 knew : (past : List Line) (at : At) (c slot : ℕ) (named : At) (given : Answer) (work : Option Work) → KnownOk past at c slot named given work → KnewAt past at c slot named given
 knew past at c slot named given work ok =
@@ -297,7 +362,7 @@ all_told head (l ∷ past) g = by l.at.node l.entry g.0 (all_told head past g.1)
     answered : (c slot : ℕ) (named : At) (given : Answer) (work : Option Work) → Steps past (turn l.at.stamp (Client c)) → ToldOk past (turn l.at.stamp (Client c)) c slot named given work → AnswersAt past (turn l.at.stamp (Client c)) c named given
     answered c slot named given work steps ok =
         let t = told_tells head past l.at.stamp c slot named given work steps ok g.1 in
-        let n = acted_at head past t.deed g.1 t.acted in
+        let n = story_at head past 0 t.deed g.1 t.acted in
         record {
           deed = t.deed;
           acted = t.acted;
@@ -317,7 +382,9 @@ all_told head (l ∷ past) g = by l.at.node l.entry g.0 (all_told head past g.1)
     tells c slot named given work steps (inl ok) = inl (answered c slot named given work steps ok)
     tells c slot named given work steps (inr (inl ok)) = inr (inl (knew past (turn l.at.stamp (Client c)) c slot named given work ok))
     tells c slot named given work steps (inr (inr (inl ok))) = inr (inr (inl (ends past (turn l.at.stamp (Client c)) c slot named given work ok)))
-    tells c slot named given work steps (inr (inr (inr ok))) = inr (inr (inr (bad past (turn l.at.stamp (Client c)) c slot named given work ok)))
+    tells c slot named given work steps (inr (inr (inr (inl ok)))) = inr (inr (inr (inl (bad past (turn l.at.stamp (Client c)) c slot named given work ok))))
+    tells c slot named given work steps (inr (inr (inr (inr (inl ok))))) = inr (inr (inr (inr (inl (sizes head past (turn l.at.stamp (Client c)) c slot named given work g.1 ok)))))
+    tells c slot named given work steps (inr (inr (inr (inr (inr ok))))) = inr (inr (inr (inr (inr (flushed past (turn l.at.stamp (Client c)) c slot named given work ok)))))
 
     by : (node : Node) (e : Entry) → Allowed head past (turn l.at.stamp node) e → AllTold past → AllTold (line (turn l.at.stamp node) e ∷ past)
     by (Client c) (Told slot named given work) k h = (tells c slot named given work k.steps k.ok, h)
@@ -360,10 +427,17 @@ module _ (head : Head) (out : Who → Bool) (lost : ℕ → ℕ → Bool) (whole
   Lasting = ((d : Deed) → Acted whole d → IsMade d → lost 0 d.reply.txn.0 ≡ false → StandsSoFar head.osts (only 0 whole) d) × ((who : Who) → out who ≡ false → Evicted (only 0 whole) who → ⊥)
 
   -- beside an act that was heard stands no transaction of its request
-  alone : (past : List Line) (c : ℕ) (f : Flight) (r : ReplyTo) (d : Deed) (named : At) → Grown head past → Grown head whole → Inside past → Lasting → HeardBy past c f r → Acted past d → r ≡ record d.reply { boot = r.boot; committed = r.committed } → out r.who ≡ false → d.reply.at ≡ named
+  alone : (past : List Line) (c : ℕ) (f : Flight) (r : ReplyTo) (d : Deed) (named : At) → Grown head past → Grown head whole → Inside past → Lasting → HeardBy (only 0 past) c f r → Acted (only 0 past) d → r ≡ record d.reply { boot = r.boot; committed = r.committed } → out r.who ≡ false → d.reply.at ≡ named
       → acted (printed past) named d.reply.who d.reply.xid.0 ≡ true → standing_count lost 0 d.reply.who d.reply.xid.0 (printed whole) ≡ 0
-  alone past c f r d named g w i lasting hears a is stays turn acts = none_counts lost d.reply.who d.reply.xid.0 head whole w none
+  alone past c f r d named g w i lasting hears did is stays turn acts = none_counts lost d.reply.who d.reply.xid.0 head whole w none
     where
+      a : Acted past d
+      a = acted_whole 0 past d did
+
+      -- in the whole trace, by the metadata target
+      story : Acted (only 0 whole) d
+      story = acted_only head whole d 0 w (i.0 d a) (story_at head past 0 d g did)
+
       act : ActIn past named d.reply.who d.reply.xid.0
       act = act_in head past named d.reply.who d.reply.xid.0 g acts
 
@@ -375,7 +449,7 @@ module _ (head : Head) (out : Who → Bool) (lost : ℕ → ℕ → Bool) (whole
       whose = ap (λ (v : ReplyTo). v.who) is
 
       heard : HeardAs (only 0 whole) r.who f r
-      heard = i.1 r.who f r (heard_as head past c f r g hears)
+      heard = i.1 r.who f r (heard_as head (only 0 past) c f r (grown_of head 0 past g) hears)
 
       inside : HoldsAt head (only 0 whole)
       inside = (holds head whole w).at 0
@@ -384,14 +458,14 @@ module _ (head : Head) (out : Who → Bool) (lost : ℕ → ℕ → Bool) (whole
       has = ⊎_elim
           (λ (h : HasSlot head.clients (only 0 whole) r.who). h)
           (λ (e : Evicted (only 0 whole) r.who). absurd (lasting.1 r.who stays e))
-          (subst (λ (v : Who). Had head.clients (only 0 whole) v) (sym whose) (inside.lives.acted d (acted_only head whole d w (i.0 d a))))
+          (subst (λ (v : Who). Had head.clients (only 0 whole) v) (sym whose) (inside.lives.acted d story))
 
       xid : ℕ → Xid
       xid n = record { 0 = n }
 
       none : NoneLeft lost d.reply.who d.reply.xid.0 whole
       none e b made left who x =
-          let same : e ≡ d = inside.done.alone r.who f r d e heard has (acted_only head whole d w (i.0 d a)) is (acted_only head whole e w b) made (lasting.0 e b made left) (who ∙ sym whose) (ap xid x) in
+          let same : e ≡ d = inside.done.alone r.who f r d e heard has story is (made_story head whole e w b made) made (lasting.0 e b made left) (who ∙ sym whose) (ap xid x) in
           let n : e.reply.txn.0 ≡ 0 = ap (λ (v : Deed). v.reply.txn.0) same ∙ zero in
           omega (arith, n, made)
 
@@ -400,8 +474,10 @@ module _ (head : Head) (out : Who → Bool) (lost : ℕ → ℕ → Bool) (whole
   in_time past at c slot named given g w i lasting t stays s b at_is op_is =
       let d = t.deed in
       let x = d.reply.xid.0 in
-      let is = asked_is head past d g (acted_sent head past d g t.acted) in
-      let there = acted_in head lost past g d t.acted s in
+      let a = acted_whole 0 past d t.acted in
+      let first = story_at head past 0 d g t.acted in
+      let is = asked_is head past 0 d g (acted_sent head past 0 d g first a) in
+      let there = acted_in head lost past g d first a s in
       record {
         after = subst (λ (v : At). UpTo v named) (sym at_is) (upto_is t.begun.at named t.after);
         before = upto_is named at t.until;
@@ -431,7 +507,7 @@ module _ (head : Head) (out : Who → Bool) (lost : ℕ → ℕ → Bool) (whole
         evicted = λ e. let f = fine.1 in absurd (cc);
         own = λ e. absurd (own_no (is_local b.call) (is_bad_handle given) (is_end_of_life given) (not_local t.begun.file b.call t.deed.op asks_it) fine.0 fine.1 e);
         acts = λ e. subst (λ (v : Who). ActsInTime lost (printed whole) (printed past) at v b named) (sym (present_is head c past g))
-            (in_time past at c slot named given g w i lasting t (ap out (t.whose ∙ sym (present_is head c past g)) ∙ e) (same_stands lost t.deed.reply t.reply t.is (heard_stands out lost past c t.flight t.reply s t.hears (ap out (t.whose ∙ sym (present_is head c past g)) ∙ e))) b o.2 (sym o.4 ∙ t.becomes));
+            (in_time past at c slot named given g w i lasting t (ap out (t.whose ∙ sym (present_is head c past g)) ∙ e) (same_stands lost t.deed.reply t.reply t.is (heard_stands out lost past c t.flight t.reply s (heard_by_whole past c t.flight t.reply t.hears) (ap out (t.whose ∙ sym (present_is head c past g)) ∙ e))) b o.2 (sym o.4 ∙ t.becomes));
       })
 
   -- of a call whose answer was known: its turn is the one in which it began and is told
@@ -495,6 +571,46 @@ module _ (head : Head) (out : Who → Bool) (lost : ℕ → ℕ → Bool) (whole
         };
       })
 
+  -- of a glimpse: it names this turn
+  sizes_law : (past : List Line) (stamp : Stamp) (c slot : ℕ) (named : At) (given : Answer) (work : Option Work) → Steps past (turn stamp (Client c)) → SizesToldOk past (turn stamp (Client c)) c slot named given work → Grown head past
+      → ToldBy out lost (printed whole) (printed past) (turn stamp (Client c)) (Client c) slot named given
+  sizes_law past stamp c slot named given work steps ok g =
+      let at = turn stamp (Client c) in
+      let o = open_is head c slot past ok.running g ok.call in
+      let own : same_turn named at ≡ true = subst (λ (v : At). same_turn v at ≡ true) (sym ok.of_turn) (same_turn_self at) in
+      let began : Upto ok.running.at at = reached_on past at ok.running.at steps ((holds head past g).reaches.begun c slot ok.running ok.call) in
+      subst (λ (v : Option calls.Begun). ToldOn out lost (printed whole) (printed past) at (who_is c (printed past)) v named given) (sym o.1)
+      (record {
+        handle = λ e. let f : is_bad_handle given ≡ false = ap is_bad_handle ok.of_answer in absurd (cc);
+        evicted = λ e. let f : is_end_of_life given ≡ false = ap is_end_of_life ok.of_answer in absurd (cc);
+        own = λ e. own;
+        acts = λ e. record {
+          after = subst (λ (v : At). UpTo v named) (sym o.2) (subst (λ (v : At). UpTo ok.running.at v) (sym ok.of_turn) (upto_is ok.running.at at began));
+          before = subst (λ (v : At). UpTo v at) (sym ok.of_turn) (upto_is at at (inl refl));
+          acts = λ other. absurd (cc);
+        };
+      })
+
+  -- of a flush: it began in this turn, which it names
+  flushed_law : (past : List Line) (stamp : Stamp) (c slot : ℕ) (named : At) (given : Answer) (work : Option Work) → FlushedOk past (turn stamp (Client c)) c slot named given work → Grown head past
+      → ToldBy out lost (printed whole) (printed past) (turn stamp (Client c)) (Client c) slot named given
+  flushed_law past stamp c slot named given work ok g =
+      let at = turn stamp (Client c) in
+      let o = open_is head c slot past ok.running g ok.call in
+      let own : same_turn named at ≡ true = subst (λ (v : At). same_turn v at ≡ true) (sym ok.of_turn) (same_turn_self at) in
+      let now : UpTo at at = upto_is at at (inl refl) in
+      subst (λ (v : Option calls.Begun). ToldOn out lost (printed whole) (printed past) at (who_is c (printed past)) v named given) (sym o.1)
+      (record {
+        handle = λ e. let f : is_bad_handle given ≡ false = ap is_bad_handle ok.of_answer in absurd (cc);
+        evicted = λ e. let f : is_end_of_life given ≡ false = ap is_end_of_life ok.of_answer in absurd (cc);
+        own = λ e. own;
+        acts = λ e. record {
+          after = subst (λ (v : At). UpTo v named) (sym (o.2 ∙ ok.begun)) (subst (λ (v : At). UpTo at v) (sym ok.of_turn) now);
+          before = subst (λ (v : At). UpTo v at) (sym ok.of_turn) now;
+          acts = λ other. absurd (cc);
+        };
+      })
+
   told_law : (past : List Line) (stamp : Stamp) (c slot : ℕ) (named : At) (given : Answer) (work : Option Work) → Allowed head past (turn stamp (Client c)) (Told slot named given work) → Grown head past → Grown head whole → Inside past → Lasting
       → HeardStand out lost past → ToldBy out lost (printed whole) (printed past) (turn stamp (Client c)) (Client c) slot named given
   told_law past stamp c slot named given work k g w i lasting s = by k.ok
@@ -503,55 +619,75 @@ module _ (head : Head) (out : Who → Bool) (lost : ℕ → ℕ → Bool) (whole
       by (inl ok) = asked_law past stamp c slot named given work k.steps ok g w i lasting s
       by (inr (inl ok)) = knew_law past stamp c slot named given work ok g
       by (inr (inr (inl ok))) = ends_law past stamp c slot named given work k.steps ok g
-      by (inr (inr (inr ok))) = bad_law past stamp c slot named given work ok g
+      by (inr (inr (inr (inl ok)))) = bad_law past stamp c slot named given work ok g
+      by (inr (inr (inr (inr (inl ok))))) = sizes_law past stamp c slot named given work k.steps ok g
+      by (inr (inr (inr (inr (inr ok))))) = flushed_law past stamp c slot named given work ok g
 
 -- ---- the law at a request's message
 
-tags_differ : (head : Head) (past : List Line) (who : Who) → Grown head past → (rs : List RequestOf) → Distinct rs → ((r : RequestOf) → In r rs → Flown past who r) → Pairwise (λ one other. one.tag ≢ other.tag) rs
-tags_differ head past who g [] d f = tt
-tags_differ head past who g (r ∷ rs) d f = (
+tags_differ : (head : Head) (t : ℕ) (past : List Line) (who : Who) → Grown head past → (rs : List RequestOf) → Distinct rs → ((r : RequestOf) → In r rs → Flown t past who r) → Pairwise (λ one other. one.tag ≢ other.tag) rs
+tags_differ head t past who g [] d f = tt
+tags_differ head t past who g (r ∷ rs) d f = (
   in_every (λ (q : RequestOf). r.tag ≢ q.tag) rs (λ q i e.
       let a = f r (inl refl) in
       let b = f q (inr i) in
-      let t : a.0.tag ≡ b.0.tag = ap (λ (v : RequestOf). v.tag) (sym a.2) ∙ e ∙ ap (λ (v : RequestOf). v.tag) b.2 in
-      let x = ((holds head past g).at 0).numbers.tags who a.0 b.0 a.1 b.1 t in
+      let tag : a.0.tag ≡ b.0.tag = ap (λ (v : RequestOf). v.tag) (sym a.2) ∙ e ∙ ap (λ (v : RequestOf). v.tag) b.2 in
+      let x = ((holds head past g).at t).numbers.tags who a.0 b.0 a.1 b.1 tag in
       d.0 q i (ap (λ (v : RequestOf). v.xid.0) b.2 ∙ sym x ∙ ap (λ (v : RequestOf). v.xid.0) (sym a.2))),
-  tags_differ head past who g rs d.1 (λ q i. f q (inr i)),
+  tags_differ head t past who g rs d.1 (λ q i. f q (inr i)),
 )
 
-one_tag : (head : Head) (past : List Line) (who : Who) (r : RequestOf) → Grown head past → Flown past who r → SameTag (first_request (printed past) 0 r.who r.xid.0) r.tag
-one_tag head past who r g flown = by (first_request (printed past) 0 r.who r.xid.0) refl
+-- at an object storage target each is on an object of its own
+objects_differ : (head : Head) (t : ℕ) (past : List Line) (who : Who) → 0 < t → Grown head past → (rs : List RequestOf) → Distinct rs → ((r : RequestOf) → In r rs → Flown t past who r) → Pairwise (λ one other. same_object one other ≡ false) rs
+objects_differ head t past who high g [] d f = tt
+objects_differ head t past who high g (r ∷ rs) d f = (
+  in_every (λ (q : RequestOf). same_object r q ≡ false) rs (λ q i.
+      let a = f r (inl refl) in
+      let b = f q (inr i) in
+      ap (λ (o : Op). same_resource (object o) (object q.op)) (ap (λ (v : RequestOf). v.op) a.2) ∙ ap (λ (o : Op). same_resource (object a.0.op) (object o)) (ap (λ (v : RequestOf). v.op) b.2)
+      ∙ objects_apart head t past who high g a.0 b.0 a.1 b.1 (λ x. d.0 q i (ap (λ (v : RequestOf). v.xid.0) b.2 ∙ sym x ∙ ap (λ (v : RequestOf). v.xid.0) (sym a.2)))),
+  objects_differ head t past who high g rs d.1 (λ q i. f q (inr i)),
+)
+
+one_tag : (head : Head) (t : ℕ) (past : List Line) (who : Who) (r : RequestOf) → Grown head past → Flown t past who r → SameTag (first_request (printed past) t r.who r.xid.0) r.tag
+one_tag head t past who r g flown = by (first_request (printed past) t r.who r.xid.0) refl
   where
-    by : (o : Option RequestOf) → first_request (printed past) 0 r.who r.xid.0 ≡ o → SameTag o r.tag
+    by : (o : Option RequestOf) → first_request (printed past) t r.who r.xid.0 ≡ o → SameTag o r.tag
     by None e = tt
     by (Some k) e =
-        let h = (holds head past g).at 0 in
-        let s = first_sent past r.who r.xid.0 k e in
-        let m = h.done.sent s.0 (Target 0) (message.Request k) (was_story head past s.0 (Target 0) (message.Request k) tt g s.1) in
+        let h = (holds head past g).at t in
+        let s = first_sent past t r.who r.xid.0 k e in
+        let m = h.done.sent s.0 (Target t) (message.Request k) (was_to head past t s.0 (message.Request k) g s.1) in
         let w : k.who ≡ who = s.2 ∙ ap (λ (v : RequestOf). v.who) flown.2 in
         let x : m.0.xid ≡ flown.0.xid = ap (λ (v : RequestOf). v.xid.0) (sym m.2) ∙ s.3 ∙ ap (λ (v : RequestOf). v.xid.0) flown.2 in
-        let same : m.0 ≡ flown.0 = h.numbers.one who m.0 flown.0 (subst (λ v. Flew (only 0 past) v m.0) w m.1) (h.numbers.flying who flown.0 flown.1) x in
+        let same : m.0 ≡ flown.0 = h.numbers.one who m.0 flown.0 (subst (λ v. Flew (only t past) v m.0) w m.1) (h.numbers.flying who flown.0 flown.1) x in
         ap (λ (v : RequestOf). v.tag) m.2 ∙ ap (λ (v : Flight). v.tag) same ∙ ap (λ (v : RequestOf). v.tag) (sym flown.2)
 
-abbrev asking : List Line → Stamp → ℕ → RequestOf → List Line
-asking past stamp c r = line (turn stamp (Client c)) (Send (Target 0) (message.Request r)) ∷ past
+abbrev asking : List Line → Stamp → (c t : ℕ) → RequestOf → List Line
+asking past stamp c t r = line (turn stamp (Client c)) (Send (Target t) (message.Request r)) ∷ past
 
-sends_law : (head : Head) (past : List Line) (stamp : Stamp) (c : ℕ) (r : RequestOf) → IsHead head → Allowed head past (turn stamp (Client c)) (Send (Target 0) (message.Request r)) → Grown head past
-    → FliesAt (printed past) 0 r (in_flight 0 r.who (printed (asking past stamp c r)))
-sends_law head past stamp c r is k g =
-    let new = asking past stamp c r in
-    let who = life_of c (only 0 past) in
-    let flown = ask_flown past c r (k.of 0 (self 0)) in
-    let fs = keeps_flyers head past stamp (Client c) (Send (Target 0) (message.Request r)) k g (flyers head past g) who in
-    subst (λ (v : Who). FliesAt (printed past) 0 r (in_flight 0 v (printed new))) (sym (ap (λ (v : RequestOf). v.who) flown.2))
+sends_law : (head : Head) (past : List Line) (stamp : Stamp) (c t : ℕ) (r : RequestOf) → IsHead head → Allowed head past (turn stamp (Client c)) (Send (Target t) (message.Request r)) → Grown head past
+    → FliesAt (printed past) t r (in_flight t r.who (printed (asking past stamp c t r)))
+sends_law head past stamp c t r is k g =
+    let new = asking past stamp c t r in
+    let who = life_of c (only t past) in
+    let flown = ask_flown t past c r (k.of t (self t)) in
+    let fs = keeps_flyers head t past stamp (Client c) (Send (Target t) (message.Request r)) k g (flyers head t past g) who in
+    let those : (q : RequestOf) → In q (flying t who new) → Flown t past who q = λ q i. let j = fs.0 q i in (j.0, sent_flights t j.0 j.1, j.2) in
+    subst (λ (v : Who). FliesAt (printed past) t r (in_flight t v (printed new))) (sym (ap (λ (v : RequestOf). v.who) flown.2))
     (record {
-      most = let m = no_more (flying who new) (flights_of who (only 0 past)) fs.1 (λ q i. let j = fs.0 q i in (j.0, j.1, ap (λ (v : RequestOf). v.xid.0) (sym j.2))) in
-          let room = ((holds head past g).at 0).room who in
+      most = let m = no_more (flying t who new) (flights_of who (only t past)) fs.1 (λ q i. let j = those q i in (j.0, j.1, ap (λ (v : RequestOf). v.xid.0) (sym j.2))) in
+          let room = ((holds head past g).at t).room who in
           let eight = is.most_flight in omega arith;
-      tags = tags_differ head past who g (flying who new) fs.1 (λ q i. fs.0 q i);
-      objects = λ z. absurd (omega arith);
-      one_tag = one_tag head past who r g flown;
+      tags = tags_differ head t past who g (flying t who new) fs.1 those;
+      objects = λ high. objects_differ head t past who high g (flying t who new) fs.1 those;
+      one_tag = one_tag head t past who r g flown;
     })
+  where
+    -- a message leaves what is in flight by the rows
+    sent_flights : (u : ℕ) (f : Flight) → In f (flights_of (life_of c (only t past)) (only u (asking past stamp c t r))) → In f (flights_of (life_of c (only t past)) (only u past))
+    sent_flights u f i =
+        cond_both (nat_eq u t) (line (turn stamp (Client c)) (Send (Target t) (message.Request r)) ∷ only u past) (only u past) (λ (p : List Line). In f (flights_of (life_of c (only t past)) p) → In f (flights_of (life_of c (only t past)) (only u past))) (λ o j. j) (λ o j. j) i
 
 -- ---- the law
 
@@ -576,19 +712,13 @@ module _ (head : Head) (is : IsHead head) (out : Who → Bool) (lost : ℕ → �
   acts_at : (past : List Line) (l : Line) (later : List PrintedLine) → Allowed head past l.at l.entry → Grown head past → Known (l ∷ past) → Due (l ∷ past) later → Keeps (ActsOf out lost (printed whole)) past l later
   acts_at past l later k g known due = by l.at.node l.entry k known.1 due
     where
-      Flies : ℕ → ℕ → RequestOf → Type 0
-      Flies c t r = FliesAt (printed past) t r (in_flight t r.who (printed (line (turn l.at.stamp (Client c)) (Send (Target t) (message.Request r)) ∷ past)))
-
-      sent : (c t : ℕ) (r : RequestOf) → t ≡ 0 → Allowed head past (turn l.at.stamp (Client c)) (Send (Target t) (message.Request r)) → Flies c t r
-      sent c t r z k = subst (λ (v : ℕ). Flies c v r) (sym z) (sends_law head past l.at.stamp c r is (subst (λ (v : ℕ). Allowed head past (turn l.at.stamp (Client c)) (Send (Target v) (message.Request r))) z k) g)
-
       by : (node : Node) (e : Entry) → Allowed head past (turn l.at.stamp node) e → HeardStand out lost (line (turn l.at.stamp node) e ∷ past) → Due (line (turn l.at.stamp node) e ∷ past) later
           → OfPrinted (λ x. ActsAt out lost (printed whole) (printed past) (record { at = turn l.at.stamp node; entry = x }) later x) (printed_entry (count_sent past + 1) e)
       by (Client c) (Begin slot running) k s due = λ bad. due (begins_bad head c slot past l.at.stamp running g k bad)
       by (Target t) (Begin slot running) k s due = absurd k.ok
       by (Client c) (Told slot named given work) k s due = told_law head out lost whole past l.at.stamp c slot named given work k g all_grown (inside_before past l known.0) lasting s
       by (Target t) (Told slot named given work) k s due = absurd k.ok
-      by (Client c) (Send (Target t) (message.Request r)) k s due = sent c t r k.ok k
+      by (Client c) (Send (Target t) (message.Request r)) k s due = sends_law head past l.at.stamp c t r is k g
       by (Client c) (Send (Target t) (message.Cancel who boot cookie)) k s due = tt
       by (Client c) (Send (Target t) (message.Join who boot)) k s due = tt
       by (Client c) (Send (Target t) (message.Replay r)) k s due = tt

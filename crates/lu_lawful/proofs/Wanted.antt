@@ -1,6 +1,6 @@
 -- The locks that an act grants are those that its request asks for: over the contents at the act, one on each inode of its path, with
 -- the bits of its row.
-use Rattle.std.proofs.Common.{◌≤◌, ◌≡◌, ℕ, ◌+◌, ◌*◌, ◌<◌, Bool, true, false, List, [], ◌∷◌, ◌⊎◌, inl, inr, ⊎_elim, Option, Some, None, refl, sym, subst, ap, ◌∙◌, arith}
+use Rattle.std.proofs.Common.{◌≤◌, ◌≡◌, ℕ, zero, suc, ◌+◌, ◌*◌, ◌<◌, Bool, true, false, List, [], ◌∷◌, ◌⊎◌, inl, inr, ⊎_elim, Option, Some, None, refl, sym, subst, ap, ◌∙◌, arith}
 use Rattle.std.specs.Prelude.{nat_eq, if◌then◌else◌, map, find}
 use Rattle.std.proofs.lemmas.Bool.Decides.{nat_tests}
 use Rattle.lu_base.specs.declared.ids.At.{At}
@@ -34,6 +34,7 @@ use Rattle.lu_laws.specs.Words.Pasts.{or_else, same_turn}
 use Rattle.lu_laws.specs.Words.Requests.{asked}
 use Rattle.lu_laws.specs.Words.Asked.{Acting, acting, wanted, wanted_lock, wanted_by, requested, is_for}
 use Rattle.lu_guards.proofs.Guards.{In, Did}
+use Rattle.lu_guards.proofs.Acts.{acts_names, acts_sized, sized_bare}
 use Rattle.lu_guards.proofs.Grown.{Allowed, Grown}
 use Rattle.lu_guards.proofs.Lists.{self, life_self}
 use Rattle.lu_guards.proofs.Parts.{server_is, boot_is, count_is, tree_is as tree_there}
@@ -44,12 +45,12 @@ use Rattle.lu_facts.proofs.Inodes.{Kinds, kinds_empty, kinds_after, EachOnce, gr
 use Rattle.lu_facts.proofs.All.{holds}
 use Rattle.lu_facts.proofs.Finds.{numbers_at}
 use Rattle.lu_facts.proofs.Grafts.{named_fewer}
-use Rattle.lu_facts.proofs.Lines.{acted_whole}
 use Rattle.lu_facts.proofs.OnNames.{IsOnNames}
 use Rattle.lu_facts.proofs.OverItems.{over_now}
 use Rattle.lu_facts.proofs.Named.{named_after}
 use Rattle.lu_lawful.proofs.Turns.{same_turn_self}
 use Rattle.lu_lawful.proofs.Story.{about_it}
+use Rattle.lu_lawful.proofs.Sized.{gave_only}
 use Rattle.lu_lawful.proofs.Facts.{AskedAt, AllAsked}
 use Rattle.lu_lawful.proofs.Contents.{contents_alike}
 use Rattle.lu_lawful.proofs.Once.{all_asked}
@@ -99,7 +100,7 @@ tree_is head past g =
     left : IsTree bound (contents head.osts empty (items_of head.osts story))
     left =
         over_now head story (λ n t. IsTree n t) (λ n le. (named_empty Any n le, kinds_empty))
-        (λ is a n ok lt h. tree_act head.osts (contents head.osts empty is) a n (subst (λ (x : Operation). IsOnNames x.op) ok.operates (acted_on_names head past ok.deed g (acted_whole 0 past ok.deed ok.acted))) lt h)
+        (λ is a n ok lt h. tree_act head.osts (contents head.osts empty is) a n (subst (λ (x : Operation). IsOnNames x.op) ok.operates (acted_on_names head past ok.deed g ok.acted)) lt h)
         (λ n t who h. tree_same n t (forget t who) (λ d m. refl) h)
         (λ n m t le h. tree_wide n m t le h) at
 
@@ -108,22 +109,22 @@ tree_is head past g =
 abbrev pub asks : Who → Op → Operation
 asks who o = record { number = record { 0 = 0 }; who = who; op = o }
 
--- what was just done is a transaction, which grants nothing, or an act of this turn on what was asked for
+-- what was just done is a transaction, or tells how long an object is, which grants nothing; or it is an act of this turn on what was asked for
 pub record IsAct (head : Head) (past : List Line) (d : Deed) : Type 0 where
   pub cookie : ℕ
   pub acting : acting d.reply.at (printed past) ≡ Some (record { who = d.reply.who; xid = d.reply.xid.0 })
   pub asked : AskedAt past d
   pub locks : d.reply.locks ≡ locks_from cookie d.reply.who (grants head.osts (tree_at head.osts 0 past) (asks d.reply.who d.op))
 
-act_here : (head : Head) (past : List Line) (stamp : Stamp) (t : ℕ) (d : Deed) → Allowed head past (turn stamp (Target t)) (Act d) → Grown head past → AskedAt past d → IsAct head (line (turn stamp (Target t)) (Act d) ∷ past) d
-act_here head past stamp t d a g asked =
-    let ok = a.of 0 (about_it t a.ok) in
-    let at : d.reply.at ≡ turn stamp (Target t) = ap (λ (v : Deed). v.reply.at) ok.is in
+act_here : (head : Head) (past : List Line) (stamp : Stamp) (d : Deed) → Allowed head past (turn stamp (Target 0)) (Act d) → Grown head past → AskedAt past d → IsAct head (line (turn stamp (Target 0)) (Act d) ∷ past) d
+act_here head past stamp d a g asked =
+    let ok = acts_names head.osts (only 0 past) (turn stamp (Target 0)) d (a.of 0 refl) in
+    let at : d.reply.at ≡ turn stamp (Target 0) = ap (λ (v : Deed). v.reply.at) ok.is in
     let who : d.reply.who ≡ ok.request.who = ap (λ (v : Deed). v.reply.who) ok.is in
     let op : d.op ≡ ok.request.op = ap (λ (v : Deed). v.op) ok.is in
     record {
       cookie = (server_of head.osts (only 0 past)).cookie;
-      acting = ap (λ (b : Bool). or_else (if b then Some (record { who = d.reply.who; xid = d.reply.xid.0 }) else None) (acting d.reply.at (printed past))) (subst (λ (v : At). same_turn (turn stamp (Target t)) v ≡ true) (sym at) (same_turn_self (turn stamp (Target t))));
+      acting = ap (λ (b : Bool). or_else (if b then Some (record { who = d.reply.who; xid = d.reply.xid.0 }) else None) (acting d.reply.at (printed past))) (subst (λ (v : At). same_turn (turn stamp (Target 0)) v ≡ true) (sym at) (same_turn_self (turn stamp (Target 0))));
       asked = asked;
       locks = ap (λ (v : Deed). v.reply.locks) ok.is
           ∙ ap (λ (v : Server). locks_from (server_of head.osts (only 0 past)).cookie ok.request.who (grants head.osts v.tree (asks ok.request.who ok.request.op))) (sym (server_is head.osts 0 past))
@@ -138,7 +139,9 @@ did_is head (l ∷ past) d g asked i = by l.at.node l.entry g.0 asked i (did_is 
     by : (node : Node) (e : Entry) → Allowed head past (turn l.at.stamp node) e → AllAsked (line (turn l.at.stamp node) e ∷ past) → Did (line (turn l.at.stamp node) e ∷ past) d
         → (AllAsked past → Did past d → (d.reply.locks ≡ []) ⊎ IsAct head past d) → (d.reply.locks ≡ []) ⊎ IsAct head (line (turn l.at.stamp node) e ∷ past) d
     by (Client c) (Act f) a asked i h = absurd a.ok
-    by (Target t) (Act f) a asked i h = inr (subst (λ (v : Deed). IsAct head (line (turn l.at.stamp (Target t)) (Act f) ∷ past) v) i (act_here head past l.at.stamp t f a g.1 asked.0))
+    by (Target zero) (Act f) a asked i h = inr (subst (λ (v : Deed). IsAct head (line (turn l.at.stamp (Target 0)) (Act f) ∷ past) v) i (act_here head past l.at.stamp f a g.1 (asked.0 refl)))
+    by (Target (suc t)) (Act f) a asked i h =
+        inl (ap (λ (v : Deed). v.reply.locks) (sym i) ∙ sized_bare head.osts (only (suc t) past) (turn l.at.stamp (Target (suc t))) f (acts_sized head.osts (only (suc t) past) (turn l.at.stamp (Target (suc t))) (suc t) f (omega arith) (a.of (suc t) (self (suc t)))))
     by (Client c) (Made f) a asked i h = absurd a.ok
     by (Target t) (Made f) a asked i h = inl (ap (λ (v : Deed). v.reply.locks) (sym i) ∙ ap (λ (v : Deed). v.reply.locks) (a.of 0 (about_it t a.ok)).is)
     by (Client c) (Grant lock asks) a asked i h = absurd a.ok
@@ -186,7 +189,7 @@ asked_as head past at d l g did turn i = ⊎_elim
     let ws = grants head.osts (tree_at head.osts 0 past) (asks d.reply.who d.op) in
     let j = subst (λ (ls : List Lock). In l ls) q.locks i in
     let tree = tree_is head past g in
-    let once : EachOnce ws = grants_once head.osts (tree_at head.osts 0 past) none d.reply.who tree.0.one tree.1 d.op (acted_on_names head past d g (did_acted past d did)) in
+    let once : EachOnce ws = grants_once head.osts (tree_at head.osts 0 past) none d.reply.who tree.0.one tree.1 d.op (acted_on_names head past d g (gave_only head past d l g (did_acted past d did) i)) in
     let r = lock_of d.reply.who q.cookie ws l j in (
       ap (λ (o : Option Acting). find (is_for l) (wanted_by head.osts (printed past) l.cookie o)) (subst (λ (v : At). acting v (printed past) ≡ Some (record { who = d.reply.who; xid = d.reply.xid.0 })) turn q.acting)
           ∙ ap (λ (o : Option Op). find (is_for l) (map (wanted_lock l.cookie d.reply.who) (wanted head.osts (printed past) d.reply.who o))) q.asked

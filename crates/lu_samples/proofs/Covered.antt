@@ -1,5 +1,5 @@
--- The scenes with locks, that with a file that is opened, that with commits, that in which a client is evicted, and those in which a target crashes,
--- boots and closes a window are covered, so what they come to is lawful.
+-- The scenes with locks, those with a file that is opened, or whose size is asked for, that with commits, that in which a client is evicted, and
+-- those in which a target crashes, boots and closes a window are covered, so what they come to is lawful.
 use Rattle.std.proofs.Common.{◌≡◌, false, List, [], ◌∷◌, inl, inr, refl, arith, lit≤}
 use Rattle.std.specs.Prelude.{All}
 use Rattle.std.proofs.lemmas.List.Elements.{All-head, All-tail}
@@ -14,6 +14,7 @@ use Rattle.lu_covered_scenes.proofs.Runs.{scene_unfailed}
 use Rattle.lu_samples.proofs.Words.{after, trace_after, never}
 use Rattle.lu_samples.proofs.Names.{commits}
 use Rattle.lu_samples.proofs.Handles.{opened}
+use Rattle.lu_samples.proofs.Glimpses.{glimpsed, closes_after}
 use Rattle.lu_samples.proofs.Lives.{expires}
 use Rattle.lu_samples.proofs.Crashes.{crashed}
 use Rattle.lu_samples.proofs.Locks.{called_back, waits, known}
@@ -25,7 +26,7 @@ use Rattle.lu_samples.proofs.KeptReply.{kept_reply}
 use Rattle.lu_samples.proofs.GapInFlight.{gap_in_flight}
 use Rattle.lu_samples.proofs.JoinsAgain.{joins_again}
 use Rattle.lu_samples.proofs.RepliesLost.{acts_anew, saw_lost}
-use Rattle.lu_samples.proofs.Covering.{is_path, is_path_b, is_path_f, is_path_g, is_path_ab, is_path_ac, is_path_ax, is_root, is_head, is_short, all_of, leads, lawful}
+use Rattle.lu_samples.proofs.Covering.{is_path, is_path_b, is_path_f, is_path_f0, is_path_g, is_path_ab, is_path_ac, is_path_ax, is_root, is_head, is_short, is_small, is_two, all_of, leads, lawful}
 
 pub called_back_covered : IsCovered called_back
 called_back_covered =
@@ -75,6 +76,26 @@ opened_covered =
         lines = all_of (LineFits opened.head) opened.lines ((lit≤ tt, lit≤ tt, (is_path, tt)) then tt then (lit≤ tt, lit≤ tt, (lit≤ tt, is_path)) then tt then (lit≤ tt, lit≤ tt, (lit≤ tt, is_path)) then (lit≤ tt, lit≤ tt, is_path) then tt then (lit≤ tt, lit≤ tt, lit≤ tt) then tt then (lit≤ tt, lit≤ tt, lit≤ tt) then tt);
       };
       lines = all_of (IsCoveredIn opened.lines) opened.lines ((tt, tt) then tt then (tt, tt) then tt then (tt, tt) then (tt, tt) then tt then (tt, tt) then tt then (tt, tt) then tt);
+    }
+
+pub glimpsed_covered : IsCovered glimpsed
+glimpsed_covered =
+    record {
+      limits = record {
+        head = is_small;
+        lines = all_of (LineFits glimpsed.head) glimpsed.lines ((lit≤ tt, lit≤ tt, (is_path_f0, (lit≤ tt, lit≤ tt))) then tt then (lit≤ tt, lit≤ tt, (lit≤ tt, is_path_f0)) then tt then (lit≤ tt, lit≤ tt, (lit≤ tt, is_path_f0)) then tt then (lit≤ tt, lit≤ tt, lit≤ tt) then (lit≤ tt, lit≤ tt, lit≤ tt) then tt then lit≤ tt then lit≤ tt then (lit≤ tt, lit≤ tt) then lit≤ tt then (lit≤ tt, lit≤ tt, lit≤ tt) then (lit≤ tt, lit≤ tt) then tt);
+      };
+      lines = all_of (IsCoveredIn glimpsed.lines) glimpsed.lines ((tt, tt) then tt then (tt, tt) then tt then (tt, tt) then tt then (tt, tt) then (tt, tt) then tt then tt then tt then tt then tt then (tt, tt) then tt then tt);
+    }
+
+pub closes_after_covered : IsCovered closes_after
+closes_after_covered =
+    record {
+      limits = record {
+        head = is_two;
+        lines = all_of (LineFits closes_after.head) closes_after.lines ((lit≤ tt, lit≤ tt, (is_path_g, (lit≤ tt, lit≤ tt))) then tt then (lit≤ tt, lit≤ tt, (lit≤ tt, is_path_g)) then tt then (lit≤ tt, lit≤ tt, lit≤ tt) then (lit≤ tt, lit≤ tt, lit≤ tt) then (lit≤ tt, lit≤ tt, lit≤ tt) then tt then tt);
+      };
+      lines = all_of (IsCoveredIn closes_after.lines) closes_after.lines ((tt, tt) then tt then (tt, tt) then tt then (tt, tt) then (tt, tt) then (tt, tt) then tt then tt);
     }
 
 pub expires_covered : IsCovered expires
@@ -215,6 +236,12 @@ commits_lawful = lawful commits 10 commits_covered refl
 
 pub opened_lawful : Lawful 1 (trace_after 30 opened)
 opened_lawful = lawful opened 30 opened_covered refl
+
+pub glimpsed_lawful : Lawful 1 (trace_after 50 glimpsed)
+glimpsed_lawful = lawful glimpsed 50 glimpsed_covered refl
+
+pub closes_after_lawful : Lawful 2 (trace_after 40 closes_after)
+closes_after_lawful = lawful closes_after 40 closes_after_covered refl
 
 pub expires_lawful : Lawful 1 (trace_after 50 expires)
 expires_lawful = lawful expires 50 expires_covered refl

@@ -15,6 +15,7 @@ use Rattle.lu_laws.specs.Lawful.{Lawful}
 use Rattle.lu_covered_scenes.specs.Covered.{IsCovered}
 use Rattle.lu_covered_scenes.proofs.Stated.{scene_lawful}
 use Rattle.lu_samples.proofs.Words.{with_head, after, trace_after, never}
+use Rattle.lu_samples.proofs.Glimpses.{small_head, two_head}
 
 -- ---- paths
 
@@ -54,6 +55,9 @@ is_path_b = plain_path (codes "b" ∷ []) (lit≤ tt) (lit≤ tt) refl
 pub is_path_f : IsPath (codes "f" ∷ [])
 is_path_f = plain_path (codes "f" ∷ []) (lit≤ tt) (lit≤ tt) refl
 
+pub is_path_f0 : IsPath (codes "f0" ∷ [])
+is_path_f0 = plain_path (codes "f0" ∷ []) (lit≤ tt) (lit≤ tt) refl
+
 pub is_path_g : IsPath (codes "g" ∷ [])
 is_path_g = plain_path (codes "g" ∷ []) (lit≤ tt) (lit≤ tt) refl
 
@@ -88,6 +92,36 @@ is_head clients flight one most one_sent most_sent =
 -- where a lock that is called back expires after two ticks
 pub is_short : IsHead (head_of (record (with_head 2 1) { expire = 2 }))
 is_short =
+    record {
+      clients = lit≤ tt;
+      most_clients = lit≤ tt;
+      osts = lit≤ tt;
+      most_osts = lit≤ tt;
+      expire = lit≤ tt;
+      dirty = lit≤ tt;
+      unused = lit≤ tt;
+      flight = lit≤ tt;
+      most_flight = lit≤ tt;
+    }
+
+-- where so does one after one tick, and a client keeps one unused lock
+pub is_small : IsHead (head_of small_head)
+is_small =
+    record {
+      clients = lit≤ tt;
+      most_clients = lit≤ tt;
+      osts = lit≤ tt;
+      most_osts = lit≤ tt;
+      expire = lit≤ tt;
+      dirty = lit≤ tt;
+      unused = lit≤ tt;
+      flight = lit≤ tt;
+      most_flight = lit≤ tt;
+    }
+
+-- with two object storage targets
+pub is_two : IsHead (head_of two_head)
+is_two =
     record {
       clients = lit≤ tt;
       most_clients = lit≤ tt;

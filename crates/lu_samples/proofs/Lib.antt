@@ -6,6 +6,7 @@ pub mod Lives
 pub mod Handles
 pub mod Crashes
 pub mod Windows
+pub mod Glimpses
 pub mod AbsentAndGap
 pub mod CrashInRecovery
 pub mod KeepsHeard

@@ -1,0 +1,355 @@
+-- Where files lie: each stripe of a file on one of the run's object storage targets. So it is of each layout in the tree, since a new file's
+-- is so and no operation changes one; of each file that is told as open; and so of the file of a handle, and of a call on it.
+use Rattle.std.proofs.Common.{◌≡◌, ℕ, ℤ, zero, suc, ◌+◌, ◌%◌, ◌<◌, ◌≤◌, Bool, true, false, List, [], ◌∷◌, Option, Some, None, ◌⊎◌, inl, inr, ⊎_elim, refl, sym, subst, ap, ◌∙◌, arith}
+use Rattle.std.specs.Prelude.{nat_eq, length, map, slice_index, ◌==◌, if◌then◌else◌}
+use Rattle.std.specs.List.{range_with_len}
+use Rattle.std.proofs.lemmas.Bool.{cond_both}
+use Rattle.std.proofs.lemmas.Bool.Decides.{nat_tests}
+use Rattle.lu_base.specs.declared.ids.At.{At}
+use Rattle.lu_base.specs.declared.ids.Fid.{Fid}
+use Rattle.lu_base.specs.declared.ids.Node.{Node}
+use Rattle.lu_base.specs.declared.ids.Node.TheVariants.{Client, Target}
+use Rattle.lu_base.specs.declared.ids.Txn.{Txn as TxnOf}
+use Rattle.lu_base.specs.declared.ids.Who.{Who}
+use Rattle.lu_layout.specs.Raid0.{Raid0}
+use Rattle.lu_msg.specs.declared.answers.Answer.{Answer}
+use Rattle.lu_msg.specs.declared.answers.Answer.TheVariants as told
+use Rattle.lu_msg.specs.declared.answers.Errno.{Errno}
+use Rattle.lu_msg.specs.declared.answers.Errno.TheVariants.{EEXIST, EISDIR, EINVAL, EBUSY}
+use Rattle.lu_msg.specs.declared.calls.Call.{Call}
+use Rattle.lu_msg.specs.declared.calls.Call.TheVariants as call
+use Rattle.lu_msg.specs.declared.messages.Reply.{Reply as ReplyTo}
+use Rattle.lu_msg.specs.declared.operations.Op.{Op}
+use Rattle.lu_msg.specs.declared.operations.Op.TheVariants as op
+use Rattle.lu_part.specs.declared.parts.Part.TheVariants as part
+use Rattle.lu_machine.specs.declared.child.Child.{Child}
+use Rattle.lu_machine.specs.declared.child.Child.TheVariants.{Dir, File}
+use Rattle.lu_machine.specs.Tree.{Tree, same_fid, fid_of, child, listing, attributes, layout}
+use Rattle.lu_machine.specs.Change.{Change, MakesFile, Leads, Drops, Parted, SetMode, SetLinks, Leaves, change, changed}
+use Rattle.lu_machine.specs.Effect.{on_layout}
+use Rattle.lu_machine.specs.Striping.{stripe_size, stripe_count, is_bad, stripe_targets, new_layout}
+use Rattle.lu_machine.specs.Plan.{Plan, Refuse, LookAttr, Outcome, outcome}
+use Rattle.lu_machine.specs.Table.{root, there, absent, walk, walk_up, last_of, tells, does, row_lookup, row_stat, row_list, row_layout, row_mkdir, row_create, row_link, row_unlink, row_rmdir, passes, moves, row_replace, row_rename, rename, row_chmod, row_open, plan}
+use Rattle.lu_machine.specs.Footprint.{Operation, Every, empty, answer}
+use Rattle.lu_machine.specs.Removal.{contents}
+use Rattle.lu_machine.specs.Fits.{answer_fits}
+use Rattle.lu_machine.proofs.Effects.{layout_after}
+use Rattle.lu_machine.proofs.Fits.{answers_fit}
+use Rattle.lu_machine.proofs.Walks.{there_ends, absent_ends, if_empty_ends, walk_ends, walk_up_ends, to_last_ends}
+use Rattle.lu_words.specs.Carried.{Deed, HandleFile, Asking, Answered, Running}
+use Rattle.lu_words.specs.Words.{Entry, Begin, Told, Life, Act, Txn as Made, Line, line, is_client}
+use Rattle.lu_words.specs.Concerns.{only}
+use Rattle.lu_covered.specs.Calls.{call_at, opened_by, opened, binds, told_file, begun_file, file_at, file_for}
+use Rattle.lu_covered.specs.Deeds.{asked}
+use Rattle.lu_covered.specs.TargetStates.{none, next_number, server_of}
+use Rattle.lu_covered.specs.Heads.{Head}
+use Rattle.lu_guards.proofs.Guards.{Begins}
+use Rattle.lu_guards.proofs.StoryGuards.{ActOk, ActsOk, TxnOk}
+use Rattle.lu_guards.proofs.Acts.{sized_answer}
+use Rattle.lu_guards.proofs.Grown.{Allowed, Grown}
+use Rattle.lu_guards.proofs.Lists.{self}
+use Rattle.lu_facts.proofs.Groups.{turn, Acted, HoldsAt, items_of}
+use Rattle.lu_facts.proofs.All.{holds}
+use Rattle.lu_facts.proofs.Lines.{acted_whole}
+use Rattle.lu_facts.proofs.Calls.{Began, Touched, Stood, call_cases}
+use Rattle.lu_facts.proofs.OverItems.{over_now}
+use Rattle.lu_facts.proofs.OnNames.{IsOnNames, open_op}
+use Rattle.lu_facts.proofs.Sides.{acted_only}
+use Rattle.lu_facts.proofs.Asked.{acted_on_names}
+
+-- each of these is an object storage target of the run
+abbrev pub OnTargets : ℕ → List ℕ → Type 0
+OnTargets osts [] = Unit {0}
+OnTargets osts (t ∷ ts) = (0 < t) × (t ≤ osts) × OnTargets osts ts
+
+-- so is that of each stripe
+pub on_target : (osts : ℕ) (ts : List ℕ) → OnTargets osts ts → (stripe : ℕ) → stripe < length ts → (0 < slice_index ts stripe) × (slice_index ts stripe ≤ osts)
+on_target osts [] on stripe low = absurd (omega (arith, low))
+on_target osts (t ∷ ts) on zero low = (on.0, on.1)
+on_target osts (t ∷ ts) on (suc stripe) low = on_target osts ts on.2 stripe (omega (arith, low))
+
+-- ---- a new file
+
+places_on : (osts first : ℕ) → 0 < osts → (is : List ℕ) → OnTargets osts (map (λ (i : ℕ). 1 + (first + i) % osts) is)
+places_on osts first some [] = tt
+places_on osts first some (i ∷ is) = (omega arith, omega (arith, some), places_on osts first some is)
+
+stripes_on : (osts : ℕ) (number : TxnOf) (count : ℕ) → count ≤ osts → OnTargets osts (stripe_targets osts number count)
+stripes_on osts number zero le = tt
+stripes_on osts number (suc count) le = places_on osts (number.0 % 4294967296) (omega (arith, le)) (range_with_len 0 (suc count))
+
+new_on : (osts : ℕ) (number : TxnOf) (size : ℕ) (count : ℤ) (l : Raid0) → new_layout osts number size count ≡ Some l → OnTargets osts l.targets
+new_on osts number size count l is = by (is_bad osts (stripe_size size) (stripe_count osts count)) refl is
+  where
+    new : Raid0
+    new = record { size = stripe_size size; targets = stripe_targets osts number (stripe_count osts count) }
+
+    few : is_bad osts (stripe_size size) (stripe_count osts count) ≡ false → stripe_count osts count ≤ osts
+    few e = grind (arith, nat_tests, e)
+
+    by : (b : Bool) → is_bad osts (stripe_size size) (stripe_count osts count) ≡ b → (if b then None else Some new) ≡ Some l → OnTargets osts l.targets
+    by true e q = absurd (cc)
+    by false e q = let same : new ≡ l = cc in subst (λ (v : Raid0). OnTargets osts v.targets) same (stripes_on osts number (stripe_count osts count) (few e))
+
+-- ---- the tree
+
+-- each file's layout; where no file is, there is none
+abbrev pub Laid : ℕ → Tree → Type 0
+Laid osts t = (f : Fid) → OnTargets osts (layout t f).targets
+
+abbrev Lays : ℕ → Change → Type 0
+Lays osts (MakesFile f l) = OnTargets osts l.targets
+Lays osts _ = Unit {0}
+
+laid_change : (osts : ℕ) (t : Tree) (x : Change) → Lays osts x → Laid osts t → Laid osts (change t x)
+laid_change osts t x lays laid f = subst (λ (l : Raid0). OnTargets osts l.targets) (sym (layout_after t x f)) (by x lays)
+  where
+    by : (x : Change) → Lays osts x → OnTargets osts (on_layout x f (layout t f)).targets
+    by (MakesFile g l) lays = cond_both (same_fid g f) l (layout t f) (λ (v : Raid0). OnTargets osts v.targets) (λ _. lays) (λ _. laid f)
+    by _ lays = laid f
+
+laid_changed : (osts : ℕ) (t : Tree) (xs : List Change) → Every (Lays osts) xs → Laid osts t → Laid osts (changed t xs)
+laid_changed osts t [] lays laid = laid
+laid_changed osts t (x ∷ xs) lays laid = laid_changed osts (change t x) xs lays.1 (laid_change osts t x lays.0 laid)
+
+-- ---- what operations change
+
+module _ (osts : ℕ) (t : Tree) where
+  abbrev AllLay : Outcome → Type 0
+  AllLay o = Every (Lays osts) o.changes
+
+  abbrev PlanLays : Plan → Type 0
+  PlanLays p = AllLay (outcome t p)
+
+  refused : (e : Errno) → AllLay (record { answer = told.Refused e; grants = []; changes = [] })
+  refused e = tt
+
+  stat_lays : (cs : List Child) (c : Child) → PlanLays (row_stat cs c)
+  stat_lays cs (Dir d) = tt
+  stat_lays cs (File f) = tt
+
+  list_lays : (cs : List Child) (c : Child) → PlanLays (row_list cs c)
+  list_lays cs (Dir d) = tt
+  list_lays cs (File f) = tt
+
+  layout_lays : (cs : List Child) (c : Child) → PlanLays (row_layout cs c)
+  layout_lays cs (Dir d) = tt
+  layout_lays cs (File f) = tt
+
+  create_lays : (number : TxnOf) (d : Fid) (n : List ℕ) (l : Option Raid0) → ((x : Raid0) → l ≡ Some x → OnTargets osts x.targets) → PlanLays (row_create number d n l)
+  create_lays number d n None on = tt
+  create_lays number d n (Some l) on = (on l refl, (tt, tt))
+
+  link_lays : (new : List (List ℕ)) (c : Child) → PlanLays (row_link new c)
+  link_lays new (Dir d) = tt
+  link_lays new (File f) =
+      to_last_ends t AllLay refused EEXIST new (λ cs d n. absent (LookAttr (File f) (λ a. does told.Done (Leads d n (File f) ∷ SetLinks f (a.links + 1) ∷ []))))
+      (λ cs d n. absent_ends t AllLay refused (LookAttr (File f) (λ a. does told.Done (Leads d n (File f) ∷ SetLinks f (a.links + 1) ∷ []))) (child t d n) (λ _. (tt, (tt, tt))))
+
+  unlink_lays : (d : Fid) (n : List ℕ) (c : Child) → PlanLays (row_unlink d n c)
+  unlink_lays d n (Dir e) = tt
+  unlink_lays d n (File f) = (tt, (tt, (tt, tt)))
+
+  rmdir_lays : (d : Fid) (n : List ℕ) (c : Child) → PlanLays (row_rmdir d n c)
+  rmdir_lays d n (File f) = tt
+  rmdir_lays d n (Dir e) = if_empty_ends t AllLay refused (listing t e) (does told.Done (Drops d n ∷ Parted e ∷ Leaves e ∷ [])) (λ _. (tt, (tt, (tt, tt))))
+
+  replace_lays : (d : Fid) (n : List ℕ) (c : Child) (e : Fid) (m : List ℕ) (g : Child) → PlanLays (row_replace d n c e m g)
+  replace_lays d n (Dir f) e m (File g) = tt
+  replace_lays d n (File f) e m (Dir g) = tt
+  replace_lays d n (Dir f) e m (Dir g) = if_empty_ends t AllLay refused (listing t g) (moves d n (Dir f) e m (Parted g ∷ Leaves g ∷ [])) (λ _. (tt, (tt, (tt, (tt, (tt, tt))))))
+  replace_lays d n (File f) e m (File g) = (tt, (tt, (tt, (tt, (tt, tt)))))
+
+  rename_row_lays : (d : Fid) (n : List ℕ) (c : Child) (cs : List Child) (e : Fid) (m : List ℕ) (found : Option Child) → PlanLays (row_rename d n c cs e m found)
+  rename_row_lays d n c cs e m None = cond_both (passes c cs) (Refuse EINVAL) (moves d n c e m []) PlanLays (λ _. tt) (λ _. (tt, (tt, (tt, tt))))
+  rename_row_lays d n c cs e m (Some g) =
+      cond_both (same_fid (fid_of g) (fid_of c)) (tells told.Done []) (if passes c cs then Refuse EINVAL else row_replace d n c e m g) PlanLays (λ _. tt)
+      (λ _. cond_both (passes c cs) (Refuse EINVAL) (row_replace d n c e m g) PlanLays (λ _. tt) (λ _. replace_lays d n c e m g))
+
+  rename_lays : (old new : List (List ℕ)) → PlanLays (rename old new)
+  rename_lays old [] = tt
+  rename_lays old (m ∷ ms) =
+      to_last_ends t AllLay refused EBUSY old (λ cs d n. there (λ c. walk_up root m ms (λ cs e m. row_rename d n c cs e m)))
+      (λ cs d n. there_ends t AllLay refused (λ c. walk_up root m ms (λ cs e m. row_rename d n c cs e m)) (child t d n)
+      (λ c _. walk_up_ends t AllLay refused root m ms (λ cs e m. row_rename d n c cs e m) (λ cs e m. rename_row_lays d n c cs e m (child t e m))))
+
+  chmod_lays : (mode : ℕ) (c : Child) → PlanLays (row_chmod mode c)
+  chmod_lays mode c = cond_both ((attributes t c).mode == mode) (tells told.Done []) (does told.Done (SetMode c mode ∷ [])) PlanLays (λ _. tt) (λ _. (tt, tt))
+
+  open_lays : (number : TxnOf) (who : Who) (c : Child) → PlanLays (row_open number who c)
+  open_lays number who (Dir d) = tt
+  open_lays number who (File f) = (tt, tt)
+
+  plan_lays : (number : TxnOf) (who : Who) (o : Op) → PlanLays (plan osts number who o)
+  plan_lays number who (op.Lookup path) = walk_ends t AllLay refused root path (λ cs. row_lookup cs (last_of root cs)) (λ cs _. tt)
+  plan_lays number who (op.Stat path) = walk_ends t AllLay refused root path (λ cs. row_stat cs (last_of root cs)) (λ cs _. stat_lays cs (last_of root cs))
+  plan_lays number who (op.List path) = walk_ends t AllLay refused root path (λ cs. row_list cs (last_of root cs)) (λ cs _. list_lays cs (last_of root cs))
+  plan_lays number who (op.Layout path) = walk_ends t AllLay refused root path (λ cs. row_layout cs (last_of root cs)) (λ cs _. layout_lays cs (last_of root cs))
+  plan_lays number who (op.Mkdir path) =
+      to_last_ends t AllLay refused EEXIST path (λ cs d n. absent (row_mkdir number d n)) (λ cs d n. absent_ends t AllLay refused (row_mkdir number d n) (child t d n) (λ _. (tt, (tt, tt))))
+  plan_lays number who (op.Create path size count) =
+      to_last_ends t AllLay refused EEXIST path (λ cs d n. absent (row_create number d n (new_layout osts number size count)))
+      (λ cs d n. absent_ends t AllLay refused (row_create number d n (new_layout osts number size count)) (child t d n)
+      (λ _. create_lays number d n (new_layout osts number size count) (λ l is. new_on osts number size count l is)))
+  plan_lays number who (op.Link old new) = walk_ends t AllLay refused root old (λ cs. row_link new (last_of root cs)) (λ cs _. link_lays new (last_of root cs))
+  plan_lays number who (op.Unlink path) =
+      to_last_ends t AllLay refused EISDIR path (λ cs d n. there (row_unlink d n)) (λ cs d n. there_ends t AllLay refused (row_unlink d n) (child t d n) (λ c _. unlink_lays d n c))
+  plan_lays number who (op.Rmdir path) =
+      to_last_ends t AllLay refused EBUSY path (λ cs d n. there (row_rmdir d n)) (λ cs d n. there_ends t AllLay refused (row_rmdir d n) (child t d n) (λ c _. rmdir_lays d n c))
+  plan_lays number who (op.Rename old new) = rename_lays old new
+  plan_lays number who (op.Chmod path mode) = walk_ends t AllLay refused root path (λ cs. row_chmod mode (last_of root cs)) (λ cs _. chmod_lays mode (last_of root cs))
+  plan_lays number who (op.Open path) = walk_ends t AllLay refused root path (λ cs. row_open number who (last_of root cs)) (λ cs _. open_lays number who (last_of root cs))
+  plan_lays number who (op.Close opened fid) = (tt, tt)
+  plan_lays number who (op.Enqueue resource mode extent) = tt
+  plan_lays number who (op.Get resource cookie page) = tt
+  plan_lays number who (op.Put resource cookie offset bytes) = tt
+  plan_lays number who (op.Cut resource cookie size) = tt
+  plan_lays number who (op.Size resource) = tt
+
+-- the metadata target's tree
+pub laid : (head : Head) (past : List Line) → Grown head past → Laid head.osts (server_of head.osts (only 0 past)).tree
+laid head past g f = subst (λ (l : Raid0). OnTargets head.osts l.targets) (at.history.tree (part.Layout f)) (left f)
+  where
+    story : List Line
+    story = only 0 past
+
+    at : HoldsAt head story
+    at = (holds head past g).at 0
+
+    left : Laid head.osts (contents head.osts empty (items_of head.osts story))
+    left =
+        over_now head story (λ n t. Laid head.osts t) (λ n le f. tt)
+        (λ is a n ok lt h. let t = contents head.osts empty is in laid_changed head.osts t (outcome t (plan head.osts a.number a.who a.op)).changes (plan_lays head.osts t a.number a.who a.op) h)
+        (λ n t who h. h) (λ n m t le h. h) at
+
+-- ---- what is told
+
+-- an open tells the layout that stands
+abbrev OpensLaid : ℕ → Outcome → Type 0
+OpensLaid osts o = (fid : Fid) (number : TxnOf) (l : Raid0) → o.answer ≡ told.OpenFile fid number l → OnTargets osts l.targets
+
+open_laid : (osts : ℕ) (t : Tree) (number : TxnOf) (who : Who) (path : List (List ℕ)) → Laid osts t → OpensLaid osts (outcome t (walk root path (λ cs. row_open number who (last_of root cs))))
+open_laid osts t number who path laid = walk_ends t (OpensLaid osts) (λ e fid n l h. absurd (cc)) root path (λ cs. row_open number who (last_of root cs)) (λ cs _. by (last_of root cs))
+  where
+    by : (c : Child) → OpensLaid osts (outcome t (row_open number who c))
+    by (Dir d) fid n l h = absurd (cc)
+    by (File f) fid n l h = let same : layout t f ≡ l = cc in subst (λ (v : Raid0). OnTargets osts v.targets) same (laid f)
+
+table_laid : (osts : ℕ) (t : Tree) (a : Operation) (fid : Fid) (n : TxnOf) (l : Raid0) → Laid osts t → IsOnNames a.op → answer osts t a ≡ told.OpenFile fid n l → OnTargets osts l.targets
+table_laid osts t a fid n l laid is h =
+    let k = open_op a.op fid n l is (ap (λ v. answer_fits a.op v) (sym h) ∙ answers_fit osts t a) in
+    open_laid osts t a.number a.who k.0 laid fid n l (sym (ap (λ (o : Op). answer osts t (record { number = a.number; who = a.who; op = o })) k.1) ∙ h)
+
+-- each file that is told as open
+pub acted_laid : (head : Head) (past : List Line) (d : Deed) → Grown head past → Acted past d → (fid : Fid) (number : TxnOf) (l : Raid0) → d.reply.answer ≡ told.OpenFile fid number l → OnTargets head.osts l.targets
+acted_laid head [] d g a fid n l h = absurd a
+acted_laid head (x ∷ past) d g a fid n l h = by x.at.node x.entry g.0 a (λ at. acted_on_names head (x ∷ past) d g (acted_only head (x ∷ past) d 0 g a at)) (λ b. acted_laid head past d g.1 b fid n l h)
+  where
+    Done : Type 0
+    Done = OnTargets head.osts l.targets
+
+    act : (at : At) → ActOk head.osts (only 0 past) at d → IsOnNames d.op → Done
+    act at ok is =
+        let v = server_of head.osts (only 0 past) in
+        table_laid head.osts v.tree (asked ok.request none) fid n l (laid head past g.1) (subst IsOnNames (ap (λ (y : Deed). y.op) ok.is) is) (ap (λ (y : Deed). y.reply.answer) (sym ok.is) ∙ h)
+
+    txn : (at : At) → TxnOk head.osts (only 0 past) at d → IsOnNames d.op → Done
+    txn at ok is =
+        let v = server_of head.osts (only 0 past) in
+        table_laid head.osts v.tree (asked ok.request (next_number v)) fid n l (laid head past g.1) (subst IsOnNames (ap (λ (y : Deed). y.op) ok.is) is) (ap (λ (y : Deed). y.reply.answer) (sym ok.is) ∙ h)
+
+    -- a glimpse tells of no file
+    acts : (t : ℕ) → ActsOk head.osts (only t past) (turn x.at.stamp (Target t)) t d → (d.reply.at.node ≡ Target 0 → IsOnNames d.op) → Done
+    acts t (inl k) is =
+        act (turn x.at.stamp (Target t)) (subst (λ (u : ℕ). ActOk head.osts (only u past) (turn x.at.stamp (Target t)) d) k.0 k.1) (is (ap (λ (y : Deed). y.reply.at.node) k.1.is ∙ ap Target k.0))
+    acts t (inr k) is = absurd (let size = sized_answer head.osts (only t past) (turn x.at.stamp (Target t)) d k.1 in cc)
+
+    by : (node : Node) (e : Entry) → Allowed head past (turn x.at.stamp node) e → Acted (line (turn x.at.stamp node) e ∷ past) d → (d.reply.at.node ≡ Target 0 → IsOnNames d.op) → (Acted past d → Done) → Done
+    by (Client c) (Act e) k a is ih = absurd k.ok
+    by (Client c) (Made e) k a is ih = absurd k.ok
+    by (Target t) (Act e) k (inl p) is ih = acts t (subst (λ (y : Deed). ActsOk head.osts (only t past) (turn x.at.stamp (Target t)) t y) p (k.of t (self t))) is
+    by (Target t) (Act e) k (inr b) is ih = ih b
+    by (Target t) (Made e) k (inl p) is ih =
+        let ok = subst (λ (y : Deed). TxnOk head.osts (only 0 past) (turn x.at.stamp (Target t)) y) p (k.of 0 (ap (λ (v : ℕ). nat_eq 0 v) k.ok)) in
+        txn (turn x.at.stamp (Target t)) ok (is (ap (λ (y : Deed). y.reply.at.node) ok.is ∙ ap Target k.ok))
+    by (Target t) (Made e) k (inr b) is ih = ih b
+    by _ _ k a is ih = ih a
+
+-- stripe by stripe
+pub acted_layout : (head : Head) (past : List Line) → Grown head past → (d : Deed) → Acted past d → (fid : Fid) (number : TxnOf) (l : Raid0) → d.reply.answer ≡ told.OpenFile fid number l
+    → (stripe : ℕ) → stripe < length l.targets → 0 < slice_index l.targets stripe
+acted_layout head past g d a fid number l h stripe low = (on_target head.osts l.targets (acted_laid head past d g a fid number l h) stripe low).0
+
+-- ---- handles and calls
+
+opened_file : (a : Answer) (f : HandleFile) → opened_by a ≡ Some f → a ≡ told.OpenFile f.fid f.number f.layout
+opened_file (told.OpenFile fid number l) f e = let same : record { fid = fid; number = number; layout = l } ≡ f = cc in ap (λ (v : HandleFile). told.OpenFile v.fid v.number v.layout) same
+opened_file a f e = absurd (cc)
+
+-- the file that a call opened
+pub opened_layout : (head : Head) (past : List Line) → Grown head past → (c slot : ℕ) (r : Running) (f : HandleFile) → call_at c slot past ≡ Some r → opened r.asking ≡ Some f → OnTargets head.osts f.layout.targets
+opened_layout head past g c slot r f is e = by r.asking refl e
+  where
+    by : (a : Asking) → r.asking ≡ a → opened a ≡ Some f → OnTargets head.osts f.layout.targets
+    by (Answered t reply) asking e =
+        let k = (holds head past g).replies c slot t r reply is asking in
+        acted_laid head past k.deed g (acted_whole t past k.deed k.acted) f.fid f.number f.layout (ap (λ (v : ReplyTo). v.answer) k.is ∙ opened_file reply.answer f e)
+    by a asking e = absurd (cc)
+
+-- a handle is bound to what a call opened, or as it was
+told_bound : (P : HandleFile → Type 0) (h : ℕ) (o : Option Running) (old : Option HandleFile) → ((r : Running) (f : HandleFile) → o ≡ Some r → opened r.asking ≡ Some f → P f)
+    → ((f : HandleFile) → old ≡ Some f → P f) → (f : HandleFile) → told_file h o old ≡ Some f → P f
+told_bound P h None old new was f e = was f e
+told_bound P h (Some r) old new was f e = by r.call e
+  where
+    bound : (b : Option HandleFile) → opened r.asking ≡ b → binds b old ≡ Some f → P f
+    bound None is q = was f q
+    bound (Some file) is q = new r f refl (is ∙ q)
+
+    by : (k : Call) → elim k [ call.Open other path ↦ if other == h then binds (opened r.asking) old else old | _ ↦ old ] ≡ Some f → P f
+    by (call.Open other path) q = cond_both (other == h) (binds (opened r.asking) old) old (λ v. v ≡ Some f → P f) (λ _. bound (opened r.asking) refl) (λ _. was f) q
+    by k q = was f q
+
+begun_bound : (P : HandleFile → Type 0) (h : ℕ) (k : Call) (old : Option HandleFile) → ((f : HandleFile) → old ≡ Some f → P f) → (f : HandleFile) → begun_file h k old ≡ Some f → P f
+begun_bound P h (call.Close other) old was f e = cond_both (other == h) None old (λ v. v ≡ Some f → P f) (λ _ q. absurd (cc)) (λ _. was f) e
+begun_bound P h k old was f e = was f e
+
+-- the file that a handle is bound to
+pub handle_layout : (head : Head) (past : List Line) → Grown head past → (c h : ℕ) (f : HandleFile) → file_at c h past ≡ Some f → OnTargets head.osts f.layout.targets
+handle_layout head [] g c h f e = absurd (cc)
+handle_layout head (l ∷ past) g c h f e = by l.entry e (handle_layout head past g.1 c h)
+  where
+    Fine : HandleFile → Type 0
+    Fine x = OnTargets head.osts x.layout.targets
+
+    by : (e : Entry) → file_at c h (line l.at e ∷ past) ≡ Some f → ((x : HandleFile) → file_at c h past ≡ Some x → Fine x) → Fine f
+    by (Begin slot running) q was = cond_both (is_client c l.at.node) (begun_file h running.call (file_at c h past)) (file_at c h past) (λ v. v ≡ Some f → Fine f) (λ _. begun_bound Fine h running.call (file_at c h past) was f) (λ _. was f) q
+    by (Told slot at given work) q was =
+        cond_both (is_client c l.at.node) (told_file h (call_at c slot past) (file_at c h past)) (file_at c h past) (λ v. v ≡ Some f → Fine f)
+        (λ _. told_bound Fine h (call_at c slot past) (file_at c h past) (λ r x is made. opened_layout head past g.1 c slot r x is made) was f) (λ _. was f) q
+    by (Life who) q was = cond_both (is_client c l.at.node) None (file_at c h past) (λ v. v ≡ Some f → Fine f) (λ _ q. absurd (cc)) (λ _. was f) q
+    by e q was = was f q
+
+begins_layout : (head : Head) (past : List Line) → Grown head past → (c : ℕ) (r : Running) (f : HandleFile) → Begins c past r → r.file ≡ Some f → OnTargets head.osts f.layout.targets
+begins_layout head past g c r f (inl b) e = by r.call (sym b.2 ∙ e)
+  where
+    by : (k : Call) → file_for c past k ≡ Some f → OnTargets head.osts f.layout.targets
+    by (call.Close h) q = handle_layout head past g c h f q
+    by (call.Flush h) q = handle_layout head past g c h f q
+    by (call.Glimpse h) q = handle_layout head past g c h f q
+    by k q = absurd (cc)
+begins_layout head past g c r f (inr b) e = absurd (let none = b.2 in cc)
+
+-- the file of a call that isn't told
+pub running_layout : (head : Head) (past : List Line) → Grown head past → (c slot : ℕ) (r : Running) (f : HandleFile) → call_at c slot past ≡ Some r → r.file ≡ Some f → OnTargets head.osts f.layout.targets
+running_layout head [] g c slot r f k e = absurd (cc)
+running_layout head (l ∷ past) g c slot r f k e =
+    ⊎_elim
+    (λ (p : call_at c slot past ≡ Some r). running_layout head past g.1 c slot r f p e)
+    (λ (p : Began past l.at l.entry c slot r ⊎ (Touched past l.at.node l.entry c slot r ⊎ Stood past l.at c slot r)). ⊎_elim
+    (λ (q : Began past l.at l.entry c slot r). begins_layout head past g.1 c r f q.begins e)
+    (⊎_elim
+    (λ (q : Touched past l.at.node l.entry c slot r). running_layout head past g.1 c slot q.before f q.call (q.file ∙ e))
+    (λ (q : Stood past l.at c slot r). running_layout head past g.1 c slot q.before f q.call (q.file ∙ e)))
+    p)
+    (call_cases past l.at.stamp l.at.node l.entry g.0.ok c slot r k)

@@ -1,0 +1,169 @@
+-- What an object storage target does: it tells how long objects are, each of which is empty. It makes no transaction, nothing is seen there,
+-- and it grants no lock. So of the sizes that a glimpse has so far each is 0.
+use Rattle.std.proofs.Common.{◌≡◌, ℕ, zero, suc, ◌<◌, List, [], ◌∷◌, ◌++◌, Some, inl, inr, ⊎_elim, refl, sym, subst, ap, ◌∙◌, arith}
+use Rattle.std.specs.Prelude.{if◌then◌else◌}
+use Rattle.std.proofs.lemmas.Bool.{cond_both, eqb-true}
+use Rattle.lu_base.specs.declared.ids.At.{At}
+use Rattle.lu_base.specs.declared.ids.Node.{Node}
+use Rattle.lu_base.specs.declared.ids.Node.TheVariants.{Client, Target}
+use Rattle.lu_base.specs.declared.locks.Lock.{Lock}
+use Rattle.lu_base.specs.declared.locks.Resource.{Resource}
+use Rattle.lu_msg.specs.declared.answers.Answer.TheVariants as told
+use Rattle.lu_msg.specs.declared.messages.Reply.{Reply as ReplyTo}
+use Rattle.lu_msg.specs.declared.operations.Op.{Op}
+use Rattle.lu_msg.specs.declared.operations.Op.TheVariants as op
+use Rattle.lu_machine.specs.Objects.{object_touches}
+use Rattle.lu_words.specs.Carried.{Deed, Glimpses, Plain, Bad, Sizes, Work, Running}
+use Rattle.lu_words.specs.Words.{Entry, Act, Txn as Made, Line, line}
+use Rattle.lu_words.specs.Concerns.{concerns, only}
+use Rattle.lu_covered.specs.Calls.{call_at, becomes}
+use Rattle.lu_covered.specs.Heads.{Head}
+use Rattle.lu_covered.specs.TargetStates.{Server, none, server_of, seen_in}
+use Rattle.lu_guards.proofs.Guards.{In, SizesSoFar}
+use Rattle.lu_guards.proofs.StoryGuards.{SizedOk, ActsOk}
+use Rattle.lu_guards.proofs.Acts.{acts_sized}
+use Rattle.lu_guards.proofs.Grown.{Allowed, Grown}
+use Rattle.lu_guards.proofs.Lists.{self}
+use Rattle.lu_facts.proofs.Groups.{turn, Acted, IsMade, AnswersFor}
+use Rattle.lu_facts.proofs.All.{holds}
+use Rattle.lu_facts.proofs.Calls.{Came, call_cases}
+use Rattle.lu_facts.proofs.Lines.{acted_whole}
+use Rattle.lu_facts.proofs.Sides.{acted_at, acted_only}
+use Rattle.lu_lawful.proofs.Story.{target_is, story_at, made_first}
+
+-- ---- a deed of an object storage target
+
+pub record SizedIs (d : Deed) : Type 0 where
+  pub number : d.reply.txn ≡ none
+  pub unseen : d.reply.seen ≡ []
+  pub bare : d.reply.locks ≡ []
+  pub empty : d.reply.answer ≡ told.Size 0
+  pub resource : Resource
+  pub of_op : d.op ≡ op.Size resource
+
+no_deeds : (ds : List Deed) → ((d : Deed) → In d ds → ⊥) → ds ≡ []
+no_deeds [] h = refl
+no_deeds (d ∷ ds) h = absurd (h d (inl refl))
+
+-- it makes no transaction
+pub none_made : (head : Head) (past : List Line) (t : ℕ) (d : Deed) → Grown head past → 0 < t → Acted (only t past) d → IsMade d → ⊥
+none_made head past t d g high a made =
+    let first = made_first head past d g (acted_whole t past d a) made in
+    let same : t ≡ 0 = target_is t 0 (sym (story_at head past t d g a) ∙ first) in
+    absurd (omega (arith, high, same))
+
+pub nothing_logged : (head : Head) (past : List Line) (t : ℕ) → Grown head past → 0 < t → (server_of head.osts (only t past)).log ≡ []
+nothing_logged head past t g high =
+    no_deeds (server_of head.osts (only t past)).log
+    (λ d i. let k = ((holds head past g).at t).history.log d i in none_made head past t d g high k.0 k.1)
+
+sized_is : (v : Server) (at : At) (d : Deed) (osts : ℕ) (past : List Line) (ok : SizedOk osts past at d) → v ≡ server_of osts past → v.log ≡ [] → SizedIs d
+sized_is v at d osts past ok same empty =
+    subst (λ (e : Deed). SizedIs e) (sym ok.is)
+    (record {
+      number = refl;
+      unseen = ap (λ (w : Server). seen_in (object_touches ok.request.op (told.Size 0)) w.log) (sym same) ∙ ap (λ (ds : List Deed). seen_in (object_touches ok.request.op (told.Size 0)) ds) empty;
+      bare = refl;
+      empty = refl;
+      resource = ok.resource;
+      of_op = ok.of_op;
+    })
+
+-- an act there
+pub act_sized : (head : Head) (past : List Line) (at : At) (t : ℕ) (d : Deed) → Grown head past → 0 < t → SizedOk head.osts (only t past) at d → SizedIs d
+act_sized head past at t d g high ok = sized_is (server_of head.osts (only t past)) at d head.osts (only t past) ok refl (nothing_logged head past t g high)
+
+pub sized_deed : (head : Head) (past : List Line) (t : ℕ) (d : Deed) → Grown head past → 0 < t → Acted (only t past) d → SizedIs d
+sized_deed head [] t d g high a = absurd a
+sized_deed head (l ∷ past) t d g high a = by l.at.node l.entry g.0 a (sized_deed head past t d g.1 high)
+  where
+    P : List Line
+    P = only t past
+
+    by : (node : Node) (e : Entry) → Allowed head past (turn l.at.stamp node) e → Acted (if concerns t node e then line (turn l.at.stamp node) e ∷ P else P) d → (Acted P d → SizedIs d) → SizedIs d
+    by (Client c) (Act e) k a h = absurd k.ok
+    by (Client c) (Made e) k a h = absurd k.ok
+    by (Target u) (Act e) k a h =
+        cond_both (concerns t (Target u) (Act e)) (line (turn l.at.stamp (Target u)) (Act e) ∷ P) P (λ (p : List Line). Acted p d → SizedIs d)
+        (λ own b. ⊎_elim
+        (λ (p : e ≡ d). subst SizedIs p (act_sized head past (turn l.at.stamp (Target u)) t e g.1 high (acts_sized head.osts P (turn l.at.stamp (Target u)) t e high (subst (λ (v : ℕ). Here v e) (sym (eqb-true t u own)) (k.of u (self u))))))
+        h
+        b)
+        (λ own b. h b)
+        a
+      where
+        Here : ℕ → Deed → Type 0
+        Here v e = ActsOk head.osts (only v past) (turn l.at.stamp (Target u)) v e
+    by (Target u) (Made e) k a h =
+        cond_both (concerns t (Target u) (Made e)) (line (turn l.at.stamp (Target u)) (Made e) ∷ P) P (λ (p : List Line). Acted p d → SizedIs d)
+        (λ own b. let zero : t ≡ 0 = eqb-true t u own ∙ k.ok in absurd (omega (arith, high, zero)))
+        (λ own b. h b)
+        a
+    by node e k a h = cond_both (concerns t node e) (line (turn l.at.stamp node) e ∷ P) P (λ (p : List Line). Acted p d → SizedIs d) (λ own b. h b) (λ own b. h b) a
+
+-- it grants no lock, so what gave one was done by the metadata target
+pub gave_first : (head : Head) (past : List Line) (d : Deed) (l : Lock) → Grown head past → Acted past d → In l d.reply.locks → d.reply.at.node ≡ Target 0
+gave_first head past d l g a i = by (acted_at head past d g a)
+  where
+    by : (t : ℕ) × (d.reply.at.node ≡ Target t) → d.reply.at.node ≡ Target 0
+    by (zero, at) = at
+    by (suc t, at) = absurd (subst (λ (ls : List Lock). In l ls) (sized_deed head past (suc t) d g (omega arith) (acted_only head past d (suc t) g a at)).bare i)
+
+pub gave_only : (head : Head) (past : List Line) (d : Deed) (l : Lock) → Grown head past → Acted past d → In l d.reply.locks → Acted (only 0 past) d
+gave_only head past d l g a i = acted_only head past d 0 g a (gave_first head past d l g a i)
+
+-- ---- which target answered
+
+-- a call on names was answered by the metadata target
+pub answers_first : (r : Running) (t : ℕ) (o : Op) → AnswersFor r t o → r.stage ≡ Plain → (t ≡ 0) × (becomes r ≡ Some o)
+answers_first r t o (inl p) plain = (p.1, p.2)
+answers_first r t o (inr p) plain = let sizing : Sizes p.0 ≡ Plain = sym p.1 ∙ plain in absurd (cc)
+
+-- ---- what a glimpse was told so far
+
+abbrev pub AllEmpty : List ℕ → Type 0
+AllEmpty [] = Unit {0}
+AllEmpty (n ∷ ns) = (n ≡ 0) × AllEmpty ns
+
+one_more : (ns : List ℕ) (n : ℕ) → AllEmpty ns → n ≡ 0 → AllEmpty (ns ++ n ∷ [])
+one_more [] n e z = (z, tt)
+one_more (m ∷ ns) n e z = (e.0, one_more ns n e.1 z)
+
+size_is : (m n : ℕ) → told.Size m ≡ told.Size n → m ≡ n
+size_is m n e = cc
+
+kind_is : (ms ns : List ℕ) → Glimpses ms ≡ Glimpses ns → ms ≡ ns
+kind_is ms ns e = cc
+
+stage_is : (v w : Work) → Sizes v ≡ Sizes w → v ≡ w
+stage_is v w e = cc
+
+-- each size that it has is that of an empty object
+abbrev EmptySoFar : Running → Type 0
+EmptySoFar r = (w : Work) (sizes : List ℕ) → r.stage ≡ Sizes w → w.kind ≡ Glimpses sizes → AllEmpty sizes
+
+-- and so it is with one more
+so_far_empty : (head : Head) (past : List Line) (at : At) (c slot : ℕ) (r : Running) (sizes : List ℕ) → Grown head past → call_at c slot past ≡ Some r → EmptySoFar r → SizesSoFar past at r sizes → AllEmpty sizes
+so_far_empty head past at c slot r sizes g is empty (inl p) = subst AllEmpty (sym p.3) tt
+so_far_empty head past at c slot r sizes g is empty (inr h) =
+    let replied = (holds head past g).replies c slot h.target r h.reply is h.answered in
+    let d = replied.deed in
+    let high : 0 < h.target = ⊎_elim (λ p. let plain : Plain ≡ Sizes h.work = sym p.0 ∙ h.stage in absurd (cc)) (λ p. p.2) replied.op in
+    let answered : told.Size h.size ≡ told.Size 0 = sym h.tells ∙ ap (λ (v : ReplyTo). v.answer) (sym replied.is) ∙ (sized_deed head past h.target d g high replied.acted).empty in
+    subst AllEmpty (sym h.more) (one_more h.before h.size (empty h.work h.before h.stage h.kind) (size_is h.size 0 answered))
+
+pub sizes_empty : (head : Head) (past : List Line) (c slot : ℕ) (r : Running) → Grown head past → call_at c slot past ≡ Some r → EmptySoFar r
+sizes_empty head [] c slot r g is = absurd (cc)
+sizes_empty head (l ∷ past) c slot r g is = by (λ q k. sizes_empty head past c slot q g.1 k) (call_cases past l.at.stamp l.at.node l.entry g.0.ok c slot r is)
+  where
+    by : ((q : Running) → call_at c slot past ≡ Some q → EmptySoFar q) → Came past l.at l.at.node l.entry c slot r → EmptySoFar r
+    by before (inl same) = before r same
+    by before (inr (inl began)) = λ w sizes stage kind. absurd (⊎_elim (λ p. let e : Plain ≡ Sizes w = sym p.1 ∙ stage in cc) (λ p. let e : Bad ≡ Sizes w = sym p.1 ∙ stage in cc) began.begins)
+    by before (inr (inr (inl touched))) = λ w sizes stage kind. before touched.before touched.call w sizes (touched.stage ∙ stage) kind
+    by before (inr (inr (inr stood))) = λ w sizes stage kind.
+        let ok = stood.stands in
+        let same : ok.work ≡ w = stage_is ok.work w (ap (λ (v : Running). v.stage) (sym ok.is) ∙ stage) in
+        subst AllEmpty (kind_is ok.sizes sizes (sym ok.kind ∙ ap (λ (v : Work). v.kind) same ∙ kind)) (so_far_empty head past l.at c slot ok.running ok.sizes g.1 ok.call (before ok.running ok.call) ok.so_far)
+
+pub told_empty : (head : Head) (past : List Line) (at : At) (c slot : ℕ) (r : Running) (sizes : List ℕ) → Grown head past → call_at c slot past ≡ Some r → SizesSoFar past at r sizes → AllEmpty sizes
+told_empty head past at c slot r sizes g is far = so_far_empty head past at c slot r sizes g is (sizes_empty head past c slot r g is) far
