@@ -1,0 +1,13 @@
+pub mod Lists
+pub mod Locks
+pub mod Kept
+pub mod Each
+pub mod Queues
+pub mod Glimpses
+pub mod Objects
+pub mod Requests
+pub mod Starts
+pub mod Reports
+pub mod Leaving
+pub mod Turns
+pub mod TurnReports
