@@ -2,8 +2,8 @@
 //! target that executes, is read, crashes and comes back without some of its transactions.
 //!
 //! A story is a list of entries, and each entry rests on the story before it (`specs/Guards`). What is proved here is so in
-//! every such story. Nothing here knows the product's messages, locks or rows: no run of the product's table is read as a
-//! story yet, so nothing is claimed of a trace.
+//! every such story. Nothing here knows the product's messages, locks or rows. `lu_object_runs` reads the product's runs as
+//! stories; that these are allowed is shown of worked runs alone, so nothing is claimed of a trace.
 #![tactic(auto)]
 
 pub mod theorems;

@@ -1,0 +1,17 @@
+pub mod Words
+pub mod WriteThenRead
+pub mod Glimpse
+pub mod ExpiredHolder
+pub mod StripedFile
+pub mod OldGrant
+pub mod Checks
+pub mod Beginnings
+pub mod RestoredLock
+pub mod LifeEnds
+pub mod Lives
+pub mod Lookups
+pub mod SawLost
+pub mod CutAndFlush
+pub mod ActsAnew
+pub mod KeptAnswer
+pub mod Neighbours
