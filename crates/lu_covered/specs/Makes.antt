@@ -1,5 +1,5 @@
 -- Which paths a call makes, and which of them may lead to a file; when a call that reads misses them: then it finds nothing, and is
--- granted no lock; and when it finds no file. An `open` or a `close` makes nothing and reads nothing: it is granted no lock.
+-- granted no lock; and when it finds no file. An `open` makes nothing and reads nothing, nor does a call on a handle: it is granted no lock.
 use Rattle.std.specs.Prelude.{◌≡◌, ◌≢◌, ℕ, List, [], ◌++◌}
 use Rattle.lu_msg.specs.declared.calls.Call.{Call}
 use Rattle.lu_msg.specs.declared.calls.Call.TheVariants as call

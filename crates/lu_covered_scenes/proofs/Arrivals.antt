@@ -56,7 +56,9 @@ use Rattle.lu_lawful.proofs.Files.{acted_told}
 use Rattle.lu_lawful.proofs.Layouts.{acted_layout}
 use Rattle.lu_lawful.proofs.OnNames.{IsOnNames, IsPlain, op_is}
 use Rattle.lu_lawful.proofs.Refused.{acted_answered}
-use Rattle.lu_lawful.proofs.Sides.{ActedKind, acted_kind, acted_sized, request_kind}
+use Rattle.lu_lawful.proofs.Sides.{ActedKind, acted_kind, acted_sized}
+use Rattle.lu_lawful.proofs.Story.{was_to}
+use Rattle.lu_lawful.proofs.Comings.{request_asked}
 use Rattle.lu_lawful.proofs.ClientLines.{IsSize, IsAskedOf}
 use Rattle.lu_lawful.proofs.Held.{none_restored}
 use Rattle.lu_covered_scenes.specs.Covered.{IsFile, IsCovered, AsksNoDisk}
@@ -114,30 +116,9 @@ was_goes head (l ∷ past) from to m g w = by l.entry g.0.ok w (λ v. was_goes h
         w
     by e ok w h = h w
 
--- a client sends to targets alone
-sent_to : (past : List Line) (at : At) (node : Node) (t : ℕ) (m : Message) → EntryOk past at node (Send (Target t) m) → (c : ℕ) × (node ≡ Client c)
-sent_to past at (Client c) t m ok = (c, refl)
-sent_to past at (Target u) t m ok = absurd ok
-
-by_client : (head : Head) (past : List Line) (t : ℕ) (from : Node) (m : Message) → Grown head past → Was past from (Target t) m → (c : ℕ) × (from ≡ Client c)
-by_client head [] t from m g w = absurd w
-by_client head (l ∷ past) t from m g w = by l.entry g.0.ok w (by_client head past t from m g.1)
-  where
-    by : (e : Entry) → EntryOk past l.at l.at.node e → Was (line l.at e ∷ past) from (Target t) m → (Was past from (Target t) m → (c : ℕ) × (from ≡ Client c)) → (c : ℕ) × (from ≡ Client c)
-    by (Send node k) ok w h = ⊎_elim
-        (λ (p : (l.at.node ≡ from) × (node ≡ Target t) × (k ≡ m)).
-        let one = sent_to past l.at l.at.node t k (subst (λ (v : Node). EntryOk past l.at l.at.node (Send v k)) p.1 ok) in
-        (one.0, sym p.0 ∙ one.1))
-        h
-        w
-    by e ok w h = h w
-
 -- what came to a target is in its story, and what a target sent is in its
 pub came : (head : Head) (past : List Line) (t : ℕ) (from : Node) (m : Message) → Grown head past → Was past from (Target t) m → Was (only t past) from (Target t) m
-came head past t from m g w =
-    let one = by_client head past t from m g w in
-    subst (λ (v : Node). Was (only t past) v (Target t) m) (sym one.1)
-    (was_only t past (Client one.0) (Target t) m (self t) (subst (λ (v : Node). Was past v (Target t) m) one.1 w))
+came head past t from m g w = was_to head past t from m g w
 
 told : (past : List Line) (t : ℕ) (to : Node) (m : Message) → Was past (Target t) to m → Was (only t past) (Target t) to m
 told past t to m w = was_only t past (Target t) to m (self t) w
@@ -434,7 +415,7 @@ module _ (scene : Scene) (covered : IsCovered scene) (head : Head) (osts : ℕ) 
           let mine = came head past t (Client c) (message.Request r) g w in
           let meant = (at_target t).done.sent (Client c) (Target t) (message.Request r) mine in
           let same : meant.0.op ≡ r.op = ap (λ (x : RequestOf). x.op) (sym meant.2) in
-          let kind : IsAskedOf t r.op = request_kind head past c t r g w in
+          let kind : IsAskedOf t r.op = request_asked head past c t r g w in
           record {
             served = (
               may kind,

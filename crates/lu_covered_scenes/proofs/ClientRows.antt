@@ -31,6 +31,7 @@ use Rattle.lu_held.specs.Locks.{name_of, is_free, named, matches, serves_use}
 use Rattle.lu_held.specs.Held.{is_held, put_in, in_order, serving}
 use Rattle.lu_held.specs.Names.{is_before}
 use Rattle.lu_machine.specs.Fits.{answer_fits}
+use Rattle.lu_machine.proofs.Footprints.{every_one}
 use Rattle.lu_part.specs.declared.parts.Part.{Part}
 use Rattle.lu_part.specs.declared.parts.Part.TheVariants as part
 use Rattle.lu_words.specs.Carried.{HandleFile, Queued, Flight, Kind, Glimpses, Work, Asking, Unasked, Asked, Answered, Stage, Plain, Bad, Flushing, Sizes, Running}
@@ -60,7 +61,7 @@ use Rattle.lu_covered.specs.Calls.{operation_of}
 use Rattle.lu_covered.specs.Covered.{IsOnSizes, OnObjects}
 use Rattle.lu_lawful.proofs.ClientLines.{IsNames, IsAskedOf, asked_simple, brings_its, heeds_nothing}
 use Rattle.lu_covered_scenes.specs.Covered as scenes
-use Rattle.lu_covered_scenes.proofs.Every.{Every, every_more, every_filter, every_all}
+use Rattle.lu_covered_scenes.proofs.Every.{Every, every_more, every_filter}
 use Rattle.lu_covered_scenes.proofs.Asking.{IsNode}
 use Rattle.lu_covered_scenes.proofs.Clients.{OnOsts, FileCalm, BoundCalm, AnswerCalm, AskingCalm, StageCalm, RunningCalm, CallCalm, StandsCalm, ImportsCalm, FactCalm, LockCalm, HeldCalm, Calm, LineCalm, AllCalm, follow_calm, on_calm}
 
@@ -230,12 +231,14 @@ module _ (P : Call → Type 0) (MayAsk : Type 0) (osts : ℕ) where
       subst (λ (o : Option HeldLock). All (glimpses_on (λ h. glimpses at slot left (sizes ++ size_under h.lock s ∷ []) r w s) (asks_size slot wanted left sizes r w) o)) (sym (no_serving wanted s.held on.0 held))
       ((record { stage = ((tt, on), is); asking = c.asking; file = c.file }, (tt, on)), (inr (on.0, tt), tt))
 
-  size_calm : (at : At) (slot : ℕ) (left : List Use) (sizes : List ℕ) (a : Answer) (r : Running) (w : Work) (s : Store) → AnswerCalm a → RunningCalm r → IsOnSizes r.call → OnObjects left → Every HeldCalm s.held → All (glimpse_hears at slot left sizes a r w s)
+  size_calm : (at : At) (slot : ℕ) (left : List Use) (sizes : List ℕ) (a : Answer) (r : Running) (w : Work) (s : Store) → AnswerCalm a → RunningCalm r → IsOnSizes r.call → OnObjects left → Every HeldCalm s.held
+      → All (glimpse_hears at slot left sizes a r w s)
   size_calm at slot (wanted ∷ left) sizes (told.Size size) r w s fine c is on held = glimpses_calm at slot left (sizes ++ size ∷ []) r w s c is on.1 held
   size_calm at slot left sizes told.Lock r w s fine c is on held = absurd fine
   size_calm at slot left sizes a r w s fine c is on held = tt
 
-  sizes_calm : (at : At) (slot : ℕ) (asking : Asking) (kind : Kind) (r : Running) (w : Work) (s : Store) → AskingCalm asking → RunningCalm r → IsOnSizes r.call → OnObjects w.left → Every HeldCalm s.held → All (sizes_heard at slot asking kind r w s)
+  sizes_calm : (at : At) (slot : ℕ) (asking : Asking) (kind : Kind) (r : Running) (w : Work) (s : Store) → AskingCalm asking → RunningCalm r → IsOnSizes r.call → OnObjects w.left → Every HeldCalm s.held
+      → All (sizes_heard at slot asking kind r w s)
   sizes_calm at slot (Answered t reply) (Glimpses sizes) r w s fine c is on held = size_calm at slot w.left sizes reply.answer r w s fine c is on held
   sizes_calm at slot asking kind r w s fine c is on held = tt
 
@@ -258,7 +261,8 @@ module _ (P : Call → Type 0) (MayAsk : Type 0) (osts : ℕ) where
   answers_calm at slot acted (told.FileStat fid mode links layout) c r k fine = absurd fine
   answers_calm at slot acted a c r k fine = tells_calm slot r acted a
 
-  plain_calm : (at : At) (slot : ℕ) (a : Asking) (r : Running) (k : Client) → ((o : Op) × (operation_of r.file r.call ≡ Some o)) ⊎ IsOnSizes r.call → RunningCalm r → AskingCalm a → Calm MayAsk osts k → All (goes_plain at slot a r k)
+  plain_calm : (at : At) (slot : ℕ) (a : Asking) (r : Running) (k : Client) → ((o : Op) × (operation_of r.file r.call ≡ Some o)) ⊎ IsOnSizes r.call → RunningCalm r → AskingCalm a → Calm MayAsk osts k
+      → All (goes_plain at slot a r k)
   plain_calm at slot Unasked r k (inl o) c fine h = starts_calm at slot r.call r k o.0 o.1 h
   plain_calm at slot Unasked r k (inr is) c fine h = begun_calm at slot r.call r k is is c h
   plain_calm at slot Asked r k is c fine h = tt
@@ -432,7 +436,7 @@ module _ (P : Call → Type 0) (MayAsk : Type 0) (osts : ℕ) where
   -- nothing is in flight at a target that isn't there
   flights_there : (n t u : ℕ) (imports : List Import) → n + t ≡ u → n + length imports ≤ osts + 1 → Every (λ (f : Flight). u ≤ osts) (import_of t imports).flights
   flights_there n t u [] e few = tt
-  flights_there n zero u (i ∷ imports) e few = every_all (λ (f : Flight). u ≤ osts) i.flights (λ f. omega (arith, e, few))
+  flights_there n zero u (i ∷ imports) e few = every_one (λ (f : Flight). u ≤ osts) i.flights (λ f. omega (arith, e, few))
   flights_there n (suc t) u (i ∷ imports) e few = flights_there (suc n) t u imports (omega (arith, e)) (omega (arith, few))
 
   where_calm : (who : Who) (boot t slot : ℕ) (calls : List (Option Running)) → Every CallCalm calls → All (on_calls (where_stage who boot t) slot calls)
@@ -453,8 +457,14 @@ module _ (P : Call → Type 0) (MayAsk : Type 0) (osts : ℕ) where
   ready_calm : (t boot committed : ℕ) (k : Client) (mine : Bool) → MayAsk → Calm MayAsk osts k → All (ready_heard t boot committed k mine)
   ready_calm t boot committed k false may h = tt
   ready_calm t boot committed k true may h =
-      let i = import_of t k.imports in
-      (may, (may, every_more (LineCalm P MayAsk osts) (resends k.who i.boot t i.flights) (on_calls (looks_stage t) 0 k.calls) (resends_calm k.who i.boot t i.flights (let few = h.targets in flights_there 0 t t k.imports (omega arith) (omega (arith, few)))) (looks_calm t 0 k.calls h.calls)))
+      let i = import_of t k.imports in (
+        may,
+        (
+          may,
+          every_more (LineCalm P MayAsk osts) (resends k.who i.boot t i.flights) (on_calls (looks_stage t) 0 k.calls)
+              (resends_calm k.who i.boot t i.flights (let few = h.targets in flights_there 0 t t k.imports (omega arith) (omega (arith, few)))) (looks_calm t 0 k.calls h.calls),
+        ),
+      )
 
   -- a target is up again: the life tells it what it has, or asks to be served; no call waits for a lock there
   forgets_calm : (t slot : ℕ) (calls : List (Option Running)) → Every CallCalm calls → All (on_calls (forgets_stage t) slot calls)
@@ -531,7 +541,8 @@ module _ (P : Call → Type 0) (MayAsk : Type 0) (osts : ℕ) where
   -- where the life isn't served it asks to be, or tells what it has
   tick_calm : (t : ℕ) (k : Client) (i : Import) (s : Standing) → t < osts + 1 → StandsCalm MayAsk s → Calm MayAsk osts k → All (ticks_at t k i s)
   tick_calm t k i Serving one stands h =
-      every_more (LineCalm P MayAsk osts) (resends k.who i.boot t i.flights) (on_calls (where_stage k.who i.boot t) 0 k.calls) (resends_calm k.who i.boot t i.flights (every_all (λ (f : Flight). t ≤ osts) i.flights (λ f. omega (arith, one)))) (where_calm k.who i.boot t 0 k.calls h.calls)
+      every_more (LineCalm P MayAsk osts) (resends k.who i.boot t i.flights) (on_calls (where_stage k.who i.boot t) 0 k.calls)
+      (resends_calm k.who i.boot t i.flights (every_one (λ (f : Flight). t ≤ osts) i.flights (λ f. omega (arith, one)))) (where_calm k.who i.boot t 0 k.calls h.calls)
   tick_calm t k i Joining one stands h = ((stands, omega (arith, one)), tt)
   tick_calm t k i Recovering one stands h = recovers_calm t k i stands (omega (arith, one))
 

@@ -4,7 +4,7 @@
 -- turn may ask a disk. Which lines keep that.
 use Rattle.std.proofs.Common.{◌≡◌, ℕ, zero, suc, ◌+◌, ◌<◌, ◌≤◌, true, false, List, [], ◌∷◌, length, map, Option, Some, None, ◌⊎◌, inl, inr, refl, sym, subst, ap}
 use Rattle.std.specs.Prelude.{nat_eq, not, if◌then◌else◌, slice_index}
-use Rattle.std.proofs.lemmas.Bool.{cond_both, eqb-true}
+use Rattle.std.proofs.lemmas.Bool.{cond_both}
 use Rattle.lu_base.specs.declared.ids.Node.{Node}
 use Rattle.lu_base.specs.declared.ids.Node.TheVariants.{Target}
 use Rattle.lu_base.specs.declared.locks.Lock.{Lock}
@@ -37,7 +37,7 @@ use Rattle.lu_client_rows.specs.Patches.{Patch}
 use Rattle.lu_client_rows.specs.States.{Client, after, turn, follow}
 use Rattle.lu_covered.specs.Calls.{operation_of}
 use Rattle.lu_covered.specs.Covered.{IsOnSizes, IsCoveredCall, IsCovered, IsSizing, IsWithoutWork}
-use Rattle.lu_lawful.proofs.ClientLines.{IsAskedOf}
+use Rattle.lu_lawful.proofs.ClientLines.{IsAskedOf, of_target}
 use Rattle.lu_lawful.proofs.Covers.{EntriesCovered}
 use Rattle.lu_covered_scenes.proofs.Every.{Every, every_more, every_filter, every_map, every_so}
 use Rattle.lu_covered_scenes.proofs.Asking.{Suits}
@@ -291,15 +291,11 @@ module _ (P : Call → Type 0) (MayAsk : Type 0) (osts : ℕ) where
   stands_calm Recovering may = may
   stands_calm Serving may = may
 
-  -- an entry says of which target it is
-  of_own : (t u : ℕ) (o : Op) → nat_eq t u ≡ true → IsAskedOf u o → IsAskedOf t o
-  of_own t u o own is = subst (λ (v : ℕ). IsAskedOf v o) (sym (eqb-true t u own)) is
-
   import_calm : (t : ℕ) (i : Import) (e : Entry) → is_about t e ≡ true → LineCalm P MayAsk osts e → ImportCalm MayAsk t i → ImportCalm MayAsk t (import_after i e)
   import_calm t i (Queues u q) own l c =
-      record { stands = c.stands; queue = every_more (λ (q : Queued). IsAskedOf t q.op) i.queue (q ∷ []) c.queue (of_own t u q.op own l, tt); flights = c.flights }
+      record { stands = c.stands; queue = every_more (λ (q : Queued). IsAskedOf t q.op) i.queue (q ∷ []) c.queue (of_target (λ (v : ℕ). IsAskedOf v q.op) t u own l, tt); flights = c.flights }
   import_calm t i (Flies u f) own l c =
-      record { stands = c.stands; queue = rest_calm t i.queue c.queue; flights = every_more (λ (f : Flight). IsAskedOf t f.op) i.flights (f ∷ []) c.flights (of_own t u f.op own l, tt) }
+      record { stands = c.stands; queue = rest_calm t i.queue c.queue; flights = every_more (λ (f : Flight). IsAskedOf t f.op) i.flights (f ∷ []) c.flights (of_target (λ (v : ℕ). IsAskedOf v f.op) t u own l, tt) }
   import_calm t i (Heard u f r) own l c =
       record { stands = c.stands; queue = c.queue; flights = every_filter (λ (f : Flight). IsAskedOf t f.op) (λ (g : Flight). not (nat_eq g.xid f.xid)) i.flights c.flights }
   import_calm t i (Life who) own l c = record { stands = l; queue = tt; flights = tt }

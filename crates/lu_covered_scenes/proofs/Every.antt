@@ -20,8 +20,3 @@ every_map P Q f (x ∷ xs) more a = (more x a.0, every_map P Q f xs more a.1)
 pub every_so : {A : Type 0} (P Q : A → Type 0) (xs : List A) → ((x : A) → P x → Q x) → Every P xs → Every Q xs
 every_so P Q [] more a = tt
 every_so P Q (x ∷ xs) more a = (more x a.0, every_so P Q xs more a.1)
-
--- of each, whatever is in it
-pub every_all : {A : Type 0} (P : A → Type 0) (xs : List A) → ((x : A) → P x) → Every P xs
-every_all P [] all = tt
-every_all P (x ∷ xs) all = (all x, every_all P xs all)

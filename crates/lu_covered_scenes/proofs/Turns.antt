@@ -321,7 +321,8 @@ module _ (scene : Scene) (covered : IsCovered scene) where
     heard = target.Comes n from m
 
     arrives : Arrives scene covered (covered_head head) head.osts (past_of c) (past_grown c s) s.suits s.begun t its m
-    arrives = target_served scene covered (covered_head head) head.osts (past_of c) (past_grown c s) s.suits s.begun t its refl (grants_none (covered_head head) (setting_of head t) head.clients (past_of c) (past_grown c s)) (lives_stay c s t) (boot_stays c s t) n from m sent
+    arrives = target_served scene covered (covered_head head) head.osts (past_of c) (past_grown c s) s.suits s.begun t its refl
+        (grants_none (covered_head head) (setting_of head t) head.clients (past_of c) (past_grown c s)) (lives_stay c s t) (boot_stays c s t) n from m sent
 
     served : AllServed ⊥ (MayAsk scene) head.clients (lines_at c (node.Target t) heard)
     served = comes_served (MayAsk scene) head.clients its (next_at c (node.Target t)) n from m (target_quiet c s t) arrives.served

@@ -88,7 +88,8 @@ queued_asked head (l ∷ past) g c q i = asked_more l past q.op (by l.at.node l.
         cond_both (nat_eq c d && nat_eq 0 v) (queue_at c 0 past ++ new ∷ []) (queue_at c 0 past) (λ (qs : List Queued). In q qs → AskedBy past q.op)
         (λ o i. ⊎_elim
         (λ (j : In q (queue_at c 0 past)). h j)
-        (λ (j : In q (new ∷ [])). ⊎_elim (λ (w : new ≡ q). subst (λ (x : Queued). AskedBy past x.op) w (asks d v new.op ok.running ok.slot ok.call (eqb-true 0 v (and_parts (nat_eq c d) (nat_eq 0 v) o).1) ok.asks)) (λ (w : ⊥). absurd w) j)
+        (λ (j : In q (new ∷ [])). ⊎_elim (λ (w : new ≡ q). subst (λ (x : Queued). AskedBy past x.op) w (asks d v new.op ok.running ok.slot ok.call (eqb-true 0 v (and_parts (nat_eq c d) (nat_eq 0 v) o).1)
+        ok.asks)) (λ (w : ⊥). absurd w) j)
         (in_append q (queue_at c 0 past) (new ∷ []) i))
         (λ o. h)
     by (Client d) (Flies v f) ok h =
@@ -109,7 +110,8 @@ flew_asked head (l ∷ past) who f g a =
     (λ o b. flew_asked head past who f g.1 b)
     a)
   where
-    by : (node : Node) (e : Entry) → Allowed head past (turn l.at.stamp node) e → concerns 0 node e ≡ true → Flew (line (turn l.at.stamp node) e ∷ only 0 past) who f → (Flew (only 0 past) who f → AskedBy past f.op) → AskedBy past f.op
+    by : (node : Node) (e : Entry) → Allowed head past (turn l.at.stamp node) e → concerns 0 node e ≡ true → Flew (line (turn l.at.stamp node) e ∷ only 0 past) who f
+        → (Flew (only 0 past) who f → AskedBy past f.op) → AskedBy past f.op
     by (Target u) (Flies t q) k o a h = absurd k.ok
     by (Client d) (Flies t q) k o a h = ⊎_elim
         (λ (p : (is_own who (only 0 past) (Client d) ≡ true) × (q ≡ f)).

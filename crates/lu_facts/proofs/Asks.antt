@@ -78,7 +78,8 @@ call_of_stays past stamp d e c t (Some slot) o f k = (k.0, call_stays past stamp
 
 -- ---- a call begins
 
-begin_call : (past : List Line) (stamp : Stamp) (d s : ℕ) (running : Running) → NotAsked past d s → (c t : ℕ) (served : Option ℕ) (o : Op) → CallOf past c t served o → CallOf (line (turn stamp (Client d)) (Begin s running) ∷ past) c t served o
+begin_call : (past : List Line) (stamp : Stamp) (d s : ℕ) (running : Running) → NotAsked past d s → (c t : ℕ) (served : Option ℕ) (o : Op) → CallOf past c t served o
+    → CallOf (line (turn stamp (Client d)) (Begin s running) ∷ past) c t served o
 begin_call past stamp d s running n c t served o =
     call_of_stays past stamp d (Begin s running) c t served o
     (λ slot r is k a e. cond_both (nat_eq s slot) (Some running) (call_at c slot past) (λ v. v ≡ call_at c slot past) (λ t. absurd (clear past d s c slot r n k a e (eqb-true s slot t))) (λ t. refl))
@@ -96,7 +97,8 @@ asks_begin past stamp d s running b n h =
 
 -- ---- a call stands further on: it waits for no answer
 
-stands_call : (past : List Line) (stamp : Stamp) (d s : ℕ) (running : Running) → NotAsked past d s → (c t : ℕ) (served : Option ℕ) (o : Op) → CallOf past c t served o → CallOf (line (turn stamp (Client d)) (Stands s running) ∷ past) c t served o
+stands_call : (past : List Line) (stamp : Stamp) (d s : ℕ) (running : Running) → NotAsked past d s → (c t : ℕ) (served : Option ℕ) (o : Op) → CallOf past c t served o
+    → CallOf (line (turn stamp (Client d)) (Stands s running) ∷ past) c t served o
 stands_call past stamp d s running n c t served o =
     call_of_stays past stamp d (Stands s running) c t served o
     (λ slot r is k a e. cond_both (nat_eq s slot) (Some running) (call_at c slot past) (λ v. v ≡ call_at c slot past) (λ t. absurd (clear past d s c slot r n k a e (eqb-true s slot t))) (λ t. refl))

@@ -235,7 +235,8 @@ keeps_disk head past stamp (Target t) (Act d) ok p h =
     let new : List Line = line (turn stamp (Target t)) (Act d) ∷ past in
     record {
       high = λ g a m s low out. ⊎_elim
-          (λ (q : d ≡ g). let none : d.reply.txn.0 ≡ 0 = ap (λ (v : Txn). v.0) (acted head.osts past (turn stamp (Target t)) t d ok).number in let same : d.reply.txn.0 ≡ g.reply.txn.0 = ap (λ (v : Deed). v.reply.txn.0) q in absurd (omega arith))
+          (λ (q : d ≡ g). let none : d.reply.txn.0 ≡ 0 = ap (λ (v : Txn). v.0) (acted head.osts past (turn stamp (Target t)) t d ok).number in let same : d.reply.txn.0 ≡ g.reply.txn.0 = ap
+          (λ (v : Deed). v.reply.txn.0) q in absurd (omega arith))
           (λ (b : Acted past g). h.disk.high g b m s low out)
           a;
       kept = λ who tag k e. stored_more head.osts past new (disk_of head.osts head.clients past).committed who tag k (λ g a. inr a) (λ g s. s) (λ r. r) (h.disk.kept who tag k e);

@@ -143,7 +143,8 @@ module _ (osts : ℕ) (t : Tree) (number : Txn) (who : Who) (Files : Path → Ty
 pub acted_told : (head : Head) (past : List Line) (Files : Path → Type 0) → Grown head past → ((path : Path) → File_in past path → Files path) → ((k : Call) → Began past k → StatsNoFile Files k)
     → (d : Deed) → Acted past d → IsPlain d.reply.answer
 acted_told head [] Files g are stats d a = absurd a
-acted_told head (l ∷ past) Files g are stats d a = by l.at.node l.entry g.0 a (λ x b at. acted_asked head (l ∷ past) x g (acted_only head (l ∷ past) x 0 g b at)) (acted_told head past Files g.1 (λ path m. are path (file_more l past path m)) (λ k b. stats k (began_more l past k b)) d)
+acted_told head (l ∷ past) Files g are stats d a = by l.at.node l.entry g.0 a (λ x b at. acted_asked head (l ∷ past) x g (acted_only head (l ∷ past) x 0 g b at))
+    (acted_told head past Files g.1 (λ path m. are path (file_more l past path m)) (λ k b. stats k (began_more l past k b)) d)
   where
     files : Filed Files (server_of head.osts (only 0 past)).tree
     files = subst (Filed Files) (tree_is head.osts 0 past) (λ path f led. are path (file_more l past path (filed head past g.1 path f led)))
@@ -166,7 +167,8 @@ acted_told head (l ∷ past) Files g are stats d a = by l.at.node l.entry g.0 a 
         act_plain (turn l.at.stamp (Target t)) x (subst (λ (v : ℕ). ActOk head.osts (only v past) (turn l.at.stamp (Target t)) x) a.0 a.1) (b (ap (λ (y : Deed). y.reply.at.node) a.1.is ∙ ap Target a.0))
     acts_plain t x (inr a) b = subst IsPlain (sym (sized_answer head.osts (only t past) (turn l.at.stamp (Target t)) x a.1)) tt
 
-    by : (node : Node) (e : Entry) → Allowed head past (turn l.at.stamp node) e → Acted (line l.at e ∷ past) d → ((x : Deed) → Acted (line l.at e ∷ past) x → x.reply.at.node ≡ Target 0 → AskedBy (l ∷ past) x.op) → (Acted past d → IsPlain d.reply.answer)
+    by : (node : Node) (e : Entry) → Allowed head past (turn l.at.stamp node) e → Acted (line l.at e ∷ past) d
+        → ((x : Deed) → Acted (line l.at e ∷ past) x → x.reply.at.node ≡ Target 0 → AskedBy (l ∷ past) x.op) → (Acted past d → IsPlain d.reply.answer)
         → IsPlain d.reply.answer
     by (Client c) (Act x) k a b h = absurd k.ok
     by (Client c) (Made x) k a b h = absurd k.ok

@@ -89,23 +89,23 @@ heard_answered head (l ∷ past) c f r g i = more (by l.at.node l.entry g.0 i (�
 
 -- ---- over all targets: where facts are from
 
-heard_more : (l : Line) (past : List Line) (c : ℕ) (f : Flight) (r : ReplyTo) → HeardBy past c f r → HeardBy (l ∷ past) c f r
-heard_more l past c f r i = by l.entry
+heard_by_more : (l : Line) (past : List Line) (c : ℕ) (f : Flight) (r : ReplyTo) → HeardBy past c f r → HeardBy (l ∷ past) c f r
+heard_by_more l past c f r i = by l.entry
   where
     by : (e : Entry) → HeardBy (line l.at e ∷ past) c f r
     by (Heard t g k) = inr i
     by _ = i
 
 -- in the story of a target
-heard_story : (t : ℕ) (l : Line) (past : List Line) (c : ℕ) (f : Flight) (r : ReplyTo) → HeardBy (only t past) c f r → HeardBy (only t (l ∷ past)) c f r
-heard_story t l past c f r i = cond_both (concerns t l.at.node l.entry) (l ∷ only t past) (only t past) (λ (p : List Line). HeardBy p c f r) (λ _. heard_more l (only t past) c f r i) (λ _. i)
+pub heard_by_story : (t : ℕ) (l : Line) (past : List Line) (c : ℕ) (f : Flight) (r : ReplyTo) → HeardBy (only t past) c f r → HeardBy (only t (l ∷ past)) c f r
+heard_by_story t l past c f r i = cond_both (concerns t l.at.node l.entry) (l ∷ only t past) (only t past) (λ (p : List Line). HeardBy p c f r) (λ _. heard_by_more l (only t past) c f r i) (λ _. i)
 
-heard_whole : (t : ℕ) (past : List Line) (c : ℕ) (f : Flight) (r : ReplyTo) → HeardBy (only t past) c f r → HeardBy past c f r
-heard_whole t [] c f r i = i
-heard_whole t (l ∷ past) c f r i =
+pub heard_by_whole : (t : ℕ) (past : List Line) (c : ℕ) (f : Flight) (r : ReplyTo) → HeardBy (only t past) c f r → HeardBy past c f r
+heard_by_whole t [] c f r i = i
+heard_by_whole t (l ∷ past) c f r i =
     cond_both (concerns t l.at.node l.entry) (l ∷ only t past) (only t past) (λ (p : List Line). HeardBy p c f r → HeardBy (l ∷ past) c f r)
-    (λ _ j. by l.entry j (λ k. heard_whole t past c f r k))
-    (λ _ j. heard_more l past c f r (heard_whole t past c f r j))
+    (λ _ j. by l.entry j (λ k. heard_by_whole t past c f r k))
+    (λ _ j. heard_by_more l past c f r (heard_by_whole t past c f r j))
     i
   where
     by : (e : Entry) → HeardBy (line l.at e ∷ only t past) c f r → (HeardBy (only t past) c f r → HeardBy past c f r) → HeardBy (line l.at e ∷ past) c f r
@@ -122,7 +122,7 @@ now_heard (l ∷ past) at t c f r h q = by l.entry h (λ k. now_heard past at t 
         let node : l.at.node ≡ Client c = ap (λ (v : At). v.node) h.0 ∙ q in
         subst (λ (b : Bool). HeardBy (if b then line l.at (Heard u g k) ∷ only t past else only t past) c f r)
         (sym (ap (λ (v : Node). concerns t v (Heard u g k)) node ∙ ap (nat_eq t) h.1 ∙ self t)) (inl (node, h.2, h.3))
-    by (Hold u lock marked size seen) h ih = heard_story t (line l.at (Hold u lock marked size seen)) past c f r (ih h)
+    by (Hold u lock marked size seen) h ih = heard_by_story t (line l.at (Hold u lock marked size seen)) past c f r (ih h)
     by _ h ih = absurd h
 
 -- a fact that a client knows was taught by a reply that it heard of the metadata target
@@ -134,7 +134,7 @@ facts_heard head [] c f g i = absurd i
 facts_heard head (l ∷ past) c f g i = more (by l.at.node l.entry g.0.ok i (λ j. facts_heard head past c f g.1 j))
   where
     more : Source past c f → Source (l ∷ past) c f
-    more s = record { flight = s.flight; reply = s.reply; heard = heard_story 0 l past c s.flight s.reply s.heard; fact = s.fact }
+    more s = record { flight = s.flight; reply = s.reply; heard = heard_by_story 0 l past c s.flight s.reply s.heard; fact = s.fact }
 
     kept : (t : ℕ) (lock : Lock) → In f (without_facts t lock (facts_at c past)) → In f (facts_at c past)
     kept zero lock j = (in_filter (λ (x : Fact). not (x.cookie.0 == lock.cookie.0)) f (facts_at c past) j).0
@@ -267,4 +267,11 @@ module _ (head : Head) (past : List Line) (g : Grown head past) (c : ℕ) (numbe
         by : {f : Fact} (s : Standing head past c f) → Apart e.writes p ⊎ ((e.reply.txn.0 ≤ (server_of head.osts (only 0 past)).committed.0) ⊎ In e.reply.txn.0 s.deed.reply.seen) → Apart e.writes p ⊎ ((e.reply.txn.0 ≤ (committed_at 0 past).0) ⊎ SawBy e.reply.txn.0)
         by s (inl q) = inl q
         by s (inr (inl le)) = inr (inl (subst (λ (m : TxnOf). e.reply.txn.0 ≤ m.0) (sym (committed_is head.osts 0 past)) le))
-        by s (inr (inr j)) = inr (inr (record { flight = s.source.flight; reply = s.source.reply; heard = heard_whole 0 past c s.source.flight s.source.reply s.source.heard; of = sym s.answered.who ∙ s.whose; seen = subst (λ (ns : List ℕ). In e.reply.txn.0 ns) (ap (λ (v : ReplyTo). v.seen) s.answered.is) j }))
+        by s (inr (inr j)) = inr (inr (record {
+          flight = s.source.flight;
+          reply = s.source.reply;
+          heard = heard_by_whole 0 past c s.source.flight s.source.reply s.source.heard;
+          of = sym s.answered.who
+              ∙ s.whose;
+          seen = subst (λ (ns : List ℕ). In e.reply.txn.0 ns) (ap (λ (v : ReplyTo). v.seen) s.answered.is) j;
+        }))

@@ -1,6 +1,6 @@
 -- Where files lie: each stripe of a file on one of the run's object storage targets. So it is of each layout in the tree, since a new file's
--- is so and no operation changes one; of each file that is told as open; and so of the file of a handle, and of a call on it.
-use Rattle.std.proofs.Common.{◌≡◌, ℕ, ℤ, zero, suc, ◌+◌, ◌%◌, ◌<◌, ◌≤◌, Bool, true, false, List, [], ◌∷◌, Option, Some, None, ◌⊎◌, inl, inr, ⊎_elim, refl, sym, subst, ap, ◌∙◌, arith}
+-- is so and no operation changes one; and so of each file that is told as open.
+use Rattle.std.proofs.Common.{◌≡◌, ℕ, ℤ, zero, suc, ◌+◌, ◌%◌, ◌<◌, ◌≤◌, Bool, true, false, List, [], ◌∷◌, Option, Some, None, inl, inr, refl, sym, subst, ap, ◌∙◌, arith}
 use Rattle.std.specs.Prelude.{nat_eq, length, map, slice_index, ◌==◌, if◌then◌else◌}
 use Rattle.std.specs.List.{range_with_len}
 use Rattle.std.proofs.lemmas.Bool.{cond_both}
@@ -12,13 +12,9 @@ use Rattle.lu_base.specs.declared.ids.Node.TheVariants.{Client, Target}
 use Rattle.lu_base.specs.declared.ids.Txn.{Txn as TxnOf}
 use Rattle.lu_base.specs.declared.ids.Who.{Who}
 use Rattle.lu_layout.specs.Raid0.{Raid0}
-use Rattle.lu_msg.specs.declared.answers.Answer.{Answer}
 use Rattle.lu_msg.specs.declared.answers.Answer.TheVariants as told
 use Rattle.lu_msg.specs.declared.answers.Errno.{Errno}
 use Rattle.lu_msg.specs.declared.answers.Errno.TheVariants.{EEXIST, EISDIR, EINVAL, EBUSY}
-use Rattle.lu_msg.specs.declared.calls.Call.{Call}
-use Rattle.lu_msg.specs.declared.calls.Call.TheVariants as call
-use Rattle.lu_msg.specs.declared.messages.Reply.{Reply as ReplyTo}
 use Rattle.lu_msg.specs.declared.operations.Op.{Op}
 use Rattle.lu_msg.specs.declared.operations.Op.TheVariants as op
 use Rattle.lu_part.specs.declared.parts.Part.TheVariants as part
@@ -36,22 +32,19 @@ use Rattle.lu_machine.specs.Fits.{answer_fits}
 use Rattle.lu_machine.proofs.Effects.{layout_after}
 use Rattle.lu_machine.proofs.Fits.{answers_fit}
 use Rattle.lu_machine.proofs.Walks.{there_ends, absent_ends, if_empty_ends, walk_ends, walk_up_ends, to_last_ends}
-use Rattle.lu_words.specs.Carried.{Deed, HandleFile, Asking, Answered, Running}
-use Rattle.lu_words.specs.Words.{Entry, Begin, Told, Life, Act, Txn as Made, Line, line, is_client}
+use Rattle.lu_words.specs.Carried.{Deed}
+use Rattle.lu_words.specs.Words.{Entry, Act, Txn as Made, Line, line}
 use Rattle.lu_words.specs.Concerns.{only}
-use Rattle.lu_covered.specs.Calls.{call_at, opened_by, opened, binds, told_file, begun_file, file_at, file_for}
+use Rattle.lu_covered.specs.Calls.{opened}
 use Rattle.lu_covered.specs.Deeds.{asked}
 use Rattle.lu_covered.specs.TargetStates.{none, next_number, server_of}
 use Rattle.lu_covered.specs.Heads.{Head}
-use Rattle.lu_guards.proofs.Guards.{Begins}
 use Rattle.lu_guards.proofs.StoryGuards.{ActOk, ActsOk, TxnOk}
 use Rattle.lu_guards.proofs.Acts.{sized_answer}
 use Rattle.lu_guards.proofs.Grown.{Allowed, Grown}
 use Rattle.lu_guards.proofs.Lists.{self}
 use Rattle.lu_facts.proofs.Groups.{turn, Acted, HoldsAt, items_of}
 use Rattle.lu_facts.proofs.All.{holds}
-use Rattle.lu_facts.proofs.Lines.{acted_whole}
-use Rattle.lu_facts.proofs.Calls.{Began, Touched, Stood, call_cases}
 use Rattle.lu_facts.proofs.OverItems.{over_now}
 use Rattle.lu_facts.proofs.OnNames.{IsOnNames, open_op}
 use Rattle.lu_facts.proofs.Sides.{acted_only}
@@ -279,77 +272,3 @@ acted_laid head (x ∷ past) d g a fid n l h = by x.at.node x.entry g.0 a (λ at
 pub acted_layout : (head : Head) (past : List Line) → Grown head past → (d : Deed) → Acted past d → (fid : Fid) (number : TxnOf) (l : Raid0) → d.reply.answer ≡ told.OpenFile fid number l
     → (stripe : ℕ) → stripe < length l.targets → 0 < slice_index l.targets stripe
 acted_layout head past g d a fid number l h stripe low = (on_target head.osts l.targets (acted_laid head past d g a fid number l h) stripe low).0
-
--- ---- handles and calls
-
-opened_file : (a : Answer) (f : HandleFile) → opened_by a ≡ Some f → a ≡ told.OpenFile f.fid f.number f.layout
-opened_file (told.OpenFile fid number l) f e = let same : record { fid = fid; number = number; layout = l } ≡ f = cc in ap (λ (v : HandleFile). told.OpenFile v.fid v.number v.layout) same
-opened_file a f e = absurd (cc)
-
--- the file that a call opened
-pub opened_layout : (head : Head) (past : List Line) → Grown head past → (c slot : ℕ) (r : Running) (f : HandleFile) → call_at c slot past ≡ Some r → opened r.asking ≡ Some f → OnTargets head.osts f.layout.targets
-opened_layout head past g c slot r f is e = by r.asking refl e
-  where
-    by : (a : Asking) → r.asking ≡ a → opened a ≡ Some f → OnTargets head.osts f.layout.targets
-    by (Answered t reply) asking e =
-        let k = (holds head past g).replies c slot t r reply is asking in
-        acted_laid head past k.deed g (acted_whole t past k.deed k.acted) f.fid f.number f.layout (ap (λ (v : ReplyTo). v.answer) k.is ∙ opened_file reply.answer f e)
-    by a asking e = absurd (cc)
-
--- a handle is bound to what a call opened, or as it was
-told_bound : (P : HandleFile → Type 0) (h : ℕ) (o : Option Running) (old : Option HandleFile) → ((r : Running) (f : HandleFile) → o ≡ Some r → opened r.asking ≡ Some f → P f)
-    → ((f : HandleFile) → old ≡ Some f → P f) → (f : HandleFile) → told_file h o old ≡ Some f → P f
-told_bound P h None old new was f e = was f e
-told_bound P h (Some r) old new was f e = by r.call e
-  where
-    bound : (b : Option HandleFile) → opened r.asking ≡ b → binds b old ≡ Some f → P f
-    bound None is q = was f q
-    bound (Some file) is q = new r f refl (is ∙ q)
-
-    by : (k : Call) → elim k [ call.Open other path ↦ if other == h then binds (opened r.asking) old else old | _ ↦ old ] ≡ Some f → P f
-    by (call.Open other path) q = cond_both (other == h) (binds (opened r.asking) old) old (λ v. v ≡ Some f → P f) (λ _. bound (opened r.asking) refl) (λ _. was f) q
-    by k q = was f q
-
-begun_bound : (P : HandleFile → Type 0) (h : ℕ) (k : Call) (old : Option HandleFile) → ((f : HandleFile) → old ≡ Some f → P f) → (f : HandleFile) → begun_file h k old ≡ Some f → P f
-begun_bound P h (call.Close other) old was f e = cond_both (other == h) None old (λ v. v ≡ Some f → P f) (λ _ q. absurd (cc)) (λ _. was f) e
-begun_bound P h k old was f e = was f e
-
--- the file that a handle is bound to
-pub handle_layout : (head : Head) (past : List Line) → Grown head past → (c h : ℕ) (f : HandleFile) → file_at c h past ≡ Some f → OnTargets head.osts f.layout.targets
-handle_layout head [] g c h f e = absurd (cc)
-handle_layout head (l ∷ past) g c h f e = by l.entry e (handle_layout head past g.1 c h)
-  where
-    Fine : HandleFile → Type 0
-    Fine x = OnTargets head.osts x.layout.targets
-
-    by : (e : Entry) → file_at c h (line l.at e ∷ past) ≡ Some f → ((x : HandleFile) → file_at c h past ≡ Some x → Fine x) → Fine f
-    by (Begin slot running) q was = cond_both (is_client c l.at.node) (begun_file h running.call (file_at c h past)) (file_at c h past) (λ v. v ≡ Some f → Fine f) (λ _. begun_bound Fine h running.call (file_at c h past) was f) (λ _. was f) q
-    by (Told slot at given work) q was =
-        cond_both (is_client c l.at.node) (told_file h (call_at c slot past) (file_at c h past)) (file_at c h past) (λ v. v ≡ Some f → Fine f)
-        (λ _. told_bound Fine h (call_at c slot past) (file_at c h past) (λ r x is made. opened_layout head past g.1 c slot r x is made) was f) (λ _. was f) q
-    by (Life who) q was = cond_both (is_client c l.at.node) None (file_at c h past) (λ v. v ≡ Some f → Fine f) (λ _ q. absurd (cc)) (λ _. was f) q
-    by e q was = was f q
-
-begins_layout : (head : Head) (past : List Line) → Grown head past → (c : ℕ) (r : Running) (f : HandleFile) → Begins c past r → r.file ≡ Some f → OnTargets head.osts f.layout.targets
-begins_layout head past g c r f (inl b) e = by r.call (sym b.2 ∙ e)
-  where
-    by : (k : Call) → file_for c past k ≡ Some f → OnTargets head.osts f.layout.targets
-    by (call.Close h) q = handle_layout head past g c h f q
-    by (call.Flush h) q = handle_layout head past g c h f q
-    by (call.Glimpse h) q = handle_layout head past g c h f q
-    by k q = absurd (cc)
-begins_layout head past g c r f (inr b) e = absurd (let none = b.2 in cc)
-
--- the file of a call that isn't told
-pub running_layout : (head : Head) (past : List Line) → Grown head past → (c slot : ℕ) (r : Running) (f : HandleFile) → call_at c slot past ≡ Some r → r.file ≡ Some f → OnTargets head.osts f.layout.targets
-running_layout head [] g c slot r f k e = absurd (cc)
-running_layout head (l ∷ past) g c slot r f k e =
-    ⊎_elim
-    (λ (p : call_at c slot past ≡ Some r). running_layout head past g.1 c slot r f p e)
-    (λ (p : Began past l.at l.entry c slot r ⊎ (Touched past l.at.node l.entry c slot r ⊎ Stood past l.at c slot r)). ⊎_elim
-    (λ (q : Began past l.at l.entry c slot r). begins_layout head past g.1 c r f q.begins e)
-    (⊎_elim
-    (λ (q : Touched past l.at.node l.entry c slot r). running_layout head past g.1 c slot q.before f q.call (q.file ∙ e))
-    (λ (q : Stood past l.at c slot r). running_layout head past g.1 c slot q.before f q.call (q.file ∙ e)))
-    p)
-    (call_cases past l.at.stamp l.at.node l.entry g.0.ok c slot r k)

@@ -64,7 +64,7 @@ acted_whole t (l ∷ past) d a =
 
 -- ---- what was heard
 
-hears_more : (l : Line) (past : List Line) (who : Who) (x : ℕ) → Hears past who x → Hears (l ∷ past) who x
+pub hears_more : (l : Line) (past : List Line) (who : Who) (x : ℕ) → Hears past who x → Hears (l ∷ past) who x
 hears_more l past who x a = by l.entry
   where
     by : (e : Entry) → Hears (line l.at e ∷ past) who x

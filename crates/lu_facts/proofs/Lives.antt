@@ -70,7 +70,8 @@ interrupted_joins s n e = absurd (cc)
 
 -- ---- one more request in flight
 
-lives_flies : (head : Head) (past : List Line) (stamp : Stamp) (c t : ℕ) (f : Flight) → FliesOk head past c t f → c < head.clients → Phase head.osts past → Lives head.clients past → Lives head.clients (line (turn stamp (Client c)) (Flies t f) ∷ past)
+lives_flies : (head : Head) (past : List Line) (stamp : Stamp) (c t : ℕ) (f : Flight) → FliesOk head past c t f → c < head.clients → Phase head.osts past → Lives head.clients past
+    → Lives head.clients (line (turn stamp (Client c)) (Flies t f) ∷ past)
 lives_flies head past stamp c t f ok lt p h =
     record {
       knows = h.knows;

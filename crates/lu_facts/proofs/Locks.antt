@@ -126,7 +126,8 @@ keeps_locks head past stamp (Client c) (Marks name) ok first placed h = locks_ma
 keeps_locks head past stamp (Client c) (Unmarks t) ok first placed h = locks_unmarks head.osts head.clients past stamp c h.locks t
 keeps_locks head past stamp (Client c) (Knows t boot) ok first placed h = locks_knows head.osts head.clients past stamp c t boot ok h.locks
 keeps_locks head past stamp (Client c) (Life who) ok first placed h = locks_life head.osts head.clients past stamp c who ok h.locks
-keeps_locks head past stamp (Target t) (Act d) ok first placed h = locks_act head past stamp t d placed.shows (act_gives head.osts past (turn stamp (Target t)) t d ok h.locks.greatest.1) (acted head.osts past (turn stamp (Target t)) t d ok).serves h.locks
+keeps_locks head past stamp (Target t) (Act d) ok first placed h = locks_act head past stamp t d placed.shows (act_gives head.osts past (turn stamp (Target t)) t d ok h.locks.greatest.1)
+    (acted head.osts past (turn stamp (Target t)) t d ok).serves h.locks
 keeps_locks head past stamp (Target t) (Made d) ok first placed h = locks_txn head past stamp t d placed.shows ok h.locks
 keeps_locks head past stamp (Target t) (Release lock) ok first placed h =
     ⊎_elim (λ (b : BackOk head.osts past t lock). locks_back head past stamp t lock placed.shows b h.phase h.locks) (λ (b : LeftOk head.osts past lock). locks_left head past stamp t lock placed.shows b h.locks) ok.1

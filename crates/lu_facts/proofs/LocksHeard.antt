@@ -153,7 +153,8 @@ module _ (head : Head) (past : List Line) (stamp : Stamp) (c t : ℕ) (f : Fligh
 
   held_now : (d : ℕ) (g : HeldLock) → In g (held_at d hearing) → In g (held_at d past) ⊎ ((d ≡ c) × ((l : Lock) × In l (brought f.op r) × (held_as t l false ≡ g)))
   held_now d g =
-      cond_both (nat_eq d c) (with_brought t (brought f.op r) (held_at d past)) (held_at d past) (λ (hs : List HeldLock). In g hs → In g (held_at d past) ⊎ ((d ≡ c) × ((l : Lock) × In l (brought f.op r) × (held_as t l false ≡ g))))
+      cond_both (nat_eq d c) (with_brought t (brought f.op r) (held_at d past)) (held_at d past) (λ (hs : List HeldLock). In g hs → In g (held_at d past)
+      ⊎ ((d ≡ c) × ((l : Lock) × In l (brought f.op r) × (held_as t l false ≡ g))))
       (λ q i. ⊎_elim
       (λ (j : In g (held_at d past)). inl j)
       (λ (j : (l : Lock) × In l (brought f.op r) × (held_as t l false ≡ g)). inr (eqb-true d c q, j))
@@ -208,7 +209,8 @@ module _ (head : Head) (past : List Line) (stamp : Stamp) (c t : ℕ) (f : Fligh
         granted = all.locks.granted;
         held = λ d g i. ⊎_elim
             (λ (j : In g (held_at d past)). let o = all.locks.held d g j in record { target = o.target; deed = o.deed; gave = o.gave; who = o.who; heard = inr o.heard; granted = o.granted })
-            (λ (j : (d ≡ c) × ((l : Lock) × In l (brought f.op r) × (held_as t l false ≡ g))). subst (λ (v : HeldLock). Holding head.osts hearing d v) j.1.2 (subst (λ v. Holding head.osts hearing v (held_as t j.1.0 false)) (sym j.0) (holding_new j.1.0 j.1.1)))
+            (λ (j : (d ≡ c) × ((l : Lock) × In l (brought f.op r) × (held_as t l false ≡ g))). subst (λ (v : HeldLock). Holding head.osts hearing d v) j.1.2
+            (subst (λ v. Holding head.osts hearing v (held_as t j.1.0 false)) (sym j.0) (holding_new j.1.0 j.1.1)))
             (held_now d g i);
         alive = λ d l g. one_of_four
             (λ (i : In l (server_of head.osts past).granted). inl i)

@@ -1,5 +1,5 @@
 -- What a life that recovers told is what it has, as long as the target recovers: a client that knows the present boot hears nothing of it.
-use Rattle.std.proofs.Common.{◌≡◌, ℕ, ◌<◌, ◌≤◌, Bool, true, false, List, [], ◌∷◌, inl, refl, sym, subst, ap, ◌∙◌, arith}
+use Rattle.std.proofs.Common.{◌≡◌, ℕ, ◌<◌, ◌≤◌, Bool, true, false, List, [], refl, sym, subst, ap, ◌∙◌, arith}
 use Rattle.std.specs.Prelude.{length}
 use Rattle.std.proofs.lemmas.Bool.{eqb-false}
 use Rattle.lu_base.specs.declared.ids.At.{At}
@@ -23,7 +23,7 @@ use Rattle.lu_covered.specs.Heads.{Head}
 use Rattle.lu_guards.proofs.CloseLists.{OneEach}
 use Rattle.lu_guards.proofs.Guards.{In, Was, HeardNow}
 use Rattle.lu_guards.proofs.StoryGuards.{IsRecovering, SendOf, locks_told}
-use Rattle.lu_guards.proofs.Lists.{own_is}
+use Rattle.lu_guards.proofs.Lists.{own_is, empty_list}
 use Rattle.lu_facts.proofs.Groups.{Flew, HeardAs, Acted, HasSlot, Phase, Lives, boot_told, who_told, ReplayedRise, BroughtRise, Replays, Relocks, Worded, NothingOf, ToldIn, Recovers, HoldsAt}
 use Rattle.lu_facts.proofs.Keeps.{heard_flew}
 
@@ -144,10 +144,6 @@ module _ (osts clients : ℕ) (past new : List Line) (s : Leaves osts clients pa
       }
 
 -- ---- what a life sends is what it has
-
-empty_list : {A : Type 0} (xs : List A) → ((x : A) → In x xs → ⊥) → xs ≡ []
-empty_list [] none = refl
-empty_list (x ∷ xs) none = absurd (none x (inl refl))
 
 -- a life that joins has heard nothing, and holds nothing
 pub joins_heard : (head : Head) (past : List Line) → HoldsAt head past → (c : ℕ) → standing_of c past ≡ Joining → (f : Flight) (r : ReplyTo) → HeardAs past (life_of c past) f r → ⊥

@@ -57,7 +57,8 @@ neither (op.Size resource) n s = n
 neither o n s = s
 
 -- what a call asked, that waits for the answer
-call_op : (head : Head) (past : List Line) (c t slot : ℕ) (f : Flight) (r : Running) → Grown head past → In f (flights_at c t past) → CallOf past c t f.slot f.op → f.slot ≡ Some slot → call_at c slot past ≡ Some r → AnswersFor r t f.op
+call_op : (head : Head) (past : List Line) (c t slot : ℕ) (f : Flight) (r : Running) → Grown head past → In f (flights_at c t past) → CallOf past c t f.slot f.op → f.slot ≡ Some slot
+    → call_at c slot past ≡ Some r → AnswersFor r t f.op
 call_op head past c t slot f r g i k s w =
     let q = subst (λ (v : Option ℕ). CallOf past c t v f.op) s k in
     let x : Some q.0 ≡ Some r = sym q.1 ∙ w in
@@ -87,7 +88,8 @@ heard_replied head past d u slot f k before g lives ok at asks since s call =
       acted = m.acted;
       is = sym m.is;
       client = ok.who ∙ sym (life_is_of d u past);
-      op = subst (λ (v : Op). AnswersFor before u v) (flew_op head (only u past) (life_of d (only u past)) f m.deed at ok.flying m.acted mine x) (call_op head past d u slot f before g flying (asks.fly_calls d u f lives flying) s call);
+      op = subst (λ (v : Op). AnswersFor before u v) (flew_op head (only u past) (life_of d (only u past)) f m.deed at ok.flying m.acted mine x)
+          (call_op head past d u slot f before g flying (asks.fly_calls d u f lives flying) s call);
       since = subst (λ (v : ReplyTo). Upto before.at v.at) (sym m.is) (since d u slot f before m.deed flying s call m.acted (mine ∙ sym (life_is_of d u past)) x);
     }
 
@@ -108,7 +110,8 @@ answers_as q r t s i n o (inl a) = inl (sym n ∙ a.0, a.1, ap (λ (v : Call). o
 answers_as q r t s i n o (inr a) = inr (a.0, sym n ∙ a.1, a.2, a.3)
 
 -- a glimpse that was answered goes on
-answers_on : (past : List Line) (at : At) (q r : Running) (sizes : List ℕ) (w : Work) (t : ℕ) (k : ReplyTo) → SizesSoFar past at q sizes → q.asking ≡ Answered t k → r.stage ≡ Sizes w → (o : Op) → AnswersFor q t o → AnswersFor r t o
+answers_on : (past : List Line) (at : At) (q r : Running) (sizes : List ℕ) (w : Work) (t : ℕ) (k : ReplyTo) → SizesSoFar past at q sizes → q.asking ≡ Answered t k → r.stage ≡ Sizes w → (o : Op)
+    → AnswersFor q t o → AnswersFor r t o
 answers_on past at q r sizes w t k (inl new) a is o asked = absurd (let b = new.1 in cc)
 answers_on past at q r sizes w t k (inr heard) a is o (inl asked) = absurd (let b = heard.stage in let plain = asked.0 in cc)
 answers_on past at q r sizes w t k (inr heard) a is o (inr asked) = inr (w, is, asked.2, asked.3)

@@ -11,8 +11,6 @@ use Rattle.lu_base.specs.declared.ids.Who.{Who}
 use Rattle.lu_base.specs.declared.locks.Resource.{Resource}
 use Rattle.lu_msg.specs.declared.answers.Answer.TheVariants as told
 use Rattle.lu_msg.specs.declared.messages.Message.{Message}
-use Rattle.lu_msg.specs.declared.messages.Message.TheVariants as message
-use Rattle.lu_msg.specs.declared.messages.Request.{Request as RequestOf}
 use Rattle.lu_msg.specs.declared.operations.Op.TheVariants as op
 use Rattle.lu_words.specs.Carried.{Deed, Queued, Flight}
 use Rattle.lu_words.specs.Words.{Entry, Send, Flies, Act, Txn as Made, Line, line}
@@ -27,7 +25,6 @@ use Rattle.lu_guards.proofs.Lists.{self}
 use Rattle.lu_guards.proofs.Only.{was_only}
 use Rattle.lu_guards.proofs.Parts.{queue_now}
 use Rattle.lu_guards.proofs.ClientLines.{IsNames, IsAskedOf, queue_asked}
-use Rattle.lu_guards.proofs.Comings.{request_asked}
 use Rattle.lu_facts.proofs.Groups.{turn, Flew, Acted}
 use Rattle.lu_facts.proofs.Lines.{DoneBy, acted_line, acted_here, only_more, done_here}
 use Rattle.lu_facts.proofs.All.{holds}
@@ -64,7 +61,8 @@ flew_kind head (l ∷ past) t who f g a =
     (λ o b. flew_kind head past t who f g.1 b)
     a
   where
-    by : (node : Node) (e : Entry) → Allowed head past (turn l.at.stamp node) e → concerns t node e ≡ true → Flew (line (turn l.at.stamp node) e ∷ only t past) who f → (Flew (only t past) who f → IsAskedOf t f.op) → IsAskedOf t f.op
+    by : (node : Node) (e : Entry) → Allowed head past (turn l.at.stamp node) e → concerns t node e ≡ true → Flew (line (turn l.at.stamp node) e ∷ only t past) who f
+        → (Flew (only t past) who f → IsAskedOf t f.op) → IsAskedOf t f.op
     by (Target u) (Flies v q) k o b h = absurd k.ok
     by (Client d) (Flies v q) k o b h =
         ⊎_elim
@@ -84,7 +82,6 @@ pub record ToldSize (d : Deed) : Type 0 where
   pub answer : d.reply.answer ≡ told.Size 0
   pub locks : d.reply.locks ≡ []
   pub number : d.reply.txn ≡ none
-  pub writes : d.writes ≡ []
 
 told_size : (osts : ℕ) (past : List Line) (at : At) (t : ℕ) (d : Deed) → 0 < t → ActsOk osts past at t d → ToldSize d
 told_size osts past at t d high (inl a) = absurd (let zero = a.0 in omega (arith, high, zero))
@@ -96,7 +93,6 @@ told_size osts past at t d high (inr a) =
       answer = ap (λ (v : Deed). v.reply.answer) ok.is;
       locks = ap (λ (v : Deed). v.reply.locks) ok.is;
       number = ap (λ (v : Deed). v.reply.txn) ok.is;
-      writes = ap (λ (v : Deed). v.writes) ok.is;
     }
 
 pub acted_sized : (head : Head) (past : List Line) (t : ℕ) (d : Deed) → 0 < t → Grown head past → Acted (only t past) d → ToldSize d
@@ -129,10 +125,6 @@ acted_kind head past t d g a =
     by : IsAskedOf t d.op → ActedKind t d
     by (inl k) = inl k
     by (inr k) = inr (k.0, acted_sized head past t d k.0 g a)
-
--- a request may be asked of the target that it is sent to
-pub request_kind : (head : Head) (past : List Line) (c t : ℕ) (r : RequestOf) → Grown head past → Was past (Client c) (Target t) (message.Request r) → IsAskedOf t r.op
-request_kind head past c t r g w = request_asked head past c t r g w
 
 -- ---- what was sent
 

@@ -87,7 +87,8 @@ opened_number head (l ∷ past) d f n layout g a h = by l.at.node l.entry g.0 a 
     acts t (inl a) is = act (turn l.at.stamp (Target t)) t a.1 (is (ap (λ (y : Deed). y.reply.at.node) a.1.is ∙ ap Target a.0))
     acts t (inr a) is = absurd (let size = sized_answer head.osts (only t past) (turn l.at.stamp (Target t)) d a.1 in cc)
 
-    by : (node : Node) (e : Entry) → Allowed head past (turn l.at.stamp node) e → Acted (line (turn l.at.stamp node) e ∷ past) d → (d.reply.at.node ≡ Target 0 → IsOnNames d.op) → (Acted past d → d.reply.answer ≡ told.OpenFile f n layout → (n ≡ d.reply.txn) × (1 ≤ d.reply.txn.0))
+    by : (node : Node) (e : Entry) → Allowed head past (turn l.at.stamp node) e → Acted (line (turn l.at.stamp node) e ∷ past) d → (d.reply.at.node ≡ Target 0 → IsOnNames d.op)
+        → (Acted past d → d.reply.answer ≡ told.OpenFile f n layout → (n ≡ d.reply.txn) × (1 ≤ d.reply.txn.0))
         → (n ≡ d.reply.txn) × (1 ≤ d.reply.txn.0)
     by (Client c) (Act x) k a is ih = absurd k.ok
     by (Client c) (Made x) k a is ih = absurd k.ok

@@ -71,7 +71,8 @@ gives_none head (l ∷ past) g m d a = by l.at.node l.entry g.0 (λ x b at. acte
         act_none head past l g.1 m (turn l.at.stamp (Target u)) x (subst (λ (v : ℕ). ActOk head.osts (only v past) (turn l.at.stamp (Target u)) x) a.0 a.1) (asks (ap (λ (y : Deed). y.reply.at.node) a.1.is ∙ ap Target a.0))
     acts u x (inr a) asks = sized_bare head.osts (only u past) (turn l.at.stamp (Target u)) x a.1
 
-    by : (node : Node) (e : Entry) → Allowed head past (turn l.at.stamp node) e → ((x : Deed) → Acted (line l.at e ∷ past) x → x.reply.at.node ≡ Target 0 → AskedBy (line l.at e ∷ past) x.op) → Acted (line l.at e ∷ past) d → (Acted past d → d.reply.locks ≡ [])
+    by : (node : Node) (e : Entry) → Allowed head past (turn l.at.stamp node) e → ((x : Deed) → Acted (line l.at e ∷ past) x → x.reply.at.node ≡ Target 0 → AskedBy (line l.at e ∷ past) x.op)
+        → Acted (line l.at e ∷ past) d → (Acted past d → d.reply.locks ≡ [])
         → d.reply.locks ≡ []
     by (Target u) (Act x) k asks (inl q) more = ap (λ (y : Deed). y.reply.locks) (sym q) ∙ acts u x (k.of u (self u)) (asks x (inl refl))
     by (Target u) (Act x) k asks (inr b) more = more b

@@ -91,6 +91,3 @@ sized_answer osts past at d ok = ap (λ (e : Deed). e.reply.answer) ok.is
 
 pub sized_bare : (osts : ℕ) (past : List Line) (at : At) (d : Deed) → SizedOk osts past at d → d.reply.locks ≡ []
 sized_bare osts past at d ok = ap (λ (e : Deed). e.reply.locks) ok.is
-
-pub sized_writes : (osts : ℕ) (past : List Line) (at : At) (d : Deed) → SizedOk osts past at d → d.writes ≡ []
-sized_writes osts past at d ok = ap (λ (e : Deed). e.writes) ok.is

@@ -133,7 +133,8 @@ module _ (head : table.Head) (c : ℕ) (stamp : Stamp) where
       by true q = absurd (n (sym (eqb-true slot u q)))
       by false q = call_line head c stamp u p (Begin slot r) ∙ rw q refl
 
-  begin_good : (p : List Line) (slot : ℕ) (r : Running) → Starts head c stamp p → slot < 4 → IsCall r.call → call_at c slot p ≡ None → r ≡ begun at r.call r.file r.stage → guards.Begins c p r → IsCoveredCall r → Good head c at (line at (Begin slot r) ∷ p)
+  begin_good : (p : List Line) (slot : ℕ) (r : Running) → Starts head c stamp p → slot < 4 → IsCall r.call → call_at c slot p ≡ None → r ≡ begun at r.call r.file r.stage → guards.Begins c p r → IsCoveredCall r
+      → Good head c at (line at (Begin slot r) ∷ p)
   begin_good p slot r s small limits empty is begins covered =
       adds head c stamp p (Begin slot r) (starts_good head c stamp p s) (owes_nothing p at (Begin slot r) s.settled)
       (record { later = s.later; small = small; free = empty; is = is; limits = limits; begins = begins; calm = s.between.calm; ready = s.ready }) (λ t q. tt)

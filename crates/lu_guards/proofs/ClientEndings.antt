@@ -226,7 +226,14 @@ module _ (head : table.Head) (c : ℕ) (stamp : Stamp) where
       still : Still head c stamp (next_life who) p1 p1
       still =
           record {
-            rested = record { good = good; settled = tt; idle = λ slot. subst (Idle (calls_at c p1)) (sym (b.none slot)) tt; handles = new_tied c stamp p (next_life who); free = λ x i. absurd (subst (λ (hs : List HeldLock). In x hs) b.empty i) };
+            rested = record {
+              good = good;
+              settled = tt;
+              idle = λ slot. subst (Idle (calls_at c p1)) (sym (b.none slot)) tt;
+              handles = new_tied c stamp p (next_life who);
+              free = λ x i. absurd
+                  (subst (λ (hs : List HeldLock). In x hs) b.empty i);
+            };
             life = ap (λ (own : Bool). if own then next_life who else life_at c p) (self c);
             known = λ t. refl;
             standing = λ t. refl;

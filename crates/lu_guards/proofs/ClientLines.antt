@@ -199,7 +199,7 @@ in_rest q [] i = i
 in_rest q (x ∷ qs) i = inr i
 
 -- the entry says of which target it is
-of_target : (P : ℕ → Type 0) (t u : ℕ) → nat_eq t u ≡ true → P u → P t
+pub of_target : (P : ℕ → Type 0) (t u : ℕ) → nat_eq t u ≡ true → P u → P t
 of_target P t u e p = subst P (sym (eqb-true t u e)) p
 
 queues_asked : (past : List Line) (c u : ℕ) (q : Queued) → QueuesOk past c u q → IsAskedOf u q.op
@@ -393,7 +393,8 @@ kept_bare head t who tag (l ∷ past) low g = about (concerns t l.at.node l.entr
     by (Target u) (Enters r) high ok f = chosen (is_slot_of who tag r.who r.tag) (entered r) (λ k e. absurd (cc)) f
     by (Target u) (Act d) high ok f = chosen (is_slot_of who tag d.reply.who d.tag) (answered d S) (λ k e. subst IsBare (some_is d.reply k e) (acted u d (high u refl) ok)) f
     by (Target u) (Txn d) high ok f = chosen (is_slot_of who tag d.reply.who d.tag) (answered d S) (λ k e. subst IsBare (some_is d.reply k e) (subst (λ (x : Deed). IsBare x.reply) (sym ok.is) refl)) f
-    by (Target u) (Close o) high ok f = λ k e. bare_in (outcome_of head.osts head.clients l.at story).disk.slots who tag k (bare_outcome head l.at story (grown_of head t past g.1)) (ap (λ (x : Outcome). (slot_in x.disk.slots who tag).reply) (sym ok.is) ∙ e)
+    by (Target u) (Close o) high ok f = λ k e. bare_in (outcome_of head.osts head.clients l.at story).disk.slots who tag k (bare_outcome head l.at story (grown_of head t past g.1))
+        (ap (λ (x : Outcome). (slot_in x.disk.slots who tag).reply) (sym ok.is) ∙ e)
     by (Client c) e high ok f = f
     by (Target u) e high ok f = f
 
@@ -410,7 +411,8 @@ pub reply_bare : (head : Head) (t c : ℕ) (r : ReplyTo) (past : List Line) → 
 reply_bare head t c r [] low g w = absurd w
 reply_bare head t c r (l ∷ past) low g w = by l.entry w g.0.of (λ v. reply_bare head t c r past low g.1 v)
   where
-    by : (e : Entry) → Was (line l.at e ∷ past) (Target t) (Client c) (message.Reply r) → ((u : ℕ) → concerns u l.at.node e ≡ true → EntryOf head (only u past) l.at l.at.node e) → (Was past (Target t) (Client c) (message.Reply r) → IsBare r) → IsBare r
+    by : (e : Entry) → Was (line l.at e ∷ past) (Target t) (Client c) (message.Reply r) → ((u : ℕ) → concerns u l.at.node e ≡ true → EntryOf head (only u past) l.at l.at.node e)
+        → (Was past (Target t) (Client c) (message.Reply r) → IsBare r) → IsBare r
     by (Send to x) (inl q) of more = bare ok
       where
         ok : SendOf head (only t past) (Target t) (Client c) (message.Reply r)

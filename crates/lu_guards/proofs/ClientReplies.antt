@@ -316,11 +316,13 @@ module _ (head : table.Head) (c : ℕ) (stamp : Stamp) where
           free = λ x i. s.between.held x (subst (λ (hs : List HeldLock). In x hs) (brought_so p n t r f s found ∙ ap (λ (ls : List Lock). with_brought t ls (held_at c p)) bare) i);
         })
 
-  flight_heard : (p : List Line) (n t : ℕ) (r : ReplyTo) (f : Flight) (s : Starts head c stamp p) (found : Finds p n t r f) → IsHeard t f r p (with_turn at (holds t None r.seen r.locks ++ learns t f.op r.answer r.locks) (p2 p n t r f s found))
+  flight_heard : (p : List Line) (n t : ℕ) (r : ReplyTo) (f : Flight) (s : Starts head c stamp p) (found : Finds p n t r f)
+      → IsHeard t f r p (with_turn at (holds t None r.seen r.locks ++ learns t f.op r.answer r.locks) (p2 p n t r f s found))
   flight_heard p n zero r f s found = names_after p n r f s found
   flight_heard p n (suc t) r f s found = object_after p n (suc t) r f s found (omega arith)
 
-  flight_after : (p : List Line) (n t : ℕ) (r : ReplyTo) (f : Flight) → Starts head c stamp p → Finds p n t r f → (k : ClientState) → After head c stamp (with_turn at (hears_flight t r f k) (line at (Take n (Target t) (message.Reply r)) ∷ p))
+  flight_after : (p : List Line) (n t : ℕ) (r : ReplyTo) (f : Flight) → Starts head c stamp p → Finds p n t r f → (k : ClientState)
+      → After head c stamp (with_turn at (hears_flight t r f k) (line at (Take n (Target t) (message.Reply r)) ∷ p))
   flight_after p n t r f s found k =
       subst (λ (es : List Entry). After head c stamp (with_turn at es (p1 p n t r f s found))) (sym (flight_so p n t r f s found k))
       (heard_after t f r p (with_turn at (holds t None r.seen r.locks ++ learns t f.op r.answer r.locks) (p2 p n t r f s found)) s.grown s.between.idle (flight_heard p n t r f s found))
@@ -341,7 +343,8 @@ module _ (head : table.Head) (c : ℕ) (stamp : Stamp) where
       flights_so : (import_of t k.imports).flights ≡ flights_at c t p
       flights_so = ap (λ (i : Import). i.flights) (import_there head c stamp p t there)
 
-      by_fit : (f : Flight) → find_flight r.xid.0 (import_of t k.imports).flights ≡ Some f → is_present r.who r.boot t k ≡ true → (b : Bool) → answer_fits f.op r.answer ≡ b → After head c stamp (with_turn at (hears_fitting t r f k b) here)
+      by_fit : (f : Flight) → find_flight r.xid.0 (import_of t k.imports).flights ≡ Some f → is_present r.who r.boot t k ≡ true → (b : Bool) → answer_fits f.op r.answer ≡ b
+          → After head c stamp (with_turn at (hears_fitting t r f k b) here)
       by_fit f found present false fits = quiet
       by_fit f found present true fits =
           let own = and_parts (same_life r.who k.who) (nat_eq r.boot (import_of t k.imports).boot) present in

@@ -69,7 +69,8 @@ module _ (head : table.Head) (c : ℕ) (stamp : Stamp) where
   sent_still : (who : Who) (before p : List Line) (t : ℕ) (m : Message) → Still who before p → Good head c at (line at (Send (Target t) m) ∷ p) → Still who before (line at (Send (Target t) m) ∷ p)
   sent_still who before p t m s g = record { rested = record { good = g; settled = tt; idle = s.rested.idle; handles = s.rested.handles; free = s.rested.free }; life = s.life; known = s.known; standing = s.standing; flights = s.flights; kept = s.kept; held = s.held; took = s.took }
 
-  pub again_good : (who : Who) (before p : List Line) (t boot : ℕ) (flights : List Flight) → Still who before p → boot ≡ known_at c t before → standing_at c t before ≡ Serving → ((f : Flight) → In f flights → In f (flights_at c t before))
+  pub again_good : (who : Who) (before p : List Line) (t boot : ℕ) (flights : List Flight) → Still who before p → boot ≡ known_at c t before → standing_at c t before ≡ Serving
+      → ((f : Flight) → In f flights → In f (flights_at c t before))
       → Still who before (with_turn at (resends who boot t flights) p)
   again_good who before p t boot [] s b v i = s
   again_good who before p t boot (f ∷ flights) s b v i =

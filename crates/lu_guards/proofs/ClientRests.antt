@@ -4,7 +4,7 @@
 use Rattle.std.proofs.Common.{◌≡◌, ℕ, zero, suc, ◌+◌, ◌<◌, ◌≤◌, Bool, true, false, List, [], ◌∷◌, ◌++◌, ◌⊎◌, inl, inr, ⊎_elim, Option, Some, None, refl, sym, subst, ap, ◌∙◌, arith, add-one}
 use Rattle.std.specs.Prelude.{nat_eq, nat_lt, not, ◌&&◌, ◌||◌, length, if◌then◌else◌, map, filter, reverse, drop}
 use Rattle.std.specs.List.{range_with_len}
-use Rattle.std.proofs.lemmas.Bool.{and_parts, cond-false, eqb-true, ltb-true}
+use Rattle.std.proofs.lemmas.Bool.{and_parts, cond-false, eqb-true, ltb-true, not-true}
 use Rattle.std.proofs.lemmas.Bool.Decides.{nat_tests}
 use Rattle.std.proofs.lemmas.Grind.{reverse_onto}
 use Rattle.lu_base.specs.declared.ids.At.{At}
@@ -147,10 +147,6 @@ in_reverse {A} x (y ∷ xs) i =
 
 not_over : (n : ℕ) → nat_lt n 0 ≡ false
 not_over n = grind (arith, nat_tests)
-
-not_so : (b : Bool) → not b ≡ true → b ≡ false
-not_so false e = refl
-not_so true e = absurd (cc)
 
 module _ (head : table.Head) (c : ℕ) (stamp : Stamp) where
   abbrev pub here : At
@@ -306,7 +302,7 @@ module _ (head : table.Head) (c : ℕ) (stamp : Stamp) where
             queue = sym (queue_now the_head c t p g.grown) ∙ q;
             is = ap (λ (n : ℕ). next_flight n flights x) last_now_is ∙ ap (λ (y : List Flight). next_flight (last_of (life_of c (only t p)) (only t p)) y x) flights_now_are;
             room = subst (λ (y : List Flight). length y < head.flight) flights_now_are (ltb-true (length flights) head.flight room);
-            object = ap (front_waits t x.op) (sym flights_now_are) ∙ not_so (front_waits t x.op flights) object;
+            object = ap (front_waits t x.op) (sym flights_now_are) ∙ not-true (front_waits t x.op flights) object;
           }))
           tt refl
 

@@ -2,8 +2,7 @@
 -- glimpse asks of one object after another, and is told all sizes together. It goes on by a size alone: no covered run has the answer by
 -- which it would ask for a lock, and any other makes it go no further. Where the client has changed no object, a flush has nothing to write.
 use Rattle.std.proofs.Common.{◌≡◌, ℕ, ◌+◌, Bool, false, List, [], ◌∷◌, ◌++◌, ◌⊎◌, inl, inr, Option, None, refl, subst, ap, ◌∙◌, arith}
-use Rattle.std.specs.Prelude.{◌&&◌, if◌then◌else◌, filter}
-use Rattle.std.proofs.lemmas.Bool.{cond-false}
+use Rattle.std.specs.Prelude.{◌&&◌, if◌then◌else◌}
 use Rattle.std.proofs.lemmas.Bool.Decides.{nat_tests}
 use Rattle.lu_base.specs.declared.ids.At.{At}
 use Rattle.lu_base.specs.declared.ids.Fid.{Fid}
@@ -43,6 +42,7 @@ use Rattle.lu_guards.proofs.StoryGuards.{EntryOf}
 use Rattle.lu_guards.proofs.Acts.{acted}
 use Rattle.lu_guards.proofs.Grown.{Grown, GrownOf}
 use Rattle.lu_guards.proofs.Only.{grown_of}
+use Rattle.lu_guards.proofs.Lists.{filter_none}
 use Rattle.lu_guards.proofs.Held.{held_is}
 use Rattle.lu_guards.proofs.Given.{Gave}
 use Rattle.lu_guards.proofs.Sound.{sound_of}
@@ -100,10 +100,6 @@ serves_not wanted h = by wanted.policy h.lock.ask.policy
     by (Range extent) (Range other) r b = absurd b
     by (Bits bits) p r b = absurd r
 
-filter_none : {A : Type 0} (f : A → Bool) (xs : List A) → ((x : A) → In x xs → f x ≡ false) → filter f xs ≡ []
-filter_none f [] h = refl
-filter_none f (x ∷ xs) h = cond-false (f x) (x ∷ filter f xs) (filter f xs) (h x (inl refl)) ∙ filter_none f xs (λ y i. h y (inr i))
-
 none_serves : (wanted : Use) (held : List HeldLock) → HasRange wanted.policy → AllBits held → serving wanted held ≡ None
 none_serves wanted held r bits = rw (to_the_end, to_any) refl
   where
@@ -129,7 +125,8 @@ glimpses_so at slot (wanted ∷ left) sizes r w s ranges bits =
     ap (λ (o : Option HeldLock). glimpses_on (λ h. glimpses at slot left (sizes ++ size_under h.lock s ∷ []) r w s) (asks_size slot wanted left sizes r w) o) (none_serves wanted s.held ranges.0 bits)
 
 -- where the target leaves it to a lock, it isn't covered
-asks_uncovered : (at : At) (slot : ℕ) (wanted : Use) (left : List Use) (sizes : List ℕ) (r : Running) (w : Work) (s : Store) → HasRange wanted.policy → AllBits s.held → EntriesCovered (glimpse_asks at slot (wanted ∷ left) sizes r w s) → ⊥
+asks_uncovered : (at : At) (slot : ℕ) (wanted : Use) (left : List Use) (sizes : List ℕ) (r : Running) (w : Work) (s : Store) → HasRange wanted.policy → AllBits s.held
+    → EntriesCovered (glimpse_asks at slot (wanted ∷ left) sizes r w s) → ⊥
 asks_uncovered at slot wanted left sizes r w s range bits covered = (subst EntriesCovered so covered).0
   where
     so : glimpse_asks at slot (wanted ∷ left) sizes r w s ≡ asks_lock slot wanted r (sized (wanted ∷ left) sizes w)

@@ -74,10 +74,13 @@ abbrev pub Calm : Option Running → Type 0
 Calm None = Unit {0}
 Calm (Some r) = HasAsked r ⊎ Closing r
 
+abbrev closing : (calls : List (Option Running)) (r : Running) → WaitsToClose calls r → Closing r
+closing calls r w = record { handle = w.handle; closes = w.closes; file = w.file; of_file = w.of_file; plain = w.plain; new = w.new; pins = w.pins }
+
 calm_of : (calls : List (Option Running)) (x : Option Running) → Idle calls x → Calm x
 calm_of calls None i = tt
 calm_of calls (Some r) (inl a) = inl a
-calm_of calls (Some r) (inr w) = inr (record { handle = w.handle; closes = w.closes; file = w.file; of_file = w.of_file; plain = w.plain; new = w.new; pins = w.pins })
+calm_of calls (Some r) (inr w) = inr (closing calls r w)
 
 asked_not : (at : At) (slot : ℕ) (r : Running) (k : ClientState) → HasAsked r → goes_at at slot r.stage r k ≡ []
 asked_not at slot r k a = by a.1
@@ -101,7 +104,7 @@ closes_so at slot r k w =
 
 waits_not : (at : At) (slot : ℕ) (r : Running) (k : ClientState) → WaitsToClose k.calls r → goes_at at slot r.stage r k ≡ []
 waits_not at slot r k w =
-    closes_so at slot r k (record { handle = w.handle; closes = w.closes; file = w.file; of_file = w.of_file; plain = w.plain; new = w.new; pins = w.pins })
+    closes_so at slot r k (closing k.calls r w)
     ∙ ap (λ (b : Bool). if b then [] else Queues 0 (queued_for slot (op.Close w.file.number w.file.fid)) ∷ []) w.others
 
 goes_not : (at : At) (slot : ℕ) (k : ClientState) → Idle k.calls (call_on slot k.calls) → goes at slot k ≡ []
@@ -169,7 +172,7 @@ free_not all (Some r ∷ calls) p = or_from (is_free_close all (Some r)) (list_a
   where
     by : Idle all (Some r) → is_free_close all (Some r) ≡ false
     by (inl a) = asked_calm all r a
-    by (inr w) = closing_is all r (record { handle = w.handle; closes = w.closes; file = w.file; of_file = w.of_file; plain = w.plain; new = w.new; pins = w.pins }) ∙ one_not (count_on w.file.number.0 all) w.others
+    by (inr w) = closing_is all r (closing all r w) ∙ one_not (count_on w.file.number.0 all) w.others
 
 any_not : (f : Option Running → Bool) → f None ≡ false → (calls : List (Option Running)) (slot : ℕ) → list_any f calls ≡ false → f (call_on slot calls) ≡ false
 any_not f none [] slot e = none
@@ -768,7 +771,15 @@ module _ (head : table.Head) (c : ℕ) (stamp : Stamp) where
       → Calmed (with_turn at (tells_known at slot (begun at wanted file Plain) k) p)
   tell_good slot wanted file k p b free is =
       subst Calmed (sym (turn_more at (pins names) (e ∷ unpins names) p)) (unpins_good names (line at e ∷ p1) zeros (record {
-        good = adds head c stamp p1 e last.begun.good (last.begun.due e refl) (inr (inl (record { running = begun at wanted file Plain; call = last.begun.call; new = refl; begun = refl; known = last.known; of_turn = refl; plain = refl }))) (λ t q. tt) tt refl;
+        good = adds head c stamp p1 e last.begun.good (last.begun.due e refl) (inr (inl (record {
+          running = begun at wanted file Plain;
+          call = last.begun.call;
+          new = refl;
+          begun = refl;
+          known = last.known;
+          of_turn = refl;
+          plain = refl;
+        }))) (λ t q. tt) tt refl;
         settled = tt;
         calm = told_calm slot at k.answer p1 (calm_but slot p1 last.begun.others);
         handles = told_tied c stamp p1 slot at k.answer None (begun at wanted file Plain) last.begun.call refl last.begun.handles;
@@ -876,14 +887,17 @@ module _ (head : table.Head) (c : ℕ) (stamp : Stamp) where
   pub has_begun : (slot : ℕ) (wanted : Call) (file : Option HandleFile) → Keeps head c stamp (HasBegun slot wanted file) (Rested head c at) (slots_go 5 at)
   has_begun slot (call.Close h) file p b covered = by file refl b.does
     where
-      by : (f : Option HandleFile) → file ≡ f → ((o : Op) × (operation_of f (call.Close h) ≡ Some o)) ⊎ (IsOnSizes (call.Close h) × ((g : HandleFile) × (f ≡ Some g))) → Rested head c at (with_turn at (slots_go 5 at (client_of head c p)) p)
+      by : (f : Option HandleFile) → file ≡ f → ((o : Op) × (operation_of f (call.Close h) ≡ Some o)) ⊎ (IsOnSizes (call.Close h) × ((g : HandleFile) × (f ≡ Some g)))
+          → Rested head c at (with_turn at (slots_go 5 at (client_of head c p)) p)
       by None is (inl q) = absurd (let e = q.1 in cc)
       by (Some f) is (inl q) = begun_close slot h file p b f is covered
       by f is (inr q) = absurd q.0
   has_begun slot (call.Flush h) file p b covered =
-      ⊎_elim (λ (q : (o : Op) × (operation_of file (call.Flush h) ≡ Some o)). absurd (let e = q.1 in cc)) (λ (q : IsOnSizes (call.Flush h) × ((f : HandleFile) × (file ≡ Some f))). begun_flush slot h file p b q.1.0 q.1.1 covered) b.does
+      ⊎_elim (λ (q : (o : Op) × (operation_of file (call.Flush h) ≡ Some o)). absurd (let e = q.1 in cc)) (λ (q : IsOnSizes (call.Flush h) × ((f : HandleFile) × (file ≡ Some f))). begun_flush slot h file p
+      b q.1.0 q.1.1 covered) b.does
   has_begun slot (call.Glimpse h) file p b covered =
-      ⊎_elim (λ (q : (o : Op) × (operation_of file (call.Glimpse h) ≡ Some o)). absurd (let e = q.1 in cc)) (λ (q : IsOnSizes (call.Glimpse h) × ((f : HandleFile) × (file ≡ Some f))). begun_glimpse slot h file p b q.1.0 q.1.1 covered) b.does
+      ⊎_elim (λ (q : (o : Op) × (operation_of file (call.Glimpse h) ≡ Some o)). absurd (let e = q.1 in cc)) (λ (q : IsOnSizes (call.Glimpse h) × ((f : HandleFile) × (file ≡ Some f))). begun_glimpse slot h
+      file p b q.1.0 q.1.1 covered) b.does
   has_begun slot wanted file p b covered =
       ⊎_elim (λ (q : (o : Op) × (operation_of file wanted ≡ Some o)). begun_names slot wanted file p b q.0 q.1 tt covered) (λ (q : IsOnSizes wanted × ((f : HandleFile) × (file ≡ Some f))). absurd q.0) b.does
 

@@ -22,7 +22,7 @@ use Rattle.lu_guards.proofs.StoryGuards.{AskOk, SendOf, EntryOf}
 use Rattle.lu_guards.proofs.Grown.{Grown, GrownOf}
 use Rattle.lu_guards.proofs.Lists.{turn, self}
 use Rattle.lu_guards.proofs.Parts.{flights_now}
-use Rattle.lu_guards.proofs.ClientLines.{IsNames, IsSize, IsAskedOf, asked_names, flights_asked}
+use Rattle.lu_guards.proofs.ClientLines.{IsSize, IsAskedOf, flights_asked}
 
 -- ---- no message of a client is of a later boot than the target's
 
@@ -107,13 +107,6 @@ pub asked_size : (t : ℕ) (o : Op) → 0 < t → IsAskedOf t o → IsSize o
 asked_size t o high (inl a) = absurd (let zero = a.0 in omega (arith, zero, high))
 asked_size t o high (inr a) = a.1
 
--- of the metadata target one on names, of another target how long an object is
-pub request_names : (head : Head) (past : List Line) (c : ℕ) (r : RequestOf) → Grown head past → Was past (node.Client c) (node.Target 0) (message.Request r) → IsNames r.op
-request_names head past c r g w = asked_names r.op (request_asked head past c 0 r g w)
-
-pub request_size : (head : Head) (past : List Line) (c t : ℕ) (r : RequestOf) → 0 < t → Grown head past → Was past (node.Client c) (node.Target t) (message.Request r) → IsSize r.op
-request_size head past c t r high g w = asked_size t r.op high (request_asked head past c t r g w)
-
 -- ---- what clients send to a target: requests, cancels, to the metadata target, joins, and what is told in a recovery
 
 abbrev pub IsAsked : ℕ → Message → Type 0
@@ -131,7 +124,8 @@ pub record Asks (from : Node) (t : ℕ) (m : Message) : Type 0 where
   pub is : from ≡ node.Client client
   pub asked : IsAsked t m
 
-sends_so : (head : Head) (past : List Line) (at : At) (from : Node) (t : ℕ) (m : Message) → Grown head past → EntryOk past at from (Send (node.Target t) m) → ((c : ℕ) → from ≡ node.Client c → SendOf head (only t past) (node.Client c) (node.Target t) m) → Asks from t m
+sends_so : (head : Head) (past : List Line) (at : At) (from : Node) (t : ℕ) (m : Message) → Grown head past → EntryOk past at from (Send (node.Target t) m)
+    → ((c : ℕ) → from ≡ node.Client c → SendOf head (only t past) (node.Client c) (node.Target t) m) → Asks from t m
 sends_so head past at (node.Client c) t (message.Request r) g ok of = record { client = c; is = refl; asked = ask_asked head past c t r g (of c refl) }
 sends_so head past at (node.Client c) t (message.Cancel who boot cookie) g ok of = record { client = c; is = refl; asked = ok }
 sends_so head past at (node.Client c) t (message.Join who boot) g ok of = record { client = c; is = refl; asked = tt }
@@ -145,7 +139,8 @@ pub asks_of : (head : Head) (past : List Line) (n : ℕ) (from : Node) (t : ℕ)
 asks_of head [] n from t m g s = absurd s
 asks_of head (l ∷ past) n from t m g s = by l.entry s g.0.ok g.0.of (λ r. asks_of head past n from t m g.1 r)
   where
-    by : (e : Entry) → Sent (line l.at e ∷ past) n from (node.Target t) m → EntryOk past l.at l.at.node e → ((u : ℕ) → concerns u l.at.node e ≡ true → EntryOf head (only u past) l.at l.at.node e) → (Sent past n from (node.Target t) m → Asks from t m) → Asks from t m
+    by : (e : Entry) → Sent (line l.at e ∷ past) n from (node.Target t) m → EntryOk past l.at l.at.node e → ((u : ℕ) → concerns u l.at.node e ≡ true → EntryOf head (only u past) l.at l.at.node e)
+        → (Sent past n from (node.Target t) m → Asks from t m) → Asks from t m
     by (Send to k) (inl r) ok of f =
         sends_so head past l.at from t m g.1
         (subst (λ (x : Message). EntryOk past l.at from (Send (node.Target t) x)) r.3

@@ -186,7 +186,8 @@ none_held head c t (l ∷ past) g = by l.at.node l.entry g.0.ok (none_held head 
     by : (node : Node) (e : Entry) → EntryOk past l.at node e → held_at c P ≡ [] → held_at c (if concerns (suc t) node e then line (turn l.at.stamp node) e ∷ P else P) ≡ []
     by (Client d) (Heard u f r) ok ih =
         ⊎_elim (λ (z : u ≡ 0). other u (line (turn l.at.stamp (Client d)) (Heard u f r)) z ih)
-        (λ (none : brought f.op r ≡ []). quiet (line (turn l.at.stamp (Client d)) (Heard u f r)) (nat_eq (suc t) u) (ap (λ (ls : List Lock). if nat_eq c d then with_brought u ls (held_at c P) else held_at c P) none ∙ same (nat_eq c d)) ih) ok.0
+        (λ (none : brought f.op r ≡ []). quiet (line (turn l.at.stamp (Client d)) (Heard u f r)) (nat_eq (suc t) u)
+        (ap (λ (ls : List Lock). if nat_eq c d then with_brought u ls (held_at c P) else held_at c P) none ∙ same (nat_eq c d)) ih) ok.0
       where
         same : (own : Bool) → (if own then held_at c P else held_at c P) ≡ held_at c P
         same true = refl

@@ -1,8 +1,8 @@
 -- Facts of tests, turns and lists.
-use Rattle.std.proofs.Common.{◌≡◌, ℕ, Bool, true, List, [], ◌∷◌, ◌++◌, ◌⊎◌, inl, inr, ⊎_elim, refl, sym, subst, ap, ◌∙◌, arith}
+use Rattle.std.proofs.Common.{◌≡◌, ℕ, Bool, true, List, [], ◌∷◌, ◌++◌, ◌⊎◌, inl, inr, ⊎_elim, refl, sym, subst, ap, ◌∙◌, arith, false}
 use Rattle.std.specs.Prelude.{nat_eq}
 use Rattle.std.specs.List.{filter}
-use Rattle.std.proofs.lemmas.Bool.{cond_both, cond-true, eqb-true, eq-eqb, and_parts}
+use Rattle.std.proofs.lemmas.Bool.{cond_both, cond-true, eqb-true, eq-eqb, and_parts, cond-false}
 use Rattle.std.proofs.lemmas.Bool.Decides.{nat_tests}
 use Rattle.lu_base.specs.declared.ids.At.{At}
 use Rattle.lu_base.specs.declared.ids.Node.{Node}
@@ -44,6 +44,14 @@ pub in_filtered : {A : Type 0} (f : A → Bool) (x : A) (xs : List A) → In x x
 in_filtered f x [] i t = absurd i
 in_filtered f x (y ∷ xs) (inl e) t = subst (λ v. In x v) (sym (cond-true (f y) (y ∷ filter f xs) (filter f xs) (ap f e ∙ t))) (inl e)
 in_filtered f x (y ∷ xs) (inr i) t = cond_both (f y) (y ∷ filter f xs) (filter f xs) (λ v. In x v) (λ s. inr (in_filtered f x xs i t)) (λ s. in_filtered f x xs i t)
+
+pub empty_list : {A : Type 0} (xs : List A) → ((x : A) → In x xs → ⊥) → xs ≡ []
+empty_list [] none = refl
+empty_list (x ∷ xs) none = absurd (none x (inl refl))
+
+pub filter_none : {A : Type 0} (f : A → Bool) (xs : List A) → ((x : A) → In x xs → f x ≡ false) → filter f xs ≡ []
+filter_none f [] h = refl
+filter_none f (x ∷ xs) h = cond-false (f x) (x ∷ filter f xs) (filter f xs) (h x (inl refl)) ∙ filter_none f xs (λ y i. h y (inr i))
 
 -- ---- turns
 

@@ -697,9 +697,6 @@ kept_field = record { starts = λ who. refl; steps = steps; stays = stays; keeps
 pub queue_now : (head : Head) (c t : ℕ) (past : List Line) → Grown head past → queue_at c t past ≡ queue_of (life_of c (only t past)) (only t past)
 queue_now head c t past g = life_field_is reads_queue queue_after [] queue_of queue_field c t past (rise_of head (only t past) (grown_of head t past g))
 
-pub queue_is : (head : Head) (c t : ℕ) (past : List Line) → Grown head past → queue_at c t past ≡ queue_of (life_at c past) (only t past)
-queue_is head c t past g = queue_now head c t past g ∙ ap (λ (who : Who). queue_of who (only t past)) (sym (life_is_of c t past))
-
 pub flights_now : (head : Head) (c t : ℕ) (past : List Line) → Grown head past → flights_at c t past ≡ flights_of (life_of c (only t past)) (only t past)
 flights_now head c t past g = life_field_is reads_flights flights_after [] flights_of flights_field c t past (rise_of head (only t past) (grown_of head t past g))
 
@@ -708,9 +705,6 @@ flights_is head c t past g = flights_now head c t past g ∙ ap (λ (who : Who).
 
 pub last_now : (head : Head) (c t : ℕ) (past : List Line) → Grown head past → last_at c t past ≡ last_of (life_of c (only t past)) (only t past)
 last_now head c t past g = life_field_is reads_last last_after 0 last_of last_field c t past (rise_of head (only t past) (grown_of head t past g))
-
-pub last_is : (head : Head) (c t : ℕ) (past : List Line) → Grown head past → last_at c t past ≡ last_of (life_at c past) (only t past)
-last_is head c t past g = last_now head c t past g ∙ ap (λ (who : Who). last_of who (only t past)) (sym (life_is_of c t past))
 
 pub kept_now : (head : Head) (c t : ℕ) (past : List Line) → Grown head past → kept_at c t past ≡ kept_of (life_of c (only t past)) (only t past)
 kept_now head c t past g = life_field_is reads_kept kept_after nothing_kept kept_of kept_field c t past (rise_of head (only t past) (grown_of head t past g))

@@ -2,7 +2,7 @@
 -- number, none is told to it in a recovery, and neither a commit nor a close puts any on its disk.
 use Rattle.std.proofs.Common.{◌≡◌, ℕ, ◌<◌, ◌≤◌, Bool, true, false, List, [], ◌∷◌, ◌⊎◌, inl, inr, refl, sym, subst, ap, ◌∙◌, arith}
 use Rattle.std.specs.Prelude.{nat_eq, nat_lt, filter, map, not, if◌then◌else◌}
-use Rattle.std.proofs.lemmas.Bool.{cond-false, eqb-true}
+use Rattle.std.proofs.lemmas.Bool.{eqb-true}
 use Rattle.std.proofs.lemmas.Bool.Decides.{nat_tests}
 use Rattle.lu_base.specs.declared.ids.At.{At}
 use Rattle.lu_base.specs.declared.ids.Node.{Node}
@@ -24,7 +24,7 @@ use Rattle.lu_covered.specs.TargetStates.{server_of, lives_of}
 use Rattle.lu_guards.proofs.Guards.{In, EntryOk}
 use Rattle.lu_guards.proofs.StoryGuards.{Due, EntryOf}
 use Rattle.lu_guards.proofs.Grown.{Grown}
-use Rattle.lu_guards.proofs.Lists.{turn, in_filter}
+use Rattle.lu_guards.proofs.Lists.{turn, in_filter, filter_none}
 use Rattle.lu_guards.proofs.Acts.{acts_sized}
 use Rattle.lu_guards.proofs.ClientLocks.{in_map}
 use Rattle.lu_guards.proofs.Given.{Fine, Has, Own, has_start, has_line, deeds_fine, in_but, shown_commit}
@@ -64,12 +64,7 @@ low_deeds : (ds : List Deed) → ((d : Deed) → In d ds → d.reply.txn.0 ≤ 0
 low_deeds ds each x i = let r = in_map transaction_of x ds i in subst (λ (y : Transaction). y.txn.0 ≤ 0) r.2 (each r.0 r.1)
 
 none_new : (n : ℕ) (ts : List Transaction) → Low ts → filter (λ (x : Transaction). nat_lt n x.txn.0) ts ≡ []
-none_new n [] low = refl
-none_new n (x ∷ ts) low =
-    let zero = low x (inl refl) in
-    let under : nat_lt n x.txn.0 ≡ false = grind (arith, nat_tests, zero) in
-    let rest : List Transaction = filter (λ (y : Transaction). nat_lt n y.txn.0) ts in
-    cond-false (nat_lt n x.txn.0) (x ∷ rest) rest under ∙ none_new n ts (λ y i. low y (inr i))
+none_new n ts low = filter_none (λ (x : Transaction). nat_lt n x.txn.0) ts (λ x i. let zero = low x i in grind (arith, nat_tests, zero))
 
 forgotten_objects : (gone : List Who) (c : Contents) → (forgotten gone c).objects ≡ c.objects
 forgotten_objects [] c = refl
@@ -160,7 +155,8 @@ objects_none head setting clients (l ∷ past) high g = by l.at.node l.entry g.0
     own u (Close o) above ok of none = ap (λ (x : Outcome). x.disk.contents.objects) of.is ∙ closed_objects head setting.id past (turn l.at.stamp (Target u)) high g.1
     own u e above ok of none = none
 
-    by : (node : Node) (e : Entry) → EntryOk past (turn l.at.stamp node) node e → (concerns setting.id node e ≡ true → EntryOf head (only setting.id past) (turn l.at.stamp node) node e) → C.objects ≡ [] → Next (is_target setting.id node) e
+    by : (node : Node) (e : Entry) → EntryOk past (turn l.at.stamp node) node e → (concerns setting.id node e ≡ true → EntryOf head (only setting.id past) (turn l.at.stamp node) node e) → C.objects ≡ []
+        → Next (is_target setting.id node) e
     by (Client c) e ok of none = unread (reads_contents e) (contents_after setting.osts C e) none
     by (Target u) e ok of none = here (nat_eq setting.id u) refl
       where

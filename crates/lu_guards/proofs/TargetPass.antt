@@ -104,7 +104,8 @@ not_taken past n t = subst NotTaken t.newest n
 pub slot_answered : (d : Deed) (slot : Slot) → (if is_slot d.reply.who d.tag d.reply.who d.tag then answered d slot else slot).reply ≡ Some d.reply
 slot_answered d slot = ap (λ (x : Slot). x.reply) (cond-true (is_slot d.reply.who d.tag d.reply.who d.tag) (answered d slot) slot (is_slot_self d.reply.who d.tag))
 
-pub answer_good : (head : Head) (stamp : Stamp) (t : ℕ) (past story : List Line) (d : Deed) → story ≡ only t past → IsServing head.osts story → Owes past (turn stamp (node.Target t)) (replies d) → Did past d → Did story d → NotTaken past → AllShown past
+pub answer_good : (head : Head) (stamp : Stamp) (t : ℕ) (past story : List Line) (d : Deed) → story ≡ only t past → IsServing head.osts story → Owes past (turn stamp (node.Target t)) (replies d) → Did past d
+    → Did story d → NotTaken past → AllShown past
     → (slot_of d.reply.who d.tag story).reply ≡ Some d.reply → d.reply ≡ again (server_of head.osts story) d.reply → GoodAt head stamp t past story (replies d ∷ [])
 answer_good head stamp t past story d of_target serves owes did own new shown slot is = (
   (

@@ -35,11 +35,13 @@ use Rattle.lu_guards.proofs.Turns.{Settled, owes_nothing}
 empty_size : (v : Target) (resource : Resource) → v.contents.objects ≡ [] → size_of v resource ≡ 0
 empty_size v resource none = ap (λ (os : List (Resource × Object)). object_size (object_in os resource)) none
 
-sized_same : (osts t : ℕ) (v : Target) (s : Server) (at : At) (r : RequestOf) (resource : Resource) → Alike osts t v s → v.contents.objects ≡ [] → row_sizes (answered v at r (told.Size (size_of v resource))) ≡ row_sizes (sized s at r 0)
+sized_same : (osts t : ℕ) (v : Target) (s : Server) (at : At) (r : RequestOf) (resource : Resource) → Alike osts t v s → v.contents.objects ≡ []
+    → row_sizes (answered v at r (told.Size (size_of v resource))) ≡ row_sizes (sized s at r 0)
 sized_same osts t v s at r resource h none =
     ap (λ (n : ℕ). row_sizes (answered v at r (told.Size n))) (empty_size v resource none) ∙ rw (h.log, h.boot, h.committed) refl
 
-size_goes : (osts t : ℕ) (v : Target) (s : Server) (at : At) (r : RequestOf) (resource : Resource) → Alike osts t v s → v.contents.objects ≡ [] → s.granted ≡ [] → r.op ≡ op.Size resource → objects_go v at r r.op ≡ row_sizes (sized s at r 0)
+size_goes : (osts t : ℕ) (v : Target) (s : Server) (at : At) (r : RequestOf) (resource : Resource) → Alike osts t v s → v.contents.objects ≡ [] → s.granted ≡ [] → r.op ≡ op.Size resource
+    → objects_go v at r r.op ≡ row_sizes (sized s at r 0)
 size_goes osts t v s at r resource h none free is =
     ap (λ (o : Op). objects_go v at r o) is ∙ ap (λ (ls : List Lock). row_size v at r resource (highest (locks_on resource ls))) (h.granted ∙ free) ∙ sized_same osts t v s at r resource h none
 
@@ -61,7 +63,8 @@ module _ (head : Head) (stamp : Stamp) (t : ℕ) where
       )
 
   -- what waits and asks for a size is answered
-  pub size_lead : (past story : List Line) (v : Target) (r : RequestOf) (resource : Resource) → 0 < t → story ≡ only t past → Settled past → Serving head t v story → In r (server_of head.osts story).waiting → r.op ≡ op.Size resource
+  pub size_lead : (past story : List Line) (v : Target) (r : RequestOf) (resource : Resource) → 0 < t → story ≡ only t past → Settled past → Serving head t v story → In r (server_of head.osts story).waiting
+      → r.op ≡ op.Size resource
       → v.contents.objects ≡ [] → (server_of head.osts story).granted ≡ [] → Reaches head stamp t past story v (objects_go v here r r.op) (Serving head t)
   size_lead past story v r resource high of_target settled h waits is none free =
       let es : List Entry = row_sizes (sized (server_of head.osts story) here r 0) in

@@ -182,7 +182,8 @@ module _ (head : Head) (stamp : Stamp) (t : ℕ) (past story : List Line) (of_ta
   current older = let less = ltb-false r.boot v.boot older in let boot = h.alike.boot in omega (arith, less, boot)
 
   -- one of a new number enters
-  enters_good : nat_lt r.boot v.boot ≡ false → is_life r.who (lives_of head.clients story) ≡ true → nat_lt slot.taken r.xid.0 ≡ true → LineAt head stamp t past1 story1 (Enters r) × Serving head t (after v (Enters r)) (line there (Enters r) ∷ story1)
+  enters_good : nat_lt r.boot v.boot ≡ false → is_life r.who (lives_of head.clients story) ≡ true → nat_lt slot.taken r.xid.0 ≡ true
+      → LineAt head stamp t past1 story1 (Enters r) × Serving head t (after v (Enters r)) (line there (Enters r) ∷ story1)
   enters_good older has above = ((tt, (node.Client c, (refl, refl, refl)), ok), serving_line head t story1 stamp (Enters r) v tt ok served)
     where
       ok : EntersOk head.osts head.clients story1 t r
@@ -197,7 +198,8 @@ module _ (head : Head) (stamp : Stamp) (t : ℕ) (past story : List Line) (of_ta
           }
 
   -- one of the newest number is answered again
-  kept_lead : (o : Option ReplyTo) → is_life r.who (lives_of head.clients story) ≡ true → nat_eq slot.taken r.xid.0 ≡ true → nat_lt r.boot v.boot ≡ false → slot.reply ≡ o → Reaches head stamp t past1 story1 v (row_kept v o) (Serving head t)
+  kept_lead : (o : Option ReplyTo) → is_life r.who (lives_of head.clients story) ≡ true → nat_eq slot.taken r.xid.0 ≡ true → nat_lt r.boot v.boot ≡ false → slot.reply ≡ o
+      → Reaches head stamp t past1 story1 v (row_kept v o) (Serving head t)
   kept_lead None has same older is = (tt, served)
   kept_lead (Some k) has same older is = (((tt, (replies, (λ x. again), (λ d did lock i. absurd did)), ok), tt), serving_line head t story1 stamp (Send (node.Client k.who.client) (message.Reply answer)) v tt ok served)
     where
@@ -243,7 +245,8 @@ module _ (head : Head) (stamp : Stamp) (t : ℕ) (past story : List Line) (of_ta
       heeds_lead head stamp t past1 story1 v tt served r.who r.boot (while_serving v (row_request v there r)) (c, message.Request r, was, refl)
       (λ older has. as_served head stamp t past1 story1 v tt served (row_request v there r) [] (by older has (nat_lt slot.taken r.xid.0) (nat_eq slot.taken r.xid.0) refl refl))
     where
-      by : nat_lt r.boot v.boot ≡ false → is_life r.who (lives_of head.clients story) ≡ true → (above same : Bool) → nat_lt slot.taken r.xid.0 ≡ above → nat_eq slot.taken r.xid.0 ≡ same → Follows (by_number v there r slot.reply above same)
+      by : nat_lt r.boot v.boot ≡ false → is_life r.who (lives_of head.clients story) ≡ true → (above same : Bool) → nat_lt slot.taken r.xid.0 ≡ above → nat_eq slot.taken r.xid.0 ≡ same
+          → Follows (by_number v there r slot.reply above same)
       by older has true same e f = enters older has e
       by older has false true e f = λ high. kept_lead slot.reply has f older refl
       by older has false false e f = λ high. (tt, served)
@@ -379,7 +382,8 @@ module _ (head : Head) (stamp : Stamp) (t : ℕ) where
       told_lead head stamp t (line here e ∷ past) (line here e ∷ only t past) v tt (serving_line head t (only t past) stamp e v tt tt h) c m told was high
 
   -- a glimpse is answered at once
-  request_other : (past : List Line) (v : Target) (n c : ℕ) (r : RequestOf) → 0 < t → IsSize r.op → Serving head t v (only t past) → v.contents.objects ≡ [] → (server_of head.osts (only t past)).granted ≡ [] → Was (only t past) (node.Client c) (node.Target t) (message.Request r)
+  request_other : (past : List Line) (v : Target) (n c : ℕ) (r : RequestOf) → 0 < t → IsSize r.op → Serving head t v (only t past) → v.contents.objects ≡ [] → (server_of head.osts (only t past)).granted ≡ []
+      → Was (only t past) (node.Client c) (node.Target t) (message.Request r)
       → High v (row_heeds v here (message.Request r)) → Reaches head stamp t (line here (Take n (node.Client c) (message.Request r)) ∷ past) (line here (Take n (node.Client c) (message.Request r)) ∷ only t past) v (row_heeds v here (message.Request r)) (Serving head t)
   request_other past v n c r above size h none free was = request_lead head stamp t past story refl v h n c r was (λ older has newer high. entered older has newer)
     where
@@ -408,7 +412,8 @@ module _ (head : Head) (stamp : Stamp) (t : ℕ) where
       goes_is : goes here r w ≡ objects_go w here r r.op
       goes_is = cond-false (nat_eq v.setting.id 0) (names_go here w) (objects_go w here r r.op) other
 
-      entered : nat_lt r.boot v.boot ≡ false → is_life r.who (lives_of head.clients story) ≡ true → nat_lt (slot_in v.slots r.who r.tag).taken r.xid.0 ≡ true → Reaches head stamp t (line here e ∷ past) (line here e ∷ story) v (row_enters v here r) (Serving head t)
+      entered : nat_lt r.boot v.boot ≡ false → is_life r.who (lives_of head.clients story) ≡ true → nat_lt (slot_in v.slots r.who r.tag).taken r.xid.0 ≡ true
+          → Reaches head stamp t (line here e ∷ past) (line here e ∷ story) v (row_enters v here r) (Serving head t)
       entered older has newer =
           let good = enters_good head stamp t past story refl v h n c r was older has newer in
           let size = asks r.op size in
@@ -416,13 +421,15 @@ module _ (head : Head) (stamp : Stamp) (t : ℕ) where
           let more = size_lead head stamp t past2 story2 w r size.0 above of_target tt good.1 (in_right r (server_of head.osts story).waiting (r ∷ []) (inl refl)) size.1 none free in
           subst (λ (es : List Entry). Reaches head stamp t (line here e ∷ past) (line here e ∷ story) v (Enters r ∷ es) (Serving head t)) (sym goes_is) ((good.0, more.0), more.1)
 
-  comes_other : (past : List Line) (v : Target) (n c : ℕ) (m : Message) → 0 < t → IsAsked t m → Serving head t v (only t past) → v.contents.objects ≡ [] → (server_of head.osts (only t past)).granted ≡ [] → Was (only t past) (node.Client c) (node.Target t) m
+  comes_other : (past : List Line) (v : Target) (n c : ℕ) (m : Message) → 0 < t → IsAsked t m → Serving head t v (only t past) → v.contents.objects ≡ [] → (server_of head.osts (only t past)).granted ≡ []
+      → Was (only t past) (node.Client c) (node.Target t) m
       → High v (row_heeds v here m) → Reaches head stamp t (line here (Take n (node.Client c) m) ∷ past) (line here (Take n (node.Client c) m) ∷ only t past) v (row_heeds v here m) (Serving head t)
   comes_other past v n c (message.Request r) above asked h none free was high = request_other past v n c r above (asked_size t r.op above asked) h none free was high
   comes_other past v n c (message.Cancel who boot cookie) above asked h none free was high = absurd (let zero : t ≡ 0 = asked in omega (arith, zero, above))
   comes_other past v n c (message.Join who boot) above asked h none free was high =
       let e : Entry = Take n (node.Client c) (message.Join who boot) in
-      join_lead head stamp t (line here e ∷ past) (line here e ∷ only t past) v c boot who (story_turn head stamp t (e ∷ []) past (only t past) refl) tt (serving_line head t (only t past) stamp e v tt tt h) (λ l i. absurd (subst (λ (ls : List Lock). In l ls) free i))
+      join_lead head stamp t (line here e ∷ past) (line here e ∷ only t past) v c boot who (story_turn head stamp t (e ∷ []) past (only t past) refl) tt
+      (serving_line head t (only t past) stamp e v tt tt h) (λ l i. absurd (subst (λ (ls : List Lock). In l ls) free i))
       (inl (refl, refl, refl)) was high
   comes_other past v n c (message.Replay r) above asked h none free was high = told_other past v n c (message.Replay r) tt h was high
   comes_other past v n c (message.Lock r) above asked h none free was high = told_other past v n c (message.Lock r) tt h was high

@@ -99,7 +99,8 @@ module _ (head : Head) where
       by : (node : Node) (e : Entry) → EntryOf head past (turn l.at.stamp node) node e → Acted (line (turn l.at.stamp node) e ∷ past) d → (Acted past d → In d (made_of past)) → In d (made_of (line (turn l.at.stamp node) e ∷ past))
       by (Target t) (Made e) ok (inl q) h = inl q
       by (Target t) (Made e) ok (inr b) h = inr (h b)
-      by (Target t) (Act e) ok (inl q) h = absurd (let n = ap (λ (v : Deed). v.reply.txn.0) (sym q) in let none = ap (λ (v : TxnOf). v.0) (acted head.osts past (turn l.at.stamp (Target t)) t e ok).number in omega (arith, n, none, made))
+      by (Target t) (Act e) ok (inl q) h = absurd (let n = ap (λ (v : Deed). v.reply.txn.0) (sym q) in let none = ap (λ (v : TxnOf). v.0)
+          (acted head.osts past (turn l.at.stamp (Target t)) t e ok).number in omega (arith, n, none, made))
       by (Target t) (Act e) ok (inr b) h = h b
       by (Client c) (Made e) ok a h = absurd ok
       by (Client c) (Act e) ok a h = absurd ok

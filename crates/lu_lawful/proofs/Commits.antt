@@ -37,9 +37,9 @@ use Rattle.lu_facts.proofs.SlotLists.{last_in}
 use Rattle.lu_facts.proofs.All.{holds, holds_at}
 use Rattle.lu_facts.proofs.CloseFacts.{Closing, closing, kept_of_deed}
 use Rattle.lu_facts.proofs.ExactLists.{in_has}
-use Rattle.lu_facts.proofs.Lines.{acted_more, acted_whole}
+use Rattle.lu_facts.proofs.Lines.{acted_more}
 use Rattle.lu_lawful.specs.Fits.{WasMade}
-use Rattle.lu_lawful.proofs.Story.{target_is, story_at, made_first}
+use Rattle.lu_lawful.proofs.Story.{acted_first}
 use Rattle.lu_lawful.proofs.Deeds.{act_for}
 use Rattle.lu_lawful.proofs.Lost.{stays_on}
 use Rattle.lu_lawful.proofs.Printed.{flip}
@@ -240,10 +240,6 @@ listed head t (l ∷ past) d g a made = by l.at.node l.entry g.0 a (λ b. listed
         of true q (inr j) = old j
         of true q (inl same) = absurd (let zero : n ≡ 0 = ap (λ (y : Deed). y.reply.txn.0) (sym same) ∙ ap (λ (v : TxnOf). v.0) (act_for head past l.at.stamp u e k).number in omega (arith, zero, made))
     by node e k i ih = let r = ih (quiet node e (concerns t node e) (λ j. j) i) in record { made = r.made; listed = r.listed }
-
--- only at the metadata target is a transaction made
-pub acted_first : (head : Head) (t : ℕ) (past : List Line) (d : Deed) → Grown head past → Acted (only t past) d → IsMade d → t ≡ 0
-acted_first head t past d g a made = target_is t 0 (sym (story_at head past t d g a) ∙ made_first head past d g (acted_whole t past d a) made)
 
 -- what stands by the story stands by the laws
 pub stands_law : (head : Head) (t : ℕ) (past : List Line) (n : ℕ) → Grown head past → ((m : ℕ) → WasMade past m → law.is_lost (printed past) 0 m ≡ is_lost head.osts (only 0 past) m) → MadeStands head.osts (only t past) n → (nat_eq n 0 || stands t (printed past) n) ≡ true

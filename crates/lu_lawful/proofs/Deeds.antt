@@ -59,7 +59,8 @@ txn_of osts past at d ok =
 
 pub act_is : (head : Head) (past : List Line) (stamp : Stamp) (d : Deed) → Allowed head past (turn stamp (Target 0)) (Act d) → ActIs head.osts (server_at head.osts 0 past) (turn stamp (Target 0)) d
 act_is head past stamp d k =
-    subst (λ (v : Server). ActIs head.osts v (turn stamp (Target 0)) d) (sym (server_is head.osts 0 past)) (act_of head.osts (only 0 past) (turn stamp (Target 0)) d (acts_names head.osts (only 0 past) (turn stamp (Target 0)) d (k.of 0 refl)))
+    subst (λ (v : Server). ActIs head.osts v (turn stamp (Target 0)) d) (sym (server_is head.osts 0 past)) (act_of head.osts (only 0 past) (turn stamp (Target 0)) d
+    (acts_names head.osts (only 0 past) (turn stamp (Target 0)) d (k.of 0 refl)))
 
 pub act_for : (head : Head) (past : List Line) (stamp : Stamp) (t : ℕ) (d : Deed) → Allowed head past (turn stamp (Target t)) (Act d) → Acted head.osts (only t past) (turn stamp (Target t)) d
 act_for head past stamp t d k = acted head.osts (only t past) (turn stamp (Target t)) t d (k.of t (self t))

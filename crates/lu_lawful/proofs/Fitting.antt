@@ -27,8 +27,9 @@ use Rattle.lu_guards.proofs.Lists.{self}
 use Rattle.lu_guards.proofs.Grown.{Allowed, Grown}
 use Rattle.lu_facts.proofs.Groups.{turn, Acted, Evicted, Had, HasSlot, HeardAs, IsMade, History, HoldsAt}
 use Rattle.lu_facts.proofs.All.{holds}
+use Rattle.lu_facts.proofs.Sides.{acted_sized}
 use Rattle.lu_lawful.proofs.Story.{about_it, made_story}
-use Rattle.lu_lawful.proofs.Sized.{sized_deed}
+use Rattle.lu_lawful.proofs.Sized.{deed_unseen}
 use Rattle.lu_lawful.proofs.Deeds.{txn_is}
 use Rattle.lu_lawful.proofs.Lost.{stays_on}
 use Rattle.lu_lawful.proofs.ToldLaw.{heard_as, heard_story}
@@ -140,9 +141,10 @@ module _ (head : Head) (out : Who → Bool) (lost : ℕ → ℕ → Bool) (whole
         λ o.
             let ok = k.0.of (suc t) (self (suc t)) in
             let m = ((holds head past k.1).at (suc t)).done.sent (Target ok.from) (Client c) (message.Reply r) ok.was in
-            let sized = sized_deed head past (suc t) m.deed k.1 (omega arith) m.acted in
+            let sized = acted_sized head past (suc t) m.deed (omega arith) k.1 m.acted in
+            let unseen = deed_unseen head past (suc t) m.deed k.1 (omega arith) m.acted in
             let number : r.txn.0 ≡ 0 = ap (λ (v : ReplyTo). v.txn.0) m.is ∙ ap (λ (n : TxnOf). n.0) sized.number in
-            (subst (λ (n : ℕ). lost 0 n ≡ false) (sym number) (none 0 (not_zero whole g)), subst (AllStand lost) (sym (ap (λ (v : ReplyTo). v.seen) m.is ∙ sized.unseen)) tt),
+            (subst (λ (n : ℕ). lost 0 n ≡ false) (sym number) (none 0 (not_zero whole g)), subst (AllStand lost) (sym (ap (λ (v : ReplyTo). v.seen) m.is ∙ unseen)) tt),
         ih,
       )
       by (Target t) (Heard u f r) k a ih = absurd k.0.ok

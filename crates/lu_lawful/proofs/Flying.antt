@@ -3,8 +3,9 @@
 use Rattle.std.proofs.Common.{◌≡◌, ℕ, ◌+◌, ◌<◌, ◌≤◌, Bool, true, false, List, [], ◌∷◌, ◌++◌, Option, Some, None, ◌⊎◌, inl, inr, ⊎_elim, refl, sym, subst, ap, ◌∙◌, arith}
 use Rattle.std.specs.Prelude.{nat_eq, nat_lt, not, ◌&&◌, ◌||◌, if◌then◌else◌, length, filter}
 use Rattle.std.specs.List.{list_any}
-use Rattle.std.proofs.lemmas.Bool.{and_parts, cond_both, cond-true, eqb-true, lt-ltb, not-true}
+use Rattle.std.proofs.lemmas.Bool.{and_parts, cond_both, eqb-true, lt-ltb, not-true}
 use Rattle.std.proofs.lemmas.Bool.Decides.{nat_tests}
+use Rattle.std.proofs.Math.Bool.{and-false, and-true}
 use Rattle.lu_base.specs.declared.ids.Stamp.{Stamp}
 use Rattle.lu_base.specs.declared.ids.Node.{Node}
 use Rattle.lu_base.specs.declared.ids.Node.TheVariants.{Client, Target}
@@ -30,7 +31,7 @@ use Rattle.lu_laws.specs.Words.Requests.{is_of, has_number, without_number, has_
 use Rattle.lu_guards.proofs.Guards.{In}
 use Rattle.lu_guards.proofs.StoryGuards.{FliesOk, AskOk}
 use Rattle.lu_guards.proofs.Grown.{Allowed, Grown}
-use Rattle.lu_guards.proofs.Lists.{self, in_append, in_left, in_filter, life_is, own_is}
+use Rattle.lu_guards.proofs.Lists.{self, in_append, in_left, in_filter, life_is, own_is, in_filtered}
 use Rattle.lu_facts.proofs.Groups.{turn, life_request}
 use Rattle.lu_lawful.proofs.Printed.{flip, own_by, own_story}
 
@@ -78,7 +79,8 @@ flown_on t l past who r same k = (
 flyers_asks : (t : ℕ) (past : List Line) (stamp : Stamp) (d u : ℕ) (r : RequestOf) (mine : Who) → (t ≡ u → Flown t past mine r) → Flyers t past → Flyers t (line (turn stamp (Client d)) (Send (Target u) (message.Request r)) ∷ past)
 flyers_asks t past stamp d u r mine ok h who = (
   λ q i. flown_on t (line (turn stamp (Client d)) (Send (Target u) (message.Request r))) past who q refl
-      (cond_both (is_of t who (Target u) r && not (has_number r.xid.0 (flying t who past)) && not (has_heard t who r.xid.0 (printed past))) (r ∷ flying t who past) (flying t who past) (λ (rs : List RequestOf). In q rs → Flown t past who q)
+      (cond_both (is_of t who (Target u) r && not (has_number r.xid.0 (flying t who past)) && not (has_heard t who r.xid.0 (printed past))) (r ∷ flying t who past) (flying t who past)
+      (λ (rs : List RequestOf). In q rs → Flown t past who q)
       (λ v i. ⊎_elim
       (λ (e : r ≡ q). subst (Flown t past who) e (own v))
       (λ (j : In q (flying t who past)). (h who).0 q j)
@@ -112,28 +114,17 @@ flyers_flies t past stamp d u f h who = (
       let k = (h who).0 r i in (
         k.0,
         cond_both (nat_eq t u) (line (turn stamp (Client d)) (Flies u f) ∷ only t past) (only t past) (λ (p : List Line). In k.0 (flights_of who p))
-            (λ o. cond_both (is_own who (only t past) (Client d)) (flights_of who (only t past) ++ f ∷ []) (flights_of who (only t past)) (λ (fs : List Flight). In k.0 fs) (λ v. in_left k.0 (flights_of who (only t past)) (f ∷ []) k.1) (λ v. k.1))
+            (λ o. cond_both (is_own who (only t past) (Client d)) (flights_of who (only t past) ++ f ∷ []) (flights_of who (only t past)) (λ (fs : List Flight). In k.0 fs)
+            (λ v. in_left k.0 (flights_of who (only t past)) (f ∷ []) k.1) (λ v. k.1))
             (λ o. k.1),
         k.2,
       ),
   (h who).1,
 )
 
-in_filter_on : (g : Flight → Bool) (f : Flight) (fs : List Flight) → In f fs → g f ≡ true → In f (filter g fs)
-in_filter_on g f [] i t = absurd i
-in_filter_on g f (k ∷ fs) (inl e) t = subst (λ (v : List Flight). In f v) (sym (cond-true (g k) (k ∷ filter g fs) (filter g fs) (ap g e ∙ t))) (inl e)
-in_filter_on g f (k ∷ fs) (inr i) t = cond_both (g k) (k ∷ filter g fs) (filter g fs) (λ (v : List Flight). In f v) (λ s. inr (in_filter_on g f fs i t)) (λ s. in_filter_on g f fs i t)
-
-and_true : (v : Bool) → (v && true) ≡ v
-and_true true = refl
-and_true false = refl
-
-and_false : (v : Bool) → (v && false) ≡ false
-and_false true = refl
-and_false false = refl
-
 -- one less in both
-flyers_heard : (head : Head) (t : ℕ) (past : List Line) (stamp : Stamp) (d u : ℕ) (f : Flight) (r : ReplyTo) → Grown head past → (t ≡ u → f.xid ≡ r.xid.0) → Flyers t past → Flyers t (line (turn stamp (Client d)) (Heard u f r) ∷ past)
+flyers_heard : (head : Head) (t : ℕ) (past : List Line) (stamp : Stamp) (d u : ℕ) (f : Flight) (r : ReplyTo) → Grown head past → (t ≡ u → f.xid ≡ r.xid.0) → Flyers t past
+    → Flyers t (line (turn stamp (Client d)) (Heard u f r) ∷ past)
 flyers_heard head t past stamp d u f r g x h who = subst (λ (a : Bool). Stay a (nat_eq t u)) (flip t u) (of (nat_eq t u) refl)
   where
     P : List Line
@@ -144,31 +135,35 @@ flyers_heard head t past stamp d u f r g x h who = subst (λ (a : Bool). Stay a 
 
     Stay : (a b : Bool) → Type 0
     Stay a b =
-        ((q : RequestOf) → In q (if is_by who (printed past) (Client d) && a then without_number r.xid.0 (flying t who past) else flying t who past) → (k : Flight) × In k (flights_of who (if b then new ∷ P else P)) × (q ≡ life_request who q.boot k))
+        ((q : RequestOf) → In q (if is_by who (printed past) (Client d) && a then without_number r.xid.0 (flying t who past) else flying t who past)
+        → (k : Flight) × In k (flights_of who (if b then new ∷ P else P)) × (q ≡ life_request who q.boot k))
         × Distinct (if is_by who (printed past) (Client d) && a then without_number r.xid.0 (flying t who past) else flying t who past)
 
     test : (is_by who (printed past) (Client d) && true) ≡ is_own who P (Client d)
-    test = and_true (is_by who (printed past) (Client d)) ∙ own_by head who past (Client d) g ∙ own_story t who past (Client d)
+    test = and-true (is_by who (printed past) (Client d)) ∙ own_by head who past (Client d) g ∙ own_story t who past (Client d)
 
-    by : f.xid ≡ r.xid.0 → (q : RequestOf) (v : Bool) → is_own who P (Client d) ≡ v → In q (if v then without_number r.xid.0 (flying t who past) else flying t who past) → (k : Flight) × In k (if v then without_flight f.xid (flights_of who P) else flights_of who P) × (q ≡ life_request who q.boot k)
+    by : f.xid ≡ r.xid.0 → (q : RequestOf) (v : Bool) → is_own who P (Client d) ≡ v → In q (if v then without_number r.xid.0 (flying t who past) else flying t who past)
+        → (k : Flight) × In k (if v then without_flight f.xid (flights_of who P) else flights_of who P) × (q ≡ life_request who q.boot k)
     by same q true v i =
         let j = in_filter (λ (v : RequestOf). not (nat_eq v.xid.0 r.xid.0)) q (flying t who past) i in
         let k = (h who).0 q j.0 in
         let w : q.xid.0 ≡ k.0.xid = ap (λ (v : RequestOf). v.xid.0) k.2 in
         let n = not-true (nat_eq q.xid.0 r.xid.0) j.1 in
-        (k.0, in_filter_on (λ (v : Flight). not (nat_eq v.xid f.xid)) k.0 (flights_of who P) k.1 (rw (sym w, same, n) refl), k.2)
+        (k.0, in_filtered (λ (v : Flight). not (nat_eq v.xid f.xid)) k.0 (flights_of who P) k.1 (rw (sym w, same, n) refl), k.2)
     by same q false v i = (h who).0 q i
 
     of : (b : Bool) → nat_eq t u ≡ b → Stay b b
     of true e =
         let same = x (eqb-true t u e) in (
           λ q. rw test (by same q (is_own who P (Client d)) refl),
-          rw test (cond_both (is_own who P (Client d)) (without_number r.xid.0 (flying t who past)) (flying t who past) Distinct (λ v. distinct_filter (λ (k : RequestOf). not (nat_eq k.xid.0 r.xid.0)) (flying t who past) (h who).1) (λ v. (h who).1)),
+          rw test (cond_both (is_own who P (Client d)) (without_number r.xid.0 (flying t who past)) (flying t who past) Distinct
+              (λ v. distinct_filter (λ (k : RequestOf). not (nat_eq k.xid.0 r.xid.0)) (flying t who past) (h who).1) (λ v. (h who).1)),
         )
-    of false e = rw (and_false (is_by who (printed past) (Client d))) ((h who).0, (h who).1)
+    of false e = rw (and-false (is_by who (printed past) (Client d))) ((h who).0, (h who).1)
 
 -- a line that leaves both
-flyers_on : (t : ℕ) (l : Line) (past : List Line) → ((who : Who) → flights_of who (l ∷ only t past) ≡ flights_of who (only t past)) → ((who : Who) → flying t who (l ∷ past) ≡ flying t who past) → Flyers t past → Flyers t (l ∷ past)
+flyers_on : (t : ℕ) (l : Line) (past : List Line) → ((who : Who) → flights_of who (l ∷ only t past) ≡ flights_of who (only t past)) → ((who : Who) → flying t who (l ∷ past) ≡ flying t who past) → Flyers t past
+    → Flyers t (l ∷ past)
 flyers_on t l past rows laws h who = (
   λ r i. flown_on t l past who r (rows who) ((h who).0 r (subst (λ (rs : List RequestOf). In r rs) (laws who) i)),
   subst Distinct (sym (laws who)) (h who).1,
@@ -177,16 +172,20 @@ flyers_on t l past rows laws h who = (
 pub keeps_flyers : (head : Head) (t : ℕ) (past : List Line) (stamp : Stamp) (node : Node) (e : Entry) → Allowed head past (turn stamp node) e → Grown head past → Flyers t past → Flyers t (line (turn stamp node) e ∷ past)
 keeps_flyers head t past stamp (Client c) (Send (Target u) (message.Request r)) k g h =
     flyers_asks t past stamp c u r (life_of c (only t past)) (λ e. ask_flown t past c r (k.of t (subst (λ (v : ℕ). nat_eq t v ≡ true) e (self t)))) h
-keeps_flyers head t past stamp (Client c) (Send (Target u) (message.Cancel other boot cookie)) k g h = flyers_on t (line (turn stamp (Client c)) (Send (Target u) (message.Cancel other boot cookie))) past (λ who. refl) (λ who. refl) h
+keeps_flyers head t past stamp (Client c) (Send (Target u) (message.Cancel other boot cookie)) k g h = flyers_on t (line (turn stamp (Client c)) (Send (Target u) (message.Cancel other boot cookie))) past
+    (λ who. refl) (λ who. refl) h
 keeps_flyers head t past stamp (Client c) (Send (Target u) (message.Join other boot)) k g h = flyers_on t (line (turn stamp (Client c)) (Send (Target u) (message.Join other boot))) past (λ who. refl) (λ who. refl) h
 keeps_flyers head t past stamp (Client c) (Send (Target u) (message.Replay r)) k g h = flyers_on t (line (turn stamp (Client c)) (Send (Target u) (message.Replay r))) past (λ who. refl) (λ who. refl) h
 keeps_flyers head t past stamp (Client c) (Send (Target u) (message.Lock r)) k g h = flyers_on t (line (turn stamp (Client c)) (Send (Target u) (message.Lock r))) past (λ who. refl) (λ who. refl) h
-keeps_flyers head t past stamp (Client c) (Send (Target u) (message.Word other boot replays locks seen)) k g h = flyers_on t (line (turn stamp (Client c)) (Send (Target u) (message.Word other boot replays locks seen))) past (λ who. refl) (λ who. refl) h
+keeps_flyers head t past stamp (Client c) (Send (Target u) (message.Word other boot replays locks seen)) k g h = flyers_on t
+    (line (turn stamp (Client c)) (Send (Target u) (message.Word other boot replays locks seen))) past (λ who. refl) (λ who. refl) h
 keeps_flyers head t past stamp (Client c) (Send (Client d) m) k g h = absurd k.ok
 keeps_flyers head t past stamp (Client c) (Send (Target u) m) k g h = absurd k.ok
 keeps_flyers head t past stamp (Target u) (Send (Client c) (message.Reply r)) k g h = flyers_on t (line (turn stamp (Target u)) (Send (Client c) (message.Reply r))) past (λ who. refl) (λ who. refl) h
-keeps_flyers head t past stamp (Target u) (Send (Client c) (message.Block other boot cookie)) k g h = flyers_on t (line (turn stamp (Target u)) (Send (Client c) (message.Block other boot cookie))) past (λ who. refl) (λ who. refl) h
-keeps_flyers head t past stamp (Target u) (Send (Client c) (message.Ready other boot committed)) k g h = flyers_on t (line (turn stamp (Target u)) (Send (Client c) (message.Ready other boot committed))) past (λ who. refl) (λ who. refl) h
+keeps_flyers head t past stamp (Target u) (Send (Client c) (message.Block other boot cookie)) k g h = flyers_on t (line (turn stamp (Target u)) (Send (Client c) (message.Block other boot cookie))) past
+    (λ who. refl) (λ who. refl) h
+keeps_flyers head t past stamp (Target u) (Send (Client c) (message.Ready other boot committed)) k g h = flyers_on t (line (turn stamp (Target u)) (Send (Client c) (message.Ready other boot committed)))
+    past (λ who. refl) (λ who. refl) h
 keeps_flyers head t past stamp (Target u) (Send (Client c) (message.Evicted other boot)) k g h = flyers_on t (line (turn stamp (Target u)) (Send (Client c) (message.Evicted other boot))) past (λ who. refl) (λ who. refl) h
 keeps_flyers head t past stamp (Target u) (Send (Client c) (message.Up boot)) k g h = flyers_on t (line (turn stamp (Target u)) (Send (Client c) (message.Up boot))) past (λ who. refl) (λ who. refl) h
 keeps_flyers head t past stamp (Target u) (Send (Client c) m) k g h = absurd k.ok
@@ -233,7 +232,8 @@ none_on o (g ∷ fs) f e (inl p) = by (rows_same (object_of g.op) (object_of o))
   where
     by : (b : Bool) → rows_same (object_of g.op) (object_of o) ≡ b → (b || list_any (λ (g : Flight). rows_same (object_of g.op) (object_of o)) fs) ≡ false → same_resource (object f.op) (object o) ≡ false
     by true q e = absurd (cc)
-    by false q e = ap (λ (v : Flight). same_resource (object v.op) (object o)) (sym p) ∙ sym (resource_same (object g.op) (object o)) ∙ sym (ap (λ (v : Option Resource). rows_same v (object o)) (object_same g.op)) ∙ sym (ap (λ (v : Option Resource). rows_same (object_of g.op) v) (object_same o)) ∙ q
+    by false q e = ap (λ (v : Flight). same_resource (object v.op) (object o)) (sym p) ∙ sym (resource_same (object g.op) (object o))
+        ∙ sym (ap (λ (v : Option Resource). rows_same v (object o)) (object_same g.op)) ∙ sym (ap (λ (v : Option Resource). rows_same (object_of g.op) v) (object_same o)) ∙ q
 none_on o (g ∷ fs) f e (inr i) = none_on o fs f (by (rows_same (object_of g.op) (object_of o)) e) i
   where
     by : (b : Bool) → (b || list_any (λ (g : Flight). rows_same (object_of g.op) (object_of o)) fs) ≡ false → list_any (λ (g : Flight). rows_same (object_of g.op) (object_of o)) fs ≡ false
@@ -263,7 +263,8 @@ objects_apart head t (l ∷ past) who high g = by l.at.node l.entry g.0 (objects
     F : List Flight
     F = flights_of who P
 
-    either : (node : Node) (e : Entry) → (concerns t node e ≡ true → ObjectsApart F → ObjectsApart (flights_of who (line (turn l.at.stamp node) e ∷ P))) → ObjectsApart F → ObjectsApart (flights_of who (only t (line (turn l.at.stamp node) e ∷ past)))
+    either : (node : Node) (e : Entry) → (concerns t node e ≡ true → ObjectsApart F → ObjectsApart (flights_of who (line (turn l.at.stamp node) e ∷ P))) → ObjectsApart F
+        → ObjectsApart (flights_of who (only t (line (turn l.at.stamp node) e ∷ past)))
     either node e step h = cond_both (concerns t node e) (line (turn l.at.stamp node) e ∷ P) P (λ (p : List Line). ObjectsApart (flights_of who p)) (λ o. step o h) (λ o. h)
 
     fewer : (x : ℕ) → ObjectsApart F → ObjectsApart (without_flight x F)
@@ -271,7 +272,8 @@ objects_apart head t (l ∷ past) who high g = by l.at.node l.entry g.0 (objects
 
     -- one that begins to fly
     new : (d u : ℕ) (x : Flight) → FliesOk head P d u x → t ≡ u → who ≡ life_of d P → ObjectsApart F → ObjectsApart (F ++ x ∷ [])
-    new d u x ok here mine h = apart_more F x (λ f i. ap (λ (o : Op). same_resource (object f.op) (object o)) (ap (λ (v : Flight). v.op) ok.is) ∙ none_on ok.front.op F f (free (nat_lt 0 u) (lt-ltb 0 u (subst (λ (v : ℕ). 0 < v) here high)) unmet) i) h
+    new d u x ok here mine h = apart_more F x (λ f i. ap (λ (o : Op). same_resource (object f.op) (object o)) (ap (λ (v : Flight). v.op) ok.is)
+        ∙ none_on ok.front.op F f (free (nat_lt 0 u) (lt-ltb 0 u (subst (λ (v : ℕ). 0 < v) here high)) unmet) i) h
       where
         unmet : (nat_lt 0 u && list_any (λ (g : Flight). rows_same (object_of g.op) (object_of ok.front.op)) F) ≡ false
         unmet = ap (λ (w : Who). front_waits u ok.front.op (flights_of w P)) mine ∙ ok.object
@@ -310,7 +312,8 @@ no_more [] fs d h = omega arith
 no_more (r ∷ rs) fs d h =
     let k = h r (inl refl) in
     let l = length_out r.xid.0 fs k.0 k.1 k.2 in
-    let m = no_more rs (without_flight r.xid.0 fs) d.1 (λ q i. let j = h q (inr i) in let n : nat_eq j.0.xid r.xid.0 ≡ false = off j.0 q i j.2 in (j.0, in_filter_on (λ (v : Flight). not (nat_eq v.xid r.xid.0)) j.0 fs j.1 (rw n refl), j.2)) in
+    let m = no_more rs (without_flight r.xid.0 fs) d.1
+    (λ q i. let j = h q (inr i) in let n : nat_eq j.0.xid r.xid.0 ≡ false = off j.0 q i j.2 in (j.0, in_filtered (λ (v : Flight). not (nat_eq v.xid r.xid.0)) j.0 fs j.1 (rw n refl), j.2)) in
     omega arith
   where
     off : (f : Flight) (q : RequestOf) → In q rs → f.xid ≡ q.xid.0 → nat_eq f.xid r.xid.0 ≡ false

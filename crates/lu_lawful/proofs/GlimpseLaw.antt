@@ -96,7 +96,8 @@ module _ (head : Head) (out : Who → Bool) where
   due_before : (past : List Line) (l : Line) (later : List PrintedLine) → Grown head (l ∷ past) → Due (l ∷ past) later → Due past (shown l.at (printed_entry (count_sent past + 1) l.entry) later)
   due_before past l later g due at = by (printed_entry (count_sent past + 1) l.entry) (due at)
     where
-      by : (o : Option PrintedEntry) → NoBytes (machine_cut head.osts (to_turn_end at later (elim o [ None ↦ printed past | Some e ↦ record { at = l.at; entry = e } ∷ printed past ]))) → NoBytes (machine_cut head.osts (to_turn_end at (shown l.at o later) (printed past)))
+      by : (o : Option PrintedEntry) → NoBytes (machine_cut head.osts (to_turn_end at later (elim o [ None ↦ printed past | Some e ↦ record { at = l.at; entry = e } ∷ printed past ])))
+          → NoBytes (machine_cut head.osts (to_turn_end at (shown l.at o later) (printed past)))
       by None h = h
       by (Some e) h =
           cond_both (same_turn l.at at) (to_turn_end at later (record { at = l.at; entry = e } ∷ printed past)) (printed past) (λ (p : Past). NoBytes (machine_cut head.osts p)) (λ _. h) (λ _. cut_none past g.1)
@@ -116,7 +117,8 @@ module _ (head : Head) (out : Who → Bool) where
     are_empty m ms past c slot f (suc stripe) ns none empty.1,
   )
 
-  sizes_on : (past : List Line) (l : PrintedLine) (later : List PrintedLine) (c slot : ℕ) (named : At) (given : Answer) → Grown head past → NoBytes (machine_cut head.osts (to_turn_end l.at later (l ∷ printed past))) → (a : SizesAt past l.at c slot named given)
+  sizes_on : (past : List Line) (l : PrintedLine) (later : List PrintedLine) (c slot : ℕ) (named : At) (given : Answer) → Grown head past
+      → NoBytes (machine_cut head.osts (to_turn_end l.at later (l ∷ printed past))) → (a : SizesAt past l.at c slot named given)
       → SizesOn out head.osts (printed past) l later c slot a.sizes (open_call c slot (printed past))
   sizes_on past l later c slot named given g none a =
       let m = meant_is head c slot past a.running g a.call in
@@ -126,9 +128,11 @@ module _ (head : Head) (out : Who → Bool) where
       (subst (λ (o : Option Fid). AreSizes (machines out head.osts (printed past) l later c slot) (printed past) c slot o 0 a.sizes) (sym f.1)
       (are_empty (machine_cut head.osts (to_turn_end l.at later (l ∷ printed past))) _ (printed past) c slot f.0 0 a.sizes none a.empty))
 
-  told_law : (past : List Line) (l : PrintedLine) (later : List PrintedLine) (c slot : ℕ) (named : At) (given : Answer) → l.at.node ≡ Client c → Grown head past → NoBytes (machine_cut head.osts (to_turn_end l.at later (l ∷ printed past))) → TellsAt past l.at (Client c) slot named given
+  told_law : (past : List Line) (l : PrintedLine) (later : List PrintedLine) (c slot : ℕ) (named : At) (given : Answer) → l.at.node ≡ Client c → Grown head past
+      → NoBytes (machine_cut head.osts (to_turn_end l.at later (l ∷ printed past))) → TellsAt past l.at (Client c) slot named given
       → GlimpseAt out head.osts (printed past) l later (trace.Told slot named given)
-  told_law past l later c slot named given here g none (inl a) = quiet (printed past) l later slot named given (subst (λ (v : Answer). are_sizes v ≡ false) a.answer (so_fine a.deed.reply.answer (deed_fine head past a.deed g a.acted)).2)
+  told_law past l later c slot named given here g none (inl a) = quiet (printed past) l later slot named given
+      (subst (λ (v : Answer). are_sizes v ≡ false) a.answer (so_fine a.deed.reply.answer (deed_fine head past a.deed g a.acted)).2)
   told_law past l later c slot named given here g none (inr (inl k)) = quiet (printed past) l later slot named given (known_fine head past c k.running.call given g k.known).2
   told_law past l later c slot named given here g none (inr (inr (inl k))) = quiet (printed past) l later slot named given (ap are_sizes k.answer)
   told_law past l later c slot named given here g none (inr (inr (inr (inl k)))) = quiet (printed past) l later slot named given (ap are_sizes k.answer)
@@ -145,7 +149,8 @@ module _ (head : Head) (out : Who → Bool) where
   glimpse_at : (past : List Line) (l : Line) (later : List PrintedLine) → Allowed head past l.at l.entry → Grown head past → AllTold (l ∷ past) → Due (l ∷ past) later → Keeps (GlimpseOf out head.osts) past l later
   glimpse_at past l later ok g t due = by l.at.node l.entry ok t due
     where
-      by : (node : Node) (e : Entry) → Allowed head past (turn l.at.stamp node) e → AllTold (line (turn l.at.stamp node) e ∷ past) → Due (line (turn l.at.stamp node) e ∷ past) later → Keeps (GlimpseOf out head.osts) past (line (turn l.at.stamp node) e) later
+      by : (node : Node) (e : Entry) → Allowed head past (turn l.at.stamp node) e → AllTold (line (turn l.at.stamp node) e ∷ past) → Due (line (turn l.at.stamp node) e ∷ past) later
+          → Keeps (GlimpseOf out head.osts) past (line (turn l.at.stamp node) e) later
       by (Client c) (Told slot named given work) k t due =
           told_law past (record { at = turn l.at.stamp (Client c); entry = trace.Told slot named given }) later c slot named given refl g (due (turn l.at.stamp (Client c))) t.0
       by (Target u) (Told slot named given work) k t due = absurd k.ok

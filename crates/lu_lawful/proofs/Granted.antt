@@ -164,7 +164,8 @@ keeps_granted head past stamp (Target t) (Grant lock asked) a g h l i = ⊎_elim
     (λ (q : In l (granted 0 (printed past))). inl (cond_both (nat_eq t 0) (lock ∷ granted 0 (printed past)) (granted 0 (printed past)) (λ (ls : List Lock). In l ls) (λ e. inr q) (λ e. q)))
     (λ (q : JustGave past l). inr q)
     (h l i)
-keeps_granted head past stamp (Target t) (Send (Client c) (message.Reply r)) a g h l i = ⊎_elim (λ (q : In l (granted 0 (printed past))). inl q) (λ (q : JustGave past l). inl (shows_granted head past l g (a.ok.2 q.0 q.1 l q.2))) (h l i)
+keeps_granted head past stamp (Target t) (Send (Client c) (message.Reply r)) a g h l i = ⊎_elim (λ (q : In l (granted 0 (printed past))). inl q)
+    (λ (q : JustGave past l). inl (shows_granted head past l g (a.ok.2 q.0 q.1 l q.2))) (h l i)
 keeps_granted head past stamp (Client b) (Send (Client c) (message.Reply r)) a g h l i = absurd a.ok
 keeps_granted head past stamp (Client c) Crash a g h l i = absurd a.ok
 keeps_granted head past stamp (Target t) Crash a g h l i =

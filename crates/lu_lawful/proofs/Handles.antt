@@ -428,8 +428,10 @@ open_bound c slot (l ∷ past) b e sizes = by l.entry e (λ q. open_bound c slot
 
     by : (x : PrintedEntry) → open_call c slot (record { at = l.at; entry = x } ∷ past) ≡ Some b → (open_call c slot past ≡ Some b → b.bad ≡ not (is_some b.bound)) → b.bad ≡ not (is_some b.bound)
     by (trace.Begin other x) e ih =
-        cond_both (pasts.is_client c l.at.node && nat_eq other slot) (Some (calls.begun c past l.at x)) (open_call c slot past) (λ (o : Option calls.Begun). o ≡ Some b → b.bad ≡ not (is_some b.bound)) (λ t q. now x q) (λ t q. ih q) e
-    by (trace.Told other at given) e ih = cond_both (pasts.is_client c l.at.node && nat_eq other slot) None (open_call c slot past) (λ (o : Option calls.Begun). o ≡ Some b → b.bad ≡ not (is_some b.bound)) (λ t q. absurd (cc)) (λ t q. ih q) e
+        cond_both (pasts.is_client c l.at.node && nat_eq other slot) (Some (calls.begun c past l.at x)) (open_call c slot past) (λ (o : Option calls.Begun). o ≡ Some b → b.bad ≡ not (is_some b.bound))
+        (λ t q. now x q) (λ t q. ih q) e
+    by (trace.Told other at given) e ih = cond_both (pasts.is_client c l.at.node && nat_eq other slot) None (open_call c slot past) (λ (o : Option calls.Begun). o ≡ Some b → b.bad ≡ not (is_some b.bound))
+        (λ t q. absurd (cc)) (λ t q. ih q) e
     by _ e ih = ih e
 
 -- so a good one is of a file
@@ -465,7 +467,8 @@ pub meant_is : (head : Head) (c slot : ℕ) (past : List Line) (running : Runnin
     → (b : calls.Begun) × (open_call c slot (printed past) ≡ Some b) × (b.at ≡ running.at) × (b.call ≡ running.call) × (becomes running ≡ operation b) × (is_bad_stage running.stage ≡ b.bad)
 meant_is head c slot past running g is =
     by (call_at c slot past) (open_call c slot (printed past)) refl is
-    (both_calls IsMeantBy (λ asking a b s. s) meant_stands head c slot (λ past stamp s r g k. let m = meant_begin head c past g (turn stamp (Client c)) k.closes k.ok.later r k.ok.begins in (ap (λ (v : Running). v.at) k.ok.is, refl, m.0, m.1)) past g)
+    (both_calls IsMeantBy (λ asking a b s. s) meant_stands head c slot (λ past stamp s r g k. let m = meant_begin head c past g (turn stamp (Client c)) k.closes k.ok.later r
+    k.ok.begins in (ap (λ (v : Running). v.at) k.ok.is, refl, m.0, m.1)) past g)
   where
     by : (a : Option Running) (b : Option calls.Begun) → open_call c slot (printed past) ≡ b → a ≡ Some running → OfBoth IsMeantBy (λ asking a b s. s) meant_stands a b
         → (b : calls.Begun) × (open_call c slot (printed past) ≡ Some b) × (b.at ≡ running.at) × (b.call ≡ running.call) × (becomes running ≡ operation b) × (is_bad_stage running.stage ≡ b.bad)

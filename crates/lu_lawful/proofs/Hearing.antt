@@ -74,7 +74,8 @@ just_heard head (l ∷ past) at c r g n j = by l.at.node l.entry g.0 j (just_hea
     by (Target u) (Heard v f q) k j h = absurd k.ok
     by (Client d) (Heard v f q) k j h =
         let none = unheard_now head past (turn l.at.stamp (Client d)) (Target v) (message.Reply q) g.1 k.ok.1 in
-        first (turn l.at.stamp (Client d)) v q.xid.0 r.xid.0 (heard_in (printed past) at) (subst (λ (w : At). heard_in (printed past) w ≡ None) j.0 none) (subst (λ (w : At). same_turn w at ≡ true) (sym j.0) (same_turn_self at)) j.1 (ap (λ (w : ReplyTo). w.xid.0) j.2)
+        first (turn l.at.stamp (Client d)) v q.xid.0 r.xid.0 (heard_in (printed past) at) (subst (λ (w : At). heard_in (printed past) w ≡ None) j.0 none)
+        (subst (λ (w : At). same_turn w at ≡ true) (sym j.0) (same_turn_self at)) j.1 (ap (λ (w : ReplyTo). w.xid.0) j.2)
     by (Client d) (Told slot named given work) k j h = absurd j
     by (Target u) (Told slot named given work) k j h = absurd j
     by _ _ k j h = h j

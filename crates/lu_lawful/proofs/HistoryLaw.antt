@@ -76,7 +76,7 @@ use Rattle.lu_facts.proofs.All.{holds}
 use Rattle.lu_facts.proofs.Lines.{acted_whole}
 use Rattle.lu_facts.proofs.OnNames.{IsPlain, told_so, reading_told}
 use Rattle.lu_facts.proofs.Refused.{acted_plain}
-use Rattle.lu_facts.proofs.Known.{right, SawBy, known_saw}
+use Rattle.lu_facts.proofs.Known.{right, SawBy, known_saw, heard_by_whole}
 use Rattle.lu_lawful.proofs.Commits.{made_more}
 use Rattle.lu_lawful.proofs.Lines.{Keeps, holds_before}
 use Rattle.lu_lawful.proofs.Turns.{same_turn_is}
@@ -93,7 +93,7 @@ use Rattle.lu_lawful.proofs.Printed.{present_is, open_is}
 use Rattle.lu_lawful.proofs.CloseLines.{nothing_left}
 use Rattle.lu_lawful.proofs.CloseSlots.{LeftEvict, evicted_law}
 use Rattle.lu_lawful.proofs.Story.{about_it, target_is, story_at, made_story}
-use Rattle.lu_lawful.proofs.ToldLaw.{Lasting, heard_by_whole, heard_stands, same_stands}
+use Rattle.lu_lawful.proofs.ToldLaw.{Lasting, heard_stands, same_stands}
 use Rattle.lu_lawful.proofs.Handles.{is_bad_stage, file_there, meant_is}
 
 commits_before : (osts : ℕ) (lost : ℕ → ℕ → Bool) (l : Line) (past : List Line) → CommitsStand osts lost (l ∷ past) → CommitsStand osts lost past
@@ -322,7 +322,8 @@ glimpse_act head past c slot r handle g is glimpses =
 abbrev pub flush_of : Who → Fid → ℕ → ActOf
 flush_of who file handle = record { who = who; number = none; deed = Data file (call.Flush handle) }
 
-flush_act : (head : Head) (past : List Line) (c slot : ℕ) (r : Running) (handle : ℕ) (file : Fid) (b : Begun) → open_call c slot (printed past) ≡ Some b → b.call ≡ call.Flush handle → file_of b ≡ Some file → call_act (printed past) c slot ≡ Some (flush_of (who_is c (printed past)) file handle)
+flush_act : (head : Head) (past : List Line) (c slot : ℕ) (r : Running) (handle : ℕ) (file : Fid) (b : Begun) → open_call c slot (printed past) ≡ Some b → b.call ≡ call.Flush handle → file_of b ≡ Some file
+    → call_act (printed past) c slot ≡ Some (flush_of (who_is c (printed past)) file handle)
 flush_act head past c slot r handle file b is flushes of =
     let who = who_is c (printed past) in
     ap (λ (v : Option Begun). act_of who none (deed_of v)) is
@@ -330,7 +331,8 @@ flush_act head past c slot r handle file b is flushes of =
     ∙ ap (λ (v : Option Fid). act_of who none (data_deed b.call v)) of
     ∙ ap (λ (v : Call). act_of who none (Some (Data file v))) flushes
 
-flush_there : (head : Head) (past : List Line) (at : At) (c slot : ℕ) (named : At) (given : Answer) → Grown head past → (a : FlushedAt past at c slot named given) → (file : Fid) × (call_act (printed past) c slot ≡ Some (flush_of (who_is c (printed past)) file a.handle))
+flush_there : (head : Head) (past : List Line) (at : At) (c slot : ℕ) (named : At) (given : Answer) → Grown head past → (a : FlushedAt past at c slot named given)
+    → (file : Fid) × (call_act (printed past) c slot ≡ Some (flush_of (who_is c (printed past)) file a.handle))
 flush_there head past at c slot named given g a =
     let m = meant_is head c slot past a.running g a.call in
     let flushes : m.0.call ≡ call.Flush a.handle = m.3 ∙ a.flushes in
@@ -417,7 +419,8 @@ module _ (head : Head) (out : Who → Bool) (lost : ℕ → ℕ → Bool) where
       → Follows (line (turn stamp (Client c)) (Told slot named given work) ∷ past)
   follows_told past stamp c slot named given work g tells h =
       let is = by (told_item out (printed past) (turn stamp (Client c)) (Client c) slot named given) (told_adds head out past stamp c slot named given g tells) in
-      let old = subst (λ (is : List Item). ((machine past).last ≤ numbers_at past) × ((p : Part) → Same (machine past).tree (whole head.osts (pick (keep lost) is)) p)) (sym (items_same head past stamp (Client c) (Told slot named given work) tt)) h in (
+      let old = subst (λ (is : List Item). ((machine past).last ≤ numbers_at past) × ((p : Part) → Same (machine past).tree (whole head.osts (pick (keep lost) is)) p))
+      (sym (items_same head past stamp (Client c) (Told slot named given work) tt)) h in (
         subst (λ (n : ℕ). n ≤ numbers_at past) (sym is.0) old.0,
         subst (λ (t : Tree). (p : Part) → Same t (whole head.osts (standing (line (turn stamp (Client c)) (Told slot named given work) ∷ past))) p) (sym is.1) old.1,
       )
@@ -599,7 +602,7 @@ module _ (head : Head) (out : Who → Bool) (lost : ℕ → ℕ → Bool) where
       let d = tells.deed in
       let life = present_is head c past g in
       let whose : tells.reply.who ≡ who_is c (printed past) = ap (λ (v : ReplyTo). v.who) (sym tells.is) ∙ tells.who ∙ sym life in
-      let stands = same_stands lost d.reply tells.reply tells.is (heard_stands out lost past c tells.flight tells.reply f.heard (heard_by_whole past c tells.flight tells.reply tells.hears) (ap out whose ∙ out_not)) in
+      let stands = same_stands lost d.reply tells.reply tells.is (heard_stands out lost past c tells.flight tells.reply f.heard (heard_by_whole 0 past c tells.flight tells.reply tells.hears) (ap out whose ∙ out_not)) in
       let found = answered_there past d (story_at head past 0 d g tells.acted) g a t f (acted_whole 0 past d tells.acted) tells.plain stands in
       subst (λ b. right_answer out lost head.osts (printed past) (turn stamp (Client c)) c slot named b ≡ Some given) (sym tells.other)
       (subst (λ (o : Option ℕ). heard_answer out lost head.osts (printed past) named (who_is c (printed past)) o ≡ Some given) (sym tells.heard)

@@ -86,6 +86,7 @@ pub use Rattle.lu_facts.proofs.Sides
 pub use Rattle.lu_facts.proofs.Unlocked
 pub use Rattle.lu_facts.proofs.Lines as FactLines
 pub use Rattle.lu_guards.proofs.ClientHandles
+pub use Rattle.lu_guards.proofs.Comings
 pub use Rattle.lu_guards.proofs.Covers
 pub use Rattle.lu_guards.proofs.Guards
 pub use Rattle.lu_guards.proofs.StoryGuards

@@ -47,18 +47,21 @@ waits_asked : (head : Head) (past : List Line) (t : ℕ) (r : RequestOf) → Gro
 waits_asked head [] t r g i = absurd i
 waits_asked head (l ∷ past) t r g i = by l.at.node l.entry g.0 i (waits_asked head past t r g.1)
   where
-    acted : (node : Node) (e : Entry) (d : Deed) (own : Bool) → (In r (waiting_at t past) → WasAsked past t r) → In r (if own then without_request d (waiting_at t past) else waiting_at t past) → WasAsked (line (turn l.at.stamp node) e ∷ past) t r
+    acted : (node : Node) (e : Entry) (d : Deed) (own : Bool) → (In r (waiting_at t past) → WasAsked past t r) → In r (if own then without_request d (waiting_at t past) else waiting_at t past)
+        → WasAsked (line (turn l.at.stamp node) e ∷ past) t r
     acted node e d true h i = asked_more (line (turn l.at.stamp node) e) past t r (h (in_filter (λ q. not (is_request_of d q)) r (waiting_at t past) i).0)
     acted node e d false h i = asked_more (line (turn l.at.stamp node) e) past t r (h i)
 
-    by : (node : Node) (e : Entry) → Allowed head past (turn l.at.stamp node) e → In r (waiting_at t (line (turn l.at.stamp node) e ∷ past)) → (In r (waiting_at t past) → WasAsked past t r) → WasAsked (line (turn l.at.stamp node) e ∷ past) t r
+    by : (node : Node) (e : Entry) → Allowed head past (turn l.at.stamp node) e → In r (waiting_at t (line (turn l.at.stamp node) e ∷ past)) → (In r (waiting_at t past) → WasAsked past t r)
+        → WasAsked (line (turn l.at.stamp node) e ∷ past) t r
     by (Client c) (Enters q) k i h = absurd k.ok
     by (Client c) (Act d) k i h = absurd k.ok
     by (Client c) (Made d) k i h = absurd k.ok
     by (Client c) (Evict who cause) k i h = absurd k.ok
     by (Client c) (Close o) k i h = absurd k.ok
     by (Target u) (Close o) k i h =
-        cond_both (nat_eq t u) [] (waiting_at t past) (λ (v : List RequestOf). In r v → WasAsked (line (turn l.at.stamp (Target u)) (Close o) ∷ past) t r) (λ e j. absurd j) (λ e j. asked_more (line (turn l.at.stamp (Target u)) (Close o)) past t r (h j)) i
+        cond_both (nat_eq t u) [] (waiting_at t past) (λ (v : List RequestOf). In r v → WasAsked (line (turn l.at.stamp (Target u)) (Close o) ∷ past) t r) (λ e j. absurd j)
+        (λ e j. asked_more (line (turn l.at.stamp (Target u)) (Close o)) past t r (h j)) i
     by (Target u) (Evict who cause) k i h =
         let at = line (turn l.at.stamp (Target u)) (Evict who cause) in
         cond_both (nat_eq t u) (waiting_after (waiting_at t past) (Evict who cause)) (waiting_at t past) (λ (v : List RequestOf). In r v → WasAsked (at ∷ past) t r)
@@ -72,7 +75,8 @@ waits_asked head (l ∷ past) t r g i = by l.at.node l.entry g.0 i (waits_asked 
         cond_both (nat_eq t u) (waiting_at t past ++ q ∷ []) (waiting_at t past) (λ (v : List RequestOf). In r v → WasAsked (at ∷ past) t r)
         (λ e j. ⊎_elim
         (λ (m : In r (waiting_at t past)). asked_more at past t r (h m))
-        (λ (m : In r (q ∷ [])). ⊎_elim (λ (w : q ≡ r). asked_more at past t r (subst (λ (v : RequestOf). WasAsked past t v) w (Client ok.from, subst (λ (v : ℕ). Was past (Client ok.from) (Target v) (message.Request q)) (sym (eqb-true t u e)) was))) (λ (v : ⊥). absurd v) m)
+        (λ (m : In r (q ∷ [])). ⊎_elim (λ (w : q ≡ r). asked_more at past t r (subst (λ (v : RequestOf). WasAsked past t v) w
+        (Client ok.from, subst (λ (v : ℕ). Was past (Client ok.from) (Target v) (message.Request q)) (sym (eqb-true t u e)) was))) (λ (v : ⊥). absurd v) m)
         (in_append r (waiting_at t past) (q ∷ []) j))
         (λ e j. asked_more at past t r (h j))
         i
@@ -107,7 +111,8 @@ turn_boot head (l ∷ past) t d g here a now = by l.at.node l.entry g.0 a now (�
     boots [] at u boot n later i = absurd i
     boots (k ∷ p) at u boot n later i = absurd (turn_irreflexive at (subst (λ (v : At). turn_before v at ≡ true) (i ∙ sym n) later))
 
-    by : (node : Node) (e : Entry) → Allowed head past (turn l.at.stamp node) e → Acted (line (turn l.at.stamp node) e ∷ past) d → IsTurnOf (line (turn l.at.stamp node) e ∷ past) d.reply.at → (Acted past d → d.reply.boot ≡ boot_at t past) → d.reply.boot ≡ boot_at t (line (turn l.at.stamp node) e ∷ past)
+    by : (node : Node) (e : Entry) → Allowed head past (turn l.at.stamp node) e → Acted (line (turn l.at.stamp node) e ∷ past) d → IsTurnOf (line (turn l.at.stamp node) e ∷ past) d.reply.at
+        → (Acted past d → d.reply.boot ≡ boot_at t past) → d.reply.boot ≡ boot_at t (line (turn l.at.stamp node) e ∷ past)
     by (Client c) (Act e) k a n ih = absurd k.ok
     by (Target u) (Act e) k (inl same) n ih = let is = act_for head past l.at.stamp u e k in of_done u e (ap (λ (v : At). v.node) is.turn) is.boot same
     by (Target u) (Act e) k (inr b) n ih = ih b
@@ -141,7 +146,8 @@ pub record DoesNow (head : Head) (past : List Line) (at : At) (d : Deed) : Type 
   pub new : NoneFor head past target d.reply.who d.reply.xid.0
   pub now : NoneNow head past at d.reply.who d.reply.xid.0
 
-does : (head : Head) (past : List Line) (at : At) (t : ℕ) (d : Deed) (r : RequestOf) → Grown head past → Steps past at → at.node ≡ Target t → d.reply.at ≡ at → IsServing head.osts (only t past) → In r (server_of head.osts (only t past)).waiting
+does : (head : Head) (past : List Line) (at : At) (t : ℕ) (d : Deed) (r : RequestOf) → Grown head past → Steps past at → at.node ≡ Target t → d.reply.at ≡ at → IsServing head.osts (only t past)
+    → In r (server_of head.osts (only t past)).waiting
     → r.who ≡ d.reply.who → r.xid ≡ d.reply.xid → r.op ≡ d.op → r.tag ≡ d.tag → DoesNow head past at d
 does head past at t d r g steps here when serves i w x o k =
     record {
@@ -179,7 +185,8 @@ pub txn_now : (head : Head) (past : List Line) (stamp : Stamp) (node : Node) (d 
 txn_now head past stamp (Client c) d k g = absurd k.ok
 txn_now head past stamp (Target t) d k g =
     let ok = k.of t (self t) in
-    does head past (turn stamp (Target t)) t d ok.request g k.steps refl (ap (λ (v : Deed). v.reply.at) ok.is) ok.serves ok.waits (ap (λ (v : Deed). v.reply.who) (sym ok.is)) (ap (λ (v : Deed). v.reply.xid) (sym ok.is)) (ap (λ (v : Deed). v.op) (sym ok.is)) (ap (λ (v : Deed). v.tag) (sym ok.is))
+    does head past (turn stamp (Target t)) t d ok.request g k.steps refl (ap (λ (v : Deed). v.reply.at) ok.is) ok.serves ok.waits (ap (λ (v : Deed). v.reply.who) (sym ok.is))
+    (ap (λ (v : Deed). v.reply.xid) (sym ok.is)) (ap (λ (v : Deed). v.op) (sym ok.is)) (ap (λ (v : Deed). v.tag) (sym ok.is))
 
 -- transactions are the metadata target's
 pub txn_first : (head : Head) (past : List Line) (stamp : Stamp) (node : Node) (d : Deed) → Allowed head past (turn stamp node) (Made d) → node ≡ Target 0
@@ -194,7 +201,8 @@ first_is head past t d g s =
     let r = s.0 in
     let y : r.xid.0 ≡ d.reply.xid.0 = ap (λ (v : Xid). v.0) s.3 in
     let first = sent_first past t s.1.0 r s.1.1 in
-    let is : first_request (printed past) t d.reply.who d.reply.xid.0 ≡ Some first.0 = subst (λ (v : Who). first_request (printed past) t v d.reply.xid.0 ≡ Some first.0) s.2 (subst (λ v. first_request (printed past) t r.who v ≡ Some first.0) y first.1) in
+    let is : first_request (printed past) t d.reply.who d.reply.xid.0 ≡ Some first.0 = subst (λ (v : Who). first_request (printed past) t v d.reply.xid.0 ≡ Some first.0) s.2
+    (subst (λ v. first_request (printed past) t r.who v ≡ Some first.0) y first.1) in
     let k = first_sent past t d.reply.who d.reply.xid.0 first.0 is in
     let m = h.done.sent k.0 (Target t) (message.Request first.0) (was_to head past t k.0 (message.Request first.0) g k.1) in
     let n = h.done.sent s.1.0 (Target t) (message.Request r) (was_to head past t s.1.0 (message.Request r) g s.1.1) in

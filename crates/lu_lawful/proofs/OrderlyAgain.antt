@@ -27,7 +27,7 @@ use Rattle.lu_laws.specs.Words.Pasts.{same_turn, or_else}
 use Rattle.lu_laws.specs.Words.Sends.{Sending, taken}
 use Rattle.lu_laws.specs.Laws.Recovery.{is_size_for, is_executed}
 use Rattle.lu_laws.specs.Order.Repeated.{last_reply, asks, SameReply, Repeats, RepeatedAt, RepeatedBy, Repeated}
-use Rattle.lu_laws.proofs.Tests.{either_left}
+use Rattle.lu_laws.proofs.Tests.{either_left, both}
 use Rattle.lu_guards.proofs.Guards.{Did, TookNow, Taken, RepliesAgain}
 use Rattle.lu_guards.proofs.StoryGuards.{ReplyOk, EntryOf}
 use Rattle.lu_guards.proofs.Grown.{Allowed, Grown}
@@ -107,7 +107,8 @@ module _ (u : ℕ) where
   replied_now past d k false e is = absurd (cc)
 
   -- a kept reply to the request of a deed is that deed's
-  same_deed : (head : Head) (past : List Line) (t c : ℕ) (k : ReplyTo) (d : Deed) → d.reply.at.node ≡ Target u → Grown head past → ReplyOk head (only u past) t c k → Acted past d → Counts head.osts (only u past) d → (same_life k.who d.reply.who && nat_eq k.xid.0 d.reply.xid.0) ≡ true → SameReply d.reply k
+  same_deed : (head : Head) (past : List Line) (t c : ℕ) (k : ReplyTo) (d : Deed) → d.reply.at.node ≡ Target u → Grown head past → ReplyOk head (only u past) t c k → Acted past d
+      → Counts head.osts (only u past) d → (same_life k.who d.reply.who && nat_eq k.xid.0 d.reply.xid.0) ≡ true → SameReply d.reply k
   same_deed head past t c k d here g ok a n e =
       let h = ((holds head past g).at u).done in
       let f = replied_acted head u past g t c k ok in
@@ -128,7 +129,8 @@ module _ (u : ℕ) where
       numbered : ℕ → Xid
       numbered n = record { 0 = n }
 
-  sends_reply : (head : Head) (past : List Line) (stamp : Stamp) (t c : ℕ) (k : ReplyTo) → Allowed head past (turn stamp (Target t)) (Send (Client c) (message.Reply k)) → Grown head past → (d : Deed) → d.reply.at.node ≡ Target u → IsAnswered past d → Acted past d → Counts head.osts (only u past) d
+  sends_reply : (head : Head) (past : List Line) (stamp : Stamp) (t c : ℕ) (k : ReplyTo) → Allowed head past (turn stamp (Target t)) (Send (Client c) (message.Reply k)) → Grown head past → (d : Deed)
+      → d.reply.at.node ≡ Target u → IsAnswered past d → Acted past d → Counts head.osts (only u past) d
       → IsLast (line (turn stamp (Target t)) (Send (Client c) (message.Reply k)) ∷ past) d
   sends_reply head past stamp t c k a g d here h i n = ⊎_elim
       (λ (did : Did past d).
@@ -140,13 +142,11 @@ module _ (u : ℕ) where
       (λ e. let p = and_parts (nat_eq t u) (same_life k.who d.reply.who && nat_eq k.xid.0 d.reply.xid.0) e in same_deed head past t c k d here g (a.of u (flip u t ∙ p.0)) i n p.1) last)
       h
     where
-      both : {a b : Bool} → a ≡ true → b ≡ true → (a && b) ≡ true
-      both p q = rw (p, q) refl
-
       its_own : (k : ReplyTo) → (same_life k.who k.who && nat_eq k.xid.0 k.xid.0) ≡ true
       its_own k = rw (life_self k.who, self k.xid.0) refl
 
-  keeps_answered : (head : Head) (past : List Line) (stamp : Stamp) (node : Node) (e : Entry) → Allowed head past (turn stamp node) e → Grown head past → (d : Deed) → d.reply.at.node ≡ Target u → (Acted past d → IsAnswered past d) → (Acted past d → Counts head.osts (only u past) d) → Acted (line (turn stamp node) e ∷ past) d → IsAnswered (line (turn stamp node) e ∷ past) d
+  keeps_answered : (head : Head) (past : List Line) (stamp : Stamp) (node : Node) (e : Entry) → Allowed head past (turn stamp node) e → Grown head past → (d : Deed) → d.reply.at.node ≡ Target u
+      → (Acted past d → IsAnswered past d) → (Acted past d → Counts head.osts (only u past) d) → Acted (line (turn stamp node) e ∷ past) d → IsAnswered (line (turn stamp node) e ∷ past) d
   keeps_answered head past stamp (Target t) (Send (Client c) (message.Reply k)) a g d here h n i = inr (sends_reply head past stamp t c k a g d here (h i) i (n i))
   keeps_answered head past stamp (Target t) (Send (Client c) (message.Block who boot cookie)) a g d here h n i =
       ⊎_elim (λ (did : Did past d). absurd (owed past (turn stamp (Target t)) d (Send (Client c) (message.Block who boot cookie)) did a.owes)) (λ (last : IsLast past d). inr last) (h i)
@@ -200,7 +200,8 @@ module _ (u : ℕ) where
       let who : q.who ≡ k.who = sym slot.0 ∙ sym (ap (λ (v : ReplyTo). v.who) ok.is) in
       let xid : q.xid.0 ≡ k.xid.0 = sym ok.same ∙ sym slot.1 ∙ sym (ap (λ (v : ReplyTo). v.xid.0) ok.is) in
       let took = takes_it head past at ok.took.0 (message.Request q) g ok.took.1 in
-      let its : (same_life q.who k.who && nat_eq q.xid.0 k.xid.0) ≡ true = subst (λ (v : Who). (same_life q.who v && nat_eq q.xid.0 k.xid.0) ≡ true) who (subst (λ (v : ℕ). (same_life q.who q.who && nat_eq q.xid.0 v) ≡ true) xid own) in
+      let its : (same_life q.who k.who && nat_eq q.xid.0 k.xid.0) ≡ true = subst (λ (v : Who). (same_life q.who v && nat_eq q.xid.0 k.xid.0) ≡ true) who
+      (subst (λ (v : ℕ). (same_life q.who q.who && nat_eq q.xid.0 v) ≡ true) xid own) in
       let d = replied_acted head u past g t c k reply in
       let dwho : d.0.reply.who ≡ k.who = ap (λ (v : ReplyTo). v.who) d.2 ∙ sym (ap (λ (v : ReplyTo). v.who) reply.is) in
       let dxid : d.0.reply.xid.0 ≡ k.xid.0 = ap (λ (v : ReplyTo). v.xid.0) d.2 ∙ sym (ap (λ (v : ReplyTo). v.xid.0) reply.is) in
@@ -209,7 +210,8 @@ module _ (u : ℕ) where
         same = ⊎_elim
             (λ (did : Did past d.0). absurd (took_not_did past at ok.took.0 (message.Request q) d.0 ok.took.1 did))
             (λ (last : IsLast past d.0).
-            let is : last_reply u k.who k.xid.0 (printed past) ≡ Some last.0 = subst (λ (v : Who). last_reply u v k.xid.0 (printed past) ≡ Some last.0) dwho (subst (λ (v : ℕ). last_reply u d.0.reply.who v (printed past) ≡ Some last.0) dxid last.1) in
+            let is : last_reply u k.who k.xid.0 (printed past) ≡ Some last.0 = subst (λ (v : Who). last_reply u v k.xid.0 (printed past) ≡ Some last.0) dwho
+            (subst (λ (v : ℕ). last_reply u d.0.reply.who v (printed past) ≡ Some last.0) dxid last.1) in
             subst (λ (o : Option ReplyTo). Repeats k o) (sym is)
             (record {
               number = ap (λ (v : ReplyTo). v.txn) reply.is ∙ ap (λ (v : ReplyTo). v.txn) (sym d.2) ∙ last.2.number;

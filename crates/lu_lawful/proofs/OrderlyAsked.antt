@@ -74,7 +74,8 @@ module _ (u : ℕ) where
 
   -- ---- the target serves before a line after which it does
 
-  served_before : (head : Head) (past : List Line) (stamp : Stamp) (node : Node) (e : Entry) → IsNoClose e → Allowed head past (turn stamp node) e → Grown head past → IsServing head.osts (only u (line (turn stamp node) e ∷ past)) → IsServing head.osts (only u past)
+  served_before : (head : Head) (past : List Line) (stamp : Stamp) (node : Node) (e : Entry) → IsNoClose e → Allowed head past (turn stamp node) e → Grown head past
+      → IsServing head.osts (only u (line (turn stamp node) e ∷ past)) → IsServing head.osts (only u past)
   served_before head past stamp node e n a g s =
       cond_both (concerns u node e) (line (turn stamp node) e ∷ only u past) (only u past) (λ (p : List Line). IsServing head.osts p → IsServing head.osts (only u past))
       (λ q v. by node e n a q v) (λ q v. v) s
@@ -130,7 +131,8 @@ module _ (u : ℕ) where
 
   -- ---- each line keeps it
 
-  acted_fewer : (past : List Line) (at : At) (e : Entry) (d : Deed) (own : Bool) (r : RequestOf) → ((r : RequestOf) → In r (waiting_at u past) → Unanswered past r) → In r (if own then without_request d (waiting_at u past) else waiting_at u past) → Unanswered past r
+  acted_fewer : (past : List Line) (at : At) (e : Entry) (d : Deed) (own : Bool) (r : RequestOf) → ((r : RequestOf) → In r (waiting_at u past) → Unanswered past r)
+      → In r (if own then without_request d (waiting_at u past) else waiting_at u past) → Unanswered past r
   acted_fewer past at e d true r h i = h r (in_filter (λ (q : RequestOf). not (is_request_of d q)) r (waiting_at u past) i).0
   acted_fewer past at e d false r h i = h r i
 
@@ -147,11 +149,13 @@ module _ (u : ℕ) where
       → AllUnanswered (line (turn stamp (Target t)) (Close o) ∷ past)
   closes_unanswered head past stamp t o h s r i = by (nat_eq u t) refl s i
     where
-      by : (v : Bool) → nat_eq u t ≡ v → IsServing head.osts (if v then line (turn stamp (Target t)) (Close o) ∷ only u past else only u past) → In r (if v then [] else waiting_at u past) → In r (if nat_eq t u then [] else unanswered u (printed past))
+      by : (v : Bool) → nat_eq u t ≡ v → IsServing head.osts (if v then line (turn stamp (Target t)) (Close o) ∷ only u past else only u past) → In r (if v then [] else waiting_at u past)
+          → In r (if nat_eq t u then [] else unanswered u (printed past))
       by true e s i = absurd i
       by false e s i = subst (λ (x : Bool). In r (if x then [] else unanswered u (printed past))) (sym (flip t u ∙ e)) (h s r i)
 
-  keeps_unanswered : (head : Head) (past : List Line) (stamp : Stamp) (node : Node) (e : Entry) → Allowed head past (turn stamp node) e → Grown head past → IsServing head.osts (only u (line (turn stamp node) e ∷ past)) → AllUnanswered past → AllUnanswered (line (turn stamp node) e ∷ past)
+  keeps_unanswered : (head : Head) (past : List Line) (stamp : Stamp) (node : Node) (e : Entry) → Allowed head past (turn stamp node) e → Grown head past
+      → IsServing head.osts (only u (line (turn stamp node) e ∷ past)) → AllUnanswered past → AllUnanswered (line (turn stamp node) e ∷ past)
   keeps_unanswered head past stamp node (Take n from m) a g s h r i = with_more r (comes_to u (printed past) node n) (boot u (printed past)) (unanswered u (printed past)) (h r i)
   keeps_unanswered head past stamp (Client c) (Send to m) a g s h r i = h r i
   keeps_unanswered head past stamp (Target t) (Send (Client c) (message.Reply k)) a g s h r i =
@@ -190,7 +194,8 @@ module _ (u : ℕ) where
   keeps_unanswered head past stamp (Target t) (Close o) a g s h r i = closes_unanswered head past stamp t o (λ q. h) s r i
   keeps_unanswered head past stamp (Client c) (Evict who cause) a g s h r i = absurd a.ok
   keeps_unanswered head past stamp (Target t) (Evict who cause) a g s h r i =
-      cond_both (nat_eq u t) (filter (λ (q : RequestOf). not (is_life q.who (who ∷ []))) (waiting_at u past)) (waiting_at u past) (λ (v : List RequestOf). In r v → Unanswered (line (turn stamp (Target t)) (Evict who cause) ∷ past) r)
+      cond_both (nat_eq u t) (filter (λ (q : RequestOf). not (is_life q.who (who ∷ []))) (waiting_at u past)) (waiting_at u past)
+      (λ (v : List RequestOf). In r v → Unanswered (line (turn stamp (Target t)) (Evict who cause) ∷ past) r)
       (λ e j. let k = in_filter (λ (q : RequestOf). not (is_life q.who (who ∷ []))) r (waiting_at u past) j in without k.0 (other k.1))
       (λ e j. apart e (h r j))
       i
@@ -218,7 +223,8 @@ module _ (u : ℕ) where
   all_unanswered head [] g s r i = absurd i
   all_unanswered head (l ∷ past) g s r i = by l.at.node l.entry g.0 s (all_unanswered head past g.1) r i
     where
-      by : (node : Node) (e : Entry) → Allowed head past (turn l.at.stamp node) e → IsServing head.osts (only u (line (turn l.at.stamp node) e ∷ past)) → (IsServing head.osts (only u past) → AllUnanswered past) → AllUnanswered (line (turn l.at.stamp node) e ∷ past)
+      by : (node : Node) (e : Entry) → Allowed head past (turn l.at.stamp node) e → IsServing head.osts (only u (line (turn l.at.stamp node) e ∷ past)) → (IsServing head.osts (only u past) → AllUnanswered past)
+          → AllUnanswered (line (turn l.at.stamp node) e ∷ past)
       by (Client c) (Close o) a s h = absurd a.ok
       by (Target t) (Close o) a s h = closes_unanswered head past l.at.stamp t o h s
       by node e a s h = keeps_unanswered head past l.at.stamp node e a g.1 s (h (served_before head past l.at.stamp node e tt a g.1 s))

@@ -196,7 +196,8 @@ module _ (head : Head) (past : List Line) (stamp : Stamp) (t : ℕ) (lock : Lock
 
   took_back : TookBack past here lock → is_given_back (printed past) here 0 lock.cookie.0 lock.ask.who ≡ true
   took_back back =
-      let was = subst (λ (v : ℕ). Was (only v past) back.from (Target t) (message.Cancel lock.ask.who back.boot lock.cookie)) a.ok.0 (was_to head past t back.from (message.Cancel lock.ask.who back.boot lock.cookie) g (took_was head past here back.from (message.Cancel lock.ask.who back.boot lock.cookie) g back.took)) in
+      let was = subst (λ (v : ℕ). Was (only v past) back.from (Target t) (message.Cancel lock.ask.who back.boot lock.cookie)) a.ok.0
+      (was_to head past t back.from (message.Cancel lock.ask.who back.boot lock.cookie) g (took_was head past here back.from (message.Cancel lock.ask.who back.boot lock.cookie) g back.took)) in
       let high = (((holds head past g).at 0).boots back.from (Target t) (message.Cancel lock.ask.who back.boot lock.cookie) was).1 in
       let now = server_boot head.osts 0 past in
       let current = back.current in

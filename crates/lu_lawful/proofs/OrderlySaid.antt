@@ -1,6 +1,6 @@
 -- What every covered run keeps of what is said: messages carry the boot and the committed number of their target, what is
 -- heard was in flight, and what acts at the metadata target has the answer of the contents.
-use Rattle.std.proofs.Common.{◌≡◌, ℕ, zero, suc, Bool, true, false, List, [], ◌∷◌, Option, Some, None, inl, inr, ⊎_elim, refl, sym, subst, ap, ◌∙◌, arith}
+use Rattle.std.proofs.Common.{◌≡◌, ℕ, zero, suc, Bool, true, false, List, [], ◌∷◌, Option, Some, None, inl, ⊎_elim, refl, sym, subst, ap, ◌∙◌, arith}
 use Rattle.std.specs.Prelude.{nat_eq, not, ◌&&◌, ◌||◌, if◌then◌else◌, is_some, filter}
 use Rattle.std.specs.List.{list_any}
 use Rattle.std.proofs.lemmas.Bool.Decides.{nat_tests}
@@ -57,7 +57,7 @@ use Rattle.lu_lawful.proofs.Deeds.{ActIs, TxnIs, act_is, txn_is}
 use Rattle.lu_lawful.proofs.Printed.{flip, present_is, own_by, own_story, sending_is}
 use Rattle.lu_lawful.proofs.Taking.{boot_of}
 use Rattle.lu_lawful.proofs.OrderlyQuiet.{Says}
-use Rattle.lu_facts.proofs.Lines.{acted_whole}
+use Rattle.lu_facts.proofs.Lines.{acted_whole, hears_more}
 
 -- ---- what messages carry
 
@@ -212,15 +212,8 @@ sent_flies t (l ∷ past) who r from w s = by l.entry s (sent_flies t past who r
         (is_by who (printed past) l.at.node && nat_eq u t) (nat_eq k.xid.0 r.xid.0) refl (h s)
     by _ s h = h s
 
-hears_then : (l : Line) (past : List Line) (who : Who) (x : ℕ) → Hears past who x → Hears (l ∷ past) who x
-hears_then l past who x h = by l.entry
-  where
-    by : (e : Entry) → Hears (line l.at e ∷ past) who x
-    by (Hears_ t f r) = inr h
-    by _ = h
-
 hears_still : (t : ℕ) (l : Line) (past : List Line) (who : Who) (x : ℕ) → Hears (only t past) who x → Hears (only t (l ∷ past)) who x
-hears_still t l past who x h = cond_both (concerns t l.at.node l.entry) (l ∷ only t past) (only t past) (λ (p : List Line). Hears p who x) (λ o. hears_then l (only t past) who x h) (λ o. h)
+hears_still t l past who x h = cond_both (concerns t l.at.node l.entry) (l ∷ only t past) (only t past) (λ (p : List Line). Hears p who x) (λ o. hears_more l (only t past) who x h) (λ o. h)
 
 -- what a life heard by the laws, it heard
 life_heard : (head : Head) (t : ℕ) (past : List Line) → Grown head past → (who : Who) (x : ℕ) → has_heard t who x (printed past) ≡ true → Hears (only t past) who x
@@ -260,7 +253,8 @@ reply_heard head past stamp c t f r a g =
     let who : sent.0.who ≡ r.who = sent.2 ∙ ap (λ (v : ReplyTo). v.who) (sym m.is) in
     let x : sent.0.xid.0 ≡ r.xid.0 = ap (λ (v : Xid). v.0) sent.3 ∙ ap (λ (v : ReplyTo). v.xid.0) (sym m.is) in
     let flown = subst (λ (v : ℕ). FlownOr t past r.who v) x (sent_flies t past r.who sent.0 sent.1.0 who sent.1.1) in
-    let unheard : has_heard t r.who r.xid.0 (printed past) ≡ true → ⊥ = λ e. (h.numbers.over r.who r.xid.0 (life_heard head t past g r.who r.xid.0 e)).1 f (subst (λ (v : Who). In f (flights_of v (only t past))) (sym ok.who) ok.flying) ok.xid in
+    let unheard : has_heard t r.who r.xid.0 (printed past) ≡ true → ⊥ = λ e. (h.numbers.over r.who r.xid.0 (life_heard head t past g r.who r.xid.0 e)).1 f
+    (subst (λ (v : Who). In f (flights_of v (only t past))) (sym ok.who) ok.flying) ok.xid in
     subst (λ (v : Who). HeardAt (printed past) at v t r.xid.0) mine
     (record {
       reply = ap (λ (v : List Sending). is_some (first_fit (λ s. as_reply t r.who r.xid.0 s.from s.message) v)) took.1 ∙ ap (λ (o : Option ReplyTo). is_some (or_else o (first_fit (λ s. as_reply t r.who r.xid.0 s.from s.message) took.0))) fits;

@@ -31,6 +31,7 @@ use Rattle.lu_laws.specs.Words.Lives.{life, who_is, is_by, is_evicted, is_gone}
 use Rattle.lu_laws.specs.Words.Calls.{open_call}
 use Rattle.lu_laws.specs.Words.Calls as calls
 use Rattle.lu_laws.specs.Words.Requests.{is_of, first_request}
+use Rattle.lu_laws.proofs.Tests.{target_is}
 use Rattle.lu_guards.proofs.Guards.{In, Was, Took, SizesSoFar, EntryOk}
 use Rattle.lu_guards.proofs.Grown.{Allowed, Grown}
 use Rattle.lu_guards.proofs.Lists.{self, life_is, who}
@@ -324,7 +325,8 @@ module _ (R : Running → calls.Begun → Type 0) (stays : (asking : Asking) (a 
             stood : (o : Option calls.Begun) → call_at c slot past ≡ Some k.ok.running → OfBoth (call_at c slot past) o → OfBoth (Some running) o
             stood None is both = absurd (subst (λ (v : Option Running). OfBoth v None) is both)
             stood (Some b) is both =
-                subst (λ (v : Running). R v b) (sym k.ok.is) (stands k.ok.work k.ok.running b (far_good past (turn l.at.stamp (Client d)) k.ok.running k.ok.sizes k.ok.so_far) (subst (λ (v : Option Running). OfBoth v (Some b)) is both))
+                subst (λ (v : Running). R v b) (sym k.ok.is) (stands k.ok.work k.ok.running b (far_good past (turn l.at.stamp (Client d)) k.ok.running k.ok.sizes k.ok.so_far)
+                (subst (λ (v : Option Running). OfBoth v (Some b)) is both))
         by (Target t) (Begin s running) k h = absurd k.ok
         by (Target t) (Told s at answer work) k h = absurd k.ok
         by (Target t) (Queues u q) k h = absurd k.ok
@@ -400,10 +402,6 @@ open_is_some head c slot past running g is = let o = open_is head c slot past ru
 abbrev pub IsFirst : List Line → ℕ → Who → ℕ → RequestOf → Type 0
 IsFirst past t who x r = (from : Node) × Was past from (Target t) (message.Request r) × (r.who ≡ who) × (r.xid.0 ≡ x)
 
-of_target : (t : ℕ) (to : Node) → pasts.is_target t to ≡ true → to ≡ Target t
-of_target t (Client c) e = absurd (cc)
-of_target t (Target u) e = ap Target (eqb-true u t e)
-
 -- the first request of a number was sent
 pub first_sent : (past : List Line) (t : ℕ) (who : Who) (x : ℕ) (r : RequestOf) → first_request (printed past) t who x ≡ Some r → IsFirst past t who x r
 first_sent [] t who x r e = absurd (cc)
@@ -416,7 +414,7 @@ first_sent (l ∷ past) t who x r e = by l.entry (first_sent past t who x r) e
         let same : k ≡ r = cc in
         let p = and_parts (is_of t who to k) (nat_eq k.xid.0 x) is in
         let o = and_parts (pasts.is_target t to) _ p.0 in
-        (l.at.node, inl (refl, of_target t to o.0, ap message.Request same), ap (λ (v : RequestOf). v.who) (sym same) ∙ life_is k.who who o.1, ap (λ (v : RequestOf). v.xid.0) (sym same) ∙ eqb-true k.xid.0 x p.1)
+        (l.at.node, inl (refl, target_is t to o.0, ap message.Request same), ap (λ (v : RequestOf). v.who) (sym same) ∙ life_is k.who who o.1, ap (λ (v : RequestOf). v.xid.0) (sym same) ∙ eqb-true k.xid.0 x p.1)
     new to k None false is h q = absurd (cc)
 
     by : (e : Entry) → (first_request (printed past) t who x ≡ Some r → IsFirst past t who x r) → first_request (printed (line l.at e ∷ past)) t who x ≡ Some r → IsFirst (line l.at e ∷ past) t who x r

@@ -52,6 +52,7 @@ use Rattle.lu_guards.proofs.Lists.{self, turn_trans, turn_irreflexive, life_is, 
 use Rattle.lu_facts.proofs.Groups.{turn, Acted, Counts, Rebuilt, History, HoldsAt}
 use Rattle.lu_facts.proofs.DoneGrows.{did_acted}
 use Rattle.lu_facts.proofs.All.{holds}
+use Rattle.lu_facts.proofs.Sides.{acted_sized}
 use Rattle.lu_lawful.proofs.Turns.{later_before, same_turn_is, same_turn_self}
 use Rattle.lu_lawful.proofs.Evictions.{evict_law}
 use Rattle.lu_lawful.proofs.Printed.{sending_is}
@@ -71,7 +72,7 @@ use Rattle.lu_lawful.proofs.CloseShows.{Sound, close_at, kept_law}
 use Rattle.lu_lawful.proofs.CloseLocks.{restored_law}
 use Rattle.lu_lawful.proofs.CloseLeaves.{leaves_law}
 use Rattle.lu_lawful.proofs.Story.{about_it, target_is}
-use Rattle.lu_lawful.proofs.Sized.{sized_deed}
+use Rattle.lu_lawful.proofs.Sized.{deed_unseen}
 use Rattle.lu_lawful.proofs.KeptReplies.{replied_acted}
 use Rattle.lu_lawful.proofs.Deeds.{TxnIs, act_is, txn_is}
 use Rattle.lu_facts.proofs.Lines.{acted_whole}
@@ -195,10 +196,12 @@ act_reply head before stamp d g a =
     let past = line (turn stamp (Target 0)) (Act d) ∷ before in
     let is = act_is head before stamp d g.0 in
     let does = act_now head before stamp (Target 0) d g.0 g.1 in
-    let never : law.seen_in (printed before) d.reply.at d.reply.who d.reply.xid.0 ≡ None = none_seen head before d.reply.at d.reply.who d.reply.xid.0 g.1 (subst (λ (v : At). NoneNow head before v d.reply.who d.reply.xid.0) (sym does.turn) does.now) in
+    let never : law.seen_in (printed before) d.reply.at d.reply.who d.reply.xid.0 ≡ None = none_seen head before d.reply.at d.reply.who d.reply.xid.0 g.1
+    (subst (λ (v : At). NoneNow head before v d.reply.who d.reply.xid.0) (sym does.turn) does.now) in
     let sees = law_seen head.osts past d in
     let none = none_left head before stamp 0 (Act d) g.0 refl (λ v. v) in
-    let level : committed 0 (printed past) ≡ (server_of head.osts (only 0 past)).committed.0 = told_level head 0 past g (either_way (closing_of head.clients) (line (turn stamp (Target 0)) (Act d)) (only 0 before) (nat_eq 0 0) (ap but_first none ∙ sym none) ∙ none) in
+    let level : committed 0 (printed past) ≡ (server_of head.osts (only 0 past)).committed.0 = told_level head 0 past g
+    (either_way (closing_of head.clients) (line (turn stamp (Target 0)) (Act d)) (only 0 before) (nat_eq 0 0) (ap but_first none ∙ sym none) ∙ none) in
     is.saw
     ∙ sym (law_seen_is head past d g a (a.0 refl) level)
     ∙ sym (ap (λ (n : Txn). other_than n.0 sees) is.txn)
@@ -271,7 +274,8 @@ taken_reply head past at c k g steps t ok now =
         (λ (e : turn_before t.at at ≡ true). turn_irreflexive at (turn_trans at t.at at b e))
         s2
 
-reply_law : (head : Head) (past : List Line) (at : At) (c : ℕ) (k : ReplyTo) → at.node ≡ Target 0 → Grown head past → AllAsked past → Steps past at → RepliesNow past 0 k → ReplyOk head (only 0 past) 0 c k → ReplyAt head.osts 0 (printed past) at k
+reply_law : (head : Head) (past : List Line) (at : At) (c : ℕ) (k : ReplyTo) → at.node ≡ Target 0 → Grown head past → AllAsked past → Steps past at → RepliesNow past 0 k → ReplyOk head (only 0 past) 0 c k
+    → ReplyAt head.osts 0 (printed past) at k
 reply_law head past at c k here g a steps ok so e =
     let now : k.at ≡ at = executed_now head past at k g e in
     ⊎_elim
@@ -295,7 +299,8 @@ none_written head osts t (l ∷ past) high g = by l.at.node l.entry g.0.ok (none
   where
     by : (node : Node) (e : Entry) → EntryOk past (turn l.at.stamp node) node e → written osts t (printed past) ≡ [] → written osts t (printed (line (turn l.at.stamp node) e ∷ past)) ≡ []
     by (Client c) (Made d) ok h = absurd ok
-    by (Target u) (Made d) ok h = cond_both (nat_eq u t) _ (written osts t (printed past)) (λ (ws : List Written). ws ≡ []) (λ e. let same : nat_eq 0 t ≡ true = subst (λ (v : ℕ). nat_eq v t ≡ true) ok e in let other = is_other t high in absurd (cc)) (λ e. h)
+    by (Target u) (Made d) ok h = cond_both (nat_eq u t) _ (written osts t (printed past)) (λ (ws : List Written). ws ≡ [])
+        (λ e. let same : nat_eq 0 t ≡ true = subst (λ (v : ℕ). nat_eq v t ≡ true) ok e in let other = is_other t high in absurd (cc)) (λ e. h)
     by _ _ ok h = h
 
 -- nor does a turn of it make a transaction
@@ -322,8 +327,8 @@ none_made_there head (l ∷ past) at t who x here high g = by l.at.node l.entry 
 object_reply : (head : Head) (past : List Line) (at : At) (t c : ℕ) (k : ReplyTo) → at.node ≡ Target t → 0 < t → Grown head past → ReplyOk head (only t past) t c k → ReplyAt head.osts t (printed past) at k
 object_reply head past at t c k here high g so e =
     let d = replied_acted head t past g t c k so in
-    let sized = sized_deed head past t d.0 g high d.1 in
-    let seen : k.seen ≡ [] = ap (λ (r : ReplyTo). r.seen) so.is ∙ ap (λ (r : ReplyTo). r.seen) (sym d.2) ∙ sized.unseen in
+    let sized = acted_sized head past t d.0 high g d.1 in
+    let seen : k.seen ≡ [] = ap (λ (r : ReplyTo). r.seen) so.is ∙ ap (λ (r : ReplyTo). r.seen) (sym d.2) ∙ deed_unseen head past t d.0 g high d.1 in
     let number : k.txn.0 ≡ 0 = ap (λ (r : ReplyTo). r.txn.0) so.is ∙ ap (λ (r : ReplyTo). r.txn.0) (sym d.2) ∙ ap (λ (n : Txn). n.0) sized.number in
     let touched = touches_of head.osts t (printed past) k.txn k.who (asked (printed past) t k.who k.xid.0) k.answer in
     seen

@@ -62,7 +62,8 @@ call_is head c slot (l ∷ past) g = by l.at.node l.entry g.0.ok (call_is head c
     by (Client d) (Heard t f r) ok h = cond_both (nat_eq c d) (asks_for f.slot slot _ (call_at c slot past)) (call_at c slot past) (λ (o : Option Running). call_in c slot (printed past) ≡ called o) (λ b. h ∙ sym (asks_stays f.slot slot _ (call_at c slot past))) (λ b. h)
     by (Client d) (Stands s running) ok h =
         cond_both (nat_eq c d) (if nat_eq s slot then Some running else call_at c slot past) (call_at c slot past) (λ (o : Option Running). call_in c slot (printed past) ≡ called o)
-        (λ t. cond_both (nat_eq s slot) (Some running) (call_at c slot past) (λ (o : Option Running). call_in c slot (printed past) ≡ called o) (λ u. h ∙ ap called (before t u) ∙ ap (λ (v : Running). Some v.call) (sym ok.is)) (λ u. h))
+        (λ t. cond_both (nat_eq s slot) (Some running) (call_at c slot past) (λ (o : Option Running). call_in c slot (printed past) ≡ called o)
+        (λ u. h ∙ ap called (before t u) ∙ ap (λ (v : Running). Some v.call) (sym ok.is)) (λ u. h))
         (λ t. h)
       where
         before : nat_eq c d ≡ true → nat_eq s slot ≡ true → call_at c slot past ≡ Some ok.running

@@ -345,7 +345,8 @@ module _ (head : Head) where
                 calls slot ∙ ap (λ (v : Bool). if v then (if nat_eq slot slot then Some running else call_at c slot past) else call_at c slot past) (ap (λ (v : ℕ). nat_eq c v) same_d ∙ self c)
                 ∙ ap (λ (v : Bool). if v then Some running else call_at c slot past) (self slot)
 
-            asked : (b : ℕ) → turn l.at.stamp (Client d) ≡ at → b ≡ c → ((running.stage ≡ Bad) × Starts slot Bad (Queues t q)) ⊎ ((running.stage ≡ Plain) × Starts slot Plain (Queues t q)) → IsDue b past running → is_told_silently slot (turn l.at.stamp (Client d)) later ≡ true
+            asked : (b : ℕ) → turn l.at.stamp (Client d) ≡ at → b ≡ c → ((running.stage ≡ Bad) × Starts slot Bad (Queues t q)) ⊎ ((running.stage ≡ Plain) × Starts slot Plain (Queues t q)) → IsDue b past running
+                → is_told_silently slot (turn l.at.stamp (Client d)) later ≡ true
             asked b now_is same_b (inl p) due = absurd p.1
             asked b now_is same_b (inr p) (inl bad) = absurd (let plain = p.0 in cc)
             asked b now_is same_b (inr p) (inr h) =

@@ -179,7 +179,8 @@ module _ (head : Head) (c slot : ℕ) where
     client_is : (d : ℕ) (here : At) → here.node ≡ Client d → here ≡ at → c ≡ d
     client_is d here is e = let same : Client c ≡ Client d = sym own ∙ ap (λ (v : At). v.node) (sym e) ∙ is in cc
 
-    heard_serves : (past : List Line) (stamp : Stamp) (d u : ℕ) (g : Flight) (k : ReplyTo) → u ≡ 0 → Allowed head past (turn stamp (Client d)) (Heard u g k) → Grown head past → c ≡ d → g ≡ f → Serves c slot (line (turn stamp (Client d)) (Heard u g k) ∷ past) f.op
+    heard_serves : (past : List Line) (stamp : Stamp) (d u : ℕ) (g : Flight) (k : ReplyTo) → u ≡ 0 → Allowed head past (turn stamp (Client d)) (Heard u g k) → Grown head past → c ≡ d → g ≡ f
+        → Serves c slot (line (turn stamp (Client d)) (Heard u g k) ∷ past) f.op
     heard_serves past stamp d u g k first a grown same is =
         let ok = a.of u (self u) in
         let flying : In g (flights_of (life_at d past) (only u past)) = subst (λ (v : Who). In g (flights_of v (only u past))) (sym (life_is_of d u past)) ok.flying in

@@ -1,92 +1,64 @@
 -- What an object storage target does: it tells how long objects are, each of which is empty. It makes no transaction, nothing is seen there,
 -- and it grants no lock. So of the sizes that a glimpse has so far each is 0.
-use Rattle.std.proofs.Common.{◌≡◌, ℕ, zero, suc, ◌<◌, List, [], ◌∷◌, ◌++◌, Some, inl, inr, ⊎_elim, refl, sym, subst, ap, ◌∙◌, arith}
+use Rattle.std.proofs.Common.{◌≡◌, ℕ, zero, suc, ◌<◌, List, [], ◌∷◌, ◌++◌, Some, inl, inr, ⊎_elim, sym, subst, ap, ◌∙◌, arith}
 use Rattle.std.specs.Prelude.{if◌then◌else◌}
 use Rattle.std.proofs.lemmas.Bool.{cond_both, eqb-true}
 use Rattle.lu_base.specs.declared.ids.At.{At}
 use Rattle.lu_base.specs.declared.ids.Node.{Node}
 use Rattle.lu_base.specs.declared.ids.Node.TheVariants.{Client, Target}
 use Rattle.lu_base.specs.declared.locks.Lock.{Lock}
-use Rattle.lu_base.specs.declared.locks.Resource.{Resource}
 use Rattle.lu_msg.specs.declared.answers.Answer.TheVariants as told
 use Rattle.lu_msg.specs.declared.messages.Reply.{Reply as ReplyTo}
 use Rattle.lu_msg.specs.declared.operations.Op.{Op}
-use Rattle.lu_msg.specs.declared.operations.Op.TheVariants as op
 use Rattle.lu_machine.specs.Objects.{object_touches}
 use Rattle.lu_words.specs.Carried.{Deed, Glimpses, Plain, Bad, Sizes, Work, Running}
 use Rattle.lu_words.specs.Words.{Entry, Act, Txn as Made, Line, line}
 use Rattle.lu_words.specs.Concerns.{concerns, only}
 use Rattle.lu_covered.specs.Calls.{call_at, becomes}
 use Rattle.lu_covered.specs.Heads.{Head}
-use Rattle.lu_covered.specs.TargetStates.{Server, none, server_of, seen_in}
+use Rattle.lu_covered.specs.TargetStates.{server_of, seen_in}
 use Rattle.lu_guards.proofs.Guards.{In, SizesSoFar}
 use Rattle.lu_guards.proofs.StoryGuards.{SizedOk, ActsOk}
 use Rattle.lu_guards.proofs.Acts.{acts_sized}
 use Rattle.lu_guards.proofs.Grown.{Allowed, Grown}
-use Rattle.lu_guards.proofs.Lists.{self}
+use Rattle.lu_guards.proofs.Lists.{self, empty_list}
 use Rattle.lu_facts.proofs.Groups.{turn, Acted, IsMade, AnswersFor}
 use Rattle.lu_facts.proofs.All.{holds}
 use Rattle.lu_facts.proofs.Calls.{Came, call_cases}
-use Rattle.lu_facts.proofs.Lines.{acted_whole}
-use Rattle.lu_facts.proofs.Sides.{acted_at, acted_only}
-use Rattle.lu_lawful.proofs.Story.{target_is, story_at, made_first}
+use Rattle.lu_facts.proofs.Sides.{acted_at, acted_only, acted_sized}
+use Rattle.lu_lawful.proofs.Story.{acted_first}
 
 -- ---- a deed of an object storage target
 
-pub record SizedIs (d : Deed) : Type 0 where
-  pub number : d.reply.txn ≡ none
-  pub unseen : d.reply.seen ≡ []
-  pub bare : d.reply.locks ≡ []
-  pub empty : d.reply.answer ≡ told.Size 0
-  pub resource : Resource
-  pub of_op : d.op ≡ op.Size resource
-
-no_deeds : (ds : List Deed) → ((d : Deed) → In d ds → ⊥) → ds ≡ []
-no_deeds [] h = refl
-no_deeds (d ∷ ds) h = absurd (h d (inl refl))
-
 -- it makes no transaction
 pub none_made : (head : Head) (past : List Line) (t : ℕ) (d : Deed) → Grown head past → 0 < t → Acted (only t past) d → IsMade d → ⊥
-none_made head past t d g high a made =
-    let first = made_first head past d g (acted_whole t past d a) made in
-    let same : t ≡ 0 = target_is t 0 (sym (story_at head past t d g a) ∙ first) in
-    absurd (omega (arith, high, same))
+none_made head past t d g high a made = absurd (let same = acted_first head t past d g a made in omega (arith, high, same))
 
 pub nothing_logged : (head : Head) (past : List Line) (t : ℕ) → Grown head past → 0 < t → (server_of head.osts (only t past)).log ≡ []
 nothing_logged head past t g high =
-    no_deeds (server_of head.osts (only t past)).log
+    empty_list (server_of head.osts (only t past)).log
     (λ d i. let k = ((holds head past g).at t).history.log d i in none_made head past t d g high k.0 k.1)
 
-sized_is : (v : Server) (at : At) (d : Deed) (osts : ℕ) (past : List Line) (ok : SizedOk osts past at d) → v ≡ server_of osts past → v.log ≡ [] → SizedIs d
-sized_is v at d osts past ok same empty =
-    subst (λ (e : Deed). SizedIs e) (sym ok.is)
-    (record {
-      number = refl;
-      unseen = ap (λ (w : Server). seen_in (object_touches ok.request.op (told.Size 0)) w.log) (sym same) ∙ ap (λ (ds : List Deed). seen_in (object_touches ok.request.op (told.Size 0)) ds) empty;
-      bare = refl;
-      empty = refl;
-      resource = ok.resource;
-      of_op = ok.of_op;
-    })
+-- so an act there saw nothing
+act_unseen : (head : Head) (past : List Line) (at : At) (t : ℕ) (d : Deed) → Grown head past → 0 < t → SizedOk head.osts (only t past) at d → d.reply.seen ≡ []
+act_unseen head past at t d g high ok =
+    ap (λ (e : Deed). e.reply.seen) ok.is ∙ ap (λ (ds : List Deed). seen_in (object_touches ok.request.op (told.Size 0)) ds) (nothing_logged head past t g high)
 
--- an act there
-pub act_sized : (head : Head) (past : List Line) (at : At) (t : ℕ) (d : Deed) → Grown head past → 0 < t → SizedOk head.osts (only t past) at d → SizedIs d
-act_sized head past at t d g high ok = sized_is (server_of head.osts (only t past)) at d head.osts (only t past) ok refl (nothing_logged head past t g high)
-
-pub sized_deed : (head : Head) (past : List Line) (t : ℕ) (d : Deed) → Grown head past → 0 < t → Acted (only t past) d → SizedIs d
-sized_deed head [] t d g high a = absurd a
-sized_deed head (l ∷ past) t d g high a = by l.at.node l.entry g.0 a (sized_deed head past t d g.1 high)
+pub deed_unseen : (head : Head) (past : List Line) (t : ℕ) (d : Deed) → Grown head past → 0 < t → Acted (only t past) d → d.reply.seen ≡ []
+deed_unseen head [] t d g high a = absurd a
+deed_unseen head (l ∷ past) t d g high a = by l.at.node l.entry g.0 a (deed_unseen head past t d g.1 high)
   where
     P : List Line
     P = only t past
 
-    by : (node : Node) (e : Entry) → Allowed head past (turn l.at.stamp node) e → Acted (if concerns t node e then line (turn l.at.stamp node) e ∷ P else P) d → (Acted P d → SizedIs d) → SizedIs d
+    by : (node : Node) (e : Entry) → Allowed head past (turn l.at.stamp node) e → Acted (if concerns t node e then line (turn l.at.stamp node) e ∷ P else P) d → (Acted P d → d.reply.seen ≡ []) → d.reply.seen ≡ []
     by (Client c) (Act e) k a h = absurd k.ok
     by (Client c) (Made e) k a h = absurd k.ok
     by (Target u) (Act e) k a h =
-        cond_both (concerns t (Target u) (Act e)) (line (turn l.at.stamp (Target u)) (Act e) ∷ P) P (λ (p : List Line). Acted p d → SizedIs d)
+        cond_both (concerns t (Target u) (Act e)) (line (turn l.at.stamp (Target u)) (Act e) ∷ P) P (λ (p : List Line). Acted p d → d.reply.seen ≡ [])
         (λ own b. ⊎_elim
-        (λ (p : e ≡ d). subst SizedIs p (act_sized head past (turn l.at.stamp (Target u)) t e g.1 high (acts_sized head.osts P (turn l.at.stamp (Target u)) t e high (subst (λ (v : ℕ). Here v e) (sym (eqb-true t u own)) (k.of u (self u))))))
+        (λ (p : e ≡ d). subst (λ (x : Deed). x.reply.seen ≡ []) p (act_unseen head past (turn l.at.stamp (Target u)) t e g.1 high (acts_sized head.osts P (turn l.at.stamp (Target u)) t e high
+        (subst (λ (v : ℕ). Here v e) (sym (eqb-true t u own)) (k.of u (self u))))))
         h
         b)
         (λ own b. h b)
@@ -95,11 +67,11 @@ sized_deed head (l ∷ past) t d g high a = by l.at.node l.entry g.0 a (sized_de
         Here : ℕ → Deed → Type 0
         Here v e = ActsOk head.osts (only v past) (turn l.at.stamp (Target u)) v e
     by (Target u) (Made e) k a h =
-        cond_both (concerns t (Target u) (Made e)) (line (turn l.at.stamp (Target u)) (Made e) ∷ P) P (λ (p : List Line). Acted p d → SizedIs d)
+        cond_both (concerns t (Target u) (Made e)) (line (turn l.at.stamp (Target u)) (Made e) ∷ P) P (λ (p : List Line). Acted p d → d.reply.seen ≡ [])
         (λ own b. let zero : t ≡ 0 = eqb-true t u own ∙ k.ok in absurd (omega (arith, high, zero)))
         (λ own b. h b)
         a
-    by node e k a h = cond_both (concerns t node e) (line (turn l.at.stamp node) e ∷ P) P (λ (p : List Line). Acted p d → SizedIs d) (λ own b. h b) (λ own b. h b) a
+    by node e k a h = cond_both (concerns t node e) (line (turn l.at.stamp node) e ∷ P) P (λ (p : List Line). Acted p d → d.reply.seen ≡ []) (λ own b. h b) (λ own b. h b) a
 
 -- it grants no lock, so what gave one was done by the metadata target
 pub gave_first : (head : Head) (past : List Line) (d : Deed) (l : Lock) → Grown head past → Acted past d → In l d.reply.locks → d.reply.at.node ≡ Target 0
@@ -107,7 +79,7 @@ gave_first head past d l g a i = by (acted_at head past d g a)
   where
     by : (t : ℕ) × (d.reply.at.node ≡ Target t) → d.reply.at.node ≡ Target 0
     by (zero, at) = at
-    by (suc t, at) = absurd (subst (λ (ls : List Lock). In l ls) (sized_deed head past (suc t) d g (omega arith) (acted_only head past d (suc t) g a at)).bare i)
+    by (suc t, at) = absurd (subst (λ (ls : List Lock). In l ls) (acted_sized head past (suc t) d (omega arith) g (acted_only head past d (suc t) g a at)).locks i)
 
 pub gave_only : (head : Head) (past : List Line) (d : Deed) (l : Lock) → Grown head past → Acted past d → In l d.reply.locks → Acted (only 0 past) d
 gave_only head past d l g a i = acted_only head past d 0 g a (gave_first head past d l g a i)
@@ -149,7 +121,7 @@ so_far_empty head past at c slot r sizes g is empty (inr h) =
     let replied = (holds head past g).replies c slot h.target r h.reply is h.answered in
     let d = replied.deed in
     let high : 0 < h.target = ⊎_elim (λ p. let plain : Plain ≡ Sizes h.work = sym p.0 ∙ h.stage in absurd (cc)) (λ p. p.2) replied.op in
-    let answered : told.Size h.size ≡ told.Size 0 = sym h.tells ∙ ap (λ (v : ReplyTo). v.answer) (sym replied.is) ∙ (sized_deed head past h.target d g high replied.acted).empty in
+    let answered : told.Size h.size ≡ told.Size 0 = sym h.tells ∙ ap (λ (v : ReplyTo). v.answer) (sym replied.is) ∙ (acted_sized head past h.target d high g replied.acted).answer in
     subst AllEmpty (sym h.more) (one_more h.before h.size (empty h.work h.before h.stage h.kind) (size_is h.size 0 answered))
 
 pub sizes_empty : (head : Head) (past : List Line) (c slot : ℕ) (r : Running) → Grown head past → call_at c slot past ≡ Some r → EmptySoFar r

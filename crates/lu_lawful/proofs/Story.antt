@@ -17,8 +17,8 @@ use Rattle.lu_guards.proofs.Guards.{Was, EntryOk}
 use Rattle.lu_guards.proofs.Acts.{acted}
 use Rattle.lu_guards.proofs.Grown.{Allowed, Grown}
 use Rattle.lu_guards.proofs.Lists.{self}
-use Rattle.lu_facts.proofs.Groups.{turn, Acted}
-use Rattle.lu_facts.proofs.Lines.{DoneBy, acted_line, done_here}
+use Rattle.lu_facts.proofs.Groups.{turn, Acted, IsMade}
+use Rattle.lu_facts.proofs.Lines.{DoneBy, acted_line, done_here, acted_whole}
 use Rattle.lu_facts.proofs.Sides.{Between, side, was_between, was_side, acted_only}
 
 -- a line of the metadata target is about it
@@ -78,3 +78,7 @@ made_first head (l ∷ past) d g a high = by l.at.node l.entry g.0 a (λ b. made
 
 pub made_story : (head : Head) (past : List Line) (d : Deed) → Grown head past → Acted past d → 1 ≤ d.reply.txn.0 → Acted (only 0 past) d
 made_story head past d g a high = acted_only head past d 0 g a (made_first head past d g a high)
+
+-- only at the metadata target is a transaction made
+pub acted_first : (head : Head) (t : ℕ) (past : List Line) (d : Deed) → Grown head past → Acted (only t past) d → IsMade d → t ≡ 0
+acted_first head t past d g a made = target_is t 0 (sym (story_at head past t d g a) ∙ made_first head past d g (acted_whole t past d a) made)

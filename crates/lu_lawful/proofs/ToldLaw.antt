@@ -47,7 +47,7 @@ use Rattle.lu_facts.proofs.All.{holds}
 use Rattle.lu_facts.proofs.Sides.{acted_only}
 use Rattle.lu_facts.proofs.OnNames.{IsPlain, told_so, op_is, told_as_so}
 use Rattle.lu_facts.proofs.Refused.{acted_answered}
-use Rattle.lu_facts.proofs.Known.{HeardBy}
+use Rattle.lu_facts.proofs.Known.{HeardBy, heard_by_story, heard_by_whole}
 use Rattle.lu_facts.proofs.Times.{reached_on}
 use Rattle.lu_lawful.proofs.Turns.{upto_is, same_turn_self, other_node}
 use Rattle.lu_lawful.proofs.Story.{about_it, was_to, story_at, made_story}
@@ -74,7 +74,8 @@ just_hears : (head : Head) (past : List Line) (at : At) (r : ReplyTo) → Grown 
 just_hears head [] at r g j = absurd j
 just_hears head (l ∷ past) at r g j = by l.at.node l.entry g.0 j (just_hears head past at r g.1)
   where
-    by : (node : Node) (e : Entry) → Allowed head past (turn l.at.stamp node) e → JustHeard (line (turn l.at.stamp node) e ∷ past) at 0 r → (JustHeard past at 0 r → Hears (only 0 past) r.who r.xid.0) → Hears (only 0 (line (turn l.at.stamp node) e ∷ past)) r.who r.xid.0
+    by : (node : Node) (e : Entry) → Allowed head past (turn l.at.stamp node) e → JustHeard (line (turn l.at.stamp node) e ∷ past) at 0 r → (JustHeard past at 0 r → Hears (only 0 past) r.who r.xid.0)
+        → Hears (only 0 (line (turn l.at.stamp node) e ∷ past)) r.who r.xid.0
     by (Target u) (Heard v f q) k j h = absurd k.ok
     by (Client d) (Heard v f q) k j h =
         let ok = k.of 0 (about_it v j.1) in
@@ -149,42 +150,19 @@ untold head (l ∷ past) at r g j i = by l.at.node l.entry g.0 j i (untold head 
     by (Target u) (Told slot named given work) k j i h = absurd j
     by _ _ k j i h = h j i
 
--- what was heard before was heard
-heard_by_more : (l : Line) (past : List Line) (c : ℕ) (f : Flight) (r : ReplyTo) → HeardBy past c f r → HeardBy (l ∷ past) c f r
-heard_by_more l past c f r h = by l.entry
-  where
-    by : (e : Entry) → HeardBy (line l.at e ∷ past) c f r
-    by (Heard t g k) = inr h
-    by _ = h
-
-heard_by_only : (l : Line) (past : List Line) (c : ℕ) (f : Flight) (r : ReplyTo) → HeardBy (only 0 past) c f r → HeardBy (only 0 (l ∷ past)) c f r
-heard_by_only l past c f r h = cond_both (concerns 0 l.at.node l.entry) (l ∷ only 0 past) (only 0 past) (λ (P : List Line). HeardBy P c f r) (λ t. heard_by_more l (only 0 past) c f r h) (λ t. h)
-
--- what a target's story says was heard was
-pub heard_by_whole : (past : List Line) (c : ℕ) (f : Flight) (r : ReplyTo) → HeardBy (only 0 past) c f r → HeardBy past c f r
-heard_by_whole [] c f r h = h
-heard_by_whole (l ∷ past) c f r h = cond_both (concerns 0 l.at.node l.entry) (l ∷ only 0 past) (only 0 past) (λ (P : List Line). HeardBy P c f r → HeardBy (l ∷ past) c f r)
-    (λ t h. by l.entry (heard_by_whole past c f r) h)
-    (λ t h. heard_by_more l past c f r (heard_by_whole past c f r h))
-    h
-  where
-    by : (e : Entry) → (HeardBy (only 0 past) c f r → HeardBy past c f r) → HeardBy (line l.at e ∷ only 0 past) c f r → HeardBy (line l.at e ∷ past) c f r
-    by (Heard t g k) ih (inl p) = inl p
-    by (Heard t g k) ih (inr p) = inr (ih p)
-    by _ ih p = ih p
-
 -- it was heard by that client, of the metadata target
 just_heard_by : (past : List Line) (at : At) (c : ℕ) (r : ReplyTo) → JustHeard past at 0 r → at.node ≡ Client c → (f : Flight) × HeardBy (only 0 past) c f r
 just_heard_by [] at c r j n = absurd j
 just_heard_by (l ∷ past) at c r j n = by l.at.node l.entry j (λ i. just_heard_by past at c r i n)
   where
-    by : (node : Node) (e : Entry) → JustHeard (line (turn l.at.stamp node) e ∷ past) at 0 r → (JustHeard past at 0 r → (f : Flight) × HeardBy (only 0 past) c f r) → (f : Flight) × HeardBy (only 0 (line (turn l.at.stamp node) e ∷ past)) c f r
+    by : (node : Node) (e : Entry) → JustHeard (line (turn l.at.stamp node) e ∷ past) at 0 r → (JustHeard past at 0 r → (f : Flight) × HeardBy (only 0 past) c f r)
+        → (f : Flight) × HeardBy (only 0 (line (turn l.at.stamp node) e ∷ past)) c f r
     by (Client d) (Heard v f q) j h =
         (f, subst (λ (b : Bool). HeardBy (if b then line (turn l.at.stamp (Client d)) (Heard v f q) ∷ only 0 past else only 0 past) c f r) (sym (about_it v j.1)) (inl (ap (λ (w : At). w.node) j.0 ∙ n, refl, j.2)))
     by (Target u) (Heard v f q) j h = let no : Target u ≡ Client c = ap (λ (w : At). w.node) j.0 ∙ n in absurd (cc)
     by (Client d) (Told slot named given work) j h = absurd j
     by (Target u) (Told slot named given work) j h = absurd j
-    by node e j h = let k = h j in (k.0, heard_by_only (line (turn l.at.stamp node) e) past c k.0 r k.1)
+    by node e j h = let k = h j in (k.0, heard_by_story 0 (line (turn l.at.stamp node) e) past c k.0 r k.1)
 
 -- what its life heard it heard as that life
 pub heard_story : (l : Line) (past : List Line) (who : Who) (f : Flight) (r : ReplyTo) → HeardAs (only 0 past) who f r → HeardAs (only 0 (l ∷ past)) who f r
@@ -195,7 +173,8 @@ pub heard_as : (head : Head) (past : List Line) (c : ℕ) (f : Flight) (r : Repl
 heard_as head [] c f r g h = absurd h
 heard_as head (l ∷ past) c f r g h = by l.at.node l.entry g.0 h (heard_as head past c f r g.3)
   where
-    by : (node : Node) (e : Entry) → EntryOf head past (turn l.at.stamp node) node e → HeardBy (line (turn l.at.stamp node) e ∷ past) c f r → (HeardBy past c f r → HeardAs past r.who f r) → HeardAs (line (turn l.at.stamp node) e ∷ past) r.who f r
+    by : (node : Node) (e : Entry) → EntryOf head past (turn l.at.stamp node) node e → HeardBy (line (turn l.at.stamp node) e ∷ past) c f r → (HeardBy past c f r → HeardAs past r.who f r)
+        → HeardAs (line (turn l.at.stamp node) e ∷ past) r.who f r
     by (Target u) (Heard v x q) ok h ih = absurd ok
     by (Client d) (Heard v x q) ok (inl h) ih =
         let mine : life_of d past ≡ r.who = sym ok.who ∙ ap (λ (w : ReplyTo). w.who) h.2 in
@@ -301,7 +280,8 @@ told_tells head past stamp c slot named given work steps ok g =
       whose = is.client;
       is = is.is;
       plain = told_as_plain ok.running.file ok.running.call d.op d.reply.answer first.1 fits (subst (λ (v : Answer). IsToldAsIs ok.running.call v) given_is ok.as_is);
-      untold = false_from_ne_true (told_with (printed past) (life_at c past) d.reply.xid.0) (λ t. untold head past at ok.reply g just (subst (λ (v : Who). told_with (printed past) v ok.reply.xid.0 ≡ true) (sym is.client) (subst (λ (v : ℕ). told_with (printed past) (life_at c past) v ≡ true) (sym x) t)));
+      untold = false_from_ne_true (told_with (printed past) (life_at c past) d.reply.xid.0) (λ t. untold head past at ok.reply g just
+          (subst (λ (v : Who). told_with (printed past) v ok.reply.xid.0 ≡ true) (sym is.client) (subst (λ (v : ℕ). told_with (printed past) (life_at c past) v ≡ true) (sym x) t)));
     }
 
 -- ---- every told line
@@ -427,7 +407,8 @@ module _ (head : Head) (out : Who → Bool) (lost : ℕ → ℕ → Bool) (whole
   Lasting = ((d : Deed) → Acted whole d → IsMade d → lost 0 d.reply.txn.0 ≡ false → StandsSoFar head.osts (only 0 whole) d) × ((who : Who) → out who ≡ false → Evicted (only 0 whole) who → ⊥)
 
   -- beside an act that was heard stands no transaction of its request
-  alone : (past : List Line) (c : ℕ) (f : Flight) (r : ReplyTo) (d : Deed) (named : At) → Grown head past → Grown head whole → Inside past → Lasting → HeardBy (only 0 past) c f r → Acted (only 0 past) d → r ≡ record d.reply { boot = r.boot; committed = r.committed } → out r.who ≡ false → d.reply.at ≡ named
+  alone : (past : List Line) (c : ℕ) (f : Flight) (r : ReplyTo) (d : Deed) (named : At) → Grown head past → Grown head whole → Inside past → Lasting → HeardBy (only 0 past) c f r → Acted (only 0 past) d
+      → r ≡ record d.reply { boot = r.boot; committed = r.committed } → out r.who ≡ false → d.reply.at ≡ named
       → acted (printed past) named d.reply.who d.reply.xid.0 ≡ true → standing_count lost 0 d.reply.who d.reply.xid.0 (printed whole) ≡ 0
   alone past c f r d named g w i lasting hears did is stays turn acts = none_counts lost d.reply.who d.reply.xid.0 head whole w none
     where
@@ -507,7 +488,9 @@ module _ (head : Head) (out : Who → Bool) (lost : ℕ → ℕ → Bool) (whole
         evicted = λ e. let f = fine.1 in absurd (cc);
         own = λ e. absurd (own_no (is_local b.call) (is_bad_handle given) (is_end_of_life given) (not_local t.begun.file b.call t.deed.op asks_it) fine.0 fine.1 e);
         acts = λ e. subst (λ (v : Who). ActsInTime lost (printed whole) (printed past) at v b named) (sym (present_is head c past g))
-            (in_time past at c slot named given g w i lasting t (ap out (t.whose ∙ sym (present_is head c past g)) ∙ e) (same_stands lost t.deed.reply t.reply t.is (heard_stands out lost past c t.flight t.reply s (heard_by_whole past c t.flight t.reply t.hears) (ap out (t.whose ∙ sym (present_is head c past g)) ∙ e))) b o.2 (sym o.4 ∙ t.becomes));
+            (in_time past at c slot named given g w i lasting t (ap out (t.whose ∙ sym (present_is head c past g)) ∙ e)
+            (same_stands lost t.deed.reply t.reply t.is (heard_stands out lost past c t.flight t.reply s (heard_by_whole 0 past c t.flight t.reply t.hears)
+            (ap out (t.whose ∙ sym (present_is head c past g)) ∙ e))) b o.2 (sym o.4 ∙ t.becomes));
       })
 
   -- of a call whose answer was known: its turn is the one in which it began and is told
@@ -572,7 +555,8 @@ module _ (head : Head) (out : Who → Bool) (lost : ℕ → ℕ → Bool) (whole
       })
 
   -- of a glimpse: it names this turn
-  sizes_law : (past : List Line) (stamp : Stamp) (c slot : ℕ) (named : At) (given : Answer) (work : Option Work) → Steps past (turn stamp (Client c)) → SizesToldOk past (turn stamp (Client c)) c slot named given work → Grown head past
+  sizes_law : (past : List Line) (stamp : Stamp) (c slot : ℕ) (named : At) (given : Answer) (work : Option Work) → Steps past (turn stamp (Client c))
+      → SizesToldOk past (turn stamp (Client c)) c slot named given work → Grown head past
       → ToldBy out lost (printed whole) (printed past) (turn stamp (Client c)) (Client c) slot named given
   sizes_law past stamp c slot named given work steps ok g =
       let at = turn stamp (Client c) in
@@ -638,7 +622,8 @@ tags_differ head t past who g (r ∷ rs) d f = (
 )
 
 -- at an object storage target each is on an object of its own
-objects_differ : (head : Head) (t : ℕ) (past : List Line) (who : Who) → 0 < t → Grown head past → (rs : List RequestOf) → Distinct rs → ((r : RequestOf) → In r rs → Flown t past who r) → Pairwise (λ one other. same_object one other ≡ false) rs
+objects_differ : (head : Head) (t : ℕ) (past : List Line) (who : Who) → 0 < t → Grown head past → (rs : List RequestOf) → Distinct rs → ((r : RequestOf) → In r rs → Flown t past who r)
+    → Pairwise (λ one other. same_object one other ≡ false) rs
 objects_differ head t past who high g [] d f = tt
 objects_differ head t past who high g (r ∷ rs) d f = (
   in_every (λ (q : RequestOf). same_object r q ≡ false) rs (λ q i.
@@ -687,7 +672,8 @@ sends_law head past stamp c t r is k g =
     -- a message leaves what is in flight by the rows
     sent_flights : (u : ℕ) (f : Flight) → In f (flights_of (life_of c (only t past)) (only u (asking past stamp c t r))) → In f (flights_of (life_of c (only t past)) (only u past))
     sent_flights u f i =
-        cond_both (nat_eq u t) (line (turn stamp (Client c)) (Send (Target t) (message.Request r)) ∷ only u past) (only u past) (λ (p : List Line). In f (flights_of (life_of c (only t past)) p) → In f (flights_of (life_of c (only t past)) (only u past))) (λ o j. j) (λ o j. j) i
+        cond_both (nat_eq u t) (line (turn stamp (Client c)) (Send (Target t) (message.Request r)) ∷ only u past) (only u past)
+        (λ (p : List Line). In f (flights_of (life_of c (only t past)) p) → In f (flights_of (life_of c (only t past)) (only u past))) (λ o j. j) (λ o j. j) i
 
 -- ---- the law
 

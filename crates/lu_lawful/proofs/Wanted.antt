@@ -124,7 +124,8 @@ act_here head past stamp d a g asked =
     let op : d.op ≡ ok.request.op = ap (λ (v : Deed). v.op) ok.is in
     record {
       cookie = (server_of head.osts (only 0 past)).cookie;
-      acting = ap (λ (b : Bool). or_else (if b then Some (record { who = d.reply.who; xid = d.reply.xid.0 }) else None) (acting d.reply.at (printed past))) (subst (λ (v : At). same_turn (turn stamp (Target 0)) v ≡ true) (sym at) (same_turn_self (turn stamp (Target 0))));
+      acting = ap (λ (b : Bool). or_else (if b then Some (record { who = d.reply.who; xid = d.reply.xid.0 }) else None) (acting d.reply.at (printed past)))
+          (subst (λ (v : At). same_turn (turn stamp (Target 0)) v ≡ true) (sym at) (same_turn_self (turn stamp (Target 0))));
       asked = asked;
       locks = ap (λ (v : Deed). v.reply.locks) ok.is
           ∙ ap (λ (v : Server). locks_from (server_of head.osts (only 0 past)).cookie ok.request.who (grants head.osts v.tree (asks ok.request.who ok.request.op))) (sym (server_is head.osts 0 past))
@@ -141,7 +142,8 @@ did_is head (l ∷ past) d g asked i = by l.at.node l.entry g.0 asked i (did_is 
     by (Client c) (Act f) a asked i h = absurd a.ok
     by (Target zero) (Act f) a asked i h = inr (subst (λ (v : Deed). IsAct head (line (turn l.at.stamp (Target 0)) (Act f) ∷ past) v) i (act_here head past l.at.stamp f a g.1 (asked.0 refl)))
     by (Target (suc t)) (Act f) a asked i h =
-        inl (ap (λ (v : Deed). v.reply.locks) (sym i) ∙ sized_bare head.osts (only (suc t) past) (turn l.at.stamp (Target (suc t))) f (acts_sized head.osts (only (suc t) past) (turn l.at.stamp (Target (suc t))) (suc t) f (omega arith) (a.of (suc t) (self (suc t)))))
+        inl (ap (λ (v : Deed). v.reply.locks) (sym i) ∙ sized_bare head.osts (only (suc t) past) (turn l.at.stamp (Target (suc t))) f
+        (acts_sized head.osts (only (suc t) past) (turn l.at.stamp (Target (suc t))) (suc t) f (omega arith) (a.of (suc t) (self (suc t)))))
     by (Client c) (Made f) a asked i h = absurd a.ok
     by (Target t) (Made f) a asked i h = inl (ap (λ (v : Deed). v.reply.locks) (sym i) ∙ ap (λ (v : Deed). v.reply.locks) (a.of 0 (about_it t a.ok)).is)
     by (Client c) (Grant lock asks) a asked i h = absurd a.ok
