@@ -1,0 +1,10 @@
+pub mod Lists
+pub mod Tables
+pub mod Changes
+pub mod Steps
+pub mod Walks
+pub mod Pieces
+pub mod Made
+pub mod Using
+pub mod Calls
+pub mod Pins

@@ -1,0 +1,47 @@
+//! What a client's rows on bytes rest on: those that write changes back and give locks up, and the calls on bytes; and what they make of
+//! pins. Each function does nothing: its contract is a theorem over the definitions of `specs/`.
+
+ghost use Rattle.lu_client_objects.specs.Rows.{TrimsGo, LocksGo, FlushGoes, FlushingGoes};
+ghost use Rattle.lu_client_objects.specs.CallRows.{LooksGo, ComesGo, StartsGo, StatsGo};
+ghost use Rattle.lu_client_objects.specs.Pins.{CallsBalanced, LocksBalanced, CountsStay, CountedPinned};
+
+/// From a sound state each entry rests on what it has to, at the state before it, and the state after them all is sound again.
+///
+/// - `trims`: unused locks are marked.
+/// - `locks`: the pass over the held locks.
+/// - `flush`, `flushing`: the call that writes a file back, which pins nothing.
+#[tactic(auto, using(crate::proofs::Walks::trims_go, crate::proofs::Walks::locks_go_on, crate::proofs::Walks::flush_goes, crate::proofs::Walks::flushing_goes))]
+pub fn locks_and_write_backs()
+    ensures trims { TrimsGo }
+    ensures locks { LocksGo }
+    ensures flush { FlushGoes }
+    ensures flushing { FlushingGoes }
+{}
+
+/// A call on bytes that isn't a glimpse, from a state that is sound but for gets: each entry rests on what it has to, at the state before
+/// it, and the state after them all is such again.
+///
+/// - `looks`: it looks for its locks, and acts once it has them.
+/// - `comes`: the lock that it asked for came.
+/// - `starts`: it begins.
+/// - `stats`: a stat of a file goes on for its size.
+#[tactic(auto, using(crate::proofs::Calls::looks_at_go, crate::proofs::Calls::comes_at_go, crate::proofs::Calls::starts_go, crate::proofs::Calls::stats_go))]
+pub fn calls_on_bytes()
+    ensures looks { LooksGo }
+    ensures comes { ComesGo }
+    ensures starts { StartsGo }
+    ensures stats { StatsGo }
+{}
+
+/// Pins are counted: each held lock has at least as many as it stands among those of the calls.
+///
+/// - `calls`, `locks`: a row leaves the call on its slot with the pins that it made, or told and with none.
+/// - `stay`: such rows keep the count, while the pins are no more than are counted.
+/// - `pinned`: by the count, a held lock among a call's pins is pinned.
+#[tactic(auto, using(crate::proofs::Pins::calls_balanced, crate::proofs::Pins::locks_balanced, crate::proofs::Pins::counts_stay, crate::proofs::Pins::counted_pinned))]
+pub fn pins_are_counted()
+    ensures calls { CallsBalanced }
+    ensures locks { LocksBalanced }
+    ensures stay { CountsStay }
+    ensures pinned { CountedPinned }
+{}
