@@ -30,7 +30,8 @@ use Rattle.lu_guards.proofs.Turns.{owes_nothing}
 use Rattle.lu_guards.proofs.Covers.{EntriesCovered, covered_turn}
 use Rattle.lu_guards.proofs.ClientHandles.{Tied, unbinding, closes_nothing, closes_unbound, begun_tied, closed_tied, told_tied, count_more}
 use Rattle.lu_guards.proofs.ClientRests.{Good, Idle, Rested, Ended, idle_same, adds, call_line, followed}
-use Rattle.lu_guards.proofs.ClientSlots.{idle_more, covered_left, slots_still, HasBegun, has_begun}
+use Rattle.lu_guards.proofs.ClientCalls.{idle_more, covered_left}
+use Rattle.lu_guards.proofs.ClientSlots.{slots_still, HasBegun, has_begun}
 use Rattle.lu_guards.proofs.ClientStarts.{Starts, starts_good, rests_from}
 
 -- ---- which calls begin

@@ -35,7 +35,7 @@ use Rattle.lu_guards.proofs.Ends.{none_took}
 use Rattle.lu_guards.proofs.Turns.{owes_nothing}
 use Rattle.lu_guards.proofs.ClientLocks.{unmarked_only, of_ordered, count_ordered, of_unmarked, count_unmarked}
 use Rattle.lu_guards.proofs.ClientRests.{Rested, the_head, adds, at_one, held_line, followed, import_there}
-use Rattle.lu_guards.proofs.ClientSlots.{calls_wait}
+use Rattle.lu_guards.proofs.ClientCalls.{calls_wait}
 use Rattle.lu_guards.proofs.ClientStarts.{Starts, After, took_rested, no_forgets}
 use Rattle.lu_guards.proofs.ClientResends.{Still, join_good, all_told}
 

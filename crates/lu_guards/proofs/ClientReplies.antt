@@ -44,7 +44,7 @@ use Rattle.lu_guards.proofs.ClientLocks.{Differ, brought_in, brought_only, with_
 use Rattle.lu_guards.proofs.ClientHandles.{Tied}
 use Rattle.lu_guards.proofs.ClientLines.{IsSimple, asked_simple, ends, brings_its, no_size, heeds_nothing, flights_asked, SmallOn, small_on, reply_differs, reply_bare}
 use Rattle.lu_guards.proofs.ClientRests.{Good, Sizing, AwaitsReply, HasAsked, Idle, AllIdle, Rested, the_head, adds, at_one, at_zero, call_line, held_line, import_zero, import_there, mark_good}
-use Rattle.lu_guards.proofs.ClientSlots.{OnNames, idle_more, calls_wait, asked_more}
+use Rattle.lu_guards.proofs.ClientCalls.{OnNames, idle_more, calls_wait, asked_more}
 use Rattle.lu_guards.proofs.ClientStarts.{Starts, After, took_good, took_rested, no_waiter}
 
 -- a request in flight that is found

@@ -45,7 +45,7 @@ use Rattle.lu_guards.proofs.ClientLocks.{of_ordered, count_ordered}
 use Rattle.lu_guards.proofs.ClientLines.{ends}
 use Rattle.lu_guards.proofs.ClientTold.{ending_now, Whole, whole_at}
 use Rattle.lu_guards.proofs.ClientRests.{Good, AllIdle, Rested, Ended, the_head, adds, at_one, request_is, followed, import_there}
-use Rattle.lu_guards.proofs.ClientSlots.{calls_wait}
+use Rattle.lu_guards.proofs.ClientCalls.{calls_wait}
 use Rattle.lu_guards.proofs.ClientStarts.{Starts, starts_good, After, after_ends, took_rested, nowhere, no_looks}
 
 module _ (head : table.Head) (c : ℕ) (stamp : Stamp) where

@@ -24,7 +24,7 @@ use Rattle.lu_guards.proofs.Ends.{closes_after}
 use Rattle.lu_guards.proofs.Turns.{Settled, owes_nothing, backs_none, marks_none, shows_none, noted_client, steps_after}
 use Rattle.lu_guards.proofs.ClientLines.{comes_to}
 use Rattle.lu_guards.proofs.ClientRests.{Between, Ended, the_head, followed}
-use Rattle.lu_guards.proofs.ClientSlots.{on_small}
+use Rattle.lu_guards.proofs.ClientCalls.{on_small}
 use Rattle.lu_guards.proofs.ClientStarts.{was_there, Starts, After, after_ends}
 use Rattle.lu_guards.proofs.ClientBegins.{call_ends}
 use Rattle.lu_guards.proofs.ClientResends.{tick_ends, ready_after}

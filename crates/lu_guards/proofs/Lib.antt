@@ -38,6 +38,7 @@ pub mod ClientSizes
 pub mod ClientHandles
 pub mod ClientRests
 pub mod ClientKnown
+pub mod ClientCalls
 pub mod ClientSlots
 pub mod ClientStarts
 pub mod ClientBegins
