@@ -14,6 +14,7 @@ use Rattle.lu_machine.specs.Places.{RisingFrom}
 use Rattle.lu_machine.proofs.Objects.{object_puts, object_cuts}
 use Rattle.lu_held.specs.Locks.{same_resource}
 use Rattle.lu_base.specs.declared.locks.Resource.{Resource}
+use Rattle.lu_msg.specs.declared.commits.Batch.{Batch}
 use Rattle.lu_msg.specs.declared.commits.Transaction.{Transaction}
 use Rattle.lu_msg.specs.declared.operations.Op.{Op}
 use Rattle.lu_msg.specs.declared.messages.Request.{Request as RequestOf}
@@ -31,6 +32,7 @@ use Rattle.lu_target_objects.specs.States.{In, IsOnBytes, LocksOk, Unasked, Sing
 use Rattle.lu_target_objects.specs.Entries.{DeedOk, EndHolder, TargetOk}
 use Rattle.lu_target_objects.specs.Claims.{StaysOrderly}
 use Rattle.lu_target_objects.proofs.Lists.{in_append, in_left, in_filter, in_filtered}
+use Rattle.lu_target_objects.proofs.Logs.{deeds_filter, deeds_from, deeds_push}
 use Rattle.lu_target_objects.proofs.Locks.{turned, in_with, same_lock, rising_with, rising_filter, distinct_filter, distinct_push}
 
 not_is : (b : Bool) → not b ≡ true → b ≡ false
@@ -187,7 +189,7 @@ rises_with r s object (e ∷ objects) h old = by (same_resource e.0 r) (same_res
     by false true q ih old = rw q old
     by false false q ih old = rw q (ih old)
 
-done_rises : (osts : ℕ) (t : Transaction) (c : Contents) (o : Op) → ((s : Resource) → RisingFrom 0 (object_in c.objects s)) → (s : Resource) → RisingFrom 0 (object_in (done_by osts t c o).objects s)
+pub done_rises : (osts : ℕ) (t : Transaction) (c : Contents) (o : Op) → ((s : Resource) → RisingFrom 0 (object_in c.objects s)) → (s : Resource) → RisingFrom 0 (object_in (done_by osts t c o).objects s)
 done_rises osts t c (op.Put r cookie offset bytes) h s =
     rises_with r s (put_bytes offset bytes (object_in c.objects r)) c.objects ((object_puts offset bytes (object_in c.objects r)).rises (h r)) (h s)
 done_rises osts t c (op.Cut r cookie size) h s = rises_with r s (cut_bytes size (object_in c.objects r)) c.objects ((object_cuts size (object_in c.objects r)).rises (h r)) (h s)
@@ -199,6 +201,7 @@ done_rises osts t c _ h s = h s
 written_log : (v : Target) (d : Deed) → d.reply.txn.0 ≡ v.number + 1 → d.writes ≡ object_writes d.op → LogOk v.number v.committed v.log → LogOk d.reply.txn.0 v.committed (v.log ++ d ∷ [])
 written_log v d next writes ok = record {
   last = let low = ok.last in omega (arith, next, low);
+  rising = let low = ok.last in deeds_push (v.committed + 1) v.log d ok.rising (omega (arith, next, low)) (λ e i. let most = (ok.numbers e i).1 in omega (arith, next, most));
   numbers = λ e i. either e (λ (x : Deed). (v.committed < x.reply.txn.0) × (x.reply.txn.0 ≤ d.reply.txn.0)) (λ j. above (ok.numbers e j)) (above_all) i;
   writes = λ e i. either e (λ (x : Deed). x.writes ≡ object_writes x.op) (ok.writes e) writes i;
 }
@@ -216,6 +219,8 @@ written_log v d next writes ok = record {
 committed_log : (v : Target) (to : ℕ) → to ≤ v.number → LogOk v.number v.committed v.log → LogOk v.number to (filter (λ (d : Deed). nat_lt to d.reply.txn.0) v.log)
 committed_log v to low ok = record {
   last = low;
+  rising = deeds_from (v.committed + 1) to (filter (λ (d : Deed). nat_lt to d.reply.txn.0) v.log) (deeds_filter (λ (d : Deed). nat_lt to d.reply.txn.0) (v.committed + 1) v.log ok.rising)
+      (λ d i. less to d.reply.txn.0 (in_filter (λ (d : Deed). nat_lt to d.reply.txn.0) d v.log i).1);
   numbers = λ d i. let f = in_filter (λ (d : Deed). nat_lt to d.reply.txn.0) d v.log i in (less to d.reply.txn.0 f.1, (ok.numbers d f.0).1);
   writes = λ d i. ok.writes d (in_filter (λ (d : Deed). nat_lt to d.reply.txn.0) d v.log i).0;
 }
@@ -313,7 +318,7 @@ left_holders v gone ok = record {
     still : (g : Glimpse) → In g (filter (λ (x : Glimpse). not (is_life x.request.who gone)) v.glimpses) → In g v.glimpses
     still g i = (in_filter (λ (x : Glimpse). not (is_life x.request.who gone)) g v.glimpses i).0
 
-forgotten_objects : (gone : List Who) (c : Contents) → (forgotten gone c).objects ≡ c.objects
+pub forgotten_objects : (gone : List Who) (c : Contents) → (forgotten gone c).objects ≡ c.objects
 forgotten_objects [] c = refl
 forgotten_objects (who ∷ gone) c = forgotten_objects gone (record c { tree = forget c.tree who })
 
@@ -322,6 +327,12 @@ forgotten_objects (who ∷ gone) c = forgotten_objects gone (record c { tree = f
 all_kept : (w : Target) → w.closed ≡ w.boot → is_names w ≡ false → LocksOk w.cookie w.granted w.waiting → RequestsOk w.boot w.queue w.glimpses → HoldersOk w.cookie w.granted w.waiting w.glimpses
     → LogOk w.number w.committed w.log → ((r : Resource) → RisingFrom 0 (object w r)) → Orderly w
 all_kept w serving bytes locks requests holders log rises = record { serving = serving; bytes = bytes; locks = locks; requests = requests; holders = holders; log = log; rises = rises }
+
+-- what is on the disk leaves the log, and lives go with all that they had
+pub committed : (v : Target) (to : ℕ) (batch : Batch) → Orderly v → to ≤ v.number → Orderly (after v (Commit to batch))
+committed v to batch o low =
+    all_kept (after v (Commit to batch)) o.serving o.bytes (left_locks v batch.removed o.locks) (left_requests v batch.removed o.requests) (left_holders v batch.removed o.holders) (committed_log v to low o.log)
+    (λ r. subst (λ (os : List (Resource × Object)). RisingFrom 0 (object_in os r)) (sym (forgotten_objects batch.removed v.contents)) (o.rises r))
 
 kept : (v : Target) (at : At) (e : Entry) → Orderly v → TargetOk v at e → Orderly (after v e)
 kept v at (Enters r) o k = all_kept (after v (Enters r)) o.serving o.bytes o.locks (taken_request v.boot v.queue v.glimpses r k.0 o.requests) o.holders o.log o.rises
@@ -349,9 +360,7 @@ kept v at (Answers d) o k = all_kept (after v (Answers d)) o.serving o.bytes o.l
 kept v at (Asks g) o k =
     all_kept (after v (Asks g)) o.serving o.bytes o.locks (asked_glimpse v.boot v.queue v.glimpses g k.queued k.unasked k.op o.requests) (asked_holder v g k.lock k.holder o.locks o.holders) o.log o.rises
 kept v at (Ends g) o k = all_kept (after v (Ends g)) o.serving o.bytes o.locks (ended_glimpse v.boot v.queue v.glimpses g o.requests) (ended_holder v g o.holders) o.log o.rises
-kept v at (Commit to batch) o k =
-    all_kept (after v (Commit to batch)) o.serving o.bytes (left_locks v batch.removed o.locks) (left_requests v batch.removed o.requests) (left_holders v batch.removed o.holders) (committed_log v to k.1 o.log)
-    (λ r. subst (λ (os : List (Resource × Object)). RisingFrom 0 (object_in os r)) (sym (forgotten_objects batch.removed v.contents)) (o.rises r))
+kept v at (Commit to batch) o k = committed v to batch o k.high
 kept v at (Send to m) o k = o
 kept v at (Evict who cause) o k = o
 kept v at (Joined who) o k = o

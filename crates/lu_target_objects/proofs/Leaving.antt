@@ -1,19 +1,22 @@
 -- Lives that leave and join, transactions that go to the disk, and what is sent again as time goes on.
-use Rattle.std.proofs.Common.{◌≡◌, inl, inr, ℕ, zero, suc, ◌<◌, ◌≤◌, Bool, true, false, List, [], ◌∷◌, ◌++◌, Option, Some, None, refl, sym, subst, ◌∙◌, arith}
-use Rattle.std.specs.Prelude.{nat_eq, nat_lt, ◌&&◌, ◌||◌, if◌then◌else◌, take}
-use Rattle.std.specs.List.{list_any}
+use Rattle.std.proofs.Common.{◌≡◌, inl, inr, ℕ, ◌+◌, ◌<◌, ◌≤◌, Bool, true, false, List, [], ◌∷◌, ◌++◌, Option, Some, None, refl, sym, ap, subst, ◌∙◌, arith}
+use Rattle.std.specs.Prelude.{nat_eq, nat_lt, ◌&&◌, ◌||◌, if◌then◌else◌, take, map}
+use Rattle.std.specs.List.{filter, list_any}
 use Rattle.std.proofs.lemmas.Bool.{eqb-true, and_parts}
+use Rattle.std.proofs.lemmas.List.{append-nil, map-append}
 use Rattle.lu_base.specs.declared.ids.At.{At}
 use Rattle.lu_base.specs.declared.ids.Who.{Who}
 use Rattle.lu_base.specs.declared.ids.Xid.{Xid}
 use Rattle.lu_base.specs.declared.locks.Cause.{Cause}
 use Rattle.lu_base.specs.declared.locks.Cause.TheVariants.{Expired, Replaced}
 use Rattle.lu_base.specs.declared.locks.Lock.{Lock}
+use Rattle.lu_msg.specs.declared.commits.Transaction.{Transaction}
 use Rattle.lu_words.specs.Carried.{Deed, Called, Glimpse}
 use Rattle.lu_words.specs.Words.{Entry, Skip, Tick, Commit, Boot, Close, Evict, same_life}
 use Rattle.lu_target_rows.specs.Lives.{is_life, with_life, with_lives, life_before}
 use Rattle.lu_target_rows.specs.Locks.{same_request, same_glimpse}
 use Rattle.lu_target_rows.specs.States.{Target, is_names, is_serving, after, turn}
+use Rattle.lu_target_rows.specs.Stored.{transaction_of}
 use Rattle.lu_target_rows.specs.Replies.{is_called, block_of}
 use Rattle.lu_target_rows.specs.Names.{names_go}
 use Rattle.lu_target_rows.specs.Queues.{all_queues_go}
@@ -21,10 +24,11 @@ use Rattle.lu_target_rows.specs.Glimpses.{ask_of, glimpses_of}
 use Rattle.lu_target_rows.specs.Requests.{releases}
 use Rattle.lu_target_rows.specs.Leaving.{last_of, commits, evicted, ready, all_released, locks_of, evictions, all_go, condemned, expels, block_again, asks_again, sends_again, ticked, life_of, admits, row_admits, by_life, is_over}
 use Rattle.lu_target_rows.specs.Rows.{first_deeds, row_commits}
-use Rattle.lu_target_objects.specs.States.{In, Orderly}
+use Rattle.lu_target_objects.specs.States.{In, RisingDeeds, Orderly}
 use Rattle.lu_target_objects.specs.Entries.{TargetOk, Each}
 use Rattle.lu_target_objects.specs.Claims.{CommitsDone, TimeGoesOn, JoinComes}
-use Rattle.lu_target_objects.proofs.Lists.{in_filter}
+use Rattle.lu_target_objects.proofs.Lists.{in_left, in_filter}
+use Rattle.lu_target_objects.proofs.Logs.{last_same, left_over, take_parts}
 use Rattle.lu_target_objects.proofs.Locks.{life_is, life_itself, cookie_is}
 use Rattle.lu_target_objects.proofs.Kept.{stays_orderly}
 use Rattle.lu_target_objects.proofs.Each.{each_append}
@@ -54,11 +58,11 @@ life_kept x who (w ∷ lives) h = by (same_life who w) (life_before who w) (same
     by false false true e d f h ih = rw e refl
     by false false false e d f h ih = rw e (ih h)
 
-lives_kept : (x : Who) (more lives : List Who) → is_life x lives ≡ true → is_life x (with_lives more lives) ≡ true
+pub lives_kept : (x : Who) (more lives : List Who) → is_life x lives ≡ true → is_life x (with_lives more lives) ≡ true
 lives_kept x [] lives h = h
 lives_kept x (who ∷ more) lives h = lives_kept x more (with_life who lives) (life_kept x who lives h)
 
-lives_put : (x : Who) (more lives : List Who) → In x more → is_life x (with_lives more lives) ≡ true
+pub lives_put : (x : Who) (more lives : List Who) → In x more → is_life x (with_lives more lives) ≡ true
 lives_put x [] lives i = absurd i
 lives_put x (who ∷ more) lives (inl e) = lives_kept x more (with_life who lives) (subst (λ (w : Who). is_life w (with_life who lives) ≡ true) e (life_put who lives))
 lives_put x (who ∷ more) lives (inr i) = lives_put x more (with_life who lives) i
@@ -81,28 +85,45 @@ last_within : (low high n : ℕ) (ds : List Deed) → low ≤ n → n ≤ high �
 last_within low high n [] a b h = (a, b)
 last_within low high n (d ∷ ds) a b h = let first = (h d (inl refl)).0 in last_within low high d.reply.txn.0 ds (omega (arith, first)) (h d (inl refl)).1 (λ e i. h e (inr i))
 
-commit_ok : (v : Target) (at : At) (ds : List Deed) (gone come : List Who) → Orderly v → ((d : Deed) → In d ds → In d v.log) → TargetOk v at (commits v ds gone come)
-commit_ok v at ds gone come o h = last_within v.committed v.number v.committed ds (omega arith) o.log.last (λ d i. o.log.numbers d (h d i))
+pub in_batch : (t : Transaction) (ds : List Deed) → In t (map {A = Deed} {B = Transaction} transaction_of ds) → (d : Deed) × In d ds × (transaction_of d ≡ t)
+in_batch t [] i = absurd i
+in_batch t (d ∷ ds) (inl e) = (d, inl refl, e)
+in_batch t (d ∷ ds) (inr i) = let r = in_batch t ds i in (r.0, inr r.1, r.2)
 
-in_take : (k : ℕ) (ds : List Deed) (d : Deed) → In d (take k ds) → In d ds
-in_take zero ds d i = absurd i
-in_take (suc k) [] d i = i
-in_take (suc k) (x ∷ ds) d (inl e) = inl e
-in_take (suc k) (x ∷ ds) d (inr i) = inr (in_take k ds d i)
+-- the first ones of the log are committed
+commit_ok : (v : Target) (at : At) (ds rest : List Deed) (gone come : List Who) → Orderly v → ds ++ rest ≡ v.log → TargetOk v at (commits v ds gone come)
+commit_ok v at ds rest gone come o parts =
+    let bounds = last_within v.committed v.number v.committed ds (omega arith) o.log.last (λ d i. o.log.numbers d (among d i)) in
+    record {
+      low = bounds.0;
+      high = bounds.1;
+      boot = refl;
+      fresh = λ t i. let r = in_batch t ds i in subst (λ (x : Transaction). v.committed < x.txn.0) r.2 (o.log.numbers r.0 (among r.0 r.1)).0;
+      last = last_same v.committed ds;
+      all = ap (λ (es : List Deed). map {A = Deed} {B = Transaction} transaction_of ds ++ map transaction_of es) others
+          ∙ sym (map-append transaction_of ds rest) ∙ ap (λ (es : List Deed). map {A = Deed} {B = Transaction} transaction_of es) parts;
+    }
+  where
+    among : (d : Deed) → In d ds → In d v.log
+    among d i = subst (λ (es : List Deed). In d es) parts (in_left d ds rest i)
+
+    others : filter (λ (d : Deed). nat_lt (last_of ds v.committed) d.reply.txn.0) v.log ≡ rest
+    others = subst (λ (es : List Deed). filter (λ (d : Deed). nat_lt (last_of ds v.committed) d.reply.txn.0) es ≡ rest) parts
+        (left_over v.committed ds rest (subst (λ (es : List Deed). RisingDeeds (v.committed + 1) es) (sym parts) o.log.rising))
 
 pub commits_each : CommitsDone
 commits_each v at count o = by (is_serving v)
   where
-    some : (ds : List Deed) → ((d : Deed) → In d ds → In d v.log) → Each v at (row_commits v ds)
-    some [] h = (tt, tt)
-    some (d ∷ ds) h = (commit_ok v at (d ∷ ds) [] [] o h, tt)
+    some : (ds rest : List Deed) → ds ++ rest ≡ v.log → Each v at (row_commits v ds)
+    some [] rest parts = (tt, tt)
+    some (d ∷ ds) rest parts = (commit_ok v at (d ∷ ds) rest [] [] o parts, tt)
 
-    among : (count : Option ℕ) (d : Deed) → In d (first_deeds count v.log) → In d v.log
-    among None d i = i
-    among (Some k) d i = in_take k v.log d i
+    first : (count : Option ℕ) → Each v at (row_commits v (first_deeds count v.log))
+    first None = some v.log [] (append-nil v.log)
+    first (Some k) = let p = take_parts k v.log in some (take k v.log) p.0 p.1
 
     by : (b : Bool) → Each v at (if b then row_commits v (first_deeds count v.log) else Skip ∷ [])
-    by true = some (first_deeds count v.log) (among count)
+    by true = first count
     by false = (tt, tt)
 
 -- ---- evictions
@@ -137,7 +158,7 @@ all_go_each at v o = by (is_names v) o.bytes
 leaves_each : (at : At) (cause : Cause) (gone come : List Who) (v : Target) (next : Target → List Entry) → Orderly v → ((w : Target) → Orderly w → Each w at (next w))
     → (w : Target) → w ≡ turn v (commits v v.log gone come ∷ []) → Each v at (commits v v.log gone come ∷ (evictions at cause v.granted gone w ++ next (turn w (evictions at cause v.granted gone w))))
 leaves_each at cause gone come v next o rest w is =
-    let first : Each v at (commits v v.log gone come ∷ []) = (commit_ok v at v.log gone come o (λ d i. i), tt) in
+    let first : Each v at (commits v v.log gone come ∷ []) = (commit_ok v at v.log [] gone come o (append-nil v.log), tt) in
     let ow : Orderly w = subst Orderly (sym is) (stays_orderly v at (commits v v.log gone come ∷ []) o first) in
     let left : (x : Who) → In x gone → is_life x w.removed ≡ true = λ x i. subst (λ (u : Target). is_life x u.removed ≡ true) (sym is) (lives_put x gone v.removed i) in
     let es = evictions at cause v.granted gone w in

@@ -1,5 +1,6 @@
 pub mod Lists
 pub mod Locks
+pub mod Logs
 pub mod Kept
 pub mod Each
 pub mod Queues
@@ -11,3 +12,7 @@ pub mod Reports
 pub mod Leaving
 pub mod Turns
 pub mod TurnReports
+pub mod Disks
+pub mod Windows
+pub mod Closes
+pub mod Recovers

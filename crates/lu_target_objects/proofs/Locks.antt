@@ -114,7 +114,7 @@ rising_with n l (x ∷ xs) low h = by (nat_eq l.cookie.0 x.cookie.0) (nat_lt l.c
     by false true e f ih = (low, (grind (arith, nat_tests), h.1))
     by false false e f ih = (h.0, ih (grind (arith, nat_tests)))
 
-rising_low : (m n : ℕ) (locks : List Lock) → n ≤ m → Rising m locks → Rising n locks
+pub rising_low : (m n : ℕ) (locks : List Lock) → n ≤ m → Rising m locks → Rising n locks
 rising_low m n [] low h = tt
 rising_low m n (x ∷ xs) low h = let first = h.0 in (omega (arith, low, first), h.1)
 

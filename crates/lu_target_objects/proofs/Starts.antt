@@ -19,6 +19,6 @@ starts setting clients id =
       };
       requests = record { present = λ r i. absurd i; queued = λ g i. absurd i; sizes = λ g i. absurd i; single = tt };
       holders = record { holders = λ g l i j same. absurd i; known = λ g i. absurd i; unwaited = λ g l i j. absurd i };
-      log = record { last = omega arith; numbers = λ d i. absurd i; writes = λ d i. absurd i };
+      log = record { last = omega arith; rising = tt; numbers = λ d i. absurd i; writes = λ d i. absurd i };
       rises = λ r. tt;
     }

@@ -1,5 +1,5 @@
 -- What each entry of an object storage target rests on, over its state just before it. While it serves it makes no other entries.
-use Rattle.std.specs.Prelude.{◌≡◌, ◌⊎◌, ℕ, ◌≤◌, ◌<◌, ◌+◌, true, false, List, [], ◌∷◌, Option, Some, None}
+use Rattle.std.specs.Prelude.{◌≡◌, ◌⊎◌, ℕ, ◌≤◌, ◌<◌, ◌+◌, nat_lt, true, false, List, [], ◌∷◌, ◌++◌, map, filter, Option, Some, None}
 use Rattle.lu_base.specs.declared.ids.At.{At}
 use Rattle.lu_base.specs.declared.ids.Cookie.{Cookie}
 use Rattle.lu_base.specs.declared.ids.Node.{Node}
@@ -18,6 +18,8 @@ use Rattle.lu_lock.specs.Overlap.{extents_meet, Covers}
 use Rattle.lu_machine.specs.Objects.{object_writes, object_touches, page_extent, content, range}
 use Rattle.lu_msg.specs.declared.answers.Answer.{Answer}
 use Rattle.lu_msg.specs.declared.answers.Answer.TheVariants as told
+use Rattle.lu_msg.specs.declared.commits.Batch.{Batch}
+use Rattle.lu_msg.specs.declared.commits.Transaction.{Transaction}
 use Rattle.lu_msg.specs.declared.messages.GrantNotice.{GrantNotice}
 use Rattle.lu_msg.specs.declared.messages.Message.{Message}
 use Rattle.lu_msg.specs.declared.messages.Message.TheVariants as message
@@ -29,6 +31,7 @@ use Rattle.lu_words.specs.Carried.{Deed, Glimpse}
 use Rattle.lu_words.specs.Words.{Entry, Send, Take, Tick, Skip, Act, Txn, Grant, Wait, Block, Release, Commit, Evict, Joined, Enters, Answers, Asks, Ends}
 use Rattle.lu_target_rows.specs.Lives.{is_life, slot_in}
 use Rattle.lu_target_rows.specs.States.{Target, after}
+use Rattle.lu_target_rows.specs.Stored.{transaction_of, last_number}
 use Rattle.lu_target_rows.specs.Replies.{seen_in, again, is_called}
 use Rattle.lu_target_rows.specs.Queues.{object, size_of, extent_of}
 use Rattle.lu_target_rows.specs.Objects.{put_extent, cut_extent}
@@ -241,11 +244,22 @@ SendOk v to (message.Ready who boot committed) = (to ≡ Client who.client) × (
 SendOk v to (message.Evicted who boot) = (to ≡ Client who.client) × (boot ≡ v.boot)
 SendOk v to _ = ⊥
 
+-- ---- the disk
+
+-- A commit has the transactions of the log up to a number that was given, which is that of the last one.
+pub record CommitOk (v : Target) (to : ℕ) (batch : Batch) : Type 0 where
+  pub low : v.committed ≤ to
+  pub high : to ≤ v.number
+  pub boot : batch.boot ≡ 0
+  pub fresh : (t : Transaction) → In t batch.transactions → v.committed < t.txn.0
+  pub last : last_number batch.transactions v.committed ≡ to
+  pub all : batch.transactions ++ map transaction_of (filter (λ d. nat_lt to d.reply.txn.0) v.log) ≡ map transaction_of v.log
+
 -- ---- all entries
 
 -- `Enters`: a request is taken that was sent with the present boot, and whose number is above all that were taken of its life and tag.
 -- `Block`: a lock is called back once, until it is released. `Ends`: a glimpse ends that waits. `Release`: a lock goes that was granted,
--- or whose life has left. `Commit`: up to a number that was given. `Evict`: of a life that has left.
+-- or whose life has left. `Evict`: of a life that has left.
 abbrev pub TargetOk : Target → At → Entry → Type 0
 TargetOk v at (Enters r) = (r.boot ≡ v.boot) × ((slot_in v.slots r.who r.tag).taken < r.xid.0)
 TargetOk v at (Grant l (Some d)) = GrantsOk v at l d
@@ -259,7 +273,7 @@ TargetOk v at (Answers d) = TellsOk v d × AnswerOk v at d d.reply.answer
 TargetOk v at (Asks g) = AsksOk v g
 TargetOk v at (Ends g) = In g v.glimpses
 TargetOk v at (Send to m) = SendOk v to m
-TargetOk v at (Commit to batch) = (v.committed ≤ to) × (to ≤ v.number)
+TargetOk v at (Commit to batch) = CommitOk v to batch
 TargetOk v at (Evict who cause) = is_life who v.removed ≡ true
 TargetOk v at (Joined who) = Unit {0}
 TargetOk v at (Take number from m) = Unit {0}

@@ -95,9 +95,15 @@ pub record HoldersOk (cookie : ℕ) (granted waiting : List Lock) (glimpses : Li
 
 -- ---- the log, and all
 
--- The log's transactions aren't committed, and none has a greater number than the last; each has the parts that its operation writes.
+-- the numbers of these rise, from n on
+abbrev pub RisingDeeds : ℕ → List Deed → Type 0
+RisingDeeds n [] = Unit {0}
+RisingDeeds n (d ∷ deeds) = (n ≤ d.reply.txn.0) × RisingDeeds (d.reply.txn.0 + 1) deeds
+
+-- The log's transactions rise, aren't committed, and none has a greater number than the last; each has the parts that its operation writes.
 pub record LogOk (number committed : ℕ) (log : List Deed) : Type 0 where
   pub last : committed ≤ number
+  pub rising : RisingDeeds (committed + 1) log
   pub numbers : (d : Deed) → In d log → (committed < d.reply.txn.0) × (d.reply.txn.0 ≤ number)
   pub writes : (d : Deed) → In d log → d.writes ≡ object_writes d.op
 

@@ -2,6 +2,7 @@
 //! definitions of `specs/`.
 
 ghost use Rattle.lu_target_objects.specs.Claims.{StartsOrderly, StaysOrderly, ObjectsGo, RequestComes, LockGoes, CancelComes, QueueGoes, QueuesGo, AllQueuesGo, ReportComes, WhereComes, CommitsDone, TimeGoesOn, JoinComes, TurnGoes, HoldersTellSizes, TurnTellsSizes};
+ghost use Rattle.lu_target_objects.specs.Recoveries.{StartsServing, StaysServing, StaysWithin, CrashComes, DownGoes, RecoveryGoes, StaysKnown, CloseComes};
 
 /// What the state of an object storage target keeps.
 ///
@@ -66,4 +67,32 @@ pub fn turns_rest_on_the_state()
 pub fn sizes_come_from_holders()
     ensures rows { HoldersTellSizes }
     ensures turns { TurnTellsSizes }
+{}
+
+/// What stands on the disk while the target serves.
+///
+/// - `starts`: it is as the target is, at the start of a run.
+/// - `serves`: and stays so by entries that rest on the state.
+/// - `within`: after a turn that is made, numbers and cookies are below those of the next boot.
+/// - `crashes`: a crash leaves what the next boot needs.
+#[tactic(auto, using(crate::proofs::Disks::starts_serving, crate::proofs::Disks::stays_serving, crate::proofs::Disks::within_each, crate::proofs::Disks::crash_each))]
+pub fn disks_rest_on_the_state()
+    ensures starts { StartsServing }
+    ensures serves { StaysServing }
+    ensures within { StaysWithin }
+    ensures crashes { CrashComes }
+{}
+
+/// A target that is down or recovers.
+///
+/// - `down`: each turn of one that is down, a boot among them.
+/// - `recovers`: each turn of one that recovers, but for a crash: what comes for its window, and the close.
+/// - `stays`: these leave it down or recovering, or serving.
+/// - `closes`: after a close it serves.
+#[tactic(auto, using(crate::proofs::Recovers::down_each, crate::proofs::Recovers::recovery_each, crate::proofs::Recovers::stays_known))]
+pub fn recoveries_rest_on_the_state()
+    ensures down { DownGoes }
+    ensures recovers { RecoveryGoes }
+    ensures stays { StaysKnown }
+    ensures closes { CloseComes }
 {}
