@@ -22,7 +22,7 @@ use Rattle.lu_target_rows.specs.Replies.{locks_on, is_called, called, block_of, 
 use Rattle.lu_target_rows.specs.Queues.{object, size_of, extent_of, conflicting, blocks_go, has_to_wait, grown, grant_entries, grants_go, queue_goes}
 use Rattle.lu_target_rows.specs.Glimpses.{answered, row_sizes, row_answers, row_locked, highest, row_asks, row_size, asked_for, row_holder, row_report, glimpses_of, glimpses_end}
 use Rattle.lu_target_rows.specs.Objects.{lock_for, row_granted, row_waiting, row_enqueue, lock_of, row_uncovered, row_get, lies_in, written, row_written, row_write, put_extent, cut_extent, objects_go}
-use Rattle.lu_target_objects.specs.Entries.{SizesReported}
+use Rattle.lu_target_objects.specs.Entries.{SizesReported, TellsSize}
 use Rattle.lu_target_objects.specs.Claims.{HoldersTellSizes}
 
 pub reported_append : (ended : Option Glimpse) (es fs : List Entry) → SizesReported ended es → ((later : Option Glimpse) → SizesReported later fs) → SizesReported ended (es ++ fs)
@@ -125,6 +125,14 @@ holder_report ended v at m (Some g) = by m.size
     by None = (tt, tt)
     by (Some size) = ((refl, refl), tt)
 
+holder_tells : (v : Target) (at : At) (m : SizeReport) (g : Option Glimpse) → TellsSize m.size (row_report v at m g)
+holder_tells v at m None = tt
+holder_tells v at m (Some g) = by m.size
+  where
+    by : (size : Option ℕ) → TellsSize size (row_holder v at m g size)
+    by None = (tt, tt)
+    by (Some size) = (refl, tt)
+
 pub holders_tell : HoldersTellSizes
 holders_tell v at ended =
     record {
@@ -132,4 +140,5 @@ holders_tell v at ended =
       goes = λ l. glimpses_report None at (glimpses_of l v.glimpses) v;
       queue = λ r. queue_report ended v r;
       report = λ m. holder_report ended v at m (asked_for m v.glimpses);
+      number = λ m. holder_tells v at m (asked_for m v.glimpses);
     }

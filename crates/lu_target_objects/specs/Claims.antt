@@ -23,7 +23,7 @@ use Rattle.lu_target_rows.specs.Requests.{releases, row_request, row_cancel, row
 use Rattle.lu_target_rows.specs.Leaving.{row_tick, row_join}
 use Rattle.lu_target_rows.specs.Rows.{Event, Comes, Crashes, Boots, row_commit, row}
 use Rattle.lu_target_objects.specs.States.{In, HasRange, IsReadOrWrite, Unasked, Orderly}
-use Rattle.lu_target_objects.specs.Entries.{Each, SizesReported}
+use Rattle.lu_target_objects.specs.Entries.{Each, SizesReported, TellsSize}
 
 -- an object storage target is so at the start of a run
 abbrev pub StartsOrderly : Type 0
@@ -102,7 +102,7 @@ TurnGoes = (v : Target) (at : At) (event : Event) → Orderly v → MayHappen v 
 
 -- ---- sizes
 
--- whatever ended before, each size that these rows answer without an act is a holder's, whose glimpse has just ended
+-- whatever ended before, each size that these rows answer without an act is a holder's, whose glimpse has just ended, and is the one that it told
 abbrev pub HoldersTellSizes : Type 0
 HoldersTellSizes =
     (v : Target) (at : At) (ended : Option Glimpse)
@@ -111,6 +111,7 @@ HoldersTellSizes =
       goes : (l : Lock) → SizesReported ended (releases at l v);
       queue : (r : Resource) → SizesReported ended (queue_goes r v);
       report : (m : SizeReport) → SizesReported ended (row_report v at m (asked_for m v.glimpses));
+      number : (m : SizeReport) → TellsSize m.size (row_report v at m (asked_for m v.glimpses));
     }
 
 -- so it is in each turn

@@ -294,6 +294,16 @@ IsReported (told.Size size) None d = ⊥
 IsReported (told.Size size) (Some g) d = (d.reply.who ≡ g.request.who) × (d.reply.xid ≡ g.request.xid)
 IsReported _ ended d = Unit {0}
 
+-- each size that is answered without an act is the one that a holder told
+abbrev pub IsToldSize : Option ℕ → Answer → Type 0
+IsToldSize size (told.Size n) = size ≡ Some n
+IsToldSize size _ = Unit {0}
+
+abbrev pub TellsSize : Option ℕ → List Entry → Type 0
+TellsSize size [] = Unit {0}
+TellsSize size (Answers d ∷ es) = IsToldSize size d.reply.answer × TellsSize size es
+TellsSize size (_ ∷ es) = TellsSize size es
+
 -- a size is answered without an act only right after the glimpse for that request has ended, which waited till then; `ended`: the
 -- glimpse that ended just before these entries
 abbrev pub SizesReported : (ended : Option Glimpse) → List Entry → Type 0

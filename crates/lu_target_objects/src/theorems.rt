@@ -62,7 +62,8 @@ pub fn turns_rest_on_the_state()
 
 /// Sizes that are answered without an act.
 ///
-/// - `rows`: each is a holder's, and answers the glimpse that has just ended: in the rows of requests, locks and reports.
+/// - `rows`: each is a holder's, and answers the glimpse that has just ended: in the rows of requests, locks and reports; of a report it is
+///   the number that this tells.
 /// - `turns`: the same of each turn.
 pub fn sizes_come_from_holders()
     ensures rows { HoldersTellSizes }
