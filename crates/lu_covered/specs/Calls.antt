@@ -9,8 +9,9 @@ use Rattle.lu_msg.specs.declared.operations.Op.TheVariants as op
 use Rattle.lu_msg.specs.declared.answers.Answer.{Answer}
 use Rattle.lu_msg.specs.declared.answers.Answer.TheVariants as answer
 use Rattle.lu_held.specs.declared.locks.Use.{Use}
-use Rattle.lu_words.specs.Carried.{HandleFile, Answered, Asking, Unasked, Stage, Plain, Sizes, Running}
+use Rattle.lu_words.specs.Carried.{HandleFile, Answered, Asking, Unasked, Stage, Plain, Enqueued, Sizes, Running}
 use Rattle.lu_words.specs.Words.{Entry, Begin, Told, Life, Line, is_client}
+use Rattle.lu_client_rows.specs.Advances.{enqueue_of}
 use Rattle.lu_client_rows.specs.Slots.{opens}
 pub use Rattle.lu_client_rows.specs.Calls.{asks, asks_for, reads_call, call_after, call_at, calls_at, call_on, calls_from, calls_after, reads_life, life_after, first_life, life_at, reads_death, death_after, is_dead}
 
@@ -60,9 +61,15 @@ abbrev pub size_errand : List Use → Option Errand
 size_errand [] = None
 size_errand (wanted ∷ left) = Some (record { target = wanted.target.0; op = op.Size wanted.resource })
 
+-- the lock on it
+abbrev pub lock_errand : List Use → Option Errand
+lock_errand [] = None
+lock_errand (wanted ∷ left) = Some (record { target = wanted.target.0; op = enqueue_of wanted })
+
 abbrev pub errand_at : Stage → Running → Option Errand
 errand_at Plain r = names_errand (becomes r)
 errand_at (Sizes w) r = size_errand w.left
+errand_at (Enqueued w) r = lock_errand w.left
 errand_at _ r = None
 
 -- what a call asks where it stands, if anything
@@ -126,6 +133,7 @@ is_bad c past _ = false
 -- the file of the handle that a call names
 abbrev pub file_for : ℕ → List Line → Call → Option HandleFile
 file_for c past (call.Close h) = file_at c h past
+file_for c past (call.Read h offset count) = file_at c h past
 file_for c past (call.Flush h) = file_at c h past
 file_for c past (call.Glimpse h) = file_at c h past
 file_for c past _ = None

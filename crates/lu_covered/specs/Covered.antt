@@ -1,7 +1,7 @@
--- Which runs the theorem covers so far: the calls that begin are on names or on bad handles, a `flush` or a `glimpse`; all that is told is
--- told without bytes; how long an object is is asked of an object storage target alone; and no disk fails. Targets may crash, boot, recover
--- and close their recovery windows. Whatever messages are lost, repeated or late, whoever dies, whoever waits for a lock, whatever is
--- committed, and whoever is evicted and joins in a new life, is covered.
+-- Which runs the theorem covers so far: the calls that begin are on names or on bad handles, or change no object: a `read`, a `flush` or a
+-- `glimpse`; locks on objects, and how long an object is, are asked of object storage targets alone; and no disk fails. Targets may crash,
+-- boot, recover and close their recovery windows. Whatever messages are lost, repeated or late, whoever dies, whoever waits for a lock,
+-- whatever is committed, and whoever is evicted and joins in a new life, is covered.
 use Rattle.std.specs.Prelude.{◌≡◌, ◌⊎◌, ◌<◌, List, [], ◌∷◌, Option, Some, None}
 use Rattle.lu_msg.specs.declared.calls.Call.{Call}
 use Rattle.lu_msg.specs.declared.calls.Call.TheVariants as call
@@ -9,18 +9,19 @@ use Rattle.lu_msg.specs.declared.messages.Message.{Message}
 use Rattle.lu_msg.specs.declared.messages.Message.TheVariants as message
 use Rattle.lu_msg.specs.declared.operations.Op.{Op}
 use Rattle.lu_held.specs.declared.locks.Use.{Use}
-use Rattle.lu_words.specs.Carried.{Deed, Kind, Glimpses, Stage, Bad, Sizes, Work, Running}
+use Rattle.lu_words.specs.Carried.{Deed, Kind, Narrow, Wide, Stats, Glimpses, Stage, Bad, Enqueued, Came, Sizes, Work, Running}
 use Rattle.lu_words.specs.Words.{Entry, Send, Take, Tick, Begin, Busy, Heard, Hold, Drop, Told, Life, Die, Queues, Flies, Knows, Serves, Settles, Stands, Binds, Unbinds, Pins, Unpins, Marks, Unmarks, Learns, Line}
 use Rattle.lu_words.specs.Words.{Skip, Act, Txn, Grant, Block, Release, Commit, Crash, Boot, Back, Close, Kept, Restore, Evict, Joined, Enters, Stores, Brings, Says, Wishes}
 use Rattle.lu_covered.specs.Calls.{becomes}
 
--- a call that changes no object and reads no bytes of one: it writes back what is changed, or asks how long objects are
+-- a call that changes no object: it reads bytes, writes back what is changed, or asks how long objects are
 abbrev pub IsOnSizes : Call → Type 0
+IsOnSizes (call.Read h offset count) = Unit {0}
 IsOnSizes (call.Flush h) = Unit {0}
 IsOnSizes (call.Glimpse h) = Unit {0}
 IsOnSizes _ = ⊥
 
--- a call on names, which asks the metadata target, or is refused since its handle is bad; or one of those two
+-- a call on names, which asks the metadata target, or is refused since its handle is bad; or one of those three
 abbrev pub IsCoveredCall : Running → Type 0
 IsCoveredCall r = ((o : Op) × (becomes r ≡ Some o)) ⊎ (r.stage ≡ Bad) ⊎ IsOnSizes r.call
 
@@ -39,12 +40,19 @@ IsCoveredMessage (message.Ready who boot committed) = Unit {0}
 IsCoveredMessage (message.Evicted who boot) = Unit {0}
 IsCoveredMessage _ = ⊥
 
--- a call that is told did nothing with bytes
+-- a read, or a stat of a file, which asks for its size
+abbrev pub IsReading : Kind → Type 0
+IsReading (Narrow offset count) = Unit {0}
+IsReading (Wide offset count) = Unit {0}
+IsReading (Stats mode links) = Unit {0}
+IsReading _ = ⊥
+
+-- a call that is told changed no bytes
 abbrev pub IsWithoutWork : Option Work → Type 0
 IsWithoutWork None = Unit {0}
-IsWithoutWork (Some work) = ⊥
+IsWithoutWork (Some work) = IsReading work.kind
 
--- the object storage targets that have them are asked how long objects are
+-- what is asked of objects is asked of object storage targets
 abbrev pub OnObjects : List Use → Type 0
 OnObjects [] = Unit {0}
 OnObjects (wanted ∷ left) = (0 < wanted.target.0) × OnObjects left
@@ -53,11 +61,14 @@ abbrev pub IsGlimpsing : Kind → Type 0
 IsGlimpsing (Glimpses sizes) = Unit {0}
 IsGlimpsing _ = ⊥
 
+-- how far a call on objects has come: a glimpse asks how long the next one is; a read, or a stat of a file, asks for the lock on the next one, or got it
 abbrev pub IsSizing : Stage → Type 0
 IsSizing (Sizes w) = IsGlimpsing w.kind × OnObjects w.left
+IsSizing (Enqueued w) = IsReading w.kind × OnObjects w.left
+IsSizing (Came w lock) = IsReading w.kind × OnObjects w.left
 IsSizing _ = ⊥
 
--- a lock is granted by an act
+-- a lock is granted to who asked for it, at once
 abbrev pub IsByAct : Option Deed → Type 0
 IsByAct None = ⊥
 IsByAct (Some deed) = Unit {0}

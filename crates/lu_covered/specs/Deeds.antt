@@ -1,8 +1,13 @@
--- What comes of executing a request: at the metadata target, and of a glimpse at another one.
-use Rattle.std.specs.Prelude.{ℕ, List, []}
+-- What comes of executing a request: at the metadata target, and of a glimpse, or of who asks for a lock to read under, at another one.
+use Rattle.std.specs.Prelude.{ℕ, ◌+◌, List, []}
 use Rattle.lu_base.specs.declared.ids.At.{At}
 use Rattle.lu_base.specs.declared.ids.Txn.{Txn as TxnOf}
+use Rattle.lu_base.specs.declared.locks.Extent.{Extent}
 use Rattle.lu_base.specs.declared.locks.Lock.{Lock}
+use Rattle.lu_base.specs.declared.locks.Mode.TheVariants.{PR}
+use Rattle.lu_base.specs.declared.locks.Policy.TheVariants.{Range}
+use Rattle.lu_base.specs.declared.locks.Resource.{Resource}
+use Rattle.lu_lock.specs.Growth.{the_end}
 use Rattle.lu_msg.specs.declared.answers.Answer.TheVariants as told
 use Rattle.lu_msg.specs.declared.messages.Reply.{Reply as ReplyTo}
 use Rattle.lu_msg.specs.declared.messages.Request.{Request as RequestOf}
@@ -68,5 +73,35 @@ sized v at r size =
         at = at;
         locks = [];
         answer = told.Size size;
+      };
+    }
+
+-- ---- a lock to read under
+
+-- all of an object
+abbrev pub whole : Extent
+whole = record { first = 0; last = the_end }
+
+-- the lock of the next cookie, on the whole object: no lock there is for writing, so it grows as far as it can
+abbrev pub read_lock : Server → RequestOf → Resource → Lock
+read_lock v r resource = record { cookie = record { 0 = v.cookie + 1 }; resource = resource; ask = record { who = r.who; mode = PR; policy = Range whole } }
+
+-- it is granted, with the size of an object that nothing was written to
+abbrev pub granted : Server → At → RequestOf → Lock → Deed
+granted v at r lock =
+    record {
+      tag = r.tag;
+      op = r.op;
+      writes = [];
+      reply = record {
+        who = r.who;
+        boot = v.boot;
+        xid = r.xid;
+        txn = none;
+        committed = v.committed;
+        seen = seen_in (object_touches r.op (told.Granted lock.cookie whole 0)) v.log;
+        at = at;
+        locks = [];
+        answer = told.Granted lock.cookie whole 0;
       };
     }

@@ -6,7 +6,7 @@ use Rattle.lu_msg.specs.declared.calls.Call.TheVariants as call
 use Rattle.lu_words.specs.Words.{Line}
 use Rattle.lu_client_rows.specs.Caches.{held_at}
 use Rattle.lu_client_rows.specs.Facts.{facts_at}
-use Rattle.lu_client_rows.specs.Known.{Notes, Known, found_at_path, lookup_known, list_known, layout_known, directory_known}
+use Rattle.lu_client_rows.specs.Known.{Notes, Known, KnownFile, found_at_path, lookup_known, list_known, layout_known, directory_known, file_known}
 
 -- a client's facts and held locks after a past
 abbrev pub notes_at : ℕ → List Line → Notes
@@ -23,3 +23,8 @@ known_answer n (call.List path) = told_of (list_known n (found_at_path n path))
 known_answer n (call.Layout path) = told_of (layout_known n (found_at_path n path))
 known_answer n (call.Stat path) = told_of (directory_known n (found_at_path n path))
 known_answer n _ = None
+
+-- of a file that is to be stated, all but its size
+abbrev pub known_file : Notes → Call → Option KnownFile
+known_file n (call.Stat path) = file_known n (found_at_path n path)
+known_file n _ = None

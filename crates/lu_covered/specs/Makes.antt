@@ -1,5 +1,5 @@
--- Which paths a call makes, and which of them may lead to a file; when a call that reads misses them: then it finds nothing, and is
--- granted no lock; and when it finds no file. An `open` makes nothing and reads nothing, nor does a call on a handle: it is granted no lock.
+-- Which paths a call makes, and when a call that reads misses them: then it finds nothing, and is granted no lock. An `open` makes nothing
+-- and reads nothing, nor does a call on a handle: it is granted no lock on names.
 use Rattle.std.specs.Prelude.{◌≡◌, ◌≢◌, ℕ, List, [], ◌++◌}
 use Rattle.lu_msg.specs.declared.calls.Call.{Call}
 use Rattle.lu_msg.specs.declared.calls.Call.TheVariants as call
@@ -15,13 +15,6 @@ CallMakes (call.Link old new) path = path ≡ new
 CallMakes (call.Rename old new) path = (rest : Path) × (path ≡ new ++ rest)
 CallMakes _ path = ⊥
 
--- so may it lead to a file; a `rename` of a directory moves the files below it
-abbrev pub CallMakesFile : Call → Path → Type 0
-CallMakesFile (call.Create made stripes) path = path ≡ made
-CallMakesFile (call.Link old new) path = path ≡ new
-CallMakesFile (call.Rename old new) path = (rest : Path) × (path ≡ new ++ rest)
-CallMakesFile _ path = ⊥
-
 -- Where these are the paths that are made, a call that reads asks for none of them. The root is there from the first: a `lookup`
 -- of it asks nobody, a `stat` and a `list` are granted its lock, and a `layout` is refused.
 abbrev pub Misses : (Path → Type 0) → Call → Type 0
@@ -30,8 +23,3 @@ Misses Made (call.Stat path) = (path ≢ []) × ¬ Made path
 Misses Made (call.List path) = (path ≢ []) × ¬ Made path
 Misses Made (call.Layout path) = ¬ Made path
 Misses Made _ = Unit {0}
-
--- Where these are the paths that may lead to files, a `stat` finds none: of a file it would ask for the size too.
-abbrev pub StatsNoFile : (Path → Type 0) → Call → Type 0
-StatsNoFile Files (call.Stat path) = ¬ Files path
-StatsNoFile Files _ = Unit {0}

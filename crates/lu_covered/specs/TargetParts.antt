@@ -2,14 +2,14 @@
 -- which entries it reads; both have a catch-all last. A life leaves with its line `evict`, and then all that it had goes; the rows
 -- take it away with the commit before that line, in the same turn. At a close all is as its outcome says, and the lines that show
 -- it leave that as it is.
-use Rattle.std.specs.Prelude.{ℕ, ◌+◌, Bool, true, false, not, ◌==◌, ◌&&◌, nat_lt, if◌then◌else◌, List, [], ◌∷◌, ◌++◌, filter, Some, None}
+use Rattle.std.specs.Prelude.{ℕ, ◌+◌, max, Bool, true, false, not, ◌==◌, ◌&&◌, nat_lt, if◌then◌else◌, List, [], ◌∷◌, ◌++◌, filter, Option, Some, None}
 use Rattle.lu_base.specs.declared.ids.Txn.{Txn as TxnOf}
 use Rattle.lu_base.specs.declared.ids.Who.{Who}
 use Rattle.lu_msg.specs.declared.messages.Request.{Request as RequestOf}
 use Rattle.lu_machine.specs.Tree.{Tree}
 use Rattle.lu_machine.specs.Footprint.{Operation, after, forget}
 use Rattle.lu_words.specs.Carried.{Deed, Slot}
-use Rattle.lu_words.specs.Words.{Entry, Act, Txn, Commit, Crash, Boot, Close, Restore, Enters, Block, Release, Evict, Joined, same_life}
+use Rattle.lu_words.specs.Words.{Entry, Act, Txn, Grant, Commit, Crash, Boot, Close, Restore, Enters, Block, Release, Evict, Joined, same_life}
 use Rattle.lu_base.specs.declared.locks.Lock.{Lock}
 use Rattle.lu_words.specs.Carried.{Called}
 use Rattle.lu_target_rows.specs.Phase.{first_of, greatest_cookie}
@@ -112,10 +112,16 @@ is_request_of d r = same_life d.reply.who r.who && d.reply.xid.0 == r.xid.0
 abbrev pub without_request : Deed → List RequestOf → List RequestOf
 without_request d waiting = filter (λ r. not (is_request_of d r)) waiting
 
+-- a lock that is granted to who asked for it is the answer
+abbrev pub waiting_granted : Option Deed → List RequestOf → List RequestOf
+waiting_granted None waiting = waiting
+waiting_granted (Some d) waiting = without_request d waiting
+
 abbrev pub reads_waiting : Entry → Bool
 reads_waiting (Enters r) = true
 reads_waiting (Act d) = true
 reads_waiting (Txn d) = true
+reads_waiting (Grant lock asked) = true
 reads_waiting (Evict who cause) = true
 reads_waiting (Close o) = true
 reads_waiting _ = false
@@ -124,6 +130,7 @@ abbrev pub waiting_after : List RequestOf → Entry → List RequestOf
 waiting_after waiting (Enters r) = waiting ++ r ∷ []
 waiting_after waiting (Act d) = without_request d waiting
 waiting_after waiting (Txn d) = without_request d waiting
+waiting_after waiting (Grant lock asked) = waiting_granted asked waiting
 waiting_after waiting (Evict who cause) = filter (λ r. not (is_life r.who (who ∷ []))) waiting
 waiting_after waiting (Close o) = []
 waiting_after waiting _ = waiting
@@ -143,10 +150,15 @@ answered d slot = record slot { reply = Some d.reply }
 abbrev pub is_slot_of : Who → ℕ → Who → ℕ → Bool
 is_slot_of who tag other of_tag = same_life who other && tag == of_tag
 
+abbrev pub slot_granted : Who → ℕ → Slot → Option Deed → Slot
+slot_granted who tag slot None = slot
+slot_granted who tag slot (Some d) = if is_slot_of who tag d.reply.who d.tag then answered d slot else slot
+
 abbrev pub reads_slot : Entry → Bool
 reads_slot (Enters r) = true
 reads_slot (Act d) = true
 reads_slot (Txn d) = true
+reads_slot (Grant lock asked) = true
 reads_slot (Close o) = true
 reads_slot _ = false
 
@@ -154,13 +166,15 @@ abbrev pub slot_after : Who → ℕ → Slot → Entry → Slot
 slot_after who tag slot (Enters r) = if is_slot_of who tag r.who r.tag then entered r else slot
 slot_after who tag slot (Act d) = if is_slot_of who tag d.reply.who d.tag then answered d slot else slot
 slot_after who tag slot (Txn d) = if is_slot_of who tag d.reply.who d.tag then answered d slot else slot
+slot_after who tag slot (Grant lock asked) = slot_granted who tag slot asked
 slot_after who tag slot (Close o) = slot_in o.disk.slots who tag
 slot_after who tag slot _ = slot
 
--- ---- granted locks, in rising cookie: those of an act come with it, and the lines that follow show them
+-- ---- granted locks, in rising cookie: those of an act come with it, and the lines that follow show them; one on an object comes with its own line
 
 abbrev pub reads_granted : Entry → Bool
 reads_granted (Act d) = true
+reads_granted (Grant lock asked) = true
 reads_granted (Release lock) = true
 reads_granted (Evict who cause) = true
 reads_granted (Close o) = true
@@ -168,6 +182,7 @@ reads_granted _ = false
 
 abbrev pub granted_after : List Lock → Entry → List Lock
 granted_after locks (Act d) = with_locks d.reply.locks locks
+granted_after locks (Grant lock asked) = with_lock lock locks
 granted_after locks (Release lock) = without_lock lock locks
 granted_after locks (Evict who cause) = locks_without (who ∷ []) locks
 granted_after locks (Close o) = o.locks
@@ -177,6 +192,7 @@ granted_after locks _ = locks
 -- by one after it, and those that a close restores come one by one
 abbrev pub shown_after : List Lock → Entry → List Lock
 shown_after locks (Act d) = with_locks d.reply.locks locks
+shown_after locks (Grant lock asked) = with_lock lock locks
 shown_after locks (Release lock) = without_lock lock locks
 shown_after locks Crash = []
 shown_after locks (Close o) = []
@@ -187,11 +203,13 @@ shown_after locks _ = locks
 
 abbrev pub reads_cookie : Entry → Bool
 reads_cookie (Act d) = true
+reads_cookie (Grant lock asked) = true
 reads_cookie (Boot boot disk) = true
 reads_cookie _ = false
 
 abbrev pub cookie_after : ℕ → Entry → ℕ
 cookie_after n (Act d) = greatest_cookie n d.reply.locks
+cookie_after n (Grant lock asked) = max n lock.cookie.0
 cookie_after n (Boot boot disk) = first_of boot
 cookie_after n _ = n
 

@@ -8,7 +8,7 @@ use Rattle.lu_machine.specs.Tree.{Tree}
 use Rattle.lu_machine.specs.Footprint.{empty}
 use Rattle.lu_base.specs.declared.locks.Lock.{Lock}
 use Rattle.lu_words.specs.Carried.{Deed, Slot, Called, Said}
-use Rattle.lu_words.specs.Words.{Entry, Act, Txn, Commit, Boot, Close, Enters, Block, Release, Evict, Line}
+use Rattle.lu_words.specs.Words.{Entry, Act, Txn, Grant, Commit, Boot, Close, Enters, Block, Release, Evict, Line}
 use Rattle.lu_words.specs.Fields.{at_target}
 pub use Rattle.lu_target_rows.specs.Replies.{seen_in}
 use Rattle.lu_covered.specs.TargetParts.{reads_boot, boot_after, reads_count, count_after, reads_committed, committed_after, reads_tree, tree_after, reads_log, log_after, reads_waiting, waiting_after, no_slot, reads_slot, slot_after}
@@ -110,6 +110,12 @@ server_after osts v (Act d) =
       waiting = waiting_after v.waiting (Act d);
       granted = granted_after v.granted (Act d);
       cookie = cookie_after v.cookie (Act d);
+    }
+server_after osts v (Grant lock asked) =
+    record v {
+      waiting = waiting_after v.waiting (Grant lock asked);
+      granted = granted_after v.granted (Grant lock asked);
+      cookie = cookie_after v.cookie (Grant lock asked);
     }
 server_after osts v (Block called) = record v { called = called_after v.called (Block called) }
 server_after osts v (Release lock) = record v { granted = granted_after v.granted (Release lock); called = called_after v.called (Release lock) }

@@ -1,19 +1,19 @@
--- What comes to a node in a covered run whose calls are those of a covered scenario's lines: to the metadata target requests on names and locks
--- that are given back, to another one, which has granted no lock, requests for the size of an object, to each target joins, and what lives that
--- come back tell one that recovers; to a client of the run replies without a file's attributes, blocks, and word that a target is up again, and
--- that its life is served or is over. Where no turn may ask a disk, all is of first lives and of the first boot, and nobody joins or comes back.
+-- What comes to a node in a covered run whose calls are those of a covered scenario's lines: to the metadata target requests on names, to another
+-- one, which has granted locks for reading alone, requests for the size of an object, or for a lock to read it, to each target locks that are
+-- given back, joins, and what lives that come back tell one that recovers; to a client of the run replies with locks for reading and layouts on
+-- object storage targets, blocks, and word that a target is up again, and that its life is served or is over. Where no turn may ask a disk, all
+-- is of first lives and of the first boot, and nobody joins or comes back.
 use Rattle.std.proofs.Common.{◌≡◌, ℕ, ◌+◌, ◌<◌, ◌≤◌, Bool, true, false, List, [], ◌∷◌, Option, Some, None, ◌⊎◌, inl, inr, ⊎_elim, refl, sym, subst, ap, ◌∙◌, zero, suc, arith, pos}
-use Rattle.std.specs.Prelude.{nat_eq, nat_lt}
+use Rattle.std.specs.Prelude.{nat_eq, nat_lt, not, filter}
 use Rattle.std.proofs.lemmas.Bool.{cond_both, eqb-true}
 use Rattle.std.proofs.lemmas.Bool.Decides.{nat_tests}
 use Rattle.lu_base.specs.declared.ids.At.{At}
 use Rattle.lu_base.specs.declared.ids.Node.{Node}
 use Rattle.lu_base.specs.declared.ids.Node.TheVariants.{Client, Target}
 use Rattle.lu_base.specs.declared.ids.Who.{Who}
-use Rattle.lu_base.specs.declared.ids.Fid.{Fid}
-use Rattle.lu_base.specs.declared.ids.Txn.{Txn as TxnOf}
 use Rattle.lu_base.specs.declared.locks.Cause.{Cause}
 use Rattle.lu_base.specs.declared.locks.Lock.{Lock}
+use Rattle.lu_base.specs.declared.locks.Mode.TheVariants.{PR}
 use Rattle.lu_layout.specs.Raid0.{Raid0}
 use Rattle.lu_machine.specs.Fits.{answer_fits}
 use Rattle.lu_msg.specs.declared.answers.Answer.{Answer}
@@ -31,46 +31,47 @@ use Rattle.lu_trace.specs.WellFormed.{IsCall}
 use Rattle.lu_words.specs.Carried.{Deed, HandleFile, Flight, Outcome}
 use Rattle.lu_words.specs.Concerns.{concerns, only}
 use Rattle.lu_words.specs.Sent.{Sent}
-use Rattle.lu_words.specs.Words.{Entry, Send, Flies, Life, Act, Grant, Restore, Release, Commit, Boot, Close, Evict, Joined, Wishes, Line, line, is_target}
+use Rattle.lu_words.specs.Words.{Entry, Send, Flies, Life, Act, Txn, Grant, Restore, Release, Commit, Boot, Close, Evict, Joined, Wishes, Line, line, is_target}
 use Rattle.lu_target_rows.specs.Lives.{is_life, without_lives, lives_of as lives_in}
 use Rattle.lu_target_rows.specs.Outcomes as recovered
 use Rattle.lu_target_rows.specs.Windows.{Window, kept_numbers, gone_from}
-use Rattle.lu_target_rows.specs.Locks.{with_locks, without_lock, locks_without, granted_after}
+use Rattle.lu_target_rows.specs.Locks.{with_lock, granted_after}
 use Rattle.lu_target_rows.specs.States.{Setting, Target as TargetState, lives_from, target_at}
 use Rattle.lu_covered.specs.Calls.{operation_of, first_life}
 use Rattle.lu_covered.specs.ClientStates.{life_of, is_own}
 use Rattle.lu_covered.specs.Heads.{Head}
 use Rattle.lu_covered.specs.TargetCloses.{disk_of, recovering_of, outcome_of}
-use Rattle.lu_covered.specs.TargetStates.{lives_of, evicted_of, wishes_of, server_of}
+use Rattle.lu_covered.specs.TargetStates.{lives_of, evicted_of, wishes_of, brought_of}
 use Rattle.lu_after.proofs.Targets.{target_line, target_left}
 use Rattle.lu_lawful.proofs.Guards.{In, Was, EntryOk}
-use Rattle.lu_lawful.proofs.StoryGuards.{ActsOk, EntryOf, Newer, SaidBy, EvictOk, LeavesOk, JoinedOk, ComesOk, CloseOk, WishesOk}
+use Rattle.lu_lawful.proofs.StoryGuards.{EntryOf, Newer, SaidBy, EvictOk, LeavesOk, JoinedOk, ComesOk, CloseOk, WishesOk}
 use Rattle.lu_lawful.proofs.Grown.{IsOneOf, Grown, GrownOf}
-use Rattle.lu_lawful.proofs.Lists.{self, own_is}
+use Rattle.lu_lawful.proofs.Lists.{self, own_is, in_filter}
 use Rattle.lu_lawful.proofs.Only.{sent_was, was_only, grown_of}
 use Rattle.lu_lawful.proofs.Groups.{turn, Acted, Flew, Evicted, Had, HoldsAt}
 use Rattle.lu_lawful.proofs.FactLines.{flew_whole, acted_whole}
 use Rattle.lu_lawful.proofs.All.{holds}
 use Rattle.lu_lawful.proofs.Asked.{AskedBy, flew_asked, acted_on_names}
-use Rattle.lu_lawful.proofs.Files.{acted_told}
-use Rattle.lu_lawful.proofs.Layouts.{acted_layout}
-use Rattle.lu_lawful.proofs.OnNames.{IsOnNames, IsPlain, op_is}
+use Rattle.lu_lawful.proofs.Layouts.{OnTargets, on_target, IsLaid, acted_laid}
+use Rattle.lu_lawful.proofs.OnNames.{IsOnNames, op_is}
 use Rattle.lu_lawful.proofs.Refused.{acted_answered}
-use Rattle.lu_lawful.proofs.Sides.{ActedKind, acted_kind, acted_sized}
+use Rattle.lu_lawful.proofs.Sides.{ToldSize, GotLock, OnObject, ActedKind, acted_kind}
 use Rattle.lu_lawful.proofs.Story.{was_to}
 use Rattle.lu_lawful.proofs.Comings.{request_asked}
-use Rattle.lu_lawful.proofs.ClientLines.{IsSize, IsAskedOf}
-use Rattle.lu_lawful.proofs.Held.{none_restored}
-use Rattle.lu_covered_scenes.specs.Covered.{IsFile, IsCovered, AsksNoDisk}
-use Rattle.lu_covered_scenes.proofs.Every.{Every}
-use Rattle.lu_covered_scenes.proofs.Asking.{IsOf, Suits, AllSuit, was_suits}
-use Rattle.lu_covered_scenes.proofs.Clients.{OnOsts, AnswerCalm, LockCalm}
+use Rattle.lu_lawful.proofs.ClientLines.{IsSize, IsLock, IsAskedOf}
+use Rattle.lu_lawful.proofs.GuardActs.{acts_sized, sized_bare, KindOf, kind_reads, range_kind}
+use Rattle.lu_lawful.proofs.Kinds.{given_of, gave_kind, granted_kind, brought_kind}
+use Rattle.lu_lawful.proofs.TargetSizes.{AllRead}
+use Rattle.lu_lawful.proofs.TargetStory.{in_with, in_with_all}
+use Rattle.lu_covered_scenes.specs.Covered.{IsCovered, AsksNoDisk}
+use Rattle.lu_covered_scenes.proofs.Asking.{IsOf, Suits, IsNode, AllSuit, was_suits}
+use Rattle.lu_covered_scenes.proofs.Clients.{OnOsts, AnswerCalm}
 use Rattle.lu_covered_scenes.proofs.ClientRows.{MessageCalm}
-use Rattle.lu_covered_scenes.proofs.Lines.{MayAsk, lines_known, called_fits, AllOfLines, all_files, all_stats}
+use Rattle.lu_covered_scenes.proofs.Lines.{MayAsk, lines_known, called_fits, AllOfLines}
 use Rattle.lu_covered_scenes.proofs.Numbers.{IsShort, MessageFits}
 use Rattle.lu_covered_scenes.proofs.Targets.{MayBeAsked, MessageServed}
 use Rattle.lu_lawful.proofs.GuardLifeLists.{stands_life, life_stands, life_left}
-use Rattle.lu_lawful.proofs.CloseLists.{puts_or, left_all, gone_had, in_wish}
+use Rattle.lu_lawful.proofs.CloseLists.{puts_or, left_all, gone_had, in_wish, in_restored}
 use Rattle.lu_lawful.proofs.LifeLists.{first_among, put_or}
 use Rattle.lu_lawful.proofs.PartsStay.{in_every}
 
@@ -78,7 +79,7 @@ use Rattle.lu_lawful.proofs.PartsStay.{in_every}
 
 abbrev pub Goes : (from to : Node) → Message → Type 0
 Goes (Client c) (Target t) (message.Request r) = Unit {0}
-Goes (Client c) (Target t) (message.Cancel who boot cookie) = t ≡ 0
+Goes (Client c) (Target t) (message.Cancel who boot cookie) = Unit {0}
 Goes (Client c) (Target t) (message.Join who boot) = Unit {0}
 Goes (Client c) (Target t) (message.Replay r) = Unit {0}
 Goes (Client c) (Target t) (message.Lock r) = Unit {0}
@@ -92,7 +93,7 @@ Goes _ _ _ = ⊥
 
 send_goes : (past : List Line) (at : At) (node to : Node) (m : Message) → EntryOk past at node (Send to m) → Goes node to m
 send_goes past at (Client c) (Target t) (message.Request r) ok = tt
-send_goes past at (Client c) (Target t) (message.Cancel who boot cookie) ok = ok
+send_goes past at (Client c) (Target t) (message.Cancel who boot cookie) ok = tt
 send_goes past at (Client c) (Target t) (message.Join who boot) ok = tt
 send_goes past at (Client c) (Target t) (message.Replay r) ok = tt
 send_goes past at (Client c) (Target t) (message.Lock r) ok = tt
@@ -268,6 +269,21 @@ module _ (MayAsk : Type 0) (osts clients : ℕ) (none : MayAsk → ⊥) where
       by (Flies t x) i h = ⊎_elim (λ (p : (is_own who past l.at.node ≡ true) × (x ≡ f)). own_first past s.1 who l.at.node p.0) h i
       by e i h = h i
 
+-- ---- where something was done is a target of the run
+
+acted_there : (MayAsk : Type 0) (osts : ℕ) (head : Head) (t : ℕ) (d : Deed) (past : List Line) → Grown head past → AllSuit MayAsk osts head.clients past → Acted (only t past) d → t ≤ osts
+acted_there MayAsk osts head t d [] g s a = absurd a
+acted_there MayAsk osts head t d (l ∷ past) g s a =
+    cond_both (concerns t l.at.node l.entry) (l ∷ only t past) (only t past) (λ (p : List Line). Acted p d → t ≤ osts)
+    (λ own b. by l.at.node l.entry g.0.ok s.2 own b (acted_there MayAsk osts head t d past g.1 s.1)) (λ other b. acted_there MayAsk osts head t d past g.1 s.1 b) a
+  where
+    by : (node : Node) (e : Entry) → EntryOk past l.at node e → IsNode osts node → concerns t node e ≡ true → Acted (line l.at e ∷ only t past) d → (Acted (only t past) d → t ≤ osts) → t ≤ osts
+    by (Target u) e ok one own b more = let same = eqb-true t u own in omega (arith, same, one)
+    by (Client c) (Act x) ok one own b more = absurd ok
+    by (Client c) (Txn x) ok one own b more = absurd ok
+    by (Client c) (Grant lock asked) ok one own b more = absurd ok
+    by (Client c) e ok one own b more = more b
+
 -- ---- the paths of operations
 
 short : (file : Option HandleFile) (k : Call) (o : Op) → operation_of file k ≡ Some o → IsCall k → IsShort o
@@ -287,40 +303,54 @@ short file (call.Open h path) o e fits = subst IsShort (op_is (op.Open path) o e
 short (Some f) (call.Close h) o e fits = subst IsShort (op_is (op.Close f.number f.fid) o e) tt
 short file k o e fits = absurd (cc)
 
-size_short : (o : Op) → IsSize o → IsShort o
-size_short (op.Size resource) is = tt
-size_short o is = absurd is
+object_short : (o : Op) → IsSize o ⊎ IsLock o → IsShort o
+object_short (op.Size resource) is = tt
+object_short (op.Enqueue resource PR extent) is = tt
+object_short o (inl is) = absurd is
+object_short o (inr is) = absurd is
 
 -- ---- answers
 
--- no operation on names leaves a size to a lock
-no_lock : (o : Op) → IsOnNames o → answer_fits o answer.Lock ≡ true → ⊥
-no_lock (op.Lookup path) is fits = cc
-no_lock (op.Stat path) is fits = cc
-no_lock (op.List path) is fits = cc
-no_lock (op.Layout path) is fits = cc
-no_lock (op.Mkdir path) is fits = cc
-no_lock (op.Create path size count) is fits = cc
-no_lock (op.Link old new) is fits = cc
-no_lock (op.Unlink path) is fits = cc
-no_lock (op.Rmdir path) is fits = cc
-no_lock (op.Rename old new) is fits = cc
-no_lock (op.Chmod path mode) is fits = cc
-no_lock (op.Open path) is fits = cc
-no_lock (op.Close number fid) is fits = cc
-no_lock o is fits = is
+-- none about names is of a lock on an object
+abbrev OfNames : Answer → Type 0
+OfNames answer.Lock = ⊥
+OfNames (answer.Granted cookie extent size) = ⊥
+OfNames (answer.Waiting cookie) = ⊥
+OfNames _ = Unit {0}
 
-names_answer : (o : Op) (a : Answer) → IsOnNames o → answer_fits o a ≡ true → IsPlain a → ((fid : Fid) (number : TxnOf) (layout : Raid0) → a ≡ answer.OpenFile fid number layout → OnOsts layout) → AnswerCalm a
-names_answer o (answer.FileStat fid mode links layout) is fits plain on = absurd plain
-names_answer o (answer.OpenFile fid number layout) is fits plain on = on fid number layout refl
-names_answer o answer.Lock is fits plain on = absurd (no_lock o is fits)
-names_answer o a is fits plain on = tt
+names_fit : (o : Op) (a : Answer) → IsOnNames o → answer_fits o a ≡ true → OfNames a
+names_fit (op.Size resource) a is fits = absurd is
+names_fit (op.Enqueue resource mode extent) a is fits = absurd is
+names_fit o answer.Lock is fits = absurd (cc)
+names_fit o (answer.Granted cookie extent size) is fits = absurd (cc)
+names_fit o (answer.Waiting cookie) is fits = absurd (cc)
+names_fit o a is fits = tt
 
--- ---- a target that isn't the metadata target has granted no lock
+on_osts : (osts : ℕ) (l : Raid0) → OnTargets osts l.targets → OnOsts l
+on_osts osts l on stripe low = (on_target osts l.targets on stripe low).0
 
-pub grants_none : (head : Head) (setting : Setting) (clients : ℕ) (past : List Line) → Grown head past → 0 < setting.id → (target_at setting clients past).granted ≡ []
-grants_none head setting clients [] g high = refl
-grants_none head setting clients (l ∷ past) g high = by l.at.node refl (is_target setting.id l.at.node) refl (grants_none head setting clients past g.1 high)
+names_answer : (osts : ℕ) (a : Answer) → OfNames a → IsLaid osts a → AnswerCalm a
+names_answer osts (answer.FileStat fid mode links layout) of laid = on_osts osts layout laid
+names_answer osts (answer.Layout layout) of laid = on_osts osts layout laid
+names_answer osts (answer.OpenFile fid number layout) of laid = on_osts osts layout laid
+names_answer osts (answer.Granted cookie extent size) of laid = absurd of
+names_answer osts (answer.Waiting cookie) of laid = absurd of
+names_answer osts answer.Lock of laid = absurd of
+names_answer osts a of laid = tt
+
+-- what another target answers
+object_answer : (d : Deed) → OnObject d → AnswerCalm d.reply.answer
+object_answer d k = by k.how
+  where
+    by : ToldSize d ⊎ GotLock d → AnswerCalm d.reply.answer
+    by (inl size) = subst AnswerCalm (sym size.answer) tt
+    by (inr lock) = subst AnswerCalm (sym lock.answer) (refl, refl)
+
+-- ---- a target that isn't the metadata target has granted locks for reading alone
+
+pub grants_reads : (head : Head) (setting : Setting) (clients : ℕ) (past : List Line) → Grown head past → 0 < setting.id → AllRead (target_at setting clients past).granted
+grants_reads head setting clients [] g high = λ k i. absurd i
+grants_reads head setting clients (l ∷ past) g high = by l.at.node refl (is_target setting.id l.at.node) refl (grants_reads head setting clients past g.1 high)
   where
     t : ℕ
     t = setting.id
@@ -328,39 +358,44 @@ grants_none head setting clients (l ∷ past) g high = by l.at.node refl (is_tar
     v : TargetState
     v = target_at setting clients past
 
-    -- none is granted by its story
-    none_here : (lock : Lock) → In lock (server_of head.osts (only t past)).granted → ⊥
-    none_here lock i =
-        let gave = ((holds head past g.1).at t).locks.granted lock i in
-        let told = acted_sized head past t gave.0 high g.1 gave.1.0 in
-        subst (λ (ls : List Lock). In lock ls) told.locks gave.1.1
+    story : List Line
+    story = only t past
 
-    none_restored_here : (n : ℕ) → 0 < n → (o : Outcome) → CloseOk head (only n past) l.at o → o.locks ≡ []
-    none_restored_here zero low o ok = absurd (omega (arith, low))
-    none_restored_here (suc n) low o ok = ap (λ (x : Outcome). x.locks) ok.is ∙ none_restored head n past l.at g.1
+    is_read : (k : Lock) → KindOf t k → k.ask.mode ≡ PR
+    is_read k kind = (kind_reads t k high kind).0
 
-    acted_none : (d : Deed) → ActsOk head.osts (only t past) l.at t d → d.reply.locks ≡ []
-    acted_none d (inl a) = absurd (let zero = a.0 in omega (arith, zero, high))
-    acted_none d (inr a) = ap (λ (x : Deed). x.reply.locks) a.1.is
+    -- with one more
+    with_one : (lock : Lock) → lock.ask.mode ≡ PR → AllRead v.granted → AllRead (with_lock lock v.granted)
+    with_one lock is h k i = ⊎_elim (λ (e : lock ≡ k). subst (λ (x : Lock). x.ask.mode ≡ PR) e is) (h k) (in_with k lock v.granted i)
 
-    own : (e : Entry) → EntryOk past l.at (Target t) e → EntryOf head (only t past) l.at (Target t) e → v.granted ≡ [] → granted_after v.granted e ≡ []
-    own (Act d) ok of h = ap (λ (ls : List Lock). with_locks ls v.granted) (acted_none d of) ∙ h
+    -- a close restores locks that were brought
+    closed : (o : Outcome) → CloseOk head story l.at o → (k : Lock) → In k o.locks → k.ask.mode ≡ PR
+    closed o ok k i =
+        let x : Outcome = outcome_of head.osts head.clients l.at story in
+        let stays : Lock → Bool = λ (j : Lock). not (is_life j.ask.who (lives_in x.gone)) in
+        is_read k (brought_kind head t past g.1 k (in_filter stays k (brought_of story) (in_restored [] (filter stays (brought_of story)) k (subst (λ (y : Outcome). In k y.locks) ok.is i))).0)
+
+    own : (e : Entry) → EntryOk past l.at (Target t) e → EntryOf head story l.at (Target t) e → AllRead v.granted → AllRead (granted_after v.granted e)
+    own (Act d) ok of h = λ k i.
+        let bare = sized_bare head.osts story l.at d (acts_sized head.osts story l.at t d high of) in
+        ⊎_elim (λ (j : In k d.reply.locks). absurd (subst (λ (ls : List Lock). In k ls) bare j)) (h k) (in_with_all k d.reply.locks v.granted i)
     own (Grant lock None) ok of h = absurd ok
-    own (Grant lock (Some d)) ok of h = absurd (let zero = ok.0 in omega (arith, zero, high))
-    own (Restore lock) ok of h = absurd (none_here lock of.granted)
-    own (Release lock) ok of h = ap (without_lock lock) h
-    own (Commit to batch) ok of h = ap (locks_without batch.removed) h
-    own (Close o) ok of h = none_restored_here t high o of
+    own (Grant lock (Some d)) ok (inl of) h = absurd (let zero = of.0 in omega (arith, zero, high))
+    own (Grant lock (Some d)) ok (inr of) h = with_one lock (range_kind head.osts story l.at lock d of.1).0 h
+    own (Restore lock) ok of h = with_one lock (is_read lock (granted_kind head t past g.1 lock of.granted)) h
+    own (Release lock) ok of h = λ k i. h k (in_filter (λ (j : Lock). not (nat_eq j.cookie.0 lock.cookie.0)) k v.granted i).0
+    own (Commit to batch) ok of h = λ k i. h k (in_filter (λ (j : Lock). not (is_life j.ask.who batch.removed)) k v.granted i).0
+    own (Close o) ok of h = closed o of
     own e ok of h = h
 
-    by : (node : Node) → l.at.node ≡ node → (mine : Bool) → is_target setting.id node ≡ mine → v.granted ≡ [] → (target_at setting clients (l ∷ past)).granted ≡ []
-    by node e false mine h = ap (λ (w : TargetState). w.granted) (target_left setting clients past l.at l.entry (ap (is_target setting.id) e ∙ mine)) ∙ h
+    by : (node : Node) → l.at.node ≡ node → (mine : Bool) → is_target setting.id node ≡ mine → AllRead v.granted → AllRead (target_at setting clients (l ∷ past)).granted
+    by node e false mine h = subst (λ (w : TargetState). AllRead w.granted) (sym (target_left setting clients past l.at l.entry (ap (is_target setting.id) e ∙ mine))) h
     by (Target u) e true mine h =
         let same : t ≡ u = eqb-true t u mine in
         let is : l.at.node ≡ Target t = e ∙ ap Target (sym same) in
-        ap (λ (w : TargetState). w.granted) (target_line setting clients past l.at l.entry (ap (is_target setting.id) e ∙ mine))
-        ∙ own l.entry (subst (λ (n : Node). EntryOk past l.at n l.entry) is g.0.ok)
-        (subst (λ (n : Node). EntryOf head (only t past) l.at n l.entry) is (g.0.of t (ap (λ (n : Node). concerns t n l.entry) is ∙ self t))) h
+        subst (λ (w : TargetState). AllRead w.granted) (sym (target_line setting clients past l.at l.entry (ap (is_target setting.id) e ∙ mine)))
+        (own l.entry (subst (λ (n : Node). EntryOk past l.at n l.entry) is g.0.ok)
+        (subst (λ (n : Node). EntryOf head (only t past) l.at n l.entry) is (g.0.of t (ap (λ (n : Node). concerns t n l.entry) is ∙ self t))) h)
     by (Client c) e true mine h = absurd (cc)
 
 module _ (scene : Scene) (covered : IsCovered scene) (head : Head) (osts : ℕ) (past : List Line) (g : Grown head past) (suits : AllSuit (MayAsk scene) osts head.clients past) (begun : AllOfLines scene past) where
@@ -392,7 +427,7 @@ module _ (scene : Scene) (covered : IsCovered scene) (head : Head) (osts : ℕ) 
     pub fits : MessageFits m
     pub one : t ≤ osts
 
-  pub target_served : (t : ℕ) (v : TargetState) → v.setting.id ≡ t → (0 < t → v.granted ≡ []) → (AsksNoDisk scene → v.lives ≡ lives_from 0 head.clients) → (AsksNoDisk scene → v.boot ≡ 1)
+  pub target_served : (t : ℕ) (v : TargetState) → v.setting.id ≡ t → (0 < t → AllRead v.granted) → (AsksNoDisk scene → v.lives ≡ lives_from 0 head.clients) → (AsksNoDisk scene → v.boot ≡ 1)
       → (n : ℕ) (from : Node) (m : Message) → Sent past n from (Target t) m → Arrives t v m
   target_served t v id bare lives boots n from m sent = by from m (was_goes head past from (Target t) m g w) w
     where
@@ -426,7 +461,7 @@ module _ (scene : Scene) (covered : IsCovered scene) (head : Head) (osts : ℕ) 
               },
             );
             fits = short_one meant.0 r.who same meant.1 kind;
-            one = (was_suits (MayAsk scene) osts head.clients past (Client c) (Target t) (message.Request r) suits w).0;
+            one = (was_suits (MayAsk scene) osts head.clients past (Client c) (Target t) (message.Request r) suits w).0.0;
           }
         where
           may : IsAskedOf t r.op → MayBeAsked v r.op
@@ -435,23 +470,19 @@ module _ (scene : Scene) (covered : IsCovered scene) (head : Head) (osts : ℕ) 
 
           short_one : (f : Flight) (who : Who) → f.op ≡ r.op → Flew (only t past) who f → IsAskedOf t r.op → IsShort r.op
           short_one f who same flew (inl k) = asked_short r.op (subst (AskedBy past) same (flew_asked head past who f g (subst (λ (n : ℕ). Flew (only n past) who f) k.0 flew)))
-          short_one f who same flew (inr k) = size_short r.op k.1
-      by (Client c) (message.Cancel who boot cookie) names w =
+          short_one f who same flew (inr k) = object_short r.op k.1
+      by (Client c) (message.Cancel who boot cookie) goes w =
           let mine = came head past t (Client c) (message.Cancel who boot cookie) g w in
-          let was = subst (λ (u : ℕ). Was (only u past) (Client c) (Target u) (message.Cancel who boot cookie)) names mine in
-          let back = (at_target 0).locks.cancels (Client c) (Target 0) who boot cookie was in
-          let flew = (at_target 0).done.flew back.deed back.gave.0 in
+          let back = (at_target t).locks.cancels (Client c) (Target t) who boot cookie mine in
+          let flew = (at_target t).done.flew back.deed back.gave.0 in
           record {
-            served = (
-              id ∙ names,
-              record {
-                of = spoken (Client c) (message.Cancel who boot cookie) who refl mine;
-                older = present boot ((at_target 0).boots (Client c) (Target 0) (message.Cancel who boot cookie) was).0;
-                without = has_slot 0 v lives who flew.0 (subst (λ (x : Who). Flew (only 0 past) x flew.0) back.of flew.1);
-              },
-            );
+            served = record {
+              of = spoken (Client c) (message.Cancel who boot cookie) who refl mine;
+              older = present boot ((at_target t).boots (Client c) (Target t) (message.Cancel who boot cookie) mine).0;
+              without = has_slot t v lives who flew.0 (subst (λ (x : Who). Flew (only t past) x flew.0) back.of flew.1);
+            };
             fits = tt;
-            one = omega (arith, names);
+            one = acted_there (MayAsk scene) osts head t back.deed past g suits back.gave.0;
           }
       by (Client c) (message.Join who boot) goes w =
           let mine = came head past t (Client c) (message.Join who boot) g w in
@@ -470,22 +501,19 @@ module _ (scene : Scene) (covered : IsCovered scene) (head : Head) (osts : ℕ) 
 
   -- ---- to a client
 
-  -- what a target did
-  deed_calm : (t : ℕ) (d : Deed) → Acted (only t past) d → Every (LockCalm t) d.reply.locks × AnswerCalm d.reply.answer
+  -- what a target answers
+  deed_calm : (t : ℕ) (d : Deed) → Acted (only t past) d → AnswerCalm d.reply.answer
   deed_calm t d a = by (acted_kind head past t d g a)
     where
-      names : (z : t ≡ 0) → Every (LockCalm t) d.reply.locks × AnswerCalm d.reply.answer
+      names : (z : t ≡ 0) → AnswerCalm d.reply.answer
       names z =
           let first : Acted (only 0 past) d = subst (λ (n : ℕ). Acted (only n past) d) z a in
-          let whole : Acted past d = acted_whole t past d a in (
-            in_every (LockCalm t) d.reply.locks (λ l i. (z, (at_target t).locks.readers d l (a, i))),
-            names_answer d.op d.reply.answer (acted_on_names head past d g first) (acted_answered head past d g whole).0
-                (acted_told head past (IsFile scene.lines) g (all_files scene past begun) (all_stats scene covered past begun) d whole) (acted_layout head past g d whole),
-          )
+          let whole : Acted past d = acted_whole t past d a in
+          names_answer head.osts d.reply.answer (names_fit d.op d.reply.answer (acted_on_names head past d g first) (acted_answered head past d g whole).0) (acted_laid head past d g whole)
 
-      by : ActedKind t d → Every (LockCalm t) d.reply.locks × AnswerCalm d.reply.answer
+      by : ActedKind t d → AnswerCalm d.reply.answer
       by (inl k) = names k.0
-      by (inr k) = (subst (Every (LockCalm t)) (sym k.1.locks) tt, subst AnswerCalm (sym k.1.answer) tt)
+      by (inr k) = object_answer d k.1
 
   pub client_calm : (n c : ℕ) (from : Node) (m : Message) → Sent past n from (Client c) m → MessageCalm (MayAsk scene) osts from m
   client_calm n c from m sent = by from m (was_goes head past from (Client c) m g w) w
@@ -495,11 +523,11 @@ module _ (scene : Scene) (covered : IsCovered scene) (head : Head) (osts : ℕ) 
 
       by : (from : Node) (m : Message) → Goes from (Client c) m → Was past from (Client c) m → MessageCalm (MayAsk scene) osts from m
       by (Target t) (message.Reply r) goes w =
-          let meant = (at_target t).done.sent (Target t) (Client c) (message.Reply r) (told past t (Client c) (message.Reply r) w) in
-          let d : Deed = meant.deed in
-          let calm = deed_calm t d meant.acted in (
-            subst (Every (LockCalm t)) (sym (ap (λ (x : ReplyTo). x.locks) meant.is)) calm.0,
-            subst AnswerCalm (sym (ap (λ (x : ReplyTo). x.answer) meant.is)) calm.1,
+          let was = told past t (Client c) (message.Reply r) w in
+          let meant = (at_target t).done.sent (Target t) (Client c) (message.Reply r) was in
+          let fine = (given_of head t past g).has.sent (Target t) (Client c) r was in (
+            in_every (KindOf t) r.locks (λ l i. gave_kind head t past g l (fine.locks l i).0),
+            subst AnswerCalm (sym (ap (λ (x : ReplyTo). x.answer) meant.is)) (deed_calm t meant.deed meant.acted),
           )
       by (Target t) (message.Block who boot cookie) goes w = tt
       by (Target t) (message.Up boot) goes w =

@@ -1,6 +1,6 @@
 -- Lines that stand only where a turn may ask a disk: those of commits, of lives that leave or come, of boots and of what follows one, and of
--- who is told so. What is asked of a target, and what it is told of a life that joins or comes back, goes to a target of the run; and the lives
--- that come there, and those that are told of a boot, are of clients of the run.
+-- who is told so. What is asked of a target, and what it is told of a life that joins or comes back, goes to a target of the run, and a lock is
+-- asked for on a range in order; and the lives that come there, and those that are told of a boot, are of clients of the run.
 use Rattle.std.proofs.Common.{◌≡◌, ℕ, ◌<◌, ◌≤◌, List, [], ◌∷◌, ⊎_elim, subst}
 use Rattle.lu_base.specs.declared.ids.At.{At}
 use Rattle.lu_base.specs.declared.ids.Node.{Node}
@@ -8,6 +8,8 @@ use Rattle.lu_base.specs.declared.ids.Node.TheVariants.{Client, Target}
 use Rattle.lu_base.specs.declared.ids.Who.{Who}
 use Rattle.lu_msg.specs.declared.messages.Message.{Message}
 use Rattle.lu_msg.specs.declared.messages.Message.TheVariants as message
+use Rattle.lu_msg.specs.declared.operations.Op.{Op}
+use Rattle.lu_msg.specs.declared.operations.Op.TheVariants as op
 use Rattle.lu_words.specs.Words.{Entry, Send, Life, Commit, Boot, Close, Evict, Joined, Wishes, Line, line, with_turn}
 use Rattle.lu_lawful.proofs.Guards.{Was}
 use Rattle.lu_covered_scenes.proofs.Every.{Every}
@@ -19,9 +21,14 @@ IsOf clients who = who.client < clients
 abbrev pub AllOf : ℕ → List Who → Type 0
 AllOf clients lives = Every (IsOf clients) lives
 
+-- a lock that it asks for is on a range in order
+abbrev pub IsOrdered : Op → Type 0
+IsOrdered (op.Enqueue resource mode extent) = extent.first ≤ extent.last
+IsOrdered _ = Unit {0}
+
 -- MayAsk: a turn may ask a disk
 abbrev pub Suits : Type 0 → (osts clients : ℕ) → Entry → Type 0
-Suits MayAsk osts clients (Send (Target t) (message.Request r)) = t ≤ osts
+Suits MayAsk osts clients (Send (Target t) (message.Request r)) = (t ≤ osts) × IsOrdered r.op
 Suits MayAsk osts clients (Send (Target t) (message.Join who boot)) = MayAsk × (t ≤ osts)
 Suits MayAsk osts clients (Send (Target t) (message.Replay r)) = MayAsk × (t ≤ osts)
 Suits MayAsk osts clients (Send (Target t) (message.Lock r)) = MayAsk × (t ≤ osts)

@@ -1,19 +1,19 @@
--- A client of a covered scenario, at each line: its calls are on names, or a `flush` or a `glimpse`, its requests to the metadata target are on
--- names too, and it asks another target how long an object is alone; it holds locks for reading alone, of the metadata target, it has changed no
--- object, it knows no file's attributes, its handles are bound to files on object storage targets, and each target serves its life, unless a
--- turn may ask a disk. Which lines keep that.
-use Rattle.std.proofs.Common.{◌≡◌, ℕ, zero, suc, ◌+◌, ◌<◌, ◌≤◌, true, false, List, [], ◌∷◌, length, map, Option, Some, None, ◌⊎◌, inl, inr, refl, sym, subst, ap}
+-- A client of a covered scenario, at each line: its calls are on names, or a `read`, a `flush` or a `glimpse`, its requests to the metadata target
+-- are on names too, and it asks another target how long an object is, or for a lock to read it; it holds locks for reading alone, of the metadata
+-- target on names and of another one on whole objects, each object is empty for it, the layouts that it knows and those of its handles are on
+-- object storage targets, and each target serves its life, unless a turn may ask a disk. Which lines keep that.
+use Rattle.std.proofs.Common.{◌≡◌, ℕ, zero, suc, ◌+◌, ◌^◌, ◌<◌, ◌≤◌, true, false, List, [], ◌∷◌, length, map, Option, Some, None, ◌⊎◌, inl, inr, refl, sym, subst, ap}
 use Rattle.std.specs.Prelude.{nat_eq, not, if◌then◌else◌, slice_index}
 use Rattle.std.proofs.lemmas.Bool.{cond_both}
 use Rattle.lu_base.specs.declared.ids.Node.{Node}
 use Rattle.lu_base.specs.declared.ids.Node.TheVariants.{Target}
 use Rattle.lu_base.specs.declared.locks.Lock.{Lock}
 use Rattle.lu_base.specs.declared.locks.Resource.{Resource}
-use Rattle.lu_base.specs.declared.locks.Mode.TheVariants.{PR}
 use Rattle.lu_layout.specs.Raid0.{Raid0}
 use Rattle.lu_msg.specs.declared.answers.Answer.{Answer}
 use Rattle.lu_msg.specs.declared.answers.Answer.TheVariants as told
 use Rattle.lu_msg.specs.declared.calls.Call.{Call}
+use Rattle.lu_msg.specs.declared.calls.Call.TheVariants as call
 use Rattle.lu_msg.specs.declared.messages.Message.{Message}
 use Rattle.lu_msg.specs.declared.messages.Message.TheVariants as message
 use Rattle.lu_msg.specs.declared.operations.Op.{Op}
@@ -22,25 +22,32 @@ use Rattle.lu_base.specs.declared.ids.Fid.{Fid}
 use Rattle.lu_base.specs.declared.ids.TargetId.{TargetId}
 use Rattle.lu_held.specs.declared.names.LockName.{LockName}
 use Rattle.lu_held.specs.declared.locks.HeldLock.{HeldLock}
+use Rattle.lu_held.specs.declared.locks.Use.{Use}
 use Rattle.lu_held.specs.declared.locks.Change.{Change}
 use Rattle.lu_held.specs.declared.locks.Change.TheVariants.{Mark, Unmark, Pin, Unpin}
-use Rattle.lu_held.specs.Locks.{name_of, is_named, named, after as changed_by}
+use Rattle.lu_held.specs.Locks.{name_of, is_named, named, reaches_end, after as changed_by}
 use Rattle.lu_held.specs.Held.{is_held, changed, used, without, unmarked}
-use Rattle.lu_words.specs.Carried.{HandleFile, Queued, Flight, Asking, Asked, Answered, Stage, Plain, Bad, Sizes, Running}
+use Rattle.lu_words.specs.Carried.{HandleFile, Queued, Flight, Kind, Narrow, Wide, Stats, Work, Asking, Asked, Answered, Stage, Plain, Bad, Enqueued, Came, Sizes, Running}
+use Rattle.lu_words.specs.declared.uses.Using.{Using}
 use Rattle.lu_words.specs.Concerns.{is_about}
-use Rattle.lu_words.specs.Words.{Entry, Send, Take, Tick, Begin, Busy, Heard, Hold, Drop, Told, Life, Die, Queues, Flies, Knows, Serves, Settles, Stands, Binds, Unbinds, Pins, Unpins, Marks, Unmarks, Learns, Changes, WritesBack, Acks, Commit, Boot, Close, Evict, Joined, Wishes}
-use Rattle.lu_client_rows.specs.Caches.{brought, held_as, with_held, with_brought, held_after, patches_after}
+use Rattle.lu_words.specs.Words.{Entry, Send, Take, Tick, Begin, Busy, Heard, Hold, Drop, Told, Life, Die, Queues, Flies, Knows, Serves, Settles, Stands, Binds, Unbinds, Pins, Unpins, Marks, Unmarks, Learns, Changes, WritesBack, Acks, Grown, Commit, Boot, Close, Evict, Joined, Wishes}
+use Rattle.lu_client_rows.specs.Advances.{enqueue_of}
+use Rattle.lu_client_rows.specs.Caches.{Note, brought, held_as, with_held, with_brought, held_after, sizes_after, patches_after}
 use Rattle.lu_client_rows.specs.Calls.{Bound, asks, asks_for, call_after, calls_from, call_on, handles_after}
 use Rattle.lu_client_rows.specs.Facts.{Fact, name_facts, names_taught, inode_taught, is_one_for_each, last_of, taught, without_facts, facts_after}
 use Rattle.lu_client_rows.specs.Imports.{Standing, Joining, Recovering, Serving, interrupted, Import, rest, import_after, imports_from}
 use Rattle.lu_client_rows.specs.Patches.{Patch}
-use Rattle.lu_client_rows.specs.States.{Client, after, turn, follow}
+use Rattle.lu_client_rows.specs.States.{Client, Store, store_after, store_turn, after, turn, follow}
 use Rattle.lu_covered.specs.Calls.{operation_of}
-use Rattle.lu_covered.specs.Covered.{IsOnSizes, IsCoveredCall, IsCovered, IsSizing, IsWithoutWork}
+use Rattle.lu_covered.specs.Covered.{IsOnSizes, IsReading, OnObjects, IsCoveredCall, IsCovered, IsSizing, IsWithoutWork}
+use Rattle.lu_covered.specs.Deeds.{whole}
 use Rattle.lu_lawful.proofs.ClientLines.{IsAskedOf, of_target}
 use Rattle.lu_lawful.proofs.Covers.{EntriesCovered}
+use Rattle.lu_lawful.proofs.GuardActs.{KindOf}
+use Rattle.lu_lawful.proofs.BareStore.{AllZero, IsNone, zero_kept, zero_forgotten, zero_empty}
+use Rattle.lu_lawful.proofs.ClientLooks.{ReadUse, IsEmpty}
 use Rattle.lu_covered_scenes.proofs.Every.{Every, every_more, every_filter, every_map, every_so}
-use Rattle.lu_covered_scenes.proofs.Asking.{Suits}
+use Rattle.lu_covered_scenes.proofs.Asking.{IsOrdered, Suits}
 
 -- ---- what is so of its parts
 
@@ -55,11 +62,14 @@ FileCalm (Some f) = OnOsts f.layout
 abbrev pub BoundCalm : Bound → Type 0
 BoundCalm b = OnOsts b.file.layout
 
--- it isn't a file's attributes, which are told with its size, it doesn't leave the size to a lock, and an open tells of a file on object
+-- it doesn't leave the size to a lock, no lock waits, one that is granted is on a whole object, which is empty, and a layout is on object
 -- storage targets
 abbrev pub AnswerCalm : Answer → Type 0
-AnswerCalm (told.FileStat fid mode links layout) = ⊥
+AnswerCalm (told.FileStat fid mode links layout) = OnOsts layout
+AnswerCalm (told.Layout layout) = OnOsts layout
 AnswerCalm (told.OpenFile fid number layout) = OnOsts layout
+AnswerCalm (told.Granted cookie extent size) = (extent ≡ whole) × (size ≡ 0)
+AnswerCalm (told.Waiting cookie) = ⊥
 AnswerCalm told.Lock = ⊥
 AnswerCalm _ = Unit {0}
 
@@ -67,11 +77,62 @@ abbrev pub AskingCalm : Asking → Type 0
 AskingCalm (Answered target reply) = AnswerCalm reply.answer
 AskingCalm _ = Unit {0}
 
--- a call on names, a `flush` or a `glimpse`; one on a bad handle; or a `glimpse` that asks object storage targets
+-- a `read` that begins below the limit of files, a `flush` or a `glimpse`
+abbrev pub SizesCalm : Call → Type 0
+SizesCalm (call.Read handle offset count) = offset ≤ 2 ^ 40
+SizesCalm (call.Flush handle) = Unit {0}
+SizesCalm (call.Glimpse handle) = Unit {0}
+SizesCalm _ = ⊥
+
+pub is_on_sizes : (c : Call) → SizesCalm c → IsOnSizes c
+is_on_sizes (call.Read handle offset count) is = tt
+is_on_sizes (call.Flush handle) is = tt
+is_on_sizes (call.Glimpse handle) is = tt
+is_on_sizes c is = absurd is
+
+-- a call on names, or one of these
+abbrev pub GoesCalm : Option HandleFile → Call → Type 0
+GoesCalm file c = ((o : Op) × (operation_of file c ≡ Some o)) ⊎ SizesCalm c
+
+abbrev pub KindCalm : Kind → Type 0
+KindCalm (Narrow offset count) = offset ≤ 2 ^ 40
+KindCalm (Wide offset count) = offset ≤ 2 ^ 40
+KindCalm (Stats mode links) = Unit {0}
+KindCalm _ = ⊥
+
+pub is_reading : (kind : Kind) → KindCalm kind → IsReading kind
+is_reading (Narrow offset count) is = tt
+is_reading (Wide offset count) is = tt
+is_reading (Stats mode links) is = tt
+is_reading kind is = absurd is
+
+-- to read under, on a range in order of an object that an object storage target has
+abbrev pub UseCalm : Use → Type 0
+UseCalm x = (0 < x.target.0) × ReadUse x × IsOrdered (enqueue_of x)
+
+pub on_objects : (us : List Use) → Every UseCalm us → OnObjects us
+on_objects [] c = tt
+on_objects (x ∷ us) c = (c.0.0, on_objects us c.1)
+
+abbrev pub UsingCalm : Using → Type 0
+UsingCalm u = reaches_end u.lock.ask.policy ≡ true
+
+-- of a read, or a stat of a file: the file is on object storage targets, and the locks that it has in use reach the end
+abbrev pub WorkCalm : Work → Type 0
+WorkCalm w = record { kind : KindCalm w.kind; layout : OnOsts w.layout; used : Every UsingCalm w.used }
+
+-- so are the objects whose locks it doesn't have yet
+abbrev pub ReadCalm : Work → Type 0
+ReadCalm w = WorkCalm w × Every UseCalm w.left
+
+-- a call on names, a `read`, a `flush` or a `glimpse`; one on a bad handle; a `glimpse` that asks object storage targets; or a `read`, or a
+-- `stat`, that asks one for a lock, or got it
 abbrev pub StageCalm : Option HandleFile → Call → Stage → Type 0
-StageCalm file c Plain = ((o : Op) × (operation_of file c ≡ Some o)) ⊎ IsOnSizes c
+StageCalm file c Plain = GoesCalm file c
 StageCalm file c Bad = Unit {0}
-StageCalm file c (Sizes w) = IsSizing (Sizes w) × IsOnSizes c
+StageCalm file c (Sizes w) = IsSizing (Sizes w) × SizesCalm c
+StageCalm file c (Enqueued w) = ReadCalm w × GoesCalm file c
+StageCalm file c (Came w lock) = ReadCalm w × GoesCalm file c × (reaches_end lock.ask.policy ≡ true)
 StageCalm file c _ = ⊥
 
 pub record RunningCalm (r : Running) : Type 0 where
@@ -89,11 +150,15 @@ StandsCalm MayAsk Serving = Unit {0}
 StandsCalm MayAsk Joining = MayAsk
 StandsCalm MayAsk Recovering = MayAsk
 
+-- what may be asked of target t
+abbrev pub AskedCalm : ℕ → Op → Type 0
+AskedCalm t o = IsAskedOf t o × IsOrdered o
+
 -- that of target t
 pub record ImportCalm (MayAsk : Type 0) (t : ℕ) (i : Import) : Type 0 where
   pub stands : StandsCalm MayAsk i.standing
-  pub queue : Every (λ (q : Queued). IsAskedOf t q.op) i.queue
-  pub flights : Every (λ (f : Flight). IsAskedOf t f.op) i.flights
+  pub queue : Every (λ (q : Queued). AskedCalm t q.op) i.queue
+  pub flights : Every (λ (f : Flight). AskedCalm t f.op) i.flights
 
 -- those of the targets from this one on
 abbrev pub ImportsCalm : Type 0 → ℕ → List Import → Type 0
@@ -103,12 +168,18 @@ ImportsCalm MayAsk t (i ∷ imports) = ImportCalm MayAsk t i × ImportsCalm MayA
 abbrev pub FactCalm : Fact → Type 0
 FactCalm f = AnswerCalm f.answer
 
--- a lock for reading, of the metadata target
-abbrev pub LockCalm : ℕ → Lock → Type 0
-LockCalm t l = (t ≡ 0) × (l.ask.mode ≡ PR)
-
 abbrev pub HeldCalm : HeldLock → Type 0
-HeldCalm h = LockCalm h.target.0 h.lock
+HeldCalm h = KindOf h.target.0 h.lock
+
+-- its locks are for reading, no size that it has noted is above 0, and it changed nothing
+pub record StoreCalm (s : Store) : Type 0 where
+  pub held : Every HeldCalm s.held
+  pub sizes : AllZero s.sizes
+  pub patches : s.patches ≡ []
+
+-- so each object is empty under each lock
+pub empty_store : (s : Store) → StoreCalm s → IsEmpty s
+empty_store s c = zero_empty s c.sizes c.patches
 
 pub record Calm (MayAsk : Type 0) (osts : ℕ) (k : Client) : Type 0 where
   pub handles : Every BoundCalm k.handles
@@ -116,14 +187,13 @@ pub record Calm (MayAsk : Type 0) (osts : ℕ) (k : Client) : Type 0 where
   pub imports : ImportsCalm MayAsk 0 k.imports
   pub targets : length k.imports ≤ osts + 1
   pub facts : Every FactCalm k.facts
-  pub held : Every HeldCalm k.store.held
-  pub patches : k.store.patches ≡ []
+  pub store : StoreCalm k.store
 
 -- ---- lines that keep it; of each call that begins this holds
 
 -- what it sends: requests to targets of the run; what a life that joins or comes back tells one only where a turn may ask a disk
 abbrev pub SendCalm : Type 0 → ℕ → Node → Message → Type 0
-SendCalm MayAsk osts (Target t) (message.Request r) = t ≤ osts
+SendCalm MayAsk osts (Target t) (message.Request r) = (t ≤ osts) × IsOrdered r.op
 SendCalm MayAsk osts (Target t) (message.Cancel who boot cookie) = Unit {0}
 SendCalm MayAsk osts (Target t) (message.Join who boot) = MayAsk × (t ≤ osts)
 SendCalm MayAsk osts (Target t) (message.Replay r) = MayAsk × (t ≤ osts)
@@ -137,14 +207,14 @@ LineCalm P MayAsk osts (Take n from m) = Unit {0}
 LineCalm P MayAsk osts Tick = Unit {0}
 LineCalm P MayAsk osts (Begin slot r) = RunningCalm r × P r.call
 LineCalm P MayAsk osts (Busy slot) = Unit {0}
-LineCalm P MayAsk osts (Heard t f r) = Every (LockCalm t) (brought f.op r) × AnswerCalm r.answer
-LineCalm P MayAsk osts (Hold t l marked size seen) = LockCalm t l
+LineCalm P MayAsk osts (Heard t f r) = Every (KindOf t) (brought f.op r) × AnswerCalm r.answer
+LineCalm P MayAsk osts (Hold t l marked size seen) = KindOf t l × IsNone size
 LineCalm P MayAsk osts (Drop t l) = Unit {0}
 LineCalm P MayAsk osts (Told slot at answer work) = IsWithoutWork work
 LineCalm P MayAsk osts (Life who) = MayAsk
 LineCalm P MayAsk osts Die = Unit {0}
-LineCalm P MayAsk osts (Queues t q) = IsAskedOf t q.op
-LineCalm P MayAsk osts (Flies t f) = IsAskedOf t f.op
+LineCalm P MayAsk osts (Queues t q) = AskedCalm t q.op
+LineCalm P MayAsk osts (Flies t f) = AskedCalm t f.op
 LineCalm P MayAsk osts (Knows t boot) = MayAsk
 LineCalm P MayAsk osts (Serves t boot) = MayAsk
 LineCalm P MayAsk osts (Settles t to) = MayAsk
@@ -164,11 +234,16 @@ AllCalm P MayAsk osts es = Every (LineCalm P MayAsk osts) es
 call_covered : (r : Running) → RunningCalm r → IsCoveredCall r
 call_covered r c = by r.stage refl c.stage
   where
+    goes : GoesCalm r.file r.call → IsCoveredCall r
+    goes (inl o) = inl o
+    goes (inr is) = inr (inr (is_on_sizes r.call is))
+
     by : (stage : Stage) → r.stage ≡ stage → StageCalm r.file r.call stage → IsCoveredCall r
-    by Plain e (inl o) = inl o
-    by Plain e (inr is) = inr (inr is)
+    by Plain e is = goes is
     by Bad e is = inr (inl e)
-    by (Sizes w) e is = inr (inr is.1)
+    by (Sizes w) e is = inr (inr (is_on_sizes r.call is.1))
+    by (Enqueued w) e is = goes is.1
+    by (Came w lock) e is = goes is.1
     by stage e is = absurd is
 
 module _ (P : Call → Type 0) (MayAsk : Type 0) (osts : ℕ) where
@@ -281,7 +356,7 @@ module _ (P : Call → Type 0) (MayAsk : Type 0) (osts : ℕ) where
 
   -- ---- imports
 
-  rest_calm : (t : ℕ) (queue : List Queued) → Every (λ (q : Queued). IsAskedOf t q.op) queue → Every (λ (q : Queued). IsAskedOf t q.op) (rest queue)
+  rest_calm : (t : ℕ) (queue : List Queued) → Every (λ (q : Queued). AskedCalm t q.op) queue → Every (λ (q : Queued). AskedCalm t q.op) (rest queue)
   rest_calm t [] c = tt
   rest_calm t (q ∷ queue) c = c.1
 
@@ -293,11 +368,11 @@ module _ (P : Call → Type 0) (MayAsk : Type 0) (osts : ℕ) where
 
   import_calm : (t : ℕ) (i : Import) (e : Entry) → is_about t e ≡ true → LineCalm P MayAsk osts e → ImportCalm MayAsk t i → ImportCalm MayAsk t (import_after i e)
   import_calm t i (Queues u q) own l c =
-      record { stands = c.stands; queue = every_more (λ (q : Queued). IsAskedOf t q.op) i.queue (q ∷ []) c.queue (of_target (λ (v : ℕ). IsAskedOf v q.op) t u own l, tt); flights = c.flights }
+      record { stands = c.stands; queue = every_more (λ (q : Queued). AskedCalm t q.op) i.queue (q ∷ []) c.queue (of_target (λ (v : ℕ). AskedCalm v q.op) t u own l, tt); flights = c.flights }
   import_calm t i (Flies u f) own l c =
-      record { stands = c.stands; queue = rest_calm t i.queue c.queue; flights = every_more (λ (f : Flight). IsAskedOf t f.op) i.flights (f ∷ []) c.flights (of_target (λ (v : ℕ). IsAskedOf v f.op) t u own l, tt) }
+      record { stands = c.stands; queue = rest_calm t i.queue c.queue; flights = every_more (λ (f : Flight). AskedCalm t f.op) i.flights (f ∷ []) c.flights (of_target (λ (v : ℕ). AskedCalm v f.op) t u own l, tt) }
   import_calm t i (Heard u f r) own l c =
-      record { stands = c.stands; queue = c.queue; flights = every_filter (λ (f : Flight). IsAskedOf t f.op) (λ (g : Flight). not (nat_eq g.xid f.xid)) i.flights c.flights }
+      record { stands = c.stands; queue = c.queue; flights = every_filter (λ (f : Flight). AskedCalm t f.op) (λ (g : Flight). not (nat_eq g.xid f.xid)) i.flights c.flights }
   import_calm t i (Life who) own l c = record { stands = l; queue = tt; flights = tt }
   import_calm t i (Knows u boot) own l c = record { stands = stands_calm i.standing l; queue = c.queue; flights = c.flights }
   import_calm t i (Serves u boot) own l c = record { stands = tt; queue = c.queue; flights = c.flights }
@@ -334,11 +409,12 @@ module _ (P : Call → Type 0) (MayAsk : Type 0) (osts : ℕ) where
   taught_calm (op.Lookup path) (told.File fid) locks none = path_calm told.File (λ f. tt) path locks
   taught_calm (op.Stat path) (told.DirStat fid mode) locks none =
       every_more FactCalm (names_taught told.Dir path locks) _ (path_calm told.Dir (λ f. tt) path locks) (inode_calm _ (λ l. (tt, tt)) (last_of locks))
-  taught_calm (op.Stat path) (told.FileStat fid mode links layout) locks none = absurd none
+  taught_calm (op.Stat path) (told.FileStat fid mode links layout) locks on =
+      every_more FactCalm (names_taught told.File path locks) _ (path_calm told.File (λ f. tt) path locks) (inode_calm _ (λ l. (on, (on, tt))) (last_of locks))
   taught_calm (op.List path) (told.Names names) locks none =
       every_more FactCalm (names_taught told.Dir path locks) _ (path_calm told.Dir (λ f. tt) path locks) (inode_calm _ (λ l. (tt, tt)) (last_of locks))
-  taught_calm (op.Layout path) (told.Layout layout) locks none =
-      every_more FactCalm (names_taught told.File path locks) _ (path_calm told.File (λ f. tt) path locks) (inode_calm _ (λ l. (tt, tt)) (last_of locks))
+  taught_calm (op.Layout path) (told.Layout layout) locks on =
+      every_more FactCalm (names_taught told.File path locks) _ (path_calm told.File (λ f. tt) path locks) (inode_calm _ (λ l. (on, tt)) (last_of locks))
   taught_calm o a locks none = tt
 
   without_calm : (t : ℕ) (l : Lock) (facts : List Fact) → Every FactCalm facts → Every FactCalm (without_facts t l facts)
@@ -380,7 +456,7 @@ module _ (P : Call → Type 0) (MayAsk : Type 0) (osts : ℕ) where
       (λ t. every_map HeldCalm HeldCalm (λ g. if is_named (name_of h) g then h else g) held (λ g k. cond_both (is_named (name_of h) g) h g HeldCalm (λ s. is) (λ s. k)) c)
       (λ t. (is, c))
 
-  brought_calm : (t : ℕ) (locks : List Lock) (held : List HeldLock) → Every (LockCalm t) locks → Every HeldCalm held → Every HeldCalm (with_brought t locks held)
+  brought_calm : (t : ℕ) (locks : List Lock) (held : List HeldLock) → Every (KindOf t) locks → Every HeldCalm held → Every HeldCalm (with_brought t locks held)
   brought_calm t [] held is c = c
   brought_calm t (l ∷ locks) held is c = brought_calm t locks (with_held (held_as t l false) held) is.1 (with_calm (held_as t l false) held is.0 c)
 
@@ -404,7 +480,7 @@ module _ (P : Call → Type 0) (MayAsk : Type 0) (osts : ℕ) where
 
   held_calm : (held : List HeldLock) (e : Entry) → LineCalm P MayAsk osts e → Every HeldCalm held → Every HeldCalm (held_after held e)
   held_calm held (Heard t f r) l c = brought_calm t (brought f.op r) held l.0 c
-  held_calm held (Hold t k marked size seen) l c = with_calm (held_as t k marked) held l c
+  held_calm held (Hold t k marked size seen) l c = with_calm (held_as t k marked) held l.0 c
   held_calm held (Drop t k) l c = every_filter HeldCalm (λ h. not (is_named (named (record { 0 = t }) k.cookie) h)) held c
   held_calm held (Pins name) l c = changed_calm name Pin held c
   held_calm held (Unpins name) l c = used_calm name (changed name Unpin held) (changed_calm name Unpin held c)
@@ -429,7 +505,14 @@ module _ (P : Call → Type 0) (MayAsk : Type 0) (osts : ℕ) where
   held_calm held (Learns t o a locks) l c = c
   held_calm held e l c = absurd l
 
-  -- ---- changes of objects
+  -- ---- sizes of objects, and changes
+
+  notes_calm : (notes : List Note) (e : Entry) → LineCalm P MayAsk osts e → AllZero notes → AllZero (sizes_after notes e)
+  notes_calm notes (Hold t k marked size seen) l c = zero_kept k size notes l.1 c
+  notes_calm notes (Drop t k) l c = zero_forgotten k.ask.policy k notes c
+  notes_calm notes (Grown r change) l c = absurd l
+  notes_calm notes (Life who) l c = λ n i. absurd i
+  notes_calm notes e l c = c
 
   patches_calm : (patches : List (Resource × Patch)) (e : Entry) → LineCalm P MayAsk osts e → patches ≡ [] → patches_after patches e ≡ []
   patches_calm patches (Changes r change) l c = absurd l
@@ -437,6 +520,15 @@ module _ (P : Call → Type 0) (MayAsk : Type 0) (osts : ℕ) where
   patches_calm patches (Acks r) l c = absurd l
   patches_calm patches (Life who) l c = refl
   patches_calm patches e l c = c
+
+  -- ---- the store
+
+  stored_calm : (s : Store) (e : Entry) → LineCalm P MayAsk osts e → StoreCalm s → StoreCalm (store_after s e)
+  stored_calm s e l c = record { held = held_calm s.held e l c.held; sizes = notes_calm s.sizes e l c.sizes; patches = patches_calm s.patches e l c.patches }
+
+  pub store_calm : (s : Store) (es : List Entry) → AllCalm P MayAsk osts es → StoreCalm s → StoreCalm (store_turn s es)
+  store_calm s [] l c = c
+  store_calm s (e ∷ es) l c = store_calm (store_after s e) es l.1 (stored_calm s e l.0 c)
 
   -- ---- the client
 
@@ -448,8 +540,7 @@ module _ (P : Call → Type 0) (MayAsk : Type 0) (osts : ℕ) where
         imports = imports_calm 0 k.imports e l c.imports;
         targets = subst (λ (n : ℕ). n ≤ osts + 1) (sym (imports_length 0 k.imports e)) c.targets;
         facts = facts_calm k.facts e l c.facts;
-        held = held_calm k.store.held e l c.held;
-        patches = patches_calm k.store.patches e l c.patches;
+        store = stored_calm k.store e l c.store;
       }
 
   pub turn_calm : (k : Client) (es : List Entry) → Calm MayAsk osts k → AllCalm P MayAsk osts es → Calm MayAsk osts (turn k es)

@@ -1,7 +1,8 @@
 -- What holds of every element of a list (`Every` of `lu_machine`).
-use Rattle.std.proofs.Common.{Bool, List, [], ◌∷◌, ◌++◌, map}
+use Rattle.std.proofs.Common.{Bool, List, [], ◌∷◌, ◌++◌, map, inl, inr, subst}
 use Rattle.std.specs.List.{filter}
 use Rattle.std.proofs.lemmas.Bool.{cond_both}
+use Rattle.lu_lawful.proofs.Guards.{In}
 pub use Rattle.lu_machine.specs.Footprint.{Every}
 
 pub every_more : {A : Type 0} (P : A → Type 0) (xs ys : List A) → Every P xs → Every P ys → Every P (xs ++ ys)
@@ -20,3 +21,12 @@ every_map P Q f (x ∷ xs) more a = (more x a.0, every_map P Q f xs more a.1)
 pub every_so : {A : Type 0} (P Q : A → Type 0) (xs : List A) → ((x : A) → P x → Q x) → Every P xs → Every Q xs
 every_so P Q [] more a = tt
 every_so P Q (x ∷ xs) more a = (more x a.0, every_so P Q xs more a.1)
+
+pub every_has : {A : Type 0} (P : A → Type 0) (xs : List A) → Every P xs → (x : A) → In x xs → P x
+every_has P [] a x i = absurd i
+every_has P (y ∷ xs) a x (inl e) = subst P e a.0
+every_has P (y ∷ xs) a x (inr i) = every_has P xs a.1 x i
+
+pub every_both : {A : Type 0} (P Q : A → Type 0) (xs : List A) → Every P xs → Every Q xs → Every (λ (x : A). P x × Q x) xs
+every_both P Q [] a b = tt
+every_both P Q (x ∷ xs) a b = ((a.0, b.0), every_both P Q xs a.1 b.1)

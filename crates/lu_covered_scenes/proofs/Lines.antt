@@ -10,21 +10,20 @@ use Rattle.lu_scene.specs.declared.scene.Scene.{Scene}
 use Rattle.lu_scene.specs.declared.scene.SceneLine.{SceneLine}
 use Rattle.lu_scene.specs.declared.scene.SceneLine.TheVariants.{Call, Run, RunSome, Deliver, Lose, Tick, Commit, CommitSome, Crash, Boot, Close, Die}
 use Rattle.lu_trace.specs.WellFormed.{IsCall}
-use Rattle.lu_covered.specs.Makes.{Path, CallMakes, CallMakesFile, Misses, StatsNoFile}
+use Rattle.lu_covered.specs.Makes.{Path, CallMakes, Misses}
 use Rattle.lu_lawful.proofs.Asked.{Began}
-use Rattle.lu_lawful.proofs.Files.{File_in}
 use Rattle.lu_lawful.proofs.Finds.{Made_in}
 use Rattle.lu_lawful.proofs.Unlocked.{misses_fewer, AllMiss}
 use Rattle.lu_table.specs.Scenarios.{head_of, with_stripes}
 use Rattle.lu_words.specs.Words.{Line}
 use Rattle.lu_after.proofs.Runs.{begins_meets}
 use Rattle.lu_covered_scenes.specs.Covered as scenes
-use Rattle.lu_covered_scenes.specs.Covered.{IsMade, IsFile, IsWithoutBytes, IsCoveredIn, IsNoCommand, LineMisses, IsCovered, AsksNoDisk}
+use Rattle.lu_covered_scenes.specs.Covered.{IsMade, ChangesNoBytes, IsLineCovered, IsNoCommand, LineMisses, IsCovered, AsksNoDisk}
 
 -- ---- calls
 
--- a call stays without bytes with the stripes that it is given
-asks : (call : CallOf) → IsWithoutBytes call → IsWithoutBytes (with_stripes call)
+-- a call changes no bytes with the stripes that it is given either
+asks : (call : CallOf) → ChangesNoBytes call → ChangesNoBytes (with_stripes call)
 asks (call.Create path None) is = tt
 asks call is = is
 
@@ -33,17 +32,9 @@ makes_same : (call : CallOf) (path : Path) → CallMakes (with_stripes call) pat
 makes_same (call.Create made None) path m = m
 makes_same call path m = m
 
-files_same : (call : CallOf) (path : Path) → CallMakesFile (with_stripes call) path → CallMakesFile call path
-files_same (call.Create made None) path m = m
-files_same call path m = m
-
 misses_same : (Made : Path → Type 0) (call : CallOf) → Misses Made call → Misses Made (with_stripes call)
 misses_same Made (call.Create made None) m = tt
 misses_same Made call m = m
-
-stats_same : (Files : Path → Type 0) (call : CallOf) → StatsNoFile Files call → StatsNoFile Files (with_stripes call)
-stats_same Files (call.Create made None) m = tt
-stats_same Files call m = m
 
 -- ---- disks
 
@@ -67,7 +58,7 @@ pub record IsCommandTo (lines : List SceneLine) (osts target : ℕ) : Type 0 whe
 -- what is known of a line of a scenario of these lines, with so many clients and object storage targets
 abbrev pub IsKnown : List SceneLine → (clients osts : ℕ) → SceneLine → Type 0
 IsKnown lines clients osts (Call client slot call) =
-    record { one : client < clients; small : slot < 4; limits : IsCall (with_stripes call); asks : IsWithoutBytes (with_stripes call); among : Calls lines (with_stripes call) }
+    record { one : client < clients; small : slot < 4; limits : IsCall (with_stripes call); asks : ChangesNoBytes (with_stripes call); among : Calls lines (with_stripes call) }
 IsKnown lines clients osts Run = Unit {0}
 IsKnown lines clients osts (RunSome turns) = Unit {0}
 IsKnown lines clients osts (Deliver number) = Unit {0}
@@ -86,9 +77,9 @@ AllKnown scene [] = Unit {0}
 AllKnown scene (line ∷ lines) = IsKnown scene.lines scene.head.clients scene.head.osts line × AllKnown scene lines
 
 module _ (scene : Scene) where
-  one_known : (line : SceneLine) → LineFits scene.head line → IsCoveredIn scene.lines line → (All IsNoCommand scene.lines → IsNoCommand line) → ((call : CallOf) → Calls (line ∷ []) call → Calls scene.lines call) → IsKnown scene.lines scene.head.clients scene.head.osts line
+  one_known : (line : SceneLine) → LineFits scene.head line → IsLineCovered line → (All IsNoCommand scene.lines → IsNoCommand line) → ((call : CallOf) → Calls (line ∷ []) call → Calls scene.lines call) → IsKnown scene.lines scene.head.clients scene.head.osts line
   one_known (Call client slot call) fits is quiet among =
-      record { one = fits.0; small = omega (arith, fits.1); limits = (begins_meets (head_of scene.head) [] client slot call fits.0 refl (omega (arith, fits.1)) fits.2).2; asks = asks call is.0; among = among (with_stripes call) (inl refl) }
+      record { one = fits.0; small = omega (arith, fits.1); limits = (begins_meets (head_of scene.head) [] client slot call fits.0 refl (omega (arith, fits.1)) fits.2).2; asks = asks call is; among = among (with_stripes call) (inl refl) }
   one_known Run fits is quiet among = tt
   one_known (RunSome turns) fits is quiet among = tt
   one_known (Deliver number) fits is quiet among = tt
@@ -111,12 +102,12 @@ module _ (scene : Scene) where
   later (Call client slot begun) lines call i = inr i
   later _ lines call i = i
 
-  all_known : (lines : List SceneLine) → All (LineFits scene.head) lines → All (IsCoveredIn scene.lines) lines → (All IsNoCommand scene.lines → All IsNoCommand lines) → ((call : CallOf) → Calls lines call → Calls scene.lines call) → AllKnown scene lines
+  all_known : (lines : List SceneLine) → All (LineFits scene.head) lines → All IsLineCovered lines → (All IsNoCommand scene.lines → All IsNoCommand lines) → ((call : CallOf) → Calls lines call → Calls scene.lines call) → AllKnown scene lines
   all_known [] fit are quiet among = tt
   all_known (line ∷ lines) fit are quiet among = (
-    one_known line (All-head (LineFits scene.head) line lines fit) (All-head (IsCoveredIn scene.lines) line lines are)
+    one_known line (All-head (LineFits scene.head) line lines fit) (All-head IsLineCovered line lines are)
         (λ all. All-head IsNoCommand line lines (quiet all)) (λ call i. among call (first line lines call i)),
-    all_known lines (All-tail (LineFits scene.head) line lines fit) (All-tail (IsCoveredIn scene.lines) line lines are)
+    all_known lines (All-tail (LineFits scene.head) line lines fit) (All-tail IsLineCovered line lines are)
         (λ all. All-tail IsNoCommand line lines (quiet all)) (λ call i. among call (later line lines call i)),
   )
 
@@ -144,15 +135,6 @@ called_made (line ∷ lines) call path i m = by line i (λ j. called_made lines 
     by (Call client slot begun) (inr j) more = inr (more j)
     by line j more = inr (more j)
 
-called_file : (lines : List SceneLine) (call : CallOf) (path : Path) → Calls lines call → CallMakesFile call path → IsFile lines path
-called_file [] call path i m = absurd i
-called_file (line ∷ lines) call path i m = by line i (λ j. called_file lines call path j m)
-  where
-    by : (line : SceneLine) → Calls (line ∷ lines) call → (Calls lines call → IsFile lines path) → IsFile (line ∷ lines) path
-    by (Call client slot begun) (inl e) more = inl (files_same begun path (subst (λ (c : CallOf). CallMakesFile c path) (sym e) m))
-    by (Call client slot begun) (inr j) more = inr (more j)
-    by line j more = inr (more j)
-
 -- each keeps the limits of calls
 pub called_fits : (scene : Scene) (lines : List SceneLine) → AllKnown scene lines → (call : CallOf) → Calls lines call → IsCall call
 called_fits scene [] known call i = absurd i
@@ -167,14 +149,6 @@ called_fits scene (line ∷ lines) known call i = by line known.0 i (called_fits
 
 abbrev pub AllOfLines : Scene → List Line → Type 0
 AllOfLines scene past = (call : CallOf) → Began past call → Calls scene.lines call
-
--- a path leads to a file only where lines make one, and no stat asks for it
-pub all_files : (scene : Scene) (past : List Line) → AllOfLines scene past → (path : Path) → File_in past path → IsFile scene.lines path
-all_files scene past begun path m = called_file scene.lines m.0 path (begun m.0 m.1) m.2
-
-pub all_stats : (scene : Scene) → IsCovered scene → (past : List Line) → AllOfLines scene past → (call : CallOf) → Began past call → StatsNoFile (IsFile scene.lines) call
-all_stats scene is past begun call began =
-    called (IsCoveredIn scene.lines) (StatsNoFile (IsFile scene.lines)) (λ client slot made covered. stats_same (IsFile scene.lines) made covered.1) scene.lines call is.lines (begun call began)
 
 -- where no line makes what another reads, no call does
 pub all_miss : (scene : Scene) → scenes.AllMiss scene.lines → (past : List Line) → AllOfLines scene past → AllMiss past

@@ -1,7 +1,7 @@
 -- A target has numbers left in a covered scenario: each request that comes brings at most one transaction, and at most one lock for each
--- name of a path and one more; one that asks how long an object is brings neither. One that waits brings them when it goes on, or none, where
--- its life leaves or the target recovers. A boot counts anew, and each is a turn.
-use Rattle.std.proofs.Common.{◌≡◌, ℕ, zero, suc, ◌+◌, ◌*◌, ◌≤◌, Bool, true, false, List, [], ◌∷◌, ◌++◌, inl, inr, Option, Some, None, refl, sym, subst, ap, ◌∙◌, arith}
+-- name of a path and one more; one for a lock on an object brings that, and one that asks how long it is brings neither. One that waits brings
+-- them when it goes on, or none, where its life leaves or the target recovers. A boot counts anew, and each is a turn.
+use Rattle.std.proofs.Common.{◌≡◌, ℕ, zero, suc, ◌+◌, ◌*◌, ◌≤◌, Bool, true, false, List, [], ◌∷◌, ◌++◌, ◌⊎◌, inl, inr, Option, Some, None, refl, sym, subst, ap, ◌∙◌, arith}
 use Rattle.std.specs.Prelude.{nat_eq, nat_lt, max, not, ◌&&◌, ◌||◌, if◌then◌else◌, length}
 use Rattle.std.specs.List.{filter, list_any}
 use Rattle.std.proofs.lemmas.Bool.{cond_both}
@@ -14,8 +14,10 @@ use Rattle.lu_base.specs.declared.ids.Who.{Who}
 use Rattle.lu_base.specs.declared.locks.Cause.{Cause}
 use Rattle.lu_base.specs.declared.locks.Cause.TheVariants.{Expired, Replaced}
 use Rattle.lu_base.specs.declared.locks.Lock.{Lock}
+use Rattle.lu_base.specs.declared.locks.Mode.TheVariants.{PR}
 use Rattle.lu_msg.specs.declared.commits.Batch.{Batch}
 use Rattle.lu_msg.specs.declared.answers.Errno.{Errno}
+use Rattle.lu_msg.specs.declared.answers.Answer.{Answer}
 use Rattle.lu_msg.specs.declared.answers.Answer.TheVariants.{Refused}
 use Rattle.lu_msg.specs.declared.answers.Answer.TheVariants as told
 use Rattle.lu_msg.specs.declared.messages.Message.{Message}
@@ -36,14 +38,14 @@ use Rattle.lu_part.specs.declared.bits.TheConstants.{UPDATE, LAYOUT}
 use Rattle.lu_part.specs.declared.parts.Want.{Want}
 use Rattle.lu_words.specs.Carried.{Deed, Called, Slot, Glimpse, Said, Disk}
 use Rattle.lu_words.specs.Words.{Entry, Send, Tick, Skip, Act, Grant, Block, Release, Commit, Crash, Back, Close, Kept, Restore, Evict, Joined, Enters, Stores, Brings, Says, Wishes}
-use Rattle.lu_target_rows.specs.Glimpses.{answered, row_sizes, highest, row_size, glimpses_of, glimpses_end}
+use Rattle.lu_target_rows.specs.Glimpses.{answered, row_sizes, row_size, glimpses_of, glimpses_end}
 use Rattle.lu_target_rows.specs.Leaving.{last_of as last_committed, commits, up, evicted, ready, all_released, locks_of, evictions, all_go, condemned, expels, sends_again, ticked, life_of, admits, row_admits, by_life, is_over, row_join}
 use Rattle.lu_target_rows.specs.Lives.{is_life, slot_in}
 use Rattle.lu_target_rows.specs.Locks.{is_request_of}
 use Rattle.lu_target_rows.specs.Names.{asked, does_change, is_read, is_ready, locks_from, locks_for, written_by, in_way, names_deed, grant_lines, row_executes, row_waits, row_pass, row_sweep, names_go}
-use Rattle.lu_target_rows.specs.Objects.{lock_of, objects_go}
+use Rattle.lu_target_rows.specs.Objects.{lock_for, lock_of, row_granted, objects_go}
 use Rattle.lu_target_rows.specs.Phase.{first_of, greatest_cookie}
-use Rattle.lu_target_rows.specs.Queues.{size_of, queue_goes, queues_go, resources_of, all_queues_go}
+use Rattle.lu_target_rows.specs.Queues.{size_of, extent_of, grown, queue_goes, queues_go, resources_of, all_queues_go}
 use Rattle.lu_target_rows.specs.Recovery.{row_replay, row_lock, row_word, row_wish, up_lines, row_boot, row_close, settles}
 use Rattle.lu_target_rows.specs.Replies.{none, next_number, is_called, called, block_of, blocks, replies, row_kept, locks_on}
 use Rattle.lu_target_rows.specs.Requests.{goes, by_number, by_slot as slot_of_request, row_request, releases, goes_on, row_cancels, row_cancel}
@@ -51,16 +53,17 @@ use Rattle.lu_target_rows.specs.Stored.{batch_of}
 use Rattle.lu_target_rows.specs.Rows.{by_boot, by_slot, heeds, while_serving, while_recovering, of_boot, lock_again, row_heeds, first_deeds, row_commits, row_commit, row_closes}
 use Rattle.lu_target_rows.specs.Rows as target
 use Rattle.lu_target_rows.specs.States.{Target, is_names, is_serving, after, turn, follow}
-use Rattle.lu_lawful.proofs.ClientLines.{IsSize}
+use Rattle.lu_lawful.proofs.ClientLines.{IsSize, IsLock}
 use Rattle.lu_lawful.proofs.Guards.{In}
-use Rattle.lu_lawful.proofs.Lists.{self}
+use Rattle.lu_lawful.proofs.Lists.{self, in_right}
 use Rattle.lu_lawful.proofs.OnNames.{IsOnNames}
 use Rattle.lu_lawful.proofs.Readings.{changing_free}
+use Rattle.lu_lawful.proofs.TargetSizes.{AllRead}
 use Rattle.lu_covered_scenes.proofs.Every.{Every, every_more, every_filter}
 use Rattle.lu_covered_scenes.proofs.Asking.{IsOf}
 use Rattle.lu_covered_scenes.proofs.Served.{AllServed, Quiet, quiet_turn}
 use Rattle.lu_covered_scenes.proofs.Windows.{IsBack, AllBack, close_back, replay_back, lock_back, word_back, wish_back, boots_back, booted, booted_quiet}
-use Rattle.lu_covered_scenes.proofs.Targets.{releases_served, released_served, evictions_served, expels_served, MayBeAsked, MessageServed, of_tick}
+use Rattle.lu_covered_scenes.proofs.Targets.{releases_served, released_served, evictions_served, expels_served, MayBeAsked, MessageServed, none_written, locks_now, queue_none, of_tick}
 
 -- ---- how many locks an operation is granted
 
@@ -71,6 +74,7 @@ IsShort (op.Stat path) = length path ≤ 32
 IsShort (op.List path) = length path ≤ 32
 IsShort (op.Layout path) = length path ≤ 32
 IsShort (op.Size resource) = Unit {0}
+IsShort (op.Enqueue resource mode extent) = Unit {0}
 IsShort o = IsOnNames o
 
 steps_length : (t : Tree) (at : Child) (path : List (List ℕ)) (cs : List Child) → Steps t at path cs → length cs ≡ length path
@@ -132,6 +136,7 @@ module _ (osts : ℕ) (t : Tree) (number : TxnOf) (who : Who) where
   grants_few (op.Open path) short = free_few (op.Open path) tt (λ r. r)
   grants_few (op.Close number fid) short = free_few (op.Close number fid) tt (λ r. r)
   grants_few (op.Size resource) short = omega arith
+  grants_few (op.Enqueue resource mode extent) short = omega arith
   grants_few o short = absurd short
 
 -- ---- lists
@@ -266,6 +271,9 @@ turn_more v (e ∷ es) fs = turn_more (after v e) es fs
 
 its_own : (v : Target) (at : At) (r : RequestOf) (number : TxnOf) (locks : List Lock) → not (is_request_of (names_deed v at r number locks) r) ≡ false
 its_own v at r number locks = rw (self r.who.client, self r.who.life, self r.xid.0) refl
+
+its_answer : (v : Target) (at : At) (r : RequestOf) (a : Answer) → not (is_request_of (answered v at r a) r) ≡ false
+its_answer v at r a = rw (self r.who.client, self r.who.life, self r.xid.0) refl
 
 -- a deed's locks are shown, and it is answered
 abbrev Shown : ℕ → Target → Target → Type 0
@@ -501,14 +509,11 @@ module _ (n clients : ℕ) (v : Target) (s : Quiet clients v) (h : Below n v) wh
         disk = h.disk;
       }
 
-  goes_below : (m : ℕ) (w : Target) (at : At) (other : List Entry) → w.setting.id ≡ 0 → Below m w → Below m (turn w (if is_names w then names_go at w else other))
-  goes_below m w at other e low = subst (λ (k : ℕ). Below m (turn w (if nat_eq k 0 then names_go at w else other))) (sym e) (names_below m at w low)
-
-  -- where no lock is granted the size is told, and no number is given
-  sizes_below : (m : ℕ) (w : Target) (at : At) (r : RequestOf) (o : Op) → IsSize o → w.granted ≡ [] → Below m w → Below m (turn w (objects_go w at r o))
-  sizes_below m w at r (op.Size resource) is bare low =
+  -- where locks for reading alone are granted the size is told, and no number is given; or one more lock is granted
+  objects_below : (m : ℕ) (w : Target) (at : At) (r : RequestOf) (o : Op) → IsSize o ⊎ IsLock o → w.waiting ≡ [] → AllRead w.granted → In r w.queue → Below m w → Below m (turn w (objects_go w at r o))
+  objects_below m w at r (op.Size resource) is none reads i low =
       let d : Deed = answered w at r (told.Size (size_of w resource)) in
-      subst (λ (locks : List Lock). Below m (turn w (row_size w at r resource (highest (locks_on resource locks))))) (sym bare)
+      subst (λ (o : Option Lock). Below m (turn w (row_size w at r resource o))) (sym (none_written resource w reads))
       (fewer_below m w (turn w (row_sizes d))
       (record {
         number = refl;
@@ -519,32 +524,40 @@ module _ (n clients : ℕ) (v : Target) (s : Quiet clients v) (h : Below n v) wh
         disk = refl;
       })
       low)
-  sizes_below m w at r o is bare low = absurd is
+  objects_below m w at r (op.Enqueue resource PR extent) is none reads i low =
+      let l : Lock = grown w (locks_on resource w.waiting) (lock_for w r resource PR extent) in
+      let d : Deed = answered w at r (told.Granted l.cookie (extent_of l) (size_of w l.resource)) in
+      let kept : RequestOf → Bool = λ (q : RequestOf). not (is_request_of d q) in
+      subst (λ (es : List Entry). Below m (turn w es)) (sym (locks_now w at r resource extent none reads))
+      (acts_below m w (turn w (row_granted w at r l)) (every_filter RequestFits kept w.queue low.queue) (omega arith) (max_upto w.cookie (w.cookie + 1) (w.cookie + 33) (omega arith) (omega arith))
+      (filter_out kept r w.queue i (its_answer w at r (told.Granted l.cookie (extent_of l) (size_of w l.resource)))) (record { boot = refl; disk = refl }) low)
+  objects_below m w at r o (inl is) none reads i low = absurd is
+  objects_below m w at r o (inr is) none reads i low = absurd is
 
-  asked_below : (m : ℕ) (w : Target) (at : At) (r : RequestOf) → MayBeAsked w r.op → Below m w → Below m (turn w (goes at r w))
-  asked_below m w at r (inl names) low = goes_below m w at (objects_go w at r r.op) names low
-  asked_below m w at r (inr is) low =
+  asked_below : (m : ℕ) (w : Target) (at : At) (r : RequestOf) → MayBeAsked w r.op → w.waiting ≡ [] → In r w.queue → Below m w → Below m (turn w (goes at r w))
+  asked_below m w at r (inl names) none i low = subst (λ (k : ℕ). Below m (turn w (if nat_eq k 0 then names_go at w else objects_go w at r r.op))) (sym names) (names_below m at w low)
+  asked_below m w at r (inr is) none i low =
       let high = is.0 in
       let other : nat_eq w.setting.id 0 ≡ false = grind (arith, nat_tests) in
-      subst (λ (b : Bool). Below m (turn w (if b then names_go at w else objects_go w at r r.op))) (sym other) (sizes_below m w at r r.op is.1 is.2 low)
+      subst (λ (b : Bool). Below m (turn w (if b then names_go at w else objects_go w at r r.op))) (sym other) (objects_below m w at r r.op is.1 none is.2 i low)
 
   request_below : (at : At) (r : RequestOf) → MayBeAsked v r.op → IsShort r.op → Below (suc n) (turn v (row_request v at r))
   request_below at r asked short = by (slot_in v.slots r.who r.tag)
     where
       number : (k : Option ReplyTo) (above same : Bool) → Below (suc n) (turn v (by_number v at r k above same))
-      number k true same = asked_below (suc n) (after v (Enters r)) at r asked (enters_below r short)
+      number k true same = asked_below (suc n) (after v (Enters r)) at r asked s.waiting (in_right r v.queue (r ∷ []) (inl refl)) (enters_below r short)
       number k false true = more_below n (turn v (row_kept v k)) (kept_below n v k h)
       number k false false = more_below n v h
 
       by : (slot : Slot) → Below (suc n) (turn v (slot_of_request v at r slot))
       by slot = number slot.reply (nat_lt slot.taken r.xid.0) (nat_eq slot.taken r.xid.0)
 
-  cancels_below : (at : At) (o : Option Lock) → v.setting.id ≡ 0 → Below n (turn v (row_cancels v at o))
-  cancels_below at None names = h
-  cancels_below at (Some l) names =
-      follow_below n v (releases at l v) (goes_on l at)
-      (subst (λ (gs : List Glimpse). Below n (turn (turn v (Release l ∷ glimpses_end at (glimpses_of l gs) v)) (goes_on l at (turn v (Release l ∷ glimpses_end at (glimpses_of l gs) v))))) (sym s.glimpses)
-      (goes_below n (after v (Release l)) at (queue_goes l.resource (after v (Release l))) names (record { queue = h.queue; few = h.few; number = h.number; cookie = h.cookie; boot = h.boot; disk = h.disk })))
+  cancels_below : (at : At) (o : Option Lock) → Below n (turn v (row_cancels v at o))
+  cancels_below at None = h
+  cancels_below at (Some l) =
+      follow_going clients n (releases at l v) (goes_on l at) v s (releases_served (Unit {0}) clients at l v s) (releases_below clients n at l v s h)
+      (λ w q b. cond_both (is_names w) (names_go at w) (queue_goes l.resource w) (λ (es : List Entry). Below n (turn w es)) (λ t. names_below n at w b)
+      (λ t. subst (λ (es : List Entry). Below n (turn w es)) (sym (queue_none l.resource w q.waiting)) b))
 
   -- one of an older boot is told the present one, and a life without a slot that it is over
   slot_below : (m : ℕ) (who : Who) (rest : List Entry) (has : Bool) → Below m v → Below m (turn v rest) → Below m (turn v (by_slot v who has rest))
@@ -587,7 +600,7 @@ module _ (n clients : ℕ) (v : Target) (s : Quiet clients v) (h : Below n v) wh
           (serving_below (suc n) (row_request v at r) (more_below n v h) (request_below at r is.0 fits))
       by (message.Cancel who boot cookie) is fits =
           more_below n (turn v (row_heeds v at (message.Cancel who boot cookie)))
-          (heeds_below n who boot (while_serving v (row_cancel v at who cookie)) h (serving_below n (row_cancel v at who cookie) h (cancels_below at (lock_of who cookie v.granted) is.0)))
+          (heeds_below n who boot (while_serving v (row_cancel v at who cookie)) h (serving_below n (row_cancel v at who cookie) h (cancels_below at (lock_of who cookie v.granted))))
       by (message.Join who boot) is fits =
           more_below n (turn v (row_heeds v at (message.Join who boot)))
           (boot_below n who (if is_serving v then row_join v at who else row_wish v at who) (nat_lt boot v.boot) h (joins_below at who is.1))

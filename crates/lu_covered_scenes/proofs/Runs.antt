@@ -196,7 +196,7 @@ module _ (scene : Scene) (covered : IsCovered scene) (disks : Disks) where
   step_keeps c [] s l = λ d e spared. absurd (cc)
   step_keeps c (Call who slot call ∷ rest) s l =
       let k = l.known.0 in
-      alive_keeps c who (client.Begins slot (with_stripes call)) rest s (rest_left c (Call who slot call) rest l) (k.asks, k.among) (λ up. (record { one = k.one; alive = up }, k.small, k.limits))
+      alive_keeps c who (client.Begins slot (with_stripes call)) rest s (rest_left c (Call who slot call) rest l) (k.asks, k.among, k.limits) (λ up. (record { one = k.one; alive = up }, k.small, k.limits))
   step_keeps c (Run ∷ rest) s l = runs_keeps c (least_unspent c.posts) rest (Run ∷ rest) (Run ∷ rest) s (rest_left c Run rest l) l l
   step_keeps c (RunSome zero ∷ rest) s l = left_moved c rest s (rest_left c (RunSome zero) rest l)
   step_keeps c (RunSome (suc k) ∷ rest) s l =
@@ -236,7 +236,14 @@ module _ (scene : Scene) (covered : IsCovered scene) (disks : Disks) where
   calm_first : (who : ℕ) → Calm (MayAsk scene) head.osts (client_of head who [])
   calm_first who =
       subst (Calm (MayAsk scene) head.osts) (sym (client_first (limits_of head) who))
-      (record { handles = tt; calls = (tt, (tt, (tt, (tt, tt)))); imports = imports_calm 0 ((limits_of head).osts + 1); targets = imports_count ((limits_of head).osts + 1); facts = tt; held = tt; patches = refl })
+      (record {
+        handles = tt;
+        calls = (tt, (tt, (tt, (tt, tt))));
+        imports = imports_calm 0 ((limits_of head).osts + 1);
+        targets = imports_count ((limits_of head).osts + 1);
+        facts = tt;
+        store = record { held = tt; sizes = λ n i. absurd i; patches = refl };
+      })
 
   first_time : Timely scene (ticks_of scene.lines) []
   first_time quiet = by quiet.evicts

@@ -11,7 +11,10 @@ use Rattle.lu_base.specs.declared.ids.Node.{Node}
 use Rattle.lu_base.specs.declared.ids.Who.{Who}
 use Rattle.lu_base.specs.declared.locks.Cause.{Cause}
 use Rattle.lu_base.specs.declared.locks.Cause.TheVariants.{Expired, Replaced}
+use Rattle.lu_base.specs.declared.locks.Extent.{Extent}
 use Rattle.lu_base.specs.declared.locks.Lock.{Lock}
+use Rattle.lu_base.specs.declared.locks.Mode.TheVariants.{PR}
+use Rattle.lu_base.specs.declared.locks.Resource.{Resource}
 use Rattle.lu_msg.specs.declared.messages.Message.{Message}
 use Rattle.lu_msg.specs.declared.messages.Message.TheVariants as message
 use Rattle.lu_msg.specs.declared.messages.Reply.{Reply as ReplyTo}
@@ -24,15 +27,17 @@ use Rattle.lu_target_rows.specs.Glimpses.{glimpses_of, glimpses_end, highest, ro
 use Rattle.lu_target_rows.specs.Leaving.{commits, evicted, ready, all_released, locks_of, evictions, all_go, is_due, condemned, expels, block_again, sends_again, ticked, row_tick, life_of, admits, row_admits, by_life, is_over, row_join}
 use Rattle.lu_target_rows.specs.Lives.{is_life, with_life, slot_in}
 use Rattle.lu_target_rows.specs.Names.{does_change, is_read, is_ready, written_by, in_way, grant_lines, row_executes, row_waits, row_pass, row_sweep, names_go}
-use Rattle.lu_target_rows.specs.Objects.{lock_of, objects_go}
-use Rattle.lu_target_rows.specs.Queues.{queue_goes, queues_go, resources_of, all_queues_go}
+use Rattle.lu_target_rows.specs.Objects.{lock_of, lock_for, row_granted, row_waiting, row_enqueue, objects_go}
+use Rattle.lu_target_rows.specs.Queues.{has_to_wait, grown, blocks_go, grants_go, queue_goes, queues_go, resources_of, all_queues_go}
 use Rattle.lu_target_rows.specs.Recovery.{row_replay, row_lock, row_word, row_wish, row_boot, row_close}
 use Rattle.lu_target_rows.specs.Replies.{is_called, called, block_of, blocks, replies, row_kept, locks_on}
 use Rattle.lu_target_rows.specs.Requests.{goes, by_number, by_slot as slot_of_request, row_request, releases, goes_on, row_cancels, row_cancel}
 use Rattle.lu_target_rows.specs.Rows.{by_boot, by_slot, heeds, while_serving, while_recovering, of_boot, lock_again, row_heeds, first_deeds, row_commits, row_commit, row_closes}
 use Rattle.lu_target_rows.specs.Rows as target
 use Rattle.lu_target_rows.specs.States.{Target, is_names, is_serving, after, turn, follow}
-use Rattle.lu_lawful.proofs.ClientLines.{IsSize}
+use Rattle.lu_lawful.proofs.ClientLines.{IsSize, IsLock}
+use Rattle.lu_lawful.proofs.TargetReads.{clear}
+use Rattle.lu_lawful.proofs.TargetSizes.{AllRead, none_highest, reads_on}
 use Rattle.lu_covered_scenes.proofs.Every.{every_more, every_so}
 use Rattle.lu_covered_scenes.proofs.Asking.{IsOf}
 use Rattle.lu_covered_scenes.proofs.Served.{LineServed, AllServed, Quiet, quiet_turn, served_still}
@@ -46,20 +51,43 @@ pub record Spoken (MayAsk : Type 0) (clients : ℕ) (v : Target) (who : Who) (bo
   pub older : nat_lt boot v.boot ≡ true → MayAsk
   pub without : is_life who v.lives ≡ false → MayAsk
 
--- what the metadata target may be asked; and another one, which has granted no lock: how long an object is
+-- what the metadata target may be asked; and another one, which has granted locks for reading alone: how long an object is, or such a lock
 abbrev pub MayBeAsked : Target → Op → Type 0
-MayBeAsked v o = (v.setting.id ≡ 0) ⊎ ((0 < v.setting.id) × IsSize o × (v.granted ≡ []))
+MayBeAsked v o = (v.setting.id ≡ 0) ⊎ ((0 < v.setting.id) × (IsSize o ⊎ IsLock o) × AllRead v.granted)
 
--- which messages may come: locks that are given back come to the metadata target alone, requests to each, and so do the others, where a turn
--- may ask a disk
+-- which messages may come: requests, and locks that are given back; the others, where a turn may ask a disk
 abbrev pub MessageServed : Type 0 → (clients : ℕ) → Target → Message → Type 0
 MessageServed MayAsk clients v (message.Request r) = MayBeAsked v r.op × Spoken MayAsk clients v r.who r.boot
-MessageServed MayAsk clients v (message.Cancel who boot cookie) = (v.setting.id ≡ 0) × Spoken MayAsk clients v who boot
+MessageServed MayAsk clients v (message.Cancel who boot cookie) = Spoken MayAsk clients v who boot
 MessageServed MayAsk clients v (message.Join who boot) = MayAsk × IsOf clients who
 MessageServed MayAsk clients v (message.Replay r) = MayAsk × IsOf clients r.who
 MessageServed MayAsk clients v (message.Lock r) = MayAsk × IsOf clients r.who
 MessageServed MayAsk clients v (message.Word who boot replays locks seen) = MayAsk × IsOf clients who
 MessageServed MayAsk clients v _ = ⊥
+
+-- ---- a target at which no lock waits, and whose granted locks are for reading alone
+
+-- no write lock is granted
+pub none_written : (resource : Resource) (v : Target) → AllRead v.granted → highest (locks_on resource v.granted) ≡ None
+none_written resource v reads = none_highest (locks_on resource v.granted) (reads_on resource v.granted reads)
+
+-- so one for reading needn't wait
+pub no_wait : (v : Target) (l : Lock) → l.ask.mode ≡ PR → v.waiting ≡ [] → AllRead v.granted → has_to_wait v (locks_on l.resource v.waiting) l ≡ false
+no_wait v l is none reads =
+    ap (λ (ls : List Lock). has_to_wait v (locks_on l.resource ls) l) none
+    ∙ ap (λ (b : Bool). b || false) (clear l.ask (locks_on l.resource v.granted) is (reads_on l.resource v.granted reads))
+
+-- it is granted at once
+pub locks_now : (v : Target) (at : At) (r : RequestOf) (resource : Resource) (extent : Extent) → v.waiting ≡ [] → AllRead v.granted
+    → row_enqueue v at r (lock_for v r resource PR extent) ≡ row_granted v at r (grown v (locks_on resource v.waiting) (lock_for v r resource PR extent))
+locks_now v at r resource extent none reads =
+    let l : Lock = lock_for v r resource PR extent in
+    ap (λ (b : Bool). if b then row_waiting v at r l else row_granted v at r (grown v (locks_on resource v.waiting) l)) (no_wait v l refl none reads)
+
+-- and no queue goes on
+pub queue_none : (resource : Resource) (v : Target) → v.waiting ≡ [] → queue_goes resource v ≡ []
+queue_none resource v none =
+    ap (λ (ls : List Lock). follow v (grants_go [] (locks_on resource ls) v) (λ w. blocks_go (locks_on resource w.waiting) w)) none ∙ ap (λ (ls : List Lock). blocks_go (locks_on resource ls) v) none
 
 -- ---- requests that wait go on
 
@@ -103,19 +131,20 @@ module _ (MayAsk : Type 0) (clients : ℕ) where
   pub names_served : (at : At) (v : Target) → All (names_go at v)
   names_served at v = sweep_served (length v.queue + 1) at v
 
-  -- a target that has granted no lock tells the size itself
-  sizes_served : (at : At) (v : Target) (r : RequestOf) (o : Op) → IsSize o → v.granted ≡ [] → All (objects_go v at r o)
-  sizes_served at v r (op.Size resource) is none =
-      subst (λ (locks : List Lock). All (row_size v at r resource (highest (locks_on resource locks)))) (sym none) (tt, (tt, tt))
-  sizes_served at v r o is none = absurd is
+  -- a target that has granted locks for reading alone tells the size itself, and grants another one
+  objects_served : (at : At) (v : Target) (r : RequestOf) (o : Op) → IsSize o ⊎ IsLock o → v.waiting ≡ [] → AllRead v.granted → All (objects_go v at r o)
+  objects_served at v r (op.Size resource) is none reads = subst (λ (o : Option Lock). All (row_size v at r resource o)) (sym (none_written resource v reads)) (tt, (tt, tt))
+  objects_served at v r (op.Enqueue resource PR extent) is none reads = subst All (sym (locks_now v at r resource extent none reads)) (tt, (tt, tt))
+  objects_served at v r o (inl is) none reads = absurd is
+  objects_served at v r o (inr is) none reads = absurd is
 
   -- a request goes on
-  goes_served : (at : At) (v : Target) (r : RequestOf) → MayBeAsked v r.op → All (goes at r v)
-  goes_served at v r (inl names) = subst (λ (n : ℕ). All (if nat_eq n 0 then names_go at v else objects_go v at r r.op)) (sym names) (names_served at v)
-  goes_served at v r (inr is) =
+  goes_served : (at : At) (v : Target) (r : RequestOf) → Quiet clients v → MayBeAsked v r.op → All (goes at r v)
+  goes_served at v r s (inl names) = subst (λ (n : ℕ). All (if nat_eq n 0 then names_go at v else objects_go v at r r.op)) (sym names) (names_served at v)
+  goes_served at v r s (inr is) =
       let high = is.0 in
       let other : nat_eq v.setting.id 0 ≡ false = grind (arith, nat_tests) in
-      subst (λ (b : Bool). All (if b then names_go at v else objects_go v at r r.op)) (sym other) (sizes_served at v r r.op is.1 is.2)
+      subst (λ (b : Bool). All (if b then names_go at v else objects_go v at r r.op)) (sym other) (objects_served at v r r.op is.1 s.waiting is.2)
 
   -- what waited goes on: no lock waits in a queue
   pub all_go_served : (at : At) (v : Target) → Quiet clients v → All (all_go at v)
@@ -206,22 +235,18 @@ module _ (MayAsk : Type 0) (clients : ℕ) where
     request_served at r asked = by (slot_in v.slots r.who r.tag)
       where
         number : (k : Option ReplyTo) (above same : Bool) → All (by_number v at r k above same)
-        number k true same = (tt, goes_served at (after v (Enters r)) r asked)
+        number k true same = (tt, goes_served at (after v (Enters r)) r (quiet_turn ⊥ MayAsk clients v (Enters r ∷ []) (tt, tt) s) asked)
         number k false true = kept_served v k
         number k false false = tt
 
         by : (slot : Slot) → All (slot_of_request v at r slot)
         by slot = number slot.reply (nat_lt slot.taken r.xid.0) (nat_eq slot.taken r.xid.0)
 
-    cancels_served : (at : At) (o : Option Lock) → v.setting.id ≡ 0 → All (row_cancels v at o)
-    cancels_served at None names = tt
-    cancels_served at (Some l) names =
-        every_more (LineServed ⊥ MayAsk clients) (releases at l v) (goes_on l at (turn v (releases at l v))) (releases_served at l v s)
-        (subst (λ (n : ℕ). All (if nat_eq n 0 then names_go at (turn v (releases at l v)) else queue_goes l.resource (turn v (releases at l v)))) (sym (stays (releases at l v) v names)) (names_served at (turn v (releases at l v))))
-      where
-        stays : (es : List Entry) (w : Target) → w.setting.id ≡ 0 → (turn w es).setting.id ≡ 0
-        stays [] w e = e
-        stays (x ∷ es) w e = stays es (after w x) e
+    cancels_served : (at : At) (o : Option Lock) → All (row_cancels v at o)
+    cancels_served at None = tt
+    cancels_served at (Some l) =
+        follow_served (releases at l v) (goes_on l at) v s (releases_served at l v s)
+        (λ w q. cond_both (is_names w) (names_go at w) (queue_goes l.resource w) All (λ t. names_served at w) (λ t. subst All (sym (queue_none l.resource w q.waiting)) tt))
 
 pub comes_served : (MayAsk : Type 0) (clients : ℕ) (v : Target) (at : At) (n : ℕ) (from : Node) (m : Message) → Quiet clients v → MessageServed MayAsk clients v m → AllServed ⊥ MayAsk clients (target.row v at (target.Comes n from m))
 comes_served MayAsk clients v at n from m s is = (tt, by m is)
@@ -233,7 +258,8 @@ comes_served MayAsk clients v at n from m s is = (tt, by m is)
     by : (m : Message) → MessageServed MayAsk clients v m → AllServed ⊥ MayAsk clients (row_heeds v at m)
     by (message.Request r) is = heeds_served MayAsk clients v s r.who r.boot (while_serving v (row_request v at r)) is.1 (while_served MayAsk clients v s (row_request v at r) (request_served MayAsk clients v s at r is.0))
     by (message.Cancel who boot cookie) is =
-        heeds_served MayAsk clients v s who boot (while_serving v (row_cancel v at who cookie)) is.1 (while_served MayAsk clients v s (row_cancel v at who cookie) (cancels_served MayAsk clients v s at (lock_of who cookie v.granted) is.0))
+        heeds_served MayAsk clients v s who boot (while_serving v (row_cancel v at who cookie)) is
+        (while_served MayAsk clients v s (row_cancel v at who cookie) (cancels_served MayAsk clients v s at (lock_of who cookie v.granted)))
     by (message.Join who boot) is =
         boot_heard MayAsk clients v s who boot (if is_serving v then row_join v at who else row_wish v at who) (nat_lt boot v.boot) refl is.1 (λ e. is.0) (join_heard MayAsk clients v s at who is.0 is.1)
     by (message.Replay r) is =

@@ -35,7 +35,7 @@ use Rattle.lu_lawful.proofs.Asked.{Began}
 use Rattle.lu_lawful.proofs.Unlocked.{unlocked, uncalled_other}
 use Rattle.lu_covered_scenes.specs.Covered as scenes
 use Rattle.lu_covered_scenes.specs.Covered.{IsCovered, IsNoCommand, AsksNoDisk}
-use Rattle.lu_covered_scenes.proofs.Arrivals.{Arrives, grants_none, target_served}
+use Rattle.lu_covered_scenes.proofs.Arrivals.{Arrives, grants_reads, target_served}
 use Rattle.lu_covered_scenes.proofs.Asking.{AllSuit, turn_suits}
 use Rattle.lu_covered_scenes.proofs.Clients.{Calm, AllCalm, turn_calm, lines_covered, lines_suit}
 use Rattle.lu_covered_scenes.proofs.ClientRows.{EventCalm, row_calm}
@@ -322,7 +322,7 @@ module _ (scene : Scene) (covered : IsCovered scene) where
 
     arrives : Arrives scene covered (covered_head head) head.osts (past_of c) (past_grown c s) s.suits s.begun t its m
     arrives = target_served scene covered (covered_head head) head.osts (past_of c) (past_grown c s) s.suits s.begun t its refl
-        (grants_none (covered_head head) (setting_of head t) head.clients (past_of c) (past_grown c s)) (lives_stay c s t) (boot_stays c s t) n from m sent
+        (grants_reads (covered_head head) (setting_of head t) head.clients (past_of c) (past_grown c s)) (lives_stay c s t) (boot_stays c s t) n from m sent
 
     served : AllServed ⊥ (MayAsk scene) head.clients (lines_at c (node.Target t) heard)
     served = comes_served (MayAsk scene) head.clients its (next_at c (node.Target t)) n from m (target_quiet c s t) arrives.served
@@ -357,7 +357,7 @@ module _ (scene : Scene) (covered : IsCovered scene) where
       by : IsTimely scene (left + 1) (past_of c) → NoneDue c 0
       by (inl low) = expires_none (target_of head 0 (past_of c)) (omega (arith, low))
       by (inr miss) =
-          uncalled_none (target_of head 0 (past_of c)) (uncalled c s quiet 0 (unlocked (covered_head head) (past_of c) (past_grown c s) (all_miss scene miss (past_of c) s.begun) 0).1)
+          uncalled_none (target_of head 0 (past_of c)) (uncalled c s quiet 0 (unlocked (covered_head head) (past_of c) (past_grown c s) (all_miss scene miss (past_of c) s.begun)).1)
 
   pub others_due : (c : Config) (t : ℕ) → Sound scene c → (t ≡ 0 → ⊥) → AsksNoDisk scene → NoneDue c t
   others_due c t s other quiet = uncalled_none (target_of head t (past_of c)) (uncalled c s quiet t (uncalled_other (covered_head head) (past_of c) (past_grown c s) t other))

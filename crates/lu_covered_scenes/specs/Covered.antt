@@ -1,17 +1,17 @@
--- The scenarios whose runs the theorem covers so far: clients begin calls on names, opens and closes among them, and the calls `flush` and
--- `glimpse`, messages come or are lost, time goes on, clients die, and targets are given all commands: they commit, all of it or some, crash,
--- boot, recover and close their windows, when they are told to or once every life is back. No call reads or changes bytes, so each object that a
--- `glimpse` asks for is empty. A `stat` must find no file: for its size it would ask for locks on its objects. Whoever doesn't give back a lock
--- in time, or doesn't come back in a window, is evicted, and joins in a new life.
+-- The scenarios whose runs the theorem covers so far: clients begin calls on names, opens and closes among them, and the calls `read`, `flush`
+-- and `glimpse`, messages come or are lost, time goes on, clients die, and targets are given all commands: they commit, all of it or some,
+-- crash, boot, recover and close their windows, when they are told to or once every life is back. No call changes bytes, so each object that a
+-- `read` or a `glimpse` asks for is empty, and so is each file that a `stat` finds. Whoever doesn't give back a lock in time, or doesn't come
+-- back in a window, is evicted, and joins in a new life.
 use Rattle.std.specs.Prelude.{◌<◌, ◌+◌, ℕ, zero, List, [], ◌∷◌, All, ◌⊎◌}
 use Rattle.lu_base.specs.declared.ids.Node.TheVariants.{Target}
 use Rattle.lu_msg.specs.declared.calls.Call.{Call as CallOf}
-use Rattle.lu_msg.specs.declared.calls.Call.TheVariants.{Read, Write, Cut}
+use Rattle.lu_msg.specs.declared.calls.Call.TheVariants.{Write, Cut}
 use Rattle.lu_scene.specs.declared.scene.Scene.{Scene}
 use Rattle.lu_scene.specs.declared.scene.SceneLine.{SceneLine}
 use Rattle.lu_scene.specs.declared.scene.SceneLine.TheVariants.{Call, Run, RunSome, Deliver, Lose, Tick, Commit, CommitSome, Crash, Boot, Close, Die}
 use Rattle.lu_table.specs.Limits.{KeepsLimits}
-use Rattle.lu_covered.specs.Makes.{Path, CallMakes, CallMakesFile, Misses, StatsNoFile}
+use Rattle.lu_covered.specs.Makes.{Path, CallMakes, Misses}
 
 -- ---- which paths are made
 
@@ -25,45 +25,30 @@ abbrev pub IsMade : List SceneLine → Path → Type 0
 IsMade [] path = ⊥
 IsMade (line ∷ lines) path = Makes line path ⊎ IsMade lines path
 
--- and then it may lead to a file
-abbrev pub MakesFile : SceneLine → Path → Type 0
-MakesFile (Call client slot call) path = CallMakesFile call path
-MakesFile _ path = ⊥
-
-abbrev pub IsFile : List SceneLine → Path → Type 0
-IsFile [] path = ⊥
-IsFile (line ∷ lines) path = MakesFile line path ⊎ IsFile lines path
-
 -- ---- which lines are covered
 
--- a call that neither reads nor changes bytes
-abbrev pub IsWithoutBytes : CallOf → Type 0
-IsWithoutBytes (Read handle offset size) = ⊥
-IsWithoutBytes (Write handle offset bytes) = ⊥
-IsWithoutBytes (Cut handle size) = ⊥
-IsWithoutBytes _ = Unit {0}
+-- a call that changes no bytes
+abbrev pub ChangesNoBytes : CallOf → Type 0
+ChangesNoBytes (Write handle offset bytes) = ⊥
+ChangesNoBytes (Cut handle size) = ⊥
+ChangesNoBytes _ = Unit {0}
 
--- a line that is covered where these are the paths that may lead to files
-abbrev pub IsLineCovered : (Path → Type 0) → SceneLine → Type 0
-IsLineCovered Files (Call client slot call) = IsWithoutBytes call × StatsNoFile Files call
-IsLineCovered Files Run = Unit {0}
-IsLineCovered Files (RunSome turns) = Unit {0}
-IsLineCovered Files (Deliver number) = Unit {0}
-IsLineCovered Files (Lose number) = Unit {0}
-IsLineCovered Files (Tick node) = Unit {0}
-IsLineCovered Files (Commit target) = Unit {0}
-IsLineCovered Files (CommitSome target count) = Unit {0}
-IsLineCovered Files (Crash target) = Unit {0}
-IsLineCovered Files (Boot target) = Unit {0}
-IsLineCovered Files (Close target) = Unit {0}
-IsLineCovered Files (Die client) = Unit {0}
-
--- these are all lines of a scenario, and one that is covered among them
-abbrev pub IsCoveredIn : List SceneLine → SceneLine → Type 0
-IsCoveredIn lines line = IsLineCovered (IsFile lines) line
+abbrev pub IsLineCovered : SceneLine → Type 0
+IsLineCovered (Call client slot call) = ChangesNoBytes call
+IsLineCovered Run = Unit {0}
+IsLineCovered (RunSome turns) = Unit {0}
+IsLineCovered (Deliver number) = Unit {0}
+IsLineCovered (Lose number) = Unit {0}
+IsLineCovered (Tick node) = Unit {0}
+IsLineCovered (Commit target) = Unit {0}
+IsLineCovered (CommitSome target count) = Unit {0}
+IsLineCovered (Crash target) = Unit {0}
+IsLineCovered (Boot target) = Unit {0}
+IsLineCovered (Close target) = Unit {0}
+IsLineCovered (Die client) = Unit {0}
 
 abbrev pub AllLinesCovered : List SceneLine → Type 0
-AllLinesCovered lines = All (IsCoveredIn lines) lines
+AllLinesCovered lines = All IsLineCovered lines
 
 -- ---- scenarios
 
@@ -90,7 +75,8 @@ ticks_of [] = 0
 ticks_of (Tick (Target zero) ∷ lines) = ticks_of lines + 1
 ticks_of (line ∷ lines) = ticks_of lines
 
--- a line's call asks for no path that is made, if it reads: then it is granted no lock. An `open` reads nothing, nor does a call on a handle
+-- a line's call asks for no path that is made, if it is a reading of names: then it is granted no lock on them. An `open` is none, nor is a call
+-- on a handle; the locks on objects that a `read` or a `stat` is granted are never called back, since nobody writes
 abbrev pub LineMisses : (Path → Type 0) → SceneLine → Type 0
 LineMisses Made (Call client slot call) = Misses Made call
 LineMisses Made _ = Unit {0}
@@ -98,7 +84,7 @@ LineMisses Made _ = Unit {0}
 abbrev pub AllMiss : List SceneLine → Type 0
 AllMiss lines = All (LineMisses (IsMade lines)) lines
 
--- no lock that is called back expires: the metadata target's time doesn't go on so often, or no lock is granted. So no client is evicted
+-- no lock that is called back expires: the metadata target's time doesn't go on so often, or no lock on names is granted. So no client is evicted
 abbrev pub EvictsNone : Scene → Type 0
 EvictsNone scene = (ticks_of scene.lines < scene.head.expire) ⊎ AllMiss scene.lines
 

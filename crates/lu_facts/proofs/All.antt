@@ -29,7 +29,7 @@ use Rattle.lu_facts.proofs.Replies.{keeps_replies}
 step_at : (head : Head) (past : List Line) (stamp : Stamp) (node : Node) (e : Entry) → EntryOf head past (turn stamp node) node e → IsOfFirst e → IsPlaced head past (line (turn stamp node) e) → HoldsAt head past → HoldsAt head (line (turn stamp node) e ∷ past)
 step_at head past stamp node e ok first placed h =
     let done : Done head.osts head.clients (line (turn stamp node) e ∷ past) = keeps_done head past stamp node e ok h in
-    let locks : Locks head.osts head.clients (line (turn stamp node) e ∷ past) = keeps_locks head past stamp node e ok first placed h in
+    let locks : Locks head.osts head.clients (line (turn stamp node) e ∷ past) = keeps_locks head past stamp node e ok placed h in
     record {
       phase = keeps_phase head past stamp node e ok h;
       numbers = keeps_numbers head past stamp node e ok h;
@@ -71,12 +71,12 @@ holds_at head (l ∷ past) g = step_at head past l.at.stamp l.at.node l.entry g.
 step : (head : Head) (past : List Line) (stamp : Stamp) (node : Node) (e : Entry) → Grown head past → Allowed head past (turn stamp node) e → ((t : ℕ) → HoldsAt head (only t (line (turn stamp node) e ∷ past))) → Holds head past
     → Holds head (line (turn stamp node) e ∷ past)
 step head past stamp node e g a at h =
-    let reaches : Reaches (line (turn stamp node) e ∷ past) = keeps_reaches head past stamp node e a.steps a.ok a.of h.reaches in
+    let reaches : Reaches (line (turn stamp node) e ∷ past) = keeps_reaches head past stamp node e a.steps a.ok a.of a.owes h.reaches in
     record {
       at = at;
       asks = keeps_asks head past stamp node e g a.closes a.ok a.of h.asks;
       reaches = reaches;
-      since = keeps_since head past stamp node e a.closes a.ok a.of h.at h.asks reaches h.since;
+      since = keeps_since head past stamp node e a.closes a.ok a.of a.owes h.at h.asks reaches h.since;
       replies = keeps_replies head past g h.at h.asks h.since stamp node e a.ok a.of h.replies;
     }
 

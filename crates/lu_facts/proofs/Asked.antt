@@ -5,6 +5,7 @@ use Rattle.std.proofs.lemmas.Bool.{and_parts, cond_both, eqb-true}
 use Rattle.lu_base.specs.declared.ids.Node.{Node}
 use Rattle.lu_base.specs.declared.ids.Node.TheVariants.{Client, Target}
 use Rattle.lu_base.specs.declared.ids.Who.{Who}
+use Rattle.lu_base.specs.declared.locks.Mode.TheVariants.{PR}
 use Rattle.lu_msg.specs.declared.calls.Call.{Call}
 use Rattle.lu_msg.specs.declared.calls.Call.TheVariants as call
 use Rattle.lu_msg.specs.declared.operations.Op.{Op}
@@ -18,7 +19,7 @@ use Rattle.lu_covered.specs.Imports.{rest, queue_at}
 use Rattle.lu_covered.specs.Known.{notes_at, known_answer}
 use Rattle.lu_covered.specs.ClientStates.{is_own}
 use Rattle.lu_covered.specs.Heads.{Head}
-use Rattle.lu_guards.proofs.Guards.{In, NamesAskOk, SizeAskOk, QueuesOk, EntryOk}
+use Rattle.lu_guards.proofs.Guards.{In, NamesAskOk, SizeAskOk, LockAskOk, QueuesOk, EntryOk}
 use Rattle.lu_guards.proofs.Grown.{Allowed, Grown}
 use Rattle.lu_guards.proofs.Lists.{self, in_append}
 use Rattle.lu_guards.proofs.Parts.{queue_now}
@@ -79,9 +80,10 @@ queued_asked : (head : Head) (past : List Line) → Grown head past → (c : ℕ
 queued_asked head [] g c q i = absurd i
 queued_asked head (l ∷ past) g c q i = asked_more l past q.op (by l.at.node l.entry g.0.ok (queued_asked head past g.1 c q) i)
   where
-    asks : (d v : ℕ) (o : Op) (r : Running) (s : ℕ) → call_at d s past ≡ Some r → 0 ≡ v → NamesAskOk past d v r o ⊎ SizeAskOk v r o → AskedBy past o
+    asks : (d v : ℕ) (o : Op) (r : Running) (s : ℕ) → call_at d s past ≡ Some r → 0 ≡ v → NamesAskOk past d v r o ⊎ SizeAskOk v r o ⊎ LockAskOk v r o → AskedBy past o
     asks d v o r s is first (inl a) = (r.call, began_call head past g.1 d s r is, r.file, a.becomes)
-    asks d v o r s is first (inr a) = absurd (let high = a.object in omega (arith, first, high))
+    asks d v o r s is first (inr (inl a)) = absurd (let high = a.object in omega (arith, first, high))
+    asks d v o r s is first (inr (inr a)) = absurd (let high = a.object in omega (arith, first, high))
 
     by : (node : Node) (e : Entry) → EntryOk past (turn l.at.stamp node) node e → (In q (queue_at c 0 past) → AskedBy past q.op) → In q (queue_at c 0 (line (turn l.at.stamp node) e ∷ past)) → AskedBy past q.op
     by (Client d) (Queues v new) ok h =
@@ -155,9 +157,10 @@ root_known n file k e none = absurd (cc)
 queues_other : (past : List Line) (c t : ℕ) (q : Queued) → QueuesOk past c t q → q.op ≡ op.Lookup [] → ⊥
 queues_other past c t q ok is = by ok.asks
   where
-    by : NamesAskOk past c t ok.running q.op ⊎ SizeAskOk t ok.running q.op → ⊥
+    by : NamesAskOk past c t ok.running q.op ⊎ SizeAskOk t ok.running q.op ⊎ LockAskOk t ok.running q.op → ⊥
     by (inl a) = root_known (notes_at c past) ok.running.file ok.running.call (a.becomes ∙ ap (λ (o : Op). Some o) is) a.unknown
-    by (inr a) = let both : op.Lookup [] ≡ op.Size a.wanted.resource = sym is ∙ a.of_op in absurd (cc)
+    by (inr (inl a)) = let both : op.Lookup [] ≡ op.Size a.wanted.resource = sym is ∙ a.of_op in absurd (cc)
+    by (inr (inr a)) = let both : op.Lookup [] ≡ op.Enqueue a.wanted.resource PR a.extent = sym is ∙ a.of_op in absurd (cc)
 
 queued_other : (head : Head) (past : List Line) → Grown head past → (c t : ℕ) (q : Queued) → In q (queue_at c t past) → q.op ≡ op.Lookup [] → ⊥
 queued_other head [] g c t q i = absurd i

@@ -1,6 +1,6 @@
 -- The slots on the disk: each commit puts there the replies to what it has, of each life and tag the last one; that of a close puts there
 -- what the target goes on from.
-use Rattle.std.proofs.Common.{◌≡◌, ℕ, ◌+◌, ◌*◌, ◌<◌, ◌≤◌, Bool, true, false, List, [], ◌∷◌, ◌++◌, Some, ◌⊎◌, inl, inr, ⊎_elim, refl, sym, subst, ap, ◌∙◌, arith}
+use Rattle.std.proofs.Common.{◌≡◌, ℕ, ◌+◌, ◌*◌, ◌<◌, ◌≤◌, Bool, true, false, List, [], ◌∷◌, ◌++◌, Some, None, ◌⊎◌, inl, inr, ⊎_elim, refl, sym, subst, ap, ◌∙◌, arith}
 use Rattle.std.specs.Prelude.{nat_lt, not}
 use Rattle.std.specs.List.{filter}
 use Rattle.std.proofs.lemmas.Bool.{or_parts, not-true}
@@ -17,7 +17,7 @@ use Rattle.lu_msg.specs.declared.commits.Transaction.{Transaction}
 use Rattle.lu_msg.specs.declared.messages.Message.{Message}
 use Rattle.lu_msg.specs.declared.messages.Reply.{Reply as ReplyTo}
 use Rattle.lu_words.specs.Carried.{Deed, Disk, Gone, Outcome, Slot}
-use Rattle.lu_words.specs.Words.{Entry, Send, Heard, Act, Txn as Made, Commit, Boot, Close, Line, line, same_life}
+use Rattle.lu_words.specs.Words.{Entry, Send, Heard, Act, Txn as Made, Grant, Commit, Boot, Close, Line, line, same_life}
 use Rattle.lu_target_rows.specs.Lives.{is_life, no_slot, slot_in, slots_kept, lives_of as lives_in}
 use Rattle.lu_target_rows.specs.Recovery.{kept_lines, restore_lines}
 use Rattle.lu_target_rows.specs.Stored.{batch_of, stored}
@@ -32,6 +32,7 @@ use Rattle.lu_guards.proofs.Lists.{in_append, in_filter, in_filtered}
 use Rattle.lu_guards.proofs.LifeLists.{any_lives}
 use Rattle.lu_facts.proofs.Groups.{turn, Acted, HasSlot, Evicted, IsMade, Stands, Rebuilt, StoredFor, OnDisk, DiskSlots, Coming, Comes, HoldsAt}
 use Rattle.lu_facts.proofs.DoneGrows.{rebuilt_more}
+use Rattle.lu_facts.proofs.GrantLines.{grant_made}
 use Rattle.lu_facts.proofs.DoneSends.{rebuilt_sent}
 use Rattle.lu_facts.proofs.DoneCloses.{old_boot, stands_before, stored_still}
 use Rattle.lu_facts.proofs.SlotLists.{NoneFalls, OfSlot, rises_falls, falls_filter, slot_gone, last_in, above_in, last_upto, last_most}
@@ -257,6 +258,13 @@ keeps_disk head past stamp (Target t) (Made d) ok p h =
       kept = λ who tag k e. stored_more head.osts past new (disk_of head.osts head.clients past).committed who tag k (λ g a. inr a) (λ g s. s) (λ r. r) (h.disk.kept who tag k e);
       slots = h.disk.slots;
     }
+keeps_disk head past stamp (Target t) (Grant lock (Some d)) ok p h =
+    let new : List Line = line (turn stamp (Target t)) (Grant lock (Some d)) ∷ past in
+    record {
+      high = λ g a m s low out. h.disk.high g (grant_made head.osts past (turn stamp (Target t)) t lock d ok g a m) m s low out;
+      kept = λ who tag k e. stored_more head.osts past new (disk_of head.osts head.clients past).committed who tag k (λ g a. inr a) (λ g s. s) (λ r. r) (h.disk.kept who tag k e);
+      slots = h.disk.slots;
+    }
 keeps_disk head past stamp (Target t) (Commit to batch) ok p h = disk_commit head past stamp t to batch (which head past (turn stamp (Target t)) to batch ok p.shows h) h
 keeps_disk head past stamp (Target t) (Boot boot there) ok p h =
     subst (λ (d : Disk). DiskSlots head.osts head.clients (line (turn stamp (Target t)) (Boot boot d) ∷ past)) (sym ok.of_disk) (record { high = h.disk.high; kept = h.disk.kept; slots = h.disk.slots })
@@ -267,6 +275,8 @@ keeps_disk head past stamp (Target t) (Close o) ok p h =
       slots = h.disk.slots;
     }
 keeps_disk head past stamp (Client c) (Act d) ok p h = absurd ok
+keeps_disk head past stamp (Client c) (Grant lock asked) ok p h = absurd ok
+keeps_disk head past stamp (Target t) (Grant lock None) ok p h = absurd ok
 keeps_disk head past stamp (Client c) (Made d) ok p h = absurd ok
 keeps_disk head past stamp (Client c) (Commit to batch) ok p h = absurd ok
 keeps_disk head past stamp (Client c) (Boot boot there) ok p h = absurd ok

@@ -1,15 +1,15 @@
 -- What one target did, and what is on its way there: each deed is of a request that flew, and of what counts each acts once; slots keep
 -- the newest number and the reply to what counts, or one that a close made anew; messages are those of deeds and flights.
-use Rattle.std.proofs.Common.{ℕ, List, [], ◌∷◌}
+use Rattle.std.proofs.Common.{ℕ, List, [], ◌∷◌, Some, None}
 use Rattle.lu_base.specs.declared.ids.Node.{Node}
 use Rattle.lu_base.specs.declared.ids.Node.TheVariants.{Client, Target}
 use Rattle.lu_base.specs.declared.ids.Stamp.{Stamp}
-use Rattle.lu_words.specs.Words.{Entry, Flies, Heard, Send, Act, Txn as Made, Commit, Close, Enters, Life, Evict, Joined, Line, line}
+use Rattle.lu_words.specs.Words.{Entry, Flies, Heard, Send, Act, Txn as Made, Grant, Commit, Close, Enters, Life, Evict, Joined, Line, line}
 use Rattle.lu_covered.specs.Heads.{Head}
 use Rattle.lu_guards.proofs.StoryGuards.{EntryOf}
 use Rattle.lu_facts.proofs.Groups.{turn, Done, HoldsAt}
 use Rattle.lu_facts.proofs.DoneSends.{done_flies, done_life, done_send, done_heard}
-use Rattle.lu_facts.proofs.DoneActs.{done_enters, done_act, done_txn}
+use Rattle.lu_facts.proofs.DoneActs.{done_enters, done_act, done_grant, done_txn}
 use Rattle.lu_facts.proofs.DoneLives.{done_evict, done_joined, came, done_commit}
 use Rattle.lu_facts.proofs.DoneCloses.{done_close}
 
@@ -48,7 +48,10 @@ keeps_done head past stamp (Target t) (Close o) ok h = done_close head past stam
 keeps_done head past stamp (Target t) (Enters r) ok h = done_enters head.osts head.clients past stamp t r ok h.numbers h.done
 keeps_done head past stamp (Target t) (Act d) ok h = done_act head past stamp t h d ok
 keeps_done head past stamp (Target t) (Made d) ok h = done_txn head past stamp t h d ok
+keeps_done head past stamp (Target t) (Grant lock (Some d)) ok h = done_grant head past stamp t h lock d ok
 keeps_done head past stamp (Client c) (Act d) ok h = absurd ok
+keeps_done head past stamp (Client c) (Grant lock asked) ok h = absurd ok
+keeps_done head past stamp (Target t) (Grant lock None) ok h = absurd ok
 keeps_done head past stamp (Client c) (Made d) ok h = absurd ok
 keeps_done head past stamp (Client c) (Close o) ok h = absurd ok
 keeps_done head past stamp (Target t) (Flies u f) ok h = absurd ok

@@ -1,5 +1,5 @@
--- What was done and said, as a request enters, or acts: it acts once, of a number above all that counts of its life and tag.
-use Rattle.std.proofs.Common.{◌≡◌, ℕ, ◌+◌, ◌<◌, ◌≤◌, true, false, List, [], ◌∷◌, Some, ◌⊎◌, inl, inr, ⊎_elim, refl, sym, subst, ap, ◌∙◌, arith}
+-- What was done and said, as a request enters, or acts, or gets its lock: it acts once, of a number above all that counts of its life and tag.
+use Rattle.std.proofs.Common.{◌≡◌, ℕ, ◌+◌, ◌<◌, ◌≤◌, true, false, List, [], ◌∷◌, Option, Some, ◌⊎◌, inl, inr, ⊎_elim, refl, sym, subst, ap, ◌∙◌, arith}
 use Rattle.std.specs.Prelude.{nat_eq, not, ◌&&◌, if◌then◌else◌}
 use Rattle.std.proofs.lemmas.Bool.{cond_both, not-true}
 use Rattle.lu_base.specs.declared.ids.Node.{Node}
@@ -8,26 +8,30 @@ use Rattle.lu_base.specs.declared.ids.Stamp.{Stamp}
 use Rattle.lu_base.specs.declared.ids.Txn.{Txn as TxnOf}
 use Rattle.lu_base.specs.declared.ids.Who.{Who}
 use Rattle.lu_base.specs.declared.ids.Xid.{Xid}
+use Rattle.lu_base.specs.declared.locks.Lock.{Lock}
 use Rattle.lu_msg.specs.declared.messages.Message.{Message}
 use Rattle.lu_msg.specs.declared.messages.Message.TheVariants as message
 use Rattle.lu_msg.specs.declared.messages.Reply.{Reply as ReplyTo}
 use Rattle.lu_msg.specs.declared.messages.Request.{Request as RequestOf}
 use Rattle.lu_words.specs.Carried.{Deed, Flight, Slot}
-use Rattle.lu_words.specs.Words.{Act, Txn as Made, Enters, Line, line, same_life}
+use Rattle.lu_words.specs.Words.{Act, Txn as Made, Grant, Enters, Line, line, same_life}
 use Rattle.lu_target_rows.specs.Phase.{first_of}
+use Rattle.lu_client_rows.specs.Caches.{brought}
 use Rattle.lu_covered.specs.TargetParts.{is_request_of, without_request, entered, answered, is_slot_of}
 use Rattle.lu_covered.specs.TargetStates.{server_of, slot_of, closed_of, next_number}
 use Rattle.lu_covered.specs.TargetCloses.{is_lost}
 use Rattle.lu_covered.specs.Deeds.{deed}
 use Rattle.lu_covered.specs.ClientStates.{life_of}
 use Rattle.lu_covered.specs.Heads.{Head}
-use Rattle.lu_guards.proofs.Guards.{In, Was}
-use Rattle.lu_guards.proofs.StoryGuards.{EntersOk, ActsOk, TxnOk}
-use Rattle.lu_guards.proofs.Acts.{acted}
+use Rattle.lu_guards.proofs.Guards.{In, Was, Did}
+use Rattle.lu_guards.proofs.StoryGuards.{EntersOk, ActsOk, TxnOk, GrantOk, RangeOk, GrantsOk}
+use Rattle.lu_guards.proofs.Acts.{acted, range_acted}
+use Rattle.lu_guards.proofs.ClientLines.{some_is}
 use Rattle.lu_guards.proofs.Lists.{in_append, in_filter}
 use Rattle.lu_guards.proofs.TargetSlots.{is_slot_self, slot_who}
 use Rattle.lu_facts.proofs.Groups.{turn, Flew, Acted, Hears, HeardAs, HasSlot, IsMade, Stands, Counts, IsAsking, FlewFor, Waits, KeptFor, Newest, Numbers, Done, HoldsAt}
-use Rattle.lu_facts.proofs.DoneGrows.{Grows, asking_more, meant_more, rebuilt_more, kept_more, slot_same, heard_hears}
+use Rattle.lu_facts.proofs.DoneGrows.{Grows, asking_more, meant_more, rebuilt_more, kept_more, slot_same, did_newest, did_acted, heard_hears}
+use Rattle.lu_facts.proofs.Brings.{txn_brings}
 
 abbrev number : ℕ → Xid
 number n = record { 0 = n }
@@ -159,7 +163,7 @@ record Does (osts clients : ℕ) (past new : List Line) (d : Deed) : Type 0 wher
   low : 1 ≤ closed_of past
   boot : d.reply.boot ≡ closed_of past
   numbers : IsMade d → (first_of d.reply.boot < d.reply.txn.0) × (d.reply.txn.0 ≤ first_of d.reply.boot + 4294967295)
-  bare : IsMade d → d.reply.locks ≡ []
+  bare : IsMade d → brought d.op d.reply ≡ []
   top : IsMade d → (e : Deed) → Acted past e → IsMade e → e.reply.txn.0 < d.reply.txn.0
 
 -- it is of that request
@@ -311,7 +315,7 @@ module _ (osts clients : ℕ) (past new : List Line) (d : Deed) (does : Does ost
             (λ (q : d ≡ e). subst (λ (v : Deed). IsMade v → (first_of v.reply.boot < v.reply.txn.0) × (v.reply.txn.0 ≤ first_of v.reply.boot + 4294967295)) q does.numbers)
             (λ (b : Acted past e). h.numbers e b)
             (does.acted e a);
-        bare = λ e a. ⊎_elim (λ (q : d ≡ e). subst (λ (v : Deed). IsMade v → v.reply.locks ≡ []) q does.bare) (λ (b : Acted past e). h.bare e b) (does.acted e a);
+        bare = λ e a. ⊎_elim (λ (q : d ≡ e). subst (λ (v : Deed). IsMade v → brought v.op v.reply ≡ []) q does.bare) (λ (b : Acted past e). h.bare e b) (does.acted e a);
         high = λ e a has counts. ⊎_elim
             (λ (q : d ≡ e). subst (λ (v : Deed). v.reply.xid.0 ≤ (slot_of v.reply.who v.tag new).taken) q mine_high)
             (λ (b : Acted past e). taken_same e.reply.who e.tag e.reply.xid.0 (h.high e b (does.has e.reply.who has) (counts_back e counts)))
@@ -379,6 +383,92 @@ module _ (head : Head) (past : List Line) (stamp : Stamp) (t : ℕ) (h : HoldsAt
       })
       a.request (record { who = a.who; xid = a.xid; tag = a.tag; op = a.of_op }) (h.done.waits a.request a.waits) h.done
 
+  -- a lock on an object is granted
+  done_range : (lock : Lock) (d : Deed) → RangeOk head.osts past (turn stamp (Target t)) lock d → Done head.osts head.clients (line (turn stamp (Target t)) (Grant lock (Some d)) ∷ past)
+  done_range lock d ok =
+      let a = range_acted head.osts past (turn stamp (Target t)) lock d ok in
+      let number : d.reply.txn.0 ≡ 0 = ap (λ (v : TxnOf). v.0) a.number in
+      done_does head.osts head.clients past (line (turn stamp (Target t)) (Grant lock (Some d)) ∷ past) d
+      (record {
+        flew = λ w f i. i;
+        acted = λ g. ⊎_elim (λ (q : Some d ≡ Some g). inl (some_is d g q)) (λ (b : Acted past g). inr b);
+        more = λ g a. inr a;
+        here = inl refl;
+        last = λ g n. some_is d g n;
+        slot = λ who tag. refl;
+        waiting = λ q i. i;
+        sent = λ from to m s. s;
+        sends = λ from to m s. s;
+        hears = λ w x q. q;
+        heard = λ w x q. q;
+        hears_as = λ w f r q. q;
+        lives = λ c. omega arith;
+        closed = refl;
+        committed = refl;
+        lost = λ n. refl;
+        has = λ w q. q;
+        had = λ w q. q;
+        low = h.phase.closed;
+        boot = a.boot ∙ sym a.serves.closed;
+        numbers = λ m. absurd (omega (arith, m, number));
+        bare = λ m. absurd (omega (arith, m, number));
+        top = λ m. absurd (omega (arith, m, number));
+      })
+      a.request (record { who = a.who; xid = a.xid; tag = a.tag; op = a.of_op }) (h.done.waits a.request a.waits) h.done
+
+  -- a lock on names is shown: that changes nothing
+  module _ (lock : Lock) (d : Deed) (ok : GrantOk head.osts past lock d) where
+    abbrev showing : List Line
+    showing = line (turn stamp (Target t)) (Grant lock (Some d)) ∷ past
+
+    slot_is : (who : Who) (tag : ℕ) → slot_of who tag showing ≡ slot_of who tag past
+    slot_is who tag =
+        cond_both (is_slot_of who tag d.reply.who d.tag) (answered d (slot_of who tag past)) (slot_of who tag past) (λ (s : Slot). s ≡ slot_of who tag past)
+        (λ q. let p = slot_who who d.reply.who tag d.tag q in answered_is (slot_of who tag past) (ap (λ (s : Slot). s.reply) (slot_same past who d.reply.who tag d.tag p.0 p.1) ∙ ok.slot))
+        (λ q. refl)
+      where
+        answered_is : (s : Slot) → s.reply ≡ Some d.reply → answered d s ≡ s
+        answered_is s e = ap (λ (r : Option ReplyTo). record { taken = s.taken; reply = r }) (sym e)
+
+    was_acted : (e : Deed) → Acted showing e → Acted past e
+    was_acted e = ⊎_elim (λ (q : Some d ≡ Some e). subst (λ (v : Deed). Acted past v) (some_is d e q) (did_acted past d ok.did)) (λ (a : Acted past e). a)
+
+    done_shown : Done head.osts head.clients showing
+    done_shown =
+        let k = h.done in
+        record {
+          flew = λ e a. k.flew e (was_acted e a);
+          boots = λ e a. k.boots e (was_acted e a);
+          numbers = λ e a. k.numbers e (was_acted e a);
+          bare = λ e a. k.bare e (was_acted e a);
+          high = λ e a has counts. subst (λ (s : Slot). e.reply.xid.0 ≤ s.taken) (sym (slot_is e.reply.who e.tag)) (k.high e (was_acted e a) has counts);
+          kept = λ who tag r e. kept_more head.osts past showing who tag r (λ b a. inr a) (λ b a c. c) (λ q. q) (k.kept who tag r (ap (λ (s : Slot). s.reply) (sym (slot_is who tag)) ∙ e));
+          slots = λ who tag r. subst (λ (s : Slot). s.reply ≡ Some r → (r.who ≡ who) × (r.xid.0 ≡ s.taken)) (sym (slot_is who tag)) (k.slots who tag r);
+          heard = λ who x i. let g = k.heard who x i in (g.0, inr g.1, g.2, g.3);
+          newest = λ e n. k.newest e (did_newest past e (subst (λ (v : Deed). Did past v) (some_is d e n) ok.did));
+          known = λ who x i has from u r s w e le. let g = k.known who x i has from u r s w e le in (g.0, inr g.1, g.2, g.3, g.4);
+          answered = λ who f r i. let g = k.answered who f r i in (g.0, inr g.1, g.2, g.3, g.4, g.5, g.6);
+          waits = λ r i. let w = k.waits r (subst (λ (rs : List RequestOf). In r rs) ok.waiting i) in
+              record {
+                was = w.was;
+                asks = w.asks;
+                current = w.current;
+                has = w.has;
+                taken = w.taken ∙ ap (λ (s : Slot). s.taken) (sym (slot_is r.who r.tag));
+                new = λ e a. w.new e (was_acted e a);
+              };
+          sent = λ from to m s. meant_more head.osts past showing
+              (record { flew = λ w f i. i; acted = λ e a. inr a; lives = λ c. omega arith; closed = omega arith; committed = omega arith; counts = λ b low le e c. c }) to m (k.sent from to m s);
+          once = λ a b i j. k.once a b (was_acted a i) (was_acted b j);
+          alone = λ who f r a b i has p is q. k.alone who f r a b i has (was_acted a p) is (was_acted b q);
+          rises = λ a b i j. k.rises a b (was_acted a i) (was_acted b j);
+          single = λ a b i j. k.single a b (was_acted a i) (was_acted b j);
+        }
+
+  pub done_grant : (lock : Lock) (d : Deed) → GrantsOk head.osts past (turn stamp (Target t)) t lock d → Done head.osts head.clients (line (turn stamp (Target t)) (Grant lock (Some d)) ∷ past)
+  done_grant lock d (inl ok) = done_shown lock d ok.1
+  done_grant lock d (inr ok) = done_range lock d ok.1
+
   pub done_txn : (d : Deed) → TxnOk head.osts past (turn stamp (Target t)) d → Done head.osts head.clients (line (turn stamp (Target t)) (Made d) ∷ past)
   done_txn d ok =
       let e : Deed = deed head.osts (server_of head.osts past) (turn stamp (Target t)) ok.request (next_number (server_of head.osts past)) [] in
@@ -406,7 +496,7 @@ module _ (head : Head) (past : List Line) (stamp : Stamp) (t : ℕ) (h : HoldsAt
         low = h.phase.closed;
         boot = sym ok.serves.closed;
         numbers = λ m. let n = ok.numbers in (omega arith, omega arith);
-        bare = λ m. refl;
+        bare = λ m. subst (λ (v : Deed). brought v.op v.reply ≡ []) ok.is (txn_brings head.osts past (turn stamp (Target t)) d ok);
         top = λ m g a n. let le = h.history.last g a n in omega arith;
       })
       ok.request (record { who = refl; xid = refl; tag = refl; op = refl }) (h.done.waits ok.request ok.waits) h.done)

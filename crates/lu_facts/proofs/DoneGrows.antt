@@ -80,23 +80,23 @@ kept_more osts past new who tag k acted counts rebuilt (inr r) = inr (rebuilt r)
 -- what was just done is the newest
 pub did_newest : (past : List Line) (d : Deed) → Did past d → Newest past d
 did_newest [] d i = absurd i
-did_newest (l ∷ past) d i = by l.entry i (did_newest past d)
+did_newest (l ∷ past) d i = by l.entry i
   where
-    by : (e : Entry) → Did (line l.at e ∷ past) d → (Did past d → Newest past d) → Newest (line l.at e ∷ past) d
-    by (Act e) i ih = i
-    by (Made e) i ih = i
-    by (Grant lock asked) i ih = ih i
-    by _ i ih = absurd i
+    by : (e : Entry) → Did (line l.at e ∷ past) d → Newest (line l.at e ∷ past) d
+    by (Act e) i = i
+    by (Made e) i = i
+    by (Grant lock asked) i = i
+    by _ i = absurd i
 
 pub did_acted : (past : List Line) (d : Deed) → Did past d → Acted past d
 did_acted [] d i = absurd i
-did_acted (l ∷ past) d i = by l.entry i (did_acted past d)
+did_acted (l ∷ past) d i = by l.entry i
   where
-    by : (e : Entry) → Did (line l.at e ∷ past) d → (Did past d → Acted past d) → Acted (line l.at e ∷ past) d
-    by (Act e) i ih = inl i
-    by (Made e) i ih = inl i
-    by (Grant lock asked) i ih = ih i
-    by _ i ih = absurd i
+    by : (e : Entry) → Did (line l.at e ∷ past) d → Acted (line l.at e ∷ past) d
+    by (Act e) i = inl i
+    by (Made e) i = inl i
+    by (Grant lock asked) i = inl i
+    by _ i = absurd i
 
 -- what was heard as that reply was heard
 pub heard_hears : (past : List Line) (who : Who) (f : Flight) (r : ReplyTo) → HeardAs past who f r → Hears past who f.xid

@@ -1,6 +1,6 @@
 -- The groups of facts: what holds after every line. Those of one target speak of what concerns it; what calls have
 -- asked, when things happened, and who is told what, of the whole past with every target.
-use Rattle.std.proofs.Common.{◌≡◌, ℕ, ◌+◌, ◌<◌, ◌≤◌, true, false, List, [], ◌∷◌, Option, Some, None, ◌⊎◌}
+use Rattle.std.proofs.Common.{◌≡◌, ℕ, ◌+◌, ◌<◌, ◌≤◌, true, false, List, [], ◌∷◌, Some, ◌⊎◌}
 use Rattle.std.specs.Prelude.{length, not, nat_lt}
 use Rattle.lu_base.specs.declared.ids.At.{At}
 use Rattle.lu_base.specs.declared.ids.Node.{Node}
@@ -21,28 +21,28 @@ use Rattle.lu_part.specs.declared.parts.Part.{Part}
 use Rattle.lu_machine.specs.Footprint.{Operation, empty, touches, writes, Same}
 use Rattle.lu_machine.specs.Removal.{Item, Acts, Forgets, pick, contents}
 use Rattle.lu_machine.specs.Seen.{seen}
-use Rattle.lu_words.specs.Carried.{Deed, Queued, Flight, Said, Disk, Asked, Answered, Plain, Sizes, Work, Running}
-use Rattle.lu_words.specs.Words.{Entry, Flies, Heard, Drop, Act, Txn as Made, Commit, Close, Evict, Restore, Line, turn_before}
+use Rattle.lu_words.specs.Carried.{Deed, Flight, Said, Disk, Answered, Stage, Plain, Enqueued, Came, Sizes, Work, Running}
+use Rattle.lu_words.specs.Words.{Entry, Flies, Heard, Drop, Act, Txn as Made, Grant, Commit, Close, Evict, Restore, Line, turn_before}
 use Rattle.lu_words.specs.Concerns.{only}
 use Rattle.lu_covered.specs.TargetParts.{operation}
 use Rattle.lu_covered.specs.TargetStates.{server_of, slot_of, lives_of, evicted_of, shown_of, closed_of, up_of, replays_of, brought_of, words_of, wishes_of}
 use Rattle.lu_covered.specs.TargetCloses.{disk_of, is_lost, loses, but_first, closing_of}
-use Rattle.lu_covered.specs.Calls.{first_life, call_at, becomes, errand, life_at}
-use Rattle.lu_covered.specs.Imports.{Joining, Serving, queue_at, flights_at}
+use Rattle.lu_covered.specs.Calls.{first_life, call_at, becomes, life_at}
+use Rattle.lu_covered.specs.Imports.{Joining, Serving, flights_at}
 use Rattle.lu_covered.specs.ClientStates.{flights_of, last_of, known_of, life_of, tag_of, standing_of, kept_of, is_own}
 use Rattle.lu_covered.specs.Heads.{Head}
 use Rattle.lu_held.specs.declared.locks.HeldLock.{HeldLock}
-use Rattle.lu_held.specs.Held.{is_held}
 use Rattle.lu_target_rows.specs.Lives.{is_life, slot_in, lives_of as lives_in}
 use Rattle.lu_target_rows.specs.Phase.{first_of}
 use Rattle.lu_target_rows.specs.Stored.{stored}
 use Rattle.lu_target_rows.specs.Windows.{Replayed, cut_seen, word_of, replay_before, brought_before}
-use Rattle.lu_client_rows.specs.Caches.{granted_lock, held_at}
+use Rattle.lu_client_rows.specs.Caches.{brought, held_at}
 use Rattle.lu_client_rows.specs.Imports.{Replay, replay_of}
 use Rattle.lu_client_rows.specs.Recovery.{lock_replayed, replayed as replayed_by}
 pub use Rattle.lu_guards.proofs.Lists.{turn}
-use Rattle.lu_guards.proofs.Guards.{In, Was, HeardNow, name_of, Ending}
-use Rattle.lu_guards.proofs.ClientLines.{IsSize}
+pub use Rattle.lu_guards.proofs.Asks.{CallOf, Apart, Asks}
+use Rattle.lu_guards.proofs.Guards.{In, Was, HeardNow}
+use Rattle.lu_guards.proofs.ClientLines.{IsSize, IsLock}
 use Rattle.lu_guards.proofs.CloseLists.{OneEach}
 use Rattle.lu_guards.proofs.StoryGuards.{Newer, SaidBy, IsServing, IsRecovering, locks_told}
 
@@ -53,10 +53,16 @@ abbrev pub Flew : List Line → Who → Flight → Type 0
 Flew [] who f = ⊥
 Flew (l ∷ past) who f = elim l.entry [ Flies t g ↦ ((is_own who past l.at.node ≡ true) × (g ≡ f)) ⊎ Flew past who f | _ ↦ Flew past who f ]
 
--- that was done: reads Act and Txn
+-- that was done: reads Act, Txn and Grant
 abbrev pub Acted : List Line → Deed → Type 0
 Acted [] d = ⊥
-Acted (l ∷ past) d = elim l.entry [ Act e ↦ (e ≡ d) ⊎ Acted past d | Made e ↦ (e ≡ d) ⊎ Acted past d | _ ↦ Acted past d ]
+Acted (l ∷ past) d =
+    elim l.entry [
+      | Act e ↦ (e ≡ d) ⊎ Acted past d
+      | Made e ↦ (e ≡ d) ⊎ Acted past d
+      | Grant lock asked ↦ (asked ≡ Some d) ⊎ Acted past d
+      | _ ↦ Acted past d
+    ]
 
 -- the life heard the reply to its request of that number: reads Heard
 abbrev pub Hears : List Line → Who → ℕ → Type 0
@@ -152,7 +158,7 @@ RepliesTo osts past c k =
       to : c ≡ k.who.client;
       boot : k.boot ≤ closed_of past;
       committed : k.committed.0 ≤ (server_of osts past).committed.0;
-      own : (k.boot ≡ deed.reply.boot) ⊎ (deed.reply.locks ≡ []);
+      own : (k.boot ≡ deed.reply.boot) ⊎ (brought deed.op deed.reply ≡ []);
       counts : closed_of past ≤ k.boot → Counts osts past deed;
     }
 
@@ -192,10 +198,10 @@ Rebuilt past who k = Hears past who k.xid.0 × ((from : Node) (t : ℕ) (r : Req
 abbrev pub KeptFor : ℕ → List Line → Who → ℕ → ReplyTo → Type 0
 KeptFor osts past who tag k = ((d : Deed) × Acted past d × (d.reply ≡ k) × (d.tag ≡ tag) × Counts osts past d) ⊎ Rebuilt past who k
 
--- that was done last, since the last close: reads Act, Txn and Close
+-- that was done last, since the last close: reads Act, Txn, Grant and Close
 abbrev pub Newest : List Line → Deed → Type 0
 Newest [] d = ⊥
-Newest (l ∷ past) d = elim l.entry [ Act e ↦ e ≡ d | Made e ↦ e ≡ d | Close o ↦ ⊥ | _ ↦ Newest past d ]
+Newest (l ∷ past) d = elim l.entry [ Act e ↦ e ≡ d | Made e ↦ e ≡ d | Grant lock asked ↦ asked ≡ Some d | Close o ↦ ⊥ | _ ↦ Newest past d ]
 
 -- what counts was done for that number of the life
 abbrev pub CountsFor : (osts : ℕ) → List Line → Who → ℕ → Type 0
@@ -209,7 +215,7 @@ Done osts clients past =
       flew : (d : Deed) → Acted past d → FlewFor past d;
       boots : (d : Deed) → Acted past d → (1 ≤ d.reply.boot) × (d.reply.boot ≤ closed_of past);
       numbers : (d : Deed) → Acted past d → IsMade d → (first_of d.reply.boot < d.reply.txn.0) × (d.reply.txn.0 ≤ first_of d.reply.boot + 4294967295);
-      bare : (d : Deed) → Acted past d → IsMade d → d.reply.locks ≡ [];
+      bare : (d : Deed) → Acted past d → IsMade d → brought d.op d.reply ≡ [];
       high : (d : Deed) → Acted past d → HasSlot clients past d.reply.who → Counts osts past d → d.reply.xid.0 ≤ (slot_of d.reply.who d.tag past).taken;
       kept : (who : Who) (tag : ℕ) (k : ReplyTo) → (slot_of who tag past).reply ≡ Some k → KeptFor osts past who tag k;
       slots : (who : Who) (tag : ℕ) (k : ReplyTo) → (slot_of who tag past).reply ≡ Some k → (k.who ≡ who) × (k.xid.0 ≡ (slot_of who tag past).taken);
@@ -225,27 +231,30 @@ Done osts clients past =
       single : (d e : Deed) → Acted past d → Acted past e → IsMade d → IsMade e → d.reply.txn ≡ e.reply.txn → d ≡ e;
     }
 
--- a lock of what was done
+-- a lock that what was done brings: those on names, or that on an object which was asked for
 abbrev pub Gave : List Line → Deed → Lock → Type 0
-Gave past d l = Acted past d × In l d.reply.locks
+Gave past d l = Acted past d × In l (brought d.op d.reply)
 
 -- the target evicted that life
 abbrev pub Evicted : List Line → Who → Type 0
 Evicted past who = is_life who (evicted_of past) ≡ true
 
+-- none of them has that cookie: in what concerns one target all are of that target
+abbrev pub NoneOf : Cookie → List HeldLock → Type 0
+NoneOf cookie hs = (h : HeldLock) → In h hs → h.lock.cookie.0 ≡ cookie.0 → ⊥
+
 -- the reply that brings the lock was heard, and the client doesn't hold it
 abbrev pub Dead : List Line → Deed → Lock → Type 0
-Dead past d l = Hears past d.reply.who d.reply.xid.0 × (is_held (name_of l.cookie) (held_at d.reply.who.client past) ≡ false)
+Dead past d l = Hears past d.reply.who d.reply.xid.0 × NoneOf l.cookie (held_at d.reply.who.client past)
 
 -- a lock of a boot before that which the client of its life knows, which isn't held, and never will be: a reply is heard in the boot that is known alone
 abbrev pub Lapsed : List Line → Deed → Lock → Type 0
-Lapsed past d l = (d.reply.boot < known_of d.reply.who.client past) × (is_held (name_of l.cookie) (held_at d.reply.who.client past) ≡ false)
+Lapsed past d l = (d.reply.boot < known_of d.reply.who.client past) × NoneOf l.cookie (held_at d.reply.who.client past)
 
 -- what a client holds came with a reply that its life heard, and is granted still, unless that life was evicted
 abbrev pub Holding : ℕ → List Line → ℕ → HeldLock → Type 0
 Holding osts past c h =
     record {
-      target : h.target.0 ≡ 0;
       deed : Deed;
       gave : Gave past deed h.lock;
       who : deed.reply.who ≡ life_of c past;
@@ -269,7 +278,7 @@ Gone (l ∷ past) who cookie = elim l.entry [ Drop target lock ↦ ((is_own who 
 
 -- each lock that was given is granted, or is dead, or its life was evicted, or it lapsed; so is what is held, and what isn't heard yet; a
 -- boot's cookies are its own, while the target serves none is above the greatest, and while it is up too what is granted was shown so, or a close
--- shows it next; no answer of what was done is itself a lock
+-- shows it next
 abbrev pub Locks : (osts clients : ℕ) → List Line → Type 0
 Locks osts clients past =
     record {
@@ -286,7 +295,6 @@ Locks osts clients past =
       blocks : (from : Node) (c : ℕ) (who : Who) (boot : ℕ) (cookie : Cookie) → Was past from (Client c) (message.Block who boot cookie) → Called past c who cookie;
       cancels : (from to : Node) (who : Who) (boot : ℕ) (cookie : Cookie) → Was past from to (message.Cancel who boot cookie) → GivenBack past who cookie;
       gone : (who : Who) (cookie : Cookie) → Gone past who cookie → GivenBack past who cookie;
-      answers : (d : Deed) → Acted past d → (r : ReplyTo) → granted_lock d.op r d.reply.answer ≡ [];
     }
 
 -- the life has a slot at the target, or was evicted there
@@ -425,7 +433,7 @@ Recovers osts clients past =
       wishes_rise : OneEach (wishes_of past);
       holds : IsRecovering osts past → (c : ℕ) → (server_of osts past).boot ≤ known_of c past → (h : HeldLock) → In h (held_at c past) → In h.lock (locks_told c past);
       bare : (c : ℕ) → standing_of c past ≡ Joining → locks_told c past ≡ [];
-      hears : (at : At) (c : ℕ) (f : Flight) (r : ReplyTo) → at.node ≡ Client c → HeardNow past at 0 f r → known_of c past ≤ closed_of past;
+      hears : (at : At) (c t : ℕ) (f : Flight) (r : ReplyTo) → at.node ≡ Client c → HeardNow past at t f r → known_of c past ≤ closed_of past;
     }
 
 -- ---- the history that stands
@@ -552,30 +560,6 @@ pub record HoldsAt (head : Head) (past : List Line) : Type 0 where
   pub disk : DiskSlots head.osts head.clients past
   pub comes : Comes head.osts head.clients past
 
--- ---- over all targets: what calls have asked
-
--- the call on a slot waits for the answer to that operation, of that target: it is what the call asks where it stands
-abbrev pub CallOf : List Line → (c target : ℕ) → Option ℕ → Op → Type 0
-CallOf past c t None o = ⊥
-CallOf past c t (Some slot) o = (r : Running) × (call_at c slot past ≡ Some r) × (r.asking ≡ Asked) × (errand r ≡ Some (record { target = t; op = o }))
-
--- no two serve one slot
-abbrev pub Apart : List Queued → Type 0
-Apart [] = Unit {0}
-Apart (q ∷ queue) = ((g : Queued) → In g queue → g.slot ≡ q.slot → ⊥) × Apart queue
-
--- each call asks once, at one target; but in the turn that ends its life, where calls are told before what they asked is forgotten
-abbrev pub Asks : List Line → Type 0
-Asks past =
-    record {
-      fly_calls : (c t : ℕ) (f : Flight) → (Ending past c → ⊥) → In f (flights_at c t past) → CallOf past c t f.slot f.op;
-      queue_calls : (c t : ℕ) (q : Queued) → (Ending past c → ⊥) → In q (queue_at c t past) → CallOf past c t q.slot q.op;
-      fly_one : (c t u : ℕ) (f g : Flight) → (Ending past c → ⊥) → In f (flights_at c t past) → In g (flights_at c u past) → f.slot ≡ g.slot → (t ≡ u) × (f.xid ≡ g.xid);
-      queue_one : (c t u : ℕ) (q g : Queued) → (Ending past c → ⊥) → In q (queue_at c t past) → In g (queue_at c u past) → q.slot ≡ g.slot → t ≡ u;
-      queue_apart : (c t : ℕ) → (Ending past c → ⊥) → Apart (queue_at c t past);
-      apart : (c t u : ℕ) (q : Queued) (f : Flight) → (Ending past c → ⊥) → In q (queue_at c t past) → In f (flights_at c u past) → q.slot ≡ f.slot → ⊥;
-    }
-
 -- ---- over all targets: when
 
 -- the turn is the other one or before it
@@ -601,10 +585,19 @@ Since past =
     (c t slot : ℕ) (f : Flight) (r : Running) (d : Deed) → In f (flights_at c t past) → f.slot ≡ Some slot → call_at c slot past ≡ Some r
     → Acted (only t past) d → d.reply.who ≡ life_at c past → d.reply.xid.0 ≡ f.xid → Upto r.at d.reply.at
 
--- the answer is to what a call on names becomes, of the metadata target; or to how long an object is, of another target. A glimpse may
--- have gone on since to the next object
+-- it asks for a lock on an object, or has got one
+abbrev pub IsLocking : Stage → Type 0
+IsLocking (Enqueued w) = Unit {0}
+IsLocking (Came w lock) = Unit {0}
+IsLocking _ = ⊥
+
+-- the answer is to what a call on names becomes, of the metadata target; or to how long an object is, of another target; or, for a read or a
+-- stat of a file, to what is asked of one there. A glimpse, a read or a stat may have gone on since to the next object
 abbrev pub AnswersFor : Running → (target : ℕ) → Op → Type 0
-AnswersFor r target o = ((r.stage ≡ Plain) × (target ≡ 0) × (becomes r ≡ Some o)) ⊎ ((w : Work) × (r.stage ≡ Sizes w) × (0 < target) × IsSize o)
+AnswersFor r target o =
+    ((r.stage ≡ Plain) × (target ≡ 0) × (becomes r ≡ Some o))
+    ⊎ ((w : Work) × (r.stage ≡ Sizes w) × (0 < target) × IsSize o)
+    ⊎ (IsLocking r.stage × (((0 < target) × (IsSize o ⊎ IsLock o)) ⊎ ((target ≡ 0) × (becomes r ≡ Some o))))
 
 -- the reply that answered a call is to what was done for what it asked after it began, in that boot or an earlier one
 abbrev pub Replied : List Line → ℕ → Running → ℕ → ReplyTo → Type 0

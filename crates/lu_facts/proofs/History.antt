@@ -1,14 +1,14 @@
 -- The history that stands, at every line.
-use Rattle.std.proofs.Common.{List, ◌∷◌}
+use Rattle.std.proofs.Common.{List, ◌∷◌, Some, None}
 use Rattle.lu_base.specs.declared.ids.Node.{Node}
 use Rattle.lu_base.specs.declared.ids.Node.TheVariants.{Client, Target}
 use Rattle.lu_base.specs.declared.ids.Stamp.{Stamp}
-use Rattle.lu_words.specs.Words.{Entry, Heard, Act, Txn as Made, Commit, Boot, Evict, Joined, Close, Line, line}
+use Rattle.lu_words.specs.Words.{Entry, Heard, Act, Txn as Made, Grant, Commit, Boot, Evict, Joined, Close, Line, line}
 use Rattle.lu_covered.specs.Heads.{Head}
 use Rattle.lu_guards.proofs.StoryGuards.{EntryOf}
 use Rattle.lu_guards.proofs.Grown.{IsOfFirst, IsPlaced}
 use Rattle.lu_facts.proofs.Groups.{turn, History, HoldsAt}
-use Rattle.lu_facts.proofs.HistoryLines.{history_heard, history_act, history_made, history_commit, history_boot, history_evict, history_joined}
+use Rattle.lu_facts.proofs.HistoryLines.{history_heard, history_act, history_grant, history_made, history_commit, history_boot, history_evict, history_joined}
 use Rattle.lu_facts.proofs.HistoryClose.{history_close}
 pub use Rattle.lu_facts.proofs.HistoryLines.{history_start}
 
@@ -20,6 +20,9 @@ keeps_history head past stamp (Client c) (Made d) ok first placed h = absurd ok
 keeps_history head past stamp (Target t) (Heard target f r) ok first placed h = absurd ok
 keeps_history head past stamp (Target t) (Act d) ok first placed h = history_act head past h stamp t d ok
 keeps_history head past stamp (Target t) (Made d) ok first placed h = history_made head past h stamp t d ok
+keeps_history head past stamp (Client c) (Grant lock asked) ok first placed h = absurd ok
+keeps_history head past stamp (Target t) (Grant lock (Some d)) ok first placed h = history_grant head past h stamp t lock d ok
+keeps_history head past stamp (Target t) (Grant lock None) ok first placed h = absurd ok
 keeps_history head past stamp (Target t) (Commit to batch) ok first placed h = history_commit head past h stamp t to batch ok placed.shows
 keeps_history head past stamp (Target t) (Boot boot disk) ok first placed h = history_boot head past h stamp t boot disk ok
 keeps_history head past stamp (Target t) (Evict who cause) ok first placed h = history_evict head past h stamp t who cause

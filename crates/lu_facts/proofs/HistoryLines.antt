@@ -1,5 +1,5 @@
 -- The history that stands, at each line but a close: a transaction adds an item, an eviction forgets opens, a commit moves what stands to the disk.
-use Rattle.std.proofs.Common.{◌≡◌, ℕ, ◌+◌, ◌<◌, ◌≤◌, Bool, true, false, List, [], ◌∷◌, ◌++◌, ◌⊎◌, inl, inr, ⊎_elim, refl, sym, subst, ap, ◌∙◌, arith}
+use Rattle.std.proofs.Common.{◌≡◌, ℕ, ◌+◌, ◌<◌, ◌≤◌, Bool, true, false, List, [], ◌∷◌, ◌++◌, Some, ◌⊎◌, inl, inr, ⊎_elim, refl, sym, subst, ap, ◌∙◌, arith}
 use Rattle.std.specs.Prelude.{not, nat_lt, ◌&&◌, if◌then◌else◌, filter, map}
 use Rattle.std.proofs.lemmas.Bool.{cond_both, cond-false, ltb-true, ltb-false, lt-ltb, le-ltb, not-true, not_from_true, not_from_false, and_left, cases_lt, or_from}
 use Rattle.lu_base.specs.declared.ids.At.{At}
@@ -9,6 +9,7 @@ use Rattle.lu_base.specs.declared.ids.Stamp.{Stamp}
 use Rattle.lu_base.specs.declared.ids.Txn.{Txn as TxnOf}
 use Rattle.lu_base.specs.declared.ids.Who.{Who}
 use Rattle.lu_base.specs.declared.locks.Cause.{Cause}
+use Rattle.lu_base.specs.declared.locks.Lock.{Lock}
 use Rattle.lu_msg.specs.declared.answers.Answer.TheVariants as told
 use Rattle.lu_msg.specs.declared.commits.Batch.{Batch}
 use Rattle.lu_msg.specs.declared.commits.Transaction.{Transaction}
@@ -22,7 +23,7 @@ use Rattle.lu_machine.specs.Removal.{Item, Acts, Forgets, pick, contents}
 use Rattle.lu_machine.specs.Seen.{meet, seen}
 use Rattle.lu_machine.proofs.Footprints.{same_refl, same_sym, same_trans}
 use Rattle.lu_words.specs.Carried.{Deed, Flight, Disk}
-use Rattle.lu_words.specs.Words.{Entry, Heard, Act, Txn as Made, Commit, Boot, Evict, Joined, Close, Line, line}
+use Rattle.lu_words.specs.Words.{Entry, Heard, Act, Txn as Made, Grant, Commit, Boot, Evict, Joined, Close, Line, line}
 use Rattle.lu_target_rows.specs.Leaving.{is_over}
 use Rattle.lu_target_rows.specs.Lives.{is_life}
 use Rattle.lu_target_rows.specs.Phase.{first_of}
@@ -30,20 +31,21 @@ use Rattle.lu_target_rows.specs.Replies.{seen_in}
 use Rattle.lu_target_rows.specs.Windows.{has_number}
 use Rattle.lu_target_rows.specs.Stored.{transaction_of, all_done, forgotten, last_number, batch_of, news, stored}
 use Rattle.lu_covered.specs.TargetParts.{operation}
-use Rattle.lu_covered.specs.TargetStates.{none, server_of, lives_of, evicted_of, next_number}
+use Rattle.lu_covered.specs.TargetStates.{none, server_of, closed_of, lives_of, evicted_of, next_number}
 use Rattle.lu_covered.specs.TargetCloses.{disk_of, is_lost, loses, closing_of}
 use Rattle.lu_covered.specs.TargetCloses.{kept_numbers as numbers_of}
-use Rattle.lu_covered.specs.Deeds.{asked}
+use Rattle.lu_covered.specs.Deeds.{asked, whole}
 use Rattle.lu_covered.specs.ClientStates.{life_of, known_of, is_own}
 use Rattle.lu_covered.specs.Heads.{Head}
 use Rattle.lu_guards.proofs.Guards.{In}
-use Rattle.lu_guards.proofs.StoryGuards.{Due, HeardOk, ActsOk, TxnOk, CommitOk, BootOk, JoinedOk, ComesOk}
+use Rattle.lu_guards.proofs.StoryGuards.{Due, HeardOk, ActsOk, TxnOk, RangeOk, GrantsOk, CommitOk, BootOk, JoinedOk, ComesOk}
 use Rattle.lu_guards.proofs.Acts.{acted}
 use Rattle.lu_guards.proofs.Lists.{in_append, in_left, in_right, in_filter, in_filtered, own_is}
 use Rattle.lu_guards.proofs.LifeLists.{stands_life, life_left, over_itself, filter_all}
 use Rattle.lu_guards.proofs.ClientLocks.{in_map, in_mapped, any_false}
 use Rattle.lu_guards.proofs.Grown.{ShowsNext}
 use Rattle.lu_facts.proofs.Groups.{turn, Acted, HeardAs, HasSlot, IsMade, Stands, Counts, DeedsRise, ItemOk, AllItems, items_of, History, Coming, HoldsAt}
+use Rattle.lu_facts.proofs.GrantLines.{grant_acted}
 use Rattle.lu_facts.proofs.LifeLists.{put_or}
 use Rattle.lu_facts.proofs.ItemLists.{same_forgot, forgot_same, same_forgotten, same_after, alike_same, same_act, picked_in, in_picked, pick_all, pick_under, in_seen, seen_in_log, all_ops, all_done_tree, deed_operations, fresh_ops, in_fresh, fresh_in, OpsRise, fresh_rise, rise_same, fall_picked, upto, upto_le, le_upto, done_over, last_of, RiseFrom, last_top, last_is, last_number_is, deed_numbers}
 
@@ -181,6 +183,12 @@ history_heard head past stamp c t f r ok h =
 
 -- ---- what is done
 
+-- it makes no transaction, and saw what the log has of some parts
+record Idle (osts : ℕ) (past : List Line) (d : Deed) : Type 0 where
+  number : d.reply.txn.0 ≡ 0
+  parts : List Part
+  saw : d.reply.seen ≡ seen_in parts (server_of osts past).log
+
 module _ (head : Head) (past : List Line) (h : HoldsAt head past) where
   -- what was seen in the log stands
   log_seen : (ps : List Part) (n : ℕ) → In n (seen_in ps (server_of head.osts past).log) → (e : Deed) × Acted past e × IsMade e × (e.reply.txn.0 ≡ n) × (is_lost head.osts past n ≡ false)
@@ -190,9 +198,50 @@ module _ (head : Head) (past : List Line) (h : HoldsAt head past) where
       (e.0, k.0, k.1, e.2, subst (λ (m : ℕ). is_lost head.osts past m ≡ false) e.2 k.2)
 
   -- an act of either kind saw what the log has of some parts
-  acts_saw : (at : At) (t : ℕ) (d : Deed) → ActsOk head.osts past at t d → (ps : List Part) × (d.reply.seen ≡ seen_in ps (server_of head.osts past).log)
-  acts_saw at t d (inl a) = (touches head.osts (server_of head.osts past).tree (asked a.1.request none), ap (λ (e : Deed). e.reply.seen) a.1.is)
-  acts_saw at t d (inr a) = (object_touches a.1.request.op (told.Size 0), ap (λ (e : Deed). e.reply.seen) a.1.is)
+  acts_idle : (at : At) (t : ℕ) (d : Deed) → ActsOk head.osts past at t d → Idle head.osts past d
+  acts_idle at t d ok = record { number = ap (λ (v : TxnOf). v.0) (acted head.osts past at t d ok).number; parts = (parts ok).0; saw = (parts ok).1 }
+    where
+      parts : ActsOk head.osts past at t d → (ps : List Part) × (d.reply.seen ≡ seen_in ps (server_of head.osts past).log)
+      parts (inl a) = (touches head.osts (server_of head.osts past).tree (asked a.1.request none), ap (λ (e : Deed). e.reply.seen) a.1.is)
+      parts (inr a) = (object_touches a.1.request.op (told.Size 0), ap (λ (e : Deed). e.reply.seen) a.1.is)
+
+  -- and so does who gets a lock on an object
+  range_idle : (at : At) (lock : Lock) (d : Deed) → RangeOk head.osts past at lock d → Idle head.osts past d
+  range_idle at lock d ok =
+      record {
+        number = ap (λ (e : Deed). e.reply.txn.0) ok.is;
+        parts = object_touches ok.request.op (told.Granted lock.cookie whole 0);
+        saw = ap (λ (e : Deed). e.reply.seen) ok.is;
+      }
+
+  -- over a line that does no more than that: what was done then
+  module _ (Now : Deed → Type 0) (split : (e : Deed) → Now e → Idle head.osts past e ⊎ Acted past e) (more : (e : Deed) → Acted past e → Now e) where
+    made_before : (e : Deed) → Now e → IsMade e → Acted past e
+    made_before e a m = by (split e a)
+      where
+        by : Idle head.osts past e ⊎ Acted past e → Acted past e
+        by (inl k) = absurd (let z = k.number in omega (arith, z, m))
+        by (inr b) = b
+
+    saw_before : (e : Deed) (n : ℕ) → Now e → In n e.reply.seen → ((n ≤ (server_of head.osts past).committed.0) ⊎ ((x : Deed) × Now x × IsMade x × (x.reply.txn.0 ≡ n))) × (IsMade e → n < e.reply.txn.0)
+    saw_before e n a i = by (split e a)
+      where
+        wider : (n ≤ (server_of head.osts past).committed.0) ⊎ ((x : Deed) × Acted past x × IsMade x × (x.reply.txn.0 ≡ n)) → (n ≤ (server_of head.osts past).committed.0) ⊎ ((x : Deed) × Now x × IsMade x × (x.reply.txn.0 ≡ n))
+        wider (inl le) = inl le
+        wider (inr x) = inr (x.0, more x.0 x.1, x.2, x.3)
+
+        by : Idle head.osts past e ⊎ Acted past e → ((n ≤ (server_of head.osts past).committed.0) ⊎ ((x : Deed) × Now x × IsMade x × (x.reply.txn.0 ≡ n))) × (IsMade e → n < e.reply.txn.0)
+        by (inl q) =
+            let k = log_seen q.parts n (subst (λ (ns : List ℕ). In n ns) q.saw i) in
+            (inr (k.0, more k.0 k.1, k.2, k.3), λ m. absurd (let z = q.number in omega (arith, z, m)))
+        by (inr b) = let r = h.history.saw e n b i in (wider r.0, r.1)
+
+    fresh_before : (e : Deed) → Now e → e.reply.boot ≡ closed_of past → (n : ℕ) → In n e.reply.seen → is_lost head.osts past n ≡ false
+    fresh_before e a boot n i = by (split e a)
+      where
+        by : Idle head.osts past e ⊎ Acted past e → is_lost head.osts past n ≡ false
+        by (inl q) = (log_seen q.parts n (subst (λ (ns : List ℕ). In n ns) q.saw i)).4
+        by (inr b) = h.history.fresh e b boot n i
 
   pub history_act : (stamp : Stamp) (t : ℕ) (d : Deed) → ActsOk head.osts past (turn stamp (Target t)) t d → History head.osts head.clients (line (turn stamp (Target t)) (Act d) ∷ past)
   history_act stamp t d ok =
@@ -202,38 +251,65 @@ module _ (head : Head) (past : List Line) (h : HoldsAt head past) where
         disk = g.disk;
         on_disk = g.on_disk;
         log = λ e i. let k = g.log e i in (inr k.0, k.1, k.2, k.3);
-        logged = λ e a m s. ⊎_elim (λ (q : d ≡ e). absurd (not_made e q m)) (λ (b : Acted past e). g.logged e b m s) a;
+        logged = λ e a m s. g.logged e (made_before Now split more e a m) m s;
         log_rises = g.log_rises;
         later = g.later;
         top = g.top;
-        last = λ e a m. ⊎_elim (λ (q : d ≡ e). absurd (not_made e q m)) (λ (b : Acted past e). g.last e b m) a;
-        saw = λ e n a i. ⊎_elim (λ (q : d ≡ e). saw_new e n q i) (λ (b : Acted past e). let r = g.saw e n b i in (wider n r.0, r.1)) a;
-        stands = λ e a m s n i. ⊎_elim (λ (q : d ≡ e). absurd (not_made e q m)) (λ (b : Acted past e). g.stands e b m s n i) a;
+        last = λ e a m. g.last e (made_before Now split more e a m) m;
+        saw = λ e n a i. saw_before Now split more e n a i;
+        stands = λ e a m s n i. g.stands e (made_before Now split more e a m) m s n i;
         heard = g.heard;
-        fresh = λ e a b n i. ⊎_elim (λ (q : d ≡ e). (log_seen parts n (subst (λ (ns : List ℕ). In n ns) (saw_is e q) i)).4) (λ (k : Acted past e). g.fresh e k b n i) a;
-        items = items_grow head.osts past (line (turn stamp (Target t)) (Act d) ∷ past) (λ e a. inr a) (λ n e. e) (omega arith) (items_of head.osts past) g.items;
-        items_have = λ e a m s. ⊎_elim (λ (q : d ≡ e). absurd (not_made e q m)) (λ (b : Acted past e). g.items_have e b m s) a;
+        fresh = λ e a b n i. fresh_before Now split more e a b n i;
+        items = items_grow head.osts past (line (turn stamp (Target t)) (Act d) ∷ past) more (λ n e. e) (omega arith) (items_of head.osts past) g.items;
+        items_have = λ e a m s. g.items_have e (made_before Now split more e a m) m s;
         items_fall = g.items_fall;
         log_of = g.log_of;
       }
     where
-      not_made : (e : Deed) → d ≡ e → IsMade e → ⊥
-      not_made e q m = let z : e.reply.txn.0 ≡ 0 = ap (λ (y : Deed). y.reply.txn.0) (sym q) ∙ ap (λ (v : TxnOf). v.0) (acted head.osts past (turn stamp (Target t)) t d ok).number in omega arith
+      Now : Deed → Type 0
+      Now e = (d ≡ e) ⊎ Acted past e
 
-      parts : List Part
-      parts = (acts_saw (turn stamp (Target t)) t d ok).0
+      split : (e : Deed) → Now e → Idle head.osts past e ⊎ Acted past e
+      split e (inl q) = inl (subst (Idle head.osts past) q (acts_idle (turn stamp (Target t)) t d ok))
+      split e (inr a) = inr a
 
-      saw_is : (e : Deed) → d ≡ e → e.reply.seen ≡ seen_in parts (server_of head.osts past).log
-      saw_is e q = ap (λ (y : Deed). y.reply.seen) (sym q) ∙ (acts_saw (turn stamp (Target t)) t d ok).1
+      more : (e : Deed) → Acted past e → Now e
+      more e a = inr a
 
-      wider : (n : ℕ) → (n ≤ (server_of head.osts past).committed.0) ⊎ ((e : Deed) × Acted past e × IsMade e × (e.reply.txn.0 ≡ n)) → (n ≤ (server_of head.osts past).committed.0) ⊎ ((e : Deed) × ((d ≡ e) ⊎ Acted past e) × IsMade e × (e.reply.txn.0 ≡ n))
-      wider n (inl le) = inl le
-      wider n (inr e) = inr (e.0, inr e.1, e.2, e.3)
+  pub history_grant : (stamp : Stamp) (t : ℕ) (lock : Lock) (d : Deed) → GrantsOk head.osts past (turn stamp (Target t)) t lock d → History head.osts head.clients (line (turn stamp (Target t)) (Grant lock (Some d)) ∷ past)
+  history_grant stamp t lock d ok =
+      let g = h.history in
+      record {
+        tree = g.tree;
+        disk = g.disk;
+        on_disk = g.on_disk;
+        log = λ e i. let k = g.log e i in (inr k.0, k.1, k.2, k.3);
+        logged = λ e a m s. g.logged e (made_before Now split more e a m) m s;
+        log_rises = g.log_rises;
+        later = g.later;
+        top = g.top;
+        last = λ e a m. g.last e (made_before Now split more e a m) m;
+        saw = λ e n a i. saw_before Now split more e n a i;
+        stands = λ e a m s n i. g.stands e (made_before Now split more e a m) m s n i;
+        heard = g.heard;
+        fresh = λ e a b n i. fresh_before Now split more e a b n i;
+        items = items_grow head.osts past (line (turn stamp (Target t)) (Grant lock (Some d)) ∷ past) more (λ n e. e) (omega arith) (items_of head.osts past) g.items;
+        items_have = λ e a m s. g.items_have e (made_before Now split more e a m) m s;
+        items_fall = g.items_fall;
+        log_of = g.log_of;
+      }
+    where
+      Now : Deed → Type 0
+      Now e = (Some d ≡ Some e) ⊎ Acted past e
 
-      saw_new : (e : Deed) (n : ℕ) → d ≡ e → In n e.reply.seen → ((n ≤ (server_of head.osts past).committed.0) ⊎ ((x : Deed) × ((d ≡ x) ⊎ Acted past x) × IsMade x × (x.reply.txn.0 ≡ n))) × (IsMade e → n < e.reply.txn.0)
-      saw_new e n q i =
-          let k = log_seen parts n (subst (λ (ns : List ℕ). In n ns) (saw_is e q) i) in
-          (inr (k.0, inr k.1, k.2, k.3), λ m. absurd (not_made e q m))
+      split : (e : Deed) → Now e → Idle head.osts past e ⊎ Acted past e
+      split e a = ⊎_elim
+          (λ (b : Acted past e). inr b)
+          (λ (r : (d ≡ e) × RangeOk head.osts past (turn stamp (Target t)) lock e). inl (range_idle (turn stamp (Target t)) lock e r.1))
+          (grant_acted head.osts past (turn stamp (Target t)) t lock d ok e a)
+
+      more : (e : Deed) → Acted past e → Now e
+      more e a = inr a
 
   pub history_made : (stamp : Stamp) (t : ℕ) (d : Deed) → TxnOk head.osts past (turn stamp (Target t)) d → History head.osts head.clients (line (turn stamp (Target t)) (Made d) ∷ past)
   history_made stamp t d ok =

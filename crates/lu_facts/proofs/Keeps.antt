@@ -124,7 +124,7 @@ keeps_heard head past stamp c t f r ok h k = for_keeps head.osts new (λ who. by
 
 -- ---- a lock that came with it is shown
 
-keeps_hold : (osts : ℕ) (past : List Line) (stamp : Stamp) (c t : ℕ) (lock : Lock) (marked : Bool) (size : Option ℕ) (seen : List ℕ) → HeldOk past c lock seen → Keeps osts past → Keeps osts (line (turn stamp (Client c)) (Hold t lock marked size seen) ∷ past)
+keeps_hold : (osts : ℕ) (past : List Line) (stamp : Stamp) (c t : ℕ) (lock : Lock) (marked : Bool) (size : Option ℕ) (seen : List ℕ) → HeldOk past c t lock seen → Keeps osts past → Keeps osts (line (turn stamp (Client c)) (Hold t lock marked size seen) ∷ past)
 keeps_hold osts past stamp c t lock marked size seen ok h = for_keeps osts (line (turn stamp (Client c)) (Hold t lock marked size seen) ∷ past) (λ who. by who (is_own who past (Client c)) refl)
   where
     most : ℕ
@@ -133,7 +133,7 @@ keeps_hold osts past stamp c t lock marked size seen ok h = for_keeps osts (line
     by : (who : Who) (b : Bool) → is_own who past (Client c) ≡ b → KeepsFor most (HeardAs past who) (if b then kept_after (kept_of who past) (Hold t lock marked size seen) else kept_of who past)
     by who true own =
         for_settled most (HeardAs past who) 0 _ (omega arith)
-        (for_shown most (HeardAs past who) ok.flight ok.reply seen (kept_of who past) (subst (λ (w : Who). HeardAs past w ok.flight ok.reply) (sym (own_is who past c own)) (now_heard past ok.at 0 c ok.flight ok.reply ok.heard ok.here)) ok.saw (keeps_for osts past h who))
+        (for_shown most (HeardAs past who) ok.flight ok.reply seen (kept_of who past) (subst (λ (w : Who). HeardAs past w ok.flight ok.reply) (sym (own_is who past c own)) (now_heard past ok.at t c ok.flight ok.reply ok.heard ok.here)) ok.saw (keeps_for osts past h who))
     by who false own = keeps_for osts past h who
 
 -- ---- more is said to be committed

@@ -31,16 +31,16 @@ use Rattle.lu_covered.specs.Known.{notes_at, known_answer}
 use Rattle.lu_covered.specs.TargetStates.{tree_at, committed_at, server_of}
 use Rattle.lu_covered.specs.ClientStates.{life_of}
 use Rattle.lu_covered.specs.Heads.{Head}
-use Rattle.lu_guards.proofs.Guards.{In, name_of, HeardNow, LearnsOk, EntryOk}
+use Rattle.lu_guards.proofs.Guards.{In, HeardNow, LearnsOk, EntryOk}
 use Rattle.lu_guards.proofs.StoryGuards.{HeardOk, EntryOf}
 use Rattle.lu_guards.proofs.Grown.{Grown, GrownOf}
-use Rattle.lu_guards.proofs.Held.{held_is}
+use Rattle.lu_guards.proofs.Held.{held_into}
 use Rattle.lu_guards.proofs.Lists.{self, in_append, in_filter}
 use Rattle.lu_guards.proofs.Only.{grown_of}
 use Rattle.lu_guards.proofs.Parts.{tree_is, committed_is, life_is_of}
 use Rattle.lu_guards.proofs.ClientLocks.{any_true}
 use Rattle.lu_facts.proofs.Groups.{turn, Acted, IsMade, Stands, Dead, Evicted, Lapsed, HoldsAt}
-use Rattle.lu_facts.proofs.LockLists.{held_not, is_of_name}
+use Rattle.lu_facts.proofs.Brings.{of_reply}
 use Rattle.lu_facts.proofs.Lines.{acted_more}
 use Rattle.lu_facts.proofs.All.{holds_at}
 use Rattle.lu_facts.proofs.KnownPaths.{Tells, Usable, Right, known_is_right}
@@ -53,7 +53,7 @@ use Rattle.lu_facts.proofs.TaughtClose.{keeps_taught}
 
 pub taught_at : (head : Head) (past : List Line) → GrownOf head past → Taught head.osts past
 taught_at head [] g = first_taught head.osts
-taught_at head (l ∷ past) g = keeps_taught head past l.at.stamp l.at.node l.entry g.0 g.1 (holds_at head past g.3) (holds_at head (l ∷ past) g) (held_heard head past g.3 (holds_at head)) (taught_at head past g.3)
+taught_at head (l ∷ past) g = keeps_taught head past l.at.stamp l.at.node l.entry g.0 (holds_at head past g.3) (holds_at head (l ∷ past) g) (held_heard head past g.3 (holds_at head)) (taught_at head past g.3)
 
 pub client_is : (a b : ℕ) → Client a ≡ Client b → a ≡ b
 client_is a b e = cc
@@ -79,7 +79,8 @@ heard_answered head (l ∷ past) c f r g i = more (by l.at.node l.entry g.0 i (�
     more : (d : Deed) × Answered past c f r d → (d : Deed) × Answered (l ∷ past) c f r d
     more k = (k.0, record { acted = acted_more l.at l.entry past k.0 k.1.acted; who = k.1.who; client = k.1.client; is = k.1.is; op = k.1.op })
 
-    by : (node : Node) (e : Entry) → EntryOf head past (turn l.at.stamp node) node e → HeardBy (line (turn l.at.stamp node) e ∷ past) c f r → (HeardBy past c f r → (d : Deed) × Answered past c f r d) → (d : Deed) × Answered past c f r d
+    by : (node : Node) (e : Entry) → EntryOf head past (turn l.at.stamp node) node e → HeardBy (line (turn l.at.stamp node) e ∷ past) c f r → (HeardBy past c f r → (d : Deed) × Answered past c f r d)
+        → (d : Deed) × Answered past c f r d
     by (Client b) (Heard t x k) ok (inl e) ih =
         let client : b ≡ c = client_is b c e.0 in
         answered_now head past c f r (subst (λ (v : ℕ). HeardOk past v f r) client (subst (λ (v : Flight). HeardOk past b v r) e.1 (subst (λ (v : ReplyTo). HeardOk past b x v) e.2 ok))) (holds_at head past g.3)
@@ -113,7 +114,7 @@ heard_by_whole t (l ∷ past) c f r i =
     by _ j h = h j
 
 -- a reply that was just heard
-now_heard : (past : List Line) (at : At) (t c : ℕ) (f : Flight) (r : ReplyTo) → HeardNow past at t f r → at.node ≡ Client c → HeardBy (only t past) c f r
+pub now_heard : (past : List Line) (at : At) (t c : ℕ) (f : Flight) (r : ReplyTo) → HeardNow past at t f r → at.node ≡ Client c → HeardBy (only t past) c f r
 now_heard [] at t c f r h q = absurd h
 now_heard (l ∷ past) at t c f r h q = by l.entry h (λ k. now_heard past at t c f r k q)
   where
@@ -165,12 +166,12 @@ facts_heard head (l ∷ past) c f g i = more (by l.at.node l.entry g.0.ok i (λ 
 
 -- ---- a fact that may be used
 
-usable_held : (cookie : Cookie) (held : List HeldLock) → is_usable cookie held ≡ true → (h : HeldLock) × In h held × (h.lock.cookie ≡ cookie)
+pub usable_held : (cookie : Cookie) (held : List HeldLock) → is_usable cookie held ≡ true → (h : HeldLock) × In h held × (h.target.0 ≡ 0) × (h.lock.cookie ≡ cookie)
 usable_held cookie held e =
     let r = any_true (λ (h : HeldLock). h.target.0 == 0 && h.lock.cookie.0 == cookie.0 && not h.marked) held e in
     let p = and_parts (r.0.target.0 == 0 && r.0.lock.cookie.0 == cookie.0) (not r.0.marked) r.2 in
     let q = and_parts (r.0.target.0 == 0) (r.0.lock.cookie.0 == cookie.0) p.0 in
-    (r.0, r.1, ap (λ (n : ℕ). record { 0 = n }) (eqb-true r.0.lock.cookie.0 cookie.0 q.1))
+    (r.0, r.1, eqb-true r.0.target.0 0 q.0, ap (λ (n : ℕ). record { 0 = n }) (eqb-true r.0.lock.cookie.0 cookie.0 q.1))
 
 -- the deed that taught it to the present life, and its lock, which is granted still, unless that life was evicted; it is true of the tree
 -- as that life knows it
@@ -192,9 +193,9 @@ fact_of past c x r d f k i =
     subst (λ (v : Op). In f (taught v d.reply.answer d.reply.locks)) (sym k.op)
     (subst (λ (v : ReplyTo). In f (taught x.op v.answer v.locks)) (sym k.is) i)
 
--- the lock is held, marked or not
-pub held_stands : (head : Head) (past : List Line) (c : ℕ) (f : Fact) → Grown head past → In f (facts_at c past) → (h : HeldLock) → In h (held_at c past) → h.lock.cookie ≡ f.cookie → Standing head past c f
-held_stands head past c f g known h held same_cookie =
+-- the lock on names is held, marked or not
+pub held_stands : (head : Head) (past : List Line) (c : ℕ) (f : Fact) → Grown head past → In f (facts_at c past) → (h : HeldLock) → In h (held_at c past) → h.target.0 ≡ 0 → h.lock.cookie ≡ f.cookie → Standing head past c f
+held_stands head past c f g known h held names same_cookie =
     let story = grown_of head 0 past g in
     let s = facts_heard head past c f g known in
     let k = heard_answered head (only 0 past) c s.flight s.reply story s.heard in
@@ -202,9 +203,9 @@ held_stands head past c f g known h held same_cookie =
     let under = taught_at head (only 0 past) story d f (k.1.acted, fact_of (only 0 past) c s.flight s.reply d f k.1 s.fact) in
     let at = holds_at head (only 0 past) story in
     let locks = at.locks in
-    let in_story : In h (held_at c (only 0 past)) = subst (λ (v : List HeldLock). In h v) (held_is head c past g) held in
+    let in_story : In h (held_at c (only 0 past)) = held_into c 0 past h names held in
     let holding = locks.held c h in_story in
-    let same = locks.once d holding.deed under.lock h.lock (k.1.acted, under.among) holding.gave (under.cookie ∙ sym same_cookie) in
+    let same = locks.once d holding.deed under.lock h.lock (k.1.acted, of_reply d.op d.reply under.lock under.among) holding.gave (under.cookie ∙ sym same_cookie) in
     let life : life_of c (only 0 past) ≡ life_at c past = sym (life_is_of c 0 past) in
     let whose : d.reply.who ≡ life_at c past = ap (λ (v : Deed). v.reply.who) same.0 ∙ holding.who ∙ life in
     let client : d.reply.who.client ≡ c = ap (λ (v : Deed). v.reply.who.client) same.0 ∙ ap (λ (v : Who). v.client) holding.who ∙ at.phase.client c in
@@ -218,60 +219,65 @@ held_stands head past c f g known h held same_cookie =
           (λ (i : In h.lock (server_of head.osts (only 0 past)).granted). inl (subst (λ (v : Lock). In v (server_of head.osts (only 0 past)).granted) (sym same.1) i))
           (λ (i : Evicted (only 0 past) (life_of c (only 0 past))). inr (subst (λ (v : Who). Evicted (only 0 past) v) life i))
           holding.granted;
-      fresh = held_now d under.lock c h client in_story holding.target (ap (λ (v : Lock). v.cookie) (sym same.1));
+      fresh = held_now d under.lock c h client in_story (ap (λ (v : Lock). v.cookie) (sym same.1));
       tells = subst (λ (v : Who). Tells (tree_for head.osts v (only 0 past)) (bound_of head.osts (only 0 past)) f) whose
-          (tells_for head (only 0 past) at d f under k.1.acted (held_now d under.lock c h client in_story holding.target (ap (λ (v : Lock). v.cookie) (sym same.1))));
+          (tells_for head (only 0 past) at d f under k.1.acted (held_now d under.lock c h client in_story (ap (λ (v : Lock). v.cookie) (sym same.1))));
     }
   where
-    held_now : (d : Deed) (l : Lock) (b : ℕ) (k : HeldLock) → d.reply.who.client ≡ b → In k (held_at b (only 0 past)) → k.target.0 ≡ 0 → k.lock.cookie ≡ l.cookie → Unheld (only 0 past) d l → ⊥
-    held_now d l b k client i target e x =
-        let no = held_not (name_of l.cookie) (held_at d.reply.who.client (only 0 past)) (⊎_elim (λ (y : Dead (only 0 past) d l). y.1) (λ (y : Lapsed (only 0 past) d l). y.1) x) k (subst (λ (v : ℕ). In k (held_at v (only 0 past))) (sym client) i) in
-        let yes = is_of_name l.cookie k target (ap (λ (v : Cookie). v.0) e) in
-        absurd (cc)
+    held_now : (d : Deed) (l : Lock) (b : ℕ) (k : HeldLock) → d.reply.who.client ≡ b → In k (held_at b (only 0 past)) → k.lock.cookie ≡ l.cookie → Unheld (only 0 past) d l → ⊥
+    held_now d l b k client i e x =
+        ⊎_elim (λ (y : Dead (only 0 past) d l). y.1) (λ (y : Lapsed (only 0 past) d l). y.1) x k (subst (λ (v : ℕ). In k (held_at v (only 0 past))) (sym client) i) (ap (λ (v : Cookie). v.0) e)
 
 pub fact_stands : (head : Head) (past : List Line) (c : ℕ) (f : Fact) → Grown head past → Usable (notes_at c past) f → Standing head past c f
-fact_stands head past c f g u = let h = usable_held f.cookie (held_at c past) u.1 in held_stands head past c f g u.0 h.0 h.1 h.2
+fact_stands head past c f g u = let h = usable_held f.cookie (held_at c past) u.1 in held_stands head past c f g u.0 h.0 h.1 h.2 h.3
 
 -- ---- what is told
 
 -- where the present life wasn't evicted, the lock is granted
-still_granted : (head : Head) (past : List Line) (c : ℕ) (f : Fact) → (Evicted (only 0 past) (life_at c past) → ⊥) → (s : Standing head past c f) → In s.under.lock (server_of head.osts (only 0 past)).granted
+pub still_granted : (head : Head) (past : List Line) (c : ℕ) (f : Fact) → (Evicted (only 0 past) (life_at c past) → ⊥) → (s : Standing head past c f) → In s.under.lock (server_of head.osts (only 0 past)).granted
 still_granted head past c f present s =
     ⊎_elim (λ (i : In s.under.lock (server_of head.osts (only 0 past)).granted). i) (λ (i : Evicted (only 0 past) (life_at c past)). absurd (present i)) s.granted
 
-module _ (head : Head) (past : List Line) (g : Grown head past) (c : ℕ) (number : TxnOf) (who : Who) (file : Option HandleFile) (k : Call) (o : Op) (a : Answer) (known : known_answer (notes_at c past) k ≡ Some a) (becomes : operation_of file k ≡ Some o) where
-  -- a number that was seen in a reply that the present life heard
-  abbrev pub SawBy : ℕ → Type 0
-  SawBy n = record { flight : Flight; reply : ReplyTo; heard : HeardBy past c flight reply; of : reply.who ≡ life_at c past; seen : In n reply.seen }
+-- a number that was seen in a reply that the present life heard
+abbrev pub SawBy : List Line → ℕ → ℕ → Type 0
+SawBy past c n = record { flight : Flight; reply : ReplyTo; heard : HeardBy past c flight reply; of : reply.who ≡ life_at c past; seen : In n reply.seen }
 
-  module _ (present : Evicted (only 0 past) (life_at c past) → ⊥) where
-    pub right : Right (tree_at head.osts 0 past) (notes_at c past) head.osts number who o a
-    right =
-        let v = server_of head.osts (only 0 past) in
-        subst (λ (t : Tree). Right t (notes_at c past) head.osts number who o a) (sym (tree_is head.osts 0 past))
-        (known_is_right v.tree (bound_of head.osts (only 0 past)) (notes_at c past) (λ f u. let s = fact_stands head past c f g u in (s.under.stands s.fresh (still_granted head past c f present s)).tells)
-        (sound_now head (only 0 past) (holds_at head (only 0 past) (grown_of head 0 past g))).one head.osts number who file k o a known becomes)
+-- a fact is true of the tree, and each transaction that stands and wrote what it is on is committed, or was seen
+pub stands_tells : (head : Head) (past : List Line) (c : ℕ) (f : Fact) → (Evicted (only 0 past) (life_at c past) → ⊥) → Standing head past c f → Tells (server_of head.osts (only 0 past)).tree (bound_of head.osts (only 0 past)) f
+stands_tells head past c f present s = (s.under.stands s.fresh (still_granted head past c f present s)).tells
 
-    -- it is what the table answers
-    pub known_right : a ≡ answer head.osts (tree_at head.osts 0 past) (record { number = number; who = who; op = o })
-    known_right = right.same
-
-    -- each transaction that stands and wrote what it looks at is committed, or was seen
-    pub known_saw : (p : Part) → In p (touches head.osts (tree_at head.osts 0 past) (record { number = number; who = who; op = o })) → (e : Deed) → Acted (only 0 past) e → IsMade e → Stands head.osts (only 0 past) e
-        → Apart e.writes p ⊎ ((e.reply.txn.0 ≤ (committed_at 0 past).0) ⊎ SawBy e.reply.txn.0)
-    known_saw p i e b made stands =
-        let f = right.looks p i in
-        let s = fact_stands head past c f.0 g f.1 in
-        by s (subst (λ (q : Part). Apart e.writes q ⊎ ((e.reply.txn.0 ≤ (server_of head.osts (only 0 past)).committed.0) ⊎ In e.reply.txn.0 s.deed.reply.seen)) (sym f.2) ((s.under.stands s.fresh (still_granted head past c f.0 present s)).saw e b made stands))
-      where
-        by : {f : Fact} (s : Standing head past c f) → Apart e.writes p ⊎ ((e.reply.txn.0 ≤ (server_of head.osts (only 0 past)).committed.0) ⊎ In e.reply.txn.0 s.deed.reply.seen) → Apart e.writes p ⊎ ((e.reply.txn.0 ≤ (committed_at 0 past).0) ⊎ SawBy e.reply.txn.0)
-        by s (inl q) = inl q
-        by s (inr (inl le)) = inr (inl (subst (λ (m : TxnOf). e.reply.txn.0 ≤ m.0) (sym (committed_is head.osts 0 past)) le))
-        by s (inr (inr j)) = inr (inr (record {
+pub stands_saw : (head : Head) (past : List Line) (c : ℕ) (f : Fact) → (Evicted (only 0 past) (life_at c past) → ⊥) → Standing head past c f → (p : Part) → p ≡ f.part → (e : Deed) → Acted (only 0 past) e → IsMade e
+    → Stands head.osts (only 0 past) e → Apart e.writes p ⊎ ((e.reply.txn.0 ≤ (committed_at 0 past).0) ⊎ SawBy past c e.reply.txn.0)
+stands_saw head past c f present s p is e b made stands =
+    by (subst (λ (q : Part). Apart e.writes q ⊎ ((e.reply.txn.0 ≤ (server_of head.osts (only 0 past)).committed.0) ⊎ In e.reply.txn.0 s.deed.reply.seen)) (sym is)
+    ((s.under.stands s.fresh (still_granted head past c f present s)).saw e b made stands))
+  where
+    by : Apart e.writes p ⊎ ((e.reply.txn.0 ≤ (server_of head.osts (only 0 past)).committed.0) ⊎ In e.reply.txn.0 s.deed.reply.seen) → Apart e.writes p ⊎ ((e.reply.txn.0 ≤ (committed_at 0 past).0) ⊎ SawBy past c e.reply.txn.0)
+    by (inl q) = inl q
+    by (inr (inl le)) = inr (inl (subst (λ (m : TxnOf). e.reply.txn.0 ≤ m.0) (sym (committed_is head.osts 0 past)) le))
+    by (inr (inr j)) =
+        inr (inr (record {
           flight = s.source.flight;
           reply = s.source.reply;
           heard = heard_by_whole 0 past c s.source.flight s.source.reply s.source.heard;
-          of = sym s.answered.who
-              ∙ s.whose;
+          of = sym s.answered.who ∙ s.whose;
           seen = subst (λ (ns : List ℕ). In e.reply.txn.0 ns) (ap (λ (v : ReplyTo). v.seen) s.answered.is) j;
         }))
+
+module _ (head : Head) (past : List Line) (g : Grown head past) (c : ℕ) (number : TxnOf) (who : Who) (file : Option HandleFile) (k : Call) (o : Op) (a : Answer)
+    (known : known_answer (notes_at c past) k ≡ Some a) (becomes : operation_of file k ≡ Some o) (present : Evicted (only 0 past) (life_at c past) → ⊥) where
+  pub right : Right (tree_at head.osts 0 past) (notes_at c past) head.osts number who o a
+  right =
+      let v = server_of head.osts (only 0 past) in
+      subst (λ (t : Tree). Right t (notes_at c past) head.osts number who o a) (sym (tree_is head.osts 0 past))
+      (known_is_right v.tree (bound_of head.osts (only 0 past)) (notes_at c past) (λ f u. stands_tells head past c f present (fact_stands head past c f g u))
+      (sound_now head (only 0 past) (holds_at head (only 0 past) (grown_of head 0 past g))).one head.osts number who file k o a known becomes)
+
+  -- it is what the table answers
+  pub known_right : a ≡ answer head.osts (tree_at head.osts 0 past) (record { number = number; who = who; op = o })
+  known_right = right.same
+
+  -- each transaction that stands and wrote what it looks at is committed, or was seen
+  pub known_saw : (p : Part) → In p (touches head.osts (tree_at head.osts 0 past) (record { number = number; who = who; op = o })) → (e : Deed) → Acted (only 0 past) e → IsMade e → Stands head.osts (only 0 past) e
+      → Apart e.writes p ⊎ ((e.reply.txn.0 ≤ (committed_at 0 past).0) ⊎ SawBy past c e.reply.txn.0)
+  known_saw p i e b made stands = let f = right.looks p i in stands_saw head past c f.0 present (fact_stands head past c f.0 g f.1) p f.2 e b made stands

@@ -1,6 +1,6 @@
 -- Where files lie: each stripe of a file on one of the run's object storage targets. So it is of each layout in the tree, since a new file's
--- is so and no operation changes one; and so of each file that is told as open.
-use Rattle.std.proofs.Common.{◌≡◌, ℕ, ℤ, zero, suc, ◌+◌, ◌%◌, ◌<◌, ◌≤◌, Bool, true, false, List, [], ◌∷◌, Option, Some, None, inl, inr, refl, sym, subst, ap, ◌∙◌, arith}
+-- is so and no operation changes one; and so of each layout that is told.
+use Rattle.std.proofs.Common.{◌≡◌, ℕ, ℤ, zero, suc, ◌+◌, ◌%◌, ◌<◌, ◌≤◌, Bool, true, false, List, [], ◌∷◌, Option, Some, None, inl, inr, ⊎_elim, refl, sym, subst, ap, ◌∙◌, arith}
 use Rattle.std.specs.Prelude.{nat_eq, length, map, slice_index, ◌==◌, if◌then◌else◌}
 use Rattle.std.specs.List.{range_with_len}
 use Rattle.std.proofs.lemmas.Bool.{cond_both}
@@ -12,6 +12,7 @@ use Rattle.lu_base.specs.declared.ids.Node.TheVariants.{Client, Target}
 use Rattle.lu_base.specs.declared.ids.Txn.{Txn as TxnOf}
 use Rattle.lu_base.specs.declared.ids.Who.{Who}
 use Rattle.lu_layout.specs.Raid0.{Raid0}
+use Rattle.lu_msg.specs.declared.answers.Answer.{Answer}
 use Rattle.lu_msg.specs.declared.answers.Answer.TheVariants as told
 use Rattle.lu_msg.specs.declared.answers.Errno.{Errno}
 use Rattle.lu_msg.specs.declared.answers.Errno.TheVariants.{EEXIST, EISDIR, EINVAL, EBUSY}
@@ -25,28 +26,27 @@ use Rattle.lu_machine.specs.Change.{Change, MakesFile, Leads, Drops, Parted, Set
 use Rattle.lu_machine.specs.Effect.{on_layout}
 use Rattle.lu_machine.specs.Striping.{stripe_size, stripe_count, is_bad, stripe_targets, new_layout}
 use Rattle.lu_machine.specs.Plan.{Plan, Refuse, LookAttr, Outcome, outcome}
-use Rattle.lu_machine.specs.Table.{root, there, absent, walk, walk_up, last_of, tells, does, row_lookup, row_stat, row_list, row_layout, row_mkdir, row_create, row_link, row_unlink, row_rmdir, passes, moves, row_replace, row_rename, rename, row_chmod, row_open, plan}
-use Rattle.lu_machine.specs.Footprint.{Operation, Every, empty, answer}
+use Rattle.lu_machine.specs.Table.{root, there, absent, walk_up, last_of, tells, does, row_lookup, row_stat, row_list, row_layout, row_mkdir, row_create, row_link, row_unlink, row_rmdir, passes, moves, row_replace, row_rename, rename, row_chmod, row_open, plan}
+use Rattle.lu_machine.specs.Footprint.{Every, empty, answer}
 use Rattle.lu_machine.specs.Removal.{contents}
 use Rattle.lu_machine.specs.Fits.{answer_fits}
 use Rattle.lu_machine.proofs.Effects.{layout_after}
 use Rattle.lu_machine.proofs.Fits.{answers_fit}
 use Rattle.lu_machine.proofs.Walks.{there_ends, absent_ends, if_empty_ends, walk_ends, walk_up_ends, to_last_ends}
 use Rattle.lu_words.specs.Carried.{Deed}
-use Rattle.lu_words.specs.Words.{Entry, Act, Txn as Made, Line, line}
+use Rattle.lu_words.specs.Words.{Entry, Act, Txn as Made, Grant, Line, line}
 use Rattle.lu_words.specs.Concerns.{only}
-use Rattle.lu_covered.specs.Calls.{opened}
-use Rattle.lu_covered.specs.Deeds.{asked}
 use Rattle.lu_covered.specs.TargetStates.{none, next_number, server_of}
 use Rattle.lu_covered.specs.Heads.{Head}
-use Rattle.lu_guards.proofs.StoryGuards.{ActOk, ActsOk, TxnOk}
-use Rattle.lu_guards.proofs.Acts.{sized_answer}
+use Rattle.lu_guards.proofs.StoryGuards.{ActOk, ActsOk, TxnOk, RangeOk}
+use Rattle.lu_guards.proofs.Acts.{sized_answer, range_answer}
 use Rattle.lu_guards.proofs.Grown.{Allowed, Grown}
 use Rattle.lu_guards.proofs.Lists.{self}
 use Rattle.lu_facts.proofs.Groups.{turn, Acted, HoldsAt, items_of}
 use Rattle.lu_facts.proofs.All.{holds}
 use Rattle.lu_facts.proofs.OverItems.{over_now}
-use Rattle.lu_facts.proofs.OnNames.{IsOnNames, open_op}
+use Rattle.lu_facts.proofs.OnNames.{IsOnNames}
+use Rattle.lu_facts.proofs.GrantLines.{grant_either}
 use Rattle.lu_facts.proofs.Sides.{acted_only}
 use Rattle.lu_facts.proofs.Asked.{acted_on_names}
 
@@ -217,49 +217,112 @@ laid head past g f = subst (λ (l : Raid0). OnTargets head.osts l.targets) (at.h
 
 -- ---- what is told
 
--- an open tells the layout that stands
-abbrev OpensLaid : ℕ → Outcome → Type 0
-OpensLaid osts o = (fid : Fid) (number : TxnOf) (l : Raid0) → o.answer ≡ told.OpenFile fid number l → OnTargets osts l.targets
+-- a layout that is told is on object storage targets of the run: that of a file that is open, or stated, or asked for
+abbrev pub IsLaid : ℕ → Answer → Type 0
+IsLaid osts (told.FileStat fid mode links l) = OnTargets osts l.targets
+IsLaid osts (told.OpenFile fid number l) = OnTargets osts l.targets
+IsLaid osts (told.Layout l) = OnTargets osts l.targets
+IsLaid osts _ = Unit {0}
 
-open_laid : (osts : ℕ) (t : Tree) (number : TxnOf) (who : Who) (path : List (List ℕ)) → Laid osts t → OpensLaid osts (outcome t (walk root path (λ cs. row_open number who (last_of root cs))))
-open_laid osts t number who path laid = walk_ends t (OpensLaid osts) (λ e fid n l h. absurd (cc)) root path (λ cs. row_open number who (last_of root cs)) (λ cs _. by (last_of root cs))
+abbrev TellsNone : Op → Type 0
+TellsNone (op.Stat path) = ⊥
+TellsNone (op.Layout path) = ⊥
+TellsNone (op.Open path) = ⊥
+TellsNone o = IsOnNames o
+
+other_laid : (osts : ℕ) (o : Op) (a : Answer) → answer_fits o a ≡ true → TellsNone o → IsLaid osts a
+other_laid osts (op.Lookup path) (told.FileStat f bits links l) fits other = absurd (cc)
+other_laid osts (op.Lookup path) (told.OpenFile f number l) fits other = absurd (cc)
+other_laid osts (op.Lookup path) (told.Layout l) fits other = absurd (cc)
+other_laid osts (op.List path) (told.FileStat f bits links l) fits other = absurd (cc)
+other_laid osts (op.List path) (told.OpenFile f number l) fits other = absurd (cc)
+other_laid osts (op.List path) (told.Layout l) fits other = absurd (cc)
+other_laid osts (op.Mkdir path) (told.FileStat f bits links l) fits other = absurd (cc)
+other_laid osts (op.Mkdir path) (told.OpenFile f number l) fits other = absurd (cc)
+other_laid osts (op.Mkdir path) (told.Layout l) fits other = absurd (cc)
+other_laid osts (op.Create path size count) (told.FileStat f bits links l) fits other = absurd (cc)
+other_laid osts (op.Create path size count) (told.OpenFile f number l) fits other = absurd (cc)
+other_laid osts (op.Create path size count) (told.Layout l) fits other = absurd (cc)
+other_laid osts (op.Link old new) (told.FileStat f bits links l) fits other = absurd (cc)
+other_laid osts (op.Link old new) (told.OpenFile f number l) fits other = absurd (cc)
+other_laid osts (op.Link old new) (told.Layout l) fits other = absurd (cc)
+other_laid osts (op.Unlink path) (told.FileStat f bits links l) fits other = absurd (cc)
+other_laid osts (op.Unlink path) (told.OpenFile f number l) fits other = absurd (cc)
+other_laid osts (op.Unlink path) (told.Layout l) fits other = absurd (cc)
+other_laid osts (op.Rmdir path) (told.FileStat f bits links l) fits other = absurd (cc)
+other_laid osts (op.Rmdir path) (told.OpenFile f number l) fits other = absurd (cc)
+other_laid osts (op.Rmdir path) (told.Layout l) fits other = absurd (cc)
+other_laid osts (op.Rename old new) (told.FileStat f bits links l) fits other = absurd (cc)
+other_laid osts (op.Rename old new) (told.OpenFile f number l) fits other = absurd (cc)
+other_laid osts (op.Rename old new) (told.Layout l) fits other = absurd (cc)
+other_laid osts (op.Chmod path mode) (told.FileStat f bits links l) fits other = absurd (cc)
+other_laid osts (op.Chmod path mode) (told.OpenFile f number l) fits other = absurd (cc)
+other_laid osts (op.Chmod path mode) (told.Layout l) fits other = absurd (cc)
+other_laid osts (op.Close opened fid) (told.FileStat f bits links l) fits other = absurd (cc)
+other_laid osts (op.Close opened fid) (told.OpenFile f number l) fits other = absurd (cc)
+other_laid osts (op.Close opened fid) (told.Layout l) fits other = absurd (cc)
+other_laid osts o (told.FileStat f bits links l) fits other = absurd other
+other_laid osts o (told.OpenFile f number l) fits other = absurd other
+other_laid osts o (told.Layout l) fits other = absurd other
+other_laid osts o a fits other = tt
+
+-- what the table answers tells the layout that stands
+table_laid : (osts : ℕ) (t : Tree) (number : TxnOf) (who : Who) (o : Op) → Laid osts t → IsOnNames o → IsLaid osts (answer osts t (record { number = number; who = who; op = o }))
+table_laid osts t number who o laid is = by o is
   where
-    by : (c : Child) → OpensLaid osts (outcome t (row_open number who c))
-    by (Dir d) fid n l h = absurd (cc)
-    by (File f) fid n l h = let same : layout t f ≡ l = cc in subst (λ (v : Raid0). OnTargets osts v.targets) same (laid f)
+    So : Outcome → Type 0
+    So r = IsLaid osts r.answer
 
-table_laid : (osts : ℕ) (t : Tree) (a : Operation) (fid : Fid) (n : TxnOf) (l : Raid0) → Laid osts t → IsOnNames a.op → answer osts t a ≡ told.OpenFile fid n l → OnTargets osts l.targets
-table_laid osts t a fid n l laid is h =
-    let k = open_op a.op fid n l is (ap (λ v. answer_fits a.op v) (sym h) ∙ answers_fit osts t a) in
-    open_laid osts t a.number a.who k.0 laid fid n l (sym (ap (λ (o : Op). answer osts t (record { number = a.number; who = a.who; op = o })) k.1) ∙ h)
+    stat : (cs : List Child) (c : Child) → So (outcome t (row_stat cs c))
+    stat cs (Dir d) = tt
+    stat cs (File f) = laid f
 
--- each file that is told as open
-pub acted_laid : (head : Head) (past : List Line) (d : Deed) → Grown head past → Acted past d → (fid : Fid) (number : TxnOf) (l : Raid0) → d.reply.answer ≡ told.OpenFile fid number l → OnTargets head.osts l.targets
-acted_laid head [] d g a fid n l h = absurd a
-acted_laid head (x ∷ past) d g a fid n l h = by x.at.node x.entry g.0 a (λ at. acted_on_names head (x ∷ past) d g (acted_only head (x ∷ past) d 0 g a at)) (λ b. acted_laid head past d g.1 b fid n l h)
+    lays : (cs : List Child) (c : Child) → So (outcome t (row_layout cs c))
+    lays cs (Dir d) = tt
+    lays cs (File f) = laid f
+
+    opens : (c : Child) → So (outcome t (row_open number who c))
+    opens (Dir d) = tt
+    opens (File f) = laid f
+
+    by : (o : Op) → IsOnNames o → IsLaid osts (answer osts t (record { number = number; who = who; op = o }))
+    by (op.Stat path) is = walk_ends t So (λ e. tt) root path (λ cs. row_stat cs (last_of root cs)) (λ cs _. stat cs (last_of root cs))
+    by (op.Layout path) is = walk_ends t So (λ e. tt) root path (λ cs. row_layout cs (last_of root cs)) (λ cs _. lays cs (last_of root cs))
+    by (op.Open path) is = walk_ends t So (λ e. tt) root path (λ cs. row_open number who (last_of root cs)) (λ cs _. opens (last_of root cs))
+    by o is = other_laid osts o (answer osts t (record { number = number; who = who; op = o })) (answers_fit osts t (record { number = number; who = who; op = o })) is
+
+-- each layout that is told
+pub acted_laid : (head : Head) (past : List Line) (d : Deed) → Grown head past → Acted past d → IsLaid head.osts d.reply.answer
+acted_laid head [] d g a = absurd a
+acted_laid head (x ∷ past) d g a = by x.at.node x.entry g.0 a (λ at. acted_on_names head (x ∷ past) d g (acted_only head (x ∷ past) d 0 g a at)) (λ b. acted_laid head past d g.1 b)
   where
     Done : Type 0
-    Done = OnTargets head.osts l.targets
+    Done = IsLaid head.osts d.reply.answer
 
     act : (at : At) → ActOk head.osts (only 0 past) at d → IsOnNames d.op → Done
     act at ok is =
         let v = server_of head.osts (only 0 past) in
-        table_laid head.osts v.tree (asked ok.request none) fid n l (laid head past g.1) (subst IsOnNames (ap (λ (y : Deed). y.op) ok.is) is) (ap (λ (y : Deed). y.reply.answer) (sym ok.is) ∙ h)
+        subst (λ (y : Deed). IsLaid head.osts y.reply.answer) (sym ok.is) (table_laid head.osts v.tree none ok.request.who ok.request.op (laid head past g.1) (subst IsOnNames (ap (λ (y : Deed). y.op) ok.is) is))
 
     txn : (at : At) → TxnOk head.osts (only 0 past) at d → IsOnNames d.op → Done
     txn at ok is =
         let v = server_of head.osts (only 0 past) in
-        table_laid head.osts v.tree (asked ok.request (next_number v)) fid n l (laid head past g.1) (subst IsOnNames (ap (λ (y : Deed). y.op) ok.is) is) (ap (λ (y : Deed). y.reply.answer) (sym ok.is) ∙ h)
+        subst (λ (y : Deed). IsLaid head.osts y.reply.answer) (sym ok.is) (table_laid head.osts v.tree (next_number v) ok.request.who ok.request.op (laid head past g.1) (subst IsOnNames (ap (λ (y : Deed). y.op) ok.is) is))
 
-    -- a glimpse tells of no file
+    -- what is asked of objects tells of no file
     acts : (t : ℕ) → ActsOk head.osts (only t past) (turn x.at.stamp (Target t)) t d → (d.reply.at.node ≡ Target 0 → IsOnNames d.op) → Done
     acts t (inl k) is =
         act (turn x.at.stamp (Target t)) (subst (λ (u : ℕ). ActOk head.osts (only u past) (turn x.at.stamp (Target t)) d) k.0 k.1) (is (ap (λ (y : Deed). y.reply.at.node) k.1.is ∙ ap Target k.0))
-    acts t (inr k) is = absurd (let size = sized_answer head.osts (only t past) (turn x.at.stamp (Target t)) d k.1 in cc)
+    acts t (inr k) is = subst (IsLaid head.osts) (sym (sized_answer head.osts (only t past) (turn x.at.stamp (Target t)) d k.1)) tt
 
     by : (node : Node) (e : Entry) → Allowed head past (turn x.at.stamp node) e → Acted (line (turn x.at.stamp node) e ∷ past) d → (d.reply.at.node ≡ Target 0 → IsOnNames d.op) → (Acted past d → Done) → Done
     by (Client c) (Act e) k a is ih = absurd k.ok
     by (Client c) (Made e) k a is ih = absurd k.ok
+    by (Client c) (Grant lock asked) k a is ih = absurd k.ok
+    by (Target t) (Grant lock asked) k (inl p) is ih = ⊎_elim ih
+        (λ (r : RangeOk head.osts (only t past) (turn x.at.stamp (Target t)) lock d). subst (IsLaid head.osts) (sym (range_answer head.osts (only t past) (turn x.at.stamp (Target t)) lock d r)) tt)
+        (grant_either head past x.at.stamp t lock asked d k p)
+    by (Target t) (Grant lock asked) k (inr b) is ih = ih b
     by (Target t) (Act e) k (inl p) is ih = acts t (subst (λ (y : Deed). ActsOk head.osts (only t past) (turn x.at.stamp (Target t)) t y) p (k.of t (self t))) is
     by (Target t) (Act e) k (inr b) is ih = ih b
     by (Target t) (Made e) k (inl p) is ih =
@@ -267,8 +330,3 @@ acted_laid head (x ∷ past) d g a fid n l h = by x.at.node x.entry g.0 a (λ at
         txn (turn x.at.stamp (Target t)) ok (is (ap (λ (y : Deed). y.reply.at.node) ok.is ∙ ap Target k.ok))
     by (Target t) (Made e) k (inr b) is ih = ih b
     by _ _ k a is ih = ih a
-
--- stripe by stripe
-pub acted_layout : (head : Head) (past : List Line) → Grown head past → (d : Deed) → Acted past d → (fid : Fid) (number : TxnOf) (l : Raid0) → d.reply.answer ≡ told.OpenFile fid number l
-    → (stripe : ℕ) → stripe < length l.targets → 0 < slice_index l.targets stripe
-acted_layout head past g d a fid number l h stripe low = (on_target head.osts l.targets (acted_laid head past d g a fid number l h) stripe low).0

@@ -6,6 +6,9 @@ pub mod Boots
 pub mod Numbers
 pub mod SlotLists
 pub mod DoneGrows
+pub mod Brings
+pub mod Lines
+pub mod GrantLines
 pub mod DoneSends
 pub mod DoneActs
 pub mod DoneLives
@@ -34,10 +37,9 @@ pub mod ItemLists
 pub mod HistoryLines
 pub mod HistoryClose
 pub mod History
-pub mod Lines
-pub mod Calls
-pub mod Endings
-pub mod Asks
+pub use Rattle.lu_guards.proofs.Calls
+pub use Rattle.lu_guards.proofs.Endings
+pub use Rattle.lu_guards.proofs.Asks
 pub mod Times
 pub mod Replies
 pub mod Unheld
@@ -53,7 +55,6 @@ pub mod Readings
 pub mod Inodes
 pub mod Finds
 pub mod Transactions
-pub mod Files
 pub mod Layouts
 pub mod Unlocked
 pub mod Refused
@@ -64,3 +65,8 @@ pub mod PartsStay
 pub mod Taught
 pub mod TaughtClose
 pub mod Known
+pub mod TaughtKnown
+pub mod Comes
+pub mod HeldThere
+pub mod ToldFiles
+pub mod StatFacts

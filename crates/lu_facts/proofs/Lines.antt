@@ -1,5 +1,5 @@
 -- What a line does, and that each line of a grown past is allowed at each target that it concerns.
-use Rattle.std.proofs.Common.{◌≡◌, ℕ, Bool, true, false, List, [], ◌∷◌, ◌++◌, ◌⊎◌, inl, inr, ⊎_elim, refl, sym, ap, ◌∙◌}
+use Rattle.std.proofs.Common.{◌≡◌, ℕ, Bool, true, false, List, [], ◌∷◌, ◌++◌, Option, Some, None, ◌⊎◌, inl, inr, ⊎_elim, refl, sym, subst, ap, ◌∙◌, arith}
 use Rattle.std.specs.Prelude.{nat_eq, if◌then◌else◌}
 use Rattle.std.proofs.lemmas.Bool.{cond_both}
 use Rattle.lu_base.specs.declared.ids.At.{At}
@@ -7,38 +7,44 @@ use Rattle.lu_base.specs.declared.ids.Node.{Node}
 use Rattle.lu_base.specs.declared.ids.Node.TheVariants.{Client, Target}
 use Rattle.lu_base.specs.declared.ids.Stamp.{Stamp}
 use Rattle.lu_base.specs.declared.ids.Who.{Who}
+use Rattle.lu_base.specs.declared.locks.Lock.{Lock}
 use Rattle.lu_words.specs.Carried.{Deed, Flight}
-use Rattle.lu_words.specs.Words.{Entry, Life, Flies, Heard, Act, Txn, Line, line, same_life}
+use Rattle.lu_words.specs.Words.{Entry, Life, Flies, Heard, Act, Txn, Grant, Line, line, same_life}
 use Rattle.lu_words.specs.Concerns.{concerns, only}
 use Rattle.lu_covered.specs.ClientStates.{life_of, is_own}
 use Rattle.lu_covered.specs.Heads.{Head}
-use Rattle.lu_guards.proofs.Guards.{EntryOk}
-use Rattle.lu_guards.proofs.StoryGuards.{EntryOf}
-use Rattle.lu_guards.proofs.Acts.{acted}
+use Rattle.lu_guards.proofs.Guards.{Did, OwesAsked, Owes, EntryOk}
+use Rattle.lu_guards.proofs.StoryGuards.{GrantsOk, EntryOf}
+use Rattle.lu_guards.proofs.Acts.{acted, range_acted}
 use Rattle.lu_guards.proofs.Grown.{Grown}
 use Rattle.lu_guards.proofs.Lists.{self}
+use Rattle.lu_guards.proofs.ClientLines.{some_is}
 use Rattle.lu_facts.proofs.Groups.{turn, Acted, Flew, Hears}
 
--- ---- what an entry does
+-- ---- what an entry does: a lock that is granted comes with what was done for it, be it then or before
 
 abbrev pub DoneBy : Entry → Deed → Type 0
 DoneBy (Act e) d = e ≡ d
 DoneBy (Txn e) d = e ≡ d
+DoneBy (Grant lock asked) d = asked ≡ Some d
 DoneBy _ d = ⊥
 
 pub acted_line : (at : At) (e : Entry) (past : List Line) (d : Deed) → Acted (line at e ∷ past) d → DoneBy e d ⊎ Acted past d
 acted_line at (Act e) past d a = a
 acted_line at (Txn e) past d a = a
+acted_line at (Grant lock asked) past d a = a
 acted_line at e past d a = inr a
 
 pub acted_here : (at : At) (e : Entry) (past : List Line) (d : Deed) → DoneBy e d → Acted (line at e ∷ past) d
 acted_here at (Act e) past d q = inl q
 acted_here at (Txn e) past d q = inl q
+acted_here at (Grant lock asked) past d q = inl q
 acted_here at e past d q = absurd q
 
 pub acted_more : (at : At) (e : Entry) (past : List Line) (d : Deed) → Acted past d → Acted (line at e ∷ past) d
 acted_more at (Act e) past d a = inr a
 acted_more at (Txn e) past d a = inr a
+acted_more at (Grant lock asked) past d a = inr a
 acted_more at e past d a = a
 
 -- of what concerns one target
@@ -79,14 +85,37 @@ hears_only l past who x a = cond_both (concerns 0 l.at.node l.entry) (l ∷ only
 abbrev pub AtEach : Head → List Line → At → Node → Entry → Type 0
 AtEach head past at node e = (t : ℕ) → concerns t node e ≡ true → EntryOf head (only t past) at node e
 
+-- the locks of what was just done are shown in the same turn
+owed_turn : (past : List Line) (at : At) (lock : Lock) (asked : Option Deed) (d : Deed) → Did past d → Owes past at (Grant lock asked) → d.reply.at ≡ at
+owed_turn [] at lock asked d i o = absurd i
+owed_turn (l ∷ past) at lock asked d i o = by l.entry i o
+  where
+    same : (given : Option Deed) → given ≡ Some d → OwesAsked at given (Grant lock asked) → d.reply.at ≡ at
+    same None e o = absurd (cc)
+    same (Some x) e o = subst (λ (v : Deed). v.reply.at ≡ at) (some_is x d e) o
+
+    by : (e : Entry) → Did (line l.at e ∷ past) d → Owes (line l.at e ∷ past) at (Grant lock asked) → d.reply.at ≡ at
+    by (Act e) i o = subst (λ (v : Deed). v.reply.at ≡ at) i o
+    by (Txn e) i o = subst (λ (v : Deed). v.reply.at ≡ at) i o
+    by (Grant k given) i o = same given i o
+    by e i o = absurd i
+
 -- what is done is done by a target, in this turn
-pub done_here : (head : Head) (past : List Line) (stamp : Stamp) (node : Node) (e : Entry) → EntryOk past (turn stamp node) node e → AtEach head past (turn stamp node) node e
+pub done_here : (head : Head) (past : List Line) (stamp : Stamp) (node : Node) (e : Entry) → EntryOk past (turn stamp node) node e → AtEach head past (turn stamp node) node e → Owes past (turn stamp node) e
     → (d : Deed) → DoneBy e d → ((t : ℕ) × (node ≡ Target t)) × (d.reply.at ≡ turn stamp node)
-done_here head past stamp (Target t) (Act x) ok of d e = ((t, refl), ap (λ (v : Deed). v.reply.at) (sym e) ∙ (acted head.osts (only t past) (turn stamp (Target t)) t x (of t (self t))).turn)
-done_here head past stamp (Target t) (Txn x) ok of d e = let k = of t (self t) in ((t, refl), ap (λ (v : Deed). v.reply.at) (sym e ∙ k.is))
-done_here head past stamp (Client c) (Act x) ok of d e = absurd ok
-done_here head past stamp (Client c) (Txn x) ok of d e = absurd ok
-done_here head past stamp node e ok of d q = absurd q
+done_here head past stamp (Target t) (Act x) ok of owes d e = ((t, refl), ap (λ (v : Deed). v.reply.at) (sym e) ∙ (acted head.osts (only t past) (turn stamp (Target t)) t x (of t (self t))).turn)
+done_here head past stamp (Target t) (Txn x) ok of owes d e = let k = of t (self t) in ((t, refl), ap (λ (v : Deed). v.reply.at) (sym e ∙ k.is))
+done_here head past stamp (Target t) (Grant lock (Some x)) ok of owes d e = ((t, refl), ap (λ (v : Deed). v.reply.at) (sym (some_is x d e)) ∙ by ok (of t (self t)))
+  where
+    by : EntryOk past (turn stamp (Target t)) (Target t) (Grant lock (Some x)) → GrantsOk head.osts (only t past) (turn stamp (Target t)) t lock x → x.reply.at ≡ turn stamp (Target t)
+    by (inl k) g = owed_turn past (turn stamp (Target t)) lock (Some x) x k.1 owes
+    by (inr k) (inl g) = absurd (let high = k.0 in let zero = g.0 in omega (arith, high, zero))
+    by (inr k) (inr g) = (range_acted head.osts (only t past) (turn stamp (Target t)) lock x g.1).turn
+done_here head past stamp (Target t) (Grant lock None) ok of owes d e = absurd (cc)
+done_here head past stamp (Client c) (Act x) ok of owes d e = absurd ok
+done_here head past stamp (Client c) (Txn x) ok of owes d e = absurd ok
+done_here head past stamp (Client c) (Grant lock asked) ok of owes d e = absurd ok
+done_here head past stamp node e ok of owes d q = absurd q
 
 -- ---- grown pasts
 

@@ -1,6 +1,6 @@
 -- Whose lives a target serves: of each client one at most has a slot, none newer than the client's own; and who is served there,
 -- or spoke to it as one that is, has a slot or was evicted.
-use Rattle.std.proofs.Common.{◌≡◌, ℕ, ◌+◌, ◌<◌, ◌≤◌, Bool, true, false, List, [], ◌∷◌, ◌⊎◌, inl, inr, ⊎_elim, refl, sym, subst, ap, ◌∙◌, arith}
+use Rattle.std.proofs.Common.{◌≡◌, ℕ, ◌+◌, ◌<◌, ◌≤◌, Bool, true, false, List, [], ◌∷◌, Option, ◌⊎◌, inl, inr, ⊎_elim, refl, sym, subst, ap, ◌∙◌, arith}
 use Rattle.std.specs.Prelude.{nat_eq, if◌then◌else◌}
 use Rattle.std.proofs.lemmas.Bool.{cond_both, eqb-true}
 use Rattle.lu_base.specs.declared.ids.Node.{Node}
@@ -8,11 +8,12 @@ use Rattle.lu_base.specs.declared.ids.Node.TheVariants.{Client, Target}
 use Rattle.lu_base.specs.declared.ids.Stamp.{Stamp}
 use Rattle.lu_base.specs.declared.ids.Who.{Who}
 use Rattle.lu_base.specs.declared.locks.Cause.{Cause}
+use Rattle.lu_base.specs.declared.locks.Lock.{Lock}
 use Rattle.lu_msg.specs.declared.messages.Message.{Message}
 use Rattle.lu_msg.specs.declared.messages.Message.TheVariants as message
 use Rattle.lu_msg.specs.declared.messages.Request.{Request as RequestOf}
 use Rattle.lu_words.specs.Carried.{Deed, Flight, Outcome}
-use Rattle.lu_words.specs.Words.{Entry, Send, Flies, Knows, Serves, Life, Act, Txn as Made, Evict, Joined, Close, Line, line, same_life}
+use Rattle.lu_words.specs.Words.{Entry, Send, Flies, Knows, Serves, Life, Act, Txn as Made, Grant, Evict, Joined, Close, Line, line, same_life}
 use Rattle.lu_target_rows.specs.Lives.{is_life}
 use Rattle.lu_covered.specs.Calls.{first_life}
 use Rattle.lu_covered.specs.Imports.{Standing, Joining, Recovering, Serving, interrupted}
@@ -217,6 +218,26 @@ lives_act osts clients past stamp t d k h =
 
 lives_txn : (osts clients : ℕ) (past : List Line) (stamp : Stamp) (t : ℕ) (d : Deed) → let new = line (turn stamp (Target t)) (Made d) ∷ past in Done osts clients new → Lives clients past → Lives clients new
 lives_txn osts clients past stamp t d k h =
+    record {
+      knows = h.knows;
+      low = h.low;
+      one = h.one;
+      apart = h.apart;
+      first = h.first;
+      served = h.served;
+      flew = h.flew;
+      acted = λ e a. let f = k.flew e a in h.flew e.reply.who f.0 f.1;
+      spoke = h.spoke;
+      ready = h.ready;
+      over = h.over;
+      knew = h.knew;
+      joins = h.joins;
+      silent = h.silent;
+    }
+
+lives_grant : (osts clients : ℕ) (past : List Line) (stamp : Stamp) (t : ℕ) (lock : Lock) (asked : Option Deed)
+    → let new = line (turn stamp (Target t)) (Grant lock asked) ∷ past in Done osts clients new → Lives clients past → Lives clients new
+lives_grant osts clients past stamp t lock asked k h =
     record {
       knows = h.knows;
       low = h.low;
@@ -596,6 +617,8 @@ keeps_lives head past stamp (Client c) (Act e) ok placed h n k = absurd ok
 keeps_lives head past stamp (Client c) (Made e) ok placed h n k = absurd ok
 keeps_lives head past stamp (Target t) (Act e) ok placed h n k = lives_act head.osts head.clients past stamp t e n h.lives
 keeps_lives head past stamp (Target t) (Made e) ok placed h n k = lives_txn head.osts head.clients past stamp t e n h.lives
+keeps_lives head past stamp (Client c) (Grant lock asked) ok placed h n k = absurd ok
+keeps_lives head past stamp (Target t) (Grant lock asked) ok placed h n k = lives_grant head.osts head.clients past stamp t lock asked n h.lives
 keeps_lives head past stamp (Target t) (Evict who cause) ok placed h n k =
     ⊎_elim (λ (o : EvictOk head past (turn stamp (Target t)) who cause). lives_evict head past stamp t who cause o h.lives) (λ (o : LeavesOk head past (turn stamp (Target t)) who cause). lives_left head past stamp t who cause o h.lives) ok
 keeps_lives head past stamp (Target t) (Joined who) ok placed h n k =

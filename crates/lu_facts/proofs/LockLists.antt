@@ -1,14 +1,20 @@
 -- Lists of locks: which are granted after an act, and which are held after a line.
 use Rattle.std.proofs.Common.{◌≡◌, ℕ, ◌+◌, Bool, true, false, List, [], ◌∷◌, ◌⊎◌, inl, inr, ⊎_elim, refl, sym, subst, ap, ◌∙◌, arith}
-use Rattle.std.specs.Prelude.{nat_eq, nat_lt, map, not, ◌&&◌, ◌||◌, if◌then◌else◌}
+use Rattle.std.specs.Prelude.{nat_eq, nat_lt, map, not, ◌++◌, ◌||◌, if◌then◌else◌}
 use Rattle.std.specs.List.{filter}
-use Rattle.std.proofs.lemmas.Bool.{and_parts, and_from, or_parts, or_from, cond_both, eqb-true, eq-eqb}
+use Rattle.std.proofs.lemmas.Bool.{and_parts, and_from, or_parts, or_from, cond_both, eqb-true, eqb-false, eq-eqb}
 use Rattle.lu_base.specs.declared.ids.Cookie.{Cookie}
 use Rattle.lu_base.specs.declared.ids.TargetId.{TargetId}
+use Rattle.lu_base.specs.declared.ids.Txn.{Txn}
 use Rattle.lu_base.specs.declared.ids.Who.{Who}
 use Rattle.lu_base.specs.declared.locks.Lock.{Lock}
 use Rattle.lu_base.specs.declared.locks.Mode.TheVariants.{PR}
 use Rattle.lu_part.specs.declared.parts.Want.{Want}
+use Rattle.lu_msg.specs.declared.answers.Answer.{Answer}
+use Rattle.lu_msg.specs.declared.answers.Answer.TheVariants as answer
+use Rattle.lu_msg.specs.declared.messages.Reply.{Reply as ReplyTo}
+use Rattle.lu_msg.specs.declared.operations.Op.{Op}
+use Rattle.lu_msg.specs.declared.operations.Op.TheVariants as op
 use Rattle.lu_held.specs.declared.locks.Change.{Change}
 use Rattle.lu_held.specs.declared.locks.Change.TheVariants.{Mark, Unmark, Pin, Unpin}
 use Rattle.lu_held.specs.declared.locks.HeldLock.{HeldLock}
@@ -20,11 +26,12 @@ use Rattle.lu_target_rows.specs.Lives.{is_life}
 use Rattle.lu_target_rows.specs.Locks.{with_lock, with_locks, locks_without}
 use Rattle.lu_target_rows.specs.Names.{locks_from}
 use Rattle.lu_words.specs.Words.{same_life}
-use Rattle.lu_client_rows.specs.Caches.{held_as, with_held, with_brought}
+use Rattle.lu_client_rows.specs.Caches.{held_as, with_held, with_brought, granted_lock, brought}
 use Rattle.lu_guards.proofs.Guards.{In, name_of}
 use Rattle.lu_guards.proofs.Lists.{in_append, in_filter, in_filtered, life_is}
 use Rattle.lu_guards.proofs.ClientLocks.{in_map}
 use Rattle.lu_guards.proofs.ClientLines.{from_high}
+use Rattle.lu_facts.proofs.Groups.{NoneOf}
 
 -- ---- the locks of an act: of one life, for reading, each with a cookie of its own above the greatest one
 
@@ -124,7 +131,7 @@ leaves_or who ls l i =
 pub left_in : (who : Who) (ls : List Lock) (l : Lock) → In l (locks_without (who ∷ []) ls) → In l ls
 left_in who ls l i = (in_filter (λ (k : Lock). not (is_life k.ask.who (who ∷ []))) l ls i).0
 
--- ---- held locks by name
+-- ---- held locks by name and by cookie
 
 pub held_not : (n : LockName) (hs : List HeldLock) → is_held n hs ≡ false → (h : HeldLock) → In h hs → is_named n h ≡ false
 held_not n [] e h i = absurd i
@@ -132,22 +139,43 @@ held_not n (g ∷ hs) e h i =
     let p = or_parts (is_named n g) (is_held n hs) e in
     ⊎_elim (λ (q : g ≡ h). ap (is_named n) (sym q) ∙ p.0) (λ (j : In h hs). held_not n hs p.1 h j) i
 
-pub not_held : (n : LockName) (hs : List HeldLock) → ((h : HeldLock) → In h hs → is_named n h ≡ false) → is_held n hs ≡ false
+not_held : (n : LockName) (hs : List HeldLock) → ((h : HeldLock) → In h hs → is_named n h ≡ false) → is_held n hs ≡ false
 not_held n [] f = refl
 not_held n (g ∷ hs) f = or_from (is_named n g) (is_held n hs) (f g (inl refl)) (not_held n hs (λ h i. f h (inr i)))
 
-pub is_of_name : (c : Cookie) (h : HeldLock) → h.target.0 ≡ 0 → h.lock.cookie.0 ≡ c.0 → is_named (name_of c) h ≡ true
-is_of_name c h t e = and_from (nat_eq 0 h.target.0) (nat_eq c.0 h.lock.cookie.0) (eq-eqb 0 h.target.0 (sym t)) (eq-eqb c.0 h.lock.cookie.0 (sym e))
+pub is_of_name : (t : ℕ) (c : Cookie) (h : HeldLock) → h.target.0 ≡ t → h.lock.cookie.0 ≡ c.0 → is_named (name_of t c) h ≡ true
+is_of_name t c h s e = and_from (nat_eq t h.target.0) (nat_eq c.0 h.lock.cookie.0) (eq-eqb t h.target.0 (sym s)) (eq-eqb c.0 h.lock.cookie.0 (sym e))
 
-pub of_cookie : (c : Cookie) (h : HeldLock) → is_named (name_of c) h ≡ true → h.lock.cookie.0 ≡ c.0
-of_cookie c h e = sym (eqb-true c.0 h.lock.cookie.0 (and_parts (nat_eq 0 h.target.0) (nat_eq c.0 h.lock.cookie.0) e).1)
+of_cookie : (t : ℕ) (c : Cookie) (h : HeldLock) → is_named (name_of t c) h ≡ true → h.lock.cookie.0 ≡ c.0
+of_cookie t c h e = sym (eqb-true c.0 h.lock.cookie.0 (and_parts (nat_eq t h.target.0) (nat_eq c.0 h.lock.cookie.0) e).1)
 
-pub not_of_name : (c : Cookie) (h : HeldLock) → (h.lock.cookie.0 ≡ c.0 → ⊥) → is_named (name_of c) h ≡ false
-not_of_name c h f = by (is_named (name_of c) h) refl
+-- where none has a cookie, none has a name with it
+pub none_named : (t : ℕ) (c : Cookie) (hs : List HeldLock) → NoneOf c hs → is_held (name_of t c) hs ≡ false
+none_named t c hs none = not_held (name_of t c) hs named
   where
-    by : (b : Bool) → is_named (name_of c) h ≡ b → is_named (name_of c) h ≡ false
-    by true e = absurd (f (of_cookie c h e))
-    by false e = e
+    named : (h : HeldLock) → In h hs → is_named (name_of t c) h ≡ false
+    named h i = by (is_named (name_of t c) h) refl
+      where
+        by : (b : Bool) → is_named (name_of t c) h ≡ b → is_named (name_of t c) h ≡ false
+        by true e = absurd (none h i (of_cookie t c h e))
+        by false e = e
+
+-- and where all are of one target, and none has the name there, none has the cookie
+pub none_of : (t : ℕ) (c : Cookie) (hs : List HeldLock) → ((h : HeldLock) → In h hs → h.target.0 ≡ t) → is_held (name_of t c) hs ≡ false → NoneOf c hs
+none_of t c hs there free h i e =
+    let no = held_not (name_of t c) hs free h i in
+    let yes = is_of_name t c h (there h i) e in
+    absurd (cc)
+
+-- one of them has that cookie, or none has
+pub cookie_or : (c : Cookie) (hs : List HeldLock) → ((h : HeldLock) × In h hs × (h.lock.cookie.0 ≡ c.0)) ⊎ NoneOf c hs
+cookie_or c [] = inr (λ h i e. i)
+cookie_or c (g ∷ hs) = by (nat_eq g.lock.cookie.0 c.0) refl (cookie_or c hs)
+  where
+    by : (b : Bool) → nat_eq g.lock.cookie.0 c.0 ≡ b → ((h : HeldLock) × In h hs × (h.lock.cookie.0 ≡ c.0)) ⊎ NoneOf c hs → ((h : HeldLock) × In h (g ∷ hs) × (h.lock.cookie.0 ≡ c.0)) ⊎ NoneOf c (g ∷ hs)
+    by true e more = inl (g, inl refl, eqb-true g.lock.cookie.0 c.0 e)
+    by false e (inl r) = inl (r.0, inr r.1, r.2)
+    by false e (inr none) = inr (λ h i q. ⊎_elim (λ (s : g ≡ h). eqb-false g.lock.cookie.0 c.0 e (ap (λ (x : HeldLock). x.lock.cookie.0) s ∙ q)) (λ (j : In h hs). none h j q) i)
 
 -- ---- what is held was held: with other pins and marks
 
@@ -157,15 +185,8 @@ Kept hs h = (g : HeldLock) × In g hs × (g.target ≡ h.target) × (g.lock ≡ 
 pub kept_same : (hs : List HeldLock) (h : HeldLock) → In h hs → Kept hs h
 kept_same hs h i = (h, i, refl, refl)
 
-pub kept_not : (n : LockName) (old new : List HeldLock) → ((h : HeldLock) → In h new → Kept old h) → is_held n old ≡ false → is_held n new ≡ false
-kept_not n old new k e = not_held n new named
-  where
-    named : (h : HeldLock) → In h new → is_named n h ≡ false
-    named h i =
-        let g = k h i in
-        ap (λ (t : TargetId). nat_eq n.target.0 t.0 && nat_eq n.cookie.0 h.lock.cookie.0) (sym g.2)
-        ∙ ap (λ (l : Lock). nat_eq n.target.0 g.0.target.0 && nat_eq n.cookie.0 l.cookie.0) (sym g.3)
-        ∙ held_not n old e g.0 g.1
+pub kept_none : (c : Cookie) (old new : List HeldLock) → ((h : HeldLock) → In h new → Kept old h) → NoneOf c old → NoneOf c new
+kept_none c old new k none h i e = let g = k h i in none g.0 g.1 (ap (λ (l : Lock). l.cookie.0) g.3 ∙ e)
 
 after_same : (change : Change) (g : HeldLock) → ((after change g).target ≡ g.target) × ((after change g).lock ≡ g.lock)
 after_same Mark g = (refl, refl)
@@ -203,6 +224,14 @@ used_in n hs h i =
     (in_append h (filter (is_named n) hs) (without n hs) i)
 
 -- ---- what a reply brings
+
+granted_again : (o : Op) (k : ReplyTo) (boot : ℕ) (committed : Txn) (a : Answer) → granted_lock o (record k { boot = boot; committed = committed }) a ≡ granted_lock o k a
+granted_again (op.Enqueue resource mode extent) k boot committed (answer.Granted cookie size n) = refl
+granted_again o k boot committed a = refl
+
+-- the same one, sent again in another boot, brings the same locks
+pub brought_again : (o : Op) (k r : ReplyTo) → r ≡ record k { boot = r.boot; committed = r.committed } → brought o r ≡ brought o k
+brought_again o k r e = ap (brought o) e ∙ ap (λ (ls : List Lock). k.locks ++ ls) (granted_again o k r.boot r.committed k.answer)
 
 pub with_held_in : (n : HeldLock) (hs : List HeldLock) (h : HeldLock) → In h (with_held n hs) → (n ≡ h) ⊎ In h hs
 with_held_in n hs h =

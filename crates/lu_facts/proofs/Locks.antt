@@ -2,7 +2,7 @@
 -- more, or its life was evicted, or a close came while it wasn't held, and it will be heard of no more. What is held came with a reply that its life
 -- heard, and is granted, unless that life was evicted; what is given back is dead. A crash takes nothing of this away, but what is granted isn't shown
 -- after it until a close shows it again.
-use Rattle.std.proofs.Common.{◌≡◌, ℕ, ◌<◌, List, [], ◌∷◌, ◌⊎◌, inl, inr, ⊎_elim, refl, sym, subst, ap, arith}
+use Rattle.std.proofs.Common.{◌≡◌, ℕ, ◌<◌, List, [], ◌∷◌, Some, None, ◌⊎◌, inl, inr, ⊎_elim, refl, sym, subst, ap, arith}
 use Rattle.std.specs.Prelude.{nat_eq}
 use Rattle.std.proofs.lemmas.Bool.{cond_both, eqb-true}
 use Rattle.lu_base.specs.declared.ids.Node.{Node}
@@ -10,7 +10,7 @@ use Rattle.lu_base.specs.declared.ids.Node.TheVariants.{Client, Target}
 use Rattle.lu_base.specs.declared.ids.Stamp.{Stamp}
 use Rattle.lu_base.specs.declared.locks.Lock.{Lock}
 use Rattle.lu_words.specs.Carried.{Disk, Outcome}
-use Rattle.lu_words.specs.Words.{Entry, Send, Heard, Hold, Drop, Knows, Life, Pins, Unpins, Marks, Unmarks, Act, Txn as Made, Release, Evict, Crash, Boot, Close, Restore, Line, line}
+use Rattle.lu_words.specs.Words.{Entry, Send, Heard, Hold, Drop, Knows, Life, Pins, Unpins, Marks, Unmarks, Act, Txn as Made, Grant, Release, Evict, Crash, Boot, Close, Restore, Line, line}
 use Rattle.lu_covered.specs.TargetStates.{server_of, shown_of}
 use Rattle.lu_covered.specs.TargetCloses.{but_first, closing_of}
 use Rattle.lu_covered.specs.ClientStates.{known_of}
@@ -18,12 +18,12 @@ use Rattle.lu_covered.specs.Heads.{Head}
 use Rattle.lu_guards.proofs.Guards.{In}
 use Rattle.lu_guards.proofs.StoryGuards.{BootKnownOk, BackOk, LeftOk, BootOk, IsServing, EntryOf}
 use Rattle.lu_guards.proofs.Acts.{acted}
-use Rattle.lu_guards.proofs.Grown.{ShowsNext, IsOfFirst, IsPlaced}
+use Rattle.lu_guards.proofs.Grown.{ShowsNext, IsPlaced}
 use Rattle.lu_facts.proofs.Groups.{turn, Phase, Dead, Evicted, Lapsed, Locks, HoldsAt}
 use Rattle.lu_facts.proofs.LocksStay.{one_of_four, StaysDead, StaysLapsed, still_closing, stays_dead, stays_lapsed, pins_held, unpins_held, marks_held, unmarks_held, shown_held, kept_dead, kept_lapsed, locks_pins, locks_unpins, locks_marks, locks_unmarks, locks_hold}
 use Rattle.lu_facts.proofs.LocksSaid.{sent_said, locks_send}
 use Rattle.lu_facts.proofs.LocksHeard.{drops_stay, locks_drop, heard_dead, heard_lapsed, locks_heard, locks_life}
-use Rattle.lu_facts.proofs.LocksGiven.{act_gives, locks_act, locks_txn, locks_back, locks_left, locks_evict}
+use Rattle.lu_facts.proofs.LocksGiven.{locks_act, locks_grant, locks_txn, locks_back, locks_left, locks_evict}
 use Rattle.lu_facts.proofs.LocksClose.{locks_close, locks_restore}
 
 -- ---- a crash and a boot: what is granted stands, but isn't shown any more; and from a boot on nothing is served
@@ -44,7 +44,6 @@ locks_crash osts clients past stamp t h =
       blocks = h.blocks;
       cancels = h.cancels;
       gone = h.gone;
-      answers = h.answers;
     }
 
 locks_boot : (head : Head) (past : List Line) (stamp : Stamp) (t boot : ℕ) (disk : Disk) → BootOk head past boot disk → Phase head.osts past → Locks head.osts head.clients past → Locks head.osts head.clients (line (turn stamp (Target t)) (Boot boot disk) ∷ past)
@@ -63,7 +62,6 @@ locks_boot head past stamp t boot disk ok p h =
       blocks = h.blocks;
       cancels = h.cancels;
       gone = h.gone;
-      answers = h.answers;
     }
   where
     unserved : IsServing head.osts (line (turn stamp (Target t)) (Boot boot disk) ∷ past) → ⊥
@@ -101,7 +99,6 @@ locks_knows osts clients past stamp c t boot ok h =
       blocks = h.blocks;
       cancels = h.cancels;
       gone = h.gone;
-      answers = h.answers;
     }
 
 -- ---- a line of the target that changes nothing of locks: what a close has still to show is one line less
@@ -113,36 +110,38 @@ still_shown head past stamp t e shows l other =
 
 -- ---- each line
 
-pub keeps_locks : (head : Head) (past : List Line) (stamp : Stamp) (node : Node) (e : Entry) → EntryOf head past (turn stamp node) node e → IsOfFirst e → IsPlaced head past (line (turn stamp node) e) → HoldsAt head past
+pub keeps_locks : (head : Head) (past : List Line) (stamp : Stamp) (node : Node) (e : Entry) → EntryOf head past (turn stamp node) node e → IsPlaced head past (line (turn stamp node) e) → HoldsAt head past
     → Locks head.osts head.clients (line (turn stamp node) e ∷ past)
-keeps_locks head past stamp (Client c) (Send to m) ok first placed h = locks_send head past stamp (Client c) to m placed.shows (sent_said head past (Client c) to m ok h) h.locks
-keeps_locks head past stamp (Target t) (Send to m) ok first placed h = locks_send head past stamp (Target t) to m placed.shows (sent_said head past (Target t) to m ok h) h.locks
-keeps_locks head past stamp (Client c) (Heard t f r) ok first placed h = locks_heard head past stamp c t f r first ok h
-keeps_locks head past stamp (Client c) (Hold t lock marked size seen) ok first placed h = locks_hold head.osts head.clients past stamp c h.locks t lock marked size seen first ok.1
-keeps_locks head past stamp (Client c) (Drop t lock) ok first placed h = locks_drop head.osts head.clients past stamp c t lock ok.0 ok.1 h.phase h.locks
-keeps_locks head past stamp (Client c) (Pins name) ok first placed h = locks_pins head.osts head.clients past stamp c h.locks name
-keeps_locks head past stamp (Client c) (Unpins name) ok first placed h = locks_unpins head.osts head.clients past stamp c h.locks name
-keeps_locks head past stamp (Client c) (Marks name) ok first placed h = locks_marks head.osts head.clients past stamp c h.locks name
-keeps_locks head past stamp (Client c) (Unmarks t) ok first placed h = locks_unmarks head.osts head.clients past stamp c h.locks t
-keeps_locks head past stamp (Client c) (Knows t boot) ok first placed h = locks_knows head.osts head.clients past stamp c t boot ok h.locks
-keeps_locks head past stamp (Client c) (Life who) ok first placed h = locks_life head.osts head.clients past stamp c who ok h.locks
-keeps_locks head past stamp (Target t) (Act d) ok first placed h = locks_act head past stamp t d placed.shows (act_gives head.osts past (turn stamp (Target t)) t d ok h.locks.greatest.1)
-    (acted head.osts past (turn stamp (Target t)) t d ok).serves h.locks
-keeps_locks head past stamp (Target t) (Made d) ok first placed h = locks_txn head past stamp t d placed.shows ok h.locks
-keeps_locks head past stamp (Target t) (Release lock) ok first placed h =
+keeps_locks head past stamp (Client c) (Send to m) ok placed h = locks_send head past stamp (Client c) to m placed.shows (sent_said head past (Client c) to m ok h) h.locks
+keeps_locks head past stamp (Target t) (Send to m) ok placed h = locks_send head past stamp (Target t) to m placed.shows (sent_said head past (Target t) to m ok h) h.locks
+keeps_locks head past stamp (Client c) (Heard t f r) ok placed h = locks_heard head past stamp c t f r ok h
+keeps_locks head past stamp (Client c) (Hold t lock marked size seen) ok placed h = locks_hold head.osts head.clients past stamp c h.locks t lock marked size seen ok.1
+keeps_locks head past stamp (Client c) (Drop t lock) ok placed h = locks_drop head.osts head.clients past stamp c t lock ok h.phase h.locks
+keeps_locks head past stamp (Client c) (Pins name) ok placed h = locks_pins head.osts head.clients past stamp c h.locks name
+keeps_locks head past stamp (Client c) (Unpins name) ok placed h = locks_unpins head.osts head.clients past stamp c h.locks name
+keeps_locks head past stamp (Client c) (Marks name) ok placed h = locks_marks head.osts head.clients past stamp c h.locks name
+keeps_locks head past stamp (Client c) (Unmarks t) ok placed h = locks_unmarks head.osts head.clients past stamp c h.locks t
+keeps_locks head past stamp (Client c) (Knows t boot) ok placed h = locks_knows head.osts head.clients past stamp c t boot ok h.locks
+keeps_locks head past stamp (Client c) (Life who) ok placed h = locks_life head.osts head.clients past stamp c who ok h.locks
+keeps_locks head past stamp (Target t) (Act d) ok placed h = locks_act head past stamp t d placed.shows ok (acted head.osts past (turn stamp (Target t)) t d ok).serves h.locks
+keeps_locks head past stamp (Target t) (Grant lock (Some d)) ok placed h = locks_grant head past stamp t lock d placed.shows ok h.locks
+keeps_locks head past stamp (Target t) (Made d) ok placed h = locks_txn head past stamp t d placed.shows ok h.locks
+keeps_locks head past stamp (Target t) (Release lock) ok placed h =
     ⊎_elim (λ (b : BackOk head.osts past t lock). locks_back head past stamp t lock placed.shows b h.phase h.locks) (λ (b : LeftOk head.osts past lock). locks_left head past stamp t lock placed.shows b h.locks) ok.1
-keeps_locks head past stamp (Target t) (Evict who cause) ok first placed h = locks_evict head past stamp t who cause placed.shows h.locks
-keeps_locks head past stamp (Target t) Crash ok first placed h = locks_crash head.osts head.clients past stamp t h.locks
-keeps_locks head past stamp (Target t) (Boot boot disk) ok first placed h = locks_boot head past stamp t boot disk ok h.phase h.locks
-keeps_locks head past stamp (Target t) (Close close) ok first placed h =
+keeps_locks head past stamp (Target t) (Evict who cause) ok placed h = locks_evict head past stamp t who cause placed.shows h.locks
+keeps_locks head past stamp (Target t) Crash ok placed h = locks_crash head.osts head.clients past stamp t h.locks
+keeps_locks head past stamp (Target t) (Boot boot disk) ok placed h = locks_boot head past stamp t boot disk ok h.phase h.locks
+keeps_locks head past stamp (Target t) (Close close) ok placed h =
     subst (λ (o : Outcome). Locks head.osts head.clients (line (turn stamp (Target t)) (Close o) ∷ past)) (sym ok.is) (locks_close head past stamp t ok.recovers ok.of_removed h)
-keeps_locks head past stamp (Target t) (Restore lock) ok first placed h = locks_restore head past stamp t lock placed.shows ok h.locks
-keeps_locks head past stamp (Client c) (Act d) ok first placed h = absurd ok
-keeps_locks head past stamp (Client c) (Made d) ok first placed h = absurd ok
-keeps_locks head past stamp (Target t) (Heard u f r) ok first placed h = absurd ok
-keeps_locks head past stamp (Target t) (Drop u lock) ok first placed h = absurd ok
-keeps_locks head past stamp (Client c) e ok first placed h = h.locks
-keeps_locks head past stamp (Target t) e ok first placed h =
+keeps_locks head past stamp (Target t) (Restore lock) ok placed h = locks_restore head past stamp t lock placed.shows ok h.locks
+keeps_locks head past stamp (Client c) (Act d) ok placed h = absurd ok
+keeps_locks head past stamp (Client c) (Made d) ok placed h = absurd ok
+keeps_locks head past stamp (Client c) (Grant lock asked) ok placed h = absurd ok
+keeps_locks head past stamp (Target t) (Grant lock None) ok placed h = absurd ok
+keeps_locks head past stamp (Target t) (Heard u f r) ok placed h = absurd ok
+keeps_locks head past stamp (Target t) (Drop u lock) ok placed h = absurd ok
+keeps_locks head past stamp (Client c) e ok placed h = h.locks
+keeps_locks head past stamp (Target t) e ok placed h =
     let k = h.locks in
     record {
       whose = k.whose;
@@ -158,38 +157,37 @@ keeps_locks head past stamp (Target t) e ok first placed h =
       blocks = k.blocks;
       cancels = k.cancels;
       gone = k.gone;
-      answers = k.answers;
     }
 
 -- what is dead stays so
-pub keeps_dead : (head : Head) (past : List Line) (stamp : Stamp) (node : Node) (e : Entry) → EntryOf head past (turn stamp node) node e → IsOfFirst e → HoldsAt head past → StaysDead past (line (turn stamp node) e ∷ past)
-keeps_dead head past stamp (Client c) (Heard t f r) ok first h = heard_dead head past stamp c t f r first ok h
-keeps_dead head past stamp (Client c) (Hold t lock marked size seen) ok first h = kept_dead past stamp c (Hold t lock marked size seen) (λ d x a. a) (shown_held past stamp c t lock marked size seen first ok.1)
-keeps_dead head past stamp (Client c) (Drop t lock) ok first h =
-    stays_dead head.osts head.clients past (line (turn stamp (Client c)) (Drop t lock) ∷ past) (drops_stay head.osts head.clients past stamp c t lock ok.0 ok.1 h.phase h.locks) h.locks
-keeps_dead head past stamp (Client c) (Pins name) ok first h = kept_dead past stamp c (Pins name) (λ d x a. a) (pins_held past stamp c name)
-keeps_dead head past stamp (Client c) (Unpins name) ok first h = kept_dead past stamp c (Unpins name) (λ d x a. a) (unpins_held past stamp c name)
-keeps_dead head past stamp (Client c) (Marks name) ok first h = kept_dead past stamp c (Marks name) (λ d x a. a) (marks_held past stamp c name)
-keeps_dead head past stamp (Client c) (Unmarks t) ok first h = kept_dead past stamp c (Unmarks t) (λ d x a. a) (unmarks_held past stamp c t)
-keeps_dead head past stamp (Target t) (Heard u f r) ok first h = absurd ok
-keeps_dead head past stamp (Target t) (Drop u lock) ok first h = absurd ok
-keeps_dead head past stamp node e ok first h = λ d l g x. x
+pub keeps_dead : (head : Head) (past : List Line) (stamp : Stamp) (node : Node) (e : Entry) → EntryOf head past (turn stamp node) node e → HoldsAt head past → StaysDead past (line (turn stamp node) e ∷ past)
+keeps_dead head past stamp (Client c) (Heard t f r) ok h = heard_dead head past stamp c t f r ok h
+keeps_dead head past stamp (Client c) (Hold t lock marked size seen) ok h = kept_dead past stamp c (Hold t lock marked size seen) (λ d x a. a) (shown_held past stamp c t lock marked size seen ok.1)
+keeps_dead head past stamp (Client c) (Drop t lock) ok h =
+    stays_dead head.osts head.clients past (line (turn stamp (Client c)) (Drop t lock) ∷ past) (drops_stay head.osts head.clients past stamp c t lock ok h.phase h.locks) h.locks
+keeps_dead head past stamp (Client c) (Pins name) ok h = kept_dead past stamp c (Pins name) (λ d x a. a) (pins_held past stamp c name)
+keeps_dead head past stamp (Client c) (Unpins name) ok h = kept_dead past stamp c (Unpins name) (λ d x a. a) (unpins_held past stamp c name)
+keeps_dead head past stamp (Client c) (Marks name) ok h = kept_dead past stamp c (Marks name) (λ d x a. a) (marks_held past stamp c name)
+keeps_dead head past stamp (Client c) (Unmarks t) ok h = kept_dead past stamp c (Unmarks t) (λ d x a. a) (unmarks_held past stamp c t)
+keeps_dead head past stamp (Target t) (Heard u f r) ok h = absurd ok
+keeps_dead head past stamp (Target t) (Drop u lock) ok h = absurd ok
+keeps_dead head past stamp node e ok h = λ d l g x. x
 
 -- and so does what has lapsed
-pub keeps_lapsed : (head : Head) (past : List Line) (stamp : Stamp) (node : Node) (e : Entry) → EntryOf head past (turn stamp node) node e → IsOfFirst e → HoldsAt head past → StaysLapsed past (line (turn stamp node) e ∷ past)
-keeps_lapsed head past stamp (Client c) (Heard t f r) ok first h = heard_lapsed head past stamp c t f r first ok h
-keeps_lapsed head past stamp (Client c) (Hold t lock marked size seen) ok first h = kept_lapsed past stamp c (Hold t lock marked size seen) (λ d. refl) (shown_held past stamp c t lock marked size seen first ok.1)
-keeps_lapsed head past stamp (Client c) (Drop t lock) ok first h =
-    stays_lapsed head.osts head.clients past (line (turn stamp (Client c)) (Drop t lock) ∷ past) (drops_stay head.osts head.clients past stamp c t lock ok.0 ok.1 h.phase h.locks) h.locks
-keeps_lapsed head past stamp (Client c) (Pins name) ok first h = kept_lapsed past stamp c (Pins name) (λ d. refl) (pins_held past stamp c name)
-keeps_lapsed head past stamp (Client c) (Unpins name) ok first h = kept_lapsed past stamp c (Unpins name) (λ d. refl) (unpins_held past stamp c name)
-keeps_lapsed head past stamp (Client c) (Marks name) ok first h = kept_lapsed past stamp c (Marks name) (λ d. refl) (marks_held past stamp c name)
-keeps_lapsed head past stamp (Client c) (Unmarks t) ok first h = kept_lapsed past stamp c (Unmarks t) (λ d. refl) (unmarks_held past stamp c t)
-keeps_lapsed head past stamp (Client c) (Knows t boot) ok first h = knows_lapsed past stamp c t boot ok
-keeps_lapsed head past stamp (Target t) (Heard u f r) ok first h = absurd ok
-keeps_lapsed head past stamp (Target t) (Drop u lock) ok first h = absurd ok
-keeps_lapsed head past stamp (Target t) (Knows u boot) ok first h = absurd ok
-keeps_lapsed head past stamp node e ok first h = λ d l g x. x
+pub keeps_lapsed : (head : Head) (past : List Line) (stamp : Stamp) (node : Node) (e : Entry) → EntryOf head past (turn stamp node) node e → HoldsAt head past → StaysLapsed past (line (turn stamp node) e ∷ past)
+keeps_lapsed head past stamp (Client c) (Heard t f r) ok h = heard_lapsed head past stamp c t f r ok h
+keeps_lapsed head past stamp (Client c) (Hold t lock marked size seen) ok h = kept_lapsed past stamp c (Hold t lock marked size seen) (λ d. refl) (shown_held past stamp c t lock marked size seen ok.1)
+keeps_lapsed head past stamp (Client c) (Drop t lock) ok h =
+    stays_lapsed head.osts head.clients past (line (turn stamp (Client c)) (Drop t lock) ∷ past) (drops_stay head.osts head.clients past stamp c t lock ok h.phase h.locks) h.locks
+keeps_lapsed head past stamp (Client c) (Pins name) ok h = kept_lapsed past stamp c (Pins name) (λ d. refl) (pins_held past stamp c name)
+keeps_lapsed head past stamp (Client c) (Unpins name) ok h = kept_lapsed past stamp c (Unpins name) (λ d. refl) (unpins_held past stamp c name)
+keeps_lapsed head past stamp (Client c) (Marks name) ok h = kept_lapsed past stamp c (Marks name) (λ d. refl) (marks_held past stamp c name)
+keeps_lapsed head past stamp (Client c) (Unmarks t) ok h = kept_lapsed past stamp c (Unmarks t) (λ d. refl) (unmarks_held past stamp c t)
+keeps_lapsed head past stamp (Client c) (Knows t boot) ok h = knows_lapsed past stamp c t boot ok
+keeps_lapsed head past stamp (Target t) (Heard u f r) ok h = absurd ok
+keeps_lapsed head past stamp (Target t) (Drop u lock) ok h = absurd ok
+keeps_lapsed head past stamp (Target t) (Knows u boot) ok h = absurd ok
+keeps_lapsed head past stamp node e ok h = λ d l g x. x
 
 pub locks_start : (osts clients : ℕ) → Locks osts clients []
 locks_start osts clients =
@@ -207,5 +205,4 @@ locks_start osts clients =
       blocks = λ from c who boot cookie w. absurd w;
       cancels = λ from to who boot cookie w. absurd w;
       gone = λ who cookie w. absurd w;
-      answers = λ d a. absurd a;
     }

@@ -12,8 +12,7 @@ use Rattle.lu_base.specs.declared.locks.Lock.{Lock}
 use Rattle.lu_base.specs.declared.locks.Mode.TheVariants.{PR}
 use Rattle.lu_base.specs.declared.locks.Resource.{Resource}
 use Rattle.lu_held.specs.declared.locks.HeldLock.{HeldLock}
-use Rattle.lu_held.specs.Held.{is_held}
-use Rattle.lu_held.specs.Locks.{is_named, same_resource}
+use Rattle.lu_held.specs.Locks.{same_resource}
 use Rattle.lu_lock.specs.Conflict.{conflicts_with_any}
 use Rattle.lu_words.specs.Carried.{Deed, Said, Gone, Outcome}
 use Rattle.lu_words.specs.Words.{Entry, Close, Restore, Line, line, same_life}
@@ -27,15 +26,14 @@ use Rattle.lu_covered.specs.TargetStates.{server_of, lives_of, evicted_of, shown
 use Rattle.lu_covered.specs.TargetCloses.{disk_of, outcome_of, closing_of, shows_evicted, shows_ready, shows_joined, staying as staying_lives}
 use Rattle.lu_covered.specs.ClientStates.{life_of, known_of}
 use Rattle.lu_covered.specs.Heads.{Head}
-use Rattle.lu_guards.proofs.Guards.{In, name_of}
+use Rattle.lu_guards.proofs.Guards.{In}
 use Rattle.lu_guards.proofs.StoryGuards.{IsRecovering, RestoreOk, locks_told}
 use Rattle.lu_guards.proofs.Grown.{ShowsNext}
-use Rattle.lu_guards.proofs.ClientLocks.{any_true}
 use Rattle.lu_guards.proofs.LifeLists.{any_lives}
 use Rattle.lu_guards.proofs.Lists.{in_filter, in_filtered, in_left, in_right, life_is}
-use Rattle.lu_facts.proofs.Groups.{turn, HasSlot, Gave, Dead, Evicted, Lapsed, Locks, BroughtRise, HoldsAt}
+use Rattle.lu_facts.proofs.Groups.{turn, HasSlot, Gave, NoneOf, Dead, Evicted, Lapsed, Locks, BroughtRise, HoldsAt}
 use Rattle.lu_guards.proofs.CloseLists.{stays_back}
-use Rattle.lu_facts.proofs.LockLists.{of_cookie, with_new, with_old}
+use Rattle.lu_facts.proofs.LockLists.{cookie_or, with_new, with_old}
 use Rattle.lu_facts.proofs.LocksStay.{one_of_four, still_closing}
 use Rattle.lu_facts.proofs.Pigeons.{Different, different_filter, all_there}
 use Rattle.lu_facts.proofs.LocksHeard.{numbered}
@@ -188,26 +186,27 @@ module _ (head : Head) (past : List Line) (stamp : Stamp) (t : ℕ) (recovers : 
 
   -- what was granted is held, and so restored, or lapses, where its life stays
   granted_lapses : (d : Deed) (l : Lock) → Gave past d l → In l o.locks ⊎ Dead closing d l ⊎ Evicted closing d.reply.who ⊎ Lapsed closing d l
-  granted_lapses d l gave = by (is_held (name_of l.cookie) (held_at d.reply.who.client past)) refl
+  granted_lapses d l gave = ⊎_elim held lapsed (cookie_or l.cookie (held_at d.reply.who.client past))
     where
       -- its client knows the boot, or its life goes
-      lapses : (b : Bool) → is_life d.reply.who (lives_in gone) ≡ b → HasSlot head.clients past d.reply.who → is_held (name_of l.cookie) (held_at d.reply.who.client past) ≡ false
+      lapses : (b : Bool) → is_life d.reply.who (lives_in gone) ≡ b → HasSlot head.clients past d.reply.who → NoneOf l.cookie (held_at d.reply.who.client past)
           → In l o.locks ⊎ Dead closing d l ⊎ Evicted closing d.reply.who ⊎ Lapsed closing d l
-      lapses true q slot e = inr (inr (inl (evicts_gone d.reply.who q)))
-      lapses false q slot e = inr (inr (inr ((let le = (all.done.boots d gave.0).1 in let lt = earlier in let most = knows d.reply.who slot q in omega (arith, le, lt, most)), e)))
+      lapses true q slot none = inr (inr (inl (evicts_gone d.reply.who q)))
+      lapses false q slot none = inr (inr (inr ((let le = (all.done.boots d gave.0).1 in let lt = earlier in let most = knows d.reply.who slot q in omega (arith, le, lt, most)), none)))
 
-      by : (b : Bool) → is_held (name_of l.cookie) (held_at d.reply.who.client past) ≡ b → In l o.locks ⊎ Dead closing d l ⊎ Evicted closing d.reply.who ⊎ Lapsed closing d l
-      by true e =
-          let k = any_true (is_named (name_of l.cookie)) (held_at d.reply.who.client past) e in
+      held : ((k : HeldLock) × In k (held_at d.reply.who.client past) × (k.lock.cookie.0 ≡ l.cookie.0)) → In l o.locks ⊎ Dead closing d l ⊎ Evicted closing d.reply.who ⊎ Lapsed closing d l
+      held k =
           let r = all.locks.held d.reply.who.client k.0 k.1 in
-          let same = all.locks.once r.deed d k.0.lock l r.gave gave (ap numbered (of_cookie l.cookie k.0 k.2)) in
+          let same = all.locks.once r.deed d k.0.lock l r.gave gave (ap numbered k.2) in
           ⊎_elim
           (λ (i : In k.0.lock o.locks). inl (subst (λ (x : Lock). In x o.locks) same.1 i))
           (λ (x : Evicted closing (life_of d.reply.who.client past)). inr (inr (inl (subst (λ (w : Who). Evicted closing w) (sym r.who ∙ ap (λ (v : Deed). v.reply.who) same.0) x))))
           (held_still d.reply.who.client k.0 k.1)
-      by false e =
+
+      lapsed : NoneOf l.cookie (held_at d.reply.who.client past) → In l o.locks ⊎ Dead closing d l ⊎ Evicted closing d.reply.who ⊎ Lapsed closing d l
+      lapsed none =
           ⊎_elim
-          (λ (slot : HasSlot head.clients past d.reply.who). lapses (is_life d.reply.who (lives_in gone)) refl slot e)
+          (λ (slot : HasSlot head.clients past d.reply.who). lapses (is_life d.reply.who (lives_in gone)) refl slot none)
           (λ (x : Evicted past d.reply.who). inr (inr (inl (evicts_more d.reply.who x))))
           (all.lives.acted d gave.0)
 
@@ -221,7 +220,7 @@ module _ (head : Head) (past : List Line) (stamp : Stamp) (t : ℕ) (recovers : 
         low = λ v d l gave. let most = (all.locks.cookies d l gave).1 in let le = (all.done.boots d gave.0).1 in let lt = earlier in let low = all.locks.greatest.0 in omega (arith, most, le, lt, low);
         once = all.locks.once;
         granted = λ l i. let r = (all.recovers.brought recovers l (restored_brought l i)).2.0 in (r.0, r.1);
-        held = λ c k i. let r = all.locks.held c k i in record { target = r.target; deed = r.deed; gave = r.gave; who = r.who; heard = r.heard; granted = held_still c k i };
+        held = λ c k i. let r = all.locks.held c k i in record { deed = r.deed; gave = r.gave; who = r.who; heard = r.heard; granted = held_still c k i };
         alive = λ d l gave. one_of_four
             (λ (i : In l (server_of head.osts past).granted). granted_lapses d l gave)
             (λ (x : Dead past d l). inr (inl x))
@@ -232,7 +231,6 @@ module _ (head : Head) (past : List Line) (stamp : Stamp) (t : ℕ) (recovers : 
         blocks = all.locks.blocks;
         cancels = all.locks.cancels;
         gone = all.locks.gone;
-        answers = all.locks.answers;
       }
     where
       after_locks : List Entry
@@ -272,5 +270,4 @@ module _ (head : Head) (past : List Line) (stamp : Stamp) (t : ℕ) (lock : Lock
         blocks = h.blocks;
         cancels = h.cancels;
         gone = h.gone;
-        answers = h.answers;
       }

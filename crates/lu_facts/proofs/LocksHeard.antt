@@ -13,18 +13,18 @@ use Rattle.lu_msg.specs.declared.messages.Reply.{Reply as ReplyTo}
 use Rattle.lu_msg.specs.declared.operations.Op.{Op}
 use Rattle.lu_held.specs.declared.locks.HeldLock.{HeldLock}
 use Rattle.lu_held.specs.Locks.{is_named, named}
-use Rattle.lu_held.specs.Held.{is_held, without}
+use Rattle.lu_held.specs.Held.{without}
 use Rattle.lu_words.specs.Carried.{Deed, Flight}
 use Rattle.lu_words.specs.Words.{Heard, Drop, Life, Line, line}
-use Rattle.lu_client_rows.specs.Caches.{held_as, with_brought, granted_lock, brought, held_at}
+use Rattle.lu_client_rows.specs.Caches.{held_as, with_brought, brought, held_at}
 use Rattle.lu_covered.specs.TargetStates.{server_of}
 use Rattle.lu_covered.specs.ClientStates.{life_of, is_own, known_of}
 use Rattle.lu_covered.specs.Heads.{Head}
 use Rattle.lu_guards.proofs.Guards.{In, name_of}
 use Rattle.lu_guards.proofs.StoryGuards.{HeardOk, DropOk, LifeOf}
-use Rattle.lu_guards.proofs.Lists.{in_append, in_filter, own_is, own_self}
-use Rattle.lu_facts.proofs.Groups.{turn, Flew, Hears, RepliesTo, Phase, Dead, Evicted, Lapsed, Holding, Gone, GivenBack, Locks, HoldsAt}
-use Rattle.lu_facts.proofs.LockLists.{held_not, not_held, not_of_name, Kept, kept_same, brought_in}
+use Rattle.lu_guards.proofs.Lists.{in_filter, own_is, own_self}
+use Rattle.lu_facts.proofs.Groups.{turn, Flew, Hears, RepliesTo, Phase, NoneOf, Dead, Evicted, Lapsed, Holding, Gone, GivenBack, Locks, HoldsAt}
+use Rattle.lu_facts.proofs.LockLists.{is_of_name, Kept, kept_same, brought_again, brought_in}
 use Rattle.lu_facts.proofs.LocksStay.{Grows, one_of_four, StaysDead, StaysLapsed, called_more, given_more, Stays, stays_dead, locks_stay}
 
 abbrev pub numbered : ℕ → Cookie
@@ -32,7 +32,7 @@ numbered v = record { 0 = v }
 
 -- ---- a held lock is given up: then it is dead
 
-module _ (osts clients : ℕ) (past : List Line) (stamp : Stamp) (c t : ℕ) (lock : Lock) (first : t ≡ 0) (ok : DropOk past c lock) (p : Phase osts past) (h : Locks osts clients past) where
+module _ (osts clients : ℕ) (past : List Line) (stamp : Stamp) (c t : ℕ) (lock : Lock) (ok : DropOk past c t lock) (p : Phase osts past) (h : Locks osts clients past) where
   abbrev dropping : List Line
   dropping = line (turn stamp (Client c)) (Drop t lock) ∷ past
 
@@ -50,7 +50,7 @@ module _ (osts clients : ℕ) (past : List Line) (stamp : Stamp) (c t : ℕ) (lo
         granted = refl;
         boot = refl;
         cookie = refl;
-        shown = refl;
+        shown = λ l i j. j;
         known = λ d. refl;
         closing = λ l i. i;
         serves = λ s. s;
@@ -60,13 +60,16 @@ module _ (osts clients : ℕ) (past : List Line) (stamp : Stamp) (c t : ℕ) (lo
         kept = dropped_kept;
       }
 
-  -- none of its name is held
-  dropped_none : (d : ℕ) → d ≡ c → is_held (name_of lock.cookie) (held_at d dropping) ≡ false
-  dropped_none d e =
-      not_held (name_of lock.cookie) (held_at d dropping)
-      (λ k. cond_both (nat_eq d c) (without (named (record { 0 = t }) lock.cookie) (held_at d past)) (held_at d past) (λ (hs : List HeldLock). In k hs → is_named (name_of lock.cookie) k ≡ false)
-      (λ q i. subst (λ v. is_named (named (record { 0 = v }) lock.cookie) k ≡ false) first (not-true (is_named (named (record { 0 = t }) lock.cookie) k) (in_filter (λ (g : HeldLock). not (is_named (named (record { 0 = t }) lock.cookie) g)) k (held_at d past) i).1))
-      (λ q i. absurd (eqb-false d c q e)))
+  -- none of its cookie is held
+  dropped_none : (d : ℕ) → d ≡ c → NoneOf lock.cookie (held_at d dropping)
+  dropped_none d e k =
+      cond_both (nat_eq d c) (without (name_of t lock.cookie) (held_at d past)) (held_at d past) (λ (hs : List HeldLock). In k hs → k.lock.cookie.0 ≡ lock.cookie.0 → ⊥)
+      (λ q i same.
+      let r = in_filter (λ (g : HeldLock). not (is_named (name_of t lock.cookie) g)) k (held_at d past) i in
+      let no = not-true (is_named (name_of t lock.cookie) k) r.1 in
+      let yes = is_of_name t lock.cookie k (ok.there k (subst (λ v. In k (held_at v past)) e r.0)) same in
+      absurd (cc))
+      (λ q i. absurd (eqb-false d c q e))
 
   dropped_back : GivenBack dropping (life_of c past) lock.cookie
   dropped_back =
@@ -75,7 +78,7 @@ module _ (osts clients : ℕ) (past : List Line) (stamp : Stamp) (c t : ℕ) (lo
       record {
         deed = r.deed;
         lock = lock;
-        gave = (r.gave.0, subst (λ (l : Lock). In l r.deed.reply.locks) ok.is r.gave.1);
+        gave = (r.gave.0, subst (λ (l : Lock). In l (brought r.deed.op r.deed.reply)) ok.is r.gave.1);
         is = refl;
         of = r.who;
         dead = (subst (λ (w : Who). Hears past w r.deed.reply.xid.0) (sym r.who) r.heard, dropped_none r.deed.reply.who.client client);
@@ -90,12 +93,11 @@ module _ (osts clients : ℕ) (past : List Line) (stamp : Stamp) (c t : ℕ) (lo
         gone = λ who cookie. ⊎_elim
             (λ (q : (is_own who past (Client c) ≡ true) × (lock.cookie ≡ cookie)). subst (λ v. GivenBack dropping who v) q.1 (subst (λ (w : Who). GivenBack dropping w lock.cookie) (sym (own_is who past c q.0)) dropped_back))
             (λ (q : Gone past who cookie). given_more past dropping drops_stay.grows (stays_dead osts clients past dropping drops_stay h) who cookie (h.gone who cookie q));
-        answers = λ d a. h.answers d a;
       })
 
 -- ---- a reply is heard: its locks aren't dead yet
 
-module _ (head : Head) (past : List Line) (stamp : Stamp) (c t : ℕ) (f : Flight) (r : ReplyTo) (first : (t ≡ 0) ⊎ (brought f.op r ≡ [])) (ok : HeardOk past c f r) (all : HoldsAt head past) where
+module _ (head : Head) (past : List Line) (stamp : Stamp) (c t : ℕ) (f : Flight) (r : ReplyTo) (ok : HeardOk past c f r) (all : HoldsAt head past) where
   abbrev hearing : List Line
   hearing = line (turn stamp (Client c)) (Heard t f r) ∷ past
 
@@ -117,33 +119,25 @@ module _ (head : Head) (past : List Line) (stamp : Stamp) (c t : ℕ) (f : Fligh
       let same : f ≡ g.0 = all.numbers.one (life_of c past) f g.0 (all.numbers.flying (life_of c past) f ok.flying) (subst (λ (w : Who). Flew past w g.0) of_who g.1) (of_xid ∙ sym g.2) in
       ap (λ (v : Flight). v.op) same ∙ g.3
 
-  none_more : granted_lock f.op r r.answer ≡ []
-  none_more = ap (λ (o : Op). granted_lock o r r.answer) of_op ∙ ap (λ (v : ReplyTo). granted_lock of.op r v.answer) made.is ∙ all.locks.answers of made.acted r
+  same_brought : brought f.op r ≡ brought of.op of.reply
+  same_brought = ap (λ (o : Op). brought o r) of_op ∙ brought_again of.op of.reply r made.is
 
-  comes : (l : Lock) → In l (brought f.op r) → In l of.reply.locks
-  comes l i =
-      ⊎_elim
-      (λ (j : In l r.locks). subst (λ (v : ReplyTo). In l v.locks) made.is j)
-      (λ (j : In l (granted_lock f.op r r.answer)). absurd (subst (λ (ls : List Lock). In l ls) none_more j))
-      (in_append l r.locks (granted_lock f.op r r.answer) i)
-
-  -- what is brought is of the metadata target
-  of_first : (l : Lock) → In l (brought f.op r) → t ≡ 0
-  of_first l i = ⊎_elim (λ (z : t ≡ 0). z) (λ (none : brought f.op r ≡ []). absurd (subst (λ (ls : List Lock). In l ls) none i)) first
+  comes : (l : Lock) → In l (brought f.op r) → In l (brought of.op of.reply)
+  comes l i = subst (λ (ls : List Lock). In l ls) same_brought i
 
   not_yet : Hears past of.reply.who of.reply.xid.0 → ⊥
   not_yet x = (all.numbers.over (life_of c past) f.xid (subst (λ v. Hears past (life_of c past) v) (sym of_xid) (subst (λ (w : Who). Hears past w of.reply.xid.0) of_who x))).1 f ok.flying refl
 
   -- a lock that lapsed isn't heard of: what is granted is told in its own boot alone, and the client knows a newer one
-  not_lapsed : (l : Lock) → In l of.reply.locks → of.reply.boot < known_of of.reply.who.client past → ⊥
+  not_lapsed : (l : Lock) → In l (brought of.op of.reply) → of.reply.boot < known_of of.reply.who.client past → ⊥
   not_lapsed l i lt =
       let known : known_of of.reply.who.client past ≡ r.boot = ap (λ (w : Who). known_of w.client past) of_who ∙ ap (λ v. known_of v past) (all.phase.client c) ∙ sym ok.boot in
       ⊎_elim
       (λ (same : r.boot ≡ of.reply.boot). omega (arith, lt, same, known))
-      (λ (none : of.reply.locks ≡ []). subst (λ (ls : List Lock). In l ls) none i)
+      (λ (none : brought of.op of.reply ≡ []). subst (λ (ls : List Lock). In l ls) none i)
       made.own
 
-  lives : (l : Lock) → In l of.reply.locks → In l (server_of head.osts past).granted ⊎ Evicted past (life_of c past)
+  lives : (l : Lock) → In l (brought of.op of.reply) → In l (server_of head.osts past).granted ⊎ Evicted past (life_of c past)
   lives l i = one_of_four
       (λ (j : In l (server_of head.osts past).granted). inl j)
       (λ (x : Dead past of l). absurd (not_yet x.0))
@@ -167,32 +161,30 @@ module _ (head : Head) (past : List Line) (stamp : Stamp) (c t : ℕ) (f : Fligh
   pub heard_dead : StaysDead past hearing
   heard_dead d l gave x = (
     inr x.0,
-    not_held (name_of l.cookie) (held_at d.reply.who.client hearing)
-        (λ g i. ⊎_elim
-        (λ (j : In g (held_at d.reply.who.client past)). held_not (name_of l.cookie) (held_at d.reply.who.client past) x.1 g j)
-        (λ (j : (d.reply.who.client ≡ c) × ((m : Lock) × In m (brought f.op r) × (held_as t m false ≡ g))). not_of_name l.cookie g (λ e. again j.1.0 (comes j.1.0 j.1.1) (ap (λ (v : HeldLock). v.lock.cookie.0) j.1.2 ∙ e)))
-        (held_now d.reply.who.client g i)),
+    λ g i e. ⊎_elim
+        (λ (j : In g (held_at d.reply.who.client past)). x.1 g j e)
+        (λ (j : (d.reply.who.client ≡ c) × ((m : Lock) × In m (brought f.op r) × (held_as t m false ≡ g))). again j.1.0 (comes j.1.0 j.1.1) (ap (λ (v : HeldLock). v.lock.cookie.0) j.1.2 ∙ e))
+        (held_now d.reply.who.client g i),
   )
     where
-      again : (m : Lock) → In m of.reply.locks → m.cookie.0 ≡ l.cookie.0 → ⊥
+      again : (m : Lock) → In m (brought of.op of.reply) → m.cookie.0 ≡ l.cookie.0 → ⊥
       again m i e =
           let same : d ≡ of = (all.locks.once d of l m gave (made.acted, i) (ap numbered (sym e))).0 in
           not_yet (subst (λ (v : Deed). Hears past v.reply.who v.reply.xid.0) same x.0)
 
   holding_new : (l : Lock) → In l (brought f.op r) → Holding head.osts hearing c (held_as t l false)
-  holding_new l i = record { target = of_first l i; deed = of; gave = (made.acted, comes l i); who = of_who; heard = inl (own_self past c, of_xid); granted = lives l (comes l i) }
+  holding_new l i = record { deed = of; gave = (made.acted, comes l i); who = of_who; heard = inl (own_self past c, of_xid); granted = lives l (comes l i) }
 
   pub heard_lapsed : StaysLapsed past hearing
   heard_lapsed d l gave x = (
     x.0,
-    not_held (name_of l.cookie) (held_at d.reply.who.client hearing)
-        (λ g i. ⊎_elim
-        (λ (j : In g (held_at d.reply.who.client past)). held_not (name_of l.cookie) (held_at d.reply.who.client past) x.1 g j)
-        (λ (j : (d.reply.who.client ≡ c) × ((m : Lock) × In m (brought f.op r) × (held_as t m false ≡ g))). not_of_name l.cookie g (λ e. again j.1.0 (comes j.1.0 j.1.1) (ap (λ (v : HeldLock). v.lock.cookie.0) j.1.2 ∙ e)))
-        (held_now d.reply.who.client g i)),
+    λ g i e. ⊎_elim
+        (λ (j : In g (held_at d.reply.who.client past)). x.1 g j e)
+        (λ (j : (d.reply.who.client ≡ c) × ((m : Lock) × In m (brought f.op r) × (held_as t m false ≡ g))). again j.1.0 (comes j.1.0 j.1.1) (ap (λ (v : HeldLock). v.lock.cookie.0) j.1.2 ∙ e))
+        (held_now d.reply.who.client g i),
   )
     where
-      again : (m : Lock) → In m of.reply.locks → m.cookie.0 ≡ l.cookie.0 → ⊥
+      again : (m : Lock) → In m (brought of.op of.reply) → m.cookie.0 ≡ l.cookie.0 → ⊥
       again m i e =
           let same : d ≡ of = (all.locks.once d of l m gave (made.acted, i) (ap numbered (sym e))).0 in
           not_lapsed m i (subst (λ (v : Deed). v.reply.boot < known_of v.reply.who.client past) same x.0)
@@ -208,7 +200,7 @@ module _ (head : Head) (past : List Line) (stamp : Stamp) (c t : ℕ) (f : Fligh
         once = all.locks.once;
         granted = all.locks.granted;
         held = λ d g i. ⊎_elim
-            (λ (j : In g (held_at d past)). let o = all.locks.held d g j in record { target = o.target; deed = o.deed; gave = o.gave; who = o.who; heard = inr o.heard; granted = o.granted })
+            (λ (j : In g (held_at d past)). let o = all.locks.held d g j in record { deed = o.deed; gave = o.gave; who = o.who; heard = inr o.heard; granted = o.granted })
             (λ (j : (d ≡ c) × ((l : Lock) × In l (brought f.op r) × (held_as t l false ≡ g))). subst (λ (v : HeldLock). Holding head.osts hearing d v) j.1.2
             (subst (λ v. Holding head.osts hearing v (held_as t j.1.0 false)) (sym j.0) (holding_new j.1.0 j.1.1)))
             (held_now d g i);
@@ -222,7 +214,6 @@ module _ (head : Head) (past : List Line) (stamp : Stamp) (c t : ℕ) (f : Fligh
         blocks = λ from d who boot cookie w. called_more past hearing hears_more d who cookie (all.locks.blocks from d who boot cookie w);
         cancels = λ from to who boot cookie w. given_more past hearing hears_more heard_dead who cookie (all.locks.cancels from to who boot cookie w);
         gone = λ who cookie w. given_more past hearing hears_more heard_dead who cookie (all.locks.gone who cookie w);
-        answers = all.locks.answers;
       }
 
 -- ---- a new life begins, which holds nothing
@@ -241,7 +232,6 @@ module _ (osts clients : ℕ) (past : List Line) (stamp : Stamp) (c : ℕ) (who 
           let o = h.held d k i in
           let same : life_of d past ≡ life_of d beginning = ap (λ (b : Bool). if b then who else life_of d past) (sym e) in
           record {
-            target = o.target;
             deed = o.deed;
             gave = o.gave;
             who = o.who ∙ same;
@@ -265,5 +255,4 @@ module _ (osts clients : ℕ) (past : List Line) (stamp : Stamp) (c : ℕ) (who 
         blocks = h.blocks;
         cancels = h.cancels;
         gone = h.gone;
-        answers = h.answers;
       }

@@ -14,23 +14,22 @@ use Rattle.lu_base.specs.declared.ids.Who.{Who}
 use Rattle.lu_base.specs.declared.locks.Lock.{Lock}
 use Rattle.lu_msg.specs.declared.messages.Message.{Message}
 use Rattle.lu_msg.specs.declared.messages.Message.TheVariants as message
-use Rattle.lu_msg.specs.declared.messages.Reply.{Reply as ReplyTo}
 use Rattle.lu_held.specs.declared.locks.Change.TheVariants.{Mark, Pin, Unpin}
 use Rattle.lu_held.specs.declared.locks.HeldLock.{HeldLock}
 use Rattle.lu_held.specs.declared.names.LockName.{LockName}
 use Rattle.lu_held.specs.Held.{changed, used, unmarked}
 use Rattle.lu_words.specs.Carried.{Deed}
 use Rattle.lu_words.specs.Words.{Entry, Hold, Pins, Unpins, Marks, Unmarks, Restore, Line, line}
-use Rattle.lu_client_rows.specs.Caches.{held_as, with_held, granted_lock, held_at}
+use Rattle.lu_client_rows.specs.Caches.{held_as, with_held, brought, held_at}
 use Rattle.lu_covered.specs.TargetStates.{server_of, shown_of, up_of}
 use Rattle.lu_covered.specs.TargetCloses.{but_first, closing_of}
 use Rattle.lu_covered.specs.ClientStates.{known_of, life_of}
 use Rattle.lu_covered.specs.Heads.{Head}
-use Rattle.lu_guards.proofs.Guards.{In, Was, name_of}
+use Rattle.lu_guards.proofs.Guards.{In, Was}
 use Rattle.lu_guards.proofs.StoryGuards.{HeldOk, IsServing}
 use Rattle.lu_guards.proofs.Grown.{ShowsNext}
 use Rattle.lu_facts.proofs.Groups.{turn, Acted, Hears, Gave, Dead, Evicted, Lapsed, Holding, Called, Gone, GivenBack, Locks}
-use Rattle.lu_facts.proofs.LockLists.{Kept, kept_same, kept_not, changed_kept, unmarked_kept, used_in, with_held_in}
+use Rattle.lu_facts.proofs.LockLists.{Kept, kept_same, kept_none, changed_kept, unmarked_kept, used_in, with_held_in}
 
 -- ---- what only grows
 
@@ -75,7 +74,7 @@ pub record Stays (osts clients : ℕ) (past new : List Line) : Type 0 where
   pub granted : (server_of osts new).granted ≡ (server_of osts past).granted
   pub boot : (server_of osts new).boot ≡ (server_of osts past).boot
   pub cookie : (server_of osts new).cookie ≡ (server_of osts past).cookie
-  pub shown : shown_of new ≡ shown_of past
+  pub shown : (l : Lock) → In l (server_of osts past).granted → In l (shown_of past) → In l (shown_of new)
   pub known : (c : ℕ) → known_of c new ≡ known_of c past
   pub closing : (l : Lock) → In (Restore l) (closing_of clients past) → In (Restore l) (closing_of clients new)
   pub serves : IsServing osts new → IsServing osts past
@@ -88,26 +87,24 @@ pub record Stays (osts clients : ℕ) (past new : List Line) : Type 0 where
 pub record SaysAsBefore (past new : List Line) : Type 0 where
   pub was : (from to : Node) (m : Message) → Was new from to m → Was past from to m
   pub gone : (who : Who) (cookie : Cookie) → Gone new who cookie → Gone past who cookie
-  pub acted : (d : Deed) → Acted new d → Acted past d
 
 -- or as it is said now
 pub record Says (past : List Line) : Type 0 where
   pub blocks : (from : Node) (c : ℕ) (who : Who) (boot : ℕ) (cookie : Cookie) → Was past from (Client c) (message.Block who boot cookie) → Called past c who cookie
   pub cancels : (from to : Node) (who : Who) (boot : ℕ) (cookie : Cookie) → Was past from to (message.Cancel who boot cookie) → GivenBack past who cookie
   pub gone : (who : Who) (cookie : Cookie) → Gone past who cookie → GivenBack past who cookie
-  pub answers : (d : Deed) → Acted past d → (r : ReplyTo) → granted_lock d.op r d.reply.answer ≡ []
 
 module _ (osts clients : ℕ) (past new : List Line) (s : Stays osts clients past new) (h : Locks osts clients past) where
   pub stays_dead : StaysDead past new
   stays_dead d l g x = (
     s.grows.hears d.reply.who d.reply.xid.0 x.0,
-    kept_not (name_of l.cookie) (held_at d.reply.who.client past) (held_at d.reply.who.client new) (s.kept d.reply.who.client) x.1,
+    kept_none l.cookie (held_at d.reply.who.client past) (held_at d.reply.who.client new) (s.kept d.reply.who.client) x.1,
   )
 
   pub stays_lapsed : StaysLapsed past new
   stays_lapsed d l g x = (
     subst (λ n. d.reply.boot < n) (sym (s.known d.reply.who.client)) x.0,
-    kept_not (name_of l.cookie) (held_at d.reply.who.client past) (held_at d.reply.who.client new) (s.kept d.reply.who.client) x.1,
+    kept_none l.cookie (held_at d.reply.who.client past) (held_at d.reply.who.client new) (s.kept d.reply.who.client) x.1,
   )
 
   granted_still : (l : Lock) → In l (server_of osts past).granted → In l (server_of osts new).granted
@@ -117,9 +114,8 @@ module _ (osts clients : ℕ) (past new : List Line) (s : Stays osts clients pas
   holding_still c k o =
       let r = h.held c o.0 o.1 in
       record {
-        target = ap (λ t. t.0) (sym o.2) ∙ r.target;
         deed = r.deed;
-        gave = (s.grows.acted r.deed r.gave.0, subst (λ (l : Lock). In l r.deed.reply.locks) o.3 r.gave.1);
+        gave = (s.grows.acted r.deed r.gave.0, subst (λ (l : Lock). In l (brought r.deed.op r.deed.reply)) o.3 r.gave.1);
         who = r.who ∙ sym (s.life c);
         heard = subst (λ (w : Who). Hears new w r.deed.reply.xid.0) (sym (s.life c)) (s.grows.hears (life_of c past) r.deed.reply.xid.0 r.heard);
         granted = ⊎_elim
@@ -128,13 +124,12 @@ module _ (osts clients : ℕ) (past new : List Line) (s : Stays osts clients pas
             r.granted;
       }
 
-  says_still : SaysAsBefore past new → Says new
+  pub says_still : SaysAsBefore past new → Says new
   says_still y =
       record {
         blocks = λ from c who boot cookie w. called_more past new s.grows c who cookie (h.blocks from c who boot cookie (y.was from (Client c) (message.Block who boot cookie) w));
         cancels = λ from to who boot cookie w. given_more past new s.grows stays_dead who cookie (h.cancels from to who boot cookie (y.was from to (message.Cancel who boot cookie) w));
         gone = λ who cookie w. given_more past new s.grows stays_dead who cookie (h.gone who cookie (y.gone who cookie w));
-        answers = λ d a. h.answers d (y.acted d a);
       }
 
   pub locks_stay : Says new → Locks osts clients new
@@ -154,14 +149,14 @@ module _ (osts clients : ℕ) (past new : List Line) (s : Stays osts clients pas
             (λ (x : Evicted past d.reply.who). inr (inr (inl (s.evicted d.reply.who x))))
             (λ (x : Lapsed past d l). inr (inr (inr (stays_lapsed d l o x))))
             (h.alive d l o);
-        shown = λ v u l i. ⊎_elim
-            (λ (j : In l (shown_of past)). inl (subst (λ (ls : List Lock). In l ls) (sym s.shown) j))
+        shown = λ v u l i. let was = subst (λ (ls : List Lock). In l ls) s.granted i in
+            ⊎_elim
+            (λ (j : In l (shown_of past)). inl (s.shown l was j))
             (λ (j : In (Restore l) (closing_of clients past)). inr (s.closing l j))
-            (h.shown (s.serves v) (sym s.up ∙ u) l (subst (λ (ls : List Lock). In l ls) s.granted i));
+            (h.shown (s.serves v) (sym s.up ∙ u) l was);
         blocks = y.blocks;
         cancels = y.cancels;
         gone = y.gone;
-        answers = y.answers;
       }
 
 -- ---- what is held changes its pins and marks, or is shown
@@ -194,14 +189,14 @@ module _ (past : List Line) (stamp : Stamp) (c : ℕ) where
       (λ q i. unmarked_kept (target_of t) (held_at d past) k i)
       (λ q i. kept_same (held_at d past) k i)
 
-  pub shown_held : (t : ℕ) (lock : Lock) (marked : Bool) (size : Option ℕ) (seen : List ℕ) → t ≡ 0 → HeldOk past c lock seen → (d : ℕ) (k : HeldLock) → In k (held_at d (line (turn stamp (Client c)) (Hold t lock marked size seen) ∷ past)) → Kept (held_at d past) k
-  shown_held t lock marked size seen first ok d k =
+  pub shown_held : (t : ℕ) (lock : Lock) (marked : Bool) (size : Option ℕ) (seen : List ℕ) → HeldOk past c t lock seen → (d : ℕ) (k : HeldLock) → In k (held_at d (line (turn stamp (Client c)) (Hold t lock marked size seen) ∷ past)) → Kept (held_at d past) k
+  shown_held t lock marked size seen ok d k =
       cond_both (nat_eq d c) (with_held (held_as t lock marked) (held_at d past)) (held_at d past) (λ (hs : List HeldLock). In k hs → Kept (held_at d past) k)
       (λ q i. ⊎_elim
       (λ (e : held_as t lock marked ≡ k). (
-        held_as 0 lock false,
-        subst (λ v. In (held_as 0 lock false) (held_at v past)) (sym (eqb-true d c q)) ok.held,
-        ap target_of (sym first) ∙ ap (λ (v : HeldLock). v.target) e,
+        held_as t lock false,
+        subst (λ v. In (held_as t lock false) (held_at v past)) (sym (eqb-true d c q)) ok.held,
+        ap (λ (v : HeldLock). v.target) e,
         ap (λ (v : HeldLock). v.lock) e,
       ))
       (λ (j : In k (held_at d past)). kept_same (held_at d past) k j)
@@ -212,44 +207,44 @@ module _ (past : List Line) (stamp : Stamp) (c : ℕ) where
       → StaysDead past (line (turn stamp (Client c)) e ∷ past)
   kept_dead e hears kept d l g x = (
     hears d.reply.who d.reply.xid.0 x.0,
-    kept_not (name_of l.cookie) (held_at d.reply.who.client past) (held_at d.reply.who.client (line (turn stamp (Client c)) e ∷ past)) (kept d.reply.who.client) x.1,
+    kept_none l.cookie (held_at d.reply.who.client past) (held_at d.reply.who.client (line (turn stamp (Client c)) e ∷ past)) (kept d.reply.who.client) x.1,
   )
 
   pub kept_lapsed : (e : Entry) → ((d : ℕ) → known_of d (line (turn stamp (Client c)) e ∷ past) ≡ known_of d past) → ((d : ℕ) (k : HeldLock) → In k (held_at d (line (turn stamp (Client c)) e ∷ past)) → Kept (held_at d past) k)
       → StaysLapsed past (line (turn stamp (Client c)) e ∷ past)
   kept_lapsed e known kept d l g x = (
     subst (λ n. d.reply.boot < n) (sym (known d.reply.who.client)) x.0,
-    kept_not (name_of l.cookie) (held_at d.reply.who.client past) (held_at d.reply.who.client (line (turn stamp (Client c)) e ∷ past)) (kept d.reply.who.client) x.1,
+    kept_none l.cookie (held_at d.reply.who.client past) (held_at d.reply.who.client (line (turn stamp (Client c)) e ∷ past)) (kept d.reply.who.client) x.1,
   )
 
 module _ (osts clients : ℕ) (past : List Line) (stamp : Stamp) (c : ℕ) (h : Locks osts clients past) where
   pub locks_pins : (name : LockName) → Locks osts clients (line (turn stamp (Client c)) (Pins name) ∷ past)
   locks_pins name =
       let new : List Line = line (turn stamp (Client c)) (Pins name) ∷ past in
-      let s : Stays osts clients past new = record { grows = record { acted = λ d a. a; hears = λ d x a. a }; before = λ d l g. g; granted = refl; boot = refl; cookie = refl; shown = refl; known = λ d. refl; closing = λ l i. i; serves = λ s. s; up = refl; evicted = λ who i. i; life = λ d. refl; kept = pins_held past stamp c name } in
-      locks_stay osts clients past new s h (says_still osts clients past new s h (record { was = λ from to m w. w; gone = λ d cookie w. w; acted = λ d a. a }))
+      let s : Stays osts clients past new = record { grows = record { acted = λ d a. a; hears = λ d x a. a }; before = λ d l g. g; granted = refl; boot = refl; cookie = refl; shown = λ l i j. j; known = λ d. refl; closing = λ l i. i; serves = λ s. s; up = refl; evicted = λ who i. i; life = λ d. refl; kept = pins_held past stamp c name } in
+      locks_stay osts clients past new s h (says_still osts clients past new s h (record { was = λ from to m w. w; gone = λ d cookie w. w }))
 
   pub locks_unpins : (name : LockName) → Locks osts clients (line (turn stamp (Client c)) (Unpins name) ∷ past)
   locks_unpins name =
       let new : List Line = line (turn stamp (Client c)) (Unpins name) ∷ past in
-      let s : Stays osts clients past new = record { grows = record { acted = λ d a. a; hears = λ d x a. a }; before = λ d l g. g; granted = refl; boot = refl; cookie = refl; shown = refl; known = λ d. refl; closing = λ l i. i; serves = λ s. s; up = refl; evicted = λ who i. i; life = λ d. refl; kept = unpins_held past stamp c name } in
-      locks_stay osts clients past new s h (says_still osts clients past new s h (record { was = λ from to m w. w; gone = λ d cookie w. w; acted = λ d a. a }))
+      let s : Stays osts clients past new = record { grows = record { acted = λ d a. a; hears = λ d x a. a }; before = λ d l g. g; granted = refl; boot = refl; cookie = refl; shown = λ l i j. j; known = λ d. refl; closing = λ l i. i; serves = λ s. s; up = refl; evicted = λ who i. i; life = λ d. refl; kept = unpins_held past stamp c name } in
+      locks_stay osts clients past new s h (says_still osts clients past new s h (record { was = λ from to m w. w; gone = λ d cookie w. w }))
 
   pub locks_marks : (name : LockName) → Locks osts clients (line (turn stamp (Client c)) (Marks name) ∷ past)
   locks_marks name =
       let new : List Line = line (turn stamp (Client c)) (Marks name) ∷ past in
-      let s : Stays osts clients past new = record { grows = record { acted = λ d a. a; hears = λ d x a. a }; before = λ d l g. g; granted = refl; boot = refl; cookie = refl; shown = refl; known = λ d. refl; closing = λ l i. i; serves = λ s. s; up = refl; evicted = λ who i. i; life = λ d. refl; kept = marks_held past stamp c name } in
-      locks_stay osts clients past new s h (says_still osts clients past new s h (record { was = λ from to m w. w; gone = λ d cookie w. w; acted = λ d a. a }))
+      let s : Stays osts clients past new = record { grows = record { acted = λ d a. a; hears = λ d x a. a }; before = λ d l g. g; granted = refl; boot = refl; cookie = refl; shown = λ l i j. j; known = λ d. refl; closing = λ l i. i; serves = λ s. s; up = refl; evicted = λ who i. i; life = λ d. refl; kept = marks_held past stamp c name } in
+      locks_stay osts clients past new s h (says_still osts clients past new s h (record { was = λ from to m w. w; gone = λ d cookie w. w }))
 
   pub locks_unmarks : (t : ℕ) → Locks osts clients (line (turn stamp (Client c)) (Unmarks t) ∷ past)
   locks_unmarks t =
       let new : List Line = line (turn stamp (Client c)) (Unmarks t) ∷ past in
-      let s : Stays osts clients past new = record { grows = record { acted = λ d a. a; hears = λ d x a. a }; before = λ d l g. g; granted = refl; boot = refl; cookie = refl; shown = refl; known = λ d. refl; closing = λ l i. i; serves = λ s. s; up = refl; evicted = λ who i. i; life = λ d. refl; kept = unmarks_held past stamp c t } in
-      locks_stay osts clients past new s h (says_still osts clients past new s h (record { was = λ from to m w. w; gone = λ d cookie w. w; acted = λ d a. a }))
+      let s : Stays osts clients past new = record { grows = record { acted = λ d a. a; hears = λ d x a. a }; before = λ d l g. g; granted = refl; boot = refl; cookie = refl; shown = λ l i j. j; known = λ d. refl; closing = λ l i. i; serves = λ s. s; up = refl; evicted = λ who i. i; life = λ d. refl; kept = unmarks_held past stamp c t } in
+      locks_stay osts clients past new s h (says_still osts clients past new s h (record { was = λ from to m w. w; gone = λ d cookie w. w }))
 
   -- a lock that is shown is held already
-  pub locks_hold : (t : ℕ) (lock : Lock) (marked : Bool) (size : Option ℕ) (seen : List ℕ) → t ≡ 0 → HeldOk past c lock seen → Locks osts clients (line (turn stamp (Client c)) (Hold t lock marked size seen) ∷ past)
-  locks_hold t lock marked size seen first ok =
+  pub locks_hold : (t : ℕ) (lock : Lock) (marked : Bool) (size : Option ℕ) (seen : List ℕ) → HeldOk past c t lock seen → Locks osts clients (line (turn stamp (Client c)) (Hold t lock marked size seen) ∷ past)
+  locks_hold t lock marked size seen ok =
       let new : List Line = line (turn stamp (Client c)) (Hold t lock marked size seen) ∷ past in
-      let s : Stays osts clients past new = record { grows = record { acted = λ d a. a; hears = λ d x a. a }; before = λ d l g. g; granted = refl; boot = refl; cookie = refl; shown = refl; known = λ d. refl; closing = λ l i. i; serves = λ s. s; up = refl; evicted = λ who i. i; life = λ d. refl; kept = shown_held past stamp c t lock marked size seen first ok } in
-      locks_stay osts clients past new s h (says_still osts clients past new s h (record { was = λ from to m w. w; gone = λ d cookie w. w; acted = λ d a. a }))
+      let s : Stays osts clients past new = record { grows = record { acted = λ d a. a; hears = λ d x a. a }; before = λ d l g. g; granted = refl; boot = refl; cookie = refl; shown = λ l i j. j; known = λ d. refl; closing = λ l i. i; serves = λ s. s; up = refl; evicted = λ who i. i; life = λ d. refl; kept = shown_held past stamp c t lock marked size seen ok } in
+      locks_stay osts clients past new s h (says_still osts clients past new s h (record { was = λ from to m w. w; gone = λ d cookie w. w }))

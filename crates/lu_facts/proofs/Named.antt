@@ -1,5 +1,4 @@
--- Each operation on names keeps that each path which leads somewhere was made, each that leads to a file so that it may, and that no two
--- lead to one directory.
+-- Each operation on names keeps that each path which leads somewhere was made, and that no two lead to one directory.
 use Rattle.std.proofs.Common.{◌≡◌, ℕ, ℤ, ◌+◌, ◌-◌, ◌<◌, ◌≤◌, Bool, true, false, List, [], ◌∷◌, ◌++◌, ◌⊎◌, inl, inr, ⊎_elim, Option, Some, None, refl, sym, ap, subst, ◌∙◌, arith}
 use Rattle.std.specs.Prelude.{◌==◌, ◌||◌, if◌then◌else◌}
 use Rattle.std.specs.Option.{option_and_then}
@@ -103,39 +102,25 @@ Makes (op.Link old new) path = path ≡ new
 Makes (op.Rename old new) path = (rest : Path) × (path ≡ new ++ rest)
 Makes _ path = ⊥
 
--- those of them that may lead to a file
-abbrev pub FileBy : Op → Path → Type 0
-FileBy (op.Create made size count) path = path ≡ made
-FileBy (op.Link old new) path = path ≡ new
-FileBy (op.Rename old new) path = (rest : Path) × (path ≡ new ++ rest)
-FileBy _ path = ⊥
-
--- each path that leads to a file is one of these
-abbrev pub Filed : (Path → Type 0) → Tree → Type 0
-Filed Files t = (path : Path) (f : Fid) → at_path t path ≡ Some (File f) → Files path
-
-module _ (osts : ℕ) (t : Tree) (number : Txn) (who : Who) (Made Files : Path → Type 0) (bound : ℕ) (h : Named Made bound t) (filed : Filed Files t) (new : bound < number.0) where
+module _ (osts : ℕ) (t : Tree) (number : Txn) (who : Who) (Made : Path → Type 0) (bound : ℕ) (h : Named Made bound t) (new : bound < number.0) where
   abbrev act : Op → Operation
   act o = record { number = number; who = who; op = o }
 
   abbrev WithOp : Op → Path → Type 0
   WithOp o path = Made path ⊎ Makes o path
 
-  abbrev FileWith : Op → Path → Type 0
-  FileWith o path = Files path ⊎ FileBy o path
-
   abbrev So : Op → Tree → Type 0
-  So o u = Named (WithOp o) number.0 u × Filed (FileWith o) u
+  So o u = Named (WithOp o) number.0 u
 
   abbrev After : Op → Outcome → Type 0
   After o r = So o (changed t r.changes)
 
   stays : (o : Op) → So o t
-  stays o = (named_wide Made (WithOp o) bound number.0 t (λ path m. inl m) (omega arith) h, λ path f led. inl (filed path f led))
+  stays o = named_wide Made (WithOp o) bound number.0 t (λ path m. inl m) (omega arith) h
 
   -- with fewer names than a tree that is so
   fewer_so : (o : Op) (v u : Tree) → ((d : Fid) (n : List ℕ) (c : Child) → child u d n ≡ Some c → child v d n ≡ Some c) → So o v → So o u
-  fewer_so o v u fewer k = (named_fewer (WithOp o) number.0 v u fewer k.0, λ path f led. k.1 path f (leads_still v u fewer root path (File f) led))
+  fewer_so o v u fewer k = named_fewer (WithOp o) number.0 v u fewer k
 
   less : (o : Op) (u : Tree) → ((d : Fid) (n : List ℕ) (c : Child) → child u d n ≡ Some c → child t d n ≡ Some c) → So o u
   less o u fewer = fewer_so o t u fewer (stays o)
@@ -174,15 +159,6 @@ module _ (osts : ℕ) (t : Tree) (number : Txn) (who : Who) (Made Files : Path �
         by None is g = absurd (cc)
         by (Some x) is g = absurd (no_names m x is)
 
-    -- no path leads to a file by it
-    dir_filed : (path : Path) → Filed (FileWith (op.Mkdir path)) with_dir
-    dir_filed path q x led = ⊎_elim
-        (λ (k : leads_to t root q ≡ Some (File x)). inl (filed q x k))
-        (λ (k : (early : Path) × (rest : Path) × (q ≡ early ++ n ∷ rest) × (leads_to t root early ≡ Some (Dir d)) × (leads_to with_dir (Dir f) rest ≡ Some (File x))).
-        let same : leads_to with_dir (Dir f) [] ≡ Some (File x) = subst (λ (z : Path). leads_to with_dir (Dir f) z ≡ Some (File x)) (dir_ends k.1 (File x) k.4) k.4 in
-        absurd (cc))
-        (leads_by t with_dir d n (Dir f) dir_more root q (File x) led)
-
     dir_new : IsNew t with_dir d n (Dir f) dir_more
     dir_new =
         record {
@@ -200,26 +176,18 @@ module _ (osts : ℕ) (t : Tree) (number : Txn) (who : Who) (Made Files : Path �
       (λ none.
       let leads : at_path t front ≡ Some (Dir d) = steps_lead t root front cs s ∙ ap Some is in
       let under : d.0 ≤ bound = reach t bound h.low root front (Dir d) h.least leads in
-      let g = named_graft t (with_dir d n under) d n (Dir (made_by number)) (dir_more d n under) Made bound number.0 h (omega arith) (omega arith) front leads (dir_new d n under) in (
-        named_wide (λ q. Made q ⊎ IsBy t (with_dir d n under) d n (Dir (made_by number)) (dir_more d n under) front q) (WithOp (op.Mkdir path)) number.0 number.0 (with_dir d n under)
-            (λ q m. ⊎_elim (λ (a : Made q). inl a) (λ (a : IsBy t (with_dir d n under) d n (Dir (made_by number)) (dir_more d n under) front q). inr (a.1 ∙ ap (λ (z : Path). front ++ n ∷ z) (dir_ends d n under a.0 a.2.0 a.2.1) ∙ sym p)) m) (omega arith) g,
-        dir_filed d n under path,
-      )))
+      let g = named_graft t (with_dir d n under) d n (Dir (made_by number)) (dir_more d n under) Made bound number.0 h (omega arith) (omega arith) front leads (dir_new d n under) in
+      named_wide (λ q. Made q ⊎ IsBy t (with_dir d n under) d n (Dir (made_by number)) (dir_more d n under) front q) (WithOp (op.Mkdir path)) number.0 number.0 (with_dir d n under)
+      (λ q m. ⊎_elim (λ (a : Made q). inl a) (λ (a : IsBy t (with_dir d n under) d n (Dir (made_by number)) (dir_more d n under) front q). inr (a.1 ∙ ap (λ (z : Path). front ++ n ∷ z) (dir_ends d n under a.0 a.2.0 a.2.1) ∙ sym p)) m) (omega arith) g))
 
   -- ---- a name that leads to a file
 
   -- u has that name more
-  file_named : (u : Tree) (d : Fid) (n : List ℕ) (f : Fid) (o : Op) (path front : Path) → IsOneMore t u d n (File f) → f.0 ≤ number.0 → at_path t front ≡ Some (Dir d) → path ≡ front ++ n ∷ [] → ((q : Path) → q ≡ path → Makes o q) → ((q : Path) → q ≡ path → FileBy o q) → So o u
-  file_named u d n f o path front more low leads p makes files = (
-    named_wide (λ q. Made q ⊎ IsBy t u d n (File f) more front q) (WithOp o) number.0 number.0 u
-        (λ q m. ⊎_elim (λ (a : Made q). inl a) (λ (a : IsBy t u d n (File f) more front q). inr (makes q (a.1 ∙ ap (λ (z : Path). front ++ n ∷ z) (file_ends u f a.0 a.2.0 a.2.1) ∙ sym p))) m) (omega arith)
-        (named_graft t u d n (File f) more Made bound number.0 h (omega arith) low front leads (file_new t u d n f more)),
-    λ q x led. ⊎_elim
-        (λ (k : leads_to t root q ≡ Some (File x)). inl (filed q x k))
-        (λ (k : (early : Path) × (rest : Path) × (q ≡ early ++ n ∷ rest) × (leads_to t root early ≡ Some (Dir d)) × (leads_to u (File f) rest ≡ Some (File x))).
-        inr (files q (k.2 ∙ ap (λ (z : Path). z ++ n ∷ k.1) (h.one k.0 front d k.3 leads) ∙ ap (λ (z : Path). front ++ n ∷ z) (file_ends u f k.1 (File x) k.4) ∙ sym p)))
-        (leads_by t u d n (File f) more root q (File x) led),
-  )
+  file_named : (u : Tree) (d : Fid) (n : List ℕ) (f : Fid) (o : Op) (path front : Path) → IsOneMore t u d n (File f) → f.0 ≤ number.0 → at_path t front ≡ Some (Dir d) → path ≡ front ++ n ∷ [] → ((q : Path) → q ≡ path → Makes o q) → So o u
+  file_named u d n f o path front more low leads p makes =
+      named_wide (λ q. Made q ⊎ IsBy t u d n (File f) more front q) (WithOp o) number.0 number.0 u
+      (λ q m. ⊎_elim (λ (a : Made q). inl a) (λ (a : IsBy t u d n (File f) more front q). inr (makes q (a.1 ∙ ap (λ (z : Path). front ++ n ∷ z) (file_ends u f a.0 a.2.0 a.2.1) ∙ sym p))) m) (omega arith)
+      (named_graft t u d n (File f) more Made bound number.0 h (omega arith) low front leads (file_new t u d n f more))
 
   create_named : (path : Path) (size : ℕ) (count : ℤ) → After (op.Create path size count) (outcome t (to_last EEXIST path (λ cs d n. absent (row_create number d n (new_layout osts number size count)))))
   create_named path size count =
@@ -230,7 +198,7 @@ module _ (osts : ℕ) (t : Tree) (number : Txn) (who : Who) (Made Files : Path �
       ends : (front : Path) (d : Fid) (n : List ℕ) (l : Option Raid0) → path ≡ front ++ n ∷ [] → at_path t front ≡ Some (Dir d) → After (op.Create path size count) (outcome t (row_create number d n l))
       ends front d n None p leads = stays (op.Create path size count)
       ends front d n (Some l) p leads =
-          file_named (changed t (MakesFile (made_by number) l ∷ Leads d n (File (made_by number)) ∷ [])) d n (made_by number) (op.Create path size count) path front (λ e m c k. led_more (change t (MakesFile (made_by number) l)) d n (File (made_by number)) e m c k) (omega arith) leads p (λ q e. e) (λ q e. e)
+          file_named (changed t (MakesFile (made_by number) l ∷ Leads d n (File (made_by number)) ∷ [])) d n (made_by number) (op.Create path size count) path front (λ e m c k. led_more (change t (MakesFile (made_by number) l)) d n (File (made_by number)) e m c k) (omega arith) leads p (λ q e. e)
 
   link_named : (old path : Path) → After (op.Link old path) (outcome t (walk root old (λ cs. row_link path (last_of root cs))))
   link_named old path = walk_steps t (After (op.Link old path)) (λ e. stays (op.Link old path)) root old (λ cs. row_link path (last_of root cs)) (λ cs s. links (last_of root cs) (steps_lead t root old cs s))
@@ -241,7 +209,7 @@ module _ (osts : ℕ) (t : Tree) (number : Txn) (who : Who) (Made Files : Path �
           let low = reach t bound h.low root old (File f) h.least leads in
           last_steps t (After (op.Link old path)) (λ e. stays (op.Link old path)) EEXIST path (λ cs d n. absent (LookAttr (File f) (λ a. does told.Done (Leads d n (File f) ∷ SetLinks f (a.links + 1) ∷ []))))
           (λ front cs d n p s is. absent_ends t (After (op.Link old path)) (λ e. stays (op.Link old path)) (LookAttr (File f) (λ a. does told.Done (Leads d n (File f) ∷ SetLinks f (a.links + 1) ∷ []))) (child t d n)
-          (λ none. file_named (changed t (Leads d n (File f) ∷ SetLinks f ((attributes t (File f)).links + 1) ∷ [])) d n f (op.Link old path) path front (λ e m c k. led_more t d n (File f) e m c k) (omega (arith, low, new)) (steps_lead t root front cs s ∙ ap Some is) p (λ q e. e) (λ q e. e)))
+          (λ none. file_named (changed t (Leads d n (File f) ∷ SetLinks f ((attributes t (File f)).links + 1) ∷ [])) d n f (op.Link old path) path front (λ e m c k. led_more t d n (File f) e m c k) (omega (arith, low, new)) (steps_lead t root front cs s ∙ ap Some is) p (λ q e. e)))
 
   -- ---- unlink, rmdir and chmod
 
@@ -381,16 +349,10 @@ module _ (osts : ℕ) (t : Tree) (number : Txn) (who : Who) (Made Files : Path �
     by_new rest = sym (append_assoc front (m ∷ []) rest) ∙ ap (λ (z : Path). z ++ rest) (sym ends)
 
     moved : So (op.Rename old path) u
-    moved = (
-      named_wide (λ q. Made q ⊎ IsBy w u e m c more front q) (WithOp (op.Rename old path)) number.0 number.0 u
-          (λ q k. ⊎_elim (λ (a : Made q). inl a) (λ (a : IsBy w u e m c more front q). inr (a.0, a.1 ∙ by_new a.0)) k) (omega arith)
-          (named_graft w u e m c more Made bound number.0 without (omega arith) (let low = h.low d n c is in omega (arith, low, new)) front front_stays moved_new),
-      λ q x led. ⊎_elim
-          (λ (k : leads_to w root q ≡ Some (File x)). inl (filed q x (still root q (File x) k)))
-          (λ (k : (early : Path) × (rest : Path) × (q ≡ early ++ m ∷ rest) × (leads_to w root early ≡ Some (Dir e)) × (leads_to u c rest ≡ Some (File x))).
-          inr (k.1, k.2 ∙ ap (λ (z : Path). z ++ m ∷ k.1) (without.one k.0 front e k.3 front_stays) ∙ by_new k.1))
-          (leads_by w u e m c more root q (File x) led),
-    )
+    moved =
+        named_wide (λ q. Made q ⊎ IsBy w u e m c more front q) (WithOp (op.Rename old path)) number.0 number.0 u
+        (λ q k. ⊎_elim (λ (a : Made q). inl a) (λ (a : IsBy w u e m c more front q). inr (a.0, a.1 ∙ by_new a.0)) k) (omega arith)
+        (named_graft w u e m c more Made bound number.0 without (omega arith) (let low = h.low d n c is in omega (arith, low, new)) front front_stays moved_new)
 
   module _ (first : List ℕ) (names : Path) (path : Path) where
     abbrev Q : Outcome → Type 0
@@ -431,35 +393,30 @@ module _ (osts : ℕ) (t : Tree) (number : Txn) (who : Who) (Made Files : Path �
 
   -- ---- all of them
 
-  pub named_so : (o : Op) → IsOnNames o → So o (after osts t (act o))
-  named_so (op.Lookup path) is = walk_steps t (After (op.Lookup path)) (λ e. stays (op.Lookup path)) root path (λ cs. row_lookup cs (last_of root cs)) (λ cs s. stays (op.Lookup path))
-  named_so (op.Stat path) is = walk_steps t (After (op.Stat path)) (λ e. stays (op.Stat path)) root path (λ cs. row_stat cs (last_of root cs)) (λ cs s. by cs (last_of root cs))
+  pub named_after : (o : Op) → IsOnNames o → So o (after osts t (act o))
+  named_after (op.Lookup path) is = walk_steps t (After (op.Lookup path)) (λ e. stays (op.Lookup path)) root path (λ cs. row_lookup cs (last_of root cs)) (λ cs s. stays (op.Lookup path))
+  named_after (op.Stat path) is = walk_steps t (After (op.Stat path)) (λ e. stays (op.Stat path)) root path (λ cs. row_stat cs (last_of root cs)) (λ cs s. by cs (last_of root cs))
     where
       by : (cs : List Child) (c : Child) → After (op.Stat path) (outcome t (row_stat cs c))
       by cs (Dir d) = stays (op.Stat path)
       by cs (File f) = stays (op.Stat path)
-  named_so (op.List path) is = walk_steps t (After (op.List path)) (λ e. stays (op.List path)) root path (λ cs. row_list cs (last_of root cs)) (λ cs s. by cs (last_of root cs))
+  named_after (op.List path) is = walk_steps t (After (op.List path)) (λ e. stays (op.List path)) root path (λ cs. row_list cs (last_of root cs)) (λ cs s. by cs (last_of root cs))
     where
       by : (cs : List Child) (c : Child) → After (op.List path) (outcome t (row_list cs c))
       by cs (Dir d) = stays (op.List path)
       by cs (File f) = stays (op.List path)
-  named_so (op.Layout path) is = walk_steps t (After (op.Layout path)) (λ e. stays (op.Layout path)) root path (λ cs. row_layout cs (last_of root cs)) (λ cs s. by cs (last_of root cs))
+  named_after (op.Layout path) is = walk_steps t (After (op.Layout path)) (λ e. stays (op.Layout path)) root path (λ cs. row_layout cs (last_of root cs)) (λ cs s. by cs (last_of root cs))
     where
       by : (cs : List Child) (c : Child) → After (op.Layout path) (outcome t (row_layout cs c))
       by cs (Dir d) = stays (op.Layout path)
       by cs (File f) = stays (op.Layout path)
-  named_so (op.Mkdir path) is = mkdir_named path
-  named_so (op.Create path size count) is = create_named path size count
-  named_so (op.Link old path) is = link_named old path
-  named_so (op.Unlink path) is = unlink_named path
-  named_so (op.Rmdir path) is = rmdir_named path
-  named_so (op.Rename old path) is = rename_named old path
-  named_so (op.Chmod path mode) is = chmod_named path mode
-  named_so (op.Open path) is = open_named path
-  named_so (op.Close opened fid) is = less (op.Close opened fid) (change t (Closes opened who)) (λ x m c k. k)
-  named_so _ is = absurd is
-
--- of paths alone
-pub named_after : (osts : ℕ) (t : Tree) (number : Txn) (who : Who) (Made : Path → Type 0) (bound : ℕ) → Named Made bound t → bound < number.0 → (o : Op) → IsOnNames o
-    → Named (λ path. Made path ⊎ Makes o path) number.0 (after osts t (record { number = number; who = who; op = o }))
-named_after osts t number who Made bound h new o is = (named_so osts t number who Made (λ path. Unit {0}) bound h (λ path f led. tt) new o is).0
+  named_after (op.Mkdir path) is = mkdir_named path
+  named_after (op.Create path size count) is = create_named path size count
+  named_after (op.Link old path) is = link_named old path
+  named_after (op.Unlink path) is = unlink_named path
+  named_after (op.Rmdir path) is = rmdir_named path
+  named_after (op.Rename old path) is = rename_named old path
+  named_after (op.Chmod path mode) is = chmod_named path mode
+  named_after (op.Open path) is = open_named path
+  named_after (op.Close opened fid) is = less (op.Close opened fid) (change t (Closes opened who)) (λ x m c k. k)
+  named_after _ is = absurd is

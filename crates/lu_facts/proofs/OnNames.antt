@@ -145,8 +145,3 @@ reading_told o a is fits = refl
 pub is_plain : (o : Op) (a : Answer) → IsOnNames o → answer_fits o a ≡ true → (IsReading o → IsRefusal a) → IsPlain a
 is_plain o (told.FileStat fid mode links layout) is fits refused = no_attributes o fid mode links layout is fits (λ path e. refused (subst IsReading (sym e) tt))
 is_plain o a is fits refused = tt
-
--- so is any but that to a stat
-pub other_plain : (o : Op) (a : Answer) → IsOnNames o → answer_fits o a ≡ true → ((path : List (List ℕ)) → o ≡ op.Stat path → IsPlain a) → IsPlain a
-other_plain o (told.FileStat fid mode links layout) is fits stat = no_attributes o fid mode links layout is fits stat
-other_plain o a is fits stat = tt

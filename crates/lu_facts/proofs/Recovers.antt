@@ -1,5 +1,5 @@
 -- What a target that recovers has taken is what the lives have, line by line.
-use Rattle.std.proofs.Common.{◌≡◌, ℕ, ◌+◌, ◌≤◌, Bool, true, false, List, [], ◌∷◌, ◌⊎◌, inl, ⊎_elim, refl, sym, subst, ap, ◌∙◌, arith}
+use Rattle.std.proofs.Common.{◌≡◌, ℕ, ◌+◌, ◌≤◌, Bool, true, false, List, [], ◌∷◌, ◌⊎◌, inl, inr, ⊎_elim, refl, sym, subst, ap, ◌∙◌, arith}
 use Rattle.std.specs.Prelude.{nat_eq, map, not, ◌&&◌, if◌then◌else◌, Option}
 use Rattle.std.proofs.lemmas.Bool.{cond_both, cond-false, and_parts, eqb-true, eq-eqb}
 use Rattle.lu_base.specs.declared.ids.At.{At}
@@ -17,7 +17,7 @@ use Rattle.lu_msg.specs.declared.messages.Message.{Message}
 use Rattle.lu_msg.specs.declared.messages.Message.TheVariants as message
 use Rattle.lu_msg.specs.declared.messages.Reply.{Reply as ReplyTo}
 use Rattle.lu_words.specs.Carried.{Deed, Flight, Disk, Outcome}
-use Rattle.lu_words.specs.Words.{Entry, Send, Heard, Hold, Drop, Pins, Unpins, Marks, Unmarks, Knows, Serves, Settles, Life, Act, Txn as Made, Boot, Close, Evict, Joined, Stores, Brings, Says, Wishes, Line, line, same_life}
+use Rattle.lu_words.specs.Words.{Entry, Send, Heard, Hold, Drop, Pins, Unpins, Marks, Unmarks, Knows, Serves, Settles, Life, Act, Txn as Made, Grant, Boot, Close, Evict, Joined, Stores, Brings, Says, Wishes, Line, line, same_life}
 use Rattle.lu_client_rows.specs.Caches.{held_at}
 use Rattle.lu_covered.specs.Imports.{Standing, Joining, Serving, interrupted}
 use Rattle.lu_covered.specs.TargetStates.{server_of, closed_of, replays_of, brought_of, wishes_of}
@@ -30,7 +30,7 @@ use Rattle.lu_guards.proofs.StoryGuards.{IsServing, IsRecovering, EvictOk, Leave
 use Rattle.lu_guards.proofs.Lists.{life_is, in_filter}
 use Rattle.lu_guards.proofs.ClientLocks.{in_mapped}
 use Rattle.lu_guards.proofs.Acts.{acted}
-use Rattle.lu_facts.proofs.Groups.{turn, HeardAs, HasSlot, BootIn, boot_told, who_told, ReplayedRise, BroughtRise, ToldIn, Recovers, HoldsAt}
+use Rattle.lu_facts.proofs.Groups.{turn, HeardAs, HasSlot, BootIn, boot_told, who_told, ReplayedRise, BroughtRise, ToldIn, Lives, Recovers, HoldsAt}
 use Rattle.lu_facts.proofs.LockLists.{Kept, kept_same, changed_kept, unmarked_kept, used_in}
 use Rattle.lu_facts.proofs.Phase.{life_rises}
 use Rattle.lu_facts.proofs.Lives.{known_rises, still_joins}
@@ -50,7 +50,7 @@ recovers_start osts clients =
       wishes_rise = tt;
       holds = λ off c le x i. absurd i;
       bare = λ c j. refl;
-      hears = λ at c f r q i. absurd i;
+      hears = λ at c u f r q i. absurd i;
     }
 
 -- ---- where the target doesn't recover
@@ -60,7 +60,8 @@ serving_not osts past s off = let t = eq-eqb (closed_of past) (server_of osts pa
 
 -- all that is left to say of it
 recovers_none : (osts clients : ℕ) (past : List Line) → (IsRecovering osts past → ⊥) → ReplayedRise (replays_of past) → BroughtRise (brought_of past) → OneEach (wishes_of past)
-    → ((c : ℕ) → standing_of c past ≡ Joining → locks_told c past ≡ []) → ((at : At) (c : ℕ) (f : Flight) (r : ReplyTo) → at.node ≡ Client c → HeardNow past at 0 f r → known_of c past ≤ closed_of past) → Recovers osts clients past
+    → ((c : ℕ) → standing_of c past ≡ Joining → locks_told c past ≡ [])
+    → ((at : At) (c t : ℕ) (f : Flight) (r : ReplyTo) → at.node ≡ Client c → HeardNow past at t f r → known_of c past ≤ closed_of past) → Recovers osts clients past
 recovers_none osts clients past none replays brought wishes bare hears =
     record {
       told = λ from to m w off. absurd (none off);
@@ -81,21 +82,54 @@ module _ (osts clients : ℕ) (past : List Line) (stamp : Stamp) (t : ℕ) (s : 
   none off = serving_not osts past s off
 
   recovers_act : (d : Deed) → Recovers osts clients (line (turn stamp (Target t)) (Act d) ∷ past)
-  recovers_act d = recovers_none osts clients (line (turn stamp (Target t)) (Act d) ∷ past) none h.replays_rise h.brought_rise h.wishes_rise h.bare (λ at c f r q i. absurd i)
+  recovers_act d = recovers_none osts clients (line (turn stamp (Target t)) (Act d) ∷ past) none h.replays_rise h.brought_rise h.wishes_rise h.bare (λ at c u f r q i. absurd i)
 
   recovers_txn : (d : Deed) → Recovers osts clients (line (turn stamp (Target t)) (Made d) ∷ past)
-  recovers_txn d = recovers_none osts clients (line (turn stamp (Target t)) (Made d) ∷ past) none h.replays_rise h.brought_rise h.wishes_rise h.bare (λ at c f r q i. absurd i)
+  recovers_txn d = recovers_none osts clients (line (turn stamp (Target t)) (Made d) ∷ past) none h.replays_rise h.brought_rise h.wishes_rise h.bare (λ at c u f r q i. absurd i)
 
   recovers_evict : (who : Who) (cause : Cause) → Recovers osts clients (line (turn stamp (Target t)) (Evict who cause) ∷ past)
-  recovers_evict who cause = recovers_none osts clients (line (turn stamp (Target t)) (Evict who cause) ∷ past) none h.replays_rise h.brought_rise h.wishes_rise h.bare (λ at c f r q i. absurd i)
+  recovers_evict who cause = recovers_none osts clients (line (turn stamp (Target t)) (Evict who cause) ∷ past) none h.replays_rise h.brought_rise h.wishes_rise h.bare (λ at c u f r q i. absurd i)
 
   recovers_joined : (who : Who) → Recovers osts clients (line (turn stamp (Target t)) (Joined who) ∷ past)
-  recovers_joined who = recovers_none osts clients (line (turn stamp (Target t)) (Joined who) ∷ past) none h.replays_rise h.brought_rise h.wishes_rise h.bare (λ at c f r q i. absurd i)
+  recovers_joined who = recovers_none osts clients (line (turn stamp (Target t)) (Joined who) ∷ past) none h.replays_rise h.brought_rise h.wishes_rise h.bare (λ at c u f r q i. absurd i)
+
+-- a line that grants a lock leaves what was taken
+recovers_grant : (osts clients : ℕ) (past : List Line) (stamp : Stamp) (t : ℕ) (lock : Lock) (asked : Option Deed) → Lives clients past → Recovers osts clients past
+    → Recovers osts clients (line (turn stamp (Target t)) (Grant lock asked) ∷ past)
+recovers_grant osts clients past stamp t lock asked lives h =
+    recovers_still osts clients past new leaves lives h (record {
+      told = told_again osts clients past new leaves lives h;
+      replays = refl;
+      brought = refl;
+      words = refl;
+      wishes = refl;
+      holds = h.holds;
+      bare = h.bare;
+      hears = λ at c u f r q i. absurd i;
+    })
+  where
+    new : List Line
+    new = line (turn stamp (Target t)) (Grant lock asked) ∷ past
+
+    leaves : Leaves osts clients past new
+    leaves =
+        record {
+          off = λ o. o;
+          boot = refl;
+          had = λ who o. o;
+          has = λ who o. o;
+          known = λ c. omega arith;
+          life = λ c. omega arith;
+          kept = λ off who has le. refl;
+          heard = λ off who has le f k i. i;
+          locks = λ off who has le e. (e, refl);
+          acted = λ d a. inr a;
+        }
 
 -- after a close it serves
 recovers_close : (osts clients : ℕ) (past : List Line) (stamp : Stamp) (t : ℕ) → Recovers osts clients past → Recovers osts clients (line (turn stamp (Target t)) (Close (outcome_of osts clients (turn stamp (Target t)) past)) ∷ past)
 recovers_close osts clients past stamp t h =
-    recovers_none osts clients (line (turn stamp (Target t)) (Close (outcome_of osts clients (turn stamp (Target t)) past)) ∷ past) none tt tt tt h.bare (λ at c f r q i. absurd i)
+    recovers_none osts clients (line (turn stamp (Target t)) (Close (outcome_of osts clients (turn stamp (Target t)) past)) ∷ past) none tt tt tt h.bare (λ at c u f r q i. absurd i)
   where
     none : nat_eq (server_of osts past).boot (server_of osts past).boot ≡ false → ⊥
     none off = let t = eq-eqb (server_of osts past).boot (server_of osts past).boot refl in absurd (cc)
@@ -121,7 +155,7 @@ recovers_boot head past stamp t boot disk ok h =
       wishes_rise = tt;
       holds = λ off c le. let k = h.phase.known c in let n = ok.next in absurd (omega (arith, k, n, le));
       bare = h.recovers.bare;
-      hears = λ at c f r q i. absurd i;
+      hears = λ at c u f r q i. absurd i;
     }
 
 -- ---- messages
@@ -173,7 +207,7 @@ module _ (head : Head) (past : List Line) (stamp : Stamp) (c : ℕ) (low : known
         wishes = refl;
         holds = λ off d le x. holds_low off d le _ x;
         bare = h.recovers.bare;
-        hears = λ at d g k q i. subst (λ v. known_of v past ≤ closed_of past) (same_client d (ap (λ (v : At). v.node) i.0 ∙ q)) low;
+        hears = λ at d u g k q i. subst (λ v. known_of v past ≤ closed_of past) (same_client d (ap (λ (v : At). v.node) i.0 ∙ q)) low;
       })
     where
       new : List Line
@@ -235,7 +269,7 @@ module _ (head : Head) (past : List Line) (stamp : Stamp) (c : ℕ) (low : known
         wishes = refl;
         holds = h.recovers.holds;
         bare = h.recovers.bare;
-        hears = λ at d g k q i. absurd i;
+        hears = λ at d u g k q i. absurd i;
       })
     where
       new : List Line
@@ -268,7 +302,7 @@ recovers_life head past stamp c new ok h =
       wishes = refl;
       holds = λ off d le x i. by_held off d le x i (nat_eq d c) refl;
       bare = λ d. by_bare d (nat_eq d c);
-      hears = λ at d g k q i. absurd i;
+      hears = λ at d u g k q i. absurd i;
     })
   where
     after : List Line
@@ -328,7 +362,7 @@ recovers_knows head past stamp c t boot ok h =
       wishes = refl;
       holds = λ off d le x i. by_held off d x i (nat_eq d c) refl le;
       bare = λ d. by_bare d (nat_eq d c) refl;
-      hears = λ at d g k q i. absurd i;
+      hears = λ at d u g k q i. absurd i;
     })
   where
     after : List Line
@@ -386,7 +420,7 @@ keeps_recovers head past stamp (Client c) (Send to m) ok h =
       wishes_rise = h.recovers.wishes_rise;
       holds = h.recovers.holds;
       bare = h.recovers.bare;
-      hears = λ at d f r q i. absurd i;
+      hears = λ at d u f r q i. absurd i;
     }
 keeps_recovers head past stamp (Target t) (Send to m) ok h =
     record {
@@ -400,10 +434,10 @@ keeps_recovers head past stamp (Target t) (Send to m) ok h =
       wishes_rise = h.recovers.wishes_rise;
       holds = h.recovers.holds;
       bare = h.recovers.bare;
-      hears = λ at d f r q i. absurd i;
+      hears = λ at d u f r q i. absurd i;
     }
 keeps_recovers head past stamp (Client c) (Heard t f r) ok h = recovers_heard head past stamp c (let le = (h.done.sent (Target ok.from) (Client c) (message.Reply r) ok.was).boot in let e = ok.boot in omega (arith, le, e)) h t f r
-keeps_recovers head past stamp (Client c) (Hold t lock marked size seen) ok h = recovers_hold head past stamp c (h.recovers.hears ok.1.at c ok.1.flight ok.1.reply ok.1.here ok.1.heard) h t lock marked size seen
+keeps_recovers head past stamp (Client c) (Hold t lock marked size seen) ok h = recovers_hold head past stamp c (h.recovers.hears ok.1.at c t ok.1.flight ok.1.reply ok.1.here ok.1.heard) h t lock marked size seen
 keeps_recovers head past stamp (Client c) (Settles t to) ok h = recovers_settles head past stamp c (h.phase.served c ok.serves) h t to
 keeps_recovers head past stamp (Client c) (Life who) ok h = recovers_life head past stamp c who ok h
 keeps_recovers head past stamp (Client c) (Knows t boot) ok h = recovers_knows head past stamp c t boot ok h
@@ -419,7 +453,7 @@ keeps_recovers head past stamp (Client c) (Drop t lock) ok h =
       wishes_rise = h.recovers.wishes_rise;
       holds = holds_kept head.osts past c (λ (hs : List HeldLock). without (named (record { 0 = t }) lock.cookie) hs) (λ hs x i. kept_same hs x (in_filter (λ (g : HeldLock). not (is_named (named (record { 0 = t }) lock.cookie) g)) x hs i).0) h.recovers.holds;
       bare = h.recovers.bare;
-      hears = λ at d f r q i. absurd i;
+      hears = λ at d u f r q i. absurd i;
     }
 keeps_recovers head past stamp (Client c) (Pins name) ok h =
     record {
@@ -433,7 +467,7 @@ keeps_recovers head past stamp (Client c) (Pins name) ok h =
       wishes_rise = h.recovers.wishes_rise;
       holds = holds_kept head.osts past c (λ (hs : List HeldLock). changed name Pin hs) (λ hs x i. changed_kept name Pin hs x i) h.recovers.holds;
       bare = h.recovers.bare;
-      hears = λ at d f r q i. absurd i;
+      hears = λ at d u f r q i. absurd i;
     }
 keeps_recovers head past stamp (Client c) (Unpins name) ok h =
     record {
@@ -447,7 +481,7 @@ keeps_recovers head past stamp (Client c) (Unpins name) ok h =
       wishes_rise = h.recovers.wishes_rise;
       holds = holds_kept head.osts past c (λ (hs : List HeldLock). used name (changed name Unpin hs)) (λ hs x i. changed_kept name Unpin hs x (used_in name (changed name Unpin hs) x i)) h.recovers.holds;
       bare = h.recovers.bare;
-      hears = λ at d f r q i. absurd i;
+      hears = λ at d u f r q i. absurd i;
     }
 keeps_recovers head past stamp (Client c) (Marks name) ok h =
     record {
@@ -461,7 +495,7 @@ keeps_recovers head past stamp (Client c) (Marks name) ok h =
       wishes_rise = h.recovers.wishes_rise;
       holds = holds_kept head.osts past c (λ (hs : List HeldLock). changed name Mark hs) (λ hs x i. changed_kept name Mark hs x i) h.recovers.holds;
       bare = h.recovers.bare;
-      hears = λ at d f r q i. absurd i;
+      hears = λ at d u f r q i. absurd i;
     }
 keeps_recovers head past stamp (Client c) (Unmarks t) ok h =
     record {
@@ -475,7 +509,7 @@ keeps_recovers head past stamp (Client c) (Unmarks t) ok h =
       wishes_rise = h.recovers.wishes_rise;
       holds = holds_kept head.osts past c (λ (hs : List HeldLock). unmarked (record { 0 = t }) hs) (λ hs x i. unmarked_kept (record { 0 = t }) hs x i) h.recovers.holds;
       bare = h.recovers.bare;
-      hears = λ at d f r q i. absurd i;
+      hears = λ at d u f r q i. absurd i;
     }
 keeps_recovers head past stamp (Client c) (Serves t boot) ok h =
     record {
@@ -489,10 +523,12 @@ keeps_recovers head past stamp (Client c) (Serves t boot) ok h =
       wishes_rise = h.recovers.wishes_rise;
       holds = h.recovers.holds;
       bare = λ d. cond_both (nat_eq d c) Serving (standing_of d past) (λ (s : Standing). s ≡ Joining → locks_told d past ≡ []) (λ q j. absurd (cc)) (λ q j. h.recovers.bare d j);
-      hears = λ at d f r q i. absurd i;
+      hears = λ at d u f r q i. absurd i;
     }
 keeps_recovers head past stamp (Client c) (Act d) ok h = absurd ok
 keeps_recovers head past stamp (Client c) (Made d) ok h = absurd ok
+keeps_recovers head past stamp (Client c) (Grant lock asked) ok h = absurd ok
+keeps_recovers head past stamp (Target t) (Grant lock asked) ok h = recovers_grant head.osts head.clients past stamp t lock asked h.lives h.recovers
 keeps_recovers head past stamp (Target t) (Act d) ok h = recovers_act head.osts head.clients past stamp t (acted head.osts past (turn stamp (Target t)) t d ok).serves h.recovers d
 keeps_recovers head past stamp (Target t) (Made d) ok h = recovers_txn head.osts head.clients past stamp t ok.serves h.recovers d
 keeps_recovers head past stamp (Target t) (Evict who cause) ok h =
@@ -520,5 +556,5 @@ keeps_recovers head past stamp node e ok h =
       wishes_rise = h.recovers.wishes_rise;
       holds = h.recovers.holds;
       bare = h.recovers.bare;
-      hears = λ at d f r q i. absurd i;
+      hears = λ at d u f r q i. absurd i;
     }

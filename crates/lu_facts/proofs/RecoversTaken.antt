@@ -130,7 +130,7 @@ module _ (head : Head) (past : List Line) (stamp : Stamp) (t : ℕ) (h : HoldsAt
         wishes_rise = h.recovers.wishes_rise;
         holds = h.recovers.holds;
         bare = h.recovers.bare;
-        hears = λ at c f k q i. absurd i;
+        hears = λ at c u f k q i. absurd i;
       }
     where
       from_it : Replays past (replayed (cut ok.given))
@@ -159,7 +159,7 @@ module _ (head : Head) (past : List Line) (stamp : Stamp) (t : ℕ) (h : HoldsAt
         wishes_rise = h.recovers.wishes_rise;
         holds = h.recovers.holds;
         bare = h.recovers.bare;
-        hears = λ at c f k q i. absurd i;
+        hears = λ at c u f k q i. absurd i;
       }
     where
       told : ToldIn past (message.Lock ok.given)
@@ -194,7 +194,7 @@ module _ (head : Head) (past : List Line) (stamp : Stamp) (t : ℕ) (h : HoldsAt
         wishes_rise = h.recovers.wishes_rise;
         holds = h.recovers.holds;
         bare = h.recovers.bare;
-        hears = λ at c f k q i. absurd i;
+        hears = λ at c u f k q i. absurd i;
       }
     where
       from_nothing : NothingOf past said.who → Worded past said.who 0 0 []
@@ -229,7 +229,7 @@ module _ (head : Head) (past : List Line) (stamp : Stamp) (t : ℕ) (h : HoldsAt
         wishes_rise = each_wish who (wishes_of past) h.recovers.wishes_rise;
         holds = h.recovers.holds;
         bare = h.recovers.bare;
-        hears = λ at c f k q i. absurd i;
+        hears = λ at c u f k q i. absurd i;
       }
     where
       wished : Wished head past who

@@ -114,7 +114,7 @@ module _ (osts clients : ℕ) (past new : List Line) (s : Leaves osts clients pa
     pub wishes : wishes_of new ≡ wishes_of past
     pub holds : IsRecovering osts new → (c : ℕ) → (server_of osts new).boot ≤ known_of c new → (x : HeldLock) → In x (held_at c new) → In x.lock (locks_told c new)
     pub bare : (c : ℕ) → standing_of c new ≡ Joining → locks_told c new ≡ []
-    pub hears : (at : At) (c : ℕ) (f : Flight) (r : ReplyTo) → at.node ≡ Client c → HeardNow new at 0 f r → known_of c new ≤ closed_of new
+    pub hears : (at : At) (c t : ℕ) (f : Flight) (r : ReplyTo) → at.node ≡ Client c → HeardNow new at t f r → known_of c new ≤ closed_of new
 
   pub recovers_still : Quiet → Recovers osts clients new
   recovers_still q =

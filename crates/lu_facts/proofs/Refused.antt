@@ -1,10 +1,12 @@
 -- A reading that acts and is granted no lock is refused; so each answer that comes without locks is told at once.
-use Rattle.std.proofs.Common.{◌≡◌, ℕ, true, List, [], ◌∷◌, inl, inr, ⊎_elim, refl, sym, subst, ap, ◌∙◌}
+use Rattle.std.proofs.Common.{◌≡◌, ℕ, true, List, [], ◌∷◌, Some, ◌⊎◌, inl, inr, ⊎_elim, refl, sym, subst, ap, ◌∙◌}
 use Rattle.lu_base.specs.declared.ids.At.{At}
 use Rattle.lu_base.specs.declared.ids.Node.{Node}
 use Rattle.lu_base.specs.declared.ids.Node.TheVariants.{Client, Target}
 use Rattle.lu_part.specs.declared.parts.Want.{Want}
 use Rattle.lu_base.specs.declared.ids.Who.{Who}
+use Rattle.lu_base.specs.declared.locks.Lock.{Lock}
+use Rattle.lu_base.specs.declared.locks.Mode.TheVariants.{PR}
 use Rattle.lu_msg.specs.declared.answers.Answer.{Answer}
 use Rattle.lu_msg.specs.declared.operations.Op.{Op}
 use Rattle.lu_msg.specs.declared.operations.Op.TheVariants as op
@@ -15,19 +17,20 @@ use Rattle.lu_machine.specs.Laws.{IsReading}
 use Rattle.lu_machine.proofs.Fits.{answers_fit}
 use Rattle.lu_machine.proofs.Transactions.{readings_change_nothing}
 use Rattle.lu_words.specs.Carried.{Deed}
-use Rattle.lu_words.specs.Words.{Entry, Act, Txn as Made, Line, line}
+use Rattle.lu_words.specs.Words.{Entry, Act, Txn as Made, Grant, Line, line}
 use Rattle.lu_words.specs.Concerns.{only}
 use Rattle.lu_covered.specs.TargetStates.{none, server_of, next_number}
 use Rattle.lu_covered.specs.Deeds.{asked}
 use Rattle.lu_covered.specs.Heads.{Head}
-use Rattle.lu_guards.proofs.StoryGuards.{ActsOk, TxnOk}
-use Rattle.lu_guards.proofs.Acts.{sized_op, sized_answer}
+use Rattle.lu_guards.proofs.StoryGuards.{ActsOk, TxnOk, RangeOk}
+use Rattle.lu_guards.proofs.Acts.{sized_op, sized_answer, range_op, range_answer}
 use Rattle.lu_guards.proofs.Grown.{Allowed, Grown}
 use Rattle.lu_guards.proofs.Lists.{self}
 use Rattle.lu_facts.proofs.Groups.{turn, Acted}
+use Rattle.lu_facts.proofs.GrantLines.{grant_either}
 use Rattle.lu_facts.proofs.OnNames.{names_on, IsRefusal, IsPlain, is_plain}
 use Rattle.lu_facts.proofs.Readings.{reading_refused}
-use Rattle.lu_facts.proofs.Sides.{acted_at, acted_only, ActedKind, acted_kind}
+use Rattle.lu_facts.proofs.Sides.{acted_at, acted_only, ToldSize, GotLock, ActedKind, acted_kind}
 use Rattle.lu_facts.proofs.Asked.{acted_other}
 
 -- what is known of an answer
@@ -51,6 +54,14 @@ act_answered osts past at t d (inl a) =
     let r = ok.request in
     subst IsAnswered (sym ok.is) (answers_fit osts v.tree (asked r none), λ reads may e. reading_refused osts v.tree none r.who r.op reads may (no_wants v.cookie r.who (grants osts v.tree (asked r none)) e))
 
+-- who asks for a lock on an object reads nothing
+range_answered : (osts : ℕ) (past : List Line) (at : At) (lock : Lock) (d : Deed) → RangeOk osts past at lock d → IsAnswered d
+range_answered osts past at lock d ok =
+    let of_op : d.op ≡ op.Enqueue ok.resource PR ok.extent = range_op osts past at lock d ok in (
+      ap (λ (o : Op). answer_fits o d.reply.answer) of_op ∙ ap (λ (v : Answer). answer_fits (op.Enqueue ok.resource PR ok.extent) v) (range_answer osts past at lock d ok),
+      λ reads may e. absurd (subst IsReading of_op reads),
+    )
+
 -- a reading makes no transaction
 txn_answered : (osts : ℕ) (past : List Line) (at : At) (d : Deed) → TxnOk osts past at d → IsAnswered d
 txn_answered osts past at d ok =
@@ -73,6 +84,12 @@ acted_answered head (l ∷ past) d g a = by l.at.node l.entry g.0 a (acted_answe
         (λ (p : x ≡ d). subst IsAnswered p (txn_answered head.osts (only t past) (turn l.at.stamp (Target t)) x (k.of t (self t))))
         (λ (p : Acted past d). h p)
         a
+    by (Client c) (Grant lock asked) k a h = absurd k.ok
+    by (Target t) (Grant lock asked) k a h = ⊎_elim
+        (λ (p : asked ≡ Some d). ⊎_elim h (λ (r : RangeOk head.osts (only t past) (turn l.at.stamp (Target t)) lock d). range_answered head.osts (only t past) (turn l.at.stamp (Target t)) lock d r)
+        (grant_either head past l.at.stamp t lock asked d k p))
+        (λ (p : Acted past d). h p)
+        a
     by _ _ k a h = h a
 
 -- of which target it is, and what that one does
@@ -82,10 +99,14 @@ kind_of head past d g a = let n = acted_at head past d g a in (n.0, acted_kind h
 pub acted_refused : (head : Head) (past : List Line) (d : Deed) → Grown head past → Acted past d → IsReading d.op → d.reply.locks ≡ [] → IsRefusal d.reply.answer
 acted_refused head past d g a reads e = (acted_answered head past d g a).1 reads (acted_other head past d g a) e
 
--- the size of an object is told at once too
+-- what is told of an object is told at once too
 pub acted_plain : (head : Head) (past : List Line) (d : Deed) → Grown head past → Acted past d → d.reply.locks ≡ [] → IsPlain d.reply.answer
 acted_plain head past d g a e = let k = kind_of head past d g a in by k.0 k.1
   where
     by : (t : ℕ) → ActedKind t d → IsPlain d.reply.answer
     by t (inl k) = is_plain d.op d.reply.answer (names_on d.op k.1) (acted_answered head past d g a).0 (λ reads. acted_refused head past d g a reads e)
-    by t (inr k) = subst IsPlain (sym k.1.answer) tt
+    by t (inr k) = object k.1.how
+      where
+        object : ToldSize d ⊎ GotLock d → IsPlain d.reply.answer
+        object (inl s) = subst IsPlain (sym s.answer) tt
+        object (inr s) = subst IsPlain (sym s.answer) tt

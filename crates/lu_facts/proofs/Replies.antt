@@ -7,27 +7,32 @@ use Rattle.lu_base.specs.declared.ids.Node.{Node}
 use Rattle.lu_base.specs.declared.ids.Node.TheVariants.{Client, Target}
 use Rattle.lu_base.specs.declared.ids.Stamp.{Stamp}
 use Rattle.lu_base.specs.declared.ids.Who.{Who}
+use Rattle.lu_base.specs.declared.locks.Lock.{Lock}
+use Rattle.lu_base.specs.declared.locks.Policy.{Policy}
+use Rattle.lu_base.specs.declared.locks.Policy.TheVariants.{Bits, Range}
 use Rattle.lu_msg.specs.declared.calls.Call.{Call}
 use Rattle.lu_msg.specs.declared.messages.Message.TheVariants as message
 use Rattle.lu_msg.specs.declared.messages.Reply.{Reply as ReplyTo}
 use Rattle.lu_msg.specs.declared.operations.Op.{Op}
 use Rattle.lu_msg.specs.declared.operations.Op.TheVariants as op
-use Rattle.lu_words.specs.Carried.{Deed, HandleFile, Flight, Answered, Plain, Sizes, Work, Running}
+use Rattle.lu_held.specs.declared.locks.Use.{Use}
+use Rattle.lu_words.specs.Carried.{Deed, HandleFile, Flight, Answered, Stage, Plain, Enqueued, Came, Sizes, Work, Running}
 use Rattle.lu_words.specs.Words.{Entry, Tick, Queues, Heard, Life, Line, line}
 use Rattle.lu_words.specs.Concerns.{only}
+use Rattle.lu_client_rows.specs.Advances.{enqueue_of}
 use Rattle.lu_covered.specs.Calls.{errand, call_at, life_at, operation_of}
 use Rattle.lu_covered.specs.Imports.{flights_at}
 use Rattle.lu_covered.specs.ClientStates.{flights_of, life_of}
 use Rattle.lu_covered.specs.Heads.{Head}
-use Rattle.lu_guards.proofs.Guards.{In, Ending, SizesSoFar, EntryOk}
+use Rattle.lu_guards.proofs.Guards.{In, Ending, SizesSoFar, SizesStand, LockStand, StatStand, StandsOk, EntryOk}
 use Rattle.lu_guards.proofs.StoryGuards.{HeardOk}
 use Rattle.lu_guards.proofs.Grown.{Grown}
 use Rattle.lu_guards.proofs.Lists.{self}
-use Rattle.lu_guards.proofs.ClientLines.{IsNames, IsSize, IsAskedOf, flights_asked}
+use Rattle.lu_guards.proofs.ClientLines.{IsNames, IsSize, IsLock, IsAskedOf, flights_asked}
 use Rattle.lu_guards.proofs.Parts.{flights_now, life_is_of}
-use Rattle.lu_facts.proofs.Groups.{turn, Flew, Acted, HoldsAt, CallOf, Asks, Upto, Since, AnswersFor, Replied, Replies}
+use Rattle.lu_facts.proofs.Groups.{turn, Flew, Acted, HoldsAt, CallOf, Asks, Upto, Since, IsLocking, AnswersFor, Replied, Replies}
 use Rattle.lu_facts.proofs.Lines.{AtEach, only_more}
-use Rattle.lu_facts.proofs.Asks.{plain_errand, sizes_errand, stages_errand}
+use Rattle.lu_facts.proofs.Asks.{plain_errand, sizes_errand, locks_errand, stages_errand}
 use Rattle.lu_facts.proofs.Calls.{Began, Touches, Touched, Stood, call_cases}
 use Rattle.lu_facts.proofs.Endings.{reply_ends_none}
 
@@ -35,7 +40,8 @@ replied_more : (past : List Line) (l : Line) (c : ℕ) (r : Running) (target : �
 replied_more past l c r target reply same k = record { deed = k.deed; acted = only_more target l past k.deed k.acted; is = k.is; client = k.client ∙ sym same; op = k.op; since = k.since }
 
 -- where a call isn't told its life goes on
-call_lives : (past : List Line) (stamp : Stamp) (node : Node) (e : Entry) → EntryOk past (turn stamp node) node e → (c slot : ℕ) (r : Running) → call_at c slot (line (turn stamp node) e ∷ past) ≡ Some r → life_at c (line (turn stamp node) e ∷ past) ≡ life_at c past
+call_lives : (past : List Line) (stamp : Stamp) (node : Node) (e : Entry) → EntryOk past (turn stamp node) node e → (c slot : ℕ) (r : Running) → call_at c slot (line (turn stamp node) e ∷ past) ≡ Some r
+    → life_at c (line (turn stamp node) e ∷ past) ≡ life_at c past
 call_lives past stamp (Client d) (Life who) ok c slot r k =
     cond_both (nat_eq c d) who (life_at c past) (λ (w : Who). w ≡ life_at c past)
     (λ q. let none : call_at c slot past ≡ None = ap (λ v. call_at v slot past) (eqb-true c d q) ∙ ok.idle slot in absurd (cc))
@@ -56,6 +62,10 @@ neither : (o : Op) → IsNames o → IsSize o → ⊥
 neither (op.Size resource) n s = n
 neither o n s = s
 
+no_names : (p : Policy) (wanted : Use) → IsNames (elim p [ Range extent ↦ op.Enqueue wanted.resource wanted.mode extent | Bits bits ↦ op.Size wanted.resource ]) → ⊥
+no_names (Range extent) wanted n = n
+no_names (Bits bits) wanted n = n
+
 -- what a call asked, that waits for the answer
 call_op : (head : Head) (past : List Line) (c t slot : ℕ) (f : Flight) (r : Running) → Grown head past → In f (flights_at c t past) → CallOf past c t f.slot f.op → f.slot ≡ Some slot
     → call_at c slot past ≡ Some r → AnswersFor r t f.op
@@ -69,14 +79,23 @@ call_op head past c t slot f r g i k s w =
     sized (inl a) is = absurd (neither f.op a.1 is)
     sized (inr a) is = a.0
 
-    by : (v : Running) → errand v ≡ Some (record { target = t; op = f.op }) → (v.stage ≡ Plain) ⊎ ((y : Work) × (v.stage ≡ Sizes y)) → AnswersFor v t f.op
+    object : IsAskedOf t f.op → (wanted : Use) → f.op ≡ enqueue_of wanted → (0 < t) × (IsSize f.op ⊎ IsLock f.op)
+    object (inl a) wanted is = absurd (no_names wanted.policy wanted (subst IsNames is a.1))
+    object (inr a) wanted is = a
+
+    by : (v : Running) → errand v ≡ Some (record { target = t; op = f.op }) → (v.stage ≡ Plain) ⊎ ((y : Work) × (v.stage ≡ Sizes y)) ⊎ ((y : Work) × (v.stage ≡ Enqueued y)) → AnswersFor v t f.op
     by v e (inl plain) = let m = plain_errand v t f.op plain e in inl (plain, m.0, m.1)
-    by v e (inr (y, sizes)) =
+    by v e (inr (inl (y, sizes))) =
         let is : IsSize f.op = subst IsSize (sym (sizes_errand v y t f.op sizes e).of_op) tt in
-        inr (y, sizes, sized (flights_asked head c t past g f i) is, is)
+        inr (inl (y, sizes, sized (flights_asked head c t past g f i) is, is))
+    by v e (inr (inr (y, locks))) =
+        let k = locks_errand v y t f.op locks e in
+        let a = object (flights_asked head c t past g f i) k.wanted k.of_op in
+        inr (inr (subst IsLocking (sym locks) tt, inl (a.0, a.1)))
 
 -- the call whose request's reply is heard
-heard_replied : (head : Head) (past : List Line) (d u slot : ℕ) (f : Flight) (k : ReplyTo) (before : Running) → Grown head past → (Ending past d → ⊥) → HeardOk (only u past) d f k → HoldsAt head (only u past) → Asks past → Since past
+heard_replied : (head : Head) (past : List Line) (d u slot : ℕ) (f : Flight) (k : ReplyTo) (before : Running) → Grown head past → (Ending past d → ⊥) → HeardOk (only u past) d f k → HoldsAt head (only u past) → Asks past
+    → Since past
     → f.slot ≡ Some slot → call_at d slot past ≡ Some before → Replied past d before u k
 heard_replied head past d u slot f k before g lives ok at asks since s call =
     let m = at.done.sent (Target ok.from) (Client d) (message.Reply k) ok.was in
@@ -107,17 +126,47 @@ replied_as past c q r t k a asked h =
 
 answers_as : (q r : Running) (t : ℕ) → q.call ≡ r.call → q.file ≡ r.file → q.stage ≡ r.stage → (o : Op) → AnswersFor q t o → AnswersFor r t o
 answers_as q r t s i n o (inl a) = inl (sym n ∙ a.0, a.1, ap (λ (v : Call). operation_of r.file v) (sym s) ∙ ap (λ (v : Option HandleFile). operation_of v q.call) (sym i) ∙ a.2)
-answers_as q r t s i n o (inr a) = inr (a.0, sym n ∙ a.1, a.2, a.3)
+answers_as q r t s i n o (inr (inl a)) = inr (inl (a.0, sym n ∙ a.1, a.2, a.3))
+answers_as q r t s i n o (inr (inr (on, inl a))) = inr (inr (subst IsLocking n on, inl a))
+answers_as q r t s i n o (inr (inr (on, inr a))) = inr (inr (subst IsLocking n on, inr (a.0, ap (λ (v : Call). operation_of r.file v) (sym s) ∙ ap (λ (v : Option HandleFile). operation_of v q.call) (sym i) ∙ a.1)))
 
 -- a glimpse that was answered goes on
-answers_on : (past : List Line) (at : At) (q r : Running) (sizes : List ℕ) (w : Work) (t : ℕ) (k : ReplyTo) → SizesSoFar past at q sizes → q.asking ≡ Answered t k → r.stage ≡ Sizes w → (o : Op)
+sizes_on : (past : List Line) (at : At) (q r : Running) (sizes : List ℕ) (w : Work) (t : ℕ) (k : ReplyTo) → SizesSoFar past at q sizes → q.asking ≡ Answered t k → r.stage ≡ Sizes w → (o : Op)
     → AnswersFor q t o → AnswersFor r t o
-answers_on past at q r sizes w t k (inl new) a is o asked = absurd (let b = new.1 in cc)
-answers_on past at q r sizes w t k (inr heard) a is o (inl asked) = absurd (let b = heard.stage in let plain = asked.0 in cc)
-answers_on past at q r sizes w t k (inr heard) a is o (inr asked) = inr (w, is, asked.2, asked.3)
+sizes_on past at q r sizes w t k (inl none) a is o asked = absurd (let b = none.new in cc)
+sizes_on past at q r sizes w t k (inr heard) a is o (inl asked) = absurd (let b = heard.stage in let plain = asked.0 in cc)
+sizes_on past at q r sizes w t k (inr heard) a is o (inr (inl asked)) = inr (inl (w, is, asked.2, asked.3))
+sizes_on past at q r sizes w t k (inr heard) a is o (inr (inr asked)) = absurd (subst IsLocking heard.stage asked.0)
+
+-- and so does a read, or a stat of a file
+locks_on : (q r : Running) (t : ℕ) → q.call ≡ r.call → q.file ≡ r.file → IsLocking r.stage → (o : Op) → AnswersFor q t o → AnswersFor r t o
+locks_on q r t s i locks o (inl asked) = inr (inr (locks, inr (asked.1, ap (λ (v : Call). operation_of r.file v) (sym s) ∙ ap (λ (v : Option HandleFile). operation_of v q.call) (sym i) ∙ asked.2)))
+locks_on q r t s i locks o (inr (inl asked)) = inr (inr (locks, inl (asked.2, inl asked.3)))
+locks_on q r t s i locks o (inr (inr (on, inl asked))) = inr (inr (locks, inl asked))
+locks_on q r t s i locks o (inr (inr (on, inr asked))) = inr (inr (locks, inr (asked.0, ap (λ (v : Call). operation_of r.file v) (sym s) ∙ ap (λ (v : Option HandleFile). operation_of v q.call) (sym i) ∙ asked.1)))
+
+-- where it asks for a lock, or got one
+locking : (stage : Stage) (w : Work) (A B : Type 0) → ((stage ≡ Enqueued w) × A) ⊎ ((lock : Lock) × (stage ≡ Came w lock) × B) → IsLocking stage
+locking stage w A B (inl e) = subst IsLocking (sym e.0) tt
+locking stage w A B (inr e) = subst IsLocking (sym e.1) tt
+
+answers_on : (past : List Line) (at : At) (c slot : ℕ) (r : Running) (t : ℕ) (k : ReplyTo) (ok : StandsOk past at c slot r) → ok.running.asking ≡ Answered t k → (o : Op) → AnswersFor ok.running t o → AnswersFor r t o
+answers_on past at c slot r t k ok a = by ok.how
+  where
+    stage_is : ok.stage ≡ r.stage
+    stage_is = ap (λ (v : Running). v.stage) (sym ok.is)
+
+    on : IsLocking ok.stage → (o : Op) → AnswersFor ok.running t o → AnswersFor r t o
+    on l = locks_on ok.running r t (ap (λ (v : Running). v.call) (sym ok.is)) (ap (λ (v : Running). v.file) (sym ok.is)) (subst IsLocking stage_is l)
+
+    by : SizesStand past at ok.running ok.stage ok.pins ⊎ LockStand past c ok.running ok.stage ⊎ StatStand past at c ok.running ok.stage ok.pins → (o : Op) → AnswersFor ok.running t o → AnswersFor r t o
+    by (inl s) = sizes_on past at ok.running r s.sizes s.work t k s.so_far a (sym stage_is ∙ s.is)
+    by (inr (inl s)) = on (locking ok.stage s.work _ _ s.is)
+    by (inr (inr s)) = on (locking ok.stage s.work _ _ s.is)
 
 module _ (head : Head) (past : List Line) (g : Grown head past) (at : (t : ℕ) → HoldsAt head (only t past)) (asks : Asks past) (since : Since past) where
-  touched_replied : (stamp : Stamp) (node : Node) (e : Entry) → EntryOk past (turn stamp node) node e → AtEach head past (turn stamp node) node e → (c slot target : ℕ) (r : Running) (reply : ReplyTo) → (q : Touched past node e c slot r) → Touches node e c slot r.asking
+  touched_replied : (stamp : Stamp) (node : Node) (e : Entry) → EntryOk past (turn stamp node) node e → AtEach head past (turn stamp node) node e → (c slot target : ℕ) (r : Running) (reply : ReplyTo)
+      → (q : Touched past node e c slot r) → Touches node e c slot r.asking
       → r.asking ≡ Answered target reply → Replied past c r target reply
   touched_replied stamp (Client d) (Heard u f k) ok of c slot target r reply q (n, s, asking) a =
       let y : Answered u k ≡ Answered target reply = sym asking ∙ a in
@@ -136,7 +185,8 @@ module _ (head : Head) (past : List Line) (g : Grown head past) (at : (t : ℕ) 
   stood_replied : (now : At) (c slot target : ℕ) (r : Running) (reply : ReplyTo) → (q : Stood past now c slot r) → Replied past c q.before target reply → q.before.asking ≡ Answered target reply → Replied past c r target reply
   stood_replied now c slot target r reply q k a =
       let same : q.before ≡ q.stands.running = (let w : Some q.before ≡ Some q.stands.running = sym q.call ∙ q.stands.call in cc) in
-      replied_as past c q.before r target reply q.at (answers_on past now q.before r q.stands.sizes q.work target reply (subst (λ (v : Running). SizesSoFar past now v q.stands.sizes) (sym same) q.stands.so_far) a q.stage) k
+      replied_as past c q.before r target reply q.at
+      (subst (λ (v : Running). (o : Op) → AnswersFor v target o → AnswersFor r target o) (sym same) (answers_on past now c slot r target reply q.stands (ap (λ (v : Running). v.asking) (sym same) ∙ a))) k
 
   pub keeps_replies : (stamp : Stamp) (node : Node) (e : Entry) → EntryOk past (turn stamp node) node e → AtEach head past (turn stamp node) node e → Replies past → Replies (line (turn stamp node) e ∷ past)
   keeps_replies stamp node e ok of h c slot target r reply k a =

@@ -1,8 +1,8 @@
 -- What replies taught stays true through the close of a recovery window: a lock that stands again is one that its life brought and holds, so the life heard the
 -- reply that came with it; what that saw stands, and nothing that is lost wrote what a fact is of.
 use Rattle.std.proofs.Common.{◌≡◌, ℕ, ◌<◌, ◌≤◌, Bool, true, false, List, [], ◌∷◌, ◌⊎◌, inl, inr, refl, sym, subst, ap, ◌∙◌, arith}
-use Rattle.std.specs.Prelude.{◌&&◌, ◌||◌, not, nat_eq}
-use Rattle.std.proofs.lemmas.Bool.{and_parts, and_from, or_parts, eqb-true, eqb-false, not-true}
+use Rattle.std.specs.Prelude.{◌&&◌, not}
+use Rattle.std.proofs.lemmas.Bool.{and_parts, and_from, or_parts, eqb-false, not-true}
 use Rattle.lu_base.specs.declared.ids.Cookie.{Cookie}
 use Rattle.lu_base.specs.declared.ids.At.{At}
 use Rattle.lu_base.specs.declared.ids.Node.{Node}
@@ -11,30 +11,29 @@ use Rattle.lu_base.specs.declared.ids.Stamp.{Stamp}
 use Rattle.lu_base.specs.declared.ids.Who.{Who}
 use Rattle.lu_base.specs.declared.locks.Lock.{Lock}
 use Rattle.lu_msg.specs.declared.messages.Reply.{Reply as ReplyTo}
+use Rattle.lu_msg.specs.declared.operations.Op.{Op}
 use Rattle.lu_part.specs.declared.parts.Part.{Part}
 use Rattle.lu_part.specs.declared.parts.Part.TheVariants as part
 use Rattle.lu_held.specs.declared.locks.HeldLock.{HeldLock}
-use Rattle.lu_held.specs.declared.names.LockName.{LockName}
-use Rattle.lu_held.specs.Locks.{is_named}
-use Rattle.lu_held.specs.Held.{is_held}
 use Rattle.lu_machine.specs.declared.child.Child.{Child}
 use Rattle.lu_machine.specs.Footprint.{Same, Apart, inode_of}
 use Rattle.lu_machine.proofs.Outcomes.{IsReached}
 use Rattle.lu_words.specs.Carried.{Deed, Outcome}
 use Rattle.lu_words.specs.Words.{Entry, Close, Line, line}
-use Rattle.lu_client_rows.specs.Caches.{held_at}
+use Rattle.lu_client_rows.specs.Caches.{brought, held_at}
 use Rattle.lu_client_rows.specs.Facts.{Fact}
 use Rattle.lu_target_rows.specs.Lives.{is_life, lives_of as lives_in, without_lives}
 use Rattle.lu_covered.specs.TargetStates.{server_of, evicted_of, closed_of, brought_of}
 use Rattle.lu_covered.specs.TargetCloses.{disk_of, is_lost, loses, outcome_of}
 use Rattle.lu_covered.specs.ClientStates.{life_of, known_of}
 use Rattle.lu_covered.specs.Heads.{Head}
-use Rattle.lu_guards.proofs.Guards.{In, name_of}
+use Rattle.lu_guards.proofs.Guards.{In}
 use Rattle.lu_guards.proofs.StoryGuards.{CloseOk, EntryOf}
-use Rattle.lu_guards.proofs.Grown.{IsOfFirst}
 use Rattle.lu_guards.proofs.Lists.{in_filter}
-use Rattle.lu_facts.proofs.Groups.{turn, Acted, IsMade, Stands, HeardAs, HasSlot, HoldsAt}
+use Rattle.lu_facts.proofs.Groups.{turn, Acted, IsMade, Stands, HeardAs, HasSlot, NoneOf, HoldsAt}
 use Rattle.lu_guards.proofs.CloseLists.{puts_more, stays_all, in_restored}
+use Rattle.lu_facts.proofs.Brings.{of_reply}
+use Rattle.lu_facts.proofs.LockLists.{cookie_or, brought_again}
 use Rattle.lu_facts.proofs.KnownPaths.{IsPlaced, placed_reached}
 use Rattle.lu_facts.proofs.FactsStay.{Placed, tells_same}
 use Rattle.lu_facts.proofs.PartsStay.{Closed, AllSaw, OfKept, Saw, sound_now, stays, not_lost, closed_both, part_stays}
@@ -56,14 +55,6 @@ life_stood osts clients at past who has off =
     let gone = lives_in (outcome_of osts clients at past).gone in
     puts_more who (outcome_of osts clients at past).joins (without_lives gone (disk_of osts clients past).lives) (stays_all who gone (disk_of osts clients past).lives has off)
 
-held_one : (n : LockName) (hs : List HeldLock) → is_held n hs ≡ true → (h : HeldLock) × In h hs × (is_named n h ≡ true)
-held_one n [] e = absurd (cc)
-held_one n (g ∷ hs) e = by (is_named n g) refl e (held_one n hs)
-  where
-    by : (b : Bool) → is_named n g ≡ b → (b || is_held n hs) ≡ true → (is_held n hs ≡ true → (h : HeldLock) × In h hs × (is_named n h ≡ true)) → (h : HeldLock) × In h (g ∷ hs) × (is_named n h ≡ true)
-    by true q k ih = (g, inl refl, q)
-    by false q k ih = let r = ih k in (r.0, inr r.1, r.2)
-
 -- ---- a close
 
 module _ (head : Head) (past : List Line) (stamp : Stamp) (t : ℕ) (o : Outcome) (ok : CloseOk head past (turn stamp (Target t)) o) (h : HoldsAt head past) (next : HoldsAt head (line (turn stamp (Target t)) (Close o) ∷ past)) (heard : HeldHeard past) where
@@ -84,7 +75,7 @@ module _ (head : Head) (past : List Line) (stamp : Stamp) (t : ℕ) (o : Outcome
     taken = subst (λ (x : Outcome). In l x.locks → In l (brought_of past) × (is_life l.ask.who (lives_in x.gone) ≡ false)) (sym ok.is) (lock_stood head.osts head.clients (turn stamp (Target t)) past l) stood
 
     whose : l.ask.who ≡ d.reply.who
-    whose = h.locks.whose d l (a, among)
+    whose = h.locks.whose d l (a, of_reply d.op d.reply l among)
 
     slot : HasSlot head.clients past d.reply.who
     slot = subst (λ (w : Who). HasSlot head.clients past w) whose (h.recovers.brought ok.recovers l taken.0).0
@@ -98,12 +89,13 @@ module _ (head : Head) (past : List Line) (stamp : Stamp) (t : ℕ) (o : Outcome
         let apart = eqb-false (closed_of past) (server_of head.osts past).boot ok.recovers in
         omega (arith, low, le, under, apart)
 
-    holds : is_held (name_of l.cookie) (held_at d.reply.who.client past) ≡ true
-    holds = by (is_held (name_of l.cookie) (held_at d.reply.who.client past)) refl
+    holds : (g : HeldLock) × In g (held_at d.reply.who.client past) × (g.lock.cookie.0 ≡ l.cookie.0)
+    holds = by (cookie_or l.cookie (held_at d.reply.who.client past))
       where
-        by : (b : Bool) → is_held (name_of l.cookie) (held_at d.reply.who.client past) ≡ b → b ≡ true
-        by true e = refl
-        by false e = absurd (fresh (inr (later_known, e)))
+        by : ((g : HeldLock) × In g (held_at d.reply.who.client past) × (g.lock.cookie.0 ≡ l.cookie.0)) ⊎ NoneOf l.cookie (held_at d.reply.who.client past)
+            → (g : HeldLock) × In g (held_at d.reply.who.client past) × (g.lock.cookie.0 ≡ l.cookie.0)
+        by (inl g) = g
+        by (inr none) = absurd (fresh (inr (later_known, none)))
 
     not_evicted : is_life d.reply.who (evicted_of past) ≡ false
     not_evicted = by (is_life d.reply.who (evicted_of past)) refl
@@ -118,12 +110,11 @@ module _ (head : Head) (past : List Line) (stamp : Stamp) (t : ℕ) (o : Outcome
     -- the life heard the reply, and nothing that it saw is lost
     saw_stays : AllSaw stay d
     saw_stays n i =
-        let one = held_one (name_of l.cookie) (held_at d.reply.who.client past) holds in
-        let same : l.cookie.0 ≡ one.0.lock.cookie.0 = eqb-true l.cookie.0 one.0.lock.cookie.0 (and_parts (nat_eq 0 one.0.target.0) (nat_eq l.cookie.0 one.0.lock.cookie.0) one.2).1 in
+        let one = holds in
         let r = heard d.reply.who.client one.0 one.1 in
         let done = h.done.answered (life_of d.reply.who.client past) r.0 r.1 r.2 in
-        let gives : In one.0.lock done.0.reply.locks = subst (λ (v : ReplyTo). In one.0.lock v.locks) done.2 r.3 in
-        let it : d ≡ done.0 = (h.locks.once d done.0 l one.0.lock (a, among) (done.1, gives) (ap cookie_of same)).0 in
+        let gives : In one.0.lock (brought done.0.op done.0.reply) = subst (λ (ls : List Lock). In one.0.lock ls) (ap (λ (o : Op). brought o r.1) done.5 ∙ brought_again done.0.op done.0.reply r.1 done.2) r.3 in
+        let it : d ≡ done.0 = (h.locks.once d done.0 l one.0.lock (a, of_reply d.op d.reply l among) (done.1, gives) (ap cookie_of (sym one.2))).0 in
         let who : d.reply.who ≡ life_of d.reply.who.client past = ap (λ (v : Deed). v.reply.who) it ∙ ap (λ (v : ReplyTo). v.who) (sym done.2) ∙ done.3 in
         let seen : In n r.1.seen = subst (λ (ns : List ℕ). In n ns) (ap (λ (v : Deed). v.reply.seen) it ∙ ap (λ (v : ReplyTo). v.seen) (sym done.2)) i in
         let off : is_life d.reply.who (lives_in o.gone) ≡ false = subst (λ (w : Who). is_life w (lives_in o.gone) ≡ false) whose taken.1 in
@@ -195,13 +186,13 @@ module _ (head : Head) (past : List Line) (stamp : Stamp) (t : ℕ) (o : Outcome
   close_taught : Taught head.osts past → Taught head.osts closing
   close_taught taught d f k =
       let u = taught d f k in
-      under_line head past stamp (Target t) (Close o) ok tt h (omega arith) d f k.0 u
+      under_line head past stamp (Target t) (Close o) ok h (omega arith) d f k.0 u
       (λ fresh i. rests_after d u.lock k.0 u.among i fresh f (u.stands fresh (granted_now head past h d f u k.0 fresh (not_evicted d u.lock k.0 u.among i fresh))))
 
 -- ---- all lines
 
-pub keeps_taught : (head : Head) (past : List Line) (stamp : Stamp) (node : Node) (e : Entry) → EntryOf head past (turn stamp node) node e → IsOfFirst e → HoldsAt head past → HoldsAt head (line (turn stamp node) e ∷ past) → HeldHeard past
+pub keeps_taught : (head : Head) (past : List Line) (stamp : Stamp) (node : Node) (e : Entry) → EntryOf head past (turn stamp node) node e → HoldsAt head past → HoldsAt head (line (turn stamp node) e ∷ past) → HeldHeard past
     → Taught head.osts past → Taught head.osts (line (turn stamp node) e ∷ past)
-keeps_taught head past stamp (Target t) (Close o) ok first all next heard h = close_taught head past stamp t o ok all next heard h
-keeps_taught head past stamp (Client c) (Close o) ok first all next heard h = absurd ok
-keeps_taught head past stamp node e ok first all next heard h = line_taught head past stamp all h node e tt ok first
+keeps_taught head past stamp (Target t) (Close o) ok all next heard h = close_taught head past stamp t o ok all next heard h
+keeps_taught head past stamp (Client c) (Close o) ok all next heard h = absurd ok
+keeps_taught head past stamp node e ok all next heard h = line_taught head past stamp all h node e tt ok

@@ -14,7 +14,7 @@ use Rattle.lu_covered.specs.Calls.{call_at, life_at}
 use Rattle.lu_covered.specs.Imports.{without_flight, flights_at}
 use Rattle.lu_covered.specs.ClientStates.{last_of, life_of}
 use Rattle.lu_covered.specs.Heads.{Head}
-use Rattle.lu_guards.proofs.Guards.{In, Steps, Closes, EntryOk}
+use Rattle.lu_guards.proofs.Guards.{In, Steps, Closes, Owes, EntryOk}
 use Rattle.lu_guards.proofs.Lists.{self, in_append, in_filter, turn_trans}
 use Rattle.lu_guards.proofs.Parts.{life_is_of}
 use Rattle.lu_facts.proofs.Groups.{turn, Acted, HoldsAt, CallOf, Asks, Upto, Reached, Reaches, Since}
@@ -33,12 +33,12 @@ pub reached_on : (past : List Line) (at a : At) → Steps past at → Reached pa
 reached_on [] at a s r = absurd r
 reached_on (l ∷ past) at a s r = upto_trans a l.at at r s
 
-pub keeps_reaches : (head : Head) (past : List Line) (stamp : Stamp) (node : Node) (e : Entry) → Steps past (turn stamp node) → EntryOk past (turn stamp node) node e → AtEach head past (turn stamp node) node e
+pub keeps_reaches : (head : Head) (past : List Line) (stamp : Stamp) (node : Node) (e : Entry) → Steps past (turn stamp node) → EntryOk past (turn stamp node) node e → AtEach head past (turn stamp node) node e → Owes past (turn stamp node) e
     → Reaches past → Reaches (line (turn stamp node) e ∷ past)
-keeps_reaches head past stamp node e s ok of h =
+keeps_reaches head past stamp node e s ok of owes h =
     record {
       acted = λ d a. ⊎_elim
-          (λ (p : DoneBy e d). inl (done_here head past stamp node e ok of d p).1)
+          (λ (p : DoneBy e d). inl (done_here head past stamp node e ok of owes d p).1)
           (λ (p : Acted past d). reached_on past (turn stamp node) d.reply.at s (h.acted d p))
           (acted_line (turn stamp node) e past d a);
       begun = λ c slot r k. ⊎_elim
@@ -101,7 +101,7 @@ none_flies past c t slot f k s n =
     let w = q.1 in
     absurd (cc)
 
-module _ (head : Head) (past : List Line) (stamp : Stamp) (node : Node) (e : Entry) (closes : Closes past (turn stamp node)) (ok : EntryOk past (turn stamp node) node e) (of : AtEach head past (turn stamp node) node e) where
+module _ (head : Head) (past : List Line) (stamp : Stamp) (node : Node) (e : Entry) (closes : Closes past (turn stamp node)) (ok : EntryOk past (turn stamp node) node e) (of : AtEach head past (turn stamp node) node e) (owes : Owes past (turn stamp node) e) where
   abbrev later : List Line
   later = line (turn stamp node) e ∷ past
 
@@ -128,6 +128,6 @@ module _ (head : Head) (past : List Line) (stamp : Stamp) (node : Node) (e : Ent
   pub keeps_since : ((t : ℕ) → HoldsAt head (only t past)) → Asks past → Reaches later → Since past → Since later
   keeps_since at asks reaches h c t slot f r d i s k a w x =
       ⊎_elim
-      (λ (p : DoneBy e d). subst (λ (v : At). Upto r.at v) (sym (done_here head past stamp node e ok of d p).1) (reaches.begun c slot r k))
+      (λ (p : DoneBy e d). subst (λ (v : At). Upto r.at v) (sym (done_here head past stamp node e ok of owes d p).1) (reaches.begun c slot r k))
       (λ (p : Acted (only t past) d). since_old at asks h c t slot f r d i s k p w x)
       (only_acted t (line (turn stamp node) e) past d a)

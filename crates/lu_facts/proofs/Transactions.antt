@@ -1,5 +1,5 @@
 -- A file that is open is told with the number of the transaction that opened it.
-use Rattle.std.proofs.Common.{◌≡◌, ℕ, ◌≤◌, true, List, [], ◌∷◌, inl, inr, ⊎_elim, refl, sym, subst, ap, ◌∙◌, arith}
+use Rattle.std.proofs.Common.{◌≡◌, ℕ, ◌≤◌, true, List, [], ◌∷◌, Some, inl, inr, ⊎_elim, refl, sym, subst, ap, ◌∙◌, arith}
 use Rattle.std.specs.Prelude.{nat_eq}
 use Rattle.lu_base.specs.declared.ids.At.{At}
 use Rattle.lu_base.specs.declared.ids.Fid.{Fid}
@@ -21,16 +21,17 @@ use Rattle.lu_machine.specs.Fits.{answer_fits}
 use Rattle.lu_machine.proofs.Fits.{answers_fit}
 use Rattle.lu_machine.proofs.Walks.{walk_ends}
 use Rattle.lu_words.specs.Carried.{Deed}
-use Rattle.lu_words.specs.Words.{Entry, Act, Txn as Made, Line, line}
+use Rattle.lu_words.specs.Words.{Entry, Act, Txn as Made, Grant, Line, line}
 use Rattle.lu_words.specs.Concerns.{only}
 use Rattle.lu_covered.specs.TargetStates.{none, next_number, server_of}
 use Rattle.lu_covered.specs.Deeds.{asked}
 use Rattle.lu_covered.specs.Heads.{Head}
-use Rattle.lu_guards.proofs.StoryGuards.{ActOk, ActsOk, TxnOk}
-use Rattle.lu_guards.proofs.Acts.{sized_answer}
+use Rattle.lu_guards.proofs.StoryGuards.{ActOk, ActsOk, TxnOk, RangeOk}
+use Rattle.lu_guards.proofs.Acts.{sized_answer, range_answer}
 use Rattle.lu_guards.proofs.Grown.{Allowed, Grown}
 use Rattle.lu_guards.proofs.Lists.{self}
 use Rattle.lu_facts.proofs.Groups.{turn, Acted}
+use Rattle.lu_facts.proofs.GrantLines.{grant_either}
 use Rattle.lu_facts.proofs.OnNames.{IsOnNames, open_op}
 use Rattle.lu_facts.proofs.Sides.{acted_only}
 use Rattle.lu_facts.proofs.Asked.{acted_on_names}
@@ -82,7 +83,7 @@ opened_number head (l ∷ past) d f n layout g a h = by l.at.node l.entry g.0 a 
         let high = number_next head past g.1 at d ok in
         (k.0 ∙ sym number, omega (arith, high))
 
-    -- a glimpse tells of no file
+    -- what is asked of objects tells of no file
     acts : (t : ℕ) → ActsOk head.osts (only t past) (turn l.at.stamp (Target t)) t d → (d.reply.at.node ≡ Target 0 → IsOnNames d.op) → (n ≡ d.reply.txn) × (1 ≤ d.reply.txn.0)
     acts t (inl a) is = act (turn l.at.stamp (Target t)) t a.1 (is (ap (λ (y : Deed). y.reply.at.node) a.1.is ∙ ap Target a.0))
     acts t (inr a) is = absurd (let size = sized_answer head.osts (only t past) (turn l.at.stamp (Target t)) d a.1 in cc)
@@ -100,6 +101,14 @@ opened_number head (l ∷ past) d f n layout g a h = by l.at.node l.entry g.0 a 
         (λ (p : x ≡ d).
         let ok = subst (λ (y : Deed). TxnOk head.osts (only 0 past) (turn l.at.stamp (Target t)) y) p (k.of 0 (ap (λ (v : ℕ). nat_eq 0 v) k.ok)) in
         txn (turn l.at.stamp (Target t)) ok (is (ap (λ (y : Deed). y.reply.at.node) ok.is ∙ ap Target k.ok)))
+        (λ (p : Acted past d). ih p h)
+        a
+    by (Client c) (Grant lock asked) k a is ih = absurd k.ok
+    by (Target t) (Grant lock asked) k a is ih = ⊎_elim
+        (λ (p : asked ≡ Some d). ⊎_elim
+        (λ (b : Acted past d). ih b h)
+        (λ (r : RangeOk head.osts (only t past) (turn l.at.stamp (Target t)) lock d). absurd (let got = range_answer head.osts (only t past) (turn l.at.stamp (Target t)) lock d r in cc))
+        (grant_either head past l.at.stamp t lock asked d k p))
         (λ (p : Acted past d). ih p h)
         a
     by _ _ k a is ih = ih a h

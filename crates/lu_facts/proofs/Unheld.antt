@@ -10,25 +10,24 @@ use Rattle.lu_base.specs.declared.ids.Who.{Who}
 use Rattle.lu_base.specs.declared.locks.Lock.{Lock}
 use Rattle.lu_msg.specs.declared.messages.Message.TheVariants as message
 use Rattle.lu_msg.specs.declared.messages.Reply.{Reply as ReplyTo}
-use Rattle.lu_msg.specs.declared.operations.Op.{Op}
 use Rattle.lu_held.specs.declared.locks.HeldLock.{HeldLock}
 use Rattle.lu_held.specs.Locks.{is_named, named}
 use Rattle.lu_held.specs.Held.{without}
 use Rattle.lu_words.specs.Carried.{Deed, Flight}
 use Rattle.lu_words.specs.Words.{Entry, Heard, Hold, Drop, Life, Pins, Unpins, Marks, Unmarks, Line, line}
-use Rattle.lu_client_rows.specs.Caches.{held_as, with_brought, granted_lock, brought, held_at}
+use Rattle.lu_client_rows.specs.Caches.{held_as, with_brought, brought, held_at}
 use Rattle.lu_covered.specs.ClientStates.{life_of}
 use Rattle.lu_covered.specs.Heads.{Head}
 use Rattle.lu_guards.proofs.Guards.{In}
 use Rattle.lu_guards.proofs.StoryGuards.{HeardOk, EntryOf}
-use Rattle.lu_guards.proofs.Grown.{IsOfFirst, GrownOf}
-use Rattle.lu_guards.proofs.Lists.{in_append, in_filter, own_self}
+use Rattle.lu_guards.proofs.Grown.{GrownOf}
+use Rattle.lu_guards.proofs.Lists.{in_filter, own_self}
 use Rattle.lu_facts.proofs.Groups.{turn, Flew, HeardAs, RepliesTo, Gave, Dead, Lapsed, HoldsAt}
 use Rattle.lu_facts.proofs.LockLists.{Kept, kept_same, brought_in}
 use Rattle.lu_facts.proofs.LocksStay.{pins_held, unpins_held, marks_held, unmarks_held, shown_held}
 use Rattle.lu_facts.proofs.Locks.{keeps_dead, keeps_lapsed}
 
--- ---- a reply that is heard brings the locks of what was done for it
+-- ---- a reply that is heard is to what was done
 
 module _ (head : Head) (past : List Line) (c : ℕ) (f : Flight) (r : ReplyTo) (ok : HeardOk past c f r) (all : HoldsAt head past) where
   abbrev pub answers : RepliesTo head.osts past c r
@@ -46,20 +45,10 @@ module _ (head : Head) (past : List Line) (c : ℕ) (f : Flight) (r : ReplyTo) (
       let same : f ≡ g.0 = all.numbers.one (life_of c past) f g.0 (all.numbers.flying (life_of c past) f ok.flying) (subst (λ (w : Who). Flew past w g.0) done_who g.1) (done_xid ∙ sym g.2) in
       ap (λ (v : Flight). v.op) same ∙ g.3
 
-  none_more : granted_lock f.op r r.answer ≡ []
-  none_more = ap (λ (o : Op). granted_lock o r r.answer) done_op ∙ ap (λ (v : ReplyTo). granted_lock answers.deed.op r v.answer) answers.is ∙ all.locks.answers answers.deed answers.acted r
-
-  brings : (l : Lock) → In l (brought f.op r) → In l r.locks
-  brings l i =
-      ⊎_elim
-      (λ (j : In l r.locks). j)
-      (λ (j : In l (granted_lock f.op r r.answer)). absurd (subst (λ (ls : List Lock). In l ls) none_more j))
-      (in_append l r.locks (granted_lock f.op r r.answer) i)
-
 -- ---- what is held was held, or comes with the reply that is heard
 
 abbrev pub Comes : (past new : List Line) → ℕ → HeldLock → Type 0
-Comes past new b h = record { flight : Flight; reply : ReplyTo; ok : HeardOk past b flight reply; heard : HeardAs new (life_of b past) flight reply; life : life_of b new ≡ life_of b past; among : In h.lock reply.locks }
+Comes past new b h = record { flight : Flight; reply : ReplyTo; ok : HeardOk past b flight reply; heard : HeardAs new (life_of b past) flight reply; life : life_of b new ≡ life_of b past; among : In h.lock (brought flight.op reply) }
 
 module _ (head : Head) (past : List Line) (stamp : Stamp) where
   abbrev pub Held : (node : Node) (e : Entry) → ℕ → HeldLock → Type 0
@@ -82,7 +71,7 @@ module _ (head : Head) (past : List Line) (stamp : Stamp) where
             ok = ok;
             heard = inl (own_self past c, refl, refl);
             life = refl;
-            among = subst (λ (l : Lock). In l r.locks) (ap (λ (x : HeldLock). x.lock) k.2) (brings head past c f r ok all k.0 k.1);
+            among = subst (λ (l : Lock). In l (brought f.op r)) (ap (λ (x : HeldLock). x.lock) k.2) k.1;
           }
 
   dropped_held : (c t : ℕ) (lock : Lock) (b : ℕ) (h : HeldLock) → In h (held_at b (line (turn stamp (Client c)) (Drop t lock) ∷ past)) → Kept (held_at b past) h
@@ -91,18 +80,18 @@ module _ (head : Head) (past : List Line) (stamp : Stamp) where
       (λ q i. kept_same (held_at b past) h (in_filter (λ (g : HeldLock). not (is_named (named (record { 0 = t }) lock.cookie) g)) h (held_at b past) i).0)
       (λ q i. kept_same (held_at b past) h i)
 
-  pub held_before : (node : Node) (e : Entry) → EntryOf head past (turn stamp node) node e → IsOfFirst e → HoldsAt head past → (b : ℕ) (h : HeldLock) → Held node e b h
-  held_before (Client c) (Heard t f r) ok first all b h = heard_held c t f r ok all b h
-  held_before (Client c) (Hold t lock marked size seen) ok first all b h = λ i. inl (shown_held past stamp c t lock marked size seen first ok.1 b h i)
-  held_before (Client c) (Drop t lock) ok first all b h = λ i. inl (dropped_held c t lock b h i)
-  held_before (Client c) (Pins name) ok first all b h = λ i. inl (pins_held past stamp c name b h i)
-  held_before (Client c) (Unpins name) ok first all b h = λ i. inl (unpins_held past stamp c name b h i)
-  held_before (Client c) (Marks name) ok first all b h = λ i. inl (marks_held past stamp c name b h i)
-  held_before (Client c) (Unmarks t) ok first all b h = λ i. inl (unmarks_held past stamp c t b h i)
-  held_before (Target t) (Heard u f r) ok first all b h = absurd ok
-  held_before (Target t) (Hold u lock marked size seen) ok first all b h = absurd ok
-  held_before (Target t) (Drop u lock) ok first all b h = absurd ok
-  held_before node e ok first all b h = λ i. inl (kept_same (held_at b past) h i)
+  pub held_before : (node : Node) (e : Entry) → EntryOf head past (turn stamp node) node e → HoldsAt head past → (b : ℕ) (h : HeldLock) → Held node e b h
+  held_before (Client c) (Heard t f r) ok all b h = heard_held c t f r ok all b h
+  held_before (Client c) (Hold t lock marked size seen) ok all b h = λ i. inl (shown_held past stamp c t lock marked size seen ok.1 b h i)
+  held_before (Client c) (Drop t lock) ok all b h = λ i. inl (dropped_held c t lock b h i)
+  held_before (Client c) (Pins name) ok all b h = λ i. inl (pins_held past stamp c name b h i)
+  held_before (Client c) (Unpins name) ok all b h = λ i. inl (unpins_held past stamp c name b h i)
+  held_before (Client c) (Marks name) ok all b h = λ i. inl (marks_held past stamp c name b h i)
+  held_before (Client c) (Unmarks t) ok all b h = λ i. inl (unmarks_held past stamp c t b h i)
+  held_before (Target t) (Heard u f r) ok all b h = absurd ok
+  held_before (Target t) (Hold u lock marked size seen) ok all b h = absurd ok
+  held_before (Target t) (Drop u lock) ok all b h = absurd ok
+  held_before node e ok all b h = λ i. inl (kept_same (held_at b past) h i)
 
 -- ---- what is held was heard
 
@@ -114,7 +103,7 @@ heard_as_more l past who f r i = by l.entry
     by _ = i
 
 abbrev pub HeldHeard : List Line → Type 0
-HeldHeard past = (c : ℕ) (h : HeldLock) → In h (held_at c past) → (f : Flight) × (r : ReplyTo) × HeardAs past (life_of c past) f r × In h.lock r.locks
+HeldHeard past = (c : ℕ) (h : HeldLock) → In h (held_at c past) → (f : Flight) × (r : ReplyTo) × HeardAs past (life_of c past) f r × In h.lock (brought f.op r)
 
 -- a client that holds something begins no life
 same_life_held : (head : Head) (past : List Line) (stamp : Stamp) (node : Node) (e : Entry) → EntryOf head past (turn stamp node) node e → (c : ℕ) (g : HeldLock) → In g (held_at c past) → life_of c (line (turn stamp node) e ∷ past) ≡ life_of c past
@@ -127,14 +116,14 @@ same_life_held head past stamp node e ok c g i = refl
 
 pub held_heard : (head : Head) (past : List Line) → GrownOf head past → ((p : List Line) → GrownOf head p → HoldsAt head p) → HeldHeard past
 held_heard head [] g holds c h i = absurd i
-held_heard head (l ∷ past) g holds c h i = by l.at.node l.entry g.0 g.1 (holds past g.3) (held_heard head past g.3 holds c) i
+held_heard head (l ∷ past) g holds c h i = by l.at.node l.entry g.0 (holds past g.3) (held_heard head past g.3 holds c) i
   where
     Now : Node → Entry → Type 0
-    Now node e = (f : Flight) × (r : ReplyTo) × HeardAs (line (turn l.at.stamp node) e ∷ past) (life_of c (line (turn l.at.stamp node) e ∷ past)) f r × In h.lock r.locks
+    Now node e = (f : Flight) × (r : ReplyTo) × HeardAs (line (turn l.at.stamp node) e ∷ past) (life_of c (line (turn l.at.stamp node) e ∷ past)) f r × In h.lock (brought f.op r)
 
-    by : (node : Node) (e : Entry) → EntryOf head past (turn l.at.stamp node) node e → IsOfFirst e → HoldsAt head past
-        → ((k : HeldLock) → In k (held_at c past) → (f : Flight) × (r : ReplyTo) × HeardAs past (life_of c past) f r × In k.lock r.locks) → In h (held_at c (line (turn l.at.stamp node) e ∷ past)) → Now node e
-    by node e ok first all ih i = later (held_before head past l.at.stamp node e ok first all c h i)
+    by : (node : Node) (e : Entry) → EntryOf head past (turn l.at.stamp node) node e → HoldsAt head past
+        → ((k : HeldLock) → In k (held_at c past) → (f : Flight) × (r : ReplyTo) × HeardAs past (life_of c past) f r × In k.lock (brought f.op r)) → In h (held_at c (line (turn l.at.stamp node) e ∷ past)) → Now node e
+    by node e ok all ih i = later (held_before head past l.at.stamp node e ok all c h i)
       where
         new : List Line
         new = line (turn l.at.stamp node) e ∷ past
@@ -143,7 +132,7 @@ held_heard head (l ∷ past) g holds c h i = by l.at.node l.entry g.0 g.1 (holds
         later (inl k) =
             let o = ih k.0 k.1 in
             let life = same_life_held head past l.at.stamp node e ok c k.0 k.1 in
-            (o.0, o.1, subst (λ (w : Who). HeardAs new w o.0 o.1) (sym life) (heard_as_more (line (turn l.at.stamp node) e) past (life_of c past) o.0 o.1 o.2), subst (λ (v : Lock). In v o.1.locks) k.3 o.3)
+            (o.0, o.1, subst (λ (w : Who). HeardAs new w o.0 o.1) (sym life) (heard_as_more (line (turn l.at.stamp node) e) past (life_of c past) o.0 o.1 o.2), subst (λ (v : Lock). In v (brought o.0.op o.1)) k.3 o.3)
         later (inr k) = (k.flight, k.reply, subst (λ (w : Who). HeardAs new w k.flight k.reply) (sym k.life) k.heard, k.among)
 
 -- ---- what isn't held, and never will be
@@ -151,6 +140,6 @@ held_heard head (l ∷ past) g holds c h i = by l.at.node l.entry g.0 g.1 (holds
 abbrev pub Unheld : List Line → Deed → Lock → Type 0
 Unheld past d l = Dead past d l ⊎ Lapsed past d l
 
-pub keeps_unheld : (head : Head) (past : List Line) (stamp : Stamp) (node : Node) (e : Entry) → EntryOf head past (turn stamp node) node e → IsOfFirst e → HoldsAt head past → (d : Deed) (l : Lock) → Gave past d l → Unheld past d l → Unheld (line (turn stamp node) e ∷ past) d l
-keeps_unheld head past stamp node e ok first all d l gave (inl x) = inl (keeps_dead head past stamp node e ok first all d l gave x)
-keeps_unheld head past stamp node e ok first all d l gave (inr x) = inr (keeps_lapsed head past stamp node e ok first all d l gave x)
+pub keeps_unheld : (head : Head) (past : List Line) (stamp : Stamp) (node : Node) (e : Entry) → EntryOf head past (turn stamp node) node e → HoldsAt head past → (d : Deed) (l : Lock) → Gave past d l → Unheld past d l → Unheld (line (turn stamp node) e ∷ past) d l
+keeps_unheld head past stamp node e ok all d l gave (inl x) = inl (keeps_dead head past stamp node e ok all d l gave x)
+keeps_unheld head past stamp node e ok all d l gave (inr x) = inr (keeps_lapsed head past stamp node e ok all d l gave x)

@@ -1,6 +1,5 @@
--- Where each call that reads misses what calls make, no lock is granted, and so none is called back; nor ever is one by another target than
--- the metadata target.
-use Rattle.std.proofs.Common.{◌≡◌, ℕ, Bool, true, false, List, [], ◌∷◌, ◌++◌, inl, inr, refl, sym, subst, ap, ◌∙◌}
+-- Where each call that reads names misses what calls make, the metadata target grants no lock, and so calls none back; nor ever does another target.
+use Rattle.std.proofs.Common.{◌≡◌, ℕ, Bool, true, false, List, [], ◌∷◌, ◌++◌, inl, inr, ⊎_elim, refl, sym, subst, ap, ◌∙◌}
 use Rattle.std.specs.Prelude.{nat_eq, not, if◌then◌else◌, filter}
 use Rattle.std.proofs.lemmas.Bool.{eqb-true}
 use Rattle.lu_base.specs.declared.ids.At.{At}
@@ -13,7 +12,7 @@ use Rattle.lu_msg.specs.declared.calls.Call.TheVariants as call
 use Rattle.lu_machine.specs.Footprint.{grants}
 use Rattle.lu_part.specs.declared.parts.Want.{Want}
 use Rattle.lu_words.specs.Carried.{Deed, Called}
-use Rattle.lu_words.specs.Words.{Entry, Act, Txn, Block, Release, Evict, Close, Line, line}
+use Rattle.lu_words.specs.Words.{Entry, Act, Txn, Grant, Block, Release, Evict, Close, Line, line}
 use Rattle.lu_words.specs.Concerns.{only}
 use Rattle.lu_target_rows.specs.Lives.{is_life}
 use Rattle.lu_target_rows.specs.Locks.{called_without}
@@ -23,15 +22,16 @@ use Rattle.lu_covered.specs.Heads.{Head}
 use Rattle.lu_covered.specs.Makes.{Path, Misses}
 use Rattle.lu_covered.specs.TargetStates.{none, granted_at, called_at, server_of}
 use Rattle.lu_guards.proofs.Guards.{In, EntryOk}
-use Rattle.lu_guards.proofs.StoryGuards.{ActOk, ActsOk}
-use Rattle.lu_guards.proofs.Acts.{sized_bare}
+use Rattle.lu_guards.proofs.StoryGuards.{ActOk, ActsOk, RangeOk}
+use Rattle.lu_guards.proofs.Acts.{sized_bare, range_bare}
 use Rattle.lu_guards.proofs.Grown.{Allowed, Grown}
 use Rattle.lu_guards.proofs.Lists.{self}
 use Rattle.lu_guards.proofs.Parts.{granted_is, tree_is}
 use Rattle.lu_facts.proofs.Groups.{turn, Acted}
 use Rattle.lu_facts.proofs.Lines.{acted_whole}
 use Rattle.lu_facts.proofs.All.{holds}
-use Rattle.lu_facts.proofs.Sides.{acted_only}
+use Rattle.lu_facts.proofs.GrantLines.{grant_either}
+use Rattle.lu_facts.proofs.Sides.{acted_only, names_bring}
 use Rattle.lu_facts.proofs.Asked.{Began, began_more, AskedBy, acted_asked}
 use Rattle.lu_facts.proofs.Finds.{Made_in, granted_none}
 
@@ -60,7 +60,7 @@ act_none head past l g m at d ok a =
     ap (λ t. grants head.osts t (asked ok.request none)) (sym (tree_is head.osts 0 past)) ∙ granted_none head past g ok.request.who ok.request.op (subst (AskedBy past) same a) (all_before l past m) in
     ap (λ (y : Deed). y.reply.locks) ok.is ∙ ap (λ (ws : List Want). locks_from v.cookie ok.request.who ws) free
 
--- and nothing that was done gave any
+-- and nothing that was done gave any on names
 gives_none : (head : Head) (past : List Line) → Grown head past → AllMiss past → (d : Deed) → Acted past d → d.reply.locks ≡ []
 gives_none head [] g m d a = absurd a
 gives_none head (l ∷ past) g m d a = by l.at.node l.entry g.0 (λ x b at. acted_asked head (l ∷ past) x g (acted_only head (l ∷ past) x 0 g b at)) a (gives_none head past g.1 (all_before l past m) d)
@@ -78,22 +78,27 @@ gives_none head (l ∷ past) g m d a = by l.at.node l.entry g.0 (λ x b at. acte
     by (Target u) (Act x) k asks (inr b) more = more b
     by (Target u) (Txn x) k asks (inl q) more = ap (λ (y : Deed). y.reply.locks) (sym q) ∙ ap (λ (y : Deed). y.reply.locks) (k.of u (self u)).is
     by (Target u) (Txn x) k asks (inr b) more = more b
+    by (Target u) (Grant lock asked) k asks (inl q) more = ⊎_elim more
+        (λ (r : RangeOk head.osts (only u past) (turn l.at.stamp (Target u)) lock d). range_bare head.osts (only u past) (turn l.at.stamp (Target u)) lock d r)
+        (grant_either head past l.at.stamp u lock asked d k q)
+    by (Target u) (Grant lock asked) k asks (inr b) more = more b
+    by (Client c) (Grant lock asked) k asks b more = absurd k.ok
     by (Client c) (Act x) k asks b more = absurd k.ok
     by (Client c) (Txn x) k asks b more = absurd k.ok
     by node e k asks b more = more b
 
--- ---- so none is granted
+-- ---- so the metadata target grants none
 
 none_in : (ls : List Lock) → ((l : Lock) → In l ls → ⊥) → ls ≡ []
 none_in [] empty = refl
 none_in (l ∷ ls) empty = absurd (empty l (inl refl))
 
-none_granted : (head : Head) (past : List Line) → Grown head past → AllMiss past → (t : ℕ) → (server_of head.osts (only t past)).granted ≡ []
-none_granted head past g m t =
-    none_in (server_of head.osts (only t past)).granted
-    (λ l i. let r = ((holds head past g).at t).locks.granted l i in subst (λ (ls : List Lock). In l ls) (gives_none head past g m r.0 (acted_whole t past r.0 r.1.0)) r.1.1)
+none_granted : (head : Head) (past : List Line) → Grown head past → AllMiss past → (server_of head.osts (only 0 past)).granted ≡ []
+none_granted head past g m =
+    none_in (server_of head.osts (only 0 past)).granted
+    (λ l i. let r = ((holds head past g).at 0).locks.granted l i in subst (λ (ls : List Lock). In l ls) (names_bring head past r.0 g r.1.0 ∙ gives_none head past g m r.0 (acted_whole 0 past r.0 r.1.0)) r.1.1)
 
--- ---- and none is called back
+-- ---- and calls none back
 
 -- while no lock is called back
 still_uncalled : (past : List Line) (stamp : Stamp) (node : Node) (e : Entry) (t : ℕ) → EntryOk past (turn stamp node) node e → ((called : Called) → node ≡ Target t → e ≡ Block called → ⊥) → called_at t past ≡ []
@@ -124,22 +129,19 @@ still_uncalled past stamp (Client c) (Evict who cause) t ok free h = absurd ok
 still_uncalled past stamp (Client c) (Close o) t ok free h = absurd ok
 still_uncalled past stamp node e t ok free h = h
 
-abbrev Free : List Line → Type 0
-Free past = (t : ℕ) → (granted_at t past ≡ []) × (called_at t past ≡ [])
-
-uncalled : (head : Head) (past : List Line) → Grown head past → AllMiss past → (t : ℕ) → called_at t past ≡ []
-uncalled head [] g m t = refl
-uncalled head (l ∷ past) g m t = still_uncalled past l.at.stamp l.at.node l.entry t g.0.ok free (uncalled head past g.1 (all_before l past m) t)
+uncalled : (head : Head) (past : List Line) → Grown head past → AllMiss past → called_at 0 past ≡ []
+uncalled head [] g m = refl
+uncalled head (l ∷ past) g m = still_uncalled past l.at.stamp l.at.node l.entry 0 g.0.ok free (uncalled head past g.1 (all_before l past m))
   where
     -- what is called back is granted
-    free : (called : Called) → l.at.node ≡ Target t → l.entry ≡ Block called → ⊥
+    free : (called : Called) → l.at.node ≡ Target 0 → l.entry ≡ Block called → ⊥
     free called n e =
-        let k : Allowed head past (turn l.at.stamp (Target t)) (Block called) = subst (λ (v : Entry). Allowed head past (turn l.at.stamp (Target t)) v) e (subst (λ (v : Node). Allowed head past (turn l.at.stamp v) l.entry) n g.0) in
-        let ok = k.of t (self t) in
-        subst (λ (ls : List Lock). In ok.lock ls) (none_granted head past g.1 (all_before l past m) t) ok.granted
+        let k : Allowed head past (turn l.at.stamp (Target 0)) (Block called) = subst (λ (v : Entry). Allowed head past (turn l.at.stamp (Target 0)) v) e (subst (λ (v : Node). Allowed head past (turn l.at.stamp v) l.entry) n g.0) in
+        let ok = k.of 0 (self 0) in
+        subst (λ (ls : List Lock). In ok.lock ls) (none_granted head past g.1 (all_before l past m)) ok.granted
 
-pub unlocked : (head : Head) (past : List Line) → Grown head past → AllMiss past → Free past
-unlocked head past g m = λ t. (granted_is head.osts t past ∙ none_granted head past g m t, uncalled head past g m t)
+pub unlocked : (head : Head) (past : List Line) → Grown head past → AllMiss past → (granted_at 0 past ≡ []) × (called_at 0 past ≡ [])
+unlocked head past g m = (granted_is head.osts 0 past ∙ none_granted head past g m, uncalled head past g m)
 
 -- ---- other targets call none back
 

@@ -1,7 +1,7 @@
 -- What is sent to a client in a covered run in which no turn asks a disk may come to it: it is a block, or a reply of a target of the run that
--- brings no size with a lock, and no lock that is held already.
-use Rattle.std.proofs.Common.{◌≡◌, ℕ, zero, suc, ◌+◌, ◌<◌, ◌≤◌, Bool, true, false, List, [], ◌∷◌, length, map, Option, Some, None, inl, inr, ⊎_elim, refl, sym, subst, ap, ◌∙◌, arith}
-use Rattle.std.proofs.lemmas.Bool.{eqb-true}
+-- brings no size above 0 with a lock, and no lock that is held already.
+use Rattle.std.proofs.Common.{◌≡◌, ℕ, zero, suc, ◌+◌, ◌<◌, ◌≤◌, Bool, true, false, List, [], ◌∷◌, length, map, Option, Some, None, ◌++◌, ◌⊎◌, inl, inr, ⊎_elim, refl, sym, subst, ap, ◌∙◌, arith}
+use Rattle.std.proofs.lemmas.Bool.{and_parts}
 use Rattle.std.proofs.lemmas.Bool.Decides.{nat_tests}
 use Rattle.std.proofs.lemmas.List.FromFn.{length-map-range_with_len}
 use Rattle.std.specs.List.{range_with_len}
@@ -12,6 +12,8 @@ use Rattle.lu_base.specs.declared.ids.Node.TheVariants as node
 use Rattle.lu_base.specs.declared.ids.TargetId.{TargetId}
 use Rattle.lu_base.specs.declared.ids.Who.{Who}
 use Rattle.lu_base.specs.declared.locks.Lock.{Lock}
+use Rattle.lu_msg.specs.declared.answers.Answer.{Answer}
+use Rattle.lu_msg.specs.declared.answers.Answer.TheVariants as told
 use Rattle.lu_msg.specs.declared.messages.Message.{Message}
 use Rattle.lu_msg.specs.declared.messages.Message.TheVariants as message
 use Rattle.lu_msg.specs.declared.messages.Reply.{Reply as ReplyTo}
@@ -25,75 +27,86 @@ use Rattle.lu_machine.specs.Fits.{answer_fits}
 use Rattle.lu_words.specs.Carried.{Deed, Flight}
 use Rattle.lu_words.specs.Concerns.{only}
 use Rattle.lu_words.specs.Sent.{Sent}
-use Rattle.lu_words.specs.Words.{Line}
-use Rattle.lu_client_rows.specs.Caches.{held_at, held_as, with_held, brought}
+use Rattle.lu_words.specs.Words.{Line, same_life}
+use Rattle.lu_client_rows.specs.Caches.{held_at, held_as, with_held, granted_lock, brought}
 use Rattle.lu_client_rows.specs.Imports.{Import, import_of, import_at}
-use Rattle.lu_client_rows.specs.Messages.{find_flight, is_present}
+use Rattle.lu_client_rows.specs.Messages.{find_flight, is_present, size_with}
 use Rattle.lu_client_rows.specs.States.{Client}
 use Rattle.lu_covered.specs.ClientStates.{flights_of, life_of}
 use Rattle.lu_table.specs.Heads.{Head}
 use Rattle.lu_table.specs.Runs.{client_of}
-use Rattle.lu_covered_scenes.proofs.ClientLines.{IsSimple, IsAskedOf, asked_simple, brings_its, no_size, reply_differs, reply_bare}
+use Rattle.lu_covered_scenes.proofs.ClientLines.{IsLock, IsSimple, IsAskedOf, asked_simple, brings_its, reply_differs}
 use Rattle.lu_covered_scenes.proofs.ClientLocks.{Differ, none_any, names_same, with_only}
 use Rattle.lu_covered_scenes.proofs.Guards.{In, Was}
 use Rattle.lu_covered_scenes.proofs.Grown.{Grown}
-use Rattle.lu_covered_scenes.proofs.Held.{held_is}
+use Rattle.lu_covered_scenes.proofs.Has.{Ungranted}
+use Rattle.lu_covered_scenes.proofs.GuardGiven.{Grants}
+use Rattle.lu_covered_scenes.proofs.Kinds.{reply_bare, reply_grants}
+use Rattle.lu_covered_scenes.proofs.Held.{held_into}
+use Rattle.lu_covered_scenes.proofs.FactLockLists.{brought_again}
 use Rattle.lu_covered_scenes.proofs.Only.{sent_was, was_only, grown_of}
 use Rattle.lu_covered_scenes.proofs.Parts.{flights_is, life_is_of}
 use Rattle.lu_covered_scenes.proofs.GuardTurns.{covered_head}
 use Rattle.lu_covered_scenes.proofs.All.{holds}
 use Rattle.lu_covered_scenes.proofs.Sides.{flew_kind}
-use Rattle.lu_covered_scenes.proofs.Groups.{HoldsAt}
-use Rattle.lu_covered_scenes.proofs.Lists.{self}
+use Rattle.lu_covered_scenes.proofs.Groups.{Flew, RepliesTo, HoldsAt}
+use Rattle.lu_covered_scenes.proofs.Lists.{self, life_is}
 use Rattle.lu_covered_scenes.proofs.Arrivals.{Goes, was_goes}
 use Rattle.lu_covered_scenes.proofs.Asking.{IsNode, AllSuit, was_suits}
-use Rattle.lu_nodes.specs.Comings.{are_new, is_in_file, may_answer, may_fit, may_reply, may_from, may_come}
+use Rattle.lu_nodes.specs.Comings.{are_new, is_short, is_in_file, may_answer, may_fit, may_reply, may_from, may_come}
+use Rattle.lu_guards.proofs.ClientReplies.{found_in, one_differs}
 
 -- ---- locks that come are new
 
--- of the metadata target
-abbrev names : TargetId
-names = record { 0 = 0 }
+-- a target
+abbrev of : ℕ → TargetId
+of t = record { 0 = t }
 
-free_so : (l : Lock) (held : List HeldLock) → ((h : HeldLock) → In h held → h.target.0 ≡ 0 → h.lock.cookie ≡ l.cookie → ⊥) → is_held (named names l.cookie) held ≡ false
-free_so l held apart = none_any (is_named (named names l.cookie)) held (λ h i. by h (is_named (named names l.cookie) h) refl (apart h i))
+free_so : (t : ℕ) (l : Lock) (held : List HeldLock) → ((h : HeldLock) → In h held → h.target.0 ≡ t → h.lock.cookie ≡ l.cookie → ⊥) → is_held (named (of t) l.cookie) held ≡ false
+free_so t l held apart = none_any (is_named (named (of t) l.cookie)) held (λ h i. by h (is_named (named (of t) l.cookie) h) refl (apart h i))
   where
-    by : (h : HeldLock) (b : Bool) → is_named (named names l.cookie) h ≡ b → (h.target.0 ≡ 0 → h.lock.cookie ≡ l.cookie → ⊥) → b ≡ false
+    by : (h : HeldLock) (b : Bool) → is_named (named (of t) l.cookie) h ≡ b → (h.target.0 ≡ t → h.lock.cookie ≡ l.cookie → ⊥) → b ≡ false
     by h false e away = refl
     by h true e away =
-        let same = names_same (named names l.cookie) (name_of h) e in
+        let same = names_same (named (of t) l.cookie) (name_of h) e in
         absurd (away (ap (λ (n : LockName). n.target.0) (sym same)) (ap (λ (n : LockName). n.cookie) (sym same)))
 
-new_so : (locks : List Lock) (held : List HeldLock) → Differ locks → ((l : Lock) → In l locks → (h : HeldLock) → In h held → h.target.0 ≡ 0 → h.lock.cookie ≡ l.cookie → ⊥) → are_new 0 locks held ≡ true
-new_so [] held differ apart = refl
-new_so (l ∷ locks) held differ apart =
-    let free = free_so l held (apart l (inl refl)) in
-    let rest = new_so locks (with_held (held_as 0 l false) held) differ.1 (λ m i h j zero_is same. ⊎_elim
-    (λ (e : held_as 0 l false ≡ h).
+new_so : (t : ℕ) (locks : List Lock) (held : List HeldLock) → Differ locks → ((l : Lock) → In l locks → (h : HeldLock) → In h held → h.target.0 ≡ t → h.lock.cookie ≡ l.cookie → ⊥) → are_new t locks held ≡ true
+new_so t [] held differ apart = refl
+new_so t (l ∷ locks) held differ apart =
+    let free = free_so t l held (apart l (inl refl)) in
+    let rest = new_so t locks (with_held (held_as t l false) held) differ.1 (λ m i h j there same. ⊎_elim
+    (λ (e : held_as t l false ≡ h).
     let one : l.cookie.0 ≡ m.cookie.0 = ap (λ (x : HeldLock). x.lock.cookie.0) e ∙ ap (λ (x : Cookie). x.0) same in
     let other = differ.0 m i in
     grind (arith, nat_tests, one, other))
-    (λ (k : In h held). apart m (inr i) h k zero_is same)
-    (with_only (held_as 0 l false) h held j)) in
-    ap (λ (b : Bool). not b && are_new 0 locks (with_held (held_as 0 l false) held)) free ∙ rest
+    (λ (k : In h held). apart m (inr i) h k there same)
+    (with_only (held_as t l false) h held j)) in
+    ap (λ (b : Bool). not b && are_new t locks (with_held (held_as t l false) held)) free ∙ rest
+
+-- ---- the size that comes with it is 0
+
+short_none : (a : Answer) → Ungranted a → is_short (size_with a) ≡ true
+short_none (told.Granted cookie extent size) none = absurd none
+short_none a none = refl
+
+short_so : (past : List Line) (who : Who) (n : ℕ) (a : Answer) → Ungranted a ⊎ Grants past who n a → is_short (size_with a) ≡ true
+short_so past who n a (inl none) = short_none a none
+short_so past who n a (inr grants) = subst (λ (x : Answer). is_short (size_with x) ≡ true) (sym grants.is) refl
 
 -- ---- what is asked lies in a file
 
-in_file : (o : Op) → IsSimple o → is_in_file o ≡ true
-in_file (op.Get resource cookie page) is = absurd is
-in_file (op.Put resource cookie offset bytes) is = absurd is
-in_file (op.Cut resource cookie size) is = absurd is
-in_file _ is = refl
+simple_in_file : (o : Op) → IsSimple o → is_in_file o ≡ true
+simple_in_file (op.Get resource cookie page) is = absurd is
+simple_in_file (op.Put resource cookie offset bytes) is = absurd is
+simple_in_file (op.Cut resource cookie size) is = absurd is
+simple_in_file _ is = refl
+
+lock_in_file : (o : Op) → IsLock o → is_in_file o ≡ true
+lock_in_file (op.Enqueue resource mode extent) is = refl
+lock_in_file o is = absurd is
 
 -- ---- a flight that is found
-
-found_in : (xid : ℕ) (flights : List Flight) (f : Flight) → find_flight xid flights ≡ Some f → In f flights × (f.xid ≡ xid)
-found_in xid [] f e = absurd (cc)
-found_in xid (g ∷ flights) f e = by (nat_eq g.xid xid) refl e (found_in xid flights f)
-  where
-    by : (b : Bool) → nat_eq g.xid xid ≡ b → (if b then Some g else find_flight xid flights) ≡ Some f → (find_flight xid flights ≡ Some f → In f flights × (f.xid ≡ xid)) → In f (g ∷ flights) × (f.xid ≡ xid)
-    by true q e more = let same : g ≡ f = cc in (inl same, subst (λ (x : Flight). x.xid ≡ xid) same (eqb-true g.xid xid q))
-    by false q e more = let m = more e in (inr m.0, m.1)
 
 -- ---- the import of each target of the run
 
@@ -131,18 +144,32 @@ module _ (head : Head) (past : List Line) (g : Grown (covered_head head) past) (
 
     -- ---- a reply to a request that is in flight
 
-    module _ (r : ReplyTo) (was : Was past (node.Target t) (node.Client c) (message.Reply r)) (f : Flight) (flying : In f (flights_of life story)) (number : f.xid ≡ r.xid.0) where
+    module _ (r : ReplyTo) (was : Was past (node.Target t) (node.Client c) (message.Reply r)) (f : Flight) (flying : In f (flights_of life story)) (number : f.xid ≡ r.xid.0) (mine : r.who ≡ life) where
       here : Was story (node.Target t) (node.Client c) (message.Reply r)
       here = was_only t past (node.Target t) (node.Client c) (message.Reply r) (self t) was
 
-      -- no lock that the metadata target gives is held: what is held came with a reply that was heard
-      unheld : t ≡ 0 → (l : Lock) → In l r.locks → (x : HeldLock) → In x (held_at c past) → x.lock.cookie ≡ l.cookie → ⊥
-      unheld first l i x j same =
-          let meant = h.done.sent (node.Target t) (node.Client c) (message.Reply r) here in
-          let d : Deed = meant.deed in
-          let whole : held_at c past ≡ held_at c story = subst (λ (u : ℕ). held_at c past ≡ held_at c (only u past)) (sym first) (held_is (covered_head head) c past g) in
-          let holding = h.locks.held c x (subst (λ (xs : List HeldLock). In x xs) whole j) in
-          let among : In l d.reply.locks = subst (λ (ls : List Lock). In l ls) (ap (λ (v : ReplyTo). v.locks) meant.is) i in
+      -- it is what was done for the request
+      meant : RepliesTo head.osts story c r
+      meant = h.done.sent (node.Target t) (node.Client c) (message.Reply r) here
+
+      abbrev d : Deed
+      d = meant.deed
+
+      same_op : f.op ≡ d.op
+      same_op =
+          let flew = h.done.flew d meant.acted in
+          let who : d.reply.who ≡ life = sym (ap (λ (v : ReplyTo). v.who) meant.is) ∙ mine in
+          let xid : f.xid ≡ flew.0.xid = number ∙ ap (λ (v : ReplyTo). v.xid.0) meant.is ∙ sym flew.2 in
+          ap (λ (x : Flight). x.op) (h.numbers.one life f flew.0 (h.numbers.flying life f flying) (subst (λ (w : Who). Flew story w flew.0) who flew.1) xid) ∙ flew.3
+
+      brings : brought f.op r ≡ brought d.op d.reply
+      brings = ap (λ (o : Op). brought o r) same_op ∙ brought_again d.op d.reply r meant.is
+
+      -- no lock that it brings is held: what is held came with a reply that was heard
+      unheld : (l : Lock) → In l (brought f.op r) → (x : HeldLock) → In x (held_at c past) → x.target.0 ≡ t → x.lock.cookie ≡ l.cookie → ⊥
+      unheld l i x j of_target same =
+          let holding = h.locks.held c x (held_into c t past x of_target j) in
+          let among : In l (brought d.op d.reply) = subst (λ (ls : List Lock). In l ls) brings i in
           let one = (h.locks.once d holding.deed l x.lock (meant.acted, among) holding.gave (sym same)).0 in
           let xid : f.xid ≡ holding.deed.reply.xid.0 = number ∙ ap (λ (v : ReplyTo). v.xid.0) meant.is ∙ ap (λ (v : Deed). v.reply.xid.0) one in
           (h.numbers.over life holding.deed.reply.xid.0 holding.heard).1 f flying xid
@@ -150,38 +177,45 @@ module _ (head : Head) (past : List Line) (g : Grown (covered_head head) past) (
       asked : IsAskedOf t f.op
       asked = flew_kind (covered_head head) past t life f g (h.numbers.flying life f flying)
 
-      simple : IsSimple f.op
-      simple = asked_simple t f.op asked
-
-      -- another target gives none
-      of_reply : IsAskedOf t f.op → are_new t r.locks k.store.held ≡ true
-      of_reply (inl first) =
-          subst (λ (u : ℕ). are_new u r.locks k.store.held ≡ true) (sym first.0)
-          (new_so r.locks k.store.held (reply_differs (covered_head head) story (node.Target t) c r (grown_of (covered_head head) t past g) here) (λ l i x j zero_is same. unheld first.0 l i x j same))
-      of_reply (inr sizes) = subst (λ (ls : List Lock). are_new t ls k.store.held ≡ true) (sym (reply_bare (covered_head head) t c r past sizes.0 g was)) refl
+      differ : IsSimple f.op ⊎ ((0 < t) × IsLock f.op) → Differ (brought f.op r)
+      differ (inl simple) = subst Differ (sym (brings_its f.op r simple)) (reply_differs (covered_head head) story (node.Target t) c r (grown_of (covered_head head) t past g) here)
+      differ (inr lock) =
+          subst (λ (ls : List Lock). Differ (ls ++ granted_lock f.op r r.answer)) (sym (reply_bare (covered_head head) t past g lock.0 (node.Target t) (node.Client c) r here)) (one_differs f.op r r.answer)
 
       locks_new : are_new t (brought f.op r) k.store.held ≡ true
-      locks_new = subst (λ (ls : List Lock). are_new t ls k.store.held ≡ true) (sym (brings_its f.op r simple)) (of_reply asked)
+      locks_new = new_so t (brought f.op r) k.store.held (differ (asked_simple t f.op asked)) unheld
 
-      answers : answer_fits f.op r.answer ≡ true → may_answer t r f k ≡ true
-      answers fits = rw (locks_new, no_size f.op r.answer simple fits, in_file f.op simple) refl
+      short : is_short (size_with r.answer) ≡ true
+      short = short_so story r.who r.xid.0 r.answer (reply_grants (covered_head head) t past g (node.Target t) (node.Client c) r here)
+
+      in_file : is_in_file f.op ≡ true
+      in_file = by (asked_simple t f.op asked)
+        where
+          by : IsSimple f.op ⊎ ((0 < t) × IsLock f.op) → is_in_file f.op ≡ true
+          by (inl simple) = simple_in_file f.op simple
+          by (inr lock) = lock_in_file f.op lock.1
+
+      answers : may_answer t r f k ≡ true
+      answers = rw (locks_new, short, in_file) refl
 
     reply_comes : (r : ReplyTo) → Was past (node.Target t) (node.Client c) (message.Reply r) → may_reply t r k ≡ true
-    reply_comes r was = by (is_present r.who r.boot t k)
+    reply_comes r was = by (is_present r.who r.boot t k) refl
       where
-        fit : (o : Option Flight) → find_flight r.xid.0 (import_of t k.imports).flights ≡ o → may_fit t r k o ≡ true
-        fit None found = refl
-        fit (Some f) found = by_answer (answer_fits f.op r.answer) refl
+        fit : r.who ≡ life → (o : Option Flight) → find_flight r.xid.0 (import_of t k.imports).flights ≡ o → may_fit t r k o ≡ true
+        fit mine None found = refl
+        fit mine (Some f) found = by_answer (answer_fits f.op r.answer)
           where
-            by_answer : (b : Bool) → answer_fits f.op r.answer ≡ b → (if b then may_answer t r f k else true) ≡ true
-            by_answer false e = refl
-            by_answer true e =
+            by_answer : (b : Bool) → (if b then may_answer t r f k else true) ≡ true
+            by_answer false = refl
+            by_answer true =
                 let i = found_in r.xid.0 (import_of t k.imports).flights f found in
-                answers r was f (subst (λ (fs : List Flight). In f fs) flights_story i.0) i.1 e
+                answers r was f (subst (λ (fs : List Flight). In f fs) flights_story i.0) i.1 mine
 
-        by : (b : Bool) → (if b then may_fit t r k (find_flight r.xid.0 (import_of t k.imports).flights) else true) ≡ true
-        by false = refl
-        by true = fit (find_flight r.xid.0 (import_of t k.imports).flights) refl
+        by : (b : Bool) → is_present r.who r.boot t k ≡ b → (if b then may_fit t r k (find_flight r.xid.0 (import_of t k.imports).flights) else true) ≡ true
+        by false e = refl
+        by true e =
+            let same = and_parts (same_life r.who k.who) (nat_eq r.boot (import_of t k.imports).boot) e in
+            fit (life_is r.who k.who same.0 ∙ life_is_of c t past) (find_flight r.xid.0 (import_of t k.imports).flights) refl
 
   -- ---- what is sent to a client
 

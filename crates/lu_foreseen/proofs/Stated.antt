@@ -1,5 +1,5 @@
 -- Each covered scenario in which no turn asks a disk is foreseen.
-use Rattle.std.proofs.Common.{◌≡◌, ℕ, zero, suc, ◌<◌, ◌≤◌, true, false, List, [], ◌∷◌, Option, Some, None, length, inl, inr, refl, sym, subst, arith}
+use Rattle.std.proofs.Common.{◌≡◌, ℕ, zero, suc, ◌<◌, ◌≤◌, true, false, List, [], ◌∷◌, Option, Some, None, length, ◌⊎◌, inl, inr, refl, sym, subst, arith}
 use Rattle.std.specs.Prelude.{ℤ, pos, negsuc, All}
 use Rattle.std.proofs.lemmas.Bool.Decides.{nat_tests}
 use Rattle.std.proofs.lemmas.List.Elements.{All-nil, All-cons}
@@ -35,11 +35,12 @@ use Rattle.lu_words.specs.Concerns.{only}
 use Rattle.lu_covered_scenes.proofs.Guards.{In}
 use Rattle.lu_covered_scenes.proofs.Grown.{Grown}
 use Rattle.lu_covered_scenes.proofs.GuardTurns.{covered_head}
-use Rattle.lu_covered_scenes.proofs.ClientLines.{IsSize}
+use Rattle.lu_covered_scenes.proofs.ClientLines.{IsSize, IsLock}
 use Rattle.lu_covered_scenes.proofs.OnNames.{op_is}
 use Rattle.lu_after.proofs.Posts.{sent_at_is}
 use Rattle.lu_covered_scenes.specs.Covered.{IsCovered, AsksNoDisk, ticks_of}
 use Rattle.lu_covered_scenes.proofs.Arrivals.{to_client}
+use Rattle.lu_covered_scenes.proofs.Asking.{IsOrdered}
 use Rattle.lu_covered_scenes.proofs.Lines.{MayAsk, AllKnown, IsKnown, lines_known, called_fits}
 use Rattle.lu_covered_scenes.proofs.Runs.{Follows, so_up, leads_follow}
 use Rattle.lu_covered_scenes.proofs.Turns.{Timely, NoneDue, past_grown, serves_still, comes_makes, comes_one, names_due, others_due, tick_makes}
@@ -72,10 +73,12 @@ names_take file (call.Open h path) o e fits = subst (Takes Mdt) (op_is (op.Open 
 names_take (Some f) (call.Close h) o e fits = subst (Takes Mdt) (op_is (op.Close f.number f.fid) o e) tt
 names_take file k o e fits = absurd (cc)
 
--- an object storage target is asked how long an object is
-size_takes : (o : Op) → IsSize o → Takes Ost o
-size_takes (op.Size resource) is = tt
-size_takes o is = absurd is
+-- an object storage target is asked how long an object is, or for a lock on it
+object_takes : (o : Op) → IsSize o ⊎ IsLock o → IsOrdered o → Takes Ost o
+object_takes (op.Size resource) is ordered = tt
+object_takes (op.Enqueue resource mode extent) is ordered = ordered
+object_takes o (inl is) ordered = absurd is
+object_takes o (inr is) ordered = absurd is
 
 all_of : {A : Type 0} (P : A → Type 0) (xs : List A) → ((x : A) → In x xs → P x) → All P xs
 all_of P [] so = All-nil P
@@ -116,20 +119,20 @@ module _ (scene : Scene) (covered : IsCovered scene) (quiet : AsksNoDisk scene) 
   takes_so zero o (inl names) =
       let asked = names.1 in
       names_take asked.2 asked.0 o asked.3 (called_fits scene scene.lines (lines_known scene covered) asked.0 (f.sound.begun asked.0 asked.1))
-  takes_so zero o (inr sizes) = absurd (let high = sizes.0 in omega (arith, high))
+  takes_so zero o (inr objects) = absurd (let high = objects.0 in omega (arith, high))
   takes_so (suc t) o (inl names) = absurd (cc)
-  takes_so (suc t) o (inr sizes) = size_takes o sizes.1
+  takes_so (suc t) o (inr objects) = object_takes o objects.1 objects.2
 
   may_have : (t n : ℕ) (from : Node) (m : Message) → Sent past n from (Target t) m → MayHave m (target_of head t past)
   may_have t n from (message.Request r) sent =
-      let fits : Fitting h past t r = request_fits h past g t n from r sent in
+      let fits : Fitting h past t r = request_fits (MayAsk scene) head.osts h past g f.sound.suits t n from r sent in
       let most = covered.limits.head.most_flight in
       let tag = fits.tag in
       let queue : (target_of head t past).queue ≡ (server_of head.osts (only t past)).waiting = waiting_same (MayAsk scene) head.osts head.clients none h (setting_of head t) past g f.sound.suits f.sound.covered in (
         omega arith,
         takes_so t r.op fits.asked,
         subst (All (λ (q : RequestOf). same_request q r ≡ true → q.tag ≡ r.tag)) (sym queue)
-            (all_of (λ (q : RequestOf). same_request q r ≡ true → q.tag ≡ r.tag) (server_of head.osts (only t past)).waiting (λ q i e. same_tag h past g t n from q r i sent e)),
+            (all_of (λ (q : RequestOf). same_request q r ≡ true → q.tag ≡ r.tag) (server_of head.osts (only t past)).waiting (λ q i e. same_tag (MayAsk scene) head.osts h past g f.sound.suits t n from q r i sent e)),
       )
   may_have t n from _ sent = tt
 

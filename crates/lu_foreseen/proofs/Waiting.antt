@@ -1,5 +1,5 @@
 -- Where no turn asks a disk, the requests that wait at a target are those that the guards speak of: none leaves with its life, and no window closes.
-use Rattle.std.proofs.Common.{◌≡◌, ℕ, Bool, true, false, List, [], ◌∷◌, ◌++◌, Some, None, refl, ap, ◌∙◌}
+use Rattle.std.proofs.Common.{◌≡◌, ℕ, Bool, true, false, List, [], ◌∷◌, ◌++◌, inl, inr, Some, None, refl, ap, ◌∙◌}
 use Rattle.std.specs.Prelude.{nat_eq, if◌then◌else◌}
 use Rattle.std.proofs.lemmas.Bool.{cond_both}
 use Rattle.lu_base.specs.declared.ids.At.{At}
@@ -25,7 +25,9 @@ module _ (MayAsk : Type 0) (osts clients : ℕ) (none : MayAsk → ⊥) (head : 
   line_waiting past at t v (Enters r) s c ok h = ap (λ (rs : List RequestOf). rs ++ r ∷ []) h
   line_waiting past at t v (Act d) s c ok h = ap (without_request d) h
   line_waiting past at t v (Txn d) s c ok h = ap (without_request d) h
-  line_waiting past at t v (Grant lock (Some d)) s c ok h = ap (without_request d) h ∙ ok.waiting
+  -- one for a lock on an object is answered with it, one on names was before
+  line_waiting past at t v (Grant lock (Some d)) s c (inl ok) h = ap (without_request d) h
+  line_waiting past at t v (Grant lock (Some d)) s c (inr ok) h = ap (without_request d) h
   line_waiting past at t v (Grant lock None) s c ok h = absurd ok
   line_waiting past at t v (Wait lock asked) s c ok h = absurd c
   line_waiting past at t v (Answers d) s c ok h = absurd c

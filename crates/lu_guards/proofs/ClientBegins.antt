@@ -31,12 +31,13 @@ use Rattle.lu_guards.proofs.Covers.{EntriesCovered, covered_turn}
 use Rattle.lu_guards.proofs.ClientHandles.{Tied, unbinding, closes_nothing, closes_unbound, begun_tied, closed_tied, told_tied, count_more}
 use Rattle.lu_guards.proofs.ClientRests.{Good, Idle, Rested, Ended, idle_same, adds, call_line, followed}
 use Rattle.lu_guards.proofs.ClientCalls.{idle_more, covered_left}
-use Rattle.lu_guards.proofs.ClientSlots.{slots_still, HasBegun, has_begun}
+use Rattle.lu_guards.proofs.ClientPasses.{slots_still}
+use Rattle.lu_guards.proofs.ClientSlots.{HasBegun, has_begun}
 use Rattle.lu_guards.proofs.ClientStarts.{Starts, starts_good, rests_from}
 
 -- ---- which calls begin
 
--- it is on names, or a flush or a glimpse of a file
+-- it is on names, or a read, a flush or a glimpse of a file
 abbrev Does : Option HandleFile → Call → Type 0
 Does file x = ((o : Op) × (operation_of file x ≡ Some o)) ⊎ (IsOnSizes x × ((f : HandleFile) × (file ≡ Some f)))
 
@@ -56,7 +57,7 @@ module _ (head : table.Head) (c : ℕ) (at : At) (slot : ℕ) (p : List Line) (t
   abbrev Of : Call → List Entry → Type 0
   Of x es = Beginning c p at slot x es
 
-  -- one that reads or changes bytes is covered on a bad handle alone
+  -- one that changes bytes is covered on a bad handle alone
   on_file : (x : Call) (h : ℕ) → ((f : Option HandleFile) → operation_of f x ≡ None) → (IsOnSizes x → ⊥) → is_bad c p x ≡ not (is_some (file_at c h p)) → EntriesCovered (begins_on at slot x (file_of h (handles_at c p)))
       → Of x (begins_on at slot x (file_of h (handles_at c p)))
   on_file x h none other is covered =
@@ -66,7 +67,7 @@ module _ (head : table.Head) (c : ℕ) (at : At) (slot : ℕ) (p : List Line) (t
       by None e k = inl (is ∙ ap (λ (f : Option HandleFile). not (is_some f)) e, refl)
       by (Some f) e k = absurd (let n : operation_of (Some f) x ≡ None = none (Some f) in let b = (covered_names (Some f) x at other k.0).1 in cc)
 
-  -- a flush or a glimpse is covered on a good one too
+  -- a read, a flush or a glimpse is covered on a good one too
   on_sizes : (x : Call) (h : ℕ) → IsOnSizes x → is_bad c p x ≡ not (is_some (file_at c h p)) → file_for c p x ≡ file_at c h p → unbinding x ≡ [] → Of x (begins_on at slot x (file_of h (handles_at c p)))
   on_sizes x h sizes is file still = subst (λ (f : Option HandleFile). Of x (begins_on at slot x f)) (sym (tied h)) (by (file_at c h p) refl)
     where
@@ -105,7 +106,7 @@ module _ (head : table.Head) (c : ℕ) (at : At) (slot : ℕ) (p : List Line) (t
             inl (op.Close f.number f.fid, ap (λ (g : Option HandleFile). operation_of g (call.Close h)) e),
             ap (λ (g : Option HandleFile). Begin slot (begun at (call.Close h) g Plain) ∷ Unbinds h ∷ []) (sym e),
           )
-  begins_so (call.Read h x n) k = on_file (call.Read h x n) h (λ f. refl) (λ n. n) refl k
+  begins_so (call.Read h x n) k = on_sizes (call.Read h x n) h tt refl refl refl
   begins_so (call.Write h x bs) k = on_file (call.Write h x bs) h (λ f. refl) (λ n. n) refl k
   begins_so (call.Cut h n) k = on_file (call.Cut h n) h (λ f. refl) (λ n. n) refl k
   begins_so (call.Flush h) k = on_sizes (call.Flush h) h tt refl refl refl
@@ -123,7 +124,7 @@ module _ (head : table.Head) (c : ℕ) (stamp : Stamp) where
       record {
         good = adds head c stamp p (Busy slot) (starts_good head c stamp p s) (owes_nothing p at (Busy slot) s.settled) s.later (λ t e. tt) tt refl;
         settled = tt;
-        between = record { idle = s.between.idle; handles = s.between.handles; held = s.between.held; calm = s.between.calm };
+        between = record { idle = s.between.idle; handles = s.between.handles; calm = s.between.calm };
       }
 
   -- a call on another slot is what it was
@@ -152,7 +153,6 @@ module _ (head : table.Head) (c : ℕ) (stamp : Stamp) where
         settled = tt;
         idle = idle_same c p (line at e ∷ p1) same s.between.idle;
         handles = told_tied c stamp p1 slot at (answer.Refused EBADF) None r stands refl (begun_tied c stamp p slot r (closes_unbound c p wanted bad) s.between.handles);
-        free = λ x i. s.between.held x i;
       }
     where
       r : Running
@@ -209,12 +209,6 @@ module _ (head : table.Head) (c : ℕ) (stamp : Stamp) where
       others : (u : ℕ) → (u ≡ slot → ⊥) → Idle (calls_at c p1) (call_at c u p1)
       others u n = subst (Idle (calls_at c p1)) (sym (begin_other p slot r u n)) (idle_more (calls_at c p) (calls_at c p1) (λ n. count_more c n p p1 (on_more n)) (call_at c u p) (s.between.idle u))
 
-      due : (x : Call) (e : Entry) → guards.Starts slot Plain e → guards.OwesBegun (at ≡ at) slot Plain x e
-      due (call.Close h) e q = tt
-      due (call.Flush h) e q = tt
-      due (call.Glimpse h) e q = tt
-      due x e q = (refl, q)
-
       by : (x : Call) → wanted ≡ x → HasBegun head c stamp slot wanted file (with_turn at (unbinding x) p1)
       by (call.Close h) e =
           record {
@@ -226,7 +220,6 @@ module _ (head : table.Head) (c : ℕ) (stamp : Stamp) where
               handles = closed_tied c stamp p slot r h e s.between.handles;
               due = λ x q. tt;
             };
-            free = λ x i. s.between.held x i;
             quiet = λ q. tt;
             does = does;
           }
@@ -238,9 +231,8 @@ module _ (head : table.Head) (c : ℕ) (stamp : Stamp) where
               call = stands;
               others = others;
               handles = begun_tied c stamp p slot r (λ h. closes_nothing h wanted (file_at c h p) (ap unbinding e)) s.between.handles;
-              due = due wanted;
+              due = λ x q. q;
             };
-            free = λ x i. s.between.held x i;
             quiet = λ q. q;
             does = does;
           }

@@ -1,12 +1,11 @@
 -- The calls of a client's slots, by the rows. A call that has asked doesn't move, nor does a close that waits for others on its open; a close
--- that waits for none is free. What a call does first, and that a covered turn neither looks at objects nor asks for their attributes.
+-- that waits for none is free. What a call on names does first, and what it does once it was answered.
 use Rattle.std.proofs.Common.{◌≡◌, ℕ, zero, suc, ◌≤◌, ◌<◌, Bool, true, false, List, [], ◌∷◌, ◌++◌, ◌⊎◌, inl, inr, ⊎_elim, Option, Some, None, refl, sym, subst, ap, ◌∙◌, arith, pos}
 use Rattle.std.specs.Prelude.{nat_eq, nat_lt, ◌||◌, if◌then◌else◌}
 use Rattle.std.specs.List.{list_any}
 use Rattle.std.proofs.lemmas.Bool.{or_from}
 use Rattle.std.proofs.lemmas.Bool.Decides.{nat_tests}
 use Rattle.lu_base.specs.declared.ids.At.{At}
-use Rattle.lu_base.specs.declared.ids.Cookie.{Cookie}
 use Rattle.lu_base.specs.declared.ids.Fid.{Fid}
 use Rattle.lu_layout.specs.Raid0.{Raid0}
 use Rattle.lu_msg.specs.declared.answers.Answer.{Answer}
@@ -15,28 +14,23 @@ use Rattle.lu_msg.specs.declared.calls.Call.{Call}
 use Rattle.lu_msg.specs.declared.calls.Call.TheVariants as call
 use Rattle.lu_msg.specs.declared.operations.Op.{Op}
 use Rattle.lu_msg.specs.declared.operations.Op.TheVariants as op
-use Rattle.lu_held.specs.declared.locks.HeldLock.{HeldLock}
-use Rattle.lu_held.specs.declared.locks.Use.{Use}
-use Rattle.lu_held.specs.declared.names.LockName.{LockName}
-use Rattle.lu_held.specs.Held.{serving}
-use Rattle.lu_words.specs.Carried.{HandleFile, Kind, Stats, Glimpses, Asking, Unasked, Asked, Work, Stage, Plain, Running}
+use Rattle.lu_words.specs.Carried.{HandleFile, Kind, Stats, Glimpses, Asking, Unasked, Asked, Stage, Plain, Running}
 use Rattle.lu_words.specs.Words.{Entry, Queues, Line}
-use Rattle.lu_client_rows.specs.Advances.{queued_for, tells, looks, looks_on, acts, takes_up}
+use Rattle.lu_client_rows.specs.Advances.{queued_for, tells}
 use Rattle.lu_client_rows.specs.Calls.{asks, asks_for, call_on, calls_at}
-use Rattle.lu_client_rows.specs.Known.{Known, KnownFile, Found, found_at_path, lookup_known, list_known, layout_known, directory_known, file_known, with_name, names_of}
-use Rattle.lu_client_rows.specs.Known as known
+use Rattle.lu_client_rows.specs.Known.{Notes, Known, KnownFile, Found, found_at_path, lookup_known, list_known, layout_known, directory_known, file_known, cookies_of_file, names_of}
 use Rattle.lu_client_rows.specs.Slots.{goes_at, goes, goes_on, passes, all_slots, is_alone, is_close, is_free_close}
-use Rattle.lu_client_rows.specs.Starts.{looks_at, sizes_heard, work_on, pins, with_pins, tells_known, starts_known, stats, stats_file, starts_stat, is_on, count_on, starts_close, notes_of, starts, answers, goes_plain}
-use Rattle.lu_client_rows.specs.States.{Client as ClientState, Store, store_turn, turn as turn_of}
-use Rattle.lu_client_rows.specs.Stripes.{stripes}
+use Rattle.lu_client_rows.specs.Starts.{sizes_heard, tells_known, starts_known, stats as stats_at, stats_file, starts_stat, is_on, count_on, starts_close, notes_of, starts, answers, goes_plain}
+use Rattle.lu_client_rows.specs.States.{Client as ClientState, turn as turn_of}
 use Rattle.lu_covered.specs.Calls.{call_at, operation_of, becomes, told_as}
-use Rattle.lu_covered.specs.Known.{told_of, known_answer}
-use Rattle.lu_guards.proofs.Guards.{In, IsToldAsIs}
+use Rattle.lu_covered.specs.Known.{told_of, known_answer, known_file}
+use Rattle.lu_guards.proofs.Guards.{IsToldAsIs}
 use Rattle.lu_guards.proofs.Lists.{self}
 use Rattle.lu_guards.proofs.Covers.{EntriesCovered}
 use Rattle.lu_guards.proofs.ClientSizes.{IsUnheard, unheard_not}
 use Rattle.lu_guards.proofs.ClientHandles.{binding, count_self, count_more}
-use Rattle.lu_guards.proofs.ClientRests.{Sizing, AwaitsReply, HasAsked, WaitsToClose, Idle, AllIdle}
+use Rattle.lu_guards.proofs.ClientRests.{ReadsOn, StatsOn, Sizing, HasAsked, WaitsToClose, Idle, AllIdle}
+use Rattle.lu_guards.proofs.ClientKnown.{AllUsable, lookup_usable, list_usable, layout_usable, directory_usable, file_usable, found_usable}
 
 -- ---- slots whose calls wait don't move
 
@@ -68,15 +62,16 @@ calm_of calls (Some r) (inl a) = inl a
 calm_of calls (Some r) (inr w) = inr (closing calls r w)
 
 pub asked_not : (at : At) (slot : ℕ) (r : Running) (k : ClientState) → HasAsked r → goes_at at slot r.stage r k ≡ []
-asked_not at slot r k a = by a.1
+asked_not at slot r k a = by a
   where
     waits : (g : Sizing r) → (r.asking ≡ Asked) ⊎ IsUnheard r.asking → sizes_heard at slot r.asking (Glimpses g.sizes) r g.work k.store ≡ []
     waits g (inl e) = ap (λ (x : Asking). sizes_heard at slot x (Glimpses g.sizes) r g.work k.store) e
     waits g (inr u) = unheard_not at slot g.sizes r.asking r g.work k.store u
 
-    by : AwaitsReply r → goes_at at slot r.stage r k ≡ []
-    by (inl q) = ap (λ (s : Stage). goes_at at slot s r k) q.1 ∙ ap (λ (x : Asking). goes_plain at slot x r k) q.0
-    by (inr q) = ap (λ (s : Stage). goes_at at slot s r k) q.0.stage ∙ ap (λ (x : Kind). sizes_heard at slot r.asking x r q.0.work k.store) q.0.kind ∙ waits q.0 q.1
+    by : HasAsked r → goes_at at slot r.stage r k ≡ []
+    by (inl (n, inl q)) = ap (λ (s : Stage). goes_at at slot s r k) q.1 ∙ ap (λ (x : Asking). goes_plain at slot x r k) q.0
+    by (inl (n, inr q)) = ap (λ (s : Stage). goes_at at slot s r k) q.0.stage ∙ ap (λ (x : Kind). sizes_heard at slot r.asking x r q.0.work k.store) q.0.kind ∙ waits q.0 q.1
+    by (inr l) = ap (λ (s : Stage). goes_at at slot s r k) l.stage
 
 -- it asks, where no other call is on its open
 pub closes_so : (at : At) (slot : ℕ) (r : Running) (k : ClientState) (w : Closing r)
@@ -138,11 +133,14 @@ one_not : (n : ℕ) → nat_lt 1 n ≡ true → nat_eq n 1 ≡ false
 one_not n e = grind (arith, nat_tests)
 
 asked_calm : (all : List (Option Running)) (r : Running) → HasAsked r → is_free_close all (Some r) ≡ false
-asked_calm all r a = by a.1
+asked_calm all r a = by a
   where
-    by : AwaitsReply r → is_free_close all (Some r) ≡ false
-    by (inl q) = ap (λ (b : Bool). if b then is_alone all r.file else false) (ap (is_close r.call) q.0 ∙ close_not r.call)
-    by (inr q) = ap (λ (x : Call). if is_close x r.asking then is_alone all r.file else false) q.0.glimpses
+    by : HasAsked r → is_free_close all (Some r) ≡ false
+    by (inl (n, inl q)) = ap (λ (b : Bool). if b then is_alone all r.file else false) (ap (is_close r.call) q.0 ∙ close_not r.call)
+    by (inl (n, inr q)) = ap (λ (x : Call). if is_close x r.asking then is_alone all r.file else false) q.0.glimpses
+    by (inr l) =
+        ⊎_elim (λ (q : ReadsOn r l.work). ap (λ (x : Call). if is_close x r.asking then is_alone all r.file else false) q.read.reads)
+        (λ (q : StatsOn r l.work). ap (λ (x : Call). if is_close x r.asking then is_alone all r.file else false) q.stats) l.reading.does
 
 closing_is : (all : List (Option Running)) (r : Running) (w : Closing r) → is_free_close all (Some r) ≡ nat_eq (count_on w.file.number.0 all) 1
 closing_is all r w =
@@ -227,36 +225,41 @@ pub covered_left : (es fs : List Entry) → EntriesCovered (es ++ fs) → Entrie
 covered_left [] fs c = tt
 covered_left (e ∷ es) fs c = (c.0, covered_left es fs c.1)
 
-covered_right : (es fs : List Entry) → EntriesCovered (es ++ fs) → EntriesCovered fs
+pub covered_right : (es fs : List Entry) → EntriesCovered (es ++ fs) → EntriesCovered fs
 covered_right [] fs c = c
 covered_right (e ∷ es) fs c = covered_right es fs c.1
 
--- a stat of a file never is: it asks for a lock, or is told with work
-looks_uncovered : (at : At) (slot mode links : ℕ) (left : List Use) (r : Running) (w : Work) (s : Store) → EntriesCovered (looks slot (acts at slot (Stats mode links)) left r w s) → ⊥
-looks_uncovered at slot mode links [] r w s = λ c. c.0
-looks_uncovered at slot mode links (wanted ∷ left) r w s = by (serving wanted s.held) (λ r w s. looks_uncovered at slot mode links left r w s)
-  where
-    by : (o : Option HeldLock) → ((r : Running) (w : Work) (s : Store) → EntriesCovered (looks slot (acts at slot (Stats mode links)) left r w s) → ⊥)
-        → EntriesCovered (looks_on slot (λ h. takes_up slot wanted h.lock left (looks slot (acts at slot (Stats mode links)) left) r w s) wanted left r w o) → ⊥
-    by None more c = c.0
-    by (Some h) more c = more _ _ _ c.1
-
-stats_uncovered : (at : At) (slot : ℕ) (fid : Fid) (layout : Raid0) (mode links : ℕ) (names : List LockName) (r : Running) (s : Store) → EntriesCovered (stats at slot fid layout (Stats mode links) names r s) → ⊥
-stats_uncovered at slot fid layout mode links names r s c =
-    let w = work_on fid layout (Stats mode links) in
-    let q = with_pins names r in
-    let after = store_turn s (pins names) in
-    looks_uncovered at slot mode links w.left q w after (covered_right (pins names) (looks_at at slot (Stats mode links) q w after) c)
-
 -- ---- what a call does first
 
--- it asks, since it isn't known, or it is known
-abbrev pub Starting : ℕ → Running → Op → Option Answer → List Entry → Type 0
-Starting slot r o told es = ((told ≡ None) × (es ≡ Queues 0 (queued_for slot o) ∷ [])) ⊎ ((k : Known) × (told ≡ Some k.answer) × (es ≡ tells_known r.at slot r k))
+-- it asks, since it isn't known
+pub record AsksNames (slot : ℕ) (o : Op) (n : Notes) (c : Call) (es : List Entry) : Type 0 where
+  pub unknown : known_answer n c ≡ None
+  pub unknown_file : known_file n c ≡ None
+  pub is : es ≡ Queues 0 (queued_for slot o) ∷ []
 
-known_or : (at : At) (slot : ℕ) (r : Running) (o : Op) (k : Option Known) → r.at ≡ at → Starting slot r o (told_of k) (starts_known at slot r o k)
-known_or at slot r o None e = inl (refl, refl)
-known_or at slot r o (Some k) e = inr (k, refl, ap (λ (a : At). tells_known a slot r k) (sym e))
+-- or it is known, under held locks
+pub record TellsKnown (slot : ℕ) (r : Running) (n : Notes) (c : Call) (es : List Entry) : Type 0 where
+  pub known : Known
+  pub told : known_answer n c ≡ Some known.answer
+  pub usable : AllUsable n.held known.cookies
+  pub is : es ≡ tells_known r.at slot r known
+
+-- or of a file that is to be stated all but the size is
+pub record StatsKnown (at : At) (slot : ℕ) (r : Running) (k : ClientState) (c : Call) (es : List Entry) : Type 0 where
+  pub path : List (List ℕ)
+  pub stats : c ≡ call.Stat path
+  pub file : KnownFile
+  pub known : known_file (notes_of k) c ≡ Some file
+  pub usable : AllUsable k.store.held file.cookies
+  pub is : es ≡ stats_at at slot file.fid file.layout (Stats file.mode file.links) (names_of file.cookies) r k.store
+
+abbrev pub Starting : At → ℕ → Call → Running → ClientState → Op → List Entry → Type 0
+Starting at slot c r k o es = AsksNames slot o (notes_of k) c es ⊎ TellsKnown slot r (notes_of k) c es ⊎ StatsKnown at slot r k c es
+
+known_or : (at : At) (slot : ℕ) (c : Call) (r : Running) (k : ClientState) (o : Op) (x : Option Known) → r.at ≡ at → known_answer (notes_of k) c ≡ told_of x → known_file (notes_of k) c ≡ None
+    → ((y : Known) → x ≡ Some y → AllUsable k.store.held y.cookies) → Starting at slot c r k o (starts_known at slot r o x)
+known_or at slot c r k o None e told no_file usable = inl (record { unknown = told; unknown_file = no_file; is = refl })
+known_or at slot c r k o (Some x) e told no_file usable = inr (inl (record { known = x; told = told; usable = usable x refl; is = ap (λ (a : At). tells_known a slot r x) (sym e) }))
 
 same_op : (slot : ℕ) (o p : Op) → Some o ≡ Some p → Queues 0 (queued_for slot o) ∷ [] ≡ Queues 0 (queued_for slot p) ∷ []
 same_op slot o p e = let q : o ≡ p = cc in ap (λ (x : Op). Queues 0 (queued_for slot x) ∷ []) q
@@ -266,67 +269,73 @@ abbrev pub IsNoClose : Call → Type 0
 IsNoClose (call.Close h) = ⊥
 IsNoClose c = Unit {0}
 
-pub starts_so : (at : At) (slot : ℕ) (c : Call) (r : Running) (k : ClientState) (o : Op) → r.at ≡ at → operation_of r.file c ≡ Some o → IsNoClose c → EntriesCovered (starts at slot c r k)
-    → Starting slot r o (known_answer (notes_of k) c) (starts at slot c r k)
-starts_so at slot (call.Lookup path) r k o e is no_close covered =
-    subst (λ (p : Op). Starting slot r p (known_answer (notes_of k) (call.Lookup path)) (starts at slot (call.Lookup path) r k)) (let q : op.Lookup path ≡ o = cc in q)
-    (known_or at slot r (op.Lookup path) (lookup_known (found_at_path (notes_of k) path)) e)
-starts_so at slot (call.List path) r k o e is no_close covered =
-    subst (λ (p : Op). Starting slot r p (known_answer (notes_of k) (call.List path)) (starts at slot (call.List path) r k)) (let q : op.List path ≡ o = cc in q)
-    (known_or at slot r (op.List path) (list_known (notes_of k) (found_at_path (notes_of k) path)) e)
-starts_so at slot (call.Layout path) r k o e is no_close covered =
-    subst (λ (p : Op). Starting slot r p (known_answer (notes_of k) (call.Layout path)) (starts at slot (call.Layout path) r k)) (let q : op.Layout path ≡ o = cc in q)
-    (known_or at slot r (op.Layout path) (layout_known (notes_of k) (found_at_path (notes_of k) path)) e)
-starts_so at slot (call.Stat path) r k o e is no_close covered = by (directory_known n found) covered
+pub starts_so : (at : At) (slot : ℕ) (c : Call) (r : Running) (k : ClientState) (o : Op) → r.at ≡ at → operation_of r.file c ≡ Some o → IsNoClose c → Starting at slot c r k o (starts at slot c r k)
+starts_so at slot (call.Lookup path) r k o e is no_close =
+    let found = found_at_path (notes_of k) path in
+    subst (λ (p : Op). Starting at slot (call.Lookup path) r k p (starts at slot (call.Lookup path) r k)) (let q : op.Lookup path ≡ o = cc in q)
+    (known_or at slot (call.Lookup path) r k (op.Lookup path) (lookup_known found) e refl refl (λ y q. lookup_usable (notes_of k) found (found_usable (notes_of k) path) y q))
+starts_so at slot (call.List path) r k o e is no_close =
+    let found = found_at_path (notes_of k) path in
+    subst (λ (p : Op). Starting at slot (call.List path) r k p (starts at slot (call.List path) r k)) (let q : op.List path ≡ o = cc in q)
+    (known_or at slot (call.List path) r k (op.List path) (list_known (notes_of k) found) e refl refl (λ y q. list_usable (notes_of k) found (found_usable (notes_of k) path) found.inode y q))
+starts_so at slot (call.Layout path) r k o e is no_close =
+    let found = found_at_path (notes_of k) path in
+    subst (λ (p : Op). Starting at slot (call.Layout path) r k p (starts at slot (call.Layout path) r k)) (let q : op.Layout path ≡ o = cc in q)
+    (known_or at slot (call.Layout path) r k (op.Layout path) (layout_known (notes_of k) found) e refl refl (λ y q. layout_usable (notes_of k) found (found_usable (notes_of k) path) found.inode y q))
+starts_so at slot (call.Stat path) r k o e is no_close = by (directory_known n found) refl
   where
-    n : known.Notes
+    n : Notes
     n = notes_of k
 
     found : Found
     found = found_at_path n path
 
-    file : (f : Option KnownFile) → EntriesCovered (stats_file at slot path r k.store f) → stats_file at slot path r k.store f ≡ Queues 0 (queued_for slot o) ∷ []
-    file None covered = same_op slot (op.Stat path) o is
-    file (Some f) covered = absurd (stats_uncovered at slot f.fid f.layout f.mode f.links (names_of f.cookies) r k.store covered)
+    usable : AllUsable k.store.held found.cookies
+    usable = found_usable n path
 
-    by : (d : Option Known) → EntriesCovered (starts_stat at slot path r k.store n found d) → Starting slot r o (told_of d) (starts_stat at slot path r k.store n found d)
-    by None covered = inl (refl, file (file_known n found) covered)
-    by (Some d) covered = inr (d, refl, ap (λ (a : At). tells_known a slot r d) (sym e))
-starts_so at slot (call.Mkdir path) r k o e is no_close covered = inl (refl, same_op slot (op.Mkdir path) o is)
-starts_so at slot (call.Create path None) r k o e is no_close covered = inl (refl, same_op slot (op.Create path 1048576 (pos 1)) o is)
-starts_so at slot (call.Create path (Some stripes)) r k o e is no_close covered = inl (refl, same_op slot (op.Create path stripes.0 stripes.1) o is)
-starts_so at slot (call.Link old new) r k o e is no_close covered = inl (refl, same_op slot (op.Link old new) o is)
-starts_so at slot (call.Unlink path) r k o e is no_close covered = inl (refl, same_op slot (op.Unlink path) o is)
-starts_so at slot (call.Rmdir path) r k o e is no_close covered = inl (refl, same_op slot (op.Rmdir path) o is)
-starts_so at slot (call.Rename old new) r k o e is no_close covered = inl (refl, same_op slot (op.Rename old new) o is)
-starts_so at slot (call.Chmod path mode) r k o e is no_close covered = inl (refl, same_op slot (op.Chmod path mode) o is)
-starts_so at slot (call.Open h path) r k o e is no_close covered = inl (refl, same_op slot (op.Open path) o is)
-starts_so at slot (call.Close h) r k o e is no_close covered = absurd no_close
-starts_so at slot c r k o e is no_close covered = absurd (cc)
+    file : (f : Option KnownFile) → file_known n found ≡ f → directory_known n found ≡ None → Starting at slot (call.Stat path) r k o (stats_file at slot path r k.store f)
+    file None q d = inl (record { unknown = ap told_of d; unknown_file = q; is = same_op slot (op.Stat path) o is })
+    file (Some f) q d = inr (inr (record { path = path; stats = refl; file = f; known = q; usable = file_usable n found usable found.inode f q; is = refl }))
 
--- what a call is told that asked
-pub answers_so : (at : At) (slot : ℕ) (acted : At) (a : Answer) (c : Call) (r : Running) (k : ClientState) → EntriesCovered (answers at slot acted a c r k)
-    → (answers at slot acted a c r k ≡ binding c a ++ tells slot r acted (told_as c a) None) × IsToldAsIs c (told_as c a)
-answers_so at slot acted (answer.OpenFile fid number layout) (call.Open h path) r k covered = (refl, tt)
-answers_so at slot acted (answer.FileStat fid mode links layout) (call.Stat path) r k covered = absurd (stats_uncovered at slot fid layout mode links _ r k.store covered)
-answers_so at slot acted a (call.Stat path) r k covered = (refl, tt)
-answers_so at slot acted a c r k covered = (refl, tt)
+    by : (d : Option Known) → directory_known n found ≡ d → Starting at slot (call.Stat path) r k o (starts_stat at slot path r k.store n found d)
+    by None q = file (file_known n found) refl q
+    by (Some d) q = inr (inl (record { known = d; told = ap told_of q; usable = directory_usable n found usable found.inode d q; is = ap (λ (a : At). tells_known a slot r d) (sym e) }))
+starts_so at slot (call.Mkdir path) r k o e is no_close = inl (record { unknown = refl; unknown_file = refl; is = same_op slot (op.Mkdir path) o is })
+starts_so at slot (call.Create path None) r k o e is no_close = inl (record { unknown = refl; unknown_file = refl; is = same_op slot (op.Create path 1048576 (pos 1)) o is })
+starts_so at slot (call.Create path (Some stripes)) r k o e is no_close = inl (record { unknown = refl; unknown_file = refl; is = same_op slot (op.Create path stripes.0 stripes.1) o is })
+starts_so at slot (call.Link old new) r k o e is no_close = inl (record { unknown = refl; unknown_file = refl; is = same_op slot (op.Link old new) o is })
+starts_so at slot (call.Unlink path) r k o e is no_close = inl (record { unknown = refl; unknown_file = refl; is = same_op slot (op.Unlink path) o is })
+starts_so at slot (call.Rmdir path) r k o e is no_close = inl (record { unknown = refl; unknown_file = refl; is = same_op slot (op.Rmdir path) o is })
+starts_so at slot (call.Rename old new) r k o e is no_close = inl (record { unknown = refl; unknown_file = refl; is = same_op slot (op.Rename old new) o is })
+starts_so at slot (call.Chmod path mode) r k o e is no_close = inl (record { unknown = refl; unknown_file = refl; is = same_op slot (op.Chmod path mode) o is })
+starts_so at slot (call.Open h path) r k o e is no_close = inl (record { unknown = refl; unknown_file = refl; is = same_op slot (op.Open path) o is })
+starts_so at slot (call.Close h) r k o e is no_close = absurd no_close
+starts_so at slot c r k o e is no_close = absurd (cc)
 
--- the names of locks on names
-pub names_zero : (cookies : List Cookie) (n : LockName) → In n (names_of cookies) → n.target.0 ≡ 0
-names_zero [] n i = absurd i
-names_zero (k ∷ cookies) n i = ⊎_elim (λ (e : known.name_of k ≡ n). ap (λ (m : LockName). m.target.0) (sym e)) (λ (j : In n (names_of cookies)). names_zero cookies n j) (put k (names_of cookies) i)
-  where
-    put : (k : Cookie) (names : List LockName) → In n (with_name k names) → (known.name_of k ≡ n) ⊎ In n names
-    put k [] i = i
-    put k (m ∷ names) i = by (nat_lt m.cookie.0 k.0) (nat_eq m.cookie.0 k.0) i (put k names)
-      where
-        by : (below same : Bool) → In n (if below then m ∷ with_name k names else (if same then m ∷ names else known.name_of k ∷ m ∷ names)) → (In n (with_name k names) → (known.name_of k ≡ n) ⊎ In n names)
-            → (known.name_of k ≡ n) ⊎ In n (m ∷ names)
-        by true same (inl e) more = inr (inl e)
-        by true same (inr j) more = ⊎_elim (λ (e : known.name_of k ≡ n). inl e) (λ (i : In n names). inr (inr i)) (more j)
-        by false true j more = inr j
-        by false false j more = j
+-- ---- what a call does that asked
+
+-- it is told so
+pub record ToldSo (slot : ℕ) (acted : At) (a : Answer) (c : Call) (r : Running) (es : List Entry) : Type 0 where
+  pub is : es ≡ binding c a ++ tells slot r acted (told_as c a) None
+  pub as_is : IsToldAsIs c (told_as c a)
+
+-- but a stat of a file goes on
+pub record StatsTold (at : At) (slot : ℕ) (a : Answer) (c : Call) (r : Running) (k : ClientState) (es : List Entry) : Type 0 where
+  pub path : List (List ℕ)
+  pub stats : c ≡ call.Stat path
+  pub fid : Fid
+  pub mode : ℕ
+  pub links : ℕ
+  pub layout : Raid0
+  pub tells : a ≡ answer.FileStat fid mode links layout
+  pub is : es ≡ stats_at at slot fid layout (Stats mode links) (names_of (cookies_of_file (notes_of k) path fid)) r k.store
+
+pub answers_so : (at : At) (slot : ℕ) (acted : At) (a : Answer) (c : Call) (r : Running) (k : ClientState) → ToldSo slot acted a c r (answers at slot acted a c r k) ⊎ StatsTold at slot a c r k (answers at slot acted a c r k)
+answers_so at slot acted (answer.OpenFile fid number layout) (call.Open h path) r k = inl (record { is = refl; as_is = tt })
+answers_so at slot acted (answer.FileStat fid mode links layout) (call.Stat path) r k =
+    inr (record { path = path; stats = refl; fid = fid; mode = mode; links = links; layout = layout; tells = refl; is = refl })
+answers_so at slot acted a (call.Stat path) r k = inl (record { is = refl; as_is = tt })
+answers_so at slot acted a c r k = inl (record { is = refl; as_is = tt })
 
 -- a request that is queued or answered leaves its call on its open
 pub asked_on : (n slot : ℕ) (o : Option ℕ) (a : Asking) (x : Option Running) → is_on n (asks_for o slot a x) ≡ is_on n x

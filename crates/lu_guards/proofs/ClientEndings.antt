@@ -12,7 +12,7 @@ use Rattle.lu_msg.specs.declared.answers.Errno.TheVariants.{EIO}
 use Rattle.lu_msg.specs.declared.messages.Message.TheVariants as message
 use Rattle.lu_held.specs.declared.locks.HeldLock.{HeldLock}
 use Rattle.lu_held.specs.declared.names.LockName.{LockName}
-use Rattle.lu_held.specs.Locks.{named, name_of, is_named}
+use Rattle.lu_held.specs.Locks.{name_of, is_named}
 use Rattle.lu_held.specs.Held.{without, in_order}
 use Rattle.lu_words.specs.Carried.{Running}
 use Rattle.lu_words.specs.Words.{Entry, Take, Drop, Told, Life, Line, line, with_turn, same_life}
@@ -33,11 +33,11 @@ use Rattle.lu_guards.proofs.StoryGuards as story_guards
 use Rattle.lu_guards.proofs.Lists.{self, life_is, turn, turn_more}
 use Rattle.lu_guards.proofs.Parts.{life_is_of}
 use Rattle.lu_guards.proofs.Turns.{Settled, owes_nothing}
-use Rattle.lu_guards.proofs.Held.{held_is, held_zero, none_held}
+use Rattle.lu_guards.proofs.Held.{held_into, held_target, none_there}
 use Rattle.lu_guards.proofs.ClientLocks.{Once, own_name, without_only, without_other, in_ordered, ordered_in, once_ordered}
 use Rattle.lu_guards.proofs.ClientHandles.{new_tied}
 use Rattle.lu_guards.proofs.ClientLines.{SmallOn, small_on, held_once}
-use Rattle.lu_guards.proofs.ClientRests.{Good, Idle, Rested, the_head, adds, at_zero, call_line, held_line}
+use Rattle.lu_guards.proofs.ClientRests.{Good, Idle, Rested, the_head, adds, at_one, call_line, held_line}
 use Rattle.lu_guards.proofs.ClientStarts.{Starts, After, took_rested}
 use Rattle.lu_guards.proofs.ClientResends.{Still, joins_good}
 
@@ -158,30 +158,26 @@ module _ (head : table.Head) (c : ℕ) (stamp : Stamp) where
   drops_good : (who : Who) (start : List Line) (hs : List HeldLock) (p : List Line) → Once hs → Leaving who start p → ((slot : ℕ) → call_at c slot p ≡ None) → ((x : HeldLock) → In x hs → In x (held_at c p)) → ((x : HeldLock) → In x (held_at c p) → In x hs)
       → Bare who start (with_turn at (drops_all hs) p)
   drops_good who start [] p once l none i back = record { leaving = l; none = none; empty = nothing_in (held_at c p) back }
-  drops_good who start (h ∷ hs) p once l none i back =
-      subst (λ (t : ℕ). Bare who start (with_turn at (drops_all hs) (line at (Drop t h.lock) ∷ p))) (sym z) (drops_good who start hs p1 once.1 dropped none there only_there)
+  drops_good who start (h ∷ hs) p once l none i back = drops_good who start hs p1 once.1 dropped none there only_there
     where
-      z : h.target.0 ≡ 0
-      z = held_zero (the_head head c stamp) c p l.good.grown h (i h (inl refl))
+      t : ℕ
+      t = h.target.0
 
       name : LockName
-      name = named (record { 0 = 0 }) h.lock.cookie
+      name = name_of h
 
       p1 : List Line
-      p1 = line at (Drop 0 h.lock) ∷ p
+      p1 = line at (Drop t h.lock) ∷ p
 
       left : held_at c p1 ≡ without name (held_at c p)
-      left = held_line head c stamp p (Drop 0 h.lock)
+      left = held_line head c stamp p (Drop t h.lock)
 
       dropped : Leaving who start p1
       dropped =
           record {
             good =
-                adds head c stamp p (Drop 0 h.lock) l.good (owes_nothing p at (Drop 0 h.lock) l.settled) (refl, inr (subst (λ (w : Who). Noticed p at w) (sym l.life) l.notice))
-                (at_zero head c stamp (λ (t : ℕ). (0 ≡ 0) × story_guards.DropOk (only t p) c h.lock) (
-                  refl,
-                  record { holding = h; held = subst (λ (gs : List HeldLock). In h gs) (held_is (the_head head c stamp) c p l.good.grown) (i h (inl refl)); is = refl },
-                )) tt refl;
+                adds head c stamp p (Drop t h.lock) l.good (owes_nothing p at (Drop t h.lock) l.settled) (inr (subst (λ (w : Who). Noticed p at w) (sym l.life) l.notice))
+                (at_one head c stamp t (λ (u : ℕ). story_guards.DropOk (only u p) c t h.lock) (record { holding = h; held = held_into c t p h refl (i h (inl refl)); of_target = refl; is = refl; there = held_target c t p })) tt refl;
             settled = tt;
             life = l.life;
             known = l.known;
@@ -189,7 +185,7 @@ module _ (head : table.Head) (c : ℕ) (stamp : Stamp) where
           }
 
       there : (x : HeldLock) → In x hs → In x (held_at c p1)
-      there x j = subst (λ (gs : List HeldLock). In x gs) (sym left) (without_other name x (held_at c p) (i x (inr j)) (ap (λ (n : ℕ). is_named (named (record { 0 = n }) h.lock.cookie) x) (sym z) ∙ once.0 x j))
+      there x j = subst (λ (gs : List HeldLock). In x gs) (sym left) (without_other name x (held_at c p) (i x (inr j)) (once.0 x j))
 
       only_there : (x : HeldLock) → In x (held_at c p1) → In x hs
       only_there x j = ⊎_elim (λ (e : h ≡ x). absurd (gone e)) (λ (k : In x hs). k) (back x was.0)
@@ -199,8 +195,7 @@ module _ (head : table.Head) (c : ℕ) (stamp : Stamp) where
 
           gone : h ≡ x → ⊥
           gone e =
-              let own : is_named name h ≡ true = ap (λ (n : ℕ). is_named (named (record { 0 = n }) h.lock.cookie) h) (sym z) ∙ own_name (name_of h) in
-              let q : true ≡ false = sym own ∙ ap (is_named name) e ∙ was.1 in
+              let q : true ≡ false = sym (own_name name) ∙ ap (is_named name) e ∙ was.1 in
               cc
 
   -- then a new life begins, and asks each target to serve it
@@ -213,15 +208,11 @@ module _ (head : table.Head) (c : ℕ) (stamp : Stamp) where
       p1 : List Line
       p1 = line at e ∷ p
 
-      empty_only : (t : ℕ) → held_at c (only t p) ≡ []
-      empty_only zero = sym (held_is (the_head head c stamp) c p b.leaving.good.grown) ∙ b.empty
-      empty_only (suc t) = none_held (the_head head c stamp) c t p b.leaving.good.grown
-
       good : Good head c at p1
       good =
           adds head c stamp p e b.leaving.good (owes_nothing p at e b.leaving.settled)
           (record { notice = subst (λ (w : Who). Noticed p at w) (sym b.leaving.life) b.leaving.notice; next = ap next_life (sym b.leaving.life); idle = b.none })
-          (λ t q. record { next = ap next_life (sym b.leaving.life ∙ life_is_of c t p); empty = empty_only t }) tt refl
+          (λ t q. record { next = ap next_life (sym b.leaving.life ∙ life_is_of c t p); empty = none_there c t p b.empty }) tt refl
 
       still : Still head c stamp (next_life who) p1 p1
       still =
@@ -231,8 +222,6 @@ module _ (head : table.Head) (c : ℕ) (stamp : Stamp) where
               settled = tt;
               idle = λ slot. subst (Idle (calls_at c p1)) (sym (b.none slot)) tt;
               handles = new_tied c stamp p (next_life who);
-              free = λ x i. absurd
-                  (subst (λ (hs : List HeldLock). In x hs) b.empty i);
             };
             life = ap (λ (own : Bool). if own then next_life who else life_at c p) (self c);
             known = λ t. refl;

@@ -79,6 +79,15 @@ none_called : (h : ℕ) (x : Call) (old : Option HandleFile) → called_file h x
 none_called h (call.Open other path) old = same_both (nat_eq other h) old
 none_called h x old = refl
 
+-- one that is no open
+abbrev pub IsNoOpen : Call → Type 0
+IsNoOpen (call.Open h path) = ⊥
+IsNoOpen x = Unit {0}
+
+opens_nothing : (h : ℕ) (x : Call) (file old : Option HandleFile) → IsNoOpen x → called_file h x file old ≡ old
+opens_nothing h (call.Open g path) file old n = absurd n
+opens_nothing h x file old n = refl
+
 -- a call begins that closes nothing, or nothing that is bound
 pub closes_nothing : (h : ℕ) (x : Call) (old : Option HandleFile) → unbinding x ≡ [] → begun_file h x old ≡ old
 closes_nothing h (call.Close g) old e = absurd (cc)
@@ -89,7 +98,8 @@ none_there None e = refl
 none_there (Some f) e = absurd (cc)
 
 pub closes_unbound : (c : ℕ) (p : List Line) (x : Call) → is_bad c p x ≡ true → (h : ℕ) → begun_file h x (file_at c h p) ≡ file_at c h p
-closes_unbound c p (call.Close g) bad h = cond_both (nat_eq g h) None (file_at c h p) (λ (f : Option HandleFile). f ≡ file_at c h p) (λ t. sym (ap (λ (u : ℕ). file_at c u p) (sym (eqb-true g h t)) ∙ none_there (file_at c g p) bad)) (λ t. refl)
+closes_unbound c p (call.Close g) bad h =
+    cond_both (nat_eq g h) None (file_at c h p) (λ (f : Option HandleFile). f ≡ file_at c h p) (λ t. sym (ap (λ (u : ℕ). file_at c u p) (sym (eqb-true g h t)) ∙ none_there (file_at c g p) bad)) (λ t. refl)
 closes_unbound c p x bad h = refl
 
 -- ---- lines of the client
@@ -131,14 +141,14 @@ module _ (c : ℕ) (stamp : Stamp) where
       ∙ ap (λ (f : Option HandleFile). called_file h r.call f (file_at c h p)) none
       ∙ none_called h r.call (file_at c h p))
 
-  -- or one that is a glimpse
-  pub glimpse_tied : (p : List Line) (slot : ℕ) (t : At) (a : Answer) (w : Option Work) (r : Running) (g : ℕ) → call_at c slot p ≡ Some r → r.call ≡ call.Glimpse g → Tied c p → Tied c (line here (Told slot t a w) ∷ p)
-  glimpse_tied p slot t a w r g is glimpses tied h =
+  -- or one that is no open
+  pub other_tied : (p : List Line) (slot : ℕ) (t : At) (a : Answer) (w : Option Work) (r : Running) → call_at c slot p ≡ Some r → IsNoOpen r.call → Tied c p → Tied c (line here (Told slot t a w) ∷ p)
+  other_tied p slot t a w r is other tied h =
       tied h
       ∙ sym (told_line p slot t a w h
       ∙ ap (λ (x : Option Running). told_file h x (file_at c h p)) is
       ∙ told_called h r (file_at c h p)
-      ∙ ap (λ (x : Call). called_file h x (opened r.asking) (file_at c h p)) glimpses)
+      ∙ opens_nothing h r.call (opened r.asking) (file_at c h p) other)
 
   -- or one that was answered so
   pub heard_tied : (p : List Line) (slot : ℕ) (t : At) (given : Answer) (w : Option Work) (r : Running) (x : Call) (a : Answer) → call_at c slot p ≡ Some r → r.call ≡ x → opened r.asking ≡ opened_by a → Tied c p

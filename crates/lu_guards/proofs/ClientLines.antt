@@ -1,7 +1,7 @@
--- What holds of a client after every line of a covered run: it has changed no object; what it asks of the metadata target is on names,
--- and of another target how long an object is; the replies of such a one bring no lock, and none but the metadata target calls locks
--- back; and no two held locks have one name.
-use Rattle.std.proofs.Common.{◌≡◌, ℕ, ◌+◌, ◌<◌, Bool, true, false, List, [], ◌∷◌, ◌++◌, ◌⊎◌, inl, inr, ⊎_elim, Option, Some, None, refl, sym, subst, ap, ◌∙◌, arith, pos}
+-- What holds of a client after every line of a covered run: it has changed no object; what it asks of the metadata target is on names, and
+-- of another target how long an object is, or a lock to read under; none but the metadata target calls locks back; what it holds is of a
+-- target that there is, and no two held locks have one name.
+use Rattle.std.proofs.Common.{◌≡◌, ℕ, ◌+◌, ◌<◌, ◌≤◌, Bool, true, false, List, [], ◌∷◌, ◌++◌, ◌⊎◌, inl, inr, ⊎_elim, Option, Some, None, refl, sym, subst, ap, ◌∙◌, arith, pos}
 use Rattle.std.specs.Prelude.{nat_eq, ◌&&◌, if◌then◌else◌}
 use Rattle.std.proofs.lemmas.Bool.{eqb-true, and_parts}
 use Rattle.std.proofs.lemmas.Bool.Decides.{nat_tests}
@@ -10,6 +10,7 @@ use Rattle.lu_base.specs.declared.ids.Node.{Node}
 use Rattle.lu_base.specs.declared.ids.Node.TheVariants.{Client, Target}
 use Rattle.lu_base.specs.declared.ids.Who.{Who}
 use Rattle.lu_base.specs.declared.locks.Lock.{Lock}
+use Rattle.lu_base.specs.declared.locks.Mode.TheVariants.{PR}
 use Rattle.lu_part.specs.declared.parts.Want.{Want}
 use Rattle.lu_msg.specs.declared.answers.Answer.{Answer}
 use Rattle.lu_msg.specs.declared.answers.Answer.TheVariants as answer
@@ -20,15 +21,19 @@ use Rattle.lu_msg.specs.declared.messages.Message.TheVariants as message
 use Rattle.lu_msg.specs.declared.messages.Reply.{Reply as ReplyTo}
 use Rattle.lu_msg.specs.declared.operations.Op.{Op}
 use Rattle.lu_msg.specs.declared.operations.Op.TheVariants as op
+use Rattle.lu_held.specs.declared.locks.Change.{Change}
 use Rattle.lu_held.specs.declared.locks.Change.TheVariants as change
 use Rattle.lu_held.specs.declared.locks.HeldLock.{HeldLock}
-use Rattle.lu_held.specs.Locks.{after}
+use Rattle.lu_held.specs.declared.names.LockName.{LockName}
+use Rattle.lu_held.specs.Names.{same_name}
+use Rattle.lu_held.specs.Locks.{name_of, is_named, after}
 use Rattle.lu_held.specs.Held.{changed}
 use Rattle.lu_machine.specs.Fits.{answer_fits}
 use Rattle.lu_words.specs.Carried.{Deed, HandleFile, Outcome, Slot, Queued, Flight, Asking, Asked, Answered, Running}
-use Rattle.lu_words.specs.Words.{Entry, Send, Begin, Heard, Hold, Drop, Told, Life, Queues, Flies, Stands, Pins, Unpins, Marks, Unmarks, Changes, WritesBack, Acks, Act, Txn, Close, Enters, Line, line, is_client}
+use Rattle.lu_words.specs.Words.{Entry, Send, Begin, Heard, Hold, Drop, Told, Life, Queues, Flies, Stands, Pins, Unpins, Marks, Unmarks, Changes, WritesBack, Acks, Act, Txn, Grant, Close, Enters, Take, Line, line, with_turn, is_client}
 use Rattle.lu_words.specs.Concerns.{is_about, concerns, only}
 use Rattle.lu_words.specs.Fields.{on, at_client, at_import}
+use Rattle.lu_words.specs.Sent.{Sent}
 use Rattle.lu_target_rows.specs.Lives.{slot_in}
 use Rattle.lu_target_rows.specs.Names.{locks_from}
 use Rattle.lu_client_rows.specs.Caches.{held_as, brought, granted_lock, reads_held, held_after, held_at, reads_patches, patches_after, patches_at}
@@ -41,15 +46,15 @@ use Rattle.lu_covered.specs.Imports.{rest, without_flight, reads_queue, queue_af
 use Rattle.lu_covered.specs.TargetCloses.{outcome_of}
 use Rattle.lu_covered.specs.TargetParts.{is_slot_of, entered, answered}
 use Rattle.lu_covered.specs.TargetStates.{slot_of}
-use Rattle.lu_guards.proofs.Guards.{In, Was, NamesAskOk, SizeAskOk, QueuesOk, EntryOk}
-use Rattle.lu_guards.proofs.StoryGuards.{ActsOk, ReplyOk, EntryOf, SendOf}
+use Rattle.lu_guards.proofs.Guards.{In, Was, TookNow, NamesAskOk, SizeAskOk, LockAskOk, QueuesOk, EntryOk}
+use Rattle.lu_guards.proofs.StoryGuards.{ActsOk, GrantsOk, EntryOf, SendOf}
 use Rattle.lu_guards.proofs.Grown.{Grown, GrownOf}
 use Rattle.lu_guards.proofs.Lists.{self, in_append, in_filter}
 use Rattle.lu_guards.proofs.Parts.{queue_now}
-use Rattle.lu_guards.proofs.Held.{is_own, client_keeps}
-use Rattle.lu_guards.proofs.ClientDisks.{IsBare, bare_in, bare_outcome}
-use Rattle.lu_guards.proofs.Only.{grown_of}
-use Rattle.lu_guards.proofs.ClientLocks.{Once, Differ, once_filter, once_changed, once_used, once_unmarked, once_with, once_brought}
+use Rattle.lu_guards.proofs.Held.{is_own, client_keeps, held_back}
+use Rattle.lu_guards.proofs.ClientDisks.{bare_in, bare_outcome}
+use Rattle.lu_guards.proofs.Only.{sent_was}
+use Rattle.lu_guards.proofs.ClientLocks.{names_same, own_name, with_only, brought_only, changed_only, used_only, without_only, unmarked_only, Once, Differ, once_filter, once_changed, once_used, once_unmarked, once_with, once_brought}
 
 -- ---- operations on names
 
@@ -66,6 +71,11 @@ abbrev pub IsSize : Op → Type 0
 IsSize (op.Size resource) = Unit {0}
 IsSize _ = ⊥
 
+-- a lock to read under
+abbrev pub IsLock : Op → Type 0
+IsLock (op.Enqueue resource PR extent) = Unit {0}
+IsLock _ = ⊥
+
 -- an operation of which nothing comes but its answer, and the locks of that
 abbrev pub IsSimple : Op → Type 0
 IsSimple (op.Enqueue resource mode extent) = ⊥
@@ -76,7 +86,7 @@ IsSimple _ = Unit {0}
 
 -- what may be asked of a target
 abbrev pub IsAskedOf : ℕ → Op → Type 0
-IsAskedOf t o = ((t ≡ 0) × IsNames o) ⊎ ((0 < t) × IsSize o)
+IsAskedOf t o = ((t ≡ 0) × IsNames o) ⊎ ((0 < t) × (IsSize o ⊎ IsLock o))
 
 names_simple : (o : Op) → IsNames o → IsSimple o
 names_simple (op.Enqueue resource mode extent) n = n
@@ -93,9 +103,9 @@ size_simple (op.Put resource cookie offset bytes) n = n
 size_simple (op.Cut resource cookie size) n = n
 size_simple o n = tt
 
-pub asked_simple : (t : ℕ) (o : Op) → IsAskedOf t o → IsSimple o
-asked_simple t o (inl a) = names_simple o a.1
-asked_simple t o (inr a) = size_simple o a.1
+pub asked_simple : (t : ℕ) (o : Op) → IsAskedOf t o → IsSimple o ⊎ ((0 < t) × IsLock o)
+asked_simple t o (inl a) = inl (names_simple o a.1)
+asked_simple t o (inr a) = ⊎_elim (λ (s : IsSize o). inl (size_simple o s)) (λ (l : IsLock o). inr (a.0, l)) a.1
 
 pub asked_names : (o : Op) → IsAskedOf 0 o → IsNames o
 asked_names o (inl a) = a.1
@@ -205,9 +215,10 @@ of_target P t u e p = subst P (sym (eqb-true t u e)) p
 queues_asked : (past : List Line) (c u : ℕ) (q : Queued) → QueuesOk past c u q → IsAskedOf u q.op
 queues_asked past c u q ok = by ok.asks
   where
-    by : NamesAskOk past c u ok.running q.op ⊎ SizeAskOk u ok.running q.op → IsAskedOf u q.op
+    by : NamesAskOk past c u ok.running q.op ⊎ SizeAskOk u ok.running q.op ⊎ LockAskOk u ok.running q.op → IsAskedOf u q.op
     by (inl a) = inl (a.names, becomes_names ok.running.file ok.running.call q.op a.becomes)
-    by (inr a) = inr (a.object, subst IsSize (sym a.of_op) tt)
+    by (inr (inl a)) = inr (a.object, inl (subst IsSize (sym a.of_op) tt))
+    by (inr (inr a)) = inr (a.object, inr (subst IsLock (sym a.of_op) tt))
 
 pub queue_asked : (head : Head) (c t : ℕ) (past : List Line) → Grown head past → (q : Queued) → In q (queue_at c t past) → IsAskedOf t q.op
 queue_asked head c t past g =
@@ -281,6 +292,98 @@ held_once head c past g = client_keeps Once reads_held held_after [] head c tt s
     step p at (Unmarks t) x ok k = once_unmarked t x k
     step p at e x ok k = k
 
+-- one that has the name of another one is that one
+pub once_same : (hs : List HeldLock) (h x : HeldLock) → Once hs → In h hs → In x hs → is_named (name_of h) x ≡ true → h ≡ x
+once_same [] h x o i j n = absurd i
+once_same (y ∷ hs) h x o (inl e) (inl q) n = sym e ∙ q
+once_same (y ∷ hs) h x o (inl e) (inr j) n = let t : true ≡ false = sym n ∙ ap (λ (g : HeldLock). is_named (name_of g) x) (sym e) ∙ o.0 x j in absurd (cc)
+once_same (y ∷ hs) h x o (inr i) (inl q) n =
+    let same : name_of h ≡ name_of y = names_same (name_of h) (name_of y) (ap (is_named (name_of h)) q ∙ n) in
+    let own : is_named (name_of y) h ≡ true = ap (λ (m : LockName). same_name m (name_of h)) (sym same) ∙ own_name (name_of h) in
+    let t : true ≡ false = sym own ∙ o.0 h i in
+    absurd (cc)
+once_same (y ∷ hs) h x o (inr i) (inr j) n = once_same hs h x o.1 i j n
+
+-- ---- targets that there are
+
+abbrev pub IsThere : ℕ → Node → Type 0
+IsThere osts (Client c) = Unit {0}
+IsThere osts (Target t) = t ≤ osts
+
+-- no line is of a target that isn't there
+abbrev pub AllThere : ℕ → List Line → Type 0
+AllThere osts [] = Unit {0}
+AllThere osts (l ∷ past) = IsThere osts l.at.node × AllThere osts past
+
+pub there_turn : (osts : ℕ) (at : At) (es : List Entry) (past : List Line) → IsThere osts at.node → AllThere osts past → AllThere osts (with_turn at es past)
+there_turn osts at [] past h a = a
+there_turn osts at (e ∷ es) past h a = there_turn osts at es (line at e ∷ past) h (h, a)
+
+pub was_there : (osts t : ℕ) (to : Node) (m : Message) (past : List Line) → AllThere osts past → Was past (Target t) to m → t ≤ osts
+was_there osts t to m [] a w = absurd w
+was_there osts t to m (l ∷ past) a w = by l.entry w (λ v. was_there osts t to m past a.1 v)
+  where
+    by : (e : Entry) → Was (line l.at e ∷ past) (Target t) to m → (Was past (Target t) to m → t ≤ osts) → t ≤ osts
+    by (Send node x) (inl r) more = subst (IsThere osts) r.0 a.0
+    by (Send node x) (inr r) more = more r
+    by e w more = more w
+
+-- so what is taken comes from one that is there
+took_there : (osts : ℕ) (head : Head) (past : List Line) (at : At) (t : ℕ) (m : Message) → Grown head past → AllThere osts past → TookNow past at (Target t) m → t ≤ osts
+took_there osts head [] at t m g a k = absurd k
+took_there osts head (l ∷ past) at t m g a k = by l.entry g.0.ok k
+  where
+    by : (e : Entry) → EntryOk past l.at l.at.node e → TookNow (line l.at e ∷ past) at (Target t) m → t ≤ osts
+    by (Take n from x) ok k = was_there osts t l.at.node x past a.1 (sent_was past n (Target t) l.at.node x (subst (λ (f : Node). Sent past n f l.at.node x) k.1 ok.sent))
+    by e ok k = absurd k
+
+-- and what is held
+pub held_limited : (osts : ℕ) (head : Head) (c : ℕ) (past : List Line) → Grown head past → AllThere osts past → (h : HeldLock) → In h (held_at c past) → h.target.0 ≤ osts
+held_limited osts head c [] g a h i = absurd i
+held_limited osts head c (l ∷ past) g a h i = by (reads_held l.entry) (is_client c l.at.node) refl (held_limited osts head c past g.1 a.1) i
+  where
+    X : List HeldLock
+    X = held_at c past
+
+    Low : List HeldLock → Type 0
+    Low hs = (x : HeldLock) → In x hs → x.target.0 ≤ osts
+
+    changes : (n : LockName) (ch : Change) → Low X → Low (changed n ch X)
+    changes n ch k x i = let r = changed_only n ch x X i in subst (λ (y : HeldLock). y.target.0 ≤ osts) r.2 (same ch r.0 (is_named n r.0) (k r.0 r.1))
+      where
+        same : (ch : Change) (y : HeldLock) (b : Bool) → y.target.0 ≤ osts → (if b then after ch y else y).target.0 ≤ osts
+        same change.Mark y true low = low
+        same change.Unmark y true low = low
+        same change.Pin y true low = low
+        same change.Unpin y true low = low
+        same ch y false low = low
+
+    step : (e : Entry) → EntryOk past l.at (Client c) e → ((t : ℕ) → is_about t e ≡ true → EntryOf head (only t past) l.at (Client c) e) → Low X → Low (held_after X e)
+    step (Heard t f r) ok of k x i =
+        ⊎_elim (λ (s : (m : Lock) × (held_as t m false ≡ x)). subst (λ (y : HeldLock). y.target.0 ≤ osts) s.1 (took_there osts head past l.at t (message.Reply r) g.1 a.1 ok.1)) (λ (j : In x X). k x j)
+        (brought_only t x (brought f.op r) X i)
+    step (Hold t m marked size seen) ok of k x i =
+        ⊎_elim
+        (λ (s : held_as t m marked ≡ x). subst (λ (y : HeldLock). y.target.0 ≤ osts) s (k (held_as t m false) (held_back c t past (held_as t m false) (of t (self t)).1.held).0))
+        (λ (j : In x X). k x j) (with_only (held_as t m marked) x X i)
+    step (Drop t m) ok of k x i = k x (without_only _ x X i).0
+    step (Pins n) ok of k x i = changes n change.Pin k x i
+    step (Unpins n) ok of k x i = changes n change.Unpin k x (used_only n x (changed n change.Unpin X) i)
+    step (Marks n) ok of k x i = changes n change.Mark k x i
+    step (Unmarks t) ok of k x i = let r = unmarked_only t x X i in subst (λ (y : HeldLock). y.target.0 ≤ osts) r.2 (same r.0 (nat_eq r.0.target.0 t) (k r.0 r.1))
+      where
+        same : (y : HeldLock) (b : Bool) → y.target.0 ≤ osts → (if b then after change.Unmark y else y).target.0 ≤ osts
+        same y true low = low
+        same y false low = low
+    step e ok of k x i = k x i
+
+    by : (r b : Bool) → is_client c l.at.node ≡ b → Low X → In h (on r b (held_after X l.entry) X) → h.target.0 ≤ osts
+    by false b e k i = k h i
+    by true false e k i = k h i
+    by true true e k i =
+        let node = is_own c l.at.node e in
+        step l.entry (subst (λ (n : Node). EntryOk past l.at n l.entry) node g.0.ok) (λ t q. subst (λ (n : Node). EntryOf head (only t past) l.at n l.entry) node (g.0.of t (subst (λ (n : Node). concerns t n l.entry ≡ true) (sym node) q))) k h i
+
 -- ---- what comes to it
 
 -- calls for locks come from the metadata target
@@ -326,13 +429,16 @@ from_differ n who (w ∷ wants) = (λ m i. apart (n + 1) m.cookie.0 (from_high (
 
 kept_differ : (head : Head) (who : Who) (tag : ℕ) (past : List Line) → GrownOf head past → (k : ReplyTo) → (slot_of who tag past).reply ≡ Some k → Differ k.locks
 kept_differ head who tag [] g = λ k e. absurd (cc)
-kept_differ head who tag (l ∷ past) g = by l.at.node l.entry g.0 (kept_differ head who tag past g.3)
+kept_differ head who tag (l ∷ past) g = by (λ w u k e. kept_differ head w u past g.3 k e) l.at.node l.entry g.0 (kept_differ head who tag past g.3)
   where
     S : Slot
     S = slot_of who tag past
 
     Fine : Slot → Type 0
     Fine s = (k : ReplyTo) → s.reply ≡ Some k → Differ k.locks
+
+    Others : Type 0
+    Others = (w : Who) (u : ℕ) (k : ReplyTo) → (slot_of w u past).reply ≡ Some k → Differ k.locks
 
     chosen : (b : Bool) (s : Slot) → Fine s → Fine S → Fine (if b then s else S)
     chosen true s p q = p
@@ -342,17 +448,24 @@ kept_differ head who tag (l ∷ past) g = by l.at.node l.entry g.0 (kept_differ 
     acted t d (inl a) = subst (λ (x : Deed). Differ x.reply.locks) (sym a.1.is) (from_differ _ _ _)
     acted t d (inr a) = subst (λ (x : Deed). Differ x.reply.locks) (sym a.1.is) tt
 
-    by : (n : Node) (e : Entry) → EntryOf head past l.at n e → Fine S → Fine (slot_of who tag (line (record { stamp = l.at.stamp; node = n }) e ∷ past))
-    by (Target t) (Enters r) ok f = chosen (is_slot_of who tag r.who r.tag) (entered r) (λ k e. absurd (cc)) f
-    by (Target t) (Act d) ok f =
+    -- of what was done just before, whose reply is in its slot; or of an object
+    granted : Others → (t : ℕ) (lock : Lock) (d : Deed) → GrantsOk head.osts past l.at t lock d → Differ d.reply.locks
+    granted other t lock d (inl k) = other d.reply.who d.tag d.reply k.1.slot
+    granted other t lock d (inr k) = subst (λ (x : Deed). Differ x.reply.locks) (sym k.1.is) tt
+
+    by : Others → (n : Node) (e : Entry) → EntryOf head past l.at n e → Fine S → Fine (slot_of who tag (line (record { stamp = l.at.stamp; node = n }) e ∷ past))
+    by other (Target t) (Enters r) ok f = chosen (is_slot_of who tag r.who r.tag) (entered r) (λ k e. absurd (cc)) f
+    by other (Target t) (Act d) ok f =
         chosen (is_slot_of who tag d.reply.who d.tag) (answered d S)
         (λ k e. subst (λ (r : ReplyTo). Differ r.locks) (some_is d.reply k e) (acted t d ok)) f
-    by (Target t) (Txn d) ok f =
+    by other (Target t) (Txn d) ok f =
         chosen (is_slot_of who tag d.reply.who d.tag) (answered d S)
         (λ k e. subst (λ (r : ReplyTo). Differ r.locks) (some_is d.reply k e) (subst (λ x. Differ x.reply.locks) (sym ok.is) tt)) f
-    by (Target t) (Close o) ok f = λ k e. subst Differ (sym (bare_in (outcome_of head.osts head.clients l.at past).disk.slots who tag k (bare_outcome head l.at past g.3) (ap (λ (x : Outcome). (slot_in x.disk.slots who tag).reply) (sym ok.is) ∙ e))) tt
-    by (Client c) e ok f = f
-    by (Target t) e ok f = f
+    by other (Target t) (Grant lock (Some d)) ok f =
+        chosen (is_slot_of who tag d.reply.who d.tag) (answered d S) (λ k e. subst (λ (r : ReplyTo). Differ r.locks) (some_is d.reply k e) (granted other t lock d ok)) f
+    by other (Target t) (Close o) ok f = λ k e. subst Differ (sym (bare_in (outcome_of head.osts head.clients l.at past).disk.slots who tag k (bare_outcome head l.at past g.3) (ap (λ (x : Outcome). (slot_in x.disk.slots who tag).reply) (sym ok.is) ∙ e))) tt
+    by other (Client c) e ok f = f
+    by other (Target t) e ok f = f
 
 pub reply_differs : (head : Head) (past : List Line) (from : Node) (c : ℕ) (r : ReplyTo) → GrownOf head past → Was past from (Client c) (message.Reply r) → Differ r.locks
 reply_differs head [] from c r g w = absurd w
@@ -366,62 +479,3 @@ reply_differs head (l ∷ past) from c r g w = by l.entry w g.0 (λ v. reply_dif
     by (Send to x) (inl q) ok more = sends l.at.node (subst (λ (y : Message). SendOf head past l.at.node (Client c) y) q.2 (subst (λ (n : Node). SendOf head past l.at.node n x) q.1 ok))
     by (Send to x) (inr q) ok more = more q
     by e q ok more = more q
-
--- a target but the metadata target grants no lock with its replies
-kept_bare : (head : Head) (t : ℕ) (who : Who) (tag : ℕ) (past : List Line) → 0 < t → Grown head past → (k : ReplyTo) → (slot_of who tag (only t past)).reply ≡ Some k → IsBare k
-kept_bare head t who tag [] low g = λ k e. absurd (cc)
-kept_bare head t who tag (l ∷ past) low g = about (concerns t l.at.node l.entry) refl (kept_bare head t who tag past low g.1)
-  where
-    story : List Line
-    story = only t past
-
-    S : Slot
-    S = slot_of who tag story
-
-    Bare : Slot → Type 0
-    Bare s = (k : ReplyTo) → s.reply ≡ Some k → IsBare k
-
-    chosen : (b : Bool) (s : Slot) → Bare s → Bare S → Bare (if b then s else S)
-    chosen true s p q = p
-    chosen false s p q = q
-
-    acted : (u : ℕ) (d : Deed) → 0 < u → ActsOk head.osts story l.at u d → IsBare d.reply
-    acted u d high (inl a) = absurd (let z = a.0 in omega (arith, z, high))
-    acted u d high (inr a) = subst (λ (x : Deed). IsBare x.reply) (sym a.1.is) refl
-
-    by : (n : Node) (e : Entry) → ((u : ℕ) → n ≡ Target u → 0 < u) → EntryOf head story l.at n e → Bare S → Bare (slot_of who tag (line (record { stamp = l.at.stamp; node = n }) e ∷ story))
-    by (Target u) (Enters r) high ok f = chosen (is_slot_of who tag r.who r.tag) (entered r) (λ k e. absurd (cc)) f
-    by (Target u) (Act d) high ok f = chosen (is_slot_of who tag d.reply.who d.tag) (answered d S) (λ k e. subst IsBare (some_is d.reply k e) (acted u d (high u refl) ok)) f
-    by (Target u) (Txn d) high ok f = chosen (is_slot_of who tag d.reply.who d.tag) (answered d S) (λ k e. subst IsBare (some_is d.reply k e) (subst (λ (x : Deed). IsBare x.reply) (sym ok.is) refl)) f
-    by (Target u) (Close o) high ok f = λ k e. bare_in (outcome_of head.osts head.clients l.at story).disk.slots who tag k (bare_outcome head l.at story (grown_of head t past g.1))
-        (ap (λ (x : Outcome). (slot_in x.disk.slots who tag).reply) (sym ok.is) ∙ e)
-    by (Client c) e high ok f = f
-    by (Target u) e high ok f = f
-
-    high : (n : Node) → concerns t n l.entry ≡ true → (u : ℕ) → n ≡ Target u → 0 < u
-    high (Target v) q u e = let same : t ≡ v = eqb-true t v q in let is : v ≡ u = cc in subst (λ (x : ℕ). 0 < x) (same ∙ is) low
-    high (Client c) q u e = absurd (cc)
-
-    about : (b : Bool) → concerns t l.at.node l.entry ≡ b → Bare S → Bare (slot_of who tag (if b then l ∷ story else story))
-    about true q f = by l.at.node l.entry (high l.at.node q) (g.0.of t q) f
-    about false q f = f
-
--- replies of another target than the metadata target bring none
-pub reply_bare : (head : Head) (t c : ℕ) (r : ReplyTo) (past : List Line) → 0 < t → Grown head past → Was past (Target t) (Client c) (message.Reply r) → IsBare r
-reply_bare head t c r [] low g w = absurd w
-reply_bare head t c r (l ∷ past) low g w = by l.entry w g.0.of (λ v. reply_bare head t c r past low g.1 v)
-  where
-    by : (e : Entry) → Was (line l.at e ∷ past) (Target t) (Client c) (message.Reply r) → ((u : ℕ) → concerns u l.at.node e ≡ true → EntryOf head (only u past) l.at l.at.node e)
-        → (Was past (Target t) (Client c) (message.Reply r) → IsBare r) → IsBare r
-    by (Send to x) (inl q) of more = bare ok
-      where
-        ok : SendOf head (only t past) (Target t) (Client c) (message.Reply r)
-        ok =
-            subst (λ (y : Message). SendOf head (only t past) (Target t) (Client c) y) q.2
-            (subst (λ (n : Node). SendOf head (only t past) (Target t) n x) q.1
-            (subst (λ (n : Node). SendOf head (only t past) n to x) q.0 (of t (subst (λ (n : Node). concerns t n (Send to x) ≡ true) (sym q.0) (self t)))))
-
-        bare : ReplyOk head (only t past) t c r → IsBare r
-        bare k = subst IsBare (sym k.is) (kept_bare head t k.who k.tag past low g.1 k.kept k.slot)
-    by (Send to x) (inr q) of more = more q
-    by e q of more = more q

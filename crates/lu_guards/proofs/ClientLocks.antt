@@ -1,6 +1,6 @@
 -- Lists of held locks: no two have one name; and what is left of them by a change, a use, a lock that comes and one that goes.
-use Rattle.std.proofs.Common.{◌≡◌, ℕ, zero, suc, ◌+◌, ◌-◌, ◌≤◌, Bool, true, false, List, [], ◌∷◌, ◌++◌, ◌⊎◌, inl, inr, ⊎_elim, refl, sym, subst, ap, ◌∙◌, arith}
-use Rattle.std.specs.Prelude.{nat_eq, ◌||◌, not, min, if◌then◌else◌, length, map, filter, drop}
+use Rattle.std.proofs.Common.{◌≡◌, ℕ, zero, suc, Bool, true, false, List, [], ◌∷◌, ◌++◌, ◌⊎◌, inl, inr, ⊎_elim, refl, sym, subst, ap, ◌∙◌, arith}
+use Rattle.std.specs.Prelude.{nat_eq, ◌||◌, not, if◌then◌else◌, length, map, filter, drop}
 use Rattle.std.specs.List.{list_any}
 use Rattle.std.proofs.lemmas.Bool.{and_parts, cond-true, cond-false, eqb-true, or_left, or_right, not-true}
 use Rattle.std.proofs.lemmas.Bool.Decides.{nat_tests}
@@ -352,40 +352,3 @@ of_unmarked t u g hs i =
 pub once_ordered : (hs : List HeldLock) → Once hs → Once (in_order hs)
 once_ordered [] o = tt
 once_ordered (h ∷ hs) o = once_put h (in_order hs) (λ g i. o.0 g (in_ordered g hs i)) (once_ordered hs o.1)
-
--- ---- pins
-
-abbrev pub count_name : LockName → List LockName → ℕ
-count_name n [] = 0
-count_name n (m ∷ names) = if same_name m n then count_name n names + 1 else count_name n names
-
--- what is pinned so far, and what is still to be pinned, is no more than all
-abbrev pub PinnedBut : (left all : List LockName) → List HeldLock → Type 0
-PinnedBut left all hs = (h : HeldLock) → In h hs → h.pins + count_name (name_of h) left ≤ count_name (name_of h) all
-
-abbrev pub Pinned : List LockName → List HeldLock → Type 0
-Pinned left hs = (h : HeldLock) → In h hs → h.pins ≤ count_name (name_of h) left
-
-pub pin_one : (n : LockName) (left all : List LockName) (hs : List HeldLock) → PinnedBut (n ∷ left) all hs → PinnedBut left all (changed n change.Pin hs)
-pin_one n left all hs p g i = let r = changed_only n change.Pin g hs i in subst (λ (x : HeldLock). x.pins + count_name (name_of x) left ≤ count_name (name_of x) all) r.2 (by r.0 (is_named n r.0) refl (p r.0 r.1))
-  where
-    low : (a b x y : ℕ) → a + (x + 1) ≤ y → min (a + 1) b + x ≤ y
-    low a b x y le = grind arith
-
-    by : (h : HeldLock) (b : Bool) → is_named n h ≡ b → h.pins + (if b then count_name (name_of h) left + 1 else count_name (name_of h) left) ≤ count_name (name_of h) all
-        → (if b then after change.Pin h else h).pins + count_name (name_of (if b then after change.Pin h else h)) left ≤ count_name (name_of (if b then after change.Pin h else h)) all
-    by h true e le = low h.pins 18446744073709551615 (count_name (name_of h) left) (count_name (name_of h) all) le
-    by h false e le = le
-
-pub unpin_one : (n : LockName) (left : List LockName) (hs : List HeldLock) → Pinned (n ∷ left) hs → Pinned left (used n (changed n change.Unpin hs))
-unpin_one n left hs p g i =
-    let r = changed_only n change.Unpin g hs (used_only n g (changed n change.Unpin hs) i) in
-    subst (λ (x : HeldLock). x.pins ≤ count_name (name_of x) left) r.2 (by r.0 (is_named n r.0) refl (p r.0 r.1))
-  where
-    low : (a x : ℕ) → a ≤ x + 1 → a - 1 ≤ x
-    low a x le = omega arith
-
-    by : (h : HeldLock) (b : Bool) → is_named n h ≡ b → h.pins ≤ (if b then count_name (name_of h) left + 1 else count_name (name_of h) left)
-        → (if b then after change.Unpin h else h).pins ≤ count_name (name_of (if b then after change.Unpin h else h)) left
-    by h true e le = low h.pins (count_name (name_of h) left) le
-    by h false e le = le

@@ -1,7 +1,7 @@
 -- The turn of a client in a covered run in which a target says that it is up again: the client knows its boot, marks no lock of it any more,
 -- and tells it what the life has for it; or asks it to serve the life, where it didn't yet.
 use Rattle.std.proofs.Common.{◌≡◌, ℕ, ◌<◌, ◌≤◌, Bool, true, false, List, [], ◌∷◌, ◌++◌, inl, inr, refl, sym, subst, ap, ◌∙◌}
-use Rattle.std.specs.Prelude.{nat_eq, nat_lt, if◌then◌else◌, length, filter}
+use Rattle.std.specs.Prelude.{nat_eq, nat_lt, length, filter}
 use Rattle.std.proofs.lemmas.Bool.{ltb-true}
 use Rattle.lu_base.specs.declared.ids.At.{At}
 use Rattle.lu_base.specs.declared.ids.Node.TheVariants.{Client, Target}
@@ -9,9 +9,7 @@ use Rattle.lu_base.specs.declared.ids.Stamp.{Stamp}
 use Rattle.lu_base.specs.declared.ids.Who.{Who}
 use Rattle.lu_msg.specs.declared.messages.Message.{Message}
 use Rattle.lu_msg.specs.declared.messages.Message.TheVariants as message
-use Rattle.lu_held.specs.declared.locks.Change.TheVariants as change
 use Rattle.lu_held.specs.declared.locks.HeldLock.{HeldLock}
-use Rattle.lu_held.specs.Locks.{after}
 use Rattle.lu_held.specs.Held.{unmarked}
 use Rattle.lu_words.specs.Words.{Entry, Take, Knows, Unmarks, Line, line, with_turn}
 use Rattle.lu_words.specs.Concerns.{only}
@@ -33,7 +31,7 @@ use Rattle.lu_guards.proofs.Only.{sent_was, was_only}
 use Rattle.lu_guards.proofs.Parts.{known_is}
 use Rattle.lu_guards.proofs.Ends.{none_took}
 use Rattle.lu_guards.proofs.Turns.{owes_nothing}
-use Rattle.lu_guards.proofs.ClientLocks.{unmarked_only, of_ordered, count_ordered, of_unmarked, count_unmarked}
+use Rattle.lu_guards.proofs.ClientLocks.{of_ordered, count_ordered, of_unmarked, count_unmarked}
 use Rattle.lu_guards.proofs.ClientRests.{Rested, the_head, adds, at_one, held_line, followed, import_there}
 use Rattle.lu_guards.proofs.ClientCalls.{calls_wait}
 use Rattle.lu_guards.proofs.ClientStarts.{Starts, After, took_rested, no_forgets}
@@ -82,7 +80,6 @@ module _ (head : table.Head) (c : ℕ) (stamp : Stamp) where
             settled = tt;
             idle = took.idle;
             handles = took.handles;
-            free = took.free;
           }
 
       now : standing_at c t p2 ≡ interrupted (standing_at c t p1)
@@ -97,13 +94,6 @@ module _ (head : table.Head) (c : ℕ) (stamp : Stamp) where
       bare : held_at c p3 ≡ unmarked (record { 0 = t }) (held_at c p2)
       bare = held_line head c stamp p2 (Unmarks t)
 
-      free : Rested head c at p2 → (x : HeldLock) → In x (held_at c p3) → x.pins ≡ 0
-      free r x i = let q = unmarked_only t x (held_at c p2) (subst (λ (hs : List HeldLock). In x hs) bare i) in subst (λ (y : HeldLock). y.pins ≡ 0) q.2 (same q.0 (nat_eq q.0.target.0 t) (r.free q.0 q.1))
-        where
-          same : (h : HeldLock) (b : Bool) → h.pins ≡ 0 → (if b then after change.Unmark h else h).pins ≡ 0
-          same h true z = z
-          same h false z = z
-
       lasts : (u b : ℕ) (w : Who) → Took p3 at (Target u) (message.Evicted w b) → ⊥
       lasts u b w (inl q) = let e : message.Up boot ≡ message.Evicted w b = q.2 in cc
       lasts u b w (inr q) = none_took (the_head head c stamp) p at (Target u) (message.Evicted w b) s.grown s.later q
@@ -112,7 +102,7 @@ module _ (head : table.Head) (c : ℕ) (stamp : Stamp) where
       recovering r v =
           let of_target = λ (h : HeldLock). nat_eq h.target.0 t in
           let still : Still head c stamp who p3 p3 = record {
-            rested = record { good = adds head c stamp p2 (Unmarks t) r.good (owes_nothing p2 at (Unmarks t) tt) tt (λ u q. tt) tt refl; settled = tt; idle = r.idle; handles = r.handles; free = free r };
+            rested = record { good = adds head c stamp p2 (Unmarks t) r.good (owes_nothing p2 at (Unmarks t) tt) tt (λ u q. tt) tt refl; settled = tt; idle = r.idle; handles = r.handles };
             life = refl;
             known = λ u. refl;
             standing = λ u. refl;

@@ -67,7 +67,8 @@ module _ (head : table.Head) (c : ℕ) (stamp : Stamp) where
 
   -- one line more, that says nothing of these
   sent_still : (who : Who) (before p : List Line) (t : ℕ) (m : Message) → Still who before p → Good head c at (line at (Send (Target t) m) ∷ p) → Still who before (line at (Send (Target t) m) ∷ p)
-  sent_still who before p t m s g = record { rested = record { good = g; settled = tt; idle = s.rested.idle; handles = s.rested.handles; free = s.rested.free }; life = s.life; known = s.known; standing = s.standing; flights = s.flights; kept = s.kept; held = s.held; took = s.took }
+  sent_still who before p t m s g =
+      record { rested = record { good = g; settled = tt; idle = s.rested.idle; handles = s.rested.handles }; life = s.life; known = s.known; standing = s.standing; flights = s.flights; kept = s.kept; held = s.held; took = s.took }
 
   pub again_good : (who : Who) (before p : List Line) (t boot : ℕ) (flights : List Flight) → Still who before p → boot ≡ known_at c t before → standing_at c t before ≡ Serving
       → ((f : Flight) → In f flights → In f (flights_at c t before))
@@ -120,7 +121,7 @@ module _ (head : table.Head) (c : ℕ) (stamp : Stamp) where
     kept_there p s = sym (s.kept t) ∙ kept_is (the_head head c stamp) c t p s.rested.good.grown ∙ ap (λ (w : Who). kept_of w (only t p)) s.life
 
     held_here : (p : List Line) → Still who before p → filter of_target (held_at c before) ≡ held_at c (only t p)
-    held_here p s = ap (λ (hs : List HeldLock). filter of_target hs) (sym s.held) ∙ held_there (the_head head c stamp) c t p s.rested.good.grown
+    held_here p s = ap (λ (hs : List HeldLock). filter of_target hs) (sym s.held) ∙ held_there c t p
 
     replays_good : (rs : List Replay) (p : List Line) → ((r : Replay) → In r rs → In r (kept_at c t before).replays) → Still who before p → Still who before (with_turn at (replays who boot t rs) p)
     replays_good [] p i s = s
@@ -221,7 +222,6 @@ module _ (head : table.Head) (c : ℕ) (stamp : Stamp) where
         settled = tt;
         idle = s.between.idle;
         handles = s.between.handles;
-        free = λ x i. s.between.held x i;
       } in
       let still : Still (life_at c p) p (line at Tick ∷ p) = record { rested = first; life = refl; known = λ t. refl; standing = λ t. refl; flights = λ t. refl; kept = λ t. refl; held = refl; took = λ from m k. k } in
       let last = ticks_good p s.grown s.later s.between.idle (head.osts + 1) 0 (line at Tick ∷ p) still in
@@ -285,7 +285,7 @@ module _ (head : table.Head) (c : ℕ) (stamp : Stamp) where
                 (subst (λ (w : Who). Was p2 (Target t) (Client c) (message.Ready w boot committed)) still_own (sent_was p n (Target t) (Client c) m sent));
           })) tt refl in
           let still : Still (life_at c p) p3 p3 = record {
-            rested = record { good = settled; settled = tt; idle = took.idle; handles = took.handles; free = took.free };
+            rested = record { good = settled; settled = tt; idle = took.idle; handles = took.handles };
             life = refl;
             known = λ u. refl;
             standing = λ u. refl;

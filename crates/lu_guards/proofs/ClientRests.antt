@@ -1,6 +1,6 @@
--- What comes at the end of a client's turn: unused locks are marked, marked ones are given up where the metadata target serves the life,
--- and to each target that serves it what waits there is sent. Each line is allowed, and then each call waits, for its reply or for other
--- calls on its open; no held lock is pinned, none is marked where the metadata target serves, and handles are bound as calls say.
+-- What comes at the end of a client's turn: unused locks are marked, marked ones are given up where their target serves the life, and to
+-- each target that serves it what waits there is sent. Each line is allowed, and then each call waits, for its reply or for other calls on
+-- its open; no held lock that isn't pinned is marked where its target serves, and handles are bound as calls say.
 use Rattle.std.proofs.Common.{◌≡◌, ℕ, zero, suc, ◌+◌, ◌<◌, ◌≤◌, Bool, true, false, List, [], ◌∷◌, ◌++◌, ◌⊎◌, inl, inr, ⊎_elim, Option, Some, None, refl, sym, subst, ap, ◌∙◌, arith, add-one}
 use Rattle.std.specs.Prelude.{nat_eq, nat_lt, not, ◌&&◌, ◌||◌, length, if◌then◌else◌, map, filter, reverse, drop}
 use Rattle.std.specs.List.{range_with_len}
@@ -21,10 +21,11 @@ use Rattle.lu_held.specs.declared.locks.Change.TheVariants as change
 use Rattle.lu_held.specs.declared.locks.HeldLock.{HeldLock}
 use Rattle.lu_held.specs.declared.locks.Use.{Use}
 use Rattle.lu_held.specs.declared.names.LockName.{LockName}
-use Rattle.lu_held.specs.Locks.{named, name_of, is_named, is_free, after}
+use Rattle.lu_held.specs.Locks.{name_of, is_named, is_free, reaches_end, after}
 use Rattle.lu_held.specs.Held.{is_held, without, in_order}
 use Rattle.lu_msg.specs.declared.calls.Call.TheVariants as call
-use Rattle.lu_words.specs.Carried.{HandleFile, Glimpses, Work, Queued, Flight, Unasked, Asked, Plain, Sizes, Running}
+use Rattle.lu_words.specs.declared.uses.Using.{Using}
+use Rattle.lu_words.specs.Carried.{HandleFile, Narrow, Wide, Stats, Glimpses, Work, Queued, Flight, Unasked, Asked, Plain, Bad, Enqueued, Sizes, Running}
 use Rattle.lu_words.specs.Words.{Entry, Send, Tick, Drop, Flies, Marks, Line, line, with_turn}
 use Rattle.lu_words.specs.Concerns.{is_about, only}
 use Rattle.lu_words.specs.Fields.{on}
@@ -36,6 +37,7 @@ use Rattle.lu_client_rows.specs.Patches.{clean}
 use Rattle.lu_client_rows.specs.Sending.{front_waits, has_room, next_flight, request_of, sends_request, flies, sends, sends_to, sends_all}
 use Rattle.lu_client_rows.specs.Starts.{count_on}
 use Rattle.lu_client_rows.specs.States.{Client as ClientState, follow, turn as turn_of}
+use Rattle.lu_client_rows.specs.Wants.{wants_of}
 use Rattle.lu_covered.specs.Calls.{reads_call, call_after, call_at, calls_at, life_at, becomes}
 use Rattle.lu_covered.specs.ClientStates.{flights_of, last_of, life_of}
 use Rattle.lu_covered.specs.Covered.{IsCovered, AllCovered}
@@ -44,7 +46,7 @@ use Rattle.lu_covered.specs.Imports.{Standing, Joining, Recovering, Serving, res
 use Rattle.lu_table.specs.Heads as table
 use Rattle.lu_table.specs.Runs.{limits_of, client_of}
 use Rattle.lu_after.proofs.Clients.{client_own}
-use Rattle.lu_guards.proofs.Guards.{In, Steps, Closes, Owes, EntryOk}
+use Rattle.lu_guards.proofs.Guards.{In, Steps, Closes, Dropped, InOrder, Reads, Owes, EntryOk}
 use Rattle.lu_guards.proofs.StoryGuards.{EntryOf, DropOk, CancelOk}
 use Rattle.lu_guards.proofs.Grown.{Noted, Grown}
 use Rattle.lu_guards.proofs.Guards as guards
@@ -53,10 +55,10 @@ use Rattle.lu_guards.proofs.Lists.{self, in_append, in_right, in_filter, turn, t
 use Rattle.lu_guards.proofs.Parts.{queue_now, flights_now, last_now, known_is, standing_is, life_is_of}
 use Rattle.lu_guards.proofs.Turns.{covered_head, Settled, owes_nothing, backs_none, marks_none, shows_none, noted_client}
 use Rattle.lu_guards.proofs.Covers.{covered_turn}
-use Rattle.lu_guards.proofs.Held.{held_is, held_zero}
+use Rattle.lu_guards.proofs.Held.{held_into, held_back, held_name}
 use Rattle.lu_guards.proofs.ClientLocks.{Once, in_drop, own_name, changed_only, without_only, without_other, without_gone, in_ordered, ordered_in, once_ordered}
 use Rattle.lu_guards.proofs.ClientHandles.{Tied}
-use Rattle.lu_guards.proofs.ClientLines.{patches_none, held_once}
+use Rattle.lu_guards.proofs.ClientLines.{patches_none, held_once, once_same, AllThere, held_limited}
 use Rattle.lu_guards.proofs.ClientSizes.{OnRanges, IsUnheard}
 
 -- ---- a client that lives, in its turn, after lines that are allowed
@@ -67,9 +69,10 @@ pub record Good (head : table.Head) (c : ℕ) (at : At) (past : List Line) : Typ
   pub steps : Steps past at
   pub closes : Closes past at
   pub noted : Noted (covered_head head) past
+  pub there : AllThere head.osts past
   pub alive : IsAlive (covered_head head) past c
 
--- a glimpse that asks how long the first of the objects that are left is
+-- a glimpse that asks how long the first of the objects that are left is, and has the sizes of those before it
 pub record Sizing (r : Running) : Type 0 where
   pub handle : ℕ
   pub glimpses : r.call ≡ call.Glimpse handle
@@ -81,13 +84,49 @@ pub record Sizing (r : Running) : Type 0 where
   pub left : List Use
   pub first : work.left ≡ wanted ∷ left
   pub ranges : OnRanges (wanted ∷ left)
+  pub file : HandleFile
+  pub of_file : r.file ≡ Some file
+  pub before : List Use
+  pub all : wants_of file.layout file.fid (Glimpses []) ≡ before ++ wanted ∷ left
+  pub each : length before ≡ length sizes
 
--- a call that waits for its reply: it is on names, or a glimpse, which waits on where what it was told is no size
+-- the work of a read, narrow or to the end
+pub record ReadsOn (r : Running) (work : Work) : Type 0 where
+  pub read : Reads r
+  pub kind : (work.kind ≡ Narrow read.offset read.count) ⊎ (work.kind ≡ Wide read.offset read.count)
+  pub fid : work.fid ≡ read.file.fid
+  pub layout : work.layout ≡ read.file.layout
+
+-- the work of a stat of a file
+pub record StatsOn (r : Running) (work : Work) : Type 0 where
+  pub path : List (List ℕ)
+  pub stats : r.call ≡ call.Stat path
+  pub good : r.stage ≡ Bad → ⊥
+  pub mode : ℕ
+  pub links : ℕ
+  pub kind : work.kind ≡ Stats mode links
+
+-- how far a read, or a stat, has come: it has locks in use, which reach the end of their objects, and others that it still wants
+pub record Reading (r : Running) (work : Work) : Type 0 where
+  pub does : ReadsOn r work ⊎ StatsOn r work
+  pub wanted : Use
+  pub left : List Use
+  pub first : work.left ≡ wanted ∷ left
+  pub order : InOrder (wants_of work.layout work.fid work.kind) work
+  pub ends : (u : Using) → In u work.used → reaches_end u.lock.ask.policy ≡ true
+
+-- a read, or a stat, that waits for the lock on the first of the objects that are left: it waits on where no lock comes
+pub record Locking (r : Running) : Type 0 where
+  pub work : Work
+  pub stage : r.stage ≡ Enqueued work
+  pub reading : Reading r work
+
+-- a call that waits for its reply and has pinned nothing: it is on names, or a glimpse, which waits on where what it was told is no size
 abbrev pub AwaitsReply : Running → Type 0
 AwaitsReply r = ((r.asking ≡ Asked) × (r.stage ≡ Plain) × ((o : Op) × (becomes r ≡ Some o))) ⊎ (Sizing r × ((r.asking ≡ Asked) ⊎ IsUnheard r.asking))
 
 abbrev pub HasAsked : Running → Type 0
-HasAsked r = (r.pins ≡ []) × AwaitsReply r
+HasAsked r = ((r.pins ≡ []) × AwaitsReply r) ⊎ Locking r
 
 -- a close that waits for other calls on its open
 pub record WaitsToClose (calls : List (Option Running)) (r : Running) : Type 0 where
@@ -119,20 +158,18 @@ calls_same c p q same =
 pub idle_same : (c : ℕ) (p q : List Line) → ((slot : ℕ) → call_at c slot q ≡ call_at c slot p) → AllIdle c p → AllIdle c q
 idle_same c p q same idle slot = subst (λ (calls : List (Option Running)). Idle calls (call_at c slot q)) (sym (calls_same c p q same)) (subst (Idle (calls_at c p)) (sym (same slot)) (idle slot))
 
--- nothing is owed, all calls wait, handles are bound as calls say, and no held lock is pinned
+-- nothing is owed, all calls wait, and handles are bound as calls say
 pub record Rested (head : table.Head) (c : ℕ) (at : At) (past : List Line) : Type 0 where
   pub good : Good head c at past
   pub settled : Settled past
   pub idle : AllIdle c past
   pub handles : Tied c past
-  pub free : (x : HeldLock) → In x (held_at c past) → x.pins ≡ 0
 
--- between its turns no held lock is marked either, where the metadata target serves the life
+-- between its turns no held lock that isn't pinned is marked either, where its target serves the life
 pub record Between (c : ℕ) (past : List Line) : Type 0 where
   pub idle : AllIdle c past
   pub handles : Tied c past
-  pub held : (x : HeldLock) → In x (held_at c past) → x.pins ≡ 0
-  pub calm : standing_at c 0 past ≡ Serving → (x : HeldLock) → In x (held_at c past) → x.marked ≡ false
+  pub calm : (x : HeldLock) → In x (held_at c past) → standing_at c x.target.0 past ≡ Serving → x.pins ≡ 0 → x.marked ≡ false
 
 pub record Ended (head : table.Head) (c : ℕ) (at : At) (past : List Line) : Type 0 where
   pub good : Good head c at past
@@ -166,6 +203,7 @@ module _ (head : table.Head) (c : ℕ) (stamp : Stamp) where
         steps = inl refl;
         closes = inl refl;
         noted = noted_client the_head p stamp c e ok g.noted;
+        there = (tt, g.there);
         alive = record { one = g.alive.one; alive = by (reads_death e) lives ∙ g.alive.alive };
       }
     where
@@ -320,7 +358,7 @@ module _ (head : table.Head) (c : ℕ) (stamp : Stamp) where
       next : Good head c here p2 → Sending before (t + 1) p2
       next good =
           record {
-            ended = record { good = good; settled = tt; between = record { idle = s.ended.between.idle; handles = s.ended.between.handles; held = s.ended.between.held; calm = s.ended.between.calm } };
+            ended = record { good = good; settled = tt; between = record { idle = s.ended.between.idle; handles = s.ended.between.handles; calm = s.ended.between.calm } };
             life = s.life;
             known = s.known;
             standing = s.standing;
@@ -375,34 +413,45 @@ module _ (head : table.Head) (c : ℕ) (stamp : Stamp) where
 
   -- ---- unused locks are marked
 
-  pub mark_good : (p : List Line) (n : LockName) → Rested head c here p → n.target.0 ≡ 0 → Rested head c here (line here (Marks n) ∷ p)
-  mark_good p n r zero_it =
+  -- one that isn't pinned may be marked, and one that is just called back
+  pub mark_good : (p : List Line) (n : LockName) → Rested head c here p → EntryOk p here (Client c) (Marks n) → Rested head c here (line here (Marks n) ∷ p)
+  mark_good p n r ok =
       record {
-        good = adds p (Marks n) r.good (owes_nothing p here (Marks n) r.settled) zero_it (λ t e. tt) tt refl;
+        good = adds p (Marks n) r.good (owes_nothing p here (Marks n) r.settled) ok (λ t e. tt) tt refl;
         settled = tt;
         idle = r.idle;
         handles = r.handles;
-        free = free;
       }
+
+  -- these are marked one after another
+  marks_good : (hs : List HeldLock) (p : List Line) → Rested head c here p → ((h : HeldLock) → In h hs → (x : HeldLock) → In x (held_at c p) → is_named (name_of h) x ≡ true → x.pins ≡ 0)
+      → Rested head c here (with_turn here (marks_of hs) p)
+  marks_good [] p r free = r
+  marks_good (h ∷ hs) p r free = marks_good hs p1 (mark_good p (name_of h) r (inl (free h (inl refl)))) next
     where
-      same : (h : HeldLock) (b : Bool) → h.pins ≡ 0 → (if b then after change.Mark h else h).pins ≡ 0
-      same h true e = e
-      same h false e = e
+      p1 : List Line
+      p1 = line here (Marks (name_of h)) ∷ p
 
-      free : (x : HeldLock) → In x (held_at c (line here (Marks n) ∷ p)) → x.pins ≡ 0
-      free x i =
-          let q = changed_only n change.Mark x (held_at c p) (subst (λ (hs : List HeldLock). In x hs) (held_line p (Marks n)) i) in
-          subst (λ (y : HeldLock). y.pins ≡ 0) q.2 (same q.0 (is_named n q.0) (r.free q.0 q.1))
+      same : (g x : HeldLock) (b : Bool) → (is_named (name_of g) x ≡ true → x.pins ≡ 0) → is_named (name_of g) (if b then after change.Mark x else x) ≡ true → (if b then after change.Mark x else x).pins ≡ 0
+      same g x true f e = f e
+      same g x false f e = f e
 
-  marks_good : (hs : List HeldLock) (p : List Line) → Rested head c here p → ((x : HeldLock) → In x hs → x.target.0 ≡ 0) → Rested head c here (with_turn here (marks_of hs) p)
-  marks_good [] p r z = r
-  marks_good (h ∷ hs) p r z = marks_good hs (line here (Marks (name_of h)) ∷ p) (mark_good p (name_of h) r (z h (inl refl))) (λ x i. z x (inr i))
+      next : (g : HeldLock) → In g hs → (x : HeldLock) → In x (held_at c p1) → is_named (name_of g) x ≡ true → x.pins ≡ 0
+      next g i x j =
+          let q = changed_only (name_of h) change.Mark x (held_at c p) (subst (λ (hs : List HeldLock). In x hs) (held_line p (Marks (name_of h))) j) in
+          subst (λ (y : HeldLock). is_named (name_of g) y ≡ true → y.pins ≡ 0) q.2 (same g q.0 (is_named (name_of h) q.0) (free g (inr i) q.0 q.1))
+
+  -- one of the name of a free one is that one
+  free_named : (p : List Line) (h x : HeldLock) → Rested head c here p → In h (held_at c p) → h.pins ≡ 0 → In x (held_at c p) → is_named (name_of h) x ≡ true → x.pins ≡ 0
+  free_named p h x r i e j n = subst (λ (y : HeldLock). y.pins ≡ 0) (once_same (held_at c p) h x (held_once the_head c p r.good.grown) i j n) e
 
   trimmed : Keeps (Rested head c here) (Rested head c here) (trims (limits_of head))
   trimmed p r covered =
       let held = held_at c p in
       marks_good (reverse (drop head.unused (filter is_free held))) p r
-      (λ x i. held_zero the_head c p r.good.grown x (in_filter is_free x held (in_drop head.unused x (filter is_free held) (in_reverse x (drop head.unused (filter is_free held)) i))).0)
+      (λ h i x j n.
+      let k = in_filter is_free h held (in_drop head.unused h (filter is_free held) (in_reverse h (drop head.unused (filter is_free held)) i)) in
+      free_named p h x r k.0 (eqb-true h.pins 0 (and_parts (nat_eq h.pins 0) (not h.marked) k.1).0) j n)
 
   -- ---- marked locks are given up
 
@@ -415,104 +464,124 @@ module _ (head : table.Head) (c : ℕ) (stamp : Stamp) where
   no_write h m q = refl
 
   abbrev given_up : Who → ℕ → HeldLock → List Entry
-  given_up who boot x = Drop 0 x.lock ∷ Send (Target 0) (message.Cancel who boot x.lock.cookie) ∷ []
+  given_up who boot x = Drop x.target.0 x.lock ∷ Send (Target x.target.0) (message.Cancel who boot x.lock.cookie) ∷ []
 
-  visits_so : (p : List Line) (x : HeldLock) → Good head c here p → x.target.0 ≡ 0 → x.pins ≡ 0
-      → visits false x (client_of head c p) ≡ (if x.marked && is_serving (standing_at c 0 p) then given_up (life_at c p) (known_at c 0 p) x else [])
-  visits_so p x g z free =
+  visits_so : (p : List Line) (x : HeldLock) → Good head c here p → In x (held_at c p)
+      → visits false x (client_of head c p) ≡ (if is_called x && is_serving (standing_at c x.target.0 p) then given_up (life_at c p) (known_at c x.target.0 p) x else [])
+  visits_so p x g i =
       ap (λ (ps : List _). visits_with false x (patch_at x.lock.resource ps) (client_of head c p)) (patches_none c p g.covered)
       ∙ cond-false (must_write false x x.lock.ask.mode x.lock.ask.policy clean) _ (gives_up (life_at c p) x (import_of x.target.0 (client_of head c p).imports)) (no_write x x.lock.ask.mode x.lock.ask.policy)
-      ∙ ap (λ (t : ℕ). gives_up (life_at c p) x (import_of t (client_of head c p).imports)) z
-      ∙ ap (λ (i : Import). gives_up (life_at c p) x i) (import_zero p)
-      ∙ rw (free, z) (by x.marked (is_serving (standing_at c 0 p)))
-    where
-      by : (b served : Bool) → (if (b && true) && served then given_up (life_at c p) (known_at c 0 p) x else []) ≡ (if b && served then given_up (life_at c p) (known_at c 0 p) x else [])
-      by true served = refl
-      by false served = refl
+      ∙ ap (λ (j : Import). gives_up (life_at c p) x j) (import_there p x.target.0 (held_limited head.osts the_head c p g.grown g.there x i))
 
-  -- these locks are held, and where the target serves no other held one is marked
+  -- these locks are held, and no other held one that isn't pinned is marked where its target serves
   record Visiting (rs : List HeldLock) (p : List Line) : Type 0 where
     rested : Rested head c here p
     held : (x : HeldLock) → In x rs → In x (held_at c p)
-    marked : standing_at c 0 p ≡ Serving → (x : HeldLock) → In x (held_at c p) → (x.marked ≡ false) ⊎ In x rs
+    marked : (x : HeldLock) → In x (held_at c p) → standing_at c x.target.0 p ≡ Serving → (is_called x ≡ false) ⊎ In x rs
 
   visited : (p : List Line) (r : HeldLock) (rs : List HeldLock) → Once (r ∷ rs) → Visiting (r ∷ rs) p → Visiting rs (with_turn here (visits false r (client_of head c p)) p)
   visited p r rs once v =
-      let z = held_zero the_head c p v.rested.good.grown r (v.held r (inl refl)) in
-      subst (λ (es : List Entry). Visiting rs (with_turn here es p)) (sym (visits_so p r v.rested.good z (v.rested.free r (v.held r (inl refl))))) (by_standing z (standing_at c 0 p) refl)
+      subst (λ (es : List Entry). Visiting rs (with_turn here es p)) (sym (visits_so p r v.rested.good (v.held r (inl refl)))) (by_standing (standing_at c t p) refl)
     where
+      t : ℕ
+      t = r.target.0
+
       name : LockName
-      name = named (record { 0 = 0 }) r.lock.cookie
+      name = name_of r
 
       p1 : List Line
-      p1 = line here (Drop 0 r.lock) ∷ p
+      p1 = line here (Drop t r.lock) ∷ p
 
       p2 : List Line
-      p2 = line here (Send (Target 0) (message.Cancel (life_at c p) (known_at c 0 p) r.lock.cookie)) ∷ p1
+      p2 = line here (Send (Target t) (message.Cancel (life_at c p) (known_at c t p) r.lock.cookie)) ∷ p1
 
       left : held_at c p1 ≡ without name (held_at c p)
-      left = held_line p (Drop 0 r.lock)
+      left = held_line p (Drop t r.lock)
 
-      dropped : standing_at c 0 p ≡ Serving → r.marked ≡ true → Good head c here p1
-      dropped serves marked =
-          adds p (Drop 0 r.lock) v.rested.good (owes_nothing p here (Drop 0 r.lock) v.rested.settled) (refl, inl (record { holding = r; held = v.held r (inl refl); is = refl; marked = marked; serves = serves }))
-          (at_zero (λ (t : ℕ). (0 ≡ 0) × DropOk (only t p) c r.lock) (refl, record { holding = r; held = subst (λ (hs : List HeldLock). In r hs) (held_is the_head c p v.rested.good.grown) (v.held r (inl refl)); is = refl }))
+      -- the one that goes is of that target's story
+      story : only t p1 ≡ line here (Drop t r.lock) ∷ only t p
+      story = ap (λ (b : Bool). if b then line here (Drop t r.lock) ∷ only t p else only t p) (self t)
+
+      dropped : standing_at c t p ≡ Serving → is_called r ≡ true → Good head c here p1
+      dropped serves called =
+          let parts = and_parts r.marked (nat_eq r.pins 0) called in
+          adds p (Drop t r.lock) v.rested.good (owes_nothing p here (Drop t r.lock) v.rested.settled)
+          (inl (record { holding = r; held = v.held r (inl refl); of_target = refl; is = refl; marked = parts.0; free = eqb-true r.pins 0 parts.1; serves = serves }))
+          (at_one t (λ (u : ℕ). DropOk (only u p) c t r.lock) (record {
+            holding = r;
+            held = held_into c t p r refl (v.held r (inl refl));
+            of_target = refl;
+            is = refl;
+            there = λ h i. (held_back c t p h i).1;
+          }))
           tt refl
 
       cancelled : Good head c here p1 → Good head c here p2
       cancelled g =
-          adds p1 (Send (Target 0) (message.Cancel (life_at c p) (known_at c 0 p) r.lock.cookie)) g (owes_nothing p1 here (Send (Target 0) (message.Cancel (life_at c p) (known_at c 0 p) r.lock.cookie)) tt) refl
-          (at_zero (λ (t : ℕ). CancelOk (only t p1) c (life_at c p) (known_at c 0 p) r.lock.cookie) (record {
-            of_life = life_is_of c 0 p;
-            of_boot = known_is c 0 p;
-            free = ap (is_held name) (sym (held_is the_head c p1 g.grown) ∙ left) ∙ without_gone name (held_at c p);
-            cause = inl (refl, refl);
+          adds p1 (Send (Target t) (message.Cancel (life_at c p) (known_at c t p) r.lock.cookie)) g (owes_nothing p1 here (Send (Target t) (message.Cancel (life_at c p) (known_at c t p) r.lock.cookie)) tt) tt
+          (at_one t (λ (u : ℕ). CancelOk (only u p1) c t (life_at c p) (known_at c t p) r.lock.cookie) (record {
+            of_life = life_is_of c t p1;
+            of_boot = known_is c t p1;
+            free = held_name c p1 name ∙ ap (is_held name) left ∙ without_gone name (held_at c p);
+            cause = inl (subst (λ (q : List Line). Dropped q c t r.lock.cookie) (sym story) (refl, refl, refl));
+            there = λ h i. (held_back c t p1 h i).1;
           }))
           tt refl
 
-      by : standing_at c 0 p ≡ Serving → r.target.0 ≡ 0 → (b : Bool) → r.marked ≡ b → Visiting rs (with_turn here (if b && true then given_up (life_at c p) (known_at c 0 p) r else []) p)
-      by serves z false e = record { rested = v.rested; held = λ x i. v.held x (inr i); marked = marked }
+      by : standing_at c t p ≡ Serving → (b : Bool) → is_called r ≡ b → Visiting rs (with_turn here (if b && true then given_up (life_at c p) (known_at c t p) r else []) p)
+      by serves false e = record { rested = v.rested; held = λ x i. v.held x (inr i); marked = marked }
         where
-          marked : standing_at c 0 p ≡ Serving → (x : HeldLock) → In x (held_at c p) → (x.marked ≡ false) ⊎ In x rs
-          marked q x i = ⊎_elim (λ (m : x.marked ≡ false). inl m) (λ (j : In x (r ∷ rs)). ⊎_elim (λ (s : r ≡ x). inl (subst (λ (y : HeldLock). y.marked ≡ false) s e)) (λ (k : In x rs). inr k) j) (v.marked q x i)
-      by serves z true e =
+          marked : (x : HeldLock) → In x (held_at c p) → standing_at c x.target.0 p ≡ Serving → (is_called x ≡ false) ⊎ In x rs
+          marked x i q = ⊎_elim (λ (m : is_called x ≡ false). inl m) (λ (j : In x (r ∷ rs)). ⊎_elim (λ (s : r ≡ x). inl (subst (λ (y : HeldLock). is_called y ≡ false) s e)) (λ (k : In x rs). inr k) j) (v.marked x i q)
+      by serves true e =
           record {
             rested = record {
               good = cancelled (dropped serves e);
               settled = tt;
               idle = v.rested.idle;
               handles = v.rested.handles;
-              free = λ x i. v.rested.free x (was x i).0;
             };
-            held = λ x i. subst (λ (hs : List HeldLock). In x hs) (sym left) (without_other name x (held_at c p) (v.held x (inr i)) (ap (λ (n : ℕ). is_named (named (record { 0 = n }) r.lock.cookie) x) (sym z) ∙ once.0 x i));
-            marked = λ q x i. ⊎_elim (λ (m : x.marked ≡ false). inl m) (λ (j : In x (r ∷ rs)). ⊎_elim (λ (s : r ≡ x). absurd (other x i s)) (λ (k : In x rs). inr k) j) (v.marked q x (was x i).0);
+            held = λ x i. subst (λ (hs : List HeldLock). In x hs) (sym left) (without_other name x (held_at c p) (v.held x (inr i)) (once.0 x i));
+            marked = λ x i q. ⊎_elim (λ (m : is_called x ≡ false). inl m) (λ (j : In x (r ∷ rs)). ⊎_elim (λ (s : r ≡ x). absurd (other x i s)) (λ (k : In x rs). inr k) j) (v.marked x (was x i).0 q);
           }
         where
           was : (x : HeldLock) → In x (held_at c p1) → In x (held_at c p) × (is_named name x ≡ false)
           was x i = without_only name x (held_at c p) (subst (λ (hs : List HeldLock). In x hs) left i)
 
           other : (x : HeldLock) → In x (held_at c p1) → r ≡ x → ⊥
-          other x i s =
-              let own : is_named name r ≡ true = ap (λ (n : ℕ). is_named (named (record { 0 = n }) r.lock.cookie) r) (sym z) ∙ own_name (name_of r) in
-              let q : true ≡ false = sym own ∙ ap (is_named name) s ∙ (was x i).1 in
-              cc
+          other x i s = let q : true ≡ false = sym (own_name name) ∙ ap (is_named name) s ∙ (was x i).1 in cc
 
-      -- where the target doesn't serve, it stays
-      stays : (b : Bool) → (standing_at c 0 p ≡ Serving → ⊥) → Visiting rs (with_turn here (if b && false then given_up (life_at c p) (known_at c 0 p) r else []) p)
-      stays true n = record { rested = v.rested; held = λ x i. v.held x (inr i); marked = λ q. absurd (n q) }
-      stays false n = record { rested = v.rested; held = λ x i. v.held x (inr i); marked = λ q. absurd (n q) }
+      -- where its target doesn't serve, it stays
+      stays : (b : Bool) → (standing_at c t p ≡ Serving → ⊥) → Visiting rs (with_turn here (if b && false then given_up (life_at c p) (known_at c t p) r else []) p)
+      stays b n = by b
+        where
+          marked : (x : HeldLock) → In x (held_at c p) → standing_at c x.target.0 p ≡ Serving → (is_called x ≡ false) ⊎ In x rs
+          marked x i q =
+              ⊎_elim (λ (m : is_called x ≡ false). inl m)
+              (λ (j : In x (r ∷ rs)). ⊎_elim (λ (s : r ≡ x). absurd (n (ap (λ (y : HeldLock). standing_at c y.target.0 p) s ∙ q))) (λ (k : In x rs). inr k) j) (v.marked x i q)
 
-      by_standing : r.target.0 ≡ 0 → (s : Standing) → standing_at c 0 p ≡ s → Visiting rs (with_turn here (if r.marked && is_serving s then given_up (life_at c p) (known_at c 0 p) r else []) p)
-      by_standing z Serving e = by e z r.marked refl
-      by_standing z Joining e = stays r.marked (λ q. let j : Joining ≡ Serving = sym e ∙ q in cc)
-      by_standing z Recovering e = stays r.marked (λ q. let j : Recovering ≡ Serving = sym e ∙ q in cc)
+          kept : Visiting rs p
+          kept = record { rested = v.rested; held = λ x i. v.held x (inr i); marked = marked }
+
+          by : (b : Bool) → Visiting rs (with_turn here (if b && false then given_up (life_at c p) (known_at c t p) r else []) p)
+          by true = kept
+          by false = kept
+
+      by_standing : (s : Standing) → standing_at c t p ≡ s → Visiting rs (with_turn here (if is_called r && is_serving s then given_up (life_at c p) (known_at c t p) r else []) p)
+      by_standing Serving e = by e (is_called r) refl
+      by_standing Joining e = stays (is_called r) (λ q. let j : Joining ≡ Serving = sym e ∙ q in cc)
+      by_standing Recovering e = stays (is_called r) (λ q. let j : Recovering ≡ Serving = sym e ∙ q in cc)
+
+  not_called : (marked : Bool) (pins : ℕ) → pins ≡ 0 → (marked && nat_eq pins 0) ≡ false → marked ≡ false
+  not_called false pins free e = refl
+  not_called true pins free e = absurd (let z : nat_eq pins 0 ≡ true = ap (λ (n : ℕ). nat_eq n 0) free in cc)
 
   visits_good : (rs : List HeldLock) → Once rs → (p : List Line) → Visiting rs p → Ended head c here (with_turn here (visits_all false rs (client_of head c p)) p)
   visits_good [] once p v =
       record {
         good = v.rested.good;
         settled = v.rested.settled;
-        between = record { idle = v.rested.idle; handles = v.rested.handles; held = v.rested.free; calm = λ s x i. ⊎_elim (λ (m : x.marked ≡ false). m) (λ (n : ⊥). absurd n) (v.marked s x i) };
+        between = record { idle = v.rested.idle; handles = v.rested.handles; calm = λ x i s free. ⊎_elim (λ (m : is_called x ≡ false). not_called x.marked x.pins free m) (λ (n : ⊥). absurd n) (v.marked x i s) };
       }
   visits_good (r ∷ rs) once p v =
       let es = visits false r (client_of head c p) in
@@ -523,7 +592,7 @@ module _ (head : table.Head) (c : ℕ) (stamp : Stamp) where
       let held = held_at c p in
       let over : nat_lt head.dirty (dirty_total (client_of head c p).store.patches) ≡ false = ap (λ (ps : List _). nat_lt head.dirty (dirty_total ps)) (patches_none c p r.good.covered) ∙ not_over head.dirty in
       subst (λ (b : Bool). Ended head c here (with_turn here (visits_all b (in_order held) (client_of head c p)) p)) (sym over)
-      (visits_good (in_order held) (once_ordered held (held_once the_head c p r.good.grown)) p (record { rested = r; held = λ x i. in_ordered x held i; marked = λ s x i. inr (ordered_in x held i) }))
+      (visits_good (in_order held) (once_ordered held (held_once the_head c p r.good.grown)) p (record { rested = r; held = λ x i. in_ordered x held i; marked = λ x i s. inr (ordered_in x held i) }))
 
   -- ---- all of it, once the calls have gone as far as they can
 

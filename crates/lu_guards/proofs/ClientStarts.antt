@@ -1,18 +1,17 @@
 -- Where the turns of a client in a covered run start, and what their events come to: nothing moves, or a call whose reply was heard is to be
 -- told, or goes on; then the turn ends as it should. No line is of a target that isn't there; a message that is taken changes nothing by
 -- itself, and no call waits for a lock.
-use Rattle.std.proofs.Common.{◌≡◌, ℕ, suc, ◌+◌, ◌≤◌, Bool, false, List, [], ◌∷◌, ◌++◌, ◌⊎◌, inl, inr, Option, Some, None, refl, subst, ap, ◌∙◌}
+use Rattle.std.proofs.Common.{◌≡◌, ℕ, suc, ◌+◌, Bool, false, List, [], ◌∷◌, ◌++◌, ◌⊎◌, inl, inr, Option, Some, None, refl, ap, ◌∙◌}
 use Rattle.std.specs.Prelude.{if◌then◌else◌}
 use Rattle.lu_base.specs.declared.ids.At.{At}
-use Rattle.lu_base.specs.declared.ids.Node.{Node}
 use Rattle.lu_base.specs.declared.ids.Node.TheVariants.{Client, Target}
 use Rattle.lu_base.specs.declared.ids.Stamp.{Stamp}
 use Rattle.lu_base.specs.declared.ids.Who.{Who}
 use Rattle.lu_msg.specs.declared.messages.Message.{Message}
 use Rattle.lu_msg.specs.declared.messages.Reply.{Reply as ReplyTo}
 use Rattle.lu_held.specs.declared.names.LockName.{LockName}
-use Rattle.lu_words.specs.Carried.{Flight, Work, Stage, Plain, Sizes, Running}
-use Rattle.lu_words.specs.Words.{Entry, Send, Take, Line, line, with_turn}
+use Rattle.lu_words.specs.Carried.{Flight, Work, Stage, Plain, Enqueued, Sizes, Running}
+use Rattle.lu_words.specs.Words.{Entry, Take, Line, line}
 use Rattle.lu_words.specs.Sent.{Sent}
 use Rattle.lu_client_rows.specs.Calls.{call_on}
 use Rattle.lu_client_rows.specs.Messages.{waits_for, waiter}
@@ -26,69 +25,47 @@ use Rattle.lu_covered.specs.Covered.{AllCovered}
 use Rattle.lu_covered.specs.Heads.{IsAlive}
 use Rattle.lu_table.specs.Heads as table
 use Rattle.lu_table.specs.Runs.{limits_of}
-use Rattle.lu_guards.proofs.Guards.{Was, Later, Ending, is_welcome}
+use Rattle.lu_guards.proofs.Guards.{Later, Ending, is_welcome}
 use Rattle.lu_guards.proofs.Grown.{Grown, Noted}
 use Rattle.lu_guards.proofs.Lists.{turn}
 use Rattle.lu_guards.proofs.Ends.{closes_after}
 use Rattle.lu_guards.proofs.Turns.{Settled, owes_nothing, steps_after}
-use Rattle.lu_guards.proofs.ClientRests.{Good, AwaitsReply, Idle, Rested, Between, Ended, the_head, adds, Keeps, keeps_more, ended}
-use Rattle.lu_guards.proofs.ClientSlots.{slots_still, HasHeard, has_heard}
-
--- ---- no line is of a target that isn't there
-
-abbrev pub IsThere : ℕ → Node → Type 0
-IsThere osts (Client c) = Unit {0}
-IsThere osts (Target t) = t ≤ osts
-
-abbrev pub AllThere : ℕ → List Line → Type 0
-AllThere osts [] = Unit {0}
-AllThere osts (l ∷ past) = IsThere osts l.at.node × AllThere osts past
-
-pub there_turn : (osts : ℕ) (at : At) (es : List Entry) (past : List Line) → IsThere osts at.node → AllThere osts past → AllThere osts (with_turn at es past)
-there_turn osts at [] past h a = a
-there_turn osts at (e ∷ es) past h a = there_turn osts at es (line at e ∷ past) h (h, a)
-
-pub was_there : (osts t : ℕ) (to : Node) (m : Message) (past : List Line) → AllThere osts past → Was past (Target t) to m → t ≤ osts
-was_there osts t to m [] a w = absurd w
-was_there osts t to m (l ∷ past) a w = by l.entry w (λ v. was_there osts t to m past a.1 v)
-  where
-    by : (e : Entry) → Was (line l.at e ∷ past) (Target t) to m → (Was past (Target t) to m → t ≤ osts) → t ≤ osts
-    by (Send node x) (inl r) more = subst (IsThere osts) r.0 a.0
-    by (Send node x) (inr r) more = more r
-    by e w more = more w
+pub use Rattle.lu_guards.proofs.ClientLines.{IsThere, AllThere, there_turn, was_there}
+use Rattle.lu_guards.proofs.ClientRests.{Good, Idle, Rested, Between, Ended, the_head, adds, Keeps, keeps_more, ended}
+use Rattle.lu_guards.proofs.ClientPasses.{slots_still}
+use Rattle.lu_guards.proofs.ClientSlots.{HasHeard, has_heard}
 
 -- ---- calls that wait for no lock
 
--- one that waits has no lock to look for, or asks how long an object is
-idle_stage : {A : Type 0} (f : Stage → A) (x : A) → f Plain ≡ x → ((w : Work) → f (Sizes w) ≡ x) → (calls : List (Option Running)) (r : Running) → Idle calls (Some r) → f r.stage ≡ x
-idle_stage f x plain sizes calls r (inl a) = by a.1
-  where
-    by : AwaitsReply r → f r.stage ≡ x
-    by (inl q) = ap f q.1 ∙ plain
-    by (inr q) = ap f q.0.stage ∙ sizes q.0.work
-idle_stage f x plain sizes calls r (inr w) = ap f w.plain ∙ plain
+-- one that waits has no lock to look for, or asks for one, or how long an object is
+idle_stage : {A : Type 0} (f : Stage → A) (x : A) → f Plain ≡ x → ((w : Work) → f (Sizes w) ≡ x) → ((w : Work) → f (Enqueued w) ≡ x) → (calls : List (Option Running)) (r : Running) → Idle calls (Some r) → f r.stage ≡ x
+idle_stage f x plain sizes locks calls r (inl (inl (n, inl q))) = ap f q.1 ∙ plain
+idle_stage f x plain sizes locks calls r (inl (inl (n, inr q))) = ap f q.0.stage ∙ sizes q.0.work
+idle_stage f x plain sizes locks calls r (inl (inr l)) = ap f l.stage ∙ locks l.work
+idle_stage f x plain sizes locks calls r (inr w) = ap f w.plain ∙ plain
 
 all_quiet : (all : List (Option Running)) (stands : ℕ → Running → Stage → List Entry) → ((slot : ℕ) (r : Running) → stands slot r Plain ≡ []) → ((slot : ℕ) (r : Running) (w : Work) → stands slot r (Sizes w) ≡ [])
-    → (n : ℕ) (calls : List (Option Running)) → ((slot : ℕ) → Idle all (call_on slot calls)) → on_calls stands n calls ≡ []
-all_quiet all stands plain sizes n [] idle = refl
-all_quiet all stands plain sizes n (None ∷ calls) idle = all_quiet all stands plain sizes (n + 1) calls (λ slot. idle (suc slot))
-all_quiet all stands plain sizes n (Some r ∷ calls) idle =
-    ap (λ (es : List Entry). es ++ on_calls stands (n + 1) calls) (idle_stage (stands n r) [] (plain n r) (sizes n r) all r (idle 0)) ∙ all_quiet all stands plain sizes (n + 1) calls (λ slot. idle (suc slot))
+    → ((slot : ℕ) (r : Running) (w : Work) → stands slot r (Enqueued w) ≡ []) → (n : ℕ) (calls : List (Option Running)) → ((slot : ℕ) → Idle all (call_on slot calls)) → on_calls stands n calls ≡ []
+all_quiet all stands plain sizes locks n [] idle = refl
+all_quiet all stands plain sizes locks n (None ∷ calls) idle = all_quiet all stands plain sizes locks (n + 1) calls (λ slot. idle (suc slot))
+all_quiet all stands plain sizes locks n (Some r ∷ calls) idle =
+    ap (λ (es : List Entry). es ++ on_calls stands (n + 1) calls) (idle_stage (stands n r) [] (plain n r) (sizes n r) (locks n r) all r (idle 0))
+    ∙ all_quiet all stands plain sizes locks (n + 1) calls (λ slot. idle (suc slot))
 
 pub nowhere : (who : Who) (boot t n : ℕ) (calls : List (Option Running)) → ((slot : ℕ) → Idle calls (call_on slot calls)) → on_calls (where_stage who boot t) n calls ≡ []
-nowhere who boot t n calls idle = all_quiet calls (where_stage who boot t) (λ slot r. refl) (λ slot r w. refl) n calls idle
+nowhere who boot t n calls idle = all_quiet calls (where_stage who boot t) (λ slot r. refl) (λ slot r w. refl) (λ slot r w. refl) n calls idle
 
 pub no_forgets : (t n : ℕ) (calls : List (Option Running)) → ((slot : ℕ) → Idle calls (call_on slot calls)) → on_calls (forgets_stage t) n calls ≡ []
-no_forgets t n calls idle = all_quiet calls (forgets_stage t) (λ slot r. refl) (λ slot r w. refl) n calls idle
+no_forgets t n calls idle = all_quiet calls (forgets_stage t) (λ slot r. refl) (λ slot r w. refl) (λ slot r w. refl) n calls idle
 
 pub no_looks : (t n : ℕ) (calls : List (Option Running)) → ((slot : ℕ) → Idle calls (call_on slot calls)) → on_calls (looks_stage t) n calls ≡ []
-no_looks t n calls idle = all_quiet calls (looks_stage t) (λ slot r. refl) (λ slot r w. refl) n calls idle
+no_looks t n calls idle = all_quiet calls (looks_stage t) (λ slot r. refl) (λ slot r w. refl) (λ slot r w. refl) n calls idle
 
 none_waits : (all : List (Option Running)) (name : LockName) (n : ℕ) (calls : List (Option Running)) → ((slot : ℕ) → Idle all (call_on slot calls)) → waiter name n calls ≡ None
 none_waits all name n [] idle = refl
 none_waits all name n (None ∷ calls) idle = none_waits all name (n + 1) calls (λ slot. idle (suc slot))
 none_waits all name n (Some r ∷ calls) idle =
-    ap (λ (b : Bool). if b then Some n else waiter name (n + 1) calls) (idle_stage (waits_for name) false refl (λ w. refl) all r (idle 0)) ∙ none_waits all name (n + 1) calls (λ slot. idle (suc slot))
+    ap (λ (b : Bool). if b then Some n else waiter name (n + 1) calls) (idle_stage (waits_for name) false refl (λ w. refl) (λ w. refl) all r (idle 0)) ∙ none_waits all name (n + 1) calls (λ slot. idle (suc slot))
 
 pub no_waiter : (name : LockName) (n : ℕ) (calls : List (Option Running)) → ((slot : ℕ) → Idle calls (call_on slot calls)) → waiter name n calls ≡ None
 no_waiter name n calls idle = none_waits calls name n calls idle
@@ -108,10 +85,10 @@ module _ (head : table.Head) (c : ℕ) (stamp : Stamp) where
     pub there : AllThere head.osts p
     pub alive : IsAlive (the_head head c stamp) p c
     pub between : Between c p
-    pub ready : is_welcome c p ≡ false
+    pub ready : (t : ℕ) → is_welcome c t p ≡ false
 
   pub starts_good : (p : List Line) → Starts p → Good head c at p
-  starts_good p s = record { grown = s.grown; covered = s.covered; steps = steps_after p at s.later; closes = closes_after p at s.closed; noted = s.noted; alive = s.alive }
+  starts_good p s = record { grown = s.grown; covered = s.covered; steps = steps_after p at s.later; closes = closes_after p at s.closed; noted = s.noted; there = s.there; alive = s.alive }
 
   -- ---- after the event
 
@@ -141,4 +118,4 @@ module _ (head : table.Head) (c : ℕ) (stamp : Stamp) where
   took_good p n t m s sent = adds head c stamp p (Take n (Target t) m) (starts_good p s) (owes_nothing p at (Take n (Target t) m) s.settled) (record { sent = sent; later = s.later }) (λ u e. tt) tt refl
 
   pub took_rested : (p : List Line) (n t : ℕ) (m : Message) → Starts p → Sent p n (Target t) (Client c) m → Rested head c at (line at (Take n (Target t) m) ∷ p)
-  took_rested p n t m s sent = record { good = took_good p n t m s sent; settled = tt; idle = s.between.idle; handles = s.between.handles; free = λ x i. s.between.held x i }
+  took_rested p n t m s sent = record { good = took_good p n t m s sent; settled = tt; idle = s.between.idle; handles = s.between.handles }

@@ -171,11 +171,11 @@ module _ (c : ℕ) where
         grow e r more low w = let a = held_own l.at.stamp e P r more in omega arith
 
         -- a lock is given up where the target serves the life, or the life ends
-        dropped : (u : ℕ) (lock : Lock) → u ≡ 0 → GivesUp past at c lock → Closes past at → Fine past P → (b : Bool) → nat_eq t u ≡ b → Fine (X (Client c) (Drop u lock) ∷ past) (if b then X (Client c) (Drop u lock) ∷ P else P)
-        dropped u lock z gives closes ih false q v = apart (Drop u lock) closes refl ih v
-        dropped u lock z (inl m) closes ih true q v =
-            absurd (let s : Serving ≡ Recovering = sym m.serves ∙ ap (λ (x : ℕ). standing_at c x past) (sym (eqb-true t u q ∙ z)) ∙ standing_is c t past ∙ v in cc)
-        dropped u lock z (inr n) closes ih true q v =
+        dropped : (u : ℕ) (lock : Lock) → GivesUp past at c u lock → Closes past at → Fine past P → (b : Bool) → nat_eq t u ≡ b → Fine (X (Client c) (Drop u lock) ∷ past) (if b then X (Client c) (Drop u lock) ∷ P else P)
+        dropped u lock gives closes ih false q v = apart (Drop u lock) closes refl ih v
+        dropped u lock (inl m) closes ih true q v =
+            absurd (let s : Serving ≡ Recovering = sym m.serves ∙ ap (λ (x : ℕ). standing_at c x past) (sym (eqb-true t u q)) ∙ standing_is c t past ∙ v in cc)
+        dropped u lock (inr n) closes ih true q v =
             inl (refl, record { target = n.target; boot = n.boot; took = took_more (X (Client c) (Drop u lock)) past at (Target n.target) (message.Evicted (life_at c past) n.boot) n.took })
 
         -- a boot is told, and now that is what it holds
@@ -200,7 +200,7 @@ module _ (c : ℕ) where
         mine (Unpins name) ok closes ih v = own (Unpins name) closes refl refl (grow (Unpins name) refl (used_more name (held_at c P)) (omega arith)) ih v
         mine (Marks name) ok closes ih v = own (Marks name) closes refl refl (grow (Marks name) refl (changed_more name change.Mark (held_at c P)) (omega arith)) ih v
         mine (Unmarks u) ok closes ih v = own (Unmarks u) closes refl refl (grow (Unmarks u) refl (unmarked_more u (held_at c P)) (omega arith)) ih v
-        mine (Drop u lock) ok closes ih v = dropped u lock ok.0 ok.1 closes ih (nat_eq t u) refl v
+        mine (Drop u lock) ok closes ih v = dropped u lock ok closes ih (nat_eq t u) refl v
         mine e ok closes ih v = own e closes refl refl (λ w. w) ih v
 
         by : (node : Node) (e : Entry) → EntryOk past (turn l.at.stamp node) node e → Closes past (turn l.at.stamp node) → Fine past P → Goal node e

@@ -1,776 +1,318 @@
--- What clients have of a target, and what stands in its slots and on its disk, comes from what it did: each lock that they hold or bring
--- back was granted, and no number is above those that the target has given. So each cookie is one lock's, for good.
-use Rattle.std.proofs.Common.{◌≡◌, ℕ, ◌+◌, ◌*◌, ◌<◌, ◌≤◌, Bool, true, false, List, [], ◌∷◌, ◌++◌, Some, ◌⊎◌, inl, inr, ⊎_elim, refl, sym, subst, ap, ◌∙◌, arith}
-use Rattle.std.specs.Prelude.{nat_eq, nat_lt, max, ◌&&◌, if◌then◌else◌, not}
-use Rattle.std.specs.List.{filter}
-use Rattle.std.proofs.lemmas.Bool.{cond_both, eqb-true}
+-- Each lock that a target has granted has a cookie of its own, for good, and a boot has numbers and cookies left: with that what it tells and
+-- has granted, and what clients have of it, comes from what it did.
+use Rattle.std.proofs.Common.{◌≡◌, ℕ, ◌+◌, ◌*◌, ◌<◌, ◌≤◌, List, [], ◌∷◌, Some, None, ◌⊎◌, inl, inr, ⊎_elim, refl, sym, subst, ap, ◌∙◌, arith}
+use Rattle.std.specs.Prelude.{max}
 use Rattle.lu_base.specs.declared.ids.At.{At}
 use Rattle.lu_base.specs.declared.ids.Node.{Node}
 use Rattle.lu_base.specs.declared.ids.Node.TheVariants.{Client, Target}
+use Rattle.lu_base.specs.declared.ids.Stamp.{Stamp}
 use Rattle.lu_base.specs.declared.ids.Txn.{Txn as TxnOf}
 use Rattle.lu_base.specs.declared.ids.Who.{Who}
+use Rattle.lu_base.specs.declared.locks.Extent.{Extent}
 use Rattle.lu_base.specs.declared.locks.Lock.{Lock}
+use Rattle.lu_base.specs.declared.locks.Mode.{Mode}
+use Rattle.lu_base.specs.declared.locks.Mode.TheVariants.{PR}
+use Rattle.lu_base.specs.declared.locks.Policy.{Policy}
+use Rattle.lu_base.specs.declared.locks.Policy.TheVariants.{Range}
 use Rattle.lu_msg.specs.declared.answers.Answer.{Answer}
 use Rattle.lu_msg.specs.declared.answers.Answer.TheVariants as told
-use Rattle.lu_msg.specs.declared.commits.Batch.{Batch}
-use Rattle.lu_msg.specs.declared.commits.KeptReply.{KeptReply}
-use Rattle.lu_msg.specs.declared.messages.LockReplay.{LockReplay}
-use Rattle.lu_msg.specs.declared.messages.Message.{Message}
-use Rattle.lu_msg.specs.declared.messages.Message.TheVariants as message
 use Rattle.lu_msg.specs.declared.messages.Reply.{Reply as ReplyTo}
-use Rattle.lu_msg.specs.declared.messages.RequestReplay.{RequestReplay}
 use Rattle.lu_msg.specs.declared.operations.Op.{Op}
 use Rattle.lu_msg.specs.declared.operations.Op.TheVariants as op
-use Rattle.lu_held.specs.declared.locks.HeldLock.{HeldLock}
-use Rattle.lu_held.specs.declared.locks.Change.{Change}
-use Rattle.lu_held.specs.declared.locks.Change.TheVariants as change
-use Rattle.lu_held.specs.Held.{changed, used, without, unmarked}
-use Rattle.lu_held.specs.Locks.{is_named, named, after}
-use Rattle.lu_machine.specs.Fits.{answer_fits}
-use Rattle.lu_machine.specs.Footprint.{answer}
-use Rattle.lu_machine.specs.Tree.{Tree}
-use Rattle.lu_machine.proofs.Fits.{answers_fit}
-use Rattle.lu_part.specs.declared.parts.Want.{Want}
-use Rattle.lu_words.specs.Carried.{Deed, Slot, LifeSlot, Gone, Flight, Contents, Disk, Outcome}
-use Rattle.lu_words.specs.Words.{Entry, Send, Act, Txn, Enters, Commit, Boot, Close, Stores, Brings, Heard, Hold, Drop, Pins, Unpins, Marks, Unmarks, Life, Settles, Line, line, same_life}
-use Rattle.lu_client_rows.specs.Caches.{held_as, with_held, with_brought, granted_lock, brought, held_at}
-use Rattle.lu_client_rows.specs.Imports.{Replay, with_reply, with_replay, replay_of}
-use Rattle.lu_client_rows.specs.Imports as imports
-use Rattle.lu_client_rows.specs.Recovery.{lock_replayed}
-use Rattle.lu_target_rows.specs.Kept.{replayed}
-use Rattle.lu_target_rows.specs.Lives.{slots_kept, slots_without, lives_of as lives_in}
+use Rattle.lu_words.specs.Carried.{Deed, Flight, Disk}
+use Rattle.lu_words.specs.Words.{Entry, Act, Txn, Grant, Boot, Close, Heard, Line, line}
+use Rattle.lu_client_rows.specs.Caches.{granted_lock}
 use Rattle.lu_target_rows.specs.Names.{locks_from}
-use Rattle.lu_target_rows.specs.Outcomes as rows
-use Rattle.lu_target_rows.specs.Outcomes.{deed_again, answer_of, redone}
 use Rattle.lu_target_rows.specs.Phase.{greatest_cookie}
-use Rattle.lu_target_rows.specs.Recovery.{commit_of, kept_lines, restore_lines}
-use Rattle.lu_target_rows.specs.Rows.{lock_again}
-use Rattle.lu_target_rows.specs.States.{Target as TargetOf}
-use Rattle.lu_target_rows.specs.Stored.{batch_of, replies_of}
-use Rattle.lu_target_rows.specs.Windows.{Replayed, replay_before, brought_before, settled, kept_numbers}
-use Rattle.lu_covered.specs.ClientStates.{life_of, is_own, kept_of as kept_by}
+use Rattle.lu_covered.specs.ClientStates.{life_of}
+use Rattle.lu_covered.specs.Deeds.{whole, read_lock, granted}
 use Rattle.lu_covered.specs.Heads.{Head}
-use Rattle.lu_covered.specs.TargetCloses.{disk_of, recovering_of, outcome_of, closing_of, but_first, shows, shows_evicted, shows_ready, shows_joined, staying}
-use Rattle.lu_covered.specs.TargetParts.{is_slot_of as is_slot, answered, entered}
-use Rattle.lu_covered.specs.TargetStates.{Server, none, next_number, server_of, slot_of, lives_of, replays_of, brought_of}
-use Rattle.lu_guards.proofs.Guards.{In, Was}
-use Rattle.lu_guards.proofs.StoryGuards.{ActsOk, SendOf, EntryOf, CommitOk, CloseOk, Due}
-use Rattle.lu_guards.proofs.Acts.{Acted, acted, sized_answer, sized_bare}
-use Rattle.lu_guards.proofs.Lists.{turn, in_append, in_filter}
+use Rattle.lu_covered.specs.TargetStates.{Server, none, next_number, server_of}
+use Rattle.lu_guards.proofs.Guards.{In}
+use Rattle.lu_guards.proofs.StoryGuards.{ActsOk, TxnOk, GrantOk, RangeOk, BootOk, HeardOk, EntryOf}
+use Rattle.lu_guards.proofs.Acts.{Acted, acted, sized_answer, sized_bare, ReadLock, from_names}
+use Rattle.lu_guards.proofs.Lists.{turn}
 use Rattle.lu_guards.proofs.LifeLists.{same_cookie}
-use Rattle.lu_guards.proofs.LockLists.{Rises, in_above, above_from, greatest_least, greatest_has}
-use Rattle.lu_guards.proofs.ClientLocks.{with_only, changed_only, used_only, without_only, unmarked_only}
-use Rattle.lu_guards.proofs.CloseLists.{in_placed, in_deeds, in_kept, in_replies, in_batch, in_slot}
+use Rattle.lu_guards.proofs.LockLists.{Rises, in_above, above_from, rises_from, greatest_least, greatest_has, in_put}
 use Rattle.lu_guards.proofs.TargetStory.{numbered, from_who}
+use Rattle.lu_guards.proofs.Requests.{Asks, Requests, requests_start, asks_more, requests_line}
+use Rattle.lu_guards.proofs.Has.{Ungranted, ungranted, Fine, Has, Own, has_start, has_line, fine_more, has_more}
 
--- ---- locks that were granted
-
--- some act granted it: reads Act
+-- some act granted it, or a line of its own: reads Act and Grant
 abbrev pub Gave : List Line → Lock → Type 0
 Gave [] lock = ⊥
-Gave (l ∷ past) lock = elim l.entry [ Act d ↦ In lock d.reply.locks ⊎ Gave past lock | _ ↦ Gave past lock ]
+Gave (l ∷ past) lock = elim l.entry [ Act d ↦ In lock d.reply.locks ⊎ Gave past lock | Grant k asked ↦ (k ≡ lock) ⊎ Gave past lock | _ ↦ Gave past lock ]
 
-rises_from : (cookie : ℕ) (who : Who) (wants : List Want) → Rises (locks_from cookie who wants)
-rises_from cookie who [] = tt
-rises_from cookie who (want ∷ wants) = (above_from (cookie + 1) (cookie + 1) who wants (omega arith), rises_from (cookie + 1) who wants)
+-- an answer to a request of a life that grants a lock: one to read under, on the whole of the object that was asked for, which is empty
+pub record Grants (past : List Line) (who : Who) (n : ℕ) (a : Answer) : Type 0 where
+  pub lock : Lock
+  pub gave : Gave past lock
+  pub of_life : lock.ask.who ≡ who
+  pub kind : ReadLock lock
+  pub extent : Extent
+  pub asked : Asks past who n (op.Enqueue lock.resource PR extent)
+  pub is : a ≡ told.Granted lock.cookie whole 0
 
--- ---- no answer about names grants a lock of an object
+pub gave_more : (past : List Line) (l : Line) (k : Lock) → Gave past k → Gave (l ∷ past) k
+gave_more past l k g = by l.entry
+  where
+    by : (e : Entry) → Gave (line l.at e ∷ past) k
+    by (Act d) = inr g
+    by (Grant lock asked) = inr g
+    by e = g
 
-abbrev pub Ungranted : Answer → Type 0
-Ungranted (told.Granted cookie extent size) = ⊥
-Ungranted _ = Unit {0}
-
-none_granted : (o : Op) (r : ReplyTo) (a : Answer) → Ungranted a → granted_lock o r a ≡ []
-none_granted (op.Enqueue resource mode extent) r (told.Granted cookie size k) u = absurd u
-none_granted o r a u = refl
-
-abbrev IsOther : Op → Type 0
-IsOther (op.Enqueue resource mode extent) = ⊥
-IsOther _ = Unit {0}
-
-fits_ungranted : (o : Op) (a : Answer) → IsOther o → answer_fits o a ≡ true → Ungranted a
-fits_ungranted (op.Enqueue resource mode extent) a other fits = absurd other
-fits_ungranted o (told.Granted cookie extent size) other fits = absurd (cc)
-fits_ungranted o a other fits = tt
-
-ungranted : (osts : ℕ) (t : Tree) (number : TxnOf) (who : Who) (o : Op) → Ungranted (answer osts t (record { number = number; who = who; op = o }))
-ungranted osts t number who (op.Enqueue resource mode extent) = tt
-ungranted osts t number who o = fits_ungranted o (answer osts t (record { number = number; who = who; op = o })) tt (answers_fit osts t (record { number = number; who = who; op = o }))
-
--- ---- a reply that comes from what the target did: of numbers up to n, with locks that G has
-
-abbrev pub Fine : (n : ℕ) (G : Lock → Type 0) → ReplyTo → Type 0
-Fine n G k = record { number : k.txn.0 ≤ n; locks : (l : Lock) → In l k.locks → G l × (l.ask.who ≡ k.who); answer : Ungranted k.answer }
-
-module _ (n : ℕ) (G : Lock → Type 0) (head : Head) where
-  -- so are all replies that the target keeps, has on its disk, is to put there by a close, or sent; and what clients have of them, tell in a
-  -- recovery, and it has taken then
-  pub record Has (past : List Line) : Type 0 where
-    pub slots : (who : Who) (tag : ℕ) (k : ReplyTo) → (slot_of who tag past).reply ≡ Some k → Fine n G k
-    pub disk : (s : LifeSlot) (k : ReplyTo) → In s (disk_of head.osts head.clients past).slots → s.slot.reply ≡ Some k → Fine n G k
-    pub log : (d : Deed) → In d (server_of head.osts past).log → Fine n G d.reply
-    pub closing : (to : ℕ) (batch : Batch) (k : KeptReply) → In (Commit to batch) (closing_of head.clients past) → In k batch.replies → Fine n G k.reply
-    pub sent : (from to : Node) (k : ReplyTo) → Was past from to (message.Reply k) → Fine n G k
-    pub held : (c : ℕ) (x : HeldLock) → In x (held_at c past) → G x.lock × (x.lock.ask.who ≡ life_of c past)
-    pub kept : (who : Who) (r : Replay) → In r (kept_by who past).replays → r.txn.0 ≤ n
-    pub locks : (from to : Node) (r : LockReplay) → Was past from to (message.Lock r) → G (lock_again r)
-    pub told : (from to : Node) (r : RequestReplay) → Was past from to (message.Replay r) → r.txn.0 ≤ n
-    pub replays : (r : Replayed) → In r (replays_of past) → r.number ≤ n
-    pub brought : (l : Lock) → In l (brought_of past) → G l
-
-  pub has_start : Has []
-  has_start =
-      record {
-        slots = λ who tag k e. absurd (cc);
-        disk = λ s k i. absurd i;
-        log = λ d i. absurd i;
-        closing = λ to batch k i. absurd i;
-        sent = λ from to k was. absurd was;
-        held = λ c x i. absurd i;
-        kept = λ who r i. absurd i;
-        locks = λ from to r was. absurd was;
-        told = λ from to r was. absurd was;
-        replays = λ r i. absurd i;
-        brought = λ l i. absurd i;
-      }
-
-  pub in_but : (e : Entry) (es : List Entry) → In e (but_first es) → In e es
-  in_but e [] i = i
-  in_but e (x ∷ es) i = inr i
-
-  -- ---- what is sent
-
-  abbrev New : Message → Type 0
-  New (message.Reply k) = Fine n G k
-  New (message.Lock r) = G (lock_again r)
-  New (message.Replay r) = r.txn.0 ≤ n
-  New _ = Unit {0}
-
-  -- a lock that is brought back is the one that was held
-  lock_same : (who : Who) (boot : ℕ) (l : Lock) → l.ask.who ≡ who → l ≡ lock_again (lock_replayed who boot l)
-  lock_same who boot l own = ap (λ (w : Who). record { cookie = l.cookie; resource = l.resource; ask = record { who = w; mode = l.ask.mode; policy = l.ask.policy } }) own
-
-  sends : (past : List Line) (from to : Node) (m : Message) → SendOf head past from to m → Has past → New m
-  sends past (Target t) (Client c) (message.Reply k) ok h = subst (λ (r : ReplyTo). Fine n G r) (sym ok.is) (let f = h.slots ok.who ok.tag ok.kept ok.slot in record { number = f.number; locks = f.locks; answer = f.answer })
-  sends past (Target t) (Target c) (message.Reply k) ok h = absurd ok
-  sends past (Client t) (Client c) (message.Reply k) ok h = absurd ok
-  sends past (Client t) (Target c) (message.Reply k) ok h = absurd ok
-  sends past (Client c) (Target t) (message.Lock r) ok h =
-      let x = h.held c ok.holding ok.held in
-      let own : ok.holding.lock.ask.who ≡ r.who = x.1 ∙ sym ok.tells.of_life in
-      subst G (lock_same r.who r.boot ok.holding.lock own ∙ ap lock_again (sym ok.is)) x.0
-  sends past (Target c) (Client t) (message.Lock r) ok h = absurd ok
-  sends past (Target c) (Target t) (message.Lock r) ok h = absurd ok
-  sends past (Client c) (Client t) (message.Lock r) ok h = absurd ok
-  sends past (Client c) (Target t) (message.Replay r) ok h = let low = h.kept r.who ok.replay ok.kept in let same : r.txn.0 ≡ ok.replay.txn.0 = ap (λ (x : RequestReplay). x.txn.0) ok.is in omega (arith, low, same)
-  sends past (Target c) (Client t) (message.Replay r) ok h = absurd ok
-  sends past (Target c) (Target t) (message.Replay r) ok h = absurd ok
-  sends past (Client c) (Client t) (message.Replay r) ok h = absurd ok
-  sends past from to m ok h = tt
-
-  -- ---- batches
-
-  -- the replies of the deeds of a log
-  of_deeds : (ds : List Deed) → ((d : Deed) → In d ds → Fine n G d.reply) → (k : KeptReply) → In k (replies_of ds []) → Fine n G k.reply
-  of_deeds ds each k i = ⊎_elim (λ (r : (d : Deed) × In d ds × (k.reply ≡ d.reply)). subst (λ (x : ReplyTo). Fine n G x) (sym r.2) (each r.0 r.1)) (λ (j : In k []). absurd j) (in_replies ds [] k i)
-
-  of_batch : (past : List Line) (at : At) (to : ℕ) (batch : Batch) → CommitOk head past at to batch → Has past → (k : KeptReply) → In k batch.replies → Fine n G k.reply
-  of_batch past at to batch ok h k i = by ok.of_batch
-    where
-      upto : List Deed
-      upto = filter (λ (d : Deed). not (nat_lt to d.reply.txn.0)) (server_of head.osts past).log
-
-      by : (batch ≡ batch_of upto batch.removed batch.added) ⊎ Due head past at (Commit to batch) → Fine n G k.reply
-      by (inl is) = of_deeds upto (λ d j. h.log d (in_filter (λ (x : Deed). not (nat_lt to x.reply.txn.0)) d (server_of head.osts past).log j).0) k (subst (λ (b : Batch). In k b.replies) is i)
-      by (inr due) = h.closing to batch k (subst (λ (es : List Entry). In (Commit to batch) es) (sym due.1) (inl refl)) i
-
-  -- what stands in the slots that it leaves
-  of_slots : (gone : List Who) (ks : List KeptReply) (slots : List LifeSlot) → ((k : KeptReply) → In k ks → Fine n G k.reply) → ((s : LifeSlot) (k : ReplyTo) → In s slots → s.slot.reply ≡ Some k → Fine n G k)
-      → (s : LifeSlot) (k : ReplyTo) → In s (slots_without gone (slots_kept ks slots)) → s.slot.reply ≡ Some k → Fine n G k
-  of_slots gone ks slots new old s k i e =
-      ⊎_elim (λ (r : (x : KeptReply) × In x ks × (s.slot.reply ≡ Some x.reply)). let same : Some r.0.reply ≡ Some k = sym r.2 ∙ e in let is : r.0.reply ≡ k = cc in subst (λ (x : ReplyTo). Fine n G x) is (new r.0 r.1))
-      (λ (j : In s slots). old s k j e) (in_batch gone ks slots s i)
-
-  -- ---- a close
-
-  answers : (osts : ℕ) (c : Contents) (r : Replayed) (o : Op) → Ungranted (answer_of osts c r o)
-  answers osts c r (op.Put resource cookie offset bytes) = tt
-  answers osts c r (op.Cut resource cookie size) = tt
-  answers osts c r o = ungranted osts c.tree (redone r).number (redone r).who (redone r).op
-
-  -- a kept replay's reply is as new, without locks
-  deed_fine : (v : TargetOf) (at : At) (c : Contents) (r : Replayed) → r.number ≤ n → Fine n G (deed_again v at c r).reply
-  deed_fine v at c r low = record { number = low; locks = λ l i. absurd i; answer = answers v.setting.osts c r r.op }
-
-  pub deeds_fine : (past : List Line) (at : At) → Has past → (d : Deed) → In d (outcome_of head.osts head.clients at past).kept → Fine n G d.reply
-  deeds_fine past at h d i =
-      let v = recovering_of head.osts head.clients past in
-      let w = rows.window_of v in
-      let r = in_deeds v at v.disk.contents (settled w).kept d i in
-      subst (λ (x : Deed). Fine n G x.reply) r.2.1 (deed_fine v at r.2.0 r.0 (h.replays r.0 (in_kept (kept_numbers w) w.replays r.0 r.1)))
-
-  -- the one commit that it shows has the kept ones
-  abbrev NoCommit : Entry → Type 0
-  NoCommit (Commit to batch) = ⊥
-  NoCommit _ = Unit {0}
-
-  not_kept : (ds : List Deed) (e : Entry) → In e (kept_lines ds) → NoCommit e
-  not_kept [] e i = absurd i
-  not_kept (d ∷ ds) e (inl q) = subst NoCommit q tt
-  not_kept (d ∷ ds) e (inr i) = not_kept ds e i
-
-  not_restored : (ls : List Lock) (e : Entry) → In e (restore_lines ls) → NoCommit e
-  not_restored [] e i = absurd i
-  not_restored (l ∷ ls) e (inl q) = subst NoCommit q tt
-  not_restored (l ∷ ls) e (inr i) = not_restored ls e i
-
-  not_evicted : (o : Outcome) (gone : List Gone) (e : Entry) → In e (shows_evicted o gone) → NoCommit e
-  not_evicted o [] e i = absurd i
-  not_evicted o (g ∷ gone) e (inl q) = subst NoCommit q tt
-  not_evicted o (g ∷ gone) e (inr (inl q)) = subst NoCommit q tt
-  not_evicted o (g ∷ gone) e (inr (inr i)) = not_evicted o gone e i
-
-  not_ready : (o : Outcome) (lives : List Who) (e : Entry) → In e (shows_ready o lives) → NoCommit e
-  not_ready o [] e i = absurd i
-  not_ready o (w ∷ lives) e (inl q) = subst NoCommit q tt
-  not_ready o (w ∷ lives) e (inr i) = not_ready o lives e i
-
-  not_joined : (o : Outcome) (lives : List Who) (e : Entry) → In e (shows_joined o lives) → NoCommit e
-  not_joined o [] e i = absurd i
-  not_joined o (w ∷ lives) e (inl q) = subst NoCommit q tt
-  not_joined o (w ∷ lives) e (inr (inl q)) = subst NoCommit q tt
-  not_joined o (w ∷ lives) e (inr (inr i)) = not_joined o lives e i
-
-  not_rest : (o : Outcome) (lives : List Who) (e : Entry) → In e (kept_lines o.kept ++ (restore_lines o.locks ++ (shows_evicted o o.gone ++ (shows_ready o (staying o lives) ++ shows_joined o o.joins)))) → NoCommit e
-  not_rest o lives e i =
-      ⊎_elim (not_kept o.kept e)
-      (λ (j : In e (restore_lines o.locks ++ (shows_evicted o o.gone ++ (shows_ready o (staying o lives) ++ shows_joined o o.joins)))).
-      ⊎_elim (not_restored o.locks e)
-      (λ (k : In e (shows_evicted o o.gone ++ (shows_ready o (staying o lives) ++ shows_joined o o.joins))).
-      ⊎_elim (not_evicted o o.gone e)
-      (λ (m : In e (shows_ready o (staying o lives) ++ shows_joined o o.joins)). ⊎_elim (not_ready o (staying o lives) e) (not_joined o o.joins e) (in_append e (shows_ready o (staying o lives)) (shows_joined o o.joins) m))
-      (in_append e (shows_evicted o o.gone) (shows_ready o (staying o lives) ++ shows_joined o o.joins) k))
-      (in_append e (restore_lines o.locks) (shows_evicted o o.gone ++ (shows_ready o (staying o lives) ++ shows_joined o o.joins)) j))
-      (in_append e (kept_lines o.kept) (restore_lines o.locks ++ (shows_evicted o o.gone ++ (shows_ready o (staying o lives) ++ shows_joined o o.joins))) i)
-
-  pub shown_commit : (o : Outcome) (lives : List Who) (to : ℕ) (batch : Batch) → In (Commit to batch) (shows o lives) → batch ≡ batch_of o.kept (lives_in o.gone) o.joins
-  shown_commit o lives to batch (inl e) = of_commit (sym e)
-    where
-      of_commit : Commit to batch ≡ commit_of o → batch ≡ batch_of o.kept (lives_in o.gone) o.joins
-      of_commit q = cc
-  shown_commit o lives to batch (inr i) = absurd (not_rest o lives (Commit to batch) i)
-
-  -- ---- what a client holds, and keeps for recovery
-
-  -- held locks, with what holds of each
-  abbrev Good : List Line → ℕ → HeldLock → Type 0
-  Good past c x = G x.lock × (x.lock.ask.who ≡ life_of c past)
-
-  good_lock : (past : List Line) (c : ℕ) (x y : HeldLock) → x.lock ≡ y.lock → Good past c x → Good past c y
-  good_lock past c x y e k = subst (λ (l : Lock). G l × (l.ask.who ≡ life_of c past)) e k
-
-  good_changed : (past : List Line) (c : ℕ) (b : Bool) (k : Change) (x y : HeldLock) → (if b then after k x else x) ≡ y → Good past c x → Good past c y
-  good_changed past c true k x y e g = good_lock past c x y (same k ∙ ap (λ (z : HeldLock). z.lock) e) g
-    where
-      same : (k : Change) → x.lock ≡ (after k x).lock
-      same change.Mark = refl
-      same change.Unmark = refl
-      same change.Pin = refl
-      same change.Unpin = refl
-  good_changed past c false k x y e g = good_lock past c x y (ap (λ (z : HeldLock). z.lock) e) g
-
-  brought_from : (t : ℕ) (ls : List Lock) (hs : List HeldLock) (x : HeldLock) → In x (with_brought t ls hs) → ((l : Lock) × In l ls × (held_as t l false ≡ x)) ⊎ In x hs
-  brought_from t [] hs x i = inr i
-  brought_from t (l ∷ ls) hs x i =
-      ⊎_elim (λ (r : (k : Lock) × In k ls × (held_as t k false ≡ x)). inl (r.0, inr r.1, r.2))
-      (λ (j : In x (with_held (held_as t l false) hs)). ⊎_elim (λ (e : held_as t l false ≡ x). inl (l, inl refl, e)) (λ (m : In x hs). inr m) (with_only (held_as t l false) x hs j))
-      (brought_from t ls (with_held (held_as t l false) hs) x i)
-
-  in_with_replay : (r q : Replay) (rs : List Replay) → In q (with_replay r rs) → (r ≡ q) ⊎ In q rs
-  in_with_replay r q [] i = i
-  in_with_replay r q (x ∷ rs) i = by (nat_lt x.txn.0 r.txn.0) (nat_eq x.txn.0 r.txn.0) i (in_with_replay r q rs)
-    where
-      by : (below same : Bool) → In q (if below then x ∷ with_replay r rs else if same then r ∷ rs else r ∷ x ∷ rs) → (In q (with_replay r rs) → (r ≡ q) ⊎ In q rs) → (r ≡ q) ⊎ In q (x ∷ rs)
-      by true same (inl e) more = inr (inl e)
-      by true same (inr j) more = ⊎_elim (λ (e : r ≡ q). inl e) (λ (k : In q rs). inr (inr k)) (more j)
-      by false true (inl e) more = inl e
-      by false true (inr j) more = inr (inr j)
-      by false false i more = i
-
-  in_with_reply : (f : Flight) (r : ReplyTo) (q : Replay) (rs : List Replay) → In q (with_reply f r rs) → (replay_of f r ≡ q) ⊎ In q rs
-  in_with_reply f r q rs = by (nat_eq r.txn.0 0)
-    where
-      by : (b : Bool) → In q (if b then rs else with_replay (replay_of f r) rs) → (replay_of f r ≡ q) ⊎ In q rs
-      by true i = inr i
-      by false i = in_with_replay (replay_of f r) q rs i
-
-  -- ---- line by line
-
-  -- what was just done
-  abbrev pub Own : Entry → Type 0
-  Own (Act d) = Fine n G d.reply
-  Own (Txn d) = Fine n G d.reply
-  Own _ = Unit {0}
-
-  module _ (past : List Line) (here : At) where
-    abbrev Goes : Node → Entry → Type 0
-    Goes node e = EntryOf head past here node e → Own e → Has past → Has (line (turn here.stamp node) e ∷ past)
-
-    -- one that is sent, or was
-    was_or : (from to : Node) (k : Message) (e : Message) (x y : Node) → (New e) → ((x ≡ from) × (y ≡ to) × (e ≡ k)) ⊎ Was past from to k → New k ⊎ Was past from to k
-    was_or from to k e x y new (inl q) = inl (subst New q.2 new)
-    was_or from to k e x y new (inr w) = inr w
-
-    closes : (t : ℕ) (o : Outcome) → CloseOk head past here o → Has past → Has (line (turn here.stamp (Target t)) (Close o) ∷ past)
-    closes t o ok h = subst (λ (x : Outcome). Has (line (turn here.stamp (Target t)) (Close x) ∷ past)) (sym ok.is) by_outcome
-      where
-        x : Outcome
-        x = outcome_of head.osts head.clients here past
-
-        replies : (k : KeptReply) → In k (replies_of x.kept []) → Fine n G k.reply
-        replies k i = of_deeds x.kept (deeds_fine past here h) k i
-
-        slots : (s : LifeSlot) (k : ReplyTo) → In s x.disk.slots → s.slot.reply ≡ Some k → Fine n G k
-        slots = of_slots (lives_in x.gone) (replies_of x.kept []) (disk_of head.osts head.clients past).slots replies h.disk
-
-        by_outcome : Has (line (turn here.stamp (Target t)) (Close x) ∷ past)
-        by_outcome =
-            record {
-              slots = λ who tag k e. let r = in_slot x.disk.slots who tag k e in slots r.0 k r.1 r.2;
-              disk = h.disk;
-              log = λ d i. absurd i;
-              closing = λ to batch k i j. replies k (subst (λ (b : Batch). In k b.replies) (shown_commit x (lives_of head.clients past) to batch i) j);
-              sent = h.sent;
-              held = h.held;
-              kept = h.kept;
-              locks = h.locks;
-              told = h.told;
-              replays = λ r i. absurd i;
-              brought = λ l i. absurd i;
-            }
-
-    heard : (c t : ℕ) (f : Flight) (r : ReplyTo) → Fine n G r → r.who ≡ life_of c past → Has past → (d : ℕ) (x : HeldLock) → In x (held_at d (line (turn here.stamp (Client c)) (Heard t f r) ∷ past)) → Good past d x
-    heard c t f r fine who h d x =
-        cond_both (nat_eq d c) (with_brought t (brought f.op r) (held_at d past)) (held_at d past) (λ (gs : List HeldLock). In x gs → Good past d x)
-        (λ q i. let same = eqb-true d c q in
-        ⊎_elim (λ (m : (l : Lock) × In l (brought f.op r) × (held_as t l false ≡ x)). good_lock past d (held_as t m.0 false) x (ap (λ (z : HeldLock). z.lock) m.2) (subst (λ (u : ℕ). Good past u (held_as t m.0 false)) (sym same) (new m.0 m.1)))
-        (λ (j : In x (held_at d past)). h.held d x j) (brought_from t (brought f.op r) (held_at d past) x i))
-        (λ q i. h.held d x i)
-      where
-        new : (l : Lock) → In l (brought f.op r) → Good past c (held_as t l false)
-        new l i =
-            ⊎_elim (λ (j : In l r.locks). let k = fine.locks l j in (k.0, k.1 ∙ who))
-            (λ (j : In l (granted_lock f.op r r.answer)). absurd (subst (λ (ls : List Lock). In l ls) (none_granted f.op r r.answer fine.answer) j)) (in_append l r.locks (granted_lock f.op r r.answer) i)
-
-    heard_kept : (f : Flight) (r : ReplyTo) → Fine n G r → (who : Who) → Has past → (q : Replay) → In q (with_reply f r (kept_by who past).replays) → q.txn.0 ≤ n
-    heard_kept f r fine who h q i = ⊎_elim (λ (e : replay_of f r ≡ q). subst (λ (x : Replay). x.txn.0 ≤ n) e fine.number) (λ (j : In q (kept_by who past).replays). h.kept who q j) (in_with_reply f r q (kept_by who past).replays i)
-
-    lives : (c : ℕ) (new : Who) → held_at c past ≡ [] → Has past → (d : ℕ) (x : HeldLock) (b : Bool) → nat_eq d c ≡ b → In x (held_at d past) → G x.lock × (x.lock.ask.who ≡ (if b then new else life_of d past))
-    lives c new empty h d x true q i = absurd (subst (λ (hs : List HeldLock). In x hs) (ap (λ (u : ℕ). held_at u past) (eqb-true d c q) ∙ empty) i)
-    lives c new empty h d x false q i = h.held d x i
-
-    by : (node : Node) (e : Entry) → Goes node e
-    by (Target t) (Send to m) ok own h =
-        record {
-          slots = h.slots;
-          disk = h.disk;
-          log = h.log;
-          closing = λ to batch k i j. h.closing to batch k (in_but (Commit to batch) (closing_of head.clients past) i) j;
-          sent = λ from x k was. ⊎_elim (λ (f : New (message.Reply k)). f) (λ (w : Was past from x (message.Reply k)). h.sent from x k w) (was_or from x (message.Reply k) m (Target t) to (sends past (Target t) to m ok h) was);
-          held = h.held;
-          kept = h.kept;
-          locks = λ from x k was. ⊎_elim (λ (f : New (message.Lock k)). f) (λ (w : Was past from x (message.Lock k)). h.locks from x k w) (was_or from x (message.Lock k) m (Target t) to (sends past (Target t) to m ok h) was);
-          told = λ from x k was. ⊎_elim (λ (f : New (message.Replay k)). f) (λ (w : Was past from x (message.Replay k)). h.told from x k w) (was_or from x (message.Replay k) m (Target t) to (sends past (Target t) to m ok h) was);
-          replays = h.replays;
-          brought = h.brought;
-        }
-    by (Target t) (Enters r) ok own h =
-        record {
-          slots = λ who tag k. cond_both (is_slot who tag r.who r.tag) (entered r) (slot_of who tag past) (λ (x : Slot). x.reply ≡ Some k → Fine n G k) (λ q e. absurd (cc)) (λ q e. h.slots who tag k e);
-          disk = h.disk;
-          log = h.log;
-          closing = λ to batch k i j. h.closing to batch k (in_but (Commit to batch) (closing_of head.clients past) i) j;
-          sent = h.sent;
-          held = h.held;
-          kept = h.kept;
-          locks = h.locks;
-          told = h.told;
-          replays = h.replays;
-          brought = h.brought;
-        }
-    by (Target t) (Act d) ok own h =
-        record {
-          slots = λ who tag k. cond_both (is_slot who tag d.reply.who d.tag) (answered d (slot_of who tag past)) (slot_of who tag past) (λ (x : Slot). x.reply ≡ Some k → Fine n G k) (λ q e. let is : d.reply ≡ k = cc in subst (λ (x : ReplyTo). Fine n G x) is own) (λ q e. h.slots who tag k e);
-          disk = h.disk;
-          log = h.log;
-          closing = λ to batch k i j. h.closing to batch k (in_but (Commit to batch) (closing_of head.clients past) i) j;
-          sent = h.sent;
-          held = h.held;
-          kept = h.kept;
-          locks = h.locks;
-          told = h.told;
-          replays = h.replays;
-          brought = h.brought;
-        }
-    by (Target t) (Txn d) ok own h =
-        record {
-          slots = λ who tag k. cond_both (is_slot who tag d.reply.who d.tag) (answered d (slot_of who tag past)) (slot_of who tag past) (λ (x : Slot). x.reply ≡ Some k → Fine n G k) (λ q e. let is : d.reply ≡ k = cc in subst (λ (x : ReplyTo). Fine n G x) is own) (λ q e. h.slots who tag k e);
-          disk = h.disk;
-          log = λ x i. ⊎_elim (λ (j : In x (server_of head.osts past).log). h.log x j) (λ (j : In x (d ∷ [])). ⊎_elim (λ (e : d ≡ x). subst (λ (y : Deed). Fine n G y.reply) e own) (λ (k : ⊥). absurd k) j) (in_append x (server_of head.osts past).log (d ∷ []) i);
-          closing = λ to batch k i j. h.closing to batch k (in_but (Commit to batch) (closing_of head.clients past) i) j;
-          sent = h.sent;
-          held = h.held;
-          kept = h.kept;
-          locks = h.locks;
-          told = h.told;
-          replays = h.replays;
-          brought = h.brought;
-        }
-    by (Target t) (Commit to batch) ok own h =
-        record {
-          slots = h.slots;
-          disk = of_slots batch.removed batch.replies (disk_of head.osts head.clients past).slots (of_batch past here to batch ok h) h.disk;
-          log = λ d i. h.log d (in_filter (λ (x : Deed). nat_lt to x.reply.txn.0) d (server_of head.osts past).log i).0;
-          closing = λ to batch k i j. h.closing to batch k (in_but (Commit to batch) (closing_of head.clients past) i) j;
-          sent = h.sent;
-          held = h.held;
-          kept = h.kept;
-          locks = h.locks;
-          told = h.told;
-          replays = h.replays;
-          brought = h.brought;
-        }
-    by (Target t) (Boot boot disk) ok own h =
-        record {
-          slots = h.slots;
-          disk = λ s k i e. h.disk s k (subst (λ (x : Disk). In s x.slots) ok.of_disk i) e;
-          log = h.log;
-          closing = λ to batch k i j. h.closing to batch k (in_but (Commit to batch) (closing_of head.clients past) i) j;
-          sent = h.sent;
-          held = h.held;
-          kept = h.kept;
-          locks = h.locks;
-          told = h.told;
-          replays = λ r i. absurd i;
-          brought = λ l i. absurd i;
-        }
-    by (Target t) (Stores replay) ok own h =
-        record {
-          slots = h.slots;
-          disk = h.disk;
-          log = h.log;
-          closing = λ to batch k i j. h.closing to batch k (in_but (Commit to batch) (closing_of head.clients past) i) j;
-          sent = h.sent;
-          held = h.held;
-          kept = h.kept;
-          locks = h.locks;
-          told = h.told;
-          replays = λ r i. ⊎_elim (λ (e : replayed replay ≡ r). subst (λ (x : Replayed). x.number ≤ n) e (let low = h.told ok.from (Target t) ok.given ok.keeps.was in let same : replay.txn.0 ≡ ok.given.txn.0 = ap (λ (x : RequestReplay). x.txn.0) ok.is in omega (arith, low, same))) (λ (j : In r (replays_of past)). h.replays r j) (in_placed replay_before (replayed replay) r (replays_of past) i);
-          brought = h.brought;
-        }
-    by (Target t) (Brings lock) ok own h =
-        record {
-          slots = h.slots;
-          disk = h.disk;
-          log = h.log;
-          closing = λ to batch k i j. h.closing to batch k (in_but (Commit to batch) (closing_of head.clients past) i) j;
-          sent = h.sent;
-          held = h.held;
-          kept = h.kept;
-          locks = h.locks;
-          told = h.told;
-          replays = h.replays;
-          brought = λ l i. ⊎_elim (λ (e : lock ≡ l). subst G e (subst G (sym ok.is) (h.locks ok.from (Target t) ok.given ok.keeps.was))) (λ (j : In l (brought_of past)). h.brought l j) (in_placed brought_before lock l (brought_of past) i);
-        }
-    by (Target t) (Close o) ok own h =
-        closes t o ok h
-    by (Target t) e ok own h =
-        record {
-          slots = h.slots;
-          disk = h.disk;
-          log = h.log;
-          closing = λ to batch k i j. h.closing to batch k (in_but (Commit to batch) (closing_of head.clients past) i) j;
-          sent = h.sent;
-          held = h.held;
-          kept = h.kept;
-          locks = h.locks;
-          told = h.told;
-          replays = h.replays;
-          brought = h.brought;
-        }
-    by (Client c) (Send to m) ok own h =
-        record {
-          slots = h.slots;
-          disk = h.disk;
-          log = h.log;
-          closing = h.closing;
-          sent = λ from x k was. ⊎_elim (λ (f : New (message.Reply k)). f) (λ (w : Was past from x (message.Reply k)). h.sent from x k w) (was_or from x (message.Reply k) m (Client c) to (sends past (Client c) to m ok h) was);
-          held = h.held;
-          kept = h.kept;
-          locks = λ from x k was. ⊎_elim (λ (f : New (message.Lock k)). f) (λ (w : Was past from x (message.Lock k)). h.locks from x k w) (was_or from x (message.Lock k) m (Client c) to (sends past (Client c) to m ok h) was);
-          told = λ from x k was. ⊎_elim (λ (f : New (message.Replay k)). f) (λ (w : Was past from x (message.Replay k)). h.told from x k w) (was_or from x (message.Replay k) m (Client c) to (sends past (Client c) to m ok h) was);
-          replays = h.replays;
-          brought = h.brought;
-        }
-    by (Client c) (Heard t f r) ok own h =
-        record {
-          slots = h.slots;
-          disk = h.disk;
-          log = h.log;
-          closing = h.closing;
-          sent = h.sent;
-          held = heard c t f r (h.sent (Target ok.from) (Client c) r ok.was) ok.who h;
-          kept = λ who q. cond_both (is_own who past (Client c)) (imports.kept_after (kept_by who past) (Heard t f r)) (kept_by who past) (λ (z : imports.Kept). In q z.replays → q.txn.0 ≤ n) (λ o i. heard_kept f r (h.sent (Target ok.from) (Client c) r ok.was) who h q (in_filter (λ (x : Replay). nat_lt (max r.committed.0 (kept_by who past).committed) x.txn.0) q (with_reply f r (kept_by who past).replays) i).0) (λ o i. h.kept who q i);
-          locks = h.locks;
-          told = h.told;
-          replays = h.replays;
-          brought = h.brought;
-        }
-    by (Client c) (Hold t lock marked size seen) ok own h =
-        record {
-          slots = h.slots;
-          disk = h.disk;
-          log = h.log;
-          closing = h.closing;
-          sent = h.sent;
-          held = λ d x. cond_both (nat_eq d c) (with_held (held_as t lock marked) (held_at d past)) (held_at d past) (λ (gs : List HeldLock). In x gs → Good past d x) (λ q i. let same = eqb-true d c q in ⊎_elim (λ (e : held_as t lock marked ≡ x). good_lock past d (held_as t lock marked) x (ap (λ (z : HeldLock). z.lock) e) (subst (λ (u : ℕ). Good past u (held_as t lock marked)) (sym same) (h.held c (held_as 0 lock false) ok.1.held))) (λ (j : In x (held_at d past)). h.held d x j) (with_only (held_as t lock marked) x (held_at d past) i)) (λ q i. h.held d x i);
-          kept = λ who q. cond_both (is_own who past (Client c)) (imports.kept_after (kept_by who past) (Hold t lock marked size seen)) (kept_by who past) (λ (z : imports.Kept). In q z.replays → q.txn.0 ≤ n) (λ o i. h.kept who q (in_filter (λ (x : Replay). nat_lt (max 0 (kept_by who past).committed) x.txn.0) q (kept_by who past).replays i).0) (λ o i. h.kept who q i);
-          locks = h.locks;
-          told = h.told;
-          replays = h.replays;
-          brought = h.brought;
-        }
-    by (Client c) (Drop t l) ok own h =
-        record {
-          slots = h.slots;
-          disk = h.disk;
-          log = h.log;
-          closing = h.closing;
-          sent = h.sent;
-          held = λ d x. cond_both (nat_eq d c) (without (named (record { 0 = t }) l.cookie) (held_at d past)) (held_at d past) (λ (gs : List HeldLock). In x gs → Good past d x) (λ q i. h.held d x (without_only (named (record { 0 = t }) l.cookie) x (held_at d past) i).0) (λ q i. h.held d x i);
-          kept = h.kept;
-          locks = h.locks;
-          told = h.told;
-          replays = h.replays;
-          brought = h.brought;
-        }
-    by (Client c) (Pins name) ok own h =
-        record {
-          slots = h.slots;
-          disk = h.disk;
-          log = h.log;
-          closing = h.closing;
-          sent = h.sent;
-          held = λ d x. cond_both (nat_eq d c) (changed name change.Pin (held_at d past)) (held_at d past) (λ (gs : List HeldLock). In x gs → Good past d x) (λ q i. let r = changed_only name change.Pin x (held_at d past) i in good_changed past d (is_named name r.0) change.Pin r.0 x r.2 (h.held d r.0 r.1)) (λ q i. h.held d x i);
-          kept = h.kept;
-          locks = h.locks;
-          told = h.told;
-          replays = h.replays;
-          brought = h.brought;
-        }
-    by (Client c) (Unpins name) ok own h =
-        record {
-          slots = h.slots;
-          disk = h.disk;
-          log = h.log;
-          closing = h.closing;
-          sent = h.sent;
-          held = λ d x. cond_both (nat_eq d c) (used name (changed name change.Unpin (held_at d past))) (held_at d past) (λ (gs : List HeldLock). In x gs → Good past d x) (λ q i. let r = changed_only name change.Unpin x (held_at d past) (used_only name x (changed name change.Unpin (held_at d past)) i) in good_changed past d (is_named name r.0) change.Unpin r.0 x r.2 (h.held d r.0 r.1)) (λ q i. h.held d x i);
-          kept = h.kept;
-          locks = h.locks;
-          told = h.told;
-          replays = h.replays;
-          brought = h.brought;
-        }
-    by (Client c) (Marks name) ok own h =
-        record {
-          slots = h.slots;
-          disk = h.disk;
-          log = h.log;
-          closing = h.closing;
-          sent = h.sent;
-          held = λ d x. cond_both (nat_eq d c) (changed name change.Mark (held_at d past)) (held_at d past) (λ (gs : List HeldLock). In x gs → Good past d x) (λ q i. let r = changed_only name change.Mark x (held_at d past) i in good_changed past d (is_named name r.0) change.Mark r.0 x r.2 (h.held d r.0 r.1)) (λ q i. h.held d x i);
-          kept = h.kept;
-          locks = h.locks;
-          told = h.told;
-          replays = h.replays;
-          brought = h.brought;
-        }
-    by (Client c) (Unmarks t) ok own h =
-        record {
-          slots = h.slots;
-          disk = h.disk;
-          log = h.log;
-          closing = h.closing;
-          sent = h.sent;
-          held = λ d x. cond_both (nat_eq d c) (unmarked (record { 0 = t }) (held_at d past)) (held_at d past) (λ (gs : List HeldLock). In x gs → Good past d x) (λ q i. let r = unmarked_only t x (held_at d past) i in good_changed past d (nat_eq r.0.target.0 t) change.Unmark r.0 x r.2 (h.held d r.0 r.1)) (λ q i. h.held d x i);
-          kept = h.kept;
-          locks = h.locks;
-          told = h.told;
-          replays = h.replays;
-          brought = h.brought;
-        }
-    by (Client c) (Life new) ok own h =
-        record {
-          slots = h.slots;
-          disk = h.disk;
-          log = h.log;
-          closing = h.closing;
-          sent = h.sent;
-          held = λ d x i. lives c new ok.empty h d x (nat_eq d c) refl i;
-          kept = λ who q. cond_both (nat_eq who.client c && same_life who new) (record imports.nothing_kept { committed = (kept_by (life_of who.client past) past).committed }) (kept_by who past) (λ (z : imports.Kept). In q z.replays → q.txn.0 ≤ n) (λ o i. absurd i) (λ o i. h.kept who q i);
-          locks = h.locks;
-          told = h.told;
-          replays = h.replays;
-          brought = h.brought;
-        }
-    by (Client c) (Settles t to) ok own h =
-        record {
-          slots = h.slots;
-          disk = h.disk;
-          log = h.log;
-          closing = h.closing;
-          sent = h.sent;
-          held = h.held;
-          kept = λ who q. cond_both (is_own who past (Client c)) (imports.kept_after (kept_by who past) (Settles t to)) (kept_by who past) (λ (z : imports.Kept). In q z.replays → q.txn.0 ≤ n) (λ o i. h.kept who q (in_filter (λ (x : Replay). nat_lt (max to (kept_by who past).committed) x.txn.0) q (kept_by who past).replays i).0) (λ o i. h.kept who q i);
-          locks = h.locks;
-          told = h.told;
-          replays = h.replays;
-          brought = h.brought;
-        }
-    by (Client c) e ok own h =
-        record {
-          slots = h.slots;
-          disk = h.disk;
-          log = h.log;
-          closing = h.closing;
-          sent = h.sent;
-          held = h.held;
-          kept = h.kept;
-          locks = h.locks;
-          told = h.told;
-          replays = h.replays;
-          brought = h.brought;
-        }
-
-pub has_line : (n : ℕ) (G : Lock → Type 0) (head : Head) (past : List Line) (l : Line) → EntryOf head past l.at l.at.node l.entry → Own n G head l.entry → Has n G head past → Has n G head (l ∷ past)
-has_line n G head past l ok own h = by n G head past l.at l.at.node l.entry ok own h
-
--- ---- more numbers, and more locks
-
-fine_more : (n m : ℕ) (G H : Lock → Type 0) → n ≤ m → ((l : Lock) → G l → H l) → (k : ReplyTo) → Fine n G k → Fine m H k
-fine_more n m G H le more k f = record { number = let low = f.number in omega (arith, low, le); locks = λ l i. let g = f.locks l i in (more l g.0, g.1); answer = f.answer }
-
-pub has_more : (n m : ℕ) (G H : Lock → Type 0) (head : Head) (past : List Line) → n ≤ m → ((l : Lock) → G l → H l) → Has n G head past → Has m H head past
-has_more n m G H head past le more h =
+pub grants_more : (past : List Line) (l : Line) (who : Who) (n : ℕ) (a : Answer) → Grants past who n a → Grants (l ∷ past) who n a
+grants_more past l who n a g =
     record {
-      slots = λ who tag k e. fine_more n m G H le more k (h.slots who tag k e);
-      disk = λ s k i e. fine_more n m G H le more k (h.disk s k i e);
-      log = λ d i. fine_more n m G H le more d.reply (h.log d i);
-      closing = λ to batch k i j. fine_more n m G H le more k.reply (h.closing to batch k i j);
-      sent = λ from to k was. fine_more n m G H le more k (h.sent from to k was);
-      held = λ c x i. let g = h.held c x i in (more x.lock g.0, g.1);
-      kept = λ who r i. let low = h.kept who r i in omega (arith, low, le);
-      locks = λ from to r was. more (lock_again r) (h.locks from to r was);
-      told = λ from to r was. let low = h.told from to r was in omega (arith, low, le);
-      replays = λ r i. let low = h.replays r i in omega (arith, low, le);
-      brought = λ l i. more l (h.brought l i);
+      lock = g.lock;
+      gave = gave_more past l g.lock g.gave;
+      of_life = g.of_life;
+      kind = g.kind;
+      extent = g.extent;
+      asked = asks_more past l who n (op.Enqueue g.lock.resource PR g.extent) g.asked;
+      is = g.is;
     }
+
+-- who hears it holds that lock
+pub grants_brought : (past : List Line) (r : ReplyTo) (g : Grants past r.who r.xid.0 r.answer) (o : Op) → o ≡ op.Enqueue g.lock.resource PR g.extent → granted_lock o r r.answer ≡ g.lock ∷ []
+grants_brought past r g o e =
+    ap (λ (p : Op). granted_lock p r r.answer) e ∙ ap (λ (a : Answer). granted_lock (op.Enqueue g.lock.resource PR g.extent) r a) g.is ∙ ap (λ (l : Lock). l ∷ []) same
+  where
+    same : record { cookie = g.lock.cookie; resource = g.lock.resource; ask = record { who = r.who; mode = PR; policy = Range whole } } ≡ g.lock
+    same =
+        ap (λ (w : Who). record { cookie = g.lock.cookie; resource = g.lock.resource; ask = record { who = w; mode = PR; policy = Range whole } }) (sym g.of_life)
+        ∙ ap (λ (m : Mode). record { cookie = g.lock.cookie; resource = g.lock.resource; ask = record { who = g.lock.ask.who; mode = m; policy = Range whole } }) (sym g.kind.0)
+        ∙ ap (λ (p : Policy). record { cookie = g.lock.cookie; resource = g.lock.resource; ask = record { who = g.lock.ask.who; mode = g.lock.ask.mode; policy = p } }) (sym g.kind.1)
 
 -- ---- of a story
 
 -- a boot has no more numbers and cookies than it has room for, and each lock that was granted has a cookie of its own
 pub record Given (head : Head) (past : List Line) : Type 0 where
+  pub asks : Requests head.osts past
   pub counted : (server_of head.osts past).count ≤ 4294967295
   pub top : (server_of head.osts past).cookie ≤ (server_of head.osts past).boot * 4294967296 + 4294967295
   pub low : (l : Lock) → Gave past l → l.cookie.0 ≤ (server_of head.osts past).cookie
   pub once : (l k : Lock) → Gave past l → Gave past k → l.cookie.0 ≡ k.cookie.0 → l ≡ k
-  pub has : Has (numbered (server_of head.osts past)) (Gave past) head past
+  pub has : Has (numbered (server_of head.osts past)) (Gave past) (Grants past) head past
 
 pub given_start : (head : Head) → Given head []
-given_start head = record { counted = omega arith; top = omega arith; low = λ l g. absurd g; once = λ l k g. absurd g; has = has_start (numbered (server_of head.osts [])) (Gave []) head }
+given_start head =
+    record {
+      asks = requests_start head.osts;
+      counted = omega arith;
+      top = omega arith;
+      low = λ l g. absurd g;
+      once = λ l k g. absurd g;
+      has = has_start (numbered (server_of head.osts [])) (Gave []) (Grants []) head;
+    }
 
-pub given_line : (head : Head) (past : List Line) (l : Line) → EntryOf head past l.at l.at.node l.entry → Given head past → Given head (l ∷ past)
-given_line head past l ok h = by l.at.node l.entry ok
-  where
-    s : Server
-    s = server_of head.osts past
+-- what a line adds
+pub record Adds (head : Head) (past : List Line) (l : Line) : Type 0 where
+  pub counted : (server_of head.osts (l ∷ past)).count ≤ 4294967295
+  pub top : (server_of head.osts (l ∷ past)).cookie ≤ (server_of head.osts (l ∷ past)).boot * 4294967296 + 4294967295
+  pub low : (k : Lock) → Gave (l ∷ past) k → k.cookie.0 ≤ (server_of head.osts (l ∷ past)).cookie
+  pub once : (j k : Lock) → Gave (l ∷ past) j → Gave (l ∷ past) k → j.cookie.0 ≡ k.cookie.0 → j ≡ k
+  pub numbers : numbered (server_of head.osts past) ≤ numbered (server_of head.osts (l ∷ past))
+  pub own : Own (numbered (server_of head.osts (l ∷ past))) (Gave (l ∷ past)) (Grants (l ∷ past)) head l.entry
 
-    n : ℕ
-    n = numbered s
+module _ (head : Head) (past : List Line) (stamp : Stamp) (h : Given head past) where
+  abbrev s : Server
+  s = server_of head.osts past
 
-    by : (node : Node) (e : Entry) → EntryOf head past (turn l.at.stamp node) node e → Given head (line (turn l.at.stamp node) e ∷ past)
-    by (Target t) (Act d) ok =
-        record {
-          counted = h.counted;
-          top = room ok;
-          low = λ x g. ⊎_elim (λ (i : In x d.reply.locks). greatest_has s.cookie d.reply.locks x i) (λ (g : Gave past x). let low = h.low x g in let least = greatest_least s.cookie d.reply.locks in omega (arith, low, least)) g;
-          once = once;
-          has = has_line n (Gave (line here (Act d) ∷ past)) head past (line here (Act d)) ok fine (has_more n n (Gave past) (Gave (line here (Act d) ∷ past)) head past (omega arith) (λ x g. inr g) h.has);
-        }
-      where
-        here : At
-        here = turn l.at.stamp (Target t)
+  abbrev Next : Node → Entry → Type 0
+  Next node e = Adds head past (line (turn stamp node) e)
 
-        a : Acted head.osts past here d
-        a = acted head.osts past here t d ok
+  adds_act : (t : ℕ) (d : Deed) → ActsOk head.osts past (turn stamp (Target t)) t d → Next (Target t) (Act d)
+  adds_act t d ok =
+      record {
+        counted = h.counted;
+        top = room ok;
+        low = λ x g. ⊎_elim (λ (i : In x d.reply.locks). greatest_has s.cookie d.reply.locks x i) (λ (g : Gave past x). let low = h.low x g in let least = greatest_least s.cookie d.reply.locks in omega (arith, low, least)) g;
+        once = once;
+        numbers = omega arith;
+        own = fine;
+      }
+    where
+      here : At
+      here = turn stamp (Target t)
 
-        locks : d.reply.locks ≡ locks_from s.cookie a.request.who a.wants
-        locks = a.locks
+      a : Acted head.osts past here d
+      a = acted head.osts past here t d ok
 
-        -- a glimpse needs no room
-        room : ActsOk head.osts past here t d → greatest_cookie s.cookie d.reply.locks ≤ s.boot * 4294967296 + 4294967295
-        room (inl k) = k.1.room
-        room (inr k) = subst (λ (ls : List Lock). greatest_cookie s.cookie ls ≤ s.boot * 4294967296 + 4294967295) (sym (sized_bare head.osts past here d k.1)) h.top
+      locks : d.reply.locks ≡ locks_from s.cookie a.request.who a.wants
+      locks = a.locks
 
-        answers : ActsOk head.osts past here t d → Ungranted d.reply.answer
-        answers (inl k) = subst (λ (y : Deed). Ungranted y.reply.answer) (sym k.1.is) (ungranted head.osts s.tree none k.1.request.who k.1.request.op)
-        answers (inr k) = subst Ungranted (sym (sized_answer head.osts past here d k.1)) tt
+      -- a glimpse needs no room
+      room : ActsOk head.osts past here t d → greatest_cookie s.cookie d.reply.locks ≤ s.boot * 4294967296 + 4294967295
+      room (inl k) = k.1.room
+      room (inr k) = subst (λ (ls : List Lock). greatest_cookie s.cookie ls ≤ s.boot * 4294967296 + 4294967295) (sym (sized_bare head.osts past here d k.1)) h.top
 
-        fine : Fine n (Gave (line here (Act d) ∷ past)) d.reply
-        fine =
-            record {
-              number = let zero : d.reply.txn.0 ≡ 0 = ap (λ (x : TxnOf). x.0) a.number in omega (arith, zero);
-              locks = λ x i. (inl i, from_who x s.cookie a.request.who a.wants (subst (λ (ls : List Lock). In x ls) locks i) ∙ sym a.who);
-              answer = answers ok;
-            }
+      answers : ActsOk head.osts past here t d → Ungranted d.reply.answer
+      answers (inl k) = subst (λ (y : Deed). Ungranted y.reply.answer) (sym k.1.is) (ungranted head.osts s.tree none k.1.request.who k.1.request.op)
+      answers (inr k) = subst Ungranted (sym (sized_answer head.osts past here d k.1)) tt
 
-        above : (x : Lock) → In x d.reply.locks → s.cookie < x.cookie.0
-        above x i = in_above s.cookie (locks_from s.cookie a.request.who a.wants) x (above_from s.cookie s.cookie a.request.who a.wants (omega arith)) (subst (λ (ls : List Lock). In x ls) locks i)
+      from : (x : Lock) → In x d.reply.locks → In x (locks_from s.cookie a.request.who a.wants)
+      from x i = subst (λ (ls : List Lock). In x ls) locks i
 
-        once : (x y : Lock) → In x d.reply.locks ⊎ Gave past x → In y d.reply.locks ⊎ Gave past y → x.cookie.0 ≡ y.cookie.0 → x ≡ y
-        once x y (inl i) (inl j) e = same_cookie d.reply.locks x y (subst Rises (sym locks) (rises_from s.cookie a.request.who a.wants)) i j e
-        once x y (inl i) (inr g) e = let up = above x i in let low = h.low y g in absurd (omega (arith, up, low, e))
-        once x y (inr g) (inl i) e = let up = above y i in let low = h.low x g in absurd (omega (arith, up, low, e))
-        once x y (inr g) (inr k) e = h.once x y g k e
-    by (Target t) (Txn d) ok =
-        record {
-          counted = let low = ok.numbers in omega (arith, low);
-          top = h.top;
-          low = h.low;
-          once = h.once;
-          has = has_line (s.boot * 4294967296 + (s.count + 1)) (Gave past) head past (line (turn l.at.stamp (Target t)) (Txn d)) ok fine (has_more n (s.boot * 4294967296 + (s.count + 1)) (Gave past) (Gave past) head past (omega arith) (λ x g. g) h.has);
-        }
-      where
-        fine : Fine (s.boot * 4294967296 + (s.count + 1)) (Gave past) d.reply
-        fine =
+      fine : Fine (numbered s) (Gave (line here (Act d) ∷ past)) (Grants (line here (Act d) ∷ past)) d.reply
+      fine =
+          record {
+            number = let zero : d.reply.txn.0 ≡ 0 = ap (λ (x : TxnOf). x.0) a.number in omega (arith, zero);
+            locks = λ x i. (inl i, from_who x s.cookie a.request.who a.wants (from x i) ∙ sym a.who, (from_names s.cookie a.request.who a.wants x (from x i)).1);
+            answer = inl (answers ok);
+          }
+
+      above : (x : Lock) → In x d.reply.locks → s.cookie < x.cookie.0
+      above x i = in_above s.cookie (locks_from s.cookie a.request.who a.wants) x (above_from s.cookie s.cookie a.request.who a.wants (omega arith)) (from x i)
+
+      once : (x y : Lock) → In x d.reply.locks ⊎ Gave past x → In y d.reply.locks ⊎ Gave past y → x.cookie.0 ≡ y.cookie.0 → x ≡ y
+      once x y (inl i) (inl j) e = same_cookie d.reply.locks x y (subst Rises (sym locks) (rises_from s.cookie a.request.who a.wants)) i j e
+      once x y (inl i) (inr g) e = let up = above x i in let low = h.low y g in absurd (omega (arith, up, low, e))
+      once x y (inr g) (inl i) e = let up = above y i in let low = h.low x g in absurd (omega (arith, up, low, e))
+      once x y (inr g) (inr k) e = h.once x y g k e
+
+  adds_txn : (t : ℕ) (d : Deed) → TxnOk head.osts past (turn stamp (Target t)) d → Next (Target t) (Txn d)
+  adds_txn t d ok =
+      record {
+        counted = let low = ok.numbers in omega (arith, low);
+        top = h.top;
+        low = h.low;
+        once = h.once;
+        numbers = omega arith;
+        own =
             record {
               number = let is : d.reply.txn.0 ≡ s.boot * 4294967296 + (s.count + 1) = ap (λ (x : Deed). x.reply.txn.0) ok.is in omega (arith, is);
               locks = λ x i. absurd (subst (λ (y : Deed). In x y.reply.locks) ok.is i);
-              answer = subst (λ (y : Deed). Ungranted y.reply.answer) (sym ok.is) (ungranted head.osts s.tree (next_number s) ok.request.who ok.request.op);
-            }
-    by (Target t) (Boot boot disk) ok =
-        let next : boot ≡ s.boot + 1 = ok.next in
-        let most = h.counted in
-        let top = h.top in
-        record {
-          counted = omega arith;
-          top = omega arith;
-          low = λ x g. let low = h.low x g in omega (arith, low, top, next);
-          once = h.once;
-          has = has_line (boot * 4294967296 + 0) (Gave past) head past (line (turn l.at.stamp (Target t)) (Boot boot disk)) ok tt (has_more n (boot * 4294967296 + 0) (Gave past) (Gave past) head past (omega (arith, most, next)) (λ x g. g) h.has);
-        }
-    by (Target t) e ok = record { counted = h.counted; top = h.top; low = h.low; once = h.once; has = has_line n (Gave past) head past (line (turn l.at.stamp (Target t)) e) ok tt h.has }
-    by (Client c) (Act d) ok = absurd ok
-    by (Client c) (Txn d) ok = absurd ok
-    by (Client c) e ok = record { counted = h.counted; top = h.top; low = h.low; once = h.once; has = has_line n (Gave past) head past (line (turn l.at.stamp (Client c)) e) ok tt h.has }
+              answer = inl (subst (λ (y : Deed). Ungranted y.reply.answer) (sym ok.is) (ungranted head.osts s.tree (next_number s) ok.request.who ok.request.op));
+            };
+      }
+
+  -- a lock that is shown was granted before
+  adds_shown : (t : ℕ) (lock : Lock) (d : Deed) → GrantOk head.osts past lock d → Next (Target t) (Grant lock (Some d))
+  adds_shown t lock d ok =
+      record {
+        counted = h.counted;
+        top = let top = h.top in let cookie = ok.cookie in omega (arith, top, cookie);
+        low = λ x g. let low = h.low x (was x g) in omega (arith, low);
+        once = λ x y g k e. h.once x y (was x g) (was y k) e;
+        numbers = omega arith;
+        own = (
+          fine_more (numbered s) (numbered s) (Gave past) (Gave new) (Grants past) (Grants new) (omega arith) (gave_more past shows) (grants_more past shows) d.reply (h.has.slots d.reply.who d.tag d.reply ok.slot),
+          inl refl,
+        );
+      }
+    where
+      shows : Line
+      shows = line (turn stamp (Target t)) (Grant lock (Some d))
+
+      new : List Line
+      new = shows ∷ past
+
+      gave : Gave past lock
+      gave = h.has.granted lock (subst (λ (ls : List Lock). In lock ls) ok.granted (in_put lock s.granted))
+
+      was : (x : Lock) → (lock ≡ x) ⊎ Gave past x → Gave past x
+      was x (inl e) = subst (Gave past) e gave
+      was x (inr g) = g
+
+  -- who asks for a lock to read under gets the next one
+  adds_range : (t : ℕ) (lock : Lock) (d : Deed) → RangeOk head.osts past (turn stamp (Target t)) lock d → Next (Target t) (Grant lock (Some d))
+  adds_range t lock d ok =
+      record {
+        counted = h.counted;
+        top = let top = h.top in let room = ok.room in omega (arith, top, room, cookie);
+        low = λ x g. ⊎_elim (λ (e : lock ≡ x). subst (λ (k : Lock). k.cookie.0 ≤ max s.cookie lock.cookie.0) e (omega arith)) (λ (g : Gave past x). let low = h.low x g in omega (arith, low)) g;
+        once = once;
+        numbers = omega arith;
+        own = (subst (λ (y : Deed). Fine (numbered s) (Gave new) (Grants new) y.reply) (sym ok.is) fine, inl refl);
+      }
+    where
+      new : List Line
+      new = line (turn stamp (Target t)) (Grant lock (Some d)) ∷ past
+
+      cookie : lock.cookie.0 ≡ s.cookie + 1
+      cookie = ap (λ (k : Lock). k.cookie.0) ok.of_lock
+
+      fine : Fine (numbered s) (Gave new) (Grants new) (granted s (turn stamp (Target t)) ok.request lock).reply
+      fine =
+          record {
+            number = omega arith;
+            locks = λ x i. absurd i;
+            answer = inr (record {
+              lock = read_lock s ok.request ok.resource;
+              gave = inl ok.of_lock;
+              of_life = refl;
+              kind = (refl, refl);
+              extent = ok.extent;
+              asked = subst (Asks past ok.request.who ok.request.xid.0) ok.of_op (h.asks.waits ok.request ok.waits);
+              is = ap (λ (k : Lock). told.Granted k.cookie whole 0) ok.of_lock;
+            });
+          }
+
+      once : (x y : Lock) → (lock ≡ x) ⊎ Gave past x → (lock ≡ y) ⊎ Gave past y → x.cookie.0 ≡ y.cookie.0 → x ≡ y
+      once x y (inl i) (inl j) e = sym i ∙ j
+      once x y (inl i) (inr g) e = let is : lock.cookie.0 ≡ x.cookie.0 = ap (λ (k : Lock). k.cookie.0) i in let low = h.low y g in absurd (omega (arith, is, low, e, cookie))
+      once x y (inr g) (inl j) e = let is : lock.cookie.0 ≡ y.cookie.0 = ap (λ (k : Lock). k.cookie.0) j in let low = h.low x g in absurd (omega (arith, is, low, e, cookie))
+      once x y (inr g) (inr k) e = h.once x y g k e
+
+  adds_boot : (t boot : ℕ) (disk : Disk) → BootOk head past boot disk → Next (Target t) (Boot boot disk)
+  adds_boot t boot disk ok =
+      let next : boot ≡ s.boot + 1 = ok.next in
+      let most = h.counted in
+      let top = h.top in
+      record {
+        counted = omega arith;
+        top = omega arith;
+        low = λ x g. let low = h.low x g in omega (arith, low, top, next);
+        once = h.once;
+        numbers = omega (arith, most, next);
+        own = tt;
+      }
+
+  -- a reply that grants a lock brings that lock: the request in flight is the one that it answers
+  adds_heard : (c t : ℕ) (f : Flight) (r : ReplyTo) → HeardOk past c f r → Next (Client c) (Heard t f r)
+  adds_heard c t f r ok =
+      record { counted = h.counted; top = h.top; low = h.low; once = h.once; numbers = omega arith; own = λ g l i. brings g l (subst (λ (ls : List Lock). In l ls) (grants_brought new r g f.op (same g)) i) }
+    where
+      new : List Line
+      new = line (turn stamp (Client c)) (Heard t f r) ∷ past
+
+      same : (g : Grants new r.who r.xid.0 r.answer) → f.op ≡ op.Enqueue g.lock.resource PR g.extent
+      same g =
+          let flies : Asks past r.who r.xid.0 f.op = subst (λ (n : ℕ). Asks past r.who n f.op) ok.xid (subst (λ (w : Who). Asks past w f.xid f.op) (sym ok.who) (h.asks.flying (life_of c past) f ok.flying)) in
+          h.asks.one r.who r.xid.0 f.op (op.Enqueue g.lock.resource PR g.extent) flies g.asked
+
+      brings : (g : Grants new r.who r.xid.0 r.answer) (l : Lock) → In l (g.lock ∷ []) → Gave past l
+      brings g l (inl e) = subst (Gave past) e g.gave
+      brings g l (inr i) = absurd i
+
+  adds : (node : Node) (e : Entry) → EntryOf head past (turn stamp node) node e → Next node e
+  adds (Target t) (Act d) ok = adds_act t d ok
+  adds (Target t) (Txn d) ok = adds_txn t d ok
+  adds (Target t) (Grant lock None) ok = absurd ok
+  adds (Target t) (Grant lock (Some d)) (inl ok) = adds_shown t lock d ok.1
+  adds (Target t) (Grant lock (Some d)) (inr ok) = adds_range t lock d ok.1
+  adds (Target t) (Boot boot disk) ok = adds_boot t boot disk ok
+  adds (Target t) (Heard u f r) ok = absurd ok
+  adds (Target t) (Close o) ok = record { counted = h.counted; top = h.top; low = h.low; once = h.once; numbers = omega arith; own = tt }
+  adds (Target t) e ok = record { counted = h.counted; top = h.top; low = h.low; once = h.once; numbers = omega arith; own = tt }
+  adds (Client c) (Heard t f r) ok = adds_heard c t f r ok
+  adds (Client c) (Act d) ok = absurd ok
+  adds (Client c) (Txn d) ok = absurd ok
+  adds (Client c) (Grant lock asked) ok = absurd ok
+  adds (Client c) e ok = record { counted = h.counted; top = h.top; low = h.low; once = h.once; numbers = omega arith; own = tt }
+
+pub given_line : (head : Head) (past : List Line) (l : Line) → EntryOf head past l.at l.at.node l.entry → Given head past → Given head (l ∷ past)
+given_line head past l ok h =
+    let a : Adds head past l = adds head past l.at.stamp h l.at.node l.entry ok in
+    let n : ℕ = numbered (server_of head.osts past) in
+    let m : ℕ = numbered (server_of head.osts (l ∷ past)) in
+    record {
+      asks = requests_line head past l ok h.asks;
+      counted = a.counted;
+      top = a.top;
+      low = a.low;
+      once = a.once;
+      has = has_line m (Gave (l ∷ past)) (Grants (l ∷ past)) head past l ok a.own
+          (has_more n m (Gave past) (Gave (l ∷ past)) (Grants past) (Grants (l ∷ past)) a.numbers (gave_more past l) (grants_more past l) head past h.has);
+    }

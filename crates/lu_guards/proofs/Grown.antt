@@ -4,9 +4,8 @@ use Rattle.lu_base.specs.declared.ids.At.{At}
 use Rattle.lu_base.specs.declared.ids.Node.{Node}
 use Rattle.lu_base.specs.declared.ids.Node.TheVariants.{Client, Target}
 use Rattle.lu_base.specs.declared.ids.Who.{Who}
-use Rattle.lu_words.specs.Words.{Entry, Heard, Hold, Line, Back}
+use Rattle.lu_words.specs.Words.{Entry, Heard, Line, Back}
 use Rattle.lu_words.specs.Concerns.{concerns, only}
-use Rattle.lu_client_rows.specs.Caches.{brought}
 use Rattle.lu_covered.specs.Heads.{Head, IsAlive}
 use Rattle.lu_covered.specs.TargetCloses.{closing_of}
 use Rattle.lu_guards.proofs.Guards.{Steps, Closes, BackNow, due, IsTurnOf, Owes, EntryOk}
@@ -42,10 +41,9 @@ pub record Noted (head : Head) (past : List Line) : Type 0 where
   pub told : (t : ℕ) (who : Who) → BackNow head.osts head.clients (only t past) who → ⊥
   pub shown : (t : ℕ) → closing_of head.clients (only t past) ≡ []
 
--- what clients hold comes from the metadata target, with what they hear of it
+-- locks of what was done come from the metadata target
 abbrev pub IsOfFirst : Entry → Type 0
-IsOfFirst (Heard t f r) = (t ≡ 0) ⊎ (brought f.op r ≡ [])
-IsOfFirst (Hold t lock marked size seen) = t ≡ 0
+IsOfFirst (Heard t f r) = (t ≡ 0) ⊎ (r.locks ≡ [])
 IsOfFirst _ = Unit {0}
 
 -- the node is a target, or one of the run's clients

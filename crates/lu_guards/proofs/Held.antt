@@ -1,37 +1,31 @@
--- What a client holds is of the metadata target; and that, and what it knows of names, stands in the story of that target: each line
--- that changes it is about it.
-use Rattle.std.proofs.Common.{◌≡◌, ℕ, zero, suc, Bool, true, false, List, [], ◌∷◌, ◌⊎◌, inl, inr, ⊎_elim, refl, sym, subst, ap, ◌∙◌, arith}
-use Rattle.std.specs.Prelude.{nat_eq, filter, if◌then◌else◌}
+-- What a client holds of a target stands in that target's story, and what it knows of names in that of the metadata target: each line that
+-- changes it is about it.
+use Rattle.std.proofs.Common.{◌≡◌, ℕ, zero, suc, Bool, true, false, List, [], ◌∷◌, ◌++◌, ◌⊎◌, inl, inr, ⊎_elim, refl, sym, subst, ap, ◌∙◌, arith}
+use Rattle.std.specs.Prelude.{nat_eq, not, ◌&&◌, ◌||◌, filter, map, if◌then◌else◌}
 use Rattle.std.proofs.lemmas.Bool.{cond-true, cond-false, eqb-true}
 use Rattle.std.proofs.lemmas.Bool.Decides.{nat_tests}
+use Rattle.std.proofs.lemmas.List.Elements.{filter-append}
 use Rattle.lu_base.specs.declared.ids.At.{At}
 use Rattle.lu_base.specs.declared.ids.Node.{Node}
 use Rattle.lu_base.specs.declared.ids.Node.TheVariants.{Client, Target}
 use Rattle.lu_base.specs.declared.locks.Lock.{Lock}
-use Rattle.lu_msg.specs.declared.messages.LockReplay.{LockReplay}
-use Rattle.lu_msg.specs.declared.messages.Message.{Message}
-use Rattle.lu_msg.specs.declared.messages.Message.TheVariants as message
 use Rattle.lu_held.specs.declared.locks.Change.{Change}
 use Rattle.lu_held.specs.declared.locks.Change.TheVariants as change
 use Rattle.lu_held.specs.declared.locks.HeldLock.{HeldLock}
 use Rattle.lu_held.specs.declared.names.LockName.{LockName}
-use Rattle.lu_held.specs.Locks.{is_named, after}
-use Rattle.lu_held.specs.Held.{changed, unmarked}
-use Rattle.lu_words.specs.Words.{Entry, Send, Brings, Boot, Close, Heard, Hold, Drop, Life, Pins, Unpins, Marks, Unmarks, Learns, Line, line, is_client}
+use Rattle.lu_held.specs.Locks.{named, name_of, is_named, after}
+use Rattle.lu_held.specs.Held.{is_held, changed, without, used, unmarked}
+use Rattle.lu_words.specs.Words.{Entry, Heard, Hold, Drop, Life, Pins, Unpins, Marks, Unmarks, Learns, Line, line, is_client}
 use Rattle.lu_words.specs.Concerns.{is_about, concerns, only}
 use Rattle.lu_words.specs.Fields.{on, at_client}
-use Rattle.lu_target_rows.specs.Outcomes.{window_of, restored}
-use Rattle.lu_target_rows.specs.Windows.{staying, settled}
-use Rattle.lu_client_rows.specs.Caches.{held_as, brought, with_brought, reads_held, held_after, held_at}
+use Rattle.lu_client_rows.specs.Caches.{held_as, brought, with_held, with_brought, reads_held, held_after, held_at}
 use Rattle.lu_client_rows.specs.Facts.{Fact, reads_facts, facts_after, facts_at}
 use Rattle.lu_covered.specs.Heads.{Head}
-use Rattle.lu_covered.specs.TargetCloses.{recovering_of, outcome_of}
-use Rattle.lu_covered.specs.TargetStates.{brought_of}
-use Rattle.lu_guards.proofs.Guards.{In, Was, EntryOk}
-use Rattle.lu_guards.proofs.StoryGuards.{SendOf, EntryOf}
+use Rattle.lu_guards.proofs.Guards.{In, EntryOk}
 use Rattle.lu_guards.proofs.Grown.{Grown}
-use Rattle.lu_guards.proofs.Lists.{turn}
-use Rattle.lu_guards.proofs.ClientLocks.{with_only, brought_only, changed_only, used_only, unmarked_only, without_only}
+use Rattle.lu_guards.proofs.Lists.{self, turn, in_filter, in_filtered, empty_list, filter_none}
+use Rattle.lu_guards.proofs.ClientLocks.{in_place, names_same}
+use Rattle.lu_guards.proofs.LifeLists.{filter_all, filter_swap}
 
 -- ---- what each line of the client keeps
 
@@ -53,49 +47,207 @@ client_keeps {A} P reads after start head c p f (l ∷ past) g = by (reads l.ent
     by true false e q = q
     by true true e q = f past l.at l.entry X (subst (λ (n : Node). EntryOk past l.at n l.entry) (is_own c l.at.node e) g.0.ok) q
 
--- what it holds is of the metadata target
-pub held_zero : (head : Head) (c : ℕ) (past : List Line) → Grown head past → (h : HeldLock) → In h (held_at c past) → h.target.0 ≡ 0
-held_zero head c past g = client_keeps Zero reads_held held_after [] head c (λ h i. absurd i) step past g
+-- ---- the locks of one target
+
+abbrev pub of_target : ℕ → HeldLock → Bool
+of_target t h = nat_eq h.target.0 t
+
+abbrev pub locks_of : ℕ → List HeldLock → List HeldLock
+locks_of t hs = filter (of_target t) hs
+
+turned : (a b : ℕ) (v : Bool) → nat_eq a b ≡ v → nat_eq b a ≡ v
+turned a b v e = grind (arith, nat_tests)
+
+mapped : {A : Type 0} (f : A → A) (xs : List A) → ((x : A) → In x xs → f x ≡ x) → map f xs ≡ xs
+mapped f [] all = refl
+mapped f (x ∷ xs) all = ap (λ y. y ∷ map f xs) (all x (inl refl)) ∙ ap (λ ys. x ∷ ys) (mapped f xs (λ y i. all y (inr i)))
+
+-- what changes no target
+map_of : (t : ℕ) (f : HeldLock → HeldLock) → ((h : HeldLock) → (f h).target.0 ≡ h.target.0) → (hs : List HeldLock) → locks_of t (map f hs) ≡ map f (locks_of t hs)
+map_of t f same [] = refl
+map_of t f same (h ∷ hs) = by (of_target t h) (ap (λ (u : ℕ). nat_eq u t) (same h)) (map_of t f same hs)
   where
-    Zero : List HeldLock → Type 0
-    Zero hs = (h : HeldLock) → In h hs → h.target.0 ≡ 0
+    by : (b : Bool) → of_target t (f h) ≡ b → locks_of t (map f hs) ≡ map f (locks_of t hs) → locks_of t (f h ∷ map f hs) ≡ map f (if b then h ∷ locks_of t hs else locks_of t hs)
+    by true e ih = cond-true (of_target t (f h)) (f h ∷ locks_of t (map f hs)) (locks_of t (map f hs)) e ∙ ap (λ ys. f h ∷ ys) ih
+    by false e ih = cond-false (of_target t (f h)) (f h ∷ locks_of t (map f hs)) (locks_of t (map f hs)) e ∙ ih
 
-    unmarks : (t : ℕ) (hs : List HeldLock) → Zero hs → Zero (unmarked (record { 0 = t }) hs)
-    unmarks t hs k g i = let r = unmarked_only t g hs i in subst (λ (x : HeldLock). x.target.0 ≡ 0) r.2 (by (nat_eq r.0.target.0 t) r.0 (k r.0 r.1))
-      where
-        by : (b : Bool) (h : HeldLock) → h.target.0 ≡ 0 → (if b then after change.Unmark h else h).target.0 ≡ 0
-        by true h z = z
-        by false h z = z
+-- none of them has a name of another target
+none_named : (t : ℕ) (n : LockName) (hs : List HeldLock) → nat_eq t n.target.0 ≡ false → (h : HeldLock) → In h (locks_of t hs) → is_named n h ≡ false
+none_named t n hs e h i = ap (λ (b : Bool). b && nat_eq n.cookie.0 h.lock.cookie.0) (ap (nat_eq n.target.0) (eqb-true h.target.0 t (in_filter (of_target t) h hs i).1) ∙ turned t n.target.0 false e)
 
-    changes : (n : LockName) (ch : Change) (hs : List HeldLock) → Zero hs → Zero (changed n ch hs)
-    changes n ch hs k g i = let r = changed_only n ch g hs i in subst (λ (x : HeldLock). x.target.0 ≡ 0) r.2 (by ch r.0 (is_named n r.0) (k r.0 r.1))
-      where
-        by : (ch : Change) (h : HeldLock) (b : Bool) → h.target.0 ≡ 0 → (if b then after ch h else h).target.0 ≡ 0
-        by change.Mark h true z = z
-        by change.Unmark h true z = z
-        by change.Pin h true z = z
-        by change.Unpin h true z = z
-        by ch h false z = z
+-- ---- a lock that comes
 
-    step : (p : List Line) (at : At) (e : Entry) (x : List HeldLock) → EntryOk p at (Client c) e → Zero x → Zero (held_after x e)
-    step p at (Heard t f r) x ok k h i =
-        ⊎_elim (λ (z : t ≡ 0). ⊎_elim (λ (s : (l : Lock) × (held_as t l false ≡ h)). ap (λ (y : HeldLock). y.target.0) (sym s.1) ∙ z) (λ (j : In h x). k h j) (brought_only t h (brought f.op r) x i))
-        (λ (none : brought f.op r ≡ []). k h (subst (λ (ls : List Lock). In h (with_brought t ls x)) none i)) ok.0
-    step p at (Hold t l marked size seen) x ok k h i =
-        ⊎_elim (λ (s : held_as t l marked ≡ h). ap (λ (y : HeldLock). y.target.0) (sym s) ∙ ok.names) (λ (j : In h x). k h j) (with_only (held_as t l marked) h x i)
-    step p at (Drop t l) x ok k h i = k h (without_only _ h x i).0
-    step p at (Pins n) x ok k h i = changes n change.Pin x k h i
-    step p at (Unpins n) x ok k h i = changes n change.Unpin x k h (used_only n h (changed n change.Unpin x) i)
-    step p at (Marks n) x ok k h i = changes n change.Mark x k h i
-    step p at (Unmarks t) x ok k h i = unmarks t x k h i
-    step p at e x ok k h i = k h i
+held_same : (n : LockName) (hs : List HeldLock) → is_held n (locks_of n.target.0 hs) ≡ is_held n hs
+held_same n [] = refl
+held_same n (h ∷ hs) = by (of_target n.target.0 h) refl (held_same n hs)
+  where
+    by : (b : Bool) → of_target n.target.0 h ≡ b → is_held n (locks_of n.target.0 hs) ≡ is_held n hs → is_held n (if b then h ∷ locks_of n.target.0 hs else locks_of n.target.0 hs) ≡ is_held n (h ∷ hs)
+    by true e ih = ap (λ (x : Bool). is_named n h || x) ih
+    by false e ih = ih ∙ sym (ap (λ (x : Bool). (x && nat_eq n.cookie.0 h.lock.cookie.0) || is_held n hs) (turned h.target.0 n.target.0 false e))
 
--- so a mark that goes at another target is none
-unmarked_none : (u : ℕ) (hs : List HeldLock) → ((h : HeldLock) → In h hs → h.target.0 ≡ 0) → nat_eq 0 u ≡ false → unmarked (record { 0 = u }) hs ≡ hs
-unmarked_none u [] z e = refl
-unmarked_none u (h ∷ hs) z e =
-    ap (λ (x : HeldLock). x ∷ unmarked (record { 0 = u }) hs) (cond-false (nat_eq h.target.0 u) (after change.Unmark h) h (ap (λ (t : ℕ). nat_eq t u) (z h (inl refl)) ∙ e))
-    ∙ ap (λ (xs : List HeldLock). h ∷ xs) (unmarked_none u hs (λ g i. z g (inr i)) e)
+placed : (h g : HeldLock) → (in_place h g).target.0 ≡ g.target.0
+placed h g = by (is_named (name_of h) g) refl
+  where
+    by : (b : Bool) → is_named (name_of h) g ≡ b → (if b then h else g).target.0 ≡ g.target.0
+    by true e = ap (λ (n : LockName). n.target.0) (names_same (name_of h) (name_of g) e)
+    by false e = refl
+
+with_own : (t : ℕ) (h : HeldLock) (hs : List HeldLock) → nat_eq t h.target.0 ≡ true → locks_of t (with_held h hs) ≡ with_held h (locks_of t hs)
+with_own t h hs e = by (is_held (name_of h) hs) ∙ ap (λ (b : Bool). if b then map (in_place h) (locks_of t hs) else h ∷ locks_of t hs) (sym same)
+  where
+    same : is_held (name_of h) (locks_of t hs) ≡ is_held (name_of h) hs
+    same = ap (λ (u : ℕ). is_held (name_of h) (locks_of u hs)) (eqb-true t h.target.0 e) ∙ held_same (name_of h) hs
+
+    by : (b : Bool) → locks_of t (if b then map (in_place h) hs else h ∷ hs) ≡ (if b then map (in_place h) (locks_of t hs) else h ∷ locks_of t hs)
+    by true = map_of t (in_place h) (placed h) hs
+    by false = cond-true (of_target t h) (h ∷ locks_of t hs) (locks_of t hs) (turned t h.target.0 true e)
+
+with_apart : (t : ℕ) (h : HeldLock) (hs : List HeldLock) → nat_eq t h.target.0 ≡ false → locks_of t (with_held h hs) ≡ locks_of t hs
+with_apart t h hs e = by (is_held (name_of h) hs)
+  where
+    by : (b : Bool) → locks_of t (if b then map (in_place h) hs else h ∷ hs) ≡ locks_of t hs
+    by true = map_of t (in_place h) (placed h) hs ∙ mapped (in_place h) (locks_of t hs) (λ g i. cond-false (is_named (name_of h) g) h g (none_named t (name_of h) hs e g i))
+    by false = cond-false (of_target t h) (h ∷ locks_of t hs) (locks_of t hs) (turned t h.target.0 false e)
+
+brought_of : (t u : ℕ) (ls : List Lock) (b : Bool) → nat_eq t u ≡ b → (hs : List HeldLock) → locks_of t (with_brought u ls hs) ≡ (if b then with_brought u ls (locks_of t hs) else locks_of t hs)
+brought_of t u [] true e hs = refl
+brought_of t u [] false e hs = refl
+brought_of t u (l ∷ ls) true e hs = brought_of t u ls true e (with_held (held_as u l false) hs) ∙ ap (with_brought u ls) (with_own t (held_as u l false) hs e)
+brought_of t u (l ∷ ls) false e hs = brought_of t u ls false e (with_held (held_as u l false) hs) ∙ with_apart t (held_as u l false) hs e
+
+-- ---- one that changes, is used, or goes
+
+changes : (n : LockName) (ch : Change) (h : HeldLock) → (if is_named n h then after ch h else h).target.0 ≡ h.target.0
+changes n ch h = by (is_named n h) ch
+  where
+    by : (b : Bool) (ch : Change) → (if b then after ch h else h).target.0 ≡ h.target.0
+    by true change.Mark = refl
+    by true change.Unmark = refl
+    by true change.Pin = refl
+    by true change.Unpin = refl
+    by false ch = refl
+
+changed_own : (t : ℕ) (n : LockName) (ch : Change) (hs : List HeldLock) → locks_of t (changed n ch hs) ≡ changed n ch (locks_of t hs)
+changed_own t n ch hs = map_of t (λ h. if is_named n h then after ch h else h) (changes n ch) hs
+
+changed_none : (t : ℕ) (n : LockName) (ch : Change) (hs : List HeldLock) → nat_eq t n.target.0 ≡ false → changed n ch (locks_of t hs) ≡ locks_of t hs
+changed_none t n ch hs e = mapped (λ h. if is_named n h then after ch h else h) (locks_of t hs) (λ h i. cond-false (is_named n h) (after ch h) h (none_named t n hs e h i))
+
+changed_of : (t : ℕ) (n : LockName) (ch : Change) (hs : List HeldLock) (b : Bool) → nat_eq t n.target.0 ≡ b → locks_of t (changed n ch hs) ≡ (if b then changed n ch (locks_of t hs) else locks_of t hs)
+changed_of t n ch hs true e = changed_own t n ch hs
+changed_of t n ch hs false e = changed_own t n ch hs ∙ changed_none t n ch hs e
+
+without_own : (t : ℕ) (n : LockName) (hs : List HeldLock) → locks_of t (without n hs) ≡ without n (locks_of t hs)
+without_own t n hs = filter_swap (of_target t) (λ h. not (is_named n h)) hs
+
+without_none : (t : ℕ) (n : LockName) (hs : List HeldLock) → nat_eq t n.target.0 ≡ false → without n (locks_of t hs) ≡ locks_of t hs
+without_none t n hs e = filter_all (λ h. not (is_named n h)) (locks_of t hs) (λ h i. ap not (none_named t n hs e h i))
+
+without_of : (t : ℕ) (n : LockName) (hs : List HeldLock) (b : Bool) → nat_eq t n.target.0 ≡ b → locks_of t (without n hs) ≡ (if b then without n (locks_of t hs) else locks_of t hs)
+without_of t n hs true e = without_own t n hs
+without_of t n hs false e = without_own t n hs ∙ without_none t n hs e
+
+used_own : (t : ℕ) (n : LockName) (hs : List HeldLock) → locks_of t (used n hs) ≡ used n (locks_of t hs)
+used_own t n hs =
+    filter-append (of_target t) (filter (is_named n) hs) (without n hs)
+    ∙ ap (λ (xs : List HeldLock). xs ++ locks_of t (without n hs)) (filter_swap (of_target t) (is_named n) hs)
+    ∙ ap (λ (xs : List HeldLock). filter (is_named n) (locks_of t hs) ++ xs) (without_own t n hs)
+
+used_none : (t : ℕ) (n : LockName) (hs : List HeldLock) → nat_eq t n.target.0 ≡ false → used n (locks_of t hs) ≡ locks_of t hs
+used_none t n hs e = ap (λ (xs : List HeldLock). xs ++ without n (locks_of t hs)) (filter_none (is_named n) (locks_of t hs) (none_named t n hs e)) ∙ without_none t n hs e
+
+unpinned_of : (t : ℕ) (n : LockName) (hs : List HeldLock) (b : Bool) → nat_eq t n.target.0 ≡ b
+    → locks_of t (used n (changed n change.Unpin hs)) ≡ (if b then used n (changed n change.Unpin (locks_of t hs)) else locks_of t hs)
+unpinned_of t n hs true e = used_own t n (changed n change.Unpin hs) ∙ ap (used n) (changed_own t n change.Unpin hs)
+unpinned_of t n hs false e = used_own t n (changed n change.Unpin hs) ∙ ap (used n) (changed_of t n change.Unpin hs false e) ∙ used_none t n hs e
+
+unmarked_own : (t u : ℕ) (hs : List HeldLock) → locks_of t (unmarked (record { 0 = u }) hs) ≡ unmarked (record { 0 = u }) (locks_of t hs)
+unmarked_own t u hs = map_of t (λ h. if nat_eq h.target.0 u then after change.Unmark h else h) same hs
+  where
+    by : (b : Bool) (h : HeldLock) → (if b then after change.Unmark h else h).target.0 ≡ h.target.0
+    by true h = refl
+    by false h = refl
+
+    same : (h : HeldLock) → (if nat_eq h.target.0 u then after change.Unmark h else h).target.0 ≡ h.target.0
+    same h = by (nat_eq h.target.0 u) h
+
+unmarked_of : (t u : ℕ) (hs : List HeldLock) (b : Bool) → nat_eq t u ≡ b → locks_of t (unmarked (record { 0 = u }) hs) ≡ (if b then unmarked (record { 0 = u }) (locks_of t hs) else locks_of t hs)
+unmarked_of t u hs true e = unmarked_own t u hs
+unmarked_of t u hs false e =
+    unmarked_own t u hs
+    ∙ mapped (λ h. if nat_eq h.target.0 u then after change.Unmark h else h) (locks_of t hs)
+    (λ h i. cond-false (nat_eq h.target.0 u) (after change.Unmark h) h (ap (λ (v : ℕ). nat_eq v u) (eqb-true h.target.0 t (in_filter (of_target t) h hs i).1) ∙ e))
+
+-- ---- so what it holds of a target is what the target's story shows
+
+held_step : (t : ℕ) (e : Entry) (hs : List HeldLock) → reads_held e ≡ true → locks_of t (held_after hs e) ≡ (if is_about t e then held_after (locks_of t hs) e else locks_of t hs)
+held_step t (Heard u f r) hs q = brought_of t u (brought f.op r) (nat_eq t u) refl hs
+held_step t (Hold u l marked size seen) hs q = by (nat_eq t u) refl
+  where
+    by : (b : Bool) → nat_eq t u ≡ b → locks_of t (with_held (held_as u l marked) hs) ≡ (if b then with_held (held_as u l marked) (locks_of t hs) else locks_of t hs)
+    by true e = with_own t (held_as u l marked) hs e
+    by false e = with_apart t (held_as u l marked) hs e
+held_step t (Drop u l) hs q = without_of t (named (record { 0 = u }) l.cookie) hs (nat_eq t u) refl
+held_step t (Pins n) hs q = changed_of t n change.Pin hs (nat_eq t n.target.0) refl
+held_step t (Unpins n) hs q = unpinned_of t n hs (nat_eq t n.target.0) refl
+held_step t (Marks n) hs q = changed_of t n change.Mark hs (nat_eq t n.target.0) refl
+held_step t (Unmarks u) hs q = unmarked_of t u hs (nat_eq t u) refl
+held_step t e hs q = absurd (cc)
+
+pub held_there : (c t : ℕ) (past : List Line) → locks_of t (held_at c past) ≡ held_at c (only t past)
+held_there c t [] = refl
+held_there c t (l ∷ past) = by l.at.node (held_there c t past)
+  where
+    P : List Line
+    P = only t past
+
+    G : List HeldLock
+    G = held_at c past
+
+    W : List HeldLock
+    W = held_at c P
+
+    step : (node : Node) (r own b : Bool) → reads_held l.entry ≡ r → is_client c node ≡ own
+        → (own ≡ true → r ≡ true → locks_of t (held_after G l.entry) ≡ (if b then held_after (locks_of t G) l.entry else locks_of t G)) → locks_of t G ≡ W
+        → locks_of t (on r own (held_after G l.entry) G) ≡ held_at c (if b then line (turn l.at.stamp node) l.entry ∷ P else P)
+    step node false own true q o f ih = ih ∙ sym (ap (λ (x : Bool). on x (is_client c node) (held_after W l.entry) W) q)
+    step node true false true q o f ih = ih ∙ sym (ap (λ (x : Bool). on x (is_client c node) (held_after W l.entry) W) q ∙ ap (λ (y : Bool). on true y (held_after W l.entry) W) o)
+    step node true true true q o f ih =
+        f refl refl ∙ ap (λ (v : List HeldLock). held_after v l.entry) ih
+        ∙ sym (ap (λ (x : Bool). on x (is_client c node) (held_after W l.entry) W) q ∙ ap (λ (y : Bool). on true y (held_after W l.entry) W) o)
+    step node true true false q o f ih = f refl refl ∙ ih
+    step node true false false q o f ih = ih
+    step node false own false q o f ih = ih
+
+    by : (node : Node) → locks_of t G ≡ W → locks_of t (on (reads_held l.entry) (is_client c node) (held_after G l.entry) G) ≡ held_at c (if concerns t node l.entry then line (turn l.at.stamp node) l.entry ∷ P else P)
+    by (Client d) ih = step (Client d) (reads_held l.entry) (nat_eq c d) (is_about t l.entry) refl refl (λ o r. held_step t l.entry G r) ih
+    by (Target u) ih = step (Target u) (reads_held l.entry) false (nat_eq t u) refl refl (λ o r. absurd (cc)) ih
+
+pub held_in : (c : ℕ) (past : List Line) (h : HeldLock) → In h (held_at c past) → In h (held_at c (only h.target.0 past))
+held_in c past h i = subst (λ (hs : List HeldLock). In h hs) (held_there c h.target.0 past) (in_filtered (of_target h.target.0) h (held_at c past) i (self h.target.0))
+
+-- the same at a target that is known by another name
+pub held_into : (c t : ℕ) (past : List Line) (h : HeldLock) → h.target.0 ≡ t → In h (held_at c past) → In h (held_at c (only t past))
+held_into c t past h e i = subst (λ (u : ℕ). In h (held_at c (only u past))) e (held_in c past h i)
+
+pub held_back : (c t : ℕ) (past : List Line) (h : HeldLock) → In h (held_at c (only t past)) → In h (held_at c past) × (h.target.0 ≡ t)
+held_back c t past h i =
+    let r = in_filter (of_target t) h (held_at c past) (subst (λ (hs : List HeldLock). In h hs) (sym (held_there c t past)) i) in
+    (r.0, eqb-true h.target.0 t r.1)
+
+pub held_target : (c t : ℕ) (past : List Line) (h : HeldLock) → In h (held_at c (only t past)) → h.target.0 ≡ t
+held_target c t past h i = (held_back c t past h i).1
+
+-- a lock of that name
+pub held_name : (c : ℕ) (past : List Line) (n : LockName) → is_held n (held_at c (only n.target.0 past)) ≡ is_held n (held_at c past)
+held_name c past n = ap (is_held n) (sym (held_there c n.target.0 past)) ∙ held_same n (held_at c past)
+
+-- where nothing is held, nothing is of any target; and back
+pub none_there : (c t : ℕ) (past : List Line) → held_at c past ≡ [] → held_at c (only t past) ≡ []
+none_there c t past e = sym (held_there c t past) ∙ ap (locks_of t) e
+
+pub nowhere_held : (c : ℕ) (past : List Line) → ((t : ℕ) → held_at c (only t past) ≡ []) → held_at c past ≡ []
+nowhere_held c past none = empty_list (held_at c past) (λ h i. subst (λ (hs : List HeldLock). In h hs) (none h.target.0) (held_in c past h i))
 
 -- ---- a field of a client that only lines about one target change
 
@@ -133,156 +285,13 @@ client_is {A} reads after start c t (l ∷ past) a = by l.at.node a.0 (client_is
     by (Client d) f ih = step (Client d) (reads l.entry) (nat_eq c d) (is_about t l.entry) refl refl f ih
     by (Target u) f ih = step (Target u) (reads l.entry) false (nat_eq t u) refl refl (λ o r. absurd (cc)) ih
 
--- ---- the held locks
-
-held_line : (hs : List HeldLock) → ((h : HeldLock) → In h hs → h.target.0 ≡ 0) → (past : List Line) (at : At) (c : ℕ) (node : Node) (e : Entry) → EntryOk past at node e → is_client c node ≡ true → reads_held e ≡ true
-    → (is_about 0 e ≡ true) ⊎ (held_after hs e ≡ hs)
-held_line hs z past at c (Client d) (Heard t f r) ok own q = ⊎_elim (λ (first : t ≡ 0). inl (ap (nat_eq 0) first)) (λ (none : brought f.op r ≡ []). inr (ap (λ (ls : List Lock). with_brought t ls hs) none)) ok.0
-held_line hs z past at c (Client d) (Hold t lock marked size seen) ok own q = inl (ap (nat_eq 0) ok.names)
-held_line hs z past at c (Client d) (Drop t lock) ok own q = inl (ap (nat_eq 0) ok.0)
-held_line hs z past at c (Client d) (Pins name) ok own q = inl (ap (nat_eq 0) ok)
-held_line hs z past at c (Client d) (Unpins name) ok own q = inl (ap (nat_eq 0) ok)
-held_line hs z past at c (Client d) (Marks name) ok own q = inl (ap (nat_eq 0) ok)
-held_line hs z past at c (Client d) (Unmarks t) ok own q = by (nat_eq 0 t) refl
-  where
-    by : (b : Bool) → nat_eq 0 t ≡ b → (nat_eq 0 t ≡ true) ⊎ (unmarked (record { 0 = t }) hs ≡ hs)
-    by true e = inl e
-    by false e = inr (unmarked_none t hs z e)
-held_line hs z past at c (Target t) e ok own q = absurd (cc)
-held_line hs z past at c node e ok own q = absurd (cc)
-
-all_held : (head : Head) (c : ℕ) (past : List Line) → Grown head past → AllAbout reads_held held_after [] c 0 past
-all_held head c [] g = tt
-all_held head c (l ∷ past) g = (held_line (held_at c past) (held_zero head c past g.1) past l.at c l.at.node l.entry g.0.ok, all_held head c past g.1)
-
-pub held_is : (head : Head) (c : ℕ) (past : List Line) → Grown head past → held_at c past ≡ held_at c (only 0 past)
-held_is head c past g = client_is reads_held held_after [] c 0 past (all_held head c past g)
-
--- of another target nothing is ever held
-pub none_held : (head : Head) (c t : ℕ) (past : List Line) → Grown head past → held_at c (only (suc t) past) ≡ []
-none_held head c t [] g = refl
-none_held head c t (l ∷ past) g = by l.at.node l.entry g.0.ok (none_held head c t past g.1)
-  where
-    P : List Line
-    P = only (suc t) past
-
-    apart : (u : ℕ) → u ≡ 0 → nat_eq (suc t) u ≡ false
-    apart u z = grind (arith, nat_tests)
-
-    other : (u : ℕ) (x : Line) → u ≡ 0 → held_at c P ≡ [] → held_at c (if nat_eq (suc t) u then x ∷ P else P) ≡ []
-    other u x z ih = ap (λ (b : Bool). held_at c (if b then x ∷ P else P)) (apart u z) ∙ ih
-
-    -- a line that the locks don't read
-    quiet : (x : Line) (b : Bool) → held_at c (x ∷ P) ≡ held_at c P → held_at c P ≡ [] → held_at c (if b then x ∷ P else P) ≡ []
-    quiet x true q ih = q ∙ ih
-    quiet x false q ih = ih
-
-    unread : (r own : Bool) (a : List HeldLock) → r ≡ false ⊎ (own ≡ false) → on r own a (held_at c P) ≡ held_at c P
-    unread true true a (inl q) = absurd (cc)
-    unread true true a (inr q) = absurd (cc)
-    unread true false a q = refl
-    unread false own a q = refl
-
-    by : (node : Node) (e : Entry) → EntryOk past l.at node e → held_at c P ≡ [] → held_at c (if concerns (suc t) node e then line (turn l.at.stamp node) e ∷ P else P) ≡ []
-    by (Client d) (Heard u f r) ok ih =
-        ⊎_elim (λ (z : u ≡ 0). other u (line (turn l.at.stamp (Client d)) (Heard u f r)) z ih)
-        (λ (none : brought f.op r ≡ []). quiet (line (turn l.at.stamp (Client d)) (Heard u f r)) (nat_eq (suc t) u)
-        (ap (λ (ls : List Lock). if nat_eq c d then with_brought u ls (held_at c P) else held_at c P) none ∙ same (nat_eq c d)) ih) ok.0
-      where
-        same : (own : Bool) → (if own then held_at c P else held_at c P) ≡ held_at c P
-        same true = refl
-        same false = refl
-    by (Client d) (Hold u lock marked size seen) ok ih = other u (line (turn l.at.stamp (Client d)) (Hold u lock marked size seen)) ok.names ih
-    by (Client d) (Drop u lock) ok ih = other u (line (turn l.at.stamp (Client d)) (Drop u lock)) ok.0 ih
-    by (Client d) (Pins name) ok ih = other name.target.0 (line (turn l.at.stamp (Client d)) (Pins name)) ok ih
-    by (Client d) (Unpins name) ok ih = other name.target.0 (line (turn l.at.stamp (Client d)) (Unpins name)) ok ih
-    by (Client d) (Marks name) ok ih = other name.target.0 (line (turn l.at.stamp (Client d)) (Marks name)) ok ih
-    by (Client d) (Unmarks u) ok ih = chosen (nat_eq (suc t) u) ∙ gone (nat_eq (suc t) u) (nat_eq c d) ih
-      where
-        chosen : (b : Bool) → held_at c (if b then line (turn l.at.stamp (Client d)) (Unmarks u) ∷ P else P) ≡ (if b then (if nat_eq c d then unmarked (record { 0 = u }) (held_at c P) else held_at c P) else held_at c P)
-        chosen true = refl
-        chosen false = refl
-
-        gone : (b own : Bool) → held_at c P ≡ [] → (if b then (if own then unmarked (record { 0 = u }) (held_at c P) else held_at c P) else held_at c P) ≡ []
-        gone true true ih = ap (unmarked (record { 0 = u })) ih
-        gone true false ih = ih
-        gone false own ih = ih
-    by (Target u) e ok ih = quiet (line (turn l.at.stamp (Target u)) e) (nat_eq (suc t) u) (unread (reads_held e) false (held_after (held_at c P) e) (inr refl)) ih
-    by (Client d) e ok ih = quiet (line (turn l.at.stamp (Client d)) e) (is_about (suc t) e) refl ih
-
-pub not_zero : (t : ℕ) → nat_eq 0 (suc t) ≡ false
-not_zero t = grind (arith, nat_tests)
-
--- so the held locks of a target are those of its story
-pub held_there : (head : Head) (c t : ℕ) (past : List Line) → Grown head past → filter (λ (h : HeldLock). nat_eq h.target.0 t) (held_at c past) ≡ held_at c (only t past)
-held_there head c zero past g = all_of (held_at c past) (held_zero head c past g) ∙ held_is head c past g
-  where
-    all_of : (hs : List HeldLock) → ((h : HeldLock) → In h hs → h.target.0 ≡ 0) → filter (λ (h : HeldLock). nat_eq h.target.0 0) hs ≡ hs
-    all_of [] z = refl
-    all_of (h ∷ hs) z =
-        cond-true (nat_eq h.target.0 0) (h ∷ filter (λ (x : HeldLock). nat_eq x.target.0 0) hs) (filter (λ (x : HeldLock). nat_eq x.target.0 0) hs) (ap (λ (t : ℕ). nat_eq t 0) (z h (inl refl)))
-        ∙ ap (λ (xs : List HeldLock). h ∷ xs) (all_of hs (λ g i. z g (inr i)))
-held_there head c (suc t) past g = none_of (held_at c past) (held_zero head c past g) ∙ sym (none_held head c t past g)
-  where
-    none_of : (hs : List HeldLock) → ((h : HeldLock) → In h hs → h.target.0 ≡ 0) → filter (λ (h : HeldLock). nat_eq h.target.0 (suc t)) hs ≡ []
-    none_of [] z = refl
-    none_of (h ∷ hs) z =
-        cond-false (nat_eq h.target.0 (suc t)) (h ∷ filter (λ (x : HeldLock). nat_eq x.target.0 (suc t)) hs) (filter (λ (x : HeldLock). nat_eq x.target.0 (suc t)) hs) (ap (λ (u : ℕ). nat_eq u (suc t)) (z h (inl refl)) ∙ not_zero t)
-        ∙ none_of hs (λ g i. z g (inr i))
-
--- ---- so no life tells another target of a lock, that keeps none in its recovery, and restores none at a close
-
-none_relocked : (head : Head) (t : ℕ) (past : List Line) → Grown head past → (from to : Node) (r : LockReplay) → Was (only (suc t) past) from to (message.Lock r) → ⊥
-none_relocked head t [] g from to r w = w
-none_relocked head t (l ∷ past) g from to r w = by (concerns (suc t) l.at.node l.entry) (g.0.of (suc t)) w (none_relocked head t past g.1 from to r)
-  where
-    P : List Line
-    P = only (suc t) past
-
-    sends : (node k : Node) → SendOf head P node k (message.Lock r) → ⊥
-    sends (Client c) (Target u) ok = subst (λ (hs : List HeldLock). In ok.holding hs) (none_held head c t past g.1) ok.held
-    sends (Client c) (Client d) ok = ok
-    sends (Target u) (Client d) ok = ok
-    sends (Target u) (Target v) ok = ok
-
-    line_sends : (e : Entry) → EntryOf head P l.at l.at.node e → Was (line l.at e ∷ P) from to (message.Lock r) → (Was P from to (message.Lock r) → ⊥) → ⊥
-    line_sends (Send k m) ok (inl q) more = sends l.at.node k (subst (λ (x : Message). SendOf head P l.at.node k x) q.2 ok)
-    line_sends (Send k m) ok (inr q) more = more q
-    line_sends e ok q more = more q
-
-    by : (b : Bool) → (b ≡ true → EntryOf head P l.at l.at.node l.entry) → Was (if b then l ∷ P else P) from to (message.Lock r) → (Was P from to (message.Lock r) → ⊥) → ⊥
-    by true ok q more = line_sends l.entry (ok refl) q more
-    by false ok q more = more q
-
-pub none_brought : (head : Head) (t : ℕ) (past : List Line) → Grown head past → brought_of (only (suc t) past) ≡ []
-none_brought head t [] g = refl
-none_brought head t (l ∷ past) g = by (concerns (suc t) l.at.node l.entry) (g.0.of (suc t)) (none_brought head t past g.1)
-  where
-    P : List Line
-    P = only (suc t) past
-
-    after_line : (node : Node) (e : Entry) → EntryOf head P l.at node e → brought_of P ≡ [] → brought_of (line (turn l.at.stamp node) e ∷ P) ≡ []
-    after_line (Client c) e ok ih = ih
-    after_line (Target u) (Brings lock) ok ih = absurd (none_relocked head t past g.1 ok.from (Target u) ok.given ok.keeps.was)
-    after_line (Target u) (Boot boot disk) ok ih = refl
-    after_line (Target u) (Close o) ok ih = refl
-    after_line (Target u) e ok ih = ih
-
-    by : (b : Bool) → (b ≡ true → EntryOf head P l.at l.at.node l.entry) → brought_of P ≡ [] → brought_of (if b then l ∷ P else P) ≡ []
-    by true ok ih = after_line l.at.node l.entry (ok refl) ih
-    by false ok ih = ih
-
-pub none_restored : (head : Head) (t : ℕ) (past : List Line) (at : At) → Grown head past → (outcome_of head.osts head.clients at (only (suc t) past)).locks ≡ []
-none_restored head t past at g =
-    let v = window_of (recovering_of head.osts head.clients (only (suc t) past)) in
-    ap (λ (ls : List Lock). restored [] (staying (settled v).gone ls)) (none_brought head t past g)
-
 -- ---- the facts
 
 facts_line : (facts : List Fact) (past : List Line) (at : At) (c : ℕ) (node : Node) (e : Entry) → EntryOk past at node e → is_client c node ≡ true → reads_facts e ≡ true
     → (is_about 0 e ≡ true) ⊎ (facts_after facts e ≡ facts)
 facts_line facts past at c (Client d) (Learns t op answer locks) ok own q = inl (ap (nat_eq 0) ok.names)
-facts_line facts past at c (Client d) (Drop t lock) ok own q = inl (ap (nat_eq 0) ok.0)
+facts_line facts past at c (Client d) (Drop zero lock) ok own q = inl refl
+facts_line facts past at c (Client d) (Drop (suc t) lock) ok own q = inr refl
 facts_line facts past at c (Client d) (Life who) ok own q = inl refl
 facts_line facts past at c (Target t) e ok own q = absurd (cc)
 facts_line facts past at c node e ok own q = absurd (cc)

@@ -47,6 +47,15 @@ stands_same l (k ∷ locks) (inr p) =
     ∙ cond-false (nat_lt l.cookie.0 k.cookie.0) (l ∷ k ∷ locks) (k ∷ with_lock l locks) above
     ∙ ap (λ (xs : List Lock). k ∷ xs) (stands_same l locks p.1)
 
+pub in_put : (l : Lock) (locks : List Lock) → In l (with_lock l locks)
+in_put l [] = inl refl
+in_put l (k ∷ locks) = by (nat_eq l.cookie.0 k.cookie.0) (nat_lt l.cookie.0 k.cookie.0) (in_put l locks)
+  where
+    by : (same below : Bool) → In l (with_lock l locks) → In l (if same then l ∷ locks else (if below then l ∷ k ∷ locks else k ∷ with_lock l locks))
+    by true below h = inl refl
+    by false true h = inl refl
+    by false false h = inr h
+
 -- a lock of another cookie is put beside it
 pub stands_beside : (l m : Lock) (locks : List Lock) → (m.cookie.0 ≡ l.cookie.0 → ⊥) → Stands l locks → Stands l (with_lock m locks)
 stands_beside l m [] ne s = absurd s
@@ -150,6 +159,10 @@ pub rises_filter : (f : Lock → Bool) (locks : List Lock) → Rises locks → R
 rises_filter f [] r = tt
 rises_filter f (l ∷ locks) r =
     cond_both (f l) (l ∷ filter f locks) (filter f locks) (λ (xs : List Lock). Rises xs) (λ t. (above_filter l.cookie.0 f locks r.0, rises_filter f locks r.1)) (λ t. rises_filter f locks r.1)
+
+pub rises_from : (cookie : ℕ) (who : Who) (wants : List Want) → Rises (locks_from cookie who wants)
+rises_from cookie who [] = tt
+rises_from cookie who (want ∷ wants) = (above_from (cookie + 1) (cookie + 1) who wants (omega arith), rises_from (cookie + 1) who wants)
 
 -- ---- what is called back
 

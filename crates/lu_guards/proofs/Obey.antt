@@ -1,7 +1,7 @@
 -- Each covered run of the table makes lines that are allowed, one after another; after each turn nothing is owed, no life is ending, no
 -- target has a message to keep or a life to tell of as back, and between its turns each call of a client waits, for its reply or for other
--- calls on its open; none of its held locks is pinned, or marked where the metadata target serves it, its handles are bound as calls say,
--- and each target is what its story says.
+-- calls on its open; none of its held locks on names is pinned, and none is marked where its target serves it, its handles are bound as
+-- calls say, and each target is what its story says.
 use Rattle.std.proofs.Common.{◌≡◌, ℕ, ◌≤◌, Bool, true, false, List, [], ◌∷◌, inl, inr, None, refl, sym, subst, ap, ◌∙◌}
 use Rattle.std.specs.Prelude.{nat_eq, ◌&&◌}
 use Rattle.std.proofs.lemmas.Bool.{eqb-true}
@@ -21,7 +21,7 @@ use Rattle.lu_target_rows.specs.Rows as target
 use Rattle.lu_covered.specs.Calls.{reads_call, call_after}
 use Rattle.lu_covered.specs.Covered.{AllCovered}
 use Rattle.lu_covered.specs.Heads.{IsAlive}
-use Rattle.lu_covered.specs.Imports.{Standing, Serving, reads_standing, standing_after, standing_at}
+use Rattle.lu_covered.specs.Imports.{Serving, reads_standing, standing_after}
 use Rattle.lu_table.specs.Heads as table
 use Rattle.lu_table.specs.Runs as table_runs
 use Rattle.lu_table.specs.Runs.{limits_of, client_of, row, MeetsClient, MeetsTarget, IsRow, Turn, lines_of, IsRun}
@@ -31,10 +31,9 @@ use Rattle.lu_guards.proofs.Lists.{turn}
 use Rattle.lu_guards.proofs.Ends.{closed_row, closed_target}
 use Rattle.lu_guards.proofs.Turns.{covered_head, Settled, settled_after, noted_after, turn_grows, run_later}
 use Rattle.lu_guards.proofs.Covers.{covered_turn, over_none}
-use Rattle.lu_guards.proofs.ClientLines.{on_other}
+use Rattle.lu_guards.proofs.ClientLines.{AllThere, there_turn, on_other}
 use Rattle.lu_guards.proofs.ClientHandles.{file_other}
 use Rattle.lu_guards.proofs.ClientRests.{Between, idle_same}
-use Rattle.lu_guards.proofs.ClientStarts.{AllThere, there_turn}
 use Rattle.lu_guards.proofs.ClientTurns.{client_ok}
 use Rattle.lu_guards.proofs.ClientReady.{welcome_other, welcome_client}
 use Rattle.lu_guards.proofs.TargetTurns.{of_target, target_ok, ServesBetween, serves_start, serves_client}
@@ -60,11 +59,11 @@ between_other c at es past other b =
     record {
       idle = idle_same c past (with_turn at es past) (λ slot. field_other reads_call (call_after slot) None c at es past other) b.idle;
       handles = λ h. ap (file_of h) (field_other reads_handles handles_after [] c at es past other) ∙ b.handles h ∙ sym (file_other c h at es past other);
-      held = subst (λ (hs : List HeldLock). (x : HeldLock) → In x hs → x.pins ≡ 0) (sym (field_other reads_held held_after [] c at es past other)) b.held;
-      calm =
-          subst (λ (st : Standing). st ≡ Serving → (x : HeldLock) → In x (held_at c (with_turn at es past)) → x.marked ≡ false) (sym (import_other reads_standing standing_after Serving c 0 at es past other))
-          (subst (λ (hs : List HeldLock). standing_at c 0 past ≡ Serving → (x : HeldLock) → In x hs → x.marked ≡ false) (sym (field_other reads_held held_after [] c at es past other)) b.calm);
+      calm = λ x i q. b.calm x (was x i) (sym (import_other reads_standing standing_after Serving c x.target.0 at es past other) ∙ q);
     }
+  where
+    was : (x : HeldLock) → In x (held_at c (with_turn at es past)) → In x (held_at c past)
+    was x i = subst (λ (hs : List HeldLock). In x hs) (field_other reads_held held_after [] c at es past other) i
 
 -- ---- one turn
 
@@ -77,7 +76,7 @@ pub record Stands (head : table.Head) (past : List Line) : Type 0 where
   pub there : AllThere head.osts past
   pub between : (c : ℕ) → Between c past
   pub serves : (t : ℕ) → ServesBetween head past t
-  pub ready : (c : ℕ) → is_welcome c past ≡ false
+  pub ready : (c t : ℕ) → is_welcome c t past ≡ false
 
 lives : (head : table.Head) (past : List Line) (c : ℕ) (event : client.Event) → MeetsClient head past c event → IsAlive (covered_head head) past c
 lives head past c (client.Begins slot wanted) m = record { one = m.0.one; alive = m.0.alive }
@@ -104,7 +103,7 @@ client_stands head past stamp c event s later meets covered =
       there = there_turn head.osts at es past tt s.there;
       between = λ d. by d (nat_eq d c) refl ok.between;
       serves = λ t. serves_client head past stamp c es t (s.serves t);
-      ready = welcome_client head past stamp c event s.ready later ok.grown;
+      ready = welcome_client head past stamp c event s.ready s.there later ok.grown;
     }
   where
     at : At
@@ -137,13 +136,23 @@ row_stands head past stamp (Target t) es s later r covered =
       there = there_turn head.osts at fs past (target_there head past t r.event r.meets) s.there;
       between = λ c. between_other c at fs past refl (s.between c);
       serves = ok.serves;
-      ready = λ c. welcome_other c at fs past refl ∙ s.ready c;
+      ready = λ c u. welcome_other c u at fs past refl ∙ s.ready c u;
     })
 
 -- ---- runs
 
 pub stands : (head : table.Head) (turns : List Turn) → IsRun head turns → AllCovered (lines_of turns) → Stands head (lines_of turns)
-stands head [] run covered = record { grown = tt; settled = tt; closed = λ c k. k; noted = record { marked = λ t. refl; told = λ t who k. k; shown = λ t. refl }; there = tt; between = λ c. record { idle = λ slot. tt; handles = λ h. refl; held = λ x i. absurd i; calm = λ q x i. absurd i }; serves = λ t. serves_start head t; ready = λ c. refl }
+stands head [] run covered =
+    record {
+      grown = tt;
+      settled = tt;
+      closed = λ c k. k;
+      noted = record { marked = λ t. refl; told = λ t who k. k; shown = λ t. refl };
+      there = tt;
+      between = λ c. record { idle = λ slot. tt; handles = λ h. refl; calm = λ x i q. absurd i };
+      serves = λ t. serves_start head t;
+      ready = λ c t. refl;
+    }
 stands head (t ∷ turns) run covered = by run.1 (stands head turns run.2 (covered_turn t.at t.entries (lines_of turns) covered).1)
   where
     by : table_runs.IsTurn head turns t → Stands head (lines_of turns) → Stands head (lines_of (t ∷ turns))

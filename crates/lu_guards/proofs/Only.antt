@@ -6,7 +6,7 @@ use Rattle.lu_base.specs.declared.ids.At.{At}
 use Rattle.lu_base.specs.declared.ids.Node.{Node}
 use Rattle.lu_base.specs.declared.ids.Node.TheVariants.{Client, Target}
 use Rattle.lu_msg.specs.declared.messages.Message.{Message}
-use Rattle.lu_words.specs.Words.{Entry, Send, Heard, Hold, Line, line, with_turn}
+use Rattle.lu_words.specs.Words.{Entry, Send, Heard, Line, line, with_turn}
 use Rattle.lu_words.specs.Concerns.{concerns, only, about}
 use Rattle.lu_words.specs.Sent.{Sent}
 use Rattle.lu_covered.specs.Heads.{Head}
@@ -156,9 +156,7 @@ told_by_target past n t to m s = was_only t past (Target t) to m (self t) (sent_
 
 of_first : (past : List Line) (at : At) (node : Node) (e : Entry) → EntryOk past at node e → IsOfFirst e
 of_first past at (Client c) (Heard t f r) ok = ok.0
-of_first past at (Client c) (Hold t lock marked size seen) ok = ok.names
 of_first past at (Target u) (Heard t f r) ok = absurd ok
-of_first past at (Target u) (Hold t lock marked size seen) ok = absurd ok
 of_first past at node e ok = tt
 
 one_of : (head : Head) (past : List Line) (node : Node) → LivesAt head past node → IsOneOf head node

@@ -11,7 +11,7 @@ use Rattle.lu_base.specs.declared.ids.Who.{Who}
 use Rattle.lu_msg.specs.declared.messages.Request.{Request as RequestOf}
 use Rattle.lu_machine.specs.Tree.{Tree}
 use Rattle.lu_words.specs.Carried.{Deed, Slot, Called, Said}
-use Rattle.lu_words.specs.Words.{Entry, Heard, Hold, Settles, Life, Queues, Flies, Knows, Act, Txn, Commit, Crash, Boot, Close, Enters, Block, Release, Evict, Joined, Stores, Brings, Says, Wishes, Line, line, is_client, is_target}
+use Rattle.lu_words.specs.Words.{Entry, Heard, Hold, Settles, Life, Queues, Flies, Knows, Act, Txn, Grant, Commit, Crash, Boot, Close, Enters, Block, Release, Evict, Joined, Stores, Brings, Says, Wishes, Line, line, is_client, is_target}
 use Rattle.lu_words.specs.Concerns.{is_about, concerns, only}
 use Rattle.lu_words.specs.Fields.{on, at_target, at_import}
 use Rattle.lu_base.specs.declared.locks.Lock.{Lock}
@@ -76,6 +76,7 @@ slot_is who tag t past = target_is reads_slot (slot_after who tag) no_slot (slot
     stays (Enters r) slot q = absurd (cc)
     stays (Act d) slot q = absurd (cc)
     stays (Txn d) slot q = absurd (cc)
+    stays (Grant lock asked) slot q = absurd (cc)
     stays (Close o) slot q = absurd (cc)
     stays e slot q = refl
 
@@ -234,6 +235,7 @@ waiting_part osts = record { steps = steps; stays = stays }
     steps v (Enters q) r = refl
     steps v (Act d) r = refl
     steps v (Txn d) r = refl
+    steps v (Grant lock asked) r = refl
     steps v (Evict w cause) r = refl
     steps v (Close o) r = refl
     steps v e r = absurd (cc)
@@ -242,6 +244,7 @@ waiting_part osts = record { steps = steps; stays = stays }
     stays v (Enters q) r = absurd (cc)
     stays v (Act d) r = absurd (cc)
     stays v (Txn d) r = absurd (cc)
+    stays v (Grant lock asked) r = absurd (cc)
     stays v (Evict w cause) r = absurd (cc)
     stays v (Close o) r = absurd (cc)
     stays v e r = refl
@@ -251,6 +254,7 @@ granted_part osts = record { steps = steps; stays = stays }
   where
     steps : (v : Server) (e : Entry) → reads_granted e ≡ true → granted_after v.granted e ≡ (server_after osts v e).granted
     steps v (Act d) r = refl
+    steps v (Grant lock asked) r = refl
     steps v (Release l) r = refl
     steps v (Evict w cause) r = refl
     steps v (Close o) r = refl
@@ -258,6 +262,7 @@ granted_part osts = record { steps = steps; stays = stays }
 
     stays : (v : Server) (e : Entry) → reads_granted e ≡ false → v.granted ≡ (server_after osts v e).granted
     stays v (Act d) r = absurd (cc)
+    stays v (Grant lock asked) r = absurd (cc)
     stays v (Release l) r = absurd (cc)
     stays v (Evict w cause) r = absurd (cc)
     stays v (Close o) r = absurd (cc)
@@ -268,11 +273,13 @@ cookie_part osts = record { steps = steps; stays = stays }
   where
     steps : (v : Server) (e : Entry) → reads_cookie e ≡ true → cookie_after v.cookie e ≡ (server_after osts v e).cookie
     steps v (Act d) r = refl
+    steps v (Grant lock asked) r = refl
     steps v (Boot b k) r = refl
     steps v e r = absurd (cc)
 
     stays : (v : Server) (e : Entry) → reads_cookie e ≡ false → v.cookie ≡ (server_after osts v e).cookie
     stays v (Act d) r = absurd (cc)
+    stays v (Grant lock asked) r = absurd (cc)
     stays v (Boot b k) r = absurd (cc)
     stays v e r = refl
 

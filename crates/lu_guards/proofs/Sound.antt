@@ -30,7 +30,8 @@ use Rattle.lu_guards.proofs.LockLists.{Rises, rises_filter}
 use Rattle.lu_guards.proofs.ClientLocks.{in_map, any_passes}
 use Rattle.lu_guards.proofs.CloseLists.{puts_or, puts_more, stays_all, left_all, gone_had, stays_back, left_not, OneEach, in_wish, each_wish, wish_one, in_placed, rises_brought, in_restored, rises_restored, last_low}
 use Rattle.lu_guards.proofs.TargetStory.{Belongs, Story, numbered, logged_top, story_start, story_client, story_line}
-use Rattle.lu_guards.proofs.Given.{Gave, Given, deeds_fine, given_start, given_line}
+use Rattle.lu_guards.proofs.Has.{deeds_fine}
+use Rattle.lu_guards.proofs.Given.{Gave, Grants, Given, given_start, given_line}
 
 -- ---- what a target that recovers has taken
 
@@ -159,7 +160,7 @@ module _ (head : Head) (t : ℕ) (past : List Line) (stamp : Stamp) (h : Sound h
       each : (k : Transaction) → In k (news disk (batch_of x.kept gone x.joins)) → k.txn.0 ≤ numbered (server_of head.osts past)
       each k i =
           let r = in_map transaction_of k x.kept (in_filter (λ (y : Transaction). nat_lt disk.committed y.txn.0) k (batch_of x.kept gone x.joins).transactions i).0 in
-          let fine = deeds_fine (numbered (server_of head.osts past)) (Gave past) head past at h.given.has r.0 r.1 in
+          let fine = deeds_fine (numbered (server_of head.osts past)) (Gave past) (Grants past) head past at h.given.has r.0 r.1 in
           subst (λ (y : Transaction). y.txn.0 ≤ numbered (server_of head.osts past)) r.2 fine.number
 
   closes_by : disk.lives ≡ lives → disk.removed ≡ evicted_of past → disk.committed ≡ (server_of head.osts past).committed.0 → Story head (line at (Close x) ∷ past)

@@ -10,7 +10,9 @@ use Rattle.lu_base.specs.declared.ids.Txn.{Txn as TxnOf}
 use Rattle.lu_base.specs.declared.ids.Who.{Who}
 use Rattle.lu_base.specs.declared.locks.Cause.{Cause}
 use Rattle.lu_base.specs.declared.locks.Cause.TheVariants.{Expired, Replaced}
+use Rattle.lu_base.specs.declared.locks.Extent.{Extent}
 use Rattle.lu_base.specs.declared.locks.Lock.{Lock}
+use Rattle.lu_base.specs.declared.locks.Mode.TheVariants.{PR}
 use Rattle.lu_base.specs.declared.locks.Resource.{Resource}
 use Rattle.lu_msg.specs.declared.answers.Answer.{Answer}
 use Rattle.lu_msg.specs.declared.messages.Message.{Message}
@@ -40,14 +42,14 @@ use Rattle.lu_target_rows.specs.Rows.{lock_again}
 use Rattle.lu_target_rows.specs.Phase.{first_of}
 use Rattle.lu_target_rows.specs.Stored.{batch_of}
 use Rattle.lu_target_rows.specs.Windows.{is_replay, is_lock, word_of, is_newest, all_settled}
-use Rattle.lu_client_rows.specs.Caches.{held_as, held_at}
+use Rattle.lu_client_rows.specs.Caches.{brought, held_as, held_at}
 use Rattle.lu_client_rows.specs.Imports.{Replay, Joining, Recovering, Serving}
 use Rattle.lu_client_rows.specs.Recovery.{next_life, lock_replayed, replayed as replayed_by}
 use Rattle.lu_client_rows.specs.Sending.{next_flight, front_waits}
 use Rattle.lu_covered.specs.TargetParts.{without_request, cookie_after}
 use Rattle.lu_covered.specs.TargetStates.{none, server_of, slot_of, lives_of, evicted_of, shown_of, closed_of, up_of, replays_of, brought_of, words_of, wishes_of, window_of, next_number}
 use Rattle.lu_covered.specs.TargetCloses.{disk_of, outcome_of, closing_of}
-use Rattle.lu_covered.specs.Deeds.{asked, deed, sized, locks_of, written_by, again}
+use Rattle.lu_covered.specs.Deeds.{asked, deed, sized, read_lock, granted, locks_of, written_by, again}
 use Rattle.lu_covered.specs.ClientStates.{queue_of, flights_of, last_of, known_of, life_of, standing_of, kept_of}
 use Rattle.lu_covered.specs.Heads.{Head}
 use Rattle.lu_guards.proofs.Guards.{In, Was, HeardNow, TookNow, Took, Dropped, request, name_of, Did, InTurn, IsCommit, IsTick, IsTake, BackNow, IsTurnOf}
@@ -96,15 +98,15 @@ pub record HeardOk (past : List Line) (c : ℕ) (f : Flight) (r : ReplyTo) : Typ
   pub fits : answer_fits f.op r.answer ≡ true
 
 -- the lock is held already, since the reply that brought it was heard
-pub record HeldOk (past : List Line) (c : ℕ) (lock : Lock) (seen : List ℕ) : Type 0 where
+pub record HeldOk (past : List Line) (c t : ℕ) (lock : Lock) (seen : List ℕ) : Type 0 where
   pub at : At
   pub flight : Flight
   pub reply : ReplyTo
   pub here : at.node ≡ Client c
-  pub heard : HeardNow past at 0 flight reply
-  pub among : In lock reply.locks
+  pub heard : HeardNow past at t flight reply
+  pub among : In lock (brought flight.op reply)
   pub saw : seen ≡ reply.seen
-  pub held : In (held_as 0 lock false) (held_at c past)
+  pub held : In (held_as t lock false) (held_at c past)
 
 pub record KnowsOk (past : List Line) (op : Op) (answer : Answer) (locks : List Lock) : Type 0 where
   pub at : At
@@ -115,11 +117,13 @@ pub record KnowsOk (past : List Line) (op : Op) (answer : Answer) (locks : List 
   pub of_answer : answer ≡ reply.answer
   pub of_locks : locks ≡ reply.locks
 
--- the lock is held
-pub record DropOk (past : List Line) (c : ℕ) (lock : Lock) : Type 0 where
+-- the lock is held; all that is held in this story is of that target
+pub record DropOk (past : List Line) (c t : ℕ) (lock : Lock) : Type 0 where
   pub holding : HeldLock
   pub held : In holding (held_at c past)
+  pub of_target : holding.target.0 ≡ t
   pub is : holding.lock ≡ lock
+  pub there : (h : HeldLock) → In h (held_at c past) → h.target.0 ≡ t
 
 -- a new life begins when nothing of the old one is held
 pub record LifeOf (past : List Line) (c : ℕ) (who : Who) : Type 0 where
@@ -183,11 +187,12 @@ pub record ServesOk (past : List Line) (c t boot : ℕ) : Type 0 where
   pub of_boot : boot ≡ known_of c past
 
 -- the lock was just given up; or it was called back while it wasn't held, and no request is in flight
-pub record CancelOk (past : List Line) (c : ℕ) (who : Who) (boot : ℕ) (cookie : Cookie) : Type 0 where
+pub record CancelOk (past : List Line) (c t : ℕ) (who : Who) (boot : ℕ) (cookie : Cookie) : Type 0 where
   pub of_life : who ≡ life_of c past
   pub of_boot : boot ≡ known_of c past
-  pub free : is_held (name_of cookie) (held_at c past) ≡ false
-  pub cause : Dropped past c cookie ⊎ ((flights_of (life_of c past) past ≡ []) × ((from b : ℕ) × Was past (Target from) (Client c) (message.Block who b cookie)))
+  pub free : is_held (name_of t cookie) (held_at c past) ≡ false
+  pub there : (h : HeldLock) → In h (held_at c past) → h.target.0 ≡ t
+  pub cause : Dropped past c t cookie ⊎ ((flights_of (life_of c past) past ≡ []) × ((from b : ℕ) × Was past (Target from) (Client c) (message.Block who b cookie)))
 
 -- a request of a life with a slot, of the present boot or a later one, and of the newest number taken of its life and tag
 pub record AsksAgain (head : Head) (past : List Line) (t : ℕ) (who : Who) (tag : ℕ) : Type 0 where
@@ -315,6 +320,22 @@ pub record GrantOk (osts : ℕ) (past : List Line) (lock : Lock) (d : Deed) : Ty
   pub cookie : max (server_of osts past).cookie lock.cookie.0 ≡ (server_of osts past).cookie
   pub waiting : without_request d (server_of osts past).waiting ≡ (server_of osts past).waiting
   pub slot : (slot_of d.reply.who d.tag past).reply ≡ Some d.reply
+
+-- who asks for a lock to read under gets the next one, on the whole object, to which nothing was written
+pub record RangeOk (osts : ℕ) (past : List Line) (at : At) (lock : Lock) (d : Deed) : Type 0 where
+  pub serves : IsServing osts past
+  pub room : (server_of osts past).cookie + 1 ≤ first_of (server_of osts past).boot + 4294967295
+  pub request : RequestOf
+  pub waits : In request (server_of osts past).waiting
+  pub resource : Resource
+  pub extent : Extent
+  pub of_op : request.op ≡ op.Enqueue resource PR extent
+  pub of_lock : lock ≡ read_lock (server_of osts past) request resource
+  pub is : d ≡ granted (server_of osts past) at request lock
+
+-- the metadata target shows the locks of what was just done, an object storage target grants the lock that was asked for
+abbrev pub GrantsOk : ℕ → List Line → At → ℕ → Lock → Deed → Type 0
+GrantsOk osts past at t lock d = ((t ≡ 0) × GrantOk osts past lock d) ⊎ ((0 < t) × RangeOk osts past at lock d)
 
 -- a granted lock that isn't called back, and a request that waits for it: it would write what the lock guards
 pub record BlockOk (osts : ℕ) (past : List Line) (called : Called) : Type 0 where
@@ -478,7 +499,7 @@ pub record WishesOk (head : Head) (past : List Line) (at : At) (t : ℕ) (who : 
 
 abbrev pub SendOf : Head → List Line → Node → Node → Message → Type 0
 SendOf head past (Client c) (Target t) (message.Request r) = AskOk past c r
-SendOf head past (Client c) (Target t) (message.Cancel who boot cookie) = CancelOk past c who boot cookie
+SendOf head past (Client c) (Target t) (message.Cancel who boot cookie) = CancelOk past c t who boot cookie
 SendOf head past (Client c) (Target t) (message.Join who boot) = JoinsOk past c who boot
 SendOf head past (Client c) (Target t) (message.Replay r) = ReplaysOk past c r
 SendOf head past (Client c) (Target t) (message.Lock r) = RelocksOk past c r
@@ -500,9 +521,9 @@ EntryOf head past at (Client c) (Queues t q) = Unit {0}
 EntryOf head past at (Client c) (Stands slot running) = Unit {0}
 EntryOf head past at (Client c) (Flies t f) = FliesOk head past c t f
 EntryOf head past at (Client c) (Heard t f r) = HeardOk past c f r
-EntryOf head past at (Client c) (Hold t lock marked size seen) = (marked ≡ false) × HeldOk past c lock seen
+EntryOf head past at (Client c) (Hold t lock marked size seen) = (marked ≡ false) × HeldOk past c t lock seen
 EntryOf head past at (Client c) (Learns t op answer locks) = KnowsOk past op answer locks
-EntryOf head past at (Client c) (Drop t lock) = (t ≡ 0) × DropOk past c lock
+EntryOf head past at (Client c) (Drop t lock) = DropOk past c t lock
 EntryOf head past at (Client c) (Pins name) = Unit {0}
 EntryOf head past at (Client c) (Unpins name) = Unit {0}
 EntryOf head past at (Client c) (Marks name) = Unit {0}
@@ -518,7 +539,7 @@ EntryOf head past at (Client c) Die = Unit {0}
 EntryOf head past at (Target t) (Enters r) = EntersOk head.osts head.clients past t r
 EntryOf head past at (Target t) (Act d) = ActsOk head.osts past at t d
 EntryOf head past at (Target t) (Txn d) = TxnOk head.osts past at d
-EntryOf head past at (Target t) (Grant lock (Some d)) = GrantOk head.osts past lock d
+EntryOf head past at (Target t) (Grant lock (Some d)) = GrantsOk head.osts past at t lock d
 EntryOf head past at (Target t) (Block called) = BlockOk head.osts past called
 EntryOf head past at (Target t) (Release lock) = ReleaseOk head.osts past t lock
 EntryOf head past at (Target t) Skip = Unit {0}

@@ -36,9 +36,9 @@ use Rattle.lu_guards.proofs.Guards.{In}
 use Rattle.lu_guards.proofs.StoryGuards.{EntryOf, IsServing, CommitOk}
 use Rattle.lu_guards.proofs.Lists.{turn}
 use Rattle.lu_guards.proofs.Turns.{IsNoClose}
-use Rattle.lu_guards.proofs.LockLists.{Rises, rises_all, rises_filter}
+use Rattle.lu_guards.proofs.LockLists.{Rises, rises_with, rises_all, rises_filter}
 use Rattle.lu_guards.proofs.LifeLists.{filter_parts, filter_swap, first_lives}
-use Rattle.lu_guards.proofs.TargetSlots.{SlotsAlike, slots_enter, slots_answer, slots_again, slots_leave}
+use Rattle.lu_guards.proofs.TargetSlots.{SlotsAlike, slots_enter, slots_answer, slots_leave}
 use Rattle.lu_guards.proofs.TargetStory.{Story, numbered, logged_above, story_start, story_client, story_commit, story_evict, story_release, story_still, story_line}
 
 -- one of the whole table, and what the guards speak of
@@ -159,9 +159,8 @@ module _ (osts t : ℕ) (v : Target) (s : Server) (h : Alike osts t v s) where
         rises = h.rises;
       }
 
-  -- what a grant shows stands since the act
-  alike_grant : (lock : Lock) (d : Deed) → with_lock lock s.granted ≡ s.granted → max s.cookie lock.cookie.0 ≡ s.cookie → without_request d s.waiting ≡ s.waiting → Alike osts t (after v (Grant lock (Some d))) s
-  alike_grant lock d granted cookie waiting =
+  alike_grant : (lock : Lock) (d : Deed) → Alike osts t (after v (Grant lock (Some d))) (server_after osts s (Grant lock (Some d)))
+  alike_grant lock d =
       record {
         id = h.id;
         osts = h.osts;
@@ -169,16 +168,16 @@ module _ (osts t : ℕ) (v : Target) (s : Server) (h : Alike osts t v s) where
         boot = h.boot;
         closed = h.closed;
         number = h.number;
-        cookie = ap (λ (n : ℕ). max n lock.cookie.0) h.cookie ∙ cookie;
+        cookie = ap (λ (n : ℕ). max n lock.cookie.0) h.cookie;
         tree = h.tree;
         log = h.log;
         committed = h.committed;
-        granted = ap (with_lock lock) h.granted ∙ granted;
+        granted = ap (with_lock lock) h.granted;
         waiting = ap (without_lock lock) h.waiting;
         called = h.called;
-        queue = ap (without_request d) h.queue ∙ waiting;
+        queue = ap (without_request d) h.queue;
         glimpses = h.glimpses;
-        rises = h.rises;
+        rises = rises_with lock s.granted h.rises;
       }
 
   alike_block : (called : Called) → Alike osts t (after v (Block called)) (server_after osts s (Block called))
@@ -291,7 +290,17 @@ serving_line head t past stamp e v plain ok h = by e plain ok (story_line head t
           stored = h.stored;
         }
     by (Grant lock (Some d)) plain ok story =
-        record { alike = alike_grant head.osts t v s a lock d ok.granted ok.cookie ok.waiting; story = story; slots = slots_again v.slots v.removed past d ok.slot h.slots; lives = h.lives; removed = h.removed; shown = h.shown; phase = h.phase; disk = h.disk; stored = h.stored }
+        record {
+          alike = alike_grant head.osts t v s a lock d;
+          story = story;
+          slots = λ who tag live. slots_answer v.slots past d who tag (h.slots who tag live);
+          lives = h.lives;
+          removed = h.removed;
+          shown = ap (with_lock lock) h.shown;
+          phase = h.phase;
+          disk = h.disk;
+          stored = h.stored;
+        }
     by (Block called) plain ok story = record { alike = alike_block head.osts t v s a called; story = story; slots = h.slots; lives = h.lives; removed = h.removed; shown = h.shown; phase = h.phase; disk = h.disk; stored = h.stored }
     by (Release lock) plain ok story = record { alike = alike_release head.osts t v s a lock; story = story; slots = h.slots; lives = h.lives; removed = h.removed; shown = ap (without_lock lock) h.shown; phase = h.phase; disk = h.disk; stored = h.stored }
     by (Commit to batch) plain ok story = absurd plain

@@ -9,7 +9,6 @@ use Rattle.lu_base.specs.declared.ids.Node.TheVariants as node
 use Rattle.lu_base.specs.declared.ids.Stamp.{Stamp}
 use Rattle.lu_base.specs.declared.ids.Who.{Who}
 use Rattle.lu_base.specs.declared.locks.Cause.TheVariants.{Replaced}
-use Rattle.lu_base.specs.declared.locks.Lock.{Lock}
 use Rattle.lu_msg.specs.declared.messages.Message.TheVariants as message
 use Rattle.lu_words.specs.Words.{Entry, Line, same_life}
 use Rattle.lu_words.specs.Concerns.{only}
@@ -60,7 +59,7 @@ module _ (head : Head) (stamp : Stamp) (t : ℕ) where
   -- ---- the join
 
   module _ (past story : List Line) (v : Target) (c boot : ℕ) (who : Who) (is : story ≡ only t past) (settled : Settled past) (h : Serving head t v story)
-      (names : (l : Lock) → In l (server_of head.osts story).granted → t ≡ 0) (took : TookSince story at (node.Client c) (message.Join who boot)) (was : Was story (node.Client c) (node.Target t) (message.Join who boot)) where
+      (took : TookSince story at (node.Client c) (message.Join who boot)) (was : Was story (node.Client c) (node.Target t) (message.Join who boot)) where
     abbrev lives : List Who
     lives = lives_of head.clients story
 
@@ -84,7 +83,7 @@ module _ (head : Head) (stamp : Stamp) (t : ℕ) where
 
     newest : (server_of head.osts story).boot ≤ boot → (old : Who) → In old lives → old.client ≡ who.client → nat_lt who.life old.life ≡ false → nat_eq who.life old.life ≡ false → list_any (is_over who) gone ≡ false → High v (row_admits at (old ∷ []) who v) → Leads (row_admits at (old ∷ []) who v)
     newest current old i same lower equal newer high =
-        admits_lead head stamp t v past story is settled h names c boot who (old ∷ []) (since_took story at (node.Client c) (message.Join who boot) took) was current has ((λ x j. absurd j), tt) caused
+        admits_lead head stamp t v past story is settled h c boot who (old ∷ []) (since_took story at (node.Client c) (message.Join who boot) took) was current has ((λ x j. absurd j), tt) caused
         (no_life who.client (without_lives (old ∷ []) lives) none)
         (any_with (is_over who) old gone ∙ or_from (is_over who old) (list_any (is_over who) gone) under newer)
         high
@@ -112,7 +111,7 @@ module _ (head : Head) (stamp : Stamp) (t : ℕ) where
 
     by_old : (server_of head.osts story).boot ≤ boot → (o : Option Who) → life_in who.client v.lives ≡ o → list_any (is_over who) gone ≡ false → High v (by_life v at who o) → Leads (by_life v at who o)
     by_old current None found newer high =
-        admits_lead head stamp t v past story is settled h names c boot who [] (since_took story at (node.Client c) (message.Join who boot) took) was current (λ x j. absurd j) tt (λ x j. absurd j)
+        admits_lead head stamp t v past story is settled h c boot who [] (since_took story at (node.Client c) (message.Join who boot) took) was current (λ x j. absurd j) tt (λ x j. absurd j)
         (ap (life_in who.client) (all_stay lives) ∙ ap (life_in who.client) (sym h.lives) ∙ found) newer high
     by_old current (Some old) found newer high = by (nat_lt who.life old.life) (nat_eq who.life old.life) refl refl high
       where

@@ -102,8 +102,7 @@ released_is at (l ∷ locks) v none =
 -- ---- in the middle of it
 
 -- a lock of a life that left, whose release isn't shown
-record Showing (head : Head) (t : ℕ) (at : At) (lock : Lock) (story : List Line) : Type 0 where
-  names : t ≡ 0
+record Showing (head : Head) (at : At) (lock : Lock) (story : List Line) : Type 0 where
   evicted : is_life lock.ask.who (evicted_of story) ≡ true
   turned : InTurn (IsEvict lock.ask.who) story at
   still : without_lock lock (server_of head.osts story).granted ≡ (server_of head.osts story).granted
@@ -114,9 +113,8 @@ record Showing (head : Head) (t : ℕ) (at : At) (lock : Lock) (story : List Lin
 pub record Leaving (head : Head) (t : ℕ) (at : At) (cause : Cause) (old : List Lock) (come final ended : List Who) (K : List Line → Type 0) (gone : List Who) (locks : List Lock) (v : Target) (story : List Line) : Type 0 where
   pub window : Window head t gone come v story
   pub shown : all_without locks (shown_of story) ≡ (server_of head.osts story).granted
-  due : (l : Lock) → In l locks → Showing head t at l story
+  due : (l : Lock) → In l locks → Showing head at l story
   rises : Rises locks
-  names : (l : Lock) → In l (server_of head.osts story).granted → t ≡ 0
   same : (x : Who) → In x gone → locks_of x old ≡ locks_of x (server_of head.osts story).granted
   has : (x : Who) → In x gone → is_life x (lives_of head.clients story) ≡ true
   distinct : Distinct gone
@@ -150,7 +148,6 @@ module _ (head : Head) (stamp : Stamp) (t : ℕ) (cause : Cause) (old : List Loc
         shown = ap (all_without (locks_of who old)) h.shown ∙ ap (λ (ls : List Lock). all_without ls granted) mine ∙ all_released_is who granted h.window.story.rises;
         due = λ l i. due_of l (in_filter (λ (x : Lock). same_life x.ask.who who) l granted (subst (λ (ls : List Lock). In l ls) mine i));
         rises = subst Rises (sym mine) (rises_filter (λ (x : Lock). same_life x.ask.who who) granted h.window.story.rises);
-        names = λ l i. h.names l (in_filter (λ (x : Lock). not (is_life x.ask.who (who ∷ []))) l granted i).0;
         same = λ x i. h.same x (inr i) ∙ sym (others_stay who x granted (h.distinct.0 x i));
         has = λ x i. life_stays x who (lives_of head.clients story) (h.distinct.0 x i) (h.has x (inr i));
         distinct = h.distinct.1;
@@ -168,11 +165,10 @@ module _ (head : Head) (stamp : Stamp) (t : ℕ) (cause : Cause) (old : List Loc
       mine : locks_of who old ≡ locks_of who granted
       mine = h.same who (inl refl)
 
-      due_of : (l : Lock) → In l granted × (same_life l.ask.who who ≡ true) → Showing head t at l (line at (Evict who cause) ∷ story)
+      due_of : (l : Lock) → In l granted × (same_life l.ask.who who ≡ true) → Showing head at l (line at (Evict who cause) ∷ story)
       due_of l p =
           let own : l.ask.who ≡ who = life_is l.ask.who who p.1 in
           record {
-            names = h.names l p.0;
             evicted = subst (λ (w : Who). is_life w (evicted_of (line at (Evict who cause) ∷ story)) ≡ true) (sym own) (life_put who (evicted_of story));
             turned = inl (refl, sym own);
             still = left_without who l granted h.window.story.rises p.0 own;
@@ -185,9 +181,8 @@ module _ (head : Head) (stamp : Stamp) (t : ℕ) (cause : Cause) (old : List Loc
       record {
         window = window_send head t story stamp to m gone come v h.window;
         shown = h.shown;
-        due = λ l i. let d = h.due l i in record { names = d.names; evicted = d.evicted; turned = inr d.turned; still = d.still; shown = d.shown };
+        due = λ l i. let d = h.due l i in record { evicted = d.evicted; turned = inr d.turned; still = d.still; shown = d.shown };
         rises = h.rises;
-        names = h.names;
         same = h.same;
         has = h.has;
         distinct = h.distinct;
@@ -207,7 +202,6 @@ module _ (head : Head) (stamp : Stamp) (t : ℕ) (cause : Cause) (old : List Loc
         shown = h.shown ∙ sym still;
         due = λ k i. later k i (h.due k (inr i));
         rises = h.rises.1;
-        names = λ l i. h.names l (subst (λ (ls : List Lock). In l ls) still i);
         same = λ x i. h.same x i ∙ ap (locks_of x) (sym still);
         has = h.has;
         distinct = h.distinct;
@@ -225,10 +219,9 @@ module _ (head : Head) (stamp : Stamp) (t : ℕ) (cause : Cause) (old : List Loc
       still : without_lock lock granted ≡ granted
       still = (h.due lock (inl refl)).still
 
-      later : (k : Lock) → In k locks → Showing head t at k story → Showing head t at k (line at (Release lock) ∷ story)
+      later : (k : Lock) → In k locks → Showing head at k story → Showing head at k (line at (Release lock) ∷ story)
       later k i d =
           record {
-            names = d.names;
             evicted = d.evicted;
             turned = inr d.turned;
             still = ap (without_lock k) still ∙ d.still ∙ sym still;
@@ -244,7 +237,7 @@ module _ (head : Head) (stamp : Stamp) (t : ℕ) (cause : Cause) (old : List Loc
         (
           (
             owes_nothing past at (Release l) settled,
-            (d.names, inr (subst (λ (p : List Line). InTurn (IsEvict l.ask.who) p at) is d.turned)),
+            inr (subst (λ (p : List Line). InTurn (IsEvict l.ask.who) p at) is d.turned),
             (window_is head t gone come v story h.window, inr (record { evicted = d.evicted; still = d.still; shown = d.shown })),
           ),
           more.0,
@@ -290,9 +283,9 @@ module _ (head : Head) (stamp : Stamp) (t : ℕ) (cause : Cause) (old : List Loc
 -- ---- from the commit on
 
 pub leave_start : (head : Head) (stamp : Stamp) (t : ℕ) (cause : Cause) (gone come : List Who) (K : List Line → Type 0) → Carries t stamp K → (story : List Line) (v : Target) → Serving head t v story
-    → ((l : Lock) → In l (server_of head.osts story).granted → t ≡ 0) → ((x : Who) → In x gone → is_life x (lives_of head.clients story) ≡ true) → Distinct gone → ((x : Who) → In x gone → EvictedBy story (turn stamp (node.Target t)) x cause) → K story
+    → ((x : Who) → In x gone → is_life x (lives_of head.clients story) ≡ true) → Distinct gone → ((x : Who) → In x gone → EvictedBy story (turn stamp (node.Target t)) x cause) → K story
     → Leaving head t (turn stamp (node.Target t)) cause v.granted come (without_lives gone (lives_of head.clients story)) (with_lives gone (evicted_of story)) K gone [] (after v (commits v v.log gone come)) (line (turn stamp (node.Target t)) (commits v v.log gone come) ∷ story)
-leave_start head stamp t cause gone come K keeps story v h names has distinct caused carried =
+leave_start head stamp t cause gone come K keeps story v h has distinct caused carried =
     let at : At = turn stamp (node.Target t) in
     let e : Entry = commits v v.log gone come in
     let first : IsFirst v.log (server_of head.osts story).log = subst (IsFirst v.log) h.alike.log (first_all v.log) in
@@ -301,7 +294,6 @@ leave_start head stamp t cause gone come K keeps story v h names has distinct ca
       shown = h.shown;
       due = λ l i. absurd i;
       rises = tt;
-      names = names;
       same = λ x i. ap (locks_of x) h.alike.granted;
       has = has;
       distinct = distinct;

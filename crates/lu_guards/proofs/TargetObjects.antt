@@ -1,6 +1,6 @@
 -- An object storage target has nothing in its objects after every line of a covered run: it makes no transaction, so no reply of it has a
 -- number, none is told to it in a recovery, and neither a commit nor a close puts any on its disk.
-use Rattle.std.proofs.Common.{◌≡◌, ℕ, ◌<◌, ◌≤◌, Bool, true, false, List, [], ◌∷◌, ◌⊎◌, inl, inr, refl, sym, subst, ap, ◌∙◌, arith}
+use Rattle.std.proofs.Common.{◌≡◌, ℕ, ◌<◌, ◌≤◌, Bool, true, false, List, [], ◌∷◌, Some, ◌⊎◌, inl, inr, refl, sym, subst, ap, ◌∙◌, arith}
 use Rattle.std.specs.Prelude.{nat_eq, nat_lt, filter, map, not, if◌then◌else◌}
 use Rattle.std.proofs.lemmas.Bool.{eqb-true}
 use Rattle.std.proofs.lemmas.Bool.Decides.{nat_tests}
@@ -9,10 +9,11 @@ use Rattle.lu_base.specs.declared.ids.Node.{Node}
 use Rattle.lu_base.specs.declared.ids.Node.TheVariants.{Client, Target}
 use Rattle.lu_base.specs.declared.ids.Who.{Who}
 use Rattle.lu_base.specs.declared.locks.Lock.{Lock}
+use Rattle.lu_msg.specs.declared.answers.Answer.{Answer}
 use Rattle.lu_msg.specs.declared.commits.Batch.{Batch}
 use Rattle.lu_msg.specs.declared.commits.Transaction.{Transaction}
 use Rattle.lu_words.specs.Carried.{Deed, Contents, Disk, Outcome}
-use Rattle.lu_words.specs.Words.{Entry, Act, Txn, Commit, Boot, Close, Line, line, is_target}
+use Rattle.lu_words.specs.Words.{Entry, Act, Txn, Grant, Commit, Boot, Close, Heard, Line, line, is_target}
 use Rattle.lu_words.specs.Concerns.{concerns, only}
 use Rattle.lu_words.specs.Fields.{on}
 use Rattle.lu_target_rows.specs.Lives.{lives_of as lives_in}
@@ -22,37 +23,53 @@ use Rattle.lu_covered.specs.Heads.{Head}
 use Rattle.lu_covered.specs.TargetCloses.{disk_of, outcome_of, closing_of}
 use Rattle.lu_covered.specs.TargetStates.{server_of, lives_of}
 use Rattle.lu_guards.proofs.Guards.{In, EntryOk}
-use Rattle.lu_guards.proofs.StoryGuards.{Due, EntryOf}
+use Rattle.lu_guards.proofs.StoryGuards.{Due, RangeOk, GrantsOk, EntryOf}
 use Rattle.lu_guards.proofs.Grown.{Grown}
 use Rattle.lu_guards.proofs.Lists.{turn, in_filter, filter_none}
 use Rattle.lu_guards.proofs.Acts.{acts_sized}
 use Rattle.lu_guards.proofs.ClientLocks.{in_map}
-use Rattle.lu_guards.proofs.Given.{Fine, Has, Own, has_start, has_line, deeds_fine, in_but, shown_commit}
+use Rattle.lu_guards.proofs.Has.{Fine, Has, Own, has_start, has_line, deeds_fine, in_but, shown_commit}
 
--- ---- its replies have no number, and grant no lock
+-- ---- its replies have no number
 
-abbrev pub NoLock : Lock → Type 0
-NoLock l = ⊥
+abbrev pub AnyLock : Lock → Type 0
+AnyLock l = Unit {0}
 
-pub object_has : (head : Head) (t : ℕ) (past : List Line) → 0 < t → Grown head past → Has 0 NoLock head (only t past)
-object_has head t [] high g = has_start 0 NoLock head
+abbrev pub AnyAnswer : Who → ℕ → Answer → Type 0
+AnyAnswer who n a = Unit {0}
+
+pub ranged : (osts : ℕ) (past : List Line) (at : At) (t : ℕ) (lock : Lock) (d : Deed) → 0 < t → GrantsOk osts past at t lock d → RangeOk osts past at lock d
+ranged osts past at t lock d high (inl ok) = absurd (let zero = ok.0 in omega (arith, zero, high))
+ranged osts past at t lock d high (inr ok) = ok.1
+
+pub object_has : (head : Head) (t : ℕ) (past : List Line) → 0 < t → Grown head past → Has 0 AnyLock AnyAnswer head (only t past)
+object_has head t [] high g = has_start 0 AnyLock AnyAnswer head
 object_has head t (l ∷ past) high g = by (concerns t l.at.node l.entry) refl (object_has head t past high g.1)
   where
     story : List Line
     story = only t past
 
-    own : (node : Node) (e : Entry) → concerns t node e ≡ true → EntryOk past (turn l.at.stamp node) node e → EntryOf head story (turn l.at.stamp node) node e → Own 0 NoLock head e
+    bare : (d : Deed) → d.reply.txn.0 ≡ 0 → d.reply.locks ≡ [] → Fine 0 AnyLock AnyAnswer d.reply
+    bare d zero none = record { number = omega (arith, zero); locks = λ k i. absurd (subst (λ (ls : List Lock). In k ls) none i); answer = inr tt }
+
+    own : (node : Node) (e : Entry) → concerns t node e ≡ true → EntryOk past (turn l.at.stamp node) node e → EntryOf head story (turn l.at.stamp node) node e → Own 0 AnyLock AnyAnswer head e
     own (Target u) (Act d) q ok of =
         let sized = acts_sized head.osts story (turn l.at.stamp (Target u)) u d (subst (λ (n : ℕ). 0 < n) (eqb-true t u q) high) of in
-        subst (λ (x : Deed). Fine 0 NoLock x.reply) (sym sized.is) (record { number = omega arith; locks = λ k i. absurd i; answer = tt })
+        bare d (ap (λ (x : Deed). x.reply.txn.0) sized.is) (ap (λ (x : Deed). x.reply.locks) sized.is)
+    own (Target u) (Grant lock (Some d)) q ok of =
+        let range = ranged head.osts story (turn l.at.stamp (Target u)) u lock d (subst (λ (n : ℕ). 0 < n) (eqb-true t u q) high) of in
+        (bare d (ap (λ (x : Deed). x.reply.txn.0) range.is) (ap (λ (x : Deed). x.reply.locks) range.is), tt)
     own (Target u) (Txn d) q ok of = absurd (let zero : u ≡ 0 = ok in let same = eqb-true t u q in omega (arith, zero, same, high))
+    own (Target u) (Heard v f k) q ok of = absurd ok
+    own (Client c) (Heard u f k) q ok of = λ a x i. tt
     own (Client c) (Act d) q ok of = absurd ok
     own (Client c) (Txn d) q ok of = absurd ok
+    own (Client c) (Grant lock (Some d)) q ok of = absurd ok
     own (Target u) e q ok of = tt
     own (Client c) e q ok of = tt
 
-    by : (b : Bool) → concerns t l.at.node l.entry ≡ b → Has 0 NoLock head story → Has 0 NoLock head (if b then l ∷ story else story)
-    by true q h = has_line 0 NoLock head story l (g.0.of t q) (own l.at.node l.entry q g.0.ok (g.0.of t q)) h
+    by : (b : Bool) → concerns t l.at.node l.entry ≡ b → Has 0 AnyLock AnyAnswer head story → Has 0 AnyLock AnyAnswer head (if b then l ∷ story else story)
+    by true q h = has_line 0 AnyLock AnyAnswer head story l (g.0.of t q) (own l.at.node l.entry q g.0.ok (g.0.of t q)) h
     by false q h = h
 
 -- ---- a batch whose transactions have no number changes no object
@@ -82,16 +99,16 @@ pub record Unwritten (head : Head) (story : List Line) : Type 0 where
   pub closing : (to : ℕ) (batch : Batch) → In (Commit to batch) (closing_of head.clients story) → Low batch.transactions
   pub disk : (disk_of head.osts head.clients story).contents.objects ≡ []
 
-kept_low : (head : Head) (story : List Line) (at : At) → Has 0 NoLock head story → Low (map {A = Deed} {B = Transaction} transaction_of (outcome_of head.osts head.clients at story).kept)
-kept_low head story at h = low_deeds (outcome_of head.osts head.clients at story).kept (λ d i. (deeds_fine 0 NoLock head story at h d i).number)
+kept_low : (head : Head) (story : List Line) (at : At) → Has 0 AnyLock AnyAnswer head story → Low (map {A = Deed} {B = Transaction} transaction_of (outcome_of head.osts head.clients at story).kept)
+kept_low head story at h = low_deeds (outcome_of head.osts head.clients at story).kept (λ d i. (deeds_fine 0 AnyLock AnyAnswer head story at h d i).number)
 
-unwritten_line : (head : Head) (story : List Line) (l : Line) → EntryOf head story l.at l.at.node l.entry → Has 0 NoLock head story → Unwritten head story → Unwritten head (l ∷ story)
+unwritten_line : (head : Head) (story : List Line) (l : Line) → EntryOf head story l.at l.at.node l.entry → Has 0 AnyLock AnyAnswer head story → Unwritten head story → Unwritten head (l ∷ story)
 unwritten_line head story l ok h u = by l.at.node l.entry ok
   where
     by : (node : Node) (e : Entry) → EntryOf head story (turn l.at.stamp node) node e → Unwritten head (line (turn l.at.stamp node) e ∷ story)
     by (Target t) (Commit to batch) ok =
         record {
-          closing = λ n b i. u.closing n b (in_but 0 NoLock head (Commit n b) (closing_of head.clients story) i);
+          closing = λ n b i. u.closing n b (in_but 0 AnyLock AnyAnswer head (Commit n b) (closing_of head.clients story) i);
           disk = stored_objects head.osts batch (disk_of head.osts head.clients story) (low ok.of_batch) ∙ u.disk;
         }
       where
@@ -103,7 +120,7 @@ unwritten_line head story l ok h u = by l.at.node l.entry ok
         low (inr due) = u.closing to batch (subst (λ (es : List Entry). In (Commit to batch) es) (sym due.1) (inl refl))
     by (Target t) (Boot boot disk) ok =
         record {
-          closing = λ n b i. u.closing n b (in_but 0 NoLock head (Commit n b) (closing_of head.clients story) i);
+          closing = λ n b i. u.closing n b (in_but 0 AnyLock AnyAnswer head (Commit n b) (closing_of head.clients story) i);
           disk = ap (λ (x : Disk). x.contents.objects) ok.of_disk ∙ u.disk;
         }
     by (Target t) (Close o) ok = record { closing = λ n b i. shown n b (subst (λ (x : Outcome). In (Commit n b) (closing_of head.clients (line at (Close x) ∷ story))) ok.is i); disk = u.disk }
@@ -115,8 +132,8 @@ unwritten_line head story l ok h u = by l.at.node l.entry ok
         x = outcome_of head.osts head.clients at story
 
         shown : (n : ℕ) (b : Batch) → In (Commit n b) (closing_of head.clients (line at (Close x) ∷ story)) → Low b.transactions
-        shown n b i = subst (λ (y : Batch). Low y.transactions) (sym (shown_commit 0 NoLock head x (lives_of head.clients story) n b i)) (kept_low head story at h)
-    by (Target t) e ok = record { closing = λ n b i. u.closing n b (in_but 0 NoLock head (Commit n b) (closing_of head.clients story) i); disk = u.disk }
+        shown n b i = subst (λ (y : Batch). Low y.transactions) (sym (shown_commit 0 AnyLock AnyAnswer head x (lives_of head.clients story) n b i)) (kept_low head story at h)
+    by (Target t) e ok = record { closing = λ n b i. u.closing n b (in_but 0 AnyLock AnyAnswer head (Commit n b) (closing_of head.clients story) i); disk = u.disk }
     by (Client c) e ok = record { closing = u.closing; disk = u.disk }
 
 pub unwritten : (head : Head) (t : ℕ) (past : List Line) → 0 < t → Grown head past → Unwritten head (only t past)

@@ -1,7 +1,7 @@
 -- The pass of the metadata target over the requests that wait makes lines that the guards allow: executions with the locks that they
 -- grant, each answered (`answer_good` says so of any target), and the calling back of locks.
 use Rattle.std.proofs.Common.{◌≡◌, ℕ, zero, suc, ◌+◌, ◌*◌, ◌<◌, ◌≤◌, Bool, true, false, List, [], ◌∷◌, ◌++◌, Some, ◌⊎◌, inl, inr, refl, sym, subst, ap, ◌∙◌, arith}
-use Rattle.std.specs.Prelude.{◌||◌, not, if◌then◌else◌, length}
+use Rattle.std.specs.Prelude.{max, ◌||◌, not, if◌then◌else◌, length}
 use Rattle.std.specs.List.{list_any}
 use Rattle.std.proofs.lemmas.Bool.{cond_both, cond-true}
 use Rattle.lu_base.specs.declared.ids.At.{At}
@@ -21,13 +21,14 @@ use Rattle.lu_words.specs.Words.{Entry, Take, Act, Txn, Grant, Block, Line, line
 use Rattle.lu_words.specs.Concerns.{only}
 use Rattle.lu_target_rows.specs.Names as rows
 use Rattle.lu_target_rows.specs.Names.{does_change, guards_part, in_way, is_free, is_read, is_ready, grant_lines, names_deed, names_go, row_acts, row_transacts, row_executes, row_waits, row_pass, row_sweep}
+use Rattle.lu_target_rows.specs.Locks.{with_lock}
 use Rattle.lu_target_rows.specs.Phase.{greatest_cookie}
 use Rattle.lu_target_rows.specs.Replies as kept
 use Rattle.lu_target_rows.specs.Replies.{blocks, block_of, called, is_called, replies}
 use Rattle.lu_target_rows.specs.States.{Target, after, follow, turn as turned}
 use Rattle.lu_covered.specs.Deeds.{asked, deed, locks_of, written_by, again}
 use Rattle.lu_covered.specs.Heads.{Head}
-use Rattle.lu_covered.specs.TargetParts.{is_request_of, is_slot_of as is_slot, answered}
+use Rattle.lu_covered.specs.TargetParts.{is_request_of, without_request, is_slot_of as is_slot, answered}
 use Rattle.lu_covered.specs.TargetStates.{Server, none, next_number, server_of, slot_of}
 use Rattle.lu_guards.proofs.Guards.{In, Did, Shows, AllShown, Taken, Owes}
 use Rattle.lu_guards.proofs.StoryGuards.{GrantOk, IsServing}
@@ -156,31 +157,41 @@ module _ (head : Head) (stamp : Stamp) where
 
   -- ---- the locks of an act, shown line by line
 
-  still_granted : (past : List Line) (k l : Lock) (d : Deed) → GrantOk head.osts past l d → GrantOk head.osts (line here (Grant k (Some d)) ∷ past) l d
-  still_granted past k l d ok = record { did = ok.did; among = ok.among; granted = ok.granted; cookie = ok.cookie; waiting = ok.waiting; slot = ok.slot }
+  -- what a lock shown before it leaves, it leaves too
+  still_granted : (past : List Line) (k l : Lock) (d : Deed) → GrantOk head.osts past k d → GrantOk head.osts past l d → GrantOk head.osts (line here (Grant k (Some d)) ∷ past) l d
+  still_granted past k l d before ok =
+      record {
+        did = refl;
+        among = ok.among;
+        granted = ap (with_lock l) before.granted ∙ ok.granted ∙ sym before.granted;
+        cookie = ap (λ (n : ℕ). max n l.cookie.0) before.cookie ∙ ok.cookie ∙ sym before.cookie;
+        waiting = ap (without_request d) before.waiting ∙ ok.waiting ∙ sym before.waiting;
+        slot = slot_answered d (slot_of d.reply.who d.tag past);
+      }
 
-  grants_good : (d : Deed) (locks : List Lock) (past : List Line) (more : List Entry) → Did past d → ((l : Lock) → Owes past here (Grant l (Some d))) → ((l : Lock) → In l locks → GrantOk head.osts (only 0 past) l d)
+  grants_good : (d : Deed) (locks : List Lock) (past : List Line) (more : List Entry) → d.reply.at ≡ here → Did past d → ((l : Lock) → Owes past here (Grant l (Some d)))
+      → ((l : Lock) → In l locks → GrantOk head.osts (only 0 past) l d)
       → Good (with_turn here (grant_lines d locks) past) more → Good past (grant_lines d locks ++ more)
-  grants_good d [] past more did owes ok g = g
-  grants_good d (l ∷ locks) past more did owes ok g =
+  grants_good d [] past more of_turn did owes ok g = g
+  grants_good d (l ∷ locks) past more of_turn did owes ok g =
       let k = ok l (inl refl) in (
-        (owes l, (refl, did, k.among), k),
-        grants_good d locks (line here (Grant l (Some d)) ∷ past) more did owes (λ j i. still_granted (only 0 past) l j d (ok j (inr i))) g,
+        (owes l, inl (refl, did, k.among), inl (refl, k)),
+        grants_good d locks (line here (Grant l (Some d)) ∷ past) more of_turn refl (λ j. of_turn) (λ j i. still_granted (only 0 past) l j d k (ok j (inr i))) g,
       )
 
   -- what was done stands so while its locks are shown
   module _ (d : Deed) where
     shown_did : (locks : List Lock) (past : List Line) → Did past d → Did (with_turn here (grant_lines d locks) past) d
     shown_did [] past did = did
-    shown_did (l ∷ locks) past did = shown_did locks (line here (Grant l (Some d)) ∷ past) did
+    shown_did (l ∷ locks) past did = shown_did locks (line here (Grant l (Some d)) ∷ past) refl
 
     shown_own : (locks : List Lock) (past : List Line) → Did (only 0 past) d → Did (only 0 (with_turn here (grant_lines d locks) past)) d
     shown_own [] past did = did
-    shown_own (l ∷ locks) past did = shown_own locks (line here (Grant l (Some d)) ∷ past) did
+    shown_own (l ∷ locks) past did = shown_own locks (line here (Grant l (Some d)) ∷ past) refl
 
     shown_is : (e : Deed) (locks : List Lock) (past : List Line) → (Did past e → d ≡ e) → Did (with_turn here (grant_lines d locks) past) e → d ≡ e
     shown_is e [] past is did = is did
-    shown_is e (l ∷ locks) past is did = shown_is e locks (line here (Grant l (Some d)) ∷ past) is did
+    shown_is e (l ∷ locks) past is did = shown_is e locks (line here (Grant l (Some d)) ∷ past) (λ q. cc) did
 
     shown_all : (k : Lock) (locks : List Lock) (past : List Line) → In k locks ⊎ Shows past k → Shows (with_turn here (grant_lines d locks) past) k
     shown_all k [] past (inl i) = absurd i
@@ -189,9 +200,9 @@ module _ (head : Head) (stamp : Stamp) where
     shown_all k (l ∷ locks) past (inl (inr i)) = shown_all k locks (line here (Grant l (Some d)) ∷ past) (inl i)
     shown_all k (l ∷ locks) past (inr s) = shown_all k locks (line here (Grant l (Some d)) ∷ past) (inr (inr s))
 
-    shown_owes : (e : Entry) (locks : List Lock) (past : List Line) → Owes past here e → Owes (with_turn here (grant_lines d locks) past) here e
-    shown_owes e [] past owes = owes
-    shown_owes e (l ∷ locks) past owes = shown_owes e locks (line here (Grant l (Some d)) ∷ past) owes
+    shown_owes : (locks : List Lock) (past : List Line) → d.reply.at ≡ here → Owes past here (replies d) → Owes (with_turn here (grant_lines d locks) past) here (replies d)
+    shown_owes [] past of_turn owes = owes
+    shown_owes (l ∷ locks) past of_turn owes = shown_owes locks (line here (Grant l (Some d)) ∷ past) of_turn (refl, of_turn)
 
     shown_new : (locks : List Lock) (past : List Line) → NotTaken past → NotTaken (with_turn here (grant_lines d locks) past)
     shown_new [] past new = new
@@ -199,7 +210,7 @@ module _ (head : Head) (stamp : Stamp) where
 
     shown_slot : (locks : List Lock) (past : List Line) → (slot_of d.reply.who d.tag (only 0 past)).reply ≡ Some d.reply → (slot_of d.reply.who d.tag (only 0 (with_turn here (grant_lines d locks) past))).reply ≡ Some d.reply
     shown_slot [] past slot = slot
-    shown_slot (l ∷ locks) past slot = shown_slot locks (line here (Grant l (Some d)) ∷ past) slot
+    shown_slot (l ∷ locks) past slot = shown_slot locks (line here (Grant l (Some d)) ∷ past) (slot_answered d (slot_of d.reply.who d.tag (only 0 past)))
 
     shown_serves : (locks : List Lock) (past : List Line) → IsServing head.osts (only 0 past) → IsServing head.osts (only 0 (with_turn here (grant_lines d locks) past))
     shown_serves [] past serves = serves
@@ -213,9 +224,9 @@ module _ (head : Head) (stamp : Stamp) where
       → Good past (row_acts (deed head.osts (server past) here r none (locks_of head.osts (server past) r)))
   acts_good past r serves settled waits still room = (
     (owes_nothing past here (Act d) settled, tt, inl (refl, record { serves = serves; room = room; request = r; waits = waits; still = still; is = refl })),
-    grants_good d d.reply.locks done (replies d ∷ []) refl (λ l. refl) grant_ok (
+    grants_good d d.reply.locks done (replies d ∷ []) refl refl (λ l. refl) grant_ok (
         reply_good (with_turn here (grant_lines d d.reply.locks) done) d (shown_serves d d.reply.locks done serves)
-        (shown_owes d (replies d) d.reply.locks done (refl, refl))
+        (shown_owes d d.reply.locks done refl (refl, refl))
         (shown_did d d.reply.locks done refl)
         (shown_own d d.reply.locks done refl)
         (shown_new d d.reply.locks done tt)

@@ -39,7 +39,7 @@ use Rattle.lu_guards.proofs.LifeLists.{found_life, life_stands, stands_life, non
 use Rattle.lu_guards.proofs.TargetCrashed as crashed
 use Rattle.lu_guards.proofs.TargetCrashed.{Crashed, IsQuiet, Joins, crashed_quiet, crashed_mark, crashed_again, crashed_boot}
 use Rattle.lu_guards.proofs.TargetCloses.{close_lead}
-use Rattle.lu_guards.proofs.Turns.{Quiet, Settled, owes_nothing, IsNoClose, shows_any, closing_quiet}
+use Rattle.lu_guards.proofs.Turns.{Settled, owes_nothing, IsNoClose, shows_any, closing_quiet}
 use Rattle.lu_guards.proofs.Placed.{filter_placed, word_placed}
 use Rattle.lu_guards.proofs.Comings.{IsAsked, boots_of}
 
@@ -97,13 +97,13 @@ module _ (head : Head) (stamp : Stamp) (t : ℕ) where
   abbrev pub Undue : List Line → Type 0
   Undue story = crashed.Undue head stamp t story
 
-  quiet_settled : (e : Entry) → IsQuiet e → Quiet e
-  quiet_settled (Send to m) quiet = tt
-  quiet_settled (Take n from m) quiet = tt
-  quiet_settled Tick quiet = tt
-  quiet_settled Skip quiet = tt
-  quiet_settled (Back who) quiet = tt
-  quiet_settled e quiet = absurd quiet
+  quiet_settled : (past : List Line) (e : Entry) → IsQuiet e → Settled (line at e ∷ past)
+  quiet_settled past (Send to m) quiet = tt
+  quiet_settled past (Take n from m) quiet = tt
+  quiet_settled past Tick quiet = tt
+  quiet_settled past Skip quiet = tt
+  quiet_settled past (Back who) quiet = tt
+  quiet_settled past e quiet = absurd quiet
 
   quiet_unmarked : (e : Entry) → IsQuiet e → IsMark e → ⊥
   quiet_unmarked (Stores r) quiet mark = quiet
@@ -112,12 +112,12 @@ module _ (head : Head) (stamp : Stamp) (t : ℕ) where
   quiet_unmarked (Wishes w) quiet mark = quiet
   quiet_unmarked e quiet mark = mark
 
-  mark_settled : (e : Entry) → IsMark e → Quiet e
-  mark_settled (Stores r) mark = tt
-  mark_settled (Brings l) mark = tt
-  mark_settled (Says word) mark = tt
-  mark_settled (Wishes w) mark = tt
-  mark_settled e mark = absurd mark
+  mark_settled : (past : List Line) (e : Entry) → IsMark e → Settled (line at e ∷ past)
+  mark_settled past (Stores r) mark = tt
+  mark_settled past (Brings l) mark = tt
+  mark_settled past (Says word) mark = tt
+  mark_settled past (Wishes w) mark = tt
+  mark_settled past e mark = absurd mark
 
   mark_up : (story : List Line) (e : Entry) → IsMark e → up_of (line at e ∷ story) ≡ up_of story
   mark_up story (Stores r) mark = refl
@@ -168,7 +168,7 @@ module _ (head : Head) (stamp : Stamp) (t : ℕ) where
       → (Settled (line at e ∷ past) → Calm (line at e ∷ story) → Crashed head t (after v e) (line at e ∷ story) → Leads (line at e ∷ past) (line at e ∷ story) (after v e) es) → Leads past story v (e ∷ es)
   quiet_lead past story v e es quiet settled shown undue ok of h next =
       let more = calm_more story e (quiet_is e quiet) of shown in
-      more_lead past story v e es settled shown undue ok of (next (quiet_settled e quiet) (λ who k. quiet_unmarked e quiet k.0, more.0, more.1) (crashed_quiet head t story stamp v e quiet h))
+      more_lead past story v e es settled shown undue ok of (next (quiet_settled past e quiet) (λ who k. quiet_unmarked e quiet k.0, more.0, more.1) (crashed_quiet head t story stamp v e quiet h))
 
   -- one that takes no message
   abbrev TakesNone : Entry → Type 0
@@ -256,7 +256,7 @@ module _ (head : Head) (stamp : Stamp) (t : ℕ) where
       by true q =
           let rest = settles_lead (line at (Back who) ∷ past1) story2 (after w (Back who)) tt (λ x k. k.0, closing_quiet head.clients story1 at (Back who) tt more.0, (back_ok, tt, record { one = tt; shows = shows_any head story1 at (Back who) more.0 }, more.1)) refl (crashed_quiet head t story1 stamp w (Back who) tt next) up1 in (
             (
-              ((owes_nothing past at e settled, ok, of), ((owes_nothing past1 at (Back who) (mark_settled e mark), tt, back_ok), rest.0.0)),
+              ((owes_nothing past at e settled, ok, of), ((owes_nothing past1 at (Back who) (mark_settled past e mark), tt, back_ok), rest.0.0)),
               rest.0.1,
             ),
             (λ x k. absurd (calm.0 x k), (λ x k. (ap Back (sym (comes_back story e who x own k)), refl), rest.1)),
@@ -267,7 +267,7 @@ module _ (head : Head) (stamp : Stamp) (t : ℕ) where
           back_ok : EntryOf head story1 at (node.Target t) (Back who)
           back_ok = let p = and_parts (is_back (rows.window_of w) who) (not before) q in ((mark, record { before = sym was_is ∙ not-true before p.1; now = sym now_is ∙ p.0 }), refl)
       by false q =
-          let rest = settles_lead past1 story1 w (mark_settled e mark) (λ x k. still x k (comes_back story e who x own k), more.0, more.1) (mark_undue story e mark) next up1 in (
+          let rest = settles_lead past1 story1 w (mark_settled past e mark) (λ x k. still x k (comes_back story e who x own k), more.0, more.1) (mark_undue story e mark) next up1 in (
             (((owes_nothing past at e settled, ok, of), rest.0.0), rest.0.1),
             (λ x k. absurd (calm.0 x k), rest.1),
             (dues, rest.2),

@@ -91,18 +91,6 @@ slots_answer slots past d who tag h =
         let of_tag : slot_in slots who d.tag ≡ slot_of who tag past = subst (λ (u : ℕ). slot_in slots who u ≡ slot_of who tag past) q h in
         subst (λ (w : Who). slot_in slots w d.tag ≡ slot_of who tag past) p of_tag
 
--- a reply that stands there already changes nothing
-pub slots_again : (slots : List LifeSlot) (removed : List Who) (past : List Line) (d : Deed) → (slot_of d.reply.who d.tag past).reply ≡ Some d.reply → SlotsAlike slots removed past → SlotsAlike (slots_answered d slots) removed past
-slots_again slots removed past d stands h who tag live = slots_answer slots past d who tag (h who tag live) ∙ by (is_slot who tag d.reply.who d.tag) refl
-  where
-    by : (b : Bool) → is_slot who tag d.reply.who d.tag ≡ b → (if b then with_reply (Some d.reply) (slot_of who tag past) else slot_of who tag past) ≡ slot_of who tag past
-    by false e = refl
-    by true e =
-        let k = slot_who who d.reply.who tag d.tag e in
-        let of_tag : (slot_of d.reply.who tag past).reply ≡ Some d.reply = subst (λ (u : ℕ). (slot_of d.reply.who u past).reply ≡ Some d.reply) (sym k.1) stands in
-        let own : (slot_of who tag past).reply ≡ Some d.reply = subst (λ (w : Who). (slot_of w tag past).reply ≡ Some d.reply) (sym k.0) of_tag in
-        ap (λ (x : Option ReplyTo). with_reply x (slot_of who tag past)) (sym own)
-
 -- the slots of lives that leave go
 pub slot_left : (gone : List Who) (slots : List LifeSlot) (who : Who) (tag : ℕ) → is_life who gone ≡ false → slot_in (slots_without gone slots) who tag ≡ slot_in slots who tag
 slot_left gone [] who tag live = refl

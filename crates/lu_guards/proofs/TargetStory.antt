@@ -1,8 +1,8 @@
 -- What holds in the story of one target after every line that the guards allow, but for a close: what is granted, called back and waits
 -- is of lives that have a slot, one of each client, each newer than all of its client that were evicted; and the log stands in rising
 -- number, all of it above what is committed.
-use Rattle.std.proofs.Common.{◌≡◌, ℕ, ◌+◌, ◌*◌, ◌<◌, ◌≤◌, Bool, true, false, List, [], ◌∷◌, ◌++◌, None, ◌⊎◌, inl, inr, ⊎_elim, refl, sym, subst, ap, ◌∙◌, arith}
-use Rattle.std.specs.Prelude.{nat_eq, nat_lt, ◌||◌, not, if◌then◌else◌}
+use Rattle.std.proofs.Common.{◌≡◌, ℕ, ◌+◌, ◌*◌, ◌<◌, ◌≤◌, Bool, true, false, List, [], ◌∷◌, ◌++◌, Some, None, ◌⊎◌, inl, inr, ⊎_elim, refl, sym, subst, ap, ◌∙◌, arith}
+use Rattle.std.specs.Prelude.{nat_eq, nat_lt, max, ◌||◌, not, if◌then◌else◌}
 use Rattle.std.specs.List.{filter, list_any}
 use Rattle.std.proofs.lemmas.Bool.{cond_both, cond-true, cond-false, ltb-true, lt-ltb}
 use Rattle.std.proofs.lemmas.Bool.Decides.{nat_tests}
@@ -16,7 +16,7 @@ use Rattle.lu_msg.specs.declared.commits.Batch.{Batch}
 use Rattle.lu_msg.specs.declared.messages.Request.{Request as RequestOf}
 use Rattle.lu_part.specs.declared.parts.Want.{Want}
 use Rattle.lu_words.specs.Carried.{Deed, Called, Disk}
-use Rattle.lu_words.specs.Words.{Entry, Act, Txn, Block, Release, Commit, Boot, Close, Enters, Evict, Joined, Line, line, same_life}
+use Rattle.lu_words.specs.Words.{Entry, Act, Txn, Grant, Block, Release, Commit, Boot, Close, Enters, Evict, Joined, Line, line, same_life}
 use Rattle.lu_target_rows.specs.Leaving.{is_over, last_of, life_of as life_in}
 use Rattle.lu_target_rows.specs.Lives.{is_life, with_life, without_lives}
 use Rattle.lu_target_rows.specs.Locks.{with_lock, with_locks}
@@ -25,12 +25,12 @@ use Rattle.lu_covered.specs.Heads.{Head}
 use Rattle.lu_covered.specs.TargetParts.{is_request_of, lives_after, evicted_after}
 use Rattle.lu_covered.specs.TargetStates.{Server, next_number, server_of, server_after, lives_of, evicted_of}
 use Rattle.lu_guards.proofs.Guards.{In}
-use Rattle.lu_guards.proofs.StoryGuards.{EntryOf, CommitOk}
+use Rattle.lu_guards.proofs.StoryGuards.{EntryOf, CommitOk, GrantOk, RangeOk}
 use Rattle.lu_guards.proofs.Acts.{acted}
 use Rattle.lu_guards.proofs.Lists.{turn, in_append, in_filter, life_is, same_who}
 use Rattle.lu_guards.proofs.Turns.{IsNoClose}
 use Rattle.lu_guards.proofs.LifeLists.{InOrder, order_filter, order_put, order_first, stands_life, life_put_more, life_put_or, life_stays, life_left, gone_not, from_first, none_is}
-use Rattle.lu_guards.proofs.LockLists.{Rises, rises_all, rises_filter}
+use Rattle.lu_guards.proofs.LockLists.{Rises, rises_with, rises_all, rises_filter}
 use Rattle.lu_guards.proofs.ClientLocks.{any_passes}
 
 -- ---- a log in rising number, between two bounds
@@ -168,7 +168,7 @@ belongs_join f xs w lives h x i = life_put_more (f x) w lives (h x i)
 
 -- ---- the locks of an act
 
-in_with : (k l : Lock) (locks : List Lock) → In k (with_lock l locks) → (l ≡ k) ⊎ In k locks
+pub in_with : (k l : Lock) (locks : List Lock) → In k (with_lock l locks) → (l ≡ k) ⊎ In k locks
 in_with k l [] (inl e) = inl e
 in_with k l [] (inr i) = absurd i
 in_with k l (m ∷ locks) i = by (nat_eq l.cookie.0 m.cookie.0) (nat_lt l.cookie.0 m.cookie.0) (λ j. in_with k l locks j) i
@@ -181,7 +181,7 @@ in_with k l (m ∷ locks) i = by (nat_eq l.cookie.0 m.cookie.0) (nat_lt l.cookie
     by false false ih (inl e) = inr (inl e)
     by false false ih (inr j) = ⊎_elim (λ (e : l ≡ k). inl e) (λ (r : In k locks). inr (inr r)) (ih j)
 
-in_with_all : (k : Lock) (more locks : List Lock) → In k (with_locks more locks) → In k more ⊎ In k locks
+pub in_with_all : (k : Lock) (more locks : List Lock) → In k (with_locks more locks) → In k more ⊎ In k locks
 in_with_all k [] locks i = inr i
 in_with_all k (l ∷ more) locks i =
     ⊎_elim (λ (j : In k more). inl (inr j)) (λ (j : In k (with_lock l locks)). ⊎_elim (λ (e : l ≡ k). inl (inl e)) (λ (r : In k locks). inr r) (in_with k l locks j)) (in_with_all k more (with_lock l locks) i)
@@ -190,6 +190,13 @@ pub from_who : (k : Lock) (cookie : ℕ) (who : Who) (wants : List Want) → In 
 from_who k cookie who [] i = absurd i
 from_who k cookie who (want ∷ wants) (inl e) = ap (λ (l : Lock). l.ask.who) (sym e)
 from_who k cookie who (want ∷ wants) (inr i) = from_who k (cookie + 1) who wants i
+
+-- a line that shows a lock of what was just done leaves all as it is
+pub grant_still : (osts : ℕ) (past : List Line) (lock : Lock) (d : Deed) → GrantOk osts past lock d → server_after osts (server_of osts past) (Grant lock (Some d)) ≡ server_of osts past
+grant_still osts past lock d ok =
+    let s : Server = server_of osts past in
+    ap (λ (ws : List RequestOf). record s { waiting = ws; granted = with_lock lock s.granted; cookie = max s.cookie lock.cookie.0 }) ok.waiting
+    ∙ ap (λ (ls : List Lock). record s { granted = ls; cookie = max s.cookie lock.cookie.0 }) ok.granted ∙ ap (λ (n : ℕ). record s { cookie = n }) ok.cookie
 
 -- ---- the story
 
@@ -276,6 +283,23 @@ module _ (head : Head) (t : ℕ) (past : List Line) (stamp : Stamp) (h : Story h
     where
       new : (l : Lock) → In l (locks_from cookie r.who wants) → is_life l.ask.who lives ≡ true
       new l j = subst (λ (w : Who). is_life w lives ≡ true) (sym (from_who l cookie r.who wants j)) (h.waits r waits)
+
+  -- a lock to read under, for a request that waits
+  story_range : (lock : Lock) (d : Deed) → RangeOk head.osts past (turn stamp (node.Target t)) lock d → Next (Grant lock (Some d))
+  story_range lock d ok =
+      record {
+        rises = rises_with lock s.granted h.rises;
+        counted = h.counted;
+        logged = h.logged;
+        waits = belongs_filter (λ (x : RequestOf). x.who) (λ (x : RequestOf). not (is_request_of d x)) s.waiting lives h.waits;
+        holds = λ l i. ⊎_elim (λ (e : lock ≡ l). subst (λ (k : Lock). is_life k.ask.who lives ≡ true) (sym ok.of_lock ∙ e) (h.waits ok.request ok.waits))
+            (λ (j : In l s.granted). h.holds l j) (in_with l lock s.granted i);
+        calls = h.calls;
+        single = h.single;
+        older = h.older;
+        order = h.order;
+        over = h.over;
+      }
 
   story_txn : (d : Deed) → s.count < 4294967295 → d.reply.txn ≡ next_number s → Next (Txn d)
   story_txn d low number =
@@ -460,6 +484,9 @@ story_line head t past stamp (Enters r) still ok h = story_enters head t past st
 story_line head t past stamp (Act d) still ok h =
     let a = acted head.osts past (turn stamp (node.Target t)) t d ok in
     story_act head t past stamp h d a.request (server_of head.osts past).cookie a.wants a.waits a.locks
+story_line head t past stamp (Grant lock (Some d)) still (inl ok) h = story_still head t past stamp h (Grant lock (Some d)) (grant_still head.osts past lock d ok.1) refl refl
+story_line head t past stamp (Grant lock (Some d)) still (inr ok) h = story_range head t past stamp h lock d ok.1
+story_line head t past stamp (Grant lock None) still ok h = absurd ok
 story_line head t past stamp (Txn d) still ok h = story_txn head t past stamp h d ok.numbers (ap (λ (x : Deed). x.reply.txn) ok.is)
 story_line head t past stamp (Block called) still ok h = story_block head t past stamp h called ok.lock ok.granted ok.of_life
 story_line head t past stamp (Release lock) still ok h = story_release head t past stamp h lock

@@ -169,7 +169,7 @@ module _ (head : Head) (stamp : Stamp) where
       reaches_more head stamp 0 (Serving head 0) (Serving head 0) (Tick ∷ []) (λ x. follow x (expels at (condemned x x.called) x) again) past (only 0 past) v refl
       (((owes_nothing past at Tick settled, later, tt), tt), ticks)
       (λ e s k. reaches_more head stamp 0 (Serving head 0) (Serving head 0) leave again past1 story1 w e
-      (expels_lead head stamp 0 w past1 story1 e s k (λ l i. refl) gone (λ x i. has x (condemned_called w w.called x i)) (order_distinct gone (condemned_order w w.called)) (λ x i. (inl (refl, tt), caused x (condemned_called w w.called x i))) leave_high)
+      (expels_lead head stamp 0 w past1 story1 e s k gone (λ x i. has x (condemned_called w w.called x i)) (order_distinct gone (condemned_order w w.called)) (λ x i. (inl (refl, tt), caused x (condemned_called w w.called x i))) leave_high)
       (λ f r j. let sent = sends_good (turned w leave) w.called (turned w leave).granted (with_turn at leave past1) (with_turn at leave story1) (serving_is head 0 (turned w leave) (with_turn at leave story1) j) r j.alike.boot j.alike.called (λ l i. subst (λ (ls : List Lock). In l ls) j.alike.granted i) in
       (sent, serves_lines head stamp 0 (sends_again (turned w leave) w.called [] (turned w leave).granted) (with_turn at leave past1) (with_turn at leave story1) (turned w leave) (again_plain (turned w leave) w.called (turned w leave).granted) sent j)))
       )

@@ -1,7 +1,8 @@
 -- Each turn of a target makes lines that the guards allow, where no call to its disk fails, and after it the target is what its story says: it
 -- serves, or it crashed (`Matches`). While it serves, at the metadata target a request, a cancel or a join comes, time goes on, the log is committed; at
--- another target glimpses and joins come, it ticks, and is given commands; what is told in a recovery does nothing.
-use Rattle.std.proofs.Common.{◌≡◌, ℕ, zero, suc, ◌+◌, ◌*◌, ◌<◌, ◌≤◌, Bool, true, false, List, [], ◌∷◌, Option, Some, None, inl, inr, refl, sym, subst, ap, ◌∙◌, arith}
+-- another target glimpses come, and who asks for a lock to read under, cancels and joins; it ticks, and is given commands; what is told in a
+-- recovery does nothing.
+use Rattle.std.proofs.Common.{◌≡◌, ℕ, zero, suc, ◌+◌, ◌*◌, ◌<◌, ◌≤◌, Bool, true, false, List, [], ◌∷◌, Option, Some, None, ◌⊎◌, inl, inr, refl, sym, subst, ap, ◌∙◌, arith}
 use Rattle.std.specs.Prelude.{nat_eq, nat_lt, ◌||◌, ◌&&◌, if◌then◌else◌, take}
 use Rattle.std.proofs.lemmas.Bool.{cond_both, cond-true, cond-false, and_parts, or_parts, eqb-true, eqb-false, eq-eqb, ltb-true, ltb-false}
 use Rattle.std.proofs.lemmas.Bool.Decides.{nat_tests}
@@ -11,7 +12,9 @@ use Rattle.lu_base.specs.declared.ids.Node.{Node}
 use Rattle.lu_base.specs.declared.ids.Node.TheVariants as node
 use Rattle.lu_base.specs.declared.ids.Stamp.{Stamp}
 use Rattle.lu_base.specs.declared.ids.Who.{Who}
+use Rattle.lu_base.specs.declared.locks.Extent.{Extent}
 use Rattle.lu_base.specs.declared.locks.Lock.{Lock}
+use Rattle.lu_base.specs.declared.locks.Mode.TheVariants.{PR}
 use Rattle.lu_base.specs.declared.locks.Resource.{Resource}
 use Rattle.lu_msg.specs.declared.messages.Message.{Message}
 use Rattle.lu_msg.specs.declared.messages.Message.TheVariants as message
@@ -19,22 +22,22 @@ use Rattle.lu_msg.specs.declared.messages.Reply.{Reply as ReplyTo}
 use Rattle.lu_msg.specs.declared.messages.Request.{Request as RequestOf}
 use Rattle.lu_msg.specs.declared.operations.Op.{Op}
 use Rattle.lu_msg.specs.declared.operations.Op.TheVariants as op
-use Rattle.lu_words.specs.Carried.{Deed, Slot, Glimpse, Outcome}
-use Rattle.lu_words.specs.Words.{Entry, Send, Take, Tick, Skip, Crash, Act, Txn, Block, Commit, Boot, Close, Enters, Release, Evict, Line, line, with_turn, turn_before, same_life}
+use Rattle.lu_words.specs.Carried.{Deed, Slot, Called, Glimpse}
+use Rattle.lu_words.specs.Words.{Entry, Send, Take, Tick, Skip, Crash, Block, Close, Enters, Release, Evict, Line, line, with_turn, turn_before, same_life}
 use Rattle.lu_words.specs.Concerns.{concerns, only, about}
 use Rattle.lu_words.specs.Sent.{Sent}
 use Rattle.lu_target_rows.specs.Disks.{over_disk}
 use Rattle.lu_target_rows.specs.Glimpses.{glimpses_of, glimpses_end}
-use Rattle.lu_target_rows.specs.Leaving.{commits, ready, row_tick, ticked}
+use Rattle.lu_target_rows.specs.Leaving.{commits, ready, condemned, expels, sends_again, row_tick, ticked}
 use Rattle.lu_target_rows.specs.Lives.{is_life, slot_in}
-use Rattle.lu_target_rows.specs.Locks.{with_locks}
+use Rattle.lu_target_rows.specs.Locks.{called_without}
 use Rattle.lu_target_rows.specs.Names.{names_go}
 use Rattle.lu_target_rows.specs.Objects.{lock_of, objects_go}
-use Rattle.lu_target_rows.specs.Queues.{queue_goes}
+use Rattle.lu_target_rows.specs.Queues.{grants_go, blocks_go, queue_goes}
 use Rattle.lu_target_rows.specs.Recovery.{row_replay, row_lock, row_word, row_close}
 use Rattle.lu_target_rows.specs.Replies as kept
-use Rattle.lu_target_rows.specs.Replies.{row_kept}
-use Rattle.lu_target_rows.specs.Requests.{goes, row_enters, by_number, goes_on, releases, row_cancels, row_cancel, row_request}
+use Rattle.lu_target_rows.specs.Replies.{row_kept, locks_on}
+use Rattle.lu_target_rows.specs.Requests.{goes, row_enters, by_number, goes_on, row_cancels, row_cancel, row_request}
 use Rattle.lu_target_rows.specs.Rows as target
 use Rattle.lu_target_rows.specs.Rows.{heeds, while_serving, row_heeds, first_deeds, row_commits, row_commit, row_closes}
 use Rattle.lu_target_rows.specs.States.{Target, after, follow, turn as turned}
@@ -44,10 +47,8 @@ use Rattle.lu_covered.specs.Covered.{AllCovered}
 use Rattle.lu_covered.specs.Heads.{Head}
 use Rattle.lu_covered.specs.TargetStates.{Server, boot_at, server_of, server_after, slot_of, lives_of}
 use Rattle.lu_guards.proofs.Guards.{In, InTurn, IsTake, Later, Was, RepliesNow, RepliesAgain, EntryOk}
-use Rattle.lu_guards.proofs.StoryGuards.{Spoke, AsksAgain, EntersOk, ReplyOk, ActsOk, EntryOf}
-use Rattle.lu_guards.proofs.Acts.{acts_sized, sized_bare}
-use Rattle.lu_covered.specs.TargetCloses.{outcome_of}
-use Rattle.lu_guards.proofs.Held.{none_restored}
+use Rattle.lu_guards.proofs.StoryGuards.{Spoke, AsksAgain, EntersOk, ReplyOk, EntryOf}
+use Rattle.lu_guards.proofs.Acts.{kind_reads}
 use Rattle.lu_guards.proofs.Grown.{Noted, Grown}
 use Rattle.lu_guards.proofs.Lists.{turn, turn_irreflexive, self, in_right, life_is}
 use Rattle.lu_guards.proofs.Only.{turn_only, about_other, asked_target, grown_of}
@@ -57,11 +58,13 @@ use Rattle.lu_guards.proofs.TargetAlike.{Alike, Serving, serving_is, serving_lin
 use Rattle.lu_guards.proofs.TargetGood.{LineAt, Reaches, good_row, story_turn, serves_backs, serves_marks, serves_shows}
 use Rattle.lu_guards.proofs.TargetJoins.{over_lead, ready_lead, up_lead, join_lead}
 use Rattle.lu_guards.proofs.TargetLeaving.{commit_ok}
-use Rattle.lu_guards.proofs.TargetPass.{ServesAt, High, names_good}
-use Rattle.lu_guards.proofs.ClientLines.{IsSize}
-use Rattle.lu_guards.proofs.Comings.{asked_size, IsAsked, asks_of}
+use Rattle.lu_guards.proofs.TargetPass.{ServesAt, HighAt, High, names_good}
+use Rattle.lu_guards.proofs.ClientLines.{IsSize, IsLock}
+use Rattle.lu_guards.proofs.Comings.{asked_object, IsAsked, asks_of}
 use Rattle.lu_guards.proofs.TargetObjects.{objects_none}
-use Rattle.lu_guards.proofs.TargetSizes.{size_lead}
+use Rattle.lu_guards.proofs.TargetSizes.{AllRead, size_lead}
+use Rattle.lu_guards.proofs.TargetReads.{read_lead}
+use Rattle.lu_guards.proofs.Kinds.{granted_kind}
 use Rattle.lu_guards.proofs.TargetCrashed.{Crashed, Matches, Leads as LeadsTo, crashed_first, crashed_client}
 use Rattle.lu_guards.proofs.TargetRecovers.{crash_lead, recovers_lead, comes_lead as recovered}
 use Rattle.lu_guards.proofs.TargetStory.{IsFirst, story_apart, first_in, first_all}
@@ -251,6 +254,61 @@ module _ (head : Head) (stamp : Stamp) (t : ℕ) (past story : List Line) (of_ta
       by older has false true e f = λ high. kept_lead slot.reply has f older refl
       by older has false false e f = λ high. (tt, served)
 
+-- ---- a cancel comes, to a target that serves
+
+module _ (head : Head) (stamp : Stamp) (t : ℕ) (past story : List Line) (of_target : story ≡ only t past) (v : Target) (h : Serving head t v story) (n c : ℕ) (who : Who) (boot : ℕ) (cookie : Cookie)
+    (was : Was story (node.Client c) (node.Target t) (message.Cancel who boot cookie)) where
+  abbrev near : At
+  near = turn stamp (node.Target t)
+
+  abbrev gives : Entry
+  gives = Take n (node.Client c) (message.Cancel who boot cookie)
+
+  abbrev past_given : List Line
+  past_given = line near gives ∷ past
+
+  abbrev story_given : List Line
+  story_given = line near gives ∷ story
+
+  given : Serving head t v story_given
+  given = serving_line head t story stamp gives v tt tt h
+
+  abbrev Gives : List Entry → Type 0
+  Gives es = High v es → Reaches head stamp t past_given story_given v es (Serving head t)
+
+  -- the lock is released
+  release_good : (l : Lock) → nat_lt boot v.boot ≡ false → lock_of who cookie v.granted ≡ Some l
+      → LineAt head stamp t past_given story_given (Release l) × Serving head t (after v (Release l)) (line near (Release l) ∷ story_given)
+  release_good l older found = ((tt, inl (record { from = node.Client c; boot = boot; current = current; took = (refl, refl, own) }), ok), serving_line head t story_given stamp (Release l) v tt ok given)
+    where
+      current : nat_lt boot (boot_at t past_given) ≡ false
+      current = ap (nat_lt boot) (boot_is head.osts t past_given ∙ ap (λ (p : List Line). (server_of head.osts p).boot) (sym (story_turn head stamp t (gives ∷ []) past story of_target)) ∙ sym h.alike.boot) ∙ older
+
+      same : (l.ask.who ≡ who) × (l.cookie ≡ cookie)
+      same = lock_found who cookie v.granted l found
+
+      own : message.Cancel who boot cookie ≡ message.Cancel l.ask.who boot l.cookie
+      own = ap (λ (w : Who). message.Cancel w boot cookie) (sym same.0) ∙ ap (λ (k : Cookie). message.Cancel l.ask.who boot k) (sym same.1)
+
+      granted : lock_of l.ask.who l.cookie (server_of head.osts story).granted ≡ Some l
+      granted = ap (λ (locks : List Lock). lock_of l.ask.who l.cookie locks) (sym h.alike.granted) ∙ ap (λ (w : Who). lock_of w l.cookie v.granted) same.0 ∙ ap (λ (k : Cookie). lock_of who k v.granted) same.1 ∙ found
+
+      ok : EntryOf head story_given near (node.Target t) (Release l)
+      ok = (serving_is head t v story h, inl (record { from = c; boot = boot; was = subst (λ (m : Message). Was story (node.Client c) (node.Target t) m) own was; found = granted }))
+
+  cancels_lead : ((l : Lock) → nat_lt boot v.boot ≡ false → lock_of who cookie v.granted ≡ Some l → Gives (Release l ∷ goes_on l near (after v (Release l))))
+      → nat_lt boot v.boot ≡ false → (o : Option Lock) → lock_of who cookie v.granted ≡ o
+      → Gives (row_cancels v near o)
+  cancels_lead goes older None found = λ high. (tt, given)
+  cancels_lead goes older (Some l) found =
+      subst Gives (sym (ap (λ (gs : List Glimpse). follow v (Release l ∷ glimpses_end near (glimpses_of l gs) v) (goes_on l near)) h.alike.glimpses)) (goes l older found)
+
+  -- where what comes of its release is given
+  cancel_lead : ((l : Lock) → nat_lt boot v.boot ≡ false → lock_of who cookie v.granted ≡ Some l → Gives (Release l ∷ goes_on l near (after v (Release l)))) → Gives (row_heeds v near (message.Cancel who boot cookie))
+  cancel_lead goes =
+      heeds_lead head stamp t past_given story_given v tt given who boot (while_serving v (row_cancel v near who cookie)) (c, message.Cancel who boot cookie, was, refl)
+      (λ older has. as_served head stamp t past_given story_given v tt given (row_cancel v near who cookie) [] (cancels_lead goes older (lock_of who cookie v.granted) refl))
+
 -- ---- what is committed are the first deeds of the log
 
 is_take : (n : ℕ) (log : List Deed) → IsFirst (take n log) log
@@ -304,48 +362,19 @@ module _ (head : Head) (stamp : Stamp) where
 
   -- ---- a cancel
 
-  released_lead : (v : Target) (past : List Line) (n c : ℕ) (who : Who) (boot : ℕ) (cookie : Cookie) (l : Lock) → ServesAt head stamp v past → Was (only 0 past) (node.Client c) (node.Target 0) (message.Cancel who boot cookie)
-      → nat_lt boot v.boot ≡ false → lock_of who cookie v.granted ≡ Some l → Heeds v (line at (Take n (node.Client c) (message.Cancel who boot cookie)) ∷ past) (Release l ∷ names_go at (after v (Release l)))
-  released_lead v past n c who boot cookie l h was older found high =
-      let names = names_good head stamp (line at (Release l) ∷ past1) (line at (Release l) ∷ only 0 past1) (after v (Release l)) refl tt (serving_line head 0 (only 0 past1) stamp (Release l) v tt ok (taken v past n (node.Client c) (message.Cancel who boot cookie) h)) high in
-      (((tt, (refl, inl (record { from = node.Client c; boot = boot; current = current; took = (refl, refl, own) })), ok), names.0), names.1)
-    where
-      past1 : List Line
-      past1 = line at (Take n (node.Client c) (message.Cancel who boot cookie)) ∷ past
-
-      current : nat_lt boot (boot_at 0 past1) ≡ false
-      current = ap (nat_lt boot) (boot_is head.osts 0 past1 ∙ sym h.alike.boot) ∙ older
-
-      same : (l.ask.who ≡ who) × (l.cookie ≡ cookie)
-      same = lock_found who cookie v.granted l found
-
-      own : message.Cancel who boot cookie ≡ message.Cancel l.ask.who boot l.cookie
-      own = ap (λ (w : Who). message.Cancel w boot cookie) (sym same.0) ∙ ap (λ (k : Cookie). message.Cancel l.ask.who boot k) (sym same.1)
-
-      granted : lock_of l.ask.who l.cookie (server_of head.osts (only 0 past)).granted ≡ Some l
-      granted = ap (λ (locks : List Lock). lock_of l.ask.who l.cookie locks) (sym h.alike.granted) ∙ ap (λ (w : Who). lock_of w l.cookie v.granted) same.0 ∙ ap (λ (k : Cookie). lock_of who k v.granted) same.1 ∙ found
-
-      ok : EntryOf head (only 0 past1) at (node.Target 0) (Release l)
-      ok = (serving_is head 0 v (only 0 past) h, inl (record { from = c; boot = boot; was = subst (λ (m : Message). Was (only 0 past) (node.Client c) (node.Target 0) m) own was; found = granted }))
-
-  cancels_lead : (v : Target) (past : List Line) (n c : ℕ) (who : Who) (boot : ℕ) (cookie : Cookie) (o : Option Lock) → ServesAt head stamp v past → Was (only 0 past) (node.Client c) (node.Target 0) (message.Cancel who boot cookie)
-      → nat_lt boot v.boot ≡ false → lock_of who cookie v.granted ≡ o → Heeds v (line at (Take n (node.Client c) (message.Cancel who boot cookie)) ∷ past) (row_cancels v at o)
-  cancels_lead v past n c who boot cookie None h was older found = λ high. (tt, taken v past n (node.Client c) (message.Cancel who boot cookie) h)
-  cancels_lead v past n c who boot cookie (Some l) h was older found =
+  cancel_first : (v : Target) (past : List Line) (n c : ℕ) (who : Who) (boot : ℕ) (cookie : Cookie) → ServesAt head stamp v past → Was (only 0 past) (node.Client c) (node.Target 0) (message.Cancel who boot cookie)
+      → Heeds v (line at (Take n (node.Client c) (message.Cancel who boot cookie)) ∷ past) (row_heeds v at (message.Cancel who boot cookie))
+  cancel_first v past n c who boot cookie h was =
+      cancel_lead head stamp 0 past (only 0 past) refl v h n c who boot cookie was
+      (λ l older found.
       let past1 = line at (Take n (node.Client c) (message.Cancel who boot cookie)) ∷ past in
       let w = after v (Release l) in
-      let none : releases at l v ≡ Release l ∷ [] = ap (λ (gs : List Glimpse). Release l ∷ glimpses_end at (glimpses_of l gs) v) h.alike.glimpses in
-      let goes : goes_on l at w ≡ names_go at w = cond-true (nat_eq v.setting.id 0) (names_go at w) (queue_goes l.resource w) (rw h.alike.id refl) in
-      let is : row_cancels v at (Some l) ≡ Release l ∷ names_go at w = ap (λ (es : List Entry). follow v es (goes_on l at)) none ∙ ap (λ (es : List Entry). Release l ∷ es) goes in
-      along v past1 (row_cancels v at (Some l)) (Release l ∷ names_go at w) is (released_lead v past n c who boot cookie l h was older found)
-
-  cancel_lead : (v : Target) (past : List Line) (n c : ℕ) (who : Who) (boot : ℕ) (cookie : Cookie) → ServesAt head stamp v past → Was (only 0 past) (node.Client c) (node.Target 0) (message.Cancel who boot cookie)
-      → Heeds v (line at (Take n (node.Client c) (message.Cancel who boot cookie)) ∷ past) (row_heeds v at (message.Cancel who boot cookie))
-  cancel_lead v past n c who boot cookie h was =
-      let past1 = line at (Take n (node.Client c) (message.Cancel who boot cookie)) ∷ past in
-      let served = taken v past n (node.Client c) (message.Cancel who boot cookie) h in
-      heeds_lead head stamp 0 past1 (only 0 past1) v tt served who boot (while_serving v (row_cancel v at who cookie)) (c, message.Cancel who boot cookie, was, refl)
-      (λ older has. as_served head stamp 0 past1 (only 0 past1) v tt served (row_cancel v at who cookie) [] (cancels_lead v past n c who boot cookie (lock_of who cookie v.granted) h was older refl))
+      let names : goes_on l at w ≡ names_go at w = cond-true (nat_eq v.setting.id 0) (names_go at w) (queue_goes l.resource w) (rw h.alike.id refl) in
+      along v past1 (Release l ∷ goes_on l at w) (Release l ∷ names_go at w) (ap (λ (es : List Entry). Release l ∷ es) names)
+      (λ high.
+      let good = release_good head stamp 0 past (only 0 past) refl v h n c who boot cookie was l older found in
+      let more = names_good head stamp (line at (Release l) ∷ past1) (line at (Release l) ∷ only 0 past1) w refl tt good.1 high in
+      ((good.0, more.0), more.1)))
 
   -- ---- what comes to the metadata target
 
@@ -354,10 +383,10 @@ module _ (head : Head) (stamp : Stamp) where
 
   comes_first : (v : Target) (past : List Line) (n c : ℕ) (m : Message) → IsAsked 0 m → ServesAt head stamp v past → Was (only 0 past) (node.Client c) (node.Target 0) m → Heeds v (line at (Take n (node.Client c) m) ∷ past) (row_heeds v at m)
   comes_first v past n c (message.Request r) asked h was = request_first v past n c r h was
-  comes_first v past n c (message.Cancel who boot cookie) asked h was = cancel_lead v past n c who boot cookie h was
+  comes_first v past n c (message.Cancel who boot cookie) asked h was = cancel_first v past n c who boot cookie h was
   comes_first v past n c (message.Join who boot) asked h was =
       let past1 = line at (Take n (node.Client c) (message.Join who boot)) ∷ past in
-      join_lead head stamp 0 past1 (only 0 past1) v c boot who refl tt (taken v past n (node.Client c) (message.Join who boot) h) (λ l i. refl) (inl (refl, refl, refl)) was
+      join_lead head stamp 0 past1 (only 0 past1) v c boot who refl tt (taken v past n (node.Client c) (message.Join who boot) h) (inl (refl, refl, refl)) was
   comes_first v past n c (message.Replay r) asked h was = told_first v past n c (message.Replay r) tt h was
   comes_first v past n c (message.Lock r) asked h was = told_first v past n c (message.Lock r) tt h was
   comes_first v past n c (message.Word who boot replays locks seen) asked h was = told_first v past n c (message.Word who boot replays locks seen) tt h was
@@ -374,18 +403,21 @@ module _ (head : Head) (stamp : Stamp) (t : ℕ) where
       → Reaches head stamp t (line here (Take n from m) ∷ past) (line here (Take n from m) ∷ story) v (row_heeds v here m) (Serving head t) → Reaches head stamp t past story v (target.row v here (target.Comes n from m)) (Serving head t)
   comes_lead past story v n from m settled later sent more = (((owes_nothing past here (Take n from m) settled, record { sent = sent; later = later }, tt), more.0), more.1)
 
-  -- at another target glimpses come, joins, and what is told in a recovery
+  -- at another target requests about objects come, cancels, joins, and what is told in a recovery
   told_other : (past : List Line) (v : Target) (n c : ℕ) (m : Message) → IsTold m → Serving head t v (only t past) → Was (only t past) (node.Client c) (node.Target t) m
       → High v (row_heeds v here m) → Reaches head stamp t (line here (Take n (node.Client c) m) ∷ past) (line here (Take n (node.Client c) m) ∷ only t past) v (row_heeds v here m) (Serving head t)
   told_other past v n c m told h was high =
       let e : Entry = Take n (node.Client c) m in
       told_lead head stamp t (line here e ∷ past) (line here e ∷ only t past) v tt (serving_line head t (only t past) stamp e v tt tt h) c m told was high
 
-  -- a glimpse is answered at once
-  request_other : (past : List Line) (v : Target) (n c : ℕ) (r : RequestOf) → 0 < t → IsSize r.op → Serving head t v (only t past) → v.contents.objects ≡ [] → (server_of head.osts (only t past)).granted ≡ []
+  other_target : (v : Target) (story : List Line) → 0 < t → Serving head t v story → nat_eq v.setting.id 0 ≡ false
+  other_target v story above h = let is = h.alike.id in grind (arith, nat_tests, is, above)
+
+  -- a glimpse is answered at once, and so is who asks for a lock to read under
+  request_other : (past : List Line) (v : Target) (n c : ℕ) (r : RequestOf) → 0 < t → IsSize r.op ⊎ IsLock r.op → Serving head t v (only t past) → v.contents.objects ≡ [] → AllRead (server_of head.osts (only t past)).granted
       → Was (only t past) (node.Client c) (node.Target t) (message.Request r)
       → High v (row_heeds v here (message.Request r)) → Reaches head stamp t (line here (Take n (node.Client c) (message.Request r)) ∷ past) (line here (Take n (node.Client c) (message.Request r)) ∷ only t past) v (row_heeds v here (message.Request r)) (Serving head t)
-  request_other past v n c r above size h none free was = request_lead head stamp t past story refl v h n c r was (λ older has newer high. entered older has newer)
+  request_other past v n c r above asked h none reads was = request_lead head stamp t past story refl v h n c r was (λ older has newer. entered older has newer asked)
     where
       story : List Line
       story = only t past
@@ -402,39 +434,69 @@ module _ (head : Head) (stamp : Stamp) (t : ℕ) where
       story2 : List Line
       story2 = line here (Enters r) ∷ line here e ∷ story
 
-      asks : (o : Op) → IsSize o → (resource : Resource) × (o ≡ op.Size resource)
-      asks (op.Size resource) is = (resource, refl)
-      asks o is = absurd is
+      sizes : (o : Op) → IsSize o → (resource : Resource) × (o ≡ op.Size resource)
+      sizes (op.Size resource) is = (resource, refl)
+      sizes o is = absurd is
 
-      other : nat_eq v.setting.id 0 ≡ false
-      other = let is = h.alike.id in grind (arith, nat_tests, is, above)
+      locks : (o : Op) → IsLock o → (resource : Resource) × (extent : Extent) × (o ≡ op.Enqueue resource PR extent)
+      locks (op.Enqueue resource PR extent) is = (resource, extent, refl)
+      locks o is = absurd is
 
       goes_is : goes here r w ≡ objects_go w here r r.op
-      goes_is = cond-false (nat_eq v.setting.id 0) (names_go here w) (objects_go w here r r.op) other
+      goes_is = cond-false (nat_eq v.setting.id 0) (names_go here w) (objects_go w here r r.op) (other_target v story above h)
 
-      entered : nat_lt r.boot v.boot ≡ false → is_life r.who (lives_of head.clients story) ≡ true → nat_lt (slot_in v.slots r.who r.tag).taken r.xid.0 ≡ true
+      of_target : story2 ≡ only t past2
+      of_target = story_turn head stamp t (e ∷ Enters r ∷ []) past story refl
+
+      waits : In r (server_of head.osts story2).waiting
+      waits = in_right r (server_of head.osts story).waiting (r ∷ []) (inl refl)
+
+      -- what is done once it entered
+      does : Serving head t w story2 → IsSize r.op ⊎ IsLock r.op → High w (objects_go w here r r.op) → Reaches head stamp t past2 story2 w (objects_go w here r r.op) (Serving head t)
+      does good (inl size) high = let k = sizes r.op size in size_lead head stamp t past2 story2 w r k.0 above of_target tt good waits k.1 none reads
+      does good (inr lock) high = let k = locks r.op lock in read_lead head stamp t past2 story2 w r k.0 k.1 above of_target tt good waits k.2 (refl, refl, refl) none reads high
+
+      entered : nat_lt r.boot v.boot ≡ false → is_life r.who (lives_of head.clients story) ≡ true → nat_lt (slot_in v.slots r.who r.tag).taken r.xid.0 ≡ true → IsSize r.op ⊎ IsLock r.op → High v (row_enters v here r)
           → Reaches head stamp t (line here e ∷ past) (line here e ∷ story) v (row_enters v here r) (Serving head t)
-      entered older has newer =
+      entered older has newer asked high =
           let good = enters_good head stamp t past story refl v h n c r was older has newer in
-          let size = asks r.op size in
-          let of_target = story_turn head stamp t (e ∷ Enters r ∷ []) past story refl in
-          let more = size_lead head stamp t past2 story2 w r size.0 above of_target tt good.1 (in_right r (server_of head.osts story).waiting (r ∷ []) (inl refl)) size.1 none free in
+          let more = does good.1 asked (subst (λ (es : List Entry). HighAt (turned w es)) goes_is high) in
           subst (λ (es : List Entry). Reaches head stamp t (line here e ∷ past) (line here e ∷ story) v (Enters r ∷ es) (Serving head t)) (sym goes_is) ((good.0, more.0), more.1)
 
-  comes_other : (past : List Line) (v : Target) (n c : ℕ) (m : Message) → 0 < t → IsAsked t m → Serving head t v (only t past) → v.contents.objects ≡ [] → (server_of head.osts (only t past)).granted ≡ []
+  -- a lock that is given back is released, and nothing waited for it
+  cancel_other : (past : List Line) (v : Target) (n c : ℕ) (who : Who) (boot : ℕ) (cookie : Cookie) → 0 < t → Serving head t v (only t past) → Was (only t past) (node.Client c) (node.Target t) (message.Cancel who boot cookie)
+      → High v (row_heeds v here (message.Cancel who boot cookie))
+      → Reaches head stamp t (line here (Take n (node.Client c) (message.Cancel who boot cookie)) ∷ past) (line here (Take n (node.Client c) (message.Cancel who boot cookie)) ∷ only t past) v
+      (row_heeds v here (message.Cancel who boot cookie)) (Serving head t)
+  cancel_other past v n c who boot cookie above h was =
+      cancel_lead head stamp t past (only t past) refl v h n c who boot cookie was
+      (λ l older found high.
+      let good = release_good head stamp t past (only t past) refl v h n c who boot cookie was l older found in
+      subst (λ (es : List Entry). Reaches head stamp t (line here e ∷ past) (line here e ∷ only t past) v (Release l ∷ es) (Serving head t)) (sym (none l)) ((good.0, tt), good.1))
+    where
+      e : Entry
+      e = Take n (node.Client c) (message.Cancel who boot cookie)
+
+      none : (l : Lock) → goes_on l here (after v (Release l)) ≡ []
+      none l =
+          let w = after v (Release l) in
+          cond-false (nat_eq v.setting.id 0) (names_go here w) (queue_goes l.resource w) (other_target v (only t past) above h)
+          ∙ ap (λ (ws : List Lock). follow w (grants_go [] (locks_on l.resource ws) w) (λ x. blocks_go (locks_on l.resource x.waiting) x)) h.alike.waiting
+          ∙ ap (λ (ws : List Lock). blocks_go (locks_on l.resource ws) w) h.alike.waiting
+
+  comes_other : (past : List Line) (v : Target) (n c : ℕ) (m : Message) → 0 < t → IsAsked t m → Serving head t v (only t past) → v.contents.objects ≡ [] → AllRead (server_of head.osts (only t past)).granted
       → Was (only t past) (node.Client c) (node.Target t) m
       → High v (row_heeds v here m) → Reaches head stamp t (line here (Take n (node.Client c) m) ∷ past) (line here (Take n (node.Client c) m) ∷ only t past) v (row_heeds v here m) (Serving head t)
-  comes_other past v n c (message.Request r) above asked h none free was high = request_other past v n c r above (asked_size t r.op above asked) h none free was high
-  comes_other past v n c (message.Cancel who boot cookie) above asked h none free was high = absurd (let zero : t ≡ 0 = asked in omega (arith, zero, above))
-  comes_other past v n c (message.Join who boot) above asked h none free was high =
+  comes_other past v n c (message.Request r) above asked h none reads was high = request_other past v n c r above (asked_object t r.op above asked) h none reads was high
+  comes_other past v n c (message.Cancel who boot cookie) above asked h none reads was high = cancel_other past v n c who boot cookie above h was high
+  comes_other past v n c (message.Join who boot) above asked h none reads was high =
       let e : Entry = Take n (node.Client c) (message.Join who boot) in
       join_lead head stamp t (line here e ∷ past) (line here e ∷ only t past) v c boot who (story_turn head stamp t (e ∷ []) past (only t past) refl) tt
-      (serving_line head t (only t past) stamp e v tt tt h) (λ l i. absurd (subst (λ (ls : List Lock). In l ls) free i))
-      (inl (refl, refl, refl)) was high
-  comes_other past v n c (message.Replay r) above asked h none free was high = told_other past v n c (message.Replay r) tt h was high
-  comes_other past v n c (message.Lock r) above asked h none free was high = told_other past v n c (message.Lock r) tt h was high
-  comes_other past v n c (message.Word who boot replays locks seen) above asked h none free was high = told_other past v n c (message.Word who boot replays locks seen) tt h was high
-  comes_other past v n c m above asked h none free was high = absurd asked
+      (serving_line head t (only t past) stamp e v tt tt h) (inl (refl, refl, refl)) was high
+  comes_other past v n c (message.Replay r) above asked h none reads was high = told_other past v n c (message.Replay r) tt h was high
+  comes_other past v n c (message.Lock r) above asked h none reads was high = told_other past v n c (message.Lock r) tt h was high
+  comes_other past v n c (message.Word who boot replays locks seen) above asked h none reads was high = told_other past v n c (message.Word who boot replays locks seen) tt h was high
+  comes_other past v n c m above asked h none reads was high = absurd asked
 
   -- ---- commands
 
@@ -453,51 +515,46 @@ module _ (head : Head) (stamp : Stamp) (t : ℕ) where
         window_closed head t (line here e ∷ story) (after v e) h.shown (window_commit head t story stamp (d ∷ deeds) [] [] v (λ x i. first_in (d ∷ deeds) (server_of head.osts story).log x first i) ok h),
       )
 
--- ---- another target grants nothing, calls nothing back, and has nothing to commit, whoever leaves
+-- ---- another target grants locks to read under alone, and calls none back, whoever leaves
 
 positive : (t : ℕ) → (t ≡ 0 → ⊥) → 0 < t
 positive zero other = absurd (other refl)
 positive (suc t) other = omega arith
 
-record Idle (s : Server) : Type 0 where
-  granted : s.granted ≡ []
-  called : s.called ≡ []
-  log : s.log ≡ []
+all_read : (head : Head) (t : ℕ) (past : List Line) → 0 < t → Grown head past → AllRead (server_of head.osts (only t past)).granted
+all_read head t past above g l i = (kind_reads t l above (granted_kind head t past g l i)).0
 
-idle : (head : Head) (t : ℕ) (past : List Line) → (t ≡ 0 → ⊥) → Grown head past → Idle (server_of head.osts (only t past))
-idle head t [] other g = record { granted = refl; called = refl; log = refl }
-idle head t (l ∷ past) other g = by l.at.node g.0.ok (g.0.of t) (idle head t past other g.1)
+none_called : (head : Head) (t : ℕ) (past : List Line) → (t ≡ 0 → ⊥) → Grown head past → (server_of head.osts (only t past)).called ≡ []
+none_called head t [] other g = refl
+none_called head t (l ∷ past) other g = by l.at.node g.0.ok (none_called head t past other g.1)
   where
     P : List Line
     P = only t past
 
+    Free : List Line → Type 0
+    Free p = (server_of head.osts p).called ≡ []
+
     -- its own entry
-    none : (v : ℕ) (at : At) → (v ≡ 0 → ⊥) → (outcome_of head.osts head.clients at (only v past)).locks ≡ []
-    none zero at ne = absurd (ne refl)
-    none (suc v) at ne = none_restored head v past at g.1
+    own : (u : ℕ) (e : Entry) → (u ≡ 0 → ⊥) → EntryOk past (turn l.at.stamp (node.Target u)) (node.Target u) e → Free P → (server_after head.osts (server_of head.osts P) e).called ≡ []
+    own u (Block called) ne ok h = absurd (ne ok)
+    own u (Release lock) ne ok h = ap (called_without lock) h
+    own u (Evict who cause) ne ok h = rw h refl
+    own u (Close o) ne ok h = refl
+    own u e ne ok h = h
 
-    -- a glimpse gets no lock
-    bare : (u : ℕ) (d : Deed) → (u ≡ 0 → ⊥) → ActsOk head.osts P l.at u d → d.reply.locks ≡ []
-    bare u d ne of = sized_bare head.osts P l.at d (acts_sized head.osts P l.at u d (positive u ne) of)
+    by : (n : Node) → EntryOk past (turn l.at.stamp n) n l.entry → Free P → Free (if concerns t n l.entry then line (turn l.at.stamp n) l.entry ∷ P else P)
+    by (node.Client c) ok h = cond_both (concerns t (node.Client c) l.entry) (line (turn l.at.stamp (node.Client c)) l.entry ∷ P) P Free (λ e. h) (λ e. h)
+    by (node.Target u) ok h = cond_both (nat_eq t u) (line (turn l.at.stamp (node.Target u)) l.entry ∷ P) P Free (λ e. own u l.entry (λ z. other (eqb-true t u e ∙ z)) ok h) (λ e. h)
 
-    own : (u : ℕ) (e : Entry) → (u ≡ 0 → ⊥) → EntryOk past (turn l.at.stamp (node.Target u)) (node.Target u) e → EntryOf head P l.at (node.Target u) e → Idle (server_of head.osts P) → Idle (server_after head.osts (server_of head.osts P) e)
-    own u (Act d) ne ok of h = record { granted = ap (λ (ls : List Lock). with_locks ls (server_of head.osts P).granted) (bare u d ne of) ∙ h.granted; called = h.called; log = h.log }
-    own u (Txn d) ne ok of h = absurd (ne ok)
-    own u (Block called) ne ok of h = absurd (ne ok)
-    own u (Release lock) ne ok of h = absurd (ne ok.0)
-    own u (Commit to batch) ne ok of h = record { granted = h.granted; called = h.called; log = rw h.log refl }
-    own u (Evict who cause) ne ok of h = record { granted = rw h.granted refl; called = rw h.called refl; log = h.log }
-    own u (Boot boot disk) ne ok of h = record { granted = h.granted; called = h.called; log = h.log }
-    own u (Enters r) ne ok of h = record { granted = h.granted; called = h.called; log = h.log }
-    own u (Close o) ne ok of h = record { granted = ap (λ (x : Outcome). x.locks) of.is ∙ none t l.at other; called = refl; log = refl }
-    own u e ne ok of h = h
+-- so a tick of it is its line alone
+again_none : (v : Target) (locks : List Lock) → sends_again v [] [] locks ≡ []
+again_none v [] = refl
+again_none v (l ∷ locks) = again_none v locks
 
-    by : (n : Node) → EntryOk past (turn l.at.stamp n) n l.entry → (concerns t n l.entry ≡ true → EntryOf head P l.at n l.entry) → Idle (server_of head.osts P) → Idle (server_of head.osts (if concerns t n l.entry then line (turn l.at.stamp n) l.entry ∷ P else P))
-    by (node.Client c) ok of h = cond_both (concerns t (node.Client c) l.entry) (line (turn l.at.stamp (node.Client c)) l.entry ∷ P) P (λ (p : List Line). Idle (server_of head.osts p)) (λ e. h) (λ e. h)
-    by (node.Target u) ok of h =
-        cond_both (nat_eq t u) (line (turn l.at.stamp (node.Target u)) l.entry ∷ P) P (λ (p : List Line). Idle (server_of head.osts p))
-        (λ e. own u l.entry (λ z. other (eqb-true t u e ∙ z)) ok (of e) h)
-        (λ e. h)
+ticks_alone : (at : At) (v : Target) → v.called ≡ [] → v.glimpses ≡ [] → ticked at v ≡ []
+ticks_alone at v called glimpses =
+    ap (λ (cs : List Called). follow v (expels at (condemned v cs) v) (λ x. sends_again x cs v.glimpses x.granted)) called
+    ∙ ap (λ (gs : List Glimpse). sends_again v [] gs v.granted) glimpses ∙ again_none v v.granted
 
 -- ---- commands that don't fit
 
@@ -515,11 +572,6 @@ closes_skip osts t v s here h = cond-true v.up (row_closes v here) (Skip ∷ [])
 
 commits_are : (osts t : ℕ) (v : Target) (s : Server) (here : At) (count : Option ℕ) → Alike osts t v s → target.row v here (target.Commits count) ≡ row_commits v (first_deeds count v.log)
 commits_are osts t v s _ count h = cond-true v.up (row_commit v count) (Skip ∷ []) h.up ∙ (cond-true (nat_eq v.closed v.boot) (row_commits v (first_deeds count v.log)) (Skip ∷ []) (eq-eqb v.closed v.boot h.closed))
-
-first_none : (count : Option ℕ) → first_deeds count [] ≡ []
-first_none None = refl
-first_none (Some zero) = refl
-first_none (Some (suc n)) = refl
 
 -- ---- the turns of a target
 
@@ -560,7 +612,7 @@ module _ (head : table.Head) (past : List Line) (stamp : Stamp) (grown : Grown (
       by false e c asked was =
           let other = eqb-false t 0 e in
           let above = positive t other in
-          comes_other (covered_head head) stamp t past v n c m above asked h (objects_none (covered_head head) (setting_of head t) head.clients past above grown) (idle (covered_head head) t past other grown).granted was high
+          comes_other (covered_head head) stamp t past v n c m above asked h (objects_none (covered_head head) (setting_of head t) head.clients past above grown) (all_read (covered_head head) t past above grown) was high
 
   ticks_row : (t : ℕ) → Rows t target.Ticks
   ticks_row zero h later meets over =
@@ -572,13 +624,10 @@ module _ (head : table.Head) (past : List Line) (stamp : Stamp) (grown : Grown (
       v : Target
       v = target_of head (suc t) past
 
-      i : Idle (server_of head.osts (only (suc t) past))
-      i = idle (covered_head head) (suc t) past (λ e. absurd (cc)) grown
-
       is : target.row v (turn stamp (node.Target (suc t))) target.Ticks ≡ Tick ∷ []
       is =
           cond-true v.up (row_tick v (turn stamp (node.Target (suc t)))) (Skip ∷ []) h.alike.up ∙ cond-true (nat_eq v.closed v.boot) (Tick ∷ ticked (turn stamp (node.Target (suc t))) (after v Tick)) (Tick ∷ []) (eq-eqb v.closed v.boot h.alike.closed)
-          ∙ rw h.alike.glimpses (rw (h.alike.called ∙ i.called) (rw (h.alike.granted ∙ i.granted) refl))
+          ∙ ap (λ (es : List Entry). Tick ∷ es) (ticks_alone (turn stamp (node.Target (suc t))) (after v Tick) (h.alike.called ∙ none_called (covered_head head) (suc t) past (λ e. absurd (cc)) grown) h.alike.glimpses)
 
   skips_row : (t : ℕ) (es : List Entry) → Serving (covered_head head) t (target_of head t past) (only t past) → Later past (turn stamp (node.Target t)) → es ≡ Skip ∷ [] → Reaches (covered_head head) stamp t past (only t past) (target_of head t past) es (Serving (covered_head head) t)
   skips_row t es h later is =

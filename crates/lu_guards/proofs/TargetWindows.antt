@@ -67,7 +67,7 @@ module _ (head : Head) (stamp : Stamp) where
     at = turn stamp (node.Target t)
 
     -- lives whose time is over leave
-    module _ (v : Target) (past story : List Line) (is : story ≡ only t past) (settled : Settled past) (h : Serving head t v story) (names : (l : Lock) → In l (server_of head.osts story).granted → t ≡ 0) where
+    module _ (v : Target) (past story : List Line) (is : story ≡ only t past) (settled : Settled past) (h : Serving head t v story) where
       commit_lead : (cause : Cause) (gone come : List Who) (K : List Line → Type 0) → Carries t stamp K → ((x : Who) → In x gone → is_life x (lives_of head.clients story) ≡ true) → Distinct gone
           → ((x : Who) → In x gone → EvictedBy story at x cause) → K story
           → Reaches head stamp t past story v (commits v v.log gone come ∷ []) (λ w p. Leaving head t at cause v.granted come (without_lives gone (lives_of head.clients story)) (with_lives gone (evicted_of story)) K gone [] w p)
@@ -80,7 +80,7 @@ module _ (head : Head) (stamp : Stamp) where
           ),
           tt,
         ),
-        leave_start head stamp t cause gone come K keeps story v h names has distinct caused carried,
+        leave_start head stamp t cause gone come K keeps story v h has distinct caused carried,
       )
 
       pub expels_lead : (gone : List Who) → ((x : Who) → In x gone → is_life x (lives_of head.clients story) ≡ true) → Distinct gone → ((x : Who) → In x gone → EvictedBy story at x Expired) → High v (expels at gone v)

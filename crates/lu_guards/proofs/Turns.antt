@@ -11,7 +11,7 @@ use Rattle.lu_base.specs.declared.ids.Who.{Who}
 use Rattle.lu_msg.specs.declared.calls.Call.{Call}
 use Rattle.lu_msg.specs.declared.calls.Call.TheVariants as call
 use Rattle.lu_words.specs.Carried.{Stage, Bad}
-use Rattle.lu_words.specs.Words.{Entry, Take, Begin, Pins, Act, Txn, Grant, Close, Back, Stores, Brings, Says, Wishes, Line, line, with_turn, turn_before}
+use Rattle.lu_words.specs.Words.{Entry, Take, Begin, Pins, Unpins, Act, Txn, Grant, Close, Back, Stores, Brings, Says, Wishes, Line, line, with_turn, turn_before}
 use Rattle.lu_words.specs.Concerns.{is_about, concerns, only, about}
 use Rattle.lu_table.specs.Runs.{Turn, lines_of, Follows, IsRun}
 use Rattle.lu_table.specs.Heads as table
@@ -38,21 +38,23 @@ BeginQuiet stage (call.Flush h) = Unit {0}
 BeginQuiet stage (call.Glimpse h) = Unit {0}
 BeginQuiet stage c = ⊥
 
-abbrev pub Quiet : Entry → Type 0
-Quiet (Act d) = ⊥
-Quiet (Txn d) = ⊥
-Quiet (Grant lock asked) = ⊥
-Quiet (Begin slot running) = BeginQuiet running.stage running.call
-Quiet (Pins name) = ⊥
-Quiet _ = Unit {0}
+-- before: nothing was owed before the entry
+abbrev pub Quiet : (before : Type 0) → Entry → Type 0
+Quiet before (Act d) = ⊥
+Quiet before (Txn d) = ⊥
+Quiet before (Grant lock asked) = ⊥
+Quiet before (Begin slot running) = BeginQuiet running.stage running.call
+Quiet before (Pins name) = ⊥
+Quiet before (Unpins name) = before
+Quiet before _ = Unit {0}
 
 abbrev pub Settled : List Line → Type 0
 Settled [] = Unit {0}
-Settled (l ∷ past) = Quiet l.entry
+Settled (l ∷ past) = Quiet (Settled past) l.entry
 
 pub owes_nothing : (past : List Line) (at : At) (e : Entry) → Settled past → Owes past at e
 owes_nothing [] at e s = tt
-owes_nothing (l ∷ past) at e s = by l.entry s
+owes_nothing (l ∷ past) at e s = by l.entry s (owes_nothing past at e)
   where
     begun : (slot : ℕ) (stage : Stage) (c : Call) → BeginQuiet stage c → OwesBegun (l.at ≡ at) slot stage c e
     begun slot Bad c q = absurd q
@@ -61,13 +63,14 @@ owes_nothing (l ∷ past) at e s = by l.entry s
     begun slot stage (call.Glimpse h) q = tt
     begun slot stage c q = absurd q
 
-    by : (x : Entry) → Quiet x → Owes (line l.at x ∷ past) at e
-    by (Act d) q = absurd q
-    by (Txn d) q = absurd q
-    by (Grant lock asked) q = absurd q
-    by (Begin slot running) q = begun slot running.stage running.call q
-    by (Pins name) q = absurd q
-    by _ q = tt
+    by : (x : Entry) → Quiet (Settled past) x → (Settled past → Owes past at e) → Owes (line l.at x ∷ past) at e
+    by (Act d) q more = absurd q
+    by (Txn d) q more = absurd q
+    by (Grant lock asked) q more = absurd q
+    by (Begin slot running) q more = begun slot running.stage running.call q
+    by (Pins name) q more = absurd q
+    by (Unpins name) q more = more q
+    by _ q more = tt
 
 -- each line of a turn pays what is owed, and at its end nothing is
 abbrev pub AllPaid : List Line → At → List Entry → Type 0

@@ -1,6 +1,6 @@
 -- The law of acts holds of the printed past of every grown one, for all lives that will be out and all numbers
 -- that will be lost, as far as none of a deed that is told is.
-use Rattle.std.proofs.Common.{◌≡◌, ℕ, suc, ◌≤◌, Bool, List, [], ◌∷◌, ◌⊎◌, inl, inr, ⊎_elim, refl, sym, subst, ap, ◌∙◌, arith}
+use Rattle.std.proofs.Common.{◌≡◌, ℕ, suc, ◌≤◌, Bool, List, [], ◌∷◌, Some, None, ◌⊎◌, inl, inr, ⊎_elim, refl, sym, subst, ap, ◌∙◌, arith}
 use Rattle.std.specs.Prelude.{nat_eq, not, ◌&&◌, true, false}
 use Rattle.lu_trace.specs.declared.entries.Entry.TheVariants as trace
 use Rattle.std.proofs.lemmas.Bool.{and_parts, cond_both, eqb-true, or_left, or_right, or_cases, not-true}
@@ -10,15 +10,17 @@ use Rattle.lu_base.specs.declared.ids.Node.TheVariants.{Client, Target}
 use Rattle.lu_base.specs.declared.ids.Stamp.{Stamp}
 use Rattle.lu_base.specs.declared.ids.Txn.{Txn as TxnOf}
 use Rattle.lu_base.specs.declared.ids.Who.{Who}
+use Rattle.lu_base.specs.declared.locks.Lock.{Lock}
 use Rattle.lu_machine.specs.Tree.{same_life}
 use Rattle.lu_words.specs.Carried.{Deed}
-use Rattle.lu_words.specs.Words.{Entry, Act, Txn as Made, Line, line}
+use Rattle.lu_words.specs.Words.{Entry, Act, Txn as Made, Grant, Line, line}
 use Rattle.lu_words.specs.Concerns.{only}
 use Rattle.lu_words.specs.Printed.{printed}
 use Rattle.lu_covered.specs.Heads.{Head}
 use Rattle.lu_laws.specs.Words.Pasts as pasts
 use Rattle.lu_laws.specs.Laws.Acts.{acts_there, acted, made, standing_count}
 use Rattle.lu_lawful.specs.Fits.{ReplyStands}
+use Rattle.lu_guards.proofs.Guards.{EntryOk}
 use Rattle.lu_guards.proofs.Grown.{Allowed, Grown}
 use Rattle.lu_guards.proofs.Lists.{self, life_is}
 use Rattle.lu_facts.proofs.Groups.{turn, Acted, IsMade, Stands as StandsSoFar}
@@ -27,7 +29,7 @@ use Rattle.lu_lawful.proofs.Story.{target_is, made_story}
 use Rattle.lu_lawful.proofs.Deeds.{act_for, txn_is}
 use Rattle.lu_lawful.proofs.Turns.{same_turn_is}
 use Rattle.lu_lawful.proofs.Lost.{stood_before}
-use Rattle.lu_lawful.proofs.Once.{NoneFor, NoneNow, act_now, txn_now, txn_first}
+use Rattle.lu_lawful.proofs.Once.{NoneFor, NoneNow, act_now, txn_now, grant_now, granted_first, txn_first}
 
 -- ---- each request acts once in the whole trace
 
@@ -51,9 +53,29 @@ one_turn head (l ∷ past) d e g a b at who xid = by l.entry g.0 a b (λ a b. on
     first x now none (inr a) (inl q) ih = absurd (none d a (at ∙ ap (λ (v : Deed). v.reply.at) (sym q) ∙ now) (who ∙ ap (λ (v : Deed). v.reply.who) (sym q)) (xid ∙ ap (λ (v : Deed). v.reply.xid.0) (sym q)))
     first x now none (inr a) (inr b) ih = ih a b
 
+    none_granted : (at : At) (node : Node) (lock : Lock) → EntryOk past at node (Grant lock None) → ⊥
+    none_granted at (Client c) lock ok = ok
+    none_granted at (Target t) lock ok = ok
+
     by : (x : Entry) → Allowed head past l.at x → Acted (line l.at x ∷ past) d → Acted (line l.at x ∷ past) e → (Acted past d → Acted past e → d ≡ e) → d ≡ e
     by (Act x) k a b ih = let does = act_now head past l.at.stamp l.at.node x k g.1 in first x does.turn does.now a b ih
     by (Made x) k a b ih = let does = txn_now head past l.at.stamp l.at.node x k g.1 in first x does.turn does.now a b ih
+    by (Grant lock None) k a b ih = absurd (none_granted l.at l.at.node lock k.ok)
+    by (Grant lock (Some x)) k a b ih = ⊎_elim
+        (λ (old : Acted past x). ih (was x old a) (was x old b))
+        (λ p. first x p.1.turn p.1.now (is_or x a) (is_or x b) ih)
+        (grant_now head past l.at.stamp l.at.node lock (Some x) x k refl g.1)
+      where
+        one : (x y : Deed) → Some x ≡ Some y → x ≡ y
+        one x y q = cc
+
+        is_or : (x : Deed) {y : Deed} → (Some x ≡ Some y) ⊎ Acted past y → (x ≡ y) ⊎ Acted past y
+        is_or x {y} (inl q) = inl (one x y q)
+        is_or x (inr o) = inr o
+
+        was : (x : Deed) → Acted past x → {y : Deed} → (Some x ≡ Some y) ⊎ Acted past y → Acted past y
+        was x old {y} (inl q) = subst (Acted past) (one x y q) old
+        was x old (inr o) = o
     by x k a b ih = ih a b
 
 module _ (lost : ℕ → ℕ → Bool) (who : Who) (x : ℕ) where
@@ -79,6 +101,7 @@ module _ (lost : ℕ → ℕ → Bool) (who : Who) (x : ℕ) where
           (λ t. let c = counted at d t in absurd (n d (inl refl) (made_now head past l.at.stamp node d k g.1) c.2 c.0 c.1))
           (λ t. h (λ e a. n e (inr a)))
       by node (Act d) k h n = h (λ e a. n e (inr a))
+      by node (Grant lock asked) k h n = h (λ e a. n e (inr a))
       by node e k h n = h n
 
   -- at most one transaction counts
@@ -170,4 +193,6 @@ acted_in head lost (l ∷ past) g d first a s = by l.entry g.0 (λ i. acted_in h
         and_both {a = true} {b = true} p q = absurd (cc)
         and_both {a = true} {b = false} p q = refl
         and_both {a = false} {b} p q = absurd (cc)
+    by (Grant lock asked) ok h (inl q) = h (granted_first head past l.at.stamp l.at.node lock asked d ok q g.1 first)
+    by (Grant lock asked) ok h (inr i) = h i
     by _ ok h a = h a

@@ -75,7 +75,13 @@ bad_told head past stamp c slot running named given work g ok bad tells = by tel
     by (inr (inr (inr (inr (inl a))))) =
         let same = some_is a.running running (sym a.call ∙ stands) in
         absurd (far_good (line (turn stamp (Client c)) (Begin slot running) ∷ past) (turn stamp (Client c)) a.running a.sizes a.so_far (ap (λ (v : Running). v.stage) same ∙ bad))
-    by (inr (inr (inr (inr (inr a))))) =
+    by (inr (inr (inr (inr (inr (inr (inl a))))))) =
+        let same = some_is a.running running (sym a.call ∙ stands) in
+        absurd (a.read.good (ap (λ (v : Running). v.stage) same ∙ bad))
+    by (inr (inr (inr (inr (inr (inr (inr a))))))) =
+        let same = some_is a.running running (sym a.call ∙ stands) in
+        absurd (a.stat.good (ap (λ (v : Running). v.stage) same ∙ bad))
+    by (inr (inr (inr (inr (inr (inl a)))))) =
         let same = some_is a.running running (sym a.call ∙ stands) in
         let plain : Plain ≡ Bad = sym a.good ∙ ap (λ (v : Running). v.stage) same ∙ bad in
         absurd (cc)

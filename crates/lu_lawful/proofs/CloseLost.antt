@@ -1,6 +1,6 @@
 -- What closes have lost: by the laws, of the transactions in rising order, what can't be replayed or saw what is lost; by the story, what isn't kept. Of
 -- the numbers of transactions both say the same.
-use Rattle.std.proofs.Common.{◌≡◌, ℕ, ◌<◌, ◌≤◌, Bool, true, false, List, [], ◌∷◌, ◌++◌, ◌⊎◌, inl, inr, ⊎_elim, refl, sym, subst, ap, ◌∙◌, arith}
+use Rattle.std.proofs.Common.{◌≡◌, ℕ, ◌<◌, ◌≤◌, Bool, true, false, List, [], ◌∷◌, ◌++◌, Some, None, ◌⊎◌, inl, inr, ⊎_elim, refl, sym, subst, ap, ◌∙◌, arith}
 use Rattle.std.specs.Prelude.{nat_eq, nat_lt, not, ◌||◌, if◌then◌else◌, filter}
 use Rattle.std.specs.List.{list_any}
 use Rattle.std.proofs.lemmas.Bool.Decides.{nat_tests}
@@ -10,7 +10,7 @@ use Rattle.lu_base.specs.declared.ids.Node.{Node}
 use Rattle.lu_base.specs.declared.ids.Node.TheVariants.{Client, Target}
 use Rattle.lu_base.specs.declared.ids.Txn.{Txn as TxnOf}
 use Rattle.lu_words.specs.Carried.{Deed}
-use Rattle.lu_words.specs.Words.{Entry, Act, Txn as Made, Line, line}
+use Rattle.lu_words.specs.Words.{Entry, Act, Txn as Made, Grant, Line, line}
 use Rattle.lu_words.specs.Concerns.{concerns, only}
 use Rattle.lu_words.specs.Printed.{printed}
 use Rattle.lu_target_rows.specs.Windows.{has_number}
@@ -28,6 +28,7 @@ use Rattle.lu_facts.proofs.All.{holds_at}
 use Rattle.lu_facts.proofs.Exact as exact
 use Rattle.lu_facts.proofs.Exact.{IsBack, HeardBy, kept_then, committed_then}
 use Rattle.lu_facts.proofs.ExactLists.{AllStand}
+use Rattle.lu_facts.proofs.GrantLines.{grant_made}
 use Rattle.lu_lawful.proofs.Printed.{flip}
 
 -- ---- the transactions of a target, the newest first
@@ -87,8 +88,10 @@ module _ (head : Head) where
       by (Target t) (Made e) ok (inl q) h = (inl q, let n = ap (λ (v : Deed). v.reply.txn.0) (sym q ∙ ok.is) in omega (arith, n))
       by (Target t) (Made e) ok (inr i) h = let r = h i in (inr r.0, r.1)
       by (Target t) (Act e) ok i h = let r = h i in (inr r.0, r.1)
+      by (Target t) (Grant lock asked) ok i h = let r = h i in (inr r.0, r.1)
       by (Client c) (Made e) ok i h = absurd ok
       by (Client c) (Act e) ok i h = absurd ok
+      by (Client c) (Grant lock asked) ok i h = absurd ok
       by (Client c) e ok i h = h i
       by (Target t) e ok i h = h i
 
@@ -102,8 +105,11 @@ module _ (head : Head) where
       by (Target t) (Act e) ok (inl q) h = absurd (let n = ap (λ (v : Deed). v.reply.txn.0) (sym q) in let none = ap (λ (v : TxnOf). v.0)
           (acted head.osts past (turn l.at.stamp (Target t)) t e ok).number in omega (arith, n, none, made))
       by (Target t) (Act e) ok (inr b) h = h b
+      by (Target t) (Grant lock None) ok a h = absurd ok
+      by (Target t) (Grant lock (Some e)) ok a h = h (grant_made head.osts past (turn l.at.stamp (Target t)) t lock e ok d a made)
       by (Client c) (Made e) ok a h = absurd ok
       by (Client c) (Act e) ok a h = absurd ok
+      by (Client c) (Grant lock asked) ok a h = absurd ok
       by (Client c) e ok a h = h a
       by (Target t) e ok a h = h a
 

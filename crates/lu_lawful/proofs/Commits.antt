@@ -1,6 +1,6 @@
 -- What a target has committed, by its lines and by its story: a line says what stands on its disk, and a close's story is ahead until its
 -- commit comes. The committed number is 0, or that of a transaction that stands.
-use Rattle.std.proofs.Common.{◌≡◌, ℕ, ◌≤◌, Bool, true, false, List, [], ◌∷◌, Option, Some, ◌⊎◌, inl, inr, ⊎_elim, refl, sym, subst, ap, ◌∙◌, arith}
+use Rattle.std.proofs.Common.{◌≡◌, ℕ, ◌≤◌, Bool, true, false, List, [], ◌∷◌, Option, Some, None, ◌⊎◌, inl, inr, ⊎_elim, refl, sym, subst, ap, ◌∙◌, arith}
 use Rattle.std.specs.Prelude.{nat_eq, nat_lt, not, ◌&&◌, ◌||◌, if◌then◌else◌, unwrap_or, map}
 use Rattle.std.specs.List.{list_any}
 use Rattle.std.proofs.lemmas.Bool.{or_right}
@@ -11,7 +11,7 @@ use Rattle.lu_base.specs.declared.ids.Txn.{Txn as TxnOf}
 use Rattle.lu_msg.specs.declared.commits.Batch.{Batch}
 use Rattle.lu_msg.specs.declared.commits.Transaction.{Transaction as Stored}
 use Rattle.lu_words.specs.Carried.{Deed, Disk, Outcome}
-use Rattle.lu_words.specs.Words.{Entry, Act, Txn as Made, Commit, Boot, Close, Line, line}
+use Rattle.lu_words.specs.Words.{Entry, Act, Txn as Made, Grant, Commit, Boot, Close, Line, line}
 use Rattle.lu_words.specs.Concerns.{concerns, only}
 use Rattle.lu_words.specs.Printed.{printed}
 use Rattle.lu_target_rows.specs.Lives.{lives_of as lives_in}
@@ -38,6 +38,7 @@ use Rattle.lu_facts.proofs.All.{holds, holds_at}
 use Rattle.lu_facts.proofs.CloseFacts.{Closing, closing, kept_of_deed}
 use Rattle.lu_facts.proofs.ExactLists.{in_has}
 use Rattle.lu_facts.proofs.Lines.{acted_more}
+use Rattle.lu_facts.proofs.GrantLines.{grant_made}
 use Rattle.lu_lawful.specs.Fits.{WasMade}
 use Rattle.lu_lawful.proofs.Story.{acted_first}
 use Rattle.lu_lawful.proofs.Deeds.{act_for}
@@ -166,8 +167,10 @@ module _ (head : Head) where
       by (Target t) (Close o) ok h made = closes_made past l.at.stamp t o ok h made
       by (Target t) (Act d) ok h made = stands_on (line (turn l.at.stamp (Target t)) (Act d)) past (server_of head.osts past).committed.0 (omega arith) made
       by (Target t) (Made d) ok h made = stands_on (line (turn l.at.stamp (Target t)) (Made d)) past (server_of head.osts past).committed.0 (omega arith) made
+      by (Target t) (Grant lock asked) ok h made = stands_on (line (turn l.at.stamp (Target t)) (Grant lock asked)) past (server_of head.osts past).committed.0 (omega arith) made
       by (Client c) (Act d) ok h made = absurd ok
       by (Client c) (Made d) ok h made = absurd ok
+      by (Client c) (Grant lock asked) ok h made = absurd ok
       by (Client c) e ok h made = made
       by (Target t) e ok h made = made
 
@@ -239,6 +242,13 @@ listed head t (l ∷ past) d g a made = by l.at.node l.entry g.0 a (λ b. listed
         of false q i = old i
         of true q (inr j) = old j
         of true q (inl same) = absurd (let zero : n ≡ 0 = ap (λ (y : Deed). y.reply.txn.0) (sym same) ∙ ap (λ (v : TxnOf). v.0) (act_for head past l.at.stamp u e k).number in omega (arith, zero, made))
+    by (Client c) (Grant lock asked) k i ih = absurd k.ok
+    by (Target u) (Grant lock None) k i ih = absurd k.ok
+    by (Target u) (Grant lock (Some e)) k i ih = let r = ih (was (nat_eq t u) refl i) in record { made = r.made; listed = r.listed }
+      where
+        was : (b : Bool) → nat_eq t u ≡ b → Acted (if b then line (turn l.at.stamp (Target u)) (Grant lock (Some e)) ∷ P else P) d → Acted P d
+        was false q j = j
+        was true q j = grant_made head.osts P (turn l.at.stamp (Target u)) u lock e (k.of t q) d j made
     by node e k i ih = let r = ih (quiet node e (concerns t node e) (λ j. j) i) in record { made = r.made; listed = r.listed }
 
 -- what stands by the story stands by the laws

@@ -90,11 +90,11 @@ calls_granted : (head : Head) (past : List Line) (stamp : Stamp) (t : ℕ) (call
 calls_granted head past stamp t called a g =
     let ok = a.of 0 (about_it t a.ok) in
     let none = nothing_left head (only 0 past) (turn stamp (Target t)) (Block called) (λ next more q. a.shows 0 (about_it t a.ok) next more q) (λ v. v) in
-    let shown = granted_shown head past ok.lock g ok.serves none ok.granted in
+    let shown = granted_shown 0 head past ok.lock g ok.serves none ok.granted in
     let here : In ok.lock (granted 0 (printed past)) = ⊎_elim
     (λ (q : In ok.lock (granted 0 (printed past))). q)
-    (λ (q : JustGave past ok.lock). absurd (owed past (turn stamp (Target t)) q.0 (Block called) q.1 a.owes))
-    (all_granted head past g ok.lock shown)
+    (λ (q : JustGave 0 past ok.lock). absurd (owed past (turn stamp (Target t)) q.0 (Block called) q.1 a.owes))
+    (all_granted 0 head past g ok.lock shown)
     in
     let cookie : nat_eq ok.lock.cookie.0 called.cookie.0 ≡ true = eq-eqb ok.lock.cookie.0 called.cookie.0 (ap (λ (c : Cookie). c.0) (sym ok.of_cookie)) in
     let who : same_life ok.lock.ask.who called.who ≡ true = subst (λ (w : Who). same_life ok.lock.ask.who w ≡ true) (sym ok.of_life) (life_self ok.lock.ask.who) in

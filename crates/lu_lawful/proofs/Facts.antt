@@ -1,6 +1,7 @@
 -- What the laws rest on, line by line: the operation of each deed of the metadata target is that of the first request sent with its
 -- number; and what is told is the answer of a deed that is heard in that turn, or what the client knew when its call began, or
--- that the life is over, or that the call's handle is bad, or of a glimpse sizes, or that a flush is done.
+-- that the life is over, or that the call's handle is bad, or of a glimpse sizes, that a flush is done, of a read no bytes, or of a stat of a
+-- file what is known of it, and that it is empty.
 use Rattle.std.proofs.Common.{◌≡◌, ℕ, true, false, List, [], ◌∷◌, Some, ◌⊎◌}
 use Rattle.lu_base.specs.declared.ids.At.{At}
 use Rattle.lu_base.specs.declared.ids.Node.{Node}
@@ -10,6 +11,7 @@ use Rattle.lu_msg.specs.declared.answers.Answer.TheVariants as told
 use Rattle.lu_msg.specs.declared.answers.Errno.TheVariants.{EBADF, EIO}
 use Rattle.lu_msg.specs.declared.calls.Call.TheVariants.{Flush, Glimpse}
 use Rattle.lu_msg.specs.declared.messages.Reply.{Reply as ReplyTo}
+use Rattle.lu_held.specs.declared.names.LockName.{LockName}
 use Rattle.lu_words.specs.Carried.{Deed, Flight, Plain, Bad, Running}
 use Rattle.lu_words.specs.Words.{Entry, Told, Act, Txn as Made, Line, line}
 use Rattle.lu_words.specs.Concerns.{only}
@@ -19,7 +21,7 @@ use Rattle.lu_covered.specs.Known.{notes_at, known_answer}
 use Rattle.lu_laws.specs.Words.Pasts.{same_turn}
 use Rattle.lu_laws.specs.Words.Calls.{heard_in}
 use Rattle.lu_laws.specs.Words.Requests.{asked}
-use Rattle.lu_guards.proofs.Guards.{Noticed}
+use Rattle.lu_guards.proofs.Guards.{Noticed, Reads, StatOf}
 use Rattle.lu_facts.proofs.Groups.{Acted}
 use Rattle.lu_facts.proofs.OnNames.{IsPlain, told_so}
 use Rattle.lu_facts.proofs.Known.{HeardBy}
@@ -118,6 +120,31 @@ FlushedAt past at c slot named given =
       own : same_turn named at ≡ true;
     }
 
+-- of a read on a good handle: there are no bytes
+abbrev pub ReadAt : List Line → At → (c slot : ℕ) → At → Answer → Type 0
+ReadAt past at c slot named given =
+    record {
+      running : Running;
+      call : call_at c slot past ≡ Some running;
+      read : Reads running;
+      answer : given ≡ told.Content [];
+      turn : named ≡ at;
+      own : same_turn named at ≡ true;
+    }
+
+-- of a stat of a file: it has no bytes
+abbrev pub StatAt : List Line → At → (c slot : ℕ) → At → Answer → Type 0
+StatAt past at c slot named given =
+    record {
+      running : Running;
+      call : call_at c slot past ≡ Some running;
+      pins : List LockName;
+      stat : StatOf past at c running pins;
+      answer : given ≡ told.FileSize stat.fid stat.mode stat.links 0;
+      turn : named ≡ at;
+      own : same_turn named at ≡ true;
+    }
+
 abbrev pub TellsAt : List Line → At → Node → (slot : ℕ) → At → Answer → Type 0
 TellsAt past at (Client c) slot named given =
     AnswersAt past at c named given
@@ -126,6 +153,8 @@ TellsAt past at (Client c) slot named given =
     ⊎ BadAt past at c slot named given
     ⊎ SizesAt past at c slot named given
     ⊎ FlushedAt past at c slot named given
+    ⊎ ReadAt past at c slot named given
+    ⊎ StatAt past at c slot named given
 TellsAt past at (Target t) slot named given = Unit {0}
 
 abbrev pub AllTold : List Line → Type 0

@@ -13,7 +13,7 @@ use Rattle.lu_msg.specs.declared.commits.Transaction.{Transaction}
 use Rattle.lu_msg.specs.declared.messages.Message.TheVariants as message
 use Rattle.lu_msg.specs.declared.messages.Reply.{Reply as ReplyTo}
 use Rattle.lu_words.specs.Carried.{Deed, Flight, Outcome}
-use Rattle.lu_words.specs.Words.{Entry, Heard, Act, Txn as Made, Commit, Close, Line, line}
+use Rattle.lu_words.specs.Words.{Entry, Heard, Act, Txn as Made, Grant, Commit, Close, Line, line}
 use Rattle.lu_words.specs.Concerns.{concerns, only}
 use Rattle.lu_target_rows.specs.Stored.{last_number}
 use Rattle.lu_covered.specs.TargetStates.{server_of}
@@ -27,7 +27,7 @@ use Rattle.lu_guards.proofs.Lists.{self}
 use Rattle.lu_guards.proofs.Grown.{Allowed, Grown}
 use Rattle.lu_facts.proofs.Groups.{turn, Acted, Evicted, Had, HasSlot, HeardAs, IsMade, History, HoldsAt}
 use Rattle.lu_facts.proofs.All.{holds}
-use Rattle.lu_facts.proofs.Sides.{acted_sized}
+use Rattle.lu_facts.proofs.Sides.{acted_object}
 use Rattle.lu_lawful.proofs.Story.{about_it, made_story}
 use Rattle.lu_lawful.proofs.Sized.{deed_unseen}
 use Rattle.lu_lawful.proofs.Deeds.{txn_is}
@@ -100,6 +100,7 @@ module _ (head : Head) (out : Who → Bool) (lost : ℕ → ℕ → Bool) (whole
             ih (λ x b. a x (inr b)) (λ n b. m n (inr b)),
           )
       by node (Act d) k a m ih = ih (λ x b. a x (inr b)) m
+      by node (Grant lock asked) k a m ih = ih (λ x b. a x (inr b)) m
       by node e k a m ih = ih a m
 
   -- no transaction has the number 0
@@ -141,7 +142,7 @@ module _ (head : Head) (out : Who → Bool) (lost : ℕ → ℕ → Bool) (whole
         λ o.
             let ok = k.0.of (suc t) (self (suc t)) in
             let m = ((holds head past k.1).at (suc t)).done.sent (Target ok.from) (Client c) (message.Reply r) ok.was in
-            let sized = acted_sized head past (suc t) m.deed (omega arith) k.1 m.acted in
+            let sized = acted_object head past (suc t) m.deed (omega arith) k.1 m.acted in
             let unseen = deed_unseen head past (suc t) m.deed k.1 (omega arith) m.acted in
             let number : r.txn.0 ≡ 0 = ap (λ (v : ReplyTo). v.txn.0) m.is ∙ ap (λ (n : TxnOf). n.0) sized.number in
             (subst (λ (n : ℕ). lost 0 n ≡ false) (sym number) (none 0 (not_zero whole g)), subst (AllStand lost) (sym (ap (λ (v : ReplyTo). v.seen) m.is ∙ unseen)) tt),

@@ -1,6 +1,6 @@
 -- The law of glimpses: no item of the history changes bytes, so each object of the plain machine is empty after every turn; and each size
 -- that a glimpse is told is 0.
-use Rattle.std.proofs.Common.{◌≡◌, ℕ, zero, suc, Bool, false, List, [], ◌∷◌, Option, Some, None, inl, inr, refl, sym, subst, ap, ◌∙◌, arith}
+use Rattle.std.proofs.Common.{◌≡◌, ℕ, suc, Bool, false, List, [], ◌∷◌, Option, Some, None, inl, inr, refl, sym, subst, ap, ◌∙◌}
 use Rattle.std.specs.Prelude.{nat_eq, ◌+◌, ◌||◌}
 use Rattle.std.specs.List.{list_any}
 use Rattle.std.proofs.lemmas.Bool.{cond_both}
@@ -8,29 +8,23 @@ use Rattle.lu_base.specs.declared.ids.At.{At}
 use Rattle.lu_base.specs.declared.ids.Fid.{Fid}
 use Rattle.lu_base.specs.declared.ids.Node.{Node}
 use Rattle.lu_base.specs.declared.ids.Node.TheVariants.{Client, Target}
-use Rattle.lu_base.specs.declared.ids.Txn.{Txn as TxnOf}
 use Rattle.lu_base.specs.declared.ids.Who.{Who}
 use Rattle.lu_msg.specs.declared.answers.Answer.{Answer}
 use Rattle.lu_msg.specs.declared.answers.Answer.TheVariants as told
-use Rattle.lu_msg.specs.declared.operations.Op.{Op}
 use Rattle.lu_trace.specs.declared.entries.Entry.{Entry as PrintedEntry}
 use Rattle.lu_trace.specs.declared.entries.Entry.TheVariants as trace
 use Rattle.lu_trace.specs.declared.entries.Line.{Line as PrintedLine}
-use Rattle.lu_machine.specs.declared.acts.Act.{Act as ActOf}
 use Rattle.lu_machine.specs.Bytes.{FileBytes, object_at}
-use Rattle.lu_machine.specs.Machine.{Machine, bytes_of, object_of}
+use Rattle.lu_machine.specs.Machine.{Machine, object_of}
 use Rattle.lu_machine.specs.Objects.{object_size}
-use Rattle.lu_machine.proofs.Transactions.{flushes_stay}
-use Rattle.lu_words.specs.Words.{Entry, Told, Txn as Made, Line, line}
+use Rattle.lu_words.specs.Words.{Entry, Told, Line, line}
 use Rattle.lu_words.specs.Sent.{count_sent}
 use Rattle.lu_words.specs.Printed.{printed_entry, printed}
 use Rattle.lu_covered.specs.Covered.{IsOnSizes}
 use Rattle.lu_covered.specs.Heads.{Head}
 use Rattle.lu_laws.specs.Words.Pasts.{Past, same_turn}
-use Rattle.lu_laws.specs.Words.Lives.{who_is, is_gone}
+use Rattle.lu_laws.specs.Words.Lives.{is_gone}
 use Rattle.lu_laws.specs.Words.Calls.{Begun, open_call}
-use Rattle.lu_laws.specs.Words.Requests.{asked}
-use Rattle.lu_laws.specs.Words.Histories.{names_act, after_item, told_item, machine_of}
 use Rattle.lu_laws.specs.Words.Glimpses.{to_turn_end, machine_cut, has_size, peeked}
 use Rattle.lu_laws.specs.Words.Lost.{is_lost}
 use Rattle.lu_laws.specs.Holds.{Holds}
@@ -42,46 +36,15 @@ use Rattle.lu_lawful.proofs.Lines.{Keeps, shown, holds_due}
 use Rattle.lu_lawful.proofs.Facts.{SizesAt, TellsAt, AllTold, told_earlier}
 use Rattle.lu_lawful.proofs.Fine.{are_sizes, deed_fine, so_fine, known_fine}
 use Rattle.lu_lawful.proofs.Handles.{good_stage, file_there, meant_is}
-use Rattle.lu_lawful.proofs.HistoryLaw.{ToldAdds, flush_of, told_adds}
+use Rattle.lu_lawful.proofs.ToldItems.{NoBytes, no_bytes}
 use Rattle.lu_lawful.proofs.Sized.{AllEmpty}
 use Rattle.lu_lawful.proofs.ToldLaw.{all_told}
 
 -- ---- no file has bytes
 
-abbrev NoBytes : Machine → Type 0
-NoBytes m = (f : Fid) → bytes_of m f ≡ []
-
 -- so each object is empty
 no_object : (m : Machine) (f : Fid) (stripe : ℕ) → NoBytes m → object_size (object_of m f stripe) ≡ 0
 no_object m f stripe none = ap (λ (b : FileBytes). object_size (object_at b stripe)) (none f)
-
-module _ (head : Head) (out : Who → Bool) (lost : ℕ → ℕ → Bool) where
-  abbrev machine : List Line → Machine
-  machine past = machine_of out lost head.osts (printed past)
-
-  names_leave : (m : Machine) (who : Who) (number : TxnOf) (o : Option Op) → NoBytes m → NoBytes (after_item head.osts m (names_act who number o))
-  names_leave m who number None none = none
-  names_leave m who number (Some o) none = none
-
-  adds_none : (m : Machine) (who : Who) (i : Option ActOf) → ToldAdds who i → NoBytes m → NoBytes (after_item head.osts m i)
-  adds_none m who i (inl e) none = subst (λ (x : Option ActOf). NoBytes (after_item head.osts m x)) (sym e) none
-  adds_none m who i (inr (inl k)) none = subst (λ (x : Option ActOf). NoBytes (after_item head.osts m x)) (sym k.1) none
-  adds_none m who i (inr (inr f)) none = subst (λ (x : Option ActOf). NoBytes (after_item head.osts m x)) (sym f.2) (λ g. (flushes_stay head.osts m (flush_of who f.0 f.1) f.0 f.1).bytes g ∙ none g)
-
-  no_bytes : (past : List Line) → Grown head past → AllTold past → NoBytes (machine past)
-  no_bytes [] g t = λ f. refl
-  no_bytes (l ∷ past) g t = by l.at.node l.entry g.0 t (no_bytes past g.1 (told_earlier l past t))
-    where
-      by : (node : Node) (e : Entry) → Allowed head past (turn l.at.stamp node) e → AllTold (line (turn l.at.stamp node) e ∷ past) → NoBytes (machine past) → NoBytes (machine (line (turn l.at.stamp node) e ∷ past))
-      by (Client c) (Made d) k t none = absurd k.ok
-      by (Target zero) (Made d) k t none =
-          cond_both (lost 0 d.reply.txn.0) None (names_act d.reply.who d.reply.txn (asked (printed past) 0 d.reply.who d.reply.xid.0)) (λ (i : Option ActOf). NoBytes (after_item head.osts (machine past) i))
-          (λ _. none) (λ _. names_leave (machine past) d.reply.who d.reply.txn (asked (printed past) 0 d.reply.who d.reply.xid.0) none)
-      by (Target (suc u)) (Made d) k t none = let no = k.ok in absurd (omega (arith, no))
-      by (Client c) (Told slot named given work) k t none =
-          adds_none (machine past) (who_is c (printed past)) (told_item out (printed past) (turn l.at.stamp (Client c)) (Client c) slot named given) (told_adds head out past l.at.stamp c slot named given g.1 t.0) none
-      by (Target u) (Told slot named given work) k t none = absurd k.ok
-      by _ _ k t none = none
 
 -- ---- the trace cut after this turn
 
@@ -142,7 +105,9 @@ module _ (head : Head) (out : Who → Bool) where
     where
       SizesBy : Node → Type 0
       SizesBy n = laws.SizesAt out head.osts (printed past) l later n slot k.sizes
-  told_law past l later c slot named given here g none (inr (inr (inr (inr (inr k))))) = quiet (printed past) l later slot named given (ap are_sizes k.answer)
+  told_law past l later c slot named given here g none (inr (inr (inr (inr (inr (inl k)))))) = quiet (printed past) l later slot named given (ap are_sizes k.answer)
+  told_law past l later c slot named given here g none (inr (inr (inr (inr (inr (inr (inl k))))))) = quiet (printed past) l later slot named given (ap are_sizes k.answer)
+  told_law past l later c slot named given here g none (inr (inr (inr (inr (inr (inr (inr k))))))) = quiet (printed past) l later slot named given (ap are_sizes k.answer)
 
   -- ---- the law
 

@@ -18,14 +18,15 @@ use Rattle.lu_msg.specs.declared.answers.Errno.TheVariants.{EBADF}
 use Rattle.lu_msg.specs.declared.calls.Call.{Call}
 use Rattle.lu_msg.specs.declared.calls.Call.TheVariants as call
 use Rattle.lu_msg.specs.declared.messages.Reply.{Reply as ReplyTo}
+use Rattle.lu_held.specs.declared.names.LockName.{LockName}
 use Rattle.lu_msg.specs.declared.operations.Op.{Op}
 use Rattle.lu_msg.specs.declared.operations.Op.TheVariants as op
 use Rattle.lu_trace.specs.declared.entries.Entry.{Entry as PrintedEntry}
 use Rattle.lu_trace.specs.declared.entries.Entry.TheVariants as trace
 use Rattle.lu_machine.specs.Fits.{answer_fits}
 use Rattle.lu_machine.specs.Tree.{same_life}
-use Rattle.lu_words.specs.Carried.{Deed, HandleFile, Asking, Unasked, Stage, Plain, Bad, Sizes, Work, Running}
-use Rattle.lu_words.specs.Words.{Entry, Begin, Told, Life, Act, Txn as Made, Line, line}
+use Rattle.lu_words.specs.Carried.{Deed, HandleFile, Asking, Unasked, Stage, Plain, Bad, Work, Running}
+use Rattle.lu_words.specs.Words.{Entry, Begin, Told, Life, Act, Txn as Made, Grant, Line, line}
 use Rattle.lu_words.specs.Printed.{printed}
 use Rattle.lu_client_rows.specs.Slots as slots
 use Rattle.lu_covered.specs.Calls.{call_at, life_at, operation_of, becomes, told_as, opened_by, opened, binds, told_file, begun_file, file_at, file_for, is_opening, is_bad}
@@ -49,11 +50,12 @@ use Rattle.lu_facts.proofs.Transactions.{opened_number}
 use Rattle.lu_lawful.proofs.Turns.{same_turn_is}
 use Rattle.lu_lawful.proofs.Printed.{flip, its_client, life_number, present_is, OfBoth, both_calls, calls_are}
 use Rattle.lu_lawful.proofs.Hearing.{just_heard}
-use Rattle.lu_lawful.proofs.Sized.{answers_first}
+use Rattle.lu_lawful.proofs.Story.{grant_made}
 use Rattle.lu_lawful.proofs.ActsLaw.{own_line}
 use Rattle.lu_lawful.proofs.Deeds.{act_for}
 use Rattle.lu_lawful.proofs.Once.{txn_now}
 use Rattle.lu_facts.proofs.Lines.{acted_whole}
+use Rattle.lu_facts.proofs.ToldFiles.{plain_first}
 use Rattle.lu_guards.proofs.ClientHandles.{none_there}
 
 -- ---- a life that hasn't begun has no handles
@@ -154,6 +156,8 @@ number_is head (l ∷ past) d g a high = by l.at.node l.entry g.0 a (λ i. numbe
         let r = and_parts (pasts.is_target 0 (Target t)) (pasts.same_turn (turn l.at.stamp (Target t)) d.reply.at) q.0 in
         now.now d i (sym (same_turn_is (turn l.at.stamp (Target t)) d.reply.at r.1)) (sym (life_is e.reply.who d.reply.who q.1)) (sym (eqb-true e.reply.xid.0 d.reply.xid.0 p.1)))
         (h i)
+    by node (Grant lock asked) k (inl q) h = h (grant_made head past l.at.stamp node lock asked d k q high)
+    by node (Grant lock asked) k (inr i) h = h i
     by _ _ k a h = h a
 
 -- an open that is told ok binds its handle to the file of the reply
@@ -170,7 +174,7 @@ module _ (head : Head) (c : ℕ) (past : List Line) (stamp : Stamp) (g : Grown h
   its_number slot other path named given work ok f is says =
       let replied = (holds head past g).replies c slot ok.target ok.running ok.reply ok.call ok.answered in
       let d = replied.deed in
-      let just = subst (λ (t : ℕ). JustHeard past at t ok.reply) (answers_first ok.running ok.target d.op replied.op ok.good).0 ok.heard in
+      let just = subst (λ (t : ℕ). JustHeard past at t ok.reply) (plain_first ok.running ok.target d.op replied.op ok.good).0 ok.heard in
       let acted = acted_whole ok.target past d replied.acted in
       let answered : d.reply.answer ≡ told.OpenFile f.fid f.number f.layout = ap (λ (v : ReplyTo). v.answer) replied.is ∙ says in
       let made = opened_number head past d f.fid f.number f.layout g acted answered in
@@ -190,7 +194,7 @@ module _ (head : Head) (c : ℕ) (past : List Line) (stamp : Stamp) (g : Grown h
       let replied = (holds head past g).replies c slot ok.target ok.running ok.reply ok.call ok.answered in
       let d = replied.deed in
       let fits = (acted_answered head past d g (acted_whole ok.target past d replied.acted)).0 in
-      let becomes_it : Some (op.Open path) ≡ Some d.op = ap (λ (v : Call). operation_of ok.running.file v) (sym is) ∙ (answers_first ok.running ok.target d.op replied.op ok.good).1 in
+      let becomes_it : Some (op.Open path) ≡ Some d.op = ap (λ (v : Call). operation_of ok.running.file v) (sym is) ∙ (plain_first ok.running ok.target d.op replied.op ok.good).1 in
       let asks_it : d.op ≡ op.Open path = cc in
       let answered : d.reply.answer ≡ told.Made f = ap (λ (v : ReplyTo). v.answer) replied.is ∙ says in
       let both : answer_fits (op.Open path) (told.Made f) ≡ true = ap (λ (v : Op). answer_fits v (told.Made f)) (sym asks_it) ∙ ap (λ (v : Answer). answer_fits d.op v) (sym answered) ∙ fits in
@@ -271,7 +275,10 @@ module _ (head : Head) (c h : ℕ) where
       by (inr (inr (inl a))) = inl (refl, noticed_more (line (turn stamp (Client c)) (Told slot named given work)) past (turn stamp (Client c)) (life_at c past) a.notice)
       by (inr (inr (inr (inl a)))) = inr (of a.running a.call (λ other path is. asked_none a.running.asking (bad_unasked head past g c slot a.running a.call a.bad) (told.Refused EBADF) a.of_answer refl))
       by (inr (inr (inr (inr (inl a))))) = inr (of a.running a.call (λ other path is. let no : call.Open other path ≡ call.Glimpse a.handle = sym is ∙ a.glimpses in absurd (cc)))
-      by (inr (inr (inr (inr (inr a))))) = inr (of a.running a.call (λ other path is. let no : call.Open other path ≡ call.Flush a.handle = sym is ∙ a.flushes in absurd (cc)))
+      by (inr (inr (inr (inr (inr (inl a)))))) = inr (of a.running a.call (λ other path is. let no : call.Open other path ≡ call.Flush a.handle = sym is ∙ a.flushes in absurd (cc)))
+      by (inr (inr (inr (inr (inr (inr (inl a))))))) =
+          inr (of a.running a.call (λ other path is. let no : call.Open other path ≡ call.Read a.read.handle a.read.offset a.read.count = sym is ∙ a.read.reads in absurd (cc)))
+      by (inr (inr (inr (inr (inr (inr (inr a))))))) = inr (of a.running a.call (λ other path is. let no : call.Open other path ≡ call.Stat a.stat.path = sym is ∙ a.stat.stats in absurd (cc)))
 
   tied : (past : List Line) → Grown head past → Ending past c ⊎ IsTied past
   tied [] g = inr refl
@@ -386,6 +393,7 @@ module _ (head : Head) (c : ℕ) (past : List Line) (g : Grown head past) (at : 
   meant_good x file fine is o e = absurd (cc)
 
   meant_sizes : (x : Call) (file : Option HandleFile) → is_bad c past x ≡ false → IsOnSizes x → IsMeant x file Plain
+  meant_sizes (call.Read h offset count) file fine sizes = (refl, sym (close_bad h ∙ fine))
   meant_sizes (call.Flush h) file fine sizes = (refl, sym (close_bad h ∙ fine))
   meant_sizes (call.Glimpse h) file fine sizes = (refl, sym (close_bad h ∙ fine))
   meant_sizes x file fine sizes = absurd sizes
@@ -416,6 +424,7 @@ open_bound c slot [] b e sizes = absurd (cc)
 open_bound c slot (l ∷ past) b e sizes = by l.entry e (λ q. open_bound c slot past b q sizes)
   where
     its_own : (x : Call) → IsOnSizes x → calls.is_bad c past x ≡ not (is_some (calls.bound_by c past (calls.handle_of x)))
+    its_own (call.Read h offset count) sizes = refl
     its_own (call.Flush h) sizes = refl
     its_own (call.Glimpse h) sizes = refl
     its_own x sizes = absurd sizes
@@ -459,8 +468,8 @@ pub good_stage : (s : Stage) → (s ≡ Bad → ⊥) → is_bad_stage s ≡ fals
 good_stage Bad good = absurd (good refl)
 good_stage s good = refl
 
-meant_stands : (work : Work) (a : Running) (b : calls.Begun) → (a.stage ≡ Bad → ⊥) → IsMeantBy a b → IsMeantBy (record a { stage = Sizes work }) b
-meant_stands work a b good s = (s.0, s.1, s.2, sym (good_stage a.stage good) ∙ s.3)
+meant_stands : (stage : Stage) (pins : List LockName) (a : Running) (b : calls.Begun) → (a.stage ≡ Bad → ⊥) → (stage ≡ Bad → ⊥) → IsMeantBy a b → IsMeantBy (record a { stage = stage; pins = pins }) b
+meant_stands stage pins a b good better s = (s.0, s.1, s.2, good_stage stage better ∙ sym (good_stage a.stage good) ∙ s.3)
 
 -- the call that stands in a slot by the laws: the same, for the metadata target what it becomes, and bad where it began so
 pub meant_is : (head : Head) (c slot : ℕ) (past : List Line) (running : Running) → Grown head past → call_at c slot past ≡ Some running

@@ -4,8 +4,8 @@
 use Rattle.std.proofs.Common.{◌*◌, ◌≡◌, ℕ, zero, suc, ◌+◌, ◌<◌, ◌≤◌, Bool, true, false, List, [], ◌∷◌, ◌⊎◌, Option, Some, None, inl, inr, ⊎_elim, refl, sym, subst, ap, ◌∙◌, arith}
 use Rattle.std.specs.Prelude.{nat_eq, not, ◌&&◌, ◌||◌, if◌then◌else◌}
 use Rattle.std.specs.List.{list_any}
-use Rattle.std.specs.Option.{option_map}
 use Rattle.std.proofs.lemmas.Bool.{cond_both, and_parts, eqb-true}
+use Rattle.std.proofs.lemmas.Bool.Decides.{nat_tests}
 use Rattle.lu_base.specs.declared.ids.At.{At}
 use Rattle.lu_base.specs.declared.ids.Fid.{Fid}
 use Rattle.lu_base.specs.declared.ids.Node.{Node}
@@ -17,35 +17,33 @@ use Rattle.lu_msg.specs.declared.answers.Answer.{Answer}
 use Rattle.lu_msg.specs.declared.answers.Answer.TheVariants as told
 use Rattle.lu_msg.specs.declared.answers.Errno.{Errno}
 use Rattle.lu_msg.specs.declared.answers.Errno.TheVariants.{EIO}
-use Rattle.lu_msg.specs.declared.calls.Call.{Call}
 use Rattle.lu_msg.specs.declared.calls.Call.TheVariants as call
 use Rattle.lu_msg.specs.declared.messages.Reply.{Reply as ReplyTo}
 use Rattle.lu_msg.specs.declared.operations.Op.{Op}
+use Rattle.lu_msg.specs.declared.operations.Op.TheVariants as op
 use Rattle.lu_part.specs.Meets.{meets}
 use Rattle.lu_part.specs.declared.parts.Part.{Part}
 use Rattle.lu_trace.specs.declared.entries.Line.{Line as PrintedLine}
 use Rattle.lu_machine.specs.declared.acts.Act.{Act as ActOf}
-use Rattle.lu_machine.specs.declared.acts.Deed.{Deed as DeedOf}
-use Rattle.lu_machine.specs.declared.acts.Deed.TheVariants.{Names, Data}
 use Rattle.lu_machine.specs.Tree.{Tree, same_life}
 use Rattle.lu_machine.specs.Footprint.{Operation, empty, answer, touches, changes, after, forget, Every, Apart, Same}
 use Rattle.lu_machine.specs.Removal.{Item, Acts, pick}
 use Rattle.lu_machine.specs.Seen.{meet, seen, SawKept, AllSawKept}
-use Rattle.lu_machine.specs.Laws.{Alike}
-use Rattle.lu_machine.specs.Machine.{Machine, names_answer}
+use Rattle.lu_machine.specs.Laws.{IsReading, Alike}
+use Rattle.lu_machine.specs.Fits.{answer_fits}
+use Rattle.lu_machine.specs.Machine.{Machine, as_told, names_answer, data_answer}
 use Rattle.lu_machine.proofs.Fits.{answers_fit}
 use Rattle.lu_machine.proofs.Footprints.{every_one}
 use Rattle.lu_machine.proofs.Stated.{refusals_stay, touched_decide, new_from_old}
 use Rattle.lu_machine.proofs.Removal.{earlier_are_older}
 use Rattle.lu_machine.proofs.Seen.{removal_by_seen}
-use Rattle.lu_machine.proofs.Transactions.{readings_change_nothing, machine_is_table, flushes_stay}
-use Rattle.lu_words.specs.Carried.{Deed, Outcome, Work, Running, HandleFile}
-use Rattle.lu_words.specs.Words.{Entry, Heard, Told, Act, Txn as Made, Commit, Close, Evict, Line, line}
+use Rattle.lu_machine.proofs.Transactions.{readings_change_nothing, machine_is_table}
+use Rattle.lu_words.specs.Carried.{Deed, Outcome, Work, Stage, Plain, Bad, Running}
+use Rattle.lu_words.specs.Words.{Entry, Heard, Told, Act, Txn as Made, Grant, Commit, Close, Evict, Line, line}
 use Rattle.lu_words.specs.Concerns.{concerns, only}
 use Rattle.lu_words.specs.Printed.{printed}
-use Rattle.lu_covered.specs.Calls.{life_at, call_at, operation_of, becomes}
-use Rattle.lu_covered.specs.Covered.{IsOnSizes}
-use Rattle.lu_covered.specs.Known.{notes_at, known_answer}
+use Rattle.lu_covered.specs.Calls.{life_at, call_at, operation_of}
+use Rattle.lu_covered.specs.Known.{notes_at}
 use Rattle.lu_covered.specs.TargetParts.{operation}
 use Rattle.lu_covered.specs.TargetStates.{boot_at, count_at, committed_at, tree_at, log_at, server_at, server_of, seen_in}
 use Rattle.lu_covered.specs.TargetCloses.{is_lost, loses, closing_of}
@@ -54,9 +52,8 @@ use Rattle.lu_covered.specs.Heads.{Head}
 use Rattle.lu_laws.specs.Words.Pasts.{same_turn, is_target}
 use Rattle.lu_laws.specs.Words.Lives.{who_is, is_evicted, is_gone}
 use Rattle.lu_laws.specs.Words.Requests.{asked}
-use Rattle.lu_laws.specs.Words.Calls.{Begun, open_call, file_of}
-use Rattle.lu_laws.specs.Words.Calls.{operation as operation_in}
-use Rattle.lu_laws.specs.Words.Histories.{none, data_deed, deed_on, deed_of, act_of, names_act, call_act, acts_as, is_answer, is_counted, told_item, after_item, machine_of, answer_to, answer_there}
+use Rattle.lu_laws.specs.Words.Calls.{Begun, open_call}
+use Rattle.lu_laws.specs.Words.Histories.{none, names_act, acts_as, is_answer, is_counted, told_item, after_item, machine_of, answer_to, answer_there}
 use Rattle.lu_laws.specs.Holds.{Holds}
 use Rattle.lu_laws.proofs.Leaves.{acts_leave}
 use Rattle.lu_laws.proofs.Tests.{both, settled}
@@ -65,10 +62,10 @@ use Rattle.lu_laws.specs.Laws.History as law
 use Rattle.lu_lawful.specs.Fits.{AllStand, SeenStand, ReplyStands, HeardStand, CommitsStand, EvictedOut, WasMade, Fits}
 use Rattle.lu_guards.proofs.Guards.{In}
 use Rattle.lu_guards.proofs.Grown.{Allowed, Grown}
+use Rattle.lu_guards.proofs.PinsFit.{PinsFit}
 use Rattle.lu_guards.proofs.Lists.{life_is, life_self}
 use Rattle.lu_guards.proofs.Parts.{tree_is, log_is, committed_is}
 use Rattle.lu_guards.proofs.ClientLocks.{any_true}
-use Rattle.lu_guards.proofs.Held.{not_zero}
 use Rattle.lu_facts.proofs.Finds.{numbers_at, numbers_up}
 use Rattle.lu_facts.proofs.Groups.{turn, Acted, Evicted, IsMade, Stands, History, items_of, items_after, forgetting}
 use Rattle.lu_facts.proofs.ItemLists.{same_forgot, in_seen, pick_forgetting}
@@ -77,14 +74,15 @@ use Rattle.lu_facts.proofs.Lines.{acted_whole}
 use Rattle.lu_facts.proofs.OnNames.{IsPlain, told_so, reading_told}
 use Rattle.lu_facts.proofs.Refused.{acted_plain}
 use Rattle.lu_facts.proofs.Known.{right, SawBy, known_saw, heard_by_whole}
+use Rattle.lu_facts.proofs.StatFacts.{stat_right}
 use Rattle.lu_lawful.proofs.Commits.{made_more}
 use Rattle.lu_lawful.proofs.Lines.{Keeps, holds_before}
 use Rattle.lu_lawful.proofs.Turns.{same_turn_is}
 use Rattle.lu_lawful.proofs.ActsLaw.{act_zero, own_line}
-use Rattle.lu_lawful.proofs.Once.{NoneNow, act_now, txn_now}
+use Rattle.lu_lawful.proofs.Once.{NoneNow, act_now, txn_now, granted_first}
 use Rattle.lu_lawful.proofs.Lost.{lost_whole, stood_before}
 use Rattle.lu_lawful.proofs.HistoryItems.{whole, keep, same_as, same_trans, same_self, same_forgetting, pick_again, seen_stays, all_saw}
-use Rattle.lu_lawful.proofs.Facts.{AskedAt, AllAsked, AnswersAt, KnewAt, FlushedAt, TellsAt, AllTold, told_earlier}
+use Rattle.lu_lawful.proofs.Facts.{AskedAt, AllAsked, AnswersAt, KnewAt, FlushedAt, ReadAt, StatAt, TellsAt, AllTold, told_earlier}
 use Rattle.lu_lawful.proofs.Contents.{number_is, asked_before}
 use Rattle.lu_lawful.proofs.Deeds.{ActIs, TxnIs, act_is, txn_is}
 use Rattle.lu_lawful.proofs.Plain.{told_plain}
@@ -92,9 +90,12 @@ use Rattle.lu_lawful.proofs.Fine.{known_operation}
 use Rattle.lu_lawful.proofs.Printed.{present_is, open_is}
 use Rattle.lu_lawful.proofs.CloseLines.{nothing_left}
 use Rattle.lu_lawful.proofs.CloseSlots.{LeftEvict, evicted_law}
-use Rattle.lu_lawful.proofs.Story.{about_it, target_is, story_at, made_story}
+use Rattle.lu_lawful.proofs.Story.{about_it, target_is, story_at, grant_made, made_story}
 use Rattle.lu_lawful.proofs.ToldLaw.{Lasting, heard_stands, same_stands}
-use Rattle.lu_lawful.proofs.Handles.{is_bad_stage, file_there, meant_is}
+use Rattle.lu_lawful.proofs.ToldItems.{known_act, IsStill, still_there, still_stays, ToldAdds, told_adds, no_bytes, stat_none, read_none}
+
+not_zero : (t : ℕ) → nat_eq 0 (suc t) ≡ false
+not_zero t = grind (arith, nat_tests)
 
 commits_before : (osts : ℕ) (lost : ℕ → ℕ → Bool) (l : Line) (past : List Line) → CommitsStand osts lost (l ∷ past) → CommitsStand osts lost past
 commits_before osts lost l past = by l.entry
@@ -217,6 +218,8 @@ was_made head (l ∷ past) d g a made = by l.at.node l.entry g.0 a (λ b. was_ma
     by node (Act e) k (inr b) ih = ih b
     by node (Made e) k (inl same) ih = inl (ap (λ (x : Deed). x.reply.txn.0) same)
     by node (Made e) k (inr b) ih = inr (ih b)
+    by node (Grant lock asked) k (inl q) ih = ih (grant_made head past l.at.stamp node lock asked d k q made)
+    by node (Grant lock asked) k (inr b) ih = ih b
     by node e k b ih = ih b
 
 module _ (head : Head) (lost : ℕ → ℕ → Bool) where
@@ -230,6 +233,8 @@ module _ (head : Head) (lost : ℕ → ℕ → Bool) where
       by node (Act e) k s (inr b) ih = ih s b
       by node (Made e) k s (inl same) ih = subst (λ (x : Deed). AllStand lost x.reply.seen) same (s.0 (ap (λ (x : Deed). lost 0 x.reply.txn.0) same ∙ stays))
       by node (Made e) k s (inr b) ih = ih s.1 b
+      by node (Grant lock asked) k s (inl q) ih = ih s (grant_made head past l.at.stamp node lock asked d k q made)
+      by node (Grant lock asked) k s (inr b) ih = ih s b
       by node e k s b ih = ih s b
 
   committed_in : (past : List Line) → Grown head past → CommitsStand head.osts lost past → (d : Deed) → Acted (only 0 past) d → IsMade d → Stands head.osts (only 0 past) d → d.reply.txn.0 ≤ (server_of head.osts (only 0 past)).committed.0 → lost 0 d.reply.txn.0 ≡ false
@@ -288,93 +293,6 @@ items_other head past stamp t e =
 none_left : (head : Head) (past : List Line) (who : Who) → closing_of head.clients past ≡ [] → LeftEvict head past who → ⊥
 none_left head past who quiet e = subst (λ (es : List Entry). In (Evict who e.0) es) quiet e.1
 
--- ---- a call whose answer is known
-
--- what it asks of the machine
-names_deed : (b : Begun) (file : Option HandleFile) (o : Op) → operation_of file b.call ≡ Some o → operation_in b ≡ Some o → deed_on b b.call ≡ Some (Names o)
-names_deed b file o e q = by b.call e (ap (option_map Names) q)
-  where
-    by : (k : Call) → operation_of file k ≡ Some o → option_map Names (operation_in b) ≡ Some (Names o) → deed_on b k ≡ Some (Names o)
-    by (call.Read h offset count) e q = absurd (cc)
-    by (call.Write h offset bytes) e q = absurd (cc)
-    by (call.Cut h size) e q = absurd (cc)
-    by (call.Flush h) e q = absurd (cc)
-    by (call.Glimpse h) e q = absurd (cc)
-    by _ e q = q
-
-known_act : (head : Head) (past : List Line) (c slot : ℕ) (r : Running) (o : Op) → Grown head past → call_at c slot past ≡ Some r → becomes r ≡ Some o
-    → call_act (printed past) c slot ≡ Some (record { who = who_is c (printed past); number = none; deed = Names o })
-known_act head past c slot r o g call is =
-    let b = meant_is head c slot past r g call in
-    ap (λ (v : Option Begun). act_of (who_is c (printed past)) none (deed_of v)) b.1
-    ∙ ap (λ (v : Option DeedOf). act_of (who_is c (printed past)) none v) (names_deed b.0 r.file o (ap (operation_of r.file) b.3 ∙ is) (sym b.4 ∙ is))
-
--- ---- what is told as an item of the history
-
--- a glimpse asks nothing of the machine
-glimpse_act : (head : Head) (past : List Line) (c slot : ℕ) (r : Running) (handle : ℕ) → Grown head past → call_at c slot past ≡ Some r → r.call ≡ call.Glimpse handle → call_act (printed past) c slot ≡ None
-glimpse_act head past c slot r handle g is glimpses =
-    let b = open_is head c slot past r g is in
-    ap (λ (v : Option Begun). act_of (who_is c (printed past)) none (deed_of v)) b.1
-    ∙ ap (λ (v : Call). act_of (who_is c (printed past)) none (deed_on b.0 v)) (b.3 ∙ glimpses)
-
--- a flush asks of the file of its handle
-abbrev pub flush_of : Who → Fid → ℕ → ActOf
-flush_of who file handle = record { who = who; number = none; deed = Data file (call.Flush handle) }
-
-flush_act : (head : Head) (past : List Line) (c slot : ℕ) (r : Running) (handle : ℕ) (file : Fid) (b : Begun) → open_call c slot (printed past) ≡ Some b → b.call ≡ call.Flush handle → file_of b ≡ Some file
-    → call_act (printed past) c slot ≡ Some (flush_of (who_is c (printed past)) file handle)
-flush_act head past c slot r handle file b is flushes of =
-    let who = who_is c (printed past) in
-    ap (λ (v : Option Begun). act_of who none (deed_of v)) is
-    ∙ ap (λ (v : Call). act_of who none (deed_on b v)) flushes
-    ∙ ap (λ (v : Option Fid). act_of who none (data_deed b.call v)) of
-    ∙ ap (λ (v : Call). act_of who none (Some (Data file v))) flushes
-
-flush_there : (head : Head) (past : List Line) (at : At) (c slot : ℕ) (named : At) (given : Answer) → Grown head past → (a : FlushedAt past at c slot named given)
-    → (file : Fid) × (call_act (printed past) c slot ≡ Some (flush_of (who_is c (printed past)) file a.handle))
-flush_there head past at c slot named given g a =
-    let m = meant_is head c slot past a.running g a.call in
-    let flushes : m.0.call ≡ call.Flush a.handle = m.3 ∙ a.flushes in
-    let good : m.0.bad ≡ false = sym m.5 ∙ ap is_bad_stage a.good in
-    let f = file_there c slot (printed past) m.0 m.1 (subst IsOnSizes (sym flushes) tt) good in
-    (f.0, flush_act head past c slot a.running a.handle f.0 m.0 m.1 flushes f.1)
-
--- what is told adds nothing, or an operation on names that reads, or a flush
-abbrev pub ToldAdds : Who → Option ActOf → Type 0
-ToldAdds who i = (i ≡ None) ⊎ ((o : Op) × (i ≡ Some (record { who = who; number = none; deed = Names o }))) ⊎ ((file : Fid) × (handle : ℕ) × (i ≡ Some (flush_of who file handle)))
-
-pub told_adds : (head : Head) (out : Who → Bool) (past : List Line) (stamp : Stamp) (c slot : ℕ) (named : At) (given : Answer) → Grown head past → TellsAt past (turn stamp (Client c)) (Client c) slot named given
-    → ToldAdds (who_is c (printed past)) (told_item out (printed past) (turn stamp (Client c)) (Client c) slot named given)
-told_adds head out past stamp c slot named given g tells = by tells
-  where
-    at : At
-    at = turn stamp (Client c)
-
-    who : Who
-    who = who_is c (printed past)
-
-    none_counts : (b : Bool) → (b && false) ≡ false
-    none_counts true = refl
-    none_counts false = refl
-
-    -- where it is an item at all
-    item : ToldAdds who (call_act (printed past) c slot) → ToldAdds who (if same_turn named at && is_answer given && not (out who) then call_act (printed past) c slot else None)
-    item adds = cond_both (same_turn named at && is_answer given && not (out who)) (call_act (printed past) c slot) None (λ (i : Option ActOf). ToldAdds who i) (λ _. adds) (λ _. inl refl)
-
-    uncounted : is_answer given ≡ false → (if same_turn named at && is_answer given && not (out who) then call_act (printed past) c slot else None) ≡ None
-    uncounted e =
-        ap (λ (b : Bool). if same_turn named at && b && not (out who) then call_act (printed past) c slot else None) e
-        ∙ ap (λ (b : Bool). if b && not (out who) then call_act (printed past) c slot else None) (none_counts (same_turn named at))
-
-    by : TellsAt past at (Client c) slot named given → ToldAdds who (told_item out (printed past) at (Client c) slot named given)
-    by (inl asks) = inl (ap (λ (b : Bool). if b && is_answer given && not (out who) then call_act (printed past) c slot else None) asks.other)
-    by (inr (inl knew)) = let k = known_operation (notes_at c past) knew.running.file knew.running.call given knew.known in item (inr (inl (k.0, known_act head past c slot knew.running k.0 g knew.call k.1)))
-    by (inr (inr (inl ends))) = inl (uncounted (ap is_answer ends.answer))
-    by (inr (inr (inr (inl bad)))) = inl (uncounted (ap is_answer bad.answer))
-    by (inr (inr (inr (inr (inl sizes))))) = item (inl (glimpse_act head past c slot sizes.running sizes.handle g sizes.call sizes.glimpses))
-    by (inr (inr (inr (inr (inr flushed))))) = let f = flush_there head past at c slot named given g flushed in item (inr (inr (f.0, flushed.handle, f.1)))
-
 -- ---- the law's machine
 
 module _ (head : Head) (out : Who → Bool) (lost : ℕ → ℕ → Bool) where
@@ -431,8 +349,8 @@ module _ (head : Head) (out : Who → Bool) (lost : ℕ → ℕ → Bool) where
           let same = ap (after_item head.osts (machine past)) k.1 ∙ acts_leave head.osts (machine past) (who_is c (printed past)) k.0 in
           (ap (λ (m : Machine). m.last) same, ap (λ (m : Machine). m.tree) same)
       by i (inr (inr f)) =
-          let stay = flushes_stay head.osts (machine past) (flush_of (who_is c (printed past)) f.0 f.1) f.0 f.1 in
-          (ap (λ (x : Option ActOf). (after_item head.osts (machine past) x).last) f.2 ∙ stay.last, ap (λ (x : Option ActOf). (after_item head.osts (machine past) x).tree) f.2 ∙ stay.tree)
+          let stay = still_stays head.osts (machine past) (who_is c (printed past)) f.0 f.1 f.2 in
+          (ap (λ (x : Option ActOf). (after_item head.osts (machine past) x).last) f.3 ∙ stay.last, ap (λ (x : Option ActOf). (after_item head.osts (machine past) x).tree) f.3 ∙ stay.tree)
 
   -- a close takes out what is lost at the end too
   follows_close : (past : List Line) (stamp : Stamp) (o : Outcome) → Grown head past → Fits head.osts out lost (line (turn stamp (Target 0)) (Close o) ∷ past) → Follows past → Follows (line (turn stamp (Target 0)) (Close o) ∷ past)
@@ -591,6 +509,8 @@ module _ (head : Head) (out : Who → Bool) (lost : ℕ → ℕ → Bool) where
           before_is _ _ _ (told_so d.reply.answer)
           (λ p. same_request e (txn_now head past l.at.stamp l.at.node e ok g.1).now i (and_parts (acts_as d.reply.at d.reply.who d.reply.xid.0 l.at e.reply.who e.reply.xid.0) (not (lost 0 e.reply.txn.0)) p).0)
           (h i)
+      by (Grant lock asked') ok a (inl q) h = h (granted_first head past l.at.stamp l.at.node lock asked' d ok q g.1 first)
+      by (Grant lock asked') ok a (inr i) h = h i
       by _ ok a b h = h b
 
   -- ---- the law, line by line
@@ -636,21 +556,35 @@ module _ (head : Head) (out : Who → Bool) (lost : ℕ → ℕ → Bool) where
   present : (past : List Line) (c : ℕ) → Grown head past → Fits head.osts out lost past → closing_of head.clients (only 0 past) ≡ [] → out (who_is c (printed past)) ≡ false → Evicted (only 0 past) (life_at c past) → ⊥
   present past c g f quiet stays gone = stays_in past (life_at c past) g f.gone quiet (ap out (sym (present_is head c past g)) ∙ stays) gone
 
-  -- all that it rests on stands: it is committed, or the life heard of it
-  known_stands : (past : List Line) (c : ℕ) (who : Who) (file : Option HandleFile) (k : Call) (o : Op) (given : Answer) → Grown head past → Fits head.osts out lost past → closing_of head.clients (only 0 past) ≡ [] → known_answer (notes_at c past) k ≡ Some given → operation_of file k ≡ Some o → out (who_is c (printed past)) ≡ false
-      → (e : Deed) → Acted past e → 0 < e.reply.txn.0 → Stands head.osts (only 0 past) e → meet e.writes (touches head.osts (tree_at head.osts 0 past) (record { number = none; who = who; op = o })) ≡ true → lost 0 e.reply.txn.0 ≡ false
-  known_stands past c who file k o given g f quiet known becomes stays e acted positive standing m =
-      let r = any_true (λ (p : Part). list_any (λ w. meets w p) e.writes) (touches head.osts (tree_at head.osts 0 past) (record { number = none; who = who; op = o })) m in
-      by r.0 r.2 (known_saw head past g c none who file k o given known becomes (present past c g f quiet stays) r.0 r.1 e (made_story head past e g acted positive) positive standing)
+  -- each transaction that stands and wrote what the operation looks at is committed, or the client's life heard of it
+  abbrev AllSeen : List Line → ℕ → Operation → Type 0
+  AllSeen past c o =
+      (p : Part) → In p (touches head.osts (tree_at head.osts 0 past) o) → (e : Deed) → Acted (only 0 past) e → IsMade e → Stands head.osts (only 0 past) e
+      → Apart e.writes p ⊎ ((e.reply.txn.0 ≤ (committed_at 0 past).0) ⊎ SawBy past c e.reply.txn.0)
+
+  -- so all that its answer rests on stands
+  known_stands : (past : List Line) (c : ℕ) (o : Operation) → Grown head past → Fits head.osts out lost past → out (who_is c (printed past)) ≡ false → AllSeen past c o
+      → (e : Deed) → Acted past e → 0 < e.reply.txn.0 → Stands head.osts (only 0 past) e → meet e.writes (touches head.osts (tree_at head.osts 0 past) o) ≡ true → lost 0 e.reply.txn.0 ≡ false
+  known_stands past c o g f stays saw e acted positive standing m =
+      let r = any_true (λ (p : Part). list_any (λ w. meets w p) e.writes) (touches head.osts (tree_at head.osts 0 past) o) m in by r.0 r.2 (saw r.0 r.1 e (made_story head past e g acted positive) positive standing)
     where
       clash : (ws : List Part) (p : Part) → Apart ws p → list_any (λ w. meets w p) ws ≡ true → ⊥
       clash [] p h q = absurd (cc)
       clash (w ∷ ws) p h q = clash ws p h.1 (subst (λ (b : Bool). (b || list_any (λ w. meets w p) ws) ≡ true) h.0 q)
 
-      by : (p : Part) → list_any (λ w. meets w p) e.writes ≡ true → Apart e.writes p ⊎ ((e.reply.txn.0 ≤ (committed_at 0 past).0) ⊎ SawBy head past g c none who file k o given known becomes e.reply.txn.0) → lost 0 e.reply.txn.0 ≡ false
+      by : (p : Part) → list_any (λ w. meets w p) e.writes ≡ true → Apart e.writes p ⊎ ((e.reply.txn.0 ≤ (committed_at 0 past).0) ⊎ SawBy past c e.reply.txn.0) → lost 0 e.reply.txn.0 ≡ false
       by p q (inl apart) = absurd (clash e.writes p apart q)
       by p q (inr (inl le)) = committed_stands head lost past g f.committed e.reply.txn.0 (was_made head past e g acted positive) standing le
       by p q (inr (inr saw)) = one_stands lost saw.reply.seen e.reply.txn.0 (heard_stands out lost past c saw.flight saw.reply f.heard saw.heard (ap out (saw.of ∙ sym (present_is head c past g)) ∙ stays)).1 saw.seen
+
+  -- and of one that reads, what the table answers is what the machine does
+  reads_law : (past : List Line) (c : ℕ) (o : Operation) (a : Answer) → Grown head past → AllAsked past → AllTold past → Fits head.osts out lost past → out (who_is c (printed past)) ≡ false
+      → IsReading o.op → a ≡ answer head.osts (tree_at head.osts 0 past) o → AllSeen past c o → names_answer head.osts (machine past) o ≡ as_told (machine past) a
+  reads_law past c o a g b t f stays reads is saw =
+      let seen_all = seen_stands head lost (touches head.osts (tree_at head.osts 0 past) o) past g (known_stands past c o g f stays saw) in
+      let same = alike_op past o g b t f (subst (λ (ps : List Part). Every (λ n. keep lost n ≡ true) (seen head.osts (whole head.osts) (items head past) ps)) (sym (tree_alike head past o g).touches) seen_all) in
+      let still = readings_change_nothing head.osts (machine past).tree o reads in
+      (machine_is_table head.osts (machine past) o (λ c. absurd (let s = still in cc))).0 ∙ ap (as_told (machine past)) (sym (is ∙ same.answer))
 
   -- what is told of what is known is what the machine answers then
   knew_law : (past : List Line) (stamp : Stamp) (c slot : ℕ) (named : At) (given : Answer) → Grown head past → AllAsked past → AllTold past → Fits head.osts out lost past → closing_of head.clients (only 0 past) ≡ []
@@ -659,19 +593,31 @@ module _ (head : Head) (out : Who → Bool) (lost : ℕ → ℕ → Bool) where
       let k = known_operation (notes_at c past) knew.running.file knew.running.call given knew.known in
       let who = who_is c (printed past) in
       let o : Operation = record { number = none; who = who; op = k.0 } in
-      let r = right head past g c none who knew.running.file knew.running.call k.0 given knew.known k.1 (present past c g f quiet out_not) in
-      let saw = seen_stands head lost (touches head.osts (tree_at head.osts 0 past) o) past g (known_stands past c who knew.running.file knew.running.call k.0 given g f quiet knew.known k.1 out_not) in
-      let same = alike_op past o g a t f (subst (λ (ps : List Part). Every (λ n. keep lost n ≡ true) (seen head.osts (whole head.osts) (items head past) ps)) (sym (tree_alike head past o g).touches) saw) in
-      let still = readings_change_nothing head.osts (machine past).tree o r.reads in
+      let stays = present past c g f quiet out_not in
+      let r = right head past g c none who knew.running.file knew.running.call k.0 given knew.known k.1 stays in
       subst (λ b. right_answer out lost head.osts (printed past) (turn stamp (Client c)) c slot named b ≡ Some given) (sym knew.own)
       (ap (λ (i : Option ActOf). answer_to head.osts (machine past) i) (known_act head past c slot knew.running k.0 g knew.call k.1)
-      ∙ ap (λ (v : Answer). Some v) ((machine_is_table head.osts (machine past) o (λ c. absurd (let s = still in cc))).0
-      ∙ told_plain (machine past) (answer head.osts (machine past).tree o) (subst IsPlain (r.same ∙ same.answer) r.plain)
-      ∙ reading_told k.0 (answer head.osts (machine past).tree o) r.reads (answers_fit head.osts (machine past).tree o) ∙ sym (r.same ∙ same.answer)))
+      ∙ ap (λ (v : Answer). Some v) (reads_law past c o given g a t f out_not r.reads r.same (known_saw head past g c none who knew.running.file knew.running.call k.0 given knew.known k.1 stays)
+      ∙ told_plain (machine past) given r.plain
+      ∙ reading_told k.0 given r.reads (subst (λ (v : Answer). answer_fits k.0 v ≡ true) (sym r.same) (answers_fit head.osts (tree_at head.osts 0 past) o))))
 
-  told_law : (past : List Line) (stamp : Stamp) (c slot : ℕ) (named : At) (given : Answer) → Grown head past → AllAsked past → AllTold past → Fits head.osts out lost past → closing_of head.clients (only 0 past) ≡ []
+  -- and of a stat of a file, which has no bytes
+  stat_law : (past : List Line) (stamp : Stamp) (c slot : ℕ) (named : At) (given : Answer) → Grown head past → PinsFit past → AllAsked past → AllTold past → Fits head.osts out lost past → closing_of head.clients (only 0 past) ≡ []
+      → StatAt past (turn stamp (Client c)) c slot named given → out (who_is c (printed past)) ≡ false
+      → right_answer out lost head.osts (printed past) (turn stamp (Client c)) c slot named (same_turn named (turn stamp (Client c))) ≡ Some given
+  stat_law past stamp c slot named given g p a t f quiet tells out_not =
+      let s = tells.stat in
+      let who = who_is c (printed past) in
+      let o : Operation = record { number = none; who = who; op = op.Stat s.path } in
+      let r = stat_right head past stamp c slot tells.running tells.pins g p tells.call s none who (present past c g f quiet out_not) in
+      subst (λ b. right_answer out lost head.osts (printed past) (turn stamp (Client c)) c slot named b ≡ Some given) (sym tells.own)
+      (ap (λ (i : Option ActOf). answer_to head.osts (machine past) i) (known_act head past c slot tells.running (op.Stat s.path) g tells.call (ap (operation_of tells.running.file) s.stats))
+      ∙ ap (λ (v : Answer). Some v) (reads_law past c o (told.FileStat s.fid s.mode s.links s.layout) g a t f out_not tt r.same r.saw
+      ∙ stat_none (machine past) s.fid s.mode s.links s.layout (no_bytes head out lost past g t) ∙ sym tells.answer))
+
+  told_law : (past : List Line) (stamp : Stamp) (c slot : ℕ) (named : At) (given : Answer) → Grown head past → PinsFit past → AllAsked past → AllTold past → Fits head.osts out lost past → closing_of head.clients (only 0 past) ≡ []
       → TellsAt past (turn stamp (Client c)) (Client c) slot named given → ToldAt out lost head.osts (printed past) (turn stamp (Client c)) (Client c) slot named given
-  told_law past stamp c slot named given g a t f quiet tells stays counted = by tells
+  told_law past stamp c slot named given g p a t f quiet tells stays counted = by tells
     where
       right_one : Type 0
       right_one = right_answer out lost head.osts (printed past) (turn stamp (Client c)) c slot named (same_turn named (turn stamp (Client c))) ≡ Some given
@@ -688,11 +634,22 @@ module _ (head : Head) (out : Who → Bool) (lost : ℕ → ℕ → Bool) where
       glimpse_on None b handle e is = absurd (cc)
       glimpse_on (Some begun) b handle e is = λ counts. let none : is_counted begun.call ≡ false = ap is_counted (ap (λ (v : Begun). v.call) (begun_is begun b e) ∙ is) in absurd (cc)
 
+      -- a flush is done, and a read is told no bytes
+      still_right : (r : Running) → call_at c slot past ≡ Some r → (still : IsStill r.call) → (r.stage ≡ Bad → ⊥) → same_turn named (turn stamp (Client c)) ≡ true → ((file : Fid) → data_answer (machine past) file r.call ≡ given) → right_one
+      still_right r is still good own answers =
+          let f = still_there head past c slot r g is still good in
+          subst (λ b. right_answer out lost head.osts (printed past) (turn stamp (Client c)) c slot named b ≡ Some given) (sym own)
+          (ap (λ (i : Option ActOf). answer_to head.osts (machine past) i) f.1 ∙ ap (λ (v : Answer). Some v) (answers f.0))
+
+      plain_good : (s : Stage) → s ≡ Plain → s ≡ Bad → ⊥
+      plain_good s plain bad = cc
+
       flush_right : (k : FlushedAt past (turn stamp (Client c)) c slot named given) → right_one
-      flush_right k =
-          let f = flush_there head past (turn stamp (Client c)) c slot named given g k in
-          subst (λ b. right_answer out lost head.osts (printed past) (turn stamp (Client c)) c slot named b ≡ Some given) (sym k.own)
-          (ap (λ (i : Option ActOf). answer_to head.osts (machine past) i) f.1 ∙ ap (λ (v : Answer). Some v) (sym k.answer))
+      flush_right k = still_right k.running k.call (subst IsStill (sym k.flushes) tt) (plain_good k.running.stage k.good) k.own (λ file. ap (data_answer (machine past) file) k.flushes ∙ sym k.answer)
+
+      read_right : (k : ReadAt past (turn stamp (Client c)) c slot named given) → right_one
+      read_right k = still_right k.running k.call (subst IsStill (sym k.read.reads) tt) k.read.good k.own
+          (λ file. ap (data_answer (machine past) file) k.read.reads ∙ read_none (machine past) file k.read.handle k.read.offset k.read.count (no_bytes head out lost past g t) ∙ sym k.answer)
 
       -- that a life is over is no answer of the history, nor that a handle is bad
       uncounted : given ≡ told.Refused EIO → ⊥
@@ -706,7 +663,9 @@ module _ (head : Head) (out : Who → Bool) (lost : ℕ → ℕ → Bool) where
       by (inr (inr (inr (inr (inl sizes))))) =
           let b = open_is head c slot past sizes.running g sizes.call in
           glimpse_on (open_call c slot (printed past)) b.0 sizes.handle b.1 (b.3 ∙ sizes.glimpses)
-      by (inr (inr (inr (inr (inr flushed))))) = on (open_call c slot (printed past)) (flush_right flushed)
+      by (inr (inr (inr (inr (inr (inl flushed)))))) = on (open_call c slot (printed past)) (flush_right flushed)
+      by (inr (inr (inr (inr (inr (inr (inl read))))))) = on (open_call c slot (printed past)) (read_right read)
+      by (inr (inr (inr (inr (inr (inr (inr stat))))))) = on (open_call c slot (printed past)) (stat_law past stamp c slot named given g p a t f quiet stat stays)
 
   -- what stands isn't refused
   txn_law : (past : List Line) (at : At) (d : Deed) → Grown head past → AllAsked past → AllTold past → Fits head.osts out lost past → TxnIs head.osts (server_at head.osts 0 past) at d → AskedAt past d → IsPlain d.reply.answer
@@ -722,10 +681,10 @@ module _ (head : Head) (out : Who → Bool) (lost : ℕ → ℕ → Bool) where
 
   -- what is known of a past
   abbrev Known : List Line → Type 0
-  Known past = record { fits : Fits head.osts out lost past; asked : AllAsked past; told : AllTold past }
+  Known past = record { fits : Fits head.osts out lost past; pins : PinsFit past; asked : AllAsked past; told : AllTold past }
 
   known_before : (l : Line) (past : List Line) → Known (l ∷ past) → Known past
-  known_before l past k = record { fits = fits_before head.osts out lost l past k.fits; asked = asked_before l past k.asked; told = told_earlier l past k.told }
+  known_before l past k = record { fits = fits_before head.osts out lost l past k.fits; pins = k.pins.1; asked = asked_before l past k.asked; told = told_earlier l past k.told }
 
   history_at : (past : List Line) (l : Line) (later : List PrintedLine) → Allowed head past l.at l.entry → Grown head past → Known (l ∷ past) → Keeps (HistoryOf out lost head.osts) past l later
   history_at past l later ok g known = by l.at.node l.entry ok (λ b i. acted_plain head (l ∷ past) b (ok, g) i) known.fits.seen known.asked known.told
@@ -739,7 +698,7 @@ module _ (head : Head) (out : Who → Bool) (lost : ℕ → ℕ → Bool) where
       by : (node : Node) (e : Entry) → Allowed head past (turn l.at.stamp node) e → ((b : Deed) → Acted (line (turn l.at.stamp node) e ∷ past) b → b.reply.locks ≡ [] → IsPlain b.reply.answer) → SeenStand lost (line (turn l.at.stamp node) e ∷ past)
           → AllAsked (line (turn l.at.stamp node) e ∷ past) → AllTold (line (turn l.at.stamp node) e ∷ past)
           → Keeps (HistoryOf out lost head.osts) past (line (turn l.at.stamp node) e) later
-      by (Client c) (Told slot named given work) k plain s a t = told_law past l.at.stamp c slot named given g a t.1 fits (nothing_left head (only 0 past) (turn l.at.stamp (Client c)) (Told slot named given work) (k.shows 0 refl) (λ e. e)) t.0
+      by (Client c) (Told slot named given work) k plain s a t = told_law past l.at.stamp c slot named given g known.pins.1 a t.1 fits (nothing_left head (only 0 past) (turn l.at.stamp (Client c)) (Told slot named given work) (k.shows 0 refl) (λ e. e)) t.0
       by (Target u) (Told slot named given work) k plain s a t = absurd k.ok
       by (Client c) (Made d) k plain s a t = absurd k.ok
       by (Target u) (Made d) k plain s a t =
@@ -747,8 +706,8 @@ module _ (head : Head) (out : Who → Bool) (lost : ℕ → ℕ → Bool) where
           (txn_law past (turn l.at.stamp (Target u)) d g a.1 earlier fits (txn_is head past l.at.stamp u d k) a.0 (plain d (inl refl) (ap (λ (v : Deed). v.reply.locks) (k.of 0 (about_it u k.ok)).is)) s.0)
       by _ _ k plain s a t = tt
 
-  pub history_law : (past : List Line) → Fits head.osts out lost past → Grown head past → AllAsked past → AllTold past → Holds (HistoryOf out lost head.osts) (printed past)
-  history_law past f g a t = holds_before head (HistoryOf out lost head.osts) Known known_before history_at past [] g (record { fits = f; asked = a; told = t })
+  pub history_law : (past : List Line) → Fits head.osts out lost past → Grown head past → PinsFit past → AllAsked past → AllTold past → Holds (HistoryOf out lost head.osts) (printed past)
+  history_law past f g p a t = holds_before head (HistoryOf out lost head.osts) Known known_before history_at past [] g (record { fits = f; pins = p; asked = a; told = t })
 
 -- ---- of a whole trace
 

@@ -39,6 +39,7 @@ pub mod ActsLaw
 pub mod Handles
 pub mod BadCalls
 pub mod ToldLaw
+pub mod ToldItems
 pub mod HistoryLaw
 pub mod Fitting
 pub mod Given
@@ -50,15 +51,20 @@ pub mod Holding
 pub mod Wanted
 pub mod LocksLaw
 pub mod SilentKnown
-pub mod SilentReads
 pub mod SilentHeld
+pub mod SilentLasts
+pub mod SilentOpens
 pub mod SilentCalm
+pub mod SilentReading
 pub mod SilentTaught
 pub mod SilentAgrees
 pub mod SilentReady
 pub mod SilentServed
+pub mod SilentStats
 pub mod SilentLaw
 pub mod GlimpseLaw
+pub mod PinsEvents
+pub mod Pins
 pub mod Whole
 pub mod OrderlyQuiet
 pub mod OrderlyHanded
@@ -72,7 +78,6 @@ pub mod OrderlyLocks
 pub mod OrderlyWhole
 pub use Rattle.lu_facts.proofs.All
 pub use Rattle.lu_facts.proofs.Asked
-pub use Rattle.lu_facts.proofs.Files
 pub use Rattle.lu_facts.proofs.Finds
 pub use Rattle.lu_facts.proofs.Groups
 pub use Rattle.lu_facts.proofs.Layouts
@@ -102,3 +107,13 @@ pub use Rattle.lu_guards.proofs.ClientLines
 pub use Rattle.lu_guards.proofs.ClientLocks
 pub use Rattle.lu_guards.proofs.Held
 pub use Rattle.lu_guards.proofs.Only
+pub use Rattle.lu_guards.proofs.Acts as GuardActs
+pub use Rattle.lu_guards.proofs.BareStore
+pub use Rattle.lu_guards.proofs.ClientLooks
+pub use Rattle.lu_guards.proofs.Kinds
+pub use Rattle.lu_guards.proofs.TargetReads
+pub use Rattle.lu_guards.proofs.TargetSizes
+pub use Rattle.lu_guards.proofs.TargetStory
+pub use Rattle.lu_guards.proofs.Has
+pub use Rattle.lu_guards.proofs.Given as GuardGiven
+pub use Rattle.lu_facts.proofs.LockLists as FactLockLists

@@ -1,8 +1,9 @@
 -- The law of locks holds of the printed past of every grown one: all locks that are granted and held there are for reading, each came as
--- its act asked for it, and what changes names waited until no lock guards what it writes, but for those of lives that were evicted.
-use Rattle.std.proofs.Common.{◌≡◌, ℕ, zero, suc, ◌+◌, Bool, true, false, List, [], ◌∷◌, inl, inr, ⊎_elim, Option, Some, refl, sym, subst, ap, ◌∙◌}
+-- it was asked for, and what changes names waited until no lock guards what it writes, but for those of lives that were evicted.
+use Rattle.std.proofs.Common.{◌≡◌, ℕ, zero, suc, ◌+◌, Bool, true, false, List, [], ◌∷◌, ◌⊎◌, inl, inr, ⊎_elim, Option, Some, refl, sym, subst, ap, ◌∙◌}
 use Rattle.std.specs.Prelude.{nat_eq, not, ◌&&◌, ◌||◌, find}
 use Rattle.std.specs.List.{list_any}
+use Rattle.std.proofs.lemmas.Bool.{eqb-true}
 use Rattle.lu_base.specs.declared.ids.At.{At}
 use Rattle.lu_base.specs.declared.ids.Node.{Node}
 use Rattle.lu_base.specs.declared.ids.Node.TheVariants.{Client, Target}
@@ -14,6 +15,7 @@ use Rattle.lu_base.specs.declared.locks.Mode.{Mode}
 use Rattle.lu_base.specs.declared.locks.Mode.TheVariants.{EX, PR}
 use Rattle.lu_base.specs.declared.locks.Resource.{Resource}
 use Rattle.lu_lock.specs.Conflict.{conflict, conflicts_with_any}
+use Rattle.lu_lock.specs.Growth.{granted_ask}
 use Rattle.lu_lock.specs.Modes.{compatible}
 use Rattle.lu_lock.specs.Overlap.{policies_meet}
 use Rattle.lu_lock.proofs.OverlapLaws.{policies_meet_symmetric}
@@ -42,13 +44,12 @@ use Rattle.lu_laws.specs.Words.Asked.{requested, is_for, asked_for}
 use Rattle.lu_laws.specs.Words.Held.{Held, held, is_held_by, all_but, opposes, is_opposed}
 use Rattle.lu_laws.specs.Holds.{Holds}
 use Rattle.lu_laws.specs.Laws.Locks.{HoldsGiven, HoldBy, IsAsked, GrantBy, exclusive, AreUnguarded, TxnBy, LocksAt, Locks}
-use Rattle.lu_guards.proofs.Guards.{In, Did}
+use Rattle.lu_guards.proofs.Guards.{In, EntryOk}
 use Rattle.lu_guards.proofs.Grown.{Allowed, Grown}
 use Rattle.lu_guards.proofs.Lists.{in_filter, in_filtered}
 use Rattle.lu_guards.proofs.Parts.{server_is}
-use Rattle.lu_guards.proofs.ClientLocks.{none_any}
+use Rattle.lu_guards.proofs.ClientLocks.{in_map, none_any}
 use Rattle.lu_facts.proofs.Groups.{turn}
-use Rattle.lu_facts.proofs.DoneGrows.{did_acted}
 use Rattle.lu_lawful.proofs.Lines.{OfPrinted, Keeps, holds_before, Nothing}
 use Rattle.lu_lawful.proofs.Facts.{AskedAt}
 use Rattle.lu_lawful.proofs.Contents.{contents_alike}
@@ -58,7 +59,7 @@ use Rattle.lu_lawful.proofs.Once.{all_asked}
 use Rattle.lu_lawful.proofs.Given.{owed, showed_gave}
 use Rattle.lu_lawful.proofs.Granted.{granted_showed, none_waits}
 use Rattle.lu_lawful.proofs.Holding.{HeldIs, all_held, held_granted, held_reads, gave_reads, given_now}
-use Rattle.lu_lawful.proofs.Wanted.{asked_as}
+use Rattle.lu_lawful.proofs.Wanted.{asked_as, asked_object}
 
 -- ---- locks for reading don't conflict
 
@@ -93,27 +94,56 @@ module _ (head : Head) (past : List Line) (g : Grown head past) where
   hold_ok stamp c t lock marked size seen a =
       let W = who_is c (printed past) in
       let now = given_now head past (turn stamp (Client c)) c t a.ok.flight a.ok.reply lock g refl a.ok.heard a.ok.among in
-      subst (λ (v : ℕ). HoldBy (printed past) (Client c) v lock.cookie.0) (sym a.ok.names)
-      (subst (λ (o : Option Lock). HoldsGiven (printed past) W 0 lock.cookie.0 o) (sym now.0) (λ e. unopposed lock W 0 lock.cookie.0 (gave_reads head past g now.1.0 lock now.1.1)))
+      subst (λ (o : Option Lock). HoldsGiven (printed past) W t lock.cookie.0 o) (sym now.0) (λ e. unopposed lock W t lock.cookie.0 (gave_reads head t past g now.1.0 lock now.1.1))
 
   -- a lock is granted
 
-  shown_reads : (l : Lock) → In l (granted 0 (printed past)) → l.ask.mode ≡ PR
-  shown_reads l i = let r = showed_gave head past l g (granted_showed head past l g i) in gave_reads head past g r.0 l r.1
+  shown_reads : (t : ℕ) (l : Lock) → In l (granted t (printed past)) → l.ask.mode ≡ PR
+  shown_reads t l i = let r = showed_gave head t past l g (granted_showed t head past l g i) in gave_reads head t past g r.0 l r.1
 
-  grant_ok : (at : At) (lock : Lock) (d : Deed) → Did past d → d.reply.at ≡ at → In lock d.reply.locks → GrantBy head.osts (printed past) at (Target 0) lock
-  grant_ok at lock d did turn i =
-      let none = none_waits head past g in
-      let asked = asked_as head past at d lock g did turn i in
-      let is : asked_for head.osts 0 (printed past) at lock ≡ Some lock =
-      ap (λ (ws : List Lock). or_else (find (has_cookie lock.cookie.0) ws) (find (is_for lock) (requested head.osts 0 (printed past) at lock.cookie))) none ∙ asked.0
-      in
+  asks_read : (t : ℕ) (resource : Resource) (x : Ask) → In x (asks (on resource (granted t (printed past)))) → x.mode ≡ PR
+  asks_read t resource x i =
+      let m = in_map (λ (l : Lock). l.ask) x (on resource (granted t (printed past))) i in
+      subst (λ (v : Ask). v.mode ≡ PR) m.2 (shown_reads t m.0 (in_filter (is_on resource) m.0 (granted t (printed past)) m.1).0)
+
+  -- beside locks for reading, where none waits
+  granted_ok : (at : At) (t : ℕ) (lock asked : Lock) → lock.ask.mode ≡ PR → asked_for head.osts t (printed past) at lock ≡ Some asked → lock.resource ≡ asked.resource
+      → lock.ask ≡ granted_ask asked.ask (asks (on lock.resource (granted t (printed past)))) [] → GrantBy head.osts (printed past) at (Target t) lock
+  granted_ok at t lock asked reads is same grown =
+      let none = none_waits t head past g in
       record {
-        free = no_conflict lock.ask (on lock.resource (granted 0 (printed past))) (gave_reads head past g d lock (did_acted past d did, i)) (λ k j. shown_reads k (in_filter (is_on lock.resource) k (granted 0 (printed past)) j).0);
+        free = no_conflict lock.ask (on lock.resource (granted t (printed past))) reads (λ k j. shown_reads t k (in_filter (is_on lock.resource) k (granted t (printed past)) j).0);
         first = subst (λ (ws : List Lock). conflicts_with_any lock.ask (asks (ahead_of lock.cookie.0 (on lock.resource ws))) ≡ false) (sym none) refl;
-        as_asked = subst (λ (o : Option Lock). IsAsked o lock (asks (on lock.resource (granted 0 (printed past)))) (asks (without_first lock.cookie.0 (on lock.resource (waiting 0 (printed past)))))) (sym is)
-            (record { resource = refl; grown = asked.1 (asks (on lock.resource (granted 0 (printed past)))) (asks (without_first lock.cookie.0 (on lock.resource (waiting 0 (printed past))))) });
+        as_asked = subst (λ (o : Option Lock). IsAsked o lock (asks (on lock.resource (granted t (printed past)))) (asks (without_first lock.cookie.0 (on lock.resource (waiting t (printed past)))))) (sym is)
+            (record {
+              resource = same;
+              grown = subst (λ (ws : List Lock). lock.ask ≡ granted_ask asked.ask (asks (on lock.resource (granted t (printed past)))) (asks (without_first lock.cookie.0 (on lock.resource ws)))) (sym none) grown;
+            });
       }
+
+  -- as the request does, where none waits
+  asked_so : (at : At) (t : ℕ) (lock asked : Lock) → find (is_for lock) (requested head.osts t (printed past) at lock.cookie) ≡ Some asked → asked_for head.osts t (printed past) at lock ≡ Some asked
+  asked_so at t lock asked e = ap (λ (ws : List Lock). or_else (find (has_cookie lock.cookie.0) ws) (find (is_for lock) (requested head.osts t (printed past) at lock.cookie))) (none_waits t head past g) ∙ e
+
+  grant_ok : (stamp : Stamp) (t : ℕ) (lock : Lock) (d : Deed) → Allowed head past (turn stamp (Target t)) (Grant lock (Some d)) → GrantBy head.osts (printed past) (turn stamp (Target t)) (Target t) lock
+  grant_ok stamp t lock d a = by a.ok
+    where
+      at : At
+      at = turn stamp (Target t)
+
+      new : List Line
+      new = line at (Grant lock (Some d)) ∷ past
+
+      reads : lock.ask.mode ≡ PR
+      reads = let r = showed_gave head t new lock (a, g) (inl (refl, refl)) in gave_reads head t new (a, g) r.0 lock r.1
+
+      by : EntryOk past at (Target t) (Grant lock (Some d)) → GrantBy head.osts (printed past) at (Target t) lock
+      by (inl ok) =
+          let told = asked_as head past at d lock g ok.1 (owed past at d (Grant lock (Some d)) ok.1 a.owes) ok.2 in
+          subst (λ (v : ℕ). GrantBy head.osts (printed past) at (Target v) lock) (sym ok.0) (granted_ok at 0 lock lock reads (asked_so at 0 lock lock told.0) refl (told.1 (asks (on lock.resource (granted 0 (printed past)))) []))
+      by (inr ok) =
+          let told = asked_object head past stamp t lock d a g ok.0 ok.1 in
+          granted_ok at t lock told.asked reads (asked_so at t lock told.asked told.found) told.resource (told.grown (asks (on lock.resource (granted t (printed past)))) (asks_read t lock.resource))
 
   -- a transaction writes
 
@@ -166,13 +196,27 @@ module _ (head : Head) (past : List Line) (g : Grown head past) where
       over true false z w e = refl
       over false y z w e = refl
 
+      -- nor does a lock of another target
+      away : (x y z w : Bool) → x ≡ false → (x && y && z && w) ≡ false
+      away true y z w e = absurd (cc)
+      away false y z w e = refl
+
       apart : (part : Part) → In part parts → (h : Held) → HeldIs past h → opposes (printed past) 0 (guard part).0 (exclusive who (guard part).1) h ≡ false
-      apart part i h is = ⊎_elim
-          (λ (q : In h.lock G).
-          both (nat_eq h.target 0) (is_on (guard part).0 h.lock) (conflict (exclusive who (guard part).1) h.lock.ask) (not (is_evicted 0 (printed past) h.who))
-          (ap (λ (b : Bool). is_on (guard part).0 h.lock && b) (meets part h.lock (held_reads head past g h is)) ∙ guards_none h.lock q part i))
-          (λ (q : is_evicted 0 (printed past) h.who ≡ true). over (nat_eq h.target 0) (is_on (guard part).0 h.lock) (conflict (exclusive who (guard part).1) h.lock.ask) (is_evicted 0 (printed past) h.who) q)
-          (held_granted head past g left h is)
+      apart part i h is = by (nat_eq h.target 0) refl
+        where
+          of_first : h.target ≡ 0 → In h.lock G ⊎ (is_evicted 0 (printed past) h.who ≡ true)
+          of_first z =
+              subst (λ (t : ℕ). In h.lock (server_of head.osts (only t past)).granted ⊎ (is_evicted t (printed past) h.who ≡ true)) z
+              (held_granted head past g h (subst (λ (t : ℕ). NoneLeft head t past) (sym z) left) is)
+
+          by : (b : Bool) → nat_eq h.target 0 ≡ b → opposes (printed past) 0 (guard part).0 (exclusive who (guard part).1) h ≡ false
+          by false e = away (nat_eq h.target 0) (is_on (guard part).0 h.lock) (conflict (exclusive who (guard part).1) h.lock.ask) (not (is_evicted 0 (printed past) h.who)) e
+          by true e = ⊎_elim
+              (λ (q : In h.lock G).
+              both (nat_eq h.target 0) (is_on (guard part).0 h.lock) (conflict (exclusive who (guard part).1) h.lock.ask) (not (is_evicted 0 (printed past) h.who))
+              (ap (λ (b : Bool). is_on (guard part).0 h.lock && b) (meets part h.lock (held_reads head past g h is)) ∙ guards_none h.lock q part i))
+              (λ (q : is_evicted 0 (printed past) h.who ≡ true). over (nat_eq h.target 0) (is_on (guard part).0 h.lock) (conflict (exclusive who (guard part).1) h.lock.ask) (is_evicted 0 (printed past) h.who) q)
+              (of_first (eqb-true h.target 0 e))
 
   txn_ok : (stamp : Stamp) (t : ℕ) (d : Deed) → Allowed head past (turn stamp (Target t)) (Txn d) → AskedAt past d → TxnBy head.osts (printed past) (Target t) d.reply.txn d.reply.who d.reply.xid.0
   txn_ok stamp (suc t) d a asks = tt
@@ -197,9 +241,7 @@ locks_at head past l later a g = by l.at.node l.entry a
     by (Client c) (Hold t lock marked size seen) k = hold_ok head past g l.at.stamp c t lock marked size seen k
     by (Target t) (Hold u lock marked size seen) k = absurd k.ok
     by (Client c) (Grant lock asked) k = absurd k.ok
-    by (Target t) (Grant lock (Some d)) k =
-        subst (λ (v : ℕ). GrantBy head.osts (printed past) (turn l.at.stamp (Target t)) (Target v) lock) (sym k.ok.0)
-        (grant_ok head past g (turn l.at.stamp (Target t)) lock d k.ok.1 (owed past (turn l.at.stamp (Target t)) d (Grant lock (Some d)) k.ok.1 k.owes) k.ok.2)
+    by (Target t) (Grant lock (Some d)) k = grant_ok head past g l.at.stamp t lock d k
     by (Target t) (Grant lock asked) k = absurd k.ok
     by (Client c) (Txn d) k = absurd k.ok
     by (Target t) (Txn d) k = txn_ok head past g l.at.stamp t d k (all_asked head (line (turn l.at.stamp (Target t)) (Txn d) ∷ past) (k, g)).0

@@ -1,5 +1,5 @@
 -- Over the whole past: the numbers of transactions that a target's closes have lost are by the laws those that are lost by its story.
-use Rattle.std.proofs.Common.{◌≡◌, ℕ, ◌<◌, ◌≤◌, Bool, true, false, List, [], ◌∷◌, None, ◌⊎◌, inl, inr, ⊎_elim, refl, sym, subst, ap, ◌∙◌, arith}
+use Rattle.std.proofs.Common.{◌≡◌, ℕ, ◌<◌, ◌≤◌, Bool, true, false, List, [], ◌∷◌, Some, None, ◌⊎◌, inl, inr, ⊎_elim, refl, sym, subst, ap, ◌∙◌, arith}
 use Rattle.std.specs.Prelude.{nat_eq, nat_lt, not, ◌&&◌, ◌||◌, if◌then◌else◌, filter}
 use Rattle.std.proofs.lemmas.Bool.Decides.{nat_tests}
 use Rattle.std.proofs.lemmas.Bool.{and_parts, and_from, eqb-true, ltb-true, lt-ltb, not-true, not_from_false, false_from_ne_true}
@@ -10,7 +10,7 @@ use Rattle.lu_base.specs.declared.ids.Stamp.{Stamp}
 use Rattle.lu_base.specs.declared.ids.Txn.{Txn as TxnOf}
 use Rattle.lu_msg.specs.declared.messages.Reply.{Reply as ReplyTo}
 use Rattle.lu_words.specs.Carried.{Deed, Outcome}
-use Rattle.lu_words.specs.Words.{Entry, Act, Txn as Made, Close, Fail, Line, line}
+use Rattle.lu_words.specs.Words.{Entry, Act, Txn as Made, Grant, Close, Fail, Line, line}
 use Rattle.lu_words.specs.Concerns.{concerns, only}
 use Rattle.lu_words.specs.Printed.{printed}
 use Rattle.lu_covered.specs.TargetStates.{server_of}
@@ -31,6 +31,7 @@ use Rattle.lu_facts.proofs.Groups.{turn, Acted, IsMade, Stands, HoldsAt}
 use Rattle.lu_facts.proofs.All.{holds}
 use Rattle.lu_facts.proofs.Exact as exact
 use Rattle.lu_facts.proofs.Exact.{IsBack, HeardBy, committed_then}
+use Rattle.lu_facts.proofs.GrantLines.{grant_made}
 use Rattle.lu_lawful.proofs.Printed.{flip}
 use Rattle.lu_lawful.proofs.Taking.{none_due}
 use Rattle.lu_lawful.proofs.Backs.{window_law, law_window}
@@ -170,6 +171,7 @@ lost_made head t (l ∷ past) g n e = by l.at.node l.entry g.0 e (lost_made head
         on : (x : Entry) → Acted (line (turn l.at.stamp node) x ∷ P) s.0
         on (Act d) = inr s.1
         on (Made d) = inr s.1
+        on (Grant lock asked) = inr s.1
         on _ = s.1
 
         of : (b : Bool) → Acted (if b then line (turn l.at.stamp node) x ∷ P else P) s.0
@@ -288,6 +290,14 @@ lost_at head t (l ∷ past) g d a made = by l.at.node l.entry g a (lost_at head 
         of false q a = h d a made
         of true q (inl e) = absurd (zero_txn q e)
         of true q (inr b) = h d b made
+    by (Client c) (Grant lock asked) g a h = absurd g.0.ok
+    by (Target u) (Grant lock None) g a h = absurd g.0.ok
+    by (Target u) (Grant lock (Some x)) g a h = of (nat_eq t u) refl a
+      where
+        of : (b : Bool) → nat_eq t u ≡ b → Acted (if b then line (turn l.at.stamp (Target u)) (Grant lock (Some x)) ∷ P else P) d
+            → is_lost (printed past) t n ≡ story.is_lost head.osts (if b then line (turn l.at.stamp (Target u)) (Grant lock (Some x)) ∷ P else P) n
+        of false q a = h d a made
+        of true q a = h d (grant_made head.osts P (turn l.at.stamp (Target u)) u lock x (g.0.of t q) d a made) made
     by (Target u) (Close o) g a h = of (nat_eq t u) refl
       where
         new : Line
@@ -315,6 +325,7 @@ was_acted head (l ∷ past) g n w = by l.at.node l.entry g.0 w (was_acted head p
     by (Target u) (Made x) k (inl e) h = (x, inl refl, let is = ap (λ (v : Deed). v.reply.txn.0) (k.of u (self u)).is in omega (arith, is), e)
     by (Target u) (Made x) k (inr w) h = let r = h w in (r.0, inr r.1, r.2, r.3)
     by node (Act x) k w h = let r = h w in (r.0, inr r.1, r.2, r.3)
+    by node (Grant lock asked) k w h = let r = h w in (r.0, inr r.1, r.2, r.3)
     by node x k w h = h w
 
 -- at the metadata target, of what was made so far

@@ -11,7 +11,7 @@ use Rattle.lu_words.specs.Printed.{printed_entry, printed}
 use Rattle.lu_covered.specs.Heads.{Head}
 use Rattle.lu_laws.specs.Laws.Messages.{Follows, Lives, Passes, MessagesAt, Messages}
 use Rattle.lu_laws.specs.Holds.{Holds}
-use Rattle.lu_guards.proofs.Guards.{Steps, ToldOk, KnownOk, EndsOk, BadOk, SizesToldOk, FlushedOk}
+use Rattle.lu_guards.proofs.Guards.{Steps, ToldOk, KnownOk, EndsOk, BadOk, SizesToldOk, FlushedOk, ReadToldOk, StatToldOk}
 use Rattle.lu_guards.proofs.Grown.{LivesAt, Allowed, Grown}
 use Rattle.lu_facts.proofs.Groups.{turn}
 use Rattle.lu_lawful.proofs.Turns.{steps_trans, upto_is}
@@ -52,7 +52,11 @@ messages_at head past l later a g = at (printed_entry (count_sent past + 1) l.en
         (λ (ok : BadOk past (turn l.at.stamp (Client c)) c slot at answer work). open_is_some head c slot past ok.running g ok.call)
         (⊎_elim
         (λ (ok : SizesToldOk past (turn l.at.stamp (Client c)) c slot at answer work). open_is_some head c slot past ok.running g ok.call)
-        (λ (ok : FlushedOk past (turn l.at.stamp (Client c)) c slot at answer work). open_is_some head c slot past ok.running g ok.call)))))
+        (⊎_elim
+        (λ (ok : FlushedOk past (turn l.at.stamp (Client c)) c slot at answer work). open_is_some head c slot past ok.running g ok.call)
+        (⊎_elim
+        (λ (ok : ReadToldOk past (turn l.at.stamp (Client c)) c slot at answer work). open_is_some head c slot past ok.running g ok.call)
+        (λ (ok : StatToldOk past (turn l.at.stamp (Client c)) c slot at answer work). open_is_some head c slot past ok.running g ok.call)))))))
         k.ok
     by (Target t) (Begin slot running) k = absurd k.ok
     by (Target t) (Told slot at answer work) k = absurd k.ok

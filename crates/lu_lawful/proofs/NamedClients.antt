@@ -24,13 +24,14 @@ use Rattle.lu_covered.specs.TargetStates.{server_of, lives_of, evicted_of, windo
 use Rattle.lu_covered.specs.ClientStates.{life_of}
 use Rattle.lu_covered.specs.Heads.{Head}
 use Rattle.lu_laws.specs.Words.Clients.{node_clients, message_clients, entry_clients, clients}
-use Rattle.lu_guards.proofs.Guards.{In, Was, IsMark, BackNow, EntryOk, ToldOk, KnownOk, EndsOk, BadOk, SizesToldOk, FlushedOk}
-use Rattle.lu_guards.proofs.StoryGuards.{SaidBy, Spoke, Newer, CloseOk, EvictOk, LeavesOk, JoinedOk, ComesOk, KeepsOk, IsRecovering, EntryOf}
+use Rattle.lu_guards.proofs.Guards.{In, Was, IsMark, BackNow, EntryOk, ToldOk, KnownOk, EndsOk, BadOk, SizesToldOk, FlushedOk, ReadToldOk, StatToldOk}
+use Rattle.lu_guards.proofs.StoryGuards.{SaidBy, Spoke, Newer, GrantOk, RangeOk, CloseOk, EvictOk, LeavesOk, JoinedOk, ComesOk, KeepsOk, IsRecovering, EntryOf}
 use Rattle.lu_guards.proofs.Grown.{Allowed, Grown, GrownOf, LivesAt}
 use Rattle.lu_guards.proofs.Lists.{self, life_is}
 use Rattle.lu_guards.proofs.Only.{was_back, was_only, grown_of}
 use Rattle.lu_facts.proofs.Groups.{turn, Flew, Acted, Gave, Had, HasSlot, Evicted, Recovers}
 use Rattle.lu_facts.proofs.Lines.{acted_whole, flew_whole, life_only}
+use Rattle.lu_facts.proofs.Brings.{of_reply}
 use Rattle.lu_facts.proofs.DoneGrows.{did_acted}
 use Rattle.lu_facts.proofs.LifeLists.{put_or, back_word}
 use Rattle.lu_facts.proofs.LivesClose.{out_now}
@@ -229,7 +230,11 @@ told_low head past at c slot of answer work g lt here ok = ⊎_elim
     (λ (k : EndsOk past at c slot of answer work). own k.of_turn)
     (⊎_elim
     (λ (k : BadOk past at c slot of answer work). own k.of_turn)
-    (⊎_elim (λ (k : SizesToldOk past at c slot of answer work). own k.of_turn) (λ (k : FlushedOk past at c slot of answer work). own k.of_turn)))))
+    (⊎_elim
+    (λ (k : SizesToldOk past at c slot of answer work). own k.of_turn)
+    (⊎_elim
+    (λ (k : FlushedOk past at c slot of answer work). own k.of_turn)
+    (⊎_elim (λ (k : ReadToldOk past at c slot of answer work). own k.of_turn) (λ (k : StatToldOk past at c slot of answer work). own k.of_turn)))))))
     ok
   where
     own : of ≡ at → node_clients of.node ≤ head.clients
@@ -255,7 +260,12 @@ line_low head past stamp (Client c) (Made d) k g n = absurd k.ok
 line_low head past stamp (Target t) (Made d) k g n = let ok = k.of t (self t) in let lt = waited_low head past t ok.request d.reply.who g ok.waits (ap (λ (v : Deed). v.reply.who) ok.is) in omega (arith, lt)
 line_low head past stamp (Client c) (Grant lock asked) k g n = absurd k.ok
 line_low head past stamp (Target t) (Grant lock None) k g n = absurd k.ok
-line_low head past stamp (Target t) (Grant lock (Some d)) k g n = let ok = k.of t (self t) in let lt = gave_low head past t d lock g (did_acted (only t past) d ok.did, ok.among) in omega (arith, lt)
+line_low head past stamp (Target t) (Grant lock (Some d)) k g n =
+    let lt : Low head lock.ask.who = ⊎_elim
+    (λ (ok : (t ≡ 0) × GrantOk head.osts (only t past) lock d). gave_low head past t d lock g (did_acted (only t past) d ok.1.did, of_reply d.op d.reply lock ok.1.among))
+    (λ (ok : (0 < t) × RangeOk head.osts (only t past) (turn stamp (Target t)) lock d). waited_low head past t ok.1.request lock.ask.who g ok.1.waits (ap (λ (l : Lock). l.ask.who) ok.1.of_lock))
+    (k.of t (self t)) in
+    omega (arith, lt)
 line_low head past stamp (Client c) (Wait lock asked) k g n = absurd k.ok
 line_low head past stamp (Target t) (Wait lock asked) k g n = absurd k.ok
 line_low head past stamp (Client c) (Back who) k g n = absurd k.ok

@@ -21,7 +21,7 @@ use Rattle.lu_laws.specs.Words.Pasts.{same_turn}
 use Rattle.lu_laws.specs.Words.Sends.{Sending, sending, with_taken, taken}
 use Rattle.lu_laws.specs.Laws.Acts.{is_notice, took_notice}
 use Rattle.lu_laws.proofs.Tests.{either_left, either_right}
-use Rattle.lu_guards.proofs.Guards.{Was, Took, Noticed}
+use Rattle.lu_guards.proofs.Guards.{Was, TookNow, Took, Noticed}
 use Rattle.lu_guards.proofs.StoryGuards.{Newer}
 use Rattle.lu_guards.proofs.Grown.{Allowed, Grown}
 use Rattle.lu_guards.proofs.Lists.{self, life_self}
@@ -38,6 +38,27 @@ abbrev pub on_way : (from to : Node) → Message → Sending
 on_way from to m = record { from = from; to = to; message = m }
 
 -- ---- what a turn took
+
+-- the message that the newest line took
+pub takes_it : (head : Head) (past : List Line) (at : At) (from : Node) (m : Message) → Grown head past → TookNow past at from m → (rest : List Sending) × (taken (printed past) at ≡ on_way from at.node m ∷ rest)
+takes_it head [] at from m g t = absurd t
+takes_it head (l ∷ past) at from m g t = by l.entry g.0 t
+  where
+    by : (e : Entry) → Allowed head past l.at e → TookNow (line l.at e ∷ past) at from m → (rest : List Sending) × (taken (printed (line l.at e ∷ past)) at ≡ on_way from at.node m ∷ rest)
+    by (Take n sender msg) k t =
+        let now : same_turn l.at at ≡ true = subst (λ (v : At). same_turn l.at v ≡ true) t.0 (same_turn_self l.at) in
+        let is = sending_is past n sender l.at.node msg k.ok.sent in (
+          taken (printed past) at,
+          cond-true (same_turn l.at at) (with_taken (sending (printed past) n) (taken (printed past) at)) (taken (printed past) at) now
+              ∙ ap (λ (o : Option Sending). with_taken o (taken (printed past) at)) is
+              ∙ ap (λ (v : Node). taking v l.at.node msg) t.1
+              ∙ ap (λ (v : At). taking from v.node msg) t.0
+              ∙ ap (λ (v : Message). taking from at.node v) t.2,
+        )
+      where
+        taking : (from to : Node) → Message → List Sending
+        taking from to m = record { from = from; to = to; message = m } ∷ taken (printed past) at
+    by _ k t = absurd t
 
 -- what it took passes a test that the message passes
 pub took_any : (head : Head) (past : List Line) (at : At) (from : Node) (m : Message) (p : Sending → Bool) → Grown head past → Took past at from m → p (on_way from at.node m) ≡ true → list_any p (taken (printed past) at) ≡ true

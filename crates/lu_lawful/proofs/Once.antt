@@ -1,5 +1,5 @@
 -- What acts was asked for, and nothing that counts was done for the same request; nor anything in the same turn. And the operation of a number.
-use Rattle.std.proofs.Common.{◌≡◌, ℕ, Bool, true, false, List, [], ◌∷◌, ◌++◌, Option, Some, inl, inr, ⊎_elim, refl, sym, subst, ap, ◌∙◌}
+use Rattle.std.proofs.Common.{◌≡◌, ◌⊎◌, ℕ, ◌<◌, Bool, true, false, List, [], ◌∷◌, ◌++◌, Option, Some, None, inl, inr, ⊎_elim, refl, sym, subst, ap, ◌∙◌, arith}
 use Rattle.std.specs.Prelude.{nat_eq, not, if◌then◌else◌}
 use Rattle.std.specs.Option.{option_map}
 use Rattle.std.proofs.lemmas.Bool.{cond_both, eqb-true}
@@ -9,11 +9,12 @@ use Rattle.lu_base.specs.declared.ids.Node.TheVariants.{Client, Target}
 use Rattle.lu_base.specs.declared.ids.Stamp.{Stamp}
 use Rattle.lu_base.specs.declared.ids.Who.{Who}
 use Rattle.lu_base.specs.declared.ids.Xid.{Xid}
+use Rattle.lu_base.specs.declared.locks.Lock.{Lock}
 use Rattle.lu_msg.specs.declared.messages.Message.TheVariants as message
 use Rattle.lu_msg.specs.declared.messages.Request.{Request as RequestOf}
 use Rattle.lu_msg.specs.declared.operations.Op.{Op}
 use Rattle.lu_words.specs.Carried.{Deed, Flight}
-use Rattle.lu_words.specs.Words.{Entry, Act, Txn as Made, Boot, Close, Evict, Enters, Line, line, turn_before}
+use Rattle.lu_words.specs.Words.{Entry, Act, Txn as Made, Grant, Boot, Close, Evict, Enters, Line, line, turn_before}
 use Rattle.lu_words.specs.Concerns.{only}
 use Rattle.lu_words.specs.Printed.{printed}
 use Rattle.lu_target_rows.specs.Lives.{is_life}
@@ -22,7 +23,8 @@ use Rattle.lu_covered.specs.TargetStates.{server_of, closed_of, boot_at, waiting
 use Rattle.lu_covered.specs.Heads.{Head}
 use Rattle.lu_laws.specs.Words.Requests.{first_request, asked}
 use Rattle.lu_guards.proofs.Guards.{In, Was, Later, Steps, IsTurnOf}
-use Rattle.lu_guards.proofs.StoryGuards.{IsServing}
+use Rattle.lu_guards.proofs.StoryGuards.{IsServing, RangeOk}
+use Rattle.lu_guards.proofs.Acts.{range_acted}
 use Rattle.lu_guards.proofs.Grown.{Allowed, Grown}
 use Rattle.lu_guards.proofs.Lists.{self, in_append, in_filter, turn_trans, turn_irreflexive}
 use Rattle.lu_guards.proofs.Only.{was_back, was_more}
@@ -30,7 +32,7 @@ use Rattle.lu_guards.proofs.Parts.{waiting_is, boot_is}
 use Rattle.lu_facts.proofs.Groups.{turn, Acted, Flew, Counts, Reached}
 use Rattle.lu_facts.proofs.All.{holds}
 use Rattle.lu_facts.proofs.Sides.{acted_only}
-use Rattle.lu_lawful.proofs.Story.{was_to, target_is}
+use Rattle.lu_lawful.proofs.Story.{was_to, target_is, grant_either}
 use Rattle.lu_lawful.proofs.Deeds.{act_for}
 use Rattle.lu_lawful.proofs.Printed.{first_sent, sent_first}
 use Rattle.lu_lawful.proofs.Facts.{AllAsked}
@@ -82,6 +84,9 @@ waits_asked head (l ∷ past) t r g i = by l.at.node l.entry g.0 i (waits_asked 
         i
     by (Target u) (Act d) k i h = acted (Target u) (Act d) d (nat_eq t u) h i
     by (Target u) (Made d) k i h = acted (Target u) (Made d) d (nat_eq t u) h i
+    by (Target u) (Grant lock (Some d)) k i h = acted (Target u) (Grant lock (Some d)) d (nat_eq t u) h i
+    by (Target u) (Grant lock None) k i h = absurd k.ok
+    by (Client c) (Grant lock asked) k i h = absurd k.ok
     by node e k i h = asked_more (line (turn l.at.stamp node) e) past t r (h i)
 
 -- ---- a turn is of one boot
@@ -119,6 +124,11 @@ turn_boot head (l ∷ past) t d g here a now = by l.at.node l.entry g.0 a now (�
     by (Client c) (Made e) k a n ih = absurd k.ok
     by (Target u) (Made e) k (inl same) n ih = let is = (k.of u (self u)).is in of_done u e (ap (λ (v : Deed). v.reply.at.node) is) (ap (λ (v : Deed). v.reply.boot) is) same
     by (Target u) (Made e) k (inr b) n ih = ih b
+    by (Client c) (Grant lock asked) k a n ih = absurd k.ok
+    by (Target u) (Grant lock asked) k (inl q) n ih = ⊎_elim ih
+        (λ p. let is = range_acted head.osts (only u past) (turn l.at.stamp (Target u)) lock d p.1 in of_done u d (ap (λ (v : At). v.node) is.turn) is.boot refl)
+        (grant_either head past l.at.stamp u lock asked d k q)
+    by (Target u) (Grant lock asked) k (inr b) n ih = ih b
     by (Client c) (Boot boot disk) k a n ih = absurd k.ok
     by (Target u) (Boot boot disk) k a n ih = boots past (turn l.at.stamp (Target u)) u boot n k.ok (before a)
     by node e k a n ih = ih a
@@ -188,6 +198,24 @@ txn_now head past stamp (Target t) d k g =
     does head past (turn stamp (Target t)) t d ok.request g k.steps refl (ap (λ (v : Deed). v.reply.at) ok.is) ok.serves ok.waits (ap (λ (v : Deed). v.reply.who) (sym ok.is))
     (ap (λ (v : Deed). v.reply.xid) (sym ok.is)) (ap (λ (v : Deed). v.op) (sym ok.is)) (ap (λ (v : Deed). v.tag) (sym ok.is))
 
+-- what a lock that is shown is of was done before, or now, at an object storage target
+pub grant_now : (head : Head) (past : List Line) (stamp : Stamp) (node : Node) (lock : Lock) (asked : Option Deed) (d : Deed) → Allowed head past (turn stamp node) (Grant lock asked) → asked ≡ Some d → Grown head past
+    → Acted past d ⊎ (((t : ℕ) × (node ≡ Target t) × (0 < t)) × DoesNow head past (turn stamp node) d)
+grant_now head past stamp (Client c) lock asked d k q g = absurd k.ok
+grant_now head past stamp (Target t) lock asked d k q g = ⊎_elim (λ (a : Acted past d). inl a)
+    (λ (p : (0 < t) × RangeOk head.osts (only t past) (turn stamp (Target t)) lock d).
+    let ok = range_acted head.osts (only t past) (turn stamp (Target t)) lock d p.1 in
+    inr ((t, refl, p.0), does head past (turn stamp (Target t)) t d ok.request g k.steps refl ok.turn ok.serves ok.waits (sym ok.who) (sym ok.xid) (sym ok.of_op) (sym ok.tag)))
+    (grant_either head past stamp t lock asked d k q)
+
+-- what the metadata target did was done before
+pub granted_first : (head : Head) (past : List Line) (stamp : Stamp) (node : Node) (lock : Lock) (asked : Option Deed) (d : Deed) → Allowed head past (turn stamp node) (Grant lock asked) → asked ≡ Some d → Grown head past
+    → d.reply.at.node ≡ Target 0 → Acted past d
+granted_first head past stamp node lock asked d k q g first = ⊎_elim (λ (a : Acted past d). a) (λ p. absurd (apart p.0.0 (sym p.0.1 ∙ ap (λ (v : At). v.node) (sym p.1.turn) ∙ first) p.0.2)) (grant_now head past stamp node lock asked d k q g)
+  where
+    apart : (t : ℕ) → Target t ≡ Target 0 → 0 < t → ⊥
+    apart t e high = let zero = target_is t 0 e in omega (arith, zero, high)
+
 -- transactions are the metadata target's
 pub txn_first : (head : Head) (past : List Line) (stamp : Stamp) (node : Node) (d : Deed) → Allowed head past (turn stamp node) (Made d) → node ≡ Target 0
 txn_first head past stamp (Client c) d k = absurd k.ok
@@ -250,4 +278,6 @@ acted_sent head (l ∷ past) t d g at a = by l.entry g.0 (acted_sent head past t
         (λ (p : e ≡ d). sent_more (line l.at (Made e)) past t d (does_it e (txn_now head past l.at.stamp l.at.node e k g.1) p))
         (λ (p : Acted past d). sent_more (line l.at (Made e)) past t d (h p))
         a
+    by (Grant lock asked) k h (inl q) = sent_more (line l.at (Grant lock asked)) past t d (⊎_elim h (λ p. does_it d p.1 refl) (grant_now head past l.at.stamp l.at.node lock asked d k q g.1))
+    by (Grant lock asked) k h (inr b) = sent_more (line l.at (Grant lock asked)) past t d (h b)
     by e k h a = sent_more (line l.at e) past t d (h a)

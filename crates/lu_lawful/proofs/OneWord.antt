@@ -307,22 +307,21 @@ module _ (head : Head) (t c : ℕ) (past : List Line) (stamp : Stamp) (d u : ℕ
       l : Line
       l = line (turn stamp (Client d)) (Drop u lock)
 
-      served : c ≡ d → t ≡ u → standing_at d 0 past ≡ Serving → known_at c t past ≤ closed_of (only t past)
+      served : c ≡ d → t ≡ u → standing_at d u past ≡ Serving → known_at c t past ≤ closed_of (only t past)
       served e q s =
-          let here : t ≡ 0 = q ∙ a.ok.0 in
-          let st : standing_of d (only t past) ≡ Serving = ap (λ (v : ℕ). standing_of d (only v past)) here ∙ sym (standing_is d 0 past) ∙ s in
+          let st : standing_of d (only t past) ≡ Serving = ap (λ (v : ℕ). standing_of d (only v past)) q ∙ sym (standing_is d u past) ∙ s in
           at_most _ _ _ (known_same e) (((holds head past g).at t).phase.served d st)
 
       by : (x y : Bool) → nat_eq c d ≡ x → nat_eq t u ≡ y → Moves c t past (l ∷ past)
       by true true p q = ⊎_elim
-          (λ (k : MarkedOk past d lock). inr (inr (inl (record { life = refl; known = refl; low = served (eqb-true c d p) (eqb-true t u q) k.serves }))))
+          (λ (k : MarkedOk past d u lock). inr (inr (inl (record { life = refl; known = refl; low = served (eqb-true c d p) (eqb-true t u q) k.serves }))))
           (λ (k : Noticed past (turn stamp (Client d)) (life_at d past)). inr (inr (inr (record {
             life = refl;
             known = refl;
             standing = refl;
             ending = (ap Client (sym (eqb-true c d p)), noticed_more l past (turn stamp (Client d)) (life_at c past) (subst (λ (v : ℕ). Noticed past (turn stamp (Client d)) (life_at v past)) (sym (eqb-true c d p)) k));
           }))))
-          a.ok.1
+          a.ok
       by true false p q = still_other c t l past refl refl refl refl (rw p (count_without t (record { target = record { 0 = u }; cookie = lock.cookie }) (held_at c past) (flip u t ∙ q)))
       by false y p q = still_other c t l past refl refl refl refl (rw p refl)
 

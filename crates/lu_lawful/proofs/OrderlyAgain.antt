@@ -28,7 +28,7 @@ use Rattle.lu_laws.specs.Words.Sends.{Sending, taken}
 use Rattle.lu_laws.specs.Laws.Recovery.{is_size_for, is_executed}
 use Rattle.lu_laws.specs.Order.Repeated.{last_reply, asks, SameReply, Repeats, RepeatedAt, RepeatedBy, Repeated}
 use Rattle.lu_laws.proofs.Tests.{either_left, both}
-use Rattle.lu_guards.proofs.Guards.{Did, TookNow, Taken, RepliesAgain}
+use Rattle.lu_guards.proofs.Guards.{Did, TookNow, Taken, RepliesAgain, EntryOk}
 use Rattle.lu_guards.proofs.StoryGuards.{ReplyOk, EntryOf}
 use Rattle.lu_guards.proofs.Grown.{Allowed, Grown}
 use Rattle.lu_guards.proofs.Lists.{self, life_is, life_self}
@@ -41,9 +41,9 @@ use Rattle.lu_lawful.proofs.Printed.{flip}
 use Rattle.lu_lawful.proofs.Lines.{Keeps, holds_before}
 use Rattle.lu_lawful.proofs.KeptReplies.{replied_acted}
 use Rattle.lu_lawful.proofs.OrderlyQuiet.{Says}
-use Rattle.lu_lawful.proofs.OrderlySaid.{takes_it}
+use Rattle.lu_lawful.proofs.Notices.{takes_it}
 use Rattle.lu_facts.proofs.Lines.{acted_whole}
-use Rattle.lu_lawful.proofs.Given.{owed}
+use Rattle.lu_lawful.proofs.Given.{owed, did_one, entered_not_did}
 
 took_not_did : (past : List Line) (at : At) (from : Node) (m : Message) (d : Deed) → TookNow past at from m → Did past d → ⊥
 took_not_did [] at from m d t i = t
@@ -180,7 +180,16 @@ module _ (u : ℕ) where
       (λ (same : e ≡ d). inl same)
       (λ (b : Acted past d). ⊎_elim (λ (did : Did past d). absurd (owed past (turn stamp (Target t)) d (Made e) did a.owes)) (λ (last : IsLast past d). inr last) (h b))
       i
-  keeps_answered head past stamp node (Grant lock asked) a g d here h n i = h i
+  keeps_answered head past stamp (Client c) (Grant lock asked) a g d here h n i = absurd a.ok
+  keeps_answered head past stamp (Target t) (Grant lock None) a g d here h n i = absurd a.ok
+  keeps_answered head past stamp (Target t) (Grant lock (Some f)) a g d here h n i = ⊎_elim
+      (λ (q : Some f ≡ Some d). inl q)
+      (λ (b : Acted past d). ⊎_elim (λ (did : Did past d). inl (of did a.ok)) (λ (last : IsLast past d). inr last) (h b))
+      i
+    where
+      of : Did past d → EntryOk past (turn stamp (Target t)) (Target t) (Grant lock (Some f)) → Some f ≡ Some d
+      of did (inl ok) = ap (λ (v : Deed). Some v) (did_one past f d ok.1 did)
+      of did (inr ok) = absurd (entered_not_did past (turn stamp (Target t)) f d ok.1 did)
   keeps_answered head past stamp node e a g d here h n i = ⊎_elim (λ (did : Did past d). absurd (owed past (turn stamp node) d e did a.owes)) (λ (last : IsLast past d). inr last) (h i)
 
   -- what was done and counts was answered, but for what was just done

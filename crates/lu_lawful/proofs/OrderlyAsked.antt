@@ -16,7 +16,7 @@ use Rattle.lu_msg.specs.declared.messages.Request.{Request as RequestOf}
 use Rattle.lu_trace.specs.declared.entries.Line.{Line as PrintedLine}
 use Rattle.lu_machine.specs.Tree.{same_life}
 use Rattle.lu_words.specs.Carried.{Deed, Disk, Outcome}
-use Rattle.lu_words.specs.Words.{Entry, Send, Take, Act, Txn as Made, Crash, Boot, Close, Evict, Enters, Line, line}
+use Rattle.lu_words.specs.Words.{Entry, Send, Take, Act, Txn as Made, Grant, Crash, Boot, Close, Evict, Enters, Line, line}
 use Rattle.lu_words.specs.Concerns.{concerns, only}
 use Rattle.lu_words.specs.Printed.{printed}
 use Rattle.lu_target_rows.specs.Lives.{is_life}
@@ -184,6 +184,9 @@ module _ (u : ℕ) where
   keeps_unanswered head past stamp (Client c) (Made d) a g s h r i = absurd a.ok
   keeps_unanswered head past stamp (Target t) (Act d) a g s h r i = acted_fewer past (turn stamp (Target t)) (Act d) d (nat_eq u t) r h i
   keeps_unanswered head past stamp (Target t) (Made d) a g s h r i = acted_fewer past (turn stamp (Target t)) (Made d) d (nat_eq u t) r h i
+  keeps_unanswered head past stamp (Client c) (Grant lock asked) a g s h r i = absurd a.ok
+  keeps_unanswered head past stamp (Target t) (Grant lock None) a g s h r i = absurd a.ok
+  keeps_unanswered head past stamp (Target t) (Grant lock (Some d)) a g s h r i = acted_fewer past (turn stamp (Target t)) (Grant lock (Some d)) d (nat_eq u t) r h i
   keeps_unanswered head past stamp (Client c) (Boot b disk) a g s h r i = absurd a.ok
   keeps_unanswered head past stamp (Target t) (Boot b disk) a g s h r i = booted (nat_eq u t) refl s
     where

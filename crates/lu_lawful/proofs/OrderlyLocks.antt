@@ -1,7 +1,7 @@
 -- What every covered run keeps of locks: what is held came in its turn, what is released was given back in its turn or its life was
 -- evicted there, and what is called back is granted, wasn't called back before, and guards what a request that waits would write.
-use Rattle.std.proofs.Common.{◌≡◌, ℕ, suc, ◌≤◌, Bool, true, false, List, [], ◌∷◌, ◌++◌, inl, inr, ⊎_elim, Option, Some, None, refl, sym, subst, ap, ◌∙◌, arith}
-use Rattle.std.specs.Prelude.{nat_eq, not, ◌&&◌, if◌then◌else◌, unwrap_or, filter, find}
+use Rattle.std.proofs.Common.{◌≡◌, ℕ, suc, ◌≤◌, ◌<◌, Bool, true, false, List, [], ◌∷◌, ◌++◌, inl, inr, ⊎_elim, Option, Some, None, refl, sym, subst, ap, ◌∙◌, arith}
+use Rattle.std.specs.Prelude.{max, nat_eq, not, ◌&&◌, ◌||◌, if◌then◌else◌, unwrap_or, filter, find}
 use Rattle.std.specs.List.{list_any}
 use Rattle.std.proofs.lemmas.Bool.{and_parts, cond_both, cond-true, eqb-true, eq-eqb, true≢false}
 use Rattle.std.proofs.lemmas.Bool.Decides.{nat_tests}
@@ -13,24 +13,29 @@ use Rattle.lu_base.specs.declared.ids.Stamp.{Stamp}
 use Rattle.lu_base.specs.declared.ids.Who.{Who}
 use Rattle.lu_base.specs.declared.locks.Cause.{Cause}
 use Rattle.lu_base.specs.declared.locks.Lock.{Lock}
+use Rattle.lu_msg.specs.declared.answers.Answer.{Answer}
+use Rattle.lu_msg.specs.declared.answers.Answer.TheVariants as told
 use Rattle.lu_msg.specs.declared.messages.Message.{Message}
 use Rattle.lu_msg.specs.declared.messages.Message.TheVariants as message
 use Rattle.lu_msg.specs.declared.messages.Reply.{Reply as ReplyTo}
 use Rattle.lu_msg.specs.declared.messages.Request.{Request as RequestOf}
+use Rattle.lu_msg.specs.declared.operations.Op.{Op}
+use Rattle.lu_msg.specs.declared.operations.Op.TheVariants as op
 use Rattle.lu_part.specs.declared.parts.Part.{Part}
 use Rattle.lu_machine.specs.Tree.{same_life}
 use Rattle.lu_machine.specs.Footprint.{Operation, writes}
 use Rattle.lu_machine.proofs.Numbers.{number_is_free}
 use Rattle.lu_trace.specs.declared.entries.Line.{Line as PrintedLine}
 use Rattle.lu_words.specs.Carried.{Deed, Called, Flight}
-use Rattle.lu_words.specs.Words.{Entry, Take, Heard, Hold, Act, Block, Release, Boot, Close, Evict, Line, line}
+use Rattle.lu_words.specs.Words.{Entry, Take, Heard, Hold, Act, Grant, Block, Release, Boot, Close, Evict, Line, line}
 use Rattle.lu_words.specs.Concerns.{concerns, only}
 use Rattle.lu_words.specs.Printed.{printed}
 use Rattle.lu_target_rows.specs.Lives.{is_life}
-use Rattle.lu_target_rows.specs.Locks.{with_locks, without_lock, locks_without, called_without}
+use Rattle.lu_target_rows.specs.Locks.{with_lock, with_locks, without_lock, locks_without, called_without}
 use Rattle.lu_target_rows.specs.Objects.{lock_of}
 use Rattle.lu_target_rows.specs.Phase.{first_of, greatest_cookie}
 use Rattle.lu_target_rows.specs.Replies as rows
+use Rattle.lu_client_rows.specs.Caches.{granted_lock}
 use Rattle.lu_covered.specs.TargetStates.{Server, granted_at, cookie_at, called_at, server_of, closed_of, shown_of, next_number}
 use Rattle.lu_covered.specs.Deeds.{asked, written_by}
 use Rattle.lu_covered.specs.Heads.{Head}
@@ -49,10 +54,10 @@ use Rattle.lu_laws.specs.Order.Blocks.{calls_back, is_called, guards, writes_gua
 use Rattle.lu_laws.specs.Order.Requests.{unanswered}
 use Rattle.lu_laws.proofs.Tests.{clash, either_left, either_right}
 use Rattle.lu_guards.proofs.Guards.{In, Was, Did, HeardNow, TookNow, TookBack, InTurn, IsEvict}
-use Rattle.lu_guards.proofs.StoryGuards.{IsServing, IsRecovering, BlockOk, BackOk, LeftOk, EntryOf}
+use Rattle.lu_guards.proofs.StoryGuards.{IsServing, IsRecovering, GrantOk, RangeOk, BlockOk, BackOk, LeftOk, EntryOf}
 use Rattle.lu_guards.proofs.Acts.{acted}
 use Rattle.lu_guards.proofs.Grown.{Allowed, Grown}
-use Rattle.lu_guards.proofs.Lists.{self, in_left, in_right, in_filter, in_filtered, life_self}
+use Rattle.lu_guards.proofs.Lists.{self, in_append, in_left, in_right, in_filter, in_filtered, life_self}
 use Rattle.lu_guards.proofs.Only.{sent_was}
 use Rattle.lu_guards.proofs.Parts.{boot_is as server_boot, granted_is, cookie_is, called_is, waiting_is, server_is}
 use Rattle.lu_facts.proofs.Groups.{turn}
@@ -72,9 +77,8 @@ use Rattle.lu_lawful.proofs.Evictions.{in_whole}
 use Rattle.lu_lawful.proofs.Holding.{heard_now, unique}
 use Rattle.lu_lawful.proofs.CloseLines.{nothing_left}
 use Rattle.lu_lawful.proofs.CloseSlots.{NoneLeft}
-use Rattle.lu_lawful.proofs.Notices.{on_way}
+use Rattle.lu_lawful.proofs.Notices.{on_way, takes_it}
 use Rattle.lu_lawful.proofs.OrderlyQuiet.{Says}
-use Rattle.lu_lawful.proofs.OrderlySaid.{takes_it}
 use Rattle.lu_lawful.proofs.OrderlyAsked.{all_unanswered}
 use Rattle.lu_guards.proofs.ClientLocks.{any_passes}
 use Rattle.lu_guards.proofs.LockLists.{greatest_least}
@@ -101,6 +105,12 @@ heard_taken head (l ∷ past) at t f r g h = by l.at.node l.entry g.0 h (heard_t
     by node (Hold u lock marked size seen) a q h = h q
     by node e a q h = absurd q
 
+-- what asked for a lock brings the one that the answer grants
+grants_it : (o : Op) (r : ReplyTo) (a : Answer) (l : Lock) → In l (granted_lock o r a) → grants l.cookie.0 a ≡ true
+grants_it (op.Enqueue resource mode asked) r (told.Granted cookie extent size) l (inl e) = subst (λ (v : Lock). nat_eq cookie.0 v.cookie.0 ≡ true) e (self cookie.0)
+grants_it (op.Enqueue resource mode asked) r (told.Granted cookie extent size) l (inr i) = absurd i
+grants_it o r a l i = absurd i
+
 hold_comes : (head : Head) (past : List Line) (stamp : Stamp) (c t : ℕ) (lock : Lock) (marked : Bool) (size : Option ℕ) (seen : List ℕ) → Allowed head past (turn stamp (Client c)) (Hold t lock marked size seen) → Grown head past
     → order.HoldBy (printed past) (turn stamp (Client c)) (Client c) t lock.cookie.0
 hold_comes head past stamp c t lock marked size seen a g =
@@ -111,8 +121,12 @@ hold_comes head past stamp c t lock marked size seen a g =
     let took = heard_taken head past at t a.ok.flight r g a.ok.heard in
     let mine : r.who ≡ W = i.0.who ∙ sym (present_is head c past g) in
     let own : same_life r.who W ≡ true = subst (λ (v : Who). same_life r.who v ≡ true) mine (life_self r.who) in
-    let among : list_any (λ (l : Lock). nat_eq l.cookie.0 lock.cookie.0) r.locks ≡ true = any_passes (λ (l : Lock). nat_eq l.cookie.0 lock.cookie.0) lock r.locks a.ok.among (self lock.cookie.0) in
-    let brought : brings_from t W lock.cookie.0 (on_way (Target t) (Client c) (message.Reply r)) ≡ true = rw (self t, own, either_right (grants lock.cookie.0 r.answer) among) refl in
+    let among : (grants lock.cookie.0 r.answer || list_any (λ (l : Lock). nat_eq l.cookie.0 lock.cookie.0) r.locks) ≡ true = ⊎_elim
+    (λ (j : In lock r.locks). either_right (grants lock.cookie.0 r.answer) (any_passes (λ (l : Lock). nat_eq l.cookie.0 lock.cookie.0) lock r.locks j (self lock.cookie.0)))
+    (λ (j : In lock (granted_lock a.ok.flight.op r r.answer)). either_left (list_any (λ (l : Lock). nat_eq l.cookie.0 lock.cookie.0) r.locks) (grants_it a.ok.flight.op r r.answer lock j))
+    (in_append lock r.locks (granted_lock a.ok.flight.op r r.answer) a.ok.among)
+    in
+    let brought : brings_from t W lock.cookie.0 (on_way (Target t) (Client c) (message.Reply r)) ≡ true = rw (self t, own, among) refl in
     subst (λ (v : List Sending). list_any (brings_from t W lock.cookie.0) v ≡ true) (sym took.1) (either_left (list_any (brings_from t W lock.cookie.0) took.0) brought)
 
 held_at : (head : Head) (past : List Line) (l : Line) (later : List PrintedLine) → Allowed head past l.at l.entry → Grown head past → Keeps order.Held past l later
@@ -137,15 +151,15 @@ found_one l (k ∷ ls) one i = by (has_cookie l.cookie.0 k) refl (found_one l ls
     by false e h = rw e (h (⊎_elim (λ (q : k ≡ l). absurd (clash (has_cookie l.cookie.0 k) (ap (λ (v : Lock). has_cookie l.cookie.0 v) q ∙ self l.cookie.0) e)) (λ (j : In l ls). j) i))
 
 -- where nothing was just done, a granted lock whose release isn't shown is found by its cookie
-granted_found : (head : Head) (past : List Line) (l : Lock) → Grown head past → ((d : Deed) → Did past d → ⊥) → In l (shown_of (only 0 past)) → find (has_cookie l.cookie.0) (granted 0 (printed past)) ≡ Some l
-granted_found head past l g none i =
-    found_one l (granted 0 (printed past)) (λ k j q. unique head past g k l (granted_showed head past k g j) shown q) here
+granted_found : (t : ℕ) (head : Head) (past : List Line) (l : Lock) → Grown head past → ((d : Deed) → Did past d → ⊥) → In l (shown_of (only t past)) → find (has_cookie l.cookie.0) (granted t (printed past)) ≡ Some l
+granted_found t head past l g none i =
+    found_one l (granted t (printed past)) (λ k j q. unique head t past g k l (granted_showed t head past k g j) shown q) here
   where
-    here : In l (granted 0 (printed past))
-    here = ⊎_elim (λ (q : In l (granted 0 (printed past))). q) (λ (q : JustGave past l). absurd (none q.0 q.1)) (all_granted head past g l i)
+    here : In l (granted t (printed past))
+    here = ⊎_elim (λ (q : In l (granted t (printed past))). q) (λ (q : JustGave t past l). absurd (none q.0 q.1)) (all_granted t head past g l i)
 
-    shown : Showed past l
-    shown = granted_showed head past l g here
+    shown : Showed t past l
+    shown = granted_showed t head past l g here
 
 -- ---- what is released was given back in this turn
 
@@ -183,44 +197,43 @@ module _ (head : Head) (past : List Line) (stamp : Stamp) (t : ℕ) (lock : Lock
   here = turn stamp (Target t)
 
   -- nothing of a close is left to show
-  release_none : NoneLeft head 0 past
-  release_none = nothing_left head (only 0 past) here (Release lock) (a.shows 0 (about_it t a.ok.0)) (λ s. s)
+  release_none : NoneLeft head t past
+  release_none = nothing_left head (only t past) here (Release lock) (a.shows t (self t)) (λ s. s)
 
-  release_shown : In lock (shown_of (only 0 past))
+  release_shown : In lock (shown_of (only t past))
   release_shown =
-      let ok = a.of 0 (about_it t a.ok.0) in
+      let ok = a.of t (self t) in
       ⊎_elim
-      (λ (b : BackOk head.osts (only 0 past) t lock). granted_shown head past lock g ok.0 release_none (in_lock_of lock.ask.who lock.cookie lock _ b.found))
-      (λ (b : LeftOk head.osts (only 0 past) lock). b.shown)
+      (λ (b : BackOk head.osts (only t past) t lock). granted_shown t head past lock g ok.0 release_none (in_lock_of lock.ask.who lock.cookie lock _ b.found))
+      (λ (b : LeftOk head.osts (only t past) lock). b.shown)
       ok.1
 
-  took_back : TookBack past here lock → is_given_back (printed past) here 0 lock.cookie.0 lock.ask.who ≡ true
+  took_back : TookBack past here t lock → is_given_back (printed past) here t lock.cookie.0 lock.ask.who ≡ true
   took_back back =
-      let was = subst (λ (v : ℕ). Was (only v past) back.from (Target t) (message.Cancel lock.ask.who back.boot lock.cookie)) a.ok.0
-      (was_to head past t back.from (message.Cancel lock.ask.who back.boot lock.cookie) g (took_was head past here back.from (message.Cancel lock.ask.who back.boot lock.cookie) g back.took)) in
-      let high = (((holds head past g).at 0).boots back.from (Target t) (message.Cancel lock.ask.who back.boot lock.cookie) was).1 in
-      let now = server_boot head.osts 0 past in
+      let was = was_to head past t back.from (message.Cancel lock.ask.who back.boot lock.cookie) g (took_was head past here back.from (message.Cancel lock.ask.who back.boot lock.cookie) g back.took) in
+      let high = (((holds head past g).at t).boots back.from (Target t) (message.Cancel lock.ask.who back.boot lock.cookie) was).1 in
+      let now = server_boot head.osts t past in
       let current = back.current in
-      let is = boot_of head 0 past g in
-      let first : back.boot ≡ boot 0 (printed past) = grind (arith, nat_tests, high, now, current, is) in
+      let is = boot_of head t past g in
+      let first : back.boot ≡ boot t (printed past) = grind (arith, nat_tests, high, now, current, is) in
       let took = takes_it head past here back.from (message.Cancel lock.ask.who back.boot lock.cookie) g back.took in
-      let its : nat_eq back.boot (boot 0 (printed past)) ≡ true = subst (λ (v : ℕ). nat_eq back.boot v ≡ true) first (self back.boot) in
-      let cancels : is_cancel (boot 0 (printed past)) lock.ask.who lock.cookie.0 (message.Cancel lock.ask.who back.boot lock.cookie) ≡ true = rw (its, life_self lock.ask.who, self lock.cookie.0) refl in
+      let its : nat_eq back.boot (boot t (printed past)) ≡ true = subst (λ (v : ℕ). nat_eq back.boot v ≡ true) first (self back.boot) in
+      let cancels : is_cancel (boot t (printed past)) lock.ask.who lock.cookie.0 (message.Cancel lock.ask.who back.boot lock.cookie) ≡ true = rw (its, life_self lock.ask.who, self lock.cookie.0) refl in
       either_left (has_ended (printed past) here lock.ask.who)
-      (subst (λ (v : List Sending). list_any (λ (s : Sending). is_cancel (boot 0 (printed past)) lock.ask.who lock.cookie.0 s.message) v ≡ true) (sym took.1)
-      (either_left (list_any (λ (s : Sending). is_cancel (boot 0 (printed past)) lock.ask.who lock.cookie.0 s.message) took.0) cancels))
+      (subst (λ (v : List Sending). list_any (λ (s : Sending). is_cancel (boot t (printed past)) lock.ask.who lock.cookie.0 s.message) v ≡ true) (sym took.1)
+      (either_left (list_any (λ (s : Sending). is_cancel (boot t (printed past)) lock.ask.who lock.cookie.0 s.message) took.0) cancels))
 
   release_given : ReleaseBy (printed past) here (Target t) lock.cookie.0
   release_given =
-      let found = granted_found head past lock g (λ d did. owed past here d (Release lock) did a.owes) release_shown in
-      let given : is_given_back (printed past) here 0 lock.cookie.0 lock.ask.who ≡ true = ⊎_elim
-      (λ (back : TookBack past here lock). took_back back)
+      let found = granted_found t head past lock g (λ d did. owed past here d (Release lock) did a.owes) release_shown in
+      let given : is_given_back (printed past) here t lock.cookie.0 lock.ask.who ≡ true = ⊎_elim
+      (λ (back : TookBack past here t lock). took_back back)
       (λ (i : InTurn (IsEvict lock.ask.who) (only t past) here).
-      either_right (list_any (λ (s : Sending). is_cancel (boot 0 (printed past)) lock.ask.who lock.cookie.0 s.message) (taken (printed past) here))
+      either_right (list_any (λ (s : Sending). is_cancel (boot t (printed past)) lock.ask.who lock.cookie.0 s.message) (taken (printed past) here))
       (evict_in past here lock.ask.who (in_whole (IsEvict lock.ask.who) t past here i)))
-      a.ok.1
+      a.ok
       in
-      subst (λ (v : ℕ). ReleaseBy (printed past) here (Target v) lock.cookie.0) (sym a.ok.0) (subst (λ (o : Option Lock). released.has_cause (printed past) here 0 lock.cookie.0 o ≡ true) (sym found) given)
+      subst (λ (o : Option Lock). released.has_cause (printed past) here t lock.cookie.0 o ≡ true) (sym found) given
 
 releases_at : (head : Head) (past : List Line) (l : Line) (later : List PrintedLine) → Allowed head past l.at l.entry → Grown head past → Keeps Releases past l later
 releases_at head past l later a g = by l.at.node l.entry a
@@ -319,6 +332,23 @@ module _ (head : Head) (past : List Line) (g : Grown head past) where
           let same = cookie_is head.osts 0 past in
           omega (arith, lt, le, same, q)
 
+  -- the metadata target only shows what was granted
+  called_grant : (stamp : Stamp) (t : ℕ) (lock : Lock) (f : Deed) → Allowed head past (turn stamp (Target t)) (Grant lock (Some f)) → AllCalled past → AllCalled (line (turn stamp (Target t)) (Grant lock (Some f)) ∷ past)
+  called_grant stamp t lock f a h k e = (
+    cond_both (nat_eq 0 t) (max (cookie_at 0 past) lock.cookie.0) (cookie_at 0 past) (λ (v : ℕ). k ≤ v)
+        (λ own. subst (λ (v : ℕ). k ≤ v) (sym (ap (λ (n : ℕ). max n lock.cookie.0) (cookie_is head.osts 0 past) ∙ (shows own).cookie ∙ sym (cookie_is head.osts 0 past))) (h k e).0)
+        (λ t. (h k e).0),
+    λ l. cond_both (nat_eq 0 t) (with_lock lock (granted_at 0 past)) (granted_at 0 past) (λ (v : List Lock). In l v → l.cookie.0 ≡ k → Among l (called_at 0 past))
+        (λ own i q. (h k e).1 l (subst (λ (v : List Lock). In l v) (ap (with_lock lock) (granted_is head.osts 0 past) ∙ (shows own).granted ∙ sym (granted_is head.osts 0 past)) i) q)
+        (λ t i q. (h k e).1 l i q),
+  )
+    where
+      shows : nat_eq 0 t ≡ true → GrantOk head.osts (only 0 past) lock f
+      shows own = ⊎_elim
+          (λ (ok : (t ≡ 0) × GrantOk head.osts (only 0 past) lock f). ok.1)
+          (λ (ok : (0 < t) × RangeOk head.osts (only 0 past) (turn stamp (Target t)) lock f). absurd (let high = ok.0 in let zero = eqb-true 0 t own in omega (arith, high, zero)))
+          (a.of 0 own)
+
   called_block : (stamp : Stamp) (t : ℕ) (called : Called) → Allowed head past (turn stamp (Target t)) (Block called) → AllCalled past → AllCalled (line (turn stamp (Target t)) (Block called) ∷ past)
   called_block stamp t called a h k e = by (is_target 0 (Target t) && nat_eq called.cookie.0 k) refl e
     where
@@ -342,18 +372,16 @@ module _ (head : Head) (past : List Line) (g : Grown head past) where
                 added l (called, in_right called (called_at 0 past) (called ∷ []) (inl refl), same ∙ sym s, ok.of_life ∙ ap (λ (v : Lock). v.ask.who) one),
           )
 
-  called_release : (stamp : Stamp) (t : ℕ) (lock : Lock) → Allowed head past (turn stamp (Target t)) (Release lock) → AllCalled past → AllCalled (line (turn stamp (Target t)) (Release lock) ∷ past)
-  called_release stamp t lock a h k e = ((h k e).0, still)
+  called_release : (stamp : Stamp) (t : ℕ) (lock : Lock) → AllCalled past → AllCalled (line (turn stamp (Target t)) (Release lock) ∷ past)
+  called_release stamp t lock h k e = ((h k e).0, λ l. still l (nat_eq 0 t) ((h k e).1 l))
     where
-      here : nat_eq 0 t ≡ true
-      here = about_it t a.ok.0
-
-      still : (l : Lock) → In l (granted_at 0 (line (turn stamp (Target t)) (Release lock) ∷ past)) → l.cookie.0 ≡ k → Among l (called_at 0 (line (turn stamp (Target t)) (Release lock) ∷ past))
-      still l i q =
-          let j = in_filter (λ (x : Lock). not (nat_eq x.cookie.0 lock.cookie.0)) l (granted_at 0 past) (subst (λ (v : List Lock). In l v) (cond-true (nat_eq 0 t) (without_lock lock (granted_at 0 past)) (granted_at 0 past) here) i) in
-          let m = (h k e).1 l j.0 q in
-          subst (λ (v : List Called). Among l v) (sym (cond-true (nat_eq 0 t) (called_without lock (called_at 0 past)) (called_at 0 past) here))
-          (m.0, in_filtered (λ (c : Called). not (nat_eq c.cookie.0 lock.cookie.0)) m.0 (called_at 0 past) m.1 (subst (λ (v : ℕ). not (nat_eq v lock.cookie.0) ≡ true) (sym m.2) j.1), m.2, m.3)
+      still : (l : Lock) (b : Bool) → (In l (granted_at 0 past) → l.cookie.0 ≡ k → Among l (called_at 0 past)) → In l (if b then without_lock lock (granted_at 0 past) else granted_at 0 past) → l.cookie.0 ≡ k
+          → Among l (if b then called_without lock (called_at 0 past) else called_at 0 past)
+      still l false m i q = m i q
+      still l true m i q =
+          let j = in_filter (λ (x : Lock). not (nat_eq x.cookie.0 lock.cookie.0)) l (granted_at 0 past) i in
+          let r = m j.0 q in
+          (r.0, in_filtered (λ (c : Called). not (nat_eq c.cookie.0 lock.cookie.0)) r.0 (called_at 0 past) r.1 (subst (λ (v : ℕ). not (nat_eq v lock.cookie.0) ≡ true) (sym r.2) j.1), r.2, r.3)
 
   -- what a life was called back for goes with its locks
   called_evict : (stamp : Stamp) (t : ℕ) (who : Who) (cause : Cause) → AllCalled past → AllCalled (line (turn stamp (Target t)) (Evict who cause) ∷ past)
@@ -376,10 +404,13 @@ module _ (head : Head) (past : List Line) (g : Grown head past) where
 keeps_called : (head : Head) (past : List Line) (stamp : Stamp) (node : Node) (e : Entry) → Allowed head past (turn stamp node) e → Grown head past → AllCalled past → AllCalled (line (turn stamp node) e ∷ past)
 keeps_called head past stamp (Client c) (Act d) a g h k e = absurd a.ok
 keeps_called head past stamp (Target t) (Act d) a g h k e = called_act head past g stamp t d a h k e
+keeps_called head past stamp (Client c) (Grant lock asked) a g h k e = absurd a.ok
+keeps_called head past stamp (Target t) (Grant lock None) a g h k e = absurd a.ok
+keeps_called head past stamp (Target t) (Grant lock (Some f)) a g h k e = called_grant head past g stamp t lock f a h k e
 keeps_called head past stamp (Client c) (Block called) a g h k e = absurd a.ok
 keeps_called head past stamp (Target t) (Block called) a g h k e = called_block head past g stamp t called a h k e
 keeps_called head past stamp (Client c) (Release lock) a g h k e = absurd a.ok
-keeps_called head past stamp (Target t) (Release lock) a g h k e = called_release head past g stamp t lock a h k e
+keeps_called head past stamp (Target t) (Release lock) a g h k e = called_release head past g stamp t lock h k e
 keeps_called head past stamp (Client c) (Evict who cause) a g h k e = absurd a.ok
 keeps_called head past stamp (Target t) (Evict who cause) a g h k e = called_evict head past g stamp t who cause h k e
 keeps_called head past stamp (Client c) (Boot b disk) a g h k e = absurd a.ok
@@ -454,7 +485,8 @@ block_caused head past stamp t called a g =
         (all_unanswered 0 head past g ok.serves r (subst (λ (v : List RequestOf). In r v) (sym (waiting_is head.osts 0 past)) ok.waits)) guarded
 
     cause : has_cause head.osts (printed past) 0 (find (has_cookie lock.cookie.0) (granted 0 (printed past))) ≡ true
-    cause = subst (λ (o : Option Lock). has_cause head.osts (printed past) 0 o ≡ true) (sym (granted_found head past lock g (λ d did. owed past (turn stamp (Target t)) d (Block called) did a.owes) (granted_shown head past lock g ok.serves none ok.granted))) waited
+    cause = subst (λ (o : Option Lock). has_cause head.osts (printed past) 0 o ≡ true)
+        (sym (granted_found 0 head past lock g (λ d did. owed past (turn stamp (Target t)) d (Block called) did a.owes) (granted_shown 0 head past lock g ok.serves none ok.granted))) waited
 
 blocks_at : (head : Head) (past : List Line) (l : Line) (later : List PrintedLine) → Allowed head past l.at l.entry → Grown head past → Keeps (Blocks head.osts) past l later
 blocks_at head past l later a g = by l.at.node l.entry a

@@ -1,6 +1,6 @@
 -- What every run keeps of crashes and boots, that what only a serving target does stands where it serves, and of waits, which no covered run
 -- has.
-use Rattle.std.proofs.Common.{◌≡◌, ℕ, ◌+◌, Bool, true, false, List, [], ◌∷◌, Option, Some, None, refl, sym, ap, ◌∙◌, arith}
+use Rattle.std.proofs.Common.{◌≡◌, ℕ, ◌+◌, ◌<◌, Bool, true, false, List, [], ◌∷◌, Option, Some, None, inl, inr, ⊎_elim, refl, sym, subst, ap, ◌∙◌, arith}
 use Rattle.std.specs.Prelude.{nat_eq, if◌then◌else◌, unwrap_or}
 use Rattle.std.proofs.lemmas.Bool.{eq-eqb}
 use Rattle.std.proofs.lemmas.Bool.Decides.{nat_tests}
@@ -22,11 +22,12 @@ use Rattle.lu_laws.specs.Order.Serving.{Serving}
 use Rattle.lu_laws.specs.Order.Boots.{Boots}
 use Rattle.lu_laws.specs.Order.Waits.{Waits}
 use Rattle.lu_guards.proofs.Guards.{Did, EntryOk}
-use Rattle.lu_guards.proofs.StoryGuards.{IsServing, CloseOk, EntryOf}
+use Rattle.lu_guards.proofs.StoryGuards.{IsServing, GrantOk, RangeOk, CloseOk, EntryOf}
 use Rattle.lu_guards.proofs.Acts.{acted}
 use Rattle.lu_guards.proofs.Grown.{Allowed, Grown, GrownOf}
 use Rattle.lu_guards.proofs.Lists.{self}
 use Rattle.lu_guards.proofs.Only.{grown_of}
+use Rattle.lu_guards.proofs.ClientLines.{some_is}
 use Rattle.lu_facts.proofs.Groups.{turn}
 use Rattle.lu_facts.proofs.All.{holds}
 use Rattle.lu_lawful.proofs.Deeds.{act_for}
@@ -101,7 +102,9 @@ did_serves head (l ∷ past) d g i = by l.at.node l.entry g.0 i (did_serves head
     by : (node : Node) (e : Entry) → EntryOf head past (turn l.at.stamp node) node e → Did (line (turn l.at.stamp node) e ∷ past) d → (Did past d → IsServing head.osts past) → IsServing head.osts (line (turn l.at.stamp node) e ∷ past)
     by (Target t) (Act x) ok i h = (acted head.osts past (turn l.at.stamp (Target t)) t x ok).serves
     by (Target t) (Made x) ok i h = ok.serves
-    by (Target t) (Grant lock asked) ok i h = h i
+    by (Target t) (Grant lock None) ok i h = absurd ok
+    by (Target t) (Grant lock (Some x)) (inl ok) i h = let s = h (subst (λ (y : Deed). Did past y) (some_is x d i) ok.1.did) in record { up = s.up; closed = s.closed }
+    by (Target t) (Grant lock (Some x)) (inr ok) i h = let s = ok.1.serves in record { up = s.up; closed = s.closed }
     by (Client c) (Act x) ok i h = absurd ok
     by (Client c) (Made x) ok i h = absurd ok
     by (Client c) (Grant lock asked) ok i h = absurd ok
@@ -117,7 +120,10 @@ serving_at head past l later a g = by l.at.node l.entry a
     by (Target t) (Made d) k = it_serves head t past g (k.of t (self t)).serves
     by (Client c) (Grant lock asked) k = absurd k.ok
     by (Target t) (Grant lock None) k = absurd k.ok
-    by (Target t) (Grant lock (Some d)) k = it_serves head t past g (did_serves head (only t past) d (grown_of head t past g) (k.of t (self t)).did)
+    by (Target t) (Grant lock (Some d)) k = it_serves head t past g (⊎_elim
+        (λ (p : (t ≡ 0) × GrantOk head.osts (only t past) lock d). did_serves head (only t past) d (grown_of head t past g) p.1.did)
+        (λ (p : (0 < t) × RangeOk head.osts (only t past) (turn l.at.stamp (Target t)) lock d). p.1.serves)
+        (k.of t (self t)))
     by (Client c) (Wait lock asked) k = absurd k.ok
     by (Target t) (Wait lock asked) k = absurd k.ok
     by (Client c) (Block called) k = absurd k.ok

@@ -22,7 +22,7 @@ use Rattle.lu_trace.specs.declared.entries.Line.{Line as PrintedLine}
 use Rattle.lu_machine.specs.Tree.{same_life}
 use Rattle.lu_machine.specs.Footprint.{Operation, answer, changes}
 use Rattle.lu_words.specs.Carried.{Deed, Flight}
-use Rattle.lu_words.specs.Words.{Entry, Send, Take, Heard as Hears_, Act, Txn as Made, Commit, Line, line}
+use Rattle.lu_words.specs.Words.{Entry, Send, Heard as Hears_, Act, Txn as Made, Commit, Line, line}
 use Rattle.lu_words.specs.Concerns.{concerns, only}
 use Rattle.lu_words.specs.Printed.{printed}
 use Rattle.lu_covered.specs.TargetParts.{operation}
@@ -31,21 +31,20 @@ use Rattle.lu_covered.specs.TargetCloses.{disk_of, closing_of}
 use Rattle.lu_covered.specs.ClientStates.{flights_of, is_own}
 use Rattle.lu_covered.specs.Heads.{Head}
 use Rattle.lu_laws.specs.Holds.{Holds}
-use Rattle.lu_laws.specs.Words.Pasts.{same_turn, or_else}
-use Rattle.lu_laws.specs.Words.Sends.{Sending, sending, with_taken, taken, as_reply, first_fit}
+use Rattle.lu_laws.specs.Words.Pasts.{or_else}
+use Rattle.lu_laws.specs.Words.Sends.{Sending, as_reply, first_fit}
 use Rattle.lu_laws.specs.Words.Boots.{committed}
 use Rattle.lu_laws.specs.Words.Lives.{who_is, is_by}
 use Rattle.lu_laws.specs.Words.Requests.{asked, is_of, has_heard, has_number, without_number, in_flight}
 use Rattle.lu_laws.specs.Order.Messages.{MessageAt, Messages}
 use Rattle.lu_laws.specs.Order.Heard.{HeardAt, Heard}
 use Rattle.lu_laws.specs.Order.Answers.{none, AnswerOf, AnswerBy, Answers}
-use Rattle.lu_guards.proofs.Guards.{In, Was, TookNow}
+use Rattle.lu_guards.proofs.Guards.{In, Was}
 use Rattle.lu_guards.proofs.Grown.{Allowed, Grown}
 use Rattle.lu_guards.proofs.Lists.{self, life_self}
 use Rattle.lu_guards.proofs.Parts.{life_is_of}
 use Rattle.lu_facts.proofs.Groups.{turn, Hears}
 use Rattle.lu_facts.proofs.All.{holds}
-use Rattle.lu_lawful.proofs.Turns.{same_turn_self}
 use Rattle.lu_lawful.proofs.Story.{story_at}
 use Rattle.lu_lawful.proofs.Once.{acted_sent}
 use Rattle.lu_laws.proofs.Tests.{settled, either_left, either_right}
@@ -54,8 +53,9 @@ use Rattle.lu_lawful.proofs.Facts.{AskedAt, AllAsked}
 use Rattle.lu_lawful.proofs.Commits.{told_committed}
 use Rattle.lu_lawful.proofs.Contents.{contents_alike, asked_before}
 use Rattle.lu_lawful.proofs.Deeds.{ActIs, TxnIs, act_is, txn_is}
-use Rattle.lu_lawful.proofs.Printed.{flip, present_is, own_by, own_story, sending_is}
+use Rattle.lu_lawful.proofs.Printed.{flip, present_is, own_by, own_story}
 use Rattle.lu_lawful.proofs.Taking.{boot_of}
+use Rattle.lu_lawful.proofs.Notices.{takes_it}
 use Rattle.lu_lawful.proofs.OrderlyQuiet.{Says}
 use Rattle.lu_facts.proofs.Lines.{acted_whole, hears_more}
 
@@ -117,29 +117,6 @@ messages_at head past l later a g = by l.at.node l.entry a
 
 pub messages : (head : Head) (past : List Line) → Grown head past → Holds Messages (printed past)
 messages head past g = holds_before head Messages Nothing (λ l past k. k) (λ past l later a g k. messages_at head past l later a g) past [] g tt
-
--- ---- what a turn took
-
--- the message that the newest line took
-pub takes_it : (head : Head) (past : List Line) (at : At) (from : Node) (m : Message) → Grown head past → TookNow past at from m → (rest : List Sending) × (taken (printed past) at ≡ record { from = from; to = at.node; message = m } ∷ rest)
-takes_it head [] at from m g t = absurd t
-takes_it head (l ∷ past) at from m g t = by l.entry g.0 t
-  where
-    by : (e : Entry) → Allowed head past l.at e → TookNow (line l.at e ∷ past) at from m → (rest : List Sending) × (taken (printed (line l.at e ∷ past)) at ≡ record { from = from; to = at.node; message = m } ∷ rest)
-    by (Take n sender msg) k t =
-        let now : same_turn l.at at ≡ true = subst (λ (v : At). same_turn l.at v ≡ true) t.0 (same_turn_self l.at) in
-        let is = sending_is past n sender l.at.node msg k.ok.sent in (
-          taken (printed past) at,
-          cond-true (same_turn l.at at) (with_taken (sending (printed past) n) (taken (printed past) at)) (taken (printed past) at) now
-              ∙ ap (λ (o : Option Sending). with_taken o (taken (printed past) at)) is
-              ∙ ap (λ (v : Node). taking v l.at.node msg) t.1
-              ∙ ap (λ (v : At). taking from v.node msg) t.0
-              ∙ ap (λ (v : Message). taking from at.node v) t.2,
-        )
-      where
-        taking : (from to : Node) → Message → List Sending
-        taking from to m = record { from = from; to = to; message = m } ∷ taken (printed past) at
-    by _ k t = absurd t
 
 -- ---- what is heard
 

@@ -1,5 +1,5 @@
 -- What the notions of the laws are over the printed past of a grown one.
-use Rattle.std.proofs.Common.{◌≡◌, ℕ, ◌+◌, Bool, true, false, List, [], ◌∷◌, Option, Some, None, inl, inr, ⊎_elim, refl, sym, subst, ap, ◌∙◌, arith}
+use Rattle.std.proofs.Common.{◌≡◌, ◌⊎◌, ℕ, ◌+◌, Bool, true, false, List, [], ◌∷◌, Option, Some, None, inl, inr, ⊎_elim, refl, sym, subst, ap, ◌∙◌, arith}
 use Rattle.std.specs.Prelude.{nat_eq, ◌&&◌, ◌||◌, ◌≤◌, if◌then◌else◌, is_some}
 use Rattle.std.specs.Option.{option_map}
 use Rattle.std.proofs.lemmas.Bool.{and_parts, cond_both, eqb-true, or_right}
@@ -9,13 +9,15 @@ use Rattle.lu_base.specs.declared.ids.Node.{Node}
 use Rattle.lu_base.specs.declared.ids.Stamp.{Stamp}
 use Rattle.lu_base.specs.declared.ids.Node.TheVariants.{Client, Target}
 use Rattle.lu_base.specs.declared.ids.Who.{Who}
+use Rattle.lu_base.specs.declared.locks.Lock.{Lock}
 use Rattle.lu_msg.specs.declared.messages.Message.{Message}
 use Rattle.lu_msg.specs.declared.messages.Message.TheVariants as message
 use Rattle.lu_msg.specs.declared.messages.Request.{Request as RequestOf}
 use Rattle.lu_msg.specs.declared.calls.Call.{Call}
+use Rattle.lu_held.specs.declared.names.LockName.{LockName}
 use Rattle.lu_trace.specs.declared.entries.Entry.{Entry as PrintedEntry}
 use Rattle.lu_trace.specs.declared.entries.Entry.TheVariants as trace
-use Rattle.lu_words.specs.Carried.{Asking, Asked, Answered, Plain, Bad, Sizes, Work, Running}
+use Rattle.lu_words.specs.Carried.{Asking, Asked, Answered, Stage, Plain, Bad, Enqueued, Came, Sizes, Work, Running}
 use Rattle.lu_words.specs.Words.{Entry, Begin, Send, Take, Heard, Told, Life, Queues, Stands, Die, Evict, Line, line, is_client, same_life}
 use Rattle.lu_words.specs.Concerns.{concerns, only}
 use Rattle.lu_words.specs.Sent.{count_sent, Sent}
@@ -32,7 +34,7 @@ use Rattle.lu_laws.specs.Words.Calls.{open_call}
 use Rattle.lu_laws.specs.Words.Calls as calls
 use Rattle.lu_laws.specs.Words.Requests.{is_of, first_request}
 use Rattle.lu_laws.proofs.Tests.{target_is}
-use Rattle.lu_guards.proofs.Guards.{In, Was, Took, SizesSoFar, EntryOk}
+use Rattle.lu_guards.proofs.Guards.{In, Was, Took, SizesSoFar, SizesStand, LockStand, StatStand, StandsOk, EntryOk}
 use Rattle.lu_guards.proofs.Grown.{Allowed, Grown}
 use Rattle.lu_guards.proofs.Lists.{self, life_is, who}
 use Rattle.lu_guards.proofs.Parts.{life_is_of}
@@ -256,13 +258,27 @@ evicted_gone t (l ∷ past) w e = by l.at.node l.entry e (evicted_gone t past w)
 
 -- a glimpse that has some sizes isn't on a bad handle
 pub far_good : (past : List Line) (at : At) (r : Running) (sizes : List ℕ) → SizesSoFar past at r sizes → r.stage ≡ Bad → ⊥
-far_good past at r sizes (inl p) bad = let plain : Plain ≡ Bad = sym p.0 ∙ bad in absurd (cc)
+far_good past at r sizes (inl p) bad = let plain : Plain ≡ Bad = sym p.plain ∙ bad in absurd (cc)
 far_good past at r sizes (inr p) bad = let sizing : Sizes p.work ≡ Bad = sym p.stage ∙ bad in absurd (cc)
+
+-- a call that goes on isn't on a bad handle, before nor after
+pub stands_good : (past : List Line) (at : At) (c slot : ℕ) (r : Running) (k : StandsOk past at c slot r) → (k.running.stage ≡ Bad → ⊥) × (k.stage ≡ Bad → ⊥)
+stands_good past at c slot r k = by k.how
+  where
+    -- it asks for a lock, or got one
+    locks : {A B : Type 0} (work : Work) → ((k.stage ≡ Enqueued work) × A) ⊎ ((lock : Lock) × (k.stage ≡ Came work lock) × B) → k.stage ≡ Bad → ⊥
+    locks work (inl e) bad = let both : Enqueued work ≡ Bad = sym e.0 ∙ bad in absurd (cc)
+    locks work (inr e) bad = let both : Came work e.0 ≡ Bad = sym e.1 ∙ bad in absurd (cc)
+
+    by : SizesStand past at k.running k.stage k.pins ⊎ LockStand past c k.running k.stage ⊎ StatStand past at c k.running k.stage k.pins → (k.running.stage ≡ Bad → ⊥) × (k.stage ≡ Bad → ⊥)
+    by (inl p) = (far_good past at k.running p.sizes p.so_far, λ bad. let both : Sizes p.work ≡ Bad = sym p.is ∙ bad in absurd (cc))
+    by (inr (inl p)) = (p.read.good, λ bad. locks p.work p.is bad)
+    by (inr (inr p)) = (p.stat.good, λ bad. locks p.work p.is bad)
 
 -- what holds of each call as it begins, and turns neither on what it asked nor on how far a good one has come, holds of the call in a slot
 -- and the one that stands there by the laws
 module _ (R : Running → calls.Begun → Type 0) (stays : (asking : Asking) (a : Running) (b : calls.Begun) → R a b → R (record a { asking = asking }) b)
-    (stands : (work : Work) (a : Running) (b : calls.Begun) → (a.stage ≡ Bad → ⊥) → R a b → R (record a { stage = Sizes work }) b) where
+    (stands : (stage : Stage) (pins : List LockName) (a : Running) (b : calls.Begun) → (a.stage ≡ Bad → ⊥) → (stage ≡ Bad → ⊥) → R a b → R (record a { stage = stage; pins = pins }) b) where
   abbrev pub OfBoth : Option Running → Option calls.Begun → Type 0
   OfBoth None None = Unit {0}
   OfBoth (Some a) (Some b) = R a b
@@ -325,8 +341,8 @@ module _ (R : Running → calls.Begun → Type 0) (stays : (asking : Asking) (a 
             stood : (o : Option calls.Begun) → call_at c slot past ≡ Some k.ok.running → OfBoth (call_at c slot past) o → OfBoth (Some running) o
             stood None is both = absurd (subst (λ (v : Option Running). OfBoth v None) is both)
             stood (Some b) is both =
-                subst (λ (v : Running). R v b) (sym k.ok.is) (stands k.ok.work k.ok.running b (far_good past (turn l.at.stamp (Client d)) k.ok.running k.ok.sizes k.ok.so_far)
-                (subst (λ (v : Option Running). OfBoth v (Some b)) is both))
+                let good = stands_good past (turn l.at.stamp (Client d)) d s running k.ok in
+                subst (λ (v : Running). R v b) (sym k.ok.is) (stands k.ok.stage k.ok.pins k.ok.running b good.0 good.1 (subst (λ (v : Option Running). OfBoth v (Some b)) is both))
         by (Target t) (Begin s running) k h = absurd k.ok
         by (Target t) (Told s at answer work) k h = absurd k.ok
         by (Target t) (Queues u q) k h = absurd k.ok
@@ -339,10 +355,10 @@ abbrev pub IsSame : Running → calls.Begun → Type 0
 IsSame a b = (a.at ≡ b.at) × (a.call ≡ b.call)
 
 abbrev pub SameCall : Option Running → Option calls.Begun → Type 0
-SameCall = OfBoth IsSame (λ asking a b s. s) (λ work a b good s. s)
+SameCall = OfBoth IsSame (λ asking a b s. s) (λ stage pins a b good better s. s)
 
 pub same_call : (head : Head) (c slot : ℕ) (past : List Line) → Grown head past → SameCall (call_at c slot past) (open_call c slot (printed past))
-same_call head c slot past g = both_calls IsSame (λ asking a b s. s) (λ work a b good s. s) head c slot (λ past stamp s running g k. (ap (λ (r : Running). r.at) k.ok.is, refl)) past g
+same_call head c slot past g = both_calls IsSame (λ asking a b s. s) (λ stage pins a b good better s. s) head c slot (λ past stamp s running g k. (ap (λ (r : Running). r.at) k.ok.is, refl)) past g
 
 -- the call alone
 call_alone : (c slot : ℕ) (past : pasts.Past) → calls.call_in c slot past ≡ option_map (λ (b : calls.Begun). b.call) (open_call c slot past)

@@ -44,15 +44,17 @@ use Rattle.lu_laws.specs.Holds.{HoldsBefore, Holds}
 use Rattle.lu_laws.specs.Laws.Recovery as law
 use Rattle.lu_laws.specs.Laws.Recovery.{request_sees, TransactionAt, answers_size, is_size_for, is_executed, other_than, reply_seen, ReplyAt, BringsBack, TakenAt, CommitAt, RecoveryAt, RecoveryOf, Recovery}
 use Rattle.lu_guards.proofs.Guards.{In, Later, Steps, Did, Taken, RepliesNow, EntryOk}
+use Rattle.lu_guards.proofs.ClientLines.{some_is}
 use Rattle.lu_guards.proofs.StoryGuards.{CommitOk, IsServing, ReplyOk, AsksAgain, EvictOk, LeavesOk, JoinedOk, ComesOk}
 use Rattle.lu_guards.proofs.Grown.{Noted, Allowed, Grown}
 use Rattle.lu_guards.proofs.Parts as parts
 use Rattle.lu_guards.proofs.Only.{grown_of}
 use Rattle.lu_guards.proofs.Lists.{self, turn_trans, turn_irreflexive, life_is, life_self}
+use Rattle.lu_guards.proofs.TargetObjects.{ranged}
 use Rattle.lu_facts.proofs.Groups.{turn, Acted, Counts, Rebuilt, History, HoldsAt}
 use Rattle.lu_facts.proofs.DoneGrows.{did_acted}
 use Rattle.lu_facts.proofs.All.{holds}
-use Rattle.lu_facts.proofs.Sides.{acted_sized}
+use Rattle.lu_facts.proofs.Sides.{acted_object}
 use Rattle.lu_lawful.proofs.Turns.{later_before, same_turn_is, same_turn_self}
 use Rattle.lu_lawful.proofs.Evictions.{evict_law}
 use Rattle.lu_lawful.proofs.Printed.{sending_is}
@@ -60,7 +62,8 @@ use Rattle.lu_lawful.proofs.Taking.{either_way, boot_of, recovering_is, recovers
 use Rattle.lu_lawful.proofs.Backs.{OneTold, Follows, follows_none, follows_before, brings_back, back_at}
 use Rattle.lu_lawful.proofs.OneWord.{one_told}
 use Rattle.lu_lawful.proofs.Lines.{OfPrinted, Keeps, after_line}
-use Rattle.lu_lawful.proofs.Once.{NoneNow, act_now, txn_now}
+use Rattle.lu_lawful.proofs.Once.{NoneNow, act_now, txn_now, grant_now}
+use Rattle.lu_lawful.proofs.Given.{range_turn}
 use Rattle.lu_lawful.proofs.Facts.{AskedAt, AllAsked}
 use Rattle.lu_lawful.proofs.Contents.{number_is, number_in_boot, below_next, asked_before, contents_alike}
 use Rattle.lu_lawful.proofs.SeenNumbers.{seen_is}
@@ -92,6 +95,8 @@ acted_before head (l ∷ past) at d g later a = by l.entry g.0 a (λ b. acted_be
     by (Act e) k (inr b) h = h b
     by (Made e) k (inl same) h = here e (txn_now head past l.at.stamp l.at.node e k g.1).turn same
     by (Made e) k (inr b) h = h b
+    by (Grant lock asked) k (inl q) h = ⊎_elim h (λ p. here d p.1.turn refl) (grant_now head past l.at.stamp l.at.node lock asked d k q g.1)
+    by (Grant lock asked) k (inr b) h = h b
     by _ k b h = h b
 
 -- ---- no target asks another how long a file is
@@ -186,6 +191,7 @@ none_seen head (l ∷ past) at who x g n = by l.at.node l.entry g.0 n (none_seen
         of true false t s = h (λ e a. n e (inr a))
         of false now t s = h (λ e a. n e (inr a))
     by node (Act d) k n h = h (λ e a. n e (inr a))
+    by node (Grant lock asked) k n h = h (λ e a. n e (inr a))
     by node e k n h = h n
 
 abbrev reply_numbers : ℕ → List Line → ReplyTo → List ℕ
@@ -232,7 +238,18 @@ did_reply head (l ∷ past) d first g a i = by l.at.node l.entry g a i (did_repl
         let same : suc t ≡ 0 = target_is (suc t) 0 (sym (ap (λ (v : At). v.node) (act_now head past l.at.stamp (Target (suc t)) e g.0 g.1).turn) ∙ ap (λ (v : Deed). v.reply.at.node) i ∙ first) in
         absurd (omega (arith, same))
     by node (Made e) g a i h = subst (λ (v : Deed). v.reply.seen ≡ reply_numbers head.osts (line (turn l.at.stamp node) (Made e) ∷ past) v.reply) i (txn_reply head past l.at.stamp node e g)
-    by node (Grant lock asks) g a i h = h g.1 a i
+    by (Client c) (Grant lock asks) g a i h = absurd g.0.ok
+    by (Target t) (Grant lock None) g a i h = absurd g.0.ok
+    by (Target t) (Grant lock (Some e)) g a i h = h g.1 a (shown g.0.ok)
+      where
+        same : e ≡ d
+        same = some_is e d i
+
+        shown : EntryOk past (turn l.at.stamp (Target t)) (Target t) (Grant lock (Some e)) → Did past d
+        shown (inl ok) = subst (λ (v : Deed). Did past v) same ok.1
+        shown (inr ok) =
+            let turned = range_turn head.osts (only t past) (turn l.at.stamp (Target t)) lock e (ranged head.osts (only t past) (turn l.at.stamp (Target t)) t lock e ok.0 (g.0.of t (self t))) in
+            absurd (let zero = target_is t 0 (sym (ap (λ (v : At). v.node) turned) ∙ ap (λ (v : Deed). v.reply.at.node) same ∙ first) in let high = ok.0 in omega (arith, zero, high))
     by _ _ g a i h = absurd i
 
 -- what was done in an earlier turn isn't of this one; and what a close made anew isn't told again, for its request is of an earlier boot
@@ -327,7 +344,7 @@ none_made_there head (l ∷ past) at t who x here high g = by l.at.node l.entry 
 object_reply : (head : Head) (past : List Line) (at : At) (t c : ℕ) (k : ReplyTo) → at.node ≡ Target t → 0 < t → Grown head past → ReplyOk head (only t past) t c k → ReplyAt head.osts t (printed past) at k
 object_reply head past at t c k here high g so e =
     let d = replied_acted head t past g t c k so in
-    let sized = acted_sized head past t d.0 high g d.1 in
+    let sized = acted_object head past t d.0 high g d.1 in
     let seen : k.seen ≡ [] = ap (λ (r : ReplyTo). r.seen) so.is ∙ ap (λ (r : ReplyTo). r.seen) (sym d.2) ∙ deed_unseen head past t d.0 g high d.1 in
     let number : k.txn.0 ≡ 0 = ap (λ (r : ReplyTo). r.txn.0) so.is ∙ ap (λ (r : ReplyTo). r.txn.0) (sym d.2) ∙ ap (λ (n : Txn). n.0) sized.number in
     let touched = touches_of head.osts t (printed past) k.txn k.who (asked (printed past) t k.who k.xid.0) k.answer in

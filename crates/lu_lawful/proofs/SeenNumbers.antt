@@ -11,7 +11,7 @@ use Rattle.lu_base.specs.declared.ids.Txn.{Txn}
 use Rattle.lu_part.specs.declared.parts.Part.{Part}
 use Rattle.lu_machine.specs.Seen.{meet}
 use Rattle.lu_words.specs.Carried.{Deed}
-use Rattle.lu_words.specs.Words.{Entry, Act, Txn as Made, Line, line}
+use Rattle.lu_words.specs.Words.{Entry, Act, Txn as Made, Grant, Line, line}
 use Rattle.lu_words.specs.Concerns.{only}
 use Rattle.lu_words.specs.Printed.{printed}
 use Rattle.lu_covered.specs.TargetParts.{operation}
@@ -33,7 +33,7 @@ use Rattle.lu_facts.proofs.Lines.{acted_whole}
 use Rattle.lu_lawful.specs.Fits.{WasMade}
 use Rattle.lu_lawful.proofs.Facts.{AskedAt, AllAsked}
 use Rattle.lu_lawful.proofs.Deeds.{TxnIs, act_for, txn_is}
-use Rattle.lu_lawful.proofs.Story.{about_it, made_story}
+use Rattle.lu_lawful.proofs.Story.{about_it, grant_made, made_story}
 use Rattle.lu_lawful.proofs.Commits.{listed}
 use Rattle.lu_lawful.proofs.LostNumbers.{lost_is}
 use Rattle.lu_lawful.proofs.Contents.{asked_before, contents_alike}
@@ -76,6 +76,7 @@ in_made head (l ∷ past) d g i = by l.at.node l.entry g.0 i (in_made head past 
         (λ (v : ⊥). absurd v) j)
         (in_append d (made_in past) (x ∷ []) i)
     by node (Act x) k i ih = let r = ih i in (inr r.0, r.1)
+    by node (Grant lock asked) k i ih = let r = ih i in (inr r.0, r.1)
     by node e k i ih = ih i
 
 made_there : (head : Head) (past : List Line) (d : Deed) → Grown head past → Acted past d → IsMade d → In d (made_in past)
@@ -88,6 +89,8 @@ made_there head (l ∷ past) d g a made = by l.at.node l.entry g.0 a (λ b. made
     by (Client c) (Act x) k i ih = absurd k.ok
     by (Target t) (Act x) k (inl e) ih = absurd (let zero : d.reply.txn.0 ≡ 0 = ap (λ (v : Deed). v.reply.txn.0) (sym e) ∙ ap (λ (n : Txn). n.0) (act_for head past l.at.stamp t x k).number in omega (arith, zero, made))
     by (Target t) (Act x) k (inr b) ih = ih b
+    by node (Grant lock asked) k (inl q) ih = ih (grant_made head past l.at.stamp node lock asked d k q made)
+    by node (Grant lock asked) k (inr b) ih = ih b
     by node e k b ih = ih b
 
 made_rises : (head : Head) (past : List Line) → Grown head past → DeedsRise (made_in past)

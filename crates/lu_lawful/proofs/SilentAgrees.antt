@@ -1,9 +1,6 @@
 -- Of one name all facts of a client whose locks it holds, marked or not, tell the same: each is true of one tree, as its life
 -- knows it: where that was evicted, as it was then.
-use Rattle.std.proofs.Common.{◌≡◌, ℕ, true, List, Some, sym, subst, ap, ◌∙◌}
-use Rattle.lu_base.specs.declared.ids.Fid.{Fid}
-use Rattle.lu_part.specs.declared.parts.Part.{Part}
-use Rattle.lu_part.specs.declared.parts.Part.TheVariants as part
+use Rattle.std.proofs.Common.{◌≡◌, ℕ, List, Some, sym, ap, ◌∙◌}
 use Rattle.lu_machine.specs.declared.child.Child.{Child}
 use Rattle.lu_machine.specs.Tree.{Tree}
 use Rattle.lu_machine.specs.Table.{found}
@@ -11,32 +8,28 @@ use Rattle.lu_words.specs.Words.{Line}
 use Rattle.lu_words.specs.Concerns.{only}
 use Rattle.lu_client_rows.specs.Caches.{held_at}
 use Rattle.lu_client_rows.specs.Facts.{Fact}
-use Rattle.lu_client_rows.specs.Known.{same_part}
 use Rattle.lu_covered.specs.Calls.{life_at}
 use Rattle.lu_covered.specs.Heads.{Head}
 use Rattle.lu_guards.proofs.Grown.{Grown}
-use Rattle.lu_facts.proofs.KnownPaths.{Tells, TellsName, TellsOf, part_is, Usable}
+use Rattle.lu_facts.proofs.KnownPaths.{Tells, Usable}
 use Rattle.lu_facts.proofs.Taught.{bound_of, tree_for}
 use Rattle.lu_facts.proofs.Known.{held_stands}
-use Rattle.lu_lawful.proofs.SilentKnown.{Agrees}
+use Rattle.lu_facts.proofs.TaughtKnown.{Agrees}
+use Rattle.lu_facts.proofs.ToldFiles.{on_name}
 use Rattle.lu_lawful.proofs.SilentHeld.{bare_at, bare_present}
-
--- what a fact on a name tells
-on_name : (t : Tree) (bound : ℕ) (d : Fid) (m : List ℕ) (f : Fact) → Tells t bound f → same_part (part.Name d m) f.part ≡ true → TellsName t d m f.answer
-on_name t bound d m f tells same = subst (λ (p : Part). TellsOf t bound p f.answer) (sym (part_is (part.Name d m) f.part same)) tells.is
 
 one_child : (a b : Child) → Some a ≡ Some b → a ≡ b
 one_child a b e = cc
 
 module _ (head : Head) (c : ℕ) (past : List Line) (g : Grown head past) where
-  abbrev tree : Tree
+  abbrev pub tree : Tree
   tree = tree_for head.osts (life_at c past) (only 0 past)
 
-  abbrev bound : ℕ
+  abbrev pub bound : ℕ
   bound = bound_of head.osts (only 0 past)
 
-  is_true : (f : Fact) → Usable (bare_at c past) f → Tells tree bound f
-  is_true f u = let h = bare_present f.cookie (held_at c past) u.1 in (held_stands head past c f g u.0 h.0 h.1.0 (ap (λ (n : ℕ). record { 0 = n }) h.1.1.1)).tells
+  pub is_true : (f : Fact) → Usable (bare_at c past) f → Tells tree bound f
+  is_true f u = let h = bare_present f.cookie (held_at c past) u.1 in (held_stands head past c f g u.0 h.0 h.1.0 h.1.1.0.0 (ap (λ (n : ℕ). record { 0 = n }) h.1.1.0.1)).tells
 
   pub agrees : Agrees (bare_at c past)
   agrees d m f k u v p q =

@@ -1,30 +1,38 @@
 -- The call in a slot is the same in a past and in its print, and so is each call that stands calm for a client's present life; it
 -- stood calm before each line of its turn. For a new life nothing stands calm or is known yet.
-use Rattle.std.proofs.Common.{◌≡◌, ℕ, ◌<◌, Bool, true, false, List, [], ◌∷◌, ◌++◌, Option, Some, None, inl, inr, ⊎_elim, refl, sym, subst, ap, ◌∙◌, arith}
+use Rattle.std.proofs.Common.{◌≡◌, ℕ, ◌<◌, Bool, true, false, List, [], ◌∷◌, ◌++◌, ◌⊎◌, Option, Some, None, inl, inr, ⊎_elim, refl, sym, subst, ap, ◌∙◌, arith}
 use Rattle.std.specs.Prelude.{nat_eq, not, ◌&&◌, if◌then◌else◌, filter}
 use Rattle.std.specs.Option.{option_map}
-use Rattle.std.proofs.lemmas.Bool.{cond_both, and_parts, eqb-true}
+use Rattle.std.proofs.lemmas.Bool.{cond_both, cond-true, and_parts, eqb-true}
 use Rattle.std.proofs.lemmas.Bool.Decides.{nat_tests}
 use Rattle.lu_base.specs.declared.ids.At.{At}
 use Rattle.lu_base.specs.declared.ids.Node.{Node}
 use Rattle.lu_base.specs.declared.ids.Node.TheVariants.{Client, Target}
+use Rattle.lu_base.specs.declared.ids.Stamp.{Stamp}
 use Rattle.lu_base.specs.declared.ids.Who.{Who}
 use Rattle.lu_msg.specs.declared.calls.Call.{Call}
+use Rattle.lu_msg.specs.declared.calls.Call.TheVariants as call
+use Rattle.lu_msg.specs.declared.messages.Message.{Message}
+use Rattle.lu_msg.specs.declared.messages.Message.TheVariants as message
 use Rattle.lu_machine.specs.Footprint.{Every}
 use Rattle.lu_words.specs.Carried.{Asking, Running}
-use Rattle.lu_words.specs.Words.{Entry, Begin, Heard, Told, Take, Drop, Life, Queues, Stands, Line, line}
+use Rattle.lu_held.specs.declared.names.LockName.{LockName}
+use Rattle.lu_words.specs.Words.{Entry, Begin, Heard, Told, Take, Drop, Life, Marks, Queues, Stands, Line, line, is_client}
 use Rattle.lu_words.specs.Printed.{printed}
 use Rattle.lu_covered.specs.Calls.{call_at, asks, asks_for}
 use Rattle.lu_covered.specs.Heads.{Head}
-use Rattle.lu_laws.specs.Words.Lives.{life, who_is}
+use Rattle.lu_laws.specs.Words.Pasts.{Past}
+use Rattle.lu_laws.specs.Words.Sends.{Sending, sending, message_of}
+use Rattle.lu_laws.specs.Words.Lives.{life, who_is, is_by}
 use Rattle.lu_laws.specs.Words.Calls.{call_in}
-use Rattle.lu_laws.specs.Words.Repeats.{rebinds, is_ready, in_other_slot, begun_calm, calm, known}
+use Rattle.lu_laws.specs.Words.Repeats.{disturbs, rebinds, is_ready, in_other_slot, begun_calm, calm, known}
 use Rattle.lu_guards.proofs.Lists.{self, in_append, in_filter}
-use Rattle.lu_guards.proofs.Guards.{In, EntryOk, LifeOk}
-use Rattle.lu_guards.proofs.Grown.{Grown}
+use Rattle.lu_guards.proofs.Guards.{In, TookNow, IsFree, CallsBack, EntryOk, LifeOk}
+use Rattle.lu_guards.proofs.Grown.{Allowed, Grown}
 use Rattle.lu_facts.proofs.Groups.{turn}
-use Rattle.lu_lawful.proofs.Printed.{flip}
-use Rattle.lu_lawful.proofs.SilentHeld.{gives_up}
+use Rattle.lu_lawful.proofs.Printed.{flip, sending_is}
+use Rattle.lu_lawful.proofs.SilentHeld.{MarksFree, Stays}
+use Rattle.lu_lawful.proofs.SilentOpens.{KeepsHandles}
 use Rattle.lu_lawful.proofs.Handles.{rises, and_true}
 
 -- ---- the call in a slot is the same
@@ -58,8 +66,12 @@ call_is head c slot (l ∷ past) g = by l.at.node l.entry g.0.ok (call_is head c
         → call_in c slot (printed (line (turn l.at.stamp node) e ∷ past)) ≡ called (call_at c slot (line (turn l.at.stamp node) e ∷ past))
     by (Client d) (Begin s running) ok h = rw (flip d c) (began_same running (call_at c slot past) (call_in c slot (printed past)) (nat_eq c d) (nat_eq s slot) h)
     by (Client d) (Told s named given work) ok h = rw (flip d c) (told_same (call_at c slot past) (call_in c slot (printed past)) (nat_eq c d) (nat_eq s slot) h)
-    by (Client d) (Queues t q) ok h = cond_both (nat_eq c d) (asks_for q.slot slot _ (call_at c slot past)) (call_at c slot past) (λ (o : Option Running). call_in c slot (printed past) ≡ called o) (λ b. h ∙ sym (asks_stays q.slot slot _ (call_at c slot past))) (λ b. h)
-    by (Client d) (Heard t f r) ok h = cond_both (nat_eq c d) (asks_for f.slot slot _ (call_at c slot past)) (call_at c slot past) (λ (o : Option Running). call_in c slot (printed past) ≡ called o) (λ b. h ∙ sym (asks_stays f.slot slot _ (call_at c slot past))) (λ b. h)
+    by (Client d) (Queues t q) ok h =
+        cond_both (nat_eq c d) (asks_for q.slot slot _ (call_at c slot past)) (call_at c slot past) (λ (o : Option Running). call_in c slot (printed past) ≡ called o)
+        (λ b. h ∙ sym (asks_stays q.slot slot _ (call_at c slot past))) (λ b. h)
+    by (Client d) (Heard t f r) ok h =
+        cond_both (nat_eq c d) (asks_for f.slot slot _ (call_at c slot past)) (call_at c slot past) (λ (o : Option Running). call_in c slot (printed past) ≡ called o)
+        (λ b. h ∙ sym (asks_stays f.slot slot _ (call_at c slot past))) (λ b. h)
     by (Client d) (Stands s running) ok h =
         cond_both (nat_eq c d) (if nat_eq s slot then Some running else call_at c slot past) (call_at c slot past) (λ (o : Option Running). call_in c slot (printed past) ≡ called o)
         (λ t. cond_both (nat_eq s slot) (Some running) (call_at c slot past) (λ (o : Option Running). call_in c slot (printed past) ≡ called o)
@@ -187,7 +199,9 @@ calm_stands head c (l ∷ past) g = by l.at.node l.entry g.0.ok (calm_stands hea
 
     by : (node : Node) (e : Entry) → EntryOk past (turn l.at.stamp node) node e → Every (StandsIn (λ k. call_in c k (printed past))) (calm (who_is c (printed past)) (printed past))
         → Every (StandsIn (λ k. call_in c k (printed (line (turn l.at.stamp node) e ∷ past)))) (calm (who_is c (printed (line (turn l.at.stamp node) e ∷ past))) (printed (line (turn l.at.stamp node) e ∷ past)))
-    by (Client d) (Begin s running) ok h = rw (own, and_true (nat_eq d c)) (begin_stands (nat_eq d c) (is_ready (who_is c (printed past)) (printed past)) s running.call (λ k. call_in c k (printed past)) (calm (who_is c (printed past)) (printed past)) h)
+    by (Client d) (Begin s running) ok h =
+        rw (own, and_true (nat_eq d c))
+        (begin_stands (nat_eq d c) (is_ready (who_is c (printed past)) (printed past)) s running.call (λ k. call_in c k (printed past)) (calm (who_is c (printed past)) (printed past)) h)
     by (Client d) (Told s named given work) ok h = rw (own, and_true (nat_eq d c)) (told_stands (nat_eq d c) s (λ k. call_in c k (printed past)) (calm (who_is c (printed past)) (printed past)) h)
     by (Client d) (Life w) ok h =
         cond_both (nat_eq d c) w.life (life c (printed past)) (λ (v : ℕ). Every (StandsIn (λ k. call_in c k (printed past))) (calm (record { client = c; life = v }) (printed past)))
@@ -209,9 +223,33 @@ module _ {A : Type 0} (x : A) where
   not_cleared true old i = absurd i
   not_cleared false old i = (refl, i)
 
-pub calm_before : (head : Head) (c slot : ℕ) (running : Running) (l : Line) (past : List Line) → Grown head (l ∷ past) → call_at c slot past ≡ Some running → (x : ℕ × Call) → x.0 ≡ slot
+-- the line doesn't begin the call in that slot
+abbrev pub NotBegun : (c slot : ℕ) → Node → Entry → Type 0
+NotBegun c slot node (Begin s running) = (is_client c node && nat_eq s slot) ≡ false
+NotBegun c slot node _ = Unit {0}
+
+-- what stands calm once a call begins: that call, or another one whose handle it neither opens nor closes
+in_begun : (x : ℕ × Call) (s : ℕ) (new : Call) (ready : Bool) (old : List (ℕ × Call)) → In x (begun_calm s new ready old) → ((s, new) ≡ x) ⊎ (In x old × (rebinds new x.1 ≡ false))
+in_begun x s new ready old i =
+    ⊎_elim
+    (λ (j : In x (if ready then (s, new) ∷ [] else [])). inl (first ready j))
+    (λ (j : In x (filter (λ y. in_other_slot s y && not (rebinds new y.1)) old)).
+    let f = in_filter (λ y. in_other_slot s y && not (rebinds new y.1)) x old j in
+    inr (f.0, no (rebinds new x.1) (and_parts (in_other_slot s x) _ f.1).1))
+    (in_append x (if ready then (s, new) ∷ [] else []) _ i)
+  where
+    no : (b : Bool) → not b ≡ true → b ≡ false
+    no true e = absurd (cc)
+    no false e = refl
+
+    first : (ready : Bool) → In x (if ready then (s, new) ∷ [] else []) → (s, new) ≡ x
+    first true (inl q) = q
+    first true (inr i) = absurd i
+    first false i = absurd i
+
+pub calm_line : (head : Head) (c slot : ℕ) (l : Line) (past : List Line) → Grown head (l ∷ past) → NotBegun c slot l.at.node l.entry → (x : ℕ × Call) → x.0 ≡ slot
     → In x (calm (who_is c (printed (l ∷ past))) (printed (l ∷ past))) → In x (calm (who_is c (printed past)) (printed past))
-calm_before head c slot running l past g has x at = by l.at.node l.entry g.0.ok
+calm_line head c slot l past g other x at = by l.at.node l.entry g.0.ok other
   where
     own : nat_eq (life c (printed past)) (life c (printed past)) ≡ true
     own = self (life c (printed past))
@@ -219,62 +257,143 @@ calm_before head c slot running l past g has x at = by l.at.node l.entry g.0.ok
     P : List (ℕ × Call)
     P = calm (who_is c (printed past)) (printed past)
 
-    began : (d s : ℕ) (new : Call) (ready t : Bool) → nat_eq d c ≡ t → call_at d s past ≡ None → In x (if t then begun_calm s new ready P else P) → In x P
-    began d s new ready false e free i = i
-    began d s new ready true e free i =
-        ⊎_elim
-        (λ (j : In x (if ready then (s, new) ∷ [] else [])). absurd (first ready j))
-        (λ (j : In x (filter (λ y. in_other_slot s y && not (rebinds new y.1)) P)). (in_filter (λ y. in_other_slot s y && not (rebinds new y.1)) x P j).0)
-        (in_append x (if ready then (s, new) ∷ [] else []) _ i)
+    began : (d s : ℕ) (new : Call) (ready t : Bool) → nat_eq d c ≡ t → (nat_eq c d && nat_eq s slot) ≡ false → In x (if t then begun_calm s new ready P else P) → In x P
+    began d s new ready false e apart i = i
+    began d s new ready true e apart i = ⊎_elim (λ (q : (s, new) ≡ x). absurd (clash q)) (λ (j : In x P × (rebinds new x.1 ≡ false)). j.0) (in_begun x s new ready P i)
       where
-        -- the slot isn't free
+        -- the slot is another one
         clash : (s, new) ≡ x → ⊥
         clash q =
             let same : s ≡ slot = ap (λ (v : ℕ × Call). v.0) q ∙ at in
-            let none : call_at c slot past ≡ None = subst (λ (v : ℕ). call_at v slot past ≡ None) (eqb-true d c e) (subst (λ (v : ℕ). call_at d v past ≡ None) same free) in
+            let both : (nat_eq c d && nat_eq s slot) ≡ true = ap (λ (v : Bool). v && nat_eq s slot) (flip c d ∙ e) ∙ ap (λ (v : ℕ). nat_eq v slot) same ∙ self slot in
+            let none : true ≡ false = sym both ∙ apart in
             cc
-
-        first : (ready : Bool) → In x (if ready then (s, new) ∷ [] else []) → ⊥
-        first true (inl q) = clash q
-        first true (inr i) = i
-        first false i = i
 
     told : (t : Bool) (s : ℕ) → In x (if t then filter (in_other_slot s) P else P) → In x P
     told true s i = (in_filter (in_other_slot s) x P i).0
     told false s i = i
 
-    by : (node : Node) (e : Entry) → EntryOk past (turn l.at.stamp node) node e → In x (calm (who_is c (printed (line (turn l.at.stamp node) e ∷ past))) (printed (line (turn l.at.stamp node) e ∷ past))) → In x P
-    by (Client d) (Begin s new) ok i =
-        began d s new.call (is_ready (who_is c (printed past)) (printed past)) (nat_eq d c) refl ok.free
+    by : (node : Node) (e : Entry) → EntryOk past (turn l.at.stamp node) node e → NotBegun c slot node e
+        → In x (calm (who_is c (printed (line (turn l.at.stamp node) e ∷ past))) (printed (line (turn l.at.stamp node) e ∷ past))) → In x P
+    by (Client d) (Begin s new) ok apart i =
+        began d s new.call (is_ready (who_is c (printed past)) (printed past)) (nat_eq d c) refl apart
         (subst (λ (b : Bool). In x (if b then begun_calm s new.call (is_ready (who_is c (printed past)) (printed past)) P else P)) (ap (λ (v : Bool). nat_eq d c && v) own ∙ and_true (nat_eq d c)) i)
-    by (Client d) (Told s named given work) ok i = told _ s i
-    by (Client d) (Life w) ok i =
+    by (Client d) (Told s named given work) ok apart i = told _ s i
+    by (Client d) (Life w) ok apart i =
         cond_both (nat_eq d c) w.life (life c (printed past)) (λ (v : ℕ). In x (calm (record { client = c; life = v }) (printed past)) → In x P)
         (λ t j. absurd (subst (λ (v : List (ℕ × Call)). In x v) (begun_anew head c d w past (turn l.at.stamp (Client d)) g.1 ok t).0 j))
         (λ t j. j) i
-    by (Target t) (Life w) ok i = absurd ok
-    by (Client d) (Drop t lock) ok i = (not_cleared x _ P i).1
-    by (Client d) (Take n from m) ok i = (not_cleared x _ P i).1
-    by (Target t) (Begin s new) ok i = absurd ok
-    by (Target t) (Told s named given work) ok i = absurd ok
-    by (Target t) (Drop u lock) ok i = absurd ok
-    by (Target t) (Take n from m) ok i = i
-    by _ _ ok i = i
+    by (Target t) (Life w) ok apart i = absurd ok
+    by (Client d) (Drop t lock) ok apart i = (not_cleared x _ P i).1
+    by (Client d) (Take n from m) ok apart i = (not_cleared x _ P i).1
+    by (Target t) (Begin s new) ok apart i = absurd ok
+    by (Target t) (Told s named given work) ok apart i = absurd ok
+    by (Target t) (Drop u lock) ok apart i = absurd ok
+    by (Target t) (Take n from m) ok apart i = i
+    by _ _ ok apart i = i
 
--- and then no lock or life was given up
-pub calm_gives_none : (head : Head) (c : ℕ) (l : Line) (past : List Line) → Grown head (l ∷ past) → (x : ℕ × Call) → In x (calm (who_is c (printed (l ∷ past))) (printed (l ∷ past))) → gives_up c l.at.node l.entry ≡ false
-calm_gives_none head c l past g x = by l.at.node l.entry g.0.ok
+pub calm_before : (head : Head) (c slot : ℕ) (running : Running) (l : Line) (past : List Line) → Grown head (l ∷ past) → call_at c slot past ≡ Some running → (x : ℕ × Call) → x.0 ≡ slot
+    → In x (calm (who_is c (printed (l ∷ past))) (printed (l ∷ past))) → In x (calm (who_is c (printed past)) (printed past))
+calm_before head c slot running l past g has = calm_line head c slot l past g (by l.at.node l.entry g.0.ok)
+  where
+    by : (node : Node) (e : Entry) → EntryOk past (turn l.at.stamp node) node e → NotBegun c slot node e
+    by (Client d) (Begin s new) ok = of (nat_eq c d) (nat_eq s slot) refl refl
+      where
+        of : (a b : Bool) → nat_eq c d ≡ a → nat_eq s slot ≡ b → (a && b) ≡ false
+        of true true e f =
+            -- the slot isn't free
+            let free : call_at c slot past ≡ None = ap (λ (v : ℕ). call_at v slot past) (eqb-true c d e) ∙ ap (λ (v : ℕ). call_at d v past) (sym (eqb-true s slot f)) ∙ ok.free in
+            absurd (cc)
+        of true false e f = refl
+        of false b e f = refl
+    by (Target t) (Begin s new) ok = refl
+    by node e ok = tt
+
+-- nor does the line open or close the handle of a read that stands calm after it
+pub calm_keeps : (head : Head) (c : ℕ) (l : Line) (past : List Line) → Grown head (l ∷ past) → (x : ℕ × Call) → In x (calm (who_is c (printed (l ∷ past))) (printed (l ∷ past)))
+    → (h offset count : ℕ) → x.1 ≡ call.Read h offset count → KeepsHandles c l.at.node l.entry (call.Read h offset count)
+calm_keeps head c l past g x i h offset count reads = by l.at.node l.entry i
+  where
+    P : List (ℕ × Call)
+    P = calm (who_is c (printed past)) (printed past)
+
+    read_keeps : (k : Call) → k ≡ call.Read h offset count → rebinds k (call.Read h offset count) ≡ false
+    read_keeps k e = ap (λ (v : Call). rebinds v (call.Read h offset count)) e
+
+    by : (node : Node) (e : Entry) → In x (calm (who_is c (printed (line (turn l.at.stamp node) e ∷ past))) (printed (line (turn l.at.stamp node) e ∷ past))) → KeepsHandles c node e (call.Read h offset count)
+    by (Client d) (Begin s new) i = λ t.
+        let own : (nat_eq d c && nat_eq (life c (printed past)) (life c (printed past))) ≡ true = rw (flip d c, t, self (life c (printed past))) refl in
+        let j = subst (λ (b : Bool). In x (if b then begun_calm s new.call (is_ready (who_is c (printed past)) (printed past)) P else P)) own i in
+        ⊎_elim
+        (λ (q : (s, new.call) ≡ x). read_keeps new.call (ap (λ (v : ℕ × Call). v.1) q ∙ reads))
+        (λ (k : In x P × (rebinds new.call x.1 ≡ false)). ap (rebinds new.call) (sym reads) ∙ k.1)
+        (in_begun x s new.call (is_ready (who_is c (printed past)) (printed past)) P j)
+    by (Target u) (Begin s new) i = tt
+    by node e i = tt
+
+-- ---- what was just taken may change what the client knows: then nothing stands calm, and nothing is known
+
+pub disturbed : (head : Head) (c : ℕ) (past : List Line) (at : At) (from : Node) (m : Message) → Grown head past → at.node ≡ Client c → TookNow past at from m → disturbs (Some m) ≡ true
+    → (calm (who_is c (printed past)) (printed past) ≡ []) × (known (who_is c (printed past)) (printed past) ≡ [])
+disturbed head c [] at from m g own took d = absurd took
+disturbed head c (l ∷ past) at from m g own took d = by l.entry g.0 took
+  where
+    P : Past
+    P = printed past
+
+    W : Who
+    W = who_is c P
+
+    its : is_by W P (Client c) ≡ true
+    its = rw (self c, self (life c P)) refl
+
+    by : (e : Entry) → Allowed head past l.at e → TookNow (line l.at e ∷ past) at from m
+        → (calm (who_is c (printed (line l.at e ∷ past))) (printed (line l.at e ∷ past)) ≡ []) × (known (who_is c (printed (line l.at e ∷ past))) (printed (line l.at e ∷ past)) ≡ [])
+    by (Take k sender x) a took =
+        let mine : is_by W P l.at.node ≡ true = ap (is_by W P) (ap (λ (v : At). v.node) took.0 ∙ own) ∙ its in
+        let sent : sending P k ≡ on_way from m = sending_is past k sender l.at.node x a.ok.sent ∙ ap (λ (v : Node). on_way v x) took.1 ∙ ap (λ (v : Message). on_way from v) took.2 in
+        let says : disturbs (message_of P k) ≡ true = ap (λ (o : Option Sending). disturbs (option_map (λ (s : Sending). s.message) o)) sent ∙ d in
+        let test : (is_by W P l.at.node && disturbs (message_of P k)) ≡ true = rw (mine, says) refl in
+        (cond-true (is_by W P l.at.node && disturbs (message_of P k)) [] (calm W P) test, cond-true (is_by W P l.at.node && disturbs (message_of P k)) [] (known W P) test)
+      where
+        on_way : Node → Message → Option Sending
+        on_way from m = Some (record { from = from; to = l.at.node; message = m })
+    by _ a took = absurd took
+
+-- so a lock of its own that is marked is free, or nothing is known, nor stands calm
+pub marks_free : (head : Head) (c : ℕ) (past : List Line) (stamp : Stamp) (d : ℕ) (name : LockName) → Grown head past → EntryOk past (turn stamp (Client d)) (Client d) (Marks name)
+    → MarksFree c past (Client d) (Marks name) ⊎ ((calm (who_is c (printed past)) (printed past) ≡ []) × (known (who_is c (printed past)) (printed past) ≡ []))
+marks_free head c past stamp d name g ok = of (nat_eq c d) refl ok
+  where
+    of : (b : Bool) → nat_eq c d ≡ b → IsFree past d name ⊎ CallsBack past (turn stamp (Client d)) name
+        → MarksFree c past (Client d) (Marks name) ⊎ ((calm (who_is c (printed past)) (printed past) ≡ []) × (known (who_is c (printed past)) (printed past) ≡ []))
+    of false e k = inl (λ t. let both : true ≡ false = sym t ∙ e in absurd (cc))
+    of true e (inl free) = inl (λ t. subst (λ (v : ℕ). IsFree past v name) (sym (eqb-true c d e)) free)
+    of true e (inr called) =
+        inr (disturbed head c past (turn stamp (Client d)) (Target name.target.0) (message.Block called.0 called.1 name.cookie) g (ap Client (sym (eqb-true c d e))) called.2 refl)
+
+-- and where a call stands calm after a line, no lock or life was given up, nor was a pinned lock marked
+pub calm_stays : (head : Head) (c : ℕ) (l : Line) (past : List Line) → Grown head (l ∷ past) → (x : ℕ × Call) → In x (calm (who_is c (printed (l ∷ past))) (printed (l ∷ past))) → Stays c past l.at.node l.entry
+calm_stays head c l past g x = by l.at.node l.entry g.0.ok
   where
     own : nat_eq (life c (printed past)) (life c (printed past)) ≡ true
     own = self (life c (printed past))
 
-    by : (node : Node) (e : Entry) → EntryOk past (turn l.at.stamp node) node e → In x (calm (who_is c (printed (line (turn l.at.stamp node) e ∷ past))) (printed (line (turn l.at.stamp node) e ∷ past))) → gives_up c node e ≡ false
+    by : (node : Node) (e : Entry) → EntryOk past (turn l.at.stamp node) node e → In x (calm (who_is c (printed (line (turn l.at.stamp node) e ∷ past))) (printed (line (turn l.at.stamp node) e ∷ past))) → Stays c past node e
     by (Client d) (Drop t lock) ok i =
-        flip c d ∙ sym (and_true (nat_eq d c)) ∙ ap (λ (v : Bool). nat_eq d c && v) (sym own) ∙ (not_cleared x _ (calm (who_is c (printed past)) (printed past)) i).0
-    by (Client d) (Life w) ok i =
-        cond_both (nat_eq d c) w.life (life c (printed past)) (λ (v : ℕ). In x (calm (record { client = c; life = v }) (printed past)) → nat_eq c d ≡ false)
-        (λ t j. absurd (subst (λ (v : List (ℕ × Call)). In x v) (begun_anew head c d w past (turn l.at.stamp (Client d)) g.1 ok t).0 j))
-        (λ t j. flip c d ∙ t) i
-    by (Target t) (Drop u lock) ok i = refl
-    by (Target t) (Life w) ok i = refl
-    by _ _ ok i = refl
+        (flip c d ∙ sym (and_true (nat_eq d c)) ∙ ap (λ (v : Bool). nat_eq d c && v) (sym own) ∙ (not_cleared x _ (calm (who_is c (printed past)) (printed past)) i).0, tt)
+    by (Client d) (Life w) ok i = (
+      cond_both (nat_eq d c) w.life (life c (printed past)) (λ (v : ℕ). In x (calm (record { client = c; life = v }) (printed past)) → nat_eq c d ≡ false)
+          (λ t j. absurd (subst (λ (v : List (ℕ × Call)). In x v) (begun_anew head c d w past (turn l.at.stamp (Client d)) g.1 ok t).0 j))
+          (λ t j. flip c d ∙ t) i,
+      tt,
+    )
+    by (Client d) (Marks name) ok i = (
+      refl,
+      ⊎_elim (λ (free : MarksFree c past (Client d) (Marks name)). free)
+          (λ (none : (calm (who_is c (printed past)) (printed past) ≡ []) × (known (who_is c (printed past)) (printed past) ≡ [])). absurd (subst (λ (v : List (ℕ × Call)). In x v) none.0 i))
+          (marks_free head c past l.at.stamp d name g.1 ok),
+    )
+    by (Target t) (Drop u lock) ok i = (refl, tt)
+    by (Target t) (Life w) ok i = (refl, tt)
+    by _ _ ok i = (refl, tt)

@@ -1,4 +1,4 @@
--- Who is told that the metadata target serves it: a boot that its client knows, and while the client recovers there in that boot, its
+-- Who is told that a target serves it: a boot that its client knows, and while the client recovers there in that boot, its
 -- present life alone.
 use Rattle.std.proofs.Common.{◌≡◌, ℕ, ◌<◌, ◌≤◌, Bool, true, false, List, [], ◌∷◌, inl, ⊎_elim, refl, sym, subst, ◌∙◌, arith}
 use Rattle.std.specs.Prelude.{nat_eq, if◌then◌else◌}
@@ -72,7 +72,8 @@ module _ (head : Head) (c : ℕ) (from : Node) (who : Who) (boot : ℕ) (committ
       S : Standing
       S = standing_of c p
 
-      by : (node : Node) (e : Entry) → EntryOf head p (turn l.at.stamp node) node e → standing_of c (line (turn l.at.stamp node) e ∷ p) ≡ Recovering → known_of c (line (turn l.at.stamp node) e ∷ p) ≤ boot → Told (line (turn l.at.stamp node) e ∷ p)
+      by : (node : Node) (e : Entry) → EntryOf head p (turn l.at.stamp node) node e → standing_of c (line (turn l.at.stamp node) e ∷ p) ≡ Recovering → known_of c (line (turn l.at.stamp node) e ∷ p) ≤ boot
+          → Told (line (turn l.at.stamp node) e ∷ p)
           → (S ≡ Recovering → known_of c p ≤ boot → Told p → who ≡ life_of c p) → who ≡ life_of c (line (turn l.at.stamp node) e ∷ p)
       by node (Send to m) ok s le w ih = ⊎_elim (λ (e : (node ≡ from) × (to ≡ Client c) × (m ≡ message.Ready who boot committed)). own_now p (holds_at head p g.3) s (sent_so p node to m ok e)) (λ (q : Told p). ih s le q) w
       by (Client d) (Knows t b) ok s le w ih = of (nat_eq c d) refl s le

@@ -1,15 +1,16 @@
 -- A call that is told what a reply says is known from then on: what the reply told was learned under its locks since it was heard,
 -- and no lock or life was given up since.
-use Rattle.std.proofs.Common.{◌≡◌, ℕ, Bool, true, List, [], ◌∷◌, ◌++◌, Option, Some, None, inl, inr, ⊎_elim, refl, sym, subst, ap, ◌∙◌}
+use Rattle.std.proofs.Common.{◌≡◌, ℕ, ◌⊎◌, Bool, true, List, [], ◌∷◌, ◌++◌, Option, Some, None, inl, inr, refl, sym, subst, ap, ◌∙◌}
 use Rattle.std.specs.Prelude.{nat_eq, if◌then◌else◌}
 use Rattle.std.proofs.lemmas.Bool.{cond_both, eqb-true}
 use Rattle.lu_base.specs.declared.ids.At.{At}
-use Rattle.lu_base.specs.declared.ids.Fid.{Fid}
 use Rattle.lu_base.specs.declared.ids.Node.{Node}
 use Rattle.lu_base.specs.declared.ids.Node.TheVariants.{Client, Target}
 use Rattle.lu_base.specs.declared.ids.Stamp.{Stamp}
 use Rattle.lu_base.specs.declared.ids.Who.{Who}
 use Rattle.lu_base.specs.declared.locks.Lock.{Lock}
+use Rattle.lu_base.specs.declared.locks.Policy.{Policy}
+use Rattle.lu_base.specs.declared.locks.Policy.TheVariants.{Bits, Range}
 use Rattle.lu_msg.specs.declared.answers.Answer.{Answer}
 use Rattle.lu_msg.specs.declared.answers.Answer.TheVariants as told
 use Rattle.lu_msg.specs.declared.answers.Errno.{Errno}
@@ -18,106 +19,55 @@ use Rattle.lu_msg.specs.declared.calls.Call.TheVariants as call
 use Rattle.lu_msg.specs.declared.messages.Reply.{Reply as ReplyTo}
 use Rattle.lu_msg.specs.declared.operations.Op.{Op}
 use Rattle.lu_msg.specs.declared.operations.Op.TheVariants as op
+use Rattle.lu_held.specs.declared.locks.Use.{Use}
 use Rattle.lu_machine.specs.Laws.{IsReading}
-use Rattle.lu_machine.proofs.Transactions.{readings_change_nothing}
-use Rattle.lu_words.specs.Carried.{Deed, Work, Flight, Asking, Answered, Plain, Sizes, Running}
-use Rattle.lu_words.specs.Words.{Entry, Begin, Heard, Hold, Told, Queues, Stands, Learns, Act, Txn as Made, Line, line, is_client}
+use Rattle.lu_words.specs.Carried.{Work, Flight, Asking, Answered, Plain, Enqueued, Sizes, Running}
+use Rattle.lu_words.specs.Words.{Entry, Begin, Heard, Hold, Drop, Life, Marks, Told, Queues, Stands, Learns, Line, line, is_client}
 use Rattle.lu_words.specs.Concerns.{only}
 use Rattle.lu_words.specs.Printed.{printed}
+use Rattle.lu_client_rows.specs.Advances.{enqueue_of}
 use Rattle.lu_client_rows.specs.Caches.{brought, with_brought, held_at}
-use Rattle.lu_client_rows.specs.Facts.{Fact, root, is_one_for_each, name_facts, names_taught, last_of, inode_taught, stat_facts, taught, facts_at}
+use Rattle.lu_client_rows.specs.Facts.{Fact, taught, facts_at}
 use Rattle.lu_covered.specs.Calls.{call_at, life_at, asks, asks_for, errand, becomes, told_as}
 use Rattle.lu_covered.specs.ClientStates.{flights_of}
 use Rattle.lu_covered.specs.Imports.{flights_at}
 use Rattle.lu_covered.specs.Deeds.{asked}
 use Rattle.lu_covered.specs.Heads.{Head}
-use Rattle.lu_covered.specs.TargetStates.{none, server_of}
 use Rattle.lu_laws.specs.Words.Lives.{who_is}
 use Rattle.lu_laws.specs.Words.Repeats.{calm}
 use Rattle.lu_guards.proofs.Guards.{In, IsToldAsIs, HeardNow, Learned, EntryOk, ToldOk}
-use Rattle.lu_guards.proofs.StoryGuards.{ActOk, SizedOk, ActsOk, TxnOk}
-use Rattle.lu_guards.proofs.Acts.{sized_op}
 use Rattle.lu_guards.proofs.Grown.{Allowed, Grown}
-use Rattle.lu_guards.proofs.Lists.{self, in_append, in_left}
+use Rattle.lu_guards.proofs.Only.{grown_of}
+use Rattle.lu_guards.proofs.Lists.{self, in_left}
 use Rattle.lu_guards.proofs.Parts.{life_is_of, flights_is}
-use Rattle.lu_facts.proofs.Endings.{reply_ends_none}
-use Rattle.lu_facts.proofs.Groups.{turn, Acted, CallOf}
+use Rattle.lu_guards.proofs.Endings.{reply_ends_none}
+use Rattle.lu_facts.proofs.Groups.{turn, CallOf}
 use Rattle.lu_facts.proofs.All.{holds}
-use Rattle.lu_facts.proofs.Endings.{reply_ends_none}
-use Rattle.lu_lawful.proofs.SilentKnown.{Agrees, AllUsable, IsKnown, Comes, taught_known}
-use Rattle.lu_lawful.proofs.SilentReads.{NoRefusal, reading_comes}
-use Rattle.lu_lawful.proofs.SilentHeld.{Present, bare_at, present_bare, brought_new, held_stays, notes_grow}
-use Rattle.lu_lawful.proofs.SilentCalm.{calm_before, calm_gives_none}
-use Rattle.lu_facts.proofs.Lines.{acted_whole}
+use Rattle.lu_facts.proofs.TaughtKnown.{Agrees, AllUsable, Comes, taught_under}
+use Rattle.lu_facts.proofs.Comes.{NoRefusal, acted_comes}
+use Rattle.lu_facts.proofs.HeldThere.{brought_new}
+use Rattle.lu_facts.proofs.ToldFiles.{plain_first}
+use Rattle.lu_lawful.proofs.SilentKnown.{IsKnown, taught_known}
+use Rattle.lu_lawful.proofs.SilentHeld.{Present, Lasts, bare_at, present_bare, held_stays, notes_grow}
+use Rattle.lu_lawful.proofs.SilentCalm.{calm_before, calm_stays}
 use Rattle.lu_guards.proofs.ClientLines.{IsNames, IsAskedOf, asked_names, flights_asked, some_is}
-use Rattle.lu_facts.proofs.Asks.{plain_errand, sizes_errand, stages_errand}
-use Rattle.lu_lawful.proofs.Sized.{answers_first}
-
--- ---- what an answer teaches is known under its locks
-
-abbrev Under : List Lock → List Fact → Type 0
-Under locks facts = (f : Fact) → In f facts → (l : Lock) × (In l locks × (f.cookie.0 ≡ l.cookie.0))
-
-under_more : (l : Lock) (locks : List Lock) (facts : List Fact) → Under locks facts → Under (l ∷ locks) facts
-under_more l locks facts h f i = let r = h f i in (r.0, (inr r.1.0, r.1.1))
-
-under_both : (locks : List Lock) (xs ys : List Fact) → Under locks xs → Under locks ys → Under locks (xs ++ ys)
-under_both locks xs ys h k f i = ⊎_elim (λ (j : In f xs). h f j) (λ (j : In f ys). k f j) (in_append f xs ys i)
-
-under_one : (locks : List Lock) (l : Lock) (x : Fact) (facts : List Fact) → In l locks → x.cookie.0 ≡ l.cookie.0 → Under locks facts → Under locks (x ∷ facts)
-under_one locks l x facts among is h f (inl e) = (l, (among, ap (λ (v : Fact). v.cookie.0) (sym e) ∙ is))
-under_one locks l x facts among is h f (inr i) = h f i
-
-names_under : (kind : Fid → Answer) (d : Fid) (names : List (List ℕ)) (locks : List Lock) → Under locks (name_facts kind d names locks)
-names_under kind d [] locks f i = absurd i
-names_under kind d (m ∷ []) [] f i = absurd i
-names_under kind d (m ∷ []) (l ∷ locks) f i = under_one (l ∷ locks) l _ [] (inl refl) refl (λ g j. absurd j) f i
-names_under kind d (m ∷ n ∷ names) [] f i = absurd i
-names_under kind d (m ∷ n ∷ names) (l ∷ locks) f i =
-    under_one (l ∷ locks) l _ (name_facts kind l.resource.fid (n ∷ names) locks) (inl refl) refl
-    (under_more l locks (name_facts kind l.resource.fid (n ∷ names) locks) (names_under kind l.resource.fid (n ∷ names) locks)) f i
-
-path_under : (kind : Fid → Answer) (path : List (List ℕ)) (locks : List Lock) → Under locks (names_taught kind path locks)
-path_under kind path locks = cond_both (is_one_for_each path locks) (name_facts kind root path locks) [] (λ (v : List Fact). Under locks v) (λ t. names_under kind root path locks) (λ t f i. absurd i)
-
-last_in : (l : Lock) (locks : List Lock) → last_of locks ≡ Some l → In l locks
-last_in l [] e = absurd (cc)
-last_in l (k ∷ []) e = inl (cc)
-last_in l (k ∷ j ∷ locks) e = inr (last_in l (j ∷ locks) e)
-
-inode_under : (facts : Lock → List Fact) (locks : List Lock) → ((l : Lock) → In l locks → Under locks (facts l)) → Under locks (inode_taught facts (last_of locks))
-inode_under facts locks h = by (last_of locks) refl
-  where
-    by : (o : Option Lock) → last_of locks ≡ o → Under locks (inode_taught facts o)
-    by None e = λ f i. absurd i
-    by (Some l) e = h l (last_in l locks e)
-
-abbrev one_fact : (Lock → Fact) → Lock → List Fact
-one_fact make l = make l ∷ []
-
-one_under : (make : Lock → Fact) (locks : List Lock) → ((l : Lock) → (make l).cookie.0 ≡ l.cookie.0) → Under locks (inode_taught (one_fact make) (last_of locks))
-one_under make locks is = inode_under (one_fact make) locks (λ l i. under_one locks l (make l) [] i (is l) (λ g j. absurd j))
-
-taught_under : (o : Op) (a : Answer) (locks : List Lock) → Under locks (taught o a locks)
-taught_under (op.Lookup path) (told.Dir fid) locks = path_under told.Dir path locks
-taught_under (op.Lookup path) (told.File fid) locks = path_under told.File path locks
-taught_under (op.Stat path) (told.DirStat fid mode) locks =
-    under_both locks (names_taught told.Dir path locks) _ (path_under told.Dir path locks) (one_under _ locks (λ l. refl))
-taught_under (op.Stat path) (told.FileStat fid mode links layout) locks =
-    under_both locks (names_taught told.File path locks) _ (path_under told.File path locks)
-    (inode_under (stat_facts fid (told.FileStat fid mode links layout) layout) locks (λ l i. under_one locks l _ (_ ∷ []) i refl (under_one locks l _ [] i refl (λ g j. absurd j))))
-taught_under (op.List path) (told.Names names) locks =
-    under_both locks (names_taught told.Dir path locks) _ (path_under told.Dir path locks) (one_under _ locks (λ l. refl))
-taught_under (op.Layout path) (told.Layout layout) locks =
-    under_both locks (names_taught told.File path locks) _ (path_under told.File path locks) (one_under _ locks (λ l. refl))
-taught_under o a locks = λ f i. absurd i
+use Rattle.lu_guards.proofs.Asks.{plain_errand, sizes_errand, locks_errand, stages_errand}
 
 -- what a call asks of names is what it becomes
 names_errand : (r : Running) (o : Op) → IsNames o → errand r ≡ Some (record { target = 0; op = o }) → becomes r ≡ Some o
-names_errand r o on_names e = ⊎_elim
-    (λ (plain : r.stage ≡ Plain). (plain_errand r 0 o plain e).1)
-    (λ (s : (w : Work) × (r.stage ≡ Sizes w)). let is = (sizes_errand r s.0 0 o s.1 e).of_op in absurd (subst IsNames is on_names))
-    (stages_errand r (record { target = 0; op = o }) e)
+names_errand r o on_names e = by (stages_errand r (record { target = 0; op = o }) e)
+  where
+    no_names : (u : Use) → IsNames (enqueue_of u) → ⊥
+    no_names u = no u.policy
+      where
+        no : (p : Policy) → IsNames (elim p [ Range extent ↦ op.Enqueue u.resource u.mode extent | Bits bits ↦ op.Size u.resource ]) → ⊥
+        no (Range extent) k = k
+        no (Bits bits) k = k
+
+    by : (r.stage ≡ Plain) ⊎ ((w : Work) × (r.stage ≡ Sizes w)) ⊎ ((w : Work) × (r.stage ≡ Enqueued w)) → becomes r ≡ Some o
+    by (inl plain) = (plain_errand r 0 o plain e).1
+    by (inr (inl s)) = let is = (sizes_errand r s.0 0 o s.1 e).of_op in absurd (subst IsNames is on_names)
+    by (inr (inr s)) = let f = locks_errand r s.0 0 o s.1 e in absurd (no_names f.wanted (subst IsNames f.of_op on_names))
 
 -- ---- the call that a request serves stands in its slot until it is told
 
@@ -174,7 +124,7 @@ module _ (head : Head) (c slot : ℕ) where
 
   module _ (at : At) (own : at.node ≡ Client c) (f : Flight) (r : ReplyTo) (serves : f.slot ≡ Some slot) where
     abbrev AllHeld : List Line → Type 0
-    AllHeld past = (l : Lock) → In l r.locks → Present l.cookie.0 (held_at c past)
+    AllHeld past = (l : Lock) → In l r.locks → Present 0 l.cookie.0 (held_at c past)
 
     client_is : (d : ℕ) (here : At) → here.node ≡ Client d → here ≡ at → c ≡ d
     client_is d here is e = let same : Client c ≡ Client d = sym own ∙ ap (λ (v : At). v.node) (sym e) ∙ is in cc
@@ -207,13 +157,13 @@ module _ (head : Head) (c slot : ℕ) where
         by (Client d) (Heard u g k) a h ih =
             let same = client_is d (turn l.at.stamp (Client d)) refl h.0 in (
               heard_serves past l.at.stamp d u g k h.1 a grown.1 same h.2,
-              λ x i. subst (λ (b : Bool). Present x.cookie.0 (if b then with_brought u (brought g.op k) (held_at c past) else held_at c past))
+              λ x i. subst (λ (b : Bool). Present 0 x.cookie.0 (if b then with_brought u (brought g.op k) (held_at c past) else held_at c past))
                   (sym (ap (λ (v : ℕ). nat_eq c v) (sym same) ∙ self c))
-                  (brought_new u x (brought g.op k) (held_at c past) h.1 (in_left x k.locks _ (subst (λ (v : ReplyTo). In x v.locks) (sym h.3) i))),
+                  (brought_new Lasts (λ v m. inl refl) 0 u x (brought g.op k) (held_at c past) h.1 (in_left x k.locks _ (subst (λ (v : ReplyTo). In x v.locks) (sym h.3) i))),
             )
         by (Client d) (Hold u x marked size seen) a h ih =
             let past_h = ih h in
-            (past_h.0, λ y i. held_stays c past l.at.stamp y.cookie.0 (Client d) (Hold u x marked size seen) a.ok refl (past_h.1 y i))
+            (past_h.0, λ y i. held_stays c past l.at.stamp 0 y.cookie.0 (Client d) (Hold u x marked size seen) a.ok (refl, tt) (past_h.1 y i))
         by (Target u) (Heard v g k) a h ih = absurd a.ok
         by (Target u) (Hold v x marked size seen) a h ih = absurd a.ok
         by _ _ a h ih = absurd h
@@ -226,7 +176,7 @@ module _ (head : Head) (c slot : ℕ) where
     all_usable : (past : List Line) (o : Op) (a : Answer) → ((x : Fact) → In x (taught o a r.locks) → In x (facts_at c past)) → AllHeld past → AllUsable (bare_at c past) (taught o a r.locks)
     all_usable past o a known held x i =
         let l = taught_under o a r.locks x i in
-        (known x i, present_bare x.cookie (held_at c past) (subst (λ (v : ℕ). Present v (held_at c past)) (sym l.1.1) (held l.0 l.1.0)))
+        (known x i, present_bare x.cookie (held_at c past) (subst (λ (v : ℕ). Present 0 v (held_at c past)) (sym l.1.1) (held l.0 l.1.0)))
 
     -- a call stands calm in the slot
     abbrev IsCalm : List Line → Type 0
@@ -240,7 +190,7 @@ module _ (head : Head) (c slot : ℕ) where
       serves_still past l f.op grown nt h.0,
       λ calm_now x i.
           let before = calm_before head c slot h.0.0 l past grown h.0.1.0 calm_now.0 calm_now.1.1 calm_now.1.0 in
-          notes_grow c past l.at.stamp l.at.node l.entry grown.0.ok (calm_gives_none head c l past grown calm_now.0 calm_now.1.0) x (h.1 (calm_now.0, (before, calm_now.1.1)) x i),
+          notes_grow c past l.at.stamp l.at.node l.entry grown.0.ok (calm_stays head c l past grown calm_now.0 calm_now.1.0) x (h.1 (calm_now.0, (before, calm_now.1.1)) x i),
     )
 
     learned_now : (past : List Line) → Grown head past → Learned past at 0 f r → Serves c slot past f.op × (IsCalm past → Knows past)
@@ -269,50 +219,10 @@ module _ (head : Head) (c slot : ℕ) where
         by (Target u) (Learns v o a locks) grown h ih = absurd grown.0.ok
         by (Client d) (Told s named given work) grown h ih = absurd h
         by (Target u) (Told s named given work) grown h ih = absurd h
+        by node (Marks name) grown h ih = absurd h
+        by node (Drop u lock) grown h ih = absurd h
+        by node (Life who) grown h ih = absurd h
         by node e grown h ih = learned_still (line (turn l.at.stamp node) e) past grown tt (ih h)
-
--- ---- the locks of what was done
-
-abbrev ComesOf : Deed → Type 0
-ComesOf d = IsReading d.op → NoRefusal d.reply.answer → Comes d.op d.reply.answer d.reply.locks
-
-module _ (osts : ℕ) (past : List Line) (at : At) where
-  act_comes : (d : Deed) → ActOk osts past at d → ComesOf d
-  act_comes d ok =
-      let v = server_of osts past in
-      let r = ok.request in
-      subst ComesOf (sym ok.is) (λ reads fine. reading_comes r.who v.tree v.cookie osts none r.who r.op reads fine)
-
-  txn_comes : (d : Deed) → TxnOk osts past at d → ComesOf d
-  txn_comes d ok =
-      let v = server_of osts past in
-      let r = ok.request in
-      subst ComesOf (sym ok.is) (λ reads fine. let moves = ok.moves in let still = readings_change_nothing osts v.tree (asked r none) reads in absurd (cc))
-
-acted_comes : (head : Head) (past : List Line) (d : Deed) → Grown head past → Acted past d → ComesOf d
-acted_comes head [] d g a = absurd a
-acted_comes head (l ∷ past) d g a = by l.at.node l.entry g.0 a (acted_comes head past d g.1)
-  where
-    -- how long an object is reads no names
-    size_comes : (t : ℕ) (x : Deed) → SizedOk head.osts (only t past) (turn l.at.stamp (Target t)) x → ComesOf x
-    size_comes t x ok = λ reads fine. absurd (subst IsReading (sized_op head.osts (only t past) (turn l.at.stamp (Target t)) x ok) reads)
-
-    acts_come : (t : ℕ) (x : Deed) → ActsOk head.osts (only t past) (turn l.at.stamp (Target t)) t x → ComesOf x
-    acts_come t x (inl a) = act_comes head.osts (only t past) (turn l.at.stamp (Target t)) x a.1
-    acts_come t x (inr a) = size_comes t x a.1
-
-    by : (node : Node) (e : Entry) → Allowed head past (turn l.at.stamp node) e → Acted (line (turn l.at.stamp node) e ∷ past) d → (Acted past d → ComesOf d) → ComesOf d
-    by (Client c) (Act x) k a h = absurd k.ok
-    by (Client c) (Made x) k a h = absurd k.ok
-    by (Target t) (Act x) k a h = ⊎_elim
-        (λ (p : x ≡ d). subst ComesOf p (acts_come t x (k.of t (self t))))
-        (λ (p : Acted past d). h p)
-        a
-    by (Target t) (Made x) k a h = ⊎_elim
-        (λ (p : x ≡ d). subst ComesOf p (txn_comes head.osts (only t past) (turn l.at.stamp (Target t)) x (k.of t (self t))))
-        (λ (p : Acted past d). h p)
-        a
-    by _ _ k a h = h a
 
 -- ---- a call that is told by a reply is known
 
@@ -321,16 +231,17 @@ refused_as : (k : Call) (e : Errno) → told_as k (told.Refused e) ≡ told.Refu
 refused_as (call.Open h path) e = refl
 refused_as _ e = refl
 
-pub told_is_known : (head : Head) (c slot : ℕ) (past : List Line) (at : At) (named : At) (given : Answer) (work : Option Work) → Grown head past → Agrees (bare_at c past) → at.node ≡ Client c → (ok : ToldOk past at c slot named given work) → NoRefusal given
+pub told_is_known : (head : Head) (c slot : ℕ) (past : List Line) (at : At) (named : At) (given : Answer) (work : Option Work) → Grown head past → Agrees (bare_at c past) → at.node ≡ Client c
+    → (ok : ToldOk past at c slot named given work) → NoRefusal given
     → (x : ℕ × Call) → In x (calm (who_is c (printed past)) (printed past)) → x.0 ≡ slot → IsKnown (bare_at c past) ok.running.call
 told_is_known head c slot past at named given work g agrees own ok fine x i is =
     let replied = (holds head past g).replies c slot ok.target ok.running ok.reply ok.call ok.answered in
-    let first = answers_first ok.running ok.target replied.deed.op replied.op ok.good in
+    let first = plain_first ok.running ok.target replied.deed.op replied.op ok.good in
     let learned = learned_now head c slot at own ok.flight ok.reply ok.serves past g (subst (λ (t : ℕ). Learned past at t ok.flight ok.reply) first.0 ok.learned) in
     let same : learned.0.0 ≡ ok.running = some_is learned.0.0 ok.running (sym learned.0.1.0 ∙ ok.call) in
     let asked : becomes ok.running ≡ Some ok.flight.op = ap becomes (sym same) ∙ learned.0.1.1 in
     let asked_for : replied.deed.op ≡ ok.flight.op = one_op replied.deed.op ok.flight.op (becomes ok.running) first.1 asked in
-    let comes = acted_comes head past replied.deed g (acted_whole ok.target past replied.deed replied.acted) in
+    let comes = acted_comes head (only ok.target past) replied.deed (grown_of head ok.target past g) replied.acted in
     let answered : replied.deed.reply.answer ≡ ok.reply.answer = ap (λ (v : ReplyTo). v.answer) replied.is in
     let locked : replied.deed.reply.locks ≡ ok.reply.locks = ap (λ (v : ReplyTo). v.locks) replied.is in
     let fine_reply : NoRefusal ok.reply.answer = λ e q. fine e (ok.of_answer ∙ ap (λ (v : Answer). told_as ok.running.call v) q ∙ refused_as ok.running.call e) in

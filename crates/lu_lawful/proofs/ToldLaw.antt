@@ -36,7 +36,7 @@ use Rattle.lu_laws.specs.Words.Calls.{heard_in, operation}
 use Rattle.lu_laws.specs.Holds.{HoldsBefore}
 use Rattle.lu_laws.specs.Laws.Acts.{acted, made, standing_count, is_number, tells_with, told_with, is_bad_handle, is_end_of_life, is_local, took_notice, ActsFor, ActsInTime, ToldOn, ToldBy, Pairwise, SameTag, FliesAt, ActsAt, ActsOf}
 use Rattle.lu_lawful.specs.Fits.{ReplyStands, HeardStand}
-use Rattle.lu_guards.proofs.Guards.{In, JustHeard, Steps, IsToldAsIs, ToldOk, KnownOk, EndsOk, BadOk, SizesToldOk, FlushedOk, EntryOk}
+use Rattle.lu_guards.proofs.Guards.{In, JustHeard, Steps, IsToldAsIs, ToldOk, KnownOk, EndsOk, BadOk, SizesToldOk, FlushedOk, ReadToldOk, StatToldOk, EntryOk}
 use Rattle.lu_guards.proofs.StoryGuards.{EntryOf}
 use Rattle.lu_guards.proofs.Grown.{Allowed, Grown, GrownOf}
 use Rattle.lu_guards.proofs.Lists.{self, own_is, own_self}
@@ -56,16 +56,17 @@ use Rattle.lu_lawful.proofs.Lines.{OfPrinted, Keeps, holds_due}
 use Rattle.lu_lawful.proofs.Once.{asked_is, acted_sent}
 use Rattle.lu_lawful.proofs.Fine.{IsFine, deed_fine, so_fine, known_fine}
 use Rattle.lu_lawful.proofs.Flying.{Flown, flying, ask_flown, Distinct, flyers, keeps_flyers, objects_apart, no_more}
-use Rattle.lu_lawful.proofs.Facts.{AnswersAt, KnewAt, EndsAt, BadAt, SizesAt, FlushedAt, TellsAt, AllTold}
+use Rattle.lu_lawful.proofs.Facts.{AnswersAt, KnewAt, EndsAt, BadAt, SizesAt, FlushedAt, ReadAt, StatAt, TellsAt, AllTold}
 use Rattle.lu_lawful.proofs.ActsLaw.{one_turn, NoneLeft, none_counts, at_most, ActIn, act_in, Stands, acted_in}
 use Rattle.lu_lawful.proofs.Hearing.{just_heard}
-use Rattle.lu_lawful.proofs.Sized.{answers_first, told_empty}
+use Rattle.lu_lawful.proofs.Sized.{told_empty}
 use Rattle.lu_lawful.proofs.Handles.{is_bad_stage, begins_bad, meant_is}
 use Rattle.lu_lawful.proofs.BadCalls.{Due, nothing_due, due_before}
 use Rattle.lu_lawful.proofs.Notices.{notice_taken}
 use Rattle.lu_facts.proofs.Lines.{acted_whole, acted_more, hears_only}
 use Rattle.lu_facts.proofs.Unheld.{heard_as_more}
 use Rattle.lu_facts.proofs.PartsStay.{in_every}
+use Rattle.lu_facts.proofs.ToldFiles.{plain_first}
 
 -- ---- what was just heard
 
@@ -112,7 +113,7 @@ told_hears head (l ∷ past) who x g i = by l.at.node l.entry g.0 i (told_hears 
         by : EntryOk past at (Client c) (Told slot named given work) → is_by who (printed past) (Client c) ≡ true → not (same_turn named at) ≡ true → is_number x (heard_in (printed past) at) ≡ true → Hears (only 0 past) who x
         by (inl heard) own differs number =
             let is = (holds head past g.1).replies c slot heard.target heard.running heard.reply heard.call heard.answered in
-            let first = answers_first heard.running heard.target is.deed.op is.op heard.good in
+            let first = plain_first heard.running heard.target is.deed.op is.op heard.good in
             let just = subst (λ (t : ℕ). JustHeard past at t heard.reply) first.0 heard.heard in
             let mine : who ≡ life_of c past = own_is who past c (sym (own_by head who past (Client c) g.1) ∙ own) in
             let whose : heard.reply.who ≡ who = is.client ∙ life_now c past ∙ sym mine in
@@ -122,7 +123,9 @@ told_hears head (l ∷ past) who x g i = by l.at.node l.entry g.0 i (told_hears 
         by (inr (inr (inl ends))) own differs number = absurd (other differs ends.of_turn)
         by (inr (inr (inr (inl bad)))) own differs number = absurd (other differs bad.of_turn)
         by (inr (inr (inr (inr (inl sizes))))) own differs number = absurd (other differs sizes.of_turn)
-        by (inr (inr (inr (inr (inr flushed))))) own differs number = absurd (other differs flushed.of_turn)
+        by (inr (inr (inr (inr (inr (inl flushed)))))) own differs number = absurd (other differs flushed.of_turn)
+        by (inr (inr (inr (inr (inr (inr (inl read))))))) own differs number = absurd (other differs read.of_turn)
+        by (inr (inr (inr (inr (inr (inr (inr stat))))))) own differs number = absurd (other differs stat.of_turn)
 
     by : (node : Node) (e : Entry) → Allowed head past (turn l.at.stamp node) e → told_with (printed (line (turn l.at.stamp node) e ∷ past)) who x ≡ true → (told_with (printed past) who x ≡ true → Hears (only 0 past) who x)
         → Hears (only 0 (line (turn l.at.stamp node) e ∷ past)) who x
@@ -252,7 +255,7 @@ told_tells head past stamp c slot named given work steps ok g =
     let h = holds head past g in
     let is = h.replies c slot ok.target ok.running ok.reply ok.call ok.answered in
     let d = is.deed in
-    let first = answers_first ok.running ok.target d.op is.op ok.good in
+    let first = plain_first ok.running ok.target d.op is.op ok.good in
     let just = subst (λ (t : ℕ). JustHeard past at t ok.reply) first.0 ok.heard in
     let story = subst (λ (t : ℕ). Acted (only t past) d) first.0 is.acted in
     let acted = acted_whole 0 past d story in
@@ -315,6 +318,14 @@ flushed past at c slot named given work ok =
       own = subst (λ (v : At). same_turn v at ≡ true) (sym ok.of_turn) (same_turn_self at);
     }
 
+was_read : (past : List Line) (at : At) (c slot : ℕ) (named : At) (given : Answer) (work : Option Work) → ReadToldOk past at c slot named given work → ReadAt past at c slot named given
+was_read past at c slot named given work ok =
+    record { running = ok.running; call = ok.call; read = ok.read; answer = ok.of_answer; turn = ok.of_turn; own = subst (λ (v : At). same_turn v at ≡ true) (sym ok.of_turn) (same_turn_self at) }
+
+was_stat : (past : List Line) (at : At) (c slot : ℕ) (named : At) (given : Answer) (work : Option Work) → StatToldOk past at c slot named given work → StatAt past at c slot named given
+was_stat past at c slot named given work ok =
+    record { running = ok.running; call = ok.call; pins = ok.pins; stat = ok.stat; answer = ok.of_answer; turn = ok.of_turn; own = subst (λ (v : At). same_turn v at ≡ true) (sym ok.of_turn) (same_turn_self at) }
+
 knew : (past : List Line) (at : At) (c slot : ℕ) (named : At) (given : Answer) (work : Option Work) → KnownOk past at c slot named given work → KnewAt past at c slot named given
 knew past at c slot named given work ok =
     record { running = ok.running; call = ok.call; begun = ok.begun; known = ok.known; turn = ok.of_turn; own = subst (λ (v : At). same_turn v at ≡ true) (sym ok.of_turn) (same_turn_self at) }
@@ -364,7 +375,9 @@ all_told head (l ∷ past) g = by l.at.node l.entry g.0 (all_told head past g.1)
     tells c slot named given work steps (inr (inr (inl ok))) = inr (inr (inl (ends past (turn l.at.stamp (Client c)) c slot named given work ok)))
     tells c slot named given work steps (inr (inr (inr (inl ok)))) = inr (inr (inr (inl (bad past (turn l.at.stamp (Client c)) c slot named given work ok))))
     tells c slot named given work steps (inr (inr (inr (inr (inl ok))))) = inr (inr (inr (inr (inl (sizes head past (turn l.at.stamp (Client c)) c slot named given work g.1 ok)))))
-    tells c slot named given work steps (inr (inr (inr (inr (inr ok))))) = inr (inr (inr (inr (inr (flushed past (turn l.at.stamp (Client c)) c slot named given work ok)))))
+    tells c slot named given work steps (inr (inr (inr (inr (inr (inl ok)))))) = inr (inr (inr (inr (inr (inl (flushed past (turn l.at.stamp (Client c)) c slot named given work ok))))))
+    tells c slot named given work steps (inr (inr (inr (inr (inr (inr (inl ok))))))) = inr (inr (inr (inr (inr (inr (inl (was_read past (turn l.at.stamp (Client c)) c slot named given work ok)))))))
+    tells c slot named given work steps (inr (inr (inr (inr (inr (inr (inr ok))))))) = inr (inr (inr (inr (inr (inr (inr (was_stat past (turn l.at.stamp (Client c)) c slot named given work ok)))))))
 
     by : (node : Node) (e : Entry) → Allowed head past (turn l.at.stamp node) e → AllTold past → AllTold (line (turn l.at.stamp node) e ∷ past)
     by (Client c) (Told slot named given work) k h = (tells c slot named given work k.steps k.ok, h)
@@ -554,43 +567,23 @@ module _ (head : Head) (out : Who → Bool) (lost : ℕ → ℕ → Bool) (whole
         };
       })
 
-  -- of a glimpse: it names this turn
-  sizes_law : (past : List Line) (stamp : Stamp) (c slot : ℕ) (named : At) (given : Answer) (work : Option Work) → Steps past (turn stamp (Client c))
-      → SizesToldOk past (turn stamp (Client c)) c slot named given work → Grown head past
+  -- of a glimpse, a flush, a read or a stat of a file: it acts in the turn in which it is told, which it names
+  now_law : (past : List Line) (stamp : Stamp) (c slot : ℕ) (named : At) (given : Answer) (r : Running) (work : Option Work) → Steps past (turn stamp (Client c)) → call_at c slot past ≡ Some r → named ≡ turn stamp (Client c)
+      → is_bad_handle given ≡ false → is_end_of_life given ≡ false → Grown head past
       → ToldBy out lost (printed whole) (printed past) (turn stamp (Client c)) (Client c) slot named given
-  sizes_law past stamp c slot named given work steps ok g =
+  now_law past stamp c slot named given r work steps call of_turn fine lives g =
       let at = turn stamp (Client c) in
-      let o = open_is head c slot past ok.running g ok.call in
-      let own : same_turn named at ≡ true = subst (λ (v : At). same_turn v at ≡ true) (sym ok.of_turn) (same_turn_self at) in
-      let began : Upto ok.running.at at = reached_on past at ok.running.at steps ((holds head past g).reaches.begun c slot ok.running ok.call) in
+      let o = open_is head c slot past r g call in
+      let own : same_turn named at ≡ true = subst (λ (v : At). same_turn v at ≡ true) (sym of_turn) (same_turn_self at) in
+      let began : Upto r.at at = reached_on past at r.at steps ((holds head past g).reaches.begun c slot r call) in
       subst (λ (v : Option calls.Begun). ToldOn out lost (printed whole) (printed past) at (who_is c (printed past)) v named given) (sym o.1)
       (record {
-        handle = λ e. let f : is_bad_handle given ≡ false = ap is_bad_handle ok.of_answer in absurd (cc);
-        evicted = λ e. let f : is_end_of_life given ≡ false = ap is_end_of_life ok.of_answer in absurd (cc);
+        handle = λ e. absurd (cc);
+        evicted = λ e. absurd (cc);
         own = λ e. own;
         acts = λ e. record {
-          after = subst (λ (v : At). UpTo v named) (sym o.2) (subst (λ (v : At). UpTo ok.running.at v) (sym ok.of_turn) (upto_is ok.running.at at began));
-          before = subst (λ (v : At). UpTo v at) (sym ok.of_turn) (upto_is at at (inl refl));
-          acts = λ other. absurd (cc);
-        };
-      })
-
-  -- of a flush: it began in this turn, which it names
-  flushed_law : (past : List Line) (stamp : Stamp) (c slot : ℕ) (named : At) (given : Answer) (work : Option Work) → FlushedOk past (turn stamp (Client c)) c slot named given work → Grown head past
-      → ToldBy out lost (printed whole) (printed past) (turn stamp (Client c)) (Client c) slot named given
-  flushed_law past stamp c slot named given work ok g =
-      let at = turn stamp (Client c) in
-      let o = open_is head c slot past ok.running g ok.call in
-      let own : same_turn named at ≡ true = subst (λ (v : At). same_turn v at ≡ true) (sym ok.of_turn) (same_turn_self at) in
-      let now : UpTo at at = upto_is at at (inl refl) in
-      subst (λ (v : Option calls.Begun). ToldOn out lost (printed whole) (printed past) at (who_is c (printed past)) v named given) (sym o.1)
-      (record {
-        handle = λ e. let f : is_bad_handle given ≡ false = ap is_bad_handle ok.of_answer in absurd (cc);
-        evicted = λ e. let f : is_end_of_life given ≡ false = ap is_end_of_life ok.of_answer in absurd (cc);
-        own = λ e. own;
-        acts = λ e. record {
-          after = subst (λ (v : At). UpTo v named) (sym (o.2 ∙ ok.begun)) (subst (λ (v : At). UpTo at v) (sym ok.of_turn) now);
-          before = subst (λ (v : At). UpTo v at) (sym ok.of_turn) now;
+          after = subst (λ (v : At). UpTo v named) (sym o.2) (subst (λ (v : At). UpTo r.at v) (sym of_turn) (upto_is r.at at began));
+          before = subst (λ (v : At). UpTo v at) (sym of_turn) (upto_is at at (inl refl));
           acts = λ other. absurd (cc);
         };
       })
@@ -604,8 +597,10 @@ module _ (head : Head) (out : Who → Bool) (lost : ℕ → ℕ → Bool) (whole
       by (inr (inl ok)) = knew_law past stamp c slot named given work ok g
       by (inr (inr (inl ok))) = ends_law past stamp c slot named given work k.steps ok g
       by (inr (inr (inr (inl ok)))) = bad_law past stamp c slot named given work ok g
-      by (inr (inr (inr (inr (inl ok))))) = sizes_law past stamp c slot named given work k.steps ok g
-      by (inr (inr (inr (inr (inr ok))))) = flushed_law past stamp c slot named given work ok g
+      by (inr (inr (inr (inr (inl ok))))) = now_law past stamp c slot named given ok.running work k.steps ok.call ok.of_turn (ap is_bad_handle ok.of_answer) (ap is_end_of_life ok.of_answer) g
+      by (inr (inr (inr (inr (inr (inl ok)))))) = now_law past stamp c slot named given ok.running work k.steps ok.call ok.of_turn (ap is_bad_handle ok.of_answer) (ap is_end_of_life ok.of_answer) g
+      by (inr (inr (inr (inr (inr (inr (inl ok))))))) = now_law past stamp c slot named given ok.running work k.steps ok.call ok.of_turn (ap is_bad_handle ok.of_answer) (ap is_end_of_life ok.of_answer) g
+      by (inr (inr (inr (inr (inr (inr (inr ok))))))) = now_law past stamp c slot named given ok.running work k.steps ok.call ok.of_turn (ap is_bad_handle ok.of_answer) (ap is_end_of_life ok.of_answer) g
 
 -- ---- the law at a request's message
 

@@ -1,7 +1,8 @@
 -- The locks that an act grants are those that its request asks for: over the contents at the act, one on each inode of its path, with
--- the bits of its row.
-use Rattle.std.proofs.Common.{◌≤◌, ◌≡◌, ℕ, zero, suc, ◌+◌, ◌*◌, ◌<◌, Bool, true, false, List, [], ◌∷◌, ◌⊎◌, inl, inr, ⊎_elim, Option, Some, None, refl, sym, subst, ap, ◌∙◌, arith}
-use Rattle.std.specs.Prelude.{nat_eq, if◌then◌else◌, map, find}
+-- the bits of its row. And an object storage target grants the one that the request of this turn asks for, grown to the whole object.
+use Rattle.std.proofs.Common.{◌≤◌, ◌≡◌, ℕ, zero, suc, ◌+◌, ◌*◌, ◌<◌, Bool, true, false, List, [], ◌∷◌, ◌++◌, ◌⊎◌, inl, inr, ⊎_elim, Option, Some, None, refl, sym, subst, ap, ◌∙◌, arith}
+use Rattle.std.specs.Prelude.{nat_eq, not, ◌&&◌, if◌then◌else◌, map, find}
+use Rattle.std.specs.List.{filter_map}
 use Rattle.std.proofs.lemmas.Bool.Decides.{nat_tests}
 use Rattle.lu_base.specs.declared.ids.At.{At}
 use Rattle.lu_base.specs.declared.ids.Fid.{Fid}
@@ -9,35 +10,46 @@ use Rattle.lu_base.specs.declared.ids.Node.{Node}
 use Rattle.lu_base.specs.declared.ids.Node.TheVariants.{Client, Target}
 use Rattle.lu_base.specs.declared.ids.Stamp.{Stamp}
 use Rattle.lu_base.specs.declared.ids.Who.{Who}
+use Rattle.lu_base.specs.declared.ids.Xid.{Xid}
 use Rattle.lu_base.specs.declared.locks.Ask.{Ask}
+use Rattle.lu_base.specs.declared.locks.Extent.{Extent}
 use Rattle.lu_base.specs.declared.locks.Lock.{Lock}
+use Rattle.lu_base.specs.declared.locks.Mode.{Mode}
 use Rattle.lu_base.specs.declared.locks.Mode.TheVariants.{PR}
 use Rattle.lu_base.specs.declared.locks.Policy.{Policy}
 use Rattle.lu_base.specs.declared.locks.Policy.TheVariants.{Bits, Range}
-use Rattle.lu_lock.specs.Growth.{granted_ask, grown_policy, opposing}
+use Rattle.lu_lock.specs.Growth.{extent_of, granted_ask, grown_policy, opposing}
+use Rattle.lu_lock.specs.Modes.{compatible}
+use Rattle.lu_msg.specs.declared.messages.Message.TheVariants as message
+use Rattle.lu_msg.specs.declared.messages.Request.{Request as RequestOf}
 use Rattle.lu_msg.specs.declared.operations.Op.{Op}
+use Rattle.lu_msg.specs.declared.operations.Op.TheVariants as op
 use Rattle.lu_part.specs.declared.parts.Part.TheVariants as part
 use Rattle.lu_part.specs.declared.parts.Want.{Want}
-use Rattle.lu_machine.specs.Tree.{Tree, child}
+use Rattle.lu_machine.specs.Tree.{Tree, child, same_life}
 use Rattle.lu_machine.specs.Footprint.{Operation, empty, after, forget, grants}
 use Rattle.lu_machine.specs.Removal.{contents}
 use Rattle.lu_machine.proofs.Made.{Named, named_empty, named_wide}
 use Rattle.lu_words.specs.Carried.{Deed}
-use Rattle.lu_words.specs.Words.{Entry, Act, Txn as Made, Grant, Line, line}
+use Rattle.lu_words.specs.Words.{Entry, Act, Txn as Made, Grant, Enters, Line, line}
 use Rattle.lu_words.specs.Concerns.{only}
 use Rattle.lu_words.specs.Printed.{printed}
 use Rattle.lu_target_rows.specs.Names.{locks_from}
+use Rattle.lu_covered.specs.Deeds.{whole}
 use Rattle.lu_covered.specs.Makes.{Path}
 use Rattle.lu_covered.specs.TargetStates.{Server, none, tree_at, server_of}
 use Rattle.lu_covered.specs.Heads.{Head}
 use Rattle.lu_laws.specs.Words.Pasts.{or_else, same_turn}
-use Rattle.lu_laws.specs.Words.Requests.{asked}
-use Rattle.lu_laws.specs.Words.Asked.{Acting, acting, wanted, wanted_lock, wanted_by, requested, is_for}
-use Rattle.lu_guards.proofs.Guards.{In, Did}
+use Rattle.lu_laws.specs.Words.Requests.{asked, same_resource}
+use Rattle.lu_laws.specs.Words.Sends.{Sending, taken}
+use Rattle.lu_laws.specs.Words.Asked.{Acting, acting, wanted, wanted_lock, wanted_by, enqueued_by, enqueued, requested, is_for}
+use Rattle.lu_guards.proofs.Guards.{In, Did, EntersFor, EntryOk}
+use Rattle.lu_guards.proofs.StoryGuards.{RangeOk}
 use Rattle.lu_guards.proofs.Acts.{acts_names, acts_sized, sized_bare}
 use Rattle.lu_guards.proofs.Grown.{Allowed, Grown}
-use Rattle.lu_guards.proofs.Lists.{self, life_self}
+use Rattle.lu_guards.proofs.Lists.{self, filter_none, life_self}
 use Rattle.lu_guards.proofs.Parts.{server_is, boot_is, count_is, tree_is as tree_there}
+use Rattle.lu_guards.proofs.TargetObjects.{ranged}
 use Rattle.lu_facts.proofs.Groups.{turn, items_of, HoldsAt}
 use Rattle.lu_facts.proofs.DoneGrows.{did_acted}
 use Rattle.lu_facts.proofs.Asked.{acted_on_names}
@@ -53,7 +65,9 @@ use Rattle.lu_lawful.proofs.Story.{about_it}
 use Rattle.lu_lawful.proofs.Sized.{gave_only}
 use Rattle.lu_lawful.proofs.Facts.{AskedAt, AllAsked}
 use Rattle.lu_lawful.proofs.Contents.{contents_alike}
-use Rattle.lu_lawful.proofs.Once.{all_asked}
+use Rattle.lu_lawful.proofs.Once.{all_asked, asked_is, acted_sent}
+use Rattle.lu_lawful.proofs.Given.{range_turn}
+use Rattle.lu_lawful.proofs.Notices.{on_way, takes_it}
 
 -- ---- the metadata target's tree
 
@@ -109,7 +123,8 @@ tree_is head past g =
 abbrev pub asks : Who → Op → Operation
 asks who o = record { number = record { 0 = 0 }; who = who; op = o }
 
--- what was just done is a transaction, or tells how long an object is, which grants nothing; or it is an act of this turn on what was asked for
+-- what was just done is a transaction, or is done at an object storage target, and gives no lock on names; or it is an act of this turn on
+-- what was asked for
 pub record IsAct (head : Head) (past : List Line) (d : Deed) : Type 0 where
   pub cookie : ℕ
   pub acting : acting d.reply.at (printed past) ≡ Some (record { who = d.reply.who; xid = d.reply.xid.0 })
@@ -147,7 +162,16 @@ did_is head (l ∷ past) d g asked i = by l.at.node l.entry g.0 asked i (did_is 
     by (Client c) (Made f) a asked i h = absurd a.ok
     by (Target t) (Made f) a asked i h = inl (ap (λ (v : Deed). v.reply.locks) (sym i) ∙ ap (λ (v : Deed). v.reply.locks) (a.of 0 (about_it t a.ok)).is)
     by (Client c) (Grant lock asks) a asked i h = absurd a.ok
-    by (Target t) (Grant lock asks) a asked i h = ⊎_elim (λ (q : d.reply.locks ≡ []). inl q) (λ (q : IsAct head past d). inr (record { cookie = q.cookie; acting = q.acting; asked = q.asked; locks = q.locks })) (h asked i)
+    by (Target t) (Grant lock None) a asked i h = absurd a.ok
+    by (Target t) (Grant lock (Some f)) a asked i h = shown a.ok
+      where
+        same : f ≡ d
+        same = cc
+
+        shown : EntryOk past (turn l.at.stamp (Target t)) (Target t) (Grant lock (Some f)) → (d.reply.locks ≡ []) ⊎ IsAct head (line (turn l.at.stamp (Target t)) (Grant lock (Some f)) ∷ past) d
+        shown (inl ok) = ⊎_elim (λ (q : d.reply.locks ≡ []). inl q)
+            (λ (q : IsAct head past d). inr (record { cookie = q.cookie; acting = q.acting; asked = q.asked; locks = q.locks })) (h asked (subst (λ (v : Deed). Did past v) same ok.1))
+        shown (inr ok) = inl (ap (λ (v : Deed). v.reply.locks) (sym same) ∙ ap (λ (v : Deed). v.reply.locks) (ranged head.osts (only t past) (turn l.at.stamp (Target t)) t lock f ok.0 (a.of t (self t))).is)
     by node e a asked i h = absurd i
 
 -- ---- the lock as it was asked for
@@ -200,3 +224,90 @@ asked_as head past at d l g did turn i = ⊎_elim
       λ granted waiting. grown_same l.ask r.0.bits granted waiting (ap (λ (v : Lock). v.ask.policy) r.2),
     ))
     (did_is head past d g (all_asked head past g) did)
+
+-- ---- at an object storage target
+
+-- the request that it grants a lock to was taken in this turn
+taken_for : (head : Head) (past : List Line) (at : At) (d : Deed) → Grown head past → EntersFor past at d
+    → (from : Node) × (r : RequestOf) × (r.who ≡ d.reply.who) × (r.xid ≡ d.reply.xid) × ((rest : List Sending) × (taken (printed past) at ≡ on_way from at.node (message.Request r) ∷ rest))
+taken_for head [] at d g i = absurd i
+taken_for head (l ∷ past) at d g i = by l.at.node l.entry g.0 i
+  where
+    by : (node : Node) (e : Entry) → Allowed head past (turn l.at.stamp node) e → EntersFor (line (turn l.at.stamp node) e ∷ past) at d
+        → (from : Node) × (r : RequestOf) × (r.who ≡ d.reply.who) × (r.xid ≡ d.reply.xid) × ((rest : List Sending) × (taken (printed (line (turn l.at.stamp node) e ∷ past)) at ≡ on_way from at.node (message.Request r) ∷ rest))
+    by (Client c) (Enters r) a i = absurd a.ok
+    by (Target t) (Enters r) a i =
+        let took = takes_it head past (turn l.at.stamp (Target t)) a.ok.0 (message.Request r) g.1 a.ok.1 in
+        (a.ok.0, r, i.1, i.2, (took.0, subst (λ (v : At). taken (printed past) v ≡ on_way a.ok.0 v.node (message.Request r) ∷ took.0) i.0 took.1))
+    by _ e a i = absurd i
+
+-- no lock for reading is in the way of another one
+none_opposing : (asks : List Ask) → ((a : Ask) → In a asks → a.mode ≡ PR) → opposing PR asks ≡ []
+none_opposing asks readers =
+    ap (λ (ls : List Ask). filter_map (λ (lock : Ask). extent_of lock.policy) ls)
+    (filter_none (λ (lock : Ask). not (compatible PR lock.mode)) asks (λ a i. ap (λ (m : Mode). not (compatible PR m)) (readers a i)))
+
+-- so it grows to the whole object
+grown_whole : (who : Who) (extent : Extent) (granted : List Ask) → ((a : Ask) → In a granted → a.mode ≡ PR)
+    → record { who = who; mode = PR; policy = Range whole } ≡ granted_ask (record { who = who; mode = PR; policy = Range extent }) granted []
+grown_whole who extent granted readers = ap (λ (others : List Extent). record { who = who; mode = PR; policy = grown_policy (Range extent) others [] }) (sym (none_opposing granted readers))
+
+-- the lock as it was asked for
+pub record AskedFor (osts : ℕ) (past : List Line) (at : At) (t : ℕ) (lock : Lock) : Type 0 where
+  pub asked : Lock
+  pub found : find (is_for lock) (requested osts t (printed past) at lock.cookie) ≡ Some asked
+  pub resource : lock.resource ≡ asked.resource
+  pub grown : (granted : List Ask) → ((a : Ask) → In a granted → a.mode ≡ PR) → lock.ask ≡ granted_ask asked.ask granted []
+
+pub asked_object : (head : Head) (past : List Line) (stamp : Stamp) (t : ℕ) (lock : Lock) (d : Deed)
+    → Allowed head past (turn stamp (Target t)) (Grant lock (Some d)) → Grown head past → 0 < t → EntersFor past (turn stamp (Target t)) d → AskedFor head.osts past (turn stamp (Target t)) t lock
+asked_object head past stamp zero lock d a g high enters = absurd (omega (arith, high))
+asked_object head past stamp (suc u) lock d a g high enters =
+    record {
+      asked = want;
+      found = subst (λ (ls : List Lock). find (is_for lock) ls ≡ Some want) (sym enqueues) (rw fits refl);
+      resource = ap (λ (l : Lock). l.resource) ok.of_lock;
+      grown = λ granted readers.
+          ap (λ (l : Lock). l.ask) ok.of_lock ∙ grown_whole ok.request.who ok.extent granted readers ∙ ap (λ (w : Who). granted_ask (record { who = w; mode = PR; policy = Range ok.extent }) granted []) (sym whose);
+    }
+  where
+    t : ℕ
+    t = suc u
+
+    at : At
+    at = turn stamp (Target t)
+
+    new : List Line
+    new = line at (Grant lock (Some d)) ∷ past
+
+    ok : RangeOk head.osts (only t past) at lock d
+    ok = ranged head.osts (only t past) at t lock d high (a.of t (self t))
+
+    whose : d.reply.who ≡ ok.request.who
+    whose = ap (λ (v : Deed). v.reply.who) ok.is
+
+    want : Lock
+    want = record { cookie = lock.cookie; resource = ok.resource; ask = record { who = d.reply.who; mode = PR; policy = Range ok.extent } }
+
+    told : asked (printed past) t d.reply.who d.reply.xid.0 ≡ Some (op.Enqueue ok.resource PR ok.extent)
+    told =
+        asked_is head new t d (a, g) (acted_sent head new t d (a, g) (ap (λ (v : At). v.node) (range_turn head.osts (only t past) at lock d ok)) (inl refl))
+        ∙ ap (λ (o : Op). Some o) (ap (λ (v : Deed). v.op) ok.is ∙ ok.of_op)
+
+    took : (from : Node) × (r : RequestOf) × (r.who ≡ d.reply.who) × (r.xid ≡ d.reply.xid) × ((rest : List Sending) × (taken (printed past) at ≡ on_way from at.node (message.Request r) ∷ rest))
+    took = taken_for head past at d g enters
+
+    rest : List Lock
+    rest = enqueued t (printed past) lock.cookie took.4.0
+
+    enqueues : requested head.osts t (printed past) at lock.cookie ≡ want ∷ rest
+    enqueues =
+        ap (λ (ss : List Sending). enqueued t (printed past) lock.cookie ss) took.4.1
+        ∙ ap (λ (w : Who). enqueued_by lock.cookie w (asked (printed past) t w took.1.xid.0) ++ rest) took.2
+        ∙ ap (λ (x : Xid). enqueued_by lock.cookie d.reply.who (asked (printed past) t d.reply.who x.0) ++ rest) took.3
+        ∙ ap (λ (o : Option Op). enqueued_by lock.cookie d.reply.who o ++ rest) told
+
+    fits : is_for lock want ≡ true
+    fits =
+        subst (λ (l : Lock). is_for l want ≡ true) (sym ok.of_lock)
+        (subst (λ (w : Who). (same_resource (Some ok.resource) (Some ok.resource) && same_life w ok.request.who) ≡ true) (sym whose) (rw (self ok.resource.fid.0, self ok.resource.stripe, life_self ok.request.who) refl))

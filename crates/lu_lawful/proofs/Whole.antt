@@ -19,6 +19,7 @@ use Rattle.lu_lawful.specs.Everywhere.{OfEveryRun, OfAllThatFit}
 use Rattle.lu_guards.proofs.Turns.{covered_head}
 use Rattle.lu_guards.proofs.Obey.{grown, noted, settled}
 use Rattle.lu_lawful.proofs.Once.{all_asked}
+use Rattle.lu_lawful.proofs.Pins.{pins_fit}
 use Rattle.lu_lawful.proofs.MessagesLaw.{messages_law}
 use Rattle.lu_lawful.proofs.LocksLaw.{locks_law}
 use Rattle.lu_lawful.proofs.SilentLaw.{silent_law}
@@ -78,7 +79,7 @@ history_of head turns is run covered out lost fits =
     let past = lines_of turns in
     let few = covered_head head in
     let g = grown head turns run covered in
-    history_law few out lost past fits g (all_asked few past g) (all_told few past g)
+    history_law few out lost past fits g (pins_fit head turns run covered) (all_asked few past g) (all_told few past g)
 
 pub lawful : OfEveryRun (λ osts whole. Lawful osts whole)
 lawful head turns is run covered =

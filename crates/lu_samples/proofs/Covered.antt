@@ -9,7 +9,7 @@ use Rattle.lu_table.specs.Runs.{has_failed}
 use Rattle.lu_table.specs.Scenarios.{past_of}
 use Rattle.lu_laws.proofs.Words.{◌then◌}
 use Rattle.lu_laws.specs.Lawful.{Lawful}
-use Rattle.lu_covered_scenes.specs.Covered.{IsMade, IsCovered, IsCoveredIn, IsNoCommand, LineMisses, EvictsNone, AsksNoDisk}
+use Rattle.lu_covered_scenes.specs.Covered.{IsMade, IsCovered, IsLineCovered, IsNoCommand, LineMisses, EvictsNone, AsksNoDisk}
 use Rattle.lu_covered_scenes.proofs.Runs.{scene_unfailed}
 use Rattle.lu_samples.proofs.Words.{after, trace_after, never}
 use Rattle.lu_samples.proofs.Names.{commits}
@@ -35,7 +35,7 @@ called_back_covered =
         head = is_head 2 1 (lit≤ tt) (lit≤ tt) (lit≤ tt) (lit≤ tt);
         lines = all_of (LineFits called_back.head) called_back.lines ((lit≤ tt, lit≤ tt, is_path) then tt then (lit≤ tt, lit≤ tt, is_path) then tt then (lit≤ tt, lit≤ tt, is_path) then tt then tt);
       };
-      lines = all_of (IsCoveredIn called_back.lines) called_back.lines ((tt, tt) then tt then (tt, tt) then tt then (tt, tt) then tt then tt);
+      lines = all_of IsLineCovered called_back.lines (tt then tt then tt then tt then tt then tt then tt);
     }
 
 pub waits_covered : IsCovered waits
@@ -45,7 +45,7 @@ waits_covered =
         head = is_head 3 1 (lit≤ tt) (lit≤ tt) (lit≤ tt) (lit≤ tt);
         lines = all_of (LineFits waits.head) waits.lines ((lit≤ tt, lit≤ tt, is_path) then tt then (lit≤ tt, lit≤ tt, is_path) then tt then (lit≤ tt, lit≤ tt, is_path) then tt then (lit≤ tt, lit≤ tt, is_path) then tt then tt);
       };
-      lines = all_of (IsCoveredIn waits.lines) waits.lines ((tt, tt) then tt then (tt, tt) then tt then (tt, tt) then tt then (tt, tt) then tt then tt);
+      lines = all_of IsLineCovered waits.lines (tt then tt then tt then tt then tt then tt then tt then tt then tt);
     }
 
 pub known_covered : IsCovered known
@@ -55,7 +55,7 @@ known_covered =
         head = is_head 2 1 (lit≤ tt) (lit≤ tt) (lit≤ tt) (lit≤ tt);
         lines = all_of (LineFits known.head) known.lines ((lit≤ tt, lit≤ tt, is_path) then tt then (lit≤ tt, lit≤ tt, is_path) then tt then (lit≤ tt, lit≤ tt, is_path) then (lit≤ tt, lit≤ tt, is_root) then (lit≤ tt, lit≤ tt, is_path) then (lit≤ tt, lit≤ tt) then (lit≤ tt, lit≤ tt) then lit≤ tt then tt then tt);
       };
-      lines = all_of (IsCoveredIn known.lines) known.lines ((tt, tt) then tt then (tt, tt) then tt then (tt, tt) then (tt, tt) then (tt, tt) then tt then tt then tt then tt then tt);
+      lines = all_of IsLineCovered known.lines (tt then tt then tt then tt then tt then tt then tt then tt then tt then tt then tt then tt);
     }
 
 pub commits_covered : IsCovered commits
@@ -65,7 +65,7 @@ commits_covered =
         head = is_head 1 1 (lit≤ tt) (lit≤ tt) (lit≤ tt) (lit≤ tt);
         lines = all_of (LineFits commits.head) commits.lines ((lit≤ tt, lit≤ tt, is_path) then (lit≤ tt, lit≤ tt) then lit≤ tt then (lit≤ tt, lit≤ tt) then (lit≤ tt, lit≤ tt) then (lit≤ tt, lit≤ tt, is_path) then (lit≤ tt, lit≤ tt) then (lit≤ tt, lit≤ tt) then (lit≤ tt, lit≤ tt, lit≤ tt) then lit≤ tt then tt);
       };
-      lines = all_of (IsCoveredIn commits.lines) commits.lines ((tt, tt) then tt then tt then tt then tt then (tt, tt) then tt then tt then tt then tt then tt);
+      lines = all_of IsLineCovered commits.lines (tt then tt then tt then tt then tt then tt then tt then tt then tt then tt then tt);
     }
 
 pub opened_covered : IsCovered opened
@@ -75,7 +75,7 @@ opened_covered =
         head = is_head 1 1 (lit≤ tt) (lit≤ tt) (lit≤ tt) (lit≤ tt);
         lines = all_of (LineFits opened.head) opened.lines ((lit≤ tt, lit≤ tt, (is_path, tt)) then tt then (lit≤ tt, lit≤ tt, (lit≤ tt, is_path)) then tt then (lit≤ tt, lit≤ tt, (lit≤ tt, is_path)) then (lit≤ tt, lit≤ tt, is_path) then tt then (lit≤ tt, lit≤ tt, lit≤ tt) then tt then (lit≤ tt, lit≤ tt, lit≤ tt) then tt);
       };
-      lines = all_of (IsCoveredIn opened.lines) opened.lines ((tt, tt) then tt then (tt, tt) then tt then (tt, tt) then (tt, tt) then tt then (tt, tt) then tt then (tt, tt) then tt);
+      lines = all_of IsLineCovered opened.lines (tt then tt then tt then tt then tt then tt then tt then tt then tt then tt then tt);
     }
 
 pub glimpsed_covered : IsCovered glimpsed
@@ -85,7 +85,7 @@ glimpsed_covered =
         head = is_small;
         lines = all_of (LineFits glimpsed.head) glimpsed.lines ((lit≤ tt, lit≤ tt, (is_path_f0, (lit≤ tt, lit≤ tt))) then tt then (lit≤ tt, lit≤ tt, (lit≤ tt, is_path_f0)) then tt then (lit≤ tt, lit≤ tt, (lit≤ tt, is_path_f0)) then tt then (lit≤ tt, lit≤ tt, lit≤ tt) then (lit≤ tt, lit≤ tt, lit≤ tt) then tt then lit≤ tt then lit≤ tt then (lit≤ tt, lit≤ tt) then lit≤ tt then (lit≤ tt, lit≤ tt, lit≤ tt) then (lit≤ tt, lit≤ tt) then tt);
       };
-      lines = all_of (IsCoveredIn glimpsed.lines) glimpsed.lines ((tt, tt) then tt then (tt, tt) then tt then (tt, tt) then tt then (tt, tt) then (tt, tt) then tt then tt then tt then tt then tt then (tt, tt) then tt then tt);
+      lines = all_of IsLineCovered glimpsed.lines (tt then tt then tt then tt then tt then tt then tt then tt then tt then tt then tt then tt then tt then tt then tt then tt);
     }
 
 pub closes_after_covered : IsCovered closes_after
@@ -95,7 +95,7 @@ closes_after_covered =
         head = is_two;
         lines = all_of (LineFits closes_after.head) closes_after.lines ((lit≤ tt, lit≤ tt, (is_path_g, (lit≤ tt, lit≤ tt))) then tt then (lit≤ tt, lit≤ tt, (lit≤ tt, is_path_g)) then tt then (lit≤ tt, lit≤ tt, lit≤ tt) then (lit≤ tt, lit≤ tt, lit≤ tt) then (lit≤ tt, lit≤ tt, lit≤ tt) then tt then tt);
       };
-      lines = all_of (IsCoveredIn closes_after.lines) closes_after.lines ((tt, tt) then tt then (tt, tt) then tt then (tt, tt) then (tt, tt) then (tt, tt) then tt then tt);
+      lines = all_of IsLineCovered closes_after.lines (tt then tt then tt then tt then tt then tt then tt then tt then tt);
     }
 
 pub expires_covered : IsCovered expires
@@ -105,7 +105,7 @@ expires_covered =
         head = is_short;
         lines = all_of (LineFits expires.head) expires.lines ((lit≤ tt, lit≤ tt, is_path) then tt then (lit≤ tt, lit≤ tt, is_path) then tt then (lit≤ tt, lit≤ tt, is_path) then (lit≤ tt, lit≤ tt) then (lit≤ tt, lit≤ tt, is_path_b) then (lit≤ tt, lit≤ tt) then (lit≤ tt, lit≤ tt) then lit≤ tt then (lit≤ tt, lit≤ tt) then lit≤ tt then tt then (lit≤ tt, lit≤ tt, is_path) then tt then tt);
       };
-      lines = all_of (IsCoveredIn expires.lines) expires.lines ((tt, tt) then tt then (tt, tt) then tt then (tt, tt) then tt then (tt, tt) then tt then tt then tt then tt then tt then tt then (tt, tt) then tt then tt);
+      lines = all_of IsLineCovered expires.lines (tt then tt then tt then tt then tt then tt then tt then tt then tt then tt then tt then tt then tt then tt then tt then tt);
     }
 
 pub crashed_covered : IsCovered crashed
@@ -115,7 +115,7 @@ crashed_covered =
         head = is_head 1 1 (lit≤ tt) (lit≤ tt) (lit≤ tt) (lit≤ tt);
         lines = all_of (LineFits crashed.head) crashed.lines ((lit≤ tt, lit≤ tt, is_path) then tt then lit≤ tt then (lit≤ tt, lit≤ tt, is_path) then tt then (lit≤ tt, lit≤ tt) then lit≤ tt then lit≤ tt then lit≤ tt then tt then lit≤ tt then lit≤ tt then tt);
       };
-      lines = all_of (IsCoveredIn crashed.lines) crashed.lines ((tt, tt) then tt then tt then (tt, tt) then tt then tt then tt then tt then tt then tt then tt then tt then tt);
+      lines = all_of IsLineCovered crashed.lines (tt then tt then tt then tt then tt then tt then tt then tt then tt then tt then tt then tt then tt);
     }
 
 -- ---- scenes with a window that is closed
@@ -127,7 +127,7 @@ absent_and_gap_covered =
         head = is_head 3 1 (lit≤ tt) (lit≤ tt) (lit≤ tt) (lit≤ tt);
         lines = all_of (LineFits absent_and_gap.head) absent_and_gap.lines ((lit≤ tt, lit≤ tt, is_path) then tt then (lit≤ tt, lit≤ tt, is_path) then (lit≤ tt, lit≤ tt, is_path_b) then tt then lit≤ tt then lit≤ tt then lit≤ tt then tt then lit≤ tt then tt then tt);
       };
-      lines = all_of (IsCoveredIn absent_and_gap.lines) absent_and_gap.lines ((tt, tt) then tt then (tt, tt) then (tt, tt) then tt then tt then tt then tt then tt then tt then tt then tt);
+      lines = all_of IsLineCovered absent_and_gap.lines (tt then tt then tt then tt then tt then tt then tt then tt then tt then tt then tt then tt);
     }
 
 pub both_recover_covered : IsCovered both_recover
@@ -137,7 +137,7 @@ both_recover_covered =
         head = is_head 2 1 (lit≤ tt) (lit≤ tt) (lit≤ tt) (lit≤ tt);
         lines = all_of (LineFits both_recover.head) both_recover.lines ((lit≤ tt, lit≤ tt, is_path) then tt then (lit≤ tt, lit≤ tt, is_path_b) then tt then lit≤ tt then lit≤ tt then tt then (lit≤ tt, lit≤ tt, is_root) then tt then tt);
       };
-      lines = all_of (IsCoveredIn both_recover.lines) both_recover.lines ((tt, tt) then tt then (tt, tt) then tt then tt then tt then tt then (tt, tt) then tt then tt);
+      lines = all_of IsLineCovered both_recover.lines (tt then tt then tt then tt then tt then tt then tt then tt then tt then tt);
     }
 
 pub crash_in_recovery_covered : IsCovered crash_in_recovery
@@ -147,7 +147,7 @@ crash_in_recovery_covered =
         head = is_head 2 1 (lit≤ tt) (lit≤ tt) (lit≤ tt) (lit≤ tt);
         lines = all_of (LineFits crash_in_recovery.head) crash_in_recovery.lines ((lit≤ tt, lit≤ tt, is_path) then tt then (lit≤ tt, lit≤ tt, is_path_b) then tt then lit≤ tt then lit≤ tt then (lit≤ tt, lit≤ tt) then lit≤ tt then lit≤ tt then tt then (lit≤ tt, lit≤ tt, is_root) then tt then tt);
       };
-      lines = all_of (IsCoveredIn crash_in_recovery.lines) crash_in_recovery.lines ((tt, tt) then tt then (tt, tt) then tt then tt then tt then tt then tt then tt then tt then (tt, tt) then tt then tt);
+      lines = all_of IsLineCovered crash_in_recovery.lines (tt then tt then tt then tt then tt then tt then tt then tt then tt then tt then tt then tt then tt);
     }
 
 pub keeps_heard_covered : IsCovered keeps_heard
@@ -157,7 +157,7 @@ keeps_heard_covered =
         head = is_head 1 2 (lit≤ tt) (lit≤ tt) (lit≤ tt) (lit≤ tt);
         lines = all_of (LineFits keeps_heard.head) keeps_heard.lines ((lit≤ tt, lit≤ tt, is_path) then (lit≤ tt, lit≤ tt, is_path_b) then (lit≤ tt, lit≤ tt) then (lit≤ tt, lit≤ tt) then (lit≤ tt, lit≤ tt) then (lit≤ tt, lit≤ tt) then lit≤ tt then lit≤ tt then tt then tt);
       };
-      lines = all_of (IsCoveredIn keeps_heard.lines) keeps_heard.lines ((tt, tt) then (tt, tt) then tt then tt then tt then tt then tt then tt then tt then tt);
+      lines = all_of IsLineCovered keeps_heard.lines (tt then tt then tt then tt then tt then tt then tt then tt then tt then tt);
     }
 
 pub restored_covered : IsCovered restored
@@ -167,7 +167,7 @@ restored_covered =
         head = is_head 2 4 (lit≤ tt) (lit≤ tt) (lit≤ tt) (lit≤ tt);
         lines = all_of (LineFits restored.head) restored.lines ((lit≤ tt, lit≤ tt) then lit≤ tt then (lit≤ tt, lit≤ tt, is_path_ac) then lit≤ tt then (lit≤ tt, lit≤ tt, is_root) then (lit≤ tt, lit≤ tt) then (lit≤ tt, lit≤ tt) then (lit≤ tt, lit≤ tt, is_path_ab) then tt then lit≤ tt then lit≤ tt then (lit≤ tt, lit≤ tt) then (lit≤ tt, lit≤ tt, (is_path_g, (lit≤ tt, lit≤ tt))) then (lit≤ tt, lit≤ tt) then (lit≤ tt, lit≤ tt, is_path_ax) then tt then tt);
       };
-      lines = all_of (IsCoveredIn restored.lines) restored.lines (tt then tt then (tt, tt) then tt then (tt, tt) then tt then tt then (tt, tt) then tt then tt then tt then tt then (tt, tt) then tt then (tt, tt) then tt then tt);
+      lines = all_of IsLineCovered restored.lines (tt then tt then tt then tt then tt then tt then tt then tt then tt then tt then tt then tt then tt then tt then tt then tt then tt);
     }
 
 pub kept_reply_covered : IsCovered kept_reply
@@ -177,7 +177,7 @@ kept_reply_covered =
         head = is_head 1 1 (lit≤ tt) (lit≤ tt) (lit≤ tt) (lit≤ tt);
         lines = all_of (LineFits kept_reply.head) kept_reply.lines ((lit≤ tt, lit≤ tt, is_path) then (lit≤ tt, lit≤ tt) then (lit≤ tt, lit≤ tt) then lit≤ tt then lit≤ tt then lit≤ tt then tt then tt);
       };
-      lines = all_of (IsCoveredIn kept_reply.lines) kept_reply.lines ((tt, tt) then tt then tt then tt then tt then tt then tt then tt);
+      lines = all_of IsLineCovered kept_reply.lines (tt then tt then tt then tt then tt then tt then tt then tt);
     }
 
 pub gap_in_flight_covered : IsCovered gap_in_flight
@@ -187,7 +187,7 @@ gap_in_flight_covered =
         head = is_head 1 2 (lit≤ tt) (lit≤ tt) (lit≤ tt) (lit≤ tt);
         lines = all_of (LineFits gap_in_flight.head) gap_in_flight.lines ((lit≤ tt, lit≤ tt, is_path) then (lit≤ tt, lit≤ tt, is_path_ab) then (lit≤ tt, lit≤ tt) then (lit≤ tt, lit≤ tt) then (lit≤ tt, lit≤ tt) then (lit≤ tt, lit≤ tt) then lit≤ tt then lit≤ tt then tt then tt);
       };
-      lines = all_of (IsCoveredIn gap_in_flight.lines) gap_in_flight.lines ((tt, tt) then (tt, tt) then tt then tt then tt then tt then tt then tt then tt then tt);
+      lines = all_of IsLineCovered gap_in_flight.lines (tt then tt then tt then tt then tt then tt then tt then tt then tt then tt);
     }
 
 pub joins_again_covered : IsCovered joins_again
@@ -197,7 +197,7 @@ joins_again_covered =
         head = is_head 3 1 (lit≤ tt) (lit≤ tt) (lit≤ tt) (lit≤ tt);
         lines = all_of (LineFits joins_again.head) joins_again.lines ((lit≤ tt, lit≤ tt, is_path) then tt then (lit≤ tt, lit≤ tt, is_path) then (lit≤ tt, lit≤ tt, is_path_b) then tt then lit≤ tt then lit≤ tt then lit≤ tt then tt then lit≤ tt then (lit≤ tt, lit≤ tt) then (lit≤ tt, lit≤ tt) then lit≤ tt then lit≤ tt then tt then tt);
       };
-      lines = all_of (IsCoveredIn joins_again.lines) joins_again.lines ((tt, tt) then tt then (tt, tt) then (tt, tt) then tt then tt then tt then tt then tt then tt then tt then tt then tt then tt then tt then tt);
+      lines = all_of IsLineCovered joins_again.lines (tt then tt then tt then tt then tt then tt then tt then tt then tt then tt then tt then tt then tt then tt then tt then tt);
     }
 
 pub acts_anew_covered : IsCovered acts_anew
@@ -207,7 +207,7 @@ acts_anew_covered =
         head = is_head 1 1 (lit≤ tt) (lit≤ tt) (lit≤ tt) (lit≤ tt);
         lines = all_of (LineFits acts_anew.head) acts_anew.lines ((lit≤ tt, lit≤ tt, is_path) then (lit≤ tt, lit≤ tt) then (lit≤ tt, lit≤ tt) then lit≤ tt then lit≤ tt then tt then tt);
       };
-      lines = all_of (IsCoveredIn acts_anew.lines) acts_anew.lines ((tt, tt) then tt then tt then tt then tt then tt then tt);
+      lines = all_of IsLineCovered acts_anew.lines (tt then tt then tt then tt then tt then tt then tt);
     }
 
 pub saw_lost_covered : IsCovered saw_lost
@@ -217,7 +217,7 @@ saw_lost_covered =
         head = is_head 2 1 (lit≤ tt) (lit≤ tt) (lit≤ tt) (lit≤ tt);
         lines = all_of (LineFits saw_lost.head) saw_lost.lines ((lit≤ tt, lit≤ tt, (is_path_f, tt)) then tt then lit≤ tt then (lit≤ tt, lit≤ tt, (is_path_f, lit≤ tt)) then (lit≤ tt, lit≤ tt) then (lit≤ tt, lit≤ tt) then (lit≤ tt, lit≤ tt, (is_path_f, lit≤ tt)) then tt then lit≤ tt then lit≤ tt then tt then tt);
       };
-      lines = all_of (IsCoveredIn saw_lost.lines) saw_lost.lines ((tt, tt) then tt then tt then (tt, tt) then tt then tt then (tt, tt) then tt then tt then tt then tt then tt);
+      lines = all_of IsLineCovered saw_lost.lines (tt then tt then tt then tt then tt then tt then tt then tt then tt then tt then tt then tt);
     }
 
 -- ---- so what they come to is lawful: no disk fails in it

@@ -43,7 +43,7 @@ plain_names (name ∷ names) is =
     let both = and_parts (is_plain name) (list_all is_plain names) is in
     All-cons IsName name names (plain_name name both.0) (plain_names names both.1)
 
-plain_path : (names : List (List ℕ)) → length names ≤ 32 → length (path_text names) ≤ 1024 → list_all is_plain names ≡ true → IsPath names
+pub plain_path : (names : List (List ℕ)) → length names ≤ 32 → length (path_text names) ≤ 1024 → list_all is_plain names ≡ true → IsPath names
 plain_path names few short plain = record { are_names = (few, plain_names names plain); bytes = short }
 
 pub is_path : IsPath (codes "a" ∷ [])

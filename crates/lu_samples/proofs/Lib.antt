@@ -7,6 +7,8 @@ pub mod Handles
 pub mod Crashes
 pub mod Windows
 pub mod Glimpses
+pub mod EmptyReads
+pub mod EmptyStats
 pub mod AbsentAndGap
 pub mod CrashInRecovery
 pub mod KeepsHeard
@@ -17,5 +19,7 @@ pub mod JoinsAgain
 pub mod RepliesLost
 pub mod Covering
 pub mod Covered
+pub mod CoveredReads
+pub mod CoveredStats
 pub mod Fits
 pub mod Unfit

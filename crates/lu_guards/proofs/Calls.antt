@@ -1,20 +1,22 @@
 -- What a line makes of a call: it stays, begins, is touched by a request that is queued or heard for it, or stands further on.
 use Rattle.std.proofs.Common.{◌≡◌, ℕ, Bool, true, false, List, [], ◌∷◌, Option, Some, None, ◌⊎◌, inl, inr, ⊎_elim, refl, sym, subst, ap, ◌∙◌}
-use Rattle.std.specs.Prelude.{nat_eq, if◌then◌else◌}
+use Rattle.std.specs.Prelude.{nat_eq, ◌&&◌, if◌then◌else◌}
 use Rattle.std.proofs.lemmas.Bool.{cond_both, cond-true, eqb-true}
 use Rattle.lu_base.specs.declared.ids.At.{At}
 use Rattle.lu_base.specs.declared.ids.Node.{Node}
 use Rattle.lu_base.specs.declared.ids.Node.TheVariants.{Client, Target}
 use Rattle.lu_base.specs.declared.ids.Stamp.{Stamp}
-use Rattle.lu_words.specs.Carried.{Asking, Unasked, Asked, Answered, Stage, Bad, Sizes, Work, Running}
-use Rattle.lu_words.specs.Words.{Entry, Tick, Begin, Stands, Queues, Heard, Told, Line, line}
+use Rattle.lu_base.specs.declared.locks.Lock.{Lock}
+use Rattle.lu_held.specs.declared.locks.Use.{Use}
+use Rattle.lu_held.specs.declared.names.LockName.{LockName}
+use Rattle.lu_words.specs.Carried.{Asking, Unasked, Asked, Answered, Stage, Bad, Enqueued, Came as CameOf, Sizes, Work, Running}
+use Rattle.lu_words.specs.Words.{Entry, Tick, Begin, Stands, Queues, Heard, Told, Line, line, is_client}
 use Rattle.lu_words.specs.Fields.{on}
 use Rattle.lu_covered.specs.Heads.{Head}
 use Rattle.lu_covered.specs.Calls.{begun, asks, asks_for, reads_call, call_after, call_at}
-use Rattle.lu_guards.proofs.Guards.{Later, Begins, StandsOk, Starts, OwesBegun, Owes, EntryOk}
+use Rattle.lu_guards.proofs.Guards.{In, Later, Begins, Unless, SizesStand, LockStand, StatStand, StandsOk, HadLock, used_in, HadUsed, Starts, OwesBegun, Owes, EntryOk}
 use Rattle.lu_guards.proofs.Grown.{Grown}
-use Rattle.lu_guards.proofs.Lists.{self}
-use Rattle.lu_facts.proofs.Groups.{turn}
+use Rattle.lu_guards.proofs.Lists.{self, turn}
 
 -- ---- a call that stays
 
@@ -59,19 +61,20 @@ pub record Touched (past : List Line) (node : Node) (e : Entry) (c slot : ℕ) (
   pub same : before.call ≡ r.call
   pub file : before.file ≡ r.file
   pub stage : before.stage ≡ r.stage
+  pub pins : before.pins ≡ r.pins
   pub asking : Touches node e c slot r.asking
 
--- it went on to the next object: it has asked nothing since the last answer
+-- it went on: to the next object, or with the lock that came. It has asked nothing since the last answer
 pub record Stood (past : List Line) (now : At) (c slot : ℕ) (r : Running) : Type 0 where
+  pub own : now.node ≡ Client c
   pub before : Running
   pub call : call_at c slot past ≡ Some before
   pub at : before.at ≡ r.at
   pub same : before.call ≡ r.call
   pub file : before.file ≡ r.file
   pub asking : before.asking ≡ r.asking
-  pub pins : before.pins ≡ r.pins
-  pub work : Work
-  pub stage : r.stage ≡ Sizes work
+  pub still : r.asking ≡ Asked → ⊥
+  pub good : r.stage ≡ Bad → ⊥
   pub stands : StandsOk past now c slot r
 
 abbrev pub Came : List Line → At → Node → Entry → ℕ → ℕ → Running → Type 0
@@ -107,21 +110,33 @@ touched past node e served asking c slot r how a =
       same = ap (λ (v : Running). v.call) a.is;
       file = ap (λ (v : Running). v.file) a.is;
       stage = ap (λ (v : Running). v.stage) a.is;
+      pins = ap (λ (v : Running). v.pins) a.is;
       asking = subst (λ (v : Running). Touches node e c slot v.asking) a.is (how a.serves);
     }
 
-stood : (past : List Line) (now : At) (c slot : ℕ) (r : Running) → StandsOk past now c slot r → Stood past now c slot r
-stood past now c slot r ok =
+-- where it stands then
+good_stage : {X Y : Type 0} (w : Work) (stage : Stage) → ((stage ≡ Enqueued w) × X) ⊎ ((lock : Lock) × (stage ≡ CameOf w lock) × Y) → stage ≡ Bad → ⊥
+good_stage w stage (inl k) bad = let e : Enqueued w ≡ Bad = sym k.0 ∙ bad in cc
+good_stage w stage (inr k) bad = let e : CameOf w k.0 ≡ Bad = sym k.1 ∙ bad in cc
+
+stands_good : (past : List Line) (now : At) (c : ℕ) (q : Running) (stage : Stage) (pins : List LockName) → SizesStand past now q stage pins ⊎ LockStand past c q stage ⊎ StatStand past now c q stage pins
+    → stage ≡ Bad → ⊥
+stands_good past now c q stage pins (inl h) bad = let e : Sizes h.work ≡ Bad = sym h.is ∙ bad in cc
+stands_good past now c q stage pins (inr (inl h)) bad = good_stage h.work stage h.is bad
+stands_good past now c q stage pins (inr (inr h)) bad = good_stage h.work stage h.is bad
+
+stood : (past : List Line) (now : At) (c slot : ℕ) (r : Running) → now.node ≡ Client c → StandsOk past now c slot r → Stood past now c slot r
+stood past now c slot r own ok =
     record {
+      own = own;
       before = ok.running;
       call = ok.call;
       at = ap (λ (v : Running). v.at) (sym ok.is);
       same = ap (λ (v : Running). v.call) (sym ok.is);
       file = ap (λ (v : Running). v.file) (sym ok.is);
       asking = ap (λ (v : Running). v.asking) (sym ok.is);
-      pins = ap (λ (v : Running). v.pins) (sym ok.is);
-      work = ok.work;
-      stage = ap (λ (v : Running). v.stage) ok.is;
+      still = λ e. ok.still (sym (ap (λ (v : Running). v.asking) ok.is) ∙ e);
+      good = λ e. stands_good past now c ok.running ok.stage ok.pins ok.how (sym (ap (λ (v : Running). v.stage) ok.is) ∙ e);
       stands = ok;
     }
 
@@ -162,7 +177,7 @@ call_cases past stamp (Client d) (Told s named answer work) ok c slot r =
 call_cases past stamp (Client d) (Stands s running) ok c slot r =
     cond_both (nat_eq c d) (if nat_eq s slot then Some running else call_at c slot past) (call_at c slot past) (λ v. v ≡ Some r → Came past (turn stamp (Client d)) (Client d) (Stands s running) c slot r)
     (λ t. cond_both (nat_eq s slot) (Some running) (call_at c slot past) (λ v. v ≡ Some r → Came past (turn stamp (Client d)) (Client d) (Stands s running) c slot r)
-    (λ u e. inr (inr (inr (stood past (turn stamp (Client d)) c slot r
+    (λ u e. inr (inr (inr (stood past (turn stamp (Client d)) c slot r (ap Client (sym (eqb-true c d t)))
     (subst (λ (v : Running). StandsOk past (turn stamp (Client d)) c slot v) (some_is running r e)
     (subst (λ v. StandsOk past (turn stamp (Client d)) c v running) (eqb-true s slot u)
     (subst (λ v. StandsOk past (turn stamp (Client d)) v s running) (sym (eqb-true c d t)) ok)))))))
@@ -210,7 +225,7 @@ bad_began head (l ∷ past) g c slot r k bad =
     (λ (q : Began past l.at l.entry c slot r). q.newest)
     (⊎_elim
     (λ (q : Touched past l.at.node l.entry c slot r). absurd (over q.before (bad_began head past g.1 c slot q.before q.call (q.stage ∙ bad)) (q.stage ∙ bad)))
-    (λ (q : Stood past l.at c slot r). absurd (let sizes = q.stage in let plain = bad in cc)))
+    (λ (q : Stood past l.at c slot r). absurd (q.good bad)))
     p)
     (call_cases past l.at.stamp l.at.node l.entry g.0.ok c slot r k)
   where
@@ -229,3 +244,44 @@ bad_unasked head (l ∷ past) g c slot r k bad = by l.at.node l.entry g.0.ok (ba
     by (Target t) (Begin s running) ok j = absurd ok
     by (Target t) Tick ok j = absurd j
     by node e ok j = absurd j
+
+-- ---- what a read, or a stat, has in use
+
+-- it had a lock there still after another line
+had_more : (past : List Line) (at : At) (e : Entry) (c slot : ℕ) (wanted : Use) (r : Running) → EntryOk past at at.node e → call_at c slot past ≡ Some r → HadLock c slot wanted past → HadLock c slot wanted (line at e ∷ past)
+had_more past at (Begin s running) c slot wanted r ok k h = inr (by at.node (nat_eq s slot) ok refl)
+  where
+    by : (node : Node) (b : Bool) → EntryOk past at node (Begin s running) → nat_eq s slot ≡ b → Unless (is_client c node && b) (HadLock c slot wanted past)
+    by (Target t) b ok e = absurd ok
+    by (Client d) false ok e = off (nat_eq c d)
+      where
+        off : (x : Bool) → Unless (x && false) (HadLock c slot wanted past)
+        off true = h
+        off false = h
+    by (Client d) true ok e = own (nat_eq c d) refl
+      where
+        own : (x : Bool) → nat_eq c d ≡ x → Unless (x && true) (HadLock c slot wanted past)
+        own false q = h
+        own true q = absurd (let none : call_at c slot past ≡ None = ap (λ v. call_at v slot past) (eqb-true c d q) ∙ ap (λ v. call_at d v past) (sym (eqb-true s slot e)) ∙ ok.free in let w : None ≡ Some r = sym none ∙ k in cc)
+had_more past at e c slot wanted r ok k h = inr h
+
+-- so it had one of each that it has in use
+pub had_all : (head : Head) (past : List Line) → Grown head past → (c slot : ℕ) (r : Running) → call_at c slot past ≡ Some r → HadUsed c slot past r.stage
+had_all head [] g c slot r k u i = absurd (cc)
+had_all head (l ∷ past) g c slot r k u i =
+    ⊎_elim
+    (λ (p : call_at c slot past ≡ Some r). more r p (had_all head past g.1 c slot r p u i))
+    (λ (p : Began past l.at l.entry c slot r ⊎ (Touched past l.at.node l.entry c slot r ⊎ Stood past l.at c slot r)). ⊎_elim
+    (λ (q : Began past l.at l.entry c slot r). absurd (begins q.begins i))
+    (⊎_elim
+    (λ (q : Touched past l.at.node l.entry c slot r). more q.before q.call (had_all head past g.1 c slot q.before q.call u (subst (λ (s : Stage). In u (used_in s)) (sym q.stage) i)))
+    (λ (q : Stood past l.at c slot r). more q.before q.call (q.stands.had u (subst (λ (s : Stage). In u (used_in s)) (ap (λ (v : Running). v.stage) q.stands.is) i))))
+    p)
+    (call_cases past l.at.stamp l.at.node l.entry g.0.ok c slot r k)
+  where
+    more : (q : Running) → call_at c slot past ≡ Some q → HadLock c slot u.want past → HadLock c slot u.want (l ∷ past)
+    more q w h = had_more past l.at l.entry c slot u.want q g.0.ok w h
+
+    begins : Begins c past r → In u (used_in r.stage) → ⊥
+    begins (inl b) j = subst (λ (s : Stage). In u (used_in s)) b.1 j
+    begins (inr b) j = subst (λ (s : Stage). In u (used_in s)) b.1 j

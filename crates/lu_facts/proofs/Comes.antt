@@ -1,6 +1,9 @@
 -- The locks that come with the answer to a reading that isn't refused: one for each name of its path, the last on the inode
 -- that it tells of; for `/` one on the root, but to a lookup.
-use Rattle.std.proofs.Common.{◌≡◌, ℕ, zero, suc, ◌+◌, true, List, [], ◌∷◌, Some, refl, subst}
+use Rattle.std.proofs.Common.{◌≡◌, ℕ, zero, suc, ◌+◌, true, List, [], ◌∷◌, inl, inr, Some, None, refl, sym, subst}
+use Rattle.lu_base.specs.declared.ids.At.{At}
+use Rattle.lu_base.specs.declared.ids.Node.{Node}
+use Rattle.lu_base.specs.declared.ids.Node.TheVariants.{Client, Target}
 use Rattle.lu_base.specs.declared.ids.Txn.{Txn}
 use Rattle.lu_base.specs.declared.ids.Who.{Who}
 use Rattle.lu_base.specs.declared.locks.Lock.{Lock}
@@ -9,7 +12,7 @@ use Rattle.lu_msg.specs.declared.answers.Answer.TheVariants as told
 use Rattle.lu_msg.specs.declared.answers.Errno.{Errno}
 use Rattle.lu_msg.specs.declared.operations.Op.{Op}
 use Rattle.lu_msg.specs.declared.operations.Op.TheVariants as op
-use Rattle.lu_part.specs.declared.bits.TheConstants.{UPDATE}
+use Rattle.lu_part.specs.declared.bits.TheConstants.{UPDATE, LAYOUT}
 use Rattle.lu_machine.specs.declared.child.Child.{Child}
 use Rattle.lu_machine.specs.declared.child.Child.TheVariants.{Dir, File}
 use Rattle.lu_machine.specs.Tree.{Tree, fid_of}
@@ -18,11 +21,22 @@ use Rattle.lu_machine.specs.Table.{root, last_of, wants, row_lookup, row_stat, r
 use Rattle.lu_machine.specs.Footprint.{answer, grants}
 use Rattle.lu_machine.specs.Laws.{IsReading}
 use Rattle.lu_machine.proofs.Paths.{Steps, walk_steps}
+use Rattle.lu_machine.proofs.Transactions.{readings_change_nothing}
 use Rattle.lu_target_rows.specs.Names.{locks_from}
+use Rattle.lu_words.specs.Carried.{Deed}
+use Rattle.lu_words.specs.Words.{Entry, Act, Txn as Made, Grant, Line, line}
 use Rattle.lu_client_rows.specs.Facts as facts
 use Rattle.lu_client_rows.specs.Facts.{is_one_for_each}
 use Rattle.lu_covered.specs.Makes.{Path}
-use Rattle.lu_lawful.proofs.SilentKnown.{Led, Comes}
+use Rattle.lu_covered.specs.Deeds.{asked}
+use Rattle.lu_covered.specs.Heads.{Head}
+use Rattle.lu_covered.specs.TargetStates.{none, server_of}
+use Rattle.lu_guards.proofs.StoryGuards.{ActOk, ActsOk, TxnOk, GrantsOk, EntryOf}
+use Rattle.lu_guards.proofs.Acts.{sized_op, range_op}
+use Rattle.lu_guards.proofs.Grown.{GrownOf}
+use Rattle.lu_facts.proofs.Groups.{turn, Acted}
+use Rattle.lu_facts.proofs.DoneGrows.{did_acted}
+use Rattle.lu_facts.proofs.TaughtKnown.{Led, Comes}
 
 abbrev pub NoRefusal : Answer → Type 0
 NoRefusal a = (e : Errno) → a ≡ told.Refused e → ⊥
@@ -78,7 +92,9 @@ module _ (who : Who) where
 
       stat_brings : (path : Path) (cs : List Child) (c : Child) → Steps t root path cs → last_of root cs ≡ c → Brings (op.Stat path) (outcome t (row_stat cs c))
       stat_brings path cs (Dir d) s e fine = subst (λ (v : Child). Led path (locks_from cookie who (wants UPDATE cs)) (fid_of v)) e (all 1 cookie path cs s)
-      stat_brings path cs (File f) s e fine = tt
+      stat_brings [] [] (File f) s e fine = absurd (cc)
+      stat_brings [] (c ∷ cs) (File f) s e fine = absurd s
+      stat_brings (m ∷ names) cs (File f) s e fine = subst (λ (v : Child). Led (m ∷ names) (locks_from cookie who (wants (UPDATE + LAYOUT) cs)) (fid_of v)) e (all 5 cookie (m ∷ names) cs s)
 
       list_brings : (path : Path) (cs : List Child) (c : Child) → Steps t root path cs → Brings (op.List path) (outcome t (row_list cs c))
       list_brings path cs (Dir d) s fine = (fid_of (last_of root cs), all _ cookie path cs s)
@@ -94,9 +110,58 @@ module _ (who : Who) where
       refuses o e fine = absurd (fine e refl)
 
       module _ (osts : ℕ) (number : Txn) (asker : Who) where
-        pub reading_comes : (o : Op) → IsReading o → Brings o (record { answer = answer osts t (record { number = number; who = asker; op = o }); grants = grants osts t (record { number = number; who = asker; op = o }); changes = [] })
+        pub reading_comes : (o : Op) → IsReading o
+            → Brings o (record { answer = answer osts t (record { number = number; who = asker; op = o }); grants = grants osts t (record { number = number; who = asker; op = o }); changes = [] })
         reading_comes (op.Lookup path) r = walk_steps t (Brings (op.Lookup path)) (refuses (op.Lookup path)) root path (λ cs. row_lookup cs (last_of root cs)) (λ cs s. lookup_brings path cs (last_of root cs) s refl)
         reading_comes (op.Stat path) r = walk_steps t (Brings (op.Stat path)) (refuses (op.Stat path)) root path (λ cs. row_stat cs (last_of root cs)) (λ cs s. stat_brings path cs (last_of root cs) s refl)
         reading_comes (op.List path) r = walk_steps t (Brings (op.List path)) (refuses (op.List path)) root path (λ cs. row_list cs (last_of root cs)) (λ cs s. list_brings path cs (last_of root cs) s)
         reading_comes (op.Layout path) r = walk_steps t (Brings (op.Layout path)) (refuses (op.Layout path)) root path (λ cs. row_layout cs (last_of root cs)) (λ cs s. layout_brings path cs (last_of root cs) s refl)
         reading_comes _ r = absurd r
+
+-- ---- the locks of what was done
+
+abbrev pub ComesOf : Deed → Type 0
+ComesOf d = IsReading d.op → NoRefusal d.reply.answer → Comes d.op d.reply.answer d.reply.locks
+
+module _ (osts : ℕ) (past : List Line) (at : At) where
+  act_comes : (d : Deed) → ActOk osts past at d → ComesOf d
+  act_comes d ok =
+      let v = server_of osts past in
+      let r = ok.request in
+      subst ComesOf (sym ok.is) (λ reads fine. reading_comes r.who v.tree v.cookie osts none r.who r.op reads fine)
+
+  txn_comes : (d : Deed) → TxnOk osts past at d → ComesOf d
+  txn_comes d ok =
+      let v = server_of osts past in
+      let r = ok.request in
+      subst ComesOf (sym ok.is) (λ reads fine. let moves = ok.moves in let still = readings_change_nothing osts v.tree (asked r none) reads in absurd (cc))
+
+-- in the story of a target
+pub acted_comes : (head : Head) (past : List Line) (d : Deed) → GrownOf head past → Acted past d → ComesOf d
+acted_comes head [] d g a = absurd a
+acted_comes head (l ∷ past) d g a = by l.at.node l.entry g.0 a (acted_comes head past d g.3)
+  where
+    -- what is done on an object reads no names
+    acts_come : (t : ℕ) (x : Deed) → ActsOk head.osts past (turn l.at.stamp (Target t)) t x → ComesOf x
+    acts_come t x (inl a) = act_comes head.osts past (turn l.at.stamp (Target t)) x a.1
+    acts_come t x (inr a) = λ reads fine. absurd (subst IsReading (sized_op head.osts past (turn l.at.stamp (Target t)) x a.1) reads)
+
+    grants_come : (t : ℕ) (lock : Lock) (x : Deed) → GrantsOk head.osts past (turn l.at.stamp (Target t)) t lock x → (Acted past x → ComesOf x) → ComesOf x
+    grants_come t lock x (inl a) h = h (did_acted past x a.1.did)
+    grants_come t lock x (inr a) h = λ reads fine. absurd (subst IsReading (range_op head.osts past (turn l.at.stamp (Target t)) lock x a.1) reads)
+
+    some_is : (x : Deed) → Some x ≡ Some d → x ≡ d
+    some_is x e = cc
+
+    by : (node : Node) (e : Entry) → EntryOf head past (turn l.at.stamp node) node e → Acted (line (turn l.at.stamp node) e ∷ past) d → (Acted past d → ComesOf d) → ComesOf d
+    by (Client c) (Act x) ok a h = absurd ok
+    by (Client c) (Made x) ok a h = absurd ok
+    by (Client c) (Grant lock given) ok a h = absurd ok
+    by (Target t) (Act x) ok (inl e) h = subst ComesOf e (acts_come t x ok)
+    by (Target t) (Act x) ok (inr a) h = h a
+    by (Target t) (Made x) ok (inl e) h = subst ComesOf e (txn_comes head.osts past (turn l.at.stamp (Target t)) x ok)
+    by (Target t) (Made x) ok (inr a) h = h a
+    by (Target t) (Grant lock None) ok a h = absurd ok
+    by (Target t) (Grant lock (Some x)) ok (inl e) h = subst (λ (y : Deed). (Acted past y → ComesOf y) → ComesOf y) (some_is x e) (grants_come t lock x ok) h
+    by (Target t) (Grant lock (Some x)) ok (inr a) h = h a
+    by node e ok a h = h a

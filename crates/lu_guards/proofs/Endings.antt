@@ -12,8 +12,7 @@ use Rattle.lu_covered.specs.Calls.{life_at}
 use Rattle.lu_covered.specs.Heads.{Head}
 use Rattle.lu_guards.proofs.Guards.{Took, TookNow, Noticed, Later, Ending, Closes, EntryOk}
 use Rattle.lu_guards.proofs.Grown.{Grown}
-use Rattle.lu_guards.proofs.Lists.{turn_irreflexive}
-use Rattle.lu_facts.proofs.Groups.{turn}
+use Rattle.lu_guards.proofs.Lists.{turn, turn_irreflexive}
 use Rattle.lu_guards.proofs.Ends.{took_more, none_took}
 
 pub noticed_more : (l : Line) (past : List Line) (at : At) (who : Who) → Noticed past at who → Noticed (l ∷ past) at who

@@ -15,22 +15,45 @@ use Rattle.lu_msg.specs.declared.messages.Reply.{Reply as ReplyTo}
 use Rattle.lu_msg.specs.declared.operations.Op.{Op}
 use Rattle.lu_msg.specs.declared.operations.Op.TheVariants as op
 use Rattle.lu_held.specs.declared.locks.Use.{Use}
-use Rattle.lu_words.specs.Carried.{HandleFile, Unasked, Asked, Answered, Queued, Flight, Stage, Plain, Sizes, Work, Running}
+use Rattle.lu_words.specs.Carried.{HandleFile, Unasked, Asked, Answered, Queued, Flight, Stage, Plain, Enqueued, Sizes, Work, Running}
 use Rattle.lu_words.specs.Words.{Entry, Tick, Begin, Stands, Queues, Flies, Heard, Told, Life, Line, line}
-use Rattle.lu_words.specs.Concerns.{only}
-use Rattle.lu_covered.specs.Calls.{Errand, names_errand, size_errand, errand_at, errand, operation_of, becomes, asks, asks_for, call_after, call_at, life_at}
+use Rattle.lu_words.specs.Concerns.{concerns, only}
+use Rattle.lu_client_rows.specs.Advances.{enqueue_of}
+use Rattle.lu_covered.specs.Calls.{Errand, names_errand, size_errand, lock_errand, errand_at, errand, operation_of, becomes, asks, asks_for, call_after, call_at, life_at}
 use Rattle.lu_covered.specs.Imports.{rest, queue_at, without_flight, flights_at}
 use Rattle.lu_covered.specs.Heads.{Head}
-use Rattle.lu_guards.proofs.Guards.{In, Noticed, Ending, Closes, NamesAskOk, SizeAskOk, QueuesOk, SizesSoFar, EntryOk}
-use Rattle.lu_guards.proofs.StoryGuards.{FliesOk}
+use Rattle.lu_guards.proofs.Guards.{In, Noticed, Ending, Closes, NamesAskOk, SizeAskOk, LockAskOk, QueuesOk, SizesSoFar, EntryOk}
+use Rattle.lu_guards.proofs.StoryGuards.{FliesOk, EntryOf}
 use Rattle.lu_guards.proofs.Grown.{Grown}
-use Rattle.lu_guards.proofs.Lists.{self, in_append, in_filter}
+use Rattle.lu_guards.proofs.Lists.{self, turn, in_append, in_filter}
 use Rattle.lu_guards.proofs.Parts.{queue_now, flights_now}
-use Rattle.lu_facts.proofs.Groups.{turn, CallOf, Apart, Asks}
-use Rattle.lu_facts.proofs.Lines.{AtEach}
-use Rattle.lu_facts.proofs.Calls.{call_stays, asks_other, bad_unasked}
-use Rattle.lu_facts.proofs.Endings.{noticed_more, ending_more}
+use Rattle.lu_guards.proofs.Calls.{call_stays, asks_other, bad_unasked}
+use Rattle.lu_guards.proofs.Endings.{noticed_more, ending_more}
 use Rattle.lu_guards.proofs.ClientLines.{in_rest}
+
+-- ---- the calls and what they asked
+
+-- the call on a slot waits for the answer to that operation, of that target: it is what the call asks where it stands
+abbrev pub CallOf : List Line → (c target : ℕ) → Option ℕ → Op → Type 0
+CallOf past c t None o = ⊥
+CallOf past c t (Some slot) o = (r : Running) × (call_at c slot past ≡ Some r) × (r.asking ≡ Asked) × (errand r ≡ Some (record { target = t; op = o }))
+
+-- no two serve one slot
+abbrev pub Apart : List Queued → Type 0
+Apart [] = Unit {0}
+Apart (q ∷ queue) = ((g : Queued) → In g queue → g.slot ≡ q.slot → ⊥) × Apart queue
+
+-- each call asks once, at one target; but in the turn that ends its life, where calls are told before what they asked is forgotten
+abbrev pub Asks : List Line → Type 0
+Asks past =
+    record {
+      fly_calls : (c t : ℕ) (f : Flight) → (Ending past c → ⊥) → In f (flights_at c t past) → CallOf past c t f.slot f.op;
+      queue_calls : (c t : ℕ) (q : Queued) → (Ending past c → ⊥) → In q (queue_at c t past) → CallOf past c t q.slot q.op;
+      fly_one : (c t u : ℕ) (f g : Flight) → (Ending past c → ⊥) → In f (flights_at c t past) → In g (flights_at c u past) → f.slot ≡ g.slot → (t ≡ u) × (f.xid ≡ g.xid);
+      queue_one : (c t u : ℕ) (q g : Queued) → (Ending past c → ⊥) → In q (queue_at c t past) → In g (queue_at c u past) → q.slot ≡ g.slot → t ≡ u;
+      queue_apart : (c t : ℕ) → (Ending past c → ⊥) → Apart (queue_at c t past);
+      apart : (c t u : ℕ) (q : Queued) (f : Flight) → (Ending past c → ⊥) → In q (queue_at c t past) → In f (flights_at c u past) → q.slot ≡ f.slot → ⊥;
+    }
 
 -- ---- where a turn ends a life
 
@@ -169,6 +192,7 @@ other_import c d t v e p q = grind (arith, nat_tests)
 errand_same : (s : Stage) (q r : Running) → q.call ≡ r.call → q.file ≡ r.file → errand_at s q ≡ errand_at s r
 errand_same Plain q r c f = ap (λ (v : Call). names_errand (operation_of q.file v)) c ∙ ap (λ (v : Option HandleFile). names_errand (operation_of v r.call)) f
 errand_same (Sizes w) q r c f = refl
+errand_same (Enqueued w) q r c f = refl
 errand_same _ q r c f = refl
 
 -- a call on names asks the metadata target
@@ -198,13 +222,31 @@ sizes_errand r w t o sizes e = by w.left refl (sym (ap (λ (v : Stage). errand_a
         let same : record { target = wanted.target.0; op = op.Size wanted.resource } ≡ record { target = t; op = o } = cc in
         record { wanted = wanted; left = left; first = is; of_target = ap (λ (v : Errand). v.target) (sym same); of_op = ap (λ (v : Errand). v.op) (sym same) }
 
+-- a read asks for the lock on it
+pub record LocksFirst (w : Work) (t : ℕ) (o : Op) : Type 0 where
+  pub wanted : Use
+  pub left : List Use
+  pub first : w.left ≡ wanted ∷ left
+  pub of_target : t ≡ wanted.target.0
+  pub of_op : o ≡ enqueue_of wanted
+
+pub locks_errand : (r : Running) (w : Work) (t : ℕ) (o : Op) → r.stage ≡ Enqueued w → errand r ≡ Some (record { target = t; op = o }) → LocksFirst w t o
+locks_errand r w t o locks e = by w.left refl (sym (ap (λ (v : Stage). errand_at v r) locks) ∙ e)
+  where
+    by : (left : List Use) → w.left ≡ left → lock_errand left ≡ Some (record { target = t; op = o }) → LocksFirst w t o
+    by [] is q = absurd (cc)
+    by (wanted ∷ left) is q =
+        let same : record { target = wanted.target.0; op = enqueue_of wanted } ≡ record { target = t; op = o } = cc in
+        record { wanted = wanted; left = left; first = is; of_target = ap (λ (v : Errand). v.target) (sym same); of_op = ap (λ (v : Errand). v.op) (sym same) }
+
 -- no other call asks
-pub stages_errand : (r : Running) (e : Errand) → errand r ≡ Some e → (r.stage ≡ Plain) ⊎ ((w : Work) × (r.stage ≡ Sizes w))
+pub stages_errand : (r : Running) (e : Errand) → errand r ≡ Some e → (r.stage ≡ Plain) ⊎ ((w : Work) × (r.stage ≡ Sizes w)) ⊎ ((w : Work) × (r.stage ≡ Enqueued w))
 stages_errand r e is = by r.stage refl is
   where
-    by : (s : Stage) → r.stage ≡ s → errand_at s r ≡ Some e → (r.stage ≡ Plain) ⊎ ((w : Work) × (r.stage ≡ Sizes w))
+    by : (s : Stage) → r.stage ≡ s → errand_at s r ≡ Some e → (r.stage ≡ Plain) ⊎ ((w : Work) × (r.stage ≡ Sizes w)) ⊎ ((w : Work) × (r.stage ≡ Enqueued w))
     by Plain q k = inl q
-    by (Sizes w) q k = inr (w, q)
+    by (Sizes w) q k = inr (inl (w, q))
+    by (Enqueued w) q k = inr (inr (w, q))
     by s q k = absurd (cc)
 
 -- ---- one more in the queue
@@ -230,9 +272,10 @@ module _ (past : List Line) (stamp : Stamp) (d v : ℕ) (q : Queued) (b : Before
       let same : k.0 ≡ ok.running = cc in
       still ok.asks (ap (λ (r : Running). r.asking) (sym same) ∙ k.2)
     where
-      still : NamesAskOk past d v ok.running q.op ⊎ SizeAskOk v ok.running q.op → ok.running.asking ≡ Asked → ⊥
+      still : NamesAskOk past d v ok.running q.op ⊎ SizeAskOk v ok.running q.op ⊎ LockAskOk v ok.running q.op → ok.running.asking ≡ Asked → ⊥
       still (inl a) out = let n : Unasked ≡ Asked = sym a.new ∙ out in absurd (cc)
-      still (inr a) out = a.still out
+      still (inr (inl a)) out = a.still out
+      still (inr (inr a)) out = a.still out
 
   queue_call : (c t : ℕ) (s : Option ℕ) (o : Op) → CallOf past c t s o → CallOf queues c t s o
   queue_call c t s o k = call_of_stays past stamp d (Queues v q) c t s o (λ slot r is w a e. asks_other q.slot slot Asked (call_at c slot past) (λ n. fresh c t s o e (is ∙ sym n) k)) k
@@ -247,11 +290,14 @@ module _ (past : List Line) (stamp : Stamp) (d v : ℕ) (q : Queued) (b : Before
   asks_it : errand (record ok.running { asking = Asked }) ≡ Some (record { target = v; op = q.op })
   asks_it = errand_same ok.running.stage (record ok.running { asking = Asked }) ok.running refl refl ∙ by ok.asks
     where
-      by : NamesAskOk past d v ok.running q.op ⊎ SizeAskOk v ok.running q.op → errand ok.running ≡ Some (record { target = v; op = q.op })
+      by : NamesAskOk past d v ok.running q.op ⊎ SizeAskOk v ok.running q.op ⊎ LockAskOk v ok.running q.op → errand ok.running ≡ Some (record { target = v; op = q.op })
       by (inl a) = ap (λ (s : Stage). errand_at s ok.running) a.good ∙ ap names_errand a.becomes ∙ ap (λ (t : ℕ). Some (record { target = t; op = q.op })) (sym a.names)
-      by (inr a) =
+      by (inr (inl a)) =
           ap (λ (s : Stage). errand_at s ok.running) a.stage ∙ ap size_errand a.first
           ∙ ap (λ (t : ℕ). Some (record { target = t; op = op.Size a.wanted.resource })) (sym a.of_target) ∙ ap (λ (o : Op). Some (record { target = v; op = o })) (sym a.of_op)
+      by (inr (inr a)) =
+          ap (λ (s : Stage). errand_at s ok.running) a.stage ∙ ap lock_errand a.first
+          ∙ ap (λ (t : ℕ). Some (record { target = t; op = enqueue_of a.wanted })) (sym a.of_target) ∙ ap (λ (o : Op). Some (record { target = v; op = o })) (sym a.is)
 
   mine : CallOf queues d v q.slot q.op
   mine = subst (λ (s : Option ℕ). CallOf queues d v s q.op) (sym ok.serves) (record ok.running { asking = Asked }, call_new, refl, asks_it)
@@ -455,7 +501,7 @@ answered_not q t r k a = absurd (cc)
 
 -- a glimpse goes on as it begins, or once it is answered
 sizing_not : (past : List Line) (at : At) (q : Running) (sizes : List ℕ) → SizesSoFar past at q sizes → q.asking ≡ Asked → ⊥
-sizing_not past at q sizes (inl k) = new_not q k.1
+sizing_not past at q sizes (inl k) = new_not q k.new
 sizing_not past at q sizes (inr k) = answered_not q k.target k.reply k.answered
 
 module _ (head : Head) (past : List Line) (stamp : Stamp) (c s : ℕ) (named : At) (answer : Answer) (work : Option Work) (g : Grown head past) (b : Before past (line (turn stamp (Client c)) (Told s named answer work) ∷ past)) (h : Asks past) where
@@ -471,13 +517,15 @@ module _ (head : Head) (past : List Line) (stamp : Stamp) (c s : ℕ) (named : A
   keeps_told (inr (inr (inl ok))) = asks_ended past stamp c s named answer work b ok.notice h
   keeps_told (inr (inr (inr (inl ok)))) = quiet ok.running ok.call (new_not ok.running (bad_unasked head past g c s ok.running ok.call ok.bad))
   keeps_told (inr (inr (inr (inr (inl ok))))) = quiet ok.running ok.call (sizing_not past (turn stamp (Client c)) ok.running ok.sizes ok.so_far)
-  keeps_told (inr (inr (inr (inr (inr ok))))) = quiet ok.running ok.call (new_not ok.running ok.new)
+  keeps_told (inr (inr (inr (inr (inr (inl ok)))))) = quiet ok.running ok.call (new_not ok.running ok.new)
+  keeps_told (inr (inr (inr (inr (inr (inr (inl ok))))))) = quiet ok.running ok.call ok.still
+  keeps_told (inr (inr (inr (inr (inr (inr (inr ok))))))) = quiet ok.running ok.call ok.still
 
 still : (past : List Line) (stamp : Stamp) (node : Node) (e : Entry) → Closes past (turn stamp node) → ((c : ℕ) → life_at c past ≡ life_at c (line (turn stamp node) e ∷ past)) → Before past (line (turn stamp node) e ∷ past)
 still past stamp node e closes same c n k = n (ending_more past stamp node e c closes (same c) k)
 
-pub keeps_asks : (head : Head) (past : List Line) (stamp : Stamp) (node : Node) (e : Entry) → Grown head past → Closes past (turn stamp node) → EntryOk past (turn stamp node) node e → AtEach head past (turn stamp node) node e
-    → Asks past → Asks (line (turn stamp node) e ∷ past)
+pub keeps_asks : (head : Head) (past : List Line) (stamp : Stamp) (node : Node) (e : Entry) → Grown head past → Closes past (turn stamp node) → EntryOk past (turn stamp node) node e
+    → ((t : ℕ) → concerns t node e ≡ true → EntryOf head (only t past) (turn stamp node) node e) → Asks past → Asks (line (turn stamp node) e ∷ past)
 keeps_asks head past stamp (Client c) (Begin s running) g x ok of h = asks_begin past stamp c s running (still past stamp (Client c) (Begin s running) x (λ d. refl)) (λ r k a. let f = ok.free in absurd (cc)) h
 keeps_asks head past stamp (Client c) (Told s named answer work) g x ok of h = keeps_told head past stamp c s named answer work g (still past stamp (Client c) (Told s named answer work) x (λ d. refl)) h ok
 keeps_asks head past stamp (Client c) (Queues u q) g x ok of h = asks_queues past stamp c u q (still past stamp (Client c) (Queues u q) x (λ d. refl)) ok h
@@ -487,6 +535,19 @@ keeps_asks head past stamp (Client c) (Heard u f r) g x ok of h =
     asks_heard past stamp c u f r (still past stamp (Client c) (Heard u f r) x (λ d. refl)) (subst (λ (fs : List Flight). In f fs) (sym (flights_now head c u past g)) k.flying) h
 keeps_asks head past stamp (Client c) (Life who) g x ok of h = asks_life past stamp c who x h
 keeps_asks head past stamp (Client c) (Stands s running) g x ok of h =
-    asks_stands past stamp c s running (still past stamp (Client c) (Stands s running) x (λ d. refl)) (not_asked past c s ok.running ok.call (sizing_not past (turn stamp (Client c)) ok.running ok.sizes ok.so_far)) h
+    asks_stands past stamp c s running (still past stamp (Client c) (Stands s running) x (λ d. refl)) (not_asked past c s ok.running ok.call ok.still) h
 keeps_asks head past stamp (Target t) Tick g x ok of h = asks_same past (line (turn stamp (Target t)) Tick ∷ past) (still past stamp (Target t) Tick x (λ d. refl)) (λ d s. refl) (λ d u. refl) (λ d u. refl) h
 keeps_asks head past stamp node e g x ok of h = asks_same past (line (turn stamp node) e ∷ past) (still past stamp node e x (λ d. refl)) (λ d s. refl) (λ d u. refl) (λ d u. refl) h
+
+-- so it is after every line
+pub asks_grown : (head : Head) (past : List Line) → Grown head past → Asks past
+asks_grown head [] g =
+    record {
+      fly_calls = λ c t f n i. absurd i;
+      queue_calls = λ c t q n i. absurd i;
+      fly_one = λ c t u f k n i. absurd i;
+      queue_one = λ c t u q k n i. absurd i;
+      queue_apart = λ c t n. tt;
+      apart = λ c t u q f n i. absurd i;
+    }
+asks_grown head (l ∷ past) g = keeps_asks head past l.at.stamp l.at.node l.entry g.1 g.0.closes g.0.ok g.0.of (asks_grown head past g.1)

@@ -1,0 +1,43 @@
+-- What a line that grants a lock does: at the metadata target nothing that wasn't done before, at another one a deed that makes no transaction.
+use Rattle.std.proofs.Common.{◌≡◌, ℕ, List, Option, Some, None, ◌⊎◌, inl, inr, ⊎_elim, subst, ap, arith}
+use Rattle.lu_base.specs.declared.ids.At.{At}
+use Rattle.lu_base.specs.declared.ids.Node.TheVariants.{Target}
+use Rattle.lu_base.specs.declared.ids.Stamp.{Stamp}
+use Rattle.lu_base.specs.declared.ids.Txn.{Txn}
+use Rattle.lu_base.specs.declared.locks.Lock.{Lock}
+use Rattle.lu_words.specs.Carried.{Deed}
+use Rattle.lu_words.specs.Words.{Grant, Line}
+use Rattle.lu_words.specs.Concerns.{only}
+use Rattle.lu_covered.specs.Heads.{Head}
+use Rattle.lu_guards.proofs.StoryGuards.{RangeOk, GrantsOk}
+use Rattle.lu_guards.proofs.Acts.{range_acted}
+use Rattle.lu_guards.proofs.Grown.{Allowed}
+use Rattle.lu_guards.proofs.Lists.{self}
+use Rattle.lu_guards.proofs.ClientLines.{some_is}
+use Rattle.lu_facts.proofs.Groups.{turn, Acted, IsMade}
+use Rattle.lu_facts.proofs.DoneGrows.{did_acted}
+use Rattle.lu_facts.proofs.Lines.{acted_whole}
+
+pub grant_acted : (osts : ℕ) (past : List Line) (at : At) (t : ℕ) (lock : Lock) (d : Deed) → GrantsOk osts past at t lock d → (e : Deed) → (Some d ≡ Some e) ⊎ Acted past e → Acted past e ⊎ ((d ≡ e) × RangeOk osts past at lock e)
+grant_acted osts past at t lock d ok e (inr a) = inl a
+grant_acted osts past at t lock d (inl ok) e (inl q) = inl (subst (λ (x : Deed). Acted past x) (some_is d e q) (did_acted past d ok.1.did))
+grant_acted osts past at t lock d (inr ok) e (inl q) = let same = some_is d e q in inr (same, subst (λ (x : Deed). RangeOk osts past at lock x) same ok.1)
+
+pub range_unmade : (osts : ℕ) (past : List Line) (at : At) (lock : Lock) (d : Deed) → RangeOk osts past at lock d → IsMade d → ⊥
+range_unmade osts past at lock d ok made = let zero : d.reply.txn.0 ≡ 0 = ap (λ (n : Txn). n.0) (range_acted osts past at lock d ok).number in omega (arith, zero, made)
+
+-- so what made a transaction was done before
+pub grant_made : (osts : ℕ) (past : List Line) (at : At) (t : ℕ) (lock : Lock) (d : Deed) → GrantsOk osts past at t lock d → (e : Deed) → (Some d ≡ Some e) ⊎ Acted past e → IsMade e → Acted past e
+grant_made osts past at t lock d ok e a made = ⊎_elim
+    (λ (b : Acted past e). b)
+    (λ (r : (d ≡ e) × RangeOk osts past at lock e). absurd (range_unmade osts past at lock e r.1 made))
+    (grant_acted osts past at t lock d ok e a)
+
+-- the same over all targets
+pub grant_either : (head : Head) (past : List Line) (stamp : Stamp) (t : ℕ) (lock : Lock) (asked : Option Deed) (d : Deed) → Allowed head past (turn stamp (Target t)) (Grant lock asked) → asked ≡ Some d
+    → Acted past d ⊎ RangeOk head.osts (only t past) (turn stamp (Target t)) lock d
+grant_either head past stamp t lock None d k e = absurd (cc)
+grant_either head past stamp t lock (Some x) d k e = ⊎_elim
+    (λ (a : Acted (only t past) d). inl (acted_whole t past d a))
+    (λ (r : (x ≡ d) × RangeOk head.osts (only t past) (turn stamp (Target t)) lock d). inr r.1)
+    (grant_acted head.osts (only t past) (turn stamp (Target t)) t lock x (k.of t (self t)) d (inl e))

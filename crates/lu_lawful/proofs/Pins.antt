@@ -1,0 +1,621 @@
+-- In each covered run the locks that a call has pinned are held, after each line: turn by turn the pins of each client are counted.
+use Rattle.std.proofs.Common.{◌≡◌, ℕ, zero, suc, ◌+◌, ◌<◌, ◌≤◌, Bool, true, false, List, [], ◌∷◌, ◌++◌, ◌⊎◌, inl, inr, ⊎_elim, Option, Some, None, refl, sym, subst, ap, ◌∙◌, arith}
+use Rattle.std.specs.Prelude.{nat_eq, nat_lt, ◌||◌, if◌then◌else◌, is_some, length}
+use Rattle.std.specs.List.{list_any}
+use Rattle.std.proofs.lemmas.Bool.{eqb-true}
+use Rattle.std.proofs.lemmas.Bool.Decides.{nat_tests}
+use Rattle.lu_base.specs.declared.ids.At.{At}
+use Rattle.lu_base.specs.declared.ids.Node.{Node}
+use Rattle.lu_base.specs.declared.ids.Node.TheVariants.{Client, Target}
+use Rattle.lu_base.specs.declared.ids.Stamp.{Stamp}
+use Rattle.lu_base.specs.declared.ids.Who.{Who}
+use Rattle.lu_msg.specs.declared.answers.Answer.TheVariants as answer
+use Rattle.lu_msg.specs.declared.answers.Errno.TheVariants.{EIO, EBADF}
+use Rattle.lu_msg.specs.declared.calls.Call.{Call}
+use Rattle.lu_msg.specs.declared.calls.Call.TheVariants as call
+use Rattle.lu_msg.specs.declared.messages.Message.{Message}
+use Rattle.lu_msg.specs.declared.messages.Message.TheVariants as message
+use Rattle.lu_msg.specs.declared.messages.Reply.{Reply as ReplyTo}
+use Rattle.lu_held.specs.declared.locks.HeldLock.{HeldLock}
+use Rattle.lu_held.specs.declared.names.LockName.{LockName}
+use Rattle.lu_held.specs.Held.{is_held, in_order}
+use Rattle.lu_held.specs.Locks.{named, name_of}
+use Rattle.lu_machine.specs.Fits.{answer_fits}
+use Rattle.lu_words.specs.Carried.{HandleFile, Flight, Stage, Plain, Bad, Looks, Waits, Forgotten, Running}
+use Rattle.lu_words.specs.Words.{Entry, Send, Take, Tick, Begin, Busy, Told, Heard, Drop, Life, Die, Knows, Stands, Unbinds, Line, line, with_turn, is_client, same_life}
+use Rattle.lu_words.specs.Fields.{on}
+use Rattle.lu_words.specs.Sent.{Sent}
+use Rattle.lu_target_rows.specs.Disks.{row_start}
+use Rattle.lu_client_rows.specs.Caches.{brought, reads_held, held_after, held_at}
+use Rattle.lu_client_rows.specs.Calls.{call_on, reads_call, call_after, calls_after, file_of}
+use Rattle.lu_client_rows.specs.Imports.{Standing, Joining, Recovering, Serving, Import, Replay, import_of}
+use Rattle.lu_client_rows.specs.Messages.{size_with, holds, learns, heeds, on_running, hears_flight, hears_fitting, hears, replied, find_flight, lock_blocked, waiter, cancels_unknown, blocked_waiting, blocked_held, blocked, up_heard, ready_heard, evicted_heard, is_present, comes_from, comes_by}
+use Rattle.lu_client_rows.specs.Recovery.{replays, lock_replays, held_of, word, recovers, forgets_stage, looks_stage, on_calls, is_left_at, comes_up, ready, ends_call, ends_calls, drops_all, next_life, joins_all, evicted, where_stage, ticks_at, ticks}
+use Rattle.lu_client_rows.specs.Rows as client
+use Rattle.lu_client_rows.specs.Rows.{rests, row_call}
+use Rattle.lu_client_rows.specs.Sending.{resends}
+use Rattle.lu_client_rows.specs.Slots.{begun, begins_on, begins_close, opens, begins_open, begins, slots_go}
+use Rattle.lu_client_rows.specs.States.{Client as ClientState, follow, after, turn as turn_of}
+use Rattle.lu_target_rows.specs.Rows as target
+use Rattle.lu_covered.specs.Calls.{call_at, calls_at}
+use Rattle.lu_covered.specs.Covered.{AllCovered}
+use Rattle.lu_covered.specs.Heads.{Head, IsAlive}
+use Rattle.lu_covered.specs.Imports.{flights_at}
+use Rattle.lu_table.specs.Heads as table
+use Rattle.lu_table.specs.Runs as table_runs
+use Rattle.lu_table.specs.Runs.{limits_of, client_of, row, MeetsClient, IsRow, Turn, lines_of, IsRun}
+use Rattle.lu_after.proofs.Clients.{client_own}
+use Rattle.lu_guards.proofs.Guards.{In, Later}
+use Rattle.lu_guards.proofs.Grown.{Grown}
+use Rattle.lu_guards.proofs.Lists.{self, turn, turn_more}
+use Rattle.lu_guards.proofs.Only.{sent_was}
+use Rattle.lu_guards.proofs.Parts.{flights_now}
+use Rattle.lu_guards.proofs.Turns.{covered_head, run_later}
+use Rattle.lu_guards.proofs.Covers.{EntriesCovered, covered_turn, over_none}
+use Rattle.lu_guards.proofs.ClientLocks.{Once}
+use Rattle.lu_guards.proofs.ClientLines.{IsSimple, IsLock, SmallOn, small_on, on_other, asked_simple, flights_asked, ComesTo, comes_to, was_there}
+use Rattle.lu_guards.proofs.ClientRests.{call_line, followed}
+use Rattle.lu_guards.proofs.ClientCalls.{covered_left, covered_right}
+use Rattle.lu_guards.proofs.ClientStarts.{Starts}
+use Rattle.lu_guards.proofs.ClientReplies.{reply_after}
+use Rattle.lu_guards.proofs.Obey.{Stands as StandsAt, stands}
+use Rattle.lu_guards.proofs.PinsFit.{PinsFit}
+use Rattle.lu_guards.proofs.PinsCount.{count_of, sum_less, names_on, pins_at, CallFit}
+use Rattle.lu_guards.proofs.PinsSteps.{PinsOf, AllBits, Fit, call_named, named_by, fit_told, fit_begun, fit_light, AllLight, fit_lights, lights_more}
+use Rattle.lu_guards.proofs.PinsSlots.{NotCame, goes_then, slots_fit, drop_fit, tail, tail_fit}
+use Rattle.lu_guards.proofs.Ends.{grown_under}
+use Rattle.lu_lawful.proofs.PinsEvents.{idle_came, heard_hears, holds_hears, learns_light, CameAt, came_at, heeds_fit}
+
+turn_calls : (es : List Entry) (j k : ClientState) → j.calls ≡ k.calls → (turn_of j es).calls ≡ (turn_of k es).calls
+turn_calls [] j k same = same
+turn_calls (e ∷ es) j k same = turn_calls es (after j e) (after k e) (ap (λ cs. calls_after cs e) same)
+
+module _ (head : table.Head) (c : ℕ) (stamp : Stamp) where
+  abbrev at : At
+  at = turn stamp (Client c)
+
+  abbrev few : Head
+  few = covered_head head
+
+  abbrev Light : List Entry → Type 0
+  Light es = AllLight head c stamp es
+
+  abbrev Goes : List Entry → List Line → Type 0
+  Goes es p = EntriesCovered es → Fit c (with_turn at es p)
+
+  -- ---- lines that leave the pins
+
+  on_calls_light : (f : ℕ → Running → Stage → List Entry) → ((slot : ℕ) (r : Running) (x : Stage) → EntriesCovered (f slot r x) → Light (f slot r x)) → (n : ℕ) (calls : List (Option Running))
+      → EntriesCovered (on_calls f n calls) → Light (on_calls f n calls)
+  on_calls_light f light n [] covered = tt
+  on_calls_light f light n (None ∷ calls) covered = on_calls_light f light (n + 1) calls covered
+  on_calls_light f light n (Some r ∷ calls) covered =
+      lights_more head c stamp (f n r r.stage) (on_calls f (n + 1) calls) (light n r r.stage (covered_left (f n r r.stage) (on_calls f (n + 1) calls) covered))
+      (on_calls_light f light (n + 1) calls (covered_right (f n r r.stage) (on_calls f (n + 1) calls) covered))
+
+  forgets_light : (t slot : ℕ) (r : Running) (x : Stage) → EntriesCovered (forgets_stage t slot r x) → Light (forgets_stage t slot r x)
+  forgets_light t slot r (Waits w target l marked) = by (nat_eq target.0 t)
+    where
+      by : (b : Bool) → EntriesCovered (if b then Stands slot (record r { stage = Forgotten w }) ∷ [] else []) → Light (if b then Stands slot (record r { stage = Forgotten w }) ∷ [] else [])
+      by true covered = absurd covered.0
+      by false covered = tt
+  forgets_light t slot r x = λ covered. tt
+
+  looks_light : (t slot : ℕ) (r : Running) (x : Stage) → EntriesCovered (looks_stage t slot r x) → Light (looks_stage t slot r x)
+  looks_light t slot r (Forgotten w) = by (is_left_at t w.left)
+    where
+      by : (b : Bool) → EntriesCovered (if b then Stands slot (record r { stage = Looks w }) ∷ [] else []) → Light (if b then Stands slot (record r { stage = Looks w }) ∷ [] else [])
+      by true covered = absurd covered.0
+      by false covered = tt
+  looks_light t slot r x = λ covered. tt
+
+  where_light : (who : Who) (boot t slot : ℕ) (r : Running) (x : Stage) → EntriesCovered (where_stage who boot t slot r x) → Light (where_stage who boot t slot r x)
+  where_light who boot t slot r (Waits w target l marked) = by (nat_eq target.0 t)
+    where
+      by : (b : Bool) → EntriesCovered (if b then Send (Target t) (message.Where who boot l.cookie) ∷ [] else []) → Light (if b then Send (Target t) (message.Where who boot l.cookie) ∷ [] else [])
+      by true covered = (tt, tt)
+      by false covered = tt
+  where_light who boot t slot r x = λ covered. tt
+
+  replays_light : (who : Who) (boot t : ℕ) (rs : List Replay) → Light (replays who boot t rs)
+  replays_light who boot t [] = tt
+  replays_light who boot t (r ∷ rs) = (tt, replays_light who boot t rs)
+
+  locks_light : (who : Who) (boot t : ℕ) (hs : List HeldLock) → Light (lock_replays who boot t hs)
+  locks_light who boot t [] = tt
+  locks_light who boot t (h ∷ hs) = (tt, locks_light who boot t hs)
+
+  recovers_light : (t : ℕ) (k : ClientState) (i : Import) → Light (recovers t k i)
+  recovers_light t k i =
+      let hs = held_of t k.store.held in
+      let last = word k.who i.boot t (length i.kept.replays) (length hs) i.kept.seen in
+      lights_more head c stamp (replays k.who i.boot t i.kept.replays ++ lock_replays k.who i.boot t hs) (last ∷ [])
+      (lights_more head c stamp (replays k.who i.boot t i.kept.replays) (lock_replays k.who i.boot t hs) (replays_light k.who i.boot t i.kept.replays) (locks_light k.who i.boot t hs)) (tt, tt)
+
+  resends_light : (who : Who) (boot t : ℕ) (fs : List Flight) → Light (resends who boot t fs)
+  resends_light who boot t [] = tt
+  resends_light who boot t (f ∷ fs) = (tt, resends_light who boot t fs)
+
+  joins_light : (who : Who) (t : ℕ) (is : List Import) → Light (joins_all who t is)
+  joins_light who t [] = tt
+  joins_light who t (i ∷ is) = (tt, joins_light who (t + 1) is)
+
+  ticks_at_light : (t : ℕ) (k : ClientState) (i : Import) (x : Standing) → EntriesCovered (ticks_at t k i x) → Light (ticks_at t k i x)
+  ticks_at_light t k i Serving = λ covered.
+      let es = resends k.who i.boot t i.flights in
+      let fs = on_calls (where_stage k.who i.boot t) 0 k.calls in
+      lights_more head c stamp es fs (resends_light k.who i.boot t i.flights) (on_calls_light (where_stage k.who i.boot t) (where_light k.who i.boot t) 0 k.calls (covered_right es fs covered))
+  ticks_at_light t k i Recovering = λ covered. recovers_light t k i
+  ticks_at_light t k i Joining = λ covered. (tt, tt)
+
+  ticks_light : (t : ℕ) (is : List Import) (k : ClientState) → EntriesCovered (ticks t is k) → Light (ticks t is k)
+  ticks_light t [] k covered = tt
+  ticks_light t (i ∷ is) k covered =
+      let es = ticks_at t k i i.standing in
+      let fs = ticks (t + 1) is k in
+      lights_more head c stamp es fs (ticks_at_light t k i i.standing (covered_left es fs covered)) (ticks_light (t + 1) is k (covered_right es fs covered))
+
+  up_light : (t : ℕ) (k : ClientState) (i : Import) (x : Standing) → EntriesCovered (comes_up t k i x) → Light (comes_up t k i x)
+  up_light t k i Joining = λ covered. (tt, tt)
+  up_light t k i Serving = λ covered. (tt, forgets t k i covered.1)
+    where
+      forgets : (t : ℕ) (k : ClientState) (i : Import) → EntriesCovered (on_calls (forgets_stage t) 0 k.calls ++ recovers t k i) → Light (on_calls (forgets_stage t) 0 k.calls ++ recovers t k i)
+      forgets t k i covered =
+          let es = on_calls (forgets_stage t) 0 k.calls in
+          lights_more head c stamp es (recovers t k i) (on_calls_light (forgets_stage t) (forgets_light t) 0 k.calls (covered_left es (recovers t k i) covered)) (recovers_light t k i)
+  up_light t k i Recovering = λ covered. (tt, forgets t k i covered.1)
+    where
+      forgets : (t : ℕ) (k : ClientState) (i : Import) → EntriesCovered (on_calls (forgets_stage t) 0 k.calls ++ recovers t k i) → Light (on_calls (forgets_stage t) 0 k.calls ++ recovers t k i)
+      forgets t k i covered =
+          let es = on_calls (forgets_stage t) 0 k.calls in
+          lights_more head c stamp es (recovers t k i) (on_calls_light (forgets_stage t) (forgets_light t) 0 k.calls (covered_left es (recovers t k i) covered)) (recovers_light t k i)
+
+  ready_light : (t boot committed : ℕ) (k : ClientState) → EntriesCovered (ready t boot committed k) → Light (ready t boot committed k)
+  ready_light t boot committed k covered =
+      let i = import_of t k.imports in
+      let es = resends k.who i.boot t i.flights in
+      let fs = on_calls (looks_stage t) 0 k.calls in
+      (tt, (tt, lights_more head c stamp es fs (resends_light k.who i.boot t i.flights) (on_calls_light (looks_stage t) (looks_light t) 0 k.calls (covered_right es fs covered.1.1))))
+
+  -- ---- a lock is called back
+
+  cancels_light : (who : Who) (name : LockName) (boot : ℕ) (fs : List Flight) → Light (cancels_unknown who name boot fs)
+  cancels_light who name boot [] = (tt, tt)
+  cancels_light who name boot (f ∷ fs) = tt
+
+  blocked_light : (name : LockName) (k : ClientState) → EntriesCovered (blocked name k true) → Light (blocked name k true)
+  blocked_light name k = by (is_held name k.store.held)
+    where
+      call_light : (slot : ℕ) (r : Running) (x : Stage) → EntriesCovered (lock_blocked slot r x) → Light (lock_blocked slot r x)
+      call_light slot r (Waits w target l marked) covered = absurd covered.0
+      call_light slot r x covered = tt
+
+      running_light : (slot : ℕ) (x : Option Running) → EntriesCovered (on_running lock_blocked slot x) → Light (on_running lock_blocked slot x)
+      running_light slot None covered = tt
+      running_light slot (Some r) covered = call_light slot r r.stage covered
+
+      waits : (o : Option ℕ) → EntriesCovered (blocked_waiting name k o) → Light (blocked_waiting name k o)
+      waits (Some slot) covered = running_light slot (call_on slot k.calls) covered
+      waits None covered = cancels_light k.who name (import_of name.target.0 k.imports).boot (import_of name.target.0 k.imports).flights
+
+      by : (b : Bool) → EntriesCovered (blocked_held name k b) → Light (blocked_held name k b)
+      by true covered = (tt, tt)
+      by false covered = waits (waiter name 0 k.calls) covered
+
+  -- ---- an eviction
+
+  end_fit : (slot : ℕ) (x : Option Running) (p : List Line) → Fit c p → Fit c (with_turn at (ends_call at slot x) p)
+  end_fit slot None p fit = fit
+  end_fit slot (Some r) p fit = fit_told head c stamp p slot at (answer.Refused EIO) None fit
+
+  end_calls : (slot : ℕ) (x : Option Running) (p : List Line) → call_at c slot p ≡ x → (s : ℕ) → call_at c s (with_turn at (ends_call at slot x) p) ≡ (if nat_eq slot s then None else call_at c s p)
+  end_calls slot None p is s = by (nat_eq slot s) refl
+    where
+      by : (b : Bool) → nat_eq slot s ≡ b → call_at c s p ≡ (if b then None else call_at c s p)
+      by true e = ap (λ (u : ℕ). call_at c u p) (sym (eqb-true slot s e)) ∙ is
+      by false e = refl
+  end_calls slot (Some r) p is s = call_line head c stamp s p (Told slot at (answer.Refused EIO) None)
+
+  drops_fit : (hs : List HeldLock) (p : List Line) → ((s : ℕ) → call_at c s p ≡ None) → Fit c p → Fit c (with_turn at (drops_all hs) p)
+  drops_fit [] p none fit = fit
+  drops_fit (h ∷ hs) p none fit =
+      drops_fit hs (line at (Drop h.target.0 h.lock) ∷ p) none
+      (drop_fit head c stamp p h.target.0 h.lock fit (λ s. subst NotCame (sym (none s)) tt) (λ s i. subst (λ (x : Option Running). In (named (record { 0 = h.target.0 }) h.lock.cookie) (names_on x)) (none s) i))
+
+  evicted_fit : (k : ClientState) (p : List Line) → k.calls ≡ calls_at c p → ((s : ℕ) → 4 ≤ s → call_at c s p ≡ None) → Fit c p → Fit c (with_turn at (evicted at k) p)
+  evicted_fit k p same low fit =
+      subst (λ (cs : List (Option Running)). Fit c (with_turn at ((ends_calls at 0 cs ++ drops_all hs) ++ last) p)) (sym same)
+      (subst (Fit c)
+      (sym (turn_more at (ends_calls at 0 (calls_at c p) ++ drops_all hs) last p ∙ ap (λ (q : List Line). with_turn at last q) (turn_more at (ends_calls at 0 (calls_at c p)) (drops_all hs) p)
+      ∙ ap (λ (q : List Line). with_turn at last (with_turn at (drops_all hs) q)) all))
+      (fit_lights head c stamp last (with_turn at (drops_all hs) p4) (tt, joins_light (next_life k.who) 0 k.imports)
+      (drops_fit hs p4 none (end_fit 3 (call_at c 3 p) p3 (end_fit 2 (call_at c 2 p) p2 (end_fit 1 (call_at c 1 p) p1 (end_fit 0 (call_at c 0 p) p fit)))))))
+    where
+      hs : List HeldLock
+      hs = in_order k.store.held
+
+      last : List Entry
+      last = Life (next_life k.who) ∷ joins_all (next_life k.who) 0 k.imports
+
+      e0 : List Entry
+      e0 = ends_call at 0 (call_at c 0 p)
+
+      e1 : List Entry
+      e1 = ends_call at 1 (call_at c 1 p)
+
+      e2 : List Entry
+      e2 = ends_call at 2 (call_at c 2 p)
+
+      e3 : List Entry
+      e3 = ends_call at 3 (call_at c 3 p)
+
+      p1 : List Line
+      p1 = with_turn at e0 p
+
+      p2 : List Line
+      p2 = with_turn at e1 p1
+
+      p3 : List Line
+      p3 = with_turn at e2 p2
+
+      p4 : List Line
+      p4 = with_turn at e3 p3
+
+      all : with_turn at (ends_calls at 0 (calls_at c p)) p ≡ p4
+      all = turn_more at e0 (e1 ++ (e2 ++ (e3 ++ []))) p ∙ turn_more at e1 (e2 ++ (e3 ++ [])) p1 ∙ turn_more at e2 (e3 ++ []) p2 ∙ turn_more at e3 [] p3
+
+      c0 : (s : ℕ) → call_at c s p1 ≡ (if nat_eq 0 s then None else call_at c s p)
+      c0 = end_calls 0 (call_at c 0 p) p refl
+
+      c1 : (s : ℕ) → call_at c s p2 ≡ (if nat_eq 1 s then None else call_at c s p1)
+      c1 = end_calls 1 (call_at c 1 p) p1 (c0 1)
+
+      c2 : (s : ℕ) → call_at c s p3 ≡ (if nat_eq 2 s then None else call_at c s p2)
+      c2 = end_calls 2 (call_at c 2 p) p2 (c1 2 ∙ c0 2)
+
+      c3 : (s : ℕ) → call_at c s p4 ≡ (if nat_eq 3 s then None else call_at c s p3)
+      c3 = end_calls 3 (call_at c 3 p) p3 (c2 3 ∙ c1 3 ∙ c0 3)
+
+      apart : (slot s : ℕ) → slot < 4 → 4 ≤ s → nat_eq slot s ≡ false
+      apart slot s small above = grind (arith, nat_tests)
+
+      other : (slot s : ℕ) (x y : Option Running) → slot < 4 → 4 ≤ s → (if nat_eq slot s then x else y) ≡ y
+      other slot s x y small above = ap (λ (b : Bool). if b then x else y) (apart slot s small above)
+
+      high : (s : ℕ) → 4 ≤ s → call_at c s p4 ≡ None
+      high s above =
+          c3 s ∙ other 3 s None (call_at c s p3) (omega arith) above ∙ c2 s ∙ other 2 s None (call_at c s p2) (omega arith) above ∙ c1 s ∙ other 1 s None (call_at c s p1) (omega arith) above
+          ∙ c0 s ∙ other 0 s None (call_at c s p) (omega arith) above ∙ low s above
+
+      none : (s : ℕ) → call_at c s p4 ≡ None
+      none zero = c3 0 ∙ c2 0 ∙ c1 0 ∙ c0 0
+      none (suc zero) = c3 1 ∙ c2 1 ∙ c1 1
+      none (suc (suc zero)) = c3 2 ∙ c2 2
+      none (suc (suc (suc zero))) = c3 3
+      none (suc (suc (suc (suc s)))) = high (suc (suc (suc (suc s)))) (omega arith)
+
+  -- ---- a reply
+
+  module _ (p : List Line) (n t : ℕ) (r : ReplyTo) (fit : Fit c (line at (Take n (Target t) (message.Reply r)) ∷ p)) (came : (s : ℕ) → NotCame (call_at c s p)) where
+    abbrev k : ClientState
+    k = client_of head c p
+
+    abbrev p1 : List Line
+    p1 = line at (Take n (Target t) (message.Reply r)) ∷ p
+
+    abbrev Comes : List Entry → Type 0
+    Comes es = EntriesCovered es → Grown few (with_turn at es p1) → CameAt head c stamp (with_turn at es p1) → Fit c (with_turn at es p1)
+
+    flight_fit : (f : Flight) → Comes (hears_flight t r f k)
+    flight_fit f covered g at_end = subst (Fit c) (sym so) (heeds_fit head c stamp t f f.op r j p4 calls asked fit4 (covered_right es heeding covered) (subst (CameAt head c stamp) so at_end))
+      where
+        shows : List Entry
+        shows = holds t (size_with r.answer) r.seen (brought f.op r)
+
+        told : List Entry
+        told = learns t f.op r.answer r.locks
+
+        es : List Entry
+        es = Heard t f r ∷ shows ++ told
+
+        j : ClientState
+        j = turn_of k es
+
+        heeding : List Entry
+        heeding = heeds t f f.op r r.answer j
+
+        p2 : List Line
+        p2 = line at (Heard t f r) ∷ p1
+
+        p3 : List Line
+        p3 = with_turn at shows p2
+
+        p4 : List Line
+        p4 = with_turn at told p3
+
+        first : with_turn at es p1 ≡ p4
+        first = turn_more at shows told p2
+
+        so : with_turn at (hears_flight t r f k) p1 ≡ with_turn at heeding p4
+        so = turn_more at es heeding p1 ∙ ap (λ (q : List Line). with_turn at heeding q) first
+
+        g4 : Grown few p4
+        g4 = grown_under few at heeding p4 (subst (Grown few) so g)
+
+        g3 : Grown few p3
+        g3 = grown_under few at told p3 g4
+
+        g2 : Grown few p2
+        g2 = grown_under few at shows p2 g3
+
+        fit4 : Fit c p4
+        fit4 =
+            fit_lights head c stamp told p3 (learns_light head c stamp t f.op r.answer r.locks)
+            (holds_hears head c stamp t (size_with r.answer) r.seen (brought f.op r) (brought f.op r) p2 (λ l i. i) g3 (heard_hears head c stamp p1 t f r g2 fit came)).fit
+
+        calls : j.calls ≡ calls_at c p4
+        calls = turn_calls es k (client_of head c p1) refl ∙ ap (λ (i : ClientState). i.calls) (sym (client_own (limits_of head) c p1 at es (self c))) ∙ ap (calls_at c) first
+
+        flying : In f (flights_at c t p1)
+        flying = subst (λ (fs : List Flight). In f fs) (sym (flights_now few c t p1 g2.1)) (g2.0.of t (self t)).flying
+
+        asked : IsSimple f.op ⊎ IsLock f.op
+        asked = ⊎_elim (λ (s : IsSimple f.op). inl s) (λ (l : (0 < t) × IsLock f.op). inr l.1) (asked_simple t f.op (flights_asked few c t p1 g2.1 f flying))
+
+    reply_fit : Comes (comes_by at (Target t) (message.Reply r) k)
+    reply_fit = by_life (is_present r.who r.boot t k)
+      where
+        by_fit : (f : Flight) (b : Bool) → Comes (hears_fitting t r f k b)
+        by_fit f false covered g at_end = fit
+        by_fit f true covered g at_end = flight_fit f covered g at_end
+
+        by_flight : (o : Option Flight) → Comes (hears t r k o)
+        by_flight None covered g at_end = fit
+        by_flight (Some f) covered g at_end = by_fit f (answer_fits f.op r.answer) covered g at_end
+
+        by_life : (b : Bool) → Comes (replied t r k b)
+        by_life false covered g at_end = fit
+        by_life true covered g at_end = by_flight (find_flight r.xid.0 (import_of t k.imports).flights) covered g at_end
+
+  -- ---- what begins a turn
+
+  record Start (p : List Line) : Type 0 where
+    fit : Fit c p
+    starts : Starts head c stamp p
+    came : (s : ℕ) → NotCame (call_at c s p)
+    low : (s : ℕ) → 4 ≤ s → call_at c s p ≡ None
+
+  takes_fit : (p : List Line) (n : ℕ) (from : Node) (m : Message) → Start p → Sent p n from (Client c) m → EntriesCovered (comes_by at from m (client_of head c p))
+      → Grown few (with_turn at (comes_by at from m (client_of head c p)) (line at (Take n from m) ∷ p)) → Fit c (with_turn at (comes_by at from m (client_of head c p)) (line at (Take n from m) ∷ p))
+  takes_fit p n (Client d) m s sent covered g = absurd (comes_to few p (Client d) c m s.starts.grown (sent_was p n (Client d) (Client c) m sent))
+  takes_fit p n (Target t) m s sent covered g = by m sent refl covered g (comes_to few p (Target t) c m s.starts.grown (sent_was p n (Target t) (Client c) m sent))
+    where
+      use_light : (x : Message) (es : List Entry) → Light es → Fit c (with_turn at es (line at (Take n (Target t) x) ∷ p))
+      use_light x es light = fit_lights head c stamp es (line at (Take n (Target t) x) ∷ p) light (fit_light head c stamp p (Take n (Target t) x) tt s.fit)
+
+      k : ClientState
+      k = client_of head c p
+
+      by : (x : Message) → Sent p n (Target t) (Client c) x → x ≡ x → EntriesCovered (comes_from at t x k) → Grown few (with_turn at (comes_from at t x k) (line at (Take n (Target t) x) ∷ p)) → ComesTo (Target t) x
+          → Fit c (with_turn at (comes_from at t x k) (line at (Take n (Target t) x) ∷ p))
+      by (message.Reply r) sent e covered g to =
+          reply_fit p n t r (fit_light head c stamp p (Take n (Target t) (message.Reply r)) tt s.fit) s.came covered g
+          (came_at head c stamp _ (reply_after head c stamp p n t r s.starts (was_there head.osts t (Client c) (message.Reply r) p s.starts.there (sent_was p n (Target t) (Client c) (message.Reply r) sent)) sent covered))
+      by (message.Block who boot cookie) sent e covered g to = use_light (message.Block who boot cookie) _ (blocks (same_life who k.who) covered)
+        where
+          blocks : (b : Bool) → EntriesCovered (blocked (named (record { 0 = t }) cookie) k b) → Light (blocked (named (record { 0 = t }) cookie) k b)
+          blocks true covered = blocked_light (named (record { 0 = t }) cookie) k covered
+          blocks false covered = tt
+      by (message.Up boot) sent e covered g to = use_light (message.Up boot) _ (ups (nat_lt (import_of t k.imports).boot boot) covered)
+        where
+          ups : (b : Bool) → EntriesCovered (up_heard t boot k b) → Light (up_heard t boot k b)
+          ups true covered = let j = turn_of k (Knows t boot ∷ []) in (tt, up_light t j (import_of t j.imports) (import_of t j.imports).standing covered.1)
+          ups false covered = tt
+      by (message.Ready who boot committed) sent e covered g to = use_light (message.Ready who boot committed) _ (readies (is_present who boot t k) covered)
+        where
+          readies : (b : Bool) → EntriesCovered (ready_heard t boot committed.0 k b) → Light (ready_heard t boot committed.0 k b)
+          readies true covered = ready_light t boot committed.0 k covered
+          readies false covered = tt
+      by (message.Evicted who boot) sent e covered g to = ends (same_life who k.who)
+        where
+          p1 : List Line
+          p1 = line at (Take n (Target t) (message.Evicted who boot)) ∷ p
+
+          ends : (b : Bool) → Fit c (with_turn at (evicted_heard at k b) p1)
+          ends true = evicted_fit k p1 refl s.low (fit_light head c stamp p (Take n (Target t) (message.Evicted who boot)) tt s.fit)
+          ends false = fit_light head c stamp p (Take n (Target t) (message.Evicted who boot)) tt s.fit
+      by x sent e covered g to = absurd to
+
+  -- ---- a call begins
+
+  begins_fit : (slot : ℕ) (x : Call) (p : List Line) → Fit c p → Fit c (with_turn at (begins at slot x (client_of head c p)) p)
+  begins_fit slot x p fit = by x
+    where
+      k : ClientState
+      k = client_of head c p
+
+      begun_bad : (y : Call) → Fit c (line at (Told slot at (answer.Refused EBADF) None) ∷ line at (Begin slot (begun at y None Bad)) ∷ p)
+      begun_bad y = fit_told head c stamp (line at (Begin slot (begun at y None Bad)) ∷ p) slot at (answer.Refused EBADF) None (fit_begun head c stamp p slot y None true fit)
+
+      plain : (y : Call) (f : Option HandleFile) → Fit c (line at (Begin slot (begun at y f Plain)) ∷ p)
+      plain y f = fit_begun head c stamp p slot y f false fit
+
+      opens_fit : (y : Call) (b : Bool) → Fit c (with_turn at (begins_open at slot y b) p)
+      opens_fit y true = begun_bad y
+      opens_fit y false = plain y None
+
+      close_fit : (h : ℕ) (f : Option HandleFile) → Fit c (with_turn at (begins_close at slot h f) p)
+      close_fit h None = begun_bad (call.Close h)
+      close_fit h (Some f) = fit_light head c stamp (line at (Begin slot (begun at (call.Close h) (Some f) Plain)) ∷ p) (Unbinds h) tt (plain (call.Close h) (Some f))
+
+      file_fit : (y : Call) (f : Option HandleFile) → Fit c (with_turn at (begins_on at slot y f) p)
+      file_fit y None = begun_bad y
+      file_fit y (Some f) = plain y (Some f)
+
+      by : (x : Call) → Fit c (with_turn at (begins at slot x k) p)
+      by (call.Open h path) = opens_fit (call.Open h path) (is_some (file_of h k.handles) || list_any (opens h) k.calls)
+      by (call.Close h) = close_fit h (file_of h k.handles)
+      by (call.Read h o n) = file_fit (call.Read h o n) (file_of h k.handles)
+      by (call.Write h o bs) = file_fit (call.Write h o bs) (file_of h k.handles)
+      by (call.Cut h n) = file_fit (call.Cut h n) (file_of h k.handles)
+      by (call.Flush h) = file_fit (call.Flush h) (file_of h k.handles)
+      by (call.Glimpse h) = file_fit (call.Glimpse h) (file_of h k.handles)
+      by x = plain x None
+
+  -- ---- a turn
+
+  -- no call has just got a lock, and none is on a slot that there isn't
+  record Waits4 (q : List Line) : Type 0 where
+    came : (s : ℕ) → NotCame (call_at c s q)
+    low : (s : ℕ) → 4 ≤ s → call_at c s q ≡ None
+
+  rests_fit : (p : List Line) → Fit c p → Waits4 (with_turn at (rests (limits_of head) at (client_of head c p)) p) → Goes (rests (limits_of head) at (client_of head c p)) p
+  rests_fit p fit after =
+      let es = slots_go 5 at (client_of head c p) in
+      let q = with_turn at es p in
+      let so = followed head c stamp es (tail head c stamp) p in
+      goes_then head c stamp (Fit c) es (tail head c stamp) p (slots_fit head c stamp 5 p fit) (λ f. tail_fit head c stamp q f (subst Waits4 so after).came (subst Waits4 so after).low)
+
+  event_then : (es : List Entry) (p : List Line) → Goes es p → Waits4 (with_turn at (follow es (rests (limits_of head) at) (client_of head c p)) p) → Goes (follow es (rests (limits_of head) at) (client_of head c p)) p
+  event_then es p first after =
+      goes_then head c stamp (Fit c) es (rests (limits_of head) at) p first (λ f. rests_fit (with_turn at es p) f (subst Waits4 (followed head c stamp es (rests (limits_of head) at) p) after))
+
+  client_fit : (p : List Line) (event : client.Event) → Start p → MeetsClient head p c event → Grown few (with_turn at (client.row (limits_of head) at event (client_of head c p)) p)
+      → Waits4 (with_turn at (client.row (limits_of head) at event (client_of head c p)) p) → Goes (client.row (limits_of head) at event (client_of head c p)) p
+  client_fit p (client.Begins slot x) s meets g after = by (call_on slot (calls_at c p)) after
+    where
+      by : (o : Option Running) → Waits4 (with_turn at (row_call (limits_of head) at slot x (client_of head c p) o) p) → Goes (row_call (limits_of head) at slot x (client_of head c p) o) p
+      by None after = event_then (begins at slot x (client_of head c p)) p (λ covered. begins_fit slot x p s.fit) after
+      by (Some r) after = λ covered. fit_light head c stamp p (Busy slot) tt s.fit
+  client_fit p (client.Comes n from m) s meets g after =
+      let es = comes_by at from m (client_of head c p) in
+      event_then (Take n from m ∷ es) p
+      (λ covered. takes_fit p n from m s meets.1 covered.1 (grown_under few at (rests (limits_of head) at (turn_of (client_of head c p) (Take n from m ∷ es))) (with_turn at (Take n from m ∷ es) p)
+      (subst (Grown few) (turn_more at (Take n from m ∷ es) (rests (limits_of head) at (turn_of (client_of head c p) (Take n from m ∷ es))) p) g))) after
+  client_fit p client.Ticks s meets g after =
+      let es = ticks 0 (client_of head c p).imports (client_of head c p) in
+      event_then (Tick ∷ es) p (λ covered. fit_lights head c stamp (Tick ∷ es) p (tt, ticks_light 0 (client_of head c p).imports (client_of head c p) covered.1) s.fit) after
+  client_fit p client.Dies s meets g after = λ covered. fit_light head c stamp p Die tt s.fit
+
+-- ---- a line of another node
+
+other_line : (c : ℕ) (at : At) (e : Entry) (p : List Line) → is_client c at.node ≡ false → Fit c p → Fit c (line at e ∷ p)
+other_line c at e p other fit =
+    record {
+      all = (named_by c p1 (λ s. call_named (held_at c p1) (call_at c s p1) (calls s)), fit.all);
+      once = subst Once (sym held) fit.once;
+      bits = subst AllBits (sym held) fit.bits;
+      calls = calls;
+      counted = λ h i.
+          let old = fit.counted h (subst (λ (hs : List HeldLock). In h hs) held i) in
+          let few = sum_less (name_of h) (pins_at c p1) (pins_at c p) (λ s. subst (λ (x : Option Running). count_of (name_of h) (names_on x) ≤ count_of (name_of h) (pins_at c p s)) (sym (call s)) (omega arith)) in
+          omega (arith, old, few);
+    }
+  where
+    p1 : List Line
+    p1 = line at e ∷ p
+
+    held : held_at c p1 ≡ held_at c p
+    held = ap (λ (own : Bool). on (reads_held e) own (held_after (held_at c p) e) (held_at c p)) other ∙ on_other (reads_held e) (held_after (held_at c p) e) (held_at c p)
+
+    call : (s : ℕ) → call_at c s p1 ≡ call_at c s p
+    call s = ap (λ (own : Bool). on (reads_call e) own (call_after s (call_at c s p) e) (call_at c s p)) other ∙ on_other (reads_call e) (call_after s (call_at c s p) e) (call_at c s p)
+
+    calls : (s : ℕ) → CallFit (held_at c p1) (call_at c s p1)
+    calls s = subst (λ (x : Option Running). CallFit (held_at c p1) x) (sym (call s)) (subst (λ (hs : List HeldLock). CallFit hs (call_at c s p)) (sym held) (fit.calls s))
+
+other_turn : (c : ℕ) (at : At) (es : List Entry) (p : List Line) → is_client c at.node ≡ false → Fit c p → Fit c (with_turn at es p)
+other_turn c at [] p other fit = fit
+other_turn c at (e ∷ es) p other fit = other_turn c at es (line at e ∷ p) other (other_line c at e p other fit)
+
+-- ---- runs
+
+-- between turns calls wait
+waits : (head : table.Head) (c : ℕ) (stamp : Stamp) (past : List Line) → StandsAt head past → Waits4 head c stamp past
+waits head c stamp past s =
+    record {
+      came = λ slot. idle_came (calls_at c past) (call_at c slot past) ((s.between c).idle slot);
+      low = λ slot above. by slot above (call_at c slot past) (small_on (covered_head head) c slot past s.grown);
+    }
+  where
+    by : (slot : ℕ) → 4 ≤ slot → (x : Option Running) → SmallOn slot x → x ≡ None
+    by slot above None small = refl
+    by slot above (Some r) small = absurd (omega (arith, above, small))
+
+lives : (head : table.Head) (past : List Line) (c : ℕ) (event : client.Event) → MeetsClient head past c event → IsAlive (covered_head head) past c
+lives head past c (client.Begins slot wanted) m = record { one = m.0.one; alive = m.0.alive }
+lives head past c (client.Comes n from message) m = record { one = m.0.one; alive = m.0.alive }
+lives head past c client.Ticks m = record { one = m.one; alive = m.alive }
+lives head past c client.Dies m = record { one = m.one; alive = m.alive }
+
+own_turn : (head : table.Head) (past : List Line) (stamp : Stamp) (c : ℕ) (event : client.Event) → StandsAt head past → Later past (turn stamp (Client c)) → MeetsClient head past c event
+    → AllCovered (with_turn (turn stamp (Client c)) (client.row (limits_of head) (turn stamp (Client c)) event (client_of head c past)) past)
+    → StandsAt head (with_turn (turn stamp (Client c)) (client.row (limits_of head) (turn stamp (Client c)) event (client_of head c past)) past) → Fit c past
+    → Fit c (with_turn (turn stamp (Client c)) (client.row (limits_of head) (turn stamp (Client c)) event (client_of head c past)) past)
+own_turn head past stamp c event s later meets covered next fit =
+    let at = turn stamp (Client c) in
+    let es = client.row (limits_of head) at event (client_of head c past) in
+    let parts = covered_turn at es past covered in
+    let w = waits head c stamp past s in
+    client_fit head c stamp past event (record {
+      fit = fit;
+      starts = record {
+        grown = s.grown;
+        covered = parts.1;
+        settled = s.settled;
+        later = later;
+        closed = s.closed;
+        noted = s.noted;
+        there = s.there;
+        alive = lives head past c event meets;
+        between = s.between c;
+        ready = s.ready c;
+      };
+      came = w.came;
+      low = w.low;
+    }) meets next.grown (waits head c stamp (with_turn at es past) next) parts.0
+
+row_fit : (head : table.Head) (past : List Line) (stamp : Stamp) (node : Node) (es : List Entry) → StandsAt head past → Later past (turn stamp node) → IsRow head past (turn stamp node) es
+    → AllCovered (with_turn (turn stamp node) es past) → StandsAt head (with_turn (turn stamp node) es past) → ((c : ℕ) → Fit c past) → (c : ℕ) → Fit c (with_turn (turn stamp node) es past)
+row_fit head past stamp (Target t) es s later r covered next fit c = other_turn c (turn stamp (Target t)) es past refl (fit c)
+row_fit head past stamp (Client d) es s later r covered next fit c = by (nat_eq c d) refl
+  where
+    at : At
+    at = turn stamp (Client d)
+
+    fs : List Entry
+    fs = client.row (limits_of head) at r.event (client_of head d past)
+
+    all : es ≡ fs
+    all =
+        let whole = subst (λ (gs : List Entry). AllCovered (with_turn at gs past)) r.is covered in
+        r.is ∙ over_none r.fails fs (covered_turn at (row head past at r.event r.fails) past whole).0
+
+    own : Fit d (with_turn at es past)
+    own =
+        subst (λ (gs : List Entry). Fit d (with_turn at gs past)) (sym all)
+        (own_turn head past stamp d r.event s later r.meets (subst (λ (gs : List Entry). AllCovered (with_turn at gs past)) all covered) (subst (λ (gs : List Entry). StandsAt head (with_turn at gs past)) all next) (fit d))
+
+    by : (b : Bool) → nat_eq c d ≡ b → Fit c (with_turn at es past)
+    by true e = subst (λ (u : ℕ). Fit u (with_turn at es past)) (sym (eqb-true c d e)) own
+    by false e = other_turn c at es past e (fit c)
+
+fits : (head : table.Head) (turns : List Turn) → IsRun head turns → AllCovered (lines_of turns) → (c : ℕ) → Fit c (lines_of turns)
+fits head [] run covered = λ c. record { all = tt; once = tt; bits = λ h i. absurd i; calls = λ s. tt; counted = λ h i. absurd i }
+fits head (t ∷ turns) run covered = by run.1 (fits head turns run.2 (covered_turn t.at t.entries (lines_of turns) covered).1)
+  where
+    by : table_runs.IsTurn head turns t → ((c : ℕ) → Fit c (lines_of turns)) → (c : ℕ) → Fit c (lines_of (t ∷ turns))
+    by (inl r) fit =
+        row_fit head (lines_of turns) t.at.stamp t.at.node t.entries (stands head turns run.2 (covered_turn t.at t.entries (lines_of turns) covered).1) (run_later head turns t.at run.2 run.0) r covered
+        (stands head (t ∷ turns) run covered) fit
+    by (inr f) fit = absurd (fails (subst (λ (es : List Entry). AllCovered (with_turn t.at es (lines_of turns))) f.is covered))
+      where
+        fails : AllCovered (with_turn t.at (row_start true) (lines_of turns)) → ⊥
+        fails k = k.0
+
+all_fit : (past : List Line) → ((c : ℕ) → PinsOf c past) → PinsFit past
+all_fit [] all = tt
+all_fit (l ∷ past) all = (λ c slot r n e i. (all c).0 slot r n e i, all_fit past (λ c. (all c).1))
+
+pub pins_fit : (head : table.Head) (turns : List Turn) → IsRun head turns → AllCovered (lines_of turns) → PinsFit (lines_of turns)
+pins_fit head turns run covered = all_fit (lines_of turns) (λ c. (fits head turns run covered c).all)
