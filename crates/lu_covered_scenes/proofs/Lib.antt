@@ -25,6 +25,7 @@ pub use Rattle.lu_lawful.proofs.Parts
 pub use Rattle.lu_lawful.proofs.GuardTurns
 pub use Rattle.lu_lawful.proofs.ClientLines
 pub use Rattle.lu_lawful.proofs.ClientLocks
+pub use Rattle.lu_lawful.proofs.ClientReplies
 pub use Rattle.lu_lawful.proofs.Held
 pub use Rattle.lu_lawful.proofs.Only
 pub use Rattle.lu_lawful.proofs.Kinds

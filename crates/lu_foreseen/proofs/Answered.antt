@@ -54,7 +54,7 @@ use Rattle.lu_covered_scenes.proofs.Lists.{self, life_is}
 use Rattle.lu_covered_scenes.proofs.Arrivals.{Goes, was_goes}
 use Rattle.lu_covered_scenes.proofs.Asking.{IsNode, AllSuit, was_suits}
 use Rattle.lu_nodes.specs.Comings.{are_new, is_short, is_in_file, may_answer, may_fit, may_reply, may_from, may_come}
-use Rattle.lu_guards.proofs.ClientReplies.{found_in, one_differs}
+use Rattle.lu_covered_scenes.proofs.ClientReplies.{found_in, one_differs}
 
 -- ---- locks that come are new
 

@@ -105,6 +105,7 @@ pub use Rattle.lu_guards.proofs.TargetAlike
 pub use Rattle.lu_guards.proofs.Turns as GuardTurns
 pub use Rattle.lu_guards.proofs.ClientLines
 pub use Rattle.lu_guards.proofs.ClientLocks
+pub use Rattle.lu_guards.proofs.ClientReplies
 pub use Rattle.lu_guards.proofs.Held
 pub use Rattle.lu_guards.proofs.Only
 pub use Rattle.lu_guards.proofs.Acts as GuardActs
