@@ -60,7 +60,7 @@ use Rattle.lu_lawful.proofs.Story.{was_to}
 use Rattle.lu_lawful.proofs.Comings.{request_asked}
 use Rattle.lu_lawful.proofs.ClientLines.{IsSize, IsLock, IsAskedOf}
 use Rattle.lu_lawful.proofs.GuardActs.{acts_sized, sized_bare, KindOf, kind_reads, range_kind}
-use Rattle.lu_lawful.proofs.Kinds.{given_of, gave_kind, granted_kind, brought_kind}
+use Rattle.lu_lawful.proofs.LockKinds.{given_of, gave_kind, granted_kind, brought_kind}
 use Rattle.lu_lawful.proofs.TargetSizes.{AllRead}
 use Rattle.lu_lawful.proofs.TargetStory.{in_with, in_with_all}
 use Rattle.lu_covered_scenes.specs.Covered.{IsCovered, AsksNoDisk}

@@ -28,7 +28,7 @@ pub use Rattle.lu_lawful.proofs.ClientLocks
 pub use Rattle.lu_lawful.proofs.ClientReplies
 pub use Rattle.lu_lawful.proofs.Held
 pub use Rattle.lu_lawful.proofs.Only
-pub use Rattle.lu_lawful.proofs.Kinds
+pub use Rattle.lu_lawful.proofs.LockKinds
 pub use Rattle.lu_lawful.proofs.Has
 pub use Rattle.lu_lawful.proofs.GuardGiven
 pub use Rattle.lu_lawful.proofs.FactLockLists

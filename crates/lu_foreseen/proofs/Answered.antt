@@ -41,7 +41,7 @@ use Rattle.lu_covered_scenes.proofs.Guards.{In, Was}
 use Rattle.lu_covered_scenes.proofs.Grown.{Grown}
 use Rattle.lu_covered_scenes.proofs.Has.{Ungranted}
 use Rattle.lu_covered_scenes.proofs.GuardGiven.{Grants}
-use Rattle.lu_covered_scenes.proofs.Kinds.{reply_bare, reply_grants}
+use Rattle.lu_covered_scenes.proofs.LockKinds.{reply_bare, reply_grants}
 use Rattle.lu_covered_scenes.proofs.Held.{held_into}
 use Rattle.lu_covered_scenes.proofs.FactLockLists.{brought_again}
 use Rattle.lu_covered_scenes.proofs.Only.{sent_was, was_only, grown_of}

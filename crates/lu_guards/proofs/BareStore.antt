@@ -33,7 +33,7 @@ use Rattle.lu_guards.proofs.Lists.{self, in_filter}
 use Rattle.lu_guards.proofs.Held.{is_own}
 use Rattle.lu_guards.proofs.Has.{Ungranted}
 use Rattle.lu_guards.proofs.Given.{Grants}
-use Rattle.lu_guards.proofs.Kinds.{reply_grants}
+use Rattle.lu_guards.proofs.LockKinds.{reply_grants}
 use Rattle.lu_guards.proofs.ClientLines.{patches_none}
 use Rattle.lu_guards.proofs.ClientLooks.{IsEmpty}
 

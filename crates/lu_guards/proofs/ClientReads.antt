@@ -47,7 +47,7 @@ use Rattle.lu_guards.proofs.Turns.{owes_nothing}
 use Rattle.lu_guards.proofs.Covers.{EntriesCovered}
 use Rattle.lu_guards.proofs.Acts.{IsBits, KindOf}
 use Rattle.lu_guards.proofs.Held.{held_in}
-use Rattle.lu_guards.proofs.Kinds.{held_kind}
+use Rattle.lu_guards.proofs.LockKinds.{held_kind}
 use Rattle.lu_guards.proofs.BareStore.{bare_store}
 use Rattle.lu_guards.proofs.ClientLines.{held_once, once_same}
 use Rattle.lu_guards.proofs.ClientHandles.{Tied, IsNoOpen, other_tied}

@@ -56,7 +56,7 @@ use Rattle.lu_guards.proofs.Covers.{EntriesCovered}
 use Rattle.lu_guards.proofs.Held.{held_into, held_back, held_name}
 use Rattle.lu_guards.proofs.Has.{Ungranted, none_granted}
 use Rattle.lu_guards.proofs.Given.{Grants}
-use Rattle.lu_guards.proofs.Kinds.{reply_bare, reply_grants}
+use Rattle.lu_guards.proofs.LockKinds.{reply_bare, reply_grants}
 use Rattle.lu_guards.proofs.Calls.{had_all}
 use Rattle.lu_guards.proofs.Asks.{CallOf, plain_errand, sizes_errand, LocksFirst, locks_errand, asks_grown}
 use Rattle.lu_guards.proofs.ClientLocks.{Differ, brought_in, with_self, with_other, other_lock}

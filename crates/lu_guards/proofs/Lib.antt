@@ -22,7 +22,7 @@ pub mod Requests
 pub mod Has
 pub mod Given
 pub mod Sound
-pub mod Kinds
+pub mod LockKinds
 pub mod TargetAlike
 pub mod TargetGood
 pub mod TargetPass

@@ -64,7 +64,7 @@ use Rattle.lu_guards.proofs.Comings.{asked_object, IsAsked, asks_of}
 use Rattle.lu_guards.proofs.TargetObjects.{objects_none}
 use Rattle.lu_guards.proofs.TargetSizes.{AllRead, size_lead}
 use Rattle.lu_guards.proofs.TargetReads.{read_lead}
-use Rattle.lu_guards.proofs.Kinds.{granted_kind}
+use Rattle.lu_guards.proofs.LockKinds.{granted_kind}
 use Rattle.lu_guards.proofs.TargetCrashed.{Crashed, Matches, Leads as LeadsTo, crashed_first, crashed_client}
 use Rattle.lu_guards.proofs.TargetRecovers.{crash_lead, recovers_lead, comes_lead as recovered}
 use Rattle.lu_guards.proofs.TargetStory.{IsFirst, story_apart, first_in, first_all}

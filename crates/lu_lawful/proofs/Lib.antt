@@ -111,7 +111,7 @@ pub use Rattle.lu_guards.proofs.Only
 pub use Rattle.lu_guards.proofs.Acts as GuardActs
 pub use Rattle.lu_guards.proofs.BareStore
 pub use Rattle.lu_guards.proofs.ClientLooks
-pub use Rattle.lu_guards.proofs.Kinds
+pub use Rattle.lu_guards.proofs.LockKinds
 pub use Rattle.lu_guards.proofs.TargetReads
 pub use Rattle.lu_guards.proofs.TargetSizes
 pub use Rattle.lu_guards.proofs.TargetStory

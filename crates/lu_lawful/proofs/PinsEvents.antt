@@ -38,7 +38,7 @@ use Rattle.lu_guards.proofs.Acts.{IsBits, KindOf}
 use Rattle.lu_guards.proofs.Grown.{Grown}
 use Rattle.lu_guards.proofs.Lists.{self, turn}
 use Rattle.lu_guards.proofs.Held.{held_in, held_into}
-use Rattle.lu_guards.proofs.Kinds.{held_kind}
+use Rattle.lu_guards.proofs.LockKinds.{held_kind}
 use Rattle.lu_guards.proofs.Turns.{covered_head}
 use Rattle.lu_guards.proofs.Covers.{EntriesCovered}
 use Rattle.lu_guards.proofs.ClientLocks.{names_same, Once, once_brought, with_self, with_other}

@@ -49,7 +49,7 @@ use Rattle.lu_guards.proofs.Grown.{Grown}
 use Rattle.lu_guards.proofs.Lists.{self, turn, in_filtered}
 use Rattle.lu_guards.proofs.ClientLocks.{ordered_in}
 use Rattle.lu_guards.proofs.Held.{held_in}
-use Rattle.lu_guards.proofs.Kinds.{held_kind}
+use Rattle.lu_guards.proofs.LockKinds.{held_kind}
 use Rattle.lu_facts.proofs.Groups.{Gave}
 use Rattle.lu_facts.proofs.All.{holds}
 use Rattle.lu_guards.proofs.Calls.{Came, call_cases}
