@@ -30,6 +30,7 @@ use Rattle.lu_held.specs.declared.locks.Wanted.TheVariants.{Holding}
 use Rattle.lu_held.specs.declared.names.LockName.{LockName}
 use Rattle.lu_held.specs.Locks.{reaches_end, holds_offset, is_for, same_resource}
 use Rattle.lu_held.specs.Held.{changed, used, serving, those, in_order}
+use Rattle.lu_machine.specs.Places.{is_in}
 use Rattle.lu_machine.proofs.Places.{in_parts, in_whole}
 use Rattle.lu_words.specs.declared.changes.Flush.{Flush}
 use Rattle.lu_words.specs.declared.changes.Flush.TheVariants as flush
@@ -49,14 +50,15 @@ use Rattle.lu_client_rows.specs.Starts.{looks_at, comes_at, work_on, pins, with_
 use Rattle.lu_object_story.specs.Words.{changes, covers, within, not_above}
 use Rattle.lu_object_points.specs.Points.{change_of, last_of, lock_at}
 use Rattle.lu_object_points.specs.Alike.{IsRange}
-use Rattle.lu_client_objects.specs.Sound.{In, IsSoundOf}
+use Rattle.lu_client_objects.specs.Sound.{In, Writer, Holder, IsSoundOf, IsKnownOf, IsSoundAt}
 use Rattle.lu_client_objects.specs.Uses.{IsFor, IsUsed, IsOnBytes, IsShort, IsWork, IsWorkOf}
 use Rattle.lu_client_objects.specs.Oks.{GetOk, page_extent, IsTold, ReachEnds, Reaches, HasReached, ReadOk, TellOk, ClientOk, Follows, CallGoes}
-use Rattle.lu_client_objects.specs.CallRows.{IsSoundAt, LooksGo, ComesGo, StartsGo, StatsGo}
+use Rattle.lu_client_objects.specs.CallRows.{LooksGo, ComesGo, StartsGo, StatsGo}
 use Rattle.lu_client_objects.proofs.Lists.{in_append, in_left, in_filter, in_mapped, in_ordered}
 use Rattle.lu_client_objects.proofs.Tables.{imports_still, object_is}
 use Rattle.lu_client_objects.proofs.Changes.{above_end, above_last, meet_at}
 use Rattle.lu_client_objects.proofs.Steps.{sound_map}
+use Rattle.lu_client_objects.proofs.Known.{known_still, still_map, still_order, known_shows}
 use Rattle.lu_client_objects.proofs.Walks.{turn_more, each_append}
 use Rattle.lu_client_objects.proofs.Pieces.{stripe_there, below_is, below_low, on_length, offset_within, run_wanted, rest_wanted, cut_wanted}
 use Rattle.lu_client_objects.proofs.Made.{IsOver, sound_made, sound_queue, sound_order}
@@ -83,22 +85,29 @@ none_goes : (at : At) (before : Option Entry) (k : Client) → IsSoundAt k → C
 none_goes at before k s = record { each = tt; sound = s }
 
 -- an entry that leaves the imports
-kept : (k : Client) (e : Entry) → ((i : Import) → import_after i e ≡ i) → IsSoundOf (after k e).store.held (after k e).store.patches k.imports → IsSoundAt (after k e)
-kept k e same s = subst (IsSoundOf (after k e).store.held (after k e).store.patches) (sym (imports_still e same 0 k.imports)) s
+abbrev KnownAfter : Client → Entry → Type 0
+KnownAfter k e = IsKnownOf (after k e).store.held (after k e).store.bytes (after k e).store.sizes (after k e).store.shown
+
+kept : (k : Client) (e : Entry) → ((i : Import) → import_after i e ≡ i) → IsSoundOf (after k e).store.held (after k e).store.patches k.imports → KnownAfter k e → IsSoundAt (after k e)
+kept k e same s known = record { bytes = subst (IsSoundOf (after k e).store.held (after k e).store.patches) (sym (imports_still e same 0 k.imports)) s; known = known }
 
 -- ---- pins
 
 pin_sound : (k : Client) (name : LockName) → IsSoundAt k → IsSoundAt (after k (Pins name))
 pin_sound k name s =
     kept k (Pins name) (λ j. refl)
-    (sound_map k.store.held k.store.patches k.imports s (done lock.Pin name) (done_same (λ g. g.lock) lock.Pin name (λ g. refl)) (done_same (λ g. g.target) lock.Pin name (λ g. refl)))
+    (sound_map k.store.held k.store.patches k.imports s.bytes (done lock.Pin name) (done_same (λ g. g.lock) lock.Pin name (λ g. refl)) (done_same (λ g. g.target) lock.Pin name (λ g. refl)))
+    (known_still k.store.held (changed name lock.Pin k.store.held) k.store.bytes k.store.sizes k.store.shown (still_map (done lock.Pin name) (done_same (λ g. g.lock) lock.Pin name (λ g. refl)) k.store.held) s.known)
 
 unpin_sound : (k : Client) (name : LockName) → IsSoundAt k → IsSoundAt (after k (Unpins name))
 unpin_sound k name s =
-    let t = sound_map k.store.held k.store.patches k.imports s (done lock.Unpin name) (done_same (λ g. g.lock) lock.Unpin name (λ g. refl)) (done_same (λ g. g.target) lock.Unpin name (λ g. refl)) in
+    let t = sound_map k.store.held k.store.patches k.imports s.bytes (done lock.Unpin name) (done_same (λ g. g.lock) lock.Unpin name (λ g. refl)) (done_same (λ g. g.target) lock.Unpin name (λ g. refl)) in
     kept k (Unpins name) (λ j. refl)
     (sound_order (changed name lock.Unpin k.store.held) k.store.patches k.imports t (used name (changed name lock.Unpin k.store.held)) (once_used name (changed name lock.Unpin k.store.held) t.once)
     (λ h i. used_only name h (changed name lock.Unpin k.store.held) i) (λ h i. used_there name h (changed name lock.Unpin k.store.held) i))
+    (known_still (changed name lock.Unpin k.store.held) (used name (changed name lock.Unpin k.store.held)) k.store.bytes k.store.sizes k.store.shown
+    (still_order (changed name lock.Unpin k.store.held) (used name (changed name lock.Unpin k.store.held)) (λ h i. used_there name h (changed name lock.Unpin k.store.held) i))
+    (known_still k.store.held (changed name lock.Unpin k.store.held) k.store.bytes k.store.sizes k.store.shown (still_map (done lock.Unpin name) (done_same (λ g. g.lock) lock.Unpin name (λ g. refl)) k.store.held) s.known))
 
 unpins_go : (at : At) (before : Option Entry) (names : List LockName) (k : Client) → IsSoundAt k → CallGoes at before k (unpins names)
 unpins_go at before [] k s = none_goes at before k s
@@ -116,7 +125,7 @@ pins_go at before (name ∷ names) k s =
 
 tells_go : (at : At) (before : Option Entry) (slot : ℕ) (r : Running) (a : Answer) (work : Option Work) (k : Client) → IsSoundAt k → TellOk k a work → CallGoes at before k (tells slot r at a work)
 tells_go at before slot r a work k s ok =
-    let t = kept k (Told slot at a work) (λ j. refl) s in
+    let t = kept k (Told slot at a work) (λ j. refl) s.bytes s.known in
     call_append at before k (Told slot at a work ∷ []) (unpins r.pins) (one_goes at before k (Told slot at a work) ok tt t) (λ b. unpins_go at b r.pins (after k (Told slot at a work)) t)
 
 work_of : (held : List HeldLock) (names : List LockName) (kind : Kind) (w : Work) → IsOnBytes kind → IsWork held names w → IsWorkOf held names kind w
@@ -129,7 +138,7 @@ work_of held names (Stats mode links) w b i = i
 
 asks_go : (at : At) (before : Option Entry) (slot : ℕ) (wanted : Use) (r : Running) (w : Work) (k : Client) → IsSoundAt k → IsOnBytes w.kind → IsWork k.store.held r.pins w → CallGoes at before k (asks_lock slot wanted r w)
 asks_go at before slot wanted r w k s b i =
-    let t = kept k (Stands slot (at_stage r (Enqueued w))) (λ j. refl) s in
+    let t = kept k (Stands slot (at_stage r (Enqueued w))) (λ j. refl) s.bytes s.known in
     call_append at before k (Stands slot (at_stage r (Enqueued w)) ∷ []) (Queues wanted.target.0 (queued_for slot (enqueue_of wanted)) ∷ [])
     (one_goes at before k (Stands slot (at_stage r (Enqueued w))) (work_of k.store.held r.pins w.kind w b i) tt t) (λ c. queue c wanted.policy refl t)
   where
@@ -141,9 +150,9 @@ asks_go at before slot wanted r w k s b i =
 
     queue : (c : Option Entry) (policy : Policy) → wanted.policy ≡ policy → IsSoundAt stood → CallGoes at c stood (Queues wanted.target.0 (queued_for slot (op_of policy)) ∷ [])
     queue c (Range extent) e t = one_goes at c stood (Queues wanted.target.0 (queued_for slot (op.Enqueue wanted.resource wanted.mode extent))) tt tt
-        (sound_queue stood.store.held stood.store.patches stood.imports t wanted.target.0 (queued_for slot (op.Enqueue wanted.resource wanted.mode extent)) (λ z. refl) (λ u. tt))
+        (record { bytes = sound_queue stood.store.held stood.store.patches stood.imports t.bytes wanted.target.0 (queued_for slot (op.Enqueue wanted.resource wanted.mode extent)) (λ z. refl) (λ u. tt); known = t.known })
     queue c (Bits bits) e t = one_goes at c stood (Queues wanted.target.0 (queued_for slot (op.Size wanted.resource))) tt tt
-        (sound_queue stood.store.held stood.store.patches stood.imports t wanted.target.0 (queued_for slot (op.Size wanted.resource)) (λ z. refl) (λ u. tt))
+        (record { bytes = sound_queue stood.store.held stood.store.patches stood.imports t.bytes wanted.target.0 (queued_for slot (op.Size wanted.resource)) (λ z. refl) (λ u. tt); known = t.known })
 
 -- ---- looking for locks
 
@@ -230,16 +239,16 @@ want_in held names w u i e j = subst (λ (xs : List Use). In u.want xs) (wants_a
 range_over : (k : Client) (u : Using) (x : Extent) → IsSoundAt k → IsUsed k.store.held u → u.want.policy ≡ Range x → (y : Extent) × (u.lock.ask.policy ≡ Range y) × (y.first ≤ x.first) × (x.last ≤ y.last) × IsRange y
 range_over k u x s d e =
     let c = covers_range u.lock.ask.policy x (ap (λ (q : Policy). policy_covers u.lock.ask.policy q) (sym e) ∙ d.does.covers) in
-    (c.0, c.1, c.2, c.3, s.ranges d.does.lock c.0 d.does.held (ap (λ (l : Lock). l.ask.policy) d.does.same ∙ c.1))
+    (c.0, c.1, c.2, c.3, s.bytes.ranges d.does.lock c.0 d.does.held (ap (λ (l : Lock). l.ask.policy) d.does.same ∙ c.1))
 
 -- ---- a page is asked for
 
 gets_go : (at : At) (before : Option Entry) (slot p n : ℕ) (g : Page) (r : Running) (w : Work) (k : Client) → IsSoundAt k → IsOnBytes w.kind → IsReadOf w.kind p n → IsWork k.store.held r.pins w → w.left ≡ []
     → missing w.layout p (p + n) k.store w.used ≡ Some g → CallGoes at before k (gets slot g r w)
 gets_go at before slot p n g r w k s b reads i e m =
-    let t = kept k (Stands slot (at_stage r (Gets w))) (λ j. refl) s in
+    let t = kept k (Stands slot (at_stage r (Gets w))) (λ j. refl) s.bytes s.known in
     call_append at before k (Stands slot (at_stage r (Gets w)) ∷ []) (Queues g.under.want.target.0 queued ∷ []) (one_goes at before k (Stands slot (at_stage r (Gets w))) (work_of k.store.held r.pins w.kind w b i) tt t)
-    (λ c. one_goes at c stood (Queues g.under.want.target.0 queued) get_is tt (sound_queue stood.store.held stood.store.patches stood.imports t g.under.want.target.0 queued (λ z. refl) (λ u. tt)))
+    (λ c. one_goes at c stood (Queues g.under.want.target.0 queued) get_is tt (record { bytes = sound_queue stood.store.held stood.store.patches stood.imports t.bytes g.under.want.target.0 queued (λ z. refl) (λ u. tt); known = t.known }))
   where
     queued : Queued
     queued = queued_for slot (op.Get g.under.want.resource g.under.lock.cookie g.page)
@@ -464,7 +473,8 @@ change_goes at before k u x change s w over =
     })
     tt
     (kept k (Changes u.want.resource change) (λ j. refl)
-    (sound_made k.store.held k.store.patches k.imports s u.want.resource change (record { lock = w.lock; held = w.there; object = w.object; mode = w.mode; extent = w.extent; range = w.range; over = over })))
+    (sound_made k.store.held k.store.patches k.imports s.bytes u.want.resource change (record { lock = w.lock; held = w.there; object = w.object; mode = w.mode; extent = w.extent; range = w.range; over = over }))
+    s.known)
 
 -- ---- writes
 
@@ -487,20 +497,24 @@ piece_goes at before k u first bs s p =
     let c = change_goes at before k u (record { first = first; last = first + length bs - 1 }) (flush.Put first bs) s w
     (λ q i. let b = within_bounds first bs q i in let x = b.0 in let y = b.1 in in_whole w.extent q (omega (arith, x, low)) (omega (arith, y, high, some)))
     in
+    let under : Writer k.store.held u.want.resource (λ x. is_in x (first + length bs - 1) ≡ true) =
+    record { lock = w.lock; held = w.there; object = w.object; mode = w.mode; extent = w.extent; range = w.range; over = in_whole w.extent (first + length bs - 1) (omega (arith, low, some)) high }
+    in
+    let shown : Holder k.store.held u.want.resource (λ l x. (l.cookie ≡ u.lock.cookie) × (is_in x (first + length bs - 1) ≡ true)) =
+    record { lock = w.lock; held = w.there; object = w.object; extent = w.extent; range = w.range; such = (w.cookie, under.over) }
+    in
     record {
       each = (
         c.each.0,
         c.each.1,
         (
-          record {
-            under = record { lock = w.lock; held = w.there; object = w.object; mode = w.mode; extent = w.extent; range = w.range; over = in_whole w.extent (first + length bs - 1) (omega (arith, low, some)) high };
-            cookie = w.cookie;
-          },
+          record { under = under; cookie = w.cookie },
           shows_after u.want.resource first bs some,
           tt,
         ),
       );
-      sound = kept (after k (Changes u.want.resource (flush.Put first bs))) (Shows u.want.resource u.lock.cookie (first + length bs - 1)) (λ j. refl) c.sound;
+      sound = kept (after k (Changes u.want.resource (flush.Put first bs))) (Shows u.want.resource u.lock.cookie (first + length bs - 1)) (λ j. refl) c.sound.bytes
+          (known_shows k.store.held u.want.resource u.lock.cookie (first + length bs - 1) shown k.store.bytes k.store.sizes k.store.shown s.known);
     }
 
 writes_go : (at : At) (before : Option Entry) (l : Raid0) (p : ℕ) (bs : List ℕ) (us : List Using) (k : Client) → IsSoundAt k

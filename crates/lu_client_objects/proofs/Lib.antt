@@ -2,6 +2,8 @@ pub mod Lists
 pub mod Tables
 pub mod Changes
 pub mod Steps
+pub mod Known
+pub mod Others
 pub mod Walks
 pub mod Pieces
 pub mod Made

@@ -1,5 +1,5 @@
 -- The rows that write changes back and give locks up, entry by entry.
-use Rattle.std.proofs.Common.{◌≡◌, ◌⊎◌, inl, inr, ⊎_elim, ℕ, ◌<◌, Bool, true, false, List, [], ◌∷◌, ◌++◌, Option, Some, None, refl, sym, ap, subst, ◌∙◌, arith}
+use Rattle.std.proofs.Common.{◌≡◌, ◌⊎◌, inl, inr, ⊎_elim, ℕ, ◌<◌, Bool, true, false, List, [], ◌∷◌, ◌++◌, map, Option, Some, None, refl, sym, ap, subst, ◌∙◌, arith}
 use Rattle.std.specs.Prelude.{nat_eq, nat_lt, ◌&&◌, ◌||◌, if◌then◌else◌, drop, reverse, filter}
 use Rattle.std.proofs.lemmas.Bool.{and_parts, eqb-true}
 use Rattle.lu_base.specs.declared.ids.At.{At}
@@ -41,6 +41,7 @@ use Rattle.lu_client_objects.proofs.Lists.{self, in_ordered, once_ordered, witho
 use Rattle.lu_client_objects.proofs.Tables.{object_is, imports_still, none_asked, patch_on_there}
 use Rattle.lu_client_objects.proofs.Changes.{flown_flies, next_flushes, next_covered, none_next, meet_cut}
 use Rattle.lu_client_objects.proofs.Steps.{writes_is, same_writer, reader_clean, clean_touched, none_names, sound_without, sound_back, sound_map, gets_without, gets_map, gets_back}
+use Rattle.lu_client_objects.proofs.Known.{known_still, still_map, known_without}
 
 -- ---- entries in two parts
 
@@ -153,6 +154,7 @@ module _ (at : At) (before : Option Entry) (k : Client) (s : IsSound k) (h : Hel
         sound = record {
           bytes = subst (λ (is : List Import). IsSoundOf k.store.held (on_object h.lock.resource (flown change) k.store.patches) (imports_after is queues_it)) (sym same)
               (sound_back k.store.held k.store.patches k.imports s.bytes h x change i mode range next flush_is.1 idle);
+          known = s.known;
           gets = subst (λ (is : List Import). AreGetsPinned k.store.held (imports_after is queues_it)) (sym same) (gets_back k.store.held k.imports h.target.0 h.lock.resource h.lock.cookie change s.gets);
         };
       }
@@ -209,6 +211,7 @@ module _ (at : At) (before : Option Entry) (k : Client) (s : IsSound k) (h : Hel
         each = (drop_is, tt, (cancel_is, (h.lock, refl, refl), tt));
         sound = record {
           bytes = subst (IsSoundOf (without (name_of h) k.store.held) k.store.patches) (sym sent_imports) (sound_without k.store.held k.store.patches k.imports s.bytes h i free none);
+          known = known_without k.store.held h s.bytes.once i k.store.bytes k.store.sizes k.store.shown s.known;
           gets = subst (AreGetsPinned (without (name_of h) k.store.held)) (sym sent_imports) (gets_without k.store.held k.imports h s.bytes.once i free s.gets);
         };
       }
@@ -326,7 +329,7 @@ stands_go : (at : At) (before : Option Entry) (slot n : ℕ) (r : Running) (k : 
 stands_go at before slot n r k s =
     record {
       each = (tt, tt, tt);
-      sound = let t = still k stands k.store.held k.store.patches (imports_still stands (λ j. refl) 0 k.imports) (s.bytes, s.gets) in record { bytes = t.0; gets = t.1 };
+      sound = let t = still k stands k.store.held k.store.patches (imports_still stands (λ j. refl) 0 k.imports) (s.bytes, s.gets) in record { bytes = t.0; known = s.known; gets = t.1 };
     }
   where
     stands : Entry
@@ -335,7 +338,7 @@ stands_go at before slot n r k s =
 told_goes : (at : At) (before : Option Entry) (slot : ℕ) (r : Running) (k : Client) → r.pins ≡ [] → IsSound k → Goes at before k (tells slot r at answer.Done None)
 told_goes at before slot r k bare s =
     subst (λ (names : List LockName). Goes at before k (Told slot at answer.Done None ∷ unpins names)) (sym bare)
-    (record { each = (tt, tt, tt); sound = let t = still k told k.store.held k.store.patches (imports_still told (λ j. refl) 0 k.imports) (s.bytes, s.gets) in record { bytes = t.0; gets = t.1 } })
+    (record { each = (tt, tt, tt); sound = let t = still k told k.store.held k.store.patches (imports_still told (λ j. refl) 0 k.imports) (s.bytes, s.gets) in record { bytes = t.0; known = s.known; gets = t.1 } })
   where
     told : Entry
     told = Told slot at answer.Done None
@@ -396,7 +399,11 @@ marks_go at before (h ∷ locks) k s = goes_append at before k (Marks (name_of h
                 sound_map k.store.held k.store.patches k.imports s.bytes mark (keeps (λ g. g.lock) (λ g. refl)) (keeps (λ g. g.target) (λ g. refl)),
                 gets_map k.store.held k.imports mark (keeps (λ g. g.lock) (λ g. refl)) (keeps (λ g. g.target) (λ g. refl)) (λ g p. subst (λ (n : ℕ). 0 < n) (sym (keeps (λ g. g.pins) (λ g. refl) g)) p) s.gets,
               )
-              in record { bytes = t.0; gets = t.1 };
+              in record {
+                bytes = t.0;
+                known = known_still k.store.held (map mark k.store.held) k.store.bytes k.store.sizes k.store.shown (still_map mark (keeps (λ g. g.lock) (λ g. refl)) k.store.held) s.known;
+                gets = t.1;
+              };
         }
 
 pub trims_go : TrimsGo

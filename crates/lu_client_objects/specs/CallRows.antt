@@ -1,4 +1,4 @@
--- The rows of a call on bytes, at a state of which `IsSoundOf` holds.
+-- The rows of a call on bytes, at a state of which `IsSoundAt` holds.
 use Rattle.std.specs.Prelude.{◌≡◌, ℕ, List, ◌∷◌, Option, Some}
 use Rattle.lu_base.specs.declared.ids.At.{At}
 use Rattle.lu_base.specs.declared.ids.Fid.{Fid}
@@ -11,12 +11,9 @@ use Rattle.lu_words.specs.Carried.{HandleFile, Kind, Work, Running}
 use Rattle.lu_words.specs.Words.{Entry}
 use Rattle.lu_client_rows.specs.States.{Client}
 use Rattle.lu_client_rows.specs.Starts.{looks_at, comes_at, starts_bytes, stats}
-use Rattle.lu_client_objects.specs.Sound.{IsSoundOf}
+use Rattle.lu_client_objects.specs.Sound.{IsSoundAt}
 use Rattle.lu_client_objects.specs.Uses.{IsFor, IsOnBytes, IsShort, IsWork}
 use Rattle.lu_client_objects.specs.Oks.{CallGoes}
-
-abbrev pub IsSoundAt : Client → Type 0
-IsSoundAt k = IsSoundOf k.store.held k.store.patches k.imports
 
 -- it looks for its locks, and acts once it has them
 abbrev pub LooksGo : Type 0

@@ -4,3 +4,4 @@ pub mod Oks
 pub mod Rows
 pub mod CallRows
 pub mod Pins
+pub mod Known

@@ -39,7 +39,7 @@ use Rattle.lu_object_story.specs.Words.{changes, covers, within}
 use Rattle.lu_object_story.specs.Folds.{cut_below, touched}
 use Rattle.lu_object_points.specs.Points.{change_of, dirty_at, lock_at}
 use Rattle.lu_object_points.specs.Alike.{Carries}
-use Rattle.lu_client_objects.specs.Sound.{In, Writer, Asked, names, writes_to, IsSoundOf, IsSound}
+use Rattle.lu_client_objects.specs.Sound.{In, Writer, Asked, names, writes_to, IsSoundAt, IsSound}
 use Rattle.lu_client_objects.specs.Uses.{IsUsed, IsStage}
 
 -- ---- a lock is given up
@@ -232,4 +232,4 @@ pub record Goes (at : At) (before : Option Entry) (k : Client) (es : List Entry)
 -- the same of the rows of a call on bytes, but for what they say of gets: that each is asked under a pinned lock
 pub record CallGoes (at : At) (before : Option Entry) (k : Client) (es : List Entry) : Type 0 where
   pub each : Each at before k es
-  pub sound : IsSoundOf (turn k es).store.held (turn k es).store.patches (turn k es).imports
+  pub sound : IsSoundAt (turn k es)

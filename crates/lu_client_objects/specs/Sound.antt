@@ -1,8 +1,10 @@
 -- What always holds of a client's state on bytes: each change of its own lies under a held lock for writing, and so does what is under way
--- of a write-back; and no two held locks conflict. It is said of the state alone, without a past.
+-- of a write-back; no two held locks conflict; and what is known of bytes, sizes and what was shown stands under held locks. It is said of
+-- the state alone, without a past.
 use Rattle.std.specs.Prelude.{◌≡◌, ◌⊎◌, ℕ, ◌+◌, ◌<◌, ◌≤◌, ◌==◌, ◌||◌, if◌then◌else◌, Bool, true, false, List, [], ◌∷◌, Some}
 use Rattle.lu_base.specs.declared.ids.Cookie.{Cookie}
 use Rattle.lu_base.specs.declared.locks.Extent.{Extent}
+use Rattle.lu_base.specs.declared.locks.Lock.{Lock}
 use Rattle.lu_base.specs.declared.locks.Mode.TheVariants.{PW}
 use Rattle.lu_base.specs.declared.locks.Policy.TheVariants.{Range}
 use Rattle.lu_base.specs.declared.locks.Resource.{Resource}
@@ -10,12 +12,13 @@ use Rattle.lu_lock.specs.Overlap.{extents_meet}
 use Rattle.lu_msg.specs.declared.operations.Op.{Op}
 use Rattle.lu_msg.specs.declared.operations.Op.TheVariants as op
 use Rattle.lu_held.specs.declared.locks.HeldLock.{HeldLock}
-use Rattle.lu_held.specs.Locks.{name_of, is_named, same_resource}
-use Rattle.lu_machine.specs.Places.{RisingFrom, is_in}
+use Rattle.lu_held.specs.Locks.{name_of, is_named, same_resource, reaches_end}
+use Rattle.lu_machine.specs.Places.{RisingFrom, is_in, found_at}
 use Rattle.lu_words.specs.Carried.{Queued, Flight}
 use Rattle.lu_client_rows.specs.Patches.{Patch, cut_extent, holds_extent, has_change, in_flight}
 use Rattle.lu_client_rows.specs.Imports.{Import, import_of}
-use Rattle.lu_client_rows.specs.Caches.{patch_at}
+use Rattle.lu_client_rows.specs.Bytes.{Bytes}
+use Rattle.lu_client_rows.specs.Caches.{Note, patch_at, bytes_at}
 use Rattle.lu_client_rows.specs.States.{Client}
 use Rattle.lu_object_story.specs.Folds.{is_some}
 use Rattle.lu_object_points.specs.Points.{dirty_at, is_write}
@@ -113,6 +116,35 @@ IsAsked locks patches t (op.Put r cookie at bytes) = IsBacked locks (patch_at r 
 IsAsked locks patches t (op.Cut r cookie size) = IsBacked locks (patch_at r patches) t cookie r
 IsAsked locks patches t _ = Unit {0}
 
+-- ---- what is known
+
+-- a held lock of an object in any mode, called back or not, with such a range
+pub record Holder (locks : List HeldLock) (r : Resource) (P : Lock → Extent → Type 0) : Type 0 where
+  pub lock : HeldLock
+  pub held : In lock locks
+  pub object : lock.lock.resource ≡ r
+  pub extent : Extent
+  pub range : lock.lock.ask.policy ≡ Range extent
+  pub such : P lock.lock extent
+
+-- each byte that is known of an object lies under a held lock of that object, which covers its offset
+abbrev pub AreBytesHeld : List HeldLock → List (Resource × Bytes) → Type 0
+AreBytesHeld locks bytes = (r : Resource) (p b : ℕ) → found_at (bytes_at r bytes) p ≡ Some b → Holder locks r (λ l x. is_in x p ≡ true)
+
+-- each size that is known of an object stands under a held lock of that object, which has its cookie and reaches the end
+abbrev pub AreSizesHeld : List HeldLock → List Note → Type 0
+AreSizesHeld locks sizes = (n : Note) → In n sizes → Holder locks n.resource (λ l x. (l.cookie ≡ n.cookie) × (reaches_end l.ask.policy ≡ true))
+
+-- the greatest offset shown under a lock lies under a held lock of that object, which has its cookie and covers it
+abbrev pub AreShownHeld : List HeldLock → List Note → Type 0
+AreShownHeld locks shown = (n : Note) → In n shown → Holder locks n.resource (λ l x. (l.cookie ≡ n.cookie) × (is_in x n.number ≡ true))
+
+-- so nothing that is known outlives its lock
+pub record IsKnownOf (locks : List HeldLock) (known : List (Resource × Bytes)) (ends offsets : List Note) : Type 0 where
+  pub bytes : AreBytesHeld locks known
+  pub sizes : AreSizesHeld locks ends
+  pub shown : AreShownHeld locks offsets
+
 -- ---- all of it
 
 -- `single`: of an object at most one write-back is asked, and none while nothing is under way
@@ -128,6 +160,13 @@ pub record IsSoundOf (locks : List HeldLock) (patches : List (Resource × Patch)
 abbrev pub AreGetsPinned : List HeldLock → List Import → Type 0
 AreGetsPinned locks imports = (t : ℕ) (r : Resource) (cookie : Cookie) (page : ℕ) → Asked imports t (op.Get r cookie page) → IsPinned locks t cookie
 
+-- changes and locks, and what is known
+pub record IsSoundAt (k : Client) : Type 0 where
+  pub bytes : IsSoundOf k.store.held k.store.patches k.imports
+  pub known : IsKnownOf k.store.held k.store.bytes k.store.sizes k.store.shown
+
+-- and gets
 pub record IsSound (k : Client) : Type 0 where
   pub bytes : IsSoundOf k.store.held k.store.patches k.imports
+  pub known : IsKnownOf k.store.held k.store.bytes k.store.sizes k.store.shown
   pub gets : AreGetsPinned k.store.held k.imports

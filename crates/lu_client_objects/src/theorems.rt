@@ -1,9 +1,10 @@
-//! What a client's rows on bytes rest on: those that write changes back and give locks up, and the calls on bytes; and what they make of
-//! pins. Each function does nothing: its contract is a theorem over the definitions of `specs/`.
+//! What a client's rows on bytes rest on: those that write changes back and give locks up, and the calls on bytes; what they make of pins;
+//! and what is known of bytes. Each function does nothing: its contract is a theorem over the definitions of `specs/`.
 
 ghost use Rattle.lu_client_objects.specs.Rows.{TrimsGo, LocksGo, FlushGoes, FlushingGoes};
 ghost use Rattle.lu_client_objects.specs.CallRows.{LooksGo, ComesGo, StartsGo, StatsGo};
 ghost use Rattle.lu_client_objects.specs.Pins.{CallsBalanced, LocksBalanced, CountsStay, CountedPinned};
+ghost use Rattle.lu_client_objects.specs.Known.{DropForgets, ShowStands, BytesMustGo, OthersKeep};
 
 /// From a sound state each entry rests on what it has to, at the state before it, and the state after them all is sound again.
 ///
@@ -44,4 +45,18 @@ pub fn pins_are_counted()
     ensures locks { LocksBalanced }
     ensures stay { CountsStay }
     ensures pinned { CountedPinned }
+{}
+
+/// What is known of bytes and sizes, and what was shown, stands under held locks, and goes with them.
+///
+/// - `drops`: as a held lock goes, what is left stands under the locks that are left.
+/// - `shows`: an offset that is shown under a held lock stands under the lock of its cookie.
+/// - `must`: a byte that is known under one lock alone can't stay known as that lock goes.
+/// - `others`: what a message brings is known under held locks, where its bytes lie under such and its lock is new.
+#[tactic(auto, using(crate::proofs::Known::drop_forgets, crate::proofs::Known::show_stands, crate::proofs::Known::bytes_must_go, crate::proofs::Others::others_keep))]
+pub fn what_is_known()
+    ensures drops { DropForgets }
+    ensures shows { ShowStands }
+    ensures must { BytesMustGo }
+    ensures others { OthersKeep }
 {}
